@@ -1,0 +1,8 @@
+use Rattle.std.proofs.Common.{rules, ◌≡◌, ◌<◌, ◌++◌, ◌∷◌, [], length, ℕ, List, subst, sym}
+use Rattle.kex_model.specs.Programs.{Grammar, HasBelow, IsInOrder}
+use Rattle.kex_model.proofs.Making.{order_more}
+use Rattle.kex_model.proofs.builder.Builder.add.Goals as goal
+
+-- src/builder.rt:41:5
+pub invariant_of-self-2 : goal.invariant_of-self-2
+invariant_of-self-2 c = subst IsInOrder (sym c.in_ok-push.ensures.items) (order_more c.self.inside.nodes.items c.args.node c.self.invariant c.requires)

@@ -1,0 +1,64 @@
+-- Laws of the definitions, each of which a function of `laws` proves.
+use Rattle.std.specs.Prelude.{◌≡◌, ℕ, Bool, false, List, [], ◌++◌, Some, None}
+use Rattle.kex_model.specs.Programs.{Grammar}
+use Rattle.kex_code.specs.declared.symbol.Symbol.{Symbol}
+use Rattle.kex_code.specs.Codes.{Begins}
+use Rattle.kex_code.specs.Registers.{Registers}
+use Rattle.kex_model.specs.Trees.{Tree, IsTree, Parses, kind_at, code, meaning, part}
+use Rattle.kex_model.specs.Acting.{acted}
+use Rattle.kex_model.specs.Moves.{Step, code_of}
+use Rattle.kex_model.specs.Places.{Place, moves, start_of, steps_of, HasEmptyLoop}
+use Rattle.kex_model.specs.Survivors.{IsPath, Agreed}
+use Rattle.kex_model.specs.Answers.{code_at, GreedyParse, HasParse, Says, Means, Viable, Answer, Answers}
+
+-- of two paths on one text neither code is a proper prefix of the other, and equal codes are of equal paths
+abbrev pub OnePath : Type 0
+OnePath = (P : Grammar) (root : ℕ) (w : List ℕ) (p q : Place) (js ks : List (Step Place)) → IsPath (moves P) (start_of P root) w p js → IsPath (moves P) (start_of P root) w q ks → Begins (code_of ks) (code_of js) → js ≡ ks
+
+-- every tree whose code begins with c gives the same part
+abbrev pub OnePart : Type 0
+OnePart = (P : Grammar) (n : ℕ) (s t : Tree) (c : List Symbol) (regs : Registers) → IsTree P (kind_at P n) s → IsTree P (kind_at P n) t → Begins (code P (kind_at P n) s) c → Begins (code P (kind_at P n) t) c → part P (kind_at P n) s c regs ≡ part P (kind_at P n) t c regs
+
+-- the trees of a text and the paths on it to the empty place correspond one to one, with equal codes
+pub record OneToOne (P : Grammar) (root : ℕ) (w : List ℕ) : Type 0 where
+  pub path_of_tree : (t : Tree) → Parses P root t w → (ks : List (Step Place)) × IsPath (moves P) (start_of P root) w [] ks × (code_of ks ≡ code P (kind_at P root) t)
+  pub tree_of_path : (ks : List (Step Place)) → IsPath (moves P) (start_of P root) w [] ks → (t : Tree) × Parses P root t w × (code P (kind_at P root) t ≡ code_of ks)
+  pub one_tree : (s t : Tree) → Parses P root s w → Parses P root t w → code P (kind_at P root) s ≡ code P (kind_at P root) t → s ≡ t
+  pub one_path : (js ks : List (Step Place)) → IsPath (moves P) (start_of P root) w [] js → IsPath (moves P) (start_of P root) w [] ks → code_of js ≡ code_of ks → js ≡ ks
+
+abbrev pub TreesAndPaths : Type 0
+TreesAndPaths = (P : Grammar) (root : ℕ) (w : List ℕ) → ¬ HasEmptyLoop P root → OneToOne P root w
+
+-- what is agreed and what is said grow with the text, up to the greedy code and the meaning
+pub record Grows (P : Grammar) (root : ℕ) (w v : List ℕ) : Type 0 where
+  pub viable : Viable P root (w ++ v) → Viable P root w
+  pub agreed : (c d : List Symbol) → Agreed (moves P) (start_of P root) w c → Agreed (moves P) (start_of P root) (w ++ v) d → Begins d c
+  pub greedy : (c : List Symbol) (t : Tree) → Agreed (moves P) (start_of P root) w c → GreedyParse P root (w ++ v) t → Begins (code_at P root t) c
+  pub said : (x y : List ℕ) → Says P root w x → Says P root (w ++ v) y → Begins y x
+  pub meant : (x y : List ℕ) → Says P root w x → Means P root (w ++ v) y → Begins y x
+
+abbrev pub AnswersGrow : Type 0
+AnswersGrow = (P : Grammar) (root : ℕ) (w v : List ℕ) → ¬ HasEmptyLoop P root → Grows P root w v
+
+-- the text on open input is a front of that on every continuation, and a stop stands, with the same text
+pub record Stands (P : Grammar) (root limit : ℕ) (w v : List ℕ) (e : Bool) (a b : Answer) : Type 0 where
+  pub text : Begins b.text a.text
+  pub stop : (a.stop ≡ None → ⊥) → b ≡ a
+
+abbrev pub StageAnswers : Grammar → ℕ → ℕ → List ℕ → Bool → Answer → Type 0
+StageAnswers P root limit w e a = Answers (Viable P root) (Says P root) (HasParse P root) (Means P root) limit w e a
+
+abbrev pub AnswersStand : Type 0
+AnswersStand = (P : Grammar) (root limit : ℕ) (w v : List ℕ) (e : Bool) (a b : Answer) → ¬ HasEmptyLoop P root → StageAnswers P root limit w false a → StageAnswers P root limit (w ++ v) e b → Stands P root limit w v e a b
+
+-- with its whole code a tree's part is its meaning
+abbrev pub WholePart : Type 0
+WholePart = (P : Grammar) (n : ℕ) (t : Tree) (regs : Registers) → IsTree P (kind_at P n) t → part P (kind_at P n) t (code P (kind_at P n) t) regs ≡ record { bytes = (meaning P (kind_at P n) t regs).bytes; registers = (meaning P (kind_at P n) t regs).registers; rest = Some [] }
+
+-- a tree's part is what its steps do, with buffers: what is written, and the registers
+pub record DoneBySteps (P : Grammar) (root : ℕ) (t : Tree) (c : List Symbol) (regs : Registers) (out : List ℕ) : Type 0 where
+  pub written : (acted (steps_of P root (kind_at P root) t []) c (record { out = out; buffers = []; registers = regs })).out ≡ out ++ (part P (kind_at P root) t c regs).bytes
+  pub held : (acted (steps_of P root (kind_at P root) t []) c (record { out = out; buffers = []; registers = regs })).registers ≡ (part P (kind_at P root) t c regs).registers
+
+abbrev pub PartBySteps : Type 0
+PartBySteps = (P : Grammar) (root : ℕ) (t : Tree) (c : List Symbol) (regs : Registers) (out : List ℕ) → IsTree P (kind_at P root) t → DoneBySteps P root t c regs out

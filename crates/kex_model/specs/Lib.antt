@@ -1,0 +1,11 @@
+pub mod Programs
+pub mod Moves
+pub mod Labelled
+pub mod Trees
+pub mod Places
+pub mod Survivors
+pub mod Laws
+pub mod Answers
+pub mod Acting
+pub mod Alike
+pub mod Schedules
