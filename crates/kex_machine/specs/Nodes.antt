@@ -1,0 +1,77 @@
+-- A machine's nodes, as what there is to do at a number.
+use Rattle.std.specs.Prelude.{◌≡◌, ℕ, List, [], ◌∷◌, Option, Some, None, slice_get, ◌<◌, All, length}
+use Rattle.kex_code.specs.Codes.{bytes_of}
+use Rattle.kex_model.specs.Programs.{HasPieces}
+use Rattle.kex_model.specs.Moves.{Move, accept, read, choose, forced, go, Side, to_left, to_right, nothing, append, open_buffer, drop_buffer, into, write, set_to, add_to, Step, code_of, Walk}
+use Rattle.kex_model.specs.Survivors.{LeadsToEnd}
+use Rattle.kex_machine.specs.declared.Bit.{Bit}
+use Rattle.kex_machine.specs.declared.Bit.TheVariants.{L, R}
+use Rattle.kex_machine.specs.declared.Effect.{Effect}
+use Rattle.kex_machine.specs.declared.Effect.TheVariants.{Lit, Open, Drop, Into, Write, Set, Add}
+use Rattle.kex_machine.specs.declared.MNode.{MNode}
+use Rattle.kex_machine.specs.declared.MNode.TheVariants.{Accept, Read, Choice, Forced, Do, Skip}
+use Rattle.kex_model.specs.Moves as moves
+
+abbrev pub side_of : Bit → Side
+side_of L = to_left
+side_of R = to_right
+
+abbrev pub effect_of : Effect → moves.Effect
+effect_of (Lit bytes) = append bytes
+effect_of Open = open_buffer
+effect_of Drop = drop_buffer
+effect_of (Into r) = into r
+effect_of (Write r) = write r
+effect_of (Set r parts) = set_to r parts
+effect_of (Add r parts) = add_to r parts
+
+abbrev pub move_of : Option MNode → Move ℕ
+move_of None = accept
+move_of (Some Accept) = accept
+move_of (Some (Read set n)) = read set n
+move_of (Some (Choice l r)) = choose l r
+move_of (Some (Forced b n)) = forced (side_of b) n
+move_of (Some (Do e n)) = go (effect_of e) n
+move_of (Some (Skip n)) = go nothing n
+
+-- what there is to do at a node
+abbrev pub node_moves : List MNode → ℕ → Move ℕ
+node_moves ms n = move_of (slice_get ms n)
+
+-- the registers of an effect are below the count
+abbrev pub HasRegisters : ℕ → Effect → Type 0
+HasRegisters registers (Into r) = r < registers
+HasRegisters registers (Write r) = r < registers
+HasRegisters registers (Set r parts) = (r < registers) × HasPieces registers parts
+HasRegisters registers (Add r parts) = (r < registers) × HasPieces registers parts
+HasRegisters registers _ = Unit {0}
+
+-- the numbers of a node are below the counts of nodes and of registers
+abbrev pub IsBelow : ℕ → ℕ → MNode → Type 0
+IsBelow count registers Accept = Unit {0}
+IsBelow count registers (Read set n) = n < count
+IsBelow count registers (Choice l r) = (l < count) × (r < count)
+IsBelow count registers (Forced b n) = n < count
+IsBelow count registers (Do e n) = (n < count) × HasRegisters registers e
+IsBelow count registers (Skip n) = n < count
+
+-- all numbers are of nodes and of registers
+pub record IsInRange (start : ℕ) (ms : List MNode) (registers : ℕ) : Type 0 where
+  pub start_in : start < length ms
+  pub below : All (IsBelow (length ms) registers) ms
+  pub count : length ms < 4294967296
+
+pub record Graph : Type 0 where
+  pub start : ℕ
+  pub nodes : List MNode
+  pub stage : ℕ
+  pub registers : ℕ
+
+-- some node is reached again from itself without a byte
+abbrev pub HasLoop : List MNode → Type 0
+HasLoop nodes = (n : ℕ) × (k : Step ℕ) × (ks : List (Step ℕ)) × Walk (node_moves nodes) n (k ∷ ks) n × (bytes_of (code_of (k ∷ ks)) ≡ [])
+
+-- the end is reached from every node, and no node again from itself without a byte
+pub record IsTrimmed (g : Graph) : Type 0 where
+  pub ends : (n : ℕ) → n < length g.nodes → LeadsToEnd (node_moves g.nodes) n
+  pub no_loop : HasLoop g.nodes → ⊥

@@ -1,0 +1,145 @@
+//! Machines: a stage's places as numbered nodes.
+//!
+//! Stands on byte sets, codes and the model's moves. A `Machine` keeps that all its numbers are in range; a `Trimmed`
+//! keeps that the end is reached from every node and that no loop goes without a byte.
+#![tactic(auto)]
+
+ghost use Rattle.std.specs.Prelude.{◌≡◌, ℕ, ◌<◌, List, length};
+ghost use Rattle.kex_machine.specs.Nodes.{Graph, IsInRange, IsTrimmed};
+
+use kex_byteset::ByteSet;
+use kex_code::piece::{Bytes, Pieces};
+use std::marker::Model;
+
+/// What a step does to the output, the open buffers and the registers.
+#[derive(Drop)]
+pub enum Effect {
+    Lit(Bytes),
+    Open,
+    Drop,
+    Into(u32),
+    Write(u32),
+    Set(u32, Pieces),
+    Add(u32, Pieces),
+}
+
+/// The side of a choice.
+#[derive(Clone, Copy, Debug, PartialEq, Eq)]
+pub enum Bit {
+    L,
+    R,
+}
+
+/// A machine's node, with the numbers of those where it leads. `Forced` gives the symbol of a choice that trimming has
+/// left one side of.
+#[derive(Drop)]
+pub enum MNode {
+    Accept,
+    Read(ByteSet, u32),
+    Choice(u32, u32),
+    Forced(Bit, u32),
+    Do(Effect, u32),
+    Skip(u32),
+}
+
+/// Nodes by number, and the one to start from.
+#[derive(Drop)]
+pub struct Machine {
+    start: u32,
+    nodes: Vec<MNode>,
+    stage: u32,
+    registers: u32,
+}
+
+impl Model for Machine {
+    ghost use Rattle.kex_machine.specs.Nodes.{Graph, IsInRange};
+
+    ghost Value = { Graph };
+
+    ghost view = { λ m. record { start = m.start; nodes = m.nodes.items; stage = m.stage; registers = m.registers } };
+
+    ghost invariant = { λ m. IsInRange m.start m.nodes.items m.registers };
+}
+
+impl Machine {
+    /// The machine of these nodes.
+    pub fn new(start: u32, nodes: Vec<MNode>, stage: u32, registers: u32) -> Machine
+        requires { IsInRange start nodes.items registers }
+        ensures { result ≡ record { start = start; nodes = nodes.items; stage = stage; registers = registers } }
+    {
+        Machine {
+            start,
+            nodes,
+            stage,
+            registers,
+        }
+    }
+
+    /// The number of the node to start from.
+    pub fn start(&self) -> u32
+        ensures { result ≡ self.now.start }
+    {
+        self.start
+    }
+
+    /// The nodes, by their numbers.
+    pub fn nodes(&self) -> &[MNode]
+        ensures { result.now ≡ self.now.nodes }
+    {
+        &self.nodes
+    }
+
+    /// The nodes, which are moved.
+    pub fn into_nodes(self) -> Vec<MNode>
+        ensures { result.items ≡ self.nodes }
+    {
+        self.nodes
+    }
+
+    /// The number of the stage, from 1.
+    pub fn stage(&self) -> u32
+        ensures { result ≡ self.now.stage }
+    {
+        self.stage
+    }
+
+    /// How many registers there are.
+    pub fn registers(&self) -> u32
+        ensures { result ≡ self.now.registers }
+    {
+        self.registers
+    }
+}
+
+/// A machine with no loop without a byte, from whose every node the end is reached.
+#[derive(Drop)]
+pub struct Trimmed {
+    machine: Machine,
+}
+
+impl Model for Trimmed {
+    ghost use Rattle.kex_machine.specs.Nodes.{Graph, IsTrimmed};
+
+    ghost Value = { Graph };
+
+    ghost view = { λ t. t.machine };
+
+    ghost invariant = { λ t. IsTrimmed t.machine };
+}
+
+impl Trimmed {
+    /// The machine as one that is trimmed.
+    pub fn new(machine: Machine) -> Trimmed
+        requires { IsTrimmed machine }
+        ensures { result ≡ machine }
+    {
+        Trimmed { machine }
+    }
+
+    /// The machine.
+    pub fn machine(&self) -> &Machine
+        ensures { result.now ≡ self.now }
+    {
+        &self.machine
+    }
+}
