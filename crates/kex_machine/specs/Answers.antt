@@ -1,0 +1,50 @@
+-- A stage's answer over a machine's nodes: a parse is a run to the end, and it means what its steps do.
+use Rattle.std.specs.Prelude.{◌≡◌, ℕ, Bool, List, [], replicate}
+use Rattle.kex_code.specs.declared.symbol.Symbol.{Symbol}
+use Rattle.kex_code.specs.Codes.{bytes_of, Begins}
+use Rattle.kex_model.specs.Moves.{accept, Step, code_of, Walk}
+use Rattle.kex_model.specs.Acting.{State, acted}
+use Rattle.kex_model.specs.Survivors.{Agreed, Greedy, IsViable}
+use Rattle.kex_model.specs.Answers.{Answer, Answers}
+use Rattle.kex_machine.specs.Nodes.{Graph, node_moves}
+
+-- nothing is written, no buffer is open, and all registers are empty
+abbrev pub begun : ℕ → State
+begun registers = record { out = []; buffers = []; registers = replicate registers [] }
+
+module _ (g : Graph) where
+  abbrev pub Viable : List ℕ → Type 0
+  Viable w = IsViable (node_moves g.nodes) g.start w
+
+  -- the steps lead from the start to the end
+  abbrev pub IsRun : List (Step ℕ) → Type 0
+  IsRun ks = (e : ℕ) × Walk (node_moves g.nodes) g.start ks e × (node_moves g.nodes e ≡ accept)
+
+  abbrev pub HasParse : List ℕ → Type 0
+  HasParse w = (ks : List (Step ℕ)) × IsRun ks × (bytes_of (code_of ks) ≡ w)
+
+  -- what is left when a run was followed as far as the code goes
+  abbrev pub left_by : List (Step ℕ) → List Symbol → State
+  left_by ks c = acted ks c (begun g.registers)
+
+  -- the text that is said on w
+  pub record Says (w text : List ℕ) : Type 0 where
+    pub agreed : List Symbol
+    pub is_agreed : Agreed (node_moves g.nodes) g.start w agreed
+    pub run : List (Step ℕ)
+    pub runs : IsRun run
+    pub begins : Begins (code_of run) agreed
+    pub said : text ≡ (left_by run agreed).out
+
+  -- the text that w means
+  pub record Means (w text : List ℕ) : Type 0 where
+    pub greedy : List Symbol
+    pub is_greedy : Greedy (node_moves g.nodes) g.start w greedy
+    pub run : List (Step ℕ)
+    pub runs : IsRun run
+    pub codes : code_of run ≡ greedy
+    pub meant : text ≡ (left_by run greedy).out
+
+  -- the stage's answer on w, open or (true) ended, within a limit
+  abbrev pub StageAnswers : ℕ → List ℕ → Bool → Answer → Type 0
+  StageAnswers limit w e a = Answers Viable Says HasParse Means limit w e a
