@@ -3,7 +3,7 @@
 //! Stands on nothing. Each call's contract says its answer as a set: a list of 256 flags, one a byte.
 #![tactic(auto)]
 
-ghost use Rattle.std.specs.Prelude.{◌≡◌, Bool, List, get_or, false};
+ghost use Rattle.std.specs.Prelude.{◌≡◌, Bool, List, get_or, set, replicate, false, true};
 ghost use Rattle.std.specs.List.{list_any};
 
 use std::marker::Model;
@@ -23,6 +23,15 @@ impl Model for ByteSet {
 }
 
 impl ByteSet {
+    /// The set that has one byte.
+    pub fn single(byte: u8) -> ByteSet
+        ensures { result ≡ set (replicate 256 false) byte true }
+    {
+        let mut flags = [false; 256];
+        flags[byte as usize] = true;
+        ByteSet { flags }
+    }
+
     /// The same set again.
     pub fn copy(&self) -> ByteSet
         ensures { result ≡ self.now }
