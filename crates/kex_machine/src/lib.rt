@@ -84,7 +84,8 @@ impl Machine {
 
     /// The nodes, by their numbers.
     pub fn nodes(&self) -> &[MNode]
-        ensures { result.now ≡ self.now.nodes }
+        ensures same { result.now ≡ self.now.nodes }
+        ensures in_range { IsInRange self.now.start self.now.nodes self.now.registers }
     {
         &self.nodes
     }
@@ -138,7 +139,8 @@ impl Trimmed {
 
     /// The machine.
     pub fn machine(&self) -> &Machine
-        ensures { result.now ≡ self.now }
+        ensures same { result.now ≡ self.now }
+        ensures trimmed { IsTrimmed self.now }
     {
         &self.machine
     }
