@@ -1,7 +1,7 @@
 // A program as its nodes, which name each other by number.
 
 ghost use Rattle.std.specs.Prelude.{◌≡◌};
-ghost use Rattle.kex_model.specs.Programs.{Grammar, IsInOrder, IsInRange};
+ghost use Rattle.kex_model.specs.Programs.{Grammar, IsGrammar, IsInOrder, IsInRange};
 
 use kex_byteset::ByteSet;
 use kex_code::piece::{Bytes, Pieces};
@@ -123,7 +123,8 @@ impl Program {
 
     /// How many registers there are.
     pub fn registers(&self) -> u32
-        ensures { result ≡ self.now.registers }
+        ensures same { result ≡ self.now.registers }
+        ensures grammar { IsGrammar self.now }
     {
         self.registers
     }
