@@ -38,13 +38,16 @@ move_of (Some (Skip n)) = go nothing n
 abbrev pub node_moves : List MNode → ℕ → Move ℕ
 node_moves ms n = move_of (slice_get ms n)
 
--- the registers of an effect are below the count
+-- the registers of what a step does are below the count
+abbrev pub UsesRegisters : ℕ → moves.Effect → Type 0
+UsesRegisters registers (into r) = r < registers
+UsesRegisters registers (write r) = r < registers
+UsesRegisters registers (set_to r parts) = (r < registers) × HasPieces registers parts
+UsesRegisters registers (add_to r parts) = (r < registers) × HasPieces registers parts
+UsesRegisters registers _ = Unit {0}
+
 abbrev pub HasRegisters : ℕ → Effect → Type 0
-HasRegisters registers (Into r) = r < registers
-HasRegisters registers (Write r) = r < registers
-HasRegisters registers (Set r parts) = (r < registers) × HasPieces registers parts
-HasRegisters registers (Add r parts) = (r < registers) × HasPieces registers parts
-HasRegisters registers _ = Unit {0}
+HasRegisters registers e = UsesRegisters registers (effect_of e)
 
 -- the numbers of a node are below the counts of nodes and of registers
 abbrev pub IsBelow : ℕ → ℕ → MNode → Type 0
