@@ -4,14 +4,15 @@ use Rattle.std.specs.Prelude.{slice_get, All}
 use Rattle.std.proofs.lemmas.List.Elements.{All-get_or, All-from_get_or, All-set}
 use Rattle.std.proofs.lemmas.Option.{slice_get_within, slice_get-get_or, slice_get_cases}
 use Rattle.kex_code.specs.Codes.{bytes_of, IsAmong, HasNumber}
-use Rattle.kex_model.specs.Moves.{quiet, Move, accept, read, choose, forced, Side, to_left, to_right, Step, took, chose, went, Allows, reads, goes_left, goes_right, goes_forced, goes, entered, Walk, IsWaiting}
+use Rattle.kex_model.specs.Moves.{quiet, go, nothing, Effect, code_of, Move, accept, read, choose, forced, Side, to_left, to_right, Step, took, chose, went, Allows, reads, goes_left, goes_right, goes_forced, goes, entered, Walk, IsWaiting}
 use Rattle.kex_model.specs.Survivors.{LeadsToEnd}
 use Rattle.kex_model.specs.Alike.{SameLabel, Alike}
 use Rattle.kex_model.proofs.Transfer.{walk_ahead, same_symbols}
 use Rattle.kex_model.proofs.Tables.{some_same, get_more, get_last}
 use Rattle.kex_machine.specs.declared.MNode.{MNode}
 use Rattle.kex_machine.specs.declared.MNode.TheVariants.{Accept, Read, Choice, Forced, Do, Skip}
-use Rattle.kex_machine.specs.Nodes.{Graph, IsBelow, IsInRange, IsTrimmed, node_moves, move_of}
+use Rattle.kex_trim.specs.Ways.{LeadsBelow}
+use Rattle.kex_machine.specs.Nodes.{Graph, HasLoop, IsBelow, IsInRange, IsTrimmed, UsesRegisters, effect_of, node_moves, move_of}
 use Rattle.kex_trim.specs.Loops.{IsOrder}
 use Rattle.kex_trim.proofs.Searching.{quiet_step, is_quiet}
 use Rattle.kex_trim.specs.Ways.{IsAlive}
@@ -115,7 +116,7 @@ module _ (nodes : List MNode) (alive : List Bool) (order kept numbers : List ℕ
   choice true false l r ea eb fl fr some = only_left (numbered_at l fl ea) (lost r fr eb)
   choice false b l r ea eb fl fr some = only_right (lost l fl ea) (⊎_elim (λ h. absurd (lost l fl ea h)) (λ h. has_number r fr h) some)
 
-  by_move : (m : MNode) → IsBelow (length nodes) m → ((move_of (Some m) ≡ accept) ⊎ ((k : Step ℕ) × Allows (move_of (Some m)) k × LeadsToEnd f (entered k))) → Keeps (HasNumber kept) Lost (move_of (Some m)) (renamed alive numbers (move_of (Some m)))
+  by_move : (m : MNode) → LeadsBelow (length nodes) m → ((move_of (Some m) ≡ accept) ⊎ ((k : Step ℕ) × Allows (move_of (Some m)) k × LeadsToEnd f (entered k))) → Keeps (HasNumber kept) Lost (move_of (Some m)) (renamed alive numbers (move_of (Some m)))
   by_move Accept b h = still_accepts
   by_move (Read set t) b (inl e) = cc
   by_move (Read set t) b (inr (k, a, e)) = still_reads (has_number t b (side a e))
@@ -145,11 +146,11 @@ module _ (nodes : List MNode) (alive : List Bool) (order kept numbers : List ℕ
       side goes e = e
 
   -- a node that is kept, by the new numbers
-  pub kept_node : All (IsBelow (length nodes)) nodes → (s : ℕ) → s < length nodes → LeadsToEnd f s → Keeps (HasNumber kept) Lost (f s) (renamed alive numbers (f s))
+  pub kept_node : All (LeadsBelow (length nodes)) nodes → (s : ℕ) → s < length nodes → LeadsToEnd f s → Keeps (HasNumber kept) Lost (f s) (renamed alive numbers (f s))
   kept_node range s lt (ks, e, w, a) =
       let m = get_or nodes s Accept in
       let here : f s ≡ move_of (Some m) = ap (λ z. move_of z) (slice_get-get_or nodes s Accept lt) in
-      subst (λ z. Keeps (HasNumber kept) Lost z (renamed alive numbers z)) (sym here) (by_move m (All-get_or (IsBelow (length nodes)) nodes s Accept lt range) (steps here ks w))
+      subst (λ z. Keeps (HasNumber kept) Lost z (renamed alive numbers z)) (sym here) (by_move m (All-get_or (LeadsBelow (length nodes)) nodes s Accept lt range) (steps here ks w))
     where
       steps : {v : Move ℕ} → f s ≡ v → (ks : List (Step ℕ)) → Walk f s ks e → (v ≡ accept) ⊎ ((k : Step ℕ) × Allows v k × LeadsToEnd f (entered k))
       steps {v} here [] w = inl (sym here ∙ ap f w ∙ a)
@@ -158,12 +159,12 @@ module _ (nodes : List MNode) (alive : List Bool) (order kept numbers : List ℕ
 -- while nodes are taken out and put in their new order
 pub record Shrinking (nodes rest made : List MNode) (alive : List Bool) (kept numbers : List ℕ) (t : ℕ) : Type 0 where
   pub long : length rest ≡ length nodes
-  pub below : All (IsBelow (length nodes)) rest
+  pub below : All (LeadsBelow (length nodes)) rest
   pub same : (s u : ℕ) → HasNumber kept s u → t ≤ u → node_moves rest s ≡ node_moves nodes s
   pub count : length made ≡ t
   pub each : (s u : ℕ) → HasNumber kept s u → u < t → node_moves made u ≡ renamed alive numbers (node_moves nodes s)
 
-pub shrinking_start : (nodes made : List MNode) (alive : List Bool) (kept numbers : List ℕ) → All (IsBelow (length nodes)) nodes → made ≡ [] → Shrinking nodes nodes made alive kept numbers 0
+pub shrinking_start : (nodes made : List MNode) (alive : List Bool) (kept numbers : List ℕ) → All (LeadsBelow (length nodes)) nodes → made ≡ [] → Shrinking nodes nodes made alive kept numbers 0
 shrinking_start nodes made alive kept numbers below none = rw none (record { long = refl; below = below; same = λ s u h le. refl; count = refl; each = λ s u h lt. absurd (omega arith) })
 
 pub shrinking_end : (nodes rest made : List MNode) (alive : List Bool) (kept numbers : List ℕ) → Shrinking nodes rest made alive kept numbers (length kept) → IsShrunk nodes made alive kept numbers
@@ -185,7 +186,7 @@ moves_before made m u lt = let g = slice_get-get_or made u Accept lt in ap (λ z
 pub shrinking_more : (nodes rest made : List MNode) (alive : List Bool) (order kept numbers : List ℕ) (t s : ℕ) (node new : MNode) → Shrinking nodes rest made alive kept numbers t → IsNumbering alive order kept numbers → HasNumber kept s t → move_of (Some node) ≡ node_moves rest s → move_of (Some new) ≡ renamed alive numbers (move_of (Some node)) → Shrinking nodes (set rest s Accept) (made ++ new ∷ []) alive kept numbers (t + 1)
 shrinking_more nodes rest made alive order kept numbers t s node new h num at is made_is = record {
   long = length-set rest s Accept ∙ h.long;
-  below = All-set (IsBelow (length nodes)) rest s Accept tt h.below;
+  below = All-set (LeadsBelow (length nodes)) rest s Accept tt h.below;
   same = λ s' u g le. moves_set_other rest s s' Accept (λ e. let same : u ≡ t = sym (num.once s' u g) ∙ ap (λ z. get_or numbers z 0) e ∙ num.once s t at in absurd (omega arith)) ∙ h.same s' u g (omega arith);
   count = let c : length made ≡ t = h.count in omega (arith, length-append made (new ∷ []));
   each = λ s' u g lt. ⊎_elim
@@ -197,8 +198,55 @@ shrinking_more nodes rest made alive order kept numbers t s node new h num at is
     last_or_less : (n s : ℕ) → s < n + 1 → (n ≡ s) ⊎ (s < n)
     last_or_less n s lt = grind arith
 
+-- the numbers to which nodes lead, of all numbers in range
+leads_of : (n r : ℕ) (m : MNode) → IsBelow n r m → LeadsBelow n m
+leads_of n r Accept b = b
+leads_of n r (Read set t) b = b
+leads_of n r (Choice l k) b = b
+leads_of n r (Forced x t) b = b
+leads_of n r (Do e t) b = b.0
+leads_of n r (Skip t) b = b
+
+pub leads_below : (ms : List MNode) (r : ℕ) → All (IsBelow (length ms) r) ms → All (LeadsBelow (length ms)) ms
+leads_below ms r h = λ k d lt. leads_of (length ms) r (get_or ms k d) (h k d lt)
+
+-- where numbers fall along steps without a byte there is no loop of such steps
+falling_walk : (nodes : List MNode) → ((n m : ℕ) → IsAmong (quiet (node_moves nodes n)) m → m < n) → (n m : ℕ) (ks : List (Step ℕ)) → Walk (node_moves nodes) n ks m → bytes_of (code_of ks) ≡ [] → m ≤ n
+falling_walk nodes falls n m [] w e = omega (arith, w)
+falling_walk nodes falls n m (took b t ∷ ks) w e = let bad : b ∷ bytes_of (code_of ks) ≡ [] = e in cc
+falling_walk nodes falls n m (chose to_left t ∷ ks) w e =
+    let lt : t < n = falls n t (is_quiet w.0 refl) in
+    let le : m ≤ t = falling_walk nodes falls t m ks w.1 e in
+    omega arith
+falling_walk nodes falls n m (chose to_right t ∷ ks) w e =
+    let lt : t < n = falls n t (is_quiet w.0 refl) in
+    let le : m ≤ t = falling_walk nodes falls t m ks w.1 e in
+    omega arith
+falling_walk nodes falls n m (went x t ∷ ks) w e =
+    let lt : t < n = falls n t (is_quiet w.0 refl) in
+    let le : m ≤ t = falling_walk nodes falls t m ks w.1 e in
+    omega arith
+
+no_loop_falling : (nodes : List MNode) → ((n m : ℕ) → IsAmong (quiet (node_moves nodes n)) m → m < n) → HasLoop nodes → ⊥
+no_loop_falling nodes falls (n, k, ks, w, e) = by k w e
+  where
+    by : (k : Step ℕ) → Walk (node_moves nodes) n (k ∷ ks) n → bytes_of (code_of (k ∷ ks)) ≡ [] → ⊥
+    by (took b t) w e = let bad : b ∷ bytes_of (code_of ks) ≡ [] = e in cc
+    by (chose to_left t) w e =
+        let lt : t < n = falls n t (is_quiet w.0 refl) in
+        let le : n ≤ t = falling_walk nodes falls t n ks w.1 e in
+        omega arith
+    by (chose to_right t) w e =
+        let lt : t < n = falls n t (is_quiet w.0 refl) in
+        let le : n ≤ t = falling_walk nodes falls t n ks w.1 e in
+        omega arith
+    by (went x t) w e =
+        let lt : t < n = falls n t (is_quiet w.0 refl) in
+        let le : n ≤ t = falling_walk nodes falls t n ks w.1 e in
+        omega arith
+
 -- the machine that is made
-module _ (g : Graph) (range : IsInRange g.start g.nodes) (alive : List Bool) (order kept numbers : List ℕ) (made : List MNode) (is : IsAlive g.nodes alive) (ord : IsOrder g.nodes order) (num : IsNumbering alive order kept numbers) (shrunk : IsShrunk g.nodes made alive kept numbers) (starts : get_or alive g.start false ≡ true) where
+module _ (g : Graph) (range : IsInRange g.start g.nodes g.registers) (alive : List Bool) (order kept numbers : List ℕ) (made : List MNode) (is : IsAlive g.nodes alive) (ord : IsOrder g.nodes order) (num : IsNumbering alive order kept numbers) (shrunk : IsShrunk g.nodes made alive kept numbers) (starts : get_or alive g.start false ≡ true) where
   abbrev new : Graph
   new = record { start = get_or numbers g.start 0; nodes = made; stage = g.stage; registers = g.registers }
 
@@ -216,7 +264,7 @@ module _ (g : Graph) (range : IsInRange g.start g.nodes) (alive : List Bool) (or
   keeps_at : (s t : ℕ) → HasNumber kept s t → Keeps (HasNumber kept) (λ q. LeadsToEnd (node_moves g.nodes) q → ⊥) (node_moves g.nodes s) (node_moves made t)
   keeps_at s t h =
       let a = num.each s t h in
-      subst (λ z. Keeps (HasNumber kept) (λ q. LeadsToEnd (node_moves g.nodes) q → ⊥) (node_moves g.nodes s) z) (sym (shrunk.each s t h)) (kept_node g.nodes alive order kept numbers is ord num range.below s (within s a) (is.ends s a))
+      subst (λ z. Keeps (HasNumber kept) (λ q. LeadsToEnd (node_moves g.nodes) q → ⊥) (node_moves g.nodes s) z) (sym (shrunk.each s t h)) (kept_node g.nodes alive order kept numbers is ord num (leads_below g.nodes g.registers range.below) s (within s a) (is.ends s a))
 
   pub is_trim : IsTrimOf g new
   is_trim = record {
@@ -236,7 +284,7 @@ module _ (g : Graph) (range : IsInRange g.start g.nodes) (alive : List Bool) (or
   below_forced (only_right {s' = s} l r) = slice_get_within kept _ s r
   below_forced (still_forced {s = s} r) = slice_get_within kept _ s r
 
-  below_by : (m : MNode) {v : Move ℕ} {Lost : ℕ → Type 0} → Keeps (HasNumber kept) Lost v (move_of (Some m)) → IsBelow (length kept) m
+  below_by : (m : MNode) {v : Move ℕ} {Lost : ℕ → Type 0} → Keeps (HasNumber kept) Lost v (move_of (Some m)) → LeadsBelow (length kept) m
   below_by Accept k = tt
   below_by (Read set n) (still_reads {s = s} r) = slice_get_within kept n s r
   below_by (Choice l r) (still_chooses {s = s} {s' = s'} a b) = (slice_get_within kept l s a, slice_get_within kept r s' b)
@@ -244,18 +292,58 @@ module _ (g : Graph) (range : IsInRange g.start g.nodes) (alive : List Bool) (or
   below_by (Do e n) (still_goes {s = s} r) = slice_get_within kept n s r
   below_by (Skip n) (still_goes {s = s} r) = slice_get_within kept n s r
 
-  pub in_range : IsInRange (get_or numbers g.start 0) made
+  -- what a kept node does uses the registers that there are
+  uses_by : (m : MNode) {e : Effect} {t : ℕ} → IsBelow (length g.nodes) g.registers m → move_of (Some m) ≡ go e t → UsesRegisters g.registers e
+  uses_by Accept b e = cc
+  uses_by (Read set n) b e = cc
+  uses_by (Choice l r) b e = cc
+  uses_by (Forced x n) b e = cc
+  uses_by (Do d n) {e = e} b h = let is : effect_of d ≡ e = cc in subst (λ z. UsesRegisters g.registers z) is b.1
+  uses_by (Skip n) {e = e} b h = let is : nothing ≡ e = cc in subst (λ z. UsesRegisters g.registers z) is tt
+
+  uses_at : (s : ℕ) {e : Effect} {t : ℕ} → s < length g.nodes → node_moves g.nodes s ≡ go e t → UsesRegisters g.registers e
+  uses_at s lt h = uses_by (get_or g.nodes s Accept) (All-get_or (IsBelow (length g.nodes) g.registers) g.nodes s Accept lt range.below) (sym (ap (λ z. move_of z) (slice_get-get_or g.nodes s Accept lt)) ∙ h)
+
+  kept_effect : {v : Move ℕ} {e : Effect} {t : ℕ} {Lost : ℕ → Type 0} → Keeps (HasNumber kept) Lost v (go e t) → (s : ℕ) × (v ≡ go e s)
+  kept_effect (still_goes {s = s} r) = (s, refl)
+
+  all_below : (m : MNode) (s : ℕ) {Lost : ℕ → Type 0} → s < length g.nodes → Keeps (HasNumber kept) Lost (node_moves g.nodes s) (move_of (Some m)) → LeadsBelow (length kept) m → IsBelow (length kept) g.registers m
+  all_below Accept s lt k b = b
+  all_below (Read set n) s lt k b = b
+  all_below (Choice l r) s lt k b = b
+  all_below (Forced x n) s lt k b = b
+  all_below (Do e n) s lt k b = let h = kept_effect k in (b, uses_at s lt h.1)
+  all_below (Skip n) s lt k b = b
+
+  pub in_range : IsInRange (get_or numbers g.start 0) made g.registers
   in_range = record {
     start_in = subst (λ z. get_or numbers g.start 0 < z) (sym shrunk.count) (slice_get_within kept (get_or numbers g.start 0) g.start (at_number g.start starts));
-    below = subst (λ z. All (IsBelow z) made) (sym shrunk.count) (All-from_get_or (IsBelow (length kept)) made Accept below_at);
+    below = subst (λ z. All (IsBelow z g.registers) made) (sym shrunk.count) (All-from_get_or (IsBelow (length kept) g.registers) made Accept below_at);
     count = omega (arith, shrunk.count, num.few, ord.count, range.count);
   }
     where
-      below_at : (t : ℕ) → t < length made → IsBelow (length kept) (get_or made t Accept)
+      below_at : (t : ℕ) → t < length made → IsBelow (length kept) g.registers (get_or made t Accept)
       below_at t lt =
           let fits : t < length kept = omega (arith, shrunk.count) in
           let s = get_or kept t 0 in
-          below_by (get_or made t Accept) (subst (λ z. Keeps (HasNumber kept) (λ q. LeadsToEnd (node_moves g.nodes) q → ⊥) (node_moves g.nodes s) (move_of z)) (slice_get-get_or made t Accept lt) (keeps_at s t (slice_get-get_or kept t 0 fits)))
+          let at = slice_get-get_or kept t 0 fits in
+          let k = subst (λ z. Keeps (HasNumber kept) (λ q. LeadsToEnd (node_moves g.nodes) q → ⊥) (node_moves g.nodes s) (move_of z)) (slice_get-get_or made t Accept lt) (keeps_at s t at) in
+          all_below (get_or made t Accept) s (within s (num.each s t at)) k (below_by (get_or made t Accept) k)
+
+  -- along a step without a byte numbers fall
+  falls : (t u : ℕ) → IsAmong (quiet (node_moves made t)) u → u < t
+  falls t u i = ⊎_elim
+      (λ h.
+      let fits : t < length kept = let l : t < length made = h.1 in omega (arith, shrunk.count) in
+      let s = get_or kept t 0 in
+      let at : HasNumber kept s t = slice_get-get_or kept t 0 fits in
+      let k = quiet_step (node_moves made t) u i in
+      let o = kept_back (HasNumber kept) (λ q. LeadsToEnd (node_moves g.nodes) q → ⊥) (keeps_at s t at) k.1 in
+      let place = ord.all s (within s (num.each s t at)) in
+      let lower = ord.falls s (entered o.0) place.0 place.1 (is_quiet o.1 (ap bytes_of (same_symbols o.0 k.0 o.2) ∙ k.3)) in
+      num.rising (entered o.0) s u t lower.0 place.0 (subst (λ z. HasNumber kept (entered o.0) z) k.2 o.3) at lower.2 place.1 lower.1)
+      (λ h. absurd (subst (λ z. IsAmong (quiet (move_of z)) u) h.1 i))
+      (slice_get_cases made t).1
 
   pub is_trimmed : IsTrimmed new
   is_trimmed = record {
@@ -266,18 +354,7 @@ module _ (g : Graph) (range : IsInRange g.start g.nodes) (alive : List Bool) (or
         let e = is.ends s (num.each s t at) in
         let x = walk_ahead (node_moves g.nodes) (node_moves made) (HasNumber kept) like e.0 s e.1 t e.2 ([], e.1, refl, e.3) at in
         (x.0, x.1, x.2, like.ends e.1 x.1 x.3 e.3);
-    falls = λ t u i. ⊎_elim
-        (λ h.
-        let fits : t < length kept = let l : t < length made = h.1 in omega (arith, shrunk.count) in
-        let s = get_or kept t 0 in
-        let at : HasNumber kept s t = slice_get-get_or kept t 0 fits in
-        let k = quiet_step (node_moves made t) u i in
-        let o = kept_back (HasNumber kept) (λ q. LeadsToEnd (node_moves g.nodes) q → ⊥) (keeps_at s t at) k.1 in
-        let place = ord.all s (within s (num.each s t at)) in
-        let lower = ord.falls s (entered o.0) place.0 place.1 (is_quiet o.1 (ap bytes_of (same_symbols o.0 k.0 o.2) ∙ k.3)) in
-        num.rising (entered o.0) s u t lower.0 place.0 (subst (λ z. HasNumber kept (entered o.0) z) k.2 o.3) at lower.2 place.1 lower.1)
-        (λ h. absurd (subst (λ z. IsAmong (quiet (move_of z)) u) h.1 i))
-        (slice_get_cases made t).1;
+    no_loop = no_loop_falling made falls;
   }
     where
       like : Alike (node_moves g.nodes) (node_moves made) (HasNumber kept)

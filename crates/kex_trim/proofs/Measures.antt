@@ -7,7 +7,8 @@ use Rattle.kex_code.specs.Codes.{IsAmong}
 use Rattle.kex_model.specs.Moves.{quiet, Move, accept, read, choose, forced, go}
 use Rattle.kex_machine.specs.declared.MNode.{MNode}
 use Rattle.kex_machine.specs.declared.MNode.TheVariants.{Accept, Read, Choice, Forced, Do, Skip}
-use Rattle.kex_machine.specs.Nodes.{IsBelow, node_moves, move_of}
+use Rattle.kex_trim.specs.Ways.{LeadsBelow}
+use Rattle.kex_machine.specs.Nodes.{node_moves, move_of}
 use Rattle.kex_trim.specs.declared.Mark.{Mark}
 use Rattle.kex_trim.specs.declared.Mark.TheVariants.{Unseen, Open, Done}
 use Rattle.kex_trim.specs.Loops.{entering}
@@ -53,7 +54,7 @@ pub length-entering : (ns : List ℕ) → length (entering ns) ≡ length ns
 length-entering [] = refl
 length-entering (n ∷ ns) = ap suc (length-entering ns)
 
-quiet_in : (k : ℕ) (m : MNode) (t : ℕ) → IsBelow k m → IsAmong (quiet (move_of (Some m))) t → t < k
+quiet_in : (k : ℕ) (m : MNode) (t : ℕ) → LeadsBelow k m → IsAmong (quiet (move_of (Some m))) t → t < k
 quiet_in k Accept t b i = absurd i
 quiet_in k (Read set n) t b i = absurd i
 quiet_in k (Choice l r) t b (inl e) = subst (λ z. z < k) e b.1
@@ -66,5 +67,5 @@ quiet_in k (Do x n) t b (inr i) = absurd i
 quiet_in k (Skip n) t b (inl e) = subst (λ z. z < k) e b
 quiet_in k (Skip n) t b (inr i) = absurd i
 
-pub quiet_below : (nodes : List MNode) → All (IsBelow (length nodes)) nodes → (n : ℕ) → n < length nodes → (t : ℕ) → IsAmong (quiet (node_moves nodes n)) t → t < length nodes
-quiet_below nodes all n lt t i = quiet_in (length nodes) (get_or nodes n Accept) t (All-get_or (IsBelow (length nodes)) nodes n Accept lt all) (subst (λ z. IsAmong (quiet (move_of z)) t) (slice_get-get_or nodes n Accept lt) i)
+pub quiet_below : (nodes : List MNode) → All (LeadsBelow (length nodes)) nodes → (n : ℕ) → n < length nodes → (t : ℕ) → IsAmong (quiet (node_moves nodes n)) t → t < length nodes
+quiet_below nodes all n lt t i = quiet_in (length nodes) (get_or nodes n Accept) t (All-get_or (LeadsBelow (length nodes)) nodes n Accept lt all) (subst (λ z. IsAmong (quiet (move_of z)) t) (slice_get-get_or nodes n Accept lt) i)

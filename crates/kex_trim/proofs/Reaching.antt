@@ -10,7 +10,8 @@ use Rattle.kex_model.specs.Moves.{Move, accept, read, choose, forced, go, to_lef
 use Rattle.kex_model.specs.Survivors.{LeadsToEnd}
 use Rattle.kex_machine.specs.declared.MNode.{MNode}
 use Rattle.kex_machine.specs.declared.MNode.TheVariants.{Accept, Read, Choice, Forced, Do, Skip}
-use Rattle.kex_machine.specs.Nodes.{IsBelow, node_moves, move_of}
+use Rattle.kex_trim.specs.Ways.{LeadsBelow}
+use Rattle.kex_machine.specs.Nodes.{node_moves, move_of}
 use Rattle.kex_trim.specs.Ways.{ways, Adds, IsReverse, unmarked, Marks, IsAlive}
 use Rattle.kex_trim.proofs.Searching.{among-cases, among_left, among_right}
 
@@ -52,7 +53,7 @@ is_way goes_right = inr (inl refl)
 is_way goes_forced = inl refl
 is_way goes = inl refl
 
-way_in : (k : ℕ) (m : MNode) (t : ℕ) → IsBelow k m → IsAmong (ways (move_of (Some m))) t → t < k
+way_in : (k : ℕ) (m : MNode) (t : ℕ) → LeadsBelow k m → IsAmong (ways (move_of (Some m))) t → t < k
 way_in k Accept t b i = absurd i
 way_in k (Read set n) t b i = by (list_any (λ b. b) set) i
   where
@@ -70,8 +71,8 @@ way_in k (Do x n) t b (inr i) = absurd i
 way_in k (Skip n) t b (inl e) = subst (λ z. z < k) e b
 way_in k (Skip n) t b (inr i) = absurd i
 
-pub way_below : (nodes : List MNode) → All (IsBelow (length nodes)) nodes → (n : ℕ) → n < length nodes → (t : ℕ) → IsAmong (ways (node_moves nodes n)) t → t < length nodes
-way_below nodes all n lt t i = way_in (length nodes) (get_or nodes n Accept) t (All-get_or (IsBelow (length nodes)) nodes n Accept lt all) (subst (λ z. IsAmong (ways (move_of z)) t) (slice_get-get_or nodes n Accept lt) i)
+pub way_below : (nodes : List MNode) → All (LeadsBelow (length nodes)) nodes → (n : ℕ) → n < length nodes → (t : ℕ) → IsAmong (ways (node_moves nodes n)) t → t < length nodes
+way_below nodes all n lt t i = way_in (length nodes) (get_or nodes n Accept) t (All-get_or (LeadsBelow (length nodes)) nodes n Accept lt all) (subst (λ z. IsAmong (ways (move_of z)) t) (slice_get-get_or nodes n Accept lt) i)
 
 -- one list gets one more
 pub adds_one : (old : List (List ℕ)) (t s : ℕ) → t < length old → Adds (t ∷ []) s old (set old t (get_or old t [] ++ s ∷ []))
@@ -310,7 +311,7 @@ module _ (nodes : List MNode) where
       less_or_not : (a b : ℕ) → (a < b) ⊎ (b ≤ a)
       less_or_not a b = grind arith
 
-  pub spread_end : All (IsBelow (length nodes)) nodes → (alive : List Bool) → Spread alive [] → IsAlive nodes alive
+  pub spread_end : All (LeadsBelow (length nodes)) nodes → (alive : List Bool) → Spread alive [] → IsAlive nodes alive
   spread_end range alive h = record { long = h.long; ends = h.ends; all = λ n lt l. back l.0 n l.1 lt l.2 l.3 }
     where
       back : (ks : List (Step ℕ)) (n e : ℕ) → n < length nodes → Walk f n ks e → f e ≡ accept → get_or alive n false ≡ true

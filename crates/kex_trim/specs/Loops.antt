@@ -7,7 +7,6 @@ use Rattle.kex_machine.specs.Nodes.{node_moves}
 use Rattle.kex_trim.specs.declared.Task.{Task}
 use Rattle.kex_trim.specs.declared.Task.TheVariants.{Enter}
 
-
 abbrev pub entering : List ℕ → List Task
 entering [] = []
 entering (n ∷ ns) = Enter n ∷ entering ns

@@ -5,8 +5,8 @@ use Rattle.kex_model.specs.Moves.{Move, accept, read, choose, forced, go, Side, 
 use Rattle.kex_model.specs.Survivors.{LeadsToEnd}
 use Rattle.kex_machine.specs.declared.MNode.{MNode}
 use Rattle.kex_machine.specs.Nodes.{Graph, node_moves}
-use Rattle.kex_trim.specs.declared.Refusal.{Refusal}
-use Rattle.kex_trim.specs.declared.Refusal.TheVariants.{EmptyLoop, NoText, Memory}
+use Rattle.kex_trim.specs.declared.TrimRefusal.{TrimRefusal}
+use Rattle.kex_trim.specs.declared.TrimRefusal.TheVariants.{EmptyLoop, NoText, Memory}
 use Rattle.kex_machine.specs.Nodes.{HasLoop}
 
 -- the same, but that a choice with a lost side has only the other side left; R pairs what is kept
@@ -32,7 +32,7 @@ pub record IsTrimOf (g h : Graph) : Type 0 where
   pub registers : h.registers ≡ g.registers
 
 -- why the machine is refused
-abbrev pub IsCause : Graph → Refusal → Type 0
+abbrev pub IsCause : Graph → TrimRefusal → Type 0
 IsCause g EmptyLoop = HasLoop g.nodes
 IsCause g NoText = (HasLoop g.nodes → ⊥) × (LeadsToEnd (node_moves g.nodes) g.start → ⊥)
 IsCause g Memory = Unit {0}

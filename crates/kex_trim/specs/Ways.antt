@@ -5,6 +5,7 @@ use Rattle.kex_code.specs.Codes.{IsAmong}
 use Rattle.kex_model.specs.Moves.{Move, accept, read, choose, forced, go}
 use Rattle.kex_model.specs.Survivors.{LeadsToEnd}
 use Rattle.kex_machine.specs.declared.MNode.{MNode}
+use Rattle.kex_machine.specs.declared.MNode.TheVariants.{Accept, Read, Choice, Forced, Do, Skip}
 use Rattle.kex_machine.specs.Nodes.{node_moves}
 use Rattle.kex_trim.specs.declared.Ways.{Ways}
 use Rattle.kex_trim.specs.declared.Ways.TheVariants.{NoWay, One, Two}
@@ -16,6 +17,15 @@ ways (read set t) = if list_any (λ b. b) set then t ∷ [] else []
 ways (choose l r) = l ∷ r ∷ []
 ways (forced x t) = t ∷ []
 ways (go e t) = t ∷ []
+
+-- the node leads to numbers below the count
+abbrev pub LeadsBelow : ℕ → MNode → Type 0
+LeadsBelow count Accept = Unit {0}
+LeadsBelow count (Read set n) = n < count
+LeadsBelow count (Choice l r) = (l < count) × (r < count)
+LeadsBelow count (Forced b n) = n < count
+LeadsBelow count (Do e n) = n < count
+LeadsBelow count (Skip n) = n < count
 
 abbrev pub listed : Ways → List ℕ
 listed NoWay = []

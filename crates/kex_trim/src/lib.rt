@@ -1,11 +1,15 @@
-// A machine without loops and dead ends.
+//! A machine without loops that read nothing and without dead ends.
+//!
+//! Stands on machines. `trim` refuses exactly where there is such a loop, or no text; else it keeps exactly the nodes that lead
+//! to the end, with the same codes and effects.
 #![tactic(auto)]
 
 ghost use Rattle.std.specs.Prelude.{◌≡◌, ℕ, ◌<◌, ◌≤◌, ◌++◌, ◌∷◌, [], List, All, length, slice_get, Some, None, IfSome, IfOk, IfErr, OnOk, IsTrue, true, false, slice_set, get_or, replicate};
 ghost use Rattle.kex_trim.specs.Ways.{ways, listed, Adds, EachUnder, IsReverse, IsAlive, Marks};
 ghost use Rattle.kex_trim.specs.declared.Mark.TheVariants.{Unseen, Open, Done};
 ghost use Rattle.kex_trim.specs.declared.Task.TheVariants.{Enter, Leave};
-ghost use Rattle.kex_machine.specs.Nodes.{IsBelow, IsInRange, node_moves, move_of};
+ghost use Rattle.kex_trim.specs.Ways.{LeadsBelow};
+ghost use Rattle.kex_machine.specs.Nodes.{IsInRange, node_moves, move_of};
 ghost use Rattle.kex_code.specs.Codes.{HasNumber};
 ghost use Rattle.kex_trim.specs.Trim.{IsCause, IsNumbering, IsShrunk, IsTrimOf, NumbersOne, renamed};
 ghost use Rattle.kex_machine.specs.declared.MNode.TheVariants.{Accept};
@@ -16,6 +20,7 @@ ghost use Rattle.kex_model.specs.Moves.{quiet};
 use kex_machine::{Bit, MNode, Machine, Trimmed};
 use std::alloc::{AllocError, Global};
 use std::marker::Model;
+use thiserror::Error;
 
 /// How far the search is with a node.
 #[derive(Clone, Copy, PartialEq, Eq, Debug)]
@@ -99,7 +104,7 @@ fn open(
 
 /// The nodes, each behind those to which it leads without a byte; none where some node is reached again from itself.
 pub fn fall_order(alloc: Global, nodes: &[MNode]) -> Result<Option<Vec<u32>>, AllocError>
-    requires below { All (IsBelow (length nodes.now)) nodes.now }
+    requires below { All (LeadsBelow (length nodes.now)) nodes.now }
     requires count { length nodes.now < 4294967296 }
     ensures order { IfOk result (λ o. IfSome o (λ order. IsOrder nodes.now order.items)) }
     ensures none { IfOk result (λ o. IfSome o (λ order. HasLoop nodes.now → ⊥)) }
@@ -222,7 +227,7 @@ fn add_ways(into: &mut Vec<Sources>, found: Ways, from: u32) -> Result<(), Alloc
 
 /// For each node, those that lead to it.
 fn sources_of(alloc: Global, nodes: &[MNode]) -> Result<Vec<Sources>, AllocError>
-    requires below { All (IsBelow (length nodes.now)) nodes.now }
+    requires below { All (LeadsBelow (length nodes.now)) nodes.now }
     requires count { length nodes.now < 4294967296 }
     ensures { IfOk result (λ into. IsReverse nodes.now into.items) }
 {
@@ -259,7 +264,7 @@ fn reach_all(alive: &mut Vec<bool>, stack: &mut Vec<u32>, nodes: &[u32]) -> Resu
 
 /// From which nodes the end is reached.
 pub fn alive_nodes(alloc: Global, nodes: &[MNode]) -> Result<Vec<bool>, AllocError>
-    requires below { All (IsBelow (length nodes.now)) nodes.now }
+    requires below { All (LeadsBelow (length nodes.now)) nodes.now }
     requires count { length nodes.now < 4294967296 }
     ensures { IfOk result (λ alive. IsAlive nodes.now alive.items) }
 {
@@ -278,10 +283,15 @@ pub fn alive_nodes(alloc: Global, nodes: &[MNode]) -> Result<Vec<bool>, AllocErr
 }
 
 /// Why a machine is refused.
-#[derive(Drop, Debug)]
-pub enum Refusal {
+#[derive(Clone, Copy, Debug, PartialEq, Eq, Drop, Error)]
+pub enum TrimRefusal {
+    /// Some node is reached again from itself without a byte.
+    #[error("a loop reads nothing")]
     EmptyLoop,
+    /// The end isn't reached from the start.
+    #[error("no text has a parse")]
     NoText,
+    #[error("out of memory")]
     Memory,
 }
 
@@ -326,7 +336,7 @@ fn number(alloc: Global, alive: &[bool], order: &[u32]) -> Result<Numbering, All
 
 /// A node by the new numbers.
 fn shrunk(node: MNode, alive: &[bool], numbers: &[u32]) -> MNode
-    requires below { IsBelow (length alive.now) node }
+    requires below { LeadsBelow (length alive.now) node }
     requires long { length numbers.now ≡ length alive.now }
     ensures { move_of (Some result) ≡ renamed alive.now numbers.now (move_of (Some node)) }
 {
@@ -352,7 +362,7 @@ fn shrunk(node: MNode, alive: &[bool], numbers: &[u32]) -> MNode
 fn take_node(nodes: &mut Vec<MNode>, n: u32) -> MNode
     requires { n < length nodes.old.items }
     ensures node { move_of (Some result) ≡ node_moves nodes.old.items n }
-    ensures fits { All (IsBelow (length nodes.old.items)) nodes.old.items → IsBelow (length nodes.old.items) result }
+    ensures fits { All (LeadsBelow (length nodes.old.items)) nodes.old.items → LeadsBelow (length nodes.old.items) result }
     ensures left { nodes.new.items ≡ slice_set nodes.old.items n Accept }
 {
     std::mem::replace(&mut nodes[n as usize], MNode::Accept)
@@ -366,7 +376,7 @@ fn shrink(
     order: &[u32],
     numbering: &Numbering,
 ) -> Result<Vec<MNode>, AllocError>
-    requires below { All (IsBelow (length nodes.items)) nodes.items }
+    requires below { All (LeadsBelow (length nodes.items)) nodes.items }
     requires long { length alive.now ≡ length nodes.items }
     requires numbering { IsNumbering alive.now order.now numbering.now.kept.items numbering.now.numbers.items }
     ensures { IfOk result (λ made. IsShrunk nodes.items made.items alive.now numbering.now.kept.items numbering.now.numbers.items) }
@@ -381,30 +391,30 @@ fn shrink(
 }
 
 /// The machine without loops and dead ends.
-pub fn trim(alloc: Global, machine: Machine) -> Result<Trimmed, Refusal>
+pub fn trim(alloc: Global, machine: Machine) -> Result<Trimmed, TrimRefusal>
     ensures trimmed { IfOk result (λ t. IsTrimOf machine t) }
     ensures no_loop { OnOk result (HasLoop machine.nodes → ⊥) }
     ensures refused { IfErr result (λ e. IsCause machine e) }
 {
     let order = match fall_order(alloc, machine.nodes()) {
-        Err(_) => return Err(Refusal::Memory),
-        Ok(None) => return Err(Refusal::EmptyLoop),
+        Err(_) => return Err(TrimRefusal::Memory),
+        Ok(None) => return Err(TrimRefusal::EmptyLoop),
         Ok(Some(order)) => order,
     };
     let Ok(alive) = alive_nodes(alloc, machine.nodes()) else {
-        return Err(Refusal::Memory);
+        return Err(TrimRefusal::Memory);
     };
     if !alive[machine.start() as usize] {
-        return Err(Refusal::NoText);
+        return Err(TrimRefusal::NoText);
     }
     let Ok(numbering) = number(alloc, &alive, &order) else {
-        return Err(Refusal::Memory);
+        return Err(TrimRefusal::Memory);
     };
     let start = numbering.numbers[machine.start() as usize];
     let stage = machine.stage();
     let registers = machine.registers();
     let Ok(nodes) = shrink(alloc, machine.into_nodes(), &alive, &order, &numbering) else {
-        return Err(Refusal::Memory);
+        return Err(TrimRefusal::Memory);
     };
     Ok(Trimmed::new(Machine::new(start, nodes, stage, registers)))
 }
