@@ -1,0 +1,35 @@
+-- What a sink gains by a call.
+use Rattle.std.specs.Prelude.{◌≡◌, ◌≤◌, ◌⊎◌, ℕ, List, Option, Result, Ok, Err}
+use Rattle.std.specs.Io.KnownBytes.{Appends}
+use Rattle.kex_ports.specs.Bytes.{AppendsFront}
+use Rattle.kex_ports.specs.Causes.{Rose}
+
+-- A source or sink before and after a call: its bytes, where they are known, and its count of faults.
+pub record Change : Type 0 where
+  pub old : Option (List ℕ)
+  pub new : Option (List ℕ)
+  pub before : ℕ
+  pub now : ℕ
+
+abbrev pub change : Option (List ℕ) → Option (List ℕ) → ℕ → ℕ → Change
+change old new before now = record { old = old; new = new; before = before; now = now }
+
+-- The count rose.
+abbrev pub HasFailed : Change → Type 0
+HasFailed c = (c.before ≤ c.now) × Rose c.before c.now
+
+-- The bytes went in whole, and the count stayed.
+abbrev pub GainsWhole : Change → List ℕ → Type 0
+GainsWhole c bytes = Appends c.old c.new bytes × (c.now ≡ c.before)
+
+-- A front of the bytes went in, and the count rose.
+abbrev pub GainsFront : Change → List ℕ → Type 0
+GainsFront c bytes = AppendsFront c.old c.new bytes × HasFailed c
+
+abbrev pub Gains : Change → List ℕ → Type 0
+Gains c bytes = GainsWhole c bytes ⊎ GainsFront c bytes
+
+-- The same, by what a write answers.
+abbrev pub Tells : {E : Type 0} → Change → List ℕ → Result (Unit {0}) E → Type 0
+Tells c bytes (Ok done) = GainsWhole c bytes
+Tells c bytes (Err failed) = GainsFront c bytes

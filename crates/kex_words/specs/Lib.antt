@@ -1,0 +1,6 @@
+pub mod Form
+pub mod Words
+pub mod Known
+pub mod Gains
+pub mod Lines
+pub mod Parts

@@ -1,0 +1,63 @@
+-- The line that a run leaves in the notes.
+use Rattle.std.specs.Prelude.{ℕ, List, [], ◌∷◌, Bool, codes, decimal, if◌then◌else◌}
+use Rattle.std.specs.List.{concat}
+use Rattle.kex_words.specs.declared.notes.Note.{Note}
+use Rattle.kex_words.specs.declared.notes.Note.TheVariants.{Nothing, Rejected, TooLong, Usage, Refused, ReadFault, WriteFault, ShelfFault, Memory}
+use Rattle.kex_words.specs.declared.refusals.Place.{Place}
+use Rattle.kex_words.specs.declared.refusals.Place.TheVariants.{Nowhere, At, Stage}
+use Rattle.kex_words.specs.declared.refusals.Refusal.{Refusal}
+use Rattle.kex_words.specs.declared.refusals.Rule.{Rule}
+use Rattle.kex_words.specs.declared.refusals.Rule.TheVariants as rule
+
+abbrev pub title_of : Rule → List ℕ
+title_of rule.TextTooLong = codes "K00 TextTooLong"
+title_of rule.BadToken = codes "K01 BadToken"
+title_of rule.Unexpected = codes "K02 Unexpected"
+title_of rule.BadRegex = codes "K03 BadRegex"
+title_of rule.BadCount = codes "K04 BadCount"
+title_of rule.BadSet = codes "K05 BadSet"
+title_of rule.OverLimit = codes "K06 OverLimit"
+title_of rule.TwiceDefined = codes "K07 TwiceDefined"
+title_of rule.Unknown = codes "K08 Unknown"
+title_of rule.NoStart = codes "K09 NoStart"
+title_of rule.NotTail = codes "K10 NotTail"
+title_of rule.TooManyPlaces = codes "K11 TooManyPlaces"
+title_of rule.EmptyLoop = codes "K12 EmptyLoop"
+title_of rule.NoText = codes "K13 NoText"
+title_of rule.OneStage = codes "K14 OneStage"
+title_of rule.TooManyStates = codes "K15 TooManyStates"
+title_of rule.Later = codes "K99 Later"
+
+abbrev pub end_of : Bool → List ℕ
+end_of at_end = if at_end then codes " (end)\n" else codes "\n"
+
+abbrev pub rejected_line : ℕ → ℕ → Bool → List ℕ
+rejected_line stage at at_end =
+    concat (codes "rejected: stage " ∷ decimal stage ∷ codes " at byte " ∷ decimal at ∷ end_of at_end ∷ [])
+
+abbrev pub too_long_line : ℕ → ℕ → List ℕ
+too_long_line stage at = concat (codes "too long: stage " ∷ decimal stage ∷ codes " at byte " ∷ decimal at ∷ codes "\n" ∷ [])
+
+abbrev pub placed_line : Place → List ℕ → List ℕ
+placed_line Nowhere title = concat (codes "refused: " ∷ title ∷ codes "\n" ∷ [])
+placed_line (At line column) title =
+    concat (codes "refused: " ∷ title ∷ codes " at line " ∷ decimal line ∷ codes " column " ∷ decimal column ∷ codes "\n" ∷ [])
+placed_line (Stage stage) title =
+    concat (codes "refused: " ∷ title ∷ codes " in stage " ∷ decimal stage ∷ codes "\n" ∷ [])
+
+abbrev pub refused_line : Refusal → List ℕ
+refused_line refusal = placed_line refusal.place (title_of refusal.rule)
+
+abbrev pub usage_line : List ℕ
+usage_line = codes "usage: kex run|check|code|act|test PROGRAM [--states N] [--max-input N] [--block N] | kex trial N [--block N]\n"
+
+abbrev pub line_of : Note → List ℕ
+line_of Nothing = []
+line_of (Rejected stage at at_end) = rejected_line stage at at_end
+line_of (TooLong stage at) = too_long_line stage at
+line_of Usage = usage_line
+line_of (Refused refusal) = refused_line refusal
+line_of ReadFault = codes "read fault\n"
+line_of WriteFault = codes "write fault\n"
+line_of ShelfFault = codes "shelf fault\n"
+line_of Memory = codes "out of memory\n"

@@ -1,0 +1,83 @@
+// The form of the command line, which `clap` reads.
+ghost use Rattle.std.specs.Prelude.{◌≡◌, IfOk, false};
+ghost use Rattle.clap.specs.Words.{app_of, rule_of, with_subcommand};
+ghost use Rattle.clap.specs.declared.builder.command.Command.TheViews.{out-Command};
+ghost use Rattle.kex_words.specs.Form.{bare_app, block_rule, check_app, kex_app, max_input_rule, number_rule, program_rule, run_app};
+
+use crate::asked::{MOST_BLOCK, MOST_INPUT};
+use clap::builder::ValueParser;
+use clap::{Arg, Command};
+use std::alloc::{AllocError, Global};
+
+fn program<'a>(alloc: Global) -> Arg<'a>
+    ensures rule { rule_of result ≡ program_rule }
+    ensures local { result.global ≡ false }
+{
+    Arg::new(alloc, "PROGRAM").required(true)
+}
+
+fn number<'a>(alloc: Global, name: &'a str, low: u64, high: u64, default: &'a str) -> Arg<'a>
+    ensures rule { rule_of result ≡ number_rule name.entry.now low high default.entry.now }
+    ensures local { result.global ≡ false }
+{
+    Arg::new(alloc, name)
+        .long(name)
+        .value_parser(ValueParser::Unsigned(low, high))
+        .default_value(default)
+}
+
+fn max_input<'a>(alloc: Global) -> Arg<'a>
+    ensures rule { rule_of result ≡ max_input_rule }
+    ensures local { result.global ≡ false }
+{
+    number(alloc, "max-input", 0, MOST_INPUT, "281474976710656")
+}
+
+fn block<'a>(alloc: Global) -> Arg<'a>
+    ensures rule { rule_of result ≡ block_rule }
+    ensures local { result.global ≡ false }
+{
+    number(alloc, "block", 1, MOST_BLOCK, "65536")
+}
+
+fn run<'a>(alloc: Global) -> Result<Command<'a>, AllocError>
+    ensures app { IfOk result (λ command. app_of command ≡ run_app) }
+    ensures local { IfOk result (λ command. (out-Command command).has_globals ≡ false) }
+{
+    Command::new(alloc, "run")
+        .arg(program(alloc))?
+        .arg(max_input(alloc))?
+        .arg(block(alloc))
+}
+
+fn check<'a>(alloc: Global) -> Result<Command<'a>, AllocError>
+    ensures app { IfOk result (λ command. app_of command ≡ check_app) }
+    ensures local { IfOk result (λ command. (out-Command command).has_globals ≡ false) }
+{
+    Command::new(alloc, "check").arg(program(alloc))
+}
+
+// Help and the version are no words of the form.
+fn bare<'a>(alloc: Global) -> Command<'a>
+    ensures { app_of result ≡ bare_app }
+{
+    Command::new(alloc, "kex")
+        .disable_help_flag(true)
+        .disable_help_subcommand(true)
+        .disable_version_flag(true)
+        .subcommand_required(true)
+}
+
+fn with<'a>(command: Command<'a>, sub: Command<'a>) -> Result<Command<'a>, AllocError>
+    requires { (out-Command sub).has_globals ≡ false }
+    ensures { IfOk result (λ r. app_of r ≡ with_subcommand (app_of command.entry) (app_of sub.entry).top) }
+{
+    command.subcommand(sub)
+}
+
+pub(crate) fn form<'a>(alloc: Global) -> Result<Command<'a>, AllocError>
+    ensures { IfOk result (λ command. app_of command ≡ kex_app) }
+{
+    let with_run = with(bare(alloc), run(alloc)?)?;
+    with(with_run, check(alloc)?)
+}

@@ -1,0 +1,23 @@
+//! The words of a command line, and the line that a run leaves in the notes.
+//!
+//! Stands on `clap`, `itoa` and `kex_ports`. `read` is to be taken by its clauses: Ok is what the words ask for, and Usage comes
+//! exactly where the words don't meet the form of the command. `tell` and `write_all` say what a sink gains.
+#![tactic(auto)]
+
+mod asked;
+mod form;
+mod known;
+mod notes;
+mod parts;
+mod reading;
+mod refusals;
+#[cfg(test)]
+mod tests;
+mod writing;
+
+pub use asked::{Command, Limits, WordsRefusal};
+pub use known::reads_known_words;
+pub use notes::{Note, tell};
+pub use reading::read;
+pub use refusals::{Place, Refusal, Rule};
+pub use writing::write_all;

@@ -1,0 +1,124 @@
+// The line that a run leaves in the notes. It takes no memory.
+ghost use Rattle.std.specs.Prelude.{◌≡◌};
+ghost use Rattle.kex_words.specs.Gains.{Gains, Tells, change};
+ghost use Rattle.kex_words.specs.Lines.{end_of, line_of, refused_line, rejected_line, too_long_line};
+
+use crate::parts::{Part, write_parts, write_text};
+use crate::refusals::{Place, Refusal};
+use kex_ports::{Failed, Sink};
+
+const USAGE: &str =
+    "usage: kex run|check|code|act|test PROGRAM [--states N] [--max-input N] [--block N] | kex trial N [--block N]\n";
+
+/// What a run leaves to be told. Stages count from 1, bytes from 0.
+#[derive(Clone, Copy, Debug, PartialEq, Eq)]
+pub enum Note {
+    Nothing,
+    /// No text that begins with the stage's input up to this byte has a parse; or, at the end, the whole input has none.
+    Rejected { stage: u32, at: u64, at_end: bool },
+    /// The stage's input goes on past its limit, which is this byte.
+    TooLong { stage: u32, at: u64 },
+    Usage,
+    Refused(Refusal),
+    ReadFault,
+    WriteFault,
+    ShelfFault,
+    Memory,
+}
+
+fn end_of(at_end: bool) -> &'static str
+    ensures { result.now ≡ end_of at_end }
+{
+    if at_end { " (end)\n" } else { "\n" }
+}
+
+fn rejected<N: Sink>(sink: &mut N, stage: u32, at: u64, at_end: bool) -> Result<(), Failed>
+    ensures { Tells (change (N.held sink.old) (N.held sink.new) (N.faults sink.old) (N.faults sink.new))
+        (rejected_line stage at at_end) result }
+{
+    write_parts(
+        sink,
+        &[
+            Part::Text("rejected: stage "),
+            Part::Number(stage as u64),
+            Part::Text(" at byte "),
+            Part::Number(at),
+            Part::Text(end_of(at_end)),
+        ],
+    )
+}
+
+fn too_long<N: Sink>(sink: &mut N, stage: u32, at: u64) -> Result<(), Failed>
+    ensures { Tells (change (N.held sink.old) (N.held sink.new) (N.faults sink.old) (N.faults sink.new))
+        (too_long_line stage at) result }
+{
+    write_parts(
+        sink,
+        &[
+            Part::Text("too long: stage "),
+            Part::Number(stage as u64),
+            Part::Text(" at byte "),
+            Part::Number(at),
+            Part::Text("\n"),
+        ],
+    )
+}
+
+fn refused<N: Sink>(sink: &mut N, refusal: Refusal) -> Result<(), Failed>
+    ensures { Tells (change (N.held sink.old) (N.held sink.new) (N.faults sink.old) (N.faults sink.new))
+        (refused_line refusal) result }
+{
+    let title = refusal.rule.title();
+    match refusal.place {
+        Place::Nowhere => write_parts(
+            sink,
+            &[Part::Text("refused: "), Part::Text(title), Part::Text("\n")],
+        ),
+        Place::At { line, column } => write_parts(
+            sink,
+            &[
+                Part::Text("refused: "),
+                Part::Text(title),
+                Part::Text(" at line "),
+                Part::Number(line as u64),
+                Part::Text(" column "),
+                Part::Number(column as u64),
+                Part::Text("\n"),
+            ],
+        ),
+        Place::Stage(stage) => write_parts(
+            sink,
+            &[
+                Part::Text("refused: "),
+                Part::Text(title),
+                Part::Text(" in stage "),
+                Part::Number(stage as u64),
+                Part::Text("\n"),
+            ],
+        ),
+    }
+}
+
+fn line<N: Sink>(sink: &mut N, note: Note) -> Result<(), Failed>
+    ensures { Tells (change (N.held sink.old) (N.held sink.new) (N.faults sink.old) (N.faults sink.new))
+        (line_of note) result }
+{
+    match note {
+        Note::Nothing => Ok(()),
+        Note::Rejected { stage, at, at_end } => rejected(sink, stage, at, at_end),
+        Note::TooLong { stage, at } => too_long(sink, stage, at),
+        Note::Usage => write_text(sink, USAGE),
+        Note::Refused(refusal) => refused(sink, refusal),
+        Note::ReadFault => write_text(sink, "read fault\n"),
+        Note::WriteFault => write_text(sink, "write fault\n"),
+        Note::ShelfFault => write_text(sink, "shelf fault\n"),
+        Note::Memory => write_text(sink, "out of memory\n"),
+    }
+}
+
+/// Writes the note's line, or a front of it where the sink fails.
+pub fn tell<N: Sink>(note: Note, sink: &mut N)
+    ensures { Gains (change (N.held sink.old) (N.held sink.new) (N.faults sink.old) (N.faults sink.new)) (line_of note) }
+{
+    let _ = line(sink, note);
+}

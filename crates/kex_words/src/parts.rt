@@ -1,0 +1,48 @@
+// A line in parts, which is written without taking memory.
+ghost use Rattle.std.specs.Prelude.{decimal, map};
+ghost use Rattle.std.specs.List.{concat};
+ghost use Rattle.kex_words.specs.Gains.{Tells, change};
+ghost use Rattle.kex_words.specs.Parts.{bytes_of};
+
+use crate::writing::write_all;
+use itoa::Buffer;
+use kex_ports::{Failed, Sink};
+
+#[derive(Clone, Copy)]
+pub(crate) enum Part<'a> {
+    Text(&'a str),
+    Number(u64),
+}
+
+pub(crate) fn write_text<N: Sink>(sink: &mut N, text: &str) -> Result<(), Failed>
+    ensures { Tells (change (N.held sink.old) (N.held sink.new) (N.faults sink.old) (N.faults sink.new)) text.now result }
+{
+    write_all(sink, text.as_bytes())
+}
+
+fn write_number<N: Sink>(sink: &mut N, number: u64) -> Result<(), Failed>
+    ensures { Tells (change (N.held sink.old) (N.held sink.new) (N.faults sink.old) (N.faults sink.new)) (decimal number) result }
+{
+    let mut digits = Buffer::new();
+    write_all(sink, digits.format(number).as_bytes())
+}
+
+fn write_part<N: Sink>(sink: &mut N, part: Part) -> Result<(), Failed>
+    ensures { Tells (change (N.held sink.old) (N.held sink.new) (N.faults sink.old) (N.faults sink.new)) (bytes_of part.entry) result }
+{
+    match part {
+        Part::Text(text) => write_text(sink, text),
+        Part::Number(number) => write_number(sink, number),
+    }
+}
+
+/// Writes the parts one after the other, or a front of them where the sink fails.
+pub(crate) fn write_parts<N: Sink>(sink: &mut N, parts: &[Part]) -> Result<(), Failed>
+    ensures { Tells (change (N.held sink.old) (N.held sink.new) (N.faults sink.old) (N.faults sink.new))
+        (concat (map bytes_of parts.now)) result }
+{
+    for part in parts {
+        write_part(sink, *part)?;
+    }
+    Ok(())
+}

@@ -1,0 +1,69 @@
+// Why a program of the language is refused, and where.
+ghost use Rattle.std.specs.Prelude.{◌≡◌};
+ghost use Rattle.kex_words.specs.Lines.{title_of};
+
+/// A rule that a program breaks. A program is refused by the first rule that applies, in this order.
+#[derive(Clone, Copy, Debug, PartialEq, Eq)]
+pub enum Rule {
+    TextTooLong,
+    BadToken,
+    Unexpected,
+    BadRegex,
+    BadCount,
+    BadSet,
+    OverLimit,
+    TwiceDefined,
+    Unknown,
+    NoStart,
+    NotTail,
+    TooManyPlaces,
+    EmptyLoop,
+    NoText,
+    OneStage,
+    TooManyStates,
+    /// The program needs what isn't built yet.
+    Later,
+}
+
+impl Rule {
+    /// The rule's number and name.
+    pub fn title(self) -> &'static str
+        ensures { result.now ≡ title_of self }
+    {
+        match self {
+            Rule::TextTooLong => "K00 TextTooLong",
+            Rule::BadToken => "K01 BadToken",
+            Rule::Unexpected => "K02 Unexpected",
+            Rule::BadRegex => "K03 BadRegex",
+            Rule::BadCount => "K04 BadCount",
+            Rule::BadSet => "K05 BadSet",
+            Rule::OverLimit => "K06 OverLimit",
+            Rule::TwiceDefined => "K07 TwiceDefined",
+            Rule::Unknown => "K08 Unknown",
+            Rule::NoStart => "K09 NoStart",
+            Rule::NotTail => "K10 NotTail",
+            Rule::TooManyPlaces => "K11 TooManyPlaces",
+            Rule::EmptyLoop => "K12 EmptyLoop",
+            Rule::NoText => "K13 NoText",
+            Rule::OneStage => "K14 OneStage",
+            Rule::TooManyStates => "K15 TooManyStates",
+            Rule::Later => "K99 Later",
+        }
+    }
+}
+
+/// Where in a program a rule is broken.
+#[derive(Clone, Copy, Debug, PartialEq, Eq)]
+pub enum Place {
+    Nowhere,
+    /// Both count from 1, the column in bytes.
+    At { line: u32, column: u32 },
+    /// Counted from 1.
+    Stage(u32),
+}
+
+#[derive(Clone, Copy, Debug, PartialEq, Eq)]
+pub struct Refusal {
+    pub rule: Rule,
+    pub place: Place,
+}
