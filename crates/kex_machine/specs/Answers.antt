@@ -48,3 +48,7 @@ module _ (g : Graph) where
   -- the stage's answer on w, open or (true) ended, within a limit
   abbrev pub StageAnswers : ℕ → List ℕ → Bool → Answer → Type 0
   StageAnswers limit w e a = Answers Viable Says HasParse Means limit w e a
+
+  -- all runs end at one node
+  abbrev pub HasOneEnd : Type 0
+  HasOneEnd = (js ks : List (Step ℕ)) (d e : ℕ) → Walk (node_moves g.nodes) g.start js d → Walk (node_moves g.nodes) g.start ks e → node_moves g.nodes d ≡ accept → node_moves g.nodes e ≡ accept → d ≡ e

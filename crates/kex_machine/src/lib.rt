@@ -4,6 +4,8 @@
 //! keeps that the end is reached from every node and that no loop goes without a byte.
 #![tactic(auto)]
 
+pub mod laws;
+
 ghost use Rattle.std.specs.Prelude.{◌≡◌, ℕ, ◌<◌, List, length};
 ghost use Rattle.kex_machine.specs.Nodes.{Graph, IsInRange, IsTrimmed};
 

@@ -1,0 +1,89 @@
+-- A stage's answers over nodes: there is one on each text, they grow, and a stop stands.
+use Rattle.std.proofs.Common.{◌≡◌, ℕ, ◌<◌, ◌≤◌, Bool, true, false, ◌&&◌, List, [], ◌∷◌, ◌++◌, Some, None, length, refl, sym, ap, subst, ◌∙◌, append-nil, append_assoc, arith, ⊎_elim}
+use Rattle.std.specs.Prelude.{is_none, IsSome}
+use Rattle.kex_code.specs.declared.symbol.Symbol.{Symbol}
+use Rattle.kex_code.specs.Codes.{Begins, bytes_of}
+use Rattle.kex_model.specs.Moves.{accept, Step, code_of, Walk}
+use Rattle.kex_model.specs.Survivors.{Agreed, Greedy, Survives, IsViable}
+use Rattle.kex_model.specs.Acting.{acted}
+use Rattle.kex_model.specs.Answers.{Answer, Answers, bad_byte, too_long, cut_off, whole, still_open}
+use Rattle.kex_model.proofs.Orders.{at_most_both}
+use Rattle.kex_model.proofs.Agreeing.{viable_front, agreed_grows, agreed_greedy}
+use Rattle.kex_model.proofs.Effects.{same_acted}
+use Rattle.kex_model.proofs.Standing as model
+use Rattle.kex_machine.specs.Nodes.{Graph, node_moves}
+use Rattle.kex_machine.specs.Answers.{begun, Viable, IsRun, HasParse, left_by, Says, Means, StageAnswers, HasOneEnd}
+use Rattle.kex_machine.proofs.Writing.{acted_grows}
+
+module _ (g : Graph) where
+  -- two runs are followed alike, as far as both codes go
+  pub same_left : (js ks : List (Step ℕ)) (c : List Symbol) → IsRun g js → IsRun g ks → Begins (code_of js) c → Begins (code_of ks) c → left_by g js c ≡ left_by g ks c
+  same_left js ks c (d, w, a) (e, v, b) p q = same_acted (node_moves g.nodes) js ks g.start d e c p.0 q.0 (begun g.registers) w v a b p.1 q.1
+
+  -- and with more of a code more is written
+  pub more_left : (js ks : List (Step ℕ)) (c d : List Symbol) → IsRun g js → IsRun g ks → Begins (code_of js) c → Begins (code_of ks) d → Begins d c → Begins (left_by g ks d).out (left_by g js c).out
+  more_left js ks c d r s p q (m, e) =
+      let front : Begins (code_of ks) c = (m ++ q.0, q.1 ∙ ap (λ z. z ++ q.0) e ∙ append_assoc c m q.0) in
+      let more : Begins (left_by g ks (c ++ m)).out (left_by g ks c).out = acted_grows ks c m (begun g.registers) in
+      subst (λ z. Begins z.out (left_by g js c).out) (ap (λ z. left_by g ks z) (sym e)) (subst (λ z. Begins (left_by g ks (c ++ m)).out z.out) (sym (same_left js ks c r s p front)) more)
+
+  said_grows : (w x s t : List ℕ) → Begins x w → Says g w s → Says g x t → Begins t s
+  said_grows w x s t p h k =
+      let d = agreed_grows (node_moves g.nodes) g.start w p.0 h.agreed k.agreed h.is_agreed (subst (λ z. Agreed (node_moves g.nodes) g.start z k.agreed) p.1 k.is_agreed) in
+      let m = more_left h.run k.run h.agreed k.agreed h.runs k.runs h.begins k.begins d in
+      (m.0, k.said ∙ m.1 ∙ ap (λ z. z ++ m.0) (sym h.said))
+
+  meant_grows : (w x s t : List ℕ) → Begins x w → Says g w s → Means g x t → Begins t s
+  meant_grows w x s t p h k =
+      let d = agreed_greedy (node_moves g.nodes) g.start w p.0 h.agreed k.greedy h.is_agreed (subst (λ z. Greedy (node_moves g.nodes) g.start z k.greedy) p.1 k.is_greedy) in
+      let m = more_left h.run k.run h.agreed k.greedy h.runs k.runs h.begins ([], k.codes ∙ sym (append-nil k.greedy)) d in
+      (m.0, k.meant ∙ m.1 ∙ ap (λ z. z ++ m.0) (sym h.said))
+
+  pub orderly : model.Orderly (Viable g) (Says g) (HasParse g) (Means g)
+  orderly = record {
+    front = λ w x p v. viable_front (node_moves g.nodes) g.start w p.0 (subst (λ z. Viable g z) p.1 v);
+    said = said_grows;
+    meant = meant_grows;
+    good = λ w s m. let k = m.is_greedy in (k.0, (m.greedy, k.2.reached, k.2.alive));
+  }
+
+  parsed : (w s : List ℕ) → Means g w s → HasParse g w
+  parsed w s m =
+      let k = m.is_greedy in
+      let r = k.2.reached in
+      (m.run, m.runs, ap (λ z. bytes_of z) (m.codes ∙ sym r.2) ∙ r.1.reads)
+
+  one_meaning : HasOneEnd g → (w s t : List ℕ) → Means g w s → Means g w t → s ≡ t
+  one_meaning one w s t h k =
+      let a = h.is_greedy in
+      let b = k.is_greedy in
+      let end : a.0 ≡ b.0 = one a.2.reached.0 b.2.reached.0 a.0 b.0 a.2.reached.1.walk b.2.reached.1.walk a.1 b.1 in
+      let there : Survives (node_moves g.nodes) g.start w a.0 k.greedy = subst (λ z. Survives (node_moves g.nodes) g.start w z k.greedy) (sym end) b.2 in
+      let code : h.greedy ≡ k.greedy = at_most_both h.greedy k.greedy (a.2.least k.greedy there.reached) (there.least h.greedy a.2.reached) in
+      let left = same_left h.run k.run h.greedy h.runs k.runs ([], h.codes ∙ sym (append-nil h.greedy)) ([], k.codes ∙ sym code ∙ sym (append-nil h.greedy)) in
+      h.meant ∙ ap (λ z. z.out) left ∙ ap (λ z. (left_by g k.run z).out) code ∙ sym k.meant
+
+  pub one_answer : HasOneEnd g → (n : ℕ) {w : List ℕ} {e : Bool} {a b : Answer} → StageAnswers g n w e a → StageAnswers g n w e b → a ≡ b
+  one_answer one n h k = model.one_answer (Viable g) (Says g) (HasParse g) (Means g) orderly n parsed (one_meaning one) h k
+
+  pub grows : (n : ℕ) (w v : List ℕ) {e : Bool} {a b : Answer} → StageAnswers g n w false a → StageAnswers g n (w ++ v) e b → Begins b.text a.text
+  grows n w v h k = (model.stays (Viable g) (Says g) (HasParse g) (Means g) orderly n (v, refl) h k).0
+
+  pub stays : (n : ℕ) (w v : List ℕ) {e : Bool} {a b : Answer} → StageAnswers g n w false a → StageAnswers g n (w ++ v) e b → (a.stop ≡ None → ⊥) → b ≡ a
+  stays n w v h k = (model.stays (Viable g) (Says g) (HasParse g) (Means g) orderly n (v, refl) h k).1
+
+  pub ends : (n : ℕ) {w : List ℕ} {e : Bool} {a : Answer} → StageAnswers g n w e a → a.ended ≡ (e && is_none a.stop)
+  ends n {e = false} (bad_byte v bad l says) = refl
+  ends n {e = true} (bad_byte v bad l says) = refl
+  ends n {e = false} (too_long lt good says) = refl
+  ends n {e = true} (too_long lt good says) = refl
+  ends n (cut_off le good none says) = refl
+  ends n (whole le means) = refl
+  ends n (still_open le good says) = refl
+
+  pub past_limit : (n : ℕ) {w : List ℕ} {e : Bool} {a : Answer} → StageAnswers g n w e a → n < length w → IsSome a.stop
+  past_limit n (bad_byte v bad l says) lt = refl
+  past_limit n (too_long l good says) lt = refl
+  past_limit n (cut_off le good none says) lt = refl
+  past_limit n (whole le means) lt = absurd (omega (arith, le, lt))
+  past_limit n (still_open le good says) lt = absurd (omega (arith, le, lt))
