@@ -1,19 +1,19 @@
 -- A stage's answers over nodes: there is one on each text, they grow, and a stop stands.
-use Rattle.std.proofs.Common.{◌≡◌, ℕ, ◌<◌, ◌≤◌, Bool, true, false, ◌&&◌, List, [], ◌∷◌, ◌++◌, Some, None, length, refl, sym, ap, subst, ◌∙◌, append-nil, append_assoc, arith, ⊎_elim}
+use Rattle.std.proofs.Common.{◌≡◌, ℕ, ◌<◌, ◌≤◌, Bool, true, false, ◌&&◌, List, [], ◌∷◌, ◌++◌, Some, None, length, refl, sym, ap, subst, ◌∙◌, append-nil, append_assoc, arith, ⊎_elim, take, length-append}
 use Rattle.std.specs.Prelude.{is_none, IsSome}
 use Rattle.kex_code.specs.declared.symbol.Symbol.{Symbol}
 use Rattle.kex_code.specs.Codes.{Begins, bytes_of}
 use Rattle.kex_model.specs.Moves.{accept, Step, code_of, Walk}
-use Rattle.kex_model.specs.Survivors.{Agreed, Greedy, Survives, IsViable}
+use Rattle.kex_model.specs.Survivors.{Agreed, Greedy, IsViable}
 use Rattle.kex_model.specs.Acting.{acted}
 use Rattle.kex_model.specs.Answers.{Answer, Answers, bad_byte, too_long, cut_off, whole, still_open}
-use Rattle.kex_model.proofs.Orders.{at_most_both}
+use Rattle.kex_model.proofs.Orders.{at_most_both, two_fronts}
 use Rattle.kex_model.proofs.Agreeing.{viable_front, agreed_grows, agreed_greedy}
 use Rattle.kex_model.proofs.Effects.{same_acted}
 use Rattle.kex_model.proofs.Standing as model
 use Rattle.kex_machine.specs.Nodes.{Graph, node_moves}
-use Rattle.kex_machine.specs.Answers.{begun, Viable, IsRun, HasParse, left_by, Says, Means, StageAnswers, HasOneEnd}
-use Rattle.kex_machine.proofs.Writing.{acted_grows}
+use Rattle.kex_machine.specs.Answers.{begun, Viable, IsRun, HasParse, left_by, Says, Means, StageAnswers}
+use Rattle.kex_machine.proofs.Writing.{further_front, acted_grows}
 
 module _ (g : Graph) where
   -- two runs are followed alike, as far as both codes go
@@ -53,18 +53,14 @@ module _ (g : Graph) where
       let r = k.2.reached in
       (m.run, m.runs, ap (λ z. bytes_of z) (m.codes ∙ sym r.2) ∙ r.1.reads)
 
-  one_meaning : HasOneEnd g → (w s t : List ℕ) → Means g w s → Means g w t → s ≡ t
-  one_meaning one w s t h k =
-      let a = h.is_greedy in
-      let b = k.is_greedy in
-      let end : a.0 ≡ b.0 = one a.2.reached.0 b.2.reached.0 a.0 b.0 a.2.reached.1.walk b.2.reached.1.walk a.1 b.1 in
-      let there : Survives (node_moves g.nodes) g.start w a.0 k.greedy = subst (λ z. Survives (node_moves g.nodes) g.start w z k.greedy) (sym end) b.2 in
-      let code : h.greedy ≡ k.greedy = at_most_both h.greedy k.greedy (a.2.least k.greedy there.reached) (there.least h.greedy a.2.reached) in
+  one_meaning : (w s t : List ℕ) → Means g w s → Means g w t → s ≡ t
+  one_meaning w s t h k =
+      let code : h.greedy ≡ k.greedy = at_most_both h.greedy k.greedy (h.least k.greedy k.is_greedy) (k.least h.greedy h.is_greedy) in
       let left = same_left h.run k.run h.greedy h.runs k.runs ([], h.codes ∙ sym (append-nil h.greedy)) ([], k.codes ∙ sym code ∙ sym (append-nil h.greedy)) in
       h.meant ∙ ap (λ z. z.out) left ∙ ap (λ z. (left_by g k.run z).out) code ∙ sym k.meant
 
-  pub one_answer : HasOneEnd g → (n : ℕ) {w : List ℕ} {e : Bool} {a b : Answer} → StageAnswers g n w e a → StageAnswers g n w e b → a ≡ b
-  one_answer one n h k = model.one_answer (Viable g) (Says g) (HasParse g) (Means g) orderly n parsed (one_meaning one) h k
+  pub one_answer : (n : ℕ) {w : List ℕ} {e : Bool} {a b : Answer} → StageAnswers g n w e a → StageAnswers g n w e b → a ≡ b
+  one_answer n h k = model.one_answer (Viable g) (Says g) (HasParse g) (Means g) orderly n parsed one_meaning h k
 
   pub grows : (n : ℕ) (w v : List ℕ) {e : Bool} {a b : Answer} → StageAnswers g n w false a → StageAnswers g n (w ++ v) e b → Begins b.text a.text
   grows n w v h k = (model.stays (Viable g) (Says g) (HasParse g) (Means g) orderly n (v, refl) h k).0
@@ -87,3 +83,20 @@ module _ (g : Graph) where
   past_limit n (cut_off le good none says) lt = refl
   past_limit n (whole le means) lt = absurd (omega (arith, le, lt))
   past_limit n (still_open le good says) lt = absurd (omega (arith, le, lt))
+
+  -- what has stopped stays so, whatever comes
+  pub stopped_more : (n : ℕ) (w v : List ℕ) (e : Bool) {a : Answer} → StageAnswers g n w false a → (a.stop ≡ None → ⊥) → StageAnswers g n (w ++ v) e a
+  stopped_more n w v e (bad_byte u bad l says) some =
+      let front : Begins (take n (w ++ v)) (take n w) = model.take_front n w (w ++ v) (v, refl) in
+      bad_byte u (λ good. bad (orderly.front (take n w) (take n (w ++ v)) front good)) (record {
+        front = further_front u (take n w) (take n (w ++ v)) l.front front;
+        good = l.good;
+        longest = λ x b good. ⊎_elim
+            (λ q. absurd (bad (orderly.front (take n w) x q good)))
+            (λ q. l.longest x q good)
+            (two_fronts x (take n w) b.0 front.0 (sym b.1 ∙ front.1));
+      }) says
+  stopped_more n w v e (too_long {text = text} lt good says) some =
+      let same : take n w ≡ take n (w ++ v) = model.same_take n w (w ++ v) (v, refl) lt in
+      too_long (omega (arith, lt, length-append w v)) (subst (λ z. Viable g z) same good) (subst (λ z. Says g z text) same says)
+  stopped_more n w v e (still_open le good says) some = absurd (some refl)

@@ -9,7 +9,7 @@ use Rattle.kex_model.specs.Acting.{State, appended, dropped, moved_into, done_by
 same_front : {A : Type 0} (xs : List A) → Begins xs xs
 same_front xs = ([], sym (append-nil xs))
 
-further_front : {A : Type 0} (xs ys zs : List A) → Begins ys xs → Begins zs ys → Begins zs xs
+pub further_front : {A : Type 0} (xs ys zs : List A) → Begins ys xs → Begins zs ys → Begins zs xs
 further_front xs ys zs p q = (p.0 ++ q.0, q.1 ∙ ap (λ z. z ++ q.0) p.1 ∙ append_assoc xs p.0 q.0)
 
 appended_grows : (s out : List ℕ) (bs : List (List ℕ)) (regs : Registers) → Begins (appended s out bs regs).out out

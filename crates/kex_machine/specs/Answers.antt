@@ -1,7 +1,7 @@
 -- A stage's answer over a machine's nodes: a parse is a run to the end, and it means what its steps do.
 use Rattle.std.specs.Prelude.{◌≡◌, ℕ, Bool, List, [], replicate}
 use Rattle.kex_code.specs.declared.symbol.Symbol.{Symbol}
-use Rattle.kex_code.specs.Codes.{bytes_of, Begins}
+use Rattle.kex_code.specs.Codes.{bytes_of, Begins, AtMost}
 use Rattle.kex_model.specs.Moves.{accept, Step, code_of, Walk}
 use Rattle.kex_model.specs.Acting.{State, acted}
 use Rattle.kex_model.specs.Survivors.{Agreed, Greedy, IsViable}
@@ -40,6 +40,7 @@ module _ (g : Graph) where
   pub record Means (w text : List ℕ) : Type 0 where
     pub greedy : List Symbol
     pub is_greedy : Greedy (node_moves g.nodes) g.start w greedy
+    pub least : (d : List Symbol) → Greedy (node_moves g.nodes) g.start w d → AtMost greedy d
     pub run : List (Step ℕ)
     pub runs : IsRun run
     pub codes : code_of run ≡ greedy
@@ -48,7 +49,3 @@ module _ (g : Graph) where
   -- the stage's answer on w, open or (true) ended, within a limit
   abbrev pub StageAnswers : ℕ → List ℕ → Bool → Answer → Type 0
   StageAnswers limit w e a = Answers Viable Says HasParse Means limit w e a
-
-  -- all runs end at one node
-  abbrev pub HasOneEnd : Type 0
-  HasOneEnd = (js ks : List (Step ℕ)) (d e : ℕ) → Walk (node_moves g.nodes) g.start js d → Walk (node_moves g.nodes) g.start ks e → node_moves g.nodes d ≡ accept → node_moves g.nodes e ≡ accept → d ≡ e

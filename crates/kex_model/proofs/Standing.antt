@@ -36,7 +36,11 @@ refl_front w = ([], sym (append-nil w))
 trans_front : {A : Type 0} (a b c : List A) → Begins c b → Begins b a → Begins c a
 trans_front a b c p q = (q.0 ++ p.0, p.1 ∙ ap (λ z. z ++ p.0) q.1 ∙ append_assoc a q.0 p.0)
 
-take_front : {A : Type 0} (n : ℕ) (w x : List A) → Begins x w → Begins (take n x) (take n w)
+-- past its limit a text and a longer one have the same front
+pub same_take : {A : Type 0} (n : ℕ) (w x : List A) → Begins x w → n < length w → take n w ≡ take n x
+same_take n w x p lt = same_front x (take n w) (take n x) (trans_front (take n w) w x p (front_take n w)) (front_take n x) (omega (arith, length-take n w, length-take n x, ap length p.1, length-append w p.0))
+
+pub take_front : {A : Type 0} (n : ℕ) (w x : List A) → Begins x w → Begins (take n x) (take n w)
 take_front n w x p = shorter_front x (take n w) (take n x) (trans_front (take n w) w x p (front_take n w)) (front_take n x) (omega (arith, length-take n w, length-take n x, ap length p.1, length-append w p.0))
 
 module _ (Good : List ℕ → Type 0) (Says : List ℕ → List ℕ → Type 0) (Parsed : List ℕ → Type 0) (Means : List ℕ → List ℕ → Type 0) where
@@ -73,9 +77,6 @@ module _ (Good : List ℕ → Type 0) (Says : List ℕ → List ℕ → Type 0) 
 
     long_good : (n : ℕ) (w x : List ℕ) → Begins x w → length x ≤ n → Good x → Good (take n w)
     long_good n w x p le g = o.front (take n w) x (trans_front (take n w) w x p (front_take n w)) g
-
-    same_take : (n : ℕ) (w x : List ℕ) → Begins x w → n < length w → take n w ≡ take n x
-    same_take n w x p lt = same_front x (take n w) (take n x) (trans_front (take n w) w x p (front_take n w)) (front_take n x) (omega (arith, length-take n w, length-take n x, ap length p.1, length-append w p.0))
 
     abbrev pub Stays : Answer → Answer → Type 0
     Stays a b = Begins b.text a.text × ((a.stop ≡ None → ⊥) → b ≡ a)

@@ -3,7 +3,7 @@ use Rattle.kex_machine.proofs.laws.answers_stand.Goals as goal
 
 pub returns : goal.returns
 returns c = λ g limit. record {
-  one = λ one w e a b h k. one_answer g one limit h k;
+  one = λ w e a b h k. one_answer g limit h k;
   grows = λ w v e a b h k. grows g limit w v h k;
   stays = λ w v e a b h k. stays g limit w v h k;
   ends = λ w e a h. ends g limit h;

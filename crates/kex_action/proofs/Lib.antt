@@ -1,0 +1,6 @@
+pub mod Storing
+pub mod Walking
+pub mod Looping
+pub mod Leading
+pub mod Performing
+pub mod Faulting

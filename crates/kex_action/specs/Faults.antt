@@ -1,0 +1,10 @@
+-- What stands after a fault.
+use Rattle.std.specs.Prelude.{ℕ, List}
+use Rattle.kex_code.specs.declared.symbol.Symbol.{Symbol}
+use Rattle.kex_action.specs.declared.fault.ActFault.{ActFault}
+use Rattle.kex_action.specs.declared.fault.ActFault.TheVariants.{NotACode, Memory}
+use Rattle.kex_action.specs.Actors.{Position, StoppedAt, WroteFront}
+
+abbrev pub After : ActFault → Position → Position → List Symbol → List ℕ → List ℕ → Type 0
+After (NotACode i) old new symbols before after = StoppedAt i old new symbols before after
+After Memory old new symbols before after = WroteFront old symbols before after

@@ -1,0 +1,116 @@
+// The action machine.
+
+ghost use Rattle.std.specs.Prelude.{◌≡◌, ◌<◌, ◌↔◌, [], List, ℕ, IfOk, OnOk, IfErr, IsTrue, if◌then◌else◌};
+ghost use Rattle.kex_code.specs.Registers.{held};
+ghost use Rattle.kex_code.specs.declared.symbol.Symbol.{Symbol};
+ghost use Rattle.kex_action.specs.Actors.{HasPerformed, TookAll, IsWhole};
+ghost use Rattle.kex_action.specs.Faults.{After};
+
+use crate::fault::ActFault;
+use crate::store::Store;
+use crate::walk::{follow, is_end, rest_of};
+use kex_code::memory::Memory;
+use kex_code::symbol::Symbol;
+use kex_machine::Trimmed;
+use std::alloc::Global;
+use std::marker::Model;
+
+// The symbols that may be performed: none where some were refused before.
+fn performable(symbols: &[Symbol], refused: bool) -> &[Symbol]
+    ensures { result.now ≡ (if refused then [] else symbols.now) }
+{
+    if refused { &symbols[..0] } else { symbols }
+}
+
+/// A stage's action machine, over the machine that it borrows: it is given a parse's code in pieces, and writes what
+/// the parse means.
+///
+/// With c all symbols performed, and at least one call of `take`, the bytes written and the registers are what every
+/// parse leaves whose code begins with c. Once a call has answered `Memory` an actor may only be dropped.
+#[derive(Drop)]
+pub struct Actor<'m> {
+    machine: &'m Trimmed,
+    at: u32,
+    store: Store,
+    refused: bool,
+    usable: bool,
+}
+
+impl<'m> Model for Actor<'m> {
+    ghost use Rattle.kex_action.specs.Holdings.{IsSound};
+    ghost use Rattle.kex_action.specs.Actors.{Position};
+
+    ghost Value = { Position };
+
+    ghost view = { λ a. record { machine = a.machine.now; at = a.at; holding = a.store; refused = a.refused; usable = a.usable } };
+
+    ghost invariant = { λ a. IsSound a.machine.now a.at a.store a.usable };
+}
+
+impl<'m> Actor<'m> {
+    /// An actor that has performed and written nothing, with empty registers.
+    pub fn new(alloc: Global, machine: &'m Trimmed) -> Result<Actor<'m>, Memory>
+        ensures machine { IfOk result (λ a. a.machine ≡ machine.now) }
+        ensures begins { IfOk result (λ a. HasPerformed a [] [] []) }
+        ensures usable { IfOk result (λ a. IsTrue a.usable) }
+    {
+        let start = machine.machine().start();
+        let nodes = machine.machine().nodes();
+        prove!((start as usize) < nodes.len());
+        let store = Store::new(alloc, machine.machine().registers())?;
+        Ok(Actor {
+            machine,
+            at: start,
+            store,
+            refused: false,
+            usable: true,
+        })
+    }
+
+    /// Performs the symbols, and then all that needs no symbol. What is written is appended to `out`.
+    ///
+    /// After `NotACode(at)` those before number `at` are performed, and every later symbol is refused.
+    pub fn take(&mut self, symbols: &[Symbol], out: &mut Vec<u8>) -> Result<(), ActFault>
+        requires { IsTrue self.old.usable }
+        ensures ok { OnOk result (TookAll self.old self.new symbols.now out.old.items out.new.items) }
+        ensures err { IfErr result (λ fault. After fault self.old self.new symbols.now out.old.items out.new.items) }
+        ensures machine { self.new.machine ≡ self.old.machine }
+        ensures usable { IsTrue self.new.usable ↔ (¬ (result ≡ Err ActFault.Memory)) }
+    {
+        self.usable = false;
+        let allowed = performable(symbols, self.refused);
+        let walked = follow(self.machine, self.at, allowed, &mut self.store, out)?;
+        self.at = walked.at;
+        self.usable = true;
+        if walked.count < symbols.len() {
+            self.refused = true;
+            return Err(ActFault::NotACode(walked.count as u64));
+        }
+        Ok(())
+    }
+
+    /// Whether what was performed is a parse's whole code.
+    pub fn at_end(&self) -> bool
+        requires { IsTrue self.now.usable }
+        ensures { (given c : List Symbol) (out : List ℕ) → HasPerformed self.now given c out → (IsTrue result ↔ IsWhole self.now.machine c) }
+    {
+        let end = rest_of(self.machine, self.at);
+        is_end(&self.machine.machine().nodes()[end as usize])
+    }
+
+    /// What register `r` holds.
+    pub fn register(&self, r: u32) -> &[u8]
+        requires usable { IsTrue self.now.usable }
+        requires within { r < self.now.machine.registers }
+        ensures { result.now ≡ held self.now.holding.registers r }
+    {
+        self.store.register(r)
+    }
+
+    /// Whether no call has answered `Memory`.
+    pub fn usable(&self) -> bool
+        ensures { result ≡ self.now.usable }
+    {
+        self.usable
+    }
+}

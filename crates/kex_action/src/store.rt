@@ -1,0 +1,214 @@
+// The open buffers and the registers, and what each effect does to them.
+
+ghost use Rattle.std.specs.Prelude.{◌≡◌, ◌<◌, ◌↔◌, ◌++◌, [], ◌∷◌, List, ℕ, OnOk, OnErr, IfOk, IsTrue, length, replicate, reverse};
+ghost use Rattle.kex_code.specs.Registers.{joined, put, held};
+ghost use Rattle.kex_code.specs.declared.piece.Piece.{Piece};
+ghost use Rattle.kex_model.specs.Programs.{HasPieces};
+ghost use Rattle.kex_model.specs.Acting.{appended, done_by};
+ghost use Rattle.kex_machine.specs.Nodes.{effect_of, HasRegisters};
+ghost use Rattle.kex_action.specs.Holdings.{state_of, dropped_from, moved_to};
+
+use crate::buffer::Buffer;
+use kex_code::memory::Memory;
+use kex_code::piece::Piece;
+use kex_machine::Effect;
+use std::alloc::Global;
+use std::marker::Model;
+use std::mem;
+
+// The open buffers, the innermost last, and the registers. An empty buffer is kept for its room.
+#[derive(Drop)]
+pub struct Store {
+    alloc: Global,
+    buffers: Vec<Buffer>,
+    registers: Vec<Buffer>,
+    spare: Buffer,
+}
+
+impl Model for Store {
+    ghost use Rattle.std.specs.Prelude.{◌≡◌, [], reverse};
+    ghost use Rattle.kex_action.specs.Holdings.{Holding};
+
+    ghost Value = { Holding };
+
+    ghost view = { λ s. record { buffers = reverse s.buffers.items; registers = s.registers.items } };
+
+    ghost invariant = { λ s. s.spare ≡ [] };
+}
+
+// Bytes go to the innermost open buffer, or to the output where none is open.
+fn append_to(buffers: &mut Vec<Buffer>, bytes: &[u8], out: &mut Vec<u8>) -> Result<(), Memory>
+    ensures ok { OnOk result ((regs : List (List ℕ)) → state_of out.new.items (record { buffers = reverse buffers.new.items; registers = regs }) ≡ appended bytes.now out.old.items (reverse buffers.old.items) regs) }
+    ensures err { OnErr result (out.new.items ≡ out.old.items) }
+{
+    let count = buffers.len();
+    if count == 0 {
+        out.extend_from_slice(bytes)?;
+        return Ok(());
+    }
+    buffers[count - 1].append(bytes)
+}
+
+// The bytes of a piece.
+fn bytes_of<'a>(piece: &'a Piece, registers: &'a [Buffer]) -> &'a [u8]
+    requires { HasPieces (length registers.now) (piece.now ∷ []) }
+    ensures { result.now ≡ joined (piece.now ∷ []) registers.now }
+{
+    match piece {
+        Piece::Lit(bytes) => bytes.as_slice(),
+        Piece::Register(r) => registers[*r as usize].as_slice(),
+    }
+}
+
+// Whether the first piece is the register.
+fn begins_with(pieces: &[Piece], r: u32) -> bool
+    ensures { IsTrue result ↔ ((rest : List Piece) × (pieces.now ≡ Piece.Register r ∷ rest)) }
+{
+    match pieces.first() {
+        Some(Piece::Register(first)) => *first == r,
+        _ => false,
+    }
+}
+
+// Adds what the pieces join to.
+fn join(pieces: &[Piece], registers: &[Buffer], into: &mut Buffer) -> Result<(), Memory>
+    requires { HasPieces (length registers.now) pieces.now }
+    ensures { OnOk result (into.new ≡ into.old ++ joined pieces.now registers.now) }
+{
+    for piece in pieces {
+        into.append(bytes_of(piece, registers))?;
+    }
+    Ok(())
+}
+
+impl Store {
+    // No buffer is open, and all registers are empty.
+    pub fn new(alloc: Global, count: u32) -> Result<Store, Memory>
+        ensures { IfOk result (λ s. s ≡ record { buffers = []; registers = replicate count [] }) }
+    {
+        let mut registers = Vec::new(alloc);
+        for _ in 0..count {
+            registers.push(Buffer::new(alloc))?;
+        }
+        Ok(Store {
+            alloc,
+            buffers: Vec::new(alloc),
+            registers,
+            spare: Buffer::new(alloc),
+        })
+    }
+
+    pub fn register(&self, r: u32) -> &[u8]
+        requires { r < length self.now.registers }
+        ensures { result.now ≡ held self.now.registers r }
+    {
+        self.registers[r as usize].as_slice()
+    }
+
+    // Writes bytes.
+    pub fn write(&mut self, bytes: &[u8], out: &mut Vec<u8>) -> Result<(), Memory>
+        ensures ok { OnOk result (state_of out.new.items self.new ≡ appended bytes.now out.old.items self.old.buffers self.old.registers) }
+        ensures err { OnErr result (out.new.items ≡ out.old.items) }
+    {
+        append_to(&mut self.buffers, bytes, out)
+    }
+
+    fn write_register(&mut self, r: u32, out: &mut Vec<u8>) -> Result<(), Memory>
+        requires { r < length self.old.registers }
+        ensures ok { OnOk result (state_of out.new.items self.new ≡ appended (held self.old.registers r) out.old.items self.old.buffers self.old.registers) }
+        ensures err { OnErr result (out.new.items ≡ out.old.items) }
+    {
+        append_to(
+            &mut self.buffers,
+            self.registers[r as usize].as_slice(),
+            out,
+        )
+    }
+
+    fn open(&mut self) -> Result<(), Memory>
+        ensures { OnOk result (self.new ≡ record { buffers = [] ∷ self.old.buffers; registers = self.old.registers }) }
+    {
+        let buffer = mem::replace(&mut self.spare, Buffer::new(self.alloc));
+        self.buffers.push(buffer)?;
+        Ok(())
+    }
+
+    // Keeps a buffer's room.
+    fn put_by(&mut self, mut buffer: Buffer)
+        ensures { self.new ≡ self.old }
+    {
+        buffer.clear();
+        self.spare = buffer;
+    }
+
+    fn drop_innermost(&mut self)
+        ensures { self.new ≡ dropped_from self.old.buffers self.old.registers }
+    {
+        if let Some(buffer) = self.buffers.pop() {
+            self.put_by(buffer);
+        }
+    }
+
+    // The register takes the innermost buffer, which is moved.
+    fn move_into(&mut self, r: u32)
+        requires { r < length self.old.registers }
+        ensures { self.new ≡ moved_to r self.old.buffers self.old.registers }
+    {
+        if let Some(buffer) = self.buffers.pop() {
+            let old = mem::replace(&mut self.registers[r as usize], buffer);
+            self.put_by(old);
+        }
+    }
+
+    // The register gets the pieces behind what it has.
+    fn add(&mut self, r: u32, pieces: &[Piece]) -> Result<(), Memory>
+        requires in_range { r < length self.old.registers }
+        requires pieces_in { HasPieces (length self.old.registers) pieces.now }
+        ensures { OnOk result (self.new ≡ record { buffers = self.old.buffers; registers = put self.old.registers r (held self.old.registers r ++ joined pieces.now self.old.registers) }) }
+    {
+        let mut more = mem::replace(&mut self.spare, Buffer::new(self.alloc));
+        join(pieces, &self.registers, &mut more)?;
+        self.registers[r as usize].append(more.as_slice())?;
+        self.put_by(more);
+        Ok(())
+    }
+
+    // The register gets the pieces. Where it is the first of them itself, the others are put behind it.
+    fn set(&mut self, r: u32, pieces: &[Piece]) -> Result<(), Memory>
+        requires in_range { r < length self.old.registers }
+        requires pieces_in { HasPieces (length self.old.registers) pieces.now }
+        ensures { OnOk result (self.new ≡ record { buffers = self.old.buffers; registers = put self.old.registers r (joined pieces.now self.old.registers) }) }
+    {
+        if begins_with(pieces, r) {
+            return self.add(r, &pieces[1..]);
+        }
+        let mut all = mem::replace(&mut self.spare, Buffer::new(self.alloc));
+        join(pieces, &self.registers, &mut all)?;
+        let old = mem::replace(&mut self.registers[r as usize], all);
+        self.put_by(old);
+        Ok(())
+    }
+
+    // Does an effect.
+    pub fn perform(&mut self, effect: &Effect, out: &mut Vec<u8>) -> Result<(), Memory>
+        requires { HasRegisters (length self.old.registers) effect.now }
+        ensures ok { OnOk result (state_of out.new.items self.new ≡ done_by (effect_of effect.now) (state_of out.old.items self.old)) }
+        ensures err { OnErr result (out.new.items ≡ out.old.items) }
+    {
+        match effect {
+            Effect::Lit(bytes) => self.write(bytes.as_slice(), out),
+            Effect::Open => self.open(),
+            Effect::Drop => {
+                self.drop_innermost();
+                Ok(())
+            }
+            Effect::Into(r) => {
+                self.move_into(*r);
+                Ok(())
+            }
+            Effect::Write(r) => self.write_register(*r, out),
+            Effect::Set(r, pieces) => self.set(*r, pieces.as_slice()),
+            Effect::Add(r, pieces) => self.add(*r, pieces.as_slice()),
+        }
+    }
+}

@@ -1,0 +1,54 @@
+// The nodes of a machine.
+
+ghost use Rattle.std.specs.Prelude.{◌≡◌, ℕ, ◌≤◌, length, IfOk, OnOk, IfErr};
+ghost use Rattle.kex_code.specs.Codes.{Begins};
+ghost use Rattle.kex_desugar.specs.Machines.{HasMore, IsTooMany};
+ghost use Rattle.kex_desugar.specs.Plans.{HasRoots};
+ghost use Rattle.kex_desugar.specs.Spots.{IsReal, NodeOf, Real};
+
+use crate::plan::{Plan, frame_plan};
+use crate::refusal::DesugarRefusal;
+use crate::spot::{Spot, reach};
+use indexmap::{IndexMap, IndexSet};
+use kex_machine::MNode;
+use kex_model::program::Program;
+use std::alloc::Global;
+
+// The node of a spot. What it leads to gets numbers.
+pub(crate) fn node_of(
+    alloc: Global,
+    program: &Program,
+    roots: &IndexMap<u32, u32>,
+    max: u32,
+    spots: &mut IndexSet<Spot>,
+    spot: Spot,
+) -> Result<MNode, DesugarRefusal>
+    requires roots { HasRoots program.now roots.now }
+    requires within { length spots.old.keys ≤ max }
+    ensures node { IfOk result (λ m. (root : ℕ) → IsReal program.now root spots.old.keys spot → NodeOf program.now spots.new.keys spot m) }
+    ensures grown { OnOk result (Begins spots.new.keys spots.old.keys) }
+    ensures within { OnOk result (length spots.new.keys ≤ max) }
+    ensures real { OnOk result ((root : ℕ) → Real program.now root spots.old.keys → IsReal program.now root spots.old.keys spot → Real program.now root spots.new.keys) }
+    ensures refused { IfErr result (λ e. IsTooMany e → (root : ℕ) → Real program.now root spots.old.keys → IsReal program.now root spots.old.keys spot → HasMore program.now root max) }
+{
+    let Spot::On(frame, rest) = spot else {
+        return Ok(MNode::Accept);
+    };
+    let plan = frame_plan(alloc, program, roots, frame)?;
+    match plan {
+        Plan::Take(set) => Ok(MNode::Read(set, rest)),
+        Plan::Act(effect, way) => {
+            let next = reach(max, spots, way, rest)?;
+            Ok(MNode::Do(effect, next))
+        }
+        Plan::Pass(way) => {
+            let next = reach(max, spots, way, rest)?;
+            Ok(MNode::Skip(next))
+        }
+        Plan::Fork(left, right) => {
+            let left = reach(max, spots, left, rest)?;
+            let right = reach(max, spots, right, rest)?;
+            Ok(MNode::Choice(left, right))
+        }
+    }
+}

@@ -1,0 +1,156 @@
+// What a place does, before anything has a number.
+
+ghost use Rattle.std.specs.Prelude.{◌≡◌, ◌∷◌, IfOk, option_copied};
+ghost use Rattle.kex_model.specs.Moves.{go};
+ghost use Rattle.kex_model.specs.declared.program.Kind.TheVariants.{Rep};
+ghost use Rattle.kex_model.specs.Trees.{kind_at, less};
+ghost use Rattle.kex_model.specs.Places.{Place, enter, with_counts, moves_of, moves, end_effect};
+ghost use Rattle.kex_desugar.specs.Plans.{HasRoots, kind_or, planned};
+
+use crate::roots::root_by_name;
+use indexmap::IndexMap;
+use kex_byteset::ByteSet;
+use kex_code::memory::Memory;
+use kex_machine::Effect;
+use kex_model::frame::Frame;
+use kex_model::program::{Kind, Program};
+use std::alloc::Global;
+
+// What is put on the rest of a place: nothing, a frame, or two, the upper first.
+#[derive(Clone, Copy)]
+pub enum Way {
+    Rest,
+    Under(Frame),
+    Both(Frame, Frame),
+}
+
+// What a place does, by what it puts on its rest.
+#[derive(Drop)]
+pub enum Plan {
+    Take(ByteSet),
+    Fork(Way, Way),
+    Act(Effect, Way),
+    Pass(Way),
+}
+
+// The kind of a node, if there is one.
+fn kind_of(program: &Program, n: u32) -> Option<&Kind>
+    ensures { kind_at program.now n ≡ kind_or (option_copied result) }
+{
+    match program.nodes().get(n as usize) {
+        None => None,
+        Some(node) => Some(&node.kind),
+    }
+}
+
+// The frame of a node that is begun.
+pub(crate) fn entered(program: &Program, n: u32) -> Frame
+    ensures { result ≡ enter program.now n }
+{
+    match kind_of(program, n) {
+        Some(Kind::Rep { min, max, .. }) => Frame::Pending {
+            node: n,
+            need: *min,
+            left: *max,
+        },
+        _ => Frame::Pending {
+            node: n,
+            need: 0,
+            left: None,
+        },
+    }
+}
+
+// One turn less.
+fn one_less(left: Option<u32>) -> Option<u32>
+    ensures { result ≡ less left }
+{
+    match left {
+        None => None,
+        Some(n) => Some(n.saturating_sub(1)),
+    }
+}
+
+// The plan of a repetition's node, with the turns that are needed and left.
+fn rep_plan(program: &Program, node: u32, body: u32, need: u32, left: Option<u32>) -> Plan
+    ensures { (q : Place) → moves_of program.now node (Rep body need left) q ≡ planned result q }
+{
+    let turn = entered(program, body);
+    let again = Frame::Pending {
+        node,
+        need: need.saturating_sub(1),
+        left: one_less(left),
+    };
+    if need > 0 {
+        return Plan::Pass(Way::Both(turn, again));
+    }
+    match left {
+        Some(0) => Plan::Pass(Way::Rest),
+        _ => Plan::Fork(Way::Both(turn, again), Way::Rest),
+    }
+}
+
+// The plan of a node of a kind, with the turns that are needed and left.
+fn kind_plan(
+    alloc: Global,
+    program: &Program,
+    roots: &IndexMap<u32, u32>,
+    kind: &Kind,
+    node: u32,
+    need: u32,
+    left: Option<u32>,
+) -> Result<Plan, Memory>
+    requires { HasRoots program.now roots.now }
+    ensures { IfOk result (λ plan. (q : Place) → moves_of program.now node (with_counts kind.now need left) q ≡ planned plan q) }
+{
+    let plan = match kind {
+        Kind::One => Plan::Pass(Way::Rest),
+        Kind::Lit(bytes) => Plan::Act(Effect::Lit(bytes.copy(alloc)?), Way::Rest),
+        Kind::Class(set) => Plan::Take(set.copy()),
+        Kind::Call(name) => Plan::Pass(Way::Under(entered(program, root_by_name(roots, *name)))),
+        Kind::Seq(l, r) => Plan::Pass(Way::Both(entered(program, *l), entered(program, *r))),
+        Kind::Alt(l, r) => Plan::Fork(
+            Way::Under(entered(program, *l)),
+            Way::Under(entered(program, *r)),
+        ),
+        Kind::Rep { body, .. } => rep_plan(program, node, *body, need, left),
+        Kind::Mute(body) | Kind::At(_, body) => Plan::Act(
+            Effect::Open,
+            Way::Both(entered(program, *body), Frame::EndOf(node)),
+        ),
+        Kind::Write(r) => Plan::Act(Effect::Write(*r), Way::Rest),
+        Kind::Set(r, parts) => Plan::Act(Effect::Set(*r, parts.copy(alloc)?), Way::Rest),
+        Kind::Add(r, parts) => Plan::Act(Effect::Add(*r, parts.copy(alloc)?), Way::Rest),
+    };
+    Ok(plan)
+}
+
+// The plan of the end of a node.
+fn end_plan(program: &Program, n: u32) -> Plan
+    ensures { (q : Place) → go (end_effect (kind_at program.now n)) q ≡ planned result q }
+{
+    match kind_of(program, n) {
+        Some(Kind::Mute(_)) => Plan::Act(Effect::Drop, Way::Rest),
+        Some(Kind::At(r, _)) => Plan::Act(Effect::Into(*r), Way::Rest),
+        _ => Plan::Pass(Way::Rest),
+    }
+}
+
+// The plan of a frame.
+pub(crate) fn frame_plan(
+    alloc: Global,
+    program: &Program,
+    roots: &IndexMap<u32, u32>,
+    frame: Frame,
+) -> Result<Plan, Memory>
+    requires { HasRoots program.now roots.now }
+    ensures { IfOk result (λ plan. (q : Place) → moves program.now (frame ∷ q) ≡ planned plan q) }
+{
+    match frame {
+        Frame::EndOf(n) => Ok(end_plan(program, n)),
+        Frame::Pending { node, need, left } => match kind_of(program, node) {
+            None => Ok(Plan::Pass(Way::Rest)),
+            Some(kind) => kind_plan(alloc, program, roots, kind, node, need, left),
+        },
+    }
+}
