@@ -1,0 +1,69 @@
+-- What a frontier stands for: the bytes that it was fed, and the symbols that were taken.
+use Rattle.std.specs.Prelude.{◌≡◌, ℕ, Bool, true, false, length, List, [], ◌++◌, ◌⊎◌}
+use Rattle.kex_code.specs.declared.symbol.Symbol.{Symbol}
+use Rattle.kex_code.specs.Codes.{AtMost}
+use Rattle.kex_model.specs.Labelled.{Labelled}
+use Rattle.kex_model.specs.Survivors.{Agreed, Greedy, LongestViable, HasTree}
+use Rattle.kex_machine.specs.Nodes.{Graph, node_moves, IsTrimmed}
+use Rattle.kex_machine.specs.Answers.{Viable, HasParse}
+use Rattle.kex_frontier.specs.Knots.{Knot, knots_of, IsKept}
+use Rattle.kex_frontier.specs.declared.frontier.Fed.{Fed}
+use Rattle.kex_frontier.specs.declared.frontier.Fed.TheVariants.{On, Dead}
+use Rattle.kex_frontier.specs.declared.frontier.Ended.{Ended}
+use Rattle.kex_frontier.specs.declared.frontier.Ended.TheVariants.{Parsed, Cut}
+
+-- a frontier: its machine, what is agreed and wasn't taken, the knots of the survivors' tree, whether the end was given,
+-- and whether no call has answered want of memory
+pub record Front : Type 0 where
+  pub machine : Graph
+  pub untaken : List Symbol
+  pub knots : List Knot
+  pub ended : Bool
+  pub usable : Bool
+
+-- c is agreed of the longest front of w that is viable: of w itself where w is viable
+pub record IsSaid (g : Graph) (w : List ℕ) (c : List Symbol) : Type 0 where
+  pub of : List ℕ
+  pub longest : LongestViable (node_moves g.nodes) g.start w of
+  pub agreed : Agreed (node_moves g.nodes) g.start of c
+
+-- the frontier has the tree of w
+abbrev pub IsLive : Front → List ℕ → List Symbol → Type 0
+IsLive f w taken = (t : Labelled Symbol ℕ) × HasTree (node_moves f.machine.nodes) f.machine.start w (taken ++ f.untaken) t × (f.knots ≡ knots_of t [])
+
+-- w isn't viable, and no tree is left
+abbrev pub IsDead : Front → List ℕ → List Symbol → Type 0
+IsDead f w taken = (¬ Viable f.machine w) × IsSaid f.machine w (taken ++ f.untaken) × (f.knots ≡ [])
+
+-- the frontier was fed w, and these symbols were taken
+abbrev pub IsFed : Front → List ℕ → List Symbol → Type 0
+IsFed f w taken = IsLive f w taken ⊎ IsDead f w taken
+
+-- and what feeding its last byte has answered
+abbrev pub IsFedBy : Fed → Front → List ℕ → List Symbol → Type 0
+IsFedBy On f w taken = Viable f.machine w × IsFed f w taken
+IsFedBy Dead f w taken = (¬ Viable f.machine w) × IsFed f w taken
+
+-- c is the code of the greedy parse of w: of the paths to the end the least
+pub record IsGreedy (g : Graph) (w : List ℕ) (c : List Symbol) : Type 0 where
+  pub parse : HasParse g w
+  pub greedy : Greedy (node_moves g.nodes) g.start w c
+  pub least : (d : List Symbol) → Greedy (node_moves g.nodes) g.start w d → AtMost c d
+
+-- the frontier was fed w and then the end, which has answered this, and these symbols were taken
+abbrev pub IsOver : Ended → Front → List ℕ → List Symbol → Type 0
+IsOver Parsed f w taken = IsGreedy f.machine w (taken ++ f.untaken)
+IsOver Cut f w taken = (¬ HasParse f.machine w) × IsSaid f.machine w (taken ++ f.untaken)
+
+abbrev pub answer_of : Bool → Fed
+answer_of true = On
+answer_of false = Dead
+
+abbrev pub end_of : Bool → Ended
+end_of true = Parsed
+end_of false = Cut
+
+-- the machine is trimmed; while the frontier is usable, its knots and marks are those of a tree of the machine's places
+pub record IsSound (g : Graph) (knots : List Knot) (marks : List Bool) (usable : Bool) : Type 0 where
+  pub trimmed : IsTrimmed g
+  pub kept : usable ≡ true → IsKept (length g.nodes) knots marks

@@ -1,0 +1,5 @@
+pub mod Frontiers
+pub mod Knots
+pub mod Going
+pub mod Twigs
+pub mod Jobs

@@ -1,0 +1,121 @@
+// How a tree goes on with a byte, and with the end.
+
+ghost use Rattle.std.specs.Prelude.{◌≡◌, ℕ, ◌<◌, ◌++◌, ◌∷◌, [], List, Option, Some, None, OnOk, IfOk, MatchOption, IfSome, length, replicate, false};
+ghost use Rattle.kex_code.specs.declared.symbol.Symbol.{Symbol};
+ghost use Rattle.kex_model.specs.Labelled.{Labelled, Grown, tip, behind};
+ghost use Rattle.kex_model.specs.Moves.{Allows, took};
+ghost use Rattle.kex_machine.specs.Nodes.{node_moves};
+ghost use Rattle.kex_frontier.specs.Knots.{HasTrees, as_is, knots_of, top, IsTipIf, IsTreeBelow, is_there, label_if, bare_if};
+ghost use Rattle.kex_frontier.specs.Twigs.{knots_at};
+ghost use Rattle.kex_frontier.specs.Going.{Advances, accepting, ended_by};
+ghost use Rattle.kex_frontier.specs.Jobs.{StaysWithin};
+
+use crate::forest::{Forest, Spare, Twig};
+use crate::visit::{Bench, node_at, walk};
+use kex_code::memory::Memory;
+use kex_code::symbol::Symbol;
+use kex_machine::MNode;
+
+// Where a byte leads from a place, if it leads on.
+fn next_by(nodes: &[MNode], place: u32, byte: u8) -> Option<u32>
+    requires { place < length nodes.now }
+    ensures { MatchOption result ((t : ℕ) → Allows (node_moves nodes.now place) (took byte t) → ⊥) (λ t. Allows (node_moves nodes.now place) (took byte t)) }
+{
+    match node_at(nodes, place) {
+        MNode::Read(set, next) => { if set.has(byte) { Some(*next) } else { None } }
+        _ => None,
+    }
+}
+
+// A tip goes on with a byte.
+fn advance_tip(
+    nodes: &[MNode],
+    place: u32,
+    label: Vec<Symbol>,
+    byte: u8,
+    grown: &mut Forest,
+    bench: &mut Bench,
+) -> Result<(), Memory>
+    requires range { StaysWithin nodes.now }
+    requires below { place < length nodes.now }
+    requires long { length bench.old.marks ≡ length nodes.now }
+    ensures tree { OnOk result ((a : Option (Grown Symbol ℕ)) × Advances (node_moves nodes.now) byte bench.old.marks (tip place) a bench.new.marks × ((rs : List (Option (Grown Symbol ℕ))) → HasTrees as_is grown.old rs → HasTrees as_is grown.new (behind label.items a ∷ rs))) }
+    ensures long { OnOk result (length bench.new.marks ≡ length nodes.now) }
+{
+    if let Some(next) = next_by(nodes, place, byte) {
+        let mut label = label;
+        label.push(Symbol::Byte(byte))?;
+        walk(nodes, next, bench)?;
+        grown.graft(&mut bench.fresh, label, &mut bench.spare)?;
+        return Ok(());
+    }
+    bench.spare.give(label);
+    grown.add_none()?;
+    Ok(())
+}
+
+/// A tree goes on with a byte: what comes of it is the only tree of `grown`.
+pub fn advance(
+    nodes: &[MNode],
+    tree: &mut Vec<Twig>,
+    byte: u8,
+    grown: &mut Forest,
+    bench: &mut Bench,
+) -> Result<(), Memory>
+    requires range { StaysWithin nodes.now }
+    requires tree { IsTreeBelow (length nodes.now) (knots_at tree.old.items) }
+    requires long { length bench.old.marks ≡ length nodes.now }
+    ensures tree { OnOk result ((t : Labelled Symbol ℕ) → knots_at tree.old.items ≡ knots_of t [] → (a : Option (Grown Symbol ℕ)) × Advances (node_moves nodes.now) byte bench.old.marks t a bench.new.marks × HasTrees as_is grown.new (a ∷ [])) }
+    ensures long { OnOk result (length bench.new.marks ≡ length nodes.now) }
+{
+    grown.clear();
+    tree.reverse();
+    while let Some(twig) = tree.pop() {
+        match twig.at {
+            Some(place) => advance_tip(nodes, place, twig.label, byte, grown, bench)?,
+            None => {
+                grown.merge(&mut bench.spare)?;
+                grown.put_label(twig.label, &mut bench.spare)?;
+            }
+        }
+    }
+    Ok(())
+}
+
+// A knot at the end: of tips those that accept stay, and of two sides the first that is there.
+fn end_knot(
+    nodes: &[MNode],
+    at: Option<u32>,
+    found: &mut Forest,
+    spare: &mut Spare,
+) -> Result<(), Memory>
+    requires { IfSome at (λ place. place < length nodes.now) }
+    ensures { OnOk result ((rs : List (Option (Grown Symbol ℕ))) → IsTipIf (top rs) → HasTrees as_is found.old rs → HasTrees as_is found.new (ended_by (node_moves nodes.now) at rs)) }
+{
+    match at {
+        None => found.choose(),
+        Some(place) => match node_at(nodes, place) {
+            MNode::Accept => found.add_tip(place, spare),
+            _ => found.add_none(),
+        },
+    }
+}
+
+/// The first tip of a tree that accepts, with the label to it, is the only tree of `found`.
+pub fn accept(
+    nodes: &[MNode],
+    tree: &mut Vec<Twig>,
+    found: &mut Forest,
+    spare: &mut Spare,
+) -> Result<(), Memory>
+    requires { IsTreeBelow (length nodes.now) (knots_at tree.old.items) }
+    ensures { OnOk result ((t : Labelled Symbol ℕ) → knots_at tree.old.items ≡ knots_of t [] → HasTrees as_is found.new (accepting (node_moves nodes.now) t ∷ [])) }
+{
+    found.clear();
+    tree.reverse();
+    while let Some(twig) = tree.pop() {
+        end_knot(nodes, twig.at, found, spare)?;
+        found.put_label(twig.label, spare)?;
+    }
+    Ok(())
+}

@@ -1,0 +1,11 @@
+//! The oracle of a stage: which choices all parses of a text share, symbol by symbol as its bytes come.
+//!
+//! Stands on codes and machines. A `Frontier` stores no history: `IsFed` relates it to the bytes that it was fed and the
+//! symbols that were taken; the clauses of `Frontier::feed`, `Frontier::end` and `Frontier::take_code` carry this on.
+#![tactic(auto)]
+
+pub mod forest;
+pub mod frontier;
+pub mod grow;
+pub mod marks;
+pub mod visit;

@@ -1,0 +1,7 @@
+pub mod Items
+pub mod Pipelines
+pub mod Seating
+pub mod Lines
+pub mod Schedule
+pub mod Begins
+pub mod Stops

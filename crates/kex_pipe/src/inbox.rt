@@ -1,0 +1,118 @@
+// What waits between two stages.
+
+ghost use Rattle.std.specs.Prelude.{◌≡◌, ◌≤◌, ◌&&◌, ◌++◌, ◌∷◌, ◌↔◌, [], List, ℕ, true, false, IsTrue, OnOk, OnErr, not, nat_lt, length, take, drop, map};
+
+use kex_code::memory::Memory;
+use std::alloc::Global;
+use std::mem::replace;
+
+/// Items that wait: bytes, and the end behind them where it has come.
+///
+/// What was taken lies before `start` until it is more than what waits: no more bytes are moved than were taken.
+#[derive(Drop)]
+pub(crate) struct Inbox {
+    pub(crate) bytes: Vec<u8>,
+    pub(crate) start: usize,
+    pub(crate) ended: bool,
+    ghost within: { start ≤ length bytes.items },
+}
+
+impl Inbox {
+    ghost use Rattle.kex_pipe.specs.Waiting.{unread};
+
+    pub(crate) fn new(alloc: Global) -> Inbox
+        ensures bytes { unread result ≡ [] }
+        ensures open { result.ended ≡ false }
+    {
+        Inbox {
+            bytes: Vec::new(alloc),
+            start: 0,
+            ended: false,
+        }
+    }
+
+    pub(crate) fn is_empty(&self) -> bool
+        ensures { IsTrue result ↔ ((unread self.now ≡ []) × (self.now.ended ≡ false)) }
+    {
+        !self.ended && self.bytes[self.start..].is_empty()
+    }
+
+    /// The bytes among the first items.
+    pub(crate) fn front(&self, at_most: u64) -> &[u8]
+        ensures { result.now ≡ take at_most (unread self.now) }
+    {
+        let rest = &self.bytes[self.start..];
+        let count = rest.len().min(at_most as usize);
+        &rest[..count]
+    }
+
+    /// Whether the end is among the first items.
+    pub(crate) fn reaches_end(&self, at_most: u64) -> bool
+        ensures { result ≡ (self.now.ended && nat_lt (length (unread self.now)) at_most) }
+    {
+        self.ended && self.bytes.len() - self.start < at_most as usize
+    }
+
+    /// Takes the first items away.
+    pub(crate) fn remove(&mut self, at_most: u64)
+        ensures bytes { unread self.new ≡ drop at_most (unread self.old) }
+        ensures end { self.new.ended ≡ (self.old.ended && not (nat_lt (length (unread self.old)) at_most)) }
+    {
+        if self.bytes.len() - self.start < at_most as usize {
+            self.clear();
+        } else {
+            self.start += at_most as usize;
+            if self.start > self.bytes.len() / 2 {
+                self.compact();
+            }
+        }
+    }
+
+    // Frees the room of what was taken.
+    fn compact(&mut self)
+        ensures bytes { unread self.new ≡ unread self.old }
+        ensures same_end { self.new.ended ≡ self.old.ended }
+        ensures start { self.new.start ≡ 0 }
+    {
+        self.bytes.drain(..self.start);
+        self.start = 0;
+    }
+
+    /// The bytes, which are moved out. The end stays.
+    pub(crate) fn take_bytes(&mut self, alloc: Global) -> Vec<u8>
+        ensures bytes { result.items ≡ unread self.old }
+        ensures none_left { unread self.new ≡ [] }
+        ensures same_end { self.new.ended ≡ self.old.ended }
+    {
+        self.compact();
+        replace(&mut self.bytes, Vec::new(alloc))
+    }
+
+    /// Adds bytes. After an error nothing was added.
+    pub(crate) fn give(&mut self, bytes: &[u8]) -> Result<(), Memory>
+        ensures ok { OnOk result (unread self.new ≡ unread self.old ++ bytes.now) }
+        ensures err { OnErr result (unread self.new ≡ unread self.old) }
+        ensures same_end { self.new.ended ≡ self.old.ended }
+    {
+        self.bytes.extend_from_slice(bytes)?;
+        Ok(())
+    }
+
+    /// The end comes.
+    pub(crate) fn give_end(&mut self)
+        ensures same_bytes { unread self.new ≡ unread self.old }
+        ensures end { self.new.ended ≡ true }
+    {
+        self.ended = true;
+    }
+
+    /// Drops all that waits.
+    pub(crate) fn clear(&mut self)
+        ensures bytes { unread self.new ≡ [] }
+        ensures open { self.new.ended ≡ false }
+    {
+        self.bytes.clear();
+        self.start = 0;
+        self.ended = false;
+    }
+}
