@@ -19,7 +19,7 @@ use Rattle.kex_desugar.specs.Spots.{Names, IsAt, IsReal, NodeOf, Real}
 use Rattle.kex_model.proofs.Tables.{some_same, get_more, get_pushed}
 use Rattle.kex_desugar.proofs.Numbers.{names_more, one_place, one_at, one_number}
 use Rattle.kex_desugar.proofs.Ways.{at_later}
-use Rattle.kex_desugar.proofs.Registers.{IsWithin, moves_within, registers_of}
+use Rattle.kex_desugar.proofs.Registers.{IsWithin, moves_within}
 use Rattle.kex_model.proofs.Counting.{among_get, different_fits}
 
 pub get_later : {A : Type 0} (xs ys : List A) → Begins ys xs → (i : ℕ) (x : A) → slice_get xs i ≡ Some x → slice_get ys i ≡ Some x
@@ -160,7 +160,7 @@ module _ (P : Grammar) (root : ℕ) where
     below_by (Read set n) w (reads_on r) = at_within spots _ n r
     below_by (Choice l r) w (chooses a b) = (at_within spots _ l a, at_within spots _ r b)
     below_by (Forced x n) w (forces r) = at_within spots _ n r
-    below_by (Do e n) w (goes_on r) = (at_within spots _ n r, registers_of P.registers e w)
+    below_by (Do e n) w (goes_on r) = (at_within spots _ n r, w)
     below_by (Skip n) w (goes_on r) = at_within spots _ n r
 
     below_at : IsGrammar P → (i : ℕ) → i < length nodes → IsBelow (length nodes) P.registers (get_or nodes i Accept)

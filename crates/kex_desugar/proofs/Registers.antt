@@ -1,42 +1,25 @@
 -- The registers of what a place does are below the program's count.
-use Rattle.std.proofs.Common.{◌≡◌, ℕ, zero, suc, ◌<◌, [], ◌∷◌, ⊎_elim, Option, Some, None, length, refl, sym, subst}
+use Rattle.std.proofs.Common.{◌≡◌, ℕ, zero, suc, [], ◌∷◌, ⊎_elim, Option, Some, None, length, refl, sym, subst}
 use Rattle.std.specs.Prelude.{slice_get}
 use Rattle.std.proofs.lemmas.Option.{slice_get_cases}
 use Rattle.kex_model.specs.declared.program.Kind.{Kind}
 use Rattle.kex_model.specs.declared.program.Kind.TheVariants.{One, Lit, Class, Call, Seq, Alt, Rep, Mute, At, Write, Set, Add}
 use Rattle.kex_model.specs.declared.program.Node.{Node}
 use Rattle.kex_model.specs.declared.frame.Frame.TheVariants.{Pending, EndOf}
-use Rattle.kex_model.specs.Programs.{Grammar, IsGrammar, HasNames, HasPieces}
-use Rattle.kex_model.specs.Moves.{Move, accept, read, choose, forced, go, Effect, into, write, set_to, add_to}
+use Rattle.kex_model.specs.Programs.{Grammar, IsGrammar, HasNames}
+use Rattle.kex_model.specs.Moves.{Move, accept, read, choose, forced, go}
 use Rattle.kex_model.specs.Trees.{kind_at}
 use Rattle.kex_model.specs.Places.{Place, moves, moves_of, with_counts, end_effect}
 use Rattle.kex_model.proofs.Counting.{among_get}
-use Rattle.kex_machine.specs.Nodes.{HasRegisters, effect_of}
-use Rattle.kex_machine.specs.declared.Effect.{Effect as MachineEffect}
-use Rattle.kex_machine.specs.declared.Effect.TheVariants as machine
+use Rattle.kex_machine.specs.Nodes.{UsesRegisters}
 
-abbrev pub HasBelow : ℕ → Effect → Type 0
-HasBelow n (into r) = r < n
-HasBelow n (write r) = r < n
-HasBelow n (set_to r parts) = (r < n) × HasPieces n parts
-HasBelow n (add_to r parts) = (r < n) × HasPieces n parts
-HasBelow n _ = Unit {0}
-
+-- what a move does uses only registers below the count
 abbrev pub IsWithin : {S : Type 0} → ℕ → Move S → Type 0
 IsWithin n accept = Unit {0}
 IsWithin n (read set s) = Unit {0}
 IsWithin n (choose s t) = Unit {0}
 IsWithin n (forced x s) = Unit {0}
-IsWithin n (go e s) = HasBelow n e
-
-pub registers_of : (n : ℕ) (e : MachineEffect) → HasBelow n (effect_of e) → HasRegisters n e
-registers_of n (machine.Lit bytes) h = tt
-registers_of n machine.Open h = tt
-registers_of n machine.Drop h = tt
-registers_of n (machine.Into r) h = h
-registers_of n (machine.Write r) h = h
-registers_of n (machine.Set r parts) h = h
-registers_of n (machine.Add r parts) h = h
+IsWithin n (go e s) = UsesRegisters n e
 
 kind_is : (P : Grammar) (n : ℕ) (m : Node) → slice_get P.nodes n ≡ Some m → kind_at P n ≡ m.kind
 kind_is P n m e = rw e refl
@@ -69,7 +52,7 @@ module _ (P : Grammar) (ok : IsGrammar P) where
   of_kind n (Set r parts) need left rest h = h
   of_kind n (Add r parts) need left rest h = h
 
-  of_end : (k : Kind) → HasNames (length P.names) P.registers k → HasBelow P.registers (end_effect k)
+  of_end : (k : Kind) → HasNames (length P.names) P.registers k → UsesRegisters P.registers (end_effect k)
   of_end One h = tt
   of_end (Lit s) h = tt
   of_end (Class s) h = tt
