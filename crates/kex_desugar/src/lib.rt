@@ -25,9 +25,11 @@ use kex_machine::Machine;
 use kex_model::program::Program;
 use std::alloc::Global;
 
-/// The machine of a stage that begins at node `root`: its places, numbered as they are met.
+/// The machine of the stage that begins at node `root`: its places, numbered as they are met.
 ///
-/// The empty place has number 0. Time and memory are linear in the count of places, and nothing recurses over them.
+/// A place is what is still to be done, as in the oracle machine of the Kleenex paper (POPL 2016), with the turns of
+/// repetitions counted. The empty place and each place's rest count too, also where no step leads to them. It answers
+/// `TooManyPlaces` once place number `max_places + 1` is met. A name that has no definition goes to node 0.
 pub fn desugar(
     alloc: Global,
     program: &Program,

@@ -9,8 +9,10 @@ use thiserror::Error;
 /// Why a stage has no machine.
 #[derive(Clone, Copy, Debug, PartialEq, Eq, Drop, Error)]
 pub enum DesugarRefusal {
+    /// The stage has more places than are allowed.
     #[error("the stage has too many places")]
     TooManyPlaces,
+    /// Memory was wanted, and there was none.
     #[error("out of memory")]
     Memory,
 }
