@@ -1,0 +1,9 @@
+use Rattle.std.proofs.Common.{◌++◌, ◌≡◌, subst}
+use Rattle.kex_frontier.specs.Frontiers.{IsFed, IsSaid}
+use Rattle.kex_stage.proofs.stage.speak.Goals as goal
+
+pub returns-in-Ok-clause-fed : goal.returns-in-Ok-clause-fed
+returns-in-Ok-clause-fed c = λ w d h. subst (λ z. IsFed c.take_code-code.new.self w (d ++ z) × IsSaid c.args.oracle.now.machine w (d ++ z)) c.take_code-code.ensures.value (c.take_code-code.ensures.fed w d h)
+
+pub returns-clause-fed : goal.returns-clause-fed
+returns-clause-fed c = λ w d h. subst (λ z. IsFed c.take_code-code.new.self w (d ++ z) × IsSaid c.args.oracle.now.machine w (d ++ z)) c.take_code-code.ensures.value (c.take_code-code.ensures.fed w d h)
