@@ -1,12 +1,12 @@
 -- Nodes, and where their steps lead.
-use Rattle.std.proofs.Common.{◌≡◌, ℕ, zero, suc, ◌<◌, ◌+◌, List, [], ◌∷◌, ◌++◌, Some, All, length, take, drop, get_or, refl, sym, ap, ap₂, ◌∙◌, subst, arith, append-nil, append_assoc, length-append, length-set}
+use Rattle.std.proofs.Common.{◌≡◌, ℕ, zero, suc, ◌<◌, ◌+◌, List, [], ◌∷◌, ◌++◌, Some, length, take, drop, get_or, refl, sym, ap, ap₂, ◌∙◌, subst, arith, append_assoc, length-append, length-set}
 use Rattle.std.specs.Prelude.{slice_get, IfSome}
 use Rattle.std.proofs.lemmas.List.{take-append-drop}
 use Rattle.kex_code.specs.Codes.{Begins}
 use Rattle.kex_code.specs.Registers.{Registers, held, joined}
 use Rattle.kex_code.specs.declared.symbol.Symbol.{Symbol}
 use Rattle.kex_code.specs.declared.symbol.Symbol.TheVariants.{L, R, Byte}
-use Rattle.kex_model.specs.Moves.{Move, Allows, goes, code_of, entered, Walk, Effect, nothing, append, open_buffer, drop_buffer, into, write, set_to, add_to, Step, took, chose, went}
+use Rattle.kex_model.specs.Moves.{Allows, code_of, entered, Effect, nothing, append, open_buffer, drop_buffer, into, write, set_to, add_to, went}
 use Rattle.kex_model.specs.Acting.{State, appended, dropped, moved_into, done_by, acted}
 use Rattle.kex_model.proofs.Tables.{some_same}
 use Rattle.kex_model.proofs.Derivations.{code_of-append, walk-append}

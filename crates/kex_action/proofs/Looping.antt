@@ -1,15 +1,15 @@
 -- A walk without a symbol in a machine without loops has fewer steps than the machine has nodes.
-use Rattle.std.proofs.Common.{◌≡◌, ℕ, zero, suc, ◌<◌, ◌≤◌, List, [], ◌∷◌, ◌++◌, Option, Some, None, All, length, map, get_or, inl, inr, ⊎_elim, refl, sym, ap, ap₂, ◌∙◌, subst, arith, ◌⊎◌}
+use Rattle.std.proofs.Common.{◌≡◌, ℕ, zero, suc, ◌<◌, ◌≤◌, List, [], ◌∷◌, ◌++◌, Option, Some, None, All, length, map, get_or, inl, inr, ⊎_elim, refl, sym, ap, ap₂, subst, arith, ◌⊎◌}
 use Rattle.std.proofs.lemmas.List.Elements.{All-get_or}
 use Rattle.std.proofs.lemmas.Option.{slice_get_cases}
 use Rattle.std.specs.Prelude.{slice_get, IfSome}
 use Rattle.kex_code.specs.Codes.{bytes_of, IsAmong, Different}
-use Rattle.kex_model.specs.Moves.{Move, accept, forced, Side, Allows, goes_forced, code_of, symbols_of, entered, Walk, Step, took, chose, went}
+use Rattle.kex_model.specs.Moves.{Move, forced, Side, Allows, goes_forced, code_of, symbols_of, entered, Walk, Step, chose}
 use Rattle.kex_model.proofs.Derivations.{from_accept, from_read, from_choose, from_go}
 use Rattle.kex_model.proofs.Counting.{different_fits}
 use Rattle.kex_machine.specs.declared.MNode.{MNode}
 use Rattle.kex_machine.specs.declared.MNode.TheVariants.{Accept, Read, Choice, Forced, Do, Skip}
-use Rattle.kex_machine.specs.Nodes.{Graph, node_moves, move_of, side_of, IsBelow, IsInRange, IsTrimmed, HasLoop}
+use Rattle.kex_machine.specs.Nodes.{Graph, node_moves, move_of, IsBelow, IsInRange, IsTrimmed, HasLoop}
 use Rattle.kex_action.proofs.Walking.{parts_none}
 
 -- all numbers below n

@@ -1,6 +1,5 @@
 -- An actor's steps, and the runs that go on from where it stands.
-use Rattle.std.proofs.Common.{◌≡◌, ℕ, zero, suc, ◌<◌, ◌≤◌, Bool, true, false, if◌then◌else◌, List, [], ◌∷◌, ◌++◌, Some, get_or, take, drop, length, replicate, refl, sym, ap, ap₂, subst, ◌∙◌, append-nil, append_assoc, arith}
-use Rattle.std.specs.Prelude.{slice_get}
+use Rattle.std.proofs.Common.{◌≡◌, ℕ, zero, suc, ◌<◌, ◌≤◌, Bool, true, false, if◌then◌else◌, List, [], ◌∷◌, ◌++◌, get_or, take, drop, length, replicate, refl, sym, ap, ap₂, subst, ◌∙◌, append-nil, append_assoc, arith}
 use Rattle.std.proofs.lemmas.List.{take-append-drop}
 use Rattle.std.proofs.lemmas.Option.{slice_get-get_or}
 use Rattle.std.proofs.Math.Seq.{take-length}
@@ -13,10 +12,10 @@ use Rattle.kex_model.proofs.Derivations.{code_of-append, walk-append}
 use Rattle.kex_machine.specs.declared.MNode.{MNode}
 use Rattle.kex_machine.specs.Nodes.{Graph, node_moves, IsInRange, IsTrimmed}
 use Rattle.kex_machine.specs.Answers.{begun, IsRun, left_by}
-use Rattle.kex_action.specs.Holdings.{Holding, state_of, step_by, Rests, Leads, Fits, Reaches, WritesFront, Followed}
-use Rattle.kex_action.specs.Actors.{Position, IsSettled, BeginsRun, IsWhole, HasPerformed, WentOn, TookAll, StoppedAt, WroteFront}
+use Rattle.kex_action.specs.Holdings.{Holding, state_of, step_by, Rests, Leads, Reaches, WritesFront, Followed}
+use Rattle.kex_action.specs.Actors.{Position, BeginsRun, IsWhole, HasPerformed, TookAll, StoppedAt, WroteFront}
 use Rattle.kex_action.proofs.Walking.{parts_none, ahead, acted-ahead, acted-append, nothing_done, first_step, GoesOn, goes_on}
-use Rattle.kex_action.proofs.Leading.{leads_on, begins_take, take-more}
+use Rattle.kex_action.proofs.Leading.{leads_on, take-more}
 use Rattle.kex_action.proofs.Looping.{walked_in}
 
 pub start_of : (g : Graph) → Leads g.nodes g.start (begun g.registers) [] g.start (state_of [] (record { buffers = []; registers = replicate g.registers [] }))
@@ -177,8 +176,8 @@ open_front : (r : Bool) (symbols c : List Symbol) → Begins (if r then [] else 
 open_front true symbols c b = (symbols, ap (λ q. q ++ symbols) (sym (parts_none c b.0 (sym b.1)).0))
 open_front false symbols c b = b
 
-grown : (g : Graph) (ks rest : List (Step ℕ)) (c d : List Symbol) (st : State) → left_by g ks c ≡ acted rest d st → Begins (left_by g ks c).out st.out
-grown g ks rest c d st e = subst (λ z. Begins z.out st.out) (sym e) (acted_grows rest d st)
+grown : (g : Graph) (t e : ℕ) (c d x all : List Symbol) (st : State) (ks : List (Step ℕ)) (p : Leads g.nodes g.start (begun g.registers) c t st) (on : GoesOn (node_moves g.nodes) p.steps ks t e x) → all ≡ c ++ d → Begins (left_by g ks all).out st.out
+grown g t e c d x all st ks p on same = subst (λ z. Begins z.out st.out) (sym (ap (λ q. left_by g ks q) same ∙ left_behind g t e c d x st ks p on)) (acted_grows on.rest d st)
 
 pub wrote_front : (g : Graph) (n : ℕ) (h : Holding) (r u : Bool) (symbols : List Symbol) (before after : List ℕ) → WritesFront g.nodes n (state_of before h) (if r then [] else symbols) after → WroteFront (position g n h r u) symbols before after
 wrote_front g n h r u symbols before after w =
@@ -194,8 +193,7 @@ wrote_front g n h r u symbols before after w =
           let whole = leads_on g.nodes g.start n w.to c (code_of w.steps) (begun g.registers) (state_of out h) (state_of (out ++ s.more) h') p.came (s.anywhere out) in
           let code : c ++ symbols ≡ (c ++ code_of w.steps) ++ front.0 = ap (λ q. c ++ q) front.1 ∙ sym (append_assoc c (code_of w.steps) front.0) in
           let on = goes_from g whole.steps ks w.to (c ++ code_of w.steps) whole.walk whole.codes run (front.0 ++ b.0, b.1 ∙ ap (λ q. q ++ b.0) code ∙ append_assoc (c ++ code_of w.steps) front.0 b.0) in
-          let left : left_by g ks (c ++ symbols) ≡ acted on.rest front.0 (state_of (out ++ s.more) h') = ap (λ q. left_by g ks q) code ∙ left_behind g w.to run.0 (c ++ code_of w.steps) front.0 _ (state_of (out ++ s.more) h') ks whole on in
-          grown g ks on.rest (c ++ symbols) front.0 (state_of (out ++ s.more) h') left;
+          grown g w.to run.0 (c ++ code_of w.steps) front.0 _ (c ++ symbols) (state_of (out ++ s.more) h') ks whole on code;
     }
 
 pub ends_there : (g : Graph) (n e : ℕ) (h : Holding) (r u : Bool) (gv c : List Symbol) (out : List ℕ) → HasPerformed (position g n h r u) gv c out → Reaches g.nodes n e → node_moves g.nodes e ≡ accept → IsWhole g c

@@ -1,5 +1,5 @@
 -- Buffers and pieces as lists.
-use Rattle.std.proofs.Common.{◌≡◌, ℕ, zero, suc, Result, Ok, Err, OnOk, OnErr, ◌+◌, ◌-◌, ◌<◌, List, [], ◌∷◌, ◌++◌, length, get_or, take, drop, subst, reverse, slice_set, refl, sym, ap, ap₂, ◌∙◌, append_assoc, append-nil, add-one, inl, inr, arith, length-append}
+use Rattle.std.proofs.Common.{◌≡◌, ℕ, zero, suc, Result, Ok, Err, OnOk, OnErr, ◌-◌, ◌<◌, List, [], ◌∷◌, ◌++◌, length, get_or, take, drop, subst, reverse, slice_set, refl, sym, ap, ap₂, ◌∙◌, append_assoc, inl, inr, arith, length-append}
 use Rattle.std.proofs.lemmas.List.{reverse-append}
 use Rattle.std.proofs.Math.Seq.{set-append_seam, take-length}
 use Rattle.kex_code.specs.Codes.{IsAmong}
@@ -7,7 +7,7 @@ use Rattle.kex_code.specs.Registers.{Registers, joined}
 use Rattle.kex_code.specs.declared.piece.Piece.{Piece}
 use Rattle.kex_code.specs.declared.piece.Piece.TheVariants.{Lit, Register}
 use Rattle.kex_model.specs.Programs.{HasPieces}
-use Rattle.kex_model.specs.Acting.{State, appended}
+use Rattle.kex_model.specs.Acting.{appended}
 use Rattle.kex_action.specs.Holdings.{state_of}
 
 pub among_at : {A : Type 0} (xs : List A) (i : ℕ) (x : A) → i < length xs → x ≡ get_or xs i x → IsAmong xs x

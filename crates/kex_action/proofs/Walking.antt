@@ -1,9 +1,8 @@
 -- Walks of a machine, and what their steps do.
-use Rattle.std.proofs.Common.{◌≡◌, ℕ, List, [], ◌∷◌, ◌++◌, refl, sym, ap, ap₂, ◌∙◌, subst, append_assoc, append-nil}
+use Rattle.std.proofs.Common.{◌≡◌, ℕ, List, [], ◌∷◌, ◌++◌, refl, sym, ap, ap₂, ◌∙◌, subst, append_assoc}
 use Rattle.std.proofs.lemmas.List.{append_cancel_left}
 use Rattle.kex_code.specs.declared.symbol.Symbol.{Symbol}
 use Rattle.kex_code.specs.declared.symbol.Symbol.TheVariants.{L, R, Byte}
-use Rattle.kex_code.specs.Codes.{Begins}
 use Rattle.kex_code.specs.Registers.{Registers, held}
 use Rattle.kex_model.specs.Moves.{Move, accept, Allows, reads, goes_left, goes_right, goes_forced, goes, to_left, to_right, code_of, symbols_of, entered, Walk, Effect, nothing, append, open_buffer, drop_buffer, into, write, set_to, add_to, Step, took, chose, went}
 use Rattle.kex_model.specs.Acting.{State, appended, dropped, moved_into, done_by, acted}

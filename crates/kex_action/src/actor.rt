@@ -22,8 +22,8 @@ fn performable(symbols: &[Symbol], refused: bool) -> &[Symbol]
     if refused { &symbols[..0] } else { symbols }
 }
 
-/// A stage's action machine, over the machine that it borrows: it is given a parse's code in pieces, and writes what
-/// the parse means.
+/// A stage's action machine (Kleenex, POPL 2016), over the machine that it borrows: it is given a parse's code in
+/// pieces, and writes what the parse means.
 ///
 /// With c all symbols performed, and at least one call of `take`, the bytes written and the registers are what every
 /// parse leaves whose code begins with c. Once a call has answered `Memory` an actor may only be dropped.

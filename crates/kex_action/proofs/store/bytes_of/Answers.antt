@@ -1,4 +1,4 @@
-use Rattle.std.proofs.Common.{◌≡◌, ◌∙◌, sym, ap, inl, [], ◌∷◌, get_or, append-nil}
+use Rattle.std.proofs.Common.{◌∙◌, sym, ap, inl, [], ◌∷◌, get_or, append-nil}
 use Rattle.kex_code.specs.Registers.{joined}
 use Rattle.kex_action.proofs.Storing.{get_or-any}
 use Rattle.kex_action.proofs.store.bytes_of.Goals as goal

@@ -1,4 +1,4 @@
-use Rattle.std.proofs.Common.{◌≡◌, ◌∙◌, ◌++◌, ⊎_elim, sym, ap, ap₂, subst, take, append_assoc, add-one}
+use Rattle.std.proofs.Common.{◌∙◌, ◌++◌, ⊎_elim, sym, ap, ap₂, subst, take, append_assoc, add-one}
 use Rattle.kex_code.specs.Codes.{IsAmong}
 use Rattle.kex_code.specs.Registers.{joined}
 use Rattle.kex_action.proofs.Storing.{among_at, joined-more}

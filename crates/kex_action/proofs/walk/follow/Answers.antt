@@ -1,14 +1,12 @@
-use Rattle.std.proofs.Common.{◌≡◌, ◌∙◌, ◌<◌, ◌≤◌, ◌+◌, ◌++◌, ◌∷◌, [], ℕ, suc, List, IfOk, IfNone, IfSome, Some, ap, sym, refl, subst, get_or, take, length, arith, add-one, append-nil}
-use Rattle.std.specs.Prelude.{slice_get}
+use Rattle.std.proofs.Common.{◌≡◌, ◌∙◌, ◌<◌, ◌+◌, ◌++◌, ◌∷◌, [], ℕ, suc, IfNone, IfSome, ap, sym, refl, subst, get_or, take, length, arith, add-one, append-nil}
 use Rattle.std.proofs.lemmas.Option.{slice_get-get_or, slice_get_within}
-use Rattle.std.proofs.Math.Seq.{take-length}
 use Rattle.kex_code.specs.Codes.{Begins}
 use Rattle.kex_code.specs.declared.symbol.Symbol.{Symbol}
 use Rattle.kex_code.specs.declared.symbol.Symbol.TheVariants.{L}
 use Rattle.kex_model.specs.Moves.{Allows}
 use Rattle.kex_model.proofs.Tables.{some_same}
 use Rattle.kex_machine.specs.Nodes.{node_moves}
-use Rattle.kex_action.specs.Holdings.{step_by, state_of, Leads, Fits}
+use Rattle.kex_action.specs.Holdings.{step_by, state_of, Leads}
 use Rattle.kex_action.proofs.Storing.{on_err}
 use Rattle.kex_action.proofs.Leading.{front_of, front_wider, front_behind, begins_take, leads_on, take-more}
 use Rattle.kex_action.proofs.walk.follow.Goals as goal

@@ -1,8 +1,8 @@
-use Rattle.std.proofs.Common.{◌≡◌, Some, IfSome, IfNone, ◌∙◌, ◌<◌, ◌≤◌, refl, ap, sym, subst, length, arith, [], ◌++◌, append-nil}
+use Rattle.std.proofs.Common.{◌≡◌, Some, IfSome, IfNone, ◌∙◌, ◌<◌, ◌≤◌, refl, ap, sym, subst, length, arith, []}
 use Rattle.kex_machine.specs.Nodes.{IsInRange, move_of}
 use Rattle.kex_action.specs.Holdings.{Rests, Passes, state_of}
 use Rattle.kex_action.proofs.Storing.{on_err}
-use Rattle.kex_action.proofs.Leading.{going_none, going_more, can_act, fits_passed, front_of, move_at, slice_get-at}
+use Rattle.kex_action.proofs.Leading.{going_none, going_more, fits_passed, front_of, move_at}
 use Rattle.kex_action.proofs.Looping.{walk_short}
 use Rattle.kex_action.proofs.walk.go_on.Goals as goal
 

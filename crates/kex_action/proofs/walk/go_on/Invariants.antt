@@ -1,4 +1,3 @@
-use Rattle.std.proofs.Common.{◌≡◌}
 use Rattle.kex_action.specs.Holdings.{state_of, Fits}
 use Rattle.kex_action.proofs.Leading.{Going}
 use Rattle.kex_action.proofs.walk.go_on.Given as goal

@@ -1,10 +1,6 @@
-use Rattle.std.proofs.Common.{◌≡◌, ℕ, Some, sym, refl, subst, ◌∙◌}
+use Rattle.std.proofs.Common.{◌≡◌, ℕ, sym, subst, ◌∙◌}
 use Rattle.kex_code.specs.declared.symbol.Symbol.{Symbol}
-use Rattle.kex_code.specs.declared.symbol.Symbol.TheVariants as symbols
-use Rattle.kex_machine.specs.declared.Bit.TheVariants as bits
-use Rattle.kex_machine.specs.declared.MNode.{MNode}
-use Rattle.kex_machine.specs.declared.MNode.TheVariants.{Forced}
-use Rattle.kex_machine.specs.Nodes.{move_of, side_of}
+use Rattle.kex_machine.specs.Nodes.{side_of}
 use Rattle.kex_model.specs.Moves.{Allows, reads, goes_left, goes_right, goes_forced, Side, to_left, to_right, symbol_of, forced}
 use Rattle.kex_action.specs.Holdings.{step_by}
 use Rattle.kex_action.proofs.walk.next_of.Goals as goal

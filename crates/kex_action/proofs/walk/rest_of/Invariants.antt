@@ -1,4 +1,4 @@
-use Rattle.std.proofs.Common.{◌≡◌, ◌<◌, length}
+use Rattle.std.proofs.Common.{◌<◌, length}
 use Rattle.kex_action.proofs.Leading.{Walks}
 use Rattle.kex_action.proofs.walk.rest_of.Given as goal
 

@@ -1,4 +1,4 @@
-use Rattle.std.proofs.Common.{◌≡◌, ◌∙◌, ap, sym, subst, length}
+use Rattle.std.proofs.Common.{◌∙◌, ap, sym, subst}
 use Rattle.kex_model.specs.Moves.{Allows, append}
 use Rattle.kex_machine.specs.Nodes.{IsInRange}
 use Rattle.kex_action.specs.Holdings.{state_of, step_by}

@@ -1,4 +1,4 @@
-use Rattle.std.proofs.Common.{◌≡◌, ◌∙◌, Bool, true, false, IsTrue, refl, ap, sym, subst}
+use Rattle.std.proofs.Common.{◌∙◌, Bool, true, false, IsTrue, refl, ap, sym, subst}
 use Rattle.kex_action.specs.Actors.{HasPerformed, IsWhole}
 use Rattle.kex_action.proofs.Leading.{move_at}
 use Rattle.kex_action.proofs.Performing.{ends_there, ends_elsewhere}

@@ -1,4 +1,4 @@
-use Rattle.std.proofs.Common.{◌≡◌, ◌∙◌, ◌<◌, ap, sym, subst, [], replicate, true, false, length, List, ℕ}
+use Rattle.std.proofs.Common.{◌∙◌, ◌<◌, ap, sym, subst, [], replicate, true, false, length, List, ℕ}
 use Rattle.std.proofs.lemmas.List.{length-replicate}
 use Rattle.kex_machine.specs.Nodes.{IsInRange}
 use Rattle.kex_action.specs.Actors.{HasPerformed}

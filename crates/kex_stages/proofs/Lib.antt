@@ -1,0 +1,5 @@
+pub mod Pairs
+pub mod Loops
+pub mod Answering
+pub mod Carrying
+pub mod Refusing

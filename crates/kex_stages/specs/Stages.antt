@@ -1,0 +1,46 @@
+-- A stage's machine, said of the stage's places.
+use Rattle.std.specs.Prelude.{◌≡◌, ◌↔◌, ℕ, Bool, List}
+use Rattle.kex_code.specs.declared.symbol.Symbol.{Symbol}
+use Rattle.kex_model.specs.Programs.{Grammar}
+use Rattle.kex_model.specs.Places.{Place, moves, start_of, HasEmptyLoop}
+use Rattle.kex_model.specs.Survivors.{LeadsToEnd, Survives, Agreed, Greedy, IsViable}
+use Rattle.kex_model.specs.Answers.{Answer}
+use Rattle.kex_machine.specs.Nodes.{Graph, HasLoop, node_moves}
+use Rattle.kex_desugar.specs.Machines.{HasMore, IsMachineOf}
+use Rattle.kex_trim.specs.Trim.{IsTrimOf}
+use Rattle.kex_stages.specs.declared.refusal.StageRefusal.{StageRefusal}
+use Rattle.kex_stages.specs.declared.refusal.StageRefusal.TheVariants.{TooManyPlaces, EmptyLoop, NoText, Memory}
+use Rattle.kex_model.specs.Answers as places
+use Rattle.kex_model.specs.Laws as stages
+use Rattle.kex_machine.specs.Answers as nodes
+
+module _ (P : Grammar) (root : ℕ) (m : Graph) where
+  -- each survivor has a partner with the same code
+  pub record SameSurvivors (w : List ℕ) : Type 0 where
+    pub to_node : (p : Place) (c : List Symbol) → Survives (moves P) (start_of P root) w p c → (n : ℕ) × Survives (node_moves m.nodes) m.start w n c
+    pub to_place : (n : ℕ) (c : List Symbol) → Survives (node_moves m.nodes) m.start w n c → (p : Place) × Survives (moves P) (start_of P root) w p c
+
+  -- the machine answers as the stage does
+  pub record Carries : Type 0 where
+    pub no_loop : HasEmptyLoop P root → ⊥
+    pub some_text : LeadsToEnd (moves P) (start_of P root)
+    pub survivors : (w : List ℕ) → SameSurvivors w
+    pub viable : (w : List ℕ) → IsViable (moves P) (start_of P root) w ↔ IsViable (node_moves m.nodes) m.start w
+    pub agreed : (w : List ℕ) (c : List Symbol) → Agreed (moves P) (start_of P root) w c ↔ Agreed (node_moves m.nodes) m.start w c
+    pub greedy : (w : List ℕ) (c : List Symbol) → Greedy (moves P) (start_of P root) w c ↔ Greedy (node_moves m.nodes) m.start w c
+    pub parsed : (w : List ℕ) → places.HasParse P root w ↔ nodes.HasParse m w
+    pub says : (w text : List ℕ) → places.Says P root w text ↔ nodes.Says m w text
+    pub means : (w text : List ℕ) → places.Means P root w text ↔ nodes.Means m w text
+    pub answers : (limit : ℕ) (w : List ℕ) (e : Bool) (a : Answer) → stages.StageAnswers P root limit w e a ↔ nodes.StageAnswers m limit w e a
+    pub registers : m.registers ≡ P.registers
+
+-- what a stage's machine leaves when it is trimmed answers as the stage does
+abbrev pub NodesAnswerAsPlaces : Type 0
+NodesAnswerAsPlaces = (P : Grammar) (root : ℕ) (m t : Graph) → IsMachineOf P root m → IsTrimOf m t → (HasLoop m.nodes → ⊥) → Carries P root t
+
+-- why a stage has no machine: no cause of a lower number is there
+abbrev pub IsWhy : Grammar → ℕ → ℕ → StageRefusal → Type 0
+IsWhy P root max TooManyPlaces = HasMore P root max
+IsWhy P root max EmptyLoop = (HasMore P root max → ⊥) × HasEmptyLoop P root
+IsWhy P root max NoText = (HasMore P root max → ⊥) × (HasEmptyLoop P root → ⊥) × (LeadsToEnd (moves P) (start_of P root) → ⊥)
+IsWhy P root max Memory = Unit {0}

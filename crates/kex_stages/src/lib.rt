@@ -1,0 +1,42 @@
+//! From a stage of a program to its trimmed machine, which answers as the stage does.
+//!
+//! Stands on the passes from places to nodes and from nodes to those that lead to the end. The contract of
+//! `stage_machine` is the crate's: its refusals are said of the stage's places, and so is what its machine answers.
+#![tactic(auto)]
+
+ghost use Rattle.std.specs.Prelude.{◌≡◌, IfOk, OnOk, IfErr};
+ghost use Rattle.kex_desugar.specs.Machines.{HasMore};
+ghost use Rattle.kex_stages.specs.Stages.{Carries, IsWhy};
+
+pub mod laws;
+pub mod refusal;
+#[cfg(test)]
+mod tests;
+
+use crate::refusal::StageRefusal;
+use kex_desugar::desugar;
+use kex_machine::Trimmed;
+use kex_model::program::Program;
+use kex_trim::trim;
+use std::alloc::Global;
+
+/// The machine of a stage that begins at node `root`, without loops that read nothing and without dead ends.
+///
+/// It is refused for its places before it is for a loop, and for a loop before it is for want of a text. The time is
+/// linear in the count of places.
+pub fn stage_machine(
+    alloc: Global,
+    program: &Program,
+    root: u32,
+    stage: u32,
+    max_places: u32,
+) -> Result<Trimmed, StageRefusal>
+    ensures carries { IfOk result (λ m. Carries program.now root m) }
+    ensures fits { OnOk result (HasMore program.now root max_places → ⊥) }
+    ensures stage { IfOk result (λ m. m.stage ≡ stage) }
+    ensures refused { IfErr result (λ e. IsWhy program.now root max_places e) }
+{
+    let machine = desugar(alloc, program, root, stage, max_places)?;
+    let trimmed = trim(alloc, machine)?;
+    Ok(trimmed)
+}
