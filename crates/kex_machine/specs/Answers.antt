@@ -27,12 +27,13 @@ module _ (g : Graph) where
   abbrev pub left_by : List (Step ℕ) → List Symbol → State
   left_by ks c = acted ks c (begun g.registers)
 
-  -- the text that is said on w
+  -- the text that is said on w: what a run on a text that begins with w does with the symbols that are agreed
   pub record Says (w text : List ℕ) : Type 0 where
     pub agreed : List Symbol
     pub is_agreed : Agreed (node_moves g.nodes) g.start w agreed
     pub run : List (Step ℕ)
     pub runs : IsRun run
+    pub reads : Begins (bytes_of (code_of run)) w
     pub begins : Begins (code_of run) agreed
     pub said : text ≡ (left_by run agreed).out
 
