@@ -8,6 +8,7 @@ use Rattle.kex_model.specs.Survivors.{Agreed, Survives, LongestViable}
 use Rattle.kex_model.specs.Answers.{Answer, Answers, stopped, at_byte, at_end, at_limit, bad_byte, too_long, cut_off, whole, still_open, LongestGood}
 use Rattle.kex_model.proofs.Orders.{two_fronts}
 use Rattle.kex_model.proofs.Standing.{shorter_front, same_front}
+use Rattle.kex_model.proofs.Walks.{bytes_of-append}
 use Rattle.kex_model.proofs.Agreeing.{viable_front}
 use Rattle.kex_model.proofs.Derivations.{walk-append, code_of-append}
 use Rattle.kex_machine.specs.Nodes.{Graph, node_moves}
@@ -23,7 +24,7 @@ whole_front g w of l v =
     same_front w of w l.front ([], sym (append-nil w)) (omega (arith, more, ap length l.front.1, length-append of l.front.0))
 
 -- a survivor's path goes on to a run
-pub run_of : (g : Graph) (w : List ℕ) (c : List Symbol) → HasSurvivor g w → Agreed (node_moves g.nodes) g.start w c → (ks : List (Step ℕ)) × IsRun g ks × Begins (code_of ks) c
+pub run_of : (g : Graph) (w : List ℕ) (c : List Symbol) → HasSurvivor g w → Agreed (node_moves g.nodes) g.start w c → (ks : List (Step ℕ)) × IsRun g ks × Begins (code_of ks) c × Begins (bytes_of (code_of ks)) w
 run_of g w c (p, d, s) agreed =
     let path = s.reached in
     let on = s.alive in
@@ -31,6 +32,7 @@ run_of g w c (p, d, s) agreed =
       path.0 ++ on.0,
       (on.1, walk-append (node_moves g.nodes) path.0 on.0 g.start p on.1 path.1.walk on.2, on.3),
       (front.0 ++ code_of on.0, code_of-append path.0 on.0 ∙ ap (λ z. z ++ code_of on.0) (path.2 ∙ front.1) ∙ append_assoc c front.0 (code_of on.0)),
+      (bytes_of (code_of on.0), ap (λ z. bytes_of z) (code_of-append path.0 on.0) ∙ bytes_of-append (code_of path.0) (code_of on.0) ∙ ap (λ z. z ++ bytes_of (code_of on.0)) path.1.reads),
     )
 
 module _ (g : Graph) (a : Position) (same : a.machine ≡ g) (settled : IsSettled a) (c : List Symbol) (out : List ℕ) (p : HasPerformed a c c out) where
@@ -40,7 +42,7 @@ module _ (g : Graph) (a : Position) (same : a.machine ≡ g) (settled : IsSettle
   pub says : (w : List ℕ) → HasSurvivor g w → Agreed (node_moves g.nodes) g.start w c → Says g w out
   says w s agreed =
       let r = run_of g w c s agreed in
-      record { agreed = c; is_agreed = agreed; run = r.0; runs = r.1; begins = r.2; said = left_out r.0 r.1 r.2 }
+      record { agreed = c; is_agreed = agreed; run = r.0; runs = r.1; reads = r.3; begins = r.2; said = left_out r.0 r.1 r.2 }
 
   pub means : (w : List ℕ) → IsGreedy g w c → Means g w out
   means w h =
