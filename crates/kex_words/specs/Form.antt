@@ -34,9 +34,6 @@ with_rules app (rule ∷ rules) = with_rules (with_rule app rule) rules
 abbrev pub run_app : App
 run_app = with_rules (new_app (codes "run")) (program_rule ∷ max_input_rule ∷ block_rule ∷ [])
 
-abbrev pub check_app : App
-check_app = with_rules (new_app (codes "check")) (program_rule ∷ [])
-
 -- no flag or subcommand for help or the version
 abbrev pub bare_app : App
 bare_app = record (new_app (codes "kex")) {
@@ -48,6 +45,6 @@ bare_app = record (new_app (codes "kex")) {
   };
 }
 
--- one of these subcommands, which is required
+-- this subcommand, which is required
 abbrev pub kex_app : App
-kex_app = with_subcommand (with_subcommand bare_app run_app.top) check_app.top
+kex_app = with_subcommand bare_app run_app.top

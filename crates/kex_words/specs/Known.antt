@@ -2,7 +2,7 @@
 use Rattle.std.specs.Prelude.{◌≡◌, ℕ, List, [], ◌∷◌, Some, None, codes}
 use Rattle.clap.specs.Words.{Text}
 use Rattle.kex_words.specs.Words.{Asked, Reach, asked_of}
-use Rattle.kex_words.specs.Words.Asked.{ToRun, ToCheck}
+use Rattle.kex_words.specs.Words.Asked.{ToRun}
 
 abbrev pub reach : ℕ → ℕ → Reach
 reach max_input block = record { max_input = max_input; block = block }
@@ -20,8 +20,7 @@ pub record ReadsWords : Type 0 where
       (ToRun (codes "p") (reach 3 1))
   pub options_first : Asks (codes "run" ∷ codes "--block=1048576" ∷ codes "--max-input=0" ∷ codes "p" ∷ [])
       (ToRun (codes "p") (reach 0 1048576))
-  pub check : Asks (codes "check" ∷ codes "p" ∷ []) (ToCheck (codes "p"))
-  pub empty_name : Asks (codes "check" ∷ [] ∷ []) (ToCheck [])
+  pub empty_name : Asks (codes "run" ∷ [] ∷ []) (ToRun [] (reach 281474976710656 65536))
   pub behind_dashes : Asks (codes "run" ∷ codes "--" ∷ codes "--block" ∷ []) (ToRun (codes "--block") (reach 281474976710656 65536))
   pub no_words : asked_of [] ≡ None
   pub no_command : AreUsage []
@@ -39,5 +38,5 @@ pub record ReadsWords : Type 0 where
   pub help : AreUsage (codes "help" ∷ [])
   pub help_of_run : AreUsage (codes "run" ∷ codes "--help" ∷ [])
   pub version : AreUsage (codes "--version" ∷ [])
-  pub check_block : AreUsage (codes "check" ∷ codes "p" ∷ codes "--block" ∷ codes "1" ∷ [])
+  pub check : AreUsage (codes "check" ∷ codes "p" ∷ [])
   pub extra_word : AreUsage (codes "run" ∷ codes "p" ∷ codes "q" ∷ [])

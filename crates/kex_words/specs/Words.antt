@@ -1,13 +1,12 @@
 -- What the words of a command line ask for.
 use Rattle.std.specs.Prelude.{[], nat_le, ◌&&◌, ℕ, List, Option, Some, None, codes, option_and_then, unwrap_or, if◌then◌else◌}
-use Rattle.std.specs.Str.{bytes_eq}
 use Rattle.std.specs.Str.Parse.{digits_value, without_leading_plus}
 use Rattle.clap.specs.Words.{Row, Text, first_of, one_of, subcommand_of, fault_of}
 use Rattle.clap.specs.Walk.{is_empty}
 use Rattle.clap.specs.ValueTests.{is_unsigned_in}
 use Rattle.kex_words.specs.Form.{kex_app, most_block, most_input}
 use Rattle.kex_words.specs.declared.asked.Command.{Command}
-use Rattle.kex_words.specs.declared.asked.Command.TheVariants.{Run, Check}
+use Rattle.kex_words.specs.declared.asked.Command.TheVariants.{Run}
 
 -- how many bytes are read, in all and at a time
 pub record Reach : Type 0 where
@@ -17,7 +16,6 @@ pub record Reach : Type 0 where
 -- what is asked for, and of which program
 pub data Asked : Type 0 where
   ToRun : (program : Text) (reach : Reach) → Asked
-  ToCheck : (program : Text) → Asked
 
 -- the number where it is within the bounds
 abbrev pub bounded : ℕ → ℕ → Option ℕ → Option ℕ
@@ -43,8 +41,8 @@ reach_in rows = record {
 
 -- what a subcommand and its matches ask for; words in form have one
 abbrev pub asked_in : Option (Text × List Row) → Asked
-asked_in None = ToCheck []
-asked_in (Some sub) = if bytes_eq sub.0 (codes "run") then ToRun (program_in sub.1) (reach_in sub.1) else ToCheck (program_in sub.1)
+asked_in None = ToRun [] (record { max_input = most_input; block = 65536 })
+asked_in (Some sub) = ToRun (program_in sub.1) (reach_in sub.1)
 
 -- what the words ask for, where they are in form, and else nothing
 unfoldable pub asked_of : List Text → Option Asked
@@ -53,4 +51,3 @@ asked_of words = if is_empty (fault_of kex_app words) then Some (asked_in (subco
 -- what a command asks for
 abbrev pub asked : Command → Asked
 asked (Run program limits) = ToRun program.now (record { max_input = limits.max_input; block = limits.block })
-asked (Check program) = ToCheck program.now

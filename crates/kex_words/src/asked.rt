@@ -26,8 +26,6 @@ pub struct Limits {
 pub enum Command<'a> {
     /// Runs the program on the input.
     Run { program: &'a str, limits: Limits },
-    /// Says how large the program's stages are.
-    Check { program: &'a str },
 }
 
 /// Why no command is read.

@@ -50,14 +50,17 @@ fn command<'a>(matches: &ArgMatches<'a>) -> Command<'a>
     ensures { asked result ≡ asked_in (subcommand_rows_of matches.now) }
 {
     match matches.subcommand() {
-        Some((name, inner)) if name == "run" => Command::Run {
+        Some((_, inner)) => Command::Run {
             program: program(inner),
             limits: limits(inner),
         },
-        Some((_, inner)) => Command::Check {
-            program: program(inner),
+        None => Command::Run {
+            program: "",
+            limits: Limits {
+                max_input: MOST_INPUT,
+                block: USUAL_BLOCK as u32,
+            },
         },
-        None => Command::Check { program: "" },
     }
 }
 

@@ -40,8 +40,7 @@ fn words_are_read(rt: HostRuntime) -> Result<(), Fail> {
                 limits: small,
             }),
         ),
-        ("kex check -- -p", Ok(Command::Check { program: "-p" })),
-        ("kex check p --block 1", Err(WordsRefusal::Usage)),
+        ("kex check p", Err(WordsRefusal::Usage)),
         ("kex help", Err(WordsRefusal::Usage)),
     ];
     reads_known_words();

@@ -29,7 +29,6 @@ known = record {
   help = refl;
   help_of_run = refl;
   version = refl;
-  check_block = refl;
   extra_word = refl;
 }
 
