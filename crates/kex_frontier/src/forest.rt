@@ -205,7 +205,8 @@ impl Forest {
         Ok(())
     }
 
-    /// A label in front of the last tree. What stands in front of it already is moved behind the label.
+    /// A label in front of the last tree. What stands in front of it already is put behind the label: of two labels that
+    /// a fork has parted the one below is copied, which is as long as the fork has lived.
     pub fn put_label(&mut self, label: Vec<Symbol>, spare: &mut Spare) -> Result<(), Memory>
         ensures { OnOk result ((rs : List (Option (Grown Symbol ℕ))) → HasTrees as_is self.old rs → HasTrees as_is self.new (fronted label.items rs)) }
     {

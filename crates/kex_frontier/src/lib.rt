@@ -4,8 +4,8 @@
 //! symbols that were taken; the clauses of `Frontier::feed`, `Frontier::end` and `Frontier::take_code` carry this on.
 #![tactic(auto)]
 
-pub mod forest;
+mod forest;
 pub mod frontier;
-pub mod grow;
-pub mod marks;
-pub mod visit;
+mod grow;
+mod marks;
+mod visit;

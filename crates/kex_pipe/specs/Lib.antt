@@ -4,3 +4,4 @@ pub mod Reports
 pub mod Seats
 pub mod Standing
 pub mod Waiting
+pub mod Copying

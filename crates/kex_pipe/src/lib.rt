@@ -8,5 +8,7 @@ pub mod laws;
 pub mod pipe;
 pub mod report;
 mod seat;
+#[cfg(test)]
+mod tests;
 pub mod turn;
 mod turning;

@@ -107,8 +107,12 @@ module _ (old now : List Node) (numbers text : List ℕ) (i : ℕ) (inside : i <
       record {
         inside = part_inside text i s inside e;
         grows = grows-trans old now new r.grows grows;
-        done = (d.0 ++ p ∷ [], subst (λ z. AreTerms new more z) (sym (parts_append d.0 p)) (terms _ d.1), λ qs rest y.
-            subst (λ z. Body text z rest) (sym (append_assoc d.0 (p ∷ []) qs)) (d.2 (p ∷ qs) rest (subst (λ t. Body t (p ∷ qs) rest) (sym (next_at text i inside)) (body_on b _ s e f (subst (λ t. Body t qs rest) after y)))));
+        done = (
+          d.0 ++ p ∷ [],
+          subst (λ z. AreTerms new more z) (sym (parts_append d.0 p)) (terms _ d.1),
+          λ qs rest y.
+              subst (λ z. Body text z rest) (sym (append_assoc d.0 (p ∷ []) qs)) (d.2 (p ∷ qs) rest (subst (λ t. Body t (p ∷ qs) rest) (sym (next_at text i inside)) (body_on b _ s e f (subst (λ t. Body t qs rest) after y)))),
+        );
         back = λ ps rest y.
             let u = r.back ps rest y in
             let v = body_back u.1 b _ s (next_at text i inside) n e in

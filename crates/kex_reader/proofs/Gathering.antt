@@ -71,8 +71,12 @@ module _ (old now : List Node) (numbers text : List ℕ) (i : ℕ) (g : Gathered
         record {
           inside = omega (arith, within, ap length f, length-drop i text, inside);
           grows = grows-trans old now new g.grows grows;
-          done = (d.0 ++ a ∷ [], subst (λ ts. AreTerms new (numbers ++ n ∷ []) ts) (sym (atoms_append d.0 a)) (terms_pushed new numbers (atom_terms d.0) n (atom_term a) (terms_more now new numbers (atom_terms d.0) (grows.0, grows.1) d.1) term), λ more z.
-              subst (λ xs. Atoms text xs) (sym (append_assoc d.0 (a ∷ []) more)) (d.2 (a ∷ more) (next_atom at z)));
+          done = (
+            d.0 ++ a ∷ [],
+            subst (λ ts. AreTerms new (numbers ++ n ∷ []) ts) (sym (atoms_append d.0 a)) (terms_pushed new numbers (atom_terms d.0) n (atom_term a) (terms_more now new numbers (atom_terms d.0) (grows.0, grows.1) d.1) term),
+            λ more z.
+                subst (λ xs. Atoms text xs) (sym (append_assoc d.0 (a ∷ []) more)) (d.2 (a ∷ more) (next_atom at z)),
+          );
           back = λ xs z. let u = g.back xs z in atom_back u.1 _ _ (next_at text i inside) h at;
         }
 

@@ -12,7 +12,7 @@ ends_literal b = (b == 34) || (b == 92) || (b == 10)
 -- line feed, or one of * + ? { } ( ) | [ ] \ . / ^ $
 abbrev pub is_special : ℕ → Bool
 is_special b = (b == 10) || (b == 42) || (b == 43) || (b == 63) || (b == 123) || (b == 125) || (b == 40) || (b == 41)
-  || (b == 124) || (b == 91) || (b == 93) || (b == 92) || (b == 46) || (b == 47) || (b == 94) || (b == 36)
+    || (b == 124) || (b == 91) || (b == 93) || (b == 92) || (b == 46) || (b == 47) || (b == 94) || (b == 36)
 
 abbrev pub begins_with_star : List ℕ → Bool
 begins_with_star [] = false

@@ -12,7 +12,12 @@ use kex_model::program::{Kind, Node};
 use std::alloc::Global;
 
 /// The node of a literal.
-pub(crate) fn literal(alloc: Global, nodes: &mut Builder, bytes: &[u8], at: u32) -> Result<u32, Memory>
+pub(crate) fn literal(
+    alloc: Global,
+    nodes: &mut Builder,
+    bytes: &[u8],
+    at: u32,
+) -> Result<u32, Memory>
     ensures grows { IfOk result (λ n. Grows nodes.old nodes.new) }
     ensures term { IfOk result (λ n. IsTerm nodes.new n (lit bytes.now)) }
 {

@@ -35,7 +35,13 @@ struct Parts {
     length: usize,
 }
 
-fn add_part(numbers: &mut Vec<u32>, nodes: &mut Builder, byte: u8, starred: bool, at: u32) -> Result<(), Memory>
+fn add_part(
+    numbers: &mut Vec<u32>,
+    nodes: &mut Builder,
+    byte: u8,
+    starred: bool,
+    at: u32,
+) -> Result<(), Memory>
     ensures grows { OnOk result (Grows nodes.old nodes.new) }
     ensures added { OnOk result ((ts : List Term) → AreTerms nodes.old numbers.old.items ts
         → AreTerms nodes.new numbers.new.items (ts ++ part_term (part_of starred byte) ∷ [])) }
@@ -136,7 +142,11 @@ fn atom(alloc: Global, text: &[u8], nodes: &mut Builder, at: u32) -> Result<Spot
 }
 
 // The atoms up to the end of a text.
-pub(crate) fn atoms(alloc: Global, text: &[u8], nodes: &mut Builder) -> Result<Vec<u32>, ReadRefusal>
+pub(crate) fn atoms(
+    alloc: Global,
+    text: &[u8],
+    nodes: &mut Builder,
+) -> Result<Vec<u32>, ReadRefusal>
     requires { length text.now ≤ 1048576 }
     ensures read { IfOk result (λ numbers. Grows nodes.old nodes.new
         × (more : List Atom) × Atoms text.now more × AreTerms nodes.new numbers.items (atom_terms more)) }

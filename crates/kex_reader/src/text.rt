@@ -37,11 +37,11 @@ fn main_alone(alloc: Global, nodes: Builder, root: u32) -> Result<Program, Memor
     requires grown { Grows [] nodes }
     requires inside { root < length nodes }
     ensures { IfOk result (λ P. P ≡ record {
-        nodes = nodes;
-        names = (109 ∷ 97 ∷ 105 ∷ 110 ∷ []) ∷ [];
-        definitions = record { name = 0; at = 0; root = root } ∷ [];
-        stages = record { name = 0; at = 0 } ∷ [];
-        registers = 0;
+      nodes = nodes;
+      names = (109 ∷ 97 ∷ 105 ∷ 110 ∷ []) ∷ [];
+      definitions = record { name = 0; at = 0; root = root } ∷ [];
+      stages = record { name = 0; at = 0 } ∷ [];
+      registers = 0;
     }) }
 {
     let mut name = Vec::new(alloc);

@@ -22,8 +22,7 @@ pub returns-clause-read : goal.returns-clause-read
 returns-clause-read c =
     let r = c.in_ok-parts.ensures.read in
     let some : 0 < length c.in_ok-parts.parts.numbers.items = search rules in
-    let w = whole c.body.new.nodes c.in_ok-parts.parts.numbers.items _ _ r.2 r.3 r.4 (λ e. let z : length c.in_ok-parts.parts.numbers.items ≡ 0 = ap length e in absurd (omega (arith, some, z))) in
-    (
+    let w = whole c.body.new.nodes c.in_ok-parts.parts.numbers.items _ _ r.2 r.3 r.4 (λ e. let z : length c.in_ok-parts.parts.numbers.items ≡ 0 = ap length e in absurd (omega (arith, some, z))) in (
       grows-trans c.args.nodes.now c.body.new.nodes c.row.new.nodes r.1 c.in-Ok.ensures.grows,
       omega (arith, r.0),
       w.part,

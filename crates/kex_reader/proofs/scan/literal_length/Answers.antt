@@ -7,7 +7,7 @@ pub returns-then-text-i-eq34-clause-found : goal.returns-then-text-i-eq34-clause
 returns-then-text-i-eq34-clause-found c = (
   c.loop-i-test.true,
   subst (λ s. Literal c.args.text.now s (drop (c.loop-i.i + 1) c.args.text.now)) (append-nil _)
-  (c.loop-i.invariant.on [] _ (literal_closed c.args.text.now c.loop-i.i c.loop-i-test.true c.if-text-i-eq34.true)),
+      (c.loop-i.invariant.on [] _ (literal_closed c.args.text.now c.loop-i.i c.loop-i-test.true c.if-text-i-eq34.true)),
 )
 
 pub returns-then-ends_literal-clause-none : goal.returns-then-ends_literal-clause-none

@@ -1,0 +1,131 @@
+-- What tokens, white space and comments are spelled, and the longest of them at a place.
+use Rattle.std.specs.Prelude.{◌≡◌, ℕ, ◌<◌, ◌≤◌, Bool, true, false, ◌&&◌, ◌||◌, List, [], ◌∷◌, ◌++◌, length, take, nat_le, ◌==◌, codes}
+pub use Rattle.kex_tokens.specs.declared.token.Kind.{Kind}
+pub use Rattle.kex_tokens.specs.declared.token.Kind.TheVariants.{Name, Number, Literal, Regex, Define, Colon, Pipe, Bar, Tilde, At, Star, Plus, PlusEquals, Question, OpenBrace, CloseBrace, Comma, Bang, OpenBracket, CloseBracket, Arrow, OpenParen, CloseParen}
+pub use Rattle.kex_tokens.specs.declared.lexeme.Lexeme.{Lexeme}
+pub use Rattle.kex_tokens.specs.declared.lexeme.Lexeme.TheVariants.{Space, LineComment, BlockComment, Kept}
+pub use Rattle.kex_tokens.specs.declared.lexeme.Piece.{Piece}
+
+-- ---- bytes
+
+-- blank, tab, carriage return, line feed
+abbrev pub is_space : ℕ → Bool
+is_space b = (b == 32) || (b == 9) || (b == 13) || (b == 10)
+
+abbrev pub is_letter : ℕ → Bool
+is_letter b = (nat_le 65 b && nat_le b 90) || (nat_le 97 b && nat_le b 122)
+
+abbrev pub is_digit : ℕ → Bool
+is_digit b = nat_le 48 b && nat_le b 57
+
+-- a letter, a digit or _
+abbrev pub is_name_byte : ℕ → Bool
+is_name_byte b = is_letter b || is_digit b || (b == 95)
+
+abbrev pub is_hex : ℕ → Bool
+is_hex b = is_digit b || (nat_le 65 b && nat_le b 70) || (nat_le 97 b && nat_le b 102)
+
+abbrev pub not : Bool → Bool
+not true = false
+not false = true
+
+abbrev pub is_no_feed : ℕ → Bool
+is_no_feed b = not (b == 10)
+
+-- what may stand behind the \ of a short escape: n, t, r, \ and "
+abbrev pub is_short : ℕ → Bool
+is_short b = (b == 110) || (b == 116) || (b == 114) || (b == 92) || (b == 34)
+
+-- what stands for itself in a literal: no ", \ or line feed
+abbrev pub is_literal_byte : ℕ → Bool
+is_literal_byte b = not ((b == 34) || (b == 92) || (b == 10))
+
+-- what is an item by itself in a regex: no /, \ or line feed
+abbrev pub is_regex_byte : ℕ → Bool
+is_regex_byte b = not ((b == 47) || (b == 92) || (b == 10))
+
+unfoldable pub AreAll : (ℕ → Bool) → List ℕ → Type 0
+AreAll p [] = Unit {0}
+AreAll p (b ∷ bs) = (p b ≡ true) × AreAll p bs
+
+-- ---- items of literals and of regexes
+
+pub data Item : Type 0 where
+  Itself : (byte : ℕ) → Item
+  Short : (byte : ℕ) → Item
+  Hex : (high low : ℕ) → Item
+
+unfoldable pub items : List Item → List ℕ
+items [] = []
+items (Itself b ∷ is) = b ∷ items is
+items (Short b ∷ is) = 92 ∷ b ∷ items is
+items (Hex h l ∷ is) = 92 ∷ 120 ∷ h ∷ l ∷ items is
+
+unfoldable pub AreItems : List Item → Type 0
+AreItems [] = Unit {0}
+AreItems (Itself b ∷ is) = (is_literal_byte b ≡ true) × AreItems is
+AreItems (Short b ∷ is) = (is_short b ≡ true) × AreItems is
+AreItems (Hex h l ∷ is) = (is_hex h ≡ true) × (is_hex l ≡ true) × AreItems is
+
+pub data Atom : Type 0 where
+  Plain : (byte : ℕ) → Atom
+  Escaped : (byte : ℕ) → Atom
+
+unfoldable pub atoms : List Atom → List ℕ
+atoms [] = []
+atoms (Plain b ∷ as') = b ∷ atoms as'
+atoms (Escaped b ∷ as') = 92 ∷ b ∷ atoms as'
+
+unfoldable pub AreAtoms : List Atom → Type 0
+AreAtoms [] = Unit {0}
+AreAtoms (Plain b ∷ as') = (is_regex_byte b ≡ true) × AreAtoms as'
+AreAtoms (Escaped b ∷ as') = (is_no_feed b ≡ true) × AreAtoms as'
+
+-- ---- tokens, white space and comments
+
+unfoldable pub IsToken : Kind → List ℕ → Type 0
+IsToken Name bytes = (b : ℕ) × (w : List ℕ) × (is_letter b ≡ true) × AreAll is_name_byte w × (bytes ≡ b ∷ w)
+IsToken Number bytes = (b : ℕ) × (w : List ℕ) × (is_digit b ≡ true) × AreAll is_digit w × (bytes ≡ b ∷ w)
+IsToken Literal bytes = (is : List Item) × AreItems is × (bytes ≡ 34 ∷ items is ++ 34 ∷ [])
+-- between the slashes stands at least one item, and the first byte there is no *
+IsToken Regex bytes = (b : ℕ) × (w : List ℕ) × (as' : List Atom) × AreAtoms as' × ((b == 42) ≡ false) × (atoms as' ≡ b ∷ w) × (bytes ≡ 47 ∷ b ∷ w ++ 47 ∷ [])
+IsToken Define bytes = bytes ≡ codes ":="
+IsToken Colon bytes = bytes ≡ codes ":"
+IsToken Pipe bytes = bytes ≡ codes ">>"
+IsToken Bar bytes = bytes ≡ codes "|"
+IsToken Tilde bytes = bytes ≡ codes "~"
+IsToken At bytes = bytes ≡ codes "@"
+IsToken Star bytes = bytes ≡ codes "*"
+IsToken Plus bytes = bytes ≡ codes "+"
+IsToken PlusEquals bytes = bytes ≡ codes "+="
+IsToken Question bytes = bytes ≡ codes "?"
+IsToken OpenBrace bytes = bytes ≡ codes "{"
+IsToken CloseBrace bytes = bytes ≡ codes "}"
+IsToken Comma bytes = bytes ≡ codes ","
+IsToken Bang bytes = bytes ≡ codes "!"
+IsToken OpenBracket bytes = bytes ≡ codes "["
+IsToken CloseBracket bytes = bytes ≡ codes "]"
+IsToken Arrow bytes = bytes ≡ codes "<-"
+IsToken OpenParen bytes = bytes ≡ codes "("
+IsToken CloseParen bytes = bytes ≡ codes ")"
+
+-- */ doesn't stand in these bytes
+abbrev pub NoClose : List ℕ → Type 0
+NoClose bytes = (a b : List ℕ) → bytes ≡ a ++ 42 ∷ 47 ∷ b → ⊥
+
+unfoldable pub IsLexeme : Lexeme → List ℕ → Type 0
+IsLexeme Space bytes = (b : ℕ) × (is_space b ≡ true) × (bytes ≡ b ∷ [])
+IsLexeme LineComment bytes = (w : List ℕ) × AreAll is_no_feed w × (bytes ≡ 47 ∷ 47 ∷ w)
+-- the first */ behind the /* ends it
+IsLexeme BlockComment bytes = (w : List ℕ) × NoClose (w ++ 42 ∷ []) × (bytes ≡ 47 ∷ 42 ∷ w ++ 42 ∷ 47 ∷ [])
+IsLexeme (Kept kind) bytes = IsToken kind bytes
+
+-- this lexeme stands at the front, and no longer one does
+pub record IsLongest (bytes : List ℕ) (p : Piece) : Type 0 where
+  pub inside : p.long ≤ length bytes
+  pub is : IsLexeme p.lexeme (take p.long bytes)
+  pub no_longer : (other : Lexeme) (n : ℕ) → p.long < n → n ≤ length bytes → IsLexeme other (take n bytes) → ⊥
+
+-- no lexeme stands at the front
+abbrev pub HasNoLexeme : List ℕ → Type 0
+HasNoLexeme bytes = (any : Lexeme) (n : ℕ) → IsLexeme any (take n bytes) → ⊥

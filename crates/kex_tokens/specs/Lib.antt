@@ -1,0 +1,4 @@
+pub mod Lexemes
+pub mod Scanning
+pub mod Texts
+pub mod Values

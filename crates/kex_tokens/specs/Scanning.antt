@@ -1,0 +1,126 @@
+-- How the scanners go: the lexeme at the front, by its first byte.
+use Rattle.std.specs.Prelude.{ℕ, suc, Bool, true, false, List, [], ◌∷◌, Option, Some, None, ◌==◌, drop, if◌then◌else◌}
+use Rattle.kex_tokens.specs.Lexemes.{is_space, is_letter, is_digit, is_name_byte, is_hex, is_no_feed, is_short, Kind, Name, Number, Literal, Regex, Define, Colon, Pipe, Bar, Tilde, At, Star, Plus, PlusEquals, Question, OpenBrace, CloseBrace, Comma, Bang, OpenBracket, CloseBracket, Arrow, OpenParen, CloseParen, Lexeme, Space, LineComment, BlockComment, Kept, Piece}
+pub use Rattle.kex_tokens.specs.declared.runs.Run.{Run}
+pub use Rattle.kex_tokens.specs.declared.runs.Run.TheVariants.{NameBytes, Digits, Line}
+pub use Rattle.kex_tokens.specs.declared.closing.Step.{Step}
+pub use Rattle.kex_tokens.specs.declared.closing.Step.TheVariants.{On, Closed, Wrong}
+pub use Rattle.kex_tokens.specs.declared.literals.InLiteral.{InLiteral}
+pub use Rattle.kex_tokens.specs.declared.literals.InLiteral.TheVariants.{Between, Backslash, HexBegun, HexOne}
+
+-- ---- runs
+
+abbrev pub belongs : Run → ℕ → Bool
+belongs NameBytes = is_name_byte
+belongs Digits = is_digit
+belongs Line = is_no_feed
+
+-- how many bytes at the front pass
+unfoldable pub run : (ℕ → Bool) → List ℕ → ℕ
+run p [] = 0
+run p (b ∷ bs) = if p b then suc (run p bs) else 0
+
+-- ---- what is closed by a byte
+
+unfoldable pub more : Option ℕ → Option ℕ
+more None = None
+more (Some n) = Some (suc n)
+
+abbrev pub after : {S : Type 0} → Step S → (S → Option ℕ) → Option ℕ
+after (On s) rest = more (rest s)
+after Closed rest = Some 1
+after Wrong rest = None
+
+-- the bytes up to and with the one that closes
+unfoldable pub closing : {S : Type 0} → (S → ℕ → Step S) → S → List ℕ → Option ℕ
+closing step s [] = None
+closing step s (b ∷ bs) = after (step s b) (λ t. closing step t bs)
+
+unfoldable pub literal_step : InLiteral → ℕ → Step InLiteral
+literal_step Between b = if b == 34 then Closed else if b == 92 then On Backslash else if b == 10 then Wrong else On Between
+literal_step Backslash b = if b == 120 then On HexBegun else if is_short b then On Between else Wrong
+literal_step HexBegun b = if is_hex b then On (HexOne b) else Wrong
+literal_step (HexOne high) b = if is_hex b then On Between else Wrong
+
+-- whether the byte before is a \ that escapes
+unfoldable pub regex_step : Bool → ℕ → Step Bool
+regex_step false b = if b == 47 then Closed else if b == 92 then On true else if b == 10 then Wrong else On false
+regex_step true b = if b == 10 then Wrong else On false
+
+abbrev pub star_closes : Bool → ℕ → Bool
+star_closes true b = b == 47
+star_closes false b = false
+
+-- whether the byte before is a *
+unfoldable pub block_step : Bool → ℕ → Step Bool
+block_step star b = if star_closes star b then Closed else On (b == 42)
+
+abbrev pub literal : InLiteral → List ℕ → Option ℕ
+literal s bs = closing literal_step s bs
+
+abbrev pub regex : Bool → List ℕ → Option ℕ
+regex escaped bs = closing regex_step escaped bs
+
+abbrev pub block : Bool → List ℕ → Option ℕ
+block star bs = closing block_step star bs
+
+-- ---- the lexeme at the front
+
+abbrev pub piece : Lexeme → ℕ → Piece
+piece l n = record { lexeme = l; long = n }
+
+unfoldable pub behind_one : Lexeme → Option ℕ → Option Piece
+behind_one l None = None
+behind_one l (Some n) = Some (piece l (suc n))
+
+abbrev pub begins_with : ℕ → List ℕ → Bool
+begins_with c [] = false
+begins_with c (b ∷ bs) = b == c
+
+-- behind a /
+unfoldable pub slash : List ℕ → Option Piece
+slash bs =
+    if begins_with 47 bs then Some (piece LineComment (suc (suc (run is_no_feed (drop 1 bs)))))
+    else if begins_with 42 bs then behind_one BlockComment (more (block false (drop 1 bs)))
+    else behind_one (Kept Regex) (regex false bs)
+
+abbrev pub alone : Kind → Option Piece
+alone k = Some (piece (Kept k) 1)
+
+abbrev pub pair : Kind → Option Piece
+pair k = Some (piece (Kept k) 2)
+
+unfoldable pub one_or_two : ℕ → Kind → Kind → List ℕ → Option Piece
+one_or_two c long short bs = if begins_with c bs then pair long else alone short
+
+unfoldable pub two : ℕ → Kind → List ℕ → Option Piece
+two c long bs = if begins_with c bs then pair long else None
+
+unfoldable pub single : ℕ → Option Kind
+single b =
+    if b == 124 then Some Bar else if b == 126 then Some Tilde else if b == 64 then Some At else if b == 42 then Some Star
+    else if b == 63 then Some Question else if b == 123 then Some OpenBrace else if b == 125 then Some CloseBrace else if b == 44 then Some Comma
+    else if b == 33 then Some Bang else if b == 91 then Some OpenBracket else if b == 93 then Some CloseBracket else if b == 40 then Some OpenParen
+    else if b == 41 then Some CloseParen else None
+
+abbrev pub of_kind : Option Kind → Option Piece
+of_kind None = None
+of_kind (Some k) = alone k
+
+unfoldable pub sign : ℕ → List ℕ → Option Piece
+sign b bs =
+    if b == 58 then one_or_two 61 Define Colon bs
+    else if b == 43 then one_or_two 61 PlusEquals Plus bs
+    else if b == 62 then two 62 Pipe bs
+    else if b == 60 then two 45 Arrow bs
+    else of_kind (single b)
+
+unfoldable pub lexeme : List ℕ → Option Piece
+lexeme [] = None
+lexeme (b ∷ bs) =
+    if is_space b then Some (piece Space 1)
+    else if is_letter b then Some (piece (Kept Name) (suc (run is_name_byte bs)))
+    else if is_digit b then Some (piece (Kept Number) (suc (run is_digit bs)))
+    else if b == 34 then behind_one (Kept Literal) (literal Between bs)
+    else if b == 47 then slash bs
+    else sign b bs

@@ -1,0 +1,51 @@
+-- What literals and numbers stand for.
+use Rattle.std.specs.Prelude.{◌≡◌, ℕ, ◌+◌, ◌-◌, ◌*◌, ◌&&◌, List, [], ◌∷◌, ◌++◌, map, Option, Some, None, nat_le, ◌==◌, if◌then◌else◌}
+use Rattle.kex_tokens.specs.Lexemes.{is_digit, Item, Itself, Short, Hex, items, AreItems}
+use Rattle.kex_tokens.specs.Scanning.{InLiteral, Between, Backslash, HexBegun, HexOne, Step, On, Closed, Wrong, literal_step}
+
+-- what a hexadecimal digit counts
+abbrev pub hex_value : ℕ → ℕ
+hex_value b = if is_digit b then b - 48 else if nat_le 65 b && nat_le b 70 then b - 55 else if nat_le 97 b && nat_le b 102 then b - 87 else 0
+
+-- \n, \t and \r stand for a line feed, a tab and a carriage return, \\ and \" for their second byte
+abbrev pub short_value : ℕ → ℕ
+short_value b = if b == 110 then 10 else if b == 116 then 9 else if b == 114 then 13 else b
+
+abbrev pub item_value : Item → ℕ
+item_value (Itself b) = b
+item_value (Short b) = short_value b
+item_value (Hex h l) = 16 * hex_value h + hex_value l
+
+-- the literal with this spelling stands for these bytes, one for each item
+abbrev pub StandsFor : List ℕ → List ℕ → Type 0
+StandsFor spelling bytes = (is : List Item) × AreItems is × (spelling ≡ 34 ∷ items is ++ 34 ∷ []) × (map item_value is ≡ bytes)
+
+-- the number that decimal digits write, where n stands before them
+unfoldable pub number_behind : ℕ → List ℕ → ℕ
+number_behind n [] = n
+number_behind n (b ∷ bs) = number_behind (10 * n + (b - 48)) bs
+
+abbrev pub number_of : List ℕ → ℕ
+number_of digits = number_behind 0 digits
+
+-- ---- how the code goes
+
+-- the byte that an item gives at its last byte
+unfoldable pub item_end : InLiteral → ℕ → Option ℕ
+item_end Between b = if b == 92 then None else Some b
+item_end Backslash b = if b == 120 then None else Some (short_value b)
+item_end HexBegun b = None
+item_end (HexOne high) b = Some (16 * hex_value high + hex_value b)
+
+abbrev pub or_nothing : Option ℕ → List ℕ
+or_nothing None = []
+or_nothing (Some b) = b ∷ []
+
+abbrev pub decode_after : Step InLiteral → List ℕ → (InLiteral → List ℕ) → List ℕ
+decode_after (On s) given rest = given ++ rest s
+decode_after Closed given rest = []
+decode_after Wrong given rest = []
+
+unfoldable pub decode : InLiteral → List ℕ → List ℕ
+decode s [] = []
+decode s (b ∷ bs) = decode_after (literal_step s b) (or_nothing (item_end s b)) (λ t. decode t bs)

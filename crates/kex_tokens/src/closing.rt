@@ -1,0 +1,9 @@
+// One byte more of what a byte closes.
+
+/// What a byte does: more has to come, with this known of it; or it closes; or it may not stand here.
+#[derive(Clone, Copy, Drop)]
+pub enum Step<S> {
+    On(S),
+    Closed,
+    Wrong,
+}

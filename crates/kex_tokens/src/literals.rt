@@ -1,0 +1,76 @@
+// Literals.
+
+ghost use Rattle.std.specs.Prelude.{◌≡◌, ◌+◌, ◌≤◌, length, drop, IfSome};
+ghost use Rattle.kex_tokens.specs.Scanning.{literal, literal_step};
+
+use crate::bytes::{is_hex, is_short};
+use crate::closing::Step;
+
+/// Where in an item of a literal the next byte stands.
+#[derive(Clone, Copy, Drop)]
+pub enum InLiteral {
+    Between,
+    Backslash,
+    HexBegun,
+    HexOne(u8),
+}
+
+/// What a byte does in a literal.
+#[tactic(auto, unfolding(crate::specs::Scanning::literal_step))]
+pub fn literal_step(state: InLiteral, byte: u8) -> Step<InLiteral>
+    ensures { result ≡ literal_step state byte }
+{
+    match state {
+        InLiteral::Between => {
+            if byte == b'"' {
+                Step::Closed
+            } else if byte == b'\\' {
+                Step::On(InLiteral::Backslash)
+            } else if byte == b'\n' {
+                Step::Wrong
+            } else {
+                Step::On(InLiteral::Between)
+            }
+        }
+        InLiteral::Backslash => {
+            if byte == b'x' {
+                Step::On(InLiteral::HexBegun)
+            } else if is_short(byte) {
+                Step::On(InLiteral::Between)
+            } else {
+                Step::Wrong
+            }
+        }
+        InLiteral::HexBegun => {
+            if is_hex(byte) {
+                Step::On(InLiteral::HexOne(byte))
+            } else {
+                Step::Wrong
+            }
+        }
+        InLiteral::HexOne(_) => {
+            if is_hex(byte) {
+                Step::On(InLiteral::Between)
+            } else {
+                Step::Wrong
+            }
+        }
+    }
+}
+
+/// The bytes from here on up to and with the quote that closes.
+pub fn literal_length(text: &[u8], from: usize) -> Option<usize>
+    requires { from ≤ length text.now }
+    ensures length { result ≡ literal InLiteral.Between (drop from text.now) }
+    ensures inside { IfSome result (λ n. from + n ≤ length text.now) }
+{
+    let mut state = InLiteral::Between;
+    for i in from..text.len() {
+        match literal_step(state, text[i]) {
+            Step::On(next) => state = next,
+            Step::Closed => return Some(i + 1 - from),
+            Step::Wrong => return None,
+        }
+    }
+    None
+}
