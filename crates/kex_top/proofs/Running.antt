@@ -1,0 +1,170 @@
+-- From one piece to the whole run.
+use Rattle.std.proofs.Common.{◌≡◌, ◌++◌, ◌<◌, ◌≤◌, ℕ, List, [], Bool, true, false, refl, sym, ◌∙◌, subst, ap, arith, append_assoc, length, inl, inr}
+use Rattle.std.specs.Prelude.{Option, Some, None, IsSome, Err}
+use Rattle.std.specs.Io.KnownBytes.{Appends, Consumes, IsAtEnd, Keeps}
+use Rattle.kex_ports.specs.Causes.{Rose}
+use Rattle.kex_ports.specs.Bytes.{AppendsFront, IsPrefix}
+use Rattle.kex_ports.proofs.Known.{append-nil, appends-then, appends-same, appends-kept, prefix-whole}
+use Rattle.kex_top.specs.Answer.{Said}
+use Rattle.kex_top.specs.History.{History, Fed, text_of, Writes, WritesFront, WritesUpTo}
+use Rattle.kex_words.specs.Gains.{Change, change}
+use Rattle.kex_top.specs.Run.{is_whole, Pumped, Ran, EndsAs, WritesAll, WritesBegun, WritesEarlier, TroubleCause, status_of, status_for, status_after}
+use Rattle.kex_pipe.specs.declared.turn.Fate.{Fate}
+use Rattle.kex_pipe.specs.declared.turn.Why.{Why}
+use Rattle.kex_pipe.specs.declared.turn.Why.TheVariants.{Byte, End, Limit}
+use Rattle.kex_top.specs.declared.worker.Report.{Report}
+use Rattle.kex_top.specs.declared.status.Status.{Status}
+use Rattle.kex_top.specs.declared.status.Status.TheVariants.{Done, Rejected, TooLong, ReadFault, WriteFault}
+use Rattle.kex_top.specs.declared.pass.Trouble.{Trouble}
+use Rattle.kex_top.specs.declared.pass.Trouble.TheVariants as trouble
+
+abbrev pub Saying : Type 0 → Type 1
+Saying Plan = Plan → List ℕ → Bool → Said → Type 0
+
+appends-kept-after : (a b c : Option (List ℕ)) (x : List ℕ) → Appends a b x → Keeps b c → Appends a c x
+appends-kept-after a b c x p k =
+    appends-same a c (x ++ []) x (sym (append-nil x)) (appends-then a b c x [] p (appends-kept b c k))
+
+-- A run that was worked off ends as its report says.
+why-ends : (says : List ℕ → Bool → Said → Type 0) (n : ℕ) (w : List ℕ) (e : Bool) (source sink : Change) (r : Report) (why : Why) → r.why ≡ why
+    → WritesAll says w e (Some r) sink → source.now ≡ source.before → sink.now ≡ sink.before
+    → EndsAs says n w e source sink (status_for why r)
+why-ends says n w e source sink r Byte y all a b = (ap (λ (k : Why). status_for k r) y, all, a, b)
+why-ends says n w e source sink r End y all a b = (ap (λ (k : Why). status_for k r) y, all, a, b)
+why-ends says n w e source sink r Limit y all a b = (ap (λ (k : Why). status_for k r) y, all, a, b)
+
+worked-ends : (says : List ℕ → Bool → Said → Type 0) (n : ℕ) (w : List ℕ) (e : Bool) (source sink : Change) (r : Option Report)
+    → WritesAll says w e r sink → (r ≡ None → e ≡ true)
+    → source.now ≡ source.before → sink.now ≡ sink.before → EndsAs says n w e source sink (status_of r)
+worked-ends says n w e source sink None all end a b = (end refl, all, a, b)
+worked-ends says n w e source sink (Some r) all end a b = why-ends says n w e source sink r r.why refl all a b
+
+module _ {Plan : Type 0} (says : Plan → List ℕ → Bool → Said → Type 0) (p p' : Plan) (same : p' ≡ p) (h : History) (n : ℕ) (source sink : Change) (mid : Option (List ℕ)) (w : List ℕ) (e : Bool) (s : Status) where
+  pub worked : (stands : History → Type 0) (r : Option Report) (fate : Fate)
+      → Consumes source.old source.new w → (e ≡ true → IsAtEnd source.new)
+      → source.now ≡ source.before → sink.now ≡ sink.before
+      → Appends sink.old mid (text_of h) → (x : Writes (says p') stands h w e mid sink.new fate)
+      → s ≡ status_of r → r ≡ x.said.report → (r ≡ None → e ≡ true) → (earlier : Said) × says p w false earlier → Pumped (says p) n source sink s
+  worked stands r fate read ended a b before x status report end opened =
+      let all : WritesAll (says p) w e r sink = record {
+        said = x.said;
+        is_said = subst (λ q. says q w e x.said) same x.is_said;
+        reports = sym report;
+        appended = appends-same _ _ _ _ (sym x.whole) (appends-then _ _ _ _ _ before x.appended);
+      } in (
+        record {
+          w = w;
+          e = e;
+          read = read;
+          ended = ended;
+          ends = subst (λ z. EndsAs (says p) n w e source sink z) (sym status) (worked-ends (says p) n w e source sink r all end a b);
+        },
+        λ whole. opened,
+      )
+
+module _ {Plan : Type 0} (says : Plan → List ℕ → Bool → Said → Type 0) (p p' : Plan) (same : p' ≡ p) (f : Fed) (n : ℕ) (source sink : Change) (mid : Option (List ℕ)) (w : List ℕ) (e : Bool) (s : Status) where
+  -- the piece before which the bytes f were said
+  module _ (u : List ℕ) (cut : w ≡ f.bytes ++ u) (short : length u ≤ n) (is_said : says p f.bytes false f.said) (before : Appends sink.old mid f.said.text) where
+    wanted : (grows : (q : Plan) (v x : List ℕ) (d : Bool) (a b : Said) → says q v false a → says q (v ++ x) d b → IsPrefix a.text b.text)
+        → Keeps mid sink.new → WritesEarlier (says p) w e sink
+    wanted grows kept = record {
+      added = f.said.text;
+      appended = appends-kept-after _ _ _ _ before kept;
+      from = inr (f.bytes, f.said, record { rest = u; joined = cut }, is_said, refl);
+      front = λ b h. grows p f.bytes u e f.said b is_said (subst (λ z. says p z e b) cut h);
+    }
+
+    failed : WritesFront (says p') (Some f) w e mid sink.new → WritesBegun (says p) n w e sink
+    failed x = record {
+      said = x.said;
+      is_said = subst (λ q. says q w e x.said) same x.is_said;
+      added = f.said.text ++ x.appended.added;
+      appended = appends-then _ _ _ _ _ before x.appended.grown;
+      front = record {
+        rest = x.appended.front.rest;
+        joined = x.whole ∙ ap (λ (z : List ℕ). f.said.text ++ z) x.appended.front.joined ∙ sym (append_assoc f.said.text x.appended.added x.appended.front.rest);
+      };
+      begun = λ more. (f.bytes, u, f.said, cut, short, is_said, record { rest = x.appended.added; joined = refl });
+    }
+
+    pub broken : (grows : (q : Plan) (v x : List ℕ) (d : Bool) (a b : Said) → says q v false a → says q (v ++ x) d b → IsPrefix a.text b.text)
+        (count : ℕ) (t : Trouble)
+        → Consumes source.old source.new w → (e ≡ true → IsAtEnd source.new) → source.now ≡ source.before
+        → WritesUpTo (says p') (Some f) w e mid sink.new t
+        → count ≡ sink.before → TroubleCause {T = Fate} count sink.now (Err t)
+        → s ≡ status_after t → Pumped (says p) n source sink s
+    broken grows count t read ended a x kept cause status = (
+      record {
+        w = w;
+        e = e;
+        read = read;
+        ended = ended;
+        ends = subst (λ z. EndsAs (says p) n w e source sink z) (sym status) (by_trouble t x (subst (λ k. TroubleCause {T = Fate} k sink.now (Err t)) kept cause));
+      },
+      λ whole. absurd (not_whole t (ap is_whole (sym status) ∙ whole)),
+    )
+      where
+        not_whole : (t : Trouble) → is_whole (status_after t) ≡ true → ⊥
+        not_whole trouble.Memory y = let bad : false ≡ true = y in cc
+        not_whole trouble.Write y = let bad : false ≡ true = y in cc
+
+        by_trouble : (t : Trouble) → WritesUpTo (says p') (Some f) w e mid sink.new t → TroubleCause {T = Fate} sink.before sink.now (Err t) → EndsAs (says p) n w e source sink (status_after t)
+        by_trouble trouble.Memory y c = (wanted grows y, a, c)
+        by_trouble trouble.Write y c = (failed y, omega (arith, a), c)
+
+pub some-not-none : (r r' : Option Report) → r ≡ r' → IsSome r' → r ≡ None → ⊥
+some-not-none r None e is none = let bad : false ≡ true = is in cc
+some-not-none r (Some x) e is none = cc
+
+-- ---- the end of the output
+
+-- The whole text was written, and the sink is closed without a fault.
+all-closed : (says : List ℕ → Bool → Said → Type 0) (w : List ℕ) (e : Bool) (r : Option Report) (old mid new : Option (List ℕ)) (before count now : ℕ)
+    → WritesAll says w e r (change old mid before count) → Keeps mid new → WritesAll says w e r (change old new before now)
+all-closed says w e r old mid new before count now all kept = record {
+  said = all.said;
+  is_said = all.is_said;
+  reports = all.reports;
+  appended = appends-kept-after _ _ _ _ all.appended kept;
+}
+
+pub closed : (says : List ℕ → Bool → Said → Type 0) (n : ℕ) (source : Change) (old mid new : Option (List ℕ)) (before count now : ℕ) (s : Status)
+    → is_whole s ≡ true → Ran says n source (change old mid before count) s → Keeps mid new → now ≡ count
+    → Ran says n source (change old new before now) s
+closed says n source old mid new before count now s whole ran kept same = record { w = ran.w; e = ran.e; read = ran.read; ended = ran.ended; ends = by s whole ran.ends }
+  where
+    by : (s : Status) → is_whole s ≡ true → EndsAs says n ran.w ran.e source (change old mid before count) s → EndsAs says n ran.w ran.e source (change old new before now) s
+    by Done h t = (t.0, all-closed says _ _ _ _ _ _ _ count _ t.1 kept, t.2, same ∙ t.3)
+    by (Rejected r) h t = (t.0, all-closed says _ _ _ _ _ _ _ count _ t.1 kept, t.2, same ∙ t.3)
+    by (TooLong r) h t = (t.0, all-closed says _ _ _ _ _ _ _ count _ t.1 kept, t.2, same ∙ t.3)
+    by ReadFault h t = (t.0, all-closed says _ _ _ _ _ _ _ count _ t.1 kept, t.2, same ∙ t.3)
+    by _ h t = let bad : false ≡ true = h in cc
+
+-- The whole text was written, and then the sink failed.
+late : {Plan : Type 0} (says : Plan → List ℕ → Bool → Said → Type 0) (p : Plan)
+    → ((q : Plan) (v x : List ℕ) (d : Bool) (a b : Said) → says q v false a → says q (v ++ x) d b → IsPrefix a.text b.text)
+    → (n : ℕ) (w : List ℕ) (e : Bool) (r : Option Report) (old mid new : Option (List ℕ)) (before count now : ℕ)
+    → (earlier : Said) × says p w false earlier
+    → WritesAll (says p) w e r (change old mid before count) → Keeps mid new → WritesBegun (says p) n w e (change old new before now)
+late says p grows n w e r old mid new before count now (earlier, h) all kept = record {
+  said = all.said;
+  is_said = all.is_said;
+  added = all.said.text;
+  appended = appends-kept-after _ _ _ _ all.appended kept;
+  front = prefix-whole all.said.text;
+  begun = λ more. (w, [], earlier, append-nil w, omega arith, h, grows p w [] e earlier all.said h (subst (λ z. says p z e all.said) (append-nil w) all.is_said));
+}
+
+pub close-fails : {Plan : Type 0} (says : Plan → List ℕ → Bool → Said → Type 0) (p : Plan)
+    → ((q : Plan) (v x : List ℕ) (d : Bool) (a b : Said) → says q v false a → says q (v ++ x) d b → IsPrefix a.text b.text)
+    → (n : ℕ) (source : Change) (old mid new : Option (List ℕ)) (before count now : ℕ) (s : Status)
+    → is_whole s ≡ true → Pumped (says p) n source (change old mid before count) s → Keeps mid new → count ≤ now → Rose count now
+    → Ran (says p) n source (change old new before now) WriteFault
+close-fails says p grows n source old mid new before count now s whole (ran, opened) kept later rose = record { w = ran.w; e = ran.e; read = ran.read; ended = ran.ended; ends = by s whole (opened whole) ran.ends }
+  where
+    by : (s : Status) → is_whole s ≡ true → (earlier : Said) × says p ran.w false earlier → EndsAs (says p) n ran.w ran.e source (change old mid before count) s → EndsAs (says p) n ran.w ran.e source (change old new before now) WriteFault
+    by Done h o t = (late says p grows n _ _ _ _ _ _ _ count _ o t.1 kept, omega (arith, t.2), (omega (arith, t.3, later), omega (arith, t.3, rose)))
+    by (Rejected r) h o t = (late says p grows n _ _ _ _ _ _ _ count _ o t.1 kept, omega (arith, t.2), (omega (arith, t.3, later), omega (arith, t.3, rose)))
+    by (TooLong r) h o t = (late says p grows n _ _ _ _ _ _ _ count _ o t.1 kept, omega (arith, t.2), (omega (arith, t.3, later), omega (arith, t.3, rose)))
+    by ReadFault h o t = (late says p grows n _ _ _ _ _ _ _ count _ o t.1 kept, omega (arith, t.2), (omega (arith, t.3, later), omega (arith, t.3, rose)))
+    by _ h o t = let bad : false ≡ true = h in cc

@@ -1,0 +1,10 @@
+use Rattle.kex_top.proofs.Completing.{completes, done-as-told}
+use Rattle.kex_top.proofs.call.kex.Goals as goal
+
+pub returns-clause-complete : goal.returns-clause-complete
+returns-clause-complete g c = λ name reach asked good.
+    completes _ _ _ _ _ _ _ good (c.answer-status.ensures.shelf name reach asked) (c.answer-status.ensures.answers name reach asked)
+
+pub returns-clause-headline : goal.returns-clause-headline
+returns-clause-headline g c = λ name reach text input before asked told rest held done.
+    done-as-told _ _ _ _ _ _ text input before told rest held done (c.answer-status.ensures.answers name reach asked)

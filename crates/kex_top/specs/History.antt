@@ -1,0 +1,71 @@
+-- What a worker was fed, and what it has said.
+use Rattle.std.specs.Prelude.{◌≡◌, ◌++◌, ℕ, Bool, false, List, [], Option, Some, None, IsSome}
+use Rattle.std.specs.Io.KnownBytes.{Appends, Keeps}
+use Rattle.kex_ports.specs.Bytes.{AppendsFront}
+use Rattle.kex_top.specs.Answer.{Said}
+use Rattle.kex_pipe.specs.declared.turn.Fate.{Fate}
+use Rattle.kex_pipe.specs.declared.turn.Fate.TheVariants.{On, Stopped}
+use Rattle.kex_top.specs.declared.worker.Report.{Report}
+use Rattle.kex_top.specs.declared.pass.Trouble.{Trouble}
+use Rattle.kex_top.specs.declared.pass.Trouble.TheVariants as trouble
+
+-- The bytes that were fed, whether their end was, and what is said on them.
+pub record Fed : Type 0 where
+  pub bytes : List ℕ
+  pub ended : Bool
+  pub said : Said
+
+-- Nothing before the first call.
+abbrev pub History : Type 0
+History = Option Fed
+
+abbrev pub bytes_of : History → List ℕ
+bytes_of None = []
+bytes_of (Some f) = f.bytes
+
+abbrev pub text_of : History → List ℕ
+text_of None = []
+text_of (Some f) = f.said.text
+
+abbrev pub is_ended : History → Bool
+is_ended None = false
+is_ended (Some f) = f.ended
+
+-- A worker that has stopped has a report, and one that goes on has none.
+abbrev pub IsFateOf : Option Report → Fate → Type 0
+IsFateOf report On = report ≡ None
+IsFateOf report Stopped = IsSome report
+
+module _ (says : List ℕ → Bool → Said → Type 0) where
+  -- The call brings the worker to w, and appends what is said there and wasn't yet.
+  pub record Feeds (stands : History → Type 0) (h : History) (w : List ℕ) (e : Bool) (old new : List ℕ) (fate : Fate) : Type 0 where
+    pub said : Said
+    pub is_said : says w e said
+    pub stands_for : stands (Some (record { bytes = w; ended = e; said = said }))
+    pub added : List ℕ
+    pub whole : said.text ≡ text_of h ++ added
+    pub appended : new ≡ old ++ added
+    pub is_fate : IsFateOf said.report fate
+
+  -- The same, of what a sink holds.
+  pub record Writes (stands : History → Type 0) (h : History) (w : List ℕ) (e : Bool) (old new : Option (List ℕ)) (fate : Fate) : Type 0 where
+    pub said : Said
+    pub is_said : says w e said
+    pub stands_for : stands (Some (record { bytes = w; ended = e; said = said }))
+    pub added : List ℕ
+    pub whole : said.text ≡ text_of h ++ added
+    pub appended : Appends old new added
+    pub is_fate : IsFateOf said.report fate
+
+  -- A front of it.
+  pub record WritesFront (h : History) (w : List ℕ) (e : Bool) (old new : Option (List ℕ)) : Type 0 where
+    pub said : Said
+    pub is_said : says w e said
+    pub added : List ℕ
+    pub whole : said.text ≡ text_of h ++ added
+    pub appended : AppendsFront old new added
+
+  -- Where memory is wanted nothing of the piece is written, and where the sink fails a front of what is said.
+  abbrev pub WritesUpTo : History → List ℕ → Bool → Option (List ℕ) → Option (List ℕ) → Trouble → Type 0
+  WritesUpTo h w e old new trouble.Memory = Keeps old new
+  WritesUpTo h w e old new trouble.Write = WritesFront h w e old new

@@ -1,0 +1,130 @@
+-- What a call of the program leaves, by its answer.
+use Rattle.std.specs.Prelude.{◌≡◌, ◌⊎◌, ◌+◌, ◌-◌, ◌^◌, ◌<◌, ◌≤◌, ℕ, Bool, true, false, List, [], ◌++◌, Option, Some, None, length, min}
+use Rattle.kex_ports.specs.Shelf.{IsTold, IsPast}
+use Rattle.kex_ports.specs.Causes.{Rose}
+use Rattle.kex_model.specs.Programs.{Grammar}
+use Rattle.kex_model.specs.Answers.{Means}
+use Rattle.kex_reader.specs.Terms.{Spells}
+use Rattle.kex_compile.specs.Compiled.{Accepts, IsRefused}
+use Rattle.kex_compile.specs.declared.refusal.CompileRefusal.{CompileRefusal}
+use Rattle.kex_compile.specs.declared.refusal.CompileRefusal.TheVariants as compile
+use Rattle.kex_words.specs.Gains.{Change}
+use Rattle.kex_words.specs.declared.refusals.Place.TheVariants.{Nowhere, Stage}
+use Rattle.kex_words.specs.declared.refusals.Refusal.{Refusal}
+use Rattle.kex_words.specs.declared.refusals.Rule.{Rule}
+use Rattle.kex_words.specs.declared.refusals.Rule.TheVariants.{Later, TooManyPlaces, EmptyLoop, NoText}
+use Rattle.kex_top.specs.Answer.{Said}
+use Rattle.kex_top.specs.Alone.{Answered}
+use Rattle.kex_top.specs.Run.{IsLeft, Ran}
+use Rattle.kex_top.specs.declared.status.Status.{Status}
+use Rattle.kex_top.specs.declared.status.Status.TheVariants.{Done, Rejected, Usage, Refused, ReadFault, WriteFault, ShelfFault, Memory, TooLong}
+
+-- The most bytes of a program.
+abbrev pub most_text : ℕ
+most_text = 1048576
+
+-- The counts of a shelf before and after a call.
+pub record ShelfChange : Type 0 where
+  pub faults_before : ℕ
+  pub faults_now : ℕ
+  pub breaks_before : ℕ
+  pub breaks_now : ℕ
+
+abbrev pub shelf_change : ℕ → ℕ → ℕ → ℕ → ShelfChange
+shelf_change a b c d = record { faults_before = a; faults_now = b; breaks_before = c; breaks_now = d }
+
+abbrev pub ShelfIsLeft : ShelfChange → Type 0
+ShelfIsLeft s = (s.faults_now ≡ s.faults_before) × (s.breaks_now ≡ s.breaks_before)
+
+-- Breaks rose where the name is known to have a text.
+abbrev pub Broke : Option (Option (List ℕ)) → ShelfChange → Type 0
+Broke None s = s.breaks_before ≤ s.breaks_now
+Broke (Some None) s = s.breaks_now ≡ s.breaks_before
+Broke (Some (Some text)) s = (s.breaks_before ≤ s.breaks_now) × Rose s.breaks_before s.breaks_now
+
+-- The shelf failed exactly where the answer says so.
+abbrev pub ShelfAnswers : Option (Option (List ℕ)) → ShelfChange → Status → Type 0
+ShelfAnswers told s ShelfFault = ((s.faults_before ≤ s.faults_now) × Rose s.faults_before s.faults_now) × Broke told s
+ShelfAnswers told s _ = ShelfIsLeft s
+
+-- The note's rule and place for a rule that a program breaks.
+abbrev pub IsRefusalOf : CompileRefusal → Refusal → Type 0
+IsRefusalOf compile.Later r = r ≡ record { rule = Later; place = Nowhere }
+IsRefusalOf compile.TooManyPlaces r = r ≡ record { rule = TooManyPlaces; place = Stage 1 }
+IsRefusalOf compile.EmptyLoop r = r ≡ record { rule = EmptyLoop; place = Stage 1 }
+IsRefusalOf compile.NoText r = r ≡ record { rule = NoText; place = Stage 1 }
+IsRefusalOf compile.Memory r = ⊥
+
+abbrev pub IsStatusOf : CompileRefusal → Status → Type 0
+IsStatusOf rule Memory = rule ≡ compile.Memory
+IsStatusOf rule (Refused r) = IsRefusalOf rule r
+IsStatusOf rule _ = ⊥
+
+-- A text that is told breaks this rule.
+pub record Breaks (told : Option (Option (List ℕ))) (r : Refusal) : Type 0 where
+  pub text : List ℕ
+  pub is_told : IsTold told text
+  pub rule : CompileRefusal
+  pub is_refused : IsRefused text rule
+  pub is_shown : IsRefusalOf rule r
+
+-- What is told is past the limit, or breaks the rule.
+abbrev pub IsRefusedFor : Option (Option (List ℕ)) → Refusal → Type 0
+IsRefusedFor told r = (IsPast told most_text × (r ≡ record { rule = Later; place = Nowhere })) ⊎ Breaks told r
+
+-- A program that the told text spells ran.
+pub record Runs (limit block : ℕ) (told : Option (Option (List ℕ))) (source sink : Change) (status : Status) : Type 0 where
+  pub text : List ℕ
+  pub is_told : IsTold told text
+  pub program : Grammar
+  pub accepts : Accepts text program
+  pub ran : Ran (Answered program accepts.spells.root limit) block source sink status
+
+abbrev pub Left : Change → Change → Type 0
+Left source sink = IsLeft source × IsLeft sink
+
+-- What each answer says, where the words are in form.
+abbrev pub Answers : ℕ → ℕ → Option (Option (List ℕ)) → Change → Change → Status → Type 0
+Answers limit block told source sink Usage = ⊥
+Answers limit block told source sink ShelfFault = Left source sink
+Answers limit block told source sink (Refused r) = Left source sink × IsRefusedFor told r
+Answers limit block told source sink Memory = Left source sink ⊎ Runs limit block told source sink Memory
+Answers limit block told source sink Done = Runs limit block told source sink Done
+Answers limit block told source sink (Rejected r) = Runs limit block told source sink (Rejected r)
+Answers limit block told source sink (TooLong r) = Runs limit block told source sink (TooLong r)
+Answers limit block told source sink ReadFault = Runs limit block told source sink ReadFault
+Answers limit block told source sink WriteFault = Runs limit block told source sink WriteFault
+
+-- Where they aren't, nothing is touched.
+abbrev pub AnswersNothing : ShelfChange → Change → Change → Status → Type 0
+AnswersNothing shelf source sink Usage = ShelfIsLeft shelf × Left source sink
+AnswersNothing shelf source sink Memory = ShelfIsLeft shelf × Left source sink
+AnswersNothing shelf source sink _ = ⊥
+
+-- A count that didn't rise.
+abbrev pub IsQuiet : ℕ → ℕ → Type 0
+IsQuiet before now = now < min (before + 1) (2 ^ 64 - 1)
+
+-- The program breaks no rule, the whole input parses within the limit, and no count rose.
+pub record IsGood (limit : ℕ) (told : Option (Option (List ℕ))) (shelf : ShelfChange) (source sink : Change) : Type 0 where
+  pub text : List ℕ
+  pub input : List ℕ
+  pub is_told : told ≡ Some (Some text)
+  pub short : length text ≤ most_text
+  pub unbroken : (rule : CompileRefusal) → IsRefused text rule → rule ≡ compile.Memory
+  pub rest : source.old ≡ Some input
+  pub parses : (P : Grammar) (s : Spells text P) → (said : Said) × Answered P s.root limit input true said × (said.report ≡ None)
+  pub on_shelf : IsQuiet shelf.breaks_before shelf.breaks_now
+  pub readable : IsQuiet source.before source.now
+  pub writable : IsQuiet sink.before sink.now
+
+-- With all told: the source was read to its end, and the sink holds what it held and then exactly the meaning of the greedy
+-- parse of the input by a program that the text spells.
+pub record Headline (text : List ℕ) (limit : ℕ) (input before : List ℕ) (rest held : Option (List ℕ)) : Type 0 where
+  pub program : Grammar
+  pub accepts : Accepts text program
+  pub meant : List ℕ
+  pub means : Means program accepts.spells.root input meant
+  pub within : length input ≤ limit
+  pub written : held ≡ Some (before ++ meant)
+  pub read : rest ≡ Some []

@@ -1,0 +1,74 @@
+// What a call of the program answers.
+
+ghost use Rattle.std.specs.Prelude.{◌≡◌};
+ghost use Rattle.kex_top.specs.Status.{is_end, note_of, number_of};
+
+use crate::worker::Report;
+use kex_pipe::turn::Why;
+use kex_words::{Note, Refusal};
+
+/// What a call answers. A report names the last stage that rejects, and the byte.
+#[derive(Clone, Copy, Debug, PartialEq, Eq)]
+pub enum Status {
+    Done,
+    Rejected(Report),
+    Usage,
+    Refused(Refusal),
+    ReadFault,
+    WriteFault,
+    ShelfFault,
+    Memory,
+    TooLong(Report),
+}
+
+impl Status {
+    /// The number with which the program ends.
+    pub fn number(&self) -> u8
+        ensures { result ≡ number_of self.now }
+    {
+        match self {
+            Status::Done => 0,
+            Status::Rejected(_) => 1,
+            Status::Usage => 2,
+            Status::Refused(_) => 3,
+            Status::ReadFault => 4,
+            Status::WriteFault => 5,
+            Status::ShelfFault => 6,
+            Status::Memory => 7,
+            Status::TooLong(_) => 8,
+        }
+    }
+
+    // What is told of it.
+    pub(crate) fn note(&self) -> Note
+        ensures { result ≡ note_of self.now }
+    {
+        match self {
+            Status::Done => Note::Nothing,
+            Status::Rejected(report) => Note::Rejected {
+                stage: report.stage,
+                at: report.at,
+                at_end: is_end(report.why),
+            },
+            Status::Usage => Note::Usage,
+            Status::Refused(refusal) => Note::Refused(*refusal),
+            Status::ReadFault => Note::ReadFault,
+            Status::WriteFault => Note::WriteFault,
+            Status::ShelfFault => Note::ShelfFault,
+            Status::Memory => Note::Memory,
+            Status::TooLong(report) => Note::TooLong {
+                stage: report.stage,
+                at: report.at,
+            },
+        }
+    }
+}
+
+fn is_end(why: Why) -> bool
+    ensures { result ≡ is_end why }
+{
+    match why {
+        Why::End => true,
+        Why::Byte | Why::Limit => false,
+    }
+}

@@ -1,0 +1,112 @@
+// The loop from a source through a worker into a sink.
+ghost use Rattle.std.specs.Prelude.{◌≡◌, ◌<◌, ◌≤◌, ◌^◌, ℕ, None, length};
+ghost use Rattle.kex_words.specs.Gains.{change};
+ghost use Rattle.kex_top.specs.Run.{Pumped, Ran, status_of, status_after, is_whole};
+
+use crate::pass::{Trouble, pass, pass_end};
+use crate::status::Status;
+use crate::worker::{Report, Worker};
+use kex_pipe::turn::{Fate, Why};
+use kex_ports::{Failed, Sink, Source};
+use std::alloc::Global;
+
+// The status of a run that was worked off.
+fn status_of(report: Option<Report>) -> Status
+    ensures { result ≡ status_of report }
+{
+    match report {
+        None => Status::Done,
+        Some(report) => match report.why {
+            Why::Byte | Why::End => Status::Rejected(report),
+            Why::Limit => Status::TooLong(report),
+        },
+    }
+}
+
+fn status_after(trouble: Trouble) -> Status
+    ensures { result ≡ status_after trouble }
+{
+    match trouble {
+        Trouble::Memory => Status::Memory,
+        Trouble::Write => Status::WriteFault,
+    }
+}
+
+/// Reads blocks until the end of input, a fault or a report, and writes what the worker says of each.
+pub(crate) fn pump<T: Worker, S: Source, K: Sink>(
+    worker: &mut T,
+    block: &mut [u8],
+    out: &mut Vec<u8>,
+    input: &mut S,
+    output: &mut K,
+) -> Status
+    requires fresh { T.stands worker.old None }
+    requires limit { T.limit (T.plan worker.old) ≤ 2 ^ 48 }
+    requires block { (0 < length block.old) × (length block.old ≤ 2 ^ 20) }
+    ensures { Pumped (T.says (T.plan worker.old)) (length block.old)
+        (change (S.rest input.old) (S.rest input.new) (S.faults input.old) (S.faults input.new))
+        (change (K.held output.old) (K.held output.new) (K.faults output.old) (K.faults output.new)) result }
+{
+    match pass(worker, &[], out, output) {
+        Ok(Fate::On) => {}
+        Ok(Fate::Stopped) => return status_of(worker.report()),
+        Err(trouble) => return status_after(trouble),
+    }
+    let mut total: u64 = 0;
+    'turns: loop {
+        match input.read(block) {
+            Err(Failed) => return Status::ReadFault,
+            Ok(0) => return match pass_end(worker, out, output) {
+                Ok(_) => status_of(worker.report()),
+                Err(trouble) => status_after(trouble),
+            },
+            Ok(count) => {
+                match pass(worker, &block[..count], out, output) {
+                    Ok(Fate::On) => {}
+                    Ok(Fate::Stopped) => return status_of(worker.report()),
+                    Err(trouble) => return status_after(trouble),
+                }
+                total += count as u64;
+            }
+        }
+    }
+}
+
+// All was written that the run had to say.
+fn is_whole(status: Status) -> bool
+    ensures { result ≡ is_whole status }
+{
+    match status {
+        Status::Done | Status::Rejected(_) | Status::TooLong(_) | Status::ReadFault => true,
+        _ => false,
+    }
+}
+
+/// Runs a new worker over a source into a sink, by blocks of at most so many bytes.
+pub(crate) fn run<T: Worker, S: Source, K: Sink>(
+    alloc: Global,
+    worker: &mut T,
+    block: usize,
+    input: &mut S,
+    output: &mut K,
+) -> Status
+    requires fresh { T.stands worker.old None }
+    requires limit { T.limit (T.plan worker.old) ≤ 2 ^ 48 }
+    requires block { (0 < block) × (block ≤ 2 ^ 20) }
+    ensures { Ran (T.says (T.plan worker.old)) block
+        (change (S.rest input.old) (S.rest input.new) (S.faults input.old) (S.faults input.new))
+        (change (K.held output.old) (K.held output.new) (K.faults output.old) (K.faults output.new)) result }
+{
+    let Ok(mut buffer) = vec![in alloc; 0u8; block] else {
+        return Status::Memory;
+    };
+    let mut out = Vec::new(alloc);
+    let status = pump(worker, &mut buffer, &mut out, input, output);
+    if !is_whole(status) {
+        return status;
+    }
+    match output.finish() {
+        Ok(()) => status,
+        Err(Failed) => Status::WriteFault,
+    }
+}

@@ -1,0 +1,61 @@
+// What reads a stream of bytes and says a text.
+ghost use Rattle.std.specs.Prelude.{◌≡◌, ◌++◌, ◌<◌, Bool, true, false, List, ℕ, Option, Some, IsSome, IfOk, length};
+ghost use Rattle.kex_ports.specs.Bytes.{IsPrefix};
+
+use kex_code::memory::Memory;
+use kex_pipe::turn::{Fate, Why};
+
+/// A stage that stops, the byte at which it does, and why.
+#[derive(Clone, Copy, Debug, PartialEq, Eq)]
+pub struct Report {
+    pub stage: u32,
+    pub at: u64,
+    pub why: Why,
+}
+
+/// Answers bytes, open or ended, piece by piece. What it says of them is a relation, of which at most one answer holds.
+pub(crate) trait Worker {
+    ghost use Rattle.kex_top.specs.Answer.{Said};
+    ghost use Rattle.kex_top.specs.History.{History, Fed, bytes_of, is_ended, Feeds};
+    ghost use Rattle.kex_top.specs.declared.worker.Report.{Report};
+
+    /// What it works by, which no call changes.
+    ghost Plan: { Type 0 };
+
+    ghost plan: { Self → Plan };
+
+    /// What is said on bytes, open or, at true, ended.
+    ghost says: { Plan → List ℕ → Bool → Said → Type 0 };
+
+    /// It was fed this.
+    ghost stands: { Self → History → Type 0 };
+
+    /// The most bytes that it takes.
+    ghost limit: { Plan → ℕ };
+
+    fn feed(&mut self, piece: &[u8], out: &mut Vec<u8>) -> Result<Fate, Memory>
+        requires { (h : History) × stands self.old h }
+        ensures same { plan self.new ≡ plan self.old }
+        ensures feeds { IfOk result (λ fate. (h : History) → stands self.old h → is_ended h ≡ false
+            → Feeds (says (plan self.old)) (stands self.new) h (bytes_of h ++ piece.now) false out.old.items out.new.items fate) };
+
+    fn end(&mut self, out: &mut Vec<u8>) -> Result<Fate, Memory>
+        requires { (h : History) × stands self.old h }
+        ensures same { plan self.new ≡ plan self.old }
+        ensures feeds { IfOk result (λ fate. (h : History) → stands self.old h → is_ended h ≡ false
+            → Feeds (says (plan self.old)) (stands self.new) h (bytes_of h) true out.old.items out.new.items fate) };
+
+    fn report(&self) -> Option<Report>
+        ensures { (f : Fed) → stands self.now (Some f) → result ≡ f.said.report };
+
+    ghost one: { (p : Plan) (w : List ℕ) (e : Bool) (a b : Said) → says p w e a → says p w e b → a ≡ b };
+
+    /// The text on open input is a front of the text on each continuation.
+    ghost grows: { (p : Plan) (w x : List ℕ) (e : Bool) (a b : Said) → says p w false a → says p (w ++ x) e b → IsPrefix a.text b.text };
+
+    /// A report on open input stands, with its text.
+    ghost stays: { (p : Plan) (w x : List ℕ) (e : Bool) (a b : Said) → says p w false a → says p (w ++ x) e b → IsSome a.report → b ≡ a };
+
+    /// Past the limit there is a report.
+    ghost ends: { (p : Plan) (w : List ℕ) (a : Said) → says p w false a → limit p < length w → IsSome a.report };
+}
