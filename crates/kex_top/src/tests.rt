@@ -1,0 +1,217 @@
+//! The call over objects in memory.
+use crate::{Report, Status, kex};
+use kex_pipe::turn::Why;
+use kex_ports::{MemShelf, MemSink, MemSource, NeverFailsSink, OpenGate};
+use kex_words::{Place, Refusal, Rule};
+use std::alloc::{AllocError, Global};
+use std::test::Fail;
+use std::thread::Threads;
+
+#[derive(Drop)]
+struct Case {
+    words: &'static [&'static str],
+    program: &'static [u8],
+    input: &'static [u8],
+    most_read: usize,
+    failing_reads: &'static [u64],
+    most_written: usize,
+    failing_writes: &'static [u64],
+    held: &'static [u8],
+    status: Status,
+    notes: &'static [u8],
+}
+
+const PLAIN: Case = Case {
+    words: &["kex", "run", "p"],
+    program: b"main := /a*/",
+    input: b"",
+    most_read: 65_536,
+    failing_reads: &[],
+    most_written: 65_536,
+    failing_writes: &[],
+    held: b"",
+    status: Status::Done,
+    notes: b"",
+};
+
+fn words_of(alloc: Global, words: &[&str]) -> Result<Vec<String>, AllocError> {
+    let mut all = Vec::new(alloc);
+    for word in words {
+        all.push(String::from_str(alloc, word)?)?;
+    }
+    Ok(all)
+}
+
+fn holds<R: Threads + Sync>(rt: &R, alloc: Global, case: &Case) -> Result<bool, Fail> {
+    let words = words_of(alloc, case.words)?;
+    let mut shelf = MemShelf::new(alloc, Vec::new(alloc));
+    shelf.put("p", case.program)?;
+    let mut input = MemSource::new(
+        case.input.to_vec(alloc)?,
+        case.most_read.max(1),
+        case.failing_reads.to_vec(alloc)?,
+    );
+    let mut output = MemSink::new(
+        alloc,
+        256,
+        case.most_written.max(1),
+        case.failing_writes.to_vec(alloc)?,
+    )?;
+    let mut notes = MemSink::new(alloc, 256, 256, Vec::new(alloc))?;
+    let status = kex(
+        rt,
+        alloc,
+        words.as_slice(),
+        &mut shelf,
+        &mut input,
+        &mut output,
+        &mut notes,
+        &OpenGate,
+    );
+    Ok(status == case.status && output.bytes() == case.held && notes.bytes() == case.notes)
+}
+
+fn rejected(at: u64, why: Why) -> Status {
+    Status::Rejected(Report { stage: 1, at, why })
+}
+
+#[test]
+fn inputs_are_transformed_or_rejected(rt: HostRuntime) -> Result<(), Fail> {
+    let cases = [
+        Case {
+            program: b"main := /a*b/ \"!\"",
+            input: b"aab",
+            held: b"aab!",
+            ..PLAIN
+        },
+        Case {
+            words: &["kex", "run", "p", "--block=1"],
+            program: b"main := \"<\" /a*/ \">\" /b/",
+            input: b"aab",
+            held: b"<aa>b",
+            ..PLAIN
+        },
+        Case {
+            program: b"main := \"hi\" /a/",
+            held: b"hi",
+            status: rejected(0, Why::End),
+            notes: b"rejected: stage 1 at byte 0 (end)\n",
+            ..PLAIN
+        },
+        Case {
+            program: b"main := /ab*c/",
+            input: b"abx",
+            most_read: 1,
+            held: b"ab",
+            status: rejected(2, Why::Byte),
+            notes: b"rejected: stage 1 at byte 2\n",
+            ..PLAIN
+        },
+        Case {
+            program: b"main := /ab*c/",
+            input: b"ab",
+            held: b"ab",
+            status: rejected(2, Why::End),
+            notes: b"rejected: stage 1 at byte 2 (end)\n",
+            ..PLAIN
+        },
+        Case {
+            words: &["kex", "run", "p", "--max-input", "3"],
+            input: b"aaaa",
+            held: b"aaa",
+            status: Status::TooLong(Report {
+                stage: 1,
+                at: 3,
+                why: Why::Limit,
+            }),
+            notes: b"too long: stage 1 at byte 3\n",
+            ..PLAIN
+        },
+    ];
+    for case in &cases {
+        assert!(&rt; holds(&rt, rt.alloc(), case)?);
+    }
+    Ok(())
+}
+
+#[test]
+fn faults_are_told_by_their_causes(rt: HostRuntime) -> Result<(), Fail> {
+    let cases = [
+        Case {
+            words: &["kex", "run", "p", "--block=1"],
+            input: b"aaa",
+            failing_writes: &[2],
+            held: b"a",
+            status: Status::WriteFault,
+            notes: b"write fault\n",
+            ..PLAIN
+        },
+        Case {
+            input: b"aaa",
+            failing_reads: &[2],
+            held: b"aaa",
+            status: Status::ReadFault,
+            notes: b"read fault\n",
+            ..PLAIN
+        },
+        Case {
+            input: b"aaa",
+            most_written: 2,
+            failing_writes: &[2],
+            held: b"aa",
+            status: Status::WriteFault,
+            notes: b"write fault\n",
+            ..PLAIN
+        },
+        // The call that fails is the one to finish.
+        Case {
+            input: b"aa!",
+            failing_writes: &[2],
+            held: b"aa",
+            status: Status::WriteFault,
+            notes: b"write fault\n",
+            ..PLAIN
+        },
+        Case {
+            words: &["kex", "run", "q"],
+            status: Status::ShelfFault,
+            notes: b"shelf fault\n",
+            ..PLAIN
+        },
+        Case {
+            program: b"main := /a/ 1",
+            input: b"a",
+            status: Status::Refused(Refusal {
+                rule: Rule::Later,
+                place: Place::Nowhere,
+            }),
+            notes: b"refused: K99 Later\n",
+            ..PLAIN
+        },
+    ];
+    for case in &cases {
+        assert!(&rt; holds(&rt, rt.alloc(), case)?);
+    }
+    Ok(())
+}
+
+#[test]
+fn faulty_words_touch_nothing(rt: HostRuntime) -> Result<(), Fail> {
+    let alloc = rt.alloc();
+    let words = words_of(alloc, &["kex", "run"])?;
+    let mut shelf = MemShelf::new(alloc, Vec::new(alloc));
+    let mut input = MemSource::new(b"a".to_vec(alloc)?, 1, Vec::new(alloc));
+    let mut output = MemSink::new(alloc, 16, 16, Vec::new(alloc))?;
+    let status = kex(
+        &rt,
+        alloc,
+        words.as_slice(),
+        &mut shelf,
+        &mut input,
+        &mut output,
+        &mut NeverFailsSink,
+        &OpenGate,
+    );
+    assert!(rt; status == Status::Usage && output.bytes() == b"".as_slice());
+    Ok(())
+}
