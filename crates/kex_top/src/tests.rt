@@ -18,6 +18,7 @@ struct Case {
     failing_writes: &'static [u64],
     held: &'static [u8],
     status: Status,
+    failing_notes: &'static [u64],
     notes: &'static [u8],
 }
 
@@ -31,6 +32,7 @@ const PLAIN: Case = Case {
     failing_writes: &[],
     held: b"",
     status: Status::Done,
+    failing_notes: &[],
     notes: b"",
 };
 
@@ -57,7 +59,7 @@ fn holds<R: Threads + Sync>(rt: &R, alloc: Global, case: &Case) -> Result<bool, 
         case.most_written.max(1),
         case.failing_writes.to_vec(alloc)?,
     )?;
-    let mut notes = MemSink::new(alloc, 256, 256, Vec::new(alloc))?;
+    let mut notes = MemSink::new(alloc, 256, 256, case.failing_notes.to_vec(alloc)?)?;
     let status = kex(
         rt,
         alloc,
@@ -74,6 +76,25 @@ fn holds<R: Threads + Sync>(rt: &R, alloc: Global, case: &Case) -> Result<bool, 
 fn rejected(at: u64, why: Why) -> Status {
     Status::Rejected(Report { stage: 1, at, why })
 }
+
+const PAST_LIMIT: Status = Status::TooLong(Report {
+    stage: 1,
+    at: 3,
+    why: Why::Limit,
+});
+
+const BREAKS: Case = Case {
+    program: b"main := /ab*c/",
+    input: b"abx",
+    held: b"ab",
+    status: Status::Rejected(Report {
+        stage: 1,
+        at: 2,
+        why: Why::Byte,
+    }),
+    notes: b"rejected: stage 1 at byte 2\n",
+    ..PLAIN
+};
 
 #[test]
 fn inputs_are_transformed_or_rejected(rt: HostRuntime) -> Result<(), Fail> {
@@ -98,14 +119,18 @@ fn inputs_are_transformed_or_rejected(rt: HostRuntime) -> Result<(), Fail> {
             notes: b"rejected: stage 1 at byte 0 (end)\n",
             ..PLAIN
         },
+        BREAKS,
         Case {
-            program: b"main := /ab*c/",
-            input: b"abx",
+            words: &["kex", "run", "p", "--block", "1"],
+            ..BREAKS
+        },
+        Case {
+            words: &["kex", "run", "--block", "3", "p"],
+            ..BREAKS
+        },
+        Case {
             most_read: 1,
-            held: b"ab",
-            status: rejected(2, Why::Byte),
-            notes: b"rejected: stage 1 at byte 2\n",
-            ..PLAIN
+            ..BREAKS
         },
         Case {
             program: b"main := /ab*c/",
@@ -119,12 +144,22 @@ fn inputs_are_transformed_or_rejected(rt: HostRuntime) -> Result<(), Fail> {
             words: &["kex", "run", "p", "--max-input", "3"],
             input: b"aaaa",
             held: b"aaa",
-            status: Status::TooLong(Report {
-                stage: 1,
-                at: 3,
-                why: Why::Limit,
-            }),
+            status: PAST_LIMIT,
             notes: b"too long: stage 1 at byte 3\n",
+            ..PLAIN
+        },
+        Case {
+            words: &["kex", "run", "p", "--max-input", "3"],
+            input: b"aaaq",
+            held: b"aaa",
+            status: PAST_LIMIT,
+            notes: b"too long: stage 1 at byte 3\n",
+            ..PLAIN
+        },
+        Case {
+            words: &["kex", "run", "p", "--max-input", "3"],
+            input: b"aaa",
+            held: b"aaa",
             ..PLAIN
         },
     ];
@@ -171,6 +206,23 @@ fn faults_are_told_by_their_causes(rt: HostRuntime) -> Result<(), Fail> {
             status: Status::WriteFault,
             notes: b"write fault\n",
             ..PLAIN
+        },
+        // It stops before the read that fails.
+        Case {
+            failing_reads: &[2],
+            ..BREAKS
+        },
+        Case {
+            failing_writes: &[1],
+            held: b"",
+            status: Status::WriteFault,
+            notes: b"write fault\n",
+            ..BREAKS
+        },
+        Case {
+            failing_notes: &[1],
+            notes: b"",
+            ..BREAKS
         },
         Case {
             words: &["kex", "run", "q"],
