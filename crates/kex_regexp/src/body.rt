@@ -19,7 +19,7 @@ use kex_model::builder::Builder;
 use std::alloc::Global;
 
 /// The regex that is left, where nothing stands open.
-#[tactic(auto, using(crate::proofs::Stacks::adding))]
+#[tactic(auto, using(crate::proofs::Adding::adding))]
 fn end(frames: &mut Vec<Frame>, into: &mut Builder, at: u32) -> Result<u32, StepFault>
     requires { SomeFrames into.old frames.old.items at }
     ensures adds { Adds into.old into.new }
@@ -36,7 +36,7 @@ fn end(frames: &mut Vec<Frame>, into: &mut Builder, at: u32) -> Result<u32, Step
 }
 
 /// The node of the body, where it may end.
-#[tactic(auto, using(crate::proofs::Stacks::adding))]
+#[tactic(auto, using(crate::proofs::Adding::adding))]
 fn finish(
     frames: &mut Vec<Frame>,
     into: &mut Builder,

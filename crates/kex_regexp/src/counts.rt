@@ -1,7 +1,7 @@
 // Counts in braces. A count above 1,000 is held as 1,001.
 
 ghost use Rattle.std.specs.Prelude.{◌≡◌, ◌≤◌};
-ghost use Rattle.kex_regexp.specs.Held.{held_count, held_digit};
+ghost use Rattle.kex_regexp.specs.Held.{held_bad_turns, held_count, held_digit};
 ghost use Rattle.kex_regexp.specs.Notes.{held_bad};
 
 use crate::bytes::is_digit;

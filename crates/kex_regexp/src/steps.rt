@@ -30,7 +30,7 @@ pub fn push(frames: &mut Vec<Frame>, frame: Frame) -> Result<(), StepFault>
 }
 
 /// A class of its own for an item that begins here.
-#[tactic(auto, using(crate::proofs::Stacks::adding))]
+#[tactic(auto, using(crate::proofs::Adding::adding))]
 fn leaf(into: &mut Builder, set: ByteSet, at: u32) -> Result<Wait, StepFault>
     ensures adds { Adds into.old into.new }
     ensures ok { IfOk result (λ w. (n : ℕ) × (w ≡ Wait.After (record { node = n; at = at })) × ((test : ℕ → Bool) → HasExactly set test → IsClass into.new n test at)) }
@@ -47,7 +47,7 @@ fn leaf(into: &mut Builder, set: ByteSet, at: u32) -> Result<Wait, StepFault>
 }
 
 /// A bar.
-#[tactic(auto, using(crate::proofs::Stacks::adding))]
+#[tactic(auto, using(crate::proofs::Adding::adding))]
 fn bar(frames: &mut Vec<Frame>, into: &mut Builder, at: u32) -> Result<Wait, StepFault>
     requires { SomeFrames into.old frames.old.items at }
     ensures adds { Adds into.old into.new }
@@ -67,7 +67,7 @@ fn bar(frames: &mut Vec<Frame>, into: &mut Builder, at: u32) -> Result<Wait, Ste
 }
 
 /// A parenthesis that closes.
-#[tactic(auto, using(crate::proofs::Stacks::adding))]
+#[tactic(auto, using(crate::proofs::Adding::adding))]
 fn close(frames: &mut Vec<Frame>, into: &mut Builder, at: u32) -> Result<Wait, StepFault>
     requires { SomeFrames into.old frames.old.items at }
     ensures adds { Adds into.old into.new }
@@ -86,7 +86,7 @@ fn close(frames: &mut Vec<Frame>, into: &mut Builder, at: u32) -> Result<Wait, S
 }
 
 /// A byte where a piece may begin.
-#[tactic(auto, using(crate::proofs::Stacks::adding))]
+#[tactic(auto, using(crate::proofs::Adding::adding))]
 fn begin(frames: &mut Vec<Frame>, into: &mut Builder, at: u32, byte: u8) -> Result<Wait, StepFault>
     requires { SomeFrames into.old frames.old.items at }
     ensures adds { Adds into.old into.new }
@@ -123,7 +123,7 @@ fn begin(frames: &mut Vec<Frame>, into: &mut Builder, at: u32, byte: u8) -> Resu
 }
 
 /// The node of an item that takes so many turns; the item itself, where the count is bad.
-#[tactic(auto, using(crate::proofs::Stacks::adding))]
+#[tactic(auto, using(crate::proofs::Adding::adding))]
 fn repeated(into: &mut Builder, item: Placed, low: u32, high: Option<u32>) -> Result<u32, Memory>
     requires { item.node < length into.old }
     ensures adds { Adds into.old into.new }
@@ -143,7 +143,7 @@ fn repeated(into: &mut Builder, item: Placed, low: u32, high: Option<u32>) -> Re
 }
 
 /// A piece with a postfix. Where the count is bad the body is refused in the end, and the item stands alone until then.
-#[tactic(auto, using(crate::proofs::Stacks::adding))]
+#[tactic(auto, using(crate::proofs::Adding::adding))]
 fn turns(
     frames: &mut Vec<Frame>,
     into: &mut Builder,
@@ -166,7 +166,7 @@ fn turns(
 }
 
 /// A byte behind an item.
-#[tactic(auto, using(crate::proofs::Stacks::adding))]
+#[tactic(auto, using(crate::proofs::Adding::adding))]
 fn behind(
     frames: &mut Vec<Frame>,
     into: &mut Builder,
@@ -203,7 +203,7 @@ fn behind(
 }
 
 /// What comes of a set by a byte.
-#[tactic(auto, using(crate::proofs::Stacks::adding))]
+#[tactic(auto, using(crate::proofs::Adding::adding))]
 fn on_set(
     outcome: SetOutcome,
     set: &SetSoFar,
@@ -230,7 +230,7 @@ fn on_set(
 }
 
 /// What comes of an escape by a byte.
-#[tactic(auto, using(crate::proofs::Stacks::adding))]
+#[tactic(auto, using(crate::proofs::Adding::adding))]
 fn on_escape(outcome: EscapeOutcome, into: &mut Builder, from: u32) -> Result<Wait, StepFault>
     ensures adds { Adds into.old into.new }
     ensures step { (base : ℕ) (fs : List Frame) (es : List Entry) (t : EscapeStep) → FramesShow into.old base (reverse fs) es → from ≡ base + length (entries es) → ShowsEscape outcome t → Steps into.new base fs result (spec_on_escape es t) }
@@ -243,7 +243,7 @@ fn on_escape(outcome: EscapeOutcome, into: &mut Builder, from: u32) -> Result<Wa
 }
 
 /// What comes of a count by a byte.
-#[tactic(auto, using(crate::proofs::Stacks::adding))]
+#[tactic(auto, using(crate::proofs::Adding::adding))]
 fn on_count(
     outcome: CountOutcome,
     frames: &mut Vec<Frame>,
@@ -263,7 +263,7 @@ fn on_count(
 }
 
 /// A byte, in whatever it is waited for. What it ends of a set was taken in before.
-#[tactic(auto, using(crate::proofs::Stacks::adding))]
+#[tactic(auto, using(crate::proofs::Adding::adding))]
 pub fn step(
     frames: &mut Vec<Frame>,
     into: &mut Builder,
