@@ -1,2 +1,10 @@
 pub mod Adding
+pub mod Sound
+pub mod Complete
+pub mod Viable
+pub mod Wrong
+pub mod Refine
+pub mod Counted
 pub mod Stacks
+pub mod Stepping
+pub mod Bounds

@@ -7,7 +7,7 @@ use Rattle.kex_model.specs.declared.program.Node.{Node}
 use Rattle.kex_regexp.specs.declared.frames.Frame.{Frame}
 use Rattle.kex_regexp.specs.declared.frames.Frame.TheVariants as frames
 use Rattle.kex_regexp.specs.declared.frames.Placed.{Placed}
-use Rattle.kex_regexp.specs.Grammar.{Regex, Last, Or, Branch, Empty, Then, Piece, Once, Turns, Item, Plain, Escaped, Dot, Set, Group, regex, branch, piece, item}
+use Rattle.kex_regexp.specs.Grammar.{Regex, Last, Or, Branch, Empty, Then, Piece, Once, Turns, Item, Plain, Escaped, Dot, Set, Group, Postfix, regex, branch, piece, item}
 use Rattle.kex_regexp.specs.Breaks.{is_bad_count}
 use Rattle.kex_regexp.specs.Shown.{IsNode, Adds}
 use Rattle.kex_regexp.specs.Machine.{Entry, Mark, Ended, Read, entries, entry, take_pieces, take_branches, take_regex}
@@ -62,6 +62,10 @@ FramesShow-more a b base (frames.Piece n at ∷ fs) (Mark ∷ es) k h = absurd h
 FramesShow-more a b base (frames.Piece n at ∷ fs) (Ended c ∷ es) k h = absurd h
 FramesShow-more a b base (frames.Piece n at ∷ fs) (Read p ∷ es) k h = (h.0, HoldsPiece-more p a b n at k h.1, FramesShow-more a b base fs es k h.2)
 
+-- a node that was added has the number that there was room for
+pub at_number : (nodes more : List Node) (x : Node) (n : ℕ) → n ≡ length nodes → more ≡ nodes ++ x ∷ [] → slice_get more n ≡ Some x
+at_number nodes more x n ne me = ap (slice_get more) ne ∙ ap (λ (y : List Node). slice_get y (length nodes)) me ∙ added nodes x
+
 -- ---- what a frame on top shows
 
 pub record PieceOn (nodes : List Node) (base : ℕ) (n at : ℕ) (fs : List Frame) (es : List Entry) : Type 0 where
@@ -115,7 +119,7 @@ unfolding take_pieces HoldsBranch entries entry
 further_piece nodes more base old new part front n t e ne me s =
     let p = piece_on nodes base front.node front.at (reverse new) s.rest (subst (λ (x : List Frame). FramesShow nodes base x s.rest) (reverse_push old new (frames.Piece front.node front.at) e) s.below) in
     let k : Adds nodes more = Adds-to nodes more _ _ me tt in
-    let here : IsNode more n (kinds.Seq front.node part.node) front.at = ap (slice_get more) ne ∙ ap (λ (x : List Node). slice_get x (length nodes)) me ∙ added nodes _ in
+    let here : IsNode more n (kinds.Seq front.node part.node) front.at = at_number nodes more _ n ne me in
     let at : front.at + length (Rattle.kex_regexp.specs.Grammar.piece p.piece) ≡ part.at = omega (arith, p.place, s.at, ap (λ (x : List Entry). length (entries x)) p.is, length-append (entries p.rest) (Rattle.kex_regexp.specs.Grammar.piece p.piece)) in
     record {
       rest = p.rest;
@@ -137,7 +141,7 @@ pub branch_empty : (nodes more : List Node) (base : ℕ) (old fs : List Frame) (
 unfolding HoldsBranch
 branch_empty nodes more base old fs es n at e none_on ne me h a =
     let k : Adds nodes more = Adds-to nodes more _ _ me tt in
-    let here : IsNode more n kinds.One at = ap (slice_get more) ne ∙ ap (λ (x : List Node). slice_get x (length nodes)) me ∙ added nodes _ in
+    let here : IsNode more n kinds.One at = at_number nodes more _ n ne me in
     subst (λ (x : Branch × List Entry). BranchOn more base fs (record { node = n; at = at }) x) (sym (no_pieces nodes base (reverse old) es Empty none_on h))
     (record { at = a; shows = here; below = subst (λ (x : List Frame). FramesShow more base (reverse x) es) (sym e) (FramesShow-more nodes more base (reverse old) es k h) })
 
@@ -185,7 +189,7 @@ unfolding take_branches HoldsRegex entries entry
 further_branch nodes more base old new part front n t e ne me s =
     let p = ended_on nodes base front.node front.at (reverse new) s.rest (subst (λ (x : List Frame). FramesShow nodes base x s.rest) (reverse_push old new (frames.Ended front.node front.at) e) s.below) in
     let k : Adds nodes more = Adds-to nodes more _ _ me tt in
-    let here : IsNode more n (kinds.Alt front.node part.node) front.at = ap (slice_get more) ne ∙ ap (λ (x : List Node). slice_get x (length nodes)) me ∙ added nodes _ in
+    let here : IsNode more n (kinds.Alt front.node part.node) front.at = at_number nodes more _ n ne me in
     let at : front.at + length (Rattle.kex_regexp.specs.Grammar.branch p.branch) + 1 ≡ part.at = omega (arith, p.place, s.place, ap (λ (x : List Entry). length (entries x)) p.is, length-append (entries p.rest) (Rattle.kex_regexp.specs.Grammar.branch p.branch ++ 124 ∷ []), length-append (Rattle.kex_regexp.specs.Grammar.branch p.branch) (124 ∷ [])) in
     record {
       rest = p.rest;

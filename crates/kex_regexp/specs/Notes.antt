@@ -1,13 +1,14 @@
 -- The breaks of what the machine holds, and what one more byte adds to them; what the code notes of breaks and depth.
-use Rattle.std.specs.Prelude.{ℕ, suc, ◌+◌, ◌-◌, Bool, true, false, not, ◌&&◌, ◌||◌, List, [], ◌∷◌, ◌++◌, length, Option, Some, None, nat_lt, ◌==◌, if◌then◌else◌}
+use Rattle.std.specs.Prelude.{ℕ, suc, ◌+◌, ◌-◌, Bool, true, false, not, ◌&&◌, ◌||◌, List, [], ◌∷◌, ◌++◌, length, Option, Some, None, ◌==◌, if◌then◌else◌}
 use Rattle.kex_byteset.specs.Sets.{has}
-use Rattle.kex_regexp.specs.declared.counts.Count.{Count}
-use Rattle.kex_regexp.specs.declared.counts.Count.TheVariants as counts
+use Rattle.kex_regexp.specs.declared.counts.CountOutcome.{CountOutcome}
+use Rattle.kex_regexp.specs.declared.counts.CountOutcome.TheVariants as outcomes
 use Rattle.kex_regexp.specs.declared.sets.SetSoFar.{SetSoFar}
 use Rattle.kex_regexp.specs.declared.wait.Wait.{Wait}
 use Rattle.kex_regexp.specs.declared.wait.Wait.TheVariants as waits
 use Rattle.kex_regexp.specs.Breaks.{Break, BadCount, BadSet, OverLimit, when, is_bad_count, is_bad_set, branch_breaks, piece_breaks, item_breaks, comes_before}
 use Rattle.kex_regexp.specs.Grammar.{Item, item}
+use Rattle.kex_regexp.specs.Held.{held_bad_turns, held_count}
 use Rattle.kex_regexp.specs.Values.{any_below, flipped}
 use Rattle.kex_regexp.specs.Machine.{Entry, Mark, Ended, Read, Mode, Ready, After, InEscape, InSet, InCount, State, SetStep, SetOn, SetRead, SetWrong, set_step, CountStep, CountOn, CountRead, CountWrong, count_step, entries}
 
@@ -72,14 +73,6 @@ noted_in at depth (InCount i c) b = count_noted (at + length (item i)) (count_st
 
 -- ---- what the code notes
 
-unfoldable pub held_bad : Count → Bool
-held_bad counts.Opened = false
-held_bad (counts.Low v) = nat_lt 1000 v
-held_bad (counts.LowComma v) = nat_lt 1000 v
-held_bad (counts.LowHigh v w) = nat_lt 1000 v || nat_lt 1000 w || nat_lt w v
-held_bad counts.OnlyComma = false
-held_bad (counts.High w) = nat_lt 1000 w
-
 abbrev pub is_after : Wait → Bool
 is_after (waits.After part) = true
 is_after _ = false
@@ -90,12 +83,17 @@ held_bad_set set negated = set.backward || not (any_below 256 (λ b. flipped neg
 unfoldable pub held_opens : ℕ → ℕ → ℕ → Option Break
 held_opens depth at b = if (b == 40) && (depth == 200) then Some (OverLimit at) else None
 
+unfoldable pub held_ends_count : CountOutcome → ℕ → Option Break
+held_ends_count (outcomes.On c) brace = None
+held_ends_count (outcomes.Read l h) brace = if held_bad_turns l h then Some (BadCount brace) else None
+held_ends_count outcomes.Wrong brace = None
+
 unfoldable pub held_noted : Wait → Wait → SetSoFar → ℕ → ℕ → ℕ → Option Break
 held_noted waits.Ready next set depth at b = held_opens depth at b
 held_noted (waits.After part) next set depth at b = held_opens depth at b
 held_noted (waits.InEscape e from) next set depth at b = None
 held_noted (waits.InSet negated empty part from) next set depth at b = if is_after next && held_bad_set set negated then Some (BadSet from) else None
-held_noted (waits.InCount part count brace) next set depth at b = if (b == 125) && held_bad count then Some (BadCount brace) else None
+held_noted (waits.InCount part count brace) next set depth at b = held_ends_count (held_count count b) brace
 
 unfoldable pub depth_after : ℕ → ℕ → ℕ
 depth_after depth b = if b == 40 then depth + 1 else if b == 41 then depth - 1 else depth

@@ -2,7 +2,6 @@
 
 ghost use Rattle.std.specs.Prelude.{◌≡◌, ◌≤◌};
 ghost use Rattle.kex_regexp.specs.Held.{held_bad_turns, held_count, held_digit};
-ghost use Rattle.kex_regexp.specs.Notes.{held_bad};
 
 use crate::bytes::is_digit;
 
@@ -117,26 +116,11 @@ pub fn in_count(count: Count, byte: u8) -> CountOutcome
 
 /// Whether counts of turns break the rule of counts.
 #[tactic(auto, unfolding(crate::specs::Held::held_bad_turns))]
-pub fn is_bad(low: u32, high: Option<u32>) -> bool
+pub fn is_bad_count(low: u32, high: Option<u32>) -> bool
     ensures { result ≡ held_bad_turns low high }
 {
     match high {
         None => low > MAX_COUNT,
         Some(high) => low > MAX_COUNT || high > MAX_COUNT || high < low,
-    }
-}
-
-/// Whether a count, which ends here, breaks the rule of counts.
-#[tactic(auto, unfolding(crate::specs::Notes::held_bad))]
-pub fn is_bad_count(count: Count) -> bool
-    ensures { result ≡ held_bad count }
-{
-    match count {
-        Count::Opened => false,
-        Count::Low(low) => low > MAX_COUNT,
-        Count::LowComma(low) => low > MAX_COUNT,
-        Count::LowHigh { low, high } => low > MAX_COUNT || high > MAX_COUNT || high < low,
-        Count::OnlyComma => false,
-        Count::High(high) => high > MAX_COUNT,
     }
 }

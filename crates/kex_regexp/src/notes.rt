@@ -1,10 +1,10 @@
 // What a byte breaks, and how deep it leaves the place.
 
 ghost use Rattle.std.specs.Prelude.{◌≡◌, ◌+◌, ◌<◌, ◌^◌};
-ghost use Rattle.kex_regexp.specs.Notes.{depth_after, held_depth, held_noted, held_opens};
+ghost use Rattle.kex_regexp.specs.Notes.{depth_after, held_depth, held_ends_count, held_noted, held_opens};
 
 use crate::breaks::Break;
-use crate::counts::is_bad_count;
+use crate::counts::{CountOutcome, in_count, is_bad_count};
 use crate::sets::SetSoFar;
 use crate::wait::Wait;
 
@@ -20,6 +20,24 @@ fn opens(depth: u64, at: u32, byte: u8) -> Option<Break>
         Some(Break::OverLimit { at })
     } else {
         None
+    }
+}
+
+// A count that ends, and breaks its rule.
+#[tactic(auto, unfolding(crate::specs::Notes::held_ends_count))]
+fn ends_count(outcome: CountOutcome, brace: u32) -> Option<Break>
+    ensures { result ≡ held_ends_count outcome brace }
+{
+    match outcome {
+        CountOutcome::On(_) => None,
+        CountOutcome::Read { low, high } => {
+            if is_bad_count(low, high) {
+                Some(Break::BadCount { at: brace })
+            } else {
+                None
+            }
+        }
+        CountOutcome::Wrong => None,
     }
 }
 
@@ -39,13 +57,7 @@ pub fn noted(wait: Wait, next: Wait, set: &SetSoFar, depth: u64, at: u32, byte: 
                 None
             }
         }
-        Wait::InCount { count, brace, .. } => {
-            if byte == b'}' && is_bad_count(count) {
-                Some(Break::BadCount { at: brace })
-            } else {
-                None
-            }
-        }
+        Wait::InCount { count, brace, .. } => ends_count(in_count(count, byte), brace),
     }
 }
 

@@ -1,15 +1,14 @@
 // One byte more.
 
-ghost use Rattle.std.specs.Prelude.{◌≡◌, ℕ, ◌+◌, ◌<◌, Bool, List, [], ◌∷◌, ◌++◌, length, reverse, OnOk, IfOk, IfErr};
-ghost use Rattle.kex_byteset.specs.Sets.{HasExactly};
+ghost use Rattle.std.specs.Prelude.{◌≡◌, ℕ, ◌+◌, ◌<◌, List, [], ◌∷◌, ◌++◌, length, reverse, OnOk, IfOk, IfErr};
 ghost use Rattle.kex_regexp.specs.Grammar.{Item, Postfix, Empty, Turns, item as spelled_item};
 ghost use Rattle.kex_regexp.specs.Holding.{FramesShow, HoldsItem, IsSetAfter, IsTurns, ShowsCountStep, ShowsEscape, ShowsSet, SomeBehind, SomeFrames, SomeItem, SomeState, StandsFor, Steps, capped, capped_option};
 ghost use Rattle.kex_regexp.specs.Machine.{EscapeStep, SetStep, CountStep, Entry, Read, Ready, State, entries, spelled, goes, take_pieces, take_regex, begin_piece, after_item, end_branch, close as close_parenthesis, on_escape as spec_on_escape, on_set as spec_on_set, on_count as spec_on_count, step as spec_step};
-ghost use Rattle.kex_regexp.specs.Shown.{Adds, IsClass};
+ghost use Rattle.kex_regexp.specs.Shown.{Adds, IsNode};
 ghost use Rattle.kex_regexp.specs.Values.{low as low_of, high as high_of};
 
 use crate::bytes::is_plain;
-use crate::counts::{Count, CountOutcome, in_count, is_bad};
+use crate::counts::{Count, CountOutcome, in_count, is_bad_count};
 use crate::escapes::{EscapeOutcome, Escaping, escape};
 use crate::frames::{Frame, Placed, close_branch, close_regex, take_mark};
 use crate::sets::{SetOutcome, SetPart, SetSoFar, in_set};
@@ -33,7 +32,7 @@ pub fn push(frames: &mut Vec<Frame>, frame: Frame) -> Result<(), StepFault>
 #[tactic(auto, using(crate::proofs::Adding::adding))]
 fn leaf(into: &mut Builder, set: ByteSet, at: u32) -> Result<Wait, StepFault>
     ensures adds { Adds into.old into.new }
-    ensures ok { IfOk result (λ w. (n : ℕ) × (w ≡ Wait.After (record { node = n; at = at })) × ((test : ℕ → Bool) → HasExactly set test → IsClass into.new n test at)) }
+    ensures ok { IfOk result (λ w. (n : ℕ) × (w ≡ Wait.After (record { node = n; at = at })) × IsNode into.new n (Kind.Class set) at) }
     ensures err { IfErr result (λ e. e ≡ StepFault.Memory) }
 {
     let class = Node {
@@ -129,17 +128,18 @@ fn repeated(into: &mut Builder, item: Placed, low: u32, high: Option<u32>) -> Re
     ensures adds { Adds into.old into.new }
     ensures turns { IfOk result (λ n. (p : Postfix) → low ≡ capped (low_of p) → high ≡ capped_option (high_of p) → IsTurns p into.new n item.node item.at) }
 {
-    if is_bad(low, high) {
+    if is_bad_count(low, high) {
         return Ok(item.node);
     }
-    into.add(Node {
+    let node = into.add(Node {
         kind: Kind::Rep {
             body: item.node,
             min: low,
             max: high,
         },
         at: item.at,
-    })
+    })?;
+    Ok(node)
 }
 
 /// A piece with a postfix. Where the count is bad the body is refused in the end, and the item stands alone until then.
