@@ -7,4 +7,5 @@ pub mod Refine
 pub mod Counted
 pub mod Stacks
 pub mod Stepping
+pub mod Members
 pub mod Bounds

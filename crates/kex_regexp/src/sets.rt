@@ -1,6 +1,6 @@
 // Sets between brackets: where the next byte stands, and which bytes are in the set so far.
 
-ghost use Rattle.std.specs.Prelude.{◌≡◌, ◌&&◌, ◌||◌, ℕ, List, Option, false, not, nat_le, nat_lt, IfSome, IfNone};
+ghost use Rattle.std.specs.Prelude.{◌≡◌, ◌&&◌, ◌||◌, ℕ, Bool, List, Option, false, not, nat_le, nat_lt, IfSome, IfNone};
 ghost use Rattle.kex_byteset.specs.Sets.{HasExactly, has};
 ghost use Rattle.kex_model.specs.declared.program.Node.{Node};
 ghost use Rattle.kex_regexp.specs.Notes.{held_bad_set};
@@ -231,7 +231,7 @@ impl SetSoFar {
 
     // Adds the bytes of a member.
     fn add(&mut self, member: Span)
-        ensures bytes { HasExactly self.new.bytes (λ b. has self.old.bytes b || (nat_le member.first b && nat_le b member.last)) }
+        ensures bytes { (test : ℕ → Bool) → HasExactly self.old.bytes test → HasExactly self.new.bytes (λ b. test b || (nat_le member.first b && nat_le b member.last)) }
         ensures backward { self.new.backward ≡ (self.old.backward || nat_lt member.last member.first) }
     {
         if member.first == member.last {
