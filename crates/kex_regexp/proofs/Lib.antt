@@ -8,4 +8,10 @@ pub mod Counted
 pub mod Stacks
 pub mod Stepping
 pub mod Members
+pub mod Broken
+pub mod Noting
+pub mod Whole
+pub mod Exact
+pub mod Least
+pub mod Answered
 pub mod Bounds

@@ -162,6 +162,42 @@ step_members n ms (HasDash first) b = by_both (λ (x : List Member) (t : SetStep
 step_members n ms (InFirst e) b = with_none ms _ (first_members n ms (escape_step e b))
 step_members n ms (InLast first e) b = last_members n ms first (escape_step e b)
 
+-- a set that is read is negated where it was before
+unfoldable pub NegatedIs : Bool → SetStep → Type 0
+NegatedIs k (SetOn n ms p) = Unit {0}
+NegatedIs k (SetRead n ms) = n ≡ k
+NegatedIs k SetWrong = Unit {0}
+
+pub begin_negated : (n : Bool) (ms : List Member) (b : ℕ) → NegatedIs n (begin_member n ms b)
+unfolding begin_member NegatedIs
+begin_negated n ms b = by_test (NegatedIs n) (is_end b) _ _ (λ _. tt) (λ _. by_test (NegatedIs n) (b == 92) _ _ (λ _. tt) (λ _. tt))
+
+pub between_negated : (n : Bool) (ms : List Member) (b : ℕ) → NegatedIs n (between_step n ms b)
+unfolding between_step NegatedIs
+between_negated n [] b = begin_negated n [] b
+between_negated n (m ∷ ms) b = by_test (NegatedIs n) (b == 93) _ _ (λ _. refl) (λ _. begin_negated n (m ∷ ms) b)
+
+pub first_negated : (n : Bool) (ms : List Member) (t : EscapeStep) → NegatedIs n (in_first n ms t)
+unfolding in_first NegatedIs
+first_negated n ms (EscapeOn e) = tt
+first_negated n ms (EscapeRead e) = tt
+first_negated n ms EscapeWrong = tt
+
+pub last_negated : (n : Bool) (ms : List Member) (first : End) (t : EscapeStep) → NegatedIs n (in_last n ms first t)
+unfolding in_last NegatedIs
+last_negated n ms first (EscapeOn e) = tt
+last_negated n ms first (EscapeRead e) = tt
+last_negated n ms first EscapeWrong = tt
+
+pub step_negated : (n : Bool) (ms : List Member) (q : Part) (b : ℕ) → NegatedIs n (set_step n ms q b)
+unfolding set_step NegatedIs
+step_negated n ms AtStart b = by_test (NegatedIs n) (b == 94) _ _ (λ _. tt) (λ _. between_negated n ms b)
+step_negated n ms Between b = between_negated n ms b
+step_negated n ms (HasEnd end) b = by_test (NegatedIs n) (b == 45) _ _ (λ _. tt) (λ _. between_negated n (ms ++ Single end ∷ []) b)
+step_negated n ms (HasDash first) b = by_test (NegatedIs n) (is_end b) _ _ (λ _. tt) (λ _. by_test (NegatedIs n) (b == 92) _ _ (λ _. tt) (λ _. tt))
+step_negated n ms (InFirst e) b = first_negated n ms (escape_step e b)
+step_negated n ms (InLast first e) b = last_negated n ms first (escape_step e b)
+
 pub set_after : (set : SetSoFar) (w : List Member) (es : List Entry) (t : SetStep) → HasMembers set w → MembersAre w t → IsSetAfter set (on_set es t)
 unfolding on_set IsSetIn MembersAre
 set_after set w es (SetOn n ms p) h e = subst (HasMembers set) (sym e) h

@@ -66,6 +66,7 @@ fn finish(
 }
 
 /// Reads a body, which begins at the offset `at` of the text, under `depth` open marks, and gives the number of its node.
+#[tactic(auto, using(crate::proofs::Adding::adding))]
 pub fn regex(
     alloc: Global,
     bytes: &[u8],
