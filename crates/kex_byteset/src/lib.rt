@@ -67,7 +67,7 @@ impl ByteSet {
     pub fn insert(&mut self, byte: u8)
         ensures { HasExactly self.new (λ b. has self.old b || b == byte) }
     {
-        self.flags[byte as usize] = true;
+        self.flags[usize::from(byte)] = true;
     }
 
     /// The bytes that are in one of the two sets, or in both.

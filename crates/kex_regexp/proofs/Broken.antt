@@ -1,12 +1,11 @@
 -- What the entries break stays what it is when they become a branch, a regex, a group.
-use Rattle.std.proofs.Common.{Option, Some, None, cond, ◌≡◌, ℕ, suc, ◌+◌, Bool, true, false, List, [], ◌∷◌, ◌++◌, length, refl, sym, ap, ◌∙◌, subst, append_assoc, length-append, arith}
-use Rattle.std.specs.Prelude.{◌==◌, nat_lt}
+use Rattle.std.proofs.Common.{Option, Some, None, ◌≡◌, ℕ, suc, ◌+◌, Bool, true, false, List, [], ◌∷◌, ◌++◌, length, refl, sym, ap, ◌∙◌, subst, append_assoc, length-append, arith}
+use Rattle.std.specs.Prelude.{◌==◌}
 use Rattle.std.proofs.lemmas.List.{append-nil}
 use Rattle.std.proofs.lemmas.Bool.{eqb-true}
-use Rattle.kex_regexp.specs.Grammar.{is_end, End, Itself, EscapedEnd, Member, Single, Range, is_plain, Postfix, Star, Plus, Quest, Plain, Escaped, Dot, Set, Regex, Last, Or, Branch, Empty, Then, Once, Turns, Item, Group, branch, piece, item}
-use Rattle.kex_regexp.specs.Values.{end_byte}
-use Rattle.kex_regexp.specs.Breaks.{Break, BadCount, BadSet, OverLimit, when, regex_breaks, branch_breaks, piece_breaks, item_breaks, is_bad_count}
-use Rattle.kex_regexp.specs.Machine.{Part as SpecPart, Between, HasEnd, HasDash, InFirst, InLast, begin_member, between_step, in_first, in_last, Entry, Mark, Ended, Read, entries, entry, take_pieces, take_branches, take_regex, Begun, EscapeStep, EscapeOn, EscapeRead, EscapeWrong, escape_step, AtStart, SetStep, SetOn, SetRead, SetWrong, set_step, Opened, CountStep, CountOn, CountRead, CountWrong, count_step, Mode, Ready, After, InEscape, InSet, InCount, State, goes, close, end_branch, begin_piece, after_item, on_escape, on_set, on_count, step_in}
+use Rattle.kex_regexp.specs.Grammar.{is_plain, Postfix, Star, Plus, Quest, Plain, Escaped, Dot, Set, Regex, Last, Or, Branch, Empty, Then, Once, Turns, Item, Group, branch, piece, item}
+use Rattle.kex_regexp.specs.Breaks.{Break, BadCount, OverLimit, when, regex_breaks, branch_breaks, piece_breaks, item_breaks, is_bad_count}
+use Rattle.kex_regexp.specs.Machine.{Entry, Mark, Ended, Read, entries, entry, take_pieces, take_branches, take_regex, Begun, EscapeStep, EscapeOn, EscapeRead, EscapeWrong, escape_step, AtStart, SetStep, SetOn, SetRead, SetWrong, set_step, Opened, CountStep, CountOn, CountRead, CountWrong, count_step, Mode, Ready, After, InEscape, InSet, InCount, State, goes, close, end_branch, begin_piece, after_item, on_escape, on_set, on_count, step_in}
 use Rattle.kex_regexp.specs.Notes.{marks, entry_breaks, entries_breaks, mode_breaks, state_breaks, opens, set_noted, count_noted, noted_in}
 use Rattle.kex_regexp.proofs.Sound.{by_test}
 use Rattle.kex_regexp.proofs.Complete.{apart, cond_yes, cond_no}

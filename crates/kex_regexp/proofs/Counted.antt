@@ -1,6 +1,6 @@
 -- Counts that are held up to 1001 break their rule as the counts themselves do.
-use Rattle.std.proofs.Common.{◌≡◌, ℕ, ◌||◌, ◌≤◌, List, Bool, true, false, Option, Some, None, nat_lt, refl, sym, ap, ◌∙◌, subst, arith}
-use Rattle.std.specs.Prelude.{MatchBool, min, slice_get}
+use Rattle.std.proofs.Common.{◌≡◌, ℕ, ◌||◌, ◌≤◌, List, Bool, true, false, Option, Some, None, nat_lt, refl, ap, ◌∙◌, subst, arith}
+use Rattle.std.specs.Prelude.{MatchBool, min}
 use Rattle.std.proofs.lemmas.Bool.Decides.{nat_tests}
 use Rattle.kex_model.specs.declared.program.Kind.TheVariants as kinds
 use Rattle.kex_model.specs.declared.program.Node.{Node}

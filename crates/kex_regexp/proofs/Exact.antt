@@ -2,7 +2,7 @@
 use Rattle.std.proofs.Common.{◌≡◌, ℕ, ◌+◌, Bool, true, false, List, [], ◌∷◌, ◌++◌, length, refl}
 use Rattle.std.specs.Prelude.{MatchBool, ◌==◌}
 use Rattle.kex_model.specs.declared.program.Node.{Node}
-use Rattle.kex_regexp.specs.Grammar.{Regex, Last, Or, Branch, Empty, Then, Piece, Once, Turns, Item, Plain, Escaped, Dot, Set, Group, Postfix, branch, piece, item}
+use Rattle.kex_regexp.specs.Grammar.{Regex, Last, Or, Branch, Empty, Then, Piece, Once, Turns, Item, Plain, Escaped, Dot, Set, Group, branch, piece, item}
 use Rattle.kex_regexp.specs.Breaks.{Break, BadCount, OverLimit, when, is_bad_count, regex_breaks, branch_breaks, piece_breaks, item_breaks}
 use Rattle.kex_regexp.specs.Shown.{ShowsRegex, ShowsBranch, ShowsPiece, ShowsItem}
 use Rattle.kex_regexp.specs.Holding.{HoldsRegex, HoldsBranch, HoldsPiece, HoldsItem}

@@ -1,13 +1,12 @@
 -- The least of some breaks, and which breaks a body has.
-use Rattle.std.proofs.Common.{◌≡◌, ℕ, ◌+◌, ◌<◌, Bool, true, false, List, [], ◌∷◌, ◌++◌, length, Option, Some, None, ◌⊎◌, inl, inr, nat_lt, if◌then◌else◌, refl, sym, ap, ◌∙◌, subst, arith}
+use Rattle.std.proofs.Common.{◌≡◌, ℕ, ◌+◌, Bool, true, false, List, [], ◌∷◌, ◌++◌, length, Option, Some, None, ◌⊎◌, inl, inr, nat_lt, if◌then◌else◌, refl, sym, ◌∙◌, subst, arith}
 use Rattle.std.specs.Prelude.{◌==◌}
 use Rattle.std.proofs.lemmas.Bool.Decides.{nat_tests}
 use Rattle.kex_code.specs.Codes.{IsAmong}
 use Rattle.kex_model.proofs.Shapes.{among-append}
 use Rattle.kex_regexp.specs.Grammar.{Regex, Last, Or, Branch, Empty, Then, Piece, Once, Turns, Item, Plain, Escaped, Dot, Set, Group, branch, piece, item}
 use Rattle.kex_regexp.specs.Breaks.{Break, BadRegex, BadCount, BadSet, OverLimit, IsLeast, comes_before, is_bad_count, is_bad_set, offset, rank, when, regex_breaks, branch_breaks, piece_breaks, item_breaks}
-use Rattle.kex_regexp.specs.Notes.{least_from, lesser}
-use Rattle.kex_regexp.proofs.Sound.{by_test}
+use Rattle.kex_regexp.specs.Notes.{least_from}
 
 -- ---- an order of pairs of numbers
 

@@ -1,5 +1,5 @@
 -- The members of a set, and the bytes that are held of them.
-use Rattle.std.proofs.Common.{◌≡◌, ℕ, zero, suc, ◌+◌, ◌<◌, ◌≤◌, ◌==◌, ◌&&◌, ◌||◌, Bool, true, false, not, nat_le, nat_lt, List, [], ◌∷◌, ◌++◌, length, take, get_or, Option, Some, None, refl, sym, ap, ◌∙◌, subst, add-one, arith}
+use Rattle.std.proofs.Common.{◌≡◌, ℕ, zero, suc, ◌<◌, ◌≤◌, ◌==◌, ◌&&◌, ◌||◌, Bool, true, false, not, nat_le, nat_lt, List, [], ◌∷◌, ◌++◌, take, get_or, Option, Some, None, refl, sym, ap, ◌∙◌, subst, add-one, arith}
 use Rattle.std.specs.List.{list_any}
 use Rattle.std.proofs.Math.Bool.{or_assoc}
 use Rattle.std.proofs.lemmas.Bool.Decides.{nat_tests}
@@ -16,10 +16,10 @@ use Rattle.kex_regexp.specs.declared.sets.SetSoFar.{SetSoFar}
 use Rattle.kex_regexp.specs.declared.sets.Span.{Span}
 use Rattle.kex_regexp.specs.declared.wait.Wait.{Wait}
 use Rattle.kex_regexp.specs.declared.wait.Wait.TheVariants as waits
-use Rattle.kex_regexp.specs.Grammar.{is_end, is_plain, Regex, Branch, Empty, Item, Once, End, Itself, EscapedEnd, Member, Single, Range, Plain, Dot, Set, Group}
-use Rattle.kex_regexp.specs.Values.{any_below, end_byte, escaped_byte, flipped, has_backward, in_member, in_members, in_set, is_backward}
+use Rattle.kex_regexp.specs.Grammar.{is_end, is_plain, Regex, Item, Once, End, Itself, EscapedEnd, Member, Single, Range}
+use Rattle.kex_regexp.specs.Values.{any_below, end_byte, flipped, has_backward, in_member, in_members, in_set, is_backward}
 use Rattle.kex_regexp.specs.Breaks.{is_bad_set}
-use Rattle.kex_regexp.specs.Machine.{ended, ended_last, begin_member, between_step, in_first, in_last, set_step, escape_step, on_escape, on_set, on_count, count_step, begin_piece, after_item, end_branch, close, take_pieces, take_regex, step_in, goes, Entry, Mark, Ended, Read, EscapeStep, EscapeOn, EscapeRead, EscapeWrong, CountStep, CountOn, CountRead, CountWrong, SetStep, SetOn, SetRead, SetWrong, Escaping, Begun, Part, AtStart, Between, HasEnd, HasDash, InFirst, InLast, Mode, Ready, After, InEscape, InSet, InCount, State}
+use Rattle.kex_regexp.specs.Machine.{ended, ended_last, begin_member, between_step, in_first, in_last, set_step, escape_step, on_escape, on_set, on_count, count_step, begin_piece, after_item, end_branch, close, take_regex, step_in, Entry, Mark, Ended, Read, EscapeStep, EscapeOn, EscapeRead, EscapeWrong, CountStep, CountOn, CountRead, CountWrong, SetStep, SetOn, SetRead, SetWrong, Escaping, Part, AtStart, Between, HasEnd, HasDash, InFirst, InLast, Mode, Ready, After, InEscape, InSet, InCount}
 use Rattle.kex_regexp.specs.Holding.{HasMembers, IsSetAfter, IsSetIn, ShowsEscape, ShowsMode, ShowsPart}
 use Rattle.kex_regexp.specs.Held.{held_ended, held_escape, held_last_span}
 use Rattle.kex_regexp.specs.Notes.{held_bad_set}

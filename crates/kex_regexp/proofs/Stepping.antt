@@ -1,6 +1,6 @@
 -- What each step leaves shows what the machine makes.
 use Rattle.std.proofs.Common.{◌≡◌, Bool, true, false, ℕ, length-append, ◌+◌, List, [], ◌∷◌, ◌++◌, length, Option, Some, None, Result, Ok, Err, refl, sym, ap, ◌∙◌, subst, arith}
-use Rattle.std.specs.Prelude.{reverse, slice_get, IfOk, IfErr, ◌==◌, not}
+use Rattle.std.specs.Prelude.{reverse, IfOk, IfErr, ◌==◌, not}
 use Rattle.std.proofs.lemmas.Bool.{ne_eqb}
 use Rattle.kex_byteset.specs.Sets.{HasExactly, has}
 use Rattle.kex_byteset.proofs.Flags.{in_words}

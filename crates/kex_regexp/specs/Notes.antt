@@ -7,7 +7,7 @@ use Rattle.kex_regexp.specs.declared.sets.SetSoFar.{SetSoFar}
 use Rattle.kex_regexp.specs.declared.wait.Wait.{Wait}
 use Rattle.kex_regexp.specs.declared.wait.Wait.TheVariants as waits
 use Rattle.kex_regexp.specs.Breaks.{Break, BadCount, BadSet, OverLimit, when, is_bad_count, is_bad_set, branch_breaks, piece_breaks, item_breaks, comes_before}
-use Rattle.kex_regexp.specs.Grammar.{Item, item}
+use Rattle.kex_regexp.specs.Grammar.{item}
 use Rattle.kex_regexp.specs.Held.{held_bad_turns, held_count}
 use Rattle.kex_regexp.specs.Values.{any_below, flipped}
 use Rattle.kex_regexp.specs.Machine.{Entry, Mark, Ended, Read, Mode, Ready, After, InEscape, InSet, InCount, State, SetStep, SetOn, SetRead, SetWrong, set_step, CountStep, CountOn, CountRead, CountWrong, count_step, entries}

@@ -1,4 +1,3 @@
-use Rattle.std.proofs.Common.{arith}
 use Rattle.kex_byteset.proofs.Flags.{none_between}
 use Rattle.kex_byteset.proofs.ByteSet.range.Goals as goal
 

@@ -4,8 +4,6 @@ use Rattle.kex_regexp.specs.Holding.{IsSetIn, StandsFor}
 use Rattle.kex_regexp.specs.Machine.{State, reads, start}
 use Rattle.kex_regexp.specs.Notes.{least_from, marks, state_breaks}
 use Rattle.kex_regexp.specs.Shown.{Adds}
-use Rattle.kex_regexp.proofs.Noting.{turn_least}
-use Rattle.kex_regexp.proofs.Whole.{steps_ok}
 use Rattle.kex_regexp.proofs.body.regex.Given as goal
 
 abbrev pub invariant-loop-byte : goal.invariant-loop-byte
