@@ -19,3 +19,5 @@ pub mod Counting
 pub mod Making
 pub mod Exploring
 pub mod Examples
+pub mod Pipelines
+pub mod Reports

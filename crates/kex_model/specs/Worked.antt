@@ -1,5 +1,5 @@
 -- Worked examples: small grammars, and what the definitions come to on them. A text is the list of its bytes.
-use Rattle.std.specs.Prelude.{◌≡◌, ℕ, Bool, true, false, List, [], ◌∷◌, Option, Some, None, map, replicate, slice_set}
+use Rattle.std.specs.Prelude.{◌≡◌, ℕ, Bool, true, false, List, [], ◌∷◌, Some, None, map, replicate, slice_set}
 use Rattle.kex_code.specs.declared.symbol.Symbol.TheVariants.{L, R, Byte}
 use Rattle.kex_code.specs.declared.piece.Piece.TheVariants.{Lit as Said, Register}
 use Rattle.kex_code.specs.Codes.{Before}
@@ -12,8 +12,8 @@ use Rattle.kex_model.specs.Labelled.{place, parts}
 use Rattle.kex_model.specs.Trees.{Tree, leaf, byte, pair, chose_left, chose_right, inner, turn, done, Parses, kind_at, meaning, part}
 use Rattle.kex_model.specs.Places.{moves, start_of}
 use Rattle.kex_model.specs.Survivors.{Agreed, HasShape}
-use Rattle.kex_model.specs.Answers.{empty, code_at, HasParse, GreedyParse, Means, Says, at_byte, at_end, at_limit, stopped, Pipeline, Report}
-use Rattle.kex_model.specs.Laws.{StageAnswers}
+use Rattle.kex_model.specs.Answers.{empty, code_at, HasParse, GreedyParse, Means, Says, at_byte, at_end, at_limit, stopped}
+use Rattle.kex_model.specs.Laws.{StageAnswers, StagesAnswer}
 
 -- the set of these bytes
 abbrev pub set_of : List ℕ → List Bool
@@ -176,10 +176,7 @@ pub record ShapeForks : Type 0 where
 abbrev pub two_stages : Grammar
 two_stages = grammar 0 (Class (set_of (120 ∷ [])) ∷ Mute 0 ∷ Lit (121 ∷ 121 ∷ []) ∷ Seq 1 2 ∷ Rep 3 0 None ∷ Class (set_of (121 ∷ [])) ∷ Class (set_of (121 ∷ [])) ∷ Class (set_of (121 ∷ [])) ∷ Seq 6 7 ∷ Seq 5 8 ∷ Mute 9 ∷ Lit (122 ∷ []) ∷ Seq 10 11 ∷ Rep 12 0 None ∷ Class (set_of (121 ∷ [])) ∷ [])
 
-abbrev pub OfStages : List ℕ → List ℕ → Bool → List ℕ → Option Report → Type 0
-OfStages roots w ended text report = Pipeline (λ root v e a. StageAnswers two_stages root 99 v e a) 1 roots w ended text report
-
 -- on `xxq` stage 1 stops at byte 2, and stage 2 works off `yyyy` as open input; where stage 2 stops too, it is the one that is reported
 pub record LastStopIsReported : Type 0 where
-  pub first_stops : OfStages (4 ∷ 13 ∷ []) (120 ∷ 120 ∷ 113 ∷ []) true (122 ∷ []) (Some (record { stage = 1; stop = record { at = 2; why = at_byte } }))
-  pub both_stop : OfStages (4 ∷ 14 ∷ []) (120 ∷ 120 ∷ 113 ∷ []) true (121 ∷ []) (Some (record { stage = 2; stop = record { at = 1; why = at_byte } }))
+  pub first_stops : StagesAnswer two_stages 99 (4 ∷ 13 ∷ []) (120 ∷ 120 ∷ 113 ∷ []) true (122 ∷ []) (Some (record { stage = 1; stop = record { at = 2; why = at_byte } }))
+  pub both_stop : StagesAnswer two_stages 99 (4 ∷ 14 ∷ []) (120 ∷ 120 ∷ 113 ∷ []) true (121 ∷ []) (Some (record { stage = 2; stop = record { at = 1; why = at_byte } }))
