@@ -21,7 +21,7 @@ use Rattle.kex_rules.specs.Tables.{first_root, HasRoots, IsLeast, lower, CallsUn
 use Rattle.kex_rules.proofs.Ways.{find_among}
 use Rattle.kex_rules.proofs.Marks.{number_front, number_of, same_or_not}
 
-among-cases : {A : Type 0} (xs : List A) (x z : A) → IsAmong (xs ++ x ∷ []) z → IsAmong xs z ⊎ (x ≡ z)
+pub among-cases : {A : Type 0} (xs : List A) (x z : A) → IsAmong (xs ++ x ∷ []) z → IsAmong xs z ⊎ (x ≡ z)
 among-cases [] x z (inl e) = inr e
 among-cases [] x z (inr i) = absurd i
 among-cases (y ∷ xs) x z (inl e) = inl (inl e)
