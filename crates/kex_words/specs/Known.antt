@@ -38,5 +38,4 @@ pub record ReadsWords : Type 0 where
   pub help : AreUsage (codes "help" ∷ [])
   pub help_of_run : AreUsage (codes "run" ∷ codes "--help" ∷ [])
   pub version : AreUsage (codes "--version" ∷ [])
-  pub check : AreUsage (codes "check" ∷ codes "p" ∷ [])
   pub extra_word : AreUsage (codes "run" ∷ codes "p" ∷ codes "q" ∷ [])

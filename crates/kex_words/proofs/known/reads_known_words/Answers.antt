@@ -10,7 +10,6 @@ known = record {
   run = refl;
   run_options = refl;
   options_first = refl;
-  check = refl;
   empty_name = refl;
   behind_dashes = refl;
   no_words = refl;
