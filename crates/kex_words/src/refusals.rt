@@ -21,7 +21,7 @@ pub enum Rule {
     NoText,
     OneStage,
     TooManyStates,
-    /// The program needs what isn't built yet.
+    /// The program needs what isn't built yet. This goes once every program runs.
     Later,
 }
 
