@@ -18,7 +18,7 @@ mod writing;
 
 pub use asked::{Command, Limits, WordsRefusal};
 pub use counts::{Counts, write_counts};
-pub use known::reads_known_words;
+pub use known::{asks_by_subcommand, reads_known_words};
 pub use notes::{Note, tell};
 pub use reading::read;
 pub use refusals::{Place, Refusal, Rule};

@@ -1,7 +1,7 @@
 //! Words and what they ask for; notes, counts and their lines.
 use crate::{
-    Command, Counts, Limits, Note, Place, Refusal, Rule, WordsRefusal, read, reads_known_words,
-    tell, write_all, write_counts,
+    Command, Counts, Limits, Note, Place, Refusal, Rule, WordsRefusal, asks_by_subcommand, read,
+    reads_known_words, tell, write_all, write_counts,
 };
 use kex_ports::MemSink;
 use std::alloc::{AllocError, Global};
@@ -58,6 +58,7 @@ fn words_are_read(rt: HostRuntime) -> Result<(), Fail> {
         ("kex check -- run", Command::Check { program: "run" }),
     ];
     reads_known_words();
+    asks_by_subcommand();
     for (line, want) in &cases {
         let words = words_of(rt.alloc(), line)?;
         assert!(rt;
