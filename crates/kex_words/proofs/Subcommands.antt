@@ -13,10 +13,12 @@ use Rattle.kex_words.specs.Form.{kex_app}
 use Rattle.kex_words.specs.Words.{Asked, asked_in, asked_of}
 use Rattle.kex_words.specs.Subcommands.{AsksBySubcommand}
 
+-- Where neither of two steps has a fault, the second has none.
 last-empty : (a b : Kinds) → or_else a b ≡ [] → b ≡ []
 last-empty [] b e = e
 last-empty (k ∷ ks) b e = let bad : k ∷ ks ≡ [] = e in cc
 
+-- A missing subcommand that is wanted is a fault.
 no-subcommand : (help wants argument : Bool) → wants ≡ true → check_kinds help wants argument ≡ [] → ⊥
 no-subcommand true wants argument is e = cc
 no-subcommand false true argument is e = cc
@@ -52,6 +54,7 @@ is_some-option_map : {X Y : Type 0} (f : X → Y) (o : Option X) → is_some (op
 is_some-option_map f None = refl
 is_some-option_map f (Some x) = refl
 
+-- the subcommand at this index, as it is built
 abbrev at-of : ℕ → Shape
 at-of i = unwrap_or (slice_get (built kex_app).subs i) kex_app.top
 
@@ -72,6 +75,7 @@ empty-of : (ks : Kinds) → is_empty ks ≡ true → ks ≡ []
 empty-of [] e = refl
 empty-of (k ∷ ks) e = search rules
 
+-- Words that ask for something have no fault, and their subcommand asks for it.
 asked-empty : (words : List Text) (what : Asked) → asked_of words ≡ Some what
     → (fault_of kex_app words ≡ []) × (asked_in (subcommand_of kex_app words) ≡ what)
 unfolding asked_of
