@@ -1,5 +1,5 @@
 -- The same events leave the same seats.
-use Rattle.std.proofs.Common.{◌≡◌, ℕ, zero, suc, Bool, List, [], ◌∷◌, ◌++◌, map, refl, sym, ap, ap₂, subst, ◌∙◌}
+use Rattle.std.proofs.Common.{◌≡◌, ℕ, zero, suc, Bool, true, false, List, [], ◌∷◌, ◌++◌, map, refl, sym, ap, ap₂, subst, ◌∙◌}
 use Rattle.kex_model.specs.Answers.{Answer}
 use Rattle.kex_model.specs.Schedules.{Item, byte, finish, bytes_in, has_end, items_of, Seat, fresh, Event, give, give_end, turn, WroteIf, Turned, After, begun, given, ended, turned}
 use Rattle.kex_pipe.proofs.Schedule.{came-given}

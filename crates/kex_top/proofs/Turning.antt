@@ -47,19 +47,19 @@ module _ {T : Type 0} (t : Ghosts T) (one : (p : t.Plan) (w : List ℕ) (e : Boo
       let y : Seat = more_taken all_items came x in
       let rest : drop (length y.taken) came ≡ [] = left y.taken (drop all_items (waiting b)) came (came-more all_items came (waiting b) x h.0) ∙ drop_all all_items (waiting b) (waits-short b) in
       subst (λ z. Front (suc zero) came (p ∷ ps) z) (sym e) (refl, rest, out, w, tt)
-  front-more (suc i) came (p ∷ ps) (s ∷ ss) (x ∷ xs) ys (b ∷ bs) taken lt h (out, zs, w, tn, e) (turn, none, out', w', f) =
+  front-more (suc i) came (p ∷ ps) (s ∷ ss) (x ∷ xs) ys (b ∷ bs) taken lt h (out, zs, w, tn, e) (had, none, out', w', f) =
       let line : h.1 ≡ out = one-writes t.gives one p x.turned x.taken h.1 out (sits-wrote t p s x h.1 h.2) w in
       let same : out' ≡ out = one-writes t.gives one p x.turned x.taken out' out w' w in
-      subst (λ z. Front (suc (suc i)) came (p ∷ ps) z) (sym e) (turn, none, out, w, front-more i out ps ss xs zs bs taken (omega arith) (subst (λ z. Line t z ps ss xs bs taken) line h.3) tn (subst (λ z. Front i z ps xs) same f))
+      subst (λ z. Front (suc (suc i)) came (p ∷ ps) z) (sym e) (had, none, out, w, front-more i out ps ss xs zs bs taken (omega arith) (subst (λ z. Line t z ps ss xs bs taken) line h.3) tn (subst (λ z. Front i z ps xs) same f))
   front-more i came ps [] xs ys bs taken lt h tn f = absurd (omega arith)
   front-more i came ps ss xs ys bs taken lt h tn f = absurd h
 
   front-all : (i : ℕ) (came : List Item) (ps : List t.Plan) (ss : List (Seated T)) (xs : List Seat) (bs : List Inbox) (taken : List ℕ) → length ss ≤ i → Line t came ps ss xs bs taken → Front i came ps xs → Settled t.gives came ps xs
   front-all i came [] [] [] (b ∷ []) taken le h f = tt
   front-all zero came (p ∷ ps) (s ∷ ss) (x ∷ xs) (b ∷ bs) taken le h f = absurd (omega arith)
-  front-all (suc i) came (p ∷ ps) (s ∷ ss) (x ∷ xs) (b ∷ bs) taken le h (turn, none, out, w, f) =
+  front-all (suc i) came (p ∷ ps) (s ∷ ss) (x ∷ xs) (b ∷ bs) taken le h (had, none, out, w, f) =
       let line : h.1 ≡ out = one-writes t.gives one p x.turned x.taken h.1 out (sits-wrote t p s x h.1 h.2) w in
-      (turn, none, out, w, front-all i out ps ss xs bs taken (omega arith) (subst (λ z. Line t z ps ss xs bs taken) line h.3) f)
+      (had, none, out, w, front-all i out ps ss xs bs taken (omega arith) (subst (λ z. Line t z ps ss xs bs taken) line h.3) f)
   front-all i came ps ss xs bs taken le h f = absurd h
 
   -- the first stages had their turns

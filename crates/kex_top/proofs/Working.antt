@@ -1,5 +1,5 @@
 -- A pipe is a worker.
-use Rattle.std.proofs.Common.{◌≡◌, ℕ, ◌<◌, Bool, true, false, List, [], ◌∷◌, ◌++◌, ◌||◌, Option, Some, None, length, map, refl, sym, ap, ap₂, subst, ◌∙◌, append-nil}
+use Rattle.std.proofs.Common.{◌≡◌, ℕ, ◌<◌, Bool, true, false, List, [], ◌∷◌, ◌++◌, ◌||◌, Option, Some, None, length, map, get_or, zero, suc, arith, refl, sym, ap, ap₂, subst, ◌∙◌, append-nil}
 use Rattle.kex_model.specs.Answers.{Answer, Report, Pipeline}
 use Rattle.kex_model.specs.Schedules.{Item, Seat, has_end, Event, give, give_end, Settled}
 use Rattle.kex_pipe.specs.Events.{bytes_given, end_given}
@@ -37,6 +37,13 @@ module _ {T : Type 0} (t : Ghosts T) where
 
   pub same-plans : (ps : List t.Plan) (pipe : Pipe T t) (h : List Event) (taken : List ℕ) → Stands t ps pipe h taken → plans_of t pipe ≡ ps
   same-plans ps pipe h taken s = line-plans s.came ps pipe.seats.items s.seats pipe.inboxes.items taken s.line
+
+  -- a stage more that wasn't fed
+  pub unfed-more : (xs : List T) (x : T) → ((k : ℕ) (d : T) → k < length xs → t.stands (get_or xs k d) None) → t.stands x None → (k : ℕ) (d : T) → k < length (xs ++ x ∷ []) → t.stands (get_or (xs ++ x ∷ []) k d) None
+  unfed-more [] x unfed h zero d lt = h
+  unfed-more [] x unfed h (suc k) d lt = absurd (omega arith)
+  unfed-more (y ∷ xs) x unfed h zero d lt = unfed zero d (omega arith)
+  unfed-more (y ∷ xs) x unfed h (suc k) d lt = unfed-more xs x (λ n c less. unfed (suc n) c (omega arith)) h k d (omega arith)
 
   -- what the pipe was given, by what the worker was fed
   pub record Standing (pipe : Pipe T t) (h : History) : Type 0 where
@@ -106,15 +113,15 @@ module _ {T : Type 0} (t : Ghosts T) where
         (subst (λ z. Pipeline t.gives 1 ps (bytes_given w.events) z (f.said.text ++ in_hand t pipe) (report_as r)) (w.same_end ∙ s.end) all) in
         report-same r f.said.report ((one_answer t.gives one ps 1 f.bytes f.said.text (f.said.text ++ in_hand t pipe) f.ended (report_as f.said.report) (report_as r) s.says.1 here).1)
 
-  -- more was given
-  pub bytes-more : (h : List Event) (w : List ℕ) → bytes_given (h ++ give w ∷ []) ≡ bytes_given h ++ w
-  bytes-more h w = bytes_given-append h (give w ∷ []) ∙ ap (λ z. bytes_given h ++ z) (append-nil w)
+-- more was given
+pub bytes-more : (h : List Event) (w : List ℕ) → bytes_given (h ++ give w ∷ []) ≡ bytes_given h ++ w
+bytes-more h w = bytes_given-append h (give w ∷ []) ∙ ap (λ z. bytes_given h ++ z) (append-nil w)
 
-  pub end-open : (h : List Event) (w : List ℕ) → end_given (h ++ give w ∷ []) ≡ end_given h
-  end-open h w = end_given-append h (give w ∷ []) ∙ or-not (end_given h)
+pub end-open : (h : List Event) (w : List ℕ) → end_given (h ++ give w ∷ []) ≡ end_given h
+end-open h w = end_given-append h (give w ∷ []) ∙ or-not (end_given h)
 
-  pub bytes-same : (h : List Event) → bytes_given (h ++ give_end ∷ []) ≡ bytes_given h
-  bytes-same h = bytes_given-append h (give_end ∷ []) ∙ append-nil (bytes_given h)
+pub bytes-same : (h : List Event) → bytes_given (h ++ give_end ∷ []) ≡ bytes_given h
+bytes-same h = bytes_given-append h (give_end ∷ []) ∙ append-nil (bytes_given h)
 
-  pub end-now : (h : List Event) → end_given (h ++ give_end ∷ []) ≡ true
-  end-now h = end_given-append h (give_end ∷ []) ∙ or-yes (end_given h)
+pub end-now : (h : List Event) → end_given (h ++ give_end ∷ []) ≡ true
+end-now h = end_given-append h (give_end ∷ []) ∙ or-yes (end_given h)

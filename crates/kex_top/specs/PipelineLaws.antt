@@ -5,14 +5,16 @@ use Rattle.std.proofs.lemmas.Bool.{false≢true}
 use Rattle.kex_code.specs.Codes.{Begins}
 use Rattle.kex_ports.specs.Bytes.{IsPrefix}
 use Rattle.kex_model.specs.Answers.{Answer, Report, Stop, later}
+use Rattle.kex_machine.proofs.Standing.{one_answer as one_answer_at, grows, stays, ends, past_limit}
 use Rattle.kex_pipe.specs.Histories.{why_as}
 use Rattle.kex_pipe.specs.Reports.{report_as}
 use Rattle.kex_pipe.specs.declared.report.Rejected.{Rejected}
 use Rattle.kex_pipe.specs.declared.turn.Why.{Why}
 use Rattle.kex_pipe.specs.declared.turn.Why.TheVariants.{Byte, End, Limit}
 use Rattle.kex_pipe.proofs.Pipelines.{one_answer, pipelines_stand}
+use Rattle.kex_stage.specs.Stages.{StagePlan, Gives}
 use Rattle.kex_top.specs.Answer.{Said}
-use Rattle.kex_top.specs.Pipelines.{StagesSay, first_limit}
+use Rattle.kex_top.specs.Pipelines.{StagesSay, NodesSay, first_limit}
 
 why-same : (a b : Why) → why_as a ≡ why_as b → a ≡ b
 why-same Byte Byte e = refl
@@ -25,8 +27,14 @@ why-same End Limit e = cc
 why-same Limit Byte e = cc
 why-same Limit End e = cc
 
+abbrev rejected : ℕ → ℕ → Why → Rejected
+rejected i n y = record { stage = i; at = n; why = y }
+
 some-same : (a b : Report) → Some a ≡ Some b → a ≡ b
 some-same a b e = cc
+
+rejected-same : (i j m n : ℕ) (x y : Why) → i ≡ j → m ≡ n → x ≡ y → rejected i m x ≡ rejected j n y
+rejected-same i j m n x y e f g = ap (λ k. rejected k m x) e ∙ ap (λ k. rejected j k x) f ∙ ap (λ k. rejected j n k) g
 
 pub report-same : (a b : Option Rejected) → report_as a ≡ report_as b → a ≡ b
 report-same None None e = refl
@@ -37,7 +45,7 @@ report-same (Some a) (Some b) e =
     let stage : a.stage ≡ b.stage = ap (λ (z : Report). z.stage) same in
     let at : a.at ≡ b.at = ap (λ (z : Report). z.stop.at) same in
     let why : a.why ≡ b.why = why-same a.why b.why (ap (λ (z : Report). z.stop.why) same) in
-    ap (λ z. Some z) (ap₂ (λ s z. record { stage = s; at = z.0; why = z.1 }) stage (ap₂ (λ x y. (x, y)) at why))
+    ap (λ z. Some z) (rejected-same a.stage b.stage a.at b.at a.why b.why stage at why)
 
 some-reported : (r : Option Rejected) → (report_as r ≡ None → ⊥) → IsSome r
 some-reported None some = absurd (some refl)
@@ -76,3 +84,21 @@ module _ {T : Type 0} (Gives : T → List ℕ → Bool → Answer → Type 0) wh
           let x = pipelines_stand Gives one grows stays (λ p u c g. ends p u false c g) ps 1 w v a.text b.text e (report_as a.report) (report_as b.report) h.1 k.1 in
           let y = x.1 (reported-some a.report some) in
           ap₂ (λ s r. record { text = s; report = r }) y.0 (report-same b.report a.report y.1)
+
+-- over the nodes of machines
+pub one_of_nodes : (p : StagePlan) (w : List ℕ) (e : Bool) (a b : Answer) → Gives p w e a → Gives p w e b → a ≡ b
+one_of_nodes p w e a b h k = one_answer_at p.machine p.limit h k
+
+module _ (ps : List StagePlan) (w : List ℕ) where
+  pub nodes_one : (e : Bool) (a b : Said) → NodesSay ps w e a → NodesSay ps w e b → a ≡ b
+  nodes_one e a b h k = says_one (λ p v d x. Gives p v d x) one_of_nodes ps w e a b h k
+
+  pub nodes_end : (a : Said) → NodesSay ps w false a → first_limit (λ p. p.limit) ps < length w → IsSome a.report
+  nodes_end a h lt = says_ends (λ p v d x. Gives p v d x) (λ p. p.limit) (λ p v x g l. past_limit p.machine p.limit g l) ps w a h lt
+
+  module _ (v : List ℕ) (e : Bool) (a b : Said) where
+    pub nodes_grow : NodesSay ps w false a → NodesSay ps (w ++ v) e b → IsPrefix a.text b.text
+    nodes_grow h k = says_grows (λ p u d x. Gives p u d x) one_of_nodes (λ p u x d c y g i. grows p.machine p.limit u x g i) (λ p u x d c y g i some. stays p.machine p.limit u x g i some) (λ p u d c g. ends p.machine p.limit g) ps w v e a b h k
+
+    pub nodes_stay : NodesSay ps w false a → NodesSay ps (w ++ v) e b → IsSome a.report → b ≡ a
+    nodes_stay h k some = says_stays (λ p u d x. Gives p u d x) one_of_nodes (λ p u x d c y g i. grows p.machine p.limit u x g i) (λ p u x d c y g i some. stays p.machine p.limit u x g i some) (λ p u d c g. ends p.machine p.limit g) ps w v e a b h k some

@@ -4,7 +4,6 @@
 #![tactic(auto)]
 
 mod call;
-mod limited;
 mod pass;
 mod pipeline;
 mod serve;

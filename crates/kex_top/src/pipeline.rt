@@ -2,17 +2,18 @@
 ghost use Rattle.std.specs.Prelude.{◌≡◌, ◌<◌, List, ℕ, OnOk};
 ghost use Rattle.kex_model.specs.Schedules.{Event};
 ghost use Rattle.kex_pipe.specs.Standing.{Stands};
-ghost use Rattle.kex_top.specs.Pipelines.{StagesSay, first_limit};
-ghost use Rattle.kex_top.specs.PipelineLaws.{says_one, says_grows, says_stays, says_ends};
+ghost use Rattle.kex_stage.specs.Stages.{StagePlan};
+ghost use Rattle.kex_top.specs.Pipelines.{NodesSay, first_limit};
+ghost use Rattle.kex_top.specs.PipelineLaws.{nodes_one, nodes_grow, nodes_stay, nodes_end};
 ghost use Rattle.kex_top.specs.History.{IsFateOf};
 ghost use Rattle.kex_top.specs.Piped.{IsWorkedOff, PipeStands, plans_of};
 
-use crate::limited::Limited;
 use crate::worker::Worker;
 use kex_code::memory::Memory;
 use kex_pipe::pipe::Pipe;
 use kex_pipe::report::Rejected;
 use kex_pipe::turn::{Fate, Turn};
+use kex_stage::stage::Stage;
 
 // Each stage, in the order of the pipeline, takes all that waits before it.
 fn work_off<T: Turn + Drop>(pipe: &mut Pipe<T>) -> Result<(), Memory>
@@ -36,24 +37,24 @@ fn fate_of(report: Option<Rejected>) -> Fate
     }
 }
 
-impl<T: Limited + Drop> Worker for Pipe<T> {
-    ghost Plan = { List T.Plan };
+impl<'p> Worker for Pipe<Stage<'p>> {
+    ghost Plan = { List StagePlan };
 
-    ghost plan = { λ pipe. plans_of T.Turn pipe };
+    ghost plan = { λ pipe. plans_of ⟦<Stage<'p> as Turn>⟧ pipe };
 
-    ghost says = { λ ps w e said. StagesSay T.gives ps w e said };
+    ghost says = { λ ps w e said. NodesSay ps w e said };
 
-    ghost stands = { λ pipe h. PipeStands T.Turn pipe h };
+    ghost stands = { λ pipe h. PipeStands ⟦<Stage<'p> as Turn>⟧ pipe h };
 
-    ghost limit = { λ ps. first_limit T.limit ps };
+    ghost limit = { λ ps. first_limit (λ p. p.limit) ps };
 
-    ghost one = { λ ps w e a b h k. says_one T.gives T.one ps w e a b h k };
+    ghost one = { λ ps w e a b h k. nodes_one ps w e a b h k };
 
-    ghost grows = { λ ps w x e a b h k. says_grows T.gives T.one T.grows T.stays T.ends ps w x e a b h k };
+    ghost grows = { λ ps w x e a b h k. nodes_grow ps w x e a b h k };
 
-    ghost stays = { λ ps w x e a b h k some. says_stays T.gives T.one T.grows T.stays T.ends ps w x e a b h k some };
+    ghost stays = { λ ps w x e a b h k some. nodes_stay ps w x e a b h k some };
 
-    ghost ends = { λ ps w a h lt. says_ends T.gives T.limit T.past_limit ps w a h lt };
+    ghost ends = { λ ps w a h lt. nodes_end ps w a h lt };
 
     fn feed(&mut self, piece: &[u8], out: &mut Vec<u8>) -> Result<Fate, Memory> {
         let Ok(()) = self.give(piece) else {

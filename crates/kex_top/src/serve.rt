@@ -4,7 +4,6 @@ ghost use Rattle.kex_words.specs.Gains.{change};
 ghost use Rattle.kex_top.specs.Piped.{PipeStands, plans_of};
 ghost use Rattle.kex_top.specs.Pipelines.{NodesSay, stage_plans};
 ghost use Rattle.kex_top.specs.Run.{Left, Ran};
-ghost use Rattle.kex_top.specs.declared.status.Status.TheVariants.{Memory};
 
 use crate::status::Status;
 use crate::stream::run;
@@ -33,7 +32,8 @@ fn pipe_of<'p>(
         let stage = Stage::new(alloc, plan, max_input)?;
         stages.push(stage)?;
     }
-    Pipe::new(alloc, stages)
+    let pipe = Pipe::new(alloc, stages)?;
+    Ok(pipe)
 }
 
 /// Runs the stages.
@@ -46,7 +46,7 @@ pub(crate) fn serve<S: Source, K: Sink>(
 ) -> Status
     requires { 0 < length compiled.now.stages }
     ensures { (Left (change (S.rest input.old) (S.rest input.new) (S.faults input.old) (S.faults input.new))
-        (change (K.held output.old) (K.held output.new) (K.faults output.old) (K.faults output.new)) × (result ≡ Memory))
+        (change (K.held output.old) (K.held output.new) (K.faults output.old) (K.faults output.new)) × (result ≡ Status.Memory))
         ⊎ Ran (NodesSay (stage_plans limits.max_input compiled.now.stages)) limits.block
         (change (S.rest input.old) (S.rest input.new) (S.faults input.old) (S.faults input.new))
         (change (K.held output.old) (K.held output.new) (K.faults output.old) (K.faults output.new)) result }
