@@ -1,5 +1,5 @@
 //! The call over objects in memory.
-use crate::{Report, Status, kex};
+use crate::{Rejected, Status, kex};
 use kex_pipe::turn::Why;
 use kex_ports::{MemShelf, MemSink, MemSource, NeverFailsSink, OpenGate};
 use kex_words::{Place, Refusal, Rule};
@@ -85,10 +85,10 @@ fn holds<R: Threads + Sync>(rt: &R, alloc: Global, case: &Case) -> Result<bool, 
 }
 
 fn rejected(at: u64, why: Why) -> Status {
-    Status::Rejected(Report { stage: 1, at, why })
+    Status::Rejected(Rejected { stage: 1, at, why })
 }
 
-const PAST_LIMIT: Status = Status::TooLong(Report {
+const PAST_LIMIT: Status = Status::TooLong(Rejected {
     stage: 1,
     at: 3,
     why: Why::Limit,
@@ -98,7 +98,7 @@ const BREAKS: Case = Case {
     program: b"main := /ab*c/",
     input: b"abx",
     held: b"ab",
-    status: Status::Rejected(Report {
+    status: Status::Rejected(Rejected {
         stage: 1,
         at: 2,
         why: Why::Byte,
