@@ -1,6 +1,6 @@
 // Codes, as lists that grow.
 
-ghost use Rattle.std.specs.Prelude.{◌≡◌, ◌++◌, ◌∷◌, [], OnOk};
+ghost use Rattle.std.specs.Prelude.{◌≡◌, ◌++◌, ◌∷◌, [], OnOk, OnErr};
 
 use crate::memory::Memory;
 use crate::symbol::Symbol;
@@ -34,7 +34,8 @@ impl Code {
 
     /// Adds a symbol at the end.
     pub fn push(&mut self, symbol: Symbol) -> Result<(), Memory>
-        ensures { OnOk result (self.new ≡ self.old ++ symbol ∷ []) }
+        ensures added { OnOk result (self.new ≡ self.old ++ symbol ∷ []) }
+        ensures kept { OnErr result (self.new ≡ self.old) }
     {
         self.symbols.push(symbol)?;
         Ok(())
@@ -42,7 +43,8 @@ impl Code {
 
     /// Adds symbols at the end, in their order.
     pub fn append(&mut self, symbols: &[Symbol]) -> Result<(), Memory>
-        ensures { OnOk result (self.new ≡ self.old ++ symbols.now) }
+        ensures added { OnOk result (self.new ≡ self.old ++ symbols.now) }
+        ensures kept { OnErr result (self.new ≡ self.old) }
     {
         self.symbols.extend_from_slice(symbols)?;
         Ok(())

@@ -7,3 +7,5 @@ pub mod code;
 pub mod memory;
 pub mod piece;
 pub mod symbol;
+#[cfg(test)]
+mod tests;

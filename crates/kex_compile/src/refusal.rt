@@ -1,22 +1,77 @@
-// Why a text has no plan.
+// Why a text has no plans.
 
+ghost use Rattle.std.specs.Prelude.{◌≡◌};
+ghost use Rattle.kex_compile.specs.Compiled.{of_plan, of_read};
+
+use kex_code::memory::Memory;
+use kex_reader::ReadRefusal;
 use thiserror::Error;
 
-/// Why a text has no plan. The stage is the first.
+/// Why the stages of a program have no plans. Stages are counted from 1.
+#[derive(Clone, Copy, Debug, PartialEq, Eq, Drop, Error)]
+pub enum PlanRefusal {
+    /// The stage has more than 65,536 places.
+    #[error("stage {0} has too many places")]
+    TooManyPlaces(u32),
+    /// Some place of the stage is reached again from itself without a byte.
+    #[error("a loop of stage {0} reads nothing")]
+    EmptyLoop(u32),
+    /// No text has a parse by the stage.
+    #[error("no text has a parse by stage {0}")]
+    NoText(u32),
+    #[error("out of memory")]
+    Memory,
+}
+
+impl From<Memory> for PlanRefusal {
+    ghost use Rattle.kex_compile.specs.declared.refusal.PlanRefusal.TheVariants.{Memory};
+
+    ghost from_gives = { λ _ e. e ≡ Memory };
+
+    fn from(_: Memory) -> PlanRefusal {
+        PlanRefusal::Memory
+    }
+}
+
+/// Why a text has no plans. Stages are counted from 1.
 #[derive(Clone, Copy, Debug, PartialEq, Eq, Drop, Error)]
 pub enum CompileRefusal {
     /// The text isn't one that is read yet.
     #[error("not read yet")]
     Later,
     /// The stage has more than 65,536 places.
-    #[error("too many places")]
-    TooManyPlaces,
-    /// Some place is reached again from itself without a byte.
-    #[error("a loop reads nothing")]
-    EmptyLoop,
-    /// No text has a parse.
-    #[error("no text has a parse")]
-    NoText,
+    #[error("stage {0} has too many places")]
+    TooManyPlaces(u32),
+    /// Some place of the stage is reached again from itself without a byte.
+    #[error("a loop of stage {0} reads nothing")]
+    EmptyLoop(u32),
+    /// No text has a parse by the stage.
+    #[error("no text has a parse by stage {0}")]
+    NoText(u32),
     #[error("out of memory")]
     Memory,
+}
+
+impl From<ReadRefusal> for CompileRefusal {
+    ghost from_gives = { λ why e. e ≡ of_read why };
+
+    fn from(why: ReadRefusal) -> CompileRefusal {
+        match why {
+            ReadRefusal::Later => CompileRefusal::Later,
+            ReadRefusal::Memory => CompileRefusal::Memory,
+        }
+    }
+}
+
+impl From<PlanRefusal> for CompileRefusal {
+    ghost from_gives = { λ why e. e ≡ of_plan why };
+
+    fn from(why: PlanRefusal) -> CompileRefusal {
+        match why {
+            PlanRefusal::TooManyPlaces(stage) => CompileRefusal::TooManyPlaces(stage),
+            PlanRefusal::EmptyLoop(stage) => CompileRefusal::EmptyLoop(stage),
+            PlanRefusal::NoText(stage) => CompileRefusal::NoText(stage),
+            PlanRefusal::Memory => CompileRefusal::Memory,
+        }
+    }
 }

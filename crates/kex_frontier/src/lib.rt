@@ -1,4 +1,4 @@
-//! The oracle of a stage: which choices all parses of a text share, symbol by symbol as its bytes come.
+//! The oracle of a stage: which symbols the surviving paths of a text share, as its bytes come.
 //!
 //! Stands on codes and machines. A `Frontier` stores no history: `IsFed` relates it to the bytes that it was fed and the
 //! symbols that were taken; the clauses of `Frontier::feed`, `Frontier::end` and `Frontier::take_code` carry this on.

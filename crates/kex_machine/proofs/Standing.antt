@@ -1,12 +1,11 @@
 -- A stage's answers over nodes: there is one on each text, they grow, and a stop stands.
-use Rattle.std.proofs.Common.{◌≡◌, ℕ, ◌<◌, ◌≤◌, Bool, true, false, ◌&&◌, List, [], ◌∷◌, ◌++◌, Some, None, length, refl, sym, ap, subst, ◌∙◌, append-nil, append_assoc, arith, ⊎_elim, take, length-append}
+use Rattle.std.proofs.Common.{◌≡◌, ℕ, ◌<◌, Bool, true, false, ◌&&◌, List, [], ◌++◌, None, length, refl, sym, ap, subst, ◌∙◌, append-nil, append_assoc, arith, ⊎_elim, take, length-append}
 use Rattle.std.specs.Prelude.{is_none, IsSome}
 use Rattle.kex_code.specs.declared.symbol.Symbol.{Symbol}
 use Rattle.kex_code.specs.Codes.{Begins, bytes_of}
-use Rattle.kex_model.specs.Moves.{accept, Step, code_of, Walk}
-use Rattle.kex_model.specs.Survivors.{Agreed, Greedy, IsViable}
-use Rattle.kex_model.specs.Acting.{acted}
-use Rattle.kex_model.specs.Answers.{Answer, Answers, bad_byte, too_long, cut_off, whole, still_open}
+use Rattle.kex_model.specs.Moves.{Step, code_of}
+use Rattle.kex_model.specs.Survivors.{Agreed, Greedy}
+use Rattle.kex_model.specs.Answers.{Answer, bad_byte, too_long, cut_off, whole, still_open}
 use Rattle.kex_model.proofs.Orders.{at_most_both, two_fronts}
 use Rattle.kex_model.proofs.Agreeing.{viable_front, agreed_grows, agreed_greedy}
 use Rattle.kex_model.proofs.Effects.{same_acted}

@@ -1,9 +1,28 @@
--- Laws of a stage's answers over nodes.
+-- Laws of paths, runs and a stage's answers over nodes.
 use Rattle.std.specs.Prelude.{◌≡◌, ℕ, ◌<◌, Bool, false, List, ◌++◌, None, IsSome, is_none, ◌&&◌, length}
+use Rattle.kex_code.specs.declared.symbol.Symbol.{Symbol}
 use Rattle.kex_code.specs.Codes.{Begins}
+use Rattle.kex_model.specs.Moves.{Step, code_of}
+use Rattle.kex_model.specs.Survivors.{IsPath, Agreed, Greedy}
 use Rattle.kex_model.specs.Answers.{Answer}
-use Rattle.kex_machine.specs.Nodes.{Graph}
-use Rattle.kex_machine.specs.Answers.{StageAnswers}
+use Rattle.kex_machine.specs.Nodes.{Graph, node_moves}
+use Rattle.kex_machine.specs.Answers.{IsRun, left_by, Viable, Says, Means, StageAnswers}
+
+-- of two paths on one text neither code is a proper prefix of the other, and equal codes are of equal paths
+abbrev pub OnePath : Graph → Type 0
+OnePath g = (w : List ℕ) (p q : ℕ) (js ks : List (Step ℕ)) → IsPath (node_moves g.nodes) g.start w p js → IsPath (node_moves g.nodes) g.start w q ks → Begins (code_of ks) (code_of js) → js ≡ ks
+
+-- all runs whose codes begin with c leave the same when they are followed so far
+abbrev pub OneLeft : Graph → Type 0
+OneLeft g = (js ks : List (Step ℕ)) (c : List Symbol) → IsRun g js → IsRun g ks → Begins (code_of js) c → Begins (code_of ks) c → left_by g js c ≡ left_by g ks c
+
+-- what is agreed and what is said grow with the text, up to the greedy code and the meaning
+pub record Grows (g : Graph) (w v : List ℕ) : Type 0 where
+  pub viable : Viable g (w ++ v) → Viable g w
+  pub agreed : (c d : List Symbol) → Agreed (node_moves g.nodes) g.start w c → Agreed (node_moves g.nodes) g.start (w ++ v) d → Begins d c
+  pub greedy : (c d : List Symbol) → Agreed (node_moves g.nodes) g.start w c → Greedy (node_moves g.nodes) g.start (w ++ v) d → Begins d c
+  pub said : (s t : List ℕ) → Says g w s → Says g (w ++ v) t → Begins t s
+  pub meant : (s t : List ℕ) → Says g w s → Means g (w ++ v) t → Begins t s
 
 -- on each text there is at most one answer; the text grows, and a stop stands; past the limit there is a stop
 pub record AnswersStand (g : Graph) (n : ℕ) : Type 0 where

@@ -13,8 +13,11 @@ pub mod Transfer
 pub mod Shapes
 pub mod Settling
 pub mod Editions
-pub mod Examples
 pub mod Likeness
 pub mod Tables
 pub mod Counting
 pub mod Making
+pub mod Exploring
+pub mod Examples
+pub mod Pipelines
+pub mod Reports

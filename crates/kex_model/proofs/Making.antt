@@ -1,6 +1,5 @@
 -- Nodes that are added stand behind their children.
-use Rattle.std.proofs.Common.{◌≡◌, ℕ, List, [], ◌∷◌, ◌++◌, ⊎_elim, Some, length, sym, ap, subst, ◌∙◌}
-use Rattle.std.specs.Prelude.{slice_get}
+use Rattle.std.proofs.Common.{◌≡◌, List, [], ◌∷◌, ◌++◌, ⊎_elim, length, sym, subst}
 use Rattle.kex_model.specs.declared.program.Node.{Node}
 use Rattle.kex_model.specs.Programs.{HasBelow, IsInOrder}
 use Rattle.kex_model.proofs.Tables.{get_pushed}

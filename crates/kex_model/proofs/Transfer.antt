@@ -100,24 +100,24 @@ module _ {S T : Type 0} (f : S → Move S) (g : T → Move T) (R : S → T → T
     once_back (went x s ∷ ks) (chose y t ∷ js) seen seen' p c n = absurd p.0
 
     module _ (start : S) (start' : T) (r : R start start') where
-      reach_ahead : (w : List ℕ) (p : S) (c : List Symbol) → LeadsToEnd f p → Reaches f start w p c → (q : T) × R p q × Reaches g start' w q c
+      pub reach_ahead : (w : List ℕ) (p : S) (c : List Symbol) → LeadsToEnd f p → Reaches f start w p c → (q : T) × R p q × Reaches g start' w q c
       reach_ahead w p c end (ks, h, e) =
           let x = walk_ahead ks start p start' h.walk end r in
           let same : code_of ks ≡ code_of x.0 = paired_code ks x.0 x.4 in
           (x.1, x.3, (x.0, record { walk = x.2; waits = a.waits p x.1 x.3 h.waits; once = once_ahead ks x.0 (start ∷ []) (start' ∷ []) x.4 (more [] [] start start' r nothing) h.once; reads = ap bytes_of (sym same) ∙ h.reads }, sym same ∙ e))
 
-      reach_back : (w : List ℕ) (q : T) (c : List Symbol) → Reaches g start' w q c → (p : S) × R p q × Reaches f start w p c
+      pub reach_back : (w : List ℕ) (q : T) (c : List Symbol) → Reaches g start' w q c → (p : S) × R p q × Reaches f start w p c
       reach_back w q c (js, h, e) =
           let x = walk_back js start start' q h.walk r in
           let same : code_of x.0 ≡ code_of js = paired_code x.0 js x.4 in
           (x.1, x.3, (x.0, record { walk = x.2; waits = a.waits_back x.1 q x.3 h.waits; once = once_back x.0 js (start ∷ []) (start' ∷ []) x.4 (more_back [] [] start start' r nothing_back) h.once; reads = ap bytes_of same ∙ h.reads }, same ∙ e))
 
-      end_ahead : (p : S) (q : T) → R p q → LeadsToEnd f p → LeadsToEnd g q
+      pub end_ahead : (p : S) (q : T) → R p q → LeadsToEnd f p → LeadsToEnd g q
       end_ahead p q rel (ks, e, w, acc) =
           let x = walk_ahead ks p e q w ([], e, refl, acc) rel in
           (x.0, x.1, x.2, a.ends e x.1 x.3 acc)
 
-      end_back : (p : S) (q : T) → R p q → LeadsToEnd g q → LeadsToEnd f p
+      pub end_back : (p : S) (q : T) → R p q → LeadsToEnd g q → LeadsToEnd f p
       end_back p q rel (js, e, w, acc) =
           let x = walk_back js p q e w rel in
           (x.0, x.1, x.2, a.ends_back x.1 e x.3 acc)

@@ -1,15 +1,15 @@
 -- Laws of the definitions, each of which a function of `laws` proves.
-use Rattle.std.specs.Prelude.{◌≡◌, ℕ, Bool, false, List, [], ◌++◌, Some, None}
+use Rattle.std.specs.Prelude.{◌≡◌, ℕ, Bool, false, List, [], ◌++◌, Option, Some, None}
 use Rattle.kex_model.specs.Programs.{Grammar}
 use Rattle.kex_code.specs.declared.symbol.Symbol.{Symbol}
-use Rattle.kex_code.specs.Codes.{Begins}
+use Rattle.kex_code.specs.Codes.{Begins, IsAmong}
 use Rattle.kex_code.specs.Registers.{Registers}
 use Rattle.kex_model.specs.Trees.{Tree, IsTree, Parses, kind_at, code, meaning, part}
 use Rattle.kex_model.specs.Acting.{acted}
 use Rattle.kex_model.specs.Moves.{Step, code_of}
 use Rattle.kex_model.specs.Places.{Place, moves, start_of, steps_of, HasEmptyLoop}
 use Rattle.kex_model.specs.Survivors.{IsPath, Agreed}
-use Rattle.kex_model.specs.Answers.{code_at, GreedyParse, HasParse, Says, Means, Viable, Answer, Answers}
+use Rattle.kex_model.specs.Answers.{code_at, GreedyParse, HasParse, Says, Means, Viable, Answer, Answers, Report, Pipeline}
 
 -- of two paths on one text neither code is a proper prefix of the other, and equal codes are of equal paths
 abbrev pub OnePath : Type 0
@@ -50,6 +50,22 @@ StageAnswers P root limit w e a = Answers (Viable P root) (Says P root) (HasPars
 
 abbrev pub AnswersStand : Type 0
 AnswersStand = (P : Grammar) (root limit : ℕ) (w v : List ℕ) (e : Bool) (a b : Answer) → ¬ HasEmptyLoop P root → StageAnswers P root limit w false a → StageAnswers P root limit (w ++ v) e b → Stands P root limit w v e a b
+
+-- a stage has at most one answer
+abbrev pub OneAnswer : Type 0
+OneAnswer = (P : Grammar) (root limit : ℕ) (w : List ℕ) (e : Bool) (a b : Answer) → ¬ HasEmptyLoop P root → StageAnswers P root limit w e a → StageAnswers P root limit w e b → a ≡ b
+
+-- a pipeline's text on open input is a front of that on every continuation, and a report stands, with the same text
+pub record PipelineStands (s t : List ℕ) (r q : Option Report) : Type 0 where
+  pub text : Begins t s
+  pub report : (r ≡ None → ⊥) → (t ≡ s) × (q ≡ r)
+
+-- the stages by their roots
+abbrev pub StagesAnswer : Grammar → ℕ → List ℕ → List ℕ → Bool → List ℕ → Option Report → Type 0
+StagesAnswer P limit roots w e text report = Pipeline (λ root v f a. StageAnswers P root limit v f a) 1 roots w e text report
+
+abbrev pub ReportsStand : Type 0
+ReportsStand = (P : Grammar) (limit : ℕ) (roots w v s t : List ℕ) (e : Bool) (r q : Option Report) → ((root : ℕ) → IsAmong roots root → ¬ HasEmptyLoop P root) → StagesAnswer P limit roots w false s r → StagesAnswer P limit roots (w ++ v) e t q → PipelineStands s t r q
 
 -- with its whole code a tree's part is its meaning
 abbrev pub WholePart : Type 0

@@ -9,3 +9,4 @@ pub mod Answers
 pub mod Acting
 pub mod Alike
 pub mod Schedules
+pub mod Worked

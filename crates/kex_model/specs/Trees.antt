@@ -1,5 +1,5 @@
 -- Trees of a program's nodes: what they derive, their codes, their meaning, and a part of it.
-use Rattle.std.specs.Prelude.{◌≡◌, ℕ, zero, suc, pred, ◌==◌, Bool, false, List, [], ◌∷◌, ◌++◌, Option, Some, None, get_or, slice_get, find, IsTrue, slice_set}
+use Rattle.std.specs.Prelude.{◌≡◌, ℕ, zero, suc, pred, ◌==◌, Bool, false, List, [], ◌∷◌, ◌++◌, Option, Some, None, get_or, slice_get, find, IsTrue}
 use Rattle.kex_code.specs.declared.symbol.Symbol.{Symbol}
 use Rattle.kex_code.specs.declared.symbol.Symbol.TheVariants.{L, R, Byte}
 use Rattle.kex_code.specs.declared.piece.Piece.{Piece}

@@ -8,3 +8,4 @@ pub mod builder;
 pub mod frame;
 pub mod laws;
 pub mod program;
+pub mod worked;

@@ -1,5 +1,4 @@
 pub mod Items
-pub mod Pipelines
 pub mod Seating
 pub mod Lines
 pub mod Schedule

@@ -15,13 +15,13 @@ use Rattle.kex_pipe.proofs.Items.{end-items, end-append}
 use Rattle.kex_pipe.proofs.Seating.{or-false}
 use Rattle.kex_pipe.proofs.Lines.{sits-wrote}
 
-bytes_given-append : (h k : List Event) → bytes_given (h ++ k) ≡ bytes_given h ++ bytes_given k
+pub bytes_given-append : (h k : List Event) → bytes_given (h ++ k) ≡ bytes_given h ++ bytes_given k
 bytes_given-append [] k = refl
 bytes_given-append (give w ∷ h) k = ap (λ z. w ++ z) (bytes_given-append h k) ∙ sym (append_assoc w (bytes_given h) (bytes_given k))
 bytes_given-append (give_end ∷ h) k = bytes_given-append h k
 bytes_given-append (turn i m ∷ h) k = bytes_given-append h k
 
-end_given-append : (h k : List Event) → end_given (h ++ k) ≡ (end_given h || end_given k)
+pub end_given-append : (h k : List Event) → end_given (h ++ k) ≡ (end_given h || end_given k)
 end_given-append [] k = refl
 end_given-append (give w ∷ h) k = end_given-append h k
 end_given-append (give_end ∷ h) k = refl

@@ -85,6 +85,13 @@ impl<T: Turn + Drop> Pipe<T> {
         })
     }
 
+    /// How many stages there are.
+    pub fn count(&self) -> u32
+        ensures { result ≡ stage_count T.Turn self.now }
+    {
+        self.seats.len() as u32
+    }
+
     /// Whether the end was given.
     pub fn ended(&self) -> bool
         ensures { result ≡ is_ended T.Turn self.now }

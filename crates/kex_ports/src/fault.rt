@@ -6,8 +6,3 @@ use thiserror::Error;
 #[derive(Clone, Copy, Debug, PartialEq, Eq, Drop, Error)]
 #[error("a call outside failed")]
 pub struct Failed;
-
-// The number of the call is among those that fail.
-pub(crate) fn is_among(numbers: &[u64], number: u64) -> bool {
-    numbers.contains(&number)
-}

@@ -1,4 +1,7 @@
 // Where a stage passes as it begins and ends its work.
+ghost use Rattle.std.specs.Prelude.{◌≡◌, ◌⊎◌, IsTrue};
+
+use std::marker::Model;
 use std::sync::atomic::{AtomicBool, Ordering};
 
 /// Is told when a stage begins its work and when it ends it.
@@ -29,7 +32,9 @@ struct Watched {
 }
 
 impl Watched {
-    fn new(stage: u32) -> Self {
+    fn new(stage: u32) -> Self
+        ensures { result.stage ≡ stage }
+    {
         Watched {
             stage,
             entered: AtomicBool::new(false),
@@ -50,27 +55,48 @@ impl Watched {
     }
 }
 
-/// For tests: each of two stages raises a flag on its first entrance, and then looks for the other's flag, at most 50,000,000
-/// times.
+/// For tests: each of two stages raises a flag of its own as it first enters, and then looks for the other's flag, at most
+/// 50,000,000 times.
 #[derive(Drop)]
 pub struct MeetGate {
     one: Watched,
     other: Watched,
 }
 
+impl Model for MeetGate {
+    ghost use Rattle.kex_ports.specs.Meeting.{Pair};
+
+    ghost Value = { Pair };
+
+    ghost view = { λ g. record { one = g.one.stage; other = g.other.stage } };
+}
+
 impl MeetGate {
     /// Watches these two stages.
-    pub fn new(one: u32, other: u32) -> Self {
+    pub fn new(one: u32, other: u32) -> Self
+        ensures { result ≡ record { one = one; other = other } }
+    {
         MeetGate {
             one: Watched::new(one),
             other: Watched::new(other),
         }
     }
 
-    /// Whether a stage has seen that the other had entered.
-    pub fn saw(&self, stage: u32) -> bool {
+    /// Whether a stage has seen that the other had entered; no stage has that isn't watched.
+    pub fn saw(&self, stage: u32) -> bool
+        ensures { IsTrue result → (stage ≡ self.now.one) ⊎ (stage ≡ self.now.other) }
+    {
         (stage == self.one.stage && self.one.saw_other.load(Ordering::SeqCst))
             || (stage == self.other.stage && self.other.saw_other.load(Ordering::SeqCst))
+    }
+}
+
+/// Watches stages 1 and 2.
+impl Default for MeetGate {
+    ghost is_default = { λ g. g ≡ record { one = 1; other = 2 } };
+
+    fn default() -> Self {
+        MeetGate::new(1, 2)
     }
 }
 

@@ -4,12 +4,15 @@
 //! Stands on codes, for want of memory alone. The traits' clauses say that a call fails only where its count of faults rises.
 #![tactic(auto)]
 
+mod calls;
 mod fault;
 mod gate;
 mod shelf;
 mod sink;
 mod source;
 mod steps;
+#[cfg(test)]
+mod tests;
 
 pub use fault::Failed;
 pub use gate::{Gate, MeetGate, OpenGate};

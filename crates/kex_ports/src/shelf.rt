@@ -1,10 +1,15 @@
 // Texts by name.
-ghost use Rattle.std.specs.Prelude.{◌≡◌, ◌≤◌, ◌++◌, ◌∷◌, [], ℕ, List, Option, Some, IfOk, OnOk, OnErr, IsErrOf, option_map, length, map, string_bytes};
+ghost use Rattle.std.specs.Prelude.{◌≡◌, ◌≤◌, ◌∷◌, [], ℕ, List, Option, Some, IfOk, OnOk, OnErr, IsErrOf, option_map, length, map, string_bytes};
+ghost use Rattle.kex_ports.specs.Calls.{none_made};
+ghost use Rattle.kex_ports.specs.InMemory.{HasTaken};
 ghost use Rattle.kex_ports.specs.Named.{Texts, text_named};
+ghost use Rattle.kex_ports.specs.Shelf.{HasShelfCause, HasShelfBreak, IsTold, IsPast, told_of};
+ghost use Rattle.kex_ports.specs.declared.shelf.ShelfAnswer.TheVariants.{TooLong};
 
-use crate::fault::is_among;
+use crate::calls::Calls;
 use kex_code::memory::Memory;
 use std::alloc::Global;
+use std::marker::Model;
 use thiserror::Error;
 
 /// Why a text was not taken.
@@ -22,9 +27,6 @@ pub enum ShelfAnswer {
 
 /// Texts by name, and the number of faults.
 pub trait Shelf {
-    ghost use Rattle.kex_ports.specs.Shelf.{HasShelfCause, HasShelfBreak, IsTold, IsPast, told_of};
-    ghost use Rattle.kex_ports.specs.declared.shelf.ShelfAnswer.TheVariants.{TooLong};
-
     /// The texts, where the shelf tells them.
     ghost texts: { Self → Option Texts };
 
@@ -55,35 +57,36 @@ struct Named {
 pub struct MemShelf {
     alloc: Global,
     texts: Vec<Named>,
-    fails: Vec<u64>,
-    calls: u64,
-    faults: u64,
+    calls: Calls,
     breaks: u64,
 }
 
+impl Model for MemShelf {
+    ghost use Rattle.std.specs.Prelude.{map, string_bytes};
+    ghost use Rattle.kex_ports.specs.InMemory.{Shelved};
+
+    ghost Value = { Shelved };
+
+    ghost view = { λ s. record { texts = map (λ e. (string_bytes e.name, e.text.items)) s.texts.items; calls = s.calls; breaks = s.breaks } };
+}
+
 impl MemShelf {
+    /// No texts yet.
     pub fn new(alloc: Global, fails: Vec<u64>) -> Self
-        ensures texts { ⟦<MemShelf as Shelf>⟧.texts result ≡ Some [] }
-        ensures faults { ⟦<MemShelf as Shelf>⟧.faults result ≡ 0 }
-        ensures breaks { ⟦<MemShelf as Shelf>⟧.breaks result ≡ 0 }
+        ensures { result ≡ record { texts = []; calls = none_made fails.items; breaks = 0 } }
     {
         MemShelf {
             alloc,
             texts: Vec::new(alloc),
-            fails,
-            calls: 0,
-            faults: 0,
+            calls: Calls::new(fails),
             breaks: 0,
         }
     }
 
     /// Gives the name this text, in place of one that it had.
     pub fn put(&mut self, name: &str, text: &[u8]) -> Result<(), Memory>
-        ensures texts { OnOk result (⟦<MemShelf as Shelf>⟧.texts self.new
-            ≡ option_map (λ m. (name.now, text.now) ∷ m) (⟦<MemShelf as Shelf>⟧.texts self.old)) }
-        ensures kept { OnErr result (⟦<MemShelf as Shelf>⟧.texts self.new ≡ ⟦<MemShelf as Shelf>⟧.texts self.old) }
-        ensures faults { ⟦<MemShelf as Shelf>⟧.faults self.new ≡ ⟦<MemShelf as Shelf>⟧.faults self.old }
-        ensures breaks { ⟦<MemShelf as Shelf>⟧.breaks self.new ≡ ⟦<MemShelf as Shelf>⟧.breaks self.old }
+        ensures texts { OnOk result (self.new ≡ record { texts = (name.now, text.now) ∷ self.old.texts; calls = self.old.calls; breaks = self.old.breaks }) }
+        ensures kept { OnErr result (self.new ≡ self.old) }
     {
         let name = name.to_owned(self.alloc)?;
         let text = text.to_vec(self.alloc)?;
@@ -105,24 +108,31 @@ fn find<'a>(texts: &'a [Named], name: &str) -> Option<&'a Vec<u8>>
 }
 
 impl Shelf for MemShelf {
-    ghost texts = { λ s. Some (map (λ e. (string_bytes e.name, e.text.items)) s.texts.items) };
+    ghost texts = { λ s. Some s.texts };
 
-    ghost faults = { λ s. s.faults };
+    ghost faults = { λ s. s.calls.faults };
 
     ghost breaks = { λ s. s.breaks };
 
-    fn take(&mut self, alloc: Global, name: &str, limit: usize) -> Result<Vec<u8>, ShelfAnswer> {
-        self.calls = self.calls.saturating_add(1);
-        let fails = is_among(&self.fails, self.calls);
+    fn take(&mut self, alloc: Global, name: &str, limit: usize) -> Result<Vec<u8>, ShelfAnswer>
+        ensures texts { Some self.new.texts ≡ Some self.old.texts }
+        ensures found { IfOk result (λ text. IsTold (told_of (Some self.old.texts) name.now) text.items) }
+        ensures within { IfOk result (λ text. length text.items ≤ limit) }
+        ensures too_long { IsErrOf result TooLong → IsPast (told_of (Some self.old.texts) name.now) limit }
+        ensures cause { HasShelfCause self.old.calls.faults self.new.calls.faults result }
+        ensures broken { HasShelfBreak (told_of (Some self.old.texts) name.now) self.old.breaks self.new.breaks result }
+        ensures exact { HasTaken (λ text. text.items) self.old self.new name.now limit result }
+    {
         let Some(text) = find(&self.texts, name) else {
-            self.faults = self.faults.saturating_add(1);
+            self.calls.fail();
             return Err(ShelfAnswer::Failed);
         };
-        if fails {
-            self.faults = self.faults.saturating_add(1);
+        if self.calls.is_next_failing() {
+            self.calls.fail();
             self.breaks = self.breaks.saturating_add(1);
             return Err(ShelfAnswer::Failed);
         }
+        self.calls.pass();
         if text.len() > limit {
             return Err(ShelfAnswer::TooLong);
         }

@@ -1,12 +1,16 @@
 // Where output goes.
-ghost use Rattle.std.specs.Prelude.{◌≡◌, ◌<◌, ◌≤◌, [], List, ℕ, Option, Some, None, OnErr, IfOk, length, take};
+ghost use Rattle.std.specs.Prelude.{◌≡◌, ◌<◌, ◌≤◌, [], List, ℕ, Option, Some, None, IsOk, OnErr, IfOk, length, take};
 ghost use Rattle.std.specs.Io.KnownBytes.{Appends, Keeps};
 ghost use Rattle.kex_ports.specs.Bytes.{AppendsFront, TakesSome};
-ghost use Rattle.kex_ports.specs.Causes.{HasCause, HasTestCause};
+ghost use Rattle.kex_ports.specs.Calls.{none_made};
+ghost use Rattle.kex_ports.specs.Causes.{HasCause};
+ghost use Rattle.kex_ports.specs.InMemory.{HasFinished, HasWritten};
 
-use crate::fault::{Failed, is_among};
+use crate::calls::Calls;
+use crate::fault::Failed;
 use kex_code::memory::Memory;
 use std::alloc::Global;
+use std::marker::Model;
 
 /// Output, by the bytes that it holds and the number of its faults.
 pub trait Sink {
@@ -29,15 +33,25 @@ pub trait Sink {
         ensures cause { HasCause (faults self.old) (faults self.new) result };
 }
 
-/// Output in memory, of which a write takes at most so many bytes. The calls with these numbers, counted from 1, fail.
+/// Output in memory, with room that was made ahead, of which a write takes at most so many bytes. The calls with these
+/// numbers, counted from 1, fail; `finish` is a call. So does a write past the room.
 #[derive(Drop)]
 pub struct MemSink {
     held: Vec<u8>,
+    room: usize,
     per_write: usize,
-    fails: Vec<u64>,
-    calls: u64,
-    faults: u64,
-    ghost takes: { 0 < per_write },
+    calls: Calls,
+}
+
+impl Model for MemSink {
+    ghost use Rattle.std.specs.Prelude.{◌<◌, ◌≤◌, vec_len, vec_capacity};
+    ghost use Rattle.kex_ports.specs.InMemory.{Holding};
+
+    ghost Value = { Holding };
+
+    ghost view = { λ s. record { held = s.held.items; room = s.room; most = s.per_write; calls = s.calls } };
+
+    ghost invariant = { λ s. (vec_len s.held ≤ s.room) × (s.room ≤ vec_capacity s.held) × (0 < s.per_write) };
 }
 
 impl MemSink {
@@ -49,64 +63,60 @@ impl MemSink {
         fails: Vec<u64>,
     ) -> Result<Self, Memory>
         requires { 0 < per_write }
-        ensures held { IfOk result (λ s. ⟦<MemSink as Sink>⟧.held s ≡ Some []) }
-        ensures faults { IfOk result (λ s. ⟦<MemSink as Sink>⟧.faults s ≡ 0) }
+        ensures { IfOk result (λ s. s ≡ record { held = []; room = room; most = per_write; calls = none_made fails.items }) }
     {
-        let mut held = Vec::new(alloc);
-        held.reserve(room)?;
         Ok(MemSink {
-            held,
+            held: Vec::with_capacity(alloc, room)?,
+            room,
             per_write,
-            fails,
-            calls: 0,
-            faults: 0,
+            calls: Calls::new(fails),
         })
     }
 
+    /// The bytes that it holds.
     pub fn bytes(&self) -> &[u8]
-        ensures { ⟦<MemSink as Sink>⟧.held self.now ≡ Some result.now }
+        ensures { result.now ≡ self.now.held }
     {
         &self.held
-    }
-
-    // Counts a call, and a fault where it is one that fails.
-    fn is_failing(&mut self) -> bool
-        ensures held { self.new.held ≡ self.old.held }
-        ensures most { self.new.per_write ≡ self.old.per_write }
-        ensures cause { HasTestCause self.old.faults self.new.faults result }
-    {
-        self.calls = self.calls.saturating_add(1);
-        let fails = is_among(&self.fails, self.calls);
-        if fails {
-            self.faults = self.faults.saturating_add(1);
-        }
-        fails
     }
 }
 
 impl Sink for MemSink {
-    ghost held = { λ s. Some s.held.items };
+    ghost held = { λ s. Some s.held };
 
-    ghost faults = { λ s. s.faults };
+    ghost faults = { λ s. s.calls.faults };
 
-    fn write(&mut self, bytes: &[u8]) -> Result<usize, Failed> {
-        if self.is_failing() {
+    fn write(&mut self, bytes: &[u8]) -> Result<usize, Failed>
+        ensures bound { TakesSome result bytes.now }
+        ensures taken { IfOk result (λ n. Appends (Some self.old.held) (Some self.new.held) (take n bytes.now)) }
+        ensures failed { OnErr result (AppendsFront (Some self.old.held) (Some self.new.held) bytes.now) }
+        ensures cause { HasCause self.old.calls.faults self.new.calls.faults result }
+        ensures exact { HasWritten self.old self.new bytes.now result }
+    {
+        let count = bytes.len().min(self.per_write);
+        let is_past = count > self.room - self.held.len();
+        if is_past || self.calls.is_next_failing() {
+            self.calls.fail();
             return Err(Failed);
         }
-        let count = bytes.len().min(self.per_write);
-        match self.held.extend_from_slice(&bytes[..count]) {
-            Ok(()) => Ok(count),
-            Err(_) => {
-                self.faults = self.faults.saturating_add(1);
-                Err(Failed)
-            }
+        if self.held.extend_from_slice(&bytes[..count]).is_err() {
+            self.calls.fail();
+            return Err(Failed);
         }
+        self.calls.pass();
+        Ok(count)
     }
 
-    fn finish(&mut self) -> Result<(), Failed> {
-        if self.is_failing() {
+    fn finish(&mut self) -> Result<(), Failed>
+        ensures held { Keeps (Some self.old.held) (Some self.new.held) }
+        ensures cause { HasCause self.old.calls.faults self.new.calls.faults result }
+        ensures exact { HasFinished self.old self.new result }
+    {
+        if self.calls.is_next_failing() {
+            self.calls.fail();
             return Err(Failed);
         }
+        self.calls.pass();
         Ok(())
     }
 }
@@ -120,11 +130,21 @@ impl Sink for NeverFailsSink {
 
     ghost faults = { λ _. 0 };
 
-    fn write(&mut self, bytes: &[u8]) -> Result<usize, Failed> {
+    fn write(&mut self, bytes: &[u8]) -> Result<usize, Failed>
+        ensures bound { TakesSome result bytes.now }
+        ensures taken { IfOk result (λ n. Appends None None (take n bytes.now)) }
+        ensures failed { OnErr result (AppendsFront None None bytes.now) }
+        ensures cause { HasCause 0 0 result }
+        ensures exact { result ≡ Ok (length bytes.now) }
+    {
         Ok(bytes.len())
     }
 
-    fn finish(&mut self) -> Result<(), Failed> {
+    fn finish(&mut self) -> Result<(), Failed>
+        ensures held { Keeps None None }
+        ensures cause { HasCause 0 0 result }
+        ensures exact { IsOk result }
+    {
         Ok(())
     }
 }

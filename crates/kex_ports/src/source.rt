@@ -1,10 +1,14 @@
 // Where input comes from.
-ghost use Rattle.std.specs.Prelude.{◌≡◌, ◌<◌, ◌≤◌, List, ℕ, Option, Some, length, drop, take, vec_len};
+ghost use Rattle.std.specs.Prelude.{◌≡◌, ◌<◌, ◌≤◌, List, ℕ, Option, Some, OnErr, IfOk, length, drop, take, min, vec_len};
 ghost use Rattle.std.specs.Io.{ReadsAtMost};
 ghost use Rattle.std.specs.Io.KnownBytes.{ReadConsumes};
+ghost use Rattle.kex_ports.specs.Calls.{none_made};
 ghost use Rattle.kex_ports.specs.Causes.{HasCause};
+ghost use Rattle.kex_ports.specs.InMemory.{HasRead};
 
-use crate::fault::{Failed, is_among};
+use crate::calls::Calls;
+use crate::fault::Failed;
+use std::marker::Model;
 
 /// Input, by the bytes that it has left and the number of its faults.
 pub trait Source {
@@ -22,11 +26,19 @@ pub trait Source {
         ensures cause { HasCause (faults self.old) (faults self.new) result };
 }
 
-// Copies a front of `from`, of at most so many bytes, and says how many: some where there are any and room for any.
+// The bytes from a place on.
+fn bytes_from(bytes: &[u8], at: usize) -> &[u8]
+    requires { at ≤ length bytes.now }
+    ensures { result.now ≡ drop at bytes.now }
+{
+    &bytes[at..]
+}
+
+// Copies a front of `from`, of at most so many bytes, and says how many.
 fn copy_front(from: &[u8], most: usize, buf: &mut [u8]) -> usize
-    ensures left { result ≤ length from.now }
-    ensures room { result ≤ length buf.new }
+    ensures count { result ≡ min (min (length buf.old) most) (length from.now) }
     ensures bytes { take result buf.new ≡ take result from.now }
+    ensures beyond { drop result buf.new ≡ drop result buf.old }
     ensures some { 0 < most → 0 < length from.now → 0 < length buf.new → 0 < result }
 {
     let count = buf.len().min(most).min(from.len());
@@ -40,42 +52,62 @@ pub struct MemSource {
     bytes: Vec<u8>,
     at: usize,
     per_read: usize,
-    fails: Vec<u64>,
-    calls: u64,
-    faults: u64,
-    ghost in_range: { at ≤ vec_len bytes },
-    ghost gives: { 0 < per_read },
+    calls: Calls,
+}
+
+impl Model for MemSource {
+    ghost use Rattle.std.specs.Prelude.{◌<◌, ◌≤◌, drop, vec_len};
+    ghost use Rattle.kex_ports.specs.InMemory.{Reading};
+
+    ghost Value = { Reading };
+
+    ghost view = { λ s. record { left = drop s.at s.bytes.items; most = s.per_read; calls = s.calls } };
+
+    ghost invariant = { λ s. (s.at ≤ vec_len s.bytes) × (0 < s.per_read) };
 }
 
 impl MemSource {
+    /// A read gives at most `per_read` bytes, and the calls numbered in `fails` fail.
     pub fn new(bytes: Vec<u8>, per_read: usize, fails: Vec<u64>) -> Self
         requires { 0 < per_read }
-        ensures rest { ⟦<MemSource as Source>⟧.rest result ≡ Some bytes.items }
-        ensures faults { ⟦<MemSource as Source>⟧.faults result ≡ 0 }
+        ensures { result ≡ record { left = bytes.items; most = per_read; calls = none_made fails.items } }
     {
         MemSource {
             bytes,
             at: 0,
             per_read,
-            fails,
-            calls: 0,
-            faults: 0,
+            calls: Calls::new(fails),
         }
+    }
+
+    /// The bytes that were not read yet.
+    pub fn left(&self) -> &[u8]
+        ensures { result.now ≡ self.now.left }
+    {
+        bytes_from(&self.bytes, self.at)
     }
 }
 
 impl Source for MemSource {
-    ghost rest = { λ s. Some (drop s.at s.bytes.items) };
+    ghost rest = { λ s. Some s.left };
 
-    ghost faults = { λ s. s.faults };
+    ghost faults = { λ s. s.calls.faults };
 
-    fn read(&mut self, buf: &mut [u8]) -> Result<usize, Failed> {
-        self.calls = self.calls.saturating_add(1);
-        if is_among(&self.fails, self.calls) {
-            self.faults = self.faults.saturating_add(1);
+    fn read(&mut self, buf: &mut [u8]) -> Result<usize, Failed>
+        requires { 0 < length buf.old }
+        ensures bound { ReadsAtMost result buf.new }
+        ensures bytes { ReadConsumes (Some self.old.left) (Some self.new.left) result buf.new }
+        ensures cause { HasCause self.old.calls.faults self.new.calls.faults result }
+        ensures exact { HasRead self.old self.new (length buf.old) result }
+        ensures beyond { IfOk result (λ n. drop n buf.new ≡ drop n buf.old) }
+        ensures untouched { OnErr result (buf.new ≡ buf.old) }
+    {
+        if self.calls.is_next_failing() {
+            self.calls.fail();
             return Err(Failed);
         }
-        let count = copy_front(&self.bytes[self.at..], self.per_read, buf);
+        self.calls.pass();
+        let count = copy_front(bytes_from(&self.bytes, self.at), self.per_read, buf);
         self.at += count;
         Ok(count)
     }
@@ -86,24 +118,40 @@ impl Source for MemSource {
 pub struct NeverFailsSource {
     bytes: Vec<u8>,
     at: usize,
-    ghost in_range: { at ≤ vec_len bytes },
+}
+
+impl Model for NeverFailsSource {
+    ghost use Rattle.std.specs.Prelude.{◌≤◌, List, ℕ, drop, vec_len};
+
+    ghost Value = { List ℕ };
+
+    ghost view = { λ s. drop s.at s.bytes.items };
+
+    ghost invariant = { λ s. s.at ≤ vec_len s.bytes };
 }
 
 impl NeverFailsSource {
     pub fn new(bytes: Vec<u8>) -> Self
-        ensures { ⟦<NeverFailsSource as Source>⟧.rest result ≡ Some bytes.items }
+        ensures { result ≡ bytes.items }
     {
         NeverFailsSource { bytes, at: 0 }
     }
 }
 
 impl Source for NeverFailsSource {
-    ghost rest = { λ s. Some (drop s.at s.bytes.items) };
+    ghost rest = { λ s. Some s };
 
     ghost faults = { λ _. 0 };
 
-    fn read(&mut self, buf: &mut [u8]) -> Result<usize, Failed> {
-        let count = copy_front(&self.bytes[self.at..], usize::MAX, buf);
+    fn read(&mut self, buf: &mut [u8]) -> Result<usize, Failed>
+        requires { 0 < length buf.old }
+        ensures bound { ReadsAtMost result buf.new }
+        ensures bytes { ReadConsumes (Some self.old) (Some self.new) result buf.new }
+        ensures cause { HasCause 0 0 result }
+        ensures exact { result ≡ Ok (min (length buf.old) (length self.old)) }
+        ensures beyond { IfOk result (λ n. drop n buf.new ≡ drop n buf.old) }
+    {
+        let count = copy_front(bytes_from(&self.bytes, self.at), usize::MAX, buf);
         self.at += count;
         Ok(count)
     }

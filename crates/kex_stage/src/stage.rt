@@ -72,8 +72,8 @@ fn speak(oracle: &mut Frontier, actor: &mut Actor, out: &mut Vec<u8>) -> Result<
     }
 }
 
-/// One stage of a pipeline, over the plan that it borrows: bytes come in pieces, and what all parses agree on goes out as
-/// soon as it is agreed.
+/// One stage of a pipeline, over the plan that it borrows: bytes come in pieces, and what the surviving paths agree on goes
+/// out as soon as it is agreed.
 #[derive(Drop)]
 pub struct Stage<'p> {
     oracle: Frontier<'p>,

@@ -24,8 +24,10 @@ use Rattle.kex_desugar.specs.Machines.{IsMachineOf}
 use Rattle.kex_trim.specs.Trim.{IsTrimOf}
 use Rattle.kex_trim.proofs.Keeping.{alike_kept}
 use Rattle.kex_stages.specs.Stages.{Carries}
+use Rattle.kex_stages.specs.Shapes.{SameShapes, MachineAnswersAsPlaces, StoodFor}
 use Rattle.kex_stages.proofs.Pairs.{Through, alike_through, end_back}
-use Rattle.kex_stages.proofs.Loops.{Numbered, alike, loop_of_places}
+use Rattle.kex_stages.proofs.Loops.{Numbered, alike, alike_back, loop_of_places}
+use Rattle.kex_stages.proofs.Shaping.{same_shapes, same_paths}
 use Rattle.kex_stages.proofs.Answering.{Serves, answers_so}
 
 -- paired steps do the same
@@ -252,3 +254,14 @@ module _ (P : Grammar) (root : ℕ) (m t : Graph) (is : IsMachineOf P root m) (t
 
   pub carries : (HasLoop m.nodes → ⊥) → Carries P root t
   carries none = carried P root t Pairs pairs_alike (m.start, is.start, trim.start) (λ h. none (loop_of_places P root m is h)) (trim.registers ∙ is.registers) (end_back placed numbered (Numbered P root m is) (alike P root m is) (start_of P root) m.start is.start (trim.each m.start t.start trim.start).0)
+
+  pub shaped : SameShapes P root t (λ p n. StoodFor is trim p n)
+  shaped = same_shapes P root t Pairs pairs_alike (m.start, is.start, trim.start)
+
+-- all nodes of a stage's machine
+pub machine_answers : (P : Grammar) (root : ℕ) (m : Graph) (is : IsMachineOf P root m) → MachineAnswersAsPlaces P root m is
+machine_answers P root m is = record {
+  paths = same_paths P root m (Numbered P root m is) (alike P root m is) is.start (alike_back P root m is);
+  shapes = same_shapes P root m (Numbered P root m is) (alike P root m is) is.start;
+  carries = λ none some. carried P root m (Numbered P root m is) (alike P root m is) is.start (λ h. none (loop_of_places P root m is h)) is.registers some;
+}

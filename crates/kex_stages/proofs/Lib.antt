@@ -3,3 +3,4 @@ pub mod Loops
 pub mod Answering
 pub mod Carrying
 pub mod Refusing
+pub mod Shaping

@@ -36,7 +36,7 @@ module _ (P : Grammar) (root : ℕ) (m : Graph) (is : IsMachineOf P root m) wher
   pub alike : Alike f g Numbered
   alike = alike_of Numbered f g (λ p i r. is.goes p i r) (λ p i j h k. is.once p i j h k) one_place
 
-  alike_back : Alike g f (λ i p. Numbered p i)
+  pub alike_back : Alike g f (λ i p. Numbered p i)
   alike_back = alike_of (λ i p. Numbered p i) g f (λ i p r. goes_back Numbered (is.goes p i r)) (λ i p q h k. one_place p q i h k) (λ i j p h k. is.once p i j h k)
 
   pub loop_of_nodes : HasLoop m.nodes → HasEmptyLoop P root

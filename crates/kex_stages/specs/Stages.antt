@@ -1,8 +1,9 @@
 -- A stage's machine, said of the stage's places.
-use Rattle.std.specs.Prelude.{◌≡◌, ◌↔◌, ℕ, Bool, List}
+use Rattle.std.specs.Prelude.{◌≡◌, ◌↔◌, ℕ, Bool, List, length}
+use Rattle.kex_code.specs.Codes.{HasNumber}
 use Rattle.kex_code.specs.declared.symbol.Symbol.{Symbol}
 use Rattle.kex_model.specs.Programs.{Grammar}
-use Rattle.kex_model.specs.Places.{Place, moves, start_of, HasEmptyLoop}
+use Rattle.kex_model.specs.Places.{Place, IsPlace, moves, start_of, HasEmptyLoop}
 use Rattle.kex_model.specs.Survivors.{LeadsToEnd, Survives, Agreed, Greedy, IsViable}
 use Rattle.kex_model.specs.Answers.{Answer}
 use Rattle.kex_machine.specs.Nodes.{Graph, HasLoop, node_moves}
@@ -37,6 +38,14 @@ module _ (P : Grammar) (root : ℕ) (m : Graph) where
 -- what a stage's machine leaves when it is trimmed answers as the stage does
 abbrev pub NodesAnswerAsPlaces : Type 0
 NodesAnswerAsPlaces = (P : Grammar) (root : ℕ) (m t : Graph) → IsMachineOf P root m → IsTrimOf m t → (HasLoop m.nodes → ⊥) → Carries P root t
+
+-- the stage has just so many places: each stands once in a list of this length, and nothing else does
+pub record HasPlaces (P : Grammar) (root count : ℕ) : Type 0 where
+  pub places : List Place
+  pub long : length places ≡ count
+  pub each : (p : Place) (i : ℕ) → HasNumber places p i → IsPlace P root p
+  pub all : (p : Place) → IsPlace P root p → (i : ℕ) × HasNumber places p i
+  pub once : (p : Place) (i j : ℕ) → HasNumber places p i → HasNumber places p j → i ≡ j
 
 -- why a stage has no machine: no cause of a lower number is there
 abbrev pub IsWhy : Grammar → ℕ → ℕ → StageRefusal → Type 0

@@ -1,9 +1,21 @@
-// That a stage's places and its nodes answer alike. The function's contract is the law.
+// That a stage's places and its nodes answer alike. Each function's contract is a law.
 
 ghost use Rattle.kex_stages.specs.Stages.{NodesAnswerAsPlaces};
+ghost use Rattle.kex_stages.specs.Shapes.{MachinesAnswerAsPlaces, NodesHaveShapesOfPlaces};
 
 /// What holds of a stage's places holds of the nodes that are left of its machine, and back: what is viable, what is
 /// agreed, what is said and meant, and each answer.
 pub fn nodes_answer_as_places()
     ensures { NodesAnswerAsPlaces }
+{}
+
+/// The same holds of the machine before it is trimmed, where no loop goes without a byte; and all its paths and shapes are
+/// those of the places.
+pub fn machines_answer_as_places()
+    ensures { MachinesAnswerAsPlaces }
+{}
+
+/// What is left of the machine has the shapes of the places, and the paths to those from which the end is reached.
+pub fn nodes_have_shapes_of_places()
+    ensures { NodesHaveShapesOfPlaces }
 {}

@@ -6,7 +6,7 @@
 
 ghost use Rattle.std.specs.Prelude.{◌≡◌, IfOk, OnOk, IfErr};
 ghost use Rattle.kex_desugar.specs.Machines.{HasMore};
-ghost use Rattle.kex_stages.specs.Stages.{Carries, IsWhy};
+ghost use Rattle.kex_stages.specs.Stages.{Carries, HasPlaces, IsWhy};
 
 pub mod laws;
 pub mod refusal;
@@ -20,6 +20,13 @@ use kex_model::program::Program;
 use kex_trim::trim;
 use std::alloc::Global;
 
+/// A stage's machine, and how many places the stage has before it is trimmed.
+#[derive(Drop)]
+pub struct StageMachine {
+    pub machine: Trimmed,
+    pub places: u32,
+}
+
 /// The machine of a stage that begins at node `root`, without loops that read nothing and without dead ends.
 ///
 /// It is refused for its places before it is for a loop, and for a loop before it is for want of a text. The time is
@@ -30,13 +37,18 @@ pub fn stage_machine(
     root: u32,
     stage: u32,
     max_places: u32,
-) -> Result<Trimmed, StageRefusal>
-    ensures carries { IfOk result (λ m. Carries program.now root m) }
+) -> Result<StageMachine, StageRefusal>
+    ensures carries { IfOk result (λ made. Carries program.now root made.machine) }
+    ensures places { IfOk result (λ made. HasPlaces program.now root made.places) }
     ensures fits { OnOk result (HasMore program.now root max_places → ⊥) }
-    ensures stage { IfOk result (λ m. m.stage ≡ stage) }
+    ensures stage { IfOk result (λ made. made.machine.stage ≡ stage) }
     ensures refused { IfErr result (λ e. IsWhy program.now root max_places e) }
 {
     let machine = desugar(alloc, program, root, stage, max_places)?;
+    let places = machine.nodes().len() as u32;
     let trimmed = trim(alloc, machine)?;
-    Ok(trimmed)
+    Ok(StageMachine {
+        machine: trimmed,
+        places,
+    })
 }

@@ -55,13 +55,16 @@ fn program(alloc: Global) -> Result<Program, Memory> {
 fn machines_and_refusals(rt: HostRuntime) {
     let program = program(rt.alloc()).expect(&rt, "a program");
     let cases = [
-        (1, 3, None),
-        (1, 2, Some(StageRefusal::TooManyPlaces)),
-        (2, 9, Some(StageRefusal::EmptyLoop)),
-        (4, 9, Some(StageRefusal::NoText)),
+        (1, 3, Ok(3)),
+        (1, 2, Err(StageRefusal::TooManyPlaces)),
+        (2, 9, Err(StageRefusal::EmptyLoop)),
+        (4, 9, Err(StageRefusal::NoText)),
     ];
     for (root, max_places, want) in cases {
-        let made = stage_machine(rt.alloc(), &program, root, 7, max_places);
-        assert_eq!(rt; made.err(), want);
+        let places = match stage_machine(rt.alloc(), &program, root, 7, max_places) {
+            Ok(made) => Ok(made.places),
+            Err(refusal) => Err(refusal),
+        };
+        assert_eq!(rt; places, want);
     }
 }

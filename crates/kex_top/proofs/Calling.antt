@@ -1,19 +1,31 @@
 -- From a run over nodes to what a call answers.
-use Rattle.std.proofs.Common.{◌≡◌, ◌++◌, ◌≤◌, ◌<◌, ℕ, List, [], Bool, true, false, refl, sym, ◌∙◌, subst, ap, inl, inr, ⊎_elim, length}
+use Rattle.std.proofs.lemmas.List.{length-map}
+use Rattle.kex_model.specs.Trees.{root_of}
+use Rattle.kex_pipe.specs.Reports.{report_as}
+use Rattle.std.proofs.Common.{◌≡◌, ◌++◌, ◌≤◌, ◌<◌, ℕ, suc, arith, List, [], ◌∷◌, Bool, true, false, refl, sym, ◌∙◌, subst, ap, inl, inr, ⊎_elim, length}
 use Rattle.std.specs.Prelude.{◌⊎◌, Option, Some, None}
 use Rattle.kex_ports.specs.Shelf.{IsTold}
 use Rattle.kex_ports.specs.Bytes.{IsPrefix}
 use Rattle.kex_machine.specs.Nodes.{Graph}
-use Rattle.kex_compile.specs.Compiled.{IsPlan, IsRefused}
+use Rattle.kex_model.specs.Answers.{Pipeline}
+use Rattle.kex_model.specs.Answers as model
+use Rattle.kex_model.specs.Laws.{StageAnswers}
+use Rattle.kex_model.specs.Programs.{Grammar}
+use Rattle.kex_stage.specs.Stages.{StagePlan, Gives}
+use Rattle.kex_compile.specs.Stages.{AreStages, Plans, roots_of}
+use Rattle.kex_compile.specs.Compiled.{IsCompiled, IsRefused}
 use Rattle.kex_compile.specs.declared.refusal.CompileRefusal.{CompileRefusal}
 use Rattle.kex_words.specs.Gains.{Change}
 use Rattle.kex_top.specs.Answer.{Said}
-use Rattle.kex_top.specs.Alone.{NodesSay, Answered}
-use Rattle.kex_top.specs.Run.{IsLeft, Ran, EndsAs, WritesAll, WritesBegun, WritesEarlier}
-use Rattle.kex_top.specs.Kex.{Runs, Left, Answers, IsStatusOf}
-use Rattle.kex_top.specs.declared.worker.Report.{Report}
+use Rattle.kex_top.specs.Pipelines.{NodesSay, Answered, first_limit, stage_plans}
+use Rattle.kex_top.specs.Run.{IsLeft, Left, Ran, EndsAs, WritesAll, WritesBegun, WritesEarlier}
+use Rattle.kex_top.specs.Kex.{Runs, Answers, IsStatusOf}
+use Rattle.kex_pipe.specs.declared.report.Rejected.{Rejected as Report}
 use Rattle.kex_top.specs.declared.status.Status.{Status}
 use Rattle.kex_top.specs.declared.status.Status.TheVariants.{Done, Rejected, Usage, Refused, ReadFault, WriteFault, ShelfFault, Memory, TooLong}
+
+abbrev plan_at : ℕ → Graph → StagePlan
+plan_at limit m = record { machine = m; limit = limit }
 
 -- one saying in place of another that says the same
 module _ (says says' : List ℕ → Bool → Said → Type 0) (to : (w : List ℕ) (e : Bool) (s : Said) → says w e s → says' w e s) (from : (w : List ℕ) (e : Bool) (s : Said) → says' w e s → says w e s) where
@@ -56,17 +68,51 @@ module _ (says says' : List ℕ → Bool → Said → Type 0) (to : (w : List �
   pub ran_alike : (n : ℕ) (source sink : Change) (s : Status) → Ran says n source sink s → Ran says' n source sink s
   ran_alike n source sink s r = record { w = r.w; e = r.e; read = r.read; ended = r.ended; ends = ends_alike n r.w r.e source sink s r.ends }
 
-pub runs_by : (limit block : ℕ) (told : Option (Option (List ℕ))) (text : List ℕ) (m : Graph) (source sink : Change) (s : Status) → IsTold told text → IsPlan text m → Ran (NodesSay (record { machine = m; limit = limit })) block source sink s → Runs limit block told source sink s
-runs_by limit block told text m source sink s is_told p r = record {
-  text = text;
-  is_told = is_told;
-  program = p.program;
-  accepts = p.accepts;
-  ran = ran_alike _ _
-      (λ w e said h. (h.0, (p.carries.answers limit w e h.0).1 h.1, h.2))
-      (λ w e said h. (h.0, (p.carries.answers limit w e h.0).0 h.1, h.2))
-      block source sink s r;
-}
+-- the machines of a program's stages answer as its stages do
+module _ (P : Grammar) (limit : ℕ) where
+  carried : (i k : ℕ) (rs : List ℕ) (ms : List Graph) (w : List ℕ) (e : Bool) (text : List ℕ) (r : Option model.Report) → AreStages P k rs ms → Pipeline (λ p v d a. Gives p v d a) i (stage_plans limit ms) w e text r → Pipeline (λ root v d a. StageAnswers P root limit v d a) i rs w e text r
+  carried i k [] [] w e text r h x = x
+  carried i k (root ∷ rs) (m ∷ ms) w e text r h (a, rest, gives, others, is) = (a, rest, (h.0.carries.answers limit w e a).1 gives, carried (suc i) (suc k) rs ms a.text a.ended text rest h.1 others, is)
+  carried i k [] (m ∷ ms) w e text r h x = absurd h
+  carried i k (root ∷ rs) [] w e text r h x = absurd h
+
+  carried-back : (i k : ℕ) (rs : List ℕ) (ms : List Graph) (w : List ℕ) (e : Bool) (text : List ℕ) (r : Option model.Report) → AreStages P k rs ms → Pipeline (λ root v d a. StageAnswers P root limit v d a) i rs w e text r → Pipeline (λ p v d a. Gives p v d a) i (stage_plans limit ms) w e text r
+  carried-back i k [] [] w e text r h x = x
+  carried-back i k (root ∷ rs) (m ∷ ms) w e text r h (a, rest, gives, others, is) = (a, rest, (h.0.carries.answers limit w e a).0 gives, carried-back (suc i) (suc k) rs ms a.text a.ended text rest h.1 others, is)
+  carried-back i k [] (m ∷ ms) w e text r h x = absurd h
+  carried-back i k (root ∷ rs) [] w e text r h x = absurd h
+
+as-many : (P : Grammar) (k : ℕ) (rs : List ℕ) (ms : List Graph) → AreStages P k rs ms → length ms ≡ length rs
+as-many P k [] [] h = refl
+as-many P k (root ∷ rs) (m ∷ ms) h = ap (λ n. suc n) (as-many P (suc k) rs ms h.1)
+as-many P k [] (m ∷ ms) h = absurd h
+as-many P k (root ∷ rs) [] h = absurd h
+
+-- a program has a stage
+pub some-machine : (text : List ℕ) (plans : Plans) → IsCompiled text plans → 0 < length plans.stages
+some-machine text plans p =
+    let n = as-many p.program 1 (roots_of p.program) plans.stages p.plans_of.stages in
+    let m = length-map p.program.stages (λ s. root_of p.program s.name) in
+    let some = p.accepts.some_stage in
+    omega arith
+
+pub first-limit : (limit : ℕ) (ms : List Graph) → 0 < length ms → first_limit (λ p. p.limit) (stage_plans limit ms) ≡ limit
+first-limit limit [] lt = absurd (omega arith)
+first-limit limit (m ∷ ms) lt = refl
+
+pub runs_by : (limit block : ℕ) (told : Option (Option (List ℕ))) (text : List ℕ) (plans : Plans) (source sink : Change) (s : Status) → IsTold told text → IsCompiled text plans → Ran (NodesSay (stage_plans limit plans.stages)) block source sink s → Runs limit block told source sink s
+runs_by limit block told text plans source sink s is_told p r =
+    let some : 0 < length (stage_plans limit plans.stages) = omega (arith, some-machine text plans p, length-map plans.stages (plan_at limit)) in
+    record {
+      text = text;
+      is_told = is_told;
+      program = p.program;
+      accepts = p.accepts;
+      ran = ran_alike _ _
+          (λ w e said h. carried p.program limit 1 1 (roots_of p.program) plans.stages w e said.text (report_as said.report) p.plans_of.stages h.1)
+          (λ w e said h. (some, carried-back p.program limit 1 1 (roots_of p.program) plans.stages w e said.text (report_as said.report) p.plans_of.stages h))
+          block source sink s r;
+    }
 
 -- a run's status is none that comes before a run
 pub answers_by : (limit block : ℕ) (told : Option (Option (List ℕ))) (source sink : Change) (s : Status) → Runs limit block told source sink s → Answers limit block told source sink s
@@ -80,9 +126,9 @@ answers_by limit block told source sink Usage r = r.ran.ends
 answers_by limit block told source sink (Refused x) r = absurd r.ran.ends
 answers_by limit block told source sink ShelfFault r = absurd r.ran.ends
 
-pub served : (limit block : ℕ) (told : Option (Option (List ℕ))) (text : List ℕ) (m : Graph) (source sink : Change) (s : Status) → IsTold told text → IsPlan text m → (Left source sink × (s ≡ Memory)) ⊎ Ran (NodesSay (record { machine = m; limit = limit })) block source sink s → Answers limit block told source sink s
-served limit block told text m source sink s t p (inl x) = subst (λ z. Answers limit block told source sink z) (sym x.1) (inl x.0)
-served limit block told text m source sink s t p (inr r) = answers_by limit block told source sink s (runs_by limit block told text m source sink s t p r)
+pub served : (limit block : ℕ) (told : Option (Option (List ℕ))) (text : List ℕ) (plans : Plans) (source sink : Change) (s : Status) → IsTold told text → IsCompiled text plans → (Left source sink × (s ≡ Memory)) ⊎ Ran (NodesSay (stage_plans limit plans.stages)) block source sink s → Answers limit block told source sink s
+served limit block told text plans source sink s t p (inl x) = subst (λ z. Answers limit block told source sink z) (sym x.1) (inl x.0)
+served limit block told text plans source sink s t p (inr r) = answers_by limit block told source sink s (runs_by limit block told text plans source sink s t p r)
 
 pub refused_by : (limit block : ℕ) (told : Option (Option (List ℕ))) (text : List ℕ) (rule : CompileRefusal) (source sink : Change) (s : Status) → IsTold told text → IsRefused text rule → Left source sink → IsStatusOf rule s → Answers limit block told source sink s
 refused_by limit block told text rule source sink Memory t h l i = inl l

@@ -1,27 +1,34 @@
 -- A good run is done, or wants memory; and what is done is what the program means.
-use Rattle.std.proofs.Common.{◌≡◌, ◌++◌, ◌≤◌, ◌<◌, ℕ, zero, suc, List, [], ◌∷◌, Bool, true, false, refl, sym, ◌∙◌, ap, subst, arith, inl, inr, length, take, length-take}
+use Rattle.std.proofs.Common.{◌≡◌, ◌++◌, ◌≤◌, ◌<◌, ℕ, zero, suc, List, [], ◌∷◌, Bool, true, false, refl, sym, ◌∙◌, ap, subst, arith, inl, inr, length, map}
 use Rattle.std.specs.Prelude.{◌⊎◌, Option, Some, None, IsSome}
 use Rattle.std.specs.Io.KnownBytes.{Appends, Consumes, IsAtEnd}
-use Rattle.kex_code.specs.Codes.{Begins}
+use Rattle.kex_code.specs.Codes.{Begins, IsAmong}
 use Rattle.kex_ports.specs.Shelf.{IsTold, IsPast}
 use Rattle.kex_ports.proofs.Known.{append-nil}
 use Rattle.kex_model.specs.Programs.{Grammar}
 use Rattle.kex_model.specs.Places.{HasEmptyLoop}
 use Rattle.kex_model.specs.Laws.{StageAnswers}
-use Rattle.kex_model.specs.Answers.{Answer, Stop, Viable, Says, HasParse, Means, bad_byte, too_long, cut_off, whole, still_open}
+use Rattle.kex_model.specs.Answers.{Answer, Stop, later, Pipeline, Viable, Says, HasParse, Means, bad_byte, too_long, cut_off, whole, still_open, code_at, empty}
+use Rattle.kex_model.specs.Answers as model
+use Rattle.kex_model.specs.Trees.{kind_at, meaning}
+use Rattle.kex_model.proofs.Correspondence.{one_to_one}
+use Rattle.kex_model.proofs.Orders.{at_most_both}
 use Rattle.kex_model.proofs.Saying.{grows, means_good}
-use Rattle.kex_model.proofs.Standing.{Orderly, stays}
+use Rattle.kex_model.proofs.Standing.{Orderly, stays, one_answer}
+use Rattle.kex_pipe.specs.Reports.{report_as}
+use Rattle.kex_pipe.proofs.Pipelines.{one_answer as one_pipeline, pipelines_stand}
 use Rattle.kex_reader.specs.Terms.{Spells}
+use Rattle.kex_compile.specs.Stages.{CanRun, roots_of}
 use Rattle.kex_compile.specs.Compiled.{Accepts, IsRefused}
 use Rattle.kex_compile.specs.declared.refusal.CompileRefusal.{CompileRefusal}
 use Rattle.kex_compile.specs.declared.refusal.CompileRefusal.TheVariants as compile
 use Rattle.kex_words.specs.Gains.{Change}
 use Rattle.kex_words.specs.declared.refusals.Refusal.{Refusal}
 use Rattle.kex_top.specs.Answer.{Said}
-use Rattle.kex_top.specs.Alone.{Answered, report_of, said_of}
+use Rattle.kex_top.specs.Pipelines.{Answered, MeansInTurn}
 use Rattle.kex_top.specs.Run.{Ran, WritesAll}
 use Rattle.kex_top.specs.Kex.{Answers, Breaks, Broke, Headline, IsGood, IsQuiet, IsRefusalOf, IsRefusedFor, Runs, ShelfAnswers, ShelfChange, most_text}
-use Rattle.kex_top.specs.declared.worker.Report.{Report}
+use Rattle.kex_pipe.specs.declared.report.Rejected.{Rejected as Report}
 use Rattle.kex_top.specs.declared.status.Status.{Status}
 use Rattle.kex_top.specs.declared.status.Status.TheVariants.{Done, Rejected, Usage, Refused, ReadFault, WriteFault, ShelfFault, Memory, TooLong}
 
@@ -33,51 +40,75 @@ orderly P root none = record {
   good = λ w s h. means_good P root w s none h;
 }
 
-no_report : (s : Option Stop) → report_of s ≡ None → s ≡ None
-no_report None e = refl
-no_report (Some s) e = cc
+some_none : (r : Report) → report_as (Some r) ≡ None → ⊥
+some_none r e = cc
 
-some_report : (s : Option Stop) (r : Report) → report_of s ≡ Some r → s ≡ None → ⊥
-some_report None r e n = cc
-some_report (Some s) r e n = cc
+no_report : (r : Option Report) → r ≡ None → report_as r ≡ None
+no_report r e = ap report_as e
 
-module _ (P : Grammar) (root limit : ℕ) where
-  -- an ended answer without a stop is the meaning
-  whole_of : {w : List ℕ} {a : Answer} → StageAnswers P root limit w true a → a.stop ≡ None → (length w ≤ limit) × Means P root w a.text
-  whole_of (bad_byte v bad l s) n = cc
-  whole_of (too_long lt g s) n = cc
-  whole_of (cut_off le g h s) n = cc
-  whole_of (whole le m) n = (le, m)
+-- a stage's root that has no loop
+abbrev Sound : Grammar → Type 0
+Sound P = (root : ℕ) × ¬ HasEmptyLoop P root
 
-  take_short : (n : ℕ) (w : List ℕ) → length w ≤ n → take n w ≡ w
-  take_short zero [] le = refl
-  take_short (suc n) [] le = refl
-  take_short zero (x ∷ w) le = absurd (omega (arith, le))
-  take_short (suc n) (x ∷ w) le = ap (λ z. x ∷ z) (take_short n w (omega (arith, le)))
+module _ (P : Grammar) (limit : ℕ) where
+  abbrev Gives : Sound P → List ℕ → Bool → Answer → Type 0
+  Gives x w e a = StageAnswers P x.0 limit w e a
 
-  -- what has a meaning isn't stopped
-  not_stopped : ¬ HasEmptyLoop P root → {w : List ℕ} {a : Answer} (text : List ℕ) → length w ≤ limit → Means P root w text → StageAnswers P root limit w true a → (a.stop ≡ None → ⊥) → ⊥
-  not_stopped none {w = w} text le m (bad_byte v bad l s) some = bad (subst (λ z. Viable P root z) (sym (take_short limit w le)) (means_good P root w text none m))
-  not_stopped none text le m (too_long lt g s) some = omega (arith, le, lt)
-  not_stopped none text le m (cut_off le' g h s) some = h (m.0, m.1.parses)
-  not_stopped none text le m (whole le' m') some = some refl
+  one_meaning : (x : Sound P) (w s t : List ℕ) → Means P x.0 w s → Means P x.0 w t → s ≡ t
+  one_meaning x w s t (a, h, e) (b, k, f) =
+      let codes = at_most_both (code_at P x.0 a) (code_at P x.0 b) (h.least b k.parses) (k.least a h.parses) in
+      let same : a ≡ b = (one_to_one P x.0 w x.1).one_tree a b h.parses k.parses codes in
+      e ∙ ap (λ z. (meaning P (kind_at P x.0) z (empty P)).bytes) same ∙ sym f
 
-  unrejected : ¬ HasEmptyLoop P root → (w rest input : List ℕ) (e : Bool) (said done : Said) (r : Report) → input ≡ w ++ rest → (e ≡ true → rest ≡ []) → Answered P root limit w e said → said.report ≡ Some r → Answered P root limit input true done → done.report ≡ None → ⊥
-  unrejected none w rest input true said done r is end (a, h, f) rep (b, k, g) n =
-      let all : input ≡ w = is ∙ ap (λ (s : List ℕ). w ++ s) (end refl) ∙ sym (append-nil w) in
-      let x = whole_of k (no_report b.stop (sym (ap (λ z. z.report) g) ∙ n)) in
-      not_stopped none b.text (subst (λ z. length z ≤ limit) all x.0) (subst (λ z. Means P root z b.text) all x.1) h (some_report a.stop r (sym (ap (λ z. z.report) f) ∙ rep))
-  unrejected none w rest input false said done r is end (a, h, f) rep (b, k, g) n =
-      let some = some_report a.stop r (sym (ap (λ z. z.report) f) ∙ rep) in
-      let same : b ≡ a = (stays (Viable P root) (Says P root) (HasParse P root) (Means P root) (orderly P root none) limit (rest, is) h k).1 some in
-      some (ap (λ z. z.stop) (sym same) ∙ no_report b.stop (sym (ap (λ z. z.report) g) ∙ n))
+  one : (x : Sound P) (w : List ℕ) (e : Bool) (a b : Answer) → Gives x w e a → Gives x w e b → a ≡ b
+  one x w e a b h k = one_answer (Viable P x.0) (Says P x.0) (HasParse P x.0) (Means P x.0) (orderly P x.0 x.1) limit (λ u s m. (m.0, m.1.parses)) (one_meaning x) h k
 
-unrejected_by : (P : Grammar) (root limit : ℕ) → ¬ HasEmptyLoop P root → (old new : Option (List ℕ)) (w input : List ℕ) (e : Bool) (said done : Said) (r : Report) → old ≡ Some input → Consumes old new w → (e ≡ true → IsAtEnd new) → Answered P root limit w e said → said.report ≡ Some r → Answered P root limit input true done → done.report ≡ None → ⊥
-unrejected_by P root limit none None new w input e said done r is read end h rep k n = cc
-unrejected_by P root limit none (Some xs) None w input e said done r is read end h rep k n = read
-unrejected_by P root limit none (Some xs) (Some ys) w input e said done r is read end h rep k n =
+  stands : (x : Sound P) (w v : List ℕ) (e : Bool) (a b : Answer) → Gives x w false a → Gives x (w ++ v) e b → Begins b.text a.text × ((a.stop ≡ None → ⊥) → b ≡ a)
+  stands x w v e a b h k = stays (Viable P x.0) (Says P x.0) (HasParse P x.0) (Means P x.0) (orderly P x.0 x.1) limit (v, refl) h k
+
+  -- open input isn't handed on ended
+  stays_open : (x : Sound P) (w : List ℕ) (a : Answer) → Gives x w false a → a.ended ≡ false
+  stays_open x w a (bad_byte v bad l s) = refl
+  stays_open x w a (too_long lt g s) = refl
+  stays_open x w a (still_open le g s) = refl
+
+  -- the roots of stages as sound ones
+  as_sound : (rs : List ℕ) → ((r : ℕ) → IsAmong rs r → CanRun P r) → (xs : List (Sound P)) × (map (λ x. x.0) xs ≡ rs)
+  as_sound [] h = ([], refl)
+  as_sound (r ∷ rs) h = let x = as_sound rs (λ q i. h q (inr i)) in ((r, (h r (inl refl)).no_loop) ∷ x.0, ap (λ z. r ∷ z) x.1)
+
+  sounds : (i : ℕ) (xs : List (Sound P)) (w : List ℕ) (e : Bool) (text : List ℕ) (r : Option model.Report) → Pipeline (λ root v d a. StageAnswers P root limit v d a) i (map (λ x. x.0) xs) w e text r → Pipeline Gives i xs w e text r
+  sounds i [] w e text r h = h
+  sounds i (x ∷ xs) w e text r (a, rest, g, o, is) = (a, rest, g, sounds (suc i) xs a.text a.ended text rest o, is)
+
+  -- what parses whole isn't rejected, also not before its end
+  unrejected : ((r : ℕ) → IsAmong (roots_of P) r → CanRun P r) → (w rest input : List ℕ) (e : Bool) (said done : Said) (r : Report) → input ≡ w ++ rest → (e ≡ true → rest ≡ []) → Answered P limit w e said → said.report ≡ Some r → Answered P limit input true done → done.report ≡ None → ⊥
+  unrejected run w rest input e said done r is end h rep k none =
+      let xs = as_sound (roots_of P) run in
+      let h' = sounds 1 xs.0 w e said.text (report_as said.report) (rw xs.1 h) in
+      let k' = sounds 1 xs.0 input true done.text (report_as done.report) (rw xs.1 k) in
+      cases e (λ y. end y) h' k'
+    where
+      cases : (e : Bool) → (e ≡ true → rest ≡ []) → Pipeline Gives 1 (as_sound (roots_of P) run).0 w e said.text (report_as said.report) → Pipeline Gives 1 (as_sound (roots_of P) run).0 input true done.text (report_as done.report) → ⊥
+      cases true end h k =
+          let all : input ≡ w = is ∙ ap (λ (s : List ℕ). w ++ s) (end refl) ∙ sym (append-nil w) in
+          let xs = (as_sound (roots_of P) run).0 in
+          let k' : Pipeline Gives 1 xs w true done.text (report_as done.report) = subst (λ z. Pipeline Gives 1 xs z true done.text (report_as done.report)) all k in
+          let same = (one_pipeline Gives one xs 1 w done.text said.text true (report_as done.report) (report_as said.report) k' h).1 in
+          some_none r (sym (ap report_as rep) ∙ same ∙ ap report_as none)
+      cases false end h k =
+          let xs = (as_sound (roots_of P) run).0 in
+          let k' : Pipeline Gives 1 xs (w ++ rest) true done.text (report_as done.report) = subst (λ z. Pipeline Gives 1 xs z true done.text (report_as done.report)) is k in
+          let x = pipelines_stand Gives one (λ y u v d a b g g'. (stands y u v d a b g g').0) (λ y u v d a b g g' some. (stands y u v d a b g g').1 some) stays_open xs 1 w rest said.text done.text true (report_as said.report) (report_as done.report) h k' in
+          let same = (x.1 (λ n. some_none r (sym (ap report_as rep) ∙ n))).1 in
+          some_none r (sym (ap report_as rep) ∙ sym same ∙ ap report_as none)
+
+unrejected_by : (P : Grammar) (limit : ℕ) → ((r : ℕ) → IsAmong (roots_of P) r → CanRun P r) → (old new : Option (List ℕ)) (w input : List ℕ) (e : Bool) (said done : Said) (r : Report) → old ≡ Some input → Consumes old new w → (e ≡ true → IsAtEnd new) → Answered P limit w e said → said.report ≡ Some r → Answered P limit input true done → done.report ≡ None → ⊥
+unrejected_by P limit run None new w input e said done r is read end h rep k n = cc
+unrejected_by P limit run (Some xs) None w input e said done r is read end h rep k n = read
+unrejected_by P limit run (Some xs) (Some ys) w input e said done r is read end h rep k n =
     let same : input ≡ xs = cc in
-    unrejected P root limit none w ys input e said done r (same ∙ read) end h rep k n
+    unrejected P limit run w ys input e said done r (same ∙ read) end h rep k n
 
 told-same : (told : Option (Option (List ℕ))) (text other : List ℕ) → told ≡ Some (Some text) → IsTold told other → other ≡ text
 told-same None text other is t = cc
@@ -100,14 +131,14 @@ unrefused told text r is short good (inr b) =
     let same : b.text ≡ text = told-same told text b.text is b.is_told in
     shown_memory r b.rule (good b.rule (subst (λ t. IsRefused t b.rule) same b.is_refused)) b.is_shown
 
-ran-good : (limit block : ℕ) (told : Option (Option (List ℕ))) (shelf : ShelfChange) (source sink : Change) (s : Status) (r : Report) → IsGood limit told shelf source sink → (p : Runs limit block told source sink s) → WritesAll (Answered p.program p.accepts.spells.root limit) p.ran.w p.ran.e (Some r) sink → ⊥
+ran-good : (limit block : ℕ) (told : Option (Option (List ℕ))) (shelf : ShelfChange) (source sink : Change) (s : Status) (r : Report) → IsGood limit told shelf source sink → (p : Runs limit block told source sink s) → WritesAll (Answered p.program limit) p.ran.w p.ran.e (Some r) sink → ⊥
 ran-good limit block told shelf source sink s r g p all =
     let same : p.text ≡ g.text = told-same told g.text p.text g.is_told p.is_told in
     let goes = by p.text same p.program p.accepts.spells in
-    unrejected_by p.program p.accepts.spells.root limit p.accepts.no_loop source.old source.new p.ran.w g.input p.ran.e all.said goes.0 r g.rest p.ran.read p.ran.ended all.is_said all.reports goes.1 goes.2
+    unrejected_by p.program limit p.accepts.stages source.old source.new p.ran.w g.input p.ran.e all.said goes.0 r g.rest p.ran.read p.ran.ended all.is_said all.reports goes.1 goes.2
   where
-    by : (text : List ℕ) → text ≡ g.text → (P : Grammar) (x : Spells text P) → (said : Said) × Answered P x.root limit g.input true said × (said.report ≡ None)
-    by text e = subst (λ t. (P : Grammar) (x : Spells t P) → (said : Said) × Answered P x.root limit g.input true said × (said.report ≡ None)) (sym e) g.parses
+    by : (text : List ℕ) → text ≡ g.text → (P : Grammar) → Spells text P → (said : Said) × Answered P limit g.input true said × (said.report ≡ None)
+    by text e = subst (λ t. (P : Grammar) → Spells t P → (said : Said) × Answered P limit g.input true said × (said.report ≡ None)) (sym e) g.parses
 
 pub completes : (limit block : ℕ) (told : Option (Option (List ℕ))) (shelf : ShelfChange) (source sink : Change) (s : Status) → IsGood limit told shelf source sink → ShelfAnswers told shelf s → Answers limit block told source sink s → (s ≡ Done) ⊎ (s ≡ Memory)
 completes limit block told shelf source sink Done g h a = inl refl
@@ -141,6 +172,26 @@ reads-all : (old new : Option (List ℕ)) (input w : List ℕ) → old ≡ Some 
 reads-all None new input w is read end = cc
 reads-all (Some xs) new input w is read end = let same : xs ≡ input = cc in at-end new xs input w same read end
 
+-- an ended answer without a stop is the meaning
+whole_of : (P : Grammar) (root limit : ℕ) {w : List ℕ} {a : Answer} → StageAnswers P root limit w true a → a.stop ≡ None → (length w ≤ limit) × Means P root w a.text × (a.ended ≡ true)
+whole_of P root limit (bad_byte v bad l s) n = cc
+whole_of P root limit (too_long lt g s) n = cc
+whole_of P root limit (cut_off le g h s) n = cc
+whole_of P root limit (whole le m) n = (le, m, refl)
+
+none-later : (i : ℕ) (own : Option Stop) (rest : Option model.Report) → later i own rest ≡ None → (own ≡ None) × (rest ≡ None)
+none-later i own (Some r) e = cc
+none-later i None None e = (refl, refl)
+none-later i (Some s) None e = cc
+
+-- without a report each stage has meant what the next reads
+all-meant : (P : Grammar) (limit i : ℕ) (rs w text : List ℕ) (r : Option model.Report) → Pipeline (λ root v d a. StageAnswers P root limit v d a) i rs w true text r → r ≡ None → MeansInTurn P limit rs w text
+all-meant P limit i [] w text r h none = h.0
+all-meant P limit i (root ∷ rs) w text r (a, rest, gives, others, is) none =
+    let n = none-later i a.stop rest (sym is ∙ none) in
+    let m = whole_of P root limit gives n.0 in
+    (m.0, a.text, m.1, all-meant P limit (suc i) rs a.text text rest (subst (λ z. Pipeline (λ root v d b. StageAnswers P root limit v d b) (suc i) rs a.text z text rest) m.2 others) n.1)
+
 pub done-as-told : (limit block : ℕ) (told : Option (Option (List ℕ))) (source sink : Change) (s : Status) (text input before : List ℕ) → told ≡ Some (Some text) → source.old ≡ Some input → sink.old ≡ Some before → s ≡ Done → Answers limit block told source sink s → Headline text limit input before source.new sink.new
 done-as-told limit block told source sink s text input before is rest held done answers =
     let p : Runs limit block told source sink Done = subst (λ x. Answers limit block told source sink x) done answers in
@@ -152,11 +203,9 @@ done-as-told limit block told source sink s text input before is rest held done 
         let ended : p.ran.e ≡ true = p.ran.ends.0 in
         let all = reads-all source.old source.new input p.ran.w rest p.ran.read (p.ran.ended ended) in
         let x = p.ran.ends.1 in
-        let a = x.is_said in
-        let answer : StageAnswers p.program p.accepts.spells.root limit p.ran.w true a.0 = subst (λ e. StageAnswers p.program p.accepts.spells.root limit p.ran.w e a.0) ended a.1 in
-        let m = whole_of p.program p.accepts.spells.root limit answer (no_report a.0.stop (sym (ap (λ z. z.report) a.2) ∙ x.reports)) in
-        let text_is : x.said.text ≡ a.0.text = ap (λ z. z.text) a.2 in
-        moved p.text same p.program p.accepts a.0.text (subst (λ z. Means p.program p.accepts.spells.root z a.0.text) all.1 m.1) (subst (λ z. length z ≤ limit) all.1 m.0) (holds-all sink.old sink.new before x.said.text held x.appended ∙ ap (λ (z : List ℕ). Some (before ++ z)) text_is) all.0
+        let answer : Answered p.program limit p.ran.w true x.said = subst (λ e. Answered p.program limit p.ran.w e x.said) ended x.is_said in
+        let m = all-meant p.program limit 1 (roots_of p.program) p.ran.w x.said.text (report_as x.said.report) answer (no_report x.said.report x.reports) in
+        moved p.text same p.program p.accepts x.said.text (subst (λ z. MeansInTurn p.program limit (roots_of p.program) z x.said.text) all.1 m) (holds-all sink.old sink.new before x.said.text held x.appended) all.0
       where
-        moved : (t : List ℕ) → t ≡ text → (P : Grammar) (x : Accepts t P) (meant : List ℕ) → Means P x.spells.root input meant → length input ≤ limit → sink.new ≡ Some (before ++ meant) → source.new ≡ Some [] → Headline text limit input before source.new sink.new
-        moved t e = subst (λ z. (P : Grammar) (x : Accepts z P) (meant : List ℕ) → Means P x.spells.root input meant → length input ≤ limit → sink.new ≡ Some (before ++ meant) → source.new ≡ Some [] → Headline text limit input before source.new sink.new) (sym e) (λ P x meant m le w r. record { program = P; accepts = x; meant = meant; means = m; within = le; written = w; read = r })
+        moved : (t : List ℕ) → t ≡ text → (P : Grammar) → Accepts t P → (meant : List ℕ) → MeansInTurn P limit (roots_of P) input meant → sink.new ≡ Some (before ++ meant) → source.new ≡ Some [] → Headline text limit input before source.new sink.new
+        moved t e P x meant m w r = record { program = P; accepts = subst (λ z. Accepts z P) e x; meant = meant; means = m; written = w; read = r }

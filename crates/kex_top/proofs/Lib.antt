@@ -1,4 +1,6 @@
-pub mod Running
+pub mod Schedules
+pub mod Turning
 pub mod Working
+pub mod Running
 pub mod Calling
 pub mod Completing

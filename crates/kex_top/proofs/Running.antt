@@ -12,7 +12,7 @@ use Rattle.kex_top.specs.Run.{is_whole, Pumped, Ran, EndsAs, WritesAll, WritesBe
 use Rattle.kex_pipe.specs.declared.turn.Fate.{Fate}
 use Rattle.kex_pipe.specs.declared.turn.Why.{Why}
 use Rattle.kex_pipe.specs.declared.turn.Why.TheVariants.{Byte, End, Limit}
-use Rattle.kex_top.specs.declared.worker.Report.{Report}
+use Rattle.kex_pipe.specs.declared.report.Rejected.{Rejected as Report}
 use Rattle.kex_top.specs.declared.status.Status.{Status}
 use Rattle.kex_top.specs.declared.status.Status.TheVariants.{Done, Rejected, TooLong, ReadFault, WriteFault}
 use Rattle.kex_top.specs.declared.pass.Trouble.{Trouble}

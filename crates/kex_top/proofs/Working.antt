@@ -1,42 +1,127 @@
--- One stage alone is a worker.
-use Rattle.std.proofs.Common.{◌≡◌, ℕ, ◌<◌, Bool, true, false, List, [], ◌∷◌, ◌++◌, Option, Some, None, length, refl, sym, ap, subst, ◌∙◌, arith}
-use Rattle.std.specs.Prelude.{IsSome}
-use Rattle.kex_code.specs.Codes.{Begins}
-use Rattle.kex_ports.specs.Bytes.{IsPrefix}
-use Rattle.kex_model.specs.Answers.{Answer, Stop}
-use Rattle.kex_model.specs.Answers as model
-use Rattle.kex_machine.proofs.Standing.{one_answer, grows, stays, past_limit}
-use Rattle.kex_pipe.specs.Histories.{Fed, Feeds}
-use Rattle.kex_pipe.specs.Histories as turns
+-- A pipe is a worker.
+use Rattle.std.proofs.Common.{◌≡◌, ℕ, ◌<◌, Bool, true, false, List, [], ◌∷◌, ◌++◌, ◌||◌, Option, Some, None, length, map, get_or, zero, suc, arith, refl, sym, ap, ap₂, subst, ◌∙◌, append-nil}
+use Rattle.kex_model.specs.Answers.{Answer, Report, Pipeline}
+use Rattle.kex_model.specs.Schedules.{Item, Seat, has_end, Event, give, give_end, Settled}
+use Rattle.kex_pipe.specs.Events.{bytes_given, end_given}
+use Rattle.kex_pipe.specs.Reports.{report_as}
+use Rattle.kex_pipe.specs.Standing.{Line, Stands, in_hand}
+use Rattle.kex_pipe.specs.declared.inbox.Inbox.{Inbox}
+use Rattle.kex_pipe.specs.declared.seat.Seat.{Seat as Seated}
+use Rattle.kex_pipe.specs.declared.pipe.Pipe.{Pipe}
+use Rattle.kex_pipe.specs.declared.report.Rejected.{Rejected}
 use Rattle.kex_pipe.specs.declared.turn.Fate.{Fate}
-use Rattle.kex_pipe.specs.declared.turn.Fate.TheVariants.{On, Stopped}
-use Rattle.kex_stage.specs.Stages.{StagePlan, Gives}
+use Rattle.kex_pipe.specs.declared.turn.Turn.{Ghosts}
+use Rattle.kex_pipe.proofs.Items.{end-items}
+use Rattle.kex_pipe.proofs.Pipelines.{one_answer}
+use Rattle.kex_pipe.proofs.Schedule.{came-given, bytes_given-append, end_given-append}
 use Rattle.kex_top.specs.Answer.{Said}
-use Rattle.kex_top.specs.History as runs
-use Rattle.kex_top.specs.Alone.{report_of, said_of, NodesSay}
-use Rattle.kex_top.specs.AloneLaws.{AloneStands}
+use Rattle.kex_top.specs.History.{Fed, History, bytes_of, text_of, is_ended, IsFateOf, Feeds}
+use Rattle.kex_top.specs.Piped.{plans_of, IsWorkedOff, HasSaid, PipeStands}
+use Rattle.kex_top.specs.PipelineLaws.{report-same}
+use Rattle.kex_top.specs.Pipelines.{StagesSay}
+use Rattle.kex_top.proofs.Schedules.{same-came, same-seats}
 
--- a history of the run as one of the stage
-pub as_turn : (stands : Option Fed → Type 0) (h : runs.History) → AloneStands stands h → (k : Option Fed) × stands k × (turns.bytes_of k ≡ runs.bytes_of h) × (turns.ended_of k ≡ runs.is_ended h) × (turns.text_of k ≡ runs.text_of h)
-as_turn stands None s = (None, s, refl, refl, refl)
-as_turn stands (Some f) (a, s, e) = (Some (record { bytes = f.bytes; ended = f.ended; answer = a }), s, refl, refl, ap (λ z. z.text) (sym e))
+or-not : (a : Bool) → (a || false) ≡ a
+or-not true = refl
+or-not false = refl
 
-fate_as : (s : Option Stop) (fate : Fate) → turns.IsFateOf s fate → runs.IsFateOf (report_of s) fate
-fate_as None On i = refl
-fate_as None Stopped i = let bad : false ≡ true = i in cc
-fate_as (Some s) On i = cc
-fate_as (Some s) Stopped i = refl
+or-yes : (a : Bool) → (a || true) ≡ true
+or-yes true = refl
+or-yes false = refl
 
-pub alone_feeds : (p : StagePlan) (stands : Option Fed → Type 0) (h : runs.History) (k : Option Fed) (w u : List ℕ) (e : Bool) (old new : List ℕ) (fate : Fate) → turns.text_of k ≡ runs.text_of h → u ≡ w → Feeds (λ x d a. Gives p x d a) stands k u e old new fate → runs.Feeds (λ x d s. NodesSay p x d s) (λ j. AloneStands stands j) h w e old new fate
-alone_feeds p stands h k w u e old new fate t same f = subst (λ z. runs.Feeds (λ x d s. NodesSay p x d s) (λ j. AloneStands stands j) h z e old new fate) same (record {
-  said = said_of f.answer;
-  is_said = (f.answer, f.gives, refl);
-  stands_for = (f.answer, f.stands, refl);
-  added = f.added;
-  whole = f.whole ∙ ap (λ z. z ++ f.added) t;
-  appended = f.appended;
-  is_fate = fate_as f.answer.stop fate f.is_fate;
-})
+module _ {T : Type 0} (t : Ghosts T) where
+  line-plans : (came : List Item) (ps : List t.Plan) (ss : List (Seated T)) (xs : List Seat) (bs : List Inbox) (taken : List ℕ) → Line t came ps ss xs bs taken → map (λ s. t.plan s.stage) ss ≡ ps
+  line-plans came [] [] [] (b ∷ []) taken h = refl
+  line-plans came (p ∷ ps) (s ∷ ss) (x ∷ xs) (b ∷ bs) taken h = ap₂ (λ q qs. q ∷ qs) h.2.same_plan (line-plans h.1 ps ss xs bs taken h.3)
+  line-plans came ps ss xs bs taken h = absurd h
 
-pub alone_report : (stands : Option Fed → Type 0) (stop : Option model.Stop) (f : runs.Fed) → ((h : Option Fed) → stands h → stop ≡ turns.stop_in h) → AloneStands stands (Some f) → report_of stop ≡ f.said.report
-alone_report stands stop f tells (a, s, e) = ap report_of (tells _ s) ∙ ap (λ z. z.report) (sym e)
+  pub same-plans : (ps : List t.Plan) (pipe : Pipe T t) (h : List Event) (taken : List ℕ) → Stands t ps pipe h taken → plans_of t pipe ≡ ps
+  same-plans ps pipe h taken s = line-plans s.came ps pipe.seats.items s.seats pipe.inboxes.items taken s.line
+
+  -- a stage more that wasn't fed
+  pub unfed-more : (xs : List T) (x : T) → ((k : ℕ) (d : T) → k < length xs → t.stands (get_or xs k d) None) → t.stands x None → (k : ℕ) (d : T) → k < length (xs ++ x ∷ []) → t.stands (get_or (xs ++ x ∷ []) k d) None
+  unfed-more [] x unfed h zero d lt = h
+  unfed-more [] x unfed h (suc k) d lt = absurd (omega arith)
+  unfed-more (y ∷ xs) x unfed h zero d lt = unfed zero d (omega arith)
+  unfed-more (y ∷ xs) x unfed h (suc k) d lt = unfed-more xs x (λ n c less. unfed (suc n) c (omega arith)) h k d (omega arith)
+
+  -- what the pipe was given, by what the worker was fed
+  pub record Standing (pipe : Pipe T t) (h : History) : Type 0 where
+    pub events : List Event
+    pub some : 0 < length (plans_of t pipe)
+    pub stands : Stands t (plans_of t pipe) pipe events (text_of h)
+    pub bytes : bytes_given events ≡ bytes_of h
+    pub end : end_given events ≡ is_ended h
+
+  pub standing : (pipe : Pipe T t) (h : History) → PipeStands t pipe h → Standing pipe h
+  standing pipe None s = record { events = []; some = s.0; stands = s.1; bytes = refl; end = refl }
+  standing pipe (Some f) s = record { events = s.worked_off.events; some = s.says.0; stands = s.worked_off.stands; bytes = s.worked_off.same_bytes ∙ s.bytes; end = s.worked_off.same_end ∙ s.end }
+
+  -- the end wasn't given
+  pub still-open : (pipe : Pipe T t) (h : History) → PipeStands t pipe h → is_ended h ≡ false → pipe.ended ≡ false
+  still-open pipe h s e =
+      let x = standing pipe h s in
+      x.stands.same_end ∙ ap has_end (came-given t.gives x.stands.after) ∙ end-items (bytes_given x.events) (end_given x.events) ∙ x.end ∙ e
+
+  module _ (one : (p : t.Plan) (w : List ℕ) (e : Bool) (a b : Answer) → t.gives p w e a → t.gives p w e b → a ≡ b) where
+    module _ (ps : List t.Plan) (old pipe : Pipe T t) (given : List Event) (taken out : List ℕ) (r : Option Rejected) where
+      -- what was worked off stays so when the output is taken
+      taken-off : IsWorkedOff t ps given taken old → ((h : List Event) → Stands t ps old h taken → Stands t ps pipe h (taken ++ out)) → IsWorkedOff t ps given (taken ++ out) pipe
+      taken-off w takes =
+          let s = takes w.events w.stands in
+          record {
+            events = w.events;
+            same_bytes = w.same_bytes;
+            same_end = w.same_end;
+            stands = s;
+            settled = subst (λ z. Settled t.gives s.came ps z) (same-seats t.gives one ps w.stands.after s.after) (subst (λ z. Settled t.gives z ps w.stands.seats) (same-came t.gives ps w.stands.after s.after) w.settled);
+          }
+
+      answered : (w : IsWorkedOff t ps given (taken ++ out) pipe) → in_hand t pipe ≡ [] → ((h : List Event) (text : List ℕ) (s : Stands t ps pipe h text) → Settled t.gives s.came ps s.seats → Pipeline t.gives 1 ps (bytes_given h) (end_given h) (text ++ in_hand t pipe) (report_as r)) → Pipeline t.gives 1 ps (bytes_given given) (end_given given) (taken ++ out) (report_as r)
+      answered w none reports =
+          let all = reports w.events (taken ++ out) w.stands w.settled in
+          subst (λ z. Pipeline t.gives 1 ps z (end_given given) (taken ++ out) (report_as r)) w.same_bytes
+          (subst (λ z. Pipeline t.gives 1 ps (bytes_given w.events) z (taken ++ out) (report_as r)) w.same_end
+          (subst (λ z. Pipeline t.gives 1 ps (bytes_given w.events) (end_given w.events) z (report_as r)) (ap (λ z. (taken ++ out) ++ z) none ∙ append-nil (taken ++ out)) all))
+
+      -- the worker has said all that there is to say on what it was given
+      pub said-all : (h : History) (w : List ℕ) (e : Bool) (fate : Fate) → 0 < length ps → taken ≡ text_of h → bytes_given given ≡ w → end_given given ≡ e
+          → IsWorkedOff t ps given taken old → ((k : List Event) → Stands t ps old k taken → Stands t ps pipe k (taken ++ out)) → in_hand t pipe ≡ []
+          → ((k : List Event) (text : List ℕ) (s : Stands t ps pipe k text) → Settled t.gives s.came ps s.seats → Pipeline t.gives 1 ps (bytes_given k) (end_given k) (text ++ in_hand t pipe) (report_as r))
+          → IsFateOf r fate → Feeds (λ v d said. StagesSay t.gives ps v d said) (λ k. PipeStands t pipe k) h w e out fate
+      said-all h w e fate some text bytes end worked takes none reports is_fate =
+          let said : Said = record { text = taken ++ out; report = r } in
+          let off = taken-off worked takes in
+          let says : StagesSay t.gives ps w e said = (some, subst (λ z. Pipeline t.gives 1 ps z e (taken ++ out) (report_as r)) bytes (subst (λ z. Pipeline t.gives 1 ps (bytes_given given) z (taken ++ out) (report_as r)) end (answered off none reports))) in
+          let fed : Fed = record { bytes = w; ended = e; said = said } in
+          let has : HasSaid t ps pipe fed = record { given = given; bytes = bytes; end = end; worked_off = off; says = says } in
+          record {
+            said = said;
+            is_said = says;
+            stands_for = subst (λ z. HasSaid t z pipe fed) (sym (same-plans ps pipe off.events (taken ++ out) off.stands)) has;
+            whole = ap (λ z. z ++ out) text;
+            is_fate = is_fate;
+          }
+
+    pub rejected-is : (pipe : Pipe T t) (f : Fed) (r : Option Rejected) → ((ps : List t.Plan) (h : List Event) (taken : List ℕ) (s : Stands t ps pipe h taken) → Settled t.gives s.came ps s.seats → Pipeline t.gives 1 ps (bytes_given h) (end_given h) (taken ++ in_hand t pipe) (report_as r)) → PipeStands t pipe (Some f) → r ≡ f.said.report
+    rejected-is pipe f r reports s =
+        let ps = plans_of t pipe in
+        let w = s.worked_off in
+        let all = reports ps w.events f.said.text w.stands w.settled in
+        let here : Pipeline t.gives 1 ps f.bytes f.ended (f.said.text ++ in_hand t pipe) (report_as r) =
+        subst (λ z. Pipeline t.gives 1 ps z f.ended (f.said.text ++ in_hand t pipe) (report_as r)) (w.same_bytes ∙ s.bytes)
+        (subst (λ z. Pipeline t.gives 1 ps (bytes_given w.events) z (f.said.text ++ in_hand t pipe) (report_as r)) (w.same_end ∙ s.end) all) in
+        report-same r f.said.report ((one_answer t.gives one ps 1 f.bytes f.said.text (f.said.text ++ in_hand t pipe) f.ended (report_as f.said.report) (report_as r) s.says.1 here).1)
+
+-- more was given
+pub bytes-more : (h : List Event) (w : List ℕ) → bytes_given (h ++ give w ∷ []) ≡ bytes_given h ++ w
+bytes-more h w = bytes_given-append h (give w ∷ []) ∙ ap (λ z. bytes_given h ++ z) (append-nil w)
+
+pub end-open : (h : List Event) (w : List ℕ) → end_given (h ++ give w ∷ []) ≡ end_given h
+end-open h w = end_given-append h (give w ∷ []) ∙ or-not (end_given h)
+
+pub bytes-same : (h : List Event) → bytes_given (h ++ give_end ∷ []) ≡ bytes_given h
+bytes-same h = bytes_given-append h (give_end ∷ []) ∙ append-nil (bytes_given h)
+
+pub end-now : (h : List Event) → end_given (h ++ give_end ∷ []) ≡ true
+end-now h = end_given-append h (give_end ∷ []) ∙ or-yes (end_given h)

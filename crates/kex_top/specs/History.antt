@@ -5,7 +5,7 @@ use Rattle.kex_ports.specs.Bytes.{AppendsFront}
 use Rattle.kex_top.specs.Answer.{Said}
 use Rattle.kex_pipe.specs.declared.turn.Fate.{Fate}
 use Rattle.kex_pipe.specs.declared.turn.Fate.TheVariants.{On, Stopped}
-use Rattle.kex_top.specs.declared.worker.Report.{Report}
+use Rattle.kex_pipe.specs.declared.report.Rejected.{Rejected}
 use Rattle.kex_top.specs.declared.pass.Trouble.{Trouble}
 use Rattle.kex_top.specs.declared.pass.Trouble.TheVariants as trouble
 
@@ -32,19 +32,17 @@ is_ended None = false
 is_ended (Some f) = f.ended
 
 -- A worker that has stopped has a report, and one that goes on has none.
-abbrev pub IsFateOf : Option Report → Fate → Type 0
+abbrev pub IsFateOf : Option Rejected → Fate → Type 0
 IsFateOf report On = report ≡ None
 IsFateOf report Stopped = IsSome report
 
 module _ (says : List ℕ → Bool → Said → Type 0) where
-  -- The call brings the worker to w, and appends what is said there and wasn't yet.
-  pub record Feeds (stands : History → Type 0) (h : History) (w : List ℕ) (e : Bool) (old new : List ℕ) (fate : Fate) : Type 0 where
+  -- The call brings the worker to w, and gives out what is said there and wasn't yet.
+  pub record Feeds (stands : History → Type 0) (h : History) (w : List ℕ) (e : Bool) (out : List ℕ) (fate : Fate) : Type 0 where
     pub said : Said
     pub is_said : says w e said
     pub stands_for : stands (Some (record { bytes = w; ended = e; said = said }))
-    pub added : List ℕ
-    pub whole : said.text ≡ text_of h ++ added
-    pub appended : new ≡ old ++ added
+    pub whole : said.text ≡ text_of h ++ out
     pub is_fate : IsFateOf said.report fate
 
   -- The same, of what a sink holds.

@@ -3,7 +3,6 @@ use Rattle.std.specs.Prelude.{◌≡◌, ◌⊎◌, ◌+◌, ◌-◌, ◌^◌, �
 use Rattle.kex_ports.specs.Shelf.{IsTold, IsPast}
 use Rattle.kex_ports.specs.Causes.{Rose}
 use Rattle.kex_model.specs.Programs.{Grammar}
-use Rattle.kex_model.specs.Answers.{Means}
 use Rattle.kex_reader.specs.Terms.{Spells}
 use Rattle.kex_compile.specs.Compiled.{Accepts, IsRefused}
 use Rattle.kex_compile.specs.declared.refusal.CompileRefusal.{CompileRefusal}
@@ -14,8 +13,9 @@ use Rattle.kex_words.specs.declared.refusals.Refusal.{Refusal}
 use Rattle.kex_words.specs.declared.refusals.Rule.{Rule}
 use Rattle.kex_words.specs.declared.refusals.Rule.TheVariants.{Later, TooManyPlaces, EmptyLoop, NoText}
 use Rattle.kex_top.specs.Answer.{Said}
-use Rattle.kex_top.specs.Alone.{Answered}
-use Rattle.kex_top.specs.Run.{IsLeft, Ran}
+use Rattle.kex_compile.specs.Stages.{roots_of}
+use Rattle.kex_top.specs.Pipelines.{Answered, MeansInTurn}
+use Rattle.kex_top.specs.Run.{IsLeft, Left, Ran}
 use Rattle.kex_top.specs.declared.status.Status.{Status}
 use Rattle.kex_top.specs.declared.status.Status.TheVariants.{Done, Rejected, Usage, Refused, ReadFault, WriteFault, ShelfFault, Memory, TooLong}
 
@@ -50,9 +50,9 @@ ShelfAnswers told s _ = ShelfIsLeft s
 -- The note's rule and place for a rule that a program breaks.
 abbrev pub IsRefusalOf : CompileRefusal → Refusal → Type 0
 IsRefusalOf compile.Later r = r ≡ record { rule = Later; place = Nowhere }
-IsRefusalOf compile.TooManyPlaces r = r ≡ record { rule = TooManyPlaces; place = Stage 1 }
-IsRefusalOf compile.EmptyLoop r = r ≡ record { rule = EmptyLoop; place = Stage 1 }
-IsRefusalOf compile.NoText r = r ≡ record { rule = NoText; place = Stage 1 }
+IsRefusalOf (compile.TooManyPlaces n) r = r ≡ record { rule = TooManyPlaces; place = Stage n }
+IsRefusalOf (compile.EmptyLoop n) r = r ≡ record { rule = EmptyLoop; place = Stage n }
+IsRefusalOf (compile.NoText n) r = r ≡ record { rule = NoText; place = Stage n }
 IsRefusalOf compile.Memory r = ⊥
 
 abbrev pub IsStatusOf : CompileRefusal → Status → Type 0
@@ -78,10 +78,7 @@ pub record Runs (limit block : ℕ) (told : Option (Option (List ℕ))) (source 
   pub is_told : IsTold told text
   pub program : Grammar
   pub accepts : Accepts text program
-  pub ran : Ran (Answered program accepts.spells.root limit) block source sink status
-
-abbrev pub Left : Change → Change → Type 0
-Left source sink = IsLeft source × IsLeft sink
+  pub ran : Ran (Answered program limit) block source sink status
 
 -- What each answer says, where the words are in form.
 abbrev pub Answers : ℕ → ℕ → Option (Option (List ℕ)) → Change → Change → Status → Type 0
@@ -105,7 +102,7 @@ AnswersNothing shelf source sink _ = ⊥
 abbrev pub IsQuiet : ℕ → ℕ → Type 0
 IsQuiet before now = now < min (before + 1) (2 ^ 64 - 1)
 
--- The program breaks no rule, the whole input parses within the limit, and no count rose.
+-- The program breaks no rule, the whole input and what each stage hands on parse within the limit, and no count rose.
 pub record IsGood (limit : ℕ) (told : Option (Option (List ℕ))) (shelf : ShelfChange) (source sink : Change) : Type 0 where
   pub text : List ℕ
   pub input : List ℕ
@@ -113,18 +110,17 @@ pub record IsGood (limit : ℕ) (told : Option (Option (List ℕ))) (shelf : She
   pub short : length text ≤ most_text
   pub unbroken : (rule : CompileRefusal) → IsRefused text rule → rule ≡ compile.Memory
   pub rest : source.old ≡ Some input
-  pub parses : (P : Grammar) (s : Spells text P) → (said : Said) × Answered P s.root limit input true said × (said.report ≡ None)
+  pub parses : (P : Grammar) → Spells text P → (said : Said) × Answered P limit input true said × (said.report ≡ None)
   pub on_shelf : IsQuiet shelf.breaks_before shelf.breaks_now
   pub readable : IsQuiet source.before source.now
   pub writable : IsQuiet sink.before sink.now
 
--- With all told: the source was read to its end, and the sink holds what it held and then exactly the meaning of the greedy
--- parse of the input by a program that the text spells.
+-- With all told: the source was read to its end, and the sink holds what it held and then exactly what a program that the text
+-- spells means on the input: the meaning of each stage's greedy parse of what the stage before it wrote.
 pub record Headline (text : List ℕ) (limit : ℕ) (input before : List ℕ) (rest held : Option (List ℕ)) : Type 0 where
   pub program : Grammar
   pub accepts : Accepts text program
   pub meant : List ℕ
-  pub means : Means program accepts.spells.root input meant
-  pub within : length input ≤ limit
+  pub means : MeansInTurn program limit (roots_of program) input meant
   pub written : held ≡ Some (before ++ meant)
   pub read : rest ≡ Some []

@@ -2,6 +2,7 @@ pub mod Answer
 pub mod History
 pub mod Run
 pub mod Status
-pub mod Alone
-pub mod AloneLaws
+pub mod Pipelines
+pub mod PipelineLaws
+pub mod Piped
 pub mod Kex

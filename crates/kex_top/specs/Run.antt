@@ -5,7 +5,7 @@ use Rattle.kex_ports.specs.Bytes.{IsPrefix}
 use Rattle.kex_ports.specs.Causes.{Rose}
 use Rattle.kex_words.specs.Gains.{Change, change, HasFailed}
 use Rattle.kex_top.specs.Answer.{Said}
-use Rattle.kex_top.specs.declared.worker.Report.{Report}
+use Rattle.kex_pipe.specs.declared.report.Rejected.{Rejected as Report}
 use Rattle.kex_pipe.specs.declared.turn.Why.{Why}
 use Rattle.kex_pipe.specs.declared.turn.Why.TheVariants.{Byte, End, Limit}
 use Rattle.kex_top.specs.declared.status.Status.{Status}
@@ -16,6 +16,9 @@ use Rattle.kex_top.specs.declared.pass.Trouble.TheVariants as trouble
 -- The object keeps its bytes and its count.
 abbrev pub IsLeft : Change → Type 0
 IsLeft c = (c.new ≡ c.old) × (c.now ≡ c.before)
+
+abbrev pub Left : Change → Change → Type 0
+Left source sink = IsLeft source × IsLeft sink
 
 abbrev pub TroubleCause : {T : Type 0} → ℕ → ℕ → Result T Trouble → Type 0
 TroubleCause before now (Ok fate) = now ≡ before

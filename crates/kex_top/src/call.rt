@@ -9,20 +9,17 @@ ghost use Rattle.kex_model.specs.Programs.{Grammar};
 ghost use Rattle.kex_reader.specs.Terms.{Spells};
 ghost use Rattle.kex_compile.specs.Compiled.{Accepts};
 ghost use Rattle.kex_top.specs.Answer.{Said};
-ghost use Rattle.kex_top.specs.Alone.{Answered, NodesSay};
-ghost use Rattle.kex_top.specs.Run.{Ran};
+ghost use Rattle.kex_top.specs.Run.{Left};
 ghost use Rattle.kex_top.specs.Status.{note_of};
-ghost use Rattle.kex_top.specs.Kex.{Answers, AnswersNothing, Headline, IsGood, IsStatusOf, Left, ShelfAnswers, shelf_change};
-ghost use Rattle.kex_top.specs.declared.status.Status.TheVariants.{Done, Memory};
+ghost use Rattle.kex_top.specs.Kex.{Answers, AnswersNothing, Headline, IsGood, IsStatusOf, ShelfAnswers, shelf_change};
+ghost use Rattle.kex_words.specs.declared.refusals.Place.TheVariants.{Stage};
+ghost use Rattle.kex_top.specs.declared.status.Status.TheVariants.{Done, Memory, Refused};
 
-use crate::alone::Alone;
+use crate::serve::serve;
 use crate::status::Status;
-use crate::stream::run;
 use kex_compile::compile;
 use kex_compile::refusal::CompileRefusal;
 use kex_ports::{Gate, Shelf, ShelfAnswer, Sink, Source};
-use kex_stage::plan::Plan;
-use kex_stage::stage::Stage;
 use kex_words::{Command, Limits, Place, Refusal, Rule, WordsRefusal, read, tell};
 use std::alloc::Global;
 use std::thread::Threads;
@@ -34,47 +31,26 @@ const LATER: Refusal = Refusal {
     place: Place::Nowhere,
 };
 
+fn in_stage(rule: Rule, stage: u32) -> Status
+    ensures { result ≡ Refused (record { rule = rule; place = Stage stage }) }
+{
+    Status::Refused(Refusal {
+        rule,
+        place: Place::Stage(stage),
+    })
+}
+
 // The status of a program that isn't accepted.
 fn refused(refusal: CompileRefusal) -> Status
     ensures { IsStatusOf refusal result }
 {
     match refusal {
         CompileRefusal::Later => Status::Refused(LATER),
-        CompileRefusal::TooManyPlaces => Status::Refused(Refusal {
-            rule: Rule::TooManyPlaces,
-            place: Place::Stage(1),
-        }),
-        CompileRefusal::EmptyLoop => Status::Refused(Refusal {
-            rule: Rule::EmptyLoop,
-            place: Place::Stage(1),
-        }),
-        CompileRefusal::NoText => Status::Refused(Refusal {
-            rule: Rule::NoText,
-            place: Place::Stage(1),
-        }),
+        CompileRefusal::TooManyPlaces(stage) => in_stage(Rule::TooManyPlaces, stage),
+        CompileRefusal::EmptyLoop(stage) => in_stage(Rule::EmptyLoop, stage),
+        CompileRefusal::NoText(stage) => in_stage(Rule::NoText, stage),
         CompileRefusal::Memory => Status::Memory,
     }
-}
-
-// Runs a plan.
-fn serve<S: Source, K: Sink>(
-    alloc: Global,
-    plan: &Plan,
-    limits: Limits,
-    input: &mut S,
-    output: &mut K,
-) -> Status
-    ensures { (Left (change (S.rest input.old) (S.rest input.new) (S.faults input.old) (S.faults input.new))
-        (change (K.held output.old) (K.held output.new) (K.faults output.old) (K.faults output.new)) × (result ≡ Memory))
-        ⊎ Ran (NodesSay (record { machine = plan.now; limit = limits.max_input })) limits.block
-        (change (S.rest input.old) (S.rest input.new) (S.faults input.old) (S.faults input.new))
-        (change (K.held output.old) (K.held output.new) (K.faults output.old) (K.faults output.new)) result }
-{
-    let Ok(stage) = Stage::new(alloc, plan, limits.max_input) else {
-        return Status::Memory;
-    };
-    let mut worker = Alone { stage };
-    run(alloc, &mut worker, limits.block as usize, input, output)
 }
 
 // Answers a command to run the program of a name.
@@ -100,7 +76,7 @@ fn answer_run<H: Shelf, S: Source, K: Sink>(
         Err(ShelfAnswer::Memory) => return Status::Memory,
     };
     match compile(alloc, &text) {
-        Ok(plan) => serve(alloc, &plan, limits, input, output),
+        Ok(compiled) => serve(alloc, &compiled, limits, input, output),
         Err(refusal) => refused(refusal),
     }
 }

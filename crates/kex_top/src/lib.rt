@@ -3,9 +3,10 @@
 //! Stands on plans, stages and the outside's traits. The clauses of `kex` are the promise of the whole program.
 #![tactic(auto)]
 
-mod alone;
 mod call;
 mod pass;
+mod pipeline;
+mod serve;
 mod status;
 mod stream;
 #[cfg(test)]
@@ -13,5 +14,5 @@ mod tests;
 mod worker;
 
 pub use call::kex;
+pub use kex_pipe::report::Rejected;
 pub use status::Status;
-pub use worker::Report;

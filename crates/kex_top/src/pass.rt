@@ -1,5 +1,5 @@
 // One piece through a worker into a sink.
-ghost use Rattle.std.specs.Prelude.{◌≡◌, ◌++◌, true, false, List, ℕ, Option, Some, None, IfErr, IfOk};
+ghost use Rattle.std.specs.Prelude.{◌≡◌, ◌++◌, true, false, List, ℕ, Option, Some, None, IfErr, IfOk, OnOk};
 ghost use Rattle.kex_top.specs.History.{History, bytes_of, is_ended, Writes, WritesUpTo};
 ghost use Rattle.kex_top.specs.Run.{TroubleCause};
 
@@ -22,15 +22,14 @@ pub(crate) fn pass<T: Worker, K: Sink>(
     out: &mut Vec<u8>,
     output: &mut K,
 ) -> Result<Fate, Trouble>
-    requires { (h : History) × T.stands worker.old h }
-    ensures same { T.plan worker.new ≡ T.plan worker.old }
+    requires { (h : History) × T.stands worker.old h × (is_ended h ≡ false) }
+    ensures same { OnOk result (T.plan worker.new ≡ T.plan worker.old) }
     ensures writes { IfOk result (λ fate. (h : History) → T.stands worker.old h → is_ended h ≡ false
         → Writes (T.says (T.plan worker.old)) (T.stands worker.new) h (bytes_of h ++ piece.now) false (K.held output.old) (K.held output.new) fate) }
     ensures trouble { IfErr result (λ trouble. (h : History) → T.stands worker.old h → is_ended h ≡ false
         → WritesUpTo (T.says (T.plan worker.old)) h (bytes_of h ++ piece.now) false (K.held output.old) (K.held output.new) trouble) }
     ensures cause { TroubleCause (K.faults output.old) (K.faults output.new) result }
 {
-    out.clear();
     let fate = match worker.feed(piece, out) {
         Ok(fate) => fate,
         Err(Memory) => return Err(Trouble::Memory),
@@ -47,15 +46,14 @@ pub(crate) fn pass_end<T: Worker, K: Sink>(
     out: &mut Vec<u8>,
     output: &mut K,
 ) -> Result<Fate, Trouble>
-    requires { (h : History) × T.stands worker.old h }
-    ensures same { T.plan worker.new ≡ T.plan worker.old }
+    requires { (h : History) × T.stands worker.old h × (is_ended h ≡ false) }
+    ensures same { OnOk result (T.plan worker.new ≡ T.plan worker.old) }
     ensures writes { IfOk result (λ fate. (h : History) → T.stands worker.old h → is_ended h ≡ false
         → Writes (T.says (T.plan worker.old)) (T.stands worker.new) h (bytes_of h) true (K.held output.old) (K.held output.new) fate) }
     ensures trouble { IfErr result (λ trouble. (h : History) → T.stands worker.old h → is_ended h ≡ false
         → WritesUpTo (T.says (T.plan worker.old)) h (bytes_of h) true (K.held output.old) (K.held output.new) trouble) }
     ensures cause { TroubleCause (K.faults output.old) (K.faults output.new) result }
 {
-    out.clear();
     let fate = match worker.end(out) {
         Ok(fate) => fate,
         Err(Memory) => return Err(Trouble::Memory),

@@ -3,7 +3,7 @@
 ghost use Rattle.std.specs.Prelude.{◌≡◌};
 ghost use Rattle.kex_top.specs.Status.{is_end, note_of, number_of};
 
-use crate::worker::Report;
+use kex_pipe::report::Rejected;
 use kex_pipe::turn::Why;
 use kex_words::{Note, Refusal};
 
@@ -11,14 +11,14 @@ use kex_words::{Note, Refusal};
 #[derive(Clone, Copy, Debug, PartialEq, Eq)]
 pub enum Status {
     Done,
-    Rejected(Report),
+    Rejected(Rejected),
     Usage,
     Refused(Refusal),
     ReadFault,
     WriteFault,
     ShelfFault,
     Memory,
-    TooLong(Report),
+    TooLong(Rejected),
 }
 
 impl Status {

@@ -5,13 +5,15 @@ ghost use Rattle.kex_top.specs.Run.{Pumped, Ran, status_of, status_after, is_who
 
 use crate::pass::{Trouble, pass, pass_end};
 use crate::status::Status;
-use crate::worker::{Report, Worker};
+use crate::worker::Worker;
+use kex_pipe::report::Rejected;
 use kex_pipe::turn::{Fate, Why};
 use kex_ports::{Failed, Sink, Source};
+use kex_words::Limits;
 use std::alloc::Global;
 
 // The status of a run that was worked off.
-fn status_of(report: Option<Report>) -> Status
+fn status_of(report: Option<Rejected>) -> Status
     ensures { result ≡ status_of report }
 {
     match report {
@@ -39,9 +41,10 @@ pub(crate) fn pump<T: Worker, S: Source, K: Sink>(
     out: &mut Vec<u8>,
     input: &mut S,
     output: &mut K,
+    most: u64,
 ) -> Status
     requires fresh { T.stands worker.old None }
-    requires limit { T.limit (T.plan worker.old) ≤ 2 ^ 48 }
+    requires limit { (T.limit (T.plan worker.old) ≡ most) × (most ≤ 2 ^ 48) }
     requires block { (0 < length block.old) × (length block.old ≤ 2 ^ 20) }
     ensures { Pumped (T.says (T.plan worker.old)) (length block.old)
         (change (S.rest input.old) (S.rest input.new) (S.faults input.old) (S.faults input.new))
@@ -49,27 +52,25 @@ pub(crate) fn pump<T: Worker, S: Source, K: Sink>(
 {
     match pass(worker, &[], out, output) {
         Ok(Fate::On) => {}
-        Ok(Fate::Stopped) => return status_of(worker.report()),
+        Ok(Fate::Stopped) => return status_of(worker.rejected()),
         Err(trouble) => return status_after(trouble),
     }
-    let mut total: u64 = 0;
-    'turns: loop {
+    // Each read gives at least one byte, and with one byte more than it takes the worker has a report.
+    'reads: for _read in 0..most + 1 {
         match input.read(block) {
             Err(Failed) => return Status::ReadFault,
             Ok(0) => return match pass_end(worker, out, output) {
-                Ok(_) => status_of(worker.report()),
+                Ok(_) => status_of(worker.rejected()),
                 Err(trouble) => status_after(trouble),
             },
-            Ok(count) => {
-                match pass(worker, &block[..count], out, output) {
-                    Ok(Fate::On) => {}
-                    Ok(Fate::Stopped) => return status_of(worker.report()),
-                    Err(trouble) => return status_after(trouble),
-                }
-                total += count as u64;
-            }
+            Ok(count) => match pass(worker, &block[..count], out, output) {
+                Ok(Fate::On) => {}
+                Ok(Fate::Stopped) => return status_of(worker.rejected()),
+                Err(trouble) => return status_after(trouble),
+            },
         }
     }
+    status_of(worker.rejected())
 }
 
 // All was written that the run had to say.
@@ -82,26 +83,32 @@ fn is_whole(status: Status) -> bool
     }
 }
 
-/// Runs a new worker over a source into a sink, by blocks of at most so many bytes.
+/// Runs a new worker over a source into a sink, by blocks, within the limits.
 pub(crate) fn run<T: Worker, S: Source, K: Sink>(
     alloc: Global,
     worker: &mut T,
-    block: usize,
+    limits: Limits,
     input: &mut S,
     output: &mut K,
 ) -> Status
     requires fresh { T.stands worker.old None }
-    requires limit { T.limit (T.plan worker.old) ≤ 2 ^ 48 }
-    requires block { (0 < block) × (block ≤ 2 ^ 20) }
-    ensures { Ran (T.says (T.plan worker.old)) block
+    requires limit { T.limit (T.plan worker.old) ≡ limits.max_input }
+    ensures { Ran (T.says (T.plan worker.old)) limits.block
         (change (S.rest input.old) (S.rest input.new) (S.faults input.old) (S.faults input.new))
         (change (K.held output.old) (K.held output.new) (K.faults output.old) (K.faults output.new)) result }
 {
-    let Ok(mut buffer) = vec![in alloc; 0u8; block] else {
+    let Ok(mut buffer) = vec![in alloc; 0u8; limits.block as usize] else {
         return Status::Memory;
     };
     let mut out = Vec::new(alloc);
-    let status = pump(worker, &mut buffer, &mut out, input, output);
+    let status = pump(
+        worker,
+        &mut buffer,
+        &mut out,
+        input,
+        output,
+        limits.max_input,
+    );
     if !is_whole(status) {
         return status;
     }

@@ -1,5 +1,5 @@
 //! The call over objects in memory.
-use crate::{Report, Status, kex};
+use crate::{Rejected, Status, kex};
 use kex_pipe::turn::Why;
 use kex_ports::{MemShelf, MemSink, MemSource, NeverFailsSink, OpenGate};
 use kex_words::{Place, Refusal, Rule};
@@ -14,6 +14,7 @@ struct Case {
     input: &'static [u8],
     most_read: usize,
     failing_reads: &'static [u64],
+    unread: Option<&'static [u8]>,
     most_written: usize,
     failing_writes: &'static [u64],
     held: &'static [u8],
@@ -28,6 +29,7 @@ const PLAIN: Case = Case {
     input: b"",
     most_read: 65_536,
     failing_reads: &[],
+    unread: None,
     most_written: 65_536,
     failing_writes: &[],
     held: b"",
@@ -70,14 +72,23 @@ fn holds<R: Threads + Sync>(rt: &R, alloc: Global, case: &Case) -> Result<bool, 
         &mut notes,
         &OpenGate,
     );
-    Ok(status == case.status && output.bytes() == case.held && notes.bytes() == case.notes)
+    let is_left = match case.unread {
+        None => true,
+        Some(unread) => input.left() == unread,
+    };
+    Ok(
+        is_left
+            && status == case.status
+            && output.bytes() == case.held
+            && notes.bytes() == case.notes,
+    )
 }
 
 fn rejected(at: u64, why: Why) -> Status {
-    Status::Rejected(Report { stage: 1, at, why })
+    Status::Rejected(Rejected { stage: 1, at, why })
 }
 
-const PAST_LIMIT: Status = Status::TooLong(Report {
+const PAST_LIMIT: Status = Status::TooLong(Rejected {
     stage: 1,
     at: 3,
     why: Why::Limit,
@@ -87,7 +98,7 @@ const BREAKS: Case = Case {
     program: b"main := /ab*c/",
     input: b"abx",
     held: b"ab",
-    status: Status::Rejected(Report {
+    status: Status::Rejected(Rejected {
         stage: 1,
         at: 2,
         why: Why::Byte,
@@ -175,6 +186,7 @@ fn faults_are_told_by_their_causes(rt: HostRuntime) -> Result<(), Fail> {
         Case {
             words: &["kex", "run", "p", "--block=1"],
             input: b"aaa",
+            unread: Some(b"a"),
             failing_writes: &[2],
             held: b"a",
             status: Status::WriteFault,

@@ -1,23 +1,17 @@
 // What reads a stream of bytes and says a text.
-ghost use Rattle.std.specs.Prelude.{◌≡◌, ◌++◌, ◌<◌, Bool, true, false, List, ℕ, Option, Some, IsSome, IfOk, length};
+ghost use Rattle.std.specs.Prelude.{◌≡◌, ◌++◌, ◌<◌, Bool, true, false, List, ℕ, Option, Some, IsSome, IfOk, OnOk, length};
 ghost use Rattle.kex_ports.specs.Bytes.{IsPrefix};
 
 use kex_code::memory::Memory;
-use kex_pipe::turn::{Fate, Why};
-
-/// A stage that stops, the byte at which it does, and why.
-#[derive(Clone, Copy, Debug, PartialEq, Eq)]
-pub struct Report {
-    pub stage: u32,
-    pub at: u64,
-    pub why: Why,
-}
+use kex_pipe::report::Rejected;
+use kex_pipe::turn::Fate;
 
 /// Answers bytes, open or ended, piece by piece. What it says of them is a relation, of which at most one answer holds.
+///
+/// Once a call has answered that memory was wanted, the worker may only be dropped.
 pub(crate) trait Worker {
     ghost use Rattle.kex_top.specs.Answer.{Said};
     ghost use Rattle.kex_top.specs.History.{History, Fed, bytes_of, is_ended, Feeds};
-    ghost use Rattle.kex_top.specs.declared.worker.Report.{Report};
 
     /// What it works by, which no call changes.
     ghost Plan: { Type 0 };
@@ -33,19 +27,22 @@ pub(crate) trait Worker {
     /// The most bytes that it takes.
     ghost limit: { Plan → ℕ };
 
+    /// Puts into `out`, in place of what it held, what is said now and wasn't yet.
     fn feed(&mut self, piece: &[u8], out: &mut Vec<u8>) -> Result<Fate, Memory>
-        requires { (h : History) × stands self.old h }
-        ensures same { plan self.new ≡ plan self.old }
+        requires { (h : History) × stands self.old h × (is_ended h ≡ false) }
+        ensures same { OnOk result (plan self.new ≡ plan self.old) }
         ensures feeds { IfOk result (λ fate. (h : History) → stands self.old h → is_ended h ≡ false
-            → Feeds (says (plan self.old)) (stands self.new) h (bytes_of h ++ piece.now) false out.old.items out.new.items fate) };
+            → Feeds (says (plan self.old)) (stands self.new) h (bytes_of h ++ piece.now) false out.new.items fate) };
 
+    /// The same, for the end of the bytes.
     fn end(&mut self, out: &mut Vec<u8>) -> Result<Fate, Memory>
-        requires { (h : History) × stands self.old h }
-        ensures same { plan self.new ≡ plan self.old }
+        requires { (h : History) × stands self.old h × (is_ended h ≡ false) }
+        ensures same { OnOk result (plan self.new ≡ plan self.old) }
         ensures feeds { IfOk result (λ fate. (h : History) → stands self.old h → is_ended h ≡ false
-            → Feeds (says (plan self.old)) (stands self.new) h (bytes_of h) true out.old.items out.new.items fate) };
+            → Feeds (says (plan self.old)) (stands self.new) h (bytes_of h) true out.new.items fate) };
 
-    fn report(&self) -> Option<Report>
+    /// The report of what it was fed.
+    fn rejected(&self) -> Option<Rejected>
         ensures { (f : Fed) → stands self.now (Some f) → result ≡ f.said.report };
 
     ghost one: { (p : Plan) (w : List ℕ) (e : Bool) (a b : Said) → says p w e a → says p w e b → a ≡ b };

@@ -1,12 +1,15 @@
 use Rattle.std.proofs.Common.{◌≡◌, refl, sym, subst, ◌∙◌}
-use Rattle.kex_compile.specs.Compiled.{IsPlan, IsRefused}
-use Rattle.kex_top.proofs.Calling.{served, refused_by}
+use Rattle.kex_compile.specs.Compiled.{IsCompiled, IsRefused}
+use Rattle.kex_top.proofs.Calling.{served, refused_by, some-machine}
 use Rattle.kex_top.proofs.call.answer_run.Goals as goal
 
 pub returns-in-Ok-compile-clause-answers : goal.returns-in-Ok-compile-clause-answers
 returns-in-Ok-compile-clause-answers g c =
-    served _ _ _ c.in-Ok.text.items _ _ _ _ c.in-Ok.ensures.found (subst (λ t. IsPlan t c.in-Ok-compile.plan) c.deref.ensures.value c.in-Ok-compile.ensures.plan) c.serve.ensures
+    served _ _ _ c.in-Ok.text.items _ _ _ _ c.in-Ok.ensures.found (subst (λ t. IsCompiled t c.in-Ok-compile.compiled) c.deref.ensures.value c.in-Ok-compile.ensures.plans) c.serve.ensures
 
 pub returns-clause-answers : goal.returns-clause-answers
 returns-clause-answers g c =
     refused_by _ _ _ c.in-Ok.text.items c.in-Err.refusal _ _ _ c.in-Ok.ensures.found (subst (λ t. IsRefused t c.in-Err.refusal) c.deref.ensures.value c.in-Err.ensures.refused) ((refl, refl), (refl, refl)) c.refused.ensures
+
+pub serve-requires : goal.serve-requires
+serve-requires g c = some-machine c.deref.result.now c.in-Ok-compile.compiled c.in-Ok-compile.ensures.plans

@@ -1,21 +1,18 @@
-use Rattle.std.proofs.Common.{◌≡◌, ◌+◌, ◌-◌, List, ℕ, length, false}
+use Rattle.std.proofs.Common.{◌≡◌, ◌≤◌, List, ℕ, length, false}
 use Rattle.std.specs.Prelude.{Some, None}
 use Rattle.std.specs.Io.KnownBytes.{Appends, Consumes}
 use Rattle.kex_top.specs.Answer.{Said}
 use Rattle.kex_top.proofs.stream.pump.Given as goal
 
-abbrev pub invariant-turns : goal.invariant-turns
-invariant-turns g l = record {
+abbrev pub invariant-reads : goal.invariant-reads
+invariant-reads g l = record {
   same : g.T.Worker.plan l.worker ≡ g.T.Worker.plan l.fn.worker;
   fed : (w : List ℕ) × (said : Said) × g.T.Worker.says (g.T.Worker.plan l.fn.worker) w false said
       × g.T.Worker.stands l.worker (Some (record { bytes = w; ended = false; said = said }))
-      × (l.total ≡ length w)
+      × (l._read ≤ length w)
       × Consumes (g.S.Source.rest l.fn.input) (g.S.Source.rest l.input) w
       × (said.report ≡ None)
       × Appends (g.K.Sink.held l.fn.output) (g.K.Sink.held l.output) said.text;
   read : g.S.Source.faults l.input ≡ g.S.Source.faults l.fn.input;
   written : g.K.Sink.faults l.output ≡ g.K.Sink.faults l.fn.output;
 }
-
-abbrev pub decreases-turns : goal.decreases-turns
-decreases-turns g l = g.T.Worker.limit (g.T.Worker.plan l.fn.worker) + 1 - l.total

@@ -10,7 +10,7 @@ returns g c =
     (change (g.S.Source.rest c.args.input.now) (g.S.Source.rest c.pump-status.new.input) (g.S.Source.faults c.args.input.now) (g.S.Source.faults c.pump-status.new.input))
     (change (g.K.Sink.held c.args.output.now) (g.K.Sink.held c.pump-status.new.output) (g.K.Sink.faults c.args.output.now) (g.K.Sink.faults c.pump-status.new.output))
     c.pump-status.result in
-    let len : length c.deref_mut.result.now ≡ c.args.block = search rules in
+    let len : length c.deref_mut.result.now ≡ c.args.limits.block = search rules in
     let whole : is_whole c.pump-status.result ≡ true = cc in
     close-fails g.T.Worker.says (g.T.Worker.plan c.args.worker.now) g.met.T.Worker.grows _ _ _ _ _ _ _ _ _
     whole (subst P len c.pump-status.ensures) c.finish.ensures.held c.in-Err.ensures.cause.later c.in-Err.ensures.cause.failed
@@ -21,7 +21,7 @@ returns-in-Ok-finish g c =
     (change (g.S.Source.rest c.args.input.now) (g.S.Source.rest c.pump-status.new.input) (g.S.Source.faults c.args.input.now) (g.S.Source.faults c.pump-status.new.input))
     (change (g.K.Sink.held c.args.output.now) (g.K.Sink.held c.pump-status.new.output) (g.K.Sink.faults c.args.output.now) (g.K.Sink.faults c.pump-status.new.output))
     c.pump-status.result in
-    let len : length c.deref_mut.result.now ≡ c.args.block = search rules in
+    let len : length c.deref_mut.result.now ≡ c.args.limits.block = search rules in
     let whole : is_whole c.pump-status.result ≡ true = cc in
     let pumped = subst P len c.pump-status.ensures in
     closed (g.T.Worker.says (g.T.Worker.plan c.args.worker.now)) _ _ _ _ _ _ _ _ _

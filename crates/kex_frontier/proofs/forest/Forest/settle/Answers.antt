@@ -5,7 +5,7 @@ use Rattle.kex_frontier.proofs.Woods.{only_root, has_root}
 use Rattle.kex_frontier.proofs.forest.Forest.settle.Goals as goal
 
 pub returns-in-Some-clause-code : goal.returns-in-Some-clause-code
-returns-in-Some-clause-code c = λ r has. c.in_ok-append.ensures ∙ ap (λ z. c.args.code.now ++ z) (c.deref.ensures.value ∙ (only_root r c.args.self.now c.pop_twig.new.self c.in-Some.twig.label.items c.in-Some.twig.at (sym c.if-is_last_there.ensures) c.in-Some.ensures.knots has).0)
+returns-in-Some-clause-code c = λ r has. c.in_ok-append.ensures.added ∙ ap (λ z. c.args.code.now ++ z) (c.deref.ensures.value ∙ (only_root r c.args.self.now c.pop_twig.new.self c.in-Some.twig.label.items c.in-Some.twig.at (sym c.if-is_last_there.ensures) c.in-Some.ensures.knots has).0)
 
 pub returns-in-Some-clause-tree : goal.returns-in-Some-clause-tree
 returns-in-Some-clause-tree c = λ r has. ap (λ z. knots_at z.items) c.swap.ensures.y_after ∙ ap (λ z. z.knots) c.self.view_is ∙ c.in_ok-push_twig.ensures.knots ∙ ap (λ z. c.pop_twig.new.self.knots ++ record { label = z; at = c.in-Some.twig.at } ∷ []) c.clear-in-Some.ensures.items ∙ (only_root r c.args.self.now c.pop_twig.new.self c.in-Some.twig.label.items c.in-Some.twig.at (sym c.if-is_last_there.ensures) c.in-Some.ensures.knots has).1

@@ -1,5 +1,5 @@
-use Rattle.std.proofs.Common.{rules, ◌≡◌, ◌<◌, ◌++◌, ◌∷◌, [], length, ℕ, List, subst, sym}
-use Rattle.kex_model.specs.Programs.{Grammar, HasBelow, IsInOrder}
+use Rattle.std.proofs.Common.{length, subst, sym}
+use Rattle.kex_model.specs.Programs.{HasBelow, IsInOrder}
 use Rattle.kex_model.proofs.Making.{order_more}
 use Rattle.kex_model.proofs.builder.Builder.add.Goals as goal
 

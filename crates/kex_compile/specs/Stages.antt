@@ -1,0 +1,111 @@
+-- The stages of a program: what their plans are, and which is refused first.
+use Rattle.std.specs.Prelude.{◌≡◌, ◌+◌, ◌∷◌, ◌++◌, [], ℕ, suc, List, Option, Some, None, length, map}
+use Rattle.kex_code.specs.Codes.{IsAmong}
+use Rattle.kex_model.specs.Programs.{Grammar}
+use Rattle.kex_model.specs.Trees.{root_of}
+use Rattle.kex_model.specs.Places.{moves, start_of, HasEmptyLoop}
+use Rattle.kex_model.specs.Survivors.{LeadsToEnd}
+use Rattle.kex_machine.specs.Nodes.{Graph}
+use Rattle.kex_desugar.specs.Machines.{HasMore}
+use Rattle.kex_stages.specs.Stages.{Carries, HasPlaces, IsWhy}
+use Rattle.kex_stages.specs.declared.refusal.StageRefusal.{StageRefusal}
+use Rattle.kex_stages.specs.declared.refusal.StageRefusal.TheVariants as why
+use Rattle.kex_compile.specs.declared.firsts.Firsts.{Firsts}
+use Rattle.kex_compile.specs.declared.refusal.PlanRefusal.{PlanRefusal}
+use Rattle.kex_compile.specs.declared.refusal.PlanRefusal.TheVariants.{TooManyPlaces, EmptyLoop, NoText, Memory}
+
+abbrev pub most_places : ℕ
+most_places = 65536
+
+-- where the stages begin, in their order
+abbrev pub roots_of : Grammar → List ℕ
+roots_of P = map (λ s. root_of P s.name) P.stages
+
+-- the stage has no more places than are allowed, no loop that reads nothing, and some text
+pub record CanRun (P : Grammar) (root : ℕ) : Type 0 where
+  pub few : HasMore P root most_places → ⊥
+  pub no_loop : HasEmptyLoop P root → ⊥
+  pub some_text : LeadsToEnd (moves P) (start_of P root)
+
+-- the stage can run, and the machine answers as it does and bears its number
+pub record IsStage (P : Grammar) (root number : ℕ) (m : Graph) : Type 0 where
+  pub can_run : CanRun P root
+  pub carries : Carries P root m
+  pub numbered : m.stage ≡ number
+
+-- the machines are those of the stages, in their order, numbered from i on
+abbrev pub AreStages : Grammar → ℕ → List ℕ → List Graph → Type 0
+AreStages P i [] [] = Unit {0}
+AreStages P i (r ∷ rs) (m ∷ ms) = IsStage P r i m × AreStages P (suc i) rs ms
+AreStages P i rs ms = ⊥
+
+-- the stages have so many places in all
+abbrev pub HaveInAll : Grammar → List ℕ → ℕ → Type 0
+HaveInAll P [] total = total ≡ 0
+HaveInAll P (r ∷ rs) total = (own rest : ℕ) × HasPlaces P r own × HaveInAll P rs rest × (total ≡ own + rest)
+
+-- plans, by their machines, and a count of places
+pub record Plans : Type 0 where
+  pub stages : List Graph
+  pub places : ℕ
+
+pub record ArePlans (P : Grammar) (plans : Plans) : Type 0 where
+  pub stages : AreStages P 1 (roots_of P) plans.stages
+  pub places : HaveInAll P (roots_of P) plans.places
+
+-- what is first so in the list has this number, counted from 1
+pub record IsFirst (Q : ℕ → Type 0) (xs : List ℕ) (number : ℕ) : Type 0 where
+  pub before : List ℕ
+  pub at : ℕ
+  pub behind : List ℕ
+  pub split : xs ≡ before ++ at ∷ behind
+  pub number_is : number ≡ suc (length before)
+  pub is_so : Q at
+  pub none_before : (x : ℕ) → IsAmong before x → Q x → ⊥
+
+abbrev pub NoneIs : (ℕ → Type 0) → List ℕ → Type 0
+NoneIs Q xs = (x : ℕ) → IsAmong xs x → Q x → ⊥
+
+-- the stage that begins there is refused for this
+abbrev pub IsRefusedFor : Grammar → StageRefusal → ℕ → Type 0
+IsRefusedFor P e root = IsWhy P root most_places e
+
+-- no stage is refused by a rule that comes before, and this stage is the first that is by this one
+abbrev pub IsUnplanned : Grammar → PlanRefusal → Type 0
+IsUnplanned P (TooManyPlaces n) = IsFirst (IsRefusedFor P why.TooManyPlaces) (roots_of P) n
+IsUnplanned P (EmptyLoop n) = NoneIs (IsRefusedFor P why.TooManyPlaces) (roots_of P) × IsFirst (IsRefusedFor P why.EmptyLoop) (roots_of P) n
+IsUnplanned P (NoText n) = NoneIs (IsRefusedFor P why.TooManyPlaces) (roots_of P) × NoneIs (IsRefusedFor P why.EmptyLoop) (roots_of P) × IsFirst (IsRefusedFor P why.NoText) (roots_of P) n
+IsUnplanned P Memory = Unit {0}
+
+-- ---- the first stages so far
+
+-- the number, if there is any, of what is first so
+abbrev pub IsFirstIn : (ℕ → Type 0) → List ℕ → Option ℕ → Type 0
+IsFirstIn Q xs None = NoneIs Q xs
+IsFirstIn Q xs (Some n) = IsFirst Q xs n
+
+-- of these stages the firsts that are refused
+pub record AreFirsts (P : Grammar) (roots : List ℕ) (f : Firsts) : Type 0 where
+  pub too_many_places : IsFirstIn (IsRefusedFor P why.TooManyPlaces) roots f.too_many_places
+  pub empty_loop : IsFirstIn (IsRefusedFor P why.EmptyLoop) roots f.empty_loop
+  pub no_text : IsFirstIn (IsRefusedFor P why.NoText) roots f.no_text
+
+abbrev pub first_of : Option ℕ → ℕ → Option ℕ
+first_of None n = Some n
+first_of (Some m) n = Some m
+
+abbrev pub noted : StageRefusal → ℕ → Firsts → Firsts
+noted why.TooManyPlaces n f = record f { too_many_places = first_of f.too_many_places n }
+noted why.EmptyLoop n f = record f { empty_loop = first_of f.empty_loop n }
+noted why.NoText n f = record f { no_text = first_of f.no_text n }
+noted why.Memory n f = f
+
+-- the rule of the lowest number of which there is a first
+abbrev pub least_of : Option ℕ → Option ℕ → Option ℕ → Option PlanRefusal
+least_of (Some n) b c = Some (TooManyPlaces n)
+least_of None (Some n) c = Some (EmptyLoop n)
+least_of None None (Some n) = Some (NoText n)
+least_of None None None = None
+
+abbrev pub least : Firsts → Option PlanRefusal
+least f = least_of f.too_many_places f.empty_loop f.no_text

@@ -1,0 +1,182 @@
+-- Worked examples: small grammars, and what the definitions come to on them. A text is the list of its bytes.
+use Rattle.std.specs.Prelude.{◌≡◌, ℕ, Bool, true, false, List, [], ◌∷◌, Some, None, map, replicate, slice_set}
+use Rattle.kex_code.specs.declared.symbol.Symbol.TheVariants.{L, R, Byte}
+use Rattle.kex_code.specs.declared.piece.Piece.TheVariants.{Lit as Said, Register}
+use Rattle.kex_code.specs.Codes.{Before}
+use Rattle.kex_model.specs.declared.program.Kind.{Kind}
+use Rattle.kex_model.specs.declared.program.Kind.TheVariants.{Lit, Class, Call, Seq, Alt, Rep, Mute, At, Write, Set, Add}
+use Rattle.kex_model.specs.declared.frame.Frame.TheVariants.{Pending}
+use Rattle.kex_model.specs.Programs.{Grammar}
+use Rattle.kex_model.specs.Moves.{choose, go, nothing}
+use Rattle.kex_model.specs.Labelled.{place, parts}
+use Rattle.kex_model.specs.Trees.{Tree, leaf, byte, pair, chose_left, chose_right, inner, turn, done, Parses, kind_at, meaning, part}
+use Rattle.kex_model.specs.Places.{moves, start_of}
+use Rattle.kex_model.specs.Survivors.{Agreed, HasShape}
+use Rattle.kex_model.specs.Answers.{empty, code_at, HasParse, GreedyParse, Means, Says, at_byte, at_end, at_limit, stopped}
+use Rattle.kex_model.specs.Laws.{StageAnswers, StagesAnswer}
+
+-- the set of these bytes
+abbrev pub set_of : List ℕ → List Bool
+set_of [] = replicate 256 false
+set_of (b ∷ bs) = slice_set (set_of bs) b true
+
+-- a grammar of two registers and these nodes; a name, if it is used, stands for the node with this number
+abbrev pub grammar : ℕ → List Kind → Grammar
+grammar named kinds = record {
+  nodes = map (λ k. record { kind = k; at = 0 }) kinds;
+  names = [] ∷ [];
+  definitions = record { name = 0; at = 0; root = named } ∷ [];
+  stages = [];
+  registers = 2;
+}
+
+-- what a tree means at a node, with all registers empty
+abbrev pub written : Grammar → ℕ → Tree → List ℕ
+written P root t = (meaning P (kind_at P root) t (empty P)).bytes
+
+-- main := "1" /ac/ | "2" /ab/
+abbrev pub late : Grammar
+late = grammar 0 (Lit (49 ∷ []) ∷ Class (set_of (97 ∷ [])) ∷ Class (set_of (99 ∷ [])) ∷ Seq 1 2 ∷ Seq 0 3 ∷ Lit (50 ∷ []) ∷ Class (set_of (97 ∷ [])) ∷ Class (set_of (98 ∷ [])) ∷ Seq 6 7 ∷ Seq 5 8 ∷ Alt 4 9 ∷ [])
+
+abbrev pub late_tree : Tree
+late_tree = chose_right (pair leaf (pair (byte 97) (byte 98)))
+
+-- `ab` has the code R a b and means `2ab`; on `a` nothing is agreed yet, and nothing is said
+pub record ChoiceIsLate : Type 0 where
+  pub parses : Parses late 10 late_tree (97 ∷ 98 ∷ [])
+  pub code : code_at late 10 late_tree ≡ R ∷ Byte 97 ∷ Byte 98 ∷ []
+  pub means : written late 10 late_tree ≡ 50 ∷ 97 ∷ 98 ∷ []
+  pub agreed : Agreed (moves late) (start_of late 10) (97 ∷ []) []
+  pub said : Says late 10 (97 ∷ []) []
+
+-- main := /a/ "x" | /a/ "y"
+abbrev pub twice : Grammar
+twice = grammar 0 (Class (set_of (97 ∷ [])) ∷ Lit (120 ∷ []) ∷ Seq 0 1 ∷ Class (set_of (97 ∷ [])) ∷ Lit (121 ∷ []) ∷ Seq 3 4 ∷ Alt 2 5 ∷ [])
+
+abbrev pub twice_left : Tree
+twice_left = chose_left (pair (byte 97) leaf)
+
+abbrev pub twice_right : Tree
+twice_right = chose_right (pair (byte 97) leaf)
+
+-- of the two parses of `a` the left one is greedy, since L comes before R; both paths end at one place, so the left one is agreed, and what it writes is said before the end
+pub record LeftIsGreedy : Type 0 where
+  pub greedy : GreedyParse twice 6 (97 ∷ []) twice_left
+  pub other : Parses twice 6 twice_right (97 ∷ [])
+  pub before : Before (code_at twice 6 twice_left) (code_at twice 6 twice_right)
+  pub means : Means twice 6 (97 ∷ []) (97 ∷ 120 ∷ [])
+  pub agreed : Agreed (moves twice) (start_of twice 6) (97 ∷ []) (L ∷ Byte 97 ∷ [])
+  pub said : Says twice 6 (97 ∷ []) (97 ∷ 120 ∷ [])
+
+-- main := a@/[ab]+/ ~/,/ b@/[12]+/ !b "," !a
+abbrev pub swap : Grammar
+swap = grammar 0 (Class (set_of (97 ∷ 98 ∷ [])) ∷ Rep 0 1 None ∷ At 0 1 ∷ Class (set_of (44 ∷ [])) ∷ Mute 3 ∷ Class (set_of (49 ∷ 50 ∷ [])) ∷ Rep 5 1 None ∷ At 1 6 ∷ Write 1 ∷ Lit (44 ∷ []) ∷ Write 0 ∷ Seq 9 10 ∷ Seq 8 11 ∷ Seq 7 12 ∷ Seq 4 13 ∷ Seq 2 14 ∷ [])
+
+abbrev pub swap_tree : Tree
+swap_tree = pair (inner (turn (byte 97) (turn (byte 98) done))) (pair (inner (byte 44)) (pair (inner (turn (byte 49) (turn (byte 50) done))) (pair leaf (pair leaf leaf))))
+
+-- `ab,12` means `12,ab`
+pub record RegistersSwap : Type 0 where
+  pub parses : Parses swap 15 swap_tree (97 ∷ 98 ∷ 44 ∷ 49 ∷ 50 ∷ [])
+  pub means : written swap 15 swap_tree ≡ 49 ∷ 50 ∷ 44 ∷ 97 ∷ 98 ∷ []
+
+-- main := [r <- "a"] (~/x/ [r += r])* !r
+abbrev pub doubling : Grammar
+doubling = grammar 0 (Set 0 (Said (97 ∷ []) ∷ []) ∷ Class (set_of (120 ∷ [])) ∷ Mute 1 ∷ Add 0 (Register 0 ∷ []) ∷ Seq 2 3 ∷ Rep 4 0 None ∷ Write 0 ∷ Seq 5 6 ∷ Seq 0 7 ∷ [])
+
+abbrev pub doubling_tree : Tree
+doubling_tree = let once : Tree = pair (inner (byte 120)) leaf in pair leaf (pair (turn once (turn once (turn once done))) leaf)
+
+-- `xxx` doubles the register three times
+pub record RegisterDoubles : Type 0 where
+  pub parses : Parses doubling 8 doubling_tree (120 ∷ 120 ∷ 120 ∷ [])
+  pub means : written doubling 8 doubling_tree ≡ replicate 8 97
+
+-- main := ~(a@/x/) !a
+abbrev pub muted_register : Grammar
+muted_register = grammar 0 (Class (set_of (120 ∷ [])) ∷ At 0 0 ∷ Mute 1 ∷ Write 0 ∷ Seq 2 3 ∷ [])
+
+abbrev pub muted_tree : Tree
+muted_tree = pair (inner (inner (byte 120))) leaf
+
+-- `x` goes into the register though it is muted, and not to the output
+pub record MuteKeepsRegisters : Type 0 where
+  pub parses : Parses muted_register 4 muted_tree (120 ∷ [])
+  pub means : written muted_register 4 muted_tree ≡ 120 ∷ []
+
+-- main := "p" r@(/a/ "q" /b/) "s" !r
+abbrev pub kept : Grammar
+kept = grammar 0 (Lit (112 ∷ []) ∷ Class (set_of (97 ∷ [])) ∷ Lit (113 ∷ []) ∷ Class (set_of (98 ∷ [])) ∷ Seq 2 3 ∷ Seq 1 4 ∷ At 0 5 ∷ Lit (115 ∷ []) ∷ Write 0 ∷ Seq 7 8 ∷ Seq 6 9 ∷ Seq 0 10 ∷ [])
+
+abbrev pub kept_tree : Tree
+kept_tree = pair leaf (pair (inner (pair (byte 97) (pair leaf (byte 98)))) (pair leaf leaf))
+
+-- `ab` means `psaqb`; with the code of `a` alone `p` is written, and the register that was begun stays as it was
+pub record RegisterIsWholeOrAsItWas : Type 0 where
+  pub parses : Parses kept 11 kept_tree (97 ∷ 98 ∷ [])
+  pub means : written kept 11 kept_tree ≡ 112 ∷ 115 ∷ 97 ∷ 113 ∷ 98 ∷ []
+  pub begun : part kept (kind_at kept 11) kept_tree (Byte 97 ∷ []) ((122 ∷ []) ∷ [] ∷ []) ≡ record { bytes = 112 ∷ []; registers = (122 ∷ []) ∷ [] ∷ []; rest = None }
+
+-- main := (~/x/ "y"){2,3}
+abbrev pub counted : Grammar
+counted = grammar 0 (Class (set_of (120 ∷ [])) ∷ Mute 0 ∷ Lit (121 ∷ []) ∷ Seq 1 2 ∷ Rep 3 2 (Some 3) ∷ [])
+
+abbrev pub counted_turn : Tree
+counted_turn = pair (inner (byte 120)) leaf
+
+-- the two turns that are needed bear no mark, a third has L, and the end has R unless three turns stand
+pub record TurnsAreCounted : Type 0 where
+  pub two : Parses counted 4 (turn counted_turn (turn counted_turn done)) (120 ∷ 120 ∷ [])
+  pub two_code : code_at counted 4 (turn counted_turn (turn counted_turn done)) ≡ Byte 120 ∷ Byte 120 ∷ R ∷ []
+  pub three : Parses counted 4 (turn counted_turn (turn counted_turn (turn counted_turn done))) (120 ∷ 120 ∷ 120 ∷ [])
+  pub three_code : code_at counted 4 (turn counted_turn (turn counted_turn (turn counted_turn done))) ≡ Byte 120 ∷ Byte 120 ∷ L ∷ Byte 120 ∷ []
+  pub one : HasParse counted 4 (120 ∷ []) → ⊥
+  pub four : HasParse counted 4 (120 ∷ 120 ∷ 120 ∷ 120 ∷ []) → ⊥
+  pub needed : moves counted (start_of counted 4) ≡ go nothing (Pending 3 0 None ∷ Pending 4 1 (Some 2) ∷ [])
+
+-- f := /ab/, main := ~f | ~f
+abbrev pub muted_twice : Grammar
+muted_twice = grammar 2 (Class (set_of (97 ∷ [])) ∷ Class (set_of (98 ∷ [])) ∷ Seq 0 1 ∷ Call 0 ∷ Mute 3 ∷ Call 0 ∷ Mute 5 ∷ Alt 4 6 ∷ [])
+
+-- the ends of the two groups are two places, so on `a` two paths survive, and nothing is agreed
+abbrev pub EndsAreOfNodes : Type 0
+EndsAreOfNodes = Agreed (moves muted_twice) (start_of muted_twice 7) (97 ∷ []) []
+
+-- main := /ab*c/
+abbrev pub breaks : Grammar
+breaks = grammar 0 (Class (set_of (97 ∷ [])) ∷ Class (set_of (98 ∷ [])) ∷ Rep 1 0 None ∷ Class (set_of (99 ∷ [])) ∷ Seq 2 3 ∷ Seq 0 4 ∷ [])
+
+abbrev pub breaks_tree : Tree
+breaks_tree = pair (byte 97) (pair (turn (byte 98) done) (byte 99))
+
+-- on `ab` the second b's turn or the end comes next, and `ab` is said; `abx` is rejected at byte 2, ended or open, `ab` at its end; `abc` is whole
+pub record TextsBreakOff : Type 0 where
+  pub agreed : Agreed (moves breaks) (start_of breaks 5) (97 ∷ 98 ∷ []) (Byte 97 ∷ L ∷ Byte 98 ∷ [])
+  pub said : Says breaks 5 (97 ∷ 98 ∷ []) (97 ∷ 98 ∷ [])
+  pub so_far : StageAnswers breaks 5 9 (97 ∷ 98 ∷ []) false (record { text = 97 ∷ 98 ∷ []; ended = false; stop = None })
+  pub rejected : (ended : Bool) → StageAnswers breaks 5 9 (97 ∷ 98 ∷ 120 ∷ []) ended (stopped (97 ∷ 98 ∷ []) 2 at_byte)
+  pub cut_off : StageAnswers breaks 5 9 (97 ∷ 98 ∷ []) true (stopped (97 ∷ 98 ∷ []) 2 at_end)
+  pub whole : StageAnswers breaks 5 9 (97 ∷ 98 ∷ 99 ∷ []) true (record { text = 97 ∷ 98 ∷ 99 ∷ []; ended = true; stop = None })
+
+-- main := /a*/
+abbrev pub stars : Grammar
+stars = grammar 0 (Class (set_of (97 ∷ [])) ∷ Rep 0 0 None ∷ [])
+
+-- within 3 bytes `aaa` is whole; a fourth byte is too long, whatever it is
+pub record LimitStops : Type 0 where
+  pub within : StageAnswers stars 1 3 (97 ∷ 97 ∷ 97 ∷ []) true (record { text = 97 ∷ 97 ∷ 97 ∷ []; ended = true; stop = None })
+  pub past : (b : ℕ) (ended : Bool) → StageAnswers stars 1 3 (97 ∷ 97 ∷ 97 ∷ b ∷ []) ended (stopped (97 ∷ 97 ∷ 97 ∷ []) 3 at_limit)
+
+-- of the empty text the shape forks: another turn to the left, the end to the right
+pub record ShapeForks : Type 0 where
+  pub first : moves stars (start_of stars 1) ≡ choose (Pending 0 0 None ∷ Pending 1 0 None ∷ []) []
+  pub shape : HasShape (moves stars) (start_of stars 1) [] (parts (place (Pending 0 0 None ∷ Pending 1 0 None ∷ [])) (place []))
+
+-- start: a >> b, a := (~/x/ "yy")*, b := (~/yyy/ "z")*; and the end of it with b := /y/
+abbrev pub two_stages : Grammar
+two_stages = grammar 0 (Class (set_of (120 ∷ [])) ∷ Mute 0 ∷ Lit (121 ∷ 121 ∷ []) ∷ Seq 1 2 ∷ Rep 3 0 None ∷ Class (set_of (121 ∷ [])) ∷ Class (set_of (121 ∷ [])) ∷ Class (set_of (121 ∷ [])) ∷ Seq 6 7 ∷ Seq 5 8 ∷ Mute 9 ∷ Lit (122 ∷ []) ∷ Seq 10 11 ∷ Rep 12 0 None ∷ Class (set_of (121 ∷ [])) ∷ [])
+
+-- on `xxq` stage 1 stops at byte 2, and stage 2 works off `yyyy` as open input; where stage 2 stops too, it is the one that is reported
+pub record LastStopIsReported : Type 0 where
+  pub first_stops : StagesAnswer two_stages 99 (4 ∷ 13 ∷ []) (120 ∷ 120 ∷ 113 ∷ []) true (122 ∷ []) (Some (record { stage = 1; stop = record { at = 2; why = at_byte } }))
+  pub both_stop : StagesAnswer two_stages 99 (4 ∷ 14 ∷ []) (120 ∷ 120 ∷ 113 ∷ []) true (121 ∷ []) (Some (record { stage = 2; stop = record { at = 1; why = at_byte } }))

@@ -1,0 +1,51 @@
+// Worked examples of the definitions. Each function's contract is one.
+
+ghost use Rattle.kex_model.specs.Worked.{ChoiceIsLate, EndsAreOfNodes, LastStopIsReported, LeftIsGreedy, LimitStops, MuteKeepsRegisters, RegisterDoubles, RegisterIsWholeOrAsItWas, RegistersSwap, ShapeForks, TextsBreakOff, TurnsAreCounted};
+
+/// A choice between parses is made where the texts part, and nothing is said before.
+pub fn choice_is_late()
+    ensures { ChoiceIsLate }
+{}
+
+/// Of two parses of one text the one that goes left is greedy, and is said as soon as both paths meet.
+pub fn left_is_greedy()
+    ensures { LeftIsGreedy }
+{}
+
+/// Two registers swap the fields of a line, one grows by itself, and one that is filled in a muted group stays filled.
+pub fn registers_are_kept()
+    ensures swap { RegistersSwap }
+    ensures grow { RegisterDoubles }
+    ensures mute { MuteKeepsRegisters }
+    ensures begun { RegisterIsWholeOrAsItWas }
+{}
+
+/// What a repetition needs and has left.
+pub fn turns_are_counted()
+    ensures { TurnsAreCounted }
+{}
+
+/// The ends of two groups of one body are two places.
+pub fn ends_are_of_nodes()
+    ensures { EndsAreOfNodes }
+{}
+
+/// A text that is open, rejected, cut off or whole.
+pub fn texts_break_off()
+    ensures { TextsBreakOff }
+{}
+
+/// A text that is longer than the limit.
+pub fn limit_stops()
+    ensures { LimitStops }
+{}
+
+/// The shape of the empty text.
+pub fn shape_forks()
+    ensures { ShapeForks }
+{}
+
+/// A pipeline reports the last stage that stopped.
+pub fn last_stop_is_reported()
+    ensures { LastStopIsReported }
+{}

@@ -1,0 +1,9 @@
+use Rattle.std.proofs.Common.{rules, lit<, ◌^◌, ◌-◌}
+use Rattle.kex_ports.proofs.Reading.{consumed, at-end}
+use Rattle.kex_ports.proofs.source.NeverFailsSourceSource.read.Goals as goal
+
+pub returns-clause-bytes : goal.returns-clause-bytes
+returns-clause-bytes c = (
+  consumed c.self.inside.bytes.items c.copy_front-count.new.buf c.args.self.now c.self.inside.at c.copy_front-count.result (search rules) (search rules),
+  at-end c.self.inside.bytes.items c.copy_front-count.new.buf c.self.inside.at c.copy_front-count.result (2 ^ 64 - 1) (search rules) (lit< tt),
+)

@@ -1,0 +1,44 @@
+use Rattle.std.proofs.Common.{◌≡◌, ◌∷◌, [], ◌++◌, ◌+◌, ◌<◌, ◌≤◌, ℕ, List, length, map, take, get_or, sym, ap, subst, ◌∙◌, arith}
+use Rattle.std.specs.Prelude.{None}
+use Rattle.std.proofs.lemmas.List.{map-append, map_more, take_all, length-map}
+use Rattle.kex_machine.specs.Nodes.{Graph}
+use Rattle.kex_pipe.specs.Standing.{Stands}
+use Rattle.kex_stage.specs.Stages.{StagePlan}
+use Rattle.kex_stage.specs.declared.stage.Stage.{Stage}
+use Rattle.kex_stage.specs.contracts.stage.StageTurn.TheImpl.{ghosts}
+use Rattle.kex_top.specs.Piped.{plans_of}
+use Rattle.kex_top.specs.Pipelines.{stage_plans}
+use Rattle.kex_top.proofs.Working.{same-plans, unfed-more}
+use Rattle.kex_top.proofs.serve.pipe_of.Goals as goal
+
+abbrev plan_at : ℕ → Graph → StagePlan
+plan_at limit m = record { machine = m; limit = limit }
+
+pub plans-preserved : goal.plans-preserved
+plans-preserved c =
+    let i = c.plans.plan-index in
+    let all = c.args.plans.now in
+    let max = c.args.max_input in
+    let old = c.plans.stages.items in
+    let stage = c.in_ok-stage.stage in
+    let item : c.plan-item.result ≡ get_or all i c.plan-item.result = c.plan-item.is in
+    let plan : ghosts.plan stage ≡ plan_at max (get_or all i c.plan-item.result) = c.in_ok-stage.ensures.plan ∙ ap (λ z. plan_at max z) item in
+    let within : i < length all = c.plans-test.true in
+    record {
+      plans = ap (λ z. map ghosts.plan z) c.in_ok-push.ensures.items ∙ map-append ghosts.plan old (stage ∷ []) ∙ ap (λ z. z ++ ghosts.plan stage ∷ []) c.plans.invariant.plans ∙ ap (λ z. stage_plans max (take i all) ++ z ∷ []) plan ∙ sym (map_more (plan_at max) all i c.plan-item.result within);
+      unfed = subst (λ z. (k : ℕ) (d : Stage) → k < length z → ghosts.stands (get_or z k d) None) (sym c.in_ok-push.ensures.items) (unfed-more ghosts old stage c.plans.invariant.unfed c.in_ok-stage.ensures.stands);
+      long = omega (arith, c.in_ok-push.ensures.len, c.plans.invariant.long);
+    }
+
+pub returns-clause-plans : goal.returns-clause-plans
+returns-clause-plans c =
+    let all = c.args.plans.now in
+    let past : length all ≤ c.plans.plan-index = c.plans-test.false in
+    same-plans ghosts (map ghosts.plan c.plans.stages.items) c.in_ok-pipe.pipe [] [] c.in_ok-pipe.ensures.stands ∙ c.plans.invariant.plans ∙ ap (λ z. stage_plans c.args.max_input z) (take_all c.plans.plan-index all past)
+
+pub returns-clause-fresh : goal.returns-clause-fresh
+returns-clause-fresh c =
+    let pipe = c.in_ok-pipe.pipe in
+    let same = same-plans ghosts (map ghosts.plan c.plans.stages.items) pipe [] [] c.in_ok-pipe.ensures.stands in
+    let long : length (plans_of ghosts pipe) ≡ length c.args.plans.now = ap (λ (z : List StagePlan). length z) (returns-clause-plans c) ∙ length-map c.args.plans.now (plan_at c.args.max_input) in
+    (let lt : 0 < length (plans_of ghosts pipe) = omega (arith, long, c.requires) in lt, subst (λ ps. Stands ghosts ps pipe [] []) (sym same) c.in_ok-pipe.ensures.stands)

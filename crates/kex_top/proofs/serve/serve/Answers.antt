@@ -1,0 +1,21 @@
+use Rattle.std.proofs.Common.{◌≡◌, ◌<◌, ℕ, List, length, subst, sym, ap, inr, ◌∙◌}
+use Rattle.kex_machine.specs.Nodes.{Graph}
+use Rattle.kex_words.specs.Gains.{change}
+use Rattle.kex_stage.specs.Stages.{StagePlan}
+use Rattle.kex_top.specs.Pipelines.{NodesSay, first_limit, stage_plans}
+use Rattle.kex_top.specs.Run.{Ran}
+use Rattle.kex_top.proofs.Calling.{first-limit}
+use Rattle.kex_top.proofs.serve.serve.Goals as goal
+
+pub run-requires-clause-limit : goal.run-requires-clause-limit
+run-requires-clause-limit g c =
+    let max = c.args.limits.max_input in
+    ap (λ (ps : List StagePlan). first_limit (λ p. p.limit) ps) (c.in-Ok.ensures.plans ∙ ap (λ z. stage_plans max z) c.stages.ensures) ∙ first-limit max c.args.compiled.now.stages c.requires
+
+pub returns : goal.returns
+returns g c =
+    let P : List StagePlan → Type 0 = λ ps. Ran (NodesSay ps) c.args.limits.block
+    (change (g.S.Source.rest c.args.input.now) (g.S.Source.rest c.run.new.input) (g.S.Source.faults c.args.input.now) (g.S.Source.faults c.run.new.input))
+    (change (g.K.Sink.held c.args.output.now) (g.K.Sink.held c.run.new.output) (g.K.Sink.faults c.args.output.now) (g.K.Sink.faults c.run.new.output))
+    c.run.result in
+    inr (subst P (c.in-Ok.ensures.plans ∙ ap (λ z. stage_plans c.args.limits.max_input z) c.stages.ensures) c.run.ensures)

@@ -1,0 +1,34 @@
+-- What a pipe stands for, as a worker.
+use Rattle.std.specs.Prelude.{◌≡◌, ◌<◌, [], ℕ, List, None, Option, Some, length, map}
+use Rattle.kex_model.specs.Schedules.{Event, Settled}
+use Rattle.kex_pipe.specs.Events.{bytes_given, end_given}
+use Rattle.kex_pipe.specs.Standing.{Stands}
+use Rattle.kex_pipe.specs.declared.pipe.Pipe.{Pipe}
+use Rattle.kex_pipe.specs.declared.turn.Turn.{Ghosts}
+use Rattle.kex_top.specs.History.{Fed, History}
+use Rattle.kex_top.specs.Pipelines.{StagesSay}
+
+module _ {T : Type 0} (t : Ghosts T) where
+  -- the plans of its stages
+  abbrev pub plans_of : Pipe T t → List t.Plan
+  plans_of pipe = map (λ s. t.plan s.stage) pipe.seats.items
+
+  -- the pipe stands for a schedule that gave the same, and all of that is worked off
+  pub record IsWorkedOff (plans : List t.Plan) (given : List Event) (taken : List ℕ) (pipe : Pipe T t) : Type 0 where
+    pub events : List Event
+    pub same_bytes : bytes_given events ≡ bytes_given given
+    pub same_end : end_given events ≡ end_given given
+    pub stands : Stands t plans pipe events taken
+    pub settled : Settled t.gives stands.came plans stands.seats
+
+  -- the pipe was given what the worker was fed, and what it has said was taken
+  pub record HasSaid (plans : List t.Plan) (pipe : Pipe T t) (f : Fed) : Type 0 where
+    pub given : List Event
+    pub bytes : bytes_given given ≡ f.bytes
+    pub end : end_given given ≡ f.ended
+    pub worked_off : IsWorkedOff plans given f.said.text pipe
+    pub says : StagesSay t.gives plans f.bytes f.ended f.said
+
+  abbrev pub PipeStands : Pipe T t → History → Type 0
+  PipeStands pipe None = (0 < length (plans_of pipe)) × Stands t (plans_of pipe) pipe [] []
+  PipeStands pipe (Some f) = HasSaid (plans_of pipe) pipe f

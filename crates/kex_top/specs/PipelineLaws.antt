@@ -1,0 +1,104 @@
+-- What holds of the answers of pipelines.
+use Rattle.std.proofs.Common.{◌≡◌, ℕ, ◌<◌, Bool, true, false, List, [], ◌∷◌, ◌++◌, ◌&&◌, Option, Some, None, length, refl, sym, ap, ap₂, subst, ◌∙◌, arith}
+use Rattle.std.specs.Prelude.{IsSome, is_none}
+use Rattle.std.proofs.lemmas.Bool.{false≢true}
+use Rattle.kex_code.specs.Codes.{Begins}
+use Rattle.kex_ports.specs.Bytes.{IsPrefix}
+use Rattle.kex_model.specs.Answers.{Answer, Report, Stop, later}
+use Rattle.kex_machine.proofs.Standing.{one_answer as one_answer_at, grows, stays, ends, past_limit}
+use Rattle.kex_pipe.specs.Histories.{why_as}
+use Rattle.kex_pipe.specs.Reports.{report_as}
+use Rattle.kex_pipe.specs.declared.report.Rejected.{Rejected}
+use Rattle.kex_pipe.specs.declared.turn.Why.{Why}
+use Rattle.kex_pipe.specs.declared.turn.Why.TheVariants.{Byte, End, Limit}
+use Rattle.kex_pipe.proofs.Pipelines.{one_answer, pipelines_stand}
+use Rattle.kex_stage.specs.Stages.{StagePlan, Gives}
+use Rattle.kex_top.specs.Answer.{Said}
+use Rattle.kex_top.specs.Pipelines.{StagesSay, NodesSay, first_limit}
+
+why-same : (a b : Why) → why_as a ≡ why_as b → a ≡ b
+why-same Byte Byte e = refl
+why-same End End e = refl
+why-same Limit Limit e = refl
+why-same Byte End e = cc
+why-same Byte Limit e = cc
+why-same End Byte e = cc
+why-same End Limit e = cc
+why-same Limit Byte e = cc
+why-same Limit End e = cc
+
+abbrev rejected : ℕ → ℕ → Why → Rejected
+rejected i n y = record { stage = i; at = n; why = y }
+
+some-same : (a b : Report) → Some a ≡ Some b → a ≡ b
+some-same a b e = cc
+
+rejected-same : (i j m n : ℕ) (x y : Why) → i ≡ j → m ≡ n → x ≡ y → rejected i m x ≡ rejected j n y
+rejected-same i j m n x y e f g = ap (λ k. rejected k m x) e ∙ ap (λ k. rejected j k x) f ∙ ap (λ k. rejected j n k) g
+
+pub report-same : (a b : Option Rejected) → report_as a ≡ report_as b → a ≡ b
+report-same None None e = refl
+report-same None (Some b) e = cc
+report-same (Some a) None e = cc
+report-same (Some a) (Some b) e =
+    let same = some-same _ _ e in
+    let stage : a.stage ≡ b.stage = ap (λ (z : Report). z.stage) same in
+    let at : a.at ≡ b.at = ap (λ (z : Report). z.stop.at) same in
+    let why : a.why ≡ b.why = why-same a.why b.why (ap (λ (z : Report). z.stop.why) same) in
+    ap (λ z. Some z) (rejected-same a.stage b.stage a.at b.at a.why b.why stage at why)
+
+some-reported : (r : Option Rejected) → (report_as r ≡ None → ⊥) → IsSome r
+some-reported None some = absurd (some refl)
+some-reported (Some r) some = refl
+
+reported-some : (r : Option Rejected) → IsSome r → report_as r ≡ None → ⊥
+reported-some None i e = false≢true i
+reported-some (Some r) i e = cc
+
+pub later-some : (i : ℕ) (own : Option Stop) (rest : Option Report) → IsSome own → later i own rest ≡ None → ⊥
+later-some i own (Some r) some e = cc
+later-some i None None some e = false≢true some
+later-some i (Some s) None some e = cc
+
+module _ {T : Type 0} (Gives : T → List ℕ → Bool → Answer → Type 0) where
+  -- past the limit of the first stage there is a report
+  pub says_ends : (limit : T → ℕ) → ((p : T) (w : List ℕ) (a : Answer) → Gives p w false a → limit p < length w → IsSome a.stop) → (ps : List T) (w : List ℕ) (a : Said) → StagesSay Gives ps w false a → first_limit limit ps < length w → IsSome a.report
+  says_ends limit past [] w a (some, says) lt = absurd (omega arith)
+  says_ends limit past (p ∷ ps) w a (some, (x, rest, gives, others, is)) lt =
+      some-reported a.report (λ none. later-some 1 x.stop rest (past p w x gives lt) (sym is ∙ none))
+
+  module _ (one : (p : T) (w : List ℕ) (e : Bool) (a b : Answer) → Gives p w e a → Gives p w e b → a ≡ b) where
+    pub says_one : (ps : List T) (w : List ℕ) (e : Bool) (a b : Said) → StagesSay Gives ps w e a → StagesSay Gives ps w e b → a ≡ b
+    says_one ps w e a b h k =
+        let x = one_answer Gives one ps 1 w a.text b.text e (report_as a.report) (report_as b.report) h.1 k.1 in
+        ap₂ (λ s r. record { text = s; report = r }) (sym x.0) (report-same a.report b.report (sym x.1))
+
+    module _ (grows : (p : T) (w v : List ℕ) (e : Bool) (a b : Answer) → Gives p w false a → Gives p (w ++ v) e b → Begins b.text a.text) (stays : (p : T) (w v : List ℕ) (e : Bool) (a b : Answer) → Gives p w false a → Gives p (w ++ v) e b → (a.stop ≡ None → ⊥) → b ≡ a) (ends : (p : T) (w : List ℕ) (e : Bool) (a : Answer) → Gives p w e a → a.ended ≡ (e && is_none a.stop)) where
+      pub says_grows : (ps : List T) (w v : List ℕ) (e : Bool) (a b : Said) → StagesSay Gives ps w false a → StagesSay Gives ps (w ++ v) e b → IsPrefix a.text b.text
+      says_grows ps w v e a b h k =
+          let x = pipelines_stand Gives one grows stays (λ p u c g. ends p u false c g) ps 1 w v a.text b.text e (report_as a.report) (report_as b.report) h.1 k.1 in
+          record { rest = x.0.0; joined = x.0.1 }
+
+      pub says_stays : (ps : List T) (w v : List ℕ) (e : Bool) (a b : Said) → StagesSay Gives ps w false a → StagesSay Gives ps (w ++ v) e b → IsSome a.report → b ≡ a
+      says_stays ps w v e a b h k some =
+          let x = pipelines_stand Gives one grows stays (λ p u c g. ends p u false c g) ps 1 w v a.text b.text e (report_as a.report) (report_as b.report) h.1 k.1 in
+          let y = x.1 (reported-some a.report some) in
+          ap₂ (λ s r. record { text = s; report = r }) y.0 (report-same b.report a.report y.1)
+
+-- over the nodes of machines
+pub one_of_nodes : (p : StagePlan) (w : List ℕ) (e : Bool) (a b : Answer) → Gives p w e a → Gives p w e b → a ≡ b
+one_of_nodes p w e a b h k = one_answer_at p.machine p.limit h k
+
+module _ (ps : List StagePlan) (w : List ℕ) where
+  pub nodes_one : (e : Bool) (a b : Said) → NodesSay ps w e a → NodesSay ps w e b → a ≡ b
+  nodes_one e a b h k = says_one (λ p v d x. Gives p v d x) one_of_nodes ps w e a b h k
+
+  pub nodes_end : (a : Said) → NodesSay ps w false a → first_limit (λ p. p.limit) ps < length w → IsSome a.report
+  nodes_end a h lt = says_ends (λ p v d x. Gives p v d x) (λ p. p.limit) (λ p v x g l. past_limit p.machine p.limit g l) ps w a h lt
+
+  module _ (v : List ℕ) (e : Bool) (a b : Said) where
+    pub nodes_grow : NodesSay ps w false a → NodesSay ps (w ++ v) e b → IsPrefix a.text b.text
+    nodes_grow h k = says_grows (λ p u d x. Gives p u d x) one_of_nodes (λ p u x d c y g i. grows p.machine p.limit u x g i) (λ p u x d c y g i some. stays p.machine p.limit u x g i some) (λ p u d c g. ends p.machine p.limit g) ps w v e a b h k
+
+    pub nodes_stay : NodesSay ps w false a → NodesSay ps (w ++ v) e b → IsSome a.report → b ≡ a
+    nodes_stay h k some = says_stays (λ p u d x. Gives p u d x) one_of_nodes (λ p u x d c y g i. grows p.machine p.limit u x g i) (λ p u x d c y g i some. stays p.machine p.limit u x g i some) (λ p u d c g. ends p.machine p.limit g) ps w v e a b h k some

@@ -1,0 +1,54 @@
+// A program's stages over a source into a sink.
+ghost use Rattle.std.specs.Prelude.{◌≡◌, ◌⊎◌, ◌<◌, IfOk, None, length};
+ghost use Rattle.kex_words.specs.Gains.{change};
+ghost use Rattle.kex_top.specs.Piped.{PipeStands, plans_of};
+ghost use Rattle.kex_top.specs.Pipelines.{NodesSay, stage_plans};
+ghost use Rattle.kex_top.specs.Run.{Left, Ran};
+
+use crate::status::Status;
+use crate::stream::run;
+use kex_code::memory::Memory;
+use kex_compile::compiled::Compiled;
+use kex_pipe::pipe::Pipe;
+use kex_pipe::turn::Turn;
+use kex_ports::{Sink, Source};
+use kex_stage::plan::Plan;
+use kex_stage::stage::Stage;
+use kex_words::Limits;
+use std::alloc::Global;
+
+// The pipe of the stages with these plans, each of which takes at most so many bytes.
+fn pipe_of<'p>(alloc: Global, plans: &'p [Plan], max_input: u64) -> Result<Pipe<Stage<'p>>, Memory>
+    requires { 0 < length plans.now }
+    ensures plans { IfOk result (λ pipe. plans_of ⟦<Stage<'p> as Turn>⟧ pipe ≡ stage_plans max_input plans.now) }
+    ensures fresh { IfOk result (λ pipe. PipeStands ⟦<Stage<'p> as Turn>⟧ pipe None) }
+{
+    let mut stages = Vec::new(alloc);
+    'plans: for plan in plans {
+        let stage = Stage::new(alloc, plan, max_input)?;
+        stages.push(stage)?;
+    }
+    let pipe = Pipe::new(alloc, stages)?;
+    Ok(pipe)
+}
+
+/// Runs the stages.
+pub(crate) fn serve<S: Source, K: Sink>(
+    alloc: Global,
+    compiled: &Compiled,
+    limits: Limits,
+    input: &mut S,
+    output: &mut K,
+) -> Status
+    requires { 0 < length compiled.now.stages }
+    ensures { (Left (change (S.rest input.old) (S.rest input.new) (S.faults input.old) (S.faults input.new))
+        (change (K.held output.old) (K.held output.new) (K.faults output.old) (K.faults output.new)) × (result ≡ Status.Memory))
+        ⊎ Ran (NodesSay (stage_plans limits.max_input compiled.now.stages)) limits.block
+        (change (S.rest input.old) (S.rest input.new) (S.faults input.old) (S.faults input.new))
+        (change (K.held output.old) (K.held output.new) (K.faults output.old) (K.faults output.new)) result }
+{
+    let Ok(mut pipe) = pipe_of(alloc, compiled.stages(), limits.max_input) else {
+        return Status::Memory;
+    };
+    run(alloc, &mut pipe, limits, input, output)
+}
