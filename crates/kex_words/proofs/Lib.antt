@@ -1,3 +1,4 @@
 pub mod Numbers
 pub mod Matched
+pub mod Subcommands
 pub mod Telling

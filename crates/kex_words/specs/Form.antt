@@ -34,6 +34,10 @@ with_rules app (rule ∷ rules) = with_rules (with_rule app rule) rules
 abbrev pub run_app : App
 run_app = with_rules (new_app (codes "run")) (program_rule ∷ max_input_rule ∷ block_rule ∷ [])
 
+-- a check reads no input, so it has no options yet
+abbrev pub check_app : App
+check_app = with_rules (new_app (codes "check")) (program_rule ∷ [])
+
 -- no flag or subcommand for help or the version
 abbrev pub bare_app : App
 bare_app = record (new_app (codes "kex")) {
@@ -45,6 +49,10 @@ bare_app = record (new_app (codes "kex")) {
   };
 }
 
--- this subcommand, which is required
+abbrev pub with_subcommands : App → List App → App
+with_subcommands app [] = app
+with_subcommands app (sub ∷ subs) = with_subcommands (with_subcommand app sub.top) subs
+
+-- one of these subcommands, which is required
 abbrev pub kex_app : App
-kex_app = with_subcommand bare_app run_app.top
+kex_app = with_subcommands bare_app (run_app ∷ check_app ∷ [])

@@ -1,42 +1,81 @@
 -- What some words ask for.
-use Rattle.std.specs.Prelude.{◌≡◌, ℕ, List, [], ◌∷◌, Some, None, codes}
+use Rattle.std.specs.Prelude.{◌≡◌, ◌==◌, ℕ, List, [], ◌∷◌, Bool, true, Some, None, is_none, codes}
+use Rattle.std.specs.List.{list_all, slice_split}
+use Prim.Native.String.{String}
 use Rattle.clap.specs.Words.{Text}
 use Rattle.kex_words.specs.Words.{Asked, Reach, asked_of}
-use Rattle.kex_words.specs.Words.Asked.{ToRun}
+use Rattle.kex_words.specs.Words.Asked.{ToRun, ToCheck}
+
+-- the words of a line, between single blanks, so that an empty word may stand among them
+abbrev pub words_of : String → List Text
+words_of line = slice_split (λ byte. byte == 32) (codes line)
 
 abbrev pub reach : ℕ → ℕ → Reach
 reach max_input block = record { max_input = max_input; block = block }
 
--- the words after the program's own name ask for this
-abbrev pub Asks : List Text → Asked → Type 0
-Asks words what = asked_of (codes "kex" ∷ words) ≡ Some what
+abbrev pub usual_reach : Reach
+usual_reach = reach 281474976710656 65536
 
-abbrev pub AreUsage : List Text → Type 0
-AreUsage words = asked_of (codes "kex" ∷ words) ≡ None
+-- the line asks for this
+abbrev pub Asks : String → Asked → Type 0
+Asks line what = asked_of (words_of line) ≡ Some what
+
+-- the line is out of form
+abbrev pub is_usage : String → Bool
+is_usage line = is_none (asked_of (words_of line))
+
+abbrev pub AreUsage : List String → Type 0
+AreUsage lines = list_all is_usage lines ≡ true
+
+pub record ReadsRun : Type 0 where
+  pub plain : Asks "kex run p" (ToRun (codes "p") usual_reach)
+  pub with_options : Asks "kex run p --max-input 3 --block 1" (ToRun (codes "p") (reach 3 1))
+  pub options_first : Asks "kex run --block=1048576 --max-input=0 p" (ToRun (codes "p") (reach 0 1048576))
+  pub largest : Asks "kex run p --max-input 281474976710656" (ToRun (codes "p") usual_reach)
+  -- as `clap` reads numbers
+  pub plus_and_zeros : Asks "kex run p --max-input +3 --block 007" (ToRun (codes "p") (reach 3 7))
+  pub empty_name : Asks "kex run " (ToRun [] usual_reach)
+  pub dash_for_a_name : Asks "kex run -" (ToRun (codes "-") usual_reach)
+  pub name_behind_dashes : Asks "kex run -- --block" (ToRun (codes "--block") usual_reach)
+  pub dashes_behind_name : Asks "kex run --block 3 p --" (ToRun (codes "p") (reach 281474976710656 3))
+  pub command_for_a_name : Asks "kex run check" (ToRun (codes "check") usual_reach)
+  pub help_for_a_name : Asks "kex run help" (ToRun (codes "help") usual_reach)
+  pub file_of_words : Asks "kex run @p" (ToRun (codes "@p") usual_reach)
+  -- the first word is the program's own name, whatever it is
+  pub own_name : Asks "--help run p" (ToRun (codes "p") usual_reach)
+
+pub record ReadsCheck : Type 0 where
+  pub plain : Asks "kex check p" (ToCheck (codes "p"))
+  pub empty_name : Asks "kex check " (ToCheck [])
+  pub name_behind_dashes : Asks "kex check -- --states" (ToCheck (codes "--states"))
+  pub command_for_a_name : Asks "kex check run" (ToCheck (codes "run"))
+
+pub record RefusesWords : Type 0 where
+  pub no_words : asked_of [] ≡ None
+  pub no_command : AreUsage ("kex" ∷ "kex " ∷ "kex --" ∷ "kex p" ∷ "kex -- run p" ∷ "kex --block 3 run p" ∷ [])
+  pub other_command : AreUsage ("kex walk p" ∷ "kex ru p" ∷ "kex RUN p" ∷ "kex checks p" ∷ "kex --run p" ∷ [])
+  -- the usage line names these already
+  pub later_command : AreUsage ("kex code p" ∷ "kex act p" ∷ "kex test p" ∷ "kex trial 3" ∷ [])
+  pub help_or_version : AreUsage ("kex help" ∷ "kex help run" ∷ "kex -h" ∷ "kex --help" ∷ "kex -V" ∷ "kex --version"
+      ∷ "kex run -h" ∷ "kex run p --help" ∷ "kex run p --version" ∷ "kex check --help" ∷ [])
+  pub no_program : AreUsage ("kex run" ∷ "kex run --" ∷ "kex run --block 3" ∷ "kex check" ∷ [])
+  pub two_programs : AreUsage ("kex run p q" ∷ "kex run p p" ∷ "kex run p " ∷ "kex run -- p --" ∷ "kex run -- p --block 3"
+      ∷ "kex check p q" ∷ "kex check p run q" ∷ [])
+  pub unknown_option : AreUsage ("kex run p --rate 1" ∷ "kex run p --states 1" ∷ "kex run p --bloc 3" ∷ "kex run p --Block 3"
+      ∷ "kex run p --max_input 3" ∷ "kex run p -b 3" ∷ "kex run p -block 3" ∷ "kex run -p" ∷ "kex run -5" ∷ [])
+  pub option_of_another_command : AreUsage ("kex check p --block 1" ∷ "kex check p --max-input 1" ∷ "kex check p --states 1" ∷ [])
+  pub option_twice : AreUsage ("kex run p --block 2 --block 3" ∷ "kex run p --block=2 --block=2"
+      ∷ "kex run --max-input 1 p --max-input 1" ∷ [])
+  pub no_value : AreUsage ("kex run p --block" ∷ "kex run p --block=" ∷ "kex run p --block " ∷ "kex run p --block --max-input 3"
+      ∷ "kex run --block -- p" ∷ [])
+  pub below_range : AreUsage ("kex run p --block 0" ∷ "kex run p --block -1" ∷ "kex run p --max-input -1" ∷ "kex run p --max-input=-0" ∷ [])
+  pub above_range : AreUsage ("kex run p --block 1048577" ∷ "kex run p --max-input 281474976710657"
+      ∷ "kex run p --block 18446744073709551617" ∷ [])
+  pub no_number : AreUsage ("kex run p --block two" ∷ "kex run p --block 3k" ∷ "kex run p --block 0x10" ∷ "kex run p --block 1_000"
+      ∷ "kex run p --block 3.0" ∷ "kex run p --block +" ∷ "kex run p --block ++3" ∷ "kex run p --block=3=4"
+      ∷ "kex run p --block 3,5" ∷ [])
 
 pub record ReadsWords : Type 0 where
-  pub run : Asks (codes "run" ∷ codes "p" ∷ []) (ToRun (codes "p") (reach 281474976710656 65536))
-  pub run_options : Asks (codes "run" ∷ codes "p" ∷ codes "--max-input" ∷ codes "3" ∷ codes "--block" ∷ codes "1" ∷ [])
-      (ToRun (codes "p") (reach 3 1))
-  pub options_first : Asks (codes "run" ∷ codes "--block=1048576" ∷ codes "--max-input=0" ∷ codes "p" ∷ [])
-      (ToRun (codes "p") (reach 0 1048576))
-  pub empty_name : Asks (codes "run" ∷ [] ∷ []) (ToRun [] (reach 281474976710656 65536))
-  pub behind_dashes : Asks (codes "run" ∷ codes "--" ∷ codes "--block" ∷ []) (ToRun (codes "--block") (reach 281474976710656 65536))
-  pub no_words : asked_of [] ≡ None
-  pub no_command : AreUsage []
-  pub no_program : AreUsage (codes "run" ∷ [])
-  pub unknown_command : AreUsage (codes "walk" ∷ codes "p" ∷ [])
-  pub unknown_option : AreUsage (codes "run" ∷ codes "p" ∷ codes "--rate" ∷ codes "1" ∷ [])
-  pub option_twice : AreUsage (codes "run" ∷ codes "p" ∷ codes "--block=2" ∷ codes "--block=3" ∷ [])
-  pub no_value : AreUsage (codes "run" ∷ codes "p" ∷ codes "--block" ∷ [])
-  pub block_too_small : AreUsage (codes "run" ∷ codes "p" ∷ codes "--block" ∷ codes "0" ∷ [])
-  pub block_too_large : AreUsage (codes "run" ∷ codes "p" ∷ codes "--block" ∷ codes "1048577" ∷ [])
-  pub max_input_too_large : AreUsage (codes "run" ∷ codes "p" ∷ codes "--max-input" ∷ codes "281474976710657" ∷ [])
-  pub not_a_number : AreUsage (codes "run" ∷ codes "p" ∷ codes "--block" ∷ codes "two" ∷ [])
-  pub long_help : AreUsage (codes "--help" ∷ [])
-  pub short_help : AreUsage (codes "-h" ∷ [])
-  pub help : AreUsage (codes "help" ∷ [])
-  pub help_of_run : AreUsage (codes "run" ∷ codes "--help" ∷ [])
-  pub version : AreUsage (codes "--version" ∷ [])
-  pub check : AreUsage (codes "check" ∷ codes "p" ∷ [])
-  pub extra_word : AreUsage (codes "run" ∷ codes "p" ∷ codes "q" ∷ [])
+  pub run : ReadsRun
+  pub check : ReadsCheck
+  pub out_of_form : RefusesWords

@@ -1,6 +1,7 @@
 pub mod Form
 pub mod Words
 pub mod Known
+pub mod Subcommands
 pub mod Gains
 pub mod Lines
 pub mod Parts

@@ -1,6 +1,7 @@
--- The line that a run leaves in the notes.
+-- The line that a call leaves in the notes, and the line of a check.
 use Rattle.std.specs.Prelude.{ℕ, List, [], ◌∷◌, Bool, codes, decimal, if◌then◌else◌}
 use Rattle.std.specs.List.{concat}
+use Rattle.kex_words.specs.declared.counts.Counts.{Counts}
 use Rattle.kex_words.specs.declared.notes.Note.{Note}
 use Rattle.kex_words.specs.declared.notes.Note.TheVariants.{Nothing, Rejected, TooLong, Usage, Refused, ReadFault, WriteFault, ShelfFault, Memory}
 use Rattle.kex_words.specs.declared.refusals.Place.{Place}
@@ -61,3 +62,6 @@ line_of ReadFault = codes "read fault\n"
 line_of WriteFault = codes "write fault\n"
 line_of ShelfFault = codes "shelf fault\n"
 line_of Memory = codes "out of memory\n"
+
+abbrev pub counts_line : Counts → List ℕ
+counts_line counts = concat (codes "stages " ∷ decimal counts.stages ∷ codes " places " ∷ decimal counts.places ∷ codes "\n" ∷ [])

@@ -1,12 +1,13 @@
 -- What the words of a command line ask for.
 use Rattle.std.specs.Prelude.{[], nat_le, ◌&&◌, ℕ, List, Option, Some, None, codes, option_and_then, unwrap_or, if◌then◌else◌}
+use Rattle.std.specs.Str.{bytes_eq}
 use Rattle.std.specs.Str.Parse.{digits_value, without_leading_plus}
 use Rattle.clap.specs.Words.{Row, Text, first_of, one_of, subcommand_of, fault_of}
 use Rattle.clap.specs.Walk.{is_empty}
 use Rattle.clap.specs.ValueTests.{is_unsigned_in}
 use Rattle.kex_words.specs.Form.{kex_app, most_block, most_input}
 use Rattle.kex_words.specs.declared.asked.Command.{Command}
-use Rattle.kex_words.specs.declared.asked.Command.TheVariants.{Run}
+use Rattle.kex_words.specs.declared.asked.Command.TheVariants.{Run, Check}
 
 -- how many bytes are read, in all and at a time
 pub record Reach : Type 0 where
@@ -16,6 +17,7 @@ pub record Reach : Type 0 where
 -- what is asked for, and of which program
 pub data Asked : Type 0 where
   ToRun : (program : Text) (reach : Reach) → Asked
+  ToCheck : (program : Text) → Asked
 
 -- the number where it is within the bounds
 abbrev pub bounded : ℕ → ℕ → Option ℕ → Option ℕ
@@ -39,10 +41,14 @@ reach_in rows = record {
   block = unwrap_or (number_at (codes "block") 1 most_block rows) 65536;
 }
 
--- what a subcommand and its matches ask for; words in form have one
+-- what the subcommand of this name asks for by its matches
+abbrev pub asked_by : Text → List Row → Asked
+asked_by name rows = if bytes_eq name (codes "check") then ToCheck (program_in rows) else ToRun (program_in rows) (reach_in rows)
+
+-- the same, where there is a subcommand; words in form have one
 abbrev pub asked_in : Option (Text × List Row) → Asked
 asked_in None = ToRun [] (record { max_input = most_input; block = 65536 })
-asked_in (Some sub) = ToRun (program_in sub.1) (reach_in sub.1)
+asked_in (Some sub) = asked_by sub.0 sub.1
 
 -- what the words ask for, where they are in form, and else nothing
 unfoldable pub asked_of : List Text → Option Asked
@@ -51,3 +57,4 @@ asked_of words = if is_empty (fault_of kex_app words) then Some (asked_in (subco
 -- what a command asks for
 abbrev pub asked : Command → Asked
 asked (Run program limits) = ToRun program.now (record { max_input = limits.max_input; block = limits.block })
+asked (Check program) = ToCheck program.now

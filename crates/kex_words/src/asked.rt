@@ -26,6 +26,8 @@ pub struct Limits {
 pub enum Command<'a> {
     /// Runs the program on the input.
     Run { program: &'a str, limits: Limits },
+    /// Asks whether the program breaks a rule, and reads no input.
+    Check { program: &'a str },
 }
 
 /// Why no command is read.

@@ -2,7 +2,7 @@
 ghost use Rattle.std.specs.Prelude.{◌≡◌, IfOk, false};
 ghost use Rattle.clap.specs.Words.{app_of, rule_of, with_subcommand};
 ghost use Rattle.clap.specs.declared.builder.command.Command.TheViews.{out-Command};
-ghost use Rattle.kex_words.specs.Form.{bare_app, block_rule, kex_app, max_input_rule, number_rule, program_rule, run_app};
+ghost use Rattle.kex_words.specs.Form.{bare_app, block_rule, check_app, kex_app, max_input_rule, number_rule, program_rule, run_app};
 
 use crate::asked::{MOST_BLOCK, MOST_INPUT};
 use clap::builder::ValueParser;
@@ -50,6 +50,13 @@ fn run<'a>(alloc: Global) -> Result<Command<'a>, AllocError>
         .arg(block(alloc))
 }
 
+fn check<'a>(alloc: Global) -> Result<Command<'a>, AllocError>
+    ensures app { IfOk result (λ command. app_of command ≡ check_app) }
+    ensures local { IfOk result (λ command. (out-Command command).has_globals ≡ false) }
+{
+    Command::new(alloc, "check").arg(program(alloc))
+}
+
 // Help and the version are no words of the form.
 fn bare<'a>(alloc: Global) -> Command<'a>
     ensures { app_of result ≡ bare_app }
@@ -71,5 +78,6 @@ fn with<'a>(command: Command<'a>, sub: Command<'a>) -> Result<Command<'a>, Alloc
 pub(crate) fn form<'a>(alloc: Global) -> Result<Command<'a>, AllocError>
     ensures { IfOk result (λ command. app_of command ≡ kex_app) }
 {
-    with(bare(alloc), run(alloc)?)
+    let with_run = with(bare(alloc), run(alloc)?)?;
+    with(with_run, check(alloc)?)
 }

@@ -1,10 +1,11 @@
-//! The words of a command line, and the line that a run leaves in the notes.
+//! The words of a command line, the line that a call leaves in the notes, and the line of a check.
 //!
 //! Stands on `clap`, `itoa` and `kex_ports`. `read` is to be taken by its clauses: Ok is what the words ask for, and Usage comes
-//! exactly where the words don't meet the form of the command. `tell` and `write_all` say what a sink gains.
+//! exactly where the words don't meet the form of the command. `tell`, `write_counts` and `write_all` say what a sink gains.
 #![tactic(auto)]
 
 mod asked;
+mod counts;
 mod form;
 mod known;
 mod notes;
@@ -16,7 +17,8 @@ mod tests;
 mod writing;
 
 pub use asked::{Command, Limits, WordsRefusal};
-pub use known::reads_known_words;
+pub use counts::{Counts, write_counts};
+pub use known::{asks_by_subcommand, reads_known_words};
 pub use notes::{Note, tell};
 pub use reading::read;
 pub use refusals::{Place, Refusal, Rule};

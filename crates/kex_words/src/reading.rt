@@ -50,6 +50,9 @@ fn command<'a>(matches: &ArgMatches<'a>) -> Command<'a>
     ensures { asked result ≡ asked_in (subcommand_rows_of matches.now) }
 {
     match matches.subcommand() {
+        Some(("check", inner)) => Command::Check {
+            program: program(inner),
+        },
         Some((_, inner)) => Command::Run {
             program: program(inner),
             limits: limits(inner),

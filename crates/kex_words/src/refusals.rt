@@ -21,7 +21,7 @@ pub enum Rule {
     NoText,
     OneStage,
     TooManyStates,
-    /// The program needs what isn't built yet.
+    /// The program needs what isn't built yet. This goes once every program runs.
     Later,
 }
 
@@ -52,13 +52,14 @@ impl Rule {
     }
 }
 
-/// Where in a program a rule is broken.
+/// Where in a program a rule is broken. Each rule is told with one kind of place.
 #[derive(Clone, Copy, Debug, PartialEq, Eq)]
 pub enum Place {
+    /// K00, K09, K14: of the whole text.
     Nowhere,
-    /// Both count from 1, the column in bytes.
+    /// K01 to K08, K10. Both count from 1, the column in bytes.
     At { line: u32, column: u32 },
-    /// Counted from 1.
+    /// K11 to K13, K15. Counted from 1.
     Stage(u32),
 }
 

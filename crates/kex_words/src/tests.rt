@@ -1,7 +1,7 @@
-//! Words and what they ask for; notes and their lines.
+//! Words and what they ask for; notes, counts and their lines.
 use crate::{
-    Command, Limits, Note, Place, Refusal, Rule, WordsRefusal, read, reads_known_words, tell,
-    write_all,
+    Command, Counts, Limits, Note, Place, Refusal, Rule, WordsRefusal, asks_by_subcommand, read,
+    reads_known_words, tell, write_all, write_counts,
 };
 use kex_ports::MemSink;
 use std::alloc::{AllocError, Global};
@@ -28,26 +28,88 @@ fn words_are_read(rt: HostRuntime) -> Result<(), Fail> {
     let cases = [
         (
             "kex run p",
-            Ok(Command::Run {
+            Command::Run {
                 program: "p",
                 limits,
-            }),
+            },
         ),
         (
             "kex run --block 1 p --max-input 3",
-            Ok(Command::Run {
+            Command::Run {
                 program: "p",
                 limits: small,
-            }),
+            },
         ),
-        ("kex check p", Err(WordsRefusal::Usage)),
-        ("kex help", Err(WordsRefusal::Usage)),
+        (
+            "kex run --block=+1 --max-input=003 -- -p",
+            Command::Run {
+                program: "-p",
+                limits: small,
+            },
+        ),
+        (
+            "kex run ",
+            Command::Run {
+                program: "",
+                limits,
+            },
+        ),
+        ("kex check p", Command::Check { program: "p" }),
+        ("kex check -- run", Command::Check { program: "run" }),
     ];
     reads_known_words();
+    asks_by_subcommand();
     for (line, want) in &cases {
         let words = words_of(rt.alloc(), line)?;
-        assert!(rt; read(rt.alloc(), words.as_slice()) == *want, "at {line}");
+        assert!(rt;
+            read(rt.alloc(), words.as_slice()) == Ok(*want),
+            "at {line}"
+        );
     }
+    Ok(())
+}
+
+#[test]
+fn words_out_of_form_are_usage(rt: HostRuntime) -> Result<(), Fail> {
+    let lines = [
+        "kex",
+        "kex ",
+        "kex p",
+        "kex -- run p",
+        "kex --block 3 run p",
+        "kex walk p",
+        "kex ru p",
+        "kex code p",
+        "kex help",
+        "kex -h",
+        "kex --version",
+        "kex run p --help",
+        "kex run",
+        "kex run p q",
+        "kex run -- p --block 3",
+        "kex run -p",
+        "kex run p --states 1",
+        "kex run p --bloc 3",
+        "kex check p --block 1",
+        "kex check p --states 1",
+        "kex run p --block 2 --block 2",
+        "kex run p --block",
+        "kex run p --block=",
+        "kex run p --block 0",
+        "kex run p --block 1048577",
+        "kex run p --max-input -1",
+        "kex run p --max-input 281474976710657",
+        "kex run p --max-input 18446744073709551616",
+        "kex run p --block two",
+    ];
+    for line in &lines {
+        let words = words_of(rt.alloc(), line)?;
+        assert!(rt;
+            read(rt.alloc(), words.as_slice()) == Err(WordsRefusal::Usage),
+            "at {line}"
+        );
+    }
+    assert!(rt; read(rt.alloc(), &[]) == Err(WordsRefusal::Usage));
     Ok(())
 }
 
@@ -96,6 +158,13 @@ fn lines_are_told(rt: HostRuntime) -> Result<(), Fail> {
         ),
         (Note::Refused(no_text), "refused: K13 NoText in stage 1\n"),
         (Note::Refused(no_start), "refused: K09 NoStart\n"),
+        (
+            Note::Usage,
+            "usage: kex run|check|code|act|test PROGRAM [--states N] [--max-input N] [--block N] | kex trial N [--block N]\n",
+        ),
+        (Note::ReadFault, "read fault\n"),
+        (Note::WriteFault, "write fault\n"),
+        (Note::ShelfFault, "shelf fault\n"),
         (Note::Memory, "out of memory\n"),
     ];
     let alloc = rt.alloc();
@@ -117,5 +186,39 @@ fn a_front_is_left_where_the_sink_fails(rt: HostRuntime) -> Result<(), Fail> {
     assert!(rt; sink.bytes() == b"write fa".as_slice());
     let later = write_all(&mut sink, b"ult");
     assert!(rt; later.is_ok() && sink.bytes() == b"write fault".as_slice());
+    Ok(())
+}
+
+#[test]
+fn counts_are_written(rt: HostRuntime) -> Result<(), Fail> {
+    let cases = [
+        (1, 3, "stages 1 places 3\n"),
+        (2, 18, "stages 2 places 18\n"),
+        (64, 4_194_304, "stages 64 places 4194304\n"),
+    ];
+    let alloc = rt.alloc();
+    for (stages, places, want) in cases {
+        let mut sink = MemSink::new(alloc, 256, 3, Vec::new(alloc))?;
+        let written = write_counts(&mut sink, Counts { stages, places });
+        assert!(rt;
+            written.is_ok() && sink.bytes() == want.as_bytes(),
+            "at {want}"
+        );
+    }
+    Ok(())
+}
+
+#[test]
+fn counts_stop_where_the_sink_fails(rt: HostRuntime) -> Result<(), Fail> {
+    let alloc = rt.alloc();
+    let mut failing = Vec::new(alloc);
+    failing.push(3)?;
+    let mut sink = MemSink::new(alloc, 256, 256, failing)?;
+    let counts = Counts {
+        stages: 2,
+        places: 18,
+    };
+    let written = write_counts(&mut sink, counts);
+    assert!(rt; written.is_err() && sink.bytes() == b"stages 2".as_slice());
     Ok(())
 }

@@ -1,36 +1,54 @@
 use Rattle.std.proofs.Common.{refl}
 use Rattle.clap.proofs.OnLiterals.{clap_on_literals}
 use Rattle.kex_words.specs.Words.{asked_of}
-use Rattle.kex_words.specs.Known.{ReadsWords}
+use Rattle.kex_words.specs.Known.{ReadsRun, ReadsCheck, RefusesWords}
 use Rattle.kex_words.proofs.known.reads_known_words.Goals as goal
 
-known : ReadsWords
+reads-run : ReadsRun
 unfolding clap_on_literals asked_of
-known = record {
-  run = refl;
-  run_options = refl;
+reads-run = record {
+  plain = refl;
+  with_options = refl;
   options_first = refl;
-  check = refl;
+  largest = refl;
+  plus_and_zeros = refl;
   empty_name = refl;
-  behind_dashes = refl;
+  dash_for_a_name = refl;
+  name_behind_dashes = refl;
+  dashes_behind_name = refl;
+  command_for_a_name = refl;
+  help_for_a_name = refl;
+  file_of_words = refl;
+  own_name = refl;
+}
+
+reads-check : ReadsCheck
+unfolding clap_on_literals asked_of
+reads-check = record {
+  plain = refl;
+  empty_name = refl;
+  name_behind_dashes = refl;
+  command_for_a_name = refl;
+}
+
+refuses-words : RefusesWords
+unfolding clap_on_literals asked_of
+refuses-words = record {
   no_words = refl;
   no_command = refl;
+  other_command = refl;
+  later_command = refl;
+  help_or_version = refl;
   no_program = refl;
-  unknown_command = refl;
+  two_programs = refl;
   unknown_option = refl;
+  option_of_another_command = refl;
   option_twice = refl;
   no_value = refl;
-  block_too_small = refl;
-  block_too_large = refl;
-  max_input_too_large = refl;
-  not_a_number = refl;
-  long_help = refl;
-  short_help = refl;
-  help = refl;
-  help_of_run = refl;
-  version = refl;
-  extra_word = refl;
+  below_range = refl;
+  above_range = refl;
+  no_number = refl;
 }
 
 pub returns : goal.returns
-returns c = known
+returns c = record { run = reads-run; check = reads-check; out_of_form = refuses-words }
