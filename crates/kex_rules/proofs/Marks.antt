@@ -1,0 +1,91 @@
+-- Marks and numbers in lists that grow.
+use Rattle.std.proofs.Common.{◌≡◌, ◌≢◌, ℕ, zero, suc, ◌<◌, ◌≤◌, ◌+◌, List, [], ◌∷◌, ◌++◌, ◌⊎◌, inl, inr, ⊎_elim, Some, None, length, get_or, set, replicate, refl, sym, ap, subst, ◌∙◌, length-append, get_or-set_same, get_or-set_other, arith}
+use Rattle.std.specs.Prelude.{slice_get}
+use Rattle.std.proofs.lemmas.Option.{slice_get_within, slice_get-get_or, slice_get_cases}
+use Rattle.kex_code.specs.Codes.{IsAmong, HasNumber}
+use Rattle.kex_model.proofs.Tables.{some_same, get_more, get_last, get_pushed}
+use Rattle.kex_rules.specs.declared.components.Mark.{Mark}
+use Rattle.kex_rules.specs.declared.components.Mark.TheVariants.{Unseen, Open, Closed}
+use Rattle.kex_rules.specs.Searches.{unseen}
+
+pub same_or_not : (a b : ℕ) → (a ≡ b) ⊎ (b ≢ a)
+same_or_not a b = grind arith
+
+pub less_or_not : (a b : ℕ) → (a < b) ⊎ (b ≤ a)
+less_or_not a b = grind arith
+
+pub at_most_or_not : (a b : ℕ) → (a ≤ b) ⊎ (b < a)
+at_most_or_not a b = grind arith
+
+pub one_number : {A : Type 0} (xs : List A) (x y : A) (i : ℕ) → HasNumber xs x i → HasNumber xs y i → x ≡ y
+one_number xs x y i h k = some_same x y (sym h ∙ k)
+
+-- what stands in a list stands in its front, if its number does
+pub number_front : {A : Type 0} (us vs : List A) (i : ℕ) (x : A) → HasNumber (us ++ vs) x i → i < length us → HasNumber us x i
+number_front us vs i x e lt = let g = slice_get-get_or us i x lt in g ∙ sym (get_more us vs i (get_or us i x) g) ∙ e
+
+-- what stands in two lists stands in the first one, or is of the second one
+pub number_cases : {A : Type 0} (xs ys : List A) (x : A) (i : ℕ) → HasNumber (xs ++ ys) x i → HasNumber xs x i ⊎ ((length xs ≤ i) × IsAmong ys x)
+number_cases [] ys x i h = inr (omega arith, among ys i h)
+  where
+    among : (ys : List _) (i : ℕ) → HasNumber ys x i → IsAmong ys x
+    among [] i e = let lt : i < 0 = slice_get_within [] i x e in absurd (omega arith)
+    among (y ∷ ys) zero e = inl (some_same y x e)
+    among (y ∷ ys) (suc i) e = inr (among ys i e)
+number_cases (y ∷ xs) ys x zero h = inl h
+number_cases (y ∷ xs) ys x (suc i) h = ⊎_elim (λ k. inl k) (λ k. let le : length xs ≤ i = k.0 in inr (omega arith, k.1)) (number_cases xs ys x i h)
+
+-- what is of the second list stands behind the first one
+pub number_of : {A : Type 0} (xs ys : List A) (x : A) → IsAmong ys x → (q : ℕ) × HasNumber (xs ++ ys) x q × (length xs ≤ q)
+number_of [] [] x i = absurd i
+number_of [] (y ∷ ys) x (inl e) = (0, ap (λ z. Some z) e, omega arith)
+number_of [] (y ∷ ys) x (inr i) = let r = number_of [] ys x i in (suc r.0, r.1, omega arith)
+number_of (y ∷ xs) ys x i = let r = number_of xs ys x i in (suc r.0, r.1, (let le : length xs ≤ r.0 = r.2 in omega arith))
+
+-- a mark other than the default stands within
+pub mark_within : (marks : List Mark) (v : ℕ) (m : Mark) → get_or marks v Unseen ≡ m → (m ≡ Unseen → ⊥) → v < length marks
+mark_within [] v m e n = absurd (n (sym e))
+mark_within (x ∷ marks) zero m e n = omega arith
+mark_within (x ∷ marks) (suc v) m e n = let lt : v < length marks = mark_within marks v m e n in omega arith
+
+pub mark_set : (marks : List Mark) (y v : ℕ) (m : Mark) → y < length marks → y ≡ v → get_or (set marks y m) v Unseen ≡ m
+mark_set marks y v m lt e = ap (λ z. get_or (set marks y m) z Unseen) (sym e) ∙ get_or-set_same marks y m Unseen lt
+
+-- the default is of no account within the list
+pub read_any : {A : Type 0} (xs : List A) (n : ℕ) (d e : A) → n < length xs → get_or xs n d ≡ get_or xs n e
+read_any [] n d e lt = absurd (omega arith)
+read_any (x ∷ xs) zero d e lt = refl
+read_any (x ∷ xs) (suc n) d e lt = read_any xs n d e (omega arith)
+
+pub unseen-open : (marks : List Mark) (n i : ℕ) → n < length marks → get_or marks n Unseen ≡ Unseen → unseen marks ≡ suc (unseen (set marks n (Open i)))
+unseen-open [] n i lt e = absurd (omega arith)
+unseen-open (Unseen ∷ xs) zero i lt e = refl
+unseen-open (Open j ∷ xs) zero i lt e = cc
+unseen-open (Closed a ∷ xs) zero i lt e = cc
+unseen-open (Unseen ∷ xs) (suc n) i lt e = ap suc (unseen-open xs n i (omega arith) e)
+unseen-open (Open j ∷ xs) (suc n) i lt e = unseen-open xs n i (omega arith) e
+unseen-open (Closed a ∷ xs) (suc n) i lt e = unseen-open xs n i (omega arith) e
+
+pub unseen-closed : (marks : List Mark) (n a : ℕ) → unseen (set marks n (Closed a)) ≤ unseen marks
+unseen-closed [] n a = omega arith
+unseen-closed (Unseen ∷ xs) zero a = omega arith
+unseen-closed (Open j ∷ xs) zero a = omega arith
+unseen-closed (Closed b ∷ xs) zero a = omega arith
+unseen-closed (Unseen ∷ xs) (suc n) a = let h : unseen (set xs n (Closed a)) ≤ unseen xs = unseen-closed xs n a in omega arith
+unseen-closed (Open j ∷ xs) (suc n) a = unseen-closed xs n a
+unseen-closed (Closed b ∷ xs) (suc n) a = unseen-closed xs n a
+
+pub fresh_mark : (k v : ℕ) → get_or (replicate k Unseen) v Unseen ≡ Unseen
+fresh_mark zero v = refl
+fresh_mark (suc k) zero = refl
+fresh_mark (suc k) (suc v) = fresh_mark k v
+
+pub unseen-fresh : (k : ℕ) → unseen (replicate k Unseen) ≡ k
+unseen-fresh zero = refl
+unseen-fresh (suc k) = ap suc (unseen-fresh k)
+
+pub unseen_at_most : (marks : List Mark) → unseen marks ≤ length marks
+unseen_at_most [] = omega arith
+unseen_at_most (Unseen ∷ xs) = let h : unseen xs ≤ length xs = unseen_at_most xs in omega arith
+unseen_at_most (Open i ∷ xs) = let h : unseen xs ≤ length xs = unseen_at_most xs in omega arith
+unseen_at_most (Closed a ∷ xs) = let h : unseen xs ≤ length xs = unseen_at_most xs in omega arith

@@ -1,0 +1,5 @@
+pub mod Rules
+pub mod Graphs
+pub mod Searches
+pub mod Tables
+pub mod Tails
