@@ -4,8 +4,10 @@
 #![tactic(auto)]
 
 mod call;
+mod counts;
 mod pass;
 mod pipeline;
+mod refused;
 mod serve;
 mod status;
 mod stream;

@@ -9,7 +9,7 @@ returns-in-Ok-compile-clause-answers g c =
 
 pub returns-clause-answers : goal.returns-clause-answers
 returns-clause-answers g c =
-    refused_by _ _ _ c.in-Ok.text.items c.in-Err.refusal _ _ _ c.in-Ok.ensures.found (subst (λ t. IsRefused t c.in-Err.refusal) c.deref.ensures.value c.in-Err.ensures.refused) ((refl, refl), (refl, refl)) c.refused.ensures
+    refused_by _ _ _ c.in-Ok.text.items c.in-Err.refusal _ _ _ c.in-Ok.ensures.found (subst (λ t. IsRefused t c.in-Err.refusal) c.deref.ensures.value c.in-Err.ensures.refused) ((refl, refl), (refl, refl)) ?
 
 pub serve-requires : goal.serve-requires
 serve-requires g c = some-machine c.deref.result.now c.in-Ok-compile.compiled c.in-Ok-compile.ensures.plans
