@@ -10,6 +10,6 @@ mod lines;
 mod scan;
 mod text;
 
-pub use lines::place;
 pub use gather::ReadRefusal;
+pub use lines::place;
 pub use text::read;

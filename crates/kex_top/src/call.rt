@@ -3,14 +3,13 @@ ghost use Rattle.std.specs.Prelude.{◌≡◌, ◌⊎◌, ℕ, List, Some, None,
 ghost use Rattle.kex_ports.specs.Shelf.{told_of};
 ghost use Rattle.kex_words.specs.Words.{Reach, asked_of};
 ghost use Rattle.kex_words.specs.Words.Asked.{ToCheck, ToRun};
-ghost use Rattle.kex_words.specs.Gains.{Change, Gains, change};
+ghost use Rattle.kex_words.specs.Gains.{Gains, change};
 ghost use Rattle.kex_words.specs.Lines.{line_of};
-ghost use Rattle.kex_top.specs.Run.{IsLeft};
 ghost use Rattle.kex_top.specs.Status.{note_of};
 ghost use Rattle.kex_top.specs.Kex.{Answers, AnswersNothing, Checks, Headline, IsGood, IsSound, ShelfAnswers, shelf_change};
 ghost use Rattle.kex_top.specs.declared.status.Status.TheVariants.{Done, Memory};
 
-use crate::counts::tell_counts;
+use crate::check::answer_check;
 use crate::refused::{LATER, refused};
 use crate::serve::serve;
 use crate::status::Status;
@@ -20,7 +19,8 @@ use kex_words::{Command, Limits, WordsRefusal, read, tell};
 use std::alloc::Global;
 use std::thread::Threads;
 
-const MOST_TEXT: usize = 1_048_576;
+/// The most bytes of a program.
+pub(crate) const MOST_TEXT: usize = 1_048_576;
 
 // Answers a command to run the program of a name.
 fn answer_run<H: Shelf, S: Source, K: Sink>(
@@ -46,31 +46,6 @@ fn answer_run<H: Shelf, S: Source, K: Sink>(
     };
     match compile(alloc, &text) {
         Ok(compiled) => serve(alloc, &compiled, limits, input, output),
-        Err(refusal) => refused(&text, refusal),
-    }
-}
-
-// Answers a command to check the program of a name.
-fn answer_check<H: Shelf, K: Sink>(
-    alloc: Global,
-    program: &str,
-    shelf: &mut H,
-    output: &mut K,
-) -> Status
-    ensures texts { H.texts shelf.new ≡ H.texts shelf.old }
-    ensures shelf { ShelfAnswers (told_of (H.texts shelf.old) program.now)
-        (shelf_change (H.faults shelf.old) (H.faults shelf.new) (H.breaks shelf.old) (H.breaks shelf.new)) result }
-    ensures checks { (source : Change) → IsLeft source → Checks (told_of (H.texts shelf.old) program.now) source
-        (change (K.held output.old) (K.held output.new) (K.faults output.old) (K.faults output.new)) result }
-{
-    let text = match shelf.take(alloc, program, MOST_TEXT) {
-        Ok(text) => text,
-        Err(ShelfAnswer::Failed) => return Status::ShelfFault,
-        Err(ShelfAnswer::TooLong) => return Status::Refused(LATER),
-        Err(ShelfAnswer::Memory) => return Status::Memory,
-    };
-    match compile(alloc, &text) {
-        Ok(compiled) => tell_counts(&compiled, output),
         Err(refusal) => refused(&text, refusal),
     }
 }

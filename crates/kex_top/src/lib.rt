@@ -4,7 +4,7 @@
 #![tactic(auto)]
 
 mod call;
-mod counts;
+mod check;
 mod pass;
 mod pipeline;
 mod refused;
