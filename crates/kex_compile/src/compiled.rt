@@ -15,11 +15,14 @@ pub struct Compiled {
 }
 
 impl Model for Compiled {
+    ghost use Rattle.std.specs.Prelude.{◌<◌, ◌^◌, length};
     ghost use Rattle.kex_compile.specs.Stages.{Plans};
 
     ghost Value = { Plans };
 
     ghost view = { λ c. record { stages = c.stages.items; places = c.places } };
+
+    ghost invariant = { λ c. length c.stages.items < 2 ^ 32 };
 }
 
 impl Compiled {
@@ -34,7 +37,8 @@ impl Compiled {
 
     // One stage more.
     pub(crate) fn push(&mut self, plan: Plan, places: u32) -> Result<(), Memory>
-        requires { self.old.places + places < 2 ^ 64 }
+        requires places { self.old.places + places < 2 ^ 64 }
+        requires stages { length self.old.stages + 1 < 2 ^ 32 }
         ensures pushed { OnOk result (self.new ≡ record { stages = self.old.stages ++ plan ∷ []; places = self.old.places + places }) }
         ensures few { OnOk result (self.new.places < self.old.places + 2 ^ 32) }
     {
@@ -45,7 +49,8 @@ impl Compiled {
 
     /// The plans, in the order of their stages.
     pub fn stages(&self) -> &[Plan]
-        ensures { result.now ≡ self.now.stages }
+        ensures same { result.now ≡ self.now.stages }
+        ensures few { length self.now.stages < 2 ^ 32 }
     {
         &self.stages
     }

@@ -1,6 +1,6 @@
 //! Program texts into plans.
 //!
-//! Stands on the reader and the passes. The contract of `compile` is the crate's promise: the plans answer as the program's
+//! Stands on the reader, the rules and the passes. The contract of `compile` is the crate's promise: the plans answer as the program's
 //! stages do, and a text is refused for the first rule that it breaks.
 #![tactic(auto)]
 
@@ -16,14 +16,18 @@ use crate::compiled::Compiled;
 use crate::refusal::CompileRefusal;
 use crate::stages::plan_stages;
 use kex_reader::read;
+use kex_rules::check;
 use std::alloc::Global;
 
 /// The plans of a program text.
+///
+/// Each rule is asked of the whole text before the next.
 pub fn compile(alloc: Global, text: &[u8]) -> Result<Compiled, CompileRefusal>
     ensures plans { IfOk result (λ plans. IsCompiled text.now plans) }
     ensures refused { IfErr result (λ e. IsRefused text.now e) }
 {
     let program = read(alloc, text)?;
-    let compiled = plan_stages(alloc, &program)?;
+    let ruled = check(alloc, &program)?;
+    let compiled = plan_stages(alloc, ruled.program())?;
     Ok(compiled)
 }

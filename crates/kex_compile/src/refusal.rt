@@ -1,13 +1,14 @@
 // Why a text has no plans.
 
 ghost use Rattle.std.specs.Prelude.{◌≡◌};
-ghost use Rattle.kex_compile.specs.Compiled.{of_plan, of_read};
+ghost use Rattle.kex_compile.specs.Compiled.{of_plan, of_read, of_rule};
 
 use kex_code::memory::Memory;
 use kex_reader::ReadRefusal;
+use kex_rules::refusal::RuleRefusal;
 use thiserror::Error;
 
-/// Why the stages of a program have no plans. Stages are counted from 1.
+/// Why the stages of a program have no plans. Stages count from 1.
 #[derive(Clone, Copy, Debug, PartialEq, Eq, Drop, Error)]
 pub enum PlanRefusal {
     /// The stage has more than 65,536 places.
@@ -33,12 +34,23 @@ impl From<Memory> for PlanRefusal {
     }
 }
 
-/// Why a text has no plans. Stages are counted from 1.
+/// The rule that a program text breaks. Offsets count its bytes from 0, and stages count from 1.
 #[derive(Clone, Copy, Debug, PartialEq, Eq, Drop, Error)]
 pub enum CompileRefusal {
     /// The text isn't one that is read yet.
     #[error("not read yet")]
     Later,
+    /// The name at this offset was defined before.
+    #[error("the name at byte {0} is defined twice")]
+    TwiceDefined(u32),
+    /// The name that is called or started at this offset has no definition.
+    #[error("the name at byte {0} has no definition")]
+    Unknown(u32),
+    #[error("there is no stage")]
+    NoStart,
+    /// The call at this offset comes back, and stands outside tail position.
+    #[error("the call at byte {0} comes back outside tail position")]
+    NotTail(u32),
     /// The stage has more than 65,536 places.
     #[error("stage {0} has too many places")]
     TooManyPlaces(u32),
@@ -59,6 +71,20 @@ impl From<ReadRefusal> for CompileRefusal {
         match why {
             ReadRefusal::Later => CompileRefusal::Later,
             ReadRefusal::Memory => CompileRefusal::Memory,
+        }
+    }
+}
+
+impl From<RuleRefusal> for CompileRefusal {
+    ghost from_gives = { λ why e. e ≡ of_rule why };
+
+    fn from(why: RuleRefusal) -> CompileRefusal {
+        match why {
+            RuleRefusal::TwiceDefined(at) => CompileRefusal::TwiceDefined(at),
+            RuleRefusal::Unknown(at) => CompileRefusal::Unknown(at),
+            RuleRefusal::NoStart => CompileRefusal::NoStart,
+            RuleRefusal::NotTail(at) => CompileRefusal::NotTail(at),
+            RuleRefusal::Memory => CompileRefusal::Memory,
         }
     }
 }

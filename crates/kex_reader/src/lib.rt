@@ -6,8 +6,10 @@
 
 mod build;
 mod gather;
+mod lines;
 mod scan;
 mod text;
 
 pub use gather::ReadRefusal;
+pub use lines::place;
 pub use text::read;

@@ -1,6 +1,5 @@
 -- The flags of nodes that stand apart, and the lowest call among them.
-use Rattle.std.proofs.Common.{◌≡◌, ◌≢◌, ℕ, zero, suc, ◌<◌, ◌≤◌, ◌+◌, Bool, true, false, List, [], ◌∷◌, ◌++◌, ◌⊎◌, inl, inr, ⊎_elim, Option, Some, None, length, get_or, set, replicate, refl, sym, ap, subst, ◌∙◌, length-set, get_or-set_same, get_or-set_other, arith}
-use Rattle.std.specs.Prelude.{slice_get}
+use Rattle.std.proofs.Common.{◌≡◌, ℕ, zero, suc, ◌<◌, ◌≤◌, ◌+◌, Bool, true, false, List, [], ◌⊎◌, inl, inr, ⊎_elim, Option, Some, None, length, get_or, replicate, refl, sym, ap, subst, ◌∙◌, arith}
 use Rattle.std.proofs.lemmas.List.{length-replicate}
 use Rattle.std.proofs.lemmas.Option.{slice_get_within, slice_get_past}
 use Rattle.kex_code.specs.Codes.{IsAmong, HasNumber}
@@ -13,49 +12,10 @@ use Rattle.kex_rules.specs.declared.components.Mark.{Mark}
 use Rattle.kex_rules.specs.Rules.{IsCall, IsNotTail, last_parts, other_parts}
 use Rattle.kex_rules.specs.Tables.{IsLeast, lower}
 use Rattle.kex_rules.specs.Graphs.{IsParted, vertices, ways}
-use Rattle.kex_rules.specs.Tails.{AreSame, IsApart, by_other, by_last, MarksParts, HasApart}
-use Rattle.kex_rules.proofs.Marks.{same_or_not, less_or_not, one_number}
+use Rattle.kex_rules.specs.Tails.{AreSame, by_other, by_last, MarksParts, HasApart}
+use Rattle.kex_rules.proofs.Marks.{one_number}
 use Rattle.kex_rules.proofs.Naming.{least_more, least_same}
 use Rattle.kex_rules.proofs.Tails.{is_apart, is_not_tail, flagged, no_kind}
-
-flag_set : (xs : List Bool) (n m : ℕ) → n < length xs → n ≡ m → get_or (set xs n true) m false ≡ true
-flag_set xs n m lt e = ap (λ z. get_or (set xs n true) z false) (sym e) ∙ get_or-set_same xs n true false lt
-
--- a part is marked
-pub marks_part : (marks : List Mark) (n part : ℕ) (lasts others : List ℕ) (old : List Bool) → part < n → part < length old → AreSame marks n part → (IsAmong others part ⊎ ((get_or old n false ≡ true) × IsAmong lasts part)) → ((m : ℕ) → IsAmong lasts m → part ≡ m) → ((m : ℕ) → IsAmong others m → part ≡ m) → MarksParts marks n lasts others old (set old part true)
-marks_part marks n part lasts others old lt fits same why l o = record {
-  long = length-set old part true;
-  kept = λ m h. ⊎_elim (λ e. flag_set old part m fits e) (λ ne. get_or-set_other old part m true false ne ∙ h) (same_or_not part m);
-  above = λ m le. get_or-set_other old part m true false (omega arith);
-  only = λ m h. ⊎_elim (λ e. inr (⊎_elim (λ i. inl (subst (λ z. IsAmong others z) e i, subst (λ z. AreSame marks n z) e same)) (λ i. inr (i.0, subst (λ z. IsAmong lasts z) e i.1, subst (λ z. AreSame marks n z) e same)) why)) (λ ne. inl (sym (get_or-set_other old part m true false ne) ∙ h)) (same_or_not part m);
-  by_other = λ m i _. flag_set old part m fits (o m i);
-  by_last = λ m _ i _. flag_set old part m fits (l m i);
-}
-
--- nothing is to be marked
-pub marks_nothing : (marks : List Mark) (n : ℕ) (lasts others : List ℕ) (old : List Bool) → ((m : ℕ) → IsAmong others m → AreSame marks n m → ⊥) → ((m : ℕ) → get_or old n false ≡ true → IsAmong lasts m → AreSame marks n m → ⊥) → MarksParts marks n lasts others old old
-marks_nothing marks n lasts others old o l = record {
-  long = refl;
-  kept = λ m h. h;
-  above = λ m le. refl;
-  only = λ m h. inl h;
-  by_other = λ m i s. absurd (o m i s);
-  by_last = λ m h i s. absurd (l m h i s);
-}
-
--- one part, and then another
-pub marks_both : (marks : List Mark) (n : ℕ) (l l' o o' : List ℕ) (old mid new : List Bool) → MarksParts marks n l o old mid → MarksParts marks n l' o' mid new → (lasts others : List ℕ) → ((m : ℕ) → IsAmong lasts m → IsAmong l m ⊎ IsAmong l' m) → ((m : ℕ) → IsAmong l m ⊎ IsAmong l' m → IsAmong lasts m) → ((m : ℕ) → IsAmong others m → IsAmong o m ⊎ IsAmong o' m) → ((m : ℕ) → IsAmong o m ⊎ IsAmong o' m → IsAmong others m) → MarksParts marks n lasts others old new
-marks_both marks n l l' o o' old mid new a b lasts others ls sl os so = record {
-  long = b.long ∙ a.long;
-  kept = λ m h. b.kept m (a.kept m h);
-  above = λ m le. b.above m le ∙ a.above m le;
-  only = λ m h. ⊎_elim
-      (λ h'. ⊎_elim (λ k. inl k) (λ k. inr (⊎_elim (λ i. inl (so m (inl i.0), i.1)) (λ i. inr (i.0, sl m (inl i.1), i.2)) k)) (a.only m h'))
-      (λ k. inr (⊎_elim (λ i. inl (so m (inr i.0), i.1)) (λ i. inr (sym (a.above n (omega arith)) ∙ i.0, sl m (inr i.1), i.2)) k))
-      (b.only m h);
-  by_other = λ m i s. ⊎_elim (λ j. b.kept m (a.by_other m j s)) (λ j. b.by_other m j s) (os m i);
-  by_last = λ m h i s. ⊎_elim (λ j. b.kept m (a.by_last m h j s)) (λ j. b.by_last m (a.above n (omega arith) ∙ h) j s) (ls m i);
-}
 
 -- no node was looked at
 pub apart_none : (P : Grammar) (marks : List Mark) (apart : List Bool) (n : ℕ) → apart ≡ replicate n false → n ≡ length P.nodes → HasApart P marks n apart

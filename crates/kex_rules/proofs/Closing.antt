@@ -1,15 +1,15 @@
 -- The last component is closed, since nothing is ahead of it.
-use Rattle.std.proofs.Common.{◌≡◌, ◌≢◌, ℕ, zero, suc, ◌<◌, ◌≤◌, ◌+◌, List, [], ◌∷◌, ◌++◌, ◌⊎◌, inl, inr, ⊎_elim, Some, length, get_or, set, refl, sym, ap, subst, ◌∙◌, length-append, length-set, get_or-set_other, arith}
-use Rattle.std.specs.Prelude.{slice_get, Option, None, MatchOption}
+use Rattle.std.proofs.Common.{◌≡◌, ◌≢◌, ℕ, ◌<◌, ◌≤◌, ◌+◌, List, [], ◌∷◌, ◌++◌, ◌⊎◌, inl, inr, ⊎_elim, Some, length, get_or, set, refl, sym, ap, subst, ◌∙◌, length-append, length-set, get_or-set_other, arith}
+use Rattle.std.specs.Prelude.{Option, None, MatchOption}
 use Rattle.std.specs.Option.{option_to_list}
 use Rattle.std.proofs.lemmas.Option.{slice_get_within}
-use Rattle.kex_code.specs.Codes.{IsAmong, HasNumber}
+use Rattle.kex_code.specs.Codes.{HasNumber}
 use Rattle.kex_model.proofs.Tables.{get_more, get_last, get_pushed}
 use Rattle.kex_rules.specs.declared.components.Mark.{Mark}
 use Rattle.kex_rules.specs.declared.components.Mark.TheVariants.{Unseen, Open, Closed}
 use Rattle.kex_rules.specs.declared.components.Bound.{Bound}
 use Rattle.kex_rules.specs.Graphs.{Leads, IsParted}
-use Rattle.kex_rules.specs.Searches.{unseen, SameSide, Met, is_closed, is_open, is_ahead, in_hand, IsSearch, Closes}
+use Rattle.kex_rules.specs.Searches.{unseen, Met, is_closed, is_open, is_ahead, in_hand, IsSearch, Closes}
 use Rattle.kex_rules.proofs.Marks.{same_or_not, less_or_not, at_most_or_not, number_front, mark_set, one_number, unseen-closed}
 
 -- nothing is closed yet

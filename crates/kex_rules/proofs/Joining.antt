@@ -1,14 +1,12 @@
 -- All behind a vertex of the path becomes one component with it.
-use Rattle.std.proofs.Common.{◌≡◌, ℕ, zero, suc, ◌<◌, ◌≤◌, ◌+◌, List, [], ◌∷◌, ◌⊎◌, inl, inr, ⊎_elim, Some, length, get_or, refl, sym, ap, subst, ◌∙◌, arith}
-use Rattle.std.specs.Prelude.{slice_get}
+use Rattle.std.proofs.Common.{◌≡◌, ℕ, ◌<◌, List, [], ◌∷◌, inl, inr, ⊎_elim, length, get_or, refl, sym, ap, ◌∙◌, arith}
 use Rattle.std.proofs.lemmas.Option.{slice_get_within}
-use Rattle.kex_code.specs.Codes.{IsAmong, HasNumber}
+use Rattle.kex_code.specs.Codes.{HasNumber}
 use Rattle.kex_rules.specs.declared.components.Mark.{Mark}
-use Rattle.kex_rules.specs.declared.components.Mark.TheVariants.{Unseen, Open, Closed}
+use Rattle.kex_rules.specs.declared.components.Mark.TheVariants.{Unseen, Open}
 use Rattle.kex_rules.specs.declared.components.Bound.{Bound}
-use Rattle.kex_rules.specs.Graphs.{Leads}
-use Rattle.kex_rules.specs.Searches.{unseen, SameSide, Met, is_closed, is_open, is_ahead, in_hand, IsSearch, AllLead, Joins}
-use Rattle.kex_rules.proofs.Marks.{less_or_not, at_most_or_not}
+use Rattle.kex_rules.specs.Searches.{Met, is_closed, is_open, is_ahead, in_hand, IsSearch, AllLead, Joins}
+use Rattle.kex_rules.proofs.Marks.{at_most_or_not}
 use Rattle.kex_rules.proofs.Ways.{leads_on}
 
 module _ (f : ℕ → List ℕ) (count : ℕ) where

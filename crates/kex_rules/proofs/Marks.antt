@@ -1,9 +1,8 @@
 -- Marks and numbers in lists that grow.
-use Rattle.std.proofs.Common.{◌≡◌, ◌≢◌, ℕ, zero, suc, ◌<◌, ◌≤◌, ◌+◌, List, [], ◌∷◌, ◌++◌, ◌⊎◌, inl, inr, ⊎_elim, Some, None, length, get_or, set, replicate, refl, sym, ap, subst, ◌∙◌, length-append, get_or-set_same, get_or-set_other, arith}
-use Rattle.std.specs.Prelude.{slice_get}
-use Rattle.std.proofs.lemmas.Option.{slice_get_within, slice_get-get_or, slice_get_cases}
+use Rattle.std.proofs.Common.{◌≡◌, ◌≢◌, ℕ, zero, suc, ◌<◌, ◌≤◌, List, [], ◌∷◌, ◌++◌, ◌⊎◌, inl, inr, ⊎_elim, Some, length, get_or, set, replicate, refl, sym, ap, ◌∙◌, get_or-set_same, arith}
+use Rattle.std.proofs.lemmas.Option.{slice_get_within, slice_get-get_or}
 use Rattle.kex_code.specs.Codes.{IsAmong, HasNumber}
-use Rattle.kex_model.proofs.Tables.{some_same, get_more, get_last, get_pushed}
+use Rattle.kex_model.proofs.Tables.{some_same, get_more}
 use Rattle.kex_rules.specs.declared.components.Mark.{Mark}
 use Rattle.kex_rules.specs.declared.components.Mark.TheVariants.{Unseen, Open, Closed}
 use Rattle.kex_rules.specs.Searches.{unseen}

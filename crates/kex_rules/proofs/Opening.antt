@@ -1,6 +1,5 @@
 -- A vertex is taken from what is ahead, and opened.
-use Rattle.std.proofs.Common.{◌≡◌, ◌≢◌, ℕ, zero, suc, ◌<◌, ◌≤◌, ◌+◌, List, [], ◌∷◌, ◌++◌, ◌⊎◌, inl, inr, ⊎_elim, Some, length, get_or, set, replicate, refl, sym, ap, subst, ◌∙◌, length-append, length-set, get_or-set_other, arith}
-use Rattle.std.specs.Prelude.{slice_get}
+use Rattle.std.proofs.Common.{◌≡◌, ℕ, ◌<◌, ◌≤◌, ◌+◌, List, [], ◌∷◌, ◌++◌, ◌⊎◌, inl, inr, ⊎_elim, length, get_or, set, replicate, refl, sym, ap, subst, ◌∙◌, length-append, length-set, get_or-set_other, arith}
 use Rattle.std.proofs.lemmas.List.{length-replicate}
 use Rattle.std.proofs.lemmas.Option.{slice_get_within}
 use Rattle.kex_code.specs.Codes.{IsAmong, HasNumber}
@@ -8,9 +7,9 @@ use Rattle.kex_model.proofs.Tables.{get_more, get_last, get_pushed}
 use Rattle.kex_rules.specs.declared.components.Mark.{Mark}
 use Rattle.kex_rules.specs.declared.components.Mark.TheVariants.{Unseen, Open, Closed}
 use Rattle.kex_rules.specs.declared.components.Bound.{Bound}
-use Rattle.kex_rules.specs.Graphs.{Leads, stays, goes}
-use Rattle.kex_rules.specs.Searches.{unseen, SameSide, Met, is_closed, is_open, is_ahead, in_hand, IsSearch, AllLead}
-use Rattle.kex_rules.proofs.Marks.{same_or_not, less_or_not, one_number, number_front, number_cases, number_of, mark_set, mark_within, unseen-open, unseen-fresh, fresh_mark}
+use Rattle.kex_rules.specs.Graphs.{Leads, stays}
+use Rattle.kex_rules.specs.Searches.{SameSide, Met, is_closed, is_open, is_ahead, in_hand, IsSearch, AllLead}
+use Rattle.kex_rules.proofs.Marks.{same_or_not, number_front, number_cases, number_of, mark_set, unseen-open, unseen-fresh, fresh_mark}
 use Rattle.kex_rules.proofs.Ways.{leads_on, leads_one}
 
 module _ (f : ℕ → List ℕ) (count : ℕ) where
@@ -39,32 +38,6 @@ module _ (f : ℕ → List ℕ) (count : ℕ) where
 
       no_bound : (b : Bound) (k : ℕ) → HasNumber [] b k → ⊥
       no_bound b k h = let lt : k < 0 = slice_get_within [] k b h in omega arith
-
-  met_in : (marks : List Mark) (ahead : List ℕ) (bounds : List Bound) (hand : List ℕ) (i w : ℕ) → Met marks ahead bounds [] i w → Met marks ahead bounds hand i w
-  met_in marks ahead bounds hand i w (is_closed a e) = is_closed a e
-  met_in marks ahead bounds hand i w (is_open j e c) = is_open j e c
-  met_in marks ahead bounds hand i w (is_ahead q h c) = is_ahead q h c
-  met_in marks ahead bounds hand i w (in_hand h) = absurd h
-
-  -- more may be in hand
-  pub with_hand : (hand : List ℕ) (marks : List Mark) (path ahead : List ℕ) (bounds : List Bound) (closed : ℕ) → IsSearch f count [] marks path ahead bounds closed → IsSearch f count hand marks path ahead bounds closed
-  with_hand hand marks path ahead bounds closed s = record {
-    long = s.long;
-    opened = s.opened;
-    listed = s.listed;
-    onward = s.onward;
-    back = s.back;
-    rising = s.rising;
-    within = s.within;
-    first = s.first;
-    based = s.based;
-    sourced = s.sourced;
-    met = λ u i w h e. met_in marks ahead bounds hand i w (s.met u i w h e);
-    falls = s.falls;
-    same = s.same;
-    fresh = s.fresh;
-    few = s.few;
-  }
 
   -- the last of what is ahead is taken in hand
   pub taken : (marks : List Mark) (path ahead : List ℕ) (w : ℕ) (bounds : List Bound) (closed : ℕ) → IsSearch f count [] marks path (ahead ++ w ∷ []) bounds closed → ((k : ℕ) (b : Bound) → HasNumber bounds b k → b.ahead ≤ length ahead) → IsSearch f count (w ∷ []) marks path ahead bounds closed

@@ -1,9 +1,9 @@
 -- A call stands outside tail position in a definition that it comes back to exactly where it stands apart in its component.
-use Rattle.std.proofs.Common.{◌≡◌, ◌≢◌, ℕ, zero, suc, ◌<◌, ◌≤◌, ◌+◌, ◌-◌, Bool, true, false, List, [], ◌∷◌, ◌⊎◌, inl, inr, ⊎_elim, Option, Some, None, find, length, get_or, refl, sym, ap, subst, ◌∙◌, arith}
+use Rattle.std.proofs.Common.{◌≡◌, ℕ, zero, suc, ◌<◌, ◌≤◌, ◌+◌, ◌-◌, Bool, true, false, List, [], ◌∷◌, ◌⊎◌, inl, inr, Option, Some, None, find, length, get_or, refl, sym, ap, subst, ◌∙◌, arith}
 use Rattle.std.specs.Prelude.{slice_get, ◌==◌}
 use Rattle.std.specs.Option.{option_map}
 use Rattle.std.proofs.lemmas.Option.{slice_get_within, slice_get_past}
-use Rattle.kex_code.specs.Codes.{IsAmong, HasNumber}
+use Rattle.kex_code.specs.Codes.{IsAmong}
 use Rattle.kex_model.specs.declared.program.Kind.{Kind}
 use Rattle.kex_model.specs.declared.program.Kind.TheVariants.{One, Lit, Class, Call, Seq, Alt, Rep, Mute, At, Write, Set, Add}
 use Rattle.kex_model.specs.declared.program.Node.{Node}
@@ -12,7 +12,7 @@ use Rattle.kex_model.specs.Programs.{Grammar, IsGrammar, HasBelow}
 use Rattle.kex_model.specs.Trees.{kind_at, root_of}
 use Rattle.kex_rules.specs.declared.components.Mark.{Mark}
 use Rattle.kex_rules.specs.declared.components.Mark.TheVariants.{Unseen, Closed}
-use Rattle.kex_rules.specs.Rules.{IsDefined, IsCall, Position, in_tail, elsewhere, last_parts, other_parts, Stands, at_root, as_last, as_other, Calls, Reaches, itself, by_call, IsNotTail}
+use Rattle.kex_rules.specs.Rules.{IsDefined, IsCall, Position, in_tail, elsewhere, last_parts, other_parts, Stands, at_root, as_last, as_other, Reaches, itself, by_call, IsNotTail}
 use Rattle.kex_rules.specs.Tables.{first_root}
 use Rattle.kex_rules.specs.Graphs.{Leads, stays, goes, kind_ways, root_ways, vertex_ways, vertices, ways, IsParted}
 use Rattle.kex_rules.specs.Tails.{AreSame, IsApart, by_other, by_last, HasApart}

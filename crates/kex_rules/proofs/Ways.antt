@@ -1,5 +1,5 @@
 -- Ways one behind the other, and that they lead to vertices.
-use Rattle.std.proofs.Common.{◌≡◌, ◌<◌, ◌≤◌, ◌+◌, ◌-◌, ℕ, Bool, true, false, cond, List, [], ◌∷◌, Option, Some, None, inl, inr, find, refl, length, subst, arith}
+use Rattle.std.proofs.Common.{◌≡◌, ◌<◌, ◌≤◌, ◌+◌, ◌-◌, ℕ, Bool, true, false, cond, List, [], ◌∷◌, Option, Some, None, inl, inr, find, refl, length, arith}
 use Rattle.std.specs.Prelude.{slice_get, ◌==◌}
 use Rattle.std.specs.Option.{option_map}
 use Rattle.std.proofs.lemmas.Option.{slice_get_within}
@@ -13,7 +13,6 @@ use Rattle.kex_model.proofs.Counting.{among_get}
 use Rattle.kex_model.proofs.Tables.{some_same}
 use Rattle.kex_rules.specs.declared.graph.Ways.{Ways}
 use Rattle.kex_rules.specs.declared.graph.Ways.TheVariants.{NoWay as NoWays, One as OneWay, Two as TwoWays}
-use Rattle.kex_rules.specs.Tables.{first_root}
 use Rattle.kex_rules.specs.Graphs.{Leads, stays, goes, listed, kind_ways, root_ways, vertex_ways, vertices, ways}
 
 pub leads_on : {f : ℕ → List ℕ} {u v w : ℕ} → Leads f u v → Leads f v w → Leads f u w

@@ -1,5 +1,5 @@
 -- The search for strongly connected components along a path of components that are still open.
-use Rattle.std.specs.Prelude.{◌≡◌, ℕ, zero, suc, ◌<◌, ◌≤◌, ◌+◌, ◌*◌, List, [], ◌∷◌, length, get_or}
+use Rattle.std.specs.Prelude.{◌≡◌, ℕ, suc, ◌<◌, ◌≤◌, ◌+◌, ◌*◌, List, [], ◌∷◌, length, get_or}
 use Rattle.kex_code.specs.Codes.{IsAmong, HasNumber}
 use Rattle.kex_model.specs.Programs.{Grammar}
 use Rattle.kex_rules.specs.Graphs.{Leads, vertices, ways}

@@ -1,5 +1,5 @@
 -- The roots of names in a table, and the lowest of offsets.
-use Rattle.std.specs.Prelude.{◌≡◌, ℕ, ◌<◌, ◌==◌, if◌then◌else◌, List, Option, Some, None, find, get_or, length, nat_lt}
+use Rattle.std.specs.Prelude.{◌≡◌, ℕ, ◌==◌, if◌then◌else◌, List, Option, Some, None, find, get_or, length, nat_lt}
 use Rattle.std.specs.Option.{option_map}
 use Rattle.kex_model.specs.declared.program.Node.{Node}
 use Rattle.kex_model.specs.declared.program.Definition.{Definition}

@@ -69,12 +69,13 @@ fn unknown_call(program: &Program, roots: &[Option<u32>]) -> Option<u32>
     found
 }
 
-// The lowest offset of a call or a start whose name has no definition.
-pub(crate) fn lowest_unknown(program: &Program, roots: &[Option<u32>]) -> Option<u32>
-    requires { HasRoots program.now.definitions (length program.now.names) roots.now }
+// The lowest offset of a call or a start whose name has no definition, with what was found of the calls.
+fn unknown_start(program: &Program, roots: &[Option<u32>], calls: Option<u32>) -> Option<u32>
+    requires roots { HasRoots program.now.definitions (length program.now.names) roots.now }
+    requires calls { IsLeast (CallsUnknown program.now.definitions program.now.nodes) calls }
     ensures { IsLeast (IsUnknown program.now) result }
 {
-    let mut found = unknown_call(program, roots);
+    let mut found = calls;
     let stages = program.stages();
     for start in stages {
         if is_unknown(program, roots, start.name) {
@@ -82,4 +83,13 @@ pub(crate) fn lowest_unknown(program: &Program, roots: &[Option<u32>]) -> Option
         }
     }
     found
+}
+
+// The lowest offset of a call or a start whose name has no definition.
+pub(crate) fn lowest_unknown(program: &Program, roots: &[Option<u32>]) -> Option<u32>
+    requires { HasRoots program.now.definitions (length program.now.names) roots.now }
+    ensures { IsLeast (IsUnknown program.now) result }
+{
+    let calls = unknown_call(program, roots);
+    unknown_start(program, roots, calls)
 }

@@ -7,6 +7,7 @@ use Rattle.std.specs.Prelude.{◌⊎◌, Option, Some, None}
 use Rattle.kex_ports.specs.Shelf.{IsTold}
 use Rattle.kex_ports.specs.Bytes.{IsPrefix}
 use Rattle.kex_machine.specs.Nodes.{Graph}
+use Rattle.kex_code.specs.Codes.{IsAmong}
 use Rattle.kex_model.specs.Answers.{Pipeline}
 use Rattle.kex_model.specs.Answers as model
 use Rattle.kex_model.specs.Laws.{StageAnswers}
@@ -15,11 +16,12 @@ use Rattle.kex_stage.specs.Stages.{StagePlan, Gives}
 use Rattle.kex_compile.specs.Stages.{AreStages, Plans, roots_of}
 use Rattle.kex_compile.specs.Compiled.{IsCompiled, IsRefused}
 use Rattle.kex_compile.specs.declared.refusal.CompileRefusal.{CompileRefusal}
-use Rattle.kex_words.specs.Gains.{Change}
+use Rattle.kex_words.specs.Gains.{Change, GainsFront, GainsWhole}
+use Rattle.kex_words.specs.Lines.{counts_line}
 use Rattle.kex_top.specs.Answer.{Said}
 use Rattle.kex_top.specs.Pipelines.{NodesSay, Answered, first_limit, stage_plans}
 use Rattle.kex_top.specs.Run.{IsLeft, Left, Ran, EndsAs, WritesAll, WritesBegun, WritesEarlier}
-use Rattle.kex_top.specs.Kex.{Runs, Answers, IsStatusOf}
+use Rattle.kex_top.specs.Kex.{Runs, Answers, Checks, Counted, IsStatusOf, Told}
 use Rattle.kex_pipe.specs.declared.report.Rejected.{Rejected as Report}
 use Rattle.kex_top.specs.declared.status.Status.{Status}
 use Rattle.kex_top.specs.declared.status.Status.TheVariants.{Done, Rejected, Usage, Refused, ReadFault, WriteFault, ShelfFault, Memory, TooLong}
@@ -88,12 +90,16 @@ as-many P k (root ∷ rs) (m ∷ ms) h = ap (λ n. suc n) (as-many P (suc k) rs 
 as-many P k [] (m ∷ ms) h = absurd h
 as-many P k (root ∷ rs) [] h = absurd h
 
+not-empty : {A : Type 0} (xs : List A) (x : A) → IsAmong xs x → 0 < length xs
+not-empty [] x h = absurd h
+not-empty (y ∷ xs) x h = omega arith
+
 -- a program has a stage
 pub some-machine : (text : List ℕ) (plans : Plans) → IsCompiled text plans → 0 < length plans.stages
 some-machine text plans p =
     let n = as-many p.program 1 (roots_of p.program) plans.stages p.plans_of.stages in
     let m = length-map p.program.stages (λ s. root_of p.program s.name) in
-    let some = p.accepts.some_stage in
+    let some = not-empty p.program.stages p.accepts.ruled.begins.0 p.accepts.ruled.begins.1 in
     omega arith
 
 pub first-limit : (limit : ℕ) (ms : List Graph) → 0 < length ms → first_limit (λ p. p.limit) (stage_plans limit ms) ≡ limit
@@ -130,7 +136,7 @@ pub served : (limit block : ℕ) (told : Option (Option (List ℕ))) (text : Lis
 served limit block told text plans source sink s t p (inl x) = subst (λ z. Answers limit block told source sink z) (sym x.1) (inl x.0)
 served limit block told text plans source sink s t p (inr r) = answers_by limit block told source sink s (runs_by limit block told text plans source sink s t p r)
 
-pub refused_by : (limit block : ℕ) (told : Option (Option (List ℕ))) (text : List ℕ) (rule : CompileRefusal) (source sink : Change) (s : Status) → IsTold told text → IsRefused text rule → Left source sink → IsStatusOf rule s → Answers limit block told source sink s
+pub refused_by : (limit block : ℕ) (told : Option (Option (List ℕ))) (text : List ℕ) (rule : CompileRefusal) (source sink : Change) (s : Status) → IsTold told text → IsRefused text rule → Left source sink → IsStatusOf text rule s → Answers limit block told source sink s
 refused_by limit block told text rule source sink Memory t h l i = inl l
 refused_by limit block told text rule source sink (Refused r) t h l i = (l, inr (record { text = text; is_told = t; rule = rule; is_refused = h; is_shown = i }))
 refused_by limit block told text rule source sink Done t h l i = absurd i
@@ -140,3 +146,43 @@ refused_by limit block told text rule source sink ReadFault t h l i = absurd i
 refused_by limit block told text rule source sink WriteFault t h l i = absurd i
 refused_by limit block told text rule source sink Usage t h l i = absurd i
 refused_by limit block told text rule source sink ShelfFault t h l i = absurd i
+
+-- ---- a check
+
+pub check_refused : (told : Option (Option (List ℕ))) (text : List ℕ) (rule : CompileRefusal) (source sink : Change) (s : Status) → IsTold told text → IsRefused text rule → Left source sink → IsStatusOf text rule s → Checks told source sink s
+check_refused told text rule source sink Memory t h l i = l
+check_refused told text rule source sink (Refused r) t h l i = (l, inr (record { text = text; is_told = t; rule = rule; is_refused = h; is_shown = i }))
+check_refused told text rule source sink Done t h l i = absurd i
+check_refused told text rule source sink (Rejected x) t h l i = absurd i
+check_refused told text rule source sink (TooLong x) t h l i = absurd i
+check_refused told text rule source sink ReadFault t h l i = absurd i
+check_refused told text rule source sink WriteFault t h l i = absurd i
+check_refused told text rule source sink Usage t h l i = absurd i
+check_refused told text rule source sink ShelfFault t h l i = absurd i
+
+-- the counts of the plans are those of the program
+counted : (told : Option (Option (List ℕ))) (text : List ℕ) (plans : Plans) (Q : List ℕ → Type 0) → IsTold told text → IsCompiled text plans → Q (counts_line (record { stages = length plans.stages; places = plans.places })) → Counted told Q
+counted told text plans Q t p q =
+    let n = as-many p.program 1 (roots_of p.program) plans.stages p.plans_of.stages in
+    let m = length-map p.program.stages (λ s. root_of p.program s.name) in
+    let same : length plans.stages ≡ length p.program.stages = n ∙ m in
+    record {
+      text = text;
+      is_told = t;
+      program = p.program;
+      accepts = p.accepts;
+      places = plans.places;
+      in_all = p.plans_of.places;
+      written = subst (λ k. Q (counts_line (record { stages = k; places = plans.places }))) same q;
+    }
+
+pub checked : (told : Option (Option (List ℕ))) (text : List ℕ) (plans : Plans) (source sink : Change) (s : Status) → IsTold told text → IsCompiled text plans → IsLeft source → Told (counts_line (record { stages = length plans.stages; places = plans.places })) sink s → Checks told source sink s
+checked told text plans source sink Done t p l q = (l, counted told text plans (λ line. GainsWhole sink line) t p q)
+checked told text plans source sink WriteFault t p l q = (l, counted told text plans (λ line. GainsFront sink line) t p q)
+checked told text plans source sink (Rejected x) t p l q = absurd q
+checked told text plans source sink (TooLong x) t p l q = absurd q
+checked told text plans source sink ReadFault t p l q = absurd q
+checked told text plans source sink Usage t p l q = absurd q
+checked told text plans source sink (Refused r) t p l q = absurd q
+checked told text plans source sink ShelfFault t p l q = absurd q
+checked told text plans source sink Memory t p l q = absurd q

@@ -27,7 +27,7 @@ use Rattle.kex_words.specs.declared.refusals.Refusal.{Refusal}
 use Rattle.kex_top.specs.Answer.{Said}
 use Rattle.kex_top.specs.Pipelines.{Answered, MeansInTurn}
 use Rattle.kex_top.specs.Run.{Ran, WritesAll}
-use Rattle.kex_top.specs.Kex.{Answers, Breaks, Broke, Headline, IsGood, IsQuiet, IsRefusalOf, IsRefusedFor, Runs, ShelfAnswers, ShelfChange, most_text}
+use Rattle.kex_top.specs.Kex.{Answers, Breaks, Broke, Checks, Headline, IsGood, IsSound, IsQuiet, IsRefusalOf, IsRefusedFor, Runs, ShelfAnswers, ShelfChange, most_text}
 use Rattle.kex_pipe.specs.declared.report.Rejected.{Rejected as Report}
 use Rattle.kex_top.specs.declared.status.Status.{Status}
 use Rattle.kex_top.specs.declared.status.Status.TheVariants.{Done, Rejected, Usage, Refused, ReadFault, WriteFault, ShelfFault, Memory, TooLong}
@@ -120,8 +120,8 @@ unbroken told text s is quiet broke =
     let b = subst P is broke in
     let rose = b.1 in omega arith
 
-shown_memory : (r : Refusal) (rule : CompileRefusal) → rule ≡ compile.Memory → IsRefusalOf rule r → ⊥
-shown_memory r rule e i = subst (λ z. IsRefusalOf z r) e i
+shown_memory : (text : List ℕ) (r : Refusal) (rule : CompileRefusal) → rule ≡ compile.Memory → IsRefusalOf text rule r → ⊥
+shown_memory text r rule e i = subst (λ z. IsRefusalOf text z r) e i
 
 unrefused : (told : Option (Option (List ℕ))) (text : List ℕ) (r : Refusal) → told ≡ Some (Some text) → length text ≤ most_text → ((rule : CompileRefusal) → IsRefused text rule → rule ≡ compile.Memory) → IsRefusedFor told r → ⊥
 unrefused told text r is short good (inl past) =
@@ -129,7 +129,7 @@ unrefused told text r is short good (inl past) =
     let long : most_text < length text = subst P is past.0 in omega arith
 unrefused told text r is short good (inr b) =
     let same : b.text ≡ text = told-same told text b.text is b.is_told in
-    shown_memory r b.rule (good b.rule (subst (λ t. IsRefused t b.rule) same b.is_refused)) b.is_shown
+    shown_memory b.text r b.rule (good b.rule (subst (λ t. IsRefused t b.rule) same b.is_refused)) b.is_shown
 
 ran-good : (limit block : ℕ) (told : Option (Option (List ℕ))) (shelf : ShelfChange) (source sink : Change) (s : Status) (r : Report) → IsGood limit told shelf source sink → (p : Runs limit block told source sink s) → WritesAll (Answered p.program limit) p.ran.w p.ran.e (Some r) sink → ⊥
 ran-good limit block told shelf source sink s r g p all =
@@ -152,6 +152,18 @@ completes limit block told shelf source sink ReadFault g h a =
     let rose = a.ran.ends.2.1 in let quiet = g.readable in absurd (omega arith)
 completes limit block told shelf source sink WriteFault g h a =
     let rose = a.ran.ends.2.1 in let quiet = g.writable in absurd (omega arith)
+
+pub check_completes : (told : Option (Option (List ℕ))) (shelf : ShelfChange) (source sink : Change) (s : Status) → IsSound told shelf sink → ShelfAnswers told shelf s → Checks told source sink s → (s ≡ Done) ⊎ (s ≡ Memory)
+check_completes told shelf source sink Done g h a = inl refl
+check_completes told shelf source sink Memory g h a = inr refl
+check_completes told shelf source sink ShelfFault g h a = absurd (unbroken told g.text shelf g.is_told g.on_shelf h.1)
+check_completes told shelf source sink (Refused k) g h a = absurd (unrefused told g.text k g.is_told g.short g.unbroken a.1)
+check_completes told shelf source sink WriteFault g h a =
+    let rose = a.1.written.1.1 in let quiet = g.writable in absurd (omega arith)
+check_completes told shelf source sink Usage g h a = absurd a
+check_completes told shelf source sink (Rejected r) g h a = absurd a
+check_completes told shelf source sink (TooLong r) g h a = absurd a
+check_completes told shelf source sink ReadFault g h a = absurd a
 
 -- ---- Done, with all told
 

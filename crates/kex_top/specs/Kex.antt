@@ -4,16 +4,18 @@ use Rattle.kex_ports.specs.Shelf.{IsTold, IsPast}
 use Rattle.kex_ports.specs.Causes.{Rose}
 use Rattle.kex_model.specs.Programs.{Grammar}
 use Rattle.kex_reader.specs.Terms.{Spells}
+use Rattle.kex_reader.specs.Lines.{column_at, line_at}
 use Rattle.kex_compile.specs.Compiled.{Accepts, IsRefused}
 use Rattle.kex_compile.specs.declared.refusal.CompileRefusal.{CompileRefusal}
 use Rattle.kex_compile.specs.declared.refusal.CompileRefusal.TheVariants as compile
-use Rattle.kex_words.specs.Gains.{Change}
-use Rattle.kex_words.specs.declared.refusals.Place.TheVariants.{Nowhere, Stage}
+use Rattle.kex_words.specs.Gains.{Change, GainsFront, GainsWhole}
+use Rattle.kex_words.specs.Lines.{counts_line}
+use Rattle.kex_words.specs.declared.refusals.Place.TheVariants.{At, Nowhere, Stage}
 use Rattle.kex_words.specs.declared.refusals.Refusal.{Refusal}
 use Rattle.kex_words.specs.declared.refusals.Rule.{Rule}
-use Rattle.kex_words.specs.declared.refusals.Rule.TheVariants.{Later, TooManyPlaces, EmptyLoop, NoText}
+use Rattle.kex_words.specs.declared.refusals.Rule.TheVariants.{Later, TwiceDefined, Unknown, NoStart, NotTail, TooManyPlaces, EmptyLoop, NoText}
 use Rattle.kex_top.specs.Answer.{Said}
-use Rattle.kex_compile.specs.Stages.{roots_of}
+use Rattle.kex_compile.specs.Stages.{HaveInAll, roots_of}
 use Rattle.kex_top.specs.Pipelines.{Answered, MeansInTurn}
 use Rattle.kex_top.specs.Run.{IsLeft, Left, Ran}
 use Rattle.kex_top.specs.declared.status.Status.{Status}
@@ -47,18 +49,30 @@ abbrev pub ShelfAnswers : Option (Option (List ℕ)) → ShelfChange → Status 
 ShelfAnswers told s ShelfFault = ((s.faults_before ≤ s.faults_now) × Rose s.faults_before s.faults_now) × Broke told s
 ShelfAnswers told s _ = ShelfIsLeft s
 
--- The note's rule and place for a rule that a program breaks.
-abbrev pub IsRefusalOf : CompileRefusal → Refusal → Type 0
-IsRefusalOf compile.Later r = r ≡ record { rule = Later; place = Nowhere }
-IsRefusalOf (compile.TooManyPlaces n) r = r ≡ record { rule = TooManyPlaces; place = Stage n }
-IsRefusalOf (compile.EmptyLoop n) r = r ≡ record { rule = EmptyLoop; place = Stage n }
-IsRefusalOf (compile.NoText n) r = r ≡ record { rule = NoText; place = Stage n }
-IsRefusalOf compile.Memory r = ⊥
+-- A rule that is broken at an offset of the text.
+abbrev pub broken_at : Rule → List ℕ → ℕ → Refusal
+broken_at rule text at = record { rule = rule; place = At (line_at text at) (column_at text at) }
 
-abbrev pub IsStatusOf : CompileRefusal → Status → Type 0
-IsStatusOf rule Memory = rule ≡ compile.Memory
-IsStatusOf rule (Refused r) = IsRefusalOf rule r
-IsStatusOf rule _ = ⊥
+-- A rule that a stage breaks.
+abbrev pub broken_in : Rule → ℕ → Refusal
+broken_in rule stage = record { rule = rule; place = Stage stage }
+
+-- The note's rule and place for a rule that a text breaks.
+abbrev pub IsRefusalOf : List ℕ → CompileRefusal → Refusal → Type 0
+IsRefusalOf text compile.Later r = r ≡ record { rule = Later; place = Nowhere }
+IsRefusalOf text (compile.TwiceDefined at) r = r ≡ broken_at TwiceDefined text at
+IsRefusalOf text (compile.Unknown at) r = r ≡ broken_at Unknown text at
+IsRefusalOf text compile.NoStart r = r ≡ record { rule = NoStart; place = Nowhere }
+IsRefusalOf text (compile.NotTail at) r = r ≡ broken_at NotTail text at
+IsRefusalOf text (compile.TooManyPlaces n) r = r ≡ broken_in TooManyPlaces n
+IsRefusalOf text (compile.EmptyLoop n) r = r ≡ broken_in EmptyLoop n
+IsRefusalOf text (compile.NoText n) r = r ≡ broken_in NoText n
+IsRefusalOf text compile.Memory r = ⊥
+
+abbrev pub IsStatusOf : List ℕ → CompileRefusal → Status → Type 0
+IsStatusOf text rule Memory = rule ≡ compile.Memory
+IsStatusOf text rule (Refused r) = IsRefusalOf text rule r
+IsStatusOf text rule _ = ⊥
 
 -- A text that is told breaks this rule.
 pub record Breaks (told : Option (Option (List ℕ))) (r : Refusal) : Type 0 where
@@ -66,7 +80,7 @@ pub record Breaks (told : Option (Option (List ℕ))) (r : Refusal) : Type 0 whe
   pub is_told : IsTold told text
   pub rule : CompileRefusal
   pub is_refused : IsRefused text rule
-  pub is_shown : IsRefusalOf rule r
+  pub is_shown : IsRefusalOf text rule r
 
 -- What is told is past the limit, or breaks the rule.
 abbrev pub IsRefusedFor : Option (Option (List ℕ)) → Refusal → Type 0
@@ -92,7 +106,32 @@ Answers limit block told source sink (TooLong r) = Runs limit block told source 
 Answers limit block told source sink ReadFault = Runs limit block told source sink ReadFault
 Answers limit block told source sink WriteFault = Runs limit block told source sink WriteFault
 
--- Where they aren't, nothing is touched.
+-- The line was written, or a front of it.
+abbrev pub Told : List ℕ → Change → Status → Type 0
+Told line sink Done = GainsWhole sink line
+Told line sink WriteFault = GainsFront sink line
+Told line sink _ = ⊥
+
+-- A program that the told text spells was counted, and so was its line written.
+pub record Counted (told : Option (Option (List ℕ))) (Written : List ℕ → Type 0) : Type 0 where
+  pub text : List ℕ
+  pub is_told : IsTold told text
+  pub program : Grammar
+  pub accepts : Accepts text program
+  pub places : ℕ
+  pub in_all : HaveInAll program (roots_of program) places
+  pub written : Written (counts_line (record { stages = length program.stages; places = places }))
+
+-- What each answer to a check says. Nothing is read.
+abbrev pub Checks : Option (Option (List ℕ)) → Change → Change → Status → Type 0
+Checks told source sink ShelfFault = Left source sink
+Checks told source sink (Refused r) = Left source sink × IsRefusedFor told r
+Checks told source sink Memory = Left source sink
+Checks told source sink Done = IsLeft source × Counted told (GainsWhole sink)
+Checks told source sink WriteFault = IsLeft source × Counted told (GainsFront sink)
+Checks told source sink _ = ⊥
+
+-- Where the words aren't in form, nothing is touched.
 abbrev pub AnswersNothing : ShelfChange → Change → Change → Status → Type 0
 AnswersNothing shelf source sink Usage = ShelfIsLeft shelf × Left source sink
 AnswersNothing shelf source sink Memory = ShelfIsLeft shelf × Left source sink
@@ -113,6 +152,15 @@ pub record IsGood (limit : ℕ) (told : Option (Option (List ℕ))) (shelf : She
   pub parses : (P : Grammar) → Spells text P → (said : Said) × Answered P limit input true said × (said.report ≡ None)
   pub on_shelf : IsQuiet shelf.breaks_before shelf.breaks_now
   pub readable : IsQuiet source.before source.now
+  pub writable : IsQuiet sink.before sink.now
+
+-- The program breaks no rule, and no count rose that a check raises.
+pub record IsSound (told : Option (Option (List ℕ))) (shelf : ShelfChange) (sink : Change) : Type 0 where
+  pub text : List ℕ
+  pub is_told : told ≡ Some (Some text)
+  pub short : length text ≤ most_text
+  pub unbroken : (rule : CompileRefusal) → IsRefused text rule → rule ≡ compile.Memory
+  pub on_shelf : IsQuiet shelf.breaks_before shelf.breaks_now
   pub writable : IsQuiet sink.before sink.now
 
 -- With all told: the source was read to its end, and the sink holds what it held and then exactly what a program that the text

@@ -4,8 +4,10 @@
 #![tactic(auto)]
 
 mod call;
+mod check;
 mod pass;
 mod pipeline;
+mod refused;
 mod serve;
 mod status;
 mod stream;

@@ -237,6 +237,21 @@ fn faults_are_told_by_their_causes(rt: HostRuntime) -> Result<(), Fail> {
             ..BREAKS
         },
         Case {
+            words: &["kex", "check", "p"],
+            failing_reads: &[1],
+            held: b"stages 1 places 3\n",
+            ..PLAIN
+        },
+        Case {
+            words: &["kex", "check", "p"],
+            most_written: 4,
+            failing_writes: &[2],
+            held: b"stag",
+            status: Status::WriteFault,
+            notes: b"write fault\n",
+            ..PLAIN
+        },
+        Case {
             words: &["kex", "run", "q"],
             status: Status::ShelfFault,
             notes: b"shelf fault\n",

@@ -1,4 +1,4 @@
-use Rattle.std.proofs.Common.{rules, arith, ◌≡◌, ◌<◌, ◌≤◌, ◌+◌, ℕ, List, length, take, get_or, refl, sym, ap, subst, ◌∙◌}
+use Rattle.std.proofs.Common.{rules, arith, ◌≡◌, ◌<◌, ◌≤◌, ◌+◌, ℕ, List, length, take, get_or, refl, sym, ap, subst, ◌∙◌, ◌∷◌, [], length-append}
 use Rattle.kex_model.specs.Trees.{root_of}
 use Rattle.kex_model.specs.declared.program.Start.{Start}
 use Rattle.kex_stages.specs.Stages.{Carries, HasPlaces, IsWhy}
@@ -32,6 +32,7 @@ stages-preserved c =
           record {
             gathered = subst (λ (z : Firsts). Gathered P (take (i + 1) P.stages) z c.match-stage_machine.compiled) (sym w.firsts-is) (subst (λ (z : Plans). Gathered P (take (i + 1) P.stages) c.stages.firsts z) (sym compiled) g);
             few = omega (arith, ap (λ (z : Plans). z.places) w.compiled-is, w.in_ok-push-in-Ok.ensures.few, c.stages.invariant.few);
+            short = omega (arith, ap (λ (z : Plans). length z.stages) compiled, length-append c.stages.compiled.stages (w.new.result ∷ []), c.stages.invariant.short);
           }
       | in-Err+in_ok-note-in-Err w ↦
           let g = one-refused P P.stages i d within c.stages.firsts c.stages.compiled (i + 1) w.in-Err.why refl w.in_ok-note-in-Err.ensures.rule (subst (λ r. IsWhy P r most_places w.in-Err.why) root w.in-Err.ensures.refused) c.stages.invariant.gathered in
@@ -39,6 +40,7 @@ stages-preserved c =
           record {
             gathered = subst (λ (z : Plans). Gathered P (take (i + 1) P.stages) c.match-stage_machine.firsts z) (sym w.compiled-is) (subst (λ (z : Firsts). Gathered P (take (i + 1) P.stages) z c.stages.compiled) (sym firsts) g);
             few = omega (arith, ap (λ (z : Plans). z.places) w.compiled-is, c.stages.invariant.few);
+            short = omega (arith, ap (λ (z : Plans). length z.stages) w.compiled-is, c.stages.invariant.short);
           }
     ]
 

@@ -1,9 +1,9 @@
-use Rattle.std.proofs.Common.{◌≡◌, ◌<◌, ◌+◌, ◌++◌, ◌∷◌, [], length, get_or, take, refl, sym, ap, subst, ◌∙◌, arith}
+use Rattle.std.proofs.Common.{◌≡◌, ◌+◌, ◌++◌, ◌∷◌, [], take, sym, ap, subst, ◌∙◌}
 use Rattle.std.proofs.lemmas.List.{take_more}
 use Rattle.kex_model.specs.declared.program.Kind.TheVariants.{Call}
 use Rattle.kex_rules.specs.Rules.{IsDefined}
 use Rattle.kex_rules.specs.Tables.{CallsUnknown, IsLeast}
-use Rattle.kex_rules.proofs.Naming.{first_none, is_known, calls_none, calls_more, calls_same, whole}
+use Rattle.kex_rules.proofs.Naming.{first_none, is_known, calls_more, calls_same, whole}
 use Rattle.kex_rules.proofs.names.unknown_call.Goals as goal
 use Rattle.kex_rules.proofs.names.unknown_call.Goals.{in-Call+then-is_unknown, in-Call+else-is_unknown, in_default}
 

@@ -1,8 +1,6 @@
-use Rattle.std.proofs.Common.{◌≡◌, ℕ, ◌<◌, ◌≤◌, ◌+◌, ◌-◌, Some, length, get_or, refl, sym, ap, subst, ◌∙◌, arith}
+use Rattle.std.proofs.Common.{◌≡◌, ◌<◌, ◌+◌, ◌-◌, length, get_or, sym, ap, subst, arith}
 use Rattle.std.proofs.lemmas.Option.{slice_get-get_or}
 use Rattle.kex_code.specs.Codes.{HasNumber}
-use Rattle.kex_model.specs.declared.program.Kind.{Kind}
-use Rattle.kex_model.specs.Programs.{HasBelow}
 use Rattle.kex_model.specs.Trees.{kind_at}
 use Rattle.kex_rules.specs.Rules.{last_parts, other_parts}
 use Rattle.kex_rules.specs.Tails.{HasApart, MarksParts}

@@ -1,9 +1,9 @@
-use Rattle.std.proofs.Common.{◌≡◌, ℕ, ◌<◌, ◌≤◌, ◌+◌, ◌-◌, Some, Bool, true, false, length, get_or, refl, sym, ap, subst, ◌∙◌, arith}
+use Rattle.std.proofs.Common.{◌≡◌, ◌<◌, ◌+◌, true, false, length, get_or, sym, ap, subst, ◌∙◌, arith}
 use Rattle.std.proofs.lemmas.Option.{slice_get-get_or, get_or_from_slice_get}
 use Rattle.kex_code.specs.Codes.{HasNumber}
 use Rattle.kex_rules.specs.Tables.{IsLeast}
 use Rattle.kex_rules.proofs.Marks.{read_any}
-use Rattle.kex_rules.proofs.Apart.{ApartBefore, before_none, before_more, before_same, before_all}
+use Rattle.kex_rules.proofs.Apart.{ApartBefore, before_more, before_same, before_all}
 use Rattle.kex_rules.proofs.tail.lowest_not_tail.Goals as goal
 use Rattle.kex_rules.proofs.tail.lowest_not_tail.Goals.{in-Call+then-index, in-Call+else-index, in_default}
 

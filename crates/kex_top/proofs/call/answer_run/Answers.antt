@@ -1,5 +1,6 @@
 use Rattle.std.proofs.Common.{◌≡◌, refl, sym, subst, ◌∙◌}
 use Rattle.kex_compile.specs.Compiled.{IsCompiled, IsRefused}
+use Rattle.kex_top.specs.Kex.{IsStatusOf}
 use Rattle.kex_top.proofs.Calling.{served, refused_by, some-machine}
 use Rattle.kex_top.proofs.call.answer_run.Goals as goal
 
@@ -9,7 +10,7 @@ returns-in-Ok-compile-clause-answers g c =
 
 pub returns-clause-answers : goal.returns-clause-answers
 returns-clause-answers g c =
-    refused_by _ _ _ c.in-Ok.text.items c.in-Err.refusal _ _ _ c.in-Ok.ensures.found (subst (λ t. IsRefused t c.in-Err.refusal) c.deref.ensures.value c.in-Err.ensures.refused) ((refl, refl), (refl, refl)) c.refused.ensures
+    refused_by _ _ _ c.in-Ok.text.items c.in-Err.refusal _ _ _ c.in-Ok.ensures.found (subst (λ t. IsRefused t c.in-Err.refusal) c.deref.ensures.value c.in-Err.ensures.refused) ((refl, refl), (refl, refl)) (subst (λ t. IsStatusOf t c.in-Err.refusal c.refused.result) c.deref-in-Err.ensures.value c.refused.ensures)
 
 pub serve-requires : goal.serve-requires
 serve-requires g c = some-machine c.deref.result.now c.in-Ok-compile.compiled c.in-Ok-compile.ensures.plans

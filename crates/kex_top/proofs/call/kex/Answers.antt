@@ -1,4 +1,4 @@
-use Rattle.kex_top.proofs.Completing.{completes, done-as-told}
+use Rattle.kex_top.proofs.Completing.{check_completes, completes, done-as-told}
 use Rattle.kex_top.proofs.call.kex.Goals as goal
 
 pub returns-clause-complete : goal.returns-clause-complete
@@ -8,3 +8,7 @@ returns-clause-complete g c = λ name reach asked good.
 pub returns-clause-headline : goal.returns-clause-headline
 returns-clause-headline g c = λ name reach text input before asked told rest held done.
     done-as-told _ _ _ _ _ _ text input before told rest held done (c.answer-status.ensures.answers name reach asked)
+
+pub returns-clause-check_complete : goal.returns-clause-check_complete
+returns-clause-check_complete g c = λ name asked good.
+    check_completes _ _ _ _ _ good (c.answer-status.ensures.check_shelf name asked) (c.answer-status.ensures.checks name asked)

@@ -10,7 +10,7 @@ use Rattle.kex_top.proofs.serve.serve.Goals as goal
 pub run-requires-clause-limit : goal.run-requires-clause-limit
 run-requires-clause-limit g c =
     let max = c.args.limits.max_input in
-    ap (λ (ps : List StagePlan). first_limit (λ p. p.limit) ps) (c.in-Ok.ensures.plans ∙ ap (λ z. stage_plans max z) c.stages.ensures) ∙ first-limit max c.args.compiled.now.stages c.requires
+    ap (λ (ps : List StagePlan). first_limit (λ p. p.limit) ps) (c.in-Ok.ensures.plans ∙ ap (λ z. stage_plans max z) c.stages.ensures.same) ∙ first-limit max c.args.compiled.now.stages c.requires
 
 pub returns : goal.returns
 returns g c =
@@ -18,4 +18,4 @@ returns g c =
     (change (g.S.Source.rest c.args.input.now) (g.S.Source.rest c.run.new.input) (g.S.Source.faults c.args.input.now) (g.S.Source.faults c.run.new.input))
     (change (g.K.Sink.held c.args.output.now) (g.K.Sink.held c.run.new.output) (g.K.Sink.faults c.args.output.now) (g.K.Sink.faults c.run.new.output))
     c.run.result in
-    inr (subst P (c.in-Ok.ensures.plans ∙ ap (λ z. stage_plans c.args.limits.max_input z) c.stages.ensures) c.run.ensures)
+    inr (subst P (c.in-Ok.ensures.plans ∙ ap (λ z. stage_plans c.args.limits.max_input z) c.stages.ensures.same) c.run.ensures)

@@ -1,4 +1,4 @@
-use Rattle.std.proofs.Common.{◌≡◌, ◌≤◌, ◌++◌, [], length, take, drop, sym, ap, subst, ◌∙◌, length-take, arith}
+use Rattle.std.proofs.Common.{◌≤◌, ◌++◌, [], length, drop, sym, ap, subst, ◌∙◌, length-take, arith}
 use Rattle.std.proofs.lemmas.List.{take-append-drop}
 use Rattle.kex_code.specs.Codes.{HasNumber}
 use Rattle.kex_rules.specs.Graphs.{vertices, ways}

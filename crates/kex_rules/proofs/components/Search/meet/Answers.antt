@@ -1,4 +1,4 @@
-use Rattle.std.proofs.Common.{◌≡◌, ◌<◌, length, get_or, sym, ◌∙◌, arith}
+use Rattle.std.proofs.Common.{◌<◌, length, sym, ◌∙◌, arith}
 use Rattle.kex_rules.specs.Graphs.{vertices, ways}
 use Rattle.kex_rules.specs.declared.components.Mark.TheVariants.{Unseen}
 use Rattle.kex_rules.proofs.Marks.{read_any}

@@ -1,6 +1,5 @@
-use Rattle.std.proofs.Common.{◌≡◌, ◌<◌, ◌++◌, ◌∷◌, [], length, set, sym, ap, subst, ◌∙◌, length-append, arith}
+use Rattle.std.proofs.Common.{◌≡◌, ◌<◌, ◌++◌, ◌∷◌, [], length, set, ap, ◌∙◌, length-append, arith}
 use Rattle.kex_rules.specs.Graphs.{vertices, ways, listed}
-use Rattle.kex_rules.specs.Searches.{unseen}
 use Rattle.kex_rules.specs.declared.components.Mark.TheVariants.{Open}
 use Rattle.kex_rules.proofs.Marks.{unseen-open}
 use Rattle.kex_rules.proofs.Ways.{two_ways}

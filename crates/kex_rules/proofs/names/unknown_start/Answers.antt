@@ -1,13 +1,13 @@
-use Rattle.std.proofs.Common.{◌≡◌, ◌<◌, ◌+◌, ◌++◌, ◌∷◌, [], length, get_or, take, refl, sym, ap, subst, ◌∙◌, arith}
+use Rattle.std.proofs.Common.{◌≡◌, ◌+◌, ◌++◌, ◌∷◌, [], get_or, take, sym, subst, ◌∙◌}
 use Rattle.std.proofs.lemmas.List.{take_more}
 use Rattle.kex_model.specs.declared.program.Start.{Start}
 use Rattle.kex_rules.specs.Tables.{IsLeast}
 use Rattle.kex_rules.proofs.Naming.{UsesUnknown, first_none, is_known, uses_start, uses_more, uses_same, uses_all, whole}
-use Rattle.kex_rules.proofs.names.lowest_unknown.Goals as goal
-use Rattle.kex_rules.proofs.names.lowest_unknown.Goals.{then-is_unknown, else-is_unknown}
+use Rattle.kex_rules.proofs.names.unknown_start.Goals as goal
+use Rattle.kex_rules.proofs.names.unknown_start.Goals.{then-is_unknown, else-is_unknown}
 
 pub loop-start-init : goal.loop-start-init
-loop-start-init c = uses_start c.args.program.now.definitions c.args.program.now.nodes c.unknown_call-found.result c.unknown_call-found.ensures
+loop-start-init c = uses_start c.args.program.now.definitions c.args.program.now.nodes c.args.calls c.requires.calls
 
 pub loop-start-preserved : goal.loop-start-preserved
 loop-start-preserved c =

@@ -1,7 +1,7 @@
 use Rattle.std.proofs.Common.{take}
 use Rattle.kex_rules.specs.Tables.{IsLeast}
 use Rattle.kex_rules.proofs.Naming.{UsesUnknown}
-use Rattle.kex_rules.proofs.names.lowest_unknown.Given as goal
+use Rattle.kex_rules.proofs.names.unknown_start.Given as goal
 
 abbrev pub invariant-loop-start : goal.invariant-loop-start
 invariant-loop-start l = IsLeast (UsesUnknown l.program.definitions l.program.nodes (take l.start-index l.stages)) l.found

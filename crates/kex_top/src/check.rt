@@ -1,0 +1,59 @@
+// The command that checks a program.
+ghost use Rattle.std.specs.Prelude.{◌≡◌, length};
+ghost use Rattle.kex_ports.specs.Shelf.{told_of};
+ghost use Rattle.kex_words.specs.Gains.{Change, change};
+ghost use Rattle.kex_words.specs.Lines.{counts_line};
+ghost use Rattle.kex_top.specs.Kex.{Checks, ShelfAnswers, Told, shelf_change};
+ghost use Rattle.kex_top.specs.Run.{IsLeft};
+
+use crate::call::MOST_TEXT;
+use crate::refused::{LATER, refused};
+use crate::status::Status;
+use kex_compile::compile;
+use kex_compile::compiled::Compiled;
+use kex_ports::{Failed, Shelf, ShelfAnswer, Sink};
+use kex_words::{Counts, write_counts};
+use std::alloc::Global;
+
+// Writes how many stages and places there are, and closes the output.
+fn tell_counts<K: Sink>(compiled: &Compiled, output: &mut K) -> Status
+    ensures { Told (counts_line (record { stages = length compiled.now.stages; places = compiled.now.places }))
+        (change (K.held output.old) (K.held output.new) (K.faults output.old) (K.faults output.new)) result }
+{
+    let counts = Counts {
+        stages: compiled.stages().len() as u32,
+        places: compiled.places(),
+    };
+    let Ok(()) = write_counts(output, counts) else {
+        return Status::WriteFault;
+    };
+    match output.finish() {
+        Ok(()) => Status::Done,
+        Err(Failed) => Status::WriteFault,
+    }
+}
+
+/// Answers a command to check the program of a name.
+pub(crate) fn answer_check<H: Shelf, K: Sink>(
+    alloc: Global,
+    program: &str,
+    shelf: &mut H,
+    output: &mut K,
+) -> Status
+    ensures texts { H.texts shelf.new ≡ H.texts shelf.old }
+    ensures shelf { ShelfAnswers (told_of (H.texts shelf.old) program.now)
+        (shelf_change (H.faults shelf.old) (H.faults shelf.new) (H.breaks shelf.old) (H.breaks shelf.new)) result }
+    ensures checks { (source : Change) → IsLeft source → Checks (told_of (H.texts shelf.old) program.now) source
+        (change (K.held output.old) (K.held output.new) (K.faults output.old) (K.faults output.new)) result }
+{
+    let text = match shelf.take(alloc, program, MOST_TEXT) {
+        Ok(text) => text,
+        Err(ShelfAnswer::Failed) => return Status::ShelfFault,
+        Err(ShelfAnswer::TooLong) => return Status::Refused(LATER),
+        Err(ShelfAnswer::Memory) => return Status::Memory,
+    };
+    match compile(alloc, &text) {
+        Ok(compiled) => tell_counts(&compiled, output),
+        Err(refusal) => refused(&text, refusal),
+    }
+}

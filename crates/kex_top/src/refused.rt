@@ -1,0 +1,59 @@
+// The refusal of a program, as it is told.
+ghost use Rattle.std.specs.Prelude.{◌≡◌, ◌≤◌, length};
+ghost use Rattle.kex_top.specs.Kex.{IsStatusOf, broken_at, broken_in};
+ghost use Rattle.kex_top.specs.declared.status.Status.TheVariants.{Refused};
+
+use crate::status::Status;
+use kex_compile::refusal::CompileRefusal;
+use kex_reader::place;
+use kex_words::{Place, Refusal, Rule};
+
+pub(crate) const LATER: Refusal = Refusal {
+    rule: Rule::Later,
+    place: Place::Nowhere,
+};
+
+const NO_START: Refusal = Refusal {
+    rule: Rule::NoStart,
+    place: Place::Nowhere,
+};
+
+// The rule is broken at an offset of the text.
+fn broken_at(rule: Rule, text: &[u8], at: u32) -> Status
+    requires { length text.now ≤ 1048576 }
+    ensures { result ≡ Refused (broken_at rule text.now at) }
+{
+    let (line, column) = place(text, at);
+    Status::Refused(Refusal {
+        rule,
+        place: Place::At { line, column },
+    })
+}
+
+// The rule is broken by a stage.
+fn broken_in(rule: Rule, stage: u32) -> Status
+    ensures { result ≡ Refused (broken_in rule stage) }
+{
+    Status::Refused(Refusal {
+        rule,
+        place: Place::Stage(stage),
+    })
+}
+
+/// The status of a text that has no plans.
+pub(crate) fn refused(text: &[u8], refusal: CompileRefusal) -> Status
+    requires { length text.now ≤ 1048576 }
+    ensures { IsStatusOf text.now refusal result }
+{
+    match refusal {
+        CompileRefusal::Later => Status::Refused(LATER),
+        CompileRefusal::TwiceDefined(at) => broken_at(Rule::TwiceDefined, text, at),
+        CompileRefusal::Unknown(at) => broken_at(Rule::Unknown, text, at),
+        CompileRefusal::NoStart => Status::Refused(NO_START),
+        CompileRefusal::NotTail(at) => broken_at(Rule::NotTail, text, at),
+        CompileRefusal::TooManyPlaces(stage) => broken_in(Rule::TooManyPlaces, stage),
+        CompileRefusal::EmptyLoop(stage) => broken_in(Rule::EmptyLoop, stage),
+        CompileRefusal::NoText(stage) => broken_in(Rule::NoText, stage),
+        CompileRefusal::Memory => Status::Memory,
+    }
+}
