@@ -1,13 +1,14 @@
-//! Program texts into programs. For now the first and smallest: `main` as a row of literals and of bodies of plain bytes,
-//! each with a star or without.
-//!
-//! Stands on the model. A text is read exactly where the grammar of `specs/` spells it, into the nodes that it says.
+//! Programs.
 #![tactic(auto)]
 
-mod build;
-mod gather;
-mod scan;
-mod text;
+ghost use Rattle.std.specs.Prelude.{◌≡◌, List, Some, None};
+ghost use Rattle.kex_reader.specs.Syntax.{Word, Program, program};
+ghost use Rattle.kex_reader.specs.Reading.{Begin, State, finish, reads};
+ghost use Rattle.kex_reader.specs.Programs.{BeginsProgram, IsProgram};
 
-pub use gather::ReadRefusal;
-pub use text::read;
+/// The machine reads exactly the programs, and what it has read begins one.
+pub fn laws()
+    ensures begins { (ws : List Word) (s : State) → reads (Some Begin) ws ≡ Some s → BeginsProgram ws }
+    ensures refused { (ws : List Word) → reads (Some Begin) ws ≡ None → BeginsProgram ws → ⊥ }
+    ensures one_tree { (p q : Program) → program p ≡ program q → p ≡ q }
+{}
