@@ -2,7 +2,7 @@
 use Rattle.std.proofs.Common.{◌≡◌, ℕ, Bool, true, false, List, [], ◌∷◌, ◌++◌, Option, Some, None, refl, sym, ap, ◌∙◌, subst, append_assoc}
 use Rattle.std.proofs.lemmas.List.{append-nil}
 use Rattle.kex_reader.specs.Syntax.{Word, Name, Number, Literal, Regex, Define, Bar, Tilde, At, Star, Plus, Question, OpenBrace, CloseBrace, Comma, Bang, OpenBracket, CloseBracket, OpenParen, CloseParen, Part, Text, Held, Postfix, ZeroOrMore, OneOrMore, Optional, Exactly, AtLeast, AtMost, Between, Term, Last, Or, Seq, Only, Then, Pre, Mute, Into, Once, Turns, Atom, One, Call, Lit, Match, Write, Assign, Group, Definition, Header, NoStart, Stages, Program, start, part, parts, sign, postfix, term, seq, pre, atom, definitions, stages, header, program}
-use Rattle.kex_reader.specs.Reading.{Entry, Mark, Ended, Done, Muted, Storing, Opened, Low, LowComma, LowHigh, OnlyComma, High, Mode, Need, Ready, After, Named, Writing, Bracket, BracketName, Assigning, Assigned, InCount, Inside, State, Begin, StageRead, Within, put, take_more, take_seq, take_branches, term_of, take_term, goes, on_bar, closed, on_close, on_number, begin_pre, after_atom, next_head, on_head, named, on_name, on_sign, first_part, next_part, counted, step_in, lift, on_define, step_within, first_name, head_read, stage_read, name_then, step, next, reads, whole, ended, finish_within, finish}
+use Rattle.kex_reader.specs.Reading.{Entry, Mark, Ended, Done, Muted, Storing, Opened, Low, LowComma, LowHigh, OnlyComma, High, Mode, Need, Ready, After, Named, Writing, Bracket, BracketName, Assigning, Assigned, InCount, Inside, State, Begin, StageRead, Within, put, take_more, take_seq, take_branches, term_of, take_term, goes, on_bar, closed, on_close, on_number, begin_pre, after_atom, next_head, on_head, named, on_name, on_sign, first_part, next_part, count_step, on_count, counted, step_in, lift, on_define, step_within, first_name, head_read, stage_read, name_then, step, next, reads, whole, ended, finish_within, finish}
 
 -- ---- runs
 
@@ -237,7 +237,7 @@ module _ (h : Header) (ds : List Definition) (name : List ℕ) where
       (one_word _ _ CloseBracket refl))))
 
   pub postfix_reads : (a : Atom) (p : Postfix) (m : Mode) (es : List Entry) → Holds a m → reads (at m es) (postfix p) ≡ at Ready (put (Turns a p) es)
-  unfolding postfix IsPostfixSign after_atom next step step_within step_in lift counted
+  unfolding postfix IsPostfixSign after_atom next step step_within step_in lift count_step on_count
   postfix_reads a ZeroOrMore m es k = one_word _ _ Star (signed a m es Star k tt)
   postfix_reads a OneOrMore m es k = one_word _ _ Plus (signed a m es Plus k tt)
   postfix_reads a Optional m es k = one_word _ _ Question (signed a m es Question k tt)

@@ -4,7 +4,7 @@ use Rattle.std.specs.Prelude.{bytes_eq, codes}
 use Rattle.std.proofs.lemmas.List.{append-nil}
 use Rattle.std.proofs.lemmas.Slice.Eq.{bytes_eq-Decides}
 use Rattle.kex_reader.specs.Syntax.{Word, Name, Number, Literal, Regex, Define, Colon, Pipe, Bar, Tilde, At, Star, Plus, PlusEquals, Question, OpenBrace, CloseBrace, Comma, Bang, OpenBracket, CloseBracket, Arrow, OpenParen, CloseParen, Part, Text, Held, Postfix, ZeroOrMore, OneOrMore, Optional, Exactly, AtLeast, AtMost, Between, Term, Last, Or, Seq, Only, Then, Pre, Mute, Into, Once, Turns, Atom, One, Call, Lit, Match, Write, Assign, Group, Definition, Header, Program, start, part, parts, sign, postfix, term, seq, pre, atom, definitions, stages, header, program}
-use Rattle.kex_reader.specs.Reading.{Entry, Mark, Ended, Done, Muted, Storing, Counting, Opened, Low, LowComma, LowHigh, OnlyComma, High, Mode, Need, Ready, After, Named, Writing, Bracket, BracketName, Assigning, Assigned, InCount, Inside, State, Begin, FirstName, StartLine, StageRead, StageNext, HeadRead, Within, put, take_more, take_seq, take_branches, term_of, take_term, goes, on_bar, closed, on_close, on_number, begin_pre, after_atom, next_head, on_head, named, on_name, on_sign, first_part, next_part, counted, step_in, lift, on_define, step_within, first_name, head_read, stage_read, name_then, step, next, reads, whole, ended, finish_within, finish, entry, entries, counting, mode, inside, before, spelled}
+use Rattle.kex_reader.specs.Reading.{Entry, Mark, Ended, Done, Muted, Storing, Counting, Opened, Low, LowComma, LowHigh, OnlyComma, High, Mode, Need, Ready, After, Named, Writing, Bracket, BracketName, Assigning, Assigned, InCount, Inside, State, Begin, FirstName, StartLine, StageRead, StageNext, HeadRead, Within, put, take_more, take_seq, take_branches, term_of, take_term, goes, on_bar, closed, on_close, on_number, begin_pre, after_atom, next_head, on_head, named, on_name, on_sign, first_part, next_part, count_step, on_count, counted, step_in, lift, on_define, step_within, first_name, head_read, stage_read, name_then, step, next, reads, whole, ended, finish_within, finish, entry, entries, counting, mode, inside, before, spelled}
 
 pub same_bytes : (a b : List ℕ) → bytes_eq a b ≡ true → a ≡ b
 same_bytes a b e = (bytes_eq-Decides a b).0 e
@@ -183,7 +183,7 @@ next_part_goes append r p ps es CloseBracket = went (After (Assign append r p ps
 next_part_goes append r p ps es _ = tt
 
 pub counted_goes : (a : Atom) (c : Counting) (es : List Entry) (t : Word) → GoesIn (entries es ++ (atom a ++ OpenBrace ∷ (counting c ++ t ∷ []))) (counted a c es t)
-unfolding counted mode counting postfix GoesIn
+unfolding count_step on_count mode counting postfix GoesIn
 counted_goes a Opened es (Number n) = went (InCount a (Low n)) es _ refl
 counted_goes a Opened es Comma = went (InCount a OnlyComma) es _ refl
 counted_goes a (Low n) es Comma = went (InCount a (LowComma n)) es _ refl
@@ -224,9 +224,9 @@ in_goes (InCount a c) es t = subst (λ (w : List Word). GoesIn (entries es ++ w)
 pub next_before : (h : Header) (ds : List Definition) (name n : List ℕ) (t : Term) (w : List Word) → term t ≡ w → (header h ++ (definitions (ds ++ record { name = name; term = t } ∷ []) ++ Name n ∷ Define ∷ [])) ++ [] ≡ (header h ++ (definitions ds ++ Name name ∷ Define ∷ [])) ++ (w ++ Name n ∷ Define ∷ [])
 unfolding definitions
 next_before h ds name n t w k =
-  append-nil _ ∙ ap (λ (v : List Word). header h ++ (v ++ Name n ∷ Define ∷ [])) (definitions-append ds (record { name = name; term = t } ∷ []) ∙ ap (λ (v : List Word). definitions ds ++ Name name ∷ Define ∷ v) (append-nil (term t) ∙ k))
-  ∙ ap (λ (v : List Word). header h ++ v) (append_assoc (definitions ds) (Name name ∷ Define ∷ w) (Name n ∷ Define ∷ []) ∙ sym (append_assoc (definitions ds) (Name name ∷ Define ∷ []) (w ++ Name n ∷ Define ∷ [])))
-  ∙ sym (append_assoc (header h) (definitions ds ++ Name name ∷ Define ∷ []) (w ++ Name n ∷ Define ∷ []))
+    append-nil _ ∙ ap (λ (v : List Word). header h ++ (v ++ Name n ∷ Define ∷ [])) (definitions-append ds (record { name = name; term = t } ∷ []) ∙ ap (λ (v : List Word). definitions ds ++ Name name ∷ Define ∷ v) (append-nil (term t) ∙ k))
+    ∙ ap (λ (v : List Word). header h ++ v) (append_assoc (definitions ds) (Name name ∷ Define ∷ w) (Name n ∷ Define ∷ []) ∙ sym (append_assoc (definitions ds) (Name name ∷ Define ∷ []) (w ++ Name n ∷ Define ∷ [])))
+    ∙ sym (append_assoc (header h) (definitions ds ++ Name name ∷ Define ∷ []) (w ++ Name n ∷ Define ∷ []))
 
 pub head_goes : (h : Header) (ds : List Definition) (name n : List ℕ) (t : Term) (fs : List Entry) (w : List Word) → entries fs ++ term t ≡ w → Goes (before h ds name ++ (w ++ Name n ∷ Define ∷ [])) (next_head h ds name n t fs)
 unfolding next_head Goes spelled inside entries mode before

@@ -1,6 +1,6 @@
 -- The reader of programs as a machine over words: what has been read so far, and what one word more makes of it.
 use Rattle.std.specs.Prelude.{ℕ, Bool, true, false, ◌&&◌, List, [], ◌∷◌, ◌++◌, Option, Some, None, bytes_eq, codes, if◌then◌else◌}
-use Rattle.kex_reader.specs.Syntax.{Word, Name, Number, Literal, Regex, Define, Colon, Pipe, Bar, Tilde, At, Star, Plus, PlusEquals, Question, OpenBrace, CloseBrace, Comma, Bang, OpenBracket, CloseBracket, Arrow, OpenParen, CloseParen, Part, Text, Held, ZeroOrMore, OneOrMore, Optional, Exactly, AtLeast, AtMost, Between, Term, Last, Or, Seq, Only, Then, Pre, Mute, Into, Once, Turns, Atom, One, Call, Lit, Match, Write, Assign, Group, Definition, Header, NoStart, Stages, Program, start, part, parts, sign, seq, pre, atom, definitions, stages, header}
+use Rattle.kex_reader.specs.Syntax.{Word, Name, Number, Literal, Regex, Define, Colon, Pipe, Bar, Tilde, At, Star, Plus, PlusEquals, Question, OpenBrace, CloseBrace, Comma, Bang, OpenBracket, CloseBracket, Arrow, OpenParen, CloseParen, Part, Text, Held, Postfix, ZeroOrMore, OneOrMore, Optional, Exactly, AtLeast, AtMost, Between, Term, Last, Or, Seq, Only, Then, Pre, Mute, Into, Once, Turns, Atom, One, Call, Lit, Match, Write, Assign, Group, Definition, Header, NoStart, Stages, Program, start, part, parts, sign, seq, pre, atom, definitions, stages, header}
 
 -- what stands open in a definition, the newest first: parentheses, what a bar has ended, what has ended behind it, prefixes
 pub data Entry : Type 0 where
@@ -17,6 +17,11 @@ pub data Counting : Type 0 where
   LowHigh : (n m : List ℕ) → Counting
   OnlyComma : Counting
   High : (m : List ℕ) → Counting
+
+pub data CountStep : Type 0 where
+  CountOn : Counting → CountStep
+  CountRead : Postfix → CountStep
+  CountWrong : CountStep
 
 -- a pre has to come, or one has ended, an atom, a name that may be a call, a register or a head, or something is half read
 pub data Mode : Type 0 where
@@ -160,17 +165,25 @@ next_part append r p ps es (Name n) = goes (Assigned append r p (ps ++ Held n �
 next_part append r p ps es CloseBracket = goes (After (Assign append r p ps)) es
 next_part append r p ps es _ = None
 
-unfoldable pub counted : Atom → Counting → List Entry → Word → Option Inside
-counted a Opened es (Number n) = goes (InCount a (Low n)) es
-counted a Opened es Comma = goes (InCount a OnlyComma) es
-counted a (Low n) es Comma = goes (InCount a (LowComma n)) es
-counted a (Low n) es CloseBrace = goes Ready (put (Turns a (Exactly n)) es)
-counted a (LowComma n) es (Number m) = goes (InCount a (LowHigh n m)) es
-counted a (LowComma n) es CloseBrace = goes Ready (put (Turns a (AtLeast n)) es)
-counted a (LowHigh n m) es CloseBrace = goes Ready (put (Turns a (Between n m)) es)
-counted a OnlyComma es (Number m) = goes (InCount a (High m)) es
-counted a (High m) es CloseBrace = goes Ready (put (Turns a (AtMost m)) es)
-counted a _ es _ = None
+unfoldable pub count_step : Counting → Word → CountStep
+count_step Opened (Number n) = CountOn (Low n)
+count_step Opened Comma = CountOn OnlyComma
+count_step (Low n) Comma = CountOn (LowComma n)
+count_step (Low n) CloseBrace = CountRead (Exactly n)
+count_step (LowComma n) (Number m) = CountOn (LowHigh n m)
+count_step (LowComma n) CloseBrace = CountRead (AtLeast n)
+count_step (LowHigh n m) CloseBrace = CountRead (Between n m)
+count_step OnlyComma (Number m) = CountOn (High m)
+count_step (High m) CloseBrace = CountRead (AtMost m)
+count_step _ _ = CountWrong
+
+unfoldable pub on_count : Atom → List Entry → CountStep → Option Inside
+on_count a es (CountOn c) = goes (InCount a c) es
+on_count a es (CountRead p) = goes Ready (put (Turns a p) es)
+on_count a es CountWrong = None
+
+abbrev pub counted : Atom → Counting → List Entry → Word → Option Inside
+counted a c es w = on_count a es (count_step c w)
 
 unfoldable pub step_in : Mode → List Entry → Word → Option Inside
 step_in Need es w = begin_pre false es w

@@ -1,14 +1,24 @@
-//! Programs.
+//! Program texts into programs: definitions, terms, registers, bodies and the start line.
+//!
+//! Stands on tokens, bodies and the model. The promise is that of `read`: what a text spells is in `specs/Spelling`, over the
+//! trees of `specs/Syntax`, the nodes that show them (`Shown`) and the limits (`Checks`).
 #![tactic(auto)]
 
-ghost use Rattle.std.specs.Prelude.{◌≡◌, List, Some, None};
-ghost use Rattle.kex_reader.specs.Syntax.{Word, Program, program};
-ghost use Rattle.kex_reader.specs.Reading.{Begin, State, finish, reads};
-ghost use Rattle.kex_reader.specs.Programs.{BeginsProgram, IsProgram};
+mod counts;
+mod draft;
+mod inside;
+mod names;
+mod pieces;
+mod place;
+mod reader;
+mod refusal;
+mod stack;
+mod terms;
+#[cfg(test)]
+mod tests;
+mod text;
+mod word;
 
-/// The machine reads exactly the programs, and what it has read begins one.
-pub fn laws()
-    ensures begins { (ws : List Word) (s : State) → reads (Some Begin) ws ≡ Some s → BeginsProgram ws }
-    ensures refused { (ws : List Word) → reads (Some Begin) ws ≡ None → BeginsProgram ws → ⊥ }
-    ensures one_tree { (p q : Program) → program p ≡ program q → p ≡ q }
-{}
+pub use place::place;
+pub use refusal::ReadRefusal;
+pub use text::read;

@@ -1,0 +1,390 @@
+// One word more, inside a definition.
+
+use crate::counts::{Bounds, Count, CountStep, count_step};
+use crate::draft::Draft;
+use crate::pieces::{Assignment, piece};
+use crate::stack::{Frame, Part, Stack};
+use crate::terms::{close_seq, close_term, put};
+use crate::word::{Name, Word};
+use kex_code::memory::Memory;
+use kex_code::piece::Bytes;
+use kex_model::program::Kind as NodeKind;
+use kex_regexp::breaks::Break;
+use kex_tokens::literal_bytes;
+use kex_tokens::token::Kind;
+use std::alloc::Global;
+
+/// How deep parentheses and prefixes may nest.
+const DEEPEST: usize = 200;
+
+/// What the next word belongs to: a member has to come or may, an atom may have a postfix, a name may be a call, a register or
+/// a head, and the rest is half read.
+#[derive(Drop)]
+pub(crate) enum Wait<'t> {
+    Need,
+    Ready,
+    After(Part),
+    Named(bool, Name<'t>),
+    Writing(u32),
+    Bracket(u32),
+    BracketName(u32, u32),
+    Assigning(Assignment),
+    Assigned(Assignment),
+    InCount(Part, Count, u32),
+}
+
+/// Why there is no next step.
+#[derive(Clone, Copy, Drop)]
+pub(crate) enum StepFault {
+    Memory,
+    Wrong,
+}
+
+impl From<Memory> for StepFault {
+    fn from(_: Memory) -> StepFault {
+        StepFault::Memory
+    }
+}
+
+// An atom of one node.
+fn leaf<'t>(draft: &mut Draft<'t>, kind: NodeKind, at: u32) -> Result<Wait<'t>, StepFault> {
+    let Ok(node) = draft.add(kind, at) else {
+        return Err(StepFault::Memory);
+    };
+    Ok(Wait::After(Part { node, at }))
+}
+
+// A literal.
+fn literal<'t>(
+    alloc: Global,
+    draft: &mut Draft<'t>,
+    word: Word<'t>,
+) -> Result<Wait<'t>, StepFault> {
+    let Ok(bytes) = literal_bytes(alloc, word.spelling) else {
+        return Err(StepFault::Memory);
+    };
+    leaf(draft, NodeKind::Lit(Bytes::new(bytes)), word.at)
+}
+
+// A body.
+fn body<'t>(
+    alloc: Global,
+    depth: usize,
+    draft: &mut Draft<'t>,
+    word: Word<'t>,
+) -> Result<Wait<'t>, StepFault> {
+    let bytes = &word.spelling[1..word.spelling.len() - 1];
+    let Ok(node) = draft.body(alloc, bytes, word.at + 1, depth as u32) else {
+        return Err(StepFault::Memory);
+    };
+    Ok(Wait::After(Part { node, at: word.at }))
+}
+
+// What stands open from here on, where it nests.
+fn open<'t>(
+    stack: &mut Stack,
+    draft: &mut Draft<'t>,
+    frame: Frame,
+    at: u32,
+) -> Result<Wait<'t>, StepFault> {
+    if stack.depth() == DEEPEST {
+        draft.note(Break::OverLimit { at });
+    }
+    let Ok(()) = stack.push(frame) else {
+        return Err(StepFault::Memory);
+    };
+    Ok(Wait::Need)
+}
+
+// A bar ends a sequence.
+fn bar<'t>(stack: &mut Stack, draft: &mut Draft<'t>) -> Result<Wait<'t>, StepFault> {
+    let Ok(closed) = close_seq(stack, draft) else {
+        return Err(StepFault::Memory);
+    };
+    let Some(seq) = closed else {
+        return Err(StepFault::Wrong);
+    };
+    let Ok(()) = stack.push(Frame::Ended(seq)) else {
+        return Err(StepFault::Memory);
+    };
+    Ok(Wait::Need)
+}
+
+// A parenthesis ends a term.
+fn close<'t>(stack: &mut Stack, draft: &mut Draft<'t>) -> Result<Wait<'t>, StepFault> {
+    let Ok(closed) = close_term(stack, draft) else {
+        return Err(StepFault::Memory);
+    };
+    let Some(term) = closed else {
+        return Err(StepFault::Wrong);
+    };
+    let Some(at) = stack.take_mark() else {
+        return Err(StepFault::Wrong);
+    };
+    Ok(Wait::After(Part {
+        node: term.node,
+        at,
+    }))
+}
+
+// A word where a member has to begin.
+fn begin<'t>(
+    alloc: Global,
+    stack: &mut Stack,
+    draft: &mut Draft<'t>,
+    free: bool,
+    word: Word<'t>,
+) -> Result<Wait<'t>, StepFault> {
+    match word.kind {
+        Kind::Name => Ok(Wait::Named(
+            free,
+            Name {
+                bytes: word.spelling,
+                at: word.at,
+            },
+        )),
+        Kind::Number => {
+            if word.spelling == b"1".as_slice() {
+                leaf(draft, NodeKind::One, word.at)
+            } else {
+                Err(StepFault::Wrong)
+            }
+        }
+        Kind::Literal => literal(alloc, draft, word),
+        Kind::Regex => body(alloc, stack.depth(), draft, word),
+        Kind::Tilde => open(stack, draft, Frame::Muted(word.at), word.at),
+        Kind::Bang => Ok(Wait::Writing(word.at)),
+        Kind::OpenBracket => Ok(Wait::Bracket(word.at)),
+        Kind::OpenParen => open(stack, draft, Frame::Mark(word.at), word.at),
+        Kind::Bar => {
+            if free {
+                bar(stack, draft)
+            } else {
+                Err(StepFault::Wrong)
+            }
+        }
+        Kind::CloseParen => {
+            if free {
+                close(stack, draft)
+            } else {
+                Err(StepFault::Wrong)
+            }
+        }
+        _ => Err(StepFault::Wrong),
+    }
+}
+
+// A member with a postfix.
+fn turns<'t>(
+    stack: &mut Stack,
+    draft: &mut Draft<'t>,
+    item: Part,
+    bounds: Bounds,
+) -> Result<Wait<'t>, StepFault> {
+    let Ok(node) = draft.add(
+        NodeKind::Rep {
+            body: item.node,
+            min: bounds.low,
+            max: bounds.high,
+        },
+        item.at,
+    ) else {
+        return Err(StepFault::Memory);
+    };
+    let Ok(()) = put(stack, draft, Part { node, at: item.at }) else {
+        return Err(StepFault::Memory);
+    };
+    Ok(Wait::Ready)
+}
+
+// A word behind an atom.
+fn behind<'t>(
+    alloc: Global,
+    stack: &mut Stack,
+    draft: &mut Draft<'t>,
+    item: Part,
+    word: Word<'t>,
+) -> Result<Wait<'t>, StepFault> {
+    match word.kind {
+        Kind::Star => turns(stack, draft, item, Bounds { low: 0, high: None }),
+        Kind::Plus => turns(stack, draft, item, Bounds { low: 1, high: None }),
+        Kind::Question => turns(
+            stack,
+            draft,
+            item,
+            Bounds {
+                low: 0,
+                high: Some(1),
+            },
+        ),
+        Kind::OpenBrace => Ok(Wait::InCount(item, Count::Opened, word.at)),
+        _ => {
+            let Ok(()) = put(stack, draft, item) else {
+                return Err(StepFault::Memory);
+            };
+            begin(alloc, stack, draft, true, word)
+        }
+    }
+}
+
+// A word behind a name.
+fn named<'t>(
+    alloc: Global,
+    stack: &mut Stack,
+    draft: &mut Draft<'t>,
+    name: Name<'t>,
+    word: Word<'t>,
+) -> Result<Wait<'t>, StepFault> {
+    match word.kind {
+        Kind::At => {
+            let Ok(register) = draft.register(name.bytes) else {
+                return Err(StepFault::Memory);
+            };
+            open(stack, draft, Frame::Storing(register, name.at), name.at)
+        }
+        Kind::Define => Err(StepFault::Wrong),
+        _ => {
+            let Ok(item) = call(draft, name) else {
+                return Err(StepFault::Memory);
+            };
+            behind(alloc, stack, draft, item, word)
+        }
+    }
+}
+
+// A call of a name.
+pub(crate) fn call<'t>(draft: &mut Draft<'t>, name: Name<'t>) -> Result<Part, Memory> {
+    let Ok(number) = draft.name(name.bytes) else {
+        return Err(Memory);
+    };
+    let Ok(node) = draft.add(NodeKind::Call(number), name.at) else {
+        return Err(Memory);
+    };
+    Ok(Part { node, at: name.at })
+}
+
+// The register that is written.
+fn write<'t>(draft: &mut Draft<'t>, at: u32, word: Word<'t>) -> Result<Wait<'t>, StepFault> {
+    let Kind::Name = word.kind else {
+        return Err(StepFault::Wrong);
+    };
+    let Ok(register) = draft.register(word.spelling) else {
+        return Err(StepFault::Memory);
+    };
+    leaf(draft, NodeKind::Write(register), at)
+}
+
+// The register behind a bracket.
+fn bracket<'t>(draft: &mut Draft<'t>, at: u32, word: Word<'t>) -> Result<Wait<'t>, StepFault> {
+    let Kind::Name = word.kind else {
+        return Err(StepFault::Wrong);
+    };
+    let Ok(register) = draft.register(word.spelling) else {
+        return Err(StepFault::Memory);
+    };
+    Ok(Wait::BracketName(at, register))
+}
+
+// The sign behind a register.
+fn sign<'t>(alloc: Global, at: u32, register: u32, kind: Kind) -> Result<Wait<'t>, StepFault> {
+    match kind {
+        Kind::Arrow => Ok(Wait::Assigning(Assignment {
+            at,
+            append: false,
+            register,
+            pieces: Vec::new(alloc),
+        })),
+        Kind::PlusEquals => Ok(Wait::Assigning(Assignment {
+            at,
+            append: true,
+            register,
+            pieces: Vec::new(alloc),
+        })),
+        _ => Err(StepFault::Wrong),
+    }
+}
+
+// A part of an assignment.
+fn part<'t>(
+    alloc: Global,
+    draft: &mut Draft<'t>,
+    mut assignment: Assignment,
+    word: Word<'t>,
+) -> Result<Wait<'t>, StepFault> {
+    let Ok(read) = piece(alloc, draft, word) else {
+        return Err(StepFault::Memory);
+    };
+    let Some(piece) = read else {
+        return Err(StepFault::Wrong);
+    };
+    let Ok(()) = assignment.pieces.push(piece) else {
+        return Err(StepFault::Memory);
+    };
+    Ok(Wait::Assigned(assignment))
+}
+
+// A word behind a part.
+fn behind_part<'t>(
+    alloc: Global,
+    draft: &mut Draft<'t>,
+    assignment: Assignment,
+    word: Word<'t>,
+) -> Result<Wait<'t>, StepFault> {
+    match word.kind {
+        Kind::CloseBracket => {
+            let at = assignment.at;
+            leaf(draft, assignment.kind(), at)
+        }
+        _ => part(alloc, draft, assignment, word),
+    }
+}
+
+// A word behind what is read of a count.
+fn counted<'t>(
+    stack: &mut Stack,
+    draft: &mut Draft<'t>,
+    item: Part,
+    brace: u32,
+    step: CountStep,
+) -> Result<Wait<'t>, StepFault> {
+    match step {
+        CountStep::On(count) => Ok(Wait::InCount(item, count, brace)),
+        CountStep::Read(bounds) => turns(stack, draft, item, bounds),
+        CountStep::Bad => {
+            draft.note(Break::BadCount { at: brace });
+            let Ok(()) = put(stack, draft, item) else {
+                return Err(StepFault::Memory);
+            };
+            Ok(Wait::Ready)
+        }
+        CountStep::Wrong => Err(StepFault::Wrong),
+    }
+}
+
+// A word, in whatever it is waited for.
+pub(crate) fn step_in<'t>(
+    alloc: Global,
+    stack: &mut Stack,
+    draft: &mut Draft<'t>,
+    wait: Wait<'t>,
+    word: Word<'t>,
+) -> Result<Wait<'t>, StepFault> {
+    match wait {
+        Wait::Need => begin(alloc, stack, draft, false, word),
+        Wait::Ready => begin(alloc, stack, draft, true, word),
+        Wait::After(item) => behind(alloc, stack, draft, item, word),
+        Wait::Named(_, name) => named(alloc, stack, draft, name, word),
+        Wait::Writing(at) => write(draft, at, word),
+        Wait::Bracket(at) => bracket(draft, at, word),
+        Wait::BracketName(at, register) => sign(alloc, at, register, word.kind),
+        Wait::Assigning(assignment) => part(alloc, draft, assignment, word),
+        Wait::Assigned(assignment) => behind_part(alloc, draft, assignment, word),
+        Wait::InCount(item, count, brace) => counted(
+            stack,
+            draft,
+            item,
+            brace,
+            count_step(count, word.kind, word.spelling),
+        ),
+    }
+}

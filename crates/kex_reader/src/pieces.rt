@@ -1,0 +1,50 @@
+// Assignments of registers.
+
+use crate::draft::Draft;
+use crate::word::Word;
+use kex_code::memory::Memory;
+use kex_code::piece::{Bytes, Piece, Pieces};
+use kex_model::program::Kind as NodeKind;
+use kex_tokens::literal_bytes;
+use kex_tokens::token::Kind;
+use std::alloc::Global;
+
+/// An assignment that is half read: its bracket, its register, whether it appends, and its parts.
+#[derive(Drop)]
+pub(crate) struct Assignment {
+    pub(crate) at: u32,
+    pub(crate) append: bool,
+    pub(crate) register: u32,
+    pub(crate) pieces: Vec<Piece>,
+}
+
+// The piece that a word is, if it is one.
+pub(crate) fn piece<'t>(
+    alloc: Global,
+    draft: &mut Draft<'t>,
+    word: Word<'t>,
+) -> Result<Option<Piece>, Memory> {
+    match word.kind {
+        Kind::Literal => {
+            let bytes = literal_bytes(alloc, word.spelling)?;
+            Ok(Some(Piece::Lit(Bytes::new(bytes))))
+        }
+        Kind::Name => {
+            let register = draft.register(word.spelling)?;
+            Ok(Some(Piece::Register(register)))
+        }
+        _ => Ok(None),
+    }
+}
+
+impl Assignment {
+    // What the node of the whole is.
+    pub(crate) fn kind(self) -> NodeKind {
+        let pieces = Pieces::new(self.pieces);
+        if self.append {
+            NodeKind::Add(self.register, pieces)
+        } else {
+            NodeKind::Set(self.register, pieces)
+        }
+    }
+}

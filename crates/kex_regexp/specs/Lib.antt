@@ -1,0 +1,6 @@
+pub mod Grammar
+pub mod Values
+pub mod Breaks
+pub mod Bodies
+pub mod Shown
+pub mod Notes
