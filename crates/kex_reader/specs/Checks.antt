@@ -2,7 +2,9 @@
 use Rattle.std.specs.Prelude.{◌≡◌, ℕ, suc, ◌+◌, ◌<◌, ◌≤◌, ◌||◌, Bool, true, false, List, [], ◌∷◌, ◌++◌, length, nat_lt}
 use Rattle.kex_code.specs.Codes.{IsAmong}
 use Rattle.kex_tokens.specs.Values.{number_of}
-use Rattle.kex_regexp.specs.Breaks.{Break, BadRegex, BadCount, BadSet, OverLimit, comes_before}
+use Rattle.kex_regexp.specs.declared.breaks.Break.{Break}
+use Rattle.kex_regexp.specs.declared.breaks.Break.TheVariants.{BadRegex, BadCount, BadSet, OverLimit}
+use Rattle.kex_regexp.specs.Breaks.{comes_before}
 use Rattle.kex_regexp.specs.Bodies.{IsFirstWrong, BreaksFirst}
 use Rattle.kex_reader.specs.Syntax.{Word, Postfix, ZeroOrMore, OneOrMore, Optional, Exactly, AtLeast, AtMost, Between, Term, Last, Or, Seq, Only, Then, Pre, Mute, Into, Once, Turns, Atom, One, Call, Lit, Match, Write, Assign, Group, Definition, Header, NoStart, Stages, Program, term, seq, pre, atom, header}
 

@@ -8,7 +8,7 @@ use Rattle.kex_model.specs.declared.program.Node.{Node}
 use Rattle.kex_model.specs.declared.program.Definition.{Definition as Root}
 use Rattle.kex_model.specs.declared.program.Start.{Start}
 use Rattle.kex_tokens.specs.Values.{StandsFor, number_of}
-use Rattle.kex_regexp.specs.Breaks.{Break}
+use Rattle.kex_regexp.specs.declared.breaks.Break.{Break}
 use Rattle.kex_regexp.specs.Bodies.{Spells}
 use Rattle.kex_regexp.specs.Grammar.{Regex as Body}
 use Rattle.kex_regexp.specs.Shown.{ShowsRegex}

@@ -3,7 +3,7 @@
 use crate::counts::{Bounds, Count, CountStep, count_step};
 use crate::draft::Draft;
 use crate::pieces::{Assignment, piece};
-use crate::stack::{Frame, Part, Stack};
+use crate::stack::{Frame, Part, Stack, Store};
 use crate::terms::{close_seq, close_term, put};
 use crate::word::{Name, Word};
 use kex_code::memory::Memory;
@@ -74,7 +74,7 @@ fn body<'t>(
     word: Word<'t>,
 ) -> Result<Wait<'t>, StepFault> {
     let bytes = &word.spelling[1..word.spelling.len() - 1];
-    let Ok(node) = draft.body(alloc, bytes, word.at + 1, depth as u32) else {
+    let Ok(node) = draft.body(alloc, bytes, word.at + 1, depth) else {
         return Err(StepFault::Memory);
     };
     Ok(Wait::After(Part { node, at: word.at }))
@@ -240,7 +240,11 @@ fn named<'t>(
             let Ok(register) = draft.register(name.bytes) else {
                 return Err(StepFault::Memory);
             };
-            open(stack, draft, Frame::Storing(register, name.at), name.at)
+            let store = Store {
+                register,
+                at: name.at,
+            };
+            open(stack, draft, Frame::Storing(store), name.at)
         }
         Kind::Define => Err(StepFault::Wrong),
         _ => {

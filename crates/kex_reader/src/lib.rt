@@ -9,7 +9,8 @@ mod draft;
 mod inside;
 mod names;
 mod pieces;
-mod place;
+pub mod laws;
+mod lines;
 mod reader;
 mod refusal;
 mod stack;
@@ -19,6 +20,6 @@ mod tests;
 mod text;
 mod word;
 
-pub use place::place;
+pub use lines::place;
 pub use refusal::ReadRefusal;
 pub use text::read;

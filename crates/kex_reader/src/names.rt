@@ -1,6 +1,6 @@
 // Names by their numbers.
 
-ghost use Rattle.std.specs.Prelude.{◌≡◌, [], slice_get, Some, IfOk, OnOk};
+ghost use Rattle.std.specs.Prelude.{◌≡◌, [], slice_get, Some, IfOk, OnOk, length};
 ghost use Rattle.kex_code.specs.Codes.{Begins};
 
 use indexmap::IndexSet;

@@ -21,9 +21,9 @@ fn prefixed(draft: &mut Draft, prefix: Prefix, part: Part) -> Result<Part, Memor
             let node = draft.add(Kind::Mute(part.node), at)?;
             Ok(Part { node, at })
         }
-        Prefix::Store(register, at) => {
-            let node = draft.add(Kind::At(register, part.node), at)?;
-            Ok(Part { node, at })
+        Prefix::Store(store) => {
+            let node = draft.add(Kind::At(store.register, part.node), store.at)?;
+            Ok(Part { node, at: store.at })
         }
     }
 }
