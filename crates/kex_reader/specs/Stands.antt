@@ -1,5 +1,8 @@
 -- What the code holds of a program that is being read, and the state of the machine that it stands for.
 use Rattle.std.specs.Prelude.{◌≡◌, ℕ, suc, ◌+◌, ◌<◌, ◌≤◌, Bool, true, false, List, [], ◌∷◌, ◌++◌, length, Option, Some, None, Result, Ok, Err, slice_get, MatchOption, ◌==◌, if◌then◌else◌}
+use Rattle.kex_model.specs.declared.program.Kind.{Kind}
+use Rattle.kex_model.specs.declared.program.Kind.TheVariants as kinds
+use Rattle.kex_model.specs.declared.program.Node.{Node}
 use Rattle.kex_model.specs.declared.program.Definition.{Definition as Root}
 use Rattle.kex_model.specs.declared.program.Start.{Start}
 use Rattle.kex_tokens.specs.Values.{number_of}
@@ -24,7 +27,7 @@ use Rattle.kex_reader.specs.Shown.{Made, IsName, IsRegister, ShowsTerm, ShowsSeq
 
 -- what was made stays: nodes, names and registers keep their numbers, and what is broken stays broken
 pub record Keeps (old new : Made) : Type 0 where
-  pub nodes : (k : ℕ) → {v : _} → slice_get old.nodes k ≡ Some v → slice_get new.nodes k ≡ Some v
+  pub nodes : (k : ℕ) (v : Node) → slice_get old.nodes k ≡ Some v → slice_get new.nodes k ≡ Some v
   pub names : (k : ℕ) (v : List ℕ) → slice_get old.names k ≡ Some v → slice_get new.names k ≡ Some v
   pub registers : (k : ℕ) (v : List ℕ) → slice_get old.registers k ≡ Some v → slice_get new.registers k ≡ Some v
   pub long : length old.nodes ≤ length new.nodes
@@ -47,6 +50,19 @@ opens (frames.Storing s) = true
 abbrev pub frame_of : Prefix → Frame
 frame_of (prefixes.Mute at) = frames.Muted at
 frame_of (prefixes.Store s) = frames.Storing s
+
+-- the node of a prefix over another node, and its offset
+abbrev pub prefixed_kind : Prefix → ℕ → Kind
+prefixed_kind (prefixes.Mute at) n = kinds.Mute n
+prefixed_kind (prefixes.Store s) n = kinds.At s.register n
+
+abbrev pub prefix_at : Prefix → ℕ
+prefix_at (prefixes.Mute at) = at
+prefix_at (prefixes.Store s) = s.at
+
+abbrev pub HasRegister : ℕ → Prefix → Type 0
+HasRegister registers (prefixes.Mute at) = Unit {0}
+HasRegister registers (prefixes.Store s) = s.register < registers
 
 -- how many parentheses and prefixes are among the frames
 unfoldable pub open_frames : List Frame → ℕ
@@ -92,6 +108,15 @@ abbrev pub TermTaken : Made → (ℕ → ℕ) → ℕ → List Frame → Option 
 TermTaken made at base fs None None = Unit {0}
 TermTaken made at base fs (Some part) (Some t) = TermOn made at base fs part t
 TermTaken made at base fs _ _ = ⊥
+
+-- no node is below one of this kind
+abbrev pub IsLeaf : Kind → Type 0
+IsLeaf (kinds.Seq l r) = ⊥
+IsLeaf (kinds.Alt l r) = ⊥
+IsLeaf (kinds.Rep body min max) = ⊥
+IsLeaf (kinds.Mute t) = ⊥
+IsLeaf (kinds.At r t) = ⊥
+IsLeaf _ = Unit {0}
 
 -- ---- counts
 

@@ -1,6 +1,8 @@
 // Counts in braces.
 
-use kex_tokens::number_value;
+ghost use Rattle.std.specs.Prelude.{◌≡◌};
+ghost use Rattle.kex_reader.specs.Held.{held_bounds, held_count, held_from};
+
 use kex_tokens::token::Kind;
 
 /// The greatest count.
@@ -33,38 +35,10 @@ pub(crate) enum CountStep {
     Wrong,
 }
 
-// Behind a count's opening brace.
-fn opened(kind: Kind, spelling: &[u8]) -> CountStep {
-    match kind {
-        Kind::Number => CountStep::On(Count::Low(number_value(spelling, MOST))),
-        Kind::Comma => CountStep::On(Count::OnlyComma),
-        _ => CountStep::Wrong,
-    }
-}
-
-// Behind the first number.
-fn behind_low(low: Option<u32>, kind: Kind) -> CountStep {
-    match kind {
-        Kind::Comma => CountStep::On(Count::LowComma(low)),
-        Kind::CloseBrace => between(low, low),
-        _ => CountStep::Wrong,
-    }
-}
-
-// Behind the comma that follows a number.
-fn behind_comma(low: Option<u32>, kind: Kind, spelling: &[u8]) -> CountStep {
-    match kind {
-        Kind::Number => CountStep::On(Count::LowHigh(low, number_value(spelling, MOST))),
-        Kind::CloseBrace => match low {
-            Some(low) => CountStep::Read(Bounds { low, high: None }),
-            None => CountStep::Bad,
-        },
-        _ => CountStep::Wrong,
-    }
-}
-
 // The bounds of two numbers.
-fn between(low: Option<u32>, high: Option<u32>) -> CountStep {
+fn bounds(low: Option<u32>, high: Option<u32>) -> CountStep
+    ensures { result ≡ held_bounds low high }
+{
     let Some(low) = low else {
         return CountStep::Bad;
     };
@@ -80,22 +54,47 @@ fn between(low: Option<u32>, high: Option<u32>) -> CountStep {
     })
 }
 
-// A word behind what is read of a count.
-pub(crate) fn count_step(count: Count, kind: Kind, spelling: &[u8]) -> CountStep {
+// The bounds of one number, from which on turns are read.
+fn from(low: Option<u32>) -> CountStep
+    ensures { result ≡ held_from low }
+{
+    match low {
+        Some(low) => CountStep::Read(Bounds { low, high: None }),
+        None => CountStep::Bad,
+    }
+}
+
+// A word behind what is read of a count, where `number` is its value.
+#[tactic(auto, unfolding(crate::specs::Held::held_count))]
+pub(crate) fn count_step(count: Count, kind: Kind, number: Option<u32>) -> CountStep
+    ensures { result ≡ held_count count kind number }
+{
     match count {
-        Count::Opened => opened(kind, spelling),
-        Count::Low(low) => behind_low(low, kind),
-        Count::LowComma(low) => behind_comma(low, kind, spelling),
+        Count::Opened => match kind {
+            Kind::Number => CountStep::On(Count::Low(number)),
+            Kind::Comma => CountStep::On(Count::OnlyComma),
+            _ => CountStep::Wrong,
+        },
+        Count::Low(low) => match kind {
+            Kind::Comma => CountStep::On(Count::LowComma(low)),
+            Kind::CloseBrace => bounds(low, low),
+            _ => CountStep::Wrong,
+        },
+        Count::LowComma(low) => match kind {
+            Kind::Number => CountStep::On(Count::LowHigh(low, number)),
+            Kind::CloseBrace => from(low),
+            _ => CountStep::Wrong,
+        },
         Count::LowHigh(low, high) => match kind {
-            Kind::CloseBrace => between(low, high),
+            Kind::CloseBrace => bounds(low, high),
             _ => CountStep::Wrong,
         },
         Count::OnlyComma => match kind {
-            Kind::Number => CountStep::On(Count::High(number_value(spelling, MOST))),
+            Kind::Number => CountStep::On(Count::High(number)),
             _ => CountStep::Wrong,
         },
         Count::High(high) => match kind {
-            Kind::CloseBrace => between(Some(0), high),
+            Kind::CloseBrace => bounds(Some(0), high),
             _ => CountStep::Wrong,
         },
     }

@@ -1,8 +1,9 @@
 // What is made of a text.
 
-ghost use Rattle.std.specs.Prelude.{◌≡◌, ℕ, ◌+◌, ◌<◌, ◌^◌, ◌++◌, ◌∷◌, [], List, length, None, Some, IfOk, OnOk};
+ghost use Rattle.std.specs.Prelude.{◌≡◌, ℕ, ◌+◌, ◌<◌, ◌^◌, ◌++◌, ◌∷◌, [], List, length, None, Some, IfOk, IfSome, IfNone, OnOk};
+ghost use Rattle.kex_code.specs.Codes.{Different};
 ghost use Rattle.kex_model.specs.Programs.{Grammar, HasBelow, HasNames, IsInRange};
-ghost use Rattle.kex_regexp.specs.Bodies.{Spells};
+ghost use Rattle.kex_regexp.specs.Bodies.{Spells, fault_of};
 ghost use Rattle.kex_regexp.specs.Grammar.{Regex};
 ghost use Rattle.kex_regexp.specs.Notes.{held_lesser};
 ghost use Rattle.kex_regexp.specs.Shown.{ShowsRegex};
@@ -17,9 +18,37 @@ use kex_model::builder::Builder;
 use kex_model::program::{Definition, Kind, Node, Program, Start};
 use kex_regexp::breaks::{Break, lesser};
 use kex_regexp::fault::RegexFault;
+use kex_regexp::laws::one_tree;
 use kex_regexp::regex;
 use std::alloc::Global;
 use std::marker::Model;
+
+// The depth of a body, where its own can be counted on it.
+fn room(depth: usize, long: usize) -> Option<u32>
+    ensures { IfSome result (λ n. (n ≡ depth) × (n + long < 2 ^ 32)) }
+{
+    let Some(deepest) = depth.checked_add(long) else {
+        return None;
+    };
+    let Ok(_) = u32::try_from(deepest) else {
+        return None;
+    };
+    Some(depth as u32)
+}
+
+// The limit that a body breaks, unless it wasn't read for want of memory.
+fn break_of(fault: RegexFault) -> Option<Break>
+    ensures some { IfSome result (λ b. fault ≡ fault_of b) }
+    ensures none { IfNone result (fault ≡ RegexFault.Memory) }
+{
+    match fault {
+        RegexFault::BadRegex { at } => Some(Break::BadRegex { at }),
+        RegexFault::BadCount { at } => Some(Break::BadCount { at }),
+        RegexFault::BadSet { at } => Some(Break::BadSet { at }),
+        RegexFault::OverLimit { at } => Some(Break::OverLimit { at }),
+        RegexFault::Memory => None,
+    }
+}
 
 /// The nodes, names and registers of a text, and the least limit that it breaks.
 #[derive(Drop)]
@@ -32,16 +61,16 @@ pub(crate) struct Draft<'t> {
 
 impl<'t> Model for Draft<'t> {
     ghost use Rattle.std.specs.Prelude.{length};
-    ghost use Rattle.kex_model.specs.Programs.{HasNames, IsInOrder};
+    ghost use Rattle.kex_model.specs.Programs.{HasNames};
     ghost use Rattle.kex_model.specs.declared.program.Node.{Node};
-    ghost use Rattle.kex_code.specs.Codes.{Different, IsAmong};
+    ghost use Rattle.kex_code.specs.Codes.{IsAmong};
     ghost use Rattle.kex_reader.specs.Shown.{Made};
 
     ghost Value = { Made };
 
     ghost view = { λ d. record { nodes = d.nodes; names = d.names; registers = d.registers; broken = d.broken } };
 
-    ghost invariant = { λ d. IsInOrder d.nodes × Different d.names × Different d.registers × ((n : Node) → IsAmong d.nodes n → HasNames (length d.names) (length d.registers) n.kind) };
+    ghost invariant = { λ d. (n : Node) → IsAmong d.nodes n → HasNames (length d.names) (length d.registers) n.kind };
 }
 
 impl<'t> Draft<'t> {
@@ -62,27 +91,36 @@ impl<'t> Draft<'t> {
         requires named { HasNames (length self.old.names) (length self.old.registers) kind }
         ensures keeps { OnOk result (Keeps self.old self.new) }
         ensures node { IfOk result (λ n. IsNode self.new n kind at) }
-        ensures broken { self.new.broken ≡ self.old.broken }
+        ensures broken { OnOk result (self.new.broken ≡ self.old.broken) }
     {
-        self.nodes.add(Node { kind, at })
+        let Ok(number) = self.nodes.add(Node { kind, at }) else {
+            return Err(Memory);
+        };
+        Ok(number)
     }
 
     // The number of a name.
     pub(crate) fn name(&mut self, name: &'t [u8]) -> Result<u32, Memory>
         ensures keeps { OnOk result (Keeps self.old self.new) }
         ensures number { IfOk result (λ k. IsName self.new k name.now) }
-        ensures broken { self.new.broken ≡ self.old.broken }
+        ensures broken { OnOk result (self.new.broken ≡ self.old.broken) }
     {
-        self.names.number(name)
+        let Ok(number) = self.names.number(name) else {
+            return Err(Memory);
+        };
+        Ok(number)
     }
 
     // The number of a register.
     pub(crate) fn register(&mut self, register: &'t [u8]) -> Result<u32, Memory>
         ensures keeps { OnOk result (Keeps self.old self.new) }
         ensures number { IfOk result (λ k. IsRegister self.new k register.now) }
-        ensures broken { self.new.broken ≡ self.old.broken }
+        ensures broken { OnOk result (self.new.broken ≡ self.old.broken) }
     {
-        self.registers.number(register)
+        let Ok(number) = self.registers.number(register) else {
+            return Err(Memory);
+        };
+        Ok(number)
     }
 
     // Notes that a limit is broken.
@@ -107,29 +145,28 @@ impl<'t> Draft<'t> {
         ensures shows { IfOk result (λ n. self.new.broken ≡ None → (r : Regex) × Spells r body.now × ShowsRegex r self.new.nodes n at) }
         ensures notes { OnOk result ((cs : List Check) → Noted cs self.old.broken → Noted (cs ++ Matched at depth body.now ∷ []) self.new.broken) }
     {
-        let Some(deepest) = depth.checked_add(body.len()) else {
+        one_tree();
+        let Some(nested) = room(depth, body.len()) else {
             return Err(Memory);
         };
-        let Ok(_) = u32::try_from(deepest) else {
-            return Err(Memory);
-        };
-        let fault = match regex(alloc, body, at, depth as u32, &mut self.nodes) {
+        let fault = match regex(alloc, body, at, nested, &mut self.nodes) {
             Ok(node) => return Ok(node),
             Err(fault) => fault,
         };
-        match fault {
-            RegexFault::BadRegex { at } => self.note(Break::BadRegex { at }),
-            RegexFault::BadCount { at } => self.note(Break::BadCount { at }),
-            RegexFault::BadSet { at } => self.note(Break::BadSet { at }),
-            RegexFault::OverLimit { at } => self.note(Break::OverLimit { at }),
-            RegexFault::Memory => return Err(Memory),
-        }
-        self.add(Kind::One, at)
+        let Some(broken) = break_of(fault) else {
+            return Err(Memory);
+        };
+        self.note(broken);
+        let Ok(node) = self.add(Kind::One, at) else {
+            return Err(Memory);
+        };
+        Ok(node)
     }
 
     // The names, by their numbers.
     pub(crate) fn names(&self, alloc: Global) -> Result<Vec<Bytes>, Memory>
-        ensures { IfOk result (λ all. all.items ≡ self.now.names) }
+        ensures same { IfOk result (λ all. all.items ≡ self.now.names) }
+        ensures different { Different self.now.names }
     {
         self.names.copies(alloc)
     }
@@ -142,7 +179,8 @@ impl<'t> Draft<'t> {
         stages: Vec<Start>,
     ) -> Result<Program, Memory>
         requires { IsInRange self.nodes names.items definitions.items stages.items (length self.registers) }
-        ensures { IfOk result (λ P. P ≡ record { nodes = self.nodes; names = names.items; definitions = definitions.items; stages = stages.items; registers = length self.registers }) }
+        ensures made { IfOk result (λ P. P ≡ record { nodes = self.entry.nodes; names = names.items; definitions = definitions.items; stages = stages.items; registers = length self.entry.registers }) }
+        ensures different { Different self.entry.registers }
     {
         let Ok(registers) = u32::try_from(self.registers.len()) else {
             return Err(Memory);

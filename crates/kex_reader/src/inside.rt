@@ -1,6 +1,19 @@
 // One word more, inside a definition.
 
-use crate::counts::{Bounds, Count, CountStep, count_step};
+ghost use Rattle.std.specs.Prelude.{◌≡◌, ℕ, ◌+◌, ◌<◌, ◌≤◌, ◌^◌, ◌++◌, ◌∷◌, [], Bool, false, true, List, Some, None, length, IfOk, IfErr, OnOk};
+ghost use Rattle.kex_model.specs.Programs.{HasNames, IsCount};
+ghost use Rattle.kex_regexp.specs.Bodies.{Spells as BodySpells};
+ghost use Rattle.kex_regexp.specs.Grammar.{Regex};
+ghost use Rattle.kex_regexp.specs.Shown.{ShowsRegex};
+ghost use Rattle.kex_tokens.specs.Lexemes.{IsToken};
+ghost use Rattle.kex_tokens.specs.Values.{StandsFor};
+ghost use Rattle.kex_reader.specs.Checks.{Check, Matched, Nested};
+ghost use Rattle.kex_reader.specs.Reading.{After, Assigned, Assigning, BracketName, CountStep as SpecCountStep, Entry, Inside, Ready, after_atom, begin_pre, entries, first_part, goes, named as spec_named, next_part, on_bar, on_close, on_count, on_name, on_sign, put as spec_put, step_in as spec_step_in, take_seq, take_term};
+ghost use Rattle.kex_reader.specs.Shown.{IsName, IsNode, IsRegister, ShowsAtom, ShowsParts, high as high_of, low as low_of};
+ghost use Rattle.kex_reader.specs.Stands.{FramesShow, IsLeaf, Keeps, Noted, ShowsCountStep, ShowsMode, SomeAtom, SomeFrames, SomeInside, Stands, Steps, open_frames};
+ghost use Rattle.kex_reader.specs.Syntax.{Atom, Part as SpecPart, Postfix, Turns, Write as SpecWrite, atom, between, word};
+
+use crate::counts::{Bounds, Count, CountStep, MOST, count_step};
 use crate::draft::Draft;
 use crate::pieces::{Assignment, piece};
 use crate::stack::{Frame, Part, Stack, Store};
@@ -10,7 +23,7 @@ use kex_code::memory::Memory;
 use kex_code::piece::Bytes;
 use kex_model::program::Kind as NodeKind;
 use kex_regexp::breaks::Break;
-use kex_tokens::literal_bytes;
+use kex_tokens::{literal_bytes, number_value};
 use kex_tokens::token::Kind;
 use std::alloc::Global;
 
@@ -47,7 +60,14 @@ impl From<Memory> for StepFault {
 }
 
 // An atom of one node.
-fn leaf<'t>(draft: &mut Draft<'t>, kind: NodeKind, at: u32) -> Result<Wait<'t>, StepFault> {
+fn leaf<'t>(draft: &mut Draft<'t>, kind: NodeKind, at: u32) -> Result<Wait<'t>, StepFault>
+    requires below { HasNames (length draft.old.names) (length draft.old.registers) kind }
+    requires alone { IsLeaf kind }
+    ensures keeps { OnOk result (Keeps draft.old draft.new) }
+    ensures broken { OnOk result (draft.new.broken ≡ draft.old.broken) }
+    ensures wait { IfOk result (λ w. (n : ℕ) × (w ≡ Wait.After (record { node = n; at = at })) × IsNode draft.new n kind at) }
+    ensures fault { IfErr result (λ e. e ≡ StepFault.Memory) }
+{
     let Ok(node) = draft.add(kind, at) else {
         return Err(StepFault::Memory);
     };
@@ -55,11 +75,13 @@ fn leaf<'t>(draft: &mut Draft<'t>, kind: NodeKind, at: u32) -> Result<Wait<'t>, 
 }
 
 // A literal.
-fn literal<'t>(
-    alloc: Global,
-    draft: &mut Draft<'t>,
-    word: Word<'t>,
-) -> Result<Wait<'t>, StepFault> {
+fn literal<'t>(alloc: Global, draft: &mut Draft<'t>, word: Word<'t>) -> Result<Wait<'t>, StepFault>
+    requires { IsToken Kind.Literal word.spelling.now }
+    ensures keeps { OnOk result (Keeps draft.old draft.new) }
+    ensures broken { OnOk result (draft.new.broken ≡ draft.old.broken) }
+    ensures wait { IfOk result (λ w. (n : ℕ) × (bytes : List ℕ) × (w ≡ Wait.After (record { node = n; at = word.at })) × IsNode draft.new n (NodeKind.Lit bytes) word.at × StandsFor word.spelling.now bytes) }
+    ensures fault { IfErr result (λ e. e ≡ StepFault.Memory) }
+{
     let Ok(bytes) = literal_bytes(alloc, word.spelling) else {
         return Err(StepFault::Memory);
     };
@@ -72,7 +94,14 @@ fn body<'t>(
     depth: usize,
     draft: &mut Draft<'t>,
     word: Word<'t>,
-) -> Result<Wait<'t>, StepFault> {
+) -> Result<Wait<'t>, StepFault>
+    requires token { IsToken Kind.Regex word.spelling.now }
+    requires place { word.at + length word.spelling.now < 2 ^ 32 }
+    ensures keeps { OnOk result (Keeps draft.old draft.new) }
+    ensures wait { IfOk result (λ w. (n : ℕ) × (w ≡ Wait.After (record { node = n; at = word.at })) × (n < length draft.new.nodes) × (draft.new.broken ≡ None → (r : Regex) × BodySpells r (between word.spelling.now) × ShowsRegex r draft.new.nodes n (word.at + 1))) }
+    ensures notes { OnOk result ((cs : List Check) → Noted cs draft.old.broken → Noted (cs ++ Matched (word.at + 1) depth (between word.spelling.now) ∷ []) draft.new.broken) }
+    ensures fault { IfErr result (λ e. e ≡ StepFault.Memory) }
+{
     let bytes = &word.spelling[1..word.spelling.len() - 1];
     let Ok(node) = draft.body(alloc, bytes, word.at + 1, depth) else {
         return Err(StepFault::Memory);
@@ -86,7 +115,13 @@ fn open<'t>(
     draft: &mut Draft<'t>,
     frame: Frame,
     at: u32,
-) -> Result<Wait<'t>, StepFault> {
+) -> Result<Wait<'t>, StepFault>
+    ensures keeps { OnOk result (Keeps draft.old draft.new) }
+    ensures wait { IfOk result (λ w. w ≡ Wait.Need) }
+    ensures pushed { OnOk result (stack.new ≡ frame ∷ stack.old) }
+    ensures notes { OnOk result ((cs : List Check) → Noted cs draft.old.broken → Noted (cs ++ Nested at (open_frames stack.old) ∷ []) draft.new.broken) }
+    ensures fault { IfErr result (λ e. e ≡ StepFault.Memory) }
+{
     if stack.depth() == DEEPEST {
         draft.note(Break::OverLimit { at });
     }
@@ -97,7 +132,12 @@ fn open<'t>(
 }
 
 // A bar ends a sequence.
-fn bar<'t>(stack: &mut Stack, draft: &mut Draft<'t>) -> Result<Wait<'t>, StepFault> {
+fn bar<'t>(stack: &mut Stack, draft: &mut Draft<'t>) -> Result<Wait<'t>, StepFault>
+    requires { SomeFrames draft.old stack.old }
+    ensures keeps { OnOk result (Keeps draft.old draft.new) }
+    ensures broken { OnOk result (draft.new.broken ≡ draft.old.broken) }
+    ensures step { (at : ℕ → ℕ) (base : ℕ) (es : List Entry) → FramesShow draft.old at base stack.old es → Steps draft.new at base stack.new result (on_bar (take_seq es)) }
+{
     let Ok(closed) = close_seq(stack, draft) else {
         return Err(StepFault::Memory);
     };
@@ -111,7 +151,12 @@ fn bar<'t>(stack: &mut Stack, draft: &mut Draft<'t>) -> Result<Wait<'t>, StepFau
 }
 
 // A parenthesis ends a term.
-fn close<'t>(stack: &mut Stack, draft: &mut Draft<'t>) -> Result<Wait<'t>, StepFault> {
+fn close<'t>(stack: &mut Stack, draft: &mut Draft<'t>) -> Result<Wait<'t>, StepFault>
+    requires { SomeFrames draft.old stack.old }
+    ensures keeps { OnOk result (Keeps draft.old draft.new) }
+    ensures broken { OnOk result (draft.new.broken ≡ draft.old.broken) }
+    ensures step { (at : ℕ → ℕ) (base : ℕ) (es : List Entry) → FramesShow draft.old at base stack.old es → Steps draft.new at base stack.new result (on_close (take_term es)) }
+{
     let Ok(closed) = close_term(stack, draft) else {
         return Err(StepFault::Memory);
     };
@@ -134,7 +179,13 @@ fn begin<'t>(
     draft: &mut Draft<'t>,
     free: bool,
     word: Word<'t>,
-) -> Result<Wait<'t>, StepFault> {
+) -> Result<Wait<'t>, StepFault>
+    requires frames { SomeFrames draft.old stack.old }
+    requires token { IsToken word.kind word.spelling.now }
+    requires place { word.at + length word.spelling.now < 2 ^ 32 }
+    ensures keeps { OnOk result (Keeps draft.old draft.new) }
+    ensures step { (at : ℕ → ℕ) (base : ℕ) (es : List Entry) → FramesShow draft.old at base stack.old es → word.at ≡ at (base + length (entries es)) → Steps draft.new at base stack.new result (begin_pre free es (word word.kind word.spelling.now)) }
+{
     match word.kind {
         Kind::Name => Ok(Wait::Named(
             free,
@@ -180,7 +231,13 @@ fn turns<'t>(
     draft: &mut Draft<'t>,
     item: Part,
     bounds: Bounds,
-) -> Result<Wait<'t>, StepFault> {
+) -> Result<Wait<'t>, StepFault>
+    requires atom { SomeAtom draft.old stack.old item }
+    requires count { IsCount bounds.low bounds.high }
+    ensures keeps { OnOk result (Keeps draft.old draft.new) }
+    ensures broken { OnOk result (draft.new.broken ≡ draft.old.broken) }
+    ensures step { (at : ℕ → ℕ) (base : ℕ) (es : List Entry) (a : Atom) (p : Postfix) → FramesShow draft.old at base stack.old es → item.at ≡ at (base + length (entries es)) → ShowsAtom a draft.old at item.node (base + length (entries es)) → bounds.low ≡ low_of p → bounds.high ≡ high_of p → Steps draft.new at base stack.new result (goes Ready (spec_put (Turns a p) es)) }
+{
     let Ok(node) = draft.add(
         NodeKind::Rep {
             body: item.node,
@@ -204,7 +261,13 @@ fn behind<'t>(
     draft: &mut Draft<'t>,
     item: Part,
     word: Word<'t>,
-) -> Result<Wait<'t>, StepFault> {
+) -> Result<Wait<'t>, StepFault>
+    requires atom { SomeAtom draft.old stack.old item }
+    requires token { IsToken word.kind word.spelling.now }
+    requires place { word.at + length word.spelling.now < 2 ^ 32 }
+    ensures keeps { OnOk result (Keeps draft.old draft.new) }
+    ensures step { (at : ℕ → ℕ) (base : ℕ) (es : List Entry) (a : Atom) → FramesShow draft.old at base stack.old es → item.at ≡ at (base + length (entries es)) → word.at ≡ at (base + length (entries es) + length (atom a)) → ShowsAtom a draft.old at item.node (base + length (entries es)) → Steps draft.new at base stack.new result (after_atom a es (word word.kind word.spelling.now)) }
+{
     match word.kind {
         Kind::Star => turns(stack, draft, item, Bounds { low: 0, high: None }),
         Kind::Plus => turns(stack, draft, item, Bounds { low: 1, high: None }),
@@ -234,7 +297,13 @@ fn named<'t>(
     draft: &mut Draft<'t>,
     name: Name<'t>,
     word: Word<'t>,
-) -> Result<Wait<'t>, StepFault> {
+) -> Result<Wait<'t>, StepFault>
+    requires frames { SomeFrames draft.old stack.old }
+    requires token { IsToken word.kind word.spelling.now }
+    requires place { word.at + length word.spelling.now < 2 ^ 32 }
+    ensures keeps { OnOk result (Keeps draft.old draft.new) }
+    ensures step { (at : ℕ → ℕ) (base : ℕ) (es : List Entry) → FramesShow draft.old at base stack.old es → name.at ≡ at (base + length (entries es)) → word.at ≡ at (base + length (entries es) + 1) → Steps draft.new at base stack.new result (spec_named name.bytes.now es (word word.kind word.spelling.now)) }
+{
     match word.kind {
         Kind::At => {
             let Ok(register) = draft.register(name.bytes) else {
@@ -257,7 +326,12 @@ fn named<'t>(
 }
 
 // A call of a name.
-pub(crate) fn call<'t>(draft: &mut Draft<'t>, name: Name<'t>) -> Result<Part, Memory> {
+pub(crate) fn call<'t>(draft: &mut Draft<'t>, name: Name<'t>) -> Result<Part, Memory>
+    ensures keeps { OnOk result (Keeps draft.old draft.new) }
+    ensures broken { OnOk result (draft.new.broken ≡ draft.old.broken) }
+    ensures node { IfOk result (λ p. (k : ℕ) × IsNode draft.new p.node (NodeKind.Call k) name.at × IsName draft.new k name.bytes.now) }
+    ensures place { IfOk result (λ p. p.at ≡ name.at) }
+{
     let Ok(number) = draft.name(name.bytes) else {
         return Err(Memory);
     };
@@ -268,7 +342,11 @@ pub(crate) fn call<'t>(draft: &mut Draft<'t>, name: Name<'t>) -> Result<Part, Me
 }
 
 // The register that is written.
-fn write<'t>(draft: &mut Draft<'t>, at: u32, word: Word<'t>) -> Result<Wait<'t>, StepFault> {
+fn write<'t>(draft: &mut Draft<'t>, at: u32, word: Word<'t>) -> Result<Wait<'t>, StepFault>
+    ensures keeps { OnOk result (Keeps draft.old draft.new) }
+    ensures broken { OnOk result (draft.new.broken ≡ draft.old.broken) }
+    ensures step { (place : ℕ → ℕ) (base : ℕ) (fs : List Frame) (es : List Entry) → FramesShow draft.old place base fs es → at ≡ place (base + length (entries es)) → Steps draft.new place base fs result (on_name (λ n. goes (After (SpecWrite n)) es) (word word.kind word.spelling.now)) }
+{
     let Kind::Name = word.kind else {
         return Err(StepFault::Wrong);
     };
@@ -279,7 +357,11 @@ fn write<'t>(draft: &mut Draft<'t>, at: u32, word: Word<'t>) -> Result<Wait<'t>,
 }
 
 // The register behind a bracket.
-fn bracket<'t>(draft: &mut Draft<'t>, at: u32, word: Word<'t>) -> Result<Wait<'t>, StepFault> {
+fn bracket<'t>(draft: &mut Draft<'t>, at: u32, word: Word<'t>) -> Result<Wait<'t>, StepFault>
+    ensures keeps { OnOk result (Keeps draft.old draft.new) }
+    ensures broken { OnOk result (draft.new.broken ≡ draft.old.broken) }
+    ensures step { (place : ℕ → ℕ) (base : ℕ) (fs : List Frame) (es : List Entry) → FramesShow draft.old place base fs es → at ≡ place (base + length (entries es)) → Steps draft.new place base fs result (on_name (λ n. goes (BracketName n) es) (word word.kind word.spelling.now)) }
+{
     let Kind::Name = word.kind else {
         return Err(StepFault::Wrong);
     };
@@ -388,7 +470,7 @@ pub(crate) fn step_in<'t>(
             draft,
             item,
             brace,
-            count_step(count, word.kind, word.spelling),
+            count_step(count, word.kind, number_value(word.spelling, MOST)),
         ),
     }
 }

@@ -7,10 +7,10 @@
 mod counts;
 mod draft;
 mod inside;
-mod names;
-mod pieces;
 pub mod laws;
 mod lines;
+mod names;
+mod pieces;
 mod reader;
 mod refusal;
 mod stack;

@@ -1,7 +1,7 @@
 // Names by their numbers.
 
-ghost use Rattle.std.specs.Prelude.{◌≡◌, [], slice_get, Some, IfOk, OnOk, length};
-ghost use Rattle.kex_code.specs.Codes.{Begins};
+ghost use Rattle.std.specs.Prelude.{◌≡◌, [], slice_get, Some, IfOk, length};
+ghost use Rattle.kex_code.specs.Codes.{Begins, Different};
 
 use indexmap::IndexSet;
 use kex_code::memory::Memory;
@@ -38,7 +38,7 @@ impl<'t> Names<'t> {
     // The number of a name, which gets the next one if it has none.
     pub(crate) fn number(&mut self, name: &'t [u8]) -> Result<u32, Memory>
         ensures number { IfOk result (λ i. slice_get self.new i ≡ Some name.now) }
-        ensures grown { OnOk result (Begins self.new self.old) }
+        ensures grown { Begins self.new self.old }
     {
         let Ok((number, _)) = self.all.insert_full(name) else {
             return Err(Memory);
@@ -51,14 +51,16 @@ impl<'t> Names<'t> {
 
     // How many names there are.
     pub(crate) fn len(&self) -> usize
-        ensures { result ≡ length self.now }
+        ensures long { result ≡ length self.now }
+        ensures different { Different self.now }
     {
         self.all.len()
     }
 
     // The names, in the order of their numbers.
     pub(crate) fn copies(&self, alloc: Global) -> Result<Vec<Bytes>, Memory>
-        ensures { IfOk result (λ all. all.items ≡ self.now) }
+        ensures same { IfOk result (λ all. all.items ≡ self.now) }
+        ensures different { Different self.now }
     {
         let mut all = Vec::new(alloc);
         for i in 0..self.all.len() {

@@ -2,7 +2,7 @@
 use Rattle.std.specs.Prelude.{◌≡◌, ℕ, ◌+◌, ◌<◌, ◌≤◌, List, ◌++◌, length, take}
 use Rattle.kex_regexp.specs.declared.fault.RegexFault.{RegexFault}
 use Rattle.kex_regexp.specs.declared.fault.RegexFault.TheVariants as faults
-use Rattle.kex_regexp.specs.Breaks.{Break, BadCount, BadSet, OverLimit, IsLeast, regex_breaks}
+use Rattle.kex_regexp.specs.Breaks.{Break, BadRegex, BadCount, BadSet, OverLimit, IsLeast, regex_breaks}
 use Rattle.kex_regexp.specs.Grammar.{Regex, regex, IsRegex}
 
 -- the bytes are this regex
@@ -27,6 +27,12 @@ pub record IsFirstWrong (bytes : List ℕ) (k : ℕ) : Type 0 where
 -- the bytes are a body that stands at an offset under so many marks, and this is the least of the rules that it breaks
 abbrev pub BreaksFirst : List ℕ → ℕ → ℕ → Break → Type 0
 BreaksFirst bytes at depth b = (r : Regex) × Spells r bytes × IsLeast (regex_breaks r at depth) b
+
+abbrev pub fault_of : Break → RegexFault
+fault_of (BadRegex place) = faults.BadRegex place
+fault_of (BadCount place) = faults.BadCount place
+fault_of (BadSet place) = faults.BadSet place
+fault_of (OverLimit place) = faults.OverLimit place
 
 -- what a refusal means of a body that stands at an offset under so many marks
 abbrev pub IsRefusal : List ℕ → ℕ → ℕ → RegexFault → Type 0

@@ -3,4 +3,5 @@ pub mod Values
 pub mod Breaks
 pub mod Bodies
 pub mod Shown
+pub mod Machine
 pub mod Notes

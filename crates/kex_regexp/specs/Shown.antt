@@ -49,5 +49,7 @@ IsOfBodies (kinds.Rep body min max) = Unit {0}
 IsOfBodies _ = ⊥
 
 -- the old nodes stay, and those behind them are of kinds that bodies have
-abbrev pub Adds : List Node → List Node → Type 0
-Adds old new = (more : List Node) × (new ≡ old ++ more) × ((n : Node) → IsAmong more n → IsOfBodies n.kind)
+pub record Adds (old new : List Node) : Type 0 where
+  pub more : List Node
+  pub is : new ≡ old ++ more
+  pub kinds : (n : Node) → IsAmong more n → IsOfBodies n.kind

@@ -1,8 +1,11 @@
 // The rules that a text may break, and which of two comes first.
 
 ghost use Rattle.std.specs.Prelude.{◌≡◌};
-ghost use Rattle.kex_regexp.specs.Breaks.{rank, offset};
+ghost use Rattle.kex_regexp.specs.Bodies.{fault_of};
+ghost use Rattle.kex_regexp.specs.Breaks.{offset, rank};
 ghost use Rattle.kex_regexp.specs.Notes.{held_lesser};
+
+use crate::fault::RegexFault;
 
 /// A rule that is broken, and the offset in the text.
 #[derive(Clone, Copy, PartialEq, Eq, Debug, Drop)]
@@ -26,6 +29,7 @@ impl Break {
         }
     }
 
+    // The offset in the text.
     fn offset(self) -> u32
         ensures { result ≡ offset self }
     {
@@ -34,6 +38,18 @@ impl Break {
             Break::BadCount { at } => at,
             Break::BadSet { at } => at,
             Break::OverLimit { at } => at,
+        }
+    }
+
+    /// The refusal for this rule.
+    pub fn fault(self) -> RegexFault
+        ensures { result ≡ fault_of self }
+    {
+        match self {
+            Break::BadRegex { at } => RegexFault::BadRegex { at },
+            Break::BadCount { at } => RegexFault::BadCount { at },
+            Break::BadSet { at } => RegexFault::BadSet { at },
+            Break::OverLimit { at } => RegexFault::OverLimit { at },
         }
     }
 }

@@ -3,6 +3,7 @@
 
 pub mod breaks;
 mod body;
+mod escapes;
 pub mod fault;
 pub mod laws;
 pub use body::regex;

@@ -36,3 +36,9 @@ unfolding eq
 returns-clause-grown c =
     let b = begins (λ x. x.now) eq same own (list_any (eq c.args.name) c.self.inside.all.keys) c.self.inside.all.keys c.args.name in
     subst (λ y. Begins (map (λ k. k.now) c.insert_full.new.self.keys) y) c.self.view_is (subst (λ z. Begins (map (λ k. k.now) z) (map (λ k. k.now) c.self.inside.all.keys)) (sym c.in-Ok.ensures.keys) b)
+
+pub returns-in_default-try_from-clause-grown : goal.returns-in_default-try_from-clause-grown
+unfolding eq
+returns-in_default-try_from-clause-grown c =
+    let b = begins (λ x. x.now) eq same own (list_any (eq c.args.name) c.self.inside.all.keys) c.self.inside.all.keys c.args.name in
+    subst (λ y. Begins (map (λ k. k.now) c.insert_full.new.self.keys) y) c.self.view_is (subst (λ z. Begins (map (λ k. k.now) z) (map (λ k. k.now) c.self.inside.all.keys)) (sym c.in-Ok.ensures.keys) b)

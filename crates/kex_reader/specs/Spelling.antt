@@ -1,0 +1,73 @@
+-- What a text spells, and why it is refused.
+use Rattle.std.specs.Prelude.{◌≡◌, ℕ, ◌<◌, ◌≤◌, Bool, List, [], ◌∷◌, length, map, get_or, bytes_eq, codes, None, if◌then◌else◌}
+use Rattle.std.specs.List.{slice_range}
+use Rattle.kex_code.specs.Codes.{Different}
+use Rattle.kex_model.specs.Programs.{Grammar}
+use Rattle.kex_model.specs.declared.program.Definition.{Definition as Root}
+use Rattle.kex_model.specs.declared.program.Start.{Start}
+use Rattle.kex_tokens.specs.declared.token.Token.{Token}
+use Rattle.kex_tokens.specs.declared.token.TheConstants.{MAX_TEXT}
+use Rattle.kex_tokens.specs.Texts.{AreTokens, IsBadToken}
+use Rattle.kex_regexp.specs.declared.breaks.Break.{Break}
+use Rattle.kex_regexp.specs.declared.breaks.Break.TheVariants.{BadRegex, BadCount, BadSet, OverLimit}
+use Rattle.kex_reader.specs.declared.refusal.ReadRefusal.{ReadRefusal}
+use Rattle.kex_reader.specs.declared.refusal.ReadRefusal.TheVariants as refusals
+use Rattle.kex_reader.specs.Syntax.{Word, word, Header, NoStart, Stages, Program, program, header}
+use Rattle.kex_reader.specs.Programs.{IsFirstWrong}
+use Rattle.kex_reader.specs.Checks.{IsLeastBreak, SomeBreaks, program_checks}
+use Rattle.kex_reader.specs.Shown.{Made, ShowsDefinitions, ShowsStages}
+
+-- the words that tokens of a text are
+abbrev pub words : List ℕ → List Token → List Word
+words text ts = map (λ t. word t.kind (slice_range text t.from t.to)) ts
+
+-- the offset of token number k, and behind the last one the text's length
+abbrev pub offset : List ℕ → List Token → ℕ → ℕ
+offset text ts k = get_or (map (λ t. t.from) ts) k (length text)
+
+-- without a start line the one stage is main, with the offset of its first definition, if it has one
+abbrev pub main_stage : List (List ℕ) → List Root → List Start
+main_stage names [] = []
+main_stage names (d ∷ ds) = if bytes_eq (get_or names d.name []) (codes "main") then record { name = d.name; at = d.at } ∷ [] else main_stage names ds
+
+abbrev pub ShowsHeader : Header → Made → (ℕ → ℕ) → Grammar → Type 0
+ShowsHeader NoStart made at P = P.stages ≡ main_stage P.names P.definitions
+ShowsHeader (Stages n ns) made at P = ShowsStages (n ∷ ns) made at P.stages 2
+
+-- the nodes, definitions and stages of the program are those of the tree, whatever their numbers
+pub record ShowsProgram (tree : Program) (made : Made) (at : ℕ → ℕ) (P : Grammar) : Type 0 where
+  pub definitions : ShowsDefinitions tree.definitions made at P.definitions (length (header tree.header))
+  pub stages : ShowsHeader tree.header made at P
+
+-- the tokens of the text are a program's, no limit is broken, and these are its nodes
+pub record Spells (text : List ℕ) (P : Grammar) : Type 0 where
+  pub short : length text ≤ MAX_TEXT
+  pub tokens : List Token
+  pub cut : AreTokens text tokens
+  pub tree : Program
+  pub derived : program tree ≡ words text tokens
+  pub within : (b : Break) → SomeBreaks (program_checks tree (offset text tokens)) b → ⊥
+  pub registers : List (List ℕ)
+  pub shown : ShowsProgram tree (record { nodes = P.nodes; names = P.names; registers = registers; broken = None }) (offset text tokens) P
+  pub names_differ : Different P.names
+  pub registers_differ : Different registers
+  pub counted : P.registers ≡ length registers
+
+-- the tokens before this offset begin a program, and those up to and with it begin none, or they end and are none
+abbrev pub IsUnexpected : List ℕ → ℕ → Type 0
+IsUnexpected text at = (ts : List Token) × (k : ℕ) × AreTokens text ts × IsFirstWrong (words text ts) k × (at ≡ offset text ts k)
+
+-- the tokens are a program's, and this is the least limit that it breaks
+abbrev pub BreaksLimit : List ℕ → Break → Type 0
+BreaksLimit text b = (ts : List Token) × (tree : Program) × AreTokens text ts × (program tree ≡ words text ts) × IsLeastBreak (program_checks tree (offset text ts)) b
+
+-- why a text is refused: each cause where those before it aren't
+abbrev pub IsRefusedAs : List ℕ → ReadRefusal → Type 0
+IsRefusedAs text refusals.TextTooLong = MAX_TEXT < length text
+IsRefusedAs text (refusals.BadToken at) = (length text ≤ MAX_TEXT) × IsBadToken text at
+IsRefusedAs text (refusals.Unexpected at) = (length text ≤ MAX_TEXT) × IsUnexpected text at
+IsRefusedAs text (refusals.BadRegex at) = (length text ≤ MAX_TEXT) × BreaksLimit text (BadRegex at)
+IsRefusedAs text (refusals.BadCount at) = (length text ≤ MAX_TEXT) × BreaksLimit text (BadCount at)
+IsRefusedAs text (refusals.BadSet at) = (length text ≤ MAX_TEXT) × BreaksLimit text (BadSet at)
+IsRefusedAs text (refusals.OverLimit at) = (length text ≤ MAX_TEXT) × BreaksLimit text (OverLimit at)
+IsRefusedAs text refusals.Memory = Unit {0}
