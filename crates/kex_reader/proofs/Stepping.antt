@@ -21,7 +21,7 @@ use Rattle.kex_reader.specs.Syntax.{Word, Name, Number, Literal, Regex, Define, 
 use Rattle.kex_reader.specs.Reading.{Entry, Mark, Ended, Done, Muted, Storing, Opened, Mode, Need, Ready, After, Named, Writing, Bracket, BracketName, Assigning, Assigned, InCount, Inside, put, take_seq, take_term, goes, on_bar, closed, on_close, on_number, begin_pre, after_atom, named, on_name, on_sign, first_part, next_part, step_in, entries, entry}
 use Rattle.kex_reader.specs.Shown.{Made, IsNode, IsName, IsRegister, ShowsTerm, ShowsSeq, ShowsPre, ShowsAtom, low, high}
 use Rattle.kex_reader.specs.Stands.{Keeps, FramesShow, SeqTaken, TermTaken, SeqOn, TermOn, ShowsMode, ShowsCount, Stands, Steps}
-use Rattle.kex_reader.proofs.Drafting.{atom_more}
+use Rattle.kex_reader.proofs.Drafting.{atom_more, Keeps-trans}
 use Rattle.kex_reader.proofs.Sound.{put_is}
 use Rattle.kex_reader.proofs.Stacks.{frames_more, mark_on}
 
@@ -359,6 +359,10 @@ module _ (a b : Made) (at : ℕ → ℕ) (base : ℕ) (fs gs : List Frame) (es :
   pub storing_steps : (r : Result Wait StepFault) (x k : ℕ) (name : List ℕ) → OnOk r (Keeps a b) → OnOk r (gs ≡ frames.Storing (record { register = k; at = x }) ∷ fs) → IfOk r (λ w. w ≡ waits.Need) → IfErr r (λ e. e ≡ faults.Memory) → FramesShow a at base fs es → x ≡ at (base + length (entries es)) → IsRegister a k name → Steps b at base gs r (goes Need (Storing name ∷ es))
   storing_steps r x k name l p h m f e s = opened_steps r (Storing name) (on_both r (λ l p. storing_pushed b at base fs gs es x k name p (frames_more a b at base fs es l f) e (l.registers k name s)) l p) h m
 
+pub on_keeps : (r : Result Wait StepFault) (a b d : Made) → Keeps a b → OnOk r (Keeps b d) → OnOk r (Keeps a d)
+on_keeps (Ok w) a b d k l = Keeps-trans a b d k l
+on_keeps (Err e) a b d k l = tt
+
 -- what is said of the atom that a call answered
 pub atom_of : (made : Made) (at : ℕ → ℕ) (i from : ℕ) (x : Atom) (P : ℕ → Type 0) (r : Result Wait StepFault) → ((n : ℕ) → P n → ShowsAtom x made at n i) → IfOk r (λ w. (n : ℕ) × (w ≡ waits.After (record { node = n; at = from })) × P n) → IfOk r (λ w. (n : ℕ) × (w ≡ waits.After (record { node = n; at = from })) × ShowsAtom x made at n i)
 atom_of made at i from x P (Ok w) f h = (h.0, h.1, f h.0 h.2)
@@ -371,3 +375,29 @@ literal_of made at i from s (Err f) e h = tt
 pub match_of : (made : Made) (at : ℕ → ℕ) (i from : ℕ) (b : List ℕ) (r : Result Wait StepFault) → from ≡ at i → IfOk r (λ w. (n : ℕ) × (w ≡ waits.After (record { node = n; at = from })) × (n < length made.nodes) × (made.broken ≡ None → (t : Body) × BodySpells t b × ShowsRegex t made.nodes n (from + 1))) → IfOk r (λ w. (n : ℕ) × (w ≡ waits.After (record { node = n; at = from })) × ShowsAtom (Match b) made at n i)
 match_of made at i from b (Ok w) e h = (h.0, h.1, match_shows made at h.0 i from b e h.2 h.3)
 match_of made at i from b (Err f) e h = tt
+
+-- ---- signs as counts
+
+pub star_low : 0 ≡ low ZeroOrMore
+unfolding low
+star_low = refl
+
+pub star_high : None ≡ high ZeroOrMore
+unfolding high
+star_high = refl
+
+pub plus_low : 1 ≡ low OneOrMore
+unfolding low
+plus_low = refl
+
+pub plus_high : None ≡ high OneOrMore
+unfolding high
+plus_high = refl
+
+pub optional_low : 0 ≡ low Optional
+unfolding low
+optional_low = refl
+
+pub optional_high : Some 1 ≡ high Optional
+unfolding high
+optional_high = refl

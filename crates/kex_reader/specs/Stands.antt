@@ -5,6 +5,7 @@ use Rattle.kex_model.specs.declared.program.Kind.TheVariants as kinds
 use Rattle.kex_model.specs.declared.program.Node.{Node}
 use Rattle.kex_model.specs.declared.program.Definition.{Definition as Root}
 use Rattle.kex_model.specs.declared.program.Start.{Start}
+use Rattle.kex_code.specs.declared.piece.Piece.{Piece}
 use Rattle.kex_tokens.specs.Values.{number_of}
 use Rattle.kex_regexp.specs.declared.breaks.Break.{Break}
 use Rattle.kex_reader.specs.declared.stack.Frame.{Frame}
@@ -14,16 +15,16 @@ use Rattle.kex_reader.specs.declared.stack.Prefix.TheVariants as prefixes
 use Rattle.kex_reader.specs.declared.stack.Part.{Part as Shown}
 use Rattle.kex_reader.specs.declared.counts.Count.{Count}
 use Rattle.kex_reader.specs.declared.counts.Count.TheVariants as counts
-use Rattle.kex_reader.specs.declared.counts.CountStep.{CountStep as Held}
+use Rattle.kex_reader.specs.declared.counts.CountStep.{CountStep as HeldStep}
 use Rattle.kex_reader.specs.declared.counts.CountStep.TheVariants as steps
 use Rattle.kex_reader.specs.declared.inside.Wait.{Wait}
 use Rattle.kex_reader.specs.declared.inside.Wait.TheVariants as waits
 use Rattle.kex_reader.specs.declared.inside.StepFault.{StepFault}
 use Rattle.kex_reader.specs.declared.inside.StepFault.TheVariants as faults
-use Rattle.kex_reader.specs.Syntax.{Word, Tilde, At, Star, Plus, Question, OpenBrace, OpenParen, Regex, Define, Part, Postfix, Term, Seq, Pre, Atom, Once, Call, Definition, Header, NoStart, Stages, Program, atom, header, definitions}
+use Rattle.kex_reader.specs.Syntax.{Word, Name, Literal, Text, Held, Tilde, At, Star, Plus, Question, OpenBrace, OpenParen, Regex, Define, Part, Postfix, Term, Seq, Pre, Atom, Once, Call, Definition, Header, NoStart, Stages, Program, atom, header, definitions}
 use Rattle.kex_reader.specs.Reading.{Entry, Mark, Ended, Done, Muted, Storing, Counting, Opened, Low, LowComma, LowHigh, OnlyComma, High, CountStep, CountOn, CountRead, CountWrong, Mode, Need, Ready, After, Named, Writing, Bracket, BracketName, Assigning, Assigned, InCount, Inside, put, entries, mode, count_step}
 use Rattle.kex_reader.specs.Checks.{Check, Nested, Counted, Matched, Staged, SomeBreaks, IsLeastBreak, is_bad_count, postfix_checks, term_checks, seq_checks, pre_checks, atom_checks}
-use Rattle.kex_reader.specs.Shown.{Made, IsName, IsRegister, ShowsTerm, ShowsSeq, ShowsPre, ShowsAtom, ShowsParts, low, high}
+use Rattle.kex_reader.specs.Shown.{Made, IsName, IsRegister, ShowsTerm, ShowsSeq, ShowsPre, ShowsAtom, ShowsPart, ShowsParts, low, high}
 
 -- what was made stays: nodes, names and registers keep their numbers, and what is broken stays broken
 pub record Keeps (old new : Made) : Type 0 where
@@ -118,6 +119,19 @@ IsLeaf (kinds.Mute t) = ⊥
 IsLeaf (kinds.At r t) = ⊥
 IsLeaf _ = Unit {0}
 
+-- ---- parts
+
+-- the part of an assignment that a word is, if it is one
+abbrev pub part_of : Word → Option Part
+part_of (Literal s) = Some (Text s)
+part_of (Name r) = Some (Held r)
+part_of _ = None
+
+abbrev pub PieceShows : Option Part → Made → Option Piece → Type 0
+PieceShows None made None = Unit {0}
+PieceShows (Some p) made (Some q) = ShowsPart p made q
+PieceShows _ made _ = ⊥
+
 -- ---- counts
 
 -- a number, or none where it is above 1,000
@@ -133,7 +147,7 @@ ShowsCount counts.OnlyComma OnlyComma = Unit {0}
 ShowsCount (counts.High w) (High m) = IsNumber w m
 ShowsCount _ _ = ⊥
 
-unfoldable pub ShowsCountStep : Held → CountStep → Type 0
+unfoldable pub ShowsCountStep : HeldStep → CountStep → Type 0
 ShowsCountStep (steps.On c) (CountOn d) = ShowsCount c d
 ShowsCountStep (steps.Read b) (CountRead p) = (b.low ≡ low p) × (b.high ≡ high p) × (is_bad_count p ≡ false)
 ShowsCountStep steps.Bad (CountRead p) = is_bad_count p ≡ true
@@ -178,6 +192,9 @@ SomeAtom made fs part = (at : ℕ → ℕ) × (base : ℕ) × (es : List Entry) 
 
 abbrev pub SomePre : Made → List Frame → Shown → Type 0
 SomePre made fs part = (at : ℕ → ℕ) × (base : ℕ) × (es : List Entry) × (p : Pre) × FramesShow made at base fs es × (part.at ≡ at (base + length (entries es))) × ShowsPre p made at part.node (base + length (entries es))
+
+abbrev pub SomeName : Made → List Frame → ℕ → Type 0
+SomeName made fs a = (at : ℕ → ℕ) × (base : ℕ) × (es : List Entry) × FramesShow made at base fs es × (a ≡ at (base + length (entries es)))
 
 abbrev pub SomeInside : Made → List Frame → Wait → Type 0
 SomeInside made fs wait = (at : ℕ → ℕ) × (base : ℕ) × (i : Inside) × Stands made at base fs wait i

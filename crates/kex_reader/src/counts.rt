@@ -36,7 +36,7 @@ pub(crate) enum CountStep {
 }
 
 // The bounds of two numbers.
-fn bounds(low: Option<u32>, high: Option<u32>) -> CountStep
+fn bounded(low: Option<u32>, high: Option<u32>) -> CountStep
     ensures { result ≡ held_bounds low high }
 {
     let Some(low) = low else {
@@ -55,7 +55,7 @@ fn bounds(low: Option<u32>, high: Option<u32>) -> CountStep
 }
 
 // The bounds of one number, from which on turns are read.
-fn from(low: Option<u32>) -> CountStep
+fn unbounded(low: Option<u32>) -> CountStep
     ensures { result ≡ held_from low }
 {
     match low {
@@ -77,16 +77,16 @@ pub(crate) fn count_step(count: Count, kind: Kind, number: Option<u32>) -> Count
         },
         Count::Low(low) => match kind {
             Kind::Comma => CountStep::On(Count::LowComma(low)),
-            Kind::CloseBrace => bounds(low, low),
+            Kind::CloseBrace => bounded(low, low),
             _ => CountStep::Wrong,
         },
         Count::LowComma(low) => match kind {
             Kind::Number => CountStep::On(Count::LowHigh(low, number)),
-            Kind::CloseBrace => from(low),
+            Kind::CloseBrace => unbounded(low),
             _ => CountStep::Wrong,
         },
         Count::LowHigh(low, high) => match kind {
-            Kind::CloseBrace => bounds(low, high),
+            Kind::CloseBrace => bounded(low, high),
             _ => CountStep::Wrong,
         },
         Count::OnlyComma => match kind {
@@ -94,7 +94,7 @@ pub(crate) fn count_step(count: Count, kind: Kind, number: Option<u32>) -> Count
             _ => CountStep::Wrong,
         },
         Count::High(high) => match kind {
-            Kind::CloseBrace => bounds(Some(0), high),
+            Kind::CloseBrace => bounded(Some(0), high),
             _ => CountStep::Wrong,
         },
     }

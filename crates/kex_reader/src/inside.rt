@@ -8,10 +8,10 @@ ghost use Rattle.kex_regexp.specs.Shown.{ShowsRegex};
 ghost use Rattle.kex_tokens.specs.Lexemes.{IsToken};
 ghost use Rattle.kex_tokens.specs.Values.{StandsFor};
 ghost use Rattle.kex_reader.specs.Checks.{Check, Matched, Nested};
-ghost use Rattle.kex_reader.specs.Reading.{After, Assigned, Assigning, BracketName, CountStep as SpecCountStep, Entry, Inside, Ready, after_atom, begin_pre, entries, first_part, goes, named as spec_named, next_part, on_bar, on_close, on_count, on_name, on_sign, put as spec_put, step_in as spec_step_in, take_seq, take_term};
-ghost use Rattle.kex_reader.specs.Shown.{IsName, IsNode, IsRegister, ShowsAtom, ShowsParts, high as high_of, low as low_of};
-ghost use Rattle.kex_reader.specs.Stands.{FramesShow, IsLeaf, Keeps, Noted, ShowsCountStep, ShowsMode, SomeAtom, SomeFrames, SomeInside, Stands, Steps, open_frames};
-ghost use Rattle.kex_reader.specs.Syntax.{Atom, Part as SpecPart, Postfix, Turns, Write as SpecWrite, atom, between, word};
+ghost use Rattle.kex_reader.specs.Reading.{After, Assigned, Assigning, BracketName, CountStep as SpecCountStep, Entry, Inside, Ready, after_atom, begin_pre, entries, first_part, goes, named as spec_named, next_part, on_bar, on_close, on_count, on_name, on_sign, put as spec_put, inside, step_in as spec_step_in, take_seq, take_term};
+ghost use Rattle.kex_reader.specs.Shown.{Made, IsName, IsNode, IsRegister, ShowsAtom, ShowsParts, high as high_of, low as low_of};
+ghost use Rattle.kex_reader.specs.Stands.{FramesShow, IsLeaf, Keeps, Noted, ShowsCountStep, ShowsMode, SomeAtom, SomeFrames, SomeInside, SomeName, Stands, Steps, open_frames};
+ghost use Rattle.kex_reader.specs.Syntax.{Atom, Part as SpecPart, Postfix, Turns, Write as SpecWrite, atom, between, word as word_of};
 
 use crate::counts::{Bounds, Count, CountStep, MOST, count_step};
 use crate::draft::Draft;
@@ -23,8 +23,8 @@ use kex_code::memory::Memory;
 use kex_code::piece::Bytes;
 use kex_model::program::Kind as NodeKind;
 use kex_regexp::breaks::Break;
-use kex_tokens::{literal_bytes, number_value};
 use kex_tokens::token::Kind;
+use kex_tokens::{literal_bytes, number_value};
 use std::alloc::Global;
 
 /// How deep parentheses and prefixes may nest.
@@ -79,13 +79,24 @@ fn literal<'t>(alloc: Global, draft: &mut Draft<'t>, word: Word<'t>) -> Result<W
     requires { IsToken Kind.Literal word.spelling.now }
     ensures keeps { OnOk result (Keeps draft.old draft.new) }
     ensures broken { OnOk result (draft.new.broken ≡ draft.old.broken) }
-    ensures wait { IfOk result (λ w. (n : ℕ) × (bytes : List ℕ) × (w ≡ Wait.After (record { node = n; at = word.at })) × IsNode draft.new n (NodeKind.Lit bytes) word.at × StandsFor word.spelling.now bytes) }
+    ensures wait { IfOk result (λ w. (n : ℕ) × (bytes : List ℕ) × (w ≡ Wait.After (record { node = n; at = word.entry.at })) × IsNode draft.new n (NodeKind.Lit bytes) word.entry.at × StandsFor word.entry.spelling.now bytes) }
     ensures fault { IfErr result (λ e. e ≡ StepFault.Memory) }
 {
     let Ok(bytes) = literal_bytes(alloc, word.spelling) else {
         return Err(StepFault::Memory);
     };
     leaf(draft, NodeKind::Lit(Bytes::new(bytes)), word.at)
+}
+
+// What stands between the slashes.
+fn between_slashes(spelling: &[u8]) -> &[u8]
+    requires { IsToken Kind.Regex spelling.now }
+    ensures bytes { result.now ≡ between spelling.now }
+    ensures short { length result.now + 2 ≤ length spelling.now }
+{
+    let (_, behind) = spelling.split_at(1);
+    let (body, _) = behind.split_at(spelling.len() - 2);
+    body
 }
 
 // A body.
@@ -98,15 +109,26 @@ fn body<'t>(
     requires token { IsToken Kind.Regex word.spelling.now }
     requires place { word.at + length word.spelling.now < 2 ^ 32 }
     ensures keeps { OnOk result (Keeps draft.old draft.new) }
-    ensures wait { IfOk result (λ w. (n : ℕ) × (w ≡ Wait.After (record { node = n; at = word.at })) × (n < length draft.new.nodes) × (draft.new.broken ≡ None → (r : Regex) × BodySpells r (between word.spelling.now) × ShowsRegex r draft.new.nodes n (word.at + 1))) }
-    ensures notes { OnOk result ((cs : List Check) → Noted cs draft.old.broken → Noted (cs ++ Matched (word.at + 1) depth (between word.spelling.now) ∷ []) draft.new.broken) }
+    ensures wait { IfOk result (λ w. (n : ℕ) × (w ≡ Wait.After (record { node = n; at = word.entry.at })) × (n < length draft.new.nodes) × (draft.new.broken ≡ None → (r : Regex) × BodySpells r (between word.entry.spelling.now) × ShowsRegex r draft.new.nodes n (word.entry.at + 1))) }
+    ensures notes { OnOk result ((cs : List Check) → Noted cs draft.old.broken → Noted (cs ++ Matched (word.entry.at + 1) depth (between word.entry.spelling.now) ∷ []) draft.new.broken) }
     ensures fault { IfErr result (λ e. e ≡ StepFault.Memory) }
 {
-    let bytes = &word.spelling[1..word.spelling.len() - 1];
+    let bytes = between_slashes(word.spelling);
     let Ok(node) = draft.body(alloc, bytes, word.at + 1, depth) else {
         return Err(StepFault::Memory);
     };
     Ok(Wait::After(Part { node, at: word.at }))
+}
+
+// Notes the limit where something opens that nests too deep.
+fn nest(draft: &mut Draft, depth: usize, at: u32)
+    ensures keeps { Keeps draft.old draft.new }
+    ensures notes { (cs : List Check) → Noted cs draft.old.broken → Noted (cs ++ Nested at depth ∷ []) draft.new.broken }
+{
+    if depth != DEEPEST {
+        return;
+    }
+    draft.note(Break::OverLimit { at });
 }
 
 // What stands open from here on, where it nests.
@@ -122,9 +144,7 @@ fn open<'t>(
     ensures notes { OnOk result ((cs : List Check) → Noted cs draft.old.broken → Noted (cs ++ Nested at (open_frames stack.old) ∷ []) draft.new.broken) }
     ensures fault { IfErr result (λ e. e ≡ StepFault.Memory) }
 {
-    if stack.depth() == DEEPEST {
-        draft.note(Break::OverLimit { at });
-    }
+    nest(draft, stack.depth(), at);
     let Ok(()) = stack.push(frame) else {
         return Err(StepFault::Memory);
     };
@@ -184,7 +204,7 @@ fn begin<'t>(
     requires token { IsToken word.kind word.spelling.now }
     requires place { word.at + length word.spelling.now < 2 ^ 32 }
     ensures keeps { OnOk result (Keeps draft.old draft.new) }
-    ensures step { (at : ℕ → ℕ) (base : ℕ) (es : List Entry) → FramesShow draft.old at base stack.old es → word.at ≡ at (base + length (entries es)) → Steps draft.new at base stack.new result (begin_pre free es (word word.kind word.spelling.now)) }
+    ensures step { (at : ℕ → ℕ) (base : ℕ) (es : List Entry) → FramesShow draft.old at base stack.old es → word.entry.at ≡ at (base + length (entries es)) → Steps draft.new at base stack.new result (begin_pre free es (word_of word.entry.kind word.entry.spelling.now)) }
 {
     match word.kind {
         Kind::Name => Ok(Wait::Named(
@@ -233,7 +253,7 @@ fn turns<'t>(
     bounds: Bounds,
 ) -> Result<Wait<'t>, StepFault>
     requires atom { SomeAtom draft.old stack.old item }
-    requires count { IsCount bounds.low bounds.high }
+    requires count { (p : Postfix) × (bounds.low ≡ low_of p) × (bounds.high ≡ high_of p) × IsCount bounds.low bounds.high }
     ensures keeps { OnOk result (Keeps draft.old draft.new) }
     ensures broken { OnOk result (draft.new.broken ≡ draft.old.broken) }
     ensures step { (at : ℕ → ℕ) (base : ℕ) (es : List Entry) (a : Atom) (p : Postfix) → FramesShow draft.old at base stack.old es → item.at ≡ at (base + length (entries es)) → ShowsAtom a draft.old at item.node (base + length (entries es)) → bounds.low ≡ low_of p → bounds.high ≡ high_of p → Steps draft.new at base stack.new result (goes Ready (spec_put (Turns a p) es)) }
@@ -266,7 +286,7 @@ fn behind<'t>(
     requires token { IsToken word.kind word.spelling.now }
     requires place { word.at + length word.spelling.now < 2 ^ 32 }
     ensures keeps { OnOk result (Keeps draft.old draft.new) }
-    ensures step { (at : ℕ → ℕ) (base : ℕ) (es : List Entry) (a : Atom) → FramesShow draft.old at base stack.old es → item.at ≡ at (base + length (entries es)) → word.at ≡ at (base + length (entries es) + length (atom a)) → ShowsAtom a draft.old at item.node (base + length (entries es)) → Steps draft.new at base stack.new result (after_atom a es (word word.kind word.spelling.now)) }
+    ensures step { (at : ℕ → ℕ) (base : ℕ) (es : List Entry) (a : Atom) → FramesShow draft.old at base stack.old es → item.at ≡ at (base + length (entries es)) → word.entry.at ≡ at (base + length (entries es) + length (atom a)) → ShowsAtom a draft.old at item.node (base + length (entries es)) → Steps draft.new at base stack.new result (after_atom a es (word_of word.entry.kind word.entry.spelling.now)) }
 {
     match word.kind {
         Kind::Star => turns(stack, draft, item, Bounds { low: 0, high: None }),
@@ -298,11 +318,11 @@ fn named<'t>(
     name: Name<'t>,
     word: Word<'t>,
 ) -> Result<Wait<'t>, StepFault>
-    requires frames { SomeFrames draft.old stack.old }
+    requires frames { SomeName draft.old stack.old name.at }
     requires token { IsToken word.kind word.spelling.now }
     requires place { word.at + length word.spelling.now < 2 ^ 32 }
     ensures keeps { OnOk result (Keeps draft.old draft.new) }
-    ensures step { (at : ℕ → ℕ) (base : ℕ) (es : List Entry) → FramesShow draft.old at base stack.old es → name.at ≡ at (base + length (entries es)) → word.at ≡ at (base + length (entries es) + 1) → Steps draft.new at base stack.new result (spec_named name.bytes.now es (word word.kind word.spelling.now)) }
+    ensures step { (at : ℕ → ℕ) (base : ℕ) (es : List Entry) → FramesShow draft.old at base stack.old es → name.entry.at ≡ at (base + length (entries es)) → word.entry.at ≡ at (base + length (entries es) + 1) → Steps draft.new at base stack.new result (spec_named name.entry.bytes.now es (word_of word.entry.kind word.entry.spelling.now)) }
 {
     match word.kind {
         Kind::At => {
@@ -329,8 +349,8 @@ fn named<'t>(
 pub(crate) fn call<'t>(draft: &mut Draft<'t>, name: Name<'t>) -> Result<Part, Memory>
     ensures keeps { OnOk result (Keeps draft.old draft.new) }
     ensures broken { OnOk result (draft.new.broken ≡ draft.old.broken) }
-    ensures node { IfOk result (λ p. (k : ℕ) × IsNode draft.new p.node (NodeKind.Call k) name.at × IsName draft.new k name.bytes.now) }
-    ensures place { IfOk result (λ p. p.at ≡ name.at) }
+    ensures node { IfOk result (λ p. (k : ℕ) × IsNode draft.new p.node (NodeKind.Call k) name.entry.at × IsName draft.new k name.entry.bytes.now) }
+    ensures place { IfOk result (λ p. p.at ≡ name.entry.at) }
 {
     let Ok(number) = draft.name(name.bytes) else {
         return Err(Memory);
@@ -345,7 +365,7 @@ pub(crate) fn call<'t>(draft: &mut Draft<'t>, name: Name<'t>) -> Result<Part, Me
 fn write<'t>(draft: &mut Draft<'t>, at: u32, word: Word<'t>) -> Result<Wait<'t>, StepFault>
     ensures keeps { OnOk result (Keeps draft.old draft.new) }
     ensures broken { OnOk result (draft.new.broken ≡ draft.old.broken) }
-    ensures step { (place : ℕ → ℕ) (base : ℕ) (fs : List Frame) (es : List Entry) → FramesShow draft.old place base fs es → at ≡ place (base + length (entries es)) → Steps draft.new place base fs result (on_name (λ n. goes (After (SpecWrite n)) es) (word word.kind word.spelling.now)) }
+    ensures step { (place : ℕ → ℕ) (base : ℕ) (fs : List Frame) (es : List Entry) → FramesShow draft.old place base fs es → at ≡ place (base + length (entries es)) → Steps draft.new place base fs result (on_name (λ n. goes (After (SpecWrite n)) es) (word_of word.entry.kind word.entry.spelling.now)) }
 {
     let Kind::Name = word.kind else {
         return Err(StepFault::Wrong);
@@ -360,7 +380,7 @@ fn write<'t>(draft: &mut Draft<'t>, at: u32, word: Word<'t>) -> Result<Wait<'t>,
 fn bracket<'t>(draft: &mut Draft<'t>, at: u32, word: Word<'t>) -> Result<Wait<'t>, StepFault>
     ensures keeps { OnOk result (Keeps draft.old draft.new) }
     ensures broken { OnOk result (draft.new.broken ≡ draft.old.broken) }
-    ensures step { (place : ℕ → ℕ) (base : ℕ) (fs : List Frame) (es : List Entry) → FramesShow draft.old place base fs es → at ≡ place (base + length (entries es)) → Steps draft.new place base fs result (on_name (λ n. goes (BracketName n) es) (word word.kind word.spelling.now)) }
+    ensures step { (place : ℕ → ℕ) (base : ℕ) (fs : List Frame) (es : List Entry) → FramesShow draft.old place base fs es → at ≡ place (base + length (entries es)) → Steps draft.new place base fs result (on_name (λ n. goes (BracketName n) es) (word_of word.entry.kind word.entry.spelling.now)) }
 {
     let Kind::Name = word.kind else {
         return Err(StepFault::Wrong);
@@ -372,7 +392,9 @@ fn bracket<'t>(draft: &mut Draft<'t>, at: u32, word: Word<'t>) -> Result<Wait<'t
 }
 
 // The sign behind a register.
-fn sign<'t>(alloc: Global, at: u32, register: u32, kind: Kind) -> Result<Wait<'t>, StepFault> {
+fn sign<'t>(alloc: Global, at: u32, register: u32, kind: Kind) -> Result<Wait<'t>, StepFault>
+    ensures step { (made : Made) (place : ℕ → ℕ) (base : ℕ) (fs : List Frame) (es : List Entry) (r : List ℕ) (b : List ℕ) → FramesShow made place base fs es → at ≡ place (base + length (entries es)) → IsRegister made register r → Steps made place base fs result (on_sign r es (word_of kind b)) }
+{
     match kind {
         Kind::Arrow => Ok(Wait::Assigning(Assignment {
             at,
@@ -396,7 +418,13 @@ fn part<'t>(
     draft: &mut Draft<'t>,
     mut assignment: Assignment,
     word: Word<'t>,
-) -> Result<Wait<'t>, StepFault> {
+) -> Result<Wait<'t>, StepFault>
+    requires token { IsToken word.kind word.spelling.now }
+    ensures keeps { OnOk result (Keeps draft.old draft.new) }
+    ensures broken { OnOk result (draft.new.broken ≡ draft.old.broken) }
+    ensures first { (place : ℕ → ℕ) (base : ℕ) (fs : List Frame) (es : List Entry) (append : Bool) (r : List ℕ) → FramesShow draft.old place base fs es → ShowsMode draft.old place (base + length (entries es)) (Wait.Assigning assignment) (Assigning append r) → Steps draft.new place base fs result (first_part append r es (word_of word.entry.kind word.entry.spelling.now)) }
+    ensures next { (place : ℕ → ℕ) (base : ℕ) (fs : List Frame) (es : List Entry) (append : Bool) (r : List ℕ) (p : SpecPart) (ps : List SpecPart) → (word.entry.kind ≡ Kind.CloseBracket → ⊥) → FramesShow draft.old place base fs es → ShowsMode draft.old place (base + length (entries es)) (Wait.Assigned assignment) (Assigned append r p ps) → Steps draft.new place base fs result (next_part append r p ps es (word_of word.entry.kind word.entry.spelling.now)) }
+{
     let Ok(read) = piece(alloc, draft, word) else {
         return Err(StepFault::Memory);
     };
@@ -415,7 +443,13 @@ fn behind_part<'t>(
     draft: &mut Draft<'t>,
     assignment: Assignment,
     word: Word<'t>,
-) -> Result<Wait<'t>, StepFault> {
+) -> Result<Wait<'t>, StepFault>
+    requires some { (place : ℕ → ℕ) × (i : ℕ) × (append : Bool) × (r : List ℕ) × (p : SpecPart) × (ps : List SpecPart) × ShowsMode draft.old place i (Wait.Assigned assignment) (Assigned append r p ps) }
+    requires token { IsToken word.kind word.spelling.now }
+    ensures keeps { OnOk result (Keeps draft.old draft.new) }
+    ensures broken { OnOk result (draft.new.broken ≡ draft.old.broken) }
+    ensures step { (place : ℕ → ℕ) (base : ℕ) (fs : List Frame) (es : List Entry) (append : Bool) (r : List ℕ) (p : SpecPart) (ps : List SpecPart) → FramesShow draft.old place base fs es → ShowsMode draft.old place (base + length (entries es)) (Wait.Assigned assignment) (Assigned append r p ps) → Steps draft.new place base fs result (next_part append r p ps es (word_of word.entry.kind word.entry.spelling.now)) }
+{
     match word.kind {
         Kind::CloseBracket => {
             let at = assignment.at;
@@ -432,7 +466,12 @@ fn counted<'t>(
     item: Part,
     brace: u32,
     step: CountStep,
-) -> Result<Wait<'t>, StepFault> {
+) -> Result<Wait<'t>, StepFault>
+    requires atom { SomeAtom draft.old stack.old item }
+    requires count { (t : SpecCountStep) × ShowsCountStep step t }
+    ensures keeps { OnOk result (Keeps draft.old draft.new) }
+    ensures step { (at : ℕ → ℕ) (base : ℕ) (es : List Entry) (a : Atom) (t : SpecCountStep) → FramesShow draft.old at base stack.old es → item.at ≡ at (base + length (entries es)) → brace ≡ at (base + length (entries es) + length (atom a)) → ShowsAtom a draft.old at item.node (base + length (entries es)) → ShowsCountStep step t → Steps draft.new at base stack.new result (on_count a es t) }
+{
     match step {
         CountStep::On(count) => Ok(Wait::InCount(item, count, brace)),
         CountStep::Read(bounds) => turns(stack, draft, item, bounds),
@@ -454,7 +493,13 @@ pub(crate) fn step_in<'t>(
     draft: &mut Draft<'t>,
     wait: Wait<'t>,
     word: Word<'t>,
-) -> Result<Wait<'t>, StepFault> {
+) -> Result<Wait<'t>, StepFault>
+    requires inside { SomeInside draft.old stack.old wait }
+    requires token { IsToken word.kind word.spelling.now }
+    requires place { word.at + length word.spelling.now < 2 ^ 32 }
+    ensures keeps { OnOk result (Keeps draft.old draft.new) }
+    ensures step { (at : ℕ → ℕ) (base : ℕ) (i : Inside) → Stands draft.old at base stack.old wait.entry i → word.entry.at ≡ at (base + length (inside i)) → Steps draft.new at base stack.new result (spec_step_in i.mode i.entries (word_of word.entry.kind word.entry.spelling.now)) }
+{
     match wait {
         Wait::Need => begin(alloc, stack, draft, false, word),
         Wait::Ready => begin(alloc, stack, draft, true, word),

@@ -7,7 +7,8 @@ use Rattle.kex_reader.specs.Reading.{take_seq, take_term, entries, put, goes, Af
 use Rattle.kex_reader.specs.Shown.{IsNode}
 use Rattle.kex_reader.proofs.Drafting.{Keeps-refl, Keeps-trans, atom_within, atom_more}
 use Rattle.kex_reader.proofs.Stacks.{frames_more}
-use Rattle.kex_reader.proofs.Stepping.{to, memory, wrong, stood, need, ready, after, named_waits, writing, bracket, bracket_name, count_opens, one_shows, call_shows, lit_shows, write_shows, match_shows, begin_kind, begin_other, begin_name, begin_literal, begin_regex, begin_tilde, begin_bang, begin_bracket, begin_paren, begin_bar, no_bar, begin_close, no_close, begin_one, begin_number, bar_steps, bar_wrong, close_wrong, close_steps, unclosed, after_kind, after_other, after_star, after_plus, after_question, after_brace, once_shows, turns_show, put_place, named_kind, named_other, named_at, named_define, call_ends, name_other, name_is, atom_steps, tilde_steps, paren_steps, storing_steps, atom_of, literal_of, match_of}
+use Rattle.kex_reader.proofs.Stepping.{to, memory, wrong, stood, need, ready, after, named_waits, writing, bracket, bracket_name, count_opens, one_shows, call_shows, lit_shows, write_shows, match_shows, begin_kind, begin_other, begin_name, begin_literal, begin_regex, begin_tilde, begin_bang, begin_bracket, begin_paren, begin_bar, no_bar, begin_close, no_close, begin_one, begin_number, bar_steps, bar_wrong, close_wrong, close_steps, unclosed, after_kind, after_other, after_star, after_plus, after_question, after_brace, once_shows, turns_show, put_place, named_kind, named_other, named_at, named_define, call_ends, name_other, name_is, atom_steps, tilde_steps, paren_steps, storing_steps, atom_of, literal_of, match_of, star_low, star_high, plus_low, plus_high, optional_low, optional_high}
+use Rattle.std.specs.Prelude.{bytes_eq}
 use Rattle.kex_reader.proofs.inside.begin.Goals as goal
 
 pub returns-in-Name-clause-step : goal.returns-in-Name-clause-step
@@ -31,14 +32,24 @@ returns-in-OpenBracket-clause-step c = λ at base es h a. to _ at base _ _ _ _ (
 pub returns-in-OpenParen-clause-step : goal.returns-in-OpenParen-clause-step
 returns-in-OpenParen-clause-step c = λ at base es h a. to _ at base _ _ _ _ (begin_kind c.args.free es c.args.word.spelling.now c.args.word.kind kinds.OpenParen _ c.in-OpenParen.is (begin_paren c.args.free es)) (paren_steps c.args.draft.now c.open-in-OpenParen.new.draft at base c.args.stack.now c.open-in-OpenParen.new.stack es _ _ c.open-in-OpenParen.ensures.keeps c.open-in-OpenParen.ensures.pushed c.open-in-OpenParen.ensures.wait c.open-in-OpenParen.ensures.fault h a)
 
-pub returns-in-Bar-then-free-clause-step : goal.returns-in-Bar-then-free-clause-step
-returns-in-Bar-then-free-clause-step c = λ at base es h a. to _ at base _ _ _ _ (begin_kind c.args.free es c.args.word.spelling.now c.args.word.kind kinds.Bar _ c.in-Bar.is (begin_bar c.args.free es c.if-free.true)) (c.bar.ensures.step at base es h)
+pub returns-then-free-clause-step : goal.returns-then-free-clause-step
+returns-then-free-clause-step c = λ at base es h a. to _ at base _ _ _ _ (begin_kind c.args.free es c.args.word.spelling.now c.args.word.kind kinds.Bar _ c.in-Bar.is (begin_bar c.args.free es c.if-free.true)) (c.bar.ensures.step at base es h)
 
-pub returns-in-Bar-else-free-clause-step : goal.returns-in-Bar-else-free-clause-step
-returns-in-Bar-else-free-clause-step c = λ at base es h a. to _ at base _ _ _ _ (begin_kind c.args.free es c.args.word.spelling.now c.args.word.kind kinds.Bar _ c.in-Bar.is (no_bar c.args.free es c.if-free.false)) (wrong c.args.draft.now at base c.args.stack.now)
+pub returns-else-free-clause-step : goal.returns-else-free-clause-step
+returns-else-free-clause-step c = λ at base es h a. to _ at base _ _ _ _ (begin_kind c.args.free es c.args.word.spelling.now c.args.word.kind kinds.Bar _ c.in-Bar.is (no_bar c.args.free es c.if-free.false)) (wrong c.args.draft.now at base c.args.stack.now)
 
-pub returns-in-CloseParen-then-free-clause-step : goal.returns-in-CloseParen-then-free-clause-step
-returns-in-CloseParen-then-free-clause-step c = λ at base es h a. to _ at base _ _ _ _ (begin_kind c.args.free es c.args.word.spelling.now c.args.word.kind kinds.CloseParen _ c.in-CloseParen.is (begin_close c.args.free es c.if-free.true)) (c.close.ensures.step at base es h)
+pub returns-then-free-2-clause-step : goal.returns-then-free-2-clause-step
+returns-then-free-2-clause-step c = λ at base es h a. to _ at base _ _ _ _ (begin_kind c.args.free es c.args.word.spelling.now c.args.word.kind kinds.CloseParen _ c.in-CloseParen.is (begin_close c.args.free es c.if-free-2.true)) (c.close.ensures.step at base es h)
 
-pub returns-in-CloseParen-else-free-clause-step : goal.returns-in-CloseParen-else-free-clause-step
-returns-in-CloseParen-else-free-clause-step c = λ at base es h a. to _ at base _ _ _ _ (begin_kind c.args.free es c.args.word.spelling.now c.args.word.kind kinds.CloseParen _ c.in-CloseParen.is (no_close c.args.free es c.if-free.false)) (wrong c.args.draft.now at base c.args.stack.now)
+pub returns-else-free-2-clause-step : goal.returns-else-free-2-clause-step
+returns-else-free-2-clause-step c = λ at base es h a. to _ at base _ _ _ _ (begin_kind c.args.free es c.args.word.spelling.now c.args.word.kind kinds.CloseParen _ c.in-CloseParen.is (no_close c.args.free es c.if-free-2.false)) (wrong c.args.draft.now at base c.args.stack.now)
+
+pub returns-then-eq-clause-step : goal.returns-then-eq-clause-step
+returns-then-eq-clause-step c = λ at base es h a. to _ at base _ _ _ _ (begin_kind c.args.free es c.args.word.spelling.now c.args.word.kind kinds.Number _ c.in-Number.is (begin_one c.args.free es c.args.word.spelling.now (ap (bytes_eq c.args.word.spelling.now) (sym c.as_slice.ensures) ∙ sym c.eq.ensures ∙ c.if-eq.true)))
+    (atom_steps c.args.draft.now c.leaf.new.draft at base c.args.stack.now c.args.stack.now es _ One _ c.leaf.ensures.keeps (atom_of c.leaf.new.draft at _ _ One (λ n. IsNode c.leaf.new.draft n nodes.One c.args.word.at) _ (λ n q. one_shows c.leaf.new.draft at n _ _ a q) c.leaf.ensures.wait) c.leaf.ensures.fault h a)
+
+pub returns-else-eq-clause-step : goal.returns-else-eq-clause-step
+returns-else-eq-clause-step c = λ at base es h a. to _ at base _ _ _ _ (begin_kind c.args.free es c.args.word.spelling.now c.args.word.kind kinds.Number _ c.in-Number.is (begin_number c.args.free es c.args.word.spelling.now (ap (bytes_eq c.args.word.spelling.now) (sym c.as_slice.ensures) ∙ sym c.eq.ensures ∙ c.if-eq.false))) (wrong c.args.draft.now at base c.args.stack.now)
+
+pub returns-in_default : goal.returns-in_default
+returns-in_default c = record { keeps = tt; step = λ at base es h a. to _ at base _ _ _ _ (begin_other c.args.free es c.args.word.spelling.now c.args.word.kind c.in_default.not-Name c.in_default.not-Number c.in_default.not-Literal c.in_default.not-Regex c.in_default.not-Tilde c.in_default.not-Bang c.in_default.not-OpenBracket c.in_default.not-OpenParen c.in_default.not-Bar c.in_default.not-CloseParen) (wrong c.args.draft.now at base c.args.stack.now) }

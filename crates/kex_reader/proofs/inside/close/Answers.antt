@@ -7,7 +7,7 @@ use Rattle.kex_reader.specs.Reading.{take_seq, take_term, entries, put, goes, Af
 use Rattle.kex_reader.specs.Shown.{IsNode}
 use Rattle.kex_reader.proofs.Drafting.{Keeps-refl, Keeps-trans, atom_within, atom_more}
 use Rattle.kex_reader.proofs.Stacks.{frames_more}
-use Rattle.kex_reader.proofs.Stepping.{to, memory, wrong, stood, need, ready, after, named_waits, writing, bracket, bracket_name, count_opens, one_shows, call_shows, lit_shows, write_shows, match_shows, begin_kind, begin_other, begin_name, begin_literal, begin_regex, begin_tilde, begin_bang, begin_bracket, begin_paren, begin_bar, no_bar, begin_close, no_close, begin_one, begin_number, bar_steps, bar_wrong, close_wrong, close_steps, unclosed, after_kind, after_other, after_star, after_plus, after_question, after_brace, once_shows, turns_show, put_place, named_kind, named_other, named_at, named_define, call_ends, name_other, name_is, atom_steps, tilde_steps, paren_steps, storing_steps, atom_of, literal_of, match_of}
+use Rattle.kex_reader.proofs.Stepping.{to, memory, wrong, stood, need, ready, after, named_waits, writing, bracket, bracket_name, count_opens, one_shows, call_shows, lit_shows, write_shows, match_shows, begin_kind, begin_other, begin_name, begin_literal, begin_regex, begin_tilde, begin_bang, begin_bracket, begin_paren, begin_bar, no_bar, begin_close, no_close, begin_one, begin_number, bar_steps, bar_wrong, close_wrong, close_steps, unclosed, after_kind, after_other, after_star, after_plus, after_question, after_brace, once_shows, turns_show, put_place, named_kind, named_other, named_at, named_define, call_ends, name_other, name_is, atom_steps, tilde_steps, paren_steps, storing_steps, atom_of, literal_of, match_of, star_low, star_high, plus_low, plus_high, optional_low, optional_high}
 use Rattle.kex_reader.proofs.inside.close.Goals as goal
 
 pub returns-in_default-clause-step : goal.returns-in_default-clause-step
