@@ -6,7 +6,11 @@ use Rattle.kex_model.specs.Programs.{Grammar}
 use Rattle.kex_model.specs.declared.program.Definition.{Definition as Root}
 use Rattle.kex_model.specs.declared.program.Start.{Start}
 use Rattle.kex_tokens.specs.declared.token.Token.{Token}
+use Rattle.kex_tokens.specs.declared.token.TokenFault.{TokenFault}
+use Rattle.kex_tokens.specs.declared.token.TokenFault.TheVariants as tokens
 use Rattle.kex_tokens.specs.declared.token.TheConstants.{MAX_TEXT}
+use Rattle.kex_reader.specs.declared.inside.StepFault.{StepFault}
+use Rattle.kex_reader.specs.declared.inside.StepFault.TheVariants as steps
 use Rattle.kex_tokens.specs.Texts.{AreTokens, IsBadToken}
 use Rattle.kex_regexp.specs.declared.breaks.Break.{Break}
 use Rattle.kex_regexp.specs.declared.breaks.Break.TheVariants.{BadRegex, BadCount, BadSet, OverLimit}
@@ -60,6 +64,22 @@ IsUnexpected text at = (ts : List Token) × (k : ℕ) × AreTokens text ts × Is
 -- the tokens are a program's, and this is the least limit that it breaks
 abbrev pub BreaksLimit : List ℕ → Break → Type 0
 BreaksLimit text b = (ts : List Token) × (tree : Program) × AreTokens text ts × (program tree ≡ words text ts) × IsLeastBreak (program_checks tree (offset text ts)) b
+
+-- the refusals for what the parts answer
+abbrev pub of_token : TokenFault → ReadRefusal
+of_token tokens.TextTooLong = refusals.TextTooLong
+of_token (tokens.BadToken at) = refusals.BadToken at
+of_token tokens.Memory = refusals.Memory
+
+abbrev pub of_limit : Break → ReadRefusal
+of_limit (BadRegex at) = refusals.BadRegex at
+of_limit (BadCount at) = refusals.BadCount at
+of_limit (BadSet at) = refusals.BadSet at
+of_limit (OverLimit at) = refusals.OverLimit at
+
+abbrev pub of_step : StepFault → ℕ → ReadRefusal
+of_step steps.Memory at = refusals.Memory
+of_step steps.Wrong at = refusals.Unexpected at
 
 -- why a text is refused: each cause where those before it aren't
 abbrev pub IsRefusedAs : List ℕ → ReadRefusal → Type 0

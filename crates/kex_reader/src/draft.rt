@@ -1,7 +1,7 @@
 // What is made of a text.
 
 ghost use Rattle.std.specs.Prelude.{◌≡◌, ℕ, ◌+◌, ◌<◌, ◌^◌, ◌++◌, ◌∷◌, [], List, length, None, Some, IfOk, IfSome, IfNone, OnOk};
-ghost use Rattle.kex_code.specs.Codes.{Different};
+ghost use Rattle.kex_code.specs.Codes.{Different, IsAmong};
 ghost use Rattle.kex_model.specs.Programs.{Grammar, HasBelow, HasNames, IsInRange};
 ghost use Rattle.kex_regexp.specs.Bodies.{Spells, fault_of};
 ghost use Rattle.kex_regexp.specs.Grammar.{Regex};
@@ -178,7 +178,9 @@ impl<'t> Draft<'t> {
         definitions: Vec<Definition>,
         stages: Vec<Start>,
     ) -> Result<Program, Memory>
-        requires { IsInRange self.nodes names.items definitions.items stages.items (length self.registers) }
+        requires same { names.items ≡ self.names }
+        requires defined { (d : Definition) → IsAmong definitions.items d → (d.name < length self.names) × (d.root < length self.nodes) }
+        requires started { (s : Start) → IsAmong stages.items s → s.name < length self.names }
         ensures made { IfOk result (λ P. P ≡ record { nodes = self.entry.nodes; names = names.items; definitions = definitions.items; stages = stages.items; registers = length self.entry.registers }) }
         ensures different { Different self.entry.registers }
     {

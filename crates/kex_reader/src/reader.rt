@@ -227,11 +227,12 @@ impl<'t> Reader<'t> {
         ensures ends { (at : ℕ → ℕ) (h : Header) (done : List SpecDefinition) (name : List ℕ) (i : Inside) → ShowsState self.old.draft at self.old.stack self.old.definitions.items self.old.stages.items (Phase.Within head wait.entry) (Within h done name i) → Finishes self.new.draft at self.new.definitions.items self.new.stages.items result (spec_finish_within h done name i.mode i.entries) }
     {
         match wait {
-            Wait::Ready => self.end(head),
-            Wait::After(item) => self.end_with(head, item),
-            Wait::Named(_, name) => self.end_call(head, name),
-            _ => Err(StepFault::Wrong),
+            Wait::Ready => return self.end(head),
+            Wait::After(item) => return self.end_with(head, item),
+            Wait::Named(_, name) => return self.end_call(head, name),
+            _ => {}
         }
+        Err(StepFault::Wrong)
     }
 
     // The last definition ends with this call.

@@ -55,8 +55,8 @@ returns-in-Named c = record {
       (finish_of c.args.self.now.draft n.draft at n.stack c.args.self.now.definitions.items n.definitions.items c.args.self.now.stages.items n.stages.items c.args.head h done name c.end_call.result _ q.0 q.1 q.2 q.3 c.end_call.ensures.keeps c.end_call.ensures.stages (c.end_call.ensures.ends at base i.entries q.4.below m.1));
 }
 
-pub returns-in_default : goal.returns-in_default
-returns-in_default c = record {
+pub returns : goal.returns
+returns c = record {
   ends = λ at h done name i st.
       let q = within_parts c.args.self.now.draft at c.args.self.now.stack c.args.self.now.definitions.items c.args.self.now.stages.items c.args.head c.args.wait h done name i st in
       to_finish c.args.self.now.draft at c.args.self.now.definitions.items c.args.self.now.stages.items _ _ _ (finish_other c.args.self.now.draft at _ c.args.wait i.mode h done name i.entries c.in_default.not-Ready c.in_default.not-After c.in_default.not-Named q.4.mode) (finish_wrong c.args.self.now.draft at c.args.self.now.definitions.items c.args.self.now.stages.items);
