@@ -1,0 +1,5 @@
+pub mod Sound
+pub mod Complete
+pub mod Viable
+pub mod Wrong
+pub mod Adding
