@@ -64,7 +64,9 @@ pub(crate) struct Reader<'t> {
 }
 
 impl<'t> Reader<'t> {
-    pub(crate) fn new(alloc: Global) -> Reader<'t> {
+    pub(crate) fn new(alloc: Global) -> Reader<'t>
+        ensures { (result.stack ≡ []) × (result.definitions.items ≡ []) × (result.stages.items ≡ []) × (result.draft.broken ≡ None) }
+    {
         Reader {
             alloc,
             stack: Stack::new(alloc),
