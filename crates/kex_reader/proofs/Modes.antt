@@ -27,9 +27,12 @@ use Rattle.kex_reader.specs.Syntax.{Word, Name, Literal, word, Part, Text, Held,
 use Rattle.kex_reader.specs.Reading.{Entry, Mode, Need, Ready, After, Named, Writing, Bracket, BracketName, Assigning, Assigned, InCount, Inside, Counting, CountStep, CountOn, CountRead, CountWrong, put, goes, begin_pre, after_atom, named, on_name, on_sign, first_part, next_part, count_step, on_count, step_in, inside, mode, entries}
 use Rattle.kex_reader.specs.Checks.{is_bad_count}
 use Rattle.kex_reader.specs.Shown.{Made, IsNode, IsRegister, ShowsPre, ShowsAtom, ShowsPart, ShowsParts, assigned, low, high}
-use Rattle.kex_reader.specs.Stands.{Keeps, FramesShow, IsLeaf, PieceShows, part_of, ShowsMode, ShowsCount, ShowsCountStep, SomeAtom, SomeFrames, SomeInside, SomeName, Stands, Steps}
+use Rattle.kex_reader.specs.Stands.{Keeps, Noted, count_asks, FramesShow, IsLeaf, PieceShows, part_of, ShowsMode, ShowsCount, ShowsCountStep, SomeAtom, SomeFrames, SomeInside, SomeName, Stands, Steps}
 use Rattle.kex_reader.proofs.Drafting.{parts_more, part_more}
 use Rattle.kex_reader.proofs.Stacks.{frames_more}
+use Rattle.kex_reader.proofs.Kept.{same}
+use Rattle.kex_reader.specs.Checks.{Check}
+use Rattle.kex_regexp.specs.declared.breaks.Break.{Break}
 use Rattle.kex_reader.proofs.Stepping.{to, memory, wrong, stood, write_shows}
 
 -- ---- nodes
@@ -379,3 +382,9 @@ pub some_name : (made : Made) (fs : List Frame) (wait : Wait) (f : Bool) (n : Na
 some_name made fs wait f n e s =
     let m = mode_named made s.0 (s.1 + length (entries s.2.entries)) f n s.2.mode (subst (λ (w : Wait). ShowsMode made s.0 (s.1 + length (entries s.2.entries)) w s.2.mode) e s.3.mode) in
     (s.0, s.1, s.2.entries, s.3.below, m.1)
+
+pub count_on_notes : (from : ℕ) (t : CountStep) (c : Count) → ShowsCountStep (steps.On c) t → (cs : List Check) (o : Option Break) → Noted cs o → Noted (cs ++ count_asks from t) o
+unfolding ShowsCountStep count_asks
+count_on_notes from (CountOn d) c k cs o n = same cs o n
+count_on_notes from (CountRead p) c k cs o n = absurd k
+count_on_notes from CountWrong c k cs o n = absurd k

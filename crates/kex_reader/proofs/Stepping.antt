@@ -401,3 +401,6 @@ optional_low = refl
 pub optional_high : Some 1 ≡ high Optional
 unfolding high
 optional_high = refl
+
+pub put_index : (base : ℕ) (x : Atom) (es : List Entry) → base + length (entries (put (Once x) es)) ≡ base + length (entries es) + length (atom x)
+put_index base x es = omega (arith, put_ends x es)

@@ -10,7 +10,7 @@ ghost use Rattle.kex_tokens.specs.Values.{StandsFor};
 ghost use Rattle.kex_reader.specs.Checks.{Check, Matched, Nested};
 ghost use Rattle.kex_reader.specs.Reading.{After, Assigned, Assigning, BracketName, CountStep as SpecCountStep, Entry, Inside, Ready, after_atom, begin_pre, entries, first_part, goes, named as spec_named, next_part, on_bar, on_close, on_count, on_name, on_sign, put as spec_put, inside, step_in as spec_step_in, take_seq, take_term};
 ghost use Rattle.kex_reader.specs.Shown.{Made, IsName, IsNode, IsRegister, ShowsAtom, ShowsParts, high as high_of, low as low_of};
-ghost use Rattle.kex_reader.specs.Stands.{FramesShow, IsLeaf, Keeps, Noted, ShowsCountStep, ShowsMode, SomeAtom, SomeFrames, SomeInside, SomeName, Stands, Steps, open_frames};
+ghost use Rattle.kex_reader.specs.Stands.{FramesShow, IsLeaf, Keeps, Noted, ShowsCountStep, ShowsMode, SomeAtom, SomeFrames, SomeInside, SomeName, Stands, Steps, after_asks, asks, begin_asks, count_asks, named_asks, open_frames};
 ghost use Rattle.kex_reader.specs.Syntax.{Atom, Part as SpecPart, Postfix, Turns, Write as SpecWrite, atom, between, word as word_of};
 
 use crate::counts::{Bounds, Count, CountStep, MOST, count_step};
@@ -205,6 +205,7 @@ fn begin<'t>(
     requires place { word.at + length word.spelling.now < 2 ^ 32 }
     ensures keeps { OnOk result (Keeps draft.old draft.new) }
     ensures step { (at : ℕ → ℕ) (base : ℕ) (es : List Entry) → FramesShow draft.old at base stack.old es → word.entry.at ≡ at (base + length (entries es)) → Steps draft.new at base stack.new result (begin_pre free es (word_of word.entry.kind word.entry.spelling.now)) }
+    ensures notes { (at : ℕ → ℕ) (base : ℕ) (es : List Entry) → FramesShow draft.old at base stack.old es → word.entry.at ≡ at (base + length (entries es)) → (cs : List Check) → Noted cs draft.old.broken → OnOk result (Noted (cs ++ begin_asks at (base + length (entries es)) es (word_of word.entry.kind word.entry.spelling.now)) draft.new.broken) }
 {
     match word.kind {
         Kind::Name => Ok(Wait::Named(
@@ -287,6 +288,7 @@ fn behind<'t>(
     requires place { word.at + length word.spelling.now < 2 ^ 32 }
     ensures keeps { OnOk result (Keeps draft.old draft.new) }
     ensures step { (at : ℕ → ℕ) (base : ℕ) (es : List Entry) (a : Atom) → FramesShow draft.old at base stack.old es → item.at ≡ at (base + length (entries es)) → word.entry.at ≡ at (base + length (entries es) + length (atom a)) → ShowsAtom a draft.old at item.node (base + length (entries es)) → Steps draft.new at base stack.new result (after_atom a es (word_of word.entry.kind word.entry.spelling.now)) }
+    ensures notes { (at : ℕ → ℕ) (base : ℕ) (es : List Entry) (a : Atom) → FramesShow draft.old at base stack.old es → item.at ≡ at (base + length (entries es)) → word.entry.at ≡ at (base + length (entries es) + length (atom a)) → ShowsAtom a draft.old at item.node (base + length (entries es)) → (cs : List Check) → Noted cs draft.old.broken → OnOk result (Noted (cs ++ after_asks at (base + length (entries es) + length (atom a)) a es (word_of word.entry.kind word.entry.spelling.now)) draft.new.broken) }
 {
     match word.kind {
         Kind::Star => turns(stack, draft, item, Bounds { low: 0, high: None }),
@@ -323,6 +325,7 @@ fn named<'t>(
     requires place { word.at + length word.spelling.now < 2 ^ 32 }
     ensures keeps { OnOk result (Keeps draft.old draft.new) }
     ensures step { (at : ℕ → ℕ) (base : ℕ) (es : List Entry) → FramesShow draft.old at base stack.old es → name.entry.at ≡ at (base + length (entries es)) → word.entry.at ≡ at (base + length (entries es) + 1) → Steps draft.new at base stack.new result (spec_named name.entry.bytes.now es (word_of word.entry.kind word.entry.spelling.now)) }
+    ensures notes { (at : ℕ → ℕ) (base : ℕ) (es : List Entry) → FramesShow draft.old at base stack.old es → name.entry.at ≡ at (base + length (entries es)) → word.entry.at ≡ at (base + length (entries es) + 1) → (cs : List Check) → Noted cs draft.old.broken → OnOk result (Noted (cs ++ named_asks at (base + length (entries es)) name.entry.bytes.now es (word_of word.entry.kind word.entry.spelling.now)) draft.new.broken) }
 {
     match word.kind {
         Kind::At => {
@@ -471,6 +474,7 @@ fn counted<'t>(
     requires count { (t : SpecCountStep) × ShowsCountStep step t }
     ensures keeps { OnOk result (Keeps draft.old draft.new) }
     ensures step { (at : ℕ → ℕ) (base : ℕ) (es : List Entry) (a : Atom) (t : SpecCountStep) → FramesShow draft.old at base stack.old es → item.at ≡ at (base + length (entries es)) → brace ≡ at (base + length (entries es) + length (atom a)) → ShowsAtom a draft.old at item.node (base + length (entries es)) → ShowsCountStep step t → Steps draft.new at base stack.new result (on_count a es t) }
+    ensures notes { (t : SpecCountStep) (from : ℕ) → brace ≡ from → ShowsCountStep step t → (cs : List Check) → Noted cs draft.old.broken → OnOk result (Noted (cs ++ count_asks from t) draft.new.broken) }
 {
     match step {
         CountStep::On(count) => Ok(Wait::InCount(item, count, brace)),
@@ -499,6 +503,7 @@ pub(crate) fn step_in<'t>(
     requires place { word.at + length word.spelling.now < 2 ^ 32 }
     ensures keeps { OnOk result (Keeps draft.old draft.new) }
     ensures step { (at : ℕ → ℕ) (base : ℕ) (i : Inside) → Stands draft.old at base stack.old wait.entry i → word.entry.at ≡ at (base + length (inside i)) → Steps draft.new at base stack.new result (spec_step_in i.mode i.entries (word_of word.entry.kind word.entry.spelling.now)) }
+    ensures notes { (at : ℕ → ℕ) (base : ℕ) (i : Inside) → Stands draft.old at base stack.old wait.entry i → word.entry.at ≡ at (base + length (inside i)) → (cs : List Check) → Noted cs draft.old.broken → OnOk result (Noted (cs ++ asks at (base + length (entries i.entries)) i.mode i.entries (word_of word.entry.kind word.entry.spelling.now)) draft.new.broken) }
 {
     match wait {
         Wait::Need => begin(alloc, stack, draft, false, word),

@@ -5,6 +5,7 @@ ghost use Rattle.kex_tokens.specs.Lexemes.{IsToken};
 ghost use Rattle.kex_reader.specs.Holding.{Ends, Finishes, ShowsState, SomeState, StateSteps, whole_term};
 ghost use Rattle.kex_reader.specs.Reading.{Entry, Inside, State, entries, put as spec_put, Within, finish as spec_finish, finish_within as spec_finish_within, first_name, FirstName, spelled, step as spec_step, step_within, take_term};
 ghost use Rattle.kex_reader.specs.Shown.{IsName, ShowsAtom};
+ghost use Rattle.kex_reader.specs.Asked.{state_asks};
 ghost use Rattle.kex_reader.specs.Checks.{Check, Staged};
 ghost use Rattle.kex_reader.specs.Stands.{FramesShow, Keeps, Noted, SomeAtom, SomeFrames, SomeInside, SomeName};
 ghost use Rattle.kex_reader.specs.Syntax.{Atom, Call, Definition as SpecDefinition, Define, Once, Header, word as word_of};
@@ -63,7 +64,9 @@ pub(crate) struct Reader<'t> {
 }
 
 impl<'t> Reader<'t> {
-    pub(crate) fn new(alloc: Global) -> Reader<'t> {
+    pub(crate) fn new(alloc: Global) -> Reader<'t>
+        ensures { (result.stack ≡ []) × (result.definitions.items ≡ []) × (result.stages.items ≡ []) × (result.draft.broken ≡ None) }
+    {
         Reader {
             alloc,
             stack: Stack::new(alloc),
@@ -79,6 +82,7 @@ impl<'t> Reader<'t> {
         ensures rest { OnOk result ((self.new.stack ≡ self.old.stack) × (self.new.definitions.items ≡ self.old.definitions.items) × (self.new.stages.items ≡ self.old.stages.items)) }
         ensures phase { IfOk result (λ p. (k : ℕ) × (p ≡ Phase.Within (record { name = k; at = name.entry.at }) Wait.Need) × IsName self.new.draft k name.entry.bytes.now) }
         ensures fault { IfErr result (λ e. e ≡ StepFault.Memory) }
+        ensures broken { OnOk result (self.new.draft.broken ≡ self.old.draft.broken) }
     {
         let Ok(number) = self.draft.name(name.bytes) else {
             return Err(StepFault::Memory);
@@ -98,6 +102,7 @@ impl<'t> Reader<'t> {
         ensures rest { OnOk result ((self.new.stack ≡ self.old.stack) × (self.new.definitions.items ≡ self.old.definitions.items)) }
         ensures read { IfOk result (λ p. (k : ℕ) × (p ≡ Phase.StageRead) × (word.entry.kind ≡ Kind.Name) × IsName self.new.draft k word.entry.spelling.now × (self.new.stages.items ≡ self.old.stages.items ++ record { name = k; at = word.entry.at } ∷ [])) }
         ensures fault { IfErr result (λ e. (e ≡ StepFault.Memory) ⊎ ((e ≡ StepFault.Wrong) × (word.entry.kind ≡ Kind.Name → ⊥))) }
+        ensures notes { (cs : List Check) → Noted cs self.old.draft.broken → OnOk result (Noted (cs ++ Staged word.entry.at (length self.old.stages.items + 1) ∷ []) self.new.draft.broken) }
     {
         let Kind::Name = word.kind else {
             return Err(StepFault::Wrong);
@@ -118,6 +123,7 @@ impl<'t> Reader<'t> {
         ensures keeps { OnOk result (Keeps self.old.draft self.new.draft) }
         ensures stages { OnOk result (self.new.stages.items ≡ self.old.stages.items) }
         ensures ends { (at : ℕ → ℕ) (base : ℕ) (es : List Entry) → FramesShow self.old.draft at base self.old.stack es → Ends self.new.draft at base self.new.stack self.old.definitions.items self.new.definitions.items head.name head.at result (whole_term (take_term es)) }
+        ensures broken { OnOk result (self.new.draft.broken ≡ self.old.draft.broken) }
     {
         let Ok(closed) = close_term(&mut self.stack, &mut self.draft) else {
             return Err(StepFault::Memory);
@@ -145,6 +151,7 @@ impl<'t> Reader<'t> {
         requires token { IsToken word.kind word.spelling.now }
         requires place { word.at + length word.spelling.now < 2 ^ 32 }
         ensures step { (at : ℕ → ℕ) (h : Header) (done : List SpecDefinition) (name : List ℕ) (i : Inside) → (word.entry.kind ≡ Kind.Define → ⊥) → ShowsState self.old.draft at self.old.stack self.old.definitions.items self.old.stages.items (Phase.Within head wait.entry) (Within h done name i) → word.entry.at ≡ at (length (spelled (Within h done name i))) → StateSteps self.new.draft at self.new.stack self.new.definitions.items self.new.stages.items result (step_within h done name i.mode i.entries (word_of word.entry.kind word.entry.spelling.now)) }
+        ensures notes { (at : ℕ → ℕ) (h : Header) (done : List SpecDefinition) (name : List ℕ) (i : Inside) (cs : List Check) → ShowsState self.old.draft at self.old.stack self.old.definitions.items self.old.stages.items (Phase.Within head wait.entry) (Within h done name i) → word.entry.at ≡ at (length (spelled (Within h done name i))) → Noted cs self.old.draft.broken → OnOk result (Noted (cs ++ state_asks at (Within h done name i) (word_of word.entry.kind word.entry.spelling.now)) self.new.draft.broken) }
     {
         match step_in(self.alloc, &mut self.stack, &mut self.draft, wait, word) {
             Ok(next) => Ok(Phase::Within(head, next)),
@@ -156,6 +163,7 @@ impl<'t> Reader<'t> {
     fn next_definition(&mut self, head: Head, wait: Wait<'t>) -> Result<Phase<'t>, StepFault>
         requires { SomeInside self.old.draft self.old.stack wait }
         ensures step { (at : ℕ → ℕ) (h : Header) (done : List SpecDefinition) (name : List ℕ) (i : Inside) → ShowsState self.old.draft at self.old.stack self.old.definitions.items self.old.stages.items (Phase.Within head wait.entry) (Within h done name i) → StateSteps self.new.draft at self.new.stack self.new.definitions.items self.new.stages.items result (step_within h done name i.mode i.entries Define) }
+        ensures broken { OnOk result (self.new.draft.broken ≡ self.old.draft.broken) }
     {
         let Wait::Named(free, name) = wait else {
             return Err(StepFault::Wrong);
@@ -172,6 +180,7 @@ impl<'t> Reader<'t> {
     // The first name is the start line's word, or a head.
     fn first(&mut self, name: Name<'t>, kind: Kind) -> Result<Phase<'t>, StepFault>
         ensures step { (at : ℕ → ℕ) (n b : List ℕ) → ShowsState self.old.draft at self.old.stack self.old.definitions.items self.old.stages.items (Phase.FirstName name.entry) (FirstName n) → StateSteps self.new.draft at self.new.stack self.new.definitions.items self.new.stages.items result (first_name n (word_of kind b)) }
+        ensures broken { OnOk result (self.new.draft.broken ≡ self.old.draft.broken) }
     {
         match kind {
             Kind::Define => self.head(name),
@@ -192,6 +201,7 @@ impl<'t> Reader<'t> {
         requires token { IsToken word.kind word.spelling.now }
         requires place { word.at + length word.spelling.now < 2 ^ 32 }
         ensures step { (at : ℕ → ℕ) (s : State) → ShowsState self.old.draft at self.old.stack self.old.definitions.items self.old.stages.items phase.entry s → word.entry.at ≡ at (length (spelled s)) → StateSteps self.new.draft at self.new.stack self.new.definitions.items self.new.stages.items result (spec_step s (word_of word.entry.kind word.entry.spelling.now)) }
+        ensures notes { (at : ℕ → ℕ) (s : State) (cs : List Check) → ShowsState self.old.draft at self.old.stack self.old.definitions.items self.old.stages.items phase.entry s → word.entry.at ≡ at (length (spelled s)) → Noted cs self.old.draft.broken → OnOk result (Noted (cs ++ state_asks at s (word_of word.entry.kind word.entry.spelling.now)) self.new.draft.broken) }
     {
         let name = Name {
             bytes: word.spelling,
@@ -225,6 +235,7 @@ impl<'t> Reader<'t> {
     fn finish_within(&mut self, head: Head, wait: Wait<'t>) -> Result<(), StepFault>
         requires { SomeInside self.old.draft self.old.stack wait }
         ensures ends { (at : ℕ → ℕ) (h : Header) (done : List SpecDefinition) (name : List ℕ) (i : Inside) → ShowsState self.old.draft at self.old.stack self.old.definitions.items self.old.stages.items (Phase.Within head wait.entry) (Within h done name i) → Finishes self.new.draft at self.new.definitions.items self.new.stages.items result (spec_finish_within h done name i.mode i.entries) }
+        ensures broken { OnOk result (self.new.draft.broken ≡ self.old.draft.broken) }
     {
         match wait {
             Wait::Ready => return self.end(head),
@@ -241,6 +252,7 @@ impl<'t> Reader<'t> {
         ensures keeps { OnOk result (Keeps self.old.draft self.new.draft) }
         ensures stages { OnOk result (self.new.stages.items ≡ self.old.stages.items) }
         ensures ends { (at : ℕ → ℕ) (base : ℕ) (es : List Entry) → FramesShow self.old.draft at base self.old.stack es → name.entry.at ≡ at (base + length (entries es)) → Ends self.new.draft at base self.new.stack self.old.definitions.items self.new.definitions.items head.name head.at result (whole_term (take_term (spec_put (Once (Call name.entry.bytes.now)) es))) }
+        ensures broken { OnOk result (self.new.draft.broken ≡ self.old.draft.broken) }
     {
         let Ok(item) = call(&mut self.draft, name) else {
             return Err(StepFault::Memory);
@@ -254,6 +266,7 @@ impl<'t> Reader<'t> {
         ensures keeps { OnOk result (Keeps self.old.draft self.new.draft) }
         ensures stages { OnOk result (self.new.stages.items ≡ self.old.stages.items) }
         ensures ends { (at : ℕ → ℕ) (base : ℕ) (es : List Entry) (a : Atom) → FramesShow self.old.draft at base self.old.stack es → item.at ≡ at (base + length (entries es)) → ShowsAtom a self.old.draft at item.node (base + length (entries es)) → Ends self.new.draft at base self.new.stack self.old.definitions.items self.new.definitions.items head.name head.at result (whole_term (take_term (spec_put (Once a) es))) }
+        ensures broken { OnOk result (self.new.draft.broken ≡ self.old.draft.broken) }
     {
         let Ok(()) = put(&mut self.stack, &mut self.draft, item) else {
             return Err(StepFault::Memory);
@@ -265,6 +278,7 @@ impl<'t> Reader<'t> {
     pub(crate) fn finish(&mut self, phase: Phase<'t>) -> Result<(), StepFault>
         requires { SomeState self.old.draft self.old.stack self.old.definitions.items self.old.stages.items phase }
         ensures ends { (at : ℕ → ℕ) (s : State) → ShowsState self.old.draft at self.old.stack self.old.definitions.items self.old.stages.items phase.entry s → Finishes self.new.draft at self.new.definitions.items self.new.stages.items result (spec_finish s) }
+        ensures broken { OnOk result (self.new.draft.broken ≡ self.old.draft.broken) }
     {
         match phase {
             Phase::Begin => Ok(()),

@@ -1,4 +1,4 @@
-use Rattle.std.proofs.Common.{◌≡◌, ℕ, ◌+◌, ◌<◌, true, false, List, [], ◌∷◌, length, None, Some, refl, sym, ap, ◌∙◌, subst, arith}
+use Rattle.std.proofs.Common.{◌≡◌, ℕ, ◌+◌, ◌<◌, true, false, List, [], ◌∷◌, ◌++◌, length, None, Some, refl, sym, ap, ◌∙◌, subst, arith}
 use Rattle.kex_tokens.specs.declared.token.Kind.TheVariants as kinds
 use Rattle.kex_model.specs.declared.program.Kind.TheVariants as nodes
 use Rattle.kex_reader.specs.declared.stack.Frame.TheVariants as frames
@@ -9,6 +9,8 @@ use Rattle.kex_reader.proofs.Drafting.{Keeps-refl, Keeps-trans, atom_within, ato
 use Rattle.kex_reader.proofs.Stacks.{frames_more}
 use Rattle.kex_reader.proofs.Stepping.{to, memory, wrong, stood, need, ready, after, named_waits, writing, bracket, bracket_name, count_opens, one_shows, call_shows, lit_shows, write_shows, match_shows, begin_kind, begin_other, begin_name, begin_literal, begin_regex, begin_tilde, begin_bang, begin_bracket, begin_paren, begin_bar, no_bar, begin_close, no_close, begin_one, begin_number, bar_steps, bar_wrong, close_wrong, close_steps, unclosed, after_kind, after_other, after_star, after_plus, after_question, after_brace, once_shows, turns_show, put_place, named_kind, named_other, named_at, named_define, call_ends, name_other, name_is, atom_steps, tilde_steps, paren_steps, storing_steps, atom_of, literal_of, match_of, star_low, star_high, plus_low, plus_high, optional_low, optional_high}
 use Rattle.std.specs.Prelude.{bytes_eq}
+use Rattle.kex_reader.proofs.Kept.{same, on_same, on_apply, on_from, moved, begin_quiet, begin_regex_asks, begin_tilde_asks, begin_paren_asks, after_quiet, after_begins, named_at_asks, named_after, good_count, bad_count, on_asks, read_asks}
+use Rattle.kex_reader.proofs.Stacks.{depth_is}
 use Rattle.kex_reader.proofs.inside.begin.Goals as goal
 
 pub returns-in-Name-clause-step : goal.returns-in-Name-clause-step
@@ -52,4 +54,34 @@ pub returns-else-eq-clause-step : goal.returns-else-eq-clause-step
 returns-else-eq-clause-step c = λ at base es h a. to _ at base _ _ _ _ (begin_kind c.args.free es c.args.word.spelling.now c.args.word.kind kinds.Number _ c.in-Number.is (begin_number c.args.free es c.args.word.spelling.now (ap (bytes_eq c.args.word.spelling.now) (sym c.as_slice.ensures) ∙ sym c.eq.ensures ∙ c.if-eq.false))) (wrong c.args.draft.now at base c.args.stack.now)
 
 pub returns-in_default : goal.returns-in_default
-returns-in_default c = record { keeps = tt; step = λ at base es h a. to _ at base _ _ _ _ (begin_other c.args.free es c.args.word.spelling.now c.args.word.kind c.in_default.not-Name c.in_default.not-Number c.in_default.not-Literal c.in_default.not-Regex c.in_default.not-Tilde c.in_default.not-Bang c.in_default.not-OpenBracket c.in_default.not-OpenParen c.in_default.not-Bar c.in_default.not-CloseParen) (wrong c.args.draft.now at base c.args.stack.now) }
+returns-in_default c = record { keeps = tt; notes = λ at base es h a cs n. tt; step = λ at base es h a. to _ at base _ _ _ _ (begin_other c.args.free es c.args.word.spelling.now c.args.word.kind c.in_default.not-Name c.in_default.not-Number c.in_default.not-Literal c.in_default.not-Regex c.in_default.not-Tilde c.in_default.not-Bang c.in_default.not-OpenBracket c.in_default.not-OpenParen c.in_default.not-Bar c.in_default.not-CloseParen) (wrong c.args.draft.now at base c.args.stack.now) }
+
+pub returns-in-Name-clause-notes : goal.returns-in-Name-clause-notes
+returns-in-Name-clause-notes c = λ at base es h a cs n. subst (λ x. Rattle.kex_reader.specs.Stands.Noted (cs ++ x) c.args.draft.now.broken) (begin_quiet at (base + length (entries es)) es c.args.word.spelling.now c.args.word.kind kinds.Name c.in-Name.is tt) (same cs c.args.draft.now.broken n)
+
+pub returns-in-Bang-clause-notes : goal.returns-in-Bang-clause-notes
+returns-in-Bang-clause-notes c = λ at base es h a cs n. subst (λ x. Rattle.kex_reader.specs.Stands.Noted (cs ++ x) c.args.draft.now.broken) (begin_quiet at (base + length (entries es)) es c.args.word.spelling.now c.args.word.kind kinds.Bang c.in-Bang.is tt) (same cs c.args.draft.now.broken n)
+
+pub returns-in-OpenBracket-clause-notes : goal.returns-in-OpenBracket-clause-notes
+returns-in-OpenBracket-clause-notes c = λ at base es h a cs n. subst (λ x. Rattle.kex_reader.specs.Stands.Noted (cs ++ x) c.args.draft.now.broken) (begin_quiet at (base + length (entries es)) es c.args.word.spelling.now c.args.word.kind kinds.OpenBracket c.in-OpenBracket.is tt) (same cs c.args.draft.now.broken n)
+
+pub returns-in-Literal-clause-notes : goal.returns-in-Literal-clause-notes
+returns-in-Literal-clause-notes c = λ at base es h a cs n. on_from c.literal.result cs [] _ c.literal.new.draft.broken (begin_quiet at (base + length (entries es)) es c.args.word.spelling.now c.args.word.kind kinds.Literal c.in-Literal.is tt) (on_same c.literal.result cs c.args.draft.now.broken c.literal.new.draft.broken c.literal.ensures.broken n)
+
+pub returns-then-eq-clause-notes : goal.returns-then-eq-clause-notes
+returns-then-eq-clause-notes c = λ at base es h a cs n. on_from c.leaf.result cs [] _ c.leaf.new.draft.broken (begin_quiet at (base + length (entries es)) es c.args.word.spelling.now c.args.word.kind kinds.Number c.in-Number.is tt) (on_same c.leaf.result cs c.args.draft.now.broken c.leaf.new.draft.broken c.leaf.ensures.broken n)
+
+pub returns-then-free-clause-notes : goal.returns-then-free-clause-notes
+returns-then-free-clause-notes c = λ at base es h a cs n. on_from c.bar.result cs [] _ c.bar.new.draft.broken (begin_quiet at (base + length (entries es)) es c.args.word.spelling.now c.args.word.kind kinds.Bar c.in-Bar.is tt) (on_same c.bar.result cs c.args.draft.now.broken c.bar.new.draft.broken c.bar.ensures.broken n)
+
+pub returns-then-free-2-clause-notes : goal.returns-then-free-2-clause-notes
+returns-then-free-2-clause-notes c = λ at base es h a cs n. on_from c.close.result cs [] _ c.close.new.draft.broken (begin_quiet at (base + length (entries es)) es c.args.word.spelling.now c.args.word.kind kinds.CloseParen c.in-CloseParen.is tt) (on_same c.close.result cs c.args.draft.now.broken c.close.new.draft.broken c.close.ensures.broken n)
+
+pub returns-in-Regex-clause-notes : goal.returns-in-Regex-clause-notes
+returns-in-Regex-clause-notes c = λ at base es h a cs n. on_from c.body.result cs _ _ c.body.new.draft.broken (begin_regex_asks at (base + length (entries es)) es c.args.word.spelling.now c.args.word.kind c.args.word.at c.depth.result c.in-Regex.is a (c.depth.ensures ∙ depth_is c.args.draft.now at base c.args.stack.now es h)) (on_apply c.body.result cs _ c.args.draft.now.broken c.body.new.draft.broken c.body.ensures.notes n)
+
+pub returns-in-Tilde-clause-notes : goal.returns-in-Tilde-clause-notes
+returns-in-Tilde-clause-notes c = λ at base es h a cs n. on_from c.open.result cs _ _ c.open.new.draft.broken (begin_tilde_asks at (base + length (entries es)) es c.args.word.spelling.now c.args.word.kind c.args.word.at (Rattle.kex_reader.specs.Stands.open_frames c.args.stack.now) c.in-Tilde.is a (depth_is c.args.draft.now at base c.args.stack.now es h)) (on_apply c.open.result cs _ c.args.draft.now.broken c.open.new.draft.broken c.open.ensures.notes n)
+
+pub returns-in-OpenParen-clause-notes : goal.returns-in-OpenParen-clause-notes
+returns-in-OpenParen-clause-notes c = λ at base es h a cs n. on_from c.open-in-OpenParen.result cs _ _ c.open-in-OpenParen.new.draft.broken (begin_paren_asks at (base + length (entries es)) es c.args.word.spelling.now c.args.word.kind c.args.word.at (Rattle.kex_reader.specs.Stands.open_frames c.args.stack.now) c.in-OpenParen.is a (depth_is c.args.draft.now at base c.args.stack.now es h)) (on_apply c.open-in-OpenParen.result cs _ c.args.draft.now.broken c.open-in-OpenParen.new.draft.broken c.open-in-OpenParen.ensures.notes n)

@@ -1,4 +1,4 @@
-use Rattle.std.proofs.Common.{◌≡◌, ℕ, ◌+◌, ◌<◌, true, false, List, [], ◌∷◌, length, None, Some, refl, sym, ap, ◌∙◌, subst, arith}
+use Rattle.std.proofs.Common.{◌≡◌, ℕ, ◌+◌, ◌<◌, true, false, List, [], ◌∷◌, ◌++◌, length, None, Some, refl, sym, ap, ◌∙◌, subst, arith}
 use Rattle.kex_tokens.specs.declared.token.Kind.TheVariants as kinds
 use Rattle.kex_model.specs.declared.program.Kind.TheVariants as nodes
 use Rattle.kex_reader.specs.declared.stack.Frame.TheVariants as frames
@@ -14,6 +14,11 @@ use Rattle.kex_reader.specs.Reading.{on_count, CountRead, mode, Assigned}
 use Rattle.kex_reader.proofs.Noting.{never_none, noted_one, noted_same}
 use Rattle.kex_reader.proofs.Counting.{count_refines}
 use Rattle.kex_reader.proofs.Modes.{leaf_below, pieces_in, assigned_names, assigned_leaf, counts_in, mode_need, mode_ready, mode_after, mode_named, mode_writing, mode_bracket, mode_bracket_name, mode_assigning, mode_assigned, mode_count, first_wrong, first_on, next_wrong, next_on, next_close, assigned_in, assign_shows, assigned_at, count_on, count_wrong, count_read, count_bad, read_is, read_count, bad_turns, step_of, word_place, word_here}
+use Rattle.kex_reader.proofs.Kept.{same, on_same, on_apply, on_from, moved, begin_quiet, begin_regex_asks, begin_tilde_asks, begin_paren_asks, after_quiet, after_begins, named_at_asks, named_after, good_count, bad_count, on_asks, read_asks}
+use Rattle.kex_reader.proofs.Stacks.{depth_is}
+use Rattle.kex_reader.specs.Syntax.{word}
+use Rattle.kex_reader.specs.Stands.{begin_asks}
+use Rattle.kex_reader.proofs.Stepping.{put_index}
 use Rattle.kex_reader.proofs.inside.behind.Goals as goal
 
 pub returns-in-Star-clause-step : goal.returns-in-Star-clause-step
@@ -34,6 +39,9 @@ returns-in_default-put-clause-step c = λ at base es a h e p s. memory c.put.new
 pub returns-in-Ok : goal.returns-in-Ok
 returns-in-Ok c = record {
   keeps = on_keeps _ _ _ _ c.in-Ok.ensures.keeps c.begin.ensures.keeps;
+  notes = λ at base es a h e p s cs n.
+      on_from c.begin.result cs _ _ c.begin.new.draft.broken (ap (λ k. begin_asks at k (put (Once a) es) (word c.args.word.kind c.args.word.spelling.now)) (put_index base a es) ∙ after_begins at (base + length (entries es) + length (atom a)) a es c.args.word.spelling.now c.args.word.kind c.in_default.not-Star c.in_default.not-Plus c.in_default.not-Question c.in_default.not-OpenBrace)
+      (c.begin.ensures.notes at base (put (Once a) es) (c.in-Ok.ensures.put at base es (Once a) h e (once_shows c.args.draft.now at c.args.item.node (base + length (entries es)) a s)) (put_place at base c.args.word.at a es p) cs (moved cs c.args.draft.now.broken c.put.new.draft.broken c.in-Ok.ensures.broken n));
   step = λ at base es a h e p s.
       to _ at base _ _ _ _ (after_other a es c.args.word.spelling.now c.args.word.kind c.in_default.not-Star c.in_default.not-Plus c.in_default.not-Question c.in_default.not-OpenBrace)
       (c.begin.ensures.step at base (put (Once a) es) (c.in-Ok.ensures.put at base es (Once a) h e (once_shows c.args.draft.now at c.args.item.node (base + length (entries es)) a s)) (put_place at base c.args.word.at a es p));
@@ -53,3 +61,15 @@ turns-requires-in-Plus-clause-count c = (OneOrMore, plus_low, plus_high, tt)
 
 pub turns-requires-in-Question-clause-count : goal.turns-requires-in-Question-clause-count
 turns-requires-in-Question-clause-count c = (Optional, optional_low, optional_high, omega arith)
+
+pub returns-in-Star-clause-notes : goal.returns-in-Star-clause-notes
+returns-in-Star-clause-notes c = λ at base es a h e p s cs n. on_from c.turns.result cs [] _ c.turns.new.draft.broken (after_quiet at (base + length (entries es) + length (atom a)) a es c.args.word.spelling.now c.args.word.kind kinds.Star c.in-Star.is tt) (on_same c.turns.result cs c.args.draft.now.broken c.turns.new.draft.broken c.turns.ensures.broken n)
+
+pub returns-in-Plus-clause-notes : goal.returns-in-Plus-clause-notes
+returns-in-Plus-clause-notes c = λ at base es a h e p s cs n. on_from c.turns-in-Plus.result cs [] _ c.turns-in-Plus.new.draft.broken (after_quiet at (base + length (entries es) + length (atom a)) a es c.args.word.spelling.now c.args.word.kind kinds.Plus c.in-Plus.is tt) (on_same c.turns-in-Plus.result cs c.args.draft.now.broken c.turns-in-Plus.new.draft.broken c.turns-in-Plus.ensures.broken n)
+
+pub returns-in-Question-clause-notes : goal.returns-in-Question-clause-notes
+returns-in-Question-clause-notes c = λ at base es a h e p s cs n. on_from c.turns-in-Question.result cs [] _ c.turns-in-Question.new.draft.broken (after_quiet at (base + length (entries es) + length (atom a)) a es c.args.word.spelling.now c.args.word.kind kinds.Question c.in-Question.is tt) (on_same c.turns-in-Question.result cs c.args.draft.now.broken c.turns-in-Question.new.draft.broken c.turns-in-Question.ensures.broken n)
+
+pub returns-in-OpenBrace-clause-notes : goal.returns-in-OpenBrace-clause-notes
+returns-in-OpenBrace-clause-notes c = λ at base es a h e p s cs n. subst (λ x. Rattle.kex_reader.specs.Stands.Noted (cs ++ x) c.args.draft.now.broken) (after_quiet at (base + length (entries es) + length (atom a)) a es c.args.word.spelling.now c.args.word.kind kinds.OpenBrace c.in-OpenBrace.is tt) (same cs c.args.draft.now.broken n)

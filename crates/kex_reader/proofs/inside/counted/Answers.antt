@@ -1,4 +1,4 @@
-use Rattle.std.proofs.Common.{◌≡◌, ℕ, ◌+◌, ◌<◌, true, false, List, [], ◌∷◌, length, None, Some, refl, sym, ap, ◌∙◌, subst, arith}
+use Rattle.std.proofs.Common.{◌≡◌, ℕ, ◌+◌, ◌<◌, true, false, List, [], ◌∷◌, ◌++◌, length, None, Some, refl, sym, ap, ◌∙◌, subst, arith}
 use Rattle.kex_tokens.specs.declared.token.Kind.TheVariants as kinds
 use Rattle.kex_model.specs.declared.program.Kind.TheVariants as nodes
 use Rattle.kex_reader.specs.declared.stack.Frame.TheVariants as frames
@@ -19,6 +19,9 @@ use Rattle.kex_reader.specs.Stands.{ShowsMode, ShowsCountStep}
 use Rattle.kex_reader.proofs.Noting.{never_none, noted_one, noted_same}
 use Rattle.kex_reader.proofs.Counting.{count_refines}
 use Rattle.kex_reader.proofs.Modes.{leaf_below, pieces_in, assigned_names, assigned_leaf, counts_in, mode_need, mode_ready, mode_after, mode_named, mode_writing, mode_bracket, mode_bracket_name, mode_assigning, mode_assigned, mode_count, first_wrong, first_on, next_wrong, next_on, next_close, assigned_in, assign_shows, assigned_at, count_on, count_wrong, count_read, count_bad, read_is, read_count, bad_turns, step_of, word_place, word_here, in_need, in_ready, in_after, in_named, in_writing, in_bracket, in_bracket_name, in_assigning, in_assigned, in_count, need_long, ready_long, after_long, named_long, call_place, some_named, some_atom, some_count, some_counting, some_assigned, some_name, write_of, assign_of, assigning_on}
+use Rattle.kex_reader.proofs.Kept.{same, on_same, on_apply, on_from, moved, begin_quiet, begin_regex_asks, begin_tilde_asks, begin_paren_asks, after_quiet, after_begins, named_at_asks, named_after, good_count, bad_count, on_asks, read_asks, on_moved}
+use Rattle.kex_reader.proofs.Stacks.{depth_is}
+use Rattle.kex_reader.proofs.Modes.{count_on_notes}
 use Rattle.kex_reader.proofs.inside.counted.Goals as goal
 
 pub returns-in-On-clause-step : goal.returns-in-On-clause-step
@@ -56,3 +59,16 @@ put-requires c =
     let more = c.note.ensures.keeps in
     let i = r.1 + length (entries r.2) in
     (r.0, r.1, r.2, Once r.3, frames_more c.args.draft.now c.note.new.self r.0 r.1 c.args.stack.now r.2 more r.4, r.5, once_shows c.note.new.self r.0 c.args.item.node i r.3 (atom_more r.3 c.args.draft.now c.note.new.self r.0 c.args.item.node i more r.6))
+
+pub returns-in-On-clause-notes : goal.returns-in-On-clause-notes
+returns-in-On-clause-notes c = λ t from b k cs n. count_on_notes from t c.in-On.count (subst (λ x. ShowsCountStep x t) c.in-On.is k) cs c.args.draft.now.broken n
+
+pub returns-in-Read-clause-notes : goal.returns-in-Read-clause-notes
+returns-in-Read-clause-notes c = λ t from b k cs n.
+    let r = count_read c.in-Read.bounds t (subst (λ x. ShowsCountStep x t) c.in-Read.is k) in
+    on_from c.turns.result cs _ _ c.turns.new.draft.broken (read_asks c.args.brace from t r.0 r.1 b) (on_moved c.turns.result _ c.args.draft.now.broken c.turns.new.draft.broken c.turns.ensures.broken (good_count r.0 cs c.args.draft.now.broken c.args.brace r.4 n))
+
+pub returns-in-Ok-clause-notes : goal.returns-in-Ok-clause-notes
+returns-in-Ok-clause-notes c = λ t from b k cs n.
+    let r = count_bad t (subst (λ x. ShowsCountStep x t) c.in-Bad.is k) in
+    subst (λ x. Rattle.kex_reader.specs.Stands.Noted (cs ++ x) c.put.new.draft.broken) (read_asks c.args.brace from t r.0 r.1 b) (moved _ _ c.put.new.draft.broken (c.in-Ok.ensures.broken ∙ ap (λ m. m.broken) c.note.ensures.noted) (bad_count r.0 cs c.args.draft.now.broken c.args.brace r.2 n))

@@ -1,4 +1,4 @@
-use Rattle.std.proofs.Common.{◌≡◌, ℕ, ◌+◌, ◌<◌, true, false, List, [], ◌∷◌, length, None, Some, refl, sym, ap, ◌∙◌, subst, arith}
+use Rattle.std.proofs.Common.{◌≡◌, ℕ, ◌+◌, ◌<◌, true, false, List, [], ◌∷◌, ◌++◌, length, None, Some, refl, sym, ap, ◌∙◌, subst, arith}
 use Rattle.kex_tokens.specs.declared.token.Kind.TheVariants as kinds
 use Rattle.kex_model.specs.declared.program.Kind.TheVariants as nodes
 use Rattle.kex_reader.specs.declared.stack.Frame.TheVariants as frames
@@ -19,6 +19,8 @@ use Rattle.kex_reader.specs.Stands.{ShowsMode, ShowsCountStep}
 use Rattle.kex_reader.proofs.Noting.{never_none, noted_one, noted_same}
 use Rattle.kex_reader.proofs.Counting.{count_refines}
 use Rattle.kex_reader.proofs.Modes.{leaf_below, pieces_in, assigned_names, assigned_leaf, counts_in, mode_need, mode_ready, mode_after, mode_named, mode_writing, mode_bracket, mode_bracket_name, mode_assigning, mode_assigned, mode_count, first_wrong, first_on, next_wrong, next_on, next_close, assigned_in, assign_shows, assigned_at, count_on, count_wrong, count_read, count_bad, read_is, read_count, bad_turns, step_of, word_place, word_here, in_need, in_ready, in_after, in_named, in_writing, in_bracket, in_bracket_name, in_assigning, in_assigned, in_count, need_long, ready_long, after_long, named_long, call_place, some_named, some_atom, some_count, some_counting, some_assigned, some_name, write_of, assign_of, assigning_on}
+use Rattle.kex_reader.proofs.Kept.{same, on_same, on_apply, on_from, moved, begin_quiet, begin_regex_asks, begin_tilde_asks, begin_paren_asks, after_quiet, after_begins, named_at_asks, named_after, good_count, bad_count, on_asks, read_asks, on_refl, need_asks, ready_asks, mode_after_asks, mode_named_asks, mode_count_asks, quiet_mode}
+use Rattle.kex_reader.proofs.Stacks.{depth_is}
 use Rattle.kex_reader.proofs.inside.step_in.Goals as goal
 
 pub returns-in-Need-clause-step : goal.returns-in-Need-clause-step
@@ -96,3 +98,54 @@ pub counted-requires-clause-count : goal.counted-requires-clause-count
 counted-requires-clause-count c =
     let d = some_counting c.args.draft.now c.args.stack.now c.args.wait c.in-InCount.item c.in-InCount.count c.in-InCount.brace c.in-InCount.is c.requires.inside in
     (count_step d.0 (word c.args.word.kind c.args.word.spelling.now), subst (λ x. ShowsCountStep x (count_step d.0 (word c.args.word.kind c.args.word.spelling.now))) (sym c.count_step.ensures) (count_refines c.in-InCount.count d.0 c.args.word.kind c.args.word.spelling.now c.number_value.result c.number_value.ensures d.1))
+
+pub returns-in-Need-clause-notes : goal.returns-in-Need-clause-notes
+returns-in-Need-clause-notes c = λ at base i st p cs n.
+    let m = mode_need c.args.draft.now at (base + length (entries i.entries)) i.mode (subst (λ w. ShowsMode c.args.draft.now at (base + length (entries i.entries)) w i.mode) (c.in-Need.is) st.mode) in
+    on_from c.begin.result cs _ _ c.begin.new.draft.broken (need_asks at (base + length (entries i.entries)) i (word c.args.word.kind c.args.word.spelling.now) m) (c.begin.ensures.notes at base i.entries st.below (word_here at base c.args.word.at i Need m need_long p) cs n)
+
+pub returns-in-Ready-clause-notes : goal.returns-in-Ready-clause-notes
+returns-in-Ready-clause-notes c = λ at base i st p cs n.
+    let m = mode_ready c.args.draft.now at (base + length (entries i.entries)) i.mode (subst (λ w. ShowsMode c.args.draft.now at (base + length (entries i.entries)) w i.mode) (c.in-Ready.is) st.mode) in
+    on_from c.begin-in-Ready.result cs _ _ c.begin-in-Ready.new.draft.broken (ready_asks at (base + length (entries i.entries)) i (word c.args.word.kind c.args.word.spelling.now) m) (c.begin-in-Ready.ensures.notes at base i.entries st.below (word_here at base c.args.word.at i Ready m ready_long p) cs n)
+
+pub returns-in-After-clause-notes : goal.returns-in-After-clause-notes
+returns-in-After-clause-notes c = λ at base i st p cs n.
+    let m = mode_after c.args.draft.now at (base + length (entries i.entries)) c.in-After.item i.mode (subst (λ w. ShowsMode c.args.draft.now at (base + length (entries i.entries)) w i.mode) (c.in-After.is) st.mode) in
+    on_from c.behind.result cs _ _ c.behind.new.draft.broken (mode_after_asks at (base + length (entries i.entries)) i (word c.args.word.kind c.args.word.spelling.now) m.0 m.1) (c.behind.ensures.notes at base i.entries m.0 st.below m.2 (word_place at base c.args.word.at i (After m.0) (length (atom m.0)) m.1 (after_long m.0) p) m.3 cs n)
+
+pub returns-in-Named-clause-notes : goal.returns-in-Named-clause-notes
+returns-in-Named-clause-notes c = λ at base i st p cs n.
+    let m = mode_named c.args.draft.now at (base + length (entries i.entries)) c.in-Named.field-0 c.in-Named.name i.mode (subst (λ w. ShowsMode c.args.draft.now at (base + length (entries i.entries)) w i.mode) (c.in-Named.is) st.mode) in
+    on_from c.named.result cs _ _ c.named.new.draft.broken (mode_named_asks at (base + length (entries i.entries)) i (word c.args.word.kind c.args.word.spelling.now) c.in-Named.field-0 c.in-Named.name.bytes.now m.0) (c.named.ensures.notes at base i.entries st.below m.1 (word_place at base c.args.word.at i (Named c.in-Named.field-0 c.in-Named.name.bytes.now) 1 m.0 (named_long c.in-Named.field-0 c.in-Named.name.bytes.now) p) cs n)
+
+pub returns-in-InCount-clause-notes : goal.returns-in-InCount-clause-notes
+returns-in-InCount-clause-notes c = λ at base i st p cs n.
+    let m = mode_count c.args.draft.now at (base + length (entries i.entries)) c.in-InCount.item c.in-InCount.count c.in-InCount.brace i.mode (subst (λ w. ShowsMode c.args.draft.now at (base + length (entries i.entries)) w i.mode) (c.in-InCount.is) st.mode) in
+    on_from c.counted.result cs _ _ c.counted.new.draft.broken (mode_count_asks at (base + length (entries i.entries)) i (word c.args.word.kind c.args.word.spelling.now) m.0 m.1 m.2) (c.counted.ensures.notes (count_step m.1 (word c.args.word.kind c.args.word.spelling.now)) (at (base + length (entries i.entries) + length (atom m.0))) m.6
+    (subst (λ x. ShowsCountStep x (count_step m.1 (word c.args.word.kind c.args.word.spelling.now))) (sym c.count_step.ensures) (count_refines c.in-InCount.count m.1 c.args.word.kind c.args.word.spelling.now c.number_value.result c.number_value.ensures m.5)) cs n)
+
+pub returns-in-Writing-clause-notes : goal.returns-in-Writing-clause-notes
+returns-in-Writing-clause-notes c = λ at base i st p cs n.
+    let m = mode_writing c.args.draft.now at (base + length (entries i.entries)) c.in-Writing.at i.mode (subst (λ w. ShowsMode c.args.draft.now at (base + length (entries i.entries)) w i.mode) (c.in-Writing.is) st.mode) in
+    on_from c.write.result cs [] _ c.write.new.draft.broken (quiet_mode at (base + length (entries i.entries)) i (Writing) (word c.args.word.kind c.args.word.spelling.now) m.0 tt) (on_same c.write.result cs c.args.draft.now.broken c.write.new.draft.broken c.write.ensures.broken n)
+
+pub returns-in-Bracket-clause-notes : goal.returns-in-Bracket-clause-notes
+returns-in-Bracket-clause-notes c = λ at base i st p cs n.
+    let m = mode_bracket c.args.draft.now at (base + length (entries i.entries)) c.in-Bracket.at i.mode (subst (λ w. ShowsMode c.args.draft.now at (base + length (entries i.entries)) w i.mode) (c.in-Bracket.is) st.mode) in
+    on_from c.bracket.result cs [] _ c.bracket.new.draft.broken (quiet_mode at (base + length (entries i.entries)) i (Bracket) (word c.args.word.kind c.args.word.spelling.now) m.0 tt) (on_same c.bracket.result cs c.args.draft.now.broken c.bracket.new.draft.broken c.bracket.ensures.broken n)
+
+pub returns-in-BracketName-clause-notes : goal.returns-in-BracketName-clause-notes
+returns-in-BracketName-clause-notes c = λ at base i st p cs n.
+    let m = mode_bracket_name c.args.draft.now at (base + length (entries i.entries)) c.in-BracketName.at c.in-BracketName.register i.mode (subst (λ w. ShowsMode c.args.draft.now at (base + length (entries i.entries)) w i.mode) (c.in-BracketName.is) st.mode) in
+    on_from c.sign.result cs [] _ c.args.draft.now.broken (quiet_mode at (base + length (entries i.entries)) i (BracketName m.0) (word c.args.word.kind c.args.word.spelling.now) m.1 tt) (on_same c.sign.result cs c.args.draft.now.broken c.args.draft.now.broken (on_refl c.sign.result c.args.draft.now.broken) n)
+
+pub returns-in-Assigning-clause-notes : goal.returns-in-Assigning-clause-notes
+returns-in-Assigning-clause-notes c = λ at base i st p cs n.
+    let m = mode_assigning c.args.draft.now at (base + length (entries i.entries)) c.in-Assigning.assignment i.mode (subst (λ w. ShowsMode c.args.draft.now at (base + length (entries i.entries)) w i.mode) (c.in-Assigning.is) st.mode) in
+    on_from c.part.result cs [] _ c.part.new.draft.broken (quiet_mode at (base + length (entries i.entries)) i (Assigning m.0 m.1) (word c.args.word.kind c.args.word.spelling.now) m.2 tt) (on_same c.part.result cs c.args.draft.now.broken c.part.new.draft.broken c.part.ensures.broken n)
+
+pub returns-in-Assigned-clause-notes : goal.returns-in-Assigned-clause-notes
+returns-in-Assigned-clause-notes c = λ at base i st p cs n.
+    let m = mode_assigned c.args.draft.now at (base + length (entries i.entries)) c.in-Assigned.assignment i.mode (subst (λ w. ShowsMode c.args.draft.now at (base + length (entries i.entries)) w i.mode) (c.in-Assigned.is) st.mode) in
+    on_from c.behind_part.result cs [] _ c.behind_part.new.draft.broken (quiet_mode at (base + length (entries i.entries)) i (Assigned m.0 m.1 m.2 m.3) (word c.args.word.kind c.args.word.spelling.now) m.4 tt) (on_same c.behind_part.result cs c.args.draft.now.broken c.behind_part.new.draft.broken c.behind_part.ensures.broken n)
