@@ -1,20 +1,5 @@
 // Lines and columns.
 
-<<<<<<< HEAD
-ghost use Rattle.std.specs.Prelude.{◌≡◌, ◌≤◌, length};
-ghost use Rattle.kex_reader.specs.Lines.{column_at, line_at};
-
-/// The line and the column of an offset, both from 1. A line ends at a line feed, and a column is a byte; an offset past the
-/// text is where it ends.
-pub fn place(text: &[u8], at: u32) -> (u32, u32)
-    requires { length text.now ≤ 1048576 }
-    ensures line { result.0 ≡ line_at text.now at }
-    ensures column { result.1 ≡ column_at text.now at }
-{
-    let mut line = 1;
-    let mut column = 1;
-    'bytes: for i in 0..text.len().min(at as usize) {
-=======
 ghost use Rattle.std.specs.Prelude.{◌≡◌, ◌+◌, min, take};
 ghost use Rattle.kex_reader.specs.Lines.{behind_feed, feeds};
 
@@ -37,7 +22,6 @@ pub fn place(text: &[u8], at: u32) -> (u32, u32)
     let mut line = 0;
     let mut column = 0;
     for i in 0..text.len().min(at as usize) {
->>>>>>> cea9fbe48409bfeb60ee7d175393eb688c47435e
         if text[i] == b'\n' {
             line += 1;
             column = 0;

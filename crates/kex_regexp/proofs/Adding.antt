@@ -1,5 +1,5 @@
 -- Nodes that are added, and what is shown still.
-use Rattle.std.proofs.Common.{◌≡◌, ℕ, zero, suc, ◌+◌, ◌⊎◌, inl, inr, List, [], ◌∷◌, ◌++◌, length, Some, refl, sym, ap, ◌∙◌, subst, append_assoc}
+use Rattle.std.proofs.Common.{◌≡◌, ℕ, zero, suc, ◌+◌, inl, inr, List, [], ◌∷◌, ◌++◌, length, Some, refl, sym, ap, ◌∙◌, subst, append_assoc}
 use Rattle.std.specs.Prelude.{slice_get}
 use Rattle.std.proofs.lemmas.List.{append-nil}
 use Rattle.kex_code.specs.Codes.{IsAmong}
@@ -88,7 +88,8 @@ named_of_bodies names registers (kinds.Add r ps) h = absurd h
 
 pub names_stay : (old new : List Node) (names registers : ℕ) → Adds old new → ((n : Node) → IsAmong old n → HasNames names registers n.kind) → (n : Node) → IsAmong new n → HasNames names registers n.kind
 names_stay old new names registers a h n i = elim (among-append old a.more n (subst (λ (x : List Node). IsAmong x n) a.is i)) [
-  inl l ↦ h n l
-  | inr r ↦ named_of_bodies names registers n.kind (a.kinds n r) ]
+  | inl l ↦ h n l
+  | inr r ↦ named_of_bodies names registers n.kind (a.kinds n r)
+]
 
 pub ruleset adding = (Adds-refl, Adds-to, Adds-trans)

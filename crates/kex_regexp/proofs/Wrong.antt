@@ -1,5 +1,5 @@
 -- The first wrong byte is one, and no body has one.
-use Rattle.std.proofs.Common.{◌≡◌, ℕ, ◌+◌, ◌-◌, ◌<◌, ◌≤◌, List, ◌++◌, length, take, drop, ◌⊎◌, inl, inr, sym, ap, ◌∙◌, subst, append_assoc, arith}
+use Rattle.std.proofs.Common.{◌≡◌, ℕ, ◌+◌, ◌-◌, ◌<◌, ◌≤◌, List, ◌++◌, length, take, drop, inl, inr, sym, ap, ◌∙◌, subst, append_assoc, arith}
 use Rattle.std.proofs.lemmas.Bool.{cases_lt, cases_order}
 use Rattle.std.proofs.lemmas.List.{take-append-drop}
 use Rattle.std.proofs.Math.Seq.{take-add}
@@ -19,13 +19,15 @@ body_begins bytes k h = (drop k bytes, subst IsBody (sym (take-append-drop k byt
 
 pub not_both : (bytes : List ℕ) (k : ℕ) → IsBody bytes → IsFirstWrong bytes k → ⊥
 not_both bytes k b w = elim (cases_lt k (length bytes)) [
-  inl lt ↦ w.byte lt (body_begins bytes (k + 1) b)
-  | inr le ↦ w.end (omega (arith, le, w.inside)) b ]
+  | inl lt ↦ w.byte lt (body_begins bytes (k + 1) b)
+  | inr le ↦ w.end (omega (arith, le, w.inside)) b
+]
 
 pub not_later : (bytes : List ℕ) (j k : ℕ) → IsFirstWrong bytes j → IsFirstWrong bytes k → j < k → ⊥
 not_later bytes j k v w lt = v.byte (omega (arith, lt, w.inside)) (take_begins bytes (j + 1) k (omega (arith, lt)) w.before)
 
 pub one_wrong : (bytes : List ℕ) (j k : ℕ) → IsFirstWrong bytes j → IsFirstWrong bytes k → j ≡ k
 one_wrong bytes j k v w = elim (cases_order j k) [
-  inl e ↦ e
-  | inr n ↦ elim n [ inl lt ↦ absurd (not_later bytes j k v w lt) | inr gt ↦ absurd (not_later bytes k j w v gt) ] ]
+  | inl e ↦ e
+  | inr n ↦ elim n [ inl lt ↦ absurd (not_later bytes j k v w lt) | inr gt ↦ absurd (not_later bytes k j w v gt) ]
+]

@@ -4,4 +4,6 @@ pub mod Breaks
 pub mod Bodies
 pub mod Shown
 pub mod Machine
+pub mod Holding
+pub mod Held
 pub mod Notes

@@ -1,6 +1,5 @@
 // Why a body is refused.
 
-use kex_code::memory::Memory;
 use thiserror::Error;
 
 /// Why a body is refused. Offsets are those of the text.
@@ -21,10 +20,4 @@ pub enum RegexFault {
     /// Memory was wanted, and there was none. No contract says when it comes.
     #[error("out of memory")]
     Memory,
-}
-
-impl From<Memory> for RegexFault {
-    fn from(_: Memory) -> RegexFault {
-        RegexFault::Memory
-    }
 }
