@@ -1,10 +1,10 @@
 -- What a call of the program leaves, by its answer.
-use Rattle.std.specs.Prelude.{◌≡◌, ◌⊎◌, ◌+◌, ◌-◌, ◌^◌, ◌<◌, ◌≤◌, ℕ, Bool, true, false, List, [], ◌++◌, Option, Some, None, length, min}
+use Rattle.std.specs.Prelude.{◌≡◌, ◌⊎◌, ◌+◌, ◌-◌, ◌^◌, ◌<◌, ◌≤◌, ℕ, Bool, true, false, List, [], ◌++◌, Option, Some, None, length, min, take}
 use Rattle.kex_ports.specs.Shelf.{IsTold, IsPast}
 use Rattle.kex_ports.specs.Causes.{Rose}
 use Rattle.kex_model.specs.Programs.{Grammar}
 use Rattle.kex_reader.specs.Spelling.{Spells}
-use Rattle.kex_reader.specs.Lines.{column_at, line_at}
+use Rattle.kex_reader.specs.Lines.{behind_feed, feeds}
 use Rattle.kex_compile.specs.Compiled.{Accepts, IsRefused}
 use Rattle.kex_compile.specs.declared.refusal.CompileRefusal.{CompileRefusal}
 use Rattle.kex_compile.specs.declared.refusal.CompileRefusal.TheVariants as compile
@@ -52,6 +52,13 @@ ShelfAnswers told s _ = ShelfIsLeft s
 -- A rule that the whole text breaks.
 abbrev pub broken : Rule → Refusal
 broken rule = record { rule = rule; place = Nowhere }
+
+-- The line and the column of an offset, from 1: the line feeds before it, and the bytes since the last of them.
+abbrev pub line_at : List ℕ → ℕ → ℕ
+line_at text at = feeds (take at text) + 1
+
+abbrev pub column_at : List ℕ → ℕ → ℕ
+column_at text at = behind_feed 0 (take at text) + 1
 
 -- A rule that is broken at an offset of the text.
 abbrev pub broken_at : Rule → List ℕ → ℕ → Refusal
