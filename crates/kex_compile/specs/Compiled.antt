@@ -2,9 +2,9 @@
 use Rattle.std.specs.Prelude.{ℕ, List}
 use Rattle.kex_code.specs.Codes.{IsAmong}
 use Rattle.kex_model.specs.Programs.{Grammar}
-use Rattle.kex_reader.specs.Terms.{Spells}
-use Rattle.kex_reader.specs.declared.gather.ReadRefusal.{ReadRefusal}
-use Rattle.kex_reader.specs.declared.gather.ReadRefusal.TheVariants as read
+use Rattle.kex_reader.specs.Spelling.{Spells, IsRefusedAs}
+use Rattle.kex_reader.specs.declared.refusal.ReadRefusal.{ReadRefusal}
+use Rattle.kex_reader.specs.declared.refusal.ReadRefusal.TheVariants as read
 use Rattle.kex_rules.specs.Rules.{IsRuled, IsCause}
 use Rattle.kex_rules.specs.declared.refusal.RuleRefusal.{RuleRefusal}
 use Rattle.kex_rules.specs.declared.refusal.RuleRefusal.TheVariants as rule
@@ -12,7 +12,7 @@ use Rattle.kex_compile.specs.Stages.{CanRun, Plans, ArePlans, IsUnplanned, roots
 use Rattle.kex_compile.specs.declared.refusal.PlanRefusal.{PlanRefusal}
 use Rattle.kex_compile.specs.declared.refusal.PlanRefusal.TheVariants as plan
 use Rattle.kex_compile.specs.declared.refusal.CompileRefusal.{CompileRefusal}
-use Rattle.kex_compile.specs.declared.refusal.CompileRefusal.TheVariants.{Later, TwiceDefined, Unknown, NoStart, NotTail, TooManyPlaces, EmptyLoop, NoText, Memory}
+use Rattle.kex_compile.specs.declared.refusal.CompileRefusal.TheVariants.{TextTooLong, BadToken, Unexpected, BadRegex, BadCount, BadSet, OverLimit, TwiceDefined, Unknown, NoStart, NotTail, TooManyPlaces, EmptyLoop, NoText, Memory}
 
 -- the text spells the program, which keeps the rules, and each of whose stages can run
 pub record Accepts (text : List ℕ) (P : Grammar) : Type 0 where
@@ -36,7 +36,13 @@ HasNoPlans text e = (P : Grammar) × Spells text P × IsRuled P × IsUnplanned P
 
 -- the rule that is broken, where none of a lower number is
 abbrev pub IsRefused : List ℕ → CompileRefusal → Type 0
-IsRefused text Later = (P : Grammar) → Spells text P → ⊥
+IsRefused text TextTooLong = IsRefusedAs text read.TextTooLong
+IsRefused text (BadToken at) = IsRefusedAs text (read.BadToken at)
+IsRefused text (Unexpected at) = IsRefusedAs text (read.Unexpected at)
+IsRefused text (BadRegex at) = IsRefusedAs text (read.BadRegex at)
+IsRefused text (BadCount at) = IsRefusedAs text (read.BadCount at)
+IsRefused text (BadSet at) = IsRefusedAs text (read.BadSet at)
+IsRefused text (OverLimit at) = IsRefusedAs text (read.OverLimit at)
 IsRefused text (TwiceDefined at) = BreaksRule text (rule.TwiceDefined at)
 IsRefused text (Unknown at) = BreaksRule text (rule.Unknown at)
 IsRefused text NoStart = BreaksRule text rule.NoStart
@@ -47,7 +53,13 @@ IsRefused text (NoText n) = HasNoPlans text (plan.NoText n)
 IsRefused text Memory = Unit {0}
 
 abbrev pub of_read : ReadRefusal → CompileRefusal
-of_read read.Later = Later
+of_read read.TextTooLong = TextTooLong
+of_read (read.BadToken at) = BadToken at
+of_read (read.Unexpected at) = Unexpected at
+of_read (read.BadRegex at) = BadRegex at
+of_read (read.BadCount at) = BadCount at
+of_read (read.BadSet at) = BadSet at
+of_read (read.OverLimit at) = OverLimit at
 of_read read.Memory = Memory
 
 abbrev pub of_rule : RuleRefusal → CompileRefusal

@@ -37,9 +37,27 @@ impl From<Memory> for PlanRefusal {
 /// The rule that a program text breaks. Offsets count its bytes from 0, and stages count from 1.
 #[derive(Clone, Copy, Debug, PartialEq, Eq, Drop, Error)]
 pub enum CompileRefusal {
-    /// The text isn't one that is read yet.
-    #[error("not read yet")]
-    Later,
+    /// The text has more than 1,048,576 bytes.
+    #[error("the text is too long")]
+    TextTooLong,
+    /// At this offset a token, white space or a comment should begin, and none can be completed.
+    #[error("bad token at byte {0}")]
+    BadToken(u32),
+    /// The tokens before this one begin a program, and those up to and with it begin none; or the text ends here, and is none.
+    #[error("unexpected token at byte {0}")]
+    Unexpected(u32),
+    /// The regex's bytes before this one begin a regex, and those up to and with it begin none; or it ends here, and is none.
+    #[error("bad regex at byte {0}")]
+    BadRegex(u32),
+    /// The count at this offset is above 1,000, or its least count above the greatest.
+    #[error("bad count at byte {0}")]
+    BadCount(u32),
+    /// The set at this offset has a range whose first byte is above its last, or has no byte.
+    #[error("bad set at byte {0}")]
+    BadSet(u32),
+    /// The mark or name at this offset raises the nesting above 200, or is that of a 65th stage.
+    #[error("over a limit at byte {0}")]
+    OverLimit(u32),
     /// The name at this offset was defined before.
     #[error("the name at byte {0} is defined twice")]
     TwiceDefined(u32),
@@ -69,7 +87,13 @@ impl From<ReadRefusal> for CompileRefusal {
 
     fn from(why: ReadRefusal) -> CompileRefusal {
         match why {
-            ReadRefusal::Later => CompileRefusal::Later,
+            ReadRefusal::TextTooLong => CompileRefusal::TextTooLong,
+            ReadRefusal::BadToken { at } => CompileRefusal::BadToken(at),
+            ReadRefusal::Unexpected { at } => CompileRefusal::Unexpected(at),
+            ReadRefusal::BadRegex { at } => CompileRefusal::BadRegex(at),
+            ReadRefusal::BadCount { at } => CompileRefusal::BadCount(at),
+            ReadRefusal::BadSet { at } => CompileRefusal::BadSet(at),
+            ReadRefusal::OverLimit { at } => CompileRefusal::OverLimit(at),
             ReadRefusal::Memory => CompileRefusal::Memory,
         }
     }

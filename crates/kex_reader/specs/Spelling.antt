@@ -1,63 +1,93 @@
--- How the first programs are spelled: `main := ` and then literals and bodies, with white space between.
-use Rattle.std.specs.Prelude.{◌≡◌, ℕ, Bool, true, ◌||◌, ◌==◌, List, [], ◌∷◌, false}
+-- What a text spells, and why it is refused.
+use Rattle.std.specs.Prelude.{◌≡◌, ℕ, ◌<◌, ◌≤◌, Bool, List, [], ◌∷◌, length, map, get_or, bytes_eq, codes, None, if◌then◌else◌}
+use Rattle.std.specs.List.{slice_range}
+use Rattle.kex_code.specs.Codes.{Different}
+use Rattle.kex_model.specs.Programs.{Grammar}
+use Rattle.kex_model.specs.declared.program.Definition.{Definition as Root}
+use Rattle.kex_model.specs.declared.program.Start.{Start}
+use Rattle.kex_tokens.specs.declared.token.Token.{Token}
+use Rattle.kex_tokens.specs.declared.token.TokenFault.{TokenFault}
+use Rattle.kex_tokens.specs.declared.token.TokenFault.TheVariants as tokens
+use Rattle.kex_tokens.specs.declared.token.TheConstants.{MAX_TEXT}
+use Rattle.kex_reader.specs.declared.inside.StepFault.{StepFault}
+use Rattle.kex_reader.specs.declared.inside.StepFault.TheVariants as steps
+use Rattle.kex_tokens.specs.Texts.{AreTokens, IsBadToken}
+use Rattle.kex_regexp.specs.declared.breaks.Break.{Break}
+use Rattle.kex_regexp.specs.declared.breaks.Break.TheVariants.{BadRegex, BadCount, BadSet, OverLimit}
+use Rattle.kex_reader.specs.declared.refusal.ReadRefusal.{ReadRefusal}
+use Rattle.kex_reader.specs.declared.refusal.ReadRefusal.TheVariants as refusals
+use Rattle.kex_reader.specs.Syntax.{Word, word, Header, NoStart, Stages, Program, program, header}
+use Rattle.kex_reader.specs.Programs.{IsFirstWrong}
+use Rattle.kex_reader.specs.Checks.{IsLeastBreak, SomeBreaks, program_checks}
+use Rattle.kex_reader.specs.Shown.{Made, ShowsDefinitions, ShowsStages}
 
--- space, tab, carriage return or line feed
-abbrev pub is_blank : ℕ → Bool
-is_blank b = (b == 32) || (b == 9) || (b == 13) || (b == 10)
+-- the words that tokens of a text are
+abbrev pub words : List ℕ → List Token → List Word
+words text ts = map (λ t. word t.kind (slice_range text t.from t.to)) ts
 
--- ", \ or line feed
-abbrev pub ends_literal : ℕ → Bool
-ends_literal b = (b == 34) || (b == 92) || (b == 10)
+-- the offset of token number k, and behind the last one the text's length
+abbrev pub offset : List ℕ → List Token → ℕ → ℕ
+offset text ts k = get_or (map (λ t. t.from) ts) k (length text)
 
--- line feed, or one of * + ? { } ( ) | [ ] \ . / ^ $
-abbrev pub is_special : ℕ → Bool
-is_special b = (b == 10) || (b == 42) || (b == 43) || (b == 63) || (b == 123) || (b == 125) || (b == 40) || (b == 41)
-    || (b == 124) || (b == 91) || (b == 93) || (b == 92) || (b == 46) || (b == 47) || (b == 94) || (b == 36)
+-- without a start line the one stage is main, with the offset of its first definition, if it has one
+abbrev pub main_stage : List (List ℕ) → List Root → List Start
+main_stage names [] = []
+main_stage names (d ∷ ds) = if bytes_eq (get_or names d.name []) (codes "main") then record { name = d.name; at = d.at } ∷ [] else main_stage names ds
 
-abbrev pub begins_with_star : List ℕ → Bool
-begins_with_star [] = false
-begins_with_star (b ∷ text) = b == 42
+abbrev pub ShowsHeader : Header → Made → (ℕ → ℕ) → Grammar → Type 0
+ShowsHeader NoStart made at P = P.stages ≡ main_stage P.names P.definitions
+ShowsHeader (Stages n ns) made at P = ShowsStages (n ∷ ns) made at P.stages 2
 
--- a byte of a body, by itself or with a star
-pub data Part : Type 0 where
-  once : ℕ → Part
-  starred : ℕ → Part
+-- the nodes, definitions and stages of the program are those of the tree, whatever their numbers
+pub record ShowsProgram (tree : Program) (made : Made) (at : ℕ → ℕ) (P : Grammar) : Type 0 where
+  pub definitions : ShowsDefinitions tree.definitions made at P.definitions (length (header tree.header))
+  pub stages : ShowsHeader tree.header made at P
 
-pub data Atom : Type 0 where
-  literal : List ℕ → Atom
-  body : Part → List Part → Atom
+-- the tokens of the text are a program's, no limit is broken, and these are its nodes
+pub record Spells (text : List ℕ) (P : Grammar) : Type 0 where
+  pub short : length text ≤ MAX_TEXT
+  pub tokens : List Token
+  pub cut : AreTokens text tokens
+  pub tree : Program
+  pub derived : program tree ≡ words text tokens
+  pub within : (b : Break) → SomeBreaks (program_checks tree (offset text tokens)) b → ⊥
+  pub registers : List (List ℕ)
+  pub shown : ShowsProgram tree (record { nodes = P.nodes; names = P.names; registers = registers; broken = None }) (offset text tokens) P
+  pub names_differ : Different P.names
+  pub registers_differ : Different registers
+  pub counted : P.registers ≡ length registers
 
--- the bytes of a literal up to its closing quote, and what is behind it
-pub data Literal : List ℕ → List ℕ → List ℕ → Type 0 where
-  quote : {rest : List ℕ} → Literal (34 ∷ rest) [] rest
-  itself : {b : ℕ} {text s rest : List ℕ} → ends_literal b ≡ false → Literal text s rest → Literal (b ∷ text) (b ∷ s) rest
+-- the tokens before this offset begin a program, and those up to and with it begin none, or they end and are none
+abbrev pub IsUnexpected : List ℕ → ℕ → Type 0
+IsUnexpected text at = (ts : List Token) × (k : ℕ) × AreTokens text ts × IsFirstWrong (words text ts) k × (at ≡ offset text ts k)
 
--- the parts of a body up to its closing slash, and what is behind it
-pub data Body : List ℕ → List Part → List ℕ → Type 0 where
-  slash : {rest : List ℕ} → Body (47 ∷ rest) [] rest
-  plain : {b : ℕ} {text rest : List ℕ} {ps : List Part} → is_special b ≡ false → Body text ps rest → Body (b ∷ text) (once b ∷ ps) rest
-  with_star : {b : ℕ} {text rest : List ℕ} {ps : List Part} → is_special b ≡ false → Body text ps rest → Body (b ∷ 42 ∷ text) (starred b ∷ ps) rest
+-- the tokens are a program's, and this is the least limit that it breaks
+abbrev pub BreaksLimit : List ℕ → Break → Type 0
+BreaksLimit text b = (ts : List Token) × (tree : Program) × AreTokens text ts × (program tree ≡ words text ts) × IsLeastBreak (program_checks tree (offset text ts)) b
 
--- the atom at the front of a text, and what is behind it
-pub data IsAtom : List ℕ → Atom → List ℕ → Type 0 where
-  a_literal : {text s rest : List ℕ} → Literal text s rest → IsAtom (34 ∷ text) (literal s) rest
-  a_body : {text rest : List ℕ} {p : Part} {ps : List Part} → Body text (p ∷ ps) rest → IsAtom (47 ∷ text) (body p ps) rest
+-- the refusals for what the parts answer
+abbrev pub of_token : TokenFault → ReadRefusal
+of_token tokens.TextTooLong = refusals.TextTooLong
+of_token (tokens.BadToken at) = refusals.BadToken at
+of_token tokens.Memory = refusals.Memory
 
--- atoms up to the end of the text, with white space between
-pub data Atoms : List ℕ → List Atom → Type 0 where
-  none : Atoms [] []
-  blank : {b : ℕ} {text : List ℕ} {more : List Atom} → is_blank b ≡ true → Atoms text more → Atoms (b ∷ text) more
-  next_atom : {text rest : List ℕ} {a : Atom} {more : List Atom} → IsAtom text a rest → Atoms rest more → Atoms text (a ∷ more)
+abbrev pub of_limit : Break → ReadRefusal
+of_limit (BadRegex at) = refusals.BadRegex at
+of_limit (BadCount at) = refusals.BadCount at
+of_limit (BadSet at) = refusals.BadSet at
+of_limit (OverLimit at) = refusals.OverLimit at
 
--- white space, if any, and what is behind it
-pub data Blanks : List ℕ → List ℕ → Type 0 where
-  no_blank : {text : List ℕ} → Blanks text text
-  one_blank : {b : ℕ} {text rest : List ℕ} → is_blank b ≡ true → Blanks text rest → Blanks (b ∷ text) rest
+abbrev pub of_step : StepFault → ℕ → ReadRefusal
+of_step steps.Memory at = refusals.Memory
+of_step steps.Wrong at = refusals.Unexpected at
 
--- `main`, `:=` and at least one atom
-pub record IsSpelled (text : List ℕ) (a : Atom) (more : List Atom) : Type 0 where
-  pub behind_main : List ℕ
-  pub behind_sign : List ℕ
-  pub main : Blanks text (109 ∷ 97 ∷ 105 ∷ 110 ∷ behind_main)
-  pub sign : Blanks behind_main (58 ∷ 61 ∷ behind_sign)
-  pub atoms : Atoms behind_sign (a ∷ more)
+-- why a text is refused: each cause where those before it aren't
+abbrev pub IsRefusedAs : List ℕ → ReadRefusal → Type 0
+IsRefusedAs text refusals.TextTooLong = MAX_TEXT < length text
+IsRefusedAs text (refusals.BadToken at) = (length text ≤ MAX_TEXT) × IsBadToken text at
+IsRefusedAs text (refusals.Unexpected at) = (length text ≤ MAX_TEXT) × IsUnexpected text at
+IsRefusedAs text (refusals.BadRegex at) = (length text ≤ MAX_TEXT) × BreaksLimit text (BadRegex at)
+IsRefusedAs text (refusals.BadCount at) = (length text ≤ MAX_TEXT) × BreaksLimit text (BadCount at)
+IsRefusedAs text (refusals.BadSet at) = (length text ≤ MAX_TEXT) × BreaksLimit text (BadSet at)
+IsRefusedAs text (refusals.OverLimit at) = (length text ≤ MAX_TEXT) × BreaksLimit text (OverLimit at)
+IsRefusedAs text refusals.Memory = Unit {0}

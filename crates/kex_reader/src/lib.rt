@@ -1,15 +1,25 @@
-//! Program texts into programs. For now the first and smallest: `main` as a row of literals and of bodies of plain bytes,
-//! each with a star or without.
+//! Program texts into programs: definitions, terms, registers, bodies and the start line.
 //!
-//! Stands on the model. A text is read exactly where the grammar of `specs/` spells it, into the nodes that it says.
+//! Stands on tokens, bodies and the model. The promise is that of `read`: what a text spells is in `specs/Spelling`, over the
+//! trees of `specs/Syntax`, the nodes that show them (`Shown`) and the limits (`Checks`).
 #![tactic(auto)]
 
-mod build;
-mod gather;
+mod counts;
+mod draft;
+mod inside;
+pub mod laws;
 mod lines;
-mod scan;
+mod names;
+mod pieces;
+mod reader;
+mod refusal;
+mod stack;
+mod terms;
+#[cfg(test)]
+mod tests;
 mod text;
+mod word;
 
-pub use gather::ReadRefusal;
 pub use lines::place;
+pub use refusal::ReadRefusal;
 pub use text::read;

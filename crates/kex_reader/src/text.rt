@@ -1,88 +1,178 @@
 // The whole text.
 
-ghost use Rattle.std.specs.Prelude.{◌≡◌, ◌≤◌, ◌++◌, ◌∷◌, [], None, ◌<◌, ℕ, List, IfSome, IfOk, IsErrOf, drop, length};
+ghost use Rattle.std.specs.Prelude.{◌≡◌, ℕ, ◌<◌, ◌≤◌, ◌⊎◌, [], None, Some, List, length, All, IfOk, IfErr};
+ghost use Rattle.kex_code.specs.Codes.{Different, IsAmong};
 ghost use Rattle.kex_model.specs.Programs.{Grammar};
-ghost use Rattle.kex_reader.specs.Spelling.{Blanks};
-ghost use Rattle.kex_reader.specs.Terms.{Grows, Spells};
-ghost use Rattle.kex_reader.specs.declared.gather.ReadRefusal.TheVariants.{Later};
+ghost use Rattle.kex_tokens.specs.Texts.{AreTokens, IsSpan};
+ghost use Rattle.kex_reader.specs.Holding.{ShowsHead};
+ghost use Rattle.kex_reader.specs.Shown.{ShowsDefinitions};
+ghost use Rattle.kex_reader.specs.Spelling.{IsRefusedAs, ShowsProgram, Spells, main_stage, of_limit, of_step, of_token};
+ghost use Rattle.kex_reader.specs.Syntax.{Program as Tree, header};
 
-use crate::build::row;
-use crate::gather::{ReadRefusal, atoms};
-use crate::scan::{behind_word, from};
+use crate::draft::Draft;
+use crate::inside::StepFault;
+use crate::reader::{Phase, Reader};
+use crate::refusal::ReadRefusal;
+use crate::word::Word;
 use kex_code::memory::Memory;
 use kex_code::piece::Bytes;
-use kex_model::builder::Builder;
 use kex_model::program::{Definition, Program, Start};
+use kex_regexp::breaks::Break;
+use kex_tokens::token::{MAX_TEXT, Token, TokenFault};
+use kex_tokens::tokens;
 use std::alloc::Global;
 
-const MOST_TEXT: usize = 1_048_576;
-
-// Where the bytes behind `:=` begin.
-fn behind_sign(text: &[u8]) -> Option<usize>
-    ensures found { IfSome result (λ n. (n ≤ length text.now) × (behind_main : List ℕ)
-        × Blanks text.now (109 ∷ 97 ∷ 105 ∷ 110 ∷ behind_main) × Blanks behind_main (58 ∷ 61 ∷ drop n text.now)) }
-    ensures none { result ≡ None → (u v : List ℕ) → Blanks text.now (109 ∷ 97 ∷ 105 ∷ 110 ∷ u) → Blanks u (58 ∷ 61 ∷ v) → ⊥ }
+// Why the text is refused that has no tokens.
+fn token_refusal(fault: TokenFault) -> ReadRefusal
+    ensures { result ≡ of_token fault }
 {
-    let Some(name) = behind_word(text, b"main") else {
-        return None;
-    };
-    let Some(sign) = behind_word(from(text, name), b":=") else {
-        return None;
-    };
-    Some(name + sign)
+    match fault {
+        TokenFault::TextTooLong => ReadRefusal::TextTooLong,
+        TokenFault::BadToken { at } => ReadRefusal::BadToken { at },
+        TokenFault::Memory => ReadRefusal::Memory,
+    }
 }
 
-// The program whose one definition, of main, has this root.
-fn main_alone(alloc: Global, nodes: Builder, root: u32) -> Result<Program, Memory>
-    requires grown { Grows [] nodes }
-    requires inside { root < length nodes }
-    ensures { IfOk result (λ P. P ≡ record {
-      nodes = nodes;
-      names = (109 ∷ 97 ∷ 105 ∷ 110 ∷ []) ∷ [];
-      definitions = record { name = 0; at = 0; root = root } ∷ [];
-      stages = record { name = 0; at = 0 } ∷ [];
-      registers = 0;
-    }) }
+// Why the text is refused that breaks a limit.
+fn limit_refusal(broken: Break) -> ReadRefusal
+    ensures { result ≡ of_limit broken }
 {
-    let mut name = Vec::new(alloc);
-    name.extend_from_slice(b"main")?;
-    let mut names = Vec::new(alloc);
-    names.push(Bytes::new(name))?;
-    let mut definitions = Vec::new(alloc);
-    definitions.push(Definition {
-        name: 0,
-        at: 0,
-        root,
-    })?;
+    match broken {
+        Break::BadRegex { at } => ReadRefusal::BadRegex { at },
+        Break::BadCount { at } => ReadRefusal::BadCount { at },
+        Break::BadSet { at } => ReadRefusal::BadSet { at },
+        Break::OverLimit { at } => ReadRefusal::OverLimit { at },
+    }
+}
+
+// Why the text is refused where there is no next step.
+fn step_refusal(fault: StepFault, at: u32) -> ReadRefusal
+    ensures { result ≡ of_step fault at }
+{
+    match fault {
+        StepFault::Memory => ReadRefusal::Memory,
+        StepFault::Wrong => ReadRefusal::Unexpected { at },
+    }
+}
+
+// Without a start line the one stage is `main`, where it is defined.
+fn main_alone(
+    alloc: Global,
+    names: &[Bytes],
+    definitions: &[Definition],
+) -> Result<Vec<Start>, Memory>
+    requires { (d : Definition) → IsAmong definitions.now d → d.name < length names.now }
+    ensures { IfOk result (λ ss. ss.items ≡ main_stage names.now definitions.now) }
+{
     let mut stages = Vec::new(alloc);
-    stages.push(Start { name: 0, at: 0 })?;
-    Ok(nodes.finish(names, definitions, stages, 0))
+    for i in 0..definitions.len() {
+        let definition = definitions[i];
+        if names[definition.name as usize].as_slice() == b"main".as_slice() {
+            let Ok(()) = stages.push(Start {
+                name: definition.name,
+                at: definition.at,
+            }) else {
+                return Err(Memory);
+            };
+            return Ok(stages);
+        }
+    }
+    Ok(stages)
 }
 
-/// The program that a text spells.
-pub fn read(alloc: Global, text: &[u8]) -> Result<Program, ReadRefusal>
-    ensures read { IfOk result (λ P. Spells text.now P) }
-    ensures refused { IsErrOf result Later → (P : Grammar) → Spells text.now P → ⊥ }
+// The stages of the program: those of its start line, if it has one.
+fn stages_of(
+    alloc: Global,
+    names: &[Bytes],
+    definitions: &[Definition],
+    named: Vec<Start>,
+) -> Result<Vec<Start>, Memory>
+    requires { (d : Definition) → IsAmong definitions.now d → d.name < length names.now }
+    ensures line { (length named.items ≡ 0 → ⊥) → IfOk result (λ ss. ss.items ≡ named.items) }
+    ensures main { length named.items ≡ 0 → IfOk result (λ ss. ss.items ≡ main_stage names.now definitions.now) }
 {
-    if text.len() > MOST_TEXT {
-        return Err(ReadRefusal::Later);
+    if named.is_empty() {
+        main_alone(alloc, names, definitions)
+    } else {
+        Ok(named)
     }
-    let Some(begin) = behind_sign(text) else {
-        return Err(ReadRefusal::Later);
-    };
-    let mut nodes = Builder::new(alloc);
-    let numbers = match atoms(alloc, from(text, begin), &mut nodes) {
-        Ok(numbers) => numbers,
-        Err(refusal) => return Err(refusal),
-    };
-    if numbers.is_empty() {
-        return Err(ReadRefusal::Later);
+}
+
+// The program of what was read, unless a limit is broken.
+fn program(
+    alloc: Global,
+    draft: Draft,
+    definitions: Vec<Definition>,
+    named: Vec<Start>,
+) -> Result<Program, ReadRefusal>
+    requires { (at : ℕ → ℕ) × (tree : Tree) × ShowsDefinitions tree.definitions draft at definitions.items (length (header tree.header)) × ShowsHead tree.header draft at named.items }
+    ensures whole { IfOk result (λ _. draft.entry.broken ≡ None) }
+    ensures shown { IfOk result (λ P. (at : ℕ → ℕ) (tree : Tree) → ShowsDefinitions tree.definitions draft.entry at definitions.items (length (header tree.header)) → ShowsHead tree.header draft.entry at named.items → ShowsProgram tree (record { nodes = P.nodes; names = P.names; registers = draft.entry.registers; broken = None }) at P) }
+    ensures names { IfOk result (λ P. Different P.names) }
+    ensures registers { IfOk result (λ P. Different draft.entry.registers × (P.registers ≡ length draft.entry.registers)) }
+    ensures refused { IfErr result (λ e. (e ≡ ReadRefusal.Memory) ⊎ ((b : Break) × (draft.entry.broken ≡ Some b) × (e ≡ of_limit b))) }
+{
+    if let Some(broken) = draft.broken() {
+        return Err(limit_refusal(broken));
     }
-    let Ok(root) = row(&mut nodes, &numbers, 0) else {
+    let Ok(names) = draft.names(alloc) else {
         return Err(ReadRefusal::Memory);
     };
-    match main_alone(alloc, nodes, root) {
-        Ok(program) => Ok(program),
-        Err(Memory) => Err(ReadRefusal::Memory),
+    let Ok(stages) = stages_of(alloc, &names, &definitions, named) else {
+        return Err(ReadRefusal::Memory);
+    };
+    let Ok(program) = draft.finish(names, definitions, stages) else {
+        return Err(ReadRefusal::Memory);
+    };
+    Ok(program)
+}
+
+// The tokens of a text as a program.
+fn parse(alloc: Global, text: &[u8], tokens: &[Token]) -> Result<Program, ReadRefusal>
+    requires short { length text.now ≤ MAX_TEXT }
+    requires cut { AreTokens text.now tokens.now }
+    requires spans { All (IsSpan text.now) tokens.now }
+    ensures read { IfOk result (λ P. Spells text.now P) }
+    ensures refused { IfErr result (λ e. IsRefusedAs text.now e) }
+{
+    let mut reader = Reader::new(alloc);
+    let mut phase = Phase::Begin;
+    for i in 0..tokens.len() {
+        let token = tokens[i];
+        let word = Word {
+            kind: token.kind,
+            spelling: token.spelling(text),
+            at: token.from,
+        };
+        match reader.step(phase, word) {
+            Ok(next) => phase = next,
+            Err(fault) => return Err(step_refusal(fault, token.from)),
+        }
+    }
+    match reader.finish(phase) {
+        Ok(()) => {}
+        Err(fault) => return Err(step_refusal(fault, text.len() as u32)),
+    }
+    let Reader {
+        alloc: _,
+        stack: _,
+        draft,
+        definitions,
+        stages,
+    } = reader;
+    program(alloc, draft, definitions, stages)
+}
+
+/// The program that a text spells. The time is linear in the text.
+///
+/// The refusals are asked one after another over the whole text, `TextTooLong` first and `OverLimit` last; within one the lowest
+/// offset is answered.
+pub fn read(alloc: Global, text: &[u8]) -> Result<Program, ReadRefusal>
+    ensures read { IfOk result (λ P. Spells text.now P) }
+    ensures refused { IfErr result (λ e. IsRefusedAs text.now e) }
+{
+    match tokens(alloc, text) {
+        Ok(tokens) => parse(alloc, text, &tokens),
+        Err(fault) => Err(token_refusal(fault)),
     }
 }

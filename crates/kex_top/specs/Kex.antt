@@ -1,10 +1,10 @@
 -- What a call of the program leaves, by its answer.
-use Rattle.std.specs.Prelude.{◌≡◌, ◌⊎◌, ◌+◌, ◌-◌, ◌^◌, ◌<◌, ◌≤◌, ℕ, Bool, true, false, List, [], ◌++◌, Option, Some, None, length, min}
+use Rattle.std.specs.Prelude.{◌≡◌, ◌⊎◌, ◌+◌, ◌-◌, ◌^◌, ◌<◌, ◌≤◌, ℕ, Bool, true, false, List, [], ◌++◌, Option, Some, None, length, min, take}
 use Rattle.kex_ports.specs.Shelf.{IsTold, IsPast}
 use Rattle.kex_ports.specs.Causes.{Rose}
 use Rattle.kex_model.specs.Programs.{Grammar}
-use Rattle.kex_reader.specs.Terms.{Spells}
-use Rattle.kex_reader.specs.Lines.{column_at, line_at}
+use Rattle.kex_reader.specs.Spelling.{Spells}
+use Rattle.kex_reader.specs.Lines.{behind_feed, feeds}
 use Rattle.kex_compile.specs.Compiled.{Accepts, IsRefused}
 use Rattle.kex_compile.specs.declared.refusal.CompileRefusal.{CompileRefusal}
 use Rattle.kex_compile.specs.declared.refusal.CompileRefusal.TheVariants as compile
@@ -13,7 +13,7 @@ use Rattle.kex_words.specs.Lines.{counts_line}
 use Rattle.kex_words.specs.declared.refusals.Place.TheVariants.{At, Nowhere, Stage}
 use Rattle.kex_words.specs.declared.refusals.Refusal.{Refusal}
 use Rattle.kex_words.specs.declared.refusals.Rule.{Rule}
-use Rattle.kex_words.specs.declared.refusals.Rule.TheVariants.{Later, TwiceDefined, Unknown, NoStart, NotTail, TooManyPlaces, EmptyLoop, NoText}
+use Rattle.kex_words.specs.declared.refusals.Rule.TheVariants.{TextTooLong, BadToken, Unexpected, BadRegex, BadCount, BadSet, OverLimit, TwiceDefined, Unknown, NoStart, NotTail, TooManyPlaces, EmptyLoop, NoText}
 use Rattle.kex_top.specs.Answer.{Said}
 use Rattle.kex_compile.specs.Stages.{HaveInAll, roots_of}
 use Rattle.kex_top.specs.Pipelines.{Answered, MeansInTurn}
@@ -49,6 +49,17 @@ abbrev pub ShelfAnswers : Option (Option (List ℕ)) → ShelfChange → Status 
 ShelfAnswers told s ShelfFault = ((s.faults_before ≤ s.faults_now) × Rose s.faults_before s.faults_now) × Broke told s
 ShelfAnswers told s _ = ShelfIsLeft s
 
+-- A rule that the whole text breaks.
+abbrev pub broken : Rule → Refusal
+broken rule = record { rule = rule; place = Nowhere }
+
+-- The line and the column of an offset, from 1: the line feeds before it, and the bytes since the last of them.
+abbrev pub line_at : List ℕ → ℕ → ℕ
+line_at text at = feeds (take at text) + 1
+
+abbrev pub column_at : List ℕ → ℕ → ℕ
+column_at text at = behind_feed 0 (take at text) + 1
+
 -- A rule that is broken at an offset of the text.
 abbrev pub broken_at : Rule → List ℕ → ℕ → Refusal
 broken_at rule text at = record { rule = rule; place = At (line_at text at) (column_at text at) }
@@ -59,10 +70,16 @@ broken_in rule stage = record { rule = rule; place = Stage stage }
 
 -- The note's rule and place for a rule that a text breaks.
 abbrev pub IsRefusalOf : List ℕ → CompileRefusal → Refusal → Type 0
-IsRefusalOf text compile.Later r = r ≡ record { rule = Later; place = Nowhere }
+IsRefusalOf text compile.TextTooLong r = r ≡ broken TextTooLong
+IsRefusalOf text (compile.BadToken at) r = r ≡ broken_at BadToken text at
+IsRefusalOf text (compile.Unexpected at) r = r ≡ broken_at Unexpected text at
+IsRefusalOf text (compile.BadRegex at) r = r ≡ broken_at BadRegex text at
+IsRefusalOf text (compile.BadCount at) r = r ≡ broken_at BadCount text at
+IsRefusalOf text (compile.BadSet at) r = r ≡ broken_at BadSet text at
+IsRefusalOf text (compile.OverLimit at) r = r ≡ broken_at OverLimit text at
 IsRefusalOf text (compile.TwiceDefined at) r = r ≡ broken_at TwiceDefined text at
 IsRefusalOf text (compile.Unknown at) r = r ≡ broken_at Unknown text at
-IsRefusalOf text compile.NoStart r = r ≡ record { rule = NoStart; place = Nowhere }
+IsRefusalOf text compile.NoStart r = r ≡ broken NoStart
 IsRefusalOf text (compile.NotTail at) r = r ≡ broken_at NotTail text at
 IsRefusalOf text (compile.TooManyPlaces n) r = r ≡ broken_in TooManyPlaces n
 IsRefusalOf text (compile.EmptyLoop n) r = r ≡ broken_in EmptyLoop n
@@ -84,7 +101,7 @@ pub record Breaks (told : Option (Option (List ℕ))) (r : Refusal) : Type 0 whe
 
 -- What is told is past the limit, or breaks the rule.
 abbrev pub IsRefusedFor : Option (Option (List ℕ)) → Refusal → Type 0
-IsRefusedFor told r = (IsPast told most_text × (r ≡ record { rule = Later; place = Nowhere })) ⊎ Breaks told r
+IsRefusedFor told r = (IsPast told most_text × (r ≡ broken TextTooLong)) ⊎ Breaks told r
 
 -- A program that the told text spells ran.
 pub record Runs (limit block : ℕ) (told : Option (Option (List ℕ))) (source sink : Change) (status : Status) : Type 0 where

@@ -10,7 +10,7 @@ ghost use Rattle.kex_top.specs.Kex.{Answers, AnswersNothing, Checks, Headline, I
 ghost use Rattle.kex_top.specs.declared.status.Status.TheVariants.{Done, Memory};
 
 use crate::check::answer_check;
-use crate::refused::{LATER, refused};
+use crate::refused::{TOO_LONG, refused};
 use crate::serve::serve;
 use crate::status::Status;
 use kex_compile::compile;
@@ -41,7 +41,7 @@ fn answer_run<H: Shelf, S: Source, K: Sink>(
     let text = match shelf.take(alloc, program, MOST_TEXT) {
         Ok(text) => text,
         Err(ShelfAnswer::Failed) => return Status::ShelfFault,
-        Err(ShelfAnswer::TooLong) => return Status::Refused(LATER),
+        Err(ShelfAnswer::TooLong) => return Status::Refused(TOO_LONG),
         Err(ShelfAnswer::Memory) => return Status::Memory,
     };
     match compile(alloc, &text) {

@@ -7,7 +7,7 @@ ghost use Rattle.kex_top.specs.Kex.{Checks, ShelfAnswers, Told, shelf_change};
 ghost use Rattle.kex_top.specs.Run.{IsLeft};
 
 use crate::call::MOST_TEXT;
-use crate::refused::{LATER, refused};
+use crate::refused::{TOO_LONG, refused};
 use crate::status::Status;
 use kex_compile::compile;
 use kex_compile::compiled::Compiled;
@@ -49,7 +49,7 @@ pub(crate) fn answer_check<H: Shelf, K: Sink>(
     let text = match shelf.take(alloc, program, MOST_TEXT) {
         Ok(text) => text,
         Err(ShelfAnswer::Failed) => return Status::ShelfFault,
-        Err(ShelfAnswer::TooLong) => return Status::Refused(LATER),
+        Err(ShelfAnswer::TooLong) => return Status::Refused(TOO_LONG),
         Err(ShelfAnswer::Memory) => return Status::Memory,
     };
     match compile(alloc, &text) {

@@ -8,8 +8,8 @@ use kex_compile::refusal::CompileRefusal;
 use kex_reader::place;
 use kex_words::{Place, Refusal, Rule};
 
-pub(crate) const LATER: Refusal = Refusal {
-    rule: Rule::Later,
+pub(crate) const TOO_LONG: Refusal = Refusal {
+    rule: Rule::TextTooLong,
     place: Place::Nowhere,
 };
 
@@ -46,7 +46,13 @@ pub(crate) fn refused(text: &[u8], refusal: CompileRefusal) -> Status
     ensures { IsStatusOf text.now refusal result }
 {
     match refusal {
-        CompileRefusal::Later => Status::Refused(LATER),
+        CompileRefusal::TextTooLong => Status::Refused(TOO_LONG),
+        CompileRefusal::BadToken(at) => broken_at(Rule::BadToken, text, at),
+        CompileRefusal::Unexpected(at) => broken_at(Rule::Unexpected, text, at),
+        CompileRefusal::BadRegex(at) => broken_at(Rule::BadRegex, text, at),
+        CompileRefusal::BadCount(at) => broken_at(Rule::BadCount, text, at),
+        CompileRefusal::BadSet(at) => broken_at(Rule::BadSet, text, at),
+        CompileRefusal::OverLimit(at) => broken_at(Rule::OverLimit, text, at),
         CompileRefusal::TwiceDefined(at) => broken_at(Rule::TwiceDefined, text, at),
         CompileRefusal::Unknown(at) => broken_at(Rule::Unknown, text, at),
         CompileRefusal::NoStart => Status::Refused(NO_START),

@@ -47,7 +47,17 @@ fn words_of(alloc: Global, words: &[&str]) -> Result<Vec<String>, AllocError> {
 }
 
 fn holds<R: Threads + Sync>(rt: &R, alloc: Global, case: &Case) -> Result<bool, Fail> {
-    let words = words_of(alloc, case.words)?;
+    holds_by(rt, alloc, case.words, case)
+}
+
+// With these words in place of the case's own.
+fn holds_by<R: Threads + Sync>(
+    rt: &R,
+    alloc: Global,
+    words: &[&str],
+    case: &Case,
+) -> Result<bool, Fail> {
+    let words = words_of(alloc, words)?;
     let mut shelf = MemShelf::new(alloc, Vec::new(alloc));
     shelf.put("p", case.program)?;
     let mut input = MemSource::new(
@@ -257,15 +267,169 @@ fn faults_are_told_by_their_causes(rt: HostRuntime) -> Result<(), Fail> {
             notes: b"shelf fault\n",
             ..PLAIN
         },
+    ];
+    for case in &cases {
+        assert!(&rt; holds(&rt, rt.alloc(), case)?);
+    }
+    Ok(())
+}
+
+const PAIR: Case = Case {
+    program: b"start: a >> b\na := (~/x/ \"yy\")*\nb := (~/yyy/ \"z\")*\n",
+    input: b"xxx",
+    held: b"zz",
+    ..PLAIN
+};
+
+const fn stopped(stage: u32, at: u64, why: Why) -> Status {
+    Status::Rejected(Rejected { stage, at, why })
+}
+
+#[test]
+fn each_stage_reads_what_the_one_before_wrote(rt: HostRuntime) -> Result<(), Fail> {
+    let cases = [
+        PAIR,
         Case {
-            program: b"main := /a/ 1",
+            input: b"xx",
+            held: b"z",
+            status: stopped(2, 4, Why::End),
+            notes: b"rejected: stage 2 at byte 4 (end)\n",
+            ..PAIR
+        },
+        // The input of the second stage breaks off, and what is agreed on is written.
+        Case {
+            input: b"xxq",
+            held: b"z",
+            status: stopped(1, 2, Why::Byte),
+            notes: b"rejected: stage 1 at byte 2\n",
+            ..PAIR
+        },
+        // The last stage that rejects is told.
+        Case {
+            program: b"start: a >> b\na := (~/x/ \"yy\")*\nb := /y/\n",
+            input: b"xxq",
+            held: b"y",
+            status: stopped(2, 1, Why::Byte),
+            notes: b"rejected: stage 2 at byte 1\n",
+            ..PLAIN
+        },
+        // An input that breaks off isn't ended, even where it has a parse.
+        Case {
+            program: b"start: a >> b\na := (~/x/ \"yy\")*\nb := /y*/ \"!\"\n",
+            input: b"xxq",
+            held: b"yyyy",
+            status: stopped(1, 2, Why::Byte),
+            notes: b"rejected: stage 1 at byte 2\n",
+            ..PLAIN
+        },
+        Case {
+            program: b"// swap\nstart: s >> t\ns := ~/a/ \"b\" /* one */\nt := /b/ \"c\"\n",
             input: b"a",
+            held: b"bc",
+            ..PLAIN
+        },
+    ];
+    let ways = [
+        ["kex", "run", "p", "--block=65536"],
+        ["kex", "run", "p", "--block=1"],
+        ["kex", "run", "p", "--block=3"],
+    ];
+    for way in &ways {
+        for case in &cases {
+            assert!(&rt; holds_by(&rt, rt.alloc(), way, case)?);
+        }
+    }
+    Ok(())
+}
+
+#[test]
+fn each_stage_has_the_limit(rt: HostRuntime) -> Result<(), Fail> {
+    let case = Case {
+        words: &["kex", "run", "p", "--max-input", "3"],
+        program: b"start: a >> b\na := (~/x/ \"yy\")*\nb := /y*/\n",
+        input: b"xx",
+        held: b"yyy",
+        status: Status::TooLong(Rejected {
+            stage: 2,
+            at: 3,
+            why: Why::Limit,
+        }),
+        notes: b"too long: stage 2 at byte 3\n",
+        ..PLAIN
+    };
+    assert!(&rt; holds(&rt, rt.alloc(), &case)?);
+    Ok(())
+}
+
+const fn refused_at(rule: Rule, column: u32) -> Status {
+    Status::Refused(Refusal {
+        rule,
+        place: Place::At { line: 1, column },
+    })
+}
+
+const fn refused_in(rule: Rule, stage: u32) -> Status {
+    Status::Refused(Refusal {
+        rule,
+        place: Place::Stage(stage),
+    })
+}
+
+#[test]
+fn the_first_broken_rule_is_told(rt: HostRuntime) -> Result<(), Fail> {
+    let cases = [
+        Case {
+            program: b"main := /a**/",
+            status: refused_at(Rule::BadRegex, 12),
+            notes: b"refused: K03 BadRegex at line 1 column 12\n",
+            ..PLAIN
+        },
+        Case {
+            program: b"main := 1 main := 1",
+            status: refused_at(Rule::TwiceDefined, 11),
+            notes: b"refused: K07 TwiceDefined at line 1 column 11\n",
+            ..PLAIN
+        },
+        Case {
+            program: b"main := foo",
+            status: refused_at(Rule::Unknown, 9),
+            notes: b"refused: K08 Unknown at line 1 column 9\n",
+            ..PLAIN
+        },
+        Case {
+            program: b"foo := 1",
             status: Status::Refused(Refusal {
-                rule: Rule::Later,
+                rule: Rule::NoStart,
                 place: Place::Nowhere,
             }),
-            notes: b"refused: K99 Later\n",
+            notes: b"refused: K09 NoStart\n",
             ..PLAIN
+        },
+        Case {
+            program: b"main := main /a/ | 1",
+            status: refused_at(Rule::NotTail, 9),
+            notes: b"refused: K10 NotTail at line 1 column 9\n",
+            ..PLAIN
+        },
+        // An empty loop of the second stage comes before a first stage without a text.
+        Case {
+            program: b"start: a >> b\na := /a/ a\nb := (/b*/)*\n",
+            status: refused_in(Rule::EmptyLoop, 2),
+            notes: b"refused: K12 EmptyLoop in stage 2\n",
+            ..PLAIN
+        },
+        Case {
+            words: &["kex", "check", "p"],
+            program: b"start: b >> a\na := /a/ a\nb := /b*/\n",
+            status: refused_in(Rule::NoText, 2),
+            notes: b"refused: K13 NoText in stage 2\n",
+            ..PLAIN
+        },
+        Case {
+            words: &["kex", "check", "p"],
+            held: b"stages 2 places 18\n",
+            input: b"",
+            ..PAIR
         },
     ];
     for case in &cases {

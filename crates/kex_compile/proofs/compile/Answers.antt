@@ -1,9 +1,8 @@
-use Rattle.std.proofs.Common.{◌≡◌, ℕ, List, refl, sym, subst, ◌∙◌}
-use Rattle.std.specs.Prelude.{Err, IsErrOf}
+use Rattle.std.proofs.Common.{◌≡◌, ℕ, List, subst, ◌∙◌}
 use Rattle.kex_model.specs.Programs.{Grammar}
-use Rattle.kex_reader.specs.Terms.{Spells}
-use Rattle.kex_reader.specs.declared.gather.ReadRefusal.{ReadRefusal}
-use Rattle.kex_reader.specs.declared.gather.ReadRefusal.TheVariants.{Later, Memory}
+use Rattle.kex_reader.specs.Spelling.{Spells, IsRefusedAs}
+use Rattle.kex_reader.specs.declared.refusal.ReadRefusal.{ReadRefusal}
+use Rattle.kex_reader.specs.declared.refusal.ReadRefusal.TheVariants as read
 use Rattle.kex_rules.specs.Rules.{IsRuled, IsCause}
 use Rattle.kex_rules.specs.declared.refusal.RuleRefusal.{RuleRefusal}
 use Rattle.kex_rules.specs.declared.refusal.RuleRefusal.TheVariants as rule
@@ -15,9 +14,15 @@ use Rattle.kex_compile.specs.declared.refusal.PlanRefusal.TheVariants as plan
 use Rattle.kex_compile.proofs.FirstStages.{all-run}
 use Rattle.kex_compile.proofs.compile.Goals as goal
 
-unread : (text : List ℕ) (e : ReadRefusal) → (IsErrOf {T = Grammar} (Err e) Later → (P : Grammar) → Spells text P → ⊥) → IsRefused text (of_read e)
-unread text Later h = h refl
-unread text Memory h = tt
+unread : (text : List ℕ) (e : ReadRefusal) → IsRefusedAs text e → IsRefused text (of_read e)
+unread text read.TextTooLong h = h
+unread text (read.BadToken at) h = h
+unread text (read.Unexpected at) h = h
+unread text (read.BadRegex at) h = h
+unread text (read.BadCount at) h = h
+unread text (read.BadSet at) h = h
+unread text (read.OverLimit at) h = h
+unread text read.Memory h = tt
 
 unruled : (text : List ℕ) (P : Grammar) (e : RuleRefusal) → Spells text P → IsCause P e → IsRefused text (of_rule e)
 unruled text P (rule.TwiceDefined at) s h = (P, s, h)

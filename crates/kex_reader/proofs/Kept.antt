@@ -1,0 +1,187 @@
+-- What was noted of the checks so far, when a word asks more.
+use Rattle.std.proofs.Common.{◌≡◌, ℕ, suc, ◌+◌, ◌*◌, Bool, true, false, List, [], ◌∷◌, ◌++◌, length, Option, Some, None, Result, Ok, Err, refl, sym, ap, ◌∙◌, subst, arith}
+use Rattle.std.specs.Prelude.{OnOk, IfOk}
+use Rattle.std.proofs.lemmas.List.{append-nil}
+use Rattle.kex_regexp.specs.declared.breaks.Break.{Break}
+use Rattle.kex_regexp.specs.declared.breaks.Break.TheVariants.{BadCount}
+use Rattle.kex_regexp.specs.Notes.{held_lesser}
+use Rattle.kex_tokens.specs.declared.token.Kind.{Kind}
+use Rattle.kex_tokens.specs.declared.token.Kind.TheVariants as kinds
+use Rattle.kex_reader.specs.Syntax.{between, word, Word, Regex, Tilde, OpenParen, At, Postfix, ZeroOrMore, OneOrMore, Optional, Exactly, AtLeast, AtMost, Between, Atom, Once, Call, atom}
+use Rattle.kex_reader.specs.Reading.{Entry, Counting, CountStep, CountOn, CountRead, CountWrong, Mode, Need, Ready, After, Named, Writing, Bracket, BracketName, Assigning, Assigned, InCount, Inside, count_step, put}
+use Rattle.kex_reader.specs.Checks.{Check, Nested, Counted, Matched, is_bad_count, postfix_checks}
+use Rattle.kex_reader.specs.Stands.{Noted, depth, begin_asks, after_asks, named_asks, count_asks, asks}
+use Rattle.kex_reader.proofs.Noting.{noted_one, noted_same}
+
+pub same : (cs : List Check) (o : Option Break) → Noted cs o → Noted (cs ++ []) o
+same cs o n = subst (λ (x : List Check). Noted x o) (sym (append-nil cs)) n
+
+pub on_same : {A B : Type 0} (r : Result A B) (cs : List Check) (o p : Option Break) → OnOk r (p ≡ o) → Noted cs o → OnOk r (Noted (cs ++ []) p)
+on_same (Ok a) cs o p e n = subst (λ (x : Option Break). Noted (cs ++ []) x) (sym e) (same cs o n)
+on_same (Err b) cs o p e n = tt
+
+pub on_apply : {A B : Type 0} (r : Result A B) (cs ds : List Check) (o p : Option Break) → OnOk r ((cs : List Check) → Noted cs o → Noted (cs ++ ds) p) → Noted cs o → OnOk r (Noted (cs ++ ds) p)
+on_apply (Ok a) cs ds o p f n = f cs n
+on_apply (Err b) cs ds o p f n = tt
+
+pub on_from : {A B : Type 0} (r : Result A B) (cs ds es : List Check) (o : Option Break) → ds ≡ es → OnOk r (Noted (cs ++ ds) o) → OnOk r (Noted (cs ++ es) o)
+on_from r cs ds es o e h = subst (λ (x : List Check). OnOk r (Noted (cs ++ x) o)) e h
+
+pub moved : (cs : List Check) (o p : Option Break) → p ≡ o → Noted cs o → Noted cs p
+moved cs o p e n = subst (λ (x : Option Break). Noted cs x) (sym e) n
+
+-- ---- words that ask nothing
+
+abbrev pub IsQuiet : Kind → Type 0
+IsQuiet kinds.Tilde = ⊥
+IsQuiet kinds.OpenParen = ⊥
+IsQuiet kinds.Regex = ⊥
+IsQuiet _ = Unit {0}
+
+module _ (at : ℕ → ℕ) (i : ℕ) (es : List Entry) (b : List ℕ) where
+  quiet : (j : Kind) → IsQuiet j → begin_asks at i es (word j b) ≡ []
+  unfolding begin_asks
+  quiet kinds.Tilde q = absurd q
+  quiet kinds.OpenParen q = absurd q
+  quiet kinds.Regex q = absurd q
+  quiet _ q = refl
+
+  pub begin_quiet : (k j : Kind) → k ≡ j → IsQuiet j → [] ≡ begin_asks at i es (word k b)
+  begin_quiet k j e q = sym (ap (λ (x : Kind). begin_asks at i es (word x b)) e ∙ quiet j q)
+
+  pub begin_regex_asks : (k : Kind) (a d : ℕ) → k ≡ kinds.Regex → a ≡ at i → d ≡ depth es → Matched (a + 1) d (between b) ∷ [] ≡ begin_asks at i es (word k b)
+  unfolding begin_asks
+  begin_regex_asks k a d e f g = ap (λ (x : ℕ). Matched (x + 1) d (between b) ∷ []) f ∙ ap (λ (x : ℕ). Matched (at i + 1) x (between b) ∷ []) g ∙ sym (ap (λ (x : Kind). begin_asks at i es (word x b)) e)
+
+  pub begin_tilde_asks : (k : Kind) (a d : ℕ) → k ≡ kinds.Tilde → a ≡ at i → d ≡ depth es → Nested a d ∷ [] ≡ begin_asks at i es (word k b)
+  unfolding begin_asks
+  begin_tilde_asks k a d e f g = ap (λ (x : ℕ). Nested x d ∷ []) f ∙ ap (λ (x : ℕ). Nested (at i) x ∷ []) g ∙ sym (ap (λ (x : Kind). begin_asks at i es (word x b)) e)
+
+  pub begin_paren_asks : (k : Kind) (a d : ℕ) → k ≡ kinds.OpenParen → a ≡ at i → d ≡ depth es → Nested a d ∷ [] ≡ begin_asks at i es (word k b)
+  unfolding begin_asks
+  begin_paren_asks k a d e f g = ap (λ (x : ℕ). Nested x d ∷ []) f ∙ ap (λ (x : ℕ). Nested (at i) x ∷ []) g ∙ sym (ap (λ (x : Kind). begin_asks at i es (word x b)) e)
+
+abbrev pub IsSign : Kind → Type 0
+IsSign kinds.Star = Unit {0}
+IsSign kinds.Plus = Unit {0}
+IsSign kinds.Question = Unit {0}
+IsSign kinds.OpenBrace = Unit {0}
+IsSign _ = ⊥
+
+signs : (at : ℕ → ℕ) (i : ℕ) (a : Atom) (es : List Entry) (b : List ℕ) (j : Kind) → IsSign j → after_asks at i a es (word j b) ≡ []
+unfolding after_asks
+signs at i a es b kinds.Star q = refl
+signs at i a es b kinds.Plus q = refl
+signs at i a es b kinds.Question q = refl
+signs at i a es b kinds.OpenBrace q = refl
+signs at i a es b _ q = absurd q
+
+pub after_quiet : (at : ℕ → ℕ) (i : ℕ) (a : Atom) (es : List Entry) (b : List ℕ) (k j : Kind) → k ≡ j → IsSign j → [] ≡ after_asks at i a es (word k b)
+after_quiet at i a es b k j e q = sym (ap (λ (x : Kind). after_asks at i a es (word x b)) e ∙ signs at i a es b j q)
+
+pub after_begins : (at : ℕ → ℕ) (i : ℕ) (a : Atom) (es : List Entry) (b : List ℕ) (k : Kind) → (k ≡ kinds.Star → ⊥) → (k ≡ kinds.Plus → ⊥) → (k ≡ kinds.Question → ⊥) → (k ≡ kinds.OpenBrace → ⊥) → begin_asks at i (put (Once a) es) (word k b) ≡ after_asks at i a es (word k b)
+unfolding after_asks
+after_begins at i a es b kinds.Star n1 n2 n3 n4 = absurd (n1 refl)
+after_begins at i a es b kinds.Plus n1 n2 n3 n4 = absurd (n2 refl)
+after_begins at i a es b kinds.Question n1 n2 n3 n4 = absurd (n3 refl)
+after_begins at i a es b kinds.OpenBrace n1 n2 n3 n4 = absurd (n4 refl)
+after_begins at i a es b _ n1 n2 n3 n4 = refl
+
+pub named_at_asks : (at : ℕ → ℕ) (i : ℕ) (n : List ℕ) (es : List Entry) (b : List ℕ) (k : Kind) (a d : ℕ) → k ≡ kinds.At → a ≡ at i → d ≡ depth es → Nested a d ∷ [] ≡ named_asks at i n es (word k b)
+unfolding named_asks
+named_at_asks at i n es b k a d e f g = ap (λ (x : ℕ). Nested x d ∷ []) f ∙ ap (λ (x : ℕ). Nested (at i) x ∷ []) g ∙ sym (ap (λ (x : Kind). named_asks at i n es (word x b)) e)
+
+pub named_after : (at : ℕ → ℕ) (i : ℕ) (n : List ℕ) (es : List Entry) (b : List ℕ) (k : Kind) → (k ≡ kinds.At → ⊥) → (k ≡ kinds.Define → ⊥) → after_asks at (i + 1) (Call n) es (word k b) ≡ named_asks at i n es (word k b)
+unfolding named_asks
+named_after at i n es b kinds.At n1 n2 = absurd (n1 refl)
+named_after at i n es b kinds.Define n1 n2 = absurd (n2 refl)
+named_after at i n es b _ n1 n2 = refl
+
+-- ---- counts
+
+pub good_count : (p : Postfix) (cs : List Check) (o : Option Break) (brace : ℕ) → is_bad_count p ≡ false → Noted cs o → Noted (cs ++ postfix_checks p brace) o
+unfolding postfix_checks
+good_count ZeroOrMore cs o brace e n = same cs o n
+good_count OneOrMore cs o brace e n = same cs o n
+good_count Optional cs o brace e n = same cs o n
+good_count (Exactly m) cs o brace e n = noted_same o cs (Counted brace (Exactly m)) n (λ b h. apart (is_bad_count (Exactly m)) h.0 e)
+  where
+    apart : (t : Bool) → t ≡ true → t ≡ false → ⊥
+    apart true f g = cc
+    apart false f g = cc
+good_count (AtLeast m) cs o brace e n = noted_same o cs (Counted brace (AtLeast m)) n (λ b h. cc)
+good_count (AtMost m) cs o brace e n = noted_same o cs (Counted brace (AtMost m)) n (λ b h. cc)
+good_count (Between m k) cs o brace e n = noted_same o cs (Counted brace (Between m k)) n (λ b h. cc)
+
+pub bad_count : (p : Postfix) (cs : List Check) (o : Option Break) (brace : ℕ) → is_bad_count p ≡ true → Noted cs o → Noted (cs ++ postfix_checks p brace) (held_lesser o (Some (BadCount brace)))
+unfolding postfix_checks
+bad_count ZeroOrMore cs o brace e n = absurd cc
+bad_count OneOrMore cs o brace e n = absurd cc
+bad_count Optional cs o brace e n = absurd cc
+bad_count (Exactly m) cs o brace e n = noted_one o (BadCount brace) cs (Counted brace (Exactly m)) n (e, refl) (λ other h. h.1)
+bad_count (AtLeast m) cs o brace e n = noted_one o (BadCount brace) cs (Counted brace (AtLeast m)) n (e, refl) (λ other h. h.1)
+bad_count (AtMost m) cs o brace e n = noted_one o (BadCount brace) cs (Counted brace (AtMost m)) n (e, refl) (λ other h. h.1)
+bad_count (Between m k) cs o brace e n = noted_one o (BadCount brace) cs (Counted brace (Between m k)) n (e, refl) (λ other h. h.1)
+
+pub on_asks : (brace : ℕ) (c : Counting) → [] ≡ count_asks brace (CountOn c)
+unfolding count_asks
+on_asks brace c = refl
+
+pub read_asks : (brace at' : ℕ) (t : CountStep) (p : Postfix) → t ≡ CountRead p → brace ≡ at' → postfix_checks p brace ≡ count_asks at' t
+unfolding count_asks
+read_asks brace at' t p e f = ap (λ (x : ℕ). postfix_checks p x) f ∙ sym (ap (λ (x : CountStep). count_asks at' x) e)
+
+pub on_moved : {A B : Type 0} (r : Result A B) (cs : List Check) (o p : Option Break) → OnOk r (p ≡ o) → Noted cs o → OnOk r (Noted cs p)
+on_moved (Ok a) cs o p e n = moved cs o p e n
+on_moved (Err b) cs o p e n = tt
+
+pub on_refl : {A B : Type 0} (r : Result A B) (o : Option Break) → OnOk r (o ≡ o)
+on_refl (Ok a) o = refl
+on_refl (Err b) o = tt
+
+pub call_asks : (at : ℕ → ℕ) (i : ℕ) (n : List ℕ) (es : List Entry) (w : Word) → after_asks at (i + length (atom (Call n))) (Call n) es w ≡ after_asks at (i + 1) (Call n) es w
+unfolding atom
+call_asks at i n es w = refl
+
+-- ---- modes
+
+module _ (at : ℕ → ℕ) (k : ℕ) (i : Inside) (w : Word) where
+  pub need_asks : i.mode ≡ Need → begin_asks at k i.entries w ≡ asks at k i.mode i.entries w
+  unfolding asks
+  need_asks e = sym (ap (λ (m : Mode). asks at k m i.entries w) e)
+
+  pub ready_asks : i.mode ≡ Ready → begin_asks at k i.entries w ≡ asks at k i.mode i.entries w
+  unfolding asks
+  ready_asks e = sym (ap (λ (m : Mode). asks at k m i.entries w) e)
+
+  pub mode_after_asks : (a : Atom) → i.mode ≡ After a → after_asks at (k + length (atom a)) a i.entries w ≡ asks at k i.mode i.entries w
+  unfolding asks
+  mode_after_asks a e = sym (ap (λ (m : Mode). asks at k m i.entries w) e)
+
+  pub mode_named_asks : (f : Bool) (n : List ℕ) → i.mode ≡ Named f n → named_asks at k n i.entries w ≡ asks at k i.mode i.entries w
+  unfolding asks
+  mode_named_asks f n e = sym (ap (λ (m : Mode). asks at k m i.entries w) e)
+
+  pub mode_count_asks : (a : Atom) (c : Counting) → i.mode ≡ InCount a c → count_asks (at (k + length (atom a))) (count_step c w) ≡ asks at k i.mode i.entries w
+  unfolding asks
+  mode_count_asks a c e = sym (ap (λ (m : Mode). asks at k m i.entries w) e)
+
+abbrev pub IsQuietMode : Mode → Type 0
+IsQuietMode Need = ⊥
+IsQuietMode Ready = ⊥
+IsQuietMode (After a) = ⊥
+IsQuietMode (Named f n) = ⊥
+IsQuietMode (InCount a c) = ⊥
+IsQuietMode _ = Unit {0}
+
+quiet_asks : (at : ℕ → ℕ) (k : ℕ) (es : List Entry) (m : Mode) (w : Word) → IsQuietMode m → [] ≡ asks at k m es w
+unfolding asks
+quiet_asks at k es Need w q = absurd q
+quiet_asks at k es Ready w q = absurd q
+quiet_asks at k es (After a) w q = absurd q
+quiet_asks at k es (Named f n) w q = absurd q
+quiet_asks at k es (InCount a c) w q = absurd q
+quiet_asks at k es _ w q = refl
+
+pub quiet_mode : (at : ℕ → ℕ) (k : ℕ) (i : Inside) (m : Mode) (w : Word) → i.mode ≡ m → IsQuietMode m → [] ≡ asks at k i.mode i.entries w
+quiet_mode at k i m w e q = quiet_asks at k i.entries m w q ∙ sym (ap (λ (x : Mode). asks at k x i.entries w) e)

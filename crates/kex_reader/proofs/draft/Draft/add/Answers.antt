@@ -1,0 +1,28 @@
+use Rattle.std.proofs.Common.{◌≡◌, ℕ, ◌+◌, ◌∷◌, [], ◌++◌, List, length, Option, Some, None, refl, sym, ap, ◌∙◌, subst, arith}
+use Rattle.std.specs.Prelude.{slice_get}
+use Rattle.kex_code.specs.Codes.{Begins, IsAmong}
+use Rattle.kex_model.specs.Programs.{HasNames}
+use Rattle.kex_model.specs.declared.program.Node.{Node}
+use Rattle.kex_reader.specs.Shown.{Made}
+use Rattle.kex_reader.specs.Stands.{Keeps, Noted}
+use Rattle.kex_reader.proofs.Drafting.{all_named, begins_same, begun_long, body_within, keeping, named_push, Keeps-trans, adds_named, adds_begins}
+use Rattle.kex_model.proofs.Tables.{get_last}
+use Rattle.kex_reader.proofs.draft.Draft.add.Goals as goal
+
+pub invariant_of-self-2 : goal.invariant_of-self-2
+invariant_of-self-2 c =
+    let d = c.self.inside in
+    let x : Node = record { kind = c.args.kind; at = c.args.at } in
+    let named : HasNames (length d.names) (length d.registers) c.args.kind = subst (λ (z : Made). HasNames (length z.names) (length z.registers) c.args.kind) (sym c.self.view_is) c.requires.named in
+    subst (λ (ns : List Node). (n : Node) → IsAmong ns n → HasNames (length d.names) (length d.registers) n.kind) (sym c.in-Ok.ensures.added) (named_push (length d.names) (length d.registers) d.nodes x c.self.invariant named)
+
+pub returns-clause-keeps : goal.returns-clause-keeps
+returns-clause-keeps c =
+    let d = c.self.inside in
+    subst (λ (z : Made). Keeps z (record { nodes = c.add.new.self; names = d.names; registers = d.registers; broken = d.broken })) c.self.view_is
+    (keeping (record { nodes = d.nodes; names = d.names; registers = d.registers; broken = d.broken }) (record { nodes = c.add.new.self; names = d.names; registers = d.registers; broken = d.broken }) (_, c.in-Ok.ensures.added) (begins_same d.names) (begins_same d.registers) (λ e. e))
+
+pub returns-clause-node : goal.returns-clause-node
+returns-clause-node c =
+    let d = c.self.inside in
+    ap (slice_get c.add.new.self) c.in-Ok.ensures.number ∙ ap (λ (ns : List Node). slice_get ns (length d.nodes)) c.in-Ok.ensures.added ∙ get_last d.nodes (record { kind = c.args.kind; at = c.args.at })

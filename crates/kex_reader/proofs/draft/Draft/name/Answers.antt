@@ -1,0 +1,21 @@
+use Rattle.std.proofs.Common.{◌≡◌, ℕ, ◌+◌, ◌∷◌, [], ◌++◌, List, length, Option, Some, None, refl, sym, ap, ◌∙◌, subst, arith}
+use Rattle.std.specs.Prelude.{slice_get}
+use Rattle.kex_code.specs.Codes.{Begins, IsAmong}
+use Rattle.kex_model.specs.Programs.{HasNames}
+use Rattle.kex_model.specs.declared.program.Node.{Node}
+use Rattle.kex_reader.specs.Shown.{Made}
+use Rattle.kex_reader.specs.Stands.{Keeps, Noted}
+use Rattle.kex_reader.proofs.Drafting.{all_named, begins_same, begun_long, body_within, keeping, named_push, Keeps-trans, adds_named, adds_begins}
+use Rattle.kex_reader.proofs.draft.Draft.name.Goals as goal
+
+pub invariant_of-self : goal.invariant_of-self
+invariant_of-self c = let d = c.self.inside in all_named (length d.names) (length c.number.new.self) (length d.registers) (length d.registers) d.nodes (begun_long d.names c.number.new.self c.number.ensures.grown) (omega arith) c.self.invariant
+
+pub invariant_of-self-2 : goal.invariant_of-self-2
+invariant_of-self-2 c = let d = c.self.inside in all_named (length d.names) (length c.number.new.self) (length d.registers) (length d.registers) d.nodes (begun_long d.names c.number.new.self c.number.ensures.grown) (omega arith) c.self.invariant
+
+pub returns-clause-keeps : goal.returns-clause-keeps
+returns-clause-keeps c =
+    let d = c.self.inside in
+    subst (λ (z : Made). Keeps z (record { nodes = d.nodes; names = c.number.new.self; registers = d.registers; broken = d.broken })) c.self.view_is
+    (keeping (record { nodes = d.nodes; names = d.names; registers = d.registers; broken = d.broken }) (record { nodes = d.nodes; names = c.number.new.self; registers = d.registers; broken = d.broken }) (begins_same d.nodes) (c.number.ensures.grown) (begins_same d.registers) (λ e. e))

@@ -1,0 +1,75 @@
+use Rattle.std.proofs.Common.{◌≡◌, ℕ, ◌+◌, ◌<◌, true, false, List, [], ◌∷◌, ◌++◌, length, None, Some, refl, sym, ap, ◌∙◌, subst, arith}
+use Rattle.kex_tokens.specs.declared.token.Kind.TheVariants as kinds
+use Rattle.kex_model.specs.declared.program.Kind.TheVariants as nodes
+use Rattle.kex_reader.specs.declared.stack.Frame.TheVariants as frames
+use Rattle.kex_reader.specs.Syntax.{Once, Call, One, Lit, Match, Write, ZeroOrMore, OneOrMore, Optional, Turns, between, atom}
+use Rattle.kex_reader.specs.Reading.{take_seq, take_term, entries, put, goes, After}
+use Rattle.kex_reader.specs.Shown.{IsNode}
+use Rattle.kex_reader.proofs.Drafting.{Keeps-refl, Keeps-trans, atom_within, atom_more}
+use Rattle.kex_reader.proofs.Stacks.{frames_more}
+use Rattle.kex_reader.proofs.Stepping.{to, memory, wrong, stood, need, ready, after, named_waits, writing, bracket, bracket_name, count_opens, one_shows, call_shows, lit_shows, write_shows, match_shows, begin_kind, begin_other, begin_name, begin_literal, begin_regex, begin_tilde, begin_bang, begin_bracket, begin_paren, begin_bar, no_bar, begin_close, no_close, begin_one, begin_number, bar_steps, bar_wrong, close_wrong, close_steps, unclosed, after_kind, after_other, after_star, after_plus, after_question, after_brace, once_shows, turns_show, put_place, named_kind, named_other, named_at, named_define, call_ends, name_other, name_is, atom_steps, tilde_steps, paren_steps, storing_steps, atom_of, literal_of, match_of, on_keeps, star_low, star_high, plus_low, plus_high, optional_low, optional_high}
+use Rattle.std.proofs.lemmas.Option.{slice_get_within}
+use Rattle.kex_tokens.specs.Lexemes.{IsToken}
+use Rattle.kex_reader.specs.Reading.{on_count, CountRead, mode, Assigned}
+use Rattle.kex_reader.proofs.Noting.{never_none, noted_one, noted_same}
+use Rattle.kex_reader.proofs.Counting.{count_refines}
+use Rattle.kex_reader.proofs.Modes.{leaf_below, pieces_in, assigned_names, assigned_leaf, counts_in, mode_need, mode_ready, mode_after, mode_named, mode_writing, mode_bracket, mode_bracket_name, mode_assigning, mode_assigned, mode_count, first_wrong, first_on, next_wrong, next_on, next_close, assigned_in, assign_shows, assigned_at, count_on, count_wrong, count_read, count_bad, read_is, read_count, bad_turns, step_of, word_place, word_here}
+use Rattle.kex_reader.proofs.Kept.{same, on_same, on_apply, on_from, moved, begin_quiet, begin_regex_asks, begin_tilde_asks, begin_paren_asks, after_quiet, after_begins, named_at_asks, named_after, good_count, bad_count, on_asks, read_asks}
+use Rattle.kex_reader.proofs.Stacks.{depth_is}
+use Rattle.kex_reader.specs.Syntax.{word}
+use Rattle.kex_reader.specs.Stands.{begin_asks}
+use Rattle.kex_reader.proofs.Stepping.{put_index}
+use Rattle.kex_reader.proofs.inside.behind.Goals as goal
+
+pub returns-in-Star-clause-step : goal.returns-in-Star-clause-step
+returns-in-Star-clause-step c = λ at base es a h e p s. to _ at base _ _ _ _ (after_kind a es c.args.word.spelling.now c.args.word.kind kinds.Star _ c.in-Star.is (after_star a es)) (c.turns.ensures.step at base es a ZeroOrMore h e s star_low star_high)
+
+pub returns-in-Plus-clause-step : goal.returns-in-Plus-clause-step
+returns-in-Plus-clause-step c = λ at base es a h e p s. to _ at base _ _ _ _ (after_kind a es c.args.word.spelling.now c.args.word.kind kinds.Plus _ c.in-Plus.is (after_plus a es)) (c.turns-in-Plus.ensures.step at base es a OneOrMore h e s plus_low plus_high)
+
+pub returns-in-Question-clause-step : goal.returns-in-Question-clause-step
+returns-in-Question-clause-step c = λ at base es a h e p s. to _ at base _ _ _ _ (after_kind a es c.args.word.spelling.now c.args.word.kind kinds.Question _ c.in-Question.is (after_question a es)) (c.turns-in-Question.ensures.step at base es a Optional h e s optional_low optional_high)
+
+pub returns-in-OpenBrace-clause-step : goal.returns-in-OpenBrace-clause-step
+returns-in-OpenBrace-clause-step c = λ at base es a h e p s. to _ at base _ _ _ _ (after_kind a es c.args.word.spelling.now c.args.word.kind kinds.OpenBrace _ c.in-OpenBrace.is (after_brace a es)) (count_opens c.args.draft.now at base c.args.stack.now es a c.args.item _ h e s p)
+
+pub returns-in_default-put-clause-step : goal.returns-in_default-put-clause-step
+returns-in_default-put-clause-step c = λ at base es a h e p s. memory c.put.new.draft at base c.put.new.stack _
+
+pub returns-in-Ok : goal.returns-in-Ok
+returns-in-Ok c = record {
+  keeps = on_keeps _ _ _ _ c.in-Ok.ensures.keeps c.begin.ensures.keeps;
+  notes = λ at base es a h e p s cs n.
+      on_from c.begin.result cs _ _ c.begin.new.draft.broken (ap (λ k. begin_asks at k (put (Once a) es) (word c.args.word.kind c.args.word.spelling.now)) (put_index base a es) ∙ after_begins at (base + length (entries es) + length (atom a)) a es c.args.word.spelling.now c.args.word.kind c.in_default.not-Star c.in_default.not-Plus c.in_default.not-Question c.in_default.not-OpenBrace)
+      (c.begin.ensures.notes at base (put (Once a) es) (c.in-Ok.ensures.put at base es (Once a) h e (once_shows c.args.draft.now at c.args.item.node (base + length (entries es)) a s)) (put_place at base c.args.word.at a es p) cs (moved cs c.args.draft.now.broken c.put.new.draft.broken c.in-Ok.ensures.broken n));
+  step = λ at base es a h e p s.
+      to _ at base _ _ _ _ (after_other a es c.args.word.spelling.now c.args.word.kind c.in_default.not-Star c.in_default.not-Plus c.in_default.not-Question c.in_default.not-OpenBrace)
+      (c.begin.ensures.step at base (put (Once a) es) (c.in-Ok.ensures.put at base es (Once a) h e (once_shows c.args.draft.now at c.args.item.node (base + length (entries es)) a s)) (put_place at base c.args.word.at a es p));
+}
+
+pub put-requires : goal.put-requires
+put-requires c = let r = c.requires.atom in (r.0, r.1, r.2, Once r.3, r.4, r.5, once_shows c.args.draft.now r.0 c.args.item.node (r.1 + length (entries r.2)) r.3 r.6)
+
+pub begin-requires-clause-frames : goal.begin-requires-clause-frames
+begin-requires-clause-frames c = let r = c.requires.atom in (r.0, r.1, put (Once r.3) r.2, c.in-Ok.ensures.put r.0 r.1 r.2 (Once r.3) r.4 r.5 (once_shows c.args.draft.now r.0 c.args.item.node (r.1 + length (entries r.2)) r.3 r.6))
+
+pub turns-requires-clause-count : goal.turns-requires-clause-count
+turns-requires-clause-count c = (ZeroOrMore, star_low, star_high, tt)
+
+pub turns-requires-in-Plus-clause-count : goal.turns-requires-in-Plus-clause-count
+turns-requires-in-Plus-clause-count c = (OneOrMore, plus_low, plus_high, tt)
+
+pub turns-requires-in-Question-clause-count : goal.turns-requires-in-Question-clause-count
+turns-requires-in-Question-clause-count c = (Optional, optional_low, optional_high, omega arith)
+
+pub returns-in-Star-clause-notes : goal.returns-in-Star-clause-notes
+returns-in-Star-clause-notes c = λ at base es a h e p s cs n. on_from c.turns.result cs [] _ c.turns.new.draft.broken (after_quiet at (base + length (entries es) + length (atom a)) a es c.args.word.spelling.now c.args.word.kind kinds.Star c.in-Star.is tt) (on_same c.turns.result cs c.args.draft.now.broken c.turns.new.draft.broken c.turns.ensures.broken n)
+
+pub returns-in-Plus-clause-notes : goal.returns-in-Plus-clause-notes
+returns-in-Plus-clause-notes c = λ at base es a h e p s cs n. on_from c.turns-in-Plus.result cs [] _ c.turns-in-Plus.new.draft.broken (after_quiet at (base + length (entries es) + length (atom a)) a es c.args.word.spelling.now c.args.word.kind kinds.Plus c.in-Plus.is tt) (on_same c.turns-in-Plus.result cs c.args.draft.now.broken c.turns-in-Plus.new.draft.broken c.turns-in-Plus.ensures.broken n)
+
+pub returns-in-Question-clause-notes : goal.returns-in-Question-clause-notes
+returns-in-Question-clause-notes c = λ at base es a h e p s cs n. on_from c.turns-in-Question.result cs [] _ c.turns-in-Question.new.draft.broken (after_quiet at (base + length (entries es) + length (atom a)) a es c.args.word.spelling.now c.args.word.kind kinds.Question c.in-Question.is tt) (on_same c.turns-in-Question.result cs c.args.draft.now.broken c.turns-in-Question.new.draft.broken c.turns-in-Question.ensures.broken n)
+
+pub returns-in-OpenBrace-clause-notes : goal.returns-in-OpenBrace-clause-notes
+returns-in-OpenBrace-clause-notes c = λ at base es a h e p s cs n. subst (λ x. Rattle.kex_reader.specs.Stands.Noted (cs ++ x) c.args.draft.now.broken) (after_quiet at (base + length (entries es) + length (atom a)) a es c.args.word.spelling.now c.args.word.kind kinds.OpenBrace c.in-OpenBrace.is tt) (same cs c.args.draft.now.broken n)

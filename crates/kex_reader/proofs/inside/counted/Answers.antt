@@ -1,0 +1,74 @@
+use Rattle.std.proofs.Common.{◌≡◌, ℕ, ◌+◌, ◌<◌, true, false, List, [], ◌∷◌, ◌++◌, length, None, Some, refl, sym, ap, ◌∙◌, subst, arith}
+use Rattle.kex_tokens.specs.declared.token.Kind.TheVariants as kinds
+use Rattle.kex_model.specs.declared.program.Kind.TheVariants as nodes
+use Rattle.kex_reader.specs.declared.stack.Frame.TheVariants as frames
+use Rattle.kex_reader.specs.Syntax.{Once, Call, One, Lit, Match, Write, ZeroOrMore, OneOrMore, Optional, Turns, between, atom}
+use Rattle.kex_reader.specs.Reading.{take_seq, take_term, entries, put, goes, After}
+use Rattle.kex_reader.specs.Shown.{IsNode}
+use Rattle.kex_reader.proofs.Drafting.{Keeps-refl, Keeps-trans, atom_within, atom_more}
+use Rattle.kex_reader.proofs.Stacks.{frames_more}
+use Rattle.kex_reader.proofs.Stepping.{to, memory, wrong, stood, need, ready, after, named_waits, writing, bracket, bracket_name, count_opens, one_shows, call_shows, lit_shows, write_shows, match_shows, begin_kind, begin_other, begin_name, begin_literal, begin_regex, begin_tilde, begin_bang, begin_bracket, begin_paren, begin_bar, no_bar, begin_close, no_close, begin_one, begin_number, bar_steps, bar_wrong, close_wrong, close_steps, unclosed, after_kind, after_other, after_star, after_plus, after_question, after_brace, once_shows, turns_show, put_place, named_kind, named_other, named_at, named_define, call_ends, name_other, name_is, atom_steps, tilde_steps, paren_steps, storing_steps, atom_of, literal_of, match_of, star_low, star_high, plus_low, plus_high, optional_low, optional_high, sign_other, sign_arrow, sign_plus}
+use Rattle.std.proofs.lemmas.Option.{slice_get_within}
+use Rattle.kex_tokens.specs.Lexemes.{IsToken}
+use Rattle.kex_reader.specs.declared.inside.Wait.TheVariants as waits
+use Rattle.kex_reader.specs.Reading.{on_count, CountRead, mode, Assigned, Need, Ready, Named, Writing, Bracket, BracketName, Assigning, InCount, count_step}
+use Rattle.kex_reader.specs.Syntax.{word}
+use Rattle.kex_reader.specs.Checks.{Nested}
+use Rattle.kex_reader.specs.Shown.{assigned, IsRegister}
+use Rattle.kex_reader.specs.Stands.{ShowsMode, ShowsCountStep}
+use Rattle.kex_reader.proofs.Noting.{never_none, noted_one, noted_same}
+use Rattle.kex_reader.proofs.Counting.{count_refines}
+use Rattle.kex_reader.proofs.Modes.{leaf_below, pieces_in, assigned_names, assigned_leaf, counts_in, mode_need, mode_ready, mode_after, mode_named, mode_writing, mode_bracket, mode_bracket_name, mode_assigning, mode_assigned, mode_count, first_wrong, first_on, next_wrong, next_on, next_close, assigned_in, assign_shows, assigned_at, count_on, count_wrong, count_read, count_bad, read_is, read_count, bad_turns, step_of, word_place, word_here, in_need, in_ready, in_after, in_named, in_writing, in_bracket, in_bracket_name, in_assigning, in_assigned, in_count, need_long, ready_long, after_long, named_long, call_place, some_named, some_atom, some_count, some_counting, some_assigned, some_name, write_of, assign_of, assigning_on}
+use Rattle.kex_reader.proofs.Kept.{same, on_same, on_apply, on_from, moved, begin_quiet, begin_regex_asks, begin_tilde_asks, begin_paren_asks, after_quiet, after_begins, named_at_asks, named_after, good_count, bad_count, on_asks, read_asks, on_moved}
+use Rattle.kex_reader.proofs.Stacks.{depth_is}
+use Rattle.kex_reader.proofs.Modes.{count_on_notes}
+use Rattle.kex_reader.proofs.inside.counted.Goals as goal
+
+pub returns-in-On-clause-step : goal.returns-in-On-clause-step
+returns-in-On-clause-step c = λ at base es a t h e b s k. count_on c.args.draft.now at base c.args.stack.now es a c.args.item c.args.brace c.in-On.count t h e b s (subst (λ x. ShowsCountStep x t) c.in-On.is k)
+
+pub returns-in-Read-clause-step : goal.returns-in-Read-clause-step
+returns-in-Read-clause-step c = λ at base es a t h e b s k.
+    let r = count_read c.in-Read.bounds t (subst (λ x. ShowsCountStep x t) c.in-Read.is k) in
+    to _ at base _ _ _ _ (read_is a es t r.0 r.1) (c.turns.ensures.step at base es a r.0 h e s r.2 r.3)
+
+pub returns-in-Wrong-clause-step : goal.returns-in-Wrong-clause-step
+returns-in-Wrong-clause-step c = λ at base es a t h e b s k. count_wrong c.args.draft.now at base c.args.stack.now es a t (subst (λ x. ShowsCountStep x t) c.in-Wrong.is k)
+
+pub returns-in_default-clause-step : goal.returns-in_default-clause-step
+returns-in_default-clause-step c = λ at base es a t h e b s k. memory c.put.new.draft at base c.put.new.stack _
+
+pub returns-in-Ok-clause-step : goal.returns-in-Ok-clause-step
+returns-in-Ok-clause-step c = λ at base es a t h e b s k.
+    let r = count_bad t (subst (λ x. ShowsCountStep x t) c.in-Bad.is k) in
+    let i = base + length (entries es) in
+    let more = c.note.ensures.keeps in
+    let never = λ (z : c.note.new.self.broken ≡ None). never_none c.args.draft.now.broken _ (sym (ap (λ m. m.broken) c.note.ensures.noted) ∙ z) in
+    let bad = bad_turns c.note.new.self at c.args.item.node i a r.0 (atom_within a c.note.new.self at c.args.item.node i (atom_more a c.args.draft.now c.note.new.self at c.args.item.node i more s)) never (atom_more a c.args.draft.now c.note.new.self at c.args.item.node i more s) in
+    to _ at base _ _ _ _ (read_is a es t r.0 r.1) (ready c.put.new.draft at base c.put.new.stack (put (Turns a r.0) es) (c.in-Ok.ensures.put at base es (Turns a r.0) (frames_more c.args.draft.now c.note.new.self at base c.args.stack.now es more h) e bad))
+
+pub turns-requires-clause-count : goal.turns-requires-clause-count
+turns-requires-clause-count c =
+    let q = c.requires.count in
+    let r = count_read c.in-Read.bounds q.0 (subst (λ x. ShowsCountStep x q.0) c.in-Read.is q.1) in
+    (r.0, r.2, r.3, read_count c.in-Read.bounds q.0 (subst (λ x. ShowsCountStep x q.0) c.in-Read.is q.1))
+
+pub put-requires : goal.put-requires
+put-requires c =
+    let r = c.requires.atom in
+    let more = c.note.ensures.keeps in
+    let i = r.1 + length (entries r.2) in
+    (r.0, r.1, r.2, Once r.3, frames_more c.args.draft.now c.note.new.self r.0 r.1 c.args.stack.now r.2 more r.4, r.5, once_shows c.note.new.self r.0 c.args.item.node i r.3 (atom_more r.3 c.args.draft.now c.note.new.self r.0 c.args.item.node i more r.6))
+
+pub returns-in-On-clause-notes : goal.returns-in-On-clause-notes
+returns-in-On-clause-notes c = λ t from b k cs n. count_on_notes from t c.in-On.count (subst (λ x. ShowsCountStep x t) c.in-On.is k) cs c.args.draft.now.broken n
+
+pub returns-in-Read-clause-notes : goal.returns-in-Read-clause-notes
+returns-in-Read-clause-notes c = λ t from b k cs n.
+    let r = count_read c.in-Read.bounds t (subst (λ x. ShowsCountStep x t) c.in-Read.is k) in
+    on_from c.turns.result cs _ _ c.turns.new.draft.broken (read_asks c.args.brace from t r.0 r.1 b) (on_moved c.turns.result _ c.args.draft.now.broken c.turns.new.draft.broken c.turns.ensures.broken (good_count r.0 cs c.args.draft.now.broken c.args.brace r.4 n))
+
+pub returns-in-Ok-clause-notes : goal.returns-in-Ok-clause-notes
+returns-in-Ok-clause-notes c = λ t from b k cs n.
+    let r = count_bad t (subst (λ x. ShowsCountStep x t) c.in-Bad.is k) in
+    subst (λ x. Rattle.kex_reader.specs.Stands.Noted (cs ++ x) c.put.new.draft.broken) (read_asks c.args.brace from t r.0 r.1 b) (moved _ _ c.put.new.draft.broken (c.in-Ok.ensures.broken ∙ ap (λ m. m.broken) c.note.ensures.noted) (bad_count r.0 cs c.args.draft.now.broken c.args.brace r.2 n))

@@ -1,0 +1,15 @@
+use Rattle.std.proofs.Common.{◌≡◌, ℕ, [], ◌∷◌, ◌++◌, Option, Some, refl, sym, ap, subst}
+use Rattle.kex_regexp.specs.declared.breaks.Break.{Break}
+use Rattle.kex_regexp.specs.declared.breaks.Break.TheVariants.{OverLimit}
+use Rattle.kex_reader.specs.Checks.{Nested}
+use Rattle.kex_reader.specs.Stands.{Noted}
+use Rattle.kex_reader.proofs.Noting.{noted_one, noted_same}
+use Rattle.kex_reader.proofs.inside.nest.Goals as goal
+
+pub returns-then-depth-ne-DEEPEST-clause-notes : goal.returns-then-depth-ne-DEEPEST-clause-notes
+returns-then-depth-ne-DEEPEST-clause-notes c = λ cs n. noted_same c.args.draft.now.broken cs (Nested c.args.at c.args.depth) n (λ b h. c.if-depth-ne-DEEPEST.true h.0)
+
+pub returns-clause-notes : goal.returns-clause-notes
+returns-clause-notes c = λ cs n.
+    subst (λ (o : Option Break). Noted (cs ++ Nested c.args.at c.args.depth ∷ []) o) (sym (ap (λ m. m.broken) c.note.ensures.noted))
+    (noted_one c.args.draft.now.broken (OverLimit c.args.at) cs (Nested c.args.at c.args.depth) n (c.if-depth-ne-DEEPEST.false, refl) (λ other h. h.1))

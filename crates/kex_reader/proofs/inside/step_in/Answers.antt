@@ -1,0 +1,151 @@
+use Rattle.std.proofs.Common.{◌≡◌, ℕ, ◌+◌, ◌<◌, true, false, List, [], ◌∷◌, ◌++◌, length, None, Some, refl, sym, ap, ◌∙◌, subst, arith}
+use Rattle.kex_tokens.specs.declared.token.Kind.TheVariants as kinds
+use Rattle.kex_model.specs.declared.program.Kind.TheVariants as nodes
+use Rattle.kex_reader.specs.declared.stack.Frame.TheVariants as frames
+use Rattle.kex_reader.specs.Syntax.{Once, Call, One, Lit, Match, Write, ZeroOrMore, OneOrMore, Optional, Turns, between, atom}
+use Rattle.kex_reader.specs.Reading.{take_seq, take_term, entries, put, goes, After}
+use Rattle.kex_reader.specs.Shown.{IsNode}
+use Rattle.kex_reader.proofs.Drafting.{Keeps-refl, Keeps-trans, atom_within, atom_more}
+use Rattle.kex_reader.proofs.Stacks.{frames_more}
+use Rattle.kex_reader.proofs.Stepping.{to, memory, wrong, stood, need, ready, after, named_waits, writing, bracket, bracket_name, count_opens, one_shows, call_shows, lit_shows, write_shows, match_shows, begin_kind, begin_other, begin_name, begin_literal, begin_regex, begin_tilde, begin_bang, begin_bracket, begin_paren, begin_bar, no_bar, begin_close, no_close, begin_one, begin_number, bar_steps, bar_wrong, close_wrong, close_steps, unclosed, after_kind, after_other, after_star, after_plus, after_question, after_brace, once_shows, turns_show, put_place, named_kind, named_other, named_at, named_define, call_ends, name_other, name_is, atom_steps, tilde_steps, paren_steps, storing_steps, atom_of, literal_of, match_of, star_low, star_high, plus_low, plus_high, optional_low, optional_high, sign_other, sign_arrow, sign_plus}
+use Rattle.std.proofs.lemmas.Option.{slice_get_within}
+use Rattle.kex_tokens.specs.Lexemes.{IsToken}
+use Rattle.kex_reader.specs.declared.inside.Wait.TheVariants as waits
+use Rattle.kex_reader.specs.Reading.{on_count, CountRead, mode, Assigned, Need, Ready, Named, Writing, Bracket, BracketName, Assigning, InCount, count_step}
+use Rattle.kex_reader.specs.Syntax.{word}
+use Rattle.kex_reader.specs.Checks.{Nested}
+use Rattle.kex_reader.specs.Shown.{assigned, IsRegister}
+use Rattle.kex_reader.specs.Stands.{ShowsMode, ShowsCountStep}
+use Rattle.kex_reader.proofs.Noting.{never_none, noted_one, noted_same}
+use Rattle.kex_reader.proofs.Counting.{count_refines}
+use Rattle.kex_reader.proofs.Modes.{leaf_below, pieces_in, assigned_names, assigned_leaf, counts_in, mode_need, mode_ready, mode_after, mode_named, mode_writing, mode_bracket, mode_bracket_name, mode_assigning, mode_assigned, mode_count, first_wrong, first_on, next_wrong, next_on, next_close, assigned_in, assign_shows, assigned_at, count_on, count_wrong, count_read, count_bad, read_is, read_count, bad_turns, step_of, word_place, word_here, in_need, in_ready, in_after, in_named, in_writing, in_bracket, in_bracket_name, in_assigning, in_assigned, in_count, need_long, ready_long, after_long, named_long, call_place, some_named, some_atom, some_count, some_counting, some_assigned, some_name, write_of, assign_of, assigning_on}
+use Rattle.kex_reader.proofs.Kept.{same, on_same, on_apply, on_from, moved, begin_quiet, begin_regex_asks, begin_tilde_asks, begin_paren_asks, after_quiet, after_begins, named_at_asks, named_after, good_count, bad_count, on_asks, read_asks, on_refl, need_asks, ready_asks, mode_after_asks, mode_named_asks, mode_count_asks, quiet_mode}
+use Rattle.kex_reader.proofs.Stacks.{depth_is}
+use Rattle.kex_reader.proofs.inside.step_in.Goals as goal
+
+pub returns-in-Need-clause-step : goal.returns-in-Need-clause-step
+returns-in-Need-clause-step c = λ at base i st p.
+    let m = mode_need c.args.draft.now at (base + length (entries i.entries)) i.mode (subst (λ w. ShowsMode c.args.draft.now at (base + length (entries i.entries)) w i.mode) (c.in-Need.is) st.mode) in
+    to _ at base _ _ _ _ (step_of i Need (word c.args.word.kind c.args.word.spelling.now) m ∙ in_need i.entries (word c.args.word.kind c.args.word.spelling.now)) (c.begin.ensures.step at base i.entries st.below (word_here at base c.args.word.at i Need m need_long p))
+
+pub returns-in-Ready-clause-step : goal.returns-in-Ready-clause-step
+returns-in-Ready-clause-step c = λ at base i st p.
+    let m = mode_ready c.args.draft.now at (base + length (entries i.entries)) i.mode (subst (λ w. ShowsMode c.args.draft.now at (base + length (entries i.entries)) w i.mode) (c.in-Ready.is) st.mode) in
+    to _ at base _ _ _ _ (step_of i Ready (word c.args.word.kind c.args.word.spelling.now) m ∙ in_ready i.entries (word c.args.word.kind c.args.word.spelling.now)) (c.begin-in-Ready.ensures.step at base i.entries st.below (word_here at base c.args.word.at i Ready m ready_long p))
+
+pub returns-in-After-clause-step : goal.returns-in-After-clause-step
+returns-in-After-clause-step c = λ at base i st p.
+    let m = mode_after c.args.draft.now at (base + length (entries i.entries)) c.in-After.item i.mode (subst (λ w. ShowsMode c.args.draft.now at (base + length (entries i.entries)) w i.mode) (c.in-After.is) st.mode) in
+    to _ at base _ _ _ _ (step_of i (After m.0) (word c.args.word.kind c.args.word.spelling.now) m.1 ∙ in_after m.0 i.entries (word c.args.word.kind c.args.word.spelling.now)) (c.behind.ensures.step at base i.entries m.0 st.below m.2 (word_place at base c.args.word.at i (After m.0) (length (atom m.0)) m.1 (after_long m.0) p) m.3)
+
+pub returns-in-Named-clause-step : goal.returns-in-Named-clause-step
+returns-in-Named-clause-step c = λ at base i st p.
+    let m = mode_named c.args.draft.now at (base + length (entries i.entries)) c.in-Named.field-0 c.in-Named.name i.mode (subst (λ w. ShowsMode c.args.draft.now at (base + length (entries i.entries)) w i.mode) (c.in-Named.is) st.mode) in
+    to _ at base _ _ _ _ (step_of i (Named c.in-Named.field-0 c.in-Named.name.bytes.now) (word c.args.word.kind c.args.word.spelling.now) m.0 ∙ in_named c.in-Named.field-0 c.in-Named.name.bytes.now i.entries (word c.args.word.kind c.args.word.spelling.now)) (c.named.ensures.step at base i.entries st.below m.1 (word_place at base c.args.word.at i (Named c.in-Named.field-0 c.in-Named.name.bytes.now) 1 m.0 (named_long c.in-Named.field-0 c.in-Named.name.bytes.now) p))
+
+pub returns-in-Writing-clause-step : goal.returns-in-Writing-clause-step
+returns-in-Writing-clause-step c = λ at base i st p.
+    let m = mode_writing c.args.draft.now at (base + length (entries i.entries)) c.in-Writing.at i.mode (subst (λ w. ShowsMode c.args.draft.now at (base + length (entries i.entries)) w i.mode) (c.in-Writing.is) st.mode) in
+    to _ at base _ _ _ _ (step_of i Writing (word c.args.word.kind c.args.word.spelling.now) m.0 ∙ in_writing i.entries (word c.args.word.kind c.args.word.spelling.now)) (c.write.ensures.step at base c.args.stack.now i.entries st.below m.1)
+
+pub returns-in-Bracket-clause-step : goal.returns-in-Bracket-clause-step
+returns-in-Bracket-clause-step c = λ at base i st p.
+    let m = mode_bracket c.args.draft.now at (base + length (entries i.entries)) c.in-Bracket.at i.mode (subst (λ w. ShowsMode c.args.draft.now at (base + length (entries i.entries)) w i.mode) (c.in-Bracket.is) st.mode) in
+    to _ at base _ _ _ _ (step_of i Bracket (word c.args.word.kind c.args.word.spelling.now) m.0 ∙ in_bracket i.entries (word c.args.word.kind c.args.word.spelling.now)) (c.bracket.ensures.step at base c.args.stack.now i.entries st.below m.1)
+
+pub returns-in-BracketName-clause-step : goal.returns-in-BracketName-clause-step
+returns-in-BracketName-clause-step c = λ at base i st p.
+    let m = mode_bracket_name c.args.draft.now at (base + length (entries i.entries)) c.in-BracketName.at c.in-BracketName.register i.mode (subst (λ w. ShowsMode c.args.draft.now at (base + length (entries i.entries)) w i.mode) (c.in-BracketName.is) st.mode) in
+    to _ at base _ _ _ _ (step_of i (BracketName m.0) (word c.args.word.kind c.args.word.spelling.now) m.1 ∙ in_bracket_name m.0 i.entries (word c.args.word.kind c.args.word.spelling.now)) (c.sign.ensures.step c.args.draft.now at base c.args.stack.now i.entries m.0 c.args.word.spelling.now st.below m.2 m.3)
+
+pub returns-in-Assigning-clause-step : goal.returns-in-Assigning-clause-step
+returns-in-Assigning-clause-step c = λ at base i st p.
+    let here = (subst (λ w. ShowsMode c.args.draft.now at (base + length (entries i.entries)) w i.mode) (c.in-Assigning.is) st.mode) in
+    let m = mode_assigning c.args.draft.now at (base + length (entries i.entries)) c.in-Assigning.assignment i.mode here in
+    to _ at base _ _ _ _ (step_of i (Assigning m.0 m.1) (word c.args.word.kind c.args.word.spelling.now) m.2 ∙ in_assigning m.0 m.1 i.entries (word c.args.word.kind c.args.word.spelling.now)) (c.part.ensures.first at base c.args.stack.now i.entries m.0 m.1 st.below (subst (λ y. ShowsMode c.args.draft.now at (base + length (entries i.entries)) (waits.Assigning c.in-Assigning.assignment) y) m.2 here))
+
+pub returns-in-Assigned-clause-step : goal.returns-in-Assigned-clause-step
+returns-in-Assigned-clause-step c = λ at base i st p.
+    let here = (subst (λ w. ShowsMode c.args.draft.now at (base + length (entries i.entries)) w i.mode) (c.in-Assigned.is) st.mode) in
+    let m = mode_assigned c.args.draft.now at (base + length (entries i.entries)) c.in-Assigned.assignment i.mode here in
+    to _ at base _ _ _ _ (step_of i (Assigned m.0 m.1 m.2 m.3) (word c.args.word.kind c.args.word.spelling.now) m.4 ∙ in_assigned m.0 m.1 m.2 m.3 i.entries (word c.args.word.kind c.args.word.spelling.now)) (c.behind_part.ensures.step at base c.args.stack.now i.entries m.0 m.1 m.2 m.3 st.below (subst (λ y. ShowsMode c.args.draft.now at (base + length (entries i.entries)) (waits.Assigned c.in-Assigned.assignment) y) m.4 here))
+
+pub returns-in-InCount-clause-step : goal.returns-in-InCount-clause-step
+returns-in-InCount-clause-step c = λ at base i st p.
+    let m = mode_count c.args.draft.now at (base + length (entries i.entries)) c.in-InCount.item c.in-InCount.count c.in-InCount.brace i.mode (subst (λ w. ShowsMode c.args.draft.now at (base + length (entries i.entries)) w i.mode) (c.in-InCount.is) st.mode) in
+    to _ at base _ _ _ _ (step_of i (InCount m.0 m.1) (word c.args.word.kind c.args.word.spelling.now) m.2 ∙ in_count m.0 m.1 i.entries (word c.args.word.kind c.args.word.spelling.now)) (c.counted.ensures.step at base i.entries m.0 (count_step m.1 (word c.args.word.kind c.args.word.spelling.now)) st.below m.3 m.6 m.4
+    (subst (λ x. ShowsCountStep x (count_step m.1 (word c.args.word.kind c.args.word.spelling.now))) (sym c.count_step.ensures) (count_refines c.in-InCount.count m.1 c.args.word.kind c.args.word.spelling.now c.number_value.result c.number_value.ensures m.5)))
+
+pub begin-requires-clause-frames : goal.begin-requires-clause-frames
+begin-requires-clause-frames c = some_named c.args.draft.now c.args.stack.now c.args.wait c.requires.inside
+
+pub begin-requires-in-Ready-clause-frames : goal.begin-requires-in-Ready-clause-frames
+begin-requires-in-Ready-clause-frames c = some_named c.args.draft.now c.args.stack.now c.args.wait c.requires.inside
+
+pub behind-requires-clause-atom : goal.behind-requires-clause-atom
+behind-requires-clause-atom c = some_atom c.args.draft.now c.args.stack.now c.args.wait c.in-After.item c.in-After.is c.requires.inside
+
+pub named-requires-clause-frames : goal.named-requires-clause-frames
+named-requires-clause-frames c = some_name c.args.draft.now c.args.stack.now c.args.wait c.in-Named.field-0 c.in-Named.name c.in-Named.is c.requires.inside
+
+pub behind_part-requires-clause-some : goal.behind_part-requires-clause-some
+behind_part-requires-clause-some c = some_assigned c.args.draft.now c.args.stack.now c.args.wait c.in-Assigned.assignment c.in-Assigned.is c.requires.inside
+
+pub counted-requires-clause-atom : goal.counted-requires-clause-atom
+counted-requires-clause-atom c = some_count c.args.draft.now c.args.stack.now c.args.wait c.in-InCount.item c.in-InCount.count c.in-InCount.brace c.in-InCount.is c.requires.inside
+
+pub counted-requires-clause-count : goal.counted-requires-clause-count
+counted-requires-clause-count c =
+    let d = some_counting c.args.draft.now c.args.stack.now c.args.wait c.in-InCount.item c.in-InCount.count c.in-InCount.brace c.in-InCount.is c.requires.inside in
+    (count_step d.0 (word c.args.word.kind c.args.word.spelling.now), subst (λ x. ShowsCountStep x (count_step d.0 (word c.args.word.kind c.args.word.spelling.now))) (sym c.count_step.ensures) (count_refines c.in-InCount.count d.0 c.args.word.kind c.args.word.spelling.now c.number_value.result c.number_value.ensures d.1))
+
+pub returns-in-Need-clause-notes : goal.returns-in-Need-clause-notes
+returns-in-Need-clause-notes c = λ at base i st p cs n.
+    let m = mode_need c.args.draft.now at (base + length (entries i.entries)) i.mode (subst (λ w. ShowsMode c.args.draft.now at (base + length (entries i.entries)) w i.mode) (c.in-Need.is) st.mode) in
+    on_from c.begin.result cs _ _ c.begin.new.draft.broken (need_asks at (base + length (entries i.entries)) i (word c.args.word.kind c.args.word.spelling.now) m) (c.begin.ensures.notes at base i.entries st.below (word_here at base c.args.word.at i Need m need_long p) cs n)
+
+pub returns-in-Ready-clause-notes : goal.returns-in-Ready-clause-notes
+returns-in-Ready-clause-notes c = λ at base i st p cs n.
+    let m = mode_ready c.args.draft.now at (base + length (entries i.entries)) i.mode (subst (λ w. ShowsMode c.args.draft.now at (base + length (entries i.entries)) w i.mode) (c.in-Ready.is) st.mode) in
+    on_from c.begin-in-Ready.result cs _ _ c.begin-in-Ready.new.draft.broken (ready_asks at (base + length (entries i.entries)) i (word c.args.word.kind c.args.word.spelling.now) m) (c.begin-in-Ready.ensures.notes at base i.entries st.below (word_here at base c.args.word.at i Ready m ready_long p) cs n)
+
+pub returns-in-After-clause-notes : goal.returns-in-After-clause-notes
+returns-in-After-clause-notes c = λ at base i st p cs n.
+    let m = mode_after c.args.draft.now at (base + length (entries i.entries)) c.in-After.item i.mode (subst (λ w. ShowsMode c.args.draft.now at (base + length (entries i.entries)) w i.mode) (c.in-After.is) st.mode) in
+    on_from c.behind.result cs _ _ c.behind.new.draft.broken (mode_after_asks at (base + length (entries i.entries)) i (word c.args.word.kind c.args.word.spelling.now) m.0 m.1) (c.behind.ensures.notes at base i.entries m.0 st.below m.2 (word_place at base c.args.word.at i (After m.0) (length (atom m.0)) m.1 (after_long m.0) p) m.3 cs n)
+
+pub returns-in-Named-clause-notes : goal.returns-in-Named-clause-notes
+returns-in-Named-clause-notes c = λ at base i st p cs n.
+    let m = mode_named c.args.draft.now at (base + length (entries i.entries)) c.in-Named.field-0 c.in-Named.name i.mode (subst (λ w. ShowsMode c.args.draft.now at (base + length (entries i.entries)) w i.mode) (c.in-Named.is) st.mode) in
+    on_from c.named.result cs _ _ c.named.new.draft.broken (mode_named_asks at (base + length (entries i.entries)) i (word c.args.word.kind c.args.word.spelling.now) c.in-Named.field-0 c.in-Named.name.bytes.now m.0) (c.named.ensures.notes at base i.entries st.below m.1 (word_place at base c.args.word.at i (Named c.in-Named.field-0 c.in-Named.name.bytes.now) 1 m.0 (named_long c.in-Named.field-0 c.in-Named.name.bytes.now) p) cs n)
+
+pub returns-in-InCount-clause-notes : goal.returns-in-InCount-clause-notes
+returns-in-InCount-clause-notes c = λ at base i st p cs n.
+    let m = mode_count c.args.draft.now at (base + length (entries i.entries)) c.in-InCount.item c.in-InCount.count c.in-InCount.brace i.mode (subst (λ w. ShowsMode c.args.draft.now at (base + length (entries i.entries)) w i.mode) (c.in-InCount.is) st.mode) in
+    on_from c.counted.result cs _ _ c.counted.new.draft.broken (mode_count_asks at (base + length (entries i.entries)) i (word c.args.word.kind c.args.word.spelling.now) m.0 m.1 m.2) (c.counted.ensures.notes (count_step m.1 (word c.args.word.kind c.args.word.spelling.now)) (at (base + length (entries i.entries) + length (atom m.0))) m.6
+    (subst (λ x. ShowsCountStep x (count_step m.1 (word c.args.word.kind c.args.word.spelling.now))) (sym c.count_step.ensures) (count_refines c.in-InCount.count m.1 c.args.word.kind c.args.word.spelling.now c.number_value.result c.number_value.ensures m.5)) cs n)
+
+pub returns-in-Writing-clause-notes : goal.returns-in-Writing-clause-notes
+returns-in-Writing-clause-notes c = λ at base i st p cs n.
+    let m = mode_writing c.args.draft.now at (base + length (entries i.entries)) c.in-Writing.at i.mode (subst (λ w. ShowsMode c.args.draft.now at (base + length (entries i.entries)) w i.mode) (c.in-Writing.is) st.mode) in
+    on_from c.write.result cs [] _ c.write.new.draft.broken (quiet_mode at (base + length (entries i.entries)) i (Writing) (word c.args.word.kind c.args.word.spelling.now) m.0 tt) (on_same c.write.result cs c.args.draft.now.broken c.write.new.draft.broken c.write.ensures.broken n)
+
+pub returns-in-Bracket-clause-notes : goal.returns-in-Bracket-clause-notes
+returns-in-Bracket-clause-notes c = λ at base i st p cs n.
+    let m = mode_bracket c.args.draft.now at (base + length (entries i.entries)) c.in-Bracket.at i.mode (subst (λ w. ShowsMode c.args.draft.now at (base + length (entries i.entries)) w i.mode) (c.in-Bracket.is) st.mode) in
+    on_from c.bracket.result cs [] _ c.bracket.new.draft.broken (quiet_mode at (base + length (entries i.entries)) i (Bracket) (word c.args.word.kind c.args.word.spelling.now) m.0 tt) (on_same c.bracket.result cs c.args.draft.now.broken c.bracket.new.draft.broken c.bracket.ensures.broken n)
+
+pub returns-in-BracketName-clause-notes : goal.returns-in-BracketName-clause-notes
+returns-in-BracketName-clause-notes c = λ at base i st p cs n.
+    let m = mode_bracket_name c.args.draft.now at (base + length (entries i.entries)) c.in-BracketName.at c.in-BracketName.register i.mode (subst (λ w. ShowsMode c.args.draft.now at (base + length (entries i.entries)) w i.mode) (c.in-BracketName.is) st.mode) in
+    on_from c.sign.result cs [] _ c.args.draft.now.broken (quiet_mode at (base + length (entries i.entries)) i (BracketName m.0) (word c.args.word.kind c.args.word.spelling.now) m.1 tt) (on_same c.sign.result cs c.args.draft.now.broken c.args.draft.now.broken (on_refl c.sign.result c.args.draft.now.broken) n)
+
+pub returns-in-Assigning-clause-notes : goal.returns-in-Assigning-clause-notes
+returns-in-Assigning-clause-notes c = λ at base i st p cs n.
+    let m = mode_assigning c.args.draft.now at (base + length (entries i.entries)) c.in-Assigning.assignment i.mode (subst (λ w. ShowsMode c.args.draft.now at (base + length (entries i.entries)) w i.mode) (c.in-Assigning.is) st.mode) in
+    on_from c.part.result cs [] _ c.part.new.draft.broken (quiet_mode at (base + length (entries i.entries)) i (Assigning m.0 m.1) (word c.args.word.kind c.args.word.spelling.now) m.2 tt) (on_same c.part.result cs c.args.draft.now.broken c.part.new.draft.broken c.part.ensures.broken n)
+
+pub returns-in-Assigned-clause-notes : goal.returns-in-Assigned-clause-notes
+returns-in-Assigned-clause-notes c = λ at base i st p cs n.
+    let m = mode_assigned c.args.draft.now at (base + length (entries i.entries)) c.in-Assigned.assignment i.mode (subst (λ w. ShowsMode c.args.draft.now at (base + length (entries i.entries)) w i.mode) (c.in-Assigned.is) st.mode) in
+    on_from c.behind_part.result cs [] _ c.behind_part.new.draft.broken (quiet_mode at (base + length (entries i.entries)) i (Assigned m.0 m.1 m.2 m.3) (word c.args.word.kind c.args.word.spelling.now) m.4 tt) (on_same c.behind_part.result cs c.args.draft.now.broken c.behind_part.new.draft.broken c.behind_part.ensures.broken n)

@@ -1,0 +1,10 @@
+use Rattle.std.proofs.Common.{rules, ◌≡◌, ◌∷◌, true, false, refl, sym, ap, ◌∙◌, arith, suc}
+use Rattle.std.specs.Prelude.{reverse}
+use Rattle.kex_reader.specs.declared.stack.Frame.TheVariants as frames
+use Rattle.kex_reader.specs.Stands.{opens, open_frames}
+use Rattle.kex_reader.proofs.Opening.{opened, not_opened, open_reversed, pushed}
+use Rattle.kex_reader.proofs.stack.Stack.new.Goals as goal
+
+pub invariant_of-result : goal.invariant_of-result
+unfolding open_frames
+invariant_of-result c = ap (λ xs. open_frames (reverse xs)) (sym c.new.ensures.items)

@@ -1,0 +1,18 @@
+use Rattle.std.proofs.Common.{rules, ◌≡◌, ◌∷◌, true, false, refl, sym, ap, ◌∙◌, arith, suc}
+use Rattle.std.specs.Prelude.{reverse}
+use Rattle.kex_reader.specs.declared.stack.Frame.TheVariants as frames
+use Rattle.kex_reader.specs.Stands.{opens, open_frames}
+use Rattle.kex_reader.proofs.Opening.{opened, not_opened, open_reversed, pushed}
+use Rattle.kex_reader.proofs.stack.Stack.take_mark.Goals as goal
+
+pub overflow_sub-self : goal.overflow_sub-self
+unfolding open_frames
+overflow_sub-self c =
+    let e = pushed c.pop.new.self.items c.self.inside.frames.items (frames.Mark c.in-Some-Mark.at) (search rules) in
+    omega (arith, c.self.invariant ∙ ap open_frames e)
+
+pub invariant_of-self : goal.invariant_of-self
+unfolding open_frames
+invariant_of-self c =
+    let e = pushed c.pop.new.self.items c.self.inside.frames.items (frames.Mark c.in-Some-Mark.at) (search rules) in
+    omega (arith, c.self.invariant ∙ ap open_frames e)

@@ -1,0 +1,26 @@
+use Rattle.std.proofs.Common.{refl, sym, ◌∙◌}
+use Rattle.kex_reader.proofs.Drafting.{Keeps-refl, Keeps-trans, pre_within}
+use Rattle.kex_reader.proofs.Stacks.{put_begins, put_more, put_done, prefix_register, seq_begins, seq_more_on, seq_done, seq_none, done_within, term_begins, term_more_on, term_done, term_none, ended_within}
+use Rattle.kex_reader.specs.Reading.{take_seq}
+use Rattle.kex_reader.proofs.terms.close_seq.Goals as goal
+
+pub returns-in_default-clause-seq : goal.returns-in_default-clause-seq
+returns-in_default-clause-seq c = λ at base es h. seq_none c.args.draft.now at base c.args.stack.now c.take_done.new.self es c.in_default.ensures.top h
+
+pub loop-front-init : goal.loop-front-init
+loop-front-init c = record { keeps = Keeps-refl _; broken = refl; so_far = λ at base es h. seq_begins _ at base _ _ es _ c.in-Some.ensures.some h }
+
+pub loop-front-preserved : goal.loop-front-preserved
+loop-front-preserved c = record {
+  keeps = Keeps-trans _ _ _ c.loop-front.invariant.keeps c.in-Ok.ensures.keeps;
+  broken = c.in-Ok.ensures.broken ∙ c.loop-front.invariant.broken;
+  so_far = λ at base es h. seq_more_on _ _ at base _ _ c.loop-front.seq c.in-Some-take_done.front _ _ c.in-Some-take_done.ensures.some c.in-Ok.ensures.keeps c.in-Ok.ensures.node (c.loop-front.invariant.so_far at base es h);
+}
+
+pub add-requires-clause-below : goal.add-requires-clause-below
+add-requires-clause-below c =
+    let r = c.requires in
+    done_within c.loop-front.draft r.0 r.1 c.loop-front.stack c.take_done-in-loop-front.new.self c.in-Some-take_done.front c.loop-front.seq (take_seq r.2) c.in-Some-take_done.ensures.some (c.loop-front.invariant.so_far r.0 r.1 r.2 r.3)
+
+pub returns-clause-seq : goal.returns-clause-seq
+returns-clause-seq c = λ at base es h. seq_done c.loop-front.draft at base c.loop-front.stack c.take_done-in-loop-front.new.self c.loop-front.seq (take_seq es) c.in_default-take_done.ensures.none c.in_default-take_done.ensures.top (c.loop-front.invariant.so_far at base es h)

@@ -1,0 +1,27 @@
+use Rattle.std.proofs.Common.{refl, sym, ◌∙◌, subst}
+use Rattle.kex_reader.proofs.Drafting.{Keeps-refl, Keeps-trans, pre_within}
+use Rattle.kex_reader.proofs.Stacks.{put_begins, put_more, put_done, prefix_register, seq_begins, seq_more_on, seq_done, seq_none, done_within, term_begins, term_more_on, term_done, term_none, ended_within}
+use Rattle.kex_reader.specs.Reading.{take_seq, take_term}
+use Rattle.kex_reader.specs.Stands.{SeqTaken}
+use Rattle.kex_reader.proofs.terms.close_term.Goals as goal
+
+pub loop-front-init : goal.loop-front-init
+loop-front-init c = record { keeps = c.in-Ok.ensures.keeps; broken = c.in-Ok.ensures.broken; so_far = λ at base es h. term_begins c.close_seq.new.draft at base c.close_seq.new.stack es c.in-Some.last (subst (λ o. SeqTaken c.close_seq.new.draft at base c.close_seq.new.stack o (take_seq es)) c.in-Some.is (c.in-Ok.ensures.seq at base es h)) }
+
+pub loop-front-preserved : goal.loop-front-preserved
+loop-front-preserved c = record {
+  keeps = Keeps-trans _ _ _ c.loop-front.invariant.keeps c.in-Ok-add.ensures.keeps;
+  broken = c.in-Ok-add.ensures.broken ∙ c.loop-front.invariant.broken;
+  so_far = λ at base es h. term_more_on c.loop-front.draft c.add.new.self at base c.loop-front.stack c.take_ended.new.self c.loop-front.term c.in-Some-take_ended.front c.in-Ok-add.node (take_term es) c.in-Some-take_ended.ensures.some c.in-Ok-add.ensures.keeps c.in-Ok-add.ensures.node (c.loop-front.invariant.so_far at base es h);
+}
+
+pub add-requires-clause-below : goal.add-requires-clause-below
+add-requires-clause-below c =
+    let r = c.requires in
+    ended_within c.loop-front.draft r.0 r.1 c.loop-front.stack c.take_ended.new.self c.in-Some-take_ended.front c.loop-front.term (take_term r.2) c.in-Some-take_ended.ensures.some (c.loop-front.invariant.so_far r.0 r.1 r.2 r.3)
+
+pub returns-clause-term : goal.returns-clause-term
+returns-clause-term c = λ at base es h. term_done c.loop-front.draft at base c.loop-front.stack c.take_ended.new.self c.loop-front.term (take_term es) c.in_default-take_ended.ensures.none c.in_default-take_ended.ensures.top (c.loop-front.invariant.so_far at base es h)
+
+pub returns-in_default-closed-clause-term : goal.returns-in_default-closed-clause-term
+returns-in_default-closed-clause-term c = λ at base es h. term_none c.close_seq.new.draft at base c.close_seq.new.stack es (subst (λ o. SeqTaken c.close_seq.new.draft at base c.close_seq.new.stack o (take_seq es)) c.in_default-closed.is (c.in-Ok.ensures.seq at base es h))

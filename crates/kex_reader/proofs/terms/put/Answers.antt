@@ -1,0 +1,28 @@
+use Rattle.std.proofs.Common.{refl, sym, ◌∙◌}
+use Rattle.kex_reader.proofs.Drafting.{Keeps-refl, Keeps-trans, pre_within}
+use Rattle.kex_reader.proofs.Stacks.{put_begins, put_more, put_done, prefix_register, seq_begins, seq_more_on, seq_done, seq_none, done_within, term_begins, term_more_on, term_done, term_none, ended_within}
+use Rattle.kex_reader.proofs.terms.put.Goals as goal
+
+pub loop-prefix-init : goal.loop-prefix-init
+loop-prefix-init c = record { keeps = Keeps-refl _; broken = refl; so_far = λ at base es p h e s. put_begins _ at base _ _ es p h e s }
+
+pub loop-prefix-preserved : goal.loop-prefix-preserved
+loop-prefix-preserved c = record {
+  keeps = Keeps-trans _ _ _ c.loop-prefix.invariant.keeps c.in-Ok.ensures.keeps;
+  broken = c.in-Ok.ensures.broken ∙ c.loop-prefix.invariant.broken;
+  so_far = λ at base es p h e s. put_more _ _ at base _ _ c.in-Some.prefix c.loop-prefix.whole c.in-Ok.more _ c.in-Some.ensures.some c.in-Ok.ensures.keeps c.in-Ok.ensures.node c.in-Ok.ensures.place (c.loop-prefix.invariant.so_far at base es p h e s);
+}
+
+pub prefixed-requires-clause-within : goal.prefixed-requires-clause-within
+prefixed-requires-clause-within c =
+    let r = c.requires in
+    let s = c.loop-prefix.invariant.so_far r.0 r.1 r.2 r.3 r.4 r.5 r.6 in
+    pre_within s.tree c.loop-prefix.draft r.0 c.loop-prefix.whole.node _ s.shows
+
+pub prefixed-requires-clause-register : goal.prefixed-requires-clause-register
+prefixed-requires-clause-register c =
+    let r = c.requires in
+    prefix_register c.loop-prefix.draft r.0 r.1 c.loop-prefix.stack c.take_prefix.new.self c.in-Some.prefix c.loop-prefix.whole _ c.in-Some.ensures.some (c.loop-prefix.invariant.so_far r.0 r.1 r.2 r.3 r.4 r.5 r.6)
+
+pub returns-clause-put : goal.returns-clause-put
+returns-clause-put c = λ at base es p h e s. put_done c.loop-prefix.draft at base c.loop-prefix.stack c.take_prefix.new.self c.push.new.self c.loop-prefix.whole _ c.in_default.ensures.none c.in_default.ensures.muted c.in_default.ensures.storing c.in-Ok-push.ensures (c.loop-prefix.invariant.so_far at base es p h e s)

@@ -1,0 +1,15 @@
+use Rattle.std.proofs.Common.{◌≡◌, take, Some}
+use Rattle.kex_reader.specs.Reading.{State, Begin, reads}
+use Rattle.kex_reader.specs.Asked.{state_checks}
+use Rattle.kex_reader.specs.Holding.{ShowsState}
+use Rattle.kex_reader.specs.Stands.{Noted}
+use Rattle.kex_reader.specs.Spelling.{offset, words}
+use Rattle.kex_reader.proofs.text.parse.Given as goal
+
+abbrev pub invariant-loop-i : goal.invariant-loop-i
+invariant-loop-i l = record {
+  state : State;
+  reads : reads (Some Begin) (take l.i (words l.text l.tokens)) ≡ Some state;
+  shows : ShowsState l.reader.draft (offset l.text l.tokens) l.reader.stack l.reader.definitions.items l.reader.stages.items l.phase state;
+  notes : Noted (state_checks (offset l.text l.tokens) state) l.reader.draft.broken;
+}

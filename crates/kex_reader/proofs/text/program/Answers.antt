@@ -1,0 +1,38 @@
+use Rattle.std.proofs.Common.{◌≡◌, ℕ, ◌+◌, ◌<◌, ◌≤◌, true, false, List, [], ◌∷◌, ◌++◌, length, get_or, take, drop, Ok, Err, Some, None, refl, sym, ap, ◌∙◌, subst, arith, add-one}
+use Rattle.std.specs.Prelude.{bytes_eq, codes, slice_get}
+use Rattle.std.specs.List.{slice_range}
+use Rattle.std.proofs.lemmas.Option.{slice_get-get_or}
+use Rattle.kex_code.specs.Codes.{IsAmong}
+use Rattle.kex_tokens.specs.declared.token.Token.{Token}
+use Rattle.kex_tokens.specs.declared.token.Kind.TheVariants as kinds
+use Rattle.kex_reader.specs.Syntax.{word, header}
+use Rattle.kex_reader.specs.Reading.{Begin, step, spelled, finish}
+use Rattle.kex_reader.specs.Checks.{program_checks}
+use Rattle.kex_reader.specs.Asked.{state_checks, state_asks}
+use Rattle.kex_reader.specs.Holding.{StateSteps, Finishes}
+use Rattle.kex_reader.specs.Stands.{Noted}
+use Rattle.kex_reader.specs.Spelling.{main_stage, offset, words, IsRefusedAs}
+use Rattle.kex_reader.proofs.Texting.{word_at, offset_at, words_long, offset_end, reads_more, taken_long, wrong_word, wrong_end, program_read, state_ok, state_bad, finish_ok, finish_bad, next_checks, end_checks, begin_shows, begin_reads, begin_notes, token_refused, step_refused, definitions_in, started_in, program_shows, among_get, main_here, spells_ok, refused_ok, end_of, names_at}
+use Rattle.kex_reader.proofs.text.program.Goals as goal
+
+pub stages_of-requires : goal.stages_of-requires
+stages_of-requires c = λ d m.
+    let r = c.requires in
+    let h = definitions_in r.1.definitions c.args.draft r.0 c.args.definitions.items (length (header r.1.header)) r.2 d (subst (λ xs. IsAmong xs d) c.deref-2.ensures.value m) in
+    subst (λ ns. d.name < length ns) (sym (c.deref.ensures.value ∙ c.in-Ok.ensures.same)) h.0
+
+pub finish-requires-clause-defined : goal.finish-requires-clause-defined
+finish-requires-clause-defined c = λ d m. let r = c.requires in definitions_in r.1.definitions c.args.draft r.0 c.args.definitions.items (length (header r.1.header)) r.2 d m
+
+pub finish-requires-clause-started : goal.finish-requires-clause-started
+finish-requires-clause-started c = λ s m.
+    let r = c.requires in
+    started_in r.1.header c.args.draft r.0 c.args.named.items c.in-Ok-stages_of.stages.items c.deref.result.now c.deref-2.result.now r.3 c.in-Ok-stages_of.ensures.line c.in-Ok-stages_of.ensures.main (c.deref.ensures.value ∙ c.in-Ok.ensures.same)
+    (λ d i. (definitions_in r.1.definitions c.args.draft r.0 c.args.definitions.items (length (header r.1.header)) r.2 d (subst (λ xs. IsAmong xs d) c.deref-2.ensures.value i)).0) s m
+
+pub returns-clause-shown : goal.returns-clause-shown
+returns-clause-shown c = λ at tree df hd.
+    program_shows c.args.draft at tree c.args.definitions.items c.args.named.items c.in-Ok-finish.program (sym c.broken.ensures ∙ c.in_default.is) (ap (λ p. p.nodes) c.in-Ok-finish.ensures.made) (ap (λ p. p.names) c.in-Ok-finish.ensures.made ∙ c.in-Ok.ensures.same) (ap (λ p. p.definitions) c.in-Ok-finish.ensures.made)
+    (λ n. ap (λ p. p.stages) c.in-Ok-finish.ensures.made ∙ c.in-Ok-stages_of.ensures.line n)
+    (λ n. ap (λ p. p.stages) c.in-Ok-finish.ensures.made ∙ c.in-Ok-stages_of.ensures.main n ∙ ap (λ ns. main_stage ns c.deref-2.result.now) (c.deref.ensures.value ∙ sym (ap (λ p. p.names) c.in-Ok-finish.ensures.made)) ∙ ap (main_stage c.in-Ok-finish.program.names) (c.deref-2.ensures.value ∙ sym (ap (λ p. p.definitions) c.in-Ok-finish.ensures.made)))
+    df hd

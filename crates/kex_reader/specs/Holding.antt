@@ -1,0 +1,61 @@
+-- What the code holds of a whole program that is being read, and the state of the machine that it stands for.
+use Rattle.std.specs.Prelude.{◌≡◌, ℕ, ◌+◌, ◌++◌, ◌∷◌, List, [], length, Option, Some, None, Result, Ok, Err}
+use Rattle.kex_model.specs.declared.program.Definition.{Definition as Root}
+use Rattle.kex_model.specs.declared.program.Start.{Start}
+use Rattle.kex_reader.specs.declared.stack.Frame.{Frame}
+use Rattle.kex_reader.specs.declared.inside.StepFault.{StepFault}
+use Rattle.kex_reader.specs.declared.inside.StepFault.TheVariants as faults
+use Rattle.kex_reader.specs.declared.reader.Phase.{Phase}
+use Rattle.kex_reader.specs.declared.reader.Phase.TheVariants as phases
+use Rattle.kex_reader.specs.Syntax.{Definition, Header, NoStart, Stages, Program, Term, header, definitions}
+use Rattle.kex_reader.specs.Reading.{Entry, State, Begin, FirstName, StartLine, StageRead, StageNext, HeadRead, Within, before}
+use Rattle.kex_reader.specs.Shown.{Made, IsName, ShowsTerm, ShowsDefinitions, ShowsStages}
+use Rattle.kex_reader.specs.Stands.{Stands}
+
+abbrev pub ShowsHead : Header → Made → (ℕ → ℕ) → List Start → Type 0
+ShowsHead NoStart made at ss = ss ≡ []
+ShowsHead (Stages n ns) made at ss = ShowsStages (n ∷ ns) made at ss 2
+
+-- frames, definitions and stages so far, and what is waited for, are those of a state
+unfoldable pub ShowsState : Made → (ℕ → ℕ) → List Frame → List Root → List Start → Phase → State → Type 0
+ShowsState made at fs ds ss phases.Begin Begin = (fs ≡ []) × (ds ≡ []) × (ss ≡ [])
+ShowsState made at fs ds ss (phases.FirstName n) (FirstName name) = (fs ≡ []) × (ds ≡ []) × (ss ≡ []) × (n.bytes.now ≡ name) × (n.at ≡ at 0)
+ShowsState made at fs ds ss phases.StartLine StartLine = (fs ≡ []) × (ds ≡ []) × (ss ≡ [])
+ShowsState made at fs ds ss phases.StageRead (StageRead f ns) = (fs ≡ []) × (ds ≡ []) × ShowsStages (f ∷ ns) made at ss 2
+ShowsState made at fs ds ss phases.StageNext (StageNext f ns) = (fs ≡ []) × (ds ≡ []) × ShowsStages (f ∷ ns) made at ss 2
+ShowsState made at fs ds ss (phases.HeadRead n) (HeadRead h name) = (fs ≡ []) × (ds ≡ []) × ShowsHead h made at ss × (n.bytes.now ≡ name) × (n.at ≡ at (length (header h)))
+ShowsState made at fs ds ss (phases.Within head wait) (Within h done name i) = ShowsHead h made at ss × ShowsDefinitions done made at ds (length (header h)) × IsName made head.name name × (head.at ≡ at (length (header h) + length (definitions done))) × Stands made at (length (before h done name)) fs wait i
+ShowsState made at fs ds ss _ _ = ⊥
+
+-- what a step made is what the machine makes, unless memory ran out
+unfoldable pub StateSteps : Made → (ℕ → ℕ) → List Frame → List Root → List Start → Result Phase StepFault → Option State → Type 0
+StateSteps made at fs ds ss (Ok phase) None = ⊥
+StateSteps made at fs ds ss (Ok phase) (Some s) = ShowsState made at fs ds ss phase s
+StateSteps made at fs ds ss (Err faults.Memory) o = Unit {0}
+StateSteps made at fs ds ss (Err faults.Wrong) None = Unit {0}
+StateSteps made at fs ds ss (Err faults.Wrong) (Some s) = ⊥
+
+abbrev pub SomeState : Made → List Frame → List Root → List Start → Phase → Type 0
+SomeState made fs ds ss phase = (at : ℕ → ℕ) × (s : State) × ShowsState made at fs ds ss phase s
+
+-- the term that is left, where nothing stands below it
+unfoldable pub whole_term : Option (Term × List Entry) → Option Term
+whole_term None = None
+whole_term (Some (t, [])) = Some t
+whole_term (Some (t, e ∷ es)) = None
+
+-- a definition that ends with this term, unless memory ran out
+unfoldable pub Ends : Made → (ℕ → ℕ) → ℕ → List Frame → List Root → List Root → ℕ → ℕ → Result (Unit {0}) StepFault → Option Term → Type 0
+Ends made at base fs old new name from (Ok u) None = ⊥
+Ends made at base fs old new name from (Ok u) (Some t) = (fs ≡ []) × (root : ℕ) × (new ≡ old ++ record { name = name; at = from; root = root } ∷ []) × ShowsTerm t made at root base
+Ends made at base fs old new name from (Err faults.Memory) o = Unit {0}
+Ends made at base fs old new name from (Err faults.Wrong) None = Unit {0}
+Ends made at base fs old new name from (Err faults.Wrong) (Some t) = ⊥
+
+-- what the end made is the machine's program, unless memory ran out
+unfoldable pub Finishes : Made → (ℕ → ℕ) → List Root → List Start → Result (Unit {0}) StepFault → Option Program → Type 0
+Finishes made at ds ss (Ok u) None = ⊥
+Finishes made at ds ss (Ok u) (Some p) = ShowsDefinitions p.definitions made at ds (length (header p.header)) × ShowsHead p.header made at ss
+Finishes made at ds ss (Err faults.Memory) o = Unit {0}
+Finishes made at ds ss (Err faults.Wrong) None = Unit {0}
+Finishes made at ds ss (Err faults.Wrong) (Some p) = ⊥

@@ -1,0 +1,326 @@
+-- The reader of programs as a machine over words: what has been read so far, and what one word more makes of it.
+use Rattle.std.specs.Prelude.{ℕ, Bool, true, false, ◌&&◌, List, [], ◌∷◌, ◌++◌, Option, Some, None, bytes_eq, codes, if◌then◌else◌}
+use Rattle.kex_reader.specs.Syntax.{Word, Name, Number, Literal, Regex, Define, Colon, Pipe, Bar, Tilde, At, Star, Plus, PlusEquals, Question, OpenBrace, CloseBrace, Comma, Bang, OpenBracket, CloseBracket, Arrow, OpenParen, CloseParen, Part, Text, Held, Postfix, ZeroOrMore, OneOrMore, Optional, Exactly, AtLeast, AtMost, Between, Term, Last, Or, Seq, Only, Then, Pre, Mute, Into, Once, Turns, Atom, One, Call, Lit, Match, Write, Assign, Group, Definition, Header, NoStart, Stages, Program, start, part, parts, sign, seq, pre, atom, definitions, stages, header}
+
+-- what stands open in a definition, the newest first: parentheses, what a bar has ended, what has ended behind it, prefixes
+pub data Entry : Type 0 where
+  Mark : Entry
+  Ended : (seq : Seq) → Entry
+  Done : (pre : Pre) → Entry
+  Muted : Entry
+  Storing : (register : List ℕ) → Entry
+
+pub data Counting : Type 0 where
+  Opened : Counting
+  Low : (n : List ℕ) → Counting
+  LowComma : (n : List ℕ) → Counting
+  LowHigh : (n m : List ℕ) → Counting
+  OnlyComma : Counting
+  High : (m : List ℕ) → Counting
+
+pub data CountStep : Type 0 where
+  CountOn : Counting → CountStep
+  CountRead : Postfix → CountStep
+  CountWrong : CountStep
+
+-- a pre has to come, or one has ended, an atom, a name that may be a call, a register or a head, or something is half read
+pub data Mode : Type 0 where
+  Need : Mode
+  Ready : Mode
+  After : (atom : Atom) → Mode
+  Named : (free : Bool) → (name : List ℕ) → Mode
+  Writing : Mode
+  Bracket : Mode
+  BracketName : (register : List ℕ) → Mode
+  Assigning : (append : Bool) → (register : List ℕ) → Mode
+  Assigned : (append : Bool) → (register : List ℕ) → (first : Part) → (others : List Part) → Mode
+  InCount : (atom : Atom) → Counting → Mode
+
+-- inside a definition
+pub record Inside : Type 0 where
+  pub mode : Mode
+  pub entries : List Entry
+
+pub data State : Type 0 where
+  Begin : State
+  FirstName : (name : List ℕ) → State
+  StartLine : State
+  StageRead : (first : List ℕ) → (others : List (List ℕ)) → State
+  StageNext : (first : List ℕ) → (others : List (List ℕ)) → State
+  HeadRead : Header → (name : List ℕ) → State
+  Within : Header → (before : List Definition) → (name : List ℕ) → Inside → State
+
+-- ---- entries
+
+-- a pre that has ended takes the prefixes before it
+unfoldable pub put : Pre → List Entry → List Entry
+put p [] = Done p ∷ []
+put p (Mark ∷ es) = Done p ∷ Mark ∷ es
+put p (Ended s ∷ es) = Done p ∷ Ended s ∷ es
+put p (Done q ∷ es) = Done p ∷ Done q ∷ es
+put p (Muted ∷ es) = put (Mute p) es
+put p (Storing r ∷ es) = put (Into r p) es
+
+unfoldable pub take_more : List Entry → Seq → Seq × List Entry
+take_more [] s = (s, [])
+take_more (Mark ∷ es) s = (s, Mark ∷ es)
+take_more (Ended t ∷ es) s = (s, Ended t ∷ es)
+take_more (Done p ∷ es) s = take_more es (Then p s)
+take_more (Muted ∷ es) s = (s, Muted ∷ es)
+take_more (Storing r ∷ es) s = (s, Storing r ∷ es)
+
+-- the newest seq, and what is below it
+unfoldable pub take_seq : List Entry → Option (Seq × List Entry)
+take_seq [] = None
+take_seq (Mark ∷ es) = None
+take_seq (Ended t ∷ es) = None
+take_seq (Done p ∷ es) = Some (take_more es (Only p))
+take_seq (Muted ∷ es) = None
+take_seq (Storing r ∷ es) = None
+
+unfoldable pub take_branches : List Entry → Term → Term × List Entry
+take_branches [] t = (t, [])
+take_branches (Mark ∷ es) t = (t, Mark ∷ es)
+take_branches (Ended s ∷ es) t = take_branches es (Or s t)
+take_branches (Done p ∷ es) t = (t, Done p ∷ es)
+take_branches (Muted ∷ es) t = (t, Muted ∷ es)
+take_branches (Storing r ∷ es) t = (t, Storing r ∷ es)
+
+unfoldable pub term_of : Option (Seq × List Entry) → Option (Term × List Entry)
+term_of None = None
+term_of (Some t) = Some (take_branches t.1 (Last t.0))
+
+-- the newest term, and what is below it
+unfoldable pub take_term : List Entry → Option (Term × List Entry)
+take_term es = term_of (take_seq es)
+
+-- ---- one word more, inside a definition
+
+abbrev pub goes : Mode → List Entry → Option Inside
+goes m es = Some (record { mode = m; entries = es })
+
+unfoldable pub on_bar : Option (Seq × List Entry) → Option Inside
+on_bar None = None
+on_bar (Some t) = goes Need (Ended t.0 ∷ t.1)
+
+unfoldable pub closed : Term → List Entry → Option Inside
+closed t [] = None
+closed t (Mark ∷ es) = goes (After (Group t)) es
+closed t (Ended s ∷ es) = None
+closed t (Done p ∷ es) = None
+closed t (Muted ∷ es) = None
+closed t (Storing r ∷ es) = None
+
+unfoldable pub on_close : Option (Term × List Entry) → Option Inside
+on_close None = None
+on_close (Some t) = closed t.0 t.1
+
+-- the digit 1 alone is an atom
+unfoldable pub on_number : List Entry → List ℕ → Option Inside
+on_number es digits = if bytes_eq digits (codes "1") then goes (After One) es else None
+
+-- a word where a pre may begin; free says that none has to
+unfoldable pub begin_pre : Bool → List Entry → Word → Option Inside
+begin_pre free es (Name n) = goes (Named free n) es
+begin_pre free es (Number digits) = on_number es digits
+begin_pre free es (Literal s) = goes (After (Lit s)) es
+begin_pre free es (Regex b) = goes (After (Match b)) es
+begin_pre free es Tilde = goes Need (Muted ∷ es)
+begin_pre free es Bang = goes Writing es
+begin_pre free es OpenBracket = goes Bracket es
+begin_pre free es OpenParen = goes Need (Mark ∷ es)
+begin_pre true es Bar = on_bar (take_seq es)
+begin_pre true es CloseParen = on_close (take_term es)
+begin_pre free es _ = None
+
+unfoldable pub after_atom : Atom → List Entry → Word → Option Inside
+after_atom a es Star = goes Ready (put (Turns a ZeroOrMore) es)
+after_atom a es Plus = goes Ready (put (Turns a OneOrMore) es)
+after_atom a es Question = goes Ready (put (Turns a Optional) es)
+after_atom a es OpenBrace = goes (InCount a Opened) es
+after_atom a es w = begin_pre true (put (Once a) es) w
+
+unfoldable pub named : List ℕ → List Entry → Word → Option Inside
+named n es At = goes Need (Storing n ∷ es)
+named n es Define = None
+named n es w = after_atom (Call n) es w
+
+unfoldable pub on_name : (List ℕ → Option Inside) → Word → Option Inside
+on_name f (Name n) = f n
+on_name f _ = None
+
+unfoldable pub on_sign : List ℕ → List Entry → Word → Option Inside
+on_sign r es Arrow = goes (Assigning false r) es
+on_sign r es PlusEquals = goes (Assigning true r) es
+on_sign r es _ = None
+
+unfoldable pub first_part : Bool → List ℕ → List Entry → Word → Option Inside
+first_part append r es (Literal s) = goes (Assigned append r (Text s) []) es
+first_part append r es (Name n) = goes (Assigned append r (Held n) []) es
+first_part append r es _ = None
+
+unfoldable pub next_part : Bool → List ℕ → Part → List Part → List Entry → Word → Option Inside
+next_part append r p ps es (Literal s) = goes (Assigned append r p (ps ++ Text s ∷ [])) es
+next_part append r p ps es (Name n) = goes (Assigned append r p (ps ++ Held n ∷ [])) es
+next_part append r p ps es CloseBracket = goes (After (Assign append r p ps)) es
+next_part append r p ps es _ = None
+
+unfoldable pub count_step : Counting → Word → CountStep
+count_step Opened (Number n) = CountOn (Low n)
+count_step Opened Comma = CountOn OnlyComma
+count_step (Low n) Comma = CountOn (LowComma n)
+count_step (Low n) CloseBrace = CountRead (Exactly n)
+count_step (LowComma n) (Number m) = CountOn (LowHigh n m)
+count_step (LowComma n) CloseBrace = CountRead (AtLeast n)
+count_step (LowHigh n m) CloseBrace = CountRead (Between n m)
+count_step OnlyComma (Number m) = CountOn (High m)
+count_step (High m) CloseBrace = CountRead (AtMost m)
+count_step _ _ = CountWrong
+
+unfoldable pub on_count : Atom → List Entry → CountStep → Option Inside
+on_count a es (CountOn c) = goes (InCount a c) es
+on_count a es (CountRead p) = goes Ready (put (Turns a p) es)
+on_count a es CountWrong = None
+
+abbrev pub counted : Atom → Counting → List Entry → Word → Option Inside
+counted a c es w = on_count a es (count_step c w)
+
+unfoldable pub step_in : Mode → List Entry → Word → Option Inside
+step_in Need es w = begin_pre false es w
+step_in Ready es w = begin_pre true es w
+step_in (After a) es w = after_atom a es w
+step_in (Named free n) es w = named n es w
+step_in Writing es w = on_name (λ n. goes (After (Write n)) es) w
+step_in Bracket es w = on_name (λ n. goes (BracketName n) es) w
+step_in (BracketName r) es w = on_sign r es w
+step_in (Assigning append r) es w = first_part append r es w
+step_in (Assigned append r p ps) es w = next_part append r p ps es w
+step_in (InCount a c) es w = counted a c es w
+
+-- ---- one word more
+
+unfoldable pub lift : Header → List Definition → List ℕ → Option Inside → Option State
+lift h ds name None = None
+lift h ds name (Some i) = Some (Within h ds name i)
+
+-- a definition ends where the next one's head stands
+unfoldable pub next_head : Header → List Definition → List ℕ → List ℕ → Term → List Entry → Option State
+next_head h ds name n t [] = Some (Within h (ds ++ record { name = name; term = t } ∷ []) n (record { mode = Need; entries = [] }))
+next_head h ds name n t (e ∷ es) = None
+
+unfoldable pub on_head : Header → List Definition → List ℕ → List ℕ → Option (Term × List Entry) → Option State
+on_head h ds name n None = None
+on_head h ds name n (Some t) = next_head h ds name n t.0 t.1
+
+-- a name that has to be a call or a register is no head
+unfoldable pub on_define : Header → List Definition → List ℕ → Bool → List ℕ → List Entry → Option State
+on_define h ds name true n es = on_head h ds name n (take_term es)
+on_define h ds name false n es = None
+
+unfoldable pub step_within : Header → List Definition → List ℕ → Mode → List Entry → Word → Option State
+step_within h ds name (Named free n) es Define = on_define h ds name free n es
+step_within h ds name m es w = lift h ds name (step_in m es w)
+
+unfoldable pub first_name : List ℕ → Word → Option State
+first_name n Define = Some (Within NoStart [] n (record { mode = Need; entries = [] }))
+first_name n Colon = if bytes_eq n start then Some StartLine else None
+first_name n _ = None
+
+unfoldable pub head_read : Header → List ℕ → Word → Option State
+head_read h n Define = Some (Within h [] n (record { mode = Need; entries = [] }))
+head_read h n _ = None
+
+unfoldable pub stage_read : List ℕ → List (List ℕ) → Word → Option State
+stage_read f ns Pipe = Some (StageNext f ns)
+stage_read f ns (Name n) = Some (HeadRead (Stages f ns) n)
+stage_read f ns _ = None
+
+unfoldable pub name_then : (List ℕ → State) → Word → Option State
+name_then f (Name n) = Some (f n)
+name_then f _ = None
+
+unfoldable pub step : State → Word → Option State
+step Begin w = name_then FirstName w
+step (FirstName n) w = first_name n w
+step StartLine w = name_then (λ n. StageRead n []) w
+step (StageRead f ns) w = stage_read f ns w
+step (StageNext f ns) w = name_then (λ n. StageRead f (ns ++ n ∷ [])) w
+step (HeadRead h n) w = head_read h n w
+step (Within h ds name i) w = step_within h ds name i.mode i.entries w
+
+-- after one more word, unless one was refused before
+unfoldable pub next : Option State → Word → Option State
+next None w = None
+next (Some s) w = step s w
+
+unfoldable pub reads : Option State → List Word → Option State
+reads o [] = o
+reads o (w ∷ ws) = reads (next o w) ws
+
+unfoldable pub whole : Header → List Definition → List ℕ → Term → List Entry → Option Program
+whole h ds name t [] = Some (record { header = h; definitions = ds ++ record { name = name; term = t } ∷ [] })
+whole h ds name t (e ∷ es) = None
+
+unfoldable pub ended : Header → List Definition → List ℕ → Option (Term × List Entry) → Option Program
+ended h ds name None = None
+ended h ds name (Some t) = whole h ds name t.0 t.1
+
+unfoldable pub finish_within : Header → List Definition → List ℕ → Mode → List Entry → Option Program
+finish_within h ds name Ready es = ended h ds name (take_term es)
+finish_within h ds name (After a) es = ended h ds name (take_term (put (Once a) es))
+finish_within h ds name (Named free n) es = ended h ds name (take_term (put (Once (Call n)) es))
+finish_within h ds name _ es = None
+
+unfoldable pub finish : State → Option Program
+finish Begin = Some (record { header = NoStart; definitions = [] })
+finish (StageRead f ns) = Some (record { header = Stages f ns; definitions = [] })
+finish (Within h ds name i) = finish_within h ds name i.mode i.entries
+finish _ = None
+
+-- ---- what has been read
+
+unfoldable pub entry : Entry → List Word
+entry Mark = OpenParen ∷ []
+entry (Ended s) = seq s ++ Bar ∷ []
+entry (Done p) = pre p
+entry Muted = Tilde ∷ []
+entry (Storing r) = Name r ∷ At ∷ []
+
+unfoldable pub entries : List Entry → List Word
+entries [] = []
+entries (e ∷ es) = entries es ++ entry e
+
+unfoldable pub counting : Counting → List Word
+counting Opened = []
+counting (Low n) = Number n ∷ []
+counting (LowComma n) = Number n ∷ Comma ∷ []
+counting (LowHigh n m) = Number n ∷ Comma ∷ Number m ∷ []
+counting OnlyComma = Comma ∷ []
+counting (High m) = Comma ∷ Number m ∷ []
+
+unfoldable pub mode : Mode → List Word
+mode Need = []
+mode Ready = []
+mode (After a) = atom a
+mode (Named free n) = Name n ∷ []
+mode Writing = Bang ∷ []
+mode Bracket = OpenBracket ∷ []
+mode (BracketName r) = OpenBracket ∷ Name r ∷ []
+mode (Assigning append r) = OpenBracket ∷ Name r ∷ sign append ∷ []
+mode (Assigned append r p ps) = OpenBracket ∷ Name r ∷ sign append ∷ part p ∷ parts ps
+mode (InCount a c) = atom a ++ OpenBrace ∷ counting c
+
+unfoldable pub inside : Inside → List Word
+inside i = entries i.entries ++ mode i.mode
+
+unfoldable pub before : Header → List Definition → List ℕ → List Word
+before h ds name = header h ++ (definitions ds ++ Name name ∷ Define ∷ [])
+
+unfoldable pub spelled : State → List Word
+spelled Begin = []
+spelled (FirstName n) = Name n ∷ []
+spelled StartLine = Name start ∷ Colon ∷ []
+spelled (StageRead f ns) = Name start ∷ Colon ∷ Name f ∷ stages ns
+spelled (StageNext f ns) = Name start ∷ Colon ∷ Name f ∷ (stages ns ++ Pipe ∷ [])
+spelled (HeadRead h n) = header h ++ Name n ∷ []
+spelled (Within h ds name i) = before h ds name ++ inside i

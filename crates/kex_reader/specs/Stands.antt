@@ -1,0 +1,233 @@
+-- What the code holds of a program that is being read, and the state of the machine that it stands for.
+use Rattle.std.specs.Prelude.{◌≡◌, ℕ, suc, ◌+◌, ◌<◌, ◌≤◌, Bool, true, false, List, [], ◌∷◌, ◌++◌, length, Option, Some, None, Result, Ok, Err, slice_get, MatchOption, ◌==◌, if◌then◌else◌}
+use Rattle.kex_model.specs.declared.program.Kind.{Kind}
+use Rattle.kex_model.specs.declared.program.Kind.TheVariants as kinds
+use Rattle.kex_model.specs.declared.program.Node.{Node}
+use Rattle.kex_model.specs.declared.program.Definition.{Definition as Root}
+use Rattle.kex_model.specs.declared.program.Start.{Start}
+use Rattle.kex_code.specs.declared.piece.Piece.{Piece}
+use Rattle.kex_tokens.specs.Values.{number_of}
+use Rattle.kex_regexp.specs.declared.breaks.Break.{Break}
+use Rattle.kex_reader.specs.declared.stack.Frame.{Frame}
+use Rattle.kex_reader.specs.declared.stack.Frame.TheVariants as frames
+use Rattle.kex_reader.specs.declared.stack.Prefix.{Prefix}
+use Rattle.kex_reader.specs.declared.stack.Prefix.TheVariants as prefixes
+use Rattle.kex_reader.specs.declared.stack.Part.{Part as Shown}
+use Rattle.kex_reader.specs.declared.counts.Count.{Count}
+use Rattle.kex_reader.specs.declared.counts.Count.TheVariants as counts
+use Rattle.kex_reader.specs.declared.counts.CountStep.{CountStep as HeldStep}
+use Rattle.kex_reader.specs.declared.counts.CountStep.TheVariants as steps
+use Rattle.kex_reader.specs.declared.inside.Wait.{Wait}
+use Rattle.kex_reader.specs.declared.inside.Wait.TheVariants as waits
+use Rattle.kex_reader.specs.declared.inside.StepFault.{StepFault}
+use Rattle.kex_reader.specs.declared.inside.StepFault.TheVariants as faults
+use Rattle.kex_reader.specs.Syntax.{Word, Name, Literal, Text, Held, Tilde, At, Star, Plus, Question, OpenBrace, OpenParen, Regex, Define, Part, Postfix, Term, Seq, Pre, Atom, Once, Call, Definition, Header, NoStart, Stages, Program, atom, header, definitions}
+use Rattle.kex_reader.specs.Reading.{Entry, Mark, Ended, Done, Muted, Storing, Counting, Opened, Low, LowComma, LowHigh, OnlyComma, High, CountStep, CountOn, CountRead, CountWrong, Mode, Need, Ready, After, Named, Writing, Bracket, BracketName, Assigning, Assigned, InCount, Inside, put, entries, mode, count_step}
+use Rattle.kex_reader.specs.Checks.{Check, Nested, Counted, Matched, Staged, SomeBreaks, IsLeastBreak, is_bad_count, postfix_checks, term_checks, seq_checks, pre_checks, atom_checks}
+use Rattle.kex_reader.specs.Shown.{Made, IsName, IsRegister, ShowsTerm, ShowsSeq, ShowsPre, ShowsAtom, ShowsPart, ShowsParts, low, high}
+
+-- what was made stays: nodes, names and registers keep their numbers, and what is broken stays broken
+pub record Keeps (old new : Made) : Type 0 where
+  pub nodes : (k : ℕ) (v : Node) → slice_get old.nodes k ≡ Some v → slice_get new.nodes k ≡ Some v
+  pub names : (k : ℕ) (v : List ℕ) → slice_get old.names k ≡ Some v → slice_get new.names k ≡ Some v
+  pub registers : (k : ℕ) (v : List ℕ) → slice_get old.registers k ≡ Some v → slice_get new.registers k ≡ Some v
+  pub long : length old.nodes ≤ length new.nodes
+  pub broken : new.broken ≡ None → old.broken ≡ None
+
+-- the least limit that is broken by these checks
+abbrev pub Noted : List Check → Option Break → Type 0
+Noted cs None = (b : Break) → SomeBreaks cs b → ⊥
+Noted cs (Some b) = IsLeastBreak cs b
+
+-- ---- frames
+
+abbrev pub opens : Frame → Bool
+opens (frames.Mark at) = true
+opens (frames.Ended part) = false
+opens (frames.Done part) = false
+opens (frames.Muted at) = true
+opens (frames.Storing s) = true
+
+abbrev pub frame_of : Prefix → Frame
+frame_of (prefixes.Mute at) = frames.Muted at
+frame_of (prefixes.Store s) = frames.Storing s
+
+-- the node of a prefix over another node, and its offset
+abbrev pub prefixed_kind : Prefix → ℕ → Kind
+prefixed_kind (prefixes.Mute at) n = kinds.Mute n
+prefixed_kind (prefixes.Store s) n = kinds.At s.register n
+
+abbrev pub prefix_at : Prefix → ℕ
+prefix_at (prefixes.Mute at) = at
+prefix_at (prefixes.Store s) = s.at
+
+abbrev pub HasRegister : ℕ → Prefix → Type 0
+HasRegister registers (prefixes.Mute at) = Unit {0}
+HasRegister registers (prefixes.Store s) = s.register < registers
+
+-- how many parentheses and prefixes are among the frames
+unfoldable pub open_frames : List Frame → ℕ
+open_frames [] = 0
+open_frames (f ∷ fs) = if opens f then suc (open_frames fs) else open_frames fs
+
+-- and among the entries
+unfoldable pub depth : List Entry → ℕ
+depth [] = 0
+depth (Mark ∷ es) = suc (depth es)
+depth (Ended s ∷ es) = depth es
+depth (Done p ∷ es) = depth es
+depth (Muted ∷ es) = suc (depth es)
+depth (Storing r ∷ es) = suc (depth es)
+
+-- the frames, the newest first, show the entries of a definition whose term begins with word number base
+unfoldable pub FramesShow : Made → (ℕ → ℕ) → ℕ → List Frame → List Entry → Type 0
+FramesShow made at base [] [] = Unit {0}
+FramesShow made at base (frames.Mark a ∷ fs) (Mark ∷ es) = (a ≡ at (base + length (entries es))) × FramesShow made at base fs es
+FramesShow made at base (frames.Ended p ∷ fs) (Ended s ∷ es) = (p.at ≡ at (base + length (entries es))) × ShowsSeq s made at p.node (base + length (entries es)) × FramesShow made at base fs es
+FramesShow made at base (frames.Done p ∷ fs) (Done q ∷ es) = (p.at ≡ at (base + length (entries es))) × ShowsPre q made at p.node (base + length (entries es)) × FramesShow made at base fs es
+FramesShow made at base (frames.Muted a ∷ fs) (Muted ∷ es) = (a ≡ at (base + length (entries es))) × FramesShow made at base fs es
+FramesShow made at base (frames.Storing s ∷ fs) (Storing r ∷ es) = (s.at ≡ at (base + length (entries es))) × IsRegister made s.register r × FramesShow made at base fs es
+FramesShow made at base _ _ = ⊥
+
+-- what has ended on top, as a seq or term above entries that the frames show
+pub record SeqOn (made : Made) (at : ℕ → ℕ) (base : ℕ) (fs : List Frame) (part : Shown) (t : Seq × List Entry) : Type 0 where
+  pub place : part.at ≡ at (base + length (entries t.1))
+  pub shows : ShowsSeq t.0 made at part.node (base + length (entries t.1))
+  pub below : FramesShow made at base fs t.1
+
+pub record TermOn (made : Made) (at : ℕ → ℕ) (base : ℕ) (fs : List Frame) (part : Shown) (t : Term × List Entry) : Type 0 where
+  pub place : part.at ≡ at (base + length (entries t.1))
+  pub shows : ShowsTerm t.0 made at part.node (base + length (entries t.1))
+  pub below : FramesShow made at base fs t.1
+
+abbrev pub SeqTaken : Made → (ℕ → ℕ) → ℕ → List Frame → Option Shown → Option (Seq × List Entry) → Type 0
+SeqTaken made at base fs None None = Unit {0}
+SeqTaken made at base fs (Some part) (Some t) = SeqOn made at base fs part t
+SeqTaken made at base fs _ _ = ⊥
+
+abbrev pub TermTaken : Made → (ℕ → ℕ) → ℕ → List Frame → Option Shown → Option (Term × List Entry) → Type 0
+TermTaken made at base fs None None = Unit {0}
+TermTaken made at base fs (Some part) (Some t) = TermOn made at base fs part t
+TermTaken made at base fs _ _ = ⊥
+
+-- no node is below one of this kind
+abbrev pub IsLeaf : Kind → Type 0
+IsLeaf (kinds.Seq l r) = ⊥
+IsLeaf (kinds.Alt l r) = ⊥
+IsLeaf (kinds.Rep body min max) = ⊥
+IsLeaf (kinds.Mute t) = ⊥
+IsLeaf (kinds.At r t) = ⊥
+IsLeaf _ = Unit {0}
+
+-- ---- parts
+
+-- the part of an assignment that a word is, if it is one
+abbrev pub part_of : Word → Option Part
+part_of (Literal s) = Some (Text s)
+part_of (Name r) = Some (Held r)
+part_of _ = None
+
+abbrev pub PieceShows : Option Part → Made → Option Piece → Type 0
+PieceShows None made None = Unit {0}
+PieceShows (Some p) made (Some q) = ShowsPart p made q
+PieceShows _ made _ = ⊥
+
+-- ---- counts
+
+-- a number, or none where it is above 1,000
+abbrev pub IsNumber : Option ℕ → List ℕ → Type 0
+IsNumber o digits = MatchOption o (1000 < number_of digits) (λ n. (n ≡ number_of digits) × (n ≤ 1000))
+
+unfoldable pub ShowsCount : Count → Counting → Type 0
+ShowsCount counts.Opened Opened = Unit {0}
+ShowsCount (counts.Low v) (Low n) = IsNumber v n
+ShowsCount (counts.LowComma v) (LowComma n) = IsNumber v n
+ShowsCount (counts.LowHigh v w) (LowHigh n m) = IsNumber v n × IsNumber w m
+ShowsCount counts.OnlyComma OnlyComma = Unit {0}
+ShowsCount (counts.High w) (High m) = IsNumber w m
+ShowsCount _ _ = ⊥
+
+unfoldable pub ShowsCountStep : HeldStep → CountStep → Type 0
+ShowsCountStep (steps.On c) (CountOn d) = ShowsCount c d
+ShowsCountStep (steps.Read b) (CountRead p) = (b.low ≡ low p) × (b.high ≡ high p) × (is_bad_count p ≡ false)
+ShowsCountStep steps.Bad (CountRead p) = is_bad_count p ≡ true
+ShowsCountStep steps.Wrong CountWrong = Unit {0}
+ShowsCountStep _ _ = ⊥
+
+-- ---- what is waited for
+
+-- the mode's own words begin with number i
+unfoldable pub ShowsMode : Made → (ℕ → ℕ) → ℕ → Wait → Mode → Type 0
+ShowsMode made at i waits.Need Need = Unit {0}
+ShowsMode made at i waits.Ready Ready = Unit {0}
+ShowsMode made at i (waits.After part) (After a) = (part.at ≡ at i) × ShowsAtom a made at part.node i
+ShowsMode made at i (waits.Named f n) (Named free name) = (f ≡ free) × (n.bytes.now ≡ name) × (n.at ≡ at i)
+ShowsMode made at i (waits.Writing a) Writing = a ≡ at i
+ShowsMode made at i (waits.Bracket a) Bracket = a ≡ at i
+ShowsMode made at i (waits.BracketName a k) (BracketName r) = (a ≡ at i) × IsRegister made k r
+ShowsMode made at i (waits.Assigning x) (Assigning append r) = (x.at ≡ at i) × (x.append ≡ append) × IsRegister made x.register r × (x.pieces.items ≡ [])
+ShowsMode made at i (waits.Assigned x) (Assigned append r p ps) = (x.at ≡ at i) × (x.append ≡ append) × IsRegister made x.register r × ShowsParts (p ∷ ps) made x.pieces.items
+ShowsMode made at i (waits.InCount part c brace) (InCount a d) = (part.at ≡ at i) × ShowsAtom a made at part.node i × ShowsCount c d × (brace ≡ at (i + length (atom a)))
+ShowsMode _ _ _ _ _ = ⊥
+
+-- frames and what is waited for are those of a place inside a definition
+pub record Stands (made : Made) (at : ℕ → ℕ) (base : ℕ) (fs : List Frame) (wait : Wait) (i : Inside) : Type 0 where
+  pub below : FramesShow made at base fs i.entries
+  pub mode : ShowsMode made at (base + length (entries i.entries)) wait i.mode
+
+-- what a step made is what the machine makes, unless memory ran out
+unfoldable pub Steps : Made → (ℕ → ℕ) → ℕ → List Frame → Result Wait StepFault → Option Inside → Type 0
+Steps made at base fs (Ok wait) None = ⊥
+Steps made at base fs (Ok wait) (Some i) = Stands made at base fs wait i
+Steps made at base fs (Err faults.Memory) o = Unit {0}
+Steps made at base fs (Err faults.Wrong) None = Unit {0}
+Steps made at base fs (Err faults.Wrong) (Some i) = ⊥
+
+-- these frames are those of some entries, and an atom stands on them
+abbrev pub SomeFrames : Made → List Frame → Type 0
+SomeFrames made fs = (at : ℕ → ℕ) × (base : ℕ) × (es : List Entry) × FramesShow made at base fs es
+
+abbrev pub SomeAtom : Made → List Frame → Shown → Type 0
+SomeAtom made fs part = (at : ℕ → ℕ) × (base : ℕ) × (es : List Entry) × (a : Atom) × FramesShow made at base fs es × (part.at ≡ at (base + length (entries es))) × ShowsAtom a made at part.node (base + length (entries es))
+
+abbrev pub SomePre : Made → List Frame → Shown → Type 0
+SomePre made fs part = (at : ℕ → ℕ) × (base : ℕ) × (es : List Entry) × (p : Pre) × FramesShow made at base fs es × (part.at ≡ at (base + length (entries es))) × ShowsPre p made at part.node (base + length (entries es))
+
+abbrev pub SomeName : Made → List Frame → ℕ → Type 0
+SomeName made fs a = (at : ℕ → ℕ) × (base : ℕ) × (es : List Entry) × FramesShow made at base fs es × (a ≡ at (base + length (entries es)))
+
+abbrev pub SomeInside : Made → List Frame → Wait → Type 0
+SomeInside made fs wait = (at : ℕ → ℕ) × (base : ℕ) × (i : Inside) × Stands made at base fs wait i
+
+-- ---- the checks that a word asks
+
+unfoldable pub begin_asks : (ℕ → ℕ) → ℕ → List Entry → Word → List Check
+begin_asks at i es Tilde = Nested (at i) (depth es) ∷ []
+begin_asks at i es OpenParen = Nested (at i) (depth es) ∷ []
+begin_asks at i es (Regex b) = Matched (at i + 1) (depth es) b ∷ []
+begin_asks at i es _ = []
+
+unfoldable pub after_asks : (ℕ → ℕ) → ℕ → Atom → List Entry → Word → List Check
+after_asks at i a es Star = []
+after_asks at i a es Plus = []
+after_asks at i a es Question = []
+after_asks at i a es OpenBrace = []
+after_asks at i a es w = begin_asks at i (put (Once a) es) w
+
+unfoldable pub named_asks : (ℕ → ℕ) → ℕ → List ℕ → List Entry → Word → List Check
+named_asks at i n es At = Nested (at i) (depth es) ∷ []
+named_asks at i n es Define = []
+named_asks at i n es w = after_asks at (i + 1) (Call n) es w
+
+unfoldable pub count_asks : ℕ → CountStep → List Check
+count_asks at (CountOn c) = []
+count_asks at (CountRead p) = postfix_checks p at
+count_asks at CountWrong = []
+
+unfoldable pub asks : (ℕ → ℕ) → ℕ → Mode → List Entry → Word → List Check
+asks at i Need es w = begin_asks at i es w
+asks at i Ready es w = begin_asks at i es w
+asks at i (After a) es w = after_asks at (i + length (atom a)) a es w
+asks at i (Named free n) es w = named_asks at i n es w
+asks at i (InCount a c) es w = count_asks (at (i + length (atom a))) (count_step c w)
+asks at i _ es w = []

@@ -1,0 +1,526 @@
+// One word more, inside a definition.
+
+ghost use Rattle.std.specs.Prelude.{◌≡◌, ℕ, ◌+◌, ◌<◌, ◌≤◌, ◌^◌, ◌++◌, ◌∷◌, [], Bool, false, true, List, Some, None, length, IfOk, IfErr, OnOk};
+ghost use Rattle.kex_model.specs.Programs.{HasNames, IsCount};
+ghost use Rattle.kex_regexp.specs.Bodies.{Spells as BodySpells};
+ghost use Rattle.kex_regexp.specs.Grammar.{Regex};
+ghost use Rattle.kex_regexp.specs.Shown.{ShowsRegex};
+ghost use Rattle.kex_tokens.specs.Lexemes.{IsToken};
+ghost use Rattle.kex_tokens.specs.Values.{StandsFor};
+ghost use Rattle.kex_reader.specs.Checks.{Check, Matched, Nested};
+ghost use Rattle.kex_reader.specs.Reading.{After, Assigned, Assigning, BracketName, CountStep as SpecCountStep, Entry, Inside, Ready, after_atom, begin_pre, entries, first_part, goes, named as spec_named, next_part, on_bar, on_close, on_count, on_name, on_sign, put as spec_put, inside, step_in as spec_step_in, take_seq, take_term};
+ghost use Rattle.kex_reader.specs.Shown.{Made, IsName, IsNode, IsRegister, ShowsAtom, ShowsParts, high as high_of, low as low_of};
+ghost use Rattle.kex_reader.specs.Stands.{FramesShow, IsLeaf, Keeps, Noted, ShowsCountStep, ShowsMode, SomeAtom, SomeFrames, SomeInside, SomeName, Stands, Steps, after_asks, asks, begin_asks, count_asks, named_asks, open_frames};
+ghost use Rattle.kex_reader.specs.Syntax.{Atom, Part as SpecPart, Postfix, Turns, Write as SpecWrite, atom, between, word as word_of};
+
+use crate::counts::{Bounds, Count, CountStep, MOST, count_step};
+use crate::draft::Draft;
+use crate::pieces::{Assignment, piece};
+use crate::stack::{Frame, Part, Stack, Store};
+use crate::terms::{close_seq, close_term, put};
+use crate::word::{Name, Word};
+use kex_code::memory::Memory;
+use kex_code::piece::Bytes;
+use kex_model::program::Kind as NodeKind;
+use kex_regexp::breaks::Break;
+use kex_tokens::token::Kind;
+use kex_tokens::{literal_bytes, number_value};
+use std::alloc::Global;
+
+/// How deep parentheses and prefixes may nest.
+const DEEPEST: usize = 200;
+
+/// What the next word belongs to: a member has to come or may, an atom may have a postfix, a name may be a call, a register or
+/// a head, and the rest is half read.
+#[derive(Drop)]
+pub(crate) enum Wait<'t> {
+    Need,
+    Ready,
+    After(Part),
+    Named(bool, Name<'t>),
+    Writing(u32),
+    Bracket(u32),
+    BracketName(u32, u32),
+    Assigning(Assignment),
+    Assigned(Assignment),
+    InCount(Part, Count, u32),
+}
+
+/// Why there is no next step.
+#[derive(Clone, Copy, Drop)]
+pub(crate) enum StepFault {
+    Memory,
+    Wrong,
+}
+
+impl From<Memory> for StepFault {
+    fn from(_: Memory) -> StepFault {
+        StepFault::Memory
+    }
+}
+
+// An atom of one node.
+fn leaf<'t>(draft: &mut Draft<'t>, kind: NodeKind, at: u32) -> Result<Wait<'t>, StepFault>
+    requires below { HasNames (length draft.old.names) (length draft.old.registers) kind }
+    requires alone { IsLeaf kind }
+    ensures keeps { OnOk result (Keeps draft.old draft.new) }
+    ensures broken { OnOk result (draft.new.broken ≡ draft.old.broken) }
+    ensures wait { IfOk result (λ w. (n : ℕ) × (w ≡ Wait.After (record { node = n; at = at })) × IsNode draft.new n kind at) }
+    ensures fault { IfErr result (λ e. e ≡ StepFault.Memory) }
+{
+    let Ok(node) = draft.add(kind, at) else {
+        return Err(StepFault::Memory);
+    };
+    Ok(Wait::After(Part { node, at }))
+}
+
+// A literal.
+fn literal<'t>(alloc: Global, draft: &mut Draft<'t>, word: Word<'t>) -> Result<Wait<'t>, StepFault>
+    requires { IsToken Kind.Literal word.spelling.now }
+    ensures keeps { OnOk result (Keeps draft.old draft.new) }
+    ensures broken { OnOk result (draft.new.broken ≡ draft.old.broken) }
+    ensures wait { IfOk result (λ w. (n : ℕ) × (bytes : List ℕ) × (w ≡ Wait.After (record { node = n; at = word.entry.at })) × IsNode draft.new n (NodeKind.Lit bytes) word.entry.at × StandsFor word.entry.spelling.now bytes) }
+    ensures fault { IfErr result (λ e. e ≡ StepFault.Memory) }
+{
+    let Ok(bytes) = literal_bytes(alloc, word.spelling) else {
+        return Err(StepFault::Memory);
+    };
+    leaf(draft, NodeKind::Lit(Bytes::new(bytes)), word.at)
+}
+
+// What stands between the slashes.
+fn between_slashes(spelling: &[u8]) -> &[u8]
+    requires { IsToken Kind.Regex spelling.now }
+    ensures bytes { result.now ≡ between spelling.now }
+    ensures short { length result.now + 2 ≤ length spelling.now }
+{
+    let (_, behind) = spelling.split_at(1);
+    let (body, _) = behind.split_at(spelling.len() - 2);
+    body
+}
+
+// A body.
+fn body<'t>(
+    alloc: Global,
+    depth: usize,
+    draft: &mut Draft<'t>,
+    word: Word<'t>,
+) -> Result<Wait<'t>, StepFault>
+    requires token { IsToken Kind.Regex word.spelling.now }
+    requires place { word.at + length word.spelling.now < 2 ^ 32 }
+    ensures keeps { OnOk result (Keeps draft.old draft.new) }
+    ensures wait { IfOk result (λ w. (n : ℕ) × (w ≡ Wait.After (record { node = n; at = word.entry.at })) × (n < length draft.new.nodes) × (draft.new.broken ≡ None → (r : Regex) × BodySpells r (between word.entry.spelling.now) × ShowsRegex r draft.new.nodes n (word.entry.at + 1))) }
+    ensures notes { OnOk result ((cs : List Check) → Noted cs draft.old.broken → Noted (cs ++ Matched (word.entry.at + 1) depth (between word.entry.spelling.now) ∷ []) draft.new.broken) }
+    ensures fault { IfErr result (λ e. e ≡ StepFault.Memory) }
+{
+    let bytes = between_slashes(word.spelling);
+    let Ok(node) = draft.body(alloc, bytes, word.at + 1, depth) else {
+        return Err(StepFault::Memory);
+    };
+    Ok(Wait::After(Part { node, at: word.at }))
+}
+
+// Notes the limit where something opens that nests too deep.
+fn nest(draft: &mut Draft, depth: usize, at: u32)
+    ensures keeps { Keeps draft.old draft.new }
+    ensures notes { (cs : List Check) → Noted cs draft.old.broken → Noted (cs ++ Nested at depth ∷ []) draft.new.broken }
+{
+    if depth != DEEPEST {
+        return;
+    }
+    draft.note(Break::OverLimit { at });
+}
+
+// What stands open from here on, where it nests.
+fn open<'t>(
+    stack: &mut Stack,
+    draft: &mut Draft<'t>,
+    frame: Frame,
+    at: u32,
+) -> Result<Wait<'t>, StepFault>
+    ensures keeps { OnOk result (Keeps draft.old draft.new) }
+    ensures wait { IfOk result (λ w. w ≡ Wait.Need) }
+    ensures pushed { OnOk result (stack.new ≡ frame ∷ stack.old) }
+    ensures notes { OnOk result ((cs : List Check) → Noted cs draft.old.broken → Noted (cs ++ Nested at (open_frames stack.old) ∷ []) draft.new.broken) }
+    ensures fault { IfErr result (λ e. e ≡ StepFault.Memory) }
+{
+    nest(draft, stack.depth(), at);
+    let Ok(()) = stack.push(frame) else {
+        return Err(StepFault::Memory);
+    };
+    Ok(Wait::Need)
+}
+
+// A bar ends a sequence.
+fn bar<'t>(stack: &mut Stack, draft: &mut Draft<'t>) -> Result<Wait<'t>, StepFault>
+    requires { SomeFrames draft.old stack.old }
+    ensures keeps { OnOk result (Keeps draft.old draft.new) }
+    ensures broken { OnOk result (draft.new.broken ≡ draft.old.broken) }
+    ensures step { (at : ℕ → ℕ) (base : ℕ) (es : List Entry) → FramesShow draft.old at base stack.old es → Steps draft.new at base stack.new result (on_bar (take_seq es)) }
+{
+    let Ok(closed) = close_seq(stack, draft) else {
+        return Err(StepFault::Memory);
+    };
+    let Some(seq) = closed else {
+        return Err(StepFault::Wrong);
+    };
+    let Ok(()) = stack.push(Frame::Ended(seq)) else {
+        return Err(StepFault::Memory);
+    };
+    Ok(Wait::Need)
+}
+
+// A parenthesis ends a term.
+fn close<'t>(stack: &mut Stack, draft: &mut Draft<'t>) -> Result<Wait<'t>, StepFault>
+    requires { SomeFrames draft.old stack.old }
+    ensures keeps { OnOk result (Keeps draft.old draft.new) }
+    ensures broken { OnOk result (draft.new.broken ≡ draft.old.broken) }
+    ensures step { (at : ℕ → ℕ) (base : ℕ) (es : List Entry) → FramesShow draft.old at base stack.old es → Steps draft.new at base stack.new result (on_close (take_term es)) }
+{
+    let Ok(closed) = close_term(stack, draft) else {
+        return Err(StepFault::Memory);
+    };
+    let Some(term) = closed else {
+        return Err(StepFault::Wrong);
+    };
+    let Some(at) = stack.take_mark() else {
+        return Err(StepFault::Wrong);
+    };
+    Ok(Wait::After(Part {
+        node: term.node,
+        at,
+    }))
+}
+
+// A word where a member has to begin.
+fn begin<'t>(
+    alloc: Global,
+    stack: &mut Stack,
+    draft: &mut Draft<'t>,
+    free: bool,
+    word: Word<'t>,
+) -> Result<Wait<'t>, StepFault>
+    requires frames { SomeFrames draft.old stack.old }
+    requires token { IsToken word.kind word.spelling.now }
+    requires place { word.at + length word.spelling.now < 2 ^ 32 }
+    ensures keeps { OnOk result (Keeps draft.old draft.new) }
+    ensures step { (at : ℕ → ℕ) (base : ℕ) (es : List Entry) → FramesShow draft.old at base stack.old es → word.entry.at ≡ at (base + length (entries es)) → Steps draft.new at base stack.new result (begin_pre free es (word_of word.entry.kind word.entry.spelling.now)) }
+    ensures notes { (at : ℕ → ℕ) (base : ℕ) (es : List Entry) → FramesShow draft.old at base stack.old es → word.entry.at ≡ at (base + length (entries es)) → (cs : List Check) → Noted cs draft.old.broken → OnOk result (Noted (cs ++ begin_asks at (base + length (entries es)) es (word_of word.entry.kind word.entry.spelling.now)) draft.new.broken) }
+{
+    match word.kind {
+        Kind::Name => Ok(Wait::Named(
+            free,
+            Name {
+                bytes: word.spelling,
+                at: word.at,
+            },
+        )),
+        Kind::Number => {
+            if word.spelling == b"1".as_slice() {
+                leaf(draft, NodeKind::One, word.at)
+            } else {
+                Err(StepFault::Wrong)
+            }
+        }
+        Kind::Literal => literal(alloc, draft, word),
+        Kind::Regex => body(alloc, stack.depth(), draft, word),
+        Kind::Tilde => open(stack, draft, Frame::Muted(word.at), word.at),
+        Kind::Bang => Ok(Wait::Writing(word.at)),
+        Kind::OpenBracket => Ok(Wait::Bracket(word.at)),
+        Kind::OpenParen => open(stack, draft, Frame::Mark(word.at), word.at),
+        Kind::Bar => {
+            if free {
+                bar(stack, draft)
+            } else {
+                Err(StepFault::Wrong)
+            }
+        }
+        Kind::CloseParen => {
+            if free {
+                close(stack, draft)
+            } else {
+                Err(StepFault::Wrong)
+            }
+        }
+        _ => Err(StepFault::Wrong),
+    }
+}
+
+// A member with a postfix.
+fn turns<'t>(
+    stack: &mut Stack,
+    draft: &mut Draft<'t>,
+    item: Part,
+    bounds: Bounds,
+) -> Result<Wait<'t>, StepFault>
+    requires atom { SomeAtom draft.old stack.old item }
+    requires count { (p : Postfix) × (bounds.low ≡ low_of p) × (bounds.high ≡ high_of p) × IsCount bounds.low bounds.high }
+    ensures keeps { OnOk result (Keeps draft.old draft.new) }
+    ensures broken { OnOk result (draft.new.broken ≡ draft.old.broken) }
+    ensures step { (at : ℕ → ℕ) (base : ℕ) (es : List Entry) (a : Atom) (p : Postfix) → FramesShow draft.old at base stack.old es → item.at ≡ at (base + length (entries es)) → ShowsAtom a draft.old at item.node (base + length (entries es)) → bounds.low ≡ low_of p → bounds.high ≡ high_of p → Steps draft.new at base stack.new result (goes Ready (spec_put (Turns a p) es)) }
+{
+    let Ok(node) = draft.add(
+        NodeKind::Rep {
+            body: item.node,
+            min: bounds.low,
+            max: bounds.high,
+        },
+        item.at,
+    ) else {
+        return Err(StepFault::Memory);
+    };
+    let Ok(()) = put(stack, draft, Part { node, at: item.at }) else {
+        return Err(StepFault::Memory);
+    };
+    Ok(Wait::Ready)
+}
+
+// A word behind an atom.
+fn behind<'t>(
+    alloc: Global,
+    stack: &mut Stack,
+    draft: &mut Draft<'t>,
+    item: Part,
+    word: Word<'t>,
+) -> Result<Wait<'t>, StepFault>
+    requires atom { SomeAtom draft.old stack.old item }
+    requires token { IsToken word.kind word.spelling.now }
+    requires place { word.at + length word.spelling.now < 2 ^ 32 }
+    ensures keeps { OnOk result (Keeps draft.old draft.new) }
+    ensures step { (at : ℕ → ℕ) (base : ℕ) (es : List Entry) (a : Atom) → FramesShow draft.old at base stack.old es → item.at ≡ at (base + length (entries es)) → word.entry.at ≡ at (base + length (entries es) + length (atom a)) → ShowsAtom a draft.old at item.node (base + length (entries es)) → Steps draft.new at base stack.new result (after_atom a es (word_of word.entry.kind word.entry.spelling.now)) }
+    ensures notes { (at : ℕ → ℕ) (base : ℕ) (es : List Entry) (a : Atom) → FramesShow draft.old at base stack.old es → item.at ≡ at (base + length (entries es)) → word.entry.at ≡ at (base + length (entries es) + length (atom a)) → ShowsAtom a draft.old at item.node (base + length (entries es)) → (cs : List Check) → Noted cs draft.old.broken → OnOk result (Noted (cs ++ after_asks at (base + length (entries es) + length (atom a)) a es (word_of word.entry.kind word.entry.spelling.now)) draft.new.broken) }
+{
+    match word.kind {
+        Kind::Star => turns(stack, draft, item, Bounds { low: 0, high: None }),
+        Kind::Plus => turns(stack, draft, item, Bounds { low: 1, high: None }),
+        Kind::Question => turns(
+            stack,
+            draft,
+            item,
+            Bounds {
+                low: 0,
+                high: Some(1),
+            },
+        ),
+        Kind::OpenBrace => Ok(Wait::InCount(item, Count::Opened, word.at)),
+        _ => {
+            let Ok(()) = put(stack, draft, item) else {
+                return Err(StepFault::Memory);
+            };
+            begin(alloc, stack, draft, true, word)
+        }
+    }
+}
+
+// A word behind a name.
+fn named<'t>(
+    alloc: Global,
+    stack: &mut Stack,
+    draft: &mut Draft<'t>,
+    name: Name<'t>,
+    word: Word<'t>,
+) -> Result<Wait<'t>, StepFault>
+    requires frames { SomeName draft.old stack.old name.at }
+    requires token { IsToken word.kind word.spelling.now }
+    requires place { word.at + length word.spelling.now < 2 ^ 32 }
+    ensures keeps { OnOk result (Keeps draft.old draft.new) }
+    ensures step { (at : ℕ → ℕ) (base : ℕ) (es : List Entry) → FramesShow draft.old at base stack.old es → name.entry.at ≡ at (base + length (entries es)) → word.entry.at ≡ at (base + length (entries es) + 1) → Steps draft.new at base stack.new result (spec_named name.entry.bytes.now es (word_of word.entry.kind word.entry.spelling.now)) }
+    ensures notes { (at : ℕ → ℕ) (base : ℕ) (es : List Entry) → FramesShow draft.old at base stack.old es → name.entry.at ≡ at (base + length (entries es)) → word.entry.at ≡ at (base + length (entries es) + 1) → (cs : List Check) → Noted cs draft.old.broken → OnOk result (Noted (cs ++ named_asks at (base + length (entries es)) name.entry.bytes.now es (word_of word.entry.kind word.entry.spelling.now)) draft.new.broken) }
+{
+    match word.kind {
+        Kind::At => {
+            let Ok(register) = draft.register(name.bytes) else {
+                return Err(StepFault::Memory);
+            };
+            let store = Store {
+                register,
+                at: name.at,
+            };
+            open(stack, draft, Frame::Storing(store), name.at)
+        }
+        Kind::Define => Err(StepFault::Wrong),
+        _ => {
+            let Ok(item) = call(draft, name) else {
+                return Err(StepFault::Memory);
+            };
+            behind(alloc, stack, draft, item, word)
+        }
+    }
+}
+
+// A call of a name.
+pub(crate) fn call<'t>(draft: &mut Draft<'t>, name: Name<'t>) -> Result<Part, Memory>
+    ensures keeps { OnOk result (Keeps draft.old draft.new) }
+    ensures broken { OnOk result (draft.new.broken ≡ draft.old.broken) }
+    ensures node { IfOk result (λ p. (k : ℕ) × IsNode draft.new p.node (NodeKind.Call k) name.entry.at × IsName draft.new k name.entry.bytes.now) }
+    ensures place { IfOk result (λ p. p.at ≡ name.entry.at) }
+{
+    let Ok(number) = draft.name(name.bytes) else {
+        return Err(Memory);
+    };
+    let Ok(node) = draft.add(NodeKind::Call(number), name.at) else {
+        return Err(Memory);
+    };
+    Ok(Part { node, at: name.at })
+}
+
+// The register that is written.
+fn write<'t>(draft: &mut Draft<'t>, at: u32, word: Word<'t>) -> Result<Wait<'t>, StepFault>
+    ensures keeps { OnOk result (Keeps draft.old draft.new) }
+    ensures broken { OnOk result (draft.new.broken ≡ draft.old.broken) }
+    ensures step { (place : ℕ → ℕ) (base : ℕ) (fs : List Frame) (es : List Entry) → FramesShow draft.old place base fs es → at ≡ place (base + length (entries es)) → Steps draft.new place base fs result (on_name (λ n. goes (After (SpecWrite n)) es) (word_of word.entry.kind word.entry.spelling.now)) }
+{
+    let Kind::Name = word.kind else {
+        return Err(StepFault::Wrong);
+    };
+    let Ok(register) = draft.register(word.spelling) else {
+        return Err(StepFault::Memory);
+    };
+    leaf(draft, NodeKind::Write(register), at)
+}
+
+// The register behind a bracket.
+fn bracket<'t>(draft: &mut Draft<'t>, at: u32, word: Word<'t>) -> Result<Wait<'t>, StepFault>
+    ensures keeps { OnOk result (Keeps draft.old draft.new) }
+    ensures broken { OnOk result (draft.new.broken ≡ draft.old.broken) }
+    ensures step { (place : ℕ → ℕ) (base : ℕ) (fs : List Frame) (es : List Entry) → FramesShow draft.old place base fs es → at ≡ place (base + length (entries es)) → Steps draft.new place base fs result (on_name (λ n. goes (BracketName n) es) (word_of word.entry.kind word.entry.spelling.now)) }
+{
+    let Kind::Name = word.kind else {
+        return Err(StepFault::Wrong);
+    };
+    let Ok(register) = draft.register(word.spelling) else {
+        return Err(StepFault::Memory);
+    };
+    Ok(Wait::BracketName(at, register))
+}
+
+// The sign behind a register.
+fn sign<'t>(alloc: Global, at: u32, register: u32, kind: Kind) -> Result<Wait<'t>, StepFault>
+    ensures step { (made : Made) (place : ℕ → ℕ) (base : ℕ) (fs : List Frame) (es : List Entry) (r : List ℕ) (b : List ℕ) → FramesShow made place base fs es → at ≡ place (base + length (entries es)) → IsRegister made register r → Steps made place base fs result (on_sign r es (word_of kind b)) }
+{
+    match kind {
+        Kind::Arrow => Ok(Wait::Assigning(Assignment {
+            at,
+            append: false,
+            register,
+            pieces: Vec::new(alloc),
+        })),
+        Kind::PlusEquals => Ok(Wait::Assigning(Assignment {
+            at,
+            append: true,
+            register,
+            pieces: Vec::new(alloc),
+        })),
+        _ => Err(StepFault::Wrong),
+    }
+}
+
+// A part of an assignment.
+fn part<'t>(
+    alloc: Global,
+    draft: &mut Draft<'t>,
+    mut assignment: Assignment,
+    word: Word<'t>,
+) -> Result<Wait<'t>, StepFault>
+    requires token { IsToken word.kind word.spelling.now }
+    ensures keeps { OnOk result (Keeps draft.old draft.new) }
+    ensures broken { OnOk result (draft.new.broken ≡ draft.old.broken) }
+    ensures first { (place : ℕ → ℕ) (base : ℕ) (fs : List Frame) (es : List Entry) (append : Bool) (r : List ℕ) → FramesShow draft.old place base fs es → ShowsMode draft.old place (base + length (entries es)) (Wait.Assigning assignment) (Assigning append r) → Steps draft.new place base fs result (first_part append r es (word_of word.entry.kind word.entry.spelling.now)) }
+    ensures next { (place : ℕ → ℕ) (base : ℕ) (fs : List Frame) (es : List Entry) (append : Bool) (r : List ℕ) (p : SpecPart) (ps : List SpecPart) → (word.entry.kind ≡ Kind.CloseBracket → ⊥) → FramesShow draft.old place base fs es → ShowsMode draft.old place (base + length (entries es)) (Wait.Assigned assignment) (Assigned append r p ps) → Steps draft.new place base fs result (next_part append r p ps es (word_of word.entry.kind word.entry.spelling.now)) }
+{
+    let Ok(read) = piece(alloc, draft, word) else {
+        return Err(StepFault::Memory);
+    };
+    let Some(piece) = read else {
+        return Err(StepFault::Wrong);
+    };
+    let Ok(()) = assignment.pieces.push(piece) else {
+        return Err(StepFault::Memory);
+    };
+    Ok(Wait::Assigned(assignment))
+}
+
+// A word behind a part.
+fn behind_part<'t>(
+    alloc: Global,
+    draft: &mut Draft<'t>,
+    assignment: Assignment,
+    word: Word<'t>,
+) -> Result<Wait<'t>, StepFault>
+    requires some { (place : ℕ → ℕ) × (i : ℕ) × (append : Bool) × (r : List ℕ) × (p : SpecPart) × (ps : List SpecPart) × ShowsMode draft.old place i (Wait.Assigned assignment) (Assigned append r p ps) }
+    requires token { IsToken word.kind word.spelling.now }
+    ensures keeps { OnOk result (Keeps draft.old draft.new) }
+    ensures broken { OnOk result (draft.new.broken ≡ draft.old.broken) }
+    ensures step { (place : ℕ → ℕ) (base : ℕ) (fs : List Frame) (es : List Entry) (append : Bool) (r : List ℕ) (p : SpecPart) (ps : List SpecPart) → FramesShow draft.old place base fs es → ShowsMode draft.old place (base + length (entries es)) (Wait.Assigned assignment) (Assigned append r p ps) → Steps draft.new place base fs result (next_part append r p ps es (word_of word.entry.kind word.entry.spelling.now)) }
+{
+    match word.kind {
+        Kind::CloseBracket => {
+            let at = assignment.at;
+            leaf(draft, assignment.kind(), at)
+        }
+        _ => part(alloc, draft, assignment, word),
+    }
+}
+
+// A word behind what is read of a count.
+fn counted<'t>(
+    stack: &mut Stack,
+    draft: &mut Draft<'t>,
+    item: Part,
+    brace: u32,
+    step: CountStep,
+) -> Result<Wait<'t>, StepFault>
+    requires atom { SomeAtom draft.old stack.old item }
+    requires count { (t : SpecCountStep) × ShowsCountStep step t }
+    ensures keeps { OnOk result (Keeps draft.old draft.new) }
+    ensures step { (at : ℕ → ℕ) (base : ℕ) (es : List Entry) (a : Atom) (t : SpecCountStep) → FramesShow draft.old at base stack.old es → item.at ≡ at (base + length (entries es)) → brace ≡ at (base + length (entries es) + length (atom a)) → ShowsAtom a draft.old at item.node (base + length (entries es)) → ShowsCountStep step t → Steps draft.new at base stack.new result (on_count a es t) }
+    ensures notes { (t : SpecCountStep) (from : ℕ) → brace ≡ from → ShowsCountStep step t → (cs : List Check) → Noted cs draft.old.broken → OnOk result (Noted (cs ++ count_asks from t) draft.new.broken) }
+{
+    match step {
+        CountStep::On(count) => Ok(Wait::InCount(item, count, brace)),
+        CountStep::Read(bounds) => turns(stack, draft, item, bounds),
+        CountStep::Bad => {
+            draft.note(Break::BadCount { at: brace });
+            let Ok(()) = put(stack, draft, item) else {
+                return Err(StepFault::Memory);
+            };
+            Ok(Wait::Ready)
+        }
+        CountStep::Wrong => Err(StepFault::Wrong),
+    }
+}
+
+// A word, in whatever it is waited for.
+pub(crate) fn step_in<'t>(
+    alloc: Global,
+    stack: &mut Stack,
+    draft: &mut Draft<'t>,
+    wait: Wait<'t>,
+    word: Word<'t>,
+) -> Result<Wait<'t>, StepFault>
+    requires inside { SomeInside draft.old stack.old wait }
+    requires token { IsToken word.kind word.spelling.now }
+    requires place { word.at + length word.spelling.now < 2 ^ 32 }
+    ensures keeps { OnOk result (Keeps draft.old draft.new) }
+    ensures step { (at : ℕ → ℕ) (base : ℕ) (i : Inside) → Stands draft.old at base stack.old wait.entry i → word.entry.at ≡ at (base + length (inside i)) → Steps draft.new at base stack.new result (spec_step_in i.mode i.entries (word_of word.entry.kind word.entry.spelling.now)) }
+    ensures notes { (at : ℕ → ℕ) (base : ℕ) (i : Inside) → Stands draft.old at base stack.old wait.entry i → word.entry.at ≡ at (base + length (inside i)) → (cs : List Check) → Noted cs draft.old.broken → OnOk result (Noted (cs ++ asks at (base + length (entries i.entries)) i.mode i.entries (word_of word.entry.kind word.entry.spelling.now)) draft.new.broken) }
+{
+    match wait {
+        Wait::Need => begin(alloc, stack, draft, false, word),
+        Wait::Ready => begin(alloc, stack, draft, true, word),
+        Wait::After(item) => behind(alloc, stack, draft, item, word),
+        Wait::Named(_, name) => named(alloc, stack, draft, name, word),
+        Wait::Writing(at) => write(draft, at, word),
+        Wait::Bracket(at) => bracket(draft, at, word),
+        Wait::BracketName(at, register) => sign(alloc, at, register, word.kind),
+        Wait::Assigning(assignment) => part(alloc, draft, assignment, word),
+        Wait::Assigned(assignment) => behind_part(alloc, draft, assignment, word),
+        Wait::InCount(item, count, brace) => counted(
+            stack,
+            draft,
+            item,
+            brace,
+            count_step(count, word.kind, number_value(word.spelling, MOST)),
+        ),
+    }
+}

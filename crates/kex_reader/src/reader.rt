@@ -1,0 +1,290 @@
+// A whole program, a word at a time.
+
+ghost use Rattle.std.specs.Prelude.{◌≡◌, ℕ, ◌+◌, ◌<◌, ◌^◌, ◌++◌, ◌∷◌, ◌⊎◌, [], List, length, None, IfOk, IfErr, OnOk};
+ghost use Rattle.kex_tokens.specs.Lexemes.{IsToken};
+ghost use Rattle.kex_reader.specs.Holding.{Ends, Finishes, ShowsState, SomeState, StateSteps, whole_term};
+ghost use Rattle.kex_reader.specs.Reading.{Entry, Inside, State, entries, put as spec_put, Within, finish as spec_finish, finish_within as spec_finish_within, first_name, FirstName, spelled, step as spec_step, step_within, take_term};
+ghost use Rattle.kex_reader.specs.Shown.{IsName, ShowsAtom};
+ghost use Rattle.kex_reader.specs.Asked.{state_asks};
+ghost use Rattle.kex_reader.specs.Checks.{Check, Staged};
+ghost use Rattle.kex_reader.specs.Stands.{FramesShow, Keeps, Noted, SomeAtom, SomeFrames, SomeInside, SomeName};
+ghost use Rattle.kex_reader.specs.Syntax.{Atom, Call, Definition as SpecDefinition, Define, Once, Header, word as word_of};
+
+use crate::draft::Draft;
+use crate::inside::{StepFault, Wait, call, step_in};
+use crate::stack::{Part, Stack};
+use crate::terms::{close_term, put};
+use crate::word::{Name, Word};
+use kex_model::program::{Definition, Start};
+use kex_regexp::breaks::Break;
+use kex_tokens::token::Kind;
+use std::alloc::Global;
+
+/// How many stages a start line may name.
+const MOST_STAGES: usize = 64;
+
+// Notes the limit where one stage too many is named.
+fn limit_stages(draft: &mut Draft, before: usize, at: u32)
+    ensures keeps { Keeps draft.old draft.new }
+    ensures notes { (cs : List Check) → Noted cs draft.old.broken → Noted (cs ++ Staged at (before + 1) ∷ []) draft.new.broken }
+{
+    if before != MOST_STAGES {
+        return;
+    }
+    draft.note(Break::OverLimit { at });
+}
+
+/// The name that a definition stands under, and its offset.
+#[derive(Clone, Copy)]
+pub(crate) struct Head {
+    pub(crate) name: u32,
+    pub(crate) at: u32,
+}
+
+/// What the next word belongs to: the start line, a head, or a definition.
+#[derive(Drop)]
+pub(crate) enum Phase<'t> {
+    Begin,
+    FirstName(Name<'t>),
+    StartLine,
+    StageRead,
+    StageNext,
+    HeadRead(Name<'t>),
+    Within(Head, Wait<'t>),
+}
+
+/// A program that is being read: what stands open in the definition, what is made, and the definitions and stages so far.
+#[derive(Drop)]
+pub(crate) struct Reader<'t> {
+    pub(crate) alloc: Global,
+    pub(crate) stack: Stack,
+    pub(crate) draft: Draft<'t>,
+    pub(crate) definitions: Vec<Definition>,
+    pub(crate) stages: Vec<Start>,
+}
+
+impl<'t> Reader<'t> {
+    pub(crate) fn new(alloc: Global) -> Reader<'t>
+        ensures { (result.stack ≡ []) × (result.definitions.items ≡ []) × (result.stages.items ≡ []) × (result.draft.broken ≡ None) }
+    {
+        Reader {
+            alloc,
+            stack: Stack::new(alloc),
+            draft: Draft::new(alloc),
+            definitions: Vec::new(alloc),
+            stages: Vec::new(alloc),
+        }
+    }
+
+    // A definition begins.
+    fn head(&mut self, name: Name<'t>) -> Result<Phase<'t>, StepFault>
+        ensures keeps { OnOk result (Keeps self.old.draft self.new.draft) }
+        ensures rest { OnOk result ((self.new.stack ≡ self.old.stack) × (self.new.definitions.items ≡ self.old.definitions.items) × (self.new.stages.items ≡ self.old.stages.items)) }
+        ensures phase { IfOk result (λ p. (k : ℕ) × (p ≡ Phase.Within (record { name = k; at = name.entry.at }) Wait.Need) × IsName self.new.draft k name.entry.bytes.now) }
+        ensures fault { IfErr result (λ e. e ≡ StepFault.Memory) }
+        ensures broken { OnOk result (self.new.draft.broken ≡ self.old.draft.broken) }
+    {
+        let Ok(number) = self.draft.name(name.bytes) else {
+            return Err(StepFault::Memory);
+        };
+        Ok(Phase::Within(
+            Head {
+                name: number,
+                at: name.at,
+            },
+            Wait::Need,
+        ))
+    }
+
+    // A stage is named.
+    fn stage(&mut self, word: Word<'t>) -> Result<Phase<'t>, StepFault>
+        ensures keeps { OnOk result (Keeps self.old.draft self.new.draft) }
+        ensures rest { OnOk result ((self.new.stack ≡ self.old.stack) × (self.new.definitions.items ≡ self.old.definitions.items)) }
+        ensures read { IfOk result (λ p. (k : ℕ) × (p ≡ Phase.StageRead) × (word.entry.kind ≡ Kind.Name) × IsName self.new.draft k word.entry.spelling.now × (self.new.stages.items ≡ self.old.stages.items ++ record { name = k; at = word.entry.at } ∷ [])) }
+        ensures fault { IfErr result (λ e. (e ≡ StepFault.Memory) ⊎ ((e ≡ StepFault.Wrong) × (word.entry.kind ≡ Kind.Name → ⊥))) }
+        ensures notes { (cs : List Check) → Noted cs self.old.draft.broken → OnOk result (Noted (cs ++ Staged word.entry.at (length self.old.stages.items + 1) ∷ []) self.new.draft.broken) }
+    {
+        let Kind::Name = word.kind else {
+            return Err(StepFault::Wrong);
+        };
+        let Ok(name) = self.draft.name(word.spelling) else {
+            return Err(StepFault::Memory);
+        };
+        limit_stages(&mut self.draft, self.stages.len(), word.at);
+        let Ok(()) = self.stages.push(Start { name, at: word.at }) else {
+            return Err(StepFault::Memory);
+        };
+        Ok(Phase::StageRead)
+    }
+
+    // The definition that is being read ends with what stands open.
+    fn end(&mut self, head: Head) -> Result<(), StepFault>
+        requires { SomeFrames self.old.draft self.old.stack }
+        ensures keeps { OnOk result (Keeps self.old.draft self.new.draft) }
+        ensures stages { OnOk result (self.new.stages.items ≡ self.old.stages.items) }
+        ensures ends { (at : ℕ → ℕ) (base : ℕ) (es : List Entry) → FramesShow self.old.draft at base self.old.stack es → Ends self.new.draft at base self.new.stack self.old.definitions.items self.new.definitions.items head.name head.at result (whole_term (take_term es)) }
+        ensures broken { OnOk result (self.new.draft.broken ≡ self.old.draft.broken) }
+    {
+        let Ok(closed) = close_term(&mut self.stack, &mut self.draft) else {
+            return Err(StepFault::Memory);
+        };
+        let Some(term) = closed else {
+            return Err(StepFault::Wrong);
+        };
+        if !self.stack.is_empty() {
+            return Err(StepFault::Wrong);
+        }
+        let Ok(()) = self.definitions.push(Definition {
+            name: head.name,
+            at: head.at,
+            root: term.node,
+        })
+        else {
+            return Err(StepFault::Memory);
+        };
+        Ok(())
+    }
+
+    // A word inside a definition.
+    fn go_on(&mut self, head: Head, wait: Wait<'t>, word: Word<'t>) -> Result<Phase<'t>, StepFault>
+        requires inside { SomeInside self.old.draft self.old.stack wait }
+        requires token { IsToken word.kind word.spelling.now }
+        requires place { word.at + length word.spelling.now < 2 ^ 32 }
+        ensures step { (at : ℕ → ℕ) (h : Header) (done : List SpecDefinition) (name : List ℕ) (i : Inside) → (word.entry.kind ≡ Kind.Define → ⊥) → ShowsState self.old.draft at self.old.stack self.old.definitions.items self.old.stages.items (Phase.Within head wait.entry) (Within h done name i) → word.entry.at ≡ at (length (spelled (Within h done name i))) → StateSteps self.new.draft at self.new.stack self.new.definitions.items self.new.stages.items result (step_within h done name i.mode i.entries (word_of word.entry.kind word.entry.spelling.now)) }
+        ensures notes { (at : ℕ → ℕ) (h : Header) (done : List SpecDefinition) (name : List ℕ) (i : Inside) (cs : List Check) → ShowsState self.old.draft at self.old.stack self.old.definitions.items self.old.stages.items (Phase.Within head wait.entry) (Within h done name i) → word.entry.at ≡ at (length (spelled (Within h done name i))) → Noted cs self.old.draft.broken → OnOk result (Noted (cs ++ state_asks at (Within h done name i) (word_of word.entry.kind word.entry.spelling.now)) self.new.draft.broken) }
+    {
+        match step_in(self.alloc, &mut self.stack, &mut self.draft, wait, word) {
+            Ok(next) => Ok(Phase::Within(head, next)),
+            Err(fault) => Err(fault),
+        }
+    }
+
+    // Where the next definition begins, behind a name that needn't be a call.
+    fn next_definition(&mut self, head: Head, wait: Wait<'t>) -> Result<Phase<'t>, StepFault>
+        requires { SomeInside self.old.draft self.old.stack wait }
+        ensures step { (at : ℕ → ℕ) (h : Header) (done : List SpecDefinition) (name : List ℕ) (i : Inside) → ShowsState self.old.draft at self.old.stack self.old.definitions.items self.old.stages.items (Phase.Within head wait.entry) (Within h done name i) → StateSteps self.new.draft at self.new.stack self.new.definitions.items self.new.stages.items result (step_within h done name i.mode i.entries Define) }
+        ensures broken { OnOk result (self.new.draft.broken ≡ self.old.draft.broken) }
+    {
+        let Wait::Named(free, name) = wait else {
+            return Err(StepFault::Wrong);
+        };
+        if !free {
+            return Err(StepFault::Wrong);
+        }
+        match self.end(head) {
+            Ok(()) => self.head(name),
+            Err(fault) => Err(fault),
+        }
+    }
+
+    // The first name is the start line's word, or a head.
+    fn first(&mut self, name: Name<'t>, kind: Kind) -> Result<Phase<'t>, StepFault>
+        ensures step { (at : ℕ → ℕ) (n b : List ℕ) → ShowsState self.old.draft at self.old.stack self.old.definitions.items self.old.stages.items (Phase.FirstName name.entry) (FirstName n) → StateSteps self.new.draft at self.new.stack self.new.definitions.items self.new.stages.items result (first_name n (word_of kind b)) }
+        ensures broken { OnOk result (self.new.draft.broken ≡ self.old.draft.broken) }
+    {
+        match kind {
+            Kind::Define => self.head(name),
+            Kind::Colon => {
+                if name.bytes == b"start".as_slice() {
+                    Ok(Phase::StartLine)
+                } else {
+                    Err(StepFault::Wrong)
+                }
+            }
+            _ => Err(StepFault::Wrong),
+        }
+    }
+
+    // A word more.
+    pub(crate) fn step(&mut self, phase: Phase<'t>, word: Word<'t>) -> Result<Phase<'t>, StepFault>
+        requires some { SomeState self.old.draft self.old.stack self.old.definitions.items self.old.stages.items phase }
+        requires token { IsToken word.kind word.spelling.now }
+        requires place { word.at + length word.spelling.now < 2 ^ 32 }
+        ensures step { (at : ℕ → ℕ) (s : State) → ShowsState self.old.draft at self.old.stack self.old.definitions.items self.old.stages.items phase.entry s → word.entry.at ≡ at (length (spelled s)) → StateSteps self.new.draft at self.new.stack self.new.definitions.items self.new.stages.items result (spec_step s (word_of word.entry.kind word.entry.spelling.now)) }
+        ensures notes { (at : ℕ → ℕ) (s : State) (cs : List Check) → ShowsState self.old.draft at self.old.stack self.old.definitions.items self.old.stages.items phase.entry s → word.entry.at ≡ at (length (spelled s)) → Noted cs self.old.draft.broken → OnOk result (Noted (cs ++ state_asks at s (word_of word.entry.kind word.entry.spelling.now)) self.new.draft.broken) }
+    {
+        let name = Name {
+            bytes: word.spelling,
+            at: word.at,
+        };
+        match phase {
+            Phase::Begin => match word.kind {
+                Kind::Name => Ok(Phase::FirstName(name)),
+                _ => Err(StepFault::Wrong),
+            },
+            Phase::FirstName(first) => self.first(first, word.kind),
+            Phase::StartLine => self.stage(word),
+            Phase::StageRead => match word.kind {
+                Kind::Pipe => Ok(Phase::StageNext),
+                Kind::Name => Ok(Phase::HeadRead(name)),
+                _ => Err(StepFault::Wrong),
+            },
+            Phase::StageNext => self.stage(word),
+            Phase::HeadRead(head) => match word.kind {
+                Kind::Define => self.head(head),
+                _ => Err(StepFault::Wrong),
+            },
+            Phase::Within(head, wait) => match word.kind {
+                Kind::Define => self.next_definition(head, wait),
+                _ => self.go_on(head, wait, word),
+            },
+        }
+    }
+
+    // The last definition ends with the text.
+    fn finish_within(&mut self, head: Head, wait: Wait<'t>) -> Result<(), StepFault>
+        requires { SomeInside self.old.draft self.old.stack wait }
+        ensures ends { (at : ℕ → ℕ) (h : Header) (done : List SpecDefinition) (name : List ℕ) (i : Inside) → ShowsState self.old.draft at self.old.stack self.old.definitions.items self.old.stages.items (Phase.Within head wait.entry) (Within h done name i) → Finishes self.new.draft at self.new.definitions.items self.new.stages.items result (spec_finish_within h done name i.mode i.entries) }
+        ensures broken { OnOk result (self.new.draft.broken ≡ self.old.draft.broken) }
+    {
+        match wait {
+            Wait::Ready => return self.end(head),
+            Wait::After(item) => return self.end_with(head, item),
+            Wait::Named(_, name) => return self.end_call(head, name),
+            _ => {}
+        }
+        Err(StepFault::Wrong)
+    }
+
+    // The last definition ends with this call.
+    fn end_call(&mut self, head: Head, name: Name<'t>) -> Result<(), StepFault>
+        requires { SomeName self.old.draft self.old.stack name.at }
+        ensures keeps { OnOk result (Keeps self.old.draft self.new.draft) }
+        ensures stages { OnOk result (self.new.stages.items ≡ self.old.stages.items) }
+        ensures ends { (at : ℕ → ℕ) (base : ℕ) (es : List Entry) → FramesShow self.old.draft at base self.old.stack es → name.entry.at ≡ at (base + length (entries es)) → Ends self.new.draft at base self.new.stack self.old.definitions.items self.new.definitions.items head.name head.at result (whole_term (take_term (spec_put (Once (Call name.entry.bytes.now)) es))) }
+        ensures broken { OnOk result (self.new.draft.broken ≡ self.old.draft.broken) }
+    {
+        let Ok(item) = call(&mut self.draft, name) else {
+            return Err(StepFault::Memory);
+        };
+        self.end_with(head, item)
+    }
+
+    // The last definition ends with this atom.
+    fn end_with(&mut self, head: Head, item: Part) -> Result<(), StepFault>
+        requires { SomeAtom self.old.draft self.old.stack item }
+        ensures keeps { OnOk result (Keeps self.old.draft self.new.draft) }
+        ensures stages { OnOk result (self.new.stages.items ≡ self.old.stages.items) }
+        ensures ends { (at : ℕ → ℕ) (base : ℕ) (es : List Entry) (a : Atom) → FramesShow self.old.draft at base self.old.stack es → item.at ≡ at (base + length (entries es)) → ShowsAtom a self.old.draft at item.node (base + length (entries es)) → Ends self.new.draft at base self.new.stack self.old.definitions.items self.new.definitions.items head.name head.at result (whole_term (take_term (spec_put (Once a) es))) }
+        ensures broken { OnOk result (self.new.draft.broken ≡ self.old.draft.broken) }
+    {
+        let Ok(()) = put(&mut self.stack, &mut self.draft, item) else {
+            return Err(StepFault::Memory);
+        };
+        self.end(head)
+    }
+
+    // The text ends.
+    pub(crate) fn finish(&mut self, phase: Phase<'t>) -> Result<(), StepFault>
+        requires { SomeState self.old.draft self.old.stack self.old.definitions.items self.old.stages.items phase }
+        ensures ends { (at : ℕ → ℕ) (s : State) → ShowsState self.old.draft at self.old.stack self.old.definitions.items self.old.stages.items phase.entry s → Finishes self.new.draft at self.new.definitions.items self.new.stages.items result (spec_finish s) }
+        ensures broken { OnOk result (self.new.draft.broken ≡ self.old.draft.broken) }
+    {
+        match phase {
+            Phase::Begin => Ok(()),
+            Phase::StageRead => Ok(()),
+            Phase::Within(head, wait) => self.finish_within(head, wait),
+            _ => Err(StepFault::Wrong),
+        }
+    }
+}

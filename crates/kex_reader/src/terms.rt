@@ -1,0 +1,100 @@
+// What has ended becomes one node.
+
+ghost use Rattle.std.specs.Prelude.{◌≡◌, ℕ, ◌+◌, ◌<◌, List, length, IfOk, OnOk};
+ghost use Rattle.kex_reader.specs.Reading.{Entry, entries, put as spec_put, take_seq, take_term};
+ghost use Rattle.kex_reader.specs.Shown.{IsNode, ShowsPre};
+ghost use Rattle.kex_reader.specs.Stands.{FramesShow, HasRegister, Keeps, SeqTaken, SomeFrames, SomePre, TermTaken, prefix_at, prefixed_kind};
+ghost use Rattle.kex_reader.specs.Syntax.{Pre};
+
+use crate::draft::Draft;
+use crate::stack::{Frame, Part, Prefix, Stack};
+use kex_code::memory::Memory;
+use kex_model::program::Kind;
+
+// A member that has ended takes the prefixes before it.
+pub(crate) fn put(stack: &mut Stack, draft: &mut Draft, part: Part) -> Result<(), Memory>
+    requires { SomePre draft.old stack.old part }
+    ensures keeps { OnOk result (Keeps draft.old draft.new) }
+    ensures broken { OnOk result (draft.new.broken ≡ draft.old.broken) }
+    ensures put { OnOk result ((at : ℕ → ℕ) (base : ℕ) (es : List Entry) (p : Pre) → FramesShow draft.old at base stack.old es → part.at ≡ at (base + length (entries es)) → ShowsPre p draft.old at part.node (base + length (entries es)) → FramesShow draft.new at base stack.new (spec_put p es)) }
+{
+    let mut whole = part;
+    while let Some(prefix) = stack.take_prefix() {
+        let Ok(more) = prefixed(draft, prefix, whole) else {
+            return Err(Memory);
+        };
+        whole = more;
+    }
+    let Ok(()) = stack.push(Frame::Done(whole)) else {
+        return Err(Memory);
+    };
+    Ok(())
+}
+
+// A member behind a prefix.
+fn prefixed(draft: &mut Draft, prefix: Prefix, part: Part) -> Result<Part, Memory>
+    requires within { part.node < length draft.old.nodes }
+    requires register { HasRegister (length draft.old.registers) prefix }
+    ensures keeps { OnOk result (Keeps draft.old draft.new) }
+    ensures broken { OnOk result (draft.new.broken ≡ draft.old.broken) }
+    ensures node { IfOk result (λ w. IsNode draft.new w.node (prefixed_kind prefix part.node) (prefix_at prefix)) }
+    ensures place { IfOk result (λ w. w.at ≡ prefix_at prefix) }
+{
+    match prefix {
+        Prefix::Mute(at) => {
+            let Ok(node) = draft.add(Kind::Mute(part.node), at) else {
+                return Err(Memory);
+            };
+            Ok(Part { node, at })
+        }
+        Prefix::Store(store) => {
+            let Ok(node) = draft.add(Kind::At(store.register, part.node), store.at) else {
+                return Err(Memory);
+            };
+            Ok(Part { node, at: store.at })
+        }
+    }
+}
+
+// The newest sequence, unless no member of one stands on top.
+pub(crate) fn close_seq(stack: &mut Stack, draft: &mut Draft) -> Result<Option<Part>, Memory>
+    requires { SomeFrames draft.old stack.old }
+    ensures keeps { OnOk result (Keeps draft.old draft.new) }
+    ensures broken { OnOk result (draft.new.broken ≡ draft.old.broken) }
+    ensures seq { IfOk result (λ o. (at : ℕ → ℕ) (base : ℕ) (es : List Entry) → FramesShow draft.old at base stack.old es → SeqTaken draft.new at base stack.new o (take_seq es)) }
+{
+    let Some(last) = stack.take_done() else {
+        return Ok(None);
+    };
+    let mut seq = last;
+    while let Some(front) = stack.take_done() {
+        let Ok(node) = draft.add(Kind::Seq(front.node, seq.node), front.at) else {
+            return Err(Memory);
+        };
+        seq = Part { node, at: front.at };
+    }
+    Ok(Some(seq))
+}
+
+// The newest term, unless no member of a sequence stands on top.
+pub(crate) fn close_term(stack: &mut Stack, draft: &mut Draft) -> Result<Option<Part>, Memory>
+    requires { SomeFrames draft.old stack.old }
+    ensures keeps { OnOk result (Keeps draft.old draft.new) }
+    ensures broken { OnOk result (draft.new.broken ≡ draft.old.broken) }
+    ensures term { IfOk result (λ o. (at : ℕ → ℕ) (base : ℕ) (es : List Entry) → FramesShow draft.old at base stack.old es → TermTaken draft.new at base stack.new o (take_term es)) }
+{
+    let Ok(closed) = close_seq(stack, draft) else {
+        return Err(Memory);
+    };
+    let Some(last) = closed else {
+        return Ok(None);
+    };
+    let mut term = last;
+    while let Some(front) = stack.take_ended() {
+        let Ok(node) = draft.add(Kind::Alt(front.node, term.node), front.at) else {
+            return Err(Memory);
+        };
+        term = Part { node, at: front.at };
+    }
+    Ok(Some(term))
+}

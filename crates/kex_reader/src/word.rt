@@ -1,0 +1,18 @@
+// A token with its spelling, and a name of the text.
+
+use kex_tokens::token::Kind;
+
+/// A token: its kind, the bytes that spell it, and its offset.
+#[derive(Clone, Copy)]
+pub(crate) struct Word<'t> {
+    pub(crate) kind: Kind,
+    pub(crate) spelling: &'t [u8],
+    pub(crate) at: u32,
+}
+
+/// A name and its offset.
+#[derive(Clone, Copy)]
+pub(crate) struct Name<'t> {
+    pub(crate) bytes: &'t [u8],
+    pub(crate) at: u32,
+}
