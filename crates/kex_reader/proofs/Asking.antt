@@ -288,7 +288,7 @@ module _ (at : ℕ → ℕ) where
       ∙ ap (λ (x : ℕ). front h ds ++ term_checks t at x 0) j ∙ ap (λ (x : List Check). front h ds ++ x) e
 
   head_asked : (h : Header) (ds : List Definition) (name n : List ℕ) (es : List Entry) (o : Option (Term × List Entry)) → TermAsked at (length (before h ds name)) es o → StateAsked ((front h ds ++ (entries_checks at (length (before h ds name)) es ++ [])) ++ []) (on_head h ds name n o)
-  unfolding on_head next_head TermAsked StateAsked state_checks inside_checks mode_checks entries_checks
+  unfolding on_head next_head TermAsked StateAsked state_checks inside_checks mode_checks entries_checks header_checks front
   head_asked h ds name n es None k = tt
   head_asked h ds name n es (Some (t, e ∷ fs)) k = tt
   head_asked h ds name n es (Some (t, [])) k =
@@ -313,7 +313,7 @@ module _ (at : ℕ → ℕ) where
   state_asked (StageRead f ns) Pipe = sym (append-nil _)
   state_asked (StageRead f ns) (Name n) = sym (append-nil _)
   state_asked (StageRead f ns) _ = tt
-  state_asked (StageNext f ns) (Name n) = stages_push (f ∷ ns) n 2 1
+  state_asked (StageNext f ns) (Name n) = stages_push (f ∷ ns) n 2 1 ∙ ap (λ (x : ℕ). stage_checks (f ∷ ns) at 2 1 ++ Staged (at (2 + 2 * length (f ∷ ns))) x ∷ []) (omega (arith))
   state_asked (StageNext f ns) _ = tt
   state_asked (HeadRead h n) Define = append-nil (header_checks h at ++ [])
   state_asked (HeadRead h n) _ = tt

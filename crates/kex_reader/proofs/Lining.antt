@@ -1,8 +1,9 @@
 -- Lines, byte by byte.
-use Rattle.std.proofs.Common.{◌≡◌, ℕ, suc, ◌+◌, ◌<◌, ◌≤◌, Bool, true, false, if◌then◌else◌, List, [], ◌∷◌, ◌++◌, length, take, get_or, refl, sym, ap, ◌∙◌, arith, add-one}
+use Rattle.std.proofs.Common.{◌≡◌, ℕ, suc, ◌+◌, ◌<◌, ◌≤◌, Bool, true, false, if◌then◌else◌, List, [], ◌∷◌, ◌++◌, length, take, get_or, inl, inr, refl, sym, ap, ◌∙◌, arith, add-one}
 use Rattle.std.specs.Prelude.{◌==◌, min}
 use Rattle.std.proofs.Math.Seq.{take-suc}
 use Rattle.std.proofs.lemmas.List.{take_all}
+use Rattle.std.proofs.lemmas.Bool.{cases_lt}
 use Rattle.kex_reader.specs.Lines.{feeds, behind_feed}
 
 feeds_push : (bs : List ℕ) (b : ℕ) → feeds (bs ++ b ∷ []) ≡ (if b == 10 then suc (feeds bs) else feeds bs)
@@ -32,4 +33,7 @@ behind_more text k h = ap (behind_feed 0) (more text k 0 h) ∙ behind_push 0 (t
 
 -- what is taken up to the end is all
 pub taken : (text : List ℕ) (k n : ℕ) → k ≡ min (length text) n → take k text ≡ take n text
-taken text k n e = grind (arith, e, take_all k text, take_all n text)
+taken text k n e = elim (cases_lt n (length text)) [
+  | inl lt ↦ ap (λ (x : ℕ). take x text) (omega (arith, e, lt))
+  | inr le ↦ take_all k text (omega (arith, e, le)) ∙ sym (take_all n text le)
+]

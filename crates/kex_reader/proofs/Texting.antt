@@ -3,7 +3,7 @@ use Rattle.std.proofs.Common.{◌≡◌, ℕ, zero, suc, ◌+◌, ◌<◌, ◌�
 use Rattle.std.specs.Prelude.{slice_get, map, bytes_eq, codes, IfOk, IfErr, OnOk, All}
 use Rattle.std.specs.List.{slice_range}
 use Rattle.std.proofs.lemmas.List.{take_all, length-take-le, get_or_past}
-use Rattle.std.proofs.lemmas.Option.{get_or_from_slice_get, slice_get_within}
+use Rattle.std.proofs.lemmas.Option.{get_or_from_slice_get, slice_get_within, slice_get-get_or}
 use Rattle.kex_code.specs.Codes.{Different, IsAmong}
 use Rattle.kex_model.specs.Programs.{Grammar}
 use Rattle.kex_model.specs.declared.program.Definition.{Definition as Root}
@@ -173,12 +173,12 @@ stages_in (n ∷ ns) made at (x ∷ ss) i h s (inr m) = stages_in ns made at ss 
 
 pub main_in : (names : List (List ℕ)) (ds : List Root) → ((d : Root) → IsAmong ds d → d.name < length names) → (s : Start) → IsAmong (main_stage names ds) s → s.name < length names
 main_in names [] h s m = absurd m
-main_in names (d ∷ ds) h s m = go (bytes_eq (get_or names d.name []) (codes "main")) m
+main_in names (d ∷ ds) h s m = go (bytes_eq (get_or names d.name []) (codes "main")) (main_in names ds (λ x k. h x (inr k)) s) m
   where
-    go : (t : Bool) → IsAmong (if t then record { name = d.name; at = d.at } ∷ [] else main_stage names ds) s → s.name < length names
-    go true (inl e) = subst (λ (y : Start). y.name < length names) e (h d (inl refl))
-    go true (inr e) = absurd e
-    go false m = main_in names ds (λ x k. h x (inr k)) s m
+    go : (t : Bool) → (IsAmong (main_stage names ds) s → s.name < length names) → IsAmong (if t then record { name = d.name; at = d.at } ∷ [] else main_stage names ds) s → s.name < length names
+    go true r (inl e) = subst (λ (y : Start). y.name < length names) e (h d (inl refl))
+    go true r (inr e) = absurd e
+    go false r m = r m
 
 -- a header that names no stage has none
 pub head_none : (h : Header) (made : Made) (at : ℕ → ℕ) (ss : List Start) → length ss ≡ 0 → ShowsHead h made at ss → h ≡ NoStart
@@ -250,8 +250,8 @@ refused_ok (Ok P) text ts tree o short cut der nt h = tt
 refused_ok (Err e) text ts tree o short cut der nt (inl m) = subst (λ (x : ReadRefusal). IsRefusedAs text x) (sym m) tt
 refused_ok (Err e) text ts tree o short cut der nt (inr m) = subst (λ (x : ReadRefusal). IsRefusedAs text x) (sym m.2) (limit_refused text m.0 short (ts, tree, cut, der, subst (λ (x : Option Break). Noted (program_checks tree (offset text ts)) x) m.1 nt))
 
-pub end_of : (k : ℕ) (text : List ℕ) (ts : List Token) → (k < length ts → ⊥) → k ≤ length ts → k ≡ length ts
+pub end_of : (k : ℕ) (text : List ℕ) (ts : List Token) → length ts ≤ k → k ≤ length ts → k ≡ length ts
 end_of k text ts n h = omega (arith, n, h)
 
-pub names_at : (names : List (List ℕ)) (k : ℕ) (x : List ℕ) → slice_get names k ≡ Some x → get_or names k [] ≡ x
-names_at names k x e = get_or_from_slice_get names k x [] e
+pub names_at : (names : List (List ℕ)) (k : ℕ) (x : List ℕ) → k < length names → x ≡ get_or names k x → get_or names k [] ≡ x
+names_at names k x lt e = get_or_from_slice_get names k (get_or names k x) [] (slice_get-get_or names k x lt) ∙ sym e

@@ -28,7 +28,7 @@ pub not_later : (ws : List Word) (j k : ℕ) → IsFirstWrong ws j → IsFirstWr
 not_later ws j k v w lt = v.word (omega (arith, lt, w.inside)) (take_begins ws (j + 1) k (omega (arith, lt)) w.before)
 
 pub one_wrong : (ws : List Word) (j k : ℕ) → IsFirstWrong ws j → IsFirstWrong ws k → j ≡ k
-one_wrong words j k v w = elim (cases_order j k) [
+one_wrong ws j k v w = elim (cases_order j k) [
   | inl e ↦ e
   | inr n ↦ elim n [ inl lt ↦ absurd (not_later ws j k v w lt) | inr gt ↦ absurd (not_later ws k j w v gt) ]
 ]

@@ -65,3 +65,10 @@ returns-in-Err-finish-clause-refused c =
     let end = end_of c.loop-i.i c.args.text.now c.args.tokens.now c.loop-i-test.false c.loop-i.auto.i-end in
     subst (λ e. IsRefusedAs c.args.text.now e) (sym c.step_refusal-in-Err-finish.ensures) (step_refused c.args.text.now c.in-Err-finish.fault (length c.args.text.now) c.requires.short
     (λ e. (c.args.tokens.now, c.loop-i.i, c.requires.cut, wrong_end (words c.args.text.now c.args.tokens.now) c.loop-i.i s (end ∙ sym (words_long c.args.text.now c.args.tokens.now)) i.reads (finish_bad r.draft (offset c.args.text.now c.args.tokens.now) r.definitions.items r.stages.items (finish s) (subst (λ f. Finishes r.draft (offset c.args.text.now c.args.tokens.now) r.definitions.items r.stages.items (Err f) (finish s)) e (c.in-Err-finish.ensures.ends (offset c.args.text.now c.args.tokens.now) s i.shows))), sym (offset_end c.args.text.now c.args.tokens.now c.loop-i.i (omega (arith, end))))))
+
+pub program-requires : goal.program-requires
+program-requires c =
+    let i = c.loop-i.invariant in
+    let r = c.finish.new.self in
+    let f = finish_ok r.draft (offset c.args.text.now c.args.tokens.now) r.definitions.items r.stages.items _ (finish i.state) (c.in-Ok-finish.ensures.ends (offset c.args.text.now c.args.tokens.now) i.state i.shows) in
+    (offset c.args.text.now c.args.tokens.now, f.0, f.2, f.3)
