@@ -1,8 +1,0 @@
-// A stand-in.
-/// What is known of an escape, behind the backslash.
-#[derive(Clone, Copy, Drop)]
-pub enum Escaping {
-    Begun,
-    HexBegun,
-    HexOne(u8),
-}
