@@ -1,0 +1,17 @@
+pub mod Adding
+pub mod Sound
+pub mod Complete
+pub mod Viable
+pub mod Wrong
+pub mod Refine
+pub mod Counted
+pub mod Stacks
+pub mod Stepping
+pub mod Members
+pub mod Broken
+pub mod Noting
+pub mod Whole
+pub mod Exact
+pub mod Least
+pub mod Answered
+pub mod Bounds

@@ -1,0 +1,14 @@
+use Rattle.std.proofs.Common.{◌∙◌, sym, arith}
+use Rattle.std.proofs.lemmas.Bool.{eqb-true, eqb-false}
+use Rattle.kex_regexp.specs.Machine.{take_regex}
+use Rattle.kex_regexp.proofs.Whole.{ends_whole, ends_open, ends_memory}
+use Rattle.kex_regexp.proofs.body.end.Goals as goal
+
+pub returns-in_default-clause-ends : goal.returns-in_default-clause-ends
+returns-in_default-clause-ends c = λ base es h a. ends_memory _ base _
+
+pub returns-then-is_empty-clause-ends : goal.returns-then-is_empty-clause-ends
+returns-then-is_empty-clause-ends c = λ base es h a. ends_whole _ base _ c.in-Ok.regex (take_regex es) (omega (arith, c.close_regex.new.frames.ok.0, eqb-true _ _ (sym c.is_empty.ensures ∙ c.if-is_empty.true))) (c.in-Ok.ensures.regex base es h a)
+
+pub returns-else-is_empty-clause-ends : goal.returns-else-is_empty-clause-ends
+returns-else-is_empty-clause-ends c = λ base es h a. ends_open _ base _ c.in-Ok.regex (take_regex es) (λ e. eqb-false _ 0 (sym c.is_empty.ensures ∙ c.if-is_empty.false) (omega (arith, e, c.close_regex.new.frames.ok.0))) (c.in-Ok.ensures.regex base es h a)

@@ -1,0 +1,41 @@
+use Rattle.std.proofs.Common.{◌∷◌}
+use Rattle.kex_regexp.specs.Grammar.{Once}
+use Rattle.kex_regexp.specs.Machine.{Read}
+use Rattle.kex_regexp.proofs.Stepping.{mode_ready, mode_after, mode_escape, mode_set, mode_count, ready_place, after_place, once_shows, once_ends}
+use Rattle.kex_regexp.proofs.Whole.{ends_memory, ends_none, to_end, finish_ready, finish_after, finish_escape, finish_set, finish_count}
+use Rattle.kex_regexp.proofs.Bounds.{some_ready, some_behind, some_once}
+use Rattle.kex_regexp.proofs.body.finish.Goals as goal
+
+pub returns-in_default-clause-ends : goal.returns-in_default-clause-ends
+returns-in_default-clause-ends c = λ base s st a. ends_memory _ base _
+
+pub returns-in-Ready-clause-ends : goal.returns-in-Ready-clause-ends
+returns-in-Ready-clause-ends c = λ base s st a.
+    let m = mode_ready _ _ _ (rw c.in-Ready.is at st.mode) in
+    to_end _ base _ _ _ (finish_ready s m) (c.end.ensures.ends base s.entries st.below (ready_place s base _ m a))
+
+pub returns-in-Ok-clause-ends : goal.returns-in-Ok-clause-ends
+returns-in-Ok-clause-ends c = λ base s st a.
+    let m = mode_after _ _ c.in-After.item _ (rw c.in-After.is at st.mode) in
+    to_end _ base _ _ _ (finish_after s m.tree m.is) (c.end-in-After.ensures.ends base (Read (Once m.tree) ∷ s.entries) (once_shows _ base _ _ s.entries m.tree c.in-After.item st.below m.place m.shows c.in-Ok.ensures.ok) (once_ends base _ _ s.entries m.tree m.place (after_place s base _ _ m.tree m.is m.place a)))
+
+pub returns-in-InEscape-clause-ends : goal.returns-in-InEscape-clause-ends
+returns-in-InEscape-clause-ends c = λ base s st a.
+    let m = mode_escape _ _ c.in-InEscape.escaping _ _ (rw c.in-InEscape.is at st.mode) in
+    to_end _ base _ _ _ (finish_escape s _ m.0) (ends_none _ base)
+
+pub returns-in-InSet-clause-ends : goal.returns-in-InSet-clause-ends
+returns-in-InSet-clause-ends c = λ base s st a.
+    let m = mode_set _ _ c.in-InSet.negated c.in-InSet.empty c.in-InSet.part _ _ (rw c.in-InSet.is at st.mode) in
+    to_end _ base _ _ _ (finish_set s _ _ _ m.0.is) (ends_none _ base)
+
+pub returns-in-InCount-clause-ends : goal.returns-in-InCount-clause-ends
+returns-in-InCount-clause-ends c = λ base s st a.
+    let m = mode_count _ _ c.in-InCount.item c.in-InCount.count c.in-InCount.brace _ (rw c.in-InCount.is at st.mode) in
+    to_end _ base _ _ _ (finish_count s _ _ m.is) (ends_none _ base)
+
+pub end-requires : goal.end-requires
+end-requires c = some_ready _ _ _ _ c.in-Ready.is c.requires
+
+pub end-requires-in-After : goal.end-requires-in-After
+end-requires-in-After c = some_once _ _ _ c.in-After.item _ c.in-Ok.ensures.ok (some_behind _ _ _ c.in-After.item _ c.in-After.is c.requires)

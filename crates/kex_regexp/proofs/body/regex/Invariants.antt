@@ -1,0 +1,19 @@
+-- The loop has read a front of the bytes.
+use Rattle.std.proofs.Common.{◌≡◌, ◌+◌, take, Some, None}
+use Rattle.kex_regexp.specs.Holding.{IsSetIn, StandsFor}
+use Rattle.kex_regexp.specs.Machine.{State, reads, start}
+use Rattle.kex_regexp.specs.Notes.{least_from, marks, state_breaks}
+use Rattle.kex_regexp.specs.Shown.{Adds}
+use Rattle.kex_regexp.proofs.body.regex.Given as goal
+
+abbrev pub invariant-loop-byte : goal.invariant-loop-byte
+invariant-loop-byte l = record {
+  adds : Adds l.fn.into l.into;
+  place : l.place ≡ l.at + l.byte-index;
+  state : State;
+  reads : reads start (take l.byte-index l.bytes) ≡ Some state;
+  stands : StandsFor l.into l.at l.frames.items l.wait state;
+  set : IsSetIn l.set state.mode;
+  nested : l.nested ≡ l.depth + marks state.entries;
+  least : l.least ≡ least_from None (state_breaks l.at l.depth state);
+}

@@ -1,0 +1,16 @@
+use Rattle.std.proofs.Common.{◌≡◌, ℕ, ◌+◌, List, length, vec_len}
+use Rattle.std.specs.Prelude.{reverse}
+use Rattle.kex_regexp.specs.Shown.{Adds}
+use Rattle.kex_regexp.specs.Machine.{Entry, entries, take_regex}
+use Rattle.kex_regexp.specs.Holding.{FramesShow}
+use Rattle.kex_regexp.proofs.Stacks.{RegexSoFar}
+use Rattle.kex_regexp.proofs.frames.close_regex.Given as goal
+
+abbrev pub invariant-loop-branch : goal.invariant-loop-branch
+invariant-loop-branch l = record {
+  adds : Adds l.fn.into l.into;
+  so_far : (base : ℕ) (es : List Entry) → FramesShow l.fn.into base (reverse l.fn.frames.items) es → l.fn.at ≡ base + length (entries es) → RegexSoFar l.into base l.frames.items l.regex (take_regex es);
+}
+
+abbrev pub decreases-loop-branch : goal.decreases-loop-branch
+decreases-loop-branch l = vec_len l.frames

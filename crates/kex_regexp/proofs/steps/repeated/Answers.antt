@@ -1,0 +1,13 @@
+use Rattle.std.proofs.Common.{sym, ◌∙◌}
+use Rattle.kex_regexp.proofs.Counted.{bad_stands_alone, good_count, good_turns}
+use Rattle.kex_regexp.proofs.Stacks.{at_number}
+use Rattle.kex_regexp.proofs.steps.repeated.Goals as goal
+
+pub returns-then-is_bad_count-clause-turns : goal.returns-then-is_bad_count-clause-turns
+returns-then-is_bad_count-clause-turns c = λ p lo hi. bad_stands_alone _ p _ _ c.args.low c.args.high (sym c.is_bad_count.ensures ∙ c.if-is_bad_count.true) lo hi
+
+pub add-requires : goal.add-requires
+add-requires c = (c.requires, good_count c.args.low c.args.high (sym c.is_bad_count.ensures ∙ c.if-is_bad_count.false))
+
+pub returns-clause-turns : goal.returns-clause-turns
+returns-clause-turns c = λ p lo hi. good_turns _ p _ _ _ c.args.low c.args.high (sym c.is_bad_count.ensures ∙ c.if-is_bad_count.false) (at_number _ _ _ _ c.in_ok-node.ensures.number c.in_ok-node.ensures.added) lo hi

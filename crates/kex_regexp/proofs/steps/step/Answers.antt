@@ -1,0 +1,48 @@
+use Rattle.std.proofs.Common.{Option, subst, sym}
+use Rattle.kex_regexp.specs.declared.escapes.EscapeOutcome.{EscapeOutcome}
+use Rattle.kex_regexp.specs.declared.sets.SetOutcome.{SetOutcome}
+use Rattle.kex_regexp.specs.declared.counts.CountOutcome.{CountOutcome}
+use Rattle.kex_regexp.specs.Machine.{State, escape_step, set_step, count_step}
+use Rattle.kex_regexp.specs.Holding.{IsSetAfter, ShowsEscape, ShowsSet, ShowsCountStep}
+use Rattle.kex_regexp.proofs.Refine.{escape_refines, set_refines, count_refines}
+use Rattle.kex_regexp.proofs.Stepping.{to, mode_ready, mode_after, mode_escape, mode_set, mode_count, ready_place, after_place, step_ready, step_after, step_escape, step_set, step_count}
+use Rattle.kex_regexp.proofs.Bounds.{some_ready, some_behind, some_count}
+use Rattle.kex_regexp.proofs.steps.step.Goals as goal
+
+pub returns-in-Ready-clause-step : goal.returns-in-Ready-clause-step
+returns-in-Ready-clause-step c = λ base s st i a.
+    let m = mode_ready _ _ _ (rw c.in-Ready.is at st.mode) in
+    to _ base _ _ _ _ (step_ready s _ m) (c.begin.ensures.step base s.entries st.below (ready_place s base _ m a))
+
+pub returns-in-After-clause-step : goal.returns-in-After-clause-step
+returns-in-After-clause-step c = λ base s st i a.
+    let m = mode_after _ _ c.in-After.item _ (rw c.in-After.is at st.mode) in
+    to _ base _ _ _ _ (step_after s _ m.tree m.is) (c.behind.ensures.step base s.entries m.tree st.below m.place (after_place s base _ _ m.tree m.is m.place a) m.shows)
+
+pub returns-in-InEscape-clause-step : goal.returns-in-InEscape-clause-step
+returns-in-InEscape-clause-step c = λ base s st i a.
+    let m = mode_escape _ _ c.in-InEscape.escaping _ _ (rw c.in-InEscape.is at st.mode) in
+    to _ base _ _ _ _ (step_escape s _ _ m.0) (c.on_escape.ensures.step base _ s.entries (escape_step c.in-InEscape.escaping c.args.byte) st.below m.1
+    (subst (λ (x : EscapeOutcome). ShowsEscape x (escape_step c.in-InEscape.escaping c.args.byte)) (sym c.escape.ensures) (escape_refines c.in-InEscape.escaping c.args.byte)))
+
+pub returns-in-InSet-clause-step : goal.returns-in-InSet-clause-step
+returns-in-InSet-clause-step c = λ base s st i a.
+    let m = mode_set _ _ c.in-InSet.negated c.in-InSet.empty c.in-InSet.part _ _ (rw c.in-InSet.is at st.mode) in
+    to _ base _ _ _ _ (step_set s _ _ _ _ m.0.is) (c.on_set.ensures.step base _ s.entries (set_step c.in-InSet.negated m.0.members m.0.part c.args.byte) st.below m.1
+    (subst (λ (x : SetOutcome). ShowsSet x (set_step c.in-InSet.negated m.0.members m.0.part c.args.byte)) (sym c.in_set.ensures) (set_refines c.in-InSet.negated c.in-InSet.empty c.in-InSet.part m.0.members m.0.part c.args.byte m.0.empty m.0.shows))
+    (subst (λ (o : Option State). IsSetAfter c.args.set.now o) (step_set s _ _ _ _ m.0.is) i))
+
+pub returns-in-InCount-clause-step : goal.returns-in-InCount-clause-step
+returns-in-InCount-clause-step c = λ base s st i a.
+    let m = mode_count _ _ c.in-InCount.item c.in-InCount.count c.in-InCount.brace _ (rw c.in-InCount.is at st.mode) in
+    to _ base _ _ _ _ (step_count s _ _ _ m.is) (c.on_count.ensures.step base s.entries m.tree (count_step m.counting c.args.byte) st.below m.place m.opened m.shows
+    (subst (λ (x : CountOutcome). ShowsCountStep x (count_step m.counting c.args.byte)) (sym c.in_count.ensures) (count_refines c.in-InCount.count m.counting c.args.byte m.count)))
+
+pub begin-requires : goal.begin-requires
+begin-requires c = some_ready _ _ _ _ c.in-Ready.is c.requires
+
+pub behind-requires : goal.behind-requires
+behind-requires c = some_behind _ _ _ c.in-After.item _ c.in-After.is c.requires
+
+pub on_count-requires : goal.on_count-requires
+on_count-requires c = some_count _ _ _ c.in-InCount.item c.in-InCount.count c.in-InCount.brace _ c.in-InCount.is c.requires

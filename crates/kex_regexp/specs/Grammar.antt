@@ -1,0 +1,203 @@
+-- The grammar of regex bodies, as trees, one constructor for each alternative of a rule, and what each tree spells.
+use Rattle.std.specs.Prelude.{◌≡◌, ℕ, Bool, true, false, ◌&&◌, ◌||◌, List, [], ◌∷◌, ◌++◌, nat_le, ◌==◌, if◌then◌else◌}
+
+-- ---- which bytes are what
+
+-- a byte that stands for itself: none of * + ? { } ( ) | [ ] \ . / ^ $ and no line feed
+abbrev pub special_bytes : List ℕ
+special_bytes = 42 ∷ 43 ∷ 63 ∷ 123 ∷ 125 ∷ 40 ∷ 41 ∷ 124 ∷ 91 ∷ 93 ∷ 92 ∷ 46 ∷ 47 ∷ 94 ∷ 36 ∷ 10 ∷ []
+
+abbrev pub is_among : ℕ → List ℕ → Bool
+is_among b [] = false
+is_among b (c ∷ cs) = if b == c then true else is_among b cs
+
+unfoldable pub is_plain : ℕ → Bool
+is_plain b = if is_among b special_bytes then false else true
+
+-- ASCII punctuation: 21 to 2F, 3A to 40, 5B to 60, 7B to 7E
+unfoldable pub is_punctuation : ℕ → Bool
+is_punctuation b = (nat_le 33 b && nat_le b 47) || (nat_le 58 b && nat_le b 64) || (nat_le 91 b && nat_le b 96) || (nat_le 123 b && nat_le b 126)
+
+unfoldable pub is_digit : ℕ → Bool
+is_digit b = nat_le 48 b && nat_le b 57
+
+unfoldable pub is_hex : ℕ → Bool
+is_hex b = (nat_le 48 b && nat_le b 57) || (nat_le 65 b && nat_le b 70) || (nat_le 97 b && nat_le b 102)
+
+-- what may be an end of a member: no ] \ - / and no line feed
+unfoldable pub is_end : ℕ → Bool
+is_end b = if is_among b (93 ∷ 92 ∷ 45 ∷ 47 ∷ 10 ∷ []) then false else true
+
+-- ---- trees without recursion
+
+-- \n, \t, \r, \xHH, \ before punctuation
+pub data Escape : Type 0 where
+  Newline : Escape
+  Tab : Escape
+  Return : Escape
+  Hex : (high low : ℕ) → Escape
+  Punctuation : (byte : ℕ) → Escape
+
+pub data End : Type 0 where
+  Itself : (byte : ℕ) → End
+  EscapedEnd : (escape : Escape) → End
+
+pub data Member : Type 0 where
+  Single : (end : End) → Member
+  Range : (first last : End) → Member
+
+-- the digits of a count
+pub data Postfix : Type 0 where
+  Star : Postfix
+  Plus : Postfix
+  Quest : Postfix
+  Exactly : (n : List ℕ) → Postfix
+  AtLeast : (n : List ℕ) → Postfix
+  AtMost : (m : List ℕ) → Postfix
+  Within : (n m : List ℕ) → Postfix
+
+-- ---- regex = branch { "|" branch }, branch = { piece }, piece = item [ postfix ]
+
+mutual
+  pub data Regex : Type 0 where
+    Last : (branch : Branch) → Regex
+    Or : (branch : Branch) → (rest : Regex) → Regex
+
+  pub data Branch : Type 0 where
+    Empty : Branch
+    Then : (piece : Piece) → (rest : Branch) → Branch
+
+  pub data Piece : Type 0 where
+    Once : (item : Item) → Piece
+    Turns : (item : Item) → (postfix : Postfix) → Piece
+
+  pub data Item : Type 0 where
+    Plain : (byte : ℕ) → Item
+    Escaped : (escape : Escape) → Item
+    Dot : Item
+    Set : (negated : Bool) → (members : List Member) → Item
+    Group : (regex : Regex) → Item
+
+-- ---- spelling
+
+unfoldable pub escape : Escape → List ℕ
+escape Newline = 92 ∷ 110 ∷ []
+escape Tab = 92 ∷ 116 ∷ []
+escape Return = 92 ∷ 114 ∷ []
+escape (Hex high low) = 92 ∷ 120 ∷ high ∷ low ∷ []
+escape (Punctuation byte) = 92 ∷ byte ∷ []
+
+unfoldable pub end_of : End → List ℕ
+end_of (Itself byte) = byte ∷ []
+end_of (EscapedEnd e) = escape e
+
+unfoldable pub member : Member → List ℕ
+member (Single end) = end_of end
+member (Range first last) = end_of first ++ 45 ∷ end_of last
+
+unfoldable pub members : List Member → List ℕ
+members [] = []
+members (m ∷ ms) = member m ++ members ms
+
+unfoldable pub caret : Bool → List ℕ
+caret true = 94 ∷ []
+caret false = []
+
+unfoldable pub postfix : Postfix → List ℕ
+postfix Star = 42 ∷ []
+postfix Plus = 43 ∷ []
+postfix Quest = 63 ∷ []
+postfix (Exactly n) = 123 ∷ n ++ 125 ∷ []
+postfix (AtLeast n) = 123 ∷ n ++ 44 ∷ 125 ∷ []
+postfix (AtMost m) = 123 ∷ 44 ∷ m ++ 125 ∷ []
+postfix (Within n m) = 123 ∷ n ++ (44 ∷ m ++ 125 ∷ [])
+
+unfoldable mutual
+  pub regex : Regex → List ℕ
+  regex (Last b) = branch b
+  regex (Or b r) = branch b ++ 124 ∷ regex r
+
+  pub branch : Branch → List ℕ
+  branch Empty = []
+  branch (Then p b) = piece p ++ branch b
+
+  pub piece : Piece → List ℕ
+  piece (Once i) = item i
+  piece (Turns i p) = item i ++ postfix p
+
+  pub item : Item → List ℕ
+  item (Plain b) = b ∷ []
+  item (Escaped e) = escape e
+  item Dot = 46 ∷ []
+  item (Set negated ms) = 91 ∷ caret negated ++ (members ms ++ 93 ∷ [])
+  item (Group r) = 40 ∷ regex r ++ 41 ∷ []
+
+-- ---- the conditions on bytes
+
+unfoldable pub IsEscape : Escape → Type 0
+IsEscape (Hex high low) = (is_hex high ≡ true) × (is_hex low ≡ true)
+IsEscape (Punctuation byte) = is_punctuation byte ≡ true
+IsEscape Newline = Unit {0}
+IsEscape Tab = Unit {0}
+IsEscape Return = Unit {0}
+
+unfoldable pub IsEnd : End → Type 0
+IsEnd (Itself byte) = is_end byte ≡ true
+IsEnd (EscapedEnd e) = IsEscape e
+
+unfoldable pub IsMember : Member → Type 0
+IsMember (Single end) = IsEnd end
+IsMember (Range first last) = IsEnd first × IsEnd last
+
+unfoldable pub AreMembers : List Member → Type 0
+AreMembers [] = Unit {0}
+AreMembers (m ∷ ms) = IsMember m × AreMembers ms
+
+-- a ^ right after the [ always means the complement
+unfoldable pub begins_with_caret : Member → Bool
+begins_with_caret (Single (Itself byte)) = byte == 94
+begins_with_caret (Range (Itself byte) last) = byte == 94
+begins_with_caret (Single (EscapedEnd e)) = false
+begins_with_caret (Range (EscapedEnd e) last) = false
+
+unfoldable pub IsSet : Bool → List Member → Type 0
+IsSet negated [] = ⊥
+IsSet true (m ∷ ms) = IsMember m × AreMembers ms
+IsSet false (m ∷ ms) = (begins_with_caret m ≡ false) × IsMember m × AreMembers ms
+
+unfoldable pub AreDigits : List ℕ → Type 0
+AreDigits [] = Unit {0}
+AreDigits (d ∷ ds) = (is_digit d ≡ true) × AreDigits ds
+
+unfoldable pub IsNumber : List ℕ → Type 0
+IsNumber [] = ⊥
+IsNumber (d ∷ ds) = (is_digit d ≡ true) × AreDigits ds
+
+unfoldable pub IsPostfix : Postfix → Type 0
+IsPostfix Star = Unit {0}
+IsPostfix Plus = Unit {0}
+IsPostfix Quest = Unit {0}
+IsPostfix (Exactly n) = IsNumber n
+IsPostfix (AtLeast n) = IsNumber n
+IsPostfix (AtMost m) = IsNumber m
+IsPostfix (Within n m) = IsNumber n × IsNumber m
+
+unfoldable mutual
+  pub IsRegex : Regex → Type 0
+  IsRegex (Last b) = IsBranch b
+  IsRegex (Or b r) = IsBranch b × IsRegex r
+
+  pub IsBranch : Branch → Type 0
+  IsBranch Empty = Unit {0}
+  IsBranch (Then p b) = IsPiece p × IsBranch b
+
+  pub IsPiece : Piece → Type 0
+  IsPiece (Once i) = IsItem i
+  IsPiece (Turns i p) = IsItem i × IsPostfix p
+
+  pub IsItem : Item → Type 0
+  IsItem (Plain b) = is_plain b ≡ true
+  IsItem (Escaped e) = IsEscape e
+  IsItem Dot = Unit {0}
+  IsItem (Set negated ms) = IsSet negated ms
+  IsItem (Group r) = IsRegex r

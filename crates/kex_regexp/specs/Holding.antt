@@ -1,0 +1,201 @@
+-- What the reader holds while it reads: nodes, frames, a set, a count, each against what the machine holds.
+use Rattle.std.specs.Prelude.{◌≡◌, ℕ, ◌+◌, Bool, true, false, List, [], ◌∷◌, length, reverse, Option, Some, None, Result, Ok, Err, MatchBool, min, ◌==◌}
+use Rattle.kex_byteset.specs.Sets.{HasExactly}
+use Rattle.kex_model.specs.declared.program.Kind.TheVariants as kinds
+use Rattle.kex_model.specs.declared.program.Node.{Node}
+use Rattle.kex_regexp.specs.declared.counts.Count.{Count}
+use Rattle.kex_regexp.specs.declared.counts.Count.TheVariants as counts
+use Rattle.kex_regexp.specs.declared.counts.CountOutcome.{CountOutcome}
+use Rattle.kex_regexp.specs.declared.counts.CountOutcome.TheVariants as outcomes
+use Rattle.kex_regexp.specs.declared.escapes.EscapeOutcome.{EscapeOutcome}
+use Rattle.kex_regexp.specs.declared.escapes.EscapeOutcome.TheVariants as escapes
+use Rattle.kex_regexp.specs.declared.frames.Frame.{Frame}
+use Rattle.kex_regexp.specs.declared.frames.Frame.TheVariants as frames
+use Rattle.kex_regexp.specs.declared.frames.Placed.{Placed}
+use Rattle.kex_regexp.specs.declared.sets.SetOutcome.{SetOutcome}
+use Rattle.kex_regexp.specs.declared.sets.SetOutcome.TheVariants as sets
+use Rattle.kex_regexp.specs.declared.sets.SetPart.{SetPart}
+use Rattle.kex_regexp.specs.declared.sets.SetPart.TheVariants as parts
+use Rattle.kex_regexp.specs.declared.sets.SetSoFar.{SetSoFar}
+use Rattle.kex_regexp.specs.declared.wait.StepFault.{StepFault}
+use Rattle.kex_regexp.specs.declared.wait.StepFault.TheVariants as faults
+use Rattle.kex_regexp.specs.declared.wait.Wait.{Wait}
+use Rattle.kex_regexp.specs.declared.wait.Wait.TheVariants as waits
+use Rattle.kex_regexp.specs.Breaks.{is_bad_count}
+use Rattle.kex_regexp.specs.Grammar.{item, is_hex, Member, Postfix, Regex, Last, Or, Branch, Empty, Then, Piece, Once, Turns, Item, Plain, Escaped, Dot, Set, Group, branch, piece}
+use Rattle.kex_regexp.specs.Machine.{Escaping, Begun, HexBegun, HexOne, EscapeStep, EscapeOn, EscapeRead, EscapeWrong, Part, AtStart, Between, HasEnd, HasDash, InFirst, InLast, SetStep, SetOn, SetRead, SetWrong, Counting, Opened, Low, LowComma, LowHigh, OnlyComma, High, CountStep, CountOn, CountRead, CountWrong, Entry, Mark, Ended, Read, Mode, Ready, After, InEscape, InSet, InCount, State, entries, spelled}
+use Rattle.kex_regexp.specs.Shown.{IsNode, IsClass}
+use Rattle.kex_regexp.specs.Values.{end_byte, escaped_byte, has_backward, high, in_members, in_set, low, number}
+
+-- ---- nodes: as in ShowsRegex, but where a count is bad its item stands alone
+
+-- item l with this postfix is node n
+abbrev pub IsTurns : Postfix → List Node → ℕ → ℕ → ℕ → Type 0
+IsTurns p nodes n l at = MatchBool (is_bad_count p) (n ≡ l) (IsNode nodes n (kinds.Rep l (low p) (high p)) at)
+
+unfoldable mutual
+  pub HoldsRegex : Regex → List Node → ℕ → ℕ → Type 0
+  HoldsRegex (Last b) nodes n at = HoldsBranch b nodes n at
+  HoldsRegex (Or b r) nodes n at = (l : ℕ) × (m : ℕ) × IsNode nodes n (kinds.Alt l m) at × HoldsBranch b nodes l at × HoldsRegex r nodes m (at + length (branch b) + 1)
+
+  pub HoldsBranch : Branch → List Node → ℕ → ℕ → Type 0
+  HoldsBranch Empty nodes n at = IsNode nodes n kinds.One at
+  HoldsBranch (Then p Empty) nodes n at = HoldsPiece p nodes n at
+  HoldsBranch (Then p (Then q b)) nodes n at = (l : ℕ) × (m : ℕ) × IsNode nodes n (kinds.Seq l m) at × HoldsPiece p nodes l at × HoldsBranch (Then q b) nodes m (at + length (piece p))
+
+  pub HoldsPiece : Piece → List Node → ℕ → ℕ → Type 0
+  HoldsPiece (Once i) nodes n at = HoldsItem i nodes n at
+  HoldsPiece (Turns i p) nodes n at = (l : ℕ) × IsTurns p nodes n l at × HoldsItem i nodes l at
+
+  pub HoldsItem : Item → List Node → ℕ → ℕ → Type 0
+  HoldsItem (Plain byte) nodes n at = IsClass nodes n (λ b. b == byte) at
+  HoldsItem (Escaped e) nodes n at = IsClass nodes n (λ b. b == escaped_byte e) at
+  HoldsItem Dot nodes n at = IsClass nodes n (λ b. true) at
+  HoldsItem (Set negated ms) nodes n at = IsClass nodes n (in_set negated ms) at
+  HoldsItem (Group r) nodes n at = HoldsRegex r nodes n (at + 1)
+
+-- ---- frames
+
+-- the frames, the newest first, show the entries of a body that begins at base
+unfoldable pub FramesShow : List Node → ℕ → List Frame → List Entry → Type 0
+FramesShow nodes base [] [] = Unit {0}
+FramesShow nodes base (frames.Mark at ∷ fs) (Mark ∷ es) = (at ≡ base + length (entries es)) × FramesShow nodes base fs es
+FramesShow nodes base (frames.Ended n at ∷ fs) (Ended b ∷ es) = (at ≡ base + length (entries es)) × HoldsBranch b nodes n at × FramesShow nodes base fs es
+FramesShow nodes base (frames.Piece n at ∷ fs) (Read p ∷ es) = (at ≡ base + length (entries es)) × HoldsPiece p nodes n at × FramesShow nodes base fs es
+FramesShow nodes base _ _ = ⊥
+
+-- a node that shows a branch, above entries that the frames show
+pub record BranchOn (nodes : List Node) (base : ℕ) (fs : List Frame) (part : Placed) (t : Branch × List Entry) : Type 0 where
+  pub at : part.at ≡ base + length (entries t.1)
+  pub shows : HoldsBranch t.0 nodes part.node part.at
+  pub below : FramesShow nodes base (reverse fs) t.1
+
+pub record RegexOn (nodes : List Node) (base : ℕ) (fs : List Frame) (part : Placed) (t : Regex × List Entry) : Type 0 where
+  pub at : part.at ≡ base + length (entries t.1)
+  pub shows : HoldsRegex t.0 nodes part.node part.at
+  pub below : FramesShow nodes base (reverse fs) t.1
+
+-- ---- escapes
+
+abbrev pub IsEscaping : Escaping → Type 0
+IsEscaping Begun = Unit {0}
+IsEscaping HexBegun = Unit {0}
+IsEscaping (HexOne high) = is_hex high ≡ true
+
+unfoldable pub ShowsEscape : EscapeOutcome → EscapeStep → Type 0
+ShowsEscape (escapes.On e) (EscapeOn f) = e ≡ f
+ShowsEscape (escapes.Read b) (EscapeRead x) = b ≡ escaped_byte x
+ShowsEscape escapes.Wrong EscapeWrong = Unit {0}
+ShowsEscape _ _ = ⊥
+
+-- ---- sets
+
+abbrev pub is_empty : List Member → Bool
+is_empty [] = true
+is_empty (m ∷ ms) = false
+
+unfoldable pub ShowsPart : SetPart → Part → Type 0
+ShowsPart parts.AtStart AtStart = Unit {0}
+ShowsPart parts.Between Between = Unit {0}
+ShowsPart (parts.HasEnd b) (HasEnd end) = b ≡ end_byte end
+ShowsPart (parts.HasDash b) (HasDash end) = b ≡ end_byte end
+ShowsPart (parts.InFirst e) (InFirst f) = e ≡ f
+ShowsPart (parts.InLast b e) (InLast end f) = (b ≡ end_byte end) × (e ≡ f)
+ShowsPart _ _ = ⊥
+
+unfoldable pub ShowsSet : SetOutcome → SetStep → Type 0
+ShowsSet (sets.On negated empty p) (SetOn n ms q) = (negated ≡ n) × (empty ≡ is_empty ms) × ShowsPart p q
+ShowsSet (sets.Read negated) (SetRead n ms) = negated ≡ n
+ShowsSet sets.Wrong SetWrong = Unit {0}
+ShowsSet _ _ = ⊥
+
+-- the bytes of these members, and whether one is backward
+pub record HasMembers (set : SetSoFar) (ms : List Member) : Type 0 where
+  pub bytes : HasExactly set.bytes (in_members ms)
+  pub backward : set.backward ≡ has_backward ms
+
+-- the set is that of the item, where the item is one
+abbrev pub IsSetOf : SetSoFar → Item → Type 0
+IsSetOf set (Set negated ms) = HasMembers set ms
+IsSetOf set _ = Unit {0}
+
+-- the set is the one that is being read, or that was read last
+unfoldable pub IsSetIn : SetSoFar → Mode → Type 0
+IsSetIn set (InSet negated ms p) = HasMembers set ms
+IsSetIn set (After i) = IsSetOf set i
+IsSetIn set _ = Unit {0}
+
+abbrev pub IsSetAfter : SetSoFar → Option State → Type 0
+IsSetAfter set None = Unit {0}
+IsSetAfter set (Some s) = IsSetIn set s.mode
+
+-- ---- counts
+
+-- a count above 1000 is held as 1001
+abbrev pub capped : ℕ → ℕ
+capped n = min n 1001
+
+abbrev pub capped_option : Option ℕ → Option ℕ
+capped_option None = None
+capped_option (Some n) = Some (capped n)
+
+unfoldable pub ShowsCount : Count → Counting → Type 0
+ShowsCount counts.Opened Opened = Unit {0}
+ShowsCount (counts.Low v) (Low n) = v ≡ capped (number n)
+ShowsCount (counts.LowComma v) (LowComma n) = v ≡ capped (number n)
+ShowsCount (counts.LowHigh v w) (LowHigh n m) = (v ≡ capped (number n)) × (w ≡ capped (number m))
+ShowsCount counts.OnlyComma OnlyComma = Unit {0}
+ShowsCount (counts.High w) (High m) = w ≡ capped (number m)
+ShowsCount _ _ = ⊥
+
+unfoldable pub ShowsCountStep : CountOutcome → CountStep → Type 0
+ShowsCountStep (outcomes.On c) (CountOn d) = ShowsCount c d
+ShowsCountStep (outcomes.Read l h) (CountRead p) = (l ≡ capped (low p)) × (h ≡ capped_option (high p))
+ShowsCountStep outcomes.Wrong CountWrong = Unit {0}
+ShowsCountStep _ _ = ⊥
+
+-- ---- the whole
+
+-- what the code waits for, where the item in question begins at this offset
+unfoldable pub ShowsMode : List Node → ℕ → Wait → Mode → Type 0
+ShowsMode nodes at waits.Ready Ready = Unit {0}
+ShowsMode nodes at (waits.After part) (After i) = (part.at ≡ at) × HoldsItem i nodes part.node at
+ShowsMode nodes at (waits.InEscape e from) (InEscape f) = (e ≡ f) × (from ≡ at)
+ShowsMode nodes at (waits.InSet negated empty p from) (InSet n ms q) = (negated ≡ n) × (empty ≡ is_empty ms) × ShowsPart p q × (from ≡ at)
+ShowsMode nodes at (waits.InCount part c brace) (InCount i d) = (part.at ≡ at) × HoldsItem i nodes part.node at × ShowsCount c d × (brace ≡ at + length (item i))
+ShowsMode _ _ _ _ = ⊥
+
+-- the frames and what the code waits for are those of a state
+pub record StandsFor (nodes : List Node) (base : ℕ) (fs : List Frame) (wait : Wait) (s : State) : Type 0 where
+  pub below : FramesShow nodes base (reverse fs) s.entries
+  pub mode : ShowsMode nodes (base + length (entries s.entries)) wait s.mode
+
+-- what a step made is what the machine makes, unless memory ran out
+unfoldable pub Steps : List Node → ℕ → List Frame → Result Wait StepFault → Option State → Type 0
+Steps nodes base fs (Ok wait) None = ⊥
+Steps nodes base fs (Ok wait) (Some s) = StandsFor nodes base fs wait s
+Steps nodes base fs (Err faults.Memory) o = Unit {0}
+Steps nodes base fs (Err faults.Wrong) None = Unit {0}
+Steps nodes base fs (Err faults.Wrong) (Some s) = ⊥
+
+-- what the end made is what the machine makes, unless memory ran out
+unfoldable pub Ends : List Node → ℕ → Result ℕ StepFault → Option Regex → Type 0
+Ends nodes base (Ok n) None = ⊥
+Ends nodes base (Ok n) (Some r) = HoldsRegex r nodes n base
+Ends nodes base (Err faults.Memory) o = Unit {0}
+Ends nodes base (Err faults.Wrong) None = Unit {0}
+Ends nodes base (Err faults.Wrong) (Some r) = ⊥
+
+-- these frames, and an offset behind them, are those of some state
+abbrev pub SomeFrames : List Node → List Frame → ℕ → Type 0
+SomeFrames nodes fs at = (base : ℕ) × (es : List Entry) × FramesShow nodes base (reverse fs) es × (at ≡ base + length (entries es))
+
+-- and an item that begins there
+abbrev pub SomeItem : List Node → List Frame → Placed → Type 0
+SomeItem nodes fs part = (base : ℕ) × (es : List Entry) × (i : Item) × FramesShow nodes base (reverse fs) es × (part.at ≡ base + length (entries es)) × HoldsItem i nodes part.node part.at
+
+abbrev pub SomeState : List Node → List Frame → Wait → ℕ → Type 0
+SomeState nodes fs wait at = (base : ℕ) × (s : State) × StandsFor nodes base fs wait s × (at ≡ base + length (spelled s))
+
+abbrev pub SomeBehind : List Node → List Frame → Placed → ℕ → Type 0
+SomeBehind nodes fs part at = (base : ℕ) × (es : List Entry) × (i : Item) × FramesShow nodes base (reverse fs) es × (part.at ≡ base + length (entries es)) × (at ≡ part.at + length (item i)) × HoldsItem i nodes part.node part.at

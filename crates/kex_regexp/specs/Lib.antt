@@ -1,0 +1,9 @@
+pub mod Grammar
+pub mod Values
+pub mod Breaks
+pub mod Bodies
+pub mod Shown
+pub mod Machine
+pub mod Holding
+pub mod Held
+pub mod Notes

@@ -1,0 +1,269 @@
+-- The reader of bodies as a machine: what has been read so far, and what one more byte makes of it.
+use Rattle.std.specs.Prelude.{ℕ, Bool, true, false, List, [], ◌∷◌, ◌++◌, Option, Some, None, ◌==◌, if◌then◌else◌}
+pub use Rattle.kex_regexp.specs.declared.escapes.Escaping.{Escaping}
+pub use Rattle.kex_regexp.specs.declared.escapes.Escaping.TheVariants.{Begun, HexBegun, HexOne}
+use Rattle.kex_regexp.specs.Grammar.{is_plain, is_punctuation, is_digit, is_hex, is_end, Escape, Newline, Tab, Return, Hex, Punctuation, End, Itself, EscapedEnd, Member, Single, Range, Postfix, Star, Plus, Quest, Exactly, AtLeast, AtMost, Within, Regex, Last, Or, Branch, Empty, Then, Piece, Once, Turns, Item, Plain, Escaped, Dot, Set, Group, branch, piece, item, caret, members, end_of}
+
+-- ---- an escape
+
+pub data EscapeStep : Type 0 where
+  EscapeOn : Escaping → EscapeStep
+  EscapeRead : Escape → EscapeStep
+  EscapeWrong : EscapeStep
+
+unfoldable pub escape_step : Escaping → ℕ → EscapeStep
+escape_step Begun b =
+    if b == 110 then EscapeRead Newline else if b == 116 then EscapeRead Tab else if b == 114 then EscapeRead Return
+    else if b == 120 then EscapeOn HexBegun else if is_punctuation b then EscapeRead (Punctuation b) else EscapeWrong
+escape_step HexBegun b = if is_hex b then EscapeOn (HexOne b) else EscapeWrong
+escape_step (HexOne high) b = if is_hex b then EscapeRead (Hex high b) else EscapeWrong
+
+-- ---- a set
+
+pub data Part : Type 0 where
+  AtStart : Part
+  Between : Part
+  HasEnd : End → Part
+  HasDash : End → Part
+  InFirst : Escaping → Part
+  InLast : End → Escaping → Part
+
+pub data SetStep : Type 0 where
+  SetOn : (negated : Bool) → (ms : List Member) → Part → SetStep
+  SetRead : (negated : Bool) → (ms : List Member) → SetStep
+  SetWrong : SetStep
+
+-- between members a member may begin, or behind one the set may end
+unfoldable pub begin_member : Bool → List Member → ℕ → SetStep
+begin_member negated ms b =
+    if is_end b then SetOn negated ms (HasEnd (Itself b)) else if b == 92 then SetOn negated ms (InFirst Begun) else SetWrong
+
+unfoldable pub between_step : Bool → List Member → ℕ → SetStep
+between_step negated [] b = begin_member negated [] b
+between_step negated (m ∷ ms) b = if b == 93 then SetRead negated (m ∷ ms) else begin_member negated (m ∷ ms) b
+
+unfoldable pub in_first : Bool → List Member → EscapeStep → SetStep
+in_first negated ms (EscapeOn e) = SetOn negated ms (InFirst e)
+in_first negated ms (EscapeRead e) = SetOn negated ms (HasEnd (EscapedEnd e))
+in_first negated ms EscapeWrong = SetWrong
+
+unfoldable pub in_last : Bool → List Member → End → EscapeStep → SetStep
+in_last negated ms first (EscapeOn e) = SetOn negated ms (InLast first e)
+in_last negated ms first (EscapeRead e) = SetOn negated (ms ++ Range first (EscapedEnd e) ∷ []) Between
+in_last negated ms first EscapeWrong = SetWrong
+
+unfoldable pub set_step : Bool → List Member → Part → ℕ → SetStep
+set_step negated ms AtStart b = if b == 94 then SetOn true ms Between else between_step negated ms b
+set_step negated ms Between b = between_step negated ms b
+set_step negated ms (HasEnd end) b = if b == 45 then SetOn negated ms (HasDash end) else between_step negated (ms ++ Single end ∷ []) b
+set_step negated ms (HasDash first) b =
+    if is_end b then SetOn negated (ms ++ Range first (Itself b) ∷ []) Between else if b == 92 then SetOn negated ms (InLast first Begun) else SetWrong
+set_step negated ms (InFirst e) b = in_first negated ms (escape_step e b)
+set_step negated ms (InLast first e) b = in_last negated ms first (escape_step e b)
+
+-- the members that a byte ends
+unfoldable pub ended_last : End → EscapeStep → List Member
+ended_last first (EscapeOn e) = []
+ended_last first (EscapeRead e) = Range first (EscapedEnd e) ∷ []
+ended_last first EscapeWrong = []
+
+unfoldable pub ended : Part → ℕ → List Member
+ended AtStart b = []
+ended Between b = []
+ended (HasEnd end) b = if b == 45 then [] else Single end ∷ []
+ended (HasDash first) b = if is_end b then Range first (Itself b) ∷ [] else []
+ended (InFirst e) b = []
+ended (InLast first e) b = ended_last first (escape_step e b)
+
+-- ---- a count in braces
+
+pub data Counting : Type 0 where
+  Opened : Counting
+  Low : (n : List ℕ) → Counting
+  LowComma : (n : List ℕ) → Counting
+  LowHigh : (n m : List ℕ) → Counting
+  OnlyComma : Counting
+  High : (m : List ℕ) → Counting
+
+pub data CountStep : Type 0 where
+  CountOn : Counting → CountStep
+  CountRead : Postfix → CountStep
+  CountWrong : CountStep
+
+unfoldable pub count_step : Counting → ℕ → CountStep
+count_step Opened b = if is_digit b then CountOn (Low (b ∷ [])) else if b == 44 then CountOn OnlyComma else CountWrong
+count_step (Low n) b = if is_digit b then CountOn (Low (n ++ b ∷ [])) else if b == 44 then CountOn (LowComma n) else if b == 125 then CountRead (Exactly n) else CountWrong
+count_step (LowComma n) b = if is_digit b then CountOn (LowHigh n (b ∷ [])) else if b == 125 then CountRead (AtLeast n) else CountWrong
+count_step (LowHigh n m) b = if is_digit b then CountOn (LowHigh n (m ++ b ∷ [])) else if b == 125 then CountRead (Within n m) else CountWrong
+count_step OnlyComma b = if is_digit b then CountOn (High (b ∷ [])) else CountWrong
+count_step (High m) b = if is_digit b then CountOn (High (m ++ b ∷ [])) else if b == 125 then CountRead (AtMost m) else CountWrong
+
+-- ---- the whole
+
+-- what stands open, the newest first: a mark for each parenthesis, and behind it the branches that a bar has
+-- ended and the pieces of the branch that is being read
+pub data Entry : Type 0 where
+  Mark : Entry
+  Ended : (branch : Branch) → Entry
+  Read : (piece : Piece) → Entry
+
+pub data Mode : Type 0 where
+  Ready : Mode
+  After : (item : Item) → Mode
+  InEscape : Escaping → Mode
+  InSet : (negated : Bool) → (ms : List Member) → Part → Mode
+  InCount : (item : Item) → Counting → Mode
+
+pub record State : Type 0 where
+  pub mode : Mode
+  pub entries : List Entry
+
+-- the pieces of the newest branch, and what is below them
+unfoldable pub take_pieces : List Entry → Branch → Branch × List Entry
+take_pieces [] b = (b, [])
+take_pieces (Mark ∷ es) b = (b, Mark ∷ es)
+take_pieces (Ended a ∷ es) b = (b, Ended a ∷ es)
+take_pieces (Read p ∷ es) b = take_pieces es (Then p b)
+
+unfoldable pub take_branches : List Entry → Regex → Regex × List Entry
+take_branches [] r = (r, [])
+take_branches (Mark ∷ es) r = (r, Mark ∷ es)
+take_branches (Ended a ∷ es) r = take_branches es (Or a r)
+take_branches (Read p ∷ es) r = (r, Read p ∷ es)
+
+-- the newest regex, and what is below it
+unfoldable pub take_regex : List Entry → Regex × List Entry
+take_regex es = let b = take_pieces es Empty in take_branches b.1 (Last b.0)
+
+abbrev pub goes : Mode → List Entry → Option State
+goes mode entries = Some (record { mode = mode; entries = entries })
+
+-- a parenthesis that closes, where the newest regex is above a mark
+unfoldable pub close : Regex × List Entry → Option State
+close (r, []) = None
+close (r, Mark ∷ es) = goes (After (Group r)) es
+close (r, Ended a ∷ es) = None
+close (r, Read p ∷ es) = None
+
+unfoldable pub end_branch : Branch × List Entry → Option State
+end_branch (b, es) = goes Ready (Ended b ∷ es)
+
+unfoldable pub begin_piece : List Entry → ℕ → Option State
+begin_piece es b =
+    if is_plain b then goes (After (Plain b)) es
+    else if b == 92 then goes (InEscape Begun) es
+    else if b == 46 then goes (After Dot) es
+    else if b == 91 then goes (InSet false [] AtStart) es
+    else if b == 40 then goes Ready (Mark ∷ es)
+    else if b == 124 then end_branch (take_pieces es Empty)
+    else if b == 41 then close (take_regex es)
+    else None
+
+unfoldable pub after_item : Item → List Entry → ℕ → Option State
+after_item i es b =
+    if b == 42 then goes Ready (Read (Turns i Star) ∷ es)
+    else if b == 43 then goes Ready (Read (Turns i Plus) ∷ es)
+    else if b == 63 then goes Ready (Read (Turns i Quest) ∷ es)
+    else if b == 123 then goes (InCount i Opened) es
+    else begin_piece (Read (Once i) ∷ es) b
+
+unfoldable pub on_escape : List Entry → EscapeStep → Option State
+on_escape es (EscapeOn e) = goes (InEscape e) es
+on_escape es (EscapeRead e) = goes (After (Escaped e)) es
+on_escape es EscapeWrong = None
+
+unfoldable pub on_set : List Entry → SetStep → Option State
+on_set es (SetOn negated ms part) = goes (InSet negated ms part) es
+on_set es (SetRead negated ms) = goes (After (Set negated ms)) es
+on_set es SetWrong = None
+
+unfoldable pub on_count : Item → List Entry → CountStep → Option State
+on_count i es (CountOn c) = goes (InCount i c) es
+on_count i es (CountRead p) = goes Ready (Read (Turns i p) ∷ es)
+on_count i es CountWrong = None
+
+unfoldable pub step_in : Mode → List Entry → ℕ → Option State
+step_in Ready es b = begin_piece es b
+step_in (After i) es b = after_item i es b
+step_in (InEscape e) es b = on_escape es (escape_step e b)
+step_in (InSet negated ms part) es b = on_set es (set_step negated ms part b)
+step_in (InCount i c) es b = on_count i es (count_step c b)
+
+unfoldable pub step : State → ℕ → Option State
+step s b = step_in s.mode s.entries b
+
+-- after one more byte, unless one was refused before
+unfoldable pub next : Option State → ℕ → Option State
+next None b = None
+next (Some s) b = step s b
+
+unfoldable pub reads : Option State → List ℕ → Option State
+reads o [] = o
+reads o (b ∷ bs) = reads (next o b) bs
+
+-- nothing is open
+unfoldable pub whole : Regex × List Entry → Option Regex
+whole (r, []) = Some r
+whole (r, Mark ∷ es) = None
+whole (r, Ended a ∷ es) = None
+whole (r, Read p ∷ es) = None
+
+unfoldable pub finish_in : Mode → List Entry → Option Regex
+finish_in Ready es = whole (take_regex es)
+finish_in (After i) es = whole (take_regex (Read (Once i) ∷ es))
+finish_in (InEscape e) es = None
+finish_in (InSet negated ms part) es = None
+finish_in (InCount i c) es = None
+
+unfoldable pub finish : State → Option Regex
+finish s = finish_in s.mode s.entries
+
+unfoldable pub start : Option State
+start = Some (record { mode = Ready; entries = [] })
+
+-- ---- what the entries have read
+
+unfoldable pub entry : Entry → List ℕ
+entry Mark = 40 ∷ []
+entry (Ended b) = branch b ++ 124 ∷ []
+entry (Read p) = piece p
+
+unfoldable pub entries : List Entry → List ℕ
+entries [] = []
+entries (e ∷ es) = entries es ++ entry e
+
+-- ---- what a state has read
+
+unfoldable pub escaping : Escaping → List ℕ
+escaping Begun = 92 ∷ []
+escaping HexBegun = 92 ∷ 120 ∷ []
+escaping (HexOne high) = 92 ∷ 120 ∷ high ∷ []
+
+unfoldable pub part : Part → List ℕ
+part AtStart = []
+part Between = []
+part (HasEnd end) = end_of end
+part (HasDash end) = end_of end ++ 45 ∷ []
+part (InFirst e) = escaping e
+part (InLast first e) = end_of first ++ 45 ∷ escaping e
+
+unfoldable pub set_so_far : Bool → List Member → Part → List ℕ
+set_so_far negated ms p = 91 ∷ caret negated ++ (members ms ++ part p)
+
+unfoldable pub counting : Counting → List ℕ
+counting Opened = []
+counting (Low n) = n
+counting (LowComma n) = n ++ 44 ∷ []
+counting (LowHigh n m) = n ++ 44 ∷ m
+counting OnlyComma = 44 ∷ []
+counting (High m) = 44 ∷ m
+
+unfoldable pub mode : Mode → List ℕ
+mode Ready = []
+mode (After i) = item i
+mode (InEscape e) = escaping e
+mode (InSet negated ms p) = set_so_far negated ms p
+mode (InCount i c) = item i ++ 123 ∷ counting c
+
+unfoldable pub spelled : State → List ℕ
+spelled s = entries s.entries ++ mode s.mode

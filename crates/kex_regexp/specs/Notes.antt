@@ -1,0 +1,108 @@
+-- The breaks of what the machine holds, and what one more byte adds to them; what the code notes of breaks and depth.
+use Rattle.std.specs.Prelude.{ℕ, suc, ◌+◌, ◌-◌, Bool, true, false, not, ◌&&◌, ◌||◌, List, [], ◌∷◌, ◌++◌, length, Option, Some, None, ◌==◌, if◌then◌else◌}
+use Rattle.kex_byteset.specs.Sets.{has}
+use Rattle.kex_regexp.specs.declared.counts.CountOutcome.{CountOutcome}
+use Rattle.kex_regexp.specs.declared.counts.CountOutcome.TheVariants as outcomes
+use Rattle.kex_regexp.specs.declared.sets.SetSoFar.{SetSoFar}
+use Rattle.kex_regexp.specs.declared.wait.Wait.{Wait}
+use Rattle.kex_regexp.specs.declared.wait.Wait.TheVariants as waits
+use Rattle.kex_regexp.specs.Breaks.{Break, BadCount, BadSet, OverLimit, when, is_bad_count, is_bad_set, branch_breaks, piece_breaks, item_breaks, comes_before}
+use Rattle.kex_regexp.specs.Grammar.{item}
+use Rattle.kex_regexp.specs.Held.{held_bad_turns, held_count}
+use Rattle.kex_regexp.specs.Values.{any_below, flipped}
+use Rattle.kex_regexp.specs.Machine.{Entry, Mark, Ended, Read, Mode, Ready, After, InEscape, InSet, InCount, State, SetStep, SetOn, SetRead, SetWrong, set_step, CountStep, CountOn, CountRead, CountWrong, count_step, entries}
+
+-- ---- the least
+
+abbrev pub lesser : Option Break → Break → Option Break
+lesser None b = Some b
+lesser (Some a) b = if comes_before b a then Some b else Some a
+
+unfoldable pub least_from : Option Break → List Break → Option Break
+least_from o [] = o
+least_from o (b ∷ bs) = least_from (lesser o b) bs
+
+-- ---- what a state holds
+
+unfoldable pub marks : List Entry → ℕ
+marks [] = 0
+marks (Mark ∷ es) = suc (marks es)
+marks (Ended b ∷ es) = marks es
+marks (Read p ∷ es) = marks es
+
+unfoldable pub entry_breaks : Entry → ℕ → ℕ → List Break
+entry_breaks Mark at depth = when (depth == 200) (OverLimit at)
+entry_breaks (Ended b) at depth = branch_breaks b at depth
+entry_breaks (Read p) at depth = piece_breaks p at depth
+
+unfoldable pub entries_breaks : ℕ → ℕ → List Entry → List Break
+entries_breaks base depth [] = []
+entries_breaks base depth (e ∷ es) = entries_breaks base depth es ++ entry_breaks e (base + length (entries es)) (depth + marks es)
+
+unfoldable pub mode_breaks : Mode → ℕ → ℕ → List Break
+mode_breaks Ready at depth = []
+mode_breaks (After i) at depth = item_breaks i at depth
+mode_breaks (InEscape e) at depth = []
+mode_breaks (InSet negated ms p) at depth = []
+mode_breaks (InCount i c) at depth = item_breaks i at depth
+
+unfoldable pub state_breaks : ℕ → ℕ → State → List Break
+state_breaks base depth s = entries_breaks base depth s.entries ++ mode_breaks s.mode (base + length (entries s.entries)) (depth + marks s.entries)
+
+-- ---- what one byte more adds
+
+unfoldable pub opens : ℕ → ℕ → ℕ → List Break
+opens at depth b = if b == 40 then when (depth == 200) (OverLimit at) else []
+
+unfoldable pub set_noted : ℕ → SetStep → List Break
+set_noted at (SetOn negated ms p) = []
+set_noted at (SetRead negated ms) = when (is_bad_set negated ms) (BadSet at)
+set_noted at SetWrong = []
+
+unfoldable pub count_noted : ℕ → CountStep → List Break
+count_noted at (CountOn c) = []
+count_noted at (CountRead p) = when (is_bad_count p) (BadCount at)
+count_noted at CountWrong = []
+
+unfoldable pub noted_in : ℕ → ℕ → Mode → ℕ → List Break
+noted_in at depth Ready b = opens at depth b
+noted_in at depth (After i) b = opens (at + length (item i)) depth b
+noted_in at depth (InEscape e) b = []
+noted_in at depth (InSet negated ms p) b = set_noted at (set_step negated ms p b)
+noted_in at depth (InCount i c) b = count_noted (at + length (item i)) (count_step c b)
+
+-- ---- what the code notes
+
+abbrev pub is_after : Wait → Bool
+is_after (waits.After part) = true
+is_after _ = false
+
+unfoldable pub held_bad_set : SetSoFar → Bool → Bool
+held_bad_set set negated = set.backward || not (any_below 256 (λ b. flipped negated (has set.bytes b)))
+
+unfoldable pub held_opens : ℕ → ℕ → ℕ → Option Break
+held_opens depth at b = if (b == 40) && (depth == 200) then Some (OverLimit at) else None
+
+unfoldable pub held_ends_count : CountOutcome → ℕ → Option Break
+held_ends_count (outcomes.On c) brace = None
+held_ends_count (outcomes.Read l h) brace = if held_bad_turns l h then Some (BadCount brace) else None
+held_ends_count outcomes.Wrong brace = None
+
+unfoldable pub held_noted : Wait → Wait → SetSoFar → ℕ → ℕ → ℕ → Option Break
+held_noted waits.Ready next set depth at b = held_opens depth at b
+held_noted (waits.After part) next set depth at b = held_opens depth at b
+held_noted (waits.InEscape e from) next set depth at b = None
+held_noted (waits.InSet negated empty part from) next set depth at b = if is_after next && held_bad_set set negated then Some (BadSet from) else None
+held_noted (waits.InCount part count brace) next set depth at b = held_ends_count (held_count count b) brace
+
+unfoldable pub depth_after : ℕ → ℕ → ℕ
+depth_after depth b = if b == 40 then depth + 1 else if b == 41 then depth - 1 else depth
+
+unfoldable pub held_depth : Wait → ℕ → ℕ → ℕ
+held_depth waits.Ready depth b = depth_after depth b
+held_depth (waits.After part) depth b = depth_after depth b
+held_depth _ depth b = depth
+
+unfoldable pub held_lesser : Option Break → Option Break → Option Break
+held_lesser least None = least
+held_lesser least (Some b) = lesser least b

@@ -1,0 +1,83 @@
+// Escapes.
+
+ghost use Rattle.std.specs.Prelude.{◌≡◌, ◌<◌};
+ghost use Rattle.kex_regexp.specs.Held.{held_escape};
+ghost use Rattle.kex_regexp.specs.Values.{hex_value};
+
+use crate::bytes::{is_hex, is_punctuation};
+
+/// What is known of an escape, behind the backslash.
+#[derive(Clone, Copy, Drop)]
+pub enum Escaping {
+    Begun,
+    HexBegun,
+    HexOne(u8),
+}
+
+/// What comes of an escape by one more byte.
+#[derive(Clone, Copy, Drop)]
+pub enum EscapeOutcome {
+    On(Escaping),
+    Read(u8),
+    Wrong,
+}
+
+/// The value of a hexadecimal digit.
+#[tactic(auto, unfolding(crate::specs::Values::hex_value))]
+fn hex_value(digit: u8) -> u8
+    ensures value { result ≡ hex_value digit }
+    ensures below { result < 16 }
+{
+    if digit >= b'0' && digit <= b'9' {
+        digit - b'0'
+    } else if digit >= b'A' && digit <= b'F' {
+        digit - b'A' + 10
+    } else if digit >= b'a' && digit <= b'f' {
+        digit - b'a' + 10
+    } else {
+        0
+    }
+}
+
+#[tactic(auto, unfolding(crate::specs::Held::held_escape))]
+fn behind_backslash(byte: u8) -> EscapeOutcome
+    ensures { result ≡ held_escape Escaping.Begun byte }
+{
+    if byte == b'n' {
+        EscapeOutcome::Read(b'\n')
+    } else if byte == b't' {
+        EscapeOutcome::Read(b'\t')
+    } else if byte == b'r' {
+        EscapeOutcome::Read(b'\r')
+    } else if byte == b'x' {
+        EscapeOutcome::On(Escaping::HexBegun)
+    } else if is_punctuation(byte) {
+        EscapeOutcome::Read(byte)
+    } else {
+        EscapeOutcome::Wrong
+    }
+}
+
+/// One more byte of an escape.
+#[tactic(auto, unfolding(crate::specs::Held::held_escape))]
+pub fn escape(escaping: Escaping, byte: u8) -> EscapeOutcome
+    ensures { result ≡ held_escape escaping byte }
+{
+    match escaping {
+        Escaping::Begun => behind_backslash(byte),
+        Escaping::HexBegun => {
+            if is_hex(byte) {
+                EscapeOutcome::On(Escaping::HexOne(byte))
+            } else {
+                EscapeOutcome::Wrong
+            }
+        }
+        Escaping::HexOne(high) => {
+            if is_hex(byte) {
+                EscapeOutcome::Read(16 * hex_value(high) + hex_value(byte))
+            } else {
+                EscapeOutcome::Wrong
+            }
+        }
+    }
+}

@@ -1,0 +1,297 @@
+// One byte more.
+
+ghost use Rattle.std.specs.Prelude.{◌≡◌, ℕ, ◌+◌, ◌<◌, List, [], ◌∷◌, ◌++◌, length, reverse, OnOk, IfOk, IfErr};
+ghost use Rattle.kex_regexp.specs.Grammar.{Item, Postfix, Empty, Turns, item as spelled_item};
+ghost use Rattle.kex_regexp.specs.Holding.{FramesShow, HoldsItem, IsSetAfter, IsTurns, ShowsCountStep, ShowsEscape, ShowsSet, SomeBehind, SomeFrames, SomeItem, SomeState, StandsFor, Steps, capped, capped_option};
+ghost use Rattle.kex_regexp.specs.Machine.{EscapeStep, SetStep, CountStep, Entry, Read, Ready, State, entries, spelled, goes, take_pieces, take_regex, begin_piece, after_item, end_branch, close as close_parenthesis, on_escape as spec_on_escape, on_set as spec_on_set, on_count as spec_on_count, step as spec_step};
+ghost use Rattle.kex_regexp.specs.Shown.{Adds, IsNode};
+ghost use Rattle.kex_regexp.specs.Values.{low as low_of, high as high_of};
+
+use crate::bytes::is_plain;
+use crate::counts::{Count, CountOutcome, in_count, is_bad_count};
+use crate::escapes::{EscapeOutcome, Escaping, escape};
+use crate::frames::{Frame, Placed, close_branch, close_regex, take_mark};
+use crate::sets::{SetOutcome, SetPart, SetSoFar, in_set};
+use crate::wait::{StepFault, Wait};
+use kex_byteset::ByteSet;
+use kex_code::memory::Memory;
+use kex_model::builder::Builder;
+use kex_model::program::{Kind, Node};
+
+pub fn push(frames: &mut Vec<Frame>, frame: Frame) -> Result<(), StepFault>
+    ensures ok { OnOk result (frames.new.items ≡ frames.old.items ++ frame ∷ []) }
+    ensures err { IfErr result (λ e. e ≡ StepFault.Memory) }
+{
+    match frames.push(frame) {
+        Ok(()) => Ok(()),
+        Err(_) => Err(StepFault::Memory),
+    }
+}
+
+/// A class of its own for an item that begins here.
+#[tactic(auto, using(crate::proofs::Adding::adding))]
+fn leaf(into: &mut Builder, set: ByteSet, at: u32) -> Result<Wait, StepFault>
+    ensures adds { Adds into.old into.new }
+    ensures ok { IfOk result (λ w. (n : ℕ) × (w ≡ Wait.After (record { node = n; at = at })) × IsNode into.new n (Kind.Class set) at) }
+    ensures err { IfErr result (λ e. e ≡ StepFault.Memory) }
+{
+    let class = Node {
+        kind: Kind::Class(set),
+        at,
+    };
+    match into.add(class) {
+        Ok(node) => Ok(Wait::After(Placed { node, at })),
+        Err(_) => Err(StepFault::Memory),
+    }
+}
+
+/// A bar.
+#[tactic(auto, using(crate::proofs::Adding::adding))]
+fn bar(frames: &mut Vec<Frame>, into: &mut Builder, at: u32) -> Result<Wait, StepFault>
+    requires { SomeFrames into.old frames.old.items at }
+    ensures adds { Adds into.old into.new }
+    ensures step { (base : ℕ) (es : List Entry) → FramesShow into.old base (reverse frames.old.items) es → at ≡ base + length (entries es) → Steps into.new base frames.new.items result (end_branch (take_pieces es Empty)) }
+{
+    let Ok(branch) = close_branch(frames, into, at) else {
+        return Err(StepFault::Memory);
+    };
+    let ended = Frame::Ended {
+        node: branch.node,
+        at: branch.at,
+    };
+    let Ok(()) = push(frames, ended) else {
+        return Err(StepFault::Memory);
+    };
+    Ok(Wait::Ready)
+}
+
+/// A parenthesis that closes.
+#[tactic(auto, using(crate::proofs::Adding::adding))]
+fn close(frames: &mut Vec<Frame>, into: &mut Builder, at: u32) -> Result<Wait, StepFault>
+    requires { SomeFrames into.old frames.old.items at }
+    ensures adds { Adds into.old into.new }
+    ensures step { (base : ℕ) (es : List Entry) → FramesShow into.old base (reverse frames.old.items) es → at ≡ base + length (entries es) → Steps into.new base frames.new.items result (close_parenthesis (take_regex es)) }
+{
+    let Ok(regex) = close_regex(frames, into, at) else {
+        return Err(StepFault::Memory);
+    };
+    let Some(from) = take_mark(frames) else {
+        return Err(StepFault::Wrong);
+    };
+    Ok(Wait::After(Placed {
+        node: regex.node,
+        at: from,
+    }))
+}
+
+/// A byte where a piece may begin.
+#[tactic(auto, using(crate::proofs::Adding::adding))]
+fn begin(frames: &mut Vec<Frame>, into: &mut Builder, at: u32, byte: u8) -> Result<Wait, StepFault>
+    requires { SomeFrames into.old frames.old.items at }
+    ensures adds { Adds into.old into.new }
+    ensures step { (base : ℕ) (es : List Entry) → FramesShow into.old base (reverse frames.old.items) es → at ≡ base + length (entries es) → Steps into.new base frames.new.items result (begin_piece es byte) }
+{
+    if is_plain(byte) {
+        leaf(into, ByteSet::single(byte), at)
+    } else if byte == b'\\' {
+        Ok(Wait::InEscape {
+            escaping: Escaping::Begun,
+            from: at,
+        })
+    } else if byte == b'.' {
+        leaf(into, ByteSet::empty().complement(), at)
+    } else if byte == b'[' {
+        Ok(Wait::InSet {
+            negated: false,
+            empty: true,
+            part: SetPart::AtStart,
+            from: at,
+        })
+    } else if byte == b'(' {
+        let Ok(()) = push(frames, Frame::Mark { at }) else {
+            return Err(StepFault::Memory);
+        };
+        Ok(Wait::Ready)
+    } else if byte == b'|' {
+        bar(frames, into, at)
+    } else if byte == b')' {
+        close(frames, into, at)
+    } else {
+        Err(StepFault::Wrong)
+    }
+}
+
+/// The node of an item that takes so many turns; the item itself, where the count is bad.
+#[tactic(auto, using(crate::proofs::Adding::adding))]
+fn repeated(into: &mut Builder, item: Placed, low: u32, high: Option<u32>) -> Result<u32, Memory>
+    requires { item.node < length into.old }
+    ensures adds { Adds into.old into.new }
+    ensures turns { IfOk result (λ n. (p : Postfix) → low ≡ capped (low_of p) → high ≡ capped_option (high_of p) → IsTurns p into.new n item.node item.at) }
+{
+    if is_bad_count(low, high) {
+        return Ok(item.node);
+    }
+    let node = into.add(Node {
+        kind: Kind::Rep {
+            body: item.node,
+            min: low,
+            max: high,
+        },
+        at: item.at,
+    })?;
+    Ok(node)
+}
+
+/// A piece with a postfix. Where the count is bad the body is refused in the end, and the item stands alone until then.
+#[tactic(auto, using(crate::proofs::Adding::adding))]
+fn turns(
+    frames: &mut Vec<Frame>,
+    into: &mut Builder,
+    item: Placed,
+    low: u32,
+    high: Option<u32>,
+) -> Result<Wait, StepFault>
+    requires { SomeItem into.old frames.old.items item }
+    ensures adds { Adds into.old into.new }
+    ensures step { (base : ℕ) (es : List Entry) (i : Item) (p : Postfix) → FramesShow into.old base (reverse frames.old.items) es → item.at ≡ base + length (entries es) → HoldsItem i into.old item.node item.at → low ≡ capped (low_of p) → high ≡ capped_option (high_of p) → Steps into.new base frames.new.items result (goes Ready (Read (Turns i p) ∷ es)) }
+{
+    let Ok(node) = repeated(into, item, low, high) else {
+        return Err(StepFault::Memory);
+    };
+    let piece = Frame::Piece { node, at: item.at };
+    let Ok(()) = push(frames, piece) else {
+        return Err(StepFault::Memory);
+    };
+    Ok(Wait::Ready)
+}
+
+/// A byte behind an item.
+#[tactic(auto, using(crate::proofs::Adding::adding))]
+fn behind(
+    frames: &mut Vec<Frame>,
+    into: &mut Builder,
+    item: Placed,
+    at: u32,
+    byte: u8,
+) -> Result<Wait, StepFault>
+    requires { SomeBehind into.old frames.old.items item at }
+    ensures adds { Adds into.old into.new }
+    ensures step { (base : ℕ) (es : List Entry) (i : Item) → FramesShow into.old base (reverse frames.old.items) es → item.at ≡ base + length (entries es) → at ≡ item.at + length (spelled_item i) → HoldsItem i into.old item.node item.at → Steps into.new base frames.new.items result (after_item i es byte) }
+{
+    if byte == b'*' {
+        turns(frames, into, item, 0, None)
+    } else if byte == b'+' {
+        turns(frames, into, item, 1, None)
+    } else if byte == b'?' {
+        turns(frames, into, item, 0, Some(1))
+    } else if byte == b'{' {
+        Ok(Wait::InCount {
+            item,
+            count: Count::Opened,
+            brace: at,
+        })
+    } else {
+        let piece = Frame::Piece {
+            node: item.node,
+            at: item.at,
+        };
+        let Ok(()) = push(frames, piece) else {
+            return Err(StepFault::Memory);
+        };
+        begin(frames, into, at, byte)
+    }
+}
+
+/// What comes of a set by a byte.
+#[tactic(auto, using(crate::proofs::Adding::adding))]
+fn on_set(
+    outcome: SetOutcome,
+    set: &SetSoFar,
+    into: &mut Builder,
+    from: u32,
+) -> Result<Wait, StepFault>
+    ensures adds { Adds into.old into.new }
+    ensures step { (base : ℕ) (fs : List Frame) (es : List Entry) (t : SetStep) → FramesShow into.old base (reverse fs) es → from ≡ base + length (entries es) → ShowsSet outcome t → IsSetAfter set.now (spec_on_set es t) → Steps into.new base fs result (spec_on_set es t) }
+{
+    match outcome {
+        SetOutcome::On {
+            negated,
+            empty,
+            part,
+        } => Ok(Wait::InSet {
+            negated,
+            empty,
+            part,
+            from,
+        }),
+        SetOutcome::Read { negated } => leaf(into, set.read(negated), from),
+        SetOutcome::Wrong => Err(StepFault::Wrong),
+    }
+}
+
+/// What comes of an escape by a byte.
+#[tactic(auto, using(crate::proofs::Adding::adding))]
+fn on_escape(outcome: EscapeOutcome, into: &mut Builder, from: u32) -> Result<Wait, StepFault>
+    ensures adds { Adds into.old into.new }
+    ensures step { (base : ℕ) (fs : List Frame) (es : List Entry) (t : EscapeStep) → FramesShow into.old base (reverse fs) es → from ≡ base + length (entries es) → ShowsEscape outcome t → Steps into.new base fs result (spec_on_escape es t) }
+{
+    match outcome {
+        EscapeOutcome::On(escaping) => Ok(Wait::InEscape { escaping, from }),
+        EscapeOutcome::Read(byte) => leaf(into, ByteSet::single(byte), from),
+        EscapeOutcome::Wrong => Err(StepFault::Wrong),
+    }
+}
+
+/// What comes of a count by a byte.
+#[tactic(auto, using(crate::proofs::Adding::adding))]
+fn on_count(
+    outcome: CountOutcome,
+    frames: &mut Vec<Frame>,
+    into: &mut Builder,
+    item: Placed,
+    brace: u32,
+) -> Result<Wait, StepFault>
+    requires { SomeItem into.old frames.old.items item }
+    ensures adds { Adds into.old into.new }
+    ensures step { (base : ℕ) (es : List Entry) (i : Item) (t : CountStep) → FramesShow into.old base (reverse frames.old.items) es → item.at ≡ base + length (entries es) → brace ≡ item.at + length (spelled_item i) → HoldsItem i into.old item.node item.at → ShowsCountStep outcome t → Steps into.new base frames.new.items result (spec_on_count i es t) }
+{
+    match outcome {
+        CountOutcome::On(count) => Ok(Wait::InCount { item, count, brace }),
+        CountOutcome::Read { low, high } => turns(frames, into, item, low, high),
+        CountOutcome::Wrong => Err(StepFault::Wrong),
+    }
+}
+
+/// A byte, in whatever it is waited for. What it ends of a set was taken in before.
+#[tactic(auto, using(crate::proofs::Adding::adding))]
+pub fn step(
+    frames: &mut Vec<Frame>,
+    into: &mut Builder,
+    wait: Wait,
+    set: &SetSoFar,
+    at: u32,
+    byte: u8,
+) -> Result<Wait, StepFault>
+    requires { SomeState into.old frames.old.items wait at }
+    ensures adds { Adds into.old into.new }
+    ensures step { (base : ℕ) (s : State) → StandsFor into.old base frames.old.items wait s → IsSetAfter set.now (spec_step s byte) → at ≡ base + length (spelled s) → Steps into.new base frames.new.items result (spec_step s byte) }
+{
+    match wait {
+        Wait::Ready => begin(frames, into, at, byte),
+        Wait::After(item) => behind(frames, into, item, at, byte),
+        Wait::InEscape { escaping, from } => on_escape(escape(escaping, byte), into, from),
+        Wait::InSet {
+            negated,
+            empty,
+            part,
+            from,
+        } => on_set(in_set(negated, empty, part, byte), set, into, from),
+        Wait::InCount { item, count, brace } => on_count(
+            in_count(count, byte),
+            frames,
+            into,
+            item,
+            brace,
+        ),
+    }
+}

@@ -1,0 +1,40 @@
+// What the next byte belongs to.
+
+use crate::counts::Count;
+use crate::escapes::Escaping;
+use crate::frames::Placed;
+use crate::sets::SetPart;
+
+/// What the next byte belongs to.
+#[derive(Clone, Copy, Drop)]
+pub enum Wait {
+    /// A piece may begin.
+    Ready,
+    /// An item has ended, and a postfix may follow it.
+    After(Placed),
+    InEscape {
+        escaping: Escaping,
+        from: u32,
+    },
+    /// A set that begins at `from`; `empty` says that no member of it has ended.
+    InSet {
+        negated: bool,
+        empty: bool,
+        part: SetPart,
+        from: u32,
+    },
+    /// The count of an item, behind the brace at `brace`.
+    InCount {
+        item: Placed,
+        count: Count,
+        brace: u32,
+    },
+}
+
+/// Why a byte is not taken.
+#[derive(Clone, Copy, Drop)]
+pub enum StepFault {
+    Memory,
+    /// No body goes on so.
+    Wrong,
+}
