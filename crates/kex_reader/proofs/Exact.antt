@@ -1,7 +1,6 @@
 -- A text is refused for one cause, or spells programs.
 use Rattle.std.proofs.Common.{◌≡◌, ℕ, ◌+◌, ◌<◌, ◌≤◌, Bool, true, false, if◌then◌else◌, List, [], ◌∷◌, ◌⊎◌, inl, inr, length, Result, Ok, Err, refl, sym, ap, ◌∙◌, subst, arith, true≢false}
 use Rattle.std.specs.Prelude.{nat_lt, ◌==◌, MatchResult, IfErr, IfOk}
-use Rattle.kex_model.specs.declared.program.Program.{Program as Made'}
 use Rattle.kex_model.specs.Programs.{Grammar}
 use Rattle.kex_tokens.specs.declared.token.Token.{Token}
 use Rattle.kex_tokens.specs.declared.token.TheConstants.{MAX_TEXT}

@@ -72,3 +72,25 @@ program-requires c =
     let r = c.finish.new.self in
     let f = finish_ok r.draft (offset c.args.text.now c.args.tokens.now) r.definitions.items r.stages.items _ (finish i.state) (c.in-Ok-finish.ensures.ends (offset c.args.text.now c.args.tokens.now) i.state i.shows) in
     (offset c.args.text.now c.args.tokens.now, f.0, f.2, f.3)
+
+pub returns-clause-read : goal.returns-clause-read
+returns-clause-read c =
+    let i = c.loop-i.invariant in
+    let r = c.finish.new.self in
+    let at = offset c.args.text.now c.args.tokens.now in
+    let f = finish_ok r.draft at r.definitions.items r.stages.items _ (finish i.state) (c.in-Ok-finish.ensures.ends at i.state i.shows) in
+    spells_ok c.program.result c.args.text.now c.args.tokens.now f.0 r.draft r.definitions.items r.stages.items c.requires.short c.requires.cut
+    (program_read (words c.args.text.now c.args.tokens.now) c.loop-i.i i.state f.0 (omega (arith, c.loop-i-test.false, words_long c.args.text.now c.args.tokens.now)) i.reads f.1)
+    (subst (λ o. Noted (program_checks f.0 at) o) (sym c.in-Ok-finish.ensures.broken) (subst (λ cs. Noted cs c.loop-i.reader.draft.broken) (end_checks at i.state f.0 f.1) i.notes))
+    f.2 f.3 c.program.ensures.whole c.program.ensures.shown c.program.ensures.names c.program.ensures.registers
+
+pub returns-clause-refused : goal.returns-clause-refused
+returns-clause-refused c =
+    let i = c.loop-i.invariant in
+    let r = c.finish.new.self in
+    let at = offset c.args.text.now c.args.tokens.now in
+    let f = finish_ok r.draft at r.definitions.items r.stages.items _ (finish i.state) (c.in-Ok-finish.ensures.ends at i.state i.shows) in
+    refused_ok c.program.result c.args.text.now c.args.tokens.now f.0 r.draft.broken c.requires.short c.requires.cut
+    (program_read (words c.args.text.now c.args.tokens.now) c.loop-i.i i.state f.0 (omega (arith, c.loop-i-test.false, words_long c.args.text.now c.args.tokens.now)) i.reads f.1)
+    (subst (λ o. Noted (program_checks f.0 at) o) (sym c.in-Ok-finish.ensures.broken) (subst (λ cs. Noted cs c.loop-i.reader.draft.broken) (end_checks at i.state f.0 f.1) i.notes))
+    c.program.ensures.refused
