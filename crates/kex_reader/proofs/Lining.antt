@@ -1,5 +1,5 @@
 -- Lines, byte by byte.
-use Rattle.std.proofs.Common.{◌≡◌, ℕ, suc, ◌+◌, ◌<◌, ◌≤◌, Bool, true, false, if◌then◌else◌, List, [], ◌∷◌, ◌++◌, length, take, get_or, inl, inr, refl, sym, ap, ◌∙◌, arith, add-one}
+use Rattle.std.proofs.Common.{◌≡◌, ℕ, suc, ◌+◌, ◌<◌, Bool, true, false, if◌then◌else◌, List, [], ◌∷◌, ◌++◌, length, take, get_or, inl, inr, refl, sym, ap, ◌∙◌, arith, add-one}
 use Rattle.std.specs.Prelude.{◌==◌, min}
 use Rattle.std.proofs.Math.Seq.{take-suc}
 use Rattle.std.proofs.lemmas.List.{take_all}
@@ -37,3 +37,22 @@ taken text k n e = elim (cases_lt n (length text)) [
   | inl lt ↦ ap (λ (x : ℕ). take x text) (omega (arith, e, lt))
   | inr le ↦ take_all k text (omega (arith, e, le)) ∙ sym (take_all n text le)
 ]
+
+feed : (x : ℕ) → x ≡ 10 → (x == 10) ≡ true
+feed x e = ap (λ (y : ℕ). y == 10) e
+
+no_feed : (x : ℕ) → (x ≡ 10 → ⊥) → (x == 10) ≡ false
+no_feed x n = grind (arith, n)
+
+-- behind a line feed, and behind another byte
+pub feeds_feed : (text : List ℕ) (k : ℕ) → k < length text → get_or text k 0 ≡ 10 → feeds (take (k + 1) text) ≡ suc (feeds (take k text))
+feeds_feed text k h e = feeds_more text k h ∙ ap (λ (t : Bool). if t then suc (feeds (take k text)) else feeds (take k text)) (feed (get_or text k 0) e)
+
+pub feeds_other : (text : List ℕ) (k : ℕ) → k < length text → (get_or text k 0 ≡ 10 → ⊥) → feeds (take (k + 1) text) ≡ feeds (take k text)
+feeds_other text k h n = feeds_more text k h ∙ ap (λ (t : Bool). if t then suc (feeds (take k text)) else feeds (take k text)) (no_feed (get_or text k 0) n)
+
+pub behind_it : (text : List ℕ) (k : ℕ) → k < length text → get_or text k 0 ≡ 10 → behind_feed 0 (take (k + 1) text) ≡ 0
+behind_it text k h e = behind_more text k h ∙ ap (λ (t : Bool). if t then 0 else suc (behind_feed 0 (take k text))) (feed (get_or text k 0) e)
+
+pub behind_other : (text : List ℕ) (k : ℕ) → k < length text → (get_or text k 0 ≡ 10 → ⊥) → behind_feed 0 (take (k + 1) text) ≡ suc (behind_feed 0 (take k text))
+behind_other text k h n = behind_more text k h ∙ ap (λ (t : Bool). if t then 0 else suc (behind_feed 0 (take k text))) (no_feed (get_or text k 0) n)

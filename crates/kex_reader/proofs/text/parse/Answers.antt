@@ -1,18 +1,16 @@
-use Rattle.std.proofs.Common.{◌≡◌, ℕ, ◌+◌, ◌<◌, ◌≤◌, true, false, List, [], ◌∷◌, ◌++◌, length, get_or, take, drop, Ok, Err, Some, None, refl, sym, ap, ◌∙◌, subst, arith, add-one}
-use Rattle.std.specs.Prelude.{bytes_eq, codes, slice_get}
+use Rattle.std.proofs.Common.{length, get_or, Err, sym, ap, ◌∙◌, subst, arith}
 use Rattle.std.specs.List.{slice_range}
 use Rattle.std.proofs.lemmas.Option.{slice_get-get_or}
-use Rattle.kex_code.specs.Codes.{IsAmong}
 use Rattle.kex_tokens.specs.declared.token.Token.{Token}
 use Rattle.kex_tokens.specs.declared.token.Kind.TheVariants as kinds
-use Rattle.kex_reader.specs.Syntax.{word, header}
-use Rattle.kex_reader.specs.Reading.{Begin, step, spelled, finish}
+use Rattle.kex_reader.specs.Syntax.{word}
+use Rattle.kex_reader.specs.Reading.{Begin, step, finish}
 use Rattle.kex_reader.specs.Checks.{program_checks}
-use Rattle.kex_reader.specs.Asked.{state_checks, state_asks}
+use Rattle.kex_reader.specs.Asked.{state_checks}
 use Rattle.kex_reader.specs.Holding.{StateSteps, Finishes}
 use Rattle.kex_reader.specs.Stands.{Noted}
-use Rattle.kex_reader.specs.Spelling.{main_stage, offset, words, IsRefusedAs}
-use Rattle.kex_reader.proofs.Texting.{word_at, offset_at, words_long, offset_end, reads_more, taken_long, wrong_word, wrong_end, program_read, state_ok, state_bad, finish_ok, finish_bad, next_checks, end_checks, begin_shows, begin_reads, begin_notes, token_refused, step_refused, definitions_in, started_in, program_shows, among_get, main_here, spells_ok, refused_ok, end_of, names_at}
+use Rattle.kex_reader.specs.Spelling.{offset, words, IsRefusedAs}
+use Rattle.kex_reader.proofs.Texting.{word_at, offset_at, words_long, offset_end, reads_more, taken_long, wrong_word, wrong_end, program_read, state_ok, state_bad, finish_ok, finish_bad, next_checks, end_checks, begin_shows, begin_reads, begin_notes, step_refused, spells_ok, refused_ok, end_of}
 use Rattle.kex_reader.proofs.text.parse.Goals as goal
 
 abbrev D : Token
@@ -72,3 +70,25 @@ program-requires c =
     let r = c.finish.new.self in
     let f = finish_ok r.draft (offset c.args.text.now c.args.tokens.now) r.definitions.items r.stages.items _ (finish i.state) (c.in-Ok-finish.ensures.ends (offset c.args.text.now c.args.tokens.now) i.state i.shows) in
     (offset c.args.text.now c.args.tokens.now, f.0, f.2, f.3)
+
+pub returns-clause-read : goal.returns-clause-read
+returns-clause-read c =
+    let i = c.loop-i.invariant in
+    let r = c.finish.new.self in
+    let at = offset c.args.text.now c.args.tokens.now in
+    let f = finish_ok r.draft at r.definitions.items r.stages.items _ (finish i.state) (c.in-Ok-finish.ensures.ends at i.state i.shows) in
+    spells_ok c.program.result c.args.text.now c.args.tokens.now f.0 r.draft r.definitions.items r.stages.items c.requires.short c.requires.cut
+    (program_read (words c.args.text.now c.args.tokens.now) c.loop-i.i i.state f.0 (omega (arith, c.loop-i-test.false, words_long c.args.text.now c.args.tokens.now)) i.reads f.1)
+    (subst (λ o. Noted (program_checks f.0 at) o) (sym c.in-Ok-finish.ensures.broken) (subst (λ cs. Noted cs c.loop-i.reader.draft.broken) (end_checks at i.state f.0 f.1) i.notes))
+    f.2 f.3 c.program.ensures.whole c.program.ensures.shown c.program.ensures.names c.program.ensures.registers
+
+pub returns-clause-refused : goal.returns-clause-refused
+returns-clause-refused c =
+    let i = c.loop-i.invariant in
+    let r = c.finish.new.self in
+    let at = offset c.args.text.now c.args.tokens.now in
+    let f = finish_ok r.draft at r.definitions.items r.stages.items _ (finish i.state) (c.in-Ok-finish.ensures.ends at i.state i.shows) in
+    refused_ok c.program.result c.args.text.now c.args.tokens.now f.0 r.draft.broken c.requires.short c.requires.cut
+    (program_read (words c.args.text.now c.args.tokens.now) c.loop-i.i i.state f.0 (omega (arith, c.loop-i-test.false, words_long c.args.text.now c.args.tokens.now)) i.reads f.1)
+    (subst (λ o. Noted (program_checks f.0 at) o) (sym c.in-Ok-finish.ensures.broken) (subst (λ cs. Noted cs c.loop-i.reader.draft.broken) (end_checks at i.state f.0 f.1) i.notes))
+    c.program.ensures.refused
