@@ -2,9 +2,9 @@
 use Rattle.std.proofs.Common.{◌≡◌, ℕ, suc, ◌+◌, ◌*◌, Bool, true, false, List, [], ◌∷◌, ◌++◌, length, Option, Some, None, refl, sym, ap, ◌∙◌, subst, append_assoc, length-append, arith}
 use Rattle.std.specs.Prelude.{bytes_eq, codes}
 use Rattle.std.proofs.lemmas.List.{append-nil}
-use Rattle.kex_reader.specs.Syntax.{Word, Name, Number, Literal, Regex, Define, Colon, Pipe, Bar, Tilde, At, Star, Plus, PlusEquals, Question, OpenBrace, CloseBrace, Comma, Bang, OpenBracket, CloseBracket, Arrow, OpenParen, CloseParen, Postfix, ZeroOrMore, OneOrMore, Optional, Exactly, AtLeast, AtMost, Between, Term, Last, Or, Seq, Only, Then, Pre, Mute, Into, Once, Turns, Atom, One, Call, Lit, Match, Write, Assign, Group, Part, Definition, Header, NoStart, Stages, Program, start, term, seq, pre, atom, postfix, header, definitions, stages}
-use Rattle.kex_reader.specs.Reading.{Entry, Mark, Ended, Done, Muted, Storing, Counting, CountStep, CountOn, CountRead, CountWrong, Mode, Need, Ready, After, Named, Writing, Bracket, BracketName, Assigning, Assigned, InCount, Inside, State, Begin, FirstName, StartLine, StageRead, StageNext, HeadRead, Within, before, put, take_more, take_seq, take_branches, term_of, take_term, goes, on_bar, closed, on_close, on_number, begin_pre, after_atom, named, on_name, on_sign, first_part, next_part, count_step, on_count, step_in, lift, next_head, on_head, on_define, step_within, first_name, head_read, stage_read, name_then, step, whole, ended, finish_within, finish, entries, entry}
-use Rattle.kex_reader.specs.Checks.{Check, Nested, Counted, Matched, Staged, postfix_checks, term_checks, seq_checks, pre_checks, atom_checks, definition_checks, stage_checks, header_checks, program_checks}
+use Rattle.kex_reader.specs.Syntax.{Word, Name, Number, Literal, Regex, Define, Colon, Pipe, Bar, Tilde, At, Star, Plus, PlusEquals, Question, OpenBrace, Bang, OpenBracket, CloseBracket, Arrow, OpenParen, CloseParen, Postfix, ZeroOrMore, OneOrMore, Optional, Term, Last, Or, Seq, Only, Then, Pre, Mute, Into, Once, Turns, Atom, Call, Write, Part, Definition, Header, Program, start, term, seq, pre, atom, header, definitions}
+use Rattle.kex_reader.specs.Reading.{Entry, Mark, Ended, Done, Muted, Storing, CountStep, CountOn, CountRead, CountWrong, Mode, Need, Ready, After, Named, Writing, Bracket, BracketName, Assigning, Assigned, InCount, Inside, State, Begin, FirstName, StartLine, StageRead, StageNext, HeadRead, Within, before, put, take_more, take_seq, take_branches, term_of, take_term, goes, on_bar, closed, on_close, on_number, begin_pre, after_atom, named, on_name, on_sign, first_part, next_part, count_step, on_count, step_in, lift, next_head, on_head, on_define, step_within, first_name, head_read, stage_read, name_then, step, whole, ended, finish_within, finish, entries, entry}
+use Rattle.kex_reader.specs.Checks.{Check, Nested, Staged, postfix_checks, term_checks, seq_checks, pre_checks, atom_checks, definition_checks, stage_checks, header_checks, program_checks}
 use Rattle.kex_reader.specs.Stands.{depth, begin_asks, after_asks, named_asks, count_asks, asks}
 use Rattle.kex_reader.specs.Asked.{entry_checks, entries_checks, mode_checks, inside_checks, state_checks, name_asks, state_asks}
 use Rattle.kex_reader.proofs.Sound.{by_test, put_is}

@@ -1,5 +1,5 @@
 -- The checks that a word asks, by the state.
-use Rattle.std.proofs.Common.{◌≡◌, ℕ, suc, ◌+◌, ◌*◌, Bool, true, false, List, [], ◌∷◌, ◌++◌, length, Option, Some, None, Result, Ok, Err, refl, sym, ap, ◌∙◌, subst, arith}
+use Rattle.std.proofs.Common.{◌≡◌, ℕ, suc, ◌+◌, ◌*◌, true, List, [], ◌∷◌, ◌++◌, length, Option, None, Result, Ok, Err, refl, sym, ap, ◌∙◌, subst, arith}
 use Rattle.std.specs.Prelude.{OnOk, IfOk}
 use Rattle.kex_model.specs.declared.program.Definition.{Definition as Root}
 use Rattle.kex_model.specs.declared.program.Start.{Start}
@@ -9,12 +9,11 @@ use Rattle.kex_tokens.specs.declared.token.Kind.TheVariants as kinds
 use Rattle.kex_reader.specs.declared.stack.Frame.{Frame}
 use Rattle.kex_reader.specs.declared.inside.StepFault.{StepFault}
 use Rattle.kex_reader.specs.declared.reader.Phase.{Phase}
-use Rattle.kex_reader.specs.declared.reader.Phase.TheVariants as phases
 use Rattle.kex_reader.specs.Syntax.{word, Word, Define, Definition, Header}
-use Rattle.kex_reader.specs.Reading.{Mode, Need, Ready, After, Named, Writing, Bracket, BracketName, Assigning, Assigned, InCount, CountStep, Opened, Low, LowComma, LowHigh, OnlyComma, High, Inside, State, Begin, FirstName, StartLine, StageRead, StageNext, HeadRead, Within, before, entries, step_within, count_step, Entry}
+use Rattle.kex_reader.specs.Reading.{Mode, Named, Inside, State, Begin, FirstName, StartLine, StageRead, StageNext, HeadRead, Within, before, entries, step_within, Entry}
 use Rattle.kex_reader.specs.Checks.{Check, Staged}
-use Rattle.kex_reader.specs.Shown.{Made, IsName, ShowsStages}
-use Rattle.kex_reader.specs.Stands.{Noted, asks, begin_asks, after_asks, named_asks, count_asks}
+use Rattle.kex_reader.specs.Shown.{Made, ShowsStages}
+use Rattle.kex_reader.specs.Stands.{Noted, asks, named_asks}
 use Rattle.kex_reader.specs.Holding.{StateSteps}
 use Rattle.kex_reader.specs.Asked.{name_asks, state_asks}
 use Rattle.kex_reader.proofs.Wholes.{define_none}

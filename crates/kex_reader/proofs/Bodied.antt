@@ -1,9 +1,9 @@
 -- What a refused body breaks.
-use Rattle.std.proofs.Common.{◌≡◌, ℕ, ◌+◌, Bool, false, List, [], ◌∷◌, ◌++◌, Option, Some, None, refl, sym, ap, ◌∙◌, subst, arith}
+use Rattle.std.proofs.Common.{◌≡◌, ℕ, ◌+◌, false, List, [], ◌∷◌, ap, ◌∙◌, subst, arith}
 use Rattle.kex_code.specs.Codes.{IsAmong}
 use Rattle.kex_regexp.specs.declared.breaks.Break.{Break}
 use Rattle.kex_regexp.specs.declared.breaks.Break.TheVariants.{BadRegex, BadCount, BadSet, OverLimit}
-use Rattle.kex_regexp.specs.Breaks.{comes_before, regex_breaks, IsLeast}
+use Rattle.kex_regexp.specs.Breaks.{comes_before, regex_breaks}
 use Rattle.kex_regexp.specs.Bodies.{Spells, IsBody, IsFirstWrong, BreaksFirst, IsRefusal, fault_of}
 use Rattle.kex_regexp.specs.Grammar.{Regex}
 use Rattle.kex_reader.specs.Checks.{BodyBreaks}

@@ -1,15 +1,13 @@
 -- What the code holds of a count is what the machine holds.
-use Rattle.std.proofs.Common.{◌≡◌, ℕ, ◌≤◌, ◌<◌, Bool, true, false, ◌||◌, List, Option, Some, None, refl, sym, ap, ◌∙◌, subst, arith}
+use Rattle.std.proofs.Common.{◌≡◌, ℕ, Bool, true, false, List, Option, Some, None, refl, sym, ap, arith}
 use Rattle.std.specs.Prelude.{nat_lt, if◌then◌else◌}
 use Rattle.kex_tokens.specs.declared.token.Kind.{Kind}
 use Rattle.kex_tokens.specs.declared.token.Kind.TheVariants as kinds
-use Rattle.kex_tokens.specs.Values.{number_of}
 use Rattle.kex_reader.specs.declared.counts.Count.{Count}
 use Rattle.kex_reader.specs.declared.counts.Count.TheVariants as counts
-use Rattle.kex_reader.specs.declared.counts.CountStep.{CountStep as Held'}
 use Rattle.kex_reader.specs.declared.counts.CountStep.TheVariants as steps
-use Rattle.kex_reader.specs.Syntax.{Word, word, Postfix, Exactly, AtLeast, AtMost, Between}
-use Rattle.kex_reader.specs.Reading.{Counting, Opened, Low, LowComma, LowHigh, OnlyComma, High, CountStep, CountOn, CountRead, CountWrong, count_step}
+use Rattle.kex_reader.specs.Syntax.{word, Postfix, Exactly, AtLeast, AtMost, Between}
+use Rattle.kex_reader.specs.Reading.{Counting, Opened, Low, LowComma, LowHigh, OnlyComma, High, CountRead, count_step}
 use Rattle.kex_reader.specs.Checks.{is_bad_count}
 use Rattle.kex_reader.specs.Shown.{low, high}
 use Rattle.kex_reader.specs.Stands.{IsNumber, ShowsCount, ShowsCountStep}

@@ -1,5 +1,5 @@
 -- What is made grows, and what was shown is shown still.
-use Rattle.std.proofs.Common.{◌≡◌, ℕ, ◌+◌, ◌<◌, ◌≤◌, Bool, true, false, List, [], ◌∷◌, ◌++◌, ◌⊎◌, inl, inr, length, Option, Some, None, refl, sym, ap, ◌∙◌, subst, arith, length-append}
+use Rattle.std.proofs.Common.{◌≡◌, ℕ, ◌+◌, ◌<◌, ◌≤◌, List, [], ◌∷◌, ◌++◌, ◌⊎◌, inl, inr, length, Some, None, sym, ap, subst, arith, length-append}
 use Rattle.std.specs.Prelude.{slice_get}
 use Rattle.std.proofs.lemmas.List.{append-nil}
 use Rattle.std.proofs.lemmas.Option.{slice_get_within}
@@ -15,7 +15,7 @@ use Rattle.kex_model.specs.Programs.{HasNames, HasPieces}
 use Rattle.kex_model.proofs.Tables.{get_more}
 use Rattle.kex_regexp.specs.Grammar.{Regex as Body, Last as LastBranch, Or as OrBranch, Branch, Empty, Then as ThenPiece, Piece as Item', Once as OnceItem, Turns as TurnsItem, Item, Plain, Escaped, Dot, Set, Group as Grouped, branch, piece}
 use Rattle.kex_regexp.specs.Shown.{ShowsRegex, ShowsBranch, ShowsPiece, ShowsItem, IsOfBodies, Adds}
-use Rattle.kex_reader.specs.Syntax.{Part, Text, Held, Postfix, Term, Last, Or, Seq, Only, Then, Pre, Mute, Into, Once, Turns, Atom, One, Call, Lit, Match, Write, Assign, Group, Definition, term, seq, pre, atom}
+use Rattle.kex_reader.specs.Syntax.{Part, Text, Held, Term, Last, Or, Seq, Only, Then, Pre, Mute, Into, Once, Turns, Atom, One, Call, Lit, Match, Write, Assign, Group, Definition, term, seq, pre}
 use Rattle.kex_reader.specs.Shown.{Made, ShowsTerm, ShowsSeq, ShowsPre, ShowsAtom, ShowsPart, ShowsParts, ShowsDefinitions, ShowsStages}
 use Rattle.kex_reader.specs.Stands.{Keeps}
 use Rattle.kex_reader.proofs.Naming.{among_push}

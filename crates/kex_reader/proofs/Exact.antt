@@ -1,17 +1,17 @@
 -- A text is refused for one cause, or spells programs.
-use Rattle.std.proofs.Common.{◌≡◌, ℕ, ◌+◌, ◌<◌, ◌≤◌, Bool, true, false, if◌then◌else◌, List, [], ◌∷◌, ◌⊎◌, inl, inr, length, Result, Ok, Err, refl, sym, ap, ◌∙◌, subst, arith, true≢false}
-use Rattle.std.specs.Prelude.{nat_lt, ◌==◌, MatchResult, IfErr, IfOk}
+use Rattle.std.proofs.Common.{◌≡◌, ℕ, ◌<◌, ◌≤◌, true, false, if◌then◌else◌, List, length, refl, sym, ap, ◌∙◌, subst, arith}
+use Rattle.std.specs.Prelude.{nat_lt, ◌==◌}
 use Rattle.kex_model.specs.Programs.{Grammar}
 use Rattle.kex_tokens.specs.declared.token.Token.{Token}
 use Rattle.kex_tokens.specs.declared.token.TheConstants.{MAX_TEXT}
 use Rattle.kex_tokens.specs.Texts.{AreTokens, IsBadToken}
 use Rattle.kex_regexp.specs.declared.breaks.Break.{Break}
 use Rattle.kex_regexp.specs.declared.breaks.Break.TheVariants.{BadRegex, BadCount, BadSet, OverLimit}
-use Rattle.kex_regexp.specs.Breaks.{rank, offset as place, comes_before}
+use Rattle.kex_regexp.specs.Breaks.{rank, offset as place}
 use Rattle.kex_reader.specs.declared.refusal.ReadRefusal.{ReadRefusal}
 use Rattle.kex_reader.specs.declared.refusal.ReadRefusal.TheVariants as refusals
-use Rattle.kex_reader.specs.Syntax.{Word, Program, program}
-use Rattle.kex_reader.specs.Programs.{IsProgram, IsFirstWrong}
+use Rattle.kex_reader.specs.Syntax.{Program, program}
+use Rattle.kex_reader.specs.Programs.{IsFirstWrong}
 use Rattle.kex_reader.specs.Checks.{Check, SomeBreaks, IsLeastBreak, program_checks}
 use Rattle.kex_reader.specs.Spelling.{words, offset, Spells, IsUnexpected, BreaksLimit, IsRefusedAs, of_limit}
 use Rattle.kex_reader.proofs.Viable.{one_tree}

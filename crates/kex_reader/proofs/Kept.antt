@@ -1,14 +1,14 @@
 -- What was noted of the checks so far, when a word asks more.
-use Rattle.std.proofs.Common.{◌≡◌, ℕ, suc, ◌+◌, ◌*◌, Bool, true, false, List, [], ◌∷◌, ◌++◌, length, Option, Some, None, Result, Ok, Err, refl, sym, ap, ◌∙◌, subst, arith}
-use Rattle.std.specs.Prelude.{OnOk, IfOk}
+use Rattle.std.proofs.Common.{◌≡◌, ℕ, ◌+◌, Bool, true, false, List, [], ◌∷◌, ◌++◌, length, Option, Some, Result, Ok, Err, refl, sym, ap, ◌∙◌, subst}
+use Rattle.std.specs.Prelude.{OnOk}
 use Rattle.std.proofs.lemmas.List.{append-nil}
 use Rattle.kex_regexp.specs.declared.breaks.Break.{Break}
 use Rattle.kex_regexp.specs.declared.breaks.Break.TheVariants.{BadCount}
 use Rattle.kex_regexp.specs.Notes.{held_lesser}
 use Rattle.kex_tokens.specs.declared.token.Kind.{Kind}
 use Rattle.kex_tokens.specs.declared.token.Kind.TheVariants as kinds
-use Rattle.kex_reader.specs.Syntax.{between, word, Word, Regex, Tilde, OpenParen, At, Postfix, ZeroOrMore, OneOrMore, Optional, Exactly, AtLeast, AtMost, Between, Atom, Once, Call, atom}
-use Rattle.kex_reader.specs.Reading.{Entry, Counting, CountStep, CountOn, CountRead, CountWrong, Mode, Need, Ready, After, Named, Writing, Bracket, BracketName, Assigning, Assigned, InCount, Inside, count_step, put}
+use Rattle.kex_reader.specs.Syntax.{between, word, Word, Postfix, ZeroOrMore, OneOrMore, Optional, Exactly, AtLeast, AtMost, Between, Atom, Once, Call, atom}
+use Rattle.kex_reader.specs.Reading.{Entry, Counting, CountStep, CountOn, CountRead, Mode, Need, Ready, After, Named, InCount, Inside, count_step, put}
 use Rattle.kex_reader.specs.Checks.{Check, Nested, Counted, Matched, is_bad_count, postfix_checks}
 use Rattle.kex_reader.specs.Stands.{Noted, depth, begin_asks, after_asks, named_asks, count_asks, asks}
 use Rattle.kex_reader.proofs.Noting.{noted_one, noted_same}

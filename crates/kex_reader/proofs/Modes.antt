@@ -1,8 +1,7 @@
 -- The machine's mode, by what the code waits for; parts and counts.
-use Rattle.std.proofs.Common.{◌≡◌, ℕ, ◌+◌, ◌<◌, ◌≤◌, Bool, true, false, ◌||◌, List, [], ◌∷◌, ◌++◌, ◌⊎◌, inl, inr, length, Option, Some, None, Result, Ok, Err, refl, sym, ap, ◌∙◌, subst, arith, length-append}
-use Rattle.std.specs.Prelude.{nat_lt, IfOk, OnOk}
+use Rattle.std.proofs.Common.{◌≡◌, ℕ, ◌+◌, ◌<◌, Bool, true, false, List, [], ◌∷◌, ◌++◌, inl, inr, length, Option, Some, None, Result, Ok, Err, refl, sym, ap, ◌∙◌, subst, arith, length-append}
+use Rattle.std.specs.Prelude.{IfOk, OnOk}
 use Rattle.std.proofs.lemmas.Option.{slice_get_within}
-use Rattle.kex_code.specs.Codes.{IsAmong}
 use Rattle.kex_code.specs.declared.piece.Piece.{Piece}
 use Rattle.kex_code.specs.declared.piece.Piece.TheVariants as pieces
 use Rattle.kex_model.specs.Programs.{HasBelow, HasNames, HasPieces, IsCount}
@@ -10,11 +9,9 @@ use Rattle.kex_model.specs.declared.program.Kind.{Kind as NodeKind}
 use Rattle.kex_model.specs.declared.program.Kind.TheVariants as nodes
 use Rattle.kex_tokens.specs.declared.token.Kind.{Kind}
 use Rattle.kex_tokens.specs.declared.token.Kind.TheVariants as kinds
-use Rattle.kex_tokens.specs.Values.{number_of}
 use Rattle.kex_reader.specs.declared.stack.Frame.{Frame}
 use Rattle.kex_reader.specs.declared.stack.Part.{Part as Shown}
 use Rattle.kex_reader.specs.declared.counts.Count.{Count}
-use Rattle.kex_reader.specs.declared.counts.CountStep.{CountStep as Held'}
 use Rattle.kex_reader.specs.declared.counts.CountStep.TheVariants as steps
 use Rattle.kex_reader.specs.declared.counts.Bounds.{Bounds}
 use Rattle.kex_reader.specs.declared.pieces.Assignment.{Assignment}
@@ -27,13 +24,13 @@ use Rattle.kex_reader.specs.Syntax.{Word, Name, Literal, word, Part, Text, Held,
 use Rattle.kex_reader.specs.Reading.{Entry, Mode, Need, Ready, After, Named, Writing, Bracket, BracketName, Assigning, Assigned, InCount, Inside, Counting, CountStep, CountOn, CountRead, CountWrong, put, goes, begin_pre, after_atom, named, on_name, on_sign, first_part, next_part, count_step, on_count, step_in, inside, mode, entries}
 use Rattle.kex_reader.specs.Checks.{is_bad_count}
 use Rattle.kex_reader.specs.Shown.{Made, IsNode, IsRegister, ShowsPre, ShowsAtom, ShowsPart, ShowsParts, assigned, low, high}
-use Rattle.kex_reader.specs.Stands.{Keeps, Noted, count_asks, FramesShow, IsLeaf, PieceShows, part_of, ShowsMode, ShowsCount, ShowsCountStep, SomeAtom, SomeFrames, SomeInside, SomeName, Stands, Steps}
-use Rattle.kex_reader.proofs.Drafting.{parts_more, part_more}
+use Rattle.kex_reader.specs.Stands.{Keeps, Noted, count_asks, FramesShow, IsLeaf, PieceShows, part_of, ShowsMode, ShowsCount, ShowsCountStep, SomeAtom, SomeFrames, SomeInside, SomeName, Steps}
+use Rattle.kex_reader.proofs.Drafting.{parts_more}
 use Rattle.kex_reader.proofs.Stacks.{frames_more}
 use Rattle.kex_reader.proofs.Kept.{same}
 use Rattle.kex_reader.specs.Checks.{Check}
 use Rattle.kex_regexp.specs.declared.breaks.Break.{Break}
-use Rattle.kex_reader.proofs.Stepping.{to, memory, wrong, stood, write_shows}
+use Rattle.kex_reader.proofs.Stepping.{to, wrong, stood, write_shows}
 
 -- ---- nodes
 

@@ -1,11 +1,10 @@
 -- The least limit that is broken, check by check.
-use Rattle.std.proofs.Common.{◌≡◌, ℕ, Bool, true, false, if◌then◌else◌, List, [], ◌∷◌, ◌++◌, ◌⊎◌, inl, inr, Option, Some, None, refl, sym, ap, ◌∙◌, subst, arith, true≢false}
+use Rattle.std.proofs.Common.{◌≡◌, ℕ, Bool, true, false, if◌then◌else◌, List, [], ◌∷◌, ◌++◌, ◌⊎◌, inl, inr, Option, Some, None, refl, sym, ap, ◌∙◌, subst, arith}
 use Rattle.std.specs.Prelude.{nat_lt, ◌==◌}
 use Rattle.kex_code.specs.Codes.{IsAmong}
 use Rattle.kex_regexp.specs.declared.breaks.Break.{Break}
-use Rattle.kex_regexp.specs.declared.breaks.Break.TheVariants.{BadRegex, BadCount, BadSet, OverLimit}
 use Rattle.kex_regexp.specs.Breaks.{rank, offset, comes_before}
-use Rattle.kex_regexp.specs.Notes.{lesser, held_lesser}
+use Rattle.kex_regexp.specs.Notes.{held_lesser}
 use Rattle.kex_reader.specs.Checks.{Check, Breaks, SomeBreaks, IsLeastBreak}
 use Rattle.kex_reader.specs.Stands.{Noted}
 

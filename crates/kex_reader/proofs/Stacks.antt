@@ -1,5 +1,5 @@
 -- Frames and the entries that they show.
-use Rattle.std.proofs.Common.{◌≡◌, ℕ, suc, ◌+◌, ◌<◌, ◌≤◌, List, [], ◌∷◌, ◌++◌, length, Option, Some, None, refl, sym, ap, ◌∙◌, subst, arith, length-append}
+use Rattle.std.proofs.Common.{◌≡◌, ℕ, suc, ◌+◌, ◌<◌, List, [], ◌∷◌, ◌++◌, length, Option, Some, None, refl, sym, ap, ◌∙◌, subst, arith, length-append}
 use Rattle.std.proofs.lemmas.Option.{slice_get_within}
 use Rattle.kex_model.specs.declared.program.Kind.TheVariants as kinds
 use Rattle.kex_reader.specs.declared.stack.Frame.{Frame}
@@ -10,8 +10,8 @@ use Rattle.kex_reader.specs.declared.stack.Part.{Part as Shown}
 use Rattle.kex_reader.specs.declared.stack.Store.{Store}
 use Rattle.kex_reader.specs.Syntax.{Word, Term, Last, Or, Seq, Only, Then, Pre, Mute, Into, term, seq, pre, atom}
 use Rattle.kex_reader.specs.Reading.{Entry, Mark, Ended, Done, Muted, Storing, entries, entry, put, take_more, take_seq, take_branches, term_of, take_term}
-use Rattle.kex_reader.specs.Shown.{Made, IsNode, IsRegister, ShowsTerm, ShowsSeq, ShowsPre}
-use Rattle.kex_reader.specs.Stands.{Keeps, FramesShow, SeqOn, TermOn, SeqTaken, TermTaken, SomeFrames, frame_of, prefixed_kind, prefix_at, HasRegister, open_frames, depth}
+use Rattle.kex_reader.specs.Shown.{Made, IsNode, ShowsTerm, ShowsSeq, ShowsPre}
+use Rattle.kex_reader.specs.Stands.{Keeps, FramesShow, SeqTaken, TermTaken, frame_of, prefixed_kind, prefix_at, HasRegister, open_frames, depth}
 use Rattle.kex_reader.proofs.Drafting.{term_more, seq_more, pre_more, pre_within, seq_within, term_within}
 
 pub frames_more : (a b : Made) (at : ℕ → ℕ) (base : ℕ) (fs : List Frame) (es : List Entry) → Keeps a b → FramesShow a at base fs es → FramesShow b at base fs es

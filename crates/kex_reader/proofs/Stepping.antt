@@ -1,5 +1,5 @@
 -- From a word's kind to the machine's step, and from what the code did to the state that it stands for.
-use Rattle.std.proofs.Common.{◌≡◌, ℕ, ◌+◌, ◌<◌, ◌≤◌, Bool, true, false, List, [], ◌∷◌, ◌++◌, length, Option, Some, None, Result, Ok, Err, refl, sym, ap, ◌∙◌, subst, arith, length-append}
+use Rattle.std.proofs.Common.{◌≡◌, ℕ, ◌+◌, ◌<◌, Bool, true, false, List, [], ◌∷◌, ◌++◌, length, Option, Some, None, Result, Ok, Err, refl, sym, ap, ◌∙◌, subst, arith, length-append}
 use Rattle.std.specs.Prelude.{bytes_eq, codes, if◌then◌else◌, IfOk, IfErr, OnOk}
 use Rattle.kex_tokens.specs.declared.token.Kind.{Kind}
 use Rattle.kex_tokens.specs.declared.token.Kind.TheVariants as kinds
@@ -17,13 +17,13 @@ use Rattle.kex_reader.specs.declared.inside.Wait.TheVariants as waits
 use Rattle.kex_reader.specs.declared.inside.StepFault.{StepFault}
 use Rattle.kex_reader.specs.declared.inside.StepFault.TheVariants as faults
 use Rattle.kex_reader.specs.declared.word.Name.{Name as Named'}
-use Rattle.kex_reader.specs.Syntax.{Word, Name, Number, Literal, Regex, Define, Colon, Pipe, Bar, Tilde, At, Star, Plus, PlusEquals, Question, OpenBrace, CloseBrace, Comma, Bang, OpenBracket, CloseBracket, Arrow, OpenParen, CloseParen, word, between, Part, Text, Held, Postfix, ZeroOrMore, OneOrMore, Optional, Term, Seq, Pre, Once, Turns, Atom, One, Call, Lit, Match, Write, Assign, Group, term, seq, pre, atom}
-use Rattle.kex_reader.specs.Reading.{Entry, Mark, Ended, Done, Muted, Storing, Opened, Mode, Need, Ready, After, Named, Writing, Bracket, BracketName, Assigning, Assigned, InCount, Inside, put, take_seq, take_term, goes, on_bar, closed, on_close, on_number, begin_pre, after_atom, named, on_name, on_sign, first_part, next_part, step_in, entries, entry}
-use Rattle.kex_reader.specs.Shown.{Made, IsNode, IsName, IsRegister, ShowsTerm, ShowsSeq, ShowsPre, ShowsAtom, low, high}
-use Rattle.kex_reader.specs.Stands.{Keeps, FramesShow, SeqTaken, TermTaken, SeqOn, TermOn, ShowsMode, ShowsCount, Stands, Steps}
-use Rattle.kex_reader.proofs.Drafting.{atom_more, Keeps-trans}
+use Rattle.kex_reader.specs.Syntax.{Word, Name, Number, Literal, Regex, Define, Bar, Tilde, At, Star, Plus, Question, OpenBrace, Bang, OpenBracket, OpenParen, CloseParen, word, Postfix, ZeroOrMore, OneOrMore, Optional, Term, Seq, Once, Turns, Atom, One, Call, Lit, Match, Write, Group, pre, atom}
+use Rattle.kex_reader.specs.Reading.{Entry, Mark, Ended, Done, Muted, Storing, Opened, Mode, Need, Ready, After, Named, Writing, Bracket, BracketName, Assigning, InCount, Inside, put, take_seq, take_term, goes, on_bar, closed, on_close, on_number, begin_pre, after_atom, named, on_name, on_sign, entries, entry}
+use Rattle.kex_reader.specs.Shown.{Made, IsNode, IsName, IsRegister, ShowsTerm, ShowsPre, ShowsAtom, low, high}
+use Rattle.kex_reader.specs.Stands.{Keeps, FramesShow, SeqTaken, TermTaken, ShowsMode, ShowsCount, Steps}
+use Rattle.kex_reader.proofs.Drafting.{Keeps-trans}
 use Rattle.kex_reader.proofs.Sound.{put_is}
-use Rattle.kex_reader.proofs.Stacks.{frames_more, mark_on}
+use Rattle.kex_reader.proofs.Stacks.{frames_more}
 
 -- ---- outcomes
 

@@ -1,6 +1,6 @@
 -- From the machine to texts.
-use Rattle.std.proofs.Common.{◌≡◌, ℕ, zero, suc, ◌+◌, ◌<◌, ◌≤◌, Bool, true, false, if◌then◌else◌, List, [], ◌∷◌, ◌++◌, ◌⊎◌, inl, inr, length, take, drop, get_or, Option, Some, None, Result, Ok, Err, refl, sym, ap, ◌∙◌, subst, arith, add-one}
-use Rattle.std.specs.Prelude.{slice_get, map, bytes_eq, codes, IfOk, IfErr, OnOk, All}
+use Rattle.std.proofs.Common.{◌≡◌, ℕ, zero, suc, ◌+◌, ◌<◌, ◌≤◌, Bool, true, false, if◌then◌else◌, List, [], ◌∷◌, ◌++◌, ◌⊎◌, inl, inr, length, take, drop, get_or, Option, Some, None, Result, Ok, Err, refl, sym, ap, ◌∙◌, subst, arith}
+use Rattle.std.specs.Prelude.{slice_get, map, bytes_eq, codes, IfOk, IfErr}
 use Rattle.std.specs.List.{slice_range}
 use Rattle.std.proofs.lemmas.List.{take_all, length-take-le, get_or_past}
 use Rattle.std.proofs.lemmas.Option.{get_or_from_slice_get, slice_get_within, slice_get-get_or}
@@ -22,10 +22,10 @@ use Rattle.kex_reader.specs.declared.reader.Phase.{Phase}
 use Rattle.kex_reader.specs.declared.reader.Phase.TheVariants as phases
 use Rattle.kex_reader.specs.declared.refusal.ReadRefusal.{ReadRefusal}
 use Rattle.kex_reader.specs.declared.refusal.ReadRefusal.TheVariants as refusals
-use Rattle.kex_reader.specs.Syntax.{Word, word, Header, NoStart, Stages, Definition, Program, program, header, term, definitions}
-use Rattle.kex_reader.specs.Programs.{IsProgram, IsFirstWrong}
+use Rattle.kex_reader.specs.Syntax.{Word, word, Header, NoStart, Stages, Definition, Program, program, header, term}
+use Rattle.kex_reader.specs.Programs.{IsFirstWrong}
 use Rattle.kex_reader.specs.Reading.{State, Begin, reads, next, step, spelled, finish}
-use Rattle.kex_reader.specs.Checks.{Check, SomeBreaks, IsLeastBreak, program_checks}
+use Rattle.kex_reader.specs.Checks.{program_checks}
 use Rattle.kex_reader.specs.Shown.{Made, ShowsDefinitions, ShowsStages}
 use Rattle.kex_reader.specs.Stands.{Noted}
 use Rattle.kex_reader.specs.Holding.{ShowsHead, ShowsState, StateSteps, Finishes}

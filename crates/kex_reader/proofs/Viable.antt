@@ -2,7 +2,7 @@
 use Rattle.std.proofs.Common.{◌≡◌, ℕ, false, List, [], ◌∷◌, ◌++◌, Option, Some, None, refl, sym, ap, ◌∙◌, subst, append_assoc}
 use Rattle.std.proofs.lemmas.List.{append-nil}
 use Rattle.kex_reader.specs.Syntax.{Word, Name, Number, Define, Colon, Pipe, Bar, Tilde, At, OpenBrace, CloseBrace, Comma, CloseBracket, Arrow, OpenParen, CloseParen, Held, Exactly, AtLeast, AtMost, Between, Term, Last, Or, Seq, Only, Then, Pre, Mute, Into, Once, Turns, Atom, One, Call, Write, Assign, Group, Definition, Header, NoStart, Stages, Program, start, part, parts, sign, postfix, term, seq, pre, atom, definitions, stages, header, program}
-use Rattle.kex_reader.specs.Reading.{Entry, Mark, Ended, Done, Muted, Storing, Counting, Opened, Low, LowComma, LowHigh, OnlyComma, High, Mode, Need, Ready, After, Named, Writing, Bracket, BracketName, Assigning, Assigned, InCount, Inside, State, Begin, FirstName, StartLine, StageRead, StageNext, HeadRead, Within, reads, finish, entry, entries, counting, mode, inside, before, spelled}
+use Rattle.kex_reader.specs.Reading.{Entry, Mark, Ended, Done, Muted, Storing, Counting, Opened, Low, LowComma, LowHigh, OnlyComma, High, Mode, Need, Ready, After, Named, Writing, Bracket, BracketName, Assigning, Assigned, InCount, State, Begin, FirstName, StartLine, StageRead, StageNext, HeadRead, Within, reads, finish, entry, entries, counting, mode, inside, before, spelled}
 use Rattle.kex_reader.specs.Programs.{IsProgram, BeginsProgram}
 use Rattle.kex_reader.proofs.Sound.{Goes, reads_goes, finish_is, Finishes, definitions-append, stages-append}
 use Rattle.kex_reader.proofs.Complete.{Gives, program_reads, reads-append, reads_none}

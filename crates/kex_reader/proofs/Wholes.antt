@@ -20,7 +20,7 @@ use Rattle.kex_reader.specs.Reading.{Entry, Mark, Ended, Done, Muted, Storing, M
 use Rattle.kex_reader.specs.Shown.{Made, IsName, ShowsTerm, ShowsDefinitions, ShowsStages}
 use Rattle.kex_reader.specs.Stands.{Keeps, FramesShow, SomeInside, Stands, Steps, TermTaken, ShowsMode}
 use Rattle.kex_reader.specs.Holding.{ShowsHead, ShowsState, SomeState, StateSteps, whole_term, Ends, Finishes}
-use Rattle.kex_reader.proofs.Drafting.{definitions_more, stages_more, term_more}
+use Rattle.kex_reader.proofs.Drafting.{definitions_more, stages_more}
 use Rattle.kex_reader.proofs.Sound.{term_taken, TermTaken as Spelled}
 
 pub head_more : (h : Header) (a b : Made) (at : ℕ → ℕ) (ss : List Start) → Keeps a b → ShowsHead h a at ss → ShowsHead h b at ss

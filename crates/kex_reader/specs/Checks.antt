@@ -1,12 +1,12 @@
 -- The limits of a program: the places where its tree asks one, and when it is broken there.
-use Rattle.std.specs.Prelude.{◌≡◌, ℕ, suc, ◌+◌, ◌<◌, ◌≤◌, ◌||◌, Bool, true, false, List, [], ◌∷◌, ◌++◌, length, nat_lt}
+use Rattle.std.specs.Prelude.{◌≡◌, ℕ, suc, ◌+◌, ◌||◌, Bool, true, false, List, [], ◌∷◌, ◌++◌, length, nat_lt}
 use Rattle.kex_code.specs.Codes.{IsAmong}
 use Rattle.kex_tokens.specs.Values.{number_of}
 use Rattle.kex_regexp.specs.declared.breaks.Break.{Break}
-use Rattle.kex_regexp.specs.declared.breaks.Break.TheVariants.{BadRegex, BadCount, BadSet, OverLimit}
+use Rattle.kex_regexp.specs.declared.breaks.Break.TheVariants.{BadRegex, BadCount, OverLimit}
 use Rattle.kex_regexp.specs.Breaks.{comes_before}
 use Rattle.kex_regexp.specs.Bodies.{IsFirstWrong, BreaksFirst}
-use Rattle.kex_reader.specs.Syntax.{Word, Postfix, ZeroOrMore, OneOrMore, Optional, Exactly, AtLeast, AtMost, Between, Term, Last, Or, Seq, Only, Then, Pre, Mute, Into, Once, Turns, Atom, One, Call, Lit, Match, Write, Assign, Group, Definition, Header, NoStart, Stages, Program, term, seq, pre, atom, header}
+use Rattle.kex_reader.specs.Syntax.{Postfix, ZeroOrMore, OneOrMore, Optional, Exactly, AtLeast, AtMost, Between, Term, Last, Or, Seq, Only, Then, Pre, Mute, Into, Once, Turns, Atom, One, Call, Lit, Match, Write, Assign, Group, Definition, Header, NoStart, Stages, Program, term, seq, pre, atom, header}
 
 -- a mark or prefix under so many others, a count, a body under so many, a stage by its number from 1; each with its offset
 pub data Check : Type 0 where

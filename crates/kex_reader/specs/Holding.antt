@@ -7,7 +7,7 @@ use Rattle.kex_reader.specs.declared.inside.StepFault.{StepFault}
 use Rattle.kex_reader.specs.declared.inside.StepFault.TheVariants as faults
 use Rattle.kex_reader.specs.declared.reader.Phase.{Phase}
 use Rattle.kex_reader.specs.declared.reader.Phase.TheVariants as phases
-use Rattle.kex_reader.specs.Syntax.{Definition, Header, NoStart, Stages, Program, Term, header, definitions}
+use Rattle.kex_reader.specs.Syntax.{Header, NoStart, Stages, Program, Term, header, definitions}
 use Rattle.kex_reader.specs.Reading.{Entry, State, Begin, FirstName, StartLine, StageRead, StageNext, HeadRead, Within, before}
 use Rattle.kex_reader.specs.Shown.{Made, IsName, ShowsTerm, ShowsDefinitions, ShowsStages}
 use Rattle.kex_reader.specs.Stands.{Stands}

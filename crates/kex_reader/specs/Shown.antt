@@ -12,7 +12,7 @@ use Rattle.kex_regexp.specs.declared.breaks.Break.{Break}
 use Rattle.kex_regexp.specs.Bodies.{Spells}
 use Rattle.kex_regexp.specs.Grammar.{Regex as Body}
 use Rattle.kex_regexp.specs.Shown.{ShowsRegex}
-use Rattle.kex_reader.specs.Syntax.{Part, Text, Held, Postfix, ZeroOrMore, OneOrMore, Optional, Exactly, AtLeast, AtMost, Between, Term, Last, Or, Seq, Only, Then, Pre, Mute, Into, Once, Turns, Atom, One, Call, Lit, Match, Write, Assign, Group, Definition, Header, NoStart, Stages, term, seq, pre, atom}
+use Rattle.kex_reader.specs.Syntax.{Part, Text, Held, Postfix, ZeroOrMore, OneOrMore, Optional, Exactly, AtLeast, AtMost, Between, Term, Last, Or, Seq, Only, Then, Pre, Mute, Into, Once, Turns, Atom, One, Call, Lit, Match, Write, Assign, Group, Definition, term, seq, pre}
 
 -- what is made of a text: nodes, names and registers by their numbers, and the least limit that was broken
 pub record Made : Type 0 where

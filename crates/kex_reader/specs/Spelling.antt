@@ -1,5 +1,5 @@
 -- What a text spells, and why it is refused.
-use Rattle.std.specs.Prelude.{◌≡◌, ℕ, ◌<◌, ◌≤◌, Bool, List, [], ◌∷◌, length, map, get_or, bytes_eq, codes, None, if◌then◌else◌}
+use Rattle.std.specs.Prelude.{◌≡◌, ℕ, ◌<◌, ◌≤◌, List, [], ◌∷◌, length, map, get_or, bytes_eq, codes, None, if◌then◌else◌}
 use Rattle.std.specs.List.{slice_range}
 use Rattle.kex_code.specs.Codes.{Different}
 use Rattle.kex_model.specs.Programs.{Grammar}

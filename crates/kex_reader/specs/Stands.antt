@@ -1,10 +1,8 @@
 -- What the code holds of a program that is being read, and the state of the machine that it stands for.
-use Rattle.std.specs.Prelude.{◌≡◌, ℕ, suc, ◌+◌, ◌<◌, ◌≤◌, Bool, true, false, List, [], ◌∷◌, ◌++◌, length, Option, Some, None, Result, Ok, Err, slice_get, MatchOption, ◌==◌, if◌then◌else◌}
+use Rattle.std.specs.Prelude.{◌≡◌, ℕ, suc, ◌+◌, ◌<◌, ◌≤◌, Bool, true, false, List, [], ◌∷◌, length, Option, Some, None, Result, Ok, Err, slice_get, MatchOption, if◌then◌else◌}
 use Rattle.kex_model.specs.declared.program.Kind.{Kind}
 use Rattle.kex_model.specs.declared.program.Kind.TheVariants as kinds
 use Rattle.kex_model.specs.declared.program.Node.{Node}
-use Rattle.kex_model.specs.declared.program.Definition.{Definition as Root}
-use Rattle.kex_model.specs.declared.program.Start.{Start}
 use Rattle.kex_code.specs.declared.piece.Piece.{Piece}
 use Rattle.kex_tokens.specs.Values.{number_of}
 use Rattle.kex_regexp.specs.declared.breaks.Break.{Break}
@@ -21,10 +19,10 @@ use Rattle.kex_reader.specs.declared.inside.Wait.{Wait}
 use Rattle.kex_reader.specs.declared.inside.Wait.TheVariants as waits
 use Rattle.kex_reader.specs.declared.inside.StepFault.{StepFault}
 use Rattle.kex_reader.specs.declared.inside.StepFault.TheVariants as faults
-use Rattle.kex_reader.specs.Syntax.{Word, Name, Literal, Text, Held, Tilde, At, Star, Plus, Question, OpenBrace, OpenParen, Regex, Define, Part, Postfix, Term, Seq, Pre, Atom, Once, Call, Definition, Header, NoStart, Stages, Program, atom, header, definitions}
-use Rattle.kex_reader.specs.Reading.{Entry, Mark, Ended, Done, Muted, Storing, Counting, Opened, Low, LowComma, LowHigh, OnlyComma, High, CountStep, CountOn, CountRead, CountWrong, Mode, Need, Ready, After, Named, Writing, Bracket, BracketName, Assigning, Assigned, InCount, Inside, put, entries, mode, count_step}
-use Rattle.kex_reader.specs.Checks.{Check, Nested, Counted, Matched, Staged, SomeBreaks, IsLeastBreak, is_bad_count, postfix_checks, term_checks, seq_checks, pre_checks, atom_checks}
-use Rattle.kex_reader.specs.Shown.{Made, IsName, IsRegister, ShowsTerm, ShowsSeq, ShowsPre, ShowsAtom, ShowsPart, ShowsParts, low, high}
+use Rattle.kex_reader.specs.Syntax.{Word, Name, Literal, Text, Held, Tilde, At, Star, Plus, Question, OpenBrace, OpenParen, Regex, Define, Part, Term, Seq, Pre, Atom, Once, Call, atom}
+use Rattle.kex_reader.specs.Reading.{Entry, Mark, Ended, Done, Muted, Storing, Counting, Opened, Low, LowComma, LowHigh, OnlyComma, High, CountStep, CountOn, CountRead, CountWrong, Mode, Need, Ready, After, Named, Writing, Bracket, BracketName, Assigning, Assigned, InCount, Inside, put, entries, count_step}
+use Rattle.kex_reader.specs.Checks.{Check, Nested, Matched, SomeBreaks, IsLeastBreak, is_bad_count, postfix_checks}
+use Rattle.kex_reader.specs.Shown.{Made, IsRegister, ShowsTerm, ShowsSeq, ShowsPre, ShowsAtom, ShowsPart, ShowsParts, low, high}
 
 -- what was made stays: nodes, names and registers keep their numbers, and what is broken stays broken
 pub record Keeps (old new : Made) : Type 0 where

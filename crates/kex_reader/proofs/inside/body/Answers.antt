@@ -1,7 +1,4 @@
-use Rattle.std.proofs.Common.{◌≡◌, ◌+◌, [], ◌∷◌, ◌++◌, None, subst, arith}
-use Rattle.kex_regexp.specs.Grammar.{Regex}
-use Rattle.kex_regexp.specs.Bodies.{Spells}
-use Rattle.kex_regexp.specs.Shown.{ShowsRegex}
+use Rattle.std.proofs.Common.{◌+◌, [], ◌∷◌, ◌++◌, subst}
 use Rattle.kex_reader.specs.Checks.{Matched}
 use Rattle.kex_reader.specs.Stands.{Noted}
 use Rattle.kex_reader.proofs.inside.body.Goals as goal

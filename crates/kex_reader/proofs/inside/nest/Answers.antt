@@ -1,4 +1,4 @@
-use Rattle.std.proofs.Common.{◌≡◌, ℕ, [], ◌∷◌, ◌++◌, Option, Some, refl, sym, ap, subst}
+use Rattle.std.proofs.Common.{[], ◌∷◌, ◌++◌, Option, refl, sym, ap, subst}
 use Rattle.kex_regexp.specs.declared.breaks.Break.{Break}
 use Rattle.kex_regexp.specs.declared.breaks.Break.TheVariants.{OverLimit}
 use Rattle.kex_reader.specs.Checks.{Nested}

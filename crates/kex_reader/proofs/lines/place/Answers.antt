@@ -1,4 +1,4 @@
-use Rattle.std.proofs.Common.{◌≡◌, ◌+◌, ◌<◌, length, suc, refl, sym, ap, ◌∙◌, arith, add-one}
+use Rattle.std.proofs.Common.{◌+◌, ◌<◌, length, suc, refl, sym, ap, ◌∙◌, arith, add-one}
 use Rattle.std.specs.Prelude.{min}
 use Rattle.kex_reader.specs.Lines.{behind_feed, feeds}
 use Rattle.kex_reader.proofs.Lining.{feeds_feed, feeds_other, behind_it, behind_other, taken}
@@ -16,13 +16,13 @@ loop-i-preserved c =
     let k = c.loop-i.i in
     let inside : k < length text = omega (arith, c.loop-i-test.true, c.min-i-end.ensures) in
     elim c.if-text-i-eq10.branch [
-    | then-text-i-eq10 w ↦ record {
+      | then-text-i-eq10 w ↦ record {
         line = w.line-is ∙ add-one c.loop-i.line ∙ ap suc i.line ∙ sym (feeds_feed text k inside w.if-text-i-eq10.true);
         column = w.column-is ∙ sym (behind_it text k inside w.if-text-i-eq10.true);
         lines = omega (arith, w.line-is, i.lines);
         columns = omega (arith, w.column-is);
       }
-    | else-text-i-eq10 w ↦ record {
+      | else-text-i-eq10 w ↦ record {
         line = w.line-is ∙ i.line ∙ sym (feeds_other text k inside w.if-text-i-eq10.false);
         column = w.column-is ∙ add-one c.loop-i.column ∙ ap suc i.column ∙ sym (behind_other text k inside w.if-text-i-eq10.false);
         lines = omega (arith, w.line-is, i.lines);

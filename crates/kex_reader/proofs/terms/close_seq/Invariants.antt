@@ -1,9 +1,7 @@
-use Rattle.std.proofs.Common.{◌≡◌, ℕ, ◌+◌, List, length}
-use Rattle.kex_reader.specs.Syntax.{Pre}
-use Rattle.kex_reader.specs.Reading.{Entry, entries, put as spec_put, take_seq, take_term}
-use Rattle.kex_reader.specs.Shown.{ShowsPre}
+use Rattle.std.proofs.Common.{◌≡◌, ℕ, List, length}
+use Rattle.kex_reader.specs.Reading.{Entry, take_seq}
 use Rattle.kex_reader.specs.Stands.{FramesShow, Keeps}
-use Rattle.kex_reader.proofs.Stacks.{PreSoFar, SeqSoFar, TermSoFar}
+use Rattle.kex_reader.proofs.Stacks.{SeqSoFar}
 use Rattle.kex_reader.proofs.terms.close_seq.Given as goal
 
 abbrev pub invariant-loop-front : goal.invariant-loop-front

@@ -1,6 +1,6 @@
-use Rattle.std.proofs.Common.{refl, sym, ◌∙◌, subst}
-use Rattle.kex_reader.proofs.Drafting.{Keeps-refl, Keeps-trans, pre_within}
-use Rattle.kex_reader.proofs.Stacks.{put_begins, put_more, put_done, prefix_register, seq_begins, seq_more_on, seq_done, seq_none, done_within, term_begins, term_more_on, term_done, term_none, ended_within}
+use Rattle.std.proofs.Common.{◌∙◌, subst}
+use Rattle.kex_reader.proofs.Drafting.{Keeps-trans}
+use Rattle.kex_reader.proofs.Stacks.{term_begins, term_more_on, term_done, term_none, ended_within}
 use Rattle.kex_reader.specs.Reading.{take_seq, take_term}
 use Rattle.kex_reader.specs.Stands.{SeqTaken}
 use Rattle.kex_reader.proofs.terms.close_term.Goals as goal

@@ -1,6 +1,6 @@
-use Rattle.std.proofs.Common.{refl, sym, ◌∙◌}
+use Rattle.std.proofs.Common.{refl, ◌∙◌}
 use Rattle.kex_reader.proofs.Drafting.{Keeps-refl, Keeps-trans, pre_within}
-use Rattle.kex_reader.proofs.Stacks.{put_begins, put_more, put_done, prefix_register, seq_begins, seq_more_on, seq_done, seq_none, done_within, term_begins, term_more_on, term_done, term_none, ended_within}
+use Rattle.kex_reader.proofs.Stacks.{put_begins, put_more, put_done, prefix_register}
 use Rattle.kex_reader.proofs.terms.put.Goals as goal
 
 pub loop-prefix-init : goal.loop-prefix-init

@@ -1,9 +1,9 @@
 use Rattle.std.proofs.Common.{◌≡◌, ℕ, ◌+◌, List, length}
 use Rattle.kex_reader.specs.Syntax.{Pre}
-use Rattle.kex_reader.specs.Reading.{Entry, entries, put as spec_put, take_seq, take_term}
+use Rattle.kex_reader.specs.Reading.{Entry, entries, put as spec_put}
 use Rattle.kex_reader.specs.Shown.{ShowsPre}
 use Rattle.kex_reader.specs.Stands.{FramesShow, Keeps}
-use Rattle.kex_reader.proofs.Stacks.{PreSoFar, SeqSoFar, TermSoFar}
+use Rattle.kex_reader.proofs.Stacks.{PreSoFar}
 use Rattle.kex_reader.proofs.terms.put.Given as goal
 
 abbrev pub invariant-loop-prefix : goal.invariant-loop-prefix

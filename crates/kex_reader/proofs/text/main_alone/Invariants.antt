@@ -1,4 +1,4 @@
-use Rattle.std.proofs.Common.{◌≡◌, [], drop, length}
+use Rattle.std.proofs.Common.{◌≡◌, [], drop}
 use Rattle.kex_reader.specs.Spelling.{main_stage}
 use Rattle.kex_reader.proofs.text.main_alone.Given as goal
 

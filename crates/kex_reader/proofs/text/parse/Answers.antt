@@ -1,18 +1,16 @@
-use Rattle.std.proofs.Common.{◌≡◌, ℕ, ◌+◌, ◌<◌, ◌≤◌, true, false, List, [], ◌∷◌, ◌++◌, length, get_or, take, drop, Ok, Err, Some, None, refl, sym, ap, ◌∙◌, subst, arith, add-one}
-use Rattle.std.specs.Prelude.{bytes_eq, codes, slice_get}
+use Rattle.std.proofs.Common.{length, get_or, Err, sym, ap, ◌∙◌, subst, arith}
 use Rattle.std.specs.List.{slice_range}
 use Rattle.std.proofs.lemmas.Option.{slice_get-get_or}
-use Rattle.kex_code.specs.Codes.{IsAmong}
 use Rattle.kex_tokens.specs.declared.token.Token.{Token}
 use Rattle.kex_tokens.specs.declared.token.Kind.TheVariants as kinds
-use Rattle.kex_reader.specs.Syntax.{word, header}
-use Rattle.kex_reader.specs.Reading.{Begin, step, spelled, finish}
+use Rattle.kex_reader.specs.Syntax.{word}
+use Rattle.kex_reader.specs.Reading.{Begin, step, finish}
 use Rattle.kex_reader.specs.Checks.{program_checks}
-use Rattle.kex_reader.specs.Asked.{state_checks, state_asks}
+use Rattle.kex_reader.specs.Asked.{state_checks}
 use Rattle.kex_reader.specs.Holding.{StateSteps, Finishes}
 use Rattle.kex_reader.specs.Stands.{Noted}
-use Rattle.kex_reader.specs.Spelling.{main_stage, offset, words, IsRefusedAs}
-use Rattle.kex_reader.proofs.Texting.{word_at, offset_at, words_long, offset_end, reads_more, taken_long, wrong_word, wrong_end, program_read, state_ok, state_bad, finish_ok, finish_bad, next_checks, end_checks, begin_shows, begin_reads, begin_notes, token_refused, step_refused, definitions_in, started_in, program_shows, among_get, main_here, spells_ok, refused_ok, end_of, names_at}
+use Rattle.kex_reader.specs.Spelling.{offset, words, IsRefusedAs}
+use Rattle.kex_reader.proofs.Texting.{word_at, offset_at, words_long, offset_end, reads_more, taken_long, wrong_word, wrong_end, program_read, state_ok, state_bad, finish_ok, finish_bad, next_checks, end_checks, begin_shows, begin_reads, begin_notes, step_refused, spells_ok, refused_ok, end_of}
 use Rattle.kex_reader.proofs.text.parse.Goals as goal
 
 abbrev D : Token

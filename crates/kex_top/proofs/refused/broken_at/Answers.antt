@@ -11,6 +11,6 @@ pub returns : goal.returns
 returns c =
     let front = take c.args.at c.args.text.now in
     let short = length-take c.args.at c.args.text.now in
-    let line : c.place.result.0 ≡ line_at c.args.text.now c.args.at = omega (arith, c.place.ensures.line, few-feeds front, short, c.requires) in
-    let column : c.place.result.1 ≡ column_at c.args.text.now c.args.at = omega (arith, c.place.ensures.column, few-behind 0 front, short, c.requires) in
-    ap (λ (n : ℕ). Refused (record { rule = c.args.rule; place = At n c.place.result.1 })) line ∙ ap (λ (n : ℕ). Refused (record { rule = c.args.rule; place = At (line_at c.args.text.now c.args.at) n })) column
+    let line : c.place-line.result.0 ≡ line_at c.args.text.now c.args.at = omega (arith, c.place-line.ensures.line, few-feeds front, short, c.requires) in
+    let column : c.place-line.result.1 ≡ column_at c.args.text.now c.args.at = omega (arith, c.place-line.ensures.column, few-behind 0 front, short, c.requires) in
+    ap (λ (n : ℕ). Refused (record { rule = c.args.rule; place = At n c.place-line.result.1 })) line ∙ ap (λ (n : ℕ). Refused (record { rule = c.args.rule; place = At (line_at c.args.text.now c.args.at) n })) column

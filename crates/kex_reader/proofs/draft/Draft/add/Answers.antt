@@ -1,11 +1,11 @@
-use Rattle.std.proofs.Common.{◌≡◌, ℕ, ◌+◌, ◌∷◌, [], ◌++◌, List, length, Option, Some, None, refl, sym, ap, ◌∙◌, subst, arith}
+use Rattle.std.proofs.Common.{List, length, sym, ap, ◌∙◌, subst}
 use Rattle.std.specs.Prelude.{slice_get}
-use Rattle.kex_code.specs.Codes.{Begins, IsAmong}
+use Rattle.kex_code.specs.Codes.{IsAmong}
 use Rattle.kex_model.specs.Programs.{HasNames}
 use Rattle.kex_model.specs.declared.program.Node.{Node}
 use Rattle.kex_reader.specs.Shown.{Made}
-use Rattle.kex_reader.specs.Stands.{Keeps, Noted}
-use Rattle.kex_reader.proofs.Drafting.{all_named, begins_same, begun_long, body_within, keeping, named_push, Keeps-trans, adds_named, adds_begins}
+use Rattle.kex_reader.specs.Stands.{Keeps}
+use Rattle.kex_reader.proofs.Drafting.{begins_same, keeping, named_push}
 use Rattle.kex_model.proofs.Tables.{get_last}
 use Rattle.kex_reader.proofs.draft.Draft.add.Goals as goal
 

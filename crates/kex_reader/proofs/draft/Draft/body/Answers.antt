@@ -1,15 +1,10 @@
-use Rattle.std.proofs.Common.{◌≡◌, ℕ, ◌+◌, ◌∷◌, [], ◌++◌, List, length, Option, Some, None, refl, sym, ap, ◌∙◌, subst, arith}
-use Rattle.std.specs.Prelude.{slice_get}
-use Rattle.kex_code.specs.Codes.{Begins, IsAmong}
-use Rattle.kex_model.specs.Programs.{HasNames}
-use Rattle.kex_model.specs.declared.program.Node.{Node}
+use Rattle.std.proofs.Common.{◌≡◌, ℕ, ◌∷◌, [], ◌++◌, length, Option, sym, ap, ◌∙◌, subst}
 use Rattle.kex_reader.specs.Shown.{Made}
 use Rattle.kex_reader.specs.Stands.{Keeps, Noted}
-use Rattle.kex_reader.proofs.Drafting.{all_named, begins_same, begun_long, body_within, keeping, named_push, Keeps-trans, adds_named, adds_begins}
+use Rattle.kex_reader.proofs.Drafting.{begins_same, body_within, keeping, Keeps-trans, adds_named, adds_begins}
 use Rattle.std.proofs.lemmas.Option.{slice_get_within}
 use Rattle.kex_regexp.specs.declared.breaks.Break.{Break}
 use Rattle.kex_regexp.specs.Bodies.{IsRefusal}
-use Rattle.kex_regexp.specs.Notes.{held_lesser}
 use Rattle.kex_reader.specs.Checks.{Check, Matched}
 use Rattle.kex_reader.proofs.Noting.{never_none, noted_more, noted_same}
 use Rattle.kex_reader.proofs.Bodied.{broken_is, first_breaks, no_breaks}

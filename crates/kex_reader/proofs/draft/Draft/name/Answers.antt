@@ -1,11 +1,7 @@
-use Rattle.std.proofs.Common.{◌≡◌, ℕ, ◌+◌, ◌∷◌, [], ◌++◌, List, length, Option, Some, None, refl, sym, ap, ◌∙◌, subst, arith}
-use Rattle.std.specs.Prelude.{slice_get}
-use Rattle.kex_code.specs.Codes.{Begins, IsAmong}
-use Rattle.kex_model.specs.Programs.{HasNames}
-use Rattle.kex_model.specs.declared.program.Node.{Node}
+use Rattle.std.proofs.Common.{length, subst, arith}
 use Rattle.kex_reader.specs.Shown.{Made}
-use Rattle.kex_reader.specs.Stands.{Keeps, Noted}
-use Rattle.kex_reader.proofs.Drafting.{all_named, begins_same, begun_long, body_within, keeping, named_push, Keeps-trans, adds_named, adds_begins}
+use Rattle.kex_reader.specs.Stands.{Keeps}
+use Rattle.kex_reader.proofs.Drafting.{all_named, begins_same, begun_long, keeping}
 use Rattle.kex_reader.proofs.draft.Draft.name.Goals as goal
 
 pub invariant_of-self : goal.invariant_of-self

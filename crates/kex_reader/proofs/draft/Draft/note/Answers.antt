@@ -1,4 +1,4 @@
-use Rattle.std.proofs.Common.{◌≡◌, None, Some, sym, ◌∙◌, subst}
+use Rattle.std.proofs.Common.{sym, ◌∙◌, subst}
 use Rattle.kex_reader.specs.Stands.{Keeps}
 use Rattle.kex_reader.proofs.Drafting.{begins_same, keeping}
 use Rattle.kex_reader.proofs.Noting.{never_none}

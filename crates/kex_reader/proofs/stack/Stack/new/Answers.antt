@@ -1,8 +1,6 @@
-use Rattle.std.proofs.Common.{rules, ◌≡◌, ◌∷◌, true, false, refl, sym, ap, ◌∙◌, arith, suc}
+use Rattle.std.proofs.Common.{sym, ap}
 use Rattle.std.specs.Prelude.{reverse}
-use Rattle.kex_reader.specs.declared.stack.Frame.TheVariants as frames
-use Rattle.kex_reader.specs.Stands.{opens, open_frames}
-use Rattle.kex_reader.proofs.Opening.{opened, not_opened, open_reversed, pushed}
+use Rattle.kex_reader.specs.Stands.{open_frames}
 use Rattle.kex_reader.proofs.stack.Stack.new.Goals as goal
 
 pub invariant_of-result : goal.invariant_of-result

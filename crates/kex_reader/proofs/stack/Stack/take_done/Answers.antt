@@ -1,8 +1,7 @@
-use Rattle.std.proofs.Common.{rules, ◌≡◌, ◌∷◌, true, false, refl, sym, ap, ◌∙◌, arith, suc}
-use Rattle.std.specs.Prelude.{reverse}
+use Rattle.std.proofs.Common.{rules, ap, ◌∙◌}
 use Rattle.kex_reader.specs.declared.stack.Frame.TheVariants as frames
-use Rattle.kex_reader.specs.Stands.{opens, open_frames}
-use Rattle.kex_reader.proofs.Opening.{opened, not_opened, open_reversed, pushed}
+use Rattle.kex_reader.specs.Stands.{open_frames}
+use Rattle.kex_reader.proofs.Opening.{pushed}
 use Rattle.kex_reader.proofs.stack.Stack.take_done.Goals as goal
 
 pub invariant_of-self : goal.invariant_of-self
