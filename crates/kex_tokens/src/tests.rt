@@ -127,6 +127,21 @@ fn long_texts(rt: HostRuntime) -> Result<(), Fail> {
     Ok(())
 }
 
+/// A text of the greatest length that is all tokens, and one that is all one comment without its end.
+#[test]
+fn the_longest_texts_take_one_pass(rt: HostRuntime) -> Result<(), Fail> {
+    let text = vec![in rt.alloc(); b'('; MAX_TEXT]?;
+    assert_eq!(rt; tokens(rt.alloc(), &text)?.len(), MAX_TEXT);
+    let mut comment = vec![in rt.alloc(); b'*'; MAX_TEXT]?;
+    comment[0] = b'/';
+    let refused = matches!(
+        tokens(rt.alloc(), &comment),
+        Err(TokenFault::BadToken { at: 0 })
+    );
+    assert!(rt; refused);
+    Ok(())
+}
+
 /// The bytes of a literal with each escape.
 #[test]
 fn literals_stand_for_bytes(rt: HostRuntime) -> Result<(), Fail> {
