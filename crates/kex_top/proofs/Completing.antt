@@ -16,7 +16,7 @@ use Rattle.kex_model.proofs.Orders.{at_most_both}
 use Rattle.kex_model.proofs.Saying.{grows, means_good}
 use Rattle.kex_model.proofs.Standing.{Orderly, stays, one_answer}
 use Rattle.kex_pipe.specs.Reports.{report_as}
-use Rattle.kex_pipe.proofs.Pipelines.{one_answer as one_pipeline, pipelines_stand}
+use Rattle.kex_model.proofs.Pipelines.{one_answer as one_pipeline, pipelines_stand}
 use Rattle.kex_reader.specs.Spelling.{Spells}
 use Rattle.kex_compile.specs.Stages.{CanRun, roots_of}
 use Rattle.kex_compile.specs.Compiled.{Accepts, IsRefused}

@@ -12,7 +12,7 @@ use Rattle.kex_pipe.specs.declared.report.Rejected.{Rejected}
 use Rattle.kex_pipe.specs.declared.turn.Fate.{Fate}
 use Rattle.kex_pipe.specs.declared.turn.Turn.{Ghosts}
 use Rattle.kex_pipe.proofs.Items.{end-items}
-use Rattle.kex_pipe.proofs.Pipelines.{one_answer}
+use Rattle.kex_model.proofs.Pipelines.{one_answer}
 use Rattle.kex_pipe.proofs.Schedule.{came-given, bytes_given-append, end_given-append}
 use Rattle.kex_top.specs.Answer.{Said}
 use Rattle.kex_top.specs.History.{Fed, History, bytes_of, text_of, is_ended, IsFateOf, Feeds}

@@ -11,7 +11,7 @@ use Rattle.kex_pipe.specs.Reports.{report_as}
 use Rattle.kex_pipe.specs.declared.report.Rejected.{Rejected}
 use Rattle.kex_pipe.specs.declared.turn.Why.{Why}
 use Rattle.kex_pipe.specs.declared.turn.Why.TheVariants.{Byte, End, Limit}
-use Rattle.kex_pipe.proofs.Pipelines.{one_answer, pipelines_stand}
+use Rattle.kex_model.proofs.Pipelines.{one_answer, pipelines_stand}
 use Rattle.kex_stage.specs.Stages.{StagePlan, Gives}
 use Rattle.kex_top.specs.Answer.{Said}
 use Rattle.kex_top.specs.Pipelines.{StagesSay, NodesSay, first_limit}
