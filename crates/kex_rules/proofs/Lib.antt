@@ -6,3 +6,4 @@ pub mod Apart
 pub mod Opening
 pub mod Joining
 pub mod Closing
+pub mod Standing

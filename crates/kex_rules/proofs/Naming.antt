@@ -8,8 +8,6 @@ use Rattle.std.proofs.lemmas.List.{length-replicate}
 use Rattle.std.proofs.lemmas.List.Folds.{find-append}
 use Rattle.std.proofs.lemmas.Option.{slice_get_within, slice_get-get_or}
 use Rattle.kex_code.specs.Codes.{IsAmong, HasNumber}
-use Rattle.kex_model.specs.declared.program.Kind.TheVariants.{Call}
-use Rattle.kex_model.specs.declared.program.Node.{Node}
 use Rattle.kex_model.specs.declared.program.Definition.{Definition}
 use Rattle.kex_model.specs.declared.program.Start.{Start}
 use Rattle.kex_model.specs.Programs.{Grammar, IsGrammar}
@@ -170,60 +168,50 @@ twice_more ds d found (x, i, same) h = least_more (IsTwice ds) (IsTwice (ds ++ d
 pub twice_same : (ds : List Definition) (d : Definition) (found : Option ℕ) → (IsDefined ds d.name → ⊥) → IsLeast (IsTwice ds) found → IsLeast (IsTwice (ds ++ d ∷ [])) found
 twice_same ds d found n h = least_same (IsTwice ds) (IsTwice (ds ++ d ∷ [])) found h (λ k c. ⊎_elim (λ b. b) (λ b. absurd (n b.0)) (twice_cases ds d k c)) (λ k b. twice_kept ds d k b)
 
--- one more node
-calls_cases : (ds : List Definition) (ns : List Node) (m : Node) (at : ℕ) → CallsUnknown ds (ns ++ m ∷ []) at → CallsUnknown ds ns at ⊎ ((name : ℕ) × (m.kind ≡ Call name) × (at ≡ m.at) × (IsDefined ds name → ⊥))
-calls_cases ds ns m at (name, (x, i, k, is), n) = ⊎_elim (λ j. inl (name, (x, j, k, is), n)) (λ e. inr (name, ap (λ z. z.kind) e ∙ k, sym is ∙ ap (λ z. z.at) (sym e), n)) (among-cases ns m x i)
-
-calls_kept : (ds : List Definition) (ns : List Node) (m : Node) (at : ℕ) → CallsUnknown ds ns at → CallsUnknown ds (ns ++ m ∷ []) at
-calls_kept ds ns m at (name, (x, i, k, is), n) = (name, (x, among-append ns (m ∷ []) x (inl i), k, is), n)
-
-pub calls_none : (ds : List Definition) → Nowhere (CallsUnknown ds [])
-calls_none ds at (name, (x, i, k, is), n) = i
-
-pub calls_more : (ds : List Definition) (ns : List Node) (m : Node) (name : ℕ) (found : Option ℕ) → m.kind ≡ Call name → (IsDefined ds name → ⊥) → IsLeast (CallsUnknown ds ns) found → IsLeast (CallsUnknown ds (ns ++ m ∷ [])) (Some (lower found m.at))
-calls_more ds ns m name found e n h = least_more (CallsUnknown ds ns) (CallsUnknown ds (ns ++ m ∷ [])) found m.at h (name, (m, among-append ns (m ∷ []) m (inr (inl refl)), e, refl), n) (λ k c. ⊎_elim (λ b. inl b) (λ b. inr b.2) (calls_cases ds ns m k c)) (λ k b. calls_kept ds ns m k b)
-
-pub calls_same : (ds : List Definition) (ns : List Node) (m : Node) (found : Option ℕ) → ((name : ℕ) → m.kind ≡ Call name → (IsDefined ds name → ⊥) → ⊥) → IsLeast (CallsUnknown ds ns) found → IsLeast (CallsUnknown ds (ns ++ m ∷ [])) found
-calls_same ds ns m found n h = least_same (CallsUnknown ds ns) (CallsUnknown ds (ns ++ m ∷ [])) found h (λ k c. ⊎_elim (λ b. b) (λ b. absurd (n b.0 b.1 b.3)) (calls_cases ds ns m k c)) (λ k b. calls_kept ds ns m k b)
-
 -- calls and the first stages
-abbrev pub UsesUnknown : List Definition → List Node → List Start → ℕ → Type 0
-UsesUnknown ds nodes stages at = CallsUnknown ds nodes at ⊎ StartsUnknown ds stages at
+abbrev pub UsesUnknown : Grammar → List Start → ℕ → Type 0
+UsesUnknown P stages at = CallsUnknown P at ⊎ StartsUnknown P.definitions stages at
 
-uses_cases : (ds : List Definition) (ns : List Node) (ss : List Start) (s : Start) (at : ℕ) → UsesUnknown ds ns (ss ++ s ∷ []) at → UsesUnknown ds ns ss at ⊎ ((IsDefined ds s.name → ⊥) × (at ≡ s.at))
-uses_cases ds ns ss s at (inl c) = inl (inl c)
-uses_cases ds ns ss s at (inr (name, (x, i, k, is), n)) = ⊎_elim (λ j. inl (inr (name, (x, j, k, is), n))) (λ e. inr ((λ d. n (subst (λ z. IsDefined ds z) (ap (λ z. z.name) e ∙ k) d)), sym is ∙ ap (λ z. z.at) (sym e))) (among-cases ss s x i)
+uses_cases : (P : Grammar) (ss : List Start) (s : Start) (at : ℕ) → UsesUnknown P (ss ++ s ∷ []) at → UsesUnknown P ss at ⊎ ((IsDefined P.definitions s.name → ⊥) × (at ≡ s.at))
+uses_cases P ss s at (inl c) = inl (inl c)
+uses_cases P ss s at (inr (name, (x, i, k, is), n)) = ⊎_elim (λ j. inl (inr (name, (x, j, k, is), n))) (λ e. inr ((λ d. n (subst (λ z. IsDefined P.definitions z) (ap (λ z. z.name) e ∙ k) d)), sym is ∙ ap (λ z. z.at) (sym e))) (among-cases ss s x i)
 
-uses_kept : (ds : List Definition) (ns : List Node) (ss : List Start) (s : Start) (at : ℕ) → UsesUnknown ds ns ss at → UsesUnknown ds ns (ss ++ s ∷ []) at
-uses_kept ds ns ss s at (inl c) = inl c
-uses_kept ds ns ss s at (inr (name, (x, i, k, is), n)) = inr (name, (x, among-append ss (s ∷ []) x (inl i), k, is), n)
+uses_kept : (P : Grammar) (ss : List Start) (s : Start) (at : ℕ) → UsesUnknown P ss at → UsesUnknown P (ss ++ s ∷ []) at
+uses_kept P ss s at (inl c) = inl c
+uses_kept P ss s at (inr (name, (x, i, k, is), n)) = inr (name, (x, among-append ss (s ∷ []) x (inl i), k, is), n)
 
-pub uses_start : (ds : List Definition) (ns : List Node) (found : Option ℕ) → IsLeast (CallsUnknown ds ns) found → IsLeast (UsesUnknown ds ns []) found
-uses_start ds ns found h = least_same (CallsUnknown ds ns) (UsesUnknown ds ns []) found h (λ k c. ⊎_elim (λ b. b) (λ b. absurd (nothing k b)) c) (λ k b. inl b)
+pub uses_start : (P : Grammar) (found : Option ℕ) → IsLeast (CallsUnknown P) found → IsLeast (UsesUnknown P []) found
+uses_start P found h = least_same (CallsUnknown P) (UsesUnknown P []) found h (λ k c. ⊎_elim (λ b. b) (λ b. absurd (nothing k b)) c) (λ k b. inl b)
   where
-    nothing : (k : ℕ) → StartsUnknown ds [] k → ⊥
+    nothing : (k : ℕ) → StartsUnknown P.definitions [] k → ⊥
     nothing k (name, (x, i, e, is), n) = i
 
-pub uses_more : (ds : List Definition) (ns : List Node) (ss : List Start) (s : Start) (found : Option ℕ) → (IsDefined ds s.name → ⊥) → IsLeast (UsesUnknown ds ns ss) found → IsLeast (UsesUnknown ds ns (ss ++ s ∷ [])) (Some (lower found s.at))
-uses_more ds ns ss s found n h = least_more (UsesUnknown ds ns ss) (UsesUnknown ds ns (ss ++ s ∷ [])) found s.at h (inr (s.name, (s, among-append ss (s ∷ []) s (inr (inl refl)), refl, refl), n)) (λ k c. ⊎_elim (λ b. inl b) (λ b. inr b.1) (uses_cases ds ns ss s k c)) (λ k b. uses_kept ds ns ss s k b)
+pub uses_more : (P : Grammar) (ss : List Start) (s : Start) (found : Option ℕ) → (IsDefined P.definitions s.name → ⊥) → IsLeast (UsesUnknown P ss) found → IsLeast (UsesUnknown P (ss ++ s ∷ [])) (Some (lower found s.at))
+uses_more P ss s found n h = least_more (UsesUnknown P ss) (UsesUnknown P (ss ++ s ∷ [])) found s.at h (inr (s.name, (s, among-append ss (s ∷ []) s (inr (inl refl)), refl, refl), n)) (λ k c. ⊎_elim (λ b. inl b) (λ b. inr b.1) (uses_cases P ss s k c)) (λ k b. uses_kept P ss s k b)
 
-pub uses_same : (ds : List Definition) (ns : List Node) (ss : List Start) (s : Start) (found : Option ℕ) → IsDefined ds s.name → IsLeast (UsesUnknown ds ns ss) found → IsLeast (UsesUnknown ds ns (ss ++ s ∷ [])) found
-uses_same ds ns ss s found d h = least_same (UsesUnknown ds ns ss) (UsesUnknown ds ns (ss ++ s ∷ [])) found h (λ k c. ⊎_elim (λ b. b) (λ b. absurd (b.0 d)) (uses_cases ds ns ss s k c)) (λ k b. uses_kept ds ns ss s k b)
+pub uses_same : (P : Grammar) (ss : List Start) (s : Start) (found : Option ℕ) → IsDefined P.definitions s.name → IsLeast (UsesUnknown P ss) found → IsLeast (UsesUnknown P (ss ++ s ∷ [])) found
+uses_same P ss s found d h = least_same (UsesUnknown P ss) (UsesUnknown P (ss ++ s ∷ [])) found h (λ k c. ⊎_elim (λ b. b) (λ b. absurd (b.0 d)) (uses_cases P ss s k c)) (λ k b. uses_kept P ss s k b)
 
-pub uses_all : (P : Grammar) (found : Option ℕ) → IsLeast (UsesUnknown P.definitions P.nodes P.stages) found → IsLeast (IsUnknown P) found
-uses_all P found h = least_same (UsesUnknown P.definitions P.nodes P.stages) (IsUnknown P) found h (λ k c. back k c.0 c.1 c.2) (λ k b. on k b)
+pub uses_all : (P : Grammar) (found : Option ℕ) → IsLeast (UsesUnknown P P.stages) found → IsLeast (IsUnknown P) found
+uses_all P found h = least_same (UsesUnknown P P.stages) (IsUnknown P) found h (λ k c. back k c.0 c.1 c.2) (λ k b. on k b)
   where
-    back : (k name : ℕ) → CallsAt P.nodes name k ⊎ StartsAt P.stages name k → (IsDefined P.definitions name → ⊥) → UsesUnknown P.definitions P.nodes P.stages k
+    back : (k name : ℕ) → CallsAt P name k ⊎ StartsAt P.stages name k → (IsDefined P.definitions name → ⊥) → UsesUnknown P P.stages k
     back k name (inl c) n = inl (name, c, n)
     back k name (inr s) n = inr (name, s, n)
 
-    on : (k : ℕ) → UsesUnknown P.definitions P.nodes P.stages k → IsUnknown P k
+    on : (k : ℕ) → UsesUnknown P P.stages k → IsUnknown P k
     on k (inl (name, c, n)) = (name, inl c, n)
     on k (inr (name, s, n)) = (name, inr s, n)
 
--- the names of definitions are in range
+-- the names and the roots of definitions are in range
+pub definition_among : (P : Grammar) → (ds : List Definition) → ds ≡ P.definitions → (i : ℕ) (none : Definition) → i < length ds → IsAmong P.definitions (get_or ds i none)
+definition_among P ds e i none lt = subst (λ z. IsAmong z (get_or ds i none)) e (among_get ds i (get_or ds i none) (slice_get-get_or ds i none lt))
+
 pub name_fits : (P : Grammar) → IsGrammar P → (ds : List Definition) → ds ≡ P.definitions → (i : ℕ) (none : Definition) → i < length ds → (get_or ds i none).name < length P.names
-name_fits P g ds e i none lt = (g.in_range.defined (get_or ds i none) (subst (λ z. IsAmong z (get_or ds i none)) e (among_get ds i (get_or ds i none) (slice_get-get_or ds i none lt)))).0
+name_fits P g ds e i none lt = (g.in_range.defined (get_or ds i none) (definition_among P ds e i none lt)).0
+
+pub root_fits : (P : Grammar) → IsGrammar P → (ds : List Definition) → ds ≡ P.definitions → (i : ℕ) (none : Definition) → i < length ds → (get_or ds i none).root < length P.nodes
+root_fits P g ds e i none lt = (g.in_range.defined (get_or ds i none) (definition_among P ds e i none lt)).1
 
 -- what breaks no rule keeps them
 pub ruled : (P : Grammar) → Nowhere (IsTwice P.definitions) → Nowhere (IsUnknown P) → (P.stages ≡ [] → ⊥) → Nowhere (IsNotTail P) → IsRuled P

@@ -3,3 +3,4 @@ pub mod Graphs
 pub mod Searches
 pub mod Tables
 pub mod Tails
+pub mod Within

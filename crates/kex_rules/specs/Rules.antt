@@ -23,21 +23,9 @@ IsTwice definitions at = (i j : ℕ) × (d e : Definition) × (i < j) × HasNumb
 abbrev pub IsCall : Grammar → ℕ → ℕ → ℕ → Type 0
 IsCall P n name at = (m : Node) × HasNumber P.nodes m n × (m.kind ≡ Call name) × (m.at ≡ at)
 
--- one of the nodes is a call of the name, at this offset
-abbrev pub CallsAt : List Node → ℕ → ℕ → Type 0
-CallsAt nodes name at = (m : Node) × IsAmong nodes m × (m.kind ≡ Call name) × (m.at ≡ at)
-
 -- one of the stages is started by the name, at this offset
 abbrev pub StartsAt : List Start → ℕ → ℕ → Type 0
 StartsAt stages name at = (s : Start) × IsAmong stages s × (s.name ≡ name) × (s.at ≡ at)
-
--- the name is called or started at this offset
-abbrev pub IsUse : Grammar → ℕ → ℕ → Type 0
-IsUse P name at = CallsAt P.nodes name at ⊎ StartsAt P.stages name at
-
--- at this offset a name is used that has no definition
-abbrev pub IsUnknown : Grammar → ℕ → Type 0
-IsUnknown P at = (name : ℕ) × IsUse P name at × (IsDefined P.definitions name → ⊥)
 
 -- in tail position, or anywhere else
 pub data Position : Type 0 where
@@ -63,6 +51,22 @@ pub data Stands (P : Grammar) (root : ℕ) : Position → ℕ → Type 0 where
   at_root : Stands P root in_tail root
   as_last : {p : Position} {n m : ℕ} → Stands P root p n → IsAmong (last_parts (kind_at P n)) m → Stands P root p m
   as_other : {p : Position} {n m : ℕ} → Stands P root p n → IsAmong (other_parts (kind_at P n)) m → Stands P root elsewhere m
+
+-- the node stands in one of the definitions
+abbrev pub IsWithin : Grammar → ℕ → Type 0
+IsWithin P n = (d : Definition) × (p : Position) × IsAmong P.definitions d × Stands P d.root p n
+
+-- a definition calls the name, at this offset
+abbrev pub CallsAt : Grammar → ℕ → ℕ → Type 0
+CallsAt P name at = (n : ℕ) × IsWithin P n × IsCall P n name at
+
+-- the name is called or started at this offset
+abbrev pub IsUse : Grammar → ℕ → ℕ → Type 0
+IsUse P name at = CallsAt P name at ⊎ StartsAt P.stages name at
+
+-- at this offset a name is used that has no definition
+abbrev pub IsUnknown : Grammar → ℕ → Type 0
+IsUnknown P at = (name : ℕ) × IsUse P name at × (IsDefined P.definitions name → ⊥)
 
 -- the definition of a name calls another, in any position
 abbrev pub Calls : Grammar → ℕ → ℕ → Type 0

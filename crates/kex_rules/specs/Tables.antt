@@ -1,9 +1,9 @@
 -- The roots of names in a table, and the lowest of offsets.
 use Rattle.std.specs.Prelude.{◌≡◌, ℕ, ◌==◌, if◌then◌else◌, List, Option, Some, None, find, get_or, length, nat_lt}
 use Rattle.std.specs.Option.{option_map}
-use Rattle.kex_model.specs.declared.program.Node.{Node}
 use Rattle.kex_model.specs.declared.program.Definition.{Definition}
 use Rattle.kex_model.specs.declared.program.Start.{Start}
+use Rattle.kex_model.specs.Programs.{Grammar}
 use Rattle.kex_rules.specs.Rules.{CallsAt, IsDefined, IsLowest, Nowhere, StartsAt}
 
 -- the root of the first definition of a name
@@ -25,9 +25,9 @@ abbrev pub lower : Option ℕ → ℕ → ℕ
 lower None at = at
 lower (Some found) at = if nat_lt found at then found else at
 
--- one of the nodes calls a name that has no definition, at this offset
-abbrev pub CallsUnknown : List Definition → List Node → ℕ → Type 0
-CallsUnknown definitions nodes at = (name : ℕ) × CallsAt nodes name at × (IsDefined definitions name → ⊥)
+-- a definition calls a name that has no definition, at this offset
+abbrev pub CallsUnknown : Grammar → ℕ → Type 0
+CallsUnknown P at = (name : ℕ) × CallsAt P name at × (IsDefined P.definitions name → ⊥)
 
 -- one of the stages is started by such a name, at this offset
 abbrev pub StartsUnknown : List Definition → List Start → ℕ → Type 0

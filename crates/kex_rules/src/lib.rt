@@ -14,6 +14,7 @@ pub mod refusal;
 mod tail;
 #[cfg(test)]
 mod tests;
+mod within;
 
 use crate::components::components;
 use crate::names::{lowest_unknown, roots_of};
@@ -52,8 +53,7 @@ impl<'a> Ruled<'a> {
 
 /// Asks the rules, one after another.
 ///
-/// K07: no name is defined twice. K08: each name that is called or started has a definition; all nodes count, also those
-/// that no definition reaches. K09: there is a stage. K10: where a definition calls a name that reaches it by calls of any
+/// K07: no name is defined twice. K08: each name that a definition calls, or that starts a stage, has a definition. K09: there is a stage. K10: where a definition calls a name that reaches it by calls of any
 /// position, the call stands in tail position. In time linear in the program.
 pub fn check<'a>(alloc: Global, program: &'a Program) -> Result<Ruled<'a>, RuleRefusal>
     ensures same { IfOk result (λ r. r ≡ program.now) }
@@ -63,7 +63,7 @@ pub fn check<'a>(alloc: Global, program: &'a Program) -> Result<Ruled<'a>, RuleR
     // The call tells that the numbers of the program are in range.
     let _ = program.registers();
     let roots = roots_of(alloc, program)?;
-    if let Some(at) = lowest_unknown(program, &roots) {
+    if let Some(at) = lowest_unknown(alloc, program, &roots)? {
         return Err(RuleRefusal::Unknown(at));
     }
     if program.stages().is_empty() {

@@ -4,8 +4,11 @@ ghost use Rattle.std.specs.Prelude.{◌≡◌, ◌↔◌, Some, None, IfOk, OnOk
 ghost use Rattle.kex_model.specs.Programs.{IsGrammar};
 ghost use Rattle.kex_rules.specs.Rules.{IsCause, IsTwice, IsUnknown, Nowhere};
 ghost use Rattle.kex_rules.specs.Tables.{CallsUnknown, HasRoots, IsLeast, first_root, lower};
+ghost use Rattle.kex_rules.specs.Within.{HasWithin};
 
 use crate::refusal::RuleRefusal;
+use crate::within::nodes_within;
+use kex_code::memory::Memory;
 use kex_model::program::{Kind, Program};
 use std::alloc::Global;
 
@@ -52,17 +55,18 @@ fn is_unknown(program: &Program, roots: &[Option<u32>], name: u32) -> bool
     }
 }
 
-// The lowest offset of a call whose name has no definition.
-fn unknown_call(program: &Program, roots: &[Option<u32>]) -> Option<u32>
-    requires { HasRoots program.now.definitions (length program.now.names) roots.now }
-    ensures { IsLeast (CallsUnknown program.now.definitions program.now.nodes) result }
+// The lowest offset of a call in a definition whose name has none.
+fn unknown_call(program: &Program, roots: &[Option<u32>], within: &[bool]) -> Option<u32>
+    requires roots { HasRoots program.now.definitions (length program.now.names) roots.now }
+    requires within { HasWithin program.now 0 within.now }
+    ensures { IsLeast (CallsUnknown program.now) result }
 {
-    let mut found = None;
     let nodes = program.nodes();
-    for node in nodes {
-        if let Kind::Call(name) = &node.kind {
-            if is_unknown(program, roots, *name) {
-                found = lowest(found, node.at);
+    let mut found = None;
+    for n in 0..nodes.len() {
+        if let Kind::Call(name) = nodes[n].kind {
+            if within[n] && is_unknown(program, roots, name) {
+                found = lowest(found, nodes[n].at);
             }
         }
     }
@@ -72,7 +76,7 @@ fn unknown_call(program: &Program, roots: &[Option<u32>]) -> Option<u32>
 // The lowest offset of a call or a start whose name has no definition, with what was found of the calls.
 fn unknown_start(program: &Program, roots: &[Option<u32>], calls: Option<u32>) -> Option<u32>
     requires roots { HasRoots program.now.definitions (length program.now.names) roots.now }
-    requires calls { IsLeast (CallsUnknown program.now.definitions program.now.nodes) calls }
+    requires calls { IsLeast (CallsUnknown program.now) calls }
     ensures { IsLeast (IsUnknown program.now) result }
 {
     let mut found = calls;
@@ -86,10 +90,16 @@ fn unknown_start(program: &Program, roots: &[Option<u32>], calls: Option<u32>) -
 }
 
 // The lowest offset of a call or a start whose name has no definition.
-pub(crate) fn lowest_unknown(program: &Program, roots: &[Option<u32>]) -> Option<u32>
-    requires { HasRoots program.now.definitions (length program.now.names) roots.now }
-    ensures { IsLeast (IsUnknown program.now) result }
+pub(crate) fn lowest_unknown(
+    alloc: Global,
+    program: &Program,
+    roots: &[Option<u32>],
+) -> Result<Option<u32>, Memory>
+    requires grammar { IsGrammar program.now }
+    requires roots { HasRoots program.now.definitions (length program.now.names) roots.now }
+    ensures { IfOk result (λ found. IsLeast (IsUnknown program.now) found) }
 {
-    let calls = unknown_call(program, roots);
-    unknown_start(program, roots, calls)
+    let within = nodes_within(alloc, program)?;
+    let calls = unknown_call(program, roots, &within);
+    Ok(unknown_start(program, roots, calls))
 }

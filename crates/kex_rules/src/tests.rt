@@ -188,7 +188,7 @@ fn cycle(alloc: Global, count: u32, calls: Calls) -> Result<Program, Memory>
 
 #[test]
 fn programs_and_refusals(rt: HostRuntime) -> Result<(), Fail> {
-    let cases: [(&str, u32, u32, &[Row], &[(u32, u32)], Option<RuleRefusal>); 12] = [
+    let cases: [(&str, u32, u32, &[Row], &[(u32, u32)], Option<RuleRefusal>); 13] = [
         (
             "main := 1 main := 1",
             MAIN,
@@ -221,6 +221,8 @@ fn programs_and_refusals(rt: HostRuntime) -> Result<(), Fail> {
             &[(FOO, 7)],
             Some(Unknown(7)),
         ),
+        // the call of foo stands in no definition
+        ("main := 1", FOO, 90, &[(MAIN, 0, 0)], &[(MAIN, 0)], None),
         ("foo := 1", FOO, 0, &[(FOO, 0, 0)], &[], Some(NoStart)),
         (
             "main := main /a/ | 1",

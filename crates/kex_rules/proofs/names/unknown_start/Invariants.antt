@@ -4,4 +4,4 @@ use Rattle.kex_rules.proofs.Naming.{UsesUnknown}
 use Rattle.kex_rules.proofs.names.unknown_start.Given as goal
 
 abbrev pub invariant-loop-start : goal.invariant-loop-start
-invariant-loop-start l = IsLeast (UsesUnknown l.program.definitions l.program.nodes (take l.start-index l.stages)) l.found
+invariant-loop-start l = IsLeast (UsesUnknown l.program (take l.start-index l.stages)) l.found
