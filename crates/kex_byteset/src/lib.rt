@@ -1,37 +1,42 @@
 //! Sets of bytes.
 //!
-//! Stands on nothing. A set is seen as 256 flags, one a byte; each call's contract says which bytes its answer has.
+//! Stands on nothing. A set is kept as four words, one bit a byte, and seen as 256 flags; each call's contract says which bytes its answer has.
 #![tactic(auto)]
 
 ghost use Rattle.std.specs.Prelude.{◌≡◌, ◌≤◌, ◌==◌, ◌&&◌, ◌||◌, Bool, List, get_or, set, replicate, false, true, not, nat_le, count_by};
 ghost use Rattle.std.specs.List.{list_any};
 ghost use Rattle.kex_byteset.specs.Sets.{HasExactly, has};
 
+#[cfg(test)]
+mod tests;
+
 use std::marker::Model;
 
-/// A set of bytes.
+/// A set of bytes: byte b is in it where bit b % 64 of word b / 64 is set.
 #[derive(Drop)]
 pub struct ByteSet {
-    flags: [bool; 256],
+    words: [u64; 4],
 }
 
 impl Model for ByteSet {
-    ghost use Rattle.std.specs.Prelude.{Bool, List};
+    ghost use Rattle.std.specs.Prelude.{◌≡◌, Bool, List, length};
+    ghost use Rattle.kex_byteset.specs.Words.{flags, AreWords};
 
     ghost Value = { List Bool };
 
-    ghost view = { λ s. s.flags };
+    ghost view = { λ s. flags s.words };
+
+    // A caller sees 256 flags, whatever made the set.
+    ghost invariant = { λ s. (length (flags s.words) ≡ 256) × AreWords s.words };
 }
 
 impl ByteSet {
     /// The set that has no byte.
-    #[tactic(auto, using(crate::proofs::Flags::none_set))]
+    #[tactic(auto, using(crate::proofs::Words::none_words))]
     pub fn empty() -> ByteSet
         ensures { HasExactly result (λ _. false) }
     {
-        ByteSet {
-            flags: [false; 256],
-        }
+        ByteSet { words: [0; 4] }
     }
 
     /// The set that has one byte.
@@ -39,9 +44,9 @@ impl ByteSet {
         ensures flags { result ≡ set (replicate 256 false) byte true }
         ensures bytes { HasExactly result (λ b. b == byte) }
     {
-        let mut flags = [false; 256];
-        flags[byte as usize] = true;
-        ByteSet { flags }
+        let mut one = ByteSet::empty();
+        one.insert(byte);
+        one
     }
 
     /// The set of the bytes from `lo` to `hi`, both included.
@@ -49,74 +54,67 @@ impl ByteSet {
         requires { lo ≤ hi }
         ensures { HasExactly result (λ b. nat_le lo b && nat_le b hi) }
     {
-        let mut flags = [false; 256];
-        for byte in lo as usize..hi as usize + 1 {
-            flags[byte] = true;
+        let mut set = ByteSet::empty();
+        for byte in lo..=hi {
+            set.insert(byte);
         }
-        ByteSet { flags }
+        set
     }
 
     /// The same set again.
     pub fn copy(&self) -> ByteSet
         ensures { result ≡ self.now }
     {
-        ByteSet { flags: self.flags }
+        ByteSet { words: self.words }
     }
 
     /// Puts a byte into the set.
     pub fn insert(&mut self, byte: u8)
         ensures { HasExactly self.new (λ b. has self.old b || b == byte) }
     {
-        self.flags[usize::from(byte)] = true;
+        self.words[usize::from(byte / 64)] |= 1 << (byte % 64);
     }
 
     /// The bytes that are in one of the two sets, or in both.
     pub fn union(&self, other: &ByteSet) -> ByteSet
         ensures { HasExactly result (λ b. has self.now b || has other.now b) }
     {
-        let mut flags = self.flags;
-        for byte in 0..256 {
-            if other.flags[byte] {
-                flags[byte] = true;
-            }
+        let [a, b, c, d] = self.words;
+        let [e, f, g, h] = other.words;
+        ByteSet {
+            words: [a | e, b | f, c | g, d | h],
         }
-        ByteSet { flags }
     }
 
     /// The bytes that are not in the set.
     pub fn complement(&self) -> ByteSet
         ensures { HasExactly result (λ b. not (has self.now b)) }
     {
-        let mut flags = self.flags;
-        for byte in 0..256 {
-            flags[byte] = !flags[byte];
+        let [a, b, c, d] = self.words;
+        ByteSet {
+            words: [!a, !b, !c, !d],
         }
-        ByteSet { flags }
     }
 
     /// Whether some byte is in the set.
     pub fn has_any(&self) -> bool
         ensures { result ≡ list_any (λ b. b) self.now }
     {
-        for flag in &self.flags {
-            if *flag {
-                return true;
-            }
-        }
-        false
+        self.words.iter().any(|word| *word != 0)
     }
 
     /// Whether a byte is in the set.
     pub fn has(&self, byte: u8) -> bool
         ensures { result ≡ has self.now byte }
     {
-        self.flags[byte as usize]
+        self.words[usize::from(byte / 64)] >> (byte % 64) & 1 == 1
     }
 
     /// How many bytes are in the set.
     pub fn len(&self) -> u64
         ensures { result ≡ count_by (λ b. b) self.now }
     {
-        self.flags.iter().filter(|flag| **flag).count() as u64
+        let [a, b, c, d] = self.words;
+        u64::from(a.count_ones() + b.count_ones() + c.count_ones() + d.count_ones())
     }
 }

@@ -3,4 +3,4 @@ use Rattle.kex_byteset.proofs.Flags.{between}
 use Rattle.kex_byteset.proofs.ByteSet.range.Given as goal
 
 abbrev pub invariant-loop-byte : goal.invariant-loop-byte
-invariant-loop-byte l = HasExactly l.flags (between l.lo l.byte)
+invariant-loop-byte l = HasExactly l.set (between l.lo l.byte)
