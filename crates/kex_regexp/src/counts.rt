@@ -36,81 +36,67 @@ fn with_digit(value: u32, digit: u8) -> u32
     (10 * value.min(1001) + (digit - b'0') as u32).min(1001)
 }
 
+// A digit more.
+#[tactic(auto, unfolding(crate::specs::Held::held_count, crate::specs::Grammar::is_digit))]
+fn at_digit(count: Count, digit: u8) -> CountOutcome
+    requires { (48 ≤ digit) × (digit ≤ 57) }
+    ensures { result ≡ held_count count digit }
+{
+    CountOutcome::On(match count {
+        Count::Opened => Count::Low(with_digit(0, digit)),
+        Count::Low(low) => Count::Low(with_digit(low, digit)),
+        Count::LowComma(low) => Count::LowHigh {
+            low,
+            high: with_digit(0, digit),
+        },
+        Count::LowHigh { low, high } => Count::LowHigh {
+            low,
+            high: with_digit(high, digit),
+        },
+        Count::OnlyComma => Count::High(with_digit(0, digit)),
+        Count::High(high) => Count::High(with_digit(high, digit)),
+    })
+}
+
+// A comma.
+#[tactic(auto, unfolding(crate::specs::Held::held_count, crate::specs::Grammar::is_digit))]
+fn at_comma(count: Count) -> CountOutcome
+    ensures { result ≡ held_count count 44 }
+{
+    match count {
+        Count::Opened => CountOutcome::On(Count::OnlyComma),
+        Count::Low(low) => CountOutcome::On(Count::LowComma(low)),
+        _ => CountOutcome::Wrong,
+    }
+}
+
+// The closing brace.
+#[tactic(auto, unfolding(crate::specs::Held::held_count, crate::specs::Grammar::is_digit))]
+fn at_brace(count: Count) -> CountOutcome
+    ensures { result ≡ held_count count 125 }
+{
+    let (low, high) = match count {
+        Count::Opened | Count::OnlyComma => return CountOutcome::Wrong,
+        Count::Low(low) => (low, Some(low)),
+        Count::LowComma(low) => (low, None),
+        Count::LowHigh { low, high } => (low, Some(high)),
+        Count::High(high) => (0, Some(high)),
+    };
+    CountOutcome::Read { low, high }
+}
+
 /// One more byte of a count.
 #[tactic(auto, unfolding(crate::specs::Held::held_count))]
 pub fn in_count(count: Count, byte: u8) -> CountOutcome
     ensures { result ≡ held_count count byte }
 {
-    match count {
-        Count::Opened => {
-            if is_digit(byte) {
-                CountOutcome::On(Count::Low(with_digit(0, byte)))
-            } else if byte == b',' {
-                CountOutcome::On(Count::OnlyComma)
-            } else {
-                CountOutcome::Wrong
-            }
-        }
-        Count::Low(low) => {
-            if is_digit(byte) {
-                CountOutcome::On(Count::Low(with_digit(low, byte)))
-            } else if byte == b',' {
-                CountOutcome::On(Count::LowComma(low))
-            } else if byte == b'}' {
-                CountOutcome::Read {
-                    low,
-                    high: Some(low),
-                }
-            } else {
-                CountOutcome::Wrong
-            }
-        }
-        Count::LowComma(low) => {
-            if is_digit(byte) {
-                CountOutcome::On(Count::LowHigh {
-                    low,
-                    high: with_digit(0, byte),
-                })
-            } else if byte == b'}' {
-                CountOutcome::Read { low, high: None }
-            } else {
-                CountOutcome::Wrong
-            }
-        }
-        Count::LowHigh { low, high } => {
-            if is_digit(byte) {
-                CountOutcome::On(Count::LowHigh {
-                    low,
-                    high: with_digit(high, byte),
-                })
-            } else if byte == b'}' {
-                CountOutcome::Read {
-                    low,
-                    high: Some(high),
-                }
-            } else {
-                CountOutcome::Wrong
-            }
-        }
-        Count::OnlyComma => {
-            if is_digit(byte) {
-                CountOutcome::On(Count::High(with_digit(0, byte)))
-            } else {
-                CountOutcome::Wrong
-            }
-        }
-        Count::High(high) => {
-            if is_digit(byte) {
-                CountOutcome::On(Count::High(with_digit(high, byte)))
-            } else if byte == b'}' {
-                CountOutcome::Read {
-                    low: 0,
-                    high: Some(high),
-                }
-            } else {
-                CountOutcome::Wrong
-            }
-        }
+    if is_digit(byte) {
+        return at_digit(count, byte);
+    }
+    match byte {
+        b',' => at_comma(count),
+        b'}' => at_brace(count),
+        _ => CountOutcome::Wrong,
     }
 }
 

@@ -7,6 +7,7 @@ ghost use Rattle.kex_regexp.specs.Notes.{held_bad_set};
 ghost use Rattle.kex_regexp.specs.Held.{held_begin, held_between, held_ended, held_first, held_last, held_last_span, held_set};
 ghost use Rattle.kex_regexp.specs.Holding.{IsSetAfter, IsSetIn, ShowsMode};
 ghost use Rattle.kex_regexp.specs.Machine.{Entry, Mode, step_in};
+ghost use Rattle.kex_regexp.specs.declared.sets.SetPart.TheVariants.{HasDash, HasEnd};
 ghost use Rattle.kex_regexp.specs.Values.{flipped};
 
 use crate::bytes::is_end;
@@ -124,55 +125,59 @@ fn in_last_end(negated: bool, empty: bool, first: u8, escaped: EscapeOutcome) ->
     }
 }
 
+// A byte behind an end, which may begin a range.
+#[tactic(auto, unfolding(crate::specs::Held::held_set))]
+fn behind_end(negated: bool, empty: bool, end: u8, byte: u8) -> SetOutcome
+    ensures { result ≡ held_set negated empty (HasEnd end) byte }
+{
+    if byte == b'-' {
+        SetOutcome::On {
+            negated,
+            empty,
+            part: SetPart::HasDash(end),
+        }
+    } else {
+        between_members(negated, false, byte)
+    }
+}
+
+// A byte behind the dash of a range.
+#[tactic(auto, unfolding(crate::specs::Held::held_set))]
+fn behind_dash(negated: bool, empty: bool, first: u8, byte: u8) -> SetOutcome
+    ensures { result ≡ held_set negated empty (HasDash first) byte }
+{
+    if is_end(byte) {
+        SetOutcome::On {
+            negated,
+            empty: false,
+            part: SetPart::Between,
+        }
+    } else if byte == b'\\' {
+        let escaping = Escaping::Begun;
+        SetOutcome::On {
+            negated,
+            empty,
+            part: SetPart::InLast { first, escaping },
+        }
+    } else {
+        SetOutcome::Wrong
+    }
+}
+
 /// What a byte makes of a set, where it stands in this part of it.
 #[tactic(auto, unfolding(crate::specs::Held::held_set))]
 pub fn in_set(negated: bool, empty: bool, part: SetPart, byte: u8) -> SetOutcome
     ensures { result ≡ held_set negated empty part byte }
 {
     match part {
-        SetPart::AtStart => {
-            if byte == b'^' {
-                SetOutcome::On {
-                    negated: true,
-                    empty,
-                    part: SetPart::Between,
-                }
-            } else {
-                between_members(negated, empty, byte)
-            }
-        }
-        SetPart::Between => between_members(negated, empty, byte),
-        SetPart::HasEnd(end) => {
-            if byte == b'-' {
-                SetOutcome::On {
-                    negated,
-                    empty,
-                    part: SetPart::HasDash(end),
-                }
-            } else {
-                between_members(negated, false, byte)
-            }
-        }
-        SetPart::HasDash(first) => {
-            if is_end(byte) {
-                SetOutcome::On {
-                    negated,
-                    empty: false,
-                    part: SetPart::Between,
-                }
-            } else if byte == b'\\' {
-                SetOutcome::On {
-                    negated,
-                    empty,
-                    part: SetPart::InLast {
-                        first,
-                        escaping: Escaping::Begun,
-                    },
-                }
-            } else {
-                SetOutcome::Wrong
-            }
-        }
+        SetPart::AtStart if byte == b'^' => SetOutcome::On {
+            negated: true,
+            empty,
+            part: SetPart::Between,
+        },
+        SetPart::AtStart | SetPart::Between => between_members(negated, empty, byte),
+        SetPart::HasEnd(end) => behind_end(negated, empty, end, byte),
+        SetPart::HasDash(first) => behind_dash(negated, empty, first, byte),
         SetPart::InFirst(escaping) => in_first_end(negated, empty, escape(escaping, byte)),
         SetPart::InLast { first, escaping } => in_last_end(
             negated,
