@@ -27,7 +27,6 @@ title_of rule.EmptyLoop = codes "K12 EmptyLoop"
 title_of rule.NoText = codes "K13 NoText"
 title_of rule.OneStage = codes "K14 OneStage"
 title_of rule.TooManyStates = codes "K15 TooManyStates"
-title_of rule.Later = codes "K99 Later"
 
 abbrev pub end_of : Bool → List ℕ
 end_of at_end = if at_end then codes " (end)\n" else codes "\n"

@@ -21,8 +21,6 @@ pub enum Rule {
     NoText,
     OneStage,
     TooManyStates,
-    /// The program needs what isn't built yet. This goes once every program runs.
-    Later,
 }
 
 impl Rule {
@@ -47,7 +45,6 @@ impl Rule {
             Rule::NoText => "K13 NoText",
             Rule::OneStage => "K14 OneStage",
             Rule::TooManyStates => "K15 TooManyStates",
-            Rule::Later => "K99 Later",
         }
     }
 }
