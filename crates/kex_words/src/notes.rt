@@ -14,7 +14,8 @@ const USAGE: &str =
 #[derive(Clone, Copy, Debug, PartialEq, Eq)]
 pub enum Note {
     Nothing,
-    /// No text that begins with the stage's input up to this byte has a parse; or, at the end, the whole input has none.
+    /// The first `at` bytes of the stage's input begin a text that has a parse. Up to byte `at` and with it they begin none; or,
+    /// at the end, they are the whole input, and have no parse.
     Rejected { stage: u32, at: u64, at_end: bool },
     /// The stage's input goes on past its limit, which is this byte.
     TooLong { stage: u32, at: u64 },
