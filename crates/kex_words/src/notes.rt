@@ -2,6 +2,7 @@
 ghost use Rattle.std.specs.Prelude.{◌≡◌};
 ghost use Rattle.kex_words.specs.Gains.{Gains, Tells, change};
 ghost use Rattle.kex_words.specs.Lines.{end_of, line_of, refused_line, rejected_line, too_long_line};
+ghost use Rattle.kex_words.specs.declared.notes.Note.TheVariants.{Nothing};
 
 use crate::parts::{Part, write_parts, write_text};
 use crate::refusals::{Place, Refusal};
@@ -101,8 +102,9 @@ fn refused<N: Sink>(sink: &mut N, refusal: Refusal) -> Result<(), Failed>
 }
 
 fn line<N: Sink>(sink: &mut N, note: Note) -> Result<(), Failed>
-    ensures { Tells (change (N.held sink.old) (N.held sink.new) (N.faults sink.old) (N.faults sink.new))
+    ensures tells { Tells (change (N.held sink.old) (N.held sink.new) (N.faults sink.old) (N.faults sink.new))
         (line_of note) result }
+    ensures left { note ≡ Nothing → sink.new ≡ sink.old }
 {
     match note {
         Note::Nothing => Ok(()),
@@ -117,9 +119,10 @@ fn line<N: Sink>(sink: &mut N, note: Note) -> Result<(), Failed>
     }
 }
 
-/// Writes the note's line, or a front of it where the sink fails.
+/// Writes the note's line, or a front of it where the sink fails. Where the note is `Nothing`, the sink isn't called.
 pub fn tell<N: Sink>(note: Note, sink: &mut N)
-    ensures { Gains (change (N.held sink.old) (N.held sink.new) (N.faults sink.old) (N.faults sink.new)) (line_of note) }
+    ensures tells { Gains (change (N.held sink.old) (N.held sink.new) (N.faults sink.old) (N.faults sink.new)) (line_of note) }
+    ensures left { note ≡ Nothing → sink.new ≡ sink.old }
 {
     let _ = line(sink, note);
 }
