@@ -128,6 +128,7 @@ pub fn kex<R: Threads + Sync, H: Shelf, S: Source, K: Sink, N: Sink, G: Gate + S
         (shelf_change (H.faults shelf.old) (H.faults shelf.new) (H.breaks shelf.old) (H.breaks shelf.new))
         (change (K.held output.old) (K.held output.new) (K.faults output.old) (K.faults output.new))
         → (result ≡ Done) ⊎ (result ≡ Memory) }
+    ensures silent { result ≡ Done → notes.new ≡ notes.old }
     ensures note { Gains (change (N.held notes.old) (N.held notes.new) (N.faults notes.old) (N.faults notes.new)) (line_of (note_of result)) }
 {
     let status = answer(alloc, words, shelf, input, output);
