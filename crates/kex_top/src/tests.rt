@@ -1,4 +1,8 @@
 //! The call over objects in memory.
+mod limits;
+mod refusals;
+mod terms;
+
 use crate::{Rejected, Status, kex};
 use kex_pipe::turn::Why;
 use kex_ports::{MemShelf, MemSink, MemSource, NeverFailsSink, OpenGate};
@@ -8,22 +12,22 @@ use std::test::Fail;
 use std::thread::Threads;
 
 #[derive(Drop)]
-struct Case {
+struct Case<'a> {
     words: &'static [&'static str],
-    program: &'static [u8],
-    input: &'static [u8],
+    program: &'a [u8],
+    input: &'a [u8],
     most_read: usize,
     failing_reads: &'static [u64],
     unread: Option<&'static [u8]>,
     most_written: usize,
     failing_writes: &'static [u64],
-    held: &'static [u8],
+    held: &'a [u8],
     status: Status,
     failing_notes: &'static [u64],
     notes: &'static [u8],
 }
 
-const PLAIN: Case = Case {
+const PLAIN: Case<'static> = Case {
     words: &["kex", "run", "p"],
     program: b"main := /a*/",
     input: b"",
@@ -67,7 +71,7 @@ fn holds_by<R: Threads + Sync>(
     );
     let mut output = MemSink::new(
         alloc,
-        256,
+        case.held.len().max(256),
         case.most_written.max(1),
         case.failing_writes.to_vec(alloc)?,
     )?;
@@ -104,7 +108,7 @@ const PAST_LIMIT: Status = Status::TooLong(Rejected {
     why: Why::Limit,
 });
 
-const BREAKS: Case = Case {
+const BREAKS: Case<'static> = Case {
     program: b"main := /ab*c/",
     input: b"abx",
     held: b"ab",
@@ -274,7 +278,14 @@ fn faults_are_told_by_their_causes(rt: HostRuntime) -> Result<(), Fail> {
     Ok(())
 }
 
-const PAIR: Case = Case {
+// The input whole, byte by byte, and three bytes at a time.
+const WAYS: [[&str; 4]; 3] = [
+    ["kex", "run", "p", "--block=65536"],
+    ["kex", "run", "p", "--block=1"],
+    ["kex", "run", "p", "--block=3"],
+];
+
+const PAIR: Case<'static> = Case {
     program: b"start: a >> b\na := (~/x/ \"yy\")*\nb := (~/yyy/ \"z\")*\n",
     input: b"xxx",
     held: b"zz",
@@ -329,12 +340,7 @@ fn each_stage_reads_what_the_one_before_wrote(rt: HostRuntime) -> Result<(), Fai
             ..PLAIN
         },
     ];
-    let ways = [
-        ["kex", "run", "p", "--block=65536"],
-        ["kex", "run", "p", "--block=1"],
-        ["kex", "run", "p", "--block=3"],
-    ];
-    for way in &ways {
+    for way in &WAYS {
         for case in &cases {
             assert!(&rt; holds_by(&rt, rt.alloc(), way, case)?);
         }
