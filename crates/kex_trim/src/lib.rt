@@ -17,6 +17,9 @@ ghost use Rattle.kex_machine.specs.Nodes.{HasLoop};
 ghost use Rattle.kex_trim.specs.Loops.{IsOrder, entering, count_up};
 ghost use Rattle.kex_model.specs.Moves.{quiet};
 
+#[cfg(test)]
+mod tests;
+
 use kex_machine::{Bit, MNode, Machine, Trimmed};
 use std::alloc::{AllocError, Global};
 use std::marker::Model;
