@@ -11,6 +11,8 @@ pub mod compiled;
 mod firsts;
 pub mod refusal;
 pub mod stages;
+#[cfg(test)]
+mod tests;
 
 use crate::compiled::Compiled;
 use crate::refusal::CompileRefusal;
