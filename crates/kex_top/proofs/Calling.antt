@@ -2,10 +2,9 @@
 use Rattle.std.proofs.lemmas.List.{length-map}
 use Rattle.kex_model.specs.Trees.{root_of}
 use Rattle.kex_pipe.specs.Reports.{report_as}
-use Rattle.std.proofs.Common.{◌≡◌, ◌++◌, ◌≤◌, ◌<◌, ℕ, suc, arith, List, [], ◌∷◌, Bool, true, false, refl, sym, ◌∙◌, subst, ap, inl, inr, ⊎_elim, length}
+use Rattle.std.proofs.Common.{◌≡◌, ◌<◌, ℕ, suc, arith, List, [], ◌∷◌, Bool, false, refl, sym, ◌∙◌, subst, ap, inl, inr, ⊎_elim, length}
 use Rattle.std.specs.Prelude.{◌⊎◌, Option, Some, None}
 use Rattle.kex_ports.specs.Shelf.{IsTold}
-use Rattle.kex_ports.specs.Bytes.{IsPrefix}
 use Rattle.kex_machine.specs.Nodes.{Graph}
 use Rattle.kex_code.specs.Codes.{IsAmong}
 use Rattle.kex_model.specs.Answers.{Pipeline}
@@ -19,8 +18,8 @@ use Rattle.kex_compile.specs.declared.refusal.CompileRefusal.{CompileRefusal}
 use Rattle.kex_words.specs.Gains.{Change, GainsFront, GainsWhole}
 use Rattle.kex_words.specs.Lines.{counts_line}
 use Rattle.kex_top.specs.Answer.{Said}
-use Rattle.kex_top.specs.Pipelines.{NodesSay, Answered, first_limit, stage_plans}
-use Rattle.kex_top.specs.Run.{IsLeft, Left, Ran, EndsAs, WritesAll, WritesBegun, WritesEarlier}
+use Rattle.kex_top.specs.Pipelines.{NodesSay, first_limit, stage_plans}
+use Rattle.kex_top.specs.Run.{IsLeft, Left, Ran, EndsAs, WritesAll}
 use Rattle.kex_top.specs.Kex.{Runs, Answers, Checks, Counted, IsStatusOf, Told}
 use Rattle.kex_pipe.specs.declared.report.Rejected.{Rejected as Report}
 use Rattle.kex_top.specs.declared.status.Status.{Status}

@@ -1,6 +1,6 @@
 -- A good run is done, or wants memory; and what is done is what the program means.
-use Rattle.std.proofs.Common.{◌≡◌, ◌++◌, ◌≤◌, ◌<◌, ℕ, zero, suc, List, [], ◌∷◌, Bool, true, false, refl, sym, ◌∙◌, ap, subst, arith, inl, inr, length, map}
-use Rattle.std.specs.Prelude.{◌⊎◌, Option, Some, None, IsSome}
+use Rattle.std.proofs.Common.{◌≡◌, ◌++◌, ◌≤◌, ◌<◌, ℕ, suc, List, [], ◌∷◌, Bool, true, false, refl, sym, ◌∙◌, ap, subst, arith, inl, inr, length, map}
+use Rattle.std.specs.Prelude.{◌⊎◌, Option, Some, None}
 use Rattle.std.specs.Io.KnownBytes.{Appends, Consumes, IsAtEnd}
 use Rattle.kex_code.specs.Codes.{Begins, IsAmong}
 use Rattle.kex_ports.specs.Shelf.{IsTold, IsPast}
@@ -26,8 +26,8 @@ use Rattle.kex_words.specs.Gains.{Change}
 use Rattle.kex_words.specs.declared.refusals.Refusal.{Refusal}
 use Rattle.kex_top.specs.Answer.{Said}
 use Rattle.kex_top.specs.Pipelines.{Answered, MeansInTurn}
-use Rattle.kex_top.specs.Run.{Ran, WritesAll}
-use Rattle.kex_top.specs.Kex.{Answers, Breaks, Broke, Checks, Headline, IsGood, IsSound, IsQuiet, IsRefusalOf, IsRefusedFor, Runs, ShelfAnswers, ShelfChange, most_text}
+use Rattle.kex_top.specs.Run.{WritesAll}
+use Rattle.kex_top.specs.Kex.{Answers, Broke, Checks, Headline, IsGood, IsSound, IsQuiet, IsRefusalOf, IsRefusedFor, Runs, ShelfAnswers, ShelfChange, most_text}
 use Rattle.kex_pipe.specs.declared.report.Rejected.{Rejected as Report}
 use Rattle.kex_top.specs.declared.status.Status.{Status}
 use Rattle.kex_top.specs.declared.status.Status.TheVariants.{Done, Rejected, Usage, Refused, ReadFault, WriteFault, ShelfFault, Memory, TooLong}

@@ -1,9 +1,9 @@
 -- From one piece to the whole run.
-use Rattle.std.proofs.Common.{◌≡◌, ◌++◌, ◌<◌, ◌≤◌, ℕ, List, [], Bool, true, false, refl, sym, ◌∙◌, subst, ap, arith, append_assoc, length, inl, inr}
+use Rattle.std.proofs.Common.{◌≡◌, ◌++◌, ◌≤◌, ℕ, List, [], Bool, true, false, refl, sym, ◌∙◌, subst, ap, arith, append_assoc, length, inr}
 use Rattle.std.specs.Prelude.{Option, Some, None, IsSome, Err}
 use Rattle.std.specs.Io.KnownBytes.{Appends, Consumes, IsAtEnd, Keeps}
 use Rattle.kex_ports.specs.Causes.{Rose}
-use Rattle.kex_ports.specs.Bytes.{AppendsFront, IsPrefix}
+use Rattle.kex_ports.specs.Bytes.{IsPrefix}
 use Rattle.kex_ports.proofs.Known.{append-nil, appends-then, appends-same, appends-kept, prefix-whole}
 use Rattle.kex_top.specs.Answer.{Said}
 use Rattle.kex_top.specs.History.{History, Fed, text_of, Writes, WritesFront, WritesUpTo}

@@ -1,5 +1,5 @@
 -- Turns in the order of the pipeline, each of all that waits, leave nothing.
-use Rattle.std.proofs.Common.{◌≡◌, ℕ, zero, suc, ◌+◌, ◌<◌, ◌≤◌, Bool, true, false, List, [], ◌∷◌, ◌++◌, length, map, take, drop, refl, sym, ap, ap₂, subst, ◌∙◌, arith, length-append, length-drop, add-one, append-nil}
+use Rattle.std.proofs.Common.{◌≡◌, ℕ, zero, suc, ◌<◌, ◌≤◌, Bool, true, false, List, [], ◌∷◌, ◌++◌, length, map, drop, refl, sym, ap, subst, ◌∙◌, arith, length-append, length-drop}
 use Rattle.std.proofs.lemmas.List.{drop_all, length-map}
 use Rattle.kex_model.specs.Answers.{Answer}
 use Rattle.kex_model.specs.Schedules.{Item, byte, bytes_in, has_end, ending, Seat, more_taken, Event, turn, Wrote, Turned, Settled}

@@ -1,6 +1,6 @@
 -- A pipe is a worker.
 use Rattle.std.proofs.Common.{◌≡◌, ℕ, ◌<◌, Bool, true, false, List, [], ◌∷◌, ◌++◌, ◌||◌, Option, Some, None, length, map, get_or, zero, suc, arith, refl, sym, ap, ap₂, subst, ◌∙◌, append-nil}
-use Rattle.kex_model.specs.Answers.{Answer, Report, Pipeline}
+use Rattle.kex_model.specs.Answers.{Answer, Pipeline}
 use Rattle.kex_model.specs.Schedules.{Item, Seat, has_end, Event, give, give_end, Settled}
 use Rattle.kex_pipe.specs.Events.{bytes_given, end_given}
 use Rattle.kex_pipe.specs.Reports.{report_as}

@@ -1,5 +1,5 @@
 -- What a pipe stands for, as a worker.
-use Rattle.std.specs.Prelude.{◌≡◌, ◌<◌, [], ℕ, List, None, Option, Some, length, map}
+use Rattle.std.specs.Prelude.{◌≡◌, ◌<◌, [], ℕ, List, None, Some, length, map}
 use Rattle.kex_model.specs.Schedules.{Event, Settled}
 use Rattle.kex_pipe.specs.Events.{bytes_given, end_given}
 use Rattle.kex_pipe.specs.Standing.{Stands}

@@ -3,7 +3,7 @@ use Rattle.std.specs.Prelude.{◌≡◌, ◌++◌, ◌<◌, ◌≤◌, ◌⊎◌
 use Rattle.std.specs.Io.KnownBytes.{Appends, Consumes, IsAtEnd}
 use Rattle.kex_ports.specs.Bytes.{IsPrefix}
 use Rattle.kex_ports.specs.Causes.{Rose}
-use Rattle.kex_words.specs.Gains.{Change, change, HasFailed}
+use Rattle.kex_words.specs.Gains.{Change, HasFailed}
 use Rattle.kex_top.specs.Answer.{Said}
 use Rattle.kex_pipe.specs.declared.report.Rejected.{Rejected as Report}
 use Rattle.kex_pipe.specs.declared.turn.Why.{Why}

@@ -1,6 +1,6 @@
-use Rattle.std.proofs.Common.{◌≡◌, ◌+◌, ◌<◌, ◌≤◌, ◌∷◌, [], ◌++◌, suc, length, add-one, subst, ◌∙◌, arith}
+use Rattle.std.proofs.Common.{◌≡◌, ◌+◌, ◌<◌, ◌≤◌, ◌∷◌, [], ◌++◌, suc, length, subst, ◌∙◌, arith}
 use Rattle.kex_model.specs.Schedules.{turn}
-use Rattle.kex_pipe.specs.Standing.{Stands, stage_count}
+use Rattle.kex_pipe.specs.Standing.{Stands}
 use Rattle.kex_top.proofs.Turning.{Turning, all_items, one-more, all-turned}
 use Rattle.kex_top.proofs.pipeline.work_off.Goals as goal
 

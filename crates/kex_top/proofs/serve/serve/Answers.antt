@@ -1,5 +1,4 @@
-use Rattle.std.proofs.Common.{◌≡◌, ◌<◌, ℕ, List, length, subst, sym, ap, inr, ◌∙◌}
-use Rattle.kex_machine.specs.Nodes.{Graph}
+use Rattle.std.proofs.Common.{List, subst, ap, inr, ◌∙◌}
 use Rattle.kex_words.specs.Gains.{change}
 use Rattle.kex_stage.specs.Stages.{StagePlan}
 use Rattle.kex_top.specs.Pipelines.{NodesSay, first_limit, stage_plans}

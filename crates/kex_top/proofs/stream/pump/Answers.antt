@@ -1,4 +1,4 @@
-use Rattle.std.proofs.Common.{rules, arith, ◌≡◌, ◌++◌, ◌<◌, List, ℕ, Bool, [], true, false, refl, take, length, ◌∙◌, ap, sym, subst}
+use Rattle.std.proofs.Common.{rules, arith, ◌≡◌, ◌++◌, ◌<◌, [], true, false, refl, take, length, subst}
 use Rattle.std.proofs.lemmas.Grind.{common_steps}
 use Rattle.std.specs.Prelude.{Some, None}
 use Rattle.kex_ports.proofs.Known.{consumes-then, consumes-last, consumes-nothing, appends-nothing, append-nil}

@@ -1,6 +1,6 @@
 use Rattle.std.proofs.Common.{rules, ◌≡◌, ℕ, length, true, subst}
 use Rattle.kex_words.specs.Gains.{change}
-use Rattle.kex_top.specs.Run.{Pumped, Ran, is_whole}
+use Rattle.kex_top.specs.Run.{Pumped, is_whole}
 use Rattle.kex_top.proofs.Running.{closed, close-fails}
 use Rattle.kex_top.proofs.stream.run.Goals as goal
 

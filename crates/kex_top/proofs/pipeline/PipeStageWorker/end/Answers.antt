@@ -1,4 +1,4 @@
-use Rattle.std.proofs.Common.{◌≡◌, ◌∷◌, [], ◌++◌, true, refl, ◌∙◌}
+use Rattle.std.proofs.Common.{◌∷◌, [], ◌++◌, true, refl, ◌∙◌}
 use Rattle.kex_model.specs.Schedules.{give_end}
 use Rattle.kex_stage.specs.contracts.stage.StageTurn.TheImpl.{ghosts}
 use Rattle.kex_top.specs.History.{bytes_of, text_of}
