@@ -1,4 +1,4 @@
-use Rattle.std.proofs.Common.{◌≡◌, ℕ, List, subst, ◌∙◌}
+use Rattle.std.proofs.Common.{ℕ, List, subst, ◌∙◌}
 use Rattle.kex_model.specs.Programs.{Grammar}
 use Rattle.kex_reader.specs.Spelling.{Spells, IsRefusedAs}
 use Rattle.kex_reader.specs.declared.refusal.ReadRefusal.{ReadRefusal}
@@ -7,7 +7,7 @@ use Rattle.kex_rules.specs.Rules.{IsRuled, IsCause}
 use Rattle.kex_rules.specs.declared.refusal.RuleRefusal.{RuleRefusal}
 use Rattle.kex_rules.specs.declared.refusal.RuleRefusal.TheVariants as rule
 use Rattle.kex_stages.proofs.Refusing.{if_err}
-use Rattle.kex_compile.specs.Compiled.{IsCompiled, IsRefused, of_plan, of_read, of_rule}
+use Rattle.kex_compile.specs.Compiled.{IsRefused, of_plan, of_read, of_rule}
 use Rattle.kex_compile.specs.Stages.{ArePlans, IsUnplanned, roots_of}
 use Rattle.kex_compile.specs.declared.refusal.PlanRefusal.{PlanRefusal}
 use Rattle.kex_compile.specs.declared.refusal.PlanRefusal.TheVariants as plan
