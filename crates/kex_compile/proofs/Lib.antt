@@ -4,3 +4,4 @@ pub mod Spacing
 pub mod Bodies
 pub mod Terms
 pub mod Alike
+pub mod Carrying
