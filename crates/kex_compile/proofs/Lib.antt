@@ -5,3 +5,5 @@ pub mod Bodies
 pub mod Terms
 pub mod Alike
 pub mod Carrying
+pub mod Placing
+pub mod Staging

@@ -1,0 +1,98 @@
+-- The stages of two alike programs: each is refused for what its partner is refused for, and the first one that is has the same number.
+use Rattle.std.proofs.Common.{◌≡◌, ℕ, suc, List, [], ◌∷◌, ◌++◌, ◌⊎◌, inl, inr, length, map, refl, sym, ap, ◌∙◌, subst}
+use Rattle.kex_code.specs.Codes.{IsAmong}
+use Rattle.kex_model.specs.Programs.{Grammar}
+use Rattle.kex_model.specs.declared.program.Start.{Start}
+use Rattle.kex_model.specs.Trees.{root_of}
+use Rattle.kex_rules.specs.Rules.{IsDefined, IsUse}
+use Rattle.kex_stages.specs.declared.refusal.StageRefusal.{StageRefusal}
+use Rattle.kex_stages.specs.declared.refusal.StageRefusal.TheVariants.{TooManyPlaces, EmptyLoop, NoText, Memory}
+use Rattle.kex_compile.specs.Stages.{IsFirst, IsRefusedFor, NoneIs, most_places, roots_of}
+use Rattle.kex_compile.proofs.Terms.{SameName}
+use Rattle.kex_compile.proofs.Alike.{Alike, SameStages, name_back}
+use Rattle.kex_compile.proofs.Placing.{Partners, end_ahead, loop_on, more_on, root_on}
+
+-- ---- lists in pairs
+
+Pairwise : (ℕ → ℕ → Type 0) → List ℕ → List ℕ → Type 0
+Pairwise T [] [] = Unit {0}
+Pairwise T (x ∷ xs) (y ∷ ys) = T x y × Pairwise T xs ys
+Pairwise T _ _ = ⊥
+
+pair_on : (T : ℕ → ℕ → Type 0) (xs ys : List ℕ) → Pairwise T xs ys → (x : ℕ) → IsAmong xs x → (y : ℕ) × IsAmong ys y × T x y
+unfolding Pairwise
+pair_on T [] [] h x i = absurd i
+pair_on T [] (y ∷ ys) h x i = absurd h
+pair_on T (z ∷ xs) [] h x i = absurd h
+pair_on T (z ∷ xs) (y ∷ ys) h x (inl e) = (y, inl refl, subst (λ u. T u y) e h.0)
+pair_on T (z ∷ xs) (y ∷ ys) h x (inr i) = let r = pair_on T xs ys h.1 x i in (r.0, inr r.1, r.2)
+
+-- the first of the list that is so has this number
+FirstAt : (ℕ → Type 0) → List ℕ → ℕ → Type 0
+FirstAt Q [] n = ⊥
+FirstAt Q (x ∷ xs) n = (Q x × (n ≡ 1)) ⊎ ((Q x → ⊥) × (m : ℕ) × (n ≡ suc m) × FirstAt Q xs m)
+
+first_at : (Q : ℕ → Type 0) (before : List ℕ) (x : ℕ) (behind : List ℕ) → Q x → NoneIs Q before → FirstAt Q (before ++ x ∷ behind) (suc (length before))
+unfolding FirstAt
+first_at Q [] x behind q none = inl (q, refl)
+first_at Q (y ∷ before) x behind q none = inr (none y (inl refl), suc (length before), refl, first_at Q before x behind q (λ z i. none z (inr i)))
+
+first_of : (Q : ℕ → Type 0) (xs : List ℕ) (n : ℕ) → IsFirst Q xs n → FirstAt Q xs n
+first_of Q xs n h = subst (λ z. FirstAt Q z n) (sym h.split) (subst (λ z. FirstAt Q (h.before ++ h.at ∷ h.behind) z) (sym h.number_is) (first_at Q h.before h.at h.behind h.is_so h.none_before))
+
+same_first : (T : ℕ → ℕ → Type 0) (A B : ℕ → Type 0) → ((x y : ℕ) → T x y → A x → B y) → ((x y : ℕ) → T x y → B y → A x) → (xs ys : List ℕ) (n m : ℕ) → Pairwise T xs ys → FirstAt A xs n → FirstAt B ys m → n ≡ m
+unfolding Pairwise FirstAt
+same_first T A B f g [] ys n m p h k = absurd h
+same_first T A B f g (x ∷ xs) [] n m p h k = absurd k
+same_first T A B f g (x ∷ xs) (y ∷ ys) n m p (inl h) (inl k) = h.1 ∙ sym k.1
+same_first T A B f g (x ∷ xs) (y ∷ ys) n m p (inl h) (inr k) = absurd (k.0 (f x y p.0 h.0))
+same_first T A B f g (x ∷ xs) (y ∷ ys) n m p (inr h) (inl k) = absurd (h.0 (g x y p.0 k.0))
+same_first T A B f g (x ∷ xs) (y ∷ ys) n m p (inr h) (inr k) = h.2 ∙ ap suc (same_first T A B f g xs ys h.1 k.1 p.1 h.3 k.3) ∙ sym k.2
+
+pub first_among : (Q : ℕ → Type 0) (xs : List ℕ) (n : ℕ) → IsFirst Q xs n → (x : ℕ) × IsAmong xs x × Q x
+first_among Q xs n h = (h.at, subst (λ z. IsAmong z h.at) (sym h.split) (there h.before), h.is_so)
+  where
+    there : (before : List ℕ) → IsAmong (before ++ h.at ∷ h.behind) h.at
+    there [] = inl refl
+    there (y ∷ before) = inr (there before)
+
+-- ---- stages
+
+abbrev pub Known : Grammar → Type 0
+Known P = (name at : ℕ) → IsUse P name at → IsDefined P.definitions name
+
+abbrev root : Grammar → Start → ℕ
+root P s = root_of P s.name
+
+module _ (P Q : Grammar) (a : Alike P Q) (b : Alike Q P) (known : Known P) (known' : Known Q) where
+  -- the roots of a stage
+  abbrev Both : ℕ → ℕ → Type 0
+  Both r r' = Partners P Q a known r r' × Partners Q P b known' r' r
+
+  roots_from : (ss ts : List Start) → SameStages (SameName P.names Q.names) ss ts → ((s : Start) → IsAmong ss s → IsDefined P.definitions s.name) → ((t : Start) → IsAmong ts t → IsDefined Q.definitions t.name) → Pairwise Both (map (root P) ss) (map (root Q) ts)
+  unfolding Pairwise SameStages
+  roots_from [] [] h d e = tt
+  roots_from [] (t ∷ ts) h d e = absurd h
+  roots_from (s ∷ ss) [] h d e = absurd h
+  roots_from (s ∷ ss) (t ∷ ts) h d e = ((root_on P Q a known s.name t.name (h.0, d s (inl refl)), root_on Q P b known' t.name s.name (name_back P.names Q.names s.name t.name h.0, e t (inl refl))), roots_from ss ts h.2 (λ x i. d x (inr i)) (λ x i. e x (inr i)))
+
+  roots : Pairwise Both (roots_of P) (roots_of Q)
+  roots = roots_from P.stages Q.stages a.stages (λ s i. known s.name s.at (inr (s, i, refl, refl))) (λ t i. known' t.name t.at (inr (t, i, refl, refl)))
+
+  why_on : (e : StageRefusal) (r r' : ℕ) → Both r r' → IsRefusedFor P e r → IsRefusedFor Q e r'
+  why_on TooManyPlaces r r' x h = more_on P Q a known r r' x.0 most_places h
+  why_on EmptyLoop r r' x h = ((λ m. h.0 (more_on Q P b known' r' r x.1 most_places m)), loop_on P Q a known r r' x.0 h.1)
+  why_on NoText r r' x h = ((λ m. h.0 (more_on Q P b known' r' r x.1 most_places m)), (λ l. h.1 (loop_on Q P b known' r' r x.1 l)), (λ l. h.2 (end_ahead Q P b known' r' r x.1 l)))
+  why_on Memory r r' x h = tt
+
+  -- a stage that is refused has a partner that is
+  pub refused_on : (e : StageRefusal) (n : ℕ) → IsFirst (IsRefusedFor P e) (roots_of P) n → (r : ℕ) × IsAmong (roots_of Q) r × IsRefusedFor Q e r
+  refused_on e n h =
+      let f = first_among (IsRefusedFor P e) (roots_of P) n h in
+      let p = pair_on Both (roots_of P) (roots_of Q) roots f.0 f.1 in
+      (p.0, p.1, why_on e f.0 p.0 p.2 f.2)
+
+-- the first stage that is refused for something has one number
+pub one_stage : (P Q : Grammar) (a : Alike P Q) (b : Alike Q P) (known : Known P) (known' : Known Q) (e : StageRefusal) (n m : ℕ) → IsFirst (IsRefusedFor P e) (roots_of P) n → IsFirst (IsRefusedFor Q e) (roots_of Q) m → n ≡ m
+one_stage P Q a b known known' e n m h k =
+    same_first (Both P Q a b known known') (IsRefusedFor P e) (IsRefusedFor Q e) (why_on P Q a b known known' e) (λ x y t q. why_on Q P b a known' known e y x (t.1, t.0) q) (roots_of P) (roots_of Q) n m (roots P Q a b known known') (first_of (IsRefusedFor P e) (roots_of P) n h) (first_of (IsRefusedFor Q e) (roots_of Q) m k)
