@@ -7,3 +7,4 @@ pub mod Alike
 pub mod Carrying
 pub mod Placing
 pub mod Staging
+pub mod Refusing

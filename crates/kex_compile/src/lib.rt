@@ -9,6 +9,7 @@ ghost use Rattle.kex_compile.specs.Compiled.{IsCompiled, IsRefused};
 
 pub mod compiled;
 mod firsts;
+pub mod laws;
 pub mod refusal;
 pub mod stages;
 #[cfg(test)]
