@@ -74,30 +74,30 @@ module _ (R N : ℕ → ℕ → Type 0) where
   -- ---- definitions and stages
 
   -- definitions of one name, at one offset, whose roots are paired
-  abbrev Partners : Definition → Definition → Type 0
-  Partners d e = N d.name e.name × (d.at ≡ e.at) × R d.root e.root
+  abbrev SameDefinition : Definition → Definition → Type 0
+  SameDefinition d e = N d.name e.name × (d.at ≡ e.at) × R d.root e.root
 
-  definition_on : (ds es : List Definition) → SameDefinitions R N ds es → (d : Definition) → IsAmong ds d → (e : Definition) × IsAmong es e × Partners d e
+  definition_on : (ds es : List Definition) → SameDefinitions R N ds es → (d : Definition) → IsAmong ds d → (e : Definition) × IsAmong es e × SameDefinition d e
   unfolding SameDefinitions
   definition_on [] [] s d i = absurd i
   definition_on [] (y ∷ es) s d i = absurd s
   definition_on (x ∷ ds) [] s d i = absurd s
-  definition_on (x ∷ ds) (y ∷ es) s d (inl q) = (y, inl refl, subst (λ (z : Definition). Partners z y) q (s.0, s.1, s.2))
+  definition_on (x ∷ ds) (y ∷ es) s d (inl q) = (y, inl refl, subst (λ (z : Definition). SameDefinition z y) q (s.0, s.1, s.2))
   definition_on (x ∷ ds) (y ∷ es) s d (inr i) = let r = definition_on ds es s.3 d i in (r.0, inr r.1, r.2)
 
-  definition_back : (ds es : List Definition) → SameDefinitions R N ds es → (e : Definition) → IsAmong es e → (d : Definition) × IsAmong ds d × Partners d e
+  definition_back : (ds es : List Definition) → SameDefinitions R N ds es → (e : Definition) → IsAmong es e → (d : Definition) × IsAmong ds d × SameDefinition d e
   unfolding SameDefinitions
   definition_back [] [] s e i = absurd i
   definition_back [] (y ∷ es) s e i = absurd s
   definition_back (x ∷ ds) [] s e i = absurd s
-  definition_back (x ∷ ds) (y ∷ es) s e (inl q) = (x, inl refl, subst (λ (z : Definition). Partners x z) q (s.0, s.1, s.2))
+  definition_back (x ∷ ds) (y ∷ es) s e (inl q) = (x, inl refl, subst (λ (z : Definition). SameDefinition x z) q (s.0, s.1, s.2))
   definition_back (x ∷ ds) (y ∷ es) s e (inr i) = let r = definition_back ds es s.3 e i in (r.0, inr r.1, r.2)
 
-  definition_at : (ds es : List Definition) → SameDefinitions R N ds es → (d : Definition) (i : ℕ) → HasNumber ds d i → (e : Definition) × HasNumber es e i × Partners d e
+  definition_at : (ds es : List Definition) → SameDefinitions R N ds es → (d : Definition) (i : ℕ) → HasNumber ds d i → (e : Definition) × HasNumber es e i × SameDefinition d e
   unfolding SameDefinitions
   definition_at [] es s d i h = let lt : i < 0 = slice_get_within [] i d h in absurd (omega (arith, lt))
   definition_at (x ∷ ds) [] s d i h = absurd s
-  definition_at (x ∷ ds) (y ∷ es) s d zero h = (y, refl, subst (λ (z : Definition). Partners z y) (some_same x d h) (s.0, s.1, s.2))
+  definition_at (x ∷ ds) (y ∷ es) s d zero h = (y, refl, subst (λ (z : Definition). SameDefinition z y) (some_same x d h) (s.0, s.1, s.2))
   definition_at (x ∷ ds) (y ∷ es) s d (suc i) h = definition_at ds es s.3 d i h
 
   -- the first definitions of a name and of its partner

@@ -188,11 +188,11 @@ module _ (P Q : Grammar) (a : Alike P Q) (known : (name at : ℕ) → IsUse P na
       places : List Place
       long : length places ≡ length ps
       each : (q : Place) → IsAmong places q → IsPlace Q root' q
-      «from» : (q : Place) → IsAmong places q → (p : Place) × IsAmong ps p × SamePlace Partners p q
+      source : (q : Place) → IsAmong places q → (p : Place) × IsAmong ps p × SamePlace Partners p q
       different : Different ps → Different places
 
     places_on : (ps : List Place) → ((p : Place) → IsAmong ps p → IsPlace P root p) → PartnersOf ps
-    places_on [] all = record { places = []; long = refl; each = λ q i. absurd i; «from» = λ q i. absurd i; different = λ d. tt }
+    places_on [] all = record { places = []; long = refl; each = λ q i. absurd i; source = λ q i. absurd i; different = λ d. tt }
     places_on (p ∷ ps) all =
         let x = place_on (all p (inl refl)) in
         let rest = places_on ps (λ z i. all z (inr i)) in
@@ -200,8 +200,8 @@ module _ (P Q : Grammar) (a : Alike P Q) (known : (name at : ℕ) → IsUse P na
           places = x.0 ∷ rest.places;
           long = ap suc rest.long;
           each = λ q i. ⊎_elim (λ e. subst (λ z. IsPlace Q root' z) e x.2) (λ j. rest.each q j) i;
-          «from» = λ q i. ⊎_elim (λ e. (p, inl refl, subst (λ z. SamePlace Partners p z) e x.1)) (λ j. let f = rest.«from» q j in (f.0, inr f.1, f.2)) i;
-          different = λ d. ((λ i. let f = rest.«from» x.0 i in d.0 (subst (λ z. IsAmong ps z) (place_back Partners one_partner_back f.2 x.1) f.1)), rest.different d.1);
+          source = λ q i. ⊎_elim (λ e. (p, inl refl, subst (λ z. SamePlace Partners p z) e x.1)) (λ j. let f = rest.source q j in (f.0, inr f.1, f.2)) i;
+          different = λ d. ((λ i. let f = rest.source x.0 i in d.0 (subst (λ z. IsAmong ps z) (place_back Partners one_partner_back f.2 x.1) f.1)), rest.different d.1);
         }
 
     pub more_on : (max : ℕ) → HasMore P root max → HasMore Q root' max
