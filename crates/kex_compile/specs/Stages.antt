@@ -7,7 +7,7 @@ use Rattle.kex_model.specs.Places.{moves, start_of, HasEmptyLoop}
 use Rattle.kex_model.specs.Survivors.{LeadsToEnd}
 use Rattle.kex_machine.specs.Nodes.{Graph}
 use Rattle.kex_desugar.specs.Machines.{HasMore}
-use Rattle.kex_stages.specs.Stages.{Carries, HasPlaces, IsWhy}
+use Rattle.kex_stages.specs.Stages.{Carries, HasPlaces, IsKeptOf, IsWhy}
 use Rattle.kex_stages.specs.declared.refusal.StageRefusal.{StageRefusal}
 use Rattle.kex_stages.specs.declared.refusal.StageRefusal.TheVariants as why
 use Rattle.kex_compile.specs.declared.firsts.Firsts.{Firsts}
@@ -27,10 +27,11 @@ pub record CanRun (P : Grammar) (root : ℕ) : Type 0 where
   pub no_loop : HasEmptyLoop P root → ⊥
   pub some_text : LeadsToEnd (moves P) (start_of P root)
 
--- the stage can run, and the machine answers as it does and bears its number
+-- the stage can run, and the machine answers as it does, has its paths to the places that it keeps, and bears its number
 pub record IsStage (P : Grammar) (root number : ℕ) (m : Graph) : Type 0 where
   pub can_run : CanRun P root
   pub carries : Carries P root m
+  pub kept : IsKeptOf P root m
   pub numbered : m.stage ≡ number
 
 -- the machines are those of the stages, in their order, numbered from i on

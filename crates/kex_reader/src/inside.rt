@@ -53,12 +53,6 @@ pub(crate) enum StepFault {
     Wrong,
 }
 
-impl From<Memory> for StepFault {
-    fn from(_: Memory) -> StepFault {
-        StepFault::Memory
-    }
-}
-
 // An atom of one node.
 fn leaf<'t>(draft: &mut Draft<'t>, kind: NodeKind, at: u32) -> Result<Wait<'t>, StepFault>
     requires below { HasNames (length draft.old.names) (length draft.old.registers) kind }

@@ -1,23 +1,8 @@
 // What texts are read as, and why they are refused.
 
 use crate::{ReadRefusal, place, read};
-use std::alloc::{AllocError, AllocFailed, Global};
-
-// Memory was wanted, and there was none.
-#[derive(Debug, Drop)]
-struct Fail;
-
-impl From<AllocError> for Fail {
-    fn from(_: AllocError) -> Fail {
-        Fail
-    }
-}
-
-impl<T: Drop> From<AllocFailed<T>> for Fail {
-    fn from(_: AllocFailed<T>) -> Fail {
-        Fail
-    }
-}
+use std::alloc::Global;
+use std::test::Fail;
 
 // Why a text is refused, if it is.
 fn refusal(alloc: Global, text: &[u8]) -> Option<ReadRefusal> {
@@ -125,17 +110,15 @@ fn limits(alloc: Global) -> Result<[Option<ReadRefusal>; 6], Fail> {
 }
 
 #[test]
-fn nesting_and_stages_at_their_limits(rt: HostRuntime) {
-    let answers = match limits(rt.alloc()) {
-        Ok(answers) => answers,
-        Err(_) => return,
-    };
+fn nesting_and_stages_at_their_limits(rt: HostRuntime) -> Result<(), Fail> {
+    let answers = limits(rt.alloc())?;
     assert!(rt; answers[0] == None);
     assert!(rt; answers[1] == Some(ReadRefusal::OverLimit { at: 208 }));
     assert!(rt; answers[2] == Some(ReadRefusal::OverLimit { at: 510 }));
     assert!(rt; answers[3] == Some(ReadRefusal::Unexpected { at: 309 }));
     assert!(rt; answers[4] == None);
     assert!(rt; answers[5] == Some(ReadRefusal::OverLimit { at: 327 }));
+    Ok(())
 }
 
 #[test]

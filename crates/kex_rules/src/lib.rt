@@ -53,8 +53,9 @@ impl<'a> Ruled<'a> {
 
 /// Asks the rules, one after another.
 ///
-/// K07: no name is defined twice. K08: each name that a definition calls, or that starts a stage, has a definition. K09: there is a stage. K10: where a definition calls a name that reaches it by calls of any
-/// position, the call stands in tail position. In time linear in the program.
+/// K07: no name is defined twice. K08: each name that a definition calls, or that starts a stage, has a definition. K09: there
+/// is a stage. K10: where a definition calls a name that reaches it by calls of any position, the call stands in tail position.
+/// In time linear in the program.
 pub fn check<'a>(alloc: Global, program: &'a Program) -> Result<Ruled<'a>, RuleRefusal>
     ensures same { IfOk result (λ r. r ≡ program.now) }
     ensures ruled { IfOk result (λ r. IsRuled r) }

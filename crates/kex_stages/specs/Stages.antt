@@ -35,6 +35,13 @@ module _ (P : Grammar) (root : ℕ) (m : Graph) where
     pub answers : (limit : ℕ) (w : List ℕ) (e : Bool) (a : Answer) → stages.StageAnswers P root limit w e a ↔ nodes.StageAnswers m limit w e a
     pub registers : m.registers ≡ P.registers
 
+-- the machine has the stage's places for nodes, one to one, and of them those that lead to the end: so it has the stage's paths
+-- to the places that it keeps, and their shapes
+pub record IsKeptOf (P : Grammar) (root : ℕ) (kept : Graph) : Type 0 where
+  pub whole : Graph
+  pub of_places : IsMachineOf P root whole
+  pub trimmed : IsTrimOf whole kept
+
 -- what a stage's machine leaves when it is trimmed answers as the stage does
 abbrev pub NodesAnswerAsPlaces : Type 0
 NodesAnswerAsPlaces = (P : Grammar) (root : ℕ) (m t : Graph) → IsMachineOf P root m → IsTrimOf m t → (HasLoop m.nodes → ⊥) → Carries P root t

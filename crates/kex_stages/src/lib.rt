@@ -6,7 +6,7 @@
 
 ghost use Rattle.std.specs.Prelude.{◌≡◌, IfOk, OnOk, IfErr};
 ghost use Rattle.kex_desugar.specs.Machines.{HasMore};
-ghost use Rattle.kex_stages.specs.Stages.{Carries, HasPlaces, IsWhy};
+ghost use Rattle.kex_stages.specs.Stages.{Carries, HasPlaces, IsKeptOf, IsWhy};
 
 pub mod laws;
 pub mod refusal;
@@ -39,6 +39,7 @@ pub fn stage_machine(
     max_places: u32,
 ) -> Result<StageMachine, StageRefusal>
     ensures carries { IfOk result (λ made. Carries program.now root made.machine) }
+    ensures kept { IfOk result (λ made. IsKeptOf program.now root made.machine) }
     ensures places { IfOk result (λ made. HasPlaces program.now root made.places) }
     ensures fits { OnOk result (HasMore program.now root max_places → ⊥) }
     ensures stage { IfOk result (λ made. made.machine.stage ≡ stage) }

@@ -93,12 +93,20 @@ pub enum TokenFault {
 pub const MAX_TEXT: usize = 1_048_576;
 
 impl From<AllocError> for TokenFault {
+    ghost use Rattle.kex_tokens.specs.declared.token.TokenFault.TheVariants.{Memory};
+
+    ghost from_gives = { λ _ e. e ≡ Memory };
+
     fn from(_: AllocError) -> TokenFault {
         TokenFault::Memory
     }
 }
 
 impl<T: Drop> From<AllocFailed<T>> for TokenFault {
+    ghost use Rattle.kex_tokens.specs.declared.token.TokenFault.TheVariants.{Memory};
+
+    ghost from_gives = { λ _ e. e ≡ Memory };
+
     fn from(_: AllocFailed<T>) -> TokenFault {
         TokenFault::Memory
     }

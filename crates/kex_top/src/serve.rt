@@ -17,8 +17,12 @@ use kex_stage::stage::Stage;
 use kex_words::Limits;
 use std::alloc::Global;
 
-// The pipe of the stages with these plans, each of which takes at most so many bytes.
-fn pipe_of<'p>(alloc: Global, plans: &'p [Plan], max_input: u64) -> Result<Pipe<Stage<'p>>, Memory>
+/// The pipe of the stages with these plans, each of which takes at most so many bytes.
+pub(crate) fn pipe_of<'p>(
+    alloc: Global,
+    plans: &'p [Plan],
+    max_input: u64,
+) -> Result<Pipe<Stage<'p>>, Memory>
     requires { 0 < length plans.now }
     ensures plans { IfOk result (λ pipe. plans_of ⟦<Stage<'p> as Turn>⟧ pipe ≡ stage_plans max_input plans.now) }
     ensures fresh { IfOk result (λ pipe. PipeStands ⟦<Stage<'p> as Turn>⟧ pipe None) }

@@ -1,5 +1,6 @@
 //! The call over objects in memory.
 mod limits;
+mod pipes;
 mod refusals;
 mod terms;
 
@@ -261,6 +262,15 @@ fn faults_are_told_by_their_causes(rt: HostRuntime) -> Result<(), Fail> {
             most_written: 4,
             failing_writes: &[2],
             held: b"stag",
+            status: Status::WriteFault,
+            notes: b"write fault\n",
+            ..PLAIN
+        },
+        // The call that fails is the one to finish.
+        Case {
+            words: &["kex", "check", "p"],
+            failing_writes: &[6],
+            held: b"stages 1 places 3\n",
             status: Status::WriteFault,
             notes: b"write fault\n",
             ..PLAIN

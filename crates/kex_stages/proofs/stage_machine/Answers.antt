@@ -12,3 +12,6 @@ returns-in_err-trimmed-clause-refused c =
 
 pub returns-clause-carries : goal.returns-clause-carries
 returns-clause-carries c = carries c.args.program.now c.args.root c.in_ok-machine.machine c.in_ok-trimmed.trimmed c.in_ok-machine.ensures.machine c.in_ok-trimmed.ensures.trimmed c.in_ok-trimmed.ensures.no_loop
+
+pub returns-clause-kept : goal.returns-clause-kept
+returns-clause-kept c = record { whole = c.in_ok-machine.machine; of_places = c.in_ok-machine.ensures.machine; trimmed = c.in_ok-trimmed.ensures.trimmed }

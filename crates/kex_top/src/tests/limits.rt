@@ -178,3 +178,37 @@ fn long_outputs(rt: HostRuntime) -> Result<(), Fail> {
     assert!(&rt; holds(&rt, alloc, &doubled)?);
     Ok(())
 }
+
+// Some blocks of lines through two stages and registers.
+#[test]
+fn long_inputs(rt: HostRuntime) -> Result<(), Fail> {
+    let alloc = rt.alloc();
+    let input = around(alloc, b"", b"ab,12\n", 12_000, b"")?;
+    let held = around(alloc, b"", b"> 12,ab\n", 12_000, b"")?;
+    let case = Case {
+        program: b"start: swap >> mark\n\
+            swap := (x@/[a-z]*/ ~/,/ y@/[0-9]*/ !y \",\" !x /\\n/)*\n\
+            mark := (\"> \" /[^\\n]*\\n/)*\n",
+        input: &input,
+        held: &held,
+        ..PLAIN
+    };
+    assert!(&rt; holds(&rt, alloc, &case)?);
+    Ok(())
+}
+
+// Some thousand tokens, nodes and places.
+#[test]
+fn long_programs(rt: HostRuntime) -> Result<(), Fail> {
+    let alloc = rt.alloc();
+    let program = around(alloc, b"main :=", b" /ab/", 3_000, b"")?;
+    let read = around(alloc, b"", b"ab", 3_000, b"")?;
+    let case = Case {
+        program: &program,
+        input: &read,
+        held: &read,
+        ..PLAIN
+    };
+    assert!(&rt; holds(&rt, alloc, &case)?);
+    Ok(())
+}

@@ -23,6 +23,7 @@ stages-preserved c =
           let is : IsStage P (root_of P start.name) (i + 1) w.new.result = subst (λ k. IsStage P (root_of P start.name) (i + 1) k) (sym w.new.ensures) (subst (λ r. IsStage P r (i + 1) m) root (record {
             can_run = record { few = w.in-Ok.ensures.fits; no_loop = w.in-Ok.ensures.carries.no_loop; some_text = w.in-Ok.ensures.carries.some_text };
             carries = w.in-Ok.ensures.carries;
+            kept = w.in-Ok.ensures.kept;
             numbered = w.in-Ok.ensures.stage;
           })) in
           let has : HasPlaces P (root_of P start.name) own = subst (λ r. HasPlaces P r own) root w.in-Ok.ensures.places in
