@@ -63,11 +63,14 @@ module _ (one_body : (bytes : List ℕ) (r q : Body) → SpellsBody r bytes → 
   abbrev N : ℕ → ℕ → Type 0
   N = SameName made.names made'.names
 
+  abbrev G : ℕ → ℕ → Type 0
+  G = SameName made.registers made'.registers
+
   -- definitions and their nodes, in pairs
   pub record PairsDefinitions (ds es : List Root) (low high : ℕ) : Type 0 where
     pub pairs : List Pair
     pub same : SameDefinitions (Joins pairs) N ds es
-    pub match : AllMatch made.nodes made'.nodes N pairs
+    pub match : AllMatch made.nodes made'.nodes N G pairs
     pub rising : Rising low pairs high
 
   pub definitions_of : (ts : List Definition) (ds es : List Root) (i : ℕ) → ShowsDefinitions ts made at ds i → ShowsDefinitions ts made' at es i → Spaced at i (definitions ts) → PairsDefinitions ds es (4 * at i) (4 * at (i + length (definitions ts)))
@@ -89,7 +92,7 @@ module _ (one_body : (bytes : List ℕ) (r q : Body) → SpellsBody r bytes → 
       record {
         pairs = top.pairs ++ rest.pairs;
         same = ((t.name, name, name'), place ∙ sym place', (top.top.0, among-append top.pairs rest.pairs _ (inl top.top.1)), definitions_more (Joins rest.pairs) (Joins (top.pairs ++ rest.pairs)) N (λ n m j. (j.0, among-append top.pairs rest.pairs _ (inr j.1))) ds es rest.same);
-        match = match_both made.nodes made'.nodes N top.pairs rest.pairs top.match rest.match;
+        match = match_both made.nodes made'.nodes N G top.pairs rest.pairs top.match rest.match;
         rising = rising_from (4 * at (i + 2)) (4 * at i) (top.pairs ++ rest.pairs) _ (omega (arith, first)) (rising_to (4 * at (i + 2)) (top.pairs ++ rest.pairs) (4 * at (i + 2 + length (term t.term) + length (definitions ts))) _ (omega (arith, to)) (rising_both (4 * at (i + 2)) top.pairs (4 * at (i + 2 + length (term t.term))) rest.pairs (4 * at (i + 2 + length (term t.term) + length (definitions ts))) top.rising rest.rising));
       }
 
@@ -126,18 +129,24 @@ main_of R names names' (d ∷ ds) (e ∷ es) (same, place, root, more) =
 pub record Alike (P Q : Grammar) : Type 0 where
   pub low : ℕ
   pub high : ℕ
+  pub registers : List (List ℕ)
+  pub registers' : List (List ℕ)
   pub pairs : List Pair
-  pub match : AllMatch P.nodes Q.nodes (SameName P.names Q.names) pairs
+  pub match : AllMatch P.nodes Q.nodes (SameName P.names Q.names) (SameName registers registers') pairs
   pub rising : Rising low pairs high
   pub definitions : SameDefinitions (Joins pairs) (SameName P.names Q.names) P.definitions Q.definitions
   pub stages : SameStages (SameName P.names Q.names) P.stages Q.stages
   pub one_name : Different P.names
   pub one_name' : Different Q.names
+  pub one_register : Different registers
+  pub one_register' : Different registers'
+  pub counted : P.registers ≡ length registers
+  pub counted' : Q.registers ≡ length registers'
 
 module _ (one_tokens : (text : List ℕ) (ts us : List Token) → AreTokens text ts → AreTokens text us → ts ≡ us) (one_tree : (p q : Program) → program p ≡ program q → p ≡ q) (one_body : (bytes : List ℕ) (r q : Body) → SpellsBody r bytes → SpellsBody q bytes → r ≡ q) (one_literal : (spelling a b : List ℕ) → StandsFor spelling a → StandsFor spelling b → a ≡ b) where
-  alike_of : (P Q : Grammar) (tree : Program) (at : ℕ → ℕ) (rs rs' : List (List ℕ)) → ShowsProgram tree (record { nodes = P.nodes; names = P.names; registers = rs; broken = None }) at P → ShowsProgram tree (record { nodes = Q.nodes; names = Q.names; registers = rs'; broken = None }) at Q → Spaced at 0 (program tree) → Different P.names → Different Q.names → Alike P Q
+  alike_of : (P Q : Grammar) (tree : Program) (at : ℕ → ℕ) (rs rs' : List (List ℕ)) → ShowsProgram tree (record { nodes = P.nodes; names = P.names; registers = rs; broken = None }) at P → ShowsProgram tree (record { nodes = Q.nodes; names = Q.names; registers = rs'; broken = None }) at Q → Spaced at 0 (program tree) → Different P.names → Different Q.names → Different rs → Different rs' → P.registers ≡ length rs → Q.registers ≡ length rs' → Alike P Q
   unfolding program
-  alike_of P Q tree at rs rs' s t sp d e =
+  alike_of P Q tree at rs rs' s t sp d e dr er c c' =
       let made : Made = record { nodes = P.nodes; names = P.names; registers = rs; broken = None } in
       let made' : Made = record { nodes = Q.nodes; names = Q.names; registers = rs'; broken = None } in
       let behind = subst (λ j. Spaced at j (definitions tree.definitions)) (let z : 0 + length (header tree.header) ≡ length (header tree.header) = omega arith in z) (spaced_rest at 0 (header tree.header) (definitions tree.definitions) sp) in
@@ -145,6 +154,8 @@ module _ (one_tokens : (text : List ℕ) (ts us : List Token) → AreTokens text
       record {
         low = _;
         high = _;
+        registers = rs;
+        registers' = rs';
         pairs = ds.pairs;
         match = ds.match;
         rising = ds.rising;
@@ -152,6 +163,10 @@ module _ (one_tokens : (text : List ℕ) (ts us : List Token) → AreTokens text
         stages = header_of made made' at tree.header P Q (main_of (Joins ds.pairs) P.names Q.names P.definitions Q.definitions ds.same) s.stages t.stages;
         one_name = d;
         one_name' = e;
+        one_register = dr;
+        one_register' = er;
+        counted = c;
+        counted' = c';
       }
 
   pub alike : (text : List ℕ) (P Q : Grammar) → Spells text P → Spells text Q → Alike P Q
@@ -160,4 +175,4 @@ module _ (one_tokens : (text : List ℕ) (ts us : List Token) → AreTokens text
       let tree : t.tree ≡ s.tree = one_tree t.tree s.tree (t.derived ∙ ap (words text) ts ∙ sym s.derived) in
       let at = offset text s.tokens in
       let shown = subst (λ (z : List Token). ShowsProgram s.tree (record { nodes = Q.nodes; names = Q.names; registers = t.registers; broken = None }) (offset text z) Q) ts (subst (λ (z : Program). ShowsProgram z (record { nodes = Q.nodes; names = Q.names; registers = t.registers; broken = None }) (offset text t.tokens) Q) tree t.shown) in
-      alike_of P Q s.tree at s.registers t.registers s.shown shown (subst (Spaced at 0) (sym s.derived) (spaced text s.tokens s.cut)) s.names_differ t.names_differ
+      alike_of P Q s.tree at s.registers t.registers s.shown shown (subst (Spaced at 0) (sym s.derived) (spaced text s.tokens s.cut)) s.names_differ t.names_differ s.registers_differ t.registers_differ s.counted t.counted

@@ -21,8 +21,8 @@ use Rattle.kex_compile.proofs.Alike.{Alike, SameDefinitions, SameStages, one_nam
 
 -- ---- kinds
 
-module _ (R N : ℕ → ℕ → Type 0) where
-  call_on : {k l : Kind} (name : ℕ) → SameKind R N k l → k ≡ Call name → (name' : ℕ) × N name name' × (l ≡ Call name')
+module _ (R N G : ℕ → ℕ → Type 0) where
+  call_on : {k l : Kind} (name : ℕ) → SameKind R N G k l → k ≡ Call name → (name' : ℕ) × N name name' × (l ≡ Call name')
   call_on name one e = absurd cc
   call_on name lit e = absurd cc
   call_on name (class h) e = absurd cc
@@ -31,12 +31,12 @@ module _ (R N : ℕ → ℕ → Type 0) where
   call_on name (alt g h) e = absurd cc
   call_on name (rep h) e = absurd cc
   call_on name (mute h) e = absurd cc
-  call_on name (at_register h) e = absurd cc
-  call_on name write_register e = absurd cc
-  call_on name set_register e = absurd cc
-  call_on name add_register e = absurd cc
+  call_on name (at_register g h) e = absurd cc
+  call_on name (write_register g) e = absurd cc
+  call_on name (set_register g p) e = absurd cc
+  call_on name (add_register g p) e = absurd cc
 
-  last_on : {k l : Kind} (m : ℕ) → SameKind R N k l → IsAmong (last_parts k) m → (m' : ℕ) × IsAmong (last_parts l) m' × R m m'
+  last_on : {k l : Kind} (m : ℕ) → SameKind R N G k l → IsAmong (last_parts k) m → (m' : ℕ) × IsAmong (last_parts l) m' × R m m'
   last_on m one i = absurd i
   last_on m lit i = absurd i
   last_on m (class h) i = absurd i
@@ -48,12 +48,12 @@ module _ (R N : ℕ → ℕ → Type 0) where
   last_on m (alt g h) (inr (inr i)) = absurd i
   last_on m (rep h) i = absurd i
   last_on m (mute h) i = absurd i
-  last_on m (at_register h) i = absurd i
-  last_on m write_register i = absurd i
-  last_on m set_register i = absurd i
-  last_on m add_register i = absurd i
+  last_on m (at_register g h) i = absurd i
+  last_on m (write_register g) i = absurd i
+  last_on m (set_register g p) i = absurd i
+  last_on m (add_register g p) i = absurd i
 
-  other_on : {k l : Kind} (m : ℕ) → SameKind R N k l → IsAmong (other_parts k) m → (m' : ℕ) × IsAmong (other_parts l) m' × R m m'
+  other_on : {k l : Kind} (m : ℕ) → SameKind R N G k l → IsAmong (other_parts k) m → (m' : ℕ) × IsAmong (other_parts l) m' × R m m'
   other_on m one i = absurd i
   other_on m lit i = absurd i
   other_on m (class h) i = absurd i
@@ -65,11 +65,11 @@ module _ (R N : ℕ → ℕ → Type 0) where
   other_on m (rep h) (inr i) = absurd i
   other_on m (mute {n' = n'} h) (inl e) = (n', inl refl, subst (λ z. R z n') e h)
   other_on m (mute h) (inr i) = absurd i
-  other_on m (at_register {n' = n'} h) (inl e) = (n', inl refl, subst (λ z. R z n') e h)
-  other_on m (at_register h) (inr i) = absurd i
-  other_on m write_register i = absurd i
-  other_on m set_register i = absurd i
-  other_on m add_register i = absurd i
+  other_on m (at_register {n' = n'} g h) (inl e) = (n', inl refl, subst (λ z. R z n') e h)
+  other_on m (at_register g h) (inr i) = absurd i
+  other_on m (write_register g) i = absurd i
+  other_on m (set_register g p) i = absurd i
+  other_on m (add_register g p) i = absurd i
 
   -- ---- definitions and stages
 
@@ -143,10 +143,13 @@ module _ (P Q : Grammar) (a : Alike P Q) where
   abbrev N : ℕ → ℕ → Type 0
   N = SameName P.names Q.names
 
-  pub kinds_on : (n m : ℕ) → R n m → SameKind R N (kind_at P n) (kind_at Q m)
+  abbrev pub G : ℕ → ℕ → Type 0
+  G = SameName a.registers a.registers'
+
+  pub kinds_on : (n m : ℕ) → R n m → SameKind R N G (kind_at P n) (kind_at Q m)
   kinds_on n m j =
       let x = a.match _ j.1 in
-      subst (λ z. SameKind R N z (kind_at Q m)) (sym (kind_is P n x.node x.is)) (subst (λ z. SameKind R N x.node.kind z) (sym (kind_is Q m x.node' x.is')) x.same)
+      subst (λ z. SameKind R N G z (kind_at Q m)) (sym (kind_is P n x.node x.is)) (subst (λ z. SameKind R N G x.node.kind z) (sym (kind_is Q m x.node' x.is')) x.same)
 
   pub forth : (k l l' : ℕ) → N k l → N k l' → l ≡ l'
   forth k l l' h i = one_name P.names Q.names a.one_name' k l l' h i
@@ -156,30 +159,30 @@ module _ (P Q : Grammar) (a : Alike P Q) where
 
   pub defined_on : (name name' : ℕ) → N name name' → IsDefined P.definitions name → IsDefined Q.definitions name'
   defined_on name name' n (d, i, q) =
-      let e = definition_on R N P.definitions Q.definitions a.definitions d i in
+      let e = definition_on R N G P.definitions Q.definitions a.definitions d i in
       (e.0, e.1, forth name e.0.name name' (subst (λ z. N z e.0.name) q e.2.0) n)
 
   pub defined_back : (name name' : ℕ) → N name name' → IsDefined Q.definitions name' → IsDefined P.definitions name
   defined_back name name' n (e, i, q) =
-      let d = definition_back R N P.definitions Q.definitions a.definitions e i in
+      let d = definition_back R N G P.definitions Q.definitions a.definitions e i in
       (d.0, d.1, back d.0.name name name' (subst (λ z. N d.0.name z) q d.2.0) n)
 
   -- the roots of a name's definitions
   pub roots_on : (name name' : ℕ) → N name name' → IsDefined P.definitions name → R (root_of P name) (root_of Q name')
   roots_on name name' n h =
-      let f = first_on R N forth back name name' n P.definitions Q.definitions a.definitions h in
+      let f = first_on R N G forth back name name' n P.definitions Q.definitions a.definitions h in
       subst (λ z. R z (root_of Q name')) (sym (root_is P name f.0 f.2)) (subst (λ z. R f.0.root z) (sym (root_is Q name' f.1 f.3)) f.4)
 
   -- the root of a name's first definition stands in it
   pub root_within : (name name' : ℕ) → N name name' → IsDefined P.definitions name → IsWithin P (root_of P name)
   root_within name name' n h =
-      let f = first_on R N forth back name name' n P.definitions Q.definitions a.definitions h in
+      let f = first_on R N G forth back name name' n P.definitions Q.definitions a.definitions h in
       (f.0, in_tail, find_among (λ x. x.name == name) P.definitions f.0 f.2, subst (λ z. Stands P f.0.root in_tail z) (sym (root_is P name f.0 f.2)) at_root)
 
   pub twice_on : (at : ℕ) → IsTwice P.definitions at → IsTwice Q.definitions at
   twice_on at (i, j, d, e, lt, hd, he, same, is) =
-      let x = definition_at R N P.definitions Q.definitions a.definitions d i hd in
-      let y = definition_at R N P.definitions Q.definitions a.definitions e j he in
+      let x = definition_at R N G P.definitions Q.definitions a.definitions d i hd in
+      let y = definition_at R N G P.definitions Q.definitions a.definitions e j he in
       (i, j, x.0, y.0, lt, x.1, y.1, forth d.name x.0.name y.0.name x.2.0 (subst (λ z. N z y.0.name) (sym same) y.2.0), sym y.2.1 ∙ is)
 
   -- ---- calls
@@ -188,23 +191,23 @@ module _ (P Q : Grammar) (a : Alike P Q) where
   stands_on root root' r at_root = (root', r, at_root)
   stands_on root root' r (as_last {n = n} {m = m} s i) =
       let x = stands_on root root' r s in
-      let y = last_on R N m (kinds_on n x.0 x.1) i in
+      let y = last_on R N G m (kinds_on n x.0 x.1) i in
       (y.0, y.2, as_last x.2 y.1)
   stands_on root root' r (as_other {n = n} {m = m} s i) =
       let x = stands_on root root' r s in
-      let y = other_on R N m (kinds_on n x.0 x.1) i in
+      let y = other_on R N G m (kinds_on n x.0 x.1) i in
       (y.0, y.2, as_other x.2 y.1)
 
   is_call_on : (n n' name at : ℕ) → R n n' → IsCall P n name at → (name' : ℕ) × N name name' × IsCall Q n' name' at
   is_call_on n n' name at j (m, h, kind, place) =
       let x = a.match _ j.1 in
       let q : x.node ≡ m = some_same x.node m (sym x.is ∙ h) in
-      let c = call_on R N name x.same (ap (λ (z : Node). z.kind) q ∙ kind) in
+      let c = call_on R N G name x.same (ap (λ (z : Node). z.kind) q ∙ kind) in
       (c.0, c.1, (x.node', x.is', c.2, sym x.at ∙ ap (λ (z : Node). z.at) q ∙ place))
 
-  use_on : (name at : ℕ) → IsUse P name at → (name' : ℕ) × N name name' × IsUse Q name' at
+  pub use_on : (name at : ℕ) → IsUse P name at → (name' : ℕ) × N name name' × IsUse Q name' at
   use_on name at (inl (n, (d, p, i, s), c)) =
-      let e = definition_on R N P.definitions Q.definitions a.definitions d i in
+      let e = definition_on R N G P.definitions Q.definitions a.definitions d i in
       let x = stands_on d.root e.0.root e.2.2 s in
       let y = is_call_on n x.0 name at x.1 c in
       (y.0, y.1, inl (x.0, (e.0, p, e.1, x.2), y.2))
@@ -219,13 +222,13 @@ module _ (P Q : Grammar) (a : Alike P Q) where
   reaches_on name' n itself = (name', n, itself)
   reaches_on name' n (by_call {caller = caller} {callee = callee} (d, p, m, s, kind) r) =
       let x = stands_on (root_of P caller) (root_of Q name') (roots_on caller name' n d) s in
-      let y = call_on R N callee (kinds_on m x.0 x.1) kind in
+      let y = call_on R N G callee (kinds_on m x.0 x.1) kind in
       let z = reaches_on y.0 y.1 r in
       (z.0, z.1, by_call (defined_on caller name' n d, p, x.0, x.2, y.2) z.2)
 
   pub not_tail_on : (at : ℕ) → IsNotTail P at → IsNotTail Q at
   not_tail_on at (caller, callee, n, d, s, c, r) =
-      let e = definition_on R N P.definitions Q.definitions a.definitions d.0 d.1 in
+      let e = definition_on R N G P.definitions Q.definitions a.definitions d.0 d.1 in
       let name' : ℕ = e.0.name in
       let same : N caller name' = subst (λ z. N z name') d.2 e.2.0 in
       let x = stands_on (root_of P caller) (root_of Q name') (roots_on caller name' same d) s in

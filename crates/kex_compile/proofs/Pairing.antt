@@ -3,6 +3,7 @@ use Rattle.std.proofs.Common.{◌≡◌, ℕ, suc, ◌<◌, ◌≤◌, ◌+◌, 
 use Rattle.std.specs.Prelude.{slice_get}
 use Rattle.kex_byteset.specs.Sets.{has}
 use Rattle.kex_code.specs.declared.piece.Piece.{Piece}
+use Rattle.kex_code.specs.declared.piece.Piece.TheVariants as pieces
 use Rattle.kex_code.specs.Codes.{IsAmong}
 use Rattle.kex_model.specs.declared.program.Kind.{Kind}
 use Rattle.kex_model.specs.declared.program.Kind.TheVariants.{One, Lit, Class, Call, Seq, Alt, Rep, Mute, At, Write, Set, Add}
@@ -10,22 +11,28 @@ use Rattle.kex_model.specs.declared.program.Node.{Node}
 use Rattle.kex_model.proofs.Counting.{among-append}
 use Rattle.kex_model.proofs.Tables.{some_same}
 
--- kinds that do the same up to their registers, with nodes that R pairs and names that N pairs
-pub data SameKind (R N : ℕ → ℕ → Type 0) : Kind → Kind → Type 0 where
-  one : SameKind R N One One
-  lit : {s : List ℕ} → SameKind R N (Lit s) (Lit s)
-  class : {s t : List Bool} → ((b : ℕ) → has s b ≡ has t b) → SameKind R N (Class s) (Class t)
-  call : {k l : ℕ} → N k l → SameKind R N (Call k) (Call l)
-  seq : {l r l' r' : ℕ} → R l l' → R r r' → SameKind R N (Seq l r) (Seq l' r')
-  alt : {l r l' r' : ℕ} → R l l' → R r r' → SameKind R N (Alt l r) (Alt l' r')
-  rep : {n n' min : ℕ} {max : Option ℕ} → R n n' → SameKind R N (Rep n min max) (Rep n' min max)
-  mute : {n n' : ℕ} → R n n' → SameKind R N (Mute n) (Mute n')
-  at_register : {r r' n n' : ℕ} → R n n' → SameKind R N (At r n) (At r' n')
-  write_register : {r r' : ℕ} → SameKind R N (Write r) (Write r')
-  set_register : {r r' : ℕ} {ps qs : List Piece} → SameKind R N (Set r ps) (Set r' qs)
-  add_register : {r r' : ℕ} {ps qs : List Piece} → SameKind R N (Add r ps) (Add r' qs)
+-- pieces with the same bytes, and registers that G pairs
+pub data SameParts (G : ℕ → ℕ → Type 0) : List Piece → List Piece → Type 0 where
+  no_more : SameParts G [] []
+  text : {s : List ℕ} {ps qs : List Piece} → SameParts G ps qs → SameParts G (pieces.Lit s ∷ ps) (pieces.Lit s ∷ qs)
+  register : {r r' : ℕ} {ps qs : List Piece} → G r r' → SameParts G ps qs → SameParts G (pieces.Register r ∷ ps) (pieces.Register r' ∷ qs)
 
-pub same_more : {R S N : ℕ → ℕ → Type 0} {k l : Kind} → ((n n' : ℕ) → R n n' → S n n') → SameKind R N k l → SameKind S N k l
+-- kinds that do the same, with nodes that R pairs, names that N pairs and registers that G pairs
+pub data SameKind (R N G : ℕ → ℕ → Type 0) : Kind → Kind → Type 0 where
+  one : SameKind R N G One One
+  lit : {s : List ℕ} → SameKind R N G (Lit s) (Lit s)
+  class : {s t : List Bool} → ((b : ℕ) → has s b ≡ has t b) → SameKind R N G (Class s) (Class t)
+  call : {k l : ℕ} → N k l → SameKind R N G (Call k) (Call l)
+  seq : {l r l' r' : ℕ} → R l l' → R r r' → SameKind R N G (Seq l r) (Seq l' r')
+  alt : {l r l' r' : ℕ} → R l l' → R r r' → SameKind R N G (Alt l r) (Alt l' r')
+  rep : {n n' min : ℕ} {max : Option ℕ} → R n n' → SameKind R N G (Rep n min max) (Rep n' min max)
+  mute : {n n' : ℕ} → R n n' → SameKind R N G (Mute n) (Mute n')
+  at_register : {r r' n n' : ℕ} → G r r' → R n n' → SameKind R N G (At r n) (At r' n')
+  write_register : {r r' : ℕ} → G r r' → SameKind R N G (Write r) (Write r')
+  set_register : {r r' : ℕ} {ps qs : List Piece} → G r r' → SameParts G ps qs → SameKind R N G (Set r ps) (Set r' qs)
+  add_register : {r r' : ℕ} {ps qs : List Piece} → G r r' → SameParts G ps qs → SameKind R N G (Add r ps) (Add r' qs)
+
+pub same_more : {R S N G : ℕ → ℕ → Type 0} {k l : Kind} → ((n n' : ℕ) → R n n' → S n n') → SameKind R N G k l → SameKind S N G k l
 same_more f one = one
 same_more f lit = lit
 same_more f (class h) = class h
@@ -34,10 +41,10 @@ same_more f (seq g h) = seq (f _ _ g) (f _ _ h)
 same_more f (alt g h) = alt (f _ _ g) (f _ _ h)
 same_more f (rep h) = rep (f _ _ h)
 same_more f (mute h) = mute (f _ _ h)
-same_more f (at_register h) = at_register (f _ _ h)
-same_more f write_register = write_register
-same_more f set_register = set_register
-same_more f add_register = add_register
+same_more f (at_register g h) = at_register g (f _ _ h)
+same_more f (write_register g) = write_register g
+same_more f (set_register g p) = set_register g p
+same_more f (add_register g p) = add_register g p
 
 -- ---- the order of nodes
 
@@ -53,7 +60,7 @@ rank _ = 3
 abbrev pub key : Node → ℕ
 key m = 4 * m.at + rank m.kind
 
-same_rank : {R N : ℕ → ℕ → Type 0} {k l : Kind} → SameKind R N k l → rank k ≡ rank l
+same_rank : {R N G : ℕ → ℕ → Type 0} {k l : Kind} → SameKind R N G k l → rank k ≡ rank l
 same_rank one = refl
 same_rank lit = refl
 same_rank (class h) = refl
@@ -62,10 +69,10 @@ same_rank (seq g h) = refl
 same_rank (alt g h) = refl
 same_rank (rep h) = refl
 same_rank (mute h) = refl
-same_rank (at_register h) = refl
-same_rank write_register = refl
-same_rank set_register = refl
-same_rank add_register = refl
+same_rank (at_register g h) = refl
+same_rank (write_register g) = refl
+same_rank (set_register g p) = refl
+same_rank (add_register g p) = refl
 
 -- a node of each program, and their key
 pub record Pair : Type 0 where
@@ -123,7 +130,7 @@ one_pair low (x ∷ ps) high p q h (inr i) (inr j) e = one_pair (suc x.key) ps h
 abbrev pub Joins : List Pair → ℕ → ℕ → Type 0
 Joins ps n n' = (k : ℕ) × IsAmong ps (record { first = n; second = n'; key = k })
 
-module _ (nodes nodes' : List Node) (N : ℕ → ℕ → Type 0) where
+module _ (nodes nodes' : List Node) (N G : ℕ → ℕ → Type 0) where
   -- the nodes of a pair have one offset and the same kind, with parts that are paired
   pub record Matches (ps : List Pair) (p : Pair) : Type 0 where
     pub node : Node
@@ -132,7 +139,7 @@ module _ (nodes nodes' : List Node) (N : ℕ → ℕ → Type 0) where
     pub is' : slice_get nodes' p.second ≡ Some node'
     pub keyed : p.key ≡ key node
     pub at : node.at ≡ node'.at
-    pub same : SameKind (Joins ps) N node.kind node'.kind
+    pub same : SameKind (Joins ps) N G node.kind node'.kind
 
   abbrev pub AllMatch : List Pair → Type 0
   AllMatch ps = (p : Pair) → IsAmong ps p → Matches ps p
@@ -156,7 +163,7 @@ module _ (nodes nodes' : List Node) (N : ℕ → ℕ → Type 0) where
   }
 
   -- a node above pairs that have its parts
-  pub on_top : (n n' : ℕ) (node node' : Node) (low mid high : ℕ) (ps : List Pair) → slice_get nodes n ≡ Some node → slice_get nodes' n' ≡ Some node' → node.at ≡ node'.at → SameKind (Joins ps) N node.kind node'.kind → low ≤ key node → key node < mid → AllMatch ps → Rising mid ps high → Together n n' low high
+  pub on_top : (n n' : ℕ) (node node' : Node) (low mid high : ℕ) (ps : List Pair) → slice_get nodes n ≡ Some node → slice_get nodes' n' ≡ Some node' → node.at ≡ node'.at → SameKind (Joins ps) N G node.kind node'.kind → low ≤ key node → key node < mid → AllMatch ps → Rising mid ps high → Together n n' low high
   unfolding Rising
   on_top n n' node node' low mid high ps is is' at same l u match rising =
       let p : Pair = record { first = n; second = n'; key = key node } in
@@ -201,7 +208,7 @@ module _ (nodes nodes' : List Node) (N : ℕ → ℕ → Type 0) where
   }
 
   -- a node without parts
-  pub alone : (n n' : ℕ) (node node' : Node) (low high : ℕ) → slice_get nodes n ≡ Some node → slice_get nodes' n' ≡ Some node' → node.at ≡ node'.at → SameKind (Joins []) N node.kind node'.kind → low ≤ key node → key node < high → Together n n' low high
+  pub alone : (n n' : ℕ) (node node' : Node) (low high : ℕ) → slice_get nodes n ≡ Some node → slice_get nodes' n' ≡ Some node' → node.at ≡ node'.at → SameKind (Joins []) N G node.kind node'.kind → low ≤ key node → key node < high → Together n n' low high
   unfolding Rising
   alone n n' node node' low high is is' at same l u = on_top n n' node node' low high high [] is is' at same l u (λ p i. absurd i) (omega arith)
 

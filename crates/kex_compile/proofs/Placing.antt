@@ -9,7 +9,7 @@ use Rattle.kex_model.specs.declared.program.Kind.TheVariants.{Call}
 use Rattle.kex_model.specs.declared.frame.Frame.{Frame}
 use Rattle.kex_model.specs.declared.frame.Frame.TheVariants.{Pending, EndOf}
 use Rattle.kex_model.specs.Trees.{kind_at, root_of}
-use Rattle.kex_model.specs.Moves.{Move, Effect, accept, read, choose, go, Step, took, chose, went, to_left, to_right, Allows, reads, goes_left, goes_right, goes, entered, symbols_of, code_of, Walk}
+use Rattle.kex_model.specs.Moves.{Move, Effect, accept, read, choose, go, Step, took, chose, went, to_left, to_right, Allows, reads, goes_left, goes_right, goes, entered, symbols_of, code_of, IsWaiting, Walk}
 use Rattle.kex_model.specs.Places.{Place, fresh, enter, with_counts, moves_of, moves, start_of, IsPlace, at_start, by_step, by_rest, HasEmptyLoop}
 use Rattle.kex_model.specs.Survivors.{LeadsToEnd}
 use Rattle.kex_desugar.specs.Machines.{HasMore}
@@ -18,7 +18,7 @@ use Rattle.kex_rules.proofs.Tails.{kind_is}
 use Rattle.kex_compile.proofs.Pairing.{Joins, SameKind, one, lit, class, call, seq, alt, rep, mute, at_register, write_register, set_register, add_register, one_first, one_second}
 use Rattle.kex_compile.proofs.Terms.{SameName}
 use Rattle.kex_compile.proofs.Alike.{Alike}
-use Rattle.kex_compile.proofs.Carrying.{kinds_on, roots_on, root_within}
+use Rattle.kex_compile.proofs.Carrying.{G, kinds_on, roots_on, root_within}
 
 -- ---- places by their nodes
 
@@ -29,19 +29,19 @@ pub data SamePlace (S : ℕ → ℕ → Type 0) : Place → Place → Type 0 whe
   ends : {n m : ℕ} {p q : Place} → S n m → SamePlace S p q → SamePlace S (EndOf n ∷ p) (EndOf m ∷ q)
 
 -- moves that differ at most in their effects, to places of the same frames
-data SameMove (S : ℕ → ℕ → Type 0) : Move Place → Move Place → Type 0 where
+pub data SameMove (S : ℕ → ℕ → Type 0) : Move Place → Move Place → Type 0 where
   accepts : SameMove S accept accept
   reads_on : {s t : List Bool} {p q : Place} → ((b : ℕ) → has s b ≡ has t b) → SamePlace S p q → SameMove S (read s p) (read t q)
   chooses : {p p' q q' : Place} → SamePlace S p q → SamePlace S p' q' → SameMove S (choose p p') (choose q q')
   goes_on : {e f : Effect} {p q : Place} → SamePlace S p q → SameMove S (go e p) (go f q)
 
 module _ (S : ℕ → ℕ → Type 0) where
-  place_back : (alone : (n n' m : ℕ) → S n m → S n' m → n ≡ n') {p p' q : Place} → SamePlace S p q → SamePlace S p' q → p ≡ p'
+  pub place_back : (alone : (n n' m : ℕ) → S n m → S n' m → n ≡ n') {p p' q : Place} → SamePlace S p q → SamePlace S p' q → p ≡ p'
   place_back alone empty empty = refl
   place_back alone (pending {n = n} {need = need} {left = left} {p = p} h s) (pending {n = n'} k t) = ap (λ z. Pending z need left ∷ p) (alone _ _ _ h k) ∙ ap (λ z. Pending n' need left ∷ z) (place_back alone s t)
   place_back alone (ends {p = p} h s) (ends {n = n'} k t) = ap (λ z. EndOf z ∷ p) (alone _ _ _ h k) ∙ ap (λ z. EndOf n' ∷ z) (place_back alone s t)
 
-  place_forth : (alone : (n m m' : ℕ) → S n m → S n m' → m ≡ m') {p q q' : Place} → SamePlace S p q → SamePlace S p q' → q ≡ q'
+  pub place_forth : (alone : (n m m' : ℕ) → S n m → S n m' → m ≡ m') {p q q' : Place} → SamePlace S p q → SamePlace S p q' → q ≡ q'
   place_forth alone empty empty = refl
   place_forth alone (pending {need = need} {left = left} {q = q} h s) (pending {m = m'} k t) = ap (λ z. Pending z need left ∷ q) (alone _ _ _ h k) ∙ ap (λ z. Pending m' need left ∷ z) (place_forth alone s t)
   place_forth alone (ends {q = q} h s) (ends {m = m'} k t) = ap (λ z. EndOf z ∷ q) (alone _ _ _ h k) ∙ ap (λ z. EndOf m' ∷ z) (place_forth alone s t)
@@ -50,20 +50,45 @@ module _ (S : ℕ → ℕ → Type 0) where
   rest_on (pending {m = m} {need = need} {left = left} {q = q} h s) = (Pending m need left, q, refl, s)
   rest_on (ends {m = m} {q = q} h s) = (EndOf m, q, refl, s)
 
-  step_on : {m n : Move Place} {k : Step Place} → SameMove S m n → Allows m k → (j : Step Place) × Allows n j × (symbols_of k ≡ symbols_of j) × SamePlace S (entered k) (entered j)
+  pub step_on : {m n : Move Place} {k : Step Place} → SameMove S m n → Allows m k → (j : Step Place) × Allows n j × (symbols_of k ≡ symbols_of j) × SamePlace S (entered k) (entered j)
   step_on accepts a = elim a [ ]
   step_on (reads_on {q = q} e r) (reads {b = b} i) = (took b q, reads (subst (λ z. IsTrue z) (e b) i), refl, r)
   step_on (chooses {q = q} r r') goes_left = (chose to_left q, goes_left, refl, r)
   step_on (chooses {q' = q} r r') goes_right = (chose to_right q, goes_right, refl, r')
   step_on (goes_on {f = f} {q = q} r) goes = (went f q, goes, refl, r)
 
-  end_on : {m n : Move Place} → SameMove S m n → m ≡ accept → n ≡ accept
+  step_back : {m n : Move Place} {j : Step Place} → SameMove S m n → Allows n j → (k : Step Place) × Allows m k × (symbols_of k ≡ symbols_of j) × SamePlace S (entered k) (entered j)
+  step_back accepts a = elim a [ ]
+  step_back (reads_on {p = p} e r) (reads {b = b} i) = (took b p, reads (subst (λ z. IsTrue z) (sym (e b)) i), refl, r)
+  step_back (chooses {p = p} r r') goes_left = (chose to_left p, goes_left, refl, r)
+  step_back (chooses {p' = p} r r') goes_right = (chose to_right p, goes_right, refl, r')
+  step_back (goes_on {e = e} {p = p} r) goes = (went e p, goes, refl, r)
+
+  pub waits_on : {m n : Move Place} → SameMove S m n → IsWaiting m → IsWaiting n
+  waits_on accepts w = tt
+  waits_on (reads_on e r) w = tt
+  waits_on (chooses r r') w = absurd w
+  waits_on (goes_on r) w = absurd w
+
+  pub waits_back : {m n : Move Place} → SameMove S m n → IsWaiting n → IsWaiting m
+  waits_back accepts w = tt
+  waits_back (reads_on e r) w = tt
+  waits_back (chooses r r') w = absurd w
+  waits_back (goes_on r) w = absurd w
+
+  pub end_back : {m n : Move Place} → SameMove S m n → n ≡ accept → m ≡ accept
+  end_back accepts e = refl
+  end_back (reads_on h r) e = cc
+  end_back (chooses r r') e = cc
+  end_back (goes_on r) e = cc
+
+  pub end_on : {m n : Move Place} → SameMove S m n → m ≡ accept → n ≡ accept
   end_on accepts e = refl
   end_on (reads_on h r) e = cc
   end_on (chooses r r') e = cc
   end_on (goes_on r) e = cc
 
-  fresh_on : {M : ℕ → ℕ → Type 0} {k l : Kind} {n m : ℕ} {p q : Place} → SameKind S M k l → S n m → SamePlace S p q → SamePlace S (fresh n k ∷ p) (fresh m l ∷ q)
+  fresh_on : {M G : ℕ → ℕ → Type 0} {k l : Kind} {n m : ℕ} {p q : Place} → SameKind S M G k l → S n m → SamePlace S p q → SamePlace S (fresh n k ∷ p) (fresh m l ∷ q)
   fresh_on one h s = pending h s
   fresh_on lit h s = pending h s
   fresh_on (class e) h s = pending h s
@@ -72,10 +97,10 @@ module _ (S : ℕ → ℕ → Type 0) where
   fresh_on (alt e f) h s = pending h s
   fresh_on (rep e) h s = pending h s
   fresh_on (mute e) h s = pending h s
-  fresh_on (at_register e) h s = pending h s
-  fresh_on write_register h s = pending h s
-  fresh_on set_register h s = pending h s
-  fresh_on add_register h s = pending h s
+  fresh_on (at_register g e) h s = pending h s
+  fresh_on (write_register g) h s = pending h s
+  fresh_on (set_register g p) h s = pending h s
+  fresh_on (add_register g p) h s = pending h s
 
 -- ---- places of alike programs
 
@@ -85,7 +110,7 @@ module _ (P Q : Grammar) (a : Alike P Q) (known : (name at : ℕ) → IsUse P na
   Partners n m = Joins a.pairs n m × IsWithin P n
 
   -- names of the same bytes, which are defined
-  abbrev Defined : ℕ → ℕ → Type 0
+  abbrev pub Defined : ℕ → ℕ → Type 0
   Defined k l = SameName P.names Q.names k l × IsDefined P.definitions k
 
   last_within : (n m : ℕ) (k : Kind) → kind_at P n ≡ k → IsWithin P n → IsAmong (last_parts k) m → IsWithin P m
@@ -94,7 +119,7 @@ module _ (P Q : Grammar) (a : Alike P Q) (known : (name at : ℕ) → IsUse P na
   other_within : (n m : ℕ) (k : Kind) → kind_at P n ≡ k → IsWithin P n → IsAmong (other_parts k) m → IsWithin P m
   other_within n m k e (d, p, i, s) j = (d, elsewhere, i, as_other s (subst (λ z. IsAmong (other_parts z) m) (sym e) j))
 
-  within_on : {k l : Kind} (n : ℕ) → kind_at P n ≡ k → IsWithin P n → ((name : ℕ) → k ≡ Call name → IsDefined P.definitions name) → SameKind (Joins a.pairs) (SameName P.names Q.names) k l → SameKind Partners Defined k l
+  within_on : {k l : Kind} (n : ℕ) → kind_at P n ≡ k → IsWithin P n → ((name : ℕ) → k ≡ Call name → IsDefined P.definitions name) → SameKind (Joins a.pairs) (SameName P.names Q.names) (G P Q a) k l → SameKind Partners Defined (G P Q a) k l
   within_on n e w d one = one
   within_on n e w d lit = lit
   within_on n e w d (class h) = class h
@@ -103,26 +128,26 @@ module _ (P Q : Grammar) (a : Alike P Q) (known : (name at : ℕ) → IsUse P na
   within_on n e w d (alt {l = l} {r = r} g h) = alt (g, last_within n l _ e w (inl refl)) (h, last_within n r _ e w (inr (inl refl)))
   within_on n e w d (rep {n = m} h) = rep (h, other_within n m _ e w (inl refl))
   within_on n e w d (mute {n = m} h) = mute (h, other_within n m _ e w (inl refl))
-  within_on n e w d (at_register {n = m} h) = at_register (h, other_within n m _ e w (inl refl))
-  within_on n e w d write_register = write_register
-  within_on n e w d set_register = set_register
-  within_on n e w d add_register = add_register
+  within_on n e w d (at_register {n = m} g h) = at_register g (h, other_within n m _ e w (inl refl))
+  within_on n e w d (write_register g) = write_register g
+  within_on n e w d (set_register g p) = set_register g p
+  within_on n e w d (add_register g p) = add_register g p
 
   called : (n m name : ℕ) → Partners n m → kind_at P n ≡ Call name → IsDefined P.definitions name
   called n m name (j, w) e =
       let x = a.match _ j.1 in
       known name x.node.at (inl (n, w, (x.node, x.is, sym (kind_is P n x.node x.is) ∙ e, refl)))
 
-  partners_on : (n m : ℕ) → Partners n m → SameKind Partners Defined (kind_at P n) (kind_at Q m)
+  pub partners_on : (n m : ℕ) → Partners n m → SameKind Partners Defined (G P Q a) (kind_at P n) (kind_at Q m)
   partners_on n m h = within_on n refl h.1 (λ name e. called n m name h e) (kinds_on P Q a n m h.0)
 
-  enter_on : (n m : ℕ) {p q : Place} → Partners n m → SamePlace Partners p q → SamePlace Partners (enter P n ∷ p) (enter Q m ∷ q)
+  pub enter_on : (n m : ℕ) {p q : Place} → Partners n m → SamePlace Partners p q → SamePlace Partners (enter P n ∷ p) (enter Q m ∷ q)
   enter_on n m h s = fresh_on Partners (partners_on _ _ h) h s
 
   pub root_on : (name name' : ℕ) → Defined name name' → Partners (root_of P name) (root_of Q name')
   root_on name name' (h, d) = (roots_on P Q a name name' h d, root_within P Q a name name' h d)
 
-  kind_moves : {k l : Kind} (n m need : ℕ) (left : Option ℕ) {p q : Place} → Partners n m → SameKind Partners Defined k l → SamePlace Partners p q → SameMove Partners (moves_of P n (with_counts k need left) p) (moves_of Q m (with_counts l need left) q)
+  kind_moves : {k l : Kind} (n m need : ℕ) (left : Option ℕ) {p q : Place} → Partners n m → SameKind Partners Defined (G P Q a) k l → SamePlace Partners p q → SameMove Partners (moves_of P n (with_counts k need left) p) (moves_of Q m (with_counts l need left) q)
   kind_moves n m need left h one s = goes_on s
   kind_moves n m need left h lit s = goes_on s
   kind_moves n m need left h (class e) s = reads_on e s
@@ -134,22 +159,29 @@ module _ (P Q : Grammar) (a : Alike P Q) (known : (name at : ℕ) → IsUse P na
   kind_moves n m zero (Some zero) h (rep e) s = goes_on s
   kind_moves n m zero (Some (suc left)) h (rep e) s = chooses (enter_on _ _ e (pending h s)) s
   kind_moves n m need left h (mute e) s = goes_on (enter_on _ _ e (ends h s))
-  kind_moves n m need left h (at_register e) s = goes_on (enter_on _ _ e (ends h s))
-  kind_moves n m need left h write_register s = goes_on s
-  kind_moves n m need left h set_register s = goes_on s
-  kind_moves n m need left h add_register s = goes_on s
+  kind_moves n m need left h (at_register g e) s = goes_on (enter_on _ _ e (ends h s))
+  kind_moves n m need left h (write_register g) s = goes_on s
+  kind_moves n m need left h (set_register g p) s = goes_on s
+  kind_moves n m need left h (add_register g p) s = goes_on s
 
-  moves_on : {p q : Place} → SamePlace Partners p q → SameMove Partners (moves P p) (moves Q q)
+  pub moves_on : {p q : Place} → SamePlace Partners p q → SameMove Partners (moves P p) (moves Q q)
   moves_on empty = accepts
   moves_on (pending {n = n} {m = m} {need = need} {left = left} h s) = kind_moves n m need left h (partners_on n m h) s
   moves_on (ends h s) = goes_on s
 
-  walk_on : (ks : List (Step Place)) (p t q : Place) → Walk (moves P) p ks t → SamePlace Partners p q → (js : List (Step Place)) × (u : Place) × Walk (moves Q) q js u × SamePlace Partners t u × (code_of ks ≡ code_of js)
+  pub walk_on : (ks : List (Step Place)) (p t q : Place) → Walk (moves P) p ks t → SamePlace Partners p q → (js : List (Step Place)) × (u : Place) × Walk (moves Q) q js u × SamePlace Partners t u × (code_of ks ≡ code_of js)
   walk_on [] p t q w s = ([], q, refl, subst (λ z. SamePlace Partners z q) w s, refl)
   walk_on (k ∷ ks) p t q (al, w) s =
       let x = step_on Partners (moves_on s) al in
       let y = walk_on ks (entered k) t (entered x.0) w x.3 in
       (x.0 ∷ y.0, y.1, (x.1, y.2), y.3, ap (λ z. z ++ code_of ks) x.2 ∙ ap (λ z. symbols_of x.0 ++ z) y.4)
+
+  pub walk_back : (js : List (Step Place)) (p q u : Place) → Walk (moves Q) q js u → SamePlace Partners p q → (ks : List (Step Place)) × (t : Place) × Walk (moves P) p ks t × SamePlace Partners t u × (code_of ks ≡ code_of js)
+  walk_back [] p q u w s = ([], p, refl, subst (λ z. SamePlace Partners p z) w s, refl)
+  walk_back (j ∷ js) p q u (al, w) s =
+      let x = step_back Partners (moves_on s) al in
+      let y = walk_back js (entered x.0) (entered j) u w x.3 in
+      (x.0 ∷ y.0, y.1, (x.1, y.2), y.3, ap (λ z. z ++ code_of y.0) x.2 ∙ ap (λ z. symbols_of j ++ z) y.4)
 
   module _ (root root' : ℕ) (same : Partners root root') where
     place_on : {p : Place} → IsPlace P root p → (q : Place) × SamePlace Partners p q × IsPlace Q root' q
@@ -163,11 +195,11 @@ module _ (P Q : Grammar) (a : Alike P Q) (known : (name at : ℕ) → IsUse P na
         let y = rest_on Partners x.1 in
         (y.1, y.3, by_rest (subst (λ z. IsPlace Q root' z) y.2 x.2))
 
-    one_partner : (n m m' : ℕ) → Partners n m → Partners n m' → m ≡ m'
-    one_partner n m m' h k = one_second P.nodes Q.nodes (SameName P.names Q.names) a.low a.high a.pairs a.match a.rising n m m' h.0 k.0
+    pub one_partner : (n m m' : ℕ) → Partners n m → Partners n m' → m ≡ m'
+    one_partner n m m' h k = one_second P.nodes Q.nodes (SameName P.names Q.names) (G P Q a) a.low a.high a.pairs a.match a.rising n m m' h.0 k.0
 
-    one_partner_back : (n n' m : ℕ) → Partners n m → Partners n' m → n ≡ n'
-    one_partner_back n n' m h k = one_first P.nodes Q.nodes (SameName P.names Q.names) a.low a.high a.pairs a.match a.rising n n' m h.0 k.0
+    pub one_partner_back : (n n' m : ℕ) → Partners n m → Partners n' m → n ≡ n'
+    one_partner_back n n' m h k = one_first P.nodes Q.nodes (SameName P.names Q.names) (G P Q a) a.low a.high a.pairs a.match a.rising n n' m h.0 k.0
 
     pub loop_on : HasEmptyLoop P root → HasEmptyLoop Q root'
     loop_on (p, k, ks, is, (al, w), none) =

@@ -1,9 +1,10 @@
 -- The stages of two alike programs: each is refused for what its partner is refused for, and the first one that is has the same number.
-use Rattle.std.proofs.Common.{◌≡◌, ℕ, suc, List, [], ◌∷◌, ◌++◌, ◌⊎◌, inl, inr, length, map, refl, sym, ap, ◌∙◌, subst}
-use Rattle.kex_code.specs.Codes.{IsAmong}
+use Rattle.std.proofs.Common.{◌≡◌, ℕ, zero, suc, List, [], ◌∷◌, ◌++◌, ◌⊎◌, inl, inr, length, map, refl, sym, ap, ◌∙◌, subst}
+use Rattle.kex_code.specs.Codes.{IsAmong, HasNumber}
 use Rattle.kex_model.specs.Programs.{Grammar}
 use Rattle.kex_model.specs.declared.program.Start.{Start}
 use Rattle.kex_model.specs.Trees.{root_of}
+use Rattle.kex_model.proofs.Tables.{some_same}
 use Rattle.kex_rules.specs.Rules.{IsDefined, IsUse}
 use Rattle.kex_stages.specs.declared.refusal.StageRefusal.{StageRefusal}
 use Rattle.kex_stages.specs.declared.refusal.StageRefusal.TheVariants.{TooManyPlaces, EmptyLoop, NoText, Memory}
@@ -14,18 +15,25 @@ use Rattle.kex_compile.proofs.Placing.{Partners, end_ahead, loop_on, more_on, ro
 
 -- ---- lists in pairs
 
-Pairwise : (ℕ → ℕ → Type 0) → List ℕ → List ℕ → Type 0
+unfoldable pub Pairwise : (ℕ → ℕ → Type 0) → List ℕ → List ℕ → Type 0
 Pairwise T [] [] = Unit {0}
 Pairwise T (x ∷ xs) (y ∷ ys) = T x y × Pairwise T xs ys
 Pairwise T _ _ = ⊥
 
-pair_on : (T : ℕ → ℕ → Type 0) (xs ys : List ℕ) → Pairwise T xs ys → (x : ℕ) → IsAmong xs x → (y : ℕ) × IsAmong ys y × T x y
+pub pair_on : (T : ℕ → ℕ → Type 0) (xs ys : List ℕ) → Pairwise T xs ys → (x : ℕ) → IsAmong xs x → (y : ℕ) × IsAmong ys y × T x y
 unfolding Pairwise
 pair_on T [] [] h x i = absurd i
 pair_on T [] (y ∷ ys) h x i = absurd h
 pair_on T (z ∷ xs) [] h x i = absurd h
 pair_on T (z ∷ xs) (y ∷ ys) h x (inl e) = (y, inl refl, subst (λ u. T u y) e h.0)
 pair_on T (z ∷ xs) (y ∷ ys) h x (inr i) = let r = pair_on T xs ys h.1 x i in (r.0, inr r.1, r.2)
+
+pub pair_at : (T : ℕ → ℕ → Type 0) (xs ys : List ℕ) → Pairwise T xs ys → (i x y : ℕ) → HasNumber xs x i → HasNumber ys y i → T x y
+unfolding Pairwise
+pair_at T [] ys h i x y k l = cc
+pair_at T (z ∷ xs) [] h i x y k l = absurd h
+pair_at T (z ∷ xs) (u ∷ ys) h zero x y k l = subst (λ a. T a y) (some_same z x k) (subst (λ a. T z a) (some_same u y l) h.0)
+pair_at T (z ∷ xs) (u ∷ ys) h (suc i) x y k l = pair_at T xs ys h.1 i x y k l
 
 -- the first of the list that is so has this number
 FirstAt : (ℕ → Type 0) → List ℕ → ℕ → Type 0
@@ -66,7 +74,7 @@ root P s = root_of P s.name
 
 module _ (P Q : Grammar) (a : Alike P Q) (b : Alike Q P) (known : Known P) (known' : Known Q) where
   -- the roots of a stage
-  abbrev Both : ℕ → ℕ → Type 0
+  abbrev pub Both : ℕ → ℕ → Type 0
   Both r r' = Partners P Q a known r r' × Partners Q P b known' r' r
 
   roots_from : (ss ts : List Start) → SameStages (SameName P.names Q.names) ss ts → ((s : Start) → IsAmong ss s → IsDefined P.definitions s.name) → ((t : Start) → IsAmong ts t → IsDefined Q.definitions t.name) → Pairwise Both (map (root P) ss) (map (root Q) ts)
@@ -76,7 +84,7 @@ module _ (P Q : Grammar) (a : Alike P Q) (b : Alike Q P) (known : Known P) (know
   roots_from (s ∷ ss) [] h d e = absurd h
   roots_from (s ∷ ss) (t ∷ ts) h d e = ((root_on P Q a known s.name t.name (h.0, d s (inl refl)), root_on Q P b known' t.name s.name (name_back P.names Q.names s.name t.name h.0, e t (inl refl))), roots_from ss ts h.2 (λ x i. d x (inr i)) (λ x i. e x (inr i)))
 
-  roots : Pairwise Both (roots_of P) (roots_of Q)
+  pub roots : Pairwise Both (roots_of P) (roots_of Q)
   roots = roots_from P.stages Q.stages a.stages (λ s i. known s.name s.at (inr (s, i, refl, refl))) (λ t i. known' t.name t.at (inr (t, i, refl, refl)))
 
   why_on : (e : StageRefusal) (r r' : ℕ) → Both r r' → IsRefusedFor P e r → IsRefusedFor Q e r'
