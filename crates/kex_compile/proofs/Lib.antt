@@ -8,3 +8,4 @@ pub mod Carrying
 pub mod Placing
 pub mod Staging
 pub mod Refusing
+pub mod Meaning
