@@ -9,3 +9,4 @@ pub mod Placing
 pub mod Staging
 pub mod Refusing
 pub mod Meaning
+pub mod Answering

@@ -1,7 +1,12 @@
-// Laws of compiling: what a text is answered doesn't hang on the numbers that the nodes and the names of its programs have.
+// Laws of compiling: what a text is answered doesn't hang on the numbers that the nodes, names and registers of its programs have.
 
-ghost use Rattle.std.specs.Prelude.{◌≡◌, ℕ, List};
+ghost use Rattle.std.specs.Prelude.{◌≡◌, ◌↔◌, ℕ, Bool, List, Option};
+ghost use Rattle.kex_code.specs.Codes.{HasNumber};
 ghost use Rattle.kex_model.specs.Programs.{Grammar};
+ghost use Rattle.kex_model.specs.Answers.{Means, Report};
+ghost use Rattle.kex_model.specs.Laws.{StagesAnswer};
+ghost use Rattle.kex_reader.specs.Spelling.{Spells};
+ghost use Rattle.kex_compile.specs.Stages.{roots_of};
 ghost use Rattle.kex_compile.specs.Compiled.{Accepts, IsRefused};
 
 use crate::refusal::CompileRefusal;
@@ -29,4 +34,16 @@ pub fn refused()
     regexp::one_tree();
     reader::one_tree();
     reader::one_refusal()
+}
+
+/// All programs of a text that is accepted answer alike: stage by stage in what they mean, and so do their pipelines, in what they
+/// write and report on an input, open or ended.
+pub fn meant()
+    ensures stages { (text : List ℕ) (P Q : Grammar) (i r q : ℕ) (input said : List ℕ) → Accepts text P → Spells text Q → HasNumber (roots_of P) r i → HasNumber (roots_of Q) q i → Means P r input said ↔ Means Q q input said }
+    ensures pipelines { (text : List ℕ) (P Q : Grammar) (limit : ℕ) (input : List ℕ) (ended : Bool) (said : List ℕ) (report : Option Report) → Accepts text P → Spells text Q → StagesAnswer P limit (roots_of P) input ended said report ↔ StagesAnswer Q limit (roots_of Q) input ended said report }
+{
+    tokens::one_cut();
+    tokens::one_value();
+    regexp::one_tree();
+    reader::one_tree()
 }

@@ -1,0 +1,223 @@
+-- Two programs that one text spells answer alike: their stages, and so their pipelines.
+use Rattle.std.proofs.Common.{◌≡◌, ◌↔◌, ℕ, suc, Bool, List, [], ◌∷◌, ◌⊎◌, inl, inr, ⊎_elim, Option, refl, sym, ap, ◌∙◌, subst}
+use Rattle.kex_code.specs.declared.symbol.Symbol.{Symbol}
+use Rattle.kex_code.specs.Codes.{bytes_of, Before, IsAmong, HasNumber}
+use Rattle.kex_model.specs.Programs.{Grammar}
+use Rattle.kex_model.specs.Trees.{Tree, Parses, kind_at}
+use Rattle.kex_model.specs.Moves.{Step, Walk}
+use Rattle.kex_model.specs.Places.{Place, moves, start_of, at_start, HasEmptyLoop}
+use Rattle.kex_model.specs.Survivors.{NoReturn, LeadsToEnd, Reaches, Survives, Agreed}
+use Rattle.kex_model.specs.Answers.{code_at, HasParse, Means, Says, Viable, Answer, Report, Pipeline}
+use Rattle.kex_model.specs.Laws.{StageAnswers, StagesAnswer}
+use Rattle.kex_model.proofs.Counting.{among_get}
+use Rattle.kex_model.proofs.Loops.{no_return}
+use Rattle.kex_reader.specs.Spelling.{Spells}
+use Rattle.kex_stages.proofs.Answering.{Serves, answers_so}
+use Rattle.kex_compile.specs.Stages.{roots_of}
+use Rattle.kex_compile.specs.Compiled.{Accepts}
+use Rattle.kex_compile.proofs.Alike.{Alike, name_back}
+use Rattle.kex_compile.proofs.Carrying.{defined_on, use_on}
+use Rattle.kex_compile.proofs.Placing.{SamePlace, empty, Partners, partners_on, enter_on, moves_on, walk_on, walk_back, waits_on, waits_back, end_on, end_back, place_back, place_forth, one_partner, one_partner_back, loop_on}
+use Rattle.kex_compile.proofs.Staging.{Known, Pairwise, pair_on, pair_at, Both, roots}
+use Rattle.kex_compile.proofs.Meaning.{Same, same_empty, tree_on, code_on, part_on, meaning_on}
+
+-- where no place is reached again without a byte no walk returns
+once : (P : Grammar) (root : ℕ) → (HasEmptyLoop P root → ⊥) → (ks : List (Step Place)) (t : Place) → Walk (moves P) (start_of P root) ks t → NoReturn (start_of P root ∷ []) ks
+once P root none ks t w = no_return P root none ks (start_of P root) t (start_of P root ∷ []) at_start (λ q i. ⊎_elim (λ e. record { steps = []; walk = sym e; silent = refl }) (λ j. absurd j) i) w
+
+-- ---- trees
+
+module _ (P Q : Grammar) (a : Alike P Q) (known : Known P) (root root' : ℕ) (same : Partners P Q a known root root') where
+  same_kind : Same P Q a known (kind_at P root) (kind_at Q root')
+  same_kind = partners_on P Q a known root root' same
+
+  parses_on : (t : Tree) (w : List ℕ) → Parses P root t w → Parses Q root' t w
+  parses_on t w h = record { tree = tree_on P Q a known same_kind h.tree; text = h.text }
+
+  codes_on : (t : Tree) (w : List ℕ) → Parses P root t w → code_at P root t ≡ code_at Q root' t
+  codes_on t w h = code_on P Q a known same_kind h.tree
+
+-- ---- survivors
+
+module _ (P Q : Grammar) (a : Alike P Q) (known : Known P) (root root' : ℕ) (same : Partners P Q a known root root') (none : HasEmptyLoop P root → ⊥) (none' : HasEmptyLoop Q root' → ⊥) where
+  abbrev from : Place
+  from = start_of P root
+
+  abbrev from' : Place
+  from' = start_of Q root'
+
+  abbrev SameHere : Place → Place → Type 0
+  SameHere = SamePlace (Partners P Q a known)
+
+  begin : SameHere from from'
+  begin = enter_on P Q a known root root' same empty
+
+  reach_on : (w : List ℕ) (p : Place) (c : List Symbol) → Reaches (moves P) from w p c → (q : Place) × SameHere p q × Reaches (moves Q) from' w q c
+  reach_on w p c (ks, h, e) =
+      let x = walk_on P Q a known ks from p from' h.walk begin in
+      (x.1, x.3, (x.0, record { walk = x.2; waits = waits_on (Partners P Q a known) (moves_on P Q a known x.3) h.waits; once = once Q root' none' x.0 x.1 x.2; reads = ap bytes_of (sym x.4) ∙ h.reads }, sym x.4 ∙ e))
+
+  reach_back : (w : List ℕ) (q : Place) (c : List Symbol) → Reaches (moves Q) from' w q c → (p : Place) × SameHere p q × Reaches (moves P) from w p c
+  reach_back w q c (js, h, e) =
+      let x = walk_back P Q a known js from from' q h.walk begin in
+      (x.1, x.3, (x.0, record { walk = x.2; waits = waits_back (Partners P Q a known) (moves_on P Q a known x.3) h.waits; once = once P root none x.0 x.1 x.2; reads = ap bytes_of x.4 ∙ h.reads }, x.4 ∙ e))
+
+  alive_on : (p q : Place) → SameHere p q → LeadsToEnd (moves P) p → LeadsToEnd (moves Q) q
+  alive_on p q s (ks, e, w, acc) =
+      let x = walk_on P Q a known ks p e q w s in
+      (x.0, x.1, x.2, end_on (Partners P Q a known) (moves_on P Q a known x.3) acc)
+
+  alive_back : (p q : Place) → SameHere p q → LeadsToEnd (moves Q) q → LeadsToEnd (moves P) p
+  alive_back p q s (js, e, w, acc) =
+      let x = walk_back P Q a known js p q e w s in
+      (x.0, x.1, x.2, end_back (Partners P Q a known) (moves_on P Q a known x.3) acc)
+
+  survives_on : (w : List ℕ) (p : Place) (c : List Symbol) → Survives (moves P) from w p c → (q : Place) × Survives (moves Q) from' w q c
+  survives_on w p c h =
+      let x = reach_on w p c h.reached in (
+        x.0,
+        record {
+          reached = x.2;
+          alive = alive_on p x.0 x.1 h.alive;
+          least = λ d r. let y = reach_back w x.0 d r in h.least d (subst (λ z. Reaches (moves P) from w z d) (place_back (Partners P Q a known) (one_partner_back P Q a known root root' same) y.1 x.1) y.2);
+        },
+      )
+
+  survives_back : (w : List ℕ) (q : Place) (c : List Symbol) → Survives (moves Q) from' w q c → (p : Place) × Survives (moves P) from w p c
+  survives_back w q c h =
+      let x = reach_back w q c h.reached in (
+        x.0,
+        record {
+          reached = x.2;
+          alive = alive_back x.0 q x.1 h.alive;
+          least = λ d r. let y = reach_on w x.0 d r in h.least d (subst (λ z. Reaches (moves Q) from' w z d) (place_forth (Partners P Q a known) (one_partner P Q a known root root' same) y.1 x.1) y.2);
+        },
+      )
+
+  viable_on : (w : List ℕ) → Viable P root w → Viable Q root' w
+  viable_on w (p, (c, reached, end)) = let x = reach_on w p c reached in (x.0, (c, x.2, alive_on p x.0 x.1 end))
+
+  viable_back : (w : List ℕ) → Viable Q root' w → Viable P root w
+  viable_back w (q, (c, reached, end)) = let x = reach_back w q c reached in (x.0, (c, x.2, alive_back x.0 q x.1 end))
+
+  agreed_on : (w : List ℕ) (c : List Symbol) → Agreed (moves P) from w c → Agreed (moves Q) from' w c
+  agreed_on w c h = record {
+    viable = viable_on w h.viable;
+    common = λ q d s. let x = survives_back w q d s in h.common x.0 d x.1;
+    longest = λ c' all. h.longest c' (λ p d s. let x = survives_on w p d s in all x.0 d x.1);
+  }
+
+  -- ---- answers
+
+  says_on : (w text : List ℕ) → Says P root w text → Says Q root' w text
+  says_on w text h = record {
+    agreed = h.agreed;
+    is_agreed = agreed_on w h.agreed h.is_agreed;
+    tree = h.tree;
+    more = h.more;
+    parses = parses_on P Q a known root root' same h.tree _ h.parses;
+    begins = (h.begins.0, sym (codes_on P Q a known root root' same h.tree _ h.parses) ∙ h.begins.1);
+    said = h.said ∙ (part_on P Q a known (same_kind P Q a known root root' same) h.parses.tree h.agreed _ _ (same_empty P Q a)).bytes;
+  }
+
+  module _ (parses_back : (t : Tree) (w : List ℕ) → Parses Q root' t w → Parses P root t w) where
+    means_on : (w text : List ℕ) → Means P root w text → Means Q root' w text
+    means_on w text (t, g, e) = (
+      t,
+      record {
+        parses = parses_on P Q a known root root' same t w g.parses;
+        least = λ s h.
+            let k = parses_back s w h in
+            subst (λ z. (z ≡ code_at Q root' s) ⊎ Before z (code_at Q root' s)) (codes_on P Q a known root root' same t w g.parses) (subst (λ z. (code_at P root t ≡ z) ⊎ Before (code_at P root t) z) (codes_on P Q a known root root' same s w k) (g.least s k));
+      },
+      e ∙ meaning_on P Q a known (same_kind P Q a known root root' same) g.parses.tree,
+    )
+
+    serves : Serves (Viable P root) (Viable Q root') (Says P root) (Says Q root') (HasParse P root) (HasParse Q root') (Means P root) (Means Q root')
+    serves = record { good = viable_on; good_back = viable_back; says = says_on; parsed_back = λ w h. (h.0, parses_back h.0 w h.1); means = means_on }
+
+    stage_on : (limit : ℕ) (w : List ℕ) (e : Bool) (x : Answer) → StageAnswers P root limit w e x → StageAnswers Q root' limit w e x
+    stage_on limit w e x h = answers_so (Viable P root) (Viable Q root') (Says P root) (Says Q root') (HasParse P root) (HasParse Q root') (Means P root) (Means Q root') serves limit h
+
+-- ---- programs
+
+-- two alike programs in which each name that is used is defined, and no stage has a loop that reads nothing
+record BothRun (P Q : Grammar) : Type 0 where
+  to : Alike P Q
+  fro : Alike Q P
+  known : Known P
+  known' : Known Q
+  no_loop : (r : ℕ) → IsAmong (roots_of P) r → HasEmptyLoop P r → ⊥
+  no_loop' : (r : ℕ) → IsAmong (roots_of Q) r → HasEmptyLoop Q r → ⊥
+
+turned : (P Q : Grammar) → BothRun P Q → BothRun Q P
+turned P Q h = record { to = h.fro; fro = h.to; known = h.known'; known' = h.known; no_loop = h.no_loop'; no_loop' = h.no_loop }
+
+module _ (P Q : Grammar) (h : BothRun P Q) where
+  -- the roots of a stage
+  abbrev Roots : ℕ → ℕ → Type 0
+  Roots = Both P Q h.to h.fro h.known h.known'
+
+  all_roots : Pairwise Roots (roots_of P) (roots_of Q)
+  all_roots = roots P Q h.to h.fro h.known h.known'
+
+  one_means : (r q : ℕ) → Roots r q → IsAmong (roots_of P) r → IsAmong (roots_of Q) q → (w text : List ℕ) → Means P r w text → Means Q q w text
+  one_means r q p i j w text m = means_on P Q h.to h.known r q p.0 (h.no_loop r i) (h.no_loop' q j) (λ t v k. parses_on Q P h.fro h.known' q r p.1 t v k) w text m
+
+  one_answers : (r q : ℕ) → Roots r q → IsAmong (roots_of P) r → IsAmong (roots_of Q) q → (limit : ℕ) (w : List ℕ) (e : Bool) (x : Answer) → StageAnswers P r limit w e x → StageAnswers Q q limit w e x
+  one_answers r q p i j limit w e x m = stage_on P Q h.to h.known r q p.0 (h.no_loop r i) (h.no_loop' q j) (λ t v k. parses_on Q P h.fro h.known' q r p.1 t v k) limit w e x m
+
+  stages_mean : (i r q : ℕ) (w text : List ℕ) → HasNumber (roots_of P) r i → HasNumber (roots_of Q) q i → Means P r w text → Means Q q w text
+  stages_mean i r q w text k l m = one_means r q (pair_at Roots (roots_of P) (roots_of Q) all_roots i r q k l) (among_get (roots_of P) i r k) (among_get (roots_of Q) i q l) w text m
+
+  stages_answer : (limit i : ℕ) (rs qs : List ℕ) (w : List ℕ) (e : Bool) (said : List ℕ) (report : Option Report) → Pairwise Roots rs qs → ((r : ℕ) → IsAmong rs r → IsAmong (roots_of P) r) → ((q : ℕ) → IsAmong qs q → IsAmong (roots_of Q) q) → Pipeline (λ root v f x. StageAnswers P root limit v f x) i rs w e said report → Pipeline (λ root v f x. StageAnswers Q root limit v f x) i qs w e said report
+  unfolding Pairwise
+  stages_answer limit i [] [] w e said report p f g m = m
+  stages_answer limit i [] (q ∷ qs) w e said report p f g m = absurd p
+  stages_answer limit i (r ∷ rs) [] w e said report p f g m = absurd p
+  stages_answer limit i (r ∷ rs) (q ∷ qs) w e said report p f g (x, rest, gives, more, is) = (
+    x,
+    rest,
+    one_answers r q p.0 (f r (inl refl)) (g q (inl refl)) limit w e x gives,
+    stages_answer limit (suc i) rs qs x.text x.ended said rest p.1 (λ y j. f y (inr j)) (λ y j. g y (inr j)) more,
+    is,
+  )
+
+  pipeline_answers : (limit : ℕ) (w : List ℕ) (e : Bool) (said : List ℕ) (report : Option Report) → StagesAnswer P limit (roots_of P) w e said report → StagesAnswer Q limit (roots_of Q) w e said report
+  pipeline_answers limit w e said report m = stages_answer limit 1 (roots_of P) (roots_of Q) w e said report all_roots (λ r i. i) (λ q i. i) m
+
+-- ---- texts
+
+-- a name that is used is defined, where it is so in the other program
+known_on : (P Q : Grammar) → Alike P Q → Alike Q P → Known P → Known Q
+known_on P Q a b known name at u =
+    let x = use_on Q P b name at u in
+    defined_on P Q a x.0 name (name_back Q.names P.names name x.0 x.1) (known x.0 at x.2)
+
+module _ (text : List ℕ) (alike : (P Q : Grammar) → Spells text P → Spells text Q → Alike P Q) where
+  both_run : (P Q : Grammar) → Accepts text P → Spells text Q → BothRun P Q
+  both_run P Q ok s =
+      let a = alike P Q ok.spells s in
+      let b = alike Q P s ok.spells in
+      let known' = known_on P Q a b ok.ruled.known in
+      record {
+        to = a;
+        fro = b;
+        known = ok.ruled.known;
+        known' = known';
+        no_loop = λ r i. (ok.stages r i).no_loop;
+        no_loop' = λ r i l. (
+            let x = pair_on (Both Q P b a known' ok.ruled.known) (roots_of Q) (roots_of P) (roots Q P b a known' ok.ruled.known) r i in
+            (ok.stages x.0 x.1).no_loop (loop_on Q P b known' r x.0 x.2.0 l)
+            );
+      }
+
+  pub meant : (P Q : Grammar) (i r q : ℕ) (input said : List ℕ) → Accepts text P → Spells text Q → HasNumber (roots_of P) r i → HasNumber (roots_of Q) q i → Means P r input said ↔ Means Q q input said
+  meant P Q i r q input said ok s k l =
+      let h = both_run P Q ok s in
+      (stages_mean P Q h i r q input said k l, stages_mean Q P (turned P Q h) i q r input said l k)
+
+  pub answered : (P Q : Grammar) (limit : ℕ) (input : List ℕ) (ended : Bool) (said : List ℕ) (report : Option Report) → Accepts text P → Spells text Q → StagesAnswer P limit (roots_of P) input ended said report ↔ StagesAnswer Q limit (roots_of Q) input ended said report
+  answered P Q limit input ended said report ok s =
+      let h = both_run P Q ok s in
+      (pipeline_answers P Q h limit input ended said report, pipeline_answers Q P (turned P Q h) limit input ended said report)
