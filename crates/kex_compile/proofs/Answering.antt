@@ -11,13 +11,15 @@ use Rattle.kex_model.specs.Answers.{code_at, HasParse, Means, Says, Viable, Answ
 use Rattle.kex_model.specs.Laws.{StageAnswers, StagesAnswer}
 use Rattle.kex_model.proofs.Counting.{among_get}
 use Rattle.kex_model.proofs.Loops.{no_return}
+use Rattle.kex_rules.specs.Rules.{IsRuled}
 use Rattle.kex_reader.specs.Spelling.{Spells}
 use Rattle.kex_stages.proofs.Answering.{Serves, answers_so}
-use Rattle.kex_compile.specs.Stages.{roots_of}
+use Rattle.kex_compile.specs.Stages.{CanRun, most_places, roots_of}
 use Rattle.kex_compile.specs.Compiled.{Accepts}
+use Rattle.kex_compile.proofs.Terms.{SameName}
 use Rattle.kex_compile.proofs.Alike.{Alike, name_back}
-use Rattle.kex_compile.proofs.Carrying.{defined_on, use_on}
-use Rattle.kex_compile.proofs.Placing.{SamePlace, empty, Partners, partners_on, enter_on, moves_on, walk_on, walk_back, waits_on, waits_back, end_on, end_back, place_back, place_forth, one_partner, one_partner_back, loop_on}
+use Rattle.kex_compile.proofs.Carrying.{defined_on, not_tail_on, once_back, stage_on as start_on, use_on}
+use Rattle.kex_compile.proofs.Placing.{SamePlace, empty, Partners, partners_on, enter_on, moves_on, walk_on, walk_back, waits_on, waits_back, end_on, end_back, place_back, place_forth, one_partner, one_partner_back, end_ahead, loop_on, more_on}
 use Rattle.kex_compile.proofs.Staging.{Known, Pairwise, pair_on, pair_at, Both, roots}
 use Rattle.kex_compile.proofs.Meaning.{Same, same_empty, tree_on, code_on, part_on, meaning_on}
 
@@ -150,9 +152,6 @@ record BothRun (P Q : Grammar) : Type 0 where
   no_loop : (r : ℕ) → IsAmong (roots_of P) r → HasEmptyLoop P r → ⊥
   no_loop' : (r : ℕ) → IsAmong (roots_of Q) r → HasEmptyLoop Q r → ⊥
 
-turned : (P Q : Grammar) → BothRun P Q → BothRun Q P
-turned P Q h = record { to = h.fro; fro = h.to; known = h.known'; known' = h.known; no_loop = h.no_loop'; no_loop' = h.no_loop }
-
 module _ (P Q : Grammar) (h : BothRun P Q) where
   -- the roots of a stage
   abbrev Roots : ℕ → ℕ → Type 0
@@ -194,30 +193,52 @@ known_on P Q a b known name at u =
     let x = use_on Q P b name at u in
     defined_on P Q a x.0 name (name_back Q.names P.names name x.0 x.1) (known x.0 at x.2)
 
+ruled_on : (P Q : Grammar) → Alike P Q → Alike Q P → IsRuled P → IsRuled Q
+ruled_on P Q a b r = record {
+  once = once_back Q P b r.once;
+  known = known_on P Q a b r.known;
+  begins = let t = start_on (SameName P.names Q.names) P.stages Q.stages a.stages r.begins.0 r.begins.1 in (t.0, t.1);
+  tail = λ at n. r.tail at (not_tail_on Q P b at n);
+}
+
+can_run_on : (P Q : Grammar) (a : Alike P Q) (b : Alike Q P) (known : Known P) (known' : Known Q) (r q : ℕ) → Both P Q a b known known' r q → CanRun P r → CanRun Q q
+can_run_on P Q a b known known' r q p h = record {
+  few = λ m. h.few (more_on Q P b known' q r p.1 most_places m);
+  no_loop = λ l. h.no_loop (loop_on Q P b known' q r p.1 l);
+  some_text = end_ahead P Q a known r q p.0 h.some_text;
+}
+
 module _ (text : List ℕ) (alike : (P Q : Grammar) → Spells text P → Spells text Q → Alike P Q) where
-  both_run : (P Q : Grammar) → Accepts text P → Spells text Q → BothRun P Q
-  both_run P Q ok s =
+  -- if one program of the text is accepted, all are
+  pub accepts : (P Q : Grammar) → Accepts text P → Spells text Q → Accepts text Q
+  accepts P Q ok s =
       let a = alike P Q ok.spells s in
       let b = alike Q P s ok.spells in
-      let known' = known_on P Q a b ok.ruled.known in
+      let ruled = ruled_on P Q a b ok.ruled in
       record {
-        to = a;
-        fro = b;
-        known = ok.ruled.known;
-        known' = known';
-        no_loop = λ r i. (ok.stages r i).no_loop;
-        no_loop' = λ r i l. (
-            let x = pair_on (Both Q P b a known' ok.ruled.known) (roots_of Q) (roots_of P) (roots Q P b a known' ok.ruled.known) r i in
-            (ok.stages x.0 x.1).no_loop (loop_on Q P b known' r x.0 x.2.0 l)
-            );
+        spells = s;
+        ruled = ruled;
+        stages = λ q i.
+            let x = pair_on (Both Q P b a ruled.known ok.ruled.known) (roots_of Q) (roots_of P) (roots Q P b a ruled.known ok.ruled.known) q i in
+            can_run_on P Q a b ok.ruled.known ruled.known x.0 q (x.2.1, x.2.0) (ok.stages x.0 x.1);
       }
+
+  both_run : (P Q : Grammar) → Accepts text P → Accepts text Q → BothRun P Q
+  both_run P Q h k = record {
+    to = alike P Q h.spells k.spells;
+    fro = alike Q P k.spells h.spells;
+    known = h.ruled.known;
+    known' = k.ruled.known;
+    no_loop = λ r i. (h.stages r i).no_loop;
+    no_loop' = λ q i. (k.stages q i).no_loop;
+  }
 
   pub meant : (P Q : Grammar) (i r q : ℕ) (input said : List ℕ) → Accepts text P → Spells text Q → HasNumber (roots_of P) r i → HasNumber (roots_of Q) q i → Means P r input said ↔ Means Q q input said
   meant P Q i r q input said ok s k l =
-      let h = both_run P Q ok s in
-      (stages_mean P Q h i r q input said k l, stages_mean Q P (turned P Q h) i q r input said l k)
+      let also = accepts P Q ok s in
+      (stages_mean P Q (both_run P Q ok also) i r q input said k l, stages_mean Q P (both_run Q P also ok) i q r input said l k)
 
   pub answered : (P Q : Grammar) (limit : ℕ) (input : List ℕ) (ended : Bool) (said : List ℕ) (report : Option Report) → Accepts text P → Spells text Q → StagesAnswer P limit (roots_of P) input ended said report ↔ StagesAnswer Q limit (roots_of Q) input ended said report
   answered P Q limit input ended said report ok s =
-      let h = both_run P Q ok s in
-      (pipeline_answers P Q h limit input ended said report, pipeline_answers Q P (turned P Q h) limit input ended said report)
+      let also = accepts P Q ok s in
+      (pipeline_answers P Q (both_run P Q ok also) limit input ended said report, pipeline_answers Q P (both_run Q P also ok) limit input ended said report)

@@ -185,6 +185,13 @@ module _ (P Q : Grammar) (a : Alike P Q) where
       let y = definition_at R N G P.definitions Q.definitions a.definitions e j he in
       (i, j, x.0, y.0, lt, x.1, y.1, forth d.name x.0.name y.0.name x.2.0 (subst (λ z. N z y.0.name) (sym same) y.2.0), sym y.2.1 ∙ is)
 
+  -- where a name has one definition in the second program, so it has in the first
+  pub once_back : ((i j : ℕ) (d e : Definition) → HasNumber Q.definitions d i → HasNumber Q.definitions e j → d.name ≡ e.name → i ≡ j) → (i j : ℕ) (d e : Definition) → HasNumber P.definitions d i → HasNumber P.definitions e j → d.name ≡ e.name → i ≡ j
+  once_back f i j d e hd he same =
+      let x = definition_at R N G P.definitions Q.definitions a.definitions d i hd in
+      let y = definition_at R N G P.definitions Q.definitions a.definitions e j he in
+      f i j x.0 y.0 x.1 y.1 (forth d.name x.0.name y.0.name x.2.0 (subst (λ z. N z y.0.name) (sym same) y.2.0))
+
   -- ---- calls
 
   pub stands_on : (root root' : ℕ) → R root root' → {p : Position} {n : ℕ} → Stands P root p n → (n' : ℕ) × R n n' × Stands Q root' p n'

@@ -36,9 +36,10 @@ pub fn refused()
     reader::one_refusal()
 }
 
-/// All programs of a text that is accepted answer alike: stage by stage in what they mean, and so do their pipelines, in what they
-/// write and report on an input, open or ended.
+/// If one program of a text is accepted, all are, and they answer alike: stage by stage in what they mean, and so do their pipelines,
+/// in what they write and report on an input, open or ended.
 pub fn meant()
+    ensures accepted { (text : List ℕ) (P Q : Grammar) → Accepts text P → Spells text Q → Accepts text Q }
     ensures stages { (text : List ℕ) (P Q : Grammar) (i r q : ℕ) (input said : List ℕ) → Accepts text P → Spells text Q → HasNumber (roots_of P) r i → HasNumber (roots_of Q) q i → Means P r input said ↔ Means Q q input said }
     ensures pipelines { (text : List ℕ) (P Q : Grammar) (limit : ℕ) (input : List ℕ) (ended : Bool) (said : List ℕ) (report : Option Report) → Accepts text P → Spells text Q → StagesAnswer P limit (roots_of P) input ended said report ↔ StagesAnswer Q limit (roots_of Q) input ended said report }
 {
