@@ -14,13 +14,14 @@ use Rattle.kex_model.proofs.Loops.{no_return}
 use Rattle.kex_rules.specs.Rules.{IsRuled}
 use Rattle.kex_reader.specs.Spelling.{Spells}
 use Rattle.kex_stages.proofs.Answering.{Serves, answers_so}
-use Rattle.kex_compile.specs.Stages.{CanRun, most_places, roots_of}
+use Rattle.kex_compile.specs.Stages.{CanRun, HaveInAll, most_places, roots_of}
 use Rattle.kex_compile.specs.Compiled.{Accepts}
 use Rattle.kex_compile.proofs.Terms.{SameName}
 use Rattle.kex_compile.proofs.Alike.{Alike, name_back}
 use Rattle.kex_compile.proofs.Carrying.{defined_on, not_tail_on, once_back, stage_on as start_on, use_on}
 use Rattle.kex_compile.proofs.Placing.{SamePlace, empty, Partners, partners_on, enter_on, moves_on, walk_on, walk_back, waits_on, waits_back, end_on, end_back, place_back, place_forth, one_partner, one_partner_back, end_ahead, loop_on, more_on}
 use Rattle.kex_compile.proofs.Staging.{Known, Pairwise, pair_on, pair_at, Both, roots}
+use Rattle.kex_compile.proofs.Numbering.{as_many_in_all}
 use Rattle.kex_compile.proofs.Meaning.{Same, same_empty, tree_on, code_on, part_on, meaning_on}
 
 -- where no place is reached again without a byte no walk returns
@@ -232,6 +233,14 @@ module _ (text : List ℕ) (alike : (P Q : Grammar) → Spells text P → Spells
     no_loop = λ r i. (h.stages r i).no_loop;
     no_loop' = λ q i. (k.stages q i).no_loop;
   }
+
+  as_many : (P Q : Grammar) (total : ℕ) → BothRun P Q → HaveInAll P (roots_of P) total → HaveInAll Q (roots_of Q) total
+  as_many P Q total h m = as_many_in_all P Q h.to h.fro h.known h.known' (roots_of P) (roots_of Q) total (all_roots P Q h) m
+
+  pub counted : (P Q : Grammar) (total : ℕ) → Accepts text P → Spells text Q → HaveInAll P (roots_of P) total ↔ HaveInAll Q (roots_of Q) total
+  counted P Q total ok s =
+      let also = accepts P Q ok s in
+      (as_many P Q total (both_run P Q ok also), as_many Q P total (both_run Q P also ok))
 
   pub meant : (P Q : Grammar) (i r q : ℕ) (input said : List ℕ) → Accepts text P → Spells text Q → HasNumber (roots_of P) r i → HasNumber (roots_of Q) q i → Means P r input said ↔ Means Q q input said
   meant P Q i r q input said ok s k l =

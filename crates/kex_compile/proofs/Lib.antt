@@ -9,4 +9,5 @@ pub mod Placing
 pub mod Staging
 pub mod Refusing
 pub mod Meaning
+pub mod Numbering
 pub mod Answering

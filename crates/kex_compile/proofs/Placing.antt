@@ -57,7 +57,7 @@ module _ (S : ℕ → ℕ → Type 0) where
   step_on (chooses {q' = q} r r') goes_right = (chose to_right q, goes_right, refl, r')
   step_on (goes_on {f = f} {q = q} r) goes = (went f q, goes, refl, r)
 
-  step_back : {m n : Move Place} {j : Step Place} → SameMove S m n → Allows n j → (k : Step Place) × Allows m k × (symbols_of k ≡ symbols_of j) × SamePlace S (entered k) (entered j)
+  pub step_back : {m n : Move Place} {j : Step Place} → SameMove S m n → Allows n j → (k : Step Place) × Allows m k × (symbols_of k ≡ symbols_of j) × SamePlace S (entered k) (entered j)
   step_back accepts a = elim a [ ]
   step_back (reads_on {p = p} e r) (reads {b = b} i) = (took b p, reads (subst (λ z. IsTrue z) (sym (e b)) i), refl, r)
   step_back (chooses {p = p} r r') goes_left = (chose to_left p, goes_left, refl, r)
@@ -184,7 +184,7 @@ module _ (P Q : Grammar) (a : Alike P Q) (known : (name at : ℕ) → IsUse P na
       (x.0 ∷ y.0, y.1, (x.1, y.2), y.3, ap (λ z. z ++ code_of y.0) x.2 ∙ ap (λ z. symbols_of j ++ z) y.4)
 
   module _ (root root' : ℕ) (same : Partners root root') where
-    place_on : {p : Place} → IsPlace P root p → (q : Place) × SamePlace Partners p q × IsPlace Q root' q
+    pub place_on : {p : Place} → IsPlace P root p → (q : Place) × SamePlace Partners p q × IsPlace Q root' q
     place_on at_start = (start_of Q root', enter_on root root' same empty, at_start)
     place_on (by_step k is al) =
         let x = place_on is in

@@ -6,7 +6,7 @@ ghost use Rattle.kex_model.specs.Programs.{Grammar};
 ghost use Rattle.kex_model.specs.Answers.{Means, Report};
 ghost use Rattle.kex_model.specs.Laws.{StagesAnswer};
 ghost use Rattle.kex_reader.specs.Spelling.{Spells};
-ghost use Rattle.kex_compile.specs.Stages.{roots_of};
+ghost use Rattle.kex_compile.specs.Stages.{HaveInAll, roots_of};
 ghost use Rattle.kex_compile.specs.Compiled.{Accepts, IsRefused};
 
 use crate::refusal::CompileRefusal;
@@ -36,10 +36,11 @@ pub fn refused()
     reader::one_refusal()
 }
 
-/// If one program of a text is accepted, all are, and they answer alike: stage by stage in what they mean, and so do their pipelines,
-/// in what they write and report on an input, open or ended.
+/// If one program of a text is accepted, all are. They have as many places, and answer alike: stage by stage in what they mean, and so
+/// do their pipelines, in what they write and report on an input, open or ended.
 pub fn meant()
     ensures accepted { (text : List ℕ) (P Q : Grammar) → Accepts text P → Spells text Q → Accepts text Q }
+    ensures places { (text : List ℕ) (P Q : Grammar) (total : ℕ) → Accepts text P → Spells text Q → HaveInAll P (roots_of P) total ↔ HaveInAll Q (roots_of Q) total }
     ensures stages { (text : List ℕ) (P Q : Grammar) (i r q : ℕ) (input said : List ℕ) → Accepts text P → Spells text Q → HasNumber (roots_of P) r i → HasNumber (roots_of Q) q i → Means P r input said ↔ Means Q q input said }
     ensures pipelines { (text : List ℕ) (P Q : Grammar) (limit : ℕ) (input : List ℕ) (ended : Bool) (said : List ℕ) (report : Option Report) → Accepts text P → Spells text Q → StagesAnswer P limit (roots_of P) input ended said report ↔ StagesAnswer Q limit (roots_of Q) input ended said report }
 {

@@ -1,9 +1,12 @@
 use Rattle.kex_compile.proofs.Alike.{alike}
-use Rattle.kex_compile.proofs.Answering.{accepts, answered, meant}
+use Rattle.kex_compile.proofs.Answering.{accepts, answered, counted, meant}
 use Rattle.kex_compile.proofs.laws.meant.Goals as goal
 
 pub returns-clause-accepted : goal.returns-clause-accepted
 returns-clause-accepted c = λ text. accepts text (alike c.one_cut.ensures.tokens c.one_tree-2.ensures.tree c.one_tree.ensures.tree c.one_value.ensures text)
+
+pub returns-clause-places : goal.returns-clause-places
+returns-clause-places c = λ text. counted text (alike c.one_cut.ensures.tokens c.one_tree-2.ensures.tree c.one_tree.ensures.tree c.one_value.ensures text)
 
 pub returns-clause-stages : goal.returns-clause-stages
 returns-clause-stages c = λ text. meant text (alike c.one_cut.ensures.tokens c.one_tree-2.ensures.tree c.one_tree.ensures.tree c.one_value.ensures text)
