@@ -13,6 +13,8 @@ fn turns_out_of_order(rt: HostRuntime) -> Result<(), Fail> {
     let plans = compiled.stages();
     assert!(&rt; !plans.is_empty());
     let mut pipe = pipe_of(alloc, plans, 1_000)?;
+    assert_eq!(&rt; pipe.count(), 2);
+    assert!(&rt; !pipe.ended());
     pipe.turn(2, 0)?;
     pipe.give(b"xx")?;
     pipe.turn(1, 1)?;
