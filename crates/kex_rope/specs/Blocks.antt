@@ -1,0 +1,18 @@
+-- Blocks of symbols, one after another.
+use Rattle.std.specs.Prelude.{◌≡◌, ◌<◌, ◌≤◌, ◌⊎◌, ℕ, List, [], ◌∷◌, ◌++◌, length}
+use Rattle.std.specs.Global.{Vec}
+use Rattle.kex_code.specs.declared.symbol.Symbol.{Symbol}
+
+abbrev pub joined : List (Vec Symbol) → List Symbol
+joined [] = []
+joined (b ∷ bs) = b.items ++ joined bs
+
+-- each block has a symbol
+abbrev pub AreFilled : List (Vec Symbol) → Type 0
+AreFilled [] = Unit {0}
+AreFilled (b ∷ bs) = (0 < length b.items) × AreFilled bs
+
+-- so many symbols, in blocks of which each has one; a lone block may be empty
+pub record AreBlocks (blocks : List (Vec Symbol)) (count : ℕ) : Type 0 where
+  pub counted : count ≡ length (joined blocks)
+  pub filled : (length blocks ≤ 1) ⊎ AreFilled blocks

@@ -1,0 +1,8 @@
+//! Lists of symbols that are put behind one another by moving blocks, and never symbol by symbol.
+//!
+//! Stands on codes. A `Rope` is seen as the list of its symbols, and each call is the list's.
+#![tactic(auto)]
+
+pub mod rope;
+#[cfg(test)]
+mod tests;
