@@ -101,7 +101,7 @@ front_of nodes s t before c d out out' h p b e = record {
   wrote = ap (λ q. (acted p.steps q before).out) p.codes ∙ ap (λ z. z.out) p.did ∙ sym e;
 }
 
-appended-registers : (s out : List ℕ) (bs : List (List ℕ)) (regs : Registers) → (appended s out bs regs).registers ≡ regs
+pub appended-registers : (s out : List ℕ) (bs : List (List ℕ)) (regs : Registers) → (appended s out bs regs).registers ≡ regs
 appended-registers s out [] regs = refl
 appended-registers s out (b ∷ bs) regs = refl
 
@@ -114,7 +114,7 @@ moved-registers r out [] regs = refl
 moved-registers r out (b ∷ bs) regs = length-set regs r b
 
 -- no effect makes or takes away a register
-length-done_by : (e : Effect) (s : State) → length (done_by e s).registers ≡ length s.registers
+pub length-done_by : (e : Effect) (s : State) → length (done_by e s).registers ≡ length s.registers
 length-done_by nothing s = refl
 length-done_by (append bytes) s = ap length (appended-registers bytes s.out s.buffers s.registers)
 length-done_by open_buffer s = refl

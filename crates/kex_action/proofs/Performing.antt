@@ -13,7 +13,7 @@ use Rattle.kex_machine.specs.declared.MNode.{MNode}
 use Rattle.kex_machine.specs.Nodes.{Graph, node_moves, IsInRange, IsTrimmed}
 use Rattle.kex_machine.specs.Answers.{begun, IsRun, left_by}
 use Rattle.kex_action.specs.Holdings.{Holding, state_of, step_by, Rests, Leads, Reaches, WritesFront, Followed}
-use Rattle.kex_action.specs.Actors.{Position, BeginsRun, IsWhole, HasPerformed, TookAll, StoppedAt, WroteFront}
+use Rattle.kex_action.specs.Actors.{Position, BeginsRun, IsWhole, HasPerformed, WentOn, TookAll, StoppedAt, WroteFront}
 use Rattle.kex_action.proofs.Walking.{parts_none, ahead, acted-ahead, acted-append, nothing_done, first_step, GoesOn, goes_on}
 use Rattle.kex_action.proofs.Leading.{leads_on, take-more}
 use Rattle.kex_action.proofs.Looping.{walked_in}
@@ -78,6 +78,16 @@ carried : (g : Graph) (n t : ℕ) (h h' : Holding) (r r' u u' : Bool) (gv gv' c 
 carried g n t h h' r r' u u' gv gv' c d out more p l all none =
     let came : Leads g.nodes g.start (begun g.registers) (c ++ d) t (state_of (out ++ more) h') = leads_on g.nodes g.start n t c d (begun g.registers) (state_of out h) (state_of (out ++ more) h') p.came l in
     record { came = came; left = λ settled. left_at g t (c ++ d) (state_of (out ++ more) h') came settled; all = all; none = none }
+
+-- steps carry on what was performed, whatever came before
+pub went_on : (g : Graph) (n t : ℕ) (h h' : Holding) (r u u' : Bool) (symbols : List Symbol) (before after : List ℕ) → Leads g.nodes n (state_of before h) symbols t (state_of after h') → WentOn (position g n h r u) (position g t h' r u') symbols symbols before after
+went_on g n t h h' r u u' symbols before after leads =
+    let s = shifted g.nodes n t h h' symbols before after leads in
+    record {
+      more = s.more;
+      written = s.written;
+      performed = λ gv c out p. carried g n t h h' r r u u' gv (gv ++ symbols) c symbols out s.more p (s.anywhere out) (λ e. ap (λ q. q ++ symbols) (p.all e)) (λ e run. p.none e (begins_front g gv (gv ++ symbols) run (symbols, refl)));
+    }
 
 begins_behind : (c symbols : List Symbol) (i : ℕ) → Begins (c ++ symbols) (c ++ take i symbols)
 begins_behind c symbols i = (drop i symbols, ap (λ q. c ++ q) (sym (take-append-drop i symbols)) ∙ sym (append_assoc c (take i symbols) (drop i symbols)))

@@ -5,7 +5,7 @@ use Rattle.kex_code.specs.declared.symbol.Symbol.TheVariants.{L, R, Byte}
 use Rattle.kex_code.specs.Codes.{Begins}
 use Rattle.kex_code.specs.Registers.{Registers, put}
 use Rattle.kex_model.specs.Moves.{Move, accept, read, choose, forced, go, to_left, to_right, Effect, Step, took, chose, went, Allows, code_of, Walk}
-use Rattle.kex_model.specs.Acting.{State, done_by, acted}
+use Rattle.kex_model.specs.Acting.{State, appended, done_by, acted}
 use Rattle.kex_machine.specs.declared.MNode.{MNode}
 use Rattle.kex_machine.specs.declared.MNode.TheVariants.{Do}
 use Rattle.kex_machine.specs.Nodes.{Graph, node_moves, HasRegisters, IsInRange, IsTrimmed}
@@ -32,6 +32,14 @@ pub record Leads (nodes : List MNode) (s : ℕ) (before : State) (c : List Symbo
   pub walk : Walk (node_moves nodes) s steps t
   pub codes : code_of steps ≡ c
   pub did : acted steps c before ≡ after
+
+-- bytes are written
+abbrev pub adding : List ℕ → State → State
+adding bytes s = appended bytes s.out s.buffers s.registers
+
+-- steps with the code c lead from s to t, and make f of every state
+abbrev pub Does : List MNode → ℕ → List Symbol → ℕ → (State → State) → Type 0
+Does nodes s c t f = (before : State) → Leads nodes s before c t (f before)
 
 -- some steps, whose code c begins with, write so much
 pub record WritesFront (nodes : List MNode) (s : ℕ) (before : State) (c : List Symbol) (out : List ℕ) : Type 0 where

@@ -1,3 +1,4 @@
 pub mod Holdings
+pub mod Actions
 pub mod Actors
 pub mod Faults

@@ -1,11 +1,14 @@
 // The action machine.
 
-ghost use Rattle.std.specs.Prelude.{◌≡◌, ◌<◌, ◌↔◌, [], List, ℕ, IfOk, OnOk, IfErr, IsTrue, if◌then◌else◌};
+ghost use Rattle.std.specs.Prelude.{◌≡◌, ◌<◌, ◌↔◌, [], List, ℕ, IfOk, IsOk, OnOk, IfErr, OnErr, IsTrue, if◌then◌else◌, length};
 ghost use Rattle.kex_code.specs.Registers.{held};
 ghost use Rattle.kex_code.specs.declared.symbol.Symbol.{Symbol};
-ghost use Rattle.kex_action.specs.Actors.{HasPerformed, TookAll, IsWhole};
+ghost use Rattle.kex_action.specs.Holdings.{adding, Does};
+ghost use Rattle.kex_action.specs.Actions.{done};
+ghost use Rattle.kex_action.specs.Actors.{HasPerformed, TookAll, WentOn, IsWhole};
 ghost use Rattle.kex_action.specs.Faults.{After};
 
+use crate::action::{Action, act_all};
 use crate::fault::ActFault;
 use crate::store::Store;
 use crate::walk::{follow, is_end, rest_of};
@@ -86,6 +89,55 @@ impl<'m> Actor<'m> {
             self.refused = true;
             return Err(ActFault::NotACode(walked.count as u64));
         }
+        Ok(())
+    }
+
+    /// The node where it stands.
+    pub fn node(&self) -> u32
+        ensures at { result ≡ self.now.at }
+        ensures within { IsTrue self.now.usable → result < length self.now.machine.nodes }
+    {
+        self.at
+    }
+
+    /// Goes to a node, and appends bytes to what it writes to: the innermost open buffer, or `out` where none is open.
+    /// Every code whose steps do just that from where it stands is performed then.
+    pub fn advance(&mut self, node: u32, bytes: &[u8], out: &mut Vec<u8>) -> Result<(), Memory>
+        requires usable { IsTrue self.old.usable }
+        requires node { node < length self.old.machine.nodes }
+        ensures ok { OnOk result ((c : List Symbol) → Does self.old.machine.nodes self.old.at c node (adding bytes.now) → WentOn self.old self.new c c out.old.items out.new.items) }
+        ensures node { OnOk result (self.new.at ≡ node) }
+        ensures err { OnErr result (out.new.items ≡ out.old.items) }
+        ensures machine { self.new.machine ≡ self.old.machine }
+        ensures usable { IsTrue self.new.usable ↔ IsOk result }
+    {
+        self.usable = false;
+        self.store.write(bytes, out)?;
+        self.at = node;
+        self.usable = true;
+        Ok(())
+    }
+
+    /// Goes to a node, and does what the actions say, where this byte is read. Every code whose steps do just that from
+    /// where it stands is performed then.
+    pub fn act(
+        &mut self,
+        node: u32,
+        actions: &[Action],
+        byte: u8,
+        out: &mut Vec<u8>,
+    ) -> Result<(), Memory>
+        requires usable { IsTrue self.old.usable }
+        requires node { node < length self.old.machine.nodes }
+        ensures ok { OnOk result ((c : List Symbol) → Does self.old.machine.nodes self.old.at c node (done self.old.machine.nodes byte actions.now) → WentOn self.old self.new c c out.old.items out.new.items) }
+        ensures node { OnOk result (self.new.at ≡ node) }
+        ensures machine { self.new.machine ≡ self.old.machine }
+        ensures usable { IsTrue self.new.usable ↔ IsOk result }
+    {
+        self.usable = false;
+        act_all(self.machine, actions, byte, &mut self.store, out)?;
+        self.at = node;
+        self.usable = true;
         Ok(())
     }
 

@@ -4,6 +4,7 @@
 //! given, those that it performed, and all bytes written; the clauses of `Actor::take` carry this on.
 #![tactic(auto)]
 
+pub mod action;
 pub mod actor;
 mod buffer;
 pub mod fault;
