@@ -8,9 +8,10 @@ use Rattle.kex_model.specs.Moves.{Move, accept, read, choose, forced, go}
 use Rattle.kex_model.specs.Labelled.{Labelled, tip, fork, Grown, behind, joined}
 use Rattle.kex_model.proofs.Shapes.{among-append}
 use Rattle.kex_frontier.specs.declared.forest.Twig.{Twig}
-use Rattle.kex_frontier.specs.Knots.{Knot, Wood, as_is, knots_of, HasTrees, top, fronted, merged, picked, IsTipIf, TipsBelow, IsTreeBelow}
+use Rattle.kex_frontier.specs.Knots.{Knot, Wood, as_is, knots_of, HasTrees, top, fronted, merged, IsTipIf, TipsBelow, IsTreeBelow}
 use Rattle.kex_frontier.specs.Twigs.{knot_of, knots_at}
-use Rattle.kex_frontier.specs.Going.{Advances, both, at_end, accepting, ended_by}
+use Rattle.kex_machine.specs.Advancing.{both, picked, at_end, accepting}
+use Rattle.kex_frontier.specs.Going.{Advances, ended_by}
 
 pub behind_two : (c d : List Symbol) (a : Option (Grown Symbol ℕ)) → behind c (behind d a) ≡ behind (c ++ d) a
 behind_two c d None = refl

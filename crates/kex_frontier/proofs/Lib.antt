@@ -1,9 +1,4 @@
-pub mod Cutting
-pub mod Visiting
-pub mod Onward
-pub mod Nexts
 pub mod Woods
-pub mod Marking
 pub mod Walking
 pub mod Growing
 pub mod Feeding

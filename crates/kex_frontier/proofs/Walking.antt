@@ -8,12 +8,13 @@ use Rattle.kex_model.specs.Moves.{Move, accept, read, choose, forced, go, symbol
 use Rattle.kex_model.specs.Labelled.{tip, Grown, behind, joined}
 use Rattle.kex_model.proofs.Shapes.{among-append}
 use Rattle.kex_machine.specs.declared.MNode.{MNode}
-use Rattle.kex_machine.specs.Nodes.{node_moves}
+use Rattle.kex_machine.specs.Nodes.{node_moves, MoveBelow, StaysWithin}
 use Rattle.kex_frontier.specs.declared.visit.Work.{Work}
 use Rattle.kex_frontier.specs.declared.visit.Work.TheVariants.{Visit, Front, Merge}
 use Rattle.kex_frontier.specs.Knots.{Wood, HasTrees, fronted, merged}
-use Rattle.kex_frontier.specs.Going.{Visits, known, stops, parts_off, is_forced, passes_on}
-use Rattle.kex_frontier.specs.Jobs.{spread, stopped, jobs_at, trees_at, IsWorkBelow, MoveBelow, StaysWithin, Runs}
+use Rattle.kex_machine.specs.Advancing.{known, stops, parts_off, is_forced, passes_on}
+use Rattle.kex_frontier.specs.Going.{Visits}
+use Rattle.kex_frontier.specs.Jobs.{spread, stopped, jobs_at, trees_at, IsWorkBelow, Runs}
 
 set_again : (f : List Bool) (n : ℕ) → get_or f n false ≡ true → set f n true ≡ f
 set_again [] n e = refl

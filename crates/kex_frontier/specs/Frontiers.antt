@@ -1,11 +1,10 @@
 -- What a frontier stands for: the bytes that it was fed, and the symbols that were taken.
 use Rattle.std.specs.Prelude.{◌≡◌, ℕ, Bool, true, false, length, List, [], ◌++◌, ◌⊎◌}
 use Rattle.kex_code.specs.declared.symbol.Symbol.{Symbol}
-use Rattle.kex_code.specs.Codes.{AtMost}
 use Rattle.kex_model.specs.Labelled.{Labelled}
-use Rattle.kex_model.specs.Survivors.{Agreed, Greedy, LongestViable, HasTree}
+use Rattle.kex_model.specs.Survivors.{HasTree}
 use Rattle.kex_machine.specs.Nodes.{Graph, node_moves, IsTrimmed}
-use Rattle.kex_machine.specs.Answers.{Viable, HasParse}
+use Rattle.kex_machine.specs.Answers.{Viable, HasParse, IsSaid, IsGreedy}
 use Rattle.kex_frontier.specs.Knots.{Knot, knots_of, IsKept}
 use Rattle.kex_frontier.specs.declared.frontier.Fed.{Fed}
 use Rattle.kex_frontier.specs.declared.frontier.Fed.TheVariants.{On, Dead}
@@ -20,12 +19,6 @@ pub record Front : Type 0 where
   pub knots : List Knot
   pub ended : Bool
   pub usable : Bool
-
--- c is agreed of the longest front of w that is viable: of w itself where w is viable
-pub record IsSaid (g : Graph) (w : List ℕ) (c : List Symbol) : Type 0 where
-  pub of : List ℕ
-  pub longest : LongestViable (node_moves g.nodes) g.start w of
-  pub agreed : Agreed (node_moves g.nodes) g.start of c
 
 -- the frontier has the tree of w
 abbrev pub IsLive : Front → List ℕ → List Symbol → Type 0
@@ -43,12 +36,6 @@ IsFed f w taken = IsLive f w taken ⊎ IsDead f w taken
 abbrev pub IsFedBy : Fed → Front → List ℕ → List Symbol → Type 0
 IsFedBy On f w taken = Viable f.machine w × IsFed f w taken
 IsFedBy Dead f w taken = (¬ Viable f.machine w) × IsFed f w taken
-
--- c is the code of the greedy parse of w: of the paths to the end the least
-pub record IsGreedy (g : Graph) (w : List ℕ) (c : List Symbol) : Type 0 where
-  pub parse : HasParse g w
-  pub greedy : Greedy (node_moves g.nodes) g.start w c
-  pub least : (d : List Symbol) → Greedy (node_moves g.nodes) g.start w d → AtMost c d
 
 -- the frontier was fed w and then the end, which has answered this, and these symbols were taken
 abbrev pub IsOver : Ended → Front → List ℕ → List Symbol → Type 0

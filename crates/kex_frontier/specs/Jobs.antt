@@ -1,11 +1,9 @@
 -- What a walk has still to do, and where it leads.
-use Rattle.std.specs.Prelude.{◌≡◌, ℕ, ◌<◌, Bool, true, false, List, [], ◌∷◌, Option, Some, None, length}
+use Rattle.std.specs.Prelude.{◌≡◌, ℕ, ◌<◌, Bool, true, false, List, [], ◌∷◌, Option, Some, None}
 use Rattle.kex_code.specs.declared.symbol.Symbol.{Symbol}
 use Rattle.kex_code.specs.declared.symbol.Symbol.TheVariants.{L, R}
 use Rattle.kex_model.specs.Moves.{Move, accept, read, choose, forced, go, symbol_of}
 use Rattle.kex_model.specs.Labelled.{tip, Grown}
-use Rattle.kex_machine.specs.declared.MNode.{MNode}
-use Rattle.kex_machine.specs.Nodes.{node_moves}
 use Rattle.kex_frontier.specs.Knots.{fronted, merged}
 use Rattle.kex_frontier.specs.Going.{Visits}
 use Rattle.kex_frontier.specs.declared.visit.Work.{Work}
@@ -40,17 +38,6 @@ abbrev pub IsWorkBelow : ℕ → Work → Type 0
 IsWorkBelow m (Visit n) = n < m
 IsWorkBelow m (Front s) = Unit {0}
 IsWorkBelow m Merge = Unit {0}
-
-abbrev pub MoveBelow : ℕ → Move ℕ → Type 0
-MoveBelow m accept = Unit {0}
-MoveBelow m (read set t) = t < m
-MoveBelow m (choose l r) = (l < m) × (r < m)
-MoveBelow m (forced x t) = t < m
-MoveBelow m (go e t) = t < m
-
--- each node leads to nodes
-abbrev pub StaysWithin : List MNode → Type 0
-StaysWithin nodes = (n : ℕ) → n < length nodes → MoveBelow (length nodes) (node_moves nodes n)
 
 module _ (moves : ℕ → Move ℕ) where
   -- the jobs lead from marks f and trees rs to marks g and trees out

@@ -2,6 +2,7 @@
 use Rattle.std.specs.Prelude.{◌≡◌, ℕ, ◌<◌, ◌⊎◌, length, Bool, true, false, List, [], ◌∷◌, ◌++◌, Option, Some, None, reverse}
 use Rattle.kex_code.specs.declared.symbol.Symbol.{Symbol}
 use Rattle.kex_model.specs.Labelled.{Labelled, tip, fork, Grown, behind, joined}
+use Rattle.kex_machine.specs.Advancing.{picked}
 
 -- the label of the edge to it, and its place if it is a tip
 pub record Knot : Type 0 where
@@ -69,11 +70,6 @@ merged rs = joined (top (under rs)) (top rs) ∷ under (under rs)
 abbrev pub fork_if : Bool → List Knot
 fork_if true = record { label = []; at = None } ∷ []
 fork_if false = []
-
--- the left, or where it is gone the right
-abbrev pub picked : Option (Grown Symbol ℕ) → Option (Grown Symbol ℕ) → Option (Grown Symbol ℕ)
-picked None r = r
-picked (Some l) r = Some l
 
 -- of the last two trees the first that is there
 abbrev pub chosen : List (Option (Grown Symbol ℕ)) → List (Option (Grown Symbol ℕ))

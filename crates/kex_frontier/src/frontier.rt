@@ -3,12 +3,12 @@
 ghost use Rattle.std.specs.Prelude.{◌≡◌, ℕ, ◌++◌, ◌∷◌, [], List, IfOk, OnOk, OnErr, IsTrue, IsOk, true, false, length, ◌↔◌};
 ghost use Rattle.kex_code.specs.declared.symbol.Symbol.{Symbol};
 ghost use Rattle.kex_model.specs.Labelled.{Labelled};
-ghost use Rattle.kex_machine.specs.Nodes.{node_moves};
+ghost use Rattle.kex_machine.specs.Nodes.{node_moves, StaysWithin};
 ghost use Rattle.kex_frontier.specs.Knots.{knots_of, IsTreeBelow};
 ghost use Rattle.kex_frontier.specs.Twigs.{knots_at};
 ghost use Rattle.kex_frontier.specs.Going.{WentOn};
-ghost use Rattle.kex_frontier.specs.Jobs.{StaysWithin};
-ghost use Rattle.kex_frontier.specs.Frontiers.{IsFed, IsFedBy, IsOver, IsSaid, answer_of, end_of};
+ghost use Rattle.kex_machine.specs.Answers.{IsSaid};
+ghost use Rattle.kex_frontier.specs.Frontiers.{IsFed, IsFedBy, IsOver, answer_of, end_of};
 
 use crate::forest::{Forest, Twig};
 use crate::grow::{accept, advance};
@@ -85,7 +85,7 @@ fn go_on(
     ensures went { IfOk result (λ there. (t : Labelled Symbol ℕ) → knots_at tree.old.items ≡ knots_of t [] → WentOn (node_moves nodes.now) byte (length nodes.now) t there code.old code.new (knots_at tree.new.items)) }
     ensures long { OnOk result (length bench.new.marks ≡ length nodes.now) }
 {
-    bench.marks.clear()?;
+    bench.marks.clear();
     advance(nodes, tree, byte, grown, bench)?;
     grown.settle(tree, code)
 }

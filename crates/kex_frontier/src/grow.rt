@@ -7,8 +7,9 @@ ghost use Rattle.kex_model.specs.Moves.{Allows, took};
 ghost use Rattle.kex_machine.specs.Nodes.{node_moves};
 ghost use Rattle.kex_frontier.specs.Knots.{HasTrees, as_is, knots_of, top, IsTipIf, IsTreeBelow, is_there, label_if, bare_if};
 ghost use Rattle.kex_frontier.specs.Twigs.{knots_at};
-ghost use Rattle.kex_frontier.specs.Going.{Advances, accepting, ended_by};
-ghost use Rattle.kex_frontier.specs.Jobs.{StaysWithin};
+ghost use Rattle.kex_machine.specs.Advancing.{accepting};
+ghost use Rattle.kex_frontier.specs.Going.{Advances, ended_by};
+ghost use Rattle.kex_machine.specs.Nodes.{StaysWithin};
 
 use crate::forest::{Forest, Spare, Twig};
 use crate::visit::{Bench, node_at, walk};

@@ -7,5 +7,4 @@
 mod forest;
 pub mod frontier;
 mod grow;
-mod marks;
 mod visit;

@@ -4,15 +4,15 @@ ghost use Rattle.std.specs.Prelude.{◌≡◌, ℕ, ◌<◌, ◌++◌, ◌∷◌
 ghost use Rattle.kex_code.specs.declared.symbol.Symbol.{Symbol};
 ghost use Rattle.kex_model.specs.Labelled.{Grown};
 ghost use Rattle.kex_model.specs.Moves.{symbol_of};
-ghost use Rattle.kex_machine.specs.Nodes.{node_moves, move_of, side_of};
+ghost use Rattle.kex_machine.specs.Nodes.{node_moves, move_of, side_of, StaysWithin};
 ghost use Rattle.kex_frontier.specs.Knots.{HasTrees};
 ghost use Rattle.kex_frontier.specs.Going.{Visits};
-ghost use Rattle.kex_frontier.specs.Jobs.{spread, stopped, jobs_at, trees_at, StaysWithin};
+ghost use Rattle.kex_frontier.specs.Jobs.{spread, stopped, jobs_at, trees_at};
 
 use crate::forest::{Forest, Spare};
-use crate::marks::Marks;
 use kex_code::memory::Memory;
 use kex_code::symbol::Symbol;
+use kex_machine::marks::Marks;
 use kex_machine::{Bit, MNode};
 use std::alloc::Global;
 

@@ -1,2 +1,10 @@
 pub mod Writing
 pub mod Standing
+pub mod Cutting
+pub mod Visiting
+pub mod Onward
+pub mod Nexts
+pub mod Ranges
+pub mod Saying
+pub mod Ending
+pub mod Marking

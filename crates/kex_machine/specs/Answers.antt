@@ -4,7 +4,7 @@ use Rattle.kex_code.specs.declared.symbol.Symbol.{Symbol}
 use Rattle.kex_code.specs.Codes.{bytes_of, Begins, AtMost}
 use Rattle.kex_model.specs.Moves.{accept, Step, code_of, Walk}
 use Rattle.kex_model.specs.Acting.{State, acted}
-use Rattle.kex_model.specs.Survivors.{Agreed, Greedy, IsViable}
+use Rattle.kex_model.specs.Survivors.{Agreed, Greedy, IsViable, LongestViable}
 use Rattle.kex_model.specs.Answers.{Answer, Answers}
 use Rattle.kex_machine.specs.Nodes.{Graph, node_moves}
 
@@ -50,3 +50,15 @@ module _ (g : Graph) where
   -- the stage's answer on w, open or (true) ended, within a limit
   abbrev pub StageAnswers : ℕ → List ℕ → Bool → Answer → Type 0
   StageAnswers limit w e a = Answers Viable Says HasParse Means limit w e a
+
+-- c is agreed of the longest front of w that is viable: of w itself where w is viable
+pub record IsSaid (g : Graph) (w : List ℕ) (c : List Symbol) : Type 0 where
+  pub of : List ℕ
+  pub longest : LongestViable (node_moves g.nodes) g.start w of
+  pub agreed : Agreed (node_moves g.nodes) g.start of c
+
+-- c is the code of the greedy parse of w: of the paths to the end the least
+pub record IsGreedy (g : Graph) (w : List ℕ) (c : List Symbol) : Type 0 where
+  pub parse : HasParse g w
+  pub greedy : Greedy (node_moves g.nodes) g.start w c
+  pub least : (d : List Symbol) → Greedy (node_moves g.nodes) g.start w d → AtMost c d

@@ -64,6 +64,18 @@ pub record IsInRange (start : ℕ) (ms : List MNode) (registers : ℕ) : Type 0 
   pub below : All (IsBelow (length ms) registers) ms
   pub count : length ms < 4294967296
 
+-- where a node leads is below the count
+abbrev pub MoveBelow : ℕ → Move ℕ → Type 0
+MoveBelow m accept = Unit {0}
+MoveBelow m (read set t) = t < m
+MoveBelow m (choose l r) = (l < m) × (r < m)
+MoveBelow m (forced x t) = t < m
+MoveBelow m (go e t) = t < m
+
+-- each node leads to nodes
+abbrev pub StaysWithin : List MNode → Type 0
+StaysWithin nodes = (n : ℕ) → n < length nodes → MoveBelow (length nodes) (node_moves nodes n)
+
 pub record Graph : Type 0 where
   pub start : ℕ
   pub nodes : List MNode

@@ -5,6 +5,7 @@
 #![tactic(auto)]
 
 pub mod laws;
+pub mod marks;
 
 ghost use Rattle.std.specs.Prelude.{◌≡◌, ℕ, ◌<◌, List, length};
 ghost use Rattle.kex_machine.specs.Nodes.{Graph, IsInRange, IsTrimmed};
@@ -145,5 +146,28 @@ impl Trimmed {
         ensures trimmed { IsTrimmed self.now }
     {
         &self.machine
+    }
+
+    /// The number of the node to start from.
+    pub fn start(&self) -> u32
+        ensures { result ≡ self.now.start }
+    {
+        self.machine.start()
+    }
+
+    /// The nodes, by their numbers.
+    pub fn nodes(&self) -> &[MNode]
+        ensures same { result.now ≡ self.now.nodes }
+        ensures in_range { IsInRange self.now.start self.now.nodes self.now.registers }
+        ensures trimmed { IsTrimmed self.now }
+    {
+        self.machine.nodes()
+    }
+
+    /// How many registers there are.
+    pub fn registers(&self) -> u32
+        ensures { result ≡ self.now.registers }
+    {
+        self.machine.registers()
     }
 }

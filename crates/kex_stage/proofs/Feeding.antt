@@ -7,9 +7,9 @@ use Rattle.kex_model.specs.Survivors.{Agreed}
 use Rattle.kex_model.specs.Answers.{Answer, stopped, at_byte, at_end, at_limit, cut_off, whole}
 use Rattle.kex_model.proofs.Standing.{shorter_front}
 use Rattle.kex_machine.specs.Nodes.{Graph, node_moves}
-use Rattle.kex_machine.specs.Answers.{Viable, HasParse, Says, StageAnswers}
+use Rattle.kex_machine.specs.Answers.{Viable, HasParse, Says, StageAnswers, IsSaid, IsGreedy}
 use Rattle.kex_machine.proofs.Standing.{stopped_more}
-use Rattle.kex_frontier.specs.Frontiers.{Front, IsFed, IsSaid, IsGreedy, IsOver}
+use Rattle.kex_frontier.specs.Frontiers.{Front, IsFed, IsOver}
 use Rattle.kex_frontier.specs.declared.frontier.Ended.{Ended}
 use Rattle.kex_frontier.specs.declared.frontier.Ended.TheVariants.{Parsed, Cut}
 use Rattle.kex_action.specs.Actors.{Position, HasPerformed, TookAll, IsSettled}

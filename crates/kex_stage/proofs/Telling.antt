@@ -12,8 +12,7 @@ use Rattle.kex_model.proofs.Walks.{bytes_of-append}
 use Rattle.kex_model.proofs.Agreeing.{viable_front}
 use Rattle.kex_model.proofs.Derivations.{walk-append, code_of-append}
 use Rattle.kex_machine.specs.Nodes.{Graph, node_moves}
-use Rattle.kex_machine.specs.Answers.{Viable, IsRun, HasParse, left_by, Says, Means, StageAnswers}
-use Rattle.kex_frontier.specs.Frontiers.{IsSaid, IsGreedy}
+use Rattle.kex_machine.specs.Answers.{Viable, IsRun, HasParse, left_by, Says, Means, StageAnswers, IsSaid, IsGreedy}
 use Rattle.kex_action.specs.Actors.{Position, HasPerformed, IsSettled}
 use Rattle.kex_stage.specs.Stages.{HasSurvivor}
 

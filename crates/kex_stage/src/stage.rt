@@ -2,9 +2,9 @@
 
 ghost use Rattle.std.specs.Prelude.{◌≡◌, ◌≤◌, ◌<◌, ◌++◌, [], ℕ, List, true, false, IfOk, IfErr, OnOk, OnErr, IsTrue, is_ok, IsOk, ◌↔◌, Some, None, Option, length};
 ghost use Rattle.kex_code.specs.declared.symbol.Symbol.{Symbol};
-ghost use Rattle.kex_machine.specs.Answers.{Viable};
+ghost use Rattle.kex_machine.specs.Answers.{Viable, IsSaid};
 ghost use Rattle.kex_machine.proofs.Standing.{one_answer, grows, stays, ends};
-ghost use Rattle.kex_frontier.specs.Frontiers.{IsFed, IsOver, IsSaid};
+ghost use Rattle.kex_frontier.specs.Frontiers.{IsFed, IsOver};
 ghost use Rattle.kex_action.specs.Actors.{HasPerformed, TookAll};
 ghost use Rattle.kex_stage.specs.Stages.{Gives, ReadsTo, StagePlan, StandsFor, end_stop, fate_of};
 ghost use Rattle.kex_frontier.specs.declared.frontier.Ended.{Ended};

@@ -2,7 +2,7 @@ use Rattle.std.proofs.Common.{[], ◌∷◌, None, ap, sym, subst, ◌∙◌}
 use Rattle.kex_code.specs.declared.symbol.Symbol.TheVariants.{Byte}
 use Rattle.kex_model.specs.Labelled.{behind}
 use Rattle.kex_frontier.specs.Knots.{HasTrees, as_is}
-use Rattle.kex_frontier.specs.Going.{dies, reads_on}
+use Rattle.kex_machine.specs.Advancing.{dies, reads_on}
 use Rattle.kex_frontier.proofs.Growing.{behind_two}
 use Rattle.kex_frontier.proofs.grow.advance_tip.Goals as goal
 

@@ -1,5 +1,6 @@
 use Rattle.std.proofs.Common.{◌++◌, ◌≡◌, subst}
-use Rattle.kex_frontier.specs.Frontiers.{IsFed, IsSaid}
+use Rattle.kex_machine.specs.Answers.{IsSaid}
+use Rattle.kex_frontier.specs.Frontiers.{IsFed}
 use Rattle.kex_stage.proofs.stage.speak.Goals as goal
 
 pub returns-in-Ok-clause-fed : goal.returns-in-Ok-clause-fed

@@ -2,10 +2,11 @@ use Rattle.std.proofs.Common.{◌≡◌, ◌∷◌, [], true, refl, ap, sym, sub
 use Rattle.kex_model.proofs.Standing.{empty_list}
 use Rattle.kex_machine.specs.Nodes.{node_moves}
 use Rattle.kex_frontier.specs.Knots.{HasTrees, as_is}
-use Rattle.kex_frontier.specs.Going.{accepting}
+use Rattle.kex_machine.specs.Advancing.{accepting}
 use Rattle.kex_frontier.specs.Twigs.{knots_at}
 use Rattle.kex_frontier.specs.Frontiers.{Front, IsFed, IsOver}
-use Rattle.kex_frontier.proofs.Feeding.{is_trim, over, over_dead, some_knots}
+use Rattle.kex_machine.proofs.Ranges.{is_trim}
+use Rattle.kex_frontier.proofs.Feeding.{over, over_dead, some_knots}
 use Rattle.kex_frontier.proofs.frontier.Frontier.end.Goals as goal
 
 pub returns-then-is_empty-clause-over : goal.returns-then-is_empty-clause-over

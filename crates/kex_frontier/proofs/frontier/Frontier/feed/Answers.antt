@@ -4,9 +4,10 @@ use Rattle.kex_machine.specs.Nodes.{node_moves, IsTrimmed}
 use Rattle.kex_frontier.specs.Knots.{IsKept, IsTreeBelow}
 use Rattle.kex_frontier.specs.Twigs.{knots_at}
 use Rattle.kex_frontier.specs.Going.{WentOn}
-use Rattle.kex_frontier.specs.Jobs.{StaysWithin}
+use Rattle.kex_machine.specs.Nodes.{StaysWithin}
 use Rattle.kex_frontier.specs.Frontiers.{Front, IsFed, IsFedBy}
-use Rattle.kex_frontier.proofs.Feeding.{stays_within, is_trim, fed, fed_dead, went_kept, kept_tree, some_knots}
+use Rattle.kex_machine.proofs.Ranges.{stays_within, is_trim}
+use Rattle.kex_frontier.proofs.Feeding.{fed, fed_dead, went_kept, kept_tree, some_knots}
 use Rattle.kex_frontier.proofs.frontier.Frontier.feed.Goals as goal
 
 pub returns-then-is_empty-clause-fed : goal.returns-then-is_empty-clause-fed

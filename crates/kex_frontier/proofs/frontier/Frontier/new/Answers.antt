@@ -3,9 +3,10 @@ use Rattle.kex_machine.specs.Nodes.{node_moves}
 use Rattle.kex_frontier.specs.Knots.{HasTrees, as_is, IsKept, label_if}
 use Rattle.kex_frontier.specs.Going.{Visits}
 use Rattle.kex_frontier.specs.Twigs.{knots_at}
-use Rattle.kex_frontier.specs.Jobs.{StaysWithin}
+use Rattle.kex_machine.specs.Nodes.{StaysWithin}
 use Rattle.kex_frontier.specs.Frontiers.{Front}
-use Rattle.kex_frontier.proofs.Feeding.{stays_within, is_trim, begins, first_kept, nothing_behind}
+use Rattle.kex_machine.proofs.Ranges.{stays_within, is_trim}
+use Rattle.kex_frontier.proofs.Feeding.{begins, first_kept, nothing_behind}
 use Rattle.kex_frontier.proofs.frontier.Frontier.new.Goals.{In_ok-settle}
 use Rattle.kex_frontier.proofs.frontier.Frontier.new.Goals as goal
 

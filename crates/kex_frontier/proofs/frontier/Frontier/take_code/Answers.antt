@@ -1,7 +1,9 @@
 use Rattle.std.proofs.Common.{◌++◌, refl, sym, subst, ◌∙◌}
 use Rattle.kex_frontier.specs.Twigs.{knots_at}
-use Rattle.kex_frontier.specs.Frontiers.{Front, IsFed, IsSaid}
-use Rattle.kex_frontier.proofs.Feeding.{is_trim, code_taken}
+use Rattle.kex_machine.specs.Answers.{IsSaid}
+use Rattle.kex_frontier.specs.Frontiers.{Front, IsFed}
+use Rattle.kex_machine.proofs.Ranges.{is_trim}
+use Rattle.kex_frontier.proofs.Feeding.{code_taken}
 use Rattle.kex_frontier.proofs.frontier.Frontier.take_code.Goals as goal
 
 pub returns-clause-fed : goal.returns-clause-fed

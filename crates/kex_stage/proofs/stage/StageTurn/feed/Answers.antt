@@ -1,6 +1,7 @@
 use Rattle.std.proofs.Common.{rules, ◌≡◌, ◌≤◌, ◌++◌, List, ℕ, [], refl, sym, subst, ap, ◌∙◌, true, false, Bool, Option, None}
 use Rattle.std.specs.Prelude.{IsTrue}
-use Rattle.kex_frontier.specs.Frontiers.{IsFed, IsSaid}
+use Rattle.kex_machine.specs.Answers.{IsSaid}
+use Rattle.kex_frontier.specs.Frontiers.{IsFed}
 use Rattle.kex_pipe.specs.Histories.{Feeds, bytes_of}
 use Rattle.kex_pipe.specs.declared.turn.Fate.{Fate}
 use Rattle.kex_pipe.specs.declared.turn.Fate.TheVariants.{Stopped}

@@ -10,11 +10,11 @@ use Rattle.kex_model.proofs.Walks.{bytes_of-append}
 use Rattle.kex_model.proofs.Derivations.{code_of-append, walk-append}
 use Rattle.kex_model.proofs.Orders.{at_most_trans, at_most_more}
 use Rattle.kex_model.proofs.Shapes.{parted_rises}
-use Rattle.kex_frontier.proofs.Cutting.{cut}
+use Rattle.kex_machine.proofs.Cutting.{cut}
 use Rattle.kex_model.proofs.Loops as loops
-use Rattle.kex_frontier.specs.Going.{Visits, known, stops, parts_off, is_forced, passes_on, Advances, dies, reads_on, both}
-use Rattle.kex_frontier.proofs.Visiting.{Marked, Quiet, NoCycle, Visited, visited}
-use Rattle.kex_frontier.proofs.Onward.{Advanced, advanced, leaf_code}
+use Rattle.kex_machine.specs.Advancing.{itself, Visits, known, stops, parts_off, is_forced, passes_on, Advances, dies, reads_on, both}
+use Rattle.kex_machine.proofs.Visiting.{Marked, Quiet, NoCycle, Visited, visited}
+use Rattle.kex_machine.proofs.Onward.{Advanced, advanced, leaf_code}
 
 -- where there is a tree, its edges begin with L and R
 abbrev pub IsPartedIf : Option (Grown Symbol ℕ) → Type 0
@@ -34,14 +34,14 @@ both_parted x y (Some l) None p q h h' = h
 both_parted x y None (Some r) p q h h' = h'
 both_parted x y (Some l) (Some r) p q h h' = (more_starts x l.label p, h, more_starts y r.label q, h')
 
-visits_parted : {moves : ℕ → Move ℕ} {f g : List Bool} {n : ℕ} {a : Option (Grown Symbol ℕ)} → Visits moves f n a g → IsPartedIf a
+visits_parted : {moves : ℕ → Move ℕ} {f g : List Bool} {n : ℕ} {a : Option (Grown Symbol ℕ)} → Visits itself moves f n a g → IsPartedIf a
 visits_parted (known e) = tt
 visits_parted (stops lt e w) = tt
 visits_parted (parts_off {a = a} {b = a'} lt e m v v') = both_parted (L ∷ []) (R ∷ []) a a' ([], refl) ([], refl) (visits_parted v) (visits_parted v')
 visits_parted (is_forced {x = x} {a = a} lt e m v) = behind_parted (symbol_of x ∷ []) a (visits_parted v)
 visits_parted (passes_on lt e m v) = visits_parted v
 
-advances_parted : {moves : ℕ → Move ℕ} {b : ℕ} {f g : List Bool} {t : Labelled Symbol ℕ} {a : Option (Grown Symbol ℕ)} → Advances moves b f t a g → IsParted t → IsPartedIf a
+advances_parted : {moves : ℕ → Move ℕ} {b : ℕ} {f g : List Bool} {t : Labelled Symbol ℕ} {a : Option (Grown Symbol ℕ)} → Advances itself (Byte b) moves b f t a g → IsParted t → IsPartedIf a
 advances_parted (dies h) p = tt
 advances_parted {b = b} (reads_on {a = a} h v) p = behind_parted (Byte b ∷ []) a (visits_parted v)
 advances_parted (both {u = u} {v = v} {x = x} {y = y} va vb) p = both_parted u v x y p.0 p.2 (advances_parted va p.1) (advances_parted vb p.3)
@@ -97,7 +97,7 @@ module _ (moves : ℕ → Move ℕ) (start : ℕ) (trim : IsTrim moves start) wh
     parted = parted;
   }
 
-  module _ (w : List ℕ) (c : List Symbol) (t : Labelled Symbol ℕ) (has : HasTree moves start w c t) (b : ℕ) (a : Option (Grown Symbol ℕ)) (m : ℕ) (g : List Bool) (v : Advances moves b (replicate m false) t a g) where
+  module _ (w : List ℕ) (c : List Symbol) (t : Labelled Symbol ℕ) (has : HasTree moves start w c t) (b : ℕ) (a : Option (Grown Symbol ℕ)) (m : ℕ) (g : List Bool) (v : Advances itself (Byte b) moves b (replicate m false) t a g) where
     adv : Advanced moves b (replicate m false) t a g
     adv = advanced moves b trim.no_cycle v has.parted (λ n i. absurd (none_marked m n i))
 
@@ -142,7 +142,7 @@ module _ (moves : ℕ → Move ℕ) (start : ℕ) (trim : IsTrim moves start) wh
   ShowsTree w c None = ¬ IsViable moves start w
   ShowsTree w c (Some g) = HasTree moves start w (c ++ g.label) g.tree
 
-  pub next_shows : (w : List ℕ) (c : List Symbol) (t : Labelled Symbol ℕ) → HasTree moves start w c t → (b m : ℕ) (a : Option (Grown Symbol ℕ)) (g : List Bool) → Advances moves b (replicate m false) t a g → ShowsTree (w ++ b ∷ []) c a
+  pub next_shows : (w : List ℕ) (c : List Symbol) (t : Labelled Symbol ℕ) → HasTree moves start w c t → (b m : ℕ) (a : Option (Grown Symbol ℕ)) (g : List Bool) → Advances itself (Byte b) moves b (replicate m false) t a g → ShowsTree (w ++ b ∷ []) c a
   next_shows w c t has b m None g v = λ (p, s). let r = s.1 in (reach w c t has b None m g v r.0 p r.1.walk r.1.waits r.1.reads).1
   next_shows w c t has b m (Some s) g v =
       shows (w ++ b ∷ []) (c ++ s.label) s.tree (real w c t has b (Some s) m g v) (reach w c t has b (Some s) m g v) ((adv w c t has b (Some s) m g v).single c) (advances_parted v has.parted)
@@ -159,7 +159,7 @@ module _ (moves : ℕ → Move ℕ) (start : ℕ) (trim : IsTrim moves start) wh
   first_wait (went f t ∷ ks) s e w h = let r = first_wait ks t e w.1 h in (went f t ∷ r.0, r.1, ((w.0, r.2.0), r.2.1), r.3)
 
   -- what the empty text reaches
-  first_all : (m : ℕ) (a : Option (Grown Symbol ℕ)) (g : List Bool) → Visits moves (replicate m false) start a g → Visited moves (replicate m false) start a g
+  first_all : (m : ℕ) (a : Option (Grown Symbol ℕ)) (g : List Bool) → Visits itself moves (replicate m false) start a g → Visited moves (replicate m false) start a g
   first_all m a g v = visited moves trim.no_cycle v (λ n ks i q. absurd (none_marked m n i))
 
   abbrev pub ShowsFirst : Option (Grown Symbol ℕ) → Type 0
@@ -167,7 +167,7 @@ module _ (moves : ℕ → Move ℕ) (start : ℕ) (trim : IsTrim moves start) wh
   ShowsFirst (Some g) = HasTree moves start [] g.label g.tree
 
   -- the tree of the empty text
-  pub first_shows : (m : ℕ) (a : Option (Grown Symbol ℕ)) (g : List Bool) → Visits moves (replicate m false) start a g → ShowsFirst a
+  pub first_shows : (m : ℕ) (a : Option (Grown Symbol ℕ)) (g : List Bool) → Visits itself moves (replicate m false) start a g → ShowsFirst a
   first_shows m None g v =
       let e = trim.ends start in
       let r = first_wait e.0 start e.1 e.2 e.3 in

@@ -7,8 +7,8 @@ use Rattle.kex_model.specs.Moves.{Move, read, Step, took, Allows, reads, code_of
 use Rattle.kex_model.specs.Labelled.{Leaf, Labelled, fork, leaves_of, Grown, leaves_if, joined, behind}
 use Rattle.kex_model.specs.Survivors.{IsParted}
 use Rattle.kex_model.proofs.Shapes.{among-append, among_left, among_right, leaf_front, behind_leaves, behind_start}
-use Rattle.kex_frontier.specs.Going.{Advances, dies, reads_on, both}
-use Rattle.kex_frontier.proofs.Visiting.{in_sides, from_left, from_right, Marked, at_most_behind, Quiet, NoCycle, Finished, IsLeafBy, Visited, visited}
+use Rattle.kex_machine.specs.Advancing.{itself, Advances, dies, reads_on, both}
+use Rattle.kex_machine.proofs.Visiting.{in_sides, from_left, from_right, Marked, at_most_behind, Quiet, NoCycle, Finished, IsLeafBy, Visited, visited}
 
 front_if : (a : Option (Grown Symbol ℕ)) (c : List Symbol) (x : Leaf Symbol ℕ) → IsAmong (leaves_if a c) x → Begins x.code c
 front_if None c x i = absurd i
@@ -80,7 +80,7 @@ module _ (moves : ℕ → Move ℕ) (b : ℕ) where
         (in_sides lx ly x y c u i);
   }
 
-  pub advanced : NoCycle moves → {f g : List Bool} {t : Labelled Symbol ℕ} {a : Option (Grown Symbol ℕ)} → Advances moves b f t a g → IsParted t → AllFinished f → Advanced f t a g
+  pub advanced : NoCycle moves → {f g : List Bool} {t : Labelled Symbol ℕ} {a : Option (Grown Symbol ℕ)} → Advances itself (Byte b) moves b f t a g → IsParted t → AllFinished f → Advanced f t a g
   advanced none {f = f} (dies {p = p} h) parted closed = record {
     closed = closed;
     grows = λ m i. i;

@@ -7,7 +7,7 @@ use Rattle.kex_model.specs.Moves.{Move, choose, forced, go, Step, Side, to_left,
 use Rattle.kex_model.specs.Labelled.{Leaf, Grown, leaves_if, joined, behind}
 use Rattle.kex_model.proofs.Shapes.{among-append, among_left, among_right, joined_leaves, behind_leaves}
 use Rattle.kex_model.proofs.Walks.{waits_for_byte, bytes_of-append}
-use Rattle.kex_frontier.specs.Going.{Visits, known, stops, parts_off, is_forced, passes_on}
+use Rattle.kex_machine.specs.Advancing.{itself, Visits, known, stops, parts_off, is_forced, passes_on}
 
 pub sides : {A S : Type 0} (x y : List A) (a b : Option (Grown A S)) (c : List A) → leaves_if (joined (behind x a) (behind y b)) c ≡ leaves_if a (c ++ x) ++ leaves_if b (c ++ y)
 sides x y a b c = joined_leaves (behind x a) (behind y b) c ∙ ap₂ (λ p q. p ++ q) (behind_leaves x a c) (behind_leaves y b c)
@@ -234,7 +234,7 @@ module _ (moves : ℕ → Move ℕ) where
           (λ s. ⊎_elim (λ i. subst (λ z. Marked h z) s.2 (vr.grows s.0.at (vl.leaf (L ∷ []) s.0 i).4)) (λ i. subst (λ z. Marked h z) s.2 (vr.leaf (R ∷ []) s.0 i).4) (in_sides (L ∷ []) (R ∷ []) a b [] s.0 s.1))
           (reach [] ks p q w)
 
-  pub visited : NoCycle → {f g : List Bool} {n : ℕ} {a : Option (Grown Symbol ℕ)} → Visits moves f n a g → Ready f n → Visited f n a g
+  pub visited : NoCycle → {f g : List Bool} {n : ℕ} {a : Option (Grown Symbol ℕ)} → Visits itself moves f n a g → Ready f n → Visited f n a g
   visited none {f = f} {n = n} (known e) ready = record {
     grows = λ m h. h;
     done = λ m h. inl h;

@@ -1,6 +1,6 @@
 // Which places were met since all marks were taken away.
 
-ghost use Rattle.std.specs.Prelude.{◌≡◌, ◌<◌, IfOk, OnOk, length, get_or, set, replicate, false, true};
+ghost use Rattle.std.specs.Prelude.{◌≡◌, ◌<◌, IfOk, length, get_or, set, replicate, false, true};
 
 use kex_code::memory::Memory;
 use std::alloc::Global;
@@ -32,15 +32,16 @@ impl Marks {
         Ok(Marks { stamps, current: 1 })
     }
 
-    /// Takes all marks away. Past 2^64 - 2 times there is no memory.
-    pub fn clear(&mut self) -> Result<(), Memory>
-        ensures { OnOk result (self.new ≡ replicate (length self.old) false) }
+    /// Takes all marks away. Where stamps come to their end they start anew, which is once in 2^64 - 2 times.
+    pub fn clear(&mut self)
+        ensures { self.new ≡ replicate (length self.old) false }
     {
         if self.current == u64::MAX {
-            return Err(Memory);
+            self.stamps.fill(0);
+            self.current = 1;
+            return;
         }
         self.current += 1;
-        Ok(())
     }
 
     /// Marks a place, and tells whether it was marked.
