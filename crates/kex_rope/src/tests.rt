@@ -7,21 +7,23 @@ use std::test::Fail;
 #[test]
 fn ropes_are_joined_in_order(rt: HostRuntime) -> Result<(), Fail> {
     let alloc = rt.alloc();
-    let mut code = Code::new(alloc);
     let mut first = Rope::new(alloc);
     let mut second = Rope::new(alloc);
-    for count in 0..3 {
-        first.push(Symbol::L)?;
-        for b in 0..200 {
-            second.push(Symbol::Byte(b))?;
-        }
-        assert_eq!(rt; first.len() + second.len(), 201);
-        first.append(&mut second);
-        let mut all = first.take();
-        all.drain_into(&mut code)?;
-        assert!(rt; first.is_empty() && second.is_empty() && all.is_empty());
-        assert_eq!(rt; code.as_slice().len(), (count + 1) * 201);
-        assert_eq!(rt; code.as_slice()[count * 201 + 200], Symbol::Byte(199));
+    let mut whole = Code::new(alloc);
+    let mut code = Code::new(alloc);
+    first.push(Symbol::L)?;
+    whole.push(Symbol::L)?;
+    for b in 0..200 {
+        second.push(Symbol::Byte(b))?;
+        whole.push(Symbol::Byte(b))?;
     }
+    assert_eq!(rt; first.len(), 1);
+    assert_eq!(rt; second.len(), 200);
+    first.append(&mut second);
+    let mut all = first.take();
+    assert!(rt; first.is_empty() && second.is_empty());
+    all.drain_into(&mut code)?;
+    assert!(rt; all.is_empty());
+    assert_eq!(rt; code.as_slice(), whole.as_slice());
     Ok(())
 }

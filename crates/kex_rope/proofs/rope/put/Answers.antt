@@ -1,4 +1,4 @@
-use Rattle.std.proofs.Common.{◌≡◌, ◌+◌, ◌-◌, ◌<◌, ◌≤◌, [], ◌∷◌, ◌++◌, ℕ, zero, suc, List, ⊎_elim, subst, true, false, Ok, Err, length, get_or, set, ap, ◌∙◌, refl, sym, append-nil, arith, length-append, length-set}
+use Rattle.std.proofs.Common.{◌≡◌, ◌-◌, ◌<◌, ◌≤◌, [], ◌∷◌, ◌++◌, ℕ, zero, suc, List, ⊎_elim, subst, true, false, Ok, Err, length, get_or, set, ap, ◌∙◌, refl, sym, append-nil, arith, length-append}
 use Rattle.std.proofs.lemmas.List.{set-get_or}
 use Rattle.std.specs.Prelude.{Result, OnErr, ◌⊎◌}
 use Rattle.std.specs.Global.{Vec}

@@ -1,5 +1,5 @@
-use Rattle.std.proofs.Common.{◌≡◌, ◌+◌, ◌<◌, ◌≤◌, [], ◌++◌, refl, cond, inr, length, ap, ap₂, subst, ◌∙◌, sym, arith, length-append}
-use Rattle.std.specs.Prelude.{IsOk, is_ok}
+use Rattle.std.proofs.Common.{◌≡◌, [], ◌++◌, refl, cond, inr, length, ap, ap₂, subst, ◌∙◌, sym, arith, length-append}
+use Rattle.std.specs.Prelude.{IsOk}
 use Rattle.kex_rope.specs.Blocks.{joined, AreBlocks, AreFilled}
 use Rattle.kex_rope.proofs.Blocking.{joined-append, filled-append, filled_blocks, filled_count}
 use Rattle.kex_rope.proofs.rope.Rope.append.Goals as goal

@@ -1,5 +1,5 @@
-use Rattle.std.proofs.Common.{◌≡◌, ◌+◌, ◌≤◌, ⊎_elim, inr, ◌∙◌, length, arith}
-use Rattle.kex_rope.specs.Blocks.{joined, AreBlocks, AreFilled}
+use Rattle.std.proofs.Common.{⊎_elim, inr, ◌∙◌, arith}
+use Rattle.kex_rope.specs.Blocks.{AreFilled}
 use Rattle.kex_rope.proofs.rope.Rope.drain_into.Goals as goal
 
 pub loop-self-preserved : goal.loop-self-preserved
