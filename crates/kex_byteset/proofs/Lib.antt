@@ -1,2 +1,3 @@
+mod Refining
 pub mod Flags
 pub mod Words

@@ -1,5 +1,5 @@
-//! Sets with their lengths, and with bytes that they have and that they lack.
-use crate::ByteSet;
+//! Sets with their lengths, and with bytes that they have and that they lack; bytes with their classes.
+use crate::{ByteSet, Partition};
 use std::test::Fail;
 
 #[test]
@@ -32,5 +32,31 @@ fn sets_have_their_bytes(rt: HostRuntime) -> Result<(), Fail> {
             assert!(rt; !set.has(*byte));
         }
     }
+    Ok(())
+}
+
+#[test]
+fn sets_part_the_bytes(rt: HostRuntime) -> Result<(), Fail> {
+    let mut classes = Partition::new();
+    assert_eq!(rt; classes.classes(), 1);
+    classes.refine(&ByteSet::range(b'a', b'z'));
+    classes.refine(&ByteSet::single(b'c'));
+    classes.refine(&ByteSet::range(b'x', 255));
+    let cases = [
+        (0, 0),
+        (b'a', 1),
+        (b'b', 1),
+        (b'c', 2),
+        (b'w', 1),
+        (b'x', 3),
+        (b'z', 3),
+        (b'z' + 1, 4),
+        (255, 4),
+    ];
+    for (byte, class) in cases {
+        assert_eq!(rt; classes.class_of(byte), class);
+        assert_eq!(rt; classes.copy().class_of(byte), class);
+    }
+    assert_eq!(rt; classes.classes(), 5);
     Ok(())
 }
