@@ -13,7 +13,7 @@ use Rattle.kex_model.proofs.Counting.{among_get}
 use Rattle.kex_model.proofs.Loops.{no_return}
 use Rattle.kex_rules.specs.Rules.{IsRuled}
 use Rattle.kex_reader.specs.Spelling.{Spells}
-use Rattle.kex_stages.proofs.Answering.{Serves, answers_so}
+use Rattle.kex_lowering.proofs.Answering.{Serves, answers_so}
 use Rattle.kex_compile.specs.Stages.{CanRun, HaveInAll, most_places, roots_of}
 use Rattle.kex_compile.specs.Compiled.{Accepts}
 use Rattle.kex_compile.proofs.Terms.{SameName}

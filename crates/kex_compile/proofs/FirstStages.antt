@@ -7,9 +7,9 @@ use Rattle.kex_model.specs.Programs.{Grammar}
 use Rattle.kex_model.specs.Trees.{root_of}
 use Rattle.kex_model.specs.declared.program.Start.{Start}
 use Rattle.kex_machine.specs.Nodes.{Graph}
-use Rattle.kex_stages.specs.Stages.{HasPlaces, IsWhy}
-use Rattle.kex_stages.specs.declared.refusal.StageRefusal.{StageRefusal}
-use Rattle.kex_stages.specs.declared.refusal.StageRefusal.TheVariants.{TooManyPlaces, EmptyLoop, NoText, Memory}
+use Rattle.kex_lowering.specs.Stages.{HasPlaces, IsWhy}
+use Rattle.kex_lowering.specs.declared.refusal.StageRefusal.{StageRefusal}
+use Rattle.kex_lowering.specs.declared.refusal.StageRefusal.TheVariants.{TooManyPlaces, EmptyLoop, NoText, Memory}
 use Rattle.kex_compile.specs.declared.firsts.Firsts.{Firsts}
 use Rattle.kex_compile.specs.Stages.{AreFirsts, ArePlans, AreStages, CanRun, HaveInAll, IsFirst, IsFirstIn, IsRefusedFor, IsStage, IsUnplanned, Plans, first_of, least, least_of, most_places, noted, roots_of}
 use Rattle.kex_compile.specs.declared.refusal.PlanRefusal.{PlanRefusal}

@@ -8,7 +8,7 @@ use Rattle.kex_model.specs.declared.frame.Frame.TheVariants.{Pending, EndOf}
 use Rattle.kex_model.specs.Moves.{entered}
 use Rattle.kex_model.specs.Places.{Place, start_of, IsPlace, at_start, by_step, by_rest}
 use Rattle.kex_model.proofs.Tables.{some_same}
-use Rattle.kex_stages.specs.Stages.{HasPlaces}
+use Rattle.kex_lowering.specs.Stages.{HasPlaces}
 use Rattle.kex_compile.specs.Stages.{HaveInAll}
 use Rattle.kex_compile.proofs.Alike.{Alike}
 use Rattle.kex_compile.proofs.Placing.{SamePlace, empty, pending, ends, Partners, enter_on, moves_on, step_back, place_on, place_back, place_forth, one_partner, one_partner_back}

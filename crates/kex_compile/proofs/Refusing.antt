@@ -8,7 +8,7 @@ use Rattle.kex_reader.specs.declared.refusal.ReadRefusal.TheVariants as read
 use Rattle.kex_rules.specs.Rules.{IsTwice, IsUnknown, IsNotTail, IsRuled, IsLowest, IsCause}
 use Rattle.kex_rules.specs.declared.refusal.RuleRefusal.{RuleRefusal}
 use Rattle.kex_rules.specs.declared.refusal.RuleRefusal.TheVariants as rule
-use Rattle.kex_stages.specs.declared.refusal.StageRefusal.TheVariants as why
+use Rattle.kex_lowering.specs.declared.refusal.StageRefusal.TheVariants as why
 use Rattle.kex_compile.specs.Stages.{CanRun, IsUnplanned, roots_of}
 use Rattle.kex_compile.specs.Compiled.{Accepts, IsRefused, of_read, of_rule, of_plan}
 use Rattle.kex_compile.specs.declared.refusal.PlanRefusal.{PlanRefusal}

@@ -6,8 +6,8 @@ use Rattle.kex_model.specs.declared.program.Start.{Start}
 use Rattle.kex_model.specs.Trees.{root_of}
 use Rattle.kex_model.proofs.Tables.{some_same}
 use Rattle.kex_rules.specs.Rules.{IsDefined, IsUse}
-use Rattle.kex_stages.specs.declared.refusal.StageRefusal.{StageRefusal}
-use Rattle.kex_stages.specs.declared.refusal.StageRefusal.TheVariants.{TooManyPlaces, EmptyLoop, NoText, Memory}
+use Rattle.kex_lowering.specs.declared.refusal.StageRefusal.{StageRefusal}
+use Rattle.kex_lowering.specs.declared.refusal.StageRefusal.TheVariants.{TooManyPlaces, EmptyLoop, NoText, Memory}
 use Rattle.kex_compile.specs.Stages.{IsFirst, IsRefusedFor, NoneIs, most_places, roots_of}
 use Rattle.kex_compile.proofs.Terms.{SameName}
 use Rattle.kex_compile.proofs.Alike.{Alike, SameStages, name_back}

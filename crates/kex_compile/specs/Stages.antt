@@ -7,9 +7,9 @@ use Rattle.kex_model.specs.Places.{moves, start_of, HasEmptyLoop}
 use Rattle.kex_model.specs.Survivors.{LeadsToEnd}
 use Rattle.kex_machine.specs.Nodes.{Graph}
 use Rattle.kex_desugar.specs.Machines.{HasMore}
-use Rattle.kex_stages.specs.Stages.{Carries, HasPlaces, IsKeptOf, IsWhy}
-use Rattle.kex_stages.specs.declared.refusal.StageRefusal.{StageRefusal}
-use Rattle.kex_stages.specs.declared.refusal.StageRefusal.TheVariants as why
+use Rattle.kex_lowering.specs.Stages.{Carries, HasPlaces, IsKeptOf, IsWhy}
+use Rattle.kex_lowering.specs.declared.refusal.StageRefusal.{StageRefusal}
+use Rattle.kex_lowering.specs.declared.refusal.StageRefusal.TheVariants as why
 use Rattle.kex_compile.specs.declared.firsts.Firsts.{Firsts}
 use Rattle.kex_compile.specs.declared.refusal.PlanRefusal.{PlanRefusal}
 use Rattle.kex_compile.specs.declared.refusal.PlanRefusal.TheVariants.{TooManyPlaces, EmptyLoop, NoText, Memory}

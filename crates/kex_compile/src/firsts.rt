@@ -5,7 +5,7 @@ ghost use Rattle.kex_compile.specs.Stages.{first_of, least, noted};
 
 use crate::refusal::PlanRefusal;
 use kex_code::memory::Memory;
-use kex_stages::refusal::StageRefusal;
+use kex_lowering::refusal::StageRefusal;
 
 /// Of the stages so far, counted from 1, the first that each rule refuses.
 #[derive(Clone, Copy, Debug, PartialEq, Eq)]

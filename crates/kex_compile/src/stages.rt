@@ -9,7 +9,7 @@ use crate::firsts::Firsts;
 use crate::refusal::PlanRefusal;
 use kex_model::program::Program;
 use kex_stage::plan::Plan;
-use kex_stages::stage_machine;
+use kex_lowering::stage_machine;
 use std::alloc::Global;
 
 const MOST_PLACES: u32 = 65_536;

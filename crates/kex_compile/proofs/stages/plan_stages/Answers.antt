@@ -1,7 +1,7 @@
 use Rattle.std.proofs.Common.{rules, arith, ◌≡◌, ◌<◌, ◌≤◌, ◌+◌, List, length, take, get_or, refl, sym, ap, subst, ◌∙◌, ◌∷◌, [], length-append}
 use Rattle.kex_model.specs.Trees.{root_of}
 use Rattle.kex_model.specs.declared.program.Start.{Start}
-use Rattle.kex_stages.specs.Stages.{HasPlaces, IsWhy}
+use Rattle.kex_lowering.specs.Stages.{HasPlaces, IsWhy}
 use Rattle.kex_compile.specs.Stages.{IsStage, Plans, most_places}
 use Rattle.kex_compile.specs.declared.firsts.Firsts.{Firsts}
 use Rattle.kex_compile.proofs.FirstStages.{Gathered, one-refused, one-planned, all-refused}

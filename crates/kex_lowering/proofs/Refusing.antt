@@ -8,10 +8,10 @@ use Rattle.kex_desugar.specs.Machines.{HasMore, IsMachineOf}
 use Rattle.kex_trim.specs.Trim.{IsCause}
 use Rattle.kex_trim.specs.declared.TrimRefusal.{TrimRefusal}
 use Rattle.kex_trim.specs.declared.TrimRefusal.TheVariants.{EmptyLoop, NoText, Memory}
-use Rattle.kex_stages.specs.Refusals.{of_trim}
-use Rattle.kex_stages.specs.Stages.{IsWhy}
-use Rattle.kex_stages.proofs.Loops.{Numbered, alike, loop_of_nodes, loop_of_places}
-use Rattle.kex_stages.proofs.Pairs.{end_ahead}
+use Rattle.kex_lowering.specs.Refusals.{of_trim}
+use Rattle.kex_lowering.specs.Stages.{IsWhy}
+use Rattle.kex_lowering.proofs.Loops.{Numbered, alike, loop_of_nodes, loop_of_places}
+use Rattle.kex_lowering.proofs.Pairs.{end_ahead}
 
 pub why : (P : Grammar) (root max : ℕ) (m : Graph) (e : TrimRefusal) → IsMachineOf P root m → (HasMore P root max → ⊥) → IsCause m e → IsWhy P root max (of_trim e)
 why P root max m EmptyLoop is fits h = (fits, loop_of_nodes P root m is h)

@@ -23,12 +23,12 @@ use Rattle.kex_machine.specs.Answers as nodes
 use Rattle.kex_desugar.specs.Machines.{IsMachineOf}
 use Rattle.kex_trim.specs.Trim.{IsTrimOf}
 use Rattle.kex_trim.proofs.Keeping.{alike_kept}
-use Rattle.kex_stages.specs.Stages.{Carries}
-use Rattle.kex_stages.specs.Shapes.{SameShapes, MachineAnswersAsPlaces, StoodFor}
-use Rattle.kex_stages.proofs.Pairs.{Through, alike_through, end_back}
-use Rattle.kex_stages.proofs.Loops.{Numbered, alike, alike_back, loop_of_places}
-use Rattle.kex_stages.proofs.Shaping.{same_shapes, same_paths}
-use Rattle.kex_stages.proofs.Answering.{Serves, answers_so}
+use Rattle.kex_lowering.specs.Stages.{Carries, SameRun}
+use Rattle.kex_lowering.specs.Shapes.{SameShapes, MachineAnswersAsPlaces, StoodFor}
+use Rattle.kex_lowering.proofs.Pairs.{Through, alike_through, end_back}
+use Rattle.kex_lowering.proofs.Loops.{Numbered, alike, alike_back, loop_of_places}
+use Rattle.kex_lowering.proofs.Shaping.{same_shapes, same_paths}
+use Rattle.kex_lowering.proofs.Answering.{Serves, answers_so}
 
 -- paired steps do the same
 same_done : {S T : Type 0} (f : S → Move S) (g : T → Move T) (R : S → T → Type 0) (ks : List (Step S)) (js : List (Step T)) (c : List Symbol) (st : State) → Paired f g R ks js → acted ks c st ≡ acted js c st
@@ -147,6 +147,15 @@ module _ (P : Grammar) (root : ℕ) (m : Graph) (R : Place → ℕ → Type 0) (
       ∙ ap (λ z. z.out) (sym (same_done f g R (steps_at t) js c (nodes.begun P.registers) h.paired))
       ∙ (done_all P root t c (empty P) [] h.is_tree).written
 
+  registers_left : (t : Tree) (js : List (Step ℕ)) (c : List Symbol) → Follows t js → (nodes.left_by m js c).registers ≡ (part P (kind_at P root) t c (empty P)).registers
+  registers_left t js c h =
+      ap (λ z. (acted js c (nodes.begun z)).registers) same
+      ∙ ap (λ z. z.registers) (sym (same_done f g R (steps_at t) js c (nodes.begun P.registers) h.paired))
+      ∙ (done_all P root t c (empty P) [] h.is_tree).held
+
+  same_run : (t : Tree) (js : List (Step ℕ)) → Follows t js → SameRun P root m t js
+  same_run t js h = record { codes = codes_of t js h; written = λ c. part_left t js c h; registers = λ c. registers_left t js c h }
+
   whole_part : (t : Tree) → IsTree P (kind_at P root) t → (part P (kind_at P root) t (code_at P root t) (empty P)).bytes ≡ (meaning P (kind_at P root) t (empty P)).bytes
   whole_part t it = ap (λ z. (part P (kind_at P root) t z (empty P)).bytes) (sym (append-nil (code_at P root t))) ∙ ap (λ z. z.bytes) (part_whole P [] (empty P) it)
 
@@ -230,6 +239,8 @@ module _ (P : Grammar) (root : ℕ) (m : Graph) (R : Place → ℕ → Type 0) (
       (λ h. answers_so (nodes.Viable m) (places.Viable P root) (nodes.Says m) (places.Says P root) (nodes.HasParse m) (places.HasParse P root) (nodes.Means m) (places.Means P root) on_places limit h),
     );
     registers = same;
+    runs = λ t it. let x = run_of_tree t it in (x.0, x.1.runs, same_run t x.0 x.1);
+    trees = λ ks r. let x = tree_of_run ks r in (x.0, x.1.is_tree, same_run x.0 ks x.1);
   }
 
 -- the nodes that are left of a stage's machine

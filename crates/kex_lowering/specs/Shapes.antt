@@ -9,7 +9,7 @@ use Rattle.kex_model.specs.Survivors.{LeadsToEnd, Reaches, HasShape}
 use Rattle.kex_machine.specs.Nodes.{Graph, HasLoop, node_moves}
 use Rattle.kex_desugar.specs.Machines.{IsMachineOf}
 use Rattle.kex_trim.specs.Trim.{IsTrimOf}
-use Rattle.kex_stages.specs.Stages.{Carries}
+use Rattle.kex_lowering.specs.Stages.{Carries}
 
 -- shapes that differ at most in their places, each of which R pairs with the other's
 abbrev pub SameShape : {S T : Type 0} → (S → T → Type 0) → Shape S → Shape T → Type 0

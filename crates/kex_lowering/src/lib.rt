@@ -6,7 +6,7 @@
 
 ghost use Rattle.std.specs.Prelude.{◌≡◌, IfOk, OnOk, IfErr};
 ghost use Rattle.kex_desugar.specs.Machines.{HasMore};
-ghost use Rattle.kex_stages.specs.Stages.{Carries, HasPlaces, IsKeptOf, IsWhy};
+ghost use Rattle.kex_lowering.specs.Stages.{Carries, HasPlaces, IsKeptOf, IsWhy};
 
 pub mod laws;
 pub mod refusal;

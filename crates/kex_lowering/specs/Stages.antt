@@ -5,12 +5,14 @@ use Rattle.kex_code.specs.declared.symbol.Symbol.{Symbol}
 use Rattle.kex_model.specs.Programs.{Grammar}
 use Rattle.kex_model.specs.Places.{Place, IsPlace, moves, start_of, HasEmptyLoop}
 use Rattle.kex_model.specs.Survivors.{LeadsToEnd, Survives, Agreed, Greedy, IsViable}
+use Rattle.kex_model.specs.Moves.{Step, code_of}
+use Rattle.kex_model.specs.Trees.{Tree, IsTree, kind_at, part}
 use Rattle.kex_model.specs.Answers.{Answer}
 use Rattle.kex_machine.specs.Nodes.{Graph, HasLoop, node_moves}
 use Rattle.kex_desugar.specs.Machines.{HasMore, IsMachineOf}
 use Rattle.kex_trim.specs.Trim.{IsTrimOf}
-use Rattle.kex_stages.specs.declared.refusal.StageRefusal.{StageRefusal}
-use Rattle.kex_stages.specs.declared.refusal.StageRefusal.TheVariants.{TooManyPlaces, EmptyLoop, NoText, Memory}
+use Rattle.kex_lowering.specs.declared.refusal.StageRefusal.{StageRefusal}
+use Rattle.kex_lowering.specs.declared.refusal.StageRefusal.TheVariants.{TooManyPlaces, EmptyLoop, NoText, Memory}
 use Rattle.kex_model.specs.Answers as places
 use Rattle.kex_model.specs.Laws as stages
 use Rattle.kex_machine.specs.Answers as nodes
@@ -20,6 +22,12 @@ module _ (P : Grammar) (root : ℕ) (m : Graph) where
   pub record SameSurvivors (w : List ℕ) : Type 0 where
     pub to_node : (p : Place) (c : List Symbol) → Survives (moves P) (start_of P root) w p c → (n : ℕ) × Survives (node_moves m.nodes) m.start w n c
     pub to_place : (n : ℕ) (c : List Symbol) → Survives (node_moves m.nodes) m.start w n c → (p : Place) × Survives (moves P) (start_of P root) w p c
+
+  -- the tree and the run have one code; with any front of it they write the same, and leave the same registers
+  pub record SameRun (t : Tree) (ks : List (Step ℕ)) : Type 0 where
+    pub codes : code_of ks ≡ places.code_at P root t
+    pub written : (c : List Symbol) → (nodes.left_by m ks c).out ≡ (part P (kind_at P root) t c (places.empty P)).bytes
+    pub registers : (c : List Symbol) → (nodes.left_by m ks c).registers ≡ (part P (kind_at P root) t c (places.empty P)).registers
 
   -- the machine answers as the stage does
   pub record Carries : Type 0 where
@@ -34,6 +42,8 @@ module _ (P : Grammar) (root : ℕ) (m : Graph) where
     pub means : (w text : List ℕ) → places.Means P root w text ↔ nodes.Means m w text
     pub answers : (limit : ℕ) (w : List ℕ) (e : Bool) (a : Answer) → stages.StageAnswers P root limit w e a ↔ nodes.StageAnswers m limit w e a
     pub registers : m.registers ≡ P.registers
+    pub runs : (t : Tree) → IsTree P (kind_at P root) t → (ks : List (Step ℕ)) × nodes.IsRun m ks × SameRun t ks
+    pub trees : (ks : List (Step ℕ)) → nodes.IsRun m ks → (t : Tree) × IsTree P (kind_at P root) t × SameRun t ks
 
 -- the machine has the stage's places for nodes, one to one, and of them those that lead to the end: so it has the stage's paths
 -- to the places that it keeps, and their shapes

@@ -12,7 +12,7 @@ use Rattle.kex_model.specs.Alike.{Alike}
 use Rattle.kex_model.proofs.Shapes.{among_left, among_right}
 use Rattle.kex_model.proofs.Transfer.{reach_ahead, reach_back, end_ahead, end_back, survives_ahead, survives_back}
 use Rattle.kex_machine.specs.Nodes.{Graph, node_moves}
-use Rattle.kex_stages.specs.Shapes.{SameShape, SameShapes, SamePaths}
+use Rattle.kex_lowering.specs.Shapes.{SameShape, SameShapes, SamePaths}
 
 module _ {S T : Type 0} (R : S → T → Type 0) where
   -- the same labels, at places that are paired
@@ -97,7 +97,7 @@ module _ {S T : Type 0} (f : S → Move S) (g : T → Move T) (s₀ : S) (t₀ :
     (carry : (p : S) (c : List Symbol) → Survives f s₀ w p c → (q : T) × R p q × Survives g t₀ w q c)
     (alive : (q : T) → IsAlive g t₀ w q → (p : S) × R p q × IsAlive f s₀ w p)
     (one : (p : S) (q q' : T) → R p q → R p q' → q ≡ q') where
-  shape_on : (s : Shape S) → HasShape f s₀ w s → (u : Shape T) × SameShape R s u × HasShape g t₀ w u
+  pub shape_on : (s : Shape S) → HasShape f s₀ w s → (u : Shape T) × SameShape R s u × HasShape g t₀ w u
   shape_on s (c, t, tree, e) =
       let x = paired_tree R t c (λ z i. let k = carry z.at z.code (tree.lists.each z i) in (k.0, k.1)) in
       let items = same_leaves R t x.0 c x.1 in (

@@ -1,8 +1,8 @@
-use Rattle.kex_stages.specs.Refusals.{of_trim}
-use Rattle.kex_stages.specs.Stages.{IsWhy}
-use Rattle.kex_stages.proofs.Carrying.{carries}
-use Rattle.kex_stages.proofs.Refusing.{why, if_err}
-use Rattle.kex_stages.proofs.stage_machine.Goals as goal
+use Rattle.kex_lowering.specs.Refusals.{of_trim}
+use Rattle.kex_lowering.specs.Stages.{IsWhy}
+use Rattle.kex_lowering.proofs.Carrying.{carries}
+use Rattle.kex_lowering.proofs.Refusing.{why, if_err}
+use Rattle.kex_lowering.proofs.stage_machine.Goals as goal
 
 pub returns-in_err-trimmed-clause-refused : goal.returns-in_err-trimmed-clause-refused
 returns-in_err-trimmed-clause-refused c =

@@ -1,7 +1,7 @@
 // That a stage's places and its nodes answer alike. Each function's contract is a law.
 
-ghost use Rattle.kex_stages.specs.Stages.{NodesAnswerAsPlaces};
-ghost use Rattle.kex_stages.specs.Shapes.{MachinesAnswerAsPlaces, NodesHaveShapesOfPlaces};
+ghost use Rattle.kex_lowering.specs.Stages.{NodesAnswerAsPlaces};
+ghost use Rattle.kex_lowering.specs.Shapes.{MachinesAnswerAsPlaces, NodesHaveShapesOfPlaces};
 
 /// What holds of a stage's places holds of the nodes that are left of its machine, and back: what is viable, what is
 /// agreed, what is said and meant, and each answer.

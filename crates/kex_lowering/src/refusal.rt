@@ -1,7 +1,7 @@
 // Why a stage has no machine.
 
 ghost use Rattle.std.specs.Prelude.{◌≡◌};
-ghost use Rattle.kex_stages.specs.Refusals.{of_desugar, of_trim};
+ghost use Rattle.kex_lowering.specs.Refusals.{of_desugar, of_trim};
 
 use kex_desugar::refusal::DesugarRefusal;
 use kex_trim::TrimRefusal;

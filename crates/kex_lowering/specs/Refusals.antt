@@ -1,8 +1,8 @@
 -- The refusals of the passes as a stage's.
 use Rattle.kex_desugar.specs.declared.refusal.DesugarRefusal.{DesugarRefusal}
 use Rattle.kex_trim.specs.declared.TrimRefusal.{TrimRefusal}
-use Rattle.kex_stages.specs.declared.refusal.StageRefusal.{StageRefusal}
-use Rattle.kex_stages.specs.declared.refusal.StageRefusal.TheVariants.{TooManyPlaces, EmptyLoop, NoText, Memory}
+use Rattle.kex_lowering.specs.declared.refusal.StageRefusal.{StageRefusal}
+use Rattle.kex_lowering.specs.declared.refusal.StageRefusal.TheVariants.{TooManyPlaces, EmptyLoop, NoText, Memory}
 use Rattle.kex_desugar.specs.declared.refusal.DesugarRefusal.TheVariants as desugar
 use Rattle.kex_trim.specs.declared.TrimRefusal.TheVariants as trim
 

@@ -1,5 +1,0 @@
-use Rattle.kex_stages.proofs.Carrying.{carries}
-use Rattle.kex_stages.proofs.laws.nodes_answer_as_places.Goals as goal
-
-pub returns : goal.returns
-returns c = carries
