@@ -1,11 +1,16 @@
-//! Codes: lists of choices and of the bytes that were read; and the small lists that programs are made of.
+//! Codes: lists of choices and of the bytes that were read; their text; and the small lists that programs are made of.
 //!
-//! Stands on nothing. A `Code` is seen as the list of its symbols, and each call is the list's.
+//! Stands on nothing. A `Code` is seen as the list of its symbols, and each call is the list's. `write_text` writes what
+//! `text_of` says; a `CodeReader` gives the whole symbols that the bytes spell, by `HasRead`.
 #![tactic(auto)]
 
 pub mod code;
 pub mod memory;
 pub mod piece;
+pub mod prefix;
+pub mod reader;
+mod shared;
 pub mod symbol;
 #[cfg(test)]
 mod tests;
+pub mod text;

@@ -3,21 +3,22 @@
 ghost use Rattle.std.specs.Prelude.{◌≡◌, IfOk};
 
 use crate::memory::Memory;
-use std::alloc::Global;
+use crate::shared::Shared;
 use std::marker::Model;
 
-/// A list of bytes.
+/// A list of bytes, which its copies share.
 #[derive(Drop)]
 pub struct Bytes {
-    all: Vec<u8>,
+    all: Shared<u8>,
 }
 
 impl Model for Bytes {
     ghost use Rattle.std.specs.Prelude.{ℕ, List};
+    ghost use Rattle.kex_code.specs.Shared.{items_of};
 
     ghost Value = { List ℕ };
 
-    ghost view = { λ b. b.all.items };
+    ghost view = { λ b. items_of b.all };
 }
 
 /// A part of what a register is given: bytes, or what a register holds.
@@ -27,19 +28,20 @@ pub enum Piece {
     Register(u32),
 }
 
-/// The pieces that are joined.
+/// The pieces that are joined, which copies share.
 #[derive(Drop)]
 pub struct Pieces {
-    all: Vec<Piece>,
+    all: Shared<Piece>,
 }
 
 impl Model for Pieces {
     ghost use Rattle.std.specs.Prelude.{List};
+    ghost use Rattle.kex_code.specs.Shared.{items_of};
     ghost use Rattle.kex_code.specs.declared.piece.Piece.{Piece};
 
     ghost Value = { List Piece };
 
-    ghost view = { λ p. p.all.items };
+    ghost view = { λ p. items_of p.all };
 }
 
 impl Bytes {
@@ -47,45 +49,24 @@ impl Bytes {
     pub fn new(bytes: Vec<u8>) -> Bytes
         ensures { result ≡ bytes.items }
     {
-        Bytes { all: bytes }
+        Bytes {
+            all: Shared::new(bytes),
+        }
     }
 
     /// The bytes, in their order.
     pub fn as_slice(&self) -> &[u8]
         ensures { result.now ≡ self.now }
     {
-        &self.all
+        self.all.as_slice()
     }
 
-    /// The bytes as a vector, which is moved.
-    pub fn into_vec(self) -> Vec<u8>
-        ensures { result.items ≡ self }
-    {
-        self.all
-    }
-
-    /// The same bytes again.
-    pub fn copy(&self, alloc: Global) -> Result<Bytes, Memory>
+    /// The same bytes again. They are shared: it takes no memory.
+    pub fn copy(&self) -> Result<Bytes, Memory>
         ensures { IfOk result (λ b. b ≡ self.now) }
     {
-        let mut all = Vec::new(alloc);
-        all.extend_from_slice(&self.all)?;
+        let all = self.all.copy()?;
         Ok(Bytes { all })
-    }
-}
-
-impl Piece {
-    /// The same piece again.
-    pub fn copy(&self, alloc: Global) -> Result<Piece, Memory>
-        ensures { IfOk result (λ p. p ≡ self.now) }
-    {
-        match self {
-            Piece::Lit(text) => {
-                let text = text.copy(alloc)?;
-                Ok(Piece::Lit(text))
-            }
-            Piece::Register(r) => Ok(Piece::Register(*r)),
-        }
     }
 }
 
@@ -94,25 +75,23 @@ impl Pieces {
     pub fn new(pieces: Vec<Piece>) -> Pieces
         ensures { result ≡ pieces.items }
     {
-        Pieces { all: pieces }
+        Pieces {
+            all: Shared::new(pieces),
+        }
     }
 
     /// The pieces, in their order.
     pub fn as_slice(&self) -> &[Piece]
         ensures { result.now ≡ self.now }
     {
-        &self.all
+        self.all.as_slice()
     }
 
-    /// The same pieces again.
-    pub fn copy(&self, alloc: Global) -> Result<Pieces, Memory>
+    /// The same pieces again. They are shared: it takes no memory.
+    pub fn copy(&self) -> Result<Pieces, Memory>
         ensures { IfOk result (λ p. p ≡ self.now) }
     {
-        let mut all = Vec::new(alloc);
-        for piece in &self.all {
-            let piece = piece.copy(alloc)?;
-            all.push(piece)?;
-        }
+        let all = self.all.copy()?;
         Ok(Pieces { all })
     }
 }

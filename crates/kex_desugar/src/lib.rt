@@ -50,7 +50,7 @@ pub fn desugar(
     let mut nodes = Vec::new(alloc);
     'places: while nodes.len() < spots.len() {
         let spot = spots.as_slice()[nodes.len()];
-        let node = node_of(alloc, program, &roots, max_places, &mut spots, spot)?;
+        let node = node_of(program, &roots, max_places, &mut spots, spot)?;
         nodes.push(node)?;
     }
     Ok(Machine::new(start, nodes, stage, program.registers()))

@@ -12,11 +12,9 @@ use crate::spot::{Spot, reach};
 use indexmap::{IndexMap, IndexSet};
 use kex_machine::MNode;
 use kex_model::program::Program;
-use std::alloc::Global;
 
 // The node of a spot. What it leads to gets numbers.
 pub(crate) fn node_of(
-    alloc: Global,
     program: &Program,
     roots: &IndexMap<u32, u32>,
     max: u32,
@@ -34,7 +32,7 @@ pub(crate) fn node_of(
     let Spot::On(frame, rest) = spot else {
         return Ok(MNode::Accept);
     };
-    let plan = frame_plan(alloc, program, roots, frame)?;
+    let plan = frame_plan(program, roots, frame)?;
     match plan {
         Plan::Take(set) => Ok(MNode::Read(set, rest)),
         Plan::Act(effect, way) => {

@@ -14,7 +14,6 @@ use kex_code::memory::Memory;
 use kex_machine::Effect;
 use kex_model::frame::Frame;
 use kex_model::program::{Kind, Program};
-use std::alloc::Global;
 
 // What is put on the rest of a place: nothing, a frame, or two, the upper first.
 #[derive(Clone, Copy)]
@@ -92,7 +91,6 @@ fn rep_plan(program: &Program, node: u32, body: u32, need: u32, left: Option<u32
 
 // The plan of a node of a kind, with the turns that are needed and left.
 fn kind_plan(
-    alloc: Global,
     program: &Program,
     roots: &IndexMap<u32, u32>,
     kind: &Kind,
@@ -105,7 +103,7 @@ fn kind_plan(
 {
     let plan = match kind {
         Kind::One => Plan::Pass(Way::Rest),
-        Kind::Lit(bytes) => Plan::Act(Effect::Lit(bytes.copy(alloc)?), Way::Rest),
+        Kind::Lit(bytes) => Plan::Act(Effect::Lit(bytes.copy()?), Way::Rest),
         Kind::Class(set) => Plan::Take(set.copy()),
         Kind::Call(name) => Plan::Pass(Way::Under(entered(program, root_by_name(roots, *name)))),
         Kind::Seq(l, r) => Plan::Pass(Way::Both(entered(program, *l), entered(program, *r))),
@@ -119,8 +117,8 @@ fn kind_plan(
             Way::Both(entered(program, *body), Frame::EndOf(node)),
         ),
         Kind::Write(r) => Plan::Act(Effect::Write(*r), Way::Rest),
-        Kind::Set(r, parts) => Plan::Act(Effect::Set(*r, parts.copy(alloc)?), Way::Rest),
-        Kind::Add(r, parts) => Plan::Act(Effect::Add(*r, parts.copy(alloc)?), Way::Rest),
+        Kind::Set(r, parts) => Plan::Act(Effect::Set(*r, parts.copy()?), Way::Rest),
+        Kind::Add(r, parts) => Plan::Act(Effect::Add(*r, parts.copy()?), Way::Rest),
     };
     Ok(plan)
 }
@@ -138,7 +136,6 @@ fn end_plan(program: &Program, n: u32) -> Plan
 
 // The plan of a frame.
 pub(crate) fn frame_plan(
-    alloc: Global,
     program: &Program,
     roots: &IndexMap<u32, u32>,
     frame: Frame,
@@ -150,7 +147,7 @@ pub(crate) fn frame_plan(
         Frame::EndOf(n) => Ok(end_plan(program, n)),
         Frame::Pending { node, need, left } => match kind_of(program, node) {
             None => Ok(Plan::Pass(Way::Rest)),
-            Some(kind) => kind_plan(alloc, program, roots, kind, node, need, left),
+            Some(kind) => kind_plan(program, roots, kind, node, need, left),
         },
     }
 }
