@@ -8,6 +8,7 @@ use Rattle.kex_model.specs.Moves.{Move, accept, read, choose, forced, go, symbol
 use Rattle.kex_model.specs.Labelled.{tip, Grown, behind, joined}
 use Rattle.kex_model.proofs.Shapes.{among-append}
 use Rattle.kex_machine.specs.declared.MNode.{MNode}
+use Rattle.kex_machine.proofs.Sizes.{unseen, unseen-set}
 use Rattle.kex_machine.specs.Nodes.{node_moves, MoveBelow, StaysWithin}
 use Rattle.kex_frontier.specs.declared.visit.Work.{Work}
 use Rattle.kex_frontier.specs.declared.visit.Work.TheVariants.{Visit, Front, Merge}
@@ -103,19 +104,6 @@ jobs_below nodes false n range lt = spread_below (length nodes) (node_moves node
 
 pub works_met : (nodes : List MNode) (b : Bool) (n : ℕ) (all work work' : List Work) (x : Work) → all ≡ work ++ x ∷ [] → work' ≡ work ++ jobs_at b (node_moves nodes n) → StaysWithin nodes → n < length nodes → EachWork (length nodes) all → EachWork (length nodes) work'
 works_met nodes b n all work work' x e w range lt h = subst (λ z. EachWork (length nodes) z) (sym w) (each_append (length nodes) work (jobs_at b (node_moves nodes n)) (works_left (length nodes) all work x e h) (jobs_below nodes b n range lt))
-
--- how many places weren't met
-abbrev pub unseen : List Bool → ℕ
-unseen [] = 0
-unseen (true ∷ xs) = unseen xs
-unseen (false ∷ xs) = suc (unseen xs)
-
-unseen-set : (xs : List Bool) (n : ℕ) → n < length xs → get_or xs n false ≡ false → unseen xs ≡ suc (unseen (set xs n true))
-unseen-set [] n lt e = absurd (omega arith)
-unseen-set (true ∷ xs) zero lt e = cc
-unseen-set (false ∷ xs) zero lt e = refl
-unseen-set (true ∷ xs) (suc n) lt e = unseen-set xs n (omega arith) e
-unseen-set (false ∷ xs) (suc n) lt e = ap suc (unseen-set xs n (omega arith) e)
 
 spread_length : (mv : Move ℕ) → length (spread mv) ≤ 5
 spread_length accept = omega arith

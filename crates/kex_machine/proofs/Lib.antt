@@ -8,3 +8,6 @@ pub mod Ranges
 pub mod Saying
 pub mod Ending
 pub mod Marking
+pub mod Relabelling
+pub mod Unique
+pub mod Sizes

@@ -4,7 +4,7 @@ use Rattle.std.specs.Prelude.{◌≡◌, ℕ, ◌<◌, Bool, true, false, List, 
 use Rattle.kex_code.specs.declared.symbol.Symbol.{Symbol}
 use Rattle.kex_code.specs.declared.symbol.Symbol.TheVariants.{L, R}
 use Rattle.kex_model.specs.Moves.{Move, accept, read, choose, forced, go, Side, symbol_of, Effect, took, Allows, IsWaiting}
-use Rattle.kex_model.specs.Labelled.{Labelled, tip, fork, Grown, behind, joined}
+use Rattle.kex_model.specs.Labelled.{Labelled, tip, fork, Shape, place, parts, Grown, behind, joined, relabelled}
 
 -- from place n, left first and past the places that are marked, the tree of the waiting places that are reached without
 -- a byte; `put` writes a symbol
@@ -41,3 +41,17 @@ at_end (go e t) p = None
 abbrev pub accepting : {A : Type 0} → (ℕ → Move ℕ) → Labelled A ℕ → Option (Grown A ℕ)
 accepting moves (tip p) = at_end (moves p) p
 accepting moves (fork x l y r) = picked (behind x (accepting moves l)) (behind y (accepting moves r))
+
+-- the same tree and label, written in another alphabet
+abbrev pub relabelled_if : {A B : Type 0} → (List A → List B) → Option (Grown A ℕ) → Option (Grown B ℕ)
+relabelled_if h None = None
+relabelled_if h (Some g) = Some (record { label = h g.label; tree = relabelled h g.tree })
+
+-- no set tells the bytes apart
+abbrev pub AreAlike : (ℕ → Move ℕ) → ℕ → ℕ → Type 0
+AreAlike moves b c = (p t : ℕ) → (Allows (moves p) (took b t) → Allows (moves p) (took c t)) × (Allows (moves p) (took c t) → Allows (moves p) (took b t))
+
+-- each place of the shape is below the count
+abbrev pub EachPlace : ℕ → Shape ℕ → Type 0
+EachPlace m (place p) = p < m
+EachPlace m (parts l r) = EachPlace m l × EachPlace m r

@@ -1,6 +1,7 @@
 use Rattle.std.proofs.Common.{◌≡◌, ◌+◌, ◌*◌, length, vec_len}
 use Rattle.kex_machine.specs.Nodes.{node_moves}
-use Rattle.kex_frontier.proofs.Walking.{Keeps, EachWork, unseen}
+use Rattle.kex_machine.proofs.Sizes.{unseen}
+use Rattle.kex_frontier.proofs.Walking.{Keeps, EachWork}
 use Rattle.kex_frontier.proofs.visit.walk.Given as goal
 
 abbrev pub invariant-loop-job : goal.invariant-loop-job
