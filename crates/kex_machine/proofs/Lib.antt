@@ -11,3 +11,4 @@ pub mod Marking
 pub mod Relabelling
 pub mod Unique
 pub mod Sizes
+pub mod Classes

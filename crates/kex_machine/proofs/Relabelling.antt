@@ -4,7 +4,7 @@ use Rattle.kex_code.specs.declared.symbol.Symbol.{Symbol}
 use Rattle.kex_code.specs.declared.symbol.Symbol.TheVariants.{L, R}
 use Rattle.kex_model.specs.Moves.{Move, accept, read, choose, forced, go, symbol_of}
 use Rattle.kex_model.specs.Labelled.{Labelled, tip, fork, Grown, behind, joined, relabelled}
-use Rattle.kex_machine.specs.Advancing.{Visits, known, stops, parts_off, is_forced, passes_on, Advances, dies, reads_on, both, picked, at_end, accepting, AreAlike, relabelled_if}
+use Rattle.kex_machine.specs.Advancing.{Visits, known, stops, parts_off, is_forced, passes_on, Advances, dies, reads_on, both, picked, at_end, accepting, LeadAlike, relabelled_if}
 
 module _ {A B : Type 0} (h : List A → List B) (empty : h [] ≡ []) (joins : (x y : List A) → h (x ++ y) ≡ h x ++ h y) where
   pub relabelled-behind : (x : List A) (a : Option (Grown A ℕ)) → relabelled_if h (behind x a) ≡ behind (h x) (relabelled_if h a)
@@ -64,7 +64,7 @@ module _ {A B : Type 0} (h : List A → List B) (empty : h [] ≡ []) (joins : (
         (both (relabelled_advance input input' same vx) (relabelled_advance input input' same vy))
 
 -- bytes that no set tells apart lead on alike
-pub alike_advance : {A : Type 0} {put : Symbol → A} {input : A} {moves : ℕ → Move ℕ} {b c : ℕ} {f g : List Bool} {t : Labelled A ℕ} {a : Option (Grown A ℕ)} → AreAlike moves b c → Advances put input moves b f t a g → Advances put input moves c f t a g
+pub alike_advance : {A : Type 0} {put : Symbol → A} {input : A} {moves : ℕ → Move ℕ} {b c : ℕ} {f g : List Bool} {t : Labelled A ℕ} {a : Option (Grown A ℕ)} → LeadAlike moves b c → Advances put input moves b f t a g → Advances put input moves c f t a g
 alike_advance same (dies {p = p} d) = dies (λ t r. d t ((same p t).1 r))
 alike_advance same (reads_on {p = p} {t = t} r v) = reads_on ((same p t).0 r) v
 alike_advance same (both vx vy) = both (alike_advance same vx) (alike_advance same vy)

@@ -47,9 +47,9 @@ abbrev pub relabelled_if : {A B : Type 0} → (List A → List B) → Option (Gr
 relabelled_if h None = None
 relabelled_if h (Some g) = Some (record { label = h g.label; tree = relabelled h g.tree })
 
--- no set tells the bytes apart
-abbrev pub AreAlike : (ℕ → Move ℕ) → ℕ → ℕ → Type 0
-AreAlike moves b c = (p t : ℕ) → (Allows (moves p) (took b t) → Allows (moves p) (took c t)) × (Allows (moves p) (took c t) → Allows (moves p) (took b t))
+-- the bytes lead to the same places from everywhere
+abbrev pub LeadAlike : (ℕ → Move ℕ) → ℕ → ℕ → Type 0
+LeadAlike moves b c = (p t : ℕ) → (Allows (moves p) (took b t) → Allows (moves p) (took c t)) × (Allows (moves p) (took c t) → Allows (moves p) (took b t))
 
 -- each place of the shape is below the count
 abbrev pub EachPlace : ℕ → Shape ℕ → Type 0

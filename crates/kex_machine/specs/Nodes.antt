@@ -1,5 +1,6 @@
 -- A machine's nodes, as what there is to do at a number.
-use Rattle.std.specs.Prelude.{◌≡◌, ℕ, List, [], ◌∷◌, Option, Some, None, slice_get, ◌<◌, All, length}
+use Rattle.std.specs.Prelude.{◌≡◌, ℕ, Bool, List, [], ◌∷◌, Option, Some, None, slice_get, ◌<◌, All, length}
+use Rattle.kex_byteset.specs.Classes.{IsRefinedBy}
 use Rattle.kex_code.specs.Codes.{bytes_of}
 use Rattle.kex_model.specs.Programs.{HasPieces}
 use Rattle.kex_model.specs.Moves.{Move, accept, read, choose, forced, go, Side, to_left, to_right, nothing, append, open_buffer, drop_buffer, into, write, set_to, add_to, Step, code_of, Walk}
@@ -90,3 +91,18 @@ HasLoop nodes = (n : ℕ) × (k : Step ℕ) × (ks : List (Step ℕ)) × Walk (n
 pub record IsTrimmed (g : Graph) : Type 0 where
   pub ends : (n : ℕ) → n < length g.nodes → LeadsToEnd (node_moves g.nodes) n
   pub no_loop : HasLoop g.nodes → ⊥
+
+-- the sets of bytes that nodes read, in the order of the nodes
+abbrev pub sets_of : List MNode → List (List Bool)
+sets_of [] = []
+sets_of (Read set n ∷ ms) = set ∷ sets_of ms
+sets_of (Accept ∷ ms) = sets_of ms
+sets_of (Choice l r ∷ ms) = sets_of ms
+sets_of (Forced b n ∷ ms) = sets_of ms
+sets_of (Do e n ∷ ms) = sets_of ms
+sets_of (Skip n ∷ ms) = sets_of ms
+
+-- a class has the bytes that no node tells apart; each set has a flag for each byte and no more
+pub record HasClasses (nodes : List MNode) (classes : List ℕ) : Type 0 where
+  pub refined : IsRefinedBy classes (sets_of nodes)
+  pub bytes : All (λ set. length set ≡ 256) (sets_of nodes)

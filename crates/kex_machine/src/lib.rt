@@ -7,10 +7,10 @@
 pub mod laws;
 pub mod marks;
 
-ghost use Rattle.std.specs.Prelude.{◌≡◌, ℕ, ◌<◌, List, length};
-ghost use Rattle.kex_machine.specs.Nodes.{Graph, IsInRange, IsTrimmed};
+ghost use Rattle.std.specs.Prelude.{◌≡◌, ℕ, [], ◌∷◌, ◌++◌, List};
+ghost use Rattle.kex_machine.specs.Nodes.{Graph, IsInRange, IsTrimmed, HasClasses};
 
-use kex_byteset::ByteSet;
+use kex_byteset::{ByteSet, Partition};
 use kex_code::piece::{Bytes, Pieces};
 use std::marker::Model;
 
@@ -115,20 +115,42 @@ impl Machine {
     }
 }
 
-/// A machine with no loop without a byte, from whose every node the end is reached.
+/// A machine with no loop without a byte, from whose every node the end is reached, and the classes of the bytes that no
+/// node tells apart.
 #[derive(Drop)]
 pub struct Trimmed {
     machine: Machine,
+    partition: Partition,
 }
 
 impl Model for Trimmed {
-    ghost use Rattle.kex_machine.specs.Nodes.{Graph, IsTrimmed};
+    ghost use Rattle.kex_machine.specs.Nodes.{Graph, IsTrimmed, HasClasses};
 
     ghost Value = { Graph };
 
     ghost view = { λ t. t.machine };
 
-    ghost invariant = { λ t. IsTrimmed t.machine };
+    ghost invariant = { λ t. IsTrimmed t.machine × HasClasses t.machine.nodes t.partition };
+}
+
+// Refines classes by what one node more reads.
+fn refine_by(node: &MNode, classes: &mut Partition)
+    ensures { (nodes : List MNode) → HasClasses nodes classes.old → HasClasses (nodes ++ node.now ∷ []) classes.new }
+{
+    if let MNode::Read(set, _) = node {
+        classes.refine(set);
+    }
+}
+
+// The classes of the bytes that no node tells apart.
+fn classes_of(nodes: &[MNode]) -> Partition
+    ensures { HasClasses nodes.now result }
+{
+    let mut classes = Partition::new();
+    for node in nodes {
+        refine_by(node, &mut classes);
+    }
+    classes
 }
 
 impl Trimmed {
@@ -137,7 +159,8 @@ impl Trimmed {
         requires { IsTrimmed machine }
         ensures { result ≡ machine }
     {
-        Trimmed { machine }
+        let partition = classes_of(machine.nodes());
+        Trimmed { machine, partition }
     }
 
     /// The machine.
@@ -169,5 +192,12 @@ impl Trimmed {
         ensures { result ≡ self.now.registers }
     {
         self.machine.registers()
+    }
+
+    /// The classes of the bytes that no node tells apart.
+    pub fn partition(&self) -> &Partition
+        ensures { HasClasses self.now.nodes result.now }
+    {
+        &self.partition
     }
 }
