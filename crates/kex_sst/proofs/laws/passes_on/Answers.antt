@@ -1,0 +1,5 @@
+use Rattle.kex_sst.proofs.Passing.{on}
+use Rattle.kex_sst.proofs.laws.passes_on.Goals as goal
+
+pub returns : goal.returns
+returns c = on

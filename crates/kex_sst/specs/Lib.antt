@@ -1,0 +1,5 @@
+pub mod Parts
+pub mod Tables
+pub mod Passes
+pub mod Laws
+pub mod Worked
