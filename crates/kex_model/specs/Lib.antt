@@ -10,3 +10,4 @@ pub mod Acting
 pub mod Alike
 pub mod Schedules
 pub mod Worked
+pub mod States
