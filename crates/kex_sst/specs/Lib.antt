@@ -2,4 +2,5 @@ pub mod Parts
 pub mod Tables
 pub mod Passes
 pub mod Laws
+pub mod Machines
 pub mod Worked
