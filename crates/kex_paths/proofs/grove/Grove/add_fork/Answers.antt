@@ -1,0 +1,15 @@
+use Rattle.std.proofs.Common.{◌≡◌, [], ◌∷◌, ◌++◌, Some, ap, reverse, ◌∙◌}
+use Rattle.std.proofs.lemmas.Result.{on_ok_weaker}
+use Rattle.kex_model.specs.Labelled.{fork}
+use Rattle.kex_paths.proofs.Branching.{fork_added, trees_added}
+use Rattle.kex_paths.proofs.grove.Grove.add_fork.Goals as goal
+
+pub returns : goal.returns
+returns c =
+    let es = c.self.inside.edges.items in
+    let all : c.push-2.new.self.items ≡ (es ++ c.args.left ∷ []) ++ c.args.right ∷ [] = c.in_ok-push-2.ensures.items ∙ ap (λ z. z ++ c.args.right ∷ []) c.in_ok-push.ensures.items in
+    on_ok_weaker c.push_root.result
+    (λ done a b rs p q has. done (Some (record { label = []; tree = fork a.label a.tree b.label b.tree })) rs
+    (ap reverse c.new-label.ensures.items, fork_added c.args.self.now es c.push-2.new.self.items (reverse c.self.inside.roots.items) c.len.result c.args.left c.args.right c.self.view_is all (c.len.ensures ∙ c.self.inside.edges.ok.0) a b p q)
+    (trees_added c.args.self.now es c.push-2.new.self.items (reverse c.self.inside.roots.items) c.args.left c.args.right c.self.view_is all rs has))
+    c.push_root.ensures

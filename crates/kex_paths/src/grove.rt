@@ -1,0 +1,141 @@
+// Trees side by side, of which each may be gone, with parts of an update for labels.
+
+ghost use Rattle.std.specs.Prelude.{◌≡◌, ℕ, List, [], ◌∷◌, ◌++◌, Some, Option, OnOk};
+ghost use Rattle.kex_model.specs.Labelled.{Grown, tip, behind, joined};
+ghost use Rattle.kex_sst.specs.declared.parts.Part.{Part};
+ghost use Rattle.kex_paths.specs.Groves.{HasTrees, IsBranch, top, under, no_wood};
+
+use kex_code::memory::Memory;
+use kex_sst::parts::Part;
+use std::alloc::Global;
+use std::marker::Model;
+
+/// What an edge leads to: a place, or a fork, by the number of its left edge; the right one has the number after that.
+#[derive(Clone, Copy, Debug, PartialEq, Eq)]
+pub enum Knot {
+    Tip(u32),
+    Fork(usize),
+}
+
+/// An edge, with what it leads to. Its label is turned: what is put in front stands at its end.
+#[derive(Drop)]
+pub struct Branch {
+    pub label: Vec<Part>,
+    pub knot: Knot,
+}
+
+/// Trees side by side, each with an edge to its root; the edges below the roots stand by number.
+#[derive(Drop)]
+pub struct Grove {
+    alloc: Global,
+    edges: Vec<Branch>,
+    roots: Vec<Option<Branch>>,
+}
+
+impl Model for Grove {
+    ghost use Rattle.std.specs.Prelude.{reverse};
+    ghost use Rattle.kex_paths.specs.Groves.{Wood};
+
+    ghost Value = { Wood };
+
+    ghost view = { λ g. record { edges = g.edges.items; roots = reverse g.roots.items } };
+}
+
+impl Grove {
+    /// No trees.
+    pub fn new(alloc: Global) -> Grove
+        ensures { result ≡ no_wood }
+    {
+        Grove {
+            alloc,
+            edges: Vec::new(alloc),
+            roots: Vec::new(alloc),
+        }
+    }
+
+    /// Takes all trees away.
+    pub fn clear(&mut self)
+        ensures { self.new ≡ no_wood }
+    {
+        self.edges.clear();
+        self.roots.clear();
+    }
+
+    /// The edges below the roots.
+    pub fn edges(&self) -> &[Branch]
+        ensures { result.now ≡ self.now.edges }
+    {
+        &self.edges
+    }
+
+    fn push_root(&mut self, root: Option<Branch>) -> Result<(), Memory>
+        ensures { OnOk result ((t : Option (Grown Part ℕ)) (rs : List (Option (Grown Part ℕ))) → IsBranch self.old.edges root t → HasTrees self.old rs → HasTrees self.new (t ∷ rs)) }
+    {
+        self.roots.push(root)?;
+        Ok(())
+    }
+
+    /// Takes the last tree away; the edges below its root stay.
+    pub fn pop_root(&mut self) -> Option<Branch>
+        ensures trees { (rs : List (Option (Grown Part ℕ))) → HasTrees self.old rs → IsBranch self.new.edges result (top rs) × HasTrees self.new (under rs) }
+        ensures edges { self.new.edges ≡ self.old.edges }
+    {
+        match self.roots.pop() {
+            Some(root) => root,
+            None => None,
+        }
+    }
+
+    /// A tree that is gone.
+    pub fn add_none(&mut self) -> Result<(), Memory>
+        ensures { OnOk result ((rs : List (Option (Grown Part ℕ))) → HasTrees self.old rs → HasTrees self.new (None ∷ rs)) }
+    {
+        self.push_root(None)
+    }
+
+    /// A tree of one place.
+    pub fn add_tip(&mut self, place: u32) -> Result<(), Memory>
+        ensures { OnOk result ((rs : List (Option (Grown Part ℕ))) → HasTrees self.old rs → HasTrees self.new (Some (record { label = []; tree = tip place }) ∷ rs)) }
+    {
+        let label = Vec::new(self.alloc);
+        let knot = Knot::Tip(place);
+        self.push_root(Some(Branch { label, knot }))
+    }
+
+    // A fork of two trees, as the last tree.
+    fn add_fork(&mut self, left: Branch, right: Branch) -> Result<(), Memory>
+        ensures { OnOk result ((a : Grown Part ℕ) (b : Grown Part ℕ) (rs : List (Option (Grown Part ℕ))) → IsBranch self.old.edges (Some left) (Some a) → IsBranch self.old.edges (Some right) (Some b) → HasTrees self.old rs → HasTrees self.new (joined (Some a) (Some b) ∷ rs)) }
+    {
+        let label = Vec::new(self.alloc);
+        let knot = Knot::Fork(self.edges.len());
+        self.edges.push(left)?;
+        self.edges.push(right)?;
+        self.push_root(Some(Branch { label, knot }))
+    }
+
+    /// The last two trees as the sides of a fork; of one that is gone no fork is left.
+    pub fn merge(&mut self) -> Result<(), Memory>
+        ensures { OnOk result ((rs : List (Option (Grown Part ℕ))) → HasTrees self.old rs → HasTrees self.new (joined (top (under rs)) (top rs) ∷ under (under rs))) }
+    {
+        let right = self.pop_root();
+        let left = self.pop_root();
+        match (left, right) {
+            (None, right) => self.push_root(right),
+            (Some(left), None) => self.push_root(Some(left)),
+            (Some(left), Some(right)) => self.add_fork(left, right),
+        }
+    }
+
+    /// A part in front of the last tree.
+    pub fn put_front(&mut self, part: Part) -> Result<(), Memory>
+        ensures { OnOk result ((rs : List (Option (Grown Part ℕ))) → HasTrees self.old rs → HasTrees self.new (behind (part ∷ []) (top rs) ∷ under rs)) }
+    {
+        match self.pop_root() {
+            None => self.push_root(None),
+            Some(mut root) => {
+                root.label.push(part)?;
+                self.push_root(Some(root))
+            }
+        }
+    }
+}
