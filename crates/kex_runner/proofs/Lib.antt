@@ -1,0 +1,4 @@
+pub mod Writing
+pub mod Giving
+pub mod Going
+pub mod Standing

@@ -1,0 +1,12 @@
+use Rattle.std.proofs.Common.{◌≡◌, ◌+◌, drop}
+use Rattle.kex_runner.specs.Items.{items_along}
+use Rattle.kex_runner.specs.Following.{IsPlace}
+use Rattle.kex_runner.proofs.Going.{Goes}
+use Rattle.kex_runner.proofs.runner.follow.Given as goal
+
+abbrev pub invariant-loop-i : goal.invariant-loop-i
+invariant-loop-i g l = record {
+  goes : Goes l.table l.initial.state l.initial.registers l.piece l.i l.state l.registers l.initial.code l.code;
+  place : IsPlace l.table l.state l.registers;
+  steps : l.steps + items_along l.table l.state (drop l.i l.piece) ≡ l.initial.steps + items_along l.table l.initial.state l.piece;
+}

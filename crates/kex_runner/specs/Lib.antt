@@ -1,0 +1,4 @@
+pub mod Moving
+pub mod Items
+pub mod Running
+pub mod Following

@@ -1,0 +1,24 @@
+// What a runner answers.
+
+ghost use Rattle.std.specs.Prelude.{◌≡◌};
+ghost use Rattle.kex_runner.specs.Running.{answer_of};
+
+/// What a piece leaves: bytes that can go on to a parse, or that can't.
+#[derive(Clone, Copy, Debug, PartialEq, Eq)]
+pub enum Fed {
+    On,
+    Dead,
+}
+
+/// What the end shows: that the bytes have a parse, or that they have none.
+#[derive(Clone, Copy, Debug, PartialEq, Eq)]
+pub enum Ended {
+    Parsed,
+    Cut,
+}
+
+pub(crate) fn answer_of(dead: bool) -> Fed
+    ensures { result ≡ answer_of dead }
+{
+    if dead { Fed::Dead } else { Fed::On }
+}
