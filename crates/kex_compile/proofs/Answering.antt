@@ -1,5 +1,5 @@
 -- Two programs that one text spells answer alike: their stages, and so their pipelines.
-use Rattle.std.proofs.Common.{◌≡◌, ◌↔◌, ℕ, suc, Bool, List, [], ◌∷◌, ◌⊎◌, inl, inr, ⊎_elim, Option, refl, sym, ap, ◌∙◌, subst}
+use Rattle.std.proofs.Common.{◌≡◌, ◌↔◌, ◌≤◌, ℕ, suc, Bool, List, [], ◌∷◌, ◌⊎◌, inl, inr, ⊎_elim, Option, length, refl, sym, ap, ◌∙◌, subst, arith}
 use Rattle.kex_code.specs.declared.symbol.Symbol.{Symbol}
 use Rattle.kex_code.specs.Codes.{bytes_of, Before, IsAmong, HasNumber}
 use Rattle.kex_model.specs.Programs.{Grammar}
@@ -14,13 +14,14 @@ use Rattle.kex_model.proofs.Loops.{no_return}
 use Rattle.kex_rules.specs.Rules.{IsRuled}
 use Rattle.kex_reader.specs.Spelling.{Spells}
 use Rattle.kex_lowering.proofs.Answering.{Serves, answers_so}
+use Rattle.kex_compile.specs.declared.limits.Limits.{Limits}
 use Rattle.kex_compile.specs.Stages.{CanRun, HaveInAll, most_places, roots_of}
-use Rattle.kex_compile.specs.Compiled.{Accepts}
+use Rattle.kex_compile.specs.Compiled.{Accepts, AnswersAlike, MeansAlike}
 use Rattle.kex_compile.proofs.Terms.{SameName}
 use Rattle.kex_compile.proofs.Alike.{Alike, name_back}
 use Rattle.kex_compile.proofs.Carrying.{defined_on, not_tail_on, once_back, stage_on as start_on, use_on}
 use Rattle.kex_compile.proofs.Placing.{SamePlace, empty, Partners, partners_on, enter_on, moves_on, walk_on, walk_back, waits_on, waits_back, end_on, end_back, place_back, place_forth, one_partner, one_partner_back, end_ahead, loop_on, more_on}
-use Rattle.kex_compile.proofs.Staging.{Known, Pairwise, pair_on, pair_at, Both, roots}
+use Rattle.kex_compile.proofs.Staging.{Known, Pairwise, pair_on, pair_at, Both, roots, same_count}
 use Rattle.kex_compile.proofs.Numbering.{as_many_in_all}
 use Rattle.kex_compile.proofs.Meaning.{Same, same_empty, tree_on, code_on, part_on, meaning_on}
 
@@ -209,9 +210,9 @@ can_run_on P Q a b known known' r q p h = record {
   some_text = end_ahead P Q a known r q p.0 h.some_text;
 }
 
-module _ (text : List ℕ) (alike : (P Q : Grammar) → Spells text P → Spells text Q → Alike P Q) where
+module _ (limits : Limits) (text : List ℕ) (alike : (P Q : Grammar) → Spells text P → Spells text Q → Alike P Q) where
   -- if one program of the text is accepted, all are
-  pub accepts : (P Q : Grammar) → Accepts text P → Spells text Q → Accepts text Q
+  pub accepts : (P Q : Grammar) → Accepts limits text P → Spells text Q → Accepts limits text Q
   accepts P Q ok s =
       let a = alike P Q ok.spells s in
       let b = alike Q P s ok.spells in
@@ -222,9 +223,10 @@ module _ (text : List ℕ) (alike : (P Q : Grammar) → Spells text P → Spells
         stages = λ q i.
             let x = pair_on (Both Q P b a ruled.known ok.ruled.known) (roots_of Q) (roots_of P) (roots Q P b a ruled.known ok.ruled.known) q i in
             can_run_on P Q a b ok.ruled.known ruled.known x.0 q (x.2.1, x.2.0) (ok.stages x.0 x.1);
+        one_stage = λ on. let le : length P.stages ≤ 1 = ok.one_stage on in omega (arith, same_count (SameName P.names Q.names) P.stages Q.stages a.stages);
       }
 
-  both_run : (P Q : Grammar) → Accepts text P → Accepts text Q → BothRun P Q
+  both_run : (P Q : Grammar) → Accepts limits text P → Accepts limits text Q → BothRun P Q
   both_run P Q h k = record {
     to = alike P Q h.spells k.spells;
     fro = alike Q P k.spells h.spells;
@@ -237,17 +239,17 @@ module _ (text : List ℕ) (alike : (P Q : Grammar) → Spells text P → Spells
   as_many : (P Q : Grammar) (total : ℕ) → BothRun P Q → HaveInAll P (roots_of P) total → HaveInAll Q (roots_of Q) total
   as_many P Q total h m = as_many_in_all P Q h.to h.fro h.known h.known' (roots_of P) (roots_of Q) total (all_roots P Q h) m
 
-  pub counted : (P Q : Grammar) (total : ℕ) → Accepts text P → Spells text Q → HaveInAll P (roots_of P) total ↔ HaveInAll Q (roots_of Q) total
+  pub counted : (P Q : Grammar) (total : ℕ) → Accepts limits text P → Spells text Q → HaveInAll P (roots_of P) total ↔ HaveInAll Q (roots_of Q) total
   counted P Q total ok s =
       let also = accepts P Q ok s in
       (as_many P Q total (both_run P Q ok also), as_many Q P total (both_run Q P also ok))
 
-  pub meant : (P Q : Grammar) (i r q : ℕ) (input said : List ℕ) → Accepts text P → Spells text Q → HasNumber (roots_of P) r i → HasNumber (roots_of Q) q i → Means P r input said ↔ Means Q q input said
-  meant P Q i r q input said ok s k l =
+  pub meant : (P Q : Grammar) → Accepts limits text P → Spells text Q → MeansAlike P Q
+  meant P Q ok s = λ i r q input said k l.
       let also = accepts P Q ok s in
       (stages_mean P Q (both_run P Q ok also) i r q input said k l, stages_mean Q P (both_run Q P also ok) i q r input said l k)
 
-  pub answered : (P Q : Grammar) (limit : ℕ) (input : List ℕ) (ended : Bool) (said : List ℕ) (report : Option Report) → Accepts text P → Spells text Q → StagesAnswer P limit (roots_of P) input ended said report ↔ StagesAnswer Q limit (roots_of Q) input ended said report
-  answered P Q limit input ended said report ok s =
+  pub answered : (P Q : Grammar) → Accepts limits text P → Spells text Q → AnswersAlike P Q
+  answered P Q ok s = λ limit input ended said report.
       let also = accepts P Q ok s in
       (pipeline_answers P Q (both_run P Q ok also) limit input ended said report, pipeline_answers Q P (both_run Q P also ok) limit input ended said report)

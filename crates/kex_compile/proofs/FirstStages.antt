@@ -11,6 +11,7 @@ use Rattle.kex_lowering.specs.Stages.{HasPlaces, IsWhy}
 use Rattle.kex_lowering.specs.declared.refusal.StageRefusal.{StageRefusal}
 use Rattle.kex_lowering.specs.declared.refusal.StageRefusal.TheVariants.{TooManyPlaces, EmptyLoop, NoText, Memory}
 use Rattle.kex_compile.specs.declared.firsts.Firsts.{Firsts}
+use Rattle.kex_compile.specs.declared.limits.Limits.{Limits}
 use Rattle.kex_compile.specs.Stages.{AreFirsts, ArePlans, AreStages, CanRun, HaveInAll, IsFirst, IsFirstIn, IsRefusedFor, IsStage, IsUnplanned, Plans, first_of, least, least_of, most_places, noted, roots_of}
 use Rattle.kex_compile.specs.declared.refusal.PlanRefusal.{PlanRefusal}
 use Rattle.kex_compile.specs.declared.refusal.PlanRefusal.TheVariants as plan
@@ -148,21 +149,21 @@ module _ (P : Grammar) (all : List Start) (i : ℕ) (d : Start) (lt : i < length
 some-same : (a b : PlanRefusal) → Some a ≡ Some b → a ≡ b
 some-same a b e = cc
 
-unplanned : (P : Grammar) (a b c : Option ℕ) (e : PlanRefusal) → IsFirstIn (IsRefusedFor P TooManyPlaces) (roots_of P) a → IsFirstIn (IsRefusedFor P EmptyLoop) (roots_of P) b → IsFirstIn (IsRefusedFor P NoText) (roots_of P) c → least_of a b c ≡ Some e → IsUnplanned P e
-unplanned P (Some n) b c e h k l is = subst (λ z. IsUnplanned P z) (some-same (plan.TooManyPlaces n) e is) h
-unplanned P None (Some n) c e h k l is = subst (λ z. IsUnplanned P z) (some-same (plan.EmptyLoop n) e is) (h, k)
-unplanned P None None (Some n) e h k l is = subst (λ z. IsUnplanned P z) (some-same (plan.NoText n) e is) (h, k, l)
-unplanned P None None None e h k l is = cc
+unplanned : (limits : Limits) (P : Grammar) (a b c : Option ℕ) (e : PlanRefusal) → IsFirstIn (IsRefusedFor P TooManyPlaces) (roots_of P) a → IsFirstIn (IsRefusedFor P EmptyLoop) (roots_of P) b → IsFirstIn (IsRefusedFor P NoText) (roots_of P) c → least_of a b c ≡ Some e → IsUnplanned limits P e
+unplanned limits P (Some n) b c e h k l is = subst (λ z. IsUnplanned limits P z) (some-same (plan.TooManyPlaces n) e is) h
+unplanned limits P None (Some n) c e h k l is = subst (λ z. IsUnplanned limits P z) (some-same (plan.EmptyLoop n) e is) (h, k)
+unplanned limits P None None (Some n) e h k l is = subst (λ z. IsUnplanned limits P z) (some-same (plan.NoText n) e is) (h, k, l)
+unplanned limits P None None None e h k l is = cc
 
 -- with all stages gathered
 module _ (P : Grammar) (i : ℕ) (past : length P.stages ≤ i) (f : Firsts) (c : Plans) (g : Gathered P (take i P.stages) f c) where
   all_of : map (root P) (take i P.stages) ≡ roots_of P
   all_of = ap (λ z. map (root P) z) (take_all i P.stages past)
 
-  pub all-refused : (e : PlanRefusal) → least f ≡ Some e → IsUnplanned P e
-  all-refused e is =
+  pub all-refused : (limits : Limits) (e : PlanRefusal) → least f ≡ Some e → IsUnplanned limits P e
+  all-refused limits e is =
       let firsts = subst (λ z. AreFirsts P z f) all_of g.firsts in
-      unplanned P f.too_many_places f.empty_loop f.no_text e firsts.too_many_places firsts.empty_loop firsts.no_text is
+      unplanned limits P f.too_many_places f.empty_loop f.no_text e firsts.too_many_places firsts.empty_loop firsts.no_text is
 
   pub all-planned : least f ≡ None → ArePlans P c
   all-planned none = record {

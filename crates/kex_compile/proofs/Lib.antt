@@ -11,3 +11,4 @@ pub mod Refusing
 pub mod Meaning
 pub mod Numbering
 pub mod Answering
+pub mod FewStages

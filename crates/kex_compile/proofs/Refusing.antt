@@ -1,6 +1,5 @@
 -- A text that is accepted isn't refused, and one that is refused is refused for one cause.
-use Rattle.std.proofs.Common.{◌≡◌, ℕ, ◌<◌, List, ◌⊎◌, inl, inr, ⊎_elim, refl, ap, arith}
-use Rattle.kex_code.specs.Codes.{IsAmong}
+use Rattle.std.proofs.Common.{◌≡◌, ℕ, ◌<◌, ◌≤◌, List, ◌⊎◌, inl, inr, ⊎_elim, length, refl, ap, arith}
 use Rattle.kex_model.specs.Programs.{Grammar}
 use Rattle.kex_reader.specs.Spelling.{Spells, IsRefusedAs}
 use Rattle.kex_reader.specs.declared.refusal.ReadRefusal.{ReadRefusal}
@@ -8,16 +7,19 @@ use Rattle.kex_reader.specs.declared.refusal.ReadRefusal.TheVariants as read
 use Rattle.kex_rules.specs.Rules.{IsTwice, IsUnknown, IsNotTail, IsRuled, IsLowest, IsCause}
 use Rattle.kex_rules.specs.declared.refusal.RuleRefusal.{RuleRefusal}
 use Rattle.kex_rules.specs.declared.refusal.RuleRefusal.TheVariants as rule
+use Rattle.kex_lowering.specs.declared.refusal.StageRefusal.{StageRefusal}
 use Rattle.kex_lowering.specs.declared.refusal.StageRefusal.TheVariants as why
-use Rattle.kex_compile.specs.Stages.{CanRun, IsUnplanned, roots_of}
+use Rattle.kex_compile.specs.Stages.{AllRun, CanRun, IsFirst, IsRefusedFor, IsUnplanned, KeepsToOneStage, roots_of}
+use Rattle.kex_compile.specs.declared.limits.Limits.{Limits}
 use Rattle.kex_compile.specs.Compiled.{Accepts, IsRefused, of_read, of_rule, of_plan}
 use Rattle.kex_compile.specs.declared.refusal.PlanRefusal.{PlanRefusal}
 use Rattle.kex_compile.specs.declared.refusal.PlanRefusal.TheVariants as plan
 use Rattle.kex_compile.specs.declared.refusal.CompileRefusal.{CompileRefusal}
-use Rattle.kex_compile.specs.declared.refusal.CompileRefusal.TheVariants.{TextTooLong, BadToken, Unexpected, BadRegex, BadCount, BadSet, OverLimit, TwiceDefined, Unknown, NoStart, NotTail, TooManyPlaces, EmptyLoop, NoText, Memory}
+use Rattle.kex_compile.specs.declared.refusal.CompileRefusal.TheVariants.{TextTooLong, BadToken, Unexpected, BadRegex, BadCount, BadSet, OverLimit, TwiceDefined, Unknown, NoStart, NotTail, TooManyPlaces, EmptyLoop, NoText, OneStage, Memory}
+use Rattle.kex_compile.proofs.Terms.{SameName}
 use Rattle.kex_compile.proofs.Alike.{Alike}
 use Rattle.kex_compile.proofs.Carrying.{begins_on, none_on, not_tail_on, twice_on, unknown_on}
-use Rattle.kex_compile.proofs.Staging.{Known, one_stage, refused_on}
+use Rattle.kex_compile.proofs.Staging.{Known, one_stage, refused_on, same_count}
 
 -- ---- one program that keeps the rules, and one that doesn't
 
@@ -32,11 +34,15 @@ not_ruled P Q rule.NoStart a b r n c = begins_on P Q b r.begins.0 r.begins.1 c.2
 not_ruled P Q (rule.NotTail at) a b r n c = r.tail at (not_tail_on Q P a at c.3.breaks)
 not_ruled P Q rule.Memory a b r n c = n refl
 
-not_planned : (P Q : Grammar) (e : PlanRefusal) → Alike Q P → Alike P Q → Known P → Known Q → ((root : ℕ) → IsAmong (roots_of P) root → CanRun P root) → (e ≡ plan.Memory → ⊥) → IsUnplanned Q e → ⊥
-not_planned P Q (plan.TooManyPlaces k) a b known known' run n u = let f = refused_on Q P a b known' known why.TooManyPlaces k u in (run f.0 f.1).few f.2
-not_planned P Q (plan.EmptyLoop k) a b known known' run n u = let f = refused_on Q P a b known' known why.EmptyLoop k u.1 in (run f.0 f.1).no_loop f.2.1
-not_planned P Q (plan.NoText k) a b known known' run n u = let f = refused_on Q P a b known' known why.NoText k u.2 in f.2.2 (run f.0 f.1).some_text
-not_planned P Q plan.Memory a b known known' run n u = n refl
+not_planned : (limits : Limits) (P Q : Grammar) (e : PlanRefusal) → Alike Q P → Alike P Q → Known P → Known Q → AllRun P → KeepsToOneStage limits P → (e ≡ plan.Memory → ⊥) → IsUnplanned limits Q e → ⊥
+not_planned limits P Q (plan.TooManyPlaces k) a b known known' run one n u = let f = refused_on Q P a b known' known why.TooManyPlaces k u in (run f.0 f.1).few f.2
+not_planned limits P Q (plan.EmptyLoop k) a b known known' run one n u = let f = refused_on Q P a b known' known why.EmptyLoop k u.1 in (run f.0 f.1).no_loop f.2.1
+not_planned limits P Q (plan.NoText k) a b known known' run one n u = let f = refused_on Q P a b known' known why.NoText k u.2 in f.2.2 (run f.0 f.1).some_text
+not_planned limits P Q plan.OneStage a b known known' run one n u =
+    let le : length P.stages ≤ 1 = one u.1 in
+    let more : 1 < length Q.stages = u.2 in
+    omega (arith, same_count (SameName Q.names P.names) Q.stages P.stages a.stages)
+not_planned limits P Q plan.Memory a b known known' run one n u = n refl
 
 -- ---- one cause
 
@@ -69,62 +75,85 @@ one_rule P Q a b (rule.NotTail i) (rule.Unknown j) n m h k = absurd (h.1 j (unkn
 one_rule P Q a b (rule.NotTail i) rule.NoStart n m h k = absurd (h.2 (none_on Q P b k.2))
 one_rule P Q a b (rule.NotTail i) (rule.NotTail j) n m h k = ap rule.NotTail (one_lowest (IsNotTail P) (IsNotTail Q) i j (not_tail_on P Q a) (not_tail_on Q P b) h.3 k.3)
 
-module _ (P Q : Grammar) (a : Alike P Q) (b : Alike Q P) (known : Known P) (known' : Known Q) where
-  one_plan : (d e : PlanRefusal) → (d ≡ plan.Memory → ⊥) → (e ≡ plan.Memory → ⊥) → IsUnplanned P d → IsUnplanned Q e → d ≡ e
+-- a stage that can run isn't refused
+runs : (P : Grammar) (root : ℕ) (e : StageRefusal) → (e ≡ why.Memory → ⊥) → CanRun P root → IsRefusedFor P e root → ⊥
+runs P root why.TooManyPlaces n r h = r.few h
+runs P root why.EmptyLoop n r h = r.no_loop h.1
+runs P root why.NoText n r h = h.2 r.some_text
+runs P root why.Memory n r h = n refl
+
+module _ (limits : Limits) (P Q : Grammar) (a : Alike P Q) (b : Alike Q P) (known : Known P) (known' : Known Q) where
+  -- of one program a stage is refused, and of the other all can run
+  refused_here : (e : StageRefusal) (i : ℕ) → (e ≡ why.Memory → ⊥) → IsFirst (IsRefusedFor P e) (roots_of P) i → AllRun Q → ⊥
+  refused_here e i n h run = let f = refused_on P Q a b known known' e i h in runs Q f.0 e n (run f.0 f.1) f.2
+
+  refused_there : (e : StageRefusal) (i : ℕ) → (e ≡ why.Memory → ⊥) → IsFirst (IsRefusedFor Q e) (roots_of Q) i → AllRun P → ⊥
+  refused_there e i n h run = let f = refused_on Q P b a known' known e i h in runs P f.0 e n (run f.0 f.1) f.2
+
+  one_plan : (d e : PlanRefusal) → (d ≡ plan.Memory → ⊥) → (e ≡ plan.Memory → ⊥) → IsUnplanned limits P d → IsUnplanned limits Q e → d ≡ e
   one_plan plan.Memory e n m h k = absurd (n refl)
   one_plan (plan.TooManyPlaces i) plan.Memory n m h k = absurd (m refl)
   one_plan (plan.EmptyLoop i) plan.Memory n m h k = absurd (m refl)
   one_plan (plan.NoText i) plan.Memory n m h k = absurd (m refl)
+  one_plan plan.OneStage plan.Memory n m h k = absurd (m refl)
   one_plan (plan.TooManyPlaces i) (plan.TooManyPlaces j) n m h k = ap plan.TooManyPlaces (one_stage P Q a b known known' why.TooManyPlaces i j h k)
   one_plan (plan.TooManyPlaces i) (plan.EmptyLoop j) n m h k = let f = refused_on P Q a b known known' why.TooManyPlaces i h in absurd (k.0 f.0 f.1 f.2)
   one_plan (plan.TooManyPlaces i) (plan.NoText j) n m h k = let f = refused_on P Q a b known known' why.TooManyPlaces i h in absurd (k.0 f.0 f.1 f.2)
+  one_plan (plan.TooManyPlaces i) plan.OneStage n m h k = absurd (refused_here why.TooManyPlaces i (λ q. cc) h k.0)
   one_plan (plan.EmptyLoop i) (plan.TooManyPlaces j) n m h k = let f = refused_on Q P b a known' known why.TooManyPlaces j k in absurd (h.0 f.0 f.1 f.2)
   one_plan (plan.EmptyLoop i) (plan.EmptyLoop j) n m h k = ap plan.EmptyLoop (one_stage P Q a b known known' why.EmptyLoop i j h.1 k.1)
   one_plan (plan.EmptyLoop i) (plan.NoText j) n m h k = let f = refused_on P Q a b known known' why.EmptyLoop i h.1 in absurd (k.1 f.0 f.1 f.2)
+  one_plan (plan.EmptyLoop i) plan.OneStage n m h k = absurd (refused_here why.EmptyLoop i (λ q. cc) h.1 k.0)
   one_plan (plan.NoText i) (plan.TooManyPlaces j) n m h k = let f = refused_on Q P b a known' known why.TooManyPlaces j k in absurd (h.0 f.0 f.1 f.2)
   one_plan (plan.NoText i) (plan.EmptyLoop j) n m h k = let f = refused_on Q P b a known' known why.EmptyLoop j k.1 in absurd (h.1 f.0 f.1 f.2)
   one_plan (plan.NoText i) (plan.NoText j) n m h k = ap plan.NoText (one_stage P Q a b known known' why.NoText i j h.2 k.2)
+  one_plan (plan.NoText i) plan.OneStage n m h k = absurd (refused_here why.NoText i (λ q. cc) h.2 k.0)
+  one_plan plan.OneStage (plan.TooManyPlaces j) n m h k = absurd (refused_there why.TooManyPlaces j (λ q. cc) k h.0)
+  one_plan plan.OneStage (plan.EmptyLoop j) n m h k = absurd (refused_there why.EmptyLoop j (λ q. cc) k.1 h.0)
+  one_plan plan.OneStage (plan.NoText j) n m h k = absurd (refused_there why.NoText j (λ q. cc) k.2 h.0)
+  one_plan plan.OneStage plan.OneStage n m h k = refl
 
 -- ---- texts
 
 -- a cause other than want of memory, by the pass that finds it
-data Cause (text : List ℕ) : CompileRefusal → Type 0 where
-  unread : (e : ReadRefusal) → (e ≡ read.Memory → ⊥) → IsRefusedAs text e → Cause text (of_read e)
-  unruled : (P : Grammar) (e : RuleRefusal) → (e ≡ rule.Memory → ⊥) → Spells text P → IsCause P e → Cause text (of_rule e)
-  unplanned : (P : Grammar) (e : PlanRefusal) → (e ≡ plan.Memory → ⊥) → Spells text P → IsRuled P → IsUnplanned P e → Cause text (of_plan e)
+data Cause (limits : Limits) (text : List ℕ) : CompileRefusal → Type 0 where
+  unread : (e : ReadRefusal) → (e ≡ read.Memory → ⊥) → IsRefusedAs text e → Cause limits text (of_read e)
+  unruled : (P : Grammar) (e : RuleRefusal) → (e ≡ rule.Memory → ⊥) → Spells text P → IsCause P e → Cause limits text (of_rule e)
+  unplanned : (P : Grammar) (e : PlanRefusal) → (e ≡ plan.Memory → ⊥) → Spells text P → IsRuled P → IsUnplanned limits P e → Cause limits text (of_plan e)
 
-cause : (text : List ℕ) (e : CompileRefusal) → (e ≡ Memory → ⊥) → IsRefused text e → Cause text e
-cause text TextTooLong n h = unread read.TextTooLong (λ q. cc) h
-cause text (BadToken at) n h = unread (read.BadToken at) (λ q. cc) h
-cause text (Unexpected at) n h = unread (read.Unexpected at) (λ q. cc) h
-cause text (BadRegex at) n h = unread (read.BadRegex at) (λ q. cc) h
-cause text (BadCount at) n h = unread (read.BadCount at) (λ q. cc) h
-cause text (BadSet at) n h = unread (read.BadSet at) (λ q. cc) h
-cause text (OverLimit at) n h = unread (read.OverLimit at) (λ q. cc) h
-cause text (TwiceDefined at) n h = unruled h.0 (rule.TwiceDefined at) (λ q. cc) h.1 h.2
-cause text (Unknown at) n h = unruled h.0 (rule.Unknown at) (λ q. cc) h.1 h.2
-cause text NoStart n h = unruled h.0 rule.NoStart (λ q. cc) h.1 h.2
-cause text (NotTail at) n h = unruled h.0 (rule.NotTail at) (λ q. cc) h.1 h.2
-cause text (TooManyPlaces k) n h = unplanned h.0 (plan.TooManyPlaces k) (λ q. cc) h.1 h.2 h.3
-cause text (EmptyLoop k) n h = unplanned h.0 (plan.EmptyLoop k) (λ q. cc) h.1 h.2 h.3
-cause text (NoText k) n h = unplanned h.0 (plan.NoText k) (λ q. cc) h.1 h.2 h.3
-cause text Memory n h = absurd (n refl)
+cause : (limits : Limits) (text : List ℕ) (e : CompileRefusal) → (e ≡ Memory → ⊥) → IsRefused limits text e → Cause limits text e
+cause limits text TextTooLong n h = unread read.TextTooLong (λ q. cc) h
+cause limits text (BadToken at) n h = unread (read.BadToken at) (λ q. cc) h
+cause limits text (Unexpected at) n h = unread (read.Unexpected at) (λ q. cc) h
+cause limits text (BadRegex at) n h = unread (read.BadRegex at) (λ q. cc) h
+cause limits text (BadCount at) n h = unread (read.BadCount at) (λ q. cc) h
+cause limits text (BadSet at) n h = unread (read.BadSet at) (λ q. cc) h
+cause limits text (OverLimit at) n h = unread (read.OverLimit at) (λ q. cc) h
+cause limits text (TwiceDefined at) n h = unruled h.0 (rule.TwiceDefined at) (λ q. cc) h.1 h.2
+cause limits text (Unknown at) n h = unruled h.0 (rule.Unknown at) (λ q. cc) h.1 h.2
+cause limits text NoStart n h = unruled h.0 rule.NoStart (λ q. cc) h.1 h.2
+cause limits text (NotTail at) n h = unruled h.0 (rule.NotTail at) (λ q. cc) h.1 h.2
+cause limits text (TooManyPlaces k) n h = unplanned h.0 (plan.TooManyPlaces k) (λ q. cc) h.1 h.2 h.3
+cause limits text (EmptyLoop k) n h = unplanned h.0 (plan.EmptyLoop k) (λ q. cc) h.1 h.2 h.3
+cause limits text (NoText k) n h = unplanned h.0 (plan.NoText k) (λ q. cc) h.1 h.2 h.3
+cause limits text OneStage n h = unplanned h.0 plan.OneStage (λ q. cc) h.1 h.2 h.3
+cause limits text Memory n h = absurd (n refl)
 
 memory_or_not : (e : CompileRefusal) → (e ≡ Memory) ⊎ (e ≡ Memory → ⊥)
 memory_or_not Memory = inl refl
 memory_or_not _ = inr (λ q. cc)
 
-module _ (text : List ℕ) (alike : (P Q : Grammar) → Spells text P → Spells text Q → Alike P Q) (spelled : (P : Grammar) (e : ReadRefusal) → (e ≡ read.Memory → ⊥) → Spells text P → IsRefusedAs text e → ⊥) where
-  not_caused : (P : Grammar) (e : CompileRefusal) → Accepts text P → Cause text e → ⊥
+module _ (limits : Limits) (text : List ℕ) (alike : (P Q : Grammar) → Spells text P → Spells text Q → Alike P Q) (spelled : (P : Grammar) (e : ReadRefusal) → (e ≡ read.Memory → ⊥) → Spells text P → IsRefusedAs text e → ⊥) where
+  not_caused : (P : Grammar) (e : CompileRefusal) → Accepts limits text P → Cause limits text e → ⊥
   not_caused P _ ok (unread e n h) = spelled P e n ok.spells h
   not_caused P _ ok (unruled Q e n s h) = not_ruled P Q e (alike Q P s ok.spells) (alike P Q ok.spells s) ok.ruled n h
-  not_caused P _ ok (unplanned Q e n s r h) = not_planned P Q e (alike Q P s ok.spells) (alike P Q ok.spells s) ok.ruled.known r.known ok.stages n h
+  not_caused P _ ok (unplanned Q e n s r h) = not_planned limits P Q e (alike Q P s ok.spells) (alike P Q ok.spells s) ok.ruled.known r.known ok.stages ok.one_stage n h
 
-  pub accepted : (P : Grammar) (e : CompileRefusal) → Accepts text P → IsRefused text e → e ≡ Memory
-  accepted P e ok h = ⊎_elim (λ q. q) (λ n. absurd (not_caused P e ok (cause text e n h))) (memory_or_not e)
+  pub accepted : (P : Grammar) (e : CompileRefusal) → Accepts limits text P → IsRefused limits text e → e ≡ Memory
+  accepted P e ok h = ⊎_elim (λ q. q) (λ n. absurd (not_caused P e ok (cause limits text e n h))) (memory_or_not e)
 
   module _ (one_read : (d e : ReadRefusal) → (d ≡ read.Memory → ⊥) → (e ≡ read.Memory → ⊥) → IsRefusedAs text d → IsRefusedAs text e → d ≡ e) where
-    same_cause : (d e : CompileRefusal) → Cause text d → Cause text e → d ≡ e
+    same_cause : (d e : CompileRefusal) → Cause limits text d → Cause limits text e → d ≡ e
     same_cause _ _ (unread d n h) (unread e m k) = ap of_read (one_read d e n m h k)
     same_cause _ _ (unread d n h) (unruled Q e m s k) = absurd (spelled Q d n s h)
     same_cause _ _ (unread d n h) (unplanned Q e m s r k) = absurd (spelled Q d n s h)
@@ -133,7 +162,7 @@ module _ (text : List ℕ) (alike : (P Q : Grammar) → Spells text P → Spells
     same_cause _ _ (unruled P d n s h) (unplanned Q e m t r k) = absurd (not_ruled Q P d (alike P Q s t) (alike Q P t s) r n h)
     same_cause _ _ (unplanned P d n s r h) (unread e m k) = absurd (spelled P e m s k)
     same_cause _ _ (unplanned P d n s r h) (unruled Q e m t k) = absurd (not_ruled P Q e (alike Q P t s) (alike P Q s t) r m k)
-    same_cause _ _ (unplanned P d n s r h) (unplanned Q e m t q k) = ap of_plan (one_plan P Q (alike P Q s t) (alike Q P t s) r.known q.known d e n m h k)
+    same_cause _ _ (unplanned P d n s r h) (unplanned Q e m t q k) = ap of_plan (one_plan limits P Q (alike P Q s t) (alike Q P t s) r.known q.known d e n m h k)
 
-    pub one_cause : (d e : CompileRefusal) → (d ≡ Memory → ⊥) → (e ≡ Memory → ⊥) → IsRefused text d → IsRefused text e → d ≡ e
-    one_cause d e n m h k = same_cause d e (cause text d n h) (cause text e m k)
+    pub one_cause : (d e : CompileRefusal) → (d ≡ Memory → ⊥) → (e ≡ Memory → ⊥) → IsRefused limits text d → IsRefused limits text e → d ≡ e
+    one_cause d e n m h k = same_cause d e (cause limits text d n h) (cause limits text e m k)

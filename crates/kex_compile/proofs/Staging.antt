@@ -66,6 +66,14 @@ first_among Q xs n h = (h.at, subst (λ z. IsAmong z h.at) (sym h.split) (there 
 
 -- ---- stages
 
+-- stages in pairs are as many
+pub same_count : (R : ℕ → ℕ → Type 0) (ss ts : List Start) → SameStages R ss ts → length ss ≡ length ts
+unfolding SameStages
+same_count R [] [] h = refl
+same_count R (s ∷ ss) (t ∷ ts) h = ap suc (same_count R ss ts h.2)
+same_count R [] (t ∷ ts) h = absurd h
+same_count R (s ∷ ss) [] h = absurd h
+
 abbrev pub Known : Grammar → Type 0
 Known P = (name at : ℕ) → IsUse P name at → IsDefined P.definitions name
 

@@ -1,29 +1,33 @@
 -- What a text is compiled to, and why it isn't.
-use Rattle.std.specs.Prelude.{ℕ, List}
-use Rattle.kex_code.specs.Codes.{IsAmong}
+use Rattle.std.specs.Prelude.{◌↔◌, ℕ, Bool, List, Option}
+use Rattle.kex_code.specs.Codes.{HasNumber}
 use Rattle.kex_model.specs.Programs.{Grammar}
+use Rattle.kex_model.specs.Answers.{Means, Report}
+use Rattle.kex_model.specs.Laws.{StagesAnswer}
 use Rattle.kex_reader.specs.Spelling.{Spells, IsRefusedAs}
 use Rattle.kex_reader.specs.declared.refusal.ReadRefusal.{ReadRefusal}
 use Rattle.kex_reader.specs.declared.refusal.ReadRefusal.TheVariants as read
 use Rattle.kex_rules.specs.Rules.{IsRuled, IsCause}
 use Rattle.kex_rules.specs.declared.refusal.RuleRefusal.{RuleRefusal}
 use Rattle.kex_rules.specs.declared.refusal.RuleRefusal.TheVariants as rule
-use Rattle.kex_compile.specs.Stages.{CanRun, Plans, ArePlans, IsUnplanned, roots_of}
+use Rattle.kex_compile.specs.Stages.{AllRun, KeepsToOneStage, Plans, ArePlans, IsUnplanned, roots_of}
+use Rattle.kex_compile.specs.declared.limits.Limits.{Limits}
 use Rattle.kex_compile.specs.declared.refusal.PlanRefusal.{PlanRefusal}
 use Rattle.kex_compile.specs.declared.refusal.PlanRefusal.TheVariants as plan
 use Rattle.kex_compile.specs.declared.refusal.CompileRefusal.{CompileRefusal}
-use Rattle.kex_compile.specs.declared.refusal.CompileRefusal.TheVariants.{TextTooLong, BadToken, Unexpected, BadRegex, BadCount, BadSet, OverLimit, TwiceDefined, Unknown, NoStart, NotTail, TooManyPlaces, EmptyLoop, NoText, Memory}
+use Rattle.kex_compile.specs.declared.refusal.CompileRefusal.TheVariants.{TextTooLong, BadToken, Unexpected, BadRegex, BadCount, BadSet, OverLimit, TwiceDefined, Unknown, NoStart, NotTail, TooManyPlaces, EmptyLoop, NoText, OneStage, Memory}
 
--- the text spells the program, which keeps the rules, and each of whose stages can run
-pub record Accepts (text : List ℕ) (P : Grammar) : Type 0 where
+-- the text spells the program, which keeps the rules and what a command asks, and each of whose stages can run
+pub record Accepts (limits : Limits) (text : List ℕ) (P : Grammar) : Type 0 where
   pub spells : Spells text P
   pub ruled : IsRuled P
-  pub stages : (root : ℕ) → IsAmong (roots_of P) root → CanRun P root
+  pub stages : AllRun P
+  pub one_stage : KeepsToOneStage limits P
 
 -- the plans are those of a program that the text spells
-pub record IsCompiled (text : List ℕ) (plans : Plans) : Type 0 where
+pub record IsCompiled (limits : Limits) (text : List ℕ) (plans : Plans) : Type 0 where
   pub program : Grammar
-  pub accepts : Accepts text program
+  pub accepts : Accepts limits text program
   pub plans_of : ArePlans program plans
 
 -- the text spells a program that breaks this rule, and none before it
@@ -31,26 +35,27 @@ abbrev pub BreaksRule : List ℕ → RuleRefusal → Type 0
 BreaksRule text e = (P : Grammar) × Spells text P × IsCause P e
 
 -- the text spells a program that keeps the rules, and whose stages are refused so
-abbrev pub HasNoPlans : List ℕ → PlanRefusal → Type 0
-HasNoPlans text e = (P : Grammar) × Spells text P × IsRuled P × IsUnplanned P e
+abbrev pub HasNoPlans : Limits → List ℕ → PlanRefusal → Type 0
+HasNoPlans limits text e = (P : Grammar) × Spells text P × IsRuled P × IsUnplanned limits P e
 
 -- the rule that is broken, where none of a lower number is
-abbrev pub IsRefused : List ℕ → CompileRefusal → Type 0
-IsRefused text TextTooLong = IsRefusedAs text read.TextTooLong
-IsRefused text (BadToken at) = IsRefusedAs text (read.BadToken at)
-IsRefused text (Unexpected at) = IsRefusedAs text (read.Unexpected at)
-IsRefused text (BadRegex at) = IsRefusedAs text (read.BadRegex at)
-IsRefused text (BadCount at) = IsRefusedAs text (read.BadCount at)
-IsRefused text (BadSet at) = IsRefusedAs text (read.BadSet at)
-IsRefused text (OverLimit at) = IsRefusedAs text (read.OverLimit at)
-IsRefused text (TwiceDefined at) = BreaksRule text (rule.TwiceDefined at)
-IsRefused text (Unknown at) = BreaksRule text (rule.Unknown at)
-IsRefused text NoStart = BreaksRule text rule.NoStart
-IsRefused text (NotTail at) = BreaksRule text (rule.NotTail at)
-IsRefused text (TooManyPlaces n) = HasNoPlans text (plan.TooManyPlaces n)
-IsRefused text (EmptyLoop n) = HasNoPlans text (plan.EmptyLoop n)
-IsRefused text (NoText n) = HasNoPlans text (plan.NoText n)
-IsRefused text Memory = Unit {0}
+abbrev pub IsRefused : Limits → List ℕ → CompileRefusal → Type 0
+IsRefused limits text TextTooLong = IsRefusedAs text read.TextTooLong
+IsRefused limits text (BadToken at) = IsRefusedAs text (read.BadToken at)
+IsRefused limits text (Unexpected at) = IsRefusedAs text (read.Unexpected at)
+IsRefused limits text (BadRegex at) = IsRefusedAs text (read.BadRegex at)
+IsRefused limits text (BadCount at) = IsRefusedAs text (read.BadCount at)
+IsRefused limits text (BadSet at) = IsRefusedAs text (read.BadSet at)
+IsRefused limits text (OverLimit at) = IsRefusedAs text (read.OverLimit at)
+IsRefused limits text (TwiceDefined at) = BreaksRule text (rule.TwiceDefined at)
+IsRefused limits text (Unknown at) = BreaksRule text (rule.Unknown at)
+IsRefused limits text NoStart = BreaksRule text rule.NoStart
+IsRefused limits text (NotTail at) = BreaksRule text (rule.NotTail at)
+IsRefused limits text (TooManyPlaces n) = HasNoPlans limits text (plan.TooManyPlaces n)
+IsRefused limits text (EmptyLoop n) = HasNoPlans limits text (plan.EmptyLoop n)
+IsRefused limits text (NoText n) = HasNoPlans limits text (plan.NoText n)
+IsRefused limits text OneStage = HasNoPlans limits text plan.OneStage
+IsRefused limits text Memory = Unit {0}
 
 abbrev pub of_read : ReadRefusal → CompileRefusal
 of_read read.TextTooLong = TextTooLong
@@ -73,4 +78,13 @@ abbrev pub of_plan : PlanRefusal → CompileRefusal
 of_plan (plan.TooManyPlaces n) = TooManyPlaces n
 of_plan (plan.EmptyLoop n) = EmptyLoop n
 of_plan (plan.NoText n) = NoText n
+of_plan plan.OneStage = OneStage
 of_plan plan.Memory = Memory
+
+-- stage by stage the programs mean the same
+abbrev pub MeansAlike : Grammar → Grammar → Type 0
+MeansAlike P Q = (i r q : ℕ) (input said : List ℕ) → HasNumber (roots_of P) r i → HasNumber (roots_of Q) q i → Means P r input said ↔ Means Q q input said
+
+-- their pipelines say and report the same, on an input that is open or ended
+abbrev pub AnswersAlike : Grammar → Grammar → Type 0
+AnswersAlike P Q = (limit : ℕ) (input : List ℕ) (ended : Bool) (said : List ℕ) (report : Option Report) → StagesAnswer P limit (roots_of P) input ended said report ↔ StagesAnswer Q limit (roots_of Q) input ended said report

@@ -1,5 +1,5 @@
 -- The stages of a program: what their plans are, and which is refused first.
-use Rattle.std.specs.Prelude.{◌≡◌, ◌+◌, ◌∷◌, ◌++◌, [], ℕ, suc, List, Option, Some, None, length, map}
+use Rattle.std.specs.Prelude.{◌≡◌, ◌+◌, ◌<◌, ◌≤◌, ◌∷◌, ◌++◌, [], ℕ, suc, true, List, Option, Some, None, length, map}
 use Rattle.kex_code.specs.Codes.{IsAmong}
 use Rattle.kex_model.specs.Programs.{Grammar}
 use Rattle.kex_model.specs.Trees.{root_of}
@@ -11,8 +11,9 @@ use Rattle.kex_lowering.specs.Stages.{Carries, HasPlaces, IsKeptOf, IsWhy}
 use Rattle.kex_lowering.specs.declared.refusal.StageRefusal.{StageRefusal}
 use Rattle.kex_lowering.specs.declared.refusal.StageRefusal.TheVariants as why
 use Rattle.kex_compile.specs.declared.firsts.Firsts.{Firsts}
+use Rattle.kex_compile.specs.declared.limits.Limits.{Limits}
 use Rattle.kex_compile.specs.declared.refusal.PlanRefusal.{PlanRefusal}
-use Rattle.kex_compile.specs.declared.refusal.PlanRefusal.TheVariants.{TooManyPlaces, EmptyLoop, NoText, Memory}
+use Rattle.kex_compile.specs.declared.refusal.PlanRefusal.TheVariants.{TooManyPlaces, EmptyLoop, NoText, OneStage, Memory}
 
 abbrev pub most_places : ℕ
 most_places = 65536
@@ -26,6 +27,14 @@ pub record CanRun (P : Grammar) (root : ℕ) : Type 0 where
   pub few : HasMore P root most_places → ⊥
   pub no_loop : HasEmptyLoop P root → ⊥
   pub some_text : LeadsToEnd (moves P) (start_of P root)
+
+-- each stage can run
+abbrev pub AllRun : Grammar → Type 0
+AllRun P = (root : ℕ) → IsAmong (roots_of P) root → CanRun P root
+
+-- where one stage is asked for, the program has no more
+abbrev pub KeepsToOneStage : Limits → Grammar → Type 0
+KeepsToOneStage limits P = limits.one_stage ≡ true → length P.stages ≤ 1
 
 -- the stage can run, and the machine answers as it does, has its paths to the places that it keeps, and bears its number
 pub record IsStage (P : Grammar) (root number : ℕ) (m : Graph) : Type 0 where
@@ -71,12 +80,13 @@ NoneIs Q xs = (x : ℕ) → IsAmong xs x → Q x → ⊥
 abbrev pub IsRefusedFor : Grammar → StageRefusal → ℕ → Type 0
 IsRefusedFor P e root = IsWhy P root most_places e
 
--- no stage is refused by a rule that comes before, and this stage is the first that is by this one
-abbrev pub IsUnplanned : Grammar → PlanRefusal → Type 0
-IsUnplanned P (TooManyPlaces n) = IsFirst (IsRefusedFor P why.TooManyPlaces) (roots_of P) n
-IsUnplanned P (EmptyLoop n) = NoneIs (IsRefusedFor P why.TooManyPlaces) (roots_of P) × IsFirst (IsRefusedFor P why.EmptyLoop) (roots_of P) n
-IsUnplanned P (NoText n) = NoneIs (IsRefusedFor P why.TooManyPlaces) (roots_of P) × NoneIs (IsRefusedFor P why.EmptyLoop) (roots_of P) × IsFirst (IsRefusedFor P why.NoText) (roots_of P) n
-IsUnplanned P Memory = Unit {0}
+-- no stage is refused by a rule that comes before, and this stage is the first that is by this one, or there is one too many
+abbrev pub IsUnplanned : Limits → Grammar → PlanRefusal → Type 0
+IsUnplanned limits P (TooManyPlaces n) = IsFirst (IsRefusedFor P why.TooManyPlaces) (roots_of P) n
+IsUnplanned limits P (EmptyLoop n) = NoneIs (IsRefusedFor P why.TooManyPlaces) (roots_of P) × IsFirst (IsRefusedFor P why.EmptyLoop) (roots_of P) n
+IsUnplanned limits P (NoText n) = NoneIs (IsRefusedFor P why.TooManyPlaces) (roots_of P) × NoneIs (IsRefusedFor P why.EmptyLoop) (roots_of P) × IsFirst (IsRefusedFor P why.NoText) (roots_of P) n
+IsUnplanned limits P OneStage = AllRun P × (limits.one_stage ≡ true) × (1 < length P.stages)
+IsUnplanned limits P Memory = Unit {0}
 
 -- ---- the first stages so far
 

@@ -4,18 +4,20 @@
 //! stages do, and a text is refused for the first rule that it breaks.
 #![tactic(auto)]
 
-ghost use Rattle.std.specs.Prelude.{◌≡◌, IfOk, IfErr};
+ghost use Rattle.std.specs.Prelude.{◌≡◌, false, IfOk, IfErr};
 ghost use Rattle.kex_compile.specs.Compiled.{IsCompiled, IsRefused};
 
 pub mod compiled;
 mod firsts;
 pub mod laws;
+pub mod limits;
 pub mod refusal;
 pub mod stages;
 #[cfg(test)]
 mod tests;
 
 use crate::compiled::Compiled;
+use crate::limits::Limits;
 use crate::refusal::CompileRefusal;
 use crate::stages::plan_stages;
 use kex_reader::read;
@@ -24,13 +26,14 @@ use std::alloc::Global;
 
 /// The plans of a program text.
 ///
-/// Each rule is asked of the whole text before the next.
-pub fn compile(alloc: Global, text: &[u8]) -> Result<Compiled, CompileRefusal>
-    ensures plans { IfOk result (λ plans. IsCompiled text.now plans) }
-    ensures refused { IfErr result (λ e. IsRefused text.now e) }
+/// Each rule is asked of the whole text before the next. Plans have no tables yet.
+pub fn compile(alloc: Global, text: &[u8], limits: &Limits) -> Result<Compiled, CompileRefusal>
+    requires tables { limits.now.tables ≡ false }
+    ensures plans { IfOk result (λ plans. IsCompiled limits.now text.now plans) }
+    ensures refused { IfErr result (λ e. IsRefused limits.now text.now e) }
 {
     let program = read(alloc, text)?;
     let ruled = check(alloc, &program)?;
-    let compiled = plan_stages(alloc, ruled.program())?;
+    let compiled = plan_stages(alloc, ruled.program(), limits)?;
     Ok(compiled)
 }

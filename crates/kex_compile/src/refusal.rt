@@ -20,6 +20,9 @@ pub enum PlanRefusal {
     /// No text has a parse by the stage.
     #[error("no text has a parse by stage {0}")]
     NoText(u32),
+    /// One stage is asked for, and the program has more.
+    #[error("there is more than one stage")]
+    OneStage,
     #[error("out of memory")]
     Memory,
 }
@@ -78,6 +81,9 @@ pub enum CompileRefusal {
     /// No text has a parse by the stage.
     #[error("no text has a parse by stage {0}")]
     NoText(u32),
+    /// One stage is asked for, and the program has more.
+    #[error("there is more than one stage")]
+    OneStage,
     #[error("out of memory")]
     Memory,
 }
@@ -121,6 +127,7 @@ impl From<PlanRefusal> for CompileRefusal {
             PlanRefusal::TooManyPlaces(stage) => CompileRefusal::TooManyPlaces(stage),
             PlanRefusal::EmptyLoop(stage) => CompileRefusal::EmptyLoop(stage),
             PlanRefusal::NoText(stage) => CompileRefusal::NoText(stage),
+            PlanRefusal::OneStage => CompileRefusal::OneStage,
             PlanRefusal::Memory => CompileRefusal::Memory,
         }
     }

@@ -1,15 +1,16 @@
 // The plans of a program's stages.
 
-ghost use Rattle.std.specs.Prelude.{◌≡◌, IfOk, IfErr};
+ghost use Rattle.std.specs.Prelude.{◌≡◌, ◌<◌, ◌^◌, IfOk, IfErr, OnOk, length};
 ghost use Rattle.kex_model.specs.Trees.{root_of};
-ghost use Rattle.kex_compile.specs.Stages.{ArePlans, IsUnplanned};
+ghost use Rattle.kex_compile.specs.Stages.{ArePlans, IsUnplanned, KeepsToOneStage};
 
 use crate::compiled::Compiled;
 use crate::firsts::Firsts;
+use crate::limits::Limits;
 use crate::refusal::PlanRefusal;
+use kex_lowering::stage_machine;
 use kex_model::program::Program;
 use kex_stage::plan::Plan;
-use kex_lowering::stage_machine;
 use std::alloc::Global;
 
 const MOST_PLACES: u32 = 65_536;
@@ -27,17 +28,20 @@ fn root_of(program: &Program, name: u32) -> u32
 /// The plans of a program's stages, in their order.
 ///
 /// Each rule is asked of all stages before the next: the answer is the refusal of the lowest number, and of the stages that
-/// are refused by it the first. `Memory` comes also for more stages than a `u32` counts.
-pub fn plan_stages(alloc: Global, program: &Program) -> Result<Compiled, PlanRefusal>
+/// are refused by it the first.
+pub fn plan_stages(
+    alloc: Global,
+    program: &Program,
+    limits: &Limits,
+) -> Result<Compiled, PlanRefusal>
+    requires few { length program.now.stages < 2 ^ 32 }
     ensures plans { IfOk result (λ plans. ArePlans program.now plans) }
-    ensures refused { IfErr result (λ e. IsUnplanned program.now e) }
+    ensures within { OnOk result (KeepsToOneStage limits.now program.now) }
+    ensures refused { IfErr result (λ e. IsUnplanned limits.now program.now e) }
 {
     let mut firsts = Firsts::new();
     let mut compiled = Compiled::new(alloc);
     'stages: for (i, start) in program.stages().iter().enumerate() {
-        if i >= u32::MAX as usize {
-            return Err(PlanRefusal::Memory);
-        }
         let stage = i as u32 + 1;
         match stage_machine(
             alloc,
@@ -50,8 +54,11 @@ pub fn plan_stages(alloc: Global, program: &Program) -> Result<Compiled, PlanRef
             Err(why) => firsts.note(why, stage)?,
         }
     }
-    match firsts.least() {
-        None => Ok(compiled),
-        Some(refusal) => Err(refusal),
+    if let Some(refusal) = firsts.least() {
+        return Err(refusal);
     }
+    if limits.one_stage && program.stages().len() > 1 {
+        return Err(PlanRefusal::OneStage);
+    }
+    Ok(compiled)
 }

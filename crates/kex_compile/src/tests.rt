@@ -1,12 +1,25 @@
 //! What texts are compiled to, and why they are refused.
 use crate::compile;
+use crate::limits::Limits;
 use crate::refusal::CompileRefusal;
 use std::alloc::{AllocError, Global};
 use std::test::Fail;
 
+const ANY: Limits = Limits {
+    states: 4096,
+    one_stage: false,
+    tables: false,
+};
+
+const ONE_STAGE: Limits = Limits {
+    states: 4096,
+    one_stage: true,
+    tables: false,
+};
+
 // How many stages and places there are, or why there are none.
 fn counts(alloc: Global, text: &[u8]) -> Result<(usize, u64), CompileRefusal> {
-    let compiled = compile(alloc, text)?;
+    let compiled = compile(alloc, text, &ANY)?;
     Ok((compiled.stages().len(), compiled.places()))
 }
 
@@ -60,6 +73,24 @@ fn the_first_broken_rule_is_answered(rt: HostRuntime) {
     for (text, want) in rows {
         let got = counts(rt.alloc(), text).err();
         assert!(rt; got == Some(want));
+    }
+}
+
+// Where one stage is asked for, a second is refused, but only after all rules that the text breaks.
+#[test]
+fn one_stage_alone(rt: HostRuntime) {
+    let rows: [(&[u8], Option<CompileRefusal>); 4] = [
+        (b"main := /a/", None),
+        (b"start: a\na := /a/", None),
+        (b"start: a >> a\na := /a/", Some(CompileRefusal::OneStage)),
+        (
+            b"start: a >> b\na := /a/ a\nb := /b/",
+            Some(CompileRefusal::NoText(1)),
+        ),
+    ];
+    for (text, want) in rows {
+        let got = compile(rt.alloc(), text, &ONE_STAGE).err();
+        assert!(rt; got == want);
     }
 }
 

@@ -14,13 +14,14 @@ use Rattle.kex_model.specs.Programs.{Grammar}
 use Rattle.kex_stage.specs.Stages.{StagePlan, Gives}
 use Rattle.kex_compile.specs.Stages.{AreStages, Plans, roots_of}
 use Rattle.kex_compile.specs.Compiled.{IsCompiled, IsRefused}
+use Rattle.kex_compile.specs.declared.limits.Limits.{Limits}
 use Rattle.kex_compile.specs.declared.refusal.CompileRefusal.{CompileRefusal}
 use Rattle.kex_words.specs.Gains.{Change, GainsFront, GainsWhole}
 use Rattle.kex_words.specs.Lines.{counts_line}
 use Rattle.kex_top.specs.Answer.{Said}
 use Rattle.kex_top.specs.Pipelines.{NodesSay, first_limit, stage_plans}
 use Rattle.kex_top.specs.Run.{IsLeft, Left, Ran, EndsAs, WritesAll}
-use Rattle.kex_top.specs.Kex.{Runs, Answers, Checks, Counted, IsStatusOf, Told}
+use Rattle.kex_top.specs.Kex.{Runs, Answers, Checks, Counted, IsStatusOf, Told, any_limits}
 use Rattle.kex_pipe.specs.declared.report.Rejected.{Rejected as Report}
 use Rattle.kex_top.specs.declared.status.Status.{Status}
 use Rattle.kex_top.specs.declared.status.Status.TheVariants.{Done, Rejected, Usage, Refused, ReadFault, WriteFault, ShelfFault, Memory, TooLong}
@@ -94,8 +95,8 @@ not-empty [] x h = absurd h
 not-empty (y ∷ xs) x h = omega arith
 
 -- a program has a stage
-pub some-machine : (text : List ℕ) (plans : Plans) → IsCompiled text plans → 0 < length plans.stages
-some-machine text plans p =
+pub some-machine : (limits : Limits) (text : List ℕ) (plans : Plans) → IsCompiled limits text plans → 0 < length plans.stages
+some-machine limits text plans p =
     let n = as-many p.program 1 (roots_of p.program) plans.stages p.plans_of.stages in
     let m = length-map p.program.stages (λ s. root_of p.program s.name) in
     let some = not-empty p.program.stages p.accepts.ruled.begins.0 p.accepts.ruled.begins.1 in
@@ -105,9 +106,9 @@ pub first-limit : (limit : ℕ) (ms : List Graph) → 0 < length ms → first_li
 first-limit limit [] lt = absurd (omega arith)
 first-limit limit (m ∷ ms) lt = refl
 
-pub runs_by : (limit block : ℕ) (told : Option (Option (List ℕ))) (text : List ℕ) (plans : Plans) (source sink : Change) (s : Status) → IsTold told text → IsCompiled text plans → Ran (NodesSay (stage_plans limit plans.stages)) block source sink s → Runs limit block told source sink s
+pub runs_by : (limit block : ℕ) (told : Option (Option (List ℕ))) (text : List ℕ) (plans : Plans) (source sink : Change) (s : Status) → IsTold told text → IsCompiled any_limits text plans → Ran (NodesSay (stage_plans limit plans.stages)) block source sink s → Runs limit block told source sink s
 runs_by limit block told text plans source sink s is_told p r =
-    let some : 0 < length (stage_plans limit plans.stages) = omega (arith, some-machine text plans p, length-map plans.stages (plan_at limit)) in
+    let some : 0 < length (stage_plans limit plans.stages) = omega (arith, some-machine any_limits text plans p, length-map plans.stages (plan_at limit)) in
     record {
       text = text;
       is_told = is_told;
@@ -131,11 +132,11 @@ answers_by limit block told source sink Usage r = r.ran.ends
 answers_by limit block told source sink (Refused x) r = absurd r.ran.ends
 answers_by limit block told source sink ShelfFault r = absurd r.ran.ends
 
-pub served : (limit block : ℕ) (told : Option (Option (List ℕ))) (text : List ℕ) (plans : Plans) (source sink : Change) (s : Status) → IsTold told text → IsCompiled text plans → (Left source sink × (s ≡ Memory)) ⊎ Ran (NodesSay (stage_plans limit plans.stages)) block source sink s → Answers limit block told source sink s
+pub served : (limit block : ℕ) (told : Option (Option (List ℕ))) (text : List ℕ) (plans : Plans) (source sink : Change) (s : Status) → IsTold told text → IsCompiled any_limits text plans → (Left source sink × (s ≡ Memory)) ⊎ Ran (NodesSay (stage_plans limit plans.stages)) block source sink s → Answers limit block told source sink s
 served limit block told text plans source sink s t p (inl x) = subst (λ z. Answers limit block told source sink z) (sym x.1) (inl x.0)
 served limit block told text plans source sink s t p (inr r) = answers_by limit block told source sink s (runs_by limit block told text plans source sink s t p r)
 
-pub refused_by : (limit block : ℕ) (told : Option (Option (List ℕ))) (text : List ℕ) (rule : CompileRefusal) (source sink : Change) (s : Status) → IsTold told text → IsRefused text rule → Left source sink → IsStatusOf text rule s → Answers limit block told source sink s
+pub refused_by : (limit block : ℕ) (told : Option (Option (List ℕ))) (text : List ℕ) (rule : CompileRefusal) (source sink : Change) (s : Status) → IsTold told text → IsRefused any_limits text rule → Left source sink → IsStatusOf text rule s → Answers limit block told source sink s
 refused_by limit block told text rule source sink Memory t h l i = inl l
 refused_by limit block told text rule source sink (Refused r) t h l i = (l, inr (record { text = text; is_told = t; rule = rule; is_refused = h; is_shown = i }))
 refused_by limit block told text rule source sink Done t h l i = absurd i
@@ -148,7 +149,7 @@ refused_by limit block told text rule source sink ShelfFault t h l i = absurd i
 
 -- ---- a check
 
-pub check_refused : (told : Option (Option (List ℕ))) (text : List ℕ) (rule : CompileRefusal) (source sink : Change) (s : Status) → IsTold told text → IsRefused text rule → Left source sink → IsStatusOf text rule s → Checks told source sink s
+pub check_refused : (told : Option (Option (List ℕ))) (text : List ℕ) (rule : CompileRefusal) (source sink : Change) (s : Status) → IsTold told text → IsRefused any_limits text rule → Left source sink → IsStatusOf text rule s → Checks told source sink s
 check_refused told text rule source sink Memory t h l i = l
 check_refused told text rule source sink (Refused r) t h l i = (l, inr (record { text = text; is_told = t; rule = rule; is_refused = h; is_shown = i }))
 check_refused told text rule source sink Done t h l i = absurd i
@@ -160,7 +161,7 @@ check_refused told text rule source sink Usage t h l i = absurd i
 check_refused told text rule source sink ShelfFault t h l i = absurd i
 
 -- the counts of the plans are those of the program
-counted : (told : Option (Option (List ℕ))) (text : List ℕ) (plans : Plans) (Q : List ℕ → Type 0) → IsTold told text → IsCompiled text plans → Q (counts_line (record { stages = length plans.stages; places = plans.places })) → Counted told Q
+counted : (told : Option (Option (List ℕ))) (text : List ℕ) (plans : Plans) (Q : List ℕ → Type 0) → IsTold told text → IsCompiled any_limits text plans → Q (counts_line (record { stages = length plans.stages; places = plans.places })) → Counted told Q
 counted told text plans Q t p q =
     let n = as-many p.program 1 (roots_of p.program) plans.stages p.plans_of.stages in
     let m = length-map p.program.stages (λ s. root_of p.program s.name) in
@@ -175,7 +176,7 @@ counted told text plans Q t p q =
       written = subst (λ k. Q (counts_line (record { stages = k; places = plans.places }))) same q;
     }
 
-pub checked : (told : Option (Option (List ℕ))) (text : List ℕ) (plans : Plans) (source sink : Change) (s : Status) → IsTold told text → IsCompiled text plans → IsLeft source → Told (counts_line (record { stages = length plans.stages; places = plans.places })) sink s → Checks told source sink s
+pub checked : (told : Option (Option (List ℕ))) (text : List ℕ) (plans : Plans) (source sink : Change) (s : Status) → IsTold told text → IsCompiled any_limits text plans → IsLeft source → Told (counts_line (record { stages = length plans.stages; places = plans.places })) sink s → Checks told source sink s
 checked told text plans source sink Done t p l q = (l, counted told text plans (λ line. GainsWhole sink line) t p q)
 checked told text plans source sink WriteFault t p l q = (l, counted told text plans (λ line. GainsFront sink line) t p q)
 checked told text plans source sink (Rejected x) t p l q = absurd q

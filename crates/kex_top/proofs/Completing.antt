@@ -27,7 +27,7 @@ use Rattle.kex_words.specs.declared.refusals.Refusal.{Refusal}
 use Rattle.kex_top.specs.Answer.{Said}
 use Rattle.kex_top.specs.Pipelines.{Answered, MeansInTurn}
 use Rattle.kex_top.specs.Run.{WritesAll}
-use Rattle.kex_top.specs.Kex.{Answers, Broke, Checks, Headline, IsGood, IsSound, IsQuiet, IsRefusalOf, IsRefusedFor, Runs, ShelfAnswers, ShelfChange, most_text}
+use Rattle.kex_top.specs.Kex.{Answers, Broke, Checks, Headline, IsGood, IsSound, IsQuiet, IsRefusalOf, IsRefusedFor, Runs, ShelfAnswers, ShelfChange, most_text, any_limits}
 use Rattle.kex_pipe.specs.declared.report.Rejected.{Rejected as Report}
 use Rattle.kex_top.specs.declared.status.Status.{Status}
 use Rattle.kex_top.specs.declared.status.Status.TheVariants.{Done, Rejected, Usage, Refused, ReadFault, WriteFault, ShelfFault, Memory, TooLong}
@@ -123,13 +123,13 @@ unbroken told text s is quiet broke =
 shown_memory : (text : List ℕ) (r : Refusal) (rule : CompileRefusal) → rule ≡ compile.Memory → IsRefusalOf text rule r → ⊥
 shown_memory text r rule e i = subst (λ z. IsRefusalOf text z r) e i
 
-unrefused : (told : Option (Option (List ℕ))) (text : List ℕ) (r : Refusal) → told ≡ Some (Some text) → length text ≤ most_text → ((rule : CompileRefusal) → IsRefused text rule → rule ≡ compile.Memory) → IsRefusedFor told r → ⊥
+unrefused : (told : Option (Option (List ℕ))) (text : List ℕ) (r : Refusal) → told ≡ Some (Some text) → length text ≤ most_text → ((rule : CompileRefusal) → IsRefused any_limits text rule → rule ≡ compile.Memory) → IsRefusedFor told r → ⊥
 unrefused told text r is short good (inl past) =
     let P : Option (Option (List ℕ)) → Type 0 = λ t. IsPast t most_text in
     let long : most_text < length text = subst P is past.0 in omega arith
 unrefused told text r is short good (inr b) =
     let same : b.text ≡ text = told-same told text b.text is b.is_told in
-    shown_memory b.text r b.rule (good b.rule (subst (λ t. IsRefused t b.rule) same b.is_refused)) b.is_shown
+    shown_memory b.text r b.rule (good b.rule (subst (λ t. IsRefused any_limits t b.rule) same b.is_refused)) b.is_shown
 
 ran-good : (limit block : ℕ) (told : Option (Option (List ℕ))) (shelf : ShelfChange) (source sink : Change) (s : Status) (r : Report) → IsGood limit told shelf source sink → (p : Runs limit block told source sink s) → WritesAll (Answered p.program limit) p.ran.w p.ran.e (Some r) sink → ⊥
 ran-good limit block told shelf source sink s r g p all =
@@ -219,5 +219,5 @@ done-as-told limit block told source sink s text input before is rest held done 
         let m = all-meant p.program limit 1 (roots_of p.program) p.ran.w x.said.text (report_as x.said.report) answer (no_report x.said.report x.reports) in
         moved p.text same p.program p.accepts x.said.text (subst (λ z. MeansInTurn p.program limit (roots_of p.program) z x.said.text) all.1 m) (holds-all sink.old sink.new before x.said.text held x.appended) all.0
       where
-        moved : (t : List ℕ) → t ≡ text → (P : Grammar) → Accepts t P → (meant : List ℕ) → MeansInTurn P limit (roots_of P) input meant → sink.new ≡ Some (before ++ meant) → source.new ≡ Some [] → Headline text limit input before source.new sink.new
-        moved t e P x meant m w r = record { program = P; accepts = subst (λ z. Accepts z P) e x; meant = meant; means = m; written = w; read = r }
+        moved : (t : List ℕ) → t ≡ text → (P : Grammar) → Accepts any_limits t P → (meant : List ℕ) → MeansInTurn P limit (roots_of P) input meant → sink.new ≡ Some (before ++ meant) → source.new ≡ Some [] → Headline text limit input before source.new sink.new
+        moved t e P x meant m w r = record { program = P; accepts = subst (λ z. Accepts any_limits z P) e x; meant = meant; means = m; written = w; read = r }

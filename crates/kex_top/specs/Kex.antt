@@ -1,11 +1,12 @@
 -- What a call of the program leaves, by its answer.
-use Rattle.std.specs.Prelude.{◌≡◌, ◌⊎◌, ◌+◌, ◌-◌, ◌^◌, ◌<◌, ◌≤◌, ℕ, true, List, [], ◌++◌, Option, Some, None, length, min, take}
+use Rattle.std.specs.Prelude.{◌≡◌, ◌⊎◌, ◌+◌, ◌-◌, ◌^◌, ◌<◌, ◌≤◌, ℕ, false, true, List, [], ◌++◌, Option, Some, None, length, min, take}
 use Rattle.kex_ports.specs.Shelf.{IsTold, IsPast}
 use Rattle.kex_ports.specs.Causes.{Rose}
 use Rattle.kex_model.specs.Programs.{Grammar}
 use Rattle.kex_reader.specs.Spelling.{Spells}
 use Rattle.kex_reader.specs.Lines.{behind_feed, feeds}
 use Rattle.kex_compile.specs.Compiled.{Accepts, IsRefused}
+use Rattle.kex_compile.specs.declared.limits.Limits.{Limits}
 use Rattle.kex_compile.specs.declared.refusal.CompileRefusal.{CompileRefusal}
 use Rattle.kex_compile.specs.declared.refusal.CompileRefusal.TheVariants as compile
 use Rattle.kex_words.specs.Gains.{Change, GainsFront, GainsWhole}
@@ -13,7 +14,7 @@ use Rattle.kex_words.specs.Lines.{counts_line}
 use Rattle.kex_words.specs.declared.refusals.Place.TheVariants.{At, Nowhere, Stage}
 use Rattle.kex_words.specs.declared.refusals.Refusal.{Refusal}
 use Rattle.kex_words.specs.declared.refusals.Rule.{Rule}
-use Rattle.kex_words.specs.declared.refusals.Rule.TheVariants.{TextTooLong, BadToken, Unexpected, BadRegex, BadCount, BadSet, OverLimit, TwiceDefined, Unknown, NoStart, NotTail, TooManyPlaces, EmptyLoop, NoText}
+use Rattle.kex_words.specs.declared.refusals.Rule.TheVariants.{TextTooLong, BadToken, Unexpected, BadRegex, BadCount, BadSet, OverLimit, TwiceDefined, Unknown, NoStart, NotTail, TooManyPlaces, EmptyLoop, NoText, OneStage}
 use Rattle.kex_top.specs.Answer.{Said}
 use Rattle.kex_compile.specs.Stages.{HaveInAll, roots_of}
 use Rattle.kex_top.specs.Pipelines.{Answered, MeansInTurn}
@@ -24,6 +25,10 @@ use Rattle.kex_top.specs.declared.status.Status.TheVariants.{Done, Rejected, Usa
 -- The most bytes of a program.
 abbrev pub most_text : ℕ
 most_text = 1048576
+
+-- Nothing is asked of a program but the rules of the language.
+abbrev pub any_limits : Limits
+any_limits = record { states = 4096; one_stage = false; tables = false }
 
 -- The counts of a shelf before and after a call.
 pub record ShelfChange : Type 0 where
@@ -84,6 +89,7 @@ IsRefusalOf text (compile.NotTail at) r = r ≡ broken_at NotTail text at
 IsRefusalOf text (compile.TooManyPlaces n) r = r ≡ broken_in TooManyPlaces n
 IsRefusalOf text (compile.EmptyLoop n) r = r ≡ broken_in EmptyLoop n
 IsRefusalOf text (compile.NoText n) r = r ≡ broken_in NoText n
+IsRefusalOf text compile.OneStage r = r ≡ broken OneStage
 IsRefusalOf text compile.Memory r = ⊥
 
 abbrev pub IsStatusOf : List ℕ → CompileRefusal → Status → Type 0
@@ -96,7 +102,7 @@ pub record Breaks (told : Option (Option (List ℕ))) (r : Refusal) : Type 0 whe
   pub text : List ℕ
   pub is_told : IsTold told text
   pub rule : CompileRefusal
-  pub is_refused : IsRefused text rule
+  pub is_refused : IsRefused any_limits text rule
   pub is_shown : IsRefusalOf text rule r
 
 -- What is told is past the limit, or breaks the rule.
@@ -108,7 +114,7 @@ pub record Runs (limit block : ℕ) (told : Option (Option (List ℕ))) (source 
   pub text : List ℕ
   pub is_told : IsTold told text
   pub program : Grammar
-  pub accepts : Accepts text program
+  pub accepts : Accepts any_limits text program
   pub ran : Ran (Answered program limit) block source sink status
 
 -- What each answer says, where the words are in form.
@@ -134,7 +140,7 @@ pub record Counted (told : Option (Option (List ℕ))) (Written : List ℕ → T
   pub text : List ℕ
   pub is_told : IsTold told text
   pub program : Grammar
-  pub accepts : Accepts text program
+  pub accepts : Accepts any_limits text program
   pub places : ℕ
   pub in_all : HaveInAll program (roots_of program) places
   pub written : Written (counts_line (record { stages = length program.stages; places = places }))
@@ -164,7 +170,7 @@ pub record IsGood (limit : ℕ) (told : Option (Option (List ℕ))) (shelf : She
   pub input : List ℕ
   pub is_told : told ≡ Some (Some text)
   pub short : length text ≤ most_text
-  pub unbroken : (rule : CompileRefusal) → IsRefused text rule → rule ≡ compile.Memory
+  pub unbroken : (rule : CompileRefusal) → IsRefused any_limits text rule → rule ≡ compile.Memory
   pub rest : source.old ≡ Some input
   pub parses : (P : Grammar) → Spells text P → (said : Said) × Answered P limit input true said × (said.report ≡ None)
   pub on_shelf : IsQuiet shelf.breaks_before shelf.breaks_now
@@ -176,7 +182,7 @@ pub record IsSound (told : Option (Option (List ℕ))) (shelf : ShelfChange) (si
   pub text : List ℕ
   pub is_told : told ≡ Some (Some text)
   pub short : length text ≤ most_text
-  pub unbroken : (rule : CompileRefusal) → IsRefused text rule → rule ≡ compile.Memory
+  pub unbroken : (rule : CompileRefusal) → IsRefused any_limits text rule → rule ≡ compile.Memory
   pub on_shelf : IsQuiet shelf.breaks_before shelf.breaks_now
   pub writable : IsQuiet sink.before sink.now
 
@@ -184,7 +190,7 @@ pub record IsSound (told : Option (Option (List ℕ))) (shelf : ShelfChange) (si
 -- spells means on the input: the meaning of each stage's greedy parse of what the stage before it wrote.
 pub record Headline (text : List ℕ) (limit : ℕ) (input before : List ℕ) (rest held : Option (List ℕ)) : Type 0 where
   pub program : Grammar
-  pub accepts : Accepts text program
+  pub accepts : Accepts any_limits text program
   pub meant : List ℕ
   pub means : MeansInTurn program limit (roots_of program) input meant
   pub written : held ≡ Some (before ++ meant)

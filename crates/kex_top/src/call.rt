@@ -10,6 +10,7 @@ ghost use Rattle.kex_top.specs.Kex.{Answers, AnswersNothing, Checks, Headline, I
 ghost use Rattle.kex_top.specs.declared.status.Status.TheVariants.{Done, Memory};
 
 use crate::check::answer_check;
+use crate::limits::any_limits;
 use crate::refused::{TOO_LONG, refused};
 use crate::serve::serve;
 use crate::status::Status;
@@ -44,7 +45,8 @@ fn answer_run<H: Shelf, S: Source, K: Sink>(
         Err(ShelfAnswer::TooLong) => return Status::Refused(TOO_LONG),
         Err(ShelfAnswer::Memory) => return Status::Memory,
     };
-    match compile(alloc, &text) {
+    let asked = any_limits();
+    match compile(alloc, &text, &asked) {
         Ok(compiled) => serve(alloc, &compiled, limits, input, output),
         Err(refusal) => refused(&text, refusal),
     }

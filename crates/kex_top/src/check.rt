@@ -7,6 +7,7 @@ ghost use Rattle.kex_top.specs.Kex.{Checks, ShelfAnswers, Told, shelf_change};
 ghost use Rattle.kex_top.specs.Run.{IsLeft};
 
 use crate::call::MOST_TEXT;
+use crate::limits::any_limits;
 use crate::refused::{TOO_LONG, refused};
 use crate::status::Status;
 use kex_compile::compile;
@@ -52,7 +53,8 @@ pub(crate) fn answer_check<H: Shelf, K: Sink>(
         Err(ShelfAnswer::TooLong) => return Status::Refused(TOO_LONG),
         Err(ShelfAnswer::Memory) => return Status::Memory,
     };
-    match compile(alloc, &text) {
+    let asked = any_limits();
+    match compile(alloc, &text, &asked) {
         Ok(compiled) => tell_counts(&compiled, output),
         Err(refusal) => refused(&text, refusal),
     }

@@ -5,6 +5,7 @@
 
 mod call;
 mod check;
+mod limits;
 mod pass;
 mod pipeline;
 mod refused;

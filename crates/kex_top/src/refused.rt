@@ -13,6 +13,11 @@ pub(crate) const TOO_LONG: Refusal = Refusal {
     place: Place::Nowhere,
 };
 
+const ONE_STAGE: Refusal = Refusal {
+    rule: Rule::OneStage,
+    place: Place::Nowhere,
+};
+
 const NO_START: Refusal = Refusal {
     rule: Rule::NoStart,
     place: Place::Nowhere,
@@ -60,6 +65,7 @@ pub(crate) fn refused(text: &[u8], refusal: CompileRefusal) -> Status
         CompileRefusal::TooManyPlaces(stage) => broken_in(Rule::TooManyPlaces, stage),
         CompileRefusal::EmptyLoop(stage) => broken_in(Rule::EmptyLoop, stage),
         CompileRefusal::NoText(stage) => broken_in(Rule::NoText, stage),
+        CompileRefusal::OneStage => Status::Refused(ONE_STAGE),
         CompileRefusal::Memory => Status::Memory,
     }
 }

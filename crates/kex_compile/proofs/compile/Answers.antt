@@ -1,4 +1,4 @@
-use Rattle.std.proofs.Common.{ℕ, List, subst, ◌∙◌}
+use Rattle.std.proofs.Common.{ℕ, List, ◌≤◌, length, ap, subst, ◌∙◌, arith}
 use Rattle.kex_model.specs.Programs.{Grammar}
 use Rattle.kex_reader.specs.Spelling.{Spells, IsRefusedAs}
 use Rattle.kex_reader.specs.declared.refusal.ReadRefusal.{ReadRefusal}
@@ -8,52 +8,55 @@ use Rattle.kex_rules.specs.declared.refusal.RuleRefusal.{RuleRefusal}
 use Rattle.kex_rules.specs.declared.refusal.RuleRefusal.TheVariants as rule
 use Rattle.kex_lowering.proofs.Refusing.{if_err}
 use Rattle.kex_compile.specs.Compiled.{IsRefused, of_plan, of_read, of_rule}
-use Rattle.kex_compile.specs.Stages.{ArePlans, IsUnplanned, roots_of}
+use Rattle.kex_compile.specs.Stages.{ArePlans, IsUnplanned, KeepsToOneStage, roots_of}
+use Rattle.kex_compile.specs.declared.limits.Limits.{Limits}
 use Rattle.kex_compile.specs.declared.refusal.PlanRefusal.{PlanRefusal}
 use Rattle.kex_compile.specs.declared.refusal.PlanRefusal.TheVariants as plan
 use Rattle.kex_compile.proofs.FirstStages.{all-run}
+use Rattle.kex_compile.proofs.FewStages.{few_stages}
 use Rattle.kex_compile.proofs.compile.Goals as goal
 
-unread : (text : List ℕ) (e : ReadRefusal) → IsRefusedAs text e → IsRefused text (of_read e)
-unread text read.TextTooLong h = h
-unread text (read.BadToken at) h = h
-unread text (read.Unexpected at) h = h
-unread text (read.BadRegex at) h = h
-unread text (read.BadCount at) h = h
-unread text (read.BadSet at) h = h
-unread text (read.OverLimit at) h = h
-unread text read.Memory h = tt
+unread : (limits : Limits) (text : List ℕ) (e : ReadRefusal) → IsRefusedAs text e → IsRefused limits text (of_read e)
+unread limits text read.TextTooLong h = h
+unread limits text (read.BadToken at) h = h
+unread limits text (read.Unexpected at) h = h
+unread limits text (read.BadRegex at) h = h
+unread limits text (read.BadCount at) h = h
+unread limits text (read.BadSet at) h = h
+unread limits text (read.OverLimit at) h = h
+unread limits text read.Memory h = tt
 
-unruled : (text : List ℕ) (P : Grammar) (e : RuleRefusal) → Spells text P → IsCause P e → IsRefused text (of_rule e)
-unruled text P (rule.TwiceDefined at) s h = (P, s, h)
-unruled text P (rule.Unknown at) s h = (P, s, h)
-unruled text P rule.NoStart s h = (P, s, h)
-unruled text P (rule.NotTail at) s h = (P, s, h)
-unruled text P rule.Memory s h = tt
+unruled : (limits : Limits) (text : List ℕ) (P : Grammar) (e : RuleRefusal) → Spells text P → IsCause P e → IsRefused limits text (of_rule e)
+unruled limits text P (rule.TwiceDefined at) s h = (P, s, h)
+unruled limits text P (rule.Unknown at) s h = (P, s, h)
+unruled limits text P rule.NoStart s h = (P, s, h)
+unruled limits text P (rule.NotTail at) s h = (P, s, h)
+unruled limits text P rule.Memory s h = tt
 
-unplanned : (text : List ℕ) (P : Grammar) (e : PlanRefusal) → Spells text P → IsRuled P → IsUnplanned P e → IsRefused text (of_plan e)
-unplanned text P (plan.TooManyPlaces n) s r h = (P, s, r, h)
-unplanned text P (plan.EmptyLoop n) s r h = (P, s, r, h)
-unplanned text P (plan.NoText n) s r h = (P, s, r, h)
-unplanned text P plan.Memory s r h = tt
+unplanned : (limits : Limits) (text : List ℕ) (P : Grammar) (e : PlanRefusal) → Spells text P → IsRuled P → IsUnplanned limits P e → IsRefused limits text (of_plan e)
+unplanned limits text P (plan.TooManyPlaces n) s r h = (P, s, r, h)
+unplanned limits text P (plan.EmptyLoop n) s r h = (P, s, r, h)
+unplanned limits text P (plan.NoText n) s r h = (P, s, r, h)
+unplanned limits text P plan.OneStage s r h = (P, s, r, h)
+unplanned limits text P plan.Memory s r h = tt
 
 pub returns-in_err-program-clause-refused : goal.returns-in_err-program-clause-refused
 returns-in_err-program-clause-refused c =
     let e = c.in_err-program.field-0.0 in
-    if_err c.from_residual.result (of_read e) (λ x. IsRefused c.args.text.now x) c.from_residual.ensures.1 (unread c.args.text.now e c.in_err-program.ensures.refused)
+    if_err c.from_residual.result (of_read e) (λ x. IsRefused c.args.limits.now c.args.text.now x) c.from_residual.ensures.1 (unread c.args.limits.now c.args.text.now e c.in_err-program.ensures.refused)
 
 pub returns-in_err-ruled-clause-refused : goal.returns-in_err-ruled-clause-refused
 returns-in_err-ruled-clause-refused c =
     let e = c.in_err-ruled.field-0.0 in
-    if_err c.from_residual-in_err-ruled.result (of_rule e) (λ x. IsRefused c.args.text.now x) c.from_residual-in_err-ruled.ensures.1 (unruled c.args.text.now c.in_ok-program.program e c.in_ok-program.ensures.read c.in_err-ruled.ensures.refused)
+    if_err c.from_residual-in_err-ruled.result (of_rule e) (λ x. IsRefused c.args.limits.now c.args.text.now x) c.from_residual-in_err-ruled.ensures.1 (unruled c.args.limits.now c.args.text.now c.in_ok-program.program e c.in_ok-program.ensures.read c.in_err-ruled.ensures.refused)
 
 pub returns-in_err-compiled-clause-refused : goal.returns-in_err-compiled-clause-refused
 returns-in_err-compiled-clause-refused c =
     let e = c.in_err-compiled.field-0.0 in
     let P = c.in_ok-program.program in
     let same = c.program-2.ensures.same ∙ c.in_ok-ruled.ensures.same in
-    if_err c.from_residual-in_err-compiled.result (of_plan e) (λ x. IsRefused c.args.text.now x) c.from_residual-in_err-compiled.ensures.1
-    (unplanned c.args.text.now P e c.in_ok-program.ensures.read (subst (λ z. IsRuled z) c.in_ok-ruled.ensures.same c.in_ok-ruled.ensures.ruled) (subst (λ z. IsUnplanned z e) same c.in_err-compiled.ensures.refused))
+    if_err c.from_residual-in_err-compiled.result (of_plan e) (λ x. IsRefused c.args.limits.now c.args.text.now x) c.from_residual-in_err-compiled.ensures.1
+    (unplanned c.args.limits.now c.args.text.now P e c.in_ok-program.ensures.read (subst (λ z. IsRuled z) c.in_ok-ruled.ensures.same c.in_ok-ruled.ensures.ruled) (subst (λ z. IsUnplanned c.args.limits.now z e) same c.in_err-compiled.ensures.refused))
 
 pub returns-clause-plans : goal.returns-clause-plans
 returns-clause-plans c =
@@ -66,6 +69,15 @@ returns-clause-plans c =
         spells = c.in_ok-program.ensures.read;
         ruled = subst (λ z. IsRuled z) c.in_ok-ruled.ensures.same c.in_ok-ruled.ensures.ruled;
         stages = all-run P 1 (roots_of P) c.in_ok-compiled.compiled.stages plans.stages;
+        one_stage = subst (λ z. KeepsToOneStage c.args.limits.now z) same c.in_ok-compiled.ensures.within;
       };
       plans_of = plans;
     }
+
+-- a program that a text spells has no more stages than may be named
+pub plan_stages-requires : goal.plan_stages-requires
+plan_stages-requires c =
+    let P = c.in_ok-program.program in
+    let same = c.program-2.ensures.same ∙ c.in_ok-ruled.ensures.same in
+    let few : length P.stages ≤ 64 = few_stages c.args.text.now P c.in_ok-program.ensures.read in
+    omega (arith, few, ap (λ (z : Grammar). length z.stages) same)

@@ -1,5 +1,6 @@
 //! A pipe of stages whose turns come out of order.
 use super::PAIR;
+use crate::limits::any_limits;
 use crate::serve::pipe_of;
 use kex_compile::compile;
 use kex_pipe::report::Rejected;
@@ -9,7 +10,7 @@ use std::test::Fail;
 #[test]
 fn turns_out_of_order(rt: HostRuntime) -> Result<(), Fail> {
     let alloc = rt.alloc();
-    let compiled = compile(alloc, PAIR.program)?;
+    let compiled = compile(alloc, PAIR.program, &any_limits())?;
     let plans = compiled.stages();
     assert!(&rt; !plans.is_empty());
     let mut pipe = pipe_of(alloc, plans, 1_000)?;

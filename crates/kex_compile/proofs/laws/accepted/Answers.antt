@@ -3,4 +3,4 @@ use Rattle.kex_compile.proofs.Refusing as refusing
 use Rattle.kex_compile.proofs.laws.accepted.Goals as goal
 
 pub returns : goal.returns
-returns c = λ text. refusing.accepted text (alike c.one_cut.ensures.tokens c.one_tree-2.ensures.tree c.one_tree.ensures.tree c.one_value.ensures text) (c.one_refusal.ensures.either text)
+returns c = λ limits text. refusing.accepted limits text (alike c.one_cut.ensures.tokens c.one_tree-2.ensures.tree c.one_tree.ensures.tree c.one_value.ensures text) (c.one_refusal.ensures.either text)

@@ -3,4 +3,4 @@ use Rattle.kex_compile.proofs.Refusing.{one_cause}
 use Rattle.kex_compile.proofs.laws.refused.Goals as goal
 
 pub returns : goal.returns
-returns c = λ text. one_cause text (alike c.one_cut.ensures.tokens c.one_tree-2.ensures.tree c.one_tree.ensures.tree c.one_value.ensures text) (c.one_refusal.ensures.either text) (c.one_refusal.ensures.refusal text)
+returns c = λ limits text. one_cause limits text (alike c.one_cut.ensures.tokens c.one_tree-2.ensures.tree c.one_tree.ensures.tree c.one_value.ensures text) (c.one_refusal.ensures.either text) (c.one_refusal.ensures.refusal text)

@@ -2,11 +2,17 @@ use Rattle.std.proofs.Common.{rules, arith, ◌≡◌, ◌<◌, ◌≤◌, ◌+�
 use Rattle.kex_model.specs.Trees.{root_of}
 use Rattle.kex_model.specs.declared.program.Start.{Start}
 use Rattle.kex_lowering.specs.Stages.{HasPlaces, IsWhy}
-use Rattle.kex_compile.specs.Stages.{IsStage, Plans, most_places}
+use Rattle.kex_compile.specs.Stages.{ArePlans, IsStage, Plans, most_places, roots_of}
+use Rattle.std.specs.Prelude.{Option, Some, None}
 use Rattle.kex_compile.specs.declared.firsts.Firsts.{Firsts}
-use Rattle.kex_compile.proofs.FirstStages.{Gathered, one-refused, one-planned, all-refused}
+use Rattle.kex_compile.specs.declared.refusal.PlanRefusal.{PlanRefusal}
+use Rattle.kex_compile.proofs.FirstStages.{Gathered, one-refused, one-planned, all-planned, all-refused, all-run}
 use Rattle.kex_compile.proofs.stages.plan_stages.Goals as goal
 use Rattle.kex_compile.proofs.stages.plan_stages.Goals.{in-Ok+in_ok-push-in-Ok, in-Err+in_ok-note-in-Err}
+
+none_left : (o : Option PlanRefusal) → ((x : PlanRefusal) → o ≡ Some x → ⊥) → o ≡ None
+none_left None h = refl
+none_left (Some x) h = absurd (h x refl)
 
 pub stages-preserved : goal.stages-preserved
 stages-preserved c =
@@ -46,4 +52,10 @@ stages-preserved c =
 
 pub returns-in-Some-clause-refused : goal.returns-in-Some-clause-refused
 returns-in-Some-clause-refused c =
-    all-refused c.args.program.now c.stages.i (subst (λ z. length z ≤ c.stages.i) c.stages-start-items.ensures c.stages-test.false) c.stages.firsts c.stages.compiled c.stages.invariant.gathered c.in-Some.refusal (search rules)
+    all-refused c.args.program.now c.stages.i (subst (λ z. length z ≤ c.stages.i) c.stages-start-items.ensures c.stages-test.false) c.stages.firsts c.stages.compiled c.stages.invariant.gathered c.args.limits.now c.in-Some.refusal (search rules)
+
+pub returns-then-stages-gt1-clause-refused : goal.returns-then-stages-gt1-clause-refused
+returns-then-stages-gt1-clause-refused c =
+    let P = c.args.program.now in
+    let all : ArePlans P c.stages.compiled = all-planned P c.stages.i (subst (λ z. length z ≤ c.stages.i) c.stages-start-items.ensures c.stages-test.false) c.stages.firsts c.stages.compiled c.stages.invariant.gathered (sym c.least.ensures ∙ none_left c.least.result c.in_default.not-Some) in
+    (all-run P 1 (roots_of P) c.stages.compiled.stages all.stages, c.if-limits.true, subst (λ z. 1 < length z) c.stages-then-limits.ensures c.if-stages-gt1.true)

@@ -6,11 +6,11 @@ use Rattle.kex_top.proofs.call.answer_run.Goals as goal
 
 pub returns-in-Ok-compile-clause-answers : goal.returns-in-Ok-compile-clause-answers
 returns-in-Ok-compile-clause-answers g c =
-    served _ _ _ c.in-Ok.text.items _ _ _ _ c.in-Ok.ensures.found (subst (λ t. IsCompiled t c.in-Ok-compile.compiled) c.deref.ensures.value c.in-Ok-compile.ensures.plans) c.serve.ensures
+    served _ _ _ c.in-Ok.text.items _ _ _ _ c.in-Ok.ensures.found (subst (λ l. IsCompiled l c.in-Ok.text.items c.in-Ok-compile.compiled) c.any_limits-asked.ensures (subst (λ t. IsCompiled c.any_limits-asked.result t c.in-Ok-compile.compiled) c.deref.ensures.value c.in-Ok-compile.ensures.plans)) c.serve.ensures
 
 pub returns-clause-answers : goal.returns-clause-answers
 returns-clause-answers g c =
-    refused_by _ _ _ c.in-Ok.text.items c.in-Err.refusal _ _ _ c.in-Ok.ensures.found (subst (λ t. IsRefused t c.in-Err.refusal) c.deref.ensures.value c.in-Err.ensures.refused) ((refl, refl), (refl, refl)) (subst (λ t. IsStatusOf t c.in-Err.refusal c.refused.result) c.deref-in-Err.ensures.value c.refused.ensures)
+    refused_by _ _ _ c.in-Ok.text.items c.in-Err.refusal _ _ _ c.in-Ok.ensures.found (subst (λ l. IsRefused l c.in-Ok.text.items c.in-Err.refusal) c.any_limits-asked.ensures (subst (λ t. IsRefused c.any_limits-asked.result t c.in-Err.refusal) c.deref.ensures.value c.in-Err.ensures.refused)) ((refl, refl), (refl, refl)) (subst (λ t. IsStatusOf t c.in-Err.refusal c.refused.result) c.deref-in-Err.ensures.value c.refused.ensures)
 
 pub serve-requires : goal.serve-requires
-serve-requires g c = some-machine c.deref.result.now c.in-Ok-compile.compiled c.in-Ok-compile.ensures.plans
+serve-requires g c = some-machine c.any_limits-asked.result c.deref.result.now c.in-Ok-compile.compiled c.in-Ok-compile.ensures.plans
