@@ -1,0 +1,6 @@
+mod Counting
+mod Lists
+mod Clearing
+mod Holding
+mod Keeping
+mod Machines

@@ -1,0 +1,3 @@
+pub mod Known
+pub mod Clearing
+pub mod Alike
