@@ -3,3 +3,5 @@ pub mod Knots
 pub mod Going
 pub mod Twigs
 pub mod Jobs
+pub mod Matchers
+pub mod Rows

@@ -1,0 +1,39 @@
+use Rattle.std.proofs.Common.{◌<◌, ◌+◌, ◌∷◌, ◌++◌, [], length, subst, sym, refl, ap, ◌∙◌, true}
+use Rattle.kex_machine.specs.Nodes.{StaysWithin, node_moves}
+use Rattle.kex_machine.proofs.Nexts.{IsTrim}
+use Rattle.kex_machine.proofs.Ranges.{stays_within, is_trim}
+use Rattle.kex_frontier.specs.Rows.{IsRow}
+use Rattle.kex_frontier.specs.Matchers.{Match, WasFed}
+use Rattle.kex_frontier.proofs.Matches.{fed_dead, fed_on, fed_dies, some_of, none_of}
+use Rattle.kex_frontier.proofs.matcher.Matcher.take.Goals as goal
+
+pub returns-then-self-clause-fed : goal.returns-then-self-clause-fed
+returns-then-self-clause-fed c = λ w h.
+    let m = c.args.self.now in
+    let trim : IsTrim (node_moves m.machine.nodes) m.machine.start = subst (λ z. IsTrim (node_moves z.machine.nodes) z.machine.start) c.self.view_is (is_trim c.self.inside.machine.now c.nodes-nodes.ensures.trimmed) in
+    fed_dead m m w c.args.byte refl trim h (ap (λ z. z.dead) (sym c.self.view_is) ∙ c.if-self.true) refl
+
+pub step-requires-clause-within : goal.step-requires-clause-within
+step-requires-clause-within c = subst StaysWithin (sym c.nodes-nodes.ensures.same) (stays_within c.self.inside.machine.now c.nodes-nodes.ensures.in_range)
+
+pub returns-then-is_none-clause-fed : goal.returns-then-is_none-clause-fed
+returns-then-is_none-clause-fed c = λ w h.
+    let g = c.self.inside.machine.now in
+    let old : Match = record { machine = g; row = c.self.inside.row; good = c.self.inside.good; dead = c.self.inside.dead } in
+    let new : Match = record { machine = g; row = c.swap.new.x; good = c.self.inside.good; dead = true } in
+    let fed : WasFed old w = subst (λ z. WasFed z w) (sym c.self.view_is) h in
+    let start : g.start < length c.nodes-nodes.result.now = subst (λ z. g.start < length z) (sym c.nodes-nodes.ensures.same) c.nodes-nodes.ensures.in_range.start_in in
+    let row : IsRow g (w ++ c.args.byte ∷ []) c.swap.new.x = subst (λ z. IsRow g (w ++ c.args.byte ∷ []) z) (sym c.swap.ensures.x_after) (c.step.ensures.row g w (sym c.nodes-nodes.ensures.same) start fed.row) in
+    let none = none_of c.highest_below.result (c.if-is_none.ensures {u = tt}) c.highest_below.ensures.none in
+    fed_dies old new w c.args.byte refl (is_trim g c.nodes-nodes.ensures.trimmed) fed c.if-self.false row (stays_within g c.nodes-nodes.ensures.in_range) c.nodes-nodes.ensures.in_range.start_in refl refl (λ p lt. none p (subst (λ z. p < length z) (sym c.nodes-nodes.ensures.same) lt))
+
+pub returns-else-is_none-clause-fed : goal.returns-else-is_none-clause-fed
+returns-else-is_none-clause-fed c = λ w h.
+    let g = c.self.inside.machine.now in
+    let old : Match = record { machine = g; row = c.self.inside.row; good = c.self.inside.good; dead = c.self.inside.dead } in
+    let new : Match = record { machine = g; row = c.swap.new.x; good = c.self.inside.good + 1; dead = c.self.inside.dead } in
+    let fed : WasFed old w = subst (λ z. WasFed z w) (sym c.self.view_is) h in
+    let start : g.start < length c.nodes-nodes.result.now = subst (λ z. g.start < length z) (sym c.nodes-nodes.ensures.same) c.nodes-nodes.ensures.in_range.start_in in
+    let row : IsRow g (w ++ c.args.byte ∷ []) c.swap.new.x = subst (λ z. IsRow g (w ++ c.args.byte ∷ []) z) (sym c.swap.ensures.x_after) (c.step.ensures.row g w (sym c.nodes-nodes.ensures.same) start fed.row) in
+    let some = some_of c.highest_below.result (c.if-is_none.ensures {u = tt}) c.highest_below.ensures.some in
+    fed_on old new w c.args.byte refl (is_trim g c.nodes-nodes.ensures.trimmed) fed c.if-self.false row c.if-self.false refl some.0 some.1.marked

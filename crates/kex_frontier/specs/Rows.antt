@@ -1,0 +1,67 @@
+-- Rows of bits over a machine's places, and the row of a text.
+use Rattle.std.specs.Prelude.{◌≡◌, ℕ, ◌<◌, ◌≤◌, ◌/◌, ◌%◌, ◌==◌, Bool, true, false, List, [], ◌∷◌, ◌⊎◌, if◌then◌else◌, get_or, length}
+use Rattle.std.specs.Int.{bit_at}
+use Rattle.kex_code.specs.Codes.{bytes_of, IsAmong}
+use Rattle.kex_model.specs.Moves.{quiet, Move, accept, read, choose, forced, go, Step, code_of, Walk}
+use Rattle.kex_machine.specs.declared.MNode.{MNode}
+use Rattle.kex_machine.specs.Nodes.{Graph, node_moves}
+
+-- whether the place is marked: bit n % 64 of word n / 64
+abbrev pub has_mark : List ℕ → ℕ → Bool
+has_mark words n = bit_at (get_or words (n / 64) 0) (n % 64) == 1
+
+-- j is the place of the word's highest bit
+pub record IsTop (word j : ℕ) : Type 0 where
+  pub within : j < 64
+  pub set : bit_at word j ≡ 1
+  pub last : (i : ℕ) → j < i → bit_at word i ≡ 0
+
+-- n is the highest place below the end that is marked
+pub record IsHighestBelow (row : List ℕ) (end n : ℕ) : Type 0 where
+  pub below : n < end
+  pub marked : has_mark row n ≡ true
+  pub highest : (m : ℕ) → n < m → m < end → has_mark row m ≡ false
+
+-- those among ms were marked too
+pub record AlsoMarks (ms : List ℕ) (old new : List ℕ) : Type 0 where
+  pub room : length new ≡ length old
+  pub kept : (n : ℕ) → has_mark old n ≡ true → has_mark new n ≡ true
+  pub added : (n : ℕ) → IsAmong ms n → has_mark new n ≡ true
+  pub only : (n : ℕ) → has_mark new n ≡ true → (has_mark old n ≡ true) ⊎ IsAmong ms n
+
+-- those among ms were marked too; `news` says whether one at or above `from` was not marked before
+pub record MarksNews (ms : List ℕ) (from : ℕ) (old new : List ℕ) (news : Bool) : Type 0 where
+  pub marked : AlsoMarks ms old new
+  pub fresh : news ≡ true → (n : ℕ) × IsAmong ms n × (has_mark old n ≡ false)
+  pub stale : news ≡ false → (n : ℕ) → from ≤ n → has_mark new n ≡ true → has_mark old n ≡ true
+
+-- where a move leads by a byte
+abbrev pub byte_ways : {S : Type 0} → Move S → ℕ → List S
+byte_ways (read set t) b = if get_or set b false then t ∷ [] else []
+byte_ways accept b = []
+byte_ways (choose l r) b = []
+byte_ways (forced x t) b = []
+byte_ways (go e t) b = []
+
+-- n is reached from m without a byte
+abbrev pub IsReachedQuietly : List MNode → ℕ → ℕ → Type 0
+IsReachedQuietly nodes m n = (ks : List (Step ℕ)) × Walk (node_moves nodes) m ks n × (bytes_of (code_of ks) ≡ [])
+
+-- one pass has spread the marks along steps without a byte; unless it is to be done again, along all of them
+pub record Spread (nodes : List MNode) (old new : List ℕ) (again : Bool) : Type 0 where
+  pub room : length new ≡ length old
+  pub kept : (n : ℕ) → has_mark old n ≡ true → has_mark new n ≡ true
+  pub real : (n : ℕ) → has_mark new n ≡ true → (m : ℕ) × (has_mark old m ≡ true) × IsReachedQuietly nodes m n
+  pub closed : again ≡ false → (n m : ℕ) → has_mark new n ≡ true → IsAmong (quiet (node_moves nodes n)) m → has_mark new m ≡ true
+  pub more : again ≡ true → (n : ℕ) × (n < length nodes) × (has_mark old n ≡ false) × (has_mark new n ≡ true)
+
+-- what is reached without a byte from the places that were marked is marked
+pub record IsClosureOf (nodes : List MNode) (old new : List ℕ) : Type 0 where
+  pub room : length new ≡ length old
+  pub real : (n : ℕ) → has_mark new n ≡ true → (m : ℕ) × (has_mark old m ≡ true) × IsReachedQuietly nodes m n
+  pub all : (m n : ℕ) → has_mark old m ≡ true → IsReachedQuietly nodes m n → has_mark new n ≡ true
+
+-- the marks are those of the places that are reached on w
+pub record IsRow (g : Graph) (w : List ℕ) (row : List ℕ) : Type 0 where
+  pub real : (n : ℕ) → has_mark row n ≡ true → (ks : List (Step ℕ)) × Walk (node_moves g.nodes) g.start ks n × (bytes_of (code_of ks) ≡ w)
+  pub all : (n : ℕ) (ks : List (Step ℕ)) → Walk (node_moves g.nodes) g.start ks n → bytes_of (code_of ks) ≡ w → has_mark row n ≡ true

@@ -1,0 +1,225 @@
+// Whether a text can be parsed, in memory that is made once.
+
+ghost use Rattle.std.specs.Prelude.{◌≡◌, ℕ, ◌<◌, ◌≤◌, ◌+◌, ◌/◌, ◌^◌, ◌++◌, ◌∷◌, [], List, length, IfOk, IsTrue, ◌↔◌, true, false};
+ghost use Rattle.kex_code.specs.Codes.{IsAmong};
+ghost use Rattle.kex_model.specs.Moves.{accept, quiet};
+ghost use Rattle.kex_machine.specs.Nodes.{Graph, StaysWithin, MoveBelow, move_of, node_moves};
+ghost use Rattle.kex_machine.specs.Answers.{HasParse};
+ghost use Rattle.kex_frontier.specs.Rows.{AlsoMarks, MarksNews, byte_ways, has_mark, IsClosureOf, IsRow, Spread};
+ghost use Rattle.kex_frontier.specs.Matchers.{IsAnswer, WasFed};
+
+use crate::row::Row;
+use kex_code::memory::Memory;
+use kex_machine::{MNode, Trimmed};
+use std::alloc::Global;
+use std::marker::Model;
+use std::mem;
+
+/// What the bytes are so far.
+#[derive(Clone, Copy, Debug, PartialEq, Eq)]
+pub enum Matched {
+    /// Some text that begins with them has a parse.
+    On,
+    /// No such text has; the longest front of which one has is this many bytes long.
+    Dead(u64),
+}
+
+// A node, and what there is to do there.
+fn node_at(nodes: &[MNode], n: usize) -> &MNode
+    requires { n < length nodes.now }
+    ensures { node_moves nodes.now n ≡ move_of (Some result.now) }
+{
+    &nodes[n]
+}
+
+// Marks a place. Tells whether that is news at or above `from`.
+fn mark_way(row: &mut Row, place: u32, from: usize) -> bool
+    requires { place / 64 < length row.old }
+    ensures { MarksNews (place ∷ []) from row.old row.new result }
+{
+    let known = row.mark(place as usize);
+    !known && from <= place as usize
+}
+
+// Marks where a node leads without a byte. Tells whether some of it is news at or above `from`.
+fn mark_ways(row: &mut Row, node: &MNode, from: usize, count: usize) -> bool
+    requires room { count / 64 < length row.old }
+    requires within { MoveBelow count (move_of (Some node.now)) }
+    ensures { MarksNews (quiet (move_of (Some node.now))) from row.old row.new result }
+{
+    match node {
+        MNode::Accept | MNode::Read(_, _) => false,
+        MNode::Choice(left, right) => {
+            let right = mark_way(row, *right, from);
+            let left = mark_way(row, *left, from);
+            left || right
+        }
+        MNode::Forced(_, next) | MNode::Do(_, next) | MNode::Skip(next) => {
+            mark_way(row, *next, from)
+        }
+    }
+}
+
+// Spreads the marks along the steps without a byte, in one pass from the highest place down. Tells whether a place that
+// was passed was marked, so that it is to be done again: never where such steps lead to lower places.
+fn sweep(nodes: &[MNode], row: &mut Row) -> bool
+    requires room { length nodes.now / 64 < length row.old }
+    requires within { StaysWithin nodes.now }
+    ensures { Spread nodes.now row.old row.new result }
+{
+    let mut again = false;
+    let mut left = nodes.len();
+    'places: while let Some(n) = row.highest_below(left) {
+        if mark_ways(row, node_at(nodes, n), n, nodes.len()) {
+            again = true;
+        }
+        left = n;
+    }
+    again
+}
+
+// Marks what is reached without a byte from the places that are marked.
+fn close(nodes: &[MNode], row: &mut Row)
+    requires room { length nodes.now / 64 < length row.old }
+    requires within { StaysWithin nodes.now }
+    ensures { IsClosureOf nodes.now row.old row.new }
+{
+    'passes: while sweep(nodes, row) {}
+}
+
+// Marks where a node leads by a byte.
+fn enter(row: &mut Row, node: &MNode, byte: u8, count: usize)
+    requires room { count / 64 < length row.old }
+    requires within { MoveBelow count (move_of (Some node.now)) }
+    ensures { AlsoMarks (byte_ways (move_of (Some node.now)) byte) row.old row.new }
+{
+    if let MNode::Read(set, next) = node {
+        if set.has(byte) {
+            row.mark(*next as usize);
+        }
+    }
+}
+
+// The places that are reached with one byte more.
+fn step(nodes: &[MNode], byte: u8, now: &Row, next: &mut Row)
+    requires now { length nodes.now / 64 < length now.now }
+    requires next { length nodes.now / 64 < length next.old }
+    requires within { StaysWithin nodes.now }
+    ensures room { length next.new ≡ length next.old }
+    ensures row { (g : Graph) (w : List ℕ) → g.nodes ≡ nodes.now → g.start < length nodes.now → IsRow g w now.now → IsRow g (w ++ byte ∷ []) next.new }
+{
+    next.clear();
+    let mut left = nodes.len();
+    'places: while let Some(n) = now.highest_below(left) {
+        enter(next, node_at(nodes, n), byte, nodes.len());
+        left = n;
+    }
+    close(nodes, next);
+}
+
+// Whether a marked place is the end.
+fn accepts(nodes: &[MNode], row: &Row) -> bool
+    requires { length nodes.now / 64 < length row.now }
+    ensures { IsTrue result ↔ ((n : ℕ) × (n < length nodes.now) × (has_mark row.now n ≡ true) × (node_moves nodes.now n ≡ accept)) }
+{
+    let mut left = nodes.len();
+    'places: while let Some(n) = row.highest_below(left) {
+        if let MNode::Accept = node_at(nodes, n) {
+            return true;
+        }
+        left = n;
+    }
+    false
+}
+
+/// Whether texts are parsed by a stage, and no more: it keeps which places the bytes lead to, in two rows of bits that it
+/// is made with.
+///
+/// It stores no history: `WasFed` relates it to the bytes that it was fed.
+#[derive(Drop)]
+pub struct Matcher<'m> {
+    machine: &'m Trimmed,
+    row: Row,
+    spare: Row,
+    good: u64,
+    dead: bool,
+}
+
+impl<'m> Model for Matcher<'m> {
+    ghost use Rattle.std.specs.Prelude.{◌<◌, ◌/◌, length};
+    ghost use Rattle.kex_frontier.specs.Matchers.{Match};
+
+    ghost Value = { Match };
+
+    ghost view = { λ m. record { machine = m.machine.now; row = m.row; good = m.good; dead = m.dead } };
+
+    ghost invariant = { λ m. (length m.machine.now.nodes / 64 < length m.row) × (length m.machine.now.nodes / 64 < length m.spare) };
+}
+
+impl<'m> Matcher<'m> {
+    /// The matcher of the empty text.
+    pub fn new(alloc: Global, machine: &'m Trimmed) -> Result<Matcher<'m>, Memory>
+        ensures machine { IfOk result (λ m. m.machine ≡ machine.now) }
+        ensures begins { IfOk result (λ m. WasFed m []) }
+        ensures count { IfOk result (λ m. m.good ≡ 0) }
+    {
+        let nodes = machine.nodes();
+        let mut row = Row::new(alloc, nodes.len())?;
+        let spare = Row::new(alloc, nodes.len())?;
+        row.mark(machine.start() as usize);
+        close(nodes, &mut row);
+        Ok(Matcher {
+            machine,
+            row,
+            spare,
+            good: 0,
+            dead: false,
+        })
+    }
+
+    // Takes a byte.
+    fn take(&mut self, byte: u8)
+        requires { self.old.good + 1 < 2 ^ 64 }
+        ensures fed { (w : List ℕ) → WasFed self.old w → WasFed self.new (w ++ byte ∷ []) }
+        ensures machine { self.new.machine ≡ self.old.machine }
+        ensures count { self.new.good ≤ self.old.good + 1 }
+    {
+        let nodes = self.machine.nodes();
+        if self.dead {
+            return;
+        }
+        step(nodes, byte, &self.row, &mut self.spare);
+        mem::swap(&mut self.row, &mut self.spare);
+        if self.row.highest_below(nodes.len()).is_none() {
+            self.dead = true;
+        } else {
+            self.good += 1;
+        }
+    }
+
+    /// Takes a piece of the text. `Dead` exactly where no parse begins with all bytes, and then for good.
+    ///
+    /// A byte costs time in the words of a row, and in the places that are marked.
+    pub fn feed(&mut self, piece: &[u8]) -> Matched
+        requires { self.old.good + length piece.now < 2 ^ 64 }
+        ensures fed { (w : List ℕ) → WasFed self.old w → WasFed self.new (w ++ piece.now) × IsAnswer result self.new.machine (w ++ piece.now) }
+        ensures machine { self.new.machine ≡ self.old.machine }
+        ensures count { self.new.good ≤ self.old.good + length piece.now }
+    {
+        for byte in piece {
+            self.take(*byte);
+        }
+        if self.dead {
+            Matched::Dead(self.good)
+        } else {
+            Matched::On
+        }
+    }
+
+    /// Whether the bytes have a parse.
+    pub fn end(&self) -> bool
+        ensures { (w : List ℕ) → WasFed self.now w → (IsTrue result ↔ HasParse self.now.machine w) }
+    {
+        accepts(self.machine.nodes(), &self.row)
+    }
+}
