@@ -9,8 +9,8 @@ use Rattle.kex_machine.specs.declared.MNode.{MNode}
 use Rattle.kex_machine.specs.declared.MNode.TheVariants.{Accept, Read, Choice, Forced, Do, Skip}
 use Rattle.kex_trim.specs.Ways.{LeadsBelow}
 use Rattle.kex_machine.specs.Nodes.{node_moves, move_of}
-use Rattle.kex_trim.specs.declared.Mark.{Mark}
-use Rattle.kex_trim.specs.declared.Mark.TheVariants.{Unseen, Open, Done}
+use Rattle.kex_trim.specs.declared.order.Mark.{Mark}
+use Rattle.kex_trim.specs.declared.order.Mark.TheVariants.{Unseen, Open, Done}
 use Rattle.kex_trim.specs.Loops.{entering}
 
 -- how many were not seen

@@ -12,10 +12,10 @@ use Rattle.kex_model.proofs.Counting.{among-append, among_get, different_fits}
 use Rattle.kex_model.proofs.Tables.{some_same, get_more}
 use Rattle.kex_machine.specs.declared.MNode.{MNode}
 use Rattle.kex_machine.specs.Nodes.{node_moves, move_of}
-use Rattle.kex_trim.specs.declared.Mark.{Mark}
-use Rattle.kex_trim.specs.declared.Mark.TheVariants.{Unseen, Open, Done}
-use Rattle.kex_trim.specs.declared.Task.{Task}
-use Rattle.kex_trim.specs.declared.Task.TheVariants.{Enter, Leave}
+use Rattle.kex_trim.specs.declared.order.Mark.{Mark}
+use Rattle.kex_trim.specs.declared.order.Mark.TheVariants.{Unseen, Open, Done}
+use Rattle.kex_trim.specs.declared.order.Task.{Task}
+use Rattle.kex_trim.specs.declared.order.Task.TheVariants.{Enter, Leave}
 use Rattle.kex_machine.specs.Nodes.{HasLoop}
 use Rattle.kex_trim.specs.Loops.{IsOrder, entering, count_up}
 

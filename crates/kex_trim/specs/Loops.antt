@@ -1,11 +1,11 @@
 -- Loops without a byte, and the tasks by which they are looked for.
-use Rattle.std.specs.Prelude.{◌≡◌, ℕ, zero, suc, ◌<◌, ◌≤◌, length, List, [], ◌∷◌, ◌++◌}
-use Rattle.kex_code.specs.Codes.{bytes_of, IsAmong, HasNumber}
-use Rattle.kex_model.specs.Moves.{Step, code_of, Walk, quiet}
+use Rattle.std.specs.Prelude.{ℕ, zero, suc, ◌<◌, ◌≤◌, length, List, [], ◌∷◌, ◌++◌}
+use Rattle.kex_code.specs.Codes.{IsAmong, HasNumber}
+use Rattle.kex_model.specs.Moves.{quiet}
 use Rattle.kex_machine.specs.declared.MNode.{MNode}
 use Rattle.kex_machine.specs.Nodes.{node_moves}
-use Rattle.kex_trim.specs.declared.Task.{Task}
-use Rattle.kex_trim.specs.declared.Task.TheVariants.{Enter}
+use Rattle.kex_trim.specs.declared.order.Task.{Task}
+use Rattle.kex_trim.specs.declared.order.Task.TheVariants.{Enter}
 
 abbrev pub entering : List ℕ → List Task
 entering [] = []

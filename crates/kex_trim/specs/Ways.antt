@@ -7,8 +7,8 @@ use Rattle.kex_model.specs.Survivors.{LeadsToEnd}
 use Rattle.kex_machine.specs.declared.MNode.{MNode}
 use Rattle.kex_machine.specs.declared.MNode.TheVariants.{Accept, Read, Choice, Forced, Do, Skip}
 use Rattle.kex_machine.specs.Nodes.{node_moves}
-use Rattle.kex_trim.specs.declared.Ways.{Ways}
-use Rattle.kex_trim.specs.declared.Ways.TheVariants.{NoWay, One, Two}
+use Rattle.kex_trim.specs.declared.alive.Ways.{Ways}
+use Rattle.kex_trim.specs.declared.alive.Ways.TheVariants.{NoWay, One, Two}
 
 -- where a move leads, by some step
 abbrev pub ways : {S : Type 0} → Move S → List S

@@ -3,8 +3,8 @@ use Rattle.std.proofs.lemmas.Result.{IfOk-weaker}
 use Rattle.kex_code.specs.Codes.{IsAmong}
 use Rattle.kex_trim.specs.Ways.{listed, Adds}
 use Rattle.kex_trim.proofs.Reaching.{adds_one, adds_both}
-use Rattle.kex_trim.proofs.add_ways.Goals as goal
-use Rattle.kex_trim.proofs.add_ways.Goals.{In-Two}
+use Rattle.kex_trim.proofs.alive.add_ways.Goals as goal
+use Rattle.kex_trim.proofs.alive.add_ways.Goals.{In-Two}
 
 pub add_source-requires : goal.add_source-requires
 add_source-requires c = c.requires c.in-One.next (subst (λ w. IsAmong (listed w) c.in-One.next) (sym c.in-One.is) (inl refl))

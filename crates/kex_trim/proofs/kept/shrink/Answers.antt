@@ -5,8 +5,8 @@ use Rattle.kex_machine.specs.Nodes.{move_of}
 use Rattle.kex_trim.specs.Trim.{renamed}
 use Rattle.kex_trim.proofs.Trimming.{past}
 use Rattle.kex_trim.proofs.Keeping.{Shrinking, shrinking_more, shrinking_end}
-use Rattle.kex_trim.proofs.shrink.Goals as goal
-use Rattle.kex_trim.proofs.shrink.Goals.{After-index, After-loop-t}
+use Rattle.kex_trim.proofs.kept.shrink.Goals as goal
+use Rattle.kex_trim.proofs.kept.shrink.Goals.{After-index, After-loop-t}
 
 -- the old number of the node that is next
 next : (c : After-index) → HasNumber c.args.numbering.now.kept.items c.index.result.now c.loop-t.t
