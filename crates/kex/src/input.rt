@@ -1,5 +1,5 @@
 // Input over a reader.
-ghost use Rattle.std.specs.Prelude.{◌≡◌};
+ghost use Rattle.std.specs.Prelude.{◌≡◌, None};
 
 use kex_ports::{Failed, Source};
 use std::io::Read;
@@ -24,6 +24,8 @@ impl<R: Read + Drop> Source for Input<R> {
     ghost rest = { λ s. R.remaining s.reader };
 
     ghost faults = { λ s. s.faults };
+
+    ghost reads = { λ _. None };
 
     fn read(&mut self, buf: &mut [u8]) -> Result<usize, Failed> {
         match self.reader.read(buf) {

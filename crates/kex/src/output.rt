@@ -1,5 +1,5 @@
 // Output over a writer.
-ghost use Rattle.std.specs.Prelude.{◌≡◌};
+ghost use Rattle.std.specs.Prelude.{◌≡◌, None};
 
 use kex_ports::{Failed, Sink};
 use std::io::Write;
@@ -24,6 +24,8 @@ impl<W: Write + Drop> Sink for Output<W> {
     ghost held = { λ s. W.contents s.writer };
 
     ghost faults = { λ s. s.faults };
+
+    ghost ending = { λ _. None };
 
     fn write(&mut self, bytes: &[u8]) -> Result<usize, Failed> {
         match self.writer.write(bytes) {

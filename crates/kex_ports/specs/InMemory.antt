@@ -1,51 +1,55 @@
 -- Sources, sinks and shelves in memory: what is seen of them, and exactly what a call answers and leaves.
 use Rattle.std.specs.Prelude.{◌≡◌, ◌+◌, ◌<◌, ◌≤◌, ◌++◌, ◌⊎◌, ℕ, true, false, List, length, take, drop, min, Option, Some, None, Result, Ok, Err}
 use Rattle.kex_ports.specs.Calls.{Tally, is_failing, passed, failed, raised}
+use Rattle.kex_ports.specs.Endings.{Ending, written, write_failed, finished_once}
+use Rattle.kex_ports.specs.Reads.{Reads, after_asking}
 use Rattle.kex_ports.specs.Named.{Texts, text_named}
 use Rattle.kex_ports.specs.declared.shelf.ShelfAnswer.{ShelfAnswer}
 use Rattle.kex_ports.specs.declared.shelf.ShelfAnswer.TheVariants.{Failed, TooLong, Memory}
 
--- A source: the bytes not yet read, how many a read gives at most, and its calls.
+-- A source: the bytes not yet read, how many a read gives at most, its calls, and what they asked for.
 pub record Reading : Type 0 where
   pub left : List ℕ
   pub most : ℕ
   pub calls : Tally
+  pub reads : Reads
 
--- The source after a read of the first n bytes.
-abbrev pub after_read : ℕ → Reading → Reading
-after_read n s = record { left = drop n s.left; most = s.most; calls = passed s.calls }
+-- The source after a read of the first n bytes, into a buffer of this length.
+abbrev pub after_read : ℕ → ℕ → Reading → Reading
+after_read room n s = record { left = drop n s.left; most = s.most; calls = passed s.calls; reads = after_asking room n s.reads }
 
 -- A read into a buffer of this length: as many bytes as there are, and as the buffer and the source allow.
 abbrev pub HasRead : {E : Type 0} → Reading → Reading → ℕ → Result ℕ E → Type 0
-HasRead before now room (Ok n) = (is_failing before.calls ≡ false) × (n ≡ min (min room before.most) (length before.left)) × (now ≡ after_read n before)
-HasRead before now room (Err e) = (is_failing before.calls ≡ true) × (now ≡ record { left = before.left; most = before.most; calls = failed before.calls })
+HasRead before now room (Ok n) = (is_failing before.calls ≡ false) × (n ≡ min (min room before.most) (length before.left)) × (now ≡ after_read room n before)
+HasRead before now room (Err e) = (is_failing before.calls ≡ true) × (now ≡ record { left = before.left; most = before.most; calls = failed before.calls; reads = after_asking room 0 before.reads })
 
--- A sink: the bytes that it holds, how many it has room for, how many a write takes at most, and its calls.
+-- A sink: the bytes that it holds, how many it has room for, how many a write takes at most, its calls, and how it was ended.
 pub record Holding : Type 0 where
   pub held : List ℕ
   pub room : ℕ
   pub most : ℕ
   pub calls : Tally
+  pub ending : Ending
 
 -- How many bytes of a piece a write is to take.
 abbrev pub wanted : Holding → List ℕ → ℕ
 wanted s bytes = min (length bytes) s.most
 
--- The sink after a call that added these bytes, and after one that failed.
+-- The sink after a call that added these bytes, and after one that failed and left this ending.
 abbrev pub after_write : List ℕ → Holding → Holding
-after_write bytes s = record { held = s.held ++ bytes; room = s.room; most = s.most; calls = passed s.calls }
+after_write bytes s = record { held = s.held ++ bytes; room = s.room; most = s.most; calls = passed s.calls; ending = written s.ending }
 
-abbrev pub after_fault : Holding → Holding
-after_fault s = record { held = s.held; room = s.room; most = s.most; calls = failed s.calls }
+abbrev pub after_fault : Ending → Holding → Holding
+after_fault ending s = record { held = s.held; room = s.room; most = s.most; calls = failed s.calls; ending = ending }
 
 -- A write takes what it is to take, and fails where its number is one that fails, or where that is past the room.
 abbrev pub HasWritten : {E : Type 0} → Holding → Holding → List ℕ → Result ℕ E → Type 0
 HasWritten before now bytes (Ok n) = (is_failing before.calls ≡ false) × (length before.held + n ≤ before.room) × (n ≡ wanted before bytes) × (now ≡ after_write (take n bytes) before)
-HasWritten before now bytes (Err e) = ((is_failing before.calls ≡ true) ⊎ (before.room < length before.held + wanted before bytes)) × (now ≡ after_fault before)
+HasWritten before now bytes (Err e) = ((is_failing before.calls ≡ true) ⊎ (before.room < length before.held + wanted before bytes)) × (now ≡ after_fault (write_failed before.ending) before)
 
 abbrev pub HasFinished : {T E : Type 0} → Holding → Holding → Result T E → Type 0
-HasFinished before now (Ok x) = (is_failing before.calls ≡ false) × (now ≡ record { held = before.held; room = before.room; most = before.most; calls = passed before.calls })
-HasFinished before now (Err e) = (is_failing before.calls ≡ true) × (now ≡ after_fault before)
+HasFinished before now (Ok x) = (is_failing before.calls ≡ false) × (now ≡ record { held = before.held; room = before.room; most = before.most; calls = passed before.calls; ending = finished_once before.ending })
+HasFinished before now (Err e) = (is_failing before.calls ≡ true) × (now ≡ after_fault (finished_once before.ending) before)
 
 -- A shelf: its texts, its calls, and how many of them failed at a name that has a text.
 pub record Shelved : Type 0 where

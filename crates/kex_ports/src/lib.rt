@@ -4,7 +4,9 @@
 //! Stands on codes, for want of memory alone. The traits' clauses say that a call fails only where its count of faults rises.
 #![tactic(auto)]
 
+mod asked;
 mod calls;
+mod ending;
 mod fault;
 mod gate;
 mod shelf;

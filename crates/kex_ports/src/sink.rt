@@ -4,9 +4,11 @@ ghost use Rattle.std.specs.Io.KnownBytes.{Appends, Keeps};
 ghost use Rattle.kex_ports.specs.Bytes.{AppendsFront, TakesSome};
 ghost use Rattle.kex_ports.specs.Calls.{none_made};
 ghost use Rattle.kex_ports.specs.Causes.{HasCause};
+ghost use Rattle.kex_ports.specs.Endings.{Ending, IsWritten, finished, never_ended};
 ghost use Rattle.kex_ports.specs.InMemory.{HasFinished, HasWritten};
 
 use crate::calls::Calls;
+use crate::ending::Ending;
 use crate::fault::Failed;
 use kex_code::memory::Memory;
 use std::alloc::Global;
@@ -20,17 +22,22 @@ pub trait Sink {
     /// How often it has failed.
     ghost faults: { Self → ℕ };
 
+    /// How it was ended, where the sink tells it.
+    ghost ending: { Self → Option Ending };
+
     /// Takes at least one byte of a piece that isn't empty, from its front.
     fn write(&mut self, bytes: &[u8]) -> Result<usize, Failed>
         ensures bound { TakesSome result bytes.now }
         ensures taken { IfOk result (λ n. Appends (held self.old) (held self.new) (take n bytes.now)) }
         ensures failed { OnErr result (AppendsFront (held self.old) (held self.new) bytes.now) }
-        ensures cause { HasCause (faults self.old) (faults self.new) result };
+        ensures cause { HasCause (faults self.old) (faults self.new) result }
+        ensures ending { IsWritten (ending self.old) (ending self.new) result };
 
     /// Ends the output.
     fn finish(&mut self) -> Result<(), Failed>
         ensures held { Keeps (held self.old) (held self.new) }
-        ensures cause { HasCause (faults self.old) (faults self.new) result };
+        ensures cause { HasCause (faults self.old) (faults self.new) result }
+        ensures ending { ending self.new ≡ finished (ending self.old) };
 }
 
 /// Output in memory, with room that was made ahead, of which a write takes at most so many bytes. The calls with these
@@ -41,6 +48,7 @@ pub struct MemSink {
     room: usize,
     per_write: usize,
     calls: Calls,
+    ending: Ending,
 }
 
 impl Model for MemSink {
@@ -49,7 +57,7 @@ impl Model for MemSink {
 
     ghost Value = { Holding };
 
-    ghost view = { λ s. record { held = s.held.items; room = s.room; most = s.per_write; calls = s.calls } };
+    ghost view = { λ s. record { held = s.held.items; room = s.room; most = s.per_write; calls = s.calls; ending = s.ending } };
 
     ghost invariant = { λ s. (vec_len s.held ≤ s.room) × (s.room ≤ vec_capacity s.held) × (0 < s.per_write) };
 }
@@ -63,13 +71,14 @@ impl MemSink {
         fails: Vec<u64>,
     ) -> Result<Self, Memory>
         requires { 0 < per_write }
-        ensures { IfOk result (λ s. s ≡ record { held = []; room = room; most = per_write; calls = none_made fails.items }) }
+        ensures { IfOk result (λ s. s ≡ record { held = []; room = room; most = per_write; calls = none_made fails.items; ending = never_ended }) }
     {
         Ok(MemSink {
             held: Vec::with_capacity(alloc, room)?,
             room,
             per_write,
             calls: Calls::new(fails),
+            ending: Ending::new(),
         })
     }
 
@@ -86,32 +95,40 @@ impl Sink for MemSink {
 
     ghost faults = { λ s. s.calls.faults };
 
+    ghost ending = { λ s. Some s.ending };
+
     fn write(&mut self, bytes: &[u8]) -> Result<usize, Failed>
         ensures bound { TakesSome result bytes.now }
         ensures taken { IfOk result (λ n. Appends (Some self.old.held) (Some self.new.held) (take n bytes.now)) }
         ensures failed { OnErr result (AppendsFront (Some self.old.held) (Some self.new.held) bytes.now) }
         ensures cause { HasCause self.old.calls.faults self.new.calls.faults result }
+        ensures ending { IsWritten (Some self.old.ending) (Some self.new.ending) result }
         ensures exact { HasWritten self.old self.new bytes.now result }
     {
         let count = bytes.len().min(self.per_write);
         let is_past = count > self.room - self.held.len();
         if is_past || self.calls.is_next_failing() {
             self.calls.fail();
+            self.ending.fail_to_write();
             return Err(Failed);
         }
         if self.held.extend_from_slice(&bytes[..count]).is_err() {
             self.calls.fail();
+            self.ending.fail_to_write();
             return Err(Failed);
         }
         self.calls.pass();
+        self.ending.write();
         Ok(count)
     }
 
     fn finish(&mut self) -> Result<(), Failed>
         ensures held { Keeps (Some self.old.held) (Some self.new.held) }
         ensures cause { HasCause self.old.calls.faults self.new.calls.faults result }
+        ensures ending { Some self.new.ending ≡ finished (Some self.old.ending) }
         ensures exact { HasFinished self.old self.new result }
     {
+        self.ending.finish();
         if self.calls.is_next_failing() {
             self.calls.fail();
             return Err(Failed);
@@ -130,11 +147,14 @@ impl Sink for NeverFailsSink {
 
     ghost faults = { λ _. 0 };
 
+    ghost ending = { λ _. None };
+
     fn write(&mut self, bytes: &[u8]) -> Result<usize, Failed>
         ensures bound { TakesSome result bytes.now }
         ensures taken { IfOk result (λ n. Appends None None (take n bytes.now)) }
         ensures failed { OnErr result (AppendsFront None None bytes.now) }
         ensures cause { HasCause 0 0 result }
+        ensures ending { IsWritten None None result }
         ensures exact { result ≡ Ok (length bytes.now) }
     {
         Ok(bytes.len())
@@ -143,6 +163,7 @@ impl Sink for NeverFailsSink {
     fn finish(&mut self) -> Result<(), Failed>
         ensures held { Keeps None None }
         ensures cause { HasCause 0 0 result }
+        ensures ending { None ≡ finished None }
         ensures exact { IsOk result }
     {
         Ok(())

@@ -1,11 +1,13 @@
 // Where input comes from.
-ghost use Rattle.std.specs.Prelude.{◌≡◌, ◌<◌, ◌≤◌, List, ℕ, Option, Some, OnErr, IfOk, length, drop, take, min, vec_len};
+ghost use Rattle.std.specs.Prelude.{◌≡◌, ◌<◌, ◌≤◌, List, ℕ, Option, Some, None, OnErr, IfOk, length, drop, take, min, vec_len};
 ghost use Rattle.std.specs.Io.{ReadsAtMost};
 ghost use Rattle.std.specs.Io.KnownBytes.{ReadConsumes};
 ghost use Rattle.kex_ports.specs.Calls.{none_made};
 ghost use Rattle.kex_ports.specs.Causes.{HasCause};
 ghost use Rattle.kex_ports.specs.InMemory.{HasRead};
+ghost use Rattle.kex_ports.specs.Reads.{HasAsked, Reads, no_reads};
 
+use crate::asked::Asked;
 use crate::calls::Calls;
 use crate::fault::Failed;
 use std::marker::Model;
@@ -18,12 +20,16 @@ pub trait Source {
     /// How often it has failed.
     ghost faults: { Self → ℕ };
 
+    /// What its reads asked for and the last one gave, where the source tells it.
+    ghost reads: { Self → Option Reads };
+
     /// Reads at least one byte, or 0 at the end of input.
     fn read(&mut self, buf: &mut [u8]) -> Result<usize, Failed>
         requires { 0 < length buf.old }
         ensures bound { ReadsAtMost result buf.new }
         ensures bytes { ReadConsumes (rest self.old) (rest self.new) result buf.new }
-        ensures cause { HasCause (faults self.old) (faults self.new) result };
+        ensures cause { HasCause (faults self.old) (faults self.new) result }
+        ensures asked { HasAsked (reads self.old) (reads self.new) (length buf.old) result };
 }
 
 // The bytes from a place on.
@@ -53,6 +59,7 @@ pub struct MemSource {
     at: usize,
     per_read: usize,
     calls: Calls,
+    asked: Asked,
 }
 
 impl Model for MemSource {
@@ -61,7 +68,7 @@ impl Model for MemSource {
 
     ghost Value = { Reading };
 
-    ghost view = { λ s. record { left = drop s.at s.bytes.items; most = s.per_read; calls = s.calls } };
+    ghost view = { λ s. record { left = drop s.at s.bytes.items; most = s.per_read; calls = s.calls; reads = s.asked } };
 
     ghost invariant = { λ s. (s.at ≤ vec_len s.bytes) × (0 < s.per_read) };
 }
@@ -70,13 +77,14 @@ impl MemSource {
     /// A read gives at most `per_read` bytes, and the calls numbered in `fails` fail.
     pub fn new(bytes: Vec<u8>, per_read: usize, fails: Vec<u64>) -> Self
         requires { 0 < per_read }
-        ensures { result ≡ record { left = bytes.items; most = per_read; calls = none_made fails.items } }
+        ensures { result ≡ record { left = bytes.items; most = per_read; calls = none_made fails.items; reads = no_reads } }
     {
         MemSource {
             bytes,
             at: 0,
             per_read,
             calls: Calls::new(fails),
+            asked: Asked::new(),
         }
     }
 
@@ -93,22 +101,27 @@ impl Source for MemSource {
 
     ghost faults = { λ s. s.calls.faults };
 
+    ghost reads = { λ s. Some s.reads };
+
     fn read(&mut self, buf: &mut [u8]) -> Result<usize, Failed>
         requires { 0 < length buf.old }
         ensures bound { ReadsAtMost result buf.new }
         ensures bytes { ReadConsumes (Some self.old.left) (Some self.new.left) result buf.new }
         ensures cause { HasCause self.old.calls.faults self.new.calls.faults result }
+        ensures asked { HasAsked (Some self.old.reads) (Some self.new.reads) (length buf.old) result }
         ensures exact { HasRead self.old self.new (length buf.old) result }
         ensures beyond { IfOk result (λ n. drop n buf.new ≡ drop n buf.old) }
         ensures untouched { OnErr result (buf.new ≡ buf.old) }
     {
         if self.calls.is_next_failing() {
             self.calls.fail();
+            self.asked.note(buf.len(), 0);
             return Err(Failed);
         }
         self.calls.pass();
         let count = copy_front(bytes_from(&self.bytes, self.at), self.per_read, buf);
         self.at += count;
+        self.asked.note(buf.len(), count);
         Ok(count)
     }
 }
@@ -143,11 +156,14 @@ impl Source for NeverFailsSource {
 
     ghost faults = { λ _. 0 };
 
+    ghost reads = { λ _. None };
+
     fn read(&mut self, buf: &mut [u8]) -> Result<usize, Failed>
         requires { 0 < length buf.old }
         ensures bound { ReadsAtMost result buf.new }
         ensures bytes { ReadConsumes (Some self.old) (Some self.new) result buf.new }
         ensures cause { HasCause 0 0 result }
+        ensures asked { HasAsked None None (length buf.old) result }
         ensures exact { result ≡ Ok (min (length buf.old) (length self.old)) }
         ensures beyond { IfOk result (λ n. drop n buf.new ≡ drop n buf.old) }
     {

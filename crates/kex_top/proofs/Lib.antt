@@ -5,3 +5,4 @@ pub mod Placing
 pub mod Running
 pub mod Calling
 pub mod Completing
+pub mod Closing

@@ -9,6 +9,8 @@ use Rattle.kex_compile.specs.Compiled.{Accepts, IsRefused}
 use Rattle.kex_compile.specs.declared.limits.Limits.{Limits}
 use Rattle.kex_compile.specs.declared.refusal.CompileRefusal.{CompileRefusal}
 use Rattle.kex_compile.specs.declared.refusal.CompileRefusal.TheVariants as compile
+use Rattle.kex_words.specs.Words.{Reach, asked_of}
+use Rattle.kex_words.specs.Words.Asked.{ToCheck, ToRun}
 use Rattle.kex_words.specs.Gains.{Change, GainsFront, GainsWhole}
 use Rattle.kex_words.specs.Lines.{counts_line}
 use Rattle.kex_words.specs.declared.refusals.Place.TheVariants.{At, Nowhere, Stage}
@@ -39,6 +41,17 @@ pub record ShelfChange : Type 0 where
 
 abbrev pub shelf_change : ℕ → ℕ → ℕ → ℕ → ShelfChange
 shelf_change a b c d = record { faults_before = a; faults_now = b; breaks_before = c; breaks_now = d }
+
+-- the counts of a shelf in one state and in another
+abbrev pub shelf_change_of : {H : Type 0} → (H → ℕ) → (H → ℕ) → H → H → ShelfChange
+shelf_change_of faults breaks old new = shelf_change (faults old) (faults new) (breaks old) (breaks new)
+
+-- where the words ask to run a program, or to check one, this holds of its name
+abbrev pub WhereRun : List (List ℕ) → (List ℕ → Reach → Type 0) → Type 0
+WhereRun words P = (name : List ℕ) (reach : Reach) → asked_of words ≡ Some (ToRun name reach) → P name reach
+
+abbrev pub WhereCheck : List (List ℕ) → (List ℕ → Type 0) → Type 0
+WhereCheck words P = (name : List ℕ) → asked_of words ≡ Some (ToCheck name) → P name
 
 abbrev pub ShelfIsLeft : ShelfChange → Type 0
 ShelfIsLeft s = (s.faults_now ≡ s.faults_before) × (s.breaks_now ≡ s.breaks_before)

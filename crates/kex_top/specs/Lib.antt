@@ -1,6 +1,7 @@
 pub mod Answer
 pub mod History
 pub mod Run
+pub mod Outside
 pub mod Status
 pub mod Pipelines
 pub mod PipelineLaws

@@ -1,12 +1,15 @@
 // The program over the objects that it is handed.
 ghost use Rattle.std.specs.Prelude.{◌≡◌, ◌⊎◌, ℕ, List, Some, None, map, string_bytes};
+ghost use Rattle.kex_ports.specs.Endings.{finishes_of};
+ghost use Rattle.kex_ports.specs.Reads.{last_given};
 ghost use Rattle.kex_ports.specs.Shelf.{told_of};
 ghost use Rattle.kex_words.specs.Words.{Reach, asked_of};
 ghost use Rattle.kex_words.specs.Words.Asked.{ToCheck, ToRun};
-ghost use Rattle.kex_words.specs.Gains.{Gains, change};
+ghost use Rattle.kex_words.specs.Gains.{Gains, change_of};
 ghost use Rattle.kex_words.specs.Lines.{line_of};
 ghost use Rattle.kex_top.specs.Status.{note_of};
-ghost use Rattle.kex_top.specs.Kex.{Answers, AnswersNothing, Checks, Headline, IsGood, IsSound, ShelfAnswers, shelf_change};
+ghost use Rattle.kex_top.specs.Kex.{WhereCheck, WhereRun, Answers, AnswersNothing, Checks, Headline, IsGood, IsSound, ShelfAnswers, shelf_change_of};
+ghost use Rattle.kex_top.specs.Outside.{Closes, ReadsBlocks};
 ghost use Rattle.kex_top.specs.declared.status.Status.TheVariants.{Done, Memory};
 
 use crate::check::answer_check;
@@ -34,10 +37,12 @@ fn answer_run<H: Shelf, S: Source, K: Sink>(
 ) -> Status
     ensures texts { H.texts shelf.new ≡ H.texts shelf.old }
     ensures shelf { ShelfAnswers (told_of (H.texts shelf.old) program.now)
-        (shelf_change (H.faults shelf.old) (H.faults shelf.new) (H.breaks shelf.old) (H.breaks shelf.new)) result }
-    ensures answers { Answers limits.max_input limits.block (told_of (H.texts shelf.old) program.now)
-        (change (S.rest input.old) (S.rest input.new) (S.faults input.old) (S.faults input.new))
-        (change (K.held output.old) (K.held output.new) (K.faults output.old) (K.faults output.new)) result }
+        (shelf_change_of H.faults H.breaks shelf.old shelf.new) result }
+    ensures answers { Answers limits.max_input (last_given limits.block (S.reads input.new)) (told_of (H.texts shelf.old) program.now)
+        (change_of S.rest S.faults input.old input.new)
+        (change_of K.held K.faults output.old output.new) result }
+    ensures blocks { ReadsBlocks limits.block (S.reads input.old) (S.reads input.new) result }
+    ensures closes { Closes (K.ending output.old) (K.ending output.new) result }
 {
     let text = match shelf.take(alloc, program, MOST_TEXT) {
         Ok(text) => text,
@@ -62,19 +67,22 @@ fn answer<H: Shelf, S: Source, K: Sink>(
 ) -> Status
     ensures texts { H.texts shelf.new ≡ H.texts shelf.old }
     ensures usage { asked_of (map string_bytes words.now) ≡ None → AnswersNothing
-        (shelf_change (H.faults shelf.old) (H.faults shelf.new) (H.breaks shelf.old) (H.breaks shelf.new))
-        (change (S.rest input.old) (S.rest input.new) (S.faults input.old) (S.faults input.new))
-        (change (K.held output.old) (K.held output.new) (K.faults output.old) (K.faults output.new)) result }
-    ensures shelf { (name : List ℕ) (reach : Reach) → asked_of (map string_bytes words.now) ≡ Some (ToRun name reach) → ShelfAnswers (told_of (H.texts shelf.old) name)
-        (shelf_change (H.faults shelf.old) (H.faults shelf.new) (H.breaks shelf.old) (H.breaks shelf.new)) result }
-    ensures answers { (name : List ℕ) (reach : Reach) → asked_of (map string_bytes words.now) ≡ Some (ToRun name reach) → Answers reach.max_input reach.block (told_of (H.texts shelf.old) name)
-        (change (S.rest input.old) (S.rest input.new) (S.faults input.old) (S.faults input.new))
-        (change (K.held output.old) (K.held output.new) (K.faults output.old) (K.faults output.new)) result }
-    ensures check_shelf { (name : List ℕ) → asked_of (map string_bytes words.now) ≡ Some (ToCheck name) → ShelfAnswers (told_of (H.texts shelf.old) name)
-        (shelf_change (H.faults shelf.old) (H.faults shelf.new) (H.breaks shelf.old) (H.breaks shelf.new)) result }
-    ensures checks { (name : List ℕ) → asked_of (map string_bytes words.now) ≡ Some (ToCheck name) → Checks (told_of (H.texts shelf.old) name)
-        (change (S.rest input.old) (S.rest input.new) (S.faults input.old) (S.faults input.new))
-        (change (K.held output.old) (K.held output.new) (K.faults output.old) (K.faults output.new)) result }
+        (shelf_change_of H.faults H.breaks shelf.old shelf.new)
+        (change_of S.rest S.faults input.old input.new)
+        (change_of K.held K.faults output.old output.new) result }
+    ensures shelf { WhereRun (map string_bytes words.now) (λ name reach. ShelfAnswers (told_of (H.texts shelf.old) name)
+        (shelf_change_of H.faults H.breaks shelf.old shelf.new) result) }
+    ensures answers { WhereRun (map string_bytes words.now) (λ name reach. Answers reach.max_input (last_given reach.block (S.reads input.new)) (told_of (H.texts shelf.old) name)
+        (change_of S.rest S.faults input.old input.new)
+        (change_of K.held K.faults output.old output.new) result) }
+    ensures check_shelf { WhereCheck (map string_bytes words.now) (λ name. ShelfAnswers (told_of (H.texts shelf.old) name)
+        (shelf_change_of H.faults H.breaks shelf.old shelf.new) result) }
+    ensures checks { WhereCheck (map string_bytes words.now) (λ name. Checks (told_of (H.texts shelf.old) name)
+        (change_of S.rest S.faults input.old input.new)
+        (change_of K.held K.faults output.old output.new) result) }
+    ensures blocks { WhereRun (map string_bytes words.now) (λ name reach. ReadsBlocks reach.block (S.reads input.old) (S.reads input.new) result) }
+    ensures unread { WhereCheck (map string_bytes words.now) (λ name. input.new ≡ input.old) }
+    ensures closes { Closes (K.ending output.old) (K.ending output.new) result }
 {
     match read(alloc, words) {
         Ok(Command::Run { program, limits }) => {
@@ -103,35 +111,39 @@ pub fn kex<R: Threads + Sync, H: Shelf, S: Source, K: Sink, N: Sink, G: Gate + S
 ) -> Status
     ensures texts { H.texts shelf.new ≡ H.texts shelf.old }
     ensures usage { asked_of (map string_bytes words.now) ≡ None → AnswersNothing
-        (shelf_change (H.faults shelf.old) (H.faults shelf.new) (H.breaks shelf.old) (H.breaks shelf.new))
-        (change (S.rest input.old) (S.rest input.new) (S.faults input.old) (S.faults input.new))
-        (change (K.held output.old) (K.held output.new) (K.faults output.old) (K.faults output.new)) result }
-    ensures shelf { (name : List ℕ) (reach : Reach) → asked_of (map string_bytes words.now) ≡ Some (ToRun name reach) → ShelfAnswers (told_of (H.texts shelf.old) name)
-        (shelf_change (H.faults shelf.old) (H.faults shelf.new) (H.breaks shelf.old) (H.breaks shelf.new)) result }
-    ensures answers { (name : List ℕ) (reach : Reach) → asked_of (map string_bytes words.now) ≡ Some (ToRun name reach) → Answers reach.max_input reach.block (told_of (H.texts shelf.old) name)
-        (change (S.rest input.old) (S.rest input.new) (S.faults input.old) (S.faults input.new))
-        (change (K.held output.old) (K.held output.new) (K.faults output.old) (K.faults output.new)) result }
-    ensures complete { (name : List ℕ) (reach : Reach) → asked_of (map string_bytes words.now) ≡ Some (ToRun name reach) → IsGood reach.max_input (told_of (H.texts shelf.old) name)
-        (shelf_change (H.faults shelf.old) (H.faults shelf.new) (H.breaks shelf.old) (H.breaks shelf.new))
-        (change (S.rest input.old) (S.rest input.new) (S.faults input.old) (S.faults input.new))
-        (change (K.held output.old) (K.held output.new) (K.faults output.old) (K.faults output.new))
-        → (result ≡ Done) ⊎ (result ≡ Memory) }
+        (shelf_change_of H.faults H.breaks shelf.old shelf.new)
+        (change_of S.rest S.faults input.old input.new)
+        (change_of K.held K.faults output.old output.new) result }
+    ensures shelf { WhereRun (map string_bytes words.now) (λ name reach. ShelfAnswers (told_of (H.texts shelf.old) name)
+        (shelf_change_of H.faults H.breaks shelf.old shelf.new) result) }
+    ensures answers { WhereRun (map string_bytes words.now) (λ name reach. Answers reach.max_input (last_given reach.block (S.reads input.new)) (told_of (H.texts shelf.old) name)
+        (change_of S.rest S.faults input.old input.new)
+        (change_of K.held K.faults output.old output.new) result) }
+    ensures complete { WhereRun (map string_bytes words.now) (λ name reach. IsGood reach.max_input (told_of (H.texts shelf.old) name)
+        (shelf_change_of H.faults H.breaks shelf.old shelf.new)
+        (change_of S.rest S.faults input.old input.new)
+        (change_of K.held K.faults output.old output.new)
+        → (result ≡ Done) ⊎ (result ≡ Memory)) }
     // What is told of shelf, source and sink, and the answer Done, fix the output.
     ensures headline { (name : List ℕ) (reach : Reach) (text input_bytes before : List ℕ) → asked_of (map string_bytes words.now) ≡ Some (ToRun name reach)
         → told_of (H.texts shelf.old) name ≡ Some (Some text)
         → S.rest input.old ≡ Some input_bytes → K.held output.old ≡ Some before → result ≡ Done
         → Headline text reach.max_input input_bytes before (S.rest input.new) (K.held output.new) }
-    ensures check_shelf { (name : List ℕ) → asked_of (map string_bytes words.now) ≡ Some (ToCheck name) → ShelfAnswers (told_of (H.texts shelf.old) name)
-        (shelf_change (H.faults shelf.old) (H.faults shelf.new) (H.breaks shelf.old) (H.breaks shelf.new)) result }
-    ensures checks { (name : List ℕ) → asked_of (map string_bytes words.now) ≡ Some (ToCheck name) → Checks (told_of (H.texts shelf.old) name)
-        (change (S.rest input.old) (S.rest input.new) (S.faults input.old) (S.faults input.new))
-        (change (K.held output.old) (K.held output.new) (K.faults output.old) (K.faults output.new)) result }
-    ensures check_complete { (name : List ℕ) → asked_of (map string_bytes words.now) ≡ Some (ToCheck name) → IsSound (told_of (H.texts shelf.old) name)
-        (shelf_change (H.faults shelf.old) (H.faults shelf.new) (H.breaks shelf.old) (H.breaks shelf.new))
-        (change (K.held output.old) (K.held output.new) (K.faults output.old) (K.faults output.new))
-        → (result ≡ Done) ⊎ (result ≡ Memory) }
+    ensures check_shelf { WhereCheck (map string_bytes words.now) (λ name. ShelfAnswers (told_of (H.texts shelf.old) name)
+        (shelf_change_of H.faults H.breaks shelf.old shelf.new) result) }
+    ensures checks { WhereCheck (map string_bytes words.now) (λ name. Checks (told_of (H.texts shelf.old) name)
+        (change_of S.rest S.faults input.old input.new)
+        (change_of K.held K.faults output.old output.new) result) }
+    ensures check_complete { WhereCheck (map string_bytes words.now) (λ name. IsSound (told_of (H.texts shelf.old) name)
+        (shelf_change_of H.faults H.breaks shelf.old shelf.new)
+        (change_of K.held K.faults output.old output.new)
+        → (result ≡ Done) ⊎ (result ≡ Memory)) }
+    ensures blocks { WhereRun (map string_bytes words.now) (λ name reach. ReadsBlocks reach.block (S.reads input.old) (S.reads input.new) result) }
+    ensures unread { WhereCheck (map string_bytes words.now) (λ name. input.new ≡ input.old) }
+    ensures closes { Closes (K.ending output.old) (K.ending output.new) result }
+    ensures unfinished { finishes_of (N.ending notes.new) ≡ finishes_of (N.ending notes.old) }
     ensures silent { result ≡ Done → notes.new ≡ notes.old }
-    ensures note { Gains (change (N.held notes.old) (N.held notes.new) (N.faults notes.old) (N.faults notes.new)) (line_of (note_of result)) }
+    ensures note { Gains (change_of N.held N.faults notes.old notes.new) (line_of (note_of result)) }
 {
     let status = answer(alloc, words, shelf, input, output);
     tell(status.note(), notes);

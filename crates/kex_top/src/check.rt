@@ -1,9 +1,10 @@
 // The command that checks a program.
 ghost use Rattle.std.specs.Prelude.{◌≡◌, length};
 ghost use Rattle.kex_ports.specs.Shelf.{told_of};
-ghost use Rattle.kex_words.specs.Gains.{Change, change};
+ghost use Rattle.kex_words.specs.Gains.{Change, change_of};
 ghost use Rattle.kex_words.specs.Lines.{counts_line};
-ghost use Rattle.kex_top.specs.Kex.{Checks, ShelfAnswers, Told, shelf_change};
+ghost use Rattle.kex_top.specs.Kex.{Checks, ShelfAnswers, Told, shelf_change_of};
+ghost use Rattle.kex_top.specs.Outside.{Closes};
 ghost use Rattle.kex_top.specs.Run.{IsLeft};
 
 use crate::call::MOST_TEXT;
@@ -18,8 +19,9 @@ use std::alloc::Global;
 
 // Writes how many stages and places there are, and closes the output.
 fn tell_counts<K: Sink>(compiled: &Compiled, output: &mut K) -> Status
-    ensures { Told (counts_line (record { stages = length compiled.now.stages; places = compiled.now.places }))
-        (change (K.held output.old) (K.held output.new) (K.faults output.old) (K.faults output.new)) result }
+    ensures told { Told (counts_line (record { stages = length compiled.now.stages; places = compiled.now.places }))
+        (change_of K.held K.faults output.old output.new) result }
+    ensures closes { Closes (K.ending output.old) (K.ending output.new) result }
 {
     let counts = Counts {
         stages: compiled.stages().len() as u32,
@@ -43,9 +45,10 @@ pub(crate) fn answer_check<H: Shelf, K: Sink>(
 ) -> Status
     ensures texts { H.texts shelf.new ≡ H.texts shelf.old }
     ensures shelf { ShelfAnswers (told_of (H.texts shelf.old) program.now)
-        (shelf_change (H.faults shelf.old) (H.faults shelf.new) (H.breaks shelf.old) (H.breaks shelf.new)) result }
+        (shelf_change_of H.faults H.breaks shelf.old shelf.new) result }
     ensures checks { (source : Change) → IsLeft source → Checks (told_of (H.texts shelf.old) program.now) source
-        (change (K.held output.old) (K.held output.new) (K.faults output.old) (K.faults output.new)) result }
+        (change_of K.held K.faults output.old output.new) result }
+    ensures closes { Closes (K.ending output.old) (K.ending output.new) result }
 {
     let text = match shelf.take(alloc, program, MOST_TEXT) {
         Ok(text) => text,

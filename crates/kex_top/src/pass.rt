@@ -1,5 +1,6 @@
 // One piece through a worker into a sink.
 ghost use Rattle.std.specs.Prelude.{◌≡◌, ◌++◌, true, false, List, ℕ, Option, Some, None, IfErr, IfOk, OnOk};
+ghost use Rattle.kex_ports.specs.Endings.{IsUnfinished};
 ghost use Rattle.kex_top.specs.History.{History, bytes_of, is_ended, Writes, WritesUpTo};
 ghost use Rattle.kex_top.specs.Run.{TroubleCause};
 
@@ -29,6 +30,7 @@ pub(crate) fn pass<T: Worker, K: Sink>(
     ensures trouble { IfErr result (λ trouble. (h : History) → T.stands worker.old h → is_ended h ≡ false
         → WritesUpTo (T.says (T.plan worker.old)) h (bytes_of h ++ piece.now) false (K.held output.old) (K.held output.new) trouble) }
     ensures cause { TroubleCause (K.faults output.old) (K.faults output.new) result }
+    ensures unfinished { IsUnfinished (K.ending output.old) (K.ending output.new) result }
 {
     let fate = match worker.feed(piece, out) {
         Ok(fate) => fate,
@@ -53,6 +55,7 @@ pub(crate) fn pass_end<T: Worker, K: Sink>(
     ensures trouble { IfErr result (λ trouble. (h : History) → T.stands worker.old h → is_ended h ≡ false
         → WritesUpTo (T.says (T.plan worker.old)) h (bytes_of h) true (K.held output.old) (K.held output.new) trouble) }
     ensures cause { TroubleCause (K.faults output.old) (K.faults output.new) result }
+    ensures unfinished { IsUnfinished (K.ending output.old) (K.ending output.new) result }
 {
     let fate = match worker.end(out) {
         Ok(fate) => fate,

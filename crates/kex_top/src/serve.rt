@@ -1,6 +1,8 @@
 // A program's stages over a source into a sink.
 ghost use Rattle.std.specs.Prelude.{◌≡◌, ◌⊎◌, ◌<◌, IfOk, None, length};
-ghost use Rattle.kex_words.specs.Gains.{change};
+ghost use Rattle.kex_ports.specs.Reads.{last_given};
+ghost use Rattle.kex_words.specs.Gains.{change_of};
+ghost use Rattle.kex_top.specs.Outside.{Closes, ReadsBlocks};
 ghost use Rattle.kex_top.specs.Piped.{PipeStands, plans_of};
 ghost use Rattle.kex_top.specs.Pipelines.{NodesSay, stage_plans};
 ghost use Rattle.kex_top.specs.Run.{Left, Ran};
@@ -45,11 +47,13 @@ pub(crate) fn serve<S: Source, K: Sink>(
     output: &mut K,
 ) -> Status
     requires { 0 < length compiled.now.stages }
-    ensures { (Left (change (S.rest input.old) (S.rest input.new) (S.faults input.old) (S.faults input.new))
-        (change (K.held output.old) (K.held output.new) (K.faults output.old) (K.faults output.new)) × (result ≡ Status.Memory))
-        ⊎ Ran (NodesSay (stage_plans limits.max_input compiled.now.stages)) limits.block
-        (change (S.rest input.old) (S.rest input.new) (S.faults input.old) (S.faults input.new))
-        (change (K.held output.old) (K.held output.new) (K.faults output.old) (K.faults output.new)) result }
+    ensures ran { (Left (change_of S.rest S.faults input.old input.new)
+        (change_of K.held K.faults output.old output.new) × (result ≡ Status.Memory))
+        ⊎ Ran (NodesSay (stage_plans limits.max_input compiled.now.stages)) (last_given limits.block (S.reads input.new))
+        (change_of S.rest S.faults input.old input.new)
+        (change_of K.held K.faults output.old output.new) result }
+    ensures blocks { ReadsBlocks limits.block (S.reads input.old) (S.reads input.new) result }
+    ensures closes { Closes (K.ending output.old) (K.ending output.new) result }
 {
     let Ok(mut pipe) = pipe_of(alloc, compiled.stages(), limits.max_input) else {
         return Status::Memory;

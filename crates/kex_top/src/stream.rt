@@ -1,6 +1,8 @@
 // The loop from a source through a worker into a sink.
 ghost use Rattle.std.specs.Prelude.{◌≡◌, ◌<◌, ◌≤◌, ◌^◌, ℕ, None, length};
-ghost use Rattle.kex_words.specs.Gains.{change};
+ghost use Rattle.kex_ports.specs.Reads.{Asks, last_given};
+ghost use Rattle.kex_words.specs.Gains.{change_of};
+ghost use Rattle.kex_top.specs.Outside.{Closes, IsOpen, ReadsBlocks};
 ghost use Rattle.kex_top.specs.Run.{Pumped, Ran, status_of, status_after, is_whole};
 
 use crate::pass::{Trouble, pass, pass_end};
@@ -46,9 +48,11 @@ pub(crate) fn pump<T: Worker, S: Source, K: Sink>(
     requires fresh { T.stands worker.old None }
     requires limit { (T.limit (T.plan worker.old) ≡ most) × (most ≤ 2 ^ 48) }
     requires block { (0 < length block.old) × (length block.old ≤ 2 ^ 20) }
-    ensures { Pumped (T.says (T.plan worker.old)) (length block.old)
-        (change (S.rest input.old) (S.rest input.new) (S.faults input.old) (S.faults input.new))
-        (change (K.held output.old) (K.held output.new) (K.faults output.old) (K.faults output.new)) result }
+    ensures pumped { Pumped (T.says (T.plan worker.old)) (last_given (length block.old) (S.reads input.new))
+        (change_of S.rest S.faults input.old input.new)
+        (change_of K.held K.faults output.old output.new) result }
+    ensures asks { Asks (length block.old) (S.reads input.old) (S.reads input.new) }
+    ensures unclosed { IsOpen (K.ending output.old) (K.ending output.new) result }
 {
     match pass(worker, &[], out, output) {
         Ok(Fate::On) => {}
@@ -93,9 +97,11 @@ pub(crate) fn run<T: Worker, S: Source, K: Sink>(
 ) -> Status
     requires fresh { T.stands worker.old None }
     requires limit { T.limit (T.plan worker.old) ≡ limits.max_input }
-    ensures { Ran (T.says (T.plan worker.old)) limits.block
-        (change (S.rest input.old) (S.rest input.new) (S.faults input.old) (S.faults input.new))
-        (change (K.held output.old) (K.held output.new) (K.faults output.old) (K.faults output.new)) result }
+    ensures ran { Ran (T.says (T.plan worker.old)) (last_given limits.block (S.reads input.new))
+        (change_of S.rest S.faults input.old input.new)
+        (change_of K.held K.faults output.old output.new) result }
+    ensures blocks { ReadsBlocks limits.block (S.reads input.old) (S.reads input.new) result }
+    ensures closes { Closes (K.ending output.old) (K.ending output.new) result }
 {
     let Ok(mut buffer) = vec![in alloc; 0u8; limits.block as usize] else {
         return Status::Memory;

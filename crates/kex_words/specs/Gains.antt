@@ -14,6 +14,10 @@ pub record Change : Type 0 where
 abbrev pub change : Option (List ℕ) → Option (List ℕ) → ℕ → ℕ → Change
 change old new before now = record { old = old; new = new; before = before; now = now }
 
+-- the change of an object from one state to another, by what it tells and by its count of faults
+abbrev pub change_of : {T : Type 0} → (T → Option (List ℕ)) → (T → ℕ) → T → T → Change
+change_of told faults old new = change (told old) (told new) (faults old) (faults new)
+
 -- The count rose.
 abbrev pub HasFailed : Change → Type 0
 HasFailed c = (c.before ≤ c.now) × Rose c.before c.now

@@ -3,6 +3,7 @@ ghost use Rattle.std.specs.Prelude.{OnOk, OnErr};
 ghost use Rattle.std.specs.Io.KnownBytes.{Appends};
 ghost use Rattle.kex_ports.specs.Bytes.{AppendsFront};
 ghost use Rattle.kex_ports.specs.Causes.{HasCause};
+ghost use Rattle.kex_ports.specs.Endings.{IsUnfinished};
 ghost use Rattle.kex_words.specs.Lines.{counts_line};
 
 use crate::parts::{Part, write_parts};
@@ -21,6 +22,7 @@ pub fn write_counts<K: Sink>(sink: &mut K, counts: Counts) -> Result<(), Failed>
     ensures written { OnOk result (Appends (K.held sink.old) (K.held sink.new) (counts_line counts)) }
     ensures failed { OnErr result (AppendsFront (K.held sink.old) (K.held sink.new) (counts_line counts)) }
     ensures cause { HasCause (K.faults sink.old) (K.faults sink.new) result }
+    ensures unfinished { IsUnfinished (K.ending sink.old) (K.ending sink.new) result }
 {
     write_parts(
         sink,

@@ -1,6 +1,7 @@
 // The line that a run leaves in the notes. It takes no memory.
 ghost use Rattle.std.specs.Prelude.{◌≡◌};
-ghost use Rattle.kex_words.specs.Gains.{Gains, Tells, change};
+ghost use Rattle.kex_ports.specs.Endings.{IsUnfinished, finishes_of};
+ghost use Rattle.kex_words.specs.Gains.{Gains, Tells, change_of};
 ghost use Rattle.kex_words.specs.Lines.{end_of, line_of, refused_line, rejected_line, too_long_line};
 ghost use Rattle.kex_words.specs.declared.notes.Note.TheVariants.{Nothing};
 
@@ -35,8 +36,9 @@ fn end_of(at_end: bool) -> &'static str
 }
 
 fn rejected<N: Sink>(sink: &mut N, stage: u32, at: u64, at_end: bool) -> Result<(), Failed>
-    ensures { Tells (change (N.held sink.old) (N.held sink.new) (N.faults sink.old) (N.faults sink.new))
+    ensures tells { Tells (change_of N.held N.faults sink.old sink.new)
         (rejected_line stage at at_end) result }
+    ensures unfinished { IsUnfinished (N.ending sink.old) (N.ending sink.new) result }
 {
     write_parts(
         sink,
@@ -51,8 +53,9 @@ fn rejected<N: Sink>(sink: &mut N, stage: u32, at: u64, at_end: bool) -> Result<
 }
 
 fn too_long<N: Sink>(sink: &mut N, stage: u32, at: u64) -> Result<(), Failed>
-    ensures { Tells (change (N.held sink.old) (N.held sink.new) (N.faults sink.old) (N.faults sink.new))
+    ensures tells { Tells (change_of N.held N.faults sink.old sink.new)
         (too_long_line stage at) result }
+    ensures unfinished { IsUnfinished (N.ending sink.old) (N.ending sink.new) result }
 {
     write_parts(
         sink,
@@ -67,8 +70,9 @@ fn too_long<N: Sink>(sink: &mut N, stage: u32, at: u64) -> Result<(), Failed>
 }
 
 fn refused<N: Sink>(sink: &mut N, refusal: Refusal) -> Result<(), Failed>
-    ensures { Tells (change (N.held sink.old) (N.held sink.new) (N.faults sink.old) (N.faults sink.new))
+    ensures tells { Tells (change_of N.held N.faults sink.old sink.new)
         (refused_line refusal) result }
+    ensures unfinished { IsUnfinished (N.ending sink.old) (N.ending sink.new) result }
 {
     let title = refusal.rule.title();
     match refusal.place {
@@ -102,8 +106,9 @@ fn refused<N: Sink>(sink: &mut N, refusal: Refusal) -> Result<(), Failed>
 }
 
 fn line<N: Sink>(sink: &mut N, note: Note) -> Result<(), Failed>
-    ensures tells { Tells (change (N.held sink.old) (N.held sink.new) (N.faults sink.old) (N.faults sink.new))
+    ensures tells { Tells (change_of N.held N.faults sink.old sink.new)
         (line_of note) result }
+    ensures unfinished { IsUnfinished (N.ending sink.old) (N.ending sink.new) result }
     ensures left { note ≡ Nothing → sink.new ≡ sink.old }
 {
     match note {
@@ -121,7 +126,8 @@ fn line<N: Sink>(sink: &mut N, note: Note) -> Result<(), Failed>
 
 /// Writes the note's line, or a front of it where the sink fails. Where the note is `Nothing`, the sink isn't called.
 pub fn tell<N: Sink>(note: Note, sink: &mut N)
-    ensures tells { Gains (change (N.held sink.old) (N.held sink.new) (N.faults sink.old) (N.faults sink.new)) (line_of note) }
+    ensures tells { Gains (change_of N.held N.faults sink.old sink.new) (line_of note) }
+    ensures unfinished { finishes_of (N.ending sink.new) ≡ finishes_of (N.ending sink.old) }
     ensures left { note ≡ Nothing → sink.new ≡ sink.old }
 {
     let _ = line(sink, note);

@@ -1,7 +1,8 @@
 // A line in parts, which is written without taking memory.
 ghost use Rattle.std.specs.Prelude.{decimal, map};
 ghost use Rattle.std.specs.List.{concat};
-ghost use Rattle.kex_words.specs.Gains.{Tells, change};
+ghost use Rattle.kex_ports.specs.Endings.{IsUnfinished};
+ghost use Rattle.kex_words.specs.Gains.{Tells, change_of};
 ghost use Rattle.kex_words.specs.Parts.{bytes_of};
 
 use crate::writing::write_all;
@@ -15,20 +16,23 @@ pub(crate) enum Part<'a> {
 }
 
 pub(crate) fn write_text<N: Sink>(sink: &mut N, text: &str) -> Result<(), Failed>
-    ensures { Tells (change (N.held sink.old) (N.held sink.new) (N.faults sink.old) (N.faults sink.new)) text.now result }
+    ensures tells { Tells (change_of N.held N.faults sink.old sink.new) text.now result }
+    ensures unfinished { IsUnfinished (N.ending sink.old) (N.ending sink.new) result }
 {
     write_all(sink, text.as_bytes())
 }
 
 fn write_number<N: Sink>(sink: &mut N, number: u64) -> Result<(), Failed>
-    ensures { Tells (change (N.held sink.old) (N.held sink.new) (N.faults sink.old) (N.faults sink.new)) (decimal number) result }
+    ensures tells { Tells (change_of N.held N.faults sink.old sink.new) (decimal number) result }
+    ensures unfinished { IsUnfinished (N.ending sink.old) (N.ending sink.new) result }
 {
     let mut digits = Buffer::new();
     write_all(sink, digits.format(number).as_bytes())
 }
 
 fn write_part<N: Sink>(sink: &mut N, part: Part) -> Result<(), Failed>
-    ensures { Tells (change (N.held sink.old) (N.held sink.new) (N.faults sink.old) (N.faults sink.new)) (bytes_of part.entry) result }
+    ensures tells { Tells (change_of N.held N.faults sink.old sink.new) (bytes_of part.entry) result }
+    ensures unfinished { IsUnfinished (N.ending sink.old) (N.ending sink.new) result }
 {
     match part {
         Part::Text(text) => write_text(sink, text),
@@ -38,8 +42,9 @@ fn write_part<N: Sink>(sink: &mut N, part: Part) -> Result<(), Failed>
 
 /// Writes the parts one after the other, or a front of them where the sink fails.
 pub(crate) fn write_parts<N: Sink>(sink: &mut N, parts: &[Part]) -> Result<(), Failed>
-    ensures { Tells (change (N.held sink.old) (N.held sink.new) (N.faults sink.old) (N.faults sink.new))
+    ensures tells { Tells (change_of N.held N.faults sink.old sink.new)
         (concat (map bytes_of parts.now)) result }
+    ensures unfinished { IsUnfinished (N.ending sink.old) (N.ending sink.new) result }
 {
     for part in parts {
         write_part(sink, *part)?;

@@ -3,6 +3,7 @@ ghost use Rattle.std.specs.Prelude.{◌≡◌, [], IsOk, OnErr, OnOk};
 ghost use Rattle.std.specs.Io.KnownBytes.{Appends};
 ghost use Rattle.kex_ports.specs.Bytes.{AppendsFront};
 ghost use Rattle.kex_ports.specs.Causes.{HasCause};
+ghost use Rattle.kex_ports.specs.Endings.{IsUnfinished};
 
 use kex_ports::{Failed, Sink};
 
@@ -11,6 +12,7 @@ pub fn write_all<K: Sink>(sink: &mut K, bytes: &[u8]) -> Result<(), Failed>
     ensures written { OnOk result (Appends (K.held sink.old) (K.held sink.new) bytes.now) }
     ensures failed { OnErr result (AppendsFront (K.held sink.old) (K.held sink.new) bytes.now) }
     ensures cause { HasCause (K.faults sink.old) (K.faults sink.new) result }
+    ensures unfinished { IsUnfinished (K.ending sink.old) (K.ending sink.new) result }
     ensures left { bytes.now ≡ [] → IsOk result × (sink.new ≡ sink.old) }
 {
     let mut rest = bytes;

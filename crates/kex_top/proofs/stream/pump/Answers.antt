@@ -1,13 +1,20 @@
-use Rattle.std.proofs.Common.{rules, arith, ◌≡◌, ◌++◌, ◌<◌, [], true, false, refl, take, length, subst}
+use Rattle.std.proofs.Common.{rules, arith, ◌≡◌, ◌++◌, ◌<◌, ◌≤◌, ◌∙◌, ℕ, List, [], true, false, refl, sym, take, length, length-take, subst}
 use Rattle.std.proofs.lemmas.Grind.{common_steps}
 use Rattle.std.specs.Prelude.{Some, None}
-use Rattle.kex_ports.proofs.Known.{consumes-then, consumes-last, consumes-nothing, appends-nothing, append-nil}
+use Rattle.kex_ports.proofs.Known.{consumes-then, consumes-last, consumes-nothing, appends-nothing, appends-same, appends-then, append-nil}
+use Rattle.kex_ports.proofs.Asking.{asks-on, last-read}
+use Rattle.kex_ports.proofs.Endings.{unfinished-on, same-finishes}
 use Rattle.kex_top.specs.History.{Fed}
+use Rattle.kex_top.specs.declared.status.Status.TheVariants.{ReadFault}
+use Rattle.kex_top.proofs.Closing.{open-broken, open-worked}
 use Rattle.kex_top.proofs.Running.{worked, broken, some-not-none}
 use Rattle.kex_top.proofs.stream.pump.Goals as goal
 
-pub returns-in-Ok-pass_end : goal.returns-in-Ok-pass_end
-returns-in-Ok-pass_end g c =
+short-piece : (buf : List ℕ) (n most : ℕ) → n ≤ most → length (take n buf) ≤ most
+short-piece buf n most le = omega (arith, length-take n buf)
+
+pub returns-in-Ok-pass_end-clause-pumped : goal.returns-in-Ok-pass_end-clause-pumped
+returns-in-Ok-pass_end-clause-pumped g c =
     let i = c.reads.invariant in
     let w = i.fed.0 in
     let f : Fed = record { bytes = w; ended = false; said = i.fed.1 } in
@@ -20,8 +27,8 @@ returns-in-Ok-pass_end g c =
     (c.rejected-in-Ok-pass_end.ensures (record { bytes = w; ended = true; said = x.said }) x.stands_for)
     (λ e. refl) (i.fed.1, i.fed.2)
 
-pub returns-in-Err-pass_end : goal.returns-in-Err-pass_end
-returns-in-Err-pass_end g c =
+pub returns-in-Err-pass_end-clause-pumped : goal.returns-in-Err-pass_end-clause-pumped
+returns-in-Err-pass_end-clause-pumped g c =
     let i = c.reads.invariant in
     let w = i.fed.0 in
     let f : Fed = record { bytes = w; ended = false; said = i.fed.1 } in
@@ -33,8 +40,8 @@ returns-in-Err-pass_end g c =
     i.written c.in-Err-pass_end.ensures.cause
     c.status_after-in-Err-pass_end.ensures
 
-pub returns-in-Ok-Stopped-pass : goal.returns-in-Ok-Stopped-pass
-returns-in-Ok-Stopped-pass g c =
+pub returns-in-Ok-Stopped-pass-clause-pumped : goal.returns-in-Ok-Stopped-pass-clause-pumped
+returns-in-Ok-Stopped-pass-clause-pumped g c =
     let i = c.reads.invariant in
     let w = i.fed.0 in
     let f : Fed = record { bytes = w; ended = false; said = i.fed.1 } in
@@ -51,13 +58,13 @@ returns-in-Ok-Stopped-pass g c =
     (λ none. absurd (some-not-none _ _ report fate none))
     (x.said, subst (λ q. g.T.Worker.says q v false x.said) i.same x.is_said)
 
-pub returns-in-Err-pass : goal.returns-in-Err-pass
-returns-in-Err-pass g c =
+pub returns-in-Err-pass-clause-pumped : goal.returns-in-Err-pass-clause-pumped
+returns-in-Err-pass-clause-pumped g c =
     let i = c.reads.invariant in
     let w = i.fed.0 in
     let f : Fed = record { bytes = w; ended = false; said = i.fed.1 } in
     let piece = take c.in-Ok.count c.read.new.buf in
-    broken g.T.Worker.says _ _ i.same f _ _ _ _ (w ++ piece) false _ piece refl (grind (arith, common_steps)) i.fed.2 i.fed.7 g.met.T.Worker.grows _ _
+    broken g.T.Worker.says _ _ i.same f _ _ _ _ (w ++ piece) false _ piece refl (short-piece _ c.in-Ok.count _ (last-read _ _ _ _ _ (omega (arith, c.in-Ok.ensures.bound, c.reads.auto.block)) c.in-Ok.ensures.asked)) i.fed.2 i.fed.7 g.met.T.Worker.grows _ _
     (consumes-then _ _ _ _ _ i.fed.5 c.in-Ok.ensures.bytes.0)
     (λ e. let bad : false ≡ true = e in cc)
     (search rules)
@@ -65,8 +72,8 @@ returns-in-Err-pass g c =
     i.written c.in-Err-pass.ensures.cause
     c.status_after-in-Err-pass.ensures
 
-pub returns-in-Ok-Stopped : goal.returns-in-Ok-Stopped
-returns-in-Ok-Stopped g c =
+pub returns-in-Ok-Stopped-clause-pumped : goal.returns-in-Ok-Stopped-clause-pumped
+returns-in-Ok-Stopped-clause-pumped g c =
     let x = c.in-Ok-Stopped.ensures.writes None c.requires.fresh refl in
     let report = c.rejected.ensures (record { bytes = []; ended = false; said = x.said }) x.stands_for in
     let fate = rw c.in-Ok-Stopped.field-0-is at x.is_fate in
@@ -76,8 +83,8 @@ returns-in-Ok-Stopped g c =
     (λ none. absurd (some-not-none _ _ report fate none))
     (x.said, x.is_said)
 
-pub returns-in-Err-read : goal.returns-in-Err-read
-returns-in-Err-read g c =
+pub returns-in-Err-read-clause-pumped : goal.returns-in-Err-read-clause-pumped
+returns-in-Err-read-clause-pumped g c =
     let i = c.reads.invariant in (
       record {
         w = i.fed.0;
@@ -90,8 +97,74 @@ returns-in-Err-read g c =
     )
 
 -- past the limit there would have been a report
-pub returns : goal.returns
-returns g c =
+pub returns-clause-pumped : goal.returns-clause-pumped
+returns-clause-pumped g c =
     let i = c.reads.invariant in
     let past : g.T.Worker.limit (g.T.Worker.plan c.args.worker.now) < length i.fed.0 = omega (arith, c.reads-test.false, i.fed.4, c.requires.limit.0) in
     absurd (some-not-none _ _ refl (g.met.T.Worker.ends _ _ _ i.fed.2 past) i.fed.6)
+
+-- ---- what was asked for
+
+pub returns-in-Ok-pass_end-clause-asks : goal.returns-in-Ok-pass_end-clause-asks
+returns-in-Ok-pass_end-clause-asks g c = asks-on _ _ _ _ _ _ c.reads.auto.block c.reads.invariant.asked c.in-Ok-eq0.ensures.asked
+
+pub returns-in-Err-pass_end-clause-asks : goal.returns-in-Err-pass_end-clause-asks
+returns-in-Err-pass_end-clause-asks g c = asks-on _ _ _ _ _ _ c.reads.auto.block c.reads.invariant.asked c.in-Ok-eq0.ensures.asked
+
+pub returns-in-Ok-Stopped-pass-clause-asks : goal.returns-in-Ok-Stopped-pass-clause-asks
+returns-in-Ok-Stopped-pass-clause-asks g c = asks-on _ _ _ _ _ _ c.reads.auto.block c.reads.invariant.asked c.in-Ok.ensures.asked
+
+pub returns-in-Err-pass-clause-asks : goal.returns-in-Err-pass-clause-asks
+returns-in-Err-pass-clause-asks g c = asks-on _ _ _ _ _ _ c.reads.auto.block c.reads.invariant.asked c.in-Ok.ensures.asked
+
+pub returns-in-Err-read-clause-asks : goal.returns-in-Err-read-clause-asks
+returns-in-Err-read-clause-asks g c = asks-on _ _ _ _ _ _ c.reads.auto.block c.reads.invariant.asked c.in-Err-read.ensures.asked
+
+-- ---- whether the sink is open
+
+pub returns-in-Ok-pass_end-clause-unclosed : goal.returns-in-Ok-pass_end-clause-unclosed
+returns-in-Ok-pass_end-clause-unclosed g c = open-worked _ _ _ (c.in-Ok-pass_end.ensures.unfinished ∙ c.reads.invariant.unfinished)
+
+pub returns-in-Err-pass_end-clause-unclosed : goal.returns-in-Err-pass_end-clause-unclosed
+returns-in-Err-pass_end-clause-unclosed g c =
+    open-broken _ _ _ _ c.status_after-in-Err-pass_end.ensures (c.in-Err-pass_end.ensures.unfinished ∙ same-finishes _ _ c.reads.invariant.unfinished)
+
+pub returns-in-Ok-Stopped-pass-clause-unclosed : goal.returns-in-Ok-Stopped-pass-clause-unclosed
+returns-in-Ok-Stopped-pass-clause-unclosed g c = open-worked _ _ _ (c.in-Ok-Stopped-pass.ensures.unfinished ∙ c.reads.invariant.unfinished)
+
+pub returns-in-Err-pass-clause-unclosed : goal.returns-in-Err-pass-clause-unclosed
+returns-in-Err-pass-clause-unclosed g c =
+    open-broken _ _ _ _ c.status_after-in-Err-pass.ensures (c.in-Err-pass.ensures.unfinished ∙ same-finishes _ _ c.reads.invariant.unfinished)
+
+pub returns-in-Ok-Stopped-clause-unclosed : goal.returns-in-Ok-Stopped-clause-unclosed
+returns-in-Ok-Stopped-clause-unclosed g c = open-worked _ _ _ c.in-Ok-Stopped.ensures.unfinished
+
+pub returns-in-Err-read-clause-unclosed : goal.returns-in-Err-read-clause-unclosed
+returns-in-Err-read-clause-unclosed g c = open-worked _ _ ReadFault c.reads.invariant.unfinished
+
+-- ---- the loop goes on
+
+pub reads-preserved : goal.reads-preserved
+reads-preserved g c =
+    let i = c.reads.invariant in
+    let w = i.fed.0 in
+    let f : Fed = record { bytes = w; ended = false; said = i.fed.1 } in
+    let piece = take c.in-Ok.count c.read.new.buf in
+    let x = c.in-Ok-On-pass.ensures.writes (Some f) i.fed.3 refl in
+    record {
+      same = search rules;
+      fed = (
+        w ++ piece,
+        x.said,
+        subst (λ q. g.T.Worker.says q (w ++ piece) false x.said) i.same x.is_said,
+        x.stands_for,
+        grind (arith, common_steps),
+        consumes-then _ _ _ _ _ i.fed.5 c.in-Ok.ensures.bytes.0,
+        rw c.in-Ok-On-pass.field-0-is at x.is_fate,
+        appends-same _ _ _ _ (sym x.whole) (appends-then _ _ _ _ _ i.fed.7 x.appended),
+      );
+      read = search rules;
+      written = search rules;
+      asked = asks-on _ _ _ _ _ _ c.reads.auto.block i.asked c.in-Ok.ensures.asked;
+      unfinished = c.in-Ok-On-pass.ensures.unfinished ∙ i.unfinished;
+    }

@@ -1,6 +1,8 @@
 use Rattle.std.proofs.Common.{◌≡◌, ◌≤◌, List, ℕ, length, false}
 use Rattle.std.specs.Prelude.{Some, None}
 use Rattle.std.specs.Io.KnownBytes.{Appends, Consumes}
+use Rattle.kex_ports.specs.Endings.{counts_of}
+use Rattle.kex_ports.specs.Reads.{Asks}
 use Rattle.kex_top.specs.Answer.{Said}
 use Rattle.kex_top.proofs.stream.pump.Given as goal
 
@@ -15,4 +17,6 @@ invariant-reads g l = record {
       × Appends (g.K.Sink.held l.fn.output) (g.K.Sink.held l.output) said.text;
   read : g.S.Source.faults l.input ≡ g.S.Source.faults l.fn.input;
   written : g.K.Sink.faults l.output ≡ g.K.Sink.faults l.fn.output;
+  asked : Asks (length l.fn.block) (g.S.Source.reads l.fn.input) (g.S.Source.reads l.input);
+  unfinished : counts_of (g.K.Sink.ending l.output) ≡ counts_of (g.K.Sink.ending l.fn.output);
 }
