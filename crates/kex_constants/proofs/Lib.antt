@@ -4,3 +4,4 @@ mod Clearing
 mod Holding
 mod Keeping
 mod Machines
+mod Worked
