@@ -15,7 +15,7 @@ get_more (z ∷ xs) ys (suc n) x e = get_more xs ys n x e
 
 pub stands_more : (xs ys : List Branch) {k : Knot} {t : Labelled Part ℕ} → Stands xs k t → Stands (xs ++ ys) k t
 stands_more xs ys at_tip = at_tip
-stands_more xs ys (at_fork {n = n} {x = x} {y = y} e f l r) = at_fork (get_more xs ys n x e) (get_more xs ys (suc n) y f) (stands_more xs ys l) (stands_more xs ys r)
+stands_more xs ys (at_fork {n = n} {m = m} {x = x} {y = y} e f l r) = at_fork (get_more xs ys n x e) (get_more xs ys m y f) (stands_more xs ys l) (stands_more xs ys r)
 
 branch_more : (xs ys : List Branch) (x : Option Branch) (t : Option (Grown Part ℕ)) → IsBranch xs x t → IsBranch (xs ++ ys) x t
 branch_more xs ys None None h = tt
@@ -34,23 +34,24 @@ at_length [] x y = (refl, refl)
 at_length (z ∷ xs) x y = at_length xs x y
 
 -- a fork of two trees whose edges are the last
-pub fork_stands : (edges : List Branch) (x y : Branch) (a b : Grown Part ℕ) → IsBranch edges (Some x) (Some a) → IsBranch edges (Some y) (Some b) → Stands ((edges ++ x ∷ []) ++ y ∷ []) (Fork (length edges)) (fork a.label a.tree b.label b.tree)
+pub fork_stands : (edges : List Branch) (x y : Branch) (a b : Grown Part ℕ) → IsBranch edges (Some x) (Some a) → IsBranch edges (Some y) (Some b) → Stands ((edges ++ x ∷ []) ++ y ∷ []) (Fork (length edges) (suc (length edges))) (fork a.label a.tree b.label b.tree)
 fork_stands edges x y a b h k =
     let all : List Branch = (edges ++ x ∷ []) ++ y ∷ [] in
     let at = at_length edges x y in
     let l : Stands all x.knot a.tree = stands_more (edges ++ x ∷ []) (y ∷ []) (stands_more edges (x ∷ []) h.1) in
     let r : Stands all y.knot b.tree = stands_more (edges ++ x ∷ []) (y ∷ []) (stands_more edges (x ∷ []) k.1) in
-    subst (λ z. Stands all (Fork (length edges)) (fork z a.tree b.label b.tree)) h.0 (subst (λ z. Stands all (Fork (length edges)) (fork (reverse x.label.items) a.tree z b.tree)) k.0 (at_fork at.0 at.1 l r))
+    subst (λ z. Stands all (Fork (length edges) (suc (length edges))) (fork z a.tree b.label b.tree)) h.0 (subst (λ z. Stands all (Fork (length edges) (suc (length edges))) (fork (reverse x.label.items) a.tree z b.tree)) k.0 (at_fork at.0 at.1 l r))
 
 abbrev pub wood : List Branch → List (Option Branch) → Wood
 wood es rts = record { edges = es; roots = rts }
 
 -- the edges of two trees are added, and are the sides of a fork
-pub fork_added : (old : Wood) (es all : List Branch) (rts : List (Option Branch)) (n : ℕ) (x y : Branch) → wood es rts ≡ old → all ≡ (es ++ x ∷ []) ++ y ∷ [] → n ≡ length es → (a b : Grown Part ℕ) → IsBranch old.edges (Some x) (Some a) → IsBranch old.edges (Some y) (Some b) → Stands all (Fork n) (fork a.label a.tree b.label b.tree)
-fork_added old es all rts n x y v e l a b p q =
-    subst (λ z. Stands z (Fork n) (fork a.label a.tree b.label b.tree)) (sym e)
-    (subst (λ z. Stands ((es ++ x ∷ []) ++ y ∷ []) (Fork z) (fork a.label a.tree b.label b.tree)) (sym l)
-    (fork_stands es x y a b (subst (λ z. IsBranch z.edges (Some x) (Some a)) (sym v) p) (subst (λ z. IsBranch z.edges (Some y) (Some b)) (sym v) q)))
+pub fork_added : (old : Wood) (es all : List Branch) (rts : List (Option Branch)) (n m : ℕ) (x y : Branch) → wood es rts ≡ old → all ≡ (es ++ x ∷ []) ++ y ∷ [] → n ≡ length es → m ≡ suc (length es) → (a b : Grown Part ℕ) → IsBranch old.edges (Some x) (Some a) → IsBranch old.edges (Some y) (Some b) → Stands all (Fork n m) (fork a.label a.tree b.label b.tree)
+fork_added old es all rts n m x y v e l k a b p q =
+    subst (λ z. Stands z (Fork n m) (fork a.label a.tree b.label b.tree)) (sym e)
+    (subst (λ z. Stands ((es ++ x ∷ []) ++ y ∷ []) (Fork z m) (fork a.label a.tree b.label b.tree)) (sym l)
+    (subst (λ z. Stands ((es ++ x ∷ []) ++ y ∷ []) (Fork (length es) z) (fork a.label a.tree b.label b.tree)) (sym k)
+    (fork_stands es x y a b (subst (λ z. IsBranch z.edges (Some x) (Some a)) (sym v) p) (subst (λ z. IsBranch z.edges (Some y) (Some b)) (sym v) q))))
 
 pub trees_added : (old : Wood) (es all : List Branch) (rts : List (Option Branch)) (x y : Branch) → wood es rts ≡ old → all ≡ (es ++ x ∷ []) ++ y ∷ [] → (rs : List (Option (Grown Part ℕ))) → HasTrees old rs → AreBranches all rts rs
 trees_added old es all rts x y v e rs has =

@@ -3,3 +3,8 @@ pub mod Meanings
 pub mod Showing
 pub mod Copyless
 pub mod Sizes
+pub mod Walking
+pub mod Keeping
+pub mod Spelling
+pub mod Sampling
+pub mod Doing

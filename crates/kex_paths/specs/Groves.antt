@@ -1,5 +1,5 @@
 -- Trees of parts, as edges by number.
-use Rattle.std.specs.Prelude.{◌≡◌, ℕ, suc, List, [], ◌∷◌, Option, Some, None, reverse, slice_get}
+use Rattle.std.specs.Prelude.{◌≡◌, ℕ, List, [], ◌∷◌, Option, Some, None, reverse, slice_get}
 use Rattle.kex_model.specs.Labelled.{Labelled, tip, fork, Grown}
 use Rattle.kex_sst.specs.declared.parts.Part.{Part}
 use Rattle.kex_paths.specs.declared.grove.Branch.{Branch}
@@ -17,7 +17,7 @@ no_wood = record { edges = []; roots = [] }
 -- the tree that a knot leads to
 pub data Stands (edges : List Branch) : Knot → Labelled Part ℕ → Type 0 where
   at_tip : {p : ℕ} → Stands edges (Tip p) (tip p)
-  at_fork : {n : ℕ} {x y : Branch} {l r : Labelled Part ℕ} → slice_get edges n ≡ Some x → slice_get edges (suc n) ≡ Some y → Stands edges x.knot l → Stands edges y.knot r → Stands edges (Fork n) (fork (reverse x.label.items) l (reverse y.label.items) r)
+  at_fork : {n m : ℕ} {x y : Branch} {l r : Labelled Part ℕ} → slice_get edges n ≡ Some x → slice_get edges m ≡ Some y → Stands edges x.knot l → Stands edges y.knot r → Stands edges (Fork n m) (fork (reverse x.label.items) l (reverse y.label.items) r)
 
 -- the tree that an edge leads to, with the edge's label, if it is there
 abbrev pub IsBranch : List Branch → Option Branch → Option (Grown Part ℕ) → Type 0

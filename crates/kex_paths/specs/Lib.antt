@@ -1,2 +1,5 @@
 pub mod Nexts
 pub mod Groves
+pub mod Jobs
+pub mod Spellings
+pub mod Workspaces

@@ -10,11 +10,11 @@ use kex_sst::parts::Part;
 use std::alloc::Global;
 use std::marker::Model;
 
-/// What an edge leads to: a place, or a fork, by the number of its left edge; the right one has the number after that.
+/// What an edge leads to: a place, or a fork, by the numbers of its left and its right edge.
 #[derive(Clone, Copy, Debug, PartialEq, Eq)]
 pub enum Knot {
     Tip(u32),
-    Fork(usize),
+    Fork(usize, usize),
 }
 
 /// An edge, with what it leads to. Its label is turned: what is put in front stands at its end.
@@ -107,9 +107,11 @@ impl Grove {
         ensures { OnOk result ((a : Grown Part ℕ) (b : Grown Part ℕ) (rs : List (Option (Grown Part ℕ))) → IsBranch self.old.edges (Some left) (Some a) → IsBranch self.old.edges (Some right) (Some b) → HasTrees self.old rs → HasTrees self.new (joined (Some a) (Some b) ∷ rs)) }
     {
         let label = Vec::new(self.alloc);
-        let knot = Knot::Fork(self.edges.len());
+        let left_number = self.edges.len();
         self.edges.push(left)?;
+        let right_number = self.edges.len();
         self.edges.push(right)?;
+        let knot = Knot::Fork(left_number, right_number);
         self.push_root(Some(Branch { label, knot }))
     }
 

@@ -4,4 +4,8 @@
 //! clauses of `PathTree::start` and `PathTree::advance` say what `IsNext` determines and that it is the tree of the text.
 #![tactic(auto)]
 
+mod advance;
 mod grove;
+pub mod tree;
+mod walk;
+pub mod workspace;

@@ -1,0 +1,182 @@
+// Path trees, and how one is made of what a walk leaves.
+
+ghost use Rattle.std.specs.Prelude.{◌≡◌, ℕ, ◌*◌, ◌<◌, ◌≤◌, ◌^◌, ◌↔◌, ◌∷◌, ◌++◌, [], List, Some, OnOk, IfOk, length, reverse, slice_get};
+ghost use Rattle.kex_model.specs.Labelled.{Grown, Shape, shape_of, size_of};
+ghost use Rattle.kex_machine.specs.Advancing.{EachPlace};
+ghost use Rattle.kex_sst.specs.declared.parts.Part.{Part};
+ghost use Rattle.kex_paths.specs.Groves.{IsBranch};
+ghost use Rattle.kex_paths.specs.Nexts.{Outline, IsOfShape, IsChange};
+ghost use Rattle.kex_paths.specs.Spellings.{IsSound, key_of, number_of, is_inner, tip_in, edges_from};
+ghost use Rattle.kex_paths.specs.Jobs.{tokens_from, IsTipBelow};
+
+use crate::grove::{Branch, Knot};
+use crate::walk::Token;
+use kex_code::memory::Memory;
+use kex_machine::Trimmed;
+use kex_sst::parts::{Part, Parts, Update};
+use std::alloc::Global;
+use std::marker::Model;
+
+/// The tree of the survivors of a text, with the codes left out.
+#[derive(Drop)]
+pub struct PathTree<'m> {
+    machine: &'m Trimmed,
+    shape: Vec<bool>,
+    leaves: Vec<u32>,
+}
+
+impl<'m> Model for PathTree<'m> {
+    ghost use Rattle.kex_paths.specs.Nexts.{Outline};
+    ghost use Rattle.kex_paths.specs.Spellings.{IsSound};
+
+    ghost Value = { Outline };
+
+    ghost view = { λ t. record { machine = t.machine.now; shape = t.shape.items; leaves = t.leaves.items } };
+
+    ghost invariant = { λ t. IsSound t.machine.now t.shape.items t.leaves.items };
+}
+
+impl<'m> PathTree<'m> {
+    /// Whether each node is an inner one, in preorder.
+    pub fn shape(&self) -> &[bool]
+        ensures same { result.now ≡ self.now.shape }
+        ensures tree { (s : Shape ℕ) × IsOfShape self.now s }
+        ensures sound { IsSound self.now.machine self.now.shape self.now.leaves }
+    {
+        &self.shape
+    }
+
+    pub(crate) fn machine(&self) -> &'m Trimmed
+        ensures { result.now ≡ self.now.machine }
+    {
+        self.machine
+    }
+
+    /// The places of the leaves, in order.
+    pub fn leaves(&self) -> &[u32]
+        ensures { result.now ≡ self.now.leaves }
+    {
+        &self.leaves
+    }
+
+    /// Numbers that are equal for two trees of a machine exactly if their shapes are.
+    pub fn key(&self, alloc: Global) -> Result<Vec<u32>, Memory>
+        ensures key { IfOk result (λ key. (s : Shape ℕ) → IsOfShape self.now s → key.items ≡ key_of s) }
+        ensures equal { IfOk result (λ key. (s : Shape ℕ) (t : Shape ℕ) → IsOfShape self.now s → (key.items ≡ key_of t) ↔ (s ≡ t)) }
+    {
+        let mut tokens = Vec::new(alloc);
+        read_tokens(&self.shape, &self.leaves, &mut tokens)?;
+        let mut key = Vec::new(alloc);
+        for token in &tokens {
+            key.push(number_of(*token))?;
+        }
+        Ok(key)
+    }
+}
+
+// A node of a tree as a number.
+fn number_of(token: Token) -> u32
+    requires { IsTipBelow 4294967295 token }
+    ensures { result ≡ number_of token }
+{
+    match token {
+        Token::Fork => 0,
+        Token::Tip(place) => place + 1,
+    }
+}
+
+/// The nodes of a tree, in preorder.
+pub fn read_tokens(shape: &[bool], leaves: &[u32], tokens: &mut Vec<Token>) -> Result<(), Memory>
+    ensures { OnOk result (tokens.new.items ≡ tokens_from shape.now leaves.now) }
+{
+    tokens.clear();
+    let mut leaf: usize = 0;
+    for inner in shape {
+        if *inner {
+            tokens.push(Token::Fork)?;
+        } else if leaf < leaves.len() {
+            tokens.push(Token::Tip(leaves[leaf]))?;
+            leaf += 1;
+        }
+    }
+    Ok(())
+}
+
+// The parts of a turned label.
+fn parts_of(alloc: Global, label: &[Part]) -> Result<Parts, Memory>
+    ensures { IfOk result (λ parts. parts ≡ reverse label.now) }
+{
+    let mut parts = Parts::new(alloc);
+    let mut left = label.len();
+    while left > 0 {
+        left -= 1;
+        parts.push(label[left])?;
+    }
+    Ok(parts)
+}
+
+// A knot is spelled; the edges that go from it are to be followed, the left one first.
+fn add_knot(
+    knot: Knot,
+    shape: &mut Vec<bool>,
+    leaves: &mut Vec<u32>,
+    pending: &mut Vec<usize>,
+) -> Result<(), Memory>
+    ensures shape { OnOk result (shape.new.items ≡ shape.old.items ++ is_inner knot ∷ []) }
+    ensures leaves { OnOk result (leaves.new.items ≡ leaves.old.items ++ tip_in knot) }
+    ensures pending { OnOk result (pending.new.items ≡ pending.old.items ++ edges_from knot) }
+{
+    match knot {
+        Knot::Tip(place) => {
+            shape.push(false)?;
+            leaves.push(place)?;
+            Ok(())
+        }
+        Knot::Fork(left, right) => {
+            shape.push(true)?;
+            pending.push(right)?;
+            pending.push(left)?;
+            Ok(())
+        }
+    }
+}
+
+// The edge of a number.
+fn edge_at(edges: &[Branch], number: usize) -> &Branch
+    requires { number < length edges.now }
+    ensures { slice_get edges.now number ≡ Some result.now }
+{
+    edges.get(number).unwrap()
+}
+
+/// The tree that an edge leads to, with the update that its label and those of the edges below it are.
+pub fn gather<'m>(
+    alloc: Global,
+    machine: &'m Trimmed,
+    root: &Branch,
+    edges: &[Branch],
+) -> Result<(PathTree<'m>, Update), Memory>
+    requires few { 2 * length machine.now.nodes ≤ 2 ^ 32 }
+    requires fits { (a : Grown Part ℕ) × IsBranch edges.now (Some root.now) (Some a) × EachPlace (length machine.now.nodes) (shape_of a.tree) × (size_of (shape_of a.tree) < 2 * length machine.now.nodes) }
+    ensures machine { IfOk result (λ r. r.0.machine ≡ machine.now) }
+    ensures tree { IfOk result (λ r. (a : Grown Part ℕ) → IsBranch edges.now (Some root.now) (Some a) → IsOfShape r.0 (shape_of a.tree) × IsChange r.1 a) }
+{
+    let mut shape = Vec::new(alloc);
+    let mut leaves = Vec::new(alloc);
+    let mut regs = Vec::new(alloc);
+    let mut pending = Vec::new(alloc);
+    add_knot(root.knot, &mut shape, &mut leaves, &mut pending)?;
+    while let Some(number) = pending.pop() {
+        let edge = edge_at(edges, number);
+        let label = parts_of(alloc, &edge.label)?;
+        regs.push(label)?;
+        add_knot(edge.knot, &mut shape, &mut leaves, &mut pending)?;
+    }
+    let out = parts_of(alloc, &root.label)?;
+    let tree = PathTree {
+        machine,
+        shape,
+        leaves,
+    };
+    Ok((tree, Update::new(out, regs)))
+}
