@@ -1,33 +1,27 @@
 -- Two programs that one text spells answer alike: their stages, and so their pipelines.
-use Rattle.std.proofs.Common.{◌≡◌, ◌↔◌, ◌≤◌, ℕ, suc, Bool, List, [], ◌∷◌, ◌⊎◌, inl, inr, ⊎_elim, Option, length, refl, sym, ap, ◌∙◌, subst, arith}
-use Rattle.kex_code.specs.declared.symbol.Symbol.{Symbol}
-use Rattle.kex_code.specs.Codes.{bytes_of, Before, IsAmong, HasNumber}
+use Rattle.std.proofs.Common.{◌≡◌, ◌↔◌, ◌≤◌, ℕ, suc, Bool, List, [], ◌∷◌, ◌⊎◌, inl, inr, Option, length, refl, sym, ◌∙◌, subst, arith}
+use Rattle.kex_code.specs.Codes.{Before, IsAmong, HasNumber}
 use Rattle.kex_model.specs.Programs.{Grammar}
 use Rattle.kex_model.specs.Trees.{Tree, Parses, kind_at}
-use Rattle.kex_model.specs.Moves.{Step, Walk}
-use Rattle.kex_model.specs.Places.{Place, moves, start_of, at_start, HasEmptyLoop}
-use Rattle.kex_model.specs.Survivors.{NoReturn, LeadsToEnd, Reaches, Survives, Agreed}
+use Rattle.kex_model.specs.Places.{HasEmptyLoop}
 use Rattle.kex_model.specs.Answers.{code_at, HasParse, Means, Says, Viable, Answer, Report, Pipeline}
 use Rattle.kex_model.specs.Laws.{StageAnswers, StagesAnswer}
 use Rattle.kex_model.proofs.Counting.{among_get}
-use Rattle.kex_model.proofs.Loops.{no_return}
 use Rattle.kex_rules.specs.Rules.{IsRuled}
 use Rattle.kex_reader.specs.Spelling.{Spells}
 use Rattle.kex_lowering.proofs.Answering.{Serves, answers_so}
 use Rattle.kex_compile.specs.declared.limits.Limits.{Limits}
-use Rattle.kex_compile.specs.Stages.{CanRun, HaveInAll, most_places, roots_of}
+use Rattle.kex_compile.specs.Stages.{AllRun, CanRun, HaveInAll, HaveStatesInAll, most_places, roots_of}
 use Rattle.kex_compile.specs.Compiled.{Accepts, AnswersAlike, MeansAlike}
 use Rattle.kex_compile.proofs.Terms.{SameName}
 use Rattle.kex_compile.proofs.Alike.{Alike, name_back}
 use Rattle.kex_compile.proofs.Carrying.{defined_on, not_tail_on, once_back, stage_on as start_on, use_on}
-use Rattle.kex_compile.proofs.Placing.{SamePlace, empty, Partners, partners_on, enter_on, moves_on, walk_on, walk_back, waits_on, waits_back, end_on, end_back, place_back, place_forth, one_partner, one_partner_back, end_ahead, loop_on, more_on}
+use Rattle.kex_compile.proofs.Placing.{Partners, partners_on, end_ahead, loop_on, more_on}
 use Rattle.kex_compile.proofs.Staging.{Known, Pairwise, pair_on, pair_at, Both, roots, same_count}
 use Rattle.kex_compile.proofs.Numbering.{as_many_in_all}
+use Rattle.kex_compile.proofs.Surviving.{agreed_on, viable_back, viable_on}
+use Rattle.kex_compile.proofs.States.{all_states, states_there}
 use Rattle.kex_compile.proofs.Meaning.{Same, same_empty, tree_on, code_on, part_on, meaning_on}
-
--- where no place is reached again without a byte no walk returns
-once : (P : Grammar) (root : ℕ) → (HasEmptyLoop P root → ⊥) → (ks : List (Step Place)) (t : Place) → Walk (moves P) (start_of P root) ks t → NoReturn (start_of P root ∷ []) ks
-once P root none ks t w = no_return P root none ks (start_of P root) t (start_of P root ∷ []) at_start (λ q i. ⊎_elim (λ e. record { steps = []; walk = sym e; silent = refl }) (λ j. absurd j) i) w
 
 -- ---- trees
 
@@ -41,82 +35,13 @@ module _ (P Q : Grammar) (a : Alike P Q) (known : Known P) (root root' : ℕ) (s
   codes_on : (t : Tree) (w : List ℕ) → Parses P root t w → code_at P root t ≡ code_at Q root' t
   codes_on t w h = code_on P Q a known same_kind h.tree
 
--- ---- survivors
+-- ---- answers
 
 module _ (P Q : Grammar) (a : Alike P Q) (known : Known P) (root root' : ℕ) (same : Partners P Q a known root root') (none : HasEmptyLoop P root → ⊥) (none' : HasEmptyLoop Q root' → ⊥) where
-  abbrev from : Place
-  from = start_of P root
-
-  abbrev from' : Place
-  from' = start_of Q root'
-
-  abbrev SameHere : Place → Place → Type 0
-  SameHere = SamePlace (Partners P Q a known)
-
-  begin : SameHere from from'
-  begin = enter_on P Q a known root root' same empty
-
-  reach_on : (w : List ℕ) (p : Place) (c : List Symbol) → Reaches (moves P) from w p c → (q : Place) × SameHere p q × Reaches (moves Q) from' w q c
-  reach_on w p c (ks, h, e) =
-      let x = walk_on P Q a known ks from p from' h.walk begin in
-      (x.1, x.3, (x.0, record { walk = x.2; waits = waits_on (Partners P Q a known) (moves_on P Q a known x.3) h.waits; once = once Q root' none' x.0 x.1 x.2; reads = ap bytes_of (sym x.4) ∙ h.reads }, sym x.4 ∙ e))
-
-  reach_back : (w : List ℕ) (q : Place) (c : List Symbol) → Reaches (moves Q) from' w q c → (p : Place) × SameHere p q × Reaches (moves P) from w p c
-  reach_back w q c (js, h, e) =
-      let x = walk_back P Q a known js from from' q h.walk begin in
-      (x.1, x.3, (x.0, record { walk = x.2; waits = waits_back (Partners P Q a known) (moves_on P Q a known x.3) h.waits; once = once P root none x.0 x.1 x.2; reads = ap bytes_of x.4 ∙ h.reads }, x.4 ∙ e))
-
-  alive_on : (p q : Place) → SameHere p q → LeadsToEnd (moves P) p → LeadsToEnd (moves Q) q
-  alive_on p q s (ks, e, w, acc) =
-      let x = walk_on P Q a known ks p e q w s in
-      (x.0, x.1, x.2, end_on (Partners P Q a known) (moves_on P Q a known x.3) acc)
-
-  alive_back : (p q : Place) → SameHere p q → LeadsToEnd (moves Q) q → LeadsToEnd (moves P) p
-  alive_back p q s (js, e, w, acc) =
-      let x = walk_back P Q a known js p q e w s in
-      (x.0, x.1, x.2, end_back (Partners P Q a known) (moves_on P Q a known x.3) acc)
-
-  survives_on : (w : List ℕ) (p : Place) (c : List Symbol) → Survives (moves P) from w p c → (q : Place) × Survives (moves Q) from' w q c
-  survives_on w p c h =
-      let x = reach_on w p c h.reached in (
-        x.0,
-        record {
-          reached = x.2;
-          alive = alive_on p x.0 x.1 h.alive;
-          least = λ d r. let y = reach_back w x.0 d r in h.least d (subst (λ z. Reaches (moves P) from w z d) (place_back (Partners P Q a known) (one_partner_back P Q a known root root' same) y.1 x.1) y.2);
-        },
-      )
-
-  survives_back : (w : List ℕ) (q : Place) (c : List Symbol) → Survives (moves Q) from' w q c → (p : Place) × Survives (moves P) from w p c
-  survives_back w q c h =
-      let x = reach_back w q c h.reached in (
-        x.0,
-        record {
-          reached = x.2;
-          alive = alive_back x.0 q x.1 h.alive;
-          least = λ d r. let y = reach_on w x.0 d r in h.least d (subst (λ z. Reaches (moves Q) from' w z d) (place_forth (Partners P Q a known) (one_partner P Q a known root root' same) y.1 x.1) y.2);
-        },
-      )
-
-  viable_on : (w : List ℕ) → Viable P root w → Viable Q root' w
-  viable_on w (p, (c, reached, end)) = let x = reach_on w p c reached in (x.0, (c, x.2, alive_on p x.0 x.1 end))
-
-  viable_back : (w : List ℕ) → Viable Q root' w → Viable P root w
-  viable_back w (q, (c, reached, end)) = let x = reach_back w q c reached in (x.0, (c, x.2, alive_back x.0 q x.1 end))
-
-  agreed_on : (w : List ℕ) (c : List Symbol) → Agreed (moves P) from w c → Agreed (moves Q) from' w c
-  agreed_on w c h = record {
-    viable = viable_on w h.viable;
-    common = λ q d s. let x = survives_back w q d s in h.common x.0 d x.1;
-    longest = λ c' all. h.longest c' (λ p d s. let x = survives_on w p d s in all x.0 d x.1);
-  }
-
-  -- ---- answers
-
   says_on : (w text : List ℕ) → Says P root w text → Says Q root' w text
   says_on w text h = record {
     agreed = h.agreed;
-    is_agreed = agreed_on w h.agreed h.is_agreed;
+    is_agreed = agreed_on P Q a known root root' same none none' w h.agreed h.is_agreed;
     tree = h.tree;
     more = h.more;
     parses = parses_on P Q a known root root' same h.tree _ h.parses;
@@ -138,7 +63,7 @@ module _ (P Q : Grammar) (a : Alike P Q) (known : Known P) (root root' : ℕ) (s
     )
 
     serves : Serves (Viable P root) (Viable Q root') (Says P root) (Says Q root') (HasParse P root) (HasParse Q root') (Means P root) (Means Q root')
-    serves = record { good = viable_on; good_back = viable_back; says = says_on; parsed_back = λ w h. (h.0, parses_back h.0 w h.1); means = means_on }
+    serves = record { good = viable_on P Q a known root root' same none none'; good_back = viable_back P Q a known root root' same none none'; says = says_on; parsed_back = λ w h. (h.0, parses_back h.0 w h.1); means = means_on }
 
     stage_on : (limit : ℕ) (w : List ℕ) (e : Bool) (x : Answer) → StageAnswers P root limit w e x → StageAnswers Q root' limit w e x
     stage_on limit w e x h = answers_so (Viable P root) (Viable Q root') (Says P root) (Says Q root') (HasParse P root) (HasParse Q root') (Means P root) (Means Q root') serves limit h
@@ -210,6 +135,11 @@ can_run_on P Q a b known known' r q p h = record {
   some_text = end_ahead P Q a known r q p.0 h.some_text;
 }
 
+all_run_on : (P Q : Grammar) (a : Alike P Q) (b : Alike Q P) (known : Known P) (known' : Known Q) → AllRun P → AllRun Q
+all_run_on P Q a b known known' run q i =
+    let x = pair_on (Both Q P b a known' known) (roots_of Q) (roots_of P) (roots Q P b a known' known) q i in
+    can_run_on P Q a b known known' x.0 q (x.2.1, x.2.0) (run x.0 x.1)
+
 module _ (limits : Limits) (text : List ℕ) (alike : (P Q : Grammar) → Spells text P → Spells text Q → Alike P Q) where
   -- if one program of the text is accepted, all are
   pub accepts : (P Q : Grammar) → Accepts limits text P → Spells text Q → Accepts limits text Q
@@ -217,12 +147,14 @@ module _ (limits : Limits) (text : List ℕ) (alike : (P Q : Grammar) → Spells
       let a = alike P Q ok.spells s in
       let b = alike Q P s ok.spells in
       let ruled = ruled_on P Q a b ok.ruled in
+      let run = all_run_on P Q a b ok.ruled.known ruled.known ok.stages in
       record {
         spells = s;
         ruled = ruled;
-        stages = λ q i.
-            let x = pair_on (Both Q P b a ruled.known ok.ruled.known) (roots_of Q) (roots_of P) (roots Q P b a ruled.known ok.ruled.known) q i in
-            can_run_on P Q a b ok.ruled.known ruled.known x.0 q (x.2.1, x.2.0) (ok.stages x.0 x.1);
+        stages = run;
+        states = λ asked q i many.
+            let x = states_there P Q limits a b ok.ruled.known ruled.known ok.stages run q i many in
+            ok.states asked x.0 x.1 x.2;
         one_stage = λ on. let le : length P.stages ≤ 1 = ok.one_stage on in omega (arith, same_count (SameName P.names Q.names) P.stages Q.stages a.stages);
       }
 
@@ -243,6 +175,13 @@ module _ (limits : Limits) (text : List ℕ) (alike : (P Q : Grammar) → Spells
   counted P Q total ok s =
       let also = accepts P Q ok s in
       (as_many P Q total (both_run P Q ok also), as_many Q P total (both_run Q P also ok))
+
+  pub states_counted : (P Q : Grammar) (total : ℕ) → Accepts limits text P → Spells text Q → HaveStatesInAll P (roots_of P) total ↔ HaveStatesInAll Q (roots_of Q) total
+  states_counted P Q total ok s =
+      let also = accepts P Q ok s in
+      let a = alike P Q ok.spells s in
+      let b = alike Q P s ok.spells in
+      (all_states P Q limits a b ok.ruled.known also.ruled.known ok.stages also.stages total, all_states Q P limits b a also.ruled.known ok.ruled.known also.stages ok.stages total)
 
   pub meant : (P Q : Grammar) → Accepts limits text P → Spells text Q → MeansAlike P Q
   meant P Q ok s = λ i r q input said k l.

@@ -10,5 +10,7 @@ pub mod Staging
 pub mod Refusing
 pub mod Meaning
 pub mod Numbering
+pub mod Surviving
+pub mod States
 pub mod Answering
 pub mod FewStages

@@ -35,8 +35,16 @@ pair_at T (z ∷ xs) [] h i x y k l = absurd h
 pair_at T (z ∷ xs) (u ∷ ys) h zero x y k l = subst (λ a. T a y) (some_same z x k) (subst (λ a. T z a) (some_same u y l) h.0)
 pair_at T (z ∷ xs) (u ∷ ys) h (suc i) x y k l = pair_at T xs ys h.1 i x y k l
 
+-- pairs of lists within others
+pub pairs_within : (T : ℕ → ℕ → Type 0) (A B xs ys : List ℕ) → ((x : ℕ) → IsAmong xs x → IsAmong A x) → ((y : ℕ) → IsAmong ys y → IsAmong B y) → Pairwise T xs ys → Pairwise (λ x y. T x y × IsAmong A x × IsAmong B y) xs ys
+unfolding Pairwise
+pairs_within T A B [] [] f g h = tt
+pairs_within T A B [] (y ∷ ys) f g h = absurd h
+pairs_within T A B (x ∷ xs) [] f g h = absurd h
+pairs_within T A B (x ∷ xs) (y ∷ ys) f g h = ((h.0, f x (inl refl), g y (inl refl)), pairs_within T A B xs ys (λ z i. f z (inr i)) (λ z i. g z (inr i)) h.1)
+
 -- the first of the list that is so has this number
-FirstAt : (ℕ → Type 0) → List ℕ → ℕ → Type 0
+pub FirstAt : (ℕ → Type 0) → List ℕ → ℕ → Type 0
 FirstAt Q [] n = ⊥
 FirstAt Q (x ∷ xs) n = (Q x × (n ≡ 1)) ⊎ ((Q x → ⊥) × (m : ℕ) × (n ≡ suc m) × FirstAt Q xs m)
 
@@ -45,10 +53,10 @@ unfolding FirstAt
 first_at Q [] x behind q none = inl (q, refl)
 first_at Q (y ∷ before) x behind q none = inr (none y (inl refl), suc (length before), refl, first_at Q before x behind q (λ z i. none z (inr i)))
 
-first_of : (Q : ℕ → Type 0) (xs : List ℕ) (n : ℕ) → IsFirst Q xs n → FirstAt Q xs n
+pub first_of : (Q : ℕ → Type 0) (xs : List ℕ) (n : ℕ) → IsFirst Q xs n → FirstAt Q xs n
 first_of Q xs n h = subst (λ z. FirstAt Q z n) (sym h.split) (subst (λ z. FirstAt Q (h.before ++ h.at ∷ h.behind) z) (sym h.number_is) (first_at Q h.before h.at h.behind h.is_so h.none_before))
 
-same_first : (T : ℕ → ℕ → Type 0) (A B : ℕ → Type 0) → ((x y : ℕ) → T x y → A x → B y) → ((x y : ℕ) → T x y → B y → A x) → (xs ys : List ℕ) (n m : ℕ) → Pairwise T xs ys → FirstAt A xs n → FirstAt B ys m → n ≡ m
+pub same_first : (T : ℕ → ℕ → Type 0) (A B : ℕ → Type 0) → ((x y : ℕ) → T x y → A x → B y) → ((x y : ℕ) → T x y → B y → A x) → (xs ys : List ℕ) (n m : ℕ) → Pairwise T xs ys → FirstAt A xs n → FirstAt B ys m → n ≡ m
 unfolding Pairwise FirstAt
 same_first T A B f g [] ys n m p h k = absurd h
 same_first T A B f g (x ∷ xs) [] n m p h k = absurd k

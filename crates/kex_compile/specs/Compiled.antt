@@ -10,12 +10,12 @@ use Rattle.kex_reader.specs.declared.refusal.ReadRefusal.TheVariants as read
 use Rattle.kex_rules.specs.Rules.{IsRuled, IsCause}
 use Rattle.kex_rules.specs.declared.refusal.RuleRefusal.{RuleRefusal}
 use Rattle.kex_rules.specs.declared.refusal.RuleRefusal.TheVariants as rule
-use Rattle.kex_compile.specs.Stages.{AllRun, KeepsToOneStage, Plans, ArePlans, IsUnplanned, roots_of}
+use Rattle.kex_compile.specs.Stages.{AllRun, KeepsToOneStage, KeepsToStates, Plans, ArePlans, IsUnplanned, roots_of}
 use Rattle.kex_compile.specs.declared.limits.Limits.{Limits}
 use Rattle.kex_compile.specs.declared.refusal.PlanRefusal.{PlanRefusal}
 use Rattle.kex_compile.specs.declared.refusal.PlanRefusal.TheVariants as plan
 use Rattle.kex_compile.specs.declared.refusal.CompileRefusal.{CompileRefusal}
-use Rattle.kex_compile.specs.declared.refusal.CompileRefusal.TheVariants.{TextTooLong, BadToken, Unexpected, BadRegex, BadCount, BadSet, OverLimit, TwiceDefined, Unknown, NoStart, NotTail, TooManyPlaces, EmptyLoop, NoText, OneStage, Memory}
+use Rattle.kex_compile.specs.declared.refusal.CompileRefusal.TheVariants.{TextTooLong, BadToken, Unexpected, BadRegex, BadCount, BadSet, OverLimit, TwiceDefined, Unknown, NoStart, NotTail, TooManyPlaces, EmptyLoop, NoText, OneStage, TooManyStates, Memory}
 
 -- the text spells the program, which keeps the rules and what a command asks, and each of whose stages can run
 pub record Accepts (limits : Limits) (text : List ℕ) (P : Grammar) : Type 0 where
@@ -23,6 +23,7 @@ pub record Accepts (limits : Limits) (text : List ℕ) (P : Grammar) : Type 0 wh
   pub ruled : IsRuled P
   pub stages : AllRun P
   pub one_stage : KeepsToOneStage limits P
+  pub states : KeepsToStates limits P
 
 -- the plans are those of a program that the text spells
 pub record IsCompiled (limits : Limits) (text : List ℕ) (plans : Plans) : Type 0 where
@@ -55,6 +56,7 @@ IsRefused limits text (TooManyPlaces n) = HasNoPlans limits text (plan.TooManyPl
 IsRefused limits text (EmptyLoop n) = HasNoPlans limits text (plan.EmptyLoop n)
 IsRefused limits text (NoText n) = HasNoPlans limits text (plan.NoText n)
 IsRefused limits text OneStage = HasNoPlans limits text plan.OneStage
+IsRefused limits text (TooManyStates n) = HasNoPlans limits text (plan.TooManyStates n)
 IsRefused limits text Memory = Unit {0}
 
 abbrev pub of_read : ReadRefusal → CompileRefusal
@@ -79,6 +81,7 @@ of_plan (plan.TooManyPlaces n) = TooManyPlaces n
 of_plan (plan.EmptyLoop n) = EmptyLoop n
 of_plan (plan.NoText n) = NoText n
 of_plan plan.OneStage = OneStage
+of_plan (plan.TooManyStates n) = TooManyStates n
 of_plan plan.Memory = Memory
 
 -- stage by stage the programs mean the same

@@ -5,6 +5,7 @@ use Rattle.kex_model.specs.Programs.{Grammar}
 use Rattle.kex_model.specs.Trees.{root_of}
 use Rattle.kex_model.specs.Places.{moves, start_of, HasEmptyLoop}
 use Rattle.kex_model.specs.Survivors.{LeadsToEnd}
+use Rattle.kex_model.specs.States.{HasMoreStates, HasStates}
 use Rattle.kex_machine.specs.Nodes.{Graph}
 use Rattle.kex_desugar.specs.Machines.{HasMore}
 use Rattle.kex_lowering.specs.Stages.{Carries, HasPlaces, IsKeptOf, IsWhy}
@@ -13,7 +14,7 @@ use Rattle.kex_lowering.specs.declared.refusal.StageRefusal.TheVariants as why
 use Rattle.kex_compile.specs.declared.firsts.Firsts.{Firsts}
 use Rattle.kex_compile.specs.declared.limits.Limits.{Limits}
 use Rattle.kex_compile.specs.declared.refusal.PlanRefusal.{PlanRefusal}
-use Rattle.kex_compile.specs.declared.refusal.PlanRefusal.TheVariants.{TooManyPlaces, EmptyLoop, NoText, OneStage, Memory}
+use Rattle.kex_compile.specs.declared.refusal.PlanRefusal.TheVariants.{TooManyPlaces, EmptyLoop, NoText, OneStage, TooManyStates, Memory}
 
 abbrev pub most_places : ℕ
 most_places = 65536
@@ -36,6 +37,14 @@ AllRun P = (root : ℕ) → IsAmong (roots_of P) root → CanRun P root
 abbrev pub KeepsToOneStage : Limits → Grammar → Type 0
 KeepsToOneStage limits P = limits.one_stage ≡ true → length P.stages ≤ 1
 
+-- the stage has more states than are allowed
+abbrev pub HasTooManyStates : Limits → Grammar → ℕ → Type 0
+HasTooManyStates limits P root = HasMoreStates (moves P) (start_of P root) limits.states
+
+-- where tables are asked for, no stage has
+abbrev pub KeepsToStates : Limits → Grammar → Type 0
+KeepsToStates limits P = limits.tables ≡ true → (root : ℕ) → IsAmong (roots_of P) root → HasTooManyStates limits P root → ⊥
+
 -- the stage can run, and the machine answers as it does, has its paths to the places that it keeps, and bears its number
 pub record IsStage (P : Grammar) (root number : ℕ) (m : Graph) : Type 0 where
   pub can_run : CanRun P root
@@ -53,6 +62,11 @@ AreStages P i rs ms = ⊥
 abbrev pub HaveInAll : Grammar → List ℕ → ℕ → Type 0
 HaveInAll P [] total = total ≡ 0
 HaveInAll P (r ∷ rs) total = (own rest : ℕ) × HasPlaces P r own × HaveInAll P rs rest × (total ≡ own + rest)
+
+-- and so many states
+abbrev pub HaveStatesInAll : Grammar → List ℕ → ℕ → Type 0
+HaveStatesInAll P [] total = total ≡ 0
+HaveStatesInAll P (r ∷ rs) total = (own rest : ℕ) × HasStates (moves P) (start_of P r) own × HaveStatesInAll P rs rest × (total ≡ own + rest)
 
 -- plans, by their machines, and a count of places
 pub record Plans : Type 0 where
@@ -86,6 +100,7 @@ IsUnplanned limits P (TooManyPlaces n) = IsFirst (IsRefusedFor P why.TooManyPlac
 IsUnplanned limits P (EmptyLoop n) = NoneIs (IsRefusedFor P why.TooManyPlaces) (roots_of P) × IsFirst (IsRefusedFor P why.EmptyLoop) (roots_of P) n
 IsUnplanned limits P (NoText n) = NoneIs (IsRefusedFor P why.TooManyPlaces) (roots_of P) × NoneIs (IsRefusedFor P why.EmptyLoop) (roots_of P) × IsFirst (IsRefusedFor P why.NoText) (roots_of P) n
 IsUnplanned limits P OneStage = AllRun P × (limits.one_stage ≡ true) × (1 < length P.stages)
+IsUnplanned limits P (TooManyStates n) = AllRun P × KeepsToOneStage limits P × (limits.tables ≡ true) × IsFirst (HasTooManyStates limits P) (roots_of P) n
 IsUnplanned limits P Memory = Unit {0}
 
 -- ---- the first stages so far

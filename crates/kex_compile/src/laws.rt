@@ -3,7 +3,7 @@
 ghost use Rattle.std.specs.Prelude.{◌≡◌, ◌↔◌, ℕ, List};
 ghost use Rattle.kex_model.specs.Programs.{Grammar};
 ghost use Rattle.kex_reader.specs.Spelling.{Spells};
-ghost use Rattle.kex_compile.specs.Stages.{HaveInAll, roots_of};
+ghost use Rattle.kex_compile.specs.Stages.{HaveInAll, HaveStatesInAll, roots_of};
 ghost use Rattle.kex_compile.specs.Compiled.{Accepts, AnswersAlike, IsRefused, MeansAlike};
 
 use crate::limits::Limits;
@@ -34,11 +34,12 @@ pub fn refused()
     reader::one_refusal()
 }
 
-/// If one program of a text is accepted, all are. They have as many places, and answer alike: stage by stage in what they mean, and so
+/// If one program of a text is accepted, all are. They have as many places and as many states, and answer alike: stage by stage in what they mean, and so
 /// do their pipelines, in what they write and report on an input, open or ended.
 pub fn meant()
     ensures accepted { (limits : Limits) (text : List ℕ) (P Q : Grammar) → Accepts limits text P → Spells text Q → Accepts limits text Q }
     ensures places { (limits : Limits) (text : List ℕ) (P Q : Grammar) (total : ℕ) → Accepts limits text P → Spells text Q → HaveInAll P (roots_of P) total ↔ HaveInAll Q (roots_of Q) total }
+    ensures states { (limits : Limits) (text : List ℕ) (P Q : Grammar) (total : ℕ) → Accepts limits text P → Spells text Q → HaveStatesInAll P (roots_of P) total ↔ HaveStatesInAll Q (roots_of Q) total }
     ensures stages { (limits : Limits) (text : List ℕ) (P Q : Grammar) → Accepts limits text P → Spells text Q → MeansAlike P Q }
     ensures pipelines { (limits : Limits) (text : List ℕ) (P Q : Grammar) → Accepts limits text P → Spells text Q → AnswersAlike P Q }
 {

@@ -23,6 +23,9 @@ pub enum PlanRefusal {
     /// One stage is asked for, and the program has more.
     #[error("there is more than one stage")]
     OneStage,
+    /// Tables are asked for, and the stage has more states than are allowed.
+    #[error("stage {0} has too many states")]
+    TooManyStates(u32),
     #[error("out of memory")]
     Memory,
 }
@@ -84,6 +87,9 @@ pub enum CompileRefusal {
     /// One stage is asked for, and the program has more.
     #[error("there is more than one stage")]
     OneStage,
+    /// Tables are asked for, and the stage has more states than are allowed.
+    #[error("stage {0} has too many states")]
+    TooManyStates(u32),
     #[error("out of memory")]
     Memory,
 }
@@ -128,6 +134,7 @@ impl From<PlanRefusal> for CompileRefusal {
             PlanRefusal::EmptyLoop(stage) => CompileRefusal::EmptyLoop(stage),
             PlanRefusal::NoText(stage) => CompileRefusal::NoText(stage),
             PlanRefusal::OneStage => CompileRefusal::OneStage,
+            PlanRefusal::TooManyStates(stage) => CompileRefusal::TooManyStates(stage),
             PlanRefusal::Memory => CompileRefusal::Memory,
         }
     }

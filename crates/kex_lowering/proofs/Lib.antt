@@ -4,3 +4,4 @@ pub mod Answering
 pub mod Carrying
 pub mod Refusing
 pub mod Shaping
+pub mod States

@@ -86,7 +86,7 @@ module _ {S T : Type 0} (R : S → T → Type 0) where
   same_shape (fork x l y r) (tip q) h = absurd h
 
 -- the other way round
-turned_shape : {S T : Type 0} (R : S → T → Type 0) (s : Shape S) (u : Shape T) → SameShape (λ t s. R s t) u s → SameShape R s u
+pub turned_shape : {S T : Type 0} (R : S → T → Type 0) (s : Shape S) (u : Shape T) → SameShape (λ t s. R s t) u s → SameShape R s u
 turned_shape R (place s) (place t) h = h
 turned_shape R (parts l r) (parts l' r') h = (turned_shape R l l' h.0, turned_shape R r r' h.1)
 turned_shape R (place s) (parts l r) h = absurd h

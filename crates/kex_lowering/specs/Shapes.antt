@@ -1,15 +1,16 @@
 -- Paths and shapes over a stage's places and over its nodes: the same, place for node.
-use Rattle.std.specs.Prelude.{◌≡◌, ℕ, List}
+use Rattle.std.specs.Prelude.{◌≡◌, ◌↔◌, ℕ, List}
 use Rattle.kex_code.specs.declared.symbol.Symbol.{Symbol}
 use Rattle.kex_code.specs.Codes.{HasNumber}
 use Rattle.kex_model.specs.Programs.{Grammar}
 use Rattle.kex_model.specs.Labelled.{Shape, place, parts}
 use Rattle.kex_model.specs.Places.{Place, moves, start_of}
 use Rattle.kex_model.specs.Survivors.{LeadsToEnd, Reaches, HasShape}
+use Rattle.kex_model.specs.States.{HasMoreStates, HasStates}
 use Rattle.kex_machine.specs.Nodes.{Graph, HasLoop, node_moves}
 use Rattle.kex_desugar.specs.Machines.{IsMachineOf}
 use Rattle.kex_trim.specs.Trim.{IsTrimOf}
-use Rattle.kex_lowering.specs.Stages.{Carries}
+use Rattle.kex_lowering.specs.Stages.{Carries, IsKeptOf}
 
 -- shapes that differ at most in their places, each of which R pairs with the other's
 abbrev pub SameShape : {S T : Type 0} → (S → T → Type 0) → Shape S → Shape T → Type 0
@@ -52,3 +53,12 @@ MachinesAnswerAsPlaces = (P : Grammar) (root : ℕ) (m : Graph) (is : IsMachineO
 -- and what is left of it
 abbrev pub NodesHaveShapesOfPlaces : Type 0
 NodesHaveShapesOfPlaces = (P : Grammar) (root : ℕ) (m t : Graph) (is : IsMachineOf P root m) (trimmed : IsTrimOf m t) → SameShapes P root t (λ p n. StoodFor is trimmed p n)
+
+-- the machine has as many states as the stage
+pub record SameStates (P : Grammar) (root : ℕ) (m : Graph) (n : ℕ) : Type 0 where
+  pub more : HasMoreStates (moves P) (start_of P root) n ↔ HasMoreStates (node_moves m.nodes) m.start n
+  pub count : HasStates (moves P) (start_of P root) n ↔ HasStates (node_moves m.nodes) m.start n
+
+-- so it is with what is left of a stage's machine
+abbrev pub NodesHaveStatesOfPlaces : Type 0
+NodesHaveStatesOfPlaces = (P : Grammar) (root : ℕ) (m : Graph) (n : ℕ) → IsKeptOf P root m → SameStates P root m n

@@ -1,7 +1,7 @@
 // That a stage's places and its nodes answer alike. Each function's contract is a law.
 
 ghost use Rattle.kex_lowering.specs.Stages.{NodesAnswerAsPlaces};
-ghost use Rattle.kex_lowering.specs.Shapes.{MachinesAnswerAsPlaces, NodesHaveShapesOfPlaces};
+ghost use Rattle.kex_lowering.specs.Shapes.{MachinesAnswerAsPlaces, NodesHaveShapesOfPlaces, NodesHaveStatesOfPlaces};
 
 /// What holds of a stage's places holds of the nodes that are left of its machine, and back: what is viable, what is
 /// agreed, what is said and meant, and each answer.
@@ -18,4 +18,9 @@ pub fn machines_answer_as_places()
 /// What is left of the machine has the shapes of the places, and the paths to those from which the end is reached.
 pub fn nodes_have_shapes_of_places()
     ensures { NodesHaveShapesOfPlaces }
+{}
+
+/// What is left of the machine has as many states as the stage has.
+pub fn nodes_have_states_of_places()
+    ensures { NodesHaveStatesOfPlaces }
 {}

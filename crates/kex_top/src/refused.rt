@@ -66,6 +66,7 @@ pub(crate) fn refused(text: &[u8], refusal: CompileRefusal) -> Status
         CompileRefusal::EmptyLoop(stage) => broken_in(Rule::EmptyLoop, stage),
         CompileRefusal::NoText(stage) => broken_in(Rule::NoText, stage),
         CompileRefusal::OneStage => Status::Refused(ONE_STAGE),
+        CompileRefusal::TooManyStates(stage) => broken_in(Rule::TooManyStates, stage),
         CompileRefusal::Memory => Status::Memory,
     }
 }

@@ -38,6 +38,7 @@ unplanned limits text P (plan.TooManyPlaces n) s r h = (P, s, r, h)
 unplanned limits text P (plan.EmptyLoop n) s r h = (P, s, r, h)
 unplanned limits text P (plan.NoText n) s r h = (P, s, r, h)
 unplanned limits text P plan.OneStage s r h = (P, s, r, h)
+unplanned limits text P (plan.TooManyStates n) s r h = (P, s, r, h)
 unplanned limits text P plan.Memory s r h = tt
 
 pub returns-in_err-program-clause-refused : goal.returns-in_err-program-clause-refused
@@ -70,6 +71,7 @@ returns-clause-plans c =
         ruled = subst (λ z. IsRuled z) c.in_ok-ruled.ensures.same c.in_ok-ruled.ensures.ruled;
         stages = all-run P 1 (roots_of P) c.in_ok-compiled.compiled.stages plans.stages;
         one_stage = subst (λ z. KeepsToOneStage c.args.limits.now z) same c.in_ok-compiled.ensures.within;
+        states = λ asked root i h. cc;
       };
       plans_of = plans;
     }
