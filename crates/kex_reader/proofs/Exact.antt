@@ -3,8 +3,7 @@ use Rattle.std.proofs.Common.{◌≡◌, ℕ, ◌<◌, ◌≤◌, true, false, i
 use Rattle.std.specs.Prelude.{nat_lt, ◌==◌}
 use Rattle.kex_model.specs.Programs.{Grammar}
 use Rattle.kex_tokens.specs.declared.token.Token.{Token}
-use Rattle.kex_tokens.specs.declared.token.TheConstants.{MAX_TEXT}
-use Rattle.kex_tokens.specs.Texts.{AreTokens, IsBadToken}
+use Rattle.kex_tokens.specs.Texts.{AreTokens, IsBadToken, most_text}
 use Rattle.kex_regexp.specs.declared.breaks.Break.{Break}
 use Rattle.kex_regexp.specs.declared.breaks.Break.TheVariants.{BadRegex, BadCount, BadSet, OverLimit}
 use Rattle.kex_regexp.specs.Breaks.{rank, offset as place}
@@ -48,10 +47,10 @@ one_least cs a b m n =
 -- ---- causes
 
 data Cause (text : List ℕ) : ReadRefusal → Type 0 where
-  long : MAX_TEXT < length text → Cause text refusals.TextTooLong
-  bad : (at : ℕ) → length text ≤ MAX_TEXT → IsBadToken text at → Cause text (refusals.BadToken at)
-  unexpected : (at : ℕ) → length text ≤ MAX_TEXT → IsUnexpected text at → Cause text (refusals.Unexpected at)
-  limit : (b : Break) → length text ≤ MAX_TEXT → BreaksLimit text b → Cause text (of_limit b)
+  long : most_text < length text → Cause text refusals.TextTooLong
+  bad : (at : ℕ) → length text ≤ most_text → IsBadToken text at → Cause text (refusals.BadToken at)
+  unexpected : (at : ℕ) → length text ≤ most_text → IsUnexpected text at → Cause text (refusals.Unexpected at)
+  limit : (b : Break) → length text ≤ most_text → BreaksLimit text b → Cause text (of_limit b)
 
 cause : (text : List ℕ) (e : ReadRefusal) → (e ≡ refusals.Memory → ⊥) → IsRefusedAs text e → Cause text e
 cause text refusals.TextTooLong n h = long h

@@ -11,8 +11,7 @@ use Rattle.kex_model.specs.declared.program.Start.{Start}
 use Rattle.kex_tokens.specs.declared.token.Token.{Token}
 use Rattle.kex_tokens.specs.declared.token.TokenFault.{TokenFault}
 use Rattle.kex_tokens.specs.declared.token.TokenFault.TheVariants as token_faults
-use Rattle.kex_tokens.specs.declared.token.TheConstants.{MAX_TEXT}
-use Rattle.kex_tokens.specs.Texts.{AreTokens, IsRefused}
+use Rattle.kex_tokens.specs.Texts.{AreTokens, IsRefused, most_text}
 use Rattle.kex_regexp.specs.declared.breaks.Break.{Break}
 use Rattle.kex_regexp.specs.declared.breaks.Break.TheVariants.{BadRegex, BadCount, BadSet, OverLimit}
 use Rattle.kex_reader.specs.declared.stack.Frame.{Frame}
@@ -143,13 +142,13 @@ token_refused text token_faults.TextTooLong h = h
 token_refused text (token_faults.BadToken at) h = h
 token_refused text token_faults.Memory h = tt
 
-pub limit_refused : (text : List ℕ) (b : Break) → length text ≤ MAX_TEXT → BreaksLimit text b → IsRefusedAs text (of_limit b)
+pub limit_refused : (text : List ℕ) (b : Break) → length text ≤ most_text → BreaksLimit text b → IsRefusedAs text (of_limit b)
 limit_refused text (BadRegex at) l h = (l, h)
 limit_refused text (BadCount at) l h = (l, h)
 limit_refused text (BadSet at) l h = (l, h)
 limit_refused text (OverLimit at) l h = (l, h)
 
-pub step_refused : (text : List ℕ) (f : StepFault) (at : ℕ) → length text ≤ MAX_TEXT → (f ≡ faults.Wrong → IsUnexpected text at) → IsRefusedAs text (of_step f at)
+pub step_refused : (text : List ℕ) (f : StepFault) (at : ℕ) → length text ≤ most_text → (f ≡ faults.Wrong → IsUnexpected text at) → IsRefusedAs text (of_step f at)
 step_refused text faults.Memory at l h = tt
 step_refused text faults.Wrong at l h = (l, h refl)
 
@@ -226,7 +225,7 @@ main_here names [] i d t h e = absurd (omega (arith, h))
 main_here names (x ∷ ds) zero d t h e = ap (λ (b : Bool). if b then record { name = x.name; at = x.at } ∷ [] else main_stage names ds) e
 main_here names (x ∷ ds) (suc i) d t h e = main_here names ds i d t (omega (arith, h)) e
 
-pub spells_ok : (r : Result Grammar ReadRefusal) (text : List ℕ) (ts : List Token) (tree : Program) (made : Made) (ds : List Root) (named : List Start) → length text ≤ MAX_TEXT → AreTokens text ts → program tree ≡ words text ts → Noted (program_checks tree (offset text ts)) made.broken
+pub spells_ok : (r : Result Grammar ReadRefusal) (text : List ℕ) (ts : List Token) (tree : Program) (made : Made) (ds : List Root) (named : List Start) → length text ≤ most_text → AreTokens text ts → program tree ≡ words text ts → Noted (program_checks tree (offset text ts)) made.broken
     → ShowsDefinitions tree.definitions made (offset text ts) ds (length (header tree.header)) → ShowsHead tree.header made (offset text ts) named
     → IfOk r (λ _. made.broken ≡ None) → IfOk r (λ P. (at : ℕ → ℕ) (tree : Program) → ShowsDefinitions tree.definitions made at ds (length (header tree.header)) → ShowsHead tree.header made at named → ShowsProgram tree (record { nodes = P.nodes; names = P.names; registers = made.registers; broken = None }) at P)
     → IfOk r (λ P. Different P.names) → IfOk r (λ P. Different made.registers × (P.registers ≡ length made.registers)) → IfOk r (λ P. Spells text P)
@@ -245,7 +244,7 @@ spells_ok (Ok P) text ts tree made ds named short cut der nt df hd w s n g = rec
   counted = g.1;
 }
 
-pub refused_ok : (r : Result Grammar ReadRefusal) (text : List ℕ) (ts : List Token) (tree : Program) (o : Option Break) → length text ≤ MAX_TEXT → AreTokens text ts → program tree ≡ words text ts → Noted (program_checks tree (offset text ts)) o → IfErr r (λ e. (e ≡ refusals.Memory) ⊎ ((b : Break) × (o ≡ Some b) × (e ≡ of_limit b))) → IfErr r (λ e. IsRefusedAs text e)
+pub refused_ok : (r : Result Grammar ReadRefusal) (text : List ℕ) (ts : List Token) (tree : Program) (o : Option Break) → length text ≤ most_text → AreTokens text ts → program tree ≡ words text ts → Noted (program_checks tree (offset text ts)) o → IfErr r (λ e. (e ≡ refusals.Memory) ⊎ ((b : Break) × (o ≡ Some b) × (e ≡ of_limit b))) → IfErr r (λ e. IsRefusedAs text e)
 refused_ok (Ok P) text ts tree o short cut der nt h = tt
 refused_ok (Err e) text ts tree o short cut der nt (inl m) = subst (λ (x : ReadRefusal). IsRefusedAs text x) (sym m) tt
 refused_ok (Err e) text ts tree o short cut der nt (inr m) = subst (λ (x : ReadRefusal). IsRefusedAs text x) (sym m.2) (limit_refused text m.0 short (ts, tree, cut, der, subst (λ (x : Option Break). Noted (program_checks tree (offset text ts)) x) m.1 nt))

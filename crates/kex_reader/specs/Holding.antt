@@ -5,10 +5,13 @@ use Rattle.kex_model.specs.declared.program.Start.{Start}
 use Rattle.kex_reader.specs.declared.stack.Frame.{Frame}
 use Rattle.kex_reader.specs.declared.inside.StepFault.{StepFault}
 use Rattle.kex_reader.specs.declared.inside.StepFault.TheVariants as faults
+use Rattle.kex_reader.specs.declared.inside.Wait.{Wait}
+use Rattle.kex_reader.specs.declared.reader.Head.{Head}
 use Rattle.kex_reader.specs.declared.reader.Phase.{Phase}
+use Rattle.kex_reader.specs.declared.reader.Reader.{Reader}
 use Rattle.kex_reader.specs.declared.reader.Phase.TheVariants as phases
-use Rattle.kex_reader.specs.Syntax.{Header, NoStart, Stages, Program, Term, header, definitions}
-use Rattle.kex_reader.specs.Reading.{Entry, State, Begin, FirstName, StartLine, StageRead, StageNext, HeadRead, Within, before}
+use Rattle.kex_reader.specs.Syntax.{Header, NoStart, Stages, Definition, Program, Term, header, definitions}
+use Rattle.kex_reader.specs.Reading.{Entry, Inside, State, Begin, FirstName, StartLine, StageRead, StageNext, HeadRead, Within, before, spelled}
 use Rattle.kex_reader.specs.Shown.{Made, IsName, ShowsTerm, ShowsDefinitions, ShowsStages}
 use Rattle.kex_reader.specs.Stands.{Stands}
 
@@ -59,3 +62,33 @@ Finishes made at ds ss (Ok u) (Some p) = ShowsDefinitions p.definitions made at 
 Finishes made at ds ss (Err faults.Memory) o = Unit {0}
 Finishes made at ds ss (Err faults.Wrong) None = Unit {0}
 Finishes made at ds ss (Err faults.Wrong) (Some p) = ⊥
+
+-- ---- what clauses say
+
+-- the reader, and what the next word belongs to, are those of a state
+abbrev pub ReaderShows : Reader → (ℕ → ℕ) → Phase → State → Type 0
+ReaderShows r at phase s = ShowsState r.draft at r.stack r.definitions.items r.stages.items phase s
+
+-- the reader is in some state
+abbrev pub InState : Reader → Phase → Type 0
+InState r phase = SomeState r.draft r.stack r.definitions.items r.stages.items phase
+
+-- what a step made of the reader is what the machine makes
+abbrev pub ReaderSteps : Reader → (ℕ → ℕ) → Result Phase StepFault → Option State → Type 0
+ReaderSteps r at result o = StateSteps r.draft at r.stack r.definitions.items r.stages.items result o
+
+-- what the end made of the reader is the machine's program
+abbrev pub ReaderFinishes : Reader → (ℕ → ℕ) → Result (Unit {0}) StepFault → Option Program → Type 0
+ReaderFinishes r at result o = Finishes r.draft at r.definitions.items r.stages.items result o
+
+-- from this reader to that one the definition ends with this term
+abbrev pub ReaderEnds : Reader → Reader → (ℕ → ℕ) → ℕ → Head → Result (Unit {0}) StepFault → Option Term → Type 0
+ReaderEnds old new at base head result o = Ends new.draft at base new.stack old.definitions.items new.definitions.items head.name head.at result o
+
+-- the offset is that of the word behind what a state has read
+abbrev pub IsBehindState : (ℕ → ℕ) → State → ℕ → Type 0
+IsBehindState at s place = place ≡ at (length (spelled s))
+
+-- where the reader is within a definition
+abbrev pub WithinDefinition : Reader → Head → Wait → ((ℕ → ℕ) → Header → List Definition → List ℕ → Inside → Type 0) → Type 0
+WithinDefinition r head wait Says = (at : ℕ → ℕ) (h : Header) (done : List Definition) (name : List ℕ) (i : Inside) → ReaderShows r at (phases.Within head wait) (Within h done name i) → Says at h done name i

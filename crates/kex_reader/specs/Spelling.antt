@@ -8,10 +8,9 @@ use Rattle.kex_model.specs.declared.program.Start.{Start}
 use Rattle.kex_tokens.specs.declared.token.Token.{Token}
 use Rattle.kex_tokens.specs.declared.token.TokenFault.{TokenFault}
 use Rattle.kex_tokens.specs.declared.token.TokenFault.TheVariants as tokens
-use Rattle.kex_tokens.specs.declared.token.TheConstants.{MAX_TEXT}
 use Rattle.kex_reader.specs.declared.inside.StepFault.{StepFault}
 use Rattle.kex_reader.specs.declared.inside.StepFault.TheVariants as steps
-use Rattle.kex_tokens.specs.Texts.{AreTokens, IsBadToken}
+use Rattle.kex_tokens.specs.Texts.{AreTokens, IsBadToken, most_text}
 use Rattle.kex_regexp.specs.declared.breaks.Break.{Break}
 use Rattle.kex_regexp.specs.declared.breaks.Break.TheVariants.{BadRegex, BadCount, BadSet, OverLimit}
 use Rattle.kex_reader.specs.declared.refusal.ReadRefusal.{ReadRefusal}
@@ -38,6 +37,10 @@ abbrev pub ShowsHeader : Header → Made → (ℕ → ℕ) → Grammar → Type 
 ShowsHeader NoStart made at P = P.stages ≡ main_stage P.names P.definitions
 ShowsHeader (Stages n ns) made at P = ShowsStages (n ∷ ns) made at P.stages 2
 
+-- what is made where a program is read whole, with these registers
+abbrev pub made_of : Grammar → List (List ℕ) → Made
+made_of P registers = record { nodes = P.nodes; names = P.names; registers = registers; broken = None }
+
 -- the nodes, definitions and stages of the program are those of the tree, whatever their numbers
 pub record ShowsProgram (tree : Program) (made : Made) (at : ℕ → ℕ) (P : Grammar) : Type 0 where
   pub definitions : ShowsDefinitions tree.definitions made at P.definitions (length (header tree.header))
@@ -45,14 +48,14 @@ pub record ShowsProgram (tree : Program) (made : Made) (at : ℕ → ℕ) (P : G
 
 -- the tokens of the text are a program's, no limit is broken, and these are its nodes
 pub record Spells (text : List ℕ) (P : Grammar) : Type 0 where
-  pub short : length text ≤ MAX_TEXT
+  pub short : length text ≤ most_text
   pub tokens : List Token
   pub cut : AreTokens text tokens
   pub tree : Program
   pub derived : program tree ≡ words text tokens
   pub within : (b : Break) → SomeBreaks (program_checks tree (offset text tokens)) b → ⊥
   pub registers : List (List ℕ)
-  pub shown : ShowsProgram tree (record { nodes = P.nodes; names = P.names; registers = registers; broken = None }) (offset text tokens) P
+  pub shown : ShowsProgram tree (made_of P registers) (offset text tokens) P
   pub names_differ : Different P.names
   pub registers_differ : Different registers
   pub counted : P.registers ≡ length registers
@@ -83,11 +86,11 @@ of_step steps.Wrong at = refusals.Unexpected at
 
 -- why a text is refused: each cause where those before it aren't
 abbrev pub IsRefusedAs : List ℕ → ReadRefusal → Type 0
-IsRefusedAs text refusals.TextTooLong = MAX_TEXT < length text
-IsRefusedAs text (refusals.BadToken at) = (length text ≤ MAX_TEXT) × IsBadToken text at
-IsRefusedAs text (refusals.Unexpected at) = (length text ≤ MAX_TEXT) × IsUnexpected text at
-IsRefusedAs text (refusals.BadRegex at) = (length text ≤ MAX_TEXT) × BreaksLimit text (BadRegex at)
-IsRefusedAs text (refusals.BadCount at) = (length text ≤ MAX_TEXT) × BreaksLimit text (BadCount at)
-IsRefusedAs text (refusals.BadSet at) = (length text ≤ MAX_TEXT) × BreaksLimit text (BadSet at)
-IsRefusedAs text (refusals.OverLimit at) = (length text ≤ MAX_TEXT) × BreaksLimit text (OverLimit at)
+IsRefusedAs text refusals.TextTooLong = most_text < length text
+IsRefusedAs text (refusals.BadToken at) = (length text ≤ most_text) × IsBadToken text at
+IsRefusedAs text (refusals.Unexpected at) = (length text ≤ most_text) × IsUnexpected text at
+IsRefusedAs text (refusals.BadRegex at) = (length text ≤ most_text) × BreaksLimit text (BadRegex at)
+IsRefusedAs text (refusals.BadCount at) = (length text ≤ most_text) × BreaksLimit text (BadCount at)
+IsRefusedAs text (refusals.BadSet at) = (length text ≤ most_text) × BreaksLimit text (BadSet at)
+IsRefusedAs text (refusals.OverLimit at) = (length text ≤ most_text) × BreaksLimit text (OverLimit at)
 IsRefusedAs text refusals.Memory = Unit {0}

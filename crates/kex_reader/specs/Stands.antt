@@ -1,5 +1,5 @@
 -- What the code holds of a program that is being read, and the state of the machine that it stands for.
-use Rattle.std.specs.Prelude.{◌≡◌, ℕ, suc, ◌+◌, ◌<◌, ◌≤◌, Bool, true, false, List, [], ◌∷◌, length, Option, Some, None, Result, Ok, Err, slice_get, MatchOption, if◌then◌else◌}
+use Rattle.std.specs.Prelude.{◌≡◌, ℕ, suc, ◌+◌, ◌<◌, ◌≤◌, Bool, true, false, List, [], ◌∷◌, ◌++◌, length, Option, Some, None, Result, Ok, Err, OnOk, slice_get, MatchOption, if◌then◌else◌}
 use Rattle.kex_model.specs.declared.program.Kind.{Kind}
 use Rattle.kex_model.specs.declared.program.Kind.TheVariants as kinds
 use Rattle.kex_model.specs.declared.program.Node.{Node}
@@ -15,12 +15,14 @@ use Rattle.kex_reader.specs.declared.counts.Count.{Count}
 use Rattle.kex_reader.specs.declared.counts.Count.TheVariants as counts
 use Rattle.kex_reader.specs.declared.counts.CountStep.{CountStep as HeldStep}
 use Rattle.kex_reader.specs.declared.counts.CountStep.TheVariants as steps
+use Rattle.kex_reader.specs.declared.word.Word.{Word as WordHeld}
+use Rattle.kex_reader.specs.declared.pieces.Assignment.{Assignment}
 use Rattle.kex_reader.specs.declared.inside.Wait.{Wait}
 use Rattle.kex_reader.specs.declared.inside.Wait.TheVariants as waits
 use Rattle.kex_reader.specs.declared.inside.StepFault.{StepFault}
 use Rattle.kex_reader.specs.declared.inside.StepFault.TheVariants as faults
-use Rattle.kex_reader.specs.Syntax.{Word, Name, Literal, Text, Held, Tilde, At, Star, Plus, Question, OpenBrace, OpenParen, Regex, Define, Part, Term, Seq, Pre, Atom, Once, Call, atom}
-use Rattle.kex_reader.specs.Reading.{Entry, Mark, Ended, Done, Muted, Storing, Counting, Opened, Low, LowComma, LowHigh, OnlyComma, High, CountStep, CountOn, CountRead, CountWrong, Mode, Need, Ready, After, Named, Writing, Bracket, BracketName, Assigning, Assigned, InCount, Inside, put, entries, count_step}
+use Rattle.kex_reader.specs.Syntax.{Word, word, Name, Literal, Text, Held, Tilde, At, Star, Plus, Question, OpenBrace, OpenParen, Regex, Define, Part, Term, Seq, Pre, Atom, Once, Call, atom}
+use Rattle.kex_reader.specs.Reading.{Entry, Mark, Ended, Done, Muted, Storing, Counting, Opened, Low, LowComma, LowHigh, OnlyComma, High, CountStep, CountOn, CountRead, CountWrong, Mode, Need, Ready, After, Named, Writing, Bracket, BracketName, Assigning, Assigned, InCount, Inside, inside, first_part, next_part, put, entries, count_step}
 use Rattle.kex_reader.specs.Checks.{Check, Nested, Matched, SomeBreaks, IsLeastBreak, is_bad_count, postfix_checks}
 use Rattle.kex_reader.specs.Shown.{Made, IsRegister, ShowsTerm, ShowsSeq, ShowsPre, ShowsAtom, ShowsPart, ShowsParts, low, high}
 
@@ -229,3 +231,41 @@ asks at i (After a) es w = after_asks at (i + length (atom a)) a es w
 asks at i (Named free n) es w = named_asks at i n es w
 asks at i (InCount a c) es w = count_asks (at (i + length (atom a))) (count_step c w)
 asks at i _ es w = []
+
+-- ---- what clauses say
+
+-- the word that the code has, as the grammar's
+abbrev pub word_of : WordHeld → Word
+word_of w = word w.kind w.spelling.now
+
+-- where the frames show entries, behind which a word stands at this offset
+abbrev pub Behind : Made → List Frame → ℕ → ((ℕ → ℕ) → ℕ → List Entry → Type 0) → Type 0
+Behind made fs place Says = (at : ℕ → ℕ) (base : ℕ) (es : List Entry) → FramesShow made at base fs es → place ≡ at (base + length (entries es)) → Says at base es
+
+-- the same for any frames
+abbrev pub BehindAny : Made → ℕ → ((ℕ → ℕ) → ℕ → List Frame → List Entry → Type 0) → Type 0
+BehindAny made place Says = (at : ℕ → ℕ) (base : ℕ) (fs : List Frame) (es : List Entry) → FramesShow made at base fs es → place ≡ at (base + length (entries es)) → Says at base fs es
+
+-- where the frames show entries, behind which stands an atom with this node
+abbrev pub OnAtom : Made → List Frame → Shown → ((ℕ → ℕ) → ℕ → List Entry → Atom → Type 0) → Type 0
+OnAtom made fs part Says = (at : ℕ → ℕ) (base : ℕ) (es : List Entry) (a : Atom) → FramesShow made at base fs es → part.at ≡ at (base + length (entries es)) → ShowsAtom a made at part.node (base + length (entries es)) → Says at base es a
+
+-- the offset is that of the word behind the atom
+abbrev pub IsBehindAtom : (ℕ → ℕ) → ℕ → List Entry → Atom → ℕ → Type 0
+IsBehindAtom at base es a place = place ≡ at (base + length (entries es) + length (atom a))
+
+-- where frames and what is waited for are those of a place inside a definition, and a word stands behind it at this offset
+abbrev pub InPlace : Made → List Frame → Wait → ℕ → ((ℕ → ℕ) → ℕ → Inside → Type 0) → Type 0
+InPlace made fs wait place Says = (at : ℕ → ℕ) (base : ℕ) (i : Inside) → Stands made at base fs wait i → place ≡ at (base + length (inside i)) → Says at base i
+
+-- the least limit that is broken goes on to be that of these checks too
+abbrev pub NotesMore : {A E : Type 0} → Option Break → Option Break → Result A E → List Check → Type 0
+NotesMore old new result more = (cs : List Check) → Noted cs old → OnOk result (Noted (cs ++ more) new)
+
+-- a word where the first part of an assignment has to come
+abbrev pub FirstPart : Made → Made → Assignment → Result Wait StepFault → Word → Type 0
+FirstPart old new x result w = (at : ℕ → ℕ) (base : ℕ) (fs : List Frame) (es : List Entry) (append : Bool) (r : List ℕ) → FramesShow old at base fs es → ShowsMode old at (base + length (entries es)) (waits.Assigning x) (Assigning append r) → Steps new at base fs result (first_part append r es w)
+
+-- a word behind a part of an assignment
+abbrev pub NextPart : Made → Made → Assignment → Result Wait StepFault → Word → Type 0
+NextPart old new x result w = (at : ℕ → ℕ) (base : ℕ) (fs : List Frame) (es : List Entry) (append : Bool) (r : List ℕ) (p : Part) (ps : List Part) → FramesShow old at base fs es → ShowsMode old at (base + length (entries es)) (waits.Assigned x) (Assigned append r p ps) → Steps new at base fs result (next_part append r p ps es w)

@@ -93,9 +93,7 @@ impl<'t> Draft<'t> {
         ensures node { IfOk result (λ n. IsNode self.new n kind at) }
         ensures broken { OnOk result (self.new.broken ≡ self.old.broken) }
     {
-        let Ok(number) = self.nodes.add(Node { kind, at }) else {
-            return Err(Memory);
-        };
+        let number = self.nodes.add(Node { kind, at })?;
         Ok(number)
     }
 
@@ -105,9 +103,7 @@ impl<'t> Draft<'t> {
         ensures number { IfOk result (λ k. IsName self.new k name.now) }
         ensures broken { OnOk result (self.new.broken ≡ self.old.broken) }
     {
-        let Ok(number) = self.names.number(name) else {
-            return Err(Memory);
-        };
+        let number = self.names.number(name)?;
         Ok(number)
     }
 
@@ -117,9 +113,7 @@ impl<'t> Draft<'t> {
         ensures number { IfOk result (λ k. IsRegister self.new k register.now) }
         ensures broken { OnOk result (self.new.broken ≡ self.old.broken) }
     {
-        let Ok(number) = self.registers.number(register) else {
-            return Err(Memory);
-        };
+        let number = self.registers.number(register)?;
         Ok(number)
     }
 
@@ -157,9 +151,7 @@ impl<'t> Draft<'t> {
             return Err(Memory);
         };
         self.note(broken);
-        let Ok(node) = self.add(Kind::One, at) else {
-            return Err(Memory);
-        };
+        let node = self.add(Kind::One, at)?;
         Ok(node)
     }
 

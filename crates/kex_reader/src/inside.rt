@@ -10,8 +10,8 @@ ghost use Rattle.kex_tokens.specs.Values.{StandsFor};
 ghost use Rattle.kex_reader.specs.Checks.{Check, Matched, Nested};
 ghost use Rattle.kex_reader.specs.Reading.{After, Assigned, Assigning, BracketName, CountStep as SpecCountStep, Entry, Inside, Ready, after_atom, begin_pre, entries, first_part, goes, named as spec_named, next_part, on_bar, on_close, on_count, on_name, on_sign, put as spec_put, inside, step_in as spec_step_in, take_seq, take_term};
 ghost use Rattle.kex_reader.specs.Shown.{Made, IsName, IsNode, IsRegister, ShowsAtom, ShowsParts, high as high_of, low as low_of};
-ghost use Rattle.kex_reader.specs.Stands.{FramesShow, IsLeaf, Keeps, Noted, ShowsCountStep, ShowsMode, SomeAtom, SomeFrames, SomeInside, SomeName, Stands, Steps, after_asks, asks, begin_asks, count_asks, named_asks, open_frames};
-ghost use Rattle.kex_reader.specs.Syntax.{Atom, Part as SpecPart, Postfix, Turns, Write as SpecWrite, atom, between, word as word_of};
+ghost use Rattle.kex_reader.specs.Stands.{Behind, BehindAny, FirstPart, FramesShow, InPlace, IsBehindAtom, IsLeaf, Keeps, NextPart, Noted, NotesMore, OnAtom, ShowsCountStep, ShowsMode, SomeAtom, SomeFrames, SomeInside, SomeName, Steps, after_asks, asks, begin_asks, count_asks, named_asks, open_frames, word_of};
+ghost use Rattle.kex_reader.specs.Syntax.{Atom, Part as SpecPart, Postfix, Turns, Write as SpecWrite, atom, between, word as grammar_word};
 
 use crate::counts::{Bounds, Count, CountStep, MOST, count_step};
 use crate::draft::Draft;
@@ -198,8 +198,8 @@ fn begin<'t>(
     requires token { IsToken word.kind word.spelling.now }
     requires place { word.at + length word.spelling.now < 2 ^ 32 }
     ensures keeps { OnOk result (Keeps draft.old draft.new) }
-    ensures step { (at : ℕ → ℕ) (base : ℕ) (es : List Entry) → FramesShow draft.old at base stack.old es → word.entry.at ≡ at (base + length (entries es)) → Steps draft.new at base stack.new result (begin_pre free es (word_of word.entry.kind word.entry.spelling.now)) }
-    ensures notes { (at : ℕ → ℕ) (base : ℕ) (es : List Entry) → FramesShow draft.old at base stack.old es → word.entry.at ≡ at (base + length (entries es)) → (cs : List Check) → Noted cs draft.old.broken → OnOk result (Noted (cs ++ begin_asks at (base + length (entries es)) es (word_of word.entry.kind word.entry.spelling.now)) draft.new.broken) }
+    ensures step { Behind draft.old stack.old word.entry.at (λ at base es. Steps draft.new at base stack.new result (begin_pre free es (word_of word.entry))) }
+    ensures notes { Behind draft.old stack.old word.entry.at (λ at base es. NotesMore draft.old.broken draft.new.broken result (begin_asks at (base + length (entries es)) es (word_of word.entry))) }
 {
     match word.kind {
         Kind::Name => Ok(Wait::Named(
@@ -251,7 +251,7 @@ fn turns<'t>(
     requires count { (p : Postfix) × (bounds.low ≡ low_of p) × (bounds.high ≡ high_of p) × IsCount bounds.low bounds.high }
     ensures keeps { OnOk result (Keeps draft.old draft.new) }
     ensures broken { OnOk result (draft.new.broken ≡ draft.old.broken) }
-    ensures step { (at : ℕ → ℕ) (base : ℕ) (es : List Entry) (a : Atom) (p : Postfix) → FramesShow draft.old at base stack.old es → item.at ≡ at (base + length (entries es)) → ShowsAtom a draft.old at item.node (base + length (entries es)) → bounds.low ≡ low_of p → bounds.high ≡ high_of p → Steps draft.new at base stack.new result (goes Ready (spec_put (Turns a p) es)) }
+    ensures step { OnAtom draft.old stack.old item (λ at base es a. (p : Postfix) → bounds.low ≡ low_of p → bounds.high ≡ high_of p → Steps draft.new at base stack.new result (goes Ready (spec_put (Turns a p) es))) }
 {
     let Ok(node) = draft.add(
         NodeKind::Rep {
@@ -281,8 +281,8 @@ fn behind<'t>(
     requires token { IsToken word.kind word.spelling.now }
     requires place { word.at + length word.spelling.now < 2 ^ 32 }
     ensures keeps { OnOk result (Keeps draft.old draft.new) }
-    ensures step { (at : ℕ → ℕ) (base : ℕ) (es : List Entry) (a : Atom) → FramesShow draft.old at base stack.old es → item.at ≡ at (base + length (entries es)) → word.entry.at ≡ at (base + length (entries es) + length (atom a)) → ShowsAtom a draft.old at item.node (base + length (entries es)) → Steps draft.new at base stack.new result (after_atom a es (word_of word.entry.kind word.entry.spelling.now)) }
-    ensures notes { (at : ℕ → ℕ) (base : ℕ) (es : List Entry) (a : Atom) → FramesShow draft.old at base stack.old es → item.at ≡ at (base + length (entries es)) → word.entry.at ≡ at (base + length (entries es) + length (atom a)) → ShowsAtom a draft.old at item.node (base + length (entries es)) → (cs : List Check) → Noted cs draft.old.broken → OnOk result (Noted (cs ++ after_asks at (base + length (entries es) + length (atom a)) a es (word_of word.entry.kind word.entry.spelling.now)) draft.new.broken) }
+    ensures step { OnAtom draft.old stack.old item (λ at base es a. IsBehindAtom at base es a word.entry.at → Steps draft.new at base stack.new result (after_atom a es (word_of word.entry))) }
+    ensures notes { OnAtom draft.old stack.old item (λ at base es a. IsBehindAtom at base es a word.entry.at → NotesMore draft.old.broken draft.new.broken result (after_asks at (base + length (entries es) + length (atom a)) a es (word_of word.entry))) }
 {
     match word.kind {
         Kind::Star => turns(stack, draft, item, Bounds { low: 0, high: None }),
@@ -318,8 +318,8 @@ fn named<'t>(
     requires token { IsToken word.kind word.spelling.now }
     requires place { word.at + length word.spelling.now < 2 ^ 32 }
     ensures keeps { OnOk result (Keeps draft.old draft.new) }
-    ensures step { (at : ℕ → ℕ) (base : ℕ) (es : List Entry) → FramesShow draft.old at base stack.old es → name.entry.at ≡ at (base + length (entries es)) → word.entry.at ≡ at (base + length (entries es) + 1) → Steps draft.new at base stack.new result (spec_named name.entry.bytes.now es (word_of word.entry.kind word.entry.spelling.now)) }
-    ensures notes { (at : ℕ → ℕ) (base : ℕ) (es : List Entry) → FramesShow draft.old at base stack.old es → name.entry.at ≡ at (base + length (entries es)) → word.entry.at ≡ at (base + length (entries es) + 1) → (cs : List Check) → Noted cs draft.old.broken → OnOk result (Noted (cs ++ named_asks at (base + length (entries es)) name.entry.bytes.now es (word_of word.entry.kind word.entry.spelling.now)) draft.new.broken) }
+    ensures step { Behind draft.old stack.old name.entry.at (λ at base es. word.entry.at ≡ at (base + length (entries es) + 1) → Steps draft.new at base stack.new result (spec_named name.entry.bytes.now es (word_of word.entry))) }
+    ensures notes { Behind draft.old stack.old name.entry.at (λ at base es. word.entry.at ≡ at (base + length (entries es) + 1) → NotesMore draft.old.broken draft.new.broken result (named_asks at (base + length (entries es)) name.entry.bytes.now es (word_of word.entry))) }
 {
     match word.kind {
         Kind::At => {
@@ -349,12 +349,8 @@ pub(crate) fn call<'t>(draft: &mut Draft<'t>, name: Name<'t>) -> Result<Part, Me
     ensures node { IfOk result (λ p. (k : ℕ) × IsNode draft.new p.node (NodeKind.Call k) name.entry.at × IsName draft.new k name.entry.bytes.now) }
     ensures place { IfOk result (λ p. p.at ≡ name.entry.at) }
 {
-    let Ok(number) = draft.name(name.bytes) else {
-        return Err(Memory);
-    };
-    let Ok(node) = draft.add(NodeKind::Call(number), name.at) else {
-        return Err(Memory);
-    };
+    let number = draft.name(name.bytes)?;
+    let node = draft.add(NodeKind::Call(number), name.at)?;
     Ok(Part { node, at: name.at })
 }
 
@@ -362,7 +358,7 @@ pub(crate) fn call<'t>(draft: &mut Draft<'t>, name: Name<'t>) -> Result<Part, Me
 fn write<'t>(draft: &mut Draft<'t>, at: u32, word: Word<'t>) -> Result<Wait<'t>, StepFault>
     ensures keeps { OnOk result (Keeps draft.old draft.new) }
     ensures broken { OnOk result (draft.new.broken ≡ draft.old.broken) }
-    ensures step { (place : ℕ → ℕ) (base : ℕ) (fs : List Frame) (es : List Entry) → FramesShow draft.old place base fs es → at ≡ place (base + length (entries es)) → Steps draft.new place base fs result (on_name (λ n. goes (After (SpecWrite n)) es) (word_of word.entry.kind word.entry.spelling.now)) }
+    ensures step { BehindAny draft.old at (λ place base fs es. Steps draft.new place base fs result (on_name (λ n. goes (After (SpecWrite n)) es) (word_of word.entry))) }
 {
     let Kind::Name = word.kind else {
         return Err(StepFault::Wrong);
@@ -377,7 +373,7 @@ fn write<'t>(draft: &mut Draft<'t>, at: u32, word: Word<'t>) -> Result<Wait<'t>,
 fn bracket<'t>(draft: &mut Draft<'t>, at: u32, word: Word<'t>) -> Result<Wait<'t>, StepFault>
     ensures keeps { OnOk result (Keeps draft.old draft.new) }
     ensures broken { OnOk result (draft.new.broken ≡ draft.old.broken) }
-    ensures step { (place : ℕ → ℕ) (base : ℕ) (fs : List Frame) (es : List Entry) → FramesShow draft.old place base fs es → at ≡ place (base + length (entries es)) → Steps draft.new place base fs result (on_name (λ n. goes (BracketName n) es) (word_of word.entry.kind word.entry.spelling.now)) }
+    ensures step { BehindAny draft.old at (λ place base fs es. Steps draft.new place base fs result (on_name (λ n. goes (BracketName n) es) (word_of word.entry))) }
 {
     let Kind::Name = word.kind else {
         return Err(StepFault::Wrong);
@@ -390,7 +386,7 @@ fn bracket<'t>(draft: &mut Draft<'t>, at: u32, word: Word<'t>) -> Result<Wait<'t
 
 // The sign behind a register.
 fn sign<'t>(alloc: Global, at: u32, register: u32, kind: Kind) -> Result<Wait<'t>, StepFault>
-    ensures step { (made : Made) (place : ℕ → ℕ) (base : ℕ) (fs : List Frame) (es : List Entry) (r : List ℕ) (b : List ℕ) → FramesShow made place base fs es → at ≡ place (base + length (entries es)) → IsRegister made register r → Steps made place base fs result (on_sign r es (word_of kind b)) }
+    ensures step { (made : Made) (place : ℕ → ℕ) (base : ℕ) (fs : List Frame) (es : List Entry) (r : List ℕ) (b : List ℕ) → FramesShow made place base fs es → at ≡ place (base + length (entries es)) → IsRegister made register r → Steps made place base fs result (on_sign r es (grammar_word kind b)) }
 {
     match kind {
         Kind::Arrow => Ok(Wait::Assigning(Assignment {
@@ -419,8 +415,8 @@ fn part<'t>(
     requires token { IsToken word.kind word.spelling.now }
     ensures keeps { OnOk result (Keeps draft.old draft.new) }
     ensures broken { OnOk result (draft.new.broken ≡ draft.old.broken) }
-    ensures first { (place : ℕ → ℕ) (base : ℕ) (fs : List Frame) (es : List Entry) (append : Bool) (r : List ℕ) → FramesShow draft.old place base fs es → ShowsMode draft.old place (base + length (entries es)) (Wait.Assigning assignment) (Assigning append r) → Steps draft.new place base fs result (first_part append r es (word_of word.entry.kind word.entry.spelling.now)) }
-    ensures next { (place : ℕ → ℕ) (base : ℕ) (fs : List Frame) (es : List Entry) (append : Bool) (r : List ℕ) (p : SpecPart) (ps : List SpecPart) → (word.entry.kind ≡ Kind.CloseBracket → ⊥) → FramesShow draft.old place base fs es → ShowsMode draft.old place (base + length (entries es)) (Wait.Assigned assignment) (Assigned append r p ps) → Steps draft.new place base fs result (next_part append r p ps es (word_of word.entry.kind word.entry.spelling.now)) }
+    ensures first { FirstPart draft.old draft.new assignment result (word_of word.entry) }
+    ensures next { (word.entry.kind ≡ Kind.CloseBracket → ⊥) → NextPart draft.old draft.new assignment result (word_of word.entry) }
 {
     let Ok(read) = piece(alloc, draft, word) else {
         return Err(StepFault::Memory);
@@ -445,7 +441,7 @@ fn behind_part<'t>(
     requires token { IsToken word.kind word.spelling.now }
     ensures keeps { OnOk result (Keeps draft.old draft.new) }
     ensures broken { OnOk result (draft.new.broken ≡ draft.old.broken) }
-    ensures step { (place : ℕ → ℕ) (base : ℕ) (fs : List Frame) (es : List Entry) (append : Bool) (r : List ℕ) (p : SpecPart) (ps : List SpecPart) → FramesShow draft.old place base fs es → ShowsMode draft.old place (base + length (entries es)) (Wait.Assigned assignment) (Assigned append r p ps) → Steps draft.new place base fs result (next_part append r p ps es (word_of word.entry.kind word.entry.spelling.now)) }
+    ensures step { NextPart draft.old draft.new assignment result (word_of word.entry) }
 {
     match word.kind {
         Kind::CloseBracket => {
@@ -467,7 +463,7 @@ fn counted<'t>(
     requires atom { SomeAtom draft.old stack.old item }
     requires count { (t : SpecCountStep) × ShowsCountStep step t }
     ensures keeps { OnOk result (Keeps draft.old draft.new) }
-    ensures step { (at : ℕ → ℕ) (base : ℕ) (es : List Entry) (a : Atom) (t : SpecCountStep) → FramesShow draft.old at base stack.old es → item.at ≡ at (base + length (entries es)) → brace ≡ at (base + length (entries es) + length (atom a)) → ShowsAtom a draft.old at item.node (base + length (entries es)) → ShowsCountStep step t → Steps draft.new at base stack.new result (on_count a es t) }
+    ensures step { OnAtom draft.old stack.old item (λ at base es a. (t : SpecCountStep) → IsBehindAtom at base es a brace → ShowsCountStep step t → Steps draft.new at base stack.new result (on_count a es t)) }
     ensures notes { (t : SpecCountStep) (from : ℕ) → brace ≡ from → ShowsCountStep step t → (cs : List Check) → Noted cs draft.old.broken → OnOk result (Noted (cs ++ count_asks from t) draft.new.broken) }
 {
     match step {
@@ -496,8 +492,8 @@ pub(crate) fn step_in<'t>(
     requires token { IsToken word.kind word.spelling.now }
     requires place { word.at + length word.spelling.now < 2 ^ 32 }
     ensures keeps { OnOk result (Keeps draft.old draft.new) }
-    ensures step { (at : ℕ → ℕ) (base : ℕ) (i : Inside) → Stands draft.old at base stack.old wait.entry i → word.entry.at ≡ at (base + length (inside i)) → Steps draft.new at base stack.new result (spec_step_in i.mode i.entries (word_of word.entry.kind word.entry.spelling.now)) }
-    ensures notes { (at : ℕ → ℕ) (base : ℕ) (i : Inside) → Stands draft.old at base stack.old wait.entry i → word.entry.at ≡ at (base + length (inside i)) → (cs : List Check) → Noted cs draft.old.broken → OnOk result (Noted (cs ++ asks at (base + length (entries i.entries)) i.mode i.entries (word_of word.entry.kind word.entry.spelling.now)) draft.new.broken) }
+    ensures step { InPlace draft.old stack.old wait.entry word.entry.at (λ at base i. Steps draft.new at base stack.new result (spec_step_in i.mode i.entries (word_of word.entry))) }
+    ensures notes { InPlace draft.old stack.old wait.entry word.entry.at (λ at base i. NotesMore draft.old.broken draft.new.broken result (asks at (base + length (entries i.entries)) i.mode i.entries (word_of word.entry))) }
 {
     match wait {
         Wait::Need => begin(alloc, stack, draft, false, word),

@@ -3,8 +3,7 @@
 ghost use Rattle.std.specs.Prelude.{◌≡◌, IfOk, OnOk};
 ghost use Rattle.kex_tokens.specs.Lexemes.{IsToken};
 ghost use Rattle.kex_reader.specs.Shown.{assigned};
-ghost use Rattle.kex_reader.specs.Stands.{Keeps, PieceShows, part_of};
-ghost use Rattle.kex_reader.specs.Syntax.{word as word_of};
+ghost use Rattle.kex_reader.specs.Stands.{Keeps, PieceShows, part_of, word_of};
 
 use crate::draft::Draft;
 use crate::word::Word;
@@ -33,19 +32,15 @@ pub(crate) fn piece<'t>(
     requires { IsToken word.kind word.spelling.now }
     ensures keeps { OnOk result (Keeps draft.old draft.new) }
     ensures broken { OnOk result (draft.new.broken ≡ draft.old.broken) }
-    ensures read { IfOk result (λ o. PieceShows (part_of (word_of word.entry.kind word.entry.spelling.now)) draft.new o) }
+    ensures read { IfOk result (λ o. PieceShows (part_of (word_of word.entry)) draft.new o) }
 {
     match word.kind {
         Kind::Literal => {
-            let Ok(bytes) = literal_bytes(alloc, word.spelling) else {
-                return Err(Memory);
-            };
+            let bytes = literal_bytes(alloc, word.spelling)?;
             Ok(Some(Piece::Lit(Bytes::new(bytes))))
         }
         Kind::Name => {
-            let Ok(register) = draft.register(word.spelling) else {
-                return Err(Memory);
-            };
+            let register = draft.register(word.spelling)?;
             Ok(Some(Piece::Register(register)))
         }
         _ => Ok(None),

@@ -2,13 +2,13 @@
 
 ghost use Rattle.std.specs.Prelude.{◌≡◌, ℕ, ◌+◌, ◌<◌, ◌^◌, ◌++◌, ◌∷◌, ◌⊎◌, [], List, length, None, IfOk, IfErr, OnOk};
 ghost use Rattle.kex_tokens.specs.Lexemes.{IsToken};
-ghost use Rattle.kex_reader.specs.Holding.{Ends, Finishes, ShowsState, SomeState, StateSteps, whole_term};
+ghost use Rattle.kex_reader.specs.Holding.{InState, IsBehindState, ReaderEnds, ReaderFinishes, ReaderShows, ReaderSteps, WithinDefinition, whole_term};
 ghost use Rattle.kex_reader.specs.Reading.{Entry, Inside, State, entries, put as spec_put, Within, finish as spec_finish, finish_within as spec_finish_within, first_name, FirstName, spelled, step as spec_step, step_within, take_term};
 ghost use Rattle.kex_reader.specs.Shown.{IsName, ShowsAtom};
 ghost use Rattle.kex_reader.specs.Asked.{state_asks};
 ghost use Rattle.kex_reader.specs.Checks.{Check, Staged};
-ghost use Rattle.kex_reader.specs.Stands.{FramesShow, Keeps, Noted, SomeAtom, SomeFrames, SomeInside, SomeName};
-ghost use Rattle.kex_reader.specs.Syntax.{Atom, Call, Definition as SpecDefinition, Define, Once, Header, word as word_of};
+ghost use Rattle.kex_reader.specs.Stands.{Behind, FramesShow, Keeps, Noted, NotesMore, OnAtom, SomeAtom, SomeFrames, SomeInside, SomeName, word_of};
+ghost use Rattle.kex_reader.specs.Syntax.{Atom, Call, Definition as SpecDefinition, Define, Once, Header, word as grammar_word};
 
 use crate::draft::Draft;
 use crate::inside::{StepFault, Wait, call, step_in};
@@ -122,7 +122,7 @@ impl<'t> Reader<'t> {
         requires { SomeFrames self.old.draft self.old.stack }
         ensures keeps { OnOk result (Keeps self.old.draft self.new.draft) }
         ensures stages { OnOk result (self.new.stages.items ≡ self.old.stages.items) }
-        ensures ends { (at : ℕ → ℕ) (base : ℕ) (es : List Entry) → FramesShow self.old.draft at base self.old.stack es → Ends self.new.draft at base self.new.stack self.old.definitions.items self.new.definitions.items head.name head.at result (whole_term (take_term es)) }
+        ensures ends { (at : ℕ → ℕ) (base : ℕ) (es : List Entry) → FramesShow self.old.draft at base self.old.stack es → ReaderEnds self.old self.new at base head result (whole_term (take_term es)) }
         ensures broken { OnOk result (self.new.draft.broken ≡ self.old.draft.broken) }
     {
         let Ok(closed) = close_term(&mut self.stack, &mut self.draft) else {
@@ -150,8 +150,8 @@ impl<'t> Reader<'t> {
         requires inside { SomeInside self.old.draft self.old.stack wait }
         requires token { IsToken word.kind word.spelling.now }
         requires place { word.at + length word.spelling.now < 2 ^ 32 }
-        ensures step { (at : ℕ → ℕ) (h : Header) (done : List SpecDefinition) (name : List ℕ) (i : Inside) → (word.entry.kind ≡ Kind.Define → ⊥) → ShowsState self.old.draft at self.old.stack self.old.definitions.items self.old.stages.items (Phase.Within head wait.entry) (Within h done name i) → word.entry.at ≡ at (length (spelled (Within h done name i))) → StateSteps self.new.draft at self.new.stack self.new.definitions.items self.new.stages.items result (step_within h done name i.mode i.entries (word_of word.entry.kind word.entry.spelling.now)) }
-        ensures notes { (at : ℕ → ℕ) (h : Header) (done : List SpecDefinition) (name : List ℕ) (i : Inside) (cs : List Check) → ShowsState self.old.draft at self.old.stack self.old.definitions.items self.old.stages.items (Phase.Within head wait.entry) (Within h done name i) → word.entry.at ≡ at (length (spelled (Within h done name i))) → Noted cs self.old.draft.broken → OnOk result (Noted (cs ++ state_asks at (Within h done name i) (word_of word.entry.kind word.entry.spelling.now)) self.new.draft.broken) }
+        ensures step { WithinDefinition self.old head wait.entry (λ at h done name i. (word.entry.kind ≡ Kind.Define → ⊥) → IsBehindState at (Within h done name i) word.entry.at → ReaderSteps self.new at result (step_within h done name i.mode i.entries (word_of word.entry))) }
+        ensures notes { WithinDefinition self.old head wait.entry (λ at h done name i. IsBehindState at (Within h done name i) word.entry.at → NotesMore self.old.draft.broken self.new.draft.broken result (state_asks at (Within h done name i) (word_of word.entry))) }
     {
         match step_in(self.alloc, &mut self.stack, &mut self.draft, wait, word) {
             Ok(next) => Ok(Phase::Within(head, next)),
@@ -162,7 +162,7 @@ impl<'t> Reader<'t> {
     // Where the next definition begins, behind a name that needn't be a call.
     fn next_definition(&mut self, head: Head, wait: Wait<'t>) -> Result<Phase<'t>, StepFault>
         requires { SomeInside self.old.draft self.old.stack wait }
-        ensures step { (at : ℕ → ℕ) (h : Header) (done : List SpecDefinition) (name : List ℕ) (i : Inside) → ShowsState self.old.draft at self.old.stack self.old.definitions.items self.old.stages.items (Phase.Within head wait.entry) (Within h done name i) → StateSteps self.new.draft at self.new.stack self.new.definitions.items self.new.stages.items result (step_within h done name i.mode i.entries Define) }
+        ensures step { WithinDefinition self.old head wait.entry (λ at h done name i. ReaderSteps self.new at result (step_within h done name i.mode i.entries Define)) }
         ensures broken { OnOk result (self.new.draft.broken ≡ self.old.draft.broken) }
     {
         let Wait::Named(free, name) = wait else {
@@ -179,7 +179,7 @@ impl<'t> Reader<'t> {
 
     // The first name is the start line's word, or a head.
     fn first(&mut self, name: Name<'t>, kind: Kind) -> Result<Phase<'t>, StepFault>
-        ensures step { (at : ℕ → ℕ) (n b : List ℕ) → ShowsState self.old.draft at self.old.stack self.old.definitions.items self.old.stages.items (Phase.FirstName name.entry) (FirstName n) → StateSteps self.new.draft at self.new.stack self.new.definitions.items self.new.stages.items result (first_name n (word_of kind b)) }
+        ensures step { (at : ℕ → ℕ) (n b : List ℕ) → ReaderShows self.old at (Phase.FirstName name.entry) (FirstName n) → ReaderSteps self.new at result (first_name n (grammar_word kind b)) }
         ensures broken { OnOk result (self.new.draft.broken ≡ self.old.draft.broken) }
     {
         match kind {
@@ -197,11 +197,11 @@ impl<'t> Reader<'t> {
 
     // A word more.
     pub(crate) fn step(&mut self, phase: Phase<'t>, word: Word<'t>) -> Result<Phase<'t>, StepFault>
-        requires some { SomeState self.old.draft self.old.stack self.old.definitions.items self.old.stages.items phase }
+        requires some { InState self.old phase }
         requires token { IsToken word.kind word.spelling.now }
         requires place { word.at + length word.spelling.now < 2 ^ 32 }
-        ensures step { (at : ℕ → ℕ) (s : State) → ShowsState self.old.draft at self.old.stack self.old.definitions.items self.old.stages.items phase.entry s → word.entry.at ≡ at (length (spelled s)) → StateSteps self.new.draft at self.new.stack self.new.definitions.items self.new.stages.items result (spec_step s (word_of word.entry.kind word.entry.spelling.now)) }
-        ensures notes { (at : ℕ → ℕ) (s : State) (cs : List Check) → ShowsState self.old.draft at self.old.stack self.old.definitions.items self.old.stages.items phase.entry s → word.entry.at ≡ at (length (spelled s)) → Noted cs self.old.draft.broken → OnOk result (Noted (cs ++ state_asks at s (word_of word.entry.kind word.entry.spelling.now)) self.new.draft.broken) }
+        ensures step { (at : ℕ → ℕ) (s : State) → ReaderShows self.old at phase.entry s → IsBehindState at s word.entry.at → ReaderSteps self.new at result (spec_step s (word_of word.entry)) }
+        ensures notes { (at : ℕ → ℕ) (s : State) (cs : List Check) → ReaderShows self.old at phase.entry s → IsBehindState at s word.entry.at → Noted cs self.old.draft.broken → OnOk result (Noted (cs ++ state_asks at s (word_of word.entry)) self.new.draft.broken) }
     {
         let name = Name {
             bytes: word.spelling,
@@ -234,7 +234,7 @@ impl<'t> Reader<'t> {
     // The last definition ends with the text.
     fn finish_within(&mut self, head: Head, wait: Wait<'t>) -> Result<(), StepFault>
         requires { SomeInside self.old.draft self.old.stack wait }
-        ensures ends { (at : ℕ → ℕ) (h : Header) (done : List SpecDefinition) (name : List ℕ) (i : Inside) → ShowsState self.old.draft at self.old.stack self.old.definitions.items self.old.stages.items (Phase.Within head wait.entry) (Within h done name i) → Finishes self.new.draft at self.new.definitions.items self.new.stages.items result (spec_finish_within h done name i.mode i.entries) }
+        ensures ends { WithinDefinition self.old head wait.entry (λ at h done name i. ReaderFinishes self.new at result (spec_finish_within h done name i.mode i.entries)) }
         ensures broken { OnOk result (self.new.draft.broken ≡ self.old.draft.broken) }
     {
         match wait {
@@ -251,7 +251,7 @@ impl<'t> Reader<'t> {
         requires { SomeName self.old.draft self.old.stack name.at }
         ensures keeps { OnOk result (Keeps self.old.draft self.new.draft) }
         ensures stages { OnOk result (self.new.stages.items ≡ self.old.stages.items) }
-        ensures ends { (at : ℕ → ℕ) (base : ℕ) (es : List Entry) → FramesShow self.old.draft at base self.old.stack es → name.entry.at ≡ at (base + length (entries es)) → Ends self.new.draft at base self.new.stack self.old.definitions.items self.new.definitions.items head.name head.at result (whole_term (take_term (spec_put (Once (Call name.entry.bytes.now)) es))) }
+        ensures ends { Behind self.old.draft self.old.stack name.entry.at (λ at base es. ReaderEnds self.old self.new at base head result (whole_term (take_term (spec_put (Once (Call name.entry.bytes.now)) es)))) }
         ensures broken { OnOk result (self.new.draft.broken ≡ self.old.draft.broken) }
     {
         let Ok(item) = call(&mut self.draft, name) else {
@@ -265,7 +265,7 @@ impl<'t> Reader<'t> {
         requires { SomeAtom self.old.draft self.old.stack item }
         ensures keeps { OnOk result (Keeps self.old.draft self.new.draft) }
         ensures stages { OnOk result (self.new.stages.items ≡ self.old.stages.items) }
-        ensures ends { (at : ℕ → ℕ) (base : ℕ) (es : List Entry) (a : Atom) → FramesShow self.old.draft at base self.old.stack es → item.at ≡ at (base + length (entries es)) → ShowsAtom a self.old.draft at item.node (base + length (entries es)) → Ends self.new.draft at base self.new.stack self.old.definitions.items self.new.definitions.items head.name head.at result (whole_term (take_term (spec_put (Once a) es))) }
+        ensures ends { OnAtom self.old.draft self.old.stack item (λ at base es a. ReaderEnds self.old self.new at base head result (whole_term (take_term (spec_put (Once a) es)))) }
         ensures broken { OnOk result (self.new.draft.broken ≡ self.old.draft.broken) }
     {
         let Ok(()) = put(&mut self.stack, &mut self.draft, item) else {
@@ -276,8 +276,8 @@ impl<'t> Reader<'t> {
 
     // The text ends.
     pub(crate) fn finish(&mut self, phase: Phase<'t>) -> Result<(), StepFault>
-        requires { SomeState self.old.draft self.old.stack self.old.definitions.items self.old.stages.items phase }
-        ensures ends { (at : ℕ → ℕ) (s : State) → ShowsState self.old.draft at self.old.stack self.old.definitions.items self.old.stages.items phase.entry s → Finishes self.new.draft at self.new.definitions.items self.new.stages.items result (spec_finish s) }
+        requires { InState self.old phase }
+        ensures ends { (at : ℕ → ℕ) (s : State) → ReaderShows self.old at phase.entry s → ReaderFinishes self.new at result (spec_finish s) }
         ensures broken { OnOk result (self.new.draft.broken ≡ self.old.draft.broken) }
     {
         match phase {

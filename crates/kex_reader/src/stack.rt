@@ -97,9 +97,7 @@ impl Stack {
     pub(crate) fn push(&mut self, frame: Frame) -> Result<(), Memory>
         ensures { OnOk result (self.new ≡ frame ∷ self.old) }
     {
-        let Ok(()) = self.frames.push(frame) else {
-            return Err(Memory);
-        };
+        self.frames.push(frame)?;
         if frame.is_open() {
             self.depth += 1;
         }

@@ -20,14 +20,10 @@ pub(crate) fn put(stack: &mut Stack, draft: &mut Draft, part: Part) -> Result<()
 {
     let mut whole = part;
     while let Some(prefix) = stack.take_prefix() {
-        let Ok(more) = prefixed(draft, prefix, whole) else {
-            return Err(Memory);
-        };
+        let more = prefixed(draft, prefix, whole)?;
         whole = more;
     }
-    let Ok(()) = stack.push(Frame::Done(whole)) else {
-        return Err(Memory);
-    };
+    stack.push(Frame::Done(whole))?;
     Ok(())
 }
 
@@ -42,15 +38,11 @@ fn prefixed(draft: &mut Draft, prefix: Prefix, part: Part) -> Result<Part, Memor
 {
     match prefix {
         Prefix::Mute(at) => {
-            let Ok(node) = draft.add(Kind::Mute(part.node), at) else {
-                return Err(Memory);
-            };
+            let node = draft.add(Kind::Mute(part.node), at)?;
             Ok(Part { node, at })
         }
         Prefix::Store(store) => {
-            let Ok(node) = draft.add(Kind::At(store.register, part.node), store.at) else {
-                return Err(Memory);
-            };
+            let node = draft.add(Kind::At(store.register, part.node), store.at)?;
             Ok(Part { node, at: store.at })
         }
     }
@@ -68,9 +60,7 @@ pub(crate) fn close_seq(stack: &mut Stack, draft: &mut Draft) -> Result<Option<P
     };
     let mut seq = last;
     while let Some(front) = stack.take_done() {
-        let Ok(node) = draft.add(Kind::Seq(front.node, seq.node), front.at) else {
-            return Err(Memory);
-        };
+        let node = draft.add(Kind::Seq(front.node, seq.node), front.at)?;
         seq = Part { node, at: front.at };
     }
     Ok(Some(seq))
@@ -83,17 +73,13 @@ pub(crate) fn close_term(stack: &mut Stack, draft: &mut Draft) -> Result<Option<
     ensures broken { OnOk result (draft.new.broken ≡ draft.old.broken) }
     ensures term { IfOk result (λ o. (at : ℕ → ℕ) (base : ℕ) (es : List Entry) → FramesShow draft.old at base stack.old es → TermTaken draft.new at base stack.new o (take_term es)) }
 {
-    let Ok(closed) = close_seq(stack, draft) else {
-        return Err(Memory);
-    };
+    let closed = close_seq(stack, draft)?;
     let Some(last) = closed else {
         return Ok(None);
     };
     let mut term = last;
     while let Some(front) = stack.take_ended() {
-        let Ok(node) = draft.add(Kind::Alt(front.node, term.node), front.at) else {
-            return Err(Memory);
-        };
+        let node = draft.add(Kind::Alt(front.node, term.node), front.at)?;
         term = Part { node, at: front.at };
     }
     Ok(Some(term))

@@ -3,10 +3,10 @@
 ghost use Rattle.std.specs.Prelude.{◌≡◌, ℕ, ◌<◌, ◌≤◌, ◌⊎◌, [], None, Some, List, length, All, IfOk, IfErr};
 ghost use Rattle.kex_code.specs.Codes.{Different, IsAmong};
 ghost use Rattle.kex_model.specs.Programs.{Grammar};
-ghost use Rattle.kex_tokens.specs.Texts.{AreTokens, IsSpan};
+ghost use Rattle.kex_tokens.specs.Texts.{AreTokens, IsSpan, most_text};
 ghost use Rattle.kex_reader.specs.Holding.{ShowsHead};
 ghost use Rattle.kex_reader.specs.Shown.{ShowsDefinitions};
-ghost use Rattle.kex_reader.specs.Spelling.{IsRefusedAs, ShowsProgram, Spells, main_stage, of_limit, of_step, of_token};
+ghost use Rattle.kex_reader.specs.Spelling.{IsRefusedAs, ShowsProgram, Spells, made_of, main_stage, of_limit, of_step, of_token};
 ghost use Rattle.kex_reader.specs.Syntax.{Program as Tree, header};
 
 use crate::draft::Draft;
@@ -18,7 +18,7 @@ use kex_code::memory::Memory;
 use kex_code::piece::Bytes;
 use kex_model::program::{Definition, Program, Start};
 use kex_regexp::breaks::Break;
-use kex_tokens::token::{MAX_TEXT, Token, TokenFault};
+use kex_tokens::token::{Token, TokenFault};
 use kex_tokens::tokens;
 use std::alloc::Global;
 
@@ -68,12 +68,10 @@ fn main_alone(
     for i in 0..definitions.len() {
         let definition = definitions[i];
         if names[definition.name as usize].as_slice() == b"main".as_slice() {
-            let Ok(()) = stages.push(Start {
+            stages.push(Start {
                 name: definition.name,
                 at: definition.at,
-            }) else {
-                return Err(Memory);
-            };
+            })?;
             return Ok(stages);
         }
     }
@@ -107,7 +105,7 @@ fn program(
 ) -> Result<Program, ReadRefusal>
     requires { (at : ℕ → ℕ) × (tree : Tree) × ShowsDefinitions tree.definitions draft at definitions.items (length (header tree.header)) × ShowsHead tree.header draft at named.items }
     ensures whole { IfOk result (λ _. draft.entry.broken ≡ None) }
-    ensures shown { IfOk result (λ P. (at : ℕ → ℕ) (tree : Tree) → ShowsDefinitions tree.definitions draft.entry at definitions.items (length (header tree.header)) → ShowsHead tree.header draft.entry at named.items → ShowsProgram tree (record { nodes = P.nodes; names = P.names; registers = draft.entry.registers; broken = None }) at P) }
+    ensures shown { IfOk result (λ P. (at : ℕ → ℕ) (tree : Tree) → ShowsDefinitions tree.definitions draft.entry at definitions.items (length (header tree.header)) → ShowsHead tree.header draft.entry at named.items → ShowsProgram tree (made_of P draft.entry.registers) at P) }
     ensures names { IfOk result (λ P. Different P.names) }
     ensures registers { IfOk result (λ P. Different draft.entry.registers × (P.registers ≡ length draft.entry.registers)) }
     ensures refused { IfErr result (λ e. (e ≡ ReadRefusal.Memory) ⊎ ((b : Break) × (draft.entry.broken ≡ Some b) × (e ≡ of_limit b))) }
@@ -129,7 +127,7 @@ fn program(
 
 // The tokens of a text as a program.
 fn parse(alloc: Global, text: &[u8], tokens: &[Token]) -> Result<Program, ReadRefusal>
-    requires short { length text.now ≤ MAX_TEXT }
+    requires short { length text.now ≤ most_text }
     requires cut { AreTokens text.now tokens.now }
     requires spans { All (IsSpan text.now) tokens.now }
     ensures read { IfOk result (λ P. Spells text.now P) }

@@ -199,3 +199,9 @@ SomeState nodes fs wait at = (base : ℕ) × (s : State) × StandsFor nodes base
 
 abbrev pub SomeBehind : List Node → List Frame → Placed → ℕ → Type 0
 SomeBehind nodes fs part at = (base : ℕ) × (es : List Entry) × (i : Item) × FramesShow nodes base (reverse fs) es × (part.at ≡ base + length (entries es)) × (at ≡ part.at + length (item i)) × HoldsItem i nodes part.node part.at
+
+-- ---- what clauses say
+
+-- where the frames show entries, behind which stands an item with this node
+abbrev pub OnItem : List Node → List Frame → Placed → (ℕ → List Entry → Item → Type 0) → Type 0
+OnItem nodes frames placed Says = (base : ℕ) (es : List Entry) (i : Item) → FramesShow nodes base (reverse frames) es → placed.at ≡ base + length (entries es) → HoldsItem i nodes placed.node placed.at → Says base es i

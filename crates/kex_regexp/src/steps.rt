@@ -2,7 +2,7 @@
 
 ghost use Rattle.std.specs.Prelude.{◌≡◌, ℕ, ◌+◌, ◌<◌, List, [], ◌∷◌, ◌++◌, length, reverse, OnOk, IfOk, IfErr};
 ghost use Rattle.kex_regexp.specs.Grammar.{Item, Postfix, Empty, Turns, item as spelled_item};
-ghost use Rattle.kex_regexp.specs.Holding.{FramesShow, HoldsItem, IsSetAfter, IsTurns, ShowsCountStep, ShowsEscape, ShowsSet, SomeBehind, SomeFrames, SomeItem, SomeState, StandsFor, Steps, capped, capped_option};
+ghost use Rattle.kex_regexp.specs.Holding.{FramesShow, HoldsItem, IsSetAfter, IsTurns, OnItem, ShowsCountStep, ShowsEscape, ShowsSet, SomeBehind, SomeFrames, SomeItem, SomeState, StandsFor, Steps, capped, capped_option};
 ghost use Rattle.kex_regexp.specs.Machine.{EscapeStep, SetStep, CountStep, Entry, Read, Ready, State, entries, spelled, goes, take_pieces, take_regex, begin_piece, after_item, end_branch, close as close_parenthesis, on_escape as spec_on_escape, on_set as spec_on_set, on_count as spec_on_count, step as spec_step};
 ghost use Rattle.kex_regexp.specs.Shown.{Adds, IsNode};
 ghost use Rattle.kex_regexp.specs.Values.{low as low_of, high as high_of};
@@ -153,7 +153,7 @@ fn turns(
 ) -> Result<Wait, StepFault>
     requires { SomeItem into.old frames.old.items item }
     ensures adds { Adds into.old into.new }
-    ensures step { (base : ℕ) (es : List Entry) (i : Item) (p : Postfix) → FramesShow into.old base (reverse frames.old.items) es → item.at ≡ base + length (entries es) → HoldsItem i into.old item.node item.at → low ≡ capped (low_of p) → high ≡ capped_option (high_of p) → Steps into.new base frames.new.items result (goes Ready (Read (Turns i p) ∷ es)) }
+    ensures step { OnItem into.old frames.old.items item (λ base es i. (p : Postfix) → low ≡ capped (low_of p) → high ≡ capped_option (high_of p) → Steps into.new base frames.new.items result (goes Ready (Read (Turns i p) ∷ es))) }
 {
     let Ok(node) = repeated(into, item, low, high) else {
         return Err(StepFault::Memory);
@@ -176,7 +176,7 @@ fn behind(
 ) -> Result<Wait, StepFault>
     requires { SomeBehind into.old frames.old.items item at }
     ensures adds { Adds into.old into.new }
-    ensures step { (base : ℕ) (es : List Entry) (i : Item) → FramesShow into.old base (reverse frames.old.items) es → item.at ≡ base + length (entries es) → at ≡ item.at + length (spelled_item i) → HoldsItem i into.old item.node item.at → Steps into.new base frames.new.items result (after_item i es byte) }
+    ensures step { OnItem into.old frames.old.items item (λ base es i. at ≡ item.at + length (spelled_item i) → Steps into.new base frames.new.items result (after_item i es byte)) }
 {
     if byte == b'*' {
         turns(frames, into, item, 0, None)
@@ -253,7 +253,7 @@ fn on_count(
 ) -> Result<Wait, StepFault>
     requires { SomeItem into.old frames.old.items item }
     ensures adds { Adds into.old into.new }
-    ensures step { (base : ℕ) (es : List Entry) (i : Item) (t : CountStep) → FramesShow into.old base (reverse frames.old.items) es → item.at ≡ base + length (entries es) → brace ≡ item.at + length (spelled_item i) → HoldsItem i into.old item.node item.at → ShowsCountStep outcome t → Steps into.new base frames.new.items result (spec_on_count i es t) }
+    ensures step { OnItem into.old frames.old.items item (λ base es i. (t : CountStep) → brace ≡ item.at + length (spelled_item i) → ShowsCountStep outcome t → Steps into.new base frames.new.items result (spec_on_count i es t)) }
 {
     match outcome {
         CountOutcome::On(count) => Ok(Wait::InCount { item, count, brace }),

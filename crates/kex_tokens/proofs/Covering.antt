@@ -6,10 +6,9 @@ use Rattle.std.proofs.lemmas.List.Elements.{All-append, All-nil, All-cons}
 use Rattle.kex_tokens.specs.declared.token.Token.{Token}
 use Rattle.kex_tokens.specs.declared.token.TokenFault.{TokenFault}
 use Rattle.kex_tokens.specs.declared.token.TokenFault.TheVariants.{TextTooLong, BadToken, Memory}
-use Rattle.kex_tokens.specs.declared.token.TheConstants.{MAX_TEXT}
 use Rattle.kex_tokens.specs.Lexemes.{Lexeme, Space, LineComment, BlockComment, Kept, Piece, IsToken, IsLexeme, IsLongest, HasNoLexeme}
 use Rattle.kex_tokens.specs.Scanning.{lexeme}
-use Rattle.kex_tokens.specs.Texts.{Covers, kept, tokens_of, AreTokens, IsBadToken, IsSpan, AreInOrder, IsRefused}
+use Rattle.kex_tokens.specs.Texts.{Covers, kept, tokens_of, AreTokens, IsBadToken, IsSpan, AreInOrder, IsRefused, most_text}
 use Rattle.kex_tokens.proofs.Front.{found_longest, longest_filled, longest_found}
 
 -- ---- the loop
@@ -141,16 +140,16 @@ order_of text from (p ∷ ps) to c = order_kept from p.long p.lexeme (tokens_of 
 
 -- ---- the answers
 
-pub too_long : (text : List ℕ) (r : Result (Vec Token Global) TokenFault) → length text ≤ MAX_TEXT → MAX_TEXT < length text → r ≡ Err TextTooLong
+pub too_long : (text : List ℕ) (r : Result (Vec Token Global) TokenFault) → length text ≤ most_text → most_text < length text → r ≡ Err TextTooLong
 too_long text r h k = absurd (omega (arith, h, k))
 
-pub whole_answered : (text : List ℕ) (r : Result (Vec Token Global) TokenFault) → length text ≤ MAX_TEXT → IfOk r (λ v. AreTokens text v.items) → IfErr r (λ fault. IsRefused fault text) → (ts : List Token) → AreTokens text ts → MatchResult r (λ v. v.items ≡ ts) (λ fault. fault ≡ Memory)
+pub whole_answered : (text : List ℕ) (r : Result (Vec Token Global) TokenFault) → length text ≤ most_text → IfOk r (λ v. AreTokens text v.items) → IfErr r (λ fault. IsRefused fault text) → (ts : List Token) → AreTokens text ts → MatchResult r (λ v. v.items ≡ ts) (λ fault. fault ≡ Memory)
 whole_answered text (Ok v) h a b ts k = one_cut text v.items ts a k
 whole_answered text (Err TextTooLong) h a b ts k = absurd (omega (arith, h, b))
 whole_answered text (Err (BadToken at)) h a b ts k = absurd (no_cut_and_bad text ts at k b.1)
 whole_answered text (Err Memory) h a b ts k = refl
 
-pub bad_answered : (text : List ℕ) (r : Result (Vec Token Global) TokenFault) → length text ≤ MAX_TEXT → IfOk r (λ v. AreTokens text v.items) → IfErr r (λ fault. IsRefused fault text) → (at : ℕ) → IsBadToken text at → MatchResult r (λ _. ⊥) (λ fault. (fault ≡ BadToken at) ⊎ (fault ≡ Memory))
+pub bad_answered : (text : List ℕ) (r : Result (Vec Token Global) TokenFault) → length text ≤ most_text → IfOk r (λ v. AreTokens text v.items) → IfErr r (λ fault. IsRefused fault text) → (at : ℕ) → IsBadToken text at → MatchResult r (λ _. ⊥) (λ fault. (fault ≡ BadToken at) ⊎ (fault ≡ Memory))
 bad_answered text (Ok v) h a b at k = no_cut_and_bad text v.items at a k
 bad_answered text (Err TextTooLong) h a b at k = absurd (omega (arith, h, b))
 bad_answered text (Err (BadToken j)) h a b at k = inl (ap BadToken (one_bad text j at b.1 k))

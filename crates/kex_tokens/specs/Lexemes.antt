@@ -1,5 +1,7 @@
 -- What tokens, white space and comments are spelled, and the longest of them at a place.
-use Rattle.std.specs.Prelude.{◌≡◌, ℕ, ◌<◌, ◌≤◌, Bool, true, false, ◌&&◌, ◌||◌, List, [], ◌∷◌, ◌++◌, length, take, nat_le, ◌==◌, codes}
+use Rattle.std.specs.Char.{is_ascii_alphabetic, is_ascii_digit, is_ascii_hexdigit}
+use Rattle.kex_tokens.specs.Bytes as byte
+use Rattle.std.specs.Prelude.{◌≡◌, ℕ, ◌<◌, ◌≤◌, Bool, true, false, ◌||◌, List, [], ◌∷◌, ◌++◌, length, take, ◌==◌, codes}
 pub use Rattle.kex_tokens.specs.declared.token.Kind.{Kind}
 pub use Rattle.kex_tokens.specs.declared.token.Kind.TheVariants.{Name, Number, Literal, Regex, Define, Colon, Pipe, Bar, Tilde, At, Star, Plus, PlusEquals, Question, OpenBrace, CloseBrace, Comma, Bang, OpenBracket, CloseBracket, Arrow, OpenParen, CloseParen}
 pub use Rattle.kex_tokens.specs.declared.lexeme.Lexeme.{Lexeme}
@@ -10,39 +12,39 @@ pub use Rattle.kex_tokens.specs.declared.lexeme.Piece.{Piece}
 
 -- blank, tab, carriage return, line feed
 abbrev pub is_space : ℕ → Bool
-is_space b = (b == 32) || (b == 9) || (b == 13) || (b == 10)
+is_space b = (b == byte.blank) || (b == byte.tab) || (b == byte.carriage_return) || (b == byte.line_feed)
 
 abbrev pub is_letter : ℕ → Bool
-is_letter b = (nat_le 65 b && nat_le b 90) || (nat_le 97 b && nat_le b 122)
+is_letter b = is_ascii_alphabetic b
 
 abbrev pub is_digit : ℕ → Bool
-is_digit b = nat_le 48 b && nat_le b 57
+is_digit b = is_ascii_digit b
 
 -- a letter, a digit or _
 abbrev pub is_name_byte : ℕ → Bool
-is_name_byte b = is_letter b || is_digit b || (b == 95)
+is_name_byte b = is_letter b || is_digit b || (b == byte.underscore)
 
 abbrev pub is_hex : ℕ → Bool
-is_hex b = is_digit b || (nat_le 65 b && nat_le b 70) || (nat_le 97 b && nat_le b 102)
+is_hex b = is_ascii_hexdigit b
 
 abbrev pub not : Bool → Bool
 not true = false
 not false = true
 
 abbrev pub is_no_feed : ℕ → Bool
-is_no_feed b = not (b == 10)
+is_no_feed b = not (b == byte.line_feed)
 
 -- what may stand behind the \ of a short escape: n, t, r, \ and "
 abbrev pub is_short : ℕ → Bool
-is_short b = (b == 110) || (b == 116) || (b == 114) || (b == 92) || (b == 34)
+is_short b = (b == byte.letter_n) || (b == byte.letter_t) || (b == byte.letter_r) || (b == byte.backslash) || (b == byte.quote)
 
 -- what stands for itself in a literal: no ", \ or line feed
 abbrev pub is_literal_byte : ℕ → Bool
-is_literal_byte b = not ((b == 34) || (b == 92) || (b == 10))
+is_literal_byte b = not ((b == byte.quote) || (b == byte.backslash) || (b == byte.line_feed))
 
 -- what is an item by itself in a regex: no /, \ or line feed
 abbrev pub is_regex_byte : ℕ → Bool
-is_regex_byte b = not ((b == 47) || (b == 92) || (b == 10))
+is_regex_byte b = not ((b == byte.slash) || (b == byte.backslash) || (b == byte.line_feed))
 
 unfoldable pub AreAll : (ℕ → Bool) → List ℕ → Type 0
 AreAll p [] = Unit {0}
@@ -58,8 +60,8 @@ pub data Item : Type 0 where
 unfoldable pub items : List Item → List ℕ
 items [] = []
 items (Itself b ∷ is) = b ∷ items is
-items (Short b ∷ is) = 92 ∷ b ∷ items is
-items (Hex h l ∷ is) = 92 ∷ 120 ∷ h ∷ l ∷ items is
+items (Short b ∷ is) = byte.backslash ∷ b ∷ items is
+items (Hex h l ∷ is) = byte.backslash ∷ byte.letter_x ∷ h ∷ l ∷ items is
 
 unfoldable pub AreItems : List Item → Type 0
 AreItems [] = Unit {0}
@@ -74,7 +76,7 @@ pub data Atom : Type 0 where
 unfoldable pub atoms : List Atom → List ℕ
 atoms [] = []
 atoms (Plain b ∷ as') = b ∷ atoms as'
-atoms (Escaped b ∷ as') = 92 ∷ b ∷ atoms as'
+atoms (Escaped b ∷ as') = byte.backslash ∷ b ∷ atoms as'
 
 unfoldable pub AreAtoms : List Atom → Type 0
 AreAtoms [] = Unit {0}
@@ -86,9 +88,9 @@ AreAtoms (Escaped b ∷ as') = (is_no_feed b ≡ true) × AreAtoms as'
 unfoldable pub IsToken : Kind → List ℕ → Type 0
 IsToken Name bytes = (b : ℕ) × (w : List ℕ) × (is_letter b ≡ true) × AreAll is_name_byte w × (bytes ≡ b ∷ w)
 IsToken Number bytes = (b : ℕ) × (w : List ℕ) × (is_digit b ≡ true) × AreAll is_digit w × (bytes ≡ b ∷ w)
-IsToken Literal bytes = (is : List Item) × AreItems is × (bytes ≡ 34 ∷ items is ++ 34 ∷ [])
+IsToken Literal bytes = (is : List Item) × AreItems is × (bytes ≡ byte.quote ∷ items is ++ byte.quote ∷ [])
 -- between the slashes stands at least one item, and the first byte there is no *
-IsToken Regex bytes = (b : ℕ) × (w : List ℕ) × (as' : List Atom) × AreAtoms as' × ((b == 42) ≡ false) × (atoms as' ≡ b ∷ w) × (bytes ≡ 47 ∷ b ∷ w ++ 47 ∷ [])
+IsToken Regex bytes = (b : ℕ) × (w : List ℕ) × (as' : List Atom) × AreAtoms as' × ((b == byte.asterisk) ≡ false) × (atoms as' ≡ b ∷ w) × (bytes ≡ byte.slash ∷ b ∷ w ++ byte.slash ∷ [])
 IsToken Define bytes = bytes ≡ codes ":="
 IsToken Colon bytes = bytes ≡ codes ":"
 IsToken Pipe bytes = bytes ≡ codes ">>"
@@ -111,13 +113,13 @@ IsToken CloseParen bytes = bytes ≡ codes ")"
 
 -- */ doesn't stand in these bytes
 abbrev pub NoClose : List ℕ → Type 0
-NoClose bytes = (a b : List ℕ) → bytes ≡ a ++ 42 ∷ 47 ∷ b → ⊥
+NoClose bytes = (a b : List ℕ) → bytes ≡ a ++ byte.asterisk ∷ byte.slash ∷ b → ⊥
 
 unfoldable pub IsLexeme : Lexeme → List ℕ → Type 0
 IsLexeme Space bytes = (b : ℕ) × (is_space b ≡ true) × (bytes ≡ b ∷ [])
-IsLexeme LineComment bytes = (w : List ℕ) × AreAll is_no_feed w × (bytes ≡ 47 ∷ 47 ∷ w)
+IsLexeme LineComment bytes = (w : List ℕ) × AreAll is_no_feed w × (bytes ≡ byte.slash ∷ byte.slash ∷ w)
 -- the first */ behind the /* ends it
-IsLexeme BlockComment bytes = (w : List ℕ) × NoClose (w ++ 42 ∷ []) × (bytes ≡ 47 ∷ 42 ∷ w ++ 42 ∷ 47 ∷ [])
+IsLexeme BlockComment bytes = (w : List ℕ) × NoClose (w ++ byte.asterisk ∷ []) × (bytes ≡ byte.slash ∷ byte.asterisk ∷ w ++ byte.asterisk ∷ byte.slash ∷ [])
 IsLexeme (Kept kind) bytes = IsToken kind bytes
 
 -- this lexeme stands at the front, and no longer one does

@@ -1,3 +1,4 @@
+pub mod Bytes
 pub mod Lexemes
 pub mod Scanning
 pub mod Texts

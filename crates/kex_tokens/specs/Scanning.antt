@@ -1,4 +1,5 @@
 -- How the scanners go: the lexeme at the front, by its first byte.
+use Rattle.kex_tokens.specs.Bytes as byte
 use Rattle.std.specs.Prelude.{ℕ, suc, Bool, true, false, List, [], ◌∷◌, Option, Some, None, ◌==◌, drop, if◌then◌else◌}
 use Rattle.kex_tokens.specs.Lexemes.{is_space, is_letter, is_digit, is_name_byte, is_hex, is_no_feed, is_short, Kind, Name, Number, Literal, Regex, Define, Colon, Pipe, Bar, Tilde, At, Star, Plus, PlusEquals, Question, OpenBrace, CloseBrace, Comma, Bang, OpenBracket, CloseBracket, Arrow, OpenParen, CloseParen, Lexeme, Space, LineComment, BlockComment, Kept, Piece}
 pub use Rattle.kex_tokens.specs.declared.runs.Run.{Run}
@@ -37,23 +38,23 @@ closing step s [] = None
 closing step s (b ∷ bs) = after (step s b) (λ t. closing step t bs)
 
 unfoldable pub literal_step : InLiteral → ℕ → Step InLiteral
-literal_step Between b = if b == 34 then Closed else if b == 92 then On Backslash else if b == 10 then Wrong else On Between
-literal_step Backslash b = if b == 120 then On HexBegun else if is_short b then On Between else Wrong
+literal_step Between b = if b == byte.quote then Closed else if b == byte.backslash then On Backslash else if b == byte.line_feed then Wrong else On Between
+literal_step Backslash b = if b == byte.letter_x then On HexBegun else if is_short b then On Between else Wrong
 literal_step HexBegun b = if is_hex b then On (HexOne b) else Wrong
 literal_step (HexOne high) b = if is_hex b then On Between else Wrong
 
 -- whether the byte before is a \ that escapes
 unfoldable pub regex_step : Bool → ℕ → Step Bool
-regex_step false b = if b == 47 then Closed else if b == 92 then On true else if b == 10 then Wrong else On false
-regex_step true b = if b == 10 then Wrong else On false
+regex_step false b = if b == byte.slash then Closed else if b == byte.backslash then On true else if b == byte.line_feed then Wrong else On false
+regex_step true b = if b == byte.line_feed then Wrong else On false
 
 abbrev pub star_closes : Bool → ℕ → Bool
-star_closes true b = b == 47
+star_closes true b = b == byte.slash
 star_closes false b = false
 
 -- whether the byte before is a *
 unfoldable pub block_step : Bool → ℕ → Step Bool
-block_step star b = if star_closes star b then Closed else On (b == 42)
+block_step star b = if star_closes star b then Closed else On (b == byte.asterisk)
 
 abbrev pub literal : InLiteral → List ℕ → Option ℕ
 literal s bs = closing literal_step s bs
@@ -80,8 +81,8 @@ begins_with c (b ∷ bs) = b == c
 -- behind a /
 unfoldable pub slash : List ℕ → Option Piece
 slash bs =
-    if begins_with 47 bs then Some (piece LineComment (suc (suc (run is_no_feed (drop 1 bs)))))
-    else if begins_with 42 bs then behind_one BlockComment (more (block false (drop 1 bs)))
+    if begins_with byte.slash bs then Some (piece LineComment (suc (suc (run is_no_feed (drop 1 bs)))))
+    else if begins_with byte.asterisk bs then behind_one BlockComment (more (block false (drop 1 bs)))
     else behind_one (Kept Regex) (regex false bs)
 
 abbrev pub alone : Kind → Option Piece
@@ -98,10 +99,10 @@ two c long bs = if begins_with c bs then pair long else None
 
 unfoldable pub single : ℕ → Option Kind
 single b =
-    if b == 124 then Some Bar else if b == 126 then Some Tilde else if b == 64 then Some At else if b == 42 then Some Star
-    else if b == 63 then Some Question else if b == 123 then Some OpenBrace else if b == 125 then Some CloseBrace else if b == 44 then Some Comma
-    else if b == 33 then Some Bang else if b == 91 then Some OpenBracket else if b == 93 then Some CloseBracket else if b == 40 then Some OpenParen
-    else if b == 41 then Some CloseParen else None
+    if b == byte.bar then Some Bar else if b == byte.tilde then Some Tilde else if b == byte.at_sign then Some At else if b == byte.asterisk then Some Star
+    else if b == byte.question then Some Question else if b == byte.open_brace then Some OpenBrace else if b == byte.close_brace then Some CloseBrace else if b == byte.comma then Some Comma
+    else if b == byte.bang then Some Bang else if b == byte.open_bracket then Some OpenBracket else if b == byte.close_bracket then Some CloseBracket else if b == byte.open_paren then Some OpenParen
+    else if b == byte.close_paren then Some CloseParen else None
 
 abbrev pub of_kind : Option Kind → Option Piece
 of_kind None = None
@@ -109,10 +110,10 @@ of_kind (Some k) = alone k
 
 unfoldable pub sign : ℕ → List ℕ → Option Piece
 sign b bs =
-    if b == 58 then one_or_two 61 Define Colon bs
-    else if b == 43 then one_or_two 61 PlusEquals Plus bs
-    else if b == 62 then two 62 Pipe bs
-    else if b == 60 then two 45 Arrow bs
+    if b == byte.colon then one_or_two byte.equals Define Colon bs
+    else if b == byte.plus then one_or_two byte.equals PlusEquals Plus bs
+    else if b == byte.greater then two byte.greater Pipe bs
+    else if b == byte.less then two byte.hyphen Arrow bs
     else of_kind (single b)
 
 unfoldable pub lexeme : List ℕ → Option Piece
@@ -121,6 +122,6 @@ lexeme (b ∷ bs) =
     if is_space b then Some (piece Space 1)
     else if is_letter b then Some (piece (Kept Name) (suc (run is_name_byte bs)))
     else if is_digit b then Some (piece (Kept Number) (suc (run is_digit bs)))
-    else if b == 34 then behind_one (Kept Literal) (literal Between bs)
-    else if b == 47 then slash bs
+    else if b == byte.quote then behind_one (Kept Literal) (literal Between bs)
+    else if b == byte.slash then slash bs
     else sign b bs

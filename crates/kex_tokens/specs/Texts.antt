@@ -4,8 +4,11 @@ use Rattle.std.specs.List.{slice_range}
 use Rattle.kex_tokens.specs.declared.token.Token.{Token}
 use Rattle.kex_tokens.specs.declared.token.TokenFault.{TokenFault}
 use Rattle.kex_tokens.specs.declared.token.TokenFault.TheVariants.{TextTooLong, BadToken, Memory}
-use Rattle.kex_tokens.specs.declared.token.TheConstants.{MAX_TEXT}
 use Rattle.kex_tokens.specs.Lexemes.{Lexeme, Space, LineComment, BlockComment, Kept, Piece, IsToken, IsLongest, HasNoLexeme}
+
+-- how many bytes a text may have
+abbrev pub most_text : ℕ
+most_text = 1048576
 
 -- the pieces are the text from one offset up to another, the longest lexeme at each place
 unfoldable pub Covers : List ℕ → ℕ → List Piece → ℕ → Type 0
@@ -44,6 +47,6 @@ AreInOrder from (t ∷ ts) = (from ≤ t.from) × AreInOrder t.to ts
 
 -- why a text is refused: too long before all else
 abbrev pub IsRefused : TokenFault → List ℕ → Type 0
-IsRefused TextTooLong text = MAX_TEXT < length text
-IsRefused (BadToken at) text = (length text ≤ MAX_TEXT) × IsBadToken text at
-IsRefused Memory text = length text ≤ MAX_TEXT
+IsRefused TextTooLong text = most_text < length text
+IsRefused (BadToken at) text = (length text ≤ most_text) × IsBadToken text at
+IsRefused Memory text = length text ≤ most_text

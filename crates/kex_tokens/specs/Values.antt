@@ -1,4 +1,5 @@
 -- What literals and numbers stand for.
+use Rattle.kex_tokens.specs.Bytes as byte
 use Rattle.std.specs.Prelude.{◌≡◌, ℕ, ◌+◌, ◌-◌, ◌*◌, ◌&&◌, List, [], ◌∷◌, ◌++◌, map, Option, Some, None, nat_le, ◌==◌, if◌then◌else◌}
 use Rattle.kex_tokens.specs.Lexemes.{is_digit, Item, Itself, Short, Hex, items, AreItems}
 use Rattle.kex_tokens.specs.Scanning.{InLiteral, Between, Backslash, HexBegun, HexOne, Step, On, Closed, Wrong, literal_step}
@@ -9,7 +10,7 @@ hex_value b = if is_digit b then b - 48 else if nat_le 65 b && nat_le b 70 then 
 
 -- \n, \t and \r stand for a line feed, a tab and a carriage return, \\ and \" for their second byte
 abbrev pub short_value : ℕ → ℕ
-short_value b = if b == 110 then 10 else if b == 116 then 9 else if b == 114 then 13 else b
+short_value b = if b == byte.letter_n then byte.line_feed else if b == byte.letter_t then byte.tab else if b == byte.letter_r then byte.carriage_return else b
 
 abbrev pub item_value : Item → ℕ
 item_value (Itself b) = b
@@ -18,12 +19,12 @@ item_value (Hex h l) = 16 * hex_value h + hex_value l
 
 -- the literal with this spelling stands for these bytes, one for each item
 abbrev pub StandsFor : List ℕ → List ℕ → Type 0
-StandsFor spelling bytes = (is : List Item) × AreItems is × (spelling ≡ 34 ∷ items is ++ 34 ∷ []) × (map item_value is ≡ bytes)
+StandsFor spelling bytes = (is : List Item) × AreItems is × (spelling ≡ byte.quote ∷ items is ++ byte.quote ∷ []) × (map item_value is ≡ bytes)
 
 -- the number that decimal digits write, where n stands before them
 unfoldable pub number_behind : ℕ → List ℕ → ℕ
 number_behind n [] = n
-number_behind n (b ∷ bs) = number_behind (10 * n + (b - 48)) bs
+number_behind n (b ∷ bs) = number_behind (10 * n + (b - byte.digit_0)) bs
 
 abbrev pub number_of : List ℕ → ℕ
 number_of digits = number_behind 0 digits
@@ -32,8 +33,8 @@ number_of digits = number_behind 0 digits
 
 -- the byte that an item gives at its last byte
 unfoldable pub item_end : InLiteral → ℕ → Option ℕ
-item_end Between b = if b == 92 then None else Some b
-item_end Backslash b = if b == 120 then None else Some (short_value b)
+item_end Between b = if b == byte.backslash then None else Some b
+item_end Backslash b = if b == byte.letter_x then None else Some (short_value b)
 item_end HexBegun b = None
 item_end (HexOne high) b = Some (16 * hex_value high + hex_value b)
 

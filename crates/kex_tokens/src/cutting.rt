@@ -2,7 +2,7 @@
 
 ghost use Rattle.std.specs.Prelude.{◌≡◌, ℕ, ◌<◌, ◌≤◌, ◌++◌, ◌↔◌, ◌⊎◌, List, Err, length, All, IfOk, IfErr, MatchResult};
 ghost use Rattle.kex_tokens.specs.declared.token.Token.{Token};
-ghost use Rattle.kex_tokens.specs.Texts.{AreInOrder, AreTokens, IsBadToken, IsRefused, IsSpan, kept};
+ghost use Rattle.kex_tokens.specs.Texts.{AreInOrder, AreTokens, IsBadToken, IsRefused, IsSpan, kept, most_text};
 
 use crate::lexeme::{Lexeme, Piece};
 use crate::scan::longest;
@@ -15,16 +15,14 @@ fn keep(tokens: &mut Vec<Token>, piece: Piece, from: u32, to: u32) -> Result<(),
     ensures memory { IfErr result (λ fault. fault ≡ TokenFault.Memory) }
 {
     if let Lexeme::Kept(kind) = piece.lexeme {
-        let Ok(()) = tokens.push(Token { kind, from, to }) else {
-            return Err(TokenFault::Memory);
-        };
+        tokens.push(Token { kind, from, to })?;
     }
     Ok(())
 }
 
 /// The tokens of a text within the limit.
 fn cut(alloc: Global, text: &[u8]) -> Result<Vec<Token>, TokenFault>
-    requires { length text.now ≤ MAX_TEXT }
+    requires { length text.now ≤ most_text }
     ensures cut { IfOk result (λ ts. AreTokens text.now ts.items) }
     ensures refused { IfErr result (λ fault. IsRefused fault text.now) }
 {
@@ -35,9 +33,7 @@ fn cut(alloc: Global, text: &[u8]) -> Result<Vec<Token>, TokenFault>
             return Err(TokenFault::BadToken { at: at as u32 });
         };
         let to = at + piece.long;
-        let Ok(()) = keep(&mut tokens, piece, at as u32, to as u32) else {
-            return Err(TokenFault::Memory);
-        };
+        keep(&mut tokens, piece, at as u32, to as u32)?;
         at = to;
     }
     Ok(tokens)
@@ -50,12 +46,12 @@ fn cut(alloc: Global, text: &[u8]) -> Result<Vec<Token>, TokenFault>
 pub fn tokens(alloc: Global, text: &[u8]) -> Result<Vec<Token>, TokenFault>
     ensures cut { IfOk result (λ ts. AreTokens text.now ts.items) }
     ensures refused { IfErr result (λ fault. IsRefused fault text.now) }
-    ensures too_long { MAX_TEXT < length text.now → result ≡ Err TokenFault.TextTooLong }
+    ensures too_long { most_text < length text.now → result ≡ Err TokenFault.TextTooLong }
     // a text that is cut is answered with these tokens, if there is memory
-    ensures whole { (ts : List Token) → length text.now ≤ MAX_TEXT → AreTokens text.now ts →
+    ensures whole { (ts : List Token) → length text.now ≤ most_text → AreTokens text.now ts →
         MatchResult result (λ v. v.items ≡ ts) (λ fault. fault ≡ TokenFault.Memory) }
     // and a text that is cut no further than here with this place
-    ensures bad { (at : ℕ) → length text.now ≤ MAX_TEXT → IsBadToken text.now at →
+    ensures bad { (at : ℕ) → length text.now ≤ most_text → IsBadToken text.now at →
         MatchResult result (λ _. ⊥) (λ fault. (fault ≡ TokenFault.BadToken at) ⊎ (fault ≡ TokenFault.Memory)) }
     ensures spans { IfOk result (λ ts. All (IsSpan text.now) ts.items) }
     ensures order { IfOk result (λ ts. AreInOrder 0 ts.items) }

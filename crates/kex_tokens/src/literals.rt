@@ -3,7 +3,7 @@
 ghost use Rattle.std.specs.Prelude.{◌≡◌, ◌+◌, ◌≤◌, length, drop, IfSome};
 ghost use Rattle.kex_tokens.specs.Scanning.{literal, literal_step};
 
-use crate::bytes::{is_hex, is_short};
+use crate::bytes::is_short;
 use crate::closing::Step;
 
 /// Where in an item of a literal the next byte stands.
@@ -42,14 +42,14 @@ pub fn literal_step(state: InLiteral, byte: u8) -> Step<InLiteral>
             }
         }
         InLiteral::HexBegun => {
-            if is_hex(byte) {
+            if byte.is_ascii_hexdigit() {
                 Step::On(InLiteral::HexOne(byte))
             } else {
                 Step::Wrong
             }
         }
         InLiteral::HexOne(_) => {
-            if is_hex(byte) {
+            if byte.is_ascii_hexdigit() {
                 Step::On(InLiteral::Between)
             } else {
                 Step::Wrong

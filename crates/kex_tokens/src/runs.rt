@@ -3,7 +3,7 @@
 ghost use Rattle.std.specs.Prelude.{◌≡◌, ◌+◌, ◌≤◌, length, drop};
 ghost use Rattle.kex_tokens.specs.Scanning.{belongs, run as run_of};
 
-use crate::bytes::{is_digit, is_name_byte};
+use crate::bytes::is_name_byte;
 
 /// The bytes of which there may be any number: those in a name, digits, or all but a line feed.
 #[derive(Clone, Copy)]
@@ -18,7 +18,7 @@ fn belongs(run: Run, byte: u8) -> bool
 {
     match run {
         Run::NameBytes => is_name_byte(byte),
-        Run::Digits => is_digit(byte),
+        Run::Digits => byte.is_ascii_digit(),
         Run::Line => byte != b'\n',
     }
 }

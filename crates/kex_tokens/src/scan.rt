@@ -4,7 +4,7 @@ ghost use Rattle.std.specs.Prelude.{◌≡◌, ◌+◌, ◌<◌, ◌≤◌, ◌^
 ghost use Rattle.kex_tokens.specs.Lexemes.{HasNoLexeme, IsLongest};
 ghost use Rattle.kex_tokens.specs.Scanning.{behind_one, lexeme, slash};
 
-use crate::bytes::{is_digit, is_letter, is_space};
+use crate::bytes::is_space;
 use crate::lexeme::{Lexeme, Piece};
 use crate::literals::literal_length;
 use crate::runs::{Run, run_length};
@@ -60,13 +60,13 @@ fn begun(first: u8, text: &[u8], next: usize) -> Option<Piece>
             lexeme: Lexeme::Space,
             long: 1,
         })
-    } else if is_letter(first) {
+    } else if first.is_ascii_alphabetic() {
         let long = 1 + run_length(text, next, Run::NameBytes);
         Some(Piece {
             lexeme: Lexeme::Kept(Kind::Name),
             long,
         })
-    } else if is_digit(first) {
+    } else if first.is_ascii_digit() {
         let long = 1 + run_length(text, next, Run::Digits);
         Some(Piece {
             lexeme: Lexeme::Kept(Kind::Number),

@@ -4,7 +4,6 @@ ghost use Rattle.std.specs.Prelude.{◌≡◌, ◌<◌, ◌≤◌, ◌++◌, dro
 ghost use Rattle.kex_tokens.specs.Lexemes.{IsToken};
 ghost use Rattle.kex_tokens.specs.Values.{StandsFor, hex_value, item_end, number_of, or_nothing, short_value};
 
-use crate::bytes::is_digit;
 use crate::closing::Step;
 use crate::literals::{InLiteral, literal_step};
 use crate::token::Kind;
@@ -15,7 +14,7 @@ fn hex_value(byte: u8) -> u8
     ensures value { result ≡ hex_value byte }
     ensures small { result < 16 }
 {
-    if is_digit(byte) {
+    if byte.is_ascii_digit() {
         byte - b'0'
     } else if byte >= b'A' && byte <= b'F' {
         byte - b'A' + 10
@@ -65,9 +64,7 @@ fn push_some(bytes: &mut Vec<u8>, byte: Option<u8>) -> Result<(), AllocError>
     ensures { IfOk result (λ _. bytes.new.items ≡ bytes.old.items ++ or_nothing byte) }
 {
     if let Some(byte) = byte {
-        let Ok(()) = bytes.push(byte) else {
-            return Err(AllocError);
-        };
+        bytes.push(byte)?;
     }
     Ok(())
 }
@@ -84,9 +81,7 @@ pub fn literal_bytes(alloc: Global, spelling: &[u8]) -> Result<Vec<u8>, AllocErr
         let Step::On(next) = literal_step(state, byte) else {
             return Ok(bytes);
         };
-        let Ok(()) = push_some(&mut bytes, item_end(state, byte)) else {
-            return Err(AllocError);
-        };
+        push_some(&mut bytes, item_end(state, byte))?;
         state = next;
     }
     Ok(bytes)

@@ -10,27 +10,27 @@ use Rattle.kex_reader.proofs.Stepping.{put_index}
 use Rattle.kex_reader.proofs.inside.behind.Goals as goal
 
 pub returns-in-Star-clause-step : goal.returns-in-Star-clause-step
-returns-in-Star-clause-step c = λ at base es a h e p s. to _ at base _ _ _ _ (after_kind a es c.args.word.spelling.now c.args.word.kind kinds.Star _ c.in-Star.is (after_star a es)) (c.turns.ensures.step at base es a ZeroOrMore h e s star_low star_high)
+returns-in-Star-clause-step c = λ at base es a h e s p. to _ at base _ _ _ _ (after_kind a es c.args.word.spelling.now c.args.word.kind kinds.Star _ c.in-Star.is (after_star a es)) (c.turns.ensures.step at base es a h e s ZeroOrMore star_low star_high)
 
 pub returns-in-Plus-clause-step : goal.returns-in-Plus-clause-step
-returns-in-Plus-clause-step c = λ at base es a h e p s. to _ at base _ _ _ _ (after_kind a es c.args.word.spelling.now c.args.word.kind kinds.Plus _ c.in-Plus.is (after_plus a es)) (c.turns-in-Plus.ensures.step at base es a OneOrMore h e s plus_low plus_high)
+returns-in-Plus-clause-step c = λ at base es a h e s p. to _ at base _ _ _ _ (after_kind a es c.args.word.spelling.now c.args.word.kind kinds.Plus _ c.in-Plus.is (after_plus a es)) (c.turns-in-Plus.ensures.step at base es a h e s OneOrMore plus_low plus_high)
 
 pub returns-in-Question-clause-step : goal.returns-in-Question-clause-step
-returns-in-Question-clause-step c = λ at base es a h e p s. to _ at base _ _ _ _ (after_kind a es c.args.word.spelling.now c.args.word.kind kinds.Question _ c.in-Question.is (after_question a es)) (c.turns-in-Question.ensures.step at base es a Optional h e s optional_low optional_high)
+returns-in-Question-clause-step c = λ at base es a h e s p. to _ at base _ _ _ _ (after_kind a es c.args.word.spelling.now c.args.word.kind kinds.Question _ c.in-Question.is (after_question a es)) (c.turns-in-Question.ensures.step at base es a h e s Optional optional_low optional_high)
 
 pub returns-in-OpenBrace-clause-step : goal.returns-in-OpenBrace-clause-step
-returns-in-OpenBrace-clause-step c = λ at base es a h e p s. to _ at base _ _ _ _ (after_kind a es c.args.word.spelling.now c.args.word.kind kinds.OpenBrace _ c.in-OpenBrace.is (after_brace a es)) (count_opens c.args.draft.now at base c.args.stack.now es a c.args.item _ h e s p)
+returns-in-OpenBrace-clause-step c = λ at base es a h e s p. to _ at base _ _ _ _ (after_kind a es c.args.word.spelling.now c.args.word.kind kinds.OpenBrace _ c.in-OpenBrace.is (after_brace a es)) (count_opens c.args.draft.now at base c.args.stack.now es a c.args.item _ h e s p)
 
 pub returns-in_default-put-clause-step : goal.returns-in_default-put-clause-step
-returns-in_default-put-clause-step c = λ at base es a h e p s. memory c.put.new.draft at base c.put.new.stack _
+returns-in_default-put-clause-step c = λ at base es a h e s p. memory c.put.new.draft at base c.put.new.stack _
 
 pub returns-in-Ok : goal.returns-in-Ok
 returns-in-Ok c = record {
   keeps = on_keeps _ _ _ _ c.in-Ok.ensures.keeps c.begin.ensures.keeps;
-  notes = λ at base es a h e p s cs n.
+  notes = λ at base es a h e s p cs n.
       on_from c.begin.result cs _ _ c.begin.new.draft.broken (ap (λ k. begin_asks at k (put (Once a) es) (word c.args.word.kind c.args.word.spelling.now)) (put_index base a es) ∙ after_begins at (base + length (entries es) + length (atom a)) a es c.args.word.spelling.now c.args.word.kind c.in_default.not-Star c.in_default.not-Plus c.in_default.not-Question c.in_default.not-OpenBrace)
       (c.begin.ensures.notes at base (put (Once a) es) (c.in-Ok.ensures.put at base es (Once a) h e (once_shows c.args.draft.now at c.args.item.node (base + length (entries es)) a s)) (put_place at base c.args.word.at a es p) cs (moved cs c.args.draft.now.broken c.put.new.draft.broken c.in-Ok.ensures.broken n));
-  step = λ at base es a h e p s.
+  step = λ at base es a h e s p.
       to _ at base _ _ _ _ (after_other a es c.args.word.spelling.now c.args.word.kind c.in_default.not-Star c.in_default.not-Plus c.in_default.not-Question c.in_default.not-OpenBrace)
       (c.begin.ensures.step at base (put (Once a) es) (c.in-Ok.ensures.put at base es (Once a) h e (once_shows c.args.draft.now at c.args.item.node (base + length (entries es)) a s)) (put_place at base c.args.word.at a es p));
 }
@@ -51,13 +51,13 @@ pub turns-requires-in-Question-clause-count : goal.turns-requires-in-Question-cl
 turns-requires-in-Question-clause-count c = (Optional, optional_low, optional_high, omega arith)
 
 pub returns-in-Star-clause-notes : goal.returns-in-Star-clause-notes
-returns-in-Star-clause-notes c = λ at base es a h e p s cs n. on_from c.turns.result cs [] _ c.turns.new.draft.broken (after_quiet at (base + length (entries es) + length (atom a)) a es c.args.word.spelling.now c.args.word.kind kinds.Star c.in-Star.is tt) (on_same c.turns.result cs c.args.draft.now.broken c.turns.new.draft.broken c.turns.ensures.broken n)
+returns-in-Star-clause-notes c = λ at base es a h e s p cs n. on_from c.turns.result cs [] _ c.turns.new.draft.broken (after_quiet at (base + length (entries es) + length (atom a)) a es c.args.word.spelling.now c.args.word.kind kinds.Star c.in-Star.is tt) (on_same c.turns.result cs c.args.draft.now.broken c.turns.new.draft.broken c.turns.ensures.broken n)
 
 pub returns-in-Plus-clause-notes : goal.returns-in-Plus-clause-notes
-returns-in-Plus-clause-notes c = λ at base es a h e p s cs n. on_from c.turns-in-Plus.result cs [] _ c.turns-in-Plus.new.draft.broken (after_quiet at (base + length (entries es) + length (atom a)) a es c.args.word.spelling.now c.args.word.kind kinds.Plus c.in-Plus.is tt) (on_same c.turns-in-Plus.result cs c.args.draft.now.broken c.turns-in-Plus.new.draft.broken c.turns-in-Plus.ensures.broken n)
+returns-in-Plus-clause-notes c = λ at base es a h e s p cs n. on_from c.turns-in-Plus.result cs [] _ c.turns-in-Plus.new.draft.broken (after_quiet at (base + length (entries es) + length (atom a)) a es c.args.word.spelling.now c.args.word.kind kinds.Plus c.in-Plus.is tt) (on_same c.turns-in-Plus.result cs c.args.draft.now.broken c.turns-in-Plus.new.draft.broken c.turns-in-Plus.ensures.broken n)
 
 pub returns-in-Question-clause-notes : goal.returns-in-Question-clause-notes
-returns-in-Question-clause-notes c = λ at base es a h e p s cs n. on_from c.turns-in-Question.result cs [] _ c.turns-in-Question.new.draft.broken (after_quiet at (base + length (entries es) + length (atom a)) a es c.args.word.spelling.now c.args.word.kind kinds.Question c.in-Question.is tt) (on_same c.turns-in-Question.result cs c.args.draft.now.broken c.turns-in-Question.new.draft.broken c.turns-in-Question.ensures.broken n)
+returns-in-Question-clause-notes c = λ at base es a h e s p cs n. on_from c.turns-in-Question.result cs [] _ c.turns-in-Question.new.draft.broken (after_quiet at (base + length (entries es) + length (atom a)) a es c.args.word.spelling.now c.args.word.kind kinds.Question c.in-Question.is tt) (on_same c.turns-in-Question.result cs c.args.draft.now.broken c.turns-in-Question.new.draft.broken c.turns-in-Question.ensures.broken n)
 
 pub returns-in-OpenBrace-clause-notes : goal.returns-in-OpenBrace-clause-notes
-returns-in-OpenBrace-clause-notes c = λ at base es a h e p s cs n. subst (λ x. Rattle.kex_reader.specs.Stands.Noted (cs ++ x) c.args.draft.now.broken) (after_quiet at (base + length (entries es) + length (atom a)) a es c.args.word.spelling.now c.args.word.kind kinds.OpenBrace c.in-OpenBrace.is tt) (same cs c.args.draft.now.broken n)
+returns-in-OpenBrace-clause-notes c = λ at base es a h e s p cs n. subst (λ x. Rattle.kex_reader.specs.Stands.Noted (cs ++ x) c.args.draft.now.broken) (after_quiet at (base + length (entries es) + length (atom a)) a es c.args.word.spelling.now c.args.word.kind kinds.OpenBrace c.in-OpenBrace.is tt) (same cs c.args.draft.now.broken n)

@@ -14,7 +14,7 @@ returns-in-CloseBracket-clause-step c = λ place base fs es append r p ps h m.
     (atom_steps c.args.draft.now c.leaf.new.draft place base fs fs es _ (Rattle.kex_reader.specs.Syntax.Assign append r p ps) c.args.assignment.at c.leaf.ensures.keeps (assign_of c.args.draft.now c.leaf.new.draft place i c.args.assignment append r p ps c.kind.result _ c.kind.ensures m c.leaf.ensures.keeps c.leaf.ensures.wait) c.leaf.ensures.fault h (assigned_at c.args.draft.now place i c.args.assignment append r p ps m))
 
 pub returns-in_default-clause-step : goal.returns-in_default-clause-step
-returns-in_default-clause-step c = λ place base fs es append r p ps h m. c.part.ensures.next place base fs es append r p ps c.in_default.not-CloseBracket h m
+returns-in_default-clause-step c = λ place base fs es append r p ps h m. c.part.ensures.next c.in_default.not-CloseBracket place base fs es append r p ps h m
 
 pub leaf-requires-clause-below : goal.leaf-requires-clause-below
 leaf-requires-clause-below c =

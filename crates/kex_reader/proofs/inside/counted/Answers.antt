@@ -12,21 +12,21 @@ use Rattle.kex_reader.proofs.Modes.{count_on_notes}
 use Rattle.kex_reader.proofs.inside.counted.Goals as goal
 
 pub returns-in-On-clause-step : goal.returns-in-On-clause-step
-returns-in-On-clause-step c = λ at base es a t h e b s k. count_on c.args.draft.now at base c.args.stack.now es a c.args.item c.args.brace c.in-On.count t h e b s (subst (λ x. ShowsCountStep x t) c.in-On.is k)
+returns-in-On-clause-step c = λ at base es a h e s t b k. count_on c.args.draft.now at base c.args.stack.now es a c.args.item c.args.brace c.in-On.count t h e b s (subst (λ x. ShowsCountStep x t) c.in-On.is k)
 
 pub returns-in-Read-clause-step : goal.returns-in-Read-clause-step
-returns-in-Read-clause-step c = λ at base es a t h e b s k.
+returns-in-Read-clause-step c = λ at base es a h e s t b k.
     let r = count_read c.in-Read.bounds t (subst (λ x. ShowsCountStep x t) c.in-Read.is k) in
-    to _ at base _ _ _ _ (read_is a es t r.0 r.1) (c.turns.ensures.step at base es a r.0 h e s r.2 r.3)
+    to _ at base _ _ _ _ (read_is a es t r.0 r.1) (c.turns.ensures.step at base es a h e s r.0 r.2 r.3)
 
 pub returns-in-Wrong-clause-step : goal.returns-in-Wrong-clause-step
-returns-in-Wrong-clause-step c = λ at base es a t h e b s k. count_wrong c.args.draft.now at base c.args.stack.now es a t (subst (λ x. ShowsCountStep x t) c.in-Wrong.is k)
+returns-in-Wrong-clause-step c = λ at base es a h e s t b k. count_wrong c.args.draft.now at base c.args.stack.now es a t (subst (λ x. ShowsCountStep x t) c.in-Wrong.is k)
 
 pub returns-in_default-clause-step : goal.returns-in_default-clause-step
-returns-in_default-clause-step c = λ at base es a t h e b s k. memory c.put.new.draft at base c.put.new.stack _
+returns-in_default-clause-step c = λ at base es a h e s t b k. memory c.put.new.draft at base c.put.new.stack _
 
 pub returns-in-Ok-clause-step : goal.returns-in-Ok-clause-step
-returns-in-Ok-clause-step c = λ at base es a t h e b s k.
+returns-in-Ok-clause-step c = λ at base es a h e s t b k.
     let r = count_bad t (subst (λ x. ShowsCountStep x t) c.in-Bad.is k) in
     let i = base + length (entries es) in
     let more = c.note.ensures.keeps in

@@ -32,13 +32,13 @@ returns-in-Ok-call c = record {
   notes = λ at base es h m p cs n.
       let k = c.in-Ok-call.ensures.node in
       on_from c.behind.result cs _ _ c.behind.new.draft.broken (call_asks at (base + length (entries es)) c.args.name.bytes.now es (word c.args.word.kind c.args.word.spelling.now) ∙ named_after at (base + length (entries es)) c.args.name.bytes.now es c.args.word.spelling.now c.args.word.kind c.in_default.not-At c.in_default.not-Define)
-      (c.behind.ensures.notes at base es (Call c.args.name.bytes.now) (frames_more c.args.draft.now c.call.new.draft at base c.args.stack.now es c.in-Ok-call.ensures.keeps h) (c.in-Ok-call.ensures.place ∙ m) (call_place at base c.args.word.at c.args.name.bytes.now es p)
-      (call_shows c.call.new.draft at c.in-Ok-call.item.node (base + length (entries es)) k.0 c.args.name.at c.args.name.bytes.now m k.1 k.2) cs (moved cs c.args.draft.now.broken c.call.new.draft.broken c.in-Ok-call.ensures.broken n));
+      (c.behind.ensures.notes at base es (Call c.args.name.bytes.now) (frames_more c.args.draft.now c.call.new.draft at base c.args.stack.now es c.in-Ok-call.ensures.keeps h) (c.in-Ok-call.ensures.place ∙ m)
+      (call_shows c.call.new.draft at c.in-Ok-call.item.node (base + length (entries es)) k.0 c.args.name.at c.args.name.bytes.now m k.1 k.2) (call_place at base c.args.word.at c.args.name.bytes.now es p) cs (moved cs c.args.draft.now.broken c.call.new.draft.broken c.in-Ok-call.ensures.broken n));
   step = λ at base es h n p.
       let k = c.in-Ok-call.ensures.node in
       to _ at base _ _ _ _ (named_other c.args.name.bytes.now es c.args.word.spelling.now c.args.word.kind c.in_default.not-At c.in_default.not-Define)
-      (c.behind.ensures.step at base es (Call c.args.name.bytes.now) (frames_more c.args.draft.now c.call.new.draft at base c.args.stack.now es c.in-Ok-call.ensures.keeps h) (c.in-Ok-call.ensures.place ∙ n) (call_place at base c.args.word.at c.args.name.bytes.now es p)
-      (call_shows c.call.new.draft at c.in-Ok-call.item.node (base + length (entries es)) k.0 c.args.name.at c.args.name.bytes.now n k.1 k.2));
+      (c.behind.ensures.step at base es (Call c.args.name.bytes.now) (frames_more c.args.draft.now c.call.new.draft at base c.args.stack.now es c.in-Ok-call.ensures.keeps h) (c.in-Ok-call.ensures.place ∙ n)
+      (call_shows c.call.new.draft at c.in-Ok-call.item.node (base + length (entries es)) k.0 c.args.name.at c.args.name.bytes.now n k.1 k.2) (call_place at base c.args.word.at c.args.name.bytes.now es p));
 }
 
 pub behind-requires-clause-atom : goal.behind-requires-clause-atom

@@ -9,22 +9,22 @@ pub returns-in_default-clause-first : goal.returns-in_default-clause-first
 returns-in_default-clause-first c = λ place base fs es append r h m. memory c.piece.new.draft place base fs _
 
 pub returns-in_default-clause-next : goal.returns-in_default-clause-next
-returns-in_default-clause-next c = λ place base fs es append r p ps n h m. memory c.piece.new.draft place base fs _
+returns-in_default-clause-next c = λ n place base fs es append r p ps h m. memory c.piece.new.draft place base fs _
 
 pub returns-in_default-read-clause-first : goal.returns-in_default-read-clause-first
 returns-in_default-read-clause-first c = λ place base fs es append r h m. first_wrong c.args.draft.now c.piece.new.draft place base fs es c.args.assignment append r c.args.word.kind c.args.word.spelling.now (subst (λ o. Rattle.kex_reader.specs.Stands.PieceShows (Rattle.kex_reader.specs.Stands.part_of (word c.args.word.kind c.args.word.spelling.now)) c.piece.new.draft o) c.in_default-read.is c.in-Ok.ensures.read)
 
 pub returns-in_default-read-clause-next : goal.returns-in_default-read-clause-next
-returns-in_default-read-clause-next c = λ place base fs es append r p ps n h m. next_wrong c.args.draft.now c.piece.new.draft place base fs es c.args.assignment append r c.args.word.kind c.args.word.spelling.now p ps n (subst (λ o. Rattle.kex_reader.specs.Stands.PieceShows (Rattle.kex_reader.specs.Stands.part_of (word c.args.word.kind c.args.word.spelling.now)) c.piece.new.draft o) c.in_default-read.is c.in-Ok.ensures.read)
+returns-in_default-read-clause-next c = λ n place base fs es append r p ps h m. next_wrong c.args.draft.now c.piece.new.draft place base fs es c.args.assignment append r c.args.word.kind c.args.word.spelling.now p ps n (subst (λ o. Rattle.kex_reader.specs.Stands.PieceShows (Rattle.kex_reader.specs.Stands.part_of (word c.args.word.kind c.args.word.spelling.now)) c.piece.new.draft o) c.in_default-read.is c.in-Ok.ensures.read)
 
 pub returns-in_default-push-clause-first : goal.returns-in_default-push-clause-first
 returns-in_default-push-clause-first c = λ place base fs es append r h m. memory c.piece.new.draft place base fs _
 
 pub returns-in_default-push-clause-next : goal.returns-in_default-push-clause-next
-returns-in_default-push-clause-next c = λ place base fs es append r p ps n h m. memory c.piece.new.draft place base fs _
+returns-in_default-push-clause-next c = λ n place base fs es append r p ps h m. memory c.piece.new.draft place base fs _
 
 pub returns-clause-first : goal.returns-clause-first
 returns-clause-first c = λ place base fs es append r h m. first_on c.args.draft.now c.piece.new.draft place base fs es c.args.assignment append r c.args.word.kind c.args.word.spelling.now c.in-Some.piece _ refl refl refl c.in-Ok-push.ensures.items c.in-Ok.ensures.keeps (subst (λ o. Rattle.kex_reader.specs.Stands.PieceShows (Rattle.kex_reader.specs.Stands.part_of (word c.args.word.kind c.args.word.spelling.now)) c.piece.new.draft o) c.in-Some.is c.in-Ok.ensures.read) h m
 
 pub returns-clause-next : goal.returns-clause-next
-returns-clause-next c = λ place base fs es append r p ps n h m. next_on c.args.draft.now c.piece.new.draft place base fs es c.args.assignment append r c.args.word.kind c.args.word.spelling.now p ps c.in-Some.piece _ refl refl refl c.in-Ok-push.ensures.items c.in-Ok.ensures.keeps (subst (λ o. Rattle.kex_reader.specs.Stands.PieceShows (Rattle.kex_reader.specs.Stands.part_of (word c.args.word.kind c.args.word.spelling.now)) c.piece.new.draft o) c.in-Some.is c.in-Ok.ensures.read) h m
+returns-clause-next c = λ n place base fs es append r p ps h m. next_on c.args.draft.now c.piece.new.draft place base fs es c.args.assignment append r c.args.word.kind c.args.word.spelling.now p ps c.in-Some.piece _ refl refl refl c.in-Ok-push.ensures.items c.in-Ok.ensures.keeps (subst (λ o. Rattle.kex_reader.specs.Stands.PieceShows (Rattle.kex_reader.specs.Stands.part_of (word c.args.word.kind c.args.word.spelling.now)) c.piece.new.draft o) c.in-Some.is c.in-Ok.ensures.read) h m

@@ -24,7 +24,7 @@ returns-in-Ready-clause-step c = λ at base i st p.
 pub returns-in-After-clause-step : goal.returns-in-After-clause-step
 returns-in-After-clause-step c = λ at base i st p.
     let m = mode_after c.args.draft.now at (base + length (entries i.entries)) c.in-After.item i.mode (subst (λ w. ShowsMode c.args.draft.now at (base + length (entries i.entries)) w i.mode) (c.in-After.is) st.mode) in
-    to _ at base _ _ _ _ (step_of i (After m.0) (word c.args.word.kind c.args.word.spelling.now) m.1 ∙ in_after m.0 i.entries (word c.args.word.kind c.args.word.spelling.now)) (c.behind.ensures.step at base i.entries m.0 st.below m.2 (word_place at base c.args.word.at i (After m.0) (length (atom m.0)) m.1 (after_long m.0) p) m.3)
+    to _ at base _ _ _ _ (step_of i (After m.0) (word c.args.word.kind c.args.word.spelling.now) m.1 ∙ in_after m.0 i.entries (word c.args.word.kind c.args.word.spelling.now)) (c.behind.ensures.step at base i.entries m.0 st.below m.2 m.3 (word_place at base c.args.word.at i (After m.0) (length (atom m.0)) m.1 (after_long m.0) p))
 
 pub returns-in-Named-clause-step : goal.returns-in-Named-clause-step
 returns-in-Named-clause-step c = λ at base i st p.
@@ -61,7 +61,7 @@ returns-in-Assigned-clause-step c = λ at base i st p.
 pub returns-in-InCount-clause-step : goal.returns-in-InCount-clause-step
 returns-in-InCount-clause-step c = λ at base i st p.
     let m = mode_count c.args.draft.now at (base + length (entries i.entries)) c.in-InCount.item c.in-InCount.count c.in-InCount.brace i.mode (subst (λ w. ShowsMode c.args.draft.now at (base + length (entries i.entries)) w i.mode) (c.in-InCount.is) st.mode) in
-    to _ at base _ _ _ _ (step_of i (InCount m.0 m.1) (word c.args.word.kind c.args.word.spelling.now) m.2 ∙ in_count m.0 m.1 i.entries (word c.args.word.kind c.args.word.spelling.now)) (c.counted.ensures.step at base i.entries m.0 (count_step m.1 (word c.args.word.kind c.args.word.spelling.now)) st.below m.3 m.6 m.4
+    to _ at base _ _ _ _ (step_of i (InCount m.0 m.1) (word c.args.word.kind c.args.word.spelling.now) m.2 ∙ in_count m.0 m.1 i.entries (word c.args.word.kind c.args.word.spelling.now)) (c.counted.ensures.step at base i.entries m.0 st.below m.3 m.4 (count_step m.1 (word c.args.word.kind c.args.word.spelling.now)) m.6
     (subst (λ x. ShowsCountStep x (count_step m.1 (word c.args.word.kind c.args.word.spelling.now))) (sym c.count_step.ensures) (count_refines c.in-InCount.count m.1 c.args.word.kind c.args.word.spelling.now c.number_value.result c.number_value.ensures m.5)))
 
 pub begin-requires-clause-frames : goal.begin-requires-clause-frames
@@ -100,7 +100,7 @@ returns-in-Ready-clause-notes c = λ at base i st p cs n.
 pub returns-in-After-clause-notes : goal.returns-in-After-clause-notes
 returns-in-After-clause-notes c = λ at base i st p cs n.
     let m = mode_after c.args.draft.now at (base + length (entries i.entries)) c.in-After.item i.mode (subst (λ w. ShowsMode c.args.draft.now at (base + length (entries i.entries)) w i.mode) (c.in-After.is) st.mode) in
-    on_from c.behind.result cs _ _ c.behind.new.draft.broken (mode_after_asks at (base + length (entries i.entries)) i (word c.args.word.kind c.args.word.spelling.now) m.0 m.1) (c.behind.ensures.notes at base i.entries m.0 st.below m.2 (word_place at base c.args.word.at i (After m.0) (length (atom m.0)) m.1 (after_long m.0) p) m.3 cs n)
+    on_from c.behind.result cs _ _ c.behind.new.draft.broken (mode_after_asks at (base + length (entries i.entries)) i (word c.args.word.kind c.args.word.spelling.now) m.0 m.1) (c.behind.ensures.notes at base i.entries m.0 st.below m.2 m.3 (word_place at base c.args.word.at i (After m.0) (length (atom m.0)) m.1 (after_long m.0) p) cs n)
 
 pub returns-in-Named-clause-notes : goal.returns-in-Named-clause-notes
 returns-in-Named-clause-notes c = λ at base i st p cs n.

@@ -26,13 +26,13 @@ put-requires c =
     )
 
 pub returns-in_default-clause-step : goal.returns-in_default-clause-step
-returns-in_default-clause-step c = λ at base es a p h e s l k. memory c.add.new.self at base c.args.stack.now _
+returns-in_default-clause-step c = λ at base es a h e s p l k. memory c.add.new.self at base c.args.stack.now _
 
 pub returns-in_default-put-clause-step : goal.returns-in_default-put-clause-step
-returns-in_default-put-clause-step c = λ at base es a p h e s l k. memory c.put.new.draft at base c.put.new.stack _
+returns-in_default-put-clause-step c = λ at base es a h e s p l k. memory c.put.new.draft at base c.put.new.stack _
 
 pub returns-clause-step : goal.returns-clause-step
-returns-clause-step c = λ at base es a p h e s l k.
+returns-clause-step c = λ at base es a h e s p l k.
     let more = c.in-Ok.ensures.keeps in
     let i = base + length (entries es) in
     ready c.put.new.draft at base c.put.new.stack (put (Turns a p) es)

@@ -12,9 +12,9 @@ loop-front-init c = record { keeps = Keeps-refl _; broken = refl; so_far = λ at
 
 pub loop-front-preserved : goal.loop-front-preserved
 loop-front-preserved c = record {
-  keeps = Keeps-trans _ _ _ c.loop-front.invariant.keeps c.in-Ok.ensures.keeps;
-  broken = c.in-Ok.ensures.broken ∙ c.loop-front.invariant.broken;
-  so_far = λ at base es h. seq_more_on _ _ at base _ _ c.loop-front.seq c.in-Some-take_done.front _ _ c.in-Some-take_done.ensures.some c.in-Ok.ensures.keeps c.in-Ok.ensures.node (c.loop-front.invariant.so_far at base es h);
+  keeps = Keeps-trans _ _ _ c.loop-front.invariant.keeps c.in_ok-node.ensures.keeps;
+  broken = c.in_ok-node.ensures.broken ∙ c.loop-front.invariant.broken;
+  so_far = λ at base es h. seq_more_on _ _ at base _ _ c.loop-front.seq c.in-Some-take_done.front _ _ c.in-Some-take_done.ensures.some c.in_ok-node.ensures.keeps c.in_ok-node.ensures.node (c.loop-front.invariant.so_far at base es h);
 }
 
 pub add-requires-clause-below : goal.add-requires-clause-below

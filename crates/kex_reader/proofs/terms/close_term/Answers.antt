@@ -6,13 +6,13 @@ use Rattle.kex_reader.specs.Stands.{SeqTaken}
 use Rattle.kex_reader.proofs.terms.close_term.Goals as goal
 
 pub loop-front-init : goal.loop-front-init
-loop-front-init c = record { keeps = c.in-Ok.ensures.keeps; broken = c.in-Ok.ensures.broken; so_far = λ at base es h. term_begins c.close_seq.new.draft at base c.close_seq.new.stack es c.in-Some.last (subst (λ o. SeqTaken c.close_seq.new.draft at base c.close_seq.new.stack o (take_seq es)) c.in-Some.is (c.in-Ok.ensures.seq at base es h)) }
+loop-front-init c = record { keeps = c.in_ok-closed.ensures.keeps; broken = c.in_ok-closed.ensures.broken; so_far = λ at base es h. term_begins c.close_seq.new.draft at base c.close_seq.new.stack es c.in-Some.last (subst (λ o. SeqTaken c.close_seq.new.draft at base c.close_seq.new.stack o (take_seq es)) c.in-Some.is (c.in_ok-closed.ensures.seq at base es h)) }
 
 pub loop-front-preserved : goal.loop-front-preserved
 loop-front-preserved c = record {
-  keeps = Keeps-trans _ _ _ c.loop-front.invariant.keeps c.in-Ok-add.ensures.keeps;
-  broken = c.in-Ok-add.ensures.broken ∙ c.loop-front.invariant.broken;
-  so_far = λ at base es h. term_more_on c.loop-front.draft c.add.new.self at base c.loop-front.stack c.take_ended.new.self c.loop-front.term c.in-Some-take_ended.front c.in-Ok-add.node (take_term es) c.in-Some-take_ended.ensures.some c.in-Ok-add.ensures.keeps c.in-Ok-add.ensures.node (c.loop-front.invariant.so_far at base es h);
+  keeps = Keeps-trans _ _ _ c.loop-front.invariant.keeps c.in_ok-node.ensures.keeps;
+  broken = c.in_ok-node.ensures.broken ∙ c.loop-front.invariant.broken;
+  so_far = λ at base es h. term_more_on c.loop-front.draft c.add.new.self at base c.loop-front.stack c.take_ended.new.self c.loop-front.term c.in-Some-take_ended.front c.in_ok-node.node (take_term es) c.in-Some-take_ended.ensures.some c.in_ok-node.ensures.keeps c.in_ok-node.ensures.node (c.loop-front.invariant.so_far at base es h);
 }
 
 pub add-requires-clause-below : goal.add-requires-clause-below
@@ -23,5 +23,5 @@ add-requires-clause-below c =
 pub returns-clause-term : goal.returns-clause-term
 returns-clause-term c = λ at base es h. term_done c.loop-front.draft at base c.loop-front.stack c.take_ended.new.self c.loop-front.term (take_term es) c.in_default-take_ended.ensures.none c.in_default-take_ended.ensures.top (c.loop-front.invariant.so_far at base es h)
 
-pub returns-in_default-closed-clause-term : goal.returns-in_default-closed-clause-term
-returns-in_default-closed-clause-term c = λ at base es h. term_none c.close_seq.new.draft at base c.close_seq.new.stack es (subst (λ o. SeqTaken c.close_seq.new.draft at base c.close_seq.new.stack o (take_seq es)) c.in_default-closed.is (c.in-Ok.ensures.seq at base es h))
+pub returns-in_default-clause-term : goal.returns-in_default-clause-term
+returns-in_default-clause-term c = λ at base es h. term_none c.close_seq.new.draft at base c.close_seq.new.stack es (subst (λ o. SeqTaken c.close_seq.new.draft at base c.close_seq.new.stack o (take_seq es)) c.in_default.is (c.in_ok-closed.ensures.seq at base es h))

@@ -8,9 +8,9 @@ loop-prefix-init c = record { keeps = Keeps-refl _; broken = refl; so_far = λ a
 
 pub loop-prefix-preserved : goal.loop-prefix-preserved
 loop-prefix-preserved c = record {
-  keeps = Keeps-trans _ _ _ c.loop-prefix.invariant.keeps c.in-Ok.ensures.keeps;
-  broken = c.in-Ok.ensures.broken ∙ c.loop-prefix.invariant.broken;
-  so_far = λ at base es p h e s. put_more _ _ at base _ _ c.in-Some.prefix c.loop-prefix.whole c.in-Ok.more _ c.in-Some.ensures.some c.in-Ok.ensures.keeps c.in-Ok.ensures.node c.in-Ok.ensures.place (c.loop-prefix.invariant.so_far at base es p h e s);
+  keeps = Keeps-trans _ _ _ c.loop-prefix.invariant.keeps c.in_ok-more.ensures.keeps;
+  broken = c.in_ok-more.ensures.broken ∙ c.loop-prefix.invariant.broken;
+  so_far = λ at base es p h e s. put_more _ _ at base _ _ c.in-Some.prefix c.loop-prefix.whole c.in_ok-more.more _ c.in-Some.ensures.some c.in_ok-more.ensures.keeps c.in_ok-more.ensures.node c.in_ok-more.ensures.place (c.loop-prefix.invariant.so_far at base es p h e s);
 }
 
 pub prefixed-requires-clause-within : goal.prefixed-requires-clause-within
@@ -25,4 +25,4 @@ prefixed-requires-clause-register c =
     prefix_register c.loop-prefix.draft r.0 r.1 c.loop-prefix.stack c.take_prefix.new.self c.in-Some.prefix c.loop-prefix.whole _ c.in-Some.ensures.some (c.loop-prefix.invariant.so_far r.0 r.1 r.2 r.3 r.4 r.5 r.6)
 
 pub returns-clause-put : goal.returns-clause-put
-returns-clause-put c = λ at base es p h e s. put_done c.loop-prefix.draft at base c.loop-prefix.stack c.take_prefix.new.self c.push.new.self c.loop-prefix.whole _ c.in_default.ensures.none c.in_default.ensures.muted c.in_default.ensures.storing c.in-Ok-push.ensures (c.loop-prefix.invariant.so_far at base es p h e s)
+returns-clause-put c = λ at base es p h e s. put_done c.loop-prefix.draft at base c.loop-prefix.stack c.take_prefix.new.self c.push.new.self c.loop-prefix.whole _ c.in_default.ensures.none c.in_default.ensures.muted c.in_default.ensures.storing c.in_ok-push.ensures (c.loop-prefix.invariant.so_far at base es p h e s)

@@ -6,22 +6,22 @@ use Rattle.kex_regexp.proofs.Bounds.{some_once}
 use Rattle.kex_regexp.proofs.steps.behind.Goals as goal
 
 pub returns-then-byte-eq42-clause-step : goal.returns-then-byte-eq42-clause-step
-returns-then-byte-eq42-clause-step c = λ base es i h a b x. to _ base _ _ _ _ (behind_is i es c.args.byte 42 _ c.if-byte-eq42.true (behind_star i es)) (c.turns.ensures.step base es i Star h a x star_low star_high)
+returns-then-byte-eq42-clause-step c = λ base es i h a x b. to _ base _ _ _ _ (behind_is i es c.args.byte 42 _ c.if-byte-eq42.true (behind_star i es)) (c.turns.ensures.step base es i h a x Star star_low star_high)
 
 pub returns-then-byte-eq43-clause-step : goal.returns-then-byte-eq43-clause-step
-returns-then-byte-eq43-clause-step c = λ base es i h a b x. to _ base _ _ _ _ (behind_is i es c.args.byte 43 _ c.if-byte-eq43.true (behind_plus i es)) (c.turns-then-byte-eq43.ensures.step base es i Plus h a x plus_low plus_high)
+returns-then-byte-eq43-clause-step c = λ base es i h a x b. to _ base _ _ _ _ (behind_is i es c.args.byte 43 _ c.if-byte-eq43.true (behind_plus i es)) (c.turns-then-byte-eq43.ensures.step base es i h a x Plus plus_low plus_high)
 
 pub returns-then-byte-eq63-clause-step : goal.returns-then-byte-eq63-clause-step
-returns-then-byte-eq63-clause-step c = λ base es i h a b x. to _ base _ _ _ _ (behind_is i es c.args.byte 63 _ c.if-byte-eq63.true (behind_quest i es)) (c.turns-then-byte-eq63.ensures.step base es i Quest h a x quest_low quest_high)
+returns-then-byte-eq63-clause-step c = λ base es i h a x b. to _ base _ _ _ _ (behind_is i es c.args.byte 63 _ c.if-byte-eq63.true (behind_quest i es)) (c.turns-then-byte-eq63.ensures.step base es i h a x Quest quest_low quest_high)
 
 pub returns-then-byte-eq123-clause-step : goal.returns-then-byte-eq123-clause-step
-returns-then-byte-eq123-clause-step c = λ base es i h a b x. to _ base _ _ _ _ (behind_is i es c.args.byte 123 _ c.if-byte-eq123.true (behind_brace i es)) (count_begins_steps _ base _ es i c.args.item _ h a b x)
+returns-then-byte-eq123-clause-step c = λ base es i h a x b. to _ base _ _ _ _ (behind_is i es c.args.byte 123 _ c.if-byte-eq123.true (behind_brace i es)) (count_begins_steps _ base _ es i c.args.item _ h a b x)
 
 pub returns-in-Ok-clause-step : goal.returns-in-Ok-clause-step
-returns-in-Ok-clause-step c = λ base es i h a b x. to _ base _ _ _ _ (behind_other i es c.args.byte c.if-byte-eq42.false c.if-byte-eq43.false c.if-byte-eq63.false c.if-byte-eq123.false) (c.begin.ensures.step base (Read (Once i) ∷ es) (once_shows _ base _ _ es i c.args.item h a x c.in-Ok.ensures.ok) (once_ends base _ _ es i a b))
+returns-in-Ok-clause-step c = λ base es i h a x b. to _ base _ _ _ _ (behind_other i es c.args.byte c.if-byte-eq42.false c.if-byte-eq43.false c.if-byte-eq63.false c.if-byte-eq123.false) (c.begin.ensures.step base (Read (Once i) ∷ es) (once_shows _ base _ _ es i c.args.item h a x c.in-Ok.ensures.ok) (once_ends base _ _ es i a b))
 
 pub returns-in_default-clause-step : goal.returns-in_default-clause-step
-returns-in_default-clause-step c = λ base es i h a b x. memory_steps _ _ _ _ _ refl
+returns-in_default-clause-step c = λ base es i h a x b. memory_steps _ _ _ _ _ refl
 
 pub begin-requires : goal.begin-requires
 begin-requires c = some_once _ _ _ c.args.item _ c.in-Ok.ensures.ok c.requires

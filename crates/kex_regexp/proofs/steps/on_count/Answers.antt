@@ -2,10 +2,10 @@ use Rattle.kex_regexp.proofs.Stepping.{count_on_steps, count_read_steps, count_w
 use Rattle.kex_regexp.proofs.steps.on_count.Goals as goal
 
 pub returns-in-On-clause-step : goal.returns-in-On-clause-step
-returns-in-On-clause-step c = λ base es i t h a q x s. count_on_steps _ base _ es i c.args.item c.in-On.count _ t h a q x (rw c.in-On.is at s)
+returns-in-On-clause-step c = λ base es i h a x t q s. count_on_steps _ base _ es i c.args.item c.in-On.count _ t h a q x (rw c.in-On.is at s)
 
 pub returns-in-Read-clause-step : goal.returns-in-Read-clause-step
-returns-in-Read-clause-step c = λ base es i t h a q x s. count_read_steps _ base _ es i c.in-Read.low c.in-Read.high t _ (rw c.in-Read.is at s) (λ p l k. c.turns.ensures.step base es i p h a x l k)
+returns-in-Read-clause-step c = λ base es i h a x t q s. count_read_steps _ base _ es i c.in-Read.low c.in-Read.high t _ (rw c.in-Read.is at s) (λ p l k. c.turns.ensures.step base es i h a x p l k)
 
 pub returns-in-Wrong-clause-step : goal.returns-in-Wrong-clause-step
-returns-in-Wrong-clause-step c = λ base es i t h a q x s. count_wrong_steps _ base _ es i t (rw c.in-Wrong.is at s)
+returns-in-Wrong-clause-step c = λ base es i h a x t q s. count_wrong_steps _ base _ es i t (rw c.in-Wrong.is at s)

@@ -17,7 +17,7 @@ returns-in-Ready-clause-step c = λ base s st i a.
 pub returns-in-After-clause-step : goal.returns-in-After-clause-step
 returns-in-After-clause-step c = λ base s st i a.
     let m = mode_after _ _ c.in-After.item _ (rw c.in-After.is at st.mode) in
-    to _ base _ _ _ _ (step_after s _ m.tree m.is) (c.behind.ensures.step base s.entries m.tree st.below m.place (after_place s base _ _ m.tree m.is m.place a) m.shows)
+    to _ base _ _ _ _ (step_after s _ m.tree m.is) (c.behind.ensures.step base s.entries m.tree st.below m.place m.shows (after_place s base _ _ m.tree m.is m.place a))
 
 pub returns-in-InEscape-clause-step : goal.returns-in-InEscape-clause-step
 returns-in-InEscape-clause-step c = λ base s st i a.
@@ -35,7 +35,7 @@ returns-in-InSet-clause-step c = λ base s st i a.
 pub returns-in-InCount-clause-step : goal.returns-in-InCount-clause-step
 returns-in-InCount-clause-step c = λ base s st i a.
     let m = mode_count _ _ c.in-InCount.item c.in-InCount.count c.in-InCount.brace _ (rw c.in-InCount.is at st.mode) in
-    to _ base _ _ _ _ (step_count s _ _ _ m.is) (c.on_count.ensures.step base s.entries m.tree (count_step m.counting c.args.byte) st.below m.place m.opened m.shows
+    to _ base _ _ _ _ (step_count s _ _ _ m.is) (c.on_count.ensures.step base s.entries m.tree st.below m.place m.shows (count_step m.counting c.args.byte) m.opened
     (subst (λ (x : CountOutcome). ShowsCountStep x (count_step m.counting c.args.byte)) (sym c.in_count.ensures) (count_refines c.in-InCount.count m.counting c.args.byte m.count)))
 
 pub begin-requires : goal.begin-requires

@@ -4,13 +4,13 @@ use Rattle.kex_regexp.proofs.Stepping.{memory_steps, turns_steps}
 use Rattle.kex_regexp.proofs.steps.turns.Goals as goal
 
 pub returns-in_default-clause-step : goal.returns-in_default-clause-step
-returns-in_default-clause-step c = λ base es i p h a x l k. memory_steps _ _ _ _ _ refl
+returns-in_default-clause-step c = λ base es i h a x p l k. memory_steps _ _ _ _ _ refl
 
 pub returns-clause-step : goal.returns-clause-step
-returns-clause-step c = λ base es i p h a x l k. turns_steps _ _ base _ _ es i p c.args.item _ h a x c.repeated.ensures.adds (c.in-Ok.ensures.turns p l k) c.in-Ok-push.ensures.ok
+returns-clause-step c = λ base es i h a x p l k. turns_steps _ _ base _ _ es i p c.args.item _ h a x c.repeated.ensures.adds (c.in-Ok.ensures.turns p l k) c.in-Ok-push.ensures.ok
 
 pub returns-in_default-push-clause-step : goal.returns-in_default-push-clause-step
-returns-in_default-push-clause-step c = λ base es i p h a x l k. memory_steps _ _ _ _ _ refl
+returns-in_default-push-clause-step c = λ base es i h a x p l k. memory_steps _ _ _ _ _ refl
 
 pub repeated-requires : goal.repeated-requires
 repeated-requires c = some_item _ c.args.frames.now.items c.args.item c.requires

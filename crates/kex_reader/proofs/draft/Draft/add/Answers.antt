@@ -14,15 +14,15 @@ invariant_of-self-2 c =
     let d = c.self.inside in
     let x : Node = record { kind = c.args.kind; at = c.args.at } in
     let named : HasNames (length d.names) (length d.registers) c.args.kind = subst (λ (z : Made). HasNames (length z.names) (length z.registers) c.args.kind) (sym c.self.view_is) c.requires.named in
-    subst (λ (ns : List Node). (n : Node) → IsAmong ns n → HasNames (length d.names) (length d.registers) n.kind) (sym c.in-Ok.ensures.added) (named_push (length d.names) (length d.registers) d.nodes x c.self.invariant named)
+    subst (λ (ns : List Node). (n : Node) → IsAmong ns n → HasNames (length d.names) (length d.registers) n.kind) (sym c.in_ok-number.ensures.added) (named_push (length d.names) (length d.registers) d.nodes x c.self.invariant named)
 
 pub returns-clause-keeps : goal.returns-clause-keeps
 returns-clause-keeps c =
     let d = c.self.inside in
     subst (λ (z : Made). Keeps z (record { nodes = c.add.new.self; names = d.names; registers = d.registers; broken = d.broken })) c.self.view_is
-    (keeping (record { nodes = d.nodes; names = d.names; registers = d.registers; broken = d.broken }) (record { nodes = c.add.new.self; names = d.names; registers = d.registers; broken = d.broken }) (_, c.in-Ok.ensures.added) (begins_same d.names) (begins_same d.registers) (λ e. e))
+    (keeping (record { nodes = d.nodes; names = d.names; registers = d.registers; broken = d.broken }) (record { nodes = c.add.new.self; names = d.names; registers = d.registers; broken = d.broken }) (_, c.in_ok-number.ensures.added) (begins_same d.names) (begins_same d.registers) (λ e. e))
 
 pub returns-clause-node : goal.returns-clause-node
 returns-clause-node c =
     let d = c.self.inside in
-    ap (slice_get c.add.new.self) c.in-Ok.ensures.number ∙ ap (λ (ns : List Node). slice_get ns (length d.nodes)) c.in-Ok.ensures.added ∙ get_last d.nodes (record { kind = c.args.kind; at = c.args.at })
+    ap (slice_get c.add.new.self) c.in_ok-number.ensures.number ∙ ap (λ (ns : List Node). slice_get ns (length d.nodes)) c.in_ok-number.ensures.added ∙ get_last d.nodes (record { kind = c.args.kind; at = c.args.at })

@@ -41,13 +41,13 @@ returns-clause-keeps c =
     let first : Keeps c.args.self.now (record { nodes = c.regex.new.into; names = d.names; registers = d.registers; broken = d.broken }) =
     subst (λ (z : Made). Keeps z (record { nodes = c.regex.new.into; names = d.names; registers = d.registers; broken = d.broken })) c.self.view_is
     (keeping (record { nodes = d.nodes; names = d.names; registers = d.registers; broken = d.broken }) (record { nodes = c.regex.new.into; names = d.names; registers = d.registers; broken = d.broken }) (adds_begins d.nodes c.regex.new.into c.regex.ensures.adds) (begins_same d.names) (begins_same d.registers) (λ e. e)) in
-    Keeps-trans _ _ _ first (Keeps-trans _ _ _ c.note.ensures.keeps c.in-Ok-add.ensures.keeps)
+    Keeps-trans _ _ _ first (Keeps-trans _ _ _ c.note.ensures.keeps c.in_ok-node.ensures.keeps)
 
 pub returns-clause-within : goal.returns-clause-within
-returns-clause-within c = slice_get_within c.add.new.self.nodes c.in-Ok-add.node _ c.in-Ok-add.ensures.node
+returns-clause-within c = slice_get_within c.add.new.self.nodes c.in_ok-node.node _ c.in_ok-node.ensures.node
 
 pub returns-clause-shows : goal.returns-clause-shows
-returns-clause-shows c = λ e. absurd (never_none c.self.inside.broken c.in-Some-break_of.broken (sym (ap (λ (z : Made). z.broken) c.note.ensures.noted) ∙ sym c.in-Ok-add.ensures.broken ∙ e))
+returns-clause-shows c = λ e. absurd (never_none c.self.inside.broken c.in-Some-break_of.broken (sym (ap (λ (z : Made). z.broken) c.note.ensures.noted) ∙ sym c.in_ok-node.ensures.broken ∙ e))
 
 pub returns-clause-notes : goal.returns-clause-notes
 returns-clause-notes c = λ cs n.
@@ -56,4 +56,4 @@ returns-clause-notes c = λ cs n.
     let refused : IsRefusal body c.args.at c.args.depth (Rattle.kex_regexp.specs.Bodies.fault_of b) = subst (λ (x : ℕ). IsRefusal body c.args.at x (Rattle.kex_regexp.specs.Bodies.fault_of b)) c.in-Some.ensures.0 (subst (λ f. IsRefusal body c.args.at c.in-Some.nested f) c.in-Some-break_of.ensures.some c.in-Err.ensures.refused) in
     let breaks = broken_is body c.args.at c.args.depth b refused in
     let more = noted_more c.self.inside.broken b cs (Matched c.args.at c.args.depth body) (subst (λ (z : Made). Noted cs z.broken) (sym c.self.view_is) n) breaks (λ other h. first_breaks body (c.one_tree.ensures.tree body) (c.one_tree.ensures.wrong body) (c.one_tree.ensures.either body) c.args.at c.args.depth b other breaks h) in
-    subst (λ (o : Option Break). Noted (cs ++ Matched c.args.at c.args.depth body ∷ []) o) (sym (ap (λ (z : Made). z.broken) c.note.ensures.noted) ∙ sym c.in-Ok-add.ensures.broken) more
+    subst (λ (o : Option Break). Noted (cs ++ Matched c.args.at c.args.depth body ∷ []) o) (sym (ap (λ (z : Made). z.broken) c.note.ensures.noted) ∙ sym c.in_ok-node.ensures.broken) more

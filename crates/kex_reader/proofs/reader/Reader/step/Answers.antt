@@ -82,7 +82,7 @@ returns-in_default-kind-3-clause-step c = λ at s st p.
     let here = (subst (λ x. ShowsState c.args.self.now.draft at c.args.self.now.stack c.args.self.now.definitions.items c.args.self.now.stages.items x s) c.in-Within.is st) in
     let e = state_within c.args.self.now.draft at c.args.self.now.stack c.args.self.now.definitions.items c.args.self.now.stages.items c.in-Within.head c.in-Within.wait s here in
     to_state n.draft at n.stack n.definitions.items n.stages.items _ _ _ (at_within s (word c.args.word.kind c.args.word.spelling.now) e.0 e.1 e.2 e.3 e.4)
-    (c.go_on.ensures.step at e.0 e.1 e.2 e.3 c.in_default-kind-3.not-Define (subst (λ y. ShowsState c.args.self.now.draft at c.args.self.now.stack c.args.self.now.definitions.items c.args.self.now.stages.items (phases.Within c.in-Within.head c.in-Within.wait) y) e.4 here) (p ∙ ap (λ y. at (length (spelled y))) e.4))
+    (c.go_on.ensures.step at e.0 e.1 e.2 e.3 (subst (λ y. ShowsState c.args.self.now.draft at c.args.self.now.stack c.args.self.now.definitions.items c.args.self.now.stages.items (phases.Within c.in-Within.head c.in-Within.wait) y) e.4 here) c.in_default-kind-3.not-Define (p ∙ ap (λ y. at (length (spelled y))) e.4))
 
 pub next_definition-requires : goal.next_definition-requires
 next_definition-requires c = some_inside c.args.self.now.draft c.args.self.now.stack c.args.self.now.definitions.items c.args.self.now.stages.items c.args.phase c.in-Within.head c.in-Within.wait c.in-Within.is c.requires.some
@@ -135,4 +135,4 @@ returns-in-Define-kind-clause-notes c = λ at s cs st p n.
 pub returns-in_default-kind-3-clause-notes : goal.returns-in_default-kind-3-clause-notes
 returns-in_default-kind-3-clause-notes c = λ at s cs st p n.
     let e = state_within c.args.self.now.draft at c.args.self.now.stack c.args.self.now.definitions.items c.args.self.now.stages.items c.in-Within.head c.in-Within.wait s (subst (λ x. ShowsState c.args.self.now.draft at c.args.self.now.stack c.args.self.now.definitions.items c.args.self.now.stages.items x s) c.in-Within.is st) in
-    subst (λ y. OnOk c.go_on.result (Noted (cs ++ state_asks at y (word c.args.word.kind c.args.word.spelling.now)) c.go_on.new.self.draft.broken)) (sym e.4) (c.go_on.ensures.notes at e.0 e.1 e.2 e.3 cs (subst (λ y. ShowsState c.args.self.now.draft at c.args.self.now.stack c.args.self.now.definitions.items c.args.self.now.stages.items (phases.Within c.in-Within.head c.in-Within.wait) y) e.4 (subst (λ x. ShowsState c.args.self.now.draft at c.args.self.now.stack c.args.self.now.definitions.items c.args.self.now.stages.items x s) c.in-Within.is st)) (p ∙ ap (λ y. at (length (spelled y))) e.4) n)
+    subst (λ y. OnOk c.go_on.result (Noted (cs ++ state_asks at y (word c.args.word.kind c.args.word.spelling.now)) c.go_on.new.self.draft.broken)) (sym e.4) (c.go_on.ensures.notes at e.0 e.1 e.2 e.3 (subst (λ y. ShowsState c.args.self.now.draft at c.args.self.now.stack c.args.self.now.definitions.items c.args.self.now.stages.items (phases.Within c.in-Within.head c.in-Within.wait) y) e.4 (subst (λ x. ShowsState c.args.self.now.draft at c.args.self.now.stack c.args.self.now.definitions.items c.args.self.now.stages.items x s) c.in-Within.is st)) (p ∙ ap (λ y. at (length (spelled y))) e.4) cs n)

@@ -9,12 +9,12 @@ overflow_add-self c = omega (arith, c.self.invariant, open_reversed c.self.insid
 
 pub invariant_of-self-then-is_open : goal.invariant_of-self-then-is_open
 invariant_of-self-then-is_open c =
-    let e = pushed c.self.inside.frames.items c.push.new.self.items c.args.frame c.in-Ok.ensures.items in
+    let e = pushed c.self.inside.frames.items c.push.new.self.items c.args.frame c.in_ok-push.ensures.items in
     let o = opened c.args.frame (reverse c.self.inside.frames.items) (sym c.is_open.ensures ∙ c.if-is_open.true) in
     omega (arith, c.self.invariant, ap open_frames e ∙ o)
 
 pub invariant_of-self-else-is_open : goal.invariant_of-self-else-is_open
 invariant_of-self-else-is_open c =
-    let e = pushed c.self.inside.frames.items c.push.new.self.items c.args.frame c.in-Ok.ensures.items in
+    let e = pushed c.self.inside.frames.items c.push.new.self.items c.args.frame c.in_ok-push.ensures.items in
     let o = not_opened c.args.frame (reverse c.self.inside.frames.items) (sym c.is_open.ensures ∙ c.if-is_open.false) in
     c.self.invariant ∙ sym (ap open_frames e ∙ o)
