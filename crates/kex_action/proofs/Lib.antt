@@ -1,4 +1,4 @@
-mod Acting
+pub mod Acting
 pub mod Storing
 pub mod Walking
 pub mod Looping

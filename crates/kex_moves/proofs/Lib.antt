@@ -1,0 +1,7 @@
+mod Going
+mod Knowing
+mod Learning
+mod Putting
+mod Running
+mod Settling
+mod Widening

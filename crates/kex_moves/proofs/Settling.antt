@@ -1,0 +1,160 @@
+-- A text with a place for the byte, from what is done.
+use Rattle.std.proofs.Common.{Result, Ok, Err, IfOk, true, false, cond, replicate, refl, ◌≡◌, ℕ, ◌<◌, ◌≤◌, ◌+◌, List, [], ◌∷◌, ◌++◌, length, take, drop, set, sym, ap, ap₂, ◌∙◌, subst, arith, append_assoc, length-append, length-set, get_or, inl, inr}
+use Rattle.std.specs.Prelude.{◌⊎◌}
+use Rattle.std.proofs.lemmas.List.{append-nil, set-append_left, set_past, set_at, drop_at, take_all, take-append-drop, length-take-le, take_more}
+use Rattle.kex_code.specs.Registers.{Registers}
+use Rattle.kex_model.specs.Acting.{State, appended}
+use Rattle.kex_machine.specs.declared.MNode.{MNode}
+use Rattle.kex_machine.specs.Nodes.{node_moves}
+use Rattle.kex_action.specs.declared.action.Action.{Action}
+use Rattle.kex_action.specs.declared.action.Action.TheVariants.{Byte, Node}
+use Rattle.kex_action.specs.Holdings.{adding}
+use Rattle.kex_action.specs.Actions.{passing, done_at, done}
+use Rattle.kex_action.proofs.Acting.{done-append}
+use Rattle.kex_moves.specs.declared.edge.Edge.{Edge}
+use Rattle.kex_moves.specs.declared.edge.Kind.{Kind}
+use Rattle.kex_moves.specs.declared.edge.Kind.TheVariants.{Keep, Drop, Text, Acts, Plain, Unknown}
+use Rattle.kex_moves.specs.Edges.{writes, is_written, is_known, HasRoom}
+use Rattle.kex_moves.specs.Known.{Known, HasPlace, Settles, Lengthens}
+use Rattle.kex_moves.proofs.Putting.{within}
+use Rattle.kex_moves.proofs.Running.{one}
+
+appended_more : (xs ys out : List ℕ) (bs : List (List ℕ)) (regs : Registers) → adding ys (appended xs out bs regs) ≡ appended (xs ++ ys) out bs regs
+appended_more xs ys out [] regs = ap (λ (l : List ℕ). record { out = l; buffers = []; registers = regs }) (append_assoc out xs ys)
+appended_more xs ys out (b ∷ bs) regs = ap (λ (l : List ℕ). record { out = out; buffers = l ∷ bs; registers = regs }) (append_assoc b xs ys)
+
+pub adding_more : (xs ys : List ℕ) (s : State) → adding ys (adding xs s) ≡ adding (xs ++ ys) s
+adding_more xs ys s = appended_more xs ys s.out s.buffers s.registers
+
+appended_none : (out : List ℕ) (bs : List (List ℕ)) (regs : Registers) → appended [] out bs regs ≡ record { out = out; buffers = bs; registers = regs }
+appended_none out [] regs = ap (λ (l : List ℕ). record { out = l; buffers = []; registers = regs }) (append-nil out)
+appended_none out (b ∷ bs) regs = ap (λ (l : List ℕ). record { out = out; buffers = l ∷ bs; registers = regs }) (append-nil b)
+
+pub adding_none : (s : State) → s ≡ adding [] s
+adding_none s = sym (appended_none s.out s.buffers s.registers)
+
+set_more : (xs ys : List ℕ) (p b : ℕ) → (p < length xs) ⊎ (length xs + length ys ≤ p) → set (xs ++ ys) p b ≡ set xs p b ++ ys
+set_more xs ys p b (inl h) = set-append_left xs ys p b h
+set_more xs ys p b (inr h) = set_past (xs ++ ys) p b (omega (arith, length-append xs ys)) ∙ ap (λ l. l ++ ys) (sym (set_past xs p b (omega arith)))
+
+more_room : (xs ys : List ℕ) (p : ℕ) → HasPlace xs p → length xs + length ys ≤ 16 → (p < length xs) ⊎ (length xs + length ys ≤ p)
+more_room xs ys p h k = elim h.place [ inl a ↦ inl a | inr a ↦ inr (omega arith) ]
+
+-- a literal behind the text
+pub literal_added : (ns : List MNode) (n p b : ℕ) (xs ys zs : List ℕ) (s : State) → HasPlace xs p → length xs + length ys ≤ 16 → zs ≡ xs ++ ys → ((s : State) → passing (node_moves ns n) s ≡ adding ys s) → done_at ns b (Node n) (adding (set xs p b) s) ≡ adding (set zs p b) s
+literal_added ns n p b xs ys zs s h k e f = f (adding (set xs p b) s) ∙ adding_more (set xs p b) ys s ∙ ap (λ l. adding l s) (sym (set_more xs ys p b (more_room xs ys p h k))) ∙ ap (λ l. adding (set l p b) s) (sym e)
+
+pub literal_place : (p : ℕ) (xs ys zs : List ℕ) → HasPlace xs p → length xs + length ys ≤ 16 → zs ≡ xs ++ ys → HasPlace zs p
+literal_place p xs ys zs h k e = subst (λ l. HasPlace l p) (sym e) (record { count = omega (arith, length-append xs ys); place = elim h.place [ inl a ↦ inl (omega (arith, length-append xs ys)) | inr a ↦ inr a ] })
+
+-- the byte behind it
+pub byte_added : (ns : List MNode) (p q b : ℕ) (xs zs : List ℕ) (s : State) → HasPlace xs p → 16 ≤ p → q ≡ length xs → zs ≡ xs ++ 0 ∷ [] → done_at ns b Byte (adding (set xs p b) s) ≡ adding (set zs q b) s
+byte_added ns p q b xs zs s h k e f =
+    adding_more (set xs p b) (b ∷ []) s ∙ ap (λ l. adding (l ++ b ∷ []) s) (set_past xs p b (omega (arith, h.count))) ∙ ap (λ l. adding l s) (sym (set_at xs 0 [] b q (sym e))) ∙ ap (λ l. adding (set l q b) s) (sym f)
+
+pub byte_place : (q : ℕ) (xs zs : List ℕ) → length xs < 16 → q ≡ length xs → zs ≡ xs ++ 0 ∷ [] → HasPlace zs q
+byte_place q xs zs h e f = subst (λ l. HasPlace l q) (sym f) (record { count = omega (arith, length-append xs (0 ∷ [])); place = inl (omega (arith, length-append xs (0 ∷ []))) })
+
+-- one deed more
+pub done_more : (ns : List MNode) (ds : List Action) (i : ℕ) (d : Action) (p q b : ℕ) (xs ys : List ℕ) (s : State) → i < length ds → done ns b (take i ds) s ≡ adding (set xs p b) s → done_at ns b (get_or ds i d) (adding (set xs p b) s) ≡ adding (set ys q b) s → done ns b (take (i + 1) ds) s ≡ adding (set ys q b) s
+done_more ns ds i d p q b xs ys s h e f = ap (λ l. done ns b l s) (take_more ds i d h) ∙ done-append ns b (take i ds) (get_or ds i d ∷ []) s ∙ ap (λ z. done_at ns b (get_or ds i d) z) e ∙ f
+
+-- what is written is the text with the byte
+text_written : (old xs pad text : List ℕ) (p b : ℕ) (e : Edge) → text ≡ (old ++ xs) ++ pad → length pad ≡ 16 → length xs ≤ 16 → e.from ≡ length old → e.byte_at ≡ p → e.adds ≡ length xs → writes text e b ≡ set xs p b
+text_written old xs pad text p b m e h k f g l =
+    let all = xs ++ pad in
+    let rest : drop m.from text ≡ all = ap (drop m.from) (e ∙ append_assoc old xs pad) ∙ drop_at old all m.from (sym f) in
+    let long : length (take 16 all) ≡ 16 = length-take-le 16 all (omega (arith, length-append xs pad)) in
+    let front : take (length xs) (set (take 16 all) p b) ≡ take (length xs) (set all p b) = sym (within (length xs) (take 16 all) (drop 16 all) p b (omega arith)) ∙ ap (λ q. take (length xs) (set q p b)) (take-append-drop 16 all) in
+    ap₂ (λ i n. take n (set (take 16 (drop m.from text)) i b)) g l ∙ ap (λ q. take (length xs) (set (take 16 q) p b)) rest ∙ front ∙ within (length xs) xs pad p b (omega arith) ∙ take_all (length xs) (set xs p b) (omega (arith, length-set xs p b))
+
+no_bytes : (xs : List ℕ) (p b : ℕ) → length xs ≡ 0 → set xs p b ≡ []
+no_bytes [] p b h = refl
+no_bytes (x ∷ xs) p b h = absurd (omega arith)
+
+one_byte : (xs : List ℕ) (b : ℕ) → length xs ≡ 1 → set xs 0 b ≡ b ∷ []
+one_byte [] b h = absurd (omega arith)
+one_byte (x ∷ []) b h = refl
+one_byte (x ∷ y ∷ xs) b h = absurd (omega arith)
+
+-- of the byte alone, or of nothing, any text is one
+short_written : (text xs : List ℕ) (p b : ℕ) (e : Edge) (k : Kind) → e.kind ≡ k → 16 ≤ length text → is_written k ≡ true → (k ≡ Text → ⊥) → (k ≡ Keep → (p ≡ 0) × (length xs ≡ 1)) → (k ≡ Drop → length xs ≡ 0) → e.from ≡ 0 → e.byte_at ≡ p → e.adds ≡ length xs → writes text e b ≡ set xs p b
+short_written text xs p b e Keep is room w none keeps drops f g l =
+    let h = keeps refl in
+    ap₂ (λ i n. take n (set (take 16 (drop e.from text)) i b)) (g ∙ h.0) (l ∙ h.1) ∙ ap (λ q. take 1 (set (take 16 (drop q text)) 0 b)) f ∙ one (take 16 text) b (omega (arith, length-take-le 16 text room)) ∙ sym (ap (λ q. set xs q b) h.0 ∙ one_byte xs b h.1)
+short_written text xs p b e Drop is room w none keeps drops f g l = ap (λ n. take n (set (take 16 (drop e.from text)) e.byte_at b)) (l ∙ drops refl) ∙ sym (no_bytes xs p b (drops refl))
+short_written text xs p b e Text is room w none keeps drops f g l = absurd (none refl)
+short_written text xs p b e Acts is room w none keeps drops f g l = cc
+short_written text xs p b e Plain is room w none keeps drops f g l = cc
+short_written text xs p b e Unknown is room w none keeps drops f g l = cc
+
+pub place_small : (xs : List ℕ) (p : ℕ) → HasPlace xs p → p ≤ 16
+place_small xs p h = elim h.place [ inl a ↦ omega (arith, h.count) | inr a ↦ omega arith ]
+
+no_acts : (k : Kind) → is_written k ≡ true → k ≡ Acts → ⊥
+no_acts Keep w e = cc
+no_acts Drop w e = cc
+no_acts Text w e = cc
+no_acts Acts w e = cc
+no_acts Plain w e = cc
+no_acts Unknown w e = cc
+
+no_written : (k : Kind) → k ≡ Acts → is_written k ≡ true → ⊥
+no_written k e w = no_acts k w e
+
+-- an edge that writes what is a text with the byte settles
+settles_written : (nodes : List MNode) (k : Known) (next p : ℕ) (xs : List ℕ) (e : Edge) → e.next ≡ next → is_written e.kind ≡ true → HasRoom (length k.text) e → ((b : ℕ) → writes k.text e b ≡ set xs p b) → Settles nodes k next (λ b. adding (set xs p b)) e
+settles_written nodes k next p xs e n w room h = record {
+  goes = λ known. n;
+  room = λ written. room;
+  acts = λ acts. absurd (no_acts e.kind w acts);
+  does = λ known b s. ap (λ l. adding l s) (sym (h b)) ∙ sym (ap (λ x. cond x (adding (writes k.text e b) s) (done nodes b (take e.adds (drop e.from k.acts)) s)) w);
+}
+
+pub settles_short : (nodes : List MNode) (k : Known) (next p : ℕ) (xs : List ℕ) (e : Edge) → 16 ≤ length k.text → HasPlace xs p → e.next ≡ next → e.from ≡ 0 → e.byte_at ≡ p → e.adds ≡ length xs → is_written e.kind ≡ true → (e.kind ≡ Text → ⊥) → (e.kind ≡ Keep → (p ≡ 0) × (length xs ≡ 1)) → (e.kind ≡ Drop → length xs ≡ 0) → Settles nodes k next (λ b. adding (set xs p b)) e
+settles_short nodes k next p xs e text place n f g l w none keeps drops =
+    settles_written nodes k next p xs e n w (record { text = omega arith; byte_at = omega (arith, place_small xs p place); adds = omega (arith, place.count); keeps = λ q. (g ∙ (keeps q).0, l ∙ (keeps q).1); drops = λ q. l ∙ drops q }) (λ b. short_written k.text xs p b e e.kind refl text w none keeps drops f g l)
+
+pub settles_text : (nodes : List MNode) (k : Known) (old : List ℕ) (next p : ℕ) (xs : List ℕ) (e : Edge) → k.text ≡ (old ++ xs) ++ replicate 16 0 → HasPlace xs p → e.next ≡ next → e.from ≡ length old → e.byte_at ≡ p → e.adds ≡ length xs → e.kind ≡ Text → Settles nodes k next (λ b. adding (set xs p b)) e
+settles_text nodes k old next p xs e is place n f g l text =
+    let long : length k.text ≡ length old + length xs + 16 = ap length is ∙ omega (arith, length-append (old ++ xs) (replicate 16 0), length-append old xs) in
+    settles_written nodes k next p xs e n (ap is_written text) (record { text = omega arith; byte_at = omega (arith, place_small xs p place); adds = omega (arith, place.count); keeps = λ q. cc; drops = λ q. cc }) (λ b. text_written old xs (replicate 16 0) k.text p b e is refl place.count f g l)
+
+-- an edge at which actions are done settles
+pub settles_acts : (nodes : List MNode) (k : Known) (old actions : List Action) (next : ℕ) (e : Edge) → k.acts ≡ old ++ actions → e.next ≡ next → e.from ≡ length old → e.adds ≡ length actions → e.kind ≡ Acts → Settles nodes k next (λ b. done nodes b actions) e
+settles_acts nodes k old actions next e is n f l acts =
+    let same : take e.adds (drop e.from k.acts) ≡ actions = ap₂ (λ i m. take m (drop i k.acts)) f l ∙ ap (λ q. take (length actions) (drop (length old) q)) is ∙ ap (take (length actions)) (drop_at old actions (length old) refl) ∙ take_all (length actions) actions (omega arith) in
+    record {
+      goes = λ known. n;
+      room = λ written. absurd (no_written e.kind acts written);
+      acts = λ q. omega (arith, ap length is, length-append old actions);
+      does = λ known b s. ap (λ q. done nodes b q s) (sym same) ∙ sym (ap (λ x. cond x (adding (writes k.text e b) s) (done nodes b (take e.adds (drop e.from k.acts)) s)) (ap is_written acts));
+    }
+
+pub settles_plain : (nodes : List MNode) (k : Known) (next : ℕ) (f : ℕ → State → State) (e : Edge) → is_known e.kind ≡ false → Settles nodes k next f e
+settles_plain nodes k next f e h = by e.kind refl h
+  where
+    by : (x : Kind) → e.kind ≡ x → is_known x ≡ false → Settles nodes k next f e
+    by Keep is h = cc
+    by Drop is h = cc
+    by Text is h = cc
+    by Acts is h = cc
+    by Plain is h = record { goes = λ known. cc; room = λ written. cc; acts = λ q. cc; does = λ known. cc }
+    by Unknown is h = record { goes = λ known. cc; room = λ written. cc; acts = λ q. cc; does = λ known. cc }
+
+pub lengthens_none : (k : Known) → Lengthens k k
+lengthens_none k = record { text = []; acts = []; longer = ap₂ (λ (t : List ℕ) (a : List Action). record { classes = k.classes; width = k.width; pairs = k.pairs; edges = k.edges; text = t; acts = a }) (sym (append-nil k.text)) (sym (append-nil k.acts)) }
+
+pub lengthens_text : (k : Known) (text more : List ℕ) → text ≡ k.text ++ more → Lengthens k (record { classes = k.classes; width = k.width; pairs = k.pairs; edges = k.edges; text = text; acts = k.acts })
+lengthens_text k text more e = record { text = more; acts = []; longer = ap₂ (λ (t : List ℕ) (a : List Action). record { classes = k.classes; width = k.width; pairs = k.pairs; edges = k.edges; text = t; acts = a }) e (sym (append-nil k.acts)) }
+
+pub lengthens_acts : (k : Known) (acts more : List Action) → acts ≡ k.acts ++ more → Lengthens k (record { classes = k.classes; width = k.width; pairs = k.pairs; edges = k.edges; text = k.text; acts = acts })
+lengthens_acts k acts more e = record { text = []; acts = more; longer = ap₂ (λ (t : List ℕ) (a : List Action). record { classes = k.classes; width = k.width; pairs = k.pairs; edges = k.edges; text = t; acts = a }) (sym (append-nil k.text)) e }
+
+-- an edge that settles what is the same settles
+pub settles_same : (nodes : List MNode) (k : Known) (next : ℕ) (f g : ℕ → State → State) (e : Edge) → ((b : ℕ) (s : State) → g b s ≡ f b s) → Settles nodes k next f e → Settles nodes k next g e
+settles_same nodes k next f g e same h = record { goes = h.goes; room = h.room; acts = h.acts; does = λ known b s. same b s ∙ h.does known b s }
+
+pub map_ok : {A E : Type 0} (P Q : A → Type 0) (r : Result A E) → ((a : A) → P a → Q a) → IfOk r P → IfOk r Q
+map_ok P Q (Ok a) f h = f a h
+map_ok P Q (Err e) f h = tt

@@ -1,0 +1,40 @@
+use Rattle.std.proofs.Common.{◌≡◌, IfSome, subst, arith}
+use Rattle.kex_action.specs.Actions.{done}
+use Rattle.kex_moves.specs.Known.{HasRowFor, Settles}
+use Rattle.kex_moves.proofs.Knowing.{known_wider, known_longer, grows_wider, grows_longer, led}
+use Rattle.kex_moves.proofs.learn.lead.Goals as goal
+
+pub returns-in_default-clause-known : goal.returns-in_default-clause-known
+returns-in_default-clause-known c =
+    let w = c.in_ok-row.ensures {u = tt} in
+    known_wider c.args.table.now c.args.machine.now c.args.edges.now c.row_of.new.self c.args.state c.args.learnt.now.to c.requires.known w.wider w.ordered c.requires.state c.requires.node c.requires.rests
+
+pub returns-in_default-clause-grows : goal.returns-in_default-clause-grows
+returns-in_default-clause-grows c = grows_wider c.args.edges.now c.row_of.new.self c.args.state c.args.learnt.now.to (c.in_ok-row.ensures {u = tt}).wider
+
+pub returns-in_default-try_from-clause-known : goal.returns-in_default-try_from-clause-known
+returns-in_default-try_from-clause-known c =
+    let w = c.in_ok-row.ensures {u = tt} in
+    known_wider c.args.table.now c.args.machine.now c.args.edges.now c.row_of.new.self c.args.state c.args.learnt.now.to c.requires.known w.wider w.ordered c.requires.state c.requires.node c.requires.rests
+
+pub returns-in_default-try_from-clause-grows : goal.returns-in_default-try_from-clause-grows
+returns-in_default-try_from-clause-grows c = grows_wider c.args.edges.now c.row_of.new.self c.args.state c.args.learnt.now.to (c.in_ok-row.ensures {u = tt}).wider
+
+pub returns-clause-known : goal.returns-clause-known
+returns-clause-known c =
+    let w = c.in_ok-row.ensures {u = tt} in
+    let mid = known_wider c.args.table.now c.args.machine.now c.args.edges.now c.row_of.new.self c.args.state c.args.learnt.now.to c.requires.known w.wider w.ordered c.requires.state c.requires.node c.requires.rests in
+    let l = c.in_ok-edge.ensures {u = tt} in
+    known_longer c.args.table.now c.args.machine.now c.row_of.new.self c.settle.new.edges mid l.longer l.ordered
+
+pub returns-clause-grows : goal.returns-clause-grows
+returns-clause-grows c = grows_longer c.args.edges.now c.row_of.new.self c.settle.new.edges (grows_wider c.args.edges.now c.row_of.new.self c.args.state c.args.learnt.now.to (c.in_ok-row.ensures {u = tt}).wider) (c.in_ok-edge.ensures {u = tt}).longer
+
+pub returns-clause-led : goal.returns-clause-led
+returns-clause-led c =
+    let mid = c.row_of.new.self in
+    let new = c.settle.new.edges in
+    let l = c.in_ok-edge.ensures {u = tt} in
+    let row = subst (λ o. IfSome o (λ row. HasRowFor mid row c.args.state c.args.learnt.now.to)) c.in-Some.is (c.in_ok-row.ensures {u = tt}).row in
+    let same : c.in-Some.row ≡ c.in-Ok.next = omega (arith, c.in-Ok.ensures) in
+    led c.args.machine.now.nodes mid new c.args.state c.args.learnt.now.to c.in-Ok.next c.args.learnt.now.actions.items c.in_ok-edge.edge l.ordered (subst (λ r. HasRowFor mid r c.args.state c.args.learnt.now.to) same row) l.longer (subst (λ actions. Settles c.args.machine.now.nodes new c.in-Ok.next (λ b. done c.args.machine.now.nodes b actions) c.in_ok-edge.edge) c.deref.ensures.value l.settles)

@@ -1,0 +1,11 @@
+use Rattle.std.proofs.Common.{◌+◌, ◌-◌, ◌∙◌, ap, take, set, ◌++◌, arith}
+use Rattle.kex_moves.proofs.Putting.{over_text, copied}
+use Rattle.kex_moves.proofs.put.put.Goals as goal
+
+pub returns-clause-written : goal.returns-clause-written
+returns-clause-written c =
+    let used = c.args.used in
+    let xs = c.args.buffer.now in
+    let e = c.args.e in
+    let text = copied c.args.text.now c.copy_from_slice.new.self e.from c.requires.edge.text c.copy_from_slice.ensures.after in
+    over_text xs c.copy_from_slice.new.self used e.byte_at (used + 16 - used) e.adds c.args.byte (omega arith) (omega arith) ∙ ap (λ t. take used xs ++ take e.adds (set t e.byte_at c.args.byte)) text.0

@@ -1,0 +1,14 @@
+use Rattle.std.proofs.Common.{length, ◌-◌, ◌≡◌, ◌+◌, ◌*◌, ◌≤◌, take, drop}
+use Rattle.kex_moves.specs.Runs.{HasRow, behind, run_of}
+use Rattle.kex_moves.proofs.run.run.Given as goal
+
+abbrev pub invariant-loop-at : goal.invariant-loop-at
+invariant-loop-at l = record {
+  at : l.at ≤ length l.piece;
+  row : HasRow l.classes l.edges l.row;
+  room : l.used + 17 * (length l.piece - l.at) + 17 ≤ length l.buffer;
+  ran : behind (take l.used l.buffer) (run_of (record { classes = l.classes; edges = l.edges; text = l.text }) l.row (drop l.at l.piece)) ≡ run_of (record { classes = l.classes; edges = l.edges; text = l.text }) l.from l.piece;
+}
+
+abbrev pub decreases-loop-at : goal.decreases-loop-at
+decreases-loop-at l = length l.piece - l.at

@@ -1,0 +1,26 @@
+use Rattle.std.proofs.Common.{◌≡◌, ◌∙◌, ℕ, List, IfSome, set, sym, ap, subst}
+use Rattle.kex_model.specs.Acting.{State}
+use Rattle.kex_machine.specs.declared.MNode.{MNode}
+use Rattle.kex_action.specs.Holdings.{adding}
+use Rattle.kex_action.specs.Actions.{done}
+use Rattle.kex_moves.specs.declared.edge.Edge.{Edge}
+use Rattle.kex_moves.specs.Known.{Settles}
+use Rattle.kex_moves.proofs.Settling.{settles_same, map_ok}
+use Rattle.kex_moves.proofs.settle.settle.Goals as goal
+
+pub returns-in-Some-clause-settles : goal.returns-in-Some-clause-settles
+returns-in-Some-clause-settles c =
+    let ns = c.args.machine.now.nodes in
+    let k = c.text_edge.new.self in
+    let bytes = c.deref.result.now in
+    let p = c.in-Some.place in
+    let did = subst (λ o. IfSome o (λ p. (b : ℕ) (s : State) → done ns b c.args.actions.now s ≡ adding (set c.text_of.new.bytes.items p b) s)) c.in-Some.is (c.in_ok-place.ensures {u = tt}).done in
+    map_ok (λ (e : Edge). (nodes : List MNode) → Settles nodes k c.args.next (λ b. adding (set bytes p b)) e) (λ (e : Edge). Settles ns k c.args.next (λ b. done ns b c.args.actions.now) e) c.text_edge.result
+    (λ e h. settles_same ns k c.args.next (λ b. adding (set bytes p b)) (λ b. done ns b c.args.actions.now) e (λ b s. did b s ∙ ap (λ l. adding (set l p b) s) (sym c.deref.ensures.value)) (h ns))
+    c.text_edge.ensures.settles
+
+pub returns-clause-settles : goal.returns-clause-settles
+returns-clause-settles c =
+    let ns = c.args.machine.now.nodes in
+    let k = c.acts_edge.new.self in
+    map_ok (λ (e : Edge). (nodes : List MNode) → Settles nodes k c.args.next (λ b. done nodes b c.args.actions.now) e) (λ (e : Edge). Settles ns k c.args.next (λ b. done ns b c.args.actions.now) e) c.acts_edge.result (λ e h. h ns) c.acts_edge.ensures.settles

@@ -1,0 +1,39 @@
+-- What a run does: the table goes on, and the actor performs what it says.
+use Rattle.std.specs.Prelude.{◌≡◌, ℕ, List, [], ◌++◌, Some}
+use Rattle.kex_code.specs.declared.symbol.Symbol.{Symbol}
+use Rattle.kex_machine.specs.Nodes.{Graph}
+use Rattle.kex_action.specs.Actors.{Position, HasPerformed, BeginsRun, WentOn}
+use Rattle.kex_sst.specs.Tables.{Transducer}
+use Rattle.kex_sst.specs.Passes.{Pass, passes, passes_if}
+use Rattle.kex_moves.specs.Walks.{Takes}
+use Rattle.kex_moves.specs.Known.{Known, HasRowFor}
+
+-- at a state without registers
+abbrev pub bare : ℕ → List Symbol → Pass
+bare q c = record { state = q; code = c; registers = [] }
+
+-- along the bytes the table goes from q to r and says a code, and where that can be taken, on the way to anything, the
+-- actor has performed it
+pub record Goes (t : Transducer) (old new : Position) (q r : ℕ) (bs before after : List ℕ) : Type 0 where
+  pub said : List Symbol
+  pub passed : (c : List Symbol) → passes_if t (Some (bare q c)) bs ≡ Some (bare r (c ++ said))
+  pub went : (x : List Symbol) → Takes old.machine.nodes old.at (said ++ x) → WentOn old new said said before after
+  pub takes : (x : List Symbol) → Takes old.machine.nodes old.at (said ++ x) → Takes new.machine.nodes new.at x
+
+-- the same, to the row of a state and of the node where the actor stands
+pub record Reached (t : Transducer) (k : Known) (old new : Position) (q row : ℕ) (bs before after : List ℕ) : Type 0 where
+  pub state : ℕ
+  pub row_for : HasRowFor k row state new.at
+  pub goes : Goes t old new q state bs before after
+
+-- a table and a machine
+pub record Over : Type 0 where
+  pub table : Transducer
+  pub machine : Graph
+
+-- where the table, after a text, is at q without registers, it goes along the bytes to r and says a code, without
+-- registers again; and if all that was said begins a run's code, the actor that has performed it performs this too
+pub record RunsOn (t : Transducer) (old new : Position) (q r : ℕ) (bs before after : List ℕ) : Type 0 where
+  pub said : List Symbol
+  pub passed : (w : List ℕ) (c : List Symbol) → passes t w ≡ Some (bare q c) → passes t (w ++ bs) ≡ Some (bare r (c ++ said))
+  pub went : (given c : List Symbol) (written : List ℕ) → HasPerformed old given c written → BeginsRun old.machine (c ++ said) → WentOn old new said said before after

@@ -1,0 +1,34 @@
+-- What an edge writes.
+use Rattle.std.specs.Prelude.{◌≡◌, ◌≤◌, ◌+◌, ℕ, Bool, true, false, List, take, drop, slice_set}
+use Rattle.kex_moves.specs.declared.edge.Edge.{Edge}
+use Rattle.kex_moves.specs.declared.edge.Kind.{Kind}
+use Rattle.kex_moves.specs.declared.edge.Kind.TheVariants.{Keep, Drop, Text, Acts, Plain, Unknown}
+
+-- as much of the text as counts, with the byte over the one at its place
+abbrev pub writes : List ℕ → Edge → ℕ → List ℕ
+writes text e b = take e.adds (slice_set (take 16 (drop e.from text)) e.byte_at b)
+
+abbrev pub is_written : Kind → Bool
+is_written Keep = true
+is_written Drop = true
+is_written Text = true
+is_written Acts = false
+is_written Plain = false
+is_written Unknown = false
+
+-- it says where the byte leads and what is done
+abbrev pub is_known : Kind → Bool
+is_known Keep = true
+is_known Drop = true
+is_known Text = true
+is_known Acts = true
+is_known Plain = false
+is_known Unknown = false
+
+-- its text lies within, no more counts than is copied, and the byte alone is what is kept
+pub record HasRoom (length : ℕ) (e : Edge) : Type 0 where
+  pub text : e.from + 16 ≤ length
+  pub byte_at : e.byte_at ≤ 16
+  pub adds : e.adds ≤ 16
+  pub keeps : e.kind ≡ Keep → (e.byte_at ≡ 0) × (e.adds ≡ 1)
+  pub drops : e.kind ≡ Drop → e.adds ≡ 0

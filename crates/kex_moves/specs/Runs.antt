@@ -1,0 +1,55 @@
+-- What the edges along a piece write, up to the first byte whose edge isn't written.
+use Rattle.std.specs.Prelude.{◌≡◌, ◌<◌, ◌+◌, ℕ, List, [], ◌∷◌, ◌++◌, Option, Some, None, All, true, length, if◌then◌else◌, slice_get, slice_index}
+use Rattle.kex_moves.specs.declared.edge.Edge.{Edge}
+use Rattle.kex_moves.specs.Edges.{writes, is_written, HasRoom}
+
+-- a byte's class, the edges of each row by class, and the texts of the edges
+pub record Rows : Type 0 where
+  pub classes : List ℕ
+  pub edges : List Edge
+  pub text : List ℕ
+
+-- where a byte leads, and what is written for it
+pub record Step : Type 0 where
+  pub row : ℕ
+  pub writes : List ℕ
+
+abbrev pub by_edge : List ℕ → ℕ → Option Edge → Option Step
+by_edge text b None = None
+by_edge text b (Some e) = if is_written e.kind then Some (record { row = e.next; writes = writes text e b }) else None
+
+-- the edge that is written at a byte, if it is one
+abbrev pub step_of : Rows → ℕ → ℕ → Option Step
+step_of t row b = by_edge t.text b (slice_get t.edges (row + slice_index t.classes b))
+
+-- what was written, where the run stopped, and the bytes that are left
+pub record Stop : Type 0 where
+  pub written : List ℕ
+  pub row : ℕ
+  pub left : List ℕ
+
+-- the same behind what stood before
+abbrev pub behind : List ℕ → Stop → Stop
+behind xs s = record { written = xs ++ s.written; row = s.row; left = s.left }
+
+abbrev pub on_step : Stop → (Step → Stop) → Option Step → Stop
+on_step stop more None = stop
+on_step stop more (Some w) = more w
+
+-- a run over bytes, as far as edges are written
+abbrev pub run_of : Rows → ℕ → List ℕ → Stop
+run_of t row [] = record { written = []; row = row; left = [] }
+run_of t row (b ∷ bs) = on_step (record { written = []; row = row; left = b ∷ bs }) (λ w. behind w.writes (run_of t w.row bs)) (step_of t row b)
+
+-- there is an edge for each byte
+abbrev pub HasRow : List ℕ → List Edge → ℕ → Type 0
+HasRow classes edges row = All (λ c. row + c < length edges) classes
+
+-- what edges write lies within so many bytes of text
+abbrev pub HasRoomBelow : ℕ → List Edge → Type 0
+HasRoomBelow n edges = All (λ (e : Edge). is_written e.kind ≡ true → HasRoom n e) edges
+
+-- where edges lead there is a row, and what they write lies within the text
+pub record IsWithin (t : Rows) : Type 0 where
+  pub next : All (λ (e : Edge). is_written e.kind ≡ true → HasRow t.classes t.edges e.next) t.edges
+  pub room : HasRoomBelow (length t.text) t.edges

@@ -1,0 +1,92 @@
+// What is known of a pair of a state and a node at a class of bytes.
+
+/// What kind of edge it is.
+#[derive(Clone, Copy, Debug, PartialEq, Eq)]
+pub enum Kind {
+    /// The byte alone is written.
+    Keep,
+    /// Nothing is written.
+    Drop,
+    /// A text with the byte at a place in it.
+    Text,
+    /// Actions, which are done outside of the loop.
+    Acts,
+    /// None of these: a plain step is taken.
+    Plain,
+    /// It isn't learnt yet.
+    Unknown,
+}
+
+/// Where a byte leads: to the row that begins at `next`. Of a text of 16 bytes that begins at `from` as many count as it
+/// `adds`, with the byte read over the one at `byte_at` (16 where it isn't written); or as many actions as it `adds` are
+/// done, from number `from` on.
+#[derive(Clone, Copy, Debug, PartialEq, Eq)]
+pub struct Edge {
+    pub next: u32,
+    pub from: u32,
+    pub byte_at: u8,
+    pub adds: u8,
+    pub kind: Kind,
+}
+
+impl Kind {
+    ghost use Rattle.std.specs.Prelude.{◌≡◌, IsTrue, ◌↔◌};
+    ghost use Rattle.kex_moves.specs.Edges.{is_written};
+
+    // Whether an edge of the kind is followed in the loop.
+    #[inline(always)]
+    pub fn is_written(self) -> bool
+        ensures { result ≡ is_written self }
+    {
+        match self {
+            Kind::Keep | Kind::Drop | Kind::Text => true,
+            Kind::Acts | Kind::Plain | Kind::Unknown => false,
+        }
+    }
+
+    #[inline(always)]
+    pub fn is_keep(self) -> bool
+        ensures { IsTrue result ↔ (self ≡ Kind.Keep) }
+    {
+        matches!(self, Kind::Keep)
+    }
+
+    #[inline(always)]
+    pub fn is_drop(self) -> bool
+        ensures { IsTrue result ↔ (self ≡ Kind.Drop) }
+    {
+        matches!(self, Kind::Drop)
+    }
+}
+
+impl Edge {
+    ghost use Rattle.std.specs.Prelude.{◌≡◌, false};
+    ghost use Rattle.kex_moves.specs.Edges.{is_known};
+
+    // An edge of a kind that says nothing.
+    fn silent(kind: Kind) -> Edge
+        ensures { result ≡ record { next = 0; from = 0; byte_at = 0; adds = 0; kind = kind } }
+    {
+        Edge {
+            next: 0,
+            from: 0,
+            byte_at: 0,
+            adds: 0,
+            kind,
+        }
+    }
+
+    // Nothing is learnt yet.
+    pub fn unknown() -> Edge
+        ensures { result.kind ≡ Kind.Unknown }
+    {
+        Edge::silent(Kind::Unknown)
+    }
+
+    // A plain step is to be taken.
+    pub fn plain() -> Edge
+        ensures { is_known result.kind ≡ false }
+    {
+        Edge::silent(Kind::Plain)
+    }
+}

@@ -1,0 +1,312 @@
+// The rows of edges that are learnt, one for each pair of a state and a node.
+
+ghost use Rattle.std.specs.Prelude.{◌≡◌, ◌<◌, ◌≤◌, ◌+◌, ◌*◌, ◌++◌, ◌∷◌, List, ℕ, [], All, OnOk, IfOk, IfSome, length, take, drop, replicate, slice_get, Some, slice_set, true};
+ghost use Rattle.kex_machine.specs.declared.MNode.{MNode};
+ghost use Rattle.kex_action.specs.Holdings.{adding};
+ghost use Rattle.kex_action.specs.Actions.{done};
+ghost use Rattle.kex_moves.specs.Edges.{is_written};
+ghost use Rattle.kex_moves.specs.Runs.{run_of};
+ghost use Rattle.kex_moves.specs.Known.{rows_of, IsEdge, IsOrdered, IsRowOf, HasRowFor, HasPlace, Settles, Widens, Lengthens, Forgets};
+
+use crate::edge::{Edge, Kind};
+use crate::run::{Spot, run};
+use kex_action::action::Action;
+use kex_code::memory::Memory;
+use std::alloc::Global;
+use std::marker::Model;
+use std::mem;
+
+/// A state of the table and a node where the actor rests, and the number of an earlier pair of the same state.
+#[derive(Clone, Copy, Debug, PartialEq, Eq)]
+pub struct Pair {
+    pub state: u32,
+    pub node: u32,
+    pub earlier: u32,
+}
+
+/// No pair.
+const NONE: u32 = 4_294_967_295;
+
+/// How many edges there may be.
+const MAX_EDGES: usize = 65_536;
+
+/// How long the texts together may be.
+const MAX_TEXT: usize = 262_144;
+
+/// How many pairs of one state are looked at.
+const LOOKS: u32 = 8;
+
+/// What is learnt: pairs, and for each a row of edges by class. All is forgotten when there is too much of it.
+#[derive(Drop)]
+pub struct Edges {
+    classes: [u8; 256],
+    width: usize,
+    heads: Vec<u32>,
+    pairs: Vec<Pair>,
+    edges: Vec<Edge>,
+    text: Vec<u8>,
+    acts: Vec<Action>,
+}
+
+impl Model for Edges {
+    ghost use Rattle.kex_moves.specs.Known.{Known, IsOrdered};
+
+    ghost Value = { Known };
+
+    ghost view = { λ e. record { classes = e.classes; width = e.width; pairs = e.pairs.items; edges = e.edges.items; text = e.text.items; acts = e.acts.items } };
+
+    ghost invariant = { λ e. IsOrdered (record { classes = e.classes; width = e.width; pairs = e.pairs.items; edges = e.edges.items; text = e.text.items; acts = e.acts.items }) };
+}
+
+// The head of a state's pairs, in whose place the number is put.
+fn head_of(heads: &mut [u32], state: u32, number: u32) -> u32 {
+    match heads.get_mut(state as usize) {
+        Some(head) => mem::replace(head, number),
+        None => NONE,
+    }
+}
+
+// Adds a pair and its row.
+fn push_row(
+    pairs: &mut Vec<Pair>,
+    edges: &mut Vec<Edge>,
+    pair: Pair,
+    width: usize,
+) -> Result<(), Memory>
+    requires { length edges.old.items + width ≤ 65536 }
+    ensures pairs { OnOk result (pairs.new.items ≡ pairs.old.items ++ pair ∷ []) }
+    ensures edges { OnOk result ((more : List Edge) × (edges.new.items ≡ edges.old.items ++ more) × (length more ≡ width) × All (λ (e : Edge). e.kind ≡ Kind.Unknown) more) }
+{
+    pairs.push(pair)?;
+    edges.resize(edges.len() + width, Edge::unknown())?;
+    Ok(())
+}
+
+// What kind of edge writes so many bytes, of which the one read stands at a place.
+fn kind_of(place: usize, count: usize) -> Kind
+    ensures written { is_written result ≡ true }
+    ensures keeps { result ≡ Kind.Keep → (place ≡ 0) × (count ≡ 1) }
+    ensures drops { result ≡ Kind.Drop → count ≡ 0 }
+{
+    if place == 0 && count == 1 {
+        return Kind::Keep;
+    }
+    if count == 0 {
+        return Kind::Drop;
+    }
+    Kind::Text
+}
+
+// Adds a text, and room to copy 16 bytes from its begin.
+fn append_text(text: &mut Vec<u8>, bytes: &[u8]) -> Result<(), Memory>
+    ensures ok { OnOk result (text.new.items ≡ (text.old.items ++ bytes.now) ++ replicate 16 0) }
+    ensures err { length text.old.items ≤ length text.new.items }
+{
+    text.extend_from_slice(bytes)?;
+    text.extend_from_slice(&[0; 16])?;
+    Ok(())
+}
+
+impl Edges {
+    /// Nothing is learnt. There are so many classes and states.
+    pub fn new(
+        alloc: Global,
+        classes: [u8; 256],
+        width: usize,
+        states: usize,
+    ) -> Result<Edges, Memory>
+        requires some { 0 < width }
+        requires classes { All (λ c. c < width) classes }
+        ensures { IfOk result (λ e. e ≡ record { classes = classes; width = width; pairs = []; edges = []; text = replicate 16 0; acts = [] }) }
+    {
+        let mut heads = Vec::new(alloc);
+        heads.resize(states, NONE)?;
+        let mut text = Vec::new(alloc);
+        text.resize(16, 0)?;
+        Ok(Edges {
+            classes,
+            width,
+            heads,
+            pairs: Vec::new(alloc),
+            edges: Vec::new(alloc),
+            text,
+            acts: Vec::new(alloc),
+        })
+    }
+
+    // The row of a state and a node, if there is one and it is found soon.
+    fn find(&self, state: u32, node: u32) -> Option<usize>
+        ensures row { IfSome result (λ row. HasRowFor self.now row state node) }
+        ensures ordered { IsOrdered self.now }
+    {
+        let mut number = *self.heads.get(state as usize)? as usize;
+        for _ in 0..LOOKS {
+            let pair = self.pairs.get(number)?;
+            if pair.state == state && pair.node == node {
+                return Some(number * self.width);
+            }
+            number = pair.earlier as usize;
+        }
+        None
+    }
+
+    // Adds a row of which nothing is learnt. `None` where there are too many.
+    fn add(&mut self, state: u32, node: u32) -> Result<Option<usize>, Memory>
+        ensures ordered { IfOk result (λ o. IsOrdered self.new) }
+        ensures wider { IfOk result (λ o. Widens self.old self.new state node) }
+        ensures row { IfOk result (λ o. IfSome o (λ row. HasRowFor self.new row state node)) }
+    {
+        let row = self.edges.len();
+        let number = self.pairs.len();
+        if row + self.width > MAX_EDGES || number >= MAX_EDGES || self.text.len() > MAX_TEXT {
+            return Ok(None);
+        }
+        let pair = Pair {
+            state,
+            node,
+            earlier: head_of(&mut self.heads, state, number as u32),
+        };
+        match push_row(&mut self.pairs, &mut self.edges, pair, self.width) {
+            Ok(()) => Ok(Some(row)),
+            Err(Memory) => {
+                self.pairs.clear();
+                self.edges.clear();
+                Err(Memory)
+            }
+        }
+    }
+
+    /// The row of a state and a node. `None` where there are too many rows.
+    pub fn row_of(&mut self, state: u32, node: u32) -> Result<Option<usize>, Memory>
+        ensures ordered { IfOk result (λ o. IsOrdered self.new) }
+        ensures wider { IfOk result (λ o. Widens self.old self.new state node) }
+        ensures row { IfOk result (λ o. IfSome o (λ row. HasRowFor self.new row state node)) }
+    {
+        match self.find(state, node) {
+            Some(row) => Ok(Some(row)),
+            None => self.add(state, node),
+        }
+    }
+
+    /// The pair of a row.
+    pub fn pair_at(&self, row: usize) -> Pair
+        requires { (p : Pair) × IsRowOf self.now row p }
+        ensures { (p : Pair) → IsRowOf self.now row p → result ≡ p }
+    {
+        self.pairs[row / self.width]
+    }
+
+    /// The edge of a row at a class.
+    pub fn edge_at(&self, row: usize, class: u8) -> Edge
+        requires row { (p : Pair) × IsRowOf self.now row p }
+        requires class { class < self.now.width }
+        ensures edge { slice_get self.now.edges (row + class) ≡ Some result }
+        ensures ordered { IsEdge self.now result }
+    {
+        self.edges[row + class as usize]
+    }
+
+    /// The class of a byte.
+    pub fn class_of(&self, byte: u8) -> u8
+        ensures class { slice_get self.now.classes byte ≡ Some result }
+        ensures within { result < self.now.width }
+    {
+        self.classes[byte as usize]
+    }
+
+    /// The actions of an edge.
+    pub fn acts_of(&self, edge: Edge) -> &[Action]
+        requires { edge.from + edge.adds ≤ length self.now.acts }
+        ensures { result.now ≡ take edge.adds (drop edge.from self.now.acts) }
+    {
+        let from = edge.from as usize;
+        &self.acts[from..from + edge.adds as usize]
+    }
+
+    /// An edge to `next` that writes a text in which the byte read has a place, 16 where it has none.
+    pub fn text_edge(&mut self, next: u32, bytes: &[u8], place: usize) -> Result<Edge, Memory>
+        requires { HasPlace bytes.now place }
+        ensures ordered { IfOk result (λ e. IsOrdered self.new) }
+        ensures longer { IfOk result (λ e. Lengthens self.old self.new) }
+        ensures settles { IfOk result (λ e. (nodes : List MNode) → Settles nodes self.new next (λ b. adding (slice_set bytes.now place b)) e) }
+    {
+        let end = self.text.len();
+        let kind = kind_of(place, bytes.len());
+        let byte_at = place as u8;
+        let adds = bytes.len() as u8;
+        let Kind::Text = kind else {
+            return Ok(Edge {
+                next,
+                from: 0,
+                byte_at,
+                adds,
+                kind,
+            });
+        };
+        let Ok(from) = u32::try_from(end) else {
+            return Ok(Edge::plain());
+        };
+        append_text(&mut self.text, bytes)?;
+        Ok(Edge {
+            next,
+            from,
+            byte_at,
+            adds,
+            kind,
+        })
+    }
+
+    /// An edge to `next` at which the actions are done.
+    pub fn acts_edge(&mut self, next: u32, actions: &[Action]) -> Result<Edge, Memory>
+        ensures ordered { IfOk result (λ e. IsOrdered self.new) }
+        ensures longer { IfOk result (λ e. Lengthens self.old self.new) }
+        ensures settles { IfOk result (λ e. (nodes : List MNode) → Settles nodes self.new next (λ b. done nodes b actions.now) e) }
+    {
+        let (Ok(from), Ok(adds)) = (u32::try_from(self.acts.len()), u8::try_from(actions.len()))
+        else {
+            return Ok(Edge::plain());
+        };
+        self.acts.extend_from_slice(actions)?;
+        Ok(Edge {
+            next,
+            from,
+            byte_at: 16,
+            adds,
+            kind: Kind::Acts,
+        })
+    }
+
+    /// Learns the edge of a row at a class.
+    pub fn put(&mut self, row: usize, class: u8, edge: Edge)
+        requires row { (p : Pair) × IsRowOf self.old row p }
+        requires class { class < self.old.width }
+        requires edge { IsEdge self.old edge }
+        ensures ordered { IsOrdered self.new }
+        ensures put { self.new ≡ record self.old { edges = slice_set self.old.edges (row + class) edge } }
+    {
+        self.edges[row + class as usize] = edge;
+    }
+
+    /// Goes along edges from a row while they are written.
+    pub fn run(&self, row: usize, piece: &[u8], buffer: &mut [u8]) -> Spot
+        requires row { (p : Pair) × IsRowOf self.now row p }
+        requires room { 17 * length piece.now + 17 ≤ length buffer.old }
+        ensures at { result.at ≤ length piece.now }
+        ensures used { result.used ≤ length buffer.new }
+        ensures ran { record { written = take result.used buffer.new; row = result.row; left = drop result.at piece.now } ≡ run_of (rows_of self.now) row piece.now }
+        ensures ordered { IsOrdered self.now }
+    {
+        run(&self.classes, &self.edges, &self.text, piece, buffer, row)
+    }
+
+    /// Forgets all.
+    pub fn forget(&mut self)
+        ensures { Forgets self.old self.new }
+    {
+        self.pairs.clear();
+        self.edges.clear();
+        self.text.truncate(16);
+        self.acts.clear();
+        self.heads.fill(NONE);
+    }
+}

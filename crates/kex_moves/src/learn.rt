@@ -1,0 +1,98 @@
+// How an edge is learnt from the table and the machine.
+
+ghost use Rattle.std.specs.Prelude.{◌≡◌, ◌<◌, true, IfOk, IfSome, length};
+ghost use Rattle.kex_byteset.specs.Classes.{class_count};
+ghost use Rattle.kex_machine.specs.Nodes.{node_moves};
+ghost use Rattle.kex_action.specs.Holdings.{Rests};
+ghost use Rattle.kex_moves.specs.declared.edges.Pair.{Pair};
+ghost use Rattle.kex_moves.specs.Edges.{is_known};
+ghost use Rattle.kex_moves.specs.Known.{IsEdge, IsRight, IsRowOf, IsPairOf, IsKnown, IsLed, Grows};
+
+use crate::edge::Edge;
+use crate::edges::{Edges, Pair};
+use crate::settle::settle;
+use crate::walk::{Learnt, learn};
+use kex_code::memory::Memory;
+use kex_machine::Trimmed;
+use kex_sst::table::Table;
+use std::alloc::Global;
+
+// An edge to the row of a state and the node to which a walk led, for what is done along the walk. `None` where there
+// is no room for the row.
+fn lead(
+    alloc: Global,
+    table: &Table,
+    machine: &Trimmed,
+    edges: &mut Edges,
+    state: u32,
+    learnt: &Learnt,
+) -> Result<Option<Edge>, Memory>
+    requires state { state < length table.now.states }
+    requires node { learnt.now.to < length machine.now.nodes }
+    requires rests { Rests (node_moves machine.now.nodes learnt.now.to) }
+    requires known { IsKnown table.now machine.now edges.old }
+    ensures known { IfOk result (λ o. IsKnown table.now machine.now edges.new) }
+    ensures grows { IfOk result (λ o. Grows edges.old edges.new) }
+    ensures led { IfOk result (λ o. IfSome o (IsLed machine.now.nodes edges.new state learnt.now.to learnt.now.actions.items)) }
+{
+    let Some(row) = edges.row_of(state, learnt.to)? else {
+        return Ok(None);
+    };
+    let Ok(next) = u32::try_from(row) else {
+        return Ok(None);
+    };
+    let edge = settle(alloc, machine, edges, &learnt.actions, next)?;
+    Ok(Some(edge))
+}
+
+// The edge of a pair at a class of bytes. `None` where there is no room for the row to which it leads.
+fn edge_of(
+    alloc: Global,
+    table: &Table,
+    machine: &Trimmed,
+    edges: &mut Edges,
+    pair: Pair,
+    class: u8,
+) -> Result<Option<Edge>, Memory>
+    requires class { class < class_count table.now.classes }
+    requires pair { IsPairOf table.now machine.now pair }
+    requires known { IsKnown table.now machine.now edges.old }
+    ensures known { IfOk result (λ o. IsKnown table.now machine.now edges.new) }
+    ensures grows { IfOk result (λ o. Grows edges.old edges.new) }
+    ensures edge { IfOk result (λ o. IfSome o (IsEdge edges.new)) }
+    ensures right { IfOk result (λ o. IfSome o (λ e. is_known e.kind ≡ true → IsRight table.now machine.now.nodes edges.new pair class e)) }
+{
+    let Some((target, update)) = table.next(pair.state, class) else {
+        return Ok(Some(Edge::plain()));
+    };
+    if !update.regs().is_empty() || target as usize >= table.states().len() {
+        return Ok(Some(Edge::plain()));
+    }
+    let Some(learnt) = learn(alloc, machine, pair.node, update.out().as_slice())? else {
+        return Ok(Some(Edge::plain()));
+    };
+    lead(alloc, table, machine, edges, target, &learnt)
+}
+
+/// Learns the edge of a row at a byte. False where there is no room for the row to which it leads.
+pub fn learn_edge(
+    alloc: Global,
+    table: &Table,
+    machine: &Trimmed,
+    edges: &mut Edges,
+    row: usize,
+    byte: u8,
+) -> Result<bool, Memory>
+    requires row { (p : Pair) × IsRowOf edges.old row p }
+    requires known { IsKnown table.now machine.now edges.old }
+    ensures known { IfOk result (λ b. IsKnown table.now machine.now edges.new) }
+    ensures rows { IfOk result (λ b. Grows edges.old edges.new) }
+{
+    let pair = edges.pair_at(row);
+    let class = edges.class_of(byte);
+    let Some(edge) = edge_of(alloc, table, machine, edges, pair, class)? else {
+        return Ok(false);
+    };
+    edges.put(row, class, edge);
+    Ok(true)
+}

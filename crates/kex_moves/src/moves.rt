@@ -1,0 +1,109 @@
+// The hot loop of a stage over a table.
+
+ghost use Rattle.std.specs.Prelude.{◌≡◌, ◌≤◌, IsTrue, IfOk, OnOk, length, take};
+ghost use Rattle.kex_moves.specs.Along.{RunsOn};
+
+pub use crate::along::Ran;
+use crate::along::{ROOM, run_at};
+use crate::edges::Edges;
+use kex_action::actor::Actor;
+use kex_code::memory::Memory;
+use kex_machine::Trimmed;
+use kex_sst::table::Table;
+use std::alloc::Global;
+use std::marker::Model;
+
+/// What is learnt of a table and a machine, to go along a piece of input with both at once: where a state's update is
+/// known to say a code alone, without registers, and what the actor does with it. It is learnt when it is first met.
+///
+/// Once a call has answered `Memory` the actor may only be dropped, and no later call takes a byte.
+#[derive(Drop)]
+pub struct Moves<'p> {
+    alloc: Global,
+    table: &'p Table,
+    machine: &'p Trimmed,
+    edges: Edges,
+    buffer: Vec<u8>,
+    usable: bool,
+}
+
+impl<'p> Model for Moves<'p> {
+    ghost use Rattle.std.specs.Prelude.{◌≡◌, IsTrue, length};
+    ghost use Rattle.kex_moves.specs.Known.{IsKnown};
+    ghost use Rattle.kex_moves.specs.Along.{Over};
+    ghost use Rattle.kex_moves.specs.declared.along.TheConstants.{ROOM};
+
+    ghost Value = { Over };
+
+    ghost view = { λ m. record { table = m.table.now; machine = m.machine.now } };
+
+    ghost invariant = { λ m. (IsTrue m.usable → IsKnown m.table.now m.machine.now m.edges) × (length m.buffer.items ≡ ROOM) };
+}
+
+// The classes of all bytes.
+fn classes_of(table: &Table) -> [u8; 256]
+    ensures { result ≡ table.now.classes }
+{
+    let partition = table.partition();
+    let mut classes = [0; 256];
+    for byte in 0..256_usize {
+        classes[byte] = partition.class_of(byte as u8);
+    }
+    classes
+}
+
+impl<'p> Moves<'p> {
+    /// Nothing is learnt.
+    pub fn new(alloc: Global, table: &'p Table, machine: &'p Trimmed) -> Result<Moves<'p>, Memory>
+        ensures { IfOk result (λ m. m ≡ record { table = table.now; machine = machine.now }) }
+    {
+        let width = table.partition().classes() as usize;
+        let edges = Edges::new(alloc, classes_of(table), width, table.states().len())?;
+        let mut buffer = Vec::new(alloc);
+        buffer.resize(ROOM, 0)?;
+        Ok(Moves {
+            alloc,
+            table,
+            machine,
+            edges,
+            buffer,
+            usable: true,
+        })
+    }
+
+    /// Goes on from a state over a piece, with the actor, up to a byte at which a plain step is to be taken, or before it.
+    /// Nothing is taken where the actor doesn't rest.
+    pub fn run(
+        &mut self,
+        state: u32,
+        actor: &mut Actor<'p>,
+        piece: &[u8],
+        out: &mut Vec<u8>,
+    ) -> Result<Ran, Memory>
+        requires usable { IsTrue actor.old.usable }
+        requires machine { actor.old.machine ≡ self.old.machine }
+        ensures within { IfOk result (λ ran. ran.count ≤ length piece.now) }
+        ensures runs { IfOk result (λ ran. RunsOn self.old.table actor.old actor.new state ran.state (take ran.count piece.now) out.old.items out.new.items) }
+        ensures same { self.new ≡ self.old }
+        ensures machine { actor.new.machine ≡ actor.old.machine }
+        ensures usable { OnOk result (IsTrue actor.new.usable) }
+    {
+        if !self.usable {
+            return Ok(Ran { count: 0, state });
+        }
+        self.usable = false;
+        let ran = run_at(
+            self.alloc,
+            self.table,
+            self.machine,
+            &mut self.edges,
+            &mut self.buffer,
+            state,
+            actor,
+            piece,
+            out,
+        )?;
+        self.usable = true;
+        Ok(ran)
+    }
+}
