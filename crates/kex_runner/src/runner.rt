@@ -116,6 +116,7 @@ impl<'t> Runner<'t> {
         requires room { self.old.read + length piece.now < 2 ^ 64 }
         ensures fed { IfOk result (λ answer. Feeds answer self.old self.new piece.now code.old code.new) }
         ensures steps { OnOk result (steps.new ≡ steps.old + items_taken self.old piece.now) }
+        ensures read { (self.old.read ≤ self.new.read) × (self.new.read ≤ self.old.read + length piece.now) }
         ensures table { self.new.table ≡ self.old.table }
         ensures open { self.new.ended ≡ false }
         ensures usable { IsTrue self.new.usable ↔ IsOk result }

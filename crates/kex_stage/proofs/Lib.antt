@@ -1,3 +1,5 @@
-pub mod Reading
 pub mod Telling
+pub mod ByPaths
+pub mod ByTable
+pub mod Working
 pub mod Feeding

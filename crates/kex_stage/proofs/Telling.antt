@@ -1,20 +1,19 @@
 -- What an oracle and an actor say is what the stage answers.
-use Rattle.std.proofs.Common.{◌≡◌, ℕ, suc, ◌<◌, ◌≤◌, ◌+◌, Bool, true, false, List, [], ◌∷◌, ◌++◌, Option, Some, None, length, take, drop, refl, sym, ap, subst, ◌∙◌, append_assoc, append-nil, arith, inl, inr, ⊎_elim, length-append, take-append-drop, length-take}
-use Rattle.std.specs.Prelude.{◌⊎◌}
+use Rattle.std.proofs.Common.{◌≡◌, ℕ, ◌<◌, ◌≤◌, ◌+◌, Bool, false, List, [], ◌∷◌, ◌++◌, None, length, take, drop, refl, sym, ap, subst, ◌∙◌, append_assoc, append-nil, arith, ⊎_elim, length-append, take-append-drop, length-take}
 use Rattle.kex_code.specs.declared.symbol.Symbol.{Symbol}
 use Rattle.kex_code.specs.Codes.{Begins, bytes_of}
-use Rattle.kex_model.specs.Moves.{Step, code_of, Walk, accept}
-use Rattle.kex_model.specs.Survivors.{Agreed, Survives, LongestViable}
-use Rattle.kex_model.specs.Answers.{Answer, Answers, stopped, at_byte, at_end, at_limit, bad_byte, too_long, cut_off, whole, still_open, LongestGood}
+use Rattle.kex_model.specs.Moves.{Step, code_of}
+use Rattle.kex_model.specs.Survivors.{Agreed, LongestViable}
+use Rattle.kex_model.specs.Answers.{stopped, at_byte, at_limit, bad_byte, too_long, still_open}
 use Rattle.kex_model.proofs.Orders.{two_fronts}
 use Rattle.kex_model.proofs.Standing.{shorter_front, same_front}
 use Rattle.kex_model.proofs.Walks.{bytes_of-append}
 use Rattle.kex_model.proofs.Agreeing.{viable_front}
 use Rattle.kex_model.proofs.Derivations.{walk-append, code_of-append}
 use Rattle.kex_machine.specs.Nodes.{Graph, node_moves}
-use Rattle.kex_machine.specs.Answers.{Viable, IsRun, HasParse, left_by, Says, Means, StageAnswers, IsSaid, IsGreedy}
+use Rattle.kex_machine.specs.Answers.{Viable, IsRun, left_by, Says, Means, StageAnswers, IsSaid, IsGreedy}
 use Rattle.kex_action.specs.Actors.{Position, HasPerformed, IsSettled}
-use Rattle.kex_stage.specs.Stages.{HasSurvivor}
+use Rattle.kex_stage.specs.Oracles.{Agrees, HasSurvivor}
 
 -- the longest front that can go on of a text that can is the text
 pub whole_front : (g : Graph) (w of : List ℕ) → LongestViable (node_moves g.nodes) g.start w of → Viable g w → of ≡ w
@@ -23,25 +22,25 @@ whole_front g w of l v =
     same_front w of w l.front ([], sym (append-nil w)) (omega (arith, more, ap length l.front.1, length-append of l.front.0))
 
 -- a survivor's path goes on to a run
-pub run_of : (g : Graph) (w : List ℕ) (c : List Symbol) → HasSurvivor g w → Agreed (node_moves g.nodes) g.start w c → (ks : List (Step ℕ)) × IsRun g ks × Begins (code_of ks) c × Begins (bytes_of (code_of ks)) w
-run_of g w c (p, d, s) agreed =
+pub agrees : (g : Graph) (w : List ℕ) (c : List Symbol) → HasSurvivor g w → Agreed (node_moves g.nodes) g.start w c → Agrees g w c
+agrees g w c (p, d, s) agreed =
     let path = s.reached in
     let on = s.alive in
-    let front : Begins d c = agreed.common p d s in (
-      path.0 ++ on.0,
-      (on.1, walk-append (node_moves g.nodes) path.0 on.0 g.start p on.1 path.1.walk on.2, on.3),
-      (front.0 ++ code_of on.0, code_of-append path.0 on.0 ∙ ap (λ z. z ++ code_of on.0) (path.2 ∙ front.1) ∙ append_assoc c front.0 (code_of on.0)),
-      (bytes_of (code_of on.0), ap (λ z. bytes_of z) (code_of-append path.0 on.0) ∙ bytes_of-append (code_of path.0) (code_of on.0) ∙ ap (λ z. z ++ bytes_of (code_of on.0)) path.1.reads),
-    )
+    let front : Begins d c = agreed.common p d s in
+    record {
+      agreed = agreed;
+      run = path.0 ++ on.0;
+      runs = (on.1, walk-append (node_moves g.nodes) path.0 on.0 g.start p on.1 path.1.walk on.2, on.3);
+      begins = (front.0 ++ code_of on.0, code_of-append path.0 on.0 ∙ ap (λ z. z ++ code_of on.0) (path.2 ∙ front.1) ∙ append_assoc c front.0 (code_of on.0));
+      reads = (bytes_of (code_of on.0), ap (λ z. bytes_of z) (code_of-append path.0 on.0) ∙ bytes_of-append (code_of path.0) (code_of on.0) ∙ ap (λ z. z ++ bytes_of (code_of on.0)) path.1.reads);
+    }
 
 module _ (g : Graph) (a : Position) (same : a.machine ≡ g) (settled : IsSettled a) (c : List Symbol) (out : List ℕ) (p : HasPerformed a c c out) where
   left_out : (ks : List (Step ℕ)) → IsRun g ks → Begins (code_of ks) c → out ≡ (left_by g ks c).out
   left_out ks r b = subst (λ m. out ≡ (left_by m ks c).out) same (sym (ap (λ z. z.out) (p.left settled ks (subst (λ m. IsRun m ks) (sym same) r) b)))
 
-  pub says : (w : List ℕ) → HasSurvivor g w → Agreed (node_moves g.nodes) g.start w c → Says g w out
-  says w s agreed =
-      let r = run_of g w c s agreed in
-      record { agreed = c; is_agreed = agreed; run = r.0; runs = r.1; reads = r.3; begins = r.2; said = left_out r.0 r.1 r.2 }
+  pub says : (w : List ℕ) → Agrees g w c → Says g w out
+  says w h = record { agreed = c; is_agreed = h.agreed; run = h.run; runs = h.runs; reads = h.reads; begins = h.begins; said = left_out h.run h.runs h.begins }
 
   pub means : (w : List ℕ) → IsGreedy g w c → Means g w out
   means w h =
@@ -96,3 +95,13 @@ said_before g v next c p n good bad s =
     by : (of m : List ℕ) → next ≡ of ++ m → Viable g of → length v ≤ length of → length of ≡ length v
     by of [] f h le = absurd (bad (subst (λ z. Viable g z) (sym (f ∙ append-nil of)) h))
     by of (y ∷ m) f h le = omega (arith, ap length f, length-append of (y ∷ m), n, le)
+
+pub take_all : {A : Type 0} (xs : List A) → take (length xs) xs ≡ xs
+take_all [] = refl
+take_all (x ∷ xs) = ap (λ z. x ∷ z) (take_all xs)
+
+-- behind a text, the first bytes of a piece begin one more of them
+pub more_taken : (w : List ℕ) (k : ℕ) (xs : List ℕ) → Begins (w ++ take (k + 1) xs) (w ++ take k xs)
+more_taken w k xs =
+    let d = shorter_front xs (take k xs) (take (k + 1) xs) (drop k xs, sym (take-append-drop k xs)) (drop (k + 1) xs, sym (take-append-drop (k + 1) xs)) (omega (arith, length-take k xs, length-take (k + 1) xs)) in
+    (d.0, ap (λ z. w ++ z) d.1 ∙ sym (append_assoc w (take k xs) d.0))

@@ -1,20 +1,17 @@
--- What a stage stands for: its oracle was fed the bytes, and its actor has performed what they agree on.
-use Rattle.std.specs.Prelude.{◌≡◌, ℕ, ◌<◌, ◌≤◌, ◌+◌, Bool, true, false, List, [], ◌∷◌, ◌++◌, Option, Some, None, length, take}
-use Rattle.kex_code.specs.declared.symbol.Symbol.{Symbol}
+-- What a stage stands for.
+use Rattle.std.specs.Prelude.{◌≡◌, ℕ, ◌≤◌, Bool, true, false, List, [], Option, Some, None, length}
 use Rattle.kex_model.specs.Answers.{Answer}
-use Rattle.kex_model.specs.Survivors.{Survives}
-use Rattle.kex_machine.specs.Nodes.{Graph, node_moves}
+use Rattle.kex_machine.specs.Nodes.{Graph}
 use Rattle.kex_machine.specs.Answers.{Viable, StageAnswers}
-use Rattle.kex_frontier.specs.Frontiers.{Front, IsFed}
-use Rattle.kex_action.specs.Actors.{Position, HasPerformed, IsSettled}
+use Rattle.kex_action.specs.Actors.{Position}
 use Rattle.kex_pipe.specs.Histories.{Fed, stop_as}
 use Rattle.kex_pipe.specs.declared.turn.Stop.{Stop}
-use Rattle.kex_pipe.specs.declared.turn.Why.{Why}
+use Rattle.kex_pipe.specs.declared.turn.Why.TheVariants.{Byte, End, Limit}
 use Rattle.kex_pipe.specs.declared.turn.Fate.{Fate}
 use Rattle.kex_pipe.specs.declared.turn.Fate.TheVariants.{On, Stopped}
-use Rattle.kex_frontier.specs.declared.frontier.Ended.{Ended}
-use Rattle.kex_frontier.specs.declared.frontier.Ended.TheVariants.{Parsed, Cut}
-use Rattle.kex_pipe.specs.declared.turn.Why.TheVariants.{Byte, End, Limit}
+use Rattle.kex_stage.specs.declared.oracle.Oracle.{Oracle}
+use Rattle.kex_stage.specs.Oracles.{read_of}
+use Rattle.kex_stage.specs.Works.{Followed}
 
 -- a machine, and the most bytes that it takes
 pub record StagePlan : Type 0 where
@@ -25,49 +22,28 @@ pub record StagePlan : Type 0 where
 abbrev pub Gives : StagePlan → List ℕ → Bool → Answer → Type 0
 Gives p w e a = StageAnswers p.machine p.limit w e a
 
--- the oracle was fed w, its code c was taken and performed, and out was written
-pub record Followed (f : Front) (a : Position) (w : List ℕ) (c : List Symbol) (out : List ℕ) : Type 0 where
-  pub fed : IsFed f w c
-  pub performed : HasPerformed a c c out
-
 -- a stage that has neither stopped nor ended stands where it has read and said
-pub record IsOpen (p : StagePlan) (f : Front) (a : Position) (read : ℕ) (w : List ℕ) (out : List ℕ) : Type 0 where
-  pub code : List Symbol
-  pub followed : Followed f a w code out
-  pub count : read ≡ length w
-  pub within : read ≤ p.limit
+pub record IsOpen (p : StagePlan) (o : Oracle) (a : Position) (w : List ℕ) (out : List ℕ) : Type 0 where
+  pub followed : Followed p.machine o a w out
+  pub count : read_of o ≡ length w
+  pub within : read_of o ≤ p.limit
   pub good : Viable p.machine w
 
-abbrev pub StandsFor : StagePlan → Front → Position → ℕ → Option Stop → Bool → Option Fed → Type 0
-StandsFor p f a read stop over None = IsOpen p f a read [] [] × (stop ≡ None) × (over ≡ false)
-StandsFor p f a read stop over (Some h) = Gives p h.bytes h.ended h.answer × (stop_as stop ≡ h.answer.stop) × (over ≡ h.ended) × (h.ended ≡ false → stop ≡ None → IsOpen p f a read h.bytes h.answer.text)
-
--- some survivor of w
-abbrev pub HasSurvivor : Graph → List ℕ → Type 0
-HasSurvivor g w = (q : ℕ) × (c : List Symbol) × Survives (node_moves g.nodes) g.start w q c
-
--- the oracle goes on from w over a piece of which it takes k bytes, and stops or not
-pub record Reads (p : StagePlan) (w piece : List ℕ) (read k : ℕ) : Type 0 where
-  pub front : k ≤ length piece
-  pub good : Viable p.machine (w ++ take k piece)
-  pub survivor : HasSurvivor p.machine (w ++ take k piece)
-  pub count : read ≡ length w + k
-  pub within : read ≤ p.limit
-
--- at a byte with which no parse begins, or at the limit
-abbrev pub StopsAs : StagePlan → Front → List ℕ → List ℕ → List Symbol → ℕ → Why → Type 0
-StopsAs p f w piece c k Byte = (Viable p.machine (w ++ take (k + 1) piece) → ⊥) × (length w + k < p.limit) × IsFed f (w ++ take (k + 1) piece) c
-StopsAs p f w piece c k Limit = (length w + k ≡ p.limit) × IsFed f (w ++ take k piece) c
-StopsAs p f w piece c k End = ⊥
-
-abbrev pub ReadsTo : StagePlan → Front → List ℕ → List ℕ → List Symbol → ℕ → Option Stop → Type 0
-ReadsTo p f w piece c read None = Reads p w piece read (length piece) × IsFed f (w ++ piece) c
-ReadsTo p f w piece c read (Some s) = (k : ℕ) × Reads p w piece read k × (k < length piece) × (s.at ≡ length w + k) × StopsAs p f w piece c k s.why
+abbrev pub StandsFor : StagePlan → Oracle → Position → Option Stop → Bool → Option Fed → Type 0
+StandsFor p o a stop over None = IsOpen p o a [] [] × (stop ≡ None) × (over ≡ false)
+StandsFor p o a stop over (Some h) = Gives p h.bytes h.ended h.answer × (stop_as stop ≡ h.answer.stop) × (over ≡ h.ended) × (h.ended ≡ false → stop ≡ None → IsOpen p o a h.bytes h.answer.text)
 
 abbrev pub fate_of : Option Stop → Fate
 fate_of None = On
 fate_of (Some s) = Stopped
 
-abbrev pub end_stop : Ended → ℕ → Option Stop
-end_stop Parsed count = None
-end_stop Cut count = Some (record { at = count; why = End })
+-- where a stage stops behind so many good bytes: at a byte that was refused, or where a piece goes past the limit
+abbrev pub stop_after : ℕ → Bool → Bool → Option Stop
+stop_after at true past = Some (record { at = at; why = Byte })
+stop_after at false true = Some (record { at = at; why = Limit })
+stop_after at false false = None
+
+-- where it stops at the end
+abbrev pub end_stop : Bool → ℕ → Option Stop
+end_stop true at = None
+end_stop false at = Some (record { at = at; why = End })

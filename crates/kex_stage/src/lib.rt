@@ -1,7 +1,10 @@
-//! One stage, from bytes to bytes: the oracle that finds the code, and the action machine that performs it.
+//! One stage, from bytes to bytes: the oracle that finds the code, by paths or by a table, and the action machine that performs it.
 //!
-//! Stands on frontiers, actors and `Turn`. `Stage` is a `Turn` whose answer is the stage's over the nodes of its machine.
+//! Stands on frontiers, runners, actors and `Turn`. `Stage` is a `Turn` whose answer is the stage's over the nodes of its machine.
 #![tactic(auto)]
 
+mod oracle;
+mod paths;
 pub mod plan;
 pub mod stage;
+mod work;

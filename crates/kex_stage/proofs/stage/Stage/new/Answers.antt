@@ -1,19 +1,25 @@
-use Rattle.std.proofs.Common.{rules, ◌≡◌, ◌≤◌, [], refl, sym, subst, arith, true}
-use Rattle.kex_stage.proofs.Feeding.{begins_good}
+use Rattle.std.proofs.Common.{◌≡◌, [], refl, sym, subst, ◌∙◌, arith}
+use Rattle.kex_machine.specs.Answers.{Viable}
+use Rattle.kex_stage.specs.Oracles.{Hears}
 use Rattle.kex_stage.proofs.stage.Stage.new.Goals as goal
 
 pub returns-clause-stands : goal.returns-clause-stands
-returns-clause-stands c = (
-  (
-    record {
-      code = [];
-      followed = record { fed = c.in_ok-oracle.ensures.begins; performed = c.in_ok-actor.ensures.begins };
-      count = refl;
-      within = omega arith;
-      good = begins_good c.in_ok-oracle.oracle _ refl c.in_ok-oracle.ensures.begins;
-    },
-    refl,
-    refl,
-  ),
-  refl,
-)
+returns-clause-stands c =
+    let same : c.args.plan.now.machine ≡ c.in_ok-actor.actor.machine = sym (c.in_ok-actor.ensures.machine ∙ c.machine.ensures.same) in (
+      (
+        record {
+          followed = record {
+            code = [];
+            hears = subst (λ g. Hears g c.in_ok-oracle.oracle [] []) same c.in_ok-oracle.ensures.hears;
+            performed = c.in_ok-actor.ensures.begins;
+            machine = refl;
+          };
+          count = c.in_ok-oracle.ensures.ready.1;
+          within = omega (arith, c.in_ok-oracle.ensures.ready.1);
+          good = subst (λ g. Viable g []) same c.in_ok-oracle.ensures.good;
+        },
+        refl,
+        refl,
+      ),
+      refl,
+    )

@@ -1,0 +1,144 @@
+-- An oracle that goes by a table.
+use Rattle.std.proofs.Common.{◌≡◌, ℕ, ◌<◌, ◌≤◌, ◌+◌, true, false, List, [], ◌∷◌, ◌++◌, ⊎_elim, Option, Some, None, length, take, drop, refl, sym, ap, subst, ◌∙◌, append_assoc, append-nil, arith, length-append, length-take, take-append-drop}
+use Rattle.kex_code.specs.declared.symbol.Symbol.{Symbol}
+use Rattle.kex_code.specs.Codes.{Begins, bytes_of}
+use Rattle.kex_model.specs.Moves.{code_of}
+use Rattle.kex_model.specs.Survivors.{Agreed}
+use Rattle.kex_model.proofs.Standing.{same_front}
+use Rattle.kex_model.proofs.Walks.{bytes_of-append}
+use Rattle.kex_model.proofs.Agreeing.{agreed_greedy}
+use Rattle.kex_model.proofs.Derivations.{walk-append, code_of-append}
+use Rattle.kex_machine.specs.Nodes.{Graph, node_moves, IsTrimmed}
+use Rattle.kex_machine.specs.Answers.{Viable, HasParse}
+use Rattle.kex_machine.proofs.Ranges.{is_trim}
+use Rattle.kex_machine.proofs.Saying.{no_parse}
+use Rattle.kex_sst.specs.Tables.{Transducer}
+use Rattle.kex_sst.specs.Passes.{Pass, begun, passes, ending}
+use Rattle.kex_sst.specs.Machines.{IsTableOf}
+use Rattle.kex_runner.specs.Running.{Running, HasNoEnd, IsFed, StandsFor, IsLive, IsDead, HasPassed, Feeds, Ends, pass_of}
+use Rattle.kex_runner.specs.declared.answers.Fed.{Fed}
+use Rattle.kex_runner.specs.declared.answers.Fed.TheVariants.{On, Dead}
+use Rattle.kex_runner.specs.declared.answers.Ended.TheVariants.{Parsed, Cut}
+use Rattle.kex_runner.proofs.Standing.{stopped_none}
+use Rattle.kex_stage.specs.declared.oracle.Oracle.TheVariants.{Table}
+use Rattle.kex_stage.specs.Oracles.{Agrees, HearsOn, Tells, TellsEnd}
+use Rattle.kex_stage.proofs.Telling.{take_all}
+
+module _ (g : Graph) (t : Transducer) (trimmed : IsTrimmed g) (of : IsTableOf g t) where
+  -- a text that can go on goes on to one with a parse, whose greedy code begins with what is passed on
+  pub table_agrees : (w : List ℕ) (p : Pass) → passes t w ≡ Some p → Agrees g w p.code
+  table_agrees w p e = by agreed.viable
+    where
+      agreed : Agreed (node_moves g.nodes) g.start w p.code
+      agreed = of.goes_on w p e
+
+      with_parse : (v : List ℕ) → HasParse g (w ++ v) → Agrees g w p.code
+      with_parse v h = at (passes t (w ++ v)) refl
+        where
+          ends : (q : Pass) → passes t (w ++ v) ≡ Some q → (o : Option (List Symbol)) → ending t q ≡ o → Agrees g w p.code
+          ends q f None k = absurd (of.cut (w ++ v) q f k h)
+          ends q f (Some d) k =
+              let greedy = (of.parsed (w ++ v) q d f k).greedy in
+              let path = greedy.2.reached in
+              record {
+                agreed = agreed;
+                run = path.0;
+                runs = (greedy.0, path.1.walk, greedy.1);
+                begins = let b = agreed_greedy (node_moves g.nodes) g.start w v p.code d agreed greedy in (b.0, path.2 ∙ b.1);
+                reads = (v, path.1.reads);
+              }
+
+          at : (o : Option Pass) → passes t (w ++ v) ≡ o → Agrees g w p.code
+          at None f = absurd (no_parse g (is_trim g trimmed) (w ++ v) (of.stops (w ++ v) f) h)
+          at (Some q) f = ends q f (ending t q) refl
+
+      by : Viable g w → Agrees g w p.code
+      by (q, (c, (ks, path, is), (js, e, walk, end))) =
+          with_parse (bytes_of (code_of js)) (
+            ks ++ js,
+            (e, walk-append (node_moves g.nodes) ks js g.start q e path.walk walk, end),
+            ap (λ z. bytes_of z) (code_of-append ks js) ∙ bytes_of-append (code_of ks) (code_of js) ∙ ap (λ z. z ++ bytes_of (code_of js)) path.reads,
+          )
+
+  -- where a text can go on, no byte of it was refused
+  pub still_live : (r : Running) (w : List ℕ) (c : List Symbol) → r.table ≡ t → StandsFor r w c → Viable g w → HasPassed r w c
+  still_live r w c e s v = ⊎_elim (λ l. l.1) (λ x. absurd (of.stops w (subst (λ z. passes z w ≡ None) e (stopped_none x.1.1)) v)) s
+
+  pub begins_good : Viable g []
+  begins_good = (of.goes_on [] (begun t.initial) refl).viable
+
+fed_stands : (answer : Fed) (r : Running) (w : List ℕ) (c : List Symbol) → IsFed answer r w c → StandsFor r w c
+fed_stands On r w c h = h.1
+fed_stands Dead r w c h = h.1
+
+no_end : (t : Transducer) (o : Option Pass) (p : Pass) → o ≡ Some p → HasNoEnd t o → ending t p ≡ None
+no_end t o p e h = subst (λ z. HasNoEnd t z) e h
+
+-- what a runner passes on along a piece is told
+pub table_tells : (answer : Fed) (r new : Running) (piece : List ℕ) (count : ℕ) (before after : List Symbol) → new.table ≡ r.table → Feeds answer r new piece before after → new.read ≡ r.read + count → count ≤ length piece → Tells (Table r) (Table new) piece count before after
+table_tells answer r new piece count before after same f read within = record {
+  more = f.more;
+  code = f.code;
+  within = within;
+  tells = λ g w c h v. on g w c h.0 h.1 (still_live g r.table h.0 h.1 r w c refl h.2 v) (fed_stands answer new (w ++ piece) (c ++ f.more) (f.fed w c h.2));
+}
+  where
+    on : (g : Graph) (w : List ℕ) (c : List Symbol) → IsTrimmed g → IsTableOf g r.table → HasPassed r w c → StandsFor new (w ++ piece) (c ++ f.more) → HearsOn g (Table new) w piece count (c ++ f.more)
+    on g w c trimmed of was s = ⊎_elim live dead s
+      where
+        of_new : IsTableOf g new.table
+        of_new = subst (λ z. IsTableOf g z) (sym same) of
+
+        told : (v : List ℕ) → HasPassed new v (c ++ f.more) → Agrees g v (c ++ f.more)
+        told v h = subst (λ z. Agrees g v z) (ap (λ z. (c ++ f.more) ++ z) f.told ∙ append-nil (c ++ f.more)) (table_agrees g new.table trimmed of_new v (pass_of new (c ++ f.more)) h.passes)
+
+        live : IsLive new (w ++ piece) (c ++ f.more) → HearsOn g (Table new) w piece count (c ++ f.more)
+        live l =
+            let all : count ≡ length piece = omega (arith, read, l.1.count, was.count, length-append w piece) in
+            let whole : take count piece ≡ piece = ap (λ z. take z piece) all ∙ take_all piece in
+            let agrees = told (w ++ piece) l.1 in
+            record {
+              hears = λ e. (trimmed, of_new, s);
+              good = subst (λ z. Viable g (w ++ z)) (sym whole) agrees.agreed.viable;
+              bad = λ lt. absurd (omega (arith, lt, all));
+              agrees = subst (λ z. Agrees g (w ++ z) (c ++ f.more)) (sym whole) agrees;
+            }
+
+        dead : IsDead new (w ++ piece) (c ++ f.more) → HearsOn g (Table new) w piece count (c ++ f.more)
+        dead (d, (v, stop, h)) =
+            let long : length v ≡ length w + count = omega (arith, read, h.count, was.count) in
+            let less : count < length piece = omega (arith, long, ap length stop.front, length-append w piece, length-append v (stop.byte ∷ stop.rest)) in
+            let front : (k : ℕ) → Begins (w ++ piece) (w ++ take k piece) = λ k. (drop k piece, ap (λ z. w ++ z) (sym (take-append-drop k piece)) ∙ sym (append_assoc w (take k piece) (drop k piece))) in
+            let here : v ≡ w ++ take count piece = same_front (w ++ piece) v (w ++ take count piece) (stop.byte ∷ stop.rest, stop.front) (front count) (omega (arith, long, length-append w (take count piece), length-take count piece, less)) in
+            let next : v ++ stop.byte ∷ [] ≡ w ++ take (count + 1) piece = same_front (w ++ piece) (v ++ stop.byte ∷ []) (w ++ take (count + 1) piece) (stop.rest, stop.front ∙ sym (append_assoc v (stop.byte ∷ []) stop.rest)) (front (count + 1)) (omega (arith, long, length-append v (stop.byte ∷ []), length-append w (take (count + 1) piece), length-take (count + 1) piece, less)) in
+            let agrees = told v h in
+            record {
+              hears = λ e. absurd (omega (arith, e, less));
+              good = subst (λ z. Viable g z) here agrees.agreed.viable;
+              bad = λ lt. subst (λ z. ¬ Viable g z) next (of_new.stops (v ++ stop.byte ∷ []) stop.stops);
+              agrees = subst (λ z. Agrees g z (c ++ f.more)) here agrees;
+            }
+
+-- what a runner passes on at the end is told
+pub table_ends : (r : Running) (before after : List Symbol) → Ends Parsed r before after → TellsEnd true (Table r) before after
+table_ends r before after e = record {
+  more = e.more;
+  code = e.code;
+  tells = λ g w c h v. let o = e.over w c h.2 in h.1.parsed w o.0 (c ++ e.more) o.1 o.2;
+}
+
+pub table_cut : (r : Running) (before after : List Symbol) → Ends Cut r before after → TellsEnd false (Table r) before after
+table_cut r before after e = record {
+  more = e.more;
+  code = e.code;
+  tells = λ g w c h v.
+      let o = e.over w c h.2 in
+      let live = still_live g r.table h.0 h.1 r w c refl h.2 v in
+      let p = o.1 in
+      ⊎_elim
+      (λ whole.
+      let is : passes r.table w ≡ Some p.pass = ap (λ z. passes r.table z) whole ∙ p.passes in
+      (h.1.cut w p.pass is (no_end r.table (passes r.table w) p.pass is o.0), subst (λ z. Agrees g w z) (sym p.code) (table_agrees g r.table h.0 h.1 w p.pass is)))
+      (λ stop. absurd (h.1.stops w (stopped_none stop) v))
+      p.longest;
+}

@@ -1,0 +1,89 @@
+-- What an oracle stands for, whether it goes by paths or by a table: the bytes that it was fed, and the code that it has told.
+use Rattle.std.specs.Prelude.{◌≡◌, ℕ, ◌<◌, ◌≤◌, ◌+◌, Bool, true, false, IsTrue, List, ◌++◌, length, take}
+use Rattle.kex_code.specs.declared.symbol.Symbol.{Symbol}
+use Rattle.kex_code.specs.Codes.{Begins, bytes_of}
+use Rattle.kex_model.specs.Moves.{Step, code_of}
+use Rattle.kex_model.specs.Survivors.{Agreed, Survives}
+use Rattle.kex_machine.specs.Nodes.{Graph, node_moves, IsTrimmed}
+use Rattle.kex_machine.specs.Answers.{Viable, IsRun, HasParse, IsGreedy}
+use Rattle.kex_frontier.specs.Frontiers.{Front, IsFed}
+use Rattle.kex_frontier.specs.declared.frontier.Ended.{Ended}
+use Rattle.kex_frontier.specs.declared.frontier.Ended.TheVariants.{Parsed, Cut}
+use Rattle.kex_sst.specs.Machines.{IsTableOf}
+use Rattle.kex_runner.specs.Running as runs
+use Rattle.kex_stage.specs.declared.oracle.Oracle.{Oracle}
+use Rattle.kex_stage.specs.declared.oracle.Oracle.TheVariants.{Paths, Table}
+
+-- the oracle was fed w, and has told c
+abbrev pub Hears : Graph → Oracle → List ℕ → List Symbol → Type 0
+Hears g (Paths p) w c = (p.frontier.machine ≡ g) × IsFed p.frontier w c
+Hears g (Table r) w c = IsTrimmed g × IsTableOf g r.table × runs.StandsFor r w c
+
+-- how many good bytes it has read
+abbrev pub read_of : Oracle → ℕ
+read_of (Paths p) = p.read
+read_of (Table r) = r.read
+
+abbrev pub usable_of : Oracle → Bool
+usable_of (Paths p) = p.frontier.usable
+usable_of (Table r) = r.usable
+
+-- whether it was given the end
+abbrev pub ended_of : Oracle → Bool
+ended_of (Paths p) = p.frontier.ended
+ended_of (Table r) = r.ended
+
+-- it can be fed
+abbrev pub IsReady : Oracle → Type 0
+IsReady o = IsTrue (usable_of o) × (ended_of o ≡ false)
+
+-- some survivor of w
+abbrev pub HasSurvivor : Graph → List ℕ → Type 0
+HasSurvivor g w = (q : ℕ) × (c : List Symbol) × Survives (node_moves g.nodes) g.start w q c
+
+-- the survivors of w agree on c, with which the code of some run begins whose text begins with w
+pub record Agrees (g : Graph) (w : List ℕ) (c : List Symbol) : Type 0 where
+  pub agreed : Agreed (node_moves g.nodes) g.start w c
+  pub run : List (Step ℕ)
+  pub runs : IsRun g run
+  pub begins : Begins (code_of run) c
+  pub reads : Begins (bytes_of (code_of run)) w
+
+-- of a piece behind w so many bytes are good; where that is all of it, c is told
+pub record HearsOn (g : Graph) (o : Oracle) (w piece : List ℕ) (count : ℕ) (c : List Symbol) : Type 0 where
+  pub hears : count ≡ length piece → Hears g o (w ++ piece) c
+  pub good : Viable g (w ++ take count piece)
+  pub bad : count < length piece → ¬ Viable g (w ++ take (count + 1) piece)
+  pub agrees : Agrees g (w ++ take count piece) c
+
+-- the oracle was fed a piece, and has told what is agreed
+pub record Tells (old new : Oracle) (piece : List ℕ) (count : ℕ) (before after : List Symbol) : Type 0 where
+  pub more : List Symbol
+  pub code : after ≡ before ++ more
+  pub within : count ≤ length piece
+  pub tells : (g : Graph) (w : List ℕ) (c : List Symbol) → Hears g old w c → Viable g w → HearsOn g new w piece count (c ++ more)
+
+-- what the end shows behind w: a parse, of which c is the greedy code, or none
+abbrev pub ShowsEnd : Bool → Graph → List ℕ → List Symbol → Type 0
+ShowsEnd true g w c = IsGreedy g w c
+ShowsEnd false g w c = (¬ HasParse g w) × Agrees g w c
+
+-- the oracle was given the end
+pub record TellsEnd (parsed : Bool) (old : Oracle) (before after : List Symbol) : Type 0 where
+  pub more : List Symbol
+  pub code : after ≡ before ++ more
+  pub tells : (g : Graph) (w : List ℕ) (c : List Symbol) → Hears g old w c → Viable g w → ShowsEnd parsed g w (c ++ more)
+
+-- going by paths, so many bytes of a piece behind w are good: the frontier was fed them, and the byte behind them, if there is one
+pub record ReadsOn (f : Front) (g : Graph) (w piece : List ℕ) (count : ℕ) (c : List Symbol) : Type 0 where
+  pub good : Viable g (w ++ take count piece)
+  pub survivor : HasSurvivor g (w ++ take count piece)
+  pub all : count ≡ length piece → IsFed f (w ++ piece) c
+  pub bad : count < length piece → (¬ Viable g (w ++ take (count + 1) piece)) × IsFed f (w ++ take (count + 1) piece) c
+
+abbrev pub Reads : Front → Front → List ℕ → ℕ → Type 0
+Reads old new piece count = (w : List ℕ) (c : List Symbol) → IsFed old w c → Viable old.machine w → ReadsOn new old.machine w piece count c
+
+abbrev pub is_parsed : Ended → Bool
+is_parsed Parsed = true
+is_parsed Cut = false

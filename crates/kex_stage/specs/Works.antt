@@ -1,0 +1,39 @@
+-- How oracle and actor go on together.
+use Rattle.std.specs.Prelude.{◌≡◌, ℕ, ◌<◌, ◌≤◌, ◌+◌, Bool, true, false, List, ◌++◌, length, take}
+use Rattle.kex_code.specs.declared.symbol.Symbol.{Symbol}
+use Rattle.kex_machine.specs.Nodes.{Graph}
+use Rattle.kex_machine.specs.Answers.{Viable, HasParse, Says, Means}
+use Rattle.kex_action.specs.Actors.{Position, HasPerformed}
+use Rattle.kex_stage.specs.declared.oracle.Oracle.{Oracle}
+use Rattle.kex_stage.specs.Oracles.{Hears}
+
+-- the oracle was fed w, the actor has performed what it told, and out was written
+pub record Followed (g : Graph) (o : Oracle) (a : Position) (w out : List ℕ) : Type 0 where
+  pub code : List Symbol
+  pub hears : Hears g o w code
+  pub performed : HasPerformed a code code out
+  pub machine : a.machine ≡ g
+
+-- of a piece behind w so many bytes are good, and what is said is written
+pub record WorksOn (g : Graph) (o : Oracle) (a : Position) (w piece : List ℕ) (count : ℕ) (text : List ℕ) : Type 0 where
+  pub followed : count ≡ length piece → Followed g o a (w ++ piece) text
+  pub good : Viable g (w ++ take count piece)
+  pub bad : count < length piece → ¬ Viable g (w ++ take (count + 1) piece)
+  pub says : Says g (w ++ take count piece) text
+
+-- oracle and actor went on along a piece
+pub record Works (old new : Oracle) (a b : Position) (piece : List ℕ) (count : ℕ) (before after : List ℕ) : Type 0 where
+  pub more : List ℕ
+  pub written : after ≡ before ++ more
+  pub within : count ≤ length piece
+  pub works : (g : Graph) (w out : List ℕ) → Followed g old a w out → Viable g w → WorksOn g new b w piece count (out ++ more)
+
+-- at the end what w means is written, or what is said on it
+abbrev pub WritesEnd : Bool → Graph → List ℕ → List ℕ → Type 0
+WritesEnd true g w text = Means g w text
+WritesEnd false g w text = (¬ HasParse g w) × Says g w text
+
+pub record Finishes (parsed : Bool) (old : Oracle) (a : Position) (before after : List ℕ) : Type 0 where
+  pub more : List ℕ
+  pub written : after ≡ before ++ more
+  pub finishes : (g : Graph) (w out : List ℕ) → Followed g old a w out → Viable g w → WritesEnd parsed g w (out ++ more)
