@@ -1,6 +1,7 @@
 // What a text is compiled to.
 
-ghost use Rattle.std.specs.Prelude.{◌≡◌, ◌+◌, ◌*◌, ◌^◌, ◌<◌, ◌++◌, ◌∷◌, [], ℕ, OnOk, length};
+ghost use Rattle.std.specs.Prelude.{◌≡◌, ◌+◌, ◌*◌, ◌^◌, ◌<◌, ◌++◌, ◌∷◌, [], ℕ, OnOk, length, map};
+ghost use Rattle.kex_stage.specs.Plans.{machine_of};
 
 use kex_code::memory::Memory;
 use kex_stage::plan::Plan;
@@ -15,12 +16,13 @@ pub struct Compiled {
 }
 
 impl Model for Compiled {
-    ghost use Rattle.std.specs.Prelude.{◌<◌, ◌^◌, length};
+    ghost use Rattle.std.specs.Prelude.{◌<◌, ◌^◌, length, map};
+    ghost use Rattle.kex_stage.specs.Plans.{machine_of};
     ghost use Rattle.kex_compile.specs.Stages.{Plans};
 
     ghost Value = { Plans };
 
-    ghost view = { λ c. record { stages = c.stages.items; places = c.places } };
+    ghost view = { λ c. record { stages = map machine_of c.stages.items; places = c.places } };
 
     ghost invariant = { λ c. length c.stages.items < 2 ^ 32 };
 }
@@ -39,7 +41,7 @@ impl Compiled {
     pub(crate) fn push(&mut self, plan: Plan, places: u32) -> Result<(), Memory>
         requires places { self.old.places + places < 2 ^ 64 }
         requires stages { length self.old.stages + 1 < 2 ^ 32 }
-        ensures pushed { OnOk result (self.new ≡ record { stages = self.old.stages ++ plan ∷ []; places = self.old.places + places }) }
+        ensures pushed { OnOk result (self.new ≡ record { stages = self.old.stages ++ plan.machine ∷ []; places = self.old.places + places }) }
         ensures few { OnOk result (self.new.places < self.old.places + 2 ^ 32) }
     {
         self.stages.push(plan)?;
@@ -49,7 +51,8 @@ impl Compiled {
 
     /// The plans, in the order of their stages.
     pub fn stages(&self) -> &[Plan]
-        ensures same { result.now ≡ self.now.stages }
+        ensures same { map machine_of result.now ≡ self.now.stages }
+        ensures count { length result.now ≡ length self.now.stages }
         ensures few { length self.now.stages < 2 ^ 32 }
     {
         &self.stages

@@ -50,7 +50,7 @@ pub fn plan_stages(
             stage,
             MOST_PLACES,
         ) {
-            Ok(made) => compiled.push(Plan::new(made.machine), made.places)?,
+            Ok(made) => compiled.push(Plan::new(made.machine, None), made.places)?,
             Err(why) => firsts.note(why, stage)?,
         }
     }

@@ -1,5 +1,6 @@
 // A program's stages over a source into a sink.
-ghost use Rattle.std.specs.Prelude.{◌≡◌, ◌⊎◌, ◌<◌, IfOk, None, length};
+ghost use Rattle.std.specs.Prelude.{◌≡◌, ◌⊎◌, ◌<◌, IfOk, None, length, map};
+ghost use Rattle.kex_stage.specs.Plans.{machine_of};
 ghost use Rattle.kex_ports.specs.Reads.{last_given};
 ghost use Rattle.kex_words.specs.Gains.{change_of};
 ghost use Rattle.kex_top.specs.Outside.{Closes, ReadsBlocks};
@@ -26,7 +27,7 @@ pub(crate) fn pipe_of<'p>(
     max_input: u64,
 ) -> Result<Pipe<Stage<'p>>, Memory>
     requires { 0 < length plans.now }
-    ensures plans { IfOk result (λ pipe. plans_of ⟦<Stage<'p> as Turn>⟧ pipe ≡ stage_plans max_input plans.now) }
+    ensures plans { IfOk result (λ pipe. plans_of ⟦<Stage<'p> as Turn>⟧ pipe ≡ stage_plans max_input (map machine_of plans.now)) }
     ensures fresh { IfOk result (λ pipe. PipeStands ⟦<Stage<'p> as Turn>⟧ pipe None) }
 {
     let mut stages = Vec::new(alloc);

@@ -26,19 +26,19 @@ stages-preserved c =
       | in-Ok+in_ok-push-in-Ok w ↦
           let m = w.in-Ok.made.machine in
           let own = w.in-Ok.made.places in
-          let is : IsStage P (root_of P start.name) (i + 1) w.new.result = subst (λ k. IsStage P (root_of P start.name) (i + 1) k) (sym w.new.ensures) (subst (λ r. IsStage P r (i + 1) m) root (record {
+          let is : IsStage P (root_of P start.name) (i + 1) w.new.result.machine = subst (λ k. IsStage P (root_of P start.name) (i + 1) k) (sym (ap (λ z. z.machine) w.new.ensures)) (subst (λ r. IsStage P r (i + 1) m) root (record {
             can_run = record { few = w.in-Ok.ensures.fits; no_loop = w.in-Ok.ensures.carries.no_loop; some_text = w.in-Ok.ensures.carries.some_text };
             carries = w.in-Ok.ensures.carries;
             kept = w.in-Ok.ensures.kept;
             numbered = w.in-Ok.ensures.stage;
           })) in
           let has : HasPlaces P (root_of P start.name) own = subst (λ r. HasPlaces P r own) root w.in-Ok.ensures.places in
-          let g = one-planned P P.stages i d within c.stages.firsts c.stages.compiled w.new.result own (i + 1) refl is has c.stages.invariant.gathered in
+          let g = one-planned P P.stages i d within c.stages.firsts c.stages.compiled w.new.result.machine own (i + 1) refl is has c.stages.invariant.gathered in
           let compiled = w.compiled-is ∙ w.in_ok-push-in-Ok.ensures.pushed in
           record {
             gathered = subst (λ (z : Firsts). Gathered P (take (i + 1) P.stages) z c.match-stage_machine.compiled) (sym w.firsts-is) (subst (λ (z : Plans). Gathered P (take (i + 1) P.stages) c.stages.firsts z) (sym compiled) g);
             few = omega (arith, ap (λ (z : Plans). z.places) w.compiled-is, w.in_ok-push-in-Ok.ensures.few, c.stages.invariant.few);
-            short = omega (arith, ap (λ (z : Plans). length z.stages) compiled, length-append c.stages.compiled.stages (w.new.result ∷ []), c.stages.invariant.short);
+            short = omega (arith, ap (λ (z : Plans). length z.stages) compiled, length-append c.stages.compiled.stages (w.new.result.machine ∷ []), c.stages.invariant.short);
           }
       | in-Err+in_ok-note-in-Err w ↦
           let g = one-refused P P.stages i d within c.stages.firsts c.stages.compiled (i + 1) w.in-Err.why refl w.in_ok-note-in-Err.ensures.rule (subst (λ r. IsWhy P r most_places w.in-Err.why) root w.in-Err.ensures.refused) c.stages.invariant.gathered in

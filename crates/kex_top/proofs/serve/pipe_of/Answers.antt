@@ -3,6 +3,7 @@ use Rattle.std.specs.Prelude.{None}
 use Rattle.std.proofs.lemmas.List.{map-append, map_more, take_all, length-map}
 use Rattle.kex_machine.specs.Nodes.{Graph}
 use Rattle.kex_pipe.specs.Standing.{Stands}
+use Rattle.kex_stage.specs.Plans.{machine_of}
 use Rattle.kex_stage.specs.Stages.{StagePlan}
 use Rattle.kex_stage.specs.declared.stage.Stage.{Stage}
 use Rattle.kex_stage.specs.contracts.stage.StageTurn.TheImpl.{ghosts}
@@ -22,10 +23,10 @@ plans-preserved c =
     let old = c.plans.stages.items in
     let stage = c.in_ok-stage.stage in
     let item : c.plan-item.result ≡ get_or all i c.plan-item.result = c.plan-item.is in
-    let plan : ghosts.plan stage ≡ plan_at max (get_or all i c.plan-item.result) = c.in_ok-stage.ensures.plan ∙ ap (λ z. plan_at max z) item in
+    let plan : ghosts.plan stage ≡ plan_at max (get_or all i c.plan-item.result).machine = c.in_ok-stage.ensures.plan ∙ ap (λ z. plan_at max z.machine) item in
     let within : i < length all = c.plans-test.true in
     record {
-      plans = ap (λ z. map ghosts.plan z) c.in_ok-push.ensures.items ∙ map-append ghosts.plan old (stage ∷ []) ∙ ap (λ z. z ++ ghosts.plan stage ∷ []) c.plans.invariant.plans ∙ ap (λ z. stage_plans max (take i all) ++ z ∷ []) plan ∙ sym (map_more (plan_at max) all i c.plan-item.result within);
+      plans = ap (λ z. map ghosts.plan z) c.in_ok-push.ensures.items ∙ map-append ghosts.plan old (stage ∷ []) ∙ ap (λ z. z ++ ghosts.plan stage ∷ []) c.plans.invariant.plans ∙ ap (λ z. stage_plans max (map machine_of (take i all)) ++ z ∷ []) plan ∙ sym (ap (λ z. stage_plans max z) (map_more machine_of all i c.plan-item.result within) ∙ map-append (plan_at max) (map machine_of (take i all)) ((get_or all i c.plan-item.result).machine ∷ []));
       unfed = subst (λ z. (k : ℕ) (d : Stage) → k < length z → ghosts.stands (get_or z k d) None) (sym c.in_ok-push.ensures.items) (unfed-more ghosts old stage c.plans.invariant.unfed c.in_ok-stage.ensures.stands);
       long = omega (arith, c.in_ok-push.ensures.len, c.plans.invariant.long);
     }
@@ -34,11 +35,11 @@ pub returns-clause-plans : goal.returns-clause-plans
 returns-clause-plans c =
     let all = c.args.plans.now in
     let past : length all ≤ c.plans.plan-index = c.plans-test.false in
-    same-plans ghosts (map ghosts.plan c.plans.stages.items) c.in_ok-pipe.pipe [] [] c.in_ok-pipe.ensures.stands ∙ c.plans.invariant.plans ∙ ap (λ z. stage_plans c.args.max_input z) (take_all c.plans.plan-index all past)
+    same-plans ghosts (map ghosts.plan c.plans.stages.items) c.in_ok-pipe.pipe [] [] c.in_ok-pipe.ensures.stands ∙ c.plans.invariant.plans ∙ ap (λ z. stage_plans c.args.max_input (map machine_of z)) (take_all c.plans.plan-index all past)
 
 pub returns-clause-fresh : goal.returns-clause-fresh
 returns-clause-fresh c =
     let pipe = c.in_ok-pipe.pipe in
     let same = same-plans ghosts (map ghosts.plan c.plans.stages.items) pipe [] [] c.in_ok-pipe.ensures.stands in
-    let long : length (plans_of ghosts pipe) ≡ length c.args.plans.now = ap (λ (z : List StagePlan). length z) (returns-clause-plans c) ∙ length-map c.args.plans.now (plan_at c.args.max_input) in
+    let long : length (plans_of ghosts pipe) ≡ length c.args.plans.now = ap (λ (z : List StagePlan). length z) (returns-clause-plans c) ∙ length-map (map machine_of c.args.plans.now) (plan_at c.args.max_input) ∙ length-map c.args.plans.now machine_of in
     (let lt : 0 < length (plans_of ghosts pipe) = omega (arith, long, c.requires) in lt, subst (λ ps. Stands ghosts ps pipe [] []) (sym same) c.in_ok-pipe.ensures.stands)
