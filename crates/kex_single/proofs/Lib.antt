@@ -1,3 +1,4 @@
 pub mod Stopping
 pub mod Coded
 pub mod Tested
+pub mod Played

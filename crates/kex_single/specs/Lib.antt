@@ -3,3 +3,7 @@ pub mod Standing
 pub mod Laws
 pub mod CodeLaws
 pub mod TestLaws
+pub mod Plays
+pub mod PlayLaws
+pub mod PlayedLaws
+pub mod Playing

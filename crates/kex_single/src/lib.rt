@@ -4,8 +4,10 @@
 #![tactic(auto)]
 
 mod coder;
+mod player;
 mod stops;
 mod tester;
 
 pub use coder::Coder;
+pub use player::Player;
 pub use tester::Tester;
