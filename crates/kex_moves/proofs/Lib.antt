@@ -1,3 +1,4 @@
+mod Drafting
 mod Going
 mod Knowing
 mod Learning

@@ -1,16 +1,13 @@
 -- A text with a place for the byte, from what is done.
-use Rattle.std.proofs.Common.{Result, Ok, Err, IfOk, true, false, cond, replicate, refl, ◌≡◌, ℕ, ◌<◌, ◌≤◌, ◌+◌, List, [], ◌∷◌, ◌++◌, length, take, drop, set, sym, ap, ap₂, ◌∙◌, subst, arith, append_assoc, length-append, length-set, get_or, inl, inr}
+use Rattle.std.proofs.Common.{Result, Ok, Err, IfOk, true, false, cond, replicate, refl, ◌≡◌, ℕ, ◌<◌, ◌≤◌, ◌+◌, List, [], ◌∷◌, ◌++◌, length, take, drop, set, sym, ap, ap₂, ◌∙◌, subst, arith, append_assoc, length-append, length-set, inl, inr}
 use Rattle.std.specs.Prelude.{◌⊎◌}
-use Rattle.std.proofs.lemmas.List.{append-nil, set-append_left, set_past, set_at, drop_at, take_all, take-append-drop, length-take-le, take_more}
+use Rattle.std.proofs.lemmas.List.{append-nil, set-append_left, set_past, set_at, drop_at, take_all, take-append-drop, length-take-le}
 use Rattle.kex_code.specs.Registers.{Registers}
 use Rattle.kex_model.specs.Acting.{State, appended}
 use Rattle.kex_machine.specs.declared.MNode.{MNode}
-use Rattle.kex_machine.specs.Nodes.{node_moves}
 use Rattle.kex_action.specs.declared.action.Action.{Action}
-use Rattle.kex_action.specs.declared.action.Action.TheVariants.{Byte, Node}
 use Rattle.kex_action.specs.Holdings.{adding}
-use Rattle.kex_action.specs.Actions.{passing, done_at, done}
-use Rattle.kex_action.proofs.Acting.{done-append}
+use Rattle.kex_action.specs.Actions.{done}
 use Rattle.kex_moves.specs.declared.edge.Edge.{Edge}
 use Rattle.kex_moves.specs.declared.edge.Kind.{Kind}
 use Rattle.kex_moves.specs.declared.edge.Kind.TheVariants.{Keep, Drop, Text, Acts, Plain, Unknown}
@@ -33,31 +30,23 @@ appended_none out (b ∷ bs) regs = ap (λ (l : List ℕ). record { out = out; b
 pub adding_none : (s : State) → s ≡ adding [] s
 adding_none s = sym (appended_none s.out s.buffers s.registers)
 
-set_more : (xs ys : List ℕ) (p b : ℕ) → (p < length xs) ⊎ (length xs + length ys ≤ p) → set (xs ++ ys) p b ≡ set xs p b ++ ys
+pub set_more : (xs ys : List ℕ) (p b : ℕ) → (p < length xs) ⊎ (length xs + length ys ≤ p) → set (xs ++ ys) p b ≡ set xs p b ++ ys
 set_more xs ys p b (inl h) = set-append_left xs ys p b h
 set_more xs ys p b (inr h) = set_past (xs ++ ys) p b (omega (arith, length-append xs ys)) ∙ ap (λ l. l ++ ys) (sym (set_past xs p b (omega arith)))
 
-more_room : (xs ys : List ℕ) (p : ℕ) → HasPlace xs p → length xs + length ys ≤ 16 → (p < length xs) ⊎ (length xs + length ys ≤ p)
+pub more_room : (xs ys : List ℕ) (p : ℕ) → HasPlace xs p → length xs + length ys ≤ 16 → (p < length xs) ⊎ (length xs + length ys ≤ p)
 more_room xs ys p h k = elim h.place [ inl a ↦ inl a | inr a ↦ inr (omega arith) ]
 
 -- a literal behind the text
-pub literal_added : (ns : List MNode) (n p b : ℕ) (xs ys zs : List ℕ) (s : State) → HasPlace xs p → length xs + length ys ≤ 16 → zs ≡ xs ++ ys → ((s : State) → passing (node_moves ns n) s ≡ adding ys s) → done_at ns b (Node n) (adding (set xs p b) s) ≡ adding (set zs p b) s
-literal_added ns n p b xs ys zs s h k e f = f (adding (set xs p b) s) ∙ adding_more (set xs p b) ys s ∙ ap (λ l. adding l s) (sym (set_more xs ys p b (more_room xs ys p h k))) ∙ ap (λ l. adding (set l p b) s) (sym e)
-
 pub literal_place : (p : ℕ) (xs ys zs : List ℕ) → HasPlace xs p → length xs + length ys ≤ 16 → zs ≡ xs ++ ys → HasPlace zs p
 literal_place p xs ys zs h k e = subst (λ l. HasPlace l p) (sym e) (record { count = omega (arith, length-append xs ys); place = elim h.place [ inl a ↦ inl (omega (arith, length-append xs ys)) | inr a ↦ inr a ] })
 
 -- the byte behind it
-pub byte_added : (ns : List MNode) (p q b : ℕ) (xs zs : List ℕ) (s : State) → HasPlace xs p → 16 ≤ p → q ≡ length xs → zs ≡ xs ++ 0 ∷ [] → done_at ns b Byte (adding (set xs p b) s) ≡ adding (set zs q b) s
-byte_added ns p q b xs zs s h k e f =
-    adding_more (set xs p b) (b ∷ []) s ∙ ap (λ l. adding (l ++ b ∷ []) s) (set_past xs p b (omega (arith, h.count))) ∙ ap (λ l. adding l s) (sym (set_at xs 0 [] b q (sym e))) ∙ ap (λ l. adding (set l q b) s) (sym f)
+pub byte_text : (p q b : ℕ) (xs : List ℕ) → HasPlace xs p → 16 ≤ p → q ≡ length xs → set xs p b ++ b ∷ [] ≡ set (xs ++ 0 ∷ []) q b
+byte_text p q b xs h k e = ap (λ l. l ++ b ∷ []) (set_past xs p b (omega (arith, h.count))) ∙ sym (set_at xs 0 [] b q (sym e))
 
 pub byte_place : (q : ℕ) (xs zs : List ℕ) → length xs < 16 → q ≡ length xs → zs ≡ xs ++ 0 ∷ [] → HasPlace zs q
 byte_place q xs zs h e f = subst (λ l. HasPlace l q) (sym f) (record { count = omega (arith, length-append xs (0 ∷ [])); place = inl (omega (arith, length-append xs (0 ∷ []))) })
-
--- one deed more
-pub done_more : (ns : List MNode) (ds : List Action) (i : ℕ) (d : Action) (p q b : ℕ) (xs ys : List ℕ) (s : State) → i < length ds → done ns b (take i ds) s ≡ adding (set xs p b) s → done_at ns b (get_or ds i d) (adding (set xs p b) s) ≡ adding (set ys q b) s → done ns b (take (i + 1) ds) s ≡ adding (set ys q b) s
-done_more ns ds i d p q b xs ys s h e f = ap (λ l. done ns b l s) (take_more ds i d h) ∙ done-append ns b (take i ds) (get_or ds i d ∷ []) s ∙ ap (λ z. done_at ns b (get_or ds i d) z) e ∙ f
 
 -- what is written is the text with the byte
 text_written : (old xs pad text : List ℕ) (p b : ℕ) (e : Edge) → text ≡ (old ++ xs) ++ pad → length pad ≡ 16 → length xs ≤ 16 → e.from ≡ length old → e.byte_at ≡ p → e.adds ≡ length xs → writes text e b ≡ set xs p b

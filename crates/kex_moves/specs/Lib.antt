@@ -3,3 +3,4 @@ pub mod Runs
 pub mod Walks
 pub mod Known
 pub mod Along
+pub mod Drafts

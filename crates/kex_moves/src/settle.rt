@@ -1,11 +1,12 @@
 // What is done along a walk, as an edge.
 
-ghost use Rattle.std.specs.Prelude.{◌≡◌, ℕ, [], IfOk, IfSome, slice_set};
-ghost use Rattle.kex_model.specs.Acting.{State};
-ghost use Rattle.kex_machine.specs.Nodes.{node_moves};
+ghost use Rattle.std.specs.Prelude.{◌≡◌, ℕ, [], ◌∷◌, IfOk, IfSome, slice_set};
+ghost use Rattle.kex_model.specs.Acting.{State, done_by};
+ghost use Rattle.kex_machine.specs.Nodes.{node_moves, effect_of};
 ghost use Rattle.kex_action.specs.Holdings.{adding};
 ghost use Rattle.kex_action.specs.Actions.{passing, done_at, done};
 ghost use Rattle.kex_moves.specs.Known.{HasPlace, IsOrdered, Settles, Lengthens};
+ghost use Rattle.kex_moves.specs.Drafts.{IsDraft, Drafts};
 
 use crate::edge::Edge;
 use crate::edges::Edges;
@@ -14,47 +15,98 @@ use kex_code::memory::Memory;
 use kex_machine::{Effect, MNode, Trimmed};
 use std::alloc::Global;
 
-// The bytes that a node writes, if that is all that it does.
-fn literal_of(machine: &Trimmed, n: u32) -> Option<&[u8]>
-    ensures { IfSome result (λ l. (s : State) → passing (node_moves machine.now.nodes n) s ≡ adding l.now s) }
+/// Of a text of at most 16 bytes the place of the byte read, 16 where it has none, and how many buffers were opened
+/// behind it that nothing is kept of.
+#[derive(Clone, Copy, Debug, PartialEq, Eq)]
+pub struct Draft {
+    pub place: usize,
+    pub depth: usize,
+}
+
+// What a node does, if it does anything.
+fn effect_at(machine: &Trimmed, n: u32) -> Option<&Effect>
+    ensures { IfSome result (λ e. (s : State) → passing (node_moves machine.now.nodes n) s ≡ done_by (effect_of e.now) s) }
 {
     match machine.nodes().get(n as usize) {
-        Some(MNode::Do(Effect::Lit(bytes), _)) => Some(bytes.as_slice()),
+        Some(MNode::Do(effect, _)) => Some(effect),
         _ => None,
     }
 }
 
-// Adds what is done to a text of at most 16 bytes in which the byte read has a place, 16 where it has none; the new
-// place. `None` where that can't be said so.
+// Adds a byte that is read.
+fn add_byte(draft: Draft, bytes: &mut Vec<u8>) -> Result<Option<Draft>, Memory>
+    requires { IsDraft bytes.old.items draft }
+    ensures draft { IfOk result (λ o. IfSome o (IsDraft bytes.new.items)) }
+    ensures drafts { IfOk result (λ o. IfSome o (λ new. (b : ℕ) (s z : State) → Drafts bytes.old.items draft b s z → Drafts bytes.new.items new b s (adding (b ∷ []) z))) }
+{
+    let at = bytes.len();
+    if draft.depth > 0 {
+        return Ok(Some(draft));
+    }
+    if draft.place < 16 || at >= 16 {
+        return Ok(None);
+    }
+    bytes.push(0)?;
+    Ok(Some(Draft {
+        place: at,
+        depth: 0,
+    }))
+}
+
+// Adds a literal.
+fn add_literal(draft: Draft, literal: &[u8], bytes: &mut Vec<u8>) -> Result<Option<Draft>, Memory>
+    requires { IsDraft bytes.old.items draft }
+    ensures draft { IfOk result (λ o. IfSome o (IsDraft bytes.new.items)) }
+    ensures drafts { IfOk result (λ o. IfSome o (λ new. (b : ℕ) (s z : State) → Drafts bytes.old.items draft b s z → Drafts bytes.new.items new b s (adding literal.now z))) }
+{
+    if draft.depth > 0 {
+        return Ok(Some(draft));
+    }
+    if literal.len() > 16 - bytes.len() {
+        return Ok(None);
+    }
+    bytes.extend_from_slice(literal)?;
+    Ok(Some(draft))
+}
+
+// Adds an effect. `None` where that can't be said by a text: what a buffer takes that is open here is written nowhere
+// if it is dropped here.
+fn add_effect(draft: Draft, effect: &Effect, bytes: &mut Vec<u8>) -> Result<Option<Draft>, Memory>
+    requires { IsDraft bytes.old.items draft }
+    ensures draft { IfOk result (λ o. IfSome o (IsDraft bytes.new.items)) }
+    ensures drafts { IfOk result (λ o. IfSome o (λ new. (b : ℕ) (s z : State) → Drafts bytes.old.items draft b s z → Drafts bytes.new.items new b s (done_by (effect_of effect.now) z))) }
+{
+    match effect {
+        Effect::Lit(literal) => add_literal(draft, literal.as_slice(), bytes),
+        Effect::Open if draft.depth < 16 => Ok(Some(Draft {
+            place: draft.place,
+            depth: draft.depth + 1,
+        })),
+        Effect::Drop if draft.depth > 0 => Ok(Some(Draft {
+            place: draft.place,
+            depth: draft.depth - 1,
+        })),
+        _ => Ok(None),
+    }
+}
+
+// Adds what is done.
 fn add(
     machine: &Trimmed,
     action: Action,
-    place: usize,
+    draft: Draft,
     bytes: &mut Vec<u8>,
-) -> Result<Option<usize>, Memory>
-    requires { HasPlace bytes.old.items place }
-    ensures done { IfOk result (λ o. IfSome o (λ p. (b : ℕ) (s : State) → done_at machine.now.nodes b action (adding (slice_set bytes.old.items place b) s) ≡ adding (slice_set bytes.new.items p b) s)) }
-    ensures place { IfOk result (λ o. IfSome o (λ p. HasPlace bytes.new.items p)) }
+) -> Result<Option<Draft>, Memory>
+    requires { IsDraft bytes.old.items draft }
+    ensures draft { IfOk result (λ o. IfSome o (IsDraft bytes.new.items)) }
+    ensures drafts { IfOk result (λ o. IfSome o (λ new. (b : ℕ) (s z : State) → Drafts bytes.old.items draft b s z → Drafts bytes.new.items new b s (done_at machine.now.nodes b action z))) }
 {
     match action {
-        Action::Byte => {
-            let at = bytes.len();
-            if place < 16 || at >= 16 {
-                return Ok(None);
-            }
-            bytes.push(0)?;
-            Ok(Some(at))
-        }
-        Action::Node(n) => {
-            let Some(literal) = literal_of(machine, n) else {
-                return Ok(None);
-            };
-            if literal.len() > 16 - bytes.len() {
-                return Ok(None);
-            }
-            bytes.extend_from_slice(literal)?;
-            Ok(Some(place))
-        }
+        Action::Byte => add_byte(draft, bytes),
+        Action::Node(n) => match effect_at(machine, n) {
+            Some(effect) => add_effect(draft, effect, bytes),
+            None => Ok(None),
+        },
     }
 }
 
@@ -68,16 +120,21 @@ fn text_of(
     ensures done { IfOk result (λ o. IfSome o (λ p. (b : ℕ) (s : State) → done machine.now.nodes b actions.now s ≡ adding (slice_set bytes.new.items p b) s)) }
     ensures place { IfOk result (λ o. IfSome o (λ p. HasPlace bytes.new.items p)) }
 {
-    let mut place: usize = 16;
+    let mut draft = Draft {
+        place: 16,
+        depth: 0,
+    };
     for action in actions {
-        let Some(new) = add(machine, *action, place, bytes)? else {
+        let Some(new) = add(machine, *action, draft, bytes)? else {
             return Ok(None);
         };
-        place = new;
+        draft = new;
     }
-    Ok(Some(place))
+    if draft.depth > 0 {
+        return Ok(None);
+    }
+    Ok(Some(draft.place))
 }
-
 /// The edge to `next` that does what was noted. Its text or its actions are kept.
 pub fn settle(
     alloc: Global,

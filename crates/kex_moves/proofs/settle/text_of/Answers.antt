@@ -1,10 +1,9 @@
-use Rattle.std.proofs.Common.{◌≡◌, ℕ, IfSome, set, get_or, subst}
+use Rattle.std.proofs.Common.{ℕ, IfSome, take, get_or, sym, subst}
 use Rattle.kex_model.specs.Acting.{State}
 use Rattle.kex_action.specs.declared.action.Action.TheVariants.{Byte}
-use Rattle.kex_action.specs.Holdings.{adding}
-use Rattle.kex_action.specs.Actions.{done_at}
-use Rattle.kex_moves.specs.Known.{HasPlace}
-use Rattle.kex_moves.proofs.Settling.{done_more}
+use Rattle.kex_action.specs.Actions.{done_at, done}
+use Rattle.kex_action.proofs.Acting.{done-more}
+use Rattle.kex_moves.specs.Drafts.{IsDraft, Drafts}
 use Rattle.kex_moves.proofs.settle.text_of.Goals as goal
 
 pub loop-action-preserved : goal.loop-action-preserved
@@ -14,8 +13,9 @@ loop-action-preserved c =
     let i = c.loop-action.action-index in
     let old = c.loop-action.bytes.items in
     let new = c.add.new.bytes.items in
-    let did = subst (λ o. IfSome o (λ p. (b : ℕ) (s : State) → done_at ns b (get_or ds i Byte) (adding (set old c.loop-action.place b) s) ≡ adding (set new p b) s)) c.in-Some.is (c.in_ok-new.ensures {u = tt}).done in
+    let d = c.loop-action.draft in
+    let did = subst (λ o. IfSome o (λ n. (b : ℕ) (s z : State) → Drafts old d b s z → Drafts new n b s (done_at ns b (get_or ds i Byte) z))) c.in-Some.is (c.in_ok-new.ensures {u = tt}).drafts in
     record {
-      place = subst (λ o. IfSome o (λ p. HasPlace new p)) c.in-Some.is (c.in_ok-new.ensures {u = tt}).place;
-      does = λ b s. done_more ns ds i Byte c.loop-action.place c.in-Some.new b old new s c.loop-action-test.true (c.loop-action.invariant.does b s) (did b s);
+      draft = subst (λ o. IfSome o (IsDraft new)) c.in-Some.is (c.in_ok-new.ensures {u = tt}).draft;
+      drafts = λ b s. subst (λ z. Drafts new c.in-Some.new b s z) (sym (done-more ns b ds i Byte s c.loop-action-test.true)) (did b s (done ns b (take i ds) s) (c.loop-action.invariant.drafts b s));
     }
