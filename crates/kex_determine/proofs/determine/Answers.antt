@@ -1,0 +1,104 @@
+use Rattle.std.proofs.Common.{◌≡◌, ℕ, ◌<◌, ◌≤◌, [], List, Some, length, ap, sym, subst, ◌∙◌, arith}
+use Rattle.kex_model.specs.Labelled.{Shape, shape_of}
+use Rattle.kex_model.specs.States.{HasStates, HasMoreStates}
+use Rattle.std.specs.Global.{Vec}
+use Rattle.kex_machine.specs.Nodes.{Graph, node_moves}
+use Rattle.kex_paths.specs.Nexts.{Outline, IsFirst}
+use Rattle.kex_machine.proofs.Nexts.{IsTrim}
+use Rattle.kex_machine.proofs.Ranges.{is_trim}
+use Rattle.kex_sst.specs.Tables.{Transducer, IsTable}
+use Rattle.kex_sst.specs.Machines.{IsTableOf}
+use Rattle.kex_determine.specs.Determined.{IsDetermined}
+use Rattle.kex_determine.specs.Numbering.{IsMet, AreNumbered, Refuses, HasMoreFound}
+use Rattle.kex_determine.specs.Rows.{AreRows}
+use Rattle.kex_determine.proofs.Filling.{none_yet, first_met, first_filled, all_rows, determined, tabled, has_states, more_states}
+use Rattle.kex_determine.proofs.Stepping.{err_as, refuses_as}
+use Rattle.kex_determine.proofs.Tabling.{well_formed}
+use Rattle.kex_determine.proofs.determine.Goals as goal
+use Rattle.kex_determine.proofs.determine.Goals.{After-enter, In_ok-rows}
+
+trim : (c : After-enter) → IsTrim (node_moves c.args.machine.now.nodes) c.args.machine.now.start
+trim c = is_trim c.args.machine.now c.nodes-nodes.ensures.trimmed
+
+none : (c : After-enter) → AreNumbered c.args.machine.now c.new-states.result.keys.keys c.new-states.result.trees.items []
+none c = none_yet c.args.machine.now c.new-states.result.keys.keys c.new-states.result.trees.items c.new-states.ensures.keys c.new-states.ensures.trees
+
+met : (c : After-enter) → IsMet c.args.machine.now c.in_ok-tree.tree (shape_of c.in_ok-tree.ensures.first.0.tree)
+met c = first_met c.args.machine.now c.in_ok-tree.tree c.in_ok-tree.update c.in_ok-tree.ensures.machine c.in_ok-tree.ensures.first
+
+pub returns-in_err-enter-clause-refused : goal.returns-in_err-enter-clause-refused
+returns-in_err-enter-clause-refused c =
+    let top = (goal.at.returns-in_err-enter-clause-refused c).After-enter in
+    let more : Refuses c.new-states.result.most (HasMoreStates (node_moves c.args.machine.now.nodes) c.args.machine.now.start c.new-states.result.most) c.in_err-enter.field-0.0 =
+    refuses_as c.new-states.result.most _ _ c.in_err-enter.field-0.0 (λ h. more_states c.args.machine.now (trim top) c.new-states.result.most (h c.args.machine.now [] (shape_of c.in_ok-tree.ensures.first.0.tree) (none top) (met top))) c.in_err-enter.ensures.err in
+    err_as _ c.from_residual-in_err-enter.result c.in_err-enter.field-0.0 c.from_residual-in_err-enter.ensures.1 (subst (λ m. Refuses m (HasMoreStates (node_moves c.args.machine.now.nodes) c.args.machine.now.start m) c.in_err-enter.field-0.0) c.new-states.ensures.most more)
+
+pub rows_of-requires-clause-begun : goal.rows_of-requires-clause-begun
+rows_of-requires-clause-begun c =
+    let top = (goal.at.rows_of-requires-clause-begun c).After-enter in
+    let w = c.in_ok-enter.ensures.ok c.args.machine.now [] (shape_of c.in_ok-tree.ensures.first.0.tree) (none top) (met top) in
+    first_filled c.args.machine.now c.partition-partition.result.now c.enter.new.self.keys.keys c.enter.new.self.trees.items c.in_ok-tree.tree c.in_ok-tree.update c.in_ok-enter.field-0 w.0 c.in_ok-tree.ensures.machine c.in_ok-tree.ensures.first w.1
+
+pub returns-in_err-rows-clause-refused : goal.returns-in_err-rows-clause-refused
+returns-in_err-rows-clause-refused c =
+    let top = (goal.at.returns-in_err-rows-clause-refused c).After-enter in
+    let same : c.enter.new.self.most ≡ c.args.max_states = c.in_ok-enter.ensures.most ∙ c.new-states.ensures.most in
+    let more : Refuses c.enter.new.self.most (HasMoreStates (node_moves c.args.machine.now.nodes) c.args.machine.now.start c.enter.new.self.most) c.in_err-rows.field-0.0 =
+    refuses_as c.enter.new.self.most _ _ c.in_err-rows.field-0.0 (λ h. more_states c.args.machine.now (trim top) c.enter.new.self.most h) c.in_err-rows.ensures.err in
+    err_as _ c.from_residual-in_err-rows.result c.in_err-rows.field-0.0 c.from_residual-in_err-rows.ensures.1 (subst (λ m. Refuses m (HasMoreStates (node_moves c.args.machine.now.nodes) c.args.machine.now.start m) c.in_err-rows.field-0.0) same more)
+
+-- the table that is made
+module _ (c : In_ok-rows) where
+  abbrev g : Graph
+  g = c.args.machine.now
+
+  abbrev classes : List ℕ
+  classes = c.partition-partition.result.now
+
+  abbrev keys : List (Vec ℕ)
+  keys = c.rows_of.new.states.keys.keys
+
+  abbrev trees : List Outline
+  trees = c.rows_of.new.states.trees.items
+
+  abbrev made : Transducer
+  made = record { classes = classes; initial = c.in_ok-tree.update; states = c.in_ok-rows.rows.items }
+
+  first : IsFirst g (Some c.in_ok-tree.ensures.first.0)
+  first = subst (λ z. IsFirst z (Some c.in_ok-tree.ensures.first.0)) c.in_ok-tree.ensures.machine c.in_ok-tree.ensures.first.1
+
+  few : length c.in_ok-rows.rows.items ≤ c.args.max_states
+  few = omega (arith, c.in_ok-rows.ensures.filled.within, c.in_ok-rows.ensures.filled.numbered.count, c.in_ok-rows.ensures.within, c.in_ok-enter.ensures.most, c.new-states.ensures.most)
+
+  rows : AreRows g made c.in_ok-rows.ensures.filled.shapes
+  rows = all_rows g classes c.in_ok-tree.update keys trees c.in_ok-rows.rows.items c.in_ok-rows.ensures.filled c.in_ok-rows.ensures.all c.in_ok-tree.ensures.first.0 first c.in_ok-tree.ensures.first.3
+
+  trimmed : IsTrim (node_moves g.nodes) g.start
+  trimmed = is_trim g c.nodes-nodes.ensures.trimmed
+
+  well : IsTable made
+  well = well_formed g made c.in_ok-rows.ensures.filled.shapes c.partition-partition.ensures rows (omega (arith, few, c.ranges.max_states.fits))
+
+  is_determined : IsDetermined g made
+  is_determined = determined g trimmed classes c.partition-partition.ensures c.in_ok-tree.update keys trees c.in_ok-rows.rows.items c.in_ok-rows.ensures.filled c.in_ok-rows.ensures.all c.in_ok-tree.ensures.first.0 first c.in_ok-tree.ensures.first.3
+
+  is_tabled : IsTableOf g made
+  is_tabled = tabled g trimmed classes c.partition-partition.ensures c.in_ok-tree.update keys trees c.in_ok-rows.rows.items c.in_ok-rows.ensures.filled c.in_ok-rows.ensures.all c.in_ok-tree.ensures.first.0 first c.in_ok-tree.ensures.first.3
+
+  counted : HasStates (node_moves g.nodes) g.start (length c.in_ok-rows.rows.items)
+  counted = has_states g trimmed classes c.partition-partition.ensures c.in_ok-tree.update keys trees c.in_ok-rows.rows.items c.in_ok-rows.ensures.filled c.in_ok-rows.ensures.all c.in_ok-tree.ensures.first.0 first c.in_ok-tree.ensures.first.3
+
+pub new-requires-2 : goal.new-requires-2
+new-requires-2 c = subst (λ z. IsTable (record { classes = z; initial = c.in_ok-tree.update; states = c.in_ok-rows.rows.items })) (sym c.copy.ensures) (well (goal.at.new-requires-2 c).In_ok-rows)
+
+pub returns-clause-determined : goal.returns-clause-determined
+returns-clause-determined c = subst (λ t. IsDetermined c.args.machine.now t) (sym (c.new-2.ensures ∙ ap (λ z. record { classes = z; initial = c.in_ok-tree.update; states = c.in_ok-rows.rows.items }) c.copy.ensures)) (is_determined (goal.at.returns-clause-determined c).In_ok-rows)
+
+pub returns-clause-table : goal.returns-clause-table
+returns-clause-table c = subst (λ t. IsTableOf c.args.machine.now t) (sym (c.new-2.ensures ∙ ap (λ z. record { classes = z; initial = c.in_ok-tree.update; states = c.in_ok-rows.rows.items }) c.copy.ensures)) (is_tabled (goal.at.returns-clause-table c).In_ok-rows)
+
+pub returns-clause-states : goal.returns-clause-states
+returns-clause-states c =
+    let top = (goal.at.returns-clause-states c).In_ok-rows in
+    let same : c.new-2.result.states ≡ c.in_ok-rows.rows.items = ap (λ t. t.states) c.new-2.ensures in
+    (subst (λ z. HasStates (node_moves c.args.machine.now.nodes) c.args.machine.now.start (length z)) (sym same) (counted top), omega (arith, ap length same, few top))
