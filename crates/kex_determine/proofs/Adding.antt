@@ -1,5 +1,5 @@
 -- A shape that is put among others by its key.
-use Rattle.std.proofs.Common.{◌≡◌, ℕ, zero, suc, ◌+◌, ◌<◌, ◌≤◌, Bool, true, false, List, [], ◌∷◌, ◌++◌, ◌⊎◌, inl, inr, ⊎_elim, Option, Some, None, length, map, refl, sym, ap, ap₂, subst, ◌∙◌, length-append, arith}
+use Rattle.std.proofs.Common.{◌≡◌, ℕ, zero, suc, ◌<◌, ◌≤◌, Bool, true, false, List, [], ◌∷◌, ◌++◌, inl, inr, ⊎_elim, Some, length, map, refl, sym, ap, subst, ◌∙◌, length-append, arith}
 use Rattle.std.specs.Prelude.{slice_get, ◌||◌}
 use Rattle.std.specs.List.{list_any}
 use Rattle.std.specs.Bool.{Decides, if◌then◌else◌}
@@ -11,7 +11,7 @@ use Rattle.kex_code.specs.Codes.{IsAmong}
 use Rattle.kex_model.specs.Labelled.{Shape}
 use Rattle.kex_model.specs.States.{AllDifferent}
 use Rattle.kex_model.proofs.Shapes.{among-append}
-use Rattle.kex_model.proofs.Tables.{get_more, get_last, get_pushed, some_same}
+use Rattle.kex_model.proofs.Tables.{get_more, get_last, get_pushed}
 use Rattle.kex_machine.specs.Nodes.{Graph}
 use Rattle.kex_paths.specs.Nexts.{Outline}
 use Rattle.kex_paths.specs.Spellings.{key_of}

@@ -1,5 +1,5 @@
 -- Rows, state by state.
-use Rattle.std.proofs.Common.{◌≡◌, ℕ, zero, suc, ◌+◌, ◌<◌, ◌≤◌, List, [], ◌∷◌, ◌++◌, ◌⊎◌, inl, inr, ⊎_elim, Option, Some, None, length, map, refl, sym, ap, subst, ◌∙◌, append-nil, append_assoc, length-append, arith}
+use Rattle.std.proofs.Common.{◌≡◌, ℕ, zero, suc, ◌<◌, ◌≤◌, List, [], ◌∷◌, ◌++◌, ⊎_elim, Some, length, refl, sym, ap, subst, ◌∙◌, append-nil, append_assoc, length-append, arith}
 use Rattle.std.specs.Prelude.{slice_get}
 use Rattle.std.specs.Global.{Vec}
 use Rattle.std.proofs.lemmas.Bool.{cases_lt}
@@ -7,21 +7,20 @@ use Rattle.kex_byteset.specs.Classes.{class_at}
 use Rattle.kex_code.specs.Codes.{IsAmong, Begins}
 use Rattle.kex_model.specs.Labelled.{Shape, shape_of, Grown}
 use Rattle.kex_model.specs.States.{IsState, HasStates, HasMoreStates}
-use Rattle.kex_model.proofs.Tables.{get_more, get_last, get_pushed, some_same}
+use Rattle.kex_model.proofs.Tables.{get_more, get_last, some_same}
 use Rattle.kex_machine.specs.Nodes.{Graph, node_moves, HasClasses}
 use Rattle.kex_machine.proofs.Nexts.{IsTrim}
 use Rattle.kex_sst.specs.declared.parts.Part.{Part}
 use Rattle.kex_sst.specs.Parts.{Change}
 use Rattle.kex_sst.specs.Tables.{Row, Transducer, transition_if}
 use Rattle.kex_sst.specs.Machines.{IsTableOf}
-use Rattle.kex_paths.specs.Nexts.{Outline, IsOfShape, IsFirst, IsChange, Begins as BeginsWith}
-use Rattle.kex_paths.specs.Spellings.{key_of}
+use Rattle.kex_paths.specs.Nexts.{Outline, IsFirst, IsChange, Begins as BeginsWith}
 use Rattle.kex_paths.proofs.Sizes.{one_first}
 use Rattle.kex_determine.specs.Determined.{targets_of, targets_in, MeetsInOrder, IsDetermined}
 use Rattle.kex_determine.specs.Rows.{IsRowOf, AreRows, IsFound, at_first}
 use Rattle.kex_determine.specs.Numbering.{texts, IsMet, AreNumbered, IsWith, IsStateWith, HasMoreFound}
 use Rattle.kex_determine.specs.Filling.{IsFilled}
-use Rattle.kex_determine.proofs.Passing.{among_get, shows, all_states, is_table, found_state}
+use Rattle.kex_determine.proofs.Passing.{shows, all_states, is_table, found_state}
 use Rattle.kex_determine.proofs.Stepping.{meets_append, does_later, get_later}
 use Rattle.kex_determine.proofs.Adding.{get_within}
 

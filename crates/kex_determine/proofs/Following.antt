@@ -1,15 +1,13 @@
 -- A transition, and where it leads.
-use Rattle.std.proofs.Common.{◌≡◌, ℕ, suc, ◌+◌, ◌<◌, List, [], ◌∷◌, ◌++◌, ◌⊎◌, inl, inr, ⊎_elim, Option, Some, None, length, refl, sym, ap, subst, ◌∙◌, append-nil, length-append, arith}
-use Rattle.std.specs.Prelude.{slice_get}
+use Rattle.std.proofs.Common.{◌≡◌, ℕ, ◌<◌, List, [], ◌∷◌, ◌++◌, ◌⊎◌, inl, inr, ⊎_elim, Some, length, refl, sym, ap, ◌∙◌, append-nil, length-append, arith}
 use Rattle.std.specs.Global.{Vec}
 use Rattle.kex_code.specs.Codes.{Begins}
 use Rattle.kex_model.specs.Labelled.{Shape}
 use Rattle.kex_machine.specs.Nodes.{Graph}
-use Rattle.kex_sst.specs.declared.table.Transition.{Transition}
 use Rattle.kex_sst.specs.Parts.{Change}
-use Rattle.kex_paths.specs.Nexts.{Outline, IsOfShape}
+use Rattle.kex_paths.specs.Nexts.{Outline}
 use Rattle.kex_determine.specs.Determined.{MeetsInOrder}
-use Rattle.kex_determine.specs.Numbering.{IsMet, AreNumbered, IsWith, IsFollowed}
+use Rattle.kex_determine.specs.Numbering.{IsMet, IsWith, IsFollowed}
 use Rattle.kex_determine.proofs.Shapes.{shape_same}
 
 pub one_begins : (xs ys : List (Shape ℕ)) (s : Shape ℕ) (i : ℕ) → ((ys ≡ xs) × (i < length xs)) ⊎ ((ys ≡ xs ++ s ∷ []) × (i ≡ length xs)) → Begins ys xs

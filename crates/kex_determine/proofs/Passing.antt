@@ -1,5 +1,5 @@
 -- A table with the rows of the shapes shows the tree of each text, and so it is that of the machine.
-use Rattle.std.proofs.Common.{◌≡◌, ℕ, zero, suc, ◌+◌, ◌<◌, ◌≤◌, Bool, false, List, [], ◌∷◌, ◌++◌, ◌⊎◌, inl, inr, ⊎_elim, Option, Some, None, length, map, replicate, refl, sym, ap, ap₂, subst, ◌∙◌, append_assoc, append-nil, length-append, arith}
+use Rattle.std.proofs.Common.{◌≡◌, ℕ, zero, suc, ◌+◌, ◌<◌, ◌≤◌, Bool, false, List, [], ◌∷◌, ◌++◌, ◌⊎◌, inl, inr, ⊎_elim, Option, Some, None, length, map, replicate, refl, sym, ap, ap₂, subst, ◌∙◌, append_assoc, append-nil, arith}
 use Rattle.std.specs.Prelude.{slice_get}
 use Rattle.std.proofs.lemmas.Bool.{cases_lt}
 use Rattle.std.proofs.lemmas.List.{map-append}
@@ -8,7 +8,7 @@ use Rattle.kex_code.specs.declared.symbol.Symbol.{Symbol}
 use Rattle.kex_code.specs.Codes.{IsAmong}
 use Rattle.kex_model.specs.Moves.{Move, took, Allows}
 use Rattle.kex_model.specs.Labelled.{Labelled, tip, fork, labels_of, Shape, place, parts, shape_of, size_of, relabelled, Grown}
-use Rattle.kex_model.specs.Survivors.{HasTree, HasShape, IsViable}
+use Rattle.kex_model.specs.Survivors.{HasTree}
 use Rattle.kex_model.specs.States.{AllDifferent, IsState}
 use Rattle.kex_model.proofs.Shapes.{tree_agrees}
 use Rattle.kex_machine.specs.Nodes.{Graph, node_moves, HasClasses}
@@ -21,18 +21,18 @@ use Rattle.kex_machine.proofs.Classes.{byte_read}
 use Rattle.kex_machine.proofs.Relabelling.{relabelled-accepting}
 use Rattle.kex_machine.proofs.Unique.{tree_unique}
 use Rattle.kex_sst.specs.declared.parts.Part.{Part}
-use Rattle.kex_sst.specs.declared.parts.Part.TheVariants.{Put, Old, Input}
+use Rattle.kex_sst.specs.declared.parts.Part.TheVariants.{Put, Input}
 use Rattle.kex_sst.specs.declared.table.Transition.{Transition}
-use Rattle.kex_sst.specs.Parts.{Change, meant, numbered}
-use Rattle.kex_sst.specs.Tables.{Row, Transducer, transition_if, transition_on, transition_of}
-use Rattle.kex_sst.specs.Passes.{Pass, changed, begun, next_of, stepped, passes_if, passes, way_of, ended_by, ending}
+use Rattle.kex_sst.specs.Parts.{meant, numbered}
+use Rattle.kex_sst.specs.Tables.{Transducer, transition_if, transition_on}
+use Rattle.kex_sst.specs.Passes.{Pass, begun, next_of, stepped, passes_if, passes, way_of, ended_by, ending}
 use Rattle.kex_sst.specs.Machines.{IsTableOf}
 use Rattle.kex_sst.proofs.Passing.{by_class}
-use Rattle.kex_paths.specs.Nexts.{IsFirst, IsNext, IsChange}
+use Rattle.kex_paths.specs.Nexts.{IsNext}
 use Rattle.kex_paths.proofs.Meanings.{meant-append, registers_hold}
 use Rattle.kex_paths.proofs.Showing.{first_shows, next_shows}
 use Rattle.kex_determine.specs.Determined.{ShowsText}
-use Rattle.kex_determine.specs.Rows.{DoesOn, way_to, IsRowOf, AreRows, IsFound, at_first, by_byte}
+use Rattle.kex_determine.specs.Rows.{DoesOn, way_to, AreRows, IsFound, at_first, by_byte}
 
 pub relabelled_labels : {A B S : Type 0} (f : List A → List B) (t : Labelled A S) → map f (labels_of t) ≡ labels_of (relabelled f t)
 relabelled_labels f (tip p) = refl

@@ -1,5 +1,5 @@
 -- The transitions of a state, one class after another.
-use Rattle.std.proofs.Common.{◌≡◌, ℕ, zero, suc, ◌+◌, ◌<◌, ◌≤◌, max, List, [], ◌∷◌, ◌++◌, ◌⊎◌, inl, inr, ⊎_elim, Option, Some, None, length, get_or, Result, Ok, Err, refl, sym, ap, subst, ◌∙◌, append_assoc, length-append, arith}
+use Rattle.std.proofs.Common.{◌≡◌, ℕ, zero, suc, ◌+◌, ◌<◌, ◌≤◌, max, List, [], ◌∷◌, ◌++◌, inl, inr, ⊎_elim, Option, Some, None, length, get_or, Result, Ok, Err, refl, sym, ap, subst, ◌∙◌, length-append, arith}
 use Rattle.std.specs.Prelude.{slice_get}
 use Rattle.std.specs.Global.{Vec}
 use Rattle.std.proofs.Math.Nat.{max-eq_right, le-max_left, le-max_right}
@@ -8,16 +8,15 @@ use Rattle.std.proofs.lemmas.Option.{slice_get_read}
 use Rattle.std.proofs.lemmas.Bool.{cases_lt, cases_eq}
 use Rattle.kex_byteset.specs.Classes.{class_at, class_count, IsNumbered}
 use Rattle.kex_code.specs.Codes.{Begins}
-use Rattle.kex_model.specs.Labelled.{Shape, shape_of, Grown}
+use Rattle.kex_model.specs.Labelled.{Shape, shape_of}
 use Rattle.kex_model.proofs.Orders.{begins_trans}
-use Rattle.kex_model.proofs.Tables.{get_more, get_last, get_pushed, some_same}
+use Rattle.kex_model.proofs.Tables.{get_more, get_last, some_same}
 use Rattle.kex_machine.specs.Nodes.{Graph, HasClasses}
-use Rattle.kex_sst.specs.declared.parts.Part.{Part}
 use Rattle.kex_sst.specs.declared.table.Transition.{Transition}
 use Rattle.kex_sst.specs.Parts.{Change}
 use Rattle.kex_sst.specs.Tables.{transition_if}
 use Rattle.std.specs.Prelude.{IfSome, MatchOption}
-use Rattle.kex_paths.specs.Nexts.{Outline, IsOfShape, IsNext, Follows, IsChange, HasClass}
+use Rattle.kex_paths.specs.Nexts.{Outline, IsOfShape, IsNext, Follows, HasClass}
 use Rattle.kex_determine.specs.Determined.{targets_of, MeetsInOrder}
 use Rattle.kex_determine.specs.Rows.{DoesOn, IsFound, by_byte}
 use Rattle.kex_determine.specs.Numbering.{NextIs, IsMet, IsMetIf, AreNumbered, HasTarget, IsFollowed, AreTransitionsTo, Refuses}

@@ -1,8 +1,8 @@
 -- The rows of the shapes make a table: copyless, and with all numbers in range.
-use Rattle.std.proofs.Common.{◌≡◌, ℕ, zero, suc, ◌+◌, ◌<◌, ◌≤◌, Bool, List, [], ◌∷◌, ◌++◌, ◌⊎◌, inl, inr, ⊎_elim, Option, Some, None, length, refl, sym, ap, subst, ◌∙◌, arith}
+use Rattle.std.proofs.Common.{◌≡◌, ℕ, suc, ◌+◌, ◌<◌, ◌≤◌, Bool, List, [], ◌∷◌, ⊎_elim, Option, Some, None, length, refl, sym, ap, subst, ◌∙◌, arith}
 use Rattle.std.specs.Prelude.{slice_get}
-use Rattle.kex_byteset.specs.Classes.{class_at, class_count}
-use Rattle.kex_code.specs.declared.symbol.Symbol.TheVariants.{L, R, Byte}
+use Rattle.kex_byteset.specs.Classes.{class_at}
+use Rattle.kex_code.specs.declared.symbol.Symbol.TheVariants.{L, R}
 use Rattle.kex_code.specs.Codes.{IsAmong, Different}
 use Rattle.kex_model.specs.Moves.{Move, accept, read, choose, forced, go, Side, to_left, to_right, symbol_of}
 use Rattle.kex_model.specs.Labelled.{Labelled, tip, fork, labels_of, Shape, place, parts, shape_of, size_of, Grown, behind, joined}
@@ -13,9 +13,9 @@ use Rattle.kex_machine.specs.Advancing.{Visits, known, stops, parts_off, is_forc
 use Rattle.kex_sst.specs.declared.parts.Part.{Part}
 use Rattle.kex_sst.specs.declared.parts.Part.TheVariants.{Put, Old, Input}
 use Rattle.kex_sst.specs.declared.table.Transition.{Transition}
-use Rattle.kex_sst.specs.Parts.{Change, numbered, olds, reads_of, PutsChoice, IsPut, IsKept, EachPart, IsUpdate, IsWay}
+use Rattle.kex_sst.specs.Parts.{Change, numbered, olds, reads_of, PutsChoice, IsPut, IsKept, EachPart}
 use Rattle.kex_sst.specs.Tables.{Row, Transducer, transition_if, IsWayIf, LeadsTo, IsState, IsTable}
-use Rattle.kex_paths.specs.Nexts.{IsFirst, IsNext, IsChange, RiseWithin}
+use Rattle.kex_paths.specs.Nexts.{IsChange, RiseWithin}
 use Rattle.kex_paths.proofs.Copyless.{next_reads, first_reads}
 use Rattle.kex_paths.proofs.Meanings.{labels_and_size}
 use Rattle.kex_determine.specs.Rows.{way_to, DoesOn, IsRowOf, AreRows}

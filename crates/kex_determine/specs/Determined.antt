@@ -10,7 +10,6 @@ use Rattle.kex_machine.specs.Answers.{Viable}
 use Rattle.kex_sst.specs.declared.table.Transition.{Transition}
 use Rattle.kex_sst.specs.Tables.{Row, Transducer}
 use Rattle.kex_sst.specs.Passes.{Pass, passes}
-use Rattle.kex_sst.specs.Machines.{IsTableOf}
 
 -- the state has the shape of the tree of w, what was passed on is agreed, and the registers hold the labels; none where w
 -- isn't viable

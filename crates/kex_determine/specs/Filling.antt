@@ -1,5 +1,5 @@
 -- The rows that are filled so far, state by state.
-use Rattle.std.specs.Prelude.{◌≡◌, ℕ, ◌<◌, ◌≤◌, List, [], ◌∷◌, Some, length, slice_get}
+use Rattle.std.specs.Prelude.{◌≡◌, ℕ, ◌<◌, ◌≤◌, List, Some, length, slice_get}
 use Rattle.std.specs.Global.{Vec}
 use Rattle.kex_model.specs.Labelled.{Shape, shape_of, Grown}
 use Rattle.kex_machine.specs.Nodes.{Graph}

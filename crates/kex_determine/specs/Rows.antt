@@ -1,5 +1,5 @@
 -- What is to be found in the rows of the states.
-use Rattle.std.specs.Prelude.{◌≡◌, ℕ, suc, ◌<◌, Bool, true, false, List, [], ◌∷◌, Option, Some, None, length, slice_get}
+use Rattle.std.specs.Prelude.{◌≡◌, ℕ, suc, ◌<◌, Bool, true, false, List, Option, Some, None, length, slice_get}
 use Rattle.kex_byteset.specs.Classes.{class_at, class_count}
 use Rattle.kex_model.specs.Labelled.{Shape, shape_of, size_of, Grown}
 use Rattle.kex_model.specs.Moves.{Move, accept, read, choose, forced, go}

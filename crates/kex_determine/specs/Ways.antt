@@ -1,5 +1,5 @@
 -- A walk to the first leaf that accepts: where it stands, and what is still to come.
-use Rattle.std.specs.Prelude.{◌≡◌, ℕ, suc, ◌+◌, ◌-◌, Bool, List, [], ◌∷◌, ◌++◌, Option, Some, None, map, length, drop}
+use Rattle.std.specs.Prelude.{◌≡◌, ℕ, ◌+◌, ◌-◌, Bool, List, [], ◌∷◌, ◌++◌, Option, Some, None, map, length, drop}
 use Rattle.kex_code.specs.Codes.{Begins}
 use Rattle.kex_model.specs.Moves.{Move}
 use Rattle.kex_model.specs.Labelled.{Shape, size_of, Grown}

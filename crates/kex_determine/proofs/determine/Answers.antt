@@ -1,5 +1,5 @@
-use Rattle.std.proofs.Common.{◌≡◌, ℕ, ◌<◌, ◌≤◌, [], List, Some, length, ap, sym, subst, ◌∙◌, arith}
-use Rattle.kex_model.specs.Labelled.{Shape, shape_of}
+use Rattle.std.proofs.Common.{◌≡◌, ℕ, ◌≤◌, [], List, Some, length, ap, sym, subst, ◌∙◌, arith}
+use Rattle.kex_model.specs.Labelled.{shape_of}
 use Rattle.kex_model.specs.States.{HasStates, HasMoreStates}
 use Rattle.std.specs.Global.{Vec}
 use Rattle.kex_machine.specs.Nodes.{Graph, node_moves}
@@ -9,7 +9,7 @@ use Rattle.kex_machine.proofs.Ranges.{is_trim}
 use Rattle.kex_sst.specs.Tables.{Transducer, IsTable}
 use Rattle.kex_sst.specs.Machines.{IsTableOf}
 use Rattle.kex_determine.specs.Determined.{IsDetermined}
-use Rattle.kex_determine.specs.Numbering.{IsMet, AreNumbered, Refuses, HasMoreFound}
+use Rattle.kex_determine.specs.Numbering.{IsMet, AreNumbered, Refuses}
 use Rattle.kex_determine.specs.Rows.{AreRows}
 use Rattle.kex_determine.proofs.Filling.{none_yet, first_met, first_filled, all_rows, determined, tabled, has_states, more_states}
 use Rattle.kex_determine.proofs.Stepping.{err_as, refuses_as}

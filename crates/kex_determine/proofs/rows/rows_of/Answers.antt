@@ -1,8 +1,8 @@
-use Rattle.std.proofs.Common.{◌≡◌, ℕ, ◌-◌, ◌<◌, ◌≤◌, [], ◌∷◌, ◌++◌, List, Some, length, ap, sym, subst, ◌∙◌, length-append, arith}
+use Rattle.std.proofs.Common.{◌≡◌, ℕ, Some, length, ap, sym, subst, ◌∙◌, arith}
 use Rattle.std.specs.Prelude.{slice_get}
 use Rattle.kex_model.specs.Labelled.{Shape}
 use Rattle.kex_determine.specs.Filling.{IsFilled}
-use Rattle.kex_determine.specs.Numbering.{AreNumbered, Refuses, HasMoreFound}
+use Rattle.kex_determine.specs.Numbering.{Refuses, HasMoreFound}
 use Rattle.kex_determine.proofs.Filling.{next_state, fill_more}
 use Rattle.kex_determine.proofs.Stepping.{err_as, refuses_as}
 use Rattle.kex_determine.proofs.rows.rows_of.Goals as goal

@@ -1,8 +1,7 @@
-use Rattle.std.proofs.Common.{◌≡◌, ℕ, ◌+◌, ◌<◌, ◌≤◌, List, Some, length, ap, sym, subst, ◌∙◌, arith}
+use Rattle.std.proofs.Common.{◌≡◌, ℕ, ◌+◌, ◌<◌, List, Some, sym, subst, ◌∙◌, arith}
 use Rattle.std.specs.Prelude.{slice_get}
-use Rattle.kex_byteset.specs.Classes.{class_at, class_count}
+use Rattle.kex_byteset.specs.Classes.{class_at}
 use Rattle.kex_model.specs.Labelled.{Shape}
-use Rattle.kex_machine.specs.Nodes.{HasClasses}
 use Rattle.kex_determine.specs.Numbering.{NextIs, IsMet, AreNumbered, AreTransitionsTo, Refuses, IsMetIf, HasMoreFound}
 use Rattle.kex_determine.proofs.Stepping.{get_later, tree_at, next_on, next_met, one_more, err_as, refuses_as}
 use Rattle.kex_determine.proofs.rows.transitions_of.Goals as goal

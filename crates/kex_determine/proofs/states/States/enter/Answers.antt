@@ -1,9 +1,9 @@
-use Rattle.std.proofs.Common.{◌≡◌, ℕ, ◌<◌, ◌≤◌, [], ◌∷◌, ◌++◌, List, Some, length, refl, ap, sym, subst, ◌∙◌, arith}
+use Rattle.std.proofs.Common.{◌≡◌, ℕ, [], ◌∷◌, ◌++◌, Some, length, refl, ap, sym, subst, ◌∙◌, arith}
 use Rattle.std.specs.Prelude.{slice_get}
 use Rattle.kex_model.specs.Labelled.{Shape}
 use Rattle.kex_machine.specs.Nodes.{Graph}
 use Rattle.kex_paths.specs.Spellings.{key_of}
-use Rattle.kex_determine.specs.Numbering.{texts, IsAdded, IsMet, AreNumbered, IsWith}
+use Rattle.kex_determine.specs.Numbering.{texts, IsAdded, IsMet, IsWith}
 use Rattle.kex_determine.proofs.Adding.{enter_known, enter_next, enter_full}
 use Rattle.kex_determine.proofs.states.States.enter.Goals as goal
 use Rattle.kex_determine.proofs.states.States.enter.Goals.{In_ok-index}

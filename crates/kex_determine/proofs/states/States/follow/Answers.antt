@@ -1,4 +1,4 @@
-use Rattle.std.proofs.Common.{◌≡◌, List, Some, sym, subst}
+use Rattle.std.proofs.Common.{Some, sym, subst}
 use Rattle.kex_determine.specs.Numbering.{IsMetIf, IsFollowed}
 use Rattle.kex_determine.proofs.Following.{followed}
 use Rattle.kex_determine.proofs.states.States.follow.Goals as goal
