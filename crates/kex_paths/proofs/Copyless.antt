@@ -73,7 +73,7 @@ pub record Sides (moves : ℕ → Move ℕ) (b : ℕ) (f : List Bool) (u : List 
   pub second : Advances (λ s. Put s) Input moves b between r right h
   pub whole : a ≡ joined (behind u left) (behind v right)
 
-sides_of : {moves : ℕ → Move ℕ} {b : ℕ} {f h : List Bool} {u v : List Part} {l r : Labelled Part ℕ} {a : Option (Grown Part ℕ)} → Advances (λ s. Put s) Input moves b f (fork u l v r) a h → Sides moves b f u l v r a h
+pub sides_of : {moves : ℕ → Move ℕ} {b : ℕ} {f h : List Bool} {u v : List Part} {l r : Labelled Part ℕ} {a : Option (Grown Part ℕ)} → Advances (λ s. Put s) Input moves b f (fork u l v r) a h → Sides moves b f u l v r a h
 sides_of (both {g = g} {x = x} {y = y} p q) = record { left = x; right = y; between = g; first = p; second = q; whole = refl }
 
 -- the registers that are read are edges of the old tree, in order

@@ -8,3 +8,4 @@ pub mod Keeping
 pub mod Spelling
 pub mod Sampling
 pub mod Doing
+pub mod Ordering

@@ -3,3 +3,4 @@ pub mod Groves
 pub mod Jobs
 pub mod Spellings
 pub mod Workspaces
+pub mod Laws

@@ -6,6 +6,9 @@
 
 mod advance;
 mod grove;
+pub mod laws;
+#[cfg(test)]
+mod tests;
 pub mod tree;
 mod walk;
 pub mod workspace;

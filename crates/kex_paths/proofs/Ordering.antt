@@ -1,0 +1,96 @@
+-- The lists of an update have old registers first, then the byte that is read, and then symbols.
+use Rattle.std.proofs.Common.{ℕ, suc, ◌+◌, Bool, true, false, List, [], ◌∷◌, ◌++◌, Option, Some, None, length, replicate, refl, sym, ap, subst, ◌∙◌}
+use Rattle.kex_code.specs.declared.symbol.Symbol.{Symbol}
+use Rattle.kex_code.specs.declared.symbol.Symbol.TheVariants.{L, R}
+use Rattle.kex_model.specs.Moves.{Move, symbol_of}
+use Rattle.kex_model.specs.Labelled.{tip, labels_of, Shape, place, parts, shape_of, size_of, Grown, behind, joined}
+use Rattle.kex_machine.specs.Nodes.{Graph, node_moves}
+use Rattle.kex_machine.specs.Advancing.{known, stops, parts_off, is_forced, passes_on, Advances, dies, reads_on}
+use Rattle.kex_machine.proofs.Unique.{tree_unique}
+use Rattle.kex_sst.specs.declared.parts.Part.{Part}
+use Rattle.kex_sst.specs.declared.parts.Part.TheVariants.{Put, Old, Input}
+use Rattle.kex_sst.specs.Parts.{Change}
+use Rattle.kex_paths.specs.Nexts.{Explores, GoesOn, IsChange}
+use Rattle.kex_paths.specs.Laws.{IsInOrder, ArePuts, Each, Determines, DeterminesFirst, OneShape}
+use Rattle.kex_paths.proofs.Copyless.{sides_of, next_reads}
+use Rattle.kex_paths.proofs.Sizes.{one_next, one_first}
+
+each-append : (P : List Part → Type 0) (xs ys : List (List Part)) → Each P xs → Each P ys → Each P (xs ++ ys)
+each-append P [] ys h k = k
+each-append P (x ∷ xs) ys h k = (h.0, each-append P xs ys h.1 k)
+
+each_more : (P Q : List Part → Type 0) → ((x : List Part) → P x → Q x) → (xs : List (List Part)) → Each P xs → Each Q xs
+each_more P Q f [] h = tt
+each_more P Q f (x ∷ xs) h = (f x h.0, each_more P Q f xs h.1)
+
+-- all labels of a tree, and the one before it
+abbrev pub Holds : (List Part → Type 0) → Option (Grown Part ℕ) → Type 0
+Holds P None = Unit {0}
+Holds P (Some g) = P g.label × Each P (labels_of g.tree)
+
+behind_holds : (P : List Part → Type 0) (x : List Part) (a : Option (Grown Part ℕ)) → ((c : List Part) → P c → P (x ++ c)) → Holds P a → Holds P (behind x a)
+behind_holds P x None f h = tt
+behind_holds P x (Some g) f h = (f g.label h.0, h.1)
+
+joined_holds : (P : List Part → Type 0) (a b : Option (Grown Part ℕ)) → P [] → Holds P a → Holds P b → Holds P (joined a b)
+joined_holds P None None e h k = tt
+joined_holds P None (Some r) e h k = k
+joined_holds P (Some l) None e h k = h
+joined_holds P (Some l) (Some r) e h k = (e, (h.0, each-append P (labels_of l.tree) (r.label ∷ labels_of r.tree) h.1 (k.0, k.1)))
+
+one_put : (s : Symbol) (c : List Part) → ArePuts c → ArePuts (Put s ∷ c)
+one_put s c (d, e) = (s ∷ d, ap (λ z. Put s ∷ z) e)
+
+no_puts : ArePuts []
+no_puts = ([], refl)
+
+visit_puts : {moves : ℕ → Move ℕ} {f g : List Bool} {n : ℕ} {a : Option (Grown Part ℕ)} → Explores moves f n a g → Holds ArePuts a
+visit_puts (known e) = tt
+visit_puts (stops lt e w) = (no_puts, tt)
+visit_puts (parts_off {a = a} {b = b} lt e m v u) = joined_holds ArePuts (behind (Put L ∷ []) a) (behind (Put R ∷ []) b) no_puts (behind_holds ArePuts (Put L ∷ []) a (one_put L) (visit_puts v)) (behind_holds ArePuts (Put R ∷ []) b (one_put R) (visit_puts u))
+visit_puts (is_forced {x = x} {a = a} lt e m v) = behind_holds ArePuts (Put (symbol_of x) ∷ []) a (one_put (symbol_of x)) (visit_puts v)
+visit_puts (passes_on lt e m v) = visit_puts v
+
+puts_in_order : (c : List Part) → ArePuts c → IsInOrder c
+puts_in_order c (d, e) = record { registers = []; read = false; symbols = d; whole = e }
+
+read_in_order : (c : List Part) → ArePuts c → IsInOrder (Input ∷ c)
+read_in_order c (d, e) = record { registers = []; read = true; symbols = d; whole = ap (λ z. Input ∷ z) e }
+
+old_in_order : (k : ℕ) (c : List Part) → IsInOrder c → IsInOrder (Old k ∷ c)
+old_in_order k c h = record { registers = k ∷ h.registers; read = h.read; symbols = h.symbols; whole = ap (λ z. Old k ∷ z) h.whole }
+
+read_holds : (a : Option (Grown Part ℕ)) → Holds ArePuts a → Holds IsInOrder (behind (Input ∷ []) a)
+read_holds None h = tt
+read_holds (Some g) h = (read_in_order g.label h.0, each_more ArePuts IsInOrder puts_in_order (labels_of g.tree) h.1)
+
+tip_in_order : {moves : ℕ → Move ℕ} {b p : ℕ} {f g : List Bool} {a : Option (Grown Part ℕ)} → Advances (λ s. Put s) Input moves b f (tip p) a g → Holds IsInOrder a
+tip_in_order (dies h) = tt
+tip_in_order (reads_on {a = a} h v) = read_holds a (visit_puts v)
+
+advance_in_order : (moves : ℕ → Move ℕ) (b k : ℕ) (f g : List Bool) (s : Shape ℕ) (a : Option (Grown Part ℕ)) → GoesOn moves b k f s a g → Holds IsInOrder a
+advance_in_order moves b k f g (place p) a v = tip_in_order v
+advance_in_order moves b k f g (parts l r) a w =
+    let t = sides_of w in
+    let p = advance_in_order moves b (suc k) f t.between l t.left t.first in
+    let q = advance_in_order moves b (suc (k + size_of l)) t.between g r t.right t.second in
+    subst (λ z. Holds IsInOrder z) (sym t.whole) (joined_holds IsInOrder (behind (Old k ∷ []) t.left) (behind (Old (k + size_of l) ∷ []) t.right) (puts_in_order [] no_puts) (behind_holds IsInOrder (Old k ∷ []) t.left (old_in_order k) p) (behind_holds IsInOrder (Old (k + size_of l) ∷ []) t.right (old_in_order (k + size_of l)) q))
+
+changed : (P : List Part → Type 0) (u : Change) (a : Grown Part ℕ) → IsChange u a → Holds P (Some a) → P u.out × Each P u.regs
+changed P u a change h = (subst P (sym change.0) h.0, subst (λ z. Each P z) (sym change.1) h.1)
+
+pub determines : (g : Graph) (b : ℕ) (s : Shape ℕ) → Determines g b s
+determines g b s = record {
+  one = one_next g b s;
+  in_order = λ u a next change. changed IsInOrder u a change (advance_in_order (node_moves g.nodes) b 0 (replicate (length g.nodes) false) next.0 s (Some a) next.1);
+  rises = next_reads g b s;
+}
+
+pub determines_first : (g : Graph) → DeterminesFirst g
+determines_first g = record {
+  one = one_first g;
+  symbols = λ u a first change. changed ArePuts u a change (visit_puts first.1);
+}
+
+pub a_shape : (g : Graph) (w : List ℕ) → OneShape g w
+a_shape g w s t (c, x, h, e) (d, y, k, f) = sym e ∙ ap shape_of (tree_unique (node_moves g.nodes) g.start w c d x y h k).0 ∙ f

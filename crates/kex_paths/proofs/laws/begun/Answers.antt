@@ -1,0 +1,5 @@
+use Rattle.kex_paths.proofs.Ordering.{determines_first}
+use Rattle.kex_paths.proofs.laws.begun.Goals as goal
+
+pub returns : goal.returns
+returns c = determines_first

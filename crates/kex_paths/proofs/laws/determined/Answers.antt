@@ -1,0 +1,5 @@
+use Rattle.kex_paths.proofs.Ordering.{determines}
+use Rattle.kex_paths.proofs.laws.determined.Goals as goal
+
+pub returns : goal.returns
+returns c = determines

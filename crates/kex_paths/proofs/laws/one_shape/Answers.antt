@@ -1,0 +1,5 @@
+use Rattle.kex_paths.proofs.Ordering.{a_shape}
+use Rattle.kex_paths.proofs.laws.one_shape.Goals as goal
+
+pub returns : goal.returns
+returns c = a_shape

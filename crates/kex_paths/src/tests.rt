@@ -1,0 +1,66 @@
+//! Path trees of the machine of `/(a|b)*a/`, worked by hand.
+use crate::tree::PathTree;
+use crate::workspace::Workspace;
+use kex_byteset::ByteSet;
+use kex_machine::MNode::{Accept, Choice, Read};
+use kex_machine::{Machine, Trimmed};
+use kex_sst::parts::{Part, Update};
+use kex_trim::trim;
+use std::alloc::Global;
+use std::test::Fail;
+
+fn machine(alloc: Global) -> Result<Trimmed, Fail> {
+    let nodes = vec![in alloc;
+        Choice(1, 4),
+        Choice(2, 3),
+        Read(ByteSet::single(b'a'), 0),
+        Read(ByteSet::single(b'b'), 0),
+        Read(ByteSet::single(b'a'), 5),
+        Accept,
+    ]?;
+    let machine = trim(alloc, Machine::new(0, nodes, 1, 0))?;
+    Ok(machine)
+}
+
+// Whether a tree of this shape has come, and what is passed on; no tree, where the shape has no node.
+fn has_come(next: Option<(PathTree<'_>, Update)>, shape: &[bool], out: &[Part]) -> bool {
+    match next {
+        None => shape.is_empty(),
+        Some((tree, update)) => tree.shape() == shape && update.out().as_slice() == out,
+    }
+}
+
+#[test]
+fn trees_go_on_by_classes(rt: HostRuntime) -> Result<(), Fail> {
+    let machine = machine(rt.alloc())?;
+    let (start, _) = PathTree::start(rt.alloc(), &machine)?;
+    let small: &[bool] = &[true, true, false, false, false];
+    let large: &[bool] = &[true, true, true, false, false, false, false];
+    assert!(rt; start.shape() == small);
+    assert_eq!(rt; start.key(rt.alloc())?.len(), 5);
+    // class 0 has all bytes but `a` and `b`, 1 has `a`, 2 has `b`
+    let rows: [(u8, &[bool], &[Part]); 4] = [
+        (0, &[], &[]),
+        (1, large, &[]),
+        (2, small, &[Part::Old(0), Part::Old(2), Part::Input]),
+        (3, &[], &[]),
+    ];
+    for (class, shape, out) in rows {
+        let next = start.advance(rt.alloc(), class)?;
+        assert!(rt; has_come(next, shape, out), "class {class}");
+    }
+    Ok(())
+}
+
+#[test]
+fn a_workspace_is_used_again(rt: HostRuntime) -> Result<(), Fail> {
+    let machine = machine(rt.alloc())?;
+    let mut workspace = Workspace::new(rt.alloc(), &machine)?;
+    let (start, _) = PathTree::start(rt.alloc(), &machine)?;
+    let large: &[bool] = &[true, true, true, false, false, false, false];
+    let first = start.advance_with(&mut workspace, 1)?;
+    assert!(rt; has_come(first, large, &[]));
+    let again = start.advance_with(&mut workspace, 1)?;
+    assert!(rt; has_come(again, large, &[]));
+    Ok(())
+}
