@@ -73,7 +73,7 @@ right_moved t nodes k k' p class e rows same r = record {
 
 -- rows that are added
 abbrev wide : Known → List Pair → List Edge → Known
-wide k pairs edges = record { classes = k.classes; width = k.width; pairs = k.pairs ++ pairs; edges = k.edges ++ edges; text = k.text; acts = k.acts }
+wide k pairs edges = record { classes = k.classes; width = k.width; shift = k.shift; pairs = k.pairs ++ pairs; edges = k.edges ++ edges; text = k.text; acts = k.acts }
 
 rows_wide : (k : Known) (pairs : List Pair) (edges : List Edge) (row : ℕ) (p : Pair) → IsRowOf k row p → IsRowOf (wide k pairs edges) row p
 rows_wide k pairs edges row p r = record { number = r.number; at = some_front k.pairs pairs r.number p r.at; begins = r.begins }
@@ -116,7 +116,7 @@ grows_wider old new state node w = subst (λ k. Grows old k) (sym w.wider) (reco
 
 -- texts and actions that are added
 abbrev long : Known → List ℕ → List Action → Known
-long k text acts = record { classes = k.classes; width = k.width; pairs = k.pairs; edges = k.edges; text = k.text ++ text; acts = k.acts ++ acts }
+long k text acts = record { classes = k.classes; width = k.width; shift = k.shift; pairs = k.pairs; edges = k.edges; text = k.text ++ text; acts = k.acts ++ acts }
 
 rows_long : (k : Known) (text : List ℕ) (acts : List Action) (row : ℕ) (p : Pair) → IsRowOf k row p → IsRowOf (long k text acts) row p
 rows_long k text acts row p r = record { number = r.number; at = r.at; begins = r.begins }
@@ -180,7 +180,7 @@ slice_get-set (z ∷ xs) (suc i) zero x y e = inr e
 slice_get-set (z ∷ xs) (suc i) (suc j) x y e = elim (slice_get-set xs i j x y e) [ inl h ↦ inl (ap suc h.0, h.1) | inr h ↦ inr h ]
 
 abbrev with_edges : Known → List Edge → Known
-with_edges k edges = record { classes = k.classes; width = k.width; pairs = k.pairs; edges = edges; text = k.text; acts = k.acts }
+with_edges k edges = record { classes = k.classes; width = k.width; shift = k.shift; pairs = k.pairs; edges = edges; text = k.text; acts = k.acts }
 
 rows_put : (k : Known) (edges : List Edge) (row : ℕ) (p : Pair) → IsRowOf k row p → IsRowOf (with_edges k edges) row p
 rows_put k edges row p r = record { number = r.number; at = r.at; begins = r.begins }

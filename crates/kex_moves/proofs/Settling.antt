@@ -132,13 +132,13 @@ settles_plain nodes k next f e h = by e.kind refl h
     by Unknown is h = record { goes = λ known. cc; room = λ written. cc; acts = λ q. cc; does = λ known. cc }
 
 pub lengthens_none : (k : Known) → Lengthens k k
-lengthens_none k = record { text = []; acts = []; longer = ap₂ (λ (t : List ℕ) (a : List Action). record { classes = k.classes; width = k.width; pairs = k.pairs; edges = k.edges; text = t; acts = a }) (sym (append-nil k.text)) (sym (append-nil k.acts)) }
+lengthens_none k = record { text = []; acts = []; longer = ap₂ (λ (t : List ℕ) (a : List Action). record { classes = k.classes; width = k.width; shift = k.shift; pairs = k.pairs; edges = k.edges; text = t; acts = a }) (sym (append-nil k.text)) (sym (append-nil k.acts)) }
 
-pub lengthens_text : (k : Known) (text more : List ℕ) → text ≡ k.text ++ more → Lengthens k (record { classes = k.classes; width = k.width; pairs = k.pairs; edges = k.edges; text = text; acts = k.acts })
-lengthens_text k text more e = record { text = more; acts = []; longer = ap₂ (λ (t : List ℕ) (a : List Action). record { classes = k.classes; width = k.width; pairs = k.pairs; edges = k.edges; text = t; acts = a }) e (sym (append-nil k.acts)) }
+pub lengthens_text : (k : Known) (text more : List ℕ) → text ≡ k.text ++ more → Lengthens k (record { classes = k.classes; width = k.width; shift = k.shift; pairs = k.pairs; edges = k.edges; text = text; acts = k.acts })
+lengthens_text k text more e = record { text = more; acts = []; longer = ap₂ (λ (t : List ℕ) (a : List Action). record { classes = k.classes; width = k.width; shift = k.shift; pairs = k.pairs; edges = k.edges; text = t; acts = a }) e (sym (append-nil k.acts)) }
 
-pub lengthens_acts : (k : Known) (acts more : List Action) → acts ≡ k.acts ++ more → Lengthens k (record { classes = k.classes; width = k.width; pairs = k.pairs; edges = k.edges; text = k.text; acts = acts })
-lengthens_acts k acts more e = record { text = []; acts = more; longer = ap₂ (λ (t : List ℕ) (a : List Action). record { classes = k.classes; width = k.width; pairs = k.pairs; edges = k.edges; text = t; acts = a }) (sym (append-nil k.text)) e }
+pub lengthens_acts : (k : Known) (acts more : List Action) → acts ≡ k.acts ++ more → Lengthens k (record { classes = k.classes; width = k.width; shift = k.shift; pairs = k.pairs; edges = k.edges; text = k.text; acts = acts })
+lengthens_acts k acts more e = record { text = []; acts = more; longer = ap₂ (λ (t : List ℕ) (a : List Action). record { classes = k.classes; width = k.width; shift = k.shift; pairs = k.pairs; edges = k.edges; text = t; acts = a }) (sym (append-nil k.text)) e }
 
 -- an edge that settles what is the same settles
 pub settles_same : (nodes : List MNode) (k : Known) (next : ℕ) (f g : ℕ → State → State) (e : Edge) → ((b : ℕ) (s : State) → g b s ≡ f b s) → Settles nodes k next f e → Settles nodes k next g e

@@ -1,10 +1,10 @@
 -- Rows that are added.
-use Rattle.std.proofs.Common.{◌≡◌, ℕ, zero, suc, ◌+◌, ◌*◌, ◌/◌, List, [], ◌∷◌, ◌++◌, All, Some, length, get_or, refl, sym, ap, ap₂, subst, ◌∙◌, arith, length-append}
+use Rattle.std.proofs.Common.{◌<◌, ◌≡◌, ℕ, zero, suc, ◌+◌, ◌*◌, ◌/◌, ◌^◌, List, [], ◌∷◌, ◌++◌, All, Some, length, get_or, refl, sym, ap, ap₂, subst, ◌∙◌, arith, length-append}
 use Rattle.std.specs.Prelude.{slice_get}
 use Rattle.std.proofs.lemmas.List.{append-nil}
 use Rattle.std.proofs.lemmas.List.Elements.{All-append, All-nil}
-use Rattle.std.proofs.lemmas.Option.{get_or_from_slice_get}
-use Rattle.std.proofs.lemmas.Nat.{div-mul-add}
+use Rattle.std.proofs.lemmas.Option.{slice_get_within, get_or_from_slice_get}
+use Rattle.std.proofs.lemmas.Nat.{div-mul-add, pow_pos}
 use Rattle.kex_moves.specs.declared.edge.Edge.{Edge}
 use Rattle.kex_moves.specs.declared.edge.Kind.TheVariants.{Unknown}
 use Rattle.kex_moves.specs.declared.edges.Pair.{Pair}
@@ -15,7 +15,7 @@ pub widens_none : (k : Known) (state node : ℕ) → Widens k k state node
 widens_none k state node = record {
   pairs = [];
   edges = [];
-  wider = ap₂ (λ (p : List Pair) (e : List Edge). record { classes = k.classes; width = k.width; pairs = p; edges = e; text = k.text; acts = k.acts }) (sym (append-nil k.pairs)) (sym (append-nil k.edges));
+  wider = ap₂ (λ (p : List Pair) (e : List Edge). record { classes = k.classes; width = k.width; shift = k.shift; pairs = p; edges = e; text = k.text; acts = k.acts }) (sym (append-nil k.pairs)) (sym (append-nil k.edges));
   of = All-nil (λ (p : Pair). (p.state ≡ state) × (p.node ≡ node));
   unknown = All-nil (λ (e : Edge). e.kind ≡ Unknown);
 }
@@ -23,17 +23,18 @@ widens_none k state node = record {
 row_stands : (classes : List ℕ) (edges more : List Edge) (row : ℕ) → HasRow classes edges row → HasRow classes (edges ++ more) row
 row_stands classes edges more row h = λ k d l. omega (arith, h k d l, length-append edges more)
 
-edge_stands : (classes text : List ℕ) (k k' : Known) (more : List Edge) (e : Edge) → k' ≡ record { classes = k.classes; width = k.width; pairs = k'.pairs; edges = k.edges ++ more; text = k.text; acts = k.acts } → IsEdge k e → IsEdge k' e
+edge_stands : (classes text : List ℕ) (k k' : Known) (more : List Edge) (e : Edge) → k' ≡ record { classes = k.classes; width = k.width; shift = k.shift; pairs = k'.pairs; edges = k.edges ++ more; text = k.text; acts = k.acts } → IsEdge k e → IsEdge k' e
 edge_stands classes text k k' more e f h = subst (λ x. IsEdge x e) (sym f) (record { next = λ known. row_stands k.classes k.edges more e.next (h.next known); room = h.room; acts = h.acts })
 
 silent : (k : Known) (e : Edge) → e.kind ≡ Unknown → IsEdge k e
 silent k e h = record { next = λ known. cc; room = λ written. cc; acts = λ acts. cc }
 
-pub ordered_wider : (k : Known) (p : Pair) (more : List Edge) → IsOrdered k → length more ≡ k.width → All (λ (e : Edge). e.kind ≡ Unknown) more → IsOrdered (record { classes = k.classes; width = k.width; pairs = k.pairs ++ p ∷ []; edges = k.edges ++ more; text = k.text; acts = k.acts })
+pub ordered_wider : (k : Known) (p : Pair) (more : List Edge) → IsOrdered k → length more ≡ k.width → All (λ (e : Edge). e.kind ≡ Unknown) more → IsOrdered (record { classes = k.classes; width = k.width; shift = k.shift; pairs = k.pairs ++ p ∷ []; edges = k.edges ++ more; text = k.text; acts = k.acts })
 ordered_wider k p more h e unknown =
-    let wide : Known = record { classes = k.classes; width = k.width; pairs = k.pairs ++ p ∷ []; edges = k.edges ++ more; text = k.text; acts = k.acts } in
+    let wide : Known = record { classes = k.classes; width = k.width; shift = k.shift; pairs = k.pairs ++ p ∷ []; edges = k.edges ++ more; text = k.text; acts = k.acts } in
     record {
       width = h.width;
+      few = h.few;
       bytes = h.bytes;
       text = h.text;
       classes = h.classes;
@@ -62,10 +63,16 @@ last_row k k' p row h e f g = record {
 }
 
 -- a row says its pair
-pub pair_of_row : (k : Known) (row : ℕ) (p d : Pair) → IsOrdered k → IsRowOf k row p → get_or k.pairs (row / k.width) d ≡ p
-pair_of_row k row p d o h =
-    let number : row / k.width ≡ h.number = ap (λ r. r / k.width) (h.begins ∙ more) ∙ div-mul-add h.number k.width 0 o.width in
-    ap (λ i. get_or k.pairs i d) number ∙ get_or_from_slice_get k.pairs h.number p d h.at
+pub number_of_row : (k : Known) (row : ℕ) (p : Pair) → IsOrdered k → (h : IsRowOf k row p) → row / 2 ^ k.shift ≡ h.number
+number_of_row k row p o h =
+    let some : 0 < k.width = omega (arith, o.width, pow_pos k.shift) in
+    ap₂ (λ r w. r / w) (h.begins ∙ more) (sym o.width) ∙ div-mul-add h.number k.width 0 some
   where
     more : h.number * k.width ≡ h.number * k.width + 0
     more = omega arith
+
+pub pair_of_row : (k : Known) (row : ℕ) (p d : Pair) → IsOrdered k → IsRowOf k row p → get_or k.pairs (row / 2 ^ k.shift) d ≡ p
+pair_of_row k row p d o h = ap (λ i. get_or k.pairs i d) (number_of_row k row p o h) ∙ get_or_from_slice_get k.pairs h.number p d h.at
+
+pub number_in : (k : Known) (row : ℕ) (p : Pair) → IsOrdered k → IsRowOf k row p → row / 2 ^ k.shift < length k.pairs
+number_in k row p o h = omega (arith, number_of_row k row p o h, slice_get_within k.pairs h.number p h.at)

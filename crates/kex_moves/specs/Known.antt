@@ -1,5 +1,5 @@
 -- What is learnt of a table and a machine, and when it is right.
-use Rattle.std.specs.Prelude.{◌≡◌, ◌<◌, ◌≤◌, ◌+◌, ◌*◌, ◌⊎◌, ℕ, List, [], ◌++◌, Some, All, true, length, if◌then◌else◌, take, drop, slice_get}
+use Rattle.std.specs.Prelude.{◌≡◌, ◌<◌, ◌≤◌, ◌+◌, ◌*◌, ◌^◌, ◌⊎◌, ℕ, List, [], ◌++◌, Some, All, true, length, if◌then◌else◌, take, drop, slice_get}
 use Rattle.kex_code.specs.declared.symbol.Symbol.{Symbol}
 use Rattle.kex_model.specs.Acting.{State}
 use Rattle.kex_machine.specs.declared.MNode.{MNode}
@@ -16,11 +16,12 @@ use Rattle.kex_moves.specs.Edges.{writes, is_written, is_known, HasRoom}
 use Rattle.kex_moves.specs.Runs.{Rows, HasRow}
 use Rattle.kex_moves.specs.Walks.{Takes, code_at}
 
--- the class of each byte and how many there are, the pairs of a state and a node, for each of them a row of edges by
+-- the class of each byte, how long a row is (2 to the power of `shift`), the pairs of a state and a node, for each of them a row of edges by
 -- class, and the texts and actions of the edges
 pub record Known : Type 0 where
   pub classes : List ℕ
   pub width : ℕ
+  pub shift : ℕ
   pub pairs : List Pair
   pub edges : List Edge
   pub text : List ℕ
@@ -37,7 +38,8 @@ pub record IsEdge (k : Known) (e : Edge) : Type 0 where
 
 -- there is a row for each pair, with an edge for each class, and a text where nothing or the byte alone is written
 pub record IsOrdered (k : Known) : Type 0 where
-  pub width : 0 < k.width
+  pub width : k.width ≡ 2 ^ k.shift
+  pub few : k.shift ≤ 8
   pub bytes : length k.classes ≡ 256
   pub text : 16 ≤ length k.text
   pub classes : All (λ c. c < k.width) k.classes
@@ -92,7 +94,7 @@ pub record IsKnown (t : Transducer) (g : Graph) (k : Known) : Type 0 where
 pub record Widens (old new : Known) (state node : ℕ) : Type 0 where
   pub pairs : List Pair
   pub edges : List Edge
-  pub wider : new ≡ record { classes = old.classes; width = old.width; pairs = old.pairs ++ pairs; edges = old.edges ++ edges; text = old.text; acts = old.acts }
+  pub wider : new ≡ record { classes = old.classes; width = old.width; shift = old.shift; pairs = old.pairs ++ pairs; edges = old.edges ++ edges; text = old.text; acts = old.acts }
   pub of : All (λ (p : Pair). (p.state ≡ state) × (p.node ≡ node)) pairs
   pub unknown : All (λ (e : Edge). e.kind ≡ Unknown) edges
 
@@ -100,7 +102,7 @@ pub record Widens (old new : Known) (state node : ℕ) : Type 0 where
 pub record Lengthens (old new : Known) : Type 0 where
   pub text : List ℕ
   pub acts : List Action
-  pub longer : new ≡ record { classes = old.classes; width = old.width; pairs = old.pairs; edges = old.edges; text = old.text ++ text; acts = old.acts ++ acts }
+  pub longer : new ≡ record { classes = old.classes; width = old.width; shift = old.shift; pairs = old.pairs; edges = old.edges; text = old.text ++ text; acts = old.acts ++ acts }
 
 -- what was learnt of a row stays, and rows stay those of their pairs
 pub record Grows (old new : Known) : Type 0 where

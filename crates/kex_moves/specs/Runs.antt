@@ -1,5 +1,5 @@
 -- What the edges along a piece write, up to the first byte whose edge isn't written.
-use Rattle.std.specs.Prelude.{◌≡◌, ◌<◌, ◌+◌, ℕ, List, [], ◌∷◌, ◌++◌, Option, Some, None, All, true, length, if◌then◌else◌, slice_get, slice_index}
+use Rattle.std.specs.Prelude.{◌≡◌, ◌<◌, ◌+◌, ℕ, List, [], ◌∷◌, ◌++◌, Option, Some, None, All, true, drop, length, if◌then◌else◌, slice_get, slice_index}
 use Rattle.kex_moves.specs.declared.edge.Edge.{Edge}
 use Rattle.kex_moves.specs.Edges.{writes, is_written, HasRoom}
 
@@ -40,6 +40,10 @@ on_step stop more (Some w) = more w
 abbrev pub run_of : Rows → ℕ → List ℕ → Stop
 run_of t row [] = record { written = []; row = row; left = [] }
 run_of t row (b ∷ bs) = on_step (record { written = []; row = row; left = b ∷ bs }) (λ w. behind w.writes (run_of t w.row bs)) (step_of t row b)
+
+-- a run over the bytes of a piece from number i on, behind what stood before
+abbrev pub run_from : Rows → List ℕ → List ℕ → ℕ → ℕ → Stop
+run_from t piece xs row i = behind xs (run_of t row (drop i piece))
 
 -- there is an edge for each byte
 abbrev pub HasRow : List ℕ → List Edge → ℕ → Type 0

@@ -1,6 +1,6 @@
 // The rows of edges that are learnt, one for each pair of a state and a node.
 
-ghost use Rattle.std.specs.Prelude.{◌≡◌, ◌<◌, ◌≤◌, ◌+◌, ◌*◌, ◌++◌, ◌∷◌, List, ℕ, [], All, OnOk, IfOk, IfSome, length, take, drop, replicate, slice_get, Some, slice_set, true};
+ghost use Rattle.std.specs.Prelude.{◌≡◌, ◌<◌, ◌≤◌, ◌+◌, ◌*◌, ◌^◌, ◌++◌, ◌∷◌, List, ℕ, [], All, OnOk, IfOk, IfSome, length, take, drop, replicate, slice_get, Some, slice_set, true};
 ghost use Rattle.kex_machine.specs.declared.MNode.{MNode};
 ghost use Rattle.kex_action.specs.Holdings.{adding};
 ghost use Rattle.kex_action.specs.Actions.{done};
@@ -41,6 +41,7 @@ const LOOKS: u32 = 8;
 pub struct Edges {
     classes: [u8; 256],
     width: usize,
+    shift: u32,
     heads: Vec<u32>,
     pairs: Vec<Pair>,
     edges: Vec<Edge>,
@@ -53,9 +54,9 @@ impl Model for Edges {
 
     ghost Value = { Known };
 
-    ghost view = { λ e. record { classes = e.classes; width = e.width; pairs = e.pairs.items; edges = e.edges.items; text = e.text.items; acts = e.acts.items } };
+    ghost view = { λ e. record { classes = e.classes; width = e.width; shift = e.shift; pairs = e.pairs.items; edges = e.edges.items; text = e.text.items; acts = e.acts.items } };
 
-    ghost invariant = { λ e. IsOrdered (record { classes = e.classes; width = e.width; pairs = e.pairs.items; edges = e.edges.items; text = e.text.items; acts = e.acts.items }) };
+    ghost invariant = { λ e. IsOrdered (record { classes = e.classes; width = e.width; shift = e.shift; pairs = e.pairs.items; edges = e.edges.items; text = e.text.items; acts = e.acts.items }) };
 }
 
 // The head of a state's pairs, in whose place the number is put.
@@ -108,16 +109,16 @@ fn append_text(text: &mut Vec<u8>, bytes: &[u8]) -> Result<(), Memory>
 }
 
 impl Edges {
-    /// Nothing is learnt. There are so many classes and states.
+    /// Nothing is learnt. A row has 2 to the power of `shift` edges, and there are so many states.
     pub fn new(
         alloc: Global,
         classes: [u8; 256],
-        width: usize,
+        shift: u32,
         states: usize,
     ) -> Result<Edges, Memory>
-        requires some { 0 < width }
-        requires classes { All (λ c. c < width) classes }
-        ensures { IfOk result (λ e. e ≡ record { classes = classes; width = width; pairs = []; edges = []; text = replicate 16 0; acts = [] }) }
+        requires few { shift ≤ 8 }
+        requires classes { All (λ c. c < 2 ^ shift) classes }
+        ensures { IfOk result (λ e. e ≡ record { classes = classes; width = 2 ^ shift; shift = shift; pairs = []; edges = []; text = replicate 16 0; acts = [] }) }
     {
         let mut heads = Vec::new(alloc);
         heads.resize(states, NONE)?;
@@ -125,7 +126,8 @@ impl Edges {
         text.resize(16, 0)?;
         Ok(Edges {
             classes,
-            width,
+            width: 1 << shift,
+            shift,
             heads,
             pairs: Vec::new(alloc),
             edges: Vec::new(alloc),
@@ -193,7 +195,7 @@ impl Edges {
         requires { (p : Pair) × IsRowOf self.now row p }
         ensures { (p : Pair) → IsRowOf self.now row p → result ≡ p }
     {
-        self.pairs[row / self.width]
+        self.pairs[row >> self.shift]
     }
 
     /// The edge of a row at a class.

@@ -1,6 +1,6 @@
 // The hot loop of a stage over a table.
 
-ghost use Rattle.std.specs.Prelude.{◌≡◌, ◌≤◌, IsTrue, IfOk, OnOk, length, take};
+ghost use Rattle.std.specs.Prelude.{◌≡◌, ◌≤◌, ◌^◌, IsTrue, IfOk, OnOk, length, take};
 ghost use Rattle.kex_moves.specs.Along.{RunsOn};
 
 pub use crate::along::Ran;
@@ -52,13 +52,26 @@ fn classes_of(table: &Table) -> [u8; 256]
     classes
 }
 
+// The least power of two that is no less than a count.
+fn shift_of(count: u16) -> u32
+    requires { count ≤ 256 }
+    ensures within { result ≤ 8 }
+    ensures enough { count ≤ 2 ^ result }
+{
+    let mut shift = 0;
+    while shift < 8 && (1_u16 << shift) < count {
+        shift += 1;
+    }
+    shift
+}
+
 impl<'p> Moves<'p> {
     /// Nothing is learnt.
     pub fn new(alloc: Global, table: &'p Table, machine: &'p Trimmed) -> Result<Moves<'p>, Memory>
         ensures { IfOk result (λ m. m ≡ record { table = table.now; machine = machine.now }) }
     {
-        let width = table.partition().classes() as usize;
-        let edges = Edges::new(alloc, classes_of(table), width, table.states().len())?;
+        let shift = shift_of(table.partition().classes());
+        let edges = Edges::new(alloc, classes_of(table), shift, table.states().len())?;
         let mut buffer = Vec::new(alloc);
         buffer.resize(ROOM, 0)?;
         Ok(Moves {

@@ -2,7 +2,7 @@
 
 ghost use Rattle.std.specs.Prelude.{◌≡◌, ℕ, ◌+◌, ◌*◌, ◌-◌, ◌<◌, ◌≤◌, List, All, length, take, drop};
 ghost use Rattle.kex_moves.specs.Edges.{HasRoom};
-ghost use Rattle.kex_moves.specs.Runs.{HasRow, HasRoomBelow, IsWithin, behind, run_of};
+ghost use Rattle.kex_moves.specs.Runs.{HasRow, HasRoomBelow, IsWithin, run_from, run_of};
 
 use crate::edge::Edge;
 use crate::put::put;
@@ -24,7 +24,8 @@ fn keep(classes: &[u8; 256], edges: &[Edge], piece: &[u8], buffer: &mut [u8], fr
     ensures at { (from.at ≤ result.at) × (result.at ≤ length piece.now) }
     ensures row { result.row ≡ from.row }
     ensures room { result.used + 17 * (length piece.now - result.at) + 17 ≤ length buffer.new }
-    ensures ran { (text : List ℕ) → HasRoomBelow (length text) edges.now → behind (take result.used buffer.new) (run_of (record { classes = classes.now; edges = edges.now; text = text }) result.row (drop result.at piece.now)) ≡ behind (take from.used buffer.old) (run_of (record { classes = classes.now; edges = edges.now; text = text }) from.row (drop from.at piece.now)) }
+    ensures ran { (text : List ℕ) → HasRoomBelow (length text) edges.now → let rest = run_from (record { classes = classes.now; edges = edges.now; text = text }) piece.now in
+        rest (take result.used buffer.new) result.row result.at ≡ rest (take from.used buffer.old) from.row from.at }
 {
     let row = from.row;
     let mut at = from.at;
@@ -48,7 +49,8 @@ fn skip(classes: &[u8; 256], edges: &[Edge], piece: &[u8], row: usize, from: usi
     requires row { HasRow classes.now edges.now row }
     requires at { from ≤ length piece.now }
     ensures at { (from ≤ result) × (result ≤ length piece.now) }
-    ensures ran { (xs text : List ℕ) → HasRoomBelow (length text) edges.now → behind xs (run_of (record { classes = classes.now; edges = edges.now; text = text }) row (drop result piece.now)) ≡ behind xs (run_of (record { classes = classes.now; edges = edges.now; text = text }) row (drop from piece.now)) }
+    ensures ran { (xs text : List ℕ) → HasRoomBelow (length text) edges.now → let rest = run_from (record { classes = classes.now; edges = edges.now; text = text }) piece.now in
+        rest xs row result ≡ rest xs row from }
 {
     let mut at = from;
     while at < piece.len() {

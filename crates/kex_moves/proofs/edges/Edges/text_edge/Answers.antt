@@ -16,13 +16,13 @@ returns-in_default-try_from-clause-longer c = lengthens_none c.args.self.now
 pub returns-clause-longer : goal.returns-clause-longer
 returns-clause-longer c =
     let e = c.self.inside in
-    let k : Known = record { classes = e.classes; width = e.width; pairs = e.pairs.items; edges = e.edges.items; text = e.text.items; acts = e.acts.items } in
+    let k : Known = record { classes = e.classes; width = e.width; shift = e.shift; pairs = e.pairs.items; edges = e.edges.items; text = e.text.items; acts = e.acts.items } in
     let text = c.append_text.new.text.items in
     let bytes = c.args.bytes.now in
-    subst (λ q. Lengthens q (record { classes = e.classes; width = e.width; pairs = e.pairs.items; edges = e.edges.items; text = text; acts = e.acts.items })) c.self.view_is (lengthens_text k text (bytes ++ replicate 16 0) ((c.in_ok-append_text.ensures {u = tt}).ok ∙ append_assoc k.text bytes (replicate 16 0)))
+    subst (λ q. Lengthens q (record { classes = e.classes; width = e.width; shift = e.shift; pairs = e.pairs.items; edges = e.edges.items; text = text; acts = e.acts.items })) c.self.view_is (lengthens_text k text (bytes ++ replicate 16 0) ((c.in_ok-append_text.ensures {u = tt}).ok ∙ append_assoc k.text bytes (replicate 16 0)))
 
 pub returns-clause-settles : goal.returns-clause-settles
 returns-clause-settles c = λ nodes.
     let e = c.self.inside in
-    let k : Known = record { classes = e.classes; width = e.width; pairs = e.pairs.items; edges = e.edges.items; text = c.append_text.new.text.items; acts = e.acts.items } in
+    let k : Known = record { classes = e.classes; width = e.width; shift = e.shift; pairs = e.pairs.items; edges = e.edges.items; text = c.append_text.new.text.items; acts = e.acts.items } in
     settles_text nodes k e.text.items c.args.next c.args.place c.args.bytes.now _ (c.in_ok-append_text.ensures {u = tt}).ok c.requires refl (omega (arith, c.in-Ok.ensures, c.len-end.ensures)) refl refl c.in-Text.is
