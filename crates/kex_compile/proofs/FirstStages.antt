@@ -12,7 +12,7 @@ use Rattle.kex_lowering.specs.declared.refusal.StageRefusal.{StageRefusal}
 use Rattle.kex_lowering.specs.declared.refusal.StageRefusal.TheVariants.{TooManyPlaces, EmptyLoop, NoText, Memory}
 use Rattle.kex_compile.specs.declared.firsts.Firsts.{Firsts}
 use Rattle.kex_compile.specs.declared.limits.Limits.{Limits}
-use Rattle.kex_compile.specs.Stages.{AreFirsts, ArePlans, AreStages, CanRun, HaveInAll, IsFirst, IsFirstIn, IsRefusedFor, IsStage, IsUnplanned, Plans, first_of, least, least_of, most_places, noted, roots_of}
+use Rattle.kex_compile.specs.Stages.{AreFirsts, AreMachines, AreStages, CanRun, HaveInAll, IsFirst, IsFirstIn, IsRefusedFor, IsStage, IsUnplanned, Machines, first_of, least, least_of, most_places, noted, roots_of}
 use Rattle.kex_compile.specs.declared.refusal.PlanRefusal.{PlanRefusal}
 use Rattle.kex_compile.specs.declared.refusal.PlanRefusal.TheVariants as plan
 
@@ -99,9 +99,9 @@ abbrev root : Grammar → Start → ℕ
 root P s = root_of P s.name
 
 -- what is gathered of the stages so far
-pub record Gathered (P : Grammar) (xs : List Start) (f : Firsts) (c : Plans) : Type 0 where
+pub record Gathered (P : Grammar) (xs : List Start) (f : Firsts) (c : Machines) : Type 0 where
   pub firsts : AreFirsts P (map (root P) xs) f
-  pub stages : least f ≡ None → AreStages P 1 (map (root P) xs) c.stages
+  pub stages : least f ≡ None → AreStages P 1 (map (root P) xs) c.machines
   pub places : least f ≡ None → HaveInAll P (map (root P) xs) c.places
 
 too-many-noted : (a b c : Option ℕ) (n : ℕ) → least_of (first_of a n) b c ≡ None → ⊥
@@ -132,17 +132,17 @@ module _ (P : Grammar) (all : List Start) (i : ℕ) (d : Start) (lt : i < length
   so_far : length (map (root P) (take i all)) ≡ i
   so_far = length-map (take i all) (root P) ∙ length-take-le i all (omega arith)
 
-  pub one-refused : (f : Firsts) (c : Plans) (n : ℕ) (e : StageRefusal) → n ≡ i + 1 → (e ≡ Memory → ⊥) → IsWhy P (root P (get_or all i d)) most_places e → Gathered P (take i all) f c → Gathered P (take (i + 1) all) (noted e n f) c
+  pub one-refused : (f : Firsts) (c : Machines) (n : ℕ) (e : StageRefusal) → n ≡ i + 1 → (e ≡ Memory → ⊥) → IsWhy P (root P (get_or all i d)) most_places e → Gathered P (take i all) f c → Gathered P (take (i + 1) all) (noted e n f) c
   one-refused f c n e number some why g = record {
     firsts = subst (λ z. AreFirsts P z (noted e n f)) (sym more) (refused-more P (map (root P) (take i all)) f (root P (get_or all i d)) n e (omega (arith, so_far)) some why g.firsts);
     stages = λ none. absurd (some-noted e n f some none);
     places = λ none. absurd (some-noted e n f some none);
   }
 
-  pub one-planned : (f : Firsts) (c : Plans) (m : Graph) (own n : ℕ) → n ≡ i + 1 → IsStage P (root P (get_or all i d)) n m → HasPlaces P (root P (get_or all i d)) own → Gathered P (take i all) f c → Gathered P (take (i + 1) all) f (record { stages = c.stages ++ m ∷ []; places = c.places + own })
+  pub one-planned : (f : Firsts) (c : Machines) (m : Graph) (own n : ℕ) → n ≡ i + 1 → IsStage P (root P (get_or all i d)) n m → HasPlaces P (root P (get_or all i d)) own → Gathered P (take i all) f c → Gathered P (take (i + 1) all) f (record { machines = c.machines ++ m ∷ []; places = c.places + own })
   one-planned f c m own n number is has g = record {
     firsts = subst (λ z. AreFirsts P z f) (sym more) (planned-more P (map (root P) (take i all)) f (root P (get_or all i d)) is.can_run g.firsts);
-    stages = λ none. subst (λ z. AreStages P 1 z (c.stages ++ m ∷ [])) (sym more) (stages-more P 1 (map (root P) (take i all)) c.stages (root P (get_or all i d)) m (subst (λ k. IsStage P (root P (get_or all i d)) k m) (let e : n ≡ 1 + length (map (root P) (take i all)) = omega (arith, so_far) in e) is) (g.stages none));
+    stages = λ none. subst (λ z. AreStages P 1 z (c.machines ++ m ∷ [])) (sym more) (stages-more P 1 (map (root P) (take i all)) c.machines (root P (get_or all i d)) m (subst (λ k. IsStage P (root P (get_or all i d)) k m) (let e : n ≡ 1 + length (map (root P) (take i all)) = omega (arith, so_far) in e) is) (g.stages none));
     places = λ none. subst (λ z. HaveInAll P z (c.places + own)) (sym more) (places-more P (map (root P) (take i all)) c.places (root P (get_or all i d)) own has (g.places none));
   }
 
@@ -156,7 +156,7 @@ unplanned limits P None None (Some n) e h k l is = subst (λ z. IsUnplanned limi
 unplanned limits P None None None e h k l is = cc
 
 -- with all stages gathered
-module _ (P : Grammar) (i : ℕ) (past : length P.stages ≤ i) (f : Firsts) (c : Plans) (g : Gathered P (take i P.stages) f c) where
+module _ (P : Grammar) (i : ℕ) (past : length P.stages ≤ i) (f : Firsts) (c : Machines) (g : Gathered P (take i P.stages) f c) where
   all_of : map (root P) (take i P.stages) ≡ roots_of P
   all_of = ap (λ z. map (root P) z) (take_all i P.stages past)
 
@@ -165,8 +165,8 @@ module _ (P : Grammar) (i : ℕ) (past : length P.stages ≤ i) (f : Firsts) (c 
       let firsts = subst (λ z. AreFirsts P z f) all_of g.firsts in
       unplanned limits P f.too_many_places f.empty_loop f.no_text e firsts.too_many_places firsts.empty_loop firsts.no_text is
 
-  pub all-planned : least f ≡ None → ArePlans P c
+  pub all-planned : least f ≡ None → AreMachines P c
   all-planned none = record {
-    stages = subst (λ z. AreStages P 1 z c.stages) all_of (g.stages none);
+    stages = subst (λ z. AreStages P 1 z c.machines) all_of (g.stages none);
     places = subst (λ z. HaveInAll P z c.places) all_of (g.places none);
   }

@@ -14,3 +14,4 @@ pub mod Surviving
 pub mod States
 pub mod Answering
 pub mod FewStages
+pub mod Tabling

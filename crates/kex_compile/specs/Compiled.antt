@@ -29,7 +29,7 @@ pub record Accepts (limits : Limits) (text : List ℕ) (P : Grammar) : Type 0 wh
 pub record IsCompiled (limits : Limits) (text : List ℕ) (plans : Plans) : Type 0 where
   pub program : Grammar
   pub accepts : Accepts limits text program
-  pub plans_of : ArePlans program plans
+  pub plans_of : ArePlans limits program plans
 
 -- the text spells a program that breaks this rule, and none before it
 abbrev pub BreaksRule : List ℕ → RuleRefusal → Type 0

@@ -1,12 +1,16 @@
 -- The stages of a program: what their plans are, and which is refused first.
-use Rattle.std.specs.Prelude.{◌≡◌, ◌+◌, ◌<◌, ◌≤◌, ◌∷◌, ◌++◌, [], ℕ, suc, true, List, Option, Some, None, length, map}
+use Rattle.std.specs.Prelude.{◌≡◌, ◌+◌, ◌<◌, ◌≤◌, ◌∷◌, ◌++◌, [], ℕ, suc, Bool, true, false, List, Option, Some, None, length, map}
 use Rattle.kex_code.specs.Codes.{IsAmong}
 use Rattle.kex_model.specs.Programs.{Grammar}
 use Rattle.kex_model.specs.Trees.{root_of}
 use Rattle.kex_model.specs.Places.{moves, start_of, HasEmptyLoop}
 use Rattle.kex_model.specs.Survivors.{LeadsToEnd}
 use Rattle.kex_model.specs.States.{HasMoreStates, HasStates}
-use Rattle.kex_machine.specs.Nodes.{Graph}
+use Rattle.kex_machine.specs.Nodes.{Graph, node_moves}
+use Rattle.kex_sst.specs.Tables.{Transducer}
+use Rattle.kex_sst.specs.Machines.{IsTableOf}
+use Rattle.kex_determine.specs.Determined.{IsDetermined}
+use Rattle.kex_stage.specs.Plans.{Planned}
 use Rattle.kex_desugar.specs.Machines.{HasMore}
 use Rattle.kex_lowering.specs.Stages.{Carries, HasPlaces, IsKeptOf, IsWhy}
 use Rattle.kex_lowering.specs.declared.refusal.StageRefusal.{StageRefusal}
@@ -68,24 +72,53 @@ abbrev pub HaveStatesInAll : Grammar → List ℕ → ℕ → Type 0
 HaveStatesInAll P [] total = total ≡ 0
 HaveStatesInAll P (r ∷ rs) total = (own rest : ℕ) × HasStates (moves P) (start_of P r) own × HaveStatesInAll P rs rest × (total ≡ own + rest)
 
--- plans, by their machines, and a count of places
-pub record Plans : Type 0 where
-  pub stages : List Graph
+-- machines, and a count of places
+pub record Machines : Type 0 where
+  pub machines : List Graph
   pub places : ℕ
 
-pub record ArePlans (P : Grammar) (plans : Plans) : Type 0 where
+-- the machines of the program's stages, and how many places these have in all
+pub record AreMachines (P : Grammar) (lowered : Machines) : Type 0 where
+  pub stages : AreStages P 1 (roots_of P) lowered.machines
+  pub places : HaveInAll P (roots_of P) lowered.places
+
+-- plans, by their machines and tables, and counts of places and states
+pub record Plans : Type 0 where
+  pub stages : List Graph
+  pub tables : List (Option Transducer)
+  pub places : ℕ
+  pub states : ℕ
+
+abbrev pub HasTableIf : Bool → Graph → Option Transducer → Type 0
+HasTableIf true m None = ⊥
+HasTableIf true m (Some t) = IsTableOf m t × IsDetermined m t
+HasTableIf false m o = o ≡ None
+
+-- where tables are asked for, a machine has a table that is its own, numbered as states are met, else none
+abbrev pub HasTable : Limits → Graph → Option Transducer → Type 0
+HasTable limits m o = HasTableIf limits.tables m o
+
+abbrev pub AreTabled : Limits → List Graph → List (Option Transducer) → Type 0
+AreTabled limits [] [] = Unit {0}
+AreTabled limits (m ∷ ms) (o ∷ os) = HasTable limits m o × AreTabled limits ms os
+AreTabled limits ms os = ⊥
+
+-- the plans of the program's stages, with their tables, and how many places and states these have in all
+pub record ArePlans (limits : Limits) (P : Grammar) (plans : Plans) : Type 0 where
   pub stages : AreStages P 1 (roots_of P) plans.stages
   pub places : HaveInAll P (roots_of P) plans.places
+  pub tables : AreTabled limits plans.stages plans.tables
+  pub states : limits.tables ≡ true → HaveStatesInAll P (roots_of P) plans.states
 
 -- what is first so in the list has this number, counted from 1
-pub record IsFirst (Q : ℕ → Type 0) (xs : List ℕ) (number : ℕ) : Type 0 where
-  pub before : List ℕ
-  pub at : ℕ
-  pub behind : List ℕ
+pub record IsFirst {A : Type 0} (Q : A → Type 0) (xs : List A) (number : ℕ) : Type 0 where
+  pub before : List A
+  pub at : A
+  pub behind : List A
   pub split : xs ≡ before ++ at ∷ behind
   pub number_is : number ≡ suc (length before)
   pub is_so : Q at
-  pub none_before : (x : ℕ) → IsAmong before x → Q x → ⊥
+  pub none_before : (x : A) → IsAmong before x → Q x → ⊥
 
 abbrev pub NoneIs : (ℕ → Type 0) → List ℕ → Type 0
 NoneIs Q xs = (x : ℕ) → IsAmong xs x → Q x → ⊥
@@ -135,3 +168,36 @@ least_of None None None = None
 
 abbrev pub least : Firsts → Option PlanRefusal
 least f = least_of f.too_many_places f.empty_loop f.no_text
+
+-- ---- states of machines
+
+-- the machine has more states than are allowed
+abbrev pub HasMoreNodes : Limits → Graph → Type 0
+HasMoreNodes limits m = HasMoreStates (node_moves m.nodes) m.start limits.states
+
+-- where tables are asked for, the machine has so many states, and no more than are allowed
+abbrev pub HasStatesIf : Limits → Graph → ℕ → Type 0
+HasStatesIf limits m n = limits.tables ≡ true → HasStates (node_moves m.nodes) m.start n × (HasMoreNodes limits m → ⊥)
+
+-- and so many the machines in all
+abbrev pub NodeStates : Limits → List Graph → ℕ → Type 0
+NodeStates limits [] total = total ≡ 0
+NodeStates limits (m ∷ ms) total = (own rest : ℕ) × HasStates (node_moves m.nodes) m.start own × (HasMoreNodes limits m → ⊥) × NodeStates limits ms rest × (total ≡ own + rest)
+
+abbrev pub HaveNodeStates : Limits → List Graph → ℕ → Type 0
+HaveNodeStates limits ms total = limits.tables ≡ true → NodeStates limits ms total
+
+-- why the machine of a stage has no plan
+abbrev pub IsUntabledAs : Limits → Graph → ℕ → PlanRefusal → Type 0
+IsUntabledAs limits m stage (TooManyStates n) = (limits.tables ≡ true) × (n ≡ stage) × HasMoreNodes limits m
+IsUntabledAs limits m stage Memory = Unit {0}
+IsUntabledAs limits m stage _ = ⊥
+
+-- why machines have no plans
+abbrev pub IsUntabled : Limits → List Graph → PlanRefusal → Type 0
+IsUntabled limits ms (TooManyStates n) = (limits.tables ≡ true) × IsFirst (HasMoreNodes limits) ms n
+IsUntabled limits ms Memory = Unit {0}
+IsUntabled limits ms _ = ⊥
+
+abbrev pub table_of : Planned → Option Transducer
+table_of p = p.table

@@ -1,57 +1,61 @@
 // What a text is compiled to.
 
-ghost use Rattle.std.specs.Prelude.{◌≡◌, ◌+◌, ◌*◌, ◌^◌, ◌<◌, ◌++◌, ◌∷◌, [], ℕ, OnOk, length, map};
+ghost use Rattle.std.specs.Prelude.{◌≡◌, ◌+◌, ◌^◌, ◌<◌, ◌++◌, ◌∷◌, [], OnOk, length, map};
 ghost use Rattle.kex_stage.specs.Plans.{machine_of};
+ghost use Rattle.kex_compile.specs.Stages.{table_of};
 
 use kex_code::memory::Memory;
 use kex_stage::plan::Plan;
 use std::alloc::Global;
 use std::marker::Model;
 
-/// The plans of a program's stages, in their order, and how many places the stages have in all.
+/// The plans of a program's stages, in their order, and how many places and states the stages have in all.
 #[derive(Drop)]
 pub struct Compiled {
     stages: Vec<Plan>,
     places: u64,
+    states: u64,
 }
 
 impl Model for Compiled {
     ghost use Rattle.std.specs.Prelude.{◌<◌, ◌^◌, length, map};
     ghost use Rattle.kex_stage.specs.Plans.{machine_of};
-    ghost use Rattle.kex_compile.specs.Stages.{Plans};
+    ghost use Rattle.kex_compile.specs.Stages.{Plans, table_of};
 
     ghost Value = { Plans };
 
-    ghost view = { λ c. record { stages = map machine_of c.stages.items; places = c.places } };
+    ghost view = { λ c. record { stages = map machine_of c.stages.items; tables = map table_of c.stages.items; places = c.places; states = c.states } };
 
     ghost invariant = { λ c. length c.stages.items < 2 ^ 32 };
 }
 
 impl Compiled {
-    pub(crate) fn new(alloc: Global) -> Compiled
-        ensures { result ≡ record { stages = []; places = 0 } }
+    pub(crate) fn new(alloc: Global, places: u64) -> Compiled
+        ensures { result ≡ record { stages = []; tables = []; places = places; states = 0 } }
     {
         Compiled {
             stages: Vec::new(alloc),
-            places: 0,
+            places,
+            states: 0,
         }
     }
 
-    // One stage more.
-    pub(crate) fn push(&mut self, plan: Plan, places: u32) -> Result<(), Memory>
-        requires places { self.old.places + places < 2 ^ 64 }
+    // One stage more, with so many states.
+    pub(crate) fn push(&mut self, plan: Plan, states: u32) -> Result<(), Memory>
+        requires states { self.old.states + states < 2 ^ 64 }
         requires stages { length self.old.stages + 1 < 2 ^ 32 }
-        ensures pushed { OnOk result (self.new ≡ record { stages = self.old.stages ++ plan.machine ∷ []; places = self.old.places + places }) }
-        ensures few { OnOk result (self.new.places < self.old.places + 2 ^ 32) }
+        ensures pushed { OnOk result (self.new ≡ record { stages = self.old.stages ++ plan.machine ∷ []; tables = self.old.tables ++ plan.table ∷ []; places = self.old.places; states = self.old.states + states }) }
+        ensures few { OnOk result (self.new.states < self.old.states + 2 ^ 32) }
     {
         self.stages.push(plan)?;
-        self.places += u64::from(places);
+        self.states += u64::from(states);
         Ok(())
     }
 
     /// The plans, in the order of their stages.
     pub fn stages(&self) -> &[Plan]
         ensures same { map machine_of result.now ≡ self.now.stages }
+        ensures tables { map table_of result.now ≡ self.now.tables }
         ensures count { length result.now ≡ length self.now.stages }
         ensures few { length self.now.stages < 2 ^ 32 }
     {
@@ -63,5 +67,12 @@ impl Compiled {
         ensures { result ≡ self.now.places }
     {
         self.places
+    }
+
+    /// How many states the stages have in all, where tables were asked for.
+    pub fn states(&self) -> u64
+        ensures { result ≡ self.now.states }
+    {
+        self.states
     }
 }

@@ -4,15 +4,17 @@
 //! stages do, and a text is refused for the first rule that it breaks.
 #![tactic(auto)]
 
-ghost use Rattle.std.specs.Prelude.{◌≡◌, false, IfOk, IfErr};
+ghost use Rattle.std.specs.Prelude.{◌≡◌, ◌<◌, IfOk, IfErr};
 ghost use Rattle.kex_compile.specs.Compiled.{IsCompiled, IsRefused};
 
 pub mod compiled;
 mod firsts;
 pub mod laws;
 pub mod limits;
+mod lowered;
 pub mod refusal;
 pub mod stages;
+mod tables;
 #[cfg(test)]
 mod tests;
 
@@ -26,9 +28,9 @@ use std::alloc::Global;
 
 /// The plans of a program text.
 ///
-/// Each rule is asked of the whole text before the next. Plans have no tables yet.
+/// Each rule is asked of the whole text before the next. Of the states of a stage one more is counted than are allowed.
 pub fn compile(alloc: Global, text: &[u8], limits: &Limits) -> Result<Compiled, CompileRefusal>
-    requires tables { limits.now.tables ≡ false }
+    requires states { limits.now.states < 4294967295 }
     ensures plans { IfOk result (λ plans. IsCompiled limits.now text.now plans) }
     ensures refused { IfErr result (λ e. IsRefused limits.now text.now e) }
 {

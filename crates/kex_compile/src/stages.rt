@@ -2,15 +2,16 @@
 
 ghost use Rattle.std.specs.Prelude.{◌≡◌, ◌<◌, ◌^◌, IfOk, IfErr, OnOk, length};
 ghost use Rattle.kex_model.specs.Trees.{root_of};
-ghost use Rattle.kex_compile.specs.Stages.{ArePlans, IsUnplanned, KeepsToOneStage};
+ghost use Rattle.kex_compile.specs.Stages.{AreMachines, ArePlans, IsUnplanned, KeepsToOneStage, KeepsToStates};
 
 use crate::compiled::Compiled;
 use crate::firsts::Firsts;
 use crate::limits::Limits;
+use crate::lowered::Lowered;
 use crate::refusal::PlanRefusal;
+use crate::tables::plan_machines;
 use kex_lowering::stage_machine;
 use kex_model::program::Program;
-use kex_stage::plan::Plan;
 use std::alloc::Global;
 
 const MOST_PLACES: u32 = 65_536;
@@ -25,6 +26,34 @@ fn root_of(program: &Program, name: u32) -> u32
     }
 }
 
+// The machines of a program's stages, or the refusal by the rule of the lowest number, and of the stages that are refused by it the
+// first.
+fn lower_stages(alloc: Global, program: &Program) -> Result<Lowered, PlanRefusal>
+    requires few { length program.now.stages < 2 ^ 32 }
+    ensures machines { IfOk result (λ l. AreMachines program.now l) }
+    ensures refused { IfErr result (λ e. (limits : Limits) → IsUnplanned limits program.now e) }
+{
+    let mut firsts = Firsts::new();
+    let mut lowered = Lowered::new(alloc);
+    'stages: for (i, start) in program.stages().iter().enumerate() {
+        let stage = i as u32 + 1;
+        match stage_machine(
+            alloc,
+            program,
+            root_of(program, start.name),
+            stage,
+            MOST_PLACES,
+        ) {
+            Ok(made) => lowered.push(made.machine, made.places)?,
+            Err(why) => firsts.note(why, stage)?,
+        }
+    }
+    match firsts.least() {
+        None => Ok(lowered),
+        Some(refusal) => Err(refusal),
+    }
+}
+
 /// The plans of a program's stages, in their order.
 ///
 /// Each rule is asked of all stages before the next: the answer is the refusal of the lowest number, and of the stages that
@@ -35,30 +64,16 @@ pub fn plan_stages(
     limits: &Limits,
 ) -> Result<Compiled, PlanRefusal>
     requires few { length program.now.stages < 2 ^ 32 }
-    ensures plans { IfOk result (λ plans. ArePlans program.now plans) }
-    ensures within { OnOk result (KeepsToOneStage limits.now program.now) }
+    requires states { limits.now.states < 4294967295 }
+    ensures plans { IfOk result (λ plans. ArePlans limits.now program.now plans) }
+    ensures one_stage { OnOk result (KeepsToOneStage limits.now program.now) }
+    ensures states { OnOk result (KeepsToStates limits.now program.now) }
     ensures refused { IfErr result (λ e. IsUnplanned limits.now program.now e) }
 {
-    let mut firsts = Firsts::new();
-    let mut compiled = Compiled::new(alloc);
-    'stages: for (i, start) in program.stages().iter().enumerate() {
-        let stage = i as u32 + 1;
-        match stage_machine(
-            alloc,
-            program,
-            root_of(program, start.name),
-            stage,
-            MOST_PLACES,
-        ) {
-            Ok(made) => compiled.push(Plan::new(made.machine, None), made.places)?,
-            Err(why) => firsts.note(why, stage)?,
-        }
-    }
-    if let Some(refusal) = firsts.least() {
-        return Err(refusal);
-    }
+    let lowered = lower_stages(alloc, program)?;
     if limits.one_stage && program.stages().len() > 1 {
         return Err(PlanRefusal::OneStage);
     }
+    let compiled = plan_machines(alloc, lowered, limits)?;
     Ok(compiled)
 }

@@ -94,6 +94,52 @@ fn one_stage_alone(rt: HostRuntime) {
     }
 }
 
+// How many states there are where tables are asked for, and a stage may have so many.
+fn states(alloc: Global, text: &[u8], states: u32) -> Result<u64, CompileRefusal> {
+    let limits = Limits {
+        states,
+        one_stage: false,
+        tables: true,
+    };
+    let compiled = compile(alloc, text, &limits)?;
+    Ok(compiled.states())
+}
+
+#[test]
+fn states_are_counted_up_to_their_limit(rt: HostRuntime) {
+    let rows: [(&[u8], u32, Result<u64, CompileRefusal>); 9] = [
+        (b"main := 1", 1, Ok(1)),
+        (b"main := /a*/", 1, Ok(1)),
+        (b"main := /a{3}/", 4, Ok(4)),
+        (b"main := /(a|b)*a(a|b){3}/", 16, Ok(16)),
+        (
+            b"main := /(a|b)*a(a|b){3}/",
+            15,
+            Err(CompileRefusal::TooManyStates(1)),
+        ),
+        (b"start: a >> b\na := /x*/\nb := /y/", 2, Ok(3)),
+        (
+            b"start: a >> b\na := /x*/\nb := /y/",
+            1,
+            Err(CompileRefusal::TooManyStates(2)),
+        ),
+        (
+            b"start: a >> b\na := /x/\nb := /y/",
+            1,
+            Err(CompileRefusal::TooManyStates(1)),
+        ),
+        (
+            b"start: a >> b\na := /x/\nb := /y/ b",
+            1,
+            Err(CompileRefusal::NoText(2)),
+        ),
+    ];
+    for (text, most, want) in rows {
+        let got = states(rt.alloc(), text, most);
+        assert!(rt; got == want);
+    }
+}
+
 // A program in so many parentheses.
 fn in_parentheses(alloc: Global, times: usize) -> Result<Vec<u8>, AllocError> {
     let mut text = b"main := ".to_vec(alloc)?;

@@ -8,7 +8,7 @@ use Rattle.kex_rules.specs.declared.refusal.RuleRefusal.{RuleRefusal}
 use Rattle.kex_rules.specs.declared.refusal.RuleRefusal.TheVariants as rule
 use Rattle.kex_lowering.proofs.Refusing.{if_err}
 use Rattle.kex_compile.specs.Compiled.{IsRefused, of_plan, of_read, of_rule}
-use Rattle.kex_compile.specs.Stages.{ArePlans, IsUnplanned, KeepsToOneStage, roots_of}
+use Rattle.kex_compile.specs.Stages.{ArePlans, IsUnplanned, KeepsToOneStage, KeepsToStates, roots_of}
 use Rattle.kex_compile.specs.declared.limits.Limits.{Limits}
 use Rattle.kex_compile.specs.declared.refusal.PlanRefusal.{PlanRefusal}
 use Rattle.kex_compile.specs.declared.refusal.PlanRefusal.TheVariants as plan
@@ -63,22 +63,22 @@ pub returns-clause-plans : goal.returns-clause-plans
 returns-clause-plans c =
     let P = c.in_ok-program.program in
     let same = c.program-2.ensures.same ∙ c.in_ok-ruled.ensures.same in
-    let plans : ArePlans P c.in_ok-compiled.compiled = subst (λ z. ArePlans z c.in_ok-compiled.compiled) same c.in_ok-compiled.ensures.plans in
+    let plans : ArePlans c.args.limits.now P c.in_ok-compiled.compiled = subst (λ z. ArePlans c.args.limits.now z c.in_ok-compiled.compiled) same c.in_ok-compiled.ensures.plans in
     record {
       program = P;
       accepts = record {
         spells = c.in_ok-program.ensures.read;
         ruled = subst (λ z. IsRuled z) c.in_ok-ruled.ensures.same c.in_ok-ruled.ensures.ruled;
         stages = all-run P 1 (roots_of P) c.in_ok-compiled.compiled.stages plans.stages;
-        one_stage = subst (λ z. KeepsToOneStage c.args.limits.now z) same c.in_ok-compiled.ensures.within;
-        states = λ asked root i h. cc;
+        one_stage = subst (λ z. KeepsToOneStage c.args.limits.now z) same c.in_ok-compiled.ensures.one_stage;
+        states = subst (λ z. KeepsToStates c.args.limits.now z) same c.in_ok-compiled.ensures.states;
       };
       plans_of = plans;
     }
 
 -- a program that a text spells has no more stages than may be named
-pub plan_stages-requires : goal.plan_stages-requires
-plan_stages-requires c =
+pub plan_stages-requires-clause-few : goal.plan_stages-requires-clause-few
+plan_stages-requires-clause-few c =
     let P = c.in_ok-program.program in
     let same = c.program-2.ensures.same ∙ c.in_ok-ruled.ensures.same in
     let few : length P.stages ≤ 64 = few_stages c.args.text.now P c.in_ok-program.ensures.read in

@@ -1,61 +1,49 @@
-use Rattle.std.proofs.Common.{rules, arith, ◌≡◌, ◌<◌, ◌≤◌, ◌+◌, List, length, take, get_or, refl, sym, ap, subst, ◌∙◌, ◌∷◌, [], length-append}
-use Rattle.kex_model.specs.Trees.{root_of}
+use Rattle.std.proofs.Common.{◌≡◌, ◌<◌, ◌≤◌, true, false, List, length, sym, ◌∙◌, subst}
+use Rattle.kex_machine.specs.Nodes.{Graph}
 use Rattle.kex_model.specs.declared.program.Start.{Start}
-use Rattle.kex_lowering.specs.Stages.{HasPlaces, IsWhy}
-use Rattle.kex_compile.specs.Stages.{ArePlans, IsStage, Plans, most_places, roots_of}
-use Rattle.std.specs.Prelude.{Option, Some, None}
-use Rattle.kex_compile.specs.declared.firsts.Firsts.{Firsts}
-use Rattle.kex_compile.specs.declared.refusal.PlanRefusal.{PlanRefusal}
-use Rattle.kex_compile.proofs.FirstStages.{Gathered, one-refused, one-planned, all-planned, all-refused, all-run}
+use Rattle.kex_lowering.proofs.Refusing.{if_err}
+use Rattle.kex_compile.specs.Stages.{AllRun, AreStages, HaveInAll, IsUnplanned, KeepsToOneStage, roots_of}
+use Rattle.kex_compile.proofs.FirstStages.{all-run}
+use Rattle.kex_compile.proofs.Tabling.{none_more, states_of_stages, unplanned_by}
 use Rattle.kex_compile.proofs.stages.plan_stages.Goals as goal
-use Rattle.kex_compile.proofs.stages.plan_stages.Goals.{in-Ok+in_ok-push-in-Ok, in-Err+in_ok-note-in-Err}
+use Rattle.kex_compile.proofs.stages.plan_stages.Goals.{else-limits-via-then-limits+else-stages-gt1, else-limits-via-else-limits}
 
-none_left : (o : Option PlanRefusal) → ((x : PlanRefusal) → o ≡ Some x → ⊥) → o ≡ None
-none_left None h = refl
-none_left (Some x) h = absurd (h x refl)
-
-pub stages-preserved : goal.stages-preserved
-stages-preserved c =
-    let P = c.args.program.now in
-    let i = c.stages.i in
-    let d : Start = record { name = 0; at = 0 } in
-    let start : Start = get_or P.stages i d in
-    let root : c.root_of.result ≡ root_of P start.name = c.root_of.ensures ∙ ap (λ (z : List Start). root_of P (get_or z i d).name) c.stages-start-items.ensures in
-    let within : i < length P.stages = omega (arith, c.stages-test.true, ap length c.stages-start-items.ensures) in
-    elim c.match-stage_machine.branch [
-      | in-Ok+in_ok-push-in-Ok w ↦
-          let m = w.in-Ok.made.machine in
-          let own = w.in-Ok.made.places in
-          let is : IsStage P (root_of P start.name) (i + 1) w.new.result.machine = subst (λ k. IsStage P (root_of P start.name) (i + 1) k) (sym (ap (λ z. z.machine) w.new.ensures)) (subst (λ r. IsStage P r (i + 1) m) root (record {
-            can_run = record { few = w.in-Ok.ensures.fits; no_loop = w.in-Ok.ensures.carries.no_loop; some_text = w.in-Ok.ensures.carries.some_text };
-            carries = w.in-Ok.ensures.carries;
-            kept = w.in-Ok.ensures.kept;
-            numbered = w.in-Ok.ensures.stage;
-          })) in
-          let has : HasPlaces P (root_of P start.name) own = subst (λ r. HasPlaces P r own) root w.in-Ok.ensures.places in
-          let g = one-planned P P.stages i d within c.stages.firsts c.stages.compiled w.new.result.machine own (i + 1) refl is has c.stages.invariant.gathered in
-          let compiled = w.compiled-is ∙ w.in_ok-push-in-Ok.ensures.pushed in
-          record {
-            gathered = subst (λ (z : Firsts). Gathered P (take (i + 1) P.stages) z c.match-stage_machine.compiled) (sym w.firsts-is) (subst (λ (z : Plans). Gathered P (take (i + 1) P.stages) c.stages.firsts z) (sym compiled) g);
-            few = omega (arith, ap (λ (z : Plans). z.places) w.compiled-is, w.in_ok-push-in-Ok.ensures.few, c.stages.invariant.few);
-            short = omega (arith, ap (λ (z : Plans). length z.stages) compiled, length-append c.stages.compiled.stages (w.new.result.machine ∷ []), c.stages.invariant.short);
-          }
-      | in-Err+in_ok-note-in-Err w ↦
-          let g = one-refused P P.stages i d within c.stages.firsts c.stages.compiled (i + 1) w.in-Err.why refl w.in_ok-note-in-Err.ensures.rule (subst (λ r. IsWhy P r most_places w.in-Err.why) root w.in-Err.ensures.refused) c.stages.invariant.gathered in
-          let firsts = w.firsts-is ∙ w.in_ok-note-in-Err.ensures.noted in
-          record {
-            gathered = subst (λ (z : Plans). Gathered P (take (i + 1) P.stages) c.match-stage_machine.firsts z) (sym w.compiled-is) (subst (λ (z : Firsts). Gathered P (take (i + 1) P.stages) z c.stages.compiled) (sym firsts) g);
-            few = omega (arith, ap (λ (z : Plans). z.places) w.compiled-is, c.stages.invariant.few);
-            short = omega (arith, ap (λ (z : Plans). length z.stages) w.compiled-is, c.stages.invariant.short);
-          }
-    ]
-
-pub returns-in-Some-clause-refused : goal.returns-in-Some-clause-refused
-returns-in-Some-clause-refused c =
-    all-refused c.args.program.now c.stages.i (subst (λ z. length z ≤ c.stages.i) c.stages-start-items.ensures c.stages-test.false) c.stages.firsts c.stages.compiled c.stages.invariant.gathered c.args.limits.now c.in-Some.refusal (search rules)
+pub returns-in_err-lowered-clause-refused : goal.returns-in_err-lowered-clause-refused
+returns-in_err-lowered-clause-refused c =
+    if_err c.from_residual.result c.in_err-lowered.field-0.0 (λ x. IsUnplanned c.args.limits.now c.args.program.now x) c.from_residual.ensures.1 (c.in_err-lowered.ensures.refused c.args.limits.now)
 
 pub returns-then-stages-gt1-clause-refused : goal.returns-then-stages-gt1-clause-refused
 returns-then-stages-gt1-clause-refused c =
     let P = c.args.program.now in
-    let all : ArePlans P c.stages.compiled = all-planned P c.stages.i (subst (λ z. length z ≤ c.stages.i) c.stages-start-items.ensures c.stages-test.false) c.stages.firsts c.stages.compiled c.stages.invariant.gathered (sym c.least.ensures ∙ none_left c.least.result c.in_default.not-Some) in
-    (all-run P 1 (roots_of P) c.stages.compiled.stages all.stages, c.if-limits.true, subst (λ z. 1 < length z) c.stages-then-limits.ensures c.if-stages-gt1.true)
+    let all = c.in_ok-lowered.ensures.machines in
+    (all-run P 1 (roots_of P) c.in_ok-lowered.lowered.machines all.stages, c.if-limits.true, subst (λ (z : List Start). 1 < length z) c.stages.ensures c.if-stages-gt1.true)
+
+pub returns-in_err-compiled-clause-refused : goal.returns-in_err-compiled-clause-refused
+returns-in_err-compiled-clause-refused c =
+    let P = c.args.program.now in
+    let e = c.in_err-compiled.field-0.0 in
+    let ms = c.in_ok-lowered.lowered.machines in
+    let all = c.in_ok-lowered.ensures.machines in
+    let run : AllRun P = all-run P 1 (roots_of P) ms all.stages in
+    let one : KeepsToOneStage c.args.limits.now P = λ on. elim c.else-limits.branch [
+      | else-limits-via-then-limits+else-stages-gt1 w ↦ subst (λ (z : List Start). length z ≤ 1) w.stages.ensures w.if-stages-gt1.false
+      | else-limits-via-else-limits w ↦ absurd (let f : true ≡ false = sym on ∙ w.if-limits.false in cc)
+    ] in
+    if_err c.from_residual-in_err-compiled.result e (λ x. IsUnplanned c.args.limits.now P x) c.from_residual-in_err-compiled.ensures.1
+    (unplanned_by c.args.limits.now P ms e run one all.stages c.in_err-compiled.ensures.refused)
+
+pub returns-clause-plans : goal.returns-clause-plans
+returns-clause-plans c =
+    let P = c.args.program.now in
+    let all = c.in_ok-lowered.ensures.machines in
+    let ok = c.in_ok-compiled.ensures in
+    record {
+      stages = subst (λ (z : List Graph). AreStages P 1 (roots_of P) z) (sym ok.machines) all.stages;
+      places = subst (λ n. HaveInAll P (roots_of P) n) (sym ok.places) all.places;
+      tables = ok.tables;
+      states = λ on. states_of_stages c.args.limits.now P c.in_ok-compiled.compiled.states 1 (roots_of P) c.in_ok-lowered.lowered.machines all.stages (ok.states on);
+    }
+
+pub returns-clause-states : goal.returns-clause-states
+returns-clause-states c = λ on r i q.
+    none_more c.args.limits.now c.args.program.now c.in_ok-compiled.compiled.states 1 (roots_of c.args.program.now) c.in_ok-lowered.lowered.machines c.in_ok-lowered.ensures.machines.stages (c.in_ok-compiled.ensures.states on) r i q
