@@ -4,13 +4,13 @@ use Rattle.std.proofs.lemmas.List.{take_all, take-append-drop, drop_more, length
 use Rattle.kex_code.specs.declared.symbol.Symbol.{Symbol}
 use Rattle.kex_sst.specs.declared.parts.Part.{Part}
 use Rattle.kex_sst.specs.Parts.{meant}
-use Rattle.kex_sst.specs.Tables.{Transducer, IsTable}
+use Rattle.kex_sst.specs.Tables.{Transducer}
 use Rattle.kex_sst.specs.Passes.{Pass, begun, passes, passes_if, ending}
-use Rattle.kex_sst.proofs.Passing.{passes_more, passes_none, pass_of as pass_of_table}
+use Rattle.kex_sst.proofs.Passing.{passes_more, passes_none}
 use Rattle.kex_runner.specs.declared.answers.Fed.TheVariants.{On, Dead}
 use Rattle.kex_runner.specs.declared.answers.Ended.TheVariants.{Parsed, Cut}
-use Rattle.kex_runner.specs.Following.{Follows, IsPlace, pass_at}
-use Rattle.kex_runner.specs.Running.{Running, pass_of, StopsBehind, HasPassed, IsDead, StandsFor, Feeds, HasNoEnd, Ends, Leads, answer_of}
+use Rattle.kex_runner.specs.Following.{Follows, pass_at}
+use Rattle.kex_runner.specs.Running.{Running, pass_of, StopsBehind, HasPassed, IsDead, StandsFor, Feeds, HasNoEnd, Ends, answer_of}
 use Rattle.kex_runner.proofs.Giving.{take_more}
 
 pub passes_on : (t : Transducer) (w v : List ℕ) (p : Pass) → passes t w ≡ Some p → passes t (w ++ v) ≡ passes_if t (Some p) v
@@ -177,7 +177,3 @@ jumps r state bytes w v c d none s count e =
   where
     no_pass : {p : Pass} → None ≡ Some p → ⊥
     no_pass e = cc
-
--- the state that a text leads to, and its registers, are a place of the table
-pub leads_there : (r : Running) (state bytes : ℕ) → IsTable r.table → Leads r state bytes → IsPlace r.table state []
-leads_there r state bytes table h = let p = pass_of_table r.table table (h.fed ++ h.onward) (pass_at state (h.code ++ h.more) []) h.passes in record { row = p.row; at = p.at; count = p.count }

@@ -93,16 +93,6 @@ pub record Ends (answer : Ended) (old : Running) (before after : List Symbol) : 
 abbrev pub items_taken : Running → List ℕ → ℕ
 items_taken r piece = if r.dead then 0 else items_along r.table r.state piece
 
--- a text leads on to this state without registers, past so many bytes
-pub record Leads (r : Running) (state bytes : ℕ) : Type 0 where
-  pub fed : List ℕ
-  pub onward : List ℕ
-  pub code : List Symbol
-  pub more : List Symbol
-  pub stands : StandsFor r fed code
-  pub count : length onward ≡ bytes
-  pub passes : passes r.table (fed ++ onward) ≡ Some (record { state = state; code = code ++ more; registers = [] })
-
 abbrev pub answer_of : Bool → Fed
 answer_of false = On
 answer_of true = Dead

@@ -3,7 +3,7 @@
 ghost use Rattle.std.specs.Prelude.{◌≡◌, ℕ, ◌+◌, ◌^◌, ◌<◌, ◌≤◌, ◌++◌, [], List, IfOk, OnOk, IsTrue, IsOk, ◌↔◌, true, false, Some, length};
 ghost use Rattle.kex_code.specs.declared.symbol.Symbol.{Symbol};
 ghost use Rattle.kex_sst.specs.Passes.{begun, passes};
-ghost use Rattle.kex_runner.specs.Running.{Ends, Feeds, Leads, StandsFor, items_taken};
+ghost use Rattle.kex_runner.specs.Running.{Ends, Feeds, StandsFor, items_taken};
 ghost use Rattle.kex_runner.specs.Following.{Follows, IsPlace, IsSound, pass_at};
 ghost use Rattle.kex_runner.specs.Items.{items_along};
 
@@ -176,9 +176,19 @@ impl<'t> Runner<'t> {
         }
     }
 
+    /// Whether this is the number of a state of its table that has no registers.
+    pub fn is_bare(&self, state: u32) -> bool
+        ensures { IsTrue result ↔ IsPlace self.now.table state [] }
+    {
+        match self.table.states().get(state as usize) {
+            None => false,
+            Some(row) => row.registers() == 0,
+        }
+    }
+
     /// Goes on to a state without registers, past so many bytes whose code was passed on elsewhere.
     pub fn jump(&mut self, state: u32, bytes: u64)
-        requires leads { Leads self.old state bytes }
+        requires place { IsPlace self.old.table state [] }
         requires told { self.old.pending ≡ [] }
         requires room { self.old.read + bytes < 2 ^ 64 }
         ensures jumped { self.new ≡ record self.old { state = state; registers = []; read = self.old.read + bytes } }

@@ -20,8 +20,9 @@ use Rattle.kex_runner.specs.declared.answers.Fed.{Fed}
 use Rattle.kex_runner.specs.declared.answers.Fed.TheVariants.{On, Dead}
 use Rattle.kex_runner.specs.declared.answers.Ended.TheVariants.{Parsed, Cut}
 use Rattle.kex_runner.proofs.Standing.{stopped_none}
+use Rattle.kex_stage.specs.declared.follower.Follower.{Follower}
 use Rattle.kex_stage.specs.declared.oracle.Oracle.TheVariants.{Table}
-use Rattle.kex_stage.specs.Oracles.{Agrees, HearsOn, Tells, TellsEnd}
+use Rattle.kex_stage.specs.Oracles.{Hears, Agrees, HearsOn, Tells, TellsEnd}
 use Rattle.kex_stage.proofs.Telling.{take_all}
 
 module _ (g : Graph) (t : Transducer) (trimmed : IsTrimmed g) (of : IsTableOf g t) where
@@ -75,36 +76,36 @@ no_end : (t : Transducer) (o : Option Pass) (p : Pass) → o ≡ Some p → HasN
 no_end t o p e h = subst (λ z. HasNoEnd t z) e h
 
 -- what a runner passes on along a piece is told
-pub table_tells : (answer : Fed) (r new : Running) (piece : List ℕ) (count : ℕ) (before after : List Symbol) → new.table ≡ r.table → Feeds answer r new piece before after → new.read ≡ r.read + count → count ≤ length piece → Tells (Table r) (Table new) piece count before after
-table_tells answer r new piece count before after same f read within = record {
+pub table_tells : (answer : Fed) (f0 f1 : Follower) (piece : List ℕ) (count : ℕ) (before after : List Symbol) → f1.moves ≡ f0.moves → f1.runner.table ≡ f0.runner.table → Feeds answer f0.runner f1.runner piece before after → f1.runner.read ≡ f0.runner.read + count → count ≤ length piece → Tells (Table f0) (Table f1) piece count before after
+table_tells answer f0 f1 piece count before after moves same f read within = record {
   more = f.more;
   code = f.code;
   within = within;
-  tells = λ g w c h v. on g w c h.0 h.1 (still_live g r.table h.0 h.1 r w c refl h.2 v) (fed_stands answer new (w ++ piece) (c ++ f.more) (f.fed w c h.2));
+  tells = λ g w c h v. on g w c h.0 h.1 h.2 (still_live g f0.runner.table h.0 h.1 f0.runner w c refl h.3 v) (fed_stands answer f1.runner (w ++ piece) (c ++ f.more) (f.fed w c h.3));
 }
   where
-    on : (g : Graph) (w : List ℕ) (c : List Symbol) → IsTrimmed g → IsTableOf g r.table → HasPassed r w c → StandsFor new (w ++ piece) (c ++ f.more) → HearsOn g (Table new) w piece count (c ++ f.more)
-    on g w c trimmed of was s = ⊎_elim live dead s
+    on : (g : Graph) (w : List ℕ) (c : List Symbol) → IsTrimmed g → IsTableOf g f0.runner.table → f0.moves.table ≡ f0.runner.table → HasPassed f0.runner w c → StandsFor f1.runner (w ++ piece) (c ++ f.more) → HearsOn g (Table f1) w piece count (c ++ f.more)
+    on g w c trimmed of learnt was s = ⊎_elim live dead s
       where
-        of_new : IsTableOf g new.table
+        of_new : IsTableOf g f1.runner.table
         of_new = subst (λ z. IsTableOf g z) (sym same) of
 
-        told : (v : List ℕ) → HasPassed new v (c ++ f.more) → Agrees g v (c ++ f.more)
-        told v h = subst (λ z. Agrees g v z) (ap (λ z. (c ++ f.more) ++ z) f.told ∙ append-nil (c ++ f.more)) (table_agrees g new.table trimmed of_new v (pass_of new (c ++ f.more)) h.passes)
+        told : (v : List ℕ) → HasPassed f1.runner v (c ++ f.more) → Agrees g v (c ++ f.more)
+        told v h = subst (λ z. Agrees g v z) (ap (λ z. (c ++ f.more) ++ z) f.told ∙ append-nil (c ++ f.more)) (table_agrees g f1.runner.table trimmed of_new v (pass_of f1.runner (c ++ f.more)) h.passes)
 
-        live : IsLive new (w ++ piece) (c ++ f.more) → HearsOn g (Table new) w piece count (c ++ f.more)
+        live : IsLive f1.runner (w ++ piece) (c ++ f.more) → HearsOn g (Table f1) w piece count (c ++ f.more)
         live l =
             let all : count ≡ length piece = omega (arith, read, l.1.count, was.count, length-append w piece) in
             let whole : take count piece ≡ piece = ap (λ z. take z piece) all ∙ take_all piece in
             let agrees = told (w ++ piece) l.1 in
             record {
-              hears = λ e. (trimmed, of_new, s);
+              hears = λ e. (trimmed, of_new, ap (λ z. z.table) moves ∙ learnt ∙ sym same, s);
               good = subst (λ z. Viable g (w ++ z)) (sym whole) agrees.agreed.viable;
               bad = λ lt. absurd (omega (arith, lt, all));
               agrees = subst (λ z. Agrees g (w ++ z) (c ++ f.more)) (sym whole) agrees;
             }
 
-        dead : IsDead new (w ++ piece) (c ++ f.more) → HearsOn g (Table new) w piece count (c ++ f.more)
+        dead : IsDead f1.runner (w ++ piece) (c ++ f.more) → HearsOn g (Table f1) w piece count (c ++ f.more)
         dead (d, (v, stop, h)) =
             let long : length v ≡ length w + count = omega (arith, read, h.count, was.count) in
             let less : count < length piece = omega (arith, long, ap length stop.front, length-append w piece, length-append v (stop.byte ∷ stop.rest)) in
@@ -120,25 +121,31 @@ table_tells answer r new piece count before after same f read within = record {
             }
 
 -- what a runner passes on at the end is told
-pub table_ends : (r : Running) (before after : List Symbol) → Ends Parsed r before after → TellsEnd true (Table r) before after
-table_ends r before after e = record {
+pub table_ends : (f : Follower) (before after : List Symbol) → Ends Parsed f.runner before after → TellsEnd true (Table f) before after
+table_ends f before after e = record {
   more = e.more;
   code = e.code;
-  tells = λ g w c h v. let o = e.over w c h.2 in h.1.parsed w o.0 (c ++ e.more) o.1 o.2;
+  tells = λ g w c h v. let o = e.over w c h.3 in h.1.parsed w o.0 (c ++ e.more) o.1 o.2;
 }
 
-pub table_cut : (r : Running) (before after : List Symbol) → Ends Cut r before after → TellsEnd false (Table r) before after
-table_cut r before after e = record {
+pub table_cut : (f : Follower) (before after : List Symbol) → Ends Cut f.runner before after → TellsEnd false (Table f) before after
+table_cut f before after e = record {
   more = e.more;
   code = e.code;
   tells = λ g w c h v.
-      let o = e.over w c h.2 in
-      let live = still_live g r.table h.0 h.1 r w c refl h.2 v in
+      let o = e.over w c h.3 in
+      let live = still_live g f.runner.table h.0 h.1 f.runner w c refl h.3 v in
       let p = o.1 in
       ⊎_elim
       (λ whole.
-      let is : passes r.table w ≡ Some p.pass = ap (λ z. passes r.table z) whole ∙ p.passes in
-      (h.1.cut w p.pass is (no_end r.table (passes r.table w) p.pass is o.0), subst (λ z. Agrees g w z) (sym p.code) (table_agrees g r.table h.0 h.1 w p.pass is)))
+      let is : passes f.runner.table w ≡ Some p.pass = ap (λ z. passes f.runner.table z) whole ∙ p.passes in
+      (h.1.cut w p.pass is (no_end f.runner.table (passes f.runner.table w) p.pass is o.0), subst (λ z. Agrees g w z) (sym p.code) (table_agrees g f.runner.table h.0 h.1 w p.pass is)))
       (λ stop. absurd (h.1.stops w (stopped_none stop) v))
       p.longest;
 }
+
+-- a text on which all was told is agreed
+pub table_told : (f : Follower) (g : Graph) (w : List ℕ) (c : List Symbol) → f.runner.pending ≡ [] → Hears g (Table f) w c → Viable g w → Agrees g w c
+table_told f g w c none h v =
+    let live = still_live g f.runner.table h.0 h.1 f.runner w c refl h.3 v in
+    subst (λ z. Agrees g w z) (ap (λ z. c ++ z) none ∙ append-nil c) (table_agrees g f.runner.table h.0 h.1 w (pass_of f.runner c) live.passes)

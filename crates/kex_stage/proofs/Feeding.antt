@@ -24,14 +24,14 @@ abbrev pub StandsNow : StagePlan → Oracle → Position → Option Stop → Boo
 StandsNow p o a stop over h = StandsFor p o a stop over h × IsTrue true
 
 module _ (p : StagePlan) (o new : Oracle) (a b : Position) (h : Option Fed) (piece front : List ℕ) (count : ℕ) (before after : List ℕ) (op : IsOpen p o a (bytes_of h) (text_of h)) (is : front ≡ take (min (p.limit - read_of o) (length piece)) piece) (w : Works o new a b front count before after) (read : read_of new ≡ read_of o + count) where
-  abbrev text : List ℕ
-  text = text_of h ++ w.more
-
   abbrev fed_to : List ℕ
   fed_to = bytes_of h ++ piece
 
-  on : WorksOn p.machine new b (bytes_of h) front count text
+  abbrev on : WorksOn p.machine new b (bytes_of h) (text_of h) front count before after
   on = w.works p.machine (bytes_of h) (text_of h) op.followed op.good
+
+  abbrev text : List ℕ
+  text = text_of h ++ on.more
 
   long : length front ≡ min (p.limit - read_of o) (length piece)
   long = ap length is ∙ (omega (arith, length-take (min (p.limit - read_of o) (length piece)) piece))
@@ -53,9 +53,9 @@ module _ (p : StagePlan) (o new : Oracle) (a b : Position) (h : Option Fed) (pie
     answer = answer;
     gives = gives;
     stands = ((gives, st, refl, λ x n. let bad : Some s ≡ None = n in cc), refl);
-    added = w.more;
+    added = on.more;
     whole = t;
-    appended = w.written;
+    appended = on.written;
     is_fate = subst (λ z. IsSome z) st refl;
   }
 
@@ -104,9 +104,9 @@ module _ (p : StagePlan) (o new : Oracle) (a b : Position) (h : Option Fed) (pie
           ),
           refl,
         );
-        added = w.more;
+        added = on.more;
         whole = refl;
-        appended = w.written;
+        appended = on.written;
         is_fate = refl;
       }
 

@@ -2,4 +2,5 @@ pub mod Telling
 pub mod ByPaths
 pub mod ByTable
 pub mod Working
+pub mod Following
 pub mod Feeding

@@ -15,13 +15,13 @@ module _ (a b : Position) (start code symbols more : List Symbol) (out new : Lis
 
 pub works : (o new : Oracle) (a b : Position) (piece : List ℕ) (count : ℕ) (start code symbols : List Symbol) (before after : List ℕ) → start ≡ [] → symbols ≡ code → b.machine ≡ a.machine → Tells o new piece count start code → TookAll a b symbols before after → Works o new a b piece count before after
 works o new a b piece count start code symbols before after none same mb h took = record {
-  more = took.went.more;
-  written = took.went.written;
   within = h.within;
   works = λ g w text f v.
       let x = h.tells g w f.code f.hears v in
       let done = performed a b start code symbols h.more before after none same h.code took f.code text f.performed in
       record {
+        more = took.went.more;
+        written = took.went.written;
         followed = λ all. record { code = f.code ++ h.more; hears = x.hears all; performed = done; machine = mb ∙ f.machine };
         good = x.good;
         bad = x.bad;

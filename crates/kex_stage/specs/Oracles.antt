@@ -17,25 +17,30 @@ use Rattle.kex_stage.specs.declared.oracle.Oracle.TheVariants.{Paths, Table}
 -- the oracle was fed w, and has told c
 abbrev pub Hears : Graph → Oracle → List ℕ → List Symbol → Type 0
 Hears g (Paths p) w c = (p.frontier.machine ≡ g) × IsFed p.frontier w c
-Hears g (Table r) w c = IsTrimmed g × IsTableOf g r.table × runs.StandsFor r w c
+Hears g (Table f) w c = IsTrimmed g × IsTableOf g f.runner.table × (f.moves.table ≡ f.runner.table) × runs.StandsFor f.runner w c
 
 -- how many good bytes it has read
 abbrev pub read_of : Oracle → ℕ
 read_of (Paths p) = p.read
-read_of (Table r) = r.read
+read_of (Table f) = f.runner.read
 
 abbrev pub usable_of : Oracle → Bool
 usable_of (Paths p) = p.frontier.usable
-usable_of (Table r) = r.usable
+usable_of (Table f) = f.runner.usable
 
 -- whether it was given the end
 abbrev pub ended_of : Oracle → Bool
 ended_of (Paths p) = p.frontier.ended
-ended_of (Table r) = r.ended
+ended_of (Table f) = f.runner.ended
 
 -- it can be fed
 abbrev pub IsReady : Oracle → Type 0
 IsReady o = IsTrue (usable_of o) × (ended_of o ≡ false)
+
+-- the machine that was learnt, if one was
+abbrev pub learnt_of : Oracle → Graph → Graph
+learnt_of (Paths p) g = g
+learnt_of (Table f) g = f.moves.machine
 
 -- some survivor of w
 abbrev pub HasSurvivor : Graph → List ℕ → Type 0

@@ -14,19 +14,30 @@ pub record Followed (g : Graph) (o : Oracle) (a : Position) (w out : List ℕ) :
   pub performed : HasPerformed a code code out
   pub machine : a.machine ≡ g
 
--- of a piece behind w so many bytes are good, and what is said is written
-pub record WorksOn (g : Graph) (o : Oracle) (a : Position) (w piece : List ℕ) (count : ℕ) (text : List ℕ) : Type 0 where
-  pub followed : count ≡ length piece → Followed g o a (w ++ piece) text
-  pub good : Viable g (w ++ take count piece)
-  pub bad : count < length piece → ¬ Viable g (w ++ take (count + 1) piece)
-  pub says : Says g (w ++ take count piece) text
-
--- oracle and actor went on along a piece
-pub record Works (old new : Oracle) (a b : Position) (piece : List ℕ) (count : ℕ) (before after : List ℕ) : Type 0 where
+-- of a piece behind w, on which text was written, so many bytes are good, and what is said is written
+pub record WorksOn (g : Graph) (o : Oracle) (a : Position) (w text piece : List ℕ) (count : ℕ) (before after : List ℕ) : Type 0 where
   pub more : List ℕ
   pub written : after ≡ before ++ more
+  pub followed : count ≡ length piece → Followed g o a (w ++ piece) (text ++ more)
+  pub good : Viable g (w ++ take count piece)
+  pub bad : count < length piece → ¬ Viable g (w ++ take (count + 1) piece)
+  pub says : Says g (w ++ take count piece) (text ++ more)
+
+-- oracle and actor went along a piece, of which so many bytes are good
+pub record Works (old new : Oracle) (a b : Position) (piece : List ℕ) (count : ℕ) (before after : List ℕ) : Type 0 where
   pub within : count ≤ length piece
-  pub works : (g : Graph) (w out : List ℕ) → Followed g old a w out → Viable g w → WorksOn g new b w piece count (out ++ more)
+  pub works : (g : Graph) (w text : List ℕ) → Followed g old a w text → Viable g w → WorksOn g new b w text piece count before after
+
+-- bytes behind w are good, and more is written
+pub record GoesOn (g : Graph) (o : Oracle) (a : Position) (w text piece before after : List ℕ) : Type 0 where
+  pub more : List ℕ
+  pub written : after ≡ before ++ more
+  pub followed : Followed g o a (w ++ piece) (text ++ more)
+  pub good : Viable g (w ++ piece)
+
+-- oracle and actor went along good bytes
+pub record Goes (old new : Oracle) (a b : Position) (piece before after : List ℕ) : Type 0 where
+  pub goes : (g : Graph) (w text : List ℕ) → Followed g old a w text → Viable g w → GoesOn g new b w text piece before after
 
 -- at the end what w means is written, or what is said on it
 abbrev pub WritesEnd : Bool → Graph → List ℕ → List ℕ → Type 0

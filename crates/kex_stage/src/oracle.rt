@@ -1,63 +1,28 @@
 // The oracle of a stage: a frontier of its machine, or a runner of its table.
 
-ghost use Rattle.std.specs.Prelude.{◌≡◌, ◌+◌, ◌^◌, ◌<◌, ◌≤◌, [], false, IfOk, OnOk, IsTrue, length};
+ghost use Rattle.std.specs.Prelude.{◌≡◌, ◌+◌, ◌^◌, ◌<◌, ◌≤◌, [], IfOk, OnOk, IsTrue, length};
 ghost use Rattle.kex_machine.specs.Answers.{Viable};
-ghost use Rattle.kex_stage.specs.Oracles.{Hears, IsReady, Tells, TellsEnd, read_of};
+ghost use Rattle.kex_machine.specs.Nodes.{Graph};
+ghost use Rattle.kex_stage.specs.Oracles.{Hears, IsReady, TellsEnd, learnt_of, read_of};
+ghost use Rattle.kex_stage.specs.Works.{Finishes, Works};
 
+use crate::follower::Follower;
 use crate::paths::Paths;
 use crate::plan::Plan;
+use crate::speak::speak;
+use kex_action::actor::Actor;
 use kex_code::code::Code;
 use kex_code::memory::Memory;
 use kex_frontier::frontier::Frontier;
-use kex_ports::Steps;
+use kex_moves::moves::Moves;
 use kex_runner::runner::Runner;
 use std::alloc::Global;
-use std::marker::Brand;
-use std::sync::ledger::{Blank, Ledger};
 
 /// Finds the code that the bytes agree on.
 #[derive(Drop)]
 pub enum Oracle<'p> {
     Paths(Paths<'p>),
-    Table(Runner<'p>),
-}
-
-// What the table passes on along a piece is put behind a code. The steps are counted by nobody.
-fn hear_table<L: Ledger>(
-    runner: &mut Runner,
-    piece: &[u8],
-    code: &mut Code,
-    blank: Blank,
-) -> Result<usize, Memory>
-    requires name { blank.name ≡ L.name }
-    requires parts { blank.parts ≡ L.parts }
-    requires some { 0 < L.parts }
-    requires usable { IsTrue runner.old.usable }
-    requires open { runner.old.ended ≡ false }
-    requires room { runner.old.read + length piece.now < 2 ^ 64 }
-    ensures tells { IfOk result (λ count. Tells (Oracle.Table runner.old) (Oracle.Table runner.new) piece.now count code.old code.new) }
-    ensures read { IfOk result (λ count. runner.new.read ≡ runner.old.read + count) }
-    ensures within { runner.new.read ≤ runner.old.read + length piece.now }
-    ensures usable { OnOk result (IsTrue runner.new.usable) }
-    ensures open { runner.new.ended ≡ false }
-{
-    let mut steps = Steps::<L>::new(blank);
-    let before = runner.read();
-    let _fed = runner.feed(piece, code, &mut steps)?;
-    Ok((runner.read() - before) as usize)
-}
-
-// Whether the table ends, and what is passed on then is put behind a code.
-fn end_table(runner: &mut Runner, code: &mut Code) -> Result<bool, Memory>
-    requires usable { IsTrue runner.old.usable }
-    requires open { runner.old.ended ≡ false }
-    ensures tells { IfOk result (λ parsed. TellsEnd parsed (Oracle.Table runner.old) code.old code.new) }
-    ensures read { runner.new.read ≡ runner.old.read }
-{
-    Ok(match runner.end(code)? {
-        kex_runner::Ended::Parsed => true,
-        kex_runner::Ended::Cut => false,
-    })
+    Table(Follower<'p>),
 }
 
 impl<'p> Oracle<'p> {
@@ -65,13 +30,15 @@ impl<'p> Oracle<'p> {
     pub fn new(alloc: Global, plan: &'p Plan) -> Result<Oracle<'p>, Memory>
         ensures hears { IfOk result (λ o. Hears plan.now.machine o [] []) }
         ensures good { IfOk result (λ o. Viable plan.now.machine []) }
+        ensures learnt { IfOk result (λ o. learnt_of o plan.now.machine ≡ plan.now.machine) }
         ensures ready { IfOk result (λ o. IsReady o × (read_of o ≡ 0)) }
     {
         let machine = plan.machine();
-        match plan.table() {
+        match plan.shortest_table() {
             Some(table) => {
                 let runner = Runner::new(alloc, table)?;
-                Ok(Oracle::Table(runner))
+                let moves = Moves::new(alloc, table, machine)?;
+                Ok(Oracle::Table(Follower { runner, moves }))
             }
             None => {
                 let frontier = Frontier::new(alloc, machine)?;
@@ -86,35 +53,66 @@ impl<'p> Oracle<'p> {
     {
         match self {
             Oracle::Paths(paths) => paths.read,
-            Oracle::Table(runner) => runner.read(),
+            Oracle::Table(follower) => follower.runner.read(),
         }
     }
 
-    /// Takes a piece, and puts what is agreed behind a code. Tells how many bytes are good: all, or those before one with which
-    /// no parse begins.
-    pub fn hear(&mut self, piece: &[u8], code: &mut Code) -> Result<usize, Memory>
+    /// Takes a piece, and writes what is said. Tells how many bytes are good: all, or those before one with which no parse
+    /// begins. What the code held is cleared.
+    pub fn go_on(
+        &mut self,
+        actor: &mut Actor<'p>,
+        piece: &[u8],
+        code: &mut Code,
+        out: &mut Vec<u8>,
+    ) -> Result<usize, Memory>
         requires ready { IsReady self.old }
+        requires actor { IsTrue actor.old.usable }
+        requires learnt { learnt_of self.old actor.old.machine ≡ actor.old.machine }
         requires room { read_of self.old + length piece.now < 2 ^ 64 }
-        ensures tells { IfOk result (λ count. Tells self.old self.new piece.now count code.old code.new) }
+        ensures works { IfOk result (λ count. Works self.old self.new actor.old actor.new piece.now count out.old.items out.new.items) }
         ensures read { IfOk result (λ count. read_of self.new ≡ read_of self.old + count) }
         ensures within { read_of self.new ≤ read_of self.old + length piece.now }
-        ensures ready { OnOk result (IsReady self.new) }
+        ensures machine { actor.new.machine ≡ actor.old.machine }
+        ensures learnt { learnt_of self.new actor.new.machine ≡ actor.new.machine }
+        ensures ready { OnOk result (IsReady self.new × IsTrue actor.new.usable) }
     {
         match self {
-            Oracle::Paths(paths) => paths.hear(piece, code),
-            Oracle::Table(runner) => hear_table::<Brand>(runner, piece, code, Blank::new(1)),
+            Oracle::Paths(paths) => paths.go_on(actor, piece, code, out),
+            Oracle::Table(follower) => follower.go_on(actor, piece, code, out),
         }
     }
 
-    /// Takes the end, and puts the rest of the code behind a code. Tells whether the bytes have a parse.
-    pub fn end(&mut self, code: &mut Code) -> Result<bool, Memory>
+    // Takes the end, and puts the rest of the code behind a code. Tells whether the bytes have a parse.
+    fn end(&mut self, code: &mut Code) -> Result<bool, Memory>
         requires ready { IsReady self.old }
         ensures tells { IfOk result (λ parsed. TellsEnd parsed self.old code.old code.new) }
         ensures read { read_of self.new ≡ read_of self.old }
+        ensures learnt { (m : Graph) → learnt_of self.new m ≡ learnt_of self.old m }
     {
         match self {
             Oracle::Paths(paths) => paths.end(code),
-            Oracle::Table(runner) => end_table(runner, code),
+            Oracle::Table(follower) => follower.end(code),
         }
+    }
+
+    /// Takes the end, and writes the rest. Tells whether the bytes have a parse. What the code held is cleared.
+    pub fn finish(
+        &mut self,
+        actor: &mut Actor,
+        code: &mut Code,
+        out: &mut Vec<u8>,
+    ) -> Result<bool, Memory>
+        requires ready { IsReady self.old }
+        requires actor { IsTrue actor.old.usable }
+        ensures finishes { IfOk result (λ parsed. Finishes parsed self.old actor.old out.old.items out.new.items) }
+        ensures read { read_of self.new ≡ read_of self.old }
+        ensures machine { actor.new.machine ≡ actor.old.machine }
+        ensures learnt { (m : Graph) → learnt_of self.new m ≡ learnt_of self.old m }
+    {
+        code.clear();
+        let parsed = self.end(code)?;
+        speak(actor, code.as_slice(), out)?;
+        Ok(parsed)
     }
 }

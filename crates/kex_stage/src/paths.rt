@@ -2,8 +2,11 @@
 
 ghost use Rattle.std.specs.Prelude.{◌≡◌, ◌+◌, ◌^◌, ◌<◌, ◌≤◌, false, IfOk, OnOk, IsTrue, length};
 ghost use Rattle.kex_stage.specs.Oracles.{Reads, Tells, TellsEnd, is_parsed};
+ghost use Rattle.kex_stage.specs.Works.{Works};
 
 use crate::oracle::Oracle;
+use crate::speak::speak;
+use kex_action::actor::Actor;
 use kex_code::code::Code;
 use kex_code::memory::Memory;
 use kex_frontier::frontier::{Ended, Fed, Frontier};
@@ -45,8 +48,8 @@ fn is_parsed(ended: Ended) -> bool
 }
 
 impl<'p> Paths<'p> {
-    /// Puts what the paths agree on along a piece behind a code, and tells how many bytes are good.
-    pub fn hear(&mut self, piece: &[u8], code: &mut Code) -> Result<usize, Memory>
+    // Puts what the paths agree on along a piece behind a code, and tells how many bytes are good.
+    fn hear(&mut self, piece: &[u8], code: &mut Code) -> Result<usize, Memory>
         requires usable { IsTrue self.old.frontier.usable }
         requires open { self.old.frontier.ended ≡ false }
         requires room { self.old.read + length piece.now < 2 ^ 64 }
@@ -74,5 +77,30 @@ impl<'p> Paths<'p> {
         let told = self.frontier.take_code();
         code.append(told.as_slice())?;
         Ok(is_parsed(ended))
+    }
+
+    /// Takes a piece, and writes what is said. Tells how many bytes are good.
+    pub fn go_on(
+        &mut self,
+        actor: &mut Actor,
+        piece: &[u8],
+        code: &mut Code,
+        out: &mut Vec<u8>,
+    ) -> Result<usize, Memory>
+        requires usable { IsTrue self.old.frontier.usable }
+        requires open { self.old.frontier.ended ≡ false }
+        requires actor { IsTrue actor.old.usable }
+        requires room { self.old.read + length piece.now < 2 ^ 64 }
+        ensures works { IfOk result (λ count. Works (Oracle.Paths self.old) (Oracle.Paths self.new) actor.old actor.new piece.now count out.old.items out.new.items) }
+        ensures read { IfOk result (λ count. self.new.read ≡ self.old.read + count) }
+        ensures within { self.new.read ≤ self.old.read + length piece.now }
+        ensures usable { OnOk result (IsTrue self.new.frontier.usable × IsTrue actor.new.usable) }
+        ensures open { self.new.frontier.ended ≡ false }
+        ensures machine { actor.new.machine ≡ actor.old.machine }
+    {
+        code.clear();
+        let count = self.hear(piece, code)?;
+        speak(actor, code.as_slice(), out)?;
+        Ok(count)
     }
 }

@@ -2,12 +2,11 @@
 
 ghost use Rattle.std.specs.Prelude.{◌≡◌, ◌≤◌, true, false, IfOk, IsTrue, Some, None, min, take, length};
 ghost use Rattle.kex_machine.proofs.Standing.{one_answer, grows, stays, ends};
-ghost use Rattle.kex_stage.specs.Oracles.{IsReady, read_of};
+ghost use Rattle.kex_stage.specs.Oracles.{IsReady, learnt_of, read_of};
 ghost use Rattle.kex_stage.specs.Stages.{Gives, StagePlan, StandsFor, end_stop, fate_of, stop_after};
 
 use crate::oracle::Oracle;
 use crate::plan::Plan;
-use crate::work::{finish, go_on};
 use kex_action::actor::Actor;
 use kex_code::code::Code;
 use kex_code::memory::Memory;
@@ -25,6 +24,7 @@ pub struct Stage<'p> {
     stop: Option<Stop>,
     over: bool,
     usable: bool,
+    ghost one_machine: { learnt_of oracle actor.machine ≡ actor.machine },
     ghost within: { read_of oracle ≤ limit },
     ghost usable_parts: { usable ≡ true → stop ≡ None → over ≡ false → IsReady oracle × IsTrue actor.usable },
 }
@@ -84,13 +84,9 @@ impl<'p> Turn for Stage<'p> {
         }
         self.usable = false;
         let front = front_of(piece, self.limit - self.oracle.read());
-        let count = go_on(
-            &mut self.oracle,
-            &mut self.actor,
-            front,
-            &mut self.code,
-            out,
-        )?;
+        let count = self
+            .oracle
+            .go_on(&mut self.actor, front, &mut self.code, out)?;
         let stop = stop_after(
             self.oracle.read(),
             count < front.len(),
@@ -110,7 +106,7 @@ impl<'p> Turn for Stage<'p> {
             return Ok(Fate::Stopped);
         }
         self.usable = false;
-        let parsed = finish(&mut self.oracle, &mut self.actor, &mut self.code, out)?;
+        let parsed = self.oracle.finish(&mut self.actor, &mut self.code, out)?;
         let stop = end_stop(parsed, self.oracle.read());
         self.stop = stop;
         self.usable = true;

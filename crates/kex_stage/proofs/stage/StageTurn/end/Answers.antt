@@ -16,9 +16,9 @@ returns-clause-feeds c = λ h stands e.
     let p : StagePlan = record { machine = s.actor.machine; limit = s.limit } in
     let none : s.stop ≡ None = search rules in
     let open_ = open_of p s.oracle s.actor s.stop s.over h stands.0 e none in
-    let stop : c.end_stop-stop.result ≡ end_stop c.in_ok-parsed.parsed (read_of c.finish.new.oracle) = c.end_stop-stop.ensures ∙ ap (λ z. end_stop c.in_ok-parsed.parsed z) c.read.ensures in
-    let more = end_more p s.oracle c.finish.new.oracle s.actor c.finish.new.actor h c.args.out.now.items c.finish.new.out.items open_ c.in_ok-parsed.ensures.read c.in_ok-parsed.parsed c.in_ok-parsed.ensures.finishes in
-    let F : Option Stop → Fate → Graph → Type 0 = λ stop fate m. Feeds (λ w x b. Gives p w x b) (λ k. StandsFor (record { machine = m; limit = s.limit }) c.finish.new.oracle c.finish.new.actor stop true k × IsTrue true) h (bytes_of h) true c.args.out.now.items c.finish.new.out.items fate in
+    let stop : c.end_stop-stop.result ≡ end_stop c.in_ok-parsed.parsed (read_of c.finish.new.self) = c.end_stop-stop.ensures ∙ ap (λ z. end_stop c.in_ok-parsed.parsed z) c.read.ensures in
+    let more = end_more p s.oracle c.finish.new.self s.actor c.finish.new.actor h c.args.out.now.items c.finish.new.out.items open_ c.in_ok-parsed.ensures.read c.in_ok-parsed.parsed c.in_ok-parsed.ensures.finishes in
+    let F : Option Stop → Fate → Graph → Type 0 = λ stop fate m. Feeds (λ w x b. Gives p w x b) (λ k. StandsFor (record { machine = m; limit = s.limit }) c.finish.new.self c.finish.new.actor stop true k × IsTrue true) h (bytes_of h) true c.args.out.now.items c.finish.new.out.items fate in
     let stopped = subst (λ z. F z (fate_of z) s.actor.machine) (sym stop) more in
     let machine = subst (λ m. F c.end_stop-stop.result (fate_of c.end_stop-stop.result) m) (sym c.in_ok-parsed.ensures.machine) stopped in
     subst (λ z. F c.end_stop-stop.result z c.finish.new.actor.machine) (sym c.fate_of-2.ensures) machine

@@ -21,13 +21,13 @@ returns-clause-feeds c = λ h stands e.
     let front : c.front_of-front.result.now ≡ take (min (s.limit - read_of s.oracle) (length c.args.piece.now)) c.args.piece.now = c.front_of-front.ensures ∙ ap (λ z. take (min (s.limit - z) (length c.args.piece.now)) c.args.piece.now) c.read.ensures in
     let refused : Bool = nat_lt c.in_ok-count.count (length c.front_of-front.result.now) in
     let past : Bool = nat_lt (length c.front_of-front.result.now) (length c.args.piece.now) in
-    let stop : c.stop_after-stop.result ≡ stop_after (read_of c.go_on.new.oracle) refused past = c.stop_after-stop.ensures ∙ ap (λ z. stop_after z refused past) c.read-2.ensures in
-    let more = feed_more p s.oracle c.go_on.new.oracle s.actor c.go_on.new.actor h c.args.piece.now c.front_of-front.result.now c.in_ok-count.count c.args.out.now.items c.go_on.new.out.items open_ front c.in_ok-count.ensures.works c.in_ok-count.ensures.read refused past
+    let stop : c.stop_after-stop.result ≡ stop_after (read_of c.go_on.new.self) refused past = c.stop_after-stop.ensures ∙ ap (λ z. stop_after z refused past) c.read-2.ensures in
+    let more = feed_more p s.oracle c.go_on.new.self s.actor c.go_on.new.actor h c.args.piece.now c.front_of-front.result.now c.in_ok-count.count c.args.out.now.items c.go_on.new.out.items open_ front c.in_ok-count.ensures.works c.in_ok-count.ensures.read refused past
     (λ t. ltb-true c.in_ok-count.count (length c.front_of-front.result.now) t)
     (λ t. ltb-false c.in_ok-count.count (length c.front_of-front.result.now) t)
     (λ t. ltb-true (length c.front_of-front.result.now) (length c.args.piece.now) t)
     (λ t. ltb-false (length c.front_of-front.result.now) (length c.args.piece.now) t) in
-    let F : Option Stop → Bool → Fate → Graph → Type 0 = λ stop over fate m. Feeds (λ w x b. Gives p w x b) (λ k. StandsFor (record { machine = m; limit = s.limit }) c.go_on.new.oracle c.go_on.new.actor stop over k × IsTrue true) h (bytes_of h ++ c.args.piece.now) false c.args.out.now.items c.go_on.new.out.items fate in
+    let F : Option Stop → Bool → Fate → Graph → Type 0 = λ stop over fate m. Feeds (λ w x b. Gives p w x b) (λ k. StandsFor (record { machine = m; limit = s.limit }) c.go_on.new.self c.go_on.new.actor stop over k × IsTrue true) h (bytes_of h ++ c.args.piece.now) false c.args.out.now.items c.go_on.new.out.items fate in
     let stopped = subst (λ z. F z false (fate_of z) s.actor.machine) (sym stop) more in
     let machine = subst (λ m. F c.stop_after-stop.result false (fate_of c.stop_after-stop.result) m) (sym c.in_ok-count.ensures.machine) stopped in
     let fate = subst (λ z. F c.stop_after-stop.result false z c.go_on.new.actor.machine) (sym c.fate_of-2.ensures) machine in
