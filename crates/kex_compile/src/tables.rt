@@ -42,7 +42,7 @@ fn plan(
     match determine(alloc, &machine, limits.states) {
         Ok(table) => {
             let states = table.states().len() as u32;
-            let plan = Plan::new(machine, Some(table));
+            let plan = Plan::new(machine, Some(table)).shorten(alloc)?;
             Ok(Planned { plan, states })
         }
         Err(DetRefusal::TooManyStates { seen: _ }) => Err(PlanRefusal::TooManyStates(stage)),
