@@ -17,7 +17,7 @@ use kex_sst::parts::{Part, Parts, Update};
 use std::alloc::Global;
 use std::marker::Model;
 
-/// The tree of the survivors of a text, with the codes left out.
+/// The tree of the survivors of a text, with the codes left out: a path tree of the Kleenex paper (POPL 2016).
 #[derive(Drop)]
 pub struct PathTree<'m> {
     machine: &'m Trimmed,
@@ -163,7 +163,7 @@ pub fn gather<'m>(
 {
     let mut shape = Vec::new(alloc);
     let mut leaves = Vec::new(alloc);
-    let mut regs = Vec::new(alloc);
+    let mut regs = Vec::with_capacity(alloc, edges.len())?;
     let mut pending = Vec::new(alloc);
     add_knot(root.knot, &mut shape, &mut leaves, &mut pending)?;
     while let Some(number) = pending.pop() {

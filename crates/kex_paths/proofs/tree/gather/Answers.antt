@@ -12,7 +12,7 @@ loop-number-init c = λ a h.
     let shape : c.add_knot.new.shape.items ≡ is_inner c.args.root.now.knot ∷ [] = c.in_ok-add_knot.ensures.shape ∙ ap (λ z. z ++ is_inner c.args.root.now.knot ∷ []) c.new-shape.ensures.items in
     let leaves : c.add_knot.new.leaves.items ≡ tip_in c.args.root.now.knot = c.in_ok-add_knot.ensures.leaves ∙ ap (λ z. z ++ tip_in c.args.root.now.knot) c.new-leaves.ensures.items in
     let pending : c.add_knot.new.pending.items ≡ edges_from c.args.root.now.knot = c.in_ok-add_knot.ensures.pending ∙ ap (λ z. z ++ edges_from c.args.root.now.knot) c.new-pending.ensures.items in
-    spelled_as c.args.edges.now a (is_inner c.args.root.now.knot ∷ []) c.add_knot.new.shape.items (tip_in c.args.root.now.knot) c.add_knot.new.leaves.items [] c.new-regs.result.items (edges_from c.args.root.now.knot) c.add_knot.new.pending.items shape leaves c.new-regs.ensures.items pending (spelled_start c.args.edges.now c.args.root.now a h)
+    spelled_as c.args.edges.now a (is_inner c.args.root.now.knot ∷ []) c.add_knot.new.shape.items (tip_in c.args.root.now.knot) c.add_knot.new.leaves.items [] c.in_ok-regs.regs.items (edges_from c.args.root.now.knot) c.add_knot.new.pending.items shape leaves c.in_ok-regs.ensures.items pending (spelled_start c.args.edges.now c.args.root.now a h)
 
 -- what is spelled, with the edge that is the next
 spelled : (c : In-Some) (a : Grown Part ℕ) → IsBranch c.args.edges.now (Some c.args.root.now) (Some a) → IsSpelled c.args.edges.now a c.loop-number.shape.items c.loop-number.leaves.items c.loop-number.regs.items (c.pop.new.self.items ++ c.in-Some.number ∷ [])
