@@ -126,11 +126,11 @@ if_ok_both P Q R (Err e) f p q = tt
 abbrev pub GoesOnFor : Graph → Outline → ℕ → Option (Outline × Change) → Type 0
 GoesOnFor g old class r = (s : Shape ℕ) (b : ℕ) → IsOfShape old s → HasClass g class b → GoesOnTo g b s r
 
-abbrev pub ShowsFor : Graph → Outline → ℕ → Option (Outline × Change) → Type 0
-ShowsFor g old class r = (w : List ℕ) (c : List Symbol) (t : Labelled Symbol ℕ) (b : ℕ) → HasTree (node_moves g.nodes) g.start w c t → IsOfShape old (shape_of t) → HasClass g class b → MatchOption r (¬ Viable g (w ++ b ∷ [])) (λ n. ShowsNext n.0 n.1 b w c t)
+abbrev pub ShowsOver : Graph → Outline → ℕ → Option (Outline × Change) → Type 0
+ShowsOver g old class r = (w : List ℕ) (c : List Symbol) (t : Labelled Symbol ℕ) (b : ℕ) → HasTree (node_moves g.nodes) g.start w c t → IsOfShape old (shape_of t) → HasClass g class b → MatchOption r (¬ Viable g (w ++ b ∷ [])) (λ n. ShowsNext n.0 n.1 b w c t)
 
 pub goes_on_for : (g : Graph) (old : Outline) (class byte : ℕ) (inner : List Bool) (places : List ℕ) (r : Option (Outline × Change)) → ((b : ℕ) → HasClass g class b → LeadAlike (node_moves g.nodes) byte b) → inner ≡ old.shape → places ≡ old.leaves → IfSome r (λ n. n.0.machine ≡ g) → GoesOnBy g inner places byte r → GoesOnFor g old class r
 goes_on_for g old class byte inner places r lead e f same goes = λ s b is has. all_bytes g byte b s r (lead b has) same (goes s (e ∙ is.0, f ∙ is.1))
 
-pub shows_for : (g : Graph) → IsTrimmed g → (old : Outline) (class : ℕ) (r : Option (Outline × Change)) → IfSome r (λ n. n.0.machine ≡ g) → GoesOnFor g old class r → ShowsFor g old class r
+pub shows_for : (g : Graph) → IsTrimmed g → (old : Outline) (class : ℕ) (r : Option (Outline × Change)) → IfSome r (λ n. n.0.machine ≡ g) → GoesOnFor g old class r → ShowsOver g old class r
 shows_for g trimmed old class r same goes = λ w c t b has is in_class. shows_next g trimmed w c t b r has same (goes (shape_of t) b is in_class)

@@ -1,11 +1,12 @@
 -- How a path tree goes on with a byte, from its shape alone: old registers stand for the labels of its edges.
-use Rattle.std.specs.Prelude.{◌≡◌, ℕ, suc, ◌<◌, ◌≤◌, Bool, true, false, List, [], ◌∷◌, ◌++◌, Option, Some, map, length, replicate}
+use Rattle.std.specs.Prelude.{◌≡◌, ℕ, suc, ◌<◌, ◌≤◌, Bool, true, false, List, [], ◌∷◌, ◌++◌, Option, Some, map, length, replicate, MatchOption}
 use Rattle.kex_byteset.specs.Classes.{class_at}
 use Rattle.kex_code.specs.declared.symbol.Symbol.{Symbol}
 use Rattle.kex_model.specs.Moves.{Move}
 use Rattle.kex_model.specs.Labelled.{Labelled, labels_of, Shape, place, parts, shape_of, Grown}
 use Rattle.kex_model.specs.Survivors.{HasTree}
 use Rattle.kex_machine.specs.Nodes.{Graph, node_moves, HasClasses}
+use Rattle.kex_machine.specs.Answers.{Viable}
 use Rattle.kex_machine.specs.Advancing.{Visits, Advances}
 use Rattle.kex_sst.specs.declared.parts.Part.{Part}
 use Rattle.kex_sst.specs.declared.parts.Part.TheVariants.{Put, Input}
@@ -78,6 +79,11 @@ ShowsFirst t u = (x : List Symbol) × (tree : Labelled Symbol ℕ) × Shows t u 
 -- update passes on what is agreed on besides
 abbrev pub ShowsNext : Outline → Change → ℕ → List ℕ → List Symbol → Labelled Symbol ℕ → Type 0
 ShowsNext t u b w c old = (x : List Symbol) × (tree : Labelled Symbol ℕ) × Shows t u b (labels_of old) x tree × HasTree (node_moves t.machine.nodes) t.machine.start (w ++ b ∷ []) (c ++ x) tree
+
+-- what comes of a path tree by a class: for each text of whose tree it has the shape, and each byte of the class, a tree
+-- that shows the tree of the longer text, and none where that isn't viable
+abbrev pub ShowsFor : Outline → ℕ → Option (Outline × Change) → Type 0
+ShowsFor old class r = (w : List ℕ) (c : List Symbol) (t : Labelled Symbol ℕ) (b : ℕ) → HasTree (node_moves old.machine.nodes) old.machine.start w c t → IsOfShape old (shape_of t) → HasClass old.machine class b → MatchOption r (¬ Viable old.machine (w ++ b ∷ [])) (λ n. ShowsNext n.0 n.1 b w c t)
 
 -- the numbers rise, from lo on and below hi: so each stands there at most once
 abbrev pub RiseWithin : ℕ → ℕ → List ℕ → Type 0

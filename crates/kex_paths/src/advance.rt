@@ -1,12 +1,8 @@
 // How path trees begin, and go on with a byte.
 
-ghost use Rattle.std.specs.Prelude.{◌≡◌, ℕ, ◌++◌, ◌∷◌, [], List, Some, None, IfOk, IfSome, MatchOption};
-ghost use Rattle.kex_code.specs.declared.symbol.Symbol.{Symbol};
-ghost use Rattle.kex_model.specs.Labelled.{Labelled, Shape, shape_of};
-ghost use Rattle.kex_model.specs.Survivors.{HasTree};
-ghost use Rattle.kex_machine.specs.Nodes.{node_moves};
-ghost use Rattle.kex_machine.specs.Answers.{Viable};
-ghost use Rattle.kex_paths.specs.Nexts.{IsOfShape, HasClass, IsNext, Begins, Follows, ShowsFirst, ShowsNext};
+ghost use Rattle.std.specs.Prelude.{◌≡◌, ℕ, None, IfOk, IfSome, MatchOption};
+ghost use Rattle.kex_model.specs.Labelled.{Shape};
+ghost use Rattle.kex_paths.specs.Nexts.{IsOfShape, HasClass, IsNext, Begins, Follows, ShowsFirst, ShowsFor};
 
 use crate::tree::{PathTree, gather};
 use crate::walk::{Tools, Work, walk};
@@ -47,7 +43,7 @@ impl<'m> PathTree<'m> {
     ) -> Result<Option<(PathTree<'m>, Update)>, Memory>
         ensures machine { IfOk result (λ r. IfSome r (λ n. n.0.machine ≡ self.now.machine)) }
         ensures next { IfOk result (λ r. (s : Shape ℕ) (b : ℕ) → IsOfShape self.now s → HasClass self.now.machine class b → MatchOption r (IsNext self.now.machine b s None) (λ n. Follows n.0 b s n.1)) }
-        ensures shows { IfOk result (λ r. (w : List ℕ) (c : List Symbol) (t : Labelled Symbol ℕ) (b : ℕ) → HasTree (node_moves self.now.machine.nodes) self.now.machine.start w c t → IsOfShape self.now (shape_of t) → HasClass self.now.machine class b → MatchOption r (¬ Viable self.now.machine (w ++ b ∷ [])) (λ n. ShowsNext n.0 n.1 b w c t)) }
+        ensures shows { IfOk result (λ r. ShowsFor self.now class r) }
     {
         let mut workspace = Workspace::new(alloc, self.machine())?;
         self.advance_with(&mut workspace, class)
@@ -63,7 +59,7 @@ impl<'m> PathTree<'m> {
         requires { workspace.old ≡ self.now.machine }
         ensures machine { IfOk result (λ r. IfSome r (λ n. n.0.machine ≡ self.now.machine)) }
         ensures next { IfOk result (λ r. (s : Shape ℕ) (b : ℕ) → IsOfShape self.now s → HasClass self.now.machine class b → MatchOption r (IsNext self.now.machine b s None) (λ n. Follows n.0 b s n.1)) }
-        ensures shows { IfOk result (λ r. (w : List ℕ) (c : List Symbol) (t : Labelled Symbol ℕ) (b : ℕ) → HasTree (node_moves self.now.machine.nodes) self.now.machine.start w c t → IsOfShape self.now (shape_of t) → HasClass self.now.machine class b → MatchOption r (¬ Viable self.now.machine (w ++ b ∷ [])) (λ n. ShowsNext n.0 n.1 b w c t)) }
+        ensures shows { IfOk result (λ r. ShowsFor self.now class r) }
         ensures same { workspace.new ≡ workspace.old }
     {
         match workspace.sample(class) {

@@ -2,7 +2,7 @@ use Rattle.std.proofs.Common.{◌≡◌, sym, subst}
 use Rattle.std.specs.Prelude.{IfOk, IfSome}
 use Rattle.kex_paths.specs.Nexts.{HasClass}
 use Rattle.kex_paths.specs.Spellings.{IsSound}
-use Rattle.kex_paths.proofs.Doing.{GoesOnBy, GoesOnFor, ShowsFor, goes_on_for, shows_for, if_ok_both}
+use Rattle.kex_paths.proofs.Doing.{GoesOnBy, GoesOnFor, ShowsOver, goes_on_for, shows_for, if_ok_both}
 use Rattle.kex_paths.proofs.tree.PathTree.advance_with.Goals as goal
 
 pub advance-requires : goal.advance-requires
@@ -28,7 +28,7 @@ returns-in-Some-clause-next c =
 pub returns-in-Some-clause-shows : goal.returns-in-Some-clause-shows
 returns-in-Some-clause-shows c =
     let g = c.args.workspace.now in
-    subst (λ z. IfOk c.advance.result (ShowsFor z c.args.self.now c.args.class)) c.requires
-    (if_ok_both (λ r. IfSome r (λ n. n.0.machine ≡ g)) (GoesOnBy g c.shape.result.now c.leaves.result.now c.in-Some.byte) (ShowsFor g c.args.self.now c.args.class) c.advance.result
+    subst (λ z. IfOk c.advance.result (ShowsOver z c.args.self.now c.args.class)) c.requires
+    (if_ok_both (λ r. IfSome r (λ n. n.0.machine ≡ g)) (GoesOnBy g c.shape.result.now c.leaves.result.now c.in-Some.byte) (ShowsOver g c.args.self.now c.args.class) c.advance.result
     (λ r same goes. shows_for g c.advance.ensures.trimmed c.args.self.now c.args.class r same (goes_on_for g c.args.self.now c.args.class c.in-Some.byte c.shape.result.now c.leaves.result.now r c.in-Some.ensures c.shape.ensures.same c.leaves.ensures same goes))
     c.advance.ensures.machine c.advance.ensures.next)
