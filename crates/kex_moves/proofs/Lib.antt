@@ -1,5 +1,6 @@
 mod Drafting
 mod Going
+mod Keeping
 mod Knowing
 mod Learning
 mod Putting

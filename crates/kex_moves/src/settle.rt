@@ -6,7 +6,7 @@ ghost use Rattle.kex_machine.specs.Nodes.{node_moves, effect_of};
 ghost use Rattle.kex_action.specs.Holdings.{adding};
 ghost use Rattle.kex_action.specs.Actions.{passing, done_at, done};
 ghost use Rattle.kex_moves.specs.Known.{HasPlace, IsOrdered, Settles, Lengthens};
-ghost use Rattle.kex_moves.specs.Drafts.{IsDraft, Drafts};
+ghost use Rattle.kex_moves.specs.Drafts.{IsDraft, Drafts, IsTurn, Keeps};
 
 use crate::edge::Edge;
 use crate::edges::Edges;
@@ -135,6 +135,66 @@ fn text_of(
     }
     Ok(Some(draft.place))
 }
+// What an action does to the buffers.
+#[derive(Clone, Copy, Debug, PartialEq, Eq)]
+enum Turn {
+    Writes,
+    Opens,
+    Drops,
+    Other,
+}
+
+// What an action does to the buffers.
+fn turn_of(machine: &Trimmed, action: Action) -> Turn
+    ensures { (b : ℕ) (z : State) → IsTurn result z (done_at machine.now.nodes b action z) }
+{
+    match action {
+        Action::Byte => Turn::Writes,
+        Action::Node(n) => match effect_at(machine, n) {
+            Some(Effect::Lit(_)) => Turn::Writes,
+            Some(Effect::Open) => Turn::Opens,
+            Some(Effect::Drop) => Turn::Drops,
+            _ => Turn::Other,
+        },
+    }
+}
+
+// Adds an action to those that are kept. At a place of these a buffer may have been opened into which all was written
+// that was done since: where it is dropped, nothing from there on is kept. Tells that place, if there is one.
+fn keep(
+    machine: &Trimmed,
+    action: Action,
+    kept: &mut Vec<Action>,
+    place: Option<usize>,
+) -> Result<Option<usize>, Memory>
+    ensures { IfOk result (λ new. (b : ℕ) (s z : State) → Keeps machine.now.nodes kept.old.items place b s z → Keeps machine.now.nodes kept.new.items new b s (done_at machine.now.nodes b action z)) }
+{
+    let end = kept.len();
+    let new = match (turn_of(machine, action), place) {
+        (Turn::Drops, Some(at)) => {
+            kept.truncate(at);
+            return Ok(None);
+        }
+        (Turn::Opens, _) => Some(end),
+        (Turn::Writes, Some(at)) => Some(at),
+        _ => None,
+    };
+    kept.push(action)?;
+    Ok(new)
+}
+
+// The actions without those that only fill a buffer that is opened and dropped among them.
+fn kept_of(alloc: Global, machine: &Trimmed, actions: &[Action]) -> Result<Vec<Action>, Memory>
+    ensures { IfOk result (λ kept. (b : ℕ) (s : State) → done machine.now.nodes b actions.now s ≡ done machine.now.nodes b kept.items s) }
+{
+    let mut kept = Vec::new(alloc);
+    let mut place = None;
+    for action in actions {
+        place = keep(machine, *action, &mut kept, place)?;
+    }
+    Ok(kept)
+}
+
 /// The edge to `next` that does what was noted. Its text or its actions are kept.
 pub fn settle(
     alloc: Global,
@@ -150,6 +210,9 @@ pub fn settle(
     let mut bytes = Vec::new(alloc);
     match text_of(machine, actions, &mut bytes)? {
         Some(place) => edges.text_edge(next, &bytes, place),
-        None => edges.acts_edge(next, actions),
+        None => {
+            let kept = kept_of(alloc, machine, actions)?;
+            edges.acts_edge(next, &kept)
+        }
     }
 }

@@ -23,4 +23,6 @@ pub returns-clause-settles : goal.returns-clause-settles
 returns-clause-settles c =
     let ns = c.args.machine.now.nodes in
     let k = c.acts_edge.new.self in
-    map_ok (λ (e : Edge). (nodes : List MNode) → Settles nodes k c.args.next (λ b. done nodes b c.args.actions.now) e) (λ (e : Edge). Settles ns k c.args.next (λ b. done ns b c.args.actions.now) e) c.acts_edge.result (λ e h. h ns) c.acts_edge.ensures.settles
+    let kept = c.deref-in-None.result.now in
+    let same = λ (b : ℕ) (s : State). c.in_ok-kept-in-None.ensures {u = tt} b s ∙ ap (λ l. done ns b l s) (sym c.deref-in-None.ensures.value) in
+    map_ok (λ (e : Edge). (nodes : List MNode) → Settles nodes k c.args.next (λ b. done nodes b kept) e) (λ (e : Edge). Settles ns k c.args.next (λ b. done ns b c.args.actions.now) e) c.acts_edge.result (λ e h. settles_same ns k c.args.next (λ b. done ns b kept) (λ b. done ns b c.args.actions.now) e same (h ns)) c.acts_edge.ensures.settles
