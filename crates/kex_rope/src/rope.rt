@@ -175,6 +175,16 @@ impl Rope {
         Ok(())
     }
 
+    /// Copies its symbols to the end of a code.
+    pub fn copy_into(&self, code: &mut Code) -> Result<(), Memory>
+        ensures { OnOk result (code.new ≡ code.old ++ self.now) }
+    {
+        for block in &self.blocks {
+            code.append(block)?;
+        }
+        Ok(())
+    }
+
     /// Takes all symbols away, and keeps a block.
     pub fn clear(&mut self)
         ensures { self.new ≡ [] }

@@ -1,7 +1,7 @@
 -- A table that goes on byte by byte.
 use Rattle.std.proofs.Common.{◌≡◌, ℕ, zero, suc, ◌+◌, ◌<◌, ◌≤◌, List, [], ◌∷◌, ◌++◌, Some, None, length, get_or, map, take, drop, refl, sym, ap, ap₂, subst, ◌∙◌, append_assoc, append-nil, arith}
 use Rattle.std.specs.Prelude.{slice_get}
-use Rattle.std.proofs.lemmas.List.{drop_more, length-map}
+use Rattle.std.proofs.lemmas.List.{drop_more, length-map, take_more}
 use Rattle.kex_byteset.specs.Classes.{class_at}
 use Rattle.kex_code.specs.declared.symbol.Symbol.{Symbol}
 use Rattle.kex_sst.specs.declared.parts.Part.{Part}
@@ -12,7 +12,6 @@ use Rattle.kex_sst.specs.Passes.{Pass, next_of, stepped, begun, passes_if, endin
 use Rattle.kex_sst.proofs.Passing.{passes_more, leads_to, by_class}
 use Rattle.kex_runner.specs.Items.{items_from, items_along}
 use Rattle.kex_runner.specs.Following.{IsPlace, pass_at}
-use Rattle.kex_runner.proofs.Giving.{take_more}
 
 -- from one place the table has gone on along the first bytes to another
 pub record Goes (t : Transducer) (state : ℕ) (registers : List (List Symbol)) (piece : List ℕ) (i state' : ℕ) (registers' : List (List Symbol)) (before after : List Symbol) : Type 0 where

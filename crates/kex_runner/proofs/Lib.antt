@@ -1,4 +1,4 @@
-pub mod Writing
-pub mod Giving
+pub mod Looking
+pub mod Noting
 pub mod Going
 pub mod Standing

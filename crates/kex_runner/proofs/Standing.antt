@@ -1,6 +1,6 @@
 -- What a runner stands for when it is fed a piece, and at the end.
 use Rattle.std.proofs.Common.{◌≡◌, ℕ, ◌+◌, ◌<◌, ◌≤◌, Bool, true, false, List, [], ◌∷◌, ◌++◌, inl, inr, ⊎_elim, Option, Some, None, length, get_or, take, drop, refl, sym, ap, subst, ◌∙◌, append_assoc, append-nil, length-append, arith}
-use Rattle.std.proofs.lemmas.List.{take_all, take-append-drop, drop_more, length-take-le}
+use Rattle.std.proofs.lemmas.List.{take_all, take_more, take-append-drop, drop_more, length-take-le}
 use Rattle.kex_code.specs.declared.symbol.Symbol.{Symbol}
 use Rattle.kex_sst.specs.declared.parts.Part.{Part}
 use Rattle.kex_sst.specs.Parts.{meant}
@@ -11,7 +11,6 @@ use Rattle.kex_runner.specs.declared.answers.Fed.TheVariants.{On, Dead}
 use Rattle.kex_runner.specs.declared.answers.Ended.TheVariants.{Parsed, Cut}
 use Rattle.kex_runner.specs.Following.{Follows, pass_at}
 use Rattle.kex_runner.specs.Running.{Running, pass_of, StopsBehind, HasPassed, IsDead, StandsFor, Feeds, HasNoEnd, Ends, answer_of}
-use Rattle.kex_runner.proofs.Giving.{take_more}
 
 pub passes_on : (t : Transducer) (w v : List ℕ) (p : Pass) → passes t w ≡ Some p → passes t (w ++ v) ≡ passes_if t (Some p) v
 passes_on t w v p e = passes_more t (Some (begun t.initial)) w v ∙ ap (λ z. passes_if t z v) e

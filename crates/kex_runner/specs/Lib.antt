@@ -1,4 +1,5 @@
-pub mod Moving
+pub mod Noting
+pub mod Looking
 pub mod Items
 pub mod Running
 pub mod Following

@@ -1,7 +1,8 @@
 //! Runs a table over bytes, and passes on its code as the bytes come.
 //!
-//! Stands on ropes and tables. A `Runner` stores no history: `StandsFor` relates it to the bytes that it was fed and the code that
-//! it has passed on; the clauses of `Runner::feed` and `Runner::end` carry this on.
+//! Stands on ropes and tables. A `Runner` keeps neither its bytes nor its code: `StandsFor` relates it to the bytes that it was fed
+//! and the code that it has passed on; the clauses of `Runner::feed` and `Runner::end` carry this on. Its registers are the updates
+//! since they were last settled, and are looked up backwards where one of them is passed on.
 #![tactic(auto)]
 
 mod answers;

@@ -23,7 +23,7 @@ pub struct Runner<'t> {
     table: &'t Table,
     state: u32,
     pending: Code,
-    registers: Registers,
+    registers: Registers<'t>,
     read: u64,
     dead: bool,
     ended: bool,
@@ -42,10 +42,10 @@ impl<'t> Model for Runner<'t> {
 }
 
 // Follows the table along a piece, as far as it goes on, and tells how many bytes that is.
-fn follow<L: Ledger>(
-    table: &Table,
+fn follow<'t, L: Ledger>(
+    table: &'t Table,
     state: &mut u32,
-    registers: &mut Registers,
+    registers: &mut Registers<'t>,
     piece: &[u8],
     code: &mut Code,
     steps: &mut Steps<L>,
@@ -67,7 +67,11 @@ fn follow<L: Ledger>(
 }
 
 // What stands before the first byte: the registers, and what is to be passed on.
-fn begin<L: Ledger>(alloc: Global, table: &Table, blank: Blank) -> Result<(Registers, Code), Memory>
+fn begin<'t, L: Ledger>(
+    alloc: Global,
+    table: &'t Table,
+    blank: Blank,
+) -> Result<(Registers<'t>, Code), Memory>
     requires name { blank.name ≡ L.name }
     requires parts { blank.parts ≡ L.parts }
     requires some { 0 < L.parts }

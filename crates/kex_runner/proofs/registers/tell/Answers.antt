@@ -1,12 +1,9 @@
-use Rattle.std.proofs.Common.{length, arith}
-use Rattle.kex_runner.proofs.Writing.{part_within, written_next}
+use Rattle.std.proofs.Common.{◌∙◌}
+use Rattle.kex_code.specs.declared.symbol.Symbol.TheVariants.{L}
+use Rattle.kex_sst.specs.declared.parts.Part.TheVariants.{Put}
+use Rattle.kex_runner.specs.Noting.{registers_after}
+use Rattle.kex_runner.proofs.Noting.{meant_more}
 use Rattle.kex_runner.proofs.registers.tell.Goals as goal
 
-pub tell_part-requires : goal.tell_part-requires
-tell_part-requires g c = part_within (length c.loop-part.old.items) c.args.parts.now c.loop-part.part-index c.loop-part-test.true (λ i j. let h = c.requires.within i j in omega (arith, h, c.loop-part.invariant.written.long))
-
 pub loop-part-preserved : goal.loop-part-preserved
-loop-part-preserved g c = record {
-  written = written_next c.args.parts.now c.args.byte c.loop-part.part-index c.args.old.now.items c.loop-part.old.items c.tell_part.new.old.items c.args.code.now c.loop-part.code c.tell_part.new.code c.loop-part-test.true c.requires.different c.in_ok-tell_part.ensures.code c.in_ok-tell_part.ensures.old c.loop-part.invariant.written;
-  steps = omega (arith, c.loop-part.invariant.steps);
-}
+loop-part-preserved c = c.in_ok-tell_part.ensures ∙ meant_more (registers_after c.args.base.now c.args.notes.now) c.args.byte c.args.parts.now c.loop-part.part-index (Put L) c.args.code.now c.loop-part.code c.loop-part-test.true c.loop-part.invariant

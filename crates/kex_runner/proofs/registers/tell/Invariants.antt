@@ -1,9 +1,7 @@
-use Rattle.std.proofs.Common.{◌≡◌, ◌+◌}
-use Rattle.kex_runner.proofs.Writing.{Written}
+use Rattle.std.proofs.Common.{◌≡◌, ◌++◌, take}
+use Rattle.kex_sst.specs.Parts.{meant}
+use Rattle.kex_runner.specs.Noting.{registers_after}
 use Rattle.kex_runner.proofs.registers.tell.Given as goal
 
 abbrev pub invariant-loop-part : goal.invariant-loop-part
-invariant-loop-part g l = record {
-  written : Written l.parts l.byte l.part-index l.initial.old.items l.initial.code l.old.items l.code;
-  steps : l.steps ≡ l.initial.steps + l.part-index;
-}
+invariant-loop-part l = l.code ≡ l.initial.code ++ meant (registers_after l.base l.notes) l.byte (take l.part-index l.parts)

@@ -1,0 +1,6 @@
+use Rattle.std.proofs.Common.{◌≡◌, ◌++◌}
+use Rattle.kex_rope.specs.Blocks.{joined}
+use Rattle.kex_rope.proofs.rope.Rope.copy_into.Given as goal
+
+abbrev pub invariant-loop-block : goal.invariant-loop-block
+invariant-loop-block l = l.code ++ joined l.block-iterator ≡ l.initial.code ++ l.self
