@@ -10,6 +10,8 @@ ghost use Rattle.kex_compile.specs.Compiled.{IsCompiled, IsRefused};
 pub mod compiled;
 mod firsts;
 pub mod laws;
+#[cfg(test)]
+mod learnt;
 pub mod limits;
 mod lowered;
 pub mod refusal;

@@ -95,9 +95,9 @@ fn one_stage_alone(rt: HostRuntime) {
 }
 
 // How many states there are where tables are asked for, and a stage may have so many.
-fn states(alloc: Global, text: &[u8], states: u32) -> Result<u64, CompileRefusal> {
+fn states(alloc: Global, text: &[u8], most: u16) -> Result<u64, CompileRefusal> {
     let limits = Limits {
-        states,
+        states: u32::from(most),
         one_stage: false,
         tables: true,
     };
@@ -107,7 +107,7 @@ fn states(alloc: Global, text: &[u8], states: u32) -> Result<u64, CompileRefusal
 
 #[test]
 fn states_are_counted_up_to_their_limit(rt: HostRuntime) {
-    let rows: [(&[u8], u32, Result<u64, CompileRefusal>); 9] = [
+    let rows: [(&[u8], u16, Result<u64, CompileRefusal>); 9] = [
         (b"main := 1", 1, Ok(1)),
         (b"main := /a*/", 1, Ok(1)),
         (b"main := /a{3}/", 4, Ok(4)),
