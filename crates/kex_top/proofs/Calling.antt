@@ -2,14 +2,21 @@
 use Rattle.std.proofs.lemmas.List.{length-map}
 use Rattle.kex_model.specs.Trees.{root_of}
 use Rattle.kex_pipe.specs.Reports.{report_as}
-use Rattle.std.proofs.Common.{◌≡◌, ◌<◌, ℕ, suc, arith, List, [], ◌∷◌, Bool, false, refl, sym, ◌∙◌, subst, ap, inl, inr, ⊎_elim, length}
-use Rattle.std.specs.Prelude.{◌⊎◌, Option, Some, None}
+use Rattle.std.proofs.Common.{◌≡◌, ◌<◌, ℕ, suc, arith, List, [], ◌∷◌, Bool, true, false, refl, sym, ◌∙◌, subst, ap, inl, inr, ⊎_elim, length, get_or, map}
+use Rattle.std.specs.Prelude.{◌⊎◌, ◌↔◌, Option, Some, None}
 use Rattle.kex_ports.specs.Shelf.{IsTold}
 use Rattle.kex_machine.specs.Nodes.{Graph}
 use Rattle.kex_code.specs.Codes.{IsAmong}
-use Rattle.kex_model.specs.Answers.{Pipeline}
+use Rattle.kex_model.specs.Answers.{Answer, Pipeline, bad_byte, too_long, cut_off, whole, still_open}
 use Rattle.kex_model.specs.Answers as model
-use Rattle.kex_model.specs.Laws.{StageAnswers}
+use Rattle.kex_machine.specs.Answers as nodes
+use Rattle.kex_code.specs.declared.symbol.Symbol.{Symbol}
+use Rattle.kex_action.specs.Actors.{BeginsRun, IsWhole}
+use Rattle.kex_single.specs.Plays as plays
+use Rattle.kex_single.specs.Singles as single
+use Rattle.kex_lowering.specs.Stages.{Carries}
+use Rattle.kex_words.specs.Words.{Mode}
+use Rattle.kex_words.specs.Words.Mode.{running, coding, acting, testing}
 use Rattle.kex_model.specs.Programs.{Grammar}
 use Rattle.kex_stage.specs.Stages.{StagePlan, Gives}
 use Rattle.kex_compile.specs.Stages.{AreStages, Plans, roots_of}
@@ -17,11 +24,15 @@ use Rattle.kex_compile.specs.Compiled.{IsCompiled, IsRefused}
 use Rattle.kex_compile.specs.declared.limits.Limits.{Limits}
 use Rattle.kex_compile.specs.declared.refusal.CompileRefusal.{CompileRefusal}
 use Rattle.kex_words.specs.Gains.{Change, GainsFront, GainsWhole}
-use Rattle.kex_words.specs.Lines.{counts_line}
+use Rattle.kex_words.specs.Form.{most_input}
+use Rattle.kex_words.specs.Lines.{counts_line, trial_line}
+use Rattle.kex_words.specs.declared.counts.Summary.{Summary}
+use Rattle.kex_top.specs.Trials.{IsSummary, Tried, Tries, made_lines, trial_text, usual_states}
 use Rattle.kex_top.specs.Answer.{Said}
-use Rattle.kex_top.specs.Pipelines.{NodesSay, first_limit, stage_plans}
+use Rattle.kex_top.specs.Pipelines.{NodesSay, StagesSay, first_limit, stage_plans}
 use Rattle.kex_top.specs.Run.{IsLeft, Left, Ran, EndsAs, WritesAll}
-use Rattle.kex_top.specs.Kex.{Runs, Answers, Checks, Counted, IsStatusOf, Told, any_limits}
+use Rattle.kex_top.specs.Kex.{Runs, Answers, Checks, Counted, IsStatusOf, Told}
+use Rattle.kex_top.specs.Modes.{BeginsParse, HasParseAlone, IsParse, WritesPart, MachineGives, MachinesSay, MeansCode, SaysCode, SaysNothing, StageGives, limits_of, limits_to_check}
 use Rattle.kex_pipe.specs.declared.report.Rejected.{Rejected as Report}
 use Rattle.kex_top.specs.declared.status.Status.{Status}
 use Rattle.kex_top.specs.declared.status.Status.TheVariants.{Done, Rejected, Usage, Refused, ReadFault, WriteFault, ShelfFault, Memory, TooLong}
@@ -70,19 +81,114 @@ module _ (says says' : List ℕ → Bool → Said → Type 0) (to : (w : List �
   pub ran_alike : (n : ℕ) (source sink : Change) (s : Status) → Ran says n source sink s → Ran says' n source sink s
   ran_alike n source sink s r = record { w = r.w; e = r.e; read = r.read; ended = r.ended; ends = ends_alike n r.w r.e source sink s r.ends }
 
+-- a stage's answer by one sort of what is said in place of another
+module _ (Good Good' : List ℕ → Type 0) (Says Says' : List ℕ → List ℕ → Type 0) (Parsed Parsed' : List ℕ → Type 0) (Means Means' : List ℕ → List ℕ → Type 0) (good : (w : List ℕ) → Good w ↔ Good' w) (says : (w s : List ℕ) → Says w s → Says' w s) (parsed : (w : List ℕ) → Parsed' w → Parsed w) (means : (w s : List ℕ) → Means w s → Means' w s) (n : ℕ) where
+  sayings : {w : List ℕ} {e : Bool} {a : Answer} → model.Answers Good Says Parsed Means n w e a → model.Answers Good' Says' Parsed' Means' n w e a
+  sayings (bad_byte {text = s} v bad l h) = bad_byte v (λ g. bad ((good _).1 g)) (record { front = l.front; good = (good v).0 l.good; longest = λ u b g. l.longest u b ((good u).1 g) }) (says v s h)
+  sayings (too_long {text = s} lt g h) = too_long lt ((good _).0 g) (says _ s h)
+  sayings (cut_off {w = w} {text = s} le g none h) = cut_off le ((good w).0 g) (λ p. none (parsed w p)) (says w s h)
+  sayings (whole {w = w} {text = s} le m) = whole le (means w s m)
+  sayings (still_open {w = w} {text = s} le g h) = still_open le ((good w).0 g) (says w s h)
+
+-- the same of what a code's text means
+module _ (B B' W W' : List Symbol → Type 0) (S S' : List Symbol → List ℕ → Type 0) (b : (c : List Symbol) → B c ↔ B' c) (w : (c : List Symbol) → W c ↔ W' c) (says : (c : List Symbol) (s : List ℕ) → S c s → S' c s) (n : ℕ) where
+  plays_on : (u : List ℕ) (c : List Symbol) (stop : Option ℕ) → plays.PlaysOn B W S u c stop → plays.PlaysOn B' W' S' u c stop
+  plays_on u c stop on = record {
+    longest = record {
+      code = on.longest.code;
+      front = on.longest.front;
+      begins = (b c).0 on.longest.begins;
+      longest = λ d k p x. on.longest.longest d k p ((b d).1 x);
+    };
+    stops = by stop on.stops;
+  }
+    where
+      by : (stop : Option ℕ) → plays.StopsIn B W S u c stop → plays.StopsIn B' W' S' u c stop
+      by None x = x
+      by (Some k) x = x
+
+  playings : {v : List ℕ} {e : Bool} {a : Answer} → plays.Plays B W S n v e a → plays.Plays B' W' S' n v e a
+  playings (plays.bad_byte {text = s} c k on h) = plays.bad_byte c k (plays_on _ c (Some k) on) (says c s h)
+  playings (plays.too_long {text = s} c lt on h) = plays.too_long c lt (plays_on _ c None on) (says c s h)
+  playings (plays.cut_off {text = s} c le on never h) = plays.cut_off c le (plays_on _ c None on) (λ is p. never is ((w c).1 p)) (says c s h)
+  playings (plays.whole {text = s} c le on is p h) = plays.whole c le (plays_on _ c None on) is ((w c).0 p) (says c s h)
+  playings (plays.still_open {text = s} c le on h) = plays.still_open c le (plays_on _ c None on) (says c s h)
+
+turned : {A B : Type 0} → A ↔ B → B ↔ A
+turned h = (h.1, h.0)
+
+-- a machine answers as its stage does
+module _ (P : Grammar) (limit root : ℕ) (m : Graph) (c : Carries P root m) where
+  begun_alike : (d : List Symbol) → BeginsRun m d ↔ BeginsParse P root d
+  begun_alike d = (
+    λ x. let t = c.trees x.0 x.1 in (t.0, t.1, (x.2.0, sym t.2.codes ∙ x.2.1)),
+    λ x. let r = c.runs x.0 x.1 in (r.0, r.1, (x.2.0, r.2.codes ∙ x.2.1)),
+  )
+
+  whole_alike : (d : List Symbol) → IsWhole m d ↔ IsParse P root d
+  whole_alike d = (
+    λ x. let t = c.trees x.0 x.1 in (t.0, t.1, sym t.2.codes ∙ x.2),
+    λ x. let r = c.runs x.0 x.1 in (r.0, r.1, r.2.codes ∙ x.2),
+  )
+
+  part_of_run : (d : List Symbol) (s : List ℕ) → plays.WritesRun m d s → WritesPart P root d s
+  part_of_run d s x = let t = c.trees x.0 x.1 in (t.0, t.1, (x.2.0, sym t.2.codes ∙ x.2.1), x.3 ∙ t.2.written d)
+
+  run_of_part : (d : List Symbol) (s : List ℕ) → WritesPart P root d s → plays.WritesRun m d s
+  run_of_part d s x = let r = c.runs x.0 x.1 in (r.0, r.1, (x.2.0, r.2.codes ∙ x.2.1), x.3 ∙ sym (r.2.written d))
+
+  pub to_stage : (mode : Mode) (w : List ℕ) (e : Bool) (a : Answer) → MachineGives mode limit m w e a → StageGives mode P limit root w e a
+  to_stage (running n) w e a h = (c.answers limit w e a).1 h
+  to_stage coding w e a h =
+      sayings (nodes.Viable m) (model.Viable P root) (single.SaysCode m) (SaysCode P root) (nodes.HasParse m) (model.HasParse P root) (single.MeansCode m) (MeansCode P root)
+      (λ v. turned (c.viable v)) (λ v s x. (x.0, (c.agreed v x.0).1 x.1, x.2)) (λ v p. (c.parsed v).0 p)
+      (λ v s x. (x.0, record { parse = (c.parsed v).1 x.1.parse; greedy = (c.greedy v x.0).1 x.1.greedy; least = λ d g. x.1.least d ((c.greedy v d).0 g) }, x.2)) limit h
+  to_stage acting w e a h = playings (BeginsRun m) (BeginsParse P root) (IsWhole m) (IsParse P root) (plays.WritesRun m) (WritesPart P root) begun_alike whole_alike part_of_run limit h
+  to_stage testing w e a h =
+      sayings (nodes.Viable m) (model.Viable P root) (single.SaysNothing m) (SaysNothing P root) (nodes.HasParse m) (model.HasParse P root) (single.HasParseAlone m) (HasParseAlone P root)
+      (λ v. turned (c.viable v)) (λ v s x. x) (λ v p. (c.parsed v).0 p) (λ v s x. ((c.viable v).1 x.0, (c.parsed v).1 x.1, x.2)) limit h
+
+  pub to_machine : (mode : Mode) (w : List ℕ) (e : Bool) (a : Answer) → StageGives mode P limit root w e a → MachineGives mode limit m w e a
+  to_machine (running n) w e a h = (c.answers limit w e a).0 h
+  to_machine coding w e a h =
+      sayings (model.Viable P root) (nodes.Viable m) (SaysCode P root) (single.SaysCode m) (model.HasParse P root) (nodes.HasParse m) (MeansCode P root) (single.MeansCode m)
+      (λ v. c.viable v) (λ v s x. (x.0, (c.agreed v x.0).0 x.1, x.2)) (λ v p. (c.parsed v).1 p)
+      (λ v s x. (x.0, record { parse = (c.parsed v).0 x.1.parse; greedy = (c.greedy v x.0).0 x.1.greedy; least = λ d g. x.1.least d ((c.greedy v d).1 g) }, x.2)) limit h
+  to_machine acting w e a h = playings (BeginsParse P root) (BeginsRun m) (IsParse P root) (IsWhole m) (WritesPart P root) (plays.WritesRun m) (λ d. turned (begun_alike d)) (λ d. turned (whole_alike d)) run_of_part limit h
+  to_machine testing w e a h =
+      sayings (model.Viable P root) (nodes.Viable m) (SaysNothing P root) (single.SaysNothing m) (model.HasParse P root) (nodes.HasParse m) (HasParseAlone P root) (single.HasParseAlone m)
+      (λ v. c.viable v) (λ v s x. x) (λ v p. (c.parsed v).1 p) (λ v s x. ((c.viable v).0 x.0, (c.parsed v).0 x.1, x.2)) limit h
+
 -- the machines of a program's stages answer as its stages do
-module _ (P : Grammar) (limit : ℕ) where
-  carried : (i k : ℕ) (rs : List ℕ) (ms : List Graph) (w : List ℕ) (e : Bool) (text : List ℕ) (r : Option model.Report) → AreStages P k rs ms → Pipeline (λ p v d a. Gives p v d a) i (stage_plans limit ms) w e text r → Pipeline (λ root v d a. StageAnswers P root limit v d a) i rs w e text r
+module _ (P : Grammar) (mode : Mode) (limit : ℕ) where
+  carried : (i k : ℕ) (rs : List ℕ) (ms : List Graph) (w : List ℕ) (e : Bool) (text : List ℕ) (r : Option model.Report) → AreStages P k rs ms → Pipeline (λ m v d a. MachineGives mode limit m v d a) i ms w e text r → Pipeline (λ root v d a. StageGives mode P limit root v d a) i rs w e text r
   carried i k [] [] w e text r h x = x
-  carried i k (root ∷ rs) (m ∷ ms) w e text r h (a, rest, gives, others, is) = (a, rest, (h.0.carries.answers limit w e a).1 gives, carried (suc i) (suc k) rs ms a.text a.ended text rest h.1 others, is)
+  carried i k (root ∷ rs) (m ∷ ms) w e text r h (a, rest, gives, others, is) = (a, rest, to_stage P limit root m h.0.carries mode w e a gives, carried (suc i) (suc k) rs ms a.text a.ended text rest h.1 others, is)
   carried i k [] (m ∷ ms) w e text r h x = absurd h
   carried i k (root ∷ rs) [] w e text r h x = absurd h
 
-  carried-back : (i k : ℕ) (rs : List ℕ) (ms : List Graph) (w : List ℕ) (e : Bool) (text : List ℕ) (r : Option model.Report) → AreStages P k rs ms → Pipeline (λ root v d a. StageAnswers P root limit v d a) i rs w e text r → Pipeline (λ p v d a. Gives p v d a) i (stage_plans limit ms) w e text r
+  carried-back : (i k : ℕ) (rs : List ℕ) (ms : List Graph) (w : List ℕ) (e : Bool) (text : List ℕ) (r : Option model.Report) → AreStages P k rs ms → Pipeline (λ root v d a. StageGives mode P limit root v d a) i rs w e text r → Pipeline (λ m v d a. MachineGives mode limit m v d a) i ms w e text r
   carried-back i k [] [] w e text r h x = x
-  carried-back i k (root ∷ rs) (m ∷ ms) w e text r h (a, rest, gives, others, is) = (a, rest, (h.0.carries.answers limit w e a).0 gives, carried-back (suc i) (suc k) rs ms a.text a.ended text rest h.1 others, is)
+  carried-back i k (root ∷ rs) (m ∷ ms) w e text r h (a, rest, gives, others, is) = (a, rest, to_machine P limit root m h.0.carries mode w e a gives, carried-back (suc i) (suc k) rs ms a.text a.ended text rest h.1 others, is)
   carried-back i k [] (m ∷ ms) w e text r h x = absurd h
   carried-back i k (root ∷ rs) [] w e text r h x = absurd h
+
+-- plans of machines give what the machines do
+module _ (states limit : ℕ) where
+  by_machines : (i : ℕ) (ms : List Graph) (w : List ℕ) (e : Bool) (text : List ℕ) (r : Option model.Report) → Pipeline (λ p v d a. Gives p v d a) i (stage_plans limit ms) w e text r → Pipeline (λ m v d a. MachineGives (running states) limit m v d a) i ms w e text r
+  by_machines i [] w e text r x = x
+  by_machines i (m ∷ ms) w e text r (a, rest, gives, others, is) = (a, rest, gives, by_machines (suc i) ms a.text a.ended text rest others, is)
+
+  by_plans : (i : ℕ) (ms : List Graph) (w : List ℕ) (e : Bool) (text : List ℕ) (r : Option model.Report) → Pipeline (λ m v d a. MachineGives (running states) limit m v d a) i ms w e text r → Pipeline (λ p v d a. Gives p v d a) i (stage_plans limit ms) w e text r
+  by_plans i [] w e text r x = x
+  by_plans i (m ∷ ms) w e text r (a, rest, gives, others, is) = (a, rest, gives, by_plans (suc i) ms a.text a.ended text rest others, is)
+
+  pub run_by_machines : (ms : List Graph) (block : ℕ) (source sink : Change) (s : Status) → 0 < length ms → Ran (NodesSay (stage_plans limit ms)) block source sink s → Ran (MachinesSay (running states) limit ms) block source sink s
+  run_by_machines ms block source sink s some r =
+      ran_alike _ _
+      (λ w e said h. (some, by_machines 1 ms w e said.text (report_as said.report) h.1))
+      (λ w e said h. ((let n = length-map ms (plan_at limit) in omega arith), by_plans 1 ms w e said.text (report_as said.report) h.1))
+      block source sink s r
 
 as-many : (P : Grammar) (k : ℕ) (rs : List ℕ) (ms : List Graph) → AreStages P k rs ms → length ms ≡ length rs
 as-many P k [] [] h = refl
@@ -102,67 +208,105 @@ some-machine limits text plans p =
     let some = not-empty p.program.stages p.accepts.ruled.begins.0 p.accepts.ruled.begins.1 in
     omega arith
 
+-- a program of one stage has one machine
+pub one-machine : (limits : Limits) (text : List ℕ) (plans : Plans) → IsCompiled limits text plans → limits.one_stage ≡ true → length plans.stages ≡ 1
+one-machine limits text plans p asked =
+    let n = as-many p.program 1 (roots_of p.program) plans.stages p.plans_of.stages in
+    let m = length-map p.program.stages (λ s. root_of p.program s.name) in
+    let some = some-machine limits text plans p in
+    let few = p.accepts.one_stage asked in
+    omega arith
+
+pub the-machine : (ms : List Graph) (d : Graph) → length ms ≡ 1 → ms ≡ get_or ms 0 d ∷ []
+the-machine [] d one = absurd (omega arith)
+the-machine (m ∷ []) d one = refl
+the-machine (m ∷ k ∷ ms) d one = absurd (omega arith)
+
 pub first-limit : (limit : ℕ) (ms : List Graph) → 0 < length ms → first_limit (λ p. p.limit) (stage_plans limit ms) ≡ limit
 first-limit limit [] lt = absurd (omega arith)
 first-limit limit (m ∷ ms) lt = refl
 
-pub runs_by : (limit block : ℕ) (told : Option (Option (List ℕ))) (text : List ℕ) (plans : Plans) (source sink : Change) (s : Status) → IsTold told text → IsCompiled any_limits text plans → Ran (NodesSay (stage_plans limit plans.stages)) block source sink s → Runs limit block told source sink s
-runs_by limit block told text plans source sink s is_told p r =
-    let some : 0 < length (stage_plans limit plans.stages) = omega (arith, some-machine any_limits text plans p, length-map plans.stages (plan_at limit)) in
-    record {
-      text = text;
-      is_told = is_told;
-      program = p.program;
-      accepts = p.accepts;
-      ran = ran_alike _ _
-          (λ w e said h. carried p.program limit 1 1 (roots_of p.program) plans.stages w e said.text (report_as said.report) p.plans_of.stages h.1)
-          (λ w e said h. (some, carried-back p.program limit 1 1 (roots_of p.program) plans.stages w e said.text (report_as said.report) p.plans_of.stages h))
-          block source sink s r;
-    }
+pub first-of : {S P : Type 0} (plan : S → P) (limit : P → ℕ) (ss : List S) → first_limit (λ s. limit (plan s)) ss ≡ first_limit limit (map plan ss)
+first-of plan limit [] = refl
+first-of plan limit (s ∷ ss) = refl
+
+module _ (mode : Mode) (limit : ℕ) (ms : List Graph) (block : ℕ) (source sink : Change) (s : Status) where
+  pub ran_by : (states : ℕ) → mode ≡ running states → 0 < length ms → (Left source sink × (s ≡ Memory)) ⊎ Ran (NodesSay (stage_plans limit ms)) block source sink s → (Left source sink × (s ≡ Memory)) ⊎ Ran (MachinesSay mode limit ms) block source sink s
+  ran_by states is some (inl x) = inl x
+  ran_by states is some (inr r) = inr (subst (λ m. Ran (MachinesSay m limit ms) block source sink s) (sym is) (run_by_machines states limit ms block source sink s some r))
+
+  pub one_by : (to : Mode) (d m : Graph) → mode ≡ to → length ms ≡ 1 → m ≡ get_or ms 0 d → (Left source sink × (s ≡ Memory)) ⊎ Ran (MachinesSay to limit (m ∷ [])) block source sink s → (Left source sink × (s ≡ Memory)) ⊎ Ran (MachinesSay mode limit ms) block source sink s
+  one_by to d m is one same (inl x) = inl x
+  one_by to d m is one same (inr r) =
+      inr (subst (λ z. Ran (MachinesSay mode limit z) block source sink s) (ap (λ z. z ∷ []) same ∙ sym (the-machine ms d one)) (subst (λ z. Ran (MachinesSay z limit (m ∷ [])) block source sink s) (sym is) r))
+
+-- one stage by itself
+module _ {A : Type 0} (F : A → List ℕ → Bool → Answer → Type 0) (x : A) (mode : Mode) (limit : ℕ) (m : Graph) (block : ℕ) (source sink : Change) (s : Status) where
+  pub ran_single : ((w : List ℕ) (e : Bool) (a : Answer) → F x w e a → MachineGives mode limit m w e a) → ((w : List ℕ) (e : Bool) (a : Answer) → MachineGives mode limit m w e a → F x w e a) → (Left source sink × (s ≡ Memory)) ⊎ Ran (StagesSay (λ p w e a. F p w e a) (x ∷ [])) block source sink s → (Left source sink × (s ≡ Memory)) ⊎ Ran (MachinesSay mode limit (m ∷ [])) block source sink s
+  ran_single to from (inl z) = inl z
+  ran_single to from (inr r) =
+      inr (
+      ran_alike (StagesSay (λ p w e a. F p w e a) (x ∷ [])) (MachinesSay mode limit (m ∷ []))
+      (λ w e said h. (h.0, let (a, rest, gives, others, is) = h.1 in (a, rest, to w e a gives, others, is)))
+      (λ w e said h. (h.0, let (a, rest, gives, others, is) = h.1 in (a, rest, from w e a gives, others, is)))
+      block source sink s r
+      )
+
+pub runs_by : (mode : Mode) (limit block : ℕ) (told : Option (Option (List ℕ))) (text : List ℕ) (plans : Plans) (source sink : Change) (s : Status) → IsTold told text → IsCompiled (limits_of mode) text plans → Ran (MachinesSay mode limit plans.stages) block source sink s → Runs mode limit block told source sink s
+runs_by mode limit block told text plans source sink s is_told p r = record {
+  text = text;
+  is_told = is_told;
+  program = p.program;
+  accepts = p.accepts;
+  ran = ran_alike _ _
+      (λ w e said h. carried p.program mode limit 1 1 (roots_of p.program) plans.stages w e said.text (report_as said.report) p.plans_of.stages h.1)
+      (λ w e said h. (some-machine (limits_of mode) text plans p, carried-back p.program mode limit 1 1 (roots_of p.program) plans.stages w e said.text (report_as said.report) p.plans_of.stages h))
+      block source sink s r;
+}
 
 -- a run's status is none that comes before a run
-pub answers_by : (limit block : ℕ) (told : Option (Option (List ℕ))) (source sink : Change) (s : Status) → Runs limit block told source sink s → Answers limit block told source sink s
-answers_by limit block told source sink Done r = r
-answers_by limit block told source sink (Rejected x) r = r
-answers_by limit block told source sink (TooLong x) r = r
-answers_by limit block told source sink ReadFault r = r
-answers_by limit block told source sink WriteFault r = r
-answers_by limit block told source sink Memory r = inr r
-answers_by limit block told source sink Usage r = r.ran.ends
-answers_by limit block told source sink (Refused x) r = absurd r.ran.ends
-answers_by limit block told source sink ShelfFault r = absurd r.ran.ends
+pub answers_by : (mode : Mode) (limit block : ℕ) (told : Option (Option (List ℕ))) (source sink : Change) (s : Status) → Runs mode limit block told source sink s → Answers mode limit block told source sink s
+answers_by mode limit block told source sink Done r = r
+answers_by mode limit block told source sink (Rejected x) r = r
+answers_by mode limit block told source sink (TooLong x) r = r
+answers_by mode limit block told source sink ReadFault r = r
+answers_by mode limit block told source sink WriteFault r = r
+answers_by mode limit block told source sink Memory r = inr r
+answers_by mode limit block told source sink Usage r = r.ran.ends
+answers_by mode limit block told source sink (Refused x) r = absurd r.ran.ends
+answers_by mode limit block told source sink ShelfFault r = absurd r.ran.ends
 
-pub served : (limit block : ℕ) (told : Option (Option (List ℕ))) (text : List ℕ) (plans : Plans) (source sink : Change) (s : Status) → IsTold told text → IsCompiled any_limits text plans → (Left source sink × (s ≡ Memory)) ⊎ Ran (NodesSay (stage_plans limit plans.stages)) block source sink s → Answers limit block told source sink s
-served limit block told text plans source sink s t p (inl x) = subst (λ z. Answers limit block told source sink z) (sym x.1) (inl x.0)
-served limit block told text plans source sink s t p (inr r) = answers_by limit block told source sink s (runs_by limit block told text plans source sink s t p r)
+pub served : (mode : Mode) (limit block : ℕ) (told : Option (Option (List ℕ))) (text : List ℕ) (plans : Plans) (source sink : Change) (s : Status) → IsTold told text → IsCompiled (limits_of mode) text plans → (Left source sink × (s ≡ Memory)) ⊎ Ran (MachinesSay mode limit plans.stages) block source sink s → Answers mode limit block told source sink s
+served mode limit block told text plans source sink s t p (inl x) = subst (λ z. Answers mode limit block told source sink z) (sym x.1) (inl x.0)
+served mode limit block told text plans source sink s t p (inr r) = answers_by mode limit block told source sink s (runs_by mode limit block told text plans source sink s t p r)
 
-pub refused_by : (limit block : ℕ) (told : Option (Option (List ℕ))) (text : List ℕ) (rule : CompileRefusal) (source sink : Change) (s : Status) → IsTold told text → IsRefused any_limits text rule → Left source sink → IsStatusOf text rule s → Answers limit block told source sink s
-refused_by limit block told text rule source sink Memory t h l i = inl l
-refused_by limit block told text rule source sink (Refused r) t h l i = (l, inr (record { text = text; is_told = t; rule = rule; is_refused = h; is_shown = i }))
-refused_by limit block told text rule source sink Done t h l i = absurd i
-refused_by limit block told text rule source sink (Rejected x) t h l i = absurd i
-refused_by limit block told text rule source sink (TooLong x) t h l i = absurd i
-refused_by limit block told text rule source sink ReadFault t h l i = absurd i
-refused_by limit block told text rule source sink WriteFault t h l i = absurd i
-refused_by limit block told text rule source sink Usage t h l i = absurd i
-refused_by limit block told text rule source sink ShelfFault t h l i = absurd i
+pub refused_by : (mode : Mode) (limit block : ℕ) (told : Option (Option (List ℕ))) (text : List ℕ) (rule : CompileRefusal) (source sink : Change) (s : Status) → IsTold told text → IsRefused (limits_of mode) text rule → Left source sink → IsStatusOf text rule s → Answers mode limit block told source sink s
+refused_by mode limit block told text rule source sink Memory t h l i = inl l
+refused_by mode limit block told text rule source sink (Refused r) t h l i = (l, inr (record { text = text; is_told = t; rule = rule; is_refused = h; is_shown = i }))
+refused_by mode limit block told text rule source sink Done t h l i = absurd i
+refused_by mode limit block told text rule source sink (Rejected x) t h l i = absurd i
+refused_by mode limit block told text rule source sink (TooLong x) t h l i = absurd i
+refused_by mode limit block told text rule source sink ReadFault t h l i = absurd i
+refused_by mode limit block told text rule source sink WriteFault t h l i = absurd i
+refused_by mode limit block told text rule source sink Usage t h l i = absurd i
+refused_by mode limit block told text rule source sink ShelfFault t h l i = absurd i
 
 -- ---- a check
 
-pub check_refused : (told : Option (Option (List ℕ))) (text : List ℕ) (rule : CompileRefusal) (source sink : Change) (s : Status) → IsTold told text → IsRefused any_limits text rule → Left source sink → IsStatusOf text rule s → Checks told source sink s
-check_refused told text rule source sink Memory t h l i = l
-check_refused told text rule source sink (Refused r) t h l i = (l, inr (record { text = text; is_told = t; rule = rule; is_refused = h; is_shown = i }))
-check_refused told text rule source sink Done t h l i = absurd i
-check_refused told text rule source sink (Rejected x) t h l i = absurd i
-check_refused told text rule source sink (TooLong x) t h l i = absurd i
-check_refused told text rule source sink ReadFault t h l i = absurd i
-check_refused told text rule source sink WriteFault t h l i = absurd i
-check_refused told text rule source sink Usage t h l i = absurd i
-check_refused told text rule source sink ShelfFault t h l i = absurd i
+pub check_refused : (asked : ℕ) (told : Option (Option (List ℕ))) (text : List ℕ) (rule : CompileRefusal) (source sink : Change) (s : Status) → IsTold told text → IsRefused (limits_to_check asked) text rule → Left source sink → IsStatusOf text rule s → Checks asked told source sink s
+check_refused asked told text rule source sink Memory t h l i = l
+check_refused asked told text rule source sink (Refused r) t h l i = (l, inr (record { text = text; is_told = t; rule = rule; is_refused = h; is_shown = i }))
+check_refused asked told text rule source sink Done t h l i = absurd i
+check_refused asked told text rule source sink (Rejected x) t h l i = absurd i
+check_refused asked told text rule source sink (TooLong x) t h l i = absurd i
+check_refused asked told text rule source sink ReadFault t h l i = absurd i
+check_refused asked told text rule source sink WriteFault t h l i = absurd i
+check_refused asked told text rule source sink Usage t h l i = absurd i
+check_refused asked told text rule source sink ShelfFault t h l i = absurd i
 
 -- the counts of the plans are those of the program
-counted : (told : Option (Option (List ℕ))) (text : List ℕ) (plans : Plans) (Q : List ℕ → Type 0) → IsTold told text → IsCompiled any_limits text plans → Q (counts_line (record { stages = length plans.stages; places = plans.places })) → Counted told Q
-counted told text plans Q t p q =
+counted : (asked : ℕ) (told : Option (Option (List ℕ))) (text : List ℕ) (plans : Plans) (Q : List ℕ → Type 0) → IsTold told text → IsCompiled (limits_to_check asked) text plans → Q (counts_line (record { stages = length plans.stages; places = plans.places; states = plans.states })) → Counted asked told Q
+counted asked told text plans Q t p q =
     let n = as-many p.program 1 (roots_of p.program) plans.stages p.plans_of.stages in
     let m = length-map p.program.stages (λ s. root_of p.program s.name) in
     let same : length plans.stages ≡ length p.program.stages = n ∙ m in
@@ -172,17 +316,61 @@ counted told text plans Q t p q =
       program = p.program;
       accepts = p.accepts;
       places = plans.places;
+      states = plans.states;
       in_all = p.plans_of.places;
-      written = subst (λ k. Q (counts_line (record { stages = k; places = plans.places }))) same q;
+      states_in_all = p.plans_of.states refl;
+      written = subst (λ k. Q (counts_line (record { stages = k; places = plans.places; states = plans.states }))) same q;
     }
 
-pub checked : (told : Option (Option (List ℕ))) (text : List ℕ) (plans : Plans) (source sink : Change) (s : Status) → IsTold told text → IsCompiled any_limits text plans → IsLeft source → Told (counts_line (record { stages = length plans.stages; places = plans.places })) sink s → Checks told source sink s
-checked told text plans source sink Done t p l q = (l, counted told text plans (λ line. GainsWhole sink line) t p q)
-checked told text plans source sink WriteFault t p l q = (l, counted told text plans (λ line. GainsFront sink line) t p q)
-checked told text plans source sink (Rejected x) t p l q = absurd q
-checked told text plans source sink (TooLong x) t p l q = absurd q
-checked told text plans source sink ReadFault t p l q = absurd q
-checked told text plans source sink Usage t p l q = absurd q
-checked told text plans source sink (Refused r) t p l q = absurd q
-checked told text plans source sink ShelfFault t p l q = absurd q
-checked told text plans source sink Memory t p l q = absurd q
+pub checked : (asked : ℕ) (told : Option (Option (List ℕ))) (text : List ℕ) (plans : Plans) (source sink : Change) (s : Status) → IsTold told text → IsCompiled (limits_to_check asked) text plans → IsLeft source → Told (counts_line (record { stages = length plans.stages; places = plans.places; states = plans.states })) sink s → Checks asked told source sink s
+checked asked told text plans source sink Done t p l q = (l, counted asked told text plans (λ line. GainsWhole sink line) t p q)
+checked asked told text plans source sink WriteFault t p l q = (l, counted asked told text plans (λ line. GainsFront sink line) t p q)
+checked asked told text plans source sink (Rejected x) t p l q = absurd q
+checked asked told text plans source sink (TooLong x) t p l q = absurd q
+checked asked told text plans source sink ReadFault t p l q = absurd q
+checked asked told text plans source sink Usage t p l q = absurd q
+checked asked told text plans source sink (Refused r) t p l q = absurd q
+checked asked told text plans source sink ShelfFault t p l q = absurd q
+checked asked told text plans source sink Memory t p l q = absurd q
+
+-- ---- a trial
+
+pub trial_refused : (lines : ℕ) (rule : CompileRefusal) (sink : Change) (s : Status) → IsRefused (limits_to_check usual_states) trial_text rule → IsLeft sink → IsStatusOf trial_text rule s → Tries lines sink s
+trial_refused lines rule sink Memory h l i = l
+trial_refused lines rule sink (Refused r) h l i = (l, record { text = trial_text; is_told = refl; rule = rule; is_refused = h; is_shown = i })
+trial_refused lines rule sink Done h l i = absurd i
+trial_refused lines rule sink (Rejected x) h l i = absurd i
+trial_refused lines rule sink (TooLong x) h l i = absurd i
+trial_refused lines rule sink ReadFault h l i = absurd i
+trial_refused lines rule sink WriteFault h l i = absurd i
+trial_refused lines rule sink Usage h l i = absurd i
+trial_refused lines rule sink ShelfFault h l i = absurd i
+
+module _ (lines : ℕ) (plans : Plans) (p : IsCompiled (limits_to_check usual_states) trial_text plans) (summary : Summary) (sums : IsSummary (NodesSay (stage_plans most_input plans.stages)) lines summary) (sink : Change) where
+  summed : (Q : List ℕ → Type 0) → Q (trial_line summary) → Tried lines Q
+  summed Q q = record {
+    program = p.program;
+    accepts = p.accepts;
+    summary = summary;
+    sums = record {
+      said = sums.said;
+      is_said = carried p.program (running 4096) most_input 1 1 (roots_of p.program) plans.stages (made_lines lines) true sums.said.text (report_as sums.said.report) p.plans_of.stages
+          (by_machines 4096 most_input 1 plans.stages (made_lines lines) true sums.said.text (report_as sums.said.report) sums.is_said.1);
+      lines_of = sums.lines_of;
+      made = sums.made;
+      written = sums.written;
+      roll = sums.roll;
+    };
+    written = q;
+  }
+
+  pub tried : (s : Status) → Told (trial_line summary) sink s → Tries lines sink s
+  tried Done q = summed (λ line. GainsWhole sink line) q
+  tried WriteFault q = summed (λ line. GainsFront sink line) q
+  tried (Rejected x) q = absurd q
+  tried (TooLong x) q = absurd q
+  tried ReadFault q = absurd q
+  tried Usage q = absurd q
+  tried (Refused r) q = absurd q
+  tried ShelfFault q = absurd q
+  tried Memory q = absurd q

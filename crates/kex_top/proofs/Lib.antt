@@ -6,3 +6,5 @@ pub mod Running
 pub mod Calling
 pub mod Completing
 pub mod Closing
+pub mod Testing
+pub mod Trying

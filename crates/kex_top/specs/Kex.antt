@@ -1,5 +1,5 @@
 -- What a call of the program leaves, by its answer.
-use Rattle.std.specs.Prelude.{◌≡◌, ◌⊎◌, ◌+◌, ◌-◌, ◌^◌, ◌<◌, ◌≤◌, ℕ, false, true, List, [], ◌++◌, Option, Some, None, length, min, take}
+use Rattle.std.specs.Prelude.{◌≡◌, ◌⊎◌, ◌+◌, ◌-◌, ◌^◌, ◌<◌, ◌≤◌, ℕ, true, List, [], ◌++◌, Option, Some, None, length, min, take}
 use Rattle.kex_ports.specs.Shelf.{IsTold, IsPast}
 use Rattle.kex_ports.specs.Causes.{Rose}
 use Rattle.kex_model.specs.Programs.{Grammar}
@@ -9,8 +9,9 @@ use Rattle.kex_compile.specs.Compiled.{Accepts, IsRefused}
 use Rattle.kex_compile.specs.declared.limits.Limits.{Limits}
 use Rattle.kex_compile.specs.declared.refusal.CompileRefusal.{CompileRefusal}
 use Rattle.kex_compile.specs.declared.refusal.CompileRefusal.TheVariants as compile
-use Rattle.kex_words.specs.Words.{Reach, asked_of}
-use Rattle.kex_words.specs.Words.Asked.{ToCheck, ToRun}
+use Rattle.kex_words.specs.Words.{Mode, Reach, asked_of}
+use Rattle.kex_words.specs.Words.Asked.{ToCheck, ToStream, ToTry}
+use Rattle.kex_words.specs.Words.Mode.{running, testing}
 use Rattle.kex_words.specs.Gains.{Change, GainsFront, GainsWhole}
 use Rattle.kex_words.specs.Lines.{counts_line}
 use Rattle.kex_words.specs.declared.refusals.Place.TheVariants.{At, Nowhere, Stage}
@@ -18,8 +19,9 @@ use Rattle.kex_words.specs.declared.refusals.Refusal.{Refusal}
 use Rattle.kex_words.specs.declared.refusals.Rule.{Rule}
 use Rattle.kex_words.specs.declared.refusals.Rule.TheVariants.{TextTooLong, BadToken, Unexpected, BadRegex, BadCount, BadSet, OverLimit, TwiceDefined, Unknown, NoStart, NotTail, TooManyPlaces, EmptyLoop, NoText, OneStage, TooManyStates}
 use Rattle.kex_top.specs.Answer.{Said}
-use Rattle.kex_compile.specs.Stages.{HaveInAll, roots_of}
-use Rattle.kex_top.specs.Pipelines.{Answered, MeansInTurn}
+use Rattle.kex_compile.specs.Stages.{HaveInAll, HaveStatesInAll, roots_of}
+use Rattle.kex_top.specs.Modes.{SaysBy, limits_of, limits_to_check}
+use Rattle.kex_top.specs.Pipelines.{MeansInTurn}
 use Rattle.kex_top.specs.Run.{IsLeft, Left, Ran}
 use Rattle.kex_top.specs.declared.status.Status.{Status}
 use Rattle.kex_top.specs.declared.status.Status.TheVariants.{Done, Rejected, Usage, Refused, ReadFault, WriteFault, ShelfFault, Memory, TooLong}
@@ -27,10 +29,6 @@ use Rattle.kex_top.specs.declared.status.Status.TheVariants.{Done, Rejected, Usa
 -- The most bytes of a program.
 abbrev pub most_text : ℕ
 most_text = 1048576
-
--- Nothing is asked of a program but the rules of the language.
-abbrev pub any_limits : Limits
-any_limits = record { states = 4096; one_stage = false; tables = false }
 
 -- The counts of a shelf before and after a call.
 pub record ShelfChange : Type 0 where
@@ -46,12 +44,19 @@ shelf_change a b c d = record { faults_before = a; faults_now = b; breaks_before
 abbrev pub shelf_change_of : {H : Type 0} → (H → ℕ) → (H → ℕ) → H → H → ShelfChange
 shelf_change_of faults breaks old new = shelf_change (faults old) (faults new) (breaks old) (breaks new)
 
--- where the words ask to run a program, or to check one, this holds of its name
-abbrev pub WhereRun : List (List ℕ) → (List ℕ → Reach → Type 0) → Type 0
-WhereRun words P = (name : List ℕ) (reach : Reach) → asked_of words ≡ Some (ToRun name reach) → P name reach
+-- where the words ask for a command on an input, or to check a program, or for a trial, this holds of what they say
+abbrev pub WhereStream : List (List ℕ) → (Mode → List ℕ → Reach → Type 0) → Type 0
+WhereStream words P = (mode : Mode) (name : List ℕ) (reach : Reach) → asked_of words ≡ Some (ToStream mode name reach) → P mode name reach
 
-abbrev pub WhereCheck : List (List ℕ) → (List ℕ → Type 0) → Type 0
-WhereCheck words P = (name : List ℕ) → asked_of words ≡ Some (ToCheck name) → P name
+abbrev pub WhereCheck : List (List ℕ) → (List ℕ → ℕ → Type 0) → Type 0
+WhereCheck words P = (name : List ℕ) (states : ℕ) → asked_of words ≡ Some (ToCheck name states) → P name states
+
+abbrev pub WhereTrial : List (List ℕ) → (ℕ → ℕ → Type 0) → Type 0
+WhereTrial words P = (lines block : ℕ) → asked_of words ≡ Some (ToTry lines block) → P lines block
+
+-- the words don't ask for a test
+abbrev pub IsNoTest : List (List ℕ) → Type 0
+IsNoTest words = (name : List ℕ) (reach : Reach) → asked_of words ≡ Some (ToStream testing name reach) → ⊥
 
 abbrev pub ShelfIsLeft : ShelfChange → Type 0
 ShelfIsLeft s = (s.faults_now ≡ s.faults_before) × (s.breaks_now ≡ s.breaks_before)
@@ -112,36 +117,36 @@ IsStatusOf text rule (Refused r) = IsRefusalOf text rule r
 IsStatusOf text rule _ = ⊥
 
 -- A text that is told breaks this rule.
-pub record Breaks (told : Option (Option (List ℕ))) (r : Refusal) : Type 0 where
+pub record Breaks (limits : Limits) (told : Option (Option (List ℕ))) (r : Refusal) : Type 0 where
   pub text : List ℕ
   pub is_told : IsTold told text
   pub rule : CompileRefusal
-  pub is_refused : IsRefused any_limits text rule
+  pub is_refused : IsRefused limits text rule
   pub is_shown : IsRefusalOf text rule r
 
 -- What is told is past the limit, or breaks the rule.
-abbrev pub IsRefusedFor : Option (Option (List ℕ)) → Refusal → Type 0
-IsRefusedFor told r = (IsPast told most_text × (r ≡ broken TextTooLong)) ⊎ Breaks told r
+abbrev pub IsRefusedFor : Limits → Option (Option (List ℕ)) → Refusal → Type 0
+IsRefusedFor limits told r = (IsPast told most_text × (r ≡ broken TextTooLong)) ⊎ Breaks limits told r
 
 -- A program that the told text spells ran.
-pub record Runs (limit block : ℕ) (told : Option (Option (List ℕ))) (source sink : Change) (status : Status) : Type 0 where
+pub record Runs (mode : Mode) (limit block : ℕ) (told : Option (Option (List ℕ))) (source sink : Change) (status : Status) : Type 0 where
   pub text : List ℕ
   pub is_told : IsTold told text
   pub program : Grammar
-  pub accepts : Accepts any_limits text program
-  pub ran : Ran (Answered program limit) block source sink status
+  pub accepts : Accepts (limits_of mode) text program
+  pub ran : Ran (SaysBy mode program limit) block source sink status
 
 -- What each answer says, where the words are in form.
-abbrev pub Answers : ℕ → ℕ → Option (Option (List ℕ)) → Change → Change → Status → Type 0
-Answers limit block told source sink Usage = ⊥
-Answers limit block told source sink ShelfFault = Left source sink
-Answers limit block told source sink (Refused r) = Left source sink × IsRefusedFor told r
-Answers limit block told source sink Memory = Left source sink ⊎ Runs limit block told source sink Memory
-Answers limit block told source sink Done = Runs limit block told source sink Done
-Answers limit block told source sink (Rejected r) = Runs limit block told source sink (Rejected r)
-Answers limit block told source sink (TooLong r) = Runs limit block told source sink (TooLong r)
-Answers limit block told source sink ReadFault = Runs limit block told source sink ReadFault
-Answers limit block told source sink WriteFault = Runs limit block told source sink WriteFault
+abbrev pub Answers : Mode → ℕ → ℕ → Option (Option (List ℕ)) → Change → Change → Status → Type 0
+Answers mode limit block told source sink Usage = ⊥
+Answers mode limit block told source sink ShelfFault = Left source sink
+Answers mode limit block told source sink (Refused r) = Left source sink × IsRefusedFor (limits_of mode) told r
+Answers mode limit block told source sink Memory = Left source sink ⊎ Runs mode limit block told source sink Memory
+Answers mode limit block told source sink Done = Runs mode limit block told source sink Done
+Answers mode limit block told source sink (Rejected r) = Runs mode limit block told source sink (Rejected r)
+Answers mode limit block told source sink (TooLong r) = Runs mode limit block told source sink (TooLong r)
+Answers mode limit block told source sink ReadFault = Runs mode limit block told source sink ReadFault
+Answers mode limit block told source sink WriteFault = Runs mode limit block told source sink WriteFault
 
 -- The line was written, or a front of it.
 abbrev pub Told : List ℕ → Change → Status → Type 0
@@ -150,23 +155,25 @@ Told line sink WriteFault = GainsFront sink line
 Told line sink _ = ⊥
 
 -- A program that the told text spells was counted, and so was its line written.
-pub record Counted (told : Option (Option (List ℕ))) (Written : List ℕ → Type 0) : Type 0 where
+pub record Counted (asked : ℕ) (told : Option (Option (List ℕ))) (Written : List ℕ → Type 0) : Type 0 where
   pub text : List ℕ
   pub is_told : IsTold told text
   pub program : Grammar
-  pub accepts : Accepts any_limits text program
+  pub accepts : Accepts (limits_to_check asked) text program
   pub places : ℕ
+  pub states : ℕ
   pub in_all : HaveInAll program (roots_of program) places
-  pub written : Written (counts_line (record { stages = length program.stages; places = places }))
+  pub states_in_all : HaveStatesInAll program (roots_of program) states
+  pub written : Written (counts_line (record { stages = length program.stages; places = places; states = states }))
 
--- What each answer to a check says. Nothing is read.
-abbrev pub Checks : Option (Option (List ℕ)) → Change → Change → Status → Type 0
-Checks told source sink ShelfFault = Left source sink
-Checks told source sink (Refused r) = Left source sink × IsRefusedFor told r
-Checks told source sink Memory = Left source sink
-Checks told source sink Done = IsLeft source × Counted told (GainsWhole sink)
-Checks told source sink WriteFault = IsLeft source × Counted told (GainsFront sink)
-Checks told source sink _ = ⊥
+-- What each answer to a check of at most so many states says. Nothing is read.
+abbrev pub Checks : ℕ → Option (Option (List ℕ)) → Change → Change → Status → Type 0
+Checks asked told source sink ShelfFault = Left source sink
+Checks asked told source sink (Refused r) = Left source sink × IsRefusedFor (limits_to_check asked) told r
+Checks asked told source sink Memory = Left source sink
+Checks asked told source sink Done = IsLeft source × Counted asked told (GainsWhole sink)
+Checks asked told source sink WriteFault = IsLeft source × Counted asked told (GainsFront sink)
+Checks asked told source sink _ = ⊥
 
 -- Where the words aren't in form, nothing is touched.
 abbrev pub AnswersNothing : ShelfChange → Change → Change → Status → Type 0
@@ -179,32 +186,32 @@ abbrev pub IsQuiet : ℕ → ℕ → Type 0
 IsQuiet before now = now < min (before + 1) (2 ^ 64 - 1)
 
 -- The program breaks no rule, the whole input and what each stage hands on parse within the limit, and no count rose.
-pub record IsGood (limit : ℕ) (told : Option (Option (List ℕ))) (shelf : ShelfChange) (source sink : Change) : Type 0 where
+pub record IsGood (mode : Mode) (limit : ℕ) (told : Option (Option (List ℕ))) (shelf : ShelfChange) (source sink : Change) : Type 0 where
   pub text : List ℕ
   pub input : List ℕ
   pub is_told : told ≡ Some (Some text)
   pub short : length text ≤ most_text
-  pub unbroken : (rule : CompileRefusal) → IsRefused any_limits text rule → rule ≡ compile.Memory
+  pub unbroken : (rule : CompileRefusal) → IsRefused (limits_of mode) text rule → rule ≡ compile.Memory
   pub rest : source.old ≡ Some input
-  pub parses : (P : Grammar) → Spells text P → (said : Said) × Answered P limit input true said × (said.report ≡ None)
+  pub parses : (P : Grammar) → Spells text P → (said : Said) × SaysBy mode P limit input true said × (said.report ≡ None)
   pub on_shelf : IsQuiet shelf.breaks_before shelf.breaks_now
   pub readable : IsQuiet source.before source.now
   pub writable : IsQuiet sink.before sink.now
 
 -- The program breaks no rule, and no count rose that a check raises.
-pub record IsSound (told : Option (Option (List ℕ))) (shelf : ShelfChange) (sink : Change) : Type 0 where
+pub record IsSound (asked : ℕ) (told : Option (Option (List ℕ))) (shelf : ShelfChange) (sink : Change) : Type 0 where
   pub text : List ℕ
   pub is_told : told ≡ Some (Some text)
   pub short : length text ≤ most_text
-  pub unbroken : (rule : CompileRefusal) → IsRefused any_limits text rule → rule ≡ compile.Memory
+  pub unbroken : (rule : CompileRefusal) → IsRefused (limits_to_check asked) text rule → rule ≡ compile.Memory
   pub on_shelf : IsQuiet shelf.breaks_before shelf.breaks_now
   pub writable : IsQuiet sink.before sink.now
 
 -- With all told: the source was read to its end, and the sink holds what it held and then exactly what a program that the text
 -- spells means on the input: the meaning of each stage's greedy parse of what the stage before it wrote.
-pub record Headline (text : List ℕ) (limit : ℕ) (input before : List ℕ) (rest held : Option (List ℕ)) : Type 0 where
+pub record Headline (states : ℕ) (text : List ℕ) (limit : ℕ) (input before : List ℕ) (rest held : Option (List ℕ)) : Type 0 where
   pub program : Grammar
-  pub accepts : Accepts any_limits text program
+  pub accepts : Accepts (limits_of (running states)) text program
   pub meant : List ℕ
   pub means : MeansInTurn program limit (roots_of program) input meant
   pub written : held ≡ Some (before ++ meant)

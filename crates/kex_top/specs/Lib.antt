@@ -6,4 +6,7 @@ pub mod Status
 pub mod Pipelines
 pub mod PipelineLaws
 pub mod Piped
+pub mod Modes
 pub mod Kex
+pub mod Trials
+pub mod Tallies

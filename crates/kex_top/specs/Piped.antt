@@ -6,12 +6,16 @@ use Rattle.kex_pipe.specs.Standing.{Stands}
 use Rattle.kex_pipe.specs.declared.pipe.Pipe.{Pipe}
 use Rattle.kex_pipe.specs.declared.turn.Turn.{Ghosts}
 use Rattle.kex_top.specs.History.{Fed, History}
-use Rattle.kex_top.specs.Pipelines.{StagesSay}
+use Rattle.kex_top.specs.Pipelines.{StagesSay, first_limit}
 
 module _ {T : Type 0} (t : Ghosts T) where
   -- the plans of its stages
   abbrev pub plans_of : Pipe T t → List t.Plan
   plans_of pipe = map (λ s. t.plan s.stage) pipe.seats.items
+
+  -- the limit of its first stage
+  abbrev pub limit_of : (T → ℕ) → Pipe T t → ℕ
+  limit_of limit pipe = first_limit (λ s. limit s.stage) pipe.seats.items
 
   -- the pipe stands for a schedule that gave the same, and all of that is worked off
   pub record IsWorkedOff (plans : List t.Plan) (given : List Event) (taken : List ℕ) (pipe : Pipe T t) : Type 0 where

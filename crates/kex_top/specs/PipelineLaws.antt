@@ -1,20 +1,18 @@
 -- What holds of the answers of pipelines.
-use Rattle.std.proofs.Common.{◌≡◌, ℕ, ◌<◌, Bool, false, List, [], ◌∷◌, ◌++◌, ◌&&◌, Option, Some, None, length, refl, sym, ap, ap₂, ◌∙◌, arith}
+use Rattle.std.proofs.Common.{◌≡◌, ℕ, ◌<◌, Bool, false, List, [], ◌∷◌, ◌++◌, ◌&&◌, Option, Some, None, length, map, refl, sym, ap, ap₂, ◌∙◌, arith}
 use Rattle.std.specs.Prelude.{IsSome, is_none}
 use Rattle.std.proofs.lemmas.Bool.{false≢true}
 use Rattle.kex_code.specs.Codes.{Begins}
 use Rattle.kex_ports.specs.Bytes.{IsPrefix}
 use Rattle.kex_model.specs.Answers.{Answer, Report, Stop, later}
-use Rattle.kex_machine.proofs.Standing.{one_answer as one_answer_at, grows, stays, ends, past_limit}
 use Rattle.kex_pipe.specs.Histories.{why_as}
 use Rattle.kex_pipe.specs.Reports.{report_as}
 use Rattle.kex_pipe.specs.declared.report.Rejected.{Rejected}
 use Rattle.kex_pipe.specs.declared.turn.Why.{Why}
 use Rattle.kex_pipe.specs.declared.turn.Why.TheVariants.{Byte, End, Limit}
 use Rattle.kex_model.proofs.Pipelines.{one_answer, pipelines_stand}
-use Rattle.kex_stage.specs.Stages.{StagePlan, Gives}
 use Rattle.kex_top.specs.Answer.{Said}
-use Rattle.kex_top.specs.Pipelines.{StagesSay, NodesSay, first_limit}
+use Rattle.kex_top.specs.Pipelines.{StagesSay, first_limit}
 
 why-same : (a b : Why) → why_as a ≡ why_as b → a ≡ b
 why-same Byte Byte e = refl
@@ -62,10 +60,10 @@ later-some i (Some s) None some e = cc
 
 module _ {T : Type 0} (Gives : T → List ℕ → Bool → Answer → Type 0) where
   -- past the limit of the first stage there is a report
-  pub says_ends : (limit : T → ℕ) → ((p : T) (w : List ℕ) (a : Answer) → Gives p w false a → limit p < length w → IsSome a.stop) → (ps : List T) (w : List ℕ) (a : Said) → StagesSay Gives ps w false a → first_limit limit ps < length w → IsSome a.report
-  says_ends limit past [] w a (some, says) lt = absurd (omega arith)
-  says_ends limit past (p ∷ ps) w a (some, (x, rest, gives, others, is)) lt =
-      some-reported a.report (λ none. later-some 1 x.stop rest (past p w x gives lt) (sym is ∙ none))
+  pub says_ends : {S : Type 0} (plan : S → T) (limit : S → ℕ) → ((s : S) (w : List ℕ) (a : Answer) → Gives (plan s) w false a → limit s < length w → IsSome a.stop) → (ss : List S) (w : List ℕ) (a : Said) → StagesSay Gives (map plan ss) w false a → first_limit limit ss < length w → IsSome a.report
+  says_ends plan limit past [] w a (some, says) lt = absurd (omega arith)
+  says_ends plan limit past (s ∷ ss) w a (some, (x, rest, gives, others, is)) lt =
+      some-reported a.report (λ none. later-some 1 x.stop rest (past s w x gives lt) (sym is ∙ none))
 
   module _ (one : (p : T) (w : List ℕ) (e : Bool) (a b : Answer) → Gives p w e a → Gives p w e b → a ≡ b) where
     pub says_one : (ps : List T) (w : List ℕ) (e : Bool) (a b : Said) → StagesSay Gives ps w e a → StagesSay Gives ps w e b → a ≡ b
@@ -84,21 +82,3 @@ module _ {T : Type 0} (Gives : T → List ℕ → Bool → Answer → Type 0) wh
           let x = pipelines_stand Gives one grows stays (λ p u c g. ends p u false c g) ps 1 w v a.text b.text e (report_as a.report) (report_as b.report) h.1 k.1 in
           let y = x.1 (reported-some a.report some) in
           ap₂ (λ s r. record { text = s; report = r }) y.0 (report-same b.report a.report y.1)
-
--- over the nodes of machines
-pub one_of_nodes : (p : StagePlan) (w : List ℕ) (e : Bool) (a b : Answer) → Gives p w e a → Gives p w e b → a ≡ b
-one_of_nodes p w e a b h k = one_answer_at p.machine p.limit h k
-
-module _ (ps : List StagePlan) (w : List ℕ) where
-  pub nodes_one : (e : Bool) (a b : Said) → NodesSay ps w e a → NodesSay ps w e b → a ≡ b
-  nodes_one e a b h k = says_one (λ p v d x. Gives p v d x) one_of_nodes ps w e a b h k
-
-  pub nodes_end : (a : Said) → NodesSay ps w false a → first_limit (λ p. p.limit) ps < length w → IsSome a.report
-  nodes_end a h lt = says_ends (λ p v d x. Gives p v d x) (λ p. p.limit) (λ p v x g l. past_limit p.machine p.limit g l) ps w a h lt
-
-  module _ (v : List ℕ) (e : Bool) (a b : Said) where
-    pub nodes_grow : NodesSay ps w false a → NodesSay ps (w ++ v) e b → IsPrefix a.text b.text
-    nodes_grow h k = says_grows (λ p u d x. Gives p u d x) one_of_nodes (λ p u x d c y g i. grows p.machine p.limit u x g i) (λ p u x d c y g i some. stays p.machine p.limit u x g i some) (λ p u d c g. ends p.machine p.limit g) ps w v e a b h k
-
-    pub nodes_stay : NodesSay ps w false a → NodesSay ps (w ++ v) e b → IsSome a.report → b ≡ a
-    nodes_stay h k some = says_stays (λ p u d x. Gives p u d x) one_of_nodes (λ p u x d c y g i. grows p.machine p.limit u x g i) (λ p u x d c y g i some. stays p.machine p.limit u x g i some) (λ p u d c g. ends p.machine p.limit g) ps w v e a b h k some

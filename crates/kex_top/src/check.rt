@@ -8,24 +8,25 @@ ghost use Rattle.kex_top.specs.Outside.{Closes};
 ghost use Rattle.kex_top.specs.Run.{IsLeft};
 
 use crate::call::MOST_TEXT;
-use crate::limits::any_limits;
+use crate::limits::limits_to_check;
 use crate::refused::{TOO_LONG, refused};
 use crate::status::Status;
 use kex_compile::compile;
 use kex_compile::compiled::Compiled;
 use kex_ports::{Failed, Shelf, ShelfAnswer, Sink};
-use kex_words::{Counts, write_counts};
+use kex_words::{Counts, States, write_counts};
 use std::alloc::Global;
 
-// Writes how many stages and places there are, and closes the output.
+// Writes how many stages, places and states there are, and closes the output.
 fn tell_counts<K: Sink>(compiled: &Compiled, output: &mut K) -> Status
-    ensures told { Told (counts_line (record { stages = length compiled.now.stages; places = compiled.now.places }))
+    ensures told { Told (counts_line (record { stages = length compiled.now.stages; places = compiled.now.places; states = compiled.now.states }))
         (change_of K.held K.faults output.old output.new) result }
     ensures closes { Closes (K.ending output.old) (K.ending output.new) result }
 {
     let counts = Counts {
         stages: compiled.stages().len() as u32,
         places: compiled.places(),
+        states: compiled.states(),
     };
     let Ok(()) = write_counts(output, counts) else {
         return Status::WriteFault;
@@ -40,13 +41,14 @@ fn tell_counts<K: Sink>(compiled: &Compiled, output: &mut K) -> Status
 pub(crate) fn answer_check<H: Shelf, K: Sink>(
     alloc: Global,
     program: &str,
+    states: States,
     shelf: &mut H,
     output: &mut K,
 ) -> Status
     ensures texts { H.texts shelf.new ≡ H.texts shelf.old }
     ensures shelf { ShelfAnswers (told_of (H.texts shelf.old) program.now)
         (shelf_change_of H.faults H.breaks shelf.old shelf.new) result }
-    ensures checks { (source : Change) → IsLeft source → Checks (told_of (H.texts shelf.old) program.now) source
+    ensures checks { (source : Change) → IsLeft source → Checks states.most (told_of (H.texts shelf.old) program.now) source
         (change_of K.held K.faults output.old output.new) result }
     ensures closes { Closes (K.ending output.old) (K.ending output.new) result }
 {
@@ -56,7 +58,7 @@ pub(crate) fn answer_check<H: Shelf, K: Sink>(
         Err(ShelfAnswer::TooLong) => return Status::Refused(TOO_LONG),
         Err(ShelfAnswer::Memory) => return Status::Memory,
     };
-    let asked = any_limits();
+    let asked = limits_to_check(states.most);
     match compile(alloc, &text, &asked) {
         Ok(compiled) => tell_counts(&compiled, output),
         Err(refusal) => refused(&text, refusal),

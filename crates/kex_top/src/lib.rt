@@ -6,14 +6,18 @@
 mod call;
 mod check;
 mod limits;
+mod lines;
 mod pass;
 mod pipeline;
 mod refused;
 mod serve;
+mod single;
 mod status;
 mod stream;
+mod tally;
 #[cfg(test)]
 mod tests;
+mod trial;
 mod worker;
 
 pub use call::kex;

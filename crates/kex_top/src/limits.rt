@@ -1,16 +1,39 @@
 // What a command asks of a program.
-ghost use Rattle.std.specs.Prelude.{◌≡◌};
-ghost use Rattle.kex_top.specs.Kex.{any_limits};
+ghost use Rattle.std.specs.Prelude.{◌≡◌, ◌<◌};
+ghost use Rattle.kex_words.specs.Words.{mode_of};
+ghost use Rattle.kex_top.specs.Modes.{limits_of, limits_to_check};
 
 use kex_compile::limits::Limits;
+use kex_words::Mode;
 
-/// Nothing but the rules of the language.
-pub(crate) fn any_limits() -> Limits
-    ensures { result ≡ any_limits }
+const ONE_STAGE: Limits = Limits {
+    states: 4096,
+    one_stage: true,
+    tables: false,
+};
+
+/// What a command on an input asks.
+pub(crate) fn limits_of(mode: Mode) -> Limits
+    ensures value { result ≡ limits_of (mode_of mode) }
+    ensures few { result.states < 4294967295 }
+{
+    match mode {
+        Mode::Run(states) => Limits {
+            states: states.most,
+            one_stage: false,
+            tables: true,
+        },
+        Mode::Code | Mode::Act | Mode::Test => ONE_STAGE,
+    }
+}
+
+/// What a check asks, and a trial.
+pub(crate) fn limits_to_check(states: u32) -> Limits
+    ensures { result ≡ limits_to_check states }
 {
     Limits {
-        states: 4096,
+        states,
         one_stage: false,
-        tables: false,
+        tables: true,
     }
 }

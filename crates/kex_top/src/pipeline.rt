@@ -1,12 +1,14 @@
 // The stages of a program as one worker.
-ghost use Rattle.std.specs.Prelude.{◌≡◌, ◌<◌, List, ℕ, OnOk};
+ghost use Rattle.std.specs.Prelude.{◌≡◌, ◌<◌, List, ℕ, false, IsSome, OnOk, length};
+ghost use Rattle.std.proofs.Common.{ap};
+ghost use Rattle.kex_machine.proofs.Standing.{past_limit};
+ghost use Rattle.kex_model.specs.Answers.{Answer};
 ghost use Rattle.kex_model.specs.Schedules.{Event};
 ghost use Rattle.kex_pipe.specs.Standing.{Stands};
-ghost use Rattle.kex_stage.specs.Stages.{StagePlan};
-ghost use Rattle.kex_top.specs.Pipelines.{NodesSay, first_limit};
-ghost use Rattle.kex_top.specs.PipelineLaws.{nodes_one, nodes_grow, nodes_stay, nodes_end};
+ghost use Rattle.kex_top.specs.Pipelines.{StagesSay};
+ghost use Rattle.kex_top.specs.PipelineLaws.{says_one, says_grows, says_stays, says_ends};
 ghost use Rattle.kex_top.specs.History.{IsFateOf};
-ghost use Rattle.kex_top.specs.Piped.{IsWorkedOff, PipeStands, plans_of};
+ghost use Rattle.kex_top.specs.Piped.{IsWorkedOff, PipeStands, limit_of, plans_of};
 
 use crate::worker::Worker;
 use kex_code::memory::Memory;
@@ -28,6 +30,24 @@ fn work_off<T: Turn + Drop>(pipe: &mut Pipe<T>) -> Result<(), Memory>
     Ok(())
 }
 
+/// A stage with a limit to its input, past which it stops.
+pub(crate) trait Limited: Turn {
+    ghost limit: { Self → ℕ };
+
+    /// Stages that work by the same have the same limit.
+    ghost by_plan: { (s t : Self) → Self.plan s ≡ Self.plan t → limit s ≡ limit t };
+
+    ghost past_limit: { (s : Self) (w : List ℕ) (a : Answer) → Self.gives (Self.plan s) w false a → limit s < length w → IsSome a.stop };
+}
+
+impl<'p> Limited for Stage<'p> {
+    ghost limit = { λ s. (⟦<Stage<'p> as Turn>⟧.plan s).limit };
+
+    ghost by_plan = { λ s t e. ap (λ p. p.limit) e };
+
+    ghost past_limit = { λ s w a g lt. past_limit (⟦<Stage<'p> as Turn>⟧.plan s).machine (⟦<Stage<'p> as Turn>⟧.plan s).limit g lt };
+}
+
 fn fate_of(report: Option<Rejected>) -> Fate
     ensures { IsFateOf report result }
 {
@@ -37,24 +57,24 @@ fn fate_of(report: Option<Rejected>) -> Fate
     }
 }
 
-impl<'p> Worker for Pipe<Stage<'p>> {
-    ghost Plan = { List StagePlan };
+impl<T: Limited + Drop> Worker for Pipe<T> {
+    ghost Plan = { List T.Plan };
 
-    ghost plan = { λ pipe. plans_of ⟦<Stage<'p> as Turn>⟧ pipe };
+    ghost plan = { λ pipe. plans_of T.Turn pipe };
 
-    ghost says = { λ ps w e said. NodesSay ps w e said };
+    ghost says = { λ ps w e said. StagesSay (λ p v d a. T.gives p v d a) ps w e said };
 
-    ghost stands = { λ pipe h. PipeStands ⟦<Stage<'p> as Turn>⟧ pipe h };
+    ghost stands = { λ pipe h. PipeStands T.Turn pipe h };
 
-    ghost limit = { λ ps. first_limit (λ p. p.limit) ps };
+    ghost limit = { λ pipe. limit_of T.Turn T.limit pipe };
 
-    ghost one = { λ ps w e a b h k. nodes_one ps w e a b h k };
+    ghost one = { λ ps w e a b h k. says_one T.gives T.one ps w e a b h k };
 
-    ghost grows = { λ ps w x e a b h k. nodes_grow ps w x e a b h k };
+    ghost grows = { λ ps w x e a b h k. says_grows T.gives T.one T.grows T.stays T.ends ps w x e a b h k };
 
-    ghost stays = { λ ps w x e a b h k some. nodes_stay ps w x e a b h k some };
+    ghost stays = { λ ps w x e a b h k some. says_stays T.gives T.one T.grows T.stays T.ends ps w x e a b h k some };
 
-    ghost ends = { λ ps w a h lt. nodes_end ps w a h lt };
+    ghost ends = { λ pipe w a h lt. says_ends T.gives (λ s. T.plan s.stage) (λ s. T.limit s.stage) (λ s v b g more. T.past_limit s.stage v b g more) pipe.seats.items w a h lt };
 
     fn feed(&mut self, piece: &[u8], out: &mut Vec<u8>) -> Result<Fate, Memory> {
         let Ok(()) = self.give(piece) else {

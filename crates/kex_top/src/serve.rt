@@ -1,13 +1,18 @@
 // A program's stages over a source into a sink.
-ghost use Rattle.std.specs.Prelude.{◌≡◌, ◌⊎◌, ◌<◌, IfOk, None, length, map};
-ghost use Rattle.kex_stage.specs.Plans.{machine_of};
+ghost use Rattle.std.specs.Prelude.{◌≡◌, ◌⊎◌, ◌<◌, ◌∷◌, [], IfOk, None, true, length, map};
 ghost use Rattle.kex_ports.specs.Reads.{last_given};
+ghost use Rattle.kex_stage.specs.Plans.{machine_of};
 ghost use Rattle.kex_words.specs.Gains.{change_of};
+ghost use Rattle.kex_words.specs.Words.{mode_of};
+ghost use Rattle.kex_words.specs.declared.asked.Mode.TheVariants as of_mode;
+ghost use Rattle.kex_top.specs.Modes.{MachinesSay, limits_of};
 ghost use Rattle.kex_top.specs.Outside.{Closes, ReadsBlocks};
 ghost use Rattle.kex_top.specs.Piped.{PipeStands, plans_of};
-ghost use Rattle.kex_top.specs.Pipelines.{NodesSay, stage_plans};
+ghost use Rattle.kex_top.specs.Pipelines.{NodesSay, StagesSay, stage_plans};
 ghost use Rattle.kex_top.specs.Run.{Left, Ran};
 
+use crate::pipeline::Limited;
+use crate::single::{act, code, test};
 use crate::status::Status;
 use crate::stream::run;
 use kex_code::memory::Memory;
@@ -17,7 +22,7 @@ use kex_pipe::turn::Turn;
 use kex_ports::{Sink, Source};
 use kex_stage::plan::Plan;
 use kex_stage::stage::Stage;
-use kex_words::Limits;
+use kex_words::{Limits, Mode};
 use std::alloc::Global;
 
 /// The pipe of the stages with these plans, each of which takes at most so many bytes.
@@ -39,8 +44,8 @@ pub(crate) fn pipe_of<'p>(
     Ok(pipe)
 }
 
-/// Runs the stages.
-pub(crate) fn serve<S: Source, K: Sink>(
+// Runs the stages.
+fn run_stages<S: Source, K: Sink>(
     alloc: Global,
     compiled: &Compiled,
     limits: Limits,
@@ -60,4 +65,32 @@ pub(crate) fn serve<S: Source, K: Sink>(
         return Status::Memory;
     };
     run(alloc, &mut pipe, limits, input, output)
+}
+
+/// Writes for the input what is asked for. A test doesn't call the output.
+pub(crate) fn serve<S: Source, K: Sink>(
+    alloc: Global,
+    mode: Mode,
+    compiled: &Compiled,
+    limits: Limits,
+    input: &mut S,
+    output: &mut K,
+) -> Status
+    requires some { 0 < length compiled.now.stages }
+    requires one { (limits_of (mode_of mode)).one_stage ≡ true → length compiled.now.stages ≡ 1 }
+    ensures ran { (Left (change_of S.rest S.faults input.old input.new)
+        (change_of K.held K.faults output.old output.new) × (result ≡ Status.Memory))
+        ⊎ Ran (MachinesSay (mode_of mode) limits.max_input compiled.now.stages) (last_given limits.block (S.reads input.new))
+        (change_of S.rest S.faults input.old input.new)
+        (change_of K.held K.faults output.old output.new) result }
+    ensures blocks { ReadsBlocks limits.block (S.reads input.old) (S.reads input.new) result }
+    ensures closes { (mode ≡ of_mode.Test → ⊥) → Closes (K.ending output.old) (K.ending output.new) result }
+    ensures untouched { mode ≡ of_mode.Test → output.new ≡ output.old }
+{
+    match mode {
+        Mode::Run(_) => run_stages(alloc, compiled, limits, input, output),
+        Mode::Code => code(alloc, compiled.stages()[0].machine(), limits, input, output),
+        Mode::Act => act(alloc, compiled.stages()[0].machine(), limits, input, output),
+        Mode::Test => test(alloc, compiled.stages()[0].machine(), limits, input),
+    }
 }

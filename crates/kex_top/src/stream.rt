@@ -46,7 +46,7 @@ pub(crate) fn pump<T: Worker, S: Source, K: Sink>(
     most: u64,
 ) -> Status
     requires fresh { T.stands worker.old None }
-    requires limit { (T.limit (T.plan worker.old) ≡ most) × (most ≤ 2 ^ 48) }
+    requires limit { (T.limit worker.old ≡ most) × (most ≤ 2 ^ 48) }
     requires block { (0 < length block.old) × (length block.old ≤ 2 ^ 20) }
     ensures pumped { Pumped (T.says (T.plan worker.old)) (last_given (length block.old) (S.reads input.new))
         (change_of S.rest S.faults input.old input.new)
@@ -96,7 +96,7 @@ pub(crate) fn run<T: Worker, S: Source, K: Sink>(
     output: &mut K,
 ) -> Status
     requires fresh { T.stands worker.old None }
-    requires limit { T.limit (T.plan worker.old) ≡ limits.max_input }
+    requires limit { T.limit worker.old ≡ limits.max_input }
     ensures ran { Ran (T.says (T.plan worker.old)) (last_given limits.block (S.reads input.new))
         (change_of S.rest S.faults input.old input.new)
         (change_of K.held K.faults output.old output.new) result }

@@ -1,4 +1,5 @@
 //! The call over objects in memory.
+mod commands;
 mod limits;
 mod pipes;
 mod refusals;
@@ -254,7 +255,7 @@ fn faults_are_told_by_their_causes(rt: HostRuntime) -> Result<(), Fail> {
         Case {
             words: &["kex", "check", "p"],
             failing_reads: &[1],
-            held: b"stages 1 places 3\n",
+            held: b"stages 1 places 3 states 1\n",
             ..PLAIN
         },
         Case {
@@ -269,8 +270,8 @@ fn faults_are_told_by_their_causes(rt: HostRuntime) -> Result<(), Fail> {
         // The call that fails is the one to finish.
         Case {
             words: &["kex", "check", "p"],
-            failing_writes: &[6],
-            held: b"stages 1 places 3\n",
+            failing_writes: &[8],
+            held: b"stages 1 places 3 states 1\n",
             status: Status::WriteFault,
             notes: b"write fault\n",
             ..PLAIN
@@ -443,7 +444,7 @@ fn the_first_broken_rule_is_told(rt: HostRuntime) -> Result<(), Fail> {
         },
         Case {
             words: &["kex", "check", "p"],
-            held: b"stages 2 places 18\n",
+            held: b"stages 2 places 18 states 4\n",
             input: b"",
             ..PAIR
         },

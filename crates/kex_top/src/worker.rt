@@ -25,7 +25,7 @@ pub(crate) trait Worker {
     ghost stands: { Self → History → Type 0 };
 
     /// The most bytes that it takes.
-    ghost limit: { Plan → ℕ };
+    ghost limit: { Self → ℕ };
 
     /// Puts into `out`, in place of what it held, what is said now and wasn't yet.
     fn feed(&mut self, piece: &[u8], out: &mut Vec<u8>) -> Result<Fate, Memory>
@@ -54,5 +54,5 @@ pub(crate) trait Worker {
     ghost stays: { (p : Plan) (w x : List ℕ) (e : Bool) (a b : Said) → says p w false a → says p (w ++ x) e b → IsSome a.report → b ≡ a };
 
     /// Past the limit there is a report.
-    ghost ends: { (p : Plan) (w : List ℕ) (a : Said) → says p w false a → limit p < length w → IsSome a.report };
+    ghost ends: { (t : Self) (w : List ℕ) (a : Said) → says (plan t) w false a → limit t < length w → IsSome a.report };
 }

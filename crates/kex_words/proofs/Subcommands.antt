@@ -1,5 +1,5 @@
 -- The subcommand that words in form name.
-use Rattle.std.proofs.Common.{◌≡◌, ◌∙◌, List, [], ◌∷◌, Bool, true, false, refl, sym, ap, inl, inr, rules}
+use Rattle.std.proofs.Common.{◌≡◌, ◌∙◌, List, [], ◌∷◌, Bool, true, false, refl, sym, ap, subst, inl, inr, rules, map}
 use Rattle.std.specs.Prelude.{◌⊎◌, Option, Some, None, ◌&&◌, ℕ, not, is_some, find, option_map, slice_get, unwrap_or, codes}
 use Rattle.std.specs.List.{list_any}
 use Rattle.clap.specs.Words.{Row, Text, Kinds, subcommand_of, fault_of}
@@ -11,7 +11,7 @@ use Rattle.clap.specs.Takes.{is_given}
 use Rattle.clap.specs.Walk.{Held, Names, answers_to, finished, is_empty, settled, stop_after, walk, walk_from}
 use Rattle.kex_words.specs.Form.{kex_app}
 use Rattle.kex_words.specs.Words.{Asked, asked_in, asked_of}
-use Rattle.kex_words.specs.Subcommands.{AsksBySubcommand}
+use Rattle.kex_words.specs.Subcommands.{AsksBySubcommand, IsOneOf, subcommands}
 
 -- Where neither of two steps has a fault, the second has none.
 last-empty : (a b : Kinds) → or_else a b ≡ [] → b ≡ []
@@ -38,38 +38,34 @@ has-subcommand s names h words false below wants none =
     absurd (no-subcommand (s.arg_required_else_help && not (list_any (λ r. explicit_source r.source) rows)) s.subcommand_required
     (not (s.subcommand_negates_reqs && false) && list_any (λ a. a.required && not (is_given a.id rows)) s.rules) wants checked)
 
--- Where one of two is found, it is the first or the second.
-found-of-two : {X : Type 0} (p : X → Bool) (a b : X) → is_some (find p (a ∷ b ∷ [])) ≡ true
-    → (find p (a ∷ b ∷ []) ≡ Some a) ⊎ (find p (a ∷ b ∷ []) ≡ Some b)
-found-of-two p a b = go (p a) refl (p b) refl where
-  go : (x : Bool) → p a ≡ x → (y : Bool) → p b ≡ y → is_some (find p (a ∷ b ∷ [])) ≡ true
-      → (find p (a ∷ b ∷ []) ≡ Some a) ⊎ (find p (a ∷ b ∷ []) ≡ Some b)
-  go true x y z e = inl (rw x refl)
-  go false x true y e = inr (rw (x, y) refl)
-  go false x false y e =
-      let none : is_some (find p (a ∷ b ∷ [])) ≡ false = rw (x, y) refl in
-      let bad : false ≡ true = sym none ∙ e in cc
-
 is_some-option_map : {X Y : Type 0} (f : X → Y) (o : Option X) → is_some (option_map f o) ≡ is_some o
 is_some-option_map f None = refl
 is_some-option_map f (Some x) = refl
 
--- the subcommand at this index, as it is built
-abbrev at-of : ℕ → Shape
-at-of i = unwrap_or (slice_get (built kex_app).subs i) kex_app.top
+-- What is found has one of the names.
+found-name : (p : Shape → Bool) (shapes : List Shape) → is_some (find p shapes) ≡ true
+    → (s : Shape) × (find p shapes ≡ Some s) × IsOneOf (map (λ x. x.name) shapes) s.name
+found-name p [] e = let bad : false ≡ true = e in cc
+found-name p (x ∷ xs) e = go (p x) refl (λ k. found-name p xs k) where
+  go : (b : Bool) → p x ≡ b → (is_some (find p xs) ≡ true → (s : Shape) × (find p xs ≡ Some s) × IsOneOf (map (λ y. y.name) xs) s.name)
+      → (s : Shape) × (find p (x ∷ xs) ≡ Some s) × IsOneOf (map (λ y. y.name) (x ∷ xs)) s.name
+  go true is rest = (x, rw is refl, inl refl)
+  go false is rest =
+      let skips : find p (x ∷ xs) ≡ find p xs = rw is refl in
+      let f = rest (ap is_some (sym skips) ∙ e) in
+      (f.0, skips ∙ f.1, inr f.2)
 
--- What is entered is `run` or `check`.
-entered-names : (stop : Option (Text × List Text)) → is_some (entered (built kex_app) stop) ≡ true
-    → ((rows : List Row) × (entered (built kex_app) stop ≡ Some (codes "run", rows)))
-    ⊎ ((rows : List Row) × (entered (built kex_app) stop ≡ Some (codes "check", rows)))
-entered-names None e = let bad : false ≡ true = e in cc
-entered-names (Some p) e =
+named : map (λ x. x.name) (built kex_app).subs ≡ subcommands
+named = refl
+
+-- What is entered is one of the subcommands.
+entered-name : (stop : Option (Text × List Text)) → is_some (entered (built kex_app) stop) ≡ true
+    → (name : Text) × (rows : List Row) × IsOneOf subcommands name × (entered (built kex_app) stop ≡ Some (name, rows))
+entered-name None e = let bad : false ≡ true = e in cc
+entered-name (Some p) e =
     let met = find (λ s. answers_to p.0 (label_of s)) (built kex_app).subs in
-    let found = found-of-two (λ s. answers_to p.0 (label_of s)) (at-of 0) (at-of 1) (sym (is_some-option_map (λ s. rows_at s p.1) met) ∙ e) in
-    elim found [
-      | inl one ↦ inl (_, ap (option_map (λ s. rows_at s p.1)) one)
-      | inr other ↦ inr (_, ap (option_map (λ s. rows_at s p.1)) other)
-    ]
+    let f = found-name (λ s. answers_to p.0 (label_of s)) (built kex_app).subs (sym (is_some-option_map (λ s. rows_at s p.1) met) ∙ e) in
+    (_, _, subst (λ names. IsOneOf names f.0.name) named f.2, ap (option_map (λ s. rows_at s p.1)) f.1)
 
 empty-of : (ks : Kinds) → is_empty ks ≡ true → ks ≡ []
 empty-of [] e = refl
@@ -93,7 +89,5 @@ pub asks-by : (words : List Text) (what : Asked) → asked_of words ≡ Some wha
 asks-by words what e =
     let a = asked-empty words what e in
     let has = has-subcommand _ _ _ _ _ _ refl a.0 in
-    elim (entered-names (stop_after (built kex_app).top.rules (names_of (built kex_app)) (argument_words kex_app words)) has) [
-      | inl run ↦ inl (run.0, run.1, sym a.1 ∙ ap asked_in run.1)
-      | inr check ↦ inr (check.0, check.1, sym a.1 ∙ ap asked_in check.1)
-    ]
+    let n = entered-name (stop_after (built kex_app).top.rules (names_of (built kex_app)) (argument_words kex_app words)) has in
+    record { name = n.0; rows = n.1; known = n.2; named = n.3; asks = sym a.1 ∙ ap asked_in n.3 }

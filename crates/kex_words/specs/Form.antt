@@ -27,16 +27,35 @@ max_input_rule = number_rule (codes "max-input") 0 most_input (codes "2814749767
 abbrev pub block_rule : Rule
 block_rule = number_rule (codes "block") 1 most_block (codes "65536")
 
+abbrev pub most_states : ℕ
+most_states = 65536
+
+abbrev pub most_lines : ℕ
+most_lines = 1000000
+
+abbrev pub states_rule : Rule
+states_rule = number_rule (codes "states") 1 most_states (codes "4096")
+
+abbrev pub lines_rule : Rule
+lines_rule = record (new_rule (codes "N")) { parser = Some (vp.Unsigned 0 most_lines); required = true }
+
 abbrev pub with_rules : App → List Rule → App
 with_rules app [] = app
 with_rules app (rule ∷ rules) = with_rules (with_rule app rule) rules
 
 abbrev pub run_app : App
-run_app = with_rules (new_app (codes "run")) (program_rule ∷ max_input_rule ∷ block_rule ∷ [])
+run_app = with_rules (new_app (codes "run")) (program_rule ∷ states_rule ∷ max_input_rule ∷ block_rule ∷ [])
 
--- a check reads no input, so it has no options yet
+-- a check reads no input
 abbrev pub check_app : App
-check_app = with_rules (new_app (codes "check")) (program_rule ∷ [])
+check_app = with_rules (new_app (codes "check")) (program_rule ∷ states_rule ∷ [])
+
+-- a command on a program of one stage, which makes no table
+abbrev pub stage_app : Text → App
+stage_app name = with_rules (new_app name) (program_rule ∷ max_input_rule ∷ block_rule ∷ [])
+
+abbrev pub trial_app : App
+trial_app = with_rules (new_app (codes "trial")) (lines_rule ∷ block_rule ∷ [])
 
 -- no flag or subcommand for help or the version
 abbrev pub bare_app : App
@@ -53,6 +72,9 @@ abbrev pub with_subcommands : App → List App → App
 with_subcommands app [] = app
 with_subcommands app (sub ∷ subs) = with_subcommands (with_subcommand app sub.top) subs
 
+abbrev pub begun_app : App
+begun_app = with_subcommands bare_app (run_app ∷ check_app ∷ stage_app (codes "code") ∷ [])
+
 -- one of these subcommands, which is required
 abbrev pub kex_app : App
-kex_app = with_subcommands bare_app (run_app ∷ check_app ∷ [])
+kex_app = with_subcommands begun_app (stage_app (codes "act") ∷ stage_app (codes "test") ∷ trial_app ∷ [])

@@ -3,8 +3,9 @@ use Rattle.std.specs.Prelude.{◌≡◌, ◌==◌, ℕ, List, [], ◌∷◌, Boo
 use Rattle.std.specs.List.{list_all, slice_split}
 use Prim.Native.String.{String}
 use Rattle.clap.specs.Words.{Text}
-use Rattle.kex_words.specs.Words.{Asked, Reach, asked_of}
-use Rattle.kex_words.specs.Words.Asked.{ToRun, ToCheck}
+use Rattle.kex_words.specs.Words.{Asked, Mode, Reach, asked_of}
+use Rattle.kex_words.specs.Words.Asked.{ToStream, ToCheck, ToTry}
+use Rattle.kex_words.specs.Words.Mode.{running, coding, acting, testing}
 
 -- the words of a line, between single blanks, so that an empty word may stand among them
 abbrev pub words_of : String → List Text
@@ -27,55 +28,74 @@ is_usage line = is_none (asked_of (words_of line))
 abbrev pub AreUsage : List String → Type 0
 AreUsage lines = list_all is_usage lines ≡ true
 
+-- with the usual number of states
+abbrev pub to_run : String → Reach → Asked
+to_run name r = ToStream (running 4096) (codes name) r
+
 pub record ReadsRun : Type 0 where
-  pub plain : Asks "kex run p" (ToRun (codes "p") usual_reach)
-  pub with_options : Asks "kex run p --max-input 3 --block 1" (ToRun (codes "p") (reach 3 1))
-  pub options_first : Asks "kex run --block=1048576 --max-input=0 p" (ToRun (codes "p") (reach 0 1048576))
-  pub largest : Asks "kex run p --max-input 281474976710656" (ToRun (codes "p") usual_reach)
+  pub plain : Asks "kex run p" (to_run "p" usual_reach)
+  pub with_options : Asks "kex run p --max-input 3 --block 1" (to_run "p" (reach 3 1))
+  pub options_first : Asks "kex run --block=1048576 --max-input=0 p" (to_run "p" (reach 0 1048576))
+  pub states : Asks "kex run p --states 7 --block 1" (ToStream (running 7) (codes "p") (reach 281474976710656 1))
+  pub largest : Asks "kex run p --max-input 281474976710656 --states 65536" (ToStream (running 65536) (codes "p") usual_reach)
   -- as `clap` reads numbers
-  pub plus_and_zeros : Asks "kex run p --max-input +3 --block 007" (ToRun (codes "p") (reach 3 7))
-  pub empty_name : Asks "kex run " (ToRun [] usual_reach)
-  pub dash_for_a_name : Asks "kex run -" (ToRun (codes "-") usual_reach)
-  pub name_behind_dashes : Asks "kex run -- --block" (ToRun (codes "--block") usual_reach)
-  pub dashes_behind_name : Asks "kex run --block 3 p --" (ToRun (codes "p") (reach 281474976710656 3))
-  pub command_for_a_name : Asks "kex run check" (ToRun (codes "check") usual_reach)
-  pub help_for_a_name : Asks "kex run help" (ToRun (codes "help") usual_reach)
-  pub file_of_words : Asks "kex run @p" (ToRun (codes "@p") usual_reach)
+  pub plus_and_zeros : Asks "kex run p --max-input +3 --block 007" (to_run "p" (reach 3 7))
+  pub empty_name : Asks "kex run " (to_run "" usual_reach)
+  pub dash_for_a_name : Asks "kex run -" (to_run "-" usual_reach)
+  pub name_behind_dashes : Asks "kex run -- --block" (to_run "--block" usual_reach)
+  pub dashes_behind_name : Asks "kex run --block 3 p --" (to_run "p" (reach 281474976710656 3))
+  pub command_for_a_name : Asks "kex run check" (to_run "check" usual_reach)
+  pub help_for_a_name : Asks "kex run help" (to_run "help" usual_reach)
+  pub file_of_words : Asks "kex run @p" (to_run "@p" usual_reach)
   -- the first word is the program's own name, whatever it is
-  pub own_name : Asks "--help run p" (ToRun (codes "p") usual_reach)
+  pub own_name : Asks "--help run p" (to_run "p" usual_reach)
 
 pub record ReadsCheck : Type 0 where
-  pub plain : Asks "kex check p" (ToCheck (codes "p"))
-  pub empty_name : Asks "kex check " (ToCheck [])
-  pub name_behind_dashes : Asks "kex check -- --states" (ToCheck (codes "--states"))
-  pub command_for_a_name : Asks "kex check run" (ToCheck (codes "run"))
+  pub plain : Asks "kex check p" (ToCheck (codes "p") 4096)
+  pub states : Asks "kex check --states 1 p" (ToCheck (codes "p") 1)
+  pub empty_name : Asks "kex check " (ToCheck [] 4096)
+  pub name_behind_dashes : Asks "kex check -- --states" (ToCheck (codes "--states") 4096)
+  pub command_for_a_name : Asks "kex check run" (ToCheck (codes "run") 4096)
+
+-- the commands on a program of one stage
+pub record ReadsSingles : Type 0 where
+  pub code : Asks "kex code p" (ToStream coding (codes "p") usual_reach)
+  pub act : Asks "kex act p --block 7" (ToStream acting (codes "p") (reach 281474976710656 7))
+  pub test : Asks "kex test --max-input 3 p" (ToStream testing (codes "p") (reach 3 65536))
+
+pub record ReadsTrial : Type 0 where
+  pub plain : Asks "kex trial 2" (ToTry 2 65536)
+  pub none : Asks "kex trial --block 1 0" (ToTry 0 1)
+  pub most : Asks "kex trial 1000000" (ToTry 1000000 65536)
 
 pub record RefusesWords : Type 0 where
   pub no_words : asked_of [] ≡ None
   pub no_command : AreUsage ("kex" ∷ "kex " ∷ "kex --" ∷ "kex p" ∷ "kex -- run p" ∷ "kex --block 3 run p" ∷ [])
   pub other_command : AreUsage ("kex walk p" ∷ "kex ru p" ∷ "kex RUN p" ∷ "kex checks p" ∷ "kex --run p" ∷ [])
-  -- the usage line names these already
-  pub later_command : AreUsage ("kex code p" ∷ "kex act p" ∷ "kex test p" ∷ "kex trial 3" ∷ [])
   pub help_or_version : AreUsage ("kex help" ∷ "kex help run" ∷ "kex -h" ∷ "kex --help" ∷ "kex -V" ∷ "kex --version"
       ∷ "kex run -h" ∷ "kex run p --help" ∷ "kex run p --version" ∷ "kex check --help" ∷ [])
-  pub no_program : AreUsage ("kex run" ∷ "kex run --" ∷ "kex run --block 3" ∷ "kex check" ∷ [])
+  pub no_program : AreUsage ("kex run" ∷ "kex run --" ∷ "kex run --block 3" ∷ "kex check" ∷ "kex code" ∷ "kex trial" ∷ [])
   pub two_programs : AreUsage ("kex run p q" ∷ "kex run p p" ∷ "kex run p " ∷ "kex run -- p --" ∷ "kex run -- p --block 3"
       ∷ "kex check p q" ∷ "kex check p run q" ∷ [])
-  pub unknown_option : AreUsage ("kex run p --rate 1" ∷ "kex run p --states 1" ∷ "kex run p --bloc 3" ∷ "kex run p --Block 3"
+  pub unknown_option : AreUsage ("kex run p --rate 1" ∷ "kex run p --state 1" ∷ "kex run p --bloc 3" ∷ "kex run p --Block 3"
       ∷ "kex run p --max_input 3" ∷ "kex run p -b 3" ∷ "kex run p -block 3" ∷ "kex run -p" ∷ "kex run -5" ∷ [])
-  pub option_of_another_command : AreUsage ("kex check p --block 1" ∷ "kex check p --max-input 1" ∷ "kex check p --states 1" ∷ [])
+  pub option_of_another_command : AreUsage ("kex check p --block 1" ∷ "kex check p --max-input 1" ∷ "kex code p --states 1" ∷ "kex act p --states 1"
+      ∷ "kex test p --states 1" ∷ "kex trial 1 --states 1" ∷ "kex trial 1 --max-input 1" ∷ [])
   pub option_twice : AreUsage ("kex run p --block 2 --block 3" ∷ "kex run p --block=2 --block=2"
       ∷ "kex run --max-input 1 p --max-input 1" ∷ [])
   pub no_value : AreUsage ("kex run p --block" ∷ "kex run p --block=" ∷ "kex run p --block " ∷ "kex run p --block --max-input 3"
       ∷ "kex run --block -- p" ∷ [])
-  pub below_range : AreUsage ("kex run p --block 0" ∷ "kex run p --block -1" ∷ "kex run p --max-input -1" ∷ "kex run p --max-input=-0" ∷ [])
+  pub below_range : AreUsage ("kex run p --block 0" ∷ "kex run p --block -1" ∷ "kex run p --max-input -1" ∷ "kex run p --max-input=-0"
+      ∷ "kex run p --states 0" ∷ "kex check p --states 0" ∷ "kex trial -1" ∷ [])
   pub above_range : AreUsage ("kex run p --block 1048577" ∷ "kex run p --max-input 281474976710657"
-      ∷ "kex run p --block 18446744073709551617" ∷ [])
+      ∷ "kex run p --block 18446744073709551617" ∷ "kex run p --states 65537" ∷ "kex trial 1000001" ∷ [])
   pub no_number : AreUsage ("kex run p --block two" ∷ "kex run p --block 3k" ∷ "kex run p --block 0x10" ∷ "kex run p --block 1_000"
       ∷ "kex run p --block 3.0" ∷ "kex run p --block +" ∷ "kex run p --block ++3" ∷ "kex run p --block=3=4"
-      ∷ "kex run p --block 3,5" ∷ [])
+      ∷ "kex run p --block 3,5" ∷ "kex trial p" ∷ "kex trial " ∷ [])
 
 pub record ReadsWords : Type 0 where
   pub run : ReadsRun
   pub check : ReadsCheck
+  pub singles : ReadsSingles
+  pub trial : ReadsTrial
   pub out_of_form : RefusesWords

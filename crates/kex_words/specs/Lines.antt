@@ -1,7 +1,8 @@
--- The line that a call leaves in the notes, and the line of a check.
+-- The line that a call leaves in the notes, and the lines of a check and of a trial.
 use Rattle.std.specs.Prelude.{ℕ, List, [], ◌∷◌, Bool, codes, decimal, if◌then◌else◌}
 use Rattle.std.specs.List.{concat}
 use Rattle.kex_words.specs.declared.counts.Counts.{Counts}
+use Rattle.kex_words.specs.declared.counts.Summary.{Summary}
 use Rattle.kex_words.specs.declared.notes.Note.{Note}
 use Rattle.kex_words.specs.declared.notes.Note.TheVariants.{Nothing, Rejected, TooLong, Usage, Refused, ReadFault, WriteFault, ShelfFault, Memory}
 use Rattle.kex_words.specs.declared.refusals.Place.{Place}
@@ -63,4 +64,10 @@ line_of ShelfFault = codes "shelf fault\n"
 line_of Memory = codes "out of memory\n"
 
 abbrev pub counts_line : Counts → List ℕ
-counts_line counts = concat (codes "stages " ∷ decimal counts.stages ∷ codes " places " ∷ decimal counts.places ∷ codes "\n" ∷ [])
+counts_line counts = concat (codes "stages " ∷ decimal counts.stages ∷ codes " places " ∷ decimal counts.places
+    ∷ codes " states " ∷ decimal counts.states ∷ codes "\n" ∷ [])
+
+-- the line of a trial
+abbrev pub trial_line : Summary → List ℕ
+trial_line s = concat (codes "lines " ∷ decimal s.lines ∷ codes " in " ∷ decimal s.made ∷ codes " out " ∷ decimal s.written
+    ∷ codes " roll " ∷ decimal s.roll ∷ codes "\n" ∷ [])

@@ -5,19 +5,31 @@ use Rattle.std.specs.Str.Parse.{digits_value, without_leading_plus}
 use Rattle.clap.specs.Words.{Row, Text, first_of, one_of, subcommand_of, fault_of}
 use Rattle.clap.specs.Walk.{is_empty}
 use Rattle.clap.specs.ValueTests.{is_unsigned_in}
-use Rattle.kex_words.specs.Form.{kex_app, most_block, most_input}
+use Rattle.kex_words.specs.Form.{kex_app, most_block, most_input, most_lines, most_states}
+use Rattle.kex_words.specs.declared.asked.Limits.{Limits}
 use Rattle.kex_words.specs.declared.asked.Command.{Command}
-use Rattle.kex_words.specs.declared.asked.Command.TheVariants.{Run, Check}
+use Rattle.kex_words.specs.declared.asked.Command.TheVariants.{Stream, Check, Trial}
+use Rattle.kex_words.specs.declared.asked.Mode.{Mode as Moded}
+use Rattle.kex_words.specs.declared.asked.Mode.TheVariants as of_mode
 
 -- how many bytes are read, in all and at a time
 pub record Reach : Type 0 where
   pub max_input : ℕ
   pub block : ℕ
 
+-- what is written for the bytes of the input: what they mean, by tables of at most so many states; their code; what they mean as
+-- the text of a code; or nothing, where it is only asked whether they have a parse
+pub data Mode : Type 0 where
+  running : (states : ℕ) → Mode
+  coding : Mode
+  acting : Mode
+  testing : Mode
+
 -- what is asked for, and of which program
 pub data Asked : Type 0 where
-  ToRun : (program : Text) (reach : Reach) → Asked
-  ToCheck : (program : Text) → Asked
+  ToStream : (mode : Mode) (program : Text) (reach : Reach) → Asked
+  ToCheck : (program : Text) (states : ℕ) → Asked
+  ToTry : (lines block : ℕ) → Asked
 
 -- the number where it is within the bounds
 abbrev pub bounded : ℕ → ℕ → Option ℕ → Option ℕ
@@ -35,26 +47,51 @@ number_at id low high rows = option_and_then (number_of low high) (one_of id row
 abbrev pub program_in : List Row → Text
 program_in rows = unwrap_or (first_of (codes "PROGRAM") rows) []
 
+abbrev pub block_in : List Row → ℕ
+block_in rows = unwrap_or (number_at (codes "block") 1 most_block rows) 65536
+
 abbrev pub reach_in : List Row → Reach
 reach_in rows = record {
   max_input = unwrap_or (number_at (codes "max-input") 0 most_input rows) most_input;
-  block = unwrap_or (number_at (codes "block") 1 most_block rows) 65536;
+  block = block_in rows;
 }
+
+abbrev pub states_in : List Row → ℕ
+states_in rows = unwrap_or (number_at (codes "states") 1 most_states rows) 4096
+
+abbrev pub lines_in : List Row → ℕ
+lines_in rows = unwrap_or (number_at (codes "N") 0 most_lines rows) 0
 
 -- what the subcommand of this name asks for by its matches
 abbrev pub asked_by : Text → List Row → Asked
-asked_by name rows = if bytes_eq name (codes "check") then ToCheck (program_in rows) else ToRun (program_in rows) (reach_in rows)
+asked_by name rows =
+    if bytes_eq name (codes "check") then ToCheck (program_in rows) (states_in rows)
+    else if bytes_eq name (codes "code") then ToStream coding (program_in rows) (reach_in rows)
+    else if bytes_eq name (codes "act") then ToStream acting (program_in rows) (reach_in rows)
+    else if bytes_eq name (codes "test") then ToStream testing (program_in rows) (reach_in rows)
+    else if bytes_eq name (codes "trial") then ToTry (lines_in rows) (block_in rows)
+    else ToStream (running (states_in rows)) (program_in rows) (reach_in rows)
 
 -- the same, where there is a subcommand; words in form have one
 abbrev pub asked_in : Option (Text × List Row) → Asked
-asked_in None = ToRun [] (record { max_input = most_input; block = 65536 })
+asked_in None = ToTry 0 65536
 asked_in (Some sub) = asked_by sub.0 sub.1
 
 -- what the words ask for, where they are in form, and else nothing
 unfoldable pub asked_of : List Text → Option Asked
 asked_of words = if is_empty (fault_of kex_app words) then Some (asked_in (subcommand_of kex_app words)) else None
 
+abbrev pub reach_of : Limits → Reach
+reach_of limits = record { max_input = limits.max_input; block = limits.block }
+
+abbrev pub mode_of : Moded → Mode
+mode_of (of_mode.Run states) = running states.most
+mode_of of_mode.Code = coding
+mode_of of_mode.Act = acting
+mode_of of_mode.Test = testing
+
 -- what a command asks for
 abbrev pub asked : Command → Asked
-asked (Run program limits) = ToRun program.now (record { max_input = limits.max_input; block = limits.block })
-asked (Check program) = ToCheck program.now
+asked (Stream mode program limits) = ToStream (mode_of mode) program.now (reach_of limits)
+asked (Check program states) = ToCheck program.now states.most
+asked (Trial lines) = ToTry lines.count lines.block

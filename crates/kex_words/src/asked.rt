@@ -9,6 +9,12 @@ pub(crate) const MOST_BLOCK: u64 = 1_048_576;
 
 pub(crate) const USUAL_BLOCK: u64 = 65_536;
 
+pub(crate) const MOST_STATES: u64 = 65_536;
+
+pub(crate) const USUAL_STATES: u64 = 4_096;
+
+pub(crate) const MOST_LINES: u64 = 1_000_000;
+
 /// How many bytes are read, in all and at a time.
 #[derive(Clone, Copy, Debug, PartialEq, Eq)]
 pub struct Limits {
@@ -21,13 +27,53 @@ pub struct Limits {
     ghost fits: { block ≤ 2 ^ 20 },
 }
 
+/// How many states a stage may have.
+#[derive(Clone, Copy, Debug, PartialEq, Eq)]
+pub struct States {
+    pub most: u32,
+    ghost some: { 1 ≤ most },
+    ghost fits: { most ≤ 2 ^ 16 },
+}
+
+/// Lines that are made, and the bytes of them that are made at a time.
+#[derive(Clone, Copy, Debug, PartialEq, Eq)]
+pub struct Lines {
+    pub count: u32,
+    pub block: u32,
+    ghost few: { count ≤ 1000000 },
+    ghost some: { 1 ≤ block },
+    ghost fits: { block ≤ 2 ^ 20 },
+}
+
+/// What is written for the bytes of the input.
+#[derive(Clone, Copy, Debug, PartialEq, Eq)]
+pub enum Mode {
+    /// What they mean, by tables of at most so many states.
+    Run(States),
+    /// Their code, in a program of one stage.
+    Code,
+    /// What they mean as the text of a code, in a program of one stage.
+    Act,
+    /// Nothing: only whether they have a parse in a program of one stage.
+    Test,
+}
+
 /// What the program is to do. A program of the language is named as the shelf has it.
 #[derive(Clone, Copy, Debug, PartialEq, Eq)]
 pub enum Command<'a> {
-    /// Runs the program on the input.
-    Run { program: &'a str, limits: Limits },
+    /// Reads the input to its end.
+    Stream {
+        mode: Mode,
+        program: &'a str,
+        limits: Limits,
+    },
     /// Asks whether the program breaks a rule, and reads no input.
-    Check { program: &'a str },
+    Check {
+        program: &'a str,
+        states: States,
+    },
+    /// Runs a program of its own on lines of its own.
+    Trial(Lines),
 }
 
 /// Why no command is read.

@@ -1,10 +1,10 @@
-// The line of a check.
+// The lines of a check and of a trial.
 ghost use Rattle.std.specs.Prelude.{OnOk, OnErr};
 ghost use Rattle.std.specs.Io.KnownBytes.{Appends};
 ghost use Rattle.kex_ports.specs.Bytes.{AppendsFront};
 ghost use Rattle.kex_ports.specs.Causes.{HasCause};
 ghost use Rattle.kex_ports.specs.Endings.{IsUnfinished};
-ghost use Rattle.kex_words.specs.Lines.{counts_line};
+ghost use Rattle.kex_words.specs.Lines.{counts_line, trial_line};
 
 use crate::parts::{Part, write_parts};
 use kex_ports::{Failed, Sink};
@@ -15,6 +15,20 @@ pub struct Counts {
     pub stages: u32,
     /// The places of all stages together.
     pub places: u64,
+    /// The states of all stages together.
+    pub states: u64,
+}
+
+/// What a trial counts.
+#[derive(Clone, Copy, Debug, PartialEq, Eq)]
+pub struct Summary {
+    pub lines: u32,
+    /// The bytes that were made.
+    pub made: u64,
+    /// The bytes that were written of them.
+    pub written: u64,
+    /// The rolled sum of the bytes that were written.
+    pub roll: u32,
 }
 
 /// Writes the line of the counts, or a front of it where the sink fails. It takes no memory.
@@ -31,6 +45,31 @@ pub fn write_counts<K: Sink>(sink: &mut K, counts: Counts) -> Result<(), Failed>
             Part::Number(counts.stages as u64),
             Part::Text(" places "),
             Part::Number(counts.places),
+            Part::Text(" states "),
+            Part::Number(counts.states),
+            Part::Text("\n"),
+        ],
+    )
+}
+
+/// Writes the line of a trial, or a front of it where the sink fails. It takes no memory.
+pub fn write_summary<K: Sink>(sink: &mut K, summary: Summary) -> Result<(), Failed>
+    ensures written { OnOk result (Appends (K.held sink.old) (K.held sink.new) (trial_line summary)) }
+    ensures failed { OnErr result (AppendsFront (K.held sink.old) (K.held sink.new) (trial_line summary)) }
+    ensures cause { HasCause (K.faults sink.old) (K.faults sink.new) result }
+    ensures unfinished { IsUnfinished (K.ending sink.old) (K.ending sink.new) result }
+{
+    write_parts(
+        sink,
+        &[
+            Part::Text("lines "),
+            Part::Number(summary.lines as u64),
+            Part::Text(" in "),
+            Part::Number(summary.made),
+            Part::Text(" out "),
+            Part::Number(summary.written),
+            Part::Text(" roll "),
+            Part::Number(summary.roll as u64),
             Part::Text("\n"),
         ],
     )

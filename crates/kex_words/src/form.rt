@@ -2,9 +2,9 @@
 ghost use Rattle.std.specs.Prelude.{◌≡◌, IfOk, false};
 ghost use Rattle.clap.specs.Words.{app_of, rule_of, with_subcommand};
 ghost use Rattle.clap.specs.declared.builder.command.Command.TheViews.{out-Command};
-ghost use Rattle.kex_words.specs.Form.{bare_app, block_rule, check_app, kex_app, max_input_rule, number_rule, program_rule, run_app};
+ghost use Rattle.kex_words.specs.Form.{bare_app, begun_app, block_rule, check_app, kex_app, lines_rule, max_input_rule, number_rule, program_rule, run_app, stage_app, states_rule, trial_app};
 
-use crate::asked::{MOST_BLOCK, MOST_INPUT};
+use crate::asked::{MOST_BLOCK, MOST_INPUT, MOST_LINES, MOST_STATES};
 use clap::builder::ValueParser;
 use clap::{Arg, Command};
 use std::alloc::{AllocError, Global};
@@ -40,12 +40,29 @@ fn block<'a>(alloc: Global) -> Arg<'a>
     number(alloc, "block", 1, MOST_BLOCK, "65536")
 }
 
+fn states<'a>(alloc: Global) -> Arg<'a>
+    ensures rule { rule_of result ≡ states_rule }
+    ensures local { result.global ≡ false }
+{
+    number(alloc, "states", 1, MOST_STATES, "4096")
+}
+
+fn lines<'a>(alloc: Global) -> Arg<'a>
+    ensures rule { rule_of result ≡ lines_rule }
+    ensures local { result.global ≡ false }
+{
+    Arg::new(alloc, "N")
+        .value_parser(ValueParser::Unsigned(0, MOST_LINES))
+        .required(true)
+}
+
 fn run<'a>(alloc: Global) -> Result<Command<'a>, AllocError>
     ensures app { IfOk result (λ command. app_of command ≡ run_app) }
     ensures local { IfOk result (λ command. (out-Command command).has_globals ≡ false) }
 {
     Command::new(alloc, "run")
         .arg(program(alloc))?
+        .arg(states(alloc))?
         .arg(max_input(alloc))?
         .arg(block(alloc))
 }
@@ -54,7 +71,29 @@ fn check<'a>(alloc: Global) -> Result<Command<'a>, AllocError>
     ensures app { IfOk result (λ command. app_of command ≡ check_app) }
     ensures local { IfOk result (λ command. (out-Command command).has_globals ≡ false) }
 {
-    Command::new(alloc, "check").arg(program(alloc))
+    Command::new(alloc, "check")
+        .arg(program(alloc))?
+        .arg(states(alloc))
+}
+
+// A command on a program of one stage.
+fn stage<'a>(alloc: Global, name: &'a str) -> Result<Command<'a>, AllocError>
+    ensures app { IfOk result (λ command. app_of command ≡ stage_app name.entry.now) }
+    ensures local { IfOk result (λ command. (out-Command command).has_globals ≡ false) }
+{
+    Command::new(alloc, name)
+        .arg(program(alloc))?
+        .arg(max_input(alloc))?
+        .arg(block(alloc))
+}
+
+fn trial<'a>(alloc: Global) -> Result<Command<'a>, AllocError>
+    ensures app { IfOk result (λ command. app_of command ≡ trial_app) }
+    ensures local { IfOk result (λ command. (out-Command command).has_globals ≡ false) }
+{
+    Command::new(alloc, "trial")
+        .arg(lines(alloc))?
+        .arg(block(alloc))
 }
 
 // Help and the version are no words of the form.
@@ -75,9 +114,18 @@ fn with<'a>(command: Command<'a>, sub: Command<'a>) -> Result<Command<'a>, Alloc
     command.subcommand(sub)
 }
 
+fn begun<'a>(alloc: Global) -> Result<Command<'a>, AllocError>
+    ensures { IfOk result (λ command. app_of command ≡ begun_app) }
+{
+    let with_run = with(bare(alloc), run(alloc)?)?;
+    let with_check = with(with_run, check(alloc)?)?;
+    with(with_check, stage(alloc, "code")?)
+}
+
 pub(crate) fn form<'a>(alloc: Global) -> Result<Command<'a>, AllocError>
     ensures { IfOk result (λ command. app_of command ≡ kex_app) }
 {
-    let with_run = with(bare(alloc), run(alloc)?)?;
-    with(with_run, check(alloc)?)
+    let with_act = with(begun(alloc)?, stage(alloc, "act")?)?;
+    let with_test = with(with_act, stage(alloc, "test")?)?;
+    with(with_test, trial(alloc)?)
 }

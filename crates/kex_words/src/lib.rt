@@ -1,7 +1,7 @@
-//! The words of a command line, the line that a call leaves in the notes, and the line of a check.
+//! The words of a command line, the line that a call leaves in the notes, and the lines of a check and of a trial.
 //!
 //! Stands on `clap`, `itoa` and `kex_ports`. `read` is to be taken by its clauses: Ok is what the words ask for, and Usage comes
-//! exactly where the words don't meet the form of the command. `tell`, `write_counts` and `write_all` say what a sink gains.
+//! exactly where the words don't meet the form of the command. `tell`, `write_counts`, `write_summary` and `write_all` say what a sink gains.
 #![tactic(auto)]
 
 mod asked;
@@ -16,8 +16,8 @@ mod refusals;
 mod tests;
 mod writing;
 
-pub use asked::{Command, Limits, WordsRefusal};
-pub use counts::{Counts, write_counts};
+pub use asked::{Command, Limits, Lines, Mode, States, WordsRefusal};
+pub use counts::{Counts, Summary, write_counts, write_summary};
 pub use known::{asks_by_subcommand, reads_known_words};
 pub use notes::{Note, tell};
 pub use reading::read;

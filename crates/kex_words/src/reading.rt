@@ -1,10 +1,14 @@
 // What the words of a command line ask for.
-ghost use Rattle.std.specs.Prelude.{◌≡◌, ◌≤◌, IfSome, IfOk, Some, None, map, string_bytes, IsErrOf, option_map};
+ghost use Rattle.std.specs.Prelude.{◌≡◌, ◌≤◌, ◌^◌, IfSome, IfOk, Some, None, map, string_bytes, IsErrOf, option_map};
 ghost use Rattle.clap.specs.Words.{found_of, rows_of, first_of, subcommand_rows_of};
-ghost use Rattle.kex_words.specs.Words.{asked, asked_in, asked_of, bounded, number_at, program_in, reach_in};
+ghost use Rattle.kex_words.specs.Words.{asked, asked_in, asked_of, block_in, bounded, lines_in, mode_of, number_at, program_in, reach_in, states_in};
+ghost use Rattle.kex_words.specs.Words.Asked.{ToStream};
 ghost use Rattle.kex_words.specs.declared.asked.WordsRefusal.TheVariants.{Usage};
 
-use crate::asked::{Command, Limits, MOST_BLOCK, MOST_INPUT, USUAL_BLOCK, WordsRefusal};
+use crate::asked::{
+    Command, Limits, Lines, MOST_BLOCK, MOST_INPUT, MOST_LINES, MOST_STATES, Mode, States,
+    USUAL_BLOCK, USUAL_STATES, WordsRefusal,
+};
 use crate::form::form;
 use clap::error::ErrorKind;
 use clap::{ArgMatches, Error};
@@ -36,13 +40,49 @@ fn program<'a>(matches: &ArgMatches<'a>) -> &'a str
     text(matches, "PROGRAM").unwrap_or("")
 }
 
+fn block(matches: &ArgMatches) -> u32
+    ensures some { 1 ≤ result }
+    ensures fits { result ≤ 2 ^ 20 }
+    ensures value { result ≡ block_in (rows_of (found_of matches.now)) }
+{
+    number(matches, "block", 1, MOST_BLOCK).unwrap_or(USUAL_BLOCK) as u32
+}
+
 fn limits(matches: &ArgMatches) -> Limits
     ensures max_input { result.max_input ≡ (reach_in (rows_of (found_of matches.now))).max_input }
     ensures block { result.block ≡ (reach_in (rows_of (found_of matches.now))).block }
 {
     Limits {
         max_input: number(matches, "max-input", 0, MOST_INPUT).unwrap_or(MOST_INPUT),
-        block: number(matches, "block", 1, MOST_BLOCK).unwrap_or(USUAL_BLOCK) as u32,
+        block: block(matches),
+    }
+}
+
+fn states(matches: &ArgMatches) -> States
+    ensures { result.most ≡ states_in (rows_of (found_of matches.now)) }
+{
+    States {
+        most: number(matches, "states", 1, MOST_STATES).unwrap_or(USUAL_STATES) as u32,
+    }
+}
+
+fn lines(matches: &ArgMatches) -> Lines
+    ensures count { result.count ≡ lines_in (rows_of (found_of matches.now)) }
+    ensures block { result.block ≡ block_in (rows_of (found_of matches.now)) }
+{
+    Lines {
+        count: number(matches, "N", 0, MOST_LINES).unwrap_or(0) as u32,
+        block: block(matches),
+    }
+}
+
+fn stream<'a>(mode: Mode, matches: &ArgMatches<'a>) -> Command<'a>
+    ensures { asked result ≡ ToStream (mode_of mode) (program_in (rows_of (found_of matches.now))) (reach_in (rows_of (found_of matches.now))) }
+{
+    Command::Stream {
+        mode,
+        program: program(matches),
+        limits: limits(matches),
     }
 }
 
@@ -52,18 +92,17 @@ fn command<'a>(matches: &ArgMatches<'a>) -> Command<'a>
     match matches.subcommand() {
         Some(("check", inner)) => Command::Check {
             program: program(inner),
+            states: states(inner),
         },
-        Some((_, inner)) => Command::Run {
-            program: program(inner),
-            limits: limits(inner),
-        },
-        None => Command::Run {
-            program: "",
-            limits: Limits {
-                max_input: MOST_INPUT,
-                block: USUAL_BLOCK as u32,
-            },
-        },
+        Some(("code", inner)) => stream(Mode::Code, inner),
+        Some(("act", inner)) => stream(Mode::Act, inner),
+        Some(("test", inner)) => stream(Mode::Test, inner),
+        Some(("trial", inner)) => Command::Trial(lines(inner)),
+        Some((_, inner)) => stream(Mode::Run(states(inner)), inner),
+        None => Command::Trial(Lines {
+            count: 0,
+            block: USUAL_BLOCK as u32,
+        }),
     }
 }
 

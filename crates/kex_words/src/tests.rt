@@ -1,7 +1,8 @@
 //! Words and what they ask for; notes, counts and their lines.
 use crate::{
-    Command, Counts, Limits, Note, Place, Refusal, Rule, WordsRefusal, asks_by_subcommand, read,
-    reads_known_words, tell, write_all, write_counts,
+    Command, Counts, Limits, Lines, Mode, Note, Place, Refusal, Rule, States, Summary,
+    WordsRefusal, asks_by_subcommand, read, reads_known_words, tell, write_all, write_counts,
+    write_summary,
 };
 use kex_ports::MemSink;
 use std::alloc::{AllocError, Global};
@@ -15,6 +16,14 @@ fn words_of(alloc: Global, line: &str) -> Result<Vec<String>, AllocError> {
     Ok(words)
 }
 
+fn stream(mode: Mode, program: &str, limits: Limits) -> Command {
+    Command::Stream {
+        mode,
+        program,
+        limits,
+    }
+}
+
 #[test]
 fn words_are_read(rt: HostRuntime) -> Result<(), Fail> {
     let limits = Limits {
@@ -25,37 +34,34 @@ fn words_are_read(rt: HostRuntime) -> Result<(), Fail> {
         max_input: 3,
         block: 1,
     };
+    let states = States { most: 4_096 };
+    let run = Mode::Run(states);
+    let lines = Lines {
+        count: 2,
+        block: 65_536,
+    };
     let cases = [
-        (
-            "kex run p",
-            Command::Run {
-                program: "p",
-                limits,
-            },
-        ),
-        (
-            "kex run --block 1 p --max-input 3",
-            Command::Run {
-                program: "p",
-                limits: small,
-            },
-        ),
+        ("kex run p", stream(run, "p", limits)),
+        ("kex run --block 1 p --max-input 3", stream(run, "p", small)),
         (
             "kex run --block=+1 --max-input=003 -- -p",
-            Command::Run {
-                program: "-p",
-                limits: small,
-            },
+            stream(run, "-p", small),
         ),
+        ("kex run ", stream(run, "", limits)),
+        ("kex code p", stream(Mode::Code, "p", limits)),
         (
-            "kex run ",
-            Command::Run {
-                program: "",
-                limits,
+            "kex act p --max-input 3 --block 1",
+            stream(Mode::Act, "p", small),
+        ),
+        ("kex test -- run", stream(Mode::Test, "run", limits)),
+        (
+            "kex check p",
+            Command::Check {
+                program: "p",
+                states,
             },
         ),
-        ("kex check p", Command::Check { program: "p" }),
-        ("kex check -- run", Command::Check { program: "run" }),
+        ("kex trial 2", Command::Trial(lines)),
     ];
     reads_known_words();
     asks_by_subcommand();
@@ -79,7 +85,8 @@ fn words_out_of_form_are_usage(rt: HostRuntime) -> Result<(), Fail> {
         "kex --block 3 run p",
         "kex walk p",
         "kex ru p",
-        "kex code p",
+        "kex code",
+        "kex trial 1000001",
         "kex help",
         "kex -h",
         "kex --version",
@@ -191,34 +198,23 @@ fn a_front_is_left_where_the_sink_fails(rt: HostRuntime) -> Result<(), Fail> {
 
 #[test]
 fn counts_are_written(rt: HostRuntime) -> Result<(), Fail> {
-    let cases = [
-        (1, 3, "stages 1 places 3\n"),
-        (2, 18, "stages 2 places 18\n"),
-        (64, 4_194_304, "stages 64 places 4194304\n"),
-    ];
     let alloc = rt.alloc();
-    for (stages, places, want) in cases {
-        let mut sink = MemSink::new(alloc, 256, 3, Vec::new(alloc))?;
-        let written = write_counts(&mut sink, Counts { stages, places });
-        assert!(rt;
-            written.is_ok() && sink.bytes() == want.as_bytes(),
-            "at {want}"
-        );
-    }
-    Ok(())
-}
-
-#[test]
-fn counts_stop_where_the_sink_fails(rt: HostRuntime) -> Result<(), Fail> {
-    let alloc = rt.alloc();
-    let mut failing = Vec::new(alloc);
-    failing.push(3)?;
-    let mut sink = MemSink::new(alloc, 256, 256, failing)?;
+    let mut sink = MemSink::new(alloc, 256, 3, Vec::new(alloc))?;
     let counts = Counts {
         stages: 2,
         places: 18,
+        states: 4,
     };
-    let written = write_counts(&mut sink, counts);
-    assert!(rt; written.is_err() && sink.bytes() == b"stages 2".as_slice());
+    let summary = Summary {
+        lines: 1,
+        made: 9,
+        written: 9,
+        roll: 393_038_870,
+    };
+    let counted = write_counts(&mut sink, counts);
+    let summed = write_summary(&mut sink, summary);
+    assert!(rt; counted.is_ok() && summed.is_ok());
+    let want = b"stages 2 places 18 states 4\nlines 1 in 9 out 9 roll 393038870\n";
+    assert!(rt; sink.bytes() == want.as_slice());
     Ok(())
 }

@@ -59,11 +59,14 @@ const DOUBLED: &[u8] = b"main := d15\nd0 := /x/\n\
     d11 := d10 d10\nd12 := d11 d11\nd13 := d12 d12\nd14 := d13 d13\nd15 := d14 d14\n";
 
 #[test]
-fn places_are_counted(rt: HostRuntime) -> Result<(), Fail> {
-    let words = ["kex", "check", "p"];
+fn places_and_states_are_counted(rt: HostRuntime) -> Result<(), Fail> {
+    let words = ["kex", "check", "p", "--states", "32617"];
     let rows: [(&[u8], &[u8]); 2] = [
-        (b"main := /a{3}/", b"stages 1 places 8\n"),
-        (b"main := /(a{216}){151}/", b"stages 1 places 65536\n"),
+        (b"main := /a{3}/", b"stages 1 places 8 states 4\n"),
+        (
+            b"main := /(a{216}){151}/",
+            b"stages 1 places 65536 states 32617\n",
+        ),
     ];
     for (program, held) in rows {
         let case = Case {
@@ -72,6 +75,16 @@ fn places_are_counted(rt: HostRuntime) -> Result<(), Fail> {
             ..PLAIN
         };
         assert!(&rt; holds_by(&rt, rt.alloc(), &words, &case)?);
+    }
+    let too_many_states = Case {
+        program: b"main := /a{3}/",
+        status: refused_in(Rule::TooManyStates, 1),
+        notes: b"refused: K15 TooManyStates in stage 1\n",
+        ..PLAIN
+    };
+    for command in ["run", "check"] {
+        let words = ["kex", command, "p", "--states", "3"];
+        assert!(&rt; holds_by(&rt, rt.alloc(), &words, &too_many_states)?);
     }
     let too_many = Case {
         program: DOUBLED,
@@ -204,6 +217,7 @@ fn long_programs(rt: HostRuntime) -> Result<(), Fail> {
     let program = around(alloc, b"main :=", b" /ab/", 3_000, b"")?;
     let read = around(alloc, b"", b"ab", 3_000, b"")?;
     let case = Case {
+        words: &["kex", "run", "p", "--states", "6001"],
         program: &program,
         input: &read,
         held: &read,

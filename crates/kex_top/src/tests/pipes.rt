@@ -1,6 +1,6 @@
 //! A pipe of stages whose turns come out of order.
 use super::PAIR;
-use crate::limits::any_limits;
+use crate::limits::limits_to_check;
 use crate::serve::pipe_of;
 use kex_compile::compile;
 use kex_pipe::report::Rejected;
@@ -10,7 +10,7 @@ use std::test::Fail;
 #[test]
 fn turns_out_of_order(rt: HostRuntime) -> Result<(), Fail> {
     let alloc = rt.alloc();
-    let compiled = compile(alloc, PAIR.program, &any_limits())?;
+    let compiled = compile(alloc, PAIR.program, &limits_to_check(4_096))?;
     let plans = compiled.stages();
     assert!(&rt; !plans.is_empty());
     let mut pipe = pipe_of(alloc, plans, 1_000)?;

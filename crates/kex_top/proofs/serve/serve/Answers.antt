@@ -1,21 +1,7 @@
-use Rattle.std.proofs.Common.{List, subst, ap, inr, ◌∙◌}
-use Rattle.kex_ports.specs.Reads.{last_given}
-use Rattle.kex_words.specs.Gains.{change}
-use Rattle.kex_stage.specs.Stages.{StagePlan}
-use Rattle.kex_top.specs.Pipelines.{NodesSay, first_limit, stage_plans}
-use Rattle.kex_top.specs.Run.{Ran}
-use Rattle.kex_top.proofs.Calling.{first-limit}
+use Rattle.std.proofs.Common.{ap}
+use Rattle.kex_words.specs.Words.{mode_of}
+use Rattle.kex_top.proofs.Calling.{ran_by}
 use Rattle.kex_top.proofs.serve.serve.Goals as goal
 
-pub run-requires-clause-limit : goal.run-requires-clause-limit
-run-requires-clause-limit g c =
-    let max = c.args.limits.max_input in
-    ap (λ (ps : List StagePlan). first_limit (λ p. p.limit) ps) (c.in-Ok.ensures.plans ∙ ap (λ z. stage_plans max z) c.stages.ensures.same) ∙ first-limit max c.args.compiled.now.stages c.requires
-
-pub returns-clause-ran : goal.returns-clause-ran
-returns-clause-ran g c =
-    let P : List StagePlan → Type 0 = λ ps. Ran (NodesSay ps) (last_given c.args.limits.block (g.S.Source.reads c.run.new.input))
-    (change (g.S.Source.rest c.args.input.now) (g.S.Source.rest c.run.new.input) (g.S.Source.faults c.args.input.now) (g.S.Source.faults c.run.new.input))
-    (change (g.K.Sink.held c.args.output.now) (g.K.Sink.held c.run.new.output) (g.K.Sink.faults c.args.output.now) (g.K.Sink.faults c.run.new.output))
-    c.run.result in
-    inr (subst P (c.in-Ok.ensures.plans ∙ ap (λ z. stage_plans c.args.limits.max_input z) c.stages.ensures.same) c.run.ensures.ran)
+pub returns-in-Run-clause-ran : goal.returns-in-Run-clause-ran
+returns-in-Run-clause-ran g c = ran_by (mode_of c.args.mode) c.args.limits.max_input c.args.compiled.now.stages _ _ _ _ _ (ap mode_of c.in-Run.is) c.requires.some c.run_stages.ensures.ran

@@ -3,7 +3,7 @@ use Rattle.std.proofs.lemmas.Grind.{common_steps}
 use Rattle.std.specs.Prelude.{Some, None}
 use Rattle.kex_ports.proofs.Known.{consumes-then, consumes-last, consumes-nothing, appends-nothing, appends-same, appends-then, append-nil}
 use Rattle.kex_ports.proofs.Asking.{asks-on, last-read}
-use Rattle.kex_ports.proofs.Endings.{unfinished-on, same-finishes}
+use Rattle.kex_ports.proofs.Endings.{same-finishes}
 use Rattle.kex_top.specs.History.{Fed}
 use Rattle.kex_top.specs.declared.status.Status.TheVariants.{ReadFault}
 use Rattle.kex_top.proofs.Closing.{open-broken, open-worked}
@@ -100,8 +100,8 @@ returns-in-Err-read-clause-pumped g c =
 pub returns-clause-pumped : goal.returns-clause-pumped
 returns-clause-pumped g c =
     let i = c.reads.invariant in
-    let past : g.T.Worker.limit (g.T.Worker.plan c.args.worker.now) < length i.fed.0 = omega (arith, c.reads-test.false, i.fed.4, c.requires.limit.0) in
-    absurd (some-not-none _ _ refl (g.met.T.Worker.ends _ _ _ i.fed.2 past) i.fed.6)
+    let past : g.T.Worker.limit c.args.worker.now < length i.fed.0 = omega (arith, c.reads-test.false, i.fed.4, c.requires.limit.0) in
+    absurd (some-not-none _ _ refl (g.met.T.Worker.ends c.args.worker.now _ _ i.fed.2 past) i.fed.6)
 
 -- ---- what was asked for
 

@@ -1,7 +1,7 @@
 use Rattle.std.proofs.Common.{refl}
 use Rattle.clap.proofs.OnLiterals.{clap_on_literals}
 use Rattle.kex_words.specs.Words.{asked_of}
-use Rattle.kex_words.specs.Known.{ReadsRun, ReadsCheck, RefusesWords}
+use Rattle.kex_words.specs.Known.{ReadsRun, ReadsCheck, ReadsSingles, ReadsTrial, RefusesWords}
 use Rattle.kex_words.proofs.known.reads_known_words.Goals as goal
 
 reads-run : ReadsRun
@@ -10,6 +10,7 @@ reads-run = record {
   plain = refl;
   with_options = refl;
   options_first = refl;
+  states = refl;
   largest = refl;
   plus_and_zeros = refl;
   empty_name = refl;
@@ -26,10 +27,19 @@ reads-check : ReadsCheck
 unfolding clap_on_literals asked_of
 reads-check = record {
   plain = refl;
+  states = refl;
   empty_name = refl;
   name_behind_dashes = refl;
   command_for_a_name = refl;
 }
+
+reads-singles : ReadsSingles
+unfolding clap_on_literals asked_of
+reads-singles = record { code = refl; act = refl; test = refl }
+
+reads-trial : ReadsTrial
+unfolding clap_on_literals asked_of
+reads-trial = record { plain = refl; none = refl; most = refl }
 
 refuses-words : RefusesWords
 unfolding clap_on_literals asked_of
@@ -37,7 +47,6 @@ refuses-words = record {
   no_words = refl;
   no_command = refl;
   other_command = refl;
-  later_command = refl;
   help_or_version = refl;
   no_program = refl;
   two_programs = refl;
@@ -51,4 +60,4 @@ refuses-words = record {
 }
 
 pub returns : goal.returns
-returns c = record { run = reads-run; check = reads-check; out_of_form = refuses-words }
+returns c = record { run = reads-run; check = reads-check; singles = reads-singles; trial = reads-trial; out_of_form = refuses-words }

@@ -1,0 +1,19 @@
+use Rattle.std.proofs.Common.{◌≡◌, ◌++◌, ◌∷◌, [], List, map, ap, subst, inr, ◌∙◌}
+use Rattle.kex_ports.specs.Reads.{last_given}
+use Rattle.kex_words.specs.Gains.{change}
+use Rattle.kex_top.specs.Piped.{plans_of}
+use Rattle.kex_top.specs.Pipelines.{StagesSay}
+use Rattle.kex_top.specs.Run.{Ran}
+use Rattle.kex_top.proofs.Working.{same-plans}
+use Rattle.kex_top.proofs.single.run_one.Goals as goal
+
+pub returns-clause-ran : goal.returns-clause-ran
+returns-clause-ran g c =
+    let pipe = c.in-Ok-new.pipe in
+    let one = c.in-Ok.ensures.items ∙ ap (λ z. z ++ c.args.stage ∷ []) c.new-stages.ensures.items in
+    let same : plans_of g.T.Turn pipe ≡ g.T.Turn.plan c.args.stage ∷ [] = same-plans g.T.Turn (map g.T.Turn.plan c.push.new.self.items) pipe [] [] c.in-Ok-new.ensures.stands ∙ ap (λ z. map g.T.Turn.plan z) one in
+    let P : List g.T.Turn.Plan → Type 0 = λ ps. Ran (StagesSay {T = g.T.Turn.Plan} (λ p w e a. g.T.Turn.gives p w e a) ps) (last_given c.args.limits.block (g.S.Source.reads c.run.new.input))
+    (change (g.S.Source.rest c.args.input.now) (g.S.Source.rest c.run.new.input) (g.S.Source.faults c.args.input.now) (g.S.Source.faults c.run.new.input))
+    (change (g.K.Sink.held c.args.output.now) (g.K.Sink.held c.run.new.output) (g.K.Sink.faults c.args.output.now) (g.K.Sink.faults c.run.new.output))
+    c.run.result in
+    inr (subst P same c.run.ensures.ran)

@@ -1,0 +1,17 @@
+use Rattle.std.proofs.Common.{sym, subst, ⊎_elim, inl, inr}
+use Rattle.std.specs.Prelude.{None}
+use Rattle.kex_single.specs.Singles.{Single, TestAnswers}
+use Rattle.kex_single.specs.contracts.tester.TesterTurn.TheImpl.{ghosts}
+use Rattle.kex_words.specs.Gains.{change}
+use Rattle.kex_words.specs.Words.Mode.{testing}
+use Rattle.kex_top.proofs.Calling.{ran_single}
+use Rattle.kex_top.proofs.Testing.{test-left}
+use Rattle.kex_top.proofs.single.test.Goals as goal
+
+pub returns-clause-ran : goal.returns-clause-ran
+returns-clause-ran g c = λ sink left.
+    ⊎_elim (λ x. inl ((x.0.0, left), x.1)) (λ x. inr (test-left c.args.machine.now c.args.limits.max_input _ _ sink left _ x))
+    (ran_single (λ p w e a. ghosts.gives p w e a) (ghosts.plan c.in-Ok.tester) testing c.args.limits.max_input c.args.machine.now _ _ (change None None 0 0) _
+    (λ w e a h. subst (λ (q : Single). TestAnswers q.machine q.limit w e a) c.in-Ok.ensures.plan h)
+    (λ w e a h. subst (λ (q : Single). TestAnswers q.machine q.limit w e a) (sym c.in-Ok.ensures.plan) h)
+    c.run_one.ensures.ran)

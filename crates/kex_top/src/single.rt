@@ -1,0 +1,138 @@
+// The commands on a program of one stage.
+ghost use Rattle.std.specs.Prelude.{◌≡◌, ◌⊎◌, ◌∷◌, [], None};
+ghost use Rattle.std.proofs.Common.{ap};
+ghost use Rattle.kex_ports.specs.Reads.{last_given};
+ghost use Rattle.kex_single.specs.CodeLaws as code;
+ghost use Rattle.kex_single.specs.PlayedLaws as act;
+ghost use Rattle.kex_single.specs.TestLaws as test;
+ghost use Rattle.kex_words.specs.Gains.{Change, change_of};
+ghost use Rattle.kex_words.specs.Words.Mode.{acting, coding, testing};
+ghost use Rattle.kex_top.specs.Modes.{MachinesSay};
+ghost use Rattle.kex_top.specs.Outside.{Closes, ReadsBlocks};
+ghost use Rattle.kex_top.specs.Pipelines.{StagesSay};
+ghost use Rattle.kex_top.specs.Run.{IsLeft, Left, Ran};
+
+use crate::pipeline::Limited;
+use crate::status::Status;
+use crate::stream::run;
+use kex_machine::Trimmed;
+use kex_pipe::pipe::Pipe;
+use kex_pipe::turn::Turn;
+use kex_ports::{NeverFailsSink, Sink, Source};
+use kex_single::{Coder, Player, Tester};
+use kex_words::Limits;
+use std::alloc::Global;
+
+impl<'m> Limited for Coder<'m> {
+    ghost limit = { λ s. (⟦<Coder<'m> as Turn>⟧.plan s).limit };
+
+    ghost by_plan = { λ s t e. ap (λ p. p.limit) e };
+
+    ghost past_limit = { λ s w a g lt. code.past (⟦<Coder<'m> as Turn>⟧.plan s).machine (⟦<Coder<'m> as Turn>⟧.plan s).limit w a g lt };
+}
+
+impl<'m> Limited for Player<'m> {
+    ghost limit = { λ s. (⟦<Player<'m> as Turn>⟧.plan s).limit };
+
+    ghost by_plan = { λ s t e. ap (λ p. p.limit) e };
+
+    ghost past_limit = { λ s w a g lt. act.past (⟦<Player<'m> as Turn>⟧.plan s).machine (⟦<Player<'m> as Turn>⟧.plan s).limit w a g lt };
+}
+
+impl<'m> Limited for Tester<'m> {
+    ghost limit = { λ s. (⟦<Tester<'m> as Turn>⟧.plan s).limit };
+
+    ghost by_plan = { λ s t e. ap (λ p. p.limit) e };
+
+    ghost past_limit = { λ s w a g lt. test.past (⟦<Tester<'m> as Turn>⟧.plan s).machine (⟦<Tester<'m> as Turn>⟧.plan s).limit w a g lt };
+}
+
+// Runs one stage.
+fn run_one<T: Limited + Drop, S: Source, K: Sink>(
+    alloc: Global,
+    stage: T,
+    limits: Limits,
+    input: &mut S,
+    output: &mut K,
+) -> Status
+    requires fresh { T.stands stage None }
+    requires limit { T.limit stage ≡ limits.max_input }
+    ensures ran { (Left (change_of S.rest S.faults input.old input.new)
+        (change_of K.held K.faults output.old output.new) × (result ≡ Status.Memory))
+        ⊎ Ran (StagesSay (λ p w e a. T.gives p w e a) (T.plan stage ∷ [])) (last_given limits.block (S.reads input.new))
+        (change_of S.rest S.faults input.old input.new)
+        (change_of K.held K.faults output.old output.new) result }
+    ensures blocks { ReadsBlocks limits.block (S.reads input.old) (S.reads input.new) result }
+    ensures closes { Closes (K.ending output.old) (K.ending output.new) result }
+{
+    let mut stages = Vec::new(alloc);
+    let Ok(()) = stages.push(stage) else {
+        return Status::Memory;
+    };
+    let Ok(mut pipe) = Pipe::new(alloc, stages) else {
+        return Status::Memory;
+    };
+    run(alloc, &mut pipe, limits, input, output)
+}
+
+/// Writes the code of the input.
+pub(crate) fn code<S: Source, K: Sink>(
+    alloc: Global,
+    machine: &Trimmed,
+    limits: Limits,
+    input: &mut S,
+    output: &mut K,
+) -> Status
+    ensures ran { (Left (change_of S.rest S.faults input.old input.new)
+        (change_of K.held K.faults output.old output.new) × (result ≡ Status.Memory))
+        ⊎ Ran (MachinesSay coding limits.max_input (machine.now ∷ [])) (last_given limits.block (S.reads input.new))
+        (change_of S.rest S.faults input.old input.new)
+        (change_of K.held K.faults output.old output.new) result }
+    ensures blocks { ReadsBlocks limits.block (S.reads input.old) (S.reads input.new) result }
+    ensures closes { Closes (K.ending output.old) (K.ending output.new) result }
+{
+    let Ok(coder) = Coder::new(alloc, machine, limits.max_input) else {
+        return Status::Memory;
+    };
+    run_one(alloc, coder, limits, input, output)
+}
+
+/// Writes what the input means as the text of a code.
+pub(crate) fn act<S: Source, K: Sink>(
+    alloc: Global,
+    machine: &Trimmed,
+    limits: Limits,
+    input: &mut S,
+    output: &mut K,
+) -> Status
+    ensures ran { (Left (change_of S.rest S.faults input.old input.new)
+        (change_of K.held K.faults output.old output.new) × (result ≡ Status.Memory))
+        ⊎ Ran (MachinesSay acting limits.max_input (machine.now ∷ [])) (last_given limits.block (S.reads input.new))
+        (change_of S.rest S.faults input.old input.new)
+        (change_of K.held K.faults output.old output.new) result }
+    ensures blocks { ReadsBlocks limits.block (S.reads input.old) (S.reads input.new) result }
+    ensures closes { Closes (K.ending output.old) (K.ending output.new) result }
+{
+    let Ok(player) = Player::new(alloc, machine, limits.max_input) else {
+        return Status::Memory;
+    };
+    run_one(alloc, player, limits, input, output)
+}
+
+/// Tells whether the input has a parse, and writes nothing.
+pub(crate) fn test<S: Source>(
+    alloc: Global,
+    machine: &Trimmed,
+    limits: Limits,
+    input: &mut S,
+) -> Status
+    ensures ran { (sink : Change) → IsLeft sink → (Left (change_of S.rest S.faults input.old input.new) sink × (result ≡ Status.Memory))
+        ⊎ Ran (MachinesSay testing limits.max_input (machine.now ∷ [])) (last_given limits.block (S.reads input.new))
+        (change_of S.rest S.faults input.old input.new) sink result }
+    ensures blocks { ReadsBlocks limits.block (S.reads input.old) (S.reads input.new) result }
+{
+    let Ok(tester) = Tester::new(alloc, machine, limits.max_input) else {
+        return Status::Memory;
+    };
+    run_one(alloc, tester, limits, input, &mut NeverFailsSink)
+}

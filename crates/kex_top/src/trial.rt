@@ -1,0 +1,153 @@
+// The trial: a program of its own on lines of its own.
+ghost use Rattle.std.specs.Prelude.{◌≡◌, ◌≤◌, ◌<◌, ◌+◌, ◌^◌, ◌++◌, [], List, ℕ, None, true, false, IfOk, OnOk, drop, length};
+ghost use Rattle.kex_words.specs.Gains.{change_of};
+ghost use Rattle.kex_top.specs.History.{History, bytes_of, is_ended};
+ghost use Rattle.kex_top.specs.Outside.{Closes};
+ghost use Rattle.kex_words.specs.Form.{most_input};
+ghost use Rattle.kex_words.specs.Lines.{trial_line};
+ghost use Rattle.kex_top.specs.Kex.{Told};
+ghost use Rattle.kex_top.specs.Pipelines.{NodesSay, stage_plans};
+ghost use Rattle.kex_top.specs.Tallies.{Counts, HasWaiting, SumsUp};
+ghost use Rattle.kex_top.specs.Trials.{IsSummary, Tries, made_lines};
+
+use crate::limits::limits_to_check;
+use crate::lines::{next, push_line};
+use crate::refused::refused;
+use crate::serve::pipe_of;
+use crate::status::Status;
+use crate::tally::Tally;
+use crate::worker::Worker;
+use kex_code::memory::Memory;
+use kex_compile::compile;
+use kex_compile::compiled::Compiled;
+use kex_ports::{Failed, Sink};
+use kex_words::{Lines, Summary, write_summary};
+use std::alloc::Global;
+
+const TEXT: &str =
+    "start: swap >> mark\nswap := (w@/[a-z]+/ ~/ / n@/[0-9]+/ !n \" \" !w /\\n/)*\nmark := (/[0-9]+/ ~/ / \"=\" /[a-z]+\\n/)*\n";
+
+const STATES: u32 = 4_096;
+
+const MOST_INPUT: u64 = 281_474_976_710_656;
+
+// Gives a piece, and drops what is written for it.
+fn give<T: Worker>(
+    worker: &mut T,
+    piece: &[u8],
+    out: &mut Vec<u8>,
+    tally: Tally,
+) -> Result<Tally, Memory>
+    requires { (h : History) × T.stands worker.old h × (is_ended h ≡ false) }
+    ensures same { OnOk result (T.plan worker.new ≡ T.plan worker.old) }
+    ensures counts { IfOk result (λ more. (h : History) → T.stands worker.old h → is_ended h ≡ false
+        → Counts (T.says (T.plan worker.old)) (T.stands worker.new) h (bytes_of h ++ piece.now) false tally more) }
+{
+    let _ = worker.feed(piece, out)?;
+    Ok(tally.add(piece.len(), out))
+}
+
+// Gives the end.
+fn give_end<T: Worker>(worker: &mut T, out: &mut Vec<u8>, tally: Tally) -> Result<Tally, Memory>
+    requires { (h : History) × T.stands worker.old h × (is_ended h ≡ false) }
+    ensures same { OnOk result (T.plan worker.new ≡ T.plan worker.old) }
+    ensures counts { IfOk result (λ more. (h : History) → T.stands worker.old h → is_ended h ≡ false
+        → Counts (T.says (T.plan worker.old)) (T.stands worker.new) h (bytes_of h) true tally more) }
+{
+    let _ = worker.end(out)?;
+    Ok(tally.add(0, out))
+}
+
+// Takes so many bytes away in front.
+fn drop_front(waiting: &mut Vec<u8>, count: usize)
+    requires { count ≤ length waiting.old.items }
+    ensures { waiting.new.items ≡ drop count waiting.old.items }
+{
+    waiting.drain(..count);
+}
+
+// Gives what waits in whole blocks.
+fn give_blocks<T: Worker>(
+    worker: &mut T,
+    waiting: &mut Vec<u8>,
+    block: usize,
+    out: &mut Vec<u8>,
+    tally: Tally,
+) -> Result<Tally, Memory>
+    requires block { 0 < block }
+    requires fed { (all : List ℕ) × HasWaiting (T.says (T.plan worker.old)) (T.stands worker.old) all waiting.old.items tally }
+    ensures same { OnOk result (T.plan worker.new ≡ T.plan worker.old) }
+    ensures given { IfOk result (λ more. (all : List ℕ) → HasWaiting (T.says (T.plan worker.old)) (T.stands worker.old) all waiting.old.items tally
+        → HasWaiting (T.says (T.plan worker.old)) (T.stands worker.new) all waiting.new.items more) }
+{
+    let mut more = tally;
+    'blocks: while waiting.len() >= block {
+        more = give(worker, &waiting[..block], out, more)?;
+        drop_front(waiting, block);
+    }
+    Ok(more)
+}
+
+// Gives lines in blocks, and then the end.
+fn give_lines<T: Worker>(alloc: Global, worker: &mut T, lines: Lines) -> Result<Tally, Memory>
+    requires { T.stands worker.old None }
+    ensures { IfOk result (λ tally. SumsUp (T.says (T.plan worker.old)) (made_lines lines.count) tally) }
+{
+    let mut out = Vec::new(alloc);
+    let mut waiting = Vec::new(alloc);
+    let mut state = 0;
+    let mut tally = give(worker, &[], &mut out, Tally::new())?;
+    'lines: for _line in 0..lines.count {
+        state = next(state);
+        push_line(state, &mut waiting)?;
+        tally = give_blocks(worker, &mut waiting, lines.block as usize, &mut out, tally)?;
+    }
+    tally = give(worker, &waiting, &mut out, tally)?;
+    give_end(worker, &mut out, tally)
+}
+
+// Runs the plans on the lines, and sums up what they write.
+fn sum_up(alloc: Global, compiled: &Compiled, lines: Lines) -> Result<Summary, Memory>
+    requires { 0 < length compiled.now.stages }
+    ensures { IfOk result (λ summary. IsSummary (NodesSay (stage_plans most_input compiled.now.stages)) lines.count summary) }
+{
+    let mut pipe = pipe_of(alloc, compiled.stages(), MOST_INPUT)?;
+    let tally = give_lines(alloc, &mut pipe, lines)?;
+    Ok(Summary {
+        lines: lines.count,
+        made: tally.made,
+        written: tally.written,
+        roll: tally.roll as u32,
+    })
+}
+
+// Writes the line, and finishes the output.
+fn tell_summary<K: Sink>(summary: Summary, output: &mut K) -> Status
+    ensures told { Told (trial_line summary) (change_of K.held K.faults output.old output.new) result }
+    ensures closes { Closes (K.ending output.old) (K.ending output.new) result }
+{
+    let Ok(()) = write_summary(output, summary) else {
+        return Status::WriteFault;
+    };
+    match output.finish() {
+        Ok(()) => Status::Done,
+        Err(Failed) => Status::WriteFault,
+    }
+}
+
+/// Answers a command for a trial. It needs no shelf and no source.
+pub(crate) fn answer_trial<K: Sink>(alloc: Global, lines: Lines, output: &mut K) -> Status
+    ensures tries { Tries lines.count (change_of K.held K.faults output.old output.new) result }
+    ensures closes { Closes (K.ending output.old) (K.ending output.new) result }
+{
+    let text = TEXT.as_bytes();
+    let asked = limits_to_check(STATES);
+    let compiled = match compile(alloc, text, &asked) {
+        Ok(compiled) => compiled,
+        Err(refusal) => return refused(text, refusal),
+    };
+    match sum_up(alloc, &compiled, lines) {
+        Ok(summary) => tell_summary(summary, output),
+        Err(Memory) => Status::Memory,
+    }
+}
