@@ -131,8 +131,12 @@ module _ (p : Single) (r r1 : Reading) (a a1 : Position) (size read : ℕ) (h : 
             no_next p.machine u (o.code ++ symbols) r1.begun (sym all ∙ spelt.spells.text) spelt.spells.front next
         by true bad (x, code, next) =
             let e : List ℕ = text_of ((o.code ++ symbols) ++ x ∷ []) in
-            spelt.none bad ((o.code ++ symbols) ++ x ∷ [], code, shorter_front u (take (suc r1.good) u) e (drop (suc r1.good) u, sym (take-append-drop (suc r1.good) u)) next
-            (less (length (take (suc r1.good) u)) (length e) (λ lt. within e x code next refl lt)))
+            spelt.none bad (
+              (o.code ++ symbols) ++ x ∷ [],
+              code,
+              shorter_front u (take (suc r1.good) u) e (drop (suc r1.good) u, sym (take-append-drop (suc r1.good) u)) next
+                  (less (length (take (suc r1.good) u)) (length e) (λ lt. within e x code next refl lt)),
+            )
 
     -- all symbols were performed
     all_begins : (out : List ℕ) → TookAll a a1 symbols old out → B (o.code ++ symbols)
@@ -234,11 +238,14 @@ module _ (p : Single) (r r1 : Reading) (a a1 : Position) (size read : ℕ) (h : 
             (none_next, subst (λ z. BeginsText z) all (spells_begins (take r1.good u) (o.code ++ symbols) r1.begun spelt.spells))
         stops (Some i) is_bad is_good =
             let b = is_bad i refl in
-            inr (none_next, subst (λ k. IsBadByte u k) b.1 (record {
-              within = less_than (length u) r1.good (λ le. spelt.none b.0 (past le));
-              before = spells_begins (take r1.good u) (o.code ++ symbols) r1.begun spelt.spells;
-              bad = λ t. spelt.none b.0 (subst (λ n. BeginsText (take n u)) (let e : r1.good + 1 ≡ suc r1.good = omega arith in e) t);
-            }))
+            inr (
+              none_next,
+              subst (λ k. IsBadByte u k) b.1 (record {
+                within = less_than (length u) r1.good (λ le. spelt.none b.0 (past le));
+                before = spells_begins (take r1.good u) (o.code ++ symbols) r1.begun spelt.spells;
+                bad = λ t. spelt.none b.0 (subst (λ n. BeginsText (take n u)) (let e : r1.good + 1 ≡ suc r1.good = omega arith in e) t);
+              }),
+            )
           where
             less_than : (m n : ℕ) → (m ≤ n → ⊥) → n < m
             less_than m n h = omega arith

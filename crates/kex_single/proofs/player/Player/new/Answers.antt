@@ -7,8 +7,7 @@ use Rattle.kex_single.proofs.player.Player.new.Goals as goal
 pub returns-clause-stands : goal.returns-clause-stands
 returns-clause-stands c =
     let leads = c.nodes-nodes.ensures.trimmed.ends c.args.machine.now.start c.nodes-nodes.ensures.in_range.start_in in
-    let begins : BeginsRun c.args.machine.now [] = (leads.0, (leads.1, leads.2, leads.3), (code_of leads.0, refl)) in
-    (
+    let begins : BeginsRun c.args.machine.now [] = (leads.0, (leads.1, leads.2, leads.3), (code_of leads.0, refl)) in (
       (
         record {
           code = [];

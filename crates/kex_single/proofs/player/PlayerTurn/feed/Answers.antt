@@ -41,9 +41,9 @@ returns-clause-feeds c = λ h stands e.
     let size_is : c.size_on-self.result ≡ min (s.size + length (code_text symbols)) (2 ^ 64 - 1) =
     c.size_on-self.ensures ∙ ap (λ (z : List Symbol). min (s.size + length (code_text z)) (2 ^ 64 - 1)) c.as_slice-3.ensures in
     let more = act_feeds p s.reader c.read.new.reader s.actor c.perform.new.actor s.size s.count h open_ m1 refl c.args.out.now.items c.perform.new.out.items c.args.piece.now front is_front symbols spelt c.size_on-self.result c.in_ok-refused.refused c.in_ok-bad.bad c.bad_at-at.result c.stop_at-self.result s.most size_is refuses
-        (bad_read c.in_ok-bad.bad s.reader c.read.new.reader (take front c.args.piece.now) c.new-code.result symbols reads)
-        (good_read c.in_ok-bad.bad s.reader c.read.new.reader (take front c.args.piece.now) c.new-code.result symbols reads)
-        place c.stop_at-self.ensures in
+    (bad_read c.in_ok-bad.bad s.reader c.read.new.reader (take front c.args.piece.now) c.new-code.result symbols reads)
+    (good_read c.in_ok-bad.bad s.reader c.read.new.reader (take front c.args.piece.now) c.new-code.result symbols reads)
+    place c.stop_at-self.ensures in
     let F : Bool → Fate → Graph → Type 0 = λ over fate m. Feeds (λ w x b. ActAnswers g s.limit w x b) (λ k. StandsAs (λ w x b. ActAnswers m s.limit w x b) (λ w t. PlayOpen (record { machine = m; limit = s.limit }) c.read.new.reader c.perform.new.actor c.size_on-self.result (s.count + front) w t) c.stop_at-self.result over k × IsTrue true) h (bytes_of h ++ c.args.piece.now) false c.args.out.now.items c.perform.new.out.items fate in
     subst (λ over. F over c.fate_of-2.result c.perform.new.actor.machine) (sym on) (subst (λ fate. F false fate c.perform.new.actor.machine) (sym c.fate_of-2.ensures) (subst (λ m. F false (fate_of c.stop_at-self.result) m) (sym m1) more))
 
