@@ -118,7 +118,7 @@ fn clear_transitions(
 ) -> Result<Vec<Option<Transition>>, Memory>
     ensures { IfOk result (λ v. v.items ≡ map (λ r. cleared_transition constants.now from.now r) go.now) }
 {
-    let mut cleared = Vec::new(alloc);
+    let mut cleared = Vec::with_capacity(alloc, go.len())?;
     for transition in go {
         cleared.push(clear_transition(alloc, transition, from, constants)?)?;
     }

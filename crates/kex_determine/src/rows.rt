@@ -33,7 +33,7 @@ fn transitions_of<'m>(
     ensures within { OnOk result (length states.new.trees.items ≤ states.old.most) }
     ensures err { IfErr result (Refuses states.old.most ((xs : List (Shape ℕ)) (s : Shape ℕ) → AreNumbered workspace.old states.old.keys.keys states.old.trees.items xs → slice_get xs at ≡ Some s → HasMoreFound workspace.old states.old.most)) }
 {
-    let mut go = Vec::new(alloc);
+    let mut go = Vec::with_capacity(alloc, usize::from(partition.classes()))?;
     for class in 0..partition.classes() {
         let next = states.trees[at].advance_with(workspace, class as u8)?;
         let transition = states.follow(alloc, next)?;
