@@ -5,3 +5,4 @@ pub mod Carrying
 pub mod Refusing
 pub mod Shaping
 pub mod States
+pub mod Existence

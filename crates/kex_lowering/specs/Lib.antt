@@ -1,3 +1,4 @@
 pub mod Refusals
 pub mod Stages
 pub mod Shapes
+pub mod Existence

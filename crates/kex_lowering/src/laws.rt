@@ -1,6 +1,7 @@
 // That a stage's places and its nodes answer alike. Each function's contract is a law.
 
 ghost use Rattle.kex_lowering.specs.Stages.{NodesAnswerAsPlaces};
+ghost use Rattle.kex_lowering.specs.Existence.{MachinesHaveAnswers, StagesHaveAnswers};
 ghost use Rattle.kex_lowering.specs.Shapes.{MachinesAnswerAsPlaces, NodesHaveShapesOfPlaces, NodesHaveStatesOfPlaces};
 
 /// What holds of a stage's places holds of the nodes that are left of its machine, and back: what is viable, what is
@@ -23,4 +24,14 @@ pub fn nodes_have_shapes_of_places()
 /// What is left of the machine has as many states as the stage has.
 pub fn nodes_have_states_of_places()
     ensures { NodesHaveStatesOfPlaces }
+{}
+
+/// On each text, open or ended and within whatever limit, a machine has an answer whose nodes all lead to the end.
+pub fn machines_have_answers()
+    ensures { MachinesHaveAnswers }
+{}
+
+/// So has a stage that has a machine.
+pub fn stages_have_answers()
+    ensures { StagesHaveAnswers }
 {}
