@@ -26,7 +26,9 @@ use Rattle.kex_reader.specs.Programs.{IsFirstWrong}
 use Rattle.kex_reader.specs.Reading.{State, Begin, reads, next, step, spelled, finish}
 use Rattle.kex_reader.specs.Checks.{program_checks}
 use Rattle.kex_reader.specs.Shown.{Made, ShowsDefinitions, ShowsStages}
-use Rattle.kex_reader.specs.Stands.{Noted}
+use Rattle.kex_reader.specs.Stands.{Has, Noted}
+use Rattle.kex_reader.specs.Uses.{Numbered, InNodes, InDefinitions, InStages, NoneSpare}
+use Rattle.kex_reader.proofs.Uses.{AllHeld}
 use Rattle.kex_reader.specs.Holding.{ShowsHead, ShowsState, StateSteps, Finishes}
 use Rattle.kex_reader.specs.Asked.{state_checks, state_asks}
 use Rattle.kex_reader.specs.Spelling.{words, offset, main_stage, ShowsHeader, ShowsProgram, Spells, IsUnexpected, BreaksLimit, IsRefusedAs, of_token, of_limit, of_step}
@@ -228,9 +230,9 @@ main_here names (x ∷ ds) (suc i) d t h e = main_here names ds i d t (omega (ar
 pub spells_ok : (r : Result Grammar ReadRefusal) (text : List ℕ) (ts : List Token) (tree : Program) (made : Made) (ds : List Root) (named : List Start) → length text ≤ most_text → AreTokens text ts → program tree ≡ words text ts → Noted (program_checks tree (offset text ts)) made.broken
     → ShowsDefinitions tree.definitions made (offset text ts) ds (length (header tree.header)) → ShowsHead tree.header made (offset text ts) named
     → IfOk r (λ _. made.broken ≡ None) → IfOk r (λ P. (at : ℕ → ℕ) (tree : Program) → ShowsDefinitions tree.definitions made at ds (length (header tree.header)) → ShowsHead tree.header made at named → ShowsProgram tree (record { nodes = P.nodes; names = P.names; registers = made.registers; broken = None }) at P)
-    → IfOk r (λ P. Different P.names) → IfOk r (λ P. Different made.registers × (P.registers ≡ length made.registers)) → IfOk r (λ P. Spells text P)
-spells_ok (Err e) text ts tree made ds named short cut der nt df hd w s n g = tt
-spells_ok (Ok P) text ts tree made ds named short cut der nt df hd w s n g = record {
+    → IfOk r (λ P. Different P.names) → IfOk r (λ P. Different made.registers × (P.registers ≡ length made.registers)) → AllHeld made (λ x. InDefinitions ds x ⊎ InStages named x) → IfOk r (λ P. ((x : Numbered) → Has made x → InNodes made.nodes x ⊎ (InDefinitions ds x ⊎ InStages named x)) → NoneSpare P) → IfOk r (λ P. Spells text P)
+spells_ok (Err e) text ts tree made ds named short cut der nt df hd w s n g all used = tt
+spells_ok (Ok P) text ts tree made ds named short cut der nt df hd w s n g all used = record {
   short = short;
   tokens = ts;
   cut = cut;
@@ -242,6 +244,7 @@ spells_ok (Ok P) text ts tree made ds named short cut der nt df hd w s n g = rec
   names_differ = n;
   registers_differ = g.0;
   counted = g.1;
+  none_spare = used (all w);
 }
 
 pub refused_ok : (r : Result Grammar ReadRefusal) (text : List ℕ) (ts : List Token) (tree : Program) (o : Option Break) → length text ≤ most_text → AreTokens text ts → program tree ≡ words text ts → Noted (program_checks tree (offset text ts)) o → IfErr r (λ e. (e ≡ refusals.Memory) ⊎ ((b : Break) × (o ≡ Some b) × (e ≡ of_limit b))) → IfErr r (λ e. IsRefusedAs text e)

@@ -1,5 +1,5 @@
 -- What the code holds of a whole program that is being read, and the state of the machine that it stands for.
-use Rattle.std.specs.Prelude.{◌≡◌, ℕ, ◌+◌, ◌++◌, ◌∷◌, List, [], length, Option, Some, None, Result, Ok, Err}
+use Rattle.std.specs.Prelude.{◌≡◌, ℕ, ◌+◌, ◌++◌, ◌∷◌, List, [], length, ◌⊎◌, Option, Some, None, Result, Ok, Err, IfOk, OnOk}
 use Rattle.kex_model.specs.declared.program.Definition.{Definition as Root}
 use Rattle.kex_model.specs.declared.program.Start.{Start}
 use Rattle.kex_reader.specs.declared.stack.Frame.{Frame}
@@ -13,7 +13,8 @@ use Rattle.kex_reader.specs.declared.reader.Phase.TheVariants as phases
 use Rattle.kex_reader.specs.Syntax.{Header, NoStart, Stages, Definition, Program, Term, header, definitions}
 use Rattle.kex_reader.specs.Reading.{Entry, Inside, State, Begin, FirstName, StartLine, StageRead, StageNext, HeadRead, Within, before, spelled}
 use Rattle.kex_reader.specs.Shown.{Made, IsName, ShowsTerm, ShowsDefinitions, ShowsStages}
-use Rattle.kex_reader.specs.Stands.{Stands}
+use Rattle.kex_reader.specs.Uses.{Numbered, NameNumber, InDefinitions, InStages}
+use Rattle.kex_reader.specs.Stands.{Stands, InFrames, InWait, Keeps, LosesNone}
 
 abbrev pub ShowsHead : Header → Made → (ℕ → ℕ) → List Start → Type 0
 ShowsHead NoStart made at ss = ss ≡ []
@@ -62,6 +63,29 @@ Finishes made at ds ss (Ok u) (Some p) = ShowsDefinitions p.definitions made at 
 Finishes made at ds ss (Err faults.Memory) o = Unit {0}
 Finishes made at ds ss (Err faults.Wrong) None = Unit {0}
 Finishes made at ds ss (Err faults.Wrong) (Some p) = ⊥
+
+-- what a reader holds: it stands in no node yet
+abbrev pub InPhase : Phase → Numbered → Type 0
+InPhase (phases.Within head wait) x = (x ≡ NameNumber head.name) ⊎ InWait wait x
+InPhase _ x = ⊥
+
+abbrev pub InReader : Reader → Phase → Numbered → Type 0
+InReader r phase x = InFrames r.stack x ⊎ (InPhase phase x ⊎ (InDefinitions r.definitions.items x ⊎ InStages r.stages.items x))
+
+-- what a reader is left with at the end
+abbrev pub IsLeft : Reader → Numbered → Type 0
+IsLeft r x = InDefinitions r.definitions.items x ⊎ InStages r.stages.items x
+
+-- the open definition ends: its name and its root become those of a definition
+abbrev pub EndLosesNone : Reader → Reader → Head → (Numbered → Type 0) → Type 0
+EndLosesNone old new head Held = LosesNone old.draft new.draft (λ x. Held x ⊎ ((x ≡ NameNumber head.name) ⊎ InDefinitions old.definitions.items x)) (InDefinitions new.definitions.items)
+
+-- a step of a reader loses none
+abbrev pub ReaderLosesNone : Reader → Phase → Reader → Result Phase StepFault → Type 0
+ReaderLosesNone old phase new result = IfOk result (λ next. Keeps old.draft new.draft × LosesNone old.draft new.draft (InReader old phase) (InReader new next))
+
+abbrev pub FinishLosesNone : Reader → Phase → Reader → Result (Unit {0}) StepFault → Type 0
+FinishLosesNone old phase new result = OnOk result (Keeps old.draft new.draft × LosesNone old.draft new.draft (InReader old phase) (IsLeft new))
 
 -- ---- what clauses say
 

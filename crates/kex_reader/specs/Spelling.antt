@@ -19,6 +19,7 @@ use Rattle.kex_reader.specs.Syntax.{Word, word, Header, NoStart, Stages, Program
 use Rattle.kex_reader.specs.Programs.{IsFirstWrong}
 use Rattle.kex_reader.specs.Checks.{IsLeastBreak, SomeBreaks, program_checks}
 use Rattle.kex_reader.specs.Shown.{Made, ShowsDefinitions, ShowsStages}
+use Rattle.kex_reader.specs.Uses.{NoneSpare}
 
 -- the words that tokens of a text are
 abbrev pub words : List ℕ → List Token → List Word
@@ -46,7 +47,7 @@ pub record ShowsProgram (tree : Program) (made : Made) (at : ℕ → ℕ) (P : G
   pub definitions : ShowsDefinitions tree.definitions made at P.definitions (length (header tree.header))
   pub stages : ShowsHeader tree.header made at P
 
--- the tokens of the text are a program's, no limit is broken, and these are its nodes
+-- the tokens of the text are a program's, no limit is broken, and these are its nodes, names and registers
 pub record Spells (text : List ℕ) (P : Grammar) : Type 0 where
   pub short : length text ≤ most_text
   pub tokens : List Token
@@ -59,6 +60,7 @@ pub record Spells (text : List ℕ) (P : Grammar) : Type 0 where
   pub names_differ : Different P.names
   pub registers_differ : Different registers
   pub counted : P.registers ≡ length registers
+  pub none_spare : NoneSpare P
 
 -- the tokens before this offset begin a program, and those up to and with it begin none, or they end and are none
 abbrev pub IsUnexpected : List ℕ → ℕ → Type 0

@@ -1,9 +1,11 @@
 -- What the code holds of a program that is being read, and the state of the machine that it stands for.
-use Rattle.std.specs.Prelude.{◌≡◌, ℕ, suc, ◌+◌, ◌<◌, ◌≤◌, Bool, true, false, List, [], ◌∷◌, ◌++◌, length, Option, Some, None, Result, Ok, Err, OnOk, slice_get, MatchOption, if◌then◌else◌}
+use Rattle.std.specs.Prelude.{◌≡◌, ℕ, suc, ◌+◌, ◌<◌, ◌≤◌, Bool, true, false, List, [], ◌∷◌, ◌++◌, length, Option, Some, None, Result, Ok, Err, IfOk, OnOk, slice_get, MatchOption, ◌⊎◌, if◌then◌else◌}
 use Rattle.kex_model.specs.declared.program.Kind.{Kind}
 use Rattle.kex_model.specs.declared.program.Kind.TheVariants as kinds
 use Rattle.kex_model.specs.declared.program.Node.{Node}
+use Rattle.kex_code.specs.Codes.{IsAmong}
 use Rattle.kex_code.specs.declared.piece.Piece.{Piece}
+use Rattle.kex_code.specs.declared.piece.Piece.TheVariants as piece_kinds
 use Rattle.kex_tokens.specs.Values.{number_of}
 use Rattle.kex_regexp.specs.declared.breaks.Break.{Break}
 use Rattle.kex_reader.specs.declared.stack.Frame.{Frame}
@@ -24,6 +26,7 @@ use Rattle.kex_reader.specs.declared.inside.StepFault.TheVariants as faults
 use Rattle.kex_reader.specs.Syntax.{Word, word, Name, Literal, Text, Held, Tilde, At, Star, Plus, Question, OpenBrace, OpenParen, Regex, Define, Part, Term, Seq, Pre, Atom, Once, Call, atom}
 use Rattle.kex_reader.specs.Reading.{Entry, Mark, Ended, Done, Muted, Storing, Counting, Opened, Low, LowComma, LowHigh, OnlyComma, High, CountStep, CountOn, CountRead, CountWrong, Mode, Need, Ready, After, Named, Writing, Bracket, BracketName, Assigning, Assigned, InCount, Inside, inside, first_part, next_part, put, entries, count_step}
 use Rattle.kex_reader.specs.Checks.{Check, Nested, Matched, SomeBreaks, IsLeastBreak, is_bad_count, postfix_checks}
+use Rattle.kex_reader.specs.Uses.{Numbered, NodeNumber, NameNumber, RegisterNumber, IsBelow, InNodes}
 use Rattle.kex_reader.specs.Shown.{Made, IsRegister, ShowsTerm, ShowsSeq, ShowsPre, ShowsAtom, ShowsPart, ShowsParts, low, high}
 
 -- what was made stays: nodes, names and registers keep their numbers, and what is broken stays broken
@@ -231,6 +234,60 @@ asks at i (After a) es w = after_asks at (i + length (atom a)) a es w
 asks at i (Named free n) es w = named_asks at i n es w
 asks at i (InCount a c) es w = count_asks (at (i + length (atom a))) (count_step c w)
 asks at i _ es w = []
+
+-- ---- what is held: it stands in no node yet
+
+abbrev pub Has : Made → Numbered → Type 0
+Has made x = IsBelow (length made.nodes) (length made.names) (length made.registers) x
+
+-- none is lost: what was held before, and what is new, stands in a node now or is held after
+pub record NoneLost (old new : Made) (From To : Numbered → Type 0) : Type 0 where
+  pub held : (x : Numbered) → From x → InNodes new.nodes x ⊎ To x
+  pub added : (x : Numbered) → Has new x → Has old x ⊎ (InNodes new.nodes x ⊎ To x)
+
+-- unless a limit is broken
+abbrev pub LosesNone : Made → Made → (Numbered → Type 0) → (Numbered → Type 0) → Type 0
+LosesNone old new From To = new.broken ≡ None → NoneLost old new From To
+
+abbrev pub InPart : Option Shown → Numbered → Type 0
+InPart None x = ⊥
+InPart (Some p) x = x ≡ NodeNumber p.node
+
+abbrev pub InFrame : Frame → Numbered → Type 0
+InFrame (frames.Ended p) x = x ≡ NodeNumber p.node
+InFrame (frames.Done p) x = x ≡ NodeNumber p.node
+InFrame (frames.Storing s) x = x ≡ RegisterNumber s.register
+InFrame _ x = ⊥
+
+abbrev pub InFrames : List Frame → Numbered → Type 0
+InFrames [] x = ⊥
+InFrames (f ∷ fs) x = InFrame f x ⊎ InFrames fs x
+
+abbrev pub InPieces : List Piece → Numbered → Type 0
+InPieces ps (RegisterNumber r) = IsAmong ps (piece_kinds.Register r)
+InPieces ps _ = ⊥
+
+abbrev pub InPiece : Option Piece → Numbered → Type 0
+InPiece None x = ⊥
+InPiece (Some p) x = InPieces (p ∷ []) x
+
+abbrev pub InAssignment : Assignment → Numbered → Type 0
+InAssignment y x = (x ≡ RegisterNumber y.register) ⊎ InPieces y.pieces.items x
+
+abbrev pub InWait : Wait → Numbered → Type 0
+InWait (waits.After p) x = x ≡ NodeNumber p.node
+InWait (waits.InCount p c brace) x = x ≡ NodeNumber p.node
+InWait (waits.BracketName a r) x = x ≡ RegisterNumber r
+InWait (waits.Assigning y) x = InAssignment y x
+InWait (waits.Assigned y) x = InAssignment y x
+InWait _ x = ⊥
+
+abbrev pub IsHeld : List Frame → Wait → Numbered → Type 0
+IsHeld fs wait x = InFrames fs x ⊎ InWait wait x
+
+-- a step loses none
+abbrev pub StepLosesNone : Made → Made → List Frame → Wait → List Frame → Result Wait StepFault → Type 0
+StepLosesNone old new fs wait gs result = IfOk result (λ next. LosesNone old new (IsHeld fs wait) (IsHeld gs next))
 
 -- ---- what clauses say
 

@@ -9,7 +9,8 @@ ghost use Rattle.kex_regexp.specs.Notes.{held_lesser};
 ghost use Rattle.kex_regexp.specs.Shown.{ShowsRegex};
 ghost use Rattle.kex_reader.specs.Checks.{Check, Matched};
 ghost use Rattle.kex_reader.specs.Shown.{IsName, IsNode, IsRegister, Made};
-ghost use Rattle.kex_reader.specs.Stands.{Keeps, Noted};
+ghost use Rattle.kex_reader.specs.Stands.{Keeps, LosesNone, Noted};
+ghost use Rattle.kex_reader.specs.Uses.{InKind, NameNumber, NodeNumber, RegisterNumber};
 
 use crate::names::Names;
 use kex_code::memory::Memory;
@@ -91,6 +92,7 @@ impl<'t> Draft<'t> {
         requires named { HasNames (length self.old.names) (length self.old.registers) kind }
         ensures keeps { OnOk result (Keeps self.old self.new) }
         ensures node { IfOk result (λ n. IsNode self.new n kind at) }
+        ensures held { IfOk result (λ n. LosesNone self.old self.new (InKind kind) (λ x. x ≡ NodeNumber n)) }
         ensures broken { OnOk result (self.new.broken ≡ self.old.broken) }
     {
         let number = self.nodes.add(Node { kind, at })?;
@@ -101,6 +103,7 @@ impl<'t> Draft<'t> {
     pub(crate) fn name(&mut self, name: &'t [u8]) -> Result<u32, Memory>
         ensures keeps { OnOk result (Keeps self.old self.new) }
         ensures number { IfOk result (λ k. IsName self.new k name.now) }
+        ensures held { IfOk result (λ k. LosesNone self.old self.new (λ x. ⊥) (λ x. x ≡ NameNumber k)) }
         ensures broken { OnOk result (self.new.broken ≡ self.old.broken) }
     {
         let number = self.names.number(name)?;
@@ -111,6 +114,7 @@ impl<'t> Draft<'t> {
     pub(crate) fn register(&mut self, register: &'t [u8]) -> Result<u32, Memory>
         ensures keeps { OnOk result (Keeps self.old self.new) }
         ensures number { IfOk result (λ k. IsRegister self.new k register.now) }
+        ensures held { IfOk result (λ k. LosesNone self.old self.new (λ x. ⊥) (λ x. x ≡ RegisterNumber k)) }
         ensures broken { OnOk result (self.new.broken ≡ self.old.broken) }
     {
         let number = self.registers.number(register)?;
@@ -136,6 +140,7 @@ impl<'t> Draft<'t> {
         requires place { at + length body.now < 2 ^ 32 }
         ensures keeps { OnOk result (Keeps self.old self.new) }
         ensures within { IfOk result (λ n. n < length self.new.nodes) }
+        ensures held { IfOk result (λ n. LosesNone self.old self.new (λ x. ⊥) (λ x. x ≡ NodeNumber n)) }
         ensures shows { IfOk result (λ n. self.new.broken ≡ None → (r : Regex) × Spells r body.now × ShowsRegex r self.new.nodes n at) }
         ensures notes { OnOk result ((cs : List Check) → Noted cs self.old.broken → Noted (cs ++ Matched at depth body.now ∷ []) self.new.broken) }
     {

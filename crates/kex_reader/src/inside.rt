@@ -1,6 +1,6 @@
 // One word more, inside a definition.
 
-ghost use Rattle.std.specs.Prelude.{◌≡◌, ℕ, ◌+◌, ◌<◌, ◌≤◌, ◌^◌, ◌++◌, ◌∷◌, [], Bool, false, true, List, Some, None, length, IfOk, IfErr, OnOk};
+ghost use Rattle.std.specs.Prelude.{◌≡◌, ℕ, ◌+◌, ◌<◌, ◌≤◌, ◌^◌, ◌++◌, ◌∷◌, ◌⊎◌, [], Bool, false, true, List, Some, None, length, IfOk, IfErr, OnOk};
 ghost use Rattle.kex_model.specs.Programs.{HasNames, IsCount};
 ghost use Rattle.kex_regexp.specs.Bodies.{Spells as BodySpells};
 ghost use Rattle.kex_regexp.specs.Grammar.{Regex};
@@ -10,7 +10,8 @@ ghost use Rattle.kex_tokens.specs.Values.{StandsFor};
 ghost use Rattle.kex_reader.specs.Checks.{Check, Matched, Nested};
 ghost use Rattle.kex_reader.specs.Reading.{After, Assigned, Assigning, BracketName, CountStep as SpecCountStep, Entry, Inside, Ready, after_atom, begin_pre, entries, first_part, goes, named as spec_named, next_part, on_bar, on_close, on_count, on_name, on_sign, put as spec_put, inside, step_in as spec_step_in, take_seq, take_term};
 ghost use Rattle.kex_reader.specs.Shown.{Made, IsName, IsNode, IsRegister, ShowsAtom, ShowsParts, high as high_of, low as low_of};
-ghost use Rattle.kex_reader.specs.Stands.{Behind, BehindAny, FirstPart, FramesShow, InPlace, IsBehindAtom, IsLeaf, Keeps, NextPart, Noted, NotesMore, OnAtom, ShowsCountStep, ShowsMode, SomeAtom, SomeFrames, SomeInside, SomeName, Steps, after_asks, asks, begin_asks, count_asks, named_asks, open_frames, word_of};
+ghost use Rattle.kex_reader.specs.Stands.{Behind, BehindAny, FirstPart, FramesShow, InFrames, InPlace, InWait, IsBehindAtom, IsHeld, IsLeaf, Keeps, LosesNone, NextPart, Noted, NotesMore, OnAtom, ShowsCountStep, ShowsMode, SomeAtom, SomeFrames, SomeInside, SomeName, StepLosesNone, Steps, after_asks, asks, begin_asks, count_asks, named_asks, open_frames, word_of};
+ghost use Rattle.kex_reader.specs.Uses.{InKind, NodeNumber, Numbered, RegisterNumber};
 ghost use Rattle.kex_reader.specs.Syntax.{Atom, Part as SpecPart, Postfix, Turns, Write as SpecWrite, atom, between, word as grammar_word};
 
 use crate::counts::{Bounds, Count, CountStep, MOST, count_step};
@@ -57,6 +58,7 @@ pub(crate) enum StepFault {
 fn leaf<'t>(draft: &mut Draft<'t>, kind: NodeKind, at: u32) -> Result<Wait<'t>, StepFault>
     requires below { HasNames (length draft.old.names) (length draft.old.registers) kind }
     requires alone { IsLeaf kind }
+    ensures held { (fs : List Frame) → IfOk result (λ w. LosesNone draft.old draft.new (λ x. InFrames fs x ⊎ InKind kind x) (IsHeld fs w)) }
     ensures keeps { OnOk result (Keeps draft.old draft.new) }
     ensures broken { OnOk result (draft.new.broken ≡ draft.old.broken) }
     ensures wait { IfOk result (λ w. (n : ℕ) × (w ≡ Wait.After (record { node = n; at = at })) × IsNode draft.new n kind at) }
@@ -71,6 +73,7 @@ fn leaf<'t>(draft: &mut Draft<'t>, kind: NodeKind, at: u32) -> Result<Wait<'t>, 
 // A literal.
 fn literal<'t>(alloc: Global, draft: &mut Draft<'t>, word: Word<'t>) -> Result<Wait<'t>, StepFault>
     requires { IsToken Kind.Literal word.spelling.now }
+    ensures held { (fs : List Frame) → StepLosesNone draft.old draft.new fs Wait.Need fs result }
     ensures keeps { OnOk result (Keeps draft.old draft.new) }
     ensures broken { OnOk result (draft.new.broken ≡ draft.old.broken) }
     ensures wait { IfOk result (λ w. (n : ℕ) × (bytes : List ℕ) × (w ≡ Wait.After (record { node = n; at = word.entry.at })) × IsNode draft.new n (NodeKind.Lit bytes) word.entry.at × StandsFor word.entry.spelling.now bytes) }
@@ -102,6 +105,7 @@ fn body<'t>(
 ) -> Result<Wait<'t>, StepFault>
     requires token { IsToken Kind.Regex word.spelling.now }
     requires place { word.at + length word.spelling.now < 2 ^ 32 }
+    ensures held { (fs : List Frame) → StepLosesNone draft.old draft.new fs Wait.Need fs result }
     ensures keeps { OnOk result (Keeps draft.old draft.new) }
     ensures wait { IfOk result (λ w. (n : ℕ) × (w ≡ Wait.After (record { node = n; at = word.entry.at })) × (n < length draft.new.nodes) × (draft.new.broken ≡ None → (r : Regex) × BodySpells r (between word.entry.spelling.now) × ShowsRegex r draft.new.nodes n (word.entry.at + 1))) }
     ensures notes { OnOk result ((cs : List Check) → Noted cs draft.old.broken → Noted (cs ++ Matched (word.entry.at + 1) depth (between word.entry.spelling.now) ∷ []) draft.new.broken) }
@@ -116,6 +120,7 @@ fn body<'t>(
 
 // Notes the limit where something opens that nests too deep.
 fn nest(draft: &mut Draft, depth: usize, at: u32)
+    ensures held { LosesNone draft.old draft.new (λ x. ⊥) (λ x. ⊥) }
     ensures keeps { Keeps draft.old draft.new }
     ensures notes { (cs : List Check) → Noted cs draft.old.broken → Noted (cs ++ Nested at depth ∷ []) draft.new.broken }
 {
@@ -132,6 +137,7 @@ fn open<'t>(
     frame: Frame,
     at: u32,
 ) -> Result<Wait<'t>, StepFault>
+    ensures held { IfOk result (λ w. LosesNone draft.old draft.new (InFrames (frame ∷ stack.old)) (IsHeld stack.new w)) }
     ensures keeps { OnOk result (Keeps draft.old draft.new) }
     ensures wait { IfOk result (λ w. w ≡ Wait.Need) }
     ensures pushed { OnOk result (stack.new ≡ frame ∷ stack.old) }
@@ -148,6 +154,7 @@ fn open<'t>(
 // A bar ends a sequence.
 fn bar<'t>(stack: &mut Stack, draft: &mut Draft<'t>) -> Result<Wait<'t>, StepFault>
     requires { SomeFrames draft.old stack.old }
+    ensures held { StepLosesNone draft.old draft.new stack.old Wait.Need stack.new result }
     ensures keeps { OnOk result (Keeps draft.old draft.new) }
     ensures broken { OnOk result (draft.new.broken ≡ draft.old.broken) }
     ensures step { (at : ℕ → ℕ) (base : ℕ) (es : List Entry) → FramesShow draft.old at base stack.old es → Steps draft.new at base stack.new result (on_bar (take_seq es)) }
@@ -167,6 +174,7 @@ fn bar<'t>(stack: &mut Stack, draft: &mut Draft<'t>) -> Result<Wait<'t>, StepFau
 // A parenthesis ends a term.
 fn close<'t>(stack: &mut Stack, draft: &mut Draft<'t>) -> Result<Wait<'t>, StepFault>
     requires { SomeFrames draft.old stack.old }
+    ensures held { StepLosesNone draft.old draft.new stack.old Wait.Need stack.new result }
     ensures keeps { OnOk result (Keeps draft.old draft.new) }
     ensures broken { OnOk result (draft.new.broken ≡ draft.old.broken) }
     ensures step { (at : ℕ → ℕ) (base : ℕ) (es : List Entry) → FramesShow draft.old at base stack.old es → Steps draft.new at base stack.new result (on_close (take_term es)) }
@@ -197,6 +205,7 @@ fn begin<'t>(
     requires frames { SomeFrames draft.old stack.old }
     requires token { IsToken word.kind word.spelling.now }
     requires place { word.at + length word.spelling.now < 2 ^ 32 }
+    ensures held { StepLosesNone draft.old draft.new stack.old Wait.Need stack.new result }
     ensures keeps { OnOk result (Keeps draft.old draft.new) }
     ensures step { Behind draft.old stack.old word.entry.at (λ at base es. Steps draft.new at base stack.new result (begin_pre free es (word_of word.entry))) }
     ensures notes { Behind draft.old stack.old word.entry.at (λ at base es. NotesMore draft.old.broken draft.new.broken result (begin_asks at (base + length (entries es)) es (word_of word.entry))) }
@@ -249,6 +258,7 @@ fn turns<'t>(
 ) -> Result<Wait<'t>, StepFault>
     requires atom { SomeAtom draft.old stack.old item }
     requires count { (p : Postfix) × (bounds.low ≡ low_of p) × (bounds.high ≡ high_of p) × IsCount bounds.low bounds.high }
+    ensures held { StepLosesNone draft.old draft.new stack.old (Wait.After item) stack.new result }
     ensures keeps { OnOk result (Keeps draft.old draft.new) }
     ensures broken { OnOk result (draft.new.broken ≡ draft.old.broken) }
     ensures step { OnAtom draft.old stack.old item (λ at base es a. (p : Postfix) → bounds.low ≡ low_of p → bounds.high ≡ high_of p → Steps draft.new at base stack.new result (goes Ready (spec_put (Turns a p) es))) }
@@ -280,6 +290,7 @@ fn behind<'t>(
     requires atom { SomeAtom draft.old stack.old item }
     requires token { IsToken word.kind word.spelling.now }
     requires place { word.at + length word.spelling.now < 2 ^ 32 }
+    ensures held { StepLosesNone draft.old draft.new stack.old (Wait.After item) stack.new result }
     ensures keeps { OnOk result (Keeps draft.old draft.new) }
     ensures step { OnAtom draft.old stack.old item (λ at base es a. IsBehindAtom at base es a word.entry.at → Steps draft.new at base stack.new result (after_atom a es (word_of word.entry))) }
     ensures notes { OnAtom draft.old stack.old item (λ at base es a. IsBehindAtom at base es a word.entry.at → NotesMore draft.old.broken draft.new.broken result (after_asks at (base + length (entries es) + length (atom a)) a es (word_of word.entry))) }
@@ -317,6 +328,7 @@ fn named<'t>(
     requires frames { SomeName draft.old stack.old name.at }
     requires token { IsToken word.kind word.spelling.now }
     requires place { word.at + length word.spelling.now < 2 ^ 32 }
+    ensures held { StepLosesNone draft.old draft.new stack.old Wait.Need stack.new result }
     ensures keeps { OnOk result (Keeps draft.old draft.new) }
     ensures step { Behind draft.old stack.old name.entry.at (λ at base es. word.entry.at ≡ at (base + length (entries es) + 1) → Steps draft.new at base stack.new result (spec_named name.entry.bytes.now es (word_of word.entry))) }
     ensures notes { Behind draft.old stack.old name.entry.at (λ at base es. word.entry.at ≡ at (base + length (entries es) + 1) → NotesMore draft.old.broken draft.new.broken result (named_asks at (base + length (entries es)) name.entry.bytes.now es (word_of word.entry))) }
@@ -344,6 +356,7 @@ fn named<'t>(
 
 // A call of a name.
 pub(crate) fn call<'t>(draft: &mut Draft<'t>, name: Name<'t>) -> Result<Part, Memory>
+    ensures held { IfOk result (λ p. LosesNone draft.old draft.new (λ x. ⊥) (λ x. x ≡ NodeNumber p.node)) }
     ensures keeps { OnOk result (Keeps draft.old draft.new) }
     ensures broken { OnOk result (draft.new.broken ≡ draft.old.broken) }
     ensures node { IfOk result (λ p. (k : ℕ) × IsNode draft.new p.node (NodeKind.Call k) name.entry.at × IsName draft.new k name.entry.bytes.now) }
@@ -356,6 +369,7 @@ pub(crate) fn call<'t>(draft: &mut Draft<'t>, name: Name<'t>) -> Result<Part, Me
 
 // The register that is written.
 fn write<'t>(draft: &mut Draft<'t>, at: u32, word: Word<'t>) -> Result<Wait<'t>, StepFault>
+    ensures held { (fs : List Frame) → StepLosesNone draft.old draft.new fs Wait.Need fs result }
     ensures keeps { OnOk result (Keeps draft.old draft.new) }
     ensures broken { OnOk result (draft.new.broken ≡ draft.old.broken) }
     ensures step { BehindAny draft.old at (λ place base fs es. Steps draft.new place base fs result (on_name (λ n. goes (After (SpecWrite n)) es) (word_of word.entry))) }
@@ -371,6 +385,7 @@ fn write<'t>(draft: &mut Draft<'t>, at: u32, word: Word<'t>) -> Result<Wait<'t>,
 
 // The register behind a bracket.
 fn bracket<'t>(draft: &mut Draft<'t>, at: u32, word: Word<'t>) -> Result<Wait<'t>, StepFault>
+    ensures held { (fs : List Frame) → StepLosesNone draft.old draft.new fs Wait.Need fs result }
     ensures keeps { OnOk result (Keeps draft.old draft.new) }
     ensures broken { OnOk result (draft.new.broken ≡ draft.old.broken) }
     ensures step { BehindAny draft.old at (λ place base fs es. Steps draft.new place base fs result (on_name (λ n. goes (BracketName n) es) (word_of word.entry))) }
@@ -386,6 +401,7 @@ fn bracket<'t>(draft: &mut Draft<'t>, at: u32, word: Word<'t>) -> Result<Wait<'t
 
 // The sign behind a register.
 fn sign<'t>(alloc: Global, at: u32, register: u32, kind: Kind) -> Result<Wait<'t>, StepFault>
+    ensures held { IfOk result (λ w. (x : Numbered) → x ≡ RegisterNumber register → InWait w x) }
     ensures step { (made : Made) (place : ℕ → ℕ) (base : ℕ) (fs : List Frame) (es : List Entry) (r : List ℕ) (b : List ℕ) → FramesShow made place base fs es → at ≡ place (base + length (entries es)) → IsRegister made register r → Steps made place base fs result (on_sign r es (grammar_word kind b)) }
 {
     match kind {
@@ -413,6 +429,7 @@ fn part<'t>(
     word: Word<'t>,
 ) -> Result<Wait<'t>, StepFault>
     requires token { IsToken word.kind word.spelling.now }
+    ensures held { (fs : List Frame) → StepLosesNone draft.old draft.new fs (Wait.Assigning assignment) fs result }
     ensures keeps { OnOk result (Keeps draft.old draft.new) }
     ensures broken { OnOk result (draft.new.broken ≡ draft.old.broken) }
     ensures first { FirstPart draft.old draft.new assignment result (word_of word.entry) }
@@ -439,6 +456,7 @@ fn behind_part<'t>(
 ) -> Result<Wait<'t>, StepFault>
     requires some { (place : ℕ → ℕ) × (i : ℕ) × (append : Bool) × (r : List ℕ) × (p : SpecPart) × (ps : List SpecPart) × ShowsMode draft.old place i (Wait.Assigned assignment) (Assigned append r p ps) }
     requires token { IsToken word.kind word.spelling.now }
+    ensures held { (fs : List Frame) → StepLosesNone draft.old draft.new fs (Wait.Assigned assignment) fs result }
     ensures keeps { OnOk result (Keeps draft.old draft.new) }
     ensures broken { OnOk result (draft.new.broken ≡ draft.old.broken) }
     ensures step { NextPart draft.old draft.new assignment result (word_of word.entry) }
@@ -462,6 +480,7 @@ fn counted<'t>(
 ) -> Result<Wait<'t>, StepFault>
     requires atom { SomeAtom draft.old stack.old item }
     requires count { (t : SpecCountStep) × ShowsCountStep step t }
+    ensures held { StepLosesNone draft.old draft.new stack.old (Wait.After item) stack.new result }
     ensures keeps { OnOk result (Keeps draft.old draft.new) }
     ensures step { OnAtom draft.old stack.old item (λ at base es a. (t : SpecCountStep) → IsBehindAtom at base es a brace → ShowsCountStep step t → Steps draft.new at base stack.new result (on_count a es t)) }
     ensures notes { (t : SpecCountStep) (from : ℕ) → brace ≡ from → ShowsCountStep step t → (cs : List Check) → Noted cs draft.old.broken → OnOk result (Noted (cs ++ count_asks from t) draft.new.broken) }
@@ -491,6 +510,7 @@ pub(crate) fn step_in<'t>(
     requires inside { SomeInside draft.old stack.old wait }
     requires token { IsToken word.kind word.spelling.now }
     requires place { word.at + length word.spelling.now < 2 ^ 32 }
+    ensures held { StepLosesNone draft.old draft.new stack.old wait.entry stack.new result }
     ensures keeps { OnOk result (Keeps draft.old draft.new) }
     ensures step { InPlace draft.old stack.old wait.entry word.entry.at (λ at base i. Steps draft.new at base stack.new result (spec_step_in i.mode i.entries (word_of word.entry))) }
     ensures notes { InPlace draft.old stack.old wait.entry word.entry.at (λ at base i. NotesMore draft.old.broken draft.new.broken result (asks at (base + length (entries i.entries)) i.mode i.entries (word_of word.entry))) }

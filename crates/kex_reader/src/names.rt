@@ -1,6 +1,6 @@
 // Names by their numbers.
 
-ghost use Rattle.std.specs.Prelude.{◌≡◌, [], slice_get, Some, IfOk, length};
+ghost use Rattle.std.specs.Prelude.{◌≡◌, ◌<◌, ◌⊎◌, ℕ, [], slice_get, Some, IfOk, length};
 ghost use Rattle.kex_code.specs.Codes.{Begins, Different};
 
 use indexmap::IndexSet;
@@ -39,6 +39,7 @@ impl<'t> Names<'t> {
     pub(crate) fn number(&mut self, name: &'t [u8]) -> Result<u32, Memory>
         ensures number { IfOk result (λ i. slice_get self.new i ≡ Some name.now) }
         ensures grown { Begins self.new self.old }
+        ensures added { IfOk result (λ i. (k : ℕ) → k < length self.new → (k < length self.old) ⊎ (k ≡ i)) }
     {
         let Ok((number, _)) = self.all.insert_full(name) else {
             return Err(Memory);

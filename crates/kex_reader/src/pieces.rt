@@ -3,7 +3,7 @@
 ghost use Rattle.std.specs.Prelude.{◌≡◌, IfOk, OnOk};
 ghost use Rattle.kex_tokens.specs.Lexemes.{IsToken};
 ghost use Rattle.kex_reader.specs.Shown.{assigned};
-ghost use Rattle.kex_reader.specs.Stands.{Keeps, PieceShows, part_of, word_of};
+ghost use Rattle.kex_reader.specs.Stands.{InPiece, Keeps, LosesNone, PieceShows, part_of, word_of};
 
 use crate::draft::Draft;
 use crate::word::Word;
@@ -32,6 +32,7 @@ pub(crate) fn piece<'t>(
     requires { IsToken word.kind word.spelling.now }
     ensures keeps { OnOk result (Keeps draft.old draft.new) }
     ensures broken { OnOk result (draft.new.broken ≡ draft.old.broken) }
+    ensures held { IfOk result (λ o. LosesNone draft.old draft.new (λ x. ⊥) (InPiece o)) }
     ensures read { IfOk result (λ o. PieceShows (part_of (word_of word.entry)) draft.new o) }
 {
     match word.kind {

@@ -2,12 +2,13 @@
 
 ghost use Rattle.std.specs.Prelude.{◌≡◌, ℕ, ◌+◌, ◌<◌, ◌^◌, ◌++◌, ◌∷◌, ◌⊎◌, [], List, length, None, IfOk, IfErr, OnOk};
 ghost use Rattle.kex_tokens.specs.Lexemes.{IsToken};
-ghost use Rattle.kex_reader.specs.Holding.{InState, IsBehindState, ReaderEnds, ReaderFinishes, ReaderShows, ReaderSteps, WithinDefinition, whole_term};
+ghost use Rattle.kex_reader.specs.Holding.{EndLosesNone, FinishLosesNone, InPhase, InState, IsBehindState, ReaderEnds, ReaderFinishes, ReaderLosesNone, ReaderShows, ReaderSteps, WithinDefinition, whole_term};
 ghost use Rattle.kex_reader.specs.Reading.{Entry, Inside, State, entries, put as spec_put, Within, finish as spec_finish, finish_within as spec_finish_within, first_name, FirstName, spelled, step as spec_step, step_within, take_term};
 ghost use Rattle.kex_reader.specs.Shown.{IsName, ShowsAtom};
 ghost use Rattle.kex_reader.specs.Asked.{state_asks};
+ghost use Rattle.kex_reader.specs.Uses.{InStages, NodeNumber};
 ghost use Rattle.kex_reader.specs.Checks.{Check, Staged};
-ghost use Rattle.kex_reader.specs.Stands.{Behind, FramesShow, Keeps, Noted, NotesMore, OnAtom, SomeAtom, SomeFrames, SomeInside, SomeName, word_of};
+ghost use Rattle.kex_reader.specs.Stands.{Behind, FramesShow, InFrames, Keeps, LosesNone, Noted, NotesMore, OnAtom, SomeAtom, SomeFrames, SomeInside, SomeName, word_of};
 ghost use Rattle.kex_reader.specs.Syntax.{Atom, Call, Definition as SpecDefinition, Define, Once, Header, word as grammar_word};
 
 use crate::draft::Draft;
@@ -25,6 +26,7 @@ const MOST_STAGES: usize = 64;
 
 // Notes the limit where one stage too many is named.
 fn limit_stages(draft: &mut Draft, before: usize, at: u32)
+    ensures held { LosesNone draft.old draft.new (λ x. ⊥) (λ x. ⊥) }
     ensures keeps { Keeps draft.old draft.new }
     ensures notes { (cs : List Check) → Noted cs draft.old.broken → Noted (cs ++ Staged at (before + 1) ∷ []) draft.new.broken }
 {
@@ -65,7 +67,7 @@ pub(crate) struct Reader<'t> {
 
 impl<'t> Reader<'t> {
     pub(crate) fn new(alloc: Global) -> Reader<'t>
-        ensures { (result.stack ≡ []) × (result.definitions.items ≡ []) × (result.stages.items ≡ []) × (result.draft.broken ≡ None) }
+        ensures { (result.stack ≡ []) × (result.definitions.items ≡ []) × (result.stages.items ≡ []) × (result.draft ≡ record { nodes = []; names = []; registers = []; broken = None }) }
     {
         Reader {
             alloc,
@@ -78,6 +80,7 @@ impl<'t> Reader<'t> {
 
     // A definition begins.
     fn head(&mut self, name: Name<'t>) -> Result<Phase<'t>, StepFault>
+        ensures held { IfOk result (λ p. LosesNone self.old.draft self.new.draft (λ x. ⊥) (InPhase p)) }
         ensures keeps { OnOk result (Keeps self.old.draft self.new.draft) }
         ensures rest { OnOk result ((self.new.stack ≡ self.old.stack) × (self.new.definitions.items ≡ self.old.definitions.items) × (self.new.stages.items ≡ self.old.stages.items)) }
         ensures phase { IfOk result (λ p. (k : ℕ) × (p ≡ Phase.Within (record { name = k; at = name.entry.at }) Wait.Need) × IsName self.new.draft k name.entry.bytes.now) }
@@ -98,6 +101,7 @@ impl<'t> Reader<'t> {
 
     // A stage is named.
     fn stage(&mut self, word: Word<'t>) -> Result<Phase<'t>, StepFault>
+        ensures held { OnOk result (LosesNone self.old.draft self.new.draft (InStages self.old.stages.items) (InStages self.new.stages.items)) }
         ensures keeps { OnOk result (Keeps self.old.draft self.new.draft) }
         ensures rest { OnOk result ((self.new.stack ≡ self.old.stack) × (self.new.definitions.items ≡ self.old.definitions.items)) }
         ensures read { IfOk result (λ p. (k : ℕ) × (p ≡ Phase.StageRead) × (word.entry.kind ≡ Kind.Name) × IsName self.new.draft k word.entry.spelling.now × (self.new.stages.items ≡ self.old.stages.items ++ record { name = k; at = word.entry.at } ∷ [])) }
@@ -120,6 +124,7 @@ impl<'t> Reader<'t> {
     // The definition that is being read ends with what stands open.
     fn end(&mut self, head: Head) -> Result<(), StepFault>
         requires { SomeFrames self.old.draft self.old.stack }
+        ensures held { OnOk result (EndLosesNone self.old self.new head (InFrames self.old.stack)) }
         ensures keeps { OnOk result (Keeps self.old.draft self.new.draft) }
         ensures stages { OnOk result (self.new.stages.items ≡ self.old.stages.items) }
         ensures ends { (at : ℕ → ℕ) (base : ℕ) (es : List Entry) → FramesShow self.old.draft at base self.old.stack es → ReaderEnds self.old self.new at base head result (whole_term (take_term es)) }
@@ -150,6 +155,7 @@ impl<'t> Reader<'t> {
         requires inside { SomeInside self.old.draft self.old.stack wait }
         requires token { IsToken word.kind word.spelling.now }
         requires place { word.at + length word.spelling.now < 2 ^ 32 }
+        ensures held { ReaderLosesNone self.old (Phase.Within head wait.entry) self.new result }
         ensures step { WithinDefinition self.old head wait.entry (λ at h done name i. (word.entry.kind ≡ Kind.Define → ⊥) → IsBehindState at (Within h done name i) word.entry.at → ReaderSteps self.new at result (step_within h done name i.mode i.entries (word_of word.entry))) }
         ensures notes { WithinDefinition self.old head wait.entry (λ at h done name i. IsBehindState at (Within h done name i) word.entry.at → NotesMore self.old.draft.broken self.new.draft.broken result (state_asks at (Within h done name i) (word_of word.entry))) }
     {
@@ -162,6 +168,7 @@ impl<'t> Reader<'t> {
     // Where the next definition begins, behind a name that needn't be a call.
     fn next_definition(&mut self, head: Head, wait: Wait<'t>) -> Result<Phase<'t>, StepFault>
         requires { SomeInside self.old.draft self.old.stack wait }
+        ensures held { ReaderLosesNone self.old (Phase.Within head wait.entry) self.new result }
         ensures step { WithinDefinition self.old head wait.entry (λ at h done name i. ReaderSteps self.new at result (step_within h done name i.mode i.entries Define)) }
         ensures broken { OnOk result (self.new.draft.broken ≡ self.old.draft.broken) }
     {
@@ -179,6 +186,7 @@ impl<'t> Reader<'t> {
 
     // The first name is the start line's word, or a head.
     fn first(&mut self, name: Name<'t>, kind: Kind) -> Result<Phase<'t>, StepFault>
+        ensures held { ReaderLosesNone self.old (Phase.FirstName name.entry) self.new result }
         ensures step { (at : ℕ → ℕ) (n b : List ℕ) → ReaderShows self.old at (Phase.FirstName name.entry) (FirstName n) → ReaderSteps self.new at result (first_name n (grammar_word kind b)) }
         ensures broken { OnOk result (self.new.draft.broken ≡ self.old.draft.broken) }
     {
@@ -200,6 +208,7 @@ impl<'t> Reader<'t> {
         requires some { InState self.old phase }
         requires token { IsToken word.kind word.spelling.now }
         requires place { word.at + length word.spelling.now < 2 ^ 32 }
+        ensures held { ReaderLosesNone self.old phase.entry self.new result }
         ensures step { (at : ℕ → ℕ) (s : State) → ReaderShows self.old at phase.entry s → IsBehindState at s word.entry.at → ReaderSteps self.new at result (spec_step s (word_of word.entry)) }
         ensures notes { (at : ℕ → ℕ) (s : State) (cs : List Check) → ReaderShows self.old at phase.entry s → IsBehindState at s word.entry.at → Noted cs self.old.draft.broken → OnOk result (Noted (cs ++ state_asks at s (word_of word.entry)) self.new.draft.broken) }
     {
@@ -234,6 +243,7 @@ impl<'t> Reader<'t> {
     // The last definition ends with the text.
     fn finish_within(&mut self, head: Head, wait: Wait<'t>) -> Result<(), StepFault>
         requires { SomeInside self.old.draft self.old.stack wait }
+        ensures held { FinishLosesNone self.old (Phase.Within head wait.entry) self.new result }
         ensures ends { WithinDefinition self.old head wait.entry (λ at h done name i. ReaderFinishes self.new at result (spec_finish_within h done name i.mode i.entries)) }
         ensures broken { OnOk result (self.new.draft.broken ≡ self.old.draft.broken) }
     {
@@ -249,6 +259,7 @@ impl<'t> Reader<'t> {
     // The last definition ends with this call.
     fn end_call(&mut self, head: Head, name: Name<'t>) -> Result<(), StepFault>
         requires { SomeName self.old.draft self.old.stack name.at }
+        ensures held { OnOk result (EndLosesNone self.old self.new head (InFrames self.old.stack)) }
         ensures keeps { OnOk result (Keeps self.old.draft self.new.draft) }
         ensures stages { OnOk result (self.new.stages.items ≡ self.old.stages.items) }
         ensures ends { Behind self.old.draft self.old.stack name.entry.at (λ at base es. ReaderEnds self.old self.new at base head result (whole_term (take_term (spec_put (Once (Call name.entry.bytes.now)) es)))) }
@@ -263,6 +274,7 @@ impl<'t> Reader<'t> {
     // The last definition ends with this atom.
     fn end_with(&mut self, head: Head, item: Part) -> Result<(), StepFault>
         requires { SomeAtom self.old.draft self.old.stack item }
+        ensures held { OnOk result (EndLosesNone self.old self.new head (λ x. (x ≡ NodeNumber item.node) ⊎ InFrames self.old.stack x)) }
         ensures keeps { OnOk result (Keeps self.old.draft self.new.draft) }
         ensures stages { OnOk result (self.new.stages.items ≡ self.old.stages.items) }
         ensures ends { OnAtom self.old.draft self.old.stack item (λ at base es a. ReaderEnds self.old self.new at base head result (whole_term (take_term (spec_put (Once a) es)))) }
@@ -277,6 +289,7 @@ impl<'t> Reader<'t> {
     // The text ends.
     pub(crate) fn finish(&mut self, phase: Phase<'t>) -> Result<(), StepFault>
         requires { InState self.old phase }
+        ensures held { FinishLosesNone self.old phase.entry self.new result }
         ensures ends { (at : ℕ → ℕ) (s : State) → ReaderShows self.old at phase.entry s → ReaderFinishes self.new at result (spec_finish s) }
         ensures broken { OnOk result (self.new.draft.broken ≡ self.old.draft.broken) }
     {

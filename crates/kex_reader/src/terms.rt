@@ -1,9 +1,10 @@
 // What has ended becomes one node.
 
-ghost use Rattle.std.specs.Prelude.{◌≡◌, ℕ, ◌+◌, ◌<◌, List, length, IfOk, OnOk};
+ghost use Rattle.std.specs.Prelude.{◌≡◌, ℕ, ◌+◌, ◌<◌, ◌⊎◌, List, length, IfOk, OnOk};
 ghost use Rattle.kex_reader.specs.Reading.{Entry, entries, put as spec_put, take_seq, take_term};
 ghost use Rattle.kex_reader.specs.Shown.{IsNode, ShowsPre};
-ghost use Rattle.kex_reader.specs.Stands.{FramesShow, HasRegister, Keeps, SeqTaken, SomeFrames, SomePre, TermTaken, prefix_at, prefixed_kind};
+ghost use Rattle.kex_reader.specs.Stands.{FramesShow, HasRegister, InFrame, InFrames, InPart, Keeps, LosesNone, SeqTaken, SomeFrames, SomePre, TermTaken, frame_of, prefix_at, prefixed_kind};
+ghost use Rattle.kex_reader.specs.Uses.{NodeNumber};
 ghost use Rattle.kex_reader.specs.Syntax.{Pre};
 
 use crate::draft::Draft;
@@ -16,6 +17,7 @@ pub(crate) fn put(stack: &mut Stack, draft: &mut Draft, part: Part) -> Result<()
     requires { SomePre draft.old stack.old part }
     ensures keeps { OnOk result (Keeps draft.old draft.new) }
     ensures broken { OnOk result (draft.new.broken ≡ draft.old.broken) }
+    ensures held { OnOk result (LosesNone draft.old draft.new (λ x. (x ≡ NodeNumber part.node) ⊎ InFrames stack.old x) (InFrames stack.new)) }
     ensures put { OnOk result ((at : ℕ → ℕ) (base : ℕ) (es : List Entry) (p : Pre) → FramesShow draft.old at base stack.old es → part.at ≡ at (base + length (entries es)) → ShowsPre p draft.old at part.node (base + length (entries es)) → FramesShow draft.new at base stack.new (spec_put p es)) }
 {
     let mut whole = part;
@@ -35,6 +37,7 @@ fn prefixed(draft: &mut Draft, prefix: Prefix, part: Part) -> Result<Part, Memor
     ensures broken { OnOk result (draft.new.broken ≡ draft.old.broken) }
     ensures node { IfOk result (λ w. IsNode draft.new w.node (prefixed_kind prefix part.node) (prefix_at prefix)) }
     ensures place { IfOk result (λ w. w.at ≡ prefix_at prefix) }
+    ensures held { IfOk result (λ w. LosesNone draft.old draft.new (λ x. (x ≡ NodeNumber part.node) ⊎ InFrame (frame_of prefix) x) (λ x. x ≡ NodeNumber w.node)) }
 {
     match prefix {
         Prefix::Mute(at) => {
@@ -53,6 +56,7 @@ pub(crate) fn close_seq(stack: &mut Stack, draft: &mut Draft) -> Result<Option<P
     requires { SomeFrames draft.old stack.old }
     ensures keeps { OnOk result (Keeps draft.old draft.new) }
     ensures broken { OnOk result (draft.new.broken ≡ draft.old.broken) }
+    ensures held { IfOk result (λ o. LosesNone draft.old draft.new (InFrames stack.old) (λ x. InPart o x ⊎ InFrames stack.new x)) }
     ensures seq { IfOk result (λ o. (at : ℕ → ℕ) (base : ℕ) (es : List Entry) → FramesShow draft.old at base stack.old es → SeqTaken draft.new at base stack.new o (take_seq es)) }
 {
     let Some(last) = stack.take_done() else {
@@ -71,6 +75,7 @@ pub(crate) fn close_term(stack: &mut Stack, draft: &mut Draft) -> Result<Option<
     requires { SomeFrames draft.old stack.old }
     ensures keeps { OnOk result (Keeps draft.old draft.new) }
     ensures broken { OnOk result (draft.new.broken ≡ draft.old.broken) }
+    ensures held { IfOk result (λ o. LosesNone draft.old draft.new (InFrames stack.old) (λ x. InPart o x ⊎ InFrames stack.new x)) }
     ensures term { IfOk result (λ o. (at : ℕ → ℕ) (base : ℕ) (es : List Entry) → FramesShow draft.old at base stack.old es → TermTaken draft.new at base stack.new o (take_term es)) }
 {
     let closed = close_seq(stack, draft)?;

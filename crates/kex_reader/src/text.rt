@@ -7,7 +7,9 @@ ghost use Rattle.kex_tokens.specs.Texts.{AreTokens, IsSpan, most_text};
 ghost use Rattle.kex_reader.specs.Holding.{ShowsHead};
 ghost use Rattle.kex_reader.specs.Shown.{ShowsDefinitions};
 ghost use Rattle.kex_reader.specs.Spelling.{IsRefusedAs, ShowsProgram, Spells, made_of, main_stage, of_limit, of_step, of_token};
+ghost use Rattle.kex_reader.specs.Stands.{Has};
 ghost use Rattle.kex_reader.specs.Syntax.{Program as Tree, header};
+ghost use Rattle.kex_reader.specs.Uses.{InDefinitions, InNodes, InStages, NoneSpare, Numbered};
 
 use crate::draft::Draft;
 use crate::inside::StepFault;
@@ -108,6 +110,7 @@ fn program(
     ensures shown { IfOk result (λ P. (at : ℕ → ℕ) (tree : Tree) → ShowsDefinitions tree.definitions draft.entry at definitions.items (length (header tree.header)) → ShowsHead tree.header draft.entry at named.items → ShowsProgram tree (made_of P draft.entry.registers) at P) }
     ensures names { IfOk result (λ P. Different P.names) }
     ensures registers { IfOk result (λ P. Different draft.entry.registers × (P.registers ≡ length draft.entry.registers)) }
+    ensures used { IfOk result (λ P. ((x : Numbered) → Has draft.entry x → InNodes draft.entry.nodes x ⊎ (InDefinitions definitions.items x ⊎ InStages named.items x)) → NoneSpare P) }
     ensures refused { IfErr result (λ e. (e ≡ ReadRefusal.Memory) ⊎ ((b : Break) × (draft.entry.broken ≡ Some b) × (e ≡ of_limit b))) }
 {
     if let Some(broken) = draft.broken() {

@@ -1,4 +1,5 @@
 pub mod Adding
+pub mod Parents
 pub mod Sound
 pub mod Complete
 pub mod Viable

@@ -1,6 +1,7 @@
 -- What the reader holds while it reads: nodes, frames, a set, a count, each against what the machine holds.
-use Rattle.std.specs.Prelude.{◌≡◌, ℕ, ◌+◌, Bool, true, false, List, [], ◌∷◌, length, reverse, Option, Some, None, Result, Ok, Err, MatchBool, min, ◌==◌}
+use Rattle.std.specs.Prelude.{◌≡◌, ℕ, ◌+◌, Bool, true, false, List, [], ◌∷◌, length, reverse, Option, Some, None, Result, Ok, Err, IfOk, MatchBool, min, ◌==◌, ◌⊎◌}
 use Rattle.kex_byteset.specs.Sets.{HasExactly}
+use Rattle.kex_code.specs.Codes.{IsAmong}
 use Rattle.kex_model.specs.declared.program.Kind.TheVariants as kinds
 use Rattle.kex_model.specs.declared.program.Node.{Node}
 use Rattle.kex_regexp.specs.declared.counts.Count.{Count}
@@ -24,6 +25,7 @@ use Rattle.kex_regexp.specs.declared.wait.Wait.TheVariants as waits
 use Rattle.kex_regexp.specs.Breaks.{is_bad_count}
 use Rattle.kex_regexp.specs.Grammar.{item, is_hex, Member, Postfix, Regex, Last, Or, Branch, Empty, Then, Piece, Once, Turns, Item, Plain, Escaped, Dot, Set, Group, branch, piece}
 use Rattle.kex_regexp.specs.Machine.{Escaping, Begun, HexBegun, HexOne, EscapeStep, EscapeOn, EscapeRead, EscapeWrong, Part, AtStart, Between, HasEnd, HasDash, InFirst, InLast, SetStep, SetOn, SetRead, SetWrong, Counting, Opened, Low, LowComma, LowHigh, OnlyComma, High, CountStep, CountOn, CountRead, CountWrong, Entry, Mark, Ended, Read, Mode, Ready, After, InEscape, InSet, InCount, State, entries, spelled}
+use Rattle.kex_regexp.specs.Parents.{NoneLost}
 use Rattle.kex_regexp.specs.Shown.{IsNode, IsClass}
 use Rattle.kex_regexp.specs.Values.{end_byte, escaped_byte, has_backward, high, in_members, in_set, low, number}
 
@@ -205,3 +207,25 @@ SomeBehind nodes fs part at = (base : ℕ) × (es : List Entry) × (i : Item) ×
 -- where the frames show entries, behind which stands an item with this node
 abbrev pub OnItem : List Node → List Frame → Placed → (ℕ → List Entry → Item → Type 0) → Type 0
 OnItem nodes frames placed Says = (base : ℕ) (es : List Entry) (i : Item) → FramesShow nodes base (reverse frames) es → placed.at ≡ base + length (entries es) → HoldsItem i nodes placed.node placed.at → Says base es i
+
+-- ---- nodes that are held: they have no parent yet
+
+abbrev pub InFrame : Frame → ℕ → Type 0
+InFrame (frames.Mark at) n = ⊥
+InFrame (frames.Ended m at) n = n ≡ m
+InFrame (frames.Piece m at) n = n ≡ m
+
+abbrev pub InFrames : List Frame → ℕ → Type 0
+InFrames fs n = (f : Frame) × IsAmong fs f × InFrame f n
+
+abbrev pub InWait : Wait → ℕ → Type 0
+InWait (waits.After item) n = n ≡ item.node
+InWait (waits.InCount item count brace) n = n ≡ item.node
+InWait _ n = ⊥
+
+abbrev pub IsHeld : List Frame → Wait → ℕ → Type 0
+IsHeld fs wait n = InFrames fs n ⊎ InWait wait n
+
+-- a step loses no node
+abbrev pub LosesNone : List Node → List Node → List Frame → Wait → List Frame → Result Wait StepFault → Type 0
+LosesNone old new fs wait gs result = IfOk result (λ next. NoneLost old new (IsHeld fs wait) (IsHeld gs next))

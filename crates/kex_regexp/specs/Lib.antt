@@ -3,6 +3,7 @@ pub mod Values
 pub mod Breaks
 pub mod Bodies
 pub mod Shown
+pub mod Parents
 pub mod Machine
 pub mod Holding
 pub mod Held

@@ -4,8 +4,9 @@ ghost use Rattle.std.specs.Prelude.{◌≡◌, ℕ, ◌+◌, ◌<◌, ◌^◌, L
 ghost use Rattle.kex_regexp.specs.Bodies.{IsRefusal, Spells, fault_of};
 ghost use Rattle.kex_regexp.specs.Breaks.{regex_breaks};
 ghost use Rattle.kex_regexp.specs.Grammar.{Regex, Empty};
-ghost use Rattle.kex_regexp.specs.Holding.{Ends, FramesShow, SomeFrames, SomeState, StandsFor};
+ghost use Rattle.kex_regexp.specs.Holding.{Ends, FramesShow, InFrames, IsHeld, SomeFrames, SomeState, StandsFor};
 ghost use Rattle.kex_regexp.specs.Machine.{Entry, State, entries, spelled, take_regex, whole, finish as spec_finish};
+ghost use Rattle.kex_regexp.specs.Parents.{NoneLost};
 ghost use Rattle.kex_regexp.specs.Shown.{Adds, ShowsRegex};
 
 use crate::breaks::{Break, lesser};
@@ -23,6 +24,7 @@ use std::alloc::Global;
 fn end(frames: &mut Vec<Frame>, into: &mut Builder, at: u32) -> Result<u32, StepFault>
     requires { SomeFrames into.old frames.old.items at }
     ensures adds { Adds into.old into.new }
+    ensures nodes { IfOk result (λ m. NoneLost into.old into.new (InFrames frames.old.items) (λ n. n ≡ m)) }
     ensures ends { (base : ℕ) (es : List Entry) → FramesShow into.old base (reverse frames.old.items) es → at ≡ base + length (entries es) → Ends into.new base result (whole (take_regex es)) }
 {
     let Ok(regex) = close_regex(frames, into, at) else {
@@ -45,6 +47,7 @@ fn finish(
 ) -> Result<u32, StepFault>
     requires { SomeState into.old frames.old.items wait at }
     ensures adds { Adds into.old into.new }
+    ensures nodes { IfOk result (λ m. NoneLost into.old into.new (IsHeld frames.old.items wait) (λ n. n ≡ m)) }
     ensures ends { (base : ℕ) (s : State) → StandsFor into.old base frames.old.items wait s → at ≡ base + length (spelled s) → Ends into.new base result (spec_finish s) }
 {
     match wait {
@@ -77,6 +80,8 @@ pub fn regex(
     requires { at + length bytes.now < 2 ^ 32 }
     // The nodes that were there stay, and none that is added names a definition or a register.
     ensures adds { Adds into.old into.new }
+    // No node is spare: each that is added is the body's own, or a child of another one.
+    ensures nodes { IfOk result (λ m. NoneLost into.old into.new (λ n. ⊥) (λ n. n ≡ m)) }
     // What is read is a body that breaks no rule, and the node shows its tree.
     ensures read { IfOk result (λ n. (r : Regex) × Spells r bytes.now × (regex_breaks r at depth ≡ []) × ShowsRegex r into.new n at) }
     // What is refused is refused at its first wrong byte, or else for the least rule that it breaks.

@@ -1,9 +1,10 @@
 // What stands open, the newest last.
 
-ghost use Rattle.std.specs.Prelude.{◌≡◌, ℕ, ◌+◌, List, length, reverse, IfOk, IfSome, IfNone, ◌++◌, ◌∷◌, []};
+ghost use Rattle.std.specs.Prelude.{◌≡◌, ℕ, ◌+◌, List, length, reverse, IfOk, IfSome, IfNone, ◌++◌, ◌∷◌, ◌⊎◌, []};
 ghost use Rattle.kex_regexp.specs.Grammar.{Empty};
-ghost use Rattle.kex_regexp.specs.Holding.{BranchOn, FramesShow, RegexOn, SomeFrames};
+ghost use Rattle.kex_regexp.specs.Holding.{BranchOn, FramesShow, InFrames, RegexOn, SomeFrames};
 ghost use Rattle.kex_regexp.specs.Machine.{Entry, entries, take_pieces, take_regex};
+ghost use Rattle.kex_regexp.specs.Parents.{NoneLost};
 ghost use Rattle.kex_regexp.specs.Shown.{Adds};
 
 use kex_code::memory::Memory;
@@ -69,6 +70,7 @@ pub fn close_branch(frames: &mut Vec<Frame>, into: &mut Builder, at: u32) -> Res
     requires { SomeFrames into.old frames.old.items at }
     ensures adds { Adds into.old into.new }
     ensures branch { IfOk result (λ p. (base : ℕ) (es : List Entry) → FramesShow into.old base (reverse frames.old.items) es → at ≡ base + length (entries es) → BranchOn into.new base frames.new.items p (take_pieces es Empty)) }
+    ensures nodes { IfOk result (λ p. NoneLost into.old into.new (InFrames frames.old.items) (λ n. (n ≡ p.node) ⊎ InFrames frames.new.items n)) }
 {
     let Some(last) = take_piece(frames) else {
         let node = into.add(Node {
@@ -94,6 +96,7 @@ pub fn close_regex(frames: &mut Vec<Frame>, into: &mut Builder, at: u32) -> Resu
     requires { SomeFrames into.old frames.old.items at }
     ensures adds { Adds into.old into.new }
     ensures regex { IfOk result (λ p. (base : ℕ) (es : List Entry) → FramesShow into.old base (reverse frames.old.items) es → at ≡ base + length (entries es) → RegexOn into.new base frames.new.items p (take_regex es)) }
+    ensures nodes { IfOk result (λ p. NoneLost into.old into.new (InFrames frames.old.items) (λ n. (n ≡ p.node) ⊎ InFrames frames.new.items n)) }
 {
     let mut regex = close_branch(frames, into, at)?;
     while let Some(branch) = take_ended(frames) {

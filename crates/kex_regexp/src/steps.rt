@@ -2,8 +2,9 @@
 
 ghost use Rattle.std.specs.Prelude.{◌≡◌, ℕ, ◌+◌, ◌<◌, List, [], ◌∷◌, ◌++◌, length, reverse, OnOk, IfOk, IfErr};
 ghost use Rattle.kex_regexp.specs.Grammar.{Item, Postfix, Empty, Turns, item as spelled_item};
-ghost use Rattle.kex_regexp.specs.Holding.{FramesShow, HoldsItem, IsSetAfter, IsTurns, OnItem, ShowsCountStep, ShowsEscape, ShowsSet, SomeBehind, SomeFrames, SomeItem, SomeState, StandsFor, Steps, capped, capped_option};
+ghost use Rattle.kex_regexp.specs.Holding.{FramesShow, HoldsItem, IsSetAfter, LosesNone, IsTurns, OnItem, ShowsCountStep, ShowsEscape, ShowsSet, SomeBehind, SomeFrames, SomeItem, SomeState, StandsFor, Steps, capped, capped_option};
 ghost use Rattle.kex_regexp.specs.Machine.{EscapeStep, SetStep, CountStep, Entry, Read, Ready, State, entries, spelled, goes, take_pieces, take_regex, begin_piece, after_item, end_branch, close as close_parenthesis, on_escape as spec_on_escape, on_set as spec_on_set, on_count as spec_on_count, step as spec_step};
+ghost use Rattle.kex_regexp.specs.Parents.{NoneLost};
 ghost use Rattle.kex_regexp.specs.Shown.{Adds, IsNode};
 ghost use Rattle.kex_regexp.specs.Values.{low as low_of, high as high_of};
 
@@ -32,6 +33,7 @@ pub fn push(frames: &mut Vec<Frame>, frame: Frame) -> Result<(), StepFault>
 #[tactic(auto, using(crate::proofs::Adding::adding))]
 fn leaf(into: &mut Builder, set: ByteSet, at: u32) -> Result<Wait, StepFault>
     ensures adds { Adds into.old into.new }
+    ensures nodes { (fs : List Frame) → LosesNone into.old into.new fs Wait.Ready fs result }
     ensures ok { IfOk result (λ w. (n : ℕ) × (w ≡ Wait.After (record { node = n; at = at })) × IsNode into.new n (Kind.Class set) at) }
     ensures err { IfErr result (λ e. e ≡ StepFault.Memory) }
 {
@@ -50,6 +52,7 @@ fn leaf(into: &mut Builder, set: ByteSet, at: u32) -> Result<Wait, StepFault>
 fn bar(frames: &mut Vec<Frame>, into: &mut Builder, at: u32) -> Result<Wait, StepFault>
     requires { SomeFrames into.old frames.old.items at }
     ensures adds { Adds into.old into.new }
+    ensures nodes { LosesNone into.old into.new frames.old.items Wait.Ready frames.new.items result }
     ensures step { (base : ℕ) (es : List Entry) → FramesShow into.old base (reverse frames.old.items) es → at ≡ base + length (entries es) → Steps into.new base frames.new.items result (end_branch (take_pieces es Empty)) }
 {
     let Ok(branch) = close_branch(frames, into, at) else {
@@ -70,6 +73,7 @@ fn bar(frames: &mut Vec<Frame>, into: &mut Builder, at: u32) -> Result<Wait, Ste
 fn close(frames: &mut Vec<Frame>, into: &mut Builder, at: u32) -> Result<Wait, StepFault>
     requires { SomeFrames into.old frames.old.items at }
     ensures adds { Adds into.old into.new }
+    ensures nodes { LosesNone into.old into.new frames.old.items Wait.Ready frames.new.items result }
     ensures step { (base : ℕ) (es : List Entry) → FramesShow into.old base (reverse frames.old.items) es → at ≡ base + length (entries es) → Steps into.new base frames.new.items result (close_parenthesis (take_regex es)) }
 {
     let Ok(regex) = close_regex(frames, into, at) else {
@@ -89,6 +93,7 @@ fn close(frames: &mut Vec<Frame>, into: &mut Builder, at: u32) -> Result<Wait, S
 fn begin(frames: &mut Vec<Frame>, into: &mut Builder, at: u32, byte: u8) -> Result<Wait, StepFault>
     requires { SomeFrames into.old frames.old.items at }
     ensures adds { Adds into.old into.new }
+    ensures nodes { LosesNone into.old into.new frames.old.items Wait.Ready frames.new.items result }
     ensures step { (base : ℕ) (es : List Entry) → FramesShow into.old base (reverse frames.old.items) es → at ≡ base + length (entries es) → Steps into.new base frames.new.items result (begin_piece es byte) }
 {
     if is_plain(byte) {
@@ -126,6 +131,7 @@ fn begin(frames: &mut Vec<Frame>, into: &mut Builder, at: u32, byte: u8) -> Resu
 fn repeated(into: &mut Builder, item: Placed, low: u32, high: Option<u32>) -> Result<u32, Memory>
     requires { item.node < length into.old }
     ensures adds { Adds into.old into.new }
+    ensures nodes { IfOk result (λ m. NoneLost into.old into.new (λ n. n ≡ item.node) (λ n. n ≡ m)) }
     ensures turns { IfOk result (λ n. (p : Postfix) → low ≡ capped (low_of p) → high ≡ capped_option (high_of p) → IsTurns p into.new n item.node item.at) }
 {
     if is_bad_count(low, high) {
@@ -153,6 +159,7 @@ fn turns(
 ) -> Result<Wait, StepFault>
     requires { SomeItem into.old frames.old.items item }
     ensures adds { Adds into.old into.new }
+    ensures nodes { LosesNone into.old into.new frames.old.items (Wait.After item) frames.new.items result }
     ensures step { OnItem into.old frames.old.items item (λ base es i. (p : Postfix) → low ≡ capped (low_of p) → high ≡ capped_option (high_of p) → Steps into.new base frames.new.items result (goes Ready (Read (Turns i p) ∷ es))) }
 {
     let Ok(node) = repeated(into, item, low, high) else {
@@ -176,6 +183,7 @@ fn behind(
 ) -> Result<Wait, StepFault>
     requires { SomeBehind into.old frames.old.items item at }
     ensures adds { Adds into.old into.new }
+    ensures nodes { LosesNone into.old into.new frames.old.items (Wait.After item) frames.new.items result }
     ensures step { OnItem into.old frames.old.items item (λ base es i. at ≡ item.at + length (spelled_item i) → Steps into.new base frames.new.items result (after_item i es byte)) }
 {
     if byte == b'*' {
@@ -211,6 +219,7 @@ fn on_set(
     from: u32,
 ) -> Result<Wait, StepFault>
     ensures adds { Adds into.old into.new }
+    ensures nodes { (fs : List Frame) → LosesNone into.old into.new fs Wait.Ready fs result }
     ensures step { (base : ℕ) (fs : List Frame) (es : List Entry) (t : SetStep) → FramesShow into.old base (reverse fs) es → from ≡ base + length (entries es) → ShowsSet outcome t → IsSetAfter set.now (spec_on_set es t) → Steps into.new base fs result (spec_on_set es t) }
 {
     match outcome {
@@ -233,6 +242,7 @@ fn on_set(
 #[tactic(auto, using(crate::proofs::Adding::adding))]
 fn on_escape(outcome: EscapeOutcome, into: &mut Builder, from: u32) -> Result<Wait, StepFault>
     ensures adds { Adds into.old into.new }
+    ensures nodes { (fs : List Frame) → LosesNone into.old into.new fs Wait.Ready fs result }
     ensures step { (base : ℕ) (fs : List Frame) (es : List Entry) (t : EscapeStep) → FramesShow into.old base (reverse fs) es → from ≡ base + length (entries es) → ShowsEscape outcome t → Steps into.new base fs result (spec_on_escape es t) }
 {
     match outcome {
@@ -253,6 +263,7 @@ fn on_count(
 ) -> Result<Wait, StepFault>
     requires { SomeItem into.old frames.old.items item }
     ensures adds { Adds into.old into.new }
+    ensures nodes { LosesNone into.old into.new frames.old.items (Wait.After item) frames.new.items result }
     ensures step { OnItem into.old frames.old.items item (λ base es i. (t : CountStep) → brace ≡ item.at + length (spelled_item i) → ShowsCountStep outcome t → Steps into.new base frames.new.items result (spec_on_count i es t)) }
 {
     match outcome {
@@ -274,6 +285,7 @@ pub fn step(
 ) -> Result<Wait, StepFault>
     requires { SomeState into.old frames.old.items wait at }
     ensures adds { Adds into.old into.new }
+    ensures nodes { LosesNone into.old into.new frames.old.items wait frames.new.items result }
     ensures step { (base : ℕ) (s : State) → StandsFor into.old base frames.old.items wait s → IsSetAfter set.now (spec_step s byte) → at ≡ base + length (spelled s) → Steps into.new base frames.new.items result (spec_step s byte) }
 {
     match wait {

@@ -1,4 +1,4 @@
-use Rattle.std.proofs.Common.{◌+◌, [], ◌++◌, length, sym, ap, ◌∙◌, subst}
+use Rattle.std.proofs.Common.{◌+◌, [], ◌++◌, length, sym, ap, ◌∙◌, subst, inl, inr}
 use Rattle.kex_tokens.specs.declared.token.Kind.TheVariants as kinds
 use Rattle.kex_model.specs.declared.program.Kind.TheVariants as nodes
 use Rattle.kex_reader.specs.Syntax.{One, Lit, Match, between}
@@ -8,6 +8,7 @@ use Rattle.kex_reader.proofs.Stepping.{to, wrong, named_waits, writing, bracket,
 use Rattle.std.specs.Prelude.{bytes_eq}
 use Rattle.kex_reader.proofs.Kept.{same, on_same, on_apply, on_from, begin_quiet, begin_regex_asks, begin_tilde_asks, begin_paren_asks}
 use Rattle.kex_reader.proofs.Stacks.{depth_is}
+use Rattle.kex_reader.proofs.Uses.{step_from, unchanged}
 use Rattle.kex_reader.proofs.inside.begin.Goals as goal
 
 pub returns-in-Name-clause-step : goal.returns-in-Name-clause-step
@@ -51,7 +52,7 @@ pub returns-else-eq-clause-step : goal.returns-else-eq-clause-step
 returns-else-eq-clause-step c = λ at base es h a. to _ at base _ _ _ _ (begin_kind c.args.free es c.args.word.spelling.now c.args.word.kind kinds.Number _ c.in-Number.is (begin_number c.args.free es c.args.word.spelling.now (ap (bytes_eq c.args.word.spelling.now) (sym c.as_slice.ensures) ∙ sym c.eq.ensures ∙ c.if-eq.false))) (wrong c.args.draft.now at base c.args.stack.now)
 
 pub returns-in_default : goal.returns-in_default
-returns-in_default c = record { keeps = tt; notes = λ at base es h a cs n. tt; step = λ at base es h a. to _ at base _ _ _ _ (begin_other c.args.free es c.args.word.spelling.now c.args.word.kind c.in_default.not-Name c.in_default.not-Number c.in_default.not-Literal c.in_default.not-Regex c.in_default.not-Tilde c.in_default.not-Bang c.in_default.not-OpenBracket c.in_default.not-OpenParen c.in_default.not-Bar c.in_default.not-CloseParen) (wrong c.args.draft.now at base c.args.stack.now) }
+returns-in_default c = record { keeps = tt; held = tt; notes = λ at base es h a cs n. tt; step = λ at base es h a. to _ at base _ _ _ _ (begin_other c.args.free es c.args.word.spelling.now c.args.word.kind c.in_default.not-Name c.in_default.not-Number c.in_default.not-Literal c.in_default.not-Regex c.in_default.not-Tilde c.in_default.not-Bang c.in_default.not-OpenBracket c.in_default.not-OpenParen c.in_default.not-Bar c.in_default.not-CloseParen) (wrong c.args.draft.now at base c.args.stack.now) }
 
 pub returns-in-Name-clause-notes : goal.returns-in-Name-clause-notes
 returns-in-Name-clause-notes c = λ at base es h a cs n. subst (λ x. Rattle.kex_reader.specs.Stands.Noted (cs ++ x) c.args.draft.now.broken) (begin_quiet at (base + length (entries es)) es c.args.word.spelling.now c.args.word.kind kinds.Name c.in-Name.is tt) (same cs c.args.draft.now.broken n)
@@ -82,3 +83,33 @@ returns-in-Tilde-clause-notes c = λ at base es h a cs n. on_from c.open.result 
 
 pub returns-in-OpenParen-clause-notes : goal.returns-in-OpenParen-clause-notes
 returns-in-OpenParen-clause-notes c = λ at base es h a cs n. on_from c.open-in-OpenParen.result cs _ _ c.open-in-OpenParen.new.draft.broken (begin_paren_asks at (base + length (entries es)) es c.args.word.spelling.now c.args.word.kind c.args.word.at (Rattle.kex_reader.specs.Stands.open_frames c.args.stack.now) c.in-OpenParen.is a (depth_is c.args.draft.now at base c.args.stack.now es h)) (on_apply c.open-in-OpenParen.result cs _ c.args.draft.now.broken c.open-in-OpenParen.new.draft.broken c.open-in-OpenParen.ensures.notes n)
+
+pub returns-in-Name-clause-held : goal.returns-in-Name-clause-held
+returns-in-Name-clause-held c = unchanged _ _ _ (λ x h. h)
+
+pub returns-in-Bang-clause-held : goal.returns-in-Bang-clause-held
+returns-in-Bang-clause-held c = unchanged _ _ _ (λ x h. h)
+
+pub returns-in-OpenBracket-clause-held : goal.returns-in-OpenBracket-clause-held
+returns-in-OpenBracket-clause-held c = unchanged _ _ _ (λ x h. h)
+
+pub returns-then-eq-clause-held : goal.returns-then-eq-clause-held
+returns-then-eq-clause-held c = step_from c.leaf.result _ _ _ _ c.args.stack.now (λ x h. elim h [ inl i ↦ inl i | inr z ↦ absurd z ]) (c.leaf.ensures.held c.args.stack.now)
+
+pub returns-in-Literal-clause-held : goal.returns-in-Literal-clause-held
+returns-in-Literal-clause-held c = c.literal.ensures.held c.args.stack.now
+
+pub returns-in-Regex-clause-held : goal.returns-in-Regex-clause-held
+returns-in-Regex-clause-held c = c.body.ensures.held c.args.stack.now
+
+pub returns-in-Tilde-clause-held : goal.returns-in-Tilde-clause-held
+returns-in-Tilde-clause-held c = step_from c.open.result _ _ _ _ c.open.new.stack (λ x h. elim h [ inl i ↦ inr i | inr z ↦ absurd z ]) c.open.ensures.held
+
+pub returns-in-OpenParen-clause-held : goal.returns-in-OpenParen-clause-held
+returns-in-OpenParen-clause-held c = step_from c.open-in-OpenParen.result _ _ _ _ c.open-in-OpenParen.new.stack (λ x h. elim h [ inl i ↦ inr i | inr z ↦ absurd z ]) c.open-in-OpenParen.ensures.held
+
+pub returns-then-free-clause-held : goal.returns-then-free-clause-held
+returns-then-free-clause-held c = c.bar.ensures.held
+
+pub returns-then-free-2-clause-held : goal.returns-then-free-2-clause-held
+returns-then-free-2-clause-held c = c.close.ensures.held

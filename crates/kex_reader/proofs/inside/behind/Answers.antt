@@ -1,4 +1,4 @@
-use Rattle.std.proofs.Common.{◌+◌, [], ◌++◌, length, ap, ◌∙◌, subst, arith}
+use Rattle.std.proofs.Common.{◌+◌, [], ◌++◌, length, ap, ◌∙◌, subst, arith, inl, inr}
 use Rattle.kex_tokens.specs.declared.token.Kind.TheVariants as kinds
 use Rattle.kex_reader.specs.Syntax.{Once, ZeroOrMore, OneOrMore, Optional, atom}
 use Rattle.kex_reader.specs.Reading.{entries, put}
@@ -7,6 +7,7 @@ use Rattle.kex_reader.proofs.Kept.{same, on_same, on_from, moved, after_quiet, a
 use Rattle.kex_reader.specs.Syntax.{word}
 use Rattle.kex_reader.specs.Stands.{begin_asks}
 use Rattle.kex_reader.proofs.Stepping.{put_index}
+use Rattle.kex_reader.proofs.Uses.{held_as, step_then, unchanged}
 use Rattle.kex_reader.proofs.inside.behind.Goals as goal
 
 pub returns-in-Star-clause-step : goal.returns-in-Star-clause-step
@@ -27,6 +28,7 @@ returns-in_default-put-clause-step c = λ at base es a h e s p. memory c.put.new
 pub returns-in-Ok : goal.returns-in-Ok
 returns-in-Ok c = record {
   keeps = on_keeps _ _ _ _ c.in-Ok.ensures.keeps c.begin.ensures.keeps;
+  held = step_then c.begin.result _ _ _ _ _ _ c.begin.new.stack c.begin.ensures.keeps (held_as _ _ _ _ _ _ (λ x h. elim h [ inl i ↦ inr i | inr e ↦ inl e ]) (λ x i. i) c.in-Ok.ensures.held) (λ x i. inl i) c.begin.ensures.held;
   notes = λ at base es a h e s p cs n.
       on_from c.begin.result cs _ _ c.begin.new.draft.broken (ap (λ k. begin_asks at k (put (Once a) es) (word c.args.word.kind c.args.word.spelling.now)) (put_index base a es) ∙ after_begins at (base + length (entries es) + length (atom a)) a es c.args.word.spelling.now c.args.word.kind c.in_default.not-Star c.in_default.not-Plus c.in_default.not-Question c.in_default.not-OpenBrace)
       (c.begin.ensures.notes at base (put (Once a) es) (c.in-Ok.ensures.put at base es (Once a) h e (once_shows c.args.draft.now at c.args.item.node (base + length (entries es)) a s)) (put_place at base c.args.word.at a es p) cs (moved cs c.args.draft.now.broken c.put.new.draft.broken c.in-Ok.ensures.broken n));
@@ -61,3 +63,15 @@ returns-in-Question-clause-notes c = λ at base es a h e s p cs n. on_from c.tur
 
 pub returns-in-OpenBrace-clause-notes : goal.returns-in-OpenBrace-clause-notes
 returns-in-OpenBrace-clause-notes c = λ at base es a h e s p cs n. subst (λ x. Rattle.kex_reader.specs.Stands.Noted (cs ++ x) c.args.draft.now.broken) (after_quiet at (base + length (entries es) + length (atom a)) a es c.args.word.spelling.now c.args.word.kind kinds.OpenBrace c.in-OpenBrace.is tt) (same cs c.args.draft.now.broken n)
+
+pub returns-in-Star-clause-held : goal.returns-in-Star-clause-held
+returns-in-Star-clause-held c = c.turns.ensures.held
+
+pub returns-in-Plus-clause-held : goal.returns-in-Plus-clause-held
+returns-in-Plus-clause-held c = c.turns-in-Plus.ensures.held
+
+pub returns-in-Question-clause-held : goal.returns-in-Question-clause-held
+returns-in-Question-clause-held c = c.turns-in-Question.ensures.held
+
+pub returns-in-OpenBrace-clause-held : goal.returns-in-OpenBrace-clause-held
+returns-in-OpenBrace-clause-held c = unchanged _ _ _ (λ x h. h)

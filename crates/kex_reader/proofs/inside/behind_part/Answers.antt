@@ -1,10 +1,12 @@
-use Rattle.std.proofs.Common.{◌+◌, length, sym, subst}
+use Rattle.std.proofs.Common.{◌+◌, length, sym, subst, inl, inr}
 use Rattle.kex_reader.specs.Syntax.{Once, Call, One, Lit, Match, Write, ZeroOrMore, OneOrMore, Optional, Turns, between, atom}
 use Rattle.kex_reader.specs.Reading.{entries}
 use Rattle.kex_reader.proofs.Stepping.{to, atom_steps}
 use Rattle.kex_reader.specs.Syntax.{word}
 use Rattle.kex_reader.specs.Stands.{ShowsMode, ShowsCountStep}
 use Rattle.kex_reader.proofs.Modes.{assigned_leaf, next_close, assigned_in, assigned_at, assign_of}
+use Rattle.kex_reader.specs.Uses.{InKind}
+use Rattle.kex_reader.proofs.Uses.{in_assigned, step_from}
 use Rattle.kex_reader.proofs.inside.behind_part.Goals as goal
 
 pub returns-in-CloseBracket-clause-step : goal.returns-in-CloseBracket-clause-step
@@ -23,3 +25,9 @@ leaf-requires-clause-below c =
 
 pub leaf-requires-clause-alone : goal.leaf-requires-clause-alone
 leaf-requires-clause-alone c = subst Rattle.kex_reader.specs.Stands.IsLeaf (sym c.kind.ensures) (assigned_leaf c.args.assignment.append c.args.assignment.register c.args.assignment.pieces.items)
+
+pub returns-in-CloseBracket-clause-held : goal.returns-in-CloseBracket-clause-held
+returns-in-CloseBracket-clause-held c = λ fs. step_from c.leaf.result _ _ _ _ fs (λ x h. elim h [ inl i ↦ inl i | inr j ↦ inr (subst (λ k. InKind k x) (sym c.kind.ensures) (in_assigned c.args.assignment.append c.args.assignment.register c.args.assignment.pieces.items x j)) ]) (c.leaf.ensures.held fs)
+
+pub returns-in_default-clause-held : goal.returns-in_default-clause-held
+returns-in_default-clause-held c = λ fs. c.part.ensures.held fs

@@ -1,6 +1,7 @@
-use Rattle.std.proofs.Common.{subst}
+use Rattle.std.proofs.Common.{subst, inl, inr}
 use Rattle.kex_reader.specs.Reading.{take_term}
 use Rattle.kex_reader.proofs.Stepping.{memory, close_wrong, close_steps, unclosed}
+use Rattle.kex_reader.proofs.Uses.{frames_are, held_as, parts_are}
 use Rattle.kex_reader.proofs.inside.close.Goals as goal
 
 pub returns-in_default-clause-step : goal.returns-in_default-clause-step
@@ -14,3 +15,6 @@ returns-in_default-take_mark-clause-step c = λ at base es h. unclosed c.close_t
 
 pub returns-clause-step : goal.returns-clause-step
 returns-clause-step c = λ at base es h. close_steps c.close_term.new.draft at base c.close_term.new.stack c.take_mark.new.self c.in-Some.term c.in-Some-take_mark.at (take_term es) c.in-Some-take_mark.ensures.some (subst (λ o. Rattle.kex_reader.specs.Stands.TermTaken c.close_term.new.draft at base c.close_term.new.stack o (take_term es)) c.in-Some.is (c.in-Ok.ensures.term at base es h))
+
+pub returns-clause-held : goal.returns-clause-held
+returns-clause-held c = held_as _ _ _ _ _ _ (λ x h. elim h [ inl i ↦ i | inr z ↦ absurd z ]) (λ x h. elim h [ inl p ↦ inr (parts_are _ _ c.in-Some.is x p) | inr i ↦ elim (frames_are _ _ c.in-Some-take_mark.ensures.some x i) [ inl z ↦ absurd z | inr j ↦ inl j ] ]) c.in-Ok.ensures.held

@@ -9,6 +9,7 @@ use Rattle.kex_reader.proofs.Noting.{never_none}
 use Rattle.kex_reader.proofs.Modes.{count_on, count_wrong, count_read, count_bad, read_is, read_count, bad_turns}
 use Rattle.kex_reader.proofs.Kept.{on_from, moved, good_count, bad_count, read_asks, on_moved}
 use Rattle.kex_reader.proofs.Modes.{count_on_notes}
+use Rattle.kex_reader.proofs.Uses.{unchanged}
 use Rattle.kex_reader.proofs.inside.counted.Goals as goal
 
 pub returns-in-On-clause-step : goal.returns-in-On-clause-step
@@ -59,3 +60,12 @@ pub returns-in-Ok-clause-notes : goal.returns-in-Ok-clause-notes
 returns-in-Ok-clause-notes c = λ t from b k cs n.
     let r = count_bad t (subst (λ x. ShowsCountStep x t) c.in-Bad.is k) in
     subst (λ x. Rattle.kex_reader.specs.Stands.Noted (cs ++ x) c.put.new.draft.broken) (read_asks c.args.brace from t r.0 r.1 b) (moved _ _ c.put.new.draft.broken (c.in-Ok.ensures.broken ∙ ap (λ m. m.broken) c.note.ensures.noted) (bad_count r.0 cs c.args.draft.now.broken c.args.brace r.2 n))
+
+pub returns-in-On-clause-held : goal.returns-in-On-clause-held
+returns-in-On-clause-held c = unchanged _ _ _ (λ x h. h)
+
+pub returns-in-Read-clause-held : goal.returns-in-Read-clause-held
+returns-in-Read-clause-held c = c.turns.ensures.held
+
+pub returns-in-Ok-clause-held : goal.returns-in-Ok-clause-held
+returns-in-Ok-clause-held c = λ e. absurd (never_none c.args.draft.now.broken _ (sym (c.in-Ok.ensures.broken ∙ ap (λ m. m.broken) c.note.ensures.noted) ∙ e))

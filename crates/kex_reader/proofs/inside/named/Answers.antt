@@ -1,4 +1,4 @@
-use Rattle.std.proofs.Common.{◌+◌, length, ◌∙◌}
+use Rattle.std.proofs.Common.{◌+◌, length, ◌∙◌, ◌≡◌, ◌⊎◌, inl, inr}
 use Rattle.kex_tokens.specs.declared.token.Kind.TheVariants as kinds
 use Rattle.kex_reader.specs.Syntax.{Call}
 use Rattle.kex_reader.specs.Reading.{entries}
@@ -10,13 +10,17 @@ use Rattle.kex_reader.proofs.Modes.{call_place}
 use Rattle.kex_reader.proofs.Kept.{on_apply, on_from, moved, named_at_asks, named_after}
 use Rattle.kex_reader.proofs.Stacks.{depth_is}
 use Rattle.kex_reader.proofs.Kept.{call_asks}
+use Rattle.kex_reader.specs.declared.inside.Wait.TheVariants.{After}
+use Rattle.kex_reader.specs.Stands.{InFrames, IsHeld}
+use Rattle.kex_reader.specs.Uses.{RegisterNumber}
+use Rattle.kex_reader.proofs.Uses.{beside, step_then}
 use Rattle.kex_reader.proofs.inside.named.Goals as goal
 
 pub returns-in_default-register-clause-step : goal.returns-in_default-register-clause-step
 returns-in_default-register-clause-step c = λ at base es h n p. memory c.register.new.self at base c.args.stack.now _
 
 pub returns-in_default-call : goal.returns-in_default-call
-returns-in_default-call c = record { keeps = tt; notes = λ at base es h m p cs n. tt; step = λ at base es h n p. memory c.call.new.draft at base c.args.stack.now _ }
+returns-in_default-call c = record { keeps = tt; held = tt; notes = λ at base es h m p cs n. tt; step = λ at base es h n p. memory c.call.new.draft at base c.args.stack.now _ }
 
 pub returns-in-Ok-clause-step : goal.returns-in-Ok-clause-step
 returns-in-Ok-clause-step c = λ at base es h n p.
@@ -29,6 +33,7 @@ returns-in-Define-clause-step c = λ at base es h n p. to _ at base _ _ _ _ (nam
 pub returns-in-Ok-call : goal.returns-in-Ok-call
 returns-in-Ok-call c = record {
   keeps = on_keeps _ _ _ _ c.in-Ok-call.ensures.keeps c.behind.ensures.keeps;
+  held = step_then c.behind.result _ _ _ _ _ _ c.behind.new.stack c.behind.ensures.keeps (beside _ _ _ _ (InFrames c.args.stack.now) _ (IsHeld c.args.stack.now (After c.in-Ok-call.item)) (λ x h. elim h [ inl i ↦ inr i | inr z ↦ absurd z ]) (λ x e. inr e) (λ x i. inl i) c.in-Ok-call.ensures.held) (λ x h. h) c.behind.ensures.held;
   notes = λ at base es h m p cs n.
       let k = c.in-Ok-call.ensures.node in
       on_from c.behind.result cs _ _ c.behind.new.draft.broken (call_asks at (base + length (entries es)) c.args.name.bytes.now es (word c.args.word.kind c.args.word.spelling.now) ∙ named_after at (base + length (entries es)) c.args.name.bytes.now es c.args.word.spelling.now c.args.word.kind c.in_default.not-At c.in_default.not-Define)
@@ -49,3 +54,6 @@ behind-requires-clause-atom c =
 
 pub returns-in-Ok-clause-notes : goal.returns-in-Ok-clause-notes
 returns-in-Ok-clause-notes c = λ at base es h m p cs n. on_from c.open.result cs _ _ c.open.new.draft.broken (named_at_asks at (base + length (entries es)) c.args.name.bytes.now es c.args.word.spelling.now c.args.word.kind c.args.name.at (Rattle.kex_reader.specs.Stands.open_frames c.args.stack.now) c.in-At.is m (depth_is c.args.draft.now at base c.args.stack.now es h)) (on_apply c.open.result cs _ c.register.new.self.broken c.open.new.draft.broken c.open.ensures.notes (moved cs c.args.draft.now.broken c.register.new.self.broken c.in-Ok.ensures.broken n))
+
+pub returns-in-Ok-clause-held : goal.returns-in-Ok-clause-held
+returns-in-Ok-clause-held c = step_then c.open.result _ _ _ _ _ _ c.open.new.stack c.open.ensures.keeps (beside _ _ _ _ (InFrames c.args.stack.now) _ (λ x. (x ≡ RegisterNumber c.in-Ok.register) ⊎ InFrames c.args.stack.now x) (λ x h. elim h [ inl i ↦ inr i | inr z ↦ absurd z ]) (λ x e. inl e) (λ x i. inr i) c.in-Ok.ensures.held) (λ x h. h) c.open.ensures.held

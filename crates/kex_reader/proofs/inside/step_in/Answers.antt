@@ -9,6 +9,7 @@ use Rattle.kex_reader.specs.Stands.{ShowsMode, ShowsCountStep}
 use Rattle.kex_reader.proofs.Counting.{count_refines}
 use Rattle.kex_reader.proofs.Modes.{mode_need, mode_ready, mode_after, mode_named, mode_writing, mode_bracket, mode_bracket_name, mode_assigning, mode_assigned, mode_count, step_of, word_place, word_here, in_need, in_ready, in_after, in_named, in_writing, in_bracket, in_bracket_name, in_assigning, in_assigned, in_count, need_long, ready_long, after_long, named_long, some_named, some_atom, some_count, some_counting, some_assigned, some_name}
 use Rattle.kex_reader.proofs.Kept.{on_same, on_from, on_refl, need_asks, ready_asks, mode_after_asks, mode_named_asks, mode_count_asks, quiet_mode}
+use Rattle.kex_reader.proofs.Uses.{sign_read, waiting}
 use Rattle.kex_reader.proofs.inside.step_in.Goals as goal
 
 pub returns-in-Need-clause-step : goal.returns-in-Need-clause-step
@@ -137,3 +138,33 @@ pub returns-in-Assigned-clause-notes : goal.returns-in-Assigned-clause-notes
 returns-in-Assigned-clause-notes c = λ at base i st p cs n.
     let m = mode_assigned c.args.draft.now at (base + length (entries i.entries)) c.in-Assigned.assignment i.mode (subst (λ w. ShowsMode c.args.draft.now at (base + length (entries i.entries)) w i.mode) (c.in-Assigned.is) st.mode) in
     on_from c.behind_part.result cs [] _ c.behind_part.new.draft.broken (quiet_mode at (base + length (entries i.entries)) i (Assigned m.0 m.1 m.2 m.3) (word c.args.word.kind c.args.word.spelling.now) m.4 tt) (on_same c.behind_part.result cs c.args.draft.now.broken c.behind_part.new.draft.broken c.behind_part.ensures.broken n)
+
+pub returns-in-Need-clause-held : goal.returns-in-Need-clause-held
+returns-in-Need-clause-held c = waiting c.args.wait _ _ _ _ _ _ c.in-Need.is c.begin.ensures.held
+
+pub returns-in-Ready-clause-held : goal.returns-in-Ready-clause-held
+returns-in-Ready-clause-held c = waiting c.args.wait _ _ _ _ _ _ c.in-Ready.is c.begin-in-Ready.ensures.held
+
+pub returns-in-After-clause-held : goal.returns-in-After-clause-held
+returns-in-After-clause-held c = waiting c.args.wait _ _ _ _ _ _ c.in-After.is c.behind.ensures.held
+
+pub returns-in-Named-clause-held : goal.returns-in-Named-clause-held
+returns-in-Named-clause-held c = waiting c.args.wait _ _ _ _ _ _ c.in-Named.is c.named.ensures.held
+
+pub returns-in-Writing-clause-held : goal.returns-in-Writing-clause-held
+returns-in-Writing-clause-held c = waiting c.args.wait _ _ _ _ _ _ c.in-Writing.is (c.write.ensures.held c.args.stack.now)
+
+pub returns-in-Bracket-clause-held : goal.returns-in-Bracket-clause-held
+returns-in-Bracket-clause-held c = waiting c.args.wait _ _ _ _ _ _ c.in-Bracket.is (c.bracket.ensures.held c.args.stack.now)
+
+pub returns-in-Assigning-clause-held : goal.returns-in-Assigning-clause-held
+returns-in-Assigning-clause-held c = waiting c.args.wait _ _ _ _ _ _ c.in-Assigning.is (c.part.ensures.held c.args.stack.now)
+
+pub returns-in-Assigned-clause-held : goal.returns-in-Assigned-clause-held
+returns-in-Assigned-clause-held c = waiting c.args.wait _ _ _ _ _ _ c.in-Assigned.is (c.behind_part.ensures.held c.args.stack.now)
+
+pub returns-in-InCount-clause-held : goal.returns-in-InCount-clause-held
+returns-in-InCount-clause-held c = waiting c.args.wait _ _ _ _ _ _ c.in-InCount.is c.counted.ensures.held
+
+pub returns-in-BracketName-clause-held : goal.returns-in-BracketName-clause-held
+returns-in-BracketName-clause-held c = waiting c.args.wait _ _ _ _ _ _ c.in-BracketName.is (sign_read c.sign.result c.args.draft.now c.args.stack.now c.in-BracketName.at c.in-BracketName.register c.sign.ensures.held)

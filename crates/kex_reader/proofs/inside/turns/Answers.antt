@@ -1,10 +1,13 @@
-use Rattle.std.proofs.Common.{◌+◌, length}
+use Rattle.std.proofs.Common.{◌+◌, length, ◌≡◌, ◌⊎◌, inl, inr}
 use Rattle.kex_reader.specs.Syntax.{Turns}
 use Rattle.kex_reader.specs.Reading.{entries, put}
 use Rattle.kex_reader.proofs.Drafting.{atom_within, atom_more}
 use Rattle.kex_reader.proofs.Stacks.{frames_more}
 use Rattle.kex_reader.proofs.Stepping.{memory, ready, turns_show}
 use Rattle.std.proofs.lemmas.Option.{slice_get_within}
+use Rattle.kex_reader.specs.Stands.{InFrames}
+use Rattle.kex_reader.specs.Uses.{NodeNumber}
+use Rattle.kex_reader.proofs.Uses.{beside, held_as, in_rep, none_lost}
 use Rattle.kex_reader.proofs.inside.turns.Goals as goal
 
 pub add-requires-clause-below : goal.add-requires-clause-below
@@ -38,3 +41,8 @@ returns-clause-step c = λ at base es a h e s p l k.
     ready c.put.new.draft at base c.put.new.stack (put (Turns a p) es)
     (c.in-Ok-put.ensures.put at base es (Turns a p) (frames_more c.args.draft.now c.add.new.self at base c.args.stack.now es more h) e
     (turns_show c.add.new.self at c.in-Ok.node c.args.item.node i c.args.item.at c.args.bounds.low c.args.bounds.high a p (slice_get_within c.add.new.self.nodes c.in-Ok.node _ c.in-Ok.ensures.node) e l k c.in-Ok.ensures.node (atom_more a c.args.draft.now c.add.new.self at c.args.item.node i more s)))
+
+pub returns-clause-held : goal.returns-clause-held
+returns-clause-held c = none_lost _ _ _ _ _ _ c.in-Ok-put.ensures.keeps
+    (beside _ _ _ _ (InFrames c.args.stack.now) _ (λ x. (x ≡ NodeNumber c.in-Ok.node) ⊎ InFrames c.args.stack.now x) (λ x h. elim h [ inl i ↦ inr i | inr e ↦ inl (in_rep _ _ _ x e) ]) (λ x e. inl e) (λ x i. inr i) c.in-Ok.ensures.held)
+    (held_as _ _ _ _ _ _ (λ x h. h) (λ x i. inl i) c.in-Ok-put.ensures.held)

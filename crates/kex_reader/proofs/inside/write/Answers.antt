@@ -1,10 +1,13 @@
-use Rattle.std.proofs.Common.{◌+◌, length}
+use Rattle.std.proofs.Common.{◌+◌, length, ◌≡◌, ◌⊎◌, inl, inr}
 use Rattle.kex_reader.specs.Syntax.{Write}
 use Rattle.kex_reader.specs.Reading.{entries}
 use Rattle.kex_reader.proofs.Stacks.{frames_more}
 use Rattle.kex_reader.proofs.Stepping.{to, memory, wrong, name_other, name_is, atom_steps}
 use Rattle.std.proofs.lemmas.Option.{slice_get_within}
 use Rattle.kex_reader.proofs.Modes.{write_of}
+use Rattle.kex_reader.specs.Stands.{InFrames}
+use Rattle.kex_reader.specs.Uses.{RegisterNumber}
+use Rattle.kex_reader.proofs.Uses.{beside, in_write, step_then}
 use Rattle.kex_reader.proofs.inside.write.Goals as goal
 
 pub returns-in_default-clause-step : goal.returns-in_default-clause-step
@@ -21,3 +24,6 @@ returns-clause-step c = λ place base fs es h a.
 
 pub leaf-requires-clause-below : goal.leaf-requires-clause-below
 leaf-requires-clause-below c = slice_get_within c.register.new.self.registers c.in-Ok.register _ c.in-Ok.ensures.number
+
+pub returns-clause-held : goal.returns-clause-held
+returns-clause-held c = λ fs. step_then c.leaf.result _ _ _ _ _ _ fs c.leaf.ensures.keeps (beside _ _ _ _ (InFrames fs) _ (λ x. (x ≡ RegisterNumber c.in-Ok.register) ⊎ InFrames fs x) (λ x h. elim h [ inl i ↦ inr i | inr z ↦ absurd z ]) (λ x e. inl e) (λ x i. inr i) c.in-Ok.ensures.held) (λ x h. elim h [ inl e ↦ inr (in_write c.in-Ok.register x e) | inr i ↦ inl i ]) (c.leaf.ensures.held fs)

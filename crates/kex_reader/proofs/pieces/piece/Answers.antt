@@ -2,6 +2,7 @@ use Rattle.std.proofs.Common.{Some, sym, subst}
 use Rattle.kex_reader.specs.Syntax.{Once, Call, One, Lit, Match, Write, ZeroOrMore, OneOrMore, Optional, Turns, between, atom}
 use Rattle.kex_reader.specs.Shown.{IsNode}
 use Rattle.kex_tokens.specs.Lexemes.{IsToken}
+use Rattle.kex_reader.proofs.Uses.{held_as, register_piece, unchanged}
 use Rattle.kex_reader.proofs.pieces.piece.Goals as goal
 
 pub literal_bytes-requires : goal.literal_bytes-requires
@@ -17,3 +18,9 @@ pub returns-in_ok-register-in-Name-clause-read : goal.returns-in_ok-register-in-
 unfolding Rattle.kex_reader.specs.Shown.ShowsPart
 returns-in_ok-register-in-Name-clause-read c =
     subst (λ k. Rattle.kex_reader.specs.Stands.PieceShows (Rattle.kex_reader.specs.Stands.part_of (Rattle.kex_reader.specs.Syntax.word k c.args.word.spelling.now)) c.register.new.self (Some (Rattle.kex_code.specs.declared.piece.Piece.TheVariants.Register c.in_ok-register-in-Name.register))) (sym c.in-Name.is) c.in_ok-register-in-Name.ensures.number
+
+pub returns-in_ok-bytes-in-Literal-clause-held : goal.returns-in_ok-bytes-in-Literal-clause-held
+returns-in_ok-bytes-in-Literal-clause-held c = unchanged _ _ _ (λ x h. absurd h)
+
+pub returns-in_ok-register-in-Name-clause-held : goal.returns-in_ok-register-in-Name-clause-held
+returns-in_ok-register-in-Name-clause-held c = held_as _ _ _ _ _ _ (λ x h. h) (register_piece c.in_ok-register-in-Name.register) c.in_ok-register-in-Name.ensures.held

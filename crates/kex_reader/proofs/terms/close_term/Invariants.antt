@@ -1,6 +1,7 @@
-use Rattle.std.proofs.Common.{◌≡◌, ℕ, List, length}
+use Rattle.std.proofs.Common.{◌≡◌, ◌⊎◌, ℕ, List, length}
 use Rattle.kex_reader.specs.Reading.{Entry, take_term}
-use Rattle.kex_reader.specs.Stands.{FramesShow, Keeps}
+use Rattle.kex_reader.specs.Stands.{FramesShow, InFrames, Keeps, LosesNone}
+use Rattle.kex_reader.specs.Uses.{NodeNumber}
 use Rattle.kex_reader.proofs.Stacks.{TermSoFar}
 use Rattle.kex_reader.proofs.terms.close_term.Given as goal
 
@@ -8,6 +9,7 @@ abbrev pub invariant-loop-front : goal.invariant-loop-front
 invariant-loop-front l = record {
   keeps : Keeps l.fn.draft l.draft;
   broken : l.draft.broken ≡ l.fn.draft.broken;
+  held : LosesNone l.fn.draft l.draft (InFrames l.fn.stack) (λ x. (x ≡ NodeNumber l.term.node) ⊎ InFrames l.stack x);
   so_far : (at : ℕ → ℕ) (base : ℕ) (es : List Entry) → FramesShow l.fn.draft at base l.fn.stack es → TermSoFar l.draft at base l.stack l.term (take_term es);
 }
 

@@ -3,6 +3,7 @@ use Rattle.kex_code.specs.Codes.{IsAmong}
 use Rattle.kex_reader.specs.Syntax.{header}
 use Rattle.kex_reader.specs.Spelling.{main_stage}
 use Rattle.kex_reader.proofs.Texting.{definitions_in, started_in, program_shows}
+use Rattle.kex_reader.proofs.Uses.{none_spare}
 use Rattle.kex_reader.proofs.text.program.Goals as goal
 
 pub stages_of-requires : goal.stages_of-requires
@@ -26,3 +27,6 @@ returns-clause-shown c = λ at tree df hd.
     (λ n. ap (λ p. p.stages) c.in-Ok-finish.ensures.made ∙ c.in-Ok-stages_of.ensures.line n)
     (λ n. ap (λ p. p.stages) c.in-Ok-finish.ensures.made ∙ c.in-Ok-stages_of.ensures.main n ∙ ap (λ ns. main_stage ns c.deref-2.result.now) (c.deref.ensures.value ∙ sym (ap (λ p. p.names) c.in-Ok-finish.ensures.made)) ∙ ap (main_stage c.in-Ok-finish.program.names) (c.deref-2.ensures.value ∙ sym (ap (λ p. p.definitions) c.in-Ok-finish.ensures.made)))
     df hd
+
+pub returns-clause-used : goal.returns-clause-used
+returns-clause-used c = λ all. none_spare c.args.draft _ c.args.definitions.items c.args.named.items _ _ c.in-Ok-finish.ensures.made c.in-Ok.ensures.same c.in-Ok-stages_of.ensures.line all

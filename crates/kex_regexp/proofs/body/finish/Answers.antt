@@ -1,9 +1,10 @@
-use Rattle.std.proofs.Common.{◌∷◌}
+use Rattle.std.proofs.Common.{◌∷◌, inl, inr}
 use Rattle.kex_regexp.specs.Grammar.{Once}
 use Rattle.kex_regexp.specs.Machine.{Read}
 use Rattle.kex_regexp.proofs.Stepping.{mode_ready, mode_after, mode_escape, mode_set, mode_count, ready_place, after_place, once_shows, once_ends}
 use Rattle.kex_regexp.proofs.Whole.{ends_memory, ends_none, to_end, finish_ready, finish_after, finish_escape, finish_set, finish_count}
 use Rattle.kex_regexp.proofs.Bounds.{some_ready, some_behind, some_once}
+use Rattle.kex_regexp.proofs.Parents.{ended_as, frame_on, frame_under}
 use Rattle.kex_regexp.proofs.body.finish.Goals as goal
 
 pub returns-in_default-clause-ends : goal.returns-in_default-clause-ends
@@ -39,3 +40,11 @@ end-requires c = some_ready _ _ _ _ c.in-Ready.is c.requires
 
 pub end-requires-in-After : goal.end-requires-in-After
 end-requires-in-After c = some_once _ _ _ c.in-After.item _ c.in-Ok.ensures.ok (some_behind _ _ _ c.in-After.item _ c.in-After.is c.requires)
+
+pub returns-in-Ready-clause-nodes : goal.returns-in-Ready-clause-nodes
+returns-in-Ready-clause-nodes c = ended_as c.end.result _ _ _ _ _ c.in-Ready.is (λ n h. elim h [ inl f ↦ f | inr g ↦ absurd g ]) c.end.ensures.nodes
+
+pub returns-in-Ok-clause-nodes : goal.returns-in-Ok-clause-nodes
+returns-in-Ok-clause-nodes c =
+    let on = c.in-Ok.ensures.ok in
+    ended_as c.end-in-After.result _ _ c.args.frames.now.items _ _ c.in-After.is (λ n h. elim h [ inl f ↦ frame_under _ _ _ on n f | inr e ↦ frame_on _ _ _ on n e ]) c.end-in-After.ensures.nodes

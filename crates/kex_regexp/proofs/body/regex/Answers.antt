@@ -5,12 +5,14 @@ use Rattle.kex_regexp.specs.Machine.{Ready}
 use Rattle.kex_regexp.proofs.Adding.{Adds-refl, Adds-trans}
 use Rattle.kex_regexp.proofs.Answered.{accepted, broken, not_refused, read}
 use Rattle.kex_regexp.proofs.Noting.{least_of, open_below, start_depth, start_least, turn_depth, turn_least}
+use Rattle.kex_regexp.proofs.Parents.{none_added, none_lost, unless_lost}
 use Rattle.kex_regexp.proofs.Whole.{body_read, ends_ok, ends_wrong, reads_more, set_behind, spelled_length, spelled_place, start_reads, start_set, start_stands, steps_ok, steps_wrong, taken, wrong_byte, wrong_end}
 use Rattle.kex_regexp.proofs.body.regex.Goals as goal
 
 pub loop-byte-init : goal.loop-byte-init
 loop-byte-init c = record {
   adds = Adds-refl _;
+  nodes = none_added _ _ _ (λ n h. absurd h);
   place = omega arith;
   state = record { mode = Ready; entries = [] };
   reads = start_reads;
@@ -59,6 +61,7 @@ loop-byte-preserved c =
     let set = set_behind _ _ n.state n.is after in
     record {
       adds = Adds-trans _ _ _ i.adds c.in-Ok.ensures.adds;
+      nodes = none_lost _ _ _ _ _ _ c.in-Ok.ensures.adds i.nodes c.in-Ok.ensures.nodes;
       place = omega (arith, i.place);
       state = n.state;
       reads = reads_more c.args.bytes.now c.loop-byte.byte-index i.state lt i.reads ∙ n.is;
@@ -112,3 +115,6 @@ returns-clause-refused c =
 
 pub returns-clause-accepted : goal.returns-clause-accepted
 returns-clause-accepted c = λ r spells none. not_refused (BadRegex c.loop-byte.place) r c.args.bytes.now c.args.at c.args.depth spells none (returns-clause-refused c)
+
+pub returns-in-Ok-finish-clause-nodes : goal.returns-in-Ok-finish-clause-nodes
+returns-in-Ok-finish-clause-nodes c = unless_lost c.unless_broken.result _ c.in-Ok-finish.node _ _ _ c.unless_broken.ensures.ok (none_lost _ _ _ _ _ _ c.in-Ok-finish.ensures.adds c.loop-byte.invariant.nodes c.in-Ok-finish.ensures.nodes)

@@ -1,14 +1,16 @@
 -- The loop has read a front of the bytes.
 use Rattle.std.proofs.Common.{◌≡◌, ◌+◌, take, Some, None}
-use Rattle.kex_regexp.specs.Holding.{IsSetIn, StandsFor}
+use Rattle.kex_regexp.specs.Holding.{IsHeld, IsSetIn, StandsFor}
 use Rattle.kex_regexp.specs.Machine.{State, reads, start}
 use Rattle.kex_regexp.specs.Notes.{least_from, marks, state_breaks}
+use Rattle.kex_regexp.specs.Parents.{NoneLost}
 use Rattle.kex_regexp.specs.Shown.{Adds}
 use Rattle.kex_regexp.proofs.body.regex.Given as goal
 
 abbrev pub invariant-loop-byte : goal.invariant-loop-byte
 invariant-loop-byte l = record {
   adds : Adds l.fn.into l.into;
+  nodes : NoneLost l.fn.into l.into (λ n. ⊥) (IsHeld l.frames.items l.wait);
   place : l.place ≡ l.at + l.byte-index;
   state : State;
   reads : reads start (take l.byte-index l.bytes) ≡ Some state;

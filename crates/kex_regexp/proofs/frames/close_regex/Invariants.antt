@@ -1,8 +1,9 @@
-use Rattle.std.proofs.Common.{◌≡◌, ℕ, ◌+◌, List, length, vec_len}
+use Rattle.std.proofs.Common.{◌≡◌, ℕ, ◌+◌, ◌⊎◌, List, length, vec_len}
 use Rattle.std.specs.Prelude.{reverse}
+use Rattle.kex_regexp.specs.Parents.{NoneLost}
 use Rattle.kex_regexp.specs.Shown.{Adds}
 use Rattle.kex_regexp.specs.Machine.{Entry, entries, take_regex}
-use Rattle.kex_regexp.specs.Holding.{FramesShow}
+use Rattle.kex_regexp.specs.Holding.{FramesShow, InFrames}
 use Rattle.kex_regexp.proofs.Stacks.{RegexSoFar}
 use Rattle.kex_regexp.proofs.frames.close_regex.Given as goal
 
@@ -10,6 +11,7 @@ abbrev pub invariant-loop-branch : goal.invariant-loop-branch
 invariant-loop-branch l = record {
   adds : Adds l.fn.into l.into;
   so_far : (base : ℕ) (es : List Entry) → FramesShow l.fn.into base (reverse l.fn.frames.items) es → l.fn.at ≡ base + length (entries es) → RegexSoFar l.into base l.frames.items l.regex (take_regex es);
+  nodes : NoneLost l.fn.into l.into (InFrames l.fn.frames.items) (λ n. (n ≡ l.regex.node) ⊎ InFrames l.frames.items n);
 }
 
 abbrev pub decreases-loop-branch : goal.decreases-loop-branch

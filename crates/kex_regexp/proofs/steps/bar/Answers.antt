@@ -1,7 +1,8 @@
 use Rattle.kex_regexp.specs.Grammar.{Empty}
 use Rattle.kex_regexp.specs.Machine.{take_pieces}
 use Rattle.kex_regexp.proofs.Stepping.{memory_steps, bar_steps}
-use Rattle.std.proofs.Common.{refl}
+use Rattle.std.proofs.Common.{refl, inl, inr}
+use Rattle.kex_regexp.proofs.Parents.{frame_on, frame_under, held_as}
 use Rattle.kex_regexp.proofs.steps.bar.Goals as goal
 
 pub returns-in_default-clause-step : goal.returns-in_default-clause-step
@@ -12,3 +13,8 @@ returns-clause-step c = λ base es h a. bar_steps _ base _ _ c.in-Ok.branch (tak
 
 pub returns-in_default-push-clause-step : goal.returns-in_default-push-clause-step
 returns-in_default-push-clause-step c = λ base es h a. memory_steps _ _ _ _ _ refl
+
+pub returns-clause-nodes : goal.returns-clause-nodes
+returns-clause-nodes c =
+    let on = c.in-Ok-push.ensures.ok in
+    held_as _ _ _ _ _ _ (λ n h. elim h [ inl f ↦ f | inr g ↦ absurd g ]) (λ n h. elim h [ inl e ↦ inl (frame_on _ _ _ on n e) | inr f ↦ inl (frame_under _ _ _ on n f) ]) c.in-Ok.ensures.nodes

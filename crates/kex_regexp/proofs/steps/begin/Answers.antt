@@ -1,7 +1,8 @@
-use Rattle.std.proofs.Common.{refl, ◌∙◌, sym}
+use Rattle.std.proofs.Common.{refl, ◌∙◌, sym, inl, inr}
 use Rattle.kex_regexp.specs.Grammar.{Plain, Dot}
 use Rattle.kex_regexp.proofs.Complete.{begin_byte, begin_92, begin_46, begin_91, begin_40, in_set}
 use Rattle.kex_regexp.proofs.Stepping.{memory_steps, leaf_steps, plain_item, dot_item, to, begin_is, mark_steps, set_begins_steps, escape_begins_steps, begin_bar, begin_close, begin_none, wrong_steps}
+use Rattle.kex_regexp.proofs.Parents.{frame_under, none_added}
 use Rattle.kex_regexp.proofs.steps.begin.Goals as goal
 
 pub returns-then-is_plain-clause-step : goal.returns-then-is_plain-clause-step
@@ -31,3 +32,18 @@ returns-else-byte-eq41-clause-step c = λ base es h a. to _ base _ _ _ _ (begin_
 
 pub returns-in_default-clause-step : goal.returns-in_default-clause-step
 returns-in_default-clause-step c = λ base es h a. memory_steps _ _ _ _ _ refl
+
+pub returns-then-is_plain-clause-nodes : goal.returns-then-is_plain-clause-nodes
+returns-then-is_plain-clause-nodes c = c.leaf.ensures.nodes c.args.frames.now.items
+
+pub returns-then-byte-eq46-clause-nodes : goal.returns-then-byte-eq46-clause-nodes
+returns-then-byte-eq46-clause-nodes c = c.leaf-then-byte-eq46.ensures.nodes c.args.frames.now.items
+
+pub returns-then-byte-eq92-clause-nodes : goal.returns-then-byte-eq92-clause-nodes
+returns-then-byte-eq92-clause-nodes c = none_added _ _ _ (λ n h. h)
+
+pub returns-then-byte-eq91-clause-nodes : goal.returns-then-byte-eq91-clause-nodes
+returns-then-byte-eq91-clause-nodes c = none_added _ _ _ (λ n h. h)
+
+pub returns-in-Ok-clause-nodes : goal.returns-in-Ok-clause-nodes
+returns-in-Ok-clause-nodes c = none_added _ _ _ (λ n h. elim h [ inl f ↦ inl (frame_under _ _ _ c.in-Ok.ensures.ok n f) | inr g ↦ absurd g ])

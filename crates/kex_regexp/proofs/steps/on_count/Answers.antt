@@ -1,4 +1,5 @@
 use Rattle.kex_regexp.proofs.Stepping.{count_on_steps, count_read_steps, count_wrong_steps}
+use Rattle.kex_regexp.proofs.Parents.{none_added}
 use Rattle.kex_regexp.proofs.steps.on_count.Goals as goal
 
 pub returns-in-On-clause-step : goal.returns-in-On-clause-step
@@ -9,3 +10,6 @@ returns-in-Read-clause-step c = λ base es i h a x t q s. count_read_steps _ bas
 
 pub returns-in-Wrong-clause-step : goal.returns-in-Wrong-clause-step
 returns-in-Wrong-clause-step c = λ base es i h a x t q s. count_wrong_steps _ base _ es i t (rw c.in-Wrong.is at s)
+
+pub returns-in-On-clause-nodes : goal.returns-in-On-clause-nodes
+returns-in-On-clause-nodes c = none_added _ _ _ (λ n h. h)

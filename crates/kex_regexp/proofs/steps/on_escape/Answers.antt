@@ -1,4 +1,5 @@
 use Rattle.kex_regexp.proofs.Stepping.{escape_on_steps, escape_read_steps, escape_wrong_steps}
+use Rattle.kex_regexp.proofs.Parents.{none_added}
 use Rattle.kex_regexp.proofs.steps.on_escape.Goals as goal
 
 pub returns-in-On-clause-step : goal.returns-in-On-clause-step
@@ -9,3 +10,6 @@ returns-in-Read-clause-step c = λ base fs es t h a s. escape_read_steps _ _ bas
 
 pub returns-in-Wrong-clause-step : goal.returns-in-Wrong-clause-step
 returns-in-Wrong-clause-step c = λ base fs es t h a s. escape_wrong_steps _ base fs es t (rw c.in-Wrong.is at s)
+
+pub returns-in-On-clause-nodes : goal.returns-in-On-clause-nodes
+returns-in-On-clause-nodes c = λ fs. none_added _ _ _ (λ n h. h)

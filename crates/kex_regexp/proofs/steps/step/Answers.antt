@@ -7,6 +7,7 @@ use Rattle.kex_regexp.specs.Holding.{IsSetAfter, ShowsEscape, ShowsSet, ShowsCou
 use Rattle.kex_regexp.proofs.Refine.{escape_refines, set_refines, count_refines}
 use Rattle.kex_regexp.proofs.Stepping.{to, mode_ready, mode_after, mode_escape, mode_set, mode_count, ready_place, after_place, step_ready, step_after, step_escape, step_set, step_count}
 use Rattle.kex_regexp.proofs.Bounds.{some_ready, some_behind, some_count}
+use Rattle.kex_regexp.proofs.Parents.{waiting}
 use Rattle.kex_regexp.proofs.steps.step.Goals as goal
 
 pub returns-in-Ready-clause-step : goal.returns-in-Ready-clause-step
@@ -46,3 +47,18 @@ behind-requires c = some_behind _ _ _ c.in-After.item _ c.in-After.is c.requires
 
 pub on_count-requires : goal.on_count-requires
 on_count-requires c = some_count _ _ _ c.in-InCount.item c.in-InCount.count c.in-InCount.brace _ c.in-InCount.is c.requires
+
+pub returns-in-Ready-clause-nodes : goal.returns-in-Ready-clause-nodes
+returns-in-Ready-clause-nodes c = waiting c.args.wait _ _ _ _ _ _ c.in-Ready.is c.begin.ensures.nodes
+
+pub returns-in-After-clause-nodes : goal.returns-in-After-clause-nodes
+returns-in-After-clause-nodes c = waiting c.args.wait _ _ _ _ _ _ c.in-After.is c.behind.ensures.nodes
+
+pub returns-in-InEscape-clause-nodes : goal.returns-in-InEscape-clause-nodes
+returns-in-InEscape-clause-nodes c = waiting c.args.wait _ _ _ _ _ _ c.in-InEscape.is (c.on_escape.ensures.nodes c.args.frames.now.items)
+
+pub returns-in-InSet-clause-nodes : goal.returns-in-InSet-clause-nodes
+returns-in-InSet-clause-nodes c = waiting c.args.wait _ _ _ _ _ _ c.in-InSet.is (c.on_set.ensures.nodes c.args.frames.now.items)
+
+pub returns-in-InCount-clause-nodes : goal.returns-in-InCount-clause-nodes
+returns-in-InCount-clause-nodes c = waiting c.args.wait _ _ _ _ _ _ c.in-InCount.is c.on_count.ensures.nodes

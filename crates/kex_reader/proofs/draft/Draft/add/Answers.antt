@@ -1,4 +1,4 @@
-use Rattle.std.proofs.Common.{List, length, sym, ap, ◌∙◌, subst}
+use Rattle.std.proofs.Common.{List, length, sym, ap, ◌∙◌, subst, ◌≡◌, refl}
 use Rattle.std.specs.Prelude.{slice_get}
 use Rattle.kex_code.specs.Codes.{IsAmong}
 use Rattle.kex_model.specs.Programs.{HasNames}
@@ -7,6 +7,9 @@ use Rattle.kex_reader.specs.Shown.{Made}
 use Rattle.kex_reader.specs.Stands.{Keeps}
 use Rattle.kex_reader.proofs.Drafting.{begins_same, keeping, named_push}
 use Rattle.kex_model.proofs.Tables.{get_last}
+use Rattle.kex_reader.specs.Stands.{LosesNone}
+use Rattle.kex_reader.specs.Uses.{InKind, NodeNumber}
+use Rattle.kex_reader.proofs.Uses.{node_added}
 use Rattle.kex_reader.proofs.draft.Draft.add.Goals as goal
 
 pub invariant_of-self-2 : goal.invariant_of-self-2
@@ -26,3 +29,9 @@ pub returns-clause-node : goal.returns-clause-node
 returns-clause-node c =
     let d = c.self.inside in
     ap (slice_get c.add.new.self) c.in_ok-number.ensures.number ∙ ap (λ (ns : List Node). slice_get ns (length d.nodes)) c.in_ok-number.ensures.added ∙ get_last d.nodes (record { kind = c.args.kind; at = c.args.at })
+
+pub returns-clause-held : goal.returns-clause-held
+returns-clause-held c =
+    let d = c.self.inside in
+    subst (λ (z : Made). LosesNone z (record { nodes = c.add.new.self; names = d.names; registers = d.registers; broken = d.broken }) (InKind c.args.kind) (λ x. x ≡ NodeNumber c.in_ok-number.number)) c.self.view_is
+    (node_added (record { nodes = d.nodes; names = d.names; registers = d.registers; broken = d.broken }) (record { nodes = c.add.new.self; names = d.names; registers = d.registers; broken = d.broken }) c.args.kind c.args.at c.in_ok-number.number c.in_ok-number.ensures.added refl refl c.in_ok-number.ensures.number)

@@ -1,4 +1,4 @@
-use Rattle.std.proofs.Common.{◌≡◌, ℕ, ◌∷◌, [], ◌++◌, length, Option, sym, ap, ◌∙◌, subst}
+use Rattle.std.proofs.Common.{◌≡◌, ℕ, ◌∷◌, [], ◌++◌, length, Option, sym, ap, ◌∙◌, subst, refl}
 use Rattle.kex_reader.specs.Shown.{Made}
 use Rattle.kex_reader.specs.Stands.{Keeps, Noted}
 use Rattle.kex_reader.proofs.Drafting.{begins_same, body_within, keeping, Keeps-trans, adds_named, adds_begins}
@@ -8,6 +8,9 @@ use Rattle.kex_regexp.specs.Bodies.{IsRefusal}
 use Rattle.kex_reader.specs.Checks.{Check, Matched}
 use Rattle.kex_reader.proofs.Noting.{never_none, noted_more, noted_same}
 use Rattle.kex_reader.proofs.Bodied.{broken_is, first_breaks, no_breaks}
+use Rattle.kex_reader.specs.Stands.{LosesNone}
+use Rattle.kex_reader.specs.Uses.{NodeNumber}
+use Rattle.kex_reader.proofs.Uses.{body_added}
 use Rattle.kex_reader.proofs.draft.Draft.body.Goals as goal
 
 pub invariant_of-self : goal.invariant_of-self
@@ -57,3 +60,12 @@ returns-clause-notes c = λ cs n.
     let breaks = broken_is body c.args.at c.args.depth b refused in
     let more = noted_more c.self.inside.broken b cs (Matched c.args.at c.args.depth body) (subst (λ (z : Made). Noted cs z.broken) (sym c.self.view_is) n) breaks (λ other h. first_breaks body (c.one_tree.ensures.tree body) (c.one_tree.ensures.wrong body) (c.one_tree.ensures.either body) c.args.at c.args.depth b other breaks h) in
     subst (λ (o : Option Break). Noted (cs ++ Matched c.args.at c.args.depth body ∷ []) o) (sym (ap (λ (z : Made). z.broken) c.note.ensures.noted) ∙ sym c.in_ok-node.ensures.broken) more
+
+pub returns-in-Ok-clause-held : goal.returns-in-Ok-clause-held
+returns-in-Ok-clause-held c =
+    let d = c.self.inside in
+    subst (λ (z : Made). LosesNone z (record { nodes = c.regex.new.into; names = d.names; registers = d.registers; broken = d.broken }) (λ x. ⊥) (λ x. x ≡ NodeNumber c.in-Ok.node)) c.self.view_is
+    (body_added (record { nodes = d.nodes; names = d.names; registers = d.registers; broken = d.broken }) (record { nodes = c.regex.new.into; names = d.names; registers = d.registers; broken = d.broken }) c.in-Ok.node refl refl c.in-Ok.ensures.nodes)
+
+pub returns-clause-held : goal.returns-clause-held
+returns-clause-held c = λ e. absurd (never_none c.self.inside.broken c.in-Some-break_of.broken (sym (ap (λ (z : Made). z.broken) c.note.ensures.noted) ∙ sym c.in_ok-node.ensures.broken ∙ e))

@@ -1,7 +1,10 @@
-use Rattle.std.proofs.Common.{length, subst, arith}
+use Rattle.std.proofs.Common.{length, subst, arith, ◌≡◌, refl}
 use Rattle.kex_reader.specs.Shown.{Made}
 use Rattle.kex_reader.specs.Stands.{Keeps}
 use Rattle.kex_reader.proofs.Drafting.{all_named, begins_same, begun_long, keeping}
+use Rattle.kex_reader.specs.Stands.{LosesNone}
+use Rattle.kex_reader.specs.Uses.{RegisterNumber}
+use Rattle.kex_reader.proofs.Uses.{register_added}
 use Rattle.kex_reader.proofs.draft.Draft.register.Goals as goal
 
 pub invariant_of-self : goal.invariant_of-self
@@ -15,3 +18,9 @@ returns-clause-keeps c =
     let d = c.self.inside in
     subst (λ (z : Made). Keeps z (record { nodes = d.nodes; names = d.names; registers = c.number.new.self; broken = d.broken })) c.self.view_is
     (keeping (record { nodes = d.nodes; names = d.names; registers = d.registers; broken = d.broken }) (record { nodes = d.nodes; names = d.names; registers = c.number.new.self; broken = d.broken }) (begins_same d.nodes) (begins_same d.names) (c.number.ensures.grown) (λ e. e))
+
+pub returns-clause-held : goal.returns-clause-held
+returns-clause-held c =
+    let d = c.self.inside in
+    subst (λ (z : Made). LosesNone z (record { nodes = d.nodes; names = d.names; registers = c.number.new.self; broken = d.broken }) (λ x. ⊥) (λ x. x ≡ RegisterNumber c.in_ok-number.number)) c.self.view_is
+    (register_added (record { nodes = d.nodes; names = d.names; registers = d.registers; broken = d.broken }) (record { nodes = d.nodes; names = d.names; registers = c.number.new.self; broken = d.broken }) c.in_ok-number.number refl refl c.in_ok-number.ensures.added)

@@ -1,9 +1,9 @@
-use Rattle.std.proofs.Common.{◌≡◌, ℕ, Bool, true, List, Some, refl, sym, ap, ◌∙◌, subst, Bor}
+use Rattle.std.proofs.Common.{◌≡◌, ℕ, Bool, true, List, Some, refl, sym, ap, ◌∙◌, subst, Bor, ◌<◌, length, inl, inr}
 use Rattle.std.specs.Prelude.{map, bytes_eq, slice_get}
 use Rattle.std.specs.List.{list_any}
 use Rattle.std.proofs.lemmas.Slice.Eq.{bytes_eq-Decides}
 use Rattle.kex_code.specs.Codes.{Begins, Different}
-use Rattle.kex_reader.proofs.Naming.{begins, get_map, stays_different}
+use Rattle.kex_reader.proofs.Naming.{begins, get_map, one_new, stays_different}
 use Rattle.kex_reader.proofs.names.Names.number.Goals as goal
 
 eq : Bor (List ℕ) → Bor (List ℕ) → Bool
@@ -42,3 +42,12 @@ unfolding eq
 returns-in_default-try_from-clause-grown c =
     let b = begins (λ x. x.now) eq same own (list_any (eq c.args.name) c.self.inside.all.keys) c.self.inside.all.keys c.args.name in
     subst (λ y. Begins (map (λ k. k.now) c.insert_full.new.self.keys) y) c.self.view_is (subst (λ z. Begins (map (λ k. k.now) z) (map (λ k. k.now) c.self.inside.all.keys)) (sym c.in-Ok.ensures.keys) b)
+
+pub returns-clause-added : goal.returns-clause-added
+unfolding eq
+returns-clause-added c = λ j lt.
+    let k = c.in-Ok.ensures.stored in
+    let keys = c.in-Ok.ensures.keys in
+    let b = list_any (eq c.args.name) c.self.inside.all.keys in
+    let n = one_new (λ k. k.now) eq same own b c.self.inside.all.keys c.args.name k.0 c.in-Ok.number refl (sym (ap (λ z. slice_get z c.in-Ok.number) keys) ∙ k.1) k.2 j (subst (λ z. j < length (map (λ k. k.now) z)) keys lt) in
+    elim n [ inl old ↦ inl (subst (λ y. j < length y) c.self.view_is old) | inr is ↦ inr (is ∙ sym c.in-Ok-try_from.ensures.1) ]

@@ -1,7 +1,9 @@
-use Rattle.std.proofs.Common.{length, subst}
+use Rattle.std.proofs.Common.{length, subst, ◌≡◌, ◌⊎◌, inl, inr}
 use Rattle.kex_reader.specs.Reading.{take_term}
 use Rattle.kex_reader.specs.Stands.{TermTaken}
 use Rattle.kex_reader.proofs.Wholes.{ends_of, ends_none, ends_open, ends_memory, not_empty, is_empty}
+use Rattle.kex_reader.specs.Uses.{InDefinitions, NameNumber}
+use Rattle.kex_reader.proofs.Uses.{beside, definition_on, definitions_under, no_frames, parts_are}
 use Rattle.kex_reader.proofs.reader.Reader.end.Goals as goal
 
 pub returns-in_default-clause-ends : goal.returns-in_default-clause-ends
@@ -18,3 +20,10 @@ returns-in_default-push-clause-ends c = λ at base es h. ends_memory c.close_ter
 
 pub returns-clause-ends : goal.returns-clause-ends
 returns-clause-ends c = λ at base es h. ends_of c.close_term.new.draft at base c.close_term.new.stack c.in-Some.term c.args.self.now.definitions.items c.push.new.self.items c.args.head.name c.args.head.at (take_term es) (is_empty (length c.close_term.new.stack) c.is_empty.result c.is_empty.ensures c.if-not-is_empty.false) c.in-Ok-push.ensures.items (subst (λ o. TermTaken c.close_term.new.draft at base c.close_term.new.stack o (take_term es)) c.in-Some.is (c.in-Ok.ensures.term at base es h))
+
+pub returns-clause-held : goal.returns-clause-held
+returns-clause-held c =
+    let pushed = c.in-Ok-push.ensures.items in
+    beside _ _ _ _ (λ x. (x ≡ NameNumber c.args.head.name) ⊎ InDefinitions c.args.self.now.definitions.items x) _ _ (λ x h. h)
+    (λ x h. elim h [ inl p ↦ definition_on _ _ _ _ _ pushed x (inl (parts_are _ _ c.in-Some.is x p)) | inr i ↦ absurd (no_frames c.close_term.new.stack (is_empty (length c.close_term.new.stack) c.is_empty.result c.is_empty.ensures c.if-not-is_empty.false) x i) ])
+    (λ x h. elim h [ inl e ↦ definition_on _ _ _ _ _ pushed x (inr e) | inr d ↦ definitions_under _ _ _ pushed x d ]) c.in-Ok.ensures.held

@@ -1,9 +1,12 @@
-use Rattle.std.proofs.Common.{◌+◌, length, ◌∙◌}
+use Rattle.std.proofs.Common.{◌+◌, length, ◌∙◌, ◌≡◌, ◌⊎◌, inl, inr}
 use Rattle.kex_reader.specs.Syntax.{Call}
 use Rattle.kex_reader.specs.Reading.{entries}
 use Rattle.kex_reader.proofs.Stacks.{frames_more}
 use Rattle.kex_reader.proofs.Stepping.{call_shows}
 use Rattle.kex_reader.proofs.Wholes.{ends_memory}
+use Rattle.kex_reader.specs.Stands.{InFrames}
+use Rattle.kex_reader.specs.Uses.{InDefinitions, NameNumber}
+use Rattle.kex_reader.proofs.Uses.{beside, on_then}
 use Rattle.kex_reader.proofs.reader.Reader.end_call.Goals as goal
 
 pub returns-in_default-clause-ends : goal.returns-in_default-clause-ends
@@ -19,3 +22,6 @@ end_with-requires c =
     let r = c.requires in
     let k = c.in-Ok.ensures.node in
     (r.0, r.1, r.2, Call c.args.name.bytes.now, frames_more c.args.self.now.draft c.call.new.draft r.0 r.1 c.args.self.now.stack r.2 c.in-Ok.ensures.keeps r.3, c.in-Ok.ensures.place ∙ r.4, call_shows c.call.new.draft r.0 c.in-Ok.item.node (r.1 + length (entries r.2)) k.0 c.args.name.at c.args.name.bytes.now r.4 k.1 k.2)
+
+pub returns-clause-held : goal.returns-clause-held
+returns-clause-held c = on_then c.end_with.result _ _ _ _ _ _ c.end_with.ensures.keeps (beside _ _ _ _ (λ x. InFrames c.args.self.now.stack x ⊎ ((x ≡ NameNumber c.args.head.name) ⊎ InDefinitions c.args.self.now.definitions.items x)) _ _ (λ x h. inr h) (λ x e. inl (inl e)) (λ x r. elim r [ inl i ↦ inl (inr i) | inr d ↦ inr d ]) c.in-Ok.ensures.held) c.end_with.ensures.held

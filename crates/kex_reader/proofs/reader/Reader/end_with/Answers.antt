@@ -1,8 +1,10 @@
-use Rattle.std.proofs.Common.{◌+◌, length}
+use Rattle.std.proofs.Common.{◌+◌, length, ◌≡◌, ◌⊎◌, inl, inr}
 use Rattle.kex_reader.specs.Syntax.{Once}
 use Rattle.kex_reader.specs.Reading.{entries, put}
 use Rattle.kex_reader.proofs.Stepping.{once_shows}
 use Rattle.kex_reader.proofs.Wholes.{ends_memory}
+use Rattle.kex_reader.specs.Uses.{InDefinitions, NameNumber}
+use Rattle.kex_reader.proofs.Uses.{beside, on_then}
 use Rattle.kex_reader.proofs.reader.Reader.end_with.Goals as goal
 
 pub put-requires : goal.put-requires
@@ -16,3 +18,6 @@ returns-in_default-clause-ends c = λ at base es a h e s. ends_memory c.put.new.
 
 pub returns-clause-ends : goal.returns-clause-ends
 returns-clause-ends c = λ at base es a h e s. c.end.ensures.ends at base (put (Once a) es) (c.in-Ok.ensures.put at base es (Once a) h e (once_shows c.args.self.now.draft at c.args.item.node (base + length (entries es)) a s))
+
+pub returns-clause-held : goal.returns-clause-held
+returns-clause-held c = on_then c.end.result _ _ _ _ _ _ c.end.ensures.keeps (beside _ _ _ _ (λ x. (x ≡ NameNumber c.args.head.name) ⊎ InDefinitions c.args.self.now.definitions.items x) _ _ (λ x h. h) (λ x i. inl i) (λ x r. inr r) c.in-Ok.ensures.held) c.end.ensures.held

@@ -2,6 +2,7 @@ use Rattle.std.proofs.Common.{subst}
 use Rattle.kex_reader.specs.declared.reader.Phase.TheVariants as phases
 use Rattle.kex_reader.specs.Holding.{ShowsState}
 use Rattle.kex_reader.proofs.Wholes.{state_within, to_finish, finish_wrong, some_inside, end_begin, end_read, end_within, end_other}
+use Rattle.kex_reader.proofs.Uses.{finish_as, finish_begun, finish_read}
 use Rattle.kex_reader.proofs.reader.Reader.finish.Goals as goal
 
 pub returns-in-Begin-clause-ends : goal.returns-in-Begin-clause-ends
@@ -22,3 +23,12 @@ returns-in_default-clause-ends c = λ at s st. to_finish c.args.self.now.draft a
 
 pub finish_within-requires : goal.finish_within-requires
 finish_within-requires c = some_inside c.args.self.now.draft c.args.self.now.stack c.args.self.now.definitions.items c.args.self.now.stages.items c.args.phase c.in-Within.head c.in-Within.wait c.in-Within.is c.requires
+
+pub returns-in-Begin-clause-held : goal.returns-in-Begin-clause-held
+returns-in-Begin-clause-held c = finish_begun c.args.self.now c.args.phase c.in-Begin.is c.requires
+
+pub returns-in-StageRead-clause-held : goal.returns-in-StageRead-clause-held
+returns-in-StageRead-clause-held c = finish_read c.args.self.now c.args.phase c.in-StageRead.is c.requires
+
+pub returns-in-Within-clause-held : goal.returns-in-Within-clause-held
+returns-in-Within-clause-held c = finish_as c.args.phase _ c.args.self.now c.finish_within.new.self c.finish_within.result c.in-Within.is c.finish_within.ensures.held

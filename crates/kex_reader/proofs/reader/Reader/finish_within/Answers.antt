@@ -1,8 +1,9 @@
-use Rattle.std.proofs.Common.{◌+◌, length, subst}
+use Rattle.std.proofs.Common.{◌+◌, length, subst, inl, inr}
 use Rattle.kex_reader.specs.Reading.{entries, before}
 use Rattle.kex_reader.specs.Stands.{ShowsMode}
 use Rattle.kex_reader.proofs.Modes.{mode_ready, mode_after, mode_named, some_atom, some_name}
 use Rattle.kex_reader.proofs.Wholes.{within_parts, finish_of, to_finish, finish_wrong, finish_ready, finish_after, finish_named, finish_other}
+use Rattle.kex_reader.proofs.Uses.{end_then}
 use Rattle.kex_reader.proofs.reader.Reader.finish_within.Goals as goal
 
 pub returns-in-Ready-clause-ends : goal.returns-in-Ready-clause-ends
@@ -40,6 +41,7 @@ returns-in-Named-clause-ends c = λ at h done name i st.
 pub returns : goal.returns
 returns c = record {
   broken = tt;
+  held = tt;
   ends = λ at h done name i st.
       let q = within_parts c.args.self.now.draft at c.args.self.now.stack c.args.self.now.definitions.items c.args.self.now.stages.items c.args.head c.args.wait h done name i st in
       to_finish c.args.self.now.draft at c.args.self.now.definitions.items c.args.self.now.stages.items _ _ _ (finish_other c.args.self.now.draft at _ c.args.wait i.mode h done name i.entries c.in_default.not-Ready c.in_default.not-After c.in_default.not-Named q.4.mode) (finish_wrong c.args.self.now.draft at c.args.self.now.definitions.items c.args.self.now.stages.items);
@@ -53,3 +55,12 @@ end_with-requires c = some_atom c.args.self.now.draft c.args.self.now.stack c.ar
 
 pub end_call-requires : goal.end_call-requires
 end_call-requires c = some_name c.args.self.now.draft c.args.self.now.stack c.args.wait c.in-Named.field-0 c.in-Named.name c.in-Named.is c.requires
+
+pub returns-in-Ready-clause-held : goal.returns-in-Ready-clause-held
+returns-in-Ready-clause-held c = end_then c.end.result c.args.self.now c.end.new.self c.args.head c.args.wait _ _ c.in-Ready.is (λ x h. elim h [ inl i ↦ i | inr z ↦ absurd z ]) c.end.ensures.keeps c.end.ensures.stages c.end.ensures.held
+
+pub returns-in-After-clause-held : goal.returns-in-After-clause-held
+returns-in-After-clause-held c = end_then c.end_with.result c.args.self.now c.end_with.new.self c.args.head c.args.wait _ _ c.in-After.is (λ x h. elim h [ inl i ↦ inr i | inr e ↦ inl e ]) c.end_with.ensures.keeps c.end_with.ensures.stages c.end_with.ensures.held
+
+pub returns-in-Named-clause-held : goal.returns-in-Named-clause-held
+returns-in-Named-clause-held c = end_then c.end_call.result c.args.self.now c.end_call.new.self c.args.head c.args.wait _ _ c.in-Named.is (λ x h. elim h [ inl i ↦ i | inr z ↦ absurd z ]) c.end_call.ensures.keeps c.end_call.ensures.stages c.end_call.ensures.held

@@ -2,6 +2,8 @@ use Rattle.std.proofs.Common.{true, false, sym, ap, ◌∙◌}
 use Rattle.std.specs.Prelude.{bytes_eq}
 use Rattle.kex_reader.specs.Syntax.{start}
 use Rattle.kex_reader.proofs.Wholes.{to_state, state_wrong, first_other, first_define, first_colon, first_steps, started, first_is}
+use Rattle.kex_reader.specs.declared.reader.Phase.TheVariants.{FirstName, StartLine}
+use Rattle.kex_reader.proofs.Uses.{head_first, reader_still}
 use Rattle.kex_reader.proofs.reader.Reader.first.Goals as goal
 
 pub returns-in-Define-clause-step : goal.returns-in-Define-clause-step
@@ -16,3 +18,9 @@ returns-else-eq-clause-step c = λ at n b st. to_state c.args.self.now.draft at 
 
 pub returns-in_default-clause-step : goal.returns-in_default-clause-step
 returns-in_default-clause-step c = λ at n b st. to_state c.args.self.now.draft at c.args.self.now.stack c.args.self.now.definitions.items c.args.self.now.stages.items _ _ _ (first_other n c.args.kind b c.in_default.not-Define c.in_default.not-Colon) (state_wrong c.args.self.now.draft at c.args.self.now.stack c.args.self.now.definitions.items c.args.self.now.stages.items)
+
+pub returns-in-Define-clause-held : goal.returns-in-Define-clause-held
+returns-in-Define-clause-held c = head_first c.head.result c.args.self.now c.head.new.self (FirstName c.args.name) (λ x z. z) c.head.ensures.keeps c.head.ensures.rest c.head.ensures.held
+
+pub returns-then-eq-clause-held : goal.returns-then-eq-clause-held
+returns-then-eq-clause-held c = reader_still c.args.self.now (FirstName c.args.name) StartLine (λ x z. z)

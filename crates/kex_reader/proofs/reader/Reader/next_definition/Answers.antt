@@ -1,10 +1,11 @@
-use Rattle.std.proofs.Common.{◌+◌, length, ap, ◌∙◌, subst}
+use Rattle.std.proofs.Common.{◌+◌, length, ap, ◌∙◌, subst, inl, inr}
 use Rattle.kex_reader.specs.declared.inside.Wait.TheVariants as waits
 use Rattle.kex_reader.specs.Reading.{take_term, entries, before, Named}
 use Rattle.kex_reader.specs.Holding.{whole_term}
 use Rattle.kex_reader.specs.Stands.{ShowsMode}
 use Rattle.kex_reader.proofs.Modes.{mode_named}
 use Rattle.kex_reader.proofs.Wholes.{to_state, state_wrong, on_head_is, define_none, define_named, within_parts, next_definition_steps, next_wrong_steps, whole_long, not_head, needed_name}
+use Rattle.kex_reader.proofs.Uses.{ended_left, head_then, held_as}
 use Rattle.kex_reader.proofs.reader.Reader.next_definition.Goals as goal
 
 pub returns-in_default-clause-step : goal.returns-in_default-clause-step
@@ -43,3 +44,6 @@ returns-in-Err-clause-step c = λ at h done name i st.
 
 pub end-requires : goal.end-requires
 end-requires c = let r = c.requires in (r.0, r.1, r.2.entries, r.3.below)
+
+pub returns-in-Ok-clause-held : goal.returns-in-Ok-clause-held
+returns-in-Ok-clause-held c = head_then c.head.result c.args.self.now.draft c.end.new.self c.head.new.self _ c.in-Ok.ensures.keeps (held_as _ _ _ _ _ _ (λ x h. h) (λ x l. inr l) (ended_left c.args.self.now c.end.new.self c.args.head c.args.wait _ _ c.in-Named.is (λ x h. elim h [ inl i ↦ i | inr z ↦ absurd z ]) c.in-Ok.ensures.stages c.in-Ok.ensures.held)) c.head.ensures.keeps c.head.ensures.rest c.head.ensures.held

@@ -1,4 +1,4 @@
-use Rattle.std.proofs.Common.{◌+◌, ◌*◌, [], ◌∷◌, ◌++◌, length, sym, ap, ◌∙◌, subst}
+use Rattle.std.proofs.Common.{◌+◌, ◌*◌, [], ◌∷◌, ◌++◌, length, sym, ap, ◌∙◌, subst, Ok}
 use Rattle.std.specs.Prelude.{OnOk}
 use Rattle.kex_reader.specs.declared.reader.Phase.TheVariants as phases
 use Rattle.kex_reader.specs.Syntax.{Stages, header, word}
@@ -9,6 +9,7 @@ use Rattle.kex_reader.specs.Asked.{state_asks}
 use Rattle.kex_reader.proofs.Kept.{same, on_same, on_from}
 use Rattle.kex_reader.proofs.Asks.{quiet_begin, quiet_first, quiet_read, quiet_head, start_asks, next_asks, define_notes, stage_count, on_kind}
 use Rattle.kex_reader.proofs.Wholes.{to_state, state_wrong, name_then_other, name_then_is, read_other, read_pipe, read_name, head_other, head_define, state_begin, state_first, state_start, state_read, state_next, state_head, state_within, within_parts, start_steps, next_steps, start_place, next_place, head_place, head_read_steps, at_begin, at_first, at_start, at_read, at_next, at_head, at_within, place_of, begin_long, first_named, next_waits, head_named, some_inside}
+use Rattle.kex_reader.proofs.Uses.{head_first, phase_as, reader_still, stage_then}
 use Rattle.kex_reader.proofs.reader.Reader.step.Goals as goal
 
 pub returns-in-Name-clause-step : goal.returns-in-Name-clause-step
@@ -136,3 +137,30 @@ pub returns-in_default-kind-3-clause-notes : goal.returns-in_default-kind-3-clau
 returns-in_default-kind-3-clause-notes c = λ at s cs st p n.
     let e = state_within c.args.self.now.draft at c.args.self.now.stack c.args.self.now.definitions.items c.args.self.now.stages.items c.in-Within.head c.in-Within.wait s (subst (λ x. ShowsState c.args.self.now.draft at c.args.self.now.stack c.args.self.now.definitions.items c.args.self.now.stages.items x s) c.in-Within.is st) in
     subst (λ y. OnOk c.go_on.result (Noted (cs ++ state_asks at y (word c.args.word.kind c.args.word.spelling.now)) c.go_on.new.self.draft.broken)) (sym e.4) (c.go_on.ensures.notes at e.0 e.1 e.2 e.3 (subst (λ y. ShowsState c.args.self.now.draft at c.args.self.now.stack c.args.self.now.definitions.items c.args.self.now.stages.items (phases.Within c.in-Within.head c.in-Within.wait) y) e.4 (subst (λ x. ShowsState c.args.self.now.draft at c.args.self.now.stack c.args.self.now.definitions.items c.args.self.now.stages.items x s) c.in-Within.is st)) (p ∙ ap (λ y. at (length (spelled y))) e.4) cs n)
+
+pub returns-in-Name-clause-held : goal.returns-in-Name-clause-held
+returns-in-Name-clause-held c = phase_as c.args.phase phases.Begin c.args.self.now c.args.self.now (Ok (phases.FirstName (record { bytes = c.args.word.spelling; at = c.args.word.at }))) c.in-Begin.is (reader_still c.args.self.now phases.Begin (phases.FirstName (record { bytes = c.args.word.spelling; at = c.args.word.at })) (λ x z. z))
+
+pub returns-in-FirstName-clause-held : goal.returns-in-FirstName-clause-held
+returns-in-FirstName-clause-held c = phase_as c.args.phase _ c.args.self.now c.first.new.self c.first.result c.in-FirstName.is c.first.ensures.held
+
+pub returns-in-StartLine-clause-held : goal.returns-in-StartLine-clause-held
+returns-in-StartLine-clause-held c = phase_as c.args.phase phases.StartLine c.args.self.now c.stage.new.self c.stage.result c.in-StartLine.is (stage_then c.stage.result c.args.self.now c.stage.new.self phases.StartLine (λ x z. z) c.stage.ensures.keeps c.stage.ensures.held c.stage.ensures.rest)
+
+pub returns-in-Pipe-clause-held : goal.returns-in-Pipe-clause-held
+returns-in-Pipe-clause-held c = phase_as c.args.phase phases.StageRead c.args.self.now c.args.self.now (Ok phases.StageNext) c.in-StageRead.is (reader_still c.args.self.now phases.StageRead phases.StageNext (λ x z. z))
+
+pub returns-in-Name-kind-clause-held : goal.returns-in-Name-kind-clause-held
+returns-in-Name-kind-clause-held c = phase_as c.args.phase phases.StageRead c.args.self.now c.args.self.now (Ok (phases.HeadRead (record { bytes = c.args.word.spelling; at = c.args.word.at }))) c.in-StageRead.is (reader_still c.args.self.now phases.StageRead (phases.HeadRead (record { bytes = c.args.word.spelling; at = c.args.word.at })) (λ x z. z))
+
+pub returns-in-StageNext-clause-held : goal.returns-in-StageNext-clause-held
+returns-in-StageNext-clause-held c = phase_as c.args.phase phases.StageNext c.args.self.now c.stage-in-StageNext.new.self c.stage-in-StageNext.result c.in-StageNext.is (stage_then c.stage-in-StageNext.result c.args.self.now c.stage-in-StageNext.new.self phases.StageNext (λ x z. z) c.stage-in-StageNext.ensures.keeps c.stage-in-StageNext.ensures.held c.stage-in-StageNext.ensures.rest)
+
+pub returns-in-Define-clause-held : goal.returns-in-Define-clause-held
+returns-in-Define-clause-held c = phase_as c.args.phase (phases.HeadRead c.in-HeadRead.head) c.args.self.now c.head.new.self c.head.result c.in-HeadRead.is (head_first c.head.result c.args.self.now c.head.new.self (phases.HeadRead c.in-HeadRead.head) (λ x z. z) c.head.ensures.keeps c.head.ensures.rest c.head.ensures.held)
+
+pub returns-in-Define-kind-clause-held : goal.returns-in-Define-kind-clause-held
+returns-in-Define-kind-clause-held c = phase_as c.args.phase _ c.args.self.now c.next_definition.new.self c.next_definition.result c.in-Within.is c.next_definition.ensures.held
+
+pub returns-in_default-kind-3-clause-held : goal.returns-in_default-kind-3-clause-held
+returns-in_default-kind-3-clause-held c = phase_as c.args.phase _ c.args.self.now c.go_on.new.self c.go_on.result c.in-Within.is c.go_on.ensures.held
