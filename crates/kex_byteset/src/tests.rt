@@ -23,13 +23,13 @@ fn sets_have_their_bytes(rt: HostRuntime) -> Result<(), Fail> {
         (grown.copy(), 2, &[0, 255], &[1, 64, 191, 254]),
     ];
     for (set, len, kept, others) in &cases {
-        assert_eq!(rt; set.len(), *len);
-        assert_eq!(rt; set.has_any(), *len > 0);
+        assert_eq!(rt; set.len(), *len, "set of {len}");
+        assert_eq!(rt; set.has_any(), *len > 0, "set of {len}");
         for byte in *kept {
-            assert!(rt; set.has(*byte));
+            assert!(rt; set.has(*byte), "{byte} of {len}");
         }
         for byte in *others {
-            assert!(rt; !set.has(*byte));
+            assert!(rt; !set.has(*byte), "{byte} of {len}");
         }
     }
     Ok(())
@@ -54,8 +54,8 @@ fn sets_part_the_bytes(rt: HostRuntime) -> Result<(), Fail> {
         (255, 4),
     ];
     for (byte, class) in cases {
-        assert_eq!(rt; classes.class_of(byte), class);
-        assert_eq!(rt; classes.copy().class_of(byte), class);
+        assert_eq!(rt; classes.class_of(byte), class, "{byte}");
+        assert_eq!(rt; classes.copy().class_of(byte), class, "{byte}");
     }
     assert_eq!(rt; classes.classes(), 5);
     Ok(())

@@ -96,11 +96,11 @@ fn codes_agree_on_a_front(rt: HostRuntime) -> Result<(), Fail> {
     ];
     for (texts, agreed) in rows {
         let mut codes = Vec::new(rt.alloc());
-        for text in texts {
+        for text in &texts {
             codes.push(code_of(rt.alloc(), text))?;
         }
         assert!(rt; !codes.is_empty());
-        assert_eq!(rt; lcp(&codes), agreed);
+        assert_eq!(rt; lcp(&codes), agreed, "{texts:?}");
     }
     Ok(())
 }

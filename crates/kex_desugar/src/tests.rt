@@ -55,9 +55,10 @@ fn counts_places(rt: HostRuntime) {
     for (inner, outer, root, places) in cases {
         let program = program(rt.alloc(), inner, outer).expect(&rt, "a program");
         let machine = desugar(rt.alloc(), &program, root, 7, places).expect(&rt, "a machine");
-        assert_eq!(rt; machine.nodes().len(), places as usize);
-        assert_eq!(rt; machine.stage(), 7);
+        assert_eq!(rt; machine.nodes().len(), places as usize, "{places} places");
+        assert_eq!(rt; machine.stage(), 7, "{places} places");
         let refused = desugar(rt.alloc(), &program, root, 7, places - 1);
-        assert!(rt; matches!(refused, Err(DesugarRefusal::TooManyPlaces)));
+        let is_refused = matches!(refused, Err(DesugarRefusal::TooManyPlaces));
+        assert!(rt; is_refused, "{places} places");
     }
 }

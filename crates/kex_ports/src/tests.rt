@@ -18,8 +18,8 @@ fn a_source_gives_fronts_and_fails_at_its_numbers(rt: HostRuntime) -> Result<(),
     ];
     let mut buf = [0; 3];
     for (answer, left) in &reads {
-        assert!(rt; source.read(&mut buf) == *answer);
-        assert!(rt; source.left() == *left);
+        assert!(rt; source.read(&mut buf) == *answer, "{left:?} left");
+        assert!(rt; source.left() == *left, "{left:?} left");
     }
     assert!(rt; buf.as_slice() == b"ed\0".as_slice());
     Ok(())
@@ -46,8 +46,8 @@ fn a_sink_takes_fronts_within_its_room(rt: HostRuntime) -> Result<(), Fail> {
         (b"e", Ok(1), b"abcde"),
     ];
     for (piece, answer, held) in &writes {
-        assert!(rt; sink.write(piece) == *answer);
-        assert!(rt; sink.bytes() == *held);
+        assert!(rt; sink.write(piece) == *answer, "{piece:?}");
+        assert!(rt; sink.bytes() == *held, "{piece:?}");
     }
     assert!(rt; sink.finish() == Ok(()) && sink.finish() == Err(Failed));
     Ok(())
@@ -71,9 +71,9 @@ fn a_shelf_gives_the_text_put_last(rt: HostRuntime) -> Result<(), Fail> {
     for (name, limit, want) in &takes {
         let got = shelf.take(alloc, name, *limit);
         match (&got, want) {
-            (Ok(text), Ok(bytes)) => assert!(rt; text.as_slice() == *bytes),
-            (Err(one), Err(other)) => assert!(rt; one == other),
-            _ => assert!(rt; false),
+            (Ok(text), Ok(bytes)) => assert!(rt; text.as_slice() == *bytes, "{name} {limit}"),
+            (Err(one), Err(other)) => assert!(rt; one == other, "{name} {limit}"),
+            _ => assert!(rt; false, "{name} {limit}"),
         }
     }
     Ok(())
@@ -88,7 +88,7 @@ fn a_stage_that_enters_later_sees_the_earlier(rt: HostRuntime) {
         gate.leave(*first);
         gate.enter(*second);
         gate.enter(*first);
-        assert!(rt; gate.saw(*second));
-        assert!(rt; !gate.saw(*first) && !gate.saw(5));
+        assert!(rt; gate.saw(*second), "{first} {second}");
+        assert!(rt; !gate.saw(*first) && !gate.saw(5), "{first} {second}");
     }
 }

@@ -95,7 +95,7 @@ fn bodies_are_read(rt: HostRuntime) {
         b"\x80\xff",
     ];
     for body in cases {
-        assert_eq!(rt; refusal(&rt, body, 0), None);
+        assert_eq!(rt; refusal(&rt, body, 0), None, "{body:?}");
     }
 }
 
@@ -122,7 +122,7 @@ fn nesting_is_counted(rt: HostRuntime) -> Result<(), Fail> {
             None => None,
             Some(at) => Some(RegexFault::OverLimit { at }),
         };
-        assert_eq!(rt; refusal(&rt, &body, depth), want);
+        assert_eq!(rt; refusal(&rt, &body, depth), want, "{count} within {depth}");
     }
     Ok(())
 }

@@ -18,10 +18,10 @@ fn updates_have_their_parts(rt: HostRuntime) -> Result<(), Fail> {
         }
         let regs = vec![in rt.alloc(); parts.copy(rt.alloc())?]?;
         let update = Update::new(parts, regs).copy(rt.alloc())?;
-        assert!(rt; update.out().as_slice() == &all[..count]);
-        assert_eq!(rt; update.regs().len(), 1);
+        assert!(rt; update.out().as_slice() == &all[..count], "{count} parts");
+        assert_eq!(rt; update.regs().len(), 1, "{count} parts");
         for register in update.regs() {
-            assert!(rt; register.as_slice() == &all[..count]);
+            assert!(rt; register.as_slice() == &all[..count], "{count} parts");
         }
     }
     Ok(())
