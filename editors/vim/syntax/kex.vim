@@ -18,7 +18,7 @@ syntax region kexSet start="\[" skip="\\." end="\]" oneline contained contains=k
 syntax region kexRegex start="/\([*/]\)\@!" skip="\\." end="/" oneline contains=kexRegexEscape,kexSet,kexRegexSign
 
 syntax match kexDefinition "\<\a\w*\ze\s*:="
-syntax match kexStart "\%^\_s*\zsstart\ze\s*:"
+syntax match kexStart "^\s*\zsstart\ze\s*:[^=]"
 syntax match kexRegister "\<\a\w*\ze@"
 syntax match kexWrite "!\s*\a\w*"
 syntax match kexSign "[~|*+?]\|:=\|>>\|<-\|+="
