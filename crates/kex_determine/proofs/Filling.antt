@@ -128,7 +128,7 @@ module _ (g : Graph) where
       pub determined : IsDetermined g table
       determined = record {
         shapes = f.shapes;
-        count = count;
+        rows = all_rows classes u keys trees rows f le a first change;
         different = f.numbered.different;
         each = each_state keys trees f.shapes f.numbered;
         all = all_states g trim table f.shapes classed (all_rows classes u keys trees rows f le a first change);

@@ -10,6 +10,7 @@ use Rattle.kex_machine.specs.Answers.{Viable}
 use Rattle.kex_sst.specs.declared.table.Transition.{Transition}
 use Rattle.kex_sst.specs.Tables.{Row, Transducer}
 use Rattle.kex_sst.specs.Passes.{Pass, passes}
+use Rattle.kex_determine.specs.Rows.{AreRows}
 
 -- the state has the shape of the tree of w, what was passed on is agreed, and the registers hold the labels; none where w
 -- isn't viable
@@ -32,10 +33,11 @@ abbrev pub MeetsInOrder : ℕ → List ℕ → ℕ → Type 0
 MeetsInOrder n [] all = n ≡ all
 MeetsInOrder n (i ∷ is) all = ((i < n) × MeetsInOrder n is all) ⊎ ((i ≡ n) × MeetsInOrder (suc n) is all)
 
--- the states are exactly the shapes of the texts, numbered in the order first met: breadth first, classes ascending
+-- the states are exactly the shapes of the texts, numbered in the order first met: breadth first, classes ascending; each row is
+-- the one that its shape determines
 pub record IsDetermined (g : Graph) (t : Transducer) : Type 0 where
   pub shapes : List (Shape ℕ)
-  pub count : length t.states ≡ length shapes
+  pub rows : AreRows g t shapes
   pub different : AllDifferent shapes
   pub each : (s : Shape ℕ) → IsAmong shapes s → IsState (node_moves g.nodes) g.start s
   pub all : (s : Shape ℕ) → IsState (node_moves g.nodes) g.start s → IsAmong shapes s
