@@ -5,3 +5,4 @@ pub mod Looping
 pub mod Leading
 pub mod Performing
 pub mod Faulting
+pub mod Sheeting

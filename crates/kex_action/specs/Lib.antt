@@ -2,3 +2,4 @@ pub mod Holdings
 pub mod Actions
 pub mod Actors
 pub mod Faults
+pub mod Sheets

@@ -1,12 +1,16 @@
 // What is done along a walk, for every byte at once.
 
-ghost use Rattle.std.specs.Prelude.{◌≡◌, OnOk, length};
+ghost use Rattle.std.specs.Prelude.{◌≡◌, ◌≤◌, false, IfOk, IfSome, IsTrue, OnOk, List, ℕ, length, take};
+ghost use Rattle.kex_model.specs.Acting.{State, done_by};
+ghost use Rattle.kex_machine.specs.Nodes.{node_moves, effect_of, HasRegisters};
 ghost use Rattle.kex_action.specs.Holdings.{state_of};
-ghost use Rattle.kex_action.specs.Actions.{done_at, done};
+ghost use Rattle.kex_action.specs.Actions.{passing, done_at, done};
+ghost use Rattle.kex_action.specs.Sheets.{IsSheet, IsAsLong, state_with};
 
+use crate::sheet::Sheet;
 use crate::store::Store;
 use kex_code::memory::Memory;
-use kex_machine::{MNode, Trimmed};
+use kex_machine::{Effect, MNode, Trimmed};
 
 /// What is done at a step: the byte that is read is written, or a node does what it does.
 #[derive(Clone, Copy, Debug, PartialEq, Eq)]
@@ -51,4 +55,62 @@ pub fn act_all(
         act(machine, *action, byte, store, out)?;
     }
     Ok(())
+}
+
+// What a node does, if it does anything.
+#[inline(always)]
+fn effect_at(machine: &Trimmed, n: u32) -> Option<&Effect>
+    ensures did { IfSome result (λ e. (s : State) → passing (node_moves machine.now.nodes n) s ≡ done_by (effect_of e.now) s) }
+    ensures registers { IfSome result (λ e. HasRegisters machine.now.registers e.now) }
+{
+    match machine.nodes().get(n as usize) {
+        Some(MNode::Do(effect, _)) => Some(effect),
+        _ => None,
+    }
+}
+
+// Does on a sheet what an action says, where this byte is read. False where it can't be done there: nothing is done then.
+#[inline(always)]
+fn act_at(
+    machine: &Trimmed,
+    action: Action,
+    byte: u8,
+    store: &mut Store,
+    sheet: &mut Sheet,
+) -> Result<bool, Memory>
+    requires registers { length store.old.registers ≡ machine.now.registers }
+    requires sheet { IsSheet sheet.old }
+    ensures did { IfOk result (λ b. IsTrue b → (out : List ℕ) → state_with sheet.new out store.new ≡ done_at machine.now.nodes byte action (state_with sheet.old out store.old)) }
+    ensures stays { IfOk result (λ b. b ≡ false → (out : List ℕ) → state_with sheet.new out store.new ≡ state_with sheet.old out store.old) }
+    ensures sheet { OnOk result (IsSheet sheet.new × IsAsLong sheet.old sheet.new) }
+{
+    match action {
+        Action::Byte => Ok(sheet.write(&[byte])),
+        Action::Node(n) => match effect_at(machine, n) {
+            Some(effect) => store.perform_on(effect, sheet),
+            None => Ok(false),
+        },
+    }
+}
+
+// Does on a sheet what actions say, one after another, where this byte is read. Tells how many were done.
+pub fn act_on(
+    machine: &Trimmed,
+    actions: &[Action],
+    byte: u8,
+    store: &mut Store,
+    sheet: &mut Sheet,
+) -> Result<usize, Memory>
+    requires registers { length store.old.registers ≡ machine.now.registers }
+    requires sheet { IsSheet sheet.old }
+    ensures did { IfOk result (λ n. (out : List ℕ) → state_with sheet.new out store.new ≡ done machine.now.nodes byte (take n actions.now) (state_with sheet.old out store.old)) }
+    ensures count { IfOk result (λ n. n ≤ length actions.now) }
+    ensures sheet { OnOk result (IsSheet sheet.new × IsAsLong sheet.old sheet.new) }
+{
+    for (count, action) in actions.iter().enumerate() {
+        if !act_at(machine, *action, byte, store, sheet)? {
+            return Ok(count);
+        }
+    }
+    Ok(actions.len())
 }

@@ -1,15 +1,17 @@
 // The action machine.
 
-ghost use Rattle.std.specs.Prelude.{◌≡◌, ◌<◌, ◌↔◌, [], List, ℕ, IfOk, IsOk, OnOk, IfErr, OnErr, IsTrue, if◌then◌else◌, length};
+ghost use Rattle.std.specs.Prelude.{◌≡◌, ◌<◌, ◌≤◌, ◌↔◌, [], List, ℕ, IfOk, IsOk, OnOk, IfErr, OnErr, IsTrue, if◌then◌else◌, length, take};
 ghost use Rattle.kex_code.specs.Registers.{held};
 ghost use Rattle.kex_code.specs.declared.symbol.Symbol.{Symbol};
-ghost use Rattle.kex_action.specs.Holdings.{adding, Does};
+ghost use Rattle.kex_action.specs.Holdings.{adding, Does, state_of};
 ghost use Rattle.kex_action.specs.Actions.{done};
 ghost use Rattle.kex_action.specs.Actors.{HasPerformed, TookAll, WentOn, IsWhole};
 ghost use Rattle.kex_action.specs.Faults.{After};
+ghost use Rattle.kex_action.specs.Sheets.{IsSheet, IsAsLong, IsBlank, state_with};
 
-use crate::action::{Action, act_all};
+use crate::action::{Action, act_all, act_on};
 use crate::fault::ActFault;
+use crate::sheet::Sheet;
 use crate::store::Store;
 use crate::walk::{follow, is_end, rest_of};
 use kex_code::memory::Memory;
@@ -130,12 +132,55 @@ impl<'m> Actor<'m> {
         requires usable { IsTrue self.old.usable }
         requires node { node < length self.old.machine.nodes }
         ensures ok { OnOk result ((c : List Symbol) → Does self.old.machine.nodes self.old.at c node (done self.old.machine.nodes byte actions.now) → WentOn self.old self.new c c out.old.items out.new.items) }
+        ensures did { OnOk result (state_of out.new.items self.new.holding ≡ done self.old.machine.nodes byte actions.now (state_of out.old.items self.old.holding)) }
         ensures node { OnOk result (self.new.at ≡ node) }
         ensures machine { self.new.machine ≡ self.old.machine }
+        ensures refused { self.new.refused ≡ self.old.refused }
         ensures usable { IsTrue self.new.usable ↔ IsOk result }
     {
         self.usable = false;
         act_all(self.machine, actions, byte, &mut self.store, out)?;
+        self.at = node;
+        self.usable = true;
+        Ok(())
+    }
+
+    /// Does on a sheet what the actions say, where this byte is read. Tells how many were done: the rest can't be done there.
+    pub fn act_on(
+        &mut self,
+        actions: &[Action],
+        byte: u8,
+        sheet: &mut Sheet,
+    ) -> Result<usize, Memory>
+        requires usable { IsTrue self.old.usable }
+        requires sheet { IsSheet sheet.old }
+        ensures did { IfOk result (λ n. (out : List ℕ) → state_with sheet.new out self.new.holding ≡ done self.old.machine.nodes byte (take n actions.now) (state_with sheet.old out self.old.holding)) }
+        ensures count { IfOk result (λ n. n ≤ length actions.now) }
+        ensures sheet { OnOk result (IsSheet sheet.new × IsAsLong sheet.old sheet.new) }
+        ensures same { (self.new.machine ≡ self.old.machine) × (self.new.at ≡ self.old.at) × (self.new.refused ≡ self.old.refused) }
+        ensures usable { IsTrue self.new.usable ↔ IsOk result }
+    {
+        self.usable = false;
+        let count = act_on(self.machine, actions, byte, &mut self.store, sheet)?;
+        self.usable = true;
+        Ok(count)
+    }
+
+    /// Goes to a node, and hands on what stands on a sheet.
+    pub fn hand_on(&mut self, node: u32, sheet: &mut Sheet, out: &mut Vec<u8>) -> Result<(), Memory>
+        requires usable { IsTrue self.old.usable }
+        requires sheet { IsSheet sheet.old }
+        requires node { node < length self.old.machine.nodes }
+        ensures did { OnOk result (state_of out.new.items self.new.holding ≡ state_with sheet.old out.old.items self.old.holding) }
+        ensures none { OnOk result (IsBlank sheet.new) }
+        ensures room { IsAsLong sheet.old sheet.new }
+        ensures at { OnOk result (self.new.at ≡ node) }
+        ensures same { (self.new.machine ≡ self.old.machine) × (self.new.refused ≡ self.old.refused) }
+        ensures usable { IsTrue self.new.usable ↔ IsOk result }
+    {
+        self.usable = false;
+        self.store.hand_on(sheet, out)?;
+        sheet.clear();
         self.at = node;
         self.usable = true;
         Ok(())

@@ -36,6 +36,15 @@ impl Buffer {
         Ok(())
     }
 
+    // Puts bytes in the place of all that it has, and keeps the room.
+    pub fn replace(&mut self, bytes: &[u8]) -> Result<(), Memory>
+        ensures { OnOk result (self.new ≡ bytes.now) }
+    {
+        self.bytes.clear();
+        self.bytes.extend_from_slice(bytes)?;
+        Ok(())
+    }
+
     pub fn as_slice(&self) -> &[u8]
         ensures { result.now ≡ self.now }
     {

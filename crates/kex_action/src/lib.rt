@@ -8,5 +8,6 @@ pub mod action;
 pub mod actor;
 mod buffer;
 pub mod fault;
+pub mod sheet;
 mod store;
 mod walk;

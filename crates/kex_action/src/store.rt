@@ -1,14 +1,17 @@
 // The open buffers and the registers, and what each effect does to them.
 
-ghost use Rattle.std.specs.Prelude.{◌≡◌, ◌<◌, ◌↔◌, ◌++◌, [], ◌∷◌, List, ℕ, OnOk, OnErr, IfOk, IsTrue, length, replicate, reverse};
+ghost use Rattle.std.specs.Prelude.{◌≡◌, ◌<◌, ◌↔◌, ◌++◌, [], ◌∷◌, List, ℕ, OnOk, OnErr, IfOk, IsTrue, length, replicate, reverse, false};
 ghost use Rattle.kex_code.specs.Registers.{joined, put, held};
 ghost use Rattle.kex_code.specs.declared.piece.Piece.{Piece};
 ghost use Rattle.kex_model.specs.Programs.{HasPieces};
 ghost use Rattle.kex_model.specs.Acting.{appended, done_by};
 ghost use Rattle.kex_machine.specs.Nodes.{effect_of, HasRegisters};
+ghost use Rattle.kex_model.specs.Moves.{into};
 ghost use Rattle.kex_action.specs.Holdings.{state_of, dropped_from, moved_to};
+ghost use Rattle.kex_action.specs.Sheets.{IsSheet, IsAsLong, state_with};
 
 use crate::buffer::Buffer;
+use crate::sheet::Sheet;
 use kex_code::memory::Memory;
 use kex_code::piece::Piece;
 use kex_machine::Effect;
@@ -210,5 +213,69 @@ impl Store {
             Effect::Set(r, pieces) => self.set(*r, pieces.as_slice()),
             Effect::Add(r, pieces) => self.add(*r, pieces.as_slice()),
         }
+    }
+
+    // The register takes the innermost buffer of a sheet, if one was opened there.
+    #[inline(always)]
+    fn take_from(&mut self, r: u32, sheet: &mut Sheet) -> Result<bool, Memory>
+        requires register { r < length self.old.registers }
+        requires sheet { IsSheet sheet.old }
+        ensures did { IfOk result (λ b. IsTrue b → (out : List ℕ) → state_with sheet.new out self.new ≡ done_by (into r) (state_with sheet.old out self.old)) }
+        ensures stays { IfOk result (λ b. b ≡ false → (out : List ℕ) → state_with sheet.new out self.new ≡ state_with sheet.old out self.old) }
+        ensures sheet { OnOk result (IsSheet sheet.new × IsAsLong sheet.old sheet.new) }
+    {
+        let Some(end) = sheet.close() else {
+            return Ok(false);
+        };
+        self.registers[r as usize].replace(&sheet.bytes[sheet.used..end])?;
+        Ok(true)
+    }
+
+    // Does an effect on a sheet. False where it can't be done there: nothing is done then.
+    #[inline(always)]
+    pub fn perform_on(&mut self, effect: &Effect, sheet: &mut Sheet) -> Result<bool, Memory>
+        requires registers { HasRegisters (length self.old.registers) effect.now }
+        requires sheet { IsSheet sheet.old }
+        ensures did { IfOk result (λ b. IsTrue b → (out : List ℕ) → state_with sheet.new out self.new ≡ done_by (effect_of effect.now) (state_with sheet.old out self.old)) }
+        ensures stays { IfOk result (λ b. b ≡ false → (out : List ℕ) → state_with sheet.new out self.new ≡ state_with sheet.old out self.old) }
+        ensures sheet { OnOk result (IsSheet sheet.new × IsAsLong sheet.old sheet.new) }
+    {
+        match effect {
+            Effect::Lit(bytes) => Ok(sheet.write(bytes.as_slice())),
+            Effect::Open => {
+                sheet.open()?;
+                Ok(true)
+            }
+            Effect::Drop => Ok(sheet.close().is_some()),
+            Effect::Into(r) => self.take_from(*r, sheet),
+            Effect::Write(r) => Ok(sheet.write(self.registers[*r as usize].as_slice())),
+            Effect::Set(r, pieces) => {
+                self.set(*r, pieces.as_slice())?;
+                Ok(true)
+            }
+            Effect::Add(r, pieces) => {
+                self.add(*r, pieces.as_slice())?;
+                Ok(true)
+            }
+        }
+    }
+
+    // Hands on what stands on a sheet: its bytes are written, and what was opened there is opened.
+    pub fn hand_on(&mut self, sheet: &Sheet, out: &mut Vec<u8>) -> Result<(), Memory>
+        requires { IsSheet sheet.now }
+        ensures { OnOk result (state_of out.new.items self.new ≡ state_with sheet.now out.old.items self.old) }
+    {
+        let bytes = sheet.bytes.as_slice();
+        let mut from = 0;
+        for i in 0..sheet.marks.len() {
+            let to = sheet.marks[i];
+            prove!(from <= to);
+            prove!(to <= bytes.len());
+            self.write(&bytes[from..to], out)?;
+            self.open()?;
+            from = to;
+        }
+        prove!(from <= sheet.used);
+        self.write(&bytes[from..sheet.used], out)
     }
 }

@@ -7,3 +7,4 @@ mod Putting
 mod Running
 mod Settling
 mod Widening
+pub mod Carrying

@@ -1,7 +1,9 @@
 -- What a run does: the table goes on, and the actor performs what it says.
-use Rattle.std.specs.Prelude.{◌≡◌, ℕ, List, [], ◌++◌, Some}
+use Rattle.std.specs.Prelude.{◌≡◌, ℕ, List, [], ◌++◌, Some, true}
 use Rattle.kex_code.specs.declared.symbol.Symbol.{Symbol}
 use Rattle.kex_machine.specs.Nodes.{Graph}
+use Rattle.kex_action.specs.declared.sheet.Sheet.{Sheet}
+use Rattle.kex_action.specs.Sheets.{state_with}
 use Rattle.kex_action.specs.Actors.{Position, HasPerformed, BeginsRun, WentOn}
 use Rattle.kex_sst.specs.Tables.{Transducer}
 use Rattle.kex_sst.specs.Passes.{Pass, passes, passes_if}
@@ -25,6 +27,23 @@ pub record Reached (t : Transducer) (k : Known) (old new : Position) (q row : �
   pub state : ℕ
   pub row_for : HasRowFor k row state new.at
   pub goes : Goes t old new q state bs before after
+
+-- the actor, as if what stands on the sheet were handed on at a node
+abbrev pub with_sheet : Position → ℕ → Sheet → List ℕ → Position
+with_sheet a n s out = let z = state_with s out a.holding in record { machine = a.machine; at = n; holding = record { buffers = z.buffers; registers = z.registers }; refused = a.refused; usable = true }
+
+-- what is written then
+abbrev pub written_with : Position → Sheet → List ℕ → List ℕ
+written_with a s out = (state_with s out a.holding).out
+
+-- along the bytes the actor and its sheet have come to a row, and to some node
+pub record ReachedWith (t : Transducer) (k : Known) (from new : Position) (s : Sheet) (q row : ℕ) (bs before after : List ℕ) : Type 0 where
+  pub node : ℕ
+  pub reached : Reached t k from (with_sheet new node s after) q row bs before (written_with new s after)
+
+-- the same from the row of any state and the node where the actor and its sheet are
+abbrev pub ReachedOn : Transducer → Known → Known → Position → Position → Sheet → Sheet → ℕ → ℕ → List ℕ → List ℕ → List ℕ → Type 0
+ReachedOn t k k' old new s s' row row' bs before after = (q n : ℕ) → HasRowFor k row q n → ReachedWith t k' (with_sheet old n s before) new s' q row' bs (written_with old s before) after
 
 -- a table and a machine
 pub record Over : Type 0 where

@@ -1,17 +1,23 @@
 // A run along edges with the actor, in which new edges are learnt.
 
-ghost use Rattle.std.specs.Prelude.{◌≡◌, ◌<◌, ◌≤◌, ◌+◌, ◌*◌, ℕ, List, [], ◌∷◌, Some, IsTrue, IfOk, IfSome, IfNone, OnOk, length, take, slice_get};
+ghost use Rattle.std.specs.Prelude.{◌≡◌, ◌<◌, ◌≤◌, ◌+◌, ◌*◌, ℕ, List, [], ◌∷◌, IsTrue, IfOk, OnOk, length, take, drop};
 ghost use Rattle.kex_sst.specs.Tables.{Transducer};
+ghost use Rattle.kex_action.specs.Holdings.{state_of};
+ghost use Rattle.kex_action.specs.Actions.{done};
+ghost use Rattle.kex_action.specs.Actors.{Position};
+ghost use Rattle.kex_action.specs.Sheets.{IsSheet, IsBlank, IsAsLong, state_with};
 ghost use Rattle.kex_moves.specs.declared.edge.Kind.{Kind};
 ghost use Rattle.kex_moves.specs.declared.edges.Pair.{Pair};
-ghost use Rattle.kex_moves.specs.Known.{IsEdge, IsRowOf, HasRowFor, IsRight, IsKnown};
-ghost use Rattle.kex_moves.specs.Along.{Reached, Goes};
+ghost use Rattle.kex_moves.specs.Known.{IsEdge, IsRowOf, HasRowFor, IsKnown};
+ghost use Rattle.kex_moves.specs.Along.{ReachedOn, Goes, with_sheet, written_with};
 
 use crate::edge::{Edge, Kind};
 use crate::edges::Edges;
 use crate::learn::learn_edge;
 use crate::walk::is_resting;
+use kex_action::action::Action;
 use kex_action::actor::Actor;
+use kex_action::sheet::Sheet;
 use kex_code::memory::Memory;
 use kex_machine::Trimmed;
 use kex_sst::table::Table;
@@ -20,8 +26,11 @@ use std::alloc::Global;
 /// How many bytes are gone over at once.
 pub const PART: usize = 4_096;
 
-/// Room for what is written for so many bytes.
-pub const ROOM: usize = 69_649;
+/// How many bytes may stand on a sheet when a part is begun.
+const MOST: usize = 16_384;
+
+/// Room for these, and for what is written for a part.
+pub const ROOM: usize = 86_033;
 
 /// How many bytes a run took, and the state to which they lead.
 #[derive(Clone, Copy, Debug, PartialEq, Eq)]
@@ -37,55 +46,85 @@ struct Place {
     row: usize,
 }
 
-// Goes along edges while they are written, with the actor.
-fn along(
-    edges: &Edges,
-    buffer: &mut [u8],
+// The same, and whether no more can be taken from there.
+#[derive(Clone, Copy)]
+struct Stride {
+    count: usize,
     row: usize,
-    actor: &mut Actor,
-    piece: &[u8],
-    out: &mut Vec<u8>,
-) -> Result<Place, Memory>
-    requires usable { IsTrue actor.old.usable }
-    requires known { (t : Transducer) × IsKnown t actor.old.machine edges.now }
-    requires row { (q : ℕ) × HasRowFor edges.now row q actor.old.at }
-    requires room { 17 * length piece.now + 17 ≤ length buffer.old }
-    ensures within { IfOk result (λ p. p.count ≤ length piece.now) }
-    ensures reached { IfOk result (λ p. (t : Transducer) (q : ℕ) → IsKnown t actor.old.machine edges.now → HasRowFor edges.now row q actor.old.at → Reached t edges.now actor.old actor.new q p.row (take p.count piece.now) out.old.items out.new.items) }
-    ensures machine { actor.new.machine ≡ actor.old.machine }
-    ensures usable { OnOk result (IsTrue actor.new.usable) }
+    stops: bool,
+}
+
+// Goes along edges while they are written, on a sheet.
+#[inline(always)]
+fn along(edges: &Edges, sheet: &mut Sheet, row: usize, piece: &[u8]) -> Place
+    requires row { (p : Pair) × IsRowOf edges.now row p }
+    requires sheet { IsSheet sheet.old }
+    requires room { sheet.old.used + 17 * length piece.now + 17 ≤ length sheet.old.bytes.items }
+    ensures within { result.count ≤ length piece.now }
+    ensures sheet { IsSheet sheet.new × (length sheet.new.bytes.items ≡ length sheet.old.bytes.items) }
+    ensures reached { (t : Transducer) (a : Position) (out : List ℕ) → IsKnown t a.machine edges.now → ReachedOn t edges.now edges.now a a sheet.old sheet.new row result.row (take result.count piece.now) out out }
 {
-    let spot = edges.run(row, piece, buffer);
-    let node = edges.pair_at(spot.row).node;
-    actor.advance(node, &buffer[..spot.used], out)?;
-    Ok(Place {
+    let spot = edges.run(row, piece, &mut sheet.bytes, sheet.used);
+    sheet.used = spot.used;
+    Place {
         count: spot.at,
         row: spot.row,
-    })
+    }
+}
+
+// Does the rest of an edge's actions that can't be done on a sheet.
+fn act_rest(
+    edges: &Edges,
+    edge: Edge,
+    rest: &[Action],
+    byte: u8,
+    actor: &mut Actor,
+    sheet: &mut Sheet,
+    out: &mut Vec<u8>,
+) -> Result<(), Memory>
+    requires usable { IsTrue actor.old.usable }
+    requires to { (p : Pair) × IsRowOf edges.now edge.next p × (p.node < length actor.old.machine.nodes) }
+    requires sheet { IsSheet sheet.old }
+    ensures did { OnOk result (state_of out.new.items actor.new.holding ≡ done actor.old.machine.nodes byte rest.now (state_with sheet.old out.old.items actor.old.holding)) }
+    ensures none { OnOk result (IsBlank sheet.new) }
+    ensures room { IsAsLong sheet.old sheet.new }
+    ensures same { (actor.new.machine ≡ actor.old.machine) × (actor.new.refused ≡ actor.old.refused) }
+    ensures usable { OnOk result (IsTrue actor.new.usable) }
+{
+    let node = edges.pair_at(edge.next as usize).node;
+    actor.hand_on(node, sheet, out)?;
+    actor.act(node, rest, byte, out)
 }
 
 // Does the actions of an edge at which a byte was read.
+#[inline(always)]
 fn act(
     edges: &Edges,
     edge: Edge,
     byte: u8,
     actor: &mut Actor,
+    sheet: &mut Sheet,
     out: &mut Vec<u8>,
 ) -> Result<(), Memory>
     requires usable { IsTrue actor.old.usable }
-    requires known { (t : Transducer) × IsKnown t actor.old.machine edges.now }
-    requires to { (p : Pair) × IsRowOf edges.now edge.next p }
+    requires to { (p : Pair) × IsRowOf edges.now edge.next p × (p.node < length actor.old.machine.nodes) }
     requires edge { IsEdge edges.now edge × (edge.kind ≡ Kind.Acts) }
-    ensures reached { OnOk result ((t : Transducer) (p : Pair) (class : ℕ) → slice_get t.classes byte ≡ Some class → IsRight t actor.old.machine.nodes edges.now p class edge → p.node ≡ actor.old.at → Reached t edges.now actor.old actor.new p.state edge.next (byte ∷ []) out.old.items out.new.items) }
-    ensures machine { actor.new.machine ≡ actor.old.machine }
+    requires sheet { IsSheet sheet.old }
+    ensures did { OnOk result (state_with sheet.new out.new.items actor.new.holding ≡ done actor.old.machine.nodes byte (take edge.adds (drop edge.from edges.now.acts)) (state_with sheet.old out.old.items actor.old.holding)) }
+    ensures sheet { OnOk result (IsSheet sheet.new × IsAsLong sheet.old sheet.new) }
+    ensures same { (actor.new.machine ≡ actor.old.machine) × (actor.new.refused ≡ actor.old.refused) }
     ensures usable { OnOk result (IsTrue actor.new.usable) }
 {
-    let node = edges.pair_at(edge.next as usize).node;
-    actor.act(node, edges.acts_of(edge), byte, out)?;
+    let actions = edges.acts_of(edge);
+    let count = actor.act_on(actions, byte, sheet)?;
+    if count < actions.len() {
+        act_rest(edges, edge, &actions[count..], byte, actor, sheet, out)?;
+    }
     Ok(())
 }
 
-// Takes a byte at which no edge is written, or learns its edge. `None` where a plain step is to be taken.
+// Takes a byte at which no edge is written, or learns its edge.
+#[inline(always)]
 fn next(
     alloc: Global,
     table: &Table,
@@ -94,37 +133,157 @@ fn next(
     row: usize,
     byte: u8,
     actor: &mut Actor,
+    sheet: &mut Sheet,
     out: &mut Vec<u8>,
-) -> Result<Option<Place>, Memory>
+) -> Result<Stride, Memory>
     requires usable { IsTrue actor.old.usable }
     requires machine { actor.old.machine ≡ machine.now }
     requires known { IsKnown table.now machine.now edges.old }
-    requires row { (q : ℕ) × HasRowFor edges.old row q actor.old.at }
-    ensures known { IfOk result (λ o. IsKnown table.now machine.now edges.new) }
-    ensures within { IfOk result (λ o. IfSome o (λ p. p.count ≤ 1)) }
-    ensures reached { IfOk result (λ o. IfSome o (λ p. (q : ℕ) → HasRowFor edges.old row q actor.old.at → Reached table.now edges.new actor.old actor.new q p.row (take p.count (byte ∷ [])) out.old.items out.new.items)) }
-    ensures stops { IfOk result (λ o. IfNone o ((actor.new ≡ actor.old) × (out.new.items ≡ out.old.items))) }
+    requires row { (q : ℕ) × (n : ℕ) × HasRowFor edges.old row q n }
+    requires sheet { IsSheet sheet.old }
+    ensures known { IfOk result (λ s. IsKnown table.now machine.now edges.new) }
+    ensures within { IfOk result (λ s. s.count ≤ 1) }
+    ensures reached { IfOk result (λ s. ReachedOn table.now edges.old edges.new actor.old actor.new sheet.old sheet.new row s.row (take s.count (byte ∷ [])) out.old.items out.new.items) }
+    ensures sheet { OnOk result (IsSheet sheet.new × IsAsLong sheet.old sheet.new) }
     ensures machine { actor.new.machine ≡ actor.old.machine }
     ensures usable { OnOk result (IsTrue actor.new.usable) }
 {
     let edge = edges.edge_at(row, edges.class_of(byte));
     match edge.kind {
         Kind::Acts => {
-            act(edges, edge, byte, actor, out)?;
-            Ok(Some(Place {
+            act(edges, edge, byte, actor, sheet, out)?;
+            Ok(Stride {
                 count: 1,
                 row: edge.next as usize,
-            }))
+                stops: false,
+            })
         }
         Kind::Unknown => {
-            if learn_edge(alloc, table, machine, edges, row, byte)? {
-                return Ok(Some(Place { count: 0, row }));
-            }
-            edges.forget();
-            Ok(None)
+            let learnt = learn_edge(alloc, table, machine, edges, row, byte)?;
+            Ok(Stride {
+                count: 0,
+                row,
+                stops: !learnt,
+            })
         }
-        _ => Ok(None),
+        _ => Ok(Stride {
+            count: 0,
+            row,
+            stops: true,
+        }),
     }
+}
+
+// Hands on what stands on a sheet, at the node of a row. Tells the row's state.
+fn arrive(
+    edges: &Edges,
+    row: usize,
+    actor: &mut Actor,
+    sheet: &mut Sheet,
+    out: &mut Vec<u8>,
+) -> Result<u32, Memory>
+    requires usable { IsTrue actor.old.usable }
+    requires row { (p : Pair) × IsRowOf edges.now row p × (p.node < length actor.old.machine.nodes) }
+    requires sheet { IsSheet sheet.old }
+    ensures arrives { IfOk result (λ s. (p : Pair) → IsRowOf edges.now row p → (s ≡ p.state) × (actor.new ≡ with_sheet actor.old p.node sheet.old out.old.items) × (out.new.items ≡ written_with actor.old sheet.old out.old.items)) }
+    ensures none { OnOk result (IsBlank sheet.new) }
+    ensures room { IsAsLong sheet.old sheet.new }
+    ensures machine { actor.new.machine ≡ actor.old.machine }
+    ensures usable { OnOk result (IsTrue actor.new.usable) }
+{
+    let pair = edges.pair_at(row);
+    actor.hand_on(pair.node, sheet, out)?;
+    Ok(pair.state)
+}
+
+// Hands on what stands on a sheet where there is much.
+fn make_room(
+    edges: &Edges,
+    row: usize,
+    actor: &mut Actor,
+    sheet: &mut Sheet,
+    out: &mut Vec<u8>,
+) -> Result<(), Memory>
+    requires usable { IsTrue actor.old.usable }
+    requires row { (p : Pair) × IsRowOf edges.now row p × (p.node < length actor.old.machine.nodes) }
+    requires sheet { IsSheet sheet.old }
+    ensures same { OnOk result ((p : Pair) → IsRowOf edges.now row p → (with_sheet actor.new p.node sheet.new out.new.items ≡ with_sheet actor.old p.node sheet.old out.old.items) × (written_with actor.new sheet.new out.new.items ≡ written_with actor.old sheet.old out.old.items)) }
+    ensures sheet { OnOk result (IsSheet sheet.new × IsAsLong sheet.old sheet.new × (sheet.new.used ≤ MOST)) }
+    ensures machine { actor.new.machine ≡ actor.old.machine }
+    ensures usable { OnOk result (IsTrue actor.new.usable) }
+{
+    if sheet.used <= MOST {
+        return Ok(());
+    }
+    let _state = arrive(edges, row, actor, sheet, out)?;
+    Ok(())
+}
+
+// The part of a piece that is gone over at once.
+fn part_of(piece: &[u8]) -> &[u8]
+    ensures front { result.now ≡ take PART piece.now }
+    ensures few { length result.now ≤ PART }
+{
+    if piece.len() > PART {
+        &piece[..PART]
+    } else {
+        piece
+    }
+}
+
+// Goes on from a row over a part of a piece, and takes or learns one byte more.
+fn go_on(
+    alloc: Global,
+    table: &Table,
+    machine: &Trimmed,
+    edges: &mut Edges,
+    sheet: &mut Sheet,
+    row: usize,
+    actor: &mut Actor,
+    piece: &[u8],
+    out: &mut Vec<u8>,
+) -> Result<Stride, Memory>
+    requires usable { IsTrue actor.old.usable }
+    requires machine { actor.old.machine ≡ machine.now }
+    requires known { IsKnown table.now machine.now edges.old }
+    requires row { (q : ℕ) × (n : ℕ) × HasRowFor edges.old row q n }
+    requires sheet { IsSheet sheet.old }
+    requires room { length sheet.old.bytes.items ≡ ROOM }
+    ensures known { IfOk result (λ s. IsKnown table.now machine.now edges.new) }
+    ensures within { IfOk result (λ s. s.count ≤ length piece.now) }
+    ensures reached { IfOk result (λ s. ReachedOn table.now edges.old edges.new actor.old actor.new sheet.old sheet.new row s.row (take s.count piece.now) out.old.items out.new.items) }
+    ensures sheet { OnOk result (IsSheet sheet.new × IsAsLong sheet.old sheet.new) }
+    ensures machine { actor.new.machine ≡ actor.old.machine }
+    ensures usable { OnOk result (IsTrue actor.new.usable) }
+{
+    make_room(edges, row, actor, sheet, out)?;
+    let part = part_of(piece);
+    let place = along(edges, sheet, row, part);
+    let count = place.count;
+    if count == piece.len() {
+        return Ok(Stride {
+            count,
+            row: place.row,
+            stops: true,
+        });
+    }
+    let byte = piece[count];
+    let last = next(
+        alloc, table, machine, edges, place.row, byte, actor, sheet, out,
+    )?;
+    Ok(Stride {
+        count: count + last.count,
+        row: last.row,
+        stops: last.stops,
+    })
+}
+
+// How many rounds are left.
+fn rounds_left(stops: bool, rounds: usize) -> usize
+    requires { 0 < rounds }
+    ensures { result < rounds }
+{
+    if stops { 0 } else { rounds - 1 }
 }
 
 // Goes on from a row as far as edges go, and learns those that are met first.
@@ -133,7 +292,7 @@ fn run_from(
     table: &Table,
     machine: &Trimmed,
     edges: &mut Edges,
-    buffer: &mut [u8],
+    sheet: &mut Sheet,
     from: usize,
     actor: &mut Actor,
     piece: &[u8],
@@ -143,34 +302,28 @@ fn run_from(
     requires machine { actor.old.machine ≡ machine.now }
     requires known { IsKnown table.now machine.now edges.old }
     requires row { (q : ℕ) × HasRowFor edges.old from q actor.old.at }
-    requires room { length buffer.old ≡ ROOM }
+    requires room { length sheet.old.bytes.items ≡ ROOM }
+    requires none { IsBlank sheet.old }
     ensures known { IfOk result (λ ran. IsKnown table.now machine.now edges.new) }
     ensures within { IfOk result (λ ran. ran.count ≤ length piece.now) }
     ensures goes { IfOk result (λ ran. (q : ℕ) → HasRowFor edges.old from q actor.old.at → Goes table.now actor.old actor.new q ran.state (take ran.count piece.now) out.old.items out.new.items) }
+    ensures none { OnOk result (IsBlank sheet.new) }
+    ensures room { OnOk result (IsAsLong sheet.old sheet.new) }
     ensures machine { actor.new.machine ≡ actor.old.machine }
     ensures usable { OnOk result (IsTrue actor.new.usable) }
 {
     let mut row = from;
     let mut at = 0;
-    for _ in 0..piece.len() {
-        let part = &piece[at..piece.len().min(at + PART)];
-        let place = along(edges, buffer, row, actor, part, out)?;
-        at += place.count;
-        row = place.row;
-        let state = edges.pair_at(row).state;
-        if at == piece.len() {
-            return Ok(Ran { count: at, state });
-        }
-        let Some(place) = next(alloc, table, machine, edges, row, piece[at], actor, out)? else {
-            return Ok(Ran { count: at, state });
-        };
-        at += place.count;
-        row = place.row;
+    let mut left = piece.len();
+    'rounds: while left > 0 {
+        let rest = &piece[at..];
+        let gone = go_on(alloc, table, machine, edges, sheet, row, actor, rest, out)?;
+        at += gone.count;
+        row = gone.row;
+        left = rounds_left(gone.stops, left);
     }
-    Ok(Ran {
-        count: at,
-        state: edges.pair_at(row).state,
-    })
+    let state = arrive(edges, row, actor, sheet, out)?;
+    Ok(Ran { count: at, state })
 }
 
 /// Goes on from a state, as far as edges go. Nothing is taken where the actor doesn't rest, or where there is no room for
@@ -180,7 +333,7 @@ pub fn run_at(
     table: &Table,
     machine: &Trimmed,
     edges: &mut Edges,
-    buffer: &mut [u8],
+    sheet: &mut Sheet,
     state: u32,
     actor: &mut Actor,
     piece: &[u8],
@@ -189,10 +342,13 @@ pub fn run_at(
     requires usable { IsTrue actor.old.usable }
     requires machine { actor.old.machine ≡ machine.now }
     requires known { IsKnown table.now machine.now edges.old }
-    requires room { length buffer.old ≡ ROOM }
+    requires room { length sheet.old.bytes.items ≡ ROOM }
+    requires none { IsBlank sheet.old }
     ensures known { IfOk result (λ ran. IsKnown table.now machine.now edges.new) }
     ensures within { IfOk result (λ ran. ran.count ≤ length piece.now) }
     ensures goes { IfOk result (λ ran. Goes table.now actor.old actor.new state ran.state (take ran.count piece.now) out.old.items out.new.items) }
+    ensures none { OnOk result (IsBlank sheet.new) }
+    ensures room { OnOk result (IsAsLong sheet.old sheet.new) }
     ensures machine { actor.new.machine ≡ actor.old.machine }
     ensures usable { OnOk result (IsTrue actor.new.usable) }
 {
@@ -204,5 +360,5 @@ pub fn run_at(
         edges.forget();
         return Ok(Ran { count: 0, state });
     };
-    run_from(alloc, table, machine, edges, buffer, row, actor, piece, out)
+    run_from(alloc, table, machine, edges, sheet, row, actor, piece, out)
 }

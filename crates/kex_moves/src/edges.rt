@@ -5,7 +5,7 @@ ghost use Rattle.kex_machine.specs.declared.MNode.{MNode};
 ghost use Rattle.kex_action.specs.Holdings.{adding};
 ghost use Rattle.kex_action.specs.Actions.{done};
 ghost use Rattle.kex_moves.specs.Edges.{is_written};
-ghost use Rattle.kex_moves.specs.Runs.{run_of};
+ghost use Rattle.kex_moves.specs.Runs.{behind, run_of};
 ghost use Rattle.kex_moves.specs.Known.{rows_of, IsEdge, IsOrdered, IsRowOf, HasRowFor, HasPlace, Settles, Widens, Lengthens, Forgets};
 
 use crate::edge::{Edge, Kind};
@@ -289,16 +289,23 @@ impl Edges {
         self.edges[row + class as usize] = edge;
     }
 
-    /// Goes along edges from a row while they are written.
-    pub fn run(&self, row: usize, piece: &[u8], buffer: &mut [u8]) -> Spot
+    /// Goes along edges from a row while they are written, behind what is used of a buffer.
+    pub fn run(&self, row: usize, piece: &[u8], buffer: &mut [u8], used: usize) -> Spot
         requires row { (p : Pair) × IsRowOf self.now row p }
-        requires room { 17 * length piece.now + 17 ≤ length buffer.old }
+        requires room { used + 17 * length piece.now + 17 ≤ length buffer.old }
         ensures at { result.at ≤ length piece.now }
         ensures used { result.used ≤ length buffer.new }
-        ensures ran { record { written = take result.used buffer.new; row = result.row; left = drop result.at piece.now } ≡ run_of (rows_of self.now) row piece.now }
+        ensures ran { record { written = take result.used buffer.new; row = result.row; left = drop result.at piece.now } ≡ behind (take used buffer.old) (run_of (rows_of self.now) row piece.now) }
         ensures ordered { IsOrdered self.now }
     {
-        run(&self.classes, &self.edges, &self.text, piece, buffer, row)
+        run(
+            &self.classes,
+            &self.edges,
+            &self.text,
+            piece,
+            buffer,
+            Spot { at: 0, row, used },
+        )
     }
 
     /// Forgets all.

@@ -7,6 +7,7 @@ pub use crate::along::Ran;
 use crate::along::{ROOM, run_at};
 use crate::edges::Edges;
 use kex_action::actor::Actor;
+use kex_action::sheet::Sheet;
 use kex_code::memory::Memory;
 use kex_machine::Trimmed;
 use kex_sst::table::Table;
@@ -23,13 +24,14 @@ pub struct Moves<'p> {
     table: &'p Table,
     machine: &'p Trimmed,
     edges: Edges,
-    buffer: Vec<u8>,
+    sheet: Sheet,
     usable: bool,
 }
 
 impl<'p> Model for Moves<'p> {
     ghost use Rattle.std.specs.Prelude.{◌≡◌, IsTrue, length};
     ghost use Rattle.kex_moves.specs.Known.{IsKnown};
+    ghost use Rattle.kex_action.specs.Sheets.{IsBlank};
     ghost use Rattle.kex_moves.specs.Along.{Over};
     ghost use Rattle.kex_moves.specs.declared.along.TheConstants.{ROOM};
 
@@ -37,7 +39,7 @@ impl<'p> Model for Moves<'p> {
 
     ghost view = { λ m. record { table = m.table.now; machine = m.machine.now } };
 
-    ghost invariant = { λ m. (IsTrue m.usable → IsKnown m.table.now m.machine.now m.edges) × (length m.buffer.items ≡ ROOM) };
+    ghost invariant = { λ m. IsTrue m.usable → IsKnown m.table.now m.machine.now m.edges × IsBlank m.sheet × (length m.sheet.bytes.items ≡ ROOM) };
 }
 
 // The classes of all bytes.
@@ -72,14 +74,13 @@ impl<'p> Moves<'p> {
     {
         let shift = shift_of(table.partition().classes());
         let edges = Edges::new(alloc, classes_of(table), shift, table.states().len())?;
-        let mut buffer = Vec::new(alloc);
-        buffer.resize(ROOM, 0)?;
+        let sheet = Sheet::new(alloc, ROOM)?;
         Ok(Moves {
             alloc,
             table,
             machine,
             edges,
-            buffer,
+            sheet,
             usable: true,
         })
     }
@@ -110,7 +111,7 @@ impl<'p> Moves<'p> {
             self.table,
             self.machine,
             &mut self.edges,
-            &mut self.buffer,
+            &mut self.sheet,
             state,
             actor,
             piece,

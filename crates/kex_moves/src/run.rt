@@ -70,19 +70,20 @@ pub fn run(
     text: &[u8],
     piece: &[u8],
     buffer: &mut [u8],
-    from: usize,
+    from: Spot,
 ) -> Spot
     requires rows { IsWithin (record { classes = classes.now; edges = edges.now; text = text.now }) }
-    requires row { HasRow classes.now edges.now from }
-    requires room { 17 * length piece.now + 17 ≤ length buffer.old }
+    requires row { HasRow classes.now edges.now from.row }
+    requires at { from.at ≤ length piece.now }
+    requires room { from.used + 17 * (length piece.now - from.at) + 17 ≤ length buffer.old }
     ensures at { result.at ≤ length piece.now }
     ensures row { HasRow classes.now edges.now result.row }
     ensures used { result.used ≤ length buffer.new }
-    ensures ran { record { written = take result.used buffer.new; row = result.row; left = drop result.at piece.now } ≡ run_of (record { classes = classes.now; edges = edges.now; text = text.now }) from piece.now }
+    ensures ran { record { written = take result.used buffer.new; row = result.row; left = drop result.at piece.now } ≡ run_from (record { classes = classes.now; edges = edges.now; text = text.now }) piece.now (take from.used buffer.old) from.row from.at }
 {
-    let mut at = 0;
-    let mut row = from;
-    let mut used = 0;
+    let mut at = from.at;
+    let mut row = from.row;
+    let mut used = from.used;
     while at < piece.len() {
         let byte = piece[at];
         let e = edges[row + classes[byte as usize] as usize];

@@ -1,20 +1,24 @@
-use Rattle.std.proofs.Common.{◌∙◌, sym, ap, subst, take, drop}
-use Rattle.kex_action.specs.Holdings.{Does}
+use Rattle.std.proofs.Common.{◌≡◌, ◌∙◌, ◌++◌, ◌-◌, length, take, drop, sym, ap}
+use Rattle.std.proofs.lemmas.List.{take_rest, take-append-drop}
 use Rattle.kex_action.specs.Actions.{done}
-use Rattle.kex_moves.proofs.Knowing.{pair_known}
-use Rattle.kex_moves.proofs.Going.{reached_act}
+use Rattle.kex_action.specs.Sheets.{state_with}
+use Rattle.kex_action.proofs.Acting.{done-append}
+use Rattle.kex_action.proofs.Sheeting.{blank_state}
 use Rattle.kex_moves.proofs.along.act.Goals as goal
 
-pub act-requires-clause-node : goal.act-requires-clause-node
-act-requires-clause-node c =
-    let h = c.requires.known in
-    let to = c.requires.to in
-    (pair_known h.0 c.args.actor.now.machine c.args.edges.now c.args.edge.next to.0 c.pair_at-node.result h.1 to.1 (c.pair_at-node.ensures to.0 to.1)).node
-
-pub returns-clause-reached : goal.returns-clause-reached
-returns-clause-reached c = λ t p class is r node.
-    let a = c.in_ok-act.ensures {u = tt} in
-    let m = c.args.actor.now.machine in
-    let there = a.node ∙ ap (λ p. p.node) (c.pair_at-node.ensures r.to r.row) in
-    reached_act t c.args.edges.now c.args.actor.now c.act.new.self p class c.args.byte c.args.edge c.args.out.now.items c.act.new.out.items is r c.requires.edge.1 node a.machine there
-    (λ d does. a.ok d (subst (λ l. Does m.nodes c.args.actor.now.at d c.pair_at-node.result.node (done m.nodes c.args.byte l)) (sym c.acts_of.ensures) (subst (λ n. Does m.nodes c.args.actor.now.at d n (done m.nodes c.args.byte (take c.args.edge.adds (drop c.args.edge.from c.args.edges.now.acts)))) a.node does)))
+pub returns-in_ok-act_rest-clause-did : goal.returns-in_ok-act_rest-clause-did
+returns-in_ok-act_rest-clause-did c =
+    let actions = c.acts_of-actions.result.now in
+    let n = c.in_ok-count.count in
+    let rest = take (length actions - n) (drop n actions) in
+    let first = c.in_ok-count.ensures {u = tt} in
+    let then = c.in_ok-act_rest.ensures {u = tt} in
+    let nodes = c.args.actor.now.machine.nodes in
+    let out = c.args.out.now.items in
+    let z = state_with c.args.sheet.now out c.args.actor.now.holding in
+    blank_state c.act_rest.new.sheet c.act_rest.new.out.items c.act_rest.new.actor.holding then.none
+    ∙ then.did
+    ∙ ap (λ g. done g.nodes c.args.byte rest (state_with c.act_on.new.sheet out c.act_on.new.self.holding)) first.same.0
+    ∙ ap (done nodes c.args.byte rest) (first.did out)
+    ∙ sym (done-append nodes c.args.byte (take n actions) rest z)
+    ∙ ap (λ l. done nodes c.args.byte l z) (ap (λ l. take n actions ++ l) (take_rest actions n) ∙ take-append-drop n actions ∙ c.acts_of-actions.ensures)

@@ -1,29 +1,35 @@
-use Rattle.std.proofs.Common.{◌∙◌, take, drop, ap, subst, arith}
-use Rattle.kex_action.specs.Holdings.{Does, adding}
-use Rattle.kex_moves.specs.Runs.{Stop}
-use Rattle.kex_moves.proofs.Knowing.{pair_known}
-use Rattle.kex_moves.proofs.Going.{to_stop, reached_along}
+use Rattle.std.proofs.Common.{◌≡◌, ◌∙◌, ◌≤◌, List, ℕ, length, take, drop, reverse, ap, refl, sym, subst, arith}
+use Rattle.std.specs.Vec.{with_items}
+use Rattle.std.proofs.lemmas.List.{with_items_is}
+use Rattle.kex_action.specs.declared.sheet.Sheet.{Sheet}
+use Rattle.kex_action.proofs.Sheeting.{marks_more}
+use Rattle.kex_moves.specs.Runs.{Stop, behind, run_of}
+use Rattle.kex_moves.specs.Known.{rows_of}
+use Rattle.kex_moves.proofs.Carrying.{reached_run, longer, stop_at}
 use Rattle.kex_moves.proofs.along.along.Goals as goal
 
-pub pair_at-node-requires : goal.pair_at-node-requires
-pair_at-node-requires c =
-    let h = c.requires.known in
-    let r = c.requires.row.1 in
-    let ran = to_stop h.0 c.args.actor.now.machine c.args.edges.now c.args.row r.0 c.args.piece.now _ h.1 r.1 (λ i. omega (arith, c.type_inv.piece i)) c.run-spot.ensures.ran in
-    (ran.to, ran.row)
-
-pub advance-requires-clause-node : goal.advance-requires-clause-node
-advance-requires-clause-node c =
-    let h = c.requires.known in
-    let r = c.requires.row.1 in
-    let ran = to_stop h.0 c.args.actor.now.machine c.args.edges.now c.args.row r.0 c.args.piece.now _ h.1 r.1 (λ i. omega (arith, c.type_inv.piece i)) c.run-spot.ensures.ran in
-    (pair_known h.0 c.args.actor.now.machine c.args.edges.now c.run-spot.result.row ran.to c.pair_at-node.result h.1 ran.row (c.pair_at-node.ensures ran.to ran.row)).node
+pub returns-clause-sheet : goal.returns-clause-sheet
+returns-clause-sheet c =
+    let old = c.args.sheet.now in
+    let buffer = c.run-spot.new.buffer in
+    let spot = c.run-spot.result in
+    let stop = run_of (rows_of c.args.edges.now) c.args.row c.args.piece.now in
+    let same = with_items_is old.bytes buffer (omega (arith, c.run-spot.auto.buffer, ap length c.deref_mut.ensures.value, old.bytes.ok.0)) in
+    let ran = ap (λ (z : Stop). z.written) c.run-spot.ensures.ran ∙ ap (λ b. (behind (take old.used b) stop).written) c.deref_mut.ensures.value in
+    let more = longer old.used spot.used old.bytes.items buffer stop.written c.requires.sheet.used c.run-spot.ensures.used ran in (
+      record {
+        used = subst (λ b. spot.used ≤ length b) (sym same) c.run-spot.ensures.used;
+        marks = marks_more old.used spot.used (reverse old.marks.items) more c.requires.sheet.marks;
+      },
+      ap length same ∙ c.run-spot.auto.buffer ∙ ap length c.deref_mut.ensures.value,
+    )
 
 pub returns-clause-reached : goal.returns-clause-reached
-returns-clause-reached c = λ t q h r.
+returns-clause-reached c = λ t a out known.
+    let old = c.args.sheet.now in
+    let buffer = c.run-spot.new.buffer in
     let spot = c.run-spot.result in
-    let stop : Stop = record { written = take spot.used c.run-spot.new.buffer; row = spot.row; left = drop spot.at c.args.piece.now } in
-    let ran = to_stop t c.args.actor.now.machine c.args.edges.now c.args.row r.0 c.args.piece.now stop h r.1 (λ i. omega (arith, c.type_inv.piece i)) c.run-spot.ensures.ran in
-    let a = c.in_ok-advance.ensures {u = tt} in
-    let there = a.node ∙ ap (λ p. p.node) (c.pair_at-node.ensures ran.to ran.row) in
-    reached_along t c.args.edges.now c.args.actor.now c.advance.new.self q spot.at spot.row r.0 c.args.piece.now stop.written c.args.out.now.items c.advance.new.out.items ran r.2 r.3 a.machine there (λ d does. a.ok d (subst (λ n. Does c.args.actor.now.machine.nodes c.args.actor.now.at d n (adding stop.written)) a.node does))
+    let new : Sheet = record { bytes = with_items old.bytes buffer; used = spot.used; marks = old.marks } in
+    let stop = run_of (rows_of c.args.edges.now) c.args.row c.args.piece.now in
+    let same = with_items_is old.bytes buffer (omega (arith, c.run-spot.auto.buffer, ap length c.deref_mut.ensures.value, old.bytes.ok.0)) in
+    reached_run t c.args.edges.now a old new c.args.row spot.row spot.at c.args.piece.now out known (λ i. omega (arith, c.type_inv.piece i)) c.requires.sheet refl (ap (λ b. stop_at (take spot.used b) spot.row (drop spot.at c.args.piece.now)) same ∙ c.run-spot.ensures.ran ∙ ap (λ b. behind (take old.used b) stop) c.deref_mut.ensures.value)

@@ -7,7 +7,7 @@ invariant-loop-at l = record {
   at : l.at ≤ length l.piece;
   row : HasRow l.classes l.edges l.row;
   room : l.used + 17 * (length l.piece - l.at) + 17 ≤ length l.buffer;
-  ran : behind (take l.used l.buffer) (run_of (record { classes = l.classes; edges = l.edges; text = l.text }) l.row (drop l.at l.piece)) ≡ run_of (record { classes = l.classes; edges = l.edges; text = l.text }) l.from l.piece;
+  ran : behind (take l.used l.buffer) (run_of (record { classes = l.classes; edges = l.edges; text = l.text }) l.row (drop l.at l.piece)) ≡ behind (take l.fn.from.used l.fn.buffer) (run_of (record { classes = l.classes; edges = l.edges; text = l.text }) l.fn.from.row (drop l.fn.from.at l.piece));
 }
 
 abbrev pub decreases-loop-at : goal.decreases-loop-at

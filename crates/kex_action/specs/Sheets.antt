@@ -1,0 +1,53 @@
+-- What stands on a sheet, and what it makes of a state.
+use Rattle.std.specs.Prelude.{◌≡◌, ℕ, ◌≤◌, List, [], ◌∷◌, ◌++◌, take, drop, length, reverse}
+use Rattle.kex_model.specs.Acting.{State}
+use Rattle.kex_action.specs.declared.sheet.Sheet.{Sheet}
+use Rattle.kex_action.specs.Holdings.{Holding, adding, state_of}
+
+-- with one more open buffer
+abbrev pub topped : List ℕ → State → State
+topped b s = record { out = s.out; buffers = b ∷ s.buffers; registers = s.registers }
+
+-- bytes with marks among them, the last one first: from each mark on they stand in a buffer that is opened there
+abbrev pub laid : List ℕ → List ℕ → State → State
+laid bytes [] s = adding bytes s
+laid bytes (m ∷ ms) s = topped (drop m bytes) (laid (take m bytes) ms s)
+
+-- marks among so many bytes, the last one first
+abbrev pub AreMarks : ℕ → List ℕ → Type 0
+AreMarks used [] = Unit {0}
+AreMarks used (m ∷ ms) = (m ≤ used) × AreMarks m ms
+
+-- what is used lies within, and the marks in what is used, in their order
+pub record IsSheet (s : Sheet) : Type 0 where
+  pub used : s.used ≤ length s.bytes.items
+  pub marks : AreMarks s.used (reverse s.marks.items)
+
+-- what was written and is held, once the sheet is handed on
+abbrev pub state_with : Sheet → List ℕ → Holding → State
+state_with s out h = laid (take s.used s.bytes.items) (reverse s.marks.items) (state_of out h)
+
+-- bytes are written behind those that are used
+pub record Writes (old new : Sheet) (bytes : List ℕ) : Type 0 where
+  pub used : take new.used new.bytes.items ≡ take old.used old.bytes.items ++ bytes
+  pub marks : new.marks.items ≡ old.marks.items
+
+-- the last mark is taken away, and what stands from there on doesn't count
+pub record Closes (old new : Sheet) : Type 0 where
+  pub marks : old.marks.items ≡ new.marks.items ++ new.used ∷ []
+  pub kept : new.bytes.items ≡ old.bytes.items
+  pub within : new.used ≤ old.used
+
+-- as long a sheet
+abbrev pub IsAsLong : Sheet → Sheet → Type 0
+IsAsLong old new = length new.bytes.items ≡ length old.bytes.items
+
+-- nothing stands on it
+abbrev pub IsBlank : Sheet → Type 0
+IsBlank s = (s.used ≡ 0) × (s.marks.items ≡ [])
+
+-- what counts stays
+pub record IsSame (old new : Sheet) : Type 0 where
+  pub used : new.used ≡ old.used
+  pub bytes : new.bytes.items ≡ old.bytes.items
+  pub marks : new.marks.items ≡ old.marks.items
