@@ -65,6 +65,6 @@ fn machines_and_refusals(rt: HostRuntime) {
             Ok(made) => Ok(made.places),
             Err(refusal) => Err(refusal),
         };
-        assert_eq!(rt; places, want);
+        assert_eq!(rt; places, want, "node {root}, {max_places} places");
     }
 }
