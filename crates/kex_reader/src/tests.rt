@@ -32,60 +32,60 @@ fn repeated(
 #[test]
 fn texts_and_their_refusals(rt: HostRuntime) {
     let alloc = rt.alloc();
-    let rows: [(&[u8], Option<ReadRefusal>); 28] = [
-        (b"", None),
-        (b"main := 1", None),
+    let rows: [(&str, Option<ReadRefusal>); 28] = [
+        ("", None),
+        ("main := 1", None),
         (
-            b"start: a >> b\na := (~x@\"k\" \"yy\")*\nb := ([r <- \"a\" x] | !r [r += r]){2,3} a // end",
+            "start: a >> b\na := (~x@\"k\" \"yy\")*\nb := ([r <- \"a\" x] | !r [r += r]){2,3} a // end",
             None,
         ),
-        (b"start := /[a-z]+(b|c)?/ start | 1", None),
-        (b"main := \"a", Some(ReadRefusal::BadToken { at: 8 })),
-        (b"main := /a", Some(ReadRefusal::BadToken { at: 8 })),
-        (b"main := \"\\q\"", Some(ReadRefusal::BadToken { at: 8 })),
-        (b"main := | 1", Some(ReadRefusal::Unexpected { at: 8 })),
-        (b"main :=", Some(ReadRefusal::Unexpected { at: 7 })),
-        (b"main := 2", Some(ReadRefusal::Unexpected { at: 8 })),
-        (b"main := /a/**", Some(ReadRefusal::Unexpected { at: 12 })),
-        (b"main := (1", Some(ReadRefusal::Unexpected { at: 10 })),
-        (b"main := ~ := 1", Some(ReadRefusal::Unexpected { at: 10 })),
-        (b"other: a", Some(ReadRefusal::Unexpected { at: 5 })),
-        (b"main := [r <- ]", Some(ReadRefusal::Unexpected { at: 14 })),
-        (b"main := 1{,}", Some(ReadRefusal::Unexpected { at: 11 })),
-        (b"main := /a(/", Some(ReadRefusal::BadRegex { at: 11 })),
-        (b"main := /a**/", Some(ReadRefusal::BadRegex { at: 11 })),
-        (b"main := /^a/", Some(ReadRefusal::BadRegex { at: 9 })),
-        (b"main := /a{1001}/", Some(ReadRefusal::BadCount { at: 10 })),
+        ("start := /[a-z]+(b|c)?/ start | 1", None),
+        ("main := \"a", Some(ReadRefusal::BadToken { at: 8 })),
+        ("main := /a", Some(ReadRefusal::BadToken { at: 8 })),
+        ("main := \"\\q\"", Some(ReadRefusal::BadToken { at: 8 })),
+        ("main := | 1", Some(ReadRefusal::Unexpected { at: 8 })),
+        ("main :=", Some(ReadRefusal::Unexpected { at: 7 })),
+        ("main := 2", Some(ReadRefusal::Unexpected { at: 8 })),
+        ("main := /a/**", Some(ReadRefusal::Unexpected { at: 12 })),
+        ("main := (1", Some(ReadRefusal::Unexpected { at: 10 })),
+        ("main := ~ := 1", Some(ReadRefusal::Unexpected { at: 10 })),
+        ("other: a", Some(ReadRefusal::Unexpected { at: 5 })),
+        ("main := [r <- ]", Some(ReadRefusal::Unexpected { at: 14 })),
+        ("main := 1{,}", Some(ReadRefusal::Unexpected { at: 11 })),
+        ("main := /a(/", Some(ReadRefusal::BadRegex { at: 11 })),
+        ("main := /a**/", Some(ReadRefusal::BadRegex { at: 11 })),
+        ("main := /^a/", Some(ReadRefusal::BadRegex { at: 9 })),
+        ("main := /a{1001}/", Some(ReadRefusal::BadCount { at: 10 })),
         (
-            b"main := foo /a{3,2}/",
+            "main := foo /a{3,2}/",
             Some(ReadRefusal::BadCount { at: 14 }),
         ),
         (
-            b"main := 1{1001} /[z-a]/ \"b\"{00007,7}",
+            "main := 1{1001} /[z-a]/ \"b\"{00007,7}",
             Some(ReadRefusal::BadCount { at: 9 }),
         ),
-        (b"main := /[z-a]/", Some(ReadRefusal::BadSet { at: 9 })),
+        ("main := /[z-a]/", Some(ReadRefusal::BadSet { at: 9 })),
         (
-            b"main := /[^\\x00-\\xff]/",
+            "main := /[^\\x00-\\xff]/",
             Some(ReadRefusal::BadSet { at: 9 }),
         ),
         (
-            b"main := /[z-a]/ /a{3,2}/ /^/",
+            "main := /[z-a]/ /a{3,2}/ /^/",
             Some(ReadRefusal::BadRegex { at: 26 }),
         ),
         (
-            b"main := /[z-a]/ /a{3,2}/",
+            "main := /[z-a]/ /a{3,2}/",
             Some(ReadRefusal::BadCount { at: 18 }),
         ),
-        (b"main := 1 main := 1", None),
+        ("main := 1 main := 1", None),
         (
-            b"main := \"x\"{4,3} \"y\"{1001",
+            "main := \"x\"{4,3} \"y\"{1001",
             Some(ReadRefusal::Unexpected { at: 25 }),
         ),
     ];
     for (text, expected) in rows {
-        let answer = refusal(alloc, text);
-        assert!(rt; answer == expected);
+        let answer = refusal(alloc, text.as_bytes());
+        assert!(rt; answer == expected, "{text}");
     }
 }
 
