@@ -81,7 +81,7 @@ impl Guess {
 }
 
 // What an update gives each new register, as far as that is known and not too long.
-fn given_by(
+pub(crate) fn given_by(
     alloc: Global,
     update: &Update,
     from: &[Option<Choices>],
@@ -109,7 +109,7 @@ fn differs(constant: &Option<Choices>, given: Option<&Option<Choices>>) -> bool 
 }
 
 // Registers that are given something else lose their constants. Whether one did.
-fn narrow(known: &mut [Option<Choices>], given: &[Option<Choices>]) -> bool {
+pub(crate) fn narrow(known: &mut [Option<Choices>], given: &[Option<Choices>]) -> bool {
     let mut less = false;
     for register in 0..known.len() {
         if differs(&known[register], given.get(register)) {

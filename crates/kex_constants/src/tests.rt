@@ -4,6 +4,8 @@ ghost use Rattle.std.specs.Prelude.{◌≡◌, [], ◌∷◌, IfOk, Some, map};
 ghost use Rattle.kex_byteset.specs.Classes.{class_count, IsNumbered};
 ghost use Rattle.kex_constants.specs.Worked.{before_line, in_first, in_second, fields};
 
+use crate::choices::Choices;
+use crate::guess::{given_by, narrow};
 use crate::{LONGEST, clear_table};
 use kex_byteset::{ByteSet, Partition};
 use kex_code::memory::Memory;
@@ -115,6 +117,40 @@ fn registers_go_where_all_constants_are_short_enough(rt: HostRuntime) -> Result<
         }
         let way = states[0].accepting().ok_or("no way to the end")?;
         assert!(rt; way.as_slice() == [*last].as_slice());
+    }
+    Ok(())
+}
+
+// What registers are given by parts, one for each.
+fn given(alloc: Global, parts: &[Part]) -> Result<Vec<Option<Choices>>, Memory> {
+    let update = update(alloc, &[], parts)?;
+    given_by(alloc, &update, &[], LONGEST)
+}
+
+#[test]
+fn a_register_that_is_given_two_values_is_no_constant(rt: HostRuntime) -> Result<(), Fail> {
+    let mut known = given(rt.alloc(), &[LEFT, RIGHT, Part::Input])?;
+    assert!(rt; matches!(known.as_slice(), [Some(_), Some(_), None]));
+    let same = given(rt.alloc(), &[LEFT, RIGHT, RIGHT])?;
+    assert!(rt; !narrow(&mut known, &same));
+    assert!(rt; matches!(known.as_slice(), [Some(_), Some(_), None]));
+    let other = given(rt.alloc(), &[LEFT, LEFT, LEFT])?;
+    assert!(rt; narrow(&mut known, &other));
+    assert!(rt; matches!(known.as_slice(), [Some(_), None, None]));
+    Ok(())
+}
+
+#[test]
+fn a_constant_has_at_most_so_many_choices(rt: HostRuntime) -> Result<(), Fail> {
+    for (count, longest, is_known) in [(16, LONGEST, true), (17, LONGEST, false), (17, 17, true)] {
+        let mut choices = Parts::new(rt.alloc());
+        for _ in 0..count {
+            choices.push(LEFT)?;
+        }
+        let regs = vec![in rt.alloc(); choices]?;
+        let update = Update::new(Parts::new(rt.alloc()), regs);
+        let given = given_by(rt.alloc(), &update, &[], longest)?;
+        assert_eq!(rt; matches!(given.first(), Some(Some(_))), is_known);
     }
     Ok(())
 }
