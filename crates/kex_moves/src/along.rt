@@ -91,7 +91,7 @@ fn act_rest(
     ensures same { (actor.new.machine ≡ actor.old.machine) × (actor.new.refused ≡ actor.old.refused) }
     ensures usable { OnOk result (IsTrue actor.new.usable) }
 {
-    let node = edges.pair_at(edge.next as usize).node;
+    let node = edges.pair_at(edge.next).node;
     actor.hand_on(node, sheet, out)?;
     actor.act(node, rest, byte, out)
 }
@@ -154,7 +154,7 @@ fn next(
             act(edges, edge, byte, actor, sheet, out)?;
             Ok(Stride {
                 count: 1,
-                row: edge.next as usize,
+                row: edge.next,
                 stops: false,
             })
         }

@@ -22,7 +22,7 @@ pub enum Kind {
 /// done, from number `from` on.
 #[derive(Clone, Copy, Debug, PartialEq, Eq)]
 pub struct Edge {
-    pub next: u32,
+    pub next: usize,
     pub from: u32,
     pub byte_at: u8,
     pub adds: u8,

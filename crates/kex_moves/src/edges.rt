@@ -226,7 +226,7 @@ impl Edges {
     }
 
     /// An edge to `next` that writes a text in which the byte read has a place, 16 where it has none.
-    pub fn text_edge(&mut self, next: u32, bytes: &[u8], place: usize) -> Result<Edge, Memory>
+    pub fn text_edge(&mut self, next: usize, bytes: &[u8], place: usize) -> Result<Edge, Memory>
         requires { HasPlace bytes.now place }
         ensures ordered { IfOk result (λ e. IsOrdered self.new) }
         ensures longer { IfOk result (λ e. Lengthens self.old self.new) }
@@ -259,7 +259,7 @@ impl Edges {
     }
 
     /// An edge to `next` at which the actions are done.
-    pub fn acts_edge(&mut self, next: u32, actions: &[Action]) -> Result<Edge, Memory>
+    pub fn acts_edge(&mut self, next: usize, actions: &[Action]) -> Result<Edge, Memory>
         ensures ordered { IfOk result (λ e. IsOrdered self.new) }
         ensures longer { IfOk result (λ e. Lengthens self.old self.new) }
         ensures settles { IfOk result (λ e. (nodes : List MNode) → Settles nodes self.new next (λ b. done nodes b actions.now) e) }

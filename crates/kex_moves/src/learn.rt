@@ -38,10 +38,7 @@ fn lead(
     let Some(row) = edges.row_of(state, learnt.to)? else {
         return Ok(None);
     };
-    let Ok(next) = u32::try_from(row) else {
-        return Ok(None);
-    };
-    let edge = settle(alloc, machine, edges, &learnt.actions, next)?;
+    let edge = settle(alloc, machine, edges, &learnt.actions, row)?;
     Ok(Some(edge))
 }
 

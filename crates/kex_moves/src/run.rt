@@ -33,7 +33,7 @@ fn keep(classes: &[u8; 256], edges: &[Edge], piece: &[u8], buffer: &mut [u8], fr
     while at < piece.len() {
         let byte = piece[at];
         let e = edges[row + classes[byte as usize] as usize];
-        if !e.kind.is_keep() || e.next as usize != row {
+        if !e.kind.is_keep() || e.next != row {
             break;
         }
         buffer[used] = byte;
@@ -55,7 +55,7 @@ fn skip(classes: &[u8; 256], edges: &[Edge], piece: &[u8], row: usize, from: usi
     let mut at = from;
     while at < piece.len() {
         let e = edges[row + classes[piece[at] as usize] as usize];
-        if !e.kind.is_drop() || e.next as usize != row {
+        if !e.kind.is_drop() || e.next != row {
             break;
         }
         at += 1;
@@ -93,8 +93,8 @@ pub fn run(
         put(buffer, used, byte, text, e);
         used += e.adds as usize;
         at += 1;
-        if e.next as usize != row {
-            row = e.next as usize;
+        if e.next != row {
+            row = e.next;
         } else if e.kind.is_keep() {
             let spot = keep(classes, edges, piece, buffer, Spot { at, row, used });
             at = spot.at;

@@ -201,7 +201,7 @@ pub fn settle(
     machine: &Trimmed,
     edges: &mut Edges,
     actions: &[Action],
-    next: u32,
+    next: usize,
 ) -> Result<Edge, Memory>
     ensures ordered { IfOk result (λ e. IsOrdered edges.new) }
     ensures longer { IfOk result (λ e. Lengthens edges.old edges.new) }

@@ -1,4 +1,4 @@
-use Rattle.std.proofs.Common.{◌≡◌, IfSome, subst, arith}
+use Rattle.std.proofs.Common.{IfSome, subst}
 use Rattle.kex_action.specs.Actions.{done}
 use Rattle.kex_moves.specs.Known.{HasRowFor, Settles}
 use Rattle.kex_moves.proofs.Knowing.{known_wider, known_longer, grows_wider, grows_longer, led}
@@ -11,14 +11,6 @@ returns-in_default-clause-known c =
 
 pub returns-in_default-clause-grows : goal.returns-in_default-clause-grows
 returns-in_default-clause-grows c = grows_wider c.args.edges.now c.row_of.new.self c.args.state c.args.learnt.now.to (c.in_ok-row.ensures {u = tt}).wider
-
-pub returns-in_default-try_from-clause-known : goal.returns-in_default-try_from-clause-known
-returns-in_default-try_from-clause-known c =
-    let w = c.in_ok-row.ensures {u = tt} in
-    known_wider c.args.table.now c.args.machine.now c.args.edges.now c.row_of.new.self c.args.state c.args.learnt.now.to c.requires.known w.wider w.ordered c.requires.state c.requires.node c.requires.rests
-
-pub returns-in_default-try_from-clause-grows : goal.returns-in_default-try_from-clause-grows
-returns-in_default-try_from-clause-grows c = grows_wider c.args.edges.now c.row_of.new.self c.args.state c.args.learnt.now.to (c.in_ok-row.ensures {u = tt}).wider
 
 pub returns-clause-known : goal.returns-clause-known
 returns-clause-known c =
@@ -36,5 +28,4 @@ returns-clause-led c =
     let new = c.settle.new.edges in
     let l = c.in_ok-edge.ensures {u = tt} in
     let row = subst (λ o. IfSome o (λ row. HasRowFor mid row c.args.state c.args.learnt.now.to)) c.in-Some.is (c.in_ok-row.ensures {u = tt}).row in
-    let same : c.in-Some.row ≡ c.in-Ok.next = omega (arith, c.in-Ok.ensures) in
-    led c.args.machine.now.nodes mid new c.args.state c.args.learnt.now.to c.in-Ok.next c.args.learnt.now.actions.items c.in_ok-edge.edge l.ordered (subst (λ r. HasRowFor mid r c.args.state c.args.learnt.now.to) same row) l.longer (subst (λ actions. Settles c.args.machine.now.nodes new c.in-Ok.next (λ b. done c.args.machine.now.nodes b actions) c.in_ok-edge.edge) c.deref.ensures.value l.settles)
+    led c.args.machine.now.nodes mid new c.args.state c.args.learnt.now.to c.in-Some.row c.args.learnt.now.actions.items c.in_ok-edge.edge l.ordered row l.longer (subst (λ actions. Settles c.args.machine.now.nodes new c.in-Some.row (λ b. done c.args.machine.now.nodes b actions) c.in_ok-edge.edge) c.deref.ensures.value l.settles)
