@@ -111,12 +111,12 @@ fn registers_go_where_all_constants_are_short_enough(rt: HostRuntime) -> Result<
     for (longest, registers, last) in &cases {
         let cleared = clear_table(rt.alloc(), &table, *longest)?;
         let states = cleared.states();
-        assert_eq!(rt; states.len(), 3);
+        assert_eq!(rt; states.len(), 3, "longest {longest}");
         for i in 0..3 {
-            assert_eq!(rt; states[i].registers(), registers[i]);
+            assert_eq!(rt; states[i].registers(), registers[i], "longest {longest}");
         }
         let way = states[0].accepting().ok_or("no way to the end")?;
-        assert!(rt; way.as_slice() == [*last].as_slice());
+        assert!(rt; way.as_slice() == [*last].as_slice(), "longest {longest}");
     }
     Ok(())
 }
