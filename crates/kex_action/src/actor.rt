@@ -3,7 +3,7 @@
 ghost use Rattle.std.specs.Prelude.{◌≡◌, ◌<◌, ◌≤◌, ◌↔◌, [], List, ℕ, IfOk, IsOk, OnOk, IfErr, OnErr, IsTrue, if◌then◌else◌, length, take};
 ghost use Rattle.kex_code.specs.Registers.{held};
 ghost use Rattle.kex_code.specs.declared.symbol.Symbol.{Symbol};
-ghost use Rattle.kex_action.specs.Holdings.{adding, Does, state_of};
+ghost use Rattle.kex_action.specs.Holdings.{Does, state_of};
 ghost use Rattle.kex_action.specs.Actions.{done};
 ghost use Rattle.kex_action.specs.Actors.{HasPerformed, TookAll, WentOn, IsWhole};
 ghost use Rattle.kex_action.specs.Faults.{After};
@@ -100,24 +100,6 @@ impl<'m> Actor<'m> {
         ensures within { IsTrue self.now.usable → result < length self.now.machine.nodes }
     {
         self.at
-    }
-
-    /// Goes to a node, and appends bytes to what it writes to: the innermost open buffer, or `out` where none is open.
-    /// Every code whose steps do just that from where it stands is performed then.
-    pub fn advance(&mut self, node: u32, bytes: &[u8], out: &mut Vec<u8>) -> Result<(), Memory>
-        requires usable { IsTrue self.old.usable }
-        requires node { node < length self.old.machine.nodes }
-        ensures ok { OnOk result ((c : List Symbol) → Does self.old.machine.nodes self.old.at c node (adding bytes.now) → WentOn self.old self.new c c out.old.items out.new.items) }
-        ensures node { OnOk result (self.new.at ≡ node) }
-        ensures err { OnErr result (out.new.items ≡ out.old.items) }
-        ensures machine { self.new.machine ≡ self.old.machine }
-        ensures usable { IsTrue self.new.usable ↔ IsOk result }
-    {
-        self.usable = false;
-        self.store.write(bytes, out)?;
-        self.at = node;
-        self.usable = true;
-        Ok(())
     }
 
     /// Goes to a node, and does what the actions say, where this byte is read. Every code whose steps do just that from

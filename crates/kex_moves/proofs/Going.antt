@@ -218,15 +218,6 @@ reached_act t k old new p class b e xs ys is r acts node machine there went = re
     from : (x : List Symbol) → Takes old.machine.nodes old.at (code ++ x) → Takes old.machine.nodes p.node (code ++ x)
     from x takes = subst (λ n. Takes old.machine.nodes n (code ++ x)) (sym node) takes
 
-pub reached_more : (t : Transducer) (k k' : Known) (old mid new : Position) (q row row' : ℕ) (us vs xs ys zs : List ℕ) → Reached t k old mid q row us xs ys → ((r : ℕ) → HasRowFor k row r mid.at → Reached t k' mid new r row' vs ys zs) → Reached t k' old new q row' (us ++ vs) xs zs
-reached_more t k k' old mid new q row row' us vs xs ys zs p f =
-    let n = f p.state p.row_for in
-    record { state = n.state; row_for = n.row_for; goes = goes_more t old mid new q p.state n.state us vs xs ys zs p.goes n.goes }
-
--- to the state of the row's pair
-pub goes_to_pair : (t : Transducer) (k : Known) (old new : Position) (q row : ℕ) (p : Pair) (bs xs ys : List ℕ) → (r : Reached t k old new q row bs xs ys) → p ≡ r.row_for.0 → Goes t old new q p.state bs xs ys
-goes_to_pair t k old new q row p bs xs ys r e = subst (λ s. Goes t old new q s bs xs ys) (sym (ap (λ (x : Pair). x.state) e ∙ r.row_for.2)) r.goes
-
 -- a part of the piece more
 pub part_more : (piece part : List ℕ) (at n count : ℕ) → part ≡ take n (drop at piece) → count ≤ length part → take at piece ++ take count part ≡ take (at + count) piece
 part_more piece part at n count e le =
@@ -243,7 +234,3 @@ byte_more piece at zero lt le = append-nil (take at piece) ∙ ap (λ n. take n 
     at_zero = omega arith
 byte_more piece at (suc zero) lt le = sym (take_more piece at 0 lt)
 byte_more piece at (suc (suc n)) lt le = absurd (omega arith)
-
-pub came : (t : Transducer) (g : Graph) (k : Known) (old mid new : Position) (q row row' : ℕ) (piece part : List ℕ) (at n count : ℕ) (xs ys zs : List ℕ) → IsKnown t g k → mid.machine ≡ g → Reached t k old mid q row (take at piece) xs ys → part ≡ take n (drop at piece) → count ≤ length part → ((t : Transducer) (r : ℕ) → IsKnown t mid.machine k → HasRowFor k row r mid.at → Reached t k mid new r row' (take count part) ys zs) → Reached t k old new q row' (take (at + count) piece) xs zs
-came t g k old mid new q row row' piece part at n count xs ys zs h m p e le f =
-    subst (λ l. Reached t k old new q row' l xs zs) (part_more piece part at n count e le) (reached_more t k k old mid new q row row' (take at piece) (take count part) xs ys zs p (λ r row_for. f t r (subst (λ m. IsKnown t m k) (sym m) h) row_for))
