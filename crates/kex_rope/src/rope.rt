@@ -1,6 +1,7 @@
 // Ropes.
 
 ghost use Rattle.std.specs.Prelude.{◌≡◌, ◌+◌, ◌^◌, ◌<◌, ◌≤◌, [], ◌∷◌, ◌++◌, ◌↔◌, IsTrue, length, max, OnOk, OnErr, IfOk};
+ghost use Rattle.kex_code.specs.Codes.{Begins};
 ghost use Rattle.kex_rope.specs.Blocks.{joined, AreFilled, AreBlocks};
 
 use kex_code::code::Code;
@@ -175,9 +176,10 @@ impl Rope {
         Ok(())
     }
 
-    /// Copies its symbols to the end of a code.
+    /// Copies its symbols to the end of a code. Where memory is wanted, the code may have a front of them.
     pub fn copy_into(&self, code: &mut Code) -> Result<(), Memory>
-        ensures { OnOk result (code.new ≡ code.old ++ self.now) }
+        ensures copied { OnOk result (code.new ≡ code.old ++ self.now) }
+        ensures front { OnErr result (Begins code.new code.old) }
     {
         for block in &self.blocks {
             code.append(block)?;

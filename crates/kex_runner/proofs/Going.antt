@@ -1,7 +1,7 @@
 -- A table that goes on byte by byte.
 use Rattle.std.proofs.Common.{◌≡◌, ℕ, zero, suc, ◌+◌, ◌<◌, ◌≤◌, List, [], ◌∷◌, ◌++◌, Some, None, length, get_or, map, take, drop, refl, sym, ap, ap₂, subst, ◌∙◌, append_assoc, append-nil, arith}
 use Rattle.std.specs.Prelude.{slice_get}
-use Rattle.std.proofs.lemmas.List.{drop_more, length-map, take_more}
+use Rattle.std.proofs.lemmas.List.{drop_more, length-map, length-take-le, take-take, take_more}
 use Rattle.kex_byteset.specs.Classes.{class_at}
 use Rattle.kex_code.specs.declared.symbol.Symbol.{Symbol}
 use Rattle.kex_sst.specs.declared.parts.Part.{Part}
@@ -11,7 +11,7 @@ use Rattle.kex_sst.specs.Tables.{Row, Transducer, IsTable, IsWayIf, transition_o
 use Rattle.kex_sst.specs.Passes.{Pass, next_of, stepped, begun, passes_if, ending, ended_by, way_of}
 use Rattle.kex_sst.proofs.Passing.{passes_more, leads_to, by_class}
 use Rattle.kex_runner.specs.Items.{items_from, items_along}
-use Rattle.kex_runner.specs.Following.{IsPlace, pass_at}
+use Rattle.kex_runner.specs.Following.{Follows, IsPlace, pass_at}
 
 -- from one place the table has gone on along the first bytes to another
 pub record Goes (t : Transducer) (state : ℕ) (registers : List (List Symbol)) (piece : List ℕ) (i state' : ℕ) (registers' : List (List Symbol)) (before after : List Symbol) : Type 0 where
@@ -109,3 +109,16 @@ ending_some t state s way at some p e = ap (λ z. ended_by (way_of (slice_get t.
 -- the place before the first byte
 pub place_begun : (t : Transducer) → IsTable t → IsPlace t 0 (begun t.initial).registers
 place_begun t table = let h = table.begins in record { row = h.row; at = h.at; count = length-map t.initial.regs (λ x. meant [] 0 x) ∙ h.update.count }
+
+-- what was gone along is a front of a piece, and behind it nothing or a byte at which the table stops
+pub follows_front : (t : Transducer) (state : ℕ) (registers : List (List Symbol)) (piece : List ℕ) (good taken state' : ℕ) (registers' : List (List Symbol)) (before after : List Symbol) → taken ≤ length piece → good ≤ taken → (good < taken → (taken ≡ good + 1) × ((c : List Symbol) → passes_if t (Some (pass_at state c registers)) (take (good + 1) piece) ≡ None)) → Goes t state registers piece good state' registers' before after → Follows t state registers (take taken piece) good state' registers' before after
+follows_front t state registers piece good taken state' registers' before after le ge stop h = record {
+  within = omega (arith, length-take-le taken piece le);
+  more = h.more;
+  code = h.code;
+  goes = λ c. ap (λ z. passes_if t (Some (pass_at state c registers)) z) (take-take good taken piece ge) ∙ h.goes c;
+  stops = λ c lt.
+      let s = stop (omega (arith, length-take-le taken piece le, lt)) in
+      let here : good + 1 ≤ taken = omega (arith, s.0) in
+      ap (λ z. passes_if t (Some (pass_at state c registers)) z) (take-take (good + 1) taken piece here) ∙ s.1 c;
+}

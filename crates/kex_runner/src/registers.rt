@@ -440,8 +440,19 @@ impl<'t> Registers<'t> {
         Ok(())
     }
 
-    /// Does an update: what it passes on goes to the end of the code. Each item of the update is a step, though its registers are
-    /// only noted.
+    /// Does an update: what it passes on goes to the end of the code. Its registers are only noted.
+    pub fn take(&mut self, update: &'t Update, byte: u8, code: &mut Code) -> Result<(), Memory>
+        requires { IsUpdate (length self.old) (length update.now.regs) update.now }
+        ensures registers { OnOk result (self.new ≡ map (λ x. meant self.old byte x) update.now.regs) }
+        ensures code { OnOk result (code.new ≡ code.old ++ meant self.old byte update.now.out) }
+        ensures as_many { OnErr result (length self.new ≡ length self.old) }
+    {
+        let out = update.out().as_slice();
+        tell(&self.base, &self.notes, out, byte, &mut self.reading, code)?;
+        self.note(update, byte)
+    }
+
+    /// Does an update, of which each item is a step, though its registers are only noted.
     pub fn change<L: Ledger>(
         &mut self,
         update: &'t Update,
@@ -455,10 +466,8 @@ impl<'t> Registers<'t> {
         ensures steps { OnOk result (steps.new ≡ steps.old + items_of update.now) }
         ensures as_many { OnErr result (length self.new ≡ length self.old) }
     {
-        let out = update.out().as_slice();
-        tell(&self.base, &self.notes, out, byte, &mut self.reading, code)?;
         count_items(update, steps);
-        self.note(update, byte)
+        self.take(update, byte, code)
     }
 
     /// What stands on a way of registers goes to the end of a code.

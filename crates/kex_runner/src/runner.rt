@@ -1,6 +1,6 @@
 // A runner.
 
-ghost use Rattle.std.specs.Prelude.{◌≡◌, ℕ, ◌+◌, ◌^◌, ◌<◌, ◌≤◌, ◌++◌, [], List, IfOk, OnOk, IsTrue, IsOk, ◌↔◌, true, false, Some, length};
+ghost use Rattle.std.specs.Prelude.{◌≡◌, ℕ, ◌+◌, ◌^◌, ◌<◌, ◌≤◌, ◌++◌, [], List, IfOk, OnOk, IsTrue, IsOk, ◌↔◌, true, false, Some, length, take};
 ghost use Rattle.kex_code.specs.declared.symbol.Symbol.{Symbol};
 ghost use Rattle.kex_sst.specs.Passes.{begun, passes};
 ghost use Rattle.kex_runner.specs.Running.{Ends, Feeds, StandsFor, items_taken};
@@ -64,6 +64,57 @@ fn follow<'t, L: Ledger>(
         *state = target;
     }
     Ok(piece.len())
+}
+
+/// So many bytes of a piece were taken, and what they leave.
+#[derive(Clone, Copy, Debug, PartialEq, Eq)]
+pub struct Held {
+    pub taken: usize,
+    pub fed: Fed,
+}
+
+// So many bytes of a piece were taken, of which so many are good: all, or all but the last.
+#[derive(Clone, Copy)]
+struct Taken {
+    taken: usize,
+    good: usize,
+}
+
+// Follows the table along a piece, up to a byte behind which there are no registers, or one at which it stops.
+fn follow_held<'t>(
+    table: &'t Table,
+    state: &mut u32,
+    registers: &mut Registers<'t>,
+    piece: &[u8],
+    code: &mut Code,
+) -> Result<Taken, Memory>
+    requires { IsPlace table.now state.old registers.old }
+    ensures follows { IfOk result (λ t. Follows table.now state.old registers.old (take t.taken piece.now) t.good state.new registers.new code.old code.new) }
+    ensures taken { IfOk result (λ t. t.taken ≤ length piece.now) }
+    ensures some { IfOk result (λ t. 0 < length piece.now → 0 < t.taken) }
+    ensures place { IsPlace table.now state.new registers.new }
+{
+    for i in 0..piece.len() {
+        let class = table.partition().class_of(piece[i]);
+        let Some((target, update)) = table.next(*state, class) else {
+            return Ok(Taken {
+                taken: i + 1,
+                good: i,
+            });
+        };
+        registers.take(update, piece[i], code)?;
+        *state = target;
+        if registers.len() == 0 {
+            return Ok(Taken {
+                taken: i + 1,
+                good: i + 1,
+            });
+        }
+    }
+    Ok(Taken {
+        taken: piece.len(),
+        good: piece.len(),
+    })
 }
 
 // What stands before the first byte: the registers, and what is to be passed on.
@@ -144,6 +195,49 @@ impl<'t> Runner<'t> {
         self.dead = count < piece.len();
         self.usable = true;
         Ok(answer_of(self.dead))
+    }
+
+    /// Takes bytes as `feed` does, and counts no steps: as many as there are up to the first behind which there are no registers, or
+    /// at which the table stops.
+    ///
+    /// After `Memory` the code may have a part of what they let it pass on, and the runner is only dropped.
+    pub fn hold(&mut self, piece: &[u8], code: &mut Code) -> Result<Held, Memory>
+        requires usable { IsTrue self.old.usable }
+        requires open { self.old.ended ≡ false }
+        requires room { self.old.read + length piece.now < 2 ^ 64 }
+        ensures fed { IfOk result (λ h. Feeds h.fed self.old self.new (take h.taken piece.now) code.old code.new) }
+        ensures taken { IfOk result (λ h. h.taken ≤ length piece.now) }
+        ensures some { IfOk result (λ h. 0 < length piece.now → 0 < h.taken) }
+        ensures read { (self.old.read ≤ self.new.read) × (self.new.read ≤ self.old.read + length piece.now) }
+        ensures within { IfOk result (λ h. self.new.read ≤ self.old.read + h.taken) }
+        ensures table { self.new.table ≡ self.old.table }
+        ensures open { self.new.ended ≡ false }
+        ensures usable { IsTrue self.new.usable ↔ IsOk result }
+    {
+        self.usable = false;
+        code.append(self.pending.as_slice())?;
+        self.pending.clear();
+        if self.dead {
+            self.usable = true;
+            return Ok(Held {
+                taken: piece.len(),
+                fed: Fed::Dead,
+            });
+        }
+        let Taken { taken, good } = follow_held(
+            self.table,
+            &mut self.state,
+            &mut self.registers,
+            piece,
+            code,
+        )?;
+        self.read += good as u64;
+        self.dead = good < taken;
+        self.usable = true;
+        Ok(Held {
+            taken,
+            fed: answer_of(self.dead),
+        })
     }
 
     /// Takes the end. `Parsed` exactly where the table ends on the bytes; the code is then whole.

@@ -11,14 +11,11 @@ use kex_action::actor::Actor;
 use kex_code::code::Code;
 use kex_code::memory::Memory;
 use kex_moves::moves::Moves;
-use kex_ports::Steps;
 use kex_runner::Ended;
 use kex_runner::runner::Runner;
-use std::marker::Brand;
-use std::sync::ledger::{Blank, Ledger};
 
-// How many bytes are read at once while a state has registers.
-const HELD: usize = 16;
+// How many bytes are read at most by the runner at once.
+const HELD: usize = 4096;
 
 /// A runner of a table, and what was learnt of the table and the actor, by which both go on at once where no registers are.
 #[derive(Drop)]
@@ -34,33 +31,36 @@ struct Stride {
     refused: bool,
 }
 
+// So many bytes were taken, of which so many are good: all, or all but the last.
+#[derive(Clone, Copy)]
+struct Heard {
+    taken: usize,
+    good: usize,
+}
+
 impl<'p> Follower<'p> {
-    // What the table passes on along a piece is put behind a code. The steps are counted by nobody.
-    fn hear<L: Ledger>(
-        &mut self,
-        piece: &[u8],
-        code: &mut Code,
-        blank: Blank,
-    ) -> Result<usize, Memory>
-        requires name { blank.name ≡ L.name }
-        requires parts { blank.parts ≡ L.parts }
-        requires some { 0 < L.parts }
+    // What the table passes on along the front of a piece is put behind a code, up to a byte behind which there are no registers.
+    fn hear(&mut self, piece: &[u8], code: &mut Code) -> Result<Heard, Memory>
         requires usable { IsTrue self.old.runner.usable }
         requires open { self.old.runner.ended ≡ false }
         requires room { self.old.runner.read + length piece.now < 2 ^ 64 }
-        ensures tells { IfOk result (λ count. Tells (Oracle.Table self.old) (Oracle.Table self.new) piece.now count code.old code.new) }
-        ensures read { IfOk result (λ count. self.new.runner.read ≡ self.old.runner.read + count) }
+        ensures tells { IfOk result (λ h. Tells (Oracle.Table self.old) (Oracle.Table self.new) (take h.taken piece.now) h.good code.old code.new) }
+        ensures taken { IfOk result (λ h. h.taken ≤ length piece.now) }
+        ensures some { IfOk result (λ h. 0 < length piece.now → 0 < h.taken) }
+        ensures read { IfOk result (λ h. self.new.runner.read ≡ self.old.runner.read + h.good) }
         ensures within { self.new.runner.read ≤ self.old.runner.read + length piece.now }
-        ensures count { IfOk result (λ count. count ≤ length piece.now) }
+        ensures good { IfOk result (λ h. h.good ≤ h.taken) }
         ensures told { OnOk result (self.new.runner.pending ≡ []) }
         ensures usable { OnOk result (IsTrue self.new.runner.usable) }
         ensures open { self.new.runner.ended ≡ false }
         ensures moves { self.new.moves ≡ self.old.moves }
     {
-        let mut steps = Steps::<L>::new(blank);
         let before = self.runner.read();
-        let _fed = self.runner.feed(piece, code, &mut steps)?;
-        Ok((self.runner.read() - before) as usize)
+        let held = self.runner.hold(piece, code)?;
+        Ok(Heard {
+            taken: held.taken,
+            good: (self.runner.read() - before) as usize,
+        })
     }
 
     /// Tells whether the table ends, and puts what is passed on then behind a code.
@@ -77,22 +77,24 @@ impl<'p> Follower<'p> {
         })
     }
 
-    // Reads a piece by the runner alone, and writes what is said.
+    // Reads the front of a piece by the runner alone, and writes what is said.
     fn step(
         &mut self,
         actor: &mut Actor,
         piece: &[u8],
         code: &mut Code,
         out: &mut Vec<u8>,
-    ) -> Result<usize, Memory>
+    ) -> Result<Heard, Memory>
         requires usable { IsTrue self.old.runner.usable }
         requires open { self.old.runner.ended ≡ false }
         requires actor { IsTrue actor.old.usable }
         requires room { self.old.runner.read + length piece.now < 2 ^ 64 }
-        ensures works { IfOk result (λ count. Works (Oracle.Table self.old) (Oracle.Table self.new) actor.old actor.new piece.now count out.old.items out.new.items) }
-        ensures read { IfOk result (λ count. self.new.runner.read ≡ self.old.runner.read + count) }
+        ensures works { IfOk result (λ h. Works (Oracle.Table self.old) (Oracle.Table self.new) actor.old actor.new (take h.taken piece.now) h.good out.old.items out.new.items) }
+        ensures taken { IfOk result (λ h. h.taken ≤ length piece.now) }
+        ensures some { IfOk result (λ h. 0 < length piece.now → 0 < h.taken) }
+        ensures read { IfOk result (λ h. self.new.runner.read ≡ self.old.runner.read + h.good) }
         ensures within { self.new.runner.read ≤ self.old.runner.read + length piece.now }
-        ensures count { IfOk result (λ count. count ≤ length piece.now) }
+        ensures good { IfOk result (λ h. h.good ≤ h.taken) }
         ensures told { OnOk result (self.new.runner.pending ≡ []) }
         ensures usable { OnOk result (IsTrue self.new.runner.usable × IsTrue actor.new.usable) }
         ensures open { self.new.runner.ended ≡ false }
@@ -100,9 +102,9 @@ impl<'p> Follower<'p> {
         ensures machine { actor.new.machine ≡ actor.old.machine }
     {
         code.clear();
-        let count = self.hear::<Brand>(piece, code, Blank::new(1))?;
+        let heard = self.hear(piece, code)?;
         speak(actor, code.as_slice(), out)?;
-        Ok(count)
+        Ok(heard)
     }
 
     // Reads the front of a piece by what is learnt, where no registers are. The table is at a state of its own then, with none.
@@ -138,7 +140,7 @@ impl<'p> Follower<'p> {
         Ok(ran.count)
     }
 
-    // Reads some of a piece: what is learnt, and then some bytes by the runner.
+    // Reads some of a piece: what is learnt, and then by the runner up to a byte behind which there are no registers.
     fn stride(
         &mut self,
         actor: &mut Actor<'p>,
@@ -166,16 +168,11 @@ impl<'p> Follower<'p> {
     {
         let ran = self.run(actor, piece, out)?;
         let rest = &piece[ran..];
-        let most = if self.runner.holds_registers() {
-            HELD
-        } else {
-            1
-        };
-        let next = &rest[..rest.len().min(most)];
-        let count = self.step(actor, next, code, out)?;
+        let next = &rest[..rest.len().min(HELD)];
+        let heard = self.step(actor, next, code, out)?;
         Ok(Stride {
-            count: ran + count,
-            refused: count < next.len(),
+            count: ran + heard.good,
+            refused: heard.good < heard.taken,
         })
     }
 

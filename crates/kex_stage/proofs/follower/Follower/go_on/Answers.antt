@@ -1,4 +1,4 @@
-use Rattle.std.proofs.Common.{◌≡◌, ◌+◌, ◌-◌, [], List, ℕ, true, length, take, drop, sym, ap, subst, ◌∙◌, arith, length-drop}
+use Rattle.std.proofs.Common.{◌≡◌, ◌+◌, ◌-◌, [], List, ℕ, true, length, take, drop, refl, sym, ap, subst, ◌∙◌, arith, length-drop}
 use Rattle.std.proofs.lemmas.List.{length-take-le, take_all, take_rest}
 use Rattle.kex_stage.specs.declared.oracle.Oracle.TheVariants.{Table}
 use Rattle.kex_stage.specs.Works.{Goes, Works}
@@ -9,16 +9,20 @@ use Rattle.kex_stage.proofs.follower.Follower.go_on.Goals as goal
 pub strides-init : goal.strides-init
 strides-init c =
     let n = c.in_ok-_none.ensures in
-    let none : c.in_ok-_none._none ≡ length {A = ℕ} [] = omega (arith, n.count) in
+    let h = c.in_ok-_none._none in
+    let none : h.taken ≡ 0 = omega (arith, n.taken) in
+    let no_good : h.good ≡ 0 = omega (arith, n.taken, n.good) in
+    let works : Works (Table c.args.self.now) (Table c.step.new.self) c.args.actor.now c.step.new.actor [] 0 c.args.out.now.items c.step.new.out.items =
+    subst (λ k. Works (Table c.args.self.now) (Table c.step.new.self) c.args.actor.now c.step.new.actor [] k c.args.out.now.items c.step.new.out.items) no_good (subst (λ k. Works (Table c.args.self.now) (Table c.step.new.self) c.args.actor.now c.step.new.actor (take k []) h.good c.args.out.now.items c.step.new.out.items) none n.works) in
     record {
       at = omega arith;
-      goes = goes_all (Table c.args.self.now) (Table c.step.new.self) c.args.actor.now c.step.new.actor [] c.in_ok-_none._none c.args.out.now.items c.step.new.out.items none c.in_ok-_none.ensures.works;
+      goes = goes_all (Table c.args.self.now) (Table c.step.new.self) c.args.actor.now c.step.new.actor [] 0 c.args.out.now.items c.step.new.out.items refl works;
       told = c.in_ok-_none.ensures.told;
       moves = c.in_ok-_none.ensures.moves;
       machine = c.in_ok-_none.ensures.machine;
       usable = c.in_ok-_none.ensures.usable;
       open_ = c.in_ok-_none.ensures.open;
-      read = omega (arith, c.in_ok-_none.ensures.read, none);
+      read = omega (arith, c.in_ok-_none.ensures.read, no_good);
     }
 
 pub returns-then-stride-clause-works : goal.returns-then-stride-clause-works
