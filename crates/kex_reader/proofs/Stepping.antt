@@ -1,6 +1,6 @@
 -- From a word's kind to the machine's step, and from what the code did to the state that it stands for.
 use Rattle.std.proofs.Common.{◌≡◌, ℕ, ◌+◌, ◌<◌, Bool, true, false, List, [], ◌∷◌, ◌++◌, length, Option, Some, None, Result, Ok, Err, refl, sym, ap, ◌∙◌, subst, arith, length-append}
-use Rattle.std.specs.Prelude.{bytes_eq, codes, if◌then◌else◌, IfOk, IfErr, OnOk}
+use Rattle.std.specs.Prelude.{bytes_eq, codes, if◌then◌else◌, IfOk, IfErr, OnOk, IsErrAnd}
 use Rattle.kex_tokens.specs.declared.token.Kind.{Kind}
 use Rattle.kex_tokens.specs.declared.token.Kind.TheVariants as kinds
 use Rattle.kex_tokens.specs.Values.{StandsFor}
@@ -34,6 +34,11 @@ module _ (made : Made) (at : ℕ → ℕ) (base : ℕ) (fs : List Frame) where
   pub memory : (o : Option Inside) → Steps made at base fs (Err faults.Memory) o
   unfolding Steps
   memory o = tt
+
+  -- out of memory
+  pub memory_exit : (r : Result Wait StepFault) → IsErrAnd r (λ e. e ≡ faults.Memory) → (o : Option Inside) → Steps made at base fs r o
+  memory_exit (Ok w) e o = absurd e
+  memory_exit (Err f) e o = subst (λ (x : StepFault). Steps made at base fs (Err x) o) (sym e) (memory o)
 
   pub wrong : Steps made at base fs (Err faults.Wrong) None
   unfolding Steps

@@ -1,6 +1,6 @@
 -- From the machine to texts.
 use Rattle.std.proofs.Common.{◌≡◌, ℕ, zero, suc, ◌+◌, ◌<◌, ◌≤◌, Bool, true, false, if◌then◌else◌, List, [], ◌∷◌, ◌++◌, ◌⊎◌, inl, inr, length, take, drop, get_or, Option, Some, None, Result, Ok, Err, refl, sym, ap, ◌∙◌, subst, arith}
-use Rattle.std.specs.Prelude.{slice_get, map, bytes_eq, codes, IfOk, IfErr}
+use Rattle.std.specs.Prelude.{slice_get, map, bytes_eq, codes, IfOk, IfErr, IsErrAnd}
 use Rattle.std.specs.List.{slice_range}
 use Rattle.std.proofs.lemmas.List.{take_all, length-take-le, get_or_past}
 use Rattle.std.proofs.lemmas.Option.{get_or_from_slice_get, slice_get_within, slice_get-get_or}
@@ -246,6 +246,10 @@ spells_ok (Ok P) text ts tree made ds named short cut der nt df hd w s n g all u
   counted = g.1;
   none_spare = used (all w);
 }
+
+pub memory_refused : (r : Result Grammar ReadRefusal) (Q : ReadRefusal → Type 0) → IsErrAnd r (λ e. e ≡ refusals.Memory) → IfErr r (λ e. (e ≡ refusals.Memory) ⊎ Q e)
+memory_refused (Ok P) Q e = absurd e
+memory_refused (Err x) Q e = inl e
 
 pub refused_ok : (r : Result Grammar ReadRefusal) (text : List ℕ) (ts : List Token) (tree : Program) (o : Option Break) → length text ≤ most_text → AreTokens text ts → program tree ≡ words text ts → Noted (program_checks tree (offset text ts)) o → IfErr r (λ e. (e ≡ refusals.Memory) ⊎ ((b : Break) × (o ≡ Some b) × (e ≡ of_limit b))) → IfErr r (λ e. IsRefusedAs text e)
 refused_ok (Ok P) text ts tree o short cut der nt h = tt

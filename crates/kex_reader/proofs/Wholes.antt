@@ -1,6 +1,6 @@
 -- From the machine inside a definition to the machine over a program.
 use Rattle.std.proofs.Common.{◌≡◌, ℕ, ◌+◌, ◌*◌, Bool, true, false, List, [], ◌∷◌, ◌++◌, ◌⊎◌, inl, inr, length, Option, Some, None, Result, Ok, Err, refl, sym, ap, ◌∙◌, subst, arith, length-append}
-use Rattle.std.specs.Prelude.{◌==◌, bytes_eq, if◌then◌else◌, IfOk, IfErr, OnOk}
+use Rattle.std.specs.Prelude.{◌==◌, bytes_eq, if◌then◌else◌, IfOk, IfErr, OnOk, IsErrAnd}
 use Rattle.kex_model.specs.declared.program.Definition.{Definition as Root}
 use Rattle.kex_model.specs.declared.program.Start.{Start}
 use Rattle.kex_tokens.specs.declared.token.Kind.{Kind}
@@ -138,6 +138,10 @@ ends_open b at base fs part old new name from (Some (t, x ∷ es)) n h = tt
 pub ends_memory : (b : Made) (at : ℕ → ℕ) (base : ℕ) (fs : List Frame) (old new : List Root) (name from : ℕ) (o : Option Term) → Ends b at base fs old new name from (Err faults.Memory) o
 unfolding Ends
 ends_memory b at base fs old new name from o = tt
+
+pub ends_exit : (b : Made) (at : ℕ → ℕ) (base : ℕ) (fs : List Frame) (old new : List Root) (name from : ℕ) (r : Result (Unit {0}) StepFault) → IsErrAnd r (λ e. e ≡ faults.Memory) → (o : Option Term) → Ends b at base fs old new name from r o
+ends_exit b at base fs old new name from (Ok u) e o = absurd e
+ends_exit b at base fs old new name from (Err f) e o = subst (λ (x : StepFault). Ends b at base fs old new name from (Err x) o) (sym e) (ends_memory b at base fs old new name from o)
 
 -- ---- where the next definition begins
 

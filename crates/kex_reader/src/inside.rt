@@ -8,9 +8,11 @@ ghost use Rattle.kex_regexp.specs.Shown.{ShowsRegex};
 ghost use Rattle.kex_tokens.specs.Lexemes.{IsToken};
 ghost use Rattle.kex_tokens.specs.Values.{StandsFor};
 ghost use Rattle.kex_reader.specs.Checks.{Check, Matched, Nested};
-ghost use Rattle.kex_reader.specs.Reading.{After, Assigned, Assigning, BracketName, CountStep as SpecCountStep, Entry, Inside, Ready, after_atom, begin_pre, entries, first_part, goes, named as spec_named, next_part, on_bar, on_close, on_count, on_name, on_sign, put as spec_put, inside, step_in as spec_step_in, take_seq, take_term};
+ghost use Rattle.kex_reader.specs.Reading.{After, Assigned, Assigning, BracketName, CountStep as SpecCountStep, Entry, Inside, Ready, after_atom, begin_pre, entries, first_part};
+ghost use Rattle.kex_reader.specs.Reading.{goes, named as spec_named, next_part, on_bar, on_close, on_count, on_name, on_sign, put as spec_put, inside, step_in as spec_step_in, take_seq, take_term};
 ghost use Rattle.kex_reader.specs.Shown.{Made, IsName, IsNode, IsRegister, ShowsAtom, ShowsParts, high as high_of, low as low_of};
-ghost use Rattle.kex_reader.specs.Stands.{Behind, BehindAny, FirstPart, FramesShow, InFrames, InPlace, InWait, IsBehindAtom, IsHeld, IsLeaf, Keeps, LosesNone, NextPart, Noted, NotesMore, OnAtom, ShowsCountStep, ShowsMode, SomeAtom, SomeFrames, SomeInside, SomeName, StepLosesNone, Steps, after_asks, asks, begin_asks, count_asks, named_asks, open_frames, word_of};
+ghost use Rattle.kex_reader.specs.Stands.{Behind, BehindAny, FirstPart, FramesShow, InFrames, InPlace, InWait, IsBehindAtom, IsHeld, IsLeaf, Keeps, LosesNone, NextPart, Noted, NotesMore};
+ghost use Rattle.kex_reader.specs.Stands.{OnAtom, ShowsCountStep, ShowsMode, SomeAtom, SomeFrames, SomeInside, SomeName, StepLosesNone, Steps, after_asks, asks, begin_asks, count_asks, named_asks, open_frames, word_of};
 ghost use Rattle.kex_reader.specs.Uses.{InKind, NodeNumber, Numbered, RegisterNumber};
 ghost use Rattle.kex_reader.specs.Syntax.{Atom, Part as SpecPart, Postfix, Turns, Write as SpecWrite, atom, between, word as grammar_word};
 
@@ -26,7 +28,7 @@ use kex_model::program::Kind as NodeKind;
 use kex_regexp::breaks::Break;
 use kex_tokens::token::Kind;
 use kex_tokens::{literal_bytes, number_value};
-use std::alloc::Global;
+use std::alloc::{AllocError, AllocFailed, Global};
 
 /// How deep parentheses and prefixes may nest.
 const DEEPEST: usize = 200;
@@ -54,6 +56,36 @@ pub(crate) enum StepFault {
     Wrong,
 }
 
+impl From<Memory> for StepFault {
+    ghost use Rattle.kex_reader.specs.declared.inside.StepFault.TheVariants as faults;
+
+    ghost from_gives = { λ _ e. e ≡ faults.Memory };
+
+    fn from(_: Memory) -> StepFault {
+        StepFault::Memory
+    }
+}
+
+impl From<AllocError> for StepFault {
+    ghost use Rattle.kex_reader.specs.declared.inside.StepFault.TheVariants as faults;
+
+    ghost from_gives = { λ _ e. e ≡ faults.Memory };
+
+    fn from(_: AllocError) -> StepFault {
+        StepFault::Memory
+    }
+}
+
+impl<T: Drop> From<AllocFailed<T>> for StepFault {
+    ghost use Rattle.kex_reader.specs.declared.inside.StepFault.TheVariants as faults;
+
+    ghost from_gives = { λ _ e. e ≡ faults.Memory };
+
+    fn from(_: AllocFailed<T>) -> StepFault {
+        StepFault::Memory
+    }
+}
+
 // An atom of one node.
 fn leaf<'t>(draft: &mut Draft<'t>, kind: NodeKind, at: u32) -> Result<Wait<'t>, StepFault>
     requires below { HasNames (length draft.old.names) (length draft.old.registers) kind }
@@ -64,9 +96,7 @@ fn leaf<'t>(draft: &mut Draft<'t>, kind: NodeKind, at: u32) -> Result<Wait<'t>, 
     ensures wait { IfOk result (λ w. (n : ℕ) × (w ≡ Wait.After (record { node = n; at = at })) × IsNode draft.new n kind at) }
     ensures fault { IfErr result (λ e. e ≡ StepFault.Memory) }
 {
-    let Ok(node) = draft.add(kind, at) else {
-        return Err(StepFault::Memory);
-    };
+    let node = draft.add(kind, at)?;
     Ok(Wait::After(Part { node, at }))
 }
 
@@ -79,9 +109,7 @@ fn literal<'t>(alloc: Global, draft: &mut Draft<'t>, word: Word<'t>) -> Result<W
     ensures wait { IfOk result (λ w. (n : ℕ) × (bytes : List ℕ) × (w ≡ Wait.After (record { node = n; at = word.entry.at })) × IsNode draft.new n (NodeKind.Lit bytes) word.entry.at × StandsFor word.entry.spelling.now bytes) }
     ensures fault { IfErr result (λ e. e ≡ StepFault.Memory) }
 {
-    let Ok(bytes) = literal_bytes(alloc, word.spelling) else {
-        return Err(StepFault::Memory);
-    };
+    let bytes = literal_bytes(alloc, word.spelling)?;
     leaf(draft, NodeKind::Lit(Bytes::new(bytes)), word.at)
 }
 
@@ -112,9 +140,7 @@ fn body<'t>(
     ensures fault { IfErr result (λ e. e ≡ StepFault.Memory) }
 {
     let bytes = between_slashes(word.spelling);
-    let Ok(node) = draft.body(alloc, bytes, word.at + 1, depth) else {
-        return Err(StepFault::Memory);
-    };
+    let node = draft.body(alloc, bytes, word.at + 1, depth)?;
     Ok(Wait::After(Part { node, at: word.at }))
 }
 
@@ -145,9 +171,7 @@ fn open<'t>(
     ensures fault { IfErr result (λ e. e ≡ StepFault.Memory) }
 {
     nest(draft, stack.depth(), at);
-    let Ok(()) = stack.push(frame) else {
-        return Err(StepFault::Memory);
-    };
+    stack.push(frame)?;
     Ok(Wait::Need)
 }
 
@@ -159,15 +183,11 @@ fn bar<'t>(stack: &mut Stack, draft: &mut Draft<'t>) -> Result<Wait<'t>, StepFau
     ensures broken { OnOk result (draft.new.broken ≡ draft.old.broken) }
     ensures step { (at : ℕ → ℕ) (base : ℕ) (es : List Entry) → FramesShow draft.old at base stack.old es → Steps draft.new at base stack.new result (on_bar (take_seq es)) }
 {
-    let Ok(closed) = close_seq(stack, draft) else {
-        return Err(StepFault::Memory);
-    };
+    let closed = close_seq(stack, draft)?;
     let Some(seq) = closed else {
         return Err(StepFault::Wrong);
     };
-    let Ok(()) = stack.push(Frame::Ended(seq)) else {
-        return Err(StepFault::Memory);
-    };
+    stack.push(Frame::Ended(seq))?;
     Ok(Wait::Need)
 }
 
@@ -179,9 +199,7 @@ fn close<'t>(stack: &mut Stack, draft: &mut Draft<'t>) -> Result<Wait<'t>, StepF
     ensures broken { OnOk result (draft.new.broken ≡ draft.old.broken) }
     ensures step { (at : ℕ → ℕ) (base : ℕ) (es : List Entry) → FramesShow draft.old at base stack.old es → Steps draft.new at base stack.new result (on_close (take_term es)) }
 {
-    let Ok(closed) = close_term(stack, draft) else {
-        return Err(StepFault::Memory);
-    };
+    let closed = close_term(stack, draft)?;
     let Some(term) = closed else {
         return Err(StepFault::Wrong);
     };
@@ -263,19 +281,15 @@ fn turns<'t>(
     ensures broken { OnOk result (draft.new.broken ≡ draft.old.broken) }
     ensures step { OnAtom draft.old stack.old item (λ at base es a. (p : Postfix) → bounds.low ≡ low_of p → bounds.high ≡ high_of p → Steps draft.new at base stack.new result (goes Ready (spec_put (Turns a p) es))) }
 {
-    let Ok(node) = draft.add(
+    let node = draft.add(
         NodeKind::Rep {
             body: item.node,
             min: bounds.low,
             max: bounds.high,
         },
         item.at,
-    ) else {
-        return Err(StepFault::Memory);
-    };
-    let Ok(()) = put(stack, draft, Part { node, at: item.at }) else {
-        return Err(StepFault::Memory);
-    };
+    )?;
+    put(stack, draft, Part { node, at: item.at })?;
     Ok(Wait::Ready)
 }
 
@@ -377,9 +391,7 @@ fn write<'t>(draft: &mut Draft<'t>, at: u32, word: Word<'t>) -> Result<Wait<'t>,
     let Kind::Name = word.kind else {
         return Err(StepFault::Wrong);
     };
-    let Ok(register) = draft.register(word.spelling) else {
-        return Err(StepFault::Memory);
-    };
+    let register = draft.register(word.spelling)?;
     leaf(draft, NodeKind::Write(register), at)
 }
 
@@ -393,9 +405,7 @@ fn bracket<'t>(draft: &mut Draft<'t>, at: u32, word: Word<'t>) -> Result<Wait<'t
     let Kind::Name = word.kind else {
         return Err(StepFault::Wrong);
     };
-    let Ok(register) = draft.register(word.spelling) else {
-        return Err(StepFault::Memory);
-    };
+    let register = draft.register(word.spelling)?;
     Ok(Wait::BracketName(at, register))
 }
 
@@ -435,15 +445,11 @@ fn part<'t>(
     ensures first { FirstPart draft.old draft.new assignment result (word_of word.entry) }
     ensures next { (word.entry.kind ≡ Kind.CloseBracket → ⊥) → NextPart draft.old draft.new assignment result (word_of word.entry) }
 {
-    let Ok(read) = piece(alloc, draft, word) else {
-        return Err(StepFault::Memory);
-    };
+    let read = piece(alloc, draft, word)?;
     let Some(piece) = read else {
         return Err(StepFault::Wrong);
     };
-    let Ok(()) = assignment.pieces.push(piece) else {
-        return Err(StepFault::Memory);
-    };
+    assignment.pieces.push(piece)?;
     Ok(Wait::Assigned(assignment))
 }
 

@@ -1,10 +1,12 @@
-// Laws of programs: what words spell and where they go wrong, and why a text is refused, is one thing.
+// Laws of programs: what words spell and where they go wrong, and why a text is refused, is one thing; and what nothing spare means.
 
-ghost use Rattle.std.specs.Prelude.{◌≡◌, ℕ, List};
-ghost use Rattle.kex_model.specs.Programs.{Grammar};
+ghost use Rattle.std.specs.Prelude.{◌≡◌, ◌<◌, ℕ, List, length};
+ghost use Rattle.kex_model.specs.Programs.{Grammar, IsInOrder};
 ghost use Rattle.kex_reader.specs.Programs.{IsFirstWrong, IsProgram};
+ghost use Rattle.kex_reader.specs.Reach.{IsReached};
 ghost use Rattle.kex_reader.specs.Spelling.{IsRefusedAs, Spells};
 ghost use Rattle.kex_reader.specs.Syntax.{Program, Word, program};
+ghost use Rattle.kex_reader.specs.Uses.{NoneSpare};
 
 use crate::refusal::ReadRefusal;
 use kex_tokens::laws::one_cut;
@@ -23,3 +25,8 @@ pub fn one_refusal()
 {
     one_cut()
 }
+
+/// Of a program in which nothing is spare a definition reaches each node.
+pub fn all_reached()
+    ensures { (P : Grammar) → IsInOrder P.nodes → NoneSpare P → (n : ℕ) → n < length P.nodes → IsReached P n }
+{}

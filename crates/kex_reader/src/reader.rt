@@ -87,9 +87,7 @@ impl<'t> Reader<'t> {
         ensures fault { IfErr result (λ e. e ≡ StepFault.Memory) }
         ensures broken { OnOk result (self.new.draft.broken ≡ self.old.draft.broken) }
     {
-        let Ok(number) = self.draft.name(name.bytes) else {
-            return Err(StepFault::Memory);
-        };
+        let number = self.draft.name(name.bytes)?;
         Ok(Phase::Within(
             Head {
                 name: number,
@@ -111,13 +109,9 @@ impl<'t> Reader<'t> {
         let Kind::Name = word.kind else {
             return Err(StepFault::Wrong);
         };
-        let Ok(name) = self.draft.name(word.spelling) else {
-            return Err(StepFault::Memory);
-        };
+        let name = self.draft.name(word.spelling)?;
         limit_stages(&mut self.draft, self.stages.len(), word.at);
-        let Ok(()) = self.stages.push(Start { name, at: word.at }) else {
-            return Err(StepFault::Memory);
-        };
+        self.stages.push(Start { name, at: word.at })?;
         Ok(Phase::StageRead)
     }
 
@@ -130,23 +124,18 @@ impl<'t> Reader<'t> {
         ensures ends { (at : ℕ → ℕ) (base : ℕ) (es : List Entry) → FramesShow self.old.draft at base self.old.stack es → ReaderEnds self.old self.new at base head result (whole_term (take_term es)) }
         ensures broken { OnOk result (self.new.draft.broken ≡ self.old.draft.broken) }
     {
-        let Ok(closed) = close_term(&mut self.stack, &mut self.draft) else {
-            return Err(StepFault::Memory);
-        };
+        let closed = close_term(&mut self.stack, &mut self.draft)?;
         let Some(term) = closed else {
             return Err(StepFault::Wrong);
         };
         if !self.stack.is_empty() {
             return Err(StepFault::Wrong);
         }
-        let Ok(()) = self.definitions.push(Definition {
+        self.definitions.push(Definition {
             name: head.name,
             at: head.at,
             root: term.node,
-        })
-        else {
-            return Err(StepFault::Memory);
-        };
+        })?;
         Ok(())
     }
 
@@ -280,9 +269,7 @@ impl<'t> Reader<'t> {
         ensures ends { OnAtom self.old.draft self.old.stack item (λ at base es a. ReaderEnds self.old self.new at base head result (whole_term (take_term (spec_put (Once a) es)))) }
         ensures broken { OnOk result (self.new.draft.broken ≡ self.old.draft.broken) }
     {
-        let Ok(()) = put(&mut self.stack, &mut self.draft, item) else {
-            return Err(StepFault::Memory);
-        };
+        put(&mut self.stack, &mut self.draft, item)?;
         self.end(head)
     }
 

@@ -1,5 +1,7 @@
 // Why a text is refused.
 
+ghost use Rattle.std.specs.Prelude.{◌≡◌};
+
 use kex_code::memory::Memory;
 use kex_regexp::breaks::Break;
 use kex_tokens::token::TokenFault;
@@ -32,4 +34,14 @@ pub enum ReadRefusal {
     /// Memory was wanted, and there was none. No contract says when it comes.
     #[error("out of memory")]
     Memory,
+}
+
+impl From<Memory> for ReadRefusal {
+    ghost use Rattle.kex_reader.specs.declared.refusal.ReadRefusal.TheVariants as refusals;
+
+    ghost from_gives = { λ _ e. e ≡ refusals.Memory };
+
+    fn from(_: Memory) -> ReadRefusal {
+        ReadRefusal::Memory
+    }
 }

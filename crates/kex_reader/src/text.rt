@@ -116,15 +116,9 @@ fn program(
     if let Some(broken) = draft.broken() {
         return Err(limit_refusal(broken));
     }
-    let Ok(names) = draft.names(alloc) else {
-        return Err(ReadRefusal::Memory);
-    };
-    let Ok(stages) = stages_of(alloc, &names, &definitions, named) else {
-        return Err(ReadRefusal::Memory);
-    };
-    let Ok(program) = draft.finish(names, definitions, stages) else {
-        return Err(ReadRefusal::Memory);
-    };
+    let names = draft.names(alloc)?;
+    let stages = stages_of(alloc, &names, &definitions, named)?;
+    let program = draft.finish(names, definitions, stages)?;
     Ok(program)
 }
 

@@ -8,4 +8,4 @@ pub add-requires-clause-below : goal.add-requires-clause-below
 add-requires-clause-below c = leaf_below (length c.args.draft.now.nodes) c.args.kind c.requires.alone
 
 pub returns-clause-held : goal.returns-clause-held
-returns-clause-held c = λ fs. beside _ _ _ _ (InFrames fs) _ _ (λ x h. elim h [ inl i ↦ inr i | inr k ↦ inl k ]) (λ x e. inr e) (λ x i. inl i) c.in-Ok.ensures.held
+returns-clause-held c = λ fs. beside _ _ _ _ (InFrames fs) _ _ (λ x h. elim h [ inl i ↦ inr i | inr k ↦ inl k ]) (λ x e. inr e) (λ x i. inl i) c.in_ok-node.ensures.held

@@ -9,4 +9,4 @@ pub returns-clause-notes : goal.returns-clause-notes
 returns-clause-notes c = λ cs n. subst (λ d. Noted (cs ++ Nested c.args.at d ∷ []) c.nest.new.draft.broken) c.depth.ensures (c.nest.ensures.notes cs n)
 
 pub returns-clause-held : goal.returns-clause-held
-returns-clause-held c = beside _ _ _ _ (InFrames (c.args.frame ∷ c.args.stack.now)) _ _ (λ x h. inr h) (λ x z. absurd z) (λ x i. inl (frames_are _ _ (sym c.in-Ok.ensures) x i)) c.nest.ensures.held
+returns-clause-held c = beside _ _ _ _ (InFrames (c.args.frame ∷ c.args.stack.now)) _ _ (λ x h. inr h) (λ x z. absurd z) (λ x i. inl (frames_are _ _ (sym c.in_ok-push.ensures) x i)) c.nest.ensures.held
