@@ -1,10 +1,9 @@
 -- A run along edges, with the table, the actor and a sheet.
-use Rattle.std.proofs.Common.{◌≡◌, ℕ, zero, suc, ◌<◌, ◌≤◌, ◌+◌, true, Bool, IsTrue, List, [], ◌∷◌, ◌++◌, length, get_or, take, drop, reverse, refl, sym, ap, ap₂, subst, ◌∙◌, arith, length-take, length-append}
+use Rattle.std.proofs.Common.{◌≡◌, ℕ, ◌<◌, ◌≤◌, true, Bool, IsTrue, List, [], ◌∷◌, ◌++◌, length, get_or, take, drop, reverse, refl, sym, ap, ap₂, subst, ◌∙◌, arith, length-append}
 use Rattle.std.specs.Prelude.{slice_get, Some}
 use Rattle.std.proofs.lemmas.List.{length-take-le}
 use Rattle.kex_code.specs.declared.symbol.Symbol.{Symbol}
 use Rattle.kex_model.specs.Acting.{State}
-use Rattle.kex_machine.specs.declared.MNode.{MNode}
 use Rattle.kex_machine.specs.Nodes.{Graph}
 use Rattle.kex_action.specs.declared.sheet.Sheet.{Sheet}
 use Rattle.kex_action.specs.Holdings.{Holding, Leads, Does, adding, state_of}
@@ -20,7 +19,7 @@ use Rattle.kex_moves.specs.declared.edges.Pair.{Pair}
 use Rattle.kex_moves.specs.Runs.{Stop, behind, run_of}
 use Rattle.kex_moves.specs.Known.{Known, rows_of, IsRowOf, HasRowFor, IsRight, IsKnown, Grows}
 use Rattle.kex_moves.specs.Along.{Goes, Reached, with_sheet, written_with, ReachedWith, ReachedOn}
-use Rattle.kex_moves.proofs.Going.{RunsTo, to_stop, reached_along, reached_act, goes_none, goes_more}
+use Rattle.kex_moves.proofs.Going.{to_stop, reached_along, reached_act, goes_none, goes_more}
 
 abbrev pub stop_at : List ℕ → ℕ → List ℕ → Stop
 stop_at written row left = record { written = written; row = row; left = left }

@@ -27,7 +27,7 @@ use Rattle.kex_moves.specs.Edges.{writes, is_written, is_known}
 use Rattle.kex_moves.specs.Runs as runs
 use Rattle.kex_moves.specs.Runs.{Stop, by_edge, step_of, behind, on_step, run_of}
 use Rattle.kex_moves.specs.Walks.{Takes, code_at}
-use Rattle.kex_moves.specs.Known.{Known, rows_of, IsRowOf, HasRowFor, IsRight, IsKnown, makes}
+use Rattle.kex_moves.specs.Known.{Known, rows_of, IsRowOf, IsRight, IsKnown, makes}
 use Rattle.kex_moves.specs.Along.{bare, Goes, Reached, RunsOn}
 use Rattle.kex_moves.proofs.Knowing.{at_of}
 use Rattle.kex_moves.proofs.Settling.{adding_more, adding_none}

@@ -1,4 +1,4 @@
-use Rattle.std.proofs.Common.{◌≡◌, ◌∙◌, ◌∷◌, [], sym, ap, length, get_or}
+use Rattle.std.proofs.Common.{◌∙◌, ◌∷◌, [], get_or}
 use Rattle.kex_action.specs.declared.action.Action.TheVariants.{Byte}
 use Rattle.kex_action.specs.Sheets.{state_with}
 use Rattle.kex_action.proofs.Sheeting.{done_more, kept_count}

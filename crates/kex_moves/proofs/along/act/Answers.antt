@@ -1,4 +1,4 @@
-use Rattle.std.proofs.Common.{◌≡◌, ◌∙◌, ◌++◌, ◌-◌, length, take, drop, sym, ap}
+use Rattle.std.proofs.Common.{◌∙◌, ◌++◌, ◌-◌, length, take, drop, sym, ap}
 use Rattle.std.proofs.lemmas.List.{take_rest, take-append-drop}
 use Rattle.kex_action.specs.Actions.{done}
 use Rattle.kex_action.specs.Sheets.{state_with}

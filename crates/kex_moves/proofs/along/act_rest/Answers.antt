@@ -1,4 +1,4 @@
-use Rattle.std.proofs.Common.{◌<◌, length, sym, ap, subst}
+use Rattle.std.proofs.Common.{◌<◌, length, sym, subst}
 use Rattle.kex_moves.proofs.along.act_rest.Goals as goal
 
 pub hand_on-requires-clause-node : goal.hand_on-requires-clause-node

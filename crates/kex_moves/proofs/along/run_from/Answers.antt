@@ -1,4 +1,4 @@
-use Rattle.std.proofs.Common.{◌≡◌, ◌∙◌, ◌+◌, ◌-◌, ◌≤◌, ◌<◌, length, take, drop, refl, sym, ap, subst, arith, length-take, length-drop}
+use Rattle.std.proofs.Common.{◌∙◌, ◌-◌, ◌<◌, length, take, drop, refl, sym, subst, arith, length-take, length-drop}
 use Rattle.kex_moves.specs.Along.{ReachedOn}
 use Rattle.kex_moves.proofs.Knowing.{pair_known}
 use Rattle.kex_moves.proofs.Going.{part_more}

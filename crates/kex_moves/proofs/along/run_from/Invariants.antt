@@ -1,4 +1,4 @@
-use Rattle.std.proofs.Common.{◌≡◌, ◌≤◌, ℕ, IsTrue, length, take}
+use Rattle.std.proofs.Common.{◌≡◌, ◌≤◌, IsTrue, length, take}
 use Rattle.kex_action.specs.Sheets.{IsSheet}
 use Rattle.kex_moves.specs.Known.{IsKnown}
 use Rattle.kex_moves.specs.Along.{ReachedOn}

@@ -1,9 +1,9 @@
-use Rattle.std.proofs.Common.{◌≡◌, ◌∙◌, ◌<◌, ◌≤◌, ◌+◌, ◌-◌, ℕ, length, get_or, take, drop, reverse, ap, sym, subst, arith}
+use Rattle.std.proofs.Common.{◌≡◌, ◌∙◌, ◌<◌, ◌≤◌, length, take, reverse, ap, sym, subst, arith}
 use Rattle.std.proofs.lemmas.List.{take_all, length-take-le}
 use Rattle.kex_model.specs.Moves.{open_buffer}
 use Rattle.kex_model.specs.Acting.{done_by}
 use Rattle.kex_action.specs.Holdings.{state_of}
-use Rattle.kex_action.specs.Sheets.{laid, AreMarks}
+use Rattle.kex_action.specs.Sheets.{laid}
 use Rattle.kex_action.proofs.Storing.{on_ok}
 use Rattle.kex_action.proofs.Sheeting.{handed, next_mark, NextMark, laid_opens, last_of, last_within}
 use Rattle.kex_action.proofs.store.Store.hand_on.Goals as goal

@@ -1,4 +1,4 @@
-use Rattle.std.proofs.Common.{◌≡◌, ◌∙◌, ◌+◌, ◌<◌, ℕ, length, get_or, set, sym, subst}
+use Rattle.std.proofs.Common.{◌∙◌, ◌+◌, ◌<◌, ℕ, get_or, set, sym, subst}
 use Rattle.std.proofs.Math.ListN.{length-set}
 use Rattle.std.proofs.lemmas.List.Elements.{All-set}
 use Rattle.kex_moves.specs.declared.edge.Edge.{Edge}
