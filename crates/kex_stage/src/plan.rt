@@ -31,6 +31,16 @@ impl Model for Plan {
     ghost invariant = { λ p. IsTableIf p.machine p.table × IsTableIf p.machine p.shorter };
 }
 
+// Whether there is a register that may be constant. Either answer would be right: without one the shorter table is the same.
+fn has_registers(table: &Table) -> bool {
+    for state in table.states() {
+        if state.registers() > 0 {
+            return true;
+        }
+    }
+    false
+}
+
 impl Plan {
     /// The plan of a machine, with its table or without one.
     pub fn new(machine: Trimmed, table: Option<Table>) -> Plan
@@ -61,14 +71,14 @@ impl Plan {
         self.table.as_ref()
     }
 
-    /// The same plan, of which stages go by a table without constant registers, if it has a table.
+    /// The same plan, of which stages go by a table without constant registers, if it has a table with registers.
     pub fn shorten(self, alloc: Global) -> Result<Plan, Memory>
         ensures { IfOk result (λ p. p ≡ self) }
     {
         let Plan { machine, table, .. } = self;
         let shorter = match &table {
-            None => None,
-            Some(table) => Some(clear_table(alloc, table, LONGEST)?),
+            Some(table) if has_registers(table) => Some(clear_table(alloc, table, LONGEST)?),
+            _ => None,
         };
         Ok(Plan {
             machine,
