@@ -91,3 +91,7 @@ MeansAlike P Q = (i r q : ℕ) (input said : List ℕ) → HasNumber (roots_of P
 -- their pipelines say and report the same, on an input that is open or ended
 abbrev pub AnswersAlike : Grammar → Grammar → Type 0
 AnswersAlike P Q = (limit : ℕ) (input : List ℕ) (ended : Bool) (said : List ℕ) (report : Option Report) → StagesAnswer P limit (roots_of P) input ended said report ↔ StagesAnswer Q limit (roots_of Q) input ended said report
+
+-- on each input, open or ended, the program's pipeline says something
+abbrev pub HasAnswers : Grammar → Type 0
+HasAnswers P = (limit : ℕ) (input : List ℕ) (ended : Bool) → (said : List ℕ) × (report : Option Report) × StagesAnswer P limit (roots_of P) input ended said report

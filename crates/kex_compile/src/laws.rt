@@ -3,8 +3,8 @@
 ghost use Rattle.std.specs.Prelude.{◌≡◌, ◌↔◌, ℕ, List};
 ghost use Rattle.kex_model.specs.Programs.{Grammar};
 ghost use Rattle.kex_reader.specs.Spelling.{Spells};
-ghost use Rattle.kex_compile.specs.Stages.{HaveInAll, HaveStatesInAll, roots_of};
-ghost use Rattle.kex_compile.specs.Compiled.{Accepts, AnswersAlike, IsRefused, MeansAlike};
+ghost use Rattle.kex_compile.specs.Stages.{HaveInAll, HaveStatesInAll, Plans, roots_of};
+ghost use Rattle.kex_compile.specs.Compiled.{Accepts, AnswersAlike, HasAnswers, IsCompiled, IsRefused, MeansAlike};
 
 use crate::limits::Limits;
 use crate::refusal::CompileRefusal;
@@ -48,3 +48,8 @@ pub fn meant()
     regexp::one_tree();
     reader::one_tree()
 }
+
+/// On each input, open or ended and within whatever limit, there is an answer of the program that a text is compiled as.
+pub fn answered()
+    ensures { (limits : Limits) (text : List ℕ) (plans : Plans) (is : IsCompiled limits text plans) → HasAnswers is.program }
+{}
