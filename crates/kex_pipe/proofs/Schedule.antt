@@ -1,12 +1,13 @@
 -- What a schedule gives, and the line that a pipe is.
-use Rattle.std.proofs.Common.{◌≡◌, ℕ, zero, suc, Bool, true, false, List, [], ◌∷◌, ◌++◌, ◌||◌, length, map, get_or, refl, sym, ap, ap₂, ◌∙◌, append_assoc, append-nil, arith}
+use Rattle.std.proofs.Common.{◌≡◌, ◌<◌, ℕ, zero, suc, Bool, true, false, List, [], ◌∷◌, ◌++◌, ◌||◌, length, map, get_or, refl, sym, ap, ap₂, subst, ◌∙◌, append_assoc, append-nil, arith}
 use Rattle.std.proofs.Math.ListN.{set}
 use Rattle.std.proofs.lemmas.List.{map-append}
 use Rattle.kex_model.specs.Answers.{Answer}
 use Rattle.kex_model.specs.Schedules.{Item, byte, finish, has_end, ending, items_of, Seat, Event, give, give_end, turn, After, begun, given, ended, turned, LastWrote}
 use Rattle.kex_pipe.specs.Events.{bytes_given, end_given}
+use Rattle.kex_pipe.specs.Seats.{Sits}
 use Rattle.kex_pipe.specs.Waiting.{unread, waiting}
-use Rattle.kex_pipe.specs.Standing.{Line, last_unread, Stands}
+use Rattle.kex_pipe.specs.Standing.{Line, Stands, HasWritten, in_hand}
 use Rattle.kex_pipe.specs.declared.inbox.Inbox.{Inbox}
 use Rattle.kex_pipe.specs.declared.seat.Seat.{Seat as Seated}
 use Rattle.kex_pipe.specs.declared.pipe.Pipe.{Pipe}
@@ -47,31 +48,34 @@ module _ {P : Type 0} (gives : P → List ℕ → Bool → Answer → Type 0) wh
   came-given (turned {h = h} i m a t) = came-given a ∙ ap₂ items_of (sym (bytes_given-append h (turn (suc i) m ∷ []) ∙ append-nil (bytes_given h))) (or-not (end_given h) ∙ sym (end_given-append h (turn (suc i) m ∷ [])))
 
 module _ {T : Type 0} (t : Ghosts T) where
-  last-end : Bool → List Inbox → Bool
-  last-end e [] = e
-  last-end e (b ∷ bs) = last-end b.ended bs
-
   out-items : (taken w : List ℕ) (e : Bool) → items_of (taken ++ w) e ≡ map byte taken ++ items_of w e
   out-items taken w e = ap (λ z. z ++ ending e) (map-append byte taken w) ∙ append_assoc (map byte taken) (map byte w) (ending e)
 
   -- what the last stage has written is what was taken from the output, and what is in hand
-  pub line-wrote : (u : List ℕ) (e : Bool) (came : List Item) (ps : List t.Plan) (ss : List (Seated T)) (xs : List Seat) (bs : List Inbox) (taken : List ℕ) → Line t came ps ss xs bs taken → (f : Bool) × LastWrote t.gives came ps xs (items_of (taken ++ last_unread u bs) f)
-  line-wrote u e came [] [] [] (b ∷ []) taken h = (b.ended, out-items taken (unread b) b.ended ∙ sym h)
-  line-wrote u e came (p ∷ ps) (s ∷ ss) (x ∷ xs) (b ∷ bs) taken h =
-      let r = line-wrote (unread b) b.ended h.1 ps ss xs bs taken h.3 in
-      (r.0, (h.1, sits-wrote t p s x h.1 h.2, r.1))
-  line-wrote u e came ps ss xs bs taken h = absurd h
+  pub line-wrote : (came : List Item) (ps : List t.Plan) (ss : List (Seated T t)) (xs : List Seat) (b : Inbox) (taken : List ℕ) → Line t came ps ss xs b taken → (f : Bool) × LastWrote t.gives came ps xs (items_of (taken ++ unread b) f)
+  line-wrote came [] [] [] b taken h = (b.ended, out-items taken (unread b) b.ended ∙ sym h)
+  line-wrote came (p ∷ ps) (s ∷ ss) (x ∷ xs) b taken h =
+      let r = line-wrote h.1 ps ss xs b taken h.3 in
+      (r.0, (h.1, sits-wrote t p s.staged x h.1 h.2, r.1))
+  line-wrote came ps ss xs b taken h = absurd h
 
-  pub standing : (ps : List t.Plan) (pipe : Pipe T t) (h : List Event) (taken : List ℕ) (came : List Item) (xs : List Seat) → After t.gives ps h came xs → Line t came ps pipe.seats.items xs pipe.inboxes.items taken → pipe.ended ≡ has_end came → pipe.spent ≡ false → Stands t ps pipe h taken
-  standing ps pipe h taken came xs after line same_end going =
-      let r = line-wrote [] false came ps pipe.seats.items xs pipe.inboxes.items taken line in
-      record { came = came; seats = xs; after = after; output_ended = r.0; written = r.1; line = line; same_end = same_end; going = going }
+  pub standing : (ps : List t.Plan) (pipe : Pipe T t) (h : List Event) (taken : List ℕ) (came : List Item) (xs : List Seat) → After t.gives ps h came xs → Line t came ps pipe.seats.items xs pipe.output taken → pipe.ended ≡ has_end came → pipe.spent ≡ false → pipe.in_round ≡ false → Stands t ps pipe h taken
+  standing ps pipe h taken came xs after line same_end going closed =
+      let r = line-wrote came ps pipe.seats.items xs pipe.output taken line in
+      record { came = came; seats = xs; after = after; output_ended = r.0; written = r.1; line = line; same_end = same_end; going = going; closed = closed }
+
+  -- the same, with what else is known of the places
+  pub standing-and : (Q : List Item → List Seat → Type 0) (ps : List t.Plan) (pipe : Pipe T t) (h : List Event) (taken : List ℕ) (came : List Item) (xs : List Seat) → After t.gives ps h came xs → Line t came ps pipe.seats.items xs pipe.output taken → pipe.ended ≡ has_end came → pipe.spent ≡ false → pipe.in_round ≡ false → Q came xs → (s : Stands t ps pipe h taken) × Q s.came s.seats
+  standing-and Q ps pipe h taken came xs after line same_end going closed q =
+      let r = line-wrote came ps pipe.seats.items xs pipe.output taken line in
+      (record { came = came; seats = xs; after = after; output_ended = r.0; written = r.1; line = line; same_end = same_end; going = going; closed = closed }, q)
 
   -- more comes
-  pub line-more : (came came' : List Item) (ps : List t.Plan) (ss : List (Seated T)) (xs : List Seat) (bs : List Inbox) (taken : List ℕ) (b b' d : Inbox) → b ≡ get_or bs 0 d → ((front : List Item) → came ≡ front ++ waiting b → came' ≡ front ++ waiting b') → Line t came ps ss xs bs taken → Line t came' ps ss xs (set bs 0 b') taken
-  line-more came came' [] [] [] (c ∷ []) taken b b' d e more h = more (map byte taken) (rw e h)
-  line-more came came' (p ∷ ps) (s ∷ ss) (x ∷ xs) (c ∷ bs) taken b b' d e more h = (more x.taken (rw e h.0), h.1, h.2, h.3)
-  line-more came came' ps ss xs bs taken b b' d e more h = absurd h
+  pub line-more : (came came' : List Item) (ps : List t.Plan) (ss : List (Seated T t)) (xs : List Seat) (b : Inbox) (taken : List ℕ) (s s' d : Seated T t) → 0 < length ss → s ≡ get_or ss 0 d → s'.staged ≡ s.staged → s'.outbox ≡ s.outbox → ((front : List Item) → came ≡ front ++ waiting s.inbox → came' ≡ front ++ waiting s'.inbox) → Line t came ps ss xs b taken → Line t came' ps (set ss 0 s') xs b taken
+  line-more came came' ps [] xs b taken s s' d some s_is staged outbox more h = absurd (omega arith)
+  line-more came came' (p ∷ ps) (s0 ∷ ss) (x ∷ xs) b taken s s' d some s_is staged outbox more h =
+      (more x.taken (rw s_is h.0), h.1, subst (λ z. Sits t p z x h.1) (ap (λ z. z.staged) (sym s_is) ∙ sym staged) h.2, h.3, ap waiting (outbox ∙ ap (λ z. z.outbox) s_is) ∙ h.4)
+  line-more came came' ps ss xs b taken s s' d some s_is staged outbox more h = absurd h
 
   no-end-waits : (front : List Item) (came : List Item) (b : Inbox) → has_end came ≡ false → came ≡ front ++ waiting b → b.ended ≡ false
   no-end-waits front came b no_end is = sym (end-items (unread b) b.ended) ∙ or-false (has_end front) (has_end (waiting b)) (sym (end-append front (waiting b)) ∙ ap has_end (sym is) ∙ no_end)
@@ -91,23 +95,31 @@ module _ {T : Type 0} (t : Ghosts T) where
       ap (λ z. z ++ finish ∷ []) (is ∙ ap (λ z. front ++ z) before) ∙ append_assoc front (map byte (unread b)) (finish ∷ []) ∙ ap (λ z. front ++ z) (sym after)
 
   -- the output is taken
-  pub last-unread : (u : List ℕ) (bs : List Inbox) (n : ℕ) (d : Inbox) → length bs ≡ suc n → last_unread u bs ≡ unread (get_or bs n d)
-  last-unread u [] n d e = absurd (omega arith)
-  last-unread u (b ∷ []) zero d e = refl
-  last-unread u (b ∷ []) (suc n) d e = absurd (omega arith)
-  last-unread u (b ∷ c ∷ bs) zero d e = absurd (omega arith)
-  last-unread u (b ∷ c ∷ bs) (suc n) d e = last-unread (unread b) (c ∷ bs) n d (omega arith)
-
-  pub last-unread-set : (u : List ℕ) (bs : List Inbox) (n : ℕ) (b' : Inbox) → length bs ≡ suc n → last_unread u (set bs n b') ≡ unread b'
-  last-unread-set u [] n b' e = absurd (omega arith)
-  last-unread-set u (b ∷ []) zero b' e = refl
-  last-unread-set u (b ∷ []) (suc n) b' e = absurd (omega arith)
-  last-unread-set u (b ∷ c ∷ bs) zero b' e = absurd (omega arith)
-  last-unread-set u (b ∷ c ∷ bs) (suc n) b' e = last-unread-set (unread b) (c ∷ bs) n b' (omega arith)
-
-  pub line-taken : (came : List Item) (ps : List t.Plan) (ss : List (Seated T)) (xs : List Seat) (bs : List Inbox) (taken out : List ℕ) (b' d : Inbox) → out ≡ unread (get_or bs (length ss) d) → unread b' ≡ [] → b'.ended ≡ (get_or bs (length ss) d).ended → Line t came ps ss xs bs taken → Line t came ps ss xs (set bs (length ss) b') (taken ++ out)
-  line-taken came [] [] [] (b ∷ []) taken out b' d out_is none end h =
+  pub line-taken : (came : List Item) (ps : List t.Plan) (ss : List (Seated T t)) (xs : List Seat) (b b' : Inbox) (taken out : List ℕ) → out ≡ unread b → unread b' ≡ [] → b'.ended ≡ b.ended → Line t came ps ss xs b taken → Line t came ps ss xs b' (taken ++ out)
+  line-taken came [] [] [] b b' taken out out_is none end h =
       h ∙ sym (out-items taken (unread b) b.ended) ∙ ap₂ (λ z f. map byte (taken ++ z) ++ ending f) (sym out_is) (sym end) ∙ ap (λ z. map byte (taken ++ out) ++ items_of z b'.ended) (sym none)
-  line-taken came (p ∷ ps) (s ∷ ss) (x ∷ xs) (b ∷ bs) taken out b' d out_is none end h =
-      (h.0, h.1, h.2, line-taken h.1 ps ss xs bs taken out b' d out_is none end h.3)
-  line-taken came ps ss xs bs taken out b' d out_is none end h = absurd h
+  line-taken came (p ∷ ps) (s ∷ ss) (x ∷ xs) b b' taken out out_is none end h =
+      (h.0, h.1, h.2, line-taken h.1 ps ss xs b b' taken out out_is none end h.3, h.4)
+  line-taken came ps ss xs b b' taken out out_is none end h = absurd h
+
+  -- the output is as it was
+  pub has-written : (ps : List t.Plan) (before pipe : Pipe T t) (h : List Event) (taken : List ℕ) → in_hand t pipe ≡ in_hand t before → Stands t ps before h taken → HasWritten t ps pipe h taken
+  has-written ps before pipe h taken same s = record {
+    came = s.came;
+    seats = s.seats;
+    after = s.after;
+    output_ended = s.output_ended;
+    written = subst (λ z. LastWrote t.gives s.came ps s.seats (items_of (taken ++ z) s.output_ended)) (sym same) s.written;
+  }
+
+  -- what was in hand was taken
+  pub written-taken : (ps : List t.Plan) (before pipe : Pipe T t) (h : List Event) (taken out : List ℕ) → out ≡ in_hand t before → in_hand t pipe ≡ [] → HasWritten t ps before h taken → HasWritten t ps pipe h (taken ++ out)
+  written-taken ps before pipe h taken out all none w =
+      let whole : taken ++ in_hand t before ≡ (taken ++ out) ++ in_hand t pipe = ap (λ z. taken ++ z) (sym all) ∙ sym (append-nil (taken ++ out)) ∙ ap (λ z. (taken ++ out) ++ z) (sym none) in
+      record {
+        came = w.came;
+        seats = w.seats;
+        after = w.after;
+        output_ended = w.output_ended;
+        written = subst (λ z. LastWrote t.gives w.came ps w.seats (items_of z w.output_ended)) whole w.written;
+      }

@@ -1,10 +1,10 @@
 // What waits between two stages.
 
-ghost use Rattle.std.specs.Prelude.{◌≡◌, ◌≤◌, ◌&&◌, ◌++◌, ◌∷◌, ◌↔◌, [], List, ℕ, true, false, IsTrue, OnOk, OnErr, not, nat_lt, length, take, drop, map};
+ghost use Rattle.std.specs.Prelude.{◌≡◌, ◌≤◌, ◌&&◌, ◌++◌, ◌∷◌, ◌↔◌, ◌⊎◌, [], List, ℕ, true, false, IsTrue, OnOk, OnErr, not, nat_lt, length, take, drop, map};
 
 use kex_code::memory::Memory;
 use std::alloc::Global;
-use std::mem::replace;
+use std::mem::{replace, swap};
 
 /// Items that wait: bytes, and the end behind them where it has come.
 ///
@@ -18,7 +18,7 @@ pub(crate) struct Inbox {
 }
 
 impl Inbox {
-    ghost use Rattle.kex_pipe.specs.Waiting.{unread};
+    ghost use Rattle.kex_pipe.specs.Waiting.{unread, waiting};
 
     pub(crate) fn new(alloc: Global) -> Inbox
         ensures bytes { unread result ≡ [] }
@@ -51,6 +51,30 @@ impl Inbox {
         ensures { result ≡ (self.now.ended && nat_lt (length (unread self.now)) at_most) }
     {
         self.ended && self.bytes.len() - self.start < at_most as usize
+    }
+
+    /// How many items there are.
+    pub(crate) fn count(&self) -> u64
+        ensures { result ≡ length (waiting self.now) }
+    {
+        (self.bytes.len() - self.start) as u64 + u64::from(self.ended)
+    }
+
+    /// Moves all that waits there behind what waits here, where the end hasn't come or nothing waits there. After an error
+    /// nothing was moved.
+    pub(crate) fn append(&mut self, other: &mut Inbox) -> Result<(), Memory>
+        ensures ok { OnOk result ((self.old.ended ≡ false) ⊎ (waiting other.old ≡ []) → waiting self.new ≡ waiting self.old ++ waiting other.old) }
+        ensures none_left { OnOk result (waiting other.new ≡ []) }
+        ensures err { OnErr result (unread self.new ≡ unread self.old) }
+    {
+        if self.is_empty() {
+            swap(self, other);
+        } else {
+            self.give(&other.bytes[other.start..])?;
+            self.ended = self.ended || other.ended;
+        }
+        other.clear();
+        Ok(())
     }
 
     /// Takes the first items away.

@@ -1,93 +1,51 @@
-// A stage in its place.
+// A stage in its seat, with what lies before and behind it.
 
-ghost use Rattle.std.specs.Prelude.{◌≡◌, ◌++◌, ℕ, List, [], Bool, Option, true, false, IsTrue, OnOk, OnErr, is_ok, take};
-ghost use Rattle.kex_model.specs.Schedules.{Item};
-ghost use Rattle.kex_model.specs.Schedules as schedule;
-ghost use Rattle.kex_pipe.specs.Histories.{Fed, bytes_of, ended_of};
-ghost use Rattle.kex_pipe.specs.Waiting.{unread, waiting, Passes};
+ghost use Rattle.std.specs.Prelude.{◌≡◌, ◌&&◌, ◌⊎◌, ℕ, Bool, true, false, IsTrue, OnOk, is_ok, drop, length};
+ghost use Rattle.kex_pipe.specs.Waiting.{waiting};
 
 use crate::inbox::Inbox;
-use crate::turn::{Fate, Turn};
+use crate::staged::Staged;
+use crate::turn::Turn;
 use kex_code::memory::Memory;
 
-/// A stage, and whether it had a turn.
+/// A stage, what waits before it, and what it has written and isn't handed on yet.
 #[derive(Drop)]
-pub(crate) struct Seat<T> {
-    pub(crate) stage: T,
-    pub(crate) turned: bool,
+pub struct Seat<T: Turn> {
+    pub(crate) staged: Staged<T>,
+    pub(crate) inbox: Inbox,
+    pub(crate) outbox: Inbox,
+    pub(crate) usable: bool,
+    ghost whole: { usable ≡ true → IsTrue (T.is_usable staged.stage) },
 }
 
 impl<T: Turn> Seat<T> {
-    ghost use Rattle.kex_pipe.specs.Seats.{Sits, IsWhole, TakesTurn};
+    ghost use Rattle.kex_pipe.specs.Rounds.{Takes, Works, LeftBy};
 
-    /// Takes at most this many items of its inbox, and writes into the next, which is empty after an error.
-    pub(crate) fn turn(
-        &mut self,
-        at_most: u64,
-        inbox: &mut Inbox,
-        next: &mut Inbox,
-    ) -> Result<(), Memory>
-        requires { IsTrue (T.is_usable self.old.stage) }
-        ensures usable { T.is_usable self.new.stage ≡ is_ok result }
-        ensures turns { OnOk result ((p : T.Plan) (x : schedule.Seat) (came out front : List Item)
-            → IsWhole came → came ≡ x.taken ++ waiting inbox.old → Sits T.Turn p self.old x out → out ≡ front ++ waiting next.old
-            → TakesTurn T.Turn p at_most came x front self.new inbox.new next.new) }
-        ensures err { OnErr result (unread next.new ≡ []) }
+    /// Takes at most this many items of the inbox, and writes into the outbox.
+    pub(crate) fn take(&mut self, at_most: u64) -> Result<(), Memory>
+        requires { IsTrue self.old.usable }
+        ensures usable { self.new.usable ≡ is_ok result }
+        ensures takes { OnOk result (Takes T.Turn at_most self.old self.new) }
     {
-        if self.turned && inbox.is_empty() {
+        let turned = self
+            .staged
+            .turn(at_most, &mut self.inbox, &mut self.outbox);
+        self.usable = turned.is_ok();
+        turned
+    }
+
+    /// Takes all that waits before the stage, as a turn does, and keeps what it writes until the round ends. The seat of a
+    /// spent pipe takes nothing.
+    pub fn work(&mut self) -> Result<(), Memory>
+        ensures works { OnOk result (IsTrue self.old.usable → Works T.Turn self.old self.new) }
+        ensures idle { self.old.usable ≡ false → IsTrue (is_ok result) × (self.new ≡ self.old) }
+        ensures usable { self.new.usable ≡ (self.old.usable && is_ok result) }
+        ensures own { (before : Seat T T.Turn) → LeftBy T.Turn before self.old → LeftBy T.Turn before self.new }
+    {
+        if !self.usable {
             return Ok(());
         }
-        feed(&mut self.stage, inbox.front(at_most), next)?;
-        if inbox.reaches_end(at_most) {
-            end(&mut self.stage, next)?;
-        }
-        inbox.remove(at_most);
-        self.turned = true;
-        Ok(())
-    }
-}
-
-// Feeds the stage, which writes into the inbox; after an error that is empty.
-fn feed<T: Turn>(stage: &mut T, piece: &[u8], into: &mut Inbox) -> Result<(), Memory>
-    requires { IsTrue (T.is_usable stage.old) }
-    ensures usable { T.is_usable stage.new ≡ is_ok result }
-    ensures same_plan { T.plan stage.new ≡ T.plan stage.old }
-    ensures passes { OnOk result ((h : Option Fed) → T.stands stage.old h → ended_of h ≡ false → into.old.ended ≡ false
-        → Passes (T.gives (T.plan stage.old)) (T.stands stage.new) h (bytes_of h ++ piece.now) false into.old into.new) }
-    ensures err { OnErr result (unread into.new ≡ []) }
-{
-    // Only of a stage that was fed in order it is known that it appends.
-    let fate = stage.feed(piece, &mut into.bytes);
-    into.start = into.start.min(into.bytes.len());
-    match fate {
-        Ok(_) => Ok(()),
-        Err(Memory) => {
-            into.clear();
-            Err(Memory)
-        }
-    }
-}
-
-// Ends the stage's input. The end goes into the inbox unless the stage has stopped; after an error that is empty.
-fn end<T: Turn>(stage: &mut T, into: &mut Inbox) -> Result<(), Memory>
-    requires { IsTrue (T.is_usable stage.old) }
-    ensures usable { T.is_usable stage.new ≡ is_ok result }
-    ensures same_plan { T.plan stage.new ≡ T.plan stage.old }
-    ensures passes { OnOk result ((h : Option Fed) → T.stands stage.old h → ended_of h ≡ false → into.old.ended ≡ false
-        → Passes (T.gives (T.plan stage.old)) (T.stands stage.new) h (bytes_of h) true into.old into.new) }
-    ensures err { OnErr result (unread into.new ≡ []) }
-{
-    let fate = stage.end(&mut into.bytes);
-    into.start = into.start.min(into.bytes.len());
-    match fate {
-        Ok(Fate::On) => {
-            into.give_end();
-            Ok(())
-        }
-        Ok(Fate::Stopped) => Ok(()),
-        Err(Memory) => {
-            into.clear();
-            Err(Memory)
-        }
+        let all = self.inbox.count();
+        self.take(all)
     }
 }

@@ -1,5 +1,5 @@
 pub mod Schedules
-pub mod Turning
+pub mod Rounding
 pub mod Working
 pub mod Placing
 pub mod Running

@@ -34,7 +34,7 @@ module _ (old new : Tally) (piece out : List ℕ) (made : new.made ≡ capped (o
   }
 
 module _ (says : List ℕ → Bool → Said → Type 0) (stands now : History → Type 0) where
-  -- a worker that is fed is fed more of what waits
+  -- more is fed of what waits
   pub fed-more : (all bytes waiting rest piece : List ℕ) (old new : Tally) (f : IsFed says stands bytes old) → all ≡ bytes ++ waiting → waiting ≡ piece ++ rest → Counts says now (Some (record { bytes = bytes; ended = false; said = f.said })) (bytes ++ piece) false old new → HasWaiting says now all rest new
   fed-more all bytes waiting rest piece old new f is parts c = (
     bytes ++ piece,

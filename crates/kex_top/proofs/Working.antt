@@ -1,4 +1,4 @@
--- A pipe is a worker.
+-- What a pipe of stages says of what it was fed.
 use Rattle.std.proofs.Common.{◌≡◌, ℕ, ◌<◌, Bool, true, false, List, [], ◌∷◌, ◌++◌, ◌||◌, Option, Some, None, length, map, get_or, zero, suc, arith, refl, sym, ap, ap₂, subst, ◌∙◌, append-nil}
 use Rattle.kex_model.specs.Answers.{Answer, Pipeline}
 use Rattle.kex_model.specs.Schedules.{Item, Seat, has_end, Event, give, give_end, Settled}
@@ -30,13 +30,13 @@ or-yes true = refl
 or-yes false = refl
 
 module _ {T : Type 0} (t : Ghosts T) where
-  line-plans : (came : List Item) (ps : List t.Plan) (ss : List (Seated T)) (xs : List Seat) (bs : List Inbox) (taken : List ℕ) → Line t came ps ss xs bs taken → map (λ s. t.plan s.stage) ss ≡ ps
-  line-plans came [] [] [] (b ∷ []) taken h = refl
-  line-plans came (p ∷ ps) (s ∷ ss) (x ∷ xs) (b ∷ bs) taken h = ap₂ (λ q qs. q ∷ qs) h.2.same_plan (line-plans h.1 ps ss xs bs taken h.3)
-  line-plans came ps ss xs bs taken h = absurd h
+  line-plans : (came : List Item) (ps : List t.Plan) (ss : List (Seated T t)) (xs : List Seat) (b : Inbox) (taken : List ℕ) → Line t came ps ss xs b taken → map (λ s. t.plan s.staged.stage) ss ≡ ps
+  line-plans came [] [] [] b taken h = refl
+  line-plans came (p ∷ ps) (s ∷ ss) (x ∷ xs) b taken h = ap₂ (λ q qs. q ∷ qs) h.2.same_plan (line-plans h.1 ps ss xs b taken h.3)
+  line-plans came ps ss xs b taken h = absurd h
 
   pub same-plans : (ps : List t.Plan) (pipe : Pipe T t) (h : List Event) (taken : List ℕ) → Stands t ps pipe h taken → plans_of t pipe ≡ ps
-  same-plans ps pipe h taken s = line-plans s.came ps pipe.seats.items s.seats pipe.inboxes.items taken s.line
+  same-plans ps pipe h taken s = line-plans s.came ps pipe.seats.items s.seats pipe.output taken s.line
 
   -- a stage more that wasn't fed
   pub unfed-more : (xs : List T) (x : T) → ((k : ℕ) (d : T) → k < length xs → t.stands (get_or xs k d) None) → t.stands x None → (k : ℕ) (d : T) → k < length (xs ++ x ∷ []) → t.stands (get_or (xs ++ x ∷ []) k d) None
@@ -45,7 +45,7 @@ module _ {T : Type 0} (t : Ghosts T) where
   unfed-more (y ∷ xs) x unfed h zero d lt = unfed zero d (omega arith)
   unfed-more (y ∷ xs) x unfed h (suc k) d lt = unfed-more xs x (λ n c less. unfed (suc n) c (omega arith)) h k d (omega arith)
 
-  -- what the pipe was given, by what the worker was fed
+  -- what the pipe was given, by what it was fed
   pub record Standing (pipe : Pipe T t) (h : History) : Type 0 where
     pub events : List Event
     pub some : 0 < length (plans_of t pipe)
@@ -84,7 +84,7 @@ module _ {T : Type 0} (t : Ghosts T) where
           (subst (λ z. Pipeline t.gives 1 ps (bytes_given w.events) z (taken ++ out) (report_as r)) w.same_end
           (subst (λ z. Pipeline t.gives 1 ps (bytes_given w.events) (end_given w.events) z (report_as r)) (ap (λ z. (taken ++ out) ++ z) none ∙ append-nil (taken ++ out)) all))
 
-      -- the worker has said all that there is to say on what it was given
+      -- the pipe has said all that there is to say on what it was given
       pub said-all : (h : History) (w : List ℕ) (e : Bool) (fate : Fate) → 0 < length ps → taken ≡ text_of h → bytes_given given ≡ w → end_given given ≡ e
           → IsWorkedOff t ps given taken old → ((k : List Event) → Stands t ps old k taken → Stands t ps pipe k (taken ++ out)) → in_hand t pipe ≡ []
           → ((k : List Event) (text : List ℕ) (s : Stands t ps pipe k text) → Settled t.gives s.came ps s.seats → Pipeline t.gives 1 ps (bytes_given k) (end_given k) (text ++ in_hand t pipe) (report_as r))

@@ -1,4 +1,4 @@
--- What a worker was fed, and what it has said.
+-- What the stages were fed, and what they have said.
 use Rattle.std.specs.Prelude.{◌≡◌, ◌++◌, ℕ, Bool, false, List, [], Option, Some, None, IsSome}
 use Rattle.std.specs.Io.KnownBytes.{Appends, Keeps}
 use Rattle.kex_ports.specs.Bytes.{AppendsFront}
@@ -31,13 +31,13 @@ abbrev pub is_ended : History → Bool
 is_ended None = false
 is_ended (Some f) = f.ended
 
--- A worker that has stopped has a report, and one that goes on has none.
+-- Stages that have stopped have a report, and those that go on have none.
 abbrev pub IsFateOf : Option Rejected → Fate → Type 0
 IsFateOf report On = report ≡ None
 IsFateOf report Stopped = IsSome report
 
 module _ (says : List ℕ → Bool → Said → Type 0) where
-  -- The call brings the worker to w, and gives out what is said there and wasn't yet.
+  -- The call brings the stages to w, and gives out what is said there and wasn't yet.
   pub record Feeds (stands : History → Type 0) (h : History) (w : List ℕ) (e : Bool) (out : List ℕ) (fate : Fate) : Type 0 where
     pub said : Said
     pub is_said : says w e said

@@ -12,14 +12,14 @@ pub record IsTally (tally : Tally) (given text : List ℕ) : Type 0 where
   pub roll : tally.roll ≡ rolled 0 text
 
 module _ (says : List ℕ → Bool → Said → Type 0) where
-  -- the call brings the worker to w, and counts what is said there and wasn't yet
+  -- the call brings the stages to w, and counts what is said there and wasn't yet
   pub record Counts (stands : History → Type 0) (h : History) (w : List ℕ) (e : Bool) (old new : Tally) : Type 0 where
     pub said : Said
     pub is_said : says w e said
     pub stands_for : stands (Some (record { bytes = w; ended = e; said = said }))
     pub tallied : IsTally old (bytes_of h) (text_of h) → IsTally new w said.text
 
--- a worker that was fed these bytes, which are counted
+-- stages that were fed these bytes, which are counted
 module _ (says : List ℕ → Bool → Said → Type 0) (stands : History → Type 0) where
   pub record IsFed (bytes : List ℕ) (tally : Tally) : Type 0 where
     pub said : Said

@@ -31,7 +31,9 @@ use std::thread::Threads;
 pub(crate) const MOST_TEXT: usize = 1_048_576;
 
 // Answers a command on the input, of the program of a name.
-fn answer_stream<H: Shelf, S: Source, K: Sink>(
+fn answer_stream<R: Threads + Sync, G: Gate + Sync, H: Shelf, S: Source, K: Sink>(
+    rt: &R,
+    gate: &G,
     alloc: Global,
     mode: Mode,
     program: &str,
@@ -58,13 +60,15 @@ fn answer_stream<H: Shelf, S: Source, K: Sink>(
     };
     let asked = limits_of(mode);
     match compile(alloc, &text, &asked) {
-        Ok(compiled) => serve(alloc, mode, &compiled, limits, input, output),
+        Ok(compiled) => serve(rt, gate, alloc, mode, &compiled, limits, input, output),
         Err(refusal) => refused(&text, refusal),
     }
 }
 
 // Answers the words.
-fn answer<H: Shelf, S: Source, K: Sink>(
+fn answer<R: Threads + Sync, G: Gate + Sync, H: Shelf, S: Source, K: Sink>(
+    rt: &R,
+    gate: &G,
     alloc: Global,
     words: &[String],
     shelf: &mut H,
@@ -101,11 +105,11 @@ fn answer<H: Shelf, S: Source, K: Sink>(
                 program,
                 limits,
             },
-        ) => answer_stream(alloc, mode, program, limits, shelf, input, output),
+        ) => answer_stream(rt, gate, alloc, mode, program, limits, shelf, input, output),
         Ok(Command::Check { program, states }) => answer_check(
             alloc, program, states, shelf, output,
         ),
-        Ok(Command::Trial(lines)) => answer_trial(alloc, lines, output),
+        Ok(Command::Trial(lines)) => answer_trial(rt, gate, alloc, lines, output),
         Err(WordsRefusal::Usage) => Status::Usage,
         Err(WordsRefusal::Memory) => Status::Memory,
     }
@@ -119,14 +123,14 @@ fn answer<H: Shelf, S: Source, K: Sink>(
 /// whether there is one, both of a program of one stage. `check` writes a line with the counts of stages and places, and `trial`
 /// one that sums up what a program of its own writes for lines of its own.
 pub fn kex<R: Threads + Sync, H: Shelf, S: Source, K: Sink, N: Sink, G: Gate + Sync>(
-    _rt: &R,
+    rt: &R,
     alloc: Global,
     words: &[String],
     shelf: &mut H,
     input: &mut S,
     output: &mut K,
     notes: &mut N,
-    _gate: &G,
+    gate: &G,
 ) -> Status
     ensures texts { H.texts shelf.new ≡ H.texts shelf.old }
     ensures usage { asked_of (map string_bytes words.now) ≡ None → AnswersNothing
@@ -171,7 +175,7 @@ pub fn kex<R: Threads + Sync, H: Shelf, S: Source, K: Sink, N: Sink, G: Gate + S
     ensures silent { result ≡ Done → notes.new ≡ notes.old }
     ensures note { Gains (change_of N.held N.faults notes.old notes.new) (line_of (note_of result)) }
 {
-    let status = answer(alloc, words, shelf, input, output);
+    let status = answer(rt, gate, alloc, words, shelf, input, output);
     tell(status.note(), notes);
     status
 }

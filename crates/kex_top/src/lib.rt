@@ -10,6 +10,7 @@ mod lines;
 mod pass;
 mod pipeline;
 mod refused;
+mod rounds;
 mod serve;
 mod single;
 mod status;
@@ -18,7 +19,6 @@ mod tally;
 #[cfg(test)]
 mod tests;
 mod trial;
-mod worker;
 
 pub use call::kex;
 pub use kex_pipe::report::Rejected;

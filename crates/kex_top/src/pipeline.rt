@@ -1,34 +1,19 @@
-// The stages of a program as one worker.
-ghost use Rattle.std.specs.Prelude.{◌≡◌, ◌<◌, List, ℕ, false, IsSome, OnOk, length};
+// The stages of a program, fed piece by piece.
+ghost use Rattle.std.specs.Prelude.{◌≡◌, ◌<◌, ◌++◌, List, ℕ, Some, IsSome, OnOk, IfOk, false, true, length};
 ghost use Rattle.std.proofs.Common.{ap};
 ghost use Rattle.kex_machine.proofs.Standing.{past_limit};
 ghost use Rattle.kex_model.specs.Answers.{Answer};
-ghost use Rattle.kex_model.specs.Schedules.{Event};
-ghost use Rattle.kex_pipe.specs.Standing.{Stands};
-ghost use Rattle.kex_top.specs.Pipelines.{StagesSay};
-ghost use Rattle.kex_top.specs.PipelineLaws.{says_one, says_grows, says_stays, says_ends};
-ghost use Rattle.kex_top.specs.History.{IsFateOf};
-ghost use Rattle.kex_top.specs.Piped.{IsWorkedOff, PipeStands, limit_of, plans_of};
+ghost use Rattle.kex_top.specs.History.{Fed, History, bytes_of, is_ended, IsFateOf, Feeds};
+ghost use Rattle.kex_top.specs.Piped.{PipeSays, PipeStands, plans_of};
 
-use crate::worker::Worker;
+use crate::rounds::{give_all, work_off};
 use kex_code::memory::Memory;
 use kex_pipe::pipe::Pipe;
 use kex_pipe::report::Rejected;
 use kex_pipe::turn::{Fate, Turn};
+use kex_ports::Gate;
 use kex_stage::stage::Stage;
-
-// Each stage, in the order of the pipeline, takes all that waits before it.
-fn work_off<T: Turn + Drop>(pipe: &mut Pipe<T>) -> Result<(), Memory>
-    ensures { OnOk result ((ps : List T.Plan) (h : List Event) (taken : List ℕ) → Stands T.Turn ps pipe.old h taken → IsWorkedOff T.Turn ps h taken pipe.new) }
-{
-    let count = pipe.count();
-    'stages: for i in 0..count {
-        let Ok(()) = pipe.turn(i + 1, u64::MAX) else {
-            return Err(Memory);
-        };
-    }
-    Ok(())
-}
+use std::thread::Threads;
 
 /// A stage with a limit to its input, past which it stops.
 pub(crate) trait Limited: Turn {
@@ -57,44 +42,50 @@ fn fate_of(report: Option<Rejected>) -> Fate
     }
 }
 
-impl<T: Limited + Drop> Worker for Pipe<T> {
-    ghost Plan = { List T.Plan };
+/// Puts into `out`, in place of what it held, what the stages say now of the bytes and haven't said yet.
+///
+/// Once a call has answered that memory was wanted, the pipe may only be dropped.
+pub(crate) fn feed<R: Threads + Sync, T: Limited + Drop + Send, G: Gate + Sync>(
+    rt: &R,
+    gate: &G,
+    pipe: &mut Pipe<T>,
+    piece: &[u8],
+    out: &mut Vec<u8>,
+) -> Result<Fate, Memory>
+    requires { (h : History) × PipeStands T.Turn pipe.old h × (is_ended h ≡ false) }
+    ensures same { OnOk result (plans_of T.Turn pipe.new ≡ plans_of T.Turn pipe.old) }
+    ensures feeds { IfOk result (λ fate. (h : History) → PipeStands T.Turn pipe.old h → is_ended h ≡ false
+        → Feeds (PipeSays T.Turn (plans_of T.Turn pipe.old)) (PipeStands T.Turn pipe.new) h (bytes_of h ++ piece.now) false out.new.items fate) }
+{
+    give_all(rt, pipe, gate, piece)?;
+    work_off(rt, pipe, gate)?;
+    *out = pipe.take_output();
+    Ok(fate_of(pipe.report()))
+}
 
-    ghost plan = { λ pipe. plans_of T.Turn pipe };
+/// The same, for the end of the bytes.
+pub(crate) fn end<R: Threads + Sync, T: Limited + Drop + Send, G: Gate + Sync>(
+    rt: &R,
+    gate: &G,
+    pipe: &mut Pipe<T>,
+    out: &mut Vec<u8>,
+) -> Result<Fate, Memory>
+    requires { (h : History) × PipeStands T.Turn pipe.old h × (is_ended h ≡ false) }
+    ensures same { OnOk result (plans_of T.Turn pipe.new ≡ plans_of T.Turn pipe.old) }
+    ensures feeds { IfOk result (λ fate. (h : History) → PipeStands T.Turn pipe.old h → is_ended h ≡ false
+        → Feeds (PipeSays T.Turn (plans_of T.Turn pipe.old)) (PipeStands T.Turn pipe.new) h (bytes_of h) true out.new.items fate) }
+{
+    let Ok(()) = pipe.give_end() else {
+        return Err(Memory);
+    };
+    work_off(rt, pipe, gate)?;
+    *out = pipe.take_output();
+    Ok(fate_of(pipe.report()))
+}
 
-    ghost says = { λ ps w e said. StagesSay (λ p v d a. T.gives p v d a) ps w e said };
-
-    ghost stands = { λ pipe h. PipeStands T.Turn pipe h };
-
-    ghost limit = { λ pipe. limit_of T.Turn T.limit pipe };
-
-    ghost one = { λ ps w e a b h k. says_one T.gives T.one ps w e a b h k };
-
-    ghost grows = { λ ps w x e a b h k. says_grows T.gives T.one T.grows T.stays T.ends ps w x e a b h k };
-
-    ghost stays = { λ ps w x e a b h k some. says_stays T.gives T.one T.grows T.stays T.ends ps w x e a b h k some };
-
-    ghost ends = { λ pipe w a h lt. says_ends T.gives (λ s. T.plan s.stage) (λ s. T.limit s.stage) (λ s v b g more. T.past_limit s.stage v b g more) pipe.seats.items w a h lt };
-
-    fn feed(&mut self, piece: &[u8], out: &mut Vec<u8>) -> Result<Fate, Memory> {
-        let Ok(()) = self.give(piece) else {
-            return Err(Memory);
-        };
-        work_off(self)?;
-        *out = self.take_output();
-        Ok(fate_of(self.report()))
-    }
-
-    fn end(&mut self, out: &mut Vec<u8>) -> Result<Fate, Memory> {
-        let Ok(()) = self.give_end() else {
-            return Err(Memory);
-        };
-        work_off(self)?;
-        *out = self.take_output();
-        Ok(fate_of(self.report()))
-    }
-
-    fn rejected(&self) -> Option<Rejected> {
-        self.report()
-    }
+/// The report of what was fed.
+pub(crate) fn rejected<T: Limited + Drop>(pipe: &Pipe<T>) -> Option<Rejected>
+    ensures { (f : Fed) → PipeStands T.Turn pipe.now (Some f) → result ≡ f.said.report }
+{
+    pipe.report()
 }

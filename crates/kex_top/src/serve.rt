@@ -19,11 +19,12 @@ use kex_code::memory::Memory;
 use kex_compile::compiled::Compiled;
 use kex_pipe::pipe::Pipe;
 use kex_pipe::turn::Turn;
-use kex_ports::{Sink, Source};
+use kex_ports::{Gate, Sink, Source};
 use kex_stage::plan::Plan;
 use kex_stage::stage::Stage;
 use kex_words::{Limits, Mode};
 use std::alloc::Global;
+use std::thread::Threads;
 
 /// The pipe of the stages with these plans, each of which takes at most so many bytes.
 pub(crate) fn pipe_of<'p>(
@@ -45,7 +46,9 @@ pub(crate) fn pipe_of<'p>(
 }
 
 // Runs the stages.
-fn run_stages<S: Source, K: Sink>(
+fn run_stages<R: Threads + Sync, G: Gate + Sync, S: Source, K: Sink>(
+    rt: &R,
+    gate: &G,
     alloc: Global,
     compiled: &Compiled,
     limits: Limits,
@@ -64,11 +67,13 @@ fn run_stages<S: Source, K: Sink>(
     let Ok(mut pipe) = pipe_of(alloc, compiled.stages(), limits.max_input) else {
         return Status::Memory;
     };
-    run(alloc, &mut pipe, limits, input, output)
+    run(rt, gate, alloc, &mut pipe, limits, input, output)
 }
 
 /// Writes for the input what is asked for. A test doesn't call the output.
-pub(crate) fn serve<S: Source, K: Sink>(
+pub(crate) fn serve<R: Threads + Sync, G: Gate + Sync, S: Source, K: Sink>(
+    rt: &R,
+    gate: &G,
     alloc: Global,
     mode: Mode,
     compiled: &Compiled,
@@ -88,9 +93,9 @@ pub(crate) fn serve<S: Source, K: Sink>(
     ensures untouched { mode ≡ of_mode.Test → output.new ≡ output.old }
 {
     match mode {
-        Mode::Run(_) => run_stages(alloc, compiled, limits, input, output),
-        Mode::Code => code(alloc, compiled.stages()[0].machine(), limits, input, output),
-        Mode::Act => act(alloc, compiled.stages()[0].machine(), limits, input, output),
-        Mode::Test => test(alloc, compiled.stages()[0].machine(), limits, input),
+        Mode::Run(_) => run_stages(rt, gate, alloc, compiled, limits, input, output),
+        Mode::Code => code(rt, gate, alloc, compiled.stages()[0].machine(), limits, input, output),
+        Mode::Act => act(rt, gate, alloc, compiled.stages()[0].machine(), limits, input, output),
+        Mode::Test => test(rt, gate, alloc, compiled.stages()[0].machine(), limits, input),
     }
 }

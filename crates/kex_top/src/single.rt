@@ -18,10 +18,11 @@ use crate::stream::run;
 use kex_machine::Trimmed;
 use kex_pipe::pipe::Pipe;
 use kex_pipe::turn::Turn;
-use kex_ports::{NeverFailsSink, Sink, Source};
+use kex_ports::{Gate, NeverFailsSink, Sink, Source};
 use kex_single::{Coder, Player, Tester};
 use kex_words::Limits;
 use std::alloc::Global;
+use std::thread::Threads;
 
 impl<'m> Limited for Coder<'m> {
     ghost limit = { λ s. (⟦<Coder<'m> as Turn>⟧.plan s).limit };
@@ -48,7 +49,9 @@ impl<'m> Limited for Tester<'m> {
 }
 
 // Runs one stage.
-fn run_one<T: Limited + Drop, S: Source, K: Sink>(
+fn run_one<R: Threads + Sync, T: Limited + Drop + Send, G: Gate + Sync, S: Source, K: Sink>(
+    rt: &R,
+    gate: &G,
     alloc: Global,
     stage: T,
     limits: Limits,
@@ -72,11 +75,13 @@ fn run_one<T: Limited + Drop, S: Source, K: Sink>(
     let Ok(mut pipe) = Pipe::new(alloc, stages) else {
         return Status::Memory;
     };
-    run(alloc, &mut pipe, limits, input, output)
+    run(rt, gate, alloc, &mut pipe, limits, input, output)
 }
 
 /// Writes the code of the input.
-pub(crate) fn code<S: Source, K: Sink>(
+pub(crate) fn code<R: Threads + Sync, G: Gate + Sync, S: Source, K: Sink>(
+    rt: &R,
+    gate: &G,
     alloc: Global,
     machine: &Trimmed,
     limits: Limits,
@@ -94,11 +99,13 @@ pub(crate) fn code<S: Source, K: Sink>(
     let Ok(coder) = Coder::new(alloc, machine, limits.max_input) else {
         return Status::Memory;
     };
-    run_one(alloc, coder, limits, input, output)
+    run_one(rt, gate, alloc, coder, limits, input, output)
 }
 
 /// Writes what the input means as the text of a code.
-pub(crate) fn act<S: Source, K: Sink>(
+pub(crate) fn act<R: Threads + Sync, G: Gate + Sync, S: Source, K: Sink>(
+    rt: &R,
+    gate: &G,
     alloc: Global,
     machine: &Trimmed,
     limits: Limits,
@@ -116,11 +123,13 @@ pub(crate) fn act<S: Source, K: Sink>(
     let Ok(player) = Player::new(alloc, machine, limits.max_input) else {
         return Status::Memory;
     };
-    run_one(alloc, player, limits, input, output)
+    run_one(rt, gate, alloc, player, limits, input, output)
 }
 
 /// Tells whether the input has a parse, and writes nothing.
-pub(crate) fn test<S: Source>(
+pub(crate) fn test<R: Threads + Sync, G: Gate + Sync, S: Source>(
+    rt: &R,
+    gate: &G,
     alloc: Global,
     machine: &Trimmed,
     limits: Limits,
@@ -134,5 +143,5 @@ pub(crate) fn test<S: Source>(
     let Ok(tester) = Tester::new(alloc, machine, limits.max_input) else {
         return Status::Memory;
     };
-    run_one(alloc, tester, limits, input, &mut NeverFailsSink)
+    run_one(rt, gate, alloc, tester, limits, input, &mut NeverFailsSink)
 }

@@ -1,18 +1,21 @@
-// The loop from a source through a worker into a sink.
+// The loop from a source through the stages into a sink.
 ghost use Rattle.std.specs.Prelude.{◌≡◌, ◌<◌, ◌≤◌, ◌^◌, ℕ, None, length};
 ghost use Rattle.kex_ports.specs.Reads.{Asks, last_given};
 ghost use Rattle.kex_words.specs.Gains.{change_of};
 ghost use Rattle.kex_top.specs.Outside.{Closes, IsOpen, ReadsBlocks};
+ghost use Rattle.kex_top.specs.Piped.{PipeSays, PipeStands, limit_of, plans_of};
 ghost use Rattle.kex_top.specs.Run.{Pumped, Ran, status_of, status_after, is_whole};
 
 use crate::pass::{Trouble, pass, pass_end};
+use crate::pipeline::{Limited, rejected};
 use crate::status::Status;
-use crate::worker::Worker;
+use kex_pipe::pipe::Pipe;
 use kex_pipe::report::Rejected;
 use kex_pipe::turn::{Fate, Why};
-use kex_ports::{Failed, Sink, Source};
+use kex_ports::{Failed, Gate, Sink, Source};
 use kex_words::Limits;
 use std::alloc::Global;
+use std::thread::Threads;
 
 // The status of a run that was worked off.
 fn status_of(report: Option<Rejected>) -> Status
@@ -36,45 +39,47 @@ fn status_after(trouble: Trouble) -> Status
     }
 }
 
-/// Reads blocks until the end of input, a fault or a report, and writes what the worker says of each.
-pub(crate) fn pump<T: Worker, S: Source, K: Sink>(
-    worker: &mut T,
+/// Reads blocks until the end of input, a fault or a report, and writes what the stages say of each.
+pub(crate) fn pump<R: Threads + Sync, T: Limited + Drop + Send, G: Gate + Sync, S: Source, K: Sink>(
+    rt: &R,
+    gate: &G,
+    pipe: &mut Pipe<T>,
     block: &mut [u8],
     out: &mut Vec<u8>,
     input: &mut S,
     output: &mut K,
     most: u64,
 ) -> Status
-    requires fresh { T.stands worker.old None }
-    requires limit { (T.limit worker.old ≡ most) × (most ≤ 2 ^ 48) }
+    requires fresh { PipeStands T.Turn pipe.old None }
+    requires limit { (limit_of T.Turn T.limit pipe.old ≡ most) × (most ≤ 2 ^ 48) }
     requires block { (0 < length block.old) × (length block.old ≤ 2 ^ 20) }
-    ensures pumped { Pumped (T.says (T.plan worker.old)) (last_given (length block.old) (S.reads input.new))
+    ensures pumped { Pumped (PipeSays T.Turn (plans_of T.Turn pipe.old)) (last_given (length block.old) (S.reads input.new))
         (change_of S.rest S.faults input.old input.new)
         (change_of K.held K.faults output.old output.new) result }
     ensures asks { Asks (length block.old) (S.reads input.old) (S.reads input.new) }
     ensures unclosed { IsOpen (K.ending output.old) (K.ending output.new) result }
 {
-    match pass(worker, &[], out, output) {
+    match pass(rt, gate, pipe, &[], out, output) {
         Ok(Fate::On) => {}
-        Ok(Fate::Stopped) => return status_of(worker.rejected()),
+        Ok(Fate::Stopped) => return status_of(rejected(pipe)),
         Err(trouble) => return status_after(trouble),
     }
-    // Each read gives at least one byte, and with one byte more than it takes the worker has a report.
+    // Each read gives at least one byte, and with one byte more than it takes the first stage has a report.
     'reads: for _read in 0..most + 1 {
         match input.read(block) {
             Err(Failed) => return Status::ReadFault,
-            Ok(0) => return match pass_end(worker, out, output) {
-                Ok(_) => status_of(worker.rejected()),
+            Ok(0) => return match pass_end(rt, gate, pipe, out, output) {
+                Ok(_) => status_of(rejected(pipe)),
                 Err(trouble) => status_after(trouble),
             },
-            Ok(count) => match pass(worker, &block[..count], out, output) {
+            Ok(count) => match pass(rt, gate, pipe, &block[..count], out, output) {
                 Ok(Fate::On) => {}
-                Ok(Fate::Stopped) => return status_of(worker.rejected()),
+                Ok(Fate::Stopped) => return status_of(rejected(pipe)),
                 Err(trouble) => return status_after(trouble),
             },
         }
     }
-    status_of(worker.rejected())
+    status_of(rejected(pipe))
 }
 
 // All was written that the run had to say.
@@ -87,17 +92,19 @@ fn is_whole(status: Status) -> bool
     }
 }
 
-/// Runs a new worker over a source into a sink, by blocks, within the limits.
-pub(crate) fn run<T: Worker, S: Source, K: Sink>(
+/// Runs new stages over a source into a sink, by blocks, within the limits.
+pub(crate) fn run<R: Threads + Sync, T: Limited + Drop + Send, G: Gate + Sync, S: Source, K: Sink>(
+    rt: &R,
+    gate: &G,
     alloc: Global,
-    worker: &mut T,
+    pipe: &mut Pipe<T>,
     limits: Limits,
     input: &mut S,
     output: &mut K,
 ) -> Status
-    requires fresh { T.stands worker.old None }
-    requires limit { T.limit worker.old ≡ limits.max_input }
-    ensures ran { Ran (T.says (T.plan worker.old)) (last_given limits.block (S.reads input.new))
+    requires fresh { PipeStands T.Turn pipe.old None }
+    requires limit { limit_of T.Turn T.limit pipe.old ≡ limits.max_input }
+    ensures ran { Ran (PipeSays T.Turn (plans_of T.Turn pipe.old)) (last_given limits.block (S.reads input.new))
         (change_of S.rest S.faults input.old input.new)
         (change_of K.held K.faults output.old output.new) result }
     ensures blocks { ReadsBlocks limits.block (S.reads input.old) (S.reads input.new) result }
@@ -108,7 +115,9 @@ pub(crate) fn run<T: Worker, S: Source, K: Sink>(
     };
     let mut out = Vec::new(alloc);
     let status = pump(
-        worker,
+        rt,
+        gate,
+        pipe,
         &mut buffer,
         &mut out,
         input,

@@ -3,6 +3,7 @@ mod commands;
 mod limits;
 mod pipes;
 mod refusals;
+mod rounds;
 mod terms;
 
 use crate::{Rejected, Status, kex};

@@ -6,23 +6,26 @@ ghost use Rattle.kex_top.specs.Outside.{Closes};
 ghost use Rattle.kex_words.specs.Form.{most_input};
 ghost use Rattle.kex_words.specs.Lines.{trial_line};
 ghost use Rattle.kex_top.specs.Kex.{Told};
+ghost use Rattle.kex_top.specs.Piped.{PipeSays, PipeStands, plans_of};
 ghost use Rattle.kex_top.specs.Pipelines.{NodesSay, stage_plans};
 ghost use Rattle.kex_top.specs.Tallies.{Counts, HasWaiting, SumsUp};
 ghost use Rattle.kex_top.specs.Trials.{IsSummary, Tries, made_lines};
 
 use crate::limits::limits_to_check;
 use crate::lines::{next, push_line};
+use crate::pipeline::{Limited, end, feed};
 use crate::refused::refused;
 use crate::serve::pipe_of;
 use crate::status::Status;
 use crate::tally::Tally;
-use crate::worker::Worker;
 use kex_code::memory::Memory;
 use kex_compile::compile;
 use kex_compile::compiled::Compiled;
-use kex_ports::{Failed, Sink};
+use kex_pipe::pipe::Pipe;
+use kex_ports::{Failed, Gate, Sink};
 use kex_words::{Lines, Summary, write_summary};
 use std::alloc::Global;
+use std::thread::Threads;
 
 const TEXT: &str =
     "start: swap >> mark\nswap := (w@/[a-z]+/ ~/ / n@/[0-9]+/ !n \" \" !w /\\n/)*\nmark := (/[0-9]+/ ~/ / \"=\" /[a-z]+\\n/)*\n";
@@ -32,29 +35,37 @@ const STATES: u32 = 4_096;
 const MOST_INPUT: u64 = 281_474_976_710_656;
 
 // Gives a piece, and drops what is written for it.
-fn give<T: Worker>(
-    worker: &mut T,
+fn give<R: Threads + Sync, T: Limited + Drop + Send, G: Gate + Sync>(
+    rt: &R,
+    gate: &G,
+    pipe: &mut Pipe<T>,
     piece: &[u8],
     out: &mut Vec<u8>,
     tally: Tally,
 ) -> Result<Tally, Memory>
-    requires { (h : History) × T.stands worker.old h × (is_ended h ≡ false) }
-    ensures same { OnOk result (T.plan worker.new ≡ T.plan worker.old) }
-    ensures counts { IfOk result (λ more. (h : History) → T.stands worker.old h → is_ended h ≡ false
-        → Counts (T.says (T.plan worker.old)) (T.stands worker.new) h (bytes_of h ++ piece.now) false tally more) }
+    requires { (h : History) × PipeStands T.Turn pipe.old h × (is_ended h ≡ false) }
+    ensures same { OnOk result (plans_of T.Turn pipe.new ≡ plans_of T.Turn pipe.old) }
+    ensures counts { IfOk result (λ more. (h : History) → PipeStands T.Turn pipe.old h → is_ended h ≡ false
+        → Counts (PipeSays T.Turn (plans_of T.Turn pipe.old)) (PipeStands T.Turn pipe.new) h (bytes_of h ++ piece.now) false tally more) }
 {
-    let _ = worker.feed(piece, out)?;
+    let _ = feed(rt, gate, pipe, piece, out)?;
     Ok(tally.add(piece.len(), out))
 }
 
 // Gives the end.
-fn give_end<T: Worker>(worker: &mut T, out: &mut Vec<u8>, tally: Tally) -> Result<Tally, Memory>
-    requires { (h : History) × T.stands worker.old h × (is_ended h ≡ false) }
-    ensures same { OnOk result (T.plan worker.new ≡ T.plan worker.old) }
-    ensures counts { IfOk result (λ more. (h : History) → T.stands worker.old h → is_ended h ≡ false
-        → Counts (T.says (T.plan worker.old)) (T.stands worker.new) h (bytes_of h) true tally more) }
+fn give_end<R: Threads + Sync, T: Limited + Drop + Send, G: Gate + Sync>(
+    rt: &R,
+    gate: &G,
+    pipe: &mut Pipe<T>,
+    out: &mut Vec<u8>,
+    tally: Tally,
+) -> Result<Tally, Memory>
+    requires { (h : History) × PipeStands T.Turn pipe.old h × (is_ended h ≡ false) }
+    ensures same { OnOk result (plans_of T.Turn pipe.new ≡ plans_of T.Turn pipe.old) }
+    ensures counts { IfOk result (λ more. (h : History) → PipeStands T.Turn pipe.old h → is_ended h ≡ false
+        → Counts (PipeSays T.Turn (plans_of T.Turn pipe.old)) (PipeStands T.Turn pipe.new) h (bytes_of h) true tally more) }
 {
-    let _ = worker.end(out)?;
+    let _ = end(rt, gate, pipe, out)?;
     Ok(tally.add(0, out))
 }
 
@@ -67,52 +78,66 @@ fn drop_front(waiting: &mut Vec<u8>, count: usize)
 }
 
 // Gives what waits in whole blocks.
-fn give_blocks<T: Worker>(
-    worker: &mut T,
+fn give_blocks<R: Threads + Sync, T: Limited + Drop + Send, G: Gate + Sync>(
+    rt: &R,
+    gate: &G,
+    pipe: &mut Pipe<T>,
     waiting: &mut Vec<u8>,
     block: usize,
     out: &mut Vec<u8>,
     tally: Tally,
 ) -> Result<Tally, Memory>
     requires block { 0 < block }
-    requires fed { (all : List ℕ) × HasWaiting (T.says (T.plan worker.old)) (T.stands worker.old) all waiting.old.items tally }
-    ensures same { OnOk result (T.plan worker.new ≡ T.plan worker.old) }
-    ensures given { IfOk result (λ more. (all : List ℕ) → HasWaiting (T.says (T.plan worker.old)) (T.stands worker.old) all waiting.old.items tally
-        → HasWaiting (T.says (T.plan worker.old)) (T.stands worker.new) all waiting.new.items more) }
+    requires fed { (all : List ℕ) × HasWaiting (PipeSays T.Turn (plans_of T.Turn pipe.old)) (PipeStands T.Turn pipe.old) all waiting.old.items tally }
+    ensures same { OnOk result (plans_of T.Turn pipe.new ≡ plans_of T.Turn pipe.old) }
+    ensures given { IfOk result (λ more. (all : List ℕ) → HasWaiting (PipeSays T.Turn (plans_of T.Turn pipe.old)) (PipeStands T.Turn pipe.old) all waiting.old.items tally
+        → HasWaiting (PipeSays T.Turn (plans_of T.Turn pipe.old)) (PipeStands T.Turn pipe.new) all waiting.new.items more) }
 {
     let mut more = tally;
     'blocks: while waiting.len() >= block {
-        more = give(worker, &waiting[..block], out, more)?;
+        more = give(rt, gate, pipe, &waiting[..block], out, more)?;
         drop_front(waiting, block);
     }
     Ok(more)
 }
 
 // Gives lines in blocks, and then the end.
-fn give_lines<T: Worker>(alloc: Global, worker: &mut T, lines: Lines) -> Result<Tally, Memory>
-    requires { T.stands worker.old None }
-    ensures { IfOk result (λ tally. SumsUp (T.says (T.plan worker.old)) (made_lines lines.count) tally) }
+fn give_lines<R: Threads + Sync, T: Limited + Drop + Send, G: Gate + Sync>(
+    rt: &R,
+    gate: &G,
+    alloc: Global,
+    pipe: &mut Pipe<T>,
+    lines: Lines,
+) -> Result<Tally, Memory>
+    requires { PipeStands T.Turn pipe.old None }
+    ensures { IfOk result (λ tally. SumsUp (PipeSays T.Turn (plans_of T.Turn pipe.old)) (made_lines lines.count) tally) }
 {
     let mut out = Vec::new(alloc);
     let mut waiting = Vec::new(alloc);
     let mut state = 0;
-    let mut tally = give(worker, &[], &mut out, Tally::new())?;
+    let mut tally = give(rt, gate, pipe, &[], &mut out, Tally::new())?;
     'lines: for _line in 0..lines.count {
         state = next(state);
         push_line(state, &mut waiting)?;
-        tally = give_blocks(worker, &mut waiting, lines.block as usize, &mut out, tally)?;
+        tally = give_blocks(rt, gate, pipe, &mut waiting, lines.block as usize, &mut out, tally)?;
     }
-    tally = give(worker, &waiting, &mut out, tally)?;
-    give_end(worker, &mut out, tally)
+    tally = give(rt, gate, pipe, &waiting, &mut out, tally)?;
+    give_end(rt, gate, pipe, &mut out, tally)
 }
 
 // Runs the plans on the lines, and sums up what they write.
-fn sum_up(alloc: Global, compiled: &Compiled, lines: Lines) -> Result<Summary, Memory>
+fn sum_up<R: Threads + Sync, G: Gate + Sync>(
+    rt: &R,
+    gate: &G,
+    alloc: Global,
+    compiled: &Compiled,
+    lines: Lines,
+) -> Result<Summary, Memory>
     requires { 0 < length compiled.now.stages }
     ensures { IfOk result (λ summary. IsSummary (NodesSay (stage_plans most_input compiled.now.stages)) lines.count summary) }
 {
     let mut pipe = pipe_of(alloc, compiled.stages(), MOST_INPUT)?;
-    let tally = give_lines(alloc, &mut pipe, lines)?;
+    let tally = give_lines(rt, gate, alloc, &mut pipe, lines)?;
     Ok(Summary {
         lines: lines.count,
         made: tally.made,
@@ -136,7 +161,13 @@ fn tell_summary<K: Sink>(summary: Summary, output: &mut K) -> Status
 }
 
 /// Answers a command for a trial. It needs no shelf and no source.
-pub(crate) fn answer_trial<K: Sink>(alloc: Global, lines: Lines, output: &mut K) -> Status
+pub(crate) fn answer_trial<R: Threads + Sync, G: Gate + Sync, K: Sink>(
+    rt: &R,
+    gate: &G,
+    alloc: Global,
+    lines: Lines,
+    output: &mut K,
+) -> Status
     ensures tries { Tries lines.count (change_of K.held K.faults output.old output.new) result }
     ensures closes { Closes (K.ending output.old) (K.ending output.new) result }
 {
@@ -146,7 +177,7 @@ pub(crate) fn answer_trial<K: Sink>(alloc: Global, lines: Lines, output: &mut K)
         Ok(compiled) => compiled,
         Err(refusal) => return refused(text, refusal),
     };
-    match sum_up(alloc, &compiled, lines) {
+    match sum_up(rt, gate, alloc, &compiled, lines) {
         Ok(summary) => tell_summary(summary, output),
         Err(Memory) => Status::Memory,
     }

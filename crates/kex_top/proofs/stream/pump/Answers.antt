@@ -6,6 +6,8 @@ use Rattle.kex_ports.proofs.Asking.{asks-on, last-read}
 use Rattle.kex_ports.proofs.Endings.{same-finishes}
 use Rattle.kex_top.specs.History.{Fed}
 use Rattle.kex_top.specs.declared.status.Status.TheVariants.{ReadFault}
+use Rattle.kex_top.specs.Piped.{PipeSays, limit_of}
+use Rattle.kex_top.specs.PipelineLaws.{says_grows, says_ends}
 use Rattle.kex_top.proofs.Closing.{open-broken, open-worked}
 use Rattle.kex_top.proofs.Running.{worked, broken, some-not-none}
 use Rattle.kex_top.proofs.stream.pump.Goals as goal
@@ -19,7 +21,7 @@ returns-in-Ok-pass_end-clause-pumped g c =
     let w = i.fed.0 in
     let f : Fed = record { bytes = w; ended = false; said = i.fed.1 } in
     let x = c.in-Ok-pass_end.ensures.writes (Some f) i.fed.3 refl in
-    worked g.T.Worker.says _ _ i.same (Some f) _ _ _ _ w true _ _ _ _
+    worked (PipeSays g.T.Turn) _ _ i.same (Some f) _ _ _ _ w true _ _ _ _
     (consumes-last _ _ _ _ _ _ (omega arith) i.fed.5 c.in-Ok-eq0.ensures.bytes.0)
     (λ e. c.in-Ok-eq0.ensures.bytes.1 (omega arith) (omega arith))
     (search rules) (search rules) i.fed.7 x
@@ -32,7 +34,7 @@ returns-in-Err-pass_end-clause-pumped g c =
     let i = c.reads.invariant in
     let w = i.fed.0 in
     let f : Fed = record { bytes = w; ended = false; said = i.fed.1 } in
-    broken g.T.Worker.says _ _ i.same f _ _ _ _ w true _ [] (append-nil w) (omega arith) i.fed.2 i.fed.7 g.met.T.Worker.grows _ _
+    broken (PipeSays g.T.Turn) _ _ i.same f _ _ _ _ w true _ [] (append-nil w) (omega arith) i.fed.2 i.fed.7 (says_grows g.T.Turn.gives g.met.T.Turn.one g.met.T.Turn.grows g.met.T.Turn.stays g.met.T.Turn.ends) _ _
     (consumes-last _ _ _ _ _ _ (omega arith) i.fed.5 c.in-Ok-eq0.ensures.bytes.0)
     (λ e. c.in-Ok-eq0.ensures.bytes.1 (omega arith) (omega arith))
     (search rules)
@@ -49,14 +51,14 @@ returns-in-Ok-Stopped-pass-clause-pumped g c =
     let x = c.in-Ok-Stopped-pass.ensures.writes (Some f) i.fed.3 refl in
     let report = c.rejected-in-Ok-Stopped-pass.ensures (record { bytes = v; ended = false; said = x.said }) x.stands_for in
     let fate = rw c.in-Ok-Stopped-pass.field-0-is at x.is_fate in
-    worked g.T.Worker.says _ _ i.same (Some f) _ _ _ _ v false _ _ _ _
+    worked (PipeSays g.T.Turn) _ _ i.same (Some f) _ _ _ _ v false _ _ _ _
     (consumes-then _ _ _ _ _ i.fed.5 c.in-Ok.ensures.bytes.0)
     (λ e. let bad : false ≡ true = e in cc)
     (search rules) (search rules) i.fed.7 x
     c.status_of-in-Ok-Stopped-pass.ensures
     report
     (λ none. absurd (some-not-none _ _ report fate none))
-    (x.said, subst (λ q. g.T.Worker.says q v false x.said) i.same x.is_said)
+    (x.said, subst (λ q. PipeSays g.T.Turn q v false x.said) i.same x.is_said)
 
 pub returns-in-Err-pass-clause-pumped : goal.returns-in-Err-pass-clause-pumped
 returns-in-Err-pass-clause-pumped g c =
@@ -64,7 +66,7 @@ returns-in-Err-pass-clause-pumped g c =
     let w = i.fed.0 in
     let f : Fed = record { bytes = w; ended = false; said = i.fed.1 } in
     let piece = take c.in-Ok.count c.read.new.buf in
-    broken g.T.Worker.says _ _ i.same f _ _ _ _ (w ++ piece) false _ piece refl (short-piece _ c.in-Ok.count _ (last-read _ _ _ _ _ (omega (arith, c.in-Ok.ensures.bound, c.reads.auto.block)) c.in-Ok.ensures.asked)) i.fed.2 i.fed.7 g.met.T.Worker.grows _ _
+    broken (PipeSays g.T.Turn) _ _ i.same f _ _ _ _ (w ++ piece) false _ piece refl (short-piece _ c.in-Ok.count _ (last-read _ _ _ _ _ (omega (arith, c.in-Ok.ensures.bound, c.reads.auto.block)) c.in-Ok.ensures.asked)) i.fed.2 i.fed.7 (says_grows g.T.Turn.gives g.met.T.Turn.one g.met.T.Turn.grows g.met.T.Turn.stays g.met.T.Turn.ends) _ _
     (consumes-then _ _ _ _ _ i.fed.5 c.in-Ok.ensures.bytes.0)
     (λ e. let bad : false ≡ true = e in cc)
     (search rules)
@@ -77,7 +79,7 @@ returns-in-Ok-Stopped-clause-pumped g c =
     let x = c.in-Ok-Stopped.ensures.writes None c.requires.fresh refl in
     let report = c.rejected.ensures (record { bytes = []; ended = false; said = x.said }) x.stands_for in
     let fate = rw c.in-Ok-Stopped.field-0-is at x.is_fate in
-    worked g.T.Worker.says _ _ refl None _ _ _ _ [] false _ _ _ _
+    worked (PipeSays g.T.Turn) _ _ refl None _ _ _ _ [] false _ _ _ _
     (consumes-nothing _) (λ e. let bad : false ≡ true = e in cc) refl (search rules) (appends-nothing _) x
     c.status_of.ensures report
     (λ none. absurd (some-not-none _ _ report fate none))
@@ -100,8 +102,8 @@ returns-in-Err-read-clause-pumped g c =
 pub returns-clause-pumped : goal.returns-clause-pumped
 returns-clause-pumped g c =
     let i = c.reads.invariant in
-    let past : g.T.Worker.limit c.args.worker.now < length i.fed.0 = omega (arith, c.reads-test.false, i.fed.4, c.requires.limit.0) in
-    absurd (some-not-none _ _ refl (g.met.T.Worker.ends c.args.worker.now _ _ i.fed.2 past) i.fed.6)
+    let past : limit_of g.T.Turn g.T.Limited.limit c.args.pipe.now < length i.fed.0 = omega (arith, c.reads-test.false, i.fed.4, c.requires.limit.0) in
+    absurd (some-not-none _ _ refl ((says_ends g.T.Turn.gives (λ s. g.T.Turn.plan s.staged.stage) (λ s. g.T.Limited.limit s.staged.stage) (λ s v b gives more. g.met.T.Limited.past_limit s.staged.stage v b gives more) c.args.pipe.now.seats.items) _ _ i.fed.2 past) i.fed.6)
 
 -- ---- what was asked for
 
@@ -156,7 +158,7 @@ reads-preserved g c =
       fed = (
         w ++ piece,
         x.said,
-        subst (λ q. g.T.Worker.says q (w ++ piece) false x.said) i.same x.is_said,
+        subst (λ q. PipeSays g.T.Turn q (w ++ piece) false x.said) i.same x.is_said,
         x.stands_for,
         grind (arith, common_steps),
         consumes-then _ _ _ _ _ i.fed.5 c.in-Ok.ensures.bytes.0,

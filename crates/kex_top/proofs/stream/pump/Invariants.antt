@@ -4,13 +4,14 @@ use Rattle.std.specs.Io.KnownBytes.{Appends, Consumes}
 use Rattle.kex_ports.specs.Endings.{counts_of}
 use Rattle.kex_ports.specs.Reads.{Asks}
 use Rattle.kex_top.specs.Answer.{Said}
+use Rattle.kex_top.specs.Piped.{PipeSays, PipeStands, plans_of}
 use Rattle.kex_top.proofs.stream.pump.Given as goal
 
 abbrev pub invariant-reads : goal.invariant-reads
 invariant-reads g l = record {
-  same : g.T.Worker.plan l.worker ≡ g.T.Worker.plan l.fn.worker;
-  fed : (w : List ℕ) × (said : Said) × g.T.Worker.says (g.T.Worker.plan l.fn.worker) w false said
-      × g.T.Worker.stands l.worker (Some (record { bytes = w; ended = false; said = said }))
+  same : plans_of g.T.Turn l.pipe ≡ plans_of g.T.Turn l.fn.pipe;
+  fed : (w : List ℕ) × (said : Said) × PipeSays g.T.Turn (plans_of g.T.Turn l.fn.pipe) w false said
+      × PipeStands g.T.Turn l.pipe (Some (record { bytes = w; ended = false; said = said }))
       × (l._read ≤ length w)
       × Consumes (g.S.Source.rest l.fn.input) (g.S.Source.rest l.input) w
       × (said.report ≡ None)

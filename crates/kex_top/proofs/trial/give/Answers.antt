@@ -1,5 +1,6 @@
 use Rattle.std.proofs.Common.{refl, ap, ◌∙◌, ◌+◌, length}
 use Rattle.kex_top.specs.Trials.{capped, rolled}
+use Rattle.kex_top.specs.Piped.{PipeSays, PipeStands, plans_of}
 use Rattle.kex_top.proofs.Trying.{counts}
 use Rattle.kex_top.proofs.trial.give.Goals as goal
 
@@ -8,4 +9,4 @@ returns-clause-counts g c = λ h stands still.
     let value = c.deref.ensures.value in
     counts c.args.tally c.add.result c.args.piece.now c.feed.new.out.items c.add.ensures.made
     (c.add.ensures.written ∙ ap (λ z. capped (c.args.tally.written + length z)) value) (c.add.ensures.roll ∙ ap (λ z. rolled c.args.tally.roll z) value)
-    (λ w e said. g.T.Worker.says (g.T.Worker.plan c.args.worker.now) w e said) (λ k. g.T.Worker.stands c.feed.new.self k) h _ _ _ refl (c.in_ok-feed.ensures.feeds h stands still)
+    (λ w e said. PipeSays g.T.Turn (plans_of g.T.Turn c.args.pipe.now) w e said) (λ k. PipeStands g.T.Turn c.feed.new.pipe k) h _ _ _ refl (c.in_ok-feed.ensures.feeds h stands still)

@@ -5,28 +5,29 @@ use Rattle.kex_top.specs.Answer.{Said}
 use Rattle.kex_top.specs.History.{History}
 use Rattle.kex_top.specs.Tallies.{HasWaiting, IsTally}
 use Rattle.kex_top.specs.Trials.{line_of, lines_from, made_lines}
+use Rattle.kex_top.specs.Piped.{PipeSays, PipeStands, plans_of}
 use Rattle.kex_top.proofs.Trying.{lines-more, waits-more}
 use Rattle.kex_top.proofs.trial.give_lines.Goals as goal
 
 pub give_blocks-requires-clause-fed : goal.give_blocks-requires-clause-fed
 give_blocks-requires-clause-fed g c =
     let (front, waits, made) = c.lines.invariant.fed in
-    let says : g.T.Worker.Plan → List ℕ → Bool → Said → Type 0 = λ p w e said. g.T.Worker.says p w e said in
-    let stands : History → Type 0 = λ k. g.T.Worker.stands c.lines.worker k in
+    let says : List g.T.Turn.Plan → List ℕ → Bool → Said → Type 0 = λ p w e said. PipeSays g.T.Turn p w e said in
+    let stands : History → Type 0 = λ k. PipeStands g.T.Turn c.lines.pipe k in
     let line : List ℕ = line_of c.next-state.result in
     let begun = subst (λ p. HasWaiting (says p) stands front c.lines.waiting.items c.lines.tally) (sym c.lines.invariant.same) waits in
-    (front ++ line, waits-more (says (g.T.Worker.plan c.lines.worker)) stands front c.lines.waiting.items line c.push_line.new.out.items c.lines.tally c.in_ok-push_line.ensures begun)
+    (front ++ line, waits-more (says (plans_of g.T.Turn c.lines.pipe)) stands front c.lines.waiting.items line c.push_line.new.out.items c.lines.tally c.in_ok-push_line.ensures begun)
 
 pub lines-preserved : goal.lines-preserved
 lines-preserved g c =
     let (front, waits, made) = c.lines.invariant.fed in
     let same = c.lines.invariant.same in
-    let says : g.T.Worker.Plan → List ℕ → Bool → Said → Type 0 = λ p w e said. g.T.Worker.says p w e said in
-    let stands : History → Type 0 = λ k. g.T.Worker.stands c.lines.worker k in
-    let now : History → Type 0 = λ k. g.T.Worker.stands c.give_blocks.new.worker k in
+    let says : List g.T.Turn.Plan → List ℕ → Bool → Said → Type 0 = λ p w e said. PipeSays g.T.Turn p w e said in
+    let stands : History → Type 0 = λ k. PipeStands g.T.Turn c.lines.pipe k in
+    let now : History → Type 0 = λ k. PipeStands g.T.Turn c.give_blocks.new.pipe k in
     let line : List ℕ = line_of c.next-state.result in
     let begun = subst (λ p. HasWaiting (says p) stands front c.lines.waiting.items c.lines.tally) (sym same) waits in
-    let more = waits-more (says (g.T.Worker.plan c.lines.worker)) stands front c.lines.waiting.items line c.push_line.new.out.items c.lines.tally c.in_ok-push_line.ensures begun in
+    let more = waits-more (says (plans_of g.T.Turn c.lines.pipe)) stands front c.lines.waiting.items line c.push_line.new.out.items c.lines.tally c.in_ok-push_line.ensures begun in
     let given = c.in_ok-tally-2.ensures.given (front ++ line) more in
     let left : ℕ = c.args.lines.count - (c.lines._line + 1) in
     let within : c.lines._line < c.args.lines.count = c.lines-test.true in
@@ -49,12 +50,12 @@ pub returns : goal.returns
 returns g c =
     let (front, waits, made) = c.lines.invariant.fed in
     let (bytes, fed, parts) = waits in
-    let says : g.T.Worker.Plan → List ℕ → Bool → Said → Type 0 = λ p w e said. g.T.Worker.says p w e said in
+    let says : List g.T.Turn.Plan → List ℕ → Bool → Said → Type 0 = λ p w e said. PipeSays g.T.Turn p w e said in
     let waiting : List ℕ = c.deref.result.now in
     let h : History = Some (record { bytes = bytes; ended = false; said = fed.said }) in
     let n = c.in_ok-tally-3.ensures.counts h fed.stands_for refl in
     let k : History = Some (record { bytes = bytes ++ waiting; ended = false; said = n.said }) in
-    let same : g.T.Worker.plan c.give-2.new.worker ≡ g.T.Worker.plan c.args.worker.now = c.in_ok-tally-3.ensures.same ∙ c.lines.invariant.same in
+    let same : plans_of g.T.Turn c.give-2.new.pipe ≡ plans_of g.T.Turn c.args.pipe.now = c.in_ok-tally-3.ensures.same ∙ c.lines.invariant.same in
     let past = c.lines-test.false in
     let none : c.args.lines.count - c.lines._line ≡ 0 = omega (arith, past) in
     let all : made_lines c.args.lines.count ≡ front = made ∙ ap (λ j. front ++ lines_from c.lines.state j) none ∙ append-nil front in
@@ -63,7 +64,7 @@ returns g c =
     (λ more e.
     let m = e k n.stands_for refl in (
       m.said,
-      subst (λ p. says p (made_lines c.args.lines.count) true m.said) same (subst (λ z. says (g.T.Worker.plan c.give-2.new.worker) z true m.said) whole m.is_said),
+      subst (λ p. says p (made_lines c.args.lines.count) true m.said) same (subst (λ z. says (plans_of g.T.Turn c.give-2.new.pipe) z true m.said) whole m.is_said),
       subst (λ z. IsTally more z m.said.text) whole (m.tallied (n.tallied fed.tallied)),
     ))
     c.give_end.ensures.counts

@@ -1,5 +1,0 @@
-use Rattle.kex_top.proofs.Working.{rejected-is}
-use Rattle.kex_top.proofs.pipeline.PipeWorker.rejected.Goals as goal
-
-pub returns : goal.returns
-returns g c = λ f s. rejected-is g.T.Turn g.met.T.Turn.one c.args.self.now f c.report.result c.report.ensures.settled s

@@ -1,0 +1,5 @@
+use Rattle.kex_top.proofs.Working.{rejected-is}
+use Rattle.kex_top.proofs.pipeline.rejected.Goals as goal
+
+pub returns : goal.returns
+returns g c = λ f s. rejected-is g.T.Turn g.met.T.Turn.one c.args.pipe.now f c.report.result c.report.ensures.settled s

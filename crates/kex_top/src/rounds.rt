@@ -1,0 +1,63 @@
+// A program's stages take what they are given, round by round.
+ghost use Rattle.std.specs.Prelude.{◌≡◌, List, ℕ, OnOk, false};
+ghost use Rattle.kex_model.specs.Schedules.{Event};
+ghost use Rattle.kex_pipe.specs.Standing.{Stands, is_ended, is_in_round};
+ghost use Rattle.kex_top.specs.Piped.{IsGiven, IsWorkedOff};
+
+use kex_code::memory::Memory;
+use kex_pipe::pipe::Pipe;
+use kex_pipe::turn::Turn;
+use kex_ports::Gate;
+use kex_rounds::round::round;
+use std::thread::Threads;
+
+/// The most bytes that are given at once.
+const PART: usize = 4096;
+
+/// Gives the bytes in parts, with a round after each: a stage works on one part while the next works on what came of the part before.
+pub(crate) fn give_all<R: Threads + Sync, T: Turn + Drop + Send, G: Gate + Sync>(
+    rt: &R,
+    pipe: &mut Pipe<T>,
+    gate: &G,
+    bytes: &[u8],
+) -> Result<(), Memory>
+    requires unended { is_ended T.Turn pipe.old ≡ false }
+    requires closed { is_in_round T.Turn pipe.old ≡ false }
+    ensures given { OnOk result ((ps : List T.Plan) (h : List Event) (taken : List ℕ) → Stands T.Turn ps pipe.old h taken → IsGiven T.Turn bytes.now ps h taken pipe.new) }
+    ensures closed { is_in_round T.Turn pipe.new ≡ false }
+{
+    let mut rest = bytes;
+    'parts: while !rest.is_empty() {
+        let (part, more) = rest.split_at(rest.len().min(PART));
+        rest = more;
+        let Ok(()) = pipe.give(part) else {
+            return Err(Memory);
+        };
+        let Ok(()) = round(rt, pipe, gate) else {
+            return Err(Memory);
+        };
+    }
+    Ok(())
+}
+
+/// Makes rounds until nothing waits: with each one stage more, in the order of the pipeline, has worked off all that comes to it.
+pub(crate) fn work_off<R: Threads + Sync, T: Turn + Drop + Send, G: Gate + Sync>(
+    rt: &R,
+    pipe: &mut Pipe<T>,
+    gate: &G,
+) -> Result<(), Memory>
+    requires closed { is_in_round T.Turn pipe.old ≡ false }
+    ensures works { OnOk result ((ps : List T.Plan) (h : List Event) (taken : List ℕ) → Stands T.Turn ps pipe.old h taken → IsWorkedOff T.Turn ps h taken pipe.new) }
+    ensures closed { is_in_round T.Turn pipe.new ≡ false }
+{
+    let count = pipe.count();
+    'rounds: for _round in 0..count {
+        if pipe.settled() {
+            return Ok(());
+        }
+        let Ok(()) = round(rt, pipe, gate) else {
+            return Err(Memory);
+        };
+    }
+    Ok(())
+}
