@@ -186,12 +186,7 @@ impl<T: Turn + Drop> Pipe<T> {
         if self.spent {
             return Err(PipeFault::Spent);
         }
-        match take_turn(
-            &mut self.seats,
-            &mut self.output,
-            i as usize - 1,
-            at_most,
-        ) {
+        match take_turn(&mut self.seats, &mut self.output, i as usize - 1, at_most) {
             Ok(()) => Ok(()),
             Err(Memory) => {
                 self.spent = true; // its stages may only be dropped

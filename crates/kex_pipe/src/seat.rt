@@ -27,9 +27,7 @@ impl<T: Turn> Seat<T> {
         ensures usable { self.new.usable ≡ is_ok result }
         ensures takes { OnOk result (Takes T.Turn at_most self.old self.new) }
     {
-        let turned = self
-            .staged
-            .turn(at_most, &mut self.inbox, &mut self.outbox);
+        let turned = self.staged.turn(at_most, &mut self.inbox, &mut self.outbox);
         self.usable = turned.is_ok();
         turned
     }

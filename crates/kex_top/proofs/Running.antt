@@ -1,10 +1,10 @@
 -- From one piece to the whole run.
-use Rattle.std.proofs.Common.{◌≡◌, ◌++◌, ◌≤◌, ℕ, List, [], Bool, true, false, refl, sym, ◌∙◌, subst, ap, arith, append_assoc, length, inr}
+use Rattle.std.proofs.Common.{◌≡◌, ◌++◌, ◌≤◌, ℕ, List, [], Bool, true, false, refl, sym, ◌∙◌, subst, ap, arith, append_assoc, length, inl, inr}
 use Rattle.std.specs.Prelude.{Option, Some, None, IsSome, Err}
 use Rattle.std.specs.Io.KnownBytes.{Appends, Consumes, IsAtEnd, Keeps}
 use Rattle.kex_ports.specs.Causes.{Rose}
 use Rattle.kex_ports.specs.Bytes.{IsPrefix}
-use Rattle.kex_ports.proofs.Known.{append-nil, appends-then, appends-same, appends-kept, prefix-whole}
+use Rattle.kex_ports.proofs.Known.{append-nil, appends-nothing, appends-then, appends-same, appends-kept, consumes-nothing, prefix-whole}
 use Rattle.kex_top.specs.Answer.{Said}
 use Rattle.kex_top.specs.History.{History, Fed, text_of, Writes, WritesFront, WritesUpTo}
 use Rattle.kex_words.specs.Gains.{Change, change}
@@ -14,7 +14,7 @@ use Rattle.kex_pipe.specs.declared.turn.Why.{Why}
 use Rattle.kex_pipe.specs.declared.turn.Why.TheVariants.{Byte, End, Limit}
 use Rattle.kex_pipe.specs.declared.report.Rejected.{Rejected as Report}
 use Rattle.kex_top.specs.declared.status.Status.{Status}
-use Rattle.kex_top.specs.declared.status.Status.TheVariants.{Done, Rejected, TooLong, ReadFault, WriteFault}
+use Rattle.kex_top.specs.declared.status.Status.TheVariants.{Done, Rejected, TooLong, ReadFault, WriteFault, Memory}
 use Rattle.kex_top.specs.declared.pass.Trouble.{Trouble}
 use Rattle.kex_top.specs.declared.pass.Trouble.TheVariants as trouble
 
@@ -111,6 +111,58 @@ module _ {Plan : Type 0} (says : Plan → List ℕ → Bool → Said → Type 0)
         by_trouble : (t : Trouble) → WritesUpTo (says p') (Some f) w e mid sink.new t → TroubleCause {T = Fate} sink.before sink.now (Err t) → EndsAs (says p) n w e source sink (status_after t)
         by_trouble trouble.Memory y c = (wanted grows y, a, c)
         by_trouble trouble.Write y c = (failed y, omega (arith, a), c)
+
+-- Want of memory before anything was read.
+pub none-ran : (says : List ℕ → Bool → Said → Type 0) (n : ℕ) (rest held : Option (List ℕ)) (faults count : ℕ) → Ran says n (change rest rest faults faults) (change held held count count) Memory
+none-ran says n rest held faults count = record {
+  w = [];
+  e = false;
+  read = consumes-nothing rest;
+  ended = λ end. let bad : false ≡ true = end in cc;
+  ends = (record { added = []; appended = appends-nothing held; from = inl refl; front = λ said h. record { rest = said.text; joined = refl } }, refl, refl);
+}
+
+-- The first piece, of nothing, is in trouble.
+module _ (says : List ℕ → Bool → Said → Type 0) (n : ℕ) (source sink : Change) (s : Status) where
+  begun-first : WritesFront says None [] false sink.old sink.new → WritesBegun says n [] false sink
+  begun-first x = record {
+    said = x.said;
+    is_said = x.is_said;
+    added = x.appended.added;
+    appended = x.appended.grown;
+    front = record { rest = x.appended.front.rest; joined = x.whole ∙ x.appended.front.joined };
+    begun = λ more. absurd (omega arith);
+  }
+
+  wanted-first : Keeps sink.old sink.new → WritesEarlier says [] false sink
+  wanted-first kept = record {
+    added = [];
+    appended = appends-kept _ _ kept;
+    from = inl refl;
+    front = λ said h. record { rest = said.text; joined = refl };
+  }
+
+  pub broken-first : (t : Trouble) → Consumes source.old source.new [] → source.now ≡ source.before
+      → WritesUpTo says None [] false sink.old sink.new t → TroubleCause {T = Fate} sink.before sink.now (Err t)
+      → s ≡ status_after t → Pumped says n source sink s
+  broken-first t read a x cause status = (
+    record {
+      w = [];
+      e = false;
+      read = read;
+      ended = λ end. let bad : false ≡ true = end in cc;
+      ends = subst (λ z. EndsAs says n [] false source sink z) (sym status) (by_trouble t x cause);
+    },
+    λ whole. absurd (not_whole t (ap is_whole (sym status) ∙ whole)),
+  )
+    where
+      not_whole : (t : Trouble) → is_whole (status_after t) ≡ true → ⊥
+      not_whole trouble.Memory y = let bad : false ≡ true = y in cc
+      not_whole trouble.Write y = let bad : false ≡ true = y in cc
+
+      by_trouble : (t : Trouble) → WritesUpTo says None [] false sink.old sink.new t → TroubleCause {T = Fate} sink.before sink.now (Err t) → EndsAs says n [] false source sink (status_after t)
+      by_trouble trouble.Memory y c = (wanted-first y, a, c)
+      by_trouble trouble.Write y c = (begun-first y, omega (arith, a), c)
 
 pub some-not-none : (r r' : Option Report) → r ≡ r' → IsSome r' → r ≡ None → ⊥
 some-not-none r None e is none = let bad : false ≡ true = is in cc

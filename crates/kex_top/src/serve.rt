@@ -94,8 +94,31 @@ pub(crate) fn serve<R: Threads + Sync, G: Gate + Sync, S: Source, K: Sink>(
 {
     match mode {
         Mode::Run(_) => run_stages(rt, gate, alloc, compiled, limits, input, output),
-        Mode::Code => code(rt, gate, alloc, compiled.stages()[0].machine(), limits, input, output),
-        Mode::Act => act(rt, gate, alloc, compiled.stages()[0].machine(), limits, input, output),
-        Mode::Test => test(rt, gate, alloc, compiled.stages()[0].machine(), limits, input),
+        Mode::Code => code(
+            rt,
+            gate,
+            alloc,
+            compiled.stages()[0].machine(),
+            limits,
+            input,
+            output,
+        ),
+        Mode::Act => act(
+            rt,
+            gate,
+            alloc,
+            compiled.stages()[0].machine(),
+            limits,
+            input,
+            output,
+        ),
+        Mode::Test => test(
+            rt,
+            gate,
+            alloc,
+            compiled.stages()[0].machine(),
+            limits,
+            input,
+        ),
     }
 }

@@ -119,7 +119,15 @@ fn give_lines<R: Threads + Sync, T: Limited + Drop + Send, G: Gate + Sync>(
     'lines: for _line in 0..lines.count {
         state = next(state);
         push_line(state, &mut waiting)?;
-        tally = give_blocks(rt, gate, pipe, &mut waiting, lines.block as usize, &mut out, tally)?;
+        tally = give_blocks(
+            rt,
+            gate,
+            pipe,
+            &mut waiting,
+            lines.block as usize,
+            &mut out,
+            tally,
+        )?;
     }
     tally = give(rt, gate, pipe, &waiting, &mut out, tally)?;
     give_end(rt, gate, pipe, &mut out, tally)

@@ -15,10 +15,10 @@ returns-clause-answers g c =
     refused_by _ _ _ _ c.in-Ok.text.items c.in-Err.refusal _ _ _ c.in-Ok.ensures.found (subst (λ l. IsRefused l c.in-Ok.text.items c.in-Err.refusal) c.limits_of-asked.ensures.value (subst (λ t. IsRefused c.limits_of-asked.result t c.in-Err.refusal) c.deref.ensures.value c.in-Err.ensures.refused)) ((refl, refl), (refl, refl)) (subst (λ t. IsStatusOf t c.in-Err.refusal c.refused.result) c.deref-in-Err.ensures.value c.refused.ensures)
 
 pub serve-requires-clause-some : goal.serve-requires-clause-some
-serve-requires-clause-some g c = some-machine c.limits_of-asked.result c.deref.result.now c.in-Ok-compile.compiled c.in-Ok-compile.ensures.plans
+serve-requires-clause-some g c = λ κs bounds. some-machine c.limits_of-asked.result c.deref.result.now c.in-Ok-compile.compiled c.in-Ok-compile.ensures.plans
 
 pub serve-requires-clause-one : goal.serve-requires-clause-one
-serve-requires-clause-one g c = λ one.
+serve-requires-clause-one g c = λ κs bounds one.
     one-machine c.limits_of-asked.result c.deref.result.now c.in-Ok-compile.compiled c.in-Ok-compile.ensures.plans (ap (λ (l : Limits). l.one_stage) c.limits_of-asked.ensures.value ∙ one)
 
 pub returns-clause-blocks : goal.returns-clause-blocks

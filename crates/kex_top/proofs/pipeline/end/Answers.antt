@@ -21,10 +21,11 @@ returns-clause-same g c =
 
 pub returns-clause-feeds : goal.returns-clause-feeds
 returns-clause-feeds g c = λ h s e.
+    let laws = g.met.T.Turn g.world.𝓛 g.world.𝓜 g.world.𝓡 ((λ s x. x), (λ x. x), (λ x. x), λ x. x) in
     let x = standing g.T.Turn c.args.pipe.now h s in
     let ps = plans_of g.T.Turn c.args.pipe.now in
     let given = x.events ++ give_end ∷ [] in
     let w = c.in_ok-work_off.ensures.works ps given (text_of h) (c.in-Ok.ensures.stands ps x.events (text_of h) x.stands) in
-    said-all g.T.Turn g.met.T.Turn.one ps c.work_off.new.pipe c.take_output.new.self given (text_of h) c.take_output.result.items c.report.result
+    said-all g.T.Turn laws.one ps c.work_off.new.pipe c.take_output.new.self given (text_of h) c.take_output.result.items c.report.result
     h (bytes_of h) true c.fate_of.result x.some refl (bytes-same x.events ∙ x.bytes) (end-now x.events)
     w (λ k st. c.take_output.ensures.stands ps k (text_of h) st) c.take_output.ensures.none_left (λ k text st done. c.report.ensures.settled ps k text st done) c.fate_of.ensures

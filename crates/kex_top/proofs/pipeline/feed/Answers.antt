@@ -23,12 +23,13 @@ returns-clause-same g c =
 
 pub returns-clause-feeds : goal.returns-clause-feeds
 returns-clause-feeds g c = λ h s e.
+    let laws = g.met.T.Turn g.world.𝓛 g.world.𝓜 g.world.𝓡 ((λ s x. x), (λ x. x), (λ x. x), λ x. x) in
     let piece = c.args.piece.now in
     let x = standing g.T.Turn c.args.pipe.now h s in
     let ps = plans_of g.T.Turn c.args.pipe.now in
     let events = x.events ++ give piece ∷ [] in
     let given = c.in_ok-give_all.ensures.given ps x.events (text_of h) x.stands in
     let w = off-of g.T.Turn ps events given.events (text_of h) c.work_off.new.pipe (given.bytes ∙ sym (bytes-more x.events piece)) (given.same_end ∙ sym (end-open x.events piece)) (c.in_ok-work_off.ensures.works ps given.events (text_of h) given.stands) in
-    said-all g.T.Turn g.met.T.Turn.one ps c.work_off.new.pipe c.take_output.new.self events (text_of h) c.take_output.result.items c.report.result
+    said-all g.T.Turn laws.one ps c.work_off.new.pipe c.take_output.new.self events (text_of h) c.take_output.result.items c.report.result
     h (bytes_of h ++ piece) false c.fate_of.result x.some refl (bytes-more x.events piece ∙ ap (λ (z : List ℕ). z ++ piece) x.bytes) (end-open x.events piece ∙ x.end ∙ e)
     w (λ k st. c.take_output.ensures.stands ps k (text_of h) st) c.take_output.ensures.none_left (λ k text st done. c.report.ensures.settled ps k text st done) c.fate_of.ensures

@@ -9,7 +9,7 @@ use Rattle.kex_top.proofs.Calling.{first-limit, first-of}
 use Rattle.kex_top.proofs.serve.run_stages.Goals as goal
 
 pub run-requires-clause-limit : goal.run-requires-clause-limit
-run-requires-clause-limit g c =
+run-requires-clause-limit g c = λ κs bounds.
     let max = c.args.limits.max_input in
     let limit : StagePlan → ℕ = λ p. p.limit in
     first-of (λ s. ghosts.plan s.staged.stage) limit c.in-Ok.pipe.seats.items ∙ ap (λ (ps : List StagePlan). first_limit limit ps) (c.in-Ok.ensures.plans ∙ ap (λ z. stage_plans max z) c.stages.ensures.same) ∙ first-limit max c.args.compiled.now.stages c.requires

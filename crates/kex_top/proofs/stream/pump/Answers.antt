@@ -1,4 +1,4 @@
-use Rattle.std.proofs.Common.{rules, arith, ◌≡◌, ◌++◌, ◌<◌, ◌≤◌, ◌∙◌, ℕ, List, [], true, false, refl, sym, take, length, length-take, subst}
+use Rattle.std.proofs.Common.{rules, arith, ◌≡◌, ◌++◌, ◌<◌, ◌≤◌, ◌∙◌, inl, ℕ, List, [], true, false, refl, sym, take, length, length-take, subst}
 use Rattle.std.proofs.lemmas.Grind.{common_steps}
 use Rattle.std.specs.Prelude.{Some, None}
 use Rattle.kex_ports.proofs.Known.{consumes-then, consumes-last, consumes-nothing, appends-nothing, appends-same, appends-then, append-nil}
@@ -6,10 +6,10 @@ use Rattle.kex_ports.proofs.Asking.{asks-on, last-read}
 use Rattle.kex_ports.proofs.Endings.{same-finishes}
 use Rattle.kex_top.specs.History.{Fed}
 use Rattle.kex_top.specs.declared.status.Status.TheVariants.{ReadFault}
-use Rattle.kex_top.specs.Piped.{PipeSays, limit_of}
+use Rattle.kex_top.specs.Piped.{PipeSays, limit_of, plans_of}
 use Rattle.kex_top.specs.PipelineLaws.{says_grows, says_ends}
 use Rattle.kex_top.proofs.Closing.{open-broken, open-worked}
-use Rattle.kex_top.proofs.Running.{worked, broken, some-not-none}
+use Rattle.kex_top.proofs.Running.{worked, broken, broken-first, some-not-none}
 use Rattle.kex_top.proofs.stream.pump.Goals as goal
 
 short-piece : (buf : List ℕ) (n most : ℕ) → n ≤ most → length (take n buf) ≤ most
@@ -31,10 +31,11 @@ returns-in-Ok-pass_end-clause-pumped g c =
 
 pub returns-in-Err-pass_end-clause-pumped : goal.returns-in-Err-pass_end-clause-pumped
 returns-in-Err-pass_end-clause-pumped g c =
+    let laws = g.met.T.Turn g.world.𝓛 g.world.𝓜 g.world.𝓡 ((λ s x. x), (λ x. x), (λ x. x), λ x. x) in
     let i = c.reads.invariant in
     let w = i.fed.0 in
     let f : Fed = record { bytes = w; ended = false; said = i.fed.1 } in
-    broken (PipeSays g.T.Turn) _ _ i.same f _ _ _ _ w true _ [] (append-nil w) (omega arith) i.fed.2 i.fed.7 (says_grows g.T.Turn.gives g.met.T.Turn.one g.met.T.Turn.grows g.met.T.Turn.stays g.met.T.Turn.ends) _ _
+    broken (PipeSays g.T.Turn) _ _ i.same f _ _ _ _ w true _ [] (append-nil w) (omega arith) i.fed.2 i.fed.7 (says_grows g.T.Turn.gives laws.one laws.grows laws.stays laws.ends) _ _
     (consumes-last _ _ _ _ _ _ (omega arith) i.fed.5 c.in-Ok-eq0.ensures.bytes.0)
     (λ e. c.in-Ok-eq0.ensures.bytes.1 (omega arith) (omega arith))
     (search rules)
@@ -62,11 +63,12 @@ returns-in-Ok-Stopped-pass-clause-pumped g c =
 
 pub returns-in-Err-pass-clause-pumped : goal.returns-in-Err-pass-clause-pumped
 returns-in-Err-pass-clause-pumped g c =
+    let laws = g.met.T.Turn g.world.𝓛 g.world.𝓜 g.world.𝓡 ((λ s x. x), (λ x. x), (λ x. x), λ x. x) in
     let i = c.reads.invariant in
     let w = i.fed.0 in
     let f : Fed = record { bytes = w; ended = false; said = i.fed.1 } in
     let piece = take c.in-Ok.count c.read.new.buf in
-    broken (PipeSays g.T.Turn) _ _ i.same f _ _ _ _ (w ++ piece) false _ piece refl (short-piece _ c.in-Ok.count _ (last-read _ _ _ _ _ (omega (arith, c.in-Ok.ensures.bound, c.reads.auto.block)) c.in-Ok.ensures.asked)) i.fed.2 i.fed.7 (says_grows g.T.Turn.gives g.met.T.Turn.one g.met.T.Turn.grows g.met.T.Turn.stays g.met.T.Turn.ends) _ _
+    broken (PipeSays g.T.Turn) _ _ i.same f _ _ _ _ (w ++ piece) false _ piece refl (short-piece _ c.in-Ok.count _ (last-read _ _ _ _ _ (omega (arith, c.in-Ok.ensures.bound, c.reads.auto.block)) c.in-Ok.ensures.asked)) i.fed.2 i.fed.7 (says_grows g.T.Turn.gives laws.one laws.grows laws.stays laws.ends) _ _
     (consumes-then _ _ _ _ _ i.fed.5 c.in-Ok.ensures.bytes.0)
     (λ e. let bad : false ≡ true = e in cc)
     (search rules)
@@ -98,12 +100,17 @@ returns-in-Err-read-clause-pumped g c =
       λ whole. (i.fed.1, i.fed.2),
     )
 
+pub returns-in-Err-clause-pumped : goal.returns-in-Err-clause-pumped
+returns-in-Err-clause-pumped g c =
+    broken-first (PipeSays g.T.Turn (plans_of g.T.Turn c.args.pipe.now)) _ _ _ _ _ (consumes-nothing _) refl (c.in-Err.ensures.trouble None c.requires.fresh refl) c.in-Err.ensures.cause c.status_after.ensures
+
 -- past the limit there would have been a report
 pub returns-clause-pumped : goal.returns-clause-pumped
 returns-clause-pumped g c =
+    let limited = g.met.T.Limited g.world.𝓛 g.world.𝓜 g.world.𝓡 ((λ s x. x), (λ x. x), (λ x. x), λ x. x) in
     let i = c.reads.invariant in
     let past : limit_of g.T.Turn g.T.Limited.limit c.args.pipe.now < length i.fed.0 = omega (arith, c.reads-test.false, i.fed.4, c.requires.limit.0) in
-    absurd (some-not-none _ _ refl ((says_ends g.T.Turn.gives (λ s. g.T.Turn.plan s.staged.stage) (λ s. g.T.Limited.limit s.staged.stage) (λ s v b gives more. g.met.T.Limited.past_limit s.staged.stage v b gives more) c.args.pipe.now.seats.items) _ _ i.fed.2 past) i.fed.6)
+    absurd (some-not-none _ _ refl ((says_ends g.T.Turn.gives (λ s. g.T.Turn.plan s.staged.stage) (λ s. g.T.Limited.limit s.staged.stage) (λ s v b gives more. limited.past_limit s.staged.stage v b gives more) c.args.pipe.now.seats.items) _ _ i.fed.2 past) i.fed.6)
 
 -- ---- what was asked for
 
@@ -144,7 +151,25 @@ returns-in-Ok-Stopped-clause-unclosed g c = open-worked _ _ _ c.in-Ok-Stopped.en
 pub returns-in-Err-read-clause-unclosed : goal.returns-in-Err-read-clause-unclosed
 returns-in-Err-read-clause-unclosed g c = open-worked _ _ ReadFault c.reads.invariant.unfinished
 
--- ---- the loop goes on
+-- ---- the loop
+
+pub reads-init : goal.reads-init
+reads-init g c =
+    let x = c.in-Ok-On.ensures.writes None c.requires.fresh refl in
+    record {
+      same = c.in-Ok-On.ensures.same;
+      fed = ([], x.said, x.is_said, x.stands_for, omega arith, consumes-nothing _, rw c.in-Ok-On.field-0-is at x.is_fate, appends-same _ _ _ _ (sym x.whole) x.appended);
+      read = refl;
+      written = search rules;
+      asked = inl refl;
+      unfinished = c.in-Ok-On.ensures.unfinished;
+    }
+
+pub pass-requires-in-Ok-after_bounds : goal.pass-requires-in-Ok-after_bounds
+pass-requires-in-Ok-after_bounds g c = λ κs bounds. let i = c.reads.invariant in (Some (record { bytes = i.fed.0; ended = false; said = i.fed.1 }), i.fed.3, refl)
+
+pub pass_end-requires-after_bounds : goal.pass_end-requires-after_bounds
+pass_end-requires-after_bounds g c = λ κs bounds. let i = c.reads.invariant in (Some (record { bytes = i.fed.0; ended = false; said = i.fed.1 }), i.fed.3, refl)
 
 pub reads-preserved : goal.reads-preserved
 reads-preserved g c =

@@ -12,8 +12,8 @@ returns-in-Err-clause-tries g c =
     (subst (λ l. IsRefused l trial_text c.in-Err.refusal) c.limits_to_check-asked.ensures (subst (λ t. IsRefused c.limits_to_check-asked.result t c.in-Err.refusal) text c.in-Err.ensures.refused))
     (refl, refl) (subst (λ t. IsStatusOf t c.in-Err.refusal c.refused.result) text c.refused.ensures)
 
-pub sum_up-requires : goal.sum_up-requires
-sum_up-requires g c = some-machine c.limits_to_check-asked.result c.as_bytes-text.result.now c.in-Ok.compiled c.in-Ok.ensures.plans
+pub sum_up-requires-after_bounds : goal.sum_up-requires-after_bounds
+sum_up-requires-after_bounds g c = λ κs bounds. some-machine c.limits_to_check-asked.result c.as_bytes-text.result.now c.in-Ok.compiled c.in-Ok.ensures.plans
 
 pub returns-in-Ok-sum_up-clause-tries : goal.returns-in-Ok-sum_up-clause-tries
 returns-in-Ok-sum_up-clause-tries g c =

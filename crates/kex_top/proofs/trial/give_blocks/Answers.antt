@@ -8,8 +8,8 @@ use Rattle.kex_top.specs.Piped.{PipeSays, PipeStands, plans_of}
 use Rattle.kex_top.proofs.Trying.{fed-more}
 use Rattle.kex_top.proofs.trial.give_blocks.Goals as goal
 
-pub give-requires : goal.give-requires
-give-requires g c =
+pub give-requires-after_bounds : goal.give-requires-after_bounds
+give-requires-after_bounds g c = λ κs bounds.
     let all = c.requires.fed in
     let (bytes, fed, parts) = c.blocks-2.invariant.given all.0 all.1 in
     (Some (record { bytes = bytes; ended = false; said = fed.said }), fed.stands_for, refl)

@@ -1,5 +1,5 @@
-use Rattle.std.proofs.Common.{◌≡◌, ◌++◌, ◌-◌, ◌+◌, ◌<◌, ℕ, suc, List, Bool, true, false, refl, sym, ap, subst, ◌∙◌, arith}
-use Rattle.std.specs.Prelude.{IfOk, Ok, Err, Result, Some}
+use Rattle.std.proofs.Common.{◌≡◌, ◌++◌, ◌-◌, ◌+◌, ◌<◌, ℕ, suc, List, [], Bool, true, false, refl, sym, ap, subst, ◌∙◌, arith}
+use Rattle.std.specs.Prelude.{IfOk, Ok, Err, Result, Some, None}
 use Rattle.std.proofs.lemmas.List.{append-nil, append_assoc}
 use Rattle.kex_top.specs.Answer.{Said}
 use Rattle.kex_top.specs.History.{History}
@@ -10,13 +10,27 @@ use Rattle.kex_top.proofs.Trying.{lines-more, waits-more}
 use Rattle.kex_top.proofs.trial.give_lines.Goals as goal
 
 pub give_blocks-requires-clause-fed : goal.give_blocks-requires-clause-fed
-give_blocks-requires-clause-fed g c =
+give_blocks-requires-clause-fed g c = λ κs bounds.
     let (front, waits, made) = c.lines.invariant.fed in
     let says : List g.T.Turn.Plan → List ℕ → Bool → Said → Type 0 = λ p w e said. PipeSays g.T.Turn p w e said in
     let stands : History → Type 0 = λ k. PipeStands g.T.Turn c.lines.pipe k in
     let line : List ℕ = line_of c.next-state.result in
     let begun = subst (λ p. HasWaiting (says p) stands front c.lines.waiting.items c.lines.tally) (sym c.lines.invariant.same) waits in
     (front ++ line, waits-more (says (plans_of g.T.Turn c.lines.pipe)) stands front c.lines.waiting.items line c.push_line.new.out.items c.lines.tally c.in_ok-push_line.ensures begun)
+
+pub lines-init : goal.lines-init
+lines-init g c =
+    let n = c.in_ok-tally.ensures.counts None c.requires refl in
+    let none = c.new.ensures in
+    record {
+      same = c.in_ok-tally.ensures.same;
+      short = omega arith;
+      fed = (
+        [],
+        ([], record { said = n.said; is_said = n.is_said; stands_for = n.stands_for; tallied = n.tallied (record { made = none.made; written = none.written; roll = none.roll }) }, sym c.new-waiting.ensures.items),
+        ap (λ (j : ℕ). lines_from 0 j) (let count : ℕ = c.args.lines.count in let e : count ≡ count - 0 = omega arith in e),
+      );
+    }
 
 pub lines-preserved : goal.lines-preserved
 lines-preserved g c =
@@ -41,6 +55,19 @@ lines-preserved g c =
         made ∙ ap (λ z. front ++ z) (lines-more c.lines.state c.next-state.result (c.args.lines.count - c.lines._line) left c.next-state.ensures.value one) ∙ sym (append_assoc front line (lines_from c.next-state.result left)),
       );
     }
+
+pub give-requires-2-after_bounds : goal.give-requires-2-after_bounds
+give-requires-2-after_bounds g c = λ κs bounds.
+    let (front, waits, made) = c.lines.invariant.fed in
+    let (bytes, fed, parts) = waits in
+    (Some (record { bytes = bytes; ended = false; said = fed.said }), fed.stands_for, refl)
+
+pub give_end-requires-after_bounds : goal.give_end-requires-after_bounds
+give_end-requires-after_bounds g c = λ κs bounds.
+    let (front, waits, made) = c.lines.invariant.fed in
+    let (bytes, fed, parts) = waits in
+    let n = c.in_ok-tally-3.ensures.counts (Some (record { bytes = bytes; ended = false; said = fed.said })) fed.stands_for refl in
+    (Some (record { bytes = bytes ++ c.deref.result.now; ended = false; said = n.said }), n.stands_for, refl)
 
 if-ok : {A E : Type 0} {P Q : A → Type 0} (r : Result A E) → ((a : A) → P a → Q a) → IfOk r P → IfOk r Q
 if-ok (Ok a) f h = f a h

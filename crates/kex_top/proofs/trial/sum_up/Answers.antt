@@ -5,7 +5,7 @@ use Rattle.kex_top.specs.Trials.{made_lines}
 use Rattle.kex_top.proofs.trial.sum_up.Goals as goal
 
 pub returns : goal.returns
-returns c =
+returns g c =
     let (said, says, counted) = c.in_ok-tally.ensures in
     let same = c.in_ok-pipe.ensures.plans ∙ ap (λ z. stage_plans most_input z) c.stages.ensures.same in
     record {
