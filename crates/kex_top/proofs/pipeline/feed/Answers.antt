@@ -1,4 +1,4 @@
-use Rattle.std.proofs.Common.{◌≡◌, ◌∷◌, [], ◌++◌, ℕ, List, false, refl, sym, ap, ◌∙◌}
+use Rattle.std.proofs.Common.{◌∷◌, [], ◌++◌, ℕ, List, false, refl, sym, ap, ◌∙◌}
 use Rattle.kex_model.specs.Schedules.{give}
 use Rattle.kex_top.specs.History.{bytes_of, text_of}
 use Rattle.kex_top.specs.Piped.{plans_of}
