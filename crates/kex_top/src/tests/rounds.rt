@@ -55,13 +55,13 @@ fn any_two_stages_meet(rt: HostRuntime) -> Result<(), Fail> {
     let plans = compiled.stages();
     assert!(&rt; !plans.is_empty());
     let mut pipe = pipe_of(alloc, plans, 1_000)?;
-    for first in [1u32, 3] {
-        let gate = MeetGate::new(first, first + 1);
+    for (one, other) in [(1, 2), (3, 4)] {
+        let gate = MeetGate::new(one, other);
         let opened = pipe.in_round();
         assert!(&rt; !opened);
         round(&rt, &mut pipe, &gate)?;
-        assert!(&rt; gate.saw(first));
-        assert!(&rt; gate.saw(first + 1));
+        assert!(&rt; gate.saw(one));
+        assert!(&rt; gate.saw(other));
     }
     Ok(())
 }
