@@ -96,6 +96,30 @@ fn places_and_states_are_counted(rt: HostRuntime) -> Result<(), Fail> {
     Ok(())
 }
 
+// Each state remembers of the last eleven bytes which were an `a`.
+#[test]
+fn states_past_their_limit_are_refused(rt: HostRuntime) -> Result<(), Fail> {
+    let program: &[u8] = b"main := /(a|b)*a(a|b){10}/";
+    let refused = Case {
+        program,
+        status: refused_in(Rule::TooManyStates, 1),
+        notes: b"refused: K15 TooManyStates in stage 1\n",
+        ..PLAIN
+    };
+    for most in ["1024", "2047"] {
+        let words = ["kex", "run", "p", "--states", most];
+        assert!(&rt; holds_by(&rt, rt.alloc(), &words, &refused)?);
+    }
+    let counted = Case {
+        program,
+        held: b"stages 1 places 49 states 2048\n",
+        ..PLAIN
+    };
+    let words = ["kex", "check", "p", "--states", "2048"];
+    assert!(&rt; holds_by(&rt, rt.alloc(), &words, &counted)?);
+    Ok(())
+}
+
 // A front, a middle so many times, and an end.
 fn around(
     alloc: Global,
