@@ -1,5 +1,7 @@
 //! The call over objects in memory.
 mod commands;
+mod faults;
+mod large;
 mod limits;
 mod pipes;
 mod refusals;
@@ -11,6 +13,7 @@ use kex_pipe::turn::Why;
 use kex_ports::{MemShelf, MemSink, MemSource, NeverFailsSink, OpenGate};
 use kex_words::{Place, Refusal, Rule};
 use std::alloc::{AllocError, Global};
+use std::str::from_utf8;
 use std::test::Fail;
 use std::thread::Threads;
 
@@ -18,6 +21,7 @@ use std::thread::Threads;
 struct Case<'a> {
     words: &'static [&'static str],
     program: &'a [u8],
+    failing_takes: &'static [u64],
     input: &'a [u8],
     most_read: usize,
     failing_reads: &'static [u64],
@@ -33,6 +37,7 @@ struct Case<'a> {
 const PLAIN: Case<'static> = Case {
     words: &["kex", "run", "p"],
     program: b"main := /a*/",
+    failing_takes: &[],
     input: b"",
     most_read: 65_536,
     failing_reads: &[],
@@ -65,7 +70,7 @@ fn holds_by<R: Threads + Sync>(
     case: &Case,
 ) -> Result<bool, Fail> {
     let words = words_of(alloc, words)?;
-    let mut shelf = MemShelf::new(alloc, Vec::new(alloc));
+    let mut shelf = MemShelf::new(alloc, case.failing_takes.to_vec(alloc)?);
     shelf.put("p", case.program)?;
     let mut input = MemSource::new(
         case.input.to_vec(alloc)?,
@@ -99,6 +104,11 @@ fn holds_by<R: Threads + Sync>(
             && output.bytes() == case.held
             && notes.bytes() == case.notes,
     )
+}
+
+// The text of the program, by which a failing row is told.
+fn text_of<'a>(case: &Case<'a>) -> &'a str {
+    from_utf8(case.program).unwrap_or("bytes")
 }
 
 fn rejected(at: u64, why: Why) -> Status {
@@ -192,7 +202,7 @@ fn inputs_are_transformed_or_rejected(rt: HostRuntime) -> Result<(), Fail> {
         },
     ];
     for case in &cases {
-        assert!(&rt; holds(&rt, rt.alloc(), case)?);
+        assert!(&rt; holds(&rt, rt.alloc(), case)?, "{}", text_of(case));
     }
     Ok(())
 }
@@ -285,7 +295,7 @@ fn faults_are_told_by_their_causes(rt: HostRuntime) -> Result<(), Fail> {
         },
     ];
     for case in &cases {
-        assert!(&rt; holds(&rt, rt.alloc(), case)?);
+        assert!(&rt; holds(&rt, rt.alloc(), case)?, "{}", text_of(case));
     }
     Ok(())
 }
@@ -354,7 +364,7 @@ fn each_stage_reads_what_the_one_before_wrote(rt: HostRuntime) -> Result<(), Fai
     ];
     for way in &WAYS {
         for case in &cases {
-            assert!(&rt; holds_by(&rt, rt.alloc(), way, case)?);
+            assert!(&rt; holds_by(&rt, rt.alloc(), way, case)?, "{}", text_of(case));
         }
     }
     Ok(())
@@ -451,7 +461,7 @@ fn the_first_broken_rule_is_told(rt: HostRuntime) -> Result<(), Fail> {
         },
     ];
     for case in &cases {
-        assert!(&rt; holds(&rt, rt.alloc(), case)?);
+        assert!(&rt; holds(&rt, rt.alloc(), case)?, "{}", text_of(case));
     }
     Ok(())
 }

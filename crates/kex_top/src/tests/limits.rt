@@ -121,7 +121,7 @@ fn states_past_their_limit_are_refused(rt: HostRuntime) -> Result<(), Fail> {
 }
 
 // A front, a middle so many times, and an end.
-fn around(
+pub(super) fn around(
     alloc: Global,
     front: &[u8],
     middle: &[u8],

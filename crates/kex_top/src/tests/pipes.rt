@@ -1,4 +1,4 @@
-//! A pipe of stages whose turns come out of order.
+//! A pipe of stages whose turns come out of order, with empty pieces among those that it is given.
 use super::PAIR;
 use crate::limits::limits_to_check;
 use crate::serve::pipe_of;
@@ -17,9 +17,12 @@ fn turns_out_of_order(rt: HostRuntime) -> Result<(), Fail> {
     assert_eq!(&rt; pipe.count(), 2);
     assert!(&rt; !pipe.ended());
     pipe.turn(2, 0)?;
+    pipe.give(b"")?;
+    pipe.turn(1, 9)?;
     pipe.give(b"xx")?;
     pipe.turn(1, 1)?;
     pipe.turn(2, 1)?;
+    pipe.give(b"")?;
     pipe.give_end()?;
     pipe.turn(1, 9)?;
     pipe.turn(2, 9)?;
