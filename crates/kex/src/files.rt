@@ -2,6 +2,7 @@
 ghost use Rattle.std.specs.Prelude.{◌≡◌, ◌≢◌, ◌≤◌, ◌<◌, IfOk, IfSome, IsErrOf, None, length};
 ghost use Rattle.std.specs.IoError.{error_kind};
 ghost use Rattle.std.specs.Io.KnownBytes.{Consumes, IsAtEnd};
+ghost use Rattle.kex.specs.Opened.{IsWholeText};
 ghost use Rattle.kex_ports.specs.declared.shelf.ShelfAnswer.TheVariants.{Failed, TooLong, Memory};
 
 use kex_ports::{Shelf, ShelfAnswer};
@@ -69,7 +70,8 @@ fn take_within<R: Files>(
     name: &str,
     limit: usize,
 ) -> Result<Vec<u8>, ShelfAnswer>
-    ensures { IfOk result (λ text. length text.items ≤ limit) }
+    ensures within { IfOk result (λ text. length text.items ≤ limit) }
+    ensures whole { IfOk result (λ text. IsWholeText R.File.remaining text.items) }
 {
     match fs::open(files, name) {
         Ok(mut file) => read_within(alloc, &mut file, limit),
