@@ -1,0 +1,8 @@
+// Words with the bytes that were read.
+
+/// The number of a word in a list of words, and the byte that the word's `Input` stands for.
+#[derive(Clone, Copy, Debug, PartialEq, Eq)]
+pub struct Piece {
+    pub word: u32,
+    pub byte: u8,
+}
