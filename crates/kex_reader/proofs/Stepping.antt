@@ -364,7 +364,7 @@ module _ (a b : Made) (at : ℕ → ℕ) (base : ℕ) (fs gs : List Frame) (es :
   pub storing_steps : (r : Result Wait StepFault) (x k : ℕ) (name : List ℕ) → OnOk r (Keeps a b) → OnOk r (gs ≡ frames.Storing (record { register = k; at = x }) ∷ fs) → IfOk r (λ w. w ≡ waits.Need) → IfErr r (λ e. e ≡ faults.Memory) → FramesShow a at base fs es → x ≡ at (base + length (entries es)) → IsRegister a k name → Steps b at base gs r (goes Need (Storing name ∷ es))
   storing_steps r x k name l p h m f e s = opened_steps r (Storing name) (on_both r (λ l p. storing_pushed b at base fs gs es x k name p (frames_more a b at base fs es l f) e (l.registers k name s)) l p) h m
 
-pub on_keeps : (r : Result Wait StepFault) (a b d : Made) → Keeps a b → OnOk r (Keeps b d) → OnOk r (Keeps a d)
+pub on_keeps : {A : Type 0} (r : Result A StepFault) (a b d : Made) → Keeps a b → OnOk r (Keeps b d) → OnOk r (Keeps a d)
 on_keeps (Ok w) a b d k l = Keeps-trans a b d k l
 on_keeps (Err e) a b d k l = tt
 

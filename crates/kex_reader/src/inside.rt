@@ -323,9 +323,7 @@ fn behind<'t>(
         ),
         Kind::OpenBrace => Ok(Wait::InCount(item, Count::Opened, word.at)),
         _ => {
-            let Ok(()) = put(stack, draft, item) else {
-                return Err(StepFault::Memory);
-            };
+            put(stack, draft, item)?;
             begin(alloc, stack, draft, true, word)
         }
     }
@@ -349,9 +347,7 @@ fn named<'t>(
 {
     match word.kind {
         Kind::At => {
-            let Ok(register) = draft.register(name.bytes) else {
-                return Err(StepFault::Memory);
-            };
+            let register = draft.register(name.bytes)?;
             let store = Store {
                 register,
                 at: name.at,
@@ -360,9 +356,7 @@ fn named<'t>(
         }
         Kind::Define => Err(StepFault::Wrong),
         _ => {
-            let Ok(item) = call(draft, name) else {
-                return Err(StepFault::Memory);
-            };
+            let item = call(draft, name)?;
             behind(alloc, stack, draft, item, word)
         }
     }
@@ -496,9 +490,7 @@ fn counted<'t>(
         CountStep::Read(bounds) => turns(stack, draft, item, bounds),
         CountStep::Bad => {
             draft.note(Break::BadCount { at: brace });
-            let Ok(()) = put(stack, draft, item) else {
-                return Err(StepFault::Memory);
-            };
+            put(stack, draft, item)?;
             Ok(Wait::Ready)
         }
         CountStep::Wrong => Err(StepFault::Wrong),

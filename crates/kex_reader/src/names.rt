@@ -41,9 +41,7 @@ impl<'t> Names<'t> {
         ensures grown { Begins self.new self.old }
         ensures added { IfOk result (λ i. (k : ℕ) → k < length self.new → (k < length self.old) ⊎ (k ≡ i)) }
     {
-        let Ok((number, _)) = self.all.insert_full(name) else {
-            return Err(Memory);
-        };
+        let (number, _) = self.all.insert_full(name)?;
         let Ok(number) = u32::try_from(number) else {
             return Err(Memory);
         };

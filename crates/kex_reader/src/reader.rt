@@ -254,9 +254,7 @@ impl<'t> Reader<'t> {
         ensures ends { Behind self.old.draft self.old.stack name.entry.at (λ at base es. ReaderEnds self.old self.new at base head result (whole_term (take_term (spec_put (Once (Call name.entry.bytes.now)) es)))) }
         ensures broken { OnOk result (self.new.draft.broken ≡ self.old.draft.broken) }
     {
-        let Ok(item) = call(&mut self.draft, name) else {
-            return Err(StepFault::Memory);
-        };
+        let item = call(&mut self.draft, name)?;
         self.end_with(head, item)
     }
 

@@ -2,7 +2,7 @@ use Rattle.std.proofs.Common.{◌+◌, [], ◌++◌, length, ap, ◌∙◌, subs
 use Rattle.kex_tokens.specs.declared.token.Kind.TheVariants as kinds
 use Rattle.kex_reader.specs.Syntax.{Once, ZeroOrMore, OneOrMore, Optional, atom}
 use Rattle.kex_reader.specs.Reading.{entries, put}
-use Rattle.kex_reader.proofs.Stepping.{to, memory, count_opens, after_kind, after_other, after_star, after_plus, after_question, after_brace, once_shows, put_place, on_keeps, star_low, star_high, plus_low, plus_high, optional_low, optional_high}
+use Rattle.kex_reader.proofs.Stepping.{to, memory_exit, count_opens, after_kind, after_other, after_star, after_plus, after_question, after_brace, once_shows, put_place, on_keeps, star_low, star_high, plus_low, plus_high, optional_low, optional_high}
 use Rattle.kex_reader.proofs.Kept.{same, on_same, on_from, moved, after_quiet, after_begins}
 use Rattle.kex_reader.specs.Syntax.{word}
 use Rattle.kex_reader.specs.Stands.{begin_asks}
@@ -22,26 +22,26 @@ returns-in-Question-clause-step c = λ at base es a h e s p. to _ at base _ _ _ 
 pub returns-in-OpenBrace-clause-step : goal.returns-in-OpenBrace-clause-step
 returns-in-OpenBrace-clause-step c = λ at base es a h e s p. to _ at base _ _ _ _ (after_kind a es c.args.word.spelling.now c.args.word.kind kinds.OpenBrace _ c.in-OpenBrace.is (after_brace a es)) (count_opens c.args.draft.now at base c.args.stack.now es a c.args.item _ h e s p)
 
-pub returns-in_default-put-clause-step : goal.returns-in_default-put-clause-step
-returns-in_default-put-clause-step c = λ at base es a h e s p. memory c.put.new.draft at base c.put.new.stack _
+pub returns-in_err-put-in_default-clause-step : goal.returns-in_err-put-in_default-clause-step
+returns-in_err-put-in_default-clause-step c = λ at base es a h e s p. memory_exit c.put.new.draft at base c.put.new.stack c.from_residual.result c.from_residual.ensures.1 _
 
-pub returns-in-Ok : goal.returns-in-Ok
-returns-in-Ok c = record {
-  keeps = on_keeps _ _ _ _ c.in-Ok.ensures.keeps c.begin.ensures.keeps;
-  held = step_then c.begin.result _ _ _ _ _ _ c.begin.new.stack c.begin.ensures.keeps (held_as _ _ _ _ _ _ (λ x h. elim h [ inl i ↦ inr i | inr e ↦ inl e ]) (λ x i. i) c.in-Ok.ensures.held) (λ x i. inl i) c.begin.ensures.held;
+pub returns-in_ok-put-in_default : goal.returns-in_ok-put-in_default
+returns-in_ok-put-in_default c = record {
+  keeps = on_keeps _ _ _ _ c.in_ok-put-in_default.ensures.keeps c.begin.ensures.keeps;
+  held = step_then c.begin.result _ _ _ _ _ _ c.begin.new.stack c.begin.ensures.keeps (held_as _ _ _ _ _ _ (λ x h. elim h [ inl i ↦ inr i | inr e ↦ inl e ]) (λ x i. i) c.in_ok-put-in_default.ensures.held) (λ x i. inl i) c.begin.ensures.held;
   notes = λ at base es a h e s p cs n.
       on_from c.begin.result cs _ _ c.begin.new.draft.broken (ap (λ k. begin_asks at k (put (Once a) es) (word c.args.word.kind c.args.word.spelling.now)) (put_index base a es) ∙ after_begins at (base + length (entries es) + length (atom a)) a es c.args.word.spelling.now c.args.word.kind c.in_default.not-Star c.in_default.not-Plus c.in_default.not-Question c.in_default.not-OpenBrace)
-      (c.begin.ensures.notes at base (put (Once a) es) (c.in-Ok.ensures.put at base es (Once a) h e (once_shows c.args.draft.now at c.args.item.node (base + length (entries es)) a s)) (put_place at base c.args.word.at a es p) cs (moved cs c.args.draft.now.broken c.put.new.draft.broken c.in-Ok.ensures.broken n));
+      (c.begin.ensures.notes at base (put (Once a) es) (c.in_ok-put-in_default.ensures.put at base es (Once a) h e (once_shows c.args.draft.now at c.args.item.node (base + length (entries es)) a s)) (put_place at base c.args.word.at a es p) cs (moved cs c.args.draft.now.broken c.put.new.draft.broken c.in_ok-put-in_default.ensures.broken n));
   step = λ at base es a h e s p.
       to _ at base _ _ _ _ (after_other a es c.args.word.spelling.now c.args.word.kind c.in_default.not-Star c.in_default.not-Plus c.in_default.not-Question c.in_default.not-OpenBrace)
-      (c.begin.ensures.step at base (put (Once a) es) (c.in-Ok.ensures.put at base es (Once a) h e (once_shows c.args.draft.now at c.args.item.node (base + length (entries es)) a s)) (put_place at base c.args.word.at a es p));
+      (c.begin.ensures.step at base (put (Once a) es) (c.in_ok-put-in_default.ensures.put at base es (Once a) h e (once_shows c.args.draft.now at c.args.item.node (base + length (entries es)) a s)) (put_place at base c.args.word.at a es p));
 }
 
 pub put-requires : goal.put-requires
 put-requires c = let r = c.requires.atom in (r.0, r.1, r.2, Once r.3, r.4, r.5, once_shows c.args.draft.now r.0 c.args.item.node (r.1 + length (entries r.2)) r.3 r.6)
 
 pub begin-requires-clause-frames : goal.begin-requires-clause-frames
-begin-requires-clause-frames c = let r = c.requires.atom in (r.0, r.1, put (Once r.3) r.2, c.in-Ok.ensures.put r.0 r.1 r.2 (Once r.3) r.4 r.5 (once_shows c.args.draft.now r.0 c.args.item.node (r.1 + length (entries r.2)) r.3 r.6))
+begin-requires-clause-frames c = let r = c.requires.atom in (r.0, r.1, put (Once r.3) r.2, c.in_ok-put-in_default.ensures.put r.0 r.1 r.2 (Once r.3) r.4 r.5 (once_shows c.args.draft.now r.0 c.args.item.node (r.1 + length (entries r.2)) r.3 r.6))
 
 pub turns-requires-clause-count : goal.turns-requires-clause-count
 turns-requires-clause-count c = (ZeroOrMore, star_low, star_high, tt)

@@ -3,7 +3,7 @@ use Rattle.kex_reader.specs.Syntax.{Once, Turns}
 use Rattle.kex_reader.specs.Reading.{entries, put}
 use Rattle.kex_reader.proofs.Drafting.{atom_within, atom_more}
 use Rattle.kex_reader.proofs.Stacks.{frames_more}
-use Rattle.kex_reader.proofs.Stepping.{to, memory, ready, once_shows}
+use Rattle.kex_reader.proofs.Stepping.{to, memory_exit, ready, once_shows}
 use Rattle.kex_reader.specs.Stands.{ShowsMode, ShowsCountStep}
 use Rattle.kex_reader.proofs.Noting.{never_none}
 use Rattle.kex_reader.proofs.Modes.{count_on, count_wrong, count_read, count_bad, read_is, read_count, bad_turns}
@@ -23,17 +23,17 @@ returns-in-Read-clause-step c = λ at base es a h e s t b k.
 pub returns-in-Wrong-clause-step : goal.returns-in-Wrong-clause-step
 returns-in-Wrong-clause-step c = λ at base es a h e s t b k. count_wrong c.args.draft.now at base c.args.stack.now es a t (subst (λ x. ShowsCountStep x t) c.in-Wrong.is k)
 
-pub returns-in_default-clause-step : goal.returns-in_default-clause-step
-returns-in_default-clause-step c = λ at base es a h e s t b k. memory c.put.new.draft at base c.put.new.stack _
+pub returns-in_err-put-in-Bad-clause-step : goal.returns-in_err-put-in-Bad-clause-step
+returns-in_err-put-in-Bad-clause-step c = λ at base es a h e s t b k. memory_exit c.put.new.draft at base c.put.new.stack c.from_residual.result c.from_residual.ensures.1 _
 
-pub returns-in-Ok-clause-step : goal.returns-in-Ok-clause-step
-returns-in-Ok-clause-step c = λ at base es a h e s t b k.
+pub returns-in_ok-put-in-Bad-clause-step : goal.returns-in_ok-put-in-Bad-clause-step
+returns-in_ok-put-in-Bad-clause-step c = λ at base es a h e s t b k.
     let r = count_bad t (subst (λ x. ShowsCountStep x t) c.in-Bad.is k) in
     let i = base + length (entries es) in
     let more = c.note.ensures.keeps in
     let never = λ (z : c.note.new.self.broken ≡ None). never_none c.args.draft.now.broken _ (sym (ap (λ m. m.broken) c.note.ensures.noted) ∙ z) in
     let bad = bad_turns c.note.new.self at c.args.item.node i a r.0 (atom_within a c.note.new.self at c.args.item.node i (atom_more a c.args.draft.now c.note.new.self at c.args.item.node i more s)) never (atom_more a c.args.draft.now c.note.new.self at c.args.item.node i more s) in
-    to _ at base _ _ _ _ (read_is a es t r.0 r.1) (ready c.put.new.draft at base c.put.new.stack (put (Turns a r.0) es) (c.in-Ok.ensures.put at base es (Turns a r.0) (frames_more c.args.draft.now c.note.new.self at base c.args.stack.now es more h) e bad))
+    to _ at base _ _ _ _ (read_is a es t r.0 r.1) (ready c.put.new.draft at base c.put.new.stack (put (Turns a r.0) es) (c.in_ok-put-in-Bad.ensures.put at base es (Turns a r.0) (frames_more c.args.draft.now c.note.new.self at base c.args.stack.now es more h) e bad))
 
 pub turns-requires-clause-count : goal.turns-requires-clause-count
 turns-requires-clause-count c =
@@ -56,10 +56,10 @@ returns-in-Read-clause-notes c = λ t from b k cs n.
     let r = count_read c.in-Read.bounds t (subst (λ x. ShowsCountStep x t) c.in-Read.is k) in
     on_from c.turns.result cs _ _ c.turns.new.draft.broken (read_asks c.args.brace from t r.0 r.1 b) (on_moved c.turns.result _ c.args.draft.now.broken c.turns.new.draft.broken c.turns.ensures.broken (good_count r.0 cs c.args.draft.now.broken c.args.brace r.4 n))
 
-pub returns-in-Ok-clause-notes : goal.returns-in-Ok-clause-notes
-returns-in-Ok-clause-notes c = λ t from b k cs n.
+pub returns-in_ok-put-in-Bad-clause-notes : goal.returns-in_ok-put-in-Bad-clause-notes
+returns-in_ok-put-in-Bad-clause-notes c = λ t from b k cs n.
     let r = count_bad t (subst (λ x. ShowsCountStep x t) c.in-Bad.is k) in
-    subst (λ x. Rattle.kex_reader.specs.Stands.Noted (cs ++ x) c.put.new.draft.broken) (read_asks c.args.brace from t r.0 r.1 b) (moved _ _ c.put.new.draft.broken (c.in-Ok.ensures.broken ∙ ap (λ m. m.broken) c.note.ensures.noted) (bad_count r.0 cs c.args.draft.now.broken c.args.brace r.2 n))
+    subst (λ x. Rattle.kex_reader.specs.Stands.Noted (cs ++ x) c.put.new.draft.broken) (read_asks c.args.brace from t r.0 r.1 b) (moved _ _ c.put.new.draft.broken (c.in_ok-put-in-Bad.ensures.broken ∙ ap (λ m. m.broken) c.note.ensures.noted) (bad_count r.0 cs c.args.draft.now.broken c.args.brace r.2 n))
 
 pub returns-in-On-clause-held : goal.returns-in-On-clause-held
 returns-in-On-clause-held c = unchanged _ _ _ (λ x h. h)
@@ -67,5 +67,5 @@ returns-in-On-clause-held c = unchanged _ _ _ (λ x h. h)
 pub returns-in-Read-clause-held : goal.returns-in-Read-clause-held
 returns-in-Read-clause-held c = c.turns.ensures.held
 
-pub returns-in-Ok-clause-held : goal.returns-in-Ok-clause-held
-returns-in-Ok-clause-held c = λ e. absurd (never_none c.args.draft.now.broken _ (sym (c.in-Ok.ensures.broken ∙ ap (λ m. m.broken) c.note.ensures.noted) ∙ e))
+pub returns-in_ok-put-in-Bad-clause-held : goal.returns-in_ok-put-in-Bad-clause-held
+returns-in_ok-put-in-Bad-clause-held c = λ e. absurd (never_none c.args.draft.now.broken _ (sym (c.in_ok-put-in-Bad.ensures.broken ∙ ap (λ m. m.broken) c.note.ensures.noted) ∙ e))

@@ -3,7 +3,7 @@ use Rattle.kex_tokens.specs.declared.token.Kind.TheVariants as kinds
 use Rattle.kex_reader.specs.Syntax.{Call}
 use Rattle.kex_reader.specs.Reading.{entries}
 use Rattle.kex_reader.proofs.Stacks.{frames_more}
-use Rattle.kex_reader.proofs.Stepping.{to, memory, wrong, call_shows, named_kind, named_other, named_at, named_define, storing_steps, on_keeps}
+use Rattle.kex_reader.proofs.Stepping.{to, memory_exit, wrong, call_shows, named_kind, named_other, named_at, named_define, storing_steps, on_keeps}
 use Rattle.kex_reader.specs.Syntax.{word}
 use Rattle.kex_reader.specs.Stands.{ShowsMode, ShowsCountStep}
 use Rattle.kex_reader.proofs.Modes.{call_place}
@@ -16,44 +16,44 @@ use Rattle.kex_reader.specs.Uses.{RegisterNumber}
 use Rattle.kex_reader.proofs.Uses.{beside, step_then}
 use Rattle.kex_reader.proofs.inside.named.Goals as goal
 
-pub returns-in_default-register-clause-step : goal.returns-in_default-register-clause-step
-returns-in_default-register-clause-step c = λ at base es h n p. memory c.register.new.self at base c.args.stack.now _
+pub returns-in_err-register-in-At-clause-step : goal.returns-in_err-register-in-At-clause-step
+returns-in_err-register-in-At-clause-step c = λ at base es h n p. memory_exit c.register.new.self at base c.args.stack.now c.from_residual.result c.from_residual.ensures.1 _
 
-pub returns-in_default-call : goal.returns-in_default-call
-returns-in_default-call c = record { keeps = tt; held = tt; notes = λ at base es h m p cs n. tt; step = λ at base es h n p. memory c.call.new.draft at base c.args.stack.now _ }
+pub returns-in_err-item-in_default-clause-step : goal.returns-in_err-item-in_default-clause-step
+returns-in_err-item-in_default-clause-step c = λ at base es h n p. memory_exit c.call.new.draft at base c.args.stack.now c.from_residual-in_err-item-in_default.result c.from_residual-in_err-item-in_default.ensures.1 _
 
-pub returns-in-Ok-clause-step : goal.returns-in-Ok-clause-step
-returns-in-Ok-clause-step c = λ at base es h n p.
+pub returns-in_ok-register-in-At-clause-step : goal.returns-in_ok-register-in-At-clause-step
+returns-in_ok-register-in-At-clause-step c = λ at base es h n p.
     to _ at base _ _ _ _ (named_kind c.args.name.bytes.now es c.args.word.spelling.now c.args.word.kind kinds.At _ c.in-At.is (named_at c.args.name.bytes.now es))
-    (storing_steps c.register.new.self c.open.new.draft at base c.args.stack.now c.open.new.stack es _ _ c.in-Ok.register c.args.name.bytes.now c.open.ensures.keeps c.open.ensures.pushed c.open.ensures.wait c.open.ensures.fault (frames_more c.args.draft.now c.register.new.self at base c.args.stack.now es c.in-Ok.ensures.keeps h) n c.in-Ok.ensures.number)
+    (storing_steps c.register.new.self c.open.new.draft at base c.args.stack.now c.open.new.stack es _ _ c.in_ok-register-in-At.register c.args.name.bytes.now c.open.ensures.keeps c.open.ensures.pushed c.open.ensures.wait c.open.ensures.fault (frames_more c.args.draft.now c.register.new.self at base c.args.stack.now es c.in_ok-register-in-At.ensures.keeps h) n c.in_ok-register-in-At.ensures.number)
 
 pub returns-in-Define-clause-step : goal.returns-in-Define-clause-step
 returns-in-Define-clause-step c = λ at base es h n p. to _ at base _ _ _ _ (named_kind c.args.name.bytes.now es c.args.word.spelling.now c.args.word.kind kinds.Define _ c.in-Define.is (named_define c.args.name.bytes.now es)) (wrong c.args.draft.now at base c.args.stack.now)
 
-pub returns-in-Ok-call : goal.returns-in-Ok-call
-returns-in-Ok-call c = record {
-  keeps = on_keeps _ _ _ _ c.in-Ok-call.ensures.keeps c.behind.ensures.keeps;
-  held = step_then c.behind.result _ _ _ _ _ _ c.behind.new.stack c.behind.ensures.keeps (beside _ _ _ _ (InFrames c.args.stack.now) _ (IsHeld c.args.stack.now (After c.in-Ok-call.item)) (λ x h. elim h [ inl i ↦ inr i | inr z ↦ absurd z ]) (λ x e. inr e) (λ x i. inl i) c.in-Ok-call.ensures.held) (λ x h. h) c.behind.ensures.held;
+pub returns-in_ok-item-in_default : goal.returns-in_ok-item-in_default
+returns-in_ok-item-in_default c = record {
+  keeps = on_keeps _ _ _ _ c.in_ok-item-in_default.ensures.keeps c.behind.ensures.keeps;
+  held = step_then c.behind.result _ _ _ _ _ _ c.behind.new.stack c.behind.ensures.keeps (beside _ _ _ _ (InFrames c.args.stack.now) _ (IsHeld c.args.stack.now (After c.in_ok-item-in_default.item)) (λ x h. elim h [ inl i ↦ inr i | inr z ↦ absurd z ]) (λ x e. inr e) (λ x i. inl i) c.in_ok-item-in_default.ensures.held) (λ x h. h) c.behind.ensures.held;
   notes = λ at base es h m p cs n.
-      let k = c.in-Ok-call.ensures.node in
+      let k = c.in_ok-item-in_default.ensures.node in
       on_from c.behind.result cs _ _ c.behind.new.draft.broken (call_asks at (base + length (entries es)) c.args.name.bytes.now es (word c.args.word.kind c.args.word.spelling.now) ∙ named_after at (base + length (entries es)) c.args.name.bytes.now es c.args.word.spelling.now c.args.word.kind c.in_default.not-At c.in_default.not-Define)
-      (c.behind.ensures.notes at base es (Call c.args.name.bytes.now) (frames_more c.args.draft.now c.call.new.draft at base c.args.stack.now es c.in-Ok-call.ensures.keeps h) (c.in-Ok-call.ensures.place ∙ m)
-      (call_shows c.call.new.draft at c.in-Ok-call.item.node (base + length (entries es)) k.0 c.args.name.at c.args.name.bytes.now m k.1 k.2) (call_place at base c.args.word.at c.args.name.bytes.now es p) cs (moved cs c.args.draft.now.broken c.call.new.draft.broken c.in-Ok-call.ensures.broken n));
+      (c.behind.ensures.notes at base es (Call c.args.name.bytes.now) (frames_more c.args.draft.now c.call.new.draft at base c.args.stack.now es c.in_ok-item-in_default.ensures.keeps h) (c.in_ok-item-in_default.ensures.place ∙ m)
+      (call_shows c.call.new.draft at c.in_ok-item-in_default.item.node (base + length (entries es)) k.0 c.args.name.at c.args.name.bytes.now m k.1 k.2) (call_place at base c.args.word.at c.args.name.bytes.now es p) cs (moved cs c.args.draft.now.broken c.call.new.draft.broken c.in_ok-item-in_default.ensures.broken n));
   step = λ at base es h n p.
-      let k = c.in-Ok-call.ensures.node in
+      let k = c.in_ok-item-in_default.ensures.node in
       to _ at base _ _ _ _ (named_other c.args.name.bytes.now es c.args.word.spelling.now c.args.word.kind c.in_default.not-At c.in_default.not-Define)
-      (c.behind.ensures.step at base es (Call c.args.name.bytes.now) (frames_more c.args.draft.now c.call.new.draft at base c.args.stack.now es c.in-Ok-call.ensures.keeps h) (c.in-Ok-call.ensures.place ∙ n)
-      (call_shows c.call.new.draft at c.in-Ok-call.item.node (base + length (entries es)) k.0 c.args.name.at c.args.name.bytes.now n k.1 k.2) (call_place at base c.args.word.at c.args.name.bytes.now es p));
+      (c.behind.ensures.step at base es (Call c.args.name.bytes.now) (frames_more c.args.draft.now c.call.new.draft at base c.args.stack.now es c.in_ok-item-in_default.ensures.keeps h) (c.in_ok-item-in_default.ensures.place ∙ n)
+      (call_shows c.call.new.draft at c.in_ok-item-in_default.item.node (base + length (entries es)) k.0 c.args.name.at c.args.name.bytes.now n k.1 k.2) (call_place at base c.args.word.at c.args.name.bytes.now es p));
 }
 
 pub behind-requires-clause-atom : goal.behind-requires-clause-atom
 behind-requires-clause-atom c =
     let r = c.requires.frames in
-    let k = c.in-Ok-call.ensures.node in
-    (r.0, r.1, r.2, Call c.args.name.bytes.now, frames_more c.args.draft.now c.call.new.draft r.0 r.1 c.args.stack.now r.2 c.in-Ok-call.ensures.keeps r.3, c.in-Ok-call.ensures.place ∙ r.4, call_shows c.call.new.draft r.0 c.in-Ok-call.item.node (r.1 + length (entries r.2)) k.0 c.args.name.at c.args.name.bytes.now r.4 k.1 k.2)
+    let k = c.in_ok-item-in_default.ensures.node in
+    (r.0, r.1, r.2, Call c.args.name.bytes.now, frames_more c.args.draft.now c.call.new.draft r.0 r.1 c.args.stack.now r.2 c.in_ok-item-in_default.ensures.keeps r.3, c.in_ok-item-in_default.ensures.place ∙ r.4, call_shows c.call.new.draft r.0 c.in_ok-item-in_default.item.node (r.1 + length (entries r.2)) k.0 c.args.name.at c.args.name.bytes.now r.4 k.1 k.2)
 
-pub returns-in-Ok-clause-notes : goal.returns-in-Ok-clause-notes
-returns-in-Ok-clause-notes c = λ at base es h m p cs n. on_from c.open.result cs _ _ c.open.new.draft.broken (named_at_asks at (base + length (entries es)) c.args.name.bytes.now es c.args.word.spelling.now c.args.word.kind c.args.name.at (Rattle.kex_reader.specs.Stands.open_frames c.args.stack.now) c.in-At.is m (depth_is c.args.draft.now at base c.args.stack.now es h)) (on_apply c.open.result cs _ c.register.new.self.broken c.open.new.draft.broken c.open.ensures.notes (moved cs c.args.draft.now.broken c.register.new.self.broken c.in-Ok.ensures.broken n))
+pub returns-in_ok-register-in-At-clause-notes : goal.returns-in_ok-register-in-At-clause-notes
+returns-in_ok-register-in-At-clause-notes c = λ at base es h m p cs n. on_from c.open.result cs _ _ c.open.new.draft.broken (named_at_asks at (base + length (entries es)) c.args.name.bytes.now es c.args.word.spelling.now c.args.word.kind c.args.name.at (Rattle.kex_reader.specs.Stands.open_frames c.args.stack.now) c.in-At.is m (depth_is c.args.draft.now at base c.args.stack.now es h)) (on_apply c.open.result cs _ c.register.new.self.broken c.open.new.draft.broken c.open.ensures.notes (moved cs c.args.draft.now.broken c.register.new.self.broken c.in_ok-register-in-At.ensures.broken n))
 
-pub returns-in-Ok-clause-held : goal.returns-in-Ok-clause-held
-returns-in-Ok-clause-held c = step_then c.open.result _ _ _ _ _ _ c.open.new.stack c.open.ensures.keeps (beside _ _ _ _ (InFrames c.args.stack.now) _ (λ x. (x ≡ RegisterNumber c.in-Ok.register) ⊎ InFrames c.args.stack.now x) (λ x h. elim h [ inl i ↦ inr i | inr z ↦ absurd z ]) (λ x e. inl e) (λ x i. inr i) c.in-Ok.ensures.held) (λ x h. h) c.open.ensures.held
+pub returns-in_ok-register-in-At-clause-held : goal.returns-in_ok-register-in-At-clause-held
+returns-in_ok-register-in-At-clause-held c = step_then c.open.result _ _ _ _ _ _ c.open.new.stack c.open.ensures.keeps (beside _ _ _ _ (InFrames c.args.stack.now) _ (λ x. (x ≡ RegisterNumber c.in_ok-register-in-At.register) ⊎ InFrames c.args.stack.now x) (λ x h. elim h [ inl i ↦ inr i | inr z ↦ absurd z ]) (λ x e. inl e) (λ x i. inr i) c.in_ok-register-in-At.ensures.held) (λ x h. h) c.open.ensures.held
