@@ -8,7 +8,7 @@ use Rattle.kex_tokens.specs.declared.token.Kind.TheVariants as kinds
 use Rattle.kex_tokens.specs.declared.token.Token.{Token}
 use Rattle.kex_tokens.specs.Lexemes.{IsToken}
 use Rattle.kex_tokens.specs.Texts.{AreTokens, IsSpan, AreInOrder}
-use Rattle.kex_tokens.proofs.Covering.{spans_of, order_of}
+use Rattle.kex_tokens.proofs.Cuts.{spans_of, order_of}
 use Rattle.kex_reader.specs.Syntax.{Word, Regex, word}
 use Rattle.kex_reader.specs.Spelling.{words, offset}
 

@@ -9,7 +9,7 @@ use Rattle.kex_regexp.specs.Bodies.{Spells}
 use Rattle.kex_regexp.specs.Grammar.{regex, Regex as Body}
 use Rattle.kex_regexp.specs.Shown.{ShowsRegex}
 use Rattle.kex_reader.specs.Syntax.{Part, Text, Held, Word, Name, Regex, Tilde, At, Bar, OpenParen, CloseParen, Term, Last, Or, Seq, Only, Then, Pre, Mute, Into, Once, Turns, Atom, One, Call, Lit, Match, Write, Assign, Group, term, seq, pre, atom, postfix}
-use Rattle.kex_reader.specs.Shown.{Made, IsNode, assigned, low, high, ShowsPart, ShowsParts, ShowsTerm, ShowsSeq, ShowsPre, ShowsAtom}
+use Rattle.kex_reader.specs.Shown.{Made, IsNode, assignment_kind, low, high, ShowsPart, ShowsParts, ShowsTerm, ShowsSeq, ShowsPre, ShowsAtom}
 use Rattle.kex_compile.proofs.Pairing.{Joins, SameKind, SameParts, no_more, text, register, one, lit, call, seq as in_seq, alt, rep, mute, at_register, write_register, set_register, add_register, Together, on_top, alone, beside, within, rank}
 use Rattle.kex_compile.proofs.Bodies.{regex_of}
 use Rattle.kex_compile.proofs.Spacing.{Spaced, width, spaced_front, spaced_rest, spaced_next, spaced_width, width_some, rises}
@@ -36,7 +36,7 @@ module _ (one_body : (bytes : List ℕ) (r q : Body) → Spells r bytes → Spel
       let h = rises at i ws s in
       alone made.nodes made'.nodes N G n n' (record { kind = k; at = at i }) (record { kind = k'; at = at i }) _ _ e e' refl same (omega (arith, r)) (omega (arith, r, h, l))
 
-  assigned_same : (append : Bool) (k k' : ℕ) (qs qs' : List Piece) → G k k' → SameParts G qs qs' → SameKind (Joins []) N G (assigned append k qs) (assigned append k' qs')
+  assigned_same : (append : Bool) (k k' : ℕ) (qs qs' : List Piece) → G k k' → SameParts G qs qs' → SameKind (Joins []) N G (assignment_kind append k qs) (assignment_kind append k' qs')
   assigned_same false k k' qs qs' g p = set_register g p
   assigned_same true k k' qs qs' g p = add_register g p
 
@@ -54,7 +54,7 @@ module _ (one_body : (bytes : List ℕ) (r q : Body) → Spells r bytes → Spel
   parts_of (Held r ∷ ps) (pieces.Register x ∷ qs) (pieces.Lit s ∷ qs') h k = absurd k.0
   parts_of (Held r ∷ ps) (pieces.Lit s ∷ qs) (q ∷ qs') h k = absurd h.0
 
-  assigned_rank : (append : Bool) (k : ℕ) (qs : List Piece) → rank (assigned append k qs) ≡ 3
+  assigned_rank : (append : Bool) (k : ℕ) (qs : List Piece) → rank (assignment_kind append k qs) ≡ 3
   assigned_rank false k qs = refl
   assigned_rank true k qs = refl
 

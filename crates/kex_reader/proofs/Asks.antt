@@ -13,10 +13,10 @@ use Rattle.kex_reader.specs.Syntax.{word, Word, Define, Definition, Header}
 use Rattle.kex_reader.specs.Reading.{Mode, Named, Inside, State, Begin, FirstName, StartLine, StageRead, StageNext, HeadRead, Within, before, entries, step_within, Entry}
 use Rattle.kex_reader.specs.Checks.{Check, Staged}
 use Rattle.kex_reader.specs.Shown.{Made, ShowsStages}
-use Rattle.kex_reader.specs.Stands.{Noted, asks, named_asks}
+use Rattle.kex_reader.specs.Stands.{NotesLeast, asks, named_asks}
 use Rattle.kex_reader.specs.Holding.{StateSteps}
 use Rattle.kex_reader.specs.Asked.{name_asks, state_asks}
-use Rattle.kex_reader.proofs.Wholes.{define_none}
+use Rattle.kex_reader.proofs.Programs.{define_none}
 
 pub within_asks : (at : ℕ → ℕ) (h : Header) (done : List Definition) (name : List ℕ) (i : Inside) (w : Word) → asks at (length (before h done name) + length (entries i.entries)) i.mode i.entries w ≡ state_asks at (Within h done name i) w
 unfolding state_asks
@@ -48,17 +48,17 @@ pub on_kind : (r : Result Phase StepFault) (P : Phase → Type 0) (Q : Type 0) �
 on_kind (Ok p) P Q f h = f p h
 on_kind (Err e) P Q f h = tt
 
-staged : (r : Result Phase StepFault) (k : Kind) (b : List ℕ) (from at' m number : ℕ) (cs : List Check) (o : Option Break) → OnOk r (k ≡ kinds.Name) → from ≡ at' → m ≡ number → OnOk r (Noted (cs ++ Staged from m ∷ []) o) → OnOk r (Noted (cs ++ name_asks at' number (word k b)) o)
-staged (Ok p) k b from at' m number cs o e f g n = subst (λ (x : List Check). Noted (cs ++ x) o) (ap (λ (x : ℕ). Staged x m ∷ []) f ∙ ap (λ (x : ℕ). Staged at' x ∷ []) g ∙ named_asks_is at' number k b e) n
+staged : (r : Result Phase StepFault) (k : Kind) (b : List ℕ) (from at' m number : ℕ) (cs : List Check) (o : Option Break) → OnOk r (k ≡ kinds.Name) → from ≡ at' → m ≡ number → OnOk r (NotesLeast (cs ++ Staged from m ∷ []) o) → OnOk r (NotesLeast (cs ++ name_asks at' number (word k b)) o)
+staged (Ok p) k b from at' m number cs o e f g n = subst (λ (x : List Check). NotesLeast (cs ++ x) o) (ap (λ (x : ℕ). Staged x m ∷ []) f ∙ ap (λ (x : ℕ). Staged at' x ∷ []) g ∙ named_asks_is at' number k b e) n
 staged (Err x) k b from at' m number cs o e f g n = tt
 
-pub start_asks : (at : ℕ → ℕ) (s : State) (k : Kind) (b : List ℕ) (from m : ℕ) → s ≡ StartLine → from ≡ at 2 → m ≡ 1 → (cs : List Check) (o : Option Break) (r : Result Phase StepFault) → OnOk r (k ≡ kinds.Name) → OnOk r (Noted (cs ++ Staged from m ∷ []) o) → OnOk r (Noted (cs ++ state_asks at s (word k b)) o)
+pub start_asks : (at : ℕ → ℕ) (s : State) (k : Kind) (b : List ℕ) (from m : ℕ) → s ≡ StartLine → from ≡ at 2 → m ≡ 1 → (cs : List Check) (o : Option Break) (r : Result Phase StepFault) → OnOk r (k ≡ kinds.Name) → OnOk r (NotesLeast (cs ++ Staged from m ∷ []) o) → OnOk r (NotesLeast (cs ++ state_asks at s (word k b)) o)
 unfolding state_asks
-start_asks at s k b from m e f g cs o r q n = subst (λ (x : State). OnOk r (Noted (cs ++ state_asks at x (word k b)) o)) (sym e) (staged r k b from (at 2) m 1 cs o q f g n)
+start_asks at s k b from m e f g cs o r q n = subst (λ (x : State). OnOk r (NotesLeast (cs ++ state_asks at x (word k b)) o)) (sym e) (staged r k b from (at 2) m 1 cs o q f g n)
 
-pub next_asks : (at : ℕ → ℕ) (s : State) (f : List ℕ) (ns : List (List ℕ)) (k : Kind) (b : List ℕ) (from m : ℕ) → s ≡ StageNext f ns → from ≡ at (2 + 2 * length (f ∷ ns)) → m ≡ suc (length (f ∷ ns)) → (cs : List Check) (o : Option Break) (r : Result Phase StepFault) → OnOk r (k ≡ kinds.Name) → OnOk r (Noted (cs ++ Staged from m ∷ []) o) → OnOk r (Noted (cs ++ state_asks at s (word k b)) o)
+pub next_asks : (at : ℕ → ℕ) (s : State) (f : List ℕ) (ns : List (List ℕ)) (k : Kind) (b : List ℕ) (from m : ℕ) → s ≡ StageNext f ns → from ≡ at (2 + 2 * length (f ∷ ns)) → m ≡ suc (length (f ∷ ns)) → (cs : List Check) (o : Option Break) (r : Result Phase StepFault) → OnOk r (k ≡ kinds.Name) → OnOk r (NotesLeast (cs ++ Staged from m ∷ []) o) → OnOk r (NotesLeast (cs ++ state_asks at s (word k b)) o)
 unfolding state_asks
-next_asks at s f ns k b from m e p g cs o r q n = subst (λ (x : State). OnOk r (Noted (cs ++ state_asks at x (word k b)) o)) (sym e) (staged r k b from (at (2 + 2 * length (f ∷ ns))) m (suc (length (f ∷ ns))) cs o q p g n)
+next_asks at s f ns k b from m e p g cs o r q n = subst (λ (x : State). OnOk r (NotesLeast (cs ++ state_asks at x (word k b)) o)) (sym e) (staged r k b from (at (2 + 2 * length (f ∷ ns))) m (suc (length (f ∷ ns))) cs o q p g n)
 
 stages_many : (ns : List (List ℕ)) (made : Made) (at : ℕ → ℕ) (ss : List Start) (i : ℕ) → ShowsStages ns made at ss i → length ss ≡ length ns
 unfolding ShowsStages
@@ -81,15 +81,15 @@ unfolding StateSteps
 nothing_made made at fs ds ss (Ok p) P h = absurd h
 nothing_made made at fs ds ss (Err e) P h = tt
 
-define_on : (at : ℕ → ℕ) (h : Header) (done : List Definition) (name : List ℕ) (m : Mode) (es : List Entry) (cs : List Check) (o : Option Break) (made : Made) (fs : List Frame) (ds : List Root) (ss : List Start) (r : Result Phase StepFault) → StateSteps made at fs ds ss r (step_within h done name m es Define) → OnOk r (Noted (cs ++ []) o) → OnOk r (Noted (cs ++ asks at (length (before h done name) + length (entries es)) m es Define) o)
-define_on at h done name (Named true n) es cs o made fs ds ss r st k = subst (λ (x : List Check). OnOk r (Noted (cs ++ x) o)) (define_quiet at (length (before h done name) + length (entries es)) n es) k
-define_on at h done name m es cs o made fs ds ss r st k = nothing_made made at fs ds ss r (Noted (cs ++ asks at (length (before h done name) + length (entries es)) m es Define) o) (subst (λ (x : Option State). StateSteps made at fs ds ss r x) (define_none h done name m es (λ n e. cc)) st)
+define_on : (at : ℕ → ℕ) (h : Header) (done : List Definition) (name : List ℕ) (m : Mode) (es : List Entry) (cs : List Check) (o : Option Break) (made : Made) (fs : List Frame) (ds : List Root) (ss : List Start) (r : Result Phase StepFault) → StateSteps made at fs ds ss r (step_within h done name m es Define) → OnOk r (NotesLeast (cs ++ []) o) → OnOk r (NotesLeast (cs ++ asks at (length (before h done name) + length (entries es)) m es Define) o)
+define_on at h done name (Named true n) es cs o made fs ds ss r st k = subst (λ (x : List Check). OnOk r (NotesLeast (cs ++ x) o)) (define_quiet at (length (before h done name) + length (entries es)) n es) k
+define_on at h done name m es cs o made fs ds ss r st k = nothing_made made at fs ds ss r (NotesLeast (cs ++ asks at (length (before h done name) + length (entries es)) m es Define) o) (subst (λ (x : Option State). StateSteps made at fs ds ss r x) (define_none h done name m es (λ n e. cc)) st)
 
-pub define_notes : (at : ℕ → ℕ) (s : State) (h : Header) (done : List Definition) (name : List ℕ) (i : Inside) (k : Kind) (b : List ℕ) → s ≡ Within h done name i → k ≡ kinds.Define → (cs : List Check) (o : Option Break) (made : Made) (fs : List Frame) (ds : List Root) (ss : List Start) (r : Result Phase StepFault) → StateSteps made at fs ds ss r (step_within h done name i.mode i.entries Define) → OnOk r (Noted (cs ++ []) o) → OnOk r (Noted (cs ++ state_asks at s (word k b)) o)
+pub define_notes : (at : ℕ → ℕ) (s : State) (h : Header) (done : List Definition) (name : List ℕ) (i : Inside) (k : Kind) (b : List ℕ) → s ≡ Within h done name i → k ≡ kinds.Define → (cs : List Check) (o : Option Break) (made : Made) (fs : List Frame) (ds : List Root) (ss : List Start) (r : Result Phase StepFault) → StateSteps made at fs ds ss r (step_within h done name i.mode i.entries Define) → OnOk r (NotesLeast (cs ++ []) o) → OnOk r (NotesLeast (cs ++ state_asks at s (word k b)) o)
 unfolding state_asks
 define_notes at s h done name i k b e f cs o made fs ds ss r st n =
-    subst (λ (x : State). OnOk r (Noted (cs ++ state_asks at x (word k b)) o)) (sym e)
-    (subst (λ (x : Kind). OnOk r (Noted (cs ++ asks at (length (before h done name) + length (entries i.entries)) i.mode i.entries (word x b)) o)) (sym f) (define_on at h done name i.mode i.entries cs o made fs ds ss r st n))
+    subst (λ (x : State). OnOk r (NotesLeast (cs ++ state_asks at x (word k b)) o)) (sym e)
+    (subst (λ (x : Kind). OnOk r (NotesLeast (cs ++ asks at (length (before h done name) + length (entries i.entries)) i.mode i.entries (word x b)) o)) (sym f) (define_on at h done name i.mode i.entries cs o made fs ds ss r st n))
 
 pub vec_long : (r l n : ℕ) → r ≡ l → n ≡ l → r ≡ n
 vec_long r l n e f = e ∙ sym f

@@ -2,28 +2,28 @@
 use Rattle.std.proofs.Common.{◌≡◌, ℕ, Bool, true, false, List, [], ◌∷◌, ◌++◌, Option, Some, None, refl, sym, ap, ◌∙◌, subst, append_assoc}
 use Rattle.std.proofs.lemmas.List.{append-nil}
 use Rattle.kex_reader.specs.Syntax.{Word, Name, Number, Literal, Regex, Define, Bar, Tilde, At, Star, Plus, Question, OpenBrace, CloseBrace, Comma, Bang, OpenBracket, CloseBracket, OpenParen, CloseParen, Part, Text, Held, Postfix, ZeroOrMore, OneOrMore, Optional, Exactly, AtLeast, AtMost, Between, Term, Last, Or, Seq, Only, Then, Pre, Mute, Into, Once, Turns, Atom, One, Call, Lit, Match, Write, Assign, Group, Definition, Header, NoStart, Stages, Program, part, parts, sign, postfix, term, seq, pre, atom, definitions, stages, header, program}
-use Rattle.kex_reader.specs.Reading.{Entry, Mark, Ended, Done, Muted, Storing, Opened, Low, LowComma, LowHigh, OnlyComma, High, Mode, Need, Ready, After, Named, Writing, Bracket, BracketName, Assigning, Assigned, InCount, State, Begin, StageRead, Within, put, take_more, take_seq, take_branches, term_of, take_term, on_bar, closed, on_close, on_number, begin_pre, after_atom, next_head, on_head, named, on_name, on_sign, first_part, next_part, count_step, on_count, step_in, lift, on_define, step_within, first_name, head_read, stage_read, name_then, step, next, reads, whole, ended, finish_within, finish}
+use Rattle.kex_reader.specs.Reading.{Entry, Mark, Ended, Done, Muted, Storing, Opened, Low, LowComma, LowHigh, OnlyComma, High, Mode, Need, Ready, After, Named, Writing, Bracket, BracketName, Assigning, Assigned, InCount, State, Begin, StageRead, Within, with_pre, take_more, take_seq, take_branches, term_of, take_term, on_bar, after_group, on_close, on_number, begin_pre, after_atom, next_head, on_head, after_name, on_name, on_sign, first_part, next_part, count_step, on_count, step_in, lift, on_define, step_within, first_name, head_read, stage_read, name_then, step, next, state_after, program_of_whole, program_of_term, finish_within, finish}
 
 -- ---- runs
 
-pub reads-append : (o : Option State) (u v : List Word) → reads o (u ++ v) ≡ reads (reads o u) v
-unfolding reads
+pub reads-append : (o : Option State) (u v : List Word) → state_after o (u ++ v) ≡ state_after (state_after o u) v
+unfolding state_after
 reads-append o [] v = refl
 reads-append o (t ∷ u) v = reads-append (next o t) u v
 
-pub then_reads : (o p q : Option State) (u v : List Word) → reads o u ≡ p → reads p v ≡ q → reads o (u ++ v) ≡ q
-then_reads o p q u v e f = reads-append o u v ∙ ap (λ (x : Option State). reads x v) e ∙ f
+pub then_reads : (o p q : Option State) (u v : List Word) → state_after o u ≡ p → state_after p v ≡ q → state_after o (u ++ v) ≡ q
+then_reads o p q u v e f = reads-append o u v ∙ ap (λ (x : Option State). state_after x v) e ∙ f
 
-pub one_word : (o p : Option State) (t : Word) → next o t ≡ p → reads o (t ∷ []) ≡ p
-unfolding reads
+pub one_word : (o p : Option State) (t : Word) → next o t ≡ p → state_after o (t ∷ []) ≡ p
+unfolding state_after
 one_word o p t e = e
 
-pub word_then : (o p q : Option State) (t : Word) (v : List Word) → next o t ≡ p → reads p v ≡ q → reads o (t ∷ v) ≡ q
-unfolding reads
-word_then o p q t v e f = ap (λ (x : Option State). reads x v) e ∙ f
+pub word_then : (o p q : Option State) (t : Word) (v : List Word) → next o t ≡ p → state_after p v ≡ q → state_after o (t ∷ v) ≡ q
+unfolding state_after
+word_then o p q t v e f = ap (λ (x : Option State). state_after x v) e ∙ f
 
-pub reads_none : (w : List Word) → reads None w ≡ None
-unfolding reads next
+pub reads_none : (w : List Word) → state_after None w ≡ None
+unfolding state_after next
 reads_none [] = refl
 reads_none (t ∷ w) = reads_none w
 
@@ -64,8 +64,8 @@ floor_base (Done p ∷ es) h = absurd h
 floor_base (Muted ∷ es) h = absurd h
 floor_base (Storing n ∷ es) h = absurd h
 
-pub put_base : (p : Pre) (es : List Entry) → IsBase es → put p es ≡ Done p ∷ es
-unfolding put IsBase
+pub put_base : (p : Pre) (es : List Entry) → IsBase es → with_pre p es ≡ Done p ∷ es
+unfolding with_pre IsBase
 put_base p [] h = refl
 put_base p (Mark ∷ es) h = refl
 put_base p (Ended s ∷ es) h = refl
@@ -100,8 +100,8 @@ term_back (Or s t) es h = term_back t (Ended s ∷ es) tt
 -- once a pre has ended these entries stand open
 unfoldable pub Settles : Mode → List Entry → List Entry → Type 0
 Settles Ready es fs = es ≡ fs
-Settles (After a) es fs = put (Once a) es ≡ fs
-Settles (Named free n) es fs = put (Once (Call n)) es ≡ fs
+Settles (After a) es fs = with_pre (Once a) es ≡ fs
+Settles (Named free n) es fs = with_pre (Once (Call n)) es ≡ fs
 Settles _ es fs = ⊥
 
 -- a pre may begin over these entries; free says that one needn't
@@ -134,7 +134,7 @@ IsPostfixSign OpenBrace = Unit {0}
 IsPostfixSign _ = ⊥
 
 module _ (h : Header) (ds : List Definition) (name : List ℕ) where
-  pub after_begins : (a : Atom) (es : List Entry) (t : Word) → IsBeginner t → after_atom a es t ≡ begin_pre true (put (Once a) es) t
+  pub after_begins : (a : Atom) (es : List Entry) (t : Word) → IsBeginner t → after_atom a es t ≡ begin_pre true (with_pre (Once a) es) t
   unfolding after_atom IsBeginner
   after_begins a es Star n = absurd n
   after_begins a es Plus n = absurd n
@@ -142,8 +142,8 @@ module _ (h : Header) (ds : List Definition) (name : List ℕ) where
   after_begins a es OpenBrace n = absurd n
   after_begins a es t n = refl
 
-  pub named_begins : (k : List ℕ) (es : List Entry) (t : Word) → IsBeginner t → named k es t ≡ begin_pre true (put (Once (Call k)) es) t
-  unfolding named IsBeginner
+  pub named_begins : (k : List ℕ) (es : List Entry) (t : Word) → IsBeginner t → after_name k es t ≡ begin_pre true (with_pre (Once (Call k)) es) t
+  unfolding after_name IsBeginner
   named_begins k es At n = absurd n
   named_begins k es Define n = absurd n
   named_begins k es t n = after_begins (Call k) es t n
@@ -151,7 +151,7 @@ module _ (h : Header) (ds : List Definition) (name : List ℕ) where
   abbrev pub at : Mode → List Entry → Option State
   at m es = Some (Within h ds name (record { mode = m; entries = es }))
 
-  pub named_lifted : (free : Bool) (n : List ℕ) (es : List Entry) (t : Word) → IsBeginner t → step_within h ds name (Named free n) es t ≡ lift h ds name (named n es t)
+  pub named_lifted : (free : Bool) (n : List ℕ) (es : List Entry) (t : Word) → IsBeginner t → step_within h ds name (Named free n) es t ≡ lift h ds name (after_name n es t)
   unfolding step_within step_in IsBeginner
   named_lifted free n es Define k = absurd k
   named_lifted free n es t k = refl
@@ -165,7 +165,7 @@ module _ (h : Header) (ds : List Definition) (name : List ℕ) where
   begins free _ es fs t r n = absurd r.0
 
   pub named_signed : (free : Bool) (n : List ℕ) (es : List Entry) (t : Word) → IsPostfixSign t → step_within h ds name (Named free n) es t ≡ lift h ds name (after_atom (Call n) es t)
-  unfolding step_within step_in named IsPostfixSign lift
+  unfolding step_within step_in after_name IsPostfixSign lift
   named_signed free n es Star k = refl
   named_signed free n es Plus k = refl
   named_signed free n es Question k = refl
@@ -193,10 +193,10 @@ module _ (h : Header) (ds : List Definition) (name : List ℕ) where
   free_may (Named free n) es fs r = (r, refl)
   free_may _ es fs r = absurd r
 
-  pub held_settles : (a : Atom) (m : Mode) (es : List Entry) → Holds a m → Settles m es (put (Once a) es)
+  pub held_settles : (a : Atom) (m : Mode) (es : List Entry) → Holds a m → Settles m es (with_pre (Once a) es)
   unfolding Holds Settles
-  held_settles a (After b) es e = ap (λ (x : Atom). put (Once x) es) e
-  held_settles a (Named free n) es e = ap (λ (x : Atom). put (Once x) es) e
+  held_settles a (After b) es e = ap (λ (x : Atom). with_pre (Once x) es) e
+  held_settles a (Named free n) es e = ap (λ (x : Atom). with_pre (Once x) es) e
   held_settles a _ es e = absurd e
 
   pub part_step : (append : Bool) (r : List ℕ) (p : Part) (ps : List Part) (q : Part) (es : List Entry) → next (at (Assigned append r p ps) es) (part q) ≡ at (Assigned append r p (ps ++ q ∷ [])) es
@@ -214,20 +214,20 @@ module _ (h : Header) (ds : List Definition) (name : List ℕ) where
   sign_step true r es = refl
   sign_step false r es = refl
 
-  pub finish_settles : (m : Mode) (es fs : List Entry) → Settles m es fs → finish_within h ds name m es ≡ ended h ds name (take_term fs)
+  pub finish_settles : (m : Mode) (es fs : List Entry) → Settles m es fs → finish_within h ds name m es ≡ program_of_term h ds name (take_term fs)
   unfolding Settles finish_within
-  finish_settles Ready es fs r = ap (λ (x : List Entry). ended h ds name (take_term x)) r
-  finish_settles (After a) es fs r = ap (λ (x : List Entry). ended h ds name (take_term x)) r
-  finish_settles (Named free n) es fs r = ap (λ (x : List Entry). ended h ds name (take_term x)) r
+  finish_settles Ready es fs r = ap (λ (x : List Entry). program_of_term h ds name (take_term x)) r
+  finish_settles (After a) es fs r = ap (λ (x : List Entry). program_of_term h ds name (take_term x)) r
+  finish_settles (Named free n) es fs r = ap (λ (x : List Entry). program_of_term h ds name (take_term x)) r
   finish_settles _ es fs r = absurd r
 
   -- the parts of an assignment
-  pub parts_read : (append : Bool) (r : List ℕ) (p : Part) (ps qs : List Part) (es : List Entry) → reads (at (Assigned append r p ps) es) (parts qs) ≡ at (Assigned append r p (ps ++ qs)) es
-  unfolding parts reads
+  pub parts_read : (append : Bool) (r : List ℕ) (p : Part) (ps qs : List Part) (es : List Entry) → state_after (at (Assigned append r p ps) es) (parts qs) ≡ at (Assigned append r p (ps ++ qs)) es
+  unfolding parts state_after
   parts_read append r p ps [] es = ap (λ (x : List Part). at (Assigned append r p x) es) (sym (append-nil ps))
   parts_read append r p ps (q ∷ qs) es = word_then _ _ _ (part q) (parts qs) (part_step append r p ps q es) (parts_read append r p (ps ++ q ∷ []) qs es ∙ ap (λ (x : List Part). at (Assigned append r p x) es) (append_assoc ps (q ∷ []) qs))
 
-  pub assign_reads : (append : Bool) (r : List ℕ) (p : Part) (ps : List Part) (es : List Entry) → reads (at Bracket es) (Name r ∷ sign append ∷ part p ∷ (parts ps ++ CloseBracket ∷ [])) ≡ at (After (Assign append r p ps)) es
+  pub assign_reads : (append : Bool) (r : List ℕ) (p : Part) (ps : List Part) (es : List Entry) → state_after (at Bracket es) (Name r ∷ sign append ∷ part p ∷ (parts ps ++ CloseBracket ∷ [])) ≡ at (After (Assign append r p ps)) es
   unfolding next step step_within step_in lift on_name next_part
   assign_reads append r p ps es =
       word_then _ (at (BracketName r) es) _ (Name r) (sign append ∷ part p ∷ (parts ps ++ CloseBracket ∷ [])) refl
@@ -236,7 +236,7 @@ module _ (h : Header) (ds : List Definition) (name : List ℕ) where
       (then_reads _ (at (Assigned append r p ps) es) _ (parts ps) (CloseBracket ∷ []) (parts_read append r p [] ps es)
       (one_word _ _ CloseBracket refl))))
 
-  pub postfix_reads : (a : Atom) (p : Postfix) (m : Mode) (es : List Entry) → Holds a m → reads (at m es) (postfix p) ≡ at Ready (put (Turns a p) es)
+  pub postfix_reads : (a : Atom) (p : Postfix) (m : Mode) (es : List Entry) → Holds a m → state_after (at m es) (postfix p) ≡ at Ready (with_pre (Turns a p) es)
   unfolding postfix IsPostfixSign after_atom next step step_within step_in lift count_step on_count
   postfix_reads a ZeroOrMore m es k = one_word _ _ Star (signed a m es Star k tt)
   postfix_reads a OneOrMore m es k = one_word _ _ Plus (signed a m es Plus k tt)
@@ -263,20 +263,20 @@ module _ (h : Header) (ds : List Definition) (name : List ℕ) where
   bar_step m es s fs r k = begins true m es (seq_onto s fs) Bar (free_may m es (seq_onto s fs) r) tt ∙ ap (λ (x : Option (Seq × List Entry)). lift h ds name (on_bar x)) (seq_floor s fs k)
 
   pub close_step : (m : Mode) (es : List Entry) (t : Term) (fs : List Entry) → Settles m es (term_onto t (Mark ∷ fs)) → next (at m es) CloseParen ≡ at (After (Group t)) fs
-  unfolding IsBeginner begin_pre on_close closed lift IsFloor take_branches
+  unfolding IsBeginner begin_pre on_close after_group lift IsFloor take_branches
   close_step m es t fs r = begins true m es (term_onto t (Mark ∷ fs)) CloseParen (free_may m es (term_onto t (Mark ∷ fs)) r) tt ∙ ap (λ (x : Option (Term × List Entry)). lift h ds name (on_close x)) (term_back t (Mark ∷ fs) tt)
 
   mutual
-    unfolding term seq pre atom term_onto seq_onto put Settled AtomRead Settles MayBegin IsBase IsFloor Holds begin_pre on_number IsBeginner next step step_within step_in lift named on_name
+    unfolding term seq pre atom term_onto seq_onto with_pre Settled AtomRead Settles MayBegin IsBase IsFloor Holds begin_pre on_number IsBeginner next step step_within step_in lift after_name on_name
 
-    pub term_reads : (t : Term) (free : Bool) (m : Mode) (es fs : List Entry) → MayBegin free m es fs → IsFloor fs → Settled (term_onto t fs) (reads (at m es) (term t))
+    pub term_reads : (t : Term) (free : Bool) (m : Mode) (es fs : List Entry) → MayBegin free m es fs → IsFloor fs → Settled (term_onto t fs) (state_after (at m es) (term t))
     term_reads (Last s) free m es fs r k = seq_reads s free m es fs r (floor_base fs k)
     term_reads (Or s t) free m es fs r k =
         let a = seq_reads s free m es fs r (floor_base fs k) in
         let b = term_reads t false Need (Ended s ∷ fs) (Ended s ∷ fs) (refl, refl) tt in
         (b.0, b.1, b.2, then_reads _ (at a.0 a.1) _ (seq s) (Bar ∷ term t) a.3 (word_then _ (at Need (Ended s ∷ fs)) _ Bar (term t) (bar_step a.0 a.1 s fs a.2 k) b.3))
 
-    pub seq_reads : (s : Seq) (free : Bool) (m : Mode) (es fs : List Entry) → MayBegin free m es fs → IsBase fs → Settled (seq_onto s fs) (reads (at m es) (seq s))
+    pub seq_reads : (s : Seq) (free : Bool) (m : Mode) (es fs : List Entry) → MayBegin free m es fs → IsBase fs → Settled (seq_onto s fs) (state_after (at m es) (seq s))
     seq_reads (Only p) free m es fs r k =
         let a = pre_reads p free m es fs r in
         (a.0, a.1, subst (λ (x : List Entry). Settles a.0 a.1 x) (put_base p fs k) a.2, a.3)
@@ -286,7 +286,7 @@ module _ (h : Header) (ds : List Definition) (name : List ℕ) where
         let b = seq_reads s true a.0 a.1 (Done p ∷ fs) (free_may a.0 a.1 (Done p ∷ fs) q) tt in
         (b.0, b.1, b.2, then_reads _ (at a.0 a.1) _ (pre p) (seq s) a.3 b.3)
 
-    pub pre_reads : (p : Pre) (free : Bool) (m : Mode) (es fs : List Entry) → MayBegin free m es fs → Settled (put p fs) (reads (at m es) (pre p))
+    pub pre_reads : (p : Pre) (free : Bool) (m : Mode) (es fs : List Entry) → MayBegin free m es fs → Settled (with_pre p fs) (state_after (at m es) (pre p))
     pre_reads (Mute p) free m es fs r =
         let a = pre_reads p false Need (Muted ∷ fs) (Muted ∷ fs) (refl, refl) in
         (a.0, a.1, a.2, word_then _ (at Need (Muted ∷ fs)) _ Tilde (pre p) (begins free m es fs Tilde r tt) a.3)
@@ -298,9 +298,9 @@ module _ (h : Header) (ds : List Definition) (name : List ℕ) where
         (b.0, fs, held_settles a b.0 fs b.1, b.2)
     pre_reads (Turns a p) free m es fs r =
         let b = atom_reads a free m es fs r in
-        (Ready, put (Turns a p) fs, refl, then_reads _ (at b.0 fs) _ (atom a) (postfix p) b.2 (postfix_reads a p b.0 fs b.1))
+        (Ready, with_pre (Turns a p) fs, refl, then_reads _ (at b.0 fs) _ (atom a) (postfix p) b.2 (postfix_reads a p b.0 fs b.1))
 
-    pub atom_reads : (a : Atom) (free : Bool) (m : Mode) (es fs : List Entry) → MayBegin free m es fs → AtomRead a fs (reads (at m es) (atom a))
+    pub atom_reads : (a : Atom) (free : Bool) (m : Mode) (es fs : List Entry) → MayBegin free m es fs → AtomRead a fs (state_after (at m es) (atom a))
     atom_reads One free m es fs r = (After One, refl, one_word _ _ (Number (49 ∷ [])) (begins free m es fs (Number (49 ∷ [])) r tt))
     atom_reads (Call n) free m es fs r = (Named free n, refl, one_word _ _ (Name n) (begins free m es fs (Name n) r tt))
     atom_reads (Lit t) free m es fs r = (After (Lit t), refl, one_word _ _ (Literal t) (begins free m es fs (Literal t) r tt))
@@ -316,15 +316,15 @@ module _ (h : Header) (ds : List Definition) (name : List ℕ) where
         )
 
   -- the next definition's head
-  pub head_reads : (m : Mode) (es : List Entry) (t : Term) (n : List ℕ) (v : List Word) (q : Option State) → Settles m es (term_onto t []) → reads (Some (Within h (ds ++ record { name = name; term = t } ∷ []) n (record { mode = Need; entries = [] }))) v ≡ q → reads (at m es) (Name n ∷ Define ∷ v) ≡ q
-  unfolding IsBeginner begin_pre next step step_within step_in lift on_define named on_head next_head IsFloor take_branches
+  pub head_reads : (m : Mode) (es : List Entry) (t : Term) (n : List ℕ) (v : List Word) (q : Option State) → Settles m es (term_onto t []) → state_after (Some (Within h (ds ++ record { name = name; term = t } ∷ []) n (record { mode = Need; entries = [] }))) v ≡ q → state_after (at m es) (Name n ∷ Define ∷ v) ≡ q
+  unfolding IsBeginner begin_pre next step step_within step_in lift on_define after_name on_head next_head IsFloor take_branches
   head_reads m es t n v q r e =
       word_then _ (at (Named true n) (term_onto t [])) _ (Name n) (Define ∷ v) (begins true m es (term_onto t []) (Name n) (free_may m es (term_onto t []) r) tt)
       (word_then _ (Some (Within h (ds ++ record { name = name; term = t } ∷ []) n (record { mode = Need; entries = [] }))) _ Define v (ap (on_head h ds name n) (term_back t [] tt)) e)
 
   pub settled_finish : (m : Mode) (es : List Entry) (t : Term) → Settles m es (term_onto t []) → finish (Within h ds name (record { mode = m; entries = es })) ≡ Some (record { header = h; definitions = ds ++ record { name = name; term = t } ∷ [] })
-  unfolding finish ended whole IsFloor take_branches
-  settled_finish m es t r = finish_settles m es (term_onto t []) r ∙ ap (ended h ds name) (term_back t [] tt)
+  unfolding finish program_of_term program_of_whole IsFloor take_branches
+  settled_finish m es t r = finish_settles m es (term_onto t []) r ∙ ap (program_of_term h ds name) (term_back t [] tt)
 
 -- ---- definitions
 
@@ -334,8 +334,8 @@ Gives o p = (s : State) × (o ≡ Some s) × (finish s ≡ Some p)
 abbrev program_of : Header → List Definition → Program
 program_of h ds = record { header = h; definitions = ds }
 
-pub rest_reads : (es : List Definition) (h : Header) (ds : List Definition) (name : List ℕ) (m : Mode) (fs : List Entry) (t : Term) → Settles m fs (term_onto t []) → Gives (reads (at h ds name m fs) (definitions es)) (record { header = h; definitions = (ds ++ record { name = name; term = t } ∷ []) ++ es })
-unfolding Gives definitions reads Settled MayBegin IsFloor
+pub rest_reads : (es : List Definition) (h : Header) (ds : List Definition) (name : List ℕ) (m : Mode) (fs : List Entry) (t : Term) → Settles m fs (term_onto t []) → Gives (state_after (at h ds name m fs) (definitions es)) (record { header = h; definitions = (ds ++ record { name = name; term = t } ∷ []) ++ es })
+unfolding Gives definitions state_after Settled MayBegin IsFloor
 rest_reads [] h ds name m fs t r = (Within h ds name (record { mode = m; entries = fs }), refl, settled_finish h ds name m fs t r ∙ ap (λ (x : List Definition). Some (program_of h x)) (sym (append-nil (ds ++ record { name = name; term = t } ∷ []))))
 rest_reads (d ∷ es) h ds name m fs t r =
     let all = ds ++ record { name = name; term = t } ∷ [] in
@@ -344,40 +344,40 @@ rest_reads (d ∷ es) h ds name m fs t r =
     (b.0, head_reads h ds name m fs t d.name (term d.term ++ definitions es) _ r (then_reads _ (at h all d.name a.0 a.1) _ (term d.term) (definitions es) a.3 b.1), b.2 ∙ ap (λ (x : List Definition). Some (program_of h x)) (append_assoc all (d ∷ []) es))
 
 -- the first definition, where its head has been read
-pub first_reads : (d : Definition) (es : List Definition) (h : Header) → Gives (reads (Some (Within h [] d.name (record { mode = Need; entries = [] }))) (term d.term ++ definitions es)) (record { header = h; definitions = d ∷ es })
+pub first_reads : (d : Definition) (es : List Definition) (h : Header) → Gives (state_after (Some (Within h [] d.name (record { mode = Need; entries = [] }))) (term d.term ++ definitions es)) (record { header = h; definitions = d ∷ es })
 unfolding Gives Settled MayBegin IsFloor
 first_reads d es h =
     let a = term_reads h [] d.name d.term false Need [] [] (refl, refl) tt in
     let b = rest_reads es h [] d.name a.0 a.1 d.term a.2 in
     (b.0, then_reads _ (at h [] d.name a.0 a.1) _ (term d.term) (definitions es) a.3 b.1, b.2)
 
-pub stages_read : (f : List ℕ) (ns ks : List (List ℕ)) → reads (Some (StageRead f ns)) (stages ks) ≡ Some (StageRead f (ns ++ ks))
-unfolding stages reads next step stage_read name_then
+pub stages_read : (f : List ℕ) (ns ks : List (List ℕ)) → state_after (Some (StageRead f ns)) (stages ks) ≡ Some (StageRead f (ns ++ ks))
+unfolding stages state_after next step stage_read name_then
 stages_read f ns [] = ap (λ (x : List (List ℕ)). Some (StageRead f x)) (sym (append-nil ns))
 stages_read f ns (k ∷ ks) = stages_read f (ns ++ k ∷ []) ks ∙ ap (λ (x : List (List ℕ)). Some (StageRead f x)) (append_assoc ns (k ∷ []) ks)
 
 pub gives_from : (o q : Option State) (p : Program) → o ≡ q → Gives q p → Gives o p
 gives_from o q p e g = subst (λ (x : Option State). Gives x p) (sym e) g
 
-pub header_reads : (f : List ℕ) (ns : List (List ℕ)) → reads (Some Begin) (header (Stages f ns)) ≡ Some (StageRead f ns)
-unfolding header reads next step first_name name_then
+pub header_reads : (f : List ℕ) (ns : List (List ℕ)) → state_after (Some Begin) (header (Stages f ns)) ≡ Some (StageRead f ns)
+unfolding header state_after next step first_name name_then
 header_reads f ns = stages_read f [] ns
 
-pub definitions_after : (f : List ℕ) (ns : List (List ℕ)) (ds : List Definition) → Gives (reads (Some (StageRead f ns)) (definitions ds)) (record { header = Stages f ns; definitions = ds })
-unfolding Gives definitions reads next step stage_read head_read finish
+pub definitions_after : (f : List ℕ) (ns : List (List ℕ)) (ds : List Definition) → Gives (state_after (Some (StageRead f ns)) (definitions ds)) (record { header = Stages f ns; definitions = ds })
+unfolding Gives definitions state_after next step stage_read head_read finish
 definitions_after f ns [] = (StageRead f ns, refl, refl)
 definitions_after f ns (d ∷ ds) = first_reads d ds (Stages f ns)
 
-pub definitions_alone : (ds : List Definition) → Gives (reads (Some Begin) (definitions ds)) (record { header = NoStart; definitions = ds })
-unfolding Gives definitions reads next step first_name name_then finish
+pub definitions_alone : (ds : List Definition) → Gives (state_after (Some Begin) (definitions ds)) (record { header = NoStart; definitions = ds })
+unfolding Gives definitions state_after next step first_name name_then finish
 definitions_alone [] = (Begin, refl, refl)
 definitions_alone (d ∷ ds) = first_reads d ds NoStart
 
-pub by_header : (h : Header) (ds : List Definition) → Gives (reads (Some Begin) (header h ++ definitions ds)) (record { header = h; definitions = ds })
+pub by_header : (h : Header) (ds : List Definition) → Gives (state_after (Some Begin) (header h ++ definitions ds)) (record { header = h; definitions = ds })
 unfolding header
 by_header NoStart ds = definitions_alone ds
-by_header (Stages f ns) ds = gives_from _ _ _ (reads-append (Some Begin) (header (Stages f ns)) (definitions ds) ∙ ap (λ (o : Option State). reads o (definitions ds)) (header_reads f ns)) (definitions_after f ns ds)
+by_header (Stages f ns) ds = gives_from _ _ _ (reads-append (Some Begin) (header (Stages f ns)) (definitions ds) ∙ ap (λ (o : Option State). state_after o (definitions ds)) (header_reads f ns)) (definitions_after f ns ds)
 
-pub program_reads : (p : Program) → Gives (reads (Some Begin) (program p)) p
+pub program_reads : (p : Program) → Gives (state_after (Some Begin) (program p)) p
 unfolding program
 program_reads p = by_header p.header p.definitions

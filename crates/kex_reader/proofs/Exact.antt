@@ -14,7 +14,7 @@ use Rattle.kex_reader.specs.Programs.{IsFirstWrong}
 use Rattle.kex_reader.specs.Checks.{Check, SomeBreaks, IsLeastBreak, program_checks}
 use Rattle.kex_reader.specs.Spelling.{words, offset, Spells, IsUnexpected, BreaksLimit, IsRefusedAs, of_limit}
 use Rattle.kex_reader.proofs.Viable.{one_tree}
-use Rattle.kex_reader.proofs.Wrong.{not_both, one_wrong}
+use Rattle.kex_reader.proofs.WrongWords.{not_both, one_wrong}
 
 -- ---- the least break is one
 

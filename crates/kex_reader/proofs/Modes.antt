@@ -21,16 +21,16 @@ use Rattle.kex_reader.specs.declared.inside.Wait.TheVariants as waits
 use Rattle.kex_reader.specs.declared.inside.StepFault.{StepFault}
 use Rattle.kex_reader.specs.declared.inside.StepFault.TheVariants as faults
 use Rattle.kex_reader.specs.Syntax.{Word, Name, Literal, word, Part, Text, Held, Postfix, ZeroOrMore, OneOrMore, Optional, Exactly, AtLeast, AtMost, Between, Turns, Atom, Write, Assign, Call, atom}
-use Rattle.kex_reader.specs.Reading.{Entry, Mode, Need, Ready, After, Named, Writing, Bracket, BracketName, Assigning, Assigned, InCount, Inside, Counting, CountStep, CountOn, CountRead, CountWrong, put, goes, begin_pre, after_atom, named, on_name, on_sign, first_part, next_part, count_step, on_count, step_in, inside, mode, entries}
+use Rattle.kex_reader.specs.Reading.{Entry, Mode, Need, Ready, After, Named, Writing, Bracket, BracketName, Assigning, Assigned, InCount, Inside, Counting, CountStep, CountOn, CountRead, CountWrong, with_pre, goes, begin_pre, after_atom, after_name, on_name, on_sign, first_part, next_part, count_step, on_count, step_in, inside, mode, entries}
 use Rattle.kex_reader.specs.Checks.{is_bad_count}
-use Rattle.kex_reader.specs.Shown.{Made, IsNode, IsRegister, ShowsPre, ShowsAtom, ShowsPart, ShowsParts, assigned, low, high}
-use Rattle.kex_reader.specs.Stands.{Keeps, Noted, count_asks, FramesShow, IsLeaf, PieceShows, part_of, ShowsMode, ShowsCount, ShowsCountStep, SomeAtom, SomeFrames, SomeInside, SomeName, Steps}
-use Rattle.kex_reader.proofs.Drafting.{parts_more}
+use Rattle.kex_reader.specs.Shown.{Made, IsNode, IsRegister, ShowsPre, ShowsAtom, ShowsPart, ShowsParts, assignment_kind, low, high}
+use Rattle.kex_reader.specs.Stands.{Keeps, NotesLeast, count_asks, FramesShow, IsLeaf, PieceShows, part_of, ShowsMode, ShowsCount, ShowsCountStep, SomeAtom, SomeFrames, SomeInside, SomeName, Steps}
+use Rattle.kex_reader.proofs.Drafts.{parts_more}
 use Rattle.kex_reader.proofs.Stacks.{frames_more}
-use Rattle.kex_reader.proofs.Kept.{same}
+use Rattle.kex_reader.proofs.MoreChecks.{same}
 use Rattle.kex_reader.specs.Checks.{Check}
 use Rattle.kex_regexp.specs.declared.breaks.Break.{Break}
-use Rattle.kex_reader.proofs.Stepping.{to, wrong, stood, write_shows}
+use Rattle.kex_reader.proofs.Steps.{to, wrong, stood, write_shows}
 
 -- ---- nodes
 
@@ -62,11 +62,11 @@ pieces_in (Held t ∷ ps) made (pieces.Register x ∷ qs) h r (inl m) =
     let l = slice_get_within made.registers x t h.0 in
     omega (arith, e, l)
 
-pub assigned_names : (append : Bool) (made : Made) (k : ℕ) (names : ℕ) (qs : List Piece) → k < length made.registers → HasPieces (length made.registers) qs → HasNames names (length made.registers) (assigned append k qs)
+pub assigned_names : (append : Bool) (made : Made) (k : ℕ) (names : ℕ) (qs : List Piece) → k < length made.registers → HasPieces (length made.registers) qs → HasNames names (length made.registers) (assignment_kind append k qs)
 assigned_names true made k names qs l h = (l, h)
 assigned_names false made k names qs l h = (l, h)
 
-pub assigned_leaf : (append : Bool) (k : ℕ) (qs : List Piece) → IsLeaf (assigned append k qs)
+pub assigned_leaf : (append : Bool) (k : ℕ) (qs : List Piece) → IsLeaf (assignment_kind append k qs)
 assigned_leaf true k qs = tt
 assigned_leaf false k qs = tt
 
@@ -203,14 +203,14 @@ module _ (a b : Made) (at : ℕ → ℕ) (base : ℕ) (fs : List Frame) (es : Li
       (e1 ∙ m.0, e2 ∙ m.1, subst (λ (z : ℕ). IsRegister b z r) (sym e3) (keep.registers x.register r m.2), subst (λ (z : List Piece). ShowsParts (p ∷ (ps ++ t.0 ∷ [])) b z) (sym e4) (parts_push (p ∷ ps) t.0 b x.pieces.items q (parts_more (p ∷ ps) a b x.pieces.items keep m.3) t.2)))
 
 -- an assignment that is in range
-pub assigned_in : (made : Made) (at : ℕ → ℕ) (i : ℕ) (x : Assignment) (append : Bool) (r : List ℕ) (p : Part) (ps : List Part) → ShowsMode made at i (waits.Assigned x) (Assigned append r p ps) → HasNames (length made.names) (length made.registers) (assigned x.append x.register x.pieces.items)
+pub assigned_in : (made : Made) (at : ℕ → ℕ) (i : ℕ) (x : Assignment) (append : Bool) (r : List ℕ) (p : Part) (ps : List Part) → ShowsMode made at i (waits.Assigned x) (Assigned append r p ps) → HasNames (length made.names) (length made.registers) (assignment_kind x.append x.register x.pieces.items)
 unfolding ShowsMode
 assigned_in made at i x append r p ps m = assigned_names x.append made x.register (length made.names) x.pieces.items (slice_get_within made.registers x.register r m.2) (pieces_in (p ∷ ps) made x.pieces.items m.3)
 
-pub assign_shows : (a b : Made) (at : ℕ → ℕ) (i n : ℕ) (x : Assignment) (append : Bool) (r : List ℕ) (p : Part) (ps : List Part) → Keeps a b → ShowsMode a at i (waits.Assigned x) (Assigned append r p ps) → IsNode b n (assigned x.append x.register x.pieces.items) x.at → ShowsAtom (Assign append r p ps) b at n i
+pub assign_shows : (a b : Made) (at : ℕ → ℕ) (i n : ℕ) (x : Assignment) (append : Bool) (r : List ℕ) (p : Part) (ps : List Part) → Keeps a b → ShowsMode a at i (waits.Assigned x) (Assigned append r p ps) → IsNode b n (assignment_kind x.append x.register x.pieces.items) x.at → ShowsAtom (Assign append r p ps) b at n i
 unfolding ShowsMode ShowsAtom
 assign_shows a b at i n x append r p ps k m h =
-    (x.register, x.pieces.items, subst (λ (z : ℕ). IsNode b n (assigned append x.register x.pieces.items) z) m.0 (subst (λ (z : Bool). IsNode b n (assigned z x.register x.pieces.items) x.at) m.1 h), k.registers x.register r m.2, parts_more (p ∷ ps) a b x.pieces.items k m.3)
+    (x.register, x.pieces.items, subst (λ (z : ℕ). IsNode b n (assignment_kind append x.register x.pieces.items) z) m.0 (subst (λ (z : Bool). IsNode b n (assignment_kind z x.register x.pieces.items) x.at) m.1 h), k.registers x.register r m.2, parts_more (p ∷ ps) a b x.pieces.items k m.3)
 
 pub assigned_at : (made : Made) (at : ℕ → ℕ) (i : ℕ) (x : Assignment) (append : Bool) (r : List ℕ) (p : Part) (ps : List Part) → ShowsMode made at i (waits.Assigned x) (Assigned append r p ps) → x.at ≡ at i
 unfolding ShowsMode
@@ -242,7 +242,7 @@ count_bad (CountOn d) k = absurd k
 count_bad (CountRead p) k = (p, refl, k)
 count_bad CountWrong k = absurd k
 
-pub read_is : (a : Atom) (es : List Entry) (t : CountStep) (p : Postfix) → t ≡ CountRead p → on_count a es t ≡ goes Ready (put (Turns a p) es)
+pub read_is : (a : Atom) (es : List Entry) (t : CountStep) (p : Postfix) → t ≡ CountRead p → on_count a es t ≡ goes Ready (with_pre (Turns a p) es)
 unfolding on_count
 read_is a es t p e = ap (on_count a es) e
 
@@ -289,7 +289,7 @@ pub in_after : (a : Atom) (es : List Entry) (w : Word) → step_in (After a) es 
 unfolding step_in
 in_after a es w = refl
 
-pub in_named : (f : Bool) (n : List ℕ) (es : List Entry) (w : Word) → step_in (Named f n) es w ≡ named n es w
+pub in_named : (f : Bool) (n : List ℕ) (es : List Entry) (w : Word) → step_in (Named f n) es w ≡ after_name n es w
 unfolding step_in
 in_named f n es w = refl
 
@@ -367,7 +367,7 @@ pub write_of : (a b : Made) (at : ℕ → ℕ) (i k from : ℕ) (r : List ℕ) (
 write_of a b at i k from r (Ok w) e keep s h = (h.0, h.1, write_shows b at h.0 i k from r e h.2 (keep.registers k r s))
 write_of a b at i k from r (Err f) e keep s h = tt
 
-pub assign_of : (a b : Made) (at : ℕ → ℕ) (i : ℕ) (x : Assignment) (append : Bool) (r : List ℕ) (p : Part) (ps : List Part) (kind : NodeKind) (res : Result Wait StepFault) → kind ≡ assigned x.append x.register x.pieces.items → ShowsMode a at i (waits.Assigned x) (Assigned append r p ps) → OnOk res (Keeps a b) → IfOk res (λ w. (n : ℕ) × (w ≡ waits.After (record { node = n; at = x.at })) × IsNode b n kind x.at) → IfOk res (λ w. (n : ℕ) × (w ≡ waits.After (record { node = n; at = x.at })) × ShowsAtom (Assign append r p ps) b at n i)
+pub assign_of : (a b : Made) (at : ℕ → ℕ) (i : ℕ) (x : Assignment) (append : Bool) (r : List ℕ) (p : Part) (ps : List Part) (kind : NodeKind) (res : Result Wait StepFault) → kind ≡ assignment_kind x.append x.register x.pieces.items → ShowsMode a at i (waits.Assigned x) (Assigned append r p ps) → OnOk res (Keeps a b) → IfOk res (λ w. (n : ℕ) × (w ≡ waits.After (record { node = n; at = x.at })) × IsNode b n kind x.at) → IfOk res (λ w. (n : ℕ) × (w ≡ waits.After (record { node = n; at = x.at })) × ShowsAtom (Assign append r p ps) b at n i)
 assign_of a b at i x append r p ps kind (Ok w) e m keep h = (h.0, h.1, assign_shows a b at i h.0 x append r p ps keep m (subst (λ (y : NodeKind). IsNode b h.0 y x.at) e h.2))
 assign_of a b at i x append r p ps kind (Err f) e m keep h = tt
 
@@ -380,7 +380,7 @@ some_name made fs wait f n e s =
     let m = mode_named made s.0 (s.1 + length (entries s.2.entries)) f n s.2.mode (subst (λ (w : Wait). ShowsMode made s.0 (s.1 + length (entries s.2.entries)) w s.2.mode) e s.3.mode) in
     (s.0, s.1, s.2.entries, s.3.below, m.1)
 
-pub count_on_notes : (from : ℕ) (t : CountStep) (c : Count) → ShowsCountStep (steps.On c) t → (cs : List Check) (o : Option Break) → Noted cs o → Noted (cs ++ count_asks from t) o
+pub count_on_notes : (from : ℕ) (t : CountStep) (c : Count) → ShowsCountStep (steps.On c) t → (cs : List Check) (o : Option Break) → NotesLeast cs o → NotesLeast (cs ++ count_asks from t) o
 unfolding ShowsCountStep count_asks
 count_on_notes from (CountOn d) c k cs o n = same cs o n
 count_on_notes from (CountRead p) c k cs o n = absurd k

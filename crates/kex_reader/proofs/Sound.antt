@@ -4,7 +4,7 @@ use Rattle.std.specs.Prelude.{bytes_eq, codes}
 use Rattle.std.proofs.lemmas.List.{append-nil}
 use Rattle.std.proofs.lemmas.Slice.Eq.{bytes_eq-Decides}
 use Rattle.kex_reader.specs.Syntax.{Word, Name, Number, Literal, Regex, Define, Colon, Pipe, Bar, Tilde, At, Star, Plus, PlusEquals, Question, OpenBrace, CloseBrace, Comma, Bang, OpenBracket, CloseBracket, Arrow, OpenParen, CloseParen, Part, Text, Held, Postfix, ZeroOrMore, OneOrMore, Optional, Exactly, AtLeast, AtMost, Between, Term, Last, Or, Seq, Only, Then, Pre, Mute, Into, Once, Turns, Atom, One, Call, Lit, Match, Write, Assign, Group, Definition, Header, Program, start, part, parts, sign, postfix, term, seq, pre, atom, definitions, stages, header, program}
-use Rattle.kex_reader.specs.Reading.{Entry, Mark, Ended, Done, Muted, Storing, Counting, Opened, Low, LowComma, LowHigh, OnlyComma, High, Mode, Need, Ready, After, Named, Writing, Bracket, BracketName, Assigning, Assigned, InCount, Inside, State, Begin, FirstName, StartLine, StageRead, StageNext, HeadRead, Within, put, take_more, take_seq, take_branches, term_of, take_term, goes, on_bar, closed, on_close, on_number, begin_pre, after_atom, next_head, on_head, named, on_name, on_sign, first_part, next_part, count_step, on_count, counted, step_in, lift, on_define, step_within, first_name, head_read, stage_read, name_then, step, next, reads, whole, ended, finish_within, finish, entry, entries, counting, mode, inside, before, spelled}
+use Rattle.kex_reader.specs.Reading.{Entry, Mark, Ended, Done, Muted, Storing, Counting, Opened, Low, LowComma, LowHigh, OnlyComma, High, Mode, Need, Ready, After, Named, Writing, Bracket, BracketName, Assigning, Assigned, InCount, Inside, State, Begin, FirstName, StartLine, StageRead, StageNext, HeadRead, Within, with_pre, take_more, take_seq, take_branches, term_of, take_term, goes, on_bar, after_group, on_close, on_number, begin_pre, after_atom, next_head, on_head, after_name, on_name, on_sign, first_part, next_part, count_step, on_count, after_count, step_in, lift, on_define, step_within, first_name, head_read, stage_read, name_then, step, next, state_after, program_of_whole, program_of_term, finish_within, finish, entry, entries, counting, mode, inside, before, words_read}
 
 pub same_bytes : (a b : List ℕ) → bytes_eq a b ≡ true → a ≡ b
 same_bytes a b e = (bytes_eq-Decides a b).0 e
@@ -15,12 +15,12 @@ by_test P false x y f g = g refl
 
 unfoldable pub Goes : List Word → Option State → Type 0
 Goes w None = Unit {0}
-Goes w (Some s) = spelled s ≡ w
+Goes w (Some s) = words_read s ≡ w
 
 -- ---- entries
 
-pub put_is : (p : Pre) (es : List Entry) → entries (put p es) ≡ entries es ++ pre p
-unfolding put entries entry pre
+pub put_is : (p : Pre) (es : List Entry) → entries (with_pre p es) ≡ entries es ++ pre p
+unfolding with_pre entries entry pre
 put_is p [] = refl
 put_is p (Mark ∷ es) = refl
 put_is p (Ended s ∷ es) = refl
@@ -102,8 +102,8 @@ unfolding on_bar SeqTaken GoesIn entries entry mode
 bar_goes es None k = tt
 bar_goes es (Some t) k = went Need (Ended t.0 ∷ t.1) _ (append-nil (entries t.1 ++ (seq t.0 ++ Bar ∷ [])) ∙ sym (append_assoc (entries t.1) (seq t.0) (Bar ∷ [])) ∙ ap (λ (w : List Word). w ++ Bar ∷ []) k)
 
-pub closed_goes : (t : Term) (fs : List Entry) (w : List Word) → entries fs ++ term t ≡ w → GoesIn (w ++ CloseParen ∷ []) (closed t fs)
-unfolding closed GoesIn entries entry mode atom
+pub closed_goes : (t : Term) (fs : List Entry) (w : List Word) → entries fs ++ term t ≡ w → GoesIn (w ++ CloseParen ∷ []) (after_group t fs)
+unfolding after_group GoesIn entries entry mode atom
 closed_goes t [] w k = tt
 closed_goes t (Mark ∷ fs) w k = went (After (Group t)) fs (w ++ CloseParen ∷ []) (sym (append_assoc (entries fs) (OpenParen ∷ term t) (CloseParen ∷ [])) ∙ ap (λ (v : List Word). v ++ CloseParen ∷ []) (sym (append_assoc (entries fs) (OpenParen ∷ []) (term t)) ∙ k))
 closed_goes t (Ended s ∷ fs) w k = tt
@@ -137,17 +137,17 @@ begin_goes false es CloseParen = tt
 begin_goes free es _ = tt
 
 -- a pre that has ended
-pub put_goes : (p : Pre) (es : List Entry) (w : List Word) → entries es ++ pre p ≡ w → GoesIn w (goes Ready (put p es))
+pub put_goes : (p : Pre) (es : List Entry) (w : List Word) → entries es ++ pre p ≡ w → GoesIn w (goes Ready (with_pre p es))
 unfolding mode
-put_goes p es w e = went Ready (put p es) w (append-nil (entries (put p es)) ∙ put_is p es ∙ e)
+put_goes p es w e = went Ready (with_pre p es) w (append-nil (entries (with_pre p es)) ∙ put_is p es ∙ e)
 
-pub sign_goes : (a : Atom) (p : Postfix) (es : List Entry) (v : List Word) → postfix p ≡ v → GoesIn (entries es ++ (atom a ++ v)) (goes Ready (put (Turns a p) es))
+pub sign_goes : (a : Atom) (p : Postfix) (es : List Entry) (v : List Word) → postfix p ≡ v → GoesIn (entries es ++ (atom a ++ v)) (goes Ready (with_pre (Turns a p) es))
 unfolding pre
 sign_goes a p es v e = put_goes (Turns a p) es _ (ap (λ (w : List Word). entries es ++ (atom a ++ w)) e)
 
-pub once_begins : (a : Atom) (es : List Entry) (t : Word) → GoesIn (entries es ++ (atom a ++ t ∷ [])) (begin_pre true (put (Once a) es) t)
+pub once_begins : (a : Atom) (es : List Entry) (t : Word) → GoesIn (entries es ++ (atom a ++ t ∷ [])) (begin_pre true (with_pre (Once a) es) t)
 unfolding pre
-once_begins a es t = subst (λ (w : List Word). GoesIn w (begin_pre true (put (Once a) es) t)) (ap (λ (w : List Word). w ++ t ∷ []) (put_is (Once a) es) ∙ append_assoc (entries es) (atom a) (t ∷ [])) (begin_goes true (put (Once a) es) t)
+once_begins a es t = subst (λ (w : List Word). GoesIn w (begin_pre true (with_pre (Once a) es) t)) (ap (λ (w : List Word). w ++ t ∷ []) (put_is (Once a) es) ∙ append_assoc (entries es) (atom a) (t ∷ [])) (begin_goes true (with_pre (Once a) es) t)
 
 pub after_goes : (a : Atom) (es : List Entry) (t : Word) → GoesIn (entries es ++ (atom a ++ t ∷ [])) (after_atom a es t)
 unfolding after_atom postfix mode counting
@@ -157,8 +157,8 @@ after_goes a es Question = sign_goes a Optional es (Question ∷ []) refl
 after_goes a es OpenBrace = went (InCount a Opened) es _ refl
 after_goes a es t = once_begins a es t
 
-pub named_goes : (n : List ℕ) (es : List Entry) (t : Word) → GoesIn (entries es ++ Name n ∷ t ∷ []) (named n es t)
-unfolding named mode entries entry atom GoesIn
+pub named_goes : (n : List ℕ) (es : List Entry) (t : Word) → GoesIn (entries es ++ Name n ∷ t ∷ []) (after_name n es t)
+unfolding after_name mode entries entry atom GoesIn
 named_goes n es At = went Need (Storing n ∷ es) _ (append-nil (entries es ++ Name n ∷ At ∷ []))
 named_goes n es Define = tt
 named_goes n es t = after_goes (Call n) es t
@@ -182,7 +182,7 @@ next_part_goes append r p ps es (Name n) = went (Assigned append r p (ps ++ Held
 next_part_goes append r p ps es CloseBracket = went (After (Assign append r p ps)) es _ refl
 next_part_goes append r p ps es _ = tt
 
-pub counted_goes : (a : Atom) (c : Counting) (es : List Entry) (t : Word) → GoesIn (entries es ++ (atom a ++ OpenBrace ∷ (counting c ++ t ∷ []))) (counted a c es t)
+pub counted_goes : (a : Atom) (c : Counting) (es : List Entry) (t : Word) → GoesIn (entries es ++ (atom a ++ OpenBrace ∷ (counting c ++ t ∷ []))) (after_count a c es t)
 unfolding count_step on_count mode counting postfix GoesIn
 counted_goes a Opened es (Number n) = went (InCount a (Low n)) es _ refl
 counted_goes a Opened es Comma = went (InCount a OnlyComma) es _ refl
@@ -217,7 +217,7 @@ in_goes Bracket es t = bracket_goes es t
 in_goes (BracketName r) es t = sign_part r es t
 in_goes (Assigning append r) es t = first_part_goes append r es t
 in_goes (Assigned append r p ps) es t = next_part_goes append r p ps es t
-in_goes (InCount a c) es t = subst (λ (w : List Word). GoesIn (entries es ++ w) (counted a c es t)) (sym (append_assoc (atom a) (OpenBrace ∷ counting c) (t ∷ []))) (counted_goes a c es t)
+in_goes (InCount a c) es t = subst (λ (w : List Word). GoesIn (entries es ++ w) (after_count a c es t)) (sym (append_assoc (atom a) (OpenBrace ∷ counting c) (t ∷ []))) (counted_goes a c es t)
 
 -- ---- outside
 
@@ -229,7 +229,7 @@ next_before h ds name n t w k =
     ∙ sym (append_assoc (header h) (definitions ds ++ Name name ∷ Define ∷ []) (w ++ Name n ∷ Define ∷ []))
 
 pub head_goes : (h : Header) (ds : List Definition) (name n : List ℕ) (t : Term) (fs : List Entry) (w : List Word) → entries fs ++ term t ≡ w → Goes (before h ds name ++ (w ++ Name n ∷ Define ∷ [])) (next_head h ds name n t fs)
-unfolding next_head Goes spelled inside entries mode before
+unfolding next_head Goes words_read inside entries mode before
 head_goes h ds name n t [] w k = next_before h ds name n t w k
 head_goes h ds name n t (e ∷ fs) w k = tt
 
@@ -239,7 +239,7 @@ on_head_goes h ds name n es None k = tt
 on_head_goes h ds name n es (Some t) k = head_goes h ds name n t.0 t.1 (entries es) k
 
 pub lift_goes : (h : Header) (ds : List Definition) (name : List ℕ) (w : List Word) (o : Option Inside) → GoesIn w o → Goes (before h ds name ++ w) (lift h ds name o)
-unfolding lift Goes GoesIn spelled
+unfolding lift Goes GoesIn words_read
 lift_goes h ds name w None g = tt
 lift_goes h ds name w (Some i) g = ap (λ (v : List Word). before h ds name ++ v) g
 
@@ -250,42 +250,42 @@ within_goes h ds name (Named false n) es Define = tt
 within_goes h ds name m es t = lift_goes h ds name _ _ (in_goes m es t)
 
 pub first_goes : (n : List ℕ) (t : Word) → Goes (Name n ∷ t ∷ []) (first_name n t)
-unfolding first_name Goes spelled before inside entries mode header definitions
+unfolding first_name Goes words_read before inside entries mode header definitions
 first_goes n Define = refl
 first_goes n Colon = by_test (Goes (Name n ∷ Colon ∷ [])) (bytes_eq n start) _ _ (λ e. ap (λ (x : List ℕ). Name x ∷ Colon ∷ []) (sym (same_bytes n start e))) (λ _. tt)
 first_goes n _ = tt
 
 pub head_read_goes : (h : Header) (n : List ℕ) (t : Word) → Goes ((header h ++ Name n ∷ []) ++ t ∷ []) (head_read h n t)
-unfolding head_read Goes spelled before inside entries mode definitions
+unfolding head_read Goes words_read before inside entries mode definitions
 head_read_goes h n Define = append-nil (header h ++ Name n ∷ Define ∷ []) ∙ sym (append_assoc (header h) (Name n ∷ []) (Define ∷ []))
 head_read_goes h n _ = tt
 
 pub stage_goes : (f : List ℕ) (ns : List (List ℕ)) (t : Word) → Goes (Name start ∷ Colon ∷ Name f ∷ (stages ns ++ t ∷ [])) (stage_read f ns t)
-unfolding stage_read Goes spelled header
+unfolding stage_read Goes words_read header
 stage_goes f ns Pipe = refl
 stage_goes f ns (Name n) = refl
 stage_goes f ns _ = tt
 
 pub start_goes : (t : Word) → Goes (Name start ∷ Colon ∷ t ∷ []) (name_then (λ n. StageRead n []) t)
-unfolding name_then Goes spelled stages
+unfolding name_then Goes words_read stages
 start_goes (Name n) = refl
 start_goes _ = tt
 
 pub stage_next_goes : (f : List ℕ) (ns : List (List ℕ)) (t : Word) → Goes (Name start ∷ Colon ∷ Name f ∷ (stages ns ++ Pipe ∷ t ∷ [])) (name_then (λ n. StageRead f (ns ++ n ∷ [])) t)
-unfolding name_then Goes spelled stages
+unfolding name_then Goes words_read stages
 stage_next_goes f ns (Name n) = ap (λ (w : List Word). Name start ∷ Colon ∷ Name f ∷ w) (stages-append ns (n ∷ []))
 stage_next_goes f ns _ = tt
 
 pub begin_state_goes : (t : Word) → Goes (t ∷ []) (name_then FirstName t)
-unfolding name_then Goes spelled
+unfolding name_then Goes words_read
 begin_state_goes (Name n) = refl
 begin_state_goes _ = tt
 
 pub regroup : (a b c : List Word) (t : Word) → a ++ (b ++ (c ++ t ∷ [])) ≡ (a ++ (b ++ c)) ++ t ∷ []
 regroup a b c t = ap (λ (v : List Word). a ++ v) (sym (append_assoc b c (t ∷ []))) ∙ sym (append_assoc a (b ++ c) (t ∷ []))
 
-pub step_goes : (s : State) (t : Word) → Goes (spelled s ++ t ∷ []) (step s t)
-unfolding spelled inside step
+pub step_goes : (s : State) (t : Word) → Goes (words_read s ++ t ∷ []) (step s t)
+unfolding words_read inside step
 step_goes Begin t = begin_state_goes t
 step_goes (FirstName n) t = first_goes n t
 step_goes StartLine t = start_goes t
@@ -299,10 +299,10 @@ unfolding next Goes
 next_goes w None t g = tt
 next_goes w (Some s) t g = subst (λ (v : List Word). Goes (v ++ t ∷ []) (step s t)) g (step_goes s t)
 
-pub reads_goes : (w : List Word) (o : Option State) (v : List Word) → Goes w o → Goes (w ++ v) (reads o v)
-unfolding reads
+pub reads_goes : (w : List Word) (o : Option State) (v : List Word) → Goes w o → Goes (w ++ v) (state_after o v)
+unfolding state_after
 reads_goes w o [] g = subst (λ (u : List Word). Goes u o) (sym (append-nil w)) g
-reads_goes w o (t ∷ v) g = subst (λ (u : List Word). Goes u (reads (next o t) v)) (append_assoc w (t ∷ []) v) (reads_goes (w ++ t ∷ []) (next o t) v (next_goes w o t g))
+reads_goes w o (t ∷ v) g = subst (λ (u : List Word). Goes u (state_after (next o t) v)) (append_assoc w (t ∷ []) v) (reads_goes (w ++ t ∷ []) (next o t) v (next_goes w o t g))
 
 -- ---- the end
 
@@ -310,31 +310,31 @@ unfoldable pub Finishes : List Word → Option Program → Type 0
 Finishes w None = Unit {0}
 Finishes w (Some p) = program p ≡ w
 
-pub whole_is : (h : Header) (ds : List Definition) (name : List ℕ) (t : Term) (fs : List Entry) (w : List Word) → entries fs ++ term t ≡ w → Finishes (before h ds name ++ w) (whole h ds name t fs)
-unfolding whole Finishes program entries before definitions
+pub whole_is : (h : Header) (ds : List Definition) (name : List ℕ) (t : Term) (fs : List Entry) (w : List Word) → entries fs ++ term t ≡ w → Finishes (before h ds name ++ w) (program_of_whole h ds name t fs)
+unfolding program_of_whole Finishes program entries before definitions
 whole_is h ds name t [] w k =
     ap (λ (v : List Word). header h ++ v) (definitions-append ds (record { name = name; term = t } ∷ []) ∙ ap (λ (v : List Word). definitions ds ++ Name name ∷ Define ∷ v) (append-nil (term t) ∙ k) ∙ sym (append_assoc (definitions ds) (Name name ∷ Define ∷ []) w))
     ∙ sym (append_assoc (header h) (definitions ds ++ Name name ∷ Define ∷ []) w)
 whole_is h ds name t (e ∷ fs) w k = tt
 
-pub ended_is : (h : Header) (ds : List Definition) (name : List ℕ) (es : List Entry) (o : Option (Term × List Entry)) → TermTaken es o → Finishes (before h ds name ++ entries es) (ended h ds name o)
-unfolding ended TermTaken Finishes
+pub ended_is : (h : Header) (ds : List Definition) (name : List ℕ) (es : List Entry) (o : Option (Term × List Entry)) → TermTaken es o → Finishes (before h ds name ++ entries es) (program_of_term h ds name o)
+unfolding program_of_term TermTaken Finishes
 ended_is h ds name es None k = tt
 ended_is h ds name es (Some t) k = whole_is h ds name t.0 t.1 (entries es) k
 
-pub ended_after : (h : Header) (ds : List Definition) (name : List ℕ) (a : Atom) (es : List Entry) → Finishes (before h ds name ++ (entries es ++ atom a)) (ended h ds name (take_term (put (Once a) es)))
+pub ended_after : (h : Header) (ds : List Definition) (name : List ℕ) (a : Atom) (es : List Entry) → Finishes (before h ds name ++ (entries es ++ atom a)) (program_of_term h ds name (take_term (with_pre (Once a) es)))
 unfolding pre
-ended_after h ds name a es = subst (λ (w : List Word). Finishes (before h ds name ++ w) (ended h ds name (take_term (put (Once a) es)))) (put_is (Once a) es) (ended_is h ds name (put (Once a) es) (take_term (put (Once a) es)) (term_taken (put (Once a) es)))
+ended_after h ds name a es = subst (λ (w : List Word). Finishes (before h ds name ++ w) (program_of_term h ds name (take_term (with_pre (Once a) es)))) (put_is (Once a) es) (ended_is h ds name (with_pre (Once a) es) (take_term (with_pre (Once a) es)) (term_taken (with_pre (Once a) es)))
 
 pub finish_within_is : (h : Header) (ds : List Definition) (name : List ℕ) (m : Mode) (es : List Entry) → Finishes (before h ds name ++ (entries es ++ mode m)) (finish_within h ds name m es)
 unfolding finish_within mode Finishes atom
-finish_within_is h ds name Ready es = subst (λ (w : List Word). Finishes (before h ds name ++ w) (ended h ds name (take_term es))) (sym (append-nil (entries es))) (ended_is h ds name es (take_term es) (term_taken es))
+finish_within_is h ds name Ready es = subst (λ (w : List Word). Finishes (before h ds name ++ w) (program_of_term h ds name (take_term es))) (sym (append-nil (entries es))) (ended_is h ds name es (take_term es) (term_taken es))
 finish_within_is h ds name (After a) es = ended_after h ds name a es
 finish_within_is h ds name (Named free n) es = ended_after h ds name (Call n) es
 finish_within_is h ds name _ es = tt
 
-pub finish_is : (s : State) → Finishes (spelled s) (finish s)
-unfolding finish spelled inside Finishes program header definitions
+pub finish_is : (s : State) → Finishes (words_read s) (finish s)
+unfolding finish words_read inside Finishes program header definitions
 finish_is Begin = refl
 finish_is (FirstName n) = tt
 finish_is StartLine = tt

@@ -9,10 +9,10 @@ use Rattle.kex_reader.specs.declared.stack.Prefix.TheVariants as prefixes
 use Rattle.kex_reader.specs.declared.stack.Part.{Part as Shown}
 use Rattle.kex_reader.specs.declared.stack.Store.{Store}
 use Rattle.kex_reader.specs.Syntax.{Word, Term, Last, Or, Seq, Only, Then, Pre, Mute, Into, term, seq, pre, atom}
-use Rattle.kex_reader.specs.Reading.{Entry, Mark, Ended, Done, Muted, Storing, entries, entry, put, take_more, take_seq, take_branches, term_of, take_term}
+use Rattle.kex_reader.specs.Reading.{Entry, Mark, Ended, Done, Muted, Storing, entries, entry, with_pre, take_more, take_seq, take_branches, term_of, take_term}
 use Rattle.kex_reader.specs.Shown.{Made, IsNode, ShowsTerm, ShowsSeq, ShowsPre}
-use Rattle.kex_reader.specs.Stands.{Keeps, FramesShow, SeqTaken, TermTaken, frame_of, prefixed_kind, prefix_at, HasRegister, open_frames, depth}
-use Rattle.kex_reader.proofs.Drafting.{term_more, seq_more, pre_more, pre_within, seq_within, term_within}
+use Rattle.kex_reader.specs.Stands.{Keeps, FramesShow, SeqTaken, TermTaken, frame_of, prefixed_kind, prefix_at, HasRegisterBelow, open_frames, depth}
+use Rattle.kex_reader.proofs.Drafts.{term_more, seq_more, pre_more, pre_within, seq_within, term_within}
 
 pub frames_more : (a b : Made) (at : ℕ → ℕ) (base : ℕ) (fs : List Frame) (es : List Entry) → Keeps a b → FramesShow a at base fs es → FramesShow b at base fs es
 unfolding FramesShow
@@ -85,16 +85,16 @@ pub record PreSoFar (a : Made) (at : ℕ → ℕ) (base : ℕ) (fs : List Frame)
   pub place : part.at ≡ at (base + length (entries rest))
   pub shows : ShowsPre tree a at part.node (base + length (entries rest))
   pub below : FramesShow a at base fs rest
-  pub same : put tree rest ≡ t
+  pub same : with_pre tree rest ≡ t
 
-pub put_begins : (a : Made) (at : ℕ → ℕ) (base : ℕ) (fs : List Frame) (part : Shown) (es : List Entry) (p : Pre) → FramesShow a at base fs es → part.at ≡ at (base + length (entries es)) → ShowsPre p a at part.node (base + length (entries es)) → PreSoFar a at base fs part (put p es)
+pub put_begins : (a : Made) (at : ℕ → ℕ) (base : ℕ) (fs : List Frame) (part : Shown) (es : List Entry) (p : Pre) → FramesShow a at base fs es → part.at ≡ at (base + length (entries es)) → ShowsPre p a at part.node (base + length (entries es)) → PreSoFar a at base fs part (with_pre p es)
 put_begins a at base fs part es p h e s = record { rest = es; tree = p; place = e; shows = s; below = h; same = refl }
 
 pub put_more : (a b : Made) (at : ℕ → ℕ) (base : ℕ) (old new : List Frame) (prefix : Prefix) (part whole : Shown) (t : List Entry) → old ≡ frame_of prefix ∷ new → Keeps a b → IsNode b whole.node (prefixed_kind prefix part.node) (prefix_at prefix) → whole.at ≡ prefix_at prefix → PreSoFar a at base old part t → PreSoFar b at base new whole t
-unfolding FramesShow ShowsPre put entries entry
+unfolding FramesShow ShowsPre with_pre entries entry
 put_more a b at base old new prefix part whole t e k n w s = go prefix s.rest (subst (λ (x : List Frame). FramesShow a at base x s.rest) e s.below) n w s.shows s.same
   where
-    go : (prefix : Prefix) (rest : List Entry) → FramesShow a at base (frame_of prefix ∷ new) rest → IsNode b whole.node (prefixed_kind prefix part.node) (prefix_at prefix) → whole.at ≡ prefix_at prefix → ShowsPre s.tree a at part.node (base + length (entries rest)) → put s.tree rest ≡ t → PreSoFar b at base new whole t
+    go : (prefix : Prefix) (rest : List Entry) → FramesShow a at base (frame_of prefix ∷ new) rest → IsNode b whole.node (prefixed_kind prefix part.node) (prefix_at prefix) → whole.at ≡ prefix_at prefix → ShowsPre s.tree a at part.node (base + length (entries rest)) → with_pre s.tree rest ≡ t → PreSoFar b at base new whole t
     go (prefixes.Mute x) (Muted ∷ rest) h n w sh same =
         let i = base + length (entries rest) in
         let j : base + length (entries rest ++ (Rattle.kex_reader.specs.Syntax.Tilde ∷ [])) ≡ i + 1 = omega (arith, length-append (entries rest) (Rattle.kex_reader.specs.Syntax.Tilde ∷ [])) in
@@ -121,8 +121,8 @@ put_more a b at base old new prefix part whole t e k n w s = go prefix s.rest (s
     go (prefixes.Store st) _ h n w sh same = absurd h
 
 -- no prefix on top
-pub no_prefix : (a : Made) (at : ℕ → ℕ) (base : ℕ) (fs : List Frame) (es : List Entry) (p : Pre) → ((x : ℕ) (gs : List Frame) → fs ≡ frames.Muted x ∷ gs → ⊥) → ((x : Store) (gs : List Frame) → fs ≡ frames.Storing x ∷ gs → ⊥) → FramesShow a at base fs es → put p es ≡ Done p ∷ es
-unfolding FramesShow put
+pub no_prefix : (a : Made) (at : ℕ → ℕ) (base : ℕ) (fs : List Frame) (es : List Entry) (p : Pre) → ((x : ℕ) (gs : List Frame) → fs ≡ frames.Muted x ∷ gs → ⊥) → ((x : Store) (gs : List Frame) → fs ≡ frames.Storing x ∷ gs → ⊥) → FramesShow a at base fs es → with_pre p es ≡ Done p ∷ es
+unfolding FramesShow with_pre
 no_prefix a at base fs [] p m n h = refl
 no_prefix a at base fs (Mark ∷ es) p m n h = refl
 no_prefix a at base fs (Ended s ∷ es) p m n h = refl
@@ -138,7 +138,7 @@ put_done a at base old fs gs part t same m n e s =
     let d = no_prefix a at base old s.rest s.tree m n s.below in
     subst (λ (x : List Entry). FramesShow a at base gs x) (sym d ∙ s.same) (subst (λ (x : List Frame). FramesShow a at base x (Done s.tree ∷ s.rest)) (sym (e ∙ ap (λ (x : List Frame). frames.Done part ∷ x) same)) (s.place, s.shows, s.below))
 
-pub prefix_register : (a : Made) (at : ℕ → ℕ) (base : ℕ) (old new : List Frame) (prefix : Prefix) (part : Shown) (t : List Entry) → old ≡ frame_of prefix ∷ new → PreSoFar a at base old part t → HasRegister (length a.registers) prefix
+pub prefix_register : (a : Made) (at : ℕ → ℕ) (base : ℕ) (old new : List Frame) (prefix : Prefix) (part : Shown) (t : List Entry) → old ≡ frame_of prefix ∷ new → PreSoFar a at base old part t → HasRegisterBelow (length a.registers) prefix
 unfolding FramesShow
 prefix_register a at base old new (prefixes.Mute x) part t e s = tt
 prefix_register a at base old new (prefixes.Store st) part t e s = go s.rest (subst (λ (x : List Frame). FramesShow a at base x s.rest) e s.below)

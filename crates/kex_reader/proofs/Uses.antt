@@ -27,12 +27,12 @@ use Rattle.kex_reader.specs.declared.stack.Prefix.{Prefix}
 use Rattle.kex_reader.specs.declared.stack.Prefix.TheVariants as prefixes
 use Rattle.kex_reader.specs.declared.stack.Part.{Part as Shown}
 use Rattle.kex_reader.specs.Reading.{State, Begin, StageRead}
-use Rattle.kex_reader.specs.Shown.{Made, assigned}
+use Rattle.kex_reader.specs.Shown.{Made, assignment_kind}
 use Rattle.kex_reader.specs.Stands.{Keeps, Has, NoneLost, LosesNone, InFrame, InFrames, InPart, InPieces, InPiece, InAssignment, InWait, IsHeld, StepLosesNone, frame_of, prefixed_kind}
-use Rattle.kex_reader.specs.Holding.{InPhase, InReader, IsLeft, EndLosesNone, ReaderLosesNone, FinishLosesNone, ShowsState, SomeState}
+use Rattle.kex_reader.specs.Holding.{InPhase, InReader, InProgram, EndLosesNone, ReaderLosesNone, FinishLosesNone, ShowsState, SomeState}
 use Rattle.kex_reader.specs.Uses.{Numbered, NodeNumber, NameNumber, RegisterNumber, InKind, InNodes, InDefinition, InDefinitions, InStages, NoneSpare}
 use Rattle.kex_model.specs.Programs.{Grammar}
-use Rattle.kex_reader.proofs.Drafting.{Keeps-refl, Keeps-trans}
+use Rattle.kex_reader.proofs.Drafts.{Keeps-refl, Keeps-trans}
 
 pub uses_stay : (a b : Made) (x : Numbered) → Keeps a b → InNodes a.nodes x → InNodes b.nodes x
 uses_stay a b x k h = (h.0, h.1, k.nodes h.0 h.1 h.2, h.3)
@@ -136,7 +136,7 @@ in_prefixed (prefixes.Store s) n x (inr e) = subst (λ (y : Numbered). InKind (k
 pub prefixed_as : (prefix p : Prefix) (n : ℕ) → prefix ≡ p → (x : Numbered) → (x ≡ NodeNumber n) ⊎ InFrame (frame_of prefix) x → InKind (prefixed_kind p n) x
 prefixed_as prefix p n e x h = in_prefixed p n x (subst (λ (q : Prefix). (x ≡ NodeNumber n) ⊎ InFrame (frame_of q) x) e h)
 
-pub in_assigned : (append : Bool) (r : ℕ) (ps : List Piece) (x : Numbered) → (x ≡ RegisterNumber r) ⊎ InPieces ps x → InKind (assigned append r ps) x
+pub in_assigned : (append : Bool) (r : ℕ) (ps : List Piece) (x : Numbered) → (x ≡ RegisterNumber r) ⊎ InPieces ps x → InKind (assignment_kind append r ps) x
 in_assigned true r ps x (inl e) = subst (λ (y : Numbered). InKind (kinds.Add r ps) y) (sym e) (inl refl)
 in_assigned false r ps x (inl e) = subst (λ (y : Numbered). InKind (kinds.Set r ps) y) (sym e) (inl refl)
 in_assigned true r ps (RegisterNumber k) (inr h) = inr h
@@ -224,12 +224,12 @@ pub reader_still : (r : Reader) (p q : Phase) → ((x : Numbered) → InPhase p 
 reader_still r p q f = (Keeps-refl r.draft, unchanged r.draft _ _ (λ x h. elim h [ inl i ↦ inl i | inr j ↦ elim j [ inl k ↦ inr (inl (f x k)) | inr k ↦ inr (inr k) ] ]))
 
 -- a head is read
-pub head_then : (r : Result Phase StepFault) (a : Made) (mid new : Reader) (B : Numbered → Type 0) → Keeps a mid.draft → LosesNone a mid.draft B (λ x. InFrames mid.stack x ⊎ IsLeft mid x) → OnOk r (Keeps mid.draft new.draft) → OnOk r ((new.stack ≡ mid.stack) × (new.definitions.items ≡ mid.definitions.items) × (new.stages.items ≡ mid.stages.items)) → IfOk r (λ p. LosesNone mid.draft new.draft (λ x. ⊥) (InPhase p)) → IfOk r (λ p. Keeps a new.draft × LosesNone a new.draft B (InReader new p))
+pub head_then : (r : Result Phase StepFault) (a : Made) (mid new : Reader) (B : Numbered → Type 0) → Keeps a mid.draft → LosesNone a mid.draft B (λ x. InFrames mid.stack x ⊎ InProgram mid x) → OnOk r (Keeps mid.draft new.draft) → OnOk r ((new.stack ≡ mid.stack) × (new.definitions.items ≡ mid.definitions.items) × (new.stages.items ≡ mid.stages.items)) → IfOk r (λ p. LosesNone mid.draft new.draft (λ x. ⊥) (InPhase p)) → IfOk r (λ p. Keeps a new.draft × LosesNone a new.draft B (InReader new p))
 head_then (Err e) a mid new B k f l rest h = tt
 head_then (Ok p) a mid new B k f l rest h = (
   Keeps-trans a mid.draft new.draft k l,
-  none_lost a mid.draft new.draft B (λ x. InFrames mid.stack x ⊎ IsLeft mid x) (InReader new p) l f
-      (beside mid.draft new.draft _ _ (λ x. InFrames mid.stack x ⊎ IsLeft mid x) _ _ (λ x i. inr i) (λ x i. inr (inl i)) (λ x i. elim i [
+  none_lost a mid.draft new.draft B (λ x. InFrames mid.stack x ⊎ InProgram mid x) (InReader new p) l f
+      (beside mid.draft new.draft _ _ (λ x. InFrames mid.stack x ⊎ InProgram mid x) _ _ (λ x i. inr i) (λ x i. inr (inl i)) (λ x i. elim i [
         | inl j ↦ inl (frames_are _ _ (sym rest.0) x j)
         | inr j ↦ elim j [ inl d ↦ inr (inr (inl (definitions_are _ _ (sym rest.1) x d))) | inr s ↦ inr (inr (inr (stages_are _ _ (sym rest.2) x s))) ]
       ]) h),
@@ -253,7 +253,7 @@ stage_then (Ok p) old new q f k h rest = (
 pub inside_then : (old new : Reader) (head : Head) (w v : Wait) → new.definitions.items ≡ old.definitions.items → new.stages.items ≡ old.stages.items → Keeps old.draft new.draft → LosesNone old.draft new.draft (IsHeld old.stack w) (IsHeld new.stack v) → Keeps old.draft new.draft × LosesNone old.draft new.draft (InReader old (phases.Within head w)) (InReader new (phases.Within head v))
 inside_then old new head w v d s k h = (
   k,
-  beside old.draft new.draft _ _ (λ x. (x ≡ NameNumber head.name) ⊎ IsLeft old x) _ _ (λ x i. elim i [
+  beside old.draft new.draft _ _ (λ x. (x ≡ NameNumber head.name) ⊎ InProgram old x) _ _ (λ x i. elim i [
     | inl j ↦ inl (inl j)
     | inr j ↦ elim j [ inl l ↦ elim l [ inl e ↦ inr (inl e) | inr u ↦ inl (inr u) ] | inr l ↦ inr (inr l) ]
   ]) (λ x i. elim i [ inl j ↦ inl j | inr u ↦ inr (inl (inr u)) ]) (λ x i. elim i [
@@ -263,7 +263,7 @@ inside_then old new head w v d s k h = (
 )
 
 -- a definition ends
-pub ended_left : (old new : Reader) (head : Head) (w v : Wait) (Held : Numbered → Type 0) → w ≡ v → ((x : Numbered) → IsHeld old.stack v x → Held x) → new.stages.items ≡ old.stages.items → EndLosesNone old new head Held → LosesNone old.draft new.draft (InReader old (phases.Within head w)) (IsLeft new)
+pub ended_left : (old new : Reader) (head : Head) (w v : Wait) (Held : Numbered → Type 0) → w ≡ v → ((x : Numbered) → IsHeld old.stack v x → Held x) → new.stages.items ≡ old.stages.items → EndLosesNone old new head Held → LosesNone old.draft new.draft (InReader old (phases.Within head w)) (InProgram new)
 ended_left old new head w v Held e f s h = beside old.draft new.draft _ _ (InStages old.stages.items) _ _ (λ x i. elim i [
   | inl j ↦ inl (inl (f x (inl j)))
   | inr j ↦ elim j [
@@ -292,7 +292,7 @@ unfolding ShowsState
 read_open made at fs ds ss (StageRead f ns) h = h.0
 read_open made at fs ds ss _ h = absurd h
 
-finish_still : (r : Reader) (p q : Phase) → p ≡ q → r.stack ≡ [] → ((x : Numbered) → InPhase q x → ⊥) → Keeps r.draft r.draft × LosesNone r.draft r.draft (InReader r p) (IsLeft r)
+finish_still : (r : Reader) (p q : Phase) → p ≡ q → r.stack ≡ [] → ((x : Numbered) → InPhase q x → ⊥) → Keeps r.draft r.draft × LosesNone r.draft r.draft (InReader r p) (InProgram r)
 finish_still r p q e s f = (
   Keeps-refl r.draft,
   unchanged r.draft _ _ (λ x h. elim h [
@@ -301,10 +301,10 @@ finish_still r p q e s f = (
   ]),
 )
 
-pub finish_begun : (r : Reader) (p : Phase) → p ≡ phases.Begin → SomeState r.draft r.stack r.definitions.items r.stages.items p → Keeps r.draft r.draft × LosesNone r.draft r.draft (InReader r p) (IsLeft r)
+pub finish_begun : (r : Reader) (p : Phase) → p ≡ phases.Begin → SomeState r.draft r.stack r.definitions.items r.stages.items p → Keeps r.draft r.draft × LosesNone r.draft r.draft (InReader r p) (InProgram r)
 finish_begun r p e s = finish_still r p phases.Begin e (begin_open r.draft s.0 r.stack r.definitions.items r.stages.items s.1 (subst (λ (y : Phase). ShowsState r.draft s.0 r.stack r.definitions.items r.stages.items y s.1) e s.2)) (λ x h. h)
 
-pub finish_read : (r : Reader) (p : Phase) → p ≡ phases.StageRead → SomeState r.draft r.stack r.definitions.items r.stages.items p → Keeps r.draft r.draft × LosesNone r.draft r.draft (InReader r p) (IsLeft r)
+pub finish_read : (r : Reader) (p : Phase) → p ≡ phases.StageRead → SomeState r.draft r.stack r.definitions.items r.stages.items p → Keeps r.draft r.draft × LosesNone r.draft r.draft (InReader r p) (InProgram r)
 finish_read r p e s = finish_still r p phases.StageRead e (read_open r.draft s.0 r.stack r.definitions.items r.stages.items s.1 (subst (λ (y : Phase). ShowsState r.draft s.0 r.stack r.definitions.items r.stages.items y s.1) e s.2)) (λ x h. h)
 
 pub finish_as : (p q : Phase) (old new : Reader) (r : Result (Unit {0}) StepFault) → p ≡ q → FinishLosesNone old q new r → FinishLosesNone old p new r

@@ -2,7 +2,7 @@
 use Rattle.std.proofs.Common.{◌≡◌, ℕ, false, List, [], ◌∷◌, ◌++◌, Option, Some, None, refl, sym, ap, ◌∙◌, subst, append_assoc}
 use Rattle.std.proofs.lemmas.List.{append-nil}
 use Rattle.kex_reader.specs.Syntax.{Word, Name, Number, Define, Colon, Pipe, Bar, Tilde, At, OpenBrace, CloseBrace, Comma, CloseBracket, Arrow, OpenParen, CloseParen, Held, Exactly, AtLeast, AtMost, Between, Term, Last, Or, Seq, Only, Then, Pre, Mute, Into, Once, Turns, Atom, One, Call, Write, Assign, Group, Definition, Header, NoStart, Stages, Program, start, part, parts, sign, postfix, term, seq, pre, atom, definitions, stages, header, program}
-use Rattle.kex_reader.specs.Reading.{Entry, Mark, Ended, Done, Muted, Storing, Counting, Opened, Low, LowComma, LowHigh, OnlyComma, High, Mode, Need, Ready, After, Named, Writing, Bracket, BracketName, Assigning, Assigned, InCount, State, Begin, FirstName, StartLine, StageRead, StageNext, HeadRead, Within, reads, finish, entry, entries, counting, mode, inside, before, spelled}
+use Rattle.kex_reader.specs.Reading.{Entry, Mark, Ended, Done, Muted, Storing, Counting, Opened, Low, LowComma, LowHigh, OnlyComma, High, Mode, Need, Ready, After, Named, Writing, Bracket, BracketName, Assigning, Assigned, InCount, State, Begin, FirstName, StartLine, StageRead, StageNext, HeadRead, Within, state_after, finish, entry, entries, counting, mode, inside, before, words_read}
 use Rattle.kex_reader.specs.Programs.{IsProgram, BeginsProgram}
 use Rattle.kex_reader.proofs.Sound.{Goes, reads_goes, finish_is, Finishes, definitions-append, stages-append}
 use Rattle.kex_reader.proofs.Complete.{Gives, program_reads, reads-append, reads_none}
@@ -160,8 +160,8 @@ one_definition h n = record {
   same = sym (append_assoc (header h) (Name n ∷ []) (Define ∷ Number (49 ∷ []) ∷ []));
 }
 
-pub state_completes : (s : State) → Completes (spelled s)
-unfolding spelled inside program header definitions stages
+pub state_completes : (s : State) → Completes (words_read s)
+unfolding words_read inside program header definitions stages
 state_completes Begin = record { more = []; tree = record { header = NoStart; definitions = [] }; same = refl }
 state_completes (FirstName n) = one_definition NoStart n
 state_completes StartLine = record { more = Name [] ∷ []; tree = record { header = Stages [] []; definitions = [] }; same = refl }
@@ -177,34 +177,34 @@ state_completes (Within h ds name i) = last_definition h ds name (inside i) (wit
 -- ---- the laws
 
 pub start_goes : Goes [] (Some Begin)
-unfolding Goes spelled
+unfolding Goes words_read
 start_goes = refl
 
-pub read_begins : (w : List Word) (s : State) → reads (Some Begin) w ≡ Some s → BeginsProgram w
+pub read_begins : (w : List Word) (s : State) → state_after (Some Begin) w ≡ Some s → BeginsProgram w
 unfolding Goes
 read_begins w s e =
     let g : Goes w (Some s) = subst (λ (o : Option State). Goes w o) e (reads_goes [] (Some Begin) w start_goes) in
     let c : Completes w = subst Completes g (state_completes s) in
     (c.more, (c.tree, c.same))
 
-pub read_is : (w : List Word) (s : State) (p : Program) → reads (Some Begin) w ≡ Some s → finish s ≡ Some p → program p ≡ w
+pub read_is : (w : List Word) (s : State) (p : Program) → state_after (Some Begin) w ≡ Some s → finish s ≡ Some p → program p ≡ w
 unfolding Goes Finishes
 read_is w s p e f =
     let g : Goes w (Some s) = subst (λ (o : Option State). Goes w o) e (reads_goes [] (Some Begin) w start_goes) in
-    let k : Finishes (spelled s) (Some p) = subst (λ (o : Option Program). Finishes (spelled s) o) f (finish_is s) in
+    let k : Finishes (words_read s) (Some p) = subst (λ (o : Option Program). Finishes (words_read s) o) f (finish_is s) in
     k ∙ g
 
-pub program_gives : (w : List Word) (p : Program) → program p ≡ w → (s : State) × (reads (Some Begin) w ≡ Some s) × (finish s ≡ Some p)
+pub program_gives : (w : List Word) (p : Program) → program p ≡ w → (s : State) × (state_after (Some Begin) w ≡ Some s) × (finish s ≡ Some p)
 unfolding Gives
-program_gives w p e = subst (λ (v : List Word). (s : State) × (reads (Some Begin) v ≡ Some s) × (finish s ≡ Some p)) e (program_reads p)
+program_gives w p e = subst (λ (v : List Word). (s : State) × (state_after (Some Begin) v ≡ Some s) × (finish s ≡ Some p)) e (program_reads p)
 
-pub unread_begins : (w : List Word) → reads (Some Begin) w ≡ None → BeginsProgram w → ⊥
+pub unread_begins : (w : List Word) → state_after (Some Begin) w ≡ None → BeginsProgram w → ⊥
 unread_begins w e b =
     let a = program_gives (w ++ b.0) b.1.0 b.1.1 in
-    let n : reads (Some Begin) (w ++ b.0) ≡ None = reads-append (Some Begin) w b.0 ∙ ap (λ (o : Option State). reads o b.0) e ∙ reads_none b.0 in
+    let n : state_after (Some Begin) (w ++ b.0) ≡ None = reads-append (Some Begin) w b.0 ∙ ap (λ (o : Option State). state_after o b.0) e ∙ reads_none b.0 in
     cc
 
-pub unfinished : (w : List Word) (s : State) → reads (Some Begin) w ≡ Some s → finish s ≡ None → IsProgram w → ⊥
+pub unfinished : (w : List Word) (s : State) → state_after (Some Begin) w ≡ Some s → finish s ≡ None → IsProgram w → ⊥
 unfinished w s e f b =
     let a = program_gives w b.0 b.1 in
     let same : s ≡ a.0 = cc in

@@ -11,14 +11,18 @@ use Rattle.kex_reader.specs.declared.reader.Phase.{Phase}
 use Rattle.kex_reader.specs.declared.reader.Reader.{Reader}
 use Rattle.kex_reader.specs.declared.reader.Phase.TheVariants as phases
 use Rattle.kex_reader.specs.Syntax.{Header, NoStart, Stages, Definition, Program, Term, header, definitions}
-use Rattle.kex_reader.specs.Reading.{Entry, Inside, State, Begin, FirstName, StartLine, StageRead, StageNext, HeadRead, Within, before, spelled}
+use Rattle.kex_reader.specs.Reading.{Entry, Inside, State, Begin, FirstName, StartLine, StageRead, StageNext, HeadRead, Within, before, words_read}
 use Rattle.kex_reader.specs.Shown.{Made, IsName, ShowsTerm, ShowsDefinitions, ShowsStages}
 use Rattle.kex_reader.specs.Uses.{Numbered, NameNumber, InDefinitions, InStages}
-use Rattle.kex_reader.specs.Stands.{Stands, InFrames, InWait, Keeps, LosesNone}
+use Rattle.kex_reader.specs.Stands.{ShowsInside, InFrames, InWait, Keeps, LosesNone}
 
 abbrev pub ShowsHead : Header → Made → (ℕ → ℕ) → List Start → Type 0
 ShowsHead NoStart made at ss = ss ≡ []
 ShowsHead (Stages n ns) made at ss = ShowsStages (n ∷ ns) made at ss 2
+
+-- the number of the next definition's first word
+abbrev pub next_index : Header → List Definition → ℕ
+next_index h done = length (header h) + length (definitions done)
 
 -- frames, definitions and stages so far, and what is waited for, are those of a state
 unfoldable pub ShowsState : Made → (ℕ → ℕ) → List Frame → List Root → List Start → Phase → State → Type 0
@@ -28,7 +32,7 @@ ShowsState made at fs ds ss phases.StartLine StartLine = (fs ≡ []) × (ds ≡ 
 ShowsState made at fs ds ss phases.StageRead (StageRead f ns) = (fs ≡ []) × (ds ≡ []) × ShowsStages (f ∷ ns) made at ss 2
 ShowsState made at fs ds ss phases.StageNext (StageNext f ns) = (fs ≡ []) × (ds ≡ []) × ShowsStages (f ∷ ns) made at ss 2
 ShowsState made at fs ds ss (phases.HeadRead n) (HeadRead h name) = (fs ≡ []) × (ds ≡ []) × ShowsHead h made at ss × (n.bytes.now ≡ name) × (n.at ≡ at (length (header h)))
-ShowsState made at fs ds ss (phases.Within head wait) (Within h done name i) = ShowsHead h made at ss × ShowsDefinitions done made at ds (length (header h)) × IsName made head.name name × (head.at ≡ at (length (header h) + length (definitions done))) × Stands made at (length (before h done name)) fs wait i
+ShowsState made at fs ds ss (phases.Within head wait) (Within h done name i) = ShowsHead h made at ss × ShowsDefinitions done made at ds (length (header h)) × IsName made head.name name × (head.at ≡ at (next_index h done)) × ShowsInside made at (length (before h done name)) fs wait i
 ShowsState made at fs ds ss _ _ = ⊥
 
 -- what a step made is what the machine makes, unless memory ran out
@@ -73,8 +77,8 @@ abbrev pub InReader : Reader → Phase → Numbered → Type 0
 InReader r phase x = InFrames r.stack x ⊎ (InPhase phase x ⊎ (InDefinitions r.definitions.items x ⊎ InStages r.stages.items x))
 
 -- what a reader is left with at the end
-abbrev pub IsLeft : Reader → Numbered → Type 0
-IsLeft r x = InDefinitions r.definitions.items x ⊎ InStages r.stages.items x
+abbrev pub InProgram : Reader → Numbered → Type 0
+InProgram r x = InDefinitions r.definitions.items x ⊎ InStages r.stages.items x
 
 -- the open definition ends: its name and its root become those of a definition
 abbrev pub EndLosesNone : Reader → Reader → Head → (Numbered → Type 0) → Type 0
@@ -85,7 +89,7 @@ abbrev pub ReaderLosesNone : Reader → Phase → Reader → Result Phase StepFa
 ReaderLosesNone old phase new result = IfOk result (λ next. Keeps old.draft new.draft × LosesNone old.draft new.draft (InReader old phase) (InReader new next))
 
 abbrev pub FinishLosesNone : Reader → Phase → Reader → Result (Unit {0}) StepFault → Type 0
-FinishLosesNone old phase new result = OnOk result (Keeps old.draft new.draft × LosesNone old.draft new.draft (InReader old phase) (IsLeft new))
+FinishLosesNone old phase new result = OnOk result (Keeps old.draft new.draft × LosesNone old.draft new.draft (InReader old phase) (InProgram new))
 
 -- ---- what clauses say
 
@@ -111,7 +115,7 @@ ReaderEnds old new at base head result o = Ends new.draft at base new.stack old.
 
 -- the offset is that of the word behind what a state has read
 abbrev pub IsBehindState : (ℕ → ℕ) → State → ℕ → Type 0
-IsBehindState at s place = place ≡ at (length (spelled s))
+IsBehindState at s place = place ≡ at (length (words_read s))
 
 -- where the reader is within a definition
 abbrev pub WithinDefinition : Reader → Head → Wait → ((ℕ → ℕ) → Header → List Definition → List ℕ → Inside → Type 0) → Type 0

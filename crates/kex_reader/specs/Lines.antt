@@ -1,12 +1,13 @@
 -- Lines end at a line feed.
 use Rattle.std.specs.Prelude.{ℕ, suc, List, [], ◌∷◌, ◌==◌, if◌then◌else◌}
+use Rattle.kex_tokens.specs.Bytes.{line_feed}
 
 -- how many line feeds there are
 unfoldable pub feeds : List ℕ → ℕ
 feeds [] = 0
-feeds (b ∷ bs) = if b == 10 then suc (feeds bs) else feeds bs
+feeds (b ∷ bs) = if b == line_feed then suc (feeds bs) else feeds bs
 
 -- how many bytes stand behind the last line feed, where n stand before these
 unfoldable pub behind_feed : ℕ → List ℕ → ℕ
 behind_feed n [] = n
-behind_feed n (b ∷ bs) = behind_feed (if b == 10 then 0 else suc n) bs
+behind_feed n (b ∷ bs) = behind_feed (if b == line_feed then 0 else suc n) bs

@@ -53,13 +53,13 @@ pub data State : Type 0 where
 -- ---- entries
 
 -- a pre that has ended takes the prefixes before it
-unfoldable pub put : Pre → List Entry → List Entry
-put p [] = Done p ∷ []
-put p (Mark ∷ es) = Done p ∷ Mark ∷ es
-put p (Ended s ∷ es) = Done p ∷ Ended s ∷ es
-put p (Done q ∷ es) = Done p ∷ Done q ∷ es
-put p (Muted ∷ es) = put (Mute p) es
-put p (Storing r ∷ es) = put (Into r p) es
+unfoldable pub with_pre : Pre → List Entry → List Entry
+with_pre p [] = Done p ∷ []
+with_pre p (Mark ∷ es) = Done p ∷ Mark ∷ es
+with_pre p (Ended s ∷ es) = Done p ∷ Ended s ∷ es
+with_pre p (Done q ∷ es) = Done p ∷ Done q ∷ es
+with_pre p (Muted ∷ es) = with_pre (Mute p) es
+with_pre p (Storing r ∷ es) = with_pre (Into r p) es
 
 unfoldable pub take_more : List Entry → Seq → Seq × List Entry
 take_more [] s = (s, [])
@@ -103,17 +103,17 @@ unfoldable pub on_bar : Option (Seq × List Entry) → Option Inside
 on_bar None = None
 on_bar (Some t) = goes Need (Ended t.0 ∷ t.1)
 
-unfoldable pub closed : Term → List Entry → Option Inside
-closed t [] = None
-closed t (Mark ∷ es) = goes (After (Group t)) es
-closed t (Ended s ∷ es) = None
-closed t (Done p ∷ es) = None
-closed t (Muted ∷ es) = None
-closed t (Storing r ∷ es) = None
+unfoldable pub after_group : Term → List Entry → Option Inside
+after_group t [] = None
+after_group t (Mark ∷ es) = goes (After (Group t)) es
+after_group t (Ended s ∷ es) = None
+after_group t (Done p ∷ es) = None
+after_group t (Muted ∷ es) = None
+after_group t (Storing r ∷ es) = None
 
 unfoldable pub on_close : Option (Term × List Entry) → Option Inside
 on_close None = None
-on_close (Some t) = closed t.0 t.1
+on_close (Some t) = after_group t.0 t.1
 
 -- the digit 1 alone is an atom
 unfoldable pub on_number : List Entry → List ℕ → Option Inside
@@ -134,16 +134,16 @@ begin_pre true es CloseParen = on_close (take_term es)
 begin_pre free es _ = None
 
 unfoldable pub after_atom : Atom → List Entry → Word → Option Inside
-after_atom a es Star = goes Ready (put (Turns a ZeroOrMore) es)
-after_atom a es Plus = goes Ready (put (Turns a OneOrMore) es)
-after_atom a es Question = goes Ready (put (Turns a Optional) es)
+after_atom a es Star = goes Ready (with_pre (Turns a ZeroOrMore) es)
+after_atom a es Plus = goes Ready (with_pre (Turns a OneOrMore) es)
+after_atom a es Question = goes Ready (with_pre (Turns a Optional) es)
 after_atom a es OpenBrace = goes (InCount a Opened) es
-after_atom a es w = begin_pre true (put (Once a) es) w
+after_atom a es w = begin_pre true (with_pre (Once a) es) w
 
-unfoldable pub named : List ℕ → List Entry → Word → Option Inside
-named n es At = goes Need (Storing n ∷ es)
-named n es Define = None
-named n es w = after_atom (Call n) es w
+unfoldable pub after_name : List ℕ → List Entry → Word → Option Inside
+after_name n es At = goes Need (Storing n ∷ es)
+after_name n es Define = None
+after_name n es w = after_atom (Call n) es w
 
 unfoldable pub on_name : (List ℕ → Option Inside) → Word → Option Inside
 on_name f (Name n) = f n
@@ -179,23 +179,23 @@ count_step _ _ = CountWrong
 
 unfoldable pub on_count : Atom → List Entry → CountStep → Option Inside
 on_count a es (CountOn c) = goes (InCount a c) es
-on_count a es (CountRead p) = goes Ready (put (Turns a p) es)
+on_count a es (CountRead p) = goes Ready (with_pre (Turns a p) es)
 on_count a es CountWrong = None
 
-abbrev pub counted : Atom → Counting → List Entry → Word → Option Inside
-counted a c es w = on_count a es (count_step c w)
+abbrev pub after_count : Atom → Counting → List Entry → Word → Option Inside
+after_count a c es w = on_count a es (count_step c w)
 
 unfoldable pub step_in : Mode → List Entry → Word → Option Inside
 step_in Need es w = begin_pre false es w
 step_in Ready es w = begin_pre true es w
 step_in (After a) es w = after_atom a es w
-step_in (Named free n) es w = named n es w
+step_in (Named free n) es w = after_name n es w
 step_in Writing es w = on_name (λ n. goes (After (Write n)) es) w
 step_in Bracket es w = on_name (λ n. goes (BracketName n) es) w
 step_in (BracketName r) es w = on_sign r es w
 step_in (Assigning append r) es w = first_part append r es w
 step_in (Assigned append r p ps) es w = next_part append r p ps es w
-step_in (InCount a c) es w = counted a c es w
+step_in (InCount a c) es w = after_count a c es w
 
 -- ---- one word more
 
@@ -253,22 +253,22 @@ unfoldable pub next : Option State → Word → Option State
 next None w = None
 next (Some s) w = step s w
 
-unfoldable pub reads : Option State → List Word → Option State
-reads o [] = o
-reads o (w ∷ ws) = reads (next o w) ws
+unfoldable pub state_after : Option State → List Word → Option State
+state_after o [] = o
+state_after o (w ∷ ws) = state_after (next o w) ws
 
-unfoldable pub whole : Header → List Definition → List ℕ → Term → List Entry → Option Program
-whole h ds name t [] = Some (record { header = h; definitions = ds ++ record { name = name; term = t } ∷ [] })
-whole h ds name t (e ∷ es) = None
+unfoldable pub program_of_whole : Header → List Definition → List ℕ → Term → List Entry → Option Program
+program_of_whole h ds name t [] = Some (record { header = h; definitions = ds ++ record { name = name; term = t } ∷ [] })
+program_of_whole h ds name t (e ∷ es) = None
 
-unfoldable pub ended : Header → List Definition → List ℕ → Option (Term × List Entry) → Option Program
-ended h ds name None = None
-ended h ds name (Some t) = whole h ds name t.0 t.1
+unfoldable pub program_of_term : Header → List Definition → List ℕ → Option (Term × List Entry) → Option Program
+program_of_term h ds name None = None
+program_of_term h ds name (Some t) = program_of_whole h ds name t.0 t.1
 
 unfoldable pub finish_within : Header → List Definition → List ℕ → Mode → List Entry → Option Program
-finish_within h ds name Ready es = ended h ds name (take_term es)
-finish_within h ds name (After a) es = ended h ds name (take_term (put (Once a) es))
-finish_within h ds name (Named free n) es = ended h ds name (take_term (put (Once (Call n)) es))
+finish_within h ds name Ready es = program_of_term h ds name (take_term es)
+finish_within h ds name (After a) es = program_of_term h ds name (take_term (with_pre (Once a) es))
+finish_within h ds name (Named free n) es = program_of_term h ds name (take_term (with_pre (Once (Call n)) es))
 finish_within h ds name _ es = None
 
 unfoldable pub finish : State → Option Program
@@ -316,11 +316,11 @@ inside i = entries i.entries ++ mode i.mode
 unfoldable pub before : Header → List Definition → List ℕ → List Word
 before h ds name = header h ++ (definitions ds ++ Name name ∷ Define ∷ [])
 
-unfoldable pub spelled : State → List Word
-spelled Begin = []
-spelled (FirstName n) = Name n ∷ []
-spelled StartLine = Name start ∷ Colon ∷ []
-spelled (StageRead f ns) = Name start ∷ Colon ∷ Name f ∷ stages ns
-spelled (StageNext f ns) = Name start ∷ Colon ∷ Name f ∷ (stages ns ++ Pipe ∷ [])
-spelled (HeadRead h n) = header h ++ Name n ∷ []
-spelled (Within h ds name i) = before h ds name ++ inside i
+unfoldable pub words_read : State → List Word
+words_read Begin = []
+words_read (FirstName n) = Name n ∷ []
+words_read StartLine = Name start ∷ Colon ∷ []
+words_read (StageRead f ns) = Name start ∷ Colon ∷ Name f ∷ stages ns
+words_read (StageNext f ns) = Name start ∷ Colon ∷ Name f ∷ (stages ns ++ Pipe ∷ [])
+words_read (HeadRead h n) = header h ++ Name n ∷ []
+words_read (Within h ds name i) = before h ds name ++ inside i

@@ -60,9 +60,9 @@ ShowsParts [] made [] = Unit {0}
 ShowsParts (p ∷ ps) made (q ∷ qs) = ShowsPart p made q × ShowsParts ps made qs
 ShowsParts _ made _ = ⊥
 
-abbrev pub assigned : Bool → ℕ → List Piece → Kind
-assigned false k ps = kinds.Set k ps
-assigned true k ps = kinds.Add k ps
+abbrev pub assignment_kind : Bool → ℕ → List Piece → Kind
+assignment_kind false k ps = kinds.Set k ps
+assignment_kind true k ps = kinds.Add k ps
 
 -- node n shows a tree whose first word has number i, where word number i has the offset at i. Once a limit is broken, a body
 -- and a count may have any node.
@@ -87,7 +87,7 @@ unfoldable mutual
   ShowsAtom (Lit s) made at n i = (bytes : List ℕ) × IsNode made n (kinds.Lit bytes) (at i) × StandsFor s bytes
   ShowsAtom (Match b) made at n i = (n < length made.nodes) × (made.broken ≡ None → (r : Body) × Spells r b × ShowsRegex r made.nodes n (at i + 1))
   ShowsAtom (Write r) made at n i = (k : ℕ) × IsNode made n (kinds.Write k) (at i) × IsRegister made k r
-  ShowsAtom (Assign append r p ps) made at n i = (k : ℕ) × (qs : List Piece) × IsNode made n (assigned append k qs) (at i) × IsRegister made k r × ShowsParts (p ∷ ps) made qs
+  ShowsAtom (Assign append r p ps) made at n i = (k : ℕ) × (qs : List Piece) × IsNode made n (assignment_kind append k qs) (at i) × IsRegister made k r × ShowsParts (p ∷ ps) made qs
   -- a group is its content
   ShowsAtom (Group t) made at n i = ShowsTerm t made at n (i + 1)
 

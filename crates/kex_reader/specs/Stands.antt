@@ -24,7 +24,7 @@ use Rattle.kex_reader.specs.declared.inside.Wait.TheVariants as waits
 use Rattle.kex_reader.specs.declared.inside.StepFault.{StepFault}
 use Rattle.kex_reader.specs.declared.inside.StepFault.TheVariants as faults
 use Rattle.kex_reader.specs.Syntax.{Word, word, Name, Literal, Text, Held, Tilde, At, Star, Plus, Question, OpenBrace, OpenParen, Regex, Define, Part, Term, Seq, Pre, Atom, Once, Call, atom}
-use Rattle.kex_reader.specs.Reading.{Entry, Mark, Ended, Done, Muted, Storing, Counting, Opened, Low, LowComma, LowHigh, OnlyComma, High, CountStep, CountOn, CountRead, CountWrong, Mode, Need, Ready, After, Named, Writing, Bracket, BracketName, Assigning, Assigned, InCount, Inside, inside, first_part, next_part, put, entries, count_step}
+use Rattle.kex_reader.specs.Reading.{Entry, Mark, Ended, Done, Muted, Storing, Counting, Opened, Low, LowComma, LowHigh, OnlyComma, High, CountStep, CountOn, CountRead, CountWrong, Mode, Need, Ready, After, Named, Writing, Bracket, BracketName, Assigning, Assigned, InCount, Inside, inside, first_part, next_part, with_pre, entries, count_step}
 use Rattle.kex_reader.specs.Checks.{Check, Nested, Matched, SomeBreaks, IsLeastBreak, is_bad_count, postfix_checks}
 use Rattle.kex_reader.specs.Uses.{Numbered, NodeNumber, NameNumber, RegisterNumber, IsBelow, InNodes}
 use Rattle.kex_reader.specs.Shown.{Made, IsRegister, ShowsTerm, ShowsSeq, ShowsPre, ShowsAtom, ShowsPart, ShowsParts, low, high}
@@ -38,18 +38,18 @@ pub record Keeps (old new : Made) : Type 0 where
   pub broken : new.broken ≡ None → old.broken ≡ None
 
 -- the least limit that is broken by these checks
-abbrev pub Noted : List Check → Option Break → Type 0
-Noted cs None = (b : Break) → SomeBreaks cs b → ⊥
-Noted cs (Some b) = IsLeastBreak cs b
+abbrev pub NotesLeast : List Check → Option Break → Type 0
+NotesLeast cs None = (b : Break) → SomeBreaks cs b → ⊥
+NotesLeast cs (Some b) = IsLeastBreak cs b
 
 -- ---- frames
 
-abbrev pub opens : Frame → Bool
-opens (frames.Mark at) = true
-opens (frames.Ended part) = false
-opens (frames.Done part) = false
-opens (frames.Muted at) = true
-opens (frames.Storing s) = true
+abbrev pub is_opening : Frame → Bool
+is_opening (frames.Mark at) = true
+is_opening (frames.Ended part) = false
+is_opening (frames.Done part) = false
+is_opening (frames.Muted at) = true
+is_opening (frames.Storing s) = true
 
 abbrev pub frame_of : Prefix → Frame
 frame_of (prefixes.Mute at) = frames.Muted at
@@ -64,14 +64,14 @@ abbrev pub prefix_at : Prefix → ℕ
 prefix_at (prefixes.Mute at) = at
 prefix_at (prefixes.Store s) = s.at
 
-abbrev pub HasRegister : ℕ → Prefix → Type 0
-HasRegister registers (prefixes.Mute at) = Unit {0}
-HasRegister registers (prefixes.Store s) = s.register < registers
+abbrev pub HasRegisterBelow : ℕ → Prefix → Type 0
+HasRegisterBelow registers (prefixes.Mute at) = Unit {0}
+HasRegisterBelow registers (prefixes.Store s) = s.register < registers
 
 -- how many parentheses and prefixes are among the frames
 unfoldable pub open_frames : List Frame → ℕ
 open_frames [] = 0
-open_frames (f ∷ fs) = if opens f then suc (open_frames fs) else open_frames fs
+open_frames (f ∷ fs) = if is_opening f then suc (open_frames fs) else open_frames fs
 
 -- and among the entries
 unfoldable pub depth : List Entry → ℕ
@@ -174,14 +174,14 @@ ShowsMode made at i (waits.InCount part c brace) (InCount a d) = (part.at ≡ at
 ShowsMode _ _ _ _ _ = ⊥
 
 -- frames and what is waited for are those of a place inside a definition
-pub record Stands (made : Made) (at : ℕ → ℕ) (base : ℕ) (fs : List Frame) (wait : Wait) (i : Inside) : Type 0 where
+pub record ShowsInside (made : Made) (at : ℕ → ℕ) (base : ℕ) (fs : List Frame) (wait : Wait) (i : Inside) : Type 0 where
   pub below : FramesShow made at base fs i.entries
   pub mode : ShowsMode made at (base + length (entries i.entries)) wait i.mode
 
 -- what a step made is what the machine makes, unless memory ran out
 unfoldable pub Steps : Made → (ℕ → ℕ) → ℕ → List Frame → Result Wait StepFault → Option Inside → Type 0
 Steps made at base fs (Ok wait) None = ⊥
-Steps made at base fs (Ok wait) (Some i) = Stands made at base fs wait i
+Steps made at base fs (Ok wait) (Some i) = ShowsInside made at base fs wait i
 Steps made at base fs (Err faults.Memory) o = Unit {0}
 Steps made at base fs (Err faults.Wrong) None = Unit {0}
 Steps made at base fs (Err faults.Wrong) (Some i) = ⊥
@@ -200,7 +200,7 @@ abbrev pub SomeName : Made → List Frame → ℕ → Type 0
 SomeName made fs a = (at : ℕ → ℕ) × (base : ℕ) × (es : List Entry) × FramesShow made at base fs es × (a ≡ at (base + length (entries es)))
 
 abbrev pub SomeInside : Made → List Frame → Wait → Type 0
-SomeInside made fs wait = (at : ℕ → ℕ) × (base : ℕ) × (i : Inside) × Stands made at base fs wait i
+SomeInside made fs wait = (at : ℕ → ℕ) × (base : ℕ) × (i : Inside) × ShowsInside made at base fs wait i
 
 -- ---- the checks that a word asks
 
@@ -215,7 +215,7 @@ after_asks at i a es Star = []
 after_asks at i a es Plus = []
 after_asks at i a es Question = []
 after_asks at i a es OpenBrace = []
-after_asks at i a es w = begin_asks at i (put (Once a) es) w
+after_asks at i a es w = begin_asks at i (with_pre (Once a) es) w
 
 unfoldable pub named_asks : (ℕ → ℕ) → ℕ → List ℕ → List Entry → Word → List Check
 named_asks at i n es At = Nested (at i) (depth es) ∷ []
@@ -313,16 +313,20 @@ IsBehindAtom at base es a place = place ≡ at (base + length (entries es) + len
 
 -- where frames and what is waited for are those of a place inside a definition, and a word stands behind it at this offset
 abbrev pub InPlace : Made → List Frame → Wait → ℕ → ((ℕ → ℕ) → ℕ → Inside → Type 0) → Type 0
-InPlace made fs wait place Says = (at : ℕ → ℕ) (base : ℕ) (i : Inside) → Stands made at base fs wait i → place ≡ at (base + length (inside i)) → Says at base i
+InPlace made fs wait place Says = (at : ℕ → ℕ) (base : ℕ) (i : Inside) → ShowsInside made at base fs wait i → place ≡ at (base + length (inside i)) → Says at base i
 
 -- the least limit that is broken goes on to be that of these checks too
 abbrev pub NotesMore : {A E : Type 0} → Option Break → Option Break → Result A E → List Check → Type 0
-NotesMore old new result more = (cs : List Check) → Noted cs old → OnOk result (Noted (cs ++ more) new)
+NotesMore old new result more = (cs : List Check) → NotesLeast cs old → OnOk result (NotesLeast (cs ++ more) new)
+
+-- where the frames show entries, behind which this is half read
+abbrev pub WhereHalfRead : Made → (ℕ → ℕ) → ℕ → List Frame → List Entry → Wait → Mode → Type 0 → Type 0
+WhereHalfRead made at base fs es wait mode Says = FramesShow made at base fs es → ShowsMode made at (base + length (entries es)) wait mode → Says
 
 -- a word where the first part of an assignment has to come
 abbrev pub FirstPart : Made → Made → Assignment → Result Wait StepFault → Word → Type 0
-FirstPart old new x result w = (at : ℕ → ℕ) (base : ℕ) (fs : List Frame) (es : List Entry) (append : Bool) (r : List ℕ) → FramesShow old at base fs es → ShowsMode old at (base + length (entries es)) (waits.Assigning x) (Assigning append r) → Steps new at base fs result (first_part append r es w)
+FirstPart old new x result w = (at : ℕ → ℕ) (base : ℕ) (fs : List Frame) (es : List Entry) (append : Bool) (r : List ℕ) → WhereHalfRead old at base fs es (waits.Assigning x) (Assigning append r) (Steps new at base fs result (first_part append r es w))
 
 -- a word behind a part of an assignment
 abbrev pub NextPart : Made → Made → Assignment → Result Wait StepFault → Word → Type 0
-NextPart old new x result w = (at : ℕ → ℕ) (base : ℕ) (fs : List Frame) (es : List Entry) (append : Bool) (r : List ℕ) (p : Part) (ps : List Part) → FramesShow old at base fs es → ShowsMode old at (base + length (entries es)) (waits.Assigned x) (Assigned append r p ps) → Steps new at base fs result (next_part append r p ps es w)
+NextPart old new x result w = (at : ℕ → ℕ) (base : ℕ) (fs : List Frame) (es : List Entry) (append : Bool) (r : List ℕ) (p : Part) (ps : List Part) → WhereHalfRead old at base fs es (waits.Assigned x) (Assigned append r p ps) (Steps new at base fs result (next_part append r p ps es w))

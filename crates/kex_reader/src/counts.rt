@@ -1,7 +1,7 @@
 // Counts in braces.
 
 ghost use Rattle.std.specs.Prelude.{◌≡◌};
-ghost use Rattle.kex_reader.specs.Held.{held_bounds, held_count, held_from};
+ghost use Rattle.kex_reader.specs.Counts.{bounds_of, count_after, bounds_from};
 
 use kex_tokens::token::Kind;
 
@@ -37,7 +37,7 @@ pub(crate) enum CountStep {
 
 // The bounds of two numbers.
 fn bounded(low: Option<u32>, high: Option<u32>) -> CountStep
-    ensures { result ≡ held_bounds low high }
+    ensures { result ≡ bounds_of low high }
 {
     let Some(low) = low else {
         return CountStep::Bad;
@@ -56,7 +56,7 @@ fn bounded(low: Option<u32>, high: Option<u32>) -> CountStep
 
 // The bounds of one number, from which on turns are read.
 fn unbounded(low: Option<u32>) -> CountStep
-    ensures { result ≡ held_from low }
+    ensures { result ≡ bounds_from low }
 {
     match low {
         Some(low) => CountStep::Read(Bounds { low, high: None }),
@@ -65,9 +65,9 @@ fn unbounded(low: Option<u32>) -> CountStep
 }
 
 // A word behind what is read of a count, where `number` is its value.
-#[tactic(auto, unfolding(crate::specs::Held::held_count))]
+#[tactic(auto, unfolding(crate::specs::Counts::count_after))]
 pub(crate) fn count_step(count: Count, kind: Kind, number: Option<u32>) -> CountStep
-    ensures { result ≡ held_count count kind number }
+    ensures { result ≡ count_after count kind number }
 {
     match count {
         Count::Opened => match kind {

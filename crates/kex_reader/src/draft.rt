@@ -5,11 +5,11 @@ ghost use Rattle.kex_code.specs.Codes.{Different, IsAmong};
 ghost use Rattle.kex_model.specs.Programs.{Grammar, HasBelow, HasNames, IsInRange};
 ghost use Rattle.kex_regexp.specs.Bodies.{Spells, fault_of};
 ghost use Rattle.kex_regexp.specs.Grammar.{Regex};
-ghost use Rattle.kex_regexp.specs.Notes.{held_lesser};
+ghost use Rattle.kex_regexp.specs.Notes.{lesser_of};
 ghost use Rattle.kex_regexp.specs.Shown.{ShowsRegex};
 ghost use Rattle.kex_reader.specs.Checks.{Check, Matched};
 ghost use Rattle.kex_reader.specs.Shown.{IsName, IsNode, IsRegister, Made};
-ghost use Rattle.kex_reader.specs.Stands.{Keeps, LosesNone, Noted};
+ghost use Rattle.kex_reader.specs.Stands.{Keeps, LosesNone, NotesLeast};
 ghost use Rattle.kex_reader.specs.Uses.{InKind, NameNumber, NodeNumber, RegisterNumber};
 
 use crate::names::Names;
@@ -123,7 +123,7 @@ impl<'t> Draft<'t> {
 
     // Notes that a limit is broken.
     pub(crate) fn note(&mut self, broken: Break)
-        ensures noted { self.new ≡ record self.old { broken = held_lesser self.old.broken (Some broken) } }
+        ensures noted { self.new ≡ record self.old { broken = lesser_of self.old.broken (Some broken) } }
         ensures keeps { Keeps self.old self.new }
     {
         self.broken = lesser(self.broken, Some(broken));
@@ -142,7 +142,7 @@ impl<'t> Draft<'t> {
         ensures within { IfOk result (λ n. n < length self.new.nodes) }
         ensures held { IfOk result (λ n. LosesNone self.old self.new (λ x. ⊥) (λ x. x ≡ NodeNumber n)) }
         ensures shows { IfOk result (λ n. self.new.broken ≡ None → (r : Regex) × Spells r body.now × ShowsRegex r self.new.nodes n at) }
-        ensures notes { OnOk result ((cs : List Check) → Noted cs self.old.broken → Noted (cs ++ Matched at depth body.now ∷ []) self.new.broken) }
+        ensures notes { OnOk result ((cs : List Check) → NotesLeast cs self.old.broken → NotesLeast (cs ++ Matched at depth body.now ∷ []) self.new.broken) }
     {
         one_tree();
         let Some(nested) = room(depth, body.len()) else {

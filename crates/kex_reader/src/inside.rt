@@ -9,9 +9,9 @@ ghost use Rattle.kex_tokens.specs.Lexemes.{IsToken};
 ghost use Rattle.kex_tokens.specs.Values.{StandsFor};
 ghost use Rattle.kex_reader.specs.Checks.{Check, Matched, Nested};
 ghost use Rattle.kex_reader.specs.Reading.{After, Assigned, Assigning, BracketName, CountStep as SpecCountStep, Entry, Inside, Ready, after_atom, begin_pre, entries, first_part};
-ghost use Rattle.kex_reader.specs.Reading.{goes, named as spec_named, next_part, on_bar, on_close, on_count, on_name, on_sign, put as spec_put, inside, step_in as spec_step_in, take_seq, take_term};
+ghost use Rattle.kex_reader.specs.Reading.{goes, after_name, next_part, on_bar, on_close, on_count, on_name, on_sign, with_pre, inside, step_in as spec_step_in, take_seq, take_term};
 ghost use Rattle.kex_reader.specs.Shown.{Made, IsName, IsNode, IsRegister, ShowsAtom, ShowsParts, high as high_of, low as low_of};
-ghost use Rattle.kex_reader.specs.Stands.{Behind, BehindAny, FirstPart, FramesShow, InFrames, InPlace, InWait, IsBehindAtom, IsHeld, IsLeaf, Keeps, LosesNone, NextPart, Noted, NotesMore};
+ghost use Rattle.kex_reader.specs.Stands.{Behind, BehindAny, FirstPart, FramesShow, InFrames, InPlace, InWait, IsBehindAtom, IsHeld, IsLeaf, Keeps, LosesNone, NextPart, NotesLeast, NotesMore};
 ghost use Rattle.kex_reader.specs.Stands.{OnAtom, ShowsCountStep, ShowsMode, SomeAtom, SomeFrames, SomeInside, SomeName, StepLosesNone, Steps, after_asks, asks, begin_asks, count_asks, named_asks, open_frames, word_of};
 ghost use Rattle.kex_reader.specs.Uses.{InKind, NodeNumber, Numbered, RegisterNumber};
 ghost use Rattle.kex_reader.specs.Syntax.{Atom, Part as SpecPart, Postfix, Turns, Write as SpecWrite, atom, between, word as grammar_word};
@@ -136,7 +136,7 @@ fn body<'t>(
     ensures held { (fs : List Frame) → StepLosesNone draft.old draft.new fs Wait.Need fs result }
     ensures keeps { OnOk result (Keeps draft.old draft.new) }
     ensures wait { IfOk result (λ w. (n : ℕ) × (w ≡ Wait.After (record { node = n; at = word.entry.at })) × (n < length draft.new.nodes) × (draft.new.broken ≡ None → (r : Regex) × BodySpells r (between word.entry.spelling.now) × ShowsRegex r draft.new.nodes n (word.entry.at + 1))) }
-    ensures notes { OnOk result ((cs : List Check) → Noted cs draft.old.broken → Noted (cs ++ Matched (word.entry.at + 1) depth (between word.entry.spelling.now) ∷ []) draft.new.broken) }
+    ensures notes { OnOk result ((cs : List Check) → NotesLeast cs draft.old.broken → NotesLeast (cs ++ Matched (word.entry.at + 1) depth (between word.entry.spelling.now) ∷ []) draft.new.broken) }
     ensures fault { IfErr result (λ e. e ≡ StepFault.Memory) }
 {
     let bytes = between_slashes(word.spelling);
@@ -148,7 +148,7 @@ fn body<'t>(
 fn nest(draft: &mut Draft, depth: usize, at: u32)
     ensures held { LosesNone draft.old draft.new (λ x. ⊥) (λ x. ⊥) }
     ensures keeps { Keeps draft.old draft.new }
-    ensures notes { (cs : List Check) → Noted cs draft.old.broken → Noted (cs ++ Nested at depth ∷ []) draft.new.broken }
+    ensures notes { (cs : List Check) → NotesLeast cs draft.old.broken → NotesLeast (cs ++ Nested at depth ∷ []) draft.new.broken }
 {
     if depth != DEEPEST {
         return;
@@ -167,7 +167,7 @@ fn open<'t>(
     ensures keeps { OnOk result (Keeps draft.old draft.new) }
     ensures wait { IfOk result (λ w. w ≡ Wait.Need) }
     ensures pushed { OnOk result (stack.new ≡ frame ∷ stack.old) }
-    ensures notes { OnOk result ((cs : List Check) → Noted cs draft.old.broken → Noted (cs ++ Nested at (open_frames stack.old) ∷ []) draft.new.broken) }
+    ensures notes { OnOk result ((cs : List Check) → NotesLeast cs draft.old.broken → NotesLeast (cs ++ Nested at (open_frames stack.old) ∷ []) draft.new.broken) }
     ensures fault { IfErr result (λ e. e ≡ StepFault.Memory) }
 {
     nest(draft, stack.depth(), at);
@@ -279,7 +279,7 @@ fn turns<'t>(
     ensures held { StepLosesNone draft.old draft.new stack.old (Wait.After item) stack.new result }
     ensures keeps { OnOk result (Keeps draft.old draft.new) }
     ensures broken { OnOk result (draft.new.broken ≡ draft.old.broken) }
-    ensures step { OnAtom draft.old stack.old item (λ at base es a. (p : Postfix) → bounds.low ≡ low_of p → bounds.high ≡ high_of p → Steps draft.new at base stack.new result (goes Ready (spec_put (Turns a p) es))) }
+    ensures step { OnAtom draft.old stack.old item (λ at base es a. (p : Postfix) → bounds.low ≡ low_of p → bounds.high ≡ high_of p → Steps draft.new at base stack.new result (goes Ready (with_pre (Turns a p) es))) }
 {
     let node = draft.add(
         NodeKind::Rep {
@@ -294,7 +294,7 @@ fn turns<'t>(
 }
 
 // A word behind an atom.
-fn behind<'t>(
+fn word_after_atom<'t>(
     alloc: Global,
     stack: &mut Stack,
     draft: &mut Draft<'t>,
@@ -330,7 +330,7 @@ fn behind<'t>(
 }
 
 // A word behind a name.
-fn named<'t>(
+fn word_after_name<'t>(
     alloc: Global,
     stack: &mut Stack,
     draft: &mut Draft<'t>,
@@ -342,7 +342,7 @@ fn named<'t>(
     requires place { word.at + length word.spelling.now < 2 ^ 32 }
     ensures held { StepLosesNone draft.old draft.new stack.old Wait.Need stack.new result }
     ensures keeps { OnOk result (Keeps draft.old draft.new) }
-    ensures step { Behind draft.old stack.old name.entry.at (λ at base es. word.entry.at ≡ at (base + length (entries es) + 1) → Steps draft.new at base stack.new result (spec_named name.entry.bytes.now es (word_of word.entry))) }
+    ensures step { Behind draft.old stack.old name.entry.at (λ at base es. word.entry.at ≡ at (base + length (entries es) + 1) → Steps draft.new at base stack.new result (after_name name.entry.bytes.now es (word_of word.entry))) }
     ensures notes { Behind draft.old stack.old name.entry.at (λ at base es. word.entry.at ≡ at (base + length (entries es) + 1) → NotesMore draft.old.broken draft.new.broken result (named_asks at (base + length (entries es)) name.entry.bytes.now es (word_of word.entry))) }
 {
     match word.kind {
@@ -357,7 +357,7 @@ fn named<'t>(
         Kind::Define => Err(StepFault::Wrong),
         _ => {
             let item = call(draft, name)?;
-            behind(alloc, stack, draft, item, word)
+            word_after_atom(alloc, stack, draft, item, word)
         }
     }
 }
@@ -448,7 +448,7 @@ fn part<'t>(
 }
 
 // A word behind a part.
-fn behind_part<'t>(
+fn word_after_part<'t>(
     alloc: Global,
     draft: &mut Draft<'t>,
     assignment: Assignment,
@@ -471,7 +471,7 @@ fn behind_part<'t>(
 }
 
 // A word behind what is read of a count.
-fn counted<'t>(
+fn go_on_counting<'t>(
     stack: &mut Stack,
     draft: &mut Draft<'t>,
     item: Part,
@@ -483,7 +483,7 @@ fn counted<'t>(
     ensures held { StepLosesNone draft.old draft.new stack.old (Wait.After item) stack.new result }
     ensures keeps { OnOk result (Keeps draft.old draft.new) }
     ensures step { OnAtom draft.old stack.old item (λ at base es a. (t : SpecCountStep) → IsBehindAtom at base es a brace → ShowsCountStep step t → Steps draft.new at base stack.new result (on_count a es t)) }
-    ensures notes { (t : SpecCountStep) (from : ℕ) → brace ≡ from → ShowsCountStep step t → (cs : List Check) → Noted cs draft.old.broken → OnOk result (Noted (cs ++ count_asks from t) draft.new.broken) }
+    ensures notes { (t : SpecCountStep) (from : ℕ) → brace ≡ from → ShowsCountStep step t → (cs : List Check) → NotesLeast cs draft.old.broken → OnOk result (NotesLeast (cs ++ count_asks from t) draft.new.broken) }
 {
     match step {
         CountStep::On(count) => Ok(Wait::InCount(item, count, brace)),
@@ -516,14 +516,14 @@ pub(crate) fn step_in<'t>(
     match wait {
         Wait::Need => begin(alloc, stack, draft, false, word),
         Wait::Ready => begin(alloc, stack, draft, true, word),
-        Wait::After(item) => behind(alloc, stack, draft, item, word),
-        Wait::Named(_, name) => named(alloc, stack, draft, name, word),
+        Wait::After(item) => word_after_atom(alloc, stack, draft, item, word),
+        Wait::Named(_, name) => word_after_name(alloc, stack, draft, name, word),
         Wait::Writing(at) => write(draft, at, word),
         Wait::Bracket(at) => bracket(draft, at, word),
         Wait::BracketName(at, register) => sign(alloc, at, register, word.kind),
         Wait::Assigning(assignment) => part(alloc, draft, assignment, word),
-        Wait::Assigned(assignment) => behind_part(alloc, draft, assignment, word),
-        Wait::InCount(item, count, brace) => counted(
+        Wait::Assigned(assignment) => word_after_part(alloc, draft, assignment, word),
+        Wait::InCount(item, count, brace) => go_on_counting(
             stack,
             draft,
             item,

@@ -4,7 +4,7 @@ ghost use Rattle.std.specs.Prelude.{◌≡◌, ◌+◌, min, take};
 ghost use Rattle.kex_reader.specs.Lines.{behind_feed, feeds};
 
 // A number, or the greatest one below 2^32.
-fn held(n: u64) -> u32
+fn capped(n: u64) -> u32
     ensures { result ≡ min n 4294967295 }
 {
     match u32::try_from(n) {
@@ -29,5 +29,5 @@ pub fn place(text: &[u8], at: u32) -> (u32, u32)
             column += 1;
         }
     }
-    (held(line + 1), held(column + 1))
+    (capped(line + 1), capped(column + 1))
 }

@@ -2,7 +2,7 @@
 
 ghost use Rattle.std.specs.Prelude.{◌≡◌, IfOk, OnOk};
 ghost use Rattle.kex_tokens.specs.Lexemes.{IsToken};
-ghost use Rattle.kex_reader.specs.Shown.{assigned};
+ghost use Rattle.kex_reader.specs.Shown.{assignment_kind};
 ghost use Rattle.kex_reader.specs.Stands.{InPiece, Keeps, LosesNone, PieceShows, part_of, word_of};
 
 use crate::draft::Draft;
@@ -51,7 +51,7 @@ pub(crate) fn piece<'t>(
 impl Assignment {
     // What the node of the whole is.
     pub(crate) fn kind(self) -> NodeKind
-        ensures { result ≡ assigned self.append self.register self.pieces.items }
+        ensures { result ≡ assignment_kind self.append self.register self.pieces.items }
     {
         let pieces = Pieces::new(self.pieces);
         if self.append {

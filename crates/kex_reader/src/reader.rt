@@ -3,12 +3,12 @@
 ghost use Rattle.std.specs.Prelude.{◌≡◌, ℕ, ◌+◌, ◌<◌, ◌^◌, ◌++◌, ◌∷◌, ◌⊎◌, [], List, length, None, IfOk, IfErr, OnOk};
 ghost use Rattle.kex_tokens.specs.Lexemes.{IsToken};
 ghost use Rattle.kex_reader.specs.Holding.{EndLosesNone, FinishLosesNone, InPhase, InState, IsBehindState, ReaderEnds, ReaderFinishes, ReaderLosesNone, ReaderShows, ReaderSteps, WithinDefinition, whole_term};
-ghost use Rattle.kex_reader.specs.Reading.{Entry, Inside, State, entries, put as spec_put, Within, finish as spec_finish, finish_within as spec_finish_within, first_name, FirstName, spelled, step as spec_step, step_within, take_term};
+ghost use Rattle.kex_reader.specs.Reading.{Entry, Inside, State, entries, with_pre, Within, finish as spec_finish, finish_within as spec_finish_within, first_name, FirstName, words_read, step as spec_step, step_within, take_term};
 ghost use Rattle.kex_reader.specs.Shown.{IsName, ShowsAtom};
 ghost use Rattle.kex_reader.specs.Asked.{state_asks};
 ghost use Rattle.kex_reader.specs.Uses.{InStages, NodeNumber};
 ghost use Rattle.kex_reader.specs.Checks.{Check, Staged};
-ghost use Rattle.kex_reader.specs.Stands.{Behind, FramesShow, InFrames, Keeps, LosesNone, Noted, NotesMore, OnAtom, SomeAtom, SomeFrames, SomeInside, SomeName, word_of};
+ghost use Rattle.kex_reader.specs.Stands.{Behind, FramesShow, InFrames, Keeps, LosesNone, NotesLeast, NotesMore, OnAtom, SomeAtom, SomeFrames, SomeInside, SomeName, word_of};
 ghost use Rattle.kex_reader.specs.Syntax.{Atom, Call, Definition as SpecDefinition, Define, Once, Header, word as grammar_word};
 
 use crate::draft::Draft;
@@ -28,7 +28,7 @@ const MOST_STAGES: usize = 64;
 fn limit_stages(draft: &mut Draft, before: usize, at: u32)
     ensures held { LosesNone draft.old draft.new (λ x. ⊥) (λ x. ⊥) }
     ensures keeps { Keeps draft.old draft.new }
-    ensures notes { (cs : List Check) → Noted cs draft.old.broken → Noted (cs ++ Staged at (before + 1) ∷ []) draft.new.broken }
+    ensures notes { (cs : List Check) → NotesLeast cs draft.old.broken → NotesLeast (cs ++ Staged at (before + 1) ∷ []) draft.new.broken }
 {
     if before != MOST_STAGES {
         return;
@@ -104,7 +104,7 @@ impl<'t> Reader<'t> {
         ensures rest { OnOk result ((self.new.stack ≡ self.old.stack) × (self.new.definitions.items ≡ self.old.definitions.items)) }
         ensures read { IfOk result (λ p. (k : ℕ) × (p ≡ Phase.StageRead) × (word.entry.kind ≡ Kind.Name) × IsName self.new.draft k word.entry.spelling.now × (self.new.stages.items ≡ self.old.stages.items ++ record { name = k; at = word.entry.at } ∷ [])) }
         ensures fault { IfErr result (λ e. (e ≡ StepFault.Memory) ⊎ ((e ≡ StepFault.Wrong) × (word.entry.kind ≡ Kind.Name → ⊥))) }
-        ensures notes { (cs : List Check) → Noted cs self.old.draft.broken → OnOk result (Noted (cs ++ Staged word.entry.at (length self.old.stages.items + 1) ∷ []) self.new.draft.broken) }
+        ensures notes { (cs : List Check) → NotesLeast cs self.old.draft.broken → OnOk result (NotesLeast (cs ++ Staged word.entry.at (length self.old.stages.items + 1) ∷ []) self.new.draft.broken) }
     {
         let Kind::Name = word.kind else {
             return Err(StepFault::Wrong);
@@ -199,7 +199,7 @@ impl<'t> Reader<'t> {
         requires place { word.at + length word.spelling.now < 2 ^ 32 }
         ensures held { ReaderLosesNone self.old phase.entry self.new result }
         ensures step { (at : ℕ → ℕ) (s : State) → ReaderShows self.old at phase.entry s → IsBehindState at s word.entry.at → ReaderSteps self.new at result (spec_step s (word_of word.entry)) }
-        ensures notes { (at : ℕ → ℕ) (s : State) (cs : List Check) → ReaderShows self.old at phase.entry s → IsBehindState at s word.entry.at → Noted cs self.old.draft.broken → OnOk result (Noted (cs ++ state_asks at s (word_of word.entry)) self.new.draft.broken) }
+        ensures notes { (at : ℕ → ℕ) (s : State) (cs : List Check) → ReaderShows self.old at phase.entry s → IsBehindState at s word.entry.at → NotesLeast cs self.old.draft.broken → OnOk result (NotesLeast (cs ++ state_asks at s (word_of word.entry)) self.new.draft.broken) }
     {
         let name = Name {
             bytes: word.spelling,
@@ -251,7 +251,7 @@ impl<'t> Reader<'t> {
         ensures held { OnOk result (EndLosesNone self.old self.new head (InFrames self.old.stack)) }
         ensures keeps { OnOk result (Keeps self.old.draft self.new.draft) }
         ensures stages { OnOk result (self.new.stages.items ≡ self.old.stages.items) }
-        ensures ends { Behind self.old.draft self.old.stack name.entry.at (λ at base es. ReaderEnds self.old self.new at base head result (whole_term (take_term (spec_put (Once (Call name.entry.bytes.now)) es)))) }
+        ensures ends { Behind self.old.draft self.old.stack name.entry.at (λ at base es. ReaderEnds self.old self.new at base head result (whole_term (take_term (with_pre (Once (Call name.entry.bytes.now)) es)))) }
         ensures broken { OnOk result (self.new.draft.broken ≡ self.old.draft.broken) }
     {
         let item = call(&mut self.draft, name)?;
@@ -264,7 +264,7 @@ impl<'t> Reader<'t> {
         ensures held { OnOk result (EndLosesNone self.old self.new head (λ x. (x ≡ NodeNumber item.node) ⊎ InFrames self.old.stack x)) }
         ensures keeps { OnOk result (Keeps self.old.draft self.new.draft) }
         ensures stages { OnOk result (self.new.stages.items ≡ self.old.stages.items) }
-        ensures ends { OnAtom self.old.draft self.old.stack item (λ at base es a. ReaderEnds self.old self.new at base head result (whole_term (take_term (spec_put (Once a) es)))) }
+        ensures ends { OnAtom self.old.draft self.old.stack item (λ at base es a. ReaderEnds self.old self.new at base head result (whole_term (take_term (with_pre (Once a) es)))) }
         ensures broken { OnOk result (self.new.draft.broken ≡ self.old.draft.broken) }
     {
         put(&mut self.stack, &mut self.draft, item)?;

@@ -1,7 +1,7 @@
 // What stands open in a definition.
 
 ghost use Rattle.std.specs.Prelude.{◌≡◌, ℕ, Bool, List, [], ◌∷◌, length, OnOk, IfSome, IfNone, ◌==◌};
-ghost use Rattle.kex_reader.specs.Stands.{opens, open_frames, frame_of};
+ghost use Rattle.kex_reader.specs.Stands.{is_opening, open_frames, frame_of};
 
 use kex_code::memory::Memory;
 use std::alloc::Global;
@@ -60,7 +60,7 @@ impl Model for Stack {
 
 impl Frame {
     fn is_open(self) -> bool
-        ensures { result ≡ opens self }
+        ensures { result ≡ is_opening self }
     {
         match self {
             Frame::Mark(_) => true,

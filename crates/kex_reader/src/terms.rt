@@ -1,9 +1,9 @@
 // What has ended becomes one node.
 
 ghost use Rattle.std.specs.Prelude.{◌≡◌, ℕ, ◌+◌, ◌<◌, ◌⊎◌, List, length, IfOk, OnOk};
-ghost use Rattle.kex_reader.specs.Reading.{Entry, entries, put as spec_put, take_seq, take_term};
+ghost use Rattle.kex_reader.specs.Reading.{Entry, entries, with_pre, take_seq, take_term};
 ghost use Rattle.kex_reader.specs.Shown.{IsNode, ShowsPre};
-ghost use Rattle.kex_reader.specs.Stands.{FramesShow, HasRegister, InFrame, InFrames, InPart, Keeps, LosesNone, SeqTaken, SomeFrames, SomePre, TermTaken, frame_of, prefix_at, prefixed_kind};
+ghost use Rattle.kex_reader.specs.Stands.{FramesShow, HasRegisterBelow, InFrame, InFrames, InPart, Keeps, LosesNone, SeqTaken, SomeFrames, SomePre, TermTaken, frame_of, prefix_at, prefixed_kind};
 ghost use Rattle.kex_reader.specs.Uses.{NodeNumber};
 ghost use Rattle.kex_reader.specs.Syntax.{Pre};
 
@@ -18,7 +18,7 @@ pub(crate) fn put(stack: &mut Stack, draft: &mut Draft, part: Part) -> Result<()
     ensures keeps { OnOk result (Keeps draft.old draft.new) }
     ensures broken { OnOk result (draft.new.broken ≡ draft.old.broken) }
     ensures held { OnOk result (LosesNone draft.old draft.new (λ x. (x ≡ NodeNumber part.node) ⊎ InFrames stack.old x) (InFrames stack.new)) }
-    ensures put { OnOk result ((at : ℕ → ℕ) (base : ℕ) (es : List Entry) (p : Pre) → FramesShow draft.old at base stack.old es → part.at ≡ at (base + length (entries es)) → ShowsPre p draft.old at part.node (base + length (entries es)) → FramesShow draft.new at base stack.new (spec_put p es)) }
+    ensures put { OnOk result ((at : ℕ → ℕ) (base : ℕ) (es : List Entry) (p : Pre) → FramesShow draft.old at base stack.old es → part.at ≡ at (base + length (entries es)) → ShowsPre p draft.old at part.node (base + length (entries es)) → FramesShow draft.new at base stack.new (with_pre p es)) }
 {
     let mut whole = part;
     while let Some(prefix) = stack.take_prefix() {
@@ -32,7 +32,7 @@ pub(crate) fn put(stack: &mut Stack, draft: &mut Draft, part: Part) -> Result<()
 // A member behind a prefix.
 fn prefixed(draft: &mut Draft, prefix: Prefix, part: Part) -> Result<Part, Memory>
     requires within { part.node < length draft.old.nodes }
-    requires register { HasRegister (length draft.old.registers) prefix }
+    requires register { HasRegisterBelow (length draft.old.registers) prefix }
     ensures keeps { OnOk result (Keeps draft.old draft.new) }
     ensures broken { OnOk result (draft.new.broken ≡ draft.old.broken) }
     ensures node { IfOk result (λ w. IsNode draft.new w.node (prefixed_kind prefix part.node) (prefix_at prefix)) }

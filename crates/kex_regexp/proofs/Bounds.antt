@@ -14,7 +14,7 @@ use Rattle.kex_regexp.specs.Grammar.{Regex, Last, Or, Branch, Empty, Then, Piece
 use Rattle.kex_regexp.specs.Machine.{Entry, Read}
 use Rattle.kex_regexp.specs.Holding.{HoldsRegex, HoldsBranch, HoldsPiece, HoldsItem, FramesShow, SomeFrames, SomeItem, SomeState, SomeBehind}
 use Rattle.kex_regexp.proofs.Stacks.{BranchSoFar, RegexSoFar, piece_on, ended_on, reverse_push}
-use Rattle.kex_regexp.proofs.Stepping.{mode_ready, mode_after, mode_count, ready_place, after_place, once_shows, once_ends}
+use Rattle.kex_regexp.proofs.ShownSteps.{mode_ready, mode_after, mode_count, ready_place, after_place, once_shows, once_ends}
 
 pub turns_within : (t : Bool) (nodes : List Node) (n l : ℕ) (m : Node) → MatchBool t (n ≡ l) (slice_get nodes n ≡ Some m) → l < length nodes → n < length nodes
 turns_within true nodes n l m h lt = omega (arith, h, lt)

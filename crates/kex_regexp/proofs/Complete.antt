@@ -4,7 +4,7 @@ use Rattle.std.specs.Prelude.{◌==◌}
 use Rattle.std.proofs.lemmas.Bool.{ne_eqb, false≢true}
 use Rattle.std.proofs.lemmas.List.{append-nil}
 use Rattle.kex_regexp.specs.Grammar.{is_plain, is_among, is_punctuation, is_digit, is_hex, is_end, Escape, Newline, Tab, Return, Hex, Punctuation, End, Itself, EscapedEnd, Member, Single, Range, Postfix, Star, Plus, Quest, Exactly, AtLeast, AtMost, Within, Regex, Last, Or, Branch, Empty, Then, Piece, Once, Turns, Item, Plain, Escaped, Dot, Set, Group, escape, end_of, member, members, caret, postfix, regex, branch, piece, item, IsEscape, IsEnd, IsMember, AreMembers, begins_with_caret, IsSet, AreDigits, IsNumber, IsPostfix, IsRegex, IsBranch, IsPiece, IsItem}
-use Rattle.kex_regexp.specs.Machine.{Escaping, Begun, HexBegun, HexOne, EscapeStep, EscapeOn, EscapeRead, escape_step, Part, AtStart, Between, HasEnd, HasDash, InFirst, InLast, SetStep, SetOn, SetRead, begin_member, between_step, in_first, in_last, set_step, Counting, Opened, Low, LowComma, LowHigh, OnlyComma, High, CountOn, CountRead, count_step, Entry, Mark, Ended, Read, Mode, Ready, After, InEscape, InSet, InCount, State, take_pieces, take_branches, take_regex, goes, close, end_branch, begin_piece, after_item, on_escape, on_set, on_count, step_in, step, next, reads}
+use Rattle.kex_regexp.specs.Machine.{Escaping, Begun, HexBegun, HexOne, EscapeStep, EscapeOn, EscapeRead, escape_step, Part, AtStart, Between, HasEnd, HasDash, InFirst, InLast, SetStep, SetOn, SetRead, begin_member, between_step, in_first, in_last, set_step, Counting, Opened, Low, LowComma, LowHigh, OnlyComma, High, CountOn, CountRead, count_step, Entry, Mark, Ended, Read, Mode, Ready, After, InEscape, InSet, InCount, State, take_pieces, take_branches, take_regex, goes, after_group, end_branch, begin_piece, after_item, on_escape, on_set, on_count, step_in, step, next, state_after}
 
 -- ---- tests
 
@@ -22,24 +22,24 @@ cond_no false x y e = refl
 
 -- ---- runs
 
-pub reads-append : (o : Option State) (u v : List ℕ) → reads o (u ++ v) ≡ reads (reads o u) v
-unfolding reads
+pub reads-append : (o : Option State) (u v : List ℕ) → state_after o (u ++ v) ≡ state_after (state_after o u) v
+unfolding state_after
 reads-append o [] v = refl
 reads-append o (b ∷ u) v = reads-append (next o b) u v
 
-pub then_reads : (o p q : Option State) (u v : List ℕ) → reads o u ≡ p → reads p v ≡ q → reads o (u ++ v) ≡ q
-then_reads o p q u v e f = reads-append o u v ∙ ap (λ (x : Option State). reads x v) e ∙ f
+pub then_reads : (o p q : Option State) (u v : List ℕ) → state_after o u ≡ p → state_after p v ≡ q → state_after o (u ++ v) ≡ q
+then_reads o p q u v e f = reads-append o u v ∙ ap (λ (x : Option State). state_after x v) e ∙ f
 
-pub one_byte : (o p : Option State) (b : ℕ) → next o b ≡ p → reads o (b ∷ []) ≡ p
-unfolding reads
+pub one_byte : (o p : Option State) (b : ℕ) → next o b ≡ p → state_after o (b ∷ []) ≡ p
+unfolding state_after
 one_byte o p b e = e
 
-pub byte_then : (o p q : Option State) (b : ℕ) (v : List ℕ) → next o b ≡ p → reads p v ≡ q → reads o (b ∷ v) ≡ q
-unfolding reads
-byte_then o p q b v e f = ap (λ (x : Option State). reads x v) e ∙ f
+pub byte_then : (o p q : Option State) (b : ℕ) (v : List ℕ) → next o b ≡ p → state_after p v ≡ q → state_after o (b ∷ v) ≡ q
+unfolding state_after
+byte_then o p q b v e f = ap (λ (x : Option State). state_after x v) e ∙ f
 
-pub reads_none : (w : List ℕ) → reads None w ≡ None
-unfolding reads next
+pub reads_none : (w : List ℕ) → state_after None w ≡ None
+unfolding state_after next
 reads_none [] = refl
 reads_none (b ∷ w) = reads_none w
 
@@ -67,7 +67,7 @@ punctuation_read b h =
     ∙ cond_no (b == 114) _ _ (apart is_punctuation b 114 h refl) ∙ cond_no (b == 120) _ _ (apart is_punctuation b 120 h refl)
     ∙ cond_yes (is_punctuation b) _ _ h
 
-pub escape_reads : (on : EscapeStep → Option State) → ((e : Escaping) (b : ℕ) → next (on (EscapeOn e)) b ≡ on (escape_step e b)) → (x : Escape) → IsEscape x → reads (on (EscapeOn Begun)) (escape_tail x) ≡ on (EscapeRead x)
+pub escape_reads : (on : EscapeStep → Option State) → ((e : Escaping) (b : ℕ) → next (on (EscapeOn e)) b ≡ on (escape_step e b)) → (x : Escape) → IsEscape x → state_after (on (EscapeOn Begun)) (escape_tail x) ≡ on (EscapeRead x)
 unfolding escape_tail IsEscape escape_step
 escape_reads on steps Newline h = one_byte _ _ 110 (steps Begun 110)
 escape_reads on steps Tab h = one_byte _ _ 116 (steps Begun 116)
@@ -133,11 +133,11 @@ pub not_bracket : (b : ℕ) → is_end b ≡ true → (b == 93) ≡ false
 unfolding is_end
 not_bracket b h = apart is_end b 93 h refl
 
-pub first_escape : (es : List Entry) (negated : Bool) (ms : List Member) (x : Escape) → IsEscape x → reads (in_set es negated ms (InFirst Begun)) (escape_tail x) ≡ in_set es negated ms (HasEnd (EscapedEnd x))
+pub first_escape : (es : List Entry) (negated : Bool) (ms : List Member) (x : Escape) → IsEscape x → state_after (in_set es negated ms (InFirst Begun)) (escape_tail x) ≡ in_set es negated ms (HasEnd (EscapedEnd x))
 unfolding in_set in_first on_set next step step_in set_step
 first_escape es negated ms x h = escape_reads (λ t. on_set es (in_first negated ms t)) (λ e b. refl) x h
 
-pub last_escape : (es : List Entry) (negated : Bool) (ms : List Member) (first : End) (x : Escape) → IsEscape x → reads (in_set es negated ms (InLast first Begun)) (escape_tail x) ≡ in_set es negated (ms ++ Range first (EscapedEnd x) ∷ []) Between
+pub last_escape : (es : List Entry) (negated : Bool) (ms : List Member) (first : End) (x : Escape) → IsEscape x → state_after (in_set es negated ms (InLast first Begun)) (escape_tail x) ≡ in_set es negated (ms ++ Range first (EscapedEnd x) ∷ []) Between
 unfolding in_set in_last on_set next step step_in set_step
 last_escape es negated ms first x h = escape_reads (λ t. on_set es (in_last negated ms first t)) (λ e b. refl) x h
 
@@ -178,27 +178,27 @@ unfolding members
 regroup m ms = append_assoc (member m) (members ms) (93 ∷ [])
 
 -- the first end of a member
-pub first_reads : (es : List Entry) (negated : Bool) (ms : List Member) (p : Part) (ns : List Member) (end : End) → SetReady ms p ns → IsEnd end → reads (in_set es negated ms p) (end_of end) ≡ in_set es negated ns (HasEnd end)
+pub first_reads : (es : List Entry) (negated : Bool) (ms : List Member) (p : Part) (ns : List Member) (end : End) → SetReady ms p ns → IsEnd end → state_after (in_set es negated ms p) (end_of end) ≡ in_set es negated ns (HasEnd end)
 unfolding end_of IsEnd
 first_reads es negated ms p ns (Itself b) r h =
     one_byte _ _ b (set_moves es negated ms p b ns (HasEnd (Itself b))
     (set_begins negated ms p ns b r (not_dash b h) ∙ between_begins negated ns b (not_bracket b h) ∙ begin_plain negated ns b h))
 first_reads es negated ms p ns (EscapedEnd x) r h =
-    ap (reads (in_set es negated ms p)) (escape_is x)
+    ap (state_after (in_set es negated ms p)) (escape_is x)
     ∙ byte_then _ (in_set es negated ns (InFirst Begun)) _ 92 (escape_tail x)
     (set_moves es negated ms p 92 ns (InFirst Begun) (set_begins negated ms p ns 92 r refl ∙ between_begins negated ns 92 refl ∙ begin_escape negated ns))
     (first_escape es negated ns x h)
 
-pub last_reads : (es : List Entry) (negated : Bool) (ms : List Member) (first end : End) → IsEnd end → reads (in_set es negated ms (HasDash first)) (end_of end) ≡ in_set es negated (ms ++ Range first end ∷ []) Between
+pub last_reads : (es : List Entry) (negated : Bool) (ms : List Member) (first end : End) → IsEnd end → state_after (in_set es negated ms (HasDash first)) (end_of end) ≡ in_set es negated (ms ++ Range first end ∷ []) Between
 unfolding end_of IsEnd
 last_reads es negated ms first (Itself b) h = one_byte _ _ b (set_moves es negated ms (HasDash first) b (ms ++ Range first (Itself b) ∷ []) Between (last_plain negated ms first b h))
 last_reads es negated ms first (EscapedEnd x) h =
-    ap (reads (in_set es negated ms (HasDash first))) (escape_is x)
+    ap (state_after (in_set es negated ms (HasDash first))) (escape_is x)
     ∙ byte_then _ (in_set es negated ms (InLast first Begun)) _ 92 (escape_tail x)
     (set_moves es negated ms (HasDash first) 92 ms (InLast first Begun) (last_escape_begins negated ms first))
     (last_escape es negated ms first x h)
 
-pub member_reads : (es : List Entry) (negated : Bool) (ms : List Member) (p : Part) (ns : List Member) (m : Member) → SetReady ms p ns → IsMember m → (q : Part) × (os : List Member) × SetReady os q (ns ++ m ∷ []) × (reads (in_set es negated ms p) (member m) ≡ in_set es negated os q)
+pub member_reads : (es : List Entry) (negated : Bool) (ms : List Member) (p : Part) (ns : List Member) (m : Member) → SetReady ms p ns → IsMember m → (q : Part) × (os : List Member) × SetReady os q (ns ++ m ∷ []) × (state_after (in_set es negated ms p) (member m) ≡ in_set es negated os q)
 unfolding member IsMember SetReady
 member_reads es negated ms p ns (Single end) r h = (HasEnd end, ns, refl, first_reads es negated ms p ns end r h)
 member_reads es negated ms p ns (Range first last) r h = (
@@ -210,8 +210,8 @@ member_reads es negated ms p ns (Range first last) r h = (
       (last_reads es negated ns first last h.1)),
 )
 
-pub members_read : (es : List Entry) (negated : Bool) (ms : List Member) (p : Part) (ns os : List Member) → SetReady ms p ns → AreMembers os → (q : Part) × (ks : List Member) × SetReady ks q (ns ++ os) × (reads (in_set es negated ms p) (members os) ≡ in_set es negated ks q)
-unfolding members AreMembers reads
+pub members_read : (es : List Entry) (negated : Bool) (ms : List Member) (p : Part) (ns os : List Member) → SetReady ms p ns → AreMembers os → (q : Part) × (ks : List Member) × SetReady ks q (ns ++ os) × (state_after (in_set es negated ms p) (members os) ≡ in_set es negated ks q)
+unfolding members AreMembers state_after
 members_read es negated ms p ns [] r h = (p, ms, subst (λ (x : List Member). SetReady ms p x) (sym (append-nil ns)) r, refl)
 members_read es negated ms p ns (m ∷ os) r h =
     let a = member_reads es negated ms p ns m r h.0 in
@@ -219,12 +219,12 @@ members_read es negated ms p ns (m ∷ os) r h =
     (b.0, b.1, subst (λ (x : List Member). SetReady b.1 b.0 x) (append_assoc ns (m ∷ []) os) b.2, then_reads _ (in_set es negated a.1 a.0) _ (member m) (members os) a.3 b.3)
 
 -- the bracket that closes
-pub set_closes : (es : List Entry) (negated : Bool) (ms : List Member) (p : Part) (m : Member) (ns : List Member) → SetReady ms p (m ∷ ns) → reads (in_set es negated ms p) (93 ∷ []) ≡ goes (After (Set negated (m ∷ ns))) es
+pub set_closes : (es : List Entry) (negated : Bool) (ms : List Member) (p : Part) (m : Member) (ns : List Member) → SetReady ms p (m ∷ ns) → state_after (in_set es negated ms p) (93 ∷ []) ≡ goes (After (Set negated (m ∷ ns))) es
 set_closes es negated ms p m ns r =
     one_byte _ _ 93 (set_next es negated ms p 93 (SetRead negated (m ∷ ns)) (set_begins negated ms p (m ∷ ns) 93 r refl ∙ set_ends negated m ns) ∙ on_set_read es negated (m ∷ ns))
 
 -- the members from the first on, and the bracket
-pub set_rest : (es : List Entry) (negated : Bool) (m : Member) (ms : List Member) → AreMembers (m ∷ ms) → reads (in_set es negated [] Between) (members (m ∷ ms) ++ 93 ∷ []) ≡ goes (After (Set negated (m ∷ ms))) es
+pub set_rest : (es : List Entry) (negated : Bool) (m : Member) (ms : List Member) → AreMembers (m ∷ ms) → state_after (in_set es negated [] Between) (members (m ∷ ms) ++ 93 ∷ []) ≡ goes (After (Set negated (m ∷ ms))) es
 set_rest es negated m ms h =
     let a = members_read es negated [] Between [] (m ∷ ms) (ready_none) h in
     then_reads _ (in_set es negated a.1 a.0) _ (members (m ∷ ms)) (93 ∷ []) a.3 (set_closes es negated a.1 a.0 m ms a.2)
@@ -257,19 +257,19 @@ no_caret_first (Single (EscapedEnd x)) h = refl
 no_caret_first (Range (EscapedEnd x) last) h = refl
 
 -- from the bracket on, without a caret, a first member is read as between members
-pub from_start : (es : List Entry) (m : Member) (w : List ℕ) → begins_with_caret m ≡ false → reads (in_set es false [] AtStart) (member m ++ w) ≡ reads (in_set es false [] Between) (member m ++ w)
-unfolding reads
+pub from_start : (es : List Entry) (m : Member) (w : List ℕ) → begins_with_caret m ≡ false → state_after (in_set es false [] AtStart) (member m ++ w) ≡ state_after (in_set es false [] Between) (member m ++ w)
+unfolding state_after
 from_start es m w h =
-    ap (λ (u : List ℕ). reads (in_set es false [] AtStart) (u ++ w)) (member_is m)
-    ∙ ap (λ (o : Option State). reads o (member_tail m ++ w)) (start_as_between es (first_byte m) (no_caret_first m h))
-    ∙ ap (λ (u : List ℕ). reads (in_set es false [] Between) (u ++ w)) (sym (member_is m))
+    ap (λ (u : List ℕ). state_after (in_set es false [] AtStart) (u ++ w)) (member_is m)
+    ∙ ap (λ (o : Option State). state_after o (member_tail m ++ w)) (start_as_between es (first_byte m) (no_caret_first m h))
+    ∙ ap (λ (u : List ℕ). state_after (in_set es false [] Between) (u ++ w)) (sym (member_is m))
 
-pub set_reads : (es : List Entry) (negated : Bool) (ms : List Member) → IsSet negated ms → reads (in_set es false [] AtStart) (caret negated ++ (members ms ++ 93 ∷ [])) ≡ goes (After (Set negated ms)) es
+pub set_reads : (es : List Entry) (negated : Bool) (ms : List Member) → IsSet negated ms → state_after (in_set es false [] AtStart) (caret negated ++ (members ms ++ 93 ∷ [])) ≡ goes (After (Set negated ms)) es
 unfolding IsSet caret AreMembers
 set_reads es negated [] h = absurd h
 set_reads es true (m ∷ ms) h = byte_then _ (in_set es true [] Between) _ 94 (members (m ∷ ms) ++ 93 ∷ []) (caret_step es) (set_rest es true m ms h)
 set_reads es false (m ∷ ms) h =
-    ap (reads (in_set es false [] AtStart)) (regroup m ms) ∙ from_start es m (members ms ++ 93 ∷ []) h.0 ∙ ap (reads (in_set es false [] Between)) (sym (regroup m ms)) ∙ set_rest es false m ms (h.1, h.2)
+    ap (state_after (in_set es false [] AtStart)) (regroup m ms) ∙ from_start es m (members ms ++ 93 ∷ []) h.0 ∙ ap (state_after (in_set es false [] Between)) (sym (regroup m ms)) ∙ set_rest es false m ms (h.1, h.2)
 
 -- ---- counts
 
@@ -280,20 +280,20 @@ pub count_moves : (i : Item) (es : List Entry) (c d : Counting) (b : ℕ) → co
 unfolding in_count next step step_in on_count
 count_moves i es c d b e = ap (on_count i es) e
 
-pub count_ends : (i : Item) (es : List Entry) (c : Counting) (b : ℕ) (p : Postfix) → count_step c b ≡ CountRead p → reads (in_count i es c) (b ∷ []) ≡ goes Ready (Read (Turns i p) ∷ es)
+pub count_ends : (i : Item) (es : List Entry) (c : Counting) (b : ℕ) (p : Postfix) → count_step c b ≡ CountRead p → state_after (in_count i es c) (b ∷ []) ≡ goes Ready (Read (Turns i p) ∷ es)
 unfolding in_count next step step_in on_count
 count_ends i es c b p e = one_byte _ _ b (ap (on_count i es) e)
 
 -- digits go on
-pub digits_read : (i : Item) (es : List Entry) (mk : List ℕ → Counting) → ((n : List ℕ) (b : ℕ) → is_digit b ≡ true → count_step (mk n) b ≡ CountOn (mk (n ++ b ∷ []))) → (n ds : List ℕ) → AreDigits ds → reads (in_count i es (mk n)) ds ≡ in_count i es (mk (n ++ ds))
-unfolding AreDigits reads
+pub digits_read : (i : Item) (es : List Entry) (mk : List ℕ → Counting) → ((n : List ℕ) (b : ℕ) → is_digit b ≡ true → count_step (mk n) b ≡ CountOn (mk (n ++ b ∷ []))) → (n ds : List ℕ) → AreDigits ds → state_after (in_count i es (mk n)) ds ≡ in_count i es (mk (n ++ ds))
+unfolding AreDigits state_after
 digits_read i es mk st n [] h = ap (λ (x : List ℕ). in_count i es (mk x)) (sym (append-nil n))
 digits_read i es mk st n (d ∷ ds) h =
     byte_then _ (in_count i es (mk (n ++ d ∷ []))) _ d ds (count_moves i es (mk n) (mk (n ++ d ∷ [])) d (st n d h.0))
     (digits_read i es mk st (n ++ d ∷ []) ds h.1 ∙ ap (λ (x : List ℕ). in_count i es (mk x)) (append_assoc n (d ∷ []) ds))
 
 -- a number from its first digit on
-pub number_reads : (i : Item) (es : List Entry) (c : Counting) (mk : List ℕ → Counting) → ((b : ℕ) → is_digit b ≡ true → count_step c b ≡ CountOn (mk (b ∷ []))) → ((n : List ℕ) (b : ℕ) → is_digit b ≡ true → count_step (mk n) b ≡ CountOn (mk (n ++ b ∷ []))) → (ds : List ℕ) → IsNumber ds → reads (in_count i es c) ds ≡ in_count i es (mk ds)
+pub number_reads : (i : Item) (es : List Entry) (c : Counting) (mk : List ℕ → Counting) → ((b : ℕ) → is_digit b ≡ true → count_step c b ≡ CountOn (mk (b ∷ []))) → ((n : List ℕ) (b : ℕ) → is_digit b ≡ true → count_step (mk n) b ≡ CountOn (mk (n ++ b ∷ []))) → (ds : List ℕ) → IsNumber ds → state_after (in_count i es c) ds ≡ in_count i es (mk ds)
 unfolding IsNumber
 number_reads i es c mk f st [] h = absurd h
 number_reads i es c mk f st (d ∷ ds) h = byte_then _ (in_count i es (mk (d ∷ []))) _ d ds (count_moves i es c (mk (d ∷ [])) d (f d h.0)) (digits_read i es mk st (d ∷ []) ds h.1)
@@ -351,7 +351,7 @@ pub after_sign : (i : Item) (es : List Entry) (b : ℕ) (o : Option State) → a
 unfolding next step step_in
 after_sign i es b o e = e
 
-pub postfix_reads : (i : Item) (es : List Entry) (p : Postfix) → IsPostfix p → reads (goes (After i) es) (postfix p) ≡ goes Ready (Read (Turns i p) ∷ es)
+pub postfix_reads : (i : Item) (es : List Entry) (p : Postfix) → IsPostfix p → state_after (goes (After i) es) (postfix p) ≡ goes Ready (Read (Turns i p) ∷ es)
 unfolding postfix IsPostfix after_item in_count
 postfix_reads i es Star h = one_byte _ _ 42 (after_sign i es 42 _ refl)
 postfix_reads i es Plus h = one_byte _ _ 43 (after_sign i es 43 _ refl)
@@ -466,8 +466,8 @@ unfolding is_sign begin_piece is_plain end_branch
 bar_step m es b fs r h = begins m es (pieces_onto b fs) 124 r refl ∙ ap end_branch (branch_taken b fs h)
 
 pub close_step : (m : Mode) (es : List Entry) (r : Regex) (fs : List Entry) → MayBegin m es (regex_onto r (Mark ∷ fs)) → next (goes m es) 41 ≡ goes (After (Group r)) fs
-unfolding is_sign begin_piece is_plain close IsBase take_branches
-close_step m es r fs q = begins m es (regex_onto r (Mark ∷ fs)) 41 q refl ∙ ap close (regex_taken r (Mark ∷ fs) tt)
+unfolding is_sign begin_piece is_plain after_group IsBase take_branches
+close_step m es r fs q = begins m es (regex_onto r (Mark ∷ fs)) 41 q refl ∙ ap after_group (regex_taken r (Mark ∷ fs) tt)
 
 unfoldable pub Begins : List Entry → Option State → Type 0
 Begins fs o = (m : Mode) × (es : List Entry) × MayBegin m es fs × (o ≡ goes m es)
@@ -512,35 +512,35 @@ pub no_sign_40 : is_sign 40 ≡ false
 unfolding is_sign
 no_sign_40 = refl
 
-pub item_escape : (es : List Entry) (x : Escape) → IsEscape x → reads (goes (InEscape Begun) es) (escape_tail x) ≡ goes (After (Escaped x)) es
+pub item_escape : (es : List Entry) (x : Escape) → IsEscape x → state_after (goes (InEscape Begun) es) (escape_tail x) ≡ goes (After (Escaped x)) es
 unfolding on_escape next step step_in
 item_escape es x h = escape_reads (on_escape es) (λ e b. refl) x h
 
 mutual
-  unfolding IsRegex regex regex_onto Begins IsBranch branch pieces_onto IsPiece piece IsItem item IsBase reads MayBegin
+  unfolding IsRegex regex regex_onto Begins IsBranch branch pieces_onto IsPiece piece IsItem item IsBase state_after MayBegin
 
-  pub regex_reads : (r : Regex) → IsRegex r → (m : Mode) (es fs : List Entry) → MayBegin m es fs → IsBase fs → Begins (regex_onto r fs) (reads (goes m es) (regex r))
+  pub regex_reads : (r : Regex) → IsRegex r → (m : Mode) (es fs : List Entry) → MayBegin m es fs → IsBase fs → Begins (regex_onto r fs) (state_after (goes m es) (regex r))
   regex_reads (Last b) h m es fs r base = branch_reads b h m es fs r
   regex_reads (Or b q) h m es fs r base =
       let a = branch_reads b h.0 m es fs r in
       let c = regex_reads q h.1 Ready (Ended b ∷ fs) (Ended b ∷ fs) refl tt in
       (c.0, c.1, c.2, then_reads _ (goes a.0 a.1) _ (branch b) (124 ∷ regex q) a.3 (byte_then _ (goes Ready (Ended b ∷ fs)) _ 124 (regex q) (bar_step a.0 a.1 b fs a.2 base) c.3))
 
-  pub branch_reads : (b : Branch) → IsBranch b → (m : Mode) (es fs : List Entry) → MayBegin m es fs → Begins (pieces_onto b fs) (reads (goes m es) (branch b))
+  pub branch_reads : (b : Branch) → IsBranch b → (m : Mode) (es fs : List Entry) → MayBegin m es fs → Begins (pieces_onto b fs) (state_after (goes m es) (branch b))
   branch_reads Empty h m es fs r = (m, es, r, refl)
   branch_reads (Then p b) h m es fs r =
       let a = piece_reads p h.0 m es fs r in
       let c = branch_reads b h.1 a.0 a.1 (Read p ∷ fs) a.2 in
       (c.0, c.1, c.2, then_reads _ (goes a.0 a.1) _ (piece p) (branch b) a.3 c.3)
 
-  pub piece_reads : (p : Piece) → IsPiece p → (m : Mode) (es fs : List Entry) → MayBegin m es fs → Begins (Read p ∷ fs) (reads (goes m es) (piece p))
+  pub piece_reads : (p : Piece) → IsPiece p → (m : Mode) (es fs : List Entry) → MayBegin m es fs → Begins (Read p ∷ fs) (state_after (goes m es) (piece p))
   piece_reads (Once i) h m es fs r = (After i, fs, refl, item_reads i h m es fs r)
   piece_reads (Turns i p) h m es fs r = (Ready, Read (Turns i p) ∷ fs, refl, then_reads _ (goes (After i) fs) _ (item i) (postfix p) (item_reads i h.0 m es fs r) (postfix_reads i fs p h.1))
 
-  pub item_reads : (i : Item) → IsItem i → (m : Mode) (es fs : List Entry) → MayBegin m es fs → reads (goes m es) (item i) ≡ goes (After i) fs
+  pub item_reads : (i : Item) → IsItem i → (m : Mode) (es fs : List Entry) → MayBegin m es fs → state_after (goes m es) (item i) ≡ goes (After i) fs
   item_reads (Plain b) h m es fs r = one_byte _ _ b (begins m es fs b r (plain_no_sign b h) ∙ begin_byte fs b h)
   item_reads (Escaped x) h m es fs r =
-      ap (reads (goes m es)) (escape_is x) ∙ byte_then _ (goes (InEscape Begun) fs) _ 92 (escape_tail x) (begins m es fs 92 r no_sign_92 ∙ begin_92 fs) (item_escape fs x h)
+      ap (state_after (goes m es)) (escape_is x) ∙ byte_then _ (goes (InEscape Begun) fs) _ 92 (escape_tail x) (begins m es fs 92 r no_sign_92 ∙ begin_92 fs) (item_escape fs x h)
   item_reads Dot h m es fs r = one_byte _ _ 46 (begins m es fs 46 r no_sign_46 ∙ begin_46 fs)
   item_reads (Set negated ms) h m es fs r = byte_then _ (in_set fs false [] AtStart) _ 91 (caret negated ++ (members ms ++ 93 ∷ [])) (begins m es fs 91 r no_sign_91 ∙ begin_91 fs) (set_reads fs negated ms h)
   item_reads (Group q) h m es fs r =

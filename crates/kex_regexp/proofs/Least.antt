@@ -30,12 +30,12 @@ not_after a b e = not_before (rank a) (offset a) (rank b) (offset b) e
 
 -- ---- what a fold leaves is one of them, and none comes before it
 
-pub record IsLeft (o : Option Break) (bs : List Break) (b : Break) : Type 0 where
+pub record IsLeastFrom (o : Option Break) (bs : List Break) (b : Break) : Type 0 where
   pub among : (o ≡ Some b) ⊎ IsAmong bs b
   pub first : (a : Break) → o ≡ Some a → comes_before a b ≡ false
   pub rest : (c : Break) → IsAmong bs c → comes_before c b ≡ false
 
-pub left_later : (x b : Break) (bs : List Break) → IsLeft (Some x) bs b → IsLeft None (x ∷ bs) b
+pub left_later : (x b : Break) (bs : List Break) → IsLeastFrom (Some x) bs b → IsLeastFrom None (x ∷ bs) b
 left_later x b bs h = record {
   among = elim h.among [ inl e ↦ inr (inl (some_same x b e)) | inr i ↦ inr (inr i) ];
   first = λ a e. absurd cc;
@@ -49,7 +49,7 @@ pub some_is : (a b : Break) → Some a ≡ Some b → a ≡ b
 some_is a b e = cc
 
 -- x comes before a, so a is left out
-pub left_out : (a x b : Break) (bs : List Break) → comes_before x a ≡ true → IsLeft (Some x) bs b → IsLeft (Some a) (x ∷ bs) b
+pub left_out : (a x b : Break) (bs : List Break) → comes_before x a ≡ true → IsLeastFrom (Some x) bs b → IsLeastFrom (Some a) (x ∷ bs) b
 left_out a x b bs e h = record {
   among = elim h.among [ inl f ↦ inr (inl (some_is x b f)) | inr i ↦ inr (inr i) ];
   first = λ y f. subst (λ (z : Break). comes_before z b ≡ false) (some_is a y f) (neither a x b (not_after x a e) (h.first x refl));
@@ -57,18 +57,18 @@ left_out a x b bs e h = record {
 }
 
 -- x doesn't, so x is left out
-pub left_in : (a x b : Break) (bs : List Break) → comes_before x a ≡ false → IsLeft (Some a) bs b → IsLeft (Some a) (x ∷ bs) b
+pub left_in : (a x b : Break) (bs : List Break) → comes_before x a ≡ false → IsLeastFrom (Some a) bs b → IsLeastFrom (Some a) (x ∷ bs) b
 left_in a x b bs e h = record {
   among = elim h.among [ inl f ↦ inl f | inr i ↦ inr (inr i) ];
   first = h.first;
   rest = λ c i. elim i [ inl f ↦ subst (λ (y : Break). comes_before y b ≡ false) f (neither x a b e (h.first a refl)) | inr j ↦ h.rest c j ];
 }
 
-pub by_least : (a x b : Break) (bs : List Break) (t : Bool) → comes_before x a ≡ t → least_from (if t then Some x else Some a) bs ≡ Some b → (least_from (Some x) bs ≡ Some b → IsLeft (Some x) bs b) → (least_from (Some a) bs ≡ Some b → IsLeft (Some a) bs b) → IsLeft (Some a) (x ∷ bs) b
+pub by_least : (a x b : Break) (bs : List Break) (t : Bool) → comes_before x a ≡ t → least_from (if t then Some x else Some a) bs ≡ Some b → (least_from (Some x) bs ≡ Some b → IsLeastFrom (Some x) bs b) → (least_from (Some a) bs ≡ Some b → IsLeastFrom (Some a) bs b) → IsLeastFrom (Some a) (x ∷ bs) b
 by_least a x b bs true f e with_x with_a = left_out a x b bs f (with_x e)
 by_least a x b bs false f e with_x with_a = left_in a x b bs f (with_a e)
 
-pub is_left : (o : Option Break) (bs : List Break) (b : Break) → least_from o bs ≡ Some b → IsLeft o bs b
+pub is_left : (o : Option Break) (bs : List Break) (b : Break) → least_from o bs ≡ Some b → IsLeastFrom o bs b
 unfolding least_from
 is_left o [] b e = record { among = inl e; first = λ a f. subst (λ (y : Break). comes_before y b ≡ false) (some_is b a (sym e ∙ f)) (not_itself (rank b) (offset b)); rest = λ c i. absurd i }
 is_left None (x ∷ bs) b e = left_later x b bs (is_left (Some x) bs b e)

@@ -19,13 +19,13 @@ use Rattle.kex_regexp.specs.declared.wait.Wait.TheVariants as waits
 use Rattle.kex_regexp.specs.Grammar.{is_end, is_plain, Regex, Item, Once, End, Itself, EscapedEnd, Member, Single, Range}
 use Rattle.kex_regexp.specs.Values.{any_below, end_byte, flipped, has_backward, in_member, in_members, in_set, is_backward}
 use Rattle.kex_regexp.specs.Breaks.{is_bad_set}
-use Rattle.kex_regexp.specs.Machine.{ended, ended_last, begin_member, between_step, in_first, in_last, set_step, escape_step, on_escape, on_set, on_count, count_step, begin_piece, after_item, end_branch, close, take_regex, step_in, Entry, Mark, Ended, Read, EscapeStep, EscapeOn, EscapeRead, EscapeWrong, CountStep, CountOn, CountRead, CountWrong, SetStep, SetOn, SetRead, SetWrong, Escaping, Part, AtStart, Between, HasEnd, HasDash, InFirst, InLast, Mode, Ready, After, InEscape, InSet, InCount}
+use Rattle.kex_regexp.specs.Machine.{ended_members, last_members, begin_member, between_step, in_first, in_last, set_step, escape_step, on_escape, on_set, on_count, count_step, begin_piece, after_item, end_branch, after_group, take_regex, step_in, Entry, Mark, Ended, Read, EscapeStep, EscapeOn, EscapeRead, EscapeWrong, CountStep, CountOn, CountRead, CountWrong, SetStep, SetOn, SetRead, SetWrong, Escaping, Part, AtStart, Between, HasEnd, HasDash, InFirst, InLast, Mode, Ready, After, InEscape, InSet, InCount}
 use Rattle.kex_regexp.specs.Holding.{HasMembers, IsSetAfter, IsSetIn, ShowsEscape, ShowsMode, ShowsPart}
-use Rattle.kex_regexp.specs.Held.{held_ended, held_escape, held_last_span}
-use Rattle.kex_regexp.specs.Notes.{held_bad_set}
+use Rattle.kex_regexp.specs.Outcomes.{ended_span, escape_outcome, last_span}
+use Rattle.kex_regexp.specs.Notes.{is_bad_set_so_far}
 use Rattle.kex_regexp.proofs.Sound.{by_test}
-use Rattle.kex_regexp.proofs.Refine.{by_both, escape_refines}
-use Rattle.kex_regexp.proofs.Stepping.{mode_set}
+use Rattle.kex_regexp.proofs.Refinement.{by_both, escape_refines}
+use Rattle.kex_regexp.proofs.ShownSteps.{mode_set}
 
 -- ---- one member more
 
@@ -80,21 +80,21 @@ EndsAs None [] = Unit {0}
 EndsAs (Some s) (m ∷ []) = IsSpan s m
 EndsAs _ _ = ⊥
 
-pub ends_last : (x : ℕ) (first : End) (o : EscapeOutcome) (t : EscapeStep) → x ≡ end_byte first → ShowsEscape o t → EndsAs (held_last_span x o) (ended_last first t)
-unfolding held_last_span ended_last ShowsEscape EndsAs end_byte
+pub ends_last : (x : ℕ) (first : End) (o : EscapeOutcome) (t : EscapeStep) → x ≡ end_byte first → ShowsEscape o t → EndsAs (last_span x o) (last_members first t)
+unfolding last_span last_members ShowsEscape EndsAs end_byte
 ends_last x first (escapes.On e) (EscapeOn f) h s = tt
 ends_last x first (escapes.Read b) (EscapeRead e) h s = range_span x b first (EscapedEnd e) h s
 ends_last x first escapes.Wrong EscapeWrong h s = tt
 ends_last x first _ _ h s = absurd s
 
-pub ends_as : (p : SetPart) (q : Part) (b : ℕ) → ShowsPart p q → EndsAs (held_ended p b) (ended q b)
-unfolding held_ended ended ShowsPart EndsAs end_byte
+pub ends_as : (p : SetPart) (q : Part) (b : ℕ) → ShowsPart p q → EndsAs (ended_span p b) (ended_members q b)
+unfolding ended_span ended_members ShowsPart EndsAs end_byte
 ends_as parts.AtStart AtStart b s = tt
 ends_as parts.Between Between b s = tt
 ends_as (parts.HasEnd x) (HasEnd end) b s = by_both EndsAs (b == 45) _ _ _ _ tt (single_span x end s)
 ends_as (parts.HasDash x) (HasDash first) b s = by_both EndsAs (is_end b) _ _ _ _ (range_span x b first (Itself b) s refl) tt
 ends_as (parts.InFirst x) (InFirst y) b s = tt
-ends_as (parts.InLast x e) (InLast first f) b s = subst (λ (z : Escaping). EndsAs (held_last_span x (held_escape z b)) (ended_last first (escape_step f b))) (sym s.1) (ends_last x first (held_escape f b) (escape_step f b) s.0 (escape_refines f b))
+ends_as (parts.InLast x e) (InLast first f) b s = subst (λ (z : Escaping). EndsAs (last_span x (escape_outcome z b)) (last_members first (escape_step f b))) (sym s.1) (ends_last x first (escape_outcome f b) (escape_step f b) s.0 (escape_refines f b))
 ends_as _ _ b s = absurd s
 
 pub none_ends : (o : Option Span) (ms : List Member) → o ≡ None → EndsAs o ms → ms ≡ []
@@ -144,23 +144,23 @@ first_members n ms (EscapeOn e) = refl
 first_members n ms (EscapeRead e) = refl
 first_members n ms EscapeWrong = tt
 
-pub last_members : (n : Bool) (ms : List Member) (first : End) (t : EscapeStep) → MembersAre (ms ++ ended_last first t) (in_last n ms first t)
-unfolding in_last ended_last MembersAre
-last_members n ms first (EscapeOn e) = sym (append-nil ms)
-last_members n ms first (EscapeRead e) = refl
-last_members n ms first EscapeWrong = tt
+pub last_members_are : (n : Bool) (ms : List Member) (first : End) (t : EscapeStep) → MembersAre (ms ++ last_members first t) (in_last n ms first t)
+unfolding in_last last_members MembersAre
+last_members_are n ms first (EscapeOn e) = sym (append-nil ms)
+last_members_are n ms first (EscapeRead e) = refl
+last_members_are n ms first EscapeWrong = tt
 
 pub with_none : (ms : List Member) (t : SetStep) → MembersAre ms t → MembersAre (ms ++ []) t
 with_none ms t h = subst (λ (w : List Member). MembersAre w t) (sym (append-nil ms)) h
 
-pub step_members : (n : Bool) (ms : List Member) (q : Part) (b : ℕ) → MembersAre (ms ++ ended q b) (set_step n ms q b)
-unfolding set_step ended MembersAre
+pub step_members : (n : Bool) (ms : List Member) (q : Part) (b : ℕ) → MembersAre (ms ++ ended_members q b) (set_step n ms q b)
+unfolding set_step ended_members MembersAre
 step_members n ms AtStart b = with_none ms _ (by_test (MembersAre ms) (b == 94) _ _ (λ _. refl) (λ _. between_members n ms b))
 step_members n ms Between b = with_none ms _ (between_members n ms b)
 step_members n ms (HasEnd end) b = by_both (λ (x : List Member) (t : SetStep). MembersAre (ms ++ x) t) (b == 45) _ _ _ _ (sym (append-nil ms)) (between_members n (ms ++ Single end ∷ []) b)
 step_members n ms (HasDash first) b = by_both (λ (x : List Member) (t : SetStep). MembersAre (ms ++ x) t) (is_end b) _ _ _ _ refl (with_none ms _ (by_test (MembersAre ms) (b == 92) _ _ (λ _. refl) (λ _. tt)))
 step_members n ms (InFirst e) b = with_none ms _ (first_members n ms (escape_step e b))
-step_members n ms (InLast first e) b = last_members n ms first (escape_step e b)
+step_members n ms (InLast first e) b = last_members_are n ms first (escape_step e b)
 
 -- a set that is read is negated where it was before
 unfoldable pub NegatedIs : Bool → SetStep → Type 0
@@ -205,18 +205,18 @@ set_after set w es (SetRead n ms) h e = subst (HasMembers set) (sym e) h
 set_after set w es SetWrong h e = tt
 
 -- the set behind a byte within a set
-pub within_set : (old new : SetSoFar) (nodes : List Node) (at : ℕ) (n e : Bool) (p : SetPart) (from : ℕ) (m : Mode) (es : List Entry) (b : ℕ) → ShowsMode nodes at (waits.InSet n e p from) m → IsSetIn old m → ((ms : List Member) (q : Part) → ShowsPart p q → HasMembers old ms → HasMembers new (ms ++ ended q b)) → IsSetAfter new (step_in m es b)
+pub within_set : (old new : SetSoFar) (nodes : List Node) (at : ℕ) (n e : Bool) (p : SetPart) (from : ℕ) (m : Mode) (es : List Entry) (b : ℕ) → ShowsMode nodes at (waits.InSet n e p from) m → IsSetIn old m → ((ms : List Member) (q : Part) → ShowsPart p q → HasMembers old ms → HasMembers new (ms ++ ended_members q b)) → IsSetAfter new (step_in m es b)
 unfolding step_in IsSetIn
 within_set old new nodes at n e p from m es b sh i f =
     let s = (mode_set nodes at n e p from m sh).0 in
     let old_has : HasMembers old s.members = subst (IsSetIn old) s.is i in
-    let goes : IsSetAfter new (step_in (InSet n s.members s.part) es b) = set_after new (s.members ++ ended s.part b) es (set_step n s.members s.part b) (f s.members s.part s.shows old_has) (step_members n s.members s.part b) in
+    let goes : IsSetAfter new (step_in (InSet n s.members s.part) es b) = set_after new (s.members ++ ended_members s.part b) es (set_step n s.members s.part b) (f s.members s.part s.shows old_has) (step_members n s.members s.part b) in
     subst (λ (x : Mode). IsSetAfter new (step_in x es b)) (sym s.is) goes
 
 -- ---- elsewhere a set begins at most
 
-pub close_after : (set : SetSoFar) (r : Regex) (es : List Entry) → IsSetAfter set (close (r, es))
-unfolding close IsSetIn
+pub close_after : (set : SetSoFar) (r : Regex) (es : List Entry) → IsSetAfter set (after_group (r, es))
+unfolding after_group IsSetIn
 close_after set r [] = tt
 close_after set r (Mark ∷ es) = tt
 close_after set r (Ended b ∷ es) = tt
@@ -249,11 +249,11 @@ escape_after set es (EscapeOn e) = tt
 escape_after set es (EscapeRead e) = tt
 escape_after set es EscapeWrong = tt
 
-pub count_after : (set : SetSoFar) (i : Item) (es : List Entry) (t : CountStep) → IsSetAfter set (on_count i es t)
+pub count_after_set : (set : SetSoFar) (i : Item) (es : List Entry) (t : CountStep) → IsSetAfter set (on_count i es t)
 unfolding on_count IsSetIn
-count_after set i es (CountOn c) = tt
-count_after set i es (CountRead p) = tt
-count_after set i es CountWrong = tt
+count_after_set set i es (CountOn c) = tt
+count_after_set set i es (CountRead p) = tt
+count_after_set set i es CountWrong = tt
 
 unfoldable pub IsNotInSet : Wait → Type 0
 IsNotInSet (waits.InSet n e p from) = ⊥
@@ -265,7 +265,7 @@ without_set set nodes at waits.Ready Ready es b n s h = begin_after set es b h
 without_set set nodes at (waits.After part) (After i) es b n s h = item_after set i es b h
 without_set set nodes at (waits.InEscape e from) (InEscape f) es b n s h = escape_after set es (escape_step f b)
 without_set set nodes at (waits.InSet k e p from) m es b n s h = absurd n
-without_set set nodes at (waits.InCount part c brace) (InCount i d) es b n s h = count_after set i es (count_step d b)
+without_set set nodes at (waits.InCount part c brace) (InCount i d) es b n s h = count_after_set set i es (count_step d b)
 without_set set nodes at _ _ es b n s h = absurd s
 
 -- ---- whether a set breaks its rule
@@ -287,25 +287,25 @@ unfolding any_below
 same_below zero f g le h = refl
 same_below (suc n) f g le h = ap (λ (t : Bool). t || f n) (same_below n f g (omega (arith, le)) h) ∙ ap (λ (t : Bool). any_below n g || t) (h n (omega (arith, le)))
 
-pub bad_set : (set : SetSoFar) (negated : Bool) (ms : List Member) → HasMembers set ms → held_bad_set set negated ≡ is_bad_set negated ms
-unfolding held_bad_set in_set
+pub bad_set : (set : SetSoFar) (negated : Bool) (ms : List Member) → HasMembers set ms → is_bad_set_so_far set negated ≡ is_bad_set negated ms
+unfolding is_bad_set_so_far in_set
 bad_set set negated ms h =
     ap (λ (t : Bool). t || not (any_below 256 (λ b. flipped negated (has set.bytes b)))) h.backward
     ∙ ap (λ (t : Bool). has_backward ms || not t) (same_below 256 (λ b. flipped negated (has set.bytes b)) (in_set negated ms) (omega arith) (λ b below. ap (flipped negated) (h.bytes.bytes b below)))
 
-pub clear_bad : (set : SetSoFar) (negated t : Bool) → set.backward ≡ false → t ≡ any_below 256 (λ b. flipped negated (has set.bytes b)) → not t ≡ held_bad_set set negated
-unfolding held_bad_set
+pub clear_bad : (set : SetSoFar) (negated t : Bool) → set.backward ≡ false → t ≡ any_below 256 (λ b. flipped negated (has set.bytes b)) → not t ≡ is_bad_set_so_far set negated
+unfolding is_bad_set_so_far
 clear_bad set negated t back e = ap not e ∙ ap (λ (x : Bool). x || not (any_below 256 (λ b. flipped negated (has set.bytes b)))) (sym back)
 
 -- ---- a byte within a set, by what it ends
 
-pub one_within : (old new : SetSoFar) (p : SetPart) (s : Span) (b : ℕ) → held_ended p b ≡ Some s → ((test : ℕ → Bool) → HasExactly old.bytes test → HasExactly new.bytes (λ c. test c || (nat_le s.first c && nat_le c s.last))) → new.backward ≡ (old.backward || nat_lt s.last s.first) → (ms : List Member) (q : Part) → ShowsPart p q → HasMembers old ms → HasMembers new (ms ++ ended q b)
+pub one_within : (old new : SetSoFar) (p : SetPart) (s : Span) (b : ℕ) → ended_span p b ≡ Some s → ((test : ℕ → Bool) → HasExactly old.bytes test → HasExactly new.bytes (λ c. test c || (nat_le s.first c && nat_le c s.last))) → new.backward ≡ (old.backward || nat_lt s.last s.first) → (ms : List Member) (q : Part) → ShowsPart p q → HasMembers old ms → HasMembers new (ms ++ ended_members q b)
 one_within old new p s b e bytes back ms q sh h =
-    let one = one_ends (held_ended p b) s (ended q b) e (ends_as p q b sh) in
+    let one = one_ends (ended_span p b) s (ended_members q b) e (ends_as p q b sh) in
     subst (λ (w : List Member). HasMembers new (ms ++ w)) (sym one.is) (member_added old new s ms one.member h one.span bytes back)
 
-pub none_within : (set : SetSoFar) (p : SetPart) (b : ℕ) → held_ended p b ≡ None → (ms : List Member) (q : Part) → ShowsPart p q → HasMembers set ms → HasMembers set (ms ++ ended q b)
-none_within set p b e ms q sh h = subst (λ (w : List Member). HasMembers set (ms ++ w)) (sym (none_ends (held_ended p b) (ended q b) e (ends_as p q b sh))) (subst (HasMembers set) (sym (append-nil ms)) h)
+pub none_within : (set : SetSoFar) (p : SetPart) (b : ℕ) → ended_span p b ≡ None → (ms : List Member) (q : Part) → ShowsPart p q → HasMembers set ms → HasMembers set (ms ++ ended_members q b)
+none_within set p b e ms q sh h = subst (λ (w : List Member). HasMembers set (ms ++ w)) (sym (none_ends (ended_span p b) (ended_members q b) e (ends_as p q b sh))) (subst (HasMembers set) (sym (append-nil ms)) h)
 
 pub not_in_set : (w : Wait) → ((n e : Bool) (p : SetPart) (from : ℕ) → w ≡ waits.InSet n e p from → ⊥) → IsNotInSet w
 unfolding IsNotInSet

@@ -13,7 +13,7 @@ use Rattle.kex_regexp.specs.declared.breaks.Break.{Break}
 use Rattle.kex_regexp.specs.Parents.{HasChild, HasParent, NoneLost}
 use Rattle.kex_regexp.specs.Holding.{InFrame, InFrames, IsHeld, LosesNone}
 use Rattle.kex_regexp.specs.Shown.{Adds}
-use Rattle.kex_regexp.proofs.Adding.{stays, added}
+use Rattle.kex_regexp.proofs.Additions.{stays, added}
 
 pub parent_stays : (a b : List Node) (n : ℕ) → Adds a b → HasParent a n → HasParent b n
 parent_stays a b n k h = (h.0, h.1, stays a b k h.0 h.1 h.2, h.3)

@@ -4,7 +4,7 @@ use Rattle.std.specs.Prelude.{◌==◌}
 use Rattle.std.proofs.lemmas.Bool.{eqb-true, eqb-false, ne_eqb, false≢true}
 use Rattle.std.proofs.lemmas.List.{append-nil}
 use Rattle.kex_regexp.specs.Grammar.{is_plain, is_punctuation, is_digit, is_hex, is_end, Escape, End, Itself, EscapedEnd, Member, Single, Range, Postfix, Star, Plus, Quest, Regex, Last, Or, Branch, Empty, Then, Once, Turns, Item, Plain, Escaped, Dot, Set, Group, escape, end_of, member, members, caret, postfix, regex, branch, piece, item, IsEscape, IsEnd, IsMember, AreMembers, begins_with_caret, IsSet, AreDigits, IsNumber, IsPostfix, IsRegex, IsBranch, IsPiece, IsItem}
-use Rattle.kex_regexp.specs.Machine.{entry, entries, escaping, part, set_so_far, counting, mode, spelled, Escaping, Begun, HexBegun, HexOne, EscapeStep, EscapeOn, EscapeRead, EscapeWrong, escape_step, Part, AtStart, Between, HasEnd, HasDash, InFirst, InLast, SetStep, SetOn, SetRead, SetWrong, begin_member, between_step, in_first, in_last, set_step, Counting, Opened, Low, LowComma, LowHigh, OnlyComma, High, CountStep, CountOn, CountRead, CountWrong, count_step, Entry, Mark, Ended, Read, Mode, Ready, After, InEscape, InSet, InCount, State, take_pieces, take_branches, take_regex, goes, close, end_branch, begin_piece, after_item, on_escape, on_set, on_count, step_in, step, next, reads, whole, finish_in, start}
+use Rattle.kex_regexp.specs.Machine.{entry, entries, escaping, part, set_so_far, counting, mode, bytes_read, Escaping, Begun, HexBegun, HexOne, EscapeStep, EscapeOn, EscapeRead, EscapeWrong, escape_step, Part, AtStart, Between, HasEnd, HasDash, InFirst, InLast, SetStep, SetOn, SetRead, SetWrong, begin_member, between_step, in_first, in_last, set_step, Counting, Opened, Low, LowComma, LowHigh, OnlyComma, High, CountStep, CountOn, CountRead, CountWrong, count_step, Entry, Mark, Ended, Read, Mode, Ready, After, InEscape, InSet, InCount, State, take_pieces, take_branches, take_regex, goes, after_group, end_branch, begin_piece, after_item, on_escape, on_set, on_count, step_in, step, next, state_after, whole_regex, finish_in, start}
 
 -- a choice by a test has what both sides have
 pub by_test : {A : Type 0} (P : A → Type 0) (b : Bool) (x y : A) → (b ≡ true → P x) → (b ≡ false → P y) → P (cond b x y)
@@ -320,7 +320,7 @@ pub record IsState (s : State) : Type 0 where
 
 unfoldable pub Goes : List ℕ → Option State → Type 0
 Goes w None = Unit {0}
-Goes w (Some s) = IsState s × (spelled s ≡ w)
+Goes w (Some s) = IsState s × (bytes_read s ≡ w)
 
 -- the pieces of the newest branch are its branch
 pub pieces_taken : (es : List Entry) (b : Branch) → AreEntries es → IsBranch b → record { good : IsBranch (take_pieces es b).0; rest : AreEntries (take_pieces es b).1; same : entries (take_pieces es b).1 ++ branch (take_pieces es b).0 ≡ entries es ++ branch b }
@@ -351,7 +351,7 @@ regex_taken es h =
 -- ---- steps of the whole
 
 pub went : (m : Mode) (es : List Entry) (w : List ℕ) → AreEntries es → IsMode m → entries es ++ mode m ≡ w → Goes w (goes m es)
-unfolding Goes spelled
+unfolding Goes bytes_read
 went m es w h k e = (record { entries = h; mode = k }, e)
 
 pub is_group : (r : Regex) → IsRegex r → IsMode (After (Group r))
@@ -365,8 +365,8 @@ closed r es w b e c =
     ∙ sym (append_assoc (entries es) (40 ∷ regex r) (b ∷ []))
     ∙ ap (λ (v : List ℕ). v ++ b ∷ []) (sym (append_assoc (entries es) (40 ∷ []) (regex r)) ∙ e)
 
-pub close_sound : (r : Regex) (es : List Entry) (w : List ℕ) (b : ℕ) → IsRegex r → AreEntries es → entries es ++ regex r ≡ w → (b == 41) ≡ true → Goes (w ++ b ∷ []) (close (r, es))
-unfolding close Goes AreEntries IsEntry entries entry
+pub close_sound : (r : Regex) (es : List Entry) (w : List ℕ) (b : ℕ) → IsRegex r → AreEntries es → entries es ++ regex r ≡ w → (b == 41) ≡ true → Goes (w ++ b ∷ []) (after_group (r, es))
+unfolding after_group Goes AreEntries IsEntry entries entry
 close_sound r [] w b k h e c = tt
 close_sound r (Ended a ∷ es) w b k h e c = tt
 close_sound r (Read p ∷ es) w b k h e c = tt
@@ -448,18 +448,18 @@ step_sound_in (InSet negated ms p) es b h k = set_on es (set_so_far negated ms p
 step_sound_in (InCount i c) es b h k = count_on i es (123 ∷ counting c) b (count_step c b) h k.0 (count_sound c b k.1)
 
 pub next_sound : (w : List ℕ) (o : Option State) (b : ℕ) → Goes w o → Goes (w ++ b ∷ []) (next o b)
-unfolding next Goes step spelled
+unfolding next Goes step bytes_read
 next_sound w None b g = tt
 next_sound w (Some s) b g = subst (λ (v : List ℕ). Goes (v ++ b ∷ []) (step s b)) g.1 (step_sound_in s.mode s.entries b g.0.entries g.0.mode)
 
 -- after bytes that were all taken, the state spells them
-pub reads_sound : (w : List ℕ) (o : Option State) (v : List ℕ) → Goes w o → Goes (w ++ v) (reads o v)
-unfolding reads
+pub reads_sound : (w : List ℕ) (o : Option State) (v : List ℕ) → Goes w o → Goes (w ++ v) (state_after o v)
+unfolding state_after
 reads_sound w o [] g = subst (λ (u : List ℕ). Goes u o) (sym (append-nil w)) g
-reads_sound w o (b ∷ v) g = subst (λ (u : List ℕ). Goes u (reads (next o b) v)) (append_assoc w (b ∷ []) v) (reads_sound (w ++ b ∷ []) (next o b) v (next_sound w o b g))
+reads_sound w o (b ∷ v) g = subst (λ (u : List ℕ). Goes u (state_after (next o b) v)) (append_assoc w (b ∷ []) v) (reads_sound (w ++ b ∷ []) (next o b) v (next_sound w o b g))
 
 pub start_sound : Goes [] start
-unfolding start Goes spelled AreEntries IsMode entries mode
+unfolding start Goes bytes_read AreEntries IsMode entries mode
 start_sound = (record { entries = tt; mode = tt }, refl)
 
 -- ---- the end
@@ -468,20 +468,20 @@ unfoldable pub Finishes : List ℕ → Option Regex → Type 0
 Finishes w None = Unit {0}
 Finishes w (Some r) = IsRegex r × (regex r ≡ w)
 
-pub whole_sound : (r : Regex) (es : List Entry) (w : List ℕ) → IsRegex r → entries es ++ regex r ≡ w → Finishes w (whole (r, es))
-unfolding whole Finishes entries
+pub whole_sound : (r : Regex) (es : List Entry) (w : List ℕ) → IsRegex r → entries es ++ regex r ≡ w → Finishes w (whole_regex (r, es))
+unfolding whole_regex Finishes entries
 whole_sound r [] w k e = (k, e)
 whole_sound r (Mark ∷ es) w k e = tt
 whole_sound r (Ended a ∷ es) w k e = tt
 whole_sound r (Read p ∷ es) w k e = tt
 
-pub taken_sound : (es : List Entry) → AreEntries es → Finishes (entries es) (whole (take_regex es))
+pub taken_sound : (es : List Entry) → AreEntries es → Finishes (entries es) (whole_regex (take_regex es))
 taken_sound es h = let r = regex_taken es h in whole_sound (take_regex es).0 (take_regex es).1 (entries es) r.good r.same
 
 pub finish_sound_in : (m : Mode) (es : List Entry) → AreEntries es → IsMode m → Finishes (entries es ++ mode m) (finish_in m es)
 unfolding finish_in mode IsMode Finishes AreEntries IsEntry IsPiece IsItem
-finish_sound_in Ready es h k = subst (λ (w : List ℕ). Finishes w (whole (take_regex es))) (sym (append-nil (entries es))) (taken_sound es h)
-finish_sound_in (After i) es h k = subst (λ (w : List ℕ). Finishes w (whole (take_regex (Read (Once i) ∷ es)))) (once_in es i) (taken_sound (Read (Once i) ∷ es) (k, h))
+finish_sound_in Ready es h k = subst (λ (w : List ℕ). Finishes w (whole_regex (take_regex es))) (sym (append-nil (entries es))) (taken_sound es h)
+finish_sound_in (After i) es h k = subst (λ (w : List ℕ). Finishes w (whole_regex (take_regex (Read (Once i) ∷ es)))) (once_in es i) (taken_sound (Read (Once i) ∷ es) (k, h))
 finish_sound_in (InEscape e) es h k = tt
 finish_sound_in (InSet negated ms p) es h k = tt
 finish_sound_in (InCount i c) es h k = tt

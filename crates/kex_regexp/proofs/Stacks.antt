@@ -11,7 +11,7 @@ use Rattle.kex_regexp.specs.Grammar.{Regex, Last, Or, Branch, Empty, Then, Piece
 use Rattle.kex_regexp.specs.Breaks.{is_bad_count}
 use Rattle.kex_regexp.specs.Shown.{IsNode, Adds}
 use Rattle.kex_regexp.specs.Machine.{Entry, Mark, Ended, Read, entries, entry, take_pieces, take_branches, take_regex}
-use Rattle.kex_regexp.proofs.Adding.{stays, Adds-to, added}
+use Rattle.kex_regexp.proofs.Additions.{stays, Adds-to, added}
 use Rattle.kex_regexp.specs.Holding.{IsTurns, HoldsRegex, HoldsBranch, HoldsPiece, HoldsItem, FramesShow, BranchOn, RegexOn}
 
 pub turns_more : (t : Bool) (A B C : Type 0) → (B → C) → MatchBool t A B → MatchBool t A C

@@ -4,7 +4,7 @@ use Rattle.std.proofs.lemmas.List.{append-nil}
 use Rattle.std.proofs.lemmas.Bool.{false≢true}
 use Rattle.kex_regexp.specs.Grammar.{is_digit, is_hex, is_end, Escape, Newline, Hex, End, Itself, EscapedEnd, Member, Single, Range, Postfix, Exactly, AtLeast, AtMost, Within, Regex, Last, Or, Branch, Empty, Then, Piece, Once, Turns, Item, Escaped, Set, Group, escape, end_of, member, members, caret, postfix, regex, branch, piece, item, IsEscape, IsEnd, IsMember, AreMembers, begins_with_caret, IsSet, AreDigits, IsNumber, IsPostfix, IsRegex, IsBranch, IsPiece, IsItem}
 use Rattle.kex_regexp.specs.Bodies.{Spells, IsBody, BeginsBody}
-use Rattle.kex_regexp.specs.Machine.{entry, entries, escaping, part, set_so_far, counting, mode, spelled, Escaping, Begun, HexBegun, HexOne, Part, AtStart, Between, HasEnd, HasDash, InFirst, InLast, Counting, Opened, Low, LowComma, LowHigh, OnlyComma, High, Entry, Mark, Ended, Read, Mode, Ready, After, InEscape, InSet, InCount, State, take_branches, take_regex, reads, whole, finish_in, finish, start}
+use Rattle.kex_regexp.specs.Machine.{entry, entries, escaping, part, set_so_far, counting, mode, bytes_read, Escaping, Begun, HexBegun, HexOne, Part, AtStart, Between, HasEnd, HasDash, InFirst, InLast, Counting, Opened, Low, LowComma, LowHigh, OnlyComma, High, Entry, Mark, Ended, Read, Mode, Ready, After, InEscape, InSet, InCount, State, take_branches, take_regex, state_after, whole_regex, finish_in, finish, start}
 use Rattle.kex_regexp.proofs.Sound.{IsEscaping, Fine, IsNone, IsPart, members-append, Fine-first, Fine-range, IsCounting, IsEntry, AreEntries, IsMode, IsState, Goes, reads_sound, start_sound, finish_sound_in, Finishes, no_caret}
 use Rattle.kex_regexp.proofs.Complete.{MayBegin, regex_onto, IsBase, regex_taken, Begins, regex_reads, reads-append, reads_none}
 
@@ -250,8 +250,8 @@ mode_completes (InEscape e) es h k = plug_item es h (escaping e) (escape_front e
 mode_completes (InSet negated ms p) es h k = plug_item es h (set_so_far negated ms p) (set_front negated ms p k)
 mode_completes (InCount i c) es h k = piece_front es h i k.0 (123 ∷ counting c) (count_front c k.1)
 
-pub state_completes : (s : State) → IsState s → Completes (spelled s)
-unfolding spelled
+pub state_completes : (s : State) → IsState s → Completes (bytes_read s)
+unfolding bytes_read
 state_completes s h = mode_completes s.mode s.entries h.entries h.mode
 
 -- ---- the laws
@@ -260,47 +260,47 @@ pub begins_from : (w : List ℕ) → Completes w → BeginsBody w
 begins_from w c = (c.more, (c.tree, record { well = c.well; same = c.same }))
 
 -- what was read begins a body
-pub read_begins : (w : List ℕ) (s : State) → reads start w ≡ Some s → BeginsBody w
+pub read_begins : (w : List ℕ) (s : State) → state_after start w ≡ Some s → BeginsBody w
 unfolding Goes
 read_begins w s e =
     let g : Goes w (Some s) = subst (λ (o : Option State). Goes w o) e (reads_sound [] start w start_sound) in
     begins_from w (subst Completes g.1 (state_completes s g.0))
 
 -- what was read to its end is the tree
-pub read_spells : (w : List ℕ) (s : State) (r : Regex) → reads start w ≡ Some s → finish s ≡ Some r → Spells r w
-unfolding Goes Finishes finish spelled
+pub read_spells : (w : List ℕ) (s : State) (r : Regex) → state_after start w ≡ Some s → finish s ≡ Some r → Spells r w
+unfolding Goes Finishes finish bytes_read
 read_spells w s r e f =
     let g : Goes w (Some s) = subst (λ (o : Option State). Goes w o) e (reads_sound [] start w start_sound) in
-    let k : Finishes (spelled s) (Some r) = subst (λ (o : Option Regex). Finishes (spelled s) o) f (finish_sound_in s.mode s.entries g.0.entries g.0.mode) in
+    let k : Finishes (bytes_read s) (Some r) = subst (λ (o : Option Regex). Finishes (bytes_read s) o) f (finish_sound_in s.mode s.entries g.0.entries g.0.mode) in
     record { well = k.0; same = k.1 ∙ g.1 }
 
 pub ends : (m : Mode) (es : List Entry) (r : Regex) → MayBegin m es (regex_onto r []) → finish (record { mode = m; entries = es }) ≡ Some r
-unfolding MayBegin finish finish_in IsBase take_branches whole
-ends Ready es r q = ap (λ (x : List Entry). whole (take_regex x)) q ∙ ap whole (regex_taken r [] tt)
-ends (After i) es r q = ap (λ (x : List Entry). whole (take_regex x)) q ∙ ap whole (regex_taken r [] tt)
+unfolding MayBegin finish finish_in IsBase take_branches whole_regex
+ends Ready es r q = ap (λ (x : List Entry). whole_regex (take_regex x)) q ∙ ap whole_regex (regex_taken r [] tt)
+ends (After i) es r q = ap (λ (x : List Entry). whole_regex (take_regex x)) q ∙ ap whole_regex (regex_taken r [] tt)
 ends (InEscape e) es r q = absurd q
 ends (InSet negated ms p) es r q = absurd q
 ends (InCount i c) es r q = absurd q
 
 -- the state after a tree's bytes
-pub spelled_reads : (r : Regex) → IsRegex r → (s : State) × (reads start (regex r) ≡ Some s) × (finish s ≡ Some r)
+pub spelled_reads : (r : Regex) → IsRegex r → (s : State) × (state_after start (regex r) ≡ Some s) × (finish s ≡ Some r)
 unfolding start MayBegin IsBase Begins
 spelled_reads r h =
     let a = regex_reads r h Ready [] [] refl tt in
     (record { mode = a.0; entries = a.1 }, a.3, ends a.0 a.1 r a.2)
 
 -- so a body is read, as the tree that it is
-pub body_reads : (w : List ℕ) (r : Regex) → Spells r w → (s : State) × (reads start w ≡ Some s) × (finish s ≡ Some r)
-body_reads w r h = subst (λ (v : List ℕ). (s : State) × (reads start v ≡ Some s) × (finish s ≡ Some r)) h.same (spelled_reads r h.well)
+pub body_reads : (w : List ℕ) (r : Regex) → Spells r w → (s : State) × (state_after start w ≡ Some s) × (finish s ≡ Some r)
+body_reads w r h = subst (λ (v : List ℕ). (s : State) × (state_after start v ≡ Some s) × (finish s ≡ Some r)) h.same (spelled_reads r h.well)
 
 -- and what isn't read begins none
-pub unread_begins : (w : List ℕ) → reads start w ≡ None → BeginsBody w → ⊥
+pub unread_begins : (w : List ℕ) → state_after start w ≡ None → BeginsBody w → ⊥
 unread_begins w e b =
     let a = body_reads (w ++ b.0) b.1.0 b.1.1 in
-    let n : reads start (w ++ b.0) ≡ None = reads-append start w b.0 ∙ ap (λ (o : Option State). reads o b.0) e ∙ reads_none b.0 in
+    let n : state_after start (w ++ b.0) ≡ None = reads-append start w b.0 ∙ ap (λ (o : Option State). state_after o b.0) e ∙ reads_none b.0 in
     cc
 
-pub unfinished : (w : List ℕ) (s : State) → reads start w ≡ Some s → finish s ≡ None → IsBody w → ⊥
+pub unfinished : (w : List ℕ) (s : State) → state_after start w ≡ Some s → finish s ≡ None → IsBody w → ⊥
 unfinished w s e f b =
     let a = body_reads w b.0 b.1 in
     let same : s ≡ a.0 = cc in

@@ -1,11 +1,13 @@
 -- The grammar of regex bodies, as trees, one constructor for each alternative of a rule, and what each tree spells.
+use Rattle.std.specs.Char.{is_ascii_digit, is_ascii_hexdigit, is_ascii_punctuation}
+use Rattle.kex_tokens.specs.Bytes as byte
 use Rattle.std.specs.Prelude.{◌≡◌, ℕ, Bool, true, false, ◌&&◌, ◌||◌, List, [], ◌∷◌, ◌++◌, nat_le, ◌==◌, if◌then◌else◌}
 
 -- ---- which bytes are what
 
 -- a byte that stands for itself: none of * + ? { } ( ) | [ ] \ . / ^ $ and no line feed
 abbrev pub special_bytes : List ℕ
-special_bytes = 42 ∷ 43 ∷ 63 ∷ 123 ∷ 125 ∷ 40 ∷ 41 ∷ 124 ∷ 91 ∷ 93 ∷ 92 ∷ 46 ∷ 47 ∷ 94 ∷ 36 ∷ 10 ∷ []
+special_bytes = byte.asterisk ∷ byte.plus ∷ byte.question ∷ byte.open_brace ∷ byte.close_brace ∷ byte.open_paren ∷ byte.close_paren ∷ byte.bar ∷ byte.open_bracket ∷ byte.close_bracket ∷ byte.backslash ∷ byte.dot ∷ byte.slash ∷ byte.caret ∷ byte.dollar ∷ byte.line_feed ∷ []
 
 abbrev pub is_among : ℕ → List ℕ → Bool
 is_among b [] = false
@@ -16,17 +18,17 @@ is_plain b = if is_among b special_bytes then false else true
 
 -- ASCII punctuation: 21 to 2F, 3A to 40, 5B to 60, 7B to 7E
 unfoldable pub is_punctuation : ℕ → Bool
-is_punctuation b = (nat_le 33 b && nat_le b 47) || (nat_le 58 b && nat_le b 64) || (nat_le 91 b && nat_le b 96) || (nat_le 123 b && nat_le b 126)
+is_punctuation b = is_ascii_punctuation b
 
 unfoldable pub is_digit : ℕ → Bool
-is_digit b = nat_le 48 b && nat_le b 57
+is_digit b = is_ascii_digit b
 
 unfoldable pub is_hex : ℕ → Bool
-is_hex b = (nat_le 48 b && nat_le b 57) || (nat_le 65 b && nat_le b 70) || (nat_le 97 b && nat_le b 102)
+is_hex b = is_ascii_hexdigit b
 
 -- what may be an end of a member: no ] \ - / and no line feed
 unfoldable pub is_end : ℕ → Bool
-is_end b = if is_among b (93 ∷ 92 ∷ 45 ∷ 47 ∷ 10 ∷ []) then false else true
+is_end b = if is_among b (byte.close_bracket ∷ byte.backslash ∷ byte.hyphen ∷ byte.slash ∷ byte.line_feed ∷ []) then false else true
 
 -- ---- trees without recursion
 
@@ -81,11 +83,11 @@ mutual
 -- ---- spelling
 
 unfoldable pub escape : Escape → List ℕ
-escape Newline = 92 ∷ 110 ∷ []
-escape Tab = 92 ∷ 116 ∷ []
-escape Return = 92 ∷ 114 ∷ []
-escape (Hex high low) = 92 ∷ 120 ∷ high ∷ low ∷ []
-escape (Punctuation byte) = 92 ∷ byte ∷ []
+escape Newline = byte.backslash ∷ byte.letter_n ∷ []
+escape Tab = byte.backslash ∷ byte.letter_t ∷ []
+escape Return = byte.backslash ∷ byte.letter_r ∷ []
+escape (Hex high low) = byte.backslash ∷ byte.letter_x ∷ high ∷ low ∷ []
+escape (Punctuation b) = byte.backslash ∷ b ∷ []
 
 unfoldable pub end_of : End → List ℕ
 end_of (Itself byte) = byte ∷ []
@@ -93,29 +95,29 @@ end_of (EscapedEnd e) = escape e
 
 unfoldable pub member : Member → List ℕ
 member (Single end) = end_of end
-member (Range first last) = end_of first ++ 45 ∷ end_of last
+member (Range first last) = end_of first ++ byte.hyphen ∷ end_of last
 
 unfoldable pub members : List Member → List ℕ
 members [] = []
 members (m ∷ ms) = member m ++ members ms
 
 unfoldable pub caret : Bool → List ℕ
-caret true = 94 ∷ []
+caret true = byte.caret ∷ []
 caret false = []
 
 unfoldable pub postfix : Postfix → List ℕ
-postfix Star = 42 ∷ []
-postfix Plus = 43 ∷ []
-postfix Quest = 63 ∷ []
-postfix (Exactly n) = 123 ∷ n ++ 125 ∷ []
-postfix (AtLeast n) = 123 ∷ n ++ 44 ∷ 125 ∷ []
-postfix (AtMost m) = 123 ∷ 44 ∷ m ++ 125 ∷ []
-postfix (Within n m) = 123 ∷ n ++ (44 ∷ m ++ 125 ∷ [])
+postfix Star = byte.asterisk ∷ []
+postfix Plus = byte.plus ∷ []
+postfix Quest = byte.question ∷ []
+postfix (Exactly n) = byte.open_brace ∷ n ++ byte.close_brace ∷ []
+postfix (AtLeast n) = byte.open_brace ∷ n ++ byte.comma ∷ byte.close_brace ∷ []
+postfix (AtMost m) = byte.open_brace ∷ byte.comma ∷ m ++ byte.close_brace ∷ []
+postfix (Within n m) = byte.open_brace ∷ n ++ (byte.comma ∷ m ++ byte.close_brace ∷ [])
 
 unfoldable mutual
   pub regex : Regex → List ℕ
   regex (Last b) = branch b
-  regex (Or b r) = branch b ++ 124 ∷ regex r
+  regex (Or b r) = branch b ++ byte.bar ∷ regex r
 
   pub branch : Branch → List ℕ
   branch Empty = []
@@ -128,9 +130,9 @@ unfoldable mutual
   pub item : Item → List ℕ
   item (Plain b) = b ∷ []
   item (Escaped e) = escape e
-  item Dot = 46 ∷ []
-  item (Set negated ms) = 91 ∷ caret negated ++ (members ms ++ 93 ∷ [])
-  item (Group r) = 40 ∷ regex r ++ 41 ∷ []
+  item Dot = byte.dot ∷ []
+  item (Set negated ms) = byte.open_bracket ∷ caret negated ++ (members ms ++ byte.close_bracket ∷ [])
+  item (Group r) = byte.open_paren ∷ regex r ++ byte.close_paren ∷ []
 
 -- ---- the conditions on bytes
 
@@ -155,8 +157,8 @@ AreMembers (m ∷ ms) = IsMember m × AreMembers ms
 
 -- a ^ right after the [ always means the complement
 unfoldable pub begins_with_caret : Member → Bool
-begins_with_caret (Single (Itself byte)) = byte == 94
-begins_with_caret (Range (Itself byte) last) = byte == 94
+begins_with_caret (Single (Itself b)) = b == byte.caret
+begins_with_caret (Range (Itself b) last) = b == byte.caret
 begins_with_caret (Single (EscapedEnd e)) = false
 begins_with_caret (Range (EscapedEnd e) last) = false
 

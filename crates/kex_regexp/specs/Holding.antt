@@ -24,7 +24,7 @@ use Rattle.kex_regexp.specs.declared.wait.Wait.{Wait}
 use Rattle.kex_regexp.specs.declared.wait.Wait.TheVariants as waits
 use Rattle.kex_regexp.specs.Breaks.{is_bad_count}
 use Rattle.kex_regexp.specs.Grammar.{item, is_hex, Member, Postfix, Regex, Last, Or, Branch, Empty, Then, Piece, Once, Turns, Item, Plain, Escaped, Dot, Set, Group, branch, piece}
-use Rattle.kex_regexp.specs.Machine.{Escaping, Begun, HexBegun, HexOne, EscapeStep, EscapeOn, EscapeRead, EscapeWrong, Part, AtStart, Between, HasEnd, HasDash, InFirst, InLast, SetStep, SetOn, SetRead, SetWrong, Counting, Opened, Low, LowComma, LowHigh, OnlyComma, High, CountStep, CountOn, CountRead, CountWrong, Entry, Mark, Ended, Read, Mode, Ready, After, InEscape, InSet, InCount, State, entries, spelled}
+use Rattle.kex_regexp.specs.Machine.{Escaping, Begun, HexBegun, HexOne, EscapeStep, EscapeOn, EscapeRead, EscapeWrong, Part, AtStart, Between, HasEnd, HasDash, InFirst, InLast, SetStep, SetOn, SetRead, SetWrong, Counting, Opened, Low, LowComma, LowHigh, OnlyComma, High, CountStep, CountOn, CountRead, CountWrong, Entry, Mark, Ended, Read, Mode, Ready, After, InEscape, InSet, InCount, State, entries, bytes_read}
 use Rattle.kex_regexp.specs.Parents.{NoneLost}
 use Rattle.kex_regexp.specs.Shown.{IsNode, IsClass}
 use Rattle.kex_regexp.specs.Values.{end_byte, escaped_byte, has_backward, high, in_members, in_set, low, number}
@@ -168,14 +168,14 @@ ShowsMode nodes at (waits.InCount part c brace) (InCount i d) = (part.at ≡ at)
 ShowsMode _ _ _ _ = ⊥
 
 -- the frames and what the code waits for are those of a state
-pub record StandsFor (nodes : List Node) (base : ℕ) (fs : List Frame) (wait : Wait) (s : State) : Type 0 where
+pub record ShowsState (nodes : List Node) (base : ℕ) (fs : List Frame) (wait : Wait) (s : State) : Type 0 where
   pub below : FramesShow nodes base (reverse fs) s.entries
   pub mode : ShowsMode nodes (base + length (entries s.entries)) wait s.mode
 
 -- what a step made is what the machine makes, unless memory ran out
 unfoldable pub Steps : List Node → ℕ → List Frame → Result Wait StepFault → Option State → Type 0
 Steps nodes base fs (Ok wait) None = ⊥
-Steps nodes base fs (Ok wait) (Some s) = StandsFor nodes base fs wait s
+Steps nodes base fs (Ok wait) (Some s) = ShowsState nodes base fs wait s
 Steps nodes base fs (Err faults.Memory) o = Unit {0}
 Steps nodes base fs (Err faults.Wrong) None = Unit {0}
 Steps nodes base fs (Err faults.Wrong) (Some s) = ⊥
@@ -197,7 +197,7 @@ abbrev pub SomeItem : List Node → List Frame → Placed → Type 0
 SomeItem nodes fs part = (base : ℕ) × (es : List Entry) × (i : Item) × FramesShow nodes base (reverse fs) es × (part.at ≡ base + length (entries es)) × HoldsItem i nodes part.node part.at
 
 abbrev pub SomeState : List Node → List Frame → Wait → ℕ → Type 0
-SomeState nodes fs wait at = (base : ℕ) × (s : State) × StandsFor nodes base fs wait s × (at ≡ base + length (spelled s))
+SomeState nodes fs wait at = (base : ℕ) × (s : State) × ShowsState nodes base fs wait s × (at ≡ base + length (bytes_read s))
 
 abbrev pub SomeBehind : List Node → List Frame → Placed → ℕ → Type 0
 SomeBehind nodes fs part at = (base : ℕ) × (es : List Entry) × (i : Item) × FramesShow nodes base (reverse fs) es × (part.at ≡ base + length (entries es)) × (at ≡ part.at + length (item i)) × HoldsItem i nodes part.node part.at

@@ -6,5 +6,5 @@ pub mod Shown
 pub mod Parents
 pub mod Machine
 pub mod Holding
-pub mod Held
+pub mod Outcomes
 pub mod Notes

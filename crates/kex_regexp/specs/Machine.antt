@@ -1,4 +1,5 @@
 -- The reader of bodies as a machine: what has been read so far, and what one more byte makes of it.
+use Rattle.kex_tokens.specs.Bytes as byte
 use Rattle.std.specs.Prelude.{ℕ, Bool, true, false, List, [], ◌∷◌, ◌++◌, Option, Some, None, ◌==◌, if◌then◌else◌}
 pub use Rattle.kex_regexp.specs.declared.escapes.Escaping.{Escaping}
 pub use Rattle.kex_regexp.specs.declared.escapes.Escaping.TheVariants.{Begun, HexBegun, HexOne}
@@ -13,8 +14,8 @@ pub data EscapeStep : Type 0 where
 
 unfoldable pub escape_step : Escaping → ℕ → EscapeStep
 escape_step Begun b =
-    if b == 110 then EscapeRead Newline else if b == 116 then EscapeRead Tab else if b == 114 then EscapeRead Return
-    else if b == 120 then EscapeOn HexBegun else if is_punctuation b then EscapeRead (Punctuation b) else EscapeWrong
+    if b == byte.letter_n then EscapeRead Newline else if b == byte.letter_t then EscapeRead Tab else if b == byte.letter_r then EscapeRead Return
+    else if b == byte.letter_x then EscapeOn HexBegun else if is_punctuation b then EscapeRead (Punctuation b) else EscapeWrong
 escape_step HexBegun b = if is_hex b then EscapeOn (HexOne b) else EscapeWrong
 escape_step (HexOne high) b = if is_hex b then EscapeRead (Hex high b) else EscapeWrong
 
@@ -36,11 +37,11 @@ pub data SetStep : Type 0 where
 -- between members a member may begin, or behind one the set may end
 unfoldable pub begin_member : Bool → List Member → ℕ → SetStep
 begin_member negated ms b =
-    if is_end b then SetOn negated ms (HasEnd (Itself b)) else if b == 92 then SetOn negated ms (InFirst Begun) else SetWrong
+    if is_end b then SetOn negated ms (HasEnd (Itself b)) else if b == byte.backslash then SetOn negated ms (InFirst Begun) else SetWrong
 
 unfoldable pub between_step : Bool → List Member → ℕ → SetStep
 between_step negated [] b = begin_member negated [] b
-between_step negated (m ∷ ms) b = if b == 93 then SetRead negated (m ∷ ms) else begin_member negated (m ∷ ms) b
+between_step negated (m ∷ ms) b = if b == byte.close_bracket then SetRead negated (m ∷ ms) else begin_member negated (m ∷ ms) b
 
 unfoldable pub in_first : Bool → List Member → EscapeStep → SetStep
 in_first negated ms (EscapeOn e) = SetOn negated ms (InFirst e)
@@ -53,27 +54,27 @@ in_last negated ms first (EscapeRead e) = SetOn negated (ms ++ Range first (Esca
 in_last negated ms first EscapeWrong = SetWrong
 
 unfoldable pub set_step : Bool → List Member → Part → ℕ → SetStep
-set_step negated ms AtStart b = if b == 94 then SetOn true ms Between else between_step negated ms b
+set_step negated ms AtStart b = if b == byte.caret then SetOn true ms Between else between_step negated ms b
 set_step negated ms Between b = between_step negated ms b
-set_step negated ms (HasEnd end) b = if b == 45 then SetOn negated ms (HasDash end) else between_step negated (ms ++ Single end ∷ []) b
+set_step negated ms (HasEnd end) b = if b == byte.hyphen then SetOn negated ms (HasDash end) else between_step negated (ms ++ Single end ∷ []) b
 set_step negated ms (HasDash first) b =
-    if is_end b then SetOn negated (ms ++ Range first (Itself b) ∷ []) Between else if b == 92 then SetOn negated ms (InLast first Begun) else SetWrong
+    if is_end b then SetOn negated (ms ++ Range first (Itself b) ∷ []) Between else if b == byte.backslash then SetOn negated ms (InLast first Begun) else SetWrong
 set_step negated ms (InFirst e) b = in_first negated ms (escape_step e b)
 set_step negated ms (InLast first e) b = in_last negated ms first (escape_step e b)
 
 -- the members that a byte ends
-unfoldable pub ended_last : End → EscapeStep → List Member
-ended_last first (EscapeOn e) = []
-ended_last first (EscapeRead e) = Range first (EscapedEnd e) ∷ []
-ended_last first EscapeWrong = []
+unfoldable pub last_members : End → EscapeStep → List Member
+last_members first (EscapeOn e) = []
+last_members first (EscapeRead e) = Range first (EscapedEnd e) ∷ []
+last_members first EscapeWrong = []
 
-unfoldable pub ended : Part → ℕ → List Member
-ended AtStart b = []
-ended Between b = []
-ended (HasEnd end) b = if b == 45 then [] else Single end ∷ []
-ended (HasDash first) b = if is_end b then Range first (Itself b) ∷ [] else []
-ended (InFirst e) b = []
-ended (InLast first e) b = ended_last first (escape_step e b)
+unfoldable pub ended_members : Part → ℕ → List Member
+ended_members AtStart b = []
+ended_members Between b = []
+ended_members (HasEnd end) b = if b == byte.hyphen then [] else Single end ∷ []
+ended_members (HasDash first) b = if is_end b then Range first (Itself b) ∷ [] else []
+ended_members (InFirst e) b = []
+ended_members (InLast first e) b = last_members first (escape_step e b)
 
 -- ---- a count in braces
 
@@ -91,12 +92,12 @@ pub data CountStep : Type 0 where
   CountWrong : CountStep
 
 unfoldable pub count_step : Counting → ℕ → CountStep
-count_step Opened b = if is_digit b then CountOn (Low (b ∷ [])) else if b == 44 then CountOn OnlyComma else CountWrong
-count_step (Low n) b = if is_digit b then CountOn (Low (n ++ b ∷ [])) else if b == 44 then CountOn (LowComma n) else if b == 125 then CountRead (Exactly n) else CountWrong
-count_step (LowComma n) b = if is_digit b then CountOn (LowHigh n (b ∷ [])) else if b == 125 then CountRead (AtLeast n) else CountWrong
-count_step (LowHigh n m) b = if is_digit b then CountOn (LowHigh n (m ++ b ∷ [])) else if b == 125 then CountRead (Within n m) else CountWrong
+count_step Opened b = if is_digit b then CountOn (Low (b ∷ [])) else if b == byte.comma then CountOn OnlyComma else CountWrong
+count_step (Low n) b = if is_digit b then CountOn (Low (n ++ b ∷ [])) else if b == byte.comma then CountOn (LowComma n) else if b == byte.close_brace then CountRead (Exactly n) else CountWrong
+count_step (LowComma n) b = if is_digit b then CountOn (LowHigh n (b ∷ [])) else if b == byte.close_brace then CountRead (AtLeast n) else CountWrong
+count_step (LowHigh n m) b = if is_digit b then CountOn (LowHigh n (m ++ b ∷ [])) else if b == byte.close_brace then CountRead (Within n m) else CountWrong
 count_step OnlyComma b = if is_digit b then CountOn (High (b ∷ [])) else CountWrong
-count_step (High m) b = if is_digit b then CountOn (High (m ++ b ∷ [])) else if b == 125 then CountRead (AtMost m) else CountWrong
+count_step (High m) b = if is_digit b then CountOn (High (m ++ b ∷ [])) else if b == byte.close_brace then CountRead (AtMost m) else CountWrong
 
 -- ---- the whole
 
@@ -139,11 +140,11 @@ abbrev pub goes : Mode → List Entry → Option State
 goes mode entries = Some (record { mode = mode; entries = entries })
 
 -- a parenthesis that closes, where the newest regex is above a mark
-unfoldable pub close : Regex × List Entry → Option State
-close (r, []) = None
-close (r, Mark ∷ es) = goes (After (Group r)) es
-close (r, Ended a ∷ es) = None
-close (r, Read p ∷ es) = None
+unfoldable pub after_group : Regex × List Entry → Option State
+after_group (r, []) = None
+after_group (r, Mark ∷ es) = goes (After (Group r)) es
+after_group (r, Ended a ∷ es) = None
+after_group (r, Read p ∷ es) = None
 
 unfoldable pub end_branch : Branch × List Entry → Option State
 end_branch (b, es) = goes Ready (Ended b ∷ es)
@@ -151,20 +152,20 @@ end_branch (b, es) = goes Ready (Ended b ∷ es)
 unfoldable pub begin_piece : List Entry → ℕ → Option State
 begin_piece es b =
     if is_plain b then goes (After (Plain b)) es
-    else if b == 92 then goes (InEscape Begun) es
-    else if b == 46 then goes (After Dot) es
-    else if b == 91 then goes (InSet false [] AtStart) es
-    else if b == 40 then goes Ready (Mark ∷ es)
-    else if b == 124 then end_branch (take_pieces es Empty)
-    else if b == 41 then close (take_regex es)
+    else if b == byte.backslash then goes (InEscape Begun) es
+    else if b == byte.dot then goes (After Dot) es
+    else if b == byte.open_bracket then goes (InSet false [] AtStart) es
+    else if b == byte.open_paren then goes Ready (Mark ∷ es)
+    else if b == byte.bar then end_branch (take_pieces es Empty)
+    else if b == byte.close_paren then after_group (take_regex es)
     else None
 
 unfoldable pub after_item : Item → List Entry → ℕ → Option State
 after_item i es b =
-    if b == 42 then goes Ready (Read (Turns i Star) ∷ es)
-    else if b == 43 then goes Ready (Read (Turns i Plus) ∷ es)
-    else if b == 63 then goes Ready (Read (Turns i Quest) ∷ es)
-    else if b == 123 then goes (InCount i Opened) es
+    if b == byte.asterisk then goes Ready (Read (Turns i Star) ∷ es)
+    else if b == byte.plus then goes Ready (Read (Turns i Plus) ∷ es)
+    else if b == byte.question then goes Ready (Read (Turns i Quest) ∷ es)
+    else if b == byte.open_brace then goes (InCount i Opened) es
     else begin_piece (Read (Once i) ∷ es) b
 
 unfoldable pub on_escape : List Entry → EscapeStep → Option State
@@ -197,20 +198,20 @@ unfoldable pub next : Option State → ℕ → Option State
 next None b = None
 next (Some s) b = step s b
 
-unfoldable pub reads : Option State → List ℕ → Option State
-reads o [] = o
-reads o (b ∷ bs) = reads (next o b) bs
+unfoldable pub state_after : Option State → List ℕ → Option State
+state_after o [] = o
+state_after o (b ∷ bs) = state_after (next o b) bs
 
 -- nothing is open
-unfoldable pub whole : Regex × List Entry → Option Regex
-whole (r, []) = Some r
-whole (r, Mark ∷ es) = None
-whole (r, Ended a ∷ es) = None
-whole (r, Read p ∷ es) = None
+unfoldable pub whole_regex : Regex × List Entry → Option Regex
+whole_regex (r, []) = Some r
+whole_regex (r, Mark ∷ es) = None
+whole_regex (r, Ended a ∷ es) = None
+whole_regex (r, Read p ∷ es) = None
 
 unfoldable pub finish_in : Mode → List Entry → Option Regex
-finish_in Ready es = whole (take_regex es)
-finish_in (After i) es = whole (take_regex (Read (Once i) ∷ es))
+finish_in Ready es = whole_regex (take_regex es)
+finish_in (After i) es = whole_regex (take_regex (Read (Once i) ∷ es))
 finish_in (InEscape e) es = None
 finish_in (InSet negated ms part) es = None
 finish_in (InCount i c) es = None
@@ -224,8 +225,8 @@ start = Some (record { mode = Ready; entries = [] })
 -- ---- what the entries have read
 
 unfoldable pub entry : Entry → List ℕ
-entry Mark = 40 ∷ []
-entry (Ended b) = branch b ++ 124 ∷ []
+entry Mark = byte.open_paren ∷ []
+entry (Ended b) = branch b ++ byte.bar ∷ []
 entry (Read p) = piece p
 
 unfoldable pub entries : List Entry → List ℕ
@@ -235,35 +236,35 @@ entries (e ∷ es) = entries es ++ entry e
 -- ---- what a state has read
 
 unfoldable pub escaping : Escaping → List ℕ
-escaping Begun = 92 ∷ []
-escaping HexBegun = 92 ∷ 120 ∷ []
-escaping (HexOne high) = 92 ∷ 120 ∷ high ∷ []
+escaping Begun = byte.backslash ∷ []
+escaping HexBegun = byte.backslash ∷ byte.letter_x ∷ []
+escaping (HexOne high) = byte.backslash ∷ byte.letter_x ∷ high ∷ []
 
 unfoldable pub part : Part → List ℕ
 part AtStart = []
 part Between = []
 part (HasEnd end) = end_of end
-part (HasDash end) = end_of end ++ 45 ∷ []
+part (HasDash end) = end_of end ++ byte.hyphen ∷ []
 part (InFirst e) = escaping e
-part (InLast first e) = end_of first ++ 45 ∷ escaping e
+part (InLast first e) = end_of first ++ byte.hyphen ∷ escaping e
 
 unfoldable pub set_so_far : Bool → List Member → Part → List ℕ
-set_so_far negated ms p = 91 ∷ caret negated ++ (members ms ++ part p)
+set_so_far negated ms p = byte.open_bracket ∷ caret negated ++ (members ms ++ part p)
 
 unfoldable pub counting : Counting → List ℕ
 counting Opened = []
 counting (Low n) = n
-counting (LowComma n) = n ++ 44 ∷ []
-counting (LowHigh n m) = n ++ 44 ∷ m
-counting OnlyComma = 44 ∷ []
-counting (High m) = 44 ∷ m
+counting (LowComma n) = n ++ byte.comma ∷ []
+counting (LowHigh n m) = n ++ byte.comma ∷ m
+counting OnlyComma = byte.comma ∷ []
+counting (High m) = byte.comma ∷ m
 
 unfoldable pub mode : Mode → List ℕ
 mode Ready = []
 mode (After i) = item i
 mode (InEscape e) = escaping e
 mode (InSet negated ms p) = set_so_far negated ms p
-mode (InCount i c) = item i ++ 123 ∷ counting c
+mode (InCount i c) = item i ++ byte.open_brace ∷ counting c
 
-unfoldable pub spelled : State → List ℕ
-spelled s = entries s.entries ++ mode s.mode
+unfoldable pub bytes_read : State → List ℕ
+bytes_read s = entries s.entries ++ mode s.mode

@@ -1,4 +1,5 @@
 -- The breaks of what the machine holds, and what one more byte adds to them; what the code notes of breaks and depth.
+use Rattle.kex_tokens.specs.Bytes as byte
 use Rattle.std.specs.Prelude.{ℕ, suc, ◌+◌, ◌-◌, Bool, true, false, not, ◌&&◌, ◌||◌, List, [], ◌∷◌, ◌++◌, length, Option, Some, None, ◌==◌, if◌then◌else◌}
 use Rattle.kex_byteset.specs.Sets.{has}
 use Rattle.kex_regexp.specs.declared.counts.CountOutcome.{CountOutcome}
@@ -8,7 +9,7 @@ use Rattle.kex_regexp.specs.declared.wait.Wait.{Wait}
 use Rattle.kex_regexp.specs.declared.wait.Wait.TheVariants as waits
 use Rattle.kex_regexp.specs.Breaks.{Break, BadCount, BadSet, OverLimit, when, is_bad_count, is_bad_set, branch_breaks, piece_breaks, item_breaks, comes_before}
 use Rattle.kex_regexp.specs.Grammar.{item}
-use Rattle.kex_regexp.specs.Held.{held_bad_turns, held_count}
+use Rattle.kex_regexp.specs.Outcomes.{are_bad_turns, count_outcome}
 use Rattle.kex_regexp.specs.Values.{any_below, flipped}
 use Rattle.kex_regexp.specs.Machine.{Entry, Mark, Ended, Read, Mode, Ready, After, InEscape, InSet, InCount, State, SetStep, SetOn, SetRead, SetWrong, set_step, CountStep, CountOn, CountRead, CountWrong, count_step, entries}
 
@@ -51,25 +52,25 @@ state_breaks base depth s = entries_breaks base depth s.entries ++ mode_breaks s
 
 -- ---- what one byte more adds
 
-unfoldable pub opens : ℕ → ℕ → ℕ → List Break
-opens at depth b = if b == 40 then when (depth == 200) (OverLimit at) else []
+unfoldable pub nesting_breaks : ℕ → ℕ → ℕ → List Break
+nesting_breaks at depth b = if b == byte.open_paren then when (depth == 200) (OverLimit at) else []
 
-unfoldable pub set_noted : ℕ → SetStep → List Break
-set_noted at (SetOn negated ms p) = []
-set_noted at (SetRead negated ms) = when (is_bad_set negated ms) (BadSet at)
-set_noted at SetWrong = []
+unfoldable pub set_breaks : ℕ → SetStep → List Break
+set_breaks at (SetOn negated ms p) = []
+set_breaks at (SetRead negated ms) = when (is_bad_set negated ms) (BadSet at)
+set_breaks at SetWrong = []
 
-unfoldable pub count_noted : ℕ → CountStep → List Break
-count_noted at (CountOn c) = []
-count_noted at (CountRead p) = when (is_bad_count p) (BadCount at)
-count_noted at CountWrong = []
+unfoldable pub count_breaks : ℕ → CountStep → List Break
+count_breaks at (CountOn c) = []
+count_breaks at (CountRead p) = when (is_bad_count p) (BadCount at)
+count_breaks at CountWrong = []
 
-unfoldable pub noted_in : ℕ → ℕ → Mode → ℕ → List Break
-noted_in at depth Ready b = opens at depth b
-noted_in at depth (After i) b = opens (at + length (item i)) depth b
-noted_in at depth (InEscape e) b = []
-noted_in at depth (InSet negated ms p) b = set_noted at (set_step negated ms p b)
-noted_in at depth (InCount i c) b = count_noted (at + length (item i)) (count_step c b)
+unfoldable pub byte_breaks : ℕ → ℕ → Mode → ℕ → List Break
+byte_breaks at depth Ready b = nesting_breaks at depth b
+byte_breaks at depth (After i) b = nesting_breaks (at + length (item i)) depth b
+byte_breaks at depth (InEscape e) b = []
+byte_breaks at depth (InSet negated ms p) b = set_breaks at (set_step negated ms p b)
+byte_breaks at depth (InCount i c) b = count_breaks (at + length (item i)) (count_step c b)
 
 -- ---- what the code notes
 
@@ -77,32 +78,32 @@ abbrev pub is_after : Wait → Bool
 is_after (waits.After part) = true
 is_after _ = false
 
-unfoldable pub held_bad_set : SetSoFar → Bool → Bool
-held_bad_set set negated = set.backward || not (any_below 256 (λ b. flipped negated (has set.bytes b)))
+unfoldable pub is_bad_set_so_far : SetSoFar → Bool → Bool
+is_bad_set_so_far set negated = set.backward || not (any_below 256 (λ b. flipped negated (has set.bytes b)))
 
-unfoldable pub held_opens : ℕ → ℕ → ℕ → Option Break
-held_opens depth at b = if (b == 40) && (depth == 200) then Some (OverLimit at) else None
+unfoldable pub nesting_break : ℕ → ℕ → ℕ → Option Break
+nesting_break depth at b = if (b == byte.open_paren) && (depth == 200) then Some (OverLimit at) else None
 
-unfoldable pub held_ends_count : CountOutcome → ℕ → Option Break
-held_ends_count (outcomes.On c) brace = None
-held_ends_count (outcomes.Read l h) brace = if held_bad_turns l h then Some (BadCount brace) else None
-held_ends_count outcomes.Wrong brace = None
+unfoldable pub count_break : CountOutcome → ℕ → Option Break
+count_break (outcomes.On c) brace = None
+count_break (outcomes.Read l h) brace = if are_bad_turns l h then Some (BadCount brace) else None
+count_break outcomes.Wrong brace = None
 
-unfoldable pub held_noted : Wait → Wait → SetSoFar → ℕ → ℕ → ℕ → Option Break
-held_noted waits.Ready next set depth at b = held_opens depth at b
-held_noted (waits.After part) next set depth at b = held_opens depth at b
-held_noted (waits.InEscape e from) next set depth at b = None
-held_noted (waits.InSet negated empty part from) next set depth at b = if is_after next && held_bad_set set negated then Some (BadSet from) else None
-held_noted (waits.InCount part count brace) next set depth at b = held_ends_count (held_count count b) brace
+unfoldable pub byte_break : Wait → Wait → SetSoFar → ℕ → ℕ → ℕ → Option Break
+byte_break waits.Ready next set depth at b = nesting_break depth at b
+byte_break (waits.After part) next set depth at b = nesting_break depth at b
+byte_break (waits.InEscape e from) next set depth at b = None
+byte_break (waits.InSet negated empty part from) next set depth at b = if is_after next && is_bad_set_so_far set negated then Some (BadSet from) else None
+byte_break (waits.InCount part count brace) next set depth at b = count_break (count_outcome count b) brace
 
 unfoldable pub depth_after : ℕ → ℕ → ℕ
-depth_after depth b = if b == 40 then depth + 1 else if b == 41 then depth - 1 else depth
+depth_after depth b = if b == byte.open_paren then depth + 1 else if b == byte.close_paren then depth - 1 else depth
 
-unfoldable pub held_depth : Wait → ℕ → ℕ → ℕ
-held_depth waits.Ready depth b = depth_after depth b
-held_depth (waits.After part) depth b = depth_after depth b
-held_depth _ depth b = depth
+unfoldable pub next_depth : Wait → ℕ → ℕ → ℕ
+next_depth waits.Ready depth b = depth_after depth b
+next_depth (waits.After part) depth b = depth_after depth b
+next_depth _ depth b = depth
 
-unfoldable pub held_lesser : Option Break → Option Break → Option Break
-held_lesser least None = least
-held_lesser least (Some b) = lesser least b
+unfoldable pub lesser_of : Option Break → Option Break → Option Break
+lesser_of least None = least
+lesser_of least (Some b) = lesser least b

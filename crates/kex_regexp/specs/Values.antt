@@ -1,4 +1,5 @@
 -- What escapes, sets and counts stand for.
+use Rattle.kex_tokens.specs.Bytes as byte
 use Rattle.std.specs.Prelude.{ℕ, zero, suc, ◌+◌, ◌*◌, ◌-◌, Bool, true, false, not, ◌&&◌, ◌||◌, List, [], ◌∷◌, Option, Some, None, nat_le, nat_lt, ◌==◌, if◌then◌else◌}
 use Rattle.kex_regexp.specs.Grammar.{End, Itself, EscapedEnd, Escape, Newline, Tab, Return, Hex, Punctuation, Member, Single, Range, Postfix, Star, Plus, Quest, Exactly, AtLeast, AtMost, Within}
 
@@ -8,9 +9,9 @@ unfoldable pub hex_value : ℕ → ℕ
 hex_value d = if nat_le 48 d && nat_le d 57 then d - 48 else if nat_le 65 d && nat_le d 70 then d - 55 else if nat_le 97 d && nat_le d 102 then d - 87 else 0
 
 unfoldable pub escaped_byte : Escape → ℕ
-escaped_byte Newline = 10
-escaped_byte Tab = 9
-escaped_byte Return = 13
+escaped_byte Newline = byte.line_feed
+escaped_byte Tab = byte.tab
+escaped_byte Return = byte.carriage_return
 escaped_byte (Hex high low) = 16 * hex_value high + hex_value low
 escaped_byte (Punctuation byte) = byte
 
@@ -56,7 +57,7 @@ any_below (suc n) test = any_below n test || test n
 -- the value of decimal digits, behind digits of value v
 unfoldable pub number_from : ℕ → List ℕ → ℕ
 number_from v [] = v
-number_from v (d ∷ ds) = number_from (10 * v + (d - 48)) ds
+number_from v (d ∷ ds) = number_from (10 * v + (d - byte.digit_0)) ds
 
 unfoldable pub number : List ℕ → ℕ
 number ds = number_from 0 ds

@@ -4,8 +4,8 @@ ghost use Rattle.std.specs.Prelude.{◌≡◌, ℕ, ◌+◌, ◌<◌, ◌^◌, L
 ghost use Rattle.kex_regexp.specs.Bodies.{IsRefusal, Spells, fault_of};
 ghost use Rattle.kex_regexp.specs.Breaks.{regex_breaks};
 ghost use Rattle.kex_regexp.specs.Grammar.{Regex, Empty};
-ghost use Rattle.kex_regexp.specs.Holding.{Ends, FramesShow, InFrames, IsHeld, SomeFrames, SomeState, StandsFor};
-ghost use Rattle.kex_regexp.specs.Machine.{Entry, State, entries, spelled, take_regex, whole, finish as spec_finish};
+ghost use Rattle.kex_regexp.specs.Holding.{Ends, FramesShow, InFrames, IsHeld, SomeFrames, SomeState, ShowsState};
+ghost use Rattle.kex_regexp.specs.Machine.{Entry, State, entries, bytes_read, take_regex, whole_regex, finish as spec_finish};
 ghost use Rattle.kex_regexp.specs.Parents.{NoneLost};
 ghost use Rattle.kex_regexp.specs.Shown.{Adds, ShowsRegex};
 
@@ -20,12 +20,12 @@ use kex_model::builder::Builder;
 use std::alloc::Global;
 
 /// The regex that is left, where nothing stands open.
-#[tactic(auto, using(crate::proofs::Adding::adding))]
+#[tactic(auto, using(crate::proofs::Additions::adding))]
 fn end(frames: &mut Vec<Frame>, into: &mut Builder, at: u32) -> Result<u32, StepFault>
     requires { SomeFrames into.old frames.old.items at }
     ensures adds { Adds into.old into.new }
     ensures nodes { IfOk result (λ m. NoneLost into.old into.new (InFrames frames.old.items) (λ n. n ≡ m)) }
-    ensures ends { (base : ℕ) (es : List Entry) → FramesShow into.old base (reverse frames.old.items) es → at ≡ base + length (entries es) → Ends into.new base result (whole (take_regex es)) }
+    ensures ends { (base : ℕ) (es : List Entry) → FramesShow into.old base (reverse frames.old.items) es → at ≡ base + length (entries es) → Ends into.new base result (whole_regex (take_regex es)) }
 {
     let Ok(regex) = close_regex(frames, into, at) else {
         return Err(StepFault::Memory);
@@ -38,7 +38,7 @@ fn end(frames: &mut Vec<Frame>, into: &mut Builder, at: u32) -> Result<u32, Step
 }
 
 /// The node of the body, where it may end.
-#[tactic(auto, using(crate::proofs::Adding::adding))]
+#[tactic(auto, using(crate::proofs::Additions::adding))]
 fn finish(
     frames: &mut Vec<Frame>,
     into: &mut Builder,
@@ -48,7 +48,7 @@ fn finish(
     requires { SomeState into.old frames.old.items wait at }
     ensures adds { Adds into.old into.new }
     ensures nodes { IfOk result (λ m. NoneLost into.old into.new (IsHeld frames.old.items wait) (λ n. n ≡ m)) }
-    ensures ends { (base : ℕ) (s : State) → StandsFor into.old base frames.old.items wait s → at ≡ base + length (spelled s) → Ends into.new base result (spec_finish s) }
+    ensures ends { (base : ℕ) (s : State) → ShowsState into.old base frames.old.items wait s → at ≡ base + length (bytes_read s) → Ends into.new base result (spec_finish s) }
 {
     match wait {
         Wait::Ready => end(frames, into, at),
@@ -69,7 +69,7 @@ fn finish(
 }
 
 /// Reads a body, which begins at the offset `at` of the text, under `depth` open marks, and gives the number of its node.
-#[tactic(auto, using(crate::proofs::Adding::adding))]
+#[tactic(auto, using(crate::proofs::Additions::adding))]
 pub fn regex(
     alloc: Global,
     bytes: &[u8],

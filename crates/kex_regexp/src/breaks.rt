@@ -3,7 +3,7 @@
 ghost use Rattle.std.specs.Prelude.{◌≡◌};
 ghost use Rattle.kex_regexp.specs.Bodies.{fault_of};
 ghost use Rattle.kex_regexp.specs.Breaks.{offset, rank};
-ghost use Rattle.kex_regexp.specs.Notes.{held_lesser};
+ghost use Rattle.kex_regexp.specs.Notes.{lesser_of};
 
 use crate::fault::RegexFault;
 
@@ -55,9 +55,9 @@ impl Break {
 }
 
 /// The one of the lower number, and then of the lower offset.
-#[tactic(auto, unfolding(crate::specs::Notes::held_lesser))]
+#[tactic(auto, unfolding(crate::specs::Notes::lesser_of))]
 pub fn lesser(least: Option<Break>, new: Option<Break>) -> Option<Break>
-    ensures { result ≡ held_lesser least new }
+    ensures { result ≡ lesser_of least new }
 {
     let Some(b) = new else {
         return least;

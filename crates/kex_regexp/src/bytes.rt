@@ -1,8 +1,7 @@
 //! Which bytes are what.
 
-ghost use Rattle.std.specs.Prelude.{◌≡◌, ◌≤◌};
-ghost use Rattle.std.specs.Bool.{OnTrue};
-ghost use Rattle.kex_regexp.specs.Grammar.{is_plain, is_punctuation, is_digit, is_hex, is_end};
+ghost use Rattle.std.specs.Prelude.{◌≡◌};
+ghost use Rattle.kex_regexp.specs.Grammar.{is_plain, is_end};
 
 /// A byte that stands for itself.
 #[tactic(auto, unfolding(crate::specs::Grammar::is_plain))]
@@ -29,31 +28,7 @@ pub fn is_plain(byte: u8) -> bool
     )
 }
 
-/// Punctuation of ASCII.
-#[tactic(auto, unfolding(crate::specs::Grammar::is_punctuation))]
-pub fn is_punctuation(byte: u8) -> bool
-    ensures { result ≡ is_punctuation byte }
-{
-    matches!(byte, 33..=47 | 58..=64 | 91..=96 | 123..=126)
-}
-
-#[tactic(auto, unfolding(crate::specs::Grammar::is_digit))]
-pub fn is_digit(byte: u8) -> bool
-    ensures value { result ≡ is_digit byte }
-    ensures range { OnTrue result ((48 ≤ byte) × (byte ≤ 57)) }
-{
-    byte >= b'0' && byte <= b'9'
-}
-
-#[tactic(auto, unfolding(crate::specs::Grammar::is_hex))]
-pub fn is_hex(byte: u8) -> bool
-    ensures { result ≡ is_hex byte }
-{
-    (byte >= b'0' && byte <= b'9')
-        || (byte >= b'A' && byte <= b'F')
-        || (byte >= b'a' && byte <= b'f')
-}
-
+/// What may be an end of a member of a set.
 #[tactic(auto, unfolding(crate::specs::Grammar::is_end))]
 pub fn is_end(byte: u8) -> bool
     ensures { result ≡ is_end byte }

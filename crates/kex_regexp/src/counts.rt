@@ -1,9 +1,8 @@
 // Counts in braces. A count above 1,000 is held as 1,001.
 
 ghost use Rattle.std.specs.Prelude.{◌≡◌, ◌≤◌};
-ghost use Rattle.kex_regexp.specs.Held.{held_bad_turns, held_count, held_digit};
-
-use crate::bytes::is_digit;
+ghost use Rattle.kex_tokens.specs.Bytes.{close_brace, comma};
+ghost use Rattle.kex_regexp.specs.Outcomes.{are_bad_turns, count_outcome, capped_number};
 
 /// The greatest count that is allowed.
 const MAX_COUNT: u32 = 1000;
@@ -28,19 +27,19 @@ pub enum CountOutcome {
 }
 
 // A digit behind the digits of a count.
-#[tactic(auto, unfolding(crate::specs::Held::held_digit, crate::specs::Grammar::is_digit))]
+#[tactic(auto, unfolding(crate::specs::Outcomes::capped_number, crate::specs::Grammar::is_digit))]
 fn with_digit(value: u32, digit: u8) -> u32
     requires { (48 ≤ digit) × (digit ≤ 57) }
-    ensures { result ≡ held_digit value digit }
+    ensures { result ≡ capped_number value digit }
 {
     (10 * value.min(1001) + (digit - b'0') as u32).min(1001)
 }
 
 // A digit more.
-#[tactic(auto, unfolding(crate::specs::Held::held_count, crate::specs::Grammar::is_digit))]
+#[tactic(auto, unfolding(crate::specs::Outcomes::count_outcome, crate::specs::Grammar::is_digit))]
 fn at_digit(count: Count, digit: u8) -> CountOutcome
     requires { (48 ≤ digit) × (digit ≤ 57) }
-    ensures { result ≡ held_count count digit }
+    ensures { result ≡ count_outcome count digit }
 {
     CountOutcome::On(match count {
         Count::Opened => Count::Low(with_digit(0, digit)),
@@ -59,9 +58,9 @@ fn at_digit(count: Count, digit: u8) -> CountOutcome
 }
 
 // A comma.
-#[tactic(auto, unfolding(crate::specs::Held::held_count, crate::specs::Grammar::is_digit))]
+#[tactic(auto, unfolding(crate::specs::Outcomes::count_outcome, crate::specs::Grammar::is_digit))]
 fn at_comma(count: Count) -> CountOutcome
-    ensures { result ≡ held_count count 44 }
+    ensures { result ≡ count_outcome count comma }
 {
     match count {
         Count::Opened => CountOutcome::On(Count::OnlyComma),
@@ -71,9 +70,9 @@ fn at_comma(count: Count) -> CountOutcome
 }
 
 // The closing brace.
-#[tactic(auto, unfolding(crate::specs::Held::held_count, crate::specs::Grammar::is_digit))]
+#[tactic(auto, unfolding(crate::specs::Outcomes::count_outcome, crate::specs::Grammar::is_digit))]
 fn at_brace(count: Count) -> CountOutcome
-    ensures { result ≡ held_count count 125 }
+    ensures { result ≡ count_outcome count close_brace }
 {
     let (low, high) = match count {
         Count::Opened | Count::OnlyComma => return CountOutcome::Wrong,
@@ -86,11 +85,11 @@ fn at_brace(count: Count) -> CountOutcome
 }
 
 /// One more byte of a count.
-#[tactic(auto, unfolding(crate::specs::Held::held_count))]
+#[tactic(auto, unfolding(crate::specs::Outcomes::count_outcome, crate::specs::Grammar::is_digit))]
 pub fn in_count(count: Count, byte: u8) -> CountOutcome
-    ensures { result ≡ held_count count byte }
+    ensures { result ≡ count_outcome count byte }
 {
-    if is_digit(byte) {
+    if byte.is_ascii_digit() {
         return at_digit(count, byte);
     }
     match byte {
@@ -101,9 +100,9 @@ pub fn in_count(count: Count, byte: u8) -> CountOutcome
 }
 
 /// Whether counts of turns break the rule of counts.
-#[tactic(auto, unfolding(crate::specs::Held::held_bad_turns))]
+#[tactic(auto, unfolding(crate::specs::Outcomes::are_bad_turns))]
 pub fn is_bad_count(low: u32, high: Option<u32>) -> bool
-    ensures { result ≡ held_bad_turns low high }
+    ensures { result ≡ are_bad_turns low high }
 {
     match high {
         None => low > MAX_COUNT,

@@ -1,10 +1,8 @@
 // Escapes.
 
 ghost use Rattle.std.specs.Prelude.{◌≡◌, ◌<◌};
-ghost use Rattle.kex_regexp.specs.Held.{held_escape};
+ghost use Rattle.kex_regexp.specs.Outcomes.{escape_outcome};
 ghost use Rattle.kex_regexp.specs.Values.{hex_value};
-
-use crate::bytes::{is_hex, is_punctuation};
 
 /// What is known of an escape, behind the backslash.
 #[derive(Clone, Copy, Drop)]
@@ -39,9 +37,9 @@ fn hex_value(digit: u8) -> u8
     }
 }
 
-#[tactic(auto, unfolding(crate::specs::Held::held_escape))]
+#[tactic(auto, unfolding(crate::specs::Outcomes::escape_outcome, crate::specs::Grammar::is_punctuation))]
 fn behind_backslash(byte: u8) -> EscapeOutcome
-    ensures { result ≡ held_escape Escaping.Begun byte }
+    ensures { result ≡ escape_outcome Escaping.Begun byte }
 {
     if byte == b'n' {
         EscapeOutcome::Read(b'\n')
@@ -51,7 +49,7 @@ fn behind_backslash(byte: u8) -> EscapeOutcome
         EscapeOutcome::Read(b'\r')
     } else if byte == b'x' {
         EscapeOutcome::On(Escaping::HexBegun)
-    } else if is_punctuation(byte) {
+    } else if byte.is_ascii_punctuation() {
         EscapeOutcome::Read(byte)
     } else {
         EscapeOutcome::Wrong
@@ -59,21 +57,21 @@ fn behind_backslash(byte: u8) -> EscapeOutcome
 }
 
 /// One more byte of an escape.
-#[tactic(auto, unfolding(crate::specs::Held::held_escape))]
+#[tactic(auto, unfolding(crate::specs::Outcomes::escape_outcome, crate::specs::Grammar::is_hex))]
 pub fn escape(escaping: Escaping, byte: u8) -> EscapeOutcome
-    ensures { result ≡ held_escape escaping byte }
+    ensures { result ≡ escape_outcome escaping byte }
 {
     match escaping {
         Escaping::Begun => behind_backslash(byte),
         Escaping::HexBegun => {
-            if is_hex(byte) {
+            if byte.is_ascii_hexdigit() {
                 EscapeOutcome::On(Escaping::HexOne(byte))
             } else {
                 EscapeOutcome::Wrong
             }
         }
         Escaping::HexOne(high) => {
-            if is_hex(byte) {
+            if byte.is_ascii_hexdigit() {
                 EscapeOutcome::Read(16 * hex_value(high) + hex_value(byte))
             } else {
                 EscapeOutcome::Wrong

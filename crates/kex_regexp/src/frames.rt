@@ -65,7 +65,7 @@ pub fn take_mark(frames: &mut Vec<Frame>) -> Option<u32>
 }
 
 /// Ends the branch that is being read: its pieces become one node.
-#[tactic(auto, using(crate::proofs::Adding::adding))]
+#[tactic(auto, using(crate::proofs::Additions::adding))]
 pub fn close_branch(frames: &mut Vec<Frame>, into: &mut Builder, at: u32) -> Result<Placed, Memory>
     requires { SomeFrames into.old frames.old.items at }
     ensures adds { Adds into.old into.new }
@@ -91,7 +91,7 @@ pub fn close_branch(frames: &mut Vec<Frame>, into: &mut Builder, at: u32) -> Res
 }
 
 /// Ends the regex that is being read: its branches become one node.
-#[tactic(auto, using(crate::proofs::Adding::adding))]
+#[tactic(auto, using(crate::proofs::Additions::adding))]
 pub fn close_regex(frames: &mut Vec<Frame>, into: &mut Builder, at: u32) -> Result<Placed, Memory>
     requires { SomeFrames into.old frames.old.items at }
     ensures adds { Adds into.old into.new }

@@ -1,7 +1,7 @@
 // What a byte breaks, and how deep it leaves the place.
 
 ghost use Rattle.std.specs.Prelude.{◌≡◌, ◌+◌, ◌<◌, ◌^◌};
-ghost use Rattle.kex_regexp.specs.Notes.{depth_after, held_depth, held_ends_count, held_noted, held_opens};
+ghost use Rattle.kex_regexp.specs.Notes.{depth_after, next_depth, count_break, byte_break, nesting_break};
 
 use crate::breaks::Break;
 use crate::counts::{CountOutcome, in_count, is_bad_count};
@@ -12,9 +12,9 @@ use crate::wait::Wait;
 const MAX_DEPTH: u64 = 200;
 
 // A parenthesis that raises the nesting above the limit.
-#[tactic(auto, unfolding(crate::specs::Notes::held_opens))]
+#[tactic(auto, unfolding(crate::specs::Notes::nesting_break))]
 fn opens(depth: u64, at: u32, byte: u8) -> Option<Break>
-    ensures { result ≡ held_opens depth at byte }
+    ensures { result ≡ nesting_break depth at byte }
 {
     if byte == b'(' && depth == MAX_DEPTH {
         Some(Break::OverLimit { at })
@@ -24,9 +24,9 @@ fn opens(depth: u64, at: u32, byte: u8) -> Option<Break>
 }
 
 // A count that ends, and breaks its rule.
-#[tactic(auto, unfolding(crate::specs::Notes::held_ends_count))]
+#[tactic(auto, unfolding(crate::specs::Notes::count_break))]
 fn ends_count(outcome: CountOutcome, brace: u32) -> Option<Break>
-    ensures { result ≡ held_ends_count outcome brace }
+    ensures { result ≡ count_break outcome brace }
 {
     match outcome {
         CountOutcome::On(_) => None,
@@ -42,9 +42,9 @@ fn ends_count(outcome: CountOutcome, brace: u32) -> Option<Break>
 }
 
 /// The rule that this byte breaks, if it breaks one; `next` is what is waited for behind it.
-#[tactic(auto, unfolding(crate::specs::Notes::held_noted))]
+#[tactic(auto, unfolding(crate::specs::Notes::byte_break))]
 pub fn noted(wait: Wait, next: Wait, set: &SetSoFar, depth: u64, at: u32, byte: u8) -> Option<Break>
-    ensures { result ≡ held_noted wait next set.now depth at byte }
+    ensures { result ≡ byte_break wait next set.now depth at byte }
 {
     match wait {
         Wait::Ready => opens(depth, at, byte),
@@ -77,10 +77,10 @@ fn beside(depth: u64, byte: u8) -> u64
 }
 
 /// The number of marks that stand open behind this byte.
-#[tactic(auto, unfolding(crate::specs::Notes::held_depth))]
+#[tactic(auto, unfolding(crate::specs::Notes::next_depth))]
 pub fn deeper(wait: Wait, depth: u64, byte: u8) -> u64
     requires { depth + 1 < 2 ^ 64 }
-    ensures { result ≡ held_depth wait depth byte }
+    ensures { result ≡ next_depth wait depth byte }
 {
     match wait {
         Wait::Ready => beside(depth, byte),

@@ -3,8 +3,8 @@
 ghost use Rattle.std.specs.Prelude.{◌≡◌, ◌&&◌, ◌||◌, ℕ, Bool, List, Option, false, not, nat_le, nat_lt, IfSome, IfNone};
 ghost use Rattle.kex_byteset.specs.Sets.{HasExactly, has};
 ghost use Rattle.kex_model.specs.declared.program.Node.{Node};
-ghost use Rattle.kex_regexp.specs.Notes.{held_bad_set};
-ghost use Rattle.kex_regexp.specs.Held.{held_begin, held_between, held_ended, held_first, held_last, held_last_span, held_set};
+ghost use Rattle.kex_regexp.specs.Notes.{is_bad_set_so_far};
+ghost use Rattle.kex_regexp.specs.Outcomes.{begin_outcome, between_outcome, ended_span, first_outcome, last_outcome, last_span, set_outcome};
 ghost use Rattle.kex_regexp.specs.Holding.{IsSetAfter, IsSetIn, ShowsMode};
 ghost use Rattle.kex_regexp.specs.Machine.{Entry, Mode, step_in};
 ghost use Rattle.kex_regexp.specs.declared.sets.SetPart.TheVariants.{HasDash, HasEnd};
@@ -56,9 +56,9 @@ pub struct SetSoFar {
     pub backward: bool,
 }
 
-#[tactic(auto, unfolding(crate::specs::Held::held_begin))]
+#[tactic(auto, unfolding(crate::specs::Outcomes::begin_outcome))]
 fn begin_member(negated: bool, empty: bool, byte: u8) -> SetOutcome
-    ensures { result ≡ held_begin negated empty byte }
+    ensures { result ≡ begin_outcome negated empty byte }
 {
     if is_end(byte) {
         SetOutcome::On {
@@ -77,9 +77,9 @@ fn begin_member(negated: bool, empty: bool, byte: u8) -> SetOutcome
     }
 }
 
-#[tactic(auto, unfolding(crate::specs::Held::held_between))]
+#[tactic(auto, unfolding(crate::specs::Outcomes::between_outcome))]
 fn between_members(negated: bool, empty: bool, byte: u8) -> SetOutcome
-    ensures { result ≡ held_between negated empty byte }
+    ensures { result ≡ between_outcome negated empty byte }
 {
     if empty {
         begin_member(negated, empty, byte)
@@ -90,9 +90,9 @@ fn between_members(negated: bool, empty: bool, byte: u8) -> SetOutcome
     }
 }
 
-#[tactic(auto, unfolding(crate::specs::Held::held_first))]
+#[tactic(auto, unfolding(crate::specs::Outcomes::first_outcome))]
 fn in_first_end(negated: bool, empty: bool, escaped: EscapeOutcome) -> SetOutcome
-    ensures { result ≡ held_first negated empty escaped }
+    ensures { result ≡ first_outcome negated empty escaped }
 {
     let part = match escaped {
         EscapeOutcome::On(escaping) => SetPart::InFirst(escaping),
@@ -106,9 +106,9 @@ fn in_first_end(negated: bool, empty: bool, escaped: EscapeOutcome) -> SetOutcom
     }
 }
 
-#[tactic(auto, unfolding(crate::specs::Held::held_last))]
+#[tactic(auto, unfolding(crate::specs::Outcomes::last_outcome))]
 fn in_last_end(negated: bool, empty: bool, first: u8, escaped: EscapeOutcome) -> SetOutcome
-    ensures { result ≡ held_last negated empty first escaped }
+    ensures { result ≡ last_outcome negated empty first escaped }
 {
     match escaped {
         EscapeOutcome::On(escaping) => SetOutcome::On {
@@ -126,9 +126,9 @@ fn in_last_end(negated: bool, empty: bool, first: u8, escaped: EscapeOutcome) ->
 }
 
 // A byte behind an end, which may begin a range.
-#[tactic(auto, unfolding(crate::specs::Held::held_set))]
+#[tactic(auto, unfolding(crate::specs::Outcomes::set_outcome))]
 fn behind_end(negated: bool, empty: bool, end: u8, byte: u8) -> SetOutcome
-    ensures { result ≡ held_set negated empty (HasEnd end) byte }
+    ensures { result ≡ set_outcome negated empty (HasEnd end) byte }
 {
     if byte == b'-' {
         SetOutcome::On {
@@ -142,9 +142,9 @@ fn behind_end(negated: bool, empty: bool, end: u8, byte: u8) -> SetOutcome
 }
 
 // A byte behind the dash of a range.
-#[tactic(auto, unfolding(crate::specs::Held::held_set))]
+#[tactic(auto, unfolding(crate::specs::Outcomes::set_outcome))]
 fn behind_dash(negated: bool, empty: bool, first: u8, byte: u8) -> SetOutcome
-    ensures { result ≡ held_set negated empty (HasDash first) byte }
+    ensures { result ≡ set_outcome negated empty (HasDash first) byte }
 {
     if is_end(byte) {
         SetOutcome::On {
@@ -165,9 +165,9 @@ fn behind_dash(negated: bool, empty: bool, first: u8, byte: u8) -> SetOutcome
 }
 
 /// What a byte makes of a set, where it stands in this part of it.
-#[tactic(auto, unfolding(crate::specs::Held::held_set))]
+#[tactic(auto, unfolding(crate::specs::Outcomes::set_outcome))]
 pub fn in_set(negated: bool, empty: bool, part: SetPart, byte: u8) -> SetOutcome
-    ensures { result ≡ held_set negated empty part byte }
+    ensures { result ≡ set_outcome negated empty part byte }
 {
     match part {
         SetPart::AtStart if byte == b'^' => SetOutcome::On {
@@ -189,9 +189,9 @@ pub fn in_set(negated: bool, empty: bool, part: SetPart, byte: u8) -> SetOutcome
 }
 
 /// The member that a byte ends, if it ends one.
-#[tactic(auto, unfolding(crate::specs::Held::held_ended, crate::specs::Held::held_last_span))]
+#[tactic(auto, unfolding(crate::specs::Outcomes::ended_span, crate::specs::Outcomes::last_span))]
 fn ended(part: SetPart, byte: u8) -> Option<Span>
-    ensures { result ≡ held_ended part byte }
+    ensures { result ≡ ended_span part byte }
 {
     match part {
         SetPart::AtStart => None,
@@ -273,9 +273,9 @@ impl SetSoFar {
     }
 
     /// Whether the set breaks the rule of sets.
-    #[tactic(auto, unfolding(crate::specs::Notes::held_bad_set))]
+    #[tactic(auto, unfolding(crate::specs::Notes::is_bad_set_so_far))]
     pub fn is_bad(&self, negated: bool) -> bool
-        ensures { result ≡ held_bad_set self.now negated }
+        ensures { result ≡ is_bad_set_so_far self.now negated }
     {
         self.backward || !self.read(negated).has_any()
     }

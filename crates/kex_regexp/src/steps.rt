@@ -2,8 +2,8 @@
 
 ghost use Rattle.std.specs.Prelude.{◌≡◌, ℕ, ◌+◌, ◌<◌, List, [], ◌∷◌, ◌++◌, length, reverse, OnOk, IfOk, IfErr};
 ghost use Rattle.kex_regexp.specs.Grammar.{Item, Postfix, Empty, Turns, item as spelled_item};
-ghost use Rattle.kex_regexp.specs.Holding.{FramesShow, HoldsItem, IsSetAfter, LosesNone, IsTurns, OnItem, ShowsCountStep, ShowsEscape, ShowsSet, SomeBehind, SomeFrames, SomeItem, SomeState, StandsFor, Steps, capped, capped_option};
-ghost use Rattle.kex_regexp.specs.Machine.{EscapeStep, SetStep, CountStep, Entry, Read, Ready, State, entries, spelled, goes, take_pieces, take_regex, begin_piece, after_item, end_branch, close as close_parenthesis, on_escape as spec_on_escape, on_set as spec_on_set, on_count as spec_on_count, step as spec_step};
+ghost use Rattle.kex_regexp.specs.Holding.{FramesShow, HoldsItem, IsSetAfter, LosesNone, IsTurns, OnItem, ShowsCountStep, ShowsEscape, ShowsSet, SomeBehind, SomeFrames, SomeItem, SomeState, ShowsState, Steps, capped, capped_option};
+ghost use Rattle.kex_regexp.specs.Machine.{EscapeStep, SetStep, CountStep, Entry, Read, Ready, State, entries, bytes_read, goes, take_pieces, take_regex, begin_piece, after_item, end_branch, after_group as close_parenthesis, on_escape as spec_on_escape, on_set as spec_on_set, on_count as spec_on_count, step as spec_step};
 ghost use Rattle.kex_regexp.specs.Parents.{NoneLost};
 ghost use Rattle.kex_regexp.specs.Shown.{Adds, IsNode};
 ghost use Rattle.kex_regexp.specs.Values.{low as low_of, high as high_of};
@@ -30,7 +30,7 @@ pub fn push(frames: &mut Vec<Frame>, frame: Frame) -> Result<(), StepFault>
 }
 
 /// A class of its own for an item that begins here.
-#[tactic(auto, using(crate::proofs::Adding::adding))]
+#[tactic(auto, using(crate::proofs::Additions::adding))]
 fn leaf(into: &mut Builder, set: ByteSet, at: u32) -> Result<Wait, StepFault>
     ensures adds { Adds into.old into.new }
     ensures nodes { (fs : List Frame) → LosesNone into.old into.new fs Wait.Ready fs result }
@@ -48,7 +48,7 @@ fn leaf(into: &mut Builder, set: ByteSet, at: u32) -> Result<Wait, StepFault>
 }
 
 /// A bar.
-#[tactic(auto, using(crate::proofs::Adding::adding))]
+#[tactic(auto, using(crate::proofs::Additions::adding))]
 fn bar(frames: &mut Vec<Frame>, into: &mut Builder, at: u32) -> Result<Wait, StepFault>
     requires { SomeFrames into.old frames.old.items at }
     ensures adds { Adds into.old into.new }
@@ -69,7 +69,7 @@ fn bar(frames: &mut Vec<Frame>, into: &mut Builder, at: u32) -> Result<Wait, Ste
 }
 
 /// A parenthesis that closes.
-#[tactic(auto, using(crate::proofs::Adding::adding))]
+#[tactic(auto, using(crate::proofs::Additions::adding))]
 fn close(frames: &mut Vec<Frame>, into: &mut Builder, at: u32) -> Result<Wait, StepFault>
     requires { SomeFrames into.old frames.old.items at }
     ensures adds { Adds into.old into.new }
@@ -89,7 +89,7 @@ fn close(frames: &mut Vec<Frame>, into: &mut Builder, at: u32) -> Result<Wait, S
 }
 
 /// A byte where a piece may begin.
-#[tactic(auto, using(crate::proofs::Adding::adding))]
+#[tactic(auto, using(crate::proofs::Additions::adding))]
 fn begin(frames: &mut Vec<Frame>, into: &mut Builder, at: u32, byte: u8) -> Result<Wait, StepFault>
     requires { SomeFrames into.old frames.old.items at }
     ensures adds { Adds into.old into.new }
@@ -127,7 +127,7 @@ fn begin(frames: &mut Vec<Frame>, into: &mut Builder, at: u32, byte: u8) -> Resu
 }
 
 /// The node of an item that takes so many turns; the item itself, where the count is bad.
-#[tactic(auto, using(crate::proofs::Adding::adding))]
+#[tactic(auto, using(crate::proofs::Additions::adding))]
 fn repeated(into: &mut Builder, item: Placed, low: u32, high: Option<u32>) -> Result<u32, Memory>
     requires { item.node < length into.old }
     ensures adds { Adds into.old into.new }
@@ -149,7 +149,7 @@ fn repeated(into: &mut Builder, item: Placed, low: u32, high: Option<u32>) -> Re
 }
 
 /// A piece with a postfix. Where the count is bad the body is refused in the end, and the item stands alone until then.
-#[tactic(auto, using(crate::proofs::Adding::adding))]
+#[tactic(auto, using(crate::proofs::Additions::adding))]
 fn turns(
     frames: &mut Vec<Frame>,
     into: &mut Builder,
@@ -173,8 +173,8 @@ fn turns(
 }
 
 /// A byte behind an item.
-#[tactic(auto, using(crate::proofs::Adding::adding))]
-fn behind(
+#[tactic(auto, using(crate::proofs::Additions::adding))]
+fn byte_after_item(
     frames: &mut Vec<Frame>,
     into: &mut Builder,
     item: Placed,
@@ -211,7 +211,7 @@ fn behind(
 }
 
 /// What comes of a set by a byte.
-#[tactic(auto, using(crate::proofs::Adding::adding))]
+#[tactic(auto, using(crate::proofs::Additions::adding))]
 fn on_set(
     outcome: SetOutcome,
     set: &SetSoFar,
@@ -239,7 +239,7 @@ fn on_set(
 }
 
 /// What comes of an escape by a byte.
-#[tactic(auto, using(crate::proofs::Adding::adding))]
+#[tactic(auto, using(crate::proofs::Additions::adding))]
 fn on_escape(outcome: EscapeOutcome, into: &mut Builder, from: u32) -> Result<Wait, StepFault>
     ensures adds { Adds into.old into.new }
     ensures nodes { (fs : List Frame) → LosesNone into.old into.new fs Wait.Ready fs result }
@@ -253,7 +253,7 @@ fn on_escape(outcome: EscapeOutcome, into: &mut Builder, from: u32) -> Result<Wa
 }
 
 /// What comes of a count by a byte.
-#[tactic(auto, using(crate::proofs::Adding::adding))]
+#[tactic(auto, using(crate::proofs::Additions::adding))]
 fn on_count(
     outcome: CountOutcome,
     frames: &mut Vec<Frame>,
@@ -274,7 +274,7 @@ fn on_count(
 }
 
 /// A byte, in whatever it is waited for. What it ends of a set was taken in before.
-#[tactic(auto, using(crate::proofs::Adding::adding))]
+#[tactic(auto, using(crate::proofs::Additions::adding))]
 pub fn step(
     frames: &mut Vec<Frame>,
     into: &mut Builder,
@@ -286,11 +286,11 @@ pub fn step(
     requires { SomeState into.old frames.old.items wait at }
     ensures adds { Adds into.old into.new }
     ensures nodes { LosesNone into.old into.new frames.old.items wait frames.new.items result }
-    ensures step { (base : ℕ) (s : State) → StandsFor into.old base frames.old.items wait s → IsSetAfter set.now (spec_step s byte) → at ≡ base + length (spelled s) → Steps into.new base frames.new.items result (spec_step s byte) }
+    ensures step { (base : ℕ) (s : State) → ShowsState into.old base frames.old.items wait s → IsSetAfter set.now (spec_step s byte) → at ≡ base + length (bytes_read s) → Steps into.new base frames.new.items result (spec_step s byte) }
 {
     match wait {
         Wait::Ready => begin(frames, into, at, byte),
-        Wait::After(item) => behind(frames, into, item, at, byte),
+        Wait::After(item) => byte_after_item(frames, into, item, at, byte),
         Wait::InEscape { escaping, from } => on_escape(escape(escaping, byte), into, from),
         Wait::InSet {
             negated,

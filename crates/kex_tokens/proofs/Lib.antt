@@ -1,6 +1,6 @@
 pub mod Scans
 pub mod Front
 pub mod Loops
-pub mod Scanned
-pub mod Covering
-pub mod Valued
+pub mod Offsets
+pub mod Cuts
+pub mod LiteralValues

@@ -19,6 +19,9 @@ bang = 33
 abbrev pub quote : ℕ
 quote = 34
 
+abbrev pub dollar : ℕ
+dollar = 36
+
 abbrev pub open_paren : ℕ
 open_paren = 40
 
@@ -36,6 +39,9 @@ comma = 44
 
 abbrev pub hyphen : ℕ
 hyphen = 45
+
+abbrev pub dot : ℕ
+dot = 46
 
 abbrev pub slash : ℕ
 slash = 47
@@ -69,6 +75,9 @@ backslash = 92
 
 abbrev pub close_bracket : ℕ
 close_bracket = 93
+
+abbrev pub caret : ℕ
+caret = 94
 
 abbrev pub underscore : ℕ
 underscore = 95

@@ -1,6 +1,6 @@
 use Rattle.std.proofs.Common.{subst, inl, inr, sym}
 use Rattle.kex_reader.specs.Reading.{take_seq}
-use Rattle.kex_reader.proofs.Stepping.{memory_exit, bar_steps, bar_wrong}
+use Rattle.kex_reader.proofs.Steps.{memory_exit, bar_steps, bar_wrong}
 use Rattle.kex_reader.proofs.Uses.{frames_are, held_as, parts_are}
 use Rattle.kex_reader.proofs.inside.bar.Goals as goal
 

@@ -4,9 +4,9 @@ use Rattle.kex_model.specs.declared.program.Kind.TheVariants as nodes
 use Rattle.kex_reader.specs.Syntax.{One, Lit, Match, between}
 use Rattle.kex_reader.specs.Reading.{entries}
 use Rattle.kex_reader.specs.Shown.{IsNode}
-use Rattle.kex_reader.proofs.Stepping.{to, wrong, named_waits, writing, bracket, one_shows, begin_kind, begin_other, begin_name, begin_literal, begin_regex, begin_tilde, begin_bang, begin_bracket, begin_paren, begin_bar, no_bar, begin_close, no_close, begin_one, begin_number, atom_steps, tilde_steps, paren_steps, atom_of, literal_of, match_of}
+use Rattle.kex_reader.proofs.Steps.{to, wrong, named_waits, writing, bracket, one_shows, begin_kind, begin_other, begin_name, begin_literal, begin_regex, begin_tilde, begin_bang, begin_bracket, begin_paren, begin_bar, no_bar, begin_close, no_close, begin_one, begin_number, atom_steps, tilde_steps, paren_steps, atom_of, literal_of, match_of}
 use Rattle.std.specs.Prelude.{bytes_eq}
-use Rattle.kex_reader.proofs.Kept.{same, on_same, on_apply, on_from, begin_quiet, begin_regex_asks, begin_tilde_asks, begin_paren_asks}
+use Rattle.kex_reader.proofs.MoreChecks.{same, on_same, on_apply, on_from, begin_quiet, begin_regex_asks, begin_tilde_asks, begin_paren_asks}
 use Rattle.kex_reader.proofs.Stacks.{depth_is}
 use Rattle.kex_reader.proofs.Uses.{step_from, unchanged}
 use Rattle.kex_reader.proofs.inside.begin.Goals as goal
@@ -55,13 +55,13 @@ pub returns-in_default : goal.returns-in_default
 returns-in_default c = record { keeps = tt; held = tt; notes = λ at base es h a cs n. tt; step = λ at base es h a. to _ at base _ _ _ _ (begin_other c.args.free es c.args.word.spelling.now c.args.word.kind c.in_default.not-Name c.in_default.not-Number c.in_default.not-Literal c.in_default.not-Regex c.in_default.not-Tilde c.in_default.not-Bang c.in_default.not-OpenBracket c.in_default.not-OpenParen c.in_default.not-Bar c.in_default.not-CloseParen) (wrong c.args.draft.now at base c.args.stack.now) }
 
 pub returns-in-Name-clause-notes : goal.returns-in-Name-clause-notes
-returns-in-Name-clause-notes c = λ at base es h a cs n. subst (λ x. Rattle.kex_reader.specs.Stands.Noted (cs ++ x) c.args.draft.now.broken) (begin_quiet at (base + length (entries es)) es c.args.word.spelling.now c.args.word.kind kinds.Name c.in-Name.is tt) (same cs c.args.draft.now.broken n)
+returns-in-Name-clause-notes c = λ at base es h a cs n. subst (λ x. Rattle.kex_reader.specs.Stands.NotesLeast (cs ++ x) c.args.draft.now.broken) (begin_quiet at (base + length (entries es)) es c.args.word.spelling.now c.args.word.kind kinds.Name c.in-Name.is tt) (same cs c.args.draft.now.broken n)
 
 pub returns-in-Bang-clause-notes : goal.returns-in-Bang-clause-notes
-returns-in-Bang-clause-notes c = λ at base es h a cs n. subst (λ x. Rattle.kex_reader.specs.Stands.Noted (cs ++ x) c.args.draft.now.broken) (begin_quiet at (base + length (entries es)) es c.args.word.spelling.now c.args.word.kind kinds.Bang c.in-Bang.is tt) (same cs c.args.draft.now.broken n)
+returns-in-Bang-clause-notes c = λ at base es h a cs n. subst (λ x. Rattle.kex_reader.specs.Stands.NotesLeast (cs ++ x) c.args.draft.now.broken) (begin_quiet at (base + length (entries es)) es c.args.word.spelling.now c.args.word.kind kinds.Bang c.in-Bang.is tt) (same cs c.args.draft.now.broken n)
 
 pub returns-in-OpenBracket-clause-notes : goal.returns-in-OpenBracket-clause-notes
-returns-in-OpenBracket-clause-notes c = λ at base es h a cs n. subst (λ x. Rattle.kex_reader.specs.Stands.Noted (cs ++ x) c.args.draft.now.broken) (begin_quiet at (base + length (entries es)) es c.args.word.spelling.now c.args.word.kind kinds.OpenBracket c.in-OpenBracket.is tt) (same cs c.args.draft.now.broken n)
+returns-in-OpenBracket-clause-notes c = λ at base es h a cs n. subst (λ x. Rattle.kex_reader.specs.Stands.NotesLeast (cs ++ x) c.args.draft.now.broken) (begin_quiet at (base + length (entries es)) es c.args.word.spelling.now c.args.word.kind kinds.OpenBracket c.in-OpenBracket.is tt) (same cs c.args.draft.now.broken n)
 
 pub returns-in-Literal-clause-notes : goal.returns-in-Literal-clause-notes
 returns-in-Literal-clause-notes c = λ at base es h a cs n. on_from c.literal.result cs [] _ c.literal.new.draft.broken (begin_quiet at (base + length (entries es)) es c.args.word.spelling.now c.args.word.kind kinds.Literal c.in-Literal.is tt) (on_same c.literal.result cs c.args.draft.now.broken c.literal.new.draft.broken c.literal.ensures.broken n)

@@ -1,6 +1,6 @@
 use Rattle.std.proofs.Common.{inl, inr}
 use Rattle.kex_reader.proofs.Stacks.{frames_more}
-use Rattle.kex_reader.proofs.Stepping.{to, memory_exit, wrong, bracket_name, name_other, name_is}
+use Rattle.kex_reader.proofs.Steps.{to, memory_exit, wrong, bracket_name, name_other, name_is}
 use Rattle.kex_reader.specs.Stands.{InFrames}
 use Rattle.kex_reader.proofs.Uses.{beside}
 use Rattle.kex_reader.proofs.inside.bracket.Goals as goal

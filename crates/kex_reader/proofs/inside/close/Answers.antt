@@ -1,6 +1,6 @@
 use Rattle.std.proofs.Common.{subst, inl, inr}
 use Rattle.kex_reader.specs.Reading.{take_term}
-use Rattle.kex_reader.proofs.Stepping.{memory_exit, close_wrong, close_steps, unclosed}
+use Rattle.kex_reader.proofs.Steps.{memory_exit, close_wrong, close_steps, unclosed}
 use Rattle.kex_reader.proofs.Uses.{frames_are, held_as, parts_are}
 use Rattle.kex_reader.proofs.inside.close.Goals as goal
 

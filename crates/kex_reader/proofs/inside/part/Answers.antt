@@ -1,5 +1,5 @@
 use Rattle.std.proofs.Common.{refl, subst, inl, inr}
-use Rattle.kex_reader.proofs.Stepping.{memory_exit}
+use Rattle.kex_reader.proofs.Steps.{memory_exit}
 use Rattle.kex_reader.specs.Syntax.{word}
 use Rattle.kex_reader.specs.Stands.{ShowsMode, ShowsCountStep}
 use Rattle.kex_reader.proofs.Modes.{first_wrong, first_on, next_wrong, next_on}

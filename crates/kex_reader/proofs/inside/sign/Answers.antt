@@ -1,5 +1,5 @@
 use Rattle.std.proofs.Common.{true, false, inl, refl}
-use Rattle.kex_reader.proofs.Stepping.{to, wrong, sign_other, sign_arrow, sign_plus}
+use Rattle.kex_reader.proofs.Steps.{to, wrong, sign_other, sign_arrow, sign_plus}
 use Rattle.kex_reader.proofs.Modes.{assigning_on}
 use Rattle.kex_reader.proofs.inside.sign.Goals as goal
 

@@ -1,14 +1,14 @@
 use Rattle.std.proofs.Common.{◌+◌, [], length, sym, ◌∙◌, subst}
 use Rattle.kex_reader.specs.Syntax.{atom}
 use Rattle.kex_reader.specs.Reading.{entries, After}
-use Rattle.kex_reader.proofs.Stepping.{to}
+use Rattle.kex_reader.proofs.Steps.{to}
 use Rattle.kex_reader.specs.declared.inside.Wait.TheVariants as waits
 use Rattle.kex_reader.specs.Reading.{Assigned, Need, Ready, Named, Writing, Bracket, BracketName, Assigning, InCount, count_step}
 use Rattle.kex_reader.specs.Syntax.{word}
 use Rattle.kex_reader.specs.Stands.{ShowsMode, ShowsCountStep}
-use Rattle.kex_reader.proofs.Counting.{count_refines}
+use Rattle.kex_reader.proofs.CountValues.{count_refines}
 use Rattle.kex_reader.proofs.Modes.{mode_need, mode_ready, mode_after, mode_named, mode_writing, mode_bracket, mode_bracket_name, mode_assigning, mode_assigned, mode_count, step_of, word_place, word_here, in_need, in_ready, in_after, in_named, in_writing, in_bracket, in_bracket_name, in_assigning, in_assigned, in_count, need_long, ready_long, after_long, named_long, some_named, some_atom, some_count, some_counting, some_assigned, some_name}
-use Rattle.kex_reader.proofs.Kept.{on_same, on_from, on_refl, need_asks, ready_asks, mode_after_asks, mode_named_asks, mode_count_asks, quiet_mode}
+use Rattle.kex_reader.proofs.MoreChecks.{on_same, on_from, on_refl, need_asks, ready_asks, mode_after_asks, mode_named_asks, mode_count_asks, quiet_mode}
 use Rattle.kex_reader.proofs.Uses.{sign_read, waiting}
 use Rattle.kex_reader.proofs.inside.step_in.Goals as goal
 
@@ -25,12 +25,12 @@ returns-in-Ready-clause-step c = λ at base i st p.
 pub returns-in-After-clause-step : goal.returns-in-After-clause-step
 returns-in-After-clause-step c = λ at base i st p.
     let m = mode_after c.args.draft.now at (base + length (entries i.entries)) c.in-After.item i.mode (subst (λ w. ShowsMode c.args.draft.now at (base + length (entries i.entries)) w i.mode) (c.in-After.is) st.mode) in
-    to _ at base _ _ _ _ (step_of i (After m.0) (word c.args.word.kind c.args.word.spelling.now) m.1 ∙ in_after m.0 i.entries (word c.args.word.kind c.args.word.spelling.now)) (c.behind.ensures.step at base i.entries m.0 st.below m.2 m.3 (word_place at base c.args.word.at i (After m.0) (length (atom m.0)) m.1 (after_long m.0) p))
+    to _ at base _ _ _ _ (step_of i (After m.0) (word c.args.word.kind c.args.word.spelling.now) m.1 ∙ in_after m.0 i.entries (word c.args.word.kind c.args.word.spelling.now)) (c.word_after_atom.ensures.step at base i.entries m.0 st.below m.2 m.3 (word_place at base c.args.word.at i (After m.0) (length (atom m.0)) m.1 (after_long m.0) p))
 
 pub returns-in-Named-clause-step : goal.returns-in-Named-clause-step
 returns-in-Named-clause-step c = λ at base i st p.
     let m = mode_named c.args.draft.now at (base + length (entries i.entries)) c.in-Named.field-0 c.in-Named.name i.mode (subst (λ w. ShowsMode c.args.draft.now at (base + length (entries i.entries)) w i.mode) (c.in-Named.is) st.mode) in
-    to _ at base _ _ _ _ (step_of i (Named c.in-Named.field-0 c.in-Named.name.bytes.now) (word c.args.word.kind c.args.word.spelling.now) m.0 ∙ in_named c.in-Named.field-0 c.in-Named.name.bytes.now i.entries (word c.args.word.kind c.args.word.spelling.now)) (c.named.ensures.step at base i.entries st.below m.1 (word_place at base c.args.word.at i (Named c.in-Named.field-0 c.in-Named.name.bytes.now) 1 m.0 (named_long c.in-Named.field-0 c.in-Named.name.bytes.now) p))
+    to _ at base _ _ _ _ (step_of i (Named c.in-Named.field-0 c.in-Named.name.bytes.now) (word c.args.word.kind c.args.word.spelling.now) m.0 ∙ in_named c.in-Named.field-0 c.in-Named.name.bytes.now i.entries (word c.args.word.kind c.args.word.spelling.now)) (c.word_after_name.ensures.step at base i.entries st.below m.1 (word_place at base c.args.word.at i (Named c.in-Named.field-0 c.in-Named.name.bytes.now) 1 m.0 (named_long c.in-Named.field-0 c.in-Named.name.bytes.now) p))
 
 pub returns-in-Writing-clause-step : goal.returns-in-Writing-clause-step
 returns-in-Writing-clause-step c = λ at base i st p.
@@ -57,12 +57,12 @@ pub returns-in-Assigned-clause-step : goal.returns-in-Assigned-clause-step
 returns-in-Assigned-clause-step c = λ at base i st p.
     let here = (subst (λ w. ShowsMode c.args.draft.now at (base + length (entries i.entries)) w i.mode) (c.in-Assigned.is) st.mode) in
     let m = mode_assigned c.args.draft.now at (base + length (entries i.entries)) c.in-Assigned.assignment i.mode here in
-    to _ at base _ _ _ _ (step_of i (Assigned m.0 m.1 m.2 m.3) (word c.args.word.kind c.args.word.spelling.now) m.4 ∙ in_assigned m.0 m.1 m.2 m.3 i.entries (word c.args.word.kind c.args.word.spelling.now)) (c.behind_part.ensures.step at base c.args.stack.now i.entries m.0 m.1 m.2 m.3 st.below (subst (λ y. ShowsMode c.args.draft.now at (base + length (entries i.entries)) (waits.Assigned c.in-Assigned.assignment) y) m.4 here))
+    to _ at base _ _ _ _ (step_of i (Assigned m.0 m.1 m.2 m.3) (word c.args.word.kind c.args.word.spelling.now) m.4 ∙ in_assigned m.0 m.1 m.2 m.3 i.entries (word c.args.word.kind c.args.word.spelling.now)) (c.word_after_part.ensures.step at base c.args.stack.now i.entries m.0 m.1 m.2 m.3 st.below (subst (λ y. ShowsMode c.args.draft.now at (base + length (entries i.entries)) (waits.Assigned c.in-Assigned.assignment) y) m.4 here))
 
 pub returns-in-InCount-clause-step : goal.returns-in-InCount-clause-step
 returns-in-InCount-clause-step c = λ at base i st p.
     let m = mode_count c.args.draft.now at (base + length (entries i.entries)) c.in-InCount.item c.in-InCount.count c.in-InCount.brace i.mode (subst (λ w. ShowsMode c.args.draft.now at (base + length (entries i.entries)) w i.mode) (c.in-InCount.is) st.mode) in
-    to _ at base _ _ _ _ (step_of i (InCount m.0 m.1) (word c.args.word.kind c.args.word.spelling.now) m.2 ∙ in_count m.0 m.1 i.entries (word c.args.word.kind c.args.word.spelling.now)) (c.counted.ensures.step at base i.entries m.0 st.below m.3 m.4 (count_step m.1 (word c.args.word.kind c.args.word.spelling.now)) m.6
+    to _ at base _ _ _ _ (step_of i (InCount m.0 m.1) (word c.args.word.kind c.args.word.spelling.now) m.2 ∙ in_count m.0 m.1 i.entries (word c.args.word.kind c.args.word.spelling.now)) (c.go_on_counting.ensures.step at base i.entries m.0 st.below m.3 m.4 (count_step m.1 (word c.args.word.kind c.args.word.spelling.now)) m.6
     (subst (λ x. ShowsCountStep x (count_step m.1 (word c.args.word.kind c.args.word.spelling.now))) (sym c.count_step.ensures) (count_refines c.in-InCount.count m.1 c.args.word.kind c.args.word.spelling.now c.number_value.result c.number_value.ensures m.5)))
 
 pub begin-requires-clause-frames : goal.begin-requires-clause-frames
@@ -71,20 +71,20 @@ begin-requires-clause-frames c = some_named c.args.draft.now c.args.stack.now c.
 pub begin-requires-in-Ready-clause-frames : goal.begin-requires-in-Ready-clause-frames
 begin-requires-in-Ready-clause-frames c = some_named c.args.draft.now c.args.stack.now c.args.wait c.requires.inside
 
-pub behind-requires-clause-atom : goal.behind-requires-clause-atom
-behind-requires-clause-atom c = some_atom c.args.draft.now c.args.stack.now c.args.wait c.in-After.item c.in-After.is c.requires.inside
+pub word_after_atom-requires-clause-atom : goal.word_after_atom-requires-clause-atom
+word_after_atom-requires-clause-atom c = some_atom c.args.draft.now c.args.stack.now c.args.wait c.in-After.item c.in-After.is c.requires.inside
 
-pub named-requires-clause-frames : goal.named-requires-clause-frames
-named-requires-clause-frames c = some_name c.args.draft.now c.args.stack.now c.args.wait c.in-Named.field-0 c.in-Named.name c.in-Named.is c.requires.inside
+pub word_after_name-requires-clause-frames : goal.word_after_name-requires-clause-frames
+word_after_name-requires-clause-frames c = some_name c.args.draft.now c.args.stack.now c.args.wait c.in-Named.field-0 c.in-Named.name c.in-Named.is c.requires.inside
 
-pub behind_part-requires-clause-some : goal.behind_part-requires-clause-some
-behind_part-requires-clause-some c = some_assigned c.args.draft.now c.args.stack.now c.args.wait c.in-Assigned.assignment c.in-Assigned.is c.requires.inside
+pub word_after_part-requires-clause-some : goal.word_after_part-requires-clause-some
+word_after_part-requires-clause-some c = some_assigned c.args.draft.now c.args.stack.now c.args.wait c.in-Assigned.assignment c.in-Assigned.is c.requires.inside
 
-pub counted-requires-clause-atom : goal.counted-requires-clause-atom
-counted-requires-clause-atom c = some_count c.args.draft.now c.args.stack.now c.args.wait c.in-InCount.item c.in-InCount.count c.in-InCount.brace c.in-InCount.is c.requires.inside
+pub go_on_counting-requires-clause-atom : goal.go_on_counting-requires-clause-atom
+go_on_counting-requires-clause-atom c = some_count c.args.draft.now c.args.stack.now c.args.wait c.in-InCount.item c.in-InCount.count c.in-InCount.brace c.in-InCount.is c.requires.inside
 
-pub counted-requires-clause-count : goal.counted-requires-clause-count
-counted-requires-clause-count c =
+pub go_on_counting-requires-clause-count : goal.go_on_counting-requires-clause-count
+go_on_counting-requires-clause-count c =
     let d = some_counting c.args.draft.now c.args.stack.now c.args.wait c.in-InCount.item c.in-InCount.count c.in-InCount.brace c.in-InCount.is c.requires.inside in
     (count_step d.0 (word c.args.word.kind c.args.word.spelling.now), subst (λ x. ShowsCountStep x (count_step d.0 (word c.args.word.kind c.args.word.spelling.now))) (sym c.count_step.ensures) (count_refines c.in-InCount.count d.0 c.args.word.kind c.args.word.spelling.now c.number_value.result c.number_value.ensures d.1))
 
@@ -101,17 +101,17 @@ returns-in-Ready-clause-notes c = λ at base i st p cs n.
 pub returns-in-After-clause-notes : goal.returns-in-After-clause-notes
 returns-in-After-clause-notes c = λ at base i st p cs n.
     let m = mode_after c.args.draft.now at (base + length (entries i.entries)) c.in-After.item i.mode (subst (λ w. ShowsMode c.args.draft.now at (base + length (entries i.entries)) w i.mode) (c.in-After.is) st.mode) in
-    on_from c.behind.result cs _ _ c.behind.new.draft.broken (mode_after_asks at (base + length (entries i.entries)) i (word c.args.word.kind c.args.word.spelling.now) m.0 m.1) (c.behind.ensures.notes at base i.entries m.0 st.below m.2 m.3 (word_place at base c.args.word.at i (After m.0) (length (atom m.0)) m.1 (after_long m.0) p) cs n)
+    on_from c.word_after_atom.result cs _ _ c.word_after_atom.new.draft.broken (mode_after_asks at (base + length (entries i.entries)) i (word c.args.word.kind c.args.word.spelling.now) m.0 m.1) (c.word_after_atom.ensures.notes at base i.entries m.0 st.below m.2 m.3 (word_place at base c.args.word.at i (After m.0) (length (atom m.0)) m.1 (after_long m.0) p) cs n)
 
 pub returns-in-Named-clause-notes : goal.returns-in-Named-clause-notes
 returns-in-Named-clause-notes c = λ at base i st p cs n.
     let m = mode_named c.args.draft.now at (base + length (entries i.entries)) c.in-Named.field-0 c.in-Named.name i.mode (subst (λ w. ShowsMode c.args.draft.now at (base + length (entries i.entries)) w i.mode) (c.in-Named.is) st.mode) in
-    on_from c.named.result cs _ _ c.named.new.draft.broken (mode_named_asks at (base + length (entries i.entries)) i (word c.args.word.kind c.args.word.spelling.now) c.in-Named.field-0 c.in-Named.name.bytes.now m.0) (c.named.ensures.notes at base i.entries st.below m.1 (word_place at base c.args.word.at i (Named c.in-Named.field-0 c.in-Named.name.bytes.now) 1 m.0 (named_long c.in-Named.field-0 c.in-Named.name.bytes.now) p) cs n)
+    on_from c.word_after_name.result cs _ _ c.word_after_name.new.draft.broken (mode_named_asks at (base + length (entries i.entries)) i (word c.args.word.kind c.args.word.spelling.now) c.in-Named.field-0 c.in-Named.name.bytes.now m.0) (c.word_after_name.ensures.notes at base i.entries st.below m.1 (word_place at base c.args.word.at i (Named c.in-Named.field-0 c.in-Named.name.bytes.now) 1 m.0 (named_long c.in-Named.field-0 c.in-Named.name.bytes.now) p) cs n)
 
 pub returns-in-InCount-clause-notes : goal.returns-in-InCount-clause-notes
 returns-in-InCount-clause-notes c = λ at base i st p cs n.
     let m = mode_count c.args.draft.now at (base + length (entries i.entries)) c.in-InCount.item c.in-InCount.count c.in-InCount.brace i.mode (subst (λ w. ShowsMode c.args.draft.now at (base + length (entries i.entries)) w i.mode) (c.in-InCount.is) st.mode) in
-    on_from c.counted.result cs _ _ c.counted.new.draft.broken (mode_count_asks at (base + length (entries i.entries)) i (word c.args.word.kind c.args.word.spelling.now) m.0 m.1 m.2) (c.counted.ensures.notes (count_step m.1 (word c.args.word.kind c.args.word.spelling.now)) (at (base + length (entries i.entries) + length (atom m.0))) m.6
+    on_from c.go_on_counting.result cs _ _ c.go_on_counting.new.draft.broken (mode_count_asks at (base + length (entries i.entries)) i (word c.args.word.kind c.args.word.spelling.now) m.0 m.1 m.2) (c.go_on_counting.ensures.notes (count_step m.1 (word c.args.word.kind c.args.word.spelling.now)) (at (base + length (entries i.entries) + length (atom m.0))) m.6
     (subst (λ x. ShowsCountStep x (count_step m.1 (word c.args.word.kind c.args.word.spelling.now))) (sym c.count_step.ensures) (count_refines c.in-InCount.count m.1 c.args.word.kind c.args.word.spelling.now c.number_value.result c.number_value.ensures m.5)) cs n)
 
 pub returns-in-Writing-clause-notes : goal.returns-in-Writing-clause-notes
@@ -137,7 +137,7 @@ returns-in-Assigning-clause-notes c = λ at base i st p cs n.
 pub returns-in-Assigned-clause-notes : goal.returns-in-Assigned-clause-notes
 returns-in-Assigned-clause-notes c = λ at base i st p cs n.
     let m = mode_assigned c.args.draft.now at (base + length (entries i.entries)) c.in-Assigned.assignment i.mode (subst (λ w. ShowsMode c.args.draft.now at (base + length (entries i.entries)) w i.mode) (c.in-Assigned.is) st.mode) in
-    on_from c.behind_part.result cs [] _ c.behind_part.new.draft.broken (quiet_mode at (base + length (entries i.entries)) i (Assigned m.0 m.1 m.2 m.3) (word c.args.word.kind c.args.word.spelling.now) m.4 tt) (on_same c.behind_part.result cs c.args.draft.now.broken c.behind_part.new.draft.broken c.behind_part.ensures.broken n)
+    on_from c.word_after_part.result cs [] _ c.word_after_part.new.draft.broken (quiet_mode at (base + length (entries i.entries)) i (Assigned m.0 m.1 m.2 m.3) (word c.args.word.kind c.args.word.spelling.now) m.4 tt) (on_same c.word_after_part.result cs c.args.draft.now.broken c.word_after_part.new.draft.broken c.word_after_part.ensures.broken n)
 
 pub returns-in-Need-clause-held : goal.returns-in-Need-clause-held
 returns-in-Need-clause-held c = waiting c.args.wait _ _ _ _ _ _ c.in-Need.is c.begin.ensures.held
@@ -146,10 +146,10 @@ pub returns-in-Ready-clause-held : goal.returns-in-Ready-clause-held
 returns-in-Ready-clause-held c = waiting c.args.wait _ _ _ _ _ _ c.in-Ready.is c.begin-in-Ready.ensures.held
 
 pub returns-in-After-clause-held : goal.returns-in-After-clause-held
-returns-in-After-clause-held c = waiting c.args.wait _ _ _ _ _ _ c.in-After.is c.behind.ensures.held
+returns-in-After-clause-held c = waiting c.args.wait _ _ _ _ _ _ c.in-After.is c.word_after_atom.ensures.held
 
 pub returns-in-Named-clause-held : goal.returns-in-Named-clause-held
-returns-in-Named-clause-held c = waiting c.args.wait _ _ _ _ _ _ c.in-Named.is c.named.ensures.held
+returns-in-Named-clause-held c = waiting c.args.wait _ _ _ _ _ _ c.in-Named.is c.word_after_name.ensures.held
 
 pub returns-in-Writing-clause-held : goal.returns-in-Writing-clause-held
 returns-in-Writing-clause-held c = waiting c.args.wait _ _ _ _ _ _ c.in-Writing.is (c.write.ensures.held c.args.stack.now)
@@ -161,10 +161,10 @@ pub returns-in-Assigning-clause-held : goal.returns-in-Assigning-clause-held
 returns-in-Assigning-clause-held c = waiting c.args.wait _ _ _ _ _ _ c.in-Assigning.is (c.part.ensures.held c.args.stack.now)
 
 pub returns-in-Assigned-clause-held : goal.returns-in-Assigned-clause-held
-returns-in-Assigned-clause-held c = waiting c.args.wait _ _ _ _ _ _ c.in-Assigned.is (c.behind_part.ensures.held c.args.stack.now)
+returns-in-Assigned-clause-held c = waiting c.args.wait _ _ _ _ _ _ c.in-Assigned.is (c.word_after_part.ensures.held c.args.stack.now)
 
 pub returns-in-InCount-clause-held : goal.returns-in-InCount-clause-held
-returns-in-InCount-clause-held c = waiting c.args.wait _ _ _ _ _ _ c.in-InCount.is c.counted.ensures.held
+returns-in-InCount-clause-held c = waiting c.args.wait _ _ _ _ _ _ c.in-InCount.is c.go_on_counting.ensures.held
 
 pub returns-in-BracketName-clause-held : goal.returns-in-BracketName-clause-held
 returns-in-BracketName-clause-held c = waiting c.args.wait _ _ _ _ _ _ c.in-BracketName.is (sign_read c.sign.result c.args.draft.now c.args.stack.now c.in-BracketName.at c.in-BracketName.register c.sign.ensures.held)

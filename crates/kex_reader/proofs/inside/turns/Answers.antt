@@ -1,9 +1,9 @@
 use Rattle.std.proofs.Common.{◌+◌, length, ◌≡◌, ◌⊎◌, inl, inr}
 use Rattle.kex_reader.specs.Syntax.{Turns}
-use Rattle.kex_reader.specs.Reading.{entries, put}
-use Rattle.kex_reader.proofs.Drafting.{atom_within, atom_more}
+use Rattle.kex_reader.specs.Reading.{entries, with_pre}
+use Rattle.kex_reader.proofs.Drafts.{atom_within, atom_more}
 use Rattle.kex_reader.proofs.Stacks.{frames_more}
-use Rattle.kex_reader.proofs.Stepping.{memory_exit, ready, turns_show}
+use Rattle.kex_reader.proofs.Steps.{memory_exit, ready, turns_show}
 use Rattle.std.proofs.lemmas.Option.{slice_get_within}
 use Rattle.kex_reader.specs.Stands.{InFrames}
 use Rattle.kex_reader.specs.Uses.{NodeNumber}
@@ -38,7 +38,7 @@ pub returns-clause-step : goal.returns-clause-step
 returns-clause-step c = λ at base es a h e s p l k.
     let more = c.in_ok-node.ensures.keeps in
     let i = base + length (entries es) in
-    ready c.put.new.draft at base c.put.new.stack (put (Turns a p) es)
+    ready c.put.new.draft at base c.put.new.stack (with_pre (Turns a p) es)
     (c.in_ok-put.ensures.put at base es (Turns a p) (frames_more c.args.draft.now c.add.new.self at base c.args.stack.now es more h) e
     (turns_show c.add.new.self at c.in_ok-node.node c.args.item.node i c.args.item.at c.args.bounds.low c.args.bounds.high a p (slice_get_within c.add.new.self.nodes c.in_ok-node.node _ c.in_ok-node.ensures.node) e l k c.in_ok-node.ensures.node (atom_more a c.args.draft.now c.add.new.self at c.args.item.node i more s)))
 

@@ -2,7 +2,7 @@ use Rattle.std.proofs.Common.{◌+◌, length, ◌≡◌, ◌⊎◌, inl, inr}
 use Rattle.kex_reader.specs.Syntax.{Write}
 use Rattle.kex_reader.specs.Reading.{entries}
 use Rattle.kex_reader.proofs.Stacks.{frames_more}
-use Rattle.kex_reader.proofs.Stepping.{to, memory_exit, wrong, name_other, name_is, atom_steps}
+use Rattle.kex_reader.proofs.Steps.{to, memory_exit, wrong, name_other, name_is, atom_steps}
 use Rattle.std.proofs.lemmas.Option.{slice_get_within}
 use Rattle.kex_reader.proofs.Modes.{write_of}
 use Rattle.kex_reader.specs.Stands.{InFrames}

@@ -1,5 +1,5 @@
 use Rattle.kex_reader.proofs.Viable as viable
-use Rattle.kex_reader.proofs.Wrong.{one_wrong, not_both}
+use Rattle.kex_reader.proofs.WrongWords.{one_wrong, not_both}
 use Rattle.kex_reader.proofs.laws.one_tree.Goals as goal
 
 pub returns-clause-tree : goal.returns-clause-tree

@@ -1,7 +1,7 @@
 use Rattle.std.proofs.Common.{◌+◌, ◌<◌, length, suc, refl, sym, ap, ◌∙◌, arith, add-one}
 use Rattle.std.specs.Prelude.{min}
 use Rattle.kex_reader.specs.Lines.{behind_feed, feeds}
-use Rattle.kex_reader.proofs.Lining.{feeds_feed, feeds_other, behind_it, behind_other, taken}
+use Rattle.kex_reader.proofs.LineFeeds.{feeds_feed, feeds_other, behind_it, behind_other, taken}
 use Rattle.kex_reader.proofs.lines.place.Goals.{then-text-i-eq10, else-text-i-eq10}
 use Rattle.kex_reader.proofs.lines.place.Goals as goal
 
@@ -33,9 +33,9 @@ loop-i-preserved c =
 pub returns-clause-line : goal.returns-clause-line
 returns-clause-line c =
     let e = taken c.args.text.now c.loop-i.i c.args.at (omega (arith, c.loop-i-test.false, c.loop-i.auto.i-end, c.min-i-end.ensures)) in
-    c.held.ensures ∙ ap (λ n. min (n + 1) 4294967295) (c.loop-i.invariant.line ∙ ap feeds e)
+    c.capped.ensures ∙ ap (λ n. min (n + 1) 4294967295) (c.loop-i.invariant.line ∙ ap feeds e)
 
 pub returns-clause-column : goal.returns-clause-column
 returns-clause-column c =
     let e = taken c.args.text.now c.loop-i.i c.args.at (omega (arith, c.loop-i-test.false, c.loop-i.auto.i-end, c.min-i-end.ensures)) in
-    c.held-2.ensures ∙ ap (λ n. min (n + 1) 4294967295) (c.loop-i.invariant.column ∙ ap (behind_feed 0) e)
+    c.capped-2.ensures ∙ ap (λ n. min (n + 1) 4294967295) (c.loop-i.invariant.column ∙ ap (behind_feed 0) e)

@@ -1,7 +1,7 @@
 use Rattle.std.proofs.Common.{◌+◌, [], ◌∷◌, ◌++◌, refl, sym, ap, subst, arith, ◌∙◌}
 use Rattle.kex_reader.specs.Checks.{Staged}
-use Rattle.kex_reader.specs.Stands.{Noted}
-use Rattle.kex_reader.proofs.Noting.{never_none, noted_one, noted_same}
+use Rattle.kex_reader.specs.Stands.{NotesLeast}
+use Rattle.kex_reader.proofs.LeastBreak.{never_none, noted_one, noted_same}
 use Rattle.kex_reader.proofs.Uses.{unchanged}
 use Rattle.kex_reader.proofs.reader.limit_stages.Goals as goal
 
@@ -10,7 +10,7 @@ returns-then-before-ne-MOST_STAGES-clause-notes c = λ cs n. noted_same c.args.d
 
 pub returns-clause-notes : goal.returns-clause-notes
 returns-clause-notes c = λ cs n.
-    subst (λ o. Noted (cs ++ Staged c.args.at (c.args.before + 1) ∷ []) o) (sym (ap (λ m. m.broken) c.note.ensures.noted))
+    subst (λ o. NotesLeast (cs ++ Staged c.args.at (c.args.before + 1) ∷ []) o) (sym (ap (λ m. m.broken) c.note.ensures.noted))
     (noted_one c.args.draft.now.broken (Rattle.kex_regexp.specs.declared.breaks.Break.TheVariants.OverLimit c.args.at) cs (Staged c.args.at (c.args.before + 1)) n (omega (arith, c.if-before-ne-MOST_STAGES.false), refl) (λ other h. h.1))
 
 pub returns-then-before-ne-MOST_STAGES-clause-held : goal.returns-then-before-ne-MOST_STAGES-clause-held

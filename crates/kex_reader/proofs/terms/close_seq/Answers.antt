@@ -1,5 +1,5 @@
 use Rattle.std.proofs.Common.{refl, ◌∙◌, inl, inr, sym}
-use Rattle.kex_reader.proofs.Drafting.{Keeps-refl, Keeps-trans}
+use Rattle.kex_reader.proofs.Drafts.{Keeps-refl, Keeps-trans}
 use Rattle.kex_reader.proofs.Stacks.{seq_begins, seq_more_on, seq_done, seq_none, done_within}
 use Rattle.kex_reader.specs.Reading.{take_seq}
 use Rattle.kex_reader.specs.Stands.{InFrames}

@@ -1,5 +1,5 @@
 use Rattle.std.proofs.Common.{◌∙◌, subst, inl, inr, sym}
-use Rattle.kex_reader.proofs.Drafting.{Keeps-trans}
+use Rattle.kex_reader.proofs.Drafts.{Keeps-trans}
 use Rattle.kex_reader.proofs.Stacks.{term_begins, term_more_on, term_done, term_none, ended_within}
 use Rattle.kex_reader.specs.Reading.{take_seq, take_term}
 use Rattle.kex_reader.specs.Stands.{SeqTaken}

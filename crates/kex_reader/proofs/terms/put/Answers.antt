@@ -1,5 +1,5 @@
 use Rattle.std.proofs.Common.{refl, ◌∙◌, inl, inr, sym}
-use Rattle.kex_reader.proofs.Drafting.{Keeps-refl, Keeps-trans, pre_within}
+use Rattle.kex_reader.proofs.Drafts.{Keeps-refl, Keeps-trans, pre_within}
 use Rattle.kex_reader.proofs.Stacks.{put_begins, put_more, put_done, prefix_register}
 use Rattle.kex_reader.specs.Stands.{InFrames}
 use Rattle.kex_reader.proofs.Uses.{beside, frames_are, held_as, none_lost, unchanged}

@@ -1,6 +1,6 @@
 use Rattle.std.proofs.Common.{◌≡◌, ◌⊎◌, ℕ, ◌+◌, List, length}
 use Rattle.kex_reader.specs.Syntax.{Pre}
-use Rattle.kex_reader.specs.Reading.{Entry, entries, put as spec_put}
+use Rattle.kex_reader.specs.Reading.{Entry, entries, with_pre as spec_put}
 use Rattle.kex_reader.specs.Shown.{ShowsPre}
 use Rattle.kex_reader.specs.Stands.{FramesShow, InFrames, Keeps, LosesNone}
 use Rattle.kex_reader.specs.Uses.{NodeNumber}

@@ -8,10 +8,10 @@ use Rattle.kex_reader.specs.Reading.{Begin, step, finish}
 use Rattle.kex_reader.specs.Checks.{program_checks}
 use Rattle.kex_reader.specs.Asked.{state_checks}
 use Rattle.kex_reader.specs.Holding.{StateSteps, Finishes}
-use Rattle.kex_reader.specs.Stands.{Noted}
+use Rattle.kex_reader.specs.Stands.{NotesLeast}
 use Rattle.kex_reader.specs.Spelling.{offset, words, IsRefusedAs}
-use Rattle.kex_reader.proofs.Texting.{word_at, offset_at, words_long, offset_end, reads_more, taken_long, wrong_word, wrong_end, program_read, state_ok, state_bad, finish_ok, finish_bad, next_checks, end_checks, begin_shows, begin_reads, begin_notes, step_refused, spells_ok, refused_ok, end_of}
-use Rattle.kex_reader.specs.Holding.{IsLeft}
+use Rattle.kex_reader.proofs.Texts.{word_at, offset_at, words_long, offset_end, reads_more, taken_long, wrong_word, wrong_end, program_read, state_ok, state_bad, finish_ok, finish_bad, next_checks, end_checks, begin_shows, begin_reads, begin_notes, step_refused, spells_ok, refused_ok, end_of}
+use Rattle.kex_reader.specs.Holding.{InProgram}
 use Rattle.kex_reader.proofs.Uses.{all_held, none_made}
 use Rattle.kex_reader.proofs.text.parse.Goals as goal
 
@@ -41,7 +41,7 @@ loop-i-preserved c =
       reads = reads_more (words c.args.text.now c.args.tokens.now) c.loop-i.i s (word t.kind (slice_range c.args.text.now t.from t.to)) (word_at c.args.text.now c.args.tokens.now c.loop-i.i t g) i.reads ∙ ap (step s) (sym same) ∙ n.1;
       shows = n.2;
       held = all_held c.loop-i.reader.draft r.draft _ _ c.in-Ok.ensures.held i.held;
-      notes = subst (λ cs. Noted cs r.draft.broken) (next_checks (offset c.args.text.now c.args.tokens.now) s n.0 (word t.kind c.spelling.result.now) n.1) (c.in-Ok.ensures.notes (offset c.args.text.now c.args.tokens.now) s (state_checks (offset c.args.text.now c.args.tokens.now) s) i.shows place i.notes);
+      notes = subst (λ cs. NotesLeast cs r.draft.broken) (next_checks (offset c.args.text.now c.args.tokens.now) s n.0 (word t.kind c.spelling.result.now) n.1) (c.in-Ok.ensures.notes (offset c.args.text.now c.args.tokens.now) s (state_checks (offset c.args.text.now c.args.tokens.now) s) i.shows place i.notes);
     }
 
 pub returns-in-Err-clause-refused : goal.returns-in-Err-clause-refused
@@ -82,8 +82,8 @@ returns-clause-read c =
     let f = finish_ok r.draft at r.definitions.items r.stages.items _ (finish i.state) (c.in-Ok-finish.ensures.ends at i.state i.shows) in
     spells_ok c.program.result c.args.text.now c.args.tokens.now f.0 r.draft r.definitions.items r.stages.items c.requires.short c.requires.cut
     (program_read (words c.args.text.now c.args.tokens.now) c.loop-i.i i.state f.0 (omega (arith, c.loop-i-test.false, words_long c.args.text.now c.args.tokens.now)) i.reads f.1)
-    (subst (λ o. Noted (program_checks f.0 at) o) (sym c.in-Ok-finish.ensures.broken) (subst (λ cs. Noted cs c.loop-i.reader.draft.broken) (end_checks at i.state f.0 f.1) i.notes))
-    f.2 f.3 c.program.ensures.whole c.program.ensures.shown c.program.ensures.names c.program.ensures.registers (all_held c.loop-i.reader.draft r.draft _ (IsLeft r) c.in-Ok-finish.ensures.held i.held) c.program.ensures.used
+    (subst (λ o. NotesLeast (program_checks f.0 at) o) (sym c.in-Ok-finish.ensures.broken) (subst (λ cs. NotesLeast cs c.loop-i.reader.draft.broken) (end_checks at i.state f.0 f.1) i.notes))
+    f.2 f.3 c.program.ensures.whole c.program.ensures.shown c.program.ensures.names c.program.ensures.registers (all_held c.loop-i.reader.draft r.draft _ (InProgram r) c.in-Ok-finish.ensures.held i.held) c.program.ensures.used
 
 pub returns-clause-refused : goal.returns-clause-refused
 returns-clause-refused c =
@@ -93,5 +93,5 @@ returns-clause-refused c =
     let f = finish_ok r.draft at r.definitions.items r.stages.items _ (finish i.state) (c.in-Ok-finish.ensures.ends at i.state i.shows) in
     refused_ok c.program.result c.args.text.now c.args.tokens.now f.0 r.draft.broken c.requires.short c.requires.cut
     (program_read (words c.args.text.now c.args.tokens.now) c.loop-i.i i.state f.0 (omega (arith, c.loop-i-test.false, words_long c.args.text.now c.args.tokens.now)) i.reads f.1)
-    (subst (λ o. Noted (program_checks f.0 at) o) (sym c.in-Ok-finish.ensures.broken) (subst (λ cs. Noted cs c.loop-i.reader.draft.broken) (end_checks at i.state f.0 f.1) i.notes))
+    (subst (λ o. NotesLeast (program_checks f.0 at) o) (sym c.in-Ok-finish.ensures.broken) (subst (λ cs. NotesLeast cs c.loop-i.reader.draft.broken) (end_checks at i.state f.0 f.1) i.notes))
     c.program.ensures.refused

@@ -1,7 +1,7 @@
 use Rattle.std.proofs.Common.{◌∙◌, inl, inr, sym, arith}
 use Rattle.std.proofs.lemmas.Bool.{eqb-true, eqb-false}
 use Rattle.kex_regexp.specs.Machine.{take_regex}
-use Rattle.kex_regexp.proofs.Whole.{ends_whole, ends_open, ends_memory}
+use Rattle.kex_regexp.proofs.Bodies.{ends_whole, ends_open, ends_memory}
 use Rattle.kex_regexp.proofs.Parents.{held_as, no_frames}
 use Rattle.kex_regexp.proofs.body.end.Goals as goal
 

@@ -1,8 +1,8 @@
 use Rattle.std.proofs.Common.{◌∷◌, inl, inr}
 use Rattle.kex_regexp.specs.Grammar.{Once}
 use Rattle.kex_regexp.specs.Machine.{Read}
-use Rattle.kex_regexp.proofs.Stepping.{mode_ready, mode_after, mode_escape, mode_set, mode_count, ready_place, after_place, once_shows, once_ends}
-use Rattle.kex_regexp.proofs.Whole.{ends_memory, ends_none, to_end, finish_ready, finish_after, finish_escape, finish_set, finish_count}
+use Rattle.kex_regexp.proofs.ShownSteps.{mode_ready, mode_after, mode_escape, mode_set, mode_count, ready_place, after_place, once_shows, once_ends}
+use Rattle.kex_regexp.proofs.Bodies.{ends_memory, ends_none, to_end, finish_ready, finish_after, finish_escape, finish_set, finish_count}
 use Rattle.kex_regexp.proofs.Bounds.{some_ready, some_behind, some_once}
 use Rattle.kex_regexp.proofs.Parents.{ended_as, frame_on, frame_under}
 use Rattle.kex_regexp.proofs.body.finish.Goals as goal

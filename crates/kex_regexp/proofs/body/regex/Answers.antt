@@ -2,11 +2,11 @@ use Rattle.std.proofs.Common.{[], ◌∙◌, arith}
 use Rattle.std.proofs.lemmas.List.{length-take-le}
 use Rattle.kex_regexp.specs.declared.fault.RegexFault.TheVariants.{BadRegex}
 use Rattle.kex_regexp.specs.Machine.{Ready}
-use Rattle.kex_regexp.proofs.Adding.{Adds-refl, Adds-trans}
-use Rattle.kex_regexp.proofs.Answered.{accepted, broken, not_refused, read}
-use Rattle.kex_regexp.proofs.Noting.{least_of, open_below, start_depth, start_least, turn_depth, turn_least}
+use Rattle.kex_regexp.proofs.Additions.{Adds-refl, Adds-trans}
+use Rattle.kex_regexp.proofs.Refusals.{accepted, broken, not_refused, read}
+use Rattle.kex_regexp.proofs.NotedBreaks.{least_of, open_below, start_depth, start_least, turn_depth, turn_least}
 use Rattle.kex_regexp.proofs.Parents.{none_added, none_lost, unless_lost}
-use Rattle.kex_regexp.proofs.Whole.{body_read, ends_ok, ends_wrong, reads_more, set_behind, spelled_length, spelled_place, start_reads, start_set, start_stands, steps_ok, steps_wrong, taken, wrong_byte, wrong_end}
+use Rattle.kex_regexp.proofs.Bodies.{body_read, ends_ok, ends_wrong, reads_more, set_behind, spelled_length, spelled_place, start_reads, start_set, start_stands, steps_ok, steps_wrong, taken, wrong_byte, wrong_end}
 use Rattle.kex_regexp.proofs.body.regex.Goals as goal
 
 pub loop-byte-init : goal.loop-byte-init

@@ -1,7 +1,7 @@
 -- The loop has read a front of the bytes.
 use Rattle.std.proofs.Common.{◌≡◌, ◌+◌, take, Some, None}
-use Rattle.kex_regexp.specs.Holding.{IsHeld, IsSetIn, StandsFor}
-use Rattle.kex_regexp.specs.Machine.{State, reads, start}
+use Rattle.kex_regexp.specs.Holding.{IsHeld, IsSetIn, ShowsState}
+use Rattle.kex_regexp.specs.Machine.{State, state_after, start}
 use Rattle.kex_regexp.specs.Notes.{least_from, marks, state_breaks}
 use Rattle.kex_regexp.specs.Parents.{NoneLost}
 use Rattle.kex_regexp.specs.Shown.{Adds}
@@ -13,8 +13,8 @@ invariant-loop-byte l = record {
   nodes : NoneLost l.fn.into l.into (λ n. ⊥) (IsHeld l.frames.items l.wait);
   place : l.place ≡ l.at + l.byte-index;
   state : State;
-  reads : reads start (take l.byte-index l.bytes) ≡ Some state;
-  stands : StandsFor l.into l.at l.frames.items l.wait state;
+  reads : state_after start (take l.byte-index l.bytes) ≡ Some state;
+  stands : ShowsState l.into l.at l.frames.items l.wait state;
   set : IsSetIn l.set state.mode;
   nested : l.nested ≡ l.depth + marks state.entries;
   least : l.least ≡ least_from None (state_breaks l.at l.depth state);

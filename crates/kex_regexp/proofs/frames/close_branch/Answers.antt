@@ -1,7 +1,7 @@
 use Rattle.std.proofs.Common.{List, inl, inr, sym, subst}
 use Rattle.kex_model.specs.declared.program.Node.{Node}
 use Rattle.kex_regexp.specs.Shown.{Adds}
-use Rattle.kex_regexp.proofs.Adding.{Adds-refl, Adds-to, Adds-trans}
+use Rattle.kex_regexp.proofs.Additions.{Adds-refl, Adds-to, Adds-trans}
 use Rattle.kex_regexp.proofs.Stacks.{branch_empty, first_piece, further_piece, branch_done}
 use Rattle.kex_regexp.proofs.Bounds.{pieces_within}
 use Rattle.kex_regexp.proofs.Parents.{frame_taken, frames_same, held_as, none_added, none_lost, one_added}

@@ -1,5 +1,5 @@
 use Rattle.std.proofs.Common.{inl, inr, sym}
-use Rattle.kex_regexp.proofs.Adding.{Adds-to, Adds-trans}
+use Rattle.kex_regexp.proofs.Additions.{Adds-to, Adds-trans}
 use Rattle.kex_regexp.proofs.Stacks.{first_branch, further_branch, regex_done}
 use Rattle.kex_regexp.proofs.Bounds.{branches_within}
 use Rattle.kex_regexp.proofs.Parents.{frame_taken, frames_same, held_as, none_lost, one_added}

@@ -1,4 +1,4 @@
-use Rattle.kex_regexp.proofs.Adding.{ShowsRegex-more, names_stay}
+use Rattle.kex_regexp.proofs.Additions.{ShowsRegex-more, names_stay}
 use Rattle.kex_regexp.proofs.laws.adding.Goals as goal
 
 pub returns-clause-shows : goal.returns-clause-shows

@@ -1,5 +1,5 @@
 use Rattle.kex_regexp.proofs.Viable.{one_tree}
-use Rattle.kex_regexp.proofs.Wrong.{not_both, one_wrong}
+use Rattle.kex_regexp.proofs.WrongBytes.{not_both, one_wrong}
 use Rattle.kex_regexp.proofs.laws.one_tree.Goals as goal
 
 pub returns-clause-tree : goal.returns-clause-tree

@@ -1,6 +1,6 @@
 use Rattle.kex_regexp.specs.Grammar.{Empty}
 use Rattle.kex_regexp.specs.Machine.{take_pieces}
-use Rattle.kex_regexp.proofs.Stepping.{memory_steps, bar_steps}
+use Rattle.kex_regexp.proofs.ShownSteps.{memory_steps, bar_steps}
 use Rattle.std.proofs.Common.{refl, inl, inr}
 use Rattle.kex_regexp.proofs.Parents.{frame_on, frame_under, held_as}
 use Rattle.kex_regexp.proofs.steps.bar.Goals as goal

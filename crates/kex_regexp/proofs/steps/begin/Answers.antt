@@ -1,7 +1,7 @@
 use Rattle.std.proofs.Common.{refl, ◌∙◌, sym, inl, inr}
 use Rattle.kex_regexp.specs.Grammar.{Plain, Dot}
 use Rattle.kex_regexp.proofs.Complete.{begin_byte, begin_92, begin_46, begin_91, begin_40, in_set}
-use Rattle.kex_regexp.proofs.Stepping.{memory_steps, leaf_steps, plain_item, dot_item, to, begin_is, mark_steps, set_begins_steps, escape_begins_steps, begin_bar, begin_close, begin_none, wrong_steps}
+use Rattle.kex_regexp.proofs.ShownSteps.{memory_steps, leaf_steps, plain_item, dot_item, to, begin_is, mark_steps, set_begins_steps, escape_begins_steps, begin_bar, begin_close, begin_none, wrong_steps}
 use Rattle.kex_regexp.proofs.Parents.{frame_under, none_added}
 use Rattle.kex_regexp.proofs.steps.begin.Goals as goal
 

@@ -1,5 +1,5 @@
 use Rattle.kex_regexp.specs.Machine.{take_regex}
-use Rattle.kex_regexp.proofs.Stepping.{memory_steps, unclosed_steps, close_steps}
+use Rattle.kex_regexp.proofs.ShownSteps.{memory_steps, unclosed_steps, close_steps}
 use Rattle.std.proofs.Common.{refl, inl, inr}
 use Rattle.kex_regexp.proofs.Parents.{frame_taken, held_as}
 use Rattle.kex_regexp.proofs.steps.close.Goals as goal

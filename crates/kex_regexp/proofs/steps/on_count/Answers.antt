@@ -1,4 +1,4 @@
-use Rattle.kex_regexp.proofs.Stepping.{count_on_steps, count_read_steps, count_wrong_steps}
+use Rattle.kex_regexp.proofs.ShownSteps.{count_on_steps, count_read_steps, count_wrong_steps}
 use Rattle.kex_regexp.proofs.Parents.{none_added}
 use Rattle.kex_regexp.proofs.steps.on_count.Goals as goal
 

@@ -1,4 +1,4 @@
-use Rattle.kex_regexp.proofs.Stepping.{escape_on_steps, escape_read_steps, escape_wrong_steps}
+use Rattle.kex_regexp.proofs.ShownSteps.{escape_on_steps, escape_read_steps, escape_wrong_steps}
 use Rattle.kex_regexp.proofs.Parents.{none_added}
 use Rattle.kex_regexp.proofs.steps.on_escape.Goals as goal
 

@@ -1,4 +1,4 @@
-use Rattle.kex_regexp.proofs.Stepping.{set_on_steps, set_read_steps, set_wrong_steps}
+use Rattle.kex_regexp.proofs.ShownSteps.{set_on_steps, set_read_steps, set_wrong_steps}
 use Rattle.kex_regexp.proofs.Parents.{none_added}
 use Rattle.kex_regexp.proofs.steps.on_set.Goals as goal
 

@@ -1,5 +1,5 @@
 use Rattle.std.proofs.Common.{sym, ◌∙◌, inl}
-use Rattle.kex_regexp.proofs.Counted.{bad_stands_alone, good_count, good_turns}
+use Rattle.kex_regexp.proofs.CappedCounts.{bad_stands_alone, good_count, good_turns}
 use Rattle.kex_regexp.proofs.Stacks.{at_number}
 use Rattle.kex_regexp.proofs.Parents.{none_added, one_added}
 use Rattle.kex_regexp.proofs.steps.repeated.Goals as goal

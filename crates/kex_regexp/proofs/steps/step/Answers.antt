@@ -4,8 +4,8 @@ use Rattle.kex_regexp.specs.declared.sets.SetOutcome.{SetOutcome}
 use Rattle.kex_regexp.specs.declared.counts.CountOutcome.{CountOutcome}
 use Rattle.kex_regexp.specs.Machine.{State, escape_step, set_step, count_step}
 use Rattle.kex_regexp.specs.Holding.{IsSetAfter, ShowsEscape, ShowsSet, ShowsCountStep}
-use Rattle.kex_regexp.proofs.Refine.{escape_refines, set_refines, count_refines}
-use Rattle.kex_regexp.proofs.Stepping.{to, mode_ready, mode_after, mode_escape, mode_set, mode_count, ready_place, after_place, step_ready, step_after, step_escape, step_set, step_count}
+use Rattle.kex_regexp.proofs.Refinement.{escape_refines, set_refines, count_refines}
+use Rattle.kex_regexp.proofs.ShownSteps.{to, mode_ready, mode_after, mode_escape, mode_set, mode_count, ready_place, after_place, step_ready, step_after, step_escape, step_set, step_count}
 use Rattle.kex_regexp.proofs.Bounds.{some_ready, some_behind, some_count}
 use Rattle.kex_regexp.proofs.Parents.{waiting}
 use Rattle.kex_regexp.proofs.steps.step.Goals as goal
@@ -18,7 +18,7 @@ returns-in-Ready-clause-step c = λ base s st i a.
 pub returns-in-After-clause-step : goal.returns-in-After-clause-step
 returns-in-After-clause-step c = λ base s st i a.
     let m = mode_after _ _ c.in-After.item _ (rw c.in-After.is at st.mode) in
-    to _ base _ _ _ _ (step_after s _ m.tree m.is) (c.behind.ensures.step base s.entries m.tree st.below m.place m.shows (after_place s base _ _ m.tree m.is m.place a))
+    to _ base _ _ _ _ (step_after s _ m.tree m.is) (c.byte_after_item.ensures.step base s.entries m.tree st.below m.place m.shows (after_place s base _ _ m.tree m.is m.place a))
 
 pub returns-in-InEscape-clause-step : goal.returns-in-InEscape-clause-step
 returns-in-InEscape-clause-step c = λ base s st i a.
@@ -42,8 +42,8 @@ returns-in-InCount-clause-step c = λ base s st i a.
 pub begin-requires : goal.begin-requires
 begin-requires c = some_ready _ _ _ _ c.in-Ready.is c.requires
 
-pub behind-requires : goal.behind-requires
-behind-requires c = some_behind _ _ _ c.in-After.item _ c.in-After.is c.requires
+pub byte_after_item-requires : goal.byte_after_item-requires
+byte_after_item-requires c = some_behind _ _ _ c.in-After.item _ c.in-After.is c.requires
 
 pub on_count-requires : goal.on_count-requires
 on_count-requires c = some_count _ _ _ c.in-InCount.item c.in-InCount.count c.in-InCount.brace _ c.in-InCount.is c.requires
@@ -52,7 +52,7 @@ pub returns-in-Ready-clause-nodes : goal.returns-in-Ready-clause-nodes
 returns-in-Ready-clause-nodes c = waiting c.args.wait _ _ _ _ _ _ c.in-Ready.is c.begin.ensures.nodes
 
 pub returns-in-After-clause-nodes : goal.returns-in-After-clause-nodes
-returns-in-After-clause-nodes c = waiting c.args.wait _ _ _ _ _ _ c.in-After.is c.behind.ensures.nodes
+returns-in-After-clause-nodes c = waiting c.args.wait _ _ _ _ _ _ c.in-After.is c.byte_after_item.ensures.nodes
 
 pub returns-in-InEscape-clause-nodes : goal.returns-in-InEscape-clause-nodes
 returns-in-InEscape-clause-nodes c = waiting c.args.wait _ _ _ _ _ _ c.in-InEscape.is (c.on_escape.ensures.nodes c.args.frames.now.items)

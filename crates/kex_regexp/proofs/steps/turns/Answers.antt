@@ -1,7 +1,7 @@
 use Rattle.std.proofs.Common.{refl, inl, inr}
 use Rattle.kex_regexp.specs.Holding.{InFrames}
 use Rattle.kex_regexp.proofs.Bounds.{some_item}
-use Rattle.kex_regexp.proofs.Stepping.{memory_steps, turns_steps}
+use Rattle.kex_regexp.proofs.ShownSteps.{memory_steps, turns_steps}
 use Rattle.kex_regexp.proofs.Parents.{beside, frame_on, frame_under}
 use Rattle.kex_regexp.proofs.steps.turns.Goals as goal
 

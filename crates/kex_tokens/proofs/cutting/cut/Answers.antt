@@ -1,5 +1,5 @@
 use Rattle.std.proofs.Common.{refl}
-use Rattle.kex_tokens.proofs.Covering.{cut_begins, cut_goes_on, cut_is_whole, cut_ends}
+use Rattle.kex_tokens.proofs.Cuts.{cut_begins, cut_goes_on, cut_is_whole, cut_ends}
 use Rattle.kex_tokens.proofs.cutting.cut.Goals as goal
 
 pub loop-at-init : goal.loop-at-init

@@ -1,5 +1,5 @@
 use Rattle.std.proofs.Common.{length, ◌-◌}
-use Rattle.kex_tokens.proofs.Covering.{IsCutTo}
+use Rattle.kex_tokens.proofs.Cuts.{IsCutTo}
 use Rattle.kex_tokens.proofs.cutting.cut.Given as goal
 
 abbrev pub invariant-loop-at : goal.invariant-loop-at

@@ -1,5 +1,5 @@
 use Rattle.std.proofs.Common.{arith}
-use Rattle.kex_tokens.proofs.Covering.{too_long, whole_answered, bad_answered, spans_answered, order_answered}
+use Rattle.kex_tokens.proofs.Cuts.{too_long, whole_answered, bad_answered, spans_answered, order_answered}
 use Rattle.kex_tokens.proofs.cutting.tokens.Goals as goal
 
 pub returns : goal.returns

@@ -1,5 +1,5 @@
 use Rattle.kex_tokens.proofs.Front.{one_longest}
-use Rattle.kex_tokens.proofs.Covering.{one_cut, one_bad, no_cut_and_bad}
+use Rattle.kex_tokens.proofs.Cuts.{one_cut, one_bad, no_cut_and_bad}
 use Rattle.kex_tokens.proofs.laws.one_cut.Goals as goal
 
 pub returns : goal.returns

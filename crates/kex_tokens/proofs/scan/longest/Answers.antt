@@ -1,5 +1,5 @@
 use Rattle.std.proofs.Common.{refl}
-use Rattle.kex_tokens.proofs.Scanned.{scanned_at, if_found, if_none, if_inside}
+use Rattle.kex_tokens.proofs.Offsets.{scanned_at, if_found, if_none, if_inside}
 use Rattle.kex_tokens.proofs.scan.longest.Goals as goal
 
 pub returns : goal.returns

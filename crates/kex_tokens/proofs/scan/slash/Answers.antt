@@ -1,5 +1,5 @@
 use Rattle.std.proofs.Common.{refl, sym, ◌∙◌}
-use Rattle.kex_tokens.proofs.Scanned.{slash_line, block_some, block_none}
+use Rattle.kex_tokens.proofs.Offsets.{slash_line, block_some, block_none}
 use Rattle.kex_tokens.proofs.scan.slash.Goals as goal
 
 pub returns-then-has_byte : goal.returns-then-has_byte

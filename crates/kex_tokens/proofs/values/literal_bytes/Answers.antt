@@ -1,5 +1,5 @@
 use Rattle.std.proofs.Common.{sym, ◌∙◌}
-use Rattle.kex_tokens.proofs.Valued.{given_more, given_all, given_out, literal_stands}
+use Rattle.kex_tokens.proofs.LiteralValues.{given_more, given_all, given_out, literal_stands}
 use Rattle.kex_tokens.proofs.values.literal_bytes.Goals as goal
 
 pub loop-i-preserved : goal.loop-i-preserved

@@ -1,4 +1,4 @@
-use Rattle.kex_tokens.proofs.Valued.{IsGiven}
+use Rattle.kex_tokens.proofs.LiteralValues.{IsGiven}
 use Rattle.kex_tokens.proofs.values.literal_bytes.Given as goal
 
 abbrev pub invariant-loop-i : goal.invariant-loop-i

@@ -1,5 +1,5 @@
 use Rattle.std.proofs.Common.{ℕ, ◌+◌, ◌*◌, ap}
-use Rattle.kex_tokens.proofs.Valued.{number_more, number_above, number_whole}
+use Rattle.kex_tokens.proofs.LiteralValues.{number_more, number_above, number_whole}
 use Rattle.kex_tokens.proofs.values.number_value.Goals as goal
 
 pub loop-i-preserved : goal.loop-i-preserved

@@ -5,7 +5,7 @@ use Rattle.kex_model.specs.Programs.{HasNames}
 use Rattle.kex_model.specs.declared.program.Node.{Node}
 use Rattle.kex_reader.specs.Shown.{Made}
 use Rattle.kex_reader.specs.Stands.{Keeps}
-use Rattle.kex_reader.proofs.Drafting.{begins_same, keeping, named_push}
+use Rattle.kex_reader.proofs.Drafts.{begins_same, keeping, named_push}
 use Rattle.kex_model.proofs.Tables.{get_last}
 use Rattle.kex_reader.specs.Stands.{LosesNone}
 use Rattle.kex_reader.specs.Uses.{InKind, NodeNumber}

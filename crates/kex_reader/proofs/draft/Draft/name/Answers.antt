@@ -1,7 +1,7 @@
 use Rattle.std.proofs.Common.{length, subst, arith, ◌≡◌, refl}
 use Rattle.kex_reader.specs.Shown.{Made}
 use Rattle.kex_reader.specs.Stands.{Keeps}
-use Rattle.kex_reader.proofs.Drafting.{all_named, begins_same, begun_long, keeping}
+use Rattle.kex_reader.proofs.Drafts.{all_named, begins_same, begun_long, keeping}
 use Rattle.kex_reader.specs.Stands.{LosesNone}
 use Rattle.kex_reader.specs.Uses.{NameNumber}
 use Rattle.kex_reader.proofs.Uses.{name_added}

@@ -1,7 +1,7 @@
 use Rattle.std.proofs.Common.{sym, ◌∙◌, subst}
 use Rattle.kex_reader.specs.Stands.{Keeps}
-use Rattle.kex_reader.proofs.Drafting.{begins_same, keeping}
-use Rattle.kex_reader.proofs.Noting.{never_none}
+use Rattle.kex_reader.proofs.Drafts.{begins_same, keeping}
+use Rattle.kex_reader.proofs.LeastBreak.{never_none}
 use Rattle.kex_reader.proofs.draft.Draft.note.Goals as goal
 
 pub returns-clause-keeps : goal.returns-clause-keeps

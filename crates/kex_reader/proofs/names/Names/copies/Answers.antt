@@ -1,6 +1,6 @@
 use Rattle.std.proofs.Common.{ℕ, List, ◌∷◌, [], ◌++◌, sym, ap, ◌∙◌}
 use Rattle.std.specs.Prelude.{map}
-use Rattle.kex_reader.proofs.Naming.{get_mapped, take_get}
+use Rattle.kex_reader.proofs.NumberedNames.{get_mapped, take_get}
 use Rattle.kex_reader.proofs.names.Names.copies.Goals as goal
 
 pub loop-i-preserved : goal.loop-i-preserved

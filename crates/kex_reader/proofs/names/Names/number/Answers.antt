@@ -3,7 +3,7 @@ use Rattle.std.specs.Prelude.{map, bytes_eq, slice_get}
 use Rattle.std.specs.List.{list_any}
 use Rattle.std.proofs.lemmas.Slice.Eq.{bytes_eq-Decides}
 use Rattle.kex_code.specs.Codes.{Begins, Different}
-use Rattle.kex_reader.proofs.Naming.{begins, get_map, one_new, stays_different}
+use Rattle.kex_reader.proofs.NumberedNames.{begins, get_map, one_new, stays_different}
 use Rattle.kex_reader.proofs.names.Names.number.Goals as goal
 
 eq : Bor (List ℕ) → Bor (List ℕ) → Bool

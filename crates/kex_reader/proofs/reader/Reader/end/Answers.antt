@@ -1,7 +1,7 @@
 use Rattle.std.proofs.Common.{length, subst, ◌≡◌, ◌⊎◌, inl, inr}
 use Rattle.kex_reader.specs.Reading.{take_term}
 use Rattle.kex_reader.specs.Stands.{TermTaken}
-use Rattle.kex_reader.proofs.Wholes.{ends_of, ends_none, ends_open, ends_exit, not_empty, is_empty}
+use Rattle.kex_reader.proofs.Programs.{ends_of, ends_none, ends_open, ends_exit, not_empty, is_empty}
 use Rattle.kex_reader.specs.Uses.{InDefinitions, NameNumber}
 use Rattle.kex_reader.proofs.Uses.{beside, definition_on, definitions_under, no_frames, parts_are}
 use Rattle.kex_reader.proofs.reader.Reader.end.Goals as goal

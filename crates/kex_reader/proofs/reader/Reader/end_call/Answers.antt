@@ -2,8 +2,8 @@ use Rattle.std.proofs.Common.{◌+◌, length, ◌∙◌, ◌≡◌, ◌⊎◌, 
 use Rattle.kex_reader.specs.Syntax.{Call}
 use Rattle.kex_reader.specs.Reading.{entries}
 use Rattle.kex_reader.proofs.Stacks.{frames_more}
-use Rattle.kex_reader.proofs.Stepping.{call_shows, on_keeps}
-use Rattle.kex_reader.proofs.Wholes.{ends_exit}
+use Rattle.kex_reader.proofs.Steps.{call_shows, on_keeps}
+use Rattle.kex_reader.proofs.Programs.{ends_exit}
 use Rattle.kex_reader.specs.Stands.{InFrames}
 use Rattle.kex_reader.specs.Uses.{InDefinitions, NameNumber}
 use Rattle.kex_reader.proofs.Uses.{beside, on_then}

@@ -1,7 +1,7 @@
 use Rattle.std.proofs.Common.{subst}
 use Rattle.kex_reader.specs.declared.reader.Phase.TheVariants as phases
 use Rattle.kex_reader.specs.Holding.{ShowsState}
-use Rattle.kex_reader.proofs.Wholes.{state_within, to_finish, finish_wrong, some_inside, end_begin, end_read, end_within, end_other}
+use Rattle.kex_reader.proofs.Programs.{state_within, to_finish, finish_wrong, some_inside, end_begin, end_read, end_within, end_other}
 use Rattle.kex_reader.proofs.Uses.{finish_as, finish_begun, finish_read}
 use Rattle.kex_reader.proofs.reader.Reader.finish.Goals as goal
 

@@ -2,7 +2,7 @@ use Rattle.std.proofs.Common.{◌+◌, length, subst, inl, inr}
 use Rattle.kex_reader.specs.Reading.{entries, before}
 use Rattle.kex_reader.specs.Stands.{ShowsMode}
 use Rattle.kex_reader.proofs.Modes.{mode_ready, mode_after, mode_named, some_atom, some_name}
-use Rattle.kex_reader.proofs.Wholes.{within_parts, finish_of, to_finish, finish_wrong, finish_ready, finish_after, finish_named, finish_other}
+use Rattle.kex_reader.proofs.Programs.{within_parts, finish_of, to_finish, finish_wrong, finish_ready, finish_after, finish_named, finish_other}
 use Rattle.kex_reader.proofs.Uses.{end_then}
 use Rattle.kex_reader.proofs.reader.Reader.finish_within.Goals as goal
 

@@ -1,7 +1,7 @@
 use Rattle.std.proofs.Common.{true, false, sym, ap, ◌∙◌}
 use Rattle.std.specs.Prelude.{bytes_eq}
 use Rattle.kex_reader.specs.Syntax.{start}
-use Rattle.kex_reader.proofs.Wholes.{to_state, state_wrong, first_other, first_define, first_colon, first_steps, started, first_is}
+use Rattle.kex_reader.proofs.Programs.{to_state, state_wrong, first_other, first_define, first_colon, first_steps, started, first_is}
 use Rattle.kex_reader.specs.declared.reader.Phase.TheVariants.{FirstName, StartLine}
 use Rattle.kex_reader.proofs.Uses.{head_first, reader_still}
 use Rattle.kex_reader.proofs.reader.Reader.first.Goals as goal

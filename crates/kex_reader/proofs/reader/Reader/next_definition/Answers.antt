@@ -4,7 +4,7 @@ use Rattle.kex_reader.specs.Reading.{take_term, entries, before, Named}
 use Rattle.kex_reader.specs.Holding.{whole_term}
 use Rattle.kex_reader.specs.Stands.{ShowsMode}
 use Rattle.kex_reader.proofs.Modes.{mode_named}
-use Rattle.kex_reader.proofs.Wholes.{to_state, state_wrong, on_head_is, define_none, define_named, within_parts, next_definition_steps, next_wrong_steps, whole_long, not_head, needed_name}
+use Rattle.kex_reader.proofs.Programs.{to_state, state_wrong, on_head_is, define_none, define_named, within_parts, next_definition_steps, next_wrong_steps, whole_long, not_head, needed_name}
 use Rattle.kex_reader.proofs.Uses.{ended_left, head_then, held_as}
 use Rattle.kex_reader.proofs.reader.Reader.next_definition.Goals as goal
 

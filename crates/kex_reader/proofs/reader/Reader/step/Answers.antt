@@ -2,13 +2,13 @@ use Rattle.std.proofs.Common.{◌+◌, ◌*◌, [], ◌∷◌, ◌++◌, length,
 use Rattle.std.specs.Prelude.{OnOk}
 use Rattle.kex_reader.specs.declared.reader.Phase.TheVariants as phases
 use Rattle.kex_reader.specs.Syntax.{Stages, header, word}
-use Rattle.kex_reader.specs.Reading.{spelled, step_within, StartLine, StageRead, StageNext, FirstName, Begin}
+use Rattle.kex_reader.specs.Reading.{words_read, step_within, StartLine, StageRead, StageNext, FirstName, Begin}
 use Rattle.kex_reader.specs.Holding.{ShowsState}
-use Rattle.kex_reader.specs.Stands.{Noted}
+use Rattle.kex_reader.specs.Stands.{NotesLeast}
 use Rattle.kex_reader.specs.Asked.{state_asks}
-use Rattle.kex_reader.proofs.Kept.{same, on_same, on_from}
+use Rattle.kex_reader.proofs.MoreChecks.{same, on_same, on_from}
 use Rattle.kex_reader.proofs.Asks.{quiet_begin, quiet_first, quiet_read, quiet_head, start_asks, next_asks, define_notes, stage_count, on_kind}
-use Rattle.kex_reader.proofs.Wholes.{to_state, state_wrong, name_then_other, name_then_is, read_other, read_pipe, read_name, head_other, head_define, state_begin, state_first, state_start, state_read, state_next, state_head, state_within, within_parts, start_steps, next_steps, start_place, next_place, head_place, head_read_steps, at_begin, at_first, at_start, at_read, at_next, at_head, at_within, place_of, begin_long, first_named, next_waits, head_named, some_inside}
+use Rattle.kex_reader.proofs.Programs.{to_state, state_wrong, name_then_other, name_then_is, read_other, read_pipe, read_name, head_other, head_define, state_begin, state_first, state_start, state_read, state_next, state_head, state_within, within_parts, start_steps, next_steps, start_place, next_place, head_place, head_read_steps, at_begin, at_first, at_start, at_read, at_next, at_head, at_within, place_of, begin_long, first_named, next_waits, head_named, some_inside}
 use Rattle.kex_reader.proofs.Uses.{head_first, phase_as, reader_still, stage_then}
 use Rattle.kex_reader.proofs.reader.Reader.step.Goals as goal
 
@@ -83,7 +83,7 @@ returns-in_default-kind-3-clause-step c = λ at s st p.
     let here = (subst (λ x. ShowsState c.args.self.now.draft at c.args.self.now.stack c.args.self.now.definitions.items c.args.self.now.stages.items x s) c.in-Within.is st) in
     let e = state_within c.args.self.now.draft at c.args.self.now.stack c.args.self.now.definitions.items c.args.self.now.stages.items c.in-Within.head c.in-Within.wait s here in
     to_state n.draft at n.stack n.definitions.items n.stages.items _ _ _ (at_within s (word c.args.word.kind c.args.word.spelling.now) e.0 e.1 e.2 e.3 e.4)
-    (c.go_on.ensures.step at e.0 e.1 e.2 e.3 (subst (λ y. ShowsState c.args.self.now.draft at c.args.self.now.stack c.args.self.now.definitions.items c.args.self.now.stages.items (phases.Within c.in-Within.head c.in-Within.wait) y) e.4 here) c.in_default-kind-3.not-Define (p ∙ ap (λ y. at (length (spelled y))) e.4))
+    (c.go_on.ensures.step at e.0 e.1 e.2 e.3 (subst (λ y. ShowsState c.args.self.now.draft at c.args.self.now.stack c.args.self.now.definitions.items c.args.self.now.stages.items (phases.Within c.in-Within.head c.in-Within.wait) y) e.4 here) c.in_default-kind-3.not-Define (p ∙ ap (λ y. at (length (words_read y))) e.4))
 
 pub next_definition-requires : goal.next_definition-requires
 next_definition-requires c = some_inside c.args.self.now.draft c.args.self.now.stack c.args.self.now.definitions.items c.args.self.now.stages.items c.args.phase c.in-Within.head c.in-Within.wait c.in-Within.is c.requires.some
@@ -94,7 +94,7 @@ go_on-requires c = record { inside = some_inside c.args.self.now.draft c.args.se
 pub returns-in-Name-clause-notes : goal.returns-in-Name-clause-notes
 returns-in-Name-clause-notes c = λ at s cs st p n.
     let e = state_begin c.args.self.now.draft at c.args.self.now.stack c.args.self.now.definitions.items c.args.self.now.stages.items s (subst (λ x. ShowsState c.args.self.now.draft at c.args.self.now.stack c.args.self.now.definitions.items c.args.self.now.stages.items x s) c.in-Begin.is st) in
-    subst (λ x. Noted (cs ++ x) c.args.self.now.draft.broken) (quiet_begin at s (word c.args.word.kind c.args.word.spelling.now) e.0) (same cs c.args.self.now.draft.broken n)
+    subst (λ x. NotesLeast (cs ++ x) c.args.self.now.draft.broken) (quiet_begin at s (word c.args.word.kind c.args.word.spelling.now) e.0) (same cs c.args.self.now.draft.broken n)
 
 pub returns-in-FirstName-clause-notes : goal.returns-in-FirstName-clause-notes
 returns-in-FirstName-clause-notes c = λ at s cs st p n.
@@ -109,12 +109,12 @@ returns-in-StartLine-clause-notes c = λ at s cs st p n.
 pub returns-in-Pipe-clause-notes : goal.returns-in-Pipe-clause-notes
 returns-in-Pipe-clause-notes c = λ at s cs st p n.
     let e = state_read c.args.self.now.draft at c.args.self.now.stack c.args.self.now.definitions.items c.args.self.now.stages.items s (subst (λ x. ShowsState c.args.self.now.draft at c.args.self.now.stack c.args.self.now.definitions.items c.args.self.now.stages.items x s) c.in-StageRead.is st) in
-    subst (λ x. Noted (cs ++ x) c.args.self.now.draft.broken) (quiet_read at s (word c.args.word.kind c.args.word.spelling.now) e.0 e.1 e.2) (same cs c.args.self.now.draft.broken n)
+    subst (λ x. NotesLeast (cs ++ x) c.args.self.now.draft.broken) (quiet_read at s (word c.args.word.kind c.args.word.spelling.now) e.0 e.1 e.2) (same cs c.args.self.now.draft.broken n)
 
 pub returns-in-Name-kind-clause-notes : goal.returns-in-Name-kind-clause-notes
 returns-in-Name-kind-clause-notes c = λ at s cs st p n.
     let e = state_read c.args.self.now.draft at c.args.self.now.stack c.args.self.now.definitions.items c.args.self.now.stages.items s (subst (λ x. ShowsState c.args.self.now.draft at c.args.self.now.stack c.args.self.now.definitions.items c.args.self.now.stages.items x s) c.in-StageRead.is st) in
-    subst (λ x. Noted (cs ++ x) c.args.self.now.draft.broken) (quiet_read at s (word c.args.word.kind c.args.word.spelling.now) e.0 e.1 e.2) (same cs c.args.self.now.draft.broken n)
+    subst (λ x. NotesLeast (cs ++ x) c.args.self.now.draft.broken) (quiet_read at s (word c.args.word.kind c.args.word.spelling.now) e.0 e.1 e.2) (same cs c.args.self.now.draft.broken n)
 
 pub returns-in-StageNext-clause-notes : goal.returns-in-StageNext-clause-notes
 returns-in-StageNext-clause-notes c = λ at s cs st p n.
@@ -136,7 +136,7 @@ returns-in-Define-kind-clause-notes c = λ at s cs st p n.
 pub returns-in_default-kind-3-clause-notes : goal.returns-in_default-kind-3-clause-notes
 returns-in_default-kind-3-clause-notes c = λ at s cs st p n.
     let e = state_within c.args.self.now.draft at c.args.self.now.stack c.args.self.now.definitions.items c.args.self.now.stages.items c.in-Within.head c.in-Within.wait s (subst (λ x. ShowsState c.args.self.now.draft at c.args.self.now.stack c.args.self.now.definitions.items c.args.self.now.stages.items x s) c.in-Within.is st) in
-    subst (λ y. OnOk c.go_on.result (Noted (cs ++ state_asks at y (word c.args.word.kind c.args.word.spelling.now)) c.go_on.new.self.draft.broken)) (sym e.4) (c.go_on.ensures.notes at e.0 e.1 e.2 e.3 (subst (λ y. ShowsState c.args.self.now.draft at c.args.self.now.stack c.args.self.now.definitions.items c.args.self.now.stages.items (phases.Within c.in-Within.head c.in-Within.wait) y) e.4 (subst (λ x. ShowsState c.args.self.now.draft at c.args.self.now.stack c.args.self.now.definitions.items c.args.self.now.stages.items x s) c.in-Within.is st)) (p ∙ ap (λ y. at (length (spelled y))) e.4) cs n)
+    subst (λ y. OnOk c.go_on.result (NotesLeast (cs ++ state_asks at y (word c.args.word.kind c.args.word.spelling.now)) c.go_on.new.self.draft.broken)) (sym e.4) (c.go_on.ensures.notes at e.0 e.1 e.2 e.3 (subst (λ y. ShowsState c.args.self.now.draft at c.args.self.now.stack c.args.self.now.definitions.items c.args.self.now.stages.items (phases.Within c.in-Within.head c.in-Within.wait) y) e.4 (subst (λ x. ShowsState c.args.self.now.draft at c.args.self.now.stack c.args.self.now.definitions.items c.args.self.now.stages.items x s) c.in-Within.is st)) (p ∙ ap (λ y. at (length (words_read y))) e.4) cs n)
 
 pub returns-in-Name-clause-held : goal.returns-in-Name-clause-held
 returns-in-Name-clause-held c = phase_as c.args.phase phases.Begin c.args.self.now c.args.self.now (Ok (phases.FirstName (record { bytes = c.args.word.spelling; at = c.args.word.at }))) c.in-Begin.is (reader_still c.args.self.now phases.Begin (phases.FirstName (record { bytes = c.args.word.spelling; at = c.args.word.at })) (λ x z. z))

@@ -1,7 +1,7 @@
 use Rattle.std.proofs.Common.{sym, ap, ◌∙◌, arith}
 use Rattle.std.specs.Prelude.{reverse}
 use Rattle.kex_reader.specs.Stands.{open_frames}
-use Rattle.kex_reader.proofs.Opening.{opened, not_opened, open_reversed, pushed}
+use Rattle.kex_reader.proofs.OpenFrames.{opened, not_opened, open_reversed, pushed}
 use Rattle.kex_reader.proofs.stack.Stack.push.Goals as goal
 
 pub overflow_add-self : goal.overflow_add-self

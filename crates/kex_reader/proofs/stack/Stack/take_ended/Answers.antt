@@ -1,7 +1,7 @@
 use Rattle.std.proofs.Common.{rules, ap, ◌∙◌}
 use Rattle.kex_reader.specs.declared.stack.Frame.TheVariants as frames
 use Rattle.kex_reader.specs.Stands.{open_frames}
-use Rattle.kex_reader.proofs.Opening.{pushed}
+use Rattle.kex_reader.proofs.OpenFrames.{pushed}
 use Rattle.kex_reader.proofs.stack.Stack.take_ended.Goals as goal
 
 pub invariant_of-self : goal.invariant_of-self

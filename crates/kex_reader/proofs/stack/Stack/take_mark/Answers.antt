@@ -1,7 +1,7 @@
 use Rattle.std.proofs.Common.{rules, ap, ◌∙◌, arith}
 use Rattle.kex_reader.specs.declared.stack.Frame.TheVariants as frames
 use Rattle.kex_reader.specs.Stands.{open_frames}
-use Rattle.kex_reader.proofs.Opening.{pushed}
+use Rattle.kex_reader.proofs.OpenFrames.{pushed}
 use Rattle.kex_reader.proofs.stack.Stack.take_mark.Goals as goal
 
 pub overflow_sub-self : goal.overflow_sub-self

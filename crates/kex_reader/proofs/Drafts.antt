@@ -18,7 +18,7 @@ use Rattle.kex_regexp.specs.Shown.{ShowsRegex, ShowsBranch, ShowsPiece, ShowsIte
 use Rattle.kex_reader.specs.Syntax.{Part, Text, Held, Term, Last, Or, Seq, Only, Then, Pre, Mute, Into, Once, Turns, Atom, One, Call, Lit, Match, Write, Assign, Group, Definition, term, seq, pre}
 use Rattle.kex_reader.specs.Shown.{Made, ShowsTerm, ShowsSeq, ShowsPre, ShowsAtom, ShowsPart, ShowsParts, ShowsDefinitions, ShowsStages}
 use Rattle.kex_reader.specs.Stands.{Keeps}
-use Rattle.kex_reader.proofs.Naming.{among_push}
+use Rattle.kex_reader.proofs.NumberedNames.{among_push}
 
 -- ---- growing
 

@@ -3,7 +3,7 @@ use Rattle.std.proofs.Common.{◌≡◌, ℕ, suc, ◌+◌, ◌*◌, Bool, true,
 use Rattle.std.specs.Prelude.{bytes_eq, codes}
 use Rattle.std.proofs.lemmas.List.{append-nil}
 use Rattle.kex_reader.specs.Syntax.{Word, Name, Number, Literal, Regex, Define, Colon, Pipe, Bar, Tilde, At, Star, Plus, PlusEquals, Question, OpenBrace, Bang, OpenBracket, CloseBracket, Arrow, OpenParen, CloseParen, Postfix, ZeroOrMore, OneOrMore, Optional, Term, Last, Or, Seq, Only, Then, Pre, Mute, Into, Once, Turns, Atom, Call, Write, Part, Definition, Header, Program, start, term, seq, pre, atom, header, definitions}
-use Rattle.kex_reader.specs.Reading.{Entry, Mark, Ended, Done, Muted, Storing, CountStep, CountOn, CountRead, CountWrong, Mode, Need, Ready, After, Named, Writing, Bracket, BracketName, Assigning, Assigned, InCount, Inside, State, Begin, FirstName, StartLine, StageRead, StageNext, HeadRead, Within, before, put, take_more, take_seq, take_branches, term_of, take_term, goes, on_bar, closed, on_close, on_number, begin_pre, after_atom, named, on_name, on_sign, first_part, next_part, count_step, on_count, step_in, lift, next_head, on_head, on_define, step_within, first_name, head_read, stage_read, name_then, step, whole, ended, finish_within, finish, entries, entry}
+use Rattle.kex_reader.specs.Reading.{Entry, Mark, Ended, Done, Muted, Storing, CountStep, CountOn, CountRead, CountWrong, Mode, Need, Ready, After, Named, Writing, Bracket, BracketName, Assigning, Assigned, InCount, Inside, State, Begin, FirstName, StartLine, StageRead, StageNext, HeadRead, Within, before, with_pre, take_more, take_seq, take_branches, term_of, take_term, goes, on_bar, after_group, on_close, on_number, begin_pre, after_atom, after_name, on_name, on_sign, first_part, next_part, count_step, on_count, step_in, lift, next_head, on_head, on_define, step_within, first_name, head_read, stage_read, name_then, step, program_of_whole, program_of_term, finish_within, finish, entries, entry}
 use Rattle.kex_reader.specs.Checks.{Check, Nested, Staged, postfix_checks, term_checks, seq_checks, pre_checks, atom_checks, definition_checks, stage_checks, header_checks, program_checks}
 use Rattle.kex_reader.specs.Stands.{depth, begin_asks, after_asks, named_asks, count_asks, asks}
 use Rattle.kex_reader.specs.Asked.{entry_checks, entries_checks, mode_checks, inside_checks, state_checks, name_asks, state_asks}
@@ -12,8 +12,8 @@ use Rattle.kex_reader.proofs.Sound.{by_test, put_is}
 module _ (at : ℕ → ℕ) (base : ℕ) where
   -- ---- folding
 
-  pub put_checks : (p : Pre) (es : List Entry) → entries_checks at base (put p es) ≡ entries_checks at base es ++ pre_checks p at (base + length (entries es)) (depth es)
-  unfolding put entries_checks entry_checks pre_checks entries entry depth
+  pub put_checks : (p : Pre) (es : List Entry) → entries_checks at base (with_pre p es) ≡ entries_checks at base es ++ pre_checks p at (base + length (entries es)) (depth es)
+  unfolding with_pre entries_checks entry_checks pre_checks entries entry depth
   put_checks p [] = refl
   put_checks p (Mark ∷ es) = refl
   put_checks p (Ended s ∷ es) = refl
@@ -107,8 +107,8 @@ module _ (at : ℕ → ℕ) (base : ℕ) where
   bar_asked es None h = tt
   bar_asked es (Some t) h = ap (λ (x : List Check). x ++ []) h
 
-  pub closed_asked : (t : Term) (fs : List Entry) (cs : List Check) → with_term fs t ≡ cs → Asks (cs ++ []) (closed t fs)
-  unfolding closed Asks inside_checks mode_checks with_term entries_checks entry_checks atom_checks entries entry depth
+  pub closed_asked : (t : Term) (fs : List Entry) (cs : List Check) → with_term fs t ≡ cs → Asks (cs ++ []) (after_group t fs)
+  unfolding after_group Asks inside_checks mode_checks with_term entries_checks entry_checks atom_checks entries entry depth
   closed_asked t [] cs h = tt
   closed_asked t (Ended s ∷ fs) cs h = tt
   closed_asked t (Done p ∷ fs) cs h = tt
@@ -147,23 +147,23 @@ module _ (at : ℕ → ℕ) (base : ℕ) where
   begin_asked free es _ = tt
 
   -- a pre that has ended
-  pub put_asked : (p : Pre) (es : List Entry) (cs : List Check) → entries_checks at base es ++ pre_checks p at (base + length (entries es)) (depth es) ≡ cs → Asks cs (goes Ready (put p es))
+  pub put_asked : (p : Pre) (es : List Entry) (cs : List Check) → entries_checks at base es ++ pre_checks p at (base + length (entries es)) (depth es) ≡ cs → Asks cs (goes Ready (with_pre p es))
   unfolding mode_checks
-  put_asked p es cs e = asks_of Ready (put p es) cs (append-nil (entries_checks at base (put p es)) ∙ put_checks p es ∙ e)
+  put_asked p es cs e = asks_of Ready (with_pre p es) cs (append-nil (entries_checks at base (with_pre p es)) ∙ put_checks p es ∙ e)
 
-  pub turns_asked : (a : Atom) (p : Postfix) (es : List Entry) (ds : List Check) → postfix_checks p (at (base + length (entries es) + length (atom a))) ≡ ds → Asks ((entries_checks at base es ++ atom_checks a at (base + length (entries es)) (depth es)) ++ ds) (goes Ready (put (Turns a p) es))
+  pub turns_asked : (a : Atom) (p : Postfix) (es : List Entry) (ds : List Check) → postfix_checks p (at (base + length (entries es) + length (atom a))) ≡ ds → Asks ((entries_checks at base es ++ atom_checks a at (base + length (entries es)) (depth es)) ++ ds) (goes Ready (with_pre (Turns a p) es))
   unfolding pre_checks
   turns_asked a p es ds e =
       put_asked (Turns a p) es _ (sym (append_assoc (entries_checks at base es) (atom_checks a at (base + length (entries es)) (depth es)) (postfix_checks p (at (base + length (entries es) + length (atom a)))))
       ∙ ap (λ (x : List Check). (entries_checks at base es ++ atom_checks a at (base + length (entries es)) (depth es)) ++ x) e)
 
-  put_long : (a : Atom) (es : List Entry) → base + length (entries (put (Once a) es)) ≡ base + length (entries es) + length (atom a)
+  put_long : (a : Atom) (es : List Entry) → base + length (entries (with_pre (Once a) es)) ≡ base + length (entries es) + length (atom a)
   unfolding pre
   put_long a es = omega (arith, ap (λ (w : List Word). length w) (put_is (Once a) es), length-append (entries es) (atom a))
 
-  pub once_asked : (a : Atom) (es : List Entry) (w : Word) → Asks ((entries_checks at base es ++ atom_checks a at (base + length (entries es)) (depth es)) ++ begin_asks at (base + length (entries es) + length (atom a)) (put (Once a) es) w) (begin_pre true (put (Once a) es) w)
+  pub once_asked : (a : Atom) (es : List Entry) (w : Word) → Asks ((entries_checks at base es ++ atom_checks a at (base + length (entries es)) (depth es)) ++ begin_asks at (base + length (entries es) + length (atom a)) (with_pre (Once a) es) w) (begin_pre true (with_pre (Once a) es) w)
   unfolding pre_checks
-  once_asked a es w = to_asks _ _ _ (ap (λ (x : List Check). x ++ begin_asks at (base + length (entries (put (Once a) es))) (put (Once a) es) w) (put_checks (Once a) es) ∙ ap (λ (k : ℕ). (entries_checks at base es ++ atom_checks a at (base + length (entries es)) (depth es)) ++ begin_asks at k (put (Once a) es) w) (put_long a es)) (begin_asked true (put (Once a) es) w)
+  once_asked a es w = to_asks _ _ _ (ap (λ (x : List Check). x ++ begin_asks at (base + length (entries (with_pre (Once a) es))) (with_pre (Once a) es) w) (put_checks (Once a) es) ∙ ap (λ (k : ℕ). (entries_checks at base es ++ atom_checks a at (base + length (entries es)) (depth es)) ++ begin_asks at k (with_pre (Once a) es) w) (put_long a es)) (begin_asked true (with_pre (Once a) es) w)
 
   pub after_asked : (a : Atom) (es : List Entry) (w : Word) → Asks ((entries_checks at base es ++ atom_checks a at (base + length (entries es)) (depth es)) ++ after_asks at (base + length (entries es) + length (atom a)) a es w) (after_atom a es w)
   unfolding after_atom after_asks postfix_checks Asks inside_checks mode_checks
@@ -173,8 +173,8 @@ module _ (at : ℕ → ℕ) (base : ℕ) where
   after_asked a es OpenBrace = sym (append-nil _)
   after_asked a es w = once_asked a es w
 
-  pub named_asked : (n : List ℕ) (es : List Entry) (w : Word) → Asks ((entries_checks at base es ++ []) ++ named_asks at (base + length (entries es)) n es w) (named n es w)
-  unfolding named named_asks Asks inside_checks mode_checks entries_checks entry_checks atom_checks atom
+  pub named_asked : (n : List ℕ) (es : List Entry) (w : Word) → Asks ((entries_checks at base es ++ []) ++ named_asks at (base + length (entries es)) n es w) (after_name n es w)
+  unfolding after_name named_asks Asks inside_checks mode_checks entries_checks entry_checks atom_checks atom
   named_asked n es At = append-nil _ ∙ ap (λ (x : List Check). x ++ Nested (at (base + length (entries es))) (depth es) ∷ []) (sym (append-nil (entries_checks at base es)))
   named_asked n es Define = tt
   named_asked n es w = after_asked (Call n) es w
@@ -323,19 +323,19 @@ module _ (at : ℕ → ℕ) where
   FinishAsked cs None = Unit {0}
   FinishAsked cs (Some p) = program_checks p at ≡ cs
 
-  end_asked : (h : Header) (ds : List Definition) (name : List ℕ) (es : List Entry) (o : Option (Term × List Entry)) → TermAsked at (length (before h ds name)) es o → FinishAsked (front h ds ++ entries_checks at (length (before h ds name)) es) (ended h ds name o)
-  unfolding ended whole TermAsked FinishAsked front
+  end_asked : (h : Header) (ds : List Definition) (name : List ℕ) (es : List Entry) (o : Option (Term × List Entry)) → TermAsked at (length (before h ds name)) es o → FinishAsked (front h ds ++ entries_checks at (length (before h ds name)) es) (program_of_term h ds name o)
+  unfolding program_of_term program_of_whole TermAsked FinishAsked front
   end_asked h ds name es None k = tt
   end_asked h ds name es (Some (t, e ∷ fs)) k = tt
   end_asked h ds name es (Some (t, [])) k = ended_front h ds name t es k
 
-  end_once : (h : Header) (ds : List Definition) (name : List ℕ) (a : Atom) (es : List Entry) → FinishAsked (front h ds ++ (entries_checks at (length (before h ds name)) es ++ atom_checks a at (length (before h ds name) + length (entries es)) (depth es))) (ended h ds name (take_term (put (Once a) es)))
+  end_once : (h : Header) (ds : List Definition) (name : List ℕ) (a : Atom) (es : List Entry) → FinishAsked (front h ds ++ (entries_checks at (length (before h ds name)) es ++ atom_checks a at (length (before h ds name) + length (entries es)) (depth es))) (program_of_term h ds name (take_term (with_pre (Once a) es)))
   unfolding pre_checks
-  end_once h ds name a es = subst (λ (x : List Check). FinishAsked (front h ds ++ x) (ended h ds name (take_term (put (Once a) es)))) (put_checks at (length (before h ds name)) (Once a) es) (end_asked h ds name (put (Once a) es) (take_term (put (Once a) es)) (term_asked at (length (before h ds name)) (put (Once a) es)))
+  end_once h ds name a es = subst (λ (x : List Check). FinishAsked (front h ds ++ x) (program_of_term h ds name (take_term (with_pre (Once a) es)))) (put_checks at (length (before h ds name)) (Once a) es) (end_asked h ds name (with_pre (Once a) es) (take_term (with_pre (Once a) es)) (term_asked at (length (before h ds name)) (with_pre (Once a) es)))
 
   finished : (h : Header) (ds : List Definition) (name : List ℕ) (m : Mode) (es : List Entry) → FinishAsked (front h ds ++ (entries_checks at (length (before h ds name)) es ++ mode_checks m at (length (before h ds name) + length (entries es)) (depth es))) (finish_within h ds name m es)
   unfolding finish_within mode_checks FinishAsked atom_checks
-  finished h ds name Ready es = subst (λ (x : List Check). FinishAsked (front h ds ++ x) (ended h ds name (take_term es))) (sym (append-nil (entries_checks at (length (before h ds name)) es))) (end_asked h ds name es (take_term es) (term_asked at (length (before h ds name)) es))
+  finished h ds name Ready es = subst (λ (x : List Check). FinishAsked (front h ds ++ x) (program_of_term h ds name (take_term es))) (sym (append-nil (entries_checks at (length (before h ds name)) es))) (end_asked h ds name es (take_term es) (term_asked at (length (before h ds name)) es))
   finished h ds name (After a) es = end_once h ds name a es
   finished h ds name (Named free n) es = end_once h ds name (Call n) es
   finished h ds name _ es = tt

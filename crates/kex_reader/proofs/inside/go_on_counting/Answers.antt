@@ -1,16 +1,16 @@
 use Rattle.std.proofs.Common.{◌≡◌, ◌+◌, ◌++◌, length, None, sym, ap, ◌∙◌, subst}
 use Rattle.kex_reader.specs.Syntax.{Once, Turns}
-use Rattle.kex_reader.specs.Reading.{entries, put}
-use Rattle.kex_reader.proofs.Drafting.{atom_within, atom_more}
+use Rattle.kex_reader.specs.Reading.{entries, with_pre}
+use Rattle.kex_reader.proofs.Drafts.{atom_within, atom_more}
 use Rattle.kex_reader.proofs.Stacks.{frames_more}
-use Rattle.kex_reader.proofs.Stepping.{to, memory_exit, ready, once_shows}
+use Rattle.kex_reader.proofs.Steps.{to, memory_exit, ready, once_shows}
 use Rattle.kex_reader.specs.Stands.{ShowsMode, ShowsCountStep}
-use Rattle.kex_reader.proofs.Noting.{never_none}
+use Rattle.kex_reader.proofs.LeastBreak.{never_none}
 use Rattle.kex_reader.proofs.Modes.{count_on, count_wrong, count_read, count_bad, read_is, read_count, bad_turns}
-use Rattle.kex_reader.proofs.Kept.{on_from, moved, good_count, bad_count, read_asks, on_moved}
+use Rattle.kex_reader.proofs.MoreChecks.{on_from, moved, good_count, bad_count, read_asks, on_moved}
 use Rattle.kex_reader.proofs.Modes.{count_on_notes}
 use Rattle.kex_reader.proofs.Uses.{unchanged}
-use Rattle.kex_reader.proofs.inside.counted.Goals as goal
+use Rattle.kex_reader.proofs.inside.go_on_counting.Goals as goal
 
 pub returns-in-On-clause-step : goal.returns-in-On-clause-step
 returns-in-On-clause-step c = λ at base es a h e s t b k. count_on c.args.draft.now at base c.args.stack.now es a c.args.item c.args.brace c.in-On.count t h e b s (subst (λ x. ShowsCountStep x t) c.in-On.is k)
@@ -33,7 +33,7 @@ returns-in_ok-put-in-Bad-clause-step c = λ at base es a h e s t b k.
     let more = c.note.ensures.keeps in
     let never = λ (z : c.note.new.self.broken ≡ None). never_none c.args.draft.now.broken _ (sym (ap (λ m. m.broken) c.note.ensures.noted) ∙ z) in
     let bad = bad_turns c.note.new.self at c.args.item.node i a r.0 (atom_within a c.note.new.self at c.args.item.node i (atom_more a c.args.draft.now c.note.new.self at c.args.item.node i more s)) never (atom_more a c.args.draft.now c.note.new.self at c.args.item.node i more s) in
-    to _ at base _ _ _ _ (read_is a es t r.0 r.1) (ready c.put.new.draft at base c.put.new.stack (put (Turns a r.0) es) (c.in_ok-put-in-Bad.ensures.put at base es (Turns a r.0) (frames_more c.args.draft.now c.note.new.self at base c.args.stack.now es more h) e bad))
+    to _ at base _ _ _ _ (read_is a es t r.0 r.1) (ready c.put.new.draft at base c.put.new.stack (with_pre (Turns a r.0) es) (c.in_ok-put-in-Bad.ensures.put at base es (Turns a r.0) (frames_more c.args.draft.now c.note.new.self at base c.args.stack.now es more h) e bad))
 
 pub turns-requires-clause-count : goal.turns-requires-clause-count
 turns-requires-clause-count c =
@@ -59,7 +59,7 @@ returns-in-Read-clause-notes c = λ t from b k cs n.
 pub returns-in_ok-put-in-Bad-clause-notes : goal.returns-in_ok-put-in-Bad-clause-notes
 returns-in_ok-put-in-Bad-clause-notes c = λ t from b k cs n.
     let r = count_bad t (subst (λ x. ShowsCountStep x t) c.in-Bad.is k) in
-    subst (λ x. Rattle.kex_reader.specs.Stands.Noted (cs ++ x) c.put.new.draft.broken) (read_asks c.args.brace from t r.0 r.1 b) (moved _ _ c.put.new.draft.broken (c.in_ok-put-in-Bad.ensures.broken ∙ ap (λ m. m.broken) c.note.ensures.noted) (bad_count r.0 cs c.args.draft.now.broken c.args.brace r.2 n))
+    subst (λ x. Rattle.kex_reader.specs.Stands.NotesLeast (cs ++ x) c.put.new.draft.broken) (read_asks c.args.brace from t r.0 r.1 b) (moved _ _ c.put.new.draft.broken (c.in_ok-put-in-Bad.ensures.broken ∙ ap (λ m. m.broken) c.note.ensures.noted) (bad_count r.0 cs c.args.draft.now.broken c.args.brace r.2 n))
 
 pub returns-in-On-clause-held : goal.returns-in-On-clause-held
 returns-in-On-clause-held c = unchanged _ _ _ (λ x h. h)

@@ -23,21 +23,21 @@ use Rattle.kex_reader.specs.declared.refusal.ReadRefusal.{ReadRefusal}
 use Rattle.kex_reader.specs.declared.refusal.ReadRefusal.TheVariants as refusals
 use Rattle.kex_reader.specs.Syntax.{Word, word, Header, NoStart, Stages, Definition, Program, program, header, term}
 use Rattle.kex_reader.specs.Programs.{IsFirstWrong}
-use Rattle.kex_reader.specs.Reading.{State, Begin, reads, next, step, spelled, finish}
+use Rattle.kex_reader.specs.Reading.{State, Begin, state_after, next, step, words_read, finish}
 use Rattle.kex_reader.specs.Checks.{program_checks}
 use Rattle.kex_reader.specs.Shown.{Made, ShowsDefinitions, ShowsStages}
-use Rattle.kex_reader.specs.Stands.{Has, Noted}
+use Rattle.kex_reader.specs.Stands.{Has, NotesLeast}
 use Rattle.kex_reader.specs.Uses.{Numbered, InNodes, InDefinitions, InStages, NoneSpare}
 use Rattle.kex_reader.proofs.Uses.{AllHeld}
 use Rattle.kex_reader.specs.Holding.{ShowsHead, ShowsState, StateSteps, Finishes}
 use Rattle.kex_reader.specs.Asked.{state_checks, state_asks}
 use Rattle.kex_reader.specs.Spelling.{words, offset, main_stage, ShowsHeader, ShowsProgram, Spells, IsUnexpected, BreaksLimit, IsRefusedAs, of_token, of_limit, of_step}
-use Rattle.kex_reader.proofs.Naming.{get_mapped, take_get}
-use Rattle.kex_reader.proofs.Drafting.{term_within}
+use Rattle.kex_reader.proofs.NumberedNames.{get_mapped, take_get}
+use Rattle.kex_reader.proofs.Drafts.{term_within}
 use Rattle.kex_reader.proofs.Sound.{Goes, reads_goes}
 use Rattle.kex_reader.proofs.Complete.{reads-append}
 use Rattle.kex_reader.proofs.Viable.{start_goes, read_begins, read_is, unread_begins, unfinished}
-use Rattle.kex_reader.proofs.Asking.{StateAsked, state_asked, FinishAsked, finish_asked}
+use Rattle.kex_reader.proofs.ReadChecks.{StateAsked, state_asked, FinishAsked, finish_asked}
 
 -- ---- words and places
 
@@ -59,18 +59,18 @@ offset_end text ts k h = get_or_past (map (λ (t : Token). t.from) ts) k (length
 
 -- ---- one word more
 
-pub reads_more : (ws : List Word) (k : ℕ) (s : State) (w : Word) → slice_get ws k ≡ Some w → reads (Some Begin) (take k ws) ≡ Some s → reads (Some Begin) (take (k + 1) ws) ≡ step s w
-unfolding reads next
-reads_more ws k s w g e = ap (reads (Some Begin)) (take_get ws k w g) ∙ reads-append (Some Begin) (take k ws) (w ∷ []) ∙ ap (λ (o : Option State). reads o (w ∷ [])) e
+pub reads_more : (ws : List Word) (k : ℕ) (s : State) (w : Word) → slice_get ws k ≡ Some w → state_after (Some Begin) (take k ws) ≡ Some s → state_after (Some Begin) (take (k + 1) ws) ≡ step s w
+unfolding state_after next
+reads_more ws k s w g e = ap (state_after (Some Begin)) (take_get ws k w g) ∙ reads-append (Some Begin) (take k ws) (w ∷ []) ∙ ap (λ (o : Option State). state_after o (w ∷ [])) e
 
-pub spelled_long : (ws : List Word) (s : State) → reads (Some Begin) ws ≡ Some s → length (spelled s) ≡ length ws
+pub spelled_long : (ws : List Word) (s : State) → state_after (Some Begin) ws ≡ Some s → length (words_read s) ≡ length ws
 unfolding Goes
 spelled_long ws s e = let g : Goes ws (Some s) = subst (λ (o : Option State). Goes ws o) e (reads_goes [] (Some Begin) ws start_goes) in ap (λ (x : List Word). length x) g
 
-pub taken_long : (ws : List Word) (k : ℕ) (s : State) → k ≤ length ws → reads (Some Begin) (take k ws) ≡ Some s → length (spelled s) ≡ k
+pub taken_long : (ws : List Word) (k : ℕ) (s : State) → k ≤ length ws → state_after (Some Begin) (take k ws) ≡ Some s → length (words_read s) ≡ k
 taken_long ws k s h e = spelled_long (take k ws) s e ∙ length-take-le k ws h
 
-pub wrong_word : (ws : List Word) (k : ℕ) (s : State) (w : Word) → slice_get ws k ≡ Some w → reads (Some Begin) (take k ws) ≡ Some s → step s w ≡ None → IsFirstWrong ws k
+pub wrong_word : (ws : List Word) (k : ℕ) (s : State) (w : Word) → slice_get ws k ≡ Some w → state_after (Some Begin) (take k ws) ≡ Some s → step s w ≡ None → IsFirstWrong ws k
 wrong_word ws k s w g e n =
     let lt = slice_get_within ws k w g in
     record {
@@ -80,15 +80,15 @@ wrong_word ws k s w g e n =
       end = λ q _. absurd (omega (arith, lt, q));
     }
 
-pub wrong_end : (ws : List Word) (k : ℕ) (s : State) → k ≡ length ws → reads (Some Begin) (take k ws) ≡ Some s → finish s ≡ None → IsFirstWrong ws k
+pub wrong_end : (ws : List Word) (k : ℕ) (s : State) → k ≡ length ws → state_after (Some Begin) (take k ws) ≡ Some s → finish s ≡ None → IsFirstWrong ws k
 wrong_end ws k s h e n = record {
   inside = omega (arith, h);
   before = read_begins (take k ws) s e;
   word = λ lt _. absurd (omega (arith, h, lt));
-  end = λ _ b. unfinished ws s (subst (λ (w : List Word). reads (Some Begin) w ≡ Some s) (take_all k ws (omega (arith, h))) e) n b;
+  end = λ _ b. unfinished ws s (subst (λ (w : List Word). state_after (Some Begin) w ≡ Some s) (take_all k ws (omega (arith, h))) e) n b;
 }
 
-pub program_read : (ws : List Word) (k : ℕ) (s : State) (p : Program) → length ws ≤ k → reads (Some Begin) (take k ws) ≡ Some s → finish s ≡ Some p → program p ≡ ws
+pub program_read : (ws : List Word) (k : ℕ) (s : State) (p : Program) → length ws ≤ k → state_after (Some Begin) (take k ws) ≡ Some s → finish s ≡ Some p → program p ≡ ws
 program_read ws k s p h e f = read_is (take k ws) s p e f ∙ take_all k ws h
 
 -- ---- outcomes
@@ -129,13 +129,13 @@ pub begin_shows : (made : Made) (at : ℕ → ℕ) (fs : List Frame) (ds : List 
 unfolding ShowsState
 begin_shows made at fs ds ss f d s = (f, d, s)
 
-pub begin_reads : reads (Some Begin) [] ≡ Some Begin
-unfolding reads
+pub begin_reads : state_after (Some Begin) [] ≡ Some Begin
+unfolding state_after
 begin_reads = refl
 
-pub begin_notes : (at : ℕ → ℕ) (o : Option Break) → o ≡ None → Noted (state_checks at Begin) o
+pub begin_notes : (at : ℕ → ℕ) (o : Option Break) → o ≡ None → NotesLeast (state_checks at Begin) o
 unfolding state_checks
-begin_notes at o e = subst (λ (x : Option Break). Noted [] x) (sym e) (λ b h. h.1)
+begin_notes at o e = subst (λ (x : Option Break). NotesLeast [] x) (sym e) (λ b h. h.1)
 
 -- ---- refusals
 
@@ -227,7 +227,7 @@ main_here names [] i d t h e = absurd (omega (arith, h))
 main_here names (x ∷ ds) zero d t h e = ap (λ (b : Bool). if b then record { name = x.name; at = x.at } ∷ [] else main_stage names ds) e
 main_here names (x ∷ ds) (suc i) d t h e = main_here names ds i d t (omega (arith, h)) e
 
-pub spells_ok : (r : Result Grammar ReadRefusal) (text : List ℕ) (ts : List Token) (tree : Program) (made : Made) (ds : List Root) (named : List Start) → length text ≤ most_text → AreTokens text ts → program tree ≡ words text ts → Noted (program_checks tree (offset text ts)) made.broken
+pub spells_ok : (r : Result Grammar ReadRefusal) (text : List ℕ) (ts : List Token) (tree : Program) (made : Made) (ds : List Root) (named : List Start) → length text ≤ most_text → AreTokens text ts → program tree ≡ words text ts → NotesLeast (program_checks tree (offset text ts)) made.broken
     → ShowsDefinitions tree.definitions made (offset text ts) ds (length (header tree.header)) → ShowsHead tree.header made (offset text ts) named
     → IfOk r (λ _. made.broken ≡ None) → IfOk r (λ P. (at : ℕ → ℕ) (tree : Program) → ShowsDefinitions tree.definitions made at ds (length (header tree.header)) → ShowsHead tree.header made at named → ShowsProgram tree (record { nodes = P.nodes; names = P.names; registers = made.registers; broken = None }) at P)
     → IfOk r (λ P. Different P.names) → IfOk r (λ P. Different made.registers × (P.registers ≡ length made.registers)) → AllHeld made (λ x. InDefinitions ds x ⊎ InStages named x) → IfOk r (λ P. ((x : Numbered) → Has made x → InNodes made.nodes x ⊎ (InDefinitions ds x ⊎ InStages named x)) → NoneSpare P) → IfOk r (λ P. Spells text P)
@@ -238,7 +238,7 @@ spells_ok (Ok P) text ts tree made ds named short cut der nt df hd w s n g all u
   cut = cut;
   tree = tree;
   derived = der;
-  within = subst (λ (o : Option Break). Noted (program_checks tree (offset text ts)) o) w nt;
+  within = subst (λ (o : Option Break). NotesLeast (program_checks tree (offset text ts)) o) w nt;
   registers = made.registers;
   shown = s (offset text ts) tree df hd;
   names_differ = n;
@@ -251,10 +251,10 @@ pub memory_refused : (r : Result Grammar ReadRefusal) (Q : ReadRefusal → Type 
 memory_refused (Ok P) Q e = absurd e
 memory_refused (Err x) Q e = inl e
 
-pub refused_ok : (r : Result Grammar ReadRefusal) (text : List ℕ) (ts : List Token) (tree : Program) (o : Option Break) → length text ≤ most_text → AreTokens text ts → program tree ≡ words text ts → Noted (program_checks tree (offset text ts)) o → IfErr r (λ e. (e ≡ refusals.Memory) ⊎ ((b : Break) × (o ≡ Some b) × (e ≡ of_limit b))) → IfErr r (λ e. IsRefusedAs text e)
+pub refused_ok : (r : Result Grammar ReadRefusal) (text : List ℕ) (ts : List Token) (tree : Program) (o : Option Break) → length text ≤ most_text → AreTokens text ts → program tree ≡ words text ts → NotesLeast (program_checks tree (offset text ts)) o → IfErr r (λ e. (e ≡ refusals.Memory) ⊎ ((b : Break) × (o ≡ Some b) × (e ≡ of_limit b))) → IfErr r (λ e. IsRefusedAs text e)
 refused_ok (Ok P) text ts tree o short cut der nt h = tt
 refused_ok (Err e) text ts tree o short cut der nt (inl m) = subst (λ (x : ReadRefusal). IsRefusedAs text x) (sym m) tt
-refused_ok (Err e) text ts tree o short cut der nt (inr m) = subst (λ (x : ReadRefusal). IsRefusedAs text x) (sym m.2) (limit_refused text m.0 short (ts, tree, cut, der, subst (λ (x : Option Break). Noted (program_checks tree (offset text ts)) x) m.1 nt))
+refused_ok (Err e) text ts tree o short cut der nt (inr m) = subst (λ (x : ReadRefusal). IsRefusedAs text x) (sym m.2) (limit_refused text m.0 short (ts, tree, cut, der, subst (λ (x : Option Break). NotesLeast (program_checks tree (offset text ts)) x) m.1 nt))
 
 pub end_of : (k : ℕ) (text : List ℕ) (ts : List Token) → length ts ≤ k → k ≤ length ts → k ≡ length ts
 end_of k text ts n h = omega (arith, n, h)

@@ -3,13 +3,13 @@ use Rattle.std.proofs.Common.{◌≡◌, ℕ, suc, ◌≤◌, Bool, true, false,
 use Rattle.std.specs.Prelude.{reverse}
 use Rattle.std.proofs.lemmas.List.{reverse-append, length-reverse}
 use Rattle.kex_reader.specs.declared.stack.Frame.{Frame}
-use Rattle.kex_reader.specs.Stands.{opens, open_frames}
+use Rattle.kex_reader.specs.Stands.{is_opening, open_frames}
 
-pub opened : (f : Frame) (fs : List Frame) → opens f ≡ true → open_frames (f ∷ fs) ≡ suc (open_frames fs)
+pub opened : (f : Frame) (fs : List Frame) → is_opening f ≡ true → open_frames (f ∷ fs) ≡ suc (open_frames fs)
 unfolding open_frames
 opened f fs e = ap (λ (b : Bool). if b then suc (open_frames fs) else open_frames fs) e
 
-pub not_opened : (f : Frame) (fs : List Frame) → opens f ≡ false → open_frames (f ∷ fs) ≡ open_frames fs
+pub not_opened : (f : Frame) (fs : List Frame) → is_opening f ≡ false → open_frames (f ∷ fs) ≡ open_frames fs
 unfolding open_frames
 not_opened f fs e = ap (λ (b : Bool). if b then suc (open_frames fs) else open_frames fs) e
 
@@ -20,7 +20,7 @@ up false n = omega arith
 pub open_long : (fs : List Frame) → open_frames fs ≤ length fs
 unfolding open_frames
 open_long [] = omega arith
-open_long (f ∷ fs) = omega (arith, up (opens f) (open_frames fs), open_long fs)
+open_long (f ∷ fs) = omega (arith, up (is_opening f) (open_frames fs), open_long fs)
 
 pub open_reversed : (fs : List Frame) → open_frames (reverse fs) ≤ length fs
 open_reversed fs = omega (arith, open_long (reverse fs), length-reverse fs)

@@ -14,8 +14,8 @@ use Rattle.kex_regexp.specs.declared.wait.StepFault.{StepFault}
 use Rattle.kex_regexp.specs.declared.wait.StepFault.TheVariants as faults
 use Rattle.kex_regexp.specs.Grammar.{Regex, Item, Once, Member}
 use Rattle.kex_regexp.specs.Bodies.{Spells, IsFirstWrong}
-use Rattle.kex_regexp.specs.Machine.{Entry, Mark, Ended, Read, Mode, Ready, After, InEscape, InSet, InCount, State, entries, spelled, take_regex, step, next, reads, start, whole, finish, finish_in, step_in, Escaping, Counting, Part as SpecPart}
-use Rattle.kex_regexp.specs.Holding.{IsSetAfter, IsSetIn, HoldsRegex, FramesShow, RegexOn, StandsFor, Steps, Ends, ShowsMode}
+use Rattle.kex_regexp.specs.Machine.{Entry, Mark, Ended, Read, Mode, Ready, After, InEscape, InSet, InCount, State, entries, bytes_read, take_regex, step, next, state_after, start, whole_regex, finish, finish_in, step_in, Escaping, Counting, Part as SpecPart}
+use Rattle.kex_regexp.specs.Holding.{IsSetAfter, IsSetIn, HoldsRegex, FramesShow, RegexOn, ShowsState, Steps, Ends, ShowsMode}
 use Rattle.kex_regexp.proofs.Sound.{Goes, reads_sound, start_sound}
 use Rattle.kex_regexp.proofs.Complete.{reads-append}
 use Rattle.kex_regexp.proofs.Viable.{read_begins, read_spells, unread_begins, unfinished}
@@ -28,7 +28,7 @@ steps_wrong nodes base fs (Some t) s = absurd s
 pub record Stepped (nodes : List Node) (base : ℕ) (fs : List Frame) (w : Wait) (o : Option State) : Type 0 where
   pub state : State
   pub is : o ≡ Some state
-  pub stands : StandsFor nodes base fs w state
+  pub stands : ShowsState nodes base fs w state
 
 pub steps_ok : (nodes : List Node) (base : ℕ) (fs : List Frame) (w : Wait) (o : Option State) → Steps nodes base fs (Ok w) o → Stepped nodes base fs w o
 unfolding Steps
@@ -46,20 +46,20 @@ ends_ok nodes base n None s = absurd s
 ends_ok nodes base n (Some r) s = (r, refl, s)
 
 -- one byte more
-pub reads_more : (bytes : List ℕ) (k : ℕ) (s : State) → k < length bytes → reads start (take k bytes) ≡ Some s → reads start (take (k + 1) bytes) ≡ step s (get_or bytes k 0)
-unfolding reads next
+pub reads_more : (bytes : List ℕ) (k : ℕ) (s : State) → k < length bytes → state_after start (take k bytes) ≡ Some s → state_after start (take (k + 1) bytes) ≡ step s (get_or bytes k 0)
+unfolding state_after next
 reads_more bytes k s h e =
-    ap (λ (x : ℕ). reads start (take x bytes)) (add-one k) ∙ ap (reads start) (take-suc bytes k 0 h) ∙ reads-append start (take k bytes) (get_or bytes k 0 ∷ []) ∙ ap (λ (o : Option State). reads o (get_or bytes k 0 ∷ [])) e
+    ap (λ (x : ℕ). state_after start (take x bytes)) (add-one k) ∙ ap (state_after start) (take-suc bytes k 0 h) ∙ reads-append start (take k bytes) (get_or bytes k 0 ∷ []) ∙ ap (λ (o : Option State). state_after o (get_or bytes k 0 ∷ [])) e
 
 -- what a state has read is as long as the bytes
-pub spelled_length : (w : List ℕ) (s : State) → reads start w ≡ Some s → length (spelled s) ≡ length w
+pub spelled_length : (w : List ℕ) (s : State) → state_after start w ≡ Some s → length (bytes_read s) ≡ length w
 unfolding Goes
 spelled_length w s e = let g : Goes w (Some s) = subst (λ (o : Option State). Goes w o) e (reads_sound [] start w start_sound) in ap length g.1
 
-pub spelled_place : (bytes : List ℕ) (k base place : ℕ) (s : State) → k ≤ length bytes → reads start (take k bytes) ≡ Some s → place ≡ base + k → place ≡ base + length (spelled s)
+pub spelled_place : (bytes : List ℕ) (k base place : ℕ) (s : State) → k ≤ length bytes → state_after start (take k bytes) ≡ Some s → place ≡ base + k → place ≡ base + length (bytes_read s)
 spelled_place bytes k base place s h e p = omega (arith, p, spelled_length (take k bytes) s e, length-take-le k bytes h)
 
-pub wrong_byte : (bytes : List ℕ) (k : ℕ) (s : State) → k < length bytes → reads start (take k bytes) ≡ Some s → step s (get_or bytes k 0) ≡ None → IsFirstWrong bytes k
+pub wrong_byte : (bytes : List ℕ) (k : ℕ) (s : State) → k < length bytes → state_after start (take k bytes) ≡ Some s → step s (get_or bytes k 0) ≡ None → IsFirstWrong bytes k
 wrong_byte bytes k s h e n = record {
   inside = omega (arith, h);
   before = read_begins (take k bytes) s e;
@@ -67,15 +67,15 @@ wrong_byte bytes k s h e n = record {
   end = λ q _. absurd (omega (arith, h, q));
 }
 
-pub wrong_end : (bytes : List ℕ) (k : ℕ) (s : State) → k ≡ length bytes → reads start (take k bytes) ≡ Some s → finish s ≡ None → IsFirstWrong bytes k
+pub wrong_end : (bytes : List ℕ) (k : ℕ) (s : State) → k ≡ length bytes → state_after start (take k bytes) ≡ Some s → finish s ≡ None → IsFirstWrong bytes k
 wrong_end bytes k s h e n = record {
   inside = omega (arith, h);
   before = read_begins (take k bytes) s e;
   byte = λ lt _. absurd (omega (arith, h, lt));
-  end = λ _ b. unfinished bytes s (subst (λ (w : List ℕ). reads start w ≡ Some s) (take_all k bytes (omega (arith, h))) e) n b;
+  end = λ _ b. unfinished bytes s (subst (λ (w : List ℕ). state_after start w ≡ Some s) (take_all k bytes (omega (arith, h))) e) n b;
 }
 
-pub body_read : (bytes : List ℕ) (k : ℕ) (s : State) (r : Regex) → length bytes ≤ k → reads start (take k bytes) ≡ Some s → finish s ≡ Some r → Spells r bytes
+pub body_read : (bytes : List ℕ) (k : ℕ) (s : State) (r : Regex) → length bytes ≤ k → state_after start (take k bytes) ≡ Some s → finish s ≡ Some r → Spells r bytes
 body_read bytes k s r h e f = subst (λ (w : List ℕ). Spells r w) (take_all k bytes h) (read_spells (take k bytes) s r e f)
 
 -- ---- the end
@@ -93,28 +93,28 @@ none_shown nodes base (frames.Mark at ∷ gs) h = absurd h
 none_shown nodes base (frames.Ended n at ∷ gs) h = absurd h
 none_shown nodes base (frames.Piece n at ∷ gs) h = absurd h
 
-pub whole_of : (t : Regex × List Entry) → t.1 ≡ [] → whole t ≡ Some t.0
-unfolding whole
-whole_of t e = ap (λ (x : List Entry). whole (t.0, x)) e
+pub whole_of : (t : Regex × List Entry) → t.1 ≡ [] → whole_regex t ≡ Some t.0
+unfolding whole_regex
+whole_of t e = ap (λ (x : List Entry). whole_regex (t.0, x)) e
 
 pub shown_none : (nodes : List Node) (base : ℕ) (fs : List Frame) → FramesShow nodes base (reverse fs) [] → length fs ≡ 0
 shown_none nodes base fs h = sym (length-reverse fs) ∙ none_shown nodes base (reverse fs) h
 
-pub some_frames : (nodes : List Node) (base : ℕ) (fs : List Frame) (r : Regex) (es : List Entry) → (length fs ≡ 0 → ⊥) → FramesShow nodes base (reverse fs) es → whole (r, es) ≡ None
-unfolding whole
+pub some_frames : (nodes : List Node) (base : ℕ) (fs : List Frame) (r : Regex) (es : List Entry) → (length fs ≡ 0 → ⊥) → FramesShow nodes base (reverse fs) es → whole_regex (r, es) ≡ None
+unfolding whole_regex
 some_frames nodes base fs r (Mark ∷ es) n h = refl
 some_frames nodes base fs r (Ended b ∷ es) n h = refl
 some_frames nodes base fs r (Read p ∷ es) n h = refl
 some_frames nodes base fs r [] n h = absurd (n (shown_none nodes base fs h))
 
-pub ends_whole : (nodes : List Node) (base : ℕ) (fs : List Frame) (part : Placed) (t : Regex × List Entry) → length fs ≡ 0 → RegexOn nodes base fs part t → Ends nodes base (Ok part.node) (whole t)
+pub ends_whole : (nodes : List Node) (base : ℕ) (fs : List Frame) (part : Placed) (t : Regex × List Entry) → length fs ≡ 0 → RegexOn nodes base fs part t → Ends nodes base (Ok part.node) (whole_regex t)
 unfolding Ends entries
 ends_whole nodes base fs part t e r =
     let n = no_frames nodes base fs t.1 e r.below in
     let at : part.at ≡ base = omega (arith, r.at, ap (λ (x : List Entry). length (entries x)) n) in
     subst (λ (x : Option Regex). Ends nodes base (Ok part.node) x) (sym (whole_of t n)) (subst (λ (x : ℕ). HoldsRegex t.0 nodes part.node x) at r.shows)
 
-pub ends_open : (nodes : List Node) (base : ℕ) (fs : List Frame) (part : Placed) (t : Regex × List Entry) → (length fs ≡ 0 → ⊥) → RegexOn nodes base fs part t → Ends nodes base (Err faults.Wrong) (whole t)
+pub ends_open : (nodes : List Node) (base : ℕ) (fs : List Frame) (part : Placed) (t : Regex × List Entry) → (length fs ≡ 0 → ⊥) → RegexOn nodes base fs part t → Ends nodes base (Err faults.Wrong) (whole_regex t)
 unfolding Ends
 ends_open nodes base fs part t n r = subst (λ (x : Option Regex). Ends nodes base (Err faults.Wrong) x) (sym (some_frames nodes base fs t.0 t.1 n r.below)) tt
 
@@ -133,11 +133,11 @@ pub finish_mode : (s : State) (m : Mode) → s.mode ≡ m → finish s ≡ finis
 unfolding finish
 finish_mode s m e = ap (λ (x : Mode). finish_in x s.entries) e
 
-pub finish_ready : (s : State) → s.mode ≡ Ready → finish s ≡ whole (take_regex s.entries)
+pub finish_ready : (s : State) → s.mode ≡ Ready → finish s ≡ whole_regex (take_regex s.entries)
 unfolding finish_in
 finish_ready s e = finish_mode s Ready e
 
-pub finish_after : (s : State) (i : Item) → s.mode ≡ After i → finish s ≡ whole (take_regex (Read (Once i) ∷ s.entries))
+pub finish_after : (s : State) (i : Item) → s.mode ≡ After i → finish s ≡ whole_regex (take_regex (Read (Once i) ∷ s.entries))
 unfolding finish_in
 finish_after s i e = finish_mode s (After i) e
 
@@ -153,12 +153,12 @@ pub finish_count : (s : State) (i : Item) (x : Counting) → s.mode ≡ InCount 
 unfolding finish_in
 finish_count s i x e = finish_mode s (InCount i x) e
 
-pub start_stands : (nodes : List Node) (base : ℕ) (fs : List Frame) → fs ≡ [] → StandsFor nodes base fs waits.Ready (record { mode = Ready; entries = [] })
+pub start_stands : (nodes : List Node) (base : ℕ) (fs : List Frame) → fs ≡ [] → ShowsState nodes base fs waits.Ready (record { mode = Ready; entries = [] })
 unfolding FramesShow ShowsMode
 start_stands nodes base fs e = record { below = subst (λ (x : List Frame). FramesShow nodes base (reverse x) []) (sym e) tt; mode = tt }
 
-pub start_reads : reads start [] ≡ Some (record { mode = Ready; entries = [] })
-unfolding reads start
+pub start_reads : state_after start [] ≡ Some (record { mode = Ready; entries = [] })
+unfolding state_after start
 start_reads = refl
 
 -- ---- the set
@@ -168,7 +168,7 @@ unfolding IsSetIn
 start_set set = tt
 
 -- what is taken in at a byte is the set behind it
-pub taken : (old new : SetSoFar) (nodes : List Node) (at b : ℕ) (fs : List Frame) (w : Wait) (s : State) → StandsFor nodes at fs w s → IsSetIn old s.mode → ((nodes : List Node) (at : ℕ) (m : Mode) (es : List Entry) → ShowsMode nodes at w m → IsSetIn old m → IsSetAfter new (step_in m es b)) → IsSetAfter new (step s b)
+pub taken : (old new : SetSoFar) (nodes : List Node) (at b : ℕ) (fs : List Frame) (w : Wait) (s : State) → ShowsState nodes at fs w s → IsSetIn old s.mode → ((nodes : List Node) (at : ℕ) (m : Mode) (es : List Entry) → ShowsMode nodes at w m → IsSetIn old m → IsSetAfter new (step_in m es b)) → IsSetAfter new (step s b)
 unfolding step
 taken old new nodes at b fs w s st i f = f nodes (at + length (entries s.entries)) s.mode s.entries st.mode i
 

@@ -3,18 +3,18 @@ use Rattle.kex_tokens.specs.declared.token.Kind.TheVariants as kinds
 use Rattle.kex_reader.specs.Syntax.{Call}
 use Rattle.kex_reader.specs.Reading.{entries}
 use Rattle.kex_reader.proofs.Stacks.{frames_more}
-use Rattle.kex_reader.proofs.Stepping.{to, memory_exit, wrong, call_shows, named_kind, named_other, named_at, named_define, storing_steps, on_keeps}
+use Rattle.kex_reader.proofs.Steps.{to, memory_exit, wrong, call_shows, named_kind, named_other, named_at, named_define, storing_steps, on_keeps}
 use Rattle.kex_reader.specs.Syntax.{word}
 use Rattle.kex_reader.specs.Stands.{ShowsMode, ShowsCountStep}
 use Rattle.kex_reader.proofs.Modes.{call_place}
-use Rattle.kex_reader.proofs.Kept.{on_apply, on_from, moved, named_at_asks, named_after}
+use Rattle.kex_reader.proofs.MoreChecks.{on_apply, on_from, moved, named_at_asks, named_after}
 use Rattle.kex_reader.proofs.Stacks.{depth_is}
-use Rattle.kex_reader.proofs.Kept.{call_asks}
+use Rattle.kex_reader.proofs.MoreChecks.{call_asks}
 use Rattle.kex_reader.specs.declared.inside.Wait.TheVariants.{After}
 use Rattle.kex_reader.specs.Stands.{InFrames, IsHeld}
 use Rattle.kex_reader.specs.Uses.{RegisterNumber}
 use Rattle.kex_reader.proofs.Uses.{beside, step_then}
-use Rattle.kex_reader.proofs.inside.named.Goals as goal
+use Rattle.kex_reader.proofs.inside.word_after_name.Goals as goal
 
 pub returns-in_err-register-in-At-clause-step : goal.returns-in_err-register-in-At-clause-step
 returns-in_err-register-in-At-clause-step c = λ at base es h n p. memory_exit c.register.new.self at base c.args.stack.now c.from_residual.result c.from_residual.ensures.1 _
@@ -32,22 +32,22 @@ returns-in-Define-clause-step c = λ at base es h n p. to _ at base _ _ _ _ (nam
 
 pub returns-in_ok-item-in_default : goal.returns-in_ok-item-in_default
 returns-in_ok-item-in_default c = record {
-  keeps = on_keeps _ _ _ _ c.in_ok-item-in_default.ensures.keeps c.behind.ensures.keeps;
-  held = step_then c.behind.result _ _ _ _ _ _ c.behind.new.stack c.behind.ensures.keeps (beside _ _ _ _ (InFrames c.args.stack.now) _ (IsHeld c.args.stack.now (After c.in_ok-item-in_default.item)) (λ x h. elim h [ inl i ↦ inr i | inr z ↦ absurd z ]) (λ x e. inr e) (λ x i. inl i) c.in_ok-item-in_default.ensures.held) (λ x h. h) c.behind.ensures.held;
+  keeps = on_keeps _ _ _ _ c.in_ok-item-in_default.ensures.keeps c.word_after_atom.ensures.keeps;
+  held = step_then c.word_after_atom.result _ _ _ _ _ _ c.word_after_atom.new.stack c.word_after_atom.ensures.keeps (beside _ _ _ _ (InFrames c.args.stack.now) _ (IsHeld c.args.stack.now (After c.in_ok-item-in_default.item)) (λ x h. elim h [ inl i ↦ inr i | inr z ↦ absurd z ]) (λ x e. inr e) (λ x i. inl i) c.in_ok-item-in_default.ensures.held) (λ x h. h) c.word_after_atom.ensures.held;
   notes = λ at base es h m p cs n.
       let k = c.in_ok-item-in_default.ensures.node in
-      on_from c.behind.result cs _ _ c.behind.new.draft.broken (call_asks at (base + length (entries es)) c.args.name.bytes.now es (word c.args.word.kind c.args.word.spelling.now) ∙ named_after at (base + length (entries es)) c.args.name.bytes.now es c.args.word.spelling.now c.args.word.kind c.in_default.not-At c.in_default.not-Define)
-      (c.behind.ensures.notes at base es (Call c.args.name.bytes.now) (frames_more c.args.draft.now c.call.new.draft at base c.args.stack.now es c.in_ok-item-in_default.ensures.keeps h) (c.in_ok-item-in_default.ensures.place ∙ m)
+      on_from c.word_after_atom.result cs _ _ c.word_after_atom.new.draft.broken (call_asks at (base + length (entries es)) c.args.name.bytes.now es (word c.args.word.kind c.args.word.spelling.now) ∙ named_after at (base + length (entries es)) c.args.name.bytes.now es c.args.word.spelling.now c.args.word.kind c.in_default.not-At c.in_default.not-Define)
+      (c.word_after_atom.ensures.notes at base es (Call c.args.name.bytes.now) (frames_more c.args.draft.now c.call.new.draft at base c.args.stack.now es c.in_ok-item-in_default.ensures.keeps h) (c.in_ok-item-in_default.ensures.place ∙ m)
       (call_shows c.call.new.draft at c.in_ok-item-in_default.item.node (base + length (entries es)) k.0 c.args.name.at c.args.name.bytes.now m k.1 k.2) (call_place at base c.args.word.at c.args.name.bytes.now es p) cs (moved cs c.args.draft.now.broken c.call.new.draft.broken c.in_ok-item-in_default.ensures.broken n));
   step = λ at base es h n p.
       let k = c.in_ok-item-in_default.ensures.node in
       to _ at base _ _ _ _ (named_other c.args.name.bytes.now es c.args.word.spelling.now c.args.word.kind c.in_default.not-At c.in_default.not-Define)
-      (c.behind.ensures.step at base es (Call c.args.name.bytes.now) (frames_more c.args.draft.now c.call.new.draft at base c.args.stack.now es c.in_ok-item-in_default.ensures.keeps h) (c.in_ok-item-in_default.ensures.place ∙ n)
+      (c.word_after_atom.ensures.step at base es (Call c.args.name.bytes.now) (frames_more c.args.draft.now c.call.new.draft at base c.args.stack.now es c.in_ok-item-in_default.ensures.keeps h) (c.in_ok-item-in_default.ensures.place ∙ n)
       (call_shows c.call.new.draft at c.in_ok-item-in_default.item.node (base + length (entries es)) k.0 c.args.name.at c.args.name.bytes.now n k.1 k.2) (call_place at base c.args.word.at c.args.name.bytes.now es p));
 }
 
-pub behind-requires-clause-atom : goal.behind-requires-clause-atom
-behind-requires-clause-atom c =
+pub word_after_atom-requires-clause-atom : goal.word_after_atom-requires-clause-atom
+word_after_atom-requires-clause-atom c =
     let r = c.requires.frames in
     let k = c.in_ok-item-in_default.ensures.node in
     (r.0, r.1, r.2, Call c.args.name.bytes.now, frames_more c.args.draft.now c.call.new.draft r.0 r.1 c.args.stack.now r.2 c.in_ok-item-in_default.ensures.keeps r.3, c.in_ok-item-in_default.ensures.place ∙ r.4, call_shows c.call.new.draft r.0 c.in_ok-item-in_default.item.node (r.1 + length (entries r.2)) k.0 c.args.name.at c.args.name.bytes.now r.4 k.1 k.2)

@@ -12,17 +12,17 @@ use Rattle.kex_regexp.specs.declared.wait.Wait.{Wait}
 use Rattle.kex_regexp.specs.declared.wait.Wait.TheVariants as waits
 use Rattle.kex_regexp.specs.Grammar.{is_plain, is_digit, is_end, Postfix, Star, Plus, Quest, Exactly, AtLeast, AtMost, Within, End, Member, Item, Plain, Escaped, Dot, Set, Group, Regex, Last, Or, Branch, Empty, Then, Piece, Once, Turns, item}
 use Rattle.kex_regexp.specs.Breaks.{Break, BadCount, BadSet, OverLimit, when, is_bad_count, is_bad_set, regex_breaks, piece_breaks}
-use Rattle.kex_regexp.specs.Machine.{Part, Escaping, Begun, EscapeStep, EscapeOn, EscapeRead, EscapeWrong, escape_step, AtStart, Between, HasEnd, HasDash, InFirst, InLast, Counting, Opened, Low, LowComma, LowHigh, OnlyComma, High, CountStep, CountOn, CountRead, CountWrong, count_step, SetStep, SetOn, SetRead, SetWrong, set_step, Entry, Mark, Ended, Read, Mode, Ready, After, InEscape, InSet, InCount, State, entries, entry, spelled, take_pieces, take_branches, take_regex, goes, close, end_branch, begin_piece, after_item, on_escape, on_set, on_count, step_in, step, whole, finish, finish_in}
-use Rattle.kex_regexp.specs.Holding.{HasMembers, IsSetIn, ShowsCountStep, ShowsMode, StandsFor}
-use Rattle.kex_regexp.specs.Held.{held_bad_turns, held_count}
-use Rattle.kex_regexp.specs.Notes.{lesser, least_from, marks, mode_breaks, state_breaks, entries_breaks, entry_breaks, opens, set_noted, count_noted, noted_in, is_after, held_bad_set, held_ends_count, held_opens, held_noted, held_depth, depth_after, held_lesser}
+use Rattle.kex_regexp.specs.Machine.{Part, Escaping, Begun, EscapeStep, EscapeOn, EscapeRead, EscapeWrong, escape_step, AtStart, Between, HasEnd, HasDash, InFirst, InLast, Counting, Opened, Low, LowComma, LowHigh, OnlyComma, High, CountStep, CountOn, CountRead, CountWrong, count_step, SetStep, SetOn, SetRead, SetWrong, set_step, Entry, Mark, Ended, Read, Mode, Ready, After, InEscape, InSet, InCount, State, entries, entry, bytes_read, take_pieces, take_branches, take_regex, goes, after_group, end_branch, begin_piece, after_item, on_escape, on_set, on_count, step_in, step, whole_regex, finish, finish_in}
+use Rattle.kex_regexp.specs.Holding.{HasMembers, IsSetIn, ShowsCountStep, ShowsMode, ShowsState}
+use Rattle.kex_regexp.specs.Outcomes.{are_bad_turns, count_outcome}
+use Rattle.kex_regexp.specs.Notes.{lesser, least_from, marks, mode_breaks, state_breaks, entries_breaks, entry_breaks, nesting_breaks, set_breaks, count_breaks, byte_breaks, is_after, is_bad_set_so_far, count_break, nesting_break, byte_break, next_depth, depth_after, lesser_of}
 use Rattle.kex_regexp.proofs.Sound.{by_test}
 use Rattle.kex_regexp.proofs.Complete.{apart, cond_yes, cond_no}
-use Rattle.kex_regexp.proofs.Counted.{bad_turns}
+use Rattle.kex_regexp.proofs.CappedCounts.{bad_turns}
 use Rattle.kex_regexp.proofs.Members.{NegatedIs, bad_set, step_negated}
-use Rattle.kex_regexp.proofs.Refine.{count_refines}
-use Rattle.kex_regexp.proofs.Stepping.{ready_place, after_place}
-use Rattle.kex_regexp.proofs.Broken.{with_regex, regex_break, place, level, BreaksGo, step_breaks}
+use Rattle.kex_regexp.proofs.Refinement.{count_refines}
+use Rattle.kex_regexp.proofs.ShownSteps.{ready_place, after_place}
+use Rattle.kex_regexp.proofs.EntryBreaks.{with_regex, regex_break, place, level, BreaksGo, step_breaks}
 
 abbrev pub listed : Option Break → List Break
 listed None = []
@@ -34,10 +34,10 @@ listed_when false b = refl
 
 -- ---- counts
 
-pub count_notes : (at : ℕ) (o : CountOutcome) (t : CountStep) → ShowsCountStep o t → listed (held_ends_count o at) ≡ count_noted at t
-unfolding ShowsCountStep held_ends_count count_noted
+pub count_notes : (at : ℕ) (o : CountOutcome) (t : CountStep) → ShowsCountStep o t → listed (count_break o at) ≡ count_breaks at t
+unfolding ShowsCountStep count_break count_breaks
 count_notes at (outcomes.On c) (CountOn d) s = refl
-count_notes at (outcomes.Read l h) (CountRead p) s = listed_when (held_bad_turns l h) (BadCount at) ∙ ap (λ (t : Bool). when t (BadCount at)) (bad_turns l h p s.0 s.1)
+count_notes at (outcomes.Read l h) (CountRead p) s = listed_when (are_bad_turns l h) (BadCount at) ∙ ap (λ (t : Bool). when t (BadCount at)) (bad_turns l h p s.0 s.1)
 count_notes at outcomes.Wrong CountWrong s = refl
 count_notes at _ _ s = absurd s
 
@@ -60,16 +60,16 @@ waits_within nodes at (waits.InEscape e from) n ms q s = refl
 waits_within nodes at (waits.InSet k e p from) n ms q s = refl
 waits_within nodes at (waits.InCount part c brace) n ms q s = refl
 
-pub set_notes : (nodes : List Node) (here at : ℕ) (next : Wait) (set : SetSoFar) (k : Bool) (es : List Entry) (t : SetStep) (s : State) → on_set es t ≡ Some s → NegatedIs k t → ShowsMode nodes here next s.mode → IsSetIn set s.mode → listed (cond (is_after next && held_bad_set set k) (Some (BadSet at)) None) ≡ set_noted at t
-unfolding on_set NegatedIs set_noted IsSetIn
+pub set_notes : (nodes : List Node) (here at : ℕ) (next : Wait) (set : SetSoFar) (k : Bool) (es : List Entry) (t : SetStep) (s : State) → on_set es t ≡ Some s → NegatedIs k t → ShowsMode nodes here next s.mode → IsSetIn set s.mode → listed (cond (is_after next && is_bad_set_so_far set k) (Some (BadSet at)) None) ≡ set_breaks at t
+unfolding on_set NegatedIs set_breaks IsSetIn
 set_notes nodes here at next set k es (SetOn n ms p) s e neg sh i =
     let m : s.mode ≡ InSet n ms p = cc in
-    ap (λ (x : Bool). listed (cond (x && held_bad_set set k) (Some (BadSet at)) None)) (waits_within nodes here next n ms p (subst (ShowsMode nodes here next) m sh))
+    ap (λ (x : Bool). listed (cond (x && is_bad_set_so_far set k) (Some (BadSet at)) None)) (waits_within nodes here next n ms p (subst (ShowsMode nodes here next) m sh))
 set_notes nodes here at next set k es (SetRead n ms) s e neg sh i =
     let m : s.mode ≡ After (Set n ms) = cc in
     let has : HasMembers set ms = subst (IsSetIn set) m i in
-    ap (λ (x : Bool). listed (cond (x && held_bad_set set k) (Some (BadSet at)) None)) (waits_behind nodes here next (Set n ms) (subst (ShowsMode nodes here next) m sh))
-    ∙ listed_when (held_bad_set set k) (BadSet at) ∙ ap (λ (x : Bool). when x (BadSet at)) (bad_set set k ms has) ∙ ap (λ (x : Bool). when (is_bad_set x ms) (BadSet at)) (sym neg)
+    ap (λ (x : Bool). listed (cond (x && is_bad_set_so_far set k) (Some (BadSet at)) None)) (waits_behind nodes here next (Set n ms) (subst (ShowsMode nodes here next) m sh))
+    ∙ listed_when (is_bad_set_so_far set k) (BadSet at) ∙ ap (λ (x : Bool). when x (BadSet at)) (bad_set set k ms has) ∙ ap (λ (x : Bool). when (is_bad_set x ms) (BadSet at)) (sym neg)
 set_notes nodes here at next set k es SetWrong s e neg sh i = absurd cc
 
 -- ---- parentheses
@@ -78,22 +78,22 @@ pub when_and : (t u : Bool) (b : Break) → when (t && u) b ≡ cond t (when u b
 when_and true u b = refl
 when_and false u b = refl
 
-pub open_notes : (at d b : ℕ) → listed (held_opens d at b) ≡ opens at d b
-unfolding held_opens opens
+pub open_notes : (at d b : ℕ) → listed (nesting_break d at b) ≡ nesting_breaks at d b
+unfolding nesting_break nesting_breaks
 open_notes at d b = listed_when ((b == 40) && (d == 200)) (OverLimit at) ∙ when_and (b == 40) (d == 200) (OverLimit at)
 
 -- ---- whatever is waited for
 
-pub notes_are : (nodes more : List Node) (at here place d b : ℕ) (w next : Wait) (set : SetSoFar) (m : Mode) (es : List Entry) (t : State) → step_in m es b ≡ Some t → ShowsMode nodes at w m → ShowsMode more here next t.mode → IsSetIn set t.mode → (m ≡ Ready → place ≡ at) → ((i : Item) → m ≡ After i → place ≡ at + length (item i)) → listed (held_noted w next set d place b) ≡ noted_in at d m b
-unfolding ShowsMode held_noted noted_in step_in
-notes_are nodes more at here place d b waits.Ready next set Ready es t e s sh i r f = open_notes place d b ∙ ap (λ (k : ℕ). opens k d b) (r refl)
-notes_are nodes more at here place d b (waits.After part) next set (After j) es t e s sh i r f = open_notes place d b ∙ ap (λ (k : ℕ). opens k d b) (f j refl)
+pub notes_are : (nodes more : List Node) (at here place d b : ℕ) (w next : Wait) (set : SetSoFar) (m : Mode) (es : List Entry) (t : State) → step_in m es b ≡ Some t → ShowsMode nodes at w m → ShowsMode more here next t.mode → IsSetIn set t.mode → (m ≡ Ready → place ≡ at) → ((i : Item) → m ≡ After i → place ≡ at + length (item i)) → listed (byte_break w next set d place b) ≡ byte_breaks at d m b
+unfolding ShowsMode byte_break byte_breaks step_in
+notes_are nodes more at here place d b waits.Ready next set Ready es t e s sh i r f = open_notes place d b ∙ ap (λ (k : ℕ). nesting_breaks k d b) (r refl)
+notes_are nodes more at here place d b (waits.After part) next set (After j) es t e s sh i r f = open_notes place d b ∙ ap (λ (k : ℕ). nesting_breaks k d b) (f j refl)
 notes_are nodes more at here place d b (waits.InEscape x from) next set (InEscape g) es t e s sh i r f = refl
 notes_are nodes more at here place d b (waits.InSet n x p from) next set (InSet k ms q) es t e s sh i r f =
-    ap (λ (y : ℕ). listed (cond (is_after next && held_bad_set set n) (Some (BadSet y)) None)) s.3
+    ap (λ (y : ℕ). listed (cond (is_after next && is_bad_set_so_far set n) (Some (BadSet y)) None)) s.3
     ∙ set_notes more here at next set n es (set_step k ms q b) t e (subst (λ (y : Bool). NegatedIs y (set_step k ms q b)) (sym s.0) (step_negated k ms q b)) sh i
 notes_are nodes more at here place d b (waits.InCount part c brace) next set (InCount j x) es t e s sh i r f =
-    count_notes brace (held_count c b) (count_step x b) (count_refines c x b s.2) ∙ ap (λ (y : ℕ). count_noted y (count_step x b)) s.3
+    count_notes brace (count_outcome c b) (count_step x b) (count_refines c x b s.2) ∙ ap (λ (y : ℕ). count_breaks y (count_step x b)) s.3
 notes_are nodes more at here place d b _ next set _ es t e s sh i r f = absurd s
 
 -- ---- depth
@@ -139,8 +139,8 @@ depth_41 d = refl
 pub close_depth : (d b : ℕ) → (b == 41) ≡ true → depth_after d b ≡ d - 1
 close_depth d b e = ap (λ (x : ℕ). depth_after d x) (eqb-true b 41 e) ∙ depth_41 d
 
-pub closes_depth : (d0 d : ℕ) (r : Regex) (es : List Entry) → d ≡ d0 + marks es → DepthGoes d0 (d - 1) (close (r, es))
-unfolding close DepthGoes marks
+pub closes_depth : (d0 d : ℕ) (r : Regex) (es : List Entry) → d ≡ d0 + marks es → DepthGoes d0 (d - 1) (after_group (r, es))
+unfolding after_group DepthGoes marks
 closes_depth d0 d r [] e = tt
 closes_depth d0 d r (Mark ∷ es) e = omega (arith, e)
 closes_depth d0 d r (Ended a ∷ es) e = tt
@@ -156,7 +156,7 @@ begin_depth d0 d es b h =
     by_test P (b == 91) _ _ (λ e. no_paren d b 91 e refl refl ∙ h) (λ _.
     by_test P (b == 40) _ _ (λ e. omega (arith, open_depth d b e, h)) (λ _.
     by_test P (b == 124) _ _ (λ e. no_paren d b 124 e refl refl ∙ h ∙ ap (λ (x : ℕ). d0 + x) (sym (pieces_marks es Empty))) (λ _.
-    by_test P (b == 41) _ _ (λ e. subst (λ (x : ℕ). DepthGoes d0 x (close (take_regex es))) (sym (close_depth d b e)) (closes_depth d0 d (take_regex es).0 (take_regex es).1 (h ∙ ap (λ (x : ℕ). d0 + x) (sym (regex_marks es))))) (λ _. tt)))))))
+    by_test P (b == 41) _ _ (λ e. subst (λ (x : ℕ). DepthGoes d0 x (after_group (take_regex es))) (sym (close_depth d b e)) (closes_depth d0 d (take_regex es).0 (take_regex es).1 (h ∙ ap (λ (x : ℕ). d0 + x) (sym (regex_marks es))))) (λ _. tt)))))))
 
 pub after_depth : (d0 d : ℕ) (i : Item) (es : List Entry) (b : ℕ) → d ≡ d0 + marks es → DepthGoes d0 (depth_after d b) (after_item i es b)
 unfolding after_item DepthGoes marks
@@ -185,8 +185,8 @@ count_depth d0 d i es (CountOn c) h = h
 count_depth d0 d i es (CountRead p) h = h
 count_depth d0 d i es CountWrong h = tt
 
-pub depths_go : (nodes : List Node) (at d0 d b : ℕ) (w : Wait) (m : Mode) (es : List Entry) → ShowsMode nodes at w m → d ≡ d0 + marks es → DepthGoes d0 (held_depth w d b) (step_in m es b)
-unfolding ShowsMode held_depth step_in depth_after
+pub depths_go : (nodes : List Node) (at d0 d b : ℕ) (w : Wait) (m : Mode) (es : List Entry) → ShowsMode nodes at w m → d ≡ d0 + marks es → DepthGoes d0 (next_depth w d b) (step_in m es b)
+unfolding ShowsMode next_depth step_in depth_after
 depths_go nodes at d0 d b waits.Ready Ready es s h = begin_depth d0 d es b h
 depths_go nodes at d0 d b (waits.After part) (After i) es s h = after_depth d0 d i es b h
 depths_go nodes at d0 d b (waits.InEscape e from) (InEscape g) es s h = escape_depth d0 d es (escape_step g b) h
@@ -208,8 +208,8 @@ unfolding least_from
 least_append o [] b = refl
 least_append o (x ∷ a) b = least_append (lesser o x) a b
 
-pub least_listed : (o n : Option Break) → held_lesser o n ≡ least_from o (listed n)
-unfolding held_lesser least_from
+pub least_listed : (o n : Option Break) → lesser_of o n ≡ least_from o (listed n)
+unfolding lesser_of least_from
 least_listed o None = refl
 least_listed o (Some b) = refl
 
@@ -233,34 +233,34 @@ pub went_depth : (d0 d : ℕ) (o : Option State) (t : State) → o ≡ Some t �
 unfolding DepthGoes
 went_depth d0 d o t e g = subst (λ (x : Option State). DepthGoes d0 d x) e g
 
-pub turn_depth : (nodes : List Node) (at d0 nested b : ℕ) (fs : List Frame) (w : Wait) (s t : State) → StandsFor nodes at fs w s → step s b ≡ Some t → nested ≡ d0 + marks s.entries → held_depth w nested b ≡ d0 + marks t.entries
+pub turn_depth : (nodes : List Node) (at d0 nested b : ℕ) (fs : List Frame) (w : Wait) (s t : State) → ShowsState nodes at fs w s → step s b ≡ Some t → nested ≡ d0 + marks s.entries → next_depth w nested b ≡ d0 + marks t.entries
 unfolding step
-turn_depth nodes at d0 nested b fs w s t st e h = went_depth d0 (held_depth w nested b) (step s b) t e (depths_go nodes (at + length (entries s.entries)) d0 nested b w s.mode s.entries st.mode h)
+turn_depth nodes at d0 nested b fs w s t st e h = went_depth d0 (next_depth w nested b) (step s b) t e (depths_go nodes (at + length (entries s.entries)) d0 nested b w s.mode s.entries st.mode h)
 
-pub step_breaks_here : (at d0 : ℕ) (s : State) (b : ℕ) → BreaksGo at d0 ((entries_breaks at d0 s.entries ++ mode_breaks s.mode (at + length (entries s.entries)) (d0 + marks s.entries)) ++ noted_in (at + length (entries s.entries)) (d0 + marks s.entries) s.mode b) (step_in s.mode s.entries b)
+pub step_breaks_here : (at d0 : ℕ) (s : State) (b : ℕ) → BreaksGo at d0 ((entries_breaks at d0 s.entries ++ mode_breaks s.mode (at + length (entries s.entries)) (d0 + marks s.entries)) ++ byte_breaks (at + length (entries s.entries)) (d0 + marks s.entries) s.mode b) (step_in s.mode s.entries b)
 unfolding place level
 step_breaks_here at d0 s b = step_breaks at d0 s.mode s.entries b
 
-pub turn_least : (nodes more : List Node) (at d0 nested place b : ℕ) (fs gs : List Frame) (w next : Wait) (set : SetSoFar) (s t : State) (least new : Option Break) → StandsFor nodes at fs w s → step s b ≡ Some t → StandsFor more at gs next t → IsSetIn set t.mode → place ≡ at + length (spelled s) → nested ≡ d0 + marks s.entries → least ≡ least_from None (state_breaks at d0 s) → new ≡ held_noted w next set nested place b → held_lesser least new ≡ least_from None (state_breaks at d0 t)
+pub turn_least : (nodes more : List Node) (at d0 nested place b : ℕ) (fs gs : List Frame) (w next : Wait) (set : SetSoFar) (s t : State) (least new : Option Break) → ShowsState nodes at fs w s → step s b ≡ Some t → ShowsState more at gs next t → IsSetIn set t.mode → place ≡ at + length (bytes_read s) → nested ≡ d0 + marks s.entries → least ≡ least_from None (state_breaks at d0 s) → new ≡ byte_break w next set nested place b → lesser_of least new ≡ least_from None (state_breaks at d0 t)
 unfolding step state_breaks
 turn_least nodes more at d0 nested place b fs gs w next set s t least new st e st' i p h l n =
     let here = at + length (entries s.entries) in
-    let notes : listed (held_noted w next set nested place b) ≡ noted_in here nested s.mode b = notes_are nodes more here (at + length (entries t.entries)) place nested b w next set s.mode s.entries t e st.mode st'.mode i (λ m. ready_place s at place m p) (λ j m. after_place s at place here j m refl p) in
-    let level : noted_in here nested s.mode b ≡ noted_in here (d0 + marks s.entries) s.mode b = ap (λ (x : ℕ). noted_in here x s.mode b) h in
+    let notes : listed (byte_break w next set nested place b) ≡ byte_breaks here nested s.mode b = notes_are nodes more here (at + length (entries t.entries)) place nested b w next set s.mode s.entries t e st.mode st'.mode i (λ m. ready_place s at place m p) (λ j m. after_place s at place here j m refl p) in
+    let level : byte_breaks here nested s.mode b ≡ byte_breaks here (d0 + marks s.entries) s.mode b = ap (λ (x : ℕ). byte_breaks here x s.mode b) h in
     let went = went_breaks at d0 _ (step s b) t e (step_breaks_here at d0 s b) in
     least_listed least new ∙ ap (λ (x : Option Break). least_from least (listed x)) n ∙ ap (least_from least) (notes ∙ level)
-    ∙ ap (λ (x : Option Break). least_from x (noted_in here (d0 + marks s.entries) s.mode b)) l
-    ∙ sym (least_append None (entries_breaks at d0 s.entries ++ mode_breaks s.mode here (d0 + marks s.entries)) (noted_in here (d0 + marks s.entries) s.mode b))
+    ∙ ap (λ (x : Option Break). least_from x (byte_breaks here (d0 + marks s.entries) s.mode b)) l
+    ∙ sym (least_append None (entries_breaks at d0 s.entries ++ mode_breaks s.mode here (d0 + marks s.entries)) (byte_breaks here (d0 + marks s.entries) s.mode b))
     ∙ ap (least_from None) (sym went)
 
-pub open_below : (d0 nested at i n : ℕ) (s : State) (bytes : List ℕ) → nested ≡ d0 + marks s.entries → length (spelled s) ≡ i → i < n → d0 < 2 ^ 32 → n < 2 ^ 32 → nested + 1 < 2 ^ 64
-unfolding spelled
+pub open_below : (d0 nested at i n : ℕ) (s : State) (bytes : List ℕ) → nested ≡ d0 + marks s.entries → length (bytes_read s) ≡ i → i < n → d0 < 2 ^ 32 → n < 2 ^ 32 → nested + 1 < 2 ^ 64
+unfolding bytes_read
 open_below d0 nested at i n s bytes h l lt r q = omega (arith, h, l, lt, r, q, marks_below s.entries, length-append (entries s.entries) (Rattle.kex_regexp.specs.Machine.mode s.mode))
 
 -- ---- the end
 
-pub whole_breaks : (base depth : ℕ) (q : Regex) (es : List Entry) (r : Regex) → whole (q, es) ≡ Some r → with_regex base depth es q ≡ regex_breaks r base depth
-unfolding whole with_regex entries_breaks entries marks
+pub whole_breaks : (base depth : ℕ) (q : Regex) (es : List Entry) (r : Regex) → whole_regex (q, es) ≡ Some r → with_regex base depth es q ≡ regex_breaks r base depth
+unfolding whole_regex with_regex entries_breaks entries marks
 whole_breaks base depth q [] r e =
     let same : q ≡ r = cc in
     let a : base + 0 ≡ base = omega arith in

@@ -25,7 +25,7 @@ use Rattle.kex_regexp.specs.declared.wait.StepFault.TheVariants as faults
 use Rattle.kex_regexp.specs.Grammar.{is_plain, Member, Postfix, Star, Plus, Quest, Regex, Branch, Empty, Once, Turns, Item, Plain, Escape, Escaped, Dot, Set, Group, piece, item}
 use Rattle.kex_regexp.specs.Values.{escaped_byte, flipped, high, in_set, low}
 use Rattle.kex_regexp.specs.Shown.{IsNode, Adds}
-use Rattle.kex_regexp.specs.Machine.{Part, Escaping, Begun, EscapeStep, EscapeOn, EscapeRead, EscapeWrong, SetStep, SetOn, SetRead, SetWrong, AtStart, Counting, Opened, CountStep, CountOn, CountRead, CountWrong, Entry, Mark, Ended, Read, Mode, Ready, After, InEscape, InSet, InCount, State, entries, entry, take_pieces, take_regex, goes, close, end_branch, begin_piece, after_item, on_escape, on_set, on_count, step_in, step, spelled, mode, escape_step, set_step, count_step}
+use Rattle.kex_regexp.specs.Machine.{Part, Escaping, Begun, EscapeStep, EscapeOn, EscapeRead, EscapeWrong, SetStep, SetOn, SetRead, SetWrong, AtStart, Counting, Opened, CountStep, CountOn, CountRead, CountWrong, Entry, Mark, Ended, Read, Mode, Ready, After, InEscape, InSet, InCount, State, entries, entry, take_pieces, take_regex, goes, after_group, end_branch, begin_piece, after_item, on_escape, on_set, on_count, step_in, step, bytes_read, mode, escape_step, set_step, count_step}
 use Rattle.kex_regexp.specs.Holding.{HasMembers, IsSetAfter, IsSetIn, IsTurns, HoldsRegex, HoldsPiece, HoldsItem, FramesShow, BranchOn, RegexOn, Steps, ShowsMode, ShowsEscape, ShowsPart, ShowsSet, ShowsCount, ShowsCountStep, is_empty, capped, capped_option}
 use Rattle.kex_regexp.proofs.Complete.{cond_no}
 use Rattle.kex_regexp.proofs.Stacks.{HoldsItem-more, FramesShow-more, reverse_push}
@@ -70,12 +70,12 @@ mark_on nodes base at fs (Mark ∷ es) h = record { rest = es; is = refl; place 
 mark_on nodes base at fs (Ended b ∷ es) h = absurd h
 mark_on nodes base at fs (Read p ∷ es) h = absurd h
 
-pub closes : (t : Regex × List Entry) (rest : List Entry) → t.1 ≡ Mark ∷ rest → close t ≡ goes (After (Group t.0)) rest
-unfolding close
-closes t rest e = ap (λ (x : List Entry). close (t.0, x)) e
+pub closes : (t : Regex × List Entry) (rest : List Entry) → t.1 ≡ Mark ∷ rest → after_group t ≡ goes (After (Group t.0)) rest
+unfolding after_group
+closes t rest e = ap (λ (x : List Entry). after_group (t.0, x)) e
 
-pub unclosed : (nodes : List Node) (base : ℕ) (fs : List Frame) (r : Regex) (es : List Entry) → FramesShow nodes base fs es → ((at : ℕ) (gs : List Frame) → fs ≡ frames.Mark at ∷ gs → ⊥) → close (r, es) ≡ None
-unfolding FramesShow close
+pub unclosed : (nodes : List Node) (base : ℕ) (fs : List Frame) (r : Regex) (es : List Entry) → FramesShow nodes base fs es → ((at : ℕ) (gs : List Frame) → fs ≡ frames.Mark at ∷ gs → ⊥) → after_group (r, es) ≡ None
+unfolding FramesShow after_group
 unclosed nodes base fs r [] h none_on = refl
 unclosed nodes base fs r (Ended b ∷ es) h none_on = refl
 unclosed nodes base fs r (Read p ∷ es) h none_on = refl
@@ -87,7 +87,7 @@ unclosed nodes base (frames.Piece n at ∷ fs) r (Mark ∷ es) h none_on = absur
 abbrev node_of : Kind → ℕ → Node
 node_of kind at = record { kind = kind; at = at }
 
-pub close_steps : (nodes : List Node) (base : ℕ) (old fs : List Frame) (part : Placed) (from : ℕ) (t : Regex × List Entry) → RegexOn nodes base old part t → old ≡ fs ++ frames.Mark from ∷ [] → Steps nodes base fs (Ok (waits.After (record { node = part.node; at = from }))) (close t)
+pub close_steps : (nodes : List Node) (base : ℕ) (old fs : List Frame) (part : Placed) (from : ℕ) (t : Regex × List Entry) → RegexOn nodes base old part t → old ≡ fs ++ frames.Mark from ∷ [] → Steps nodes base fs (Ok (waits.After (record { node = part.node; at = from }))) (after_group t)
 unfolding entries entry HoldsItem
 close_steps nodes base old fs part from t r e =
     let m = mark_on nodes base from (reverse fs) t.1 (subst (λ (x : List Frame). FramesShow nodes base x t.1) (reverse_push old fs (frames.Mark from) e) r.below) in
@@ -96,7 +96,7 @@ close_steps nodes base old fs part from t r e =
     (item_steps nodes base fs m.rest (Group t.0) (record { node = part.node; at = from }) m.below m.place (subst (λ (x : ℕ). HoldsRegex t.0 nodes part.node x) at r.shows))
 
 -- no mark on top: nothing is closed
-pub unclosed_steps : (nodes : List Node) (base : ℕ) (old gs : List Frame) (part : Placed) (t : Regex × List Entry) → RegexOn nodes base old part t → ((at : ℕ) (fs : List Frame) → reverse old ≡ frames.Mark at ∷ fs → ⊥) → Steps nodes base gs (Err faults.Wrong) (close t)
+pub unclosed_steps : (nodes : List Node) (base : ℕ) (old gs : List Frame) (part : Placed) (t : Regex × List Entry) → RegexOn nodes base old part t → ((at : ℕ) (fs : List Frame) → reverse old ≡ frames.Mark at ∷ fs → ⊥) → Steps nodes base gs (Err faults.Wrong) (after_group t)
 unclosed_steps nodes base old gs part t r none_on = subst (λ (x : Option State). Steps nodes base gs (Err faults.Wrong) x) (sym (unclosed nodes base (reverse old) t.0 t.1 r.below none_on)) (wrong_steps nodes base gs)
 
 -- ---- pieces with a postfix
@@ -210,7 +210,7 @@ pub begin_bar : (es : List Entry) → begin_piece es 124 ≡ end_branch (take_pi
 unfolding begin_piece is_plain
 begin_bar es = refl
 
-pub begin_close : (es : List Entry) → begin_piece es 41 ≡ close (take_regex es)
+pub begin_close : (es : List Entry) → begin_piece es 41 ≡ after_group (take_regex es)
 unfolding begin_piece is_plain
 begin_close es = refl
 
@@ -350,15 +350,15 @@ pub step_mode : (s : State) (b : ℕ) (m : Mode) → s.mode ≡ m → step s b �
 unfolding step
 step_mode s b m e = ap (λ (x : Mode). step_in x s.entries b) e
 
-pub spelled_mode : (s : State) (m : Mode) → s.mode ≡ m → length (spelled s) ≡ length (entries s.entries) + length (mode m)
-unfolding spelled
+pub spelled_mode : (s : State) (m : Mode) → s.mode ≡ m → length (bytes_read s) ≡ length (entries s.entries) + length (mode m)
+unfolding bytes_read
 spelled_mode s m e = length-append (entries s.entries) (mode s.mode) ∙ ap (λ (x : Mode). length (entries s.entries) + length (mode x)) e
 
-pub ready_place : (s : State) (base at : ℕ) → s.mode ≡ Ready → at ≡ base + length (spelled s) → at ≡ base + length (entries s.entries)
+pub ready_place : (s : State) (base at : ℕ) → s.mode ≡ Ready → at ≡ base + length (bytes_read s) → at ≡ base + length (entries s.entries)
 unfolding mode
 ready_place s base at e a = omega (arith, a, spelled_mode s Ready e)
 
-pub after_place : (s : State) (base at from : ℕ) (i : Item) → s.mode ≡ After i → from ≡ base + length (entries s.entries) → at ≡ base + length (spelled s) → at ≡ from + length (item i)
+pub after_place : (s : State) (base at from : ℕ) (i : Item) → s.mode ≡ After i → from ≡ base + length (entries s.entries) → at ≡ base + length (bytes_read s) → at ≡ from + length (item i)
 unfolding mode
 after_place s base at from i e f a = omega (arith, a, f, spelled_mode s (After i) e)
 

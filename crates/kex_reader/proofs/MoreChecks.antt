@@ -4,31 +4,31 @@ use Rattle.std.specs.Prelude.{OnOk}
 use Rattle.std.proofs.lemmas.List.{append-nil}
 use Rattle.kex_regexp.specs.declared.breaks.Break.{Break}
 use Rattle.kex_regexp.specs.declared.breaks.Break.TheVariants.{BadCount}
-use Rattle.kex_regexp.specs.Notes.{held_lesser}
+use Rattle.kex_regexp.specs.Notes.{lesser_of}
 use Rattle.kex_tokens.specs.declared.token.Kind.{Kind}
 use Rattle.kex_tokens.specs.declared.token.Kind.TheVariants as kinds
 use Rattle.kex_reader.specs.Syntax.{between, word, Word, Postfix, ZeroOrMore, OneOrMore, Optional, Exactly, AtLeast, AtMost, Between, Atom, Once, Call, atom}
-use Rattle.kex_reader.specs.Reading.{Entry, Counting, CountStep, CountOn, CountRead, Mode, Need, Ready, After, Named, InCount, Inside, count_step, put}
+use Rattle.kex_reader.specs.Reading.{Entry, Counting, CountStep, CountOn, CountRead, Mode, Need, Ready, After, Named, InCount, Inside, count_step, with_pre}
 use Rattle.kex_reader.specs.Checks.{Check, Nested, Counted, Matched, is_bad_count, postfix_checks}
-use Rattle.kex_reader.specs.Stands.{Noted, depth, begin_asks, after_asks, named_asks, count_asks, asks}
-use Rattle.kex_reader.proofs.Noting.{noted_one, noted_same}
+use Rattle.kex_reader.specs.Stands.{NotesLeast, depth, begin_asks, after_asks, named_asks, count_asks, asks}
+use Rattle.kex_reader.proofs.LeastBreak.{noted_one, noted_same}
 
-pub same : (cs : List Check) (o : Option Break) → Noted cs o → Noted (cs ++ []) o
-same cs o n = subst (λ (x : List Check). Noted x o) (sym (append-nil cs)) n
+pub same : (cs : List Check) (o : Option Break) → NotesLeast cs o → NotesLeast (cs ++ []) o
+same cs o n = subst (λ (x : List Check). NotesLeast x o) (sym (append-nil cs)) n
 
-pub on_same : {A B : Type 0} (r : Result A B) (cs : List Check) (o p : Option Break) → OnOk r (p ≡ o) → Noted cs o → OnOk r (Noted (cs ++ []) p)
-on_same (Ok a) cs o p e n = subst (λ (x : Option Break). Noted (cs ++ []) x) (sym e) (same cs o n)
+pub on_same : {A B : Type 0} (r : Result A B) (cs : List Check) (o p : Option Break) → OnOk r (p ≡ o) → NotesLeast cs o → OnOk r (NotesLeast (cs ++ []) p)
+on_same (Ok a) cs o p e n = subst (λ (x : Option Break). NotesLeast (cs ++ []) x) (sym e) (same cs o n)
 on_same (Err b) cs o p e n = tt
 
-pub on_apply : {A B : Type 0} (r : Result A B) (cs ds : List Check) (o p : Option Break) → OnOk r ((cs : List Check) → Noted cs o → Noted (cs ++ ds) p) → Noted cs o → OnOk r (Noted (cs ++ ds) p)
+pub on_apply : {A B : Type 0} (r : Result A B) (cs ds : List Check) (o p : Option Break) → OnOk r ((cs : List Check) → NotesLeast cs o → NotesLeast (cs ++ ds) p) → NotesLeast cs o → OnOk r (NotesLeast (cs ++ ds) p)
 on_apply (Ok a) cs ds o p f n = f cs n
 on_apply (Err b) cs ds o p f n = tt
 
-pub on_from : {A B : Type 0} (r : Result A B) (cs ds es : List Check) (o : Option Break) → ds ≡ es → OnOk r (Noted (cs ++ ds) o) → OnOk r (Noted (cs ++ es) o)
-on_from r cs ds es o e h = subst (λ (x : List Check). OnOk r (Noted (cs ++ x) o)) e h
+pub on_from : {A B : Type 0} (r : Result A B) (cs ds es : List Check) (o : Option Break) → ds ≡ es → OnOk r (NotesLeast (cs ++ ds) o) → OnOk r (NotesLeast (cs ++ es) o)
+on_from r cs ds es o e h = subst (λ (x : List Check). OnOk r (NotesLeast (cs ++ x) o)) e h
 
-pub moved : (cs : List Check) (o p : Option Break) → p ≡ o → Noted cs o → Noted cs p
-moved cs o p e n = subst (λ (x : Option Break). Noted cs x) (sym e) n
+pub moved : (cs : List Check) (o p : Option Break) → p ≡ o → NotesLeast cs o → NotesLeast cs p
+moved cs o p e n = subst (λ (x : Option Break). NotesLeast cs x) (sym e) n
 
 -- ---- words that ask nothing
 
@@ -79,7 +79,7 @@ signs at i a es b _ q = absurd q
 pub after_quiet : (at : ℕ → ℕ) (i : ℕ) (a : Atom) (es : List Entry) (b : List ℕ) (k j : Kind) → k ≡ j → IsSign j → [] ≡ after_asks at i a es (word k b)
 after_quiet at i a es b k j e q = sym (ap (λ (x : Kind). after_asks at i a es (word x b)) e ∙ signs at i a es b j q)
 
-pub after_begins : (at : ℕ → ℕ) (i : ℕ) (a : Atom) (es : List Entry) (b : List ℕ) (k : Kind) → (k ≡ kinds.Star → ⊥) → (k ≡ kinds.Plus → ⊥) → (k ≡ kinds.Question → ⊥) → (k ≡ kinds.OpenBrace → ⊥) → begin_asks at i (put (Once a) es) (word k b) ≡ after_asks at i a es (word k b)
+pub after_begins : (at : ℕ → ℕ) (i : ℕ) (a : Atom) (es : List Entry) (b : List ℕ) (k : Kind) → (k ≡ kinds.Star → ⊥) → (k ≡ kinds.Plus → ⊥) → (k ≡ kinds.Question → ⊥) → (k ≡ kinds.OpenBrace → ⊥) → begin_asks at i (with_pre (Once a) es) (word k b) ≡ after_asks at i a es (word k b)
 unfolding after_asks
 after_begins at i a es b kinds.Star n1 n2 n3 n4 = absurd (n1 refl)
 after_begins at i a es b kinds.Plus n1 n2 n3 n4 = absurd (n2 refl)
@@ -99,7 +99,7 @@ named_after at i n es b _ n1 n2 = refl
 
 -- ---- counts
 
-pub good_count : (p : Postfix) (cs : List Check) (o : Option Break) (brace : ℕ) → is_bad_count p ≡ false → Noted cs o → Noted (cs ++ postfix_checks p brace) o
+pub good_count : (p : Postfix) (cs : List Check) (o : Option Break) (brace : ℕ) → is_bad_count p ≡ false → NotesLeast cs o → NotesLeast (cs ++ postfix_checks p brace) o
 unfolding postfix_checks
 good_count ZeroOrMore cs o brace e n = same cs o n
 good_count OneOrMore cs o brace e n = same cs o n
@@ -113,7 +113,7 @@ good_count (AtLeast m) cs o brace e n = noted_same o cs (Counted brace (AtLeast 
 good_count (AtMost m) cs o brace e n = noted_same o cs (Counted brace (AtMost m)) n (λ b h. cc)
 good_count (Between m k) cs o brace e n = noted_same o cs (Counted brace (Between m k)) n (λ b h. cc)
 
-pub bad_count : (p : Postfix) (cs : List Check) (o : Option Break) (brace : ℕ) → is_bad_count p ≡ true → Noted cs o → Noted (cs ++ postfix_checks p brace) (held_lesser o (Some (BadCount brace)))
+pub bad_count : (p : Postfix) (cs : List Check) (o : Option Break) (brace : ℕ) → is_bad_count p ≡ true → NotesLeast cs o → NotesLeast (cs ++ postfix_checks p brace) (lesser_of o (Some (BadCount brace)))
 unfolding postfix_checks
 bad_count ZeroOrMore cs o brace e n = absurd cc
 bad_count OneOrMore cs o brace e n = absurd cc
@@ -131,7 +131,7 @@ pub read_asks : (brace at' : ℕ) (t : CountStep) (p : Postfix) → t ≡ CountR
 unfolding count_asks
 read_asks brace at' t p e f = ap (λ (x : ℕ). postfix_checks p x) f ∙ sym (ap (λ (x : CountStep). count_asks at' x) e)
 
-pub on_moved : {A B : Type 0} (r : Result A B) (cs : List Check) (o p : Option Break) → OnOk r (p ≡ o) → Noted cs o → OnOk r (Noted cs p)
+pub on_moved : {A B : Type 0} (r : Result A B) (cs : List Check) (o p : Option Break) → OnOk r (p ≡ o) → NotesLeast cs o → OnOk r (NotesLeast cs p)
 on_moved (Ok a) cs o p e n = moved cs o p e n
 on_moved (Err b) cs o p e n = tt
 

@@ -7,7 +7,7 @@ use Rattle.kex_regexp.specs.Breaks.{comes_before, regex_breaks}
 use Rattle.kex_regexp.specs.Bodies.{Spells, IsBody, IsFirstWrong, BreaksFirst, IsRefusal, fault_of}
 use Rattle.kex_regexp.specs.Grammar.{Regex}
 use Rattle.kex_reader.specs.Checks.{BodyBreaks}
-use Rattle.kex_reader.proofs.Noting.{never_itself}
+use Rattle.kex_reader.proofs.LeastBreak.{never_itself}
 
 pub broken_is : (body : List ℕ) (at depth : ℕ) (b : Break) → IsRefusal body at depth (fault_of b) → BodyBreaks body at depth b
 broken_is body at depth (BadRegex p) h = h

@@ -5,8 +5,8 @@ use Rattle.std.proofs.lemmas.List.{append-nil}
 use Rattle.std.proofs.lemmas.Bool.{eqb-true}
 use Rattle.kex_regexp.specs.Grammar.{is_plain, Postfix, Star, Plus, Quest, Plain, Escaped, Dot, Set, Regex, Last, Or, Branch, Empty, Then, Once, Turns, Item, Group, branch, piece, item}
 use Rattle.kex_regexp.specs.Breaks.{Break, BadCount, OverLimit, when, regex_breaks, branch_breaks, piece_breaks, item_breaks, is_bad_count}
-use Rattle.kex_regexp.specs.Machine.{Entry, Mark, Ended, Read, entries, entry, take_pieces, take_branches, take_regex, Begun, EscapeStep, EscapeOn, EscapeRead, EscapeWrong, escape_step, AtStart, SetStep, SetOn, SetRead, SetWrong, set_step, Opened, CountStep, CountOn, CountRead, CountWrong, count_step, Mode, Ready, After, InEscape, InSet, InCount, State, goes, close, end_branch, begin_piece, after_item, on_escape, on_set, on_count, step_in}
-use Rattle.kex_regexp.specs.Notes.{marks, entry_breaks, entries_breaks, mode_breaks, state_breaks, opens, set_noted, count_noted, noted_in}
+use Rattle.kex_regexp.specs.Machine.{Entry, Mark, Ended, Read, entries, entry, take_pieces, take_branches, take_regex, Begun, EscapeStep, EscapeOn, EscapeRead, EscapeWrong, escape_step, AtStart, SetStep, SetOn, SetRead, SetWrong, set_step, Opened, CountStep, CountOn, CountRead, CountWrong, count_step, Mode, Ready, After, InEscape, InSet, InCount, State, goes, after_group, end_branch, begin_piece, after_item, on_escape, on_set, on_count, step_in}
+use Rattle.kex_regexp.specs.Notes.{marks, entry_breaks, entries_breaks, mode_breaks, state_breaks, nesting_breaks, set_breaks, count_breaks, byte_breaks}
 use Rattle.kex_regexp.proofs.Sound.{by_test}
 use Rattle.kex_regexp.proofs.Complete.{apart, cond_yes, cond_no}
 
@@ -74,20 +74,20 @@ module _ (base depth : ℕ) where
   unfolding BreaksGo state_breaks place level
   goes_on m es w e = e
 
-  pub closed : (at d b n : ℕ) → (b == n) ≡ true → (n == 40) ≡ false → opens at d b ≡ []
-  unfolding opens
+  pub closed : (at d b n : ℕ) → (b == n) ≡ true → (n == 40) ≡ false → nesting_breaks at d b ≡ []
+  unfolding nesting_breaks
   closed at d b n e k = cond_no (b == 40) _ _ (ap (λ (x : ℕ). x == 40) (eqb-true b n e) ∙ k)
 
   -- nothing more is noted
-  pub same : (E F : List Break) (at d b n : ℕ) → (b == n) ≡ true → (n == 40) ≡ false → E ≡ F → E ≡ F ++ opens at d b
+  pub same : (E F : List Break) (at d b n : ℕ) → (b == n) ≡ true → (n == 40) ≡ false → E ≡ F → E ≡ F ++ nesting_breaks at d b
   same E F at d b n e k q = q ∙ sym (append-nil F) ∙ ap (λ (w : List Break). F ++ w) (sym (closed at d b n e k))
 
-  pub plain_opens : (at d b : ℕ) → is_plain b ≡ true → opens at d b ≡ []
-  unfolding opens is_plain
+  pub plain_opens : (at d b : ℕ) → is_plain b ≡ true → nesting_breaks at d b ≡ []
+  unfolding nesting_breaks is_plain
   plain_opens at d b h = cond_no (b == 40) _ _ (apart is_plain b 40 h refl)
 
-  pub mark_opens : (at d b : ℕ) → (b == 40) ≡ true → opens at d b ≡ when (d == 200) (OverLimit at)
-  unfolding opens
+  pub mark_opens : (at d b : ℕ) → (b == 40) ≡ true → nesting_breaks at d b ≡ when (d == 200) (OverLimit at)
+  unfolding nesting_breaks
   mark_opens at d b e = cond_yes (b == 40) _ _ e
 
   pub group_here : (es : List Entry) (r : Regex) → entries_breaks base depth es ++ item_breaks (Group r) (place es) (level es) ≡ with_regex base depth (Mark ∷ es) r
@@ -98,8 +98,8 @@ module _ (base depth : ℕ) where
   unfolding with_branch branch_breaks
   pieces_alone es = pieces_break base depth es Empty ∙ append-nil (entries_breaks base depth es)
 
-  pub close_breaks : (r : Regex) (es : List Entry) (w : List Break) → with_regex base depth es r ≡ w → BreaksGo w (close (r, es))
-  unfolding close BreaksGo mode_breaks
+  pub close_breaks : (r : Regex) (es : List Entry) (w : List Break) → with_regex base depth es r ≡ w → BreaksGo w (after_group (r, es))
+  unfolding after_group BreaksGo mode_breaks
   close_breaks r [] w e = tt
   close_breaks r (Ended a ∷ es) w e = tt
   close_breaks r (Read p ∷ es) w e = tt
@@ -109,13 +109,13 @@ module _ (base depth : ℕ) where
   unfolding end_branch mode_breaks entries_breaks entry_breaks with_branch
   bar_breaks t w e = goes_on Ready (Ended t.0 ∷ t.1) w (append-nil _ ∙ e)
 
-  pub begin_breaks : (es : List Entry) (b : ℕ) → BreaksGo (entries_breaks base depth es ++ opens (place es) (level es) b) (begin_piece es b)
+  pub begin_breaks : (es : List Entry) (b : ℕ) → BreaksGo (entries_breaks base depth es ++ nesting_breaks (place es) (level es) b) (begin_piece es b)
   unfolding begin_piece mode_breaks item_breaks BreaksGo entries_breaks entry_breaks place level
   begin_breaks es b =
       let E = entries_breaks base depth es in
       let at = base + length (entries es) in
       let d = depth + marks es in
-      let P = BreaksGo (E ++ opens at d b) in
+      let P = BreaksGo (E ++ nesting_breaks at d b) in
       by_test P (is_plain b) _ _ (λ e. goes_on (After (Plain b)) es _ (ap (λ (w : List Break). E ++ w) (sym (plain_opens at d b e)))) (λ _.
       by_test P (b == 92) _ _ (λ e. goes_on (InEscape Begun) es _ (same _ E at d b 92 e refl (append-nil E))) (λ _.
       by_test P (b == 46) _ _ (λ e. goes_on (After Dot) es _ (same _ E at d b 46 e refl (append-nil E))) (λ _.
@@ -128,21 +128,21 @@ module _ (base depth : ℕ) where
   unfolding mode_breaks entries_breaks entry_breaks piece_breaks place level
   turns_break i p es w e = goes_on Ready (Read (Turns i p) ∷ es) w (append-nil _ ∙ e)
 
-  pub sign_breaks : (i : Item) (p : Postfix) (n : ℕ) (es : List Entry) (b at d : ℕ) → is_bad_count p ≡ false → (b == n) ≡ true → (n == 40) ≡ false → BreaksGo ((entries_breaks base depth es ++ item_breaks i (place es) (level es)) ++ opens at d b) (goes Ready (Read (Turns i p) ∷ es))
+  pub sign_breaks : (i : Item) (p : Postfix) (n : ℕ) (es : List Entry) (b at d : ℕ) → is_bad_count p ≡ false → (b == n) ≡ true → (n == 40) ≡ false → BreaksGo ((entries_breaks base depth es ++ item_breaks i (place es) (level es)) ++ nesting_breaks at d b) (goes Ready (Read (Turns i p) ∷ es))
   sign_breaks i p n es b at d good e k =
       turns_break i p es _ (same _ _ at d b n e k (ap (λ (x : Bool). entries_breaks base depth es ++ (item_breaks i (place es) (level es) ++ when x (BadCount (place es + length (item i))))) good ∙ ap (λ (w : List Break). entries_breaks base depth es ++ w) (append-nil (item_breaks i (place es) (level es)))))
 
-  pub once_breaks : (i : Item) (es : List Entry) (b : ℕ) → BreaksGo ((entries_breaks base depth es ++ item_breaks i (place es) (level es)) ++ opens (place es + length (item i)) (level es) b) (begin_piece (Read (Once i) ∷ es) b)
+  pub once_breaks : (i : Item) (es : List Entry) (b : ℕ) → BreaksGo ((entries_breaks base depth es ++ item_breaks i (place es) (level es)) ++ nesting_breaks (place es + length (item i)) (level es) b) (begin_piece (Read (Once i) ∷ es) b)
   unfolding place level entries entry entries_breaks entry_breaks piece_breaks piece marks
   once_breaks i es b =
       let e : base + length (entries es ++ item i) ≡ base + length (entries es) + length (item i) = omega (arith, length-append (entries es) (item i)) in
-      subst (λ (n : ℕ). BreaksGo ((entries_breaks base depth es ++ item_breaks i (base + length (entries es)) (depth + marks es)) ++ opens n (depth + marks es) b) (begin_piece (Read (Once i) ∷ es) b)) e (begin_breaks (Read (Once i) ∷ es) b)
+      subst (λ (n : ℕ). BreaksGo ((entries_breaks base depth es ++ item_breaks i (base + length (entries es)) (depth + marks es)) ++ nesting_breaks n (depth + marks es) b) (begin_piece (Read (Once i) ∷ es) b)) e (begin_breaks (Read (Once i) ∷ es) b)
 
-  pub after_breaks : (i : Item) (es : List Entry) (b : ℕ) → BreaksGo ((entries_breaks base depth es ++ item_breaks i (place es) (level es)) ++ opens (place es + length (item i)) (level es) b) (after_item i es b)
+  pub after_breaks : (i : Item) (es : List Entry) (b : ℕ) → BreaksGo ((entries_breaks base depth es ++ item_breaks i (place es) (level es)) ++ nesting_breaks (place es + length (item i)) (level es) b) (after_item i es b)
   unfolding after_item mode_breaks
   after_breaks i es b =
       let at = place es + length (item i) in
-      let P = BreaksGo ((entries_breaks base depth es ++ item_breaks i (place es) (level es)) ++ opens at (level es) b) in
+      let P = BreaksGo ((entries_breaks base depth es ++ item_breaks i (place es) (level es)) ++ nesting_breaks at (level es) b) in
       by_test P (b == 42) _ _ (λ e. sign_breaks i Star 42 es b at (level es) refl e refl) (λ _.
       by_test P (b == 43) _ _ (λ e. sign_breaks i Plus 43 es b at (level es) refl e refl) (λ _.
       by_test P (b == 63) _ _ (λ e. sign_breaks i Quest 63 es b at (level es) refl e refl) (λ _.
@@ -155,23 +155,23 @@ module _ (base depth : ℕ) where
   escape_breaks es (EscapeRead x) = goes_on (After (Escaped x)) es _ (append-nil _)
   escape_breaks es EscapeWrong = tt
 
-  pub set_breaks : (es : List Entry) (t : SetStep) → BreaksGo (entries_breaks base depth es ++ set_noted (place es) t) (on_set es t)
-  unfolding on_set BreaksGo mode_breaks item_breaks set_noted
-  set_breaks es (SetOn n ms p) = goes_on (InSet n ms p) es _ refl
-  set_breaks es (SetRead n ms) = goes_on (After (Set n ms)) es _ refl
-  set_breaks es SetWrong = tt
+  pub set_breaks_go : (es : List Entry) (t : SetStep) → BreaksGo (entries_breaks base depth es ++ set_breaks (place es) t) (on_set es t)
+  unfolding on_set BreaksGo mode_breaks item_breaks set_breaks
+  set_breaks_go es (SetOn n ms p) = goes_on (InSet n ms p) es _ refl
+  set_breaks_go es (SetRead n ms) = goes_on (After (Set n ms)) es _ refl
+  set_breaks_go es SetWrong = tt
 
-  pub count_breaks : (i : Item) (es : List Entry) (t : CountStep) → BreaksGo ((entries_breaks base depth es ++ item_breaks i (place es) (level es)) ++ count_noted (place es + length (item i)) t) (on_count i es t)
-  unfolding on_count BreaksGo mode_breaks count_noted
-  count_breaks i es (CountOn c) = goes_on (InCount i c) es _ (sym (append-nil _))
-  count_breaks i es (CountRead p) = turns_break i p es _ (sym (append_assoc (entries_breaks base depth es) (item_breaks i (place es) (level es)) _))
-  count_breaks i es CountWrong = tt
+  pub count_breaks_go : (i : Item) (es : List Entry) (t : CountStep) → BreaksGo ((entries_breaks base depth es ++ item_breaks i (place es) (level es)) ++ count_breaks (place es + length (item i)) t) (on_count i es t)
+  unfolding on_count BreaksGo mode_breaks count_breaks
+  count_breaks_go i es (CountOn c) = goes_on (InCount i c) es _ (sym (append-nil _))
+  count_breaks_go i es (CountRead p) = turns_break i p es _ (sym (append_assoc (entries_breaks base depth es) (item_breaks i (place es) (level es)) _))
+  count_breaks_go i es CountWrong = tt
 
   -- what a state breaks after a byte is what it broke before, and what the byte adds
-  pub step_breaks : (m : Mode) (es : List Entry) (b : ℕ) → BreaksGo ((entries_breaks base depth es ++ mode_breaks m (place es) (level es)) ++ noted_in (place es) (level es) m b) (step_in m es b)
-  unfolding step_in mode_breaks noted_in
-  step_breaks Ready es b = subst (λ (w : List Break). BreaksGo (w ++ opens (place es) (level es) b) (begin_piece es b)) (sym (append-nil (entries_breaks base depth es))) (begin_breaks es b)
+  pub step_breaks : (m : Mode) (es : List Entry) (b : ℕ) → BreaksGo ((entries_breaks base depth es ++ mode_breaks m (place es) (level es)) ++ byte_breaks (place es) (level es) m b) (step_in m es b)
+  unfolding step_in mode_breaks byte_breaks
+  step_breaks Ready es b = subst (λ (w : List Break). BreaksGo (w ++ nesting_breaks (place es) (level es) b) (begin_piece es b)) (sym (append-nil (entries_breaks base depth es))) (begin_breaks es b)
   step_breaks (After i) es b = after_breaks i es b
   step_breaks (InEscape e) es b = subst (λ (w : List Break). BreaksGo w (on_escape es (escape_step e b))) (sym (append-nil _ ∙ append-nil (entries_breaks base depth es))) (escape_breaks es (escape_step e b))
-  step_breaks (InSet n ms p) es b = subst (λ (w : List Break). BreaksGo (w ++ set_noted (place es) (set_step n ms p b)) (on_set es (set_step n ms p b))) (sym (append-nil (entries_breaks base depth es))) (set_breaks es (set_step n ms p b))
-  step_breaks (InCount i c) es b = count_breaks i es (count_step c b)
+  step_breaks (InSet n ms p) es b = subst (λ (w : List Break). BreaksGo (w ++ set_breaks (place es) (set_step n ms p b)) (on_set es (set_step n ms p b))) (sym (append-nil (entries_breaks base depth es))) (set_breaks_go es (set_step n ms p b))
+  step_breaks (InCount i c) es b = count_breaks_go i es (count_step c b)

@@ -4,9 +4,9 @@ use Rattle.std.specs.Prelude.{nat_lt, ◌==◌}
 use Rattle.kex_code.specs.Codes.{IsAmong}
 use Rattle.kex_regexp.specs.declared.breaks.Break.{Break}
 use Rattle.kex_regexp.specs.Breaks.{rank, offset, comes_before}
-use Rattle.kex_regexp.specs.Notes.{held_lesser}
+use Rattle.kex_regexp.specs.Notes.{lesser_of}
 use Rattle.kex_reader.specs.Checks.{Check, Breaks, SomeBreaks, IsLeastBreak}
-use Rattle.kex_reader.specs.Stands.{Noted}
+use Rattle.kex_reader.specs.Stands.{NotesLeast}
 
 -- ---- the order
 
@@ -46,27 +46,27 @@ pub fewer : (cs ds : List Check) (b : Break) → SomeBreaks cs b → SomeBreaks 
 fewer cs ds b (c, m, h) = (c, among_left cs ds c m, h)
 
 -- what a check's own break is to what was noted before
-lesser_of : (t : Bool) (a b : Break) (cs : List Check) (c : Check) → comes_before b a ≡ t → IsLeastBreak cs a → Breaks c b → ((other : Break) → Breaks c other → comes_before other b ≡ false) → Noted (cs ++ c ∷ []) (if t then Some b else Some a)
-lesser_of true a b cs c e n h k = record {
+least_lesser : (t : Bool) (a b : Break) (cs : List Check) (c : Check) → comes_before b a ≡ t → IsLeastBreak cs a → Breaks c b → ((other : Break) → Breaks c other → comes_before other b ≡ false) → NotesLeast (cs ++ c ∷ []) (if t then Some b else Some a)
+least_lesser true a b cs c e n h k = record {
   broken = (c, among_last cs c, h);
   least = λ other s. elim (split cs c other s) [ inl g ↦ through (rank other) (offset other) (rank a) (offset a) (rank b) (offset b) (n.least other g) e | inr g ↦ k other g ];
 }
-lesser_of false a b cs c e n h k = record {
+least_lesser false a b cs c e n h k = record {
   broken = fewer cs (c ∷ []) a n.broken;
   least = λ other s. elim (split cs c other s) [ inl g ↦ n.least other g | inr g ↦ not_through (rank other) (offset other) (rank b) (offset b) (rank a) (offset a) (k other g) e ];
 }
 
 -- a check that is broken, and in no way that comes before this one
-pub noted_more : (o : Option Break) (b : Break) (cs : List Check) (c : Check) → Noted cs o → Breaks c b → ((other : Break) → Breaks c other → comes_before other b ≡ false) → Noted (cs ++ c ∷ []) (held_lesser o (Some b))
-unfolding held_lesser
+pub noted_more : (o : Option Break) (b : Break) (cs : List Check) (c : Check) → NotesLeast cs o → Breaks c b → ((other : Break) → Breaks c other → comes_before other b ≡ false) → NotesLeast (cs ++ c ∷ []) (lesser_of o (Some b))
+unfolding lesser_of
 noted_more None b cs c n h k = record {
   broken = (c, among_last cs c, h);
   least = λ other s. elim (split cs c other s) [ inl g ↦ absurd (n other g) | inr g ↦ k other g ];
 }
-noted_more (Some a) b cs c n h k = lesser_of (comes_before b a) a b cs c refl n h k
+noted_more (Some a) b cs c n h k = least_lesser (comes_before b a) a b cs c refl n h k
 
 -- a check that isn't broken
-pub noted_same : (o : Option Break) (cs : List Check) (c : Check) → Noted cs o → ((b : Break) → Breaks c b → ⊥) → Noted (cs ++ c ∷ []) o
+pub noted_same : (o : Option Break) (cs : List Check) (c : Check) → NotesLeast cs o → ((b : Break) → Breaks c b → ⊥) → NotesLeast (cs ++ c ∷ []) o
 noted_same None cs c n k = λ b s. elim (split cs c b s) [ inl g ↦ n b g | inr g ↦ k b g ]
 noted_same (Some a) cs c n k = record {
   broken = fewer cs (c ∷ []) a n.broken;
@@ -74,14 +74,14 @@ noted_same (Some a) cs c n k = record {
 }
 
 -- a check that is broken in one way
-pub noted_one : (o : Option Break) (b : Break) (cs : List Check) (c : Check) → Noted cs o → Breaks c b → ((other : Break) → Breaks c other → other ≡ b) → Noted (cs ++ c ∷ []) (held_lesser o (Some b))
+pub noted_one : (o : Option Break) (b : Break) (cs : List Check) (c : Check) → NotesLeast cs o → Breaks c b → ((other : Break) → Breaks c other → other ≡ b) → NotesLeast (cs ++ c ∷ []) (lesser_of o (Some b))
 noted_one o b cs c n h k = noted_more o b cs c n h (λ other g. ap (λ (x : Break). comes_before x b) (k other g) ∙ never_itself b)
 
 none_of : (t : Bool) (a b : Break) → (if t then Some b else Some a) ≡ None → ⊥
 none_of true a b e = cc
 none_of false a b e = cc
 
-pub never_none : (o : Option Break) (b : Break) → held_lesser o (Some b) ≡ None → ⊥
-unfolding held_lesser
+pub never_none : (o : Option Break) (b : Break) → lesser_of o (Some b) ≡ None → ⊥
+unfolding lesser_of
 never_none None b e = cc
 never_none (Some a) b e = none_of (comes_before b a) a b e

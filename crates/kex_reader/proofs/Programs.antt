@@ -16,11 +16,11 @@ use Rattle.kex_reader.specs.declared.reader.Phase.{Phase}
 use Rattle.kex_reader.specs.declared.reader.Phase.TheVariants as phases
 use Rattle.kex_reader.specs.declared.word.Name.{Name as Named'}
 use Rattle.kex_reader.specs.Syntax.{Word, Name, Define, Colon, Pipe, word, Definition, Header, NoStart, Stages, Program, Term, Once, Call, start, header, definitions, stages, term}
-use Rattle.kex_reader.specs.Reading.{Entry, Mark, Ended, Done, Muted, Storing, Mode, Need, Ready, After, Named, Inside, State, Begin, FirstName, StartLine, StageRead, StageNext, HeadRead, Within, before, take_term, put, lift, on_head, next_head, on_define, step_in, step_within, first_name, head_read, stage_read, name_then, step, spelled, entries, whole, ended, finish_within, finish}
+use Rattle.kex_reader.specs.Reading.{Entry, Mark, Ended, Done, Muted, Storing, Mode, Need, Ready, After, Named, Inside, State, Begin, FirstName, StartLine, StageRead, StageNext, HeadRead, Within, before, take_term, with_pre, lift, on_head, next_head, on_define, step_in, step_within, first_name, head_read, stage_read, name_then, step, words_read, entries, program_of_whole, program_of_term, finish_within, finish}
 use Rattle.kex_reader.specs.Shown.{Made, IsName, ShowsTerm, ShowsDefinitions, ShowsStages}
-use Rattle.kex_reader.specs.Stands.{Keeps, FramesShow, SomeInside, Stands, Steps, TermTaken, ShowsMode}
+use Rattle.kex_reader.specs.Stands.{Keeps, FramesShow, SomeInside, ShowsInside, Steps, TermTaken, ShowsMode}
 use Rattle.kex_reader.specs.Holding.{ShowsHead, ShowsState, SomeState, StateSteps, whole_term, Ends, Finishes}
-use Rattle.kex_reader.proofs.Drafting.{definitions_more, stages_more}
+use Rattle.kex_reader.proofs.Drafts.{definitions_more, stages_more}
 use Rattle.kex_reader.proofs.Sound.{term_taken, TermTaken as Spelled}
 
 pub head_more : (h : Header) (a b : Made) (at : ℕ → ℕ) (ss : List Start) → Keeps a b → ShowsHead h a at ss → ShowsHead h b at ss
@@ -159,8 +159,8 @@ abbrev pub with_end : Header → List Definition → List ℕ → Option Term �
 with_end h ds name None = None
 with_end h ds name (Some t) = Some (record { header = h; definitions = ds ++ record { name = name; term = t } ∷ [] })
 
-pub ended_is : (h : Header) (ds : List Definition) (name : List ℕ) (o : Option (Term × List Entry)) → ended h ds name o ≡ with_end h ds name (whole_term o)
-unfolding ended whole whole_term
+pub ended_is : (h : Header) (ds : List Definition) (name : List ℕ) (o : Option (Term × List Entry)) → program_of_term h ds name o ≡ with_end h ds name (whole_term o)
+unfolding program_of_term program_of_whole whole_term
 ended_is h ds name None = refl
 ended_is h ds name (Some (t, [])) = refl
 ended_is h ds name (Some (t, x ∷ es)) = refl
@@ -297,7 +297,7 @@ module _ (a : Made) (at : ℕ → ℕ) (fs : List Frame) (ds : List Root) (ss : 
   state_within head w (Within h done name i) k = (h, done, name, i, refl)
   state_within head w _ k = absurd k
 
-  pub within_parts : (head : Head) (w : Wait) (h : Header) (done : List Definition) (name : List ℕ) (i : Inside) → ShowsState a at fs ds ss (phases.Within head w) (Within h done name i) → ShowsHead h a at ss × ShowsDefinitions done a at ds (length (header h)) × IsName a head.name name × (head.at ≡ at (length (header h) + length (definitions done))) × Stands a at (length (before h done name)) fs w i
+  pub within_parts : (head : Head) (w : Wait) (h : Header) (done : List Definition) (name : List ℕ) (i : Inside) → ShowsState a at fs ds ss (phases.Within head w) (Within h done name i) → ShowsHead h a at ss × ShowsDefinitions done a at ds (length (header h)) × IsName a head.name name × (head.at ≡ at (length (header h) + length (definitions done))) × ShowsInside a at (length (before h done name)) fs w i
   unfolding ShowsState
   within_parts head w h done name i k = k
 
@@ -343,16 +343,16 @@ lift_err a b at gs ds ss head h done name r o e q hd df nm pl s = lift_steps a b
 
 -- places of words
 
-pub start_place : length (spelled StartLine) ≡ 2
-unfolding spelled
+pub start_place : length (words_read StartLine) ≡ 2
+unfolding words_read
 start_place = refl
 
-pub next_place : (f : List ℕ) (ns : List (List ℕ)) → length (spelled (StageNext f ns)) ≡ 2 + 2 * length (f ∷ ns)
-unfolding spelled
+pub next_place : (f : List ℕ) (ns : List (List ℕ)) → length (words_read (StageNext f ns)) ≡ 2 + 2 * length (f ∷ ns)
+unfolding words_read
 next_place f ns = omega (arith, length-append (stages ns) (Pipe ∷ []), stages_long ns)
 
-pub head_place : (f : List ℕ) (ns : List (List ℕ)) → length (spelled (StageRead f ns)) ≡ length (header (Stages f ns))
-unfolding spelled header
+pub head_place : (f : List ℕ) (ns : List (List ℕ)) → length (words_read (StageRead f ns)) ≡ length (header (Stages f ns))
+unfolding words_read header
 head_place f ns = refl
 
 -- ---- heads
@@ -442,13 +442,13 @@ pub finish_ready : (h : Header) (done : List Definition) (name : List ℕ) (m : 
 unfolding finish_within
 finish_ready h done name m es e = ap (λ (x : Mode). finish_within h done name x es) e ∙ ended_is h done name (take_term es)
 
-pub finish_after : (h : Header) (done : List Definition) (name : List ℕ) (m : Mode) (a : Rattle.kex_reader.specs.Syntax.Atom) (es : List Entry) → m ≡ After a → finish_within h done name m es ≡ with_end h done name (whole_term (take_term (put (Once a) es)))
+pub finish_after : (h : Header) (done : List Definition) (name : List ℕ) (m : Mode) (a : Rattle.kex_reader.specs.Syntax.Atom) (es : List Entry) → m ≡ After a → finish_within h done name m es ≡ with_end h done name (whole_term (take_term (with_pre (Once a) es)))
 unfolding finish_within
-finish_after h done name m a es e = ap (λ (x : Mode). finish_within h done name x es) e ∙ ended_is h done name (take_term (put (Once a) es))
+finish_after h done name m a es e = ap (λ (x : Mode). finish_within h done name x es) e ∙ ended_is h done name (take_term (with_pre (Once a) es))
 
-pub finish_named : (h : Header) (done : List Definition) (name : List ℕ) (m : Mode) (f : Bool) (n : List ℕ) (es : List Entry) → m ≡ Named f n → finish_within h done name m es ≡ with_end h done name (whole_term (take_term (put (Once (Call n)) es)))
+pub finish_named : (h : Header) (done : List Definition) (name : List ℕ) (m : Mode) (f : Bool) (n : List ℕ) (es : List Entry) → m ≡ Named f n → finish_within h done name m es ≡ with_end h done name (whole_term (take_term (with_pre (Once (Call n)) es)))
 unfolding finish_within
-finish_named h done name m f n es e = ap (λ (x : Mode). finish_within h done name x es) e ∙ ended_is h done name (take_term (put (Once (Call n)) es))
+finish_named h done name m f n es e = ap (λ (x : Mode). finish_within h done name x es) e ∙ ended_is h done name (take_term (with_pre (Once (Call n)) es))
 
 -- the waiting of modes in which a definition can't end
 pub finish_other : (a : Made) (at : ℕ → ℕ) (i : ℕ) (w : Wait) (m : Mode) (h : Header) (done : List Definition) (name : List ℕ) (es : List Entry) → (w ≡ waits.Ready → ⊥) → ((p : Rattle.kex_reader.specs.declared.stack.Part.Part) → w ≡ waits.After p → ⊥) → ((f : Bool) (n : Named') → w ≡ waits.Named f n → ⊥) → ShowsMode a at i w m → finish_within h done name m es ≡ None
@@ -481,8 +481,8 @@ needed_name a at i x m k n e = go (subst (λ (y : Mode). ShowsMode a at i (waits
     go : ShowsMode a at i (waits.Named false x) (Named true n) → ⊥
     go (e, f, g) = absurd cc
 
-pub within_place : (h : Header) (done : List Definition) (name : List ℕ) (i : Inside) → length (spelled (Within h done name i)) ≡ length (before h done name) + length (Rattle.kex_reader.specs.Reading.inside i)
-unfolding spelled
+pub within_place : (h : Header) (done : List Definition) (name : List ℕ) (i : Inside) → length (words_read (Within h done name i)) ≡ length (before h done name) + length (Rattle.kex_reader.specs.Reading.inside i)
+unfolding words_read
 within_place h done name i = length-append (before h done name) (Rattle.kex_reader.specs.Reading.inside i)
 
 pub not_empty : (n : ℕ) (b : Bool) → b ≡ (n == 0) → b ≡ false → n ≡ 0 → ⊥
@@ -521,11 +521,11 @@ pub at_within : (s : State) (w : Word) (h : Header) (done : List Definition) (na
 unfolding step
 at_within s w h done name i e = ap (λ (x : State). step x w) e
 
-pub place_of : (at : ℕ → ℕ) (from : ℕ) (s t : State) (k : ℕ) → s ≡ t → length (spelled t) ≡ k → from ≡ at (length (spelled s)) → from ≡ at k
-place_of at from s t k e l p = p ∙ ap (λ (x : State). at (length (spelled x))) e ∙ ap at l
+pub place_of : (at : ℕ → ℕ) (from : ℕ) (s t : State) (k : ℕ) → s ≡ t → length (words_read t) ≡ k → from ≡ at (length (words_read s)) → from ≡ at k
+place_of at from s t k e l p = p ∙ ap (λ (x : State). at (length (words_read x))) e ∙ ap at l
 
-pub begin_long : length (spelled Begin) ≡ 0
-unfolding spelled
+pub begin_long : length (words_read Begin) ≡ 0
+unfolding words_read
 begin_long = refl
 
 pub first_named : (a : Made) (at : ℕ → ℕ) (fs : List Frame) (ds : List Root) (ss : List Start) (n : Named') → fs ≡ [] → ds ≡ [] → ss ≡ [] → n.at ≡ at 0 → StateSteps a at fs ds ss (Ok (phases.FirstName n)) (Some (FirstName n.bytes.now))

@@ -13,9 +13,9 @@ use Rattle.kex_regexp.specs.Holding.{HoldsRegex}
 use Rattle.kex_regexp.specs.Notes.{least_from}
 use Rattle.kex_regexp.proofs.Exact.{exact_regex}
 use Rattle.kex_regexp.proofs.Least.{IsRule, is_least, regex_rules}
-use Rattle.kex_regexp.proofs.Noting.{none_least}
+use Rattle.kex_regexp.proofs.NotedBreaks.{none_least}
 use Rattle.kex_regexp.proofs.Viable.{one_tree}
-use Rattle.kex_regexp.proofs.Wrong.{not_both}
+use Rattle.kex_regexp.proofs.WrongBytes.{not_both}
 
 pub read : (res : Result ℕ RegexFault) (node : ℕ) (least : Option Break) (r : Regex) (bytes : List ℕ) (nodes : List Node) (at depth : ℕ) → Spells r bytes → HoldsRegex r nodes node at → least ≡ least_from None (regex_breaks r at depth) → IfOk res (λ n. (n ≡ node) × (least ≡ None)) → IfOk res (λ n. (q : Regex) × Spells q bytes × (regex_breaks q at depth ≡ []) × ShowsRegex q nodes n at)
 read (Ok n) node least r bytes nodes at depth sp sh l h =

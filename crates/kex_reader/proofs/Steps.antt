@@ -18,10 +18,10 @@ use Rattle.kex_reader.specs.declared.inside.StepFault.{StepFault}
 use Rattle.kex_reader.specs.declared.inside.StepFault.TheVariants as faults
 use Rattle.kex_reader.specs.declared.word.Name.{Name as Named'}
 use Rattle.kex_reader.specs.Syntax.{Word, Name, Number, Literal, Regex, Define, Bar, Tilde, At, Star, Plus, Question, OpenBrace, Bang, OpenBracket, OpenParen, CloseParen, word, Postfix, ZeroOrMore, OneOrMore, Optional, Term, Seq, Once, Turns, Atom, One, Call, Lit, Match, Write, Group, pre, atom}
-use Rattle.kex_reader.specs.Reading.{Entry, Mark, Ended, Done, Muted, Storing, Opened, Mode, Need, Ready, After, Named, Writing, Bracket, BracketName, Assigning, InCount, Inside, put, take_seq, take_term, goes, on_bar, closed, on_close, on_number, begin_pre, after_atom, named, on_name, on_sign, entries, entry}
+use Rattle.kex_reader.specs.Reading.{Entry, Mark, Ended, Done, Muted, Storing, Opened, Mode, Need, Ready, After, Named, Writing, Bracket, BracketName, Assigning, InCount, Inside, with_pre, take_seq, take_term, goes, on_bar, after_group, on_close, on_number, begin_pre, after_atom, after_name, on_name, on_sign, entries, entry}
 use Rattle.kex_reader.specs.Shown.{Made, IsNode, IsName, IsRegister, ShowsTerm, ShowsPre, ShowsAtom, low, high}
 use Rattle.kex_reader.specs.Stands.{Keeps, FramesShow, SeqTaken, TermTaken, ShowsMode, ShowsCount, Steps}
-use Rattle.kex_reader.proofs.Drafting.{Keeps-trans}
+use Rattle.kex_reader.proofs.Drafts.{Keeps-trans}
 use Rattle.kex_reader.proofs.Sound.{put_is}
 use Rattle.kex_reader.proofs.Stacks.{frames_more}
 
@@ -199,8 +199,8 @@ group_shows : (a : Made) (at : ℕ → ℕ) (n i : ℕ) (t : Term) → ShowsTerm
 unfolding ShowsAtom
 group_shows a at n i t h = h
 
-closes : (a : Made) (at : ℕ → ℕ) (base : ℕ) (new : List Frame) (part : Shown) (from : ℕ) (t : Term) (es : List Entry) → ShowsTerm t a at part.node (base + length (entries es)) → FramesShow a at base (frames.Mark from ∷ new) es → Steps a at base new (Ok (waits.After (record { node = part.node; at = from }))) (closed t es)
-unfolding closed FramesShow entries entry
+closes : (a : Made) (at : ℕ → ℕ) (base : ℕ) (new : List Frame) (part : Shown) (from : ℕ) (t : Term) (es : List Entry) → ShowsTerm t a at part.node (base + length (entries es)) → FramesShow a at base (frames.Mark from ∷ new) es → Steps a at base new (Ok (waits.After (record { node = part.node; at = from }))) (after_group t es)
+unfolding after_group FramesShow entries entry
 closes a at base new part from t (Mark ∷ es) s h =
     let j : base + length (entries es ++ OpenParen ∷ []) ≡ base + length (entries es) + 1 = omega (arith, length-append (entries es) (OpenParen ∷ [])) in
     after a at base new es part.node from (Group t) h.1 h.0 (group_shows a at part.node (base + length (entries es)) t (subst (λ (y : ℕ). ShowsTerm t a at part.node y) j s))
@@ -211,8 +211,8 @@ unfolding on_close
 close_steps a at base fs new part from None e h = absurd h
 close_steps a at base fs new part from (Some t) e h = closes a at base new part from t.0 t.1 h.shows (subst (λ (x : List Frame). FramesShow a at base x t.1) e h.below)
 
-unmarked : (a : Made) (at : ℕ → ℕ) (base : ℕ) (fs gs : List Frame) (t : Term) (es : List Entry) → ((x : ℕ) (hs : List Frame) → fs ≡ frames.Mark x ∷ hs → ⊥) → FramesShow a at base fs es → Steps a at base gs (Err faults.Wrong) (closed t es)
-unfolding closed FramesShow
+unmarked : (a : Made) (at : ℕ → ℕ) (base : ℕ) (fs gs : List Frame) (t : Term) (es : List Entry) → ((x : ℕ) (hs : List Frame) → fs ≡ frames.Mark x ∷ hs → ⊥) → FramesShow a at base fs es → Steps a at base gs (Err faults.Wrong) (after_group t es)
+unfolding after_group FramesShow
 unmarked a at base fs gs t [] n h = wrong a at base gs
 unmarked a at base fs gs t (Ended s ∷ es) n h = wrong a at base gs
 unmarked a at base fs gs t (Done p ∷ es) n h = wrong a at base gs
@@ -232,7 +232,7 @@ module _ (x : Atom) (es : List Entry) (b : List ℕ) where
   pub after_kind : (k j : Kind) (o : Option Inside) → k ≡ j → after_atom x es (word j b) ≡ o → after_atom x es (word k b) ≡ o
   after_kind k j o e f = ap (λ (y : Kind). after_atom x es (word y b)) e ∙ f
 
-  pub after_other : (k : Kind) → (k ≡ kinds.Star → ⊥) → (k ≡ kinds.Plus → ⊥) → (k ≡ kinds.Question → ⊥) → (k ≡ kinds.OpenBrace → ⊥) → after_atom x es (word k b) ≡ begin_pre true (put (Once x) es) (word k b)
+  pub after_other : (k : Kind) → (k ≡ kinds.Star → ⊥) → (k ≡ kinds.Plus → ⊥) → (k ≡ kinds.Question → ⊥) → (k ≡ kinds.OpenBrace → ⊥) → after_atom x es (word k b) ≡ begin_pre true (with_pre (Once x) es) (word k b)
   unfolding after_atom
   after_other kinds.Star n1 n2 n3 n4 = absurd (n1 refl)
   after_other kinds.Plus n1 n2 n3 n4 = absurd (n2 refl)
@@ -240,15 +240,15 @@ module _ (x : Atom) (es : List Entry) (b : List ℕ) where
   after_other kinds.OpenBrace n1 n2 n3 n4 = absurd (n4 refl)
   after_other _ n1 n2 n3 n4 = refl
 
-pub after_star : (x : Atom) (es : List Entry) → after_atom x es Star ≡ goes Ready (put (Turns x ZeroOrMore) es)
+pub after_star : (x : Atom) (es : List Entry) → after_atom x es Star ≡ goes Ready (with_pre (Turns x ZeroOrMore) es)
 unfolding after_atom
 after_star x es = refl
 
-pub after_plus : (x : Atom) (es : List Entry) → after_atom x es Plus ≡ goes Ready (put (Turns x OneOrMore) es)
+pub after_plus : (x : Atom) (es : List Entry) → after_atom x es Plus ≡ goes Ready (with_pre (Turns x OneOrMore) es)
 unfolding after_atom
 after_plus x es = refl
 
-pub after_question : (x : Atom) (es : List Entry) → after_atom x es Question ≡ goes Ready (put (Turns x Optional) es)
+pub after_question : (x : Atom) (es : List Entry) → after_atom x es Question ≡ goes Ready (with_pre (Turns x Optional) es)
 unfolding after_atom
 after_question x es = refl
 
@@ -265,33 +265,33 @@ unfolding ShowsPre
 turns_show made at n m i a l h x p k e f g d s = (k, m, λ _. subst (λ (y : ℕ). IsNode made n (nodes.Rep m (low p) (high p)) y) e (subst (λ (y : Option ℕ). IsNode made n (nodes.Rep m (low p) y) a) g (subst (λ (y : ℕ). IsNode made n (nodes.Rep m y h) a) f d)), s)
 
 -- where atoms end
-pub put_ends : (x : Atom) (es : List Entry) → length (entries (put (Once x) es)) ≡ length (entries es) + length (atom x)
+pub put_ends : (x : Atom) (es : List Entry) → length (entries (with_pre (Once x) es)) ≡ length (entries es) + length (atom x)
 unfolding pre
 put_ends x es = ap (λ (w : List Word). length w) (put_is (Once x) es) ∙ length-append (entries es) (atom x)
 
-pub put_place : (at : ℕ → ℕ) (base a : ℕ) (x : Atom) (es : List Entry) → a ≡ at (base + length (entries es) + length (atom x)) → a ≡ at (base + length (entries (put (Once x) es)))
+pub put_place : (at : ℕ → ℕ) (base a : ℕ) (x : Atom) (es : List Entry) → a ≡ at (base + length (entries es) + length (atom x)) → a ≡ at (base + length (entries (with_pre (Once x) es)))
 put_place at base a x es e =
-    let j : base + length (entries es) + length (atom x) ≡ base + length (entries (put (Once x) es)) = omega (arith, put_ends x es) in
+    let j : base + length (entries es) + length (atom x) ≡ base + length (entries (with_pre (Once x) es)) = omega (arith, put_ends x es) in
     e ∙ ap at j
 
 -- ---- behind a name
 
 module _ (n : List ℕ) (es : List Entry) (b : List ℕ) where
-  pub named_kind : (k j : Kind) (o : Option Inside) → k ≡ j → named n es (word j b) ≡ o → named n es (word k b) ≡ o
-  named_kind k j o e f = ap (λ (y : Kind). named n es (word y b)) e ∙ f
+  pub named_kind : (k j : Kind) (o : Option Inside) → k ≡ j → after_name n es (word j b) ≡ o → after_name n es (word k b) ≡ o
+  named_kind k j o e f = ap (λ (y : Kind). after_name n es (word y b)) e ∙ f
 
-  pub named_other : (k : Kind) → (k ≡ kinds.At → ⊥) → (k ≡ kinds.Define → ⊥) → named n es (word k b) ≡ after_atom (Call n) es (word k b)
-  unfolding named
+  pub named_other : (k : Kind) → (k ≡ kinds.At → ⊥) → (k ≡ kinds.Define → ⊥) → after_name n es (word k b) ≡ after_atom (Call n) es (word k b)
+  unfolding after_name
   named_other kinds.At n1 n2 = absurd (n1 refl)
   named_other kinds.Define n1 n2 = absurd (n2 refl)
   named_other _ n1 n2 = refl
 
-pub named_at : (n : List ℕ) (es : List Entry) → named n es At ≡ goes Need (Storing n ∷ es)
-unfolding named
+pub named_at : (n : List ℕ) (es : List Entry) → after_name n es At ≡ goes Need (Storing n ∷ es)
+unfolding after_name
 named_at n es = refl
 
-pub named_define : (n : List ℕ) (es : List Entry) → named n es Define ≡ None
-unfolding named
+pub named_define : (n : List ℕ) (es : List Entry) → after_name n es Define ≡ None
+unfolding after_name
 named_define n es = refl
 
 pub call_ends : (n : List ℕ) → length (atom (Call n)) ≡ 1
@@ -407,5 +407,5 @@ pub optional_high : Some 1 ≡ high Optional
 unfolding high
 optional_high = refl
 
-pub put_index : (base : ℕ) (x : Atom) (es : List Entry) → base + length (entries (put (Once x) es)) ≡ base + length (entries es) + length (atom x)
+pub put_index : (base : ℕ) (x : Atom) (es : List Entry) → base + length (entries (with_pre (Once x) es)) ≡ base + length (entries es) + length (atom x)
 put_index base x es = omega (arith, put_ends x es)

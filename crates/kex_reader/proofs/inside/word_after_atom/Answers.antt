@@ -1,14 +1,14 @@
 use Rattle.std.proofs.Common.{◌+◌, [], ◌++◌, length, ap, ◌∙◌, subst, arith, inl, inr}
 use Rattle.kex_tokens.specs.declared.token.Kind.TheVariants as kinds
 use Rattle.kex_reader.specs.Syntax.{Once, ZeroOrMore, OneOrMore, Optional, atom}
-use Rattle.kex_reader.specs.Reading.{entries, put}
-use Rattle.kex_reader.proofs.Stepping.{to, memory_exit, count_opens, after_kind, after_other, after_star, after_plus, after_question, after_brace, once_shows, put_place, on_keeps, star_low, star_high, plus_low, plus_high, optional_low, optional_high}
-use Rattle.kex_reader.proofs.Kept.{same, on_same, on_from, moved, after_quiet, after_begins}
+use Rattle.kex_reader.specs.Reading.{entries, with_pre}
+use Rattle.kex_reader.proofs.Steps.{to, memory_exit, count_opens, after_kind, after_other, after_star, after_plus, after_question, after_brace, once_shows, put_place, on_keeps, star_low, star_high, plus_low, plus_high, optional_low, optional_high}
+use Rattle.kex_reader.proofs.MoreChecks.{same, on_same, on_from, moved, after_quiet, after_begins}
 use Rattle.kex_reader.specs.Syntax.{word}
 use Rattle.kex_reader.specs.Stands.{begin_asks}
-use Rattle.kex_reader.proofs.Stepping.{put_index}
+use Rattle.kex_reader.proofs.Steps.{put_index}
 use Rattle.kex_reader.proofs.Uses.{held_as, step_then, unchanged}
-use Rattle.kex_reader.proofs.inside.behind.Goals as goal
+use Rattle.kex_reader.proofs.inside.word_after_atom.Goals as goal
 
 pub returns-in-Star-clause-step : goal.returns-in-Star-clause-step
 returns-in-Star-clause-step c = λ at base es a h e s p. to _ at base _ _ _ _ (after_kind a es c.args.word.spelling.now c.args.word.kind kinds.Star _ c.in-Star.is (after_star a es)) (c.turns.ensures.step at base es a h e s ZeroOrMore star_low star_high)
@@ -30,18 +30,18 @@ returns-in_ok-put-in_default c = record {
   keeps = on_keeps _ _ _ _ c.in_ok-put-in_default.ensures.keeps c.begin.ensures.keeps;
   held = step_then c.begin.result _ _ _ _ _ _ c.begin.new.stack c.begin.ensures.keeps (held_as _ _ _ _ _ _ (λ x h. elim h [ inl i ↦ inr i | inr e ↦ inl e ]) (λ x i. i) c.in_ok-put-in_default.ensures.held) (λ x i. inl i) c.begin.ensures.held;
   notes = λ at base es a h e s p cs n.
-      on_from c.begin.result cs _ _ c.begin.new.draft.broken (ap (λ k. begin_asks at k (put (Once a) es) (word c.args.word.kind c.args.word.spelling.now)) (put_index base a es) ∙ after_begins at (base + length (entries es) + length (atom a)) a es c.args.word.spelling.now c.args.word.kind c.in_default.not-Star c.in_default.not-Plus c.in_default.not-Question c.in_default.not-OpenBrace)
-      (c.begin.ensures.notes at base (put (Once a) es) (c.in_ok-put-in_default.ensures.put at base es (Once a) h e (once_shows c.args.draft.now at c.args.item.node (base + length (entries es)) a s)) (put_place at base c.args.word.at a es p) cs (moved cs c.args.draft.now.broken c.put.new.draft.broken c.in_ok-put-in_default.ensures.broken n));
+      on_from c.begin.result cs _ _ c.begin.new.draft.broken (ap (λ k. begin_asks at k (with_pre (Once a) es) (word c.args.word.kind c.args.word.spelling.now)) (put_index base a es) ∙ after_begins at (base + length (entries es) + length (atom a)) a es c.args.word.spelling.now c.args.word.kind c.in_default.not-Star c.in_default.not-Plus c.in_default.not-Question c.in_default.not-OpenBrace)
+      (c.begin.ensures.notes at base (with_pre (Once a) es) (c.in_ok-put-in_default.ensures.put at base es (Once a) h e (once_shows c.args.draft.now at c.args.item.node (base + length (entries es)) a s)) (put_place at base c.args.word.at a es p) cs (moved cs c.args.draft.now.broken c.put.new.draft.broken c.in_ok-put-in_default.ensures.broken n));
   step = λ at base es a h e s p.
       to _ at base _ _ _ _ (after_other a es c.args.word.spelling.now c.args.word.kind c.in_default.not-Star c.in_default.not-Plus c.in_default.not-Question c.in_default.not-OpenBrace)
-      (c.begin.ensures.step at base (put (Once a) es) (c.in_ok-put-in_default.ensures.put at base es (Once a) h e (once_shows c.args.draft.now at c.args.item.node (base + length (entries es)) a s)) (put_place at base c.args.word.at a es p));
+      (c.begin.ensures.step at base (with_pre (Once a) es) (c.in_ok-put-in_default.ensures.put at base es (Once a) h e (once_shows c.args.draft.now at c.args.item.node (base + length (entries es)) a s)) (put_place at base c.args.word.at a es p));
 }
 
 pub put-requires : goal.put-requires
 put-requires c = let r = c.requires.atom in (r.0, r.1, r.2, Once r.3, r.4, r.5, once_shows c.args.draft.now r.0 c.args.item.node (r.1 + length (entries r.2)) r.3 r.6)
 
 pub begin-requires-clause-frames : goal.begin-requires-clause-frames
-begin-requires-clause-frames c = let r = c.requires.atom in (r.0, r.1, put (Once r.3) r.2, c.in_ok-put-in_default.ensures.put r.0 r.1 r.2 (Once r.3) r.4 r.5 (once_shows c.args.draft.now r.0 c.args.item.node (r.1 + length (entries r.2)) r.3 r.6))
+begin-requires-clause-frames c = let r = c.requires.atom in (r.0, r.1, with_pre (Once r.3) r.2, c.in_ok-put-in_default.ensures.put r.0 r.1 r.2 (Once r.3) r.4 r.5 (once_shows c.args.draft.now r.0 c.args.item.node (r.1 + length (entries r.2)) r.3 r.6))
 
 pub turns-requires-clause-count : goal.turns-requires-clause-count
 turns-requires-clause-count c = (ZeroOrMore, star_low, star_high, tt)
@@ -62,7 +62,7 @@ pub returns-in-Question-clause-notes : goal.returns-in-Question-clause-notes
 returns-in-Question-clause-notes c = λ at base es a h e s p cs n. on_from c.turns-in-Question.result cs [] _ c.turns-in-Question.new.draft.broken (after_quiet at (base + length (entries es) + length (atom a)) a es c.args.word.spelling.now c.args.word.kind kinds.Question c.in-Question.is tt) (on_same c.turns-in-Question.result cs c.args.draft.now.broken c.turns-in-Question.new.draft.broken c.turns-in-Question.ensures.broken n)
 
 pub returns-in-OpenBrace-clause-notes : goal.returns-in-OpenBrace-clause-notes
-returns-in-OpenBrace-clause-notes c = λ at base es a h e s p cs n. subst (λ x. Rattle.kex_reader.specs.Stands.Noted (cs ++ x) c.args.draft.now.broken) (after_quiet at (base + length (entries es) + length (atom a)) a es c.args.word.spelling.now c.args.word.kind kinds.OpenBrace c.in-OpenBrace.is tt) (same cs c.args.draft.now.broken n)
+returns-in-OpenBrace-clause-notes c = λ at base es a h e s p cs n. subst (λ x. Rattle.kex_reader.specs.Stands.NotesLeast (cs ++ x) c.args.draft.now.broken) (after_quiet at (base + length (entries es) + length (atom a)) a es c.args.word.spelling.now c.args.word.kind kinds.OpenBrace c.in-OpenBrace.is tt) (same cs c.args.draft.now.broken n)
 
 pub returns-in-Star-clause-held : goal.returns-in-Star-clause-held
 returns-in-Star-clause-held c = c.turns.ensures.held

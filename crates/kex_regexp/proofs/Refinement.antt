@@ -12,26 +12,26 @@ use Rattle.kex_regexp.specs.Grammar.{is_digit, is_end, is_hex, is_punctuation, E
 use Rattle.kex_regexp.specs.Values.{escaped_byte, end_byte, number, number_from, low, high}
 use Rattle.kex_regexp.specs.Machine.{Escaping, Begun, HexBegun, HexOne, EscapeStep, EscapeOn, EscapeRead, EscapeWrong, escape_step, Part, AtStart, Between, HasEnd, HasDash, InFirst, InLast, begin_member, between_step, in_first, in_last, set_step, Counting, Opened, Low, LowComma, LowHigh, OnlyComma, High, count_step}
 use Rattle.kex_regexp.specs.Holding.{is_empty, capped, ShowsEscape, ShowsPart, ShowsSet, ShowsCount, ShowsCountStep}
-use Rattle.kex_regexp.specs.Held.{held_escape, held_begin, held_between, held_first, held_last, held_set, held_digit, held_count}
+use Rattle.kex_regexp.specs.Outcomes.{escape_outcome, begin_outcome, between_outcome, first_outcome, last_outcome, set_outcome, capped_number, count_outcome}
 
 pub by_both : {A B : Type 0} (R : A → B → Type 0) (b : Bool) (x y : A) (u v : B) → R x u → R y v → R (cond b x y) (cond b u v)
 by_both R true x y u v f g = f
 by_both R false x y u v f g = g
 
-pub escape_refines : (e : Escaping) (b : ℕ) → ShowsEscape (held_escape e b) (escape_step e b)
-unfolding held_escape escape_step ShowsEscape escaped_byte
+pub escape_refines : (e : Escaping) (b : ℕ) → ShowsEscape (escape_outcome e b) (escape_step e b)
+unfolding escape_outcome escape_step ShowsEscape escaped_byte
 escape_refines Begun b =
     by_both ShowsEscape (b == 110) _ _ _ _ refl (by_both ShowsEscape (b == 116) _ _ _ _ refl (by_both ShowsEscape (b == 114) _ _ _ _ refl
     (by_both ShowsEscape (b == 120) _ _ _ _ refl (by_both ShowsEscape (is_punctuation b) _ _ _ _ refl tt))))
 escape_refines HexBegun b = by_both ShowsEscape (is_hex b) _ _ _ _ refl tt
 escape_refines (HexOne high) b = by_both ShowsEscape (is_hex b) _ _ _ _ refl tt
 
-pub begin_refines : (n e : Bool) (ms : List Member) (b : ℕ) → e ≡ is_empty ms → ShowsSet (held_begin n e b) (begin_member n ms b)
-unfolding held_begin begin_member ShowsSet ShowsPart end_byte
+pub begin_refines : (n e : Bool) (ms : List Member) (b : ℕ) → e ≡ is_empty ms → ShowsSet (begin_outcome n e b) (begin_member n ms b)
+unfolding begin_outcome begin_member ShowsSet ShowsPart end_byte
 begin_refines n e ms b h = by_both ShowsSet (is_end b) _ _ _ _ (refl, h, refl) (by_both ShowsSet (b == 92) _ _ _ _ (refl, h, refl) tt)
 
-pub between_refines : (n e : Bool) (ms : List Member) (b : ℕ) → e ≡ is_empty ms → ShowsSet (held_between n e b) (between_step n ms b)
-unfolding held_between between_step ShowsSet
+pub between_refines : (n e : Bool) (ms : List Member) (b : ℕ) → e ≡ is_empty ms → ShowsSet (between_outcome n e b) (between_step n ms b)
+unfolding between_outcome between_step ShowsSet
 between_refines n true [] b h = begin_refines n true [] b h
 between_refines n false [] b h = absurd (false≢true h)
 between_refines n true (m ∷ ms) b h = absurd (false≢true (sym h))
@@ -41,8 +41,8 @@ pub more_members : (ms : List Member) (m : Member) → false ≡ is_empty (ms ++
 more_members [] m = refl
 more_members (n ∷ ms) m = refl
 
-pub first_refines : (n e : Bool) (ms : List Member) (x : EscapeOutcome) (t : EscapeStep) → e ≡ is_empty ms → ShowsEscape x t → ShowsSet (held_first n e x) (in_first n ms t)
-unfolding held_first in_first ShowsSet ShowsPart ShowsEscape end_byte
+pub first_refines : (n e : Bool) (ms : List Member) (x : EscapeOutcome) (t : EscapeStep) → e ≡ is_empty ms → ShowsEscape x t → ShowsSet (first_outcome n e x) (in_first n ms t)
+unfolding first_outcome in_first ShowsSet ShowsPart ShowsEscape end_byte
 first_refines n e ms (escapes.On f) (EscapeOn g) h s = (refl, h, s)
 first_refines n e ms (escapes.On f) (EscapeRead g) h s = absurd s
 first_refines n e ms (escapes.On f) EscapeWrong h s = absurd s
@@ -53,8 +53,8 @@ first_refines n e ms escapes.Wrong (EscapeOn g) h s = absurd s
 first_refines n e ms escapes.Wrong (EscapeRead g) h s = absurd s
 first_refines n e ms escapes.Wrong EscapeWrong h s = tt
 
-pub last_refines : (n e : Bool) (ms : List Member) (f : ℕ) (end : End) (x : EscapeOutcome) (t : EscapeStep) → e ≡ is_empty ms → f ≡ end_byte end → ShowsEscape x t → ShowsSet (held_last n e f x) (in_last n ms end t)
-unfolding held_last in_last ShowsSet ShowsPart ShowsEscape
+pub last_refines : (n e : Bool) (ms : List Member) (f : ℕ) (end : End) (x : EscapeOutcome) (t : EscapeStep) → e ≡ is_empty ms → f ≡ end_byte end → ShowsEscape x t → ShowsSet (last_outcome n e f x) (in_last n ms end t)
+unfolding last_outcome in_last ShowsSet ShowsPart ShowsEscape
 last_refines n e ms f end (escapes.On g) (EscapeOn k) h r s = (refl, h, (r, s))
 last_refines n e ms f end (escapes.On g) (EscapeRead k) h r s = absurd s
 last_refines n e ms f end (escapes.On g) EscapeWrong h r s = absurd s
@@ -66,15 +66,15 @@ last_refines n e ms f end escapes.Wrong (EscapeRead k) h r s = absurd s
 last_refines n e ms f end escapes.Wrong EscapeWrong h r s = tt
 
 -- what a part of the code shows, by the machine's part
-pub set_refines : (n e : Bool) (p : SetPart) (ms : List Member) (q : Part) (b : ℕ) → e ≡ is_empty ms → ShowsPart p q → ShowsSet (held_set n e p b) (set_step n ms q b)
-unfolding held_set set_step ShowsSet ShowsPart
+pub set_refines : (n e : Bool) (p : SetPart) (ms : List Member) (q : Part) (b : ℕ) → e ≡ is_empty ms → ShowsPart p q → ShowsSet (set_outcome n e p b) (set_step n ms q b)
+unfolding set_outcome set_step ShowsSet ShowsPart
 set_refines n e parts.AtStart ms AtStart b h s = by_both ShowsSet (b == 94) _ _ _ _ (refl, h, tt) (between_refines n e ms b h)
 set_refines n e parts.Between ms Between b h s = between_refines n e ms b h
 set_refines n e (parts.HasEnd x) ms (HasEnd end) b h s = by_both ShowsSet (b == 45) _ _ _ _ (refl, h, s) (between_refines n false (ms ++ Single end ∷ []) b (more_members ms (Single end)))
 set_refines n e (parts.HasDash x) ms (HasDash end) b h s =
     by_both ShowsSet (is_end b) _ _ _ _ (refl, more_members ms (Range end (Itself b)), tt) (by_both ShowsSet (b == 92) _ _ _ _ (refl, h, (s, refl)) tt)
-set_refines n e (parts.InFirst x) ms (InFirst y) b h s = subst (λ (z : Escaping). ShowsSet (held_first n e (held_escape z b)) (in_first n ms (escape_step y b))) (sym s) (first_refines n e ms (held_escape y b) (escape_step y b) h (escape_refines y b))
-set_refines n e (parts.InLast f x) ms (InLast end y) b h s = subst (λ (z : Escaping). ShowsSet (held_last n e f (held_escape z b)) (in_last n ms end (escape_step y b))) (sym s.1) (last_refines n e ms f end (held_escape y b) (escape_step y b) h s.0 (escape_refines y b))
+set_refines n e (parts.InFirst x) ms (InFirst y) b h s = subst (λ (z : Escaping). ShowsSet (first_outcome n e (escape_outcome z b)) (in_first n ms (escape_step y b))) (sym s) (first_refines n e ms (escape_outcome y b) (escape_step y b) h (escape_refines y b))
+set_refines n e (parts.InLast f x) ms (InLast end y) b h s = subst (λ (z : Escaping). ShowsSet (last_outcome n e f (escape_outcome z b)) (in_last n ms end (escape_step y b))) (sym s.1) (last_refines n e ms f end (escape_outcome y b) (escape_step y b) h s.0 (escape_refines y b))
 set_refines n e _ ms _ b h s = absurd s
 
 -- ---- counts
@@ -87,16 +87,16 @@ number_from-more v (e ∷ ds) d = number_from-more (10 * v + (e - 48)) ds d
 pub held_arith : (v x y d : ℕ) → v ≡ min x 1001 → y ≡ 10 * x + d → min (10 * min v 1001 + d) 1001 ≡ min y 1001
 held_arith v x y d e f = omega arith
 
-pub held_more : (v : ℕ) (ds : List ℕ) (d : ℕ) → v ≡ capped (number ds) → held_digit v d ≡ capped (number (ds ++ d ∷ []))
-unfolding held_digit number
+pub held_more : (v : ℕ) (ds : List ℕ) (d : ℕ) → v ≡ capped (number ds) → capped_number v d ≡ capped (number (ds ++ d ∷ []))
+unfolding capped_number number
 held_more v ds d e = held_arith v (number_from 0 ds) (number_from 0 (ds ++ d ∷ [])) (d - 48) e (number_from-more 0 ds d)
 
-pub held_first_digit : (d : ℕ) → held_digit 0 d ≡ capped (number (d ∷ []))
+pub held_first_digit : (d : ℕ) → capped_number 0 d ≡ capped (number (d ∷ []))
 unfolding number number_from
 held_first_digit d = held_more 0 [] d refl
 
-pub count_refines : (x : Count) (c : Counting) (b : ℕ) → ShowsCount x c → ShowsCountStep (held_count x b) (count_step c b)
-unfolding held_count count_step ShowsCount ShowsCountStep low high
+pub count_refines : (x : Count) (c : Counting) (b : ℕ) → ShowsCount x c → ShowsCountStep (count_outcome x b) (count_step c b)
+unfolding count_outcome count_step ShowsCount ShowsCountStep low high
 count_refines counts.Opened Opened b s =
     by_both ShowsCountStep (is_digit b) _ _ _ _ (held_first_digit b) (by_both ShowsCountStep (b == 44) _ _ _ _ tt tt)
 count_refines (counts.Low v) (Low n) b s =

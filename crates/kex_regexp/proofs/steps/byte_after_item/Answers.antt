@@ -1,10 +1,10 @@
 use Rattle.std.proofs.Common.{refl, ◌∷◌, inl, inr}
 use Rattle.kex_regexp.specs.Grammar.{Star, Plus, Quest, Once}
 use Rattle.kex_regexp.specs.Machine.{Read}
-use Rattle.kex_regexp.proofs.Stepping.{memory_steps, to, behind_is, behind_star, behind_plus, behind_quest, behind_brace, behind_other, count_begins_steps, star_low, star_high, plus_low, plus_high, quest_low, quest_high, once_shows, once_ends}
+use Rattle.kex_regexp.proofs.ShownSteps.{memory_steps, to, behind_is, behind_star, behind_plus, behind_quest, behind_brace, behind_other, count_begins_steps, star_low, star_high, plus_low, plus_high, quest_low, quest_high, once_shows, once_ends}
 use Rattle.kex_regexp.proofs.Bounds.{some_once}
 use Rattle.kex_regexp.proofs.Parents.{frame_on, frame_under, later, none_added}
-use Rattle.kex_regexp.proofs.steps.behind.Goals as goal
+use Rattle.kex_regexp.proofs.steps.byte_after_item.Goals as goal
 
 pub returns-then-byte-eq42-clause-step : goal.returns-then-byte-eq42-clause-step
 returns-then-byte-eq42-clause-step c = λ base es i h a x b. to _ base _ _ _ _ (behind_is i es c.args.byte 42 _ c.if-byte-eq42.true (behind_star i es)) (c.turns.ensures.step base es i h a x Star star_low star_high)
