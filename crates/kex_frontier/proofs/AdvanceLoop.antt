@@ -1,4 +1,4 @@
--- What the loop over a tree's knots keeps, knot by knot.
+-- What the loop over a tree's edges keeps, edge by edge.
 use Rattle.std.proofs.Common.{◌≡◌, ℕ, ◌<◌, Bool, List, [], ◌∷◌, ◌++◌, inl, inr, ⊎_elim, Option, Some, None, reverse, map, refl, sym, ap, subst, ◌∙◌, append_assoc, append-nil}
 use Rattle.std.proofs.lemmas.List.{reverse-append, reverse-reverse}
 use Rattle.std.specs.Prelude.{IfSome}
@@ -7,73 +7,73 @@ use Rattle.kex_code.specs.Codes.{IsAmong}
 use Rattle.kex_model.specs.Moves.{Move, accept, read, choose, forced, go}
 use Rattle.kex_model.specs.Labelled.{Labelled, tip, fork, Grown, behind, joined}
 use Rattle.kex_model.proofs.Shapes.{among-append}
-use Rattle.kex_frontier.specs.declared.forest.Twig.{Twig}
-use Rattle.kex_frontier.specs.Knots.{Knot, Wood, as_is, knots_of, HasTrees, top, fronted, merged, IsTipIf, TipsBelow, IsTreeBelow}
-use Rattle.kex_frontier.specs.Twigs.{knot_of, knots_at}
+use Rattle.kex_frontier.specs.declared.forest.TreeEdge.{TreeEdge}
+use Rattle.kex_frontier.specs.Edges.{Edge, Trees, as_is, edges_of, HasTrees, last_tree, with_front, with_fork, IsTipIf, TipsBelow, IsTreeBelow}
+use Rattle.kex_frontier.specs.Views.{edge_of, edges_at}
 use Rattle.kex_machine.specs.Advancing.{both, picked, at_end, accepting}
-use Rattle.kex_frontier.specs.Going.{Advances, ended_by}
+use Rattle.kex_frontier.specs.Going.{Advances, trees_at_end}
 
 pub behind_two : (c d : List Symbol) (a : Option (Grown Symbol ℕ)) → behind c (behind d a) ≡ behind (c ++ d) a
 behind_two c d None = refl
 behind_two c d (Some g) = ap (λ z. Some (record { label = z; tree = g.tree })) (sym (append_assoc c d g.label))
 
--- the knots that a stack of twigs still has, the last first
-abbrev pub left_of : List Twig → List Knot
-left_of ts = knots_at (reverse ts)
+-- the edges that a stack of edges still has, the last first
+abbrev pub left_of : List TreeEdge → List Edge
+left_of ts = edges_at (reverse ts)
 
-pub left_pop : (all rest : List Twig) (t : Twig) → all ≡ rest ++ t ∷ [] → left_of all ≡ knot_of t ∷ left_of rest
-left_pop all rest t e = ap (λ z. left_of z) e ∙ ap (λ z. knots_at z) (reverse-append rest (t ∷ []))
+pub left_pop : (all rest : List TreeEdge) (t : TreeEdge) → all ≡ rest ++ t ∷ [] → left_of all ≡ edge_of t ∷ left_of rest
+left_pop all rest t e = ap (λ z. left_of z) e ∙ ap (λ z. edges_at z) (reverse-append rest (t ∷ []))
 
-pub left_start : (all ts : List Twig) → all ≡ reverse ts → left_of all ≡ knots_at ts
-left_start all ts e = ap (λ z. left_of z) e ∙ ap (λ z. knots_at z) (reverse-reverse ts)
+pub left_start : (all ts : List TreeEdge) → all ≡ reverse ts → left_of all ≡ edges_at ts
+left_start all ts e = ap (λ z. left_of z) e ∙ ap (λ z. edges_at z) (reverse-reverse ts)
 
--- a knot behind trees, the last first: a tip, or a fork of the last two
+-- a edge behind trees, the last first: a tip, or a fork of the last two
 abbrev pub stacked : List Symbol → Option ℕ → List (Grown Symbol ℕ) → Option (List (Grown Symbol ℕ))
 stacked c (Some p) ts = Some (record { label = c; tree = tip p } ∷ ts)
 stacked c None (r ∷ l ∷ ts) = Some (record { label = c; tree = fork l.label l.tree r.label r.tree } ∷ ts)
 stacked c None [] = None
 stacked c None (r ∷ []) = None
 
--- the trees that knots make behind others
-abbrev pub made : Option (List (Grown Symbol ℕ)) → List Knot → Option (List (Grown Symbol ℕ))
+-- the trees that edges make behind others
+abbrev pub made : Option (List (Grown Symbol ℕ)) → List Edge → Option (List (Grown Symbol ℕ))
 made None ks = None
 made (Some ts) [] = Some ts
 made (Some ts) (k ∷ ks) = made (stacked k.label k.at ts) ks
 
-made_knots : (t : Labelled Symbol ℕ) (c : List Symbol) (ts : List (Grown Symbol ℕ)) (rest : List Knot) → made (Some ts) (knots_of t c ++ rest) ≡ made (Some (record { label = c; tree = t } ∷ ts)) rest
-made_knots (tip p) c ts rest = refl
-made_knots (fork x l y r) c ts rest =
-    let k : Knot = record { label = c; at = None } in
-    ap (λ z. made (Some ts) z) (append_assoc (knots_of l x ++ knots_of r y) (k ∷ []) rest ∙ append_assoc (knots_of l x) (knots_of r y) (k ∷ rest))
-    ∙ made_knots l x ts (knots_of r y ++ k ∷ rest)
-    ∙ made_knots r y (record { label = x; tree = l } ∷ ts) (k ∷ rest)
+made_edges : (t : Labelled Symbol ℕ) (c : List Symbol) (ts : List (Grown Symbol ℕ)) (rest : List Edge) → made (Some ts) (edges_of t c ++ rest) ≡ made (Some (record { label = c; tree = t } ∷ ts)) rest
+made_edges (tip p) c ts rest = refl
+made_edges (fork x l y r) c ts rest =
+    let k : Edge = record { label = c; at = None } in
+    ap (λ z. made (Some ts) z) (append_assoc (edges_of l x ++ edges_of r y) (k ∷ []) rest ∙ append_assoc (edges_of l x) (edges_of r y) (k ∷ rest))
+    ∙ made_edges l x ts (edges_of r y ++ k ∷ rest)
+    ∙ made_edges r y (record { label = x; tree = l } ∷ ts) (k ∷ rest)
 
 abbrev pub whole : Labelled Symbol ℕ → Grown Symbol ℕ
 whole t = record { label = []; tree = t }
 
-made_whole : (t : Labelled Symbol ℕ) (ks : List Knot) → ks ≡ knots_of t [] → made (Some []) ks ≡ Some (whole t ∷ [])
-made_whole t ks e = ap (λ z. made (Some []) z) (e ∙ sym (append-nil (knots_of t []))) ∙ made_knots t [] [] []
+made_whole : (t : Labelled Symbol ℕ) (ks : List Edge) → ks ≡ edges_of t [] → made (Some []) ks ≡ Some (whole t ∷ [])
+made_whole t ks e = ap (λ z. made (Some []) z) (e ∙ sym (append-nil (edges_of t []))) ∙ made_edges t [] [] []
 
 -- each tip is below the count
-abbrev pub EachTip : ℕ → List Knot → Type 0
-EachTip m ks = (k : Knot) → IsAmong ks k → IfSome k.at (λ p. p < m)
+abbrev pub EachTip : ℕ → List Edge → Type 0
+EachTip m ks = (k : Edge) → IsAmong ks k → IfSome k.at (λ p. p < m)
 
-tree_tips : (m : ℕ) (t : Labelled Symbol ℕ) (c : List Symbol) → TipsBelow m t → EachTip m (knots_of t c)
+tree_tips : (m : ℕ) (t : Labelled Symbol ℕ) (c : List Symbol) → TipsBelow m t → EachTip m (edges_of t c)
 tree_tips m (tip p) c h k i = ⊎_elim (λ e. subst (λ z. IfSome z.at (λ p. p < m)) e h) (λ k. absurd k) i
 tree_tips m (fork x l y r) c h k i =
     ⊎_elim
-    (λ i. ⊎_elim (λ i. tree_tips m l x h.0 k i) (λ i. tree_tips m r y h.1 k i) (among-append (knots_of l x) (knots_of r y) k i))
+    (λ i. ⊎_elim (λ i. tree_tips m l x h.0 k i) (λ i. tree_tips m r y h.1 k i) (among-append (edges_of l x) (edges_of r y) k i))
     (λ i. ⊎_elim (λ e. subst (λ z. IfSome z.at (λ p. p < m)) e tt) (λ k. absurd k) i)
-    (among-append (knots_of l x ++ knots_of r y) (record { label = c; at = None } ∷ []) k i)
+    (among-append (edges_of l x ++ edges_of r y) (record { label = c; at = None } ∷ []) k i)
 
-pub tips_start : (m : ℕ) (all ts : List Twig) → all ≡ reverse ts → IsTreeBelow m (knots_at ts) → EachTip m (left_of all)
+pub tips_start : (m : ℕ) (all ts : List TreeEdge) → all ≡ reverse ts → IsTreeBelow m (edges_at ts) → EachTip m (left_of all)
 tips_start m all ts e h = subst (λ z. EachTip m z) (sym (left_start all ts e ∙ h.1)) (tree_tips m h.0 [] h.2)
 
-pub tips_left : (m : ℕ) (all rest : List Twig) (t : Twig) → all ≡ rest ++ t ∷ [] → EachTip m (left_of all) → EachTip m (left_of rest)
+pub tips_left : (m : ℕ) (all rest : List TreeEdge) (t : TreeEdge) → all ≡ rest ++ t ∷ [] → EachTip m (left_of all) → EachTip m (left_of rest)
 tips_left m all rest t e h k i = h k (subst (λ z. IsAmong z k) (sym (left_pop all rest t e)) (inr i))
 
-pub tip_first : (m : ℕ) (all rest : List Twig) (t : Twig) → all ≡ rest ++ t ∷ [] → EachTip m (left_of all) → IfSome t.at (λ p. p < m)
-tip_first m all rest t e h = h (knot_of t) (subst (λ z. IsAmong z (knot_of t)) (sym (left_pop all rest t e)) (inl refl))
+pub tip_first : (m : ℕ) (all rest : List TreeEdge) (t : TreeEdge) → all ≡ rest ++ t ∷ [] → EachTip m (left_of all) → IfSome t.at (λ p. p < m)
+tip_first m all rest t e h = h (edge_of t) (subst (λ z. IsAmong z (edge_of t)) (sym (left_pop all rest t e)) (inl refl))
 
 module _ (moves : ℕ → Move ℕ) (b : ℕ) (f0 : List Bool) where
   -- the trees go on one after another, and are behind their labels
@@ -83,18 +83,18 @@ module _ (moves : ℕ → Move ℕ) (b : ℕ) (f0 : List Bool) where
   Steps [] (r ∷ rs) f = ⊥
   Steps (t ∷ ts) [] f = ⊥
 
-  -- with the knots that are left the trees that were made make the whole tree, and the wood has what they go on with
-  pub record Grows (t : Labelled Symbol ℕ) (f : List Bool) (left : List Knot) (wood : Wood) : Type 0 where
+  -- with the edges that are left the trees that were made make the whole tree, and the forest has what they go on with
+  pub record Grows (t : Labelled Symbol ℕ) (f : List Bool) (left : List Edge) (forest : Trees) : Type 0 where
     pub trees : List (Grown Symbol ℕ)
     pub results : List (Option (Grown Symbol ℕ))
     pub makes : made (Some trees) left ≡ Some (whole t ∷ [])
-    pub has : HasTrees as_is wood results
+    pub has : HasTrees as_is forest results
     pub steps : Steps trees results f
 
-  pub grows_start : (t : Labelled Symbol ℕ) (all ts : List Twig) (wood : Wood) → all ≡ reverse ts → HasTrees as_is wood [] → knots_at ts ≡ knots_of t [] → Grows t f0 (left_of all) wood
-  grows_start t all ts wood e has is = record { trees = []; results = []; makes = made_whole t (left_of all) (left_start all ts e ∙ is); has = has; steps = refl }
+  pub grows_start : (t : Labelled Symbol ℕ) (all ts : List TreeEdge) (forest : Trees) → all ≡ reverse ts → HasTrees as_is forest [] → edges_at ts ≡ edges_of t [] → Grows t f0 (left_of all) forest
+  grows_start t all ts forest e has is = record { trees = []; results = []; makes = made_whole t (left_of all) (left_start all ts e ∙ is); has = has; steps = refl }
 
-  pub grows_tip : (t : Labelled Symbol ℕ) (f f' : List Bool) (all rest : List Twig) (x : Twig) (p : ℕ) (old new : Wood) → all ≡ rest ++ x ∷ [] → x.at ≡ Some p → (a : Option (Grown Symbol ℕ)) × Advances moves b f (tip p) a f' × ((rs : List (Option (Grown Symbol ℕ))) → HasTrees as_is old rs → HasTrees as_is new (behind x.label.items a ∷ rs)) → Grows t f (left_of all) old → Grows t f' (left_of rest) new
+  pub grows_tip : (t : Labelled Symbol ℕ) (f f' : List Bool) (all rest : List TreeEdge) (x : TreeEdge) (p : ℕ) (old new : Trees) → all ≡ rest ++ x ∷ [] → x.at ≡ Some p → (a : Option (Grown Symbol ℕ)) × Advances moves b f (tip p) a f' × ((rs : List (Option (Grown Symbol ℕ))) → HasTrees as_is old rs → HasTrees as_is new (behind x.label.items a ∷ rs)) → Grows t f (left_of all) old → Grows t f' (left_of rest) new
   grows_tip t f f' all rest x p old new e at (a, adv, done) h = record {
     trees = record { label = x.label.items; tree = tip p } ∷ h.trees;
     results = behind x.label.items a ∷ h.results;
@@ -103,7 +103,7 @@ module _ (moves : ℕ → Move ℕ) (b : ℕ) (f0 : List Bool) where
     steps = (f, a, h.steps, adv, refl);
   }
 
-  pub grows_fork : (t : Labelled Symbol ℕ) (f : List Bool) (all rest : List Twig) (x : Twig) (old new : Wood) → all ≡ rest ++ x ∷ [] → x.at ≡ None → ((rs : List (Option (Grown Symbol ℕ))) → HasTrees as_is old rs → HasTrees as_is new (fronted x.label.items (merged rs))) → Grows t f (left_of all) old → Grows t f (left_of rest) new
+  pub grows_fork : (t : Labelled Symbol ℕ) (f : List Bool) (all rest : List TreeEdge) (x : TreeEdge) (old new : Trees) → all ≡ rest ++ x ∷ [] → x.at ≡ None → ((rs : List (Option (Grown Symbol ℕ))) → HasTrees as_is old rs → HasTrees as_is new (with_front x.label.items (with_fork rs))) → Grows t f (left_of all) old → Grows t f (left_of rest) new
   grows_fork t f all rest x old new e at done h = by h.trees h.results (ap (λ z. made (stacked x.label.items z h.trees) (left_of rest)) (sym at) ∙ ap (λ z. made (Some h.trees) z) (sym (left_pop all rest x e)) ∙ h.makes) h.has h.steps
     where
       by : (ts : List (Grown Symbol ℕ)) (rs : List (Option (Grown Symbol ℕ))) → made (stacked x.label.items None ts) (left_of rest) ≡ Some (whole t ∷ []) → HasTrees as_is old rs → Steps ts rs f → Grows t f (left_of rest) new
@@ -119,8 +119,8 @@ module _ (moves : ℕ → Move ℕ) (b : ℕ) (f0 : List Bool) where
         steps = (g', joined (behind l.label a') (behind r.label a), s, both adv' adv, ap (λ z. behind x.label.items (joined z r')) is' ∙ ap (λ z. behind x.label.items (joined (behind l.label a') z)) is);
       }
 
-  pub grows_end : (t : Labelled Symbol ℕ) (f : List Bool) (all : List Twig) (wood : Wood) → all ≡ [] → Grows t f (left_of all) wood → (a : Option (Grown Symbol ℕ)) × Advances moves b f0 t a f × HasTrees as_is wood (a ∷ [])
-  grows_end t f all wood e h = by h.trees h.results (ap (λ z. made (Some h.trees) (left_of z)) (sym e) ∙ h.makes) h.has h.steps
+  pub grows_end : (t : Labelled Symbol ℕ) (f : List Bool) (all : List TreeEdge) (forest : Trees) → all ≡ [] → Grows t f (left_of all) forest → (a : Option (Grown Symbol ℕ)) × Advances moves b f0 t a f × HasTrees as_is forest (a ∷ [])
+  grows_end t f all forest e h = by h.trees h.results (ap (λ z. made (Some h.trees) (left_of z)) (sym e) ∙ h.makes) h.has h.steps
     where
       as_it_is : (a : Option (Grown Symbol ℕ)) → behind [] a ≡ a
       as_it_is None = refl
@@ -129,12 +129,12 @@ module _ (moves : ℕ → Move ℕ) (b : ℕ) (f0 : List Bool) where
       one : (ts : List (Grown Symbol ℕ)) → Some ts ≡ Some (whole t ∷ []) → ts ≡ whole t ∷ []
       one ts e = cc
 
-      of_one : (rs : List (Option (Grown Symbol ℕ))) → HasTrees as_is wood rs → Steps (whole t ∷ []) rs f → (a : Option (Grown Symbol ℕ)) × Advances moves b f0 t a f × HasTrees as_is wood (a ∷ [])
+      of_one : (rs : List (Option (Grown Symbol ℕ))) → HasTrees as_is forest rs → Steps (whole t ∷ []) rs f → (a : Option (Grown Symbol ℕ)) × Advances moves b f0 t a f × HasTrees as_is forest (a ∷ [])
       of_one [] has s = absurd s
-      of_one (r ∷ []) has (g, a, s, adv, is) = (a, subst (λ z. Advances moves b z t a f) (sym s) adv, subst (λ z. HasTrees as_is wood (z ∷ [])) (is ∙ as_it_is a) has)
+      of_one (r ∷ []) has (g, a, s, adv, is) = (a, subst (λ z. Advances moves b z t a f) (sym s) adv, subst (λ z. HasTrees as_is forest (z ∷ [])) (is ∙ as_it_is a) has)
       of_one (r ∷ r' ∷ rs) has (g, a, s, adv, is) = absurd s
 
-      by : (ts : List (Grown Symbol ℕ)) (rs : List (Option (Grown Symbol ℕ))) → Some ts ≡ Some (whole t ∷ []) → HasTrees as_is wood rs → Steps ts rs f → (a : Option (Grown Symbol ℕ)) × Advances moves b f0 t a f × HasTrees as_is wood (a ∷ [])
+      by : (ts : List (Grown Symbol ℕ)) (rs : List (Option (Grown Symbol ℕ))) → Some ts ≡ Some (whole t ∷ []) → HasTrees as_is forest rs → Steps ts rs f → (a : Option (Grown Symbol ℕ)) × Advances moves b f0 t a f × HasTrees as_is forest (a ∷ [])
       by ts rs m has s = of_one rs has (subst (λ z. Steps z rs f) (one ts m) s)
 
 module _ (moves : ℕ → Move ℕ) where
@@ -161,29 +161,29 @@ module _ (moves : ℕ → Move ℕ) where
   accepting_tip (tip p) = end_tip (moves p) p
   accepting_tip (fork x l y r) = picked_tip (behind x (accepting moves l)) (behind y (accepting moves r)) (behind_tip x (accepting moves l) (accepting_tip l)) (behind_tip y (accepting moves r) (accepting_tip r))
 
-  pub record Ends (t : Labelled Symbol ℕ) (left : List Knot) (wood : Wood) : Type 0 where
+  pub record Ends (t : Labelled Symbol ℕ) (left : List Edge) (forest : Trees) : Type 0 where
     pub trees : List (Grown Symbol ℕ)
     pub makes : made (Some trees) left ≡ Some (whole t ∷ [])
-    pub has : HasTrees as_is wood (map found_in trees)
+    pub has : HasTrees as_is forest (map found_in trees)
 
-  pub ends_start : (t : Labelled Symbol ℕ) (all ts : List Twig) (wood : Wood) → all ≡ reverse ts → HasTrees as_is wood [] → knots_at ts ≡ knots_of t [] → Ends t (left_of all) wood
-  ends_start t all ts wood e has is = record { trees = []; makes = made_whole t (left_of all) (left_start all ts e ∙ is); has = has }
+  pub ends_start : (t : Labelled Symbol ℕ) (all ts : List TreeEdge) (forest : Trees) → all ≡ reverse ts → HasTrees as_is forest [] → edges_at ts ≡ edges_of t [] → Ends t (left_of all) forest
+  ends_start t all ts forest e has is = record { trees = []; makes = made_whole t (left_of all) (left_start all ts e ∙ is); has = has }
 
-  pub ends_knot : (t : Labelled Symbol ℕ) (all rest : List Twig) (x : Twig) (old mid new : Wood) → all ≡ rest ++ x ∷ [] → ((rs : List (Option (Grown Symbol ℕ))) → IsTipIf (top rs) → HasTrees as_is old rs → HasTrees as_is mid (ended_by moves x.at rs)) → ((rs : List (Option (Grown Symbol ℕ))) → HasTrees as_is mid rs → HasTrees as_is new (fronted x.label.items rs)) → Ends t (left_of all) old → Ends t (left_of rest) new
-  ends_knot t all rest x old mid new e done done' h = by x.at h.trees (ap (λ z. made (Some h.trees) z) (sym (left_pop all rest x e)) ∙ h.makes) h.has done
+  pub ends_edge : (t : Labelled Symbol ℕ) (all rest : List TreeEdge) (x : TreeEdge) (old mid new : Trees) → all ≡ rest ++ x ∷ [] → ((rs : List (Option (Grown Symbol ℕ))) → IsTipIf (last_tree rs) → HasTrees as_is old rs → HasTrees as_is mid (trees_at_end moves x.at rs)) → ((rs : List (Option (Grown Symbol ℕ))) → HasTrees as_is mid rs → HasTrees as_is new (with_front x.label.items rs)) → Ends t (left_of all) old → Ends t (left_of rest) new
+  ends_edge t all rest x old mid new e done done' h = by x.at h.trees (ap (λ z. made (Some h.trees) z) (sym (left_pop all rest x e)) ∙ h.makes) h.has done
     where
-      first_tip : (ts : List (Grown Symbol ℕ)) → IsTipIf (top (map found_in ts))
+      first_tip : (ts : List (Grown Symbol ℕ)) → IsTipIf (last_tree (map found_in ts))
       first_tip [] = tt
       first_tip (t ∷ ts) = behind_tip t.label (accepting moves t.tree) (accepting_tip t.tree)
 
-      by : (at : Option ℕ) (ts : List (Grown Symbol ℕ)) → made (stacked x.label.items at ts) (left_of rest) ≡ Some (whole t ∷ []) → HasTrees as_is old (map found_in ts) → ((rs : List (Option (Grown Symbol ℕ))) → IsTipIf (top rs) → HasTrees as_is old rs → HasTrees as_is mid (ended_by moves at rs)) → Ends t (left_of rest) new
+      by : (at : Option ℕ) (ts : List (Grown Symbol ℕ)) → made (stacked x.label.items at ts) (left_of rest) ≡ Some (whole t ∷ []) → HasTrees as_is old (map found_in ts) → ((rs : List (Option (Grown Symbol ℕ))) → IsTipIf (last_tree rs) → HasTrees as_is old rs → HasTrees as_is mid (trees_at_end moves at rs)) → Ends t (left_of rest) new
       by (Some p) ts m has done = record { trees = record { label = x.label.items; tree = tip p } ∷ ts; makes = m; has = done' (at_end (moves p) p ∷ map found_in ts) (done (map found_in ts) (first_tip ts) has) }
       by None [] m has done = cc
       by None (r ∷ []) m has done = cc
       by None (r ∷ l ∷ ts) m has done = record { trees = record { label = x.label.items; tree = fork l.label l.tree r.label r.tree } ∷ ts; makes = m; has = done' (picked (found_in l) (found_in r) ∷ map found_in ts) (done (found_in r ∷ found_in l ∷ map found_in ts) (first_tip (r ∷ ts)) has) }
 
-  pub ends_end : (t : Labelled Symbol ℕ) (all : List Twig) (wood : Wood) → all ≡ [] → Ends t (left_of all) wood → HasTrees as_is wood (accepting moves t ∷ [])
-  ends_end t all wood e h = subst (λ z. HasTrees as_is wood z) (ap (λ z. map found_in z) (one h.trees (ap (λ z. made (Some h.trees) (left_of z)) (sym e) ∙ h.makes)) ∙ ap (λ z. z ∷ []) (as_it_is (accepting moves t))) h.has
+  pub ends_end : (t : Labelled Symbol ℕ) (all : List TreeEdge) (forest : Trees) → all ≡ [] → Ends t (left_of all) forest → HasTrees as_is forest (accepting moves t ∷ [])
+  ends_end t all forest e h = subst (λ z. HasTrees as_is forest z) (ap (λ z. map found_in z) (one h.trees (ap (λ z. made (Some h.trees) (left_of z)) (sym e) ∙ h.makes)) ∙ ap (λ z. z ∷ []) (as_it_is (accepting moves t))) h.has
     where
       as_it_is : (a : Option (Grown Symbol ℕ)) → behind [] a ≡ a
       as_it_is None = refl

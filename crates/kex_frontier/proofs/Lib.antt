@@ -1,7 +1,7 @@
-pub mod Woods
-pub mod Walking
-pub mod Growing
-pub mod Feeding
+pub mod Forests
+pub mod VisitLoop
+pub mod AdvanceLoop
+pub mod FedTexts
 pub mod Bits
 pub mod Closures
 pub mod Steps

@@ -5,28 +5,28 @@ use Rattle.kex_model.specs.Labelled.{Labelled}
 use Rattle.kex_model.specs.Survivors.{HasTree}
 use Rattle.kex_machine.specs.Nodes.{Graph, node_moves, IsTrimmed}
 use Rattle.kex_machine.specs.Answers.{Viable, HasParse, IsSaid, IsGreedy}
-use Rattle.kex_frontier.specs.Knots.{Knot, knots_of, IsKept}
+use Rattle.kex_frontier.specs.Edges.{Edge, edges_of, IsKept}
 use Rattle.kex_frontier.specs.declared.frontier.Fed.{Fed}
 use Rattle.kex_frontier.specs.declared.frontier.Fed.TheVariants.{On, Dead}
 use Rattle.kex_frontier.specs.declared.frontier.Ended.{Ended}
 use Rattle.kex_frontier.specs.declared.frontier.Ended.TheVariants.{Parsed, Cut}
 
--- a frontier: its machine, what is agreed and wasn't taken, the knots of the survivors' tree, whether the end was given,
+-- a frontier: its machine, what is agreed and wasn't taken, the edges of the survivors' tree, whether the end was given,
 -- and whether no call has answered want of memory
 pub record Front : Type 0 where
   pub machine : Graph
   pub untaken : List Symbol
-  pub knots : List Knot
+  pub edges : List Edge
   pub ended : Bool
   pub usable : Bool
 
 -- the frontier has the tree of w
 abbrev pub IsLive : Front → List ℕ → List Symbol → Type 0
-IsLive f w taken = (t : Labelled Symbol ℕ) × HasTree (node_moves f.machine.nodes) f.machine.start w (taken ++ f.untaken) t × (f.knots ≡ knots_of t [])
+IsLive f w taken = (t : Labelled Symbol ℕ) × HasTree (node_moves f.machine.nodes) f.machine.start w (taken ++ f.untaken) t × (f.edges ≡ edges_of t [])
 
 -- w isn't viable, and no tree is left
 abbrev pub IsDead : Front → List ℕ → List Symbol → Type 0
-IsDead f w taken = (¬ Viable f.machine w) × IsSaid f.machine w (taken ++ f.untaken) × (f.knots ≡ [])
+IsDead f w taken = (¬ Viable f.machine w) × IsSaid f.machine w (taken ++ f.untaken) × (f.edges ≡ [])
 
 -- the frontier was fed w, and these symbols were taken
 abbrev pub IsFed : Front → List ℕ → List Symbol → Type 0
@@ -50,7 +50,7 @@ abbrev pub end_of : Bool → Ended
 end_of true = Parsed
 end_of false = Cut
 
--- the machine is trimmed; while the frontier is usable, its knots and marks are those of a tree of the machine's places
-pub record IsSound (g : Graph) (knots : List Knot) (marks : List Bool) (usable : Bool) : Type 0 where
+-- the machine is trimmed; while the frontier is usable, its edges and marks are those of a tree of the machine's places
+pub record IsSound (g : Graph) (edges : List Edge) (marks : List Bool) (usable : Bool) : Type 0 where
   pub trimmed : IsTrimmed g
-  pub kept : usable ≡ true → IsKept (length g.nodes) knots marks
+  pub kept : usable ≡ true → IsKept (length g.nodes) edges marks

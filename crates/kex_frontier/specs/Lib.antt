@@ -1,7 +1,7 @@
 pub mod Frontiers
-pub mod Knots
+pub mod Edges
 pub mod Going
-pub mod Twigs
-pub mod Jobs
+pub mod Views
+pub mod Tasks
 pub mod Matchers
 pub mod Rows

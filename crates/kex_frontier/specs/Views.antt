@@ -1,10 +1,10 @@
--- Knots as the code has them.
+-- Edges as the code has them.
 use Rattle.std.specs.Prelude.{List, map}
-use Rattle.kex_frontier.specs.Knots.{Knot}
-use Rattle.kex_frontier.specs.declared.forest.Twig.{Twig}
+use Rattle.kex_frontier.specs.Edges.{Edge}
+use Rattle.kex_frontier.specs.declared.forest.TreeEdge.{TreeEdge}
 
-abbrev pub knot_of : Twig → Knot
-knot_of t = record { label = t.label.items; at = t.at }
+abbrev pub edge_of : TreeEdge → Edge
+edge_of t = record { label = t.label.items; at = t.at }
 
-abbrev pub knots_at : List Twig → List Knot
-knots_at ts = map knot_of ts
+abbrev pub edges_at : List TreeEdge → List Edge
+edges_at ts = map edge_of ts

@@ -1,10 +1,10 @@
-// Trees side by side, as lists of their knots.
+// Trees side by side, as lists of their edges.
 
 ghost use Rattle.std.specs.Prelude.{◌≡◌, ℕ, List, [], ◌∷◌, ◌++◌, Some, None, Option, OnOk, IfOk, IfNone, reverse, get_or, drop, map, option_to_list, false};
 ghost use Rattle.kex_code.specs.declared.symbol.Symbol.{Symbol};
 ghost use Rattle.kex_model.specs.Labelled.{Grown, tip, behind};
-ghost use Rattle.kex_frontier.specs.Knots.{HasTrees, as_is, no_wood, top, fronted, merged, chosen, IsTipIf, fork_if, is_there, label_if, bare_if, turned};
-ghost use Rattle.kex_frontier.specs.Twigs.{knot_of, knots_at};
+ghost use Rattle.kex_frontier.specs.Edges.{HasTrees, as_is, no_trees, last_tree, with_front, with_fork, with_first, IsTipIf, fork_if, is_there, root_label, bare_edges, with_label_turned};
+ghost use Rattle.kex_frontier.specs.Views.{edge_of, edges_at};
 
 use kex_code::code::Code;
 use kex_code::memory::Memory;
@@ -13,29 +13,29 @@ use std::alloc::Global;
 use std::marker::Model;
 use std::mem;
 
-/// A knot of a tree: the label of the edge to it, and its place if it is a tip.
+/// A edge of a tree: the label of the edge to it, and its place if it is a tip.
 #[derive(Drop)]
-pub struct Twig {
+pub struct TreeEdge {
     pub label: Vec<Symbol>,
     pub at: Option<u32>,
 }
 
-/// Trees side by side, of which each may be gone: all their knots in postorder, and which of them are there.
+/// Trees side by side, of which each may be gone: all their edges in postorder, and which of them are there.
 #[derive(Drop)]
 pub struct Forest {
-    twigs: Vec<Twig>,
+    edges: Vec<TreeEdge>,
     there: Vec<bool>,
 }
 
 impl Model for Forest {
     ghost use Rattle.std.specs.Prelude.{map, reverse};
-    ghost use Rattle.kex_frontier.specs.Knots.{Wood};
+    ghost use Rattle.kex_frontier.specs.Edges.{Trees};
 
-    ghost Value = { Wood };
+    ghost Value = { Trees };
 
-    ghost use Rattle.kex_frontier.specs.Twigs.{knot_of};
+    ghost use Rattle.kex_frontier.specs.Views.{edge_of};
 
-    ghost view = { λ f. record { knots = map knot_of f.twigs.items; there = reverse f.there.items } };
+    ghost view = { λ f. record { edges = map edge_of f.edges.items; there = reverse f.there.items } };
 }
 
 // The longest label whose room is kept.
@@ -81,19 +81,19 @@ impl Spare {
 impl Forest {
     /// No trees.
     pub fn new(alloc: Global) -> Forest
-        ensures { result ≡ no_wood }
+        ensures { result ≡ no_trees }
     {
         Forest {
-            twigs: Vec::new(alloc),
+            edges: Vec::new(alloc),
             there: Vec::new(alloc),
         }
     }
 
     /// Takes all trees away.
     pub fn clear(&mut self)
-        ensures { self.new ≡ no_wood }
+        ensures { self.new ≡ no_trees }
     {
-        self.twigs.clear();
+        self.edges.clear();
         self.there.clear();
     }
 
@@ -104,47 +104,47 @@ impl Forest {
         self.there.last().copied().unwrap_or(false)
     }
 
-    // The same of a tree that is taken away; its knots stay.
+    // The same of a tree that is taken away; its edges stay.
     fn pop_there(&mut self) -> bool
         ensures last { result ≡ get_or self.old.there 0 false }
         ensures others { self.new.there ≡ drop 1 self.old.there }
-        ensures same { self.new.knots ≡ self.old.knots }
+        ensures same { self.new.edges ≡ self.old.edges }
     {
         self.there.pop().unwrap_or(false)
     }
 
     fn push_there(&mut self, there: bool) -> Result<(), Memory>
         ensures there { OnOk result (self.new.there ≡ there ∷ self.old.there) }
-        ensures same { OnOk result (self.new.knots ≡ self.old.knots) }
+        ensures same { OnOk result (self.new.edges ≡ self.old.edges) }
     {
         self.there.push(there)?;
         Ok(())
     }
 
-    fn push_twig(&mut self, twig: Twig) -> Result<(), Memory>
-        ensures knots { OnOk result (self.new.knots ≡ self.old.knots ++ knot_of twig ∷ []) }
+    fn push_edge(&mut self, edge: TreeEdge) -> Result<(), Memory>
+        ensures edges { OnOk result (self.new.edges ≡ self.old.edges ++ edge_of edge ∷ []) }
         ensures same { OnOk result (self.new.there ≡ self.old.there) }
     {
-        self.twigs.push(twig)?;
+        self.edges.push(edge)?;
         Ok(())
     }
 
-    fn pop_twig(&mut self) -> Option<Twig>
-        ensures knots { self.old.knots ≡ self.new.knots ++ map knot_of (option_to_list result) }
-        ensures none { IfNone result (self.old.knots ≡ []) }
+    fn pop_edge(&mut self) -> Option<TreeEdge>
+        ensures edges { self.old.edges ≡ self.new.edges ++ map edge_of (option_to_list result) }
+        ensures none { IfNone result (self.old.edges ≡ []) }
         ensures same { self.new.there ≡ self.old.there }
     {
-        self.twigs.pop()
+        self.edges.pop()
     }
 
-    // A fork's knot behind its sides, if both of them are there.
+    // A fork's edge behind its sides, if both of them are there.
     fn add_fork_if(&mut self, both: bool, spare: &mut Spare) -> Result<(), Memory>
-        ensures knots { OnOk result (self.new.knots ≡ self.old.knots ++ fork_if both) }
+        ensures edges { OnOk result (self.new.edges ≡ self.old.edges ++ fork_if both) }
         ensures same { OnOk result (self.new.there ≡ self.old.there) }
     {
         if both {
             let label = spare.take();
-            return self.push_twig(Twig { label, at: None });
+            return self.push_edge(TreeEdge { label, at: None });
         }
         Ok(())
     }
@@ -162,13 +162,13 @@ impl Forest {
     {
         let label = spare.take();
         let at = Some(place);
-        self.push_twig(Twig { label, at })?;
+        self.push_edge(TreeEdge { label, at })?;
         self.push_there(true)
     }
 
     /// The last two trees as the sides of a fork; of one that is gone no fork is left.
     pub fn merge(&mut self, spare: &mut Spare) -> Result<(), Memory>
-        ensures { OnOk result ((h : List Symbol → List Symbol) (rs : List (Option (Grown Symbol ℕ))) → h [] ≡ [] → HasTrees h self.old rs → HasTrees h self.new (merged rs)) }
+        ensures { OnOk result ((h : List Symbol → List Symbol) (rs : List (Option (Grown Symbol ℕ))) → h [] ≡ [] → HasTrees h self.old rs → HasTrees h self.new (with_fork rs)) }
     {
         let right = self.pop_there();
         let left = self.pop_there();
@@ -178,12 +178,12 @@ impl Forest {
 
     /// Of the last two trees, which are tips, the first that is there.
     pub fn choose(&mut self) -> Result<(), Memory>
-        ensures { OnOk result ((rs : List (Option (Grown Symbol ℕ))) → IsTipIf (top rs) → HasTrees as_is self.old rs → HasTrees as_is self.new (chosen rs)) }
+        ensures { OnOk result ((rs : List (Option (Grown Symbol ℕ))) → IsTipIf (last_tree rs) → HasTrees as_is self.old rs → HasTrees as_is self.new (with_first rs)) }
     {
         let right = self.pop_there();
         if self.is_last_there() {
             if right {
-                let _ = self.pop_twig();
+                let _ = self.pop_edge();
             }
             return Ok(());
         }
@@ -193,12 +193,12 @@ impl Forest {
 
     /// A symbol in front of the last tree, where labels are turned.
     pub fn put_symbol(&mut self, symbol: Symbol) -> Result<(), Memory>
-        ensures { OnOk result ((rs : List (Option (Grown Symbol ℕ))) → HasTrees reverse self.old rs → HasTrees reverse self.new (fronted (symbol ∷ []) rs)) }
+        ensures { OnOk result ((rs : List (Option (Grown Symbol ℕ))) → HasTrees reverse self.old rs → HasTrees reverse self.new (with_front (symbol ∷ []) rs)) }
     {
         if self.is_last_there() {
-            if let Some(mut twig) = self.pop_twig() {
-                twig.label.push(symbol)?;
-                self.push_twig(twig)?;
+            if let Some(mut edge) = self.pop_edge() {
+                edge.label.push(symbol)?;
+                self.push_edge(edge)?;
                 return Ok(());
             }
         }
@@ -208,14 +208,14 @@ impl Forest {
     /// A label in front of the last tree. What stands in front of it already is put behind the label: of two labels that
     /// a fork has parted the one below is copied, which is as long as the fork has lived.
     pub fn put_label(&mut self, label: Vec<Symbol>, spare: &mut Spare) -> Result<(), Memory>
-        ensures { OnOk result ((rs : List (Option (Grown Symbol ℕ))) → HasTrees as_is self.old rs → HasTrees as_is self.new (fronted label.items rs)) }
+        ensures { OnOk result ((rs : List (Option (Grown Symbol ℕ))) → HasTrees as_is self.old rs → HasTrees as_is self.new (with_front label.items rs)) }
     {
         if self.is_last_there() {
-            if let Some(twig) = self.pop_twig() {
+            if let Some(edge) = self.pop_edge() {
                 let mut label = label;
-                label.extend_from_slice(&twig.label)?;
-                spare.give(twig.label);
-                self.push_twig(Twig { label, at: twig.at })?;
+                label.extend_from_slice(&edge.label)?;
+                spare.give(edge.label);
+                self.push_edge(TreeEdge { label, at: edge.at })?;
                 return Ok(());
             }
         }
@@ -239,26 +239,26 @@ impl Forest {
     }
 
     fn move_turned(&mut self, fresh: &mut Forest) -> Result<(), Memory>
-        ensures knots { OnOk result (self.new.knots ≡ self.old.knots ++ map turned fresh.old.knots) }
+        ensures edges { OnOk result (self.new.edges ≡ self.old.edges ++ map with_label_turned fresh.old.edges) }
         ensures same { OnOk result (self.new.there ≡ self.old.there) }
     {
-        move_turned(&mut fresh.twigs, &mut self.twigs)
+        move_turned(&mut fresh.edges, &mut self.edges)
     }
 
     /// The only tree is moved to `tree`, but for its root's label, which goes to the end of `code`. Tells whether it is
     /// there.
-    pub fn settle(&mut self, tree: &mut Vec<Twig>, code: &mut Code) -> Result<bool, Memory>
+    pub fn settle(&mut self, tree: &mut Vec<TreeEdge>, code: &mut Code) -> Result<bool, Memory>
         ensures there { IfOk result (λ there. (r : Option (Grown Symbol ℕ)) → HasTrees as_is self.old (r ∷ []) → there ≡ is_there r) }
-        ensures code { OnOk result ((r : Option (Grown Symbol ℕ)) → HasTrees as_is self.old (r ∷ []) → code.new ≡ code.old ++ label_if r) }
-        ensures tree { OnOk result ((r : Option (Grown Symbol ℕ)) → HasTrees as_is self.old (r ∷ []) → knots_at tree.new.items ≡ bare_if r) }
+        ensures code { OnOk result ((r : Option (Grown Symbol ℕ)) → HasTrees as_is self.old (r ∷ []) → code.new ≡ code.old ++ root_label r) }
+        ensures tree { OnOk result ((r : Option (Grown Symbol ℕ)) → HasTrees as_is self.old (r ∷ []) → edges_at tree.new.items ≡ bare_edges r) }
     {
         tree.clear();
         if self.is_last_there() {
-            if let Some(mut twig) = self.pop_twig() {
-                code.append(&twig.label)?;
-                twig.label.clear();
-                self.push_twig(twig)?;
-                mem::swap(&mut self.twigs, tree);
+            if let Some(mut edge) = self.pop_edge() {
+                code.append(&edge.label)?;
+                edge.label.clear();
+                self.push_edge(edge)?;
+                mem::swap(&mut self.edges, tree);
                 return Ok(true);
             }
         }
@@ -267,13 +267,13 @@ impl Forest {
 }
 
 // Knots go to the end of others, with their labels turned.
-fn move_turned(from: &mut Vec<Twig>, to: &mut Vec<Twig>) -> Result<(), Memory>
-    ensures { OnOk result (knots_at to.new.items ≡ knots_at to.old.items ++ map turned (knots_at from.old.items)) }
+fn move_turned(from: &mut Vec<TreeEdge>, to: &mut Vec<TreeEdge>) -> Result<(), Memory>
+    ensures { OnOk result (edges_at to.new.items ≡ edges_at to.old.items ++ map with_label_turned (edges_at from.old.items)) }
 {
     from.reverse();
-    while let Some(mut twig) = from.pop() {
-        twig.label.reverse();
-        to.push(twig)?;
+    while let Some(mut edge) = from.pop() {
+        edge.label.reverse();
+        to.push(edge)?;
     }
     Ok(())
 }

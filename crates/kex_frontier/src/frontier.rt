@@ -4,15 +4,15 @@ ghost use Rattle.std.specs.Prelude.{◌≡◌, ℕ, ◌++◌, ◌∷◌, [], Lis
 ghost use Rattle.kex_code.specs.declared.symbol.Symbol.{Symbol};
 ghost use Rattle.kex_model.specs.Labelled.{Labelled};
 ghost use Rattle.kex_machine.specs.Nodes.{node_moves, StaysWithin};
-ghost use Rattle.kex_frontier.specs.Knots.{knots_of, IsTreeBelow};
-ghost use Rattle.kex_frontier.specs.Twigs.{knots_at};
+ghost use Rattle.kex_frontier.specs.Edges.{edges_of, IsTreeBelow};
+ghost use Rattle.kex_frontier.specs.Views.{edges_at};
 ghost use Rattle.kex_frontier.specs.Going.{WentOn};
 ghost use Rattle.kex_machine.specs.Answers.{IsSaid};
 ghost use Rattle.kex_frontier.specs.Frontiers.{IsFed, IsFedBy, IsOver, answer_of, end_of};
 
-use crate::forest::{Forest, Twig};
+use crate::forest::{Forest, TreeEdge};
 use crate::grow::{accept, advance};
-use crate::visit::{Bench, walk};
+use crate::visit::{Tools, walk};
 use kex_code::code::Code;
 use kex_code::memory::Memory;
 use kex_machine::{MNode, Trimmed};
@@ -39,23 +39,23 @@ pub enum Ended {
 pub struct Frontier<'m> {
     alloc: Global,
     machine: &'m Trimmed,
-    tree: Vec<Twig>,
+    tree: Vec<TreeEdge>,
     grown: Forest,
-    bench: Bench,
+    tools: Tools,
     untaken: Code,
     ended: bool,
     usable: bool,
 }
 
 impl<'m> Model for Frontier<'m> {
-    ghost use Rattle.kex_frontier.specs.Twigs.{knots_at};
+    ghost use Rattle.kex_frontier.specs.Views.{edges_at};
     ghost use Rattle.kex_frontier.specs.Frontiers.{Front, IsSound};
 
     ghost Value = { Front };
 
-    ghost view = { λ f. record { machine = f.machine.now; untaken = f.untaken; knots = knots_at f.tree.items; ended = f.ended; usable = f.usable } };
+    ghost view = { λ f. record { machine = f.machine.now; untaken = f.untaken; edges = edges_at f.tree.items; ended = f.ended; usable = f.usable } };
 
-    ghost invariant = { λ f. IsSound f.machine.now (knots_at f.tree.items) f.bench.marks f.usable };
+    ghost invariant = { λ f. IsSound f.machine.now (edges_at f.tree.items) f.tools.marks f.usable };
 }
 
 fn answer_of(on: bool) -> Fed
@@ -73,20 +73,20 @@ fn end_of(parsed: bool) -> Ended
 // A tree goes on with a byte; its root's label goes to the end of `code`. Tells whether a tree is left.
 fn go_on(
     nodes: &[MNode],
-    tree: &mut Vec<Twig>,
+    tree: &mut Vec<TreeEdge>,
     byte: u8,
     grown: &mut Forest,
-    bench: &mut Bench,
+    tools: &mut Tools,
     code: &mut Code,
 ) -> Result<bool, Memory>
     requires range { StaysWithin nodes.now }
-    requires tree { IsTreeBelow (length nodes.now) (knots_at tree.old.items) }
-    requires long { length bench.old.marks ≡ length nodes.now }
-    ensures went { IfOk result (λ there. (t : Labelled Symbol ℕ) → knots_at tree.old.items ≡ knots_of t [] → WentOn (node_moves nodes.now) byte (length nodes.now) t there code.old code.new (knots_at tree.new.items)) }
-    ensures long { OnOk result (length bench.new.marks ≡ length nodes.now) }
+    requires tree { IsTreeBelow (length nodes.now) (edges_at tree.old.items) }
+    requires long { length tools.old.marks ≡ length nodes.now }
+    ensures went { IfOk result (λ there. (t : Labelled Symbol ℕ) → edges_at tree.old.items ≡ edges_of t [] → WentOn (node_moves nodes.now) byte (length nodes.now) t there code.old code.new (edges_at tree.new.items)) }
+    ensures long { OnOk result (length tools.new.marks ≡ length nodes.now) }
 {
-    bench.marks.clear();
-    advance(nodes, tree, byte, grown, bench)?;
+    tools.marks.clear();
+    advance(nodes, tree, byte, grown, tools)?;
     grown.settle(tree, code)
 }
 
@@ -99,20 +99,20 @@ impl<'m> Frontier<'m> {
     {
         let nodes = machine.machine().nodes();
         let start = machine.machine().start();
-        let mut bench = Bench::new(alloc, nodes.len())?;
+        let mut tools = Tools::new(alloc, nodes.len())?;
         let mut grown = Forest::new(alloc);
         let mut tree = Vec::new(alloc);
         let mut untaken = Code::new(alloc);
-        walk(nodes, start, &mut bench)?;
-        let label = bench.spare.take();
-        grown.graft(&mut bench.fresh, label, &mut bench.spare)?;
+        walk(nodes, start, &mut tools)?;
+        let label = tools.spare.take();
+        grown.graft(&mut tools.fresh, label, &mut tools.spare)?;
         let _ = grown.settle(&mut tree, &mut untaken)?;
         Ok(Frontier {
             alloc,
             machine,
             tree,
             grown,
-            bench,
+            tools,
             untaken,
             ended: false,
             usable: true,
@@ -140,7 +140,7 @@ impl<'m> Frontier<'m> {
             &mut self.tree,
             byte,
             &mut self.grown,
-            &mut self.bench,
+            &mut self.tools,
             &mut self.untaken,
         )?;
         self.usable = true;
@@ -166,7 +166,7 @@ impl<'m> Frontier<'m> {
             nodes,
             &mut self.tree,
             &mut self.grown,
-            &mut self.bench.spare,
+            &mut self.tools.spare,
         )?;
         let parsed = self.grown.settle(&mut self.tree, &mut self.untaken)?;
         self.tree.clear();
@@ -180,7 +180,7 @@ impl<'m> Frontier<'m> {
         ensures value { result ≡ self.old.untaken }
         ensures fed { (w : List ℕ) (taken : List Symbol) → IsFed self.old w taken → IsFed self.new w (taken ++ result) × IsSaid self.old.machine w (taken ++ result) }
         ensures over { (answer : Ended) (w : List ℕ) (taken : List Symbol) → IsOver answer self.old w taken → IsOver answer self.new w (taken ++ result) }
-        ensures after { self.new ≡ record { machine = self.old.machine; untaken = []; knots = self.old.knots; ended = self.old.ended; usable = self.old.usable } }
+        ensures after { self.new ≡ record { machine = self.old.machine; untaken = []; edges = self.old.edges; ended = self.old.ended; usable = self.old.usable } }
     {
         mem::replace(&mut self.untaken, Code::new(self.alloc))
     }

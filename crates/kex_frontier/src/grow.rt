@@ -5,14 +5,14 @@ ghost use Rattle.kex_code.specs.declared.symbol.Symbol.{Symbol};
 ghost use Rattle.kex_model.specs.Labelled.{Labelled, Grown, tip, behind};
 ghost use Rattle.kex_model.specs.Moves.{Allows, took};
 ghost use Rattle.kex_machine.specs.Nodes.{node_moves};
-ghost use Rattle.kex_frontier.specs.Knots.{HasTrees, as_is, knots_of, top, IsTipIf, IsTreeBelow, is_there, label_if, bare_if};
-ghost use Rattle.kex_frontier.specs.Twigs.{knots_at};
+ghost use Rattle.kex_frontier.specs.Edges.{HasTrees, as_is, edges_of, last_tree, IsTipIf, IsTreeBelow, is_there, root_label, bare_edges};
+ghost use Rattle.kex_frontier.specs.Views.{edges_at};
 ghost use Rattle.kex_machine.specs.Advancing.{accepting};
-ghost use Rattle.kex_frontier.specs.Going.{Advances, ended_by};
+ghost use Rattle.kex_frontier.specs.Going.{Advances, trees_at_end};
 ghost use Rattle.kex_machine.specs.Nodes.{StaysWithin};
 
-use crate::forest::{Forest, Spare, Twig};
-use crate::visit::{Bench, node_at, walk};
+use crate::forest::{Forest, Spare, TreeEdge};
+use crate::visit::{Tools, node_at, walk};
 use kex_code::memory::Memory;
 use kex_code::symbol::Symbol;
 use kex_machine::MNode;
@@ -35,22 +35,22 @@ fn advance_tip(
     label: Vec<Symbol>,
     byte: u8,
     grown: &mut Forest,
-    bench: &mut Bench,
+    tools: &mut Tools,
 ) -> Result<(), Memory>
     requires range { StaysWithin nodes.now }
     requires below { place < length nodes.now }
-    requires long { length bench.old.marks ≡ length nodes.now }
-    ensures tree { OnOk result ((a : Option (Grown Symbol ℕ)) × Advances (node_moves nodes.now) byte bench.old.marks (tip place) a bench.new.marks × ((rs : List (Option (Grown Symbol ℕ))) → HasTrees as_is grown.old rs → HasTrees as_is grown.new (behind label.items a ∷ rs))) }
-    ensures long { OnOk result (length bench.new.marks ≡ length nodes.now) }
+    requires long { length tools.old.marks ≡ length nodes.now }
+    ensures tree { OnOk result ((a : Option (Grown Symbol ℕ)) × Advances (node_moves nodes.now) byte tools.old.marks (tip place) a tools.new.marks × ((rs : List (Option (Grown Symbol ℕ))) → HasTrees as_is grown.old rs → HasTrees as_is grown.new (behind label.items a ∷ rs))) }
+    ensures long { OnOk result (length tools.new.marks ≡ length nodes.now) }
 {
     if let Some(next) = next_by(nodes, place, byte) {
         let mut label = label;
         label.push(Symbol::Byte(byte))?;
-        walk(nodes, next, bench)?;
-        grown.graft(&mut bench.fresh, label, &mut bench.spare)?;
+        walk(nodes, next, tools)?;
+        grown.graft(&mut tools.fresh, label, &mut tools.spare)?;
         return Ok(());
     }
-    bench.spare.give(label);
+    tools.spare.give(label);
     grown.add_none()?;
     Ok(())
 }
@@ -58,40 +58,40 @@ fn advance_tip(
 /// A tree goes on with a byte: what comes of it is the only tree of `grown`.
 pub fn advance(
     nodes: &[MNode],
-    tree: &mut Vec<Twig>,
+    tree: &mut Vec<TreeEdge>,
     byte: u8,
     grown: &mut Forest,
-    bench: &mut Bench,
+    tools: &mut Tools,
 ) -> Result<(), Memory>
     requires range { StaysWithin nodes.now }
-    requires tree { IsTreeBelow (length nodes.now) (knots_at tree.old.items) }
-    requires long { length bench.old.marks ≡ length nodes.now }
-    ensures tree { OnOk result ((t : Labelled Symbol ℕ) → knots_at tree.old.items ≡ knots_of t [] → (a : Option (Grown Symbol ℕ)) × Advances (node_moves nodes.now) byte bench.old.marks t a bench.new.marks × HasTrees as_is grown.new (a ∷ [])) }
-    ensures long { OnOk result (length bench.new.marks ≡ length nodes.now) }
+    requires tree { IsTreeBelow (length nodes.now) (edges_at tree.old.items) }
+    requires long { length tools.old.marks ≡ length nodes.now }
+    ensures tree { OnOk result ((t : Labelled Symbol ℕ) → edges_at tree.old.items ≡ edges_of t [] → (a : Option (Grown Symbol ℕ)) × Advances (node_moves nodes.now) byte tools.old.marks t a tools.new.marks × HasTrees as_is grown.new (a ∷ [])) }
+    ensures long { OnOk result (length tools.new.marks ≡ length nodes.now) }
 {
     grown.clear();
     tree.reverse();
-    while let Some(twig) = tree.pop() {
-        match twig.at {
-            Some(place) => advance_tip(nodes, place, twig.label, byte, grown, bench)?,
+    while let Some(edge) = tree.pop() {
+        match edge.at {
+            Some(place) => advance_tip(nodes, place, edge.label, byte, grown, tools)?,
             None => {
-                grown.merge(&mut bench.spare)?;
-                grown.put_label(twig.label, &mut bench.spare)?;
+                grown.merge(&mut tools.spare)?;
+                grown.put_label(edge.label, &mut tools.spare)?;
             }
         }
     }
     Ok(())
 }
 
-// A knot at the end: of tips those that accept stay, and of two sides the first that is there.
-fn end_knot(
+// A edge at the end: of tips those that accept stay, and of two sides the first that is there.
+fn end_edge(
     nodes: &[MNode],
     at: Option<u32>,
     found: &mut Forest,
     spare: &mut Spare,
 ) -> Result<(), Memory>
     requires { IfSome at (λ place. place < length nodes.now) }
-    ensures { OnOk result ((rs : List (Option (Grown Symbol ℕ))) → IsTipIf (top rs) → HasTrees as_is found.old rs → HasTrees as_is found.new (ended_by (node_moves nodes.now) at rs)) }
+    ensures { OnOk result ((rs : List (Option (Grown Symbol ℕ))) → IsTipIf (last_tree rs) → HasTrees as_is found.old rs → HasTrees as_is found.new (trees_at_end (node_moves nodes.now) at rs)) }
 {
     match at {
         None => found.choose(),
@@ -105,18 +105,18 @@ fn end_knot(
 /// The first tip of a tree that accepts, with the label to it, is the only tree of `found`.
 pub fn accept(
     nodes: &[MNode],
-    tree: &mut Vec<Twig>,
+    tree: &mut Vec<TreeEdge>,
     found: &mut Forest,
     spare: &mut Spare,
 ) -> Result<(), Memory>
-    requires { IsTreeBelow (length nodes.now) (knots_at tree.old.items) }
-    ensures { OnOk result ((t : Labelled Symbol ℕ) → knots_at tree.old.items ≡ knots_of t [] → HasTrees as_is found.new (accepting (node_moves nodes.now) t ∷ [])) }
+    requires { IsTreeBelow (length nodes.now) (edges_at tree.old.items) }
+    ensures { OnOk result ((t : Labelled Symbol ℕ) → edges_at tree.old.items ≡ edges_of t [] → HasTrees as_is found.new (accepting (node_moves nodes.now) t ∷ [])) }
 {
     found.clear();
     tree.reverse();
-    while let Some(twig) = tree.pop() {
-        end_knot(nodes, twig.at, found, spare)?;
-        found.put_label(twig.label, spare)?;
+    while let Some(edge) = tree.pop() {
+        end_edge(nodes, edge.at, found, spare)?;
+        found.put_label(edge.label, spare)?;
     }
     Ok(())
 }

@@ -5,9 +5,9 @@ ghost use Rattle.kex_code.specs.declared.symbol.Symbol.{Symbol};
 ghost use Rattle.kex_model.specs.Labelled.{Grown};
 ghost use Rattle.kex_model.specs.Moves.{symbol_of};
 ghost use Rattle.kex_machine.specs.Nodes.{node_moves, move_of, side_of, StaysWithin};
-ghost use Rattle.kex_frontier.specs.Knots.{HasTrees};
+ghost use Rattle.kex_frontier.specs.Edges.{HasTrees};
 ghost use Rattle.kex_frontier.specs.Going.{Visits};
-ghost use Rattle.kex_frontier.specs.Jobs.{spread, stopped, jobs_at, trees_at};
+ghost use Rattle.kex_frontier.specs.Tasks.{tasks_from, leaf_at, tasks_at, trees_at};
 
 use crate::forest::{Forest, Spare};
 use kex_code::memory::Memory;
@@ -18,7 +18,7 @@ use std::alloc::Global;
 
 /// What is still to be done: a place is to be visited, a symbol put in front of the last tree, the last two trees merged.
 #[derive(Clone, Copy, Debug, PartialEq, Eq)]
-pub enum Work {
+pub enum Task {
     Visit(u32),
     Front(Symbol),
     Merge,
@@ -26,23 +26,23 @@ pub enum Work {
 
 /// What walks use again and again. The labels in `fresh` are turned: what is put in front stands at their ends.
 #[derive(Drop)]
-pub struct Bench {
+pub struct Tools {
     pub marks: Marks,
     pub fresh: Forest,
-    pub work: Vec<Work>,
+    pub tasks: Vec<Task>,
     pub spare: Spare,
 }
 
-impl Bench {
+impl Tools {
     /// For this many places, none of them met yet.
-    pub fn new(alloc: Global, count: usize) -> Result<Bench, Memory>
+    pub fn new(alloc: Global, count: usize) -> Result<Tools, Memory>
         ensures { IfOk result (λ b. b.marks ≡ replicate count false) }
     {
         let marks = Marks::new(alloc, count)?;
-        Ok(Bench {
+        Ok(Tools {
             marks,
             fresh: Forest::new(alloc),
-            work: Vec::new(alloc),
+            tasks: Vec::new(alloc),
             spare: Spare::new(alloc),
         })
     }
@@ -70,35 +70,35 @@ fn enter(
     nodes: &[MNode],
     n: u32,
     fresh: &mut Forest,
-    work: &mut Vec<Work>,
+    tasks: &mut Vec<Task>,
     spare: &mut Spare,
 ) -> Result<(), Memory>
     requires { n < length nodes.now }
-    ensures work { OnOk result (work.new.items ≡ work.old.items ++ spread (node_moves nodes.now n)) }
-    ensures trees { OnOk result ((rs : List (Option (Grown Symbol ℕ))) → HasTrees reverse fresh.old rs → HasTrees reverse fresh.new (stopped (node_moves nodes.now n) n ++ rs)) }
+    ensures tasks { OnOk result (tasks.new.items ≡ tasks.old.items ++ tasks_from (node_moves nodes.now n)) }
+    ensures trees { OnOk result ((rs : List (Option (Grown Symbol ℕ))) → HasTrees reverse fresh.old rs → HasTrees reverse fresh.new (leaf_at (node_moves nodes.now n) n ++ rs)) }
 {
     match node_at(nodes, n) {
         MNode::Accept => fresh.add_tip(n, spare),
         MNode::Read(_, _) => fresh.add_tip(n, spare),
         MNode::Choice(l, r) => {
-            work.push(Work::Merge)?;
-            work.push(Work::Front(Symbol::R))?;
-            work.push(Work::Visit(*r))?;
-            work.push(Work::Front(Symbol::L))?;
-            work.push(Work::Visit(*l))?;
+            tasks.push(Task::Merge)?;
+            tasks.push(Task::Front(Symbol::R))?;
+            tasks.push(Task::Visit(*r))?;
+            tasks.push(Task::Front(Symbol::L))?;
+            tasks.push(Task::Visit(*l))?;
             Ok(())
         }
         MNode::Forced(side, next) => {
-            work.push(Work::Front(symbol_at(*side)))?;
-            work.push(Work::Visit(*next))?;
+            tasks.push(Task::Front(symbol_at(*side)))?;
+            tasks.push(Task::Visit(*next))?;
             Ok(())
         }
         MNode::Do(_, next) => {
-            work.push(Work::Visit(*next))?;
+            tasks.push(Task::Visit(*next))?;
             Ok(())
         }
         MNode::Skip(next) => {
-            work.push(Work::Visit(*next))?;
+            tasks.push(Task::Visit(*next))?;
             Ok(())
         }
     }
@@ -110,44 +110,44 @@ fn meet(
     n: u32,
     marks: &mut Marks,
     fresh: &mut Forest,
-    work: &mut Vec<Work>,
+    tasks: &mut Vec<Task>,
     spare: &mut Spare,
 ) -> Result<(), Memory>
     requires below { n < length nodes.now }
     requires long { length marks.old ≡ length nodes.now }
     ensures marks { OnOk result (marks.new ≡ set marks.old n true) }
-    ensures work { OnOk result (work.new.items ≡ work.old.items ++ jobs_at (get_or marks.old n false) (node_moves nodes.now n)) }
+    ensures tasks { OnOk result (tasks.new.items ≡ tasks.old.items ++ tasks_at (get_or marks.old n false) (node_moves nodes.now n)) }
     ensures trees { OnOk result ((rs : List (Option (Grown Symbol ℕ))) → HasTrees reverse fresh.old rs → HasTrees reverse fresh.new (trees_at (get_or marks.old n false) (node_moves nodes.now n) n ++ rs)) }
 {
     if marks.mark(n) {
         fresh.add_none()
     } else {
-        enter(nodes, n, fresh, work, spare)
+        enter(nodes, n, fresh, tasks, spare)
     }
 }
 
 /// The tree of the waiting places that are reached from a place without a byte and weren't met before.
-pub fn walk(nodes: &[MNode], first: u32, bench: &mut Bench) -> Result<(), Memory>
+pub fn walk(nodes: &[MNode], first: u32, tools: &mut Tools) -> Result<(), Memory>
     requires range { StaysWithin nodes.now }
     requires first { first < length nodes.now }
-    requires long { length bench.old.marks ≡ length nodes.now }
-    ensures tree { OnOk result ((a : Option (Grown Symbol ℕ)) × HasTrees reverse bench.new.fresh (a ∷ []) × Visits (node_moves nodes.now) bench.old.marks first a bench.new.marks) }
-    ensures long { OnOk result (length bench.new.marks ≡ length nodes.now) }
+    requires long { length tools.old.marks ≡ length nodes.now }
+    ensures tree { OnOk result ((a : Option (Grown Symbol ℕ)) × HasTrees reverse tools.new.fresh (a ∷ []) × Visits (node_moves nodes.now) tools.old.marks first a tools.new.marks) }
+    ensures long { OnOk result (length tools.new.marks ≡ length nodes.now) }
 {
-    let Bench {
+    let Tools {
         marks,
         fresh,
-        work,
+        tasks,
         spare,
-    } = bench;
+    } = tools;
     fresh.clear();
-    work.clear();
-    work.push(Work::Visit(first))?;
-    while let Some(job) = work.pop() {
-        match job {
-            Work::Visit(n) => meet(nodes, n, marks, fresh, work, spare)?,
-            Work::Front(symbol) => fresh.put_symbol(symbol)?,
-            Work::Merge => fresh.merge(spare)?,
+    tasks.clear();
+    tasks.push(Task::Visit(first))?;
+    while let Some(task) = tasks.pop() {
+        match task {
+            Task::Visit(n) => meet(nodes, n, marks, fresh, tasks, spare)?,
+            Task::Front(symbol) => fresh.put_symbol(symbol)?,
+            Task::Merge => fresh.merge(spare)?,
         }
     }
     Ok(())

@@ -1,9 +1,9 @@
 use Rattle.std.proofs.Common.{[], ◌∷◌, None, ap, sym, subst, ◌∙◌}
 use Rattle.kex_code.specs.declared.symbol.Symbol.TheVariants.{Byte}
 use Rattle.kex_model.specs.Labelled.{behind}
-use Rattle.kex_frontier.specs.Knots.{HasTrees, as_is}
+use Rattle.kex_frontier.specs.Edges.{HasTrees, as_is}
 use Rattle.kex_machine.specs.Advancing.{dies, reads_on}
-use Rattle.kex_frontier.proofs.Growing.{behind_two}
+use Rattle.kex_frontier.proofs.AdvanceLoop.{behind_two}
 use Rattle.kex_frontier.proofs.grow.advance_tip.Goals as goal
 
 pub returns-in-Some-clause-tree : goal.returns-in-Some-clause-tree
