@@ -30,7 +30,7 @@ use Rattle.kex_sst.specs.Machines.{IsTableOf}
 use Rattle.kex_sst.proofs.Passing.{by_class}
 use Rattle.kex_paths.specs.Nexts.{IsNext}
 use Rattle.kex_paths.proofs.Meanings.{meant-append, registers_hold}
-use Rattle.kex_paths.proofs.Showing.{first_shows, next_shows}
+use Rattle.kex_paths.proofs.NextTrees.{first_shows, next_shows}
 use Rattle.kex_determine.specs.Determined.{ShowsText}
 use Rattle.kex_determine.specs.Rows.{DoesOn, way_to, AreRows, IsFound, at_first, by_byte}
 

@@ -98,3 +98,7 @@ pub record IsStateWith (g : Graph) (classes : List ℕ) (keys : List (Vec ℕ)) 
   pub begins : Begins ys xs
   pub row_of : IsRowOf g classes ys s row
   pub order : MeetsInOrder (length xs) (targets_of row.go) (length ys)
+
+-- whatever shapes the states have, of which this number has the shape s
+abbrev pub WhereNumbered : Graph → List (Vec ℕ) → List Outline → ℕ → (List (Shape ℕ) → Shape ℕ → Type 0) → Type 0
+WhereNumbered g keys trees at Says = (xs : List (Shape ℕ)) (s : Shape ℕ) → AreNumbered g keys trees xs → slice_get xs at ≡ Some s → Says xs s

@@ -4,7 +4,7 @@ ghost use Rattle.std.specs.Prelude.{◌≡◌, ℕ, ◌<◌, ◌≤◌, List, []
 ghost use Rattle.kex_model.specs.Labelled.{Shape};
 ghost use Rattle.kex_machine.specs.Nodes.{HasClasses};
 ghost use Rattle.kex_determine.specs.Filling.{IsFilled};
-ghost use Rattle.kex_determine.specs.Numbering.{AreNumbered, Refuses, HasMoreFound, AreTransitions, IsStateWith};
+ghost use Rattle.kex_determine.specs.Numbering.{AreNumbered, AreTransitions, HasMoreFound, IsStateWith, Refuses, WhereNumbered};
 
 use crate::ends::way_to_end;
 use crate::refusal::DetRefusal;
@@ -27,11 +27,11 @@ fn transitions_of<'m>(
     requires few { states.old.most < 4294967295 }
     requires room { length states.old.trees.items ≤ states.old.most }
     requires known { (xs : List (Shape ℕ)) × (s : Shape ℕ) × AreNumbered workspace.old states.old.keys.keys states.old.trees.items xs × (slice_get xs at ≡ Some s) }
-    ensures ok { IfOk result (λ go. (xs : List (Shape ℕ)) (s : Shape ℕ) → AreNumbered workspace.old states.old.keys.keys states.old.trees.items xs → slice_get xs at ≡ Some s → (ys : List (Shape ℕ)) × AreTransitions workspace.old partition.now states.new.keys.keys states.new.trees.items xs ys s go.items) }
+    ensures ok { IfOk result (λ go. WhereNumbered workspace.old states.old.keys.keys states.old.trees.items at (λ xs s. (ys : List (Shape ℕ)) × AreTransitions workspace.old partition.now states.new.keys.keys states.new.trees.items xs ys s go.items)) }
     ensures workspace { OnOk result (workspace.new ≡ workspace.old) }
     ensures most { OnOk result (states.new.most ≡ states.old.most) }
     ensures within { OnOk result (length states.new.trees.items ≤ states.old.most) }
-    ensures err { IfErr result (Refuses states.old.most ((xs : List (Shape ℕ)) (s : Shape ℕ) → AreNumbered workspace.old states.old.keys.keys states.old.trees.items xs → slice_get xs at ≡ Some s → HasMoreFound workspace.old states.old.most)) }
+    ensures err { IfErr result (Refuses states.old.most (WhereNumbered workspace.old states.old.keys.keys states.old.trees.items at (λ xs s. HasMoreFound workspace.old states.old.most))) }
 {
     let mut go = Vec::with_capacity(alloc, usize::from(partition.classes()))?;
     for class in 0..partition.classes() {
@@ -56,11 +56,11 @@ fn state_of<'m>(
     requires few { states.old.most < 4294967295 }
     requires room { length states.old.trees.items ≤ states.old.most }
     requires known { (xs : List (Shape ℕ)) × (s : Shape ℕ) × AreNumbered machine.now states.old.keys.keys states.old.trees.items xs × (slice_get xs at ≡ Some s) }
-    ensures ok { IfOk result (λ row. (xs : List (Shape ℕ)) (s : Shape ℕ) → AreNumbered machine.now states.old.keys.keys states.old.trees.items xs → slice_get xs at ≡ Some s → (ys : List (Shape ℕ)) × IsStateWith machine.now partition.now states.new.keys.keys states.new.trees.items xs ys s row) }
+    ensures ok { IfOk result (λ row. WhereNumbered machine.now states.old.keys.keys states.old.trees.items at (λ xs s. (ys : List (Shape ℕ)) × IsStateWith machine.now partition.now states.new.keys.keys states.new.trees.items xs ys s row)) }
     ensures workspace { OnOk result (workspace.new ≡ machine.now) }
     ensures most { OnOk result (states.new.most ≡ states.old.most) }
     ensures within { OnOk result (length states.new.trees.items ≤ states.old.most) }
-    ensures err { IfErr result (Refuses states.old.most ((xs : List (Shape ℕ)) (s : Shape ℕ) → AreNumbered machine.now states.old.keys.keys states.old.trees.items xs → slice_get xs at ≡ Some s → HasMoreFound machine.now states.old.most)) }
+    ensures err { IfErr result (Refuses states.old.most (WhereNumbered machine.now states.old.keys.keys states.old.trees.items at (λ xs s. HasMoreFound machine.now states.old.most))) }
 {
     let go = transitions_of(alloc, at, partition, states, workspace)?;
     let tree = &states.trees[at];

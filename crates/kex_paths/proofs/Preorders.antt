@@ -8,13 +8,13 @@ use Rattle.kex_model.proofs.Shapes.{among-append}
 use Rattle.kex_model.proofs.Standing.{empty_list}
 use Rattle.kex_machine.specs.Advancing.{EachPlace}
 use Rattle.kex_sst.specs.declared.parts.Part.{Part}
-use Rattle.kex_paths.specs.declared.grove.Branch.{Branch}
-use Rattle.kex_paths.specs.declared.grove.Knot.{Knot}
+use Rattle.kex_paths.specs.declared.forest.Edge.{Edge}
+use Rattle.kex_paths.specs.declared.forest.TreeNode.{TreeNode}
 use Rattle.kex_paths.specs.declared.walk.Token.{Token}
 use Rattle.kex_paths.specs.declared.walk.Token.TheVariants as token
-use Rattle.kex_paths.specs.Groves.{Stands, at_tip, at_fork, IsBranch}
+use Rattle.kex_paths.specs.Forests.{IsTreeAt, at_tip, at_fork, LeadsTo}
 use Rattle.kex_paths.specs.Nexts.{inner_of, places_of}
-use Rattle.kex_paths.specs.Jobs.{tokens, tokens_from, IsTipBelow, EachTip}
+use Rattle.kex_paths.specs.Tasks.{tokens, tokens_from, IsTipBelow, EachTip}
 use Rattle.kex_paths.specs.Spellings.{key_of, number_of, is_inner, tip_in, edges_from, AreEdges, inner_in, places_in, labels_in, IsSpelled}
 
 pub tokens-length : (s : Shape ℕ) → length (tokens s) ≡ size_of s
@@ -93,16 +93,16 @@ module _ (xs : List Bool) (ps : List ℕ) (whole : List Token) where
       let none : drop k ps ≡ [] = empty_list (drop k ps) (omega (arith, length-drop k ps)) in
       ap (λ z. ts ++ tokens_from (drop (i + 1) xs) z) none ∙ ap₂ (λ u v. ts ++ tokens_from u v) (sym next) (sym none) ∙ h
 
-module _ (edges : List Branch) where
-  -- a knot is spelled, before trees that are still to be
-  record Opened (k : Knot) (t : Labelled Part ℕ) (pending : List ℕ) (ts : List (Grown Part ℕ)) : Type 0 where
+module _ (edges : List Edge) where
+  -- a node is spelled, before trees that are still to be
+  record Opened (k : TreeNode) (t : Labelled Part ℕ) (pending : List ℕ) (ts : List (Grown Part ℕ)) : Type 0 where
     pub left : List (Grown Part ℕ)
     pub are : AreEdges edges (reverse (pending ++ edges_from k)) left
     pub inner_is : inner_of (shape_of t) ++ inner_in ts ≡ is_inner k ∷ inner_in left
     pub places_are : places_of (shape_of t) ++ places_in ts ≡ tip_in k ++ places_in left
     pub labels_are : labels_of t ++ labels_in ts ≡ labels_in left
 
-  opened : {k : Knot} {t : Labelled Part ℕ} (pending : List ℕ) (ts : List (Grown Part ℕ)) → Stands edges k t → AreEdges edges (reverse pending) ts → Opened k t pending ts
+  opened : {k : TreeNode} {t : Labelled Part ℕ} (pending : List ℕ) (ts : List (Grown Part ℕ)) → IsTreeAt edges k t → AreEdges edges (reverse pending) ts → Opened k t pending ts
   opened pending ts at_tip are = record {
     left = ts;
     are = subst (λ z. AreEdges edges (reverse z) ts) (sym (append-nil pending)) are;
@@ -124,7 +124,7 @@ module _ (edges : List Branch) where
       second : Grown Part ℕ
       second = record { label = reverse y.label.items; tree = r }
 
-  pub spelled_start : (x : Branch) (a : Grown Part ℕ) → IsBranch edges (Some x) (Some a) → IsSpelled edges a (is_inner x.knot ∷ []) (tip_in x.knot) [] (edges_from x.knot)
+  pub spelled_start : (x : Edge) (a : Grown Part ℕ) → LeadsTo edges (Some x) (Some a) → IsSpelled edges a (is_inner x.node ∷ []) (tip_in x.node) [] (edges_from x.node)
   spelled_start x a h =
       let o = opened [] [] h.1 tt in
       record {
@@ -140,24 +140,24 @@ module _ (edges : List Branch) where
     topped : (rest : List ℕ) (i : ℕ) (ts : List (Grown Part ℕ)) → AreEdges edges (reverse (rest ++ i ∷ [])) ts → AreEdges edges (i ∷ reverse rest) ts
     topped rest i ts h = subst (λ z. AreEdges edges z ts) (reverse-append rest (i ∷ [])) h
 
-    pub spelled_more : (rest : List ℕ) (i : ℕ) (x : Branch) → slice_get edges i ≡ Some x → IsSpelled edges a inner places labels (rest ++ i ∷ []) → IsSpelled edges a (inner ++ is_inner x.knot ∷ []) (places ++ tip_in x.knot) (labels ++ reverse x.label.items ∷ []) (rest ++ edges_from x.knot)
+    pub spelled_more : (rest : List ℕ) (i : ℕ) (x : Edge) → slice_get edges i ≡ Some x → IsSpelled edges a inner places labels (rest ++ i ∷ []) → IsSpelled edges a (inner ++ is_inner x.node ∷ []) (places ++ tip_in x.node) (labels ++ reverse x.label.items ∷ []) (rest ++ edges_from x.node)
     spelled_more rest i x e h = by h.left (topped rest i h.left h.are) h.inner_is h.places_are h.labels_are
       where
-        by : (ts : List (Grown Part ℕ)) → AreEdges edges (i ∷ reverse rest) ts → inner_of (shape_of a.tree) ≡ inner ++ inner_in ts → places_of (shape_of a.tree) ≡ places ++ places_in ts → labels_of a.tree ≡ labels ++ labels_in ts → IsSpelled edges a (inner ++ is_inner x.knot ∷ []) (places ++ tip_in x.knot) (labels ++ reverse x.label.items ∷ []) (rest ++ edges_from x.knot)
+        by : (ts : List (Grown Part ℕ)) → AreEdges edges (i ∷ reverse rest) ts → inner_of (shape_of a.tree) ≡ inner ++ inner_in ts → places_of (shape_of a.tree) ≡ places ++ places_in ts → labels_of a.tree ≡ labels ++ labels_in ts → IsSpelled edges a (inner ++ is_inner x.node ∷ []) (places ++ tip_in x.node) (labels ++ reverse x.label.items ∷ []) (rest ++ edges_from x.node)
         by [] h f g k = absurd h
         by (t ∷ ts) (q, are) f g k =
             let same : q.edge ≡ x = one (sym q.here ∙ e) in
-            let o = opened rest ts (subst (λ z. Stands edges z.knot t.tree) same q.stands) are in
+            let o = opened rest ts (subst (λ z. IsTreeAt edges z.node t.tree) same q.stands) are in
             let label : reverse x.label.items ≡ t.label = ap (λ z. reverse z.label.items) (sym same) ∙ q.label in
             record {
               left = o.left;
               are = o.are;
-              inner_is = f ∙ ap (λ z. inner ++ z) o.inner_is ∙ sym (append_assoc inner (is_inner x.knot ∷ []) (inner_in o.left));
-              places_are = g ∙ ap (λ z. places ++ z) o.places_are ∙ sym (append_assoc places (tip_in x.knot) (places_in o.left));
+              inner_is = f ∙ ap (λ z. inner ++ z) o.inner_is ∙ sym (append_assoc inner (is_inner x.node ∷ []) (inner_in o.left));
+              places_are = g ∙ ap (λ z. places ++ z) o.places_are ∙ sym (append_assoc places (tip_in x.node) (places_in o.left));
               labels_are = k ∙ ap₂ (λ u v. labels ++ u ∷ v) (sym label) o.labels_are ∙ sym (append_assoc labels (reverse x.label.items ∷ []) (labels_in o.left));
             }
           where
-            one : {y : Branch} → Some y ≡ Some x → y ≡ x
+            one : {y : Edge} → Some y ≡ Some x → y ≡ x
             one e = cc
 
     some_inner : (s : Shape ℕ) → 0 < length (inner_of s)

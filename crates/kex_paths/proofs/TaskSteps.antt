@@ -1,4 +1,4 @@
--- What the job that is done means for the tree that goes on.
+-- What the task that is done means for the tree that goes on.
 use Rattle.std.proofs.Common.{◌≡◌, ℕ, ◌*◌, ◌<◌, Bool, false, List, [], ◌∷◌, ◌++◌, Option, Some, None, Result, Ok, Err, map, length, replicate, refl, sym, ap, ap₂, subst, ◌∙◌, append-nil}
 use Rattle.std.specs.Prelude.{IfOk, IfSome, IsSome, MatchOption}
 use Rattle.std.proofs.lemmas.List.{map-append}
@@ -15,66 +15,66 @@ use Rattle.kex_machine.proofs.Relabelling.{relabelled_visit, alike_advance}
 use Rattle.kex_sst.specs.declared.parts.Part.{Part}
 use Rattle.kex_sst.specs.declared.parts.Part.TheVariants.{Put}
 use Rattle.kex_sst.specs.Parts.{Change, meant}
-use Rattle.kex_paths.specs.declared.grove.Branch.{Branch}
+use Rattle.kex_paths.specs.declared.forest.Edge.{Edge}
 use Rattle.kex_paths.specs.declared.walk.Token.{Token}
-use Rattle.kex_paths.specs.declared.walk.Work.{Work}
-use Rattle.kex_paths.specs.declared.walk.Work.TheVariants.{Tree, Visit}
-use Rattle.kex_paths.specs.Groves.{Wood, HasTrees, IsBranch}
+use Rattle.kex_paths.specs.declared.walk.Task.{Task}
+use Rattle.kex_paths.specs.declared.walk.Task.TheVariants.{OldTree, Visit}
+use Rattle.kex_paths.specs.Forests.{Trees, HasTrees, LeadsTo}
 use Rattle.kex_paths.specs.Nexts.{Outline, IsOfShape, IsChange, HasClass, IsFirst, IsNext, Begins, Follows, Shows, ShowsFirst, ShowsNext}
-use Rattle.kex_paths.specs.Jobs.{Job, tree, go_to, work_of, text_of, tokens, Runs}
+use Rattle.kex_paths.specs.Tasks.{ShapedTask, tree, go_to, task_of, tokens_left, tokens, Runs}
 use Rattle.kex_paths.proofs.Meanings.{meant-append}
-use Rattle.kex_paths.proofs.Showing.{first_shows, next_shows}
+use Rattle.kex_paths.proofs.NextTrees.{first_shows, next_shows}
 use Rattle.kex_paths.proofs.Sizes.{first_fits, next_fits}
 
--- the first job is done
-abbrev pub IsDone : (ℕ → Move ℕ) → ℕ → ℕ → List Token → Work → Wood → Type 0
-IsDone moves b m text first w = (j : Job) → work_of j ≡ first → text ≡ text_of (j ∷ []) → (rs : List (Option (Grown Part ℕ))) × HasTrees w rs × ((h : List Bool) × Runs moves b (j ∷ []) 0 (replicate m false) [] h rs)
+-- the first task is done
+abbrev pub IsDone : (ℕ → Move ℕ) → ℕ → ℕ → List Token → Task → Trees → Type 0
+IsDone moves b m text first w = (j : ShapedTask) → task_of j ≡ first → text ≡ tokens_left (j ∷ []) → (rs : List (Option (Grown Part ℕ))) × HasTrees w rs × ((h : List Bool) × Runs moves b (j ∷ []) 0 (replicate m false) [] h rs)
 
 -- the edge that is taken off leads to the tree that comes next
-pub done_next : (g : Graph) (b : ℕ) (text : List Token) (w : Wood) (edges : List Branch) (root : Option Branch) → IsDone (node_moves g.nodes) b (length g.nodes) text Tree w → ((rs : List (Option (Grown Part ℕ))) (a : Option (Grown Part ℕ)) → HasTrees w (a ∷ []) → IsBranch edges root a) → (s : Shape ℕ) → text ≡ tokens s → (a : Option (Grown Part ℕ)) × IsNext g b s a × IsBranch edges root a
+pub done_next : (g : Graph) (b : ℕ) (text : List Token) (w : Trees) (edges : List Edge) (root : Option Edge) → IsDone (node_moves g.nodes) b (length g.nodes) text OldTree w → ((rs : List (Option (Grown Part ℕ))) (a : Option (Grown Part ℕ)) → HasTrees w (a ∷ []) → LeadsTo edges root a) → (s : Shape ℕ) → text ≡ tokens s → (a : Option (Grown Part ℕ)) × IsNext g b s a × LeadsTo edges root a
 done_next g b text w edges root done off s e =
     let q = done (tree s) refl (e ∙ sym (append-nil (tokens s))) in
     let r = q.2.1 in
     (r.0, (r.1, r.2), off [] r.0 (subst (λ z. HasTrees w z) (sym r.3.1) q.1))
 
-pub done_first : (g : Graph) (w : Wood) (edges : List Branch) (root : Option Branch) → IsDone (node_moves g.nodes) 0 (length g.nodes) [] (Visit g.start) w → ((rs : List (Option (Grown Part ℕ))) (a : Option (Grown Part ℕ)) → HasTrees w (a ∷ []) → IsBranch edges root a) → (a : Option (Grown Part ℕ)) × IsFirst g a × IsBranch edges root a
+pub done_first : (g : Graph) (w : Trees) (edges : List Edge) (root : Option Edge) → IsDone (node_moves g.nodes) 0 (length g.nodes) [] (Visit g.start) w → ((rs : List (Option (Grown Part ℕ))) (a : Option (Grown Part ℕ)) → HasTrees w (a ∷ []) → LeadsTo edges root a) → (a : Option (Grown Part ℕ)) × IsFirst g a × LeadsTo edges root a
 done_first g w edges root done off =
     let q = done (go_to g.start) refl refl in
     let r = q.2.1 in
     (r.0, (r.1, r.2), off [] r.0 (subst (λ z. HasTrees w z) (sym r.3.1) q.1))
 
 -- there is a tree of the empty text
-pub some_first : (g : Graph) → IsTrimmed g → (edges : List Branch) (root : Option Branch) → (a : Option (Grown Part ℕ)) → IsFirst g a → IsBranch edges root a → IsSome root
+pub some_first : (g : Graph) → IsTrimmed g → (edges : List Edge) (root : Option Edge) → (a : Option (Grown Part ℕ)) → IsFirst g a → LeadsTo edges root a → IsSome root
 some_first g trimmed edges root None (marks, v) h = absurd (machine.first_shows (node_moves g.nodes) g.start (is_trim g trimmed) (length g.nodes) None marks (relabelled_visit (meant [] 0) refl (meant-append [] 0) (λ s. Put s) itself (λ s. refl) (node_moves g.nodes) v))
 some_first g trimmed edges None (Some a) first h = absurd h
 some_first g trimmed edges (Some x) (Some a) first h = there x
   where
-    there : (x : Branch) → IsSome (Some x)
+    there : (x : Edge) → IsSome (Some x)
     there x = refl
 
-abbrev pub FitsIn : Graph → List Branch → Branch → Type 0
-FitsIn g edges root = (a : Grown Part ℕ) × IsBranch edges (Some root) (Some a) × EachPlace (length g.nodes) (shape_of a.tree) × (size_of (shape_of a.tree) < 2 * length g.nodes)
+abbrev pub FitsIn : Graph → List Edge → Edge → Type 0
+FitsIn g edges root = (a : Grown Part ℕ) × LeadsTo edges (Some root) (Some a) × EachPlace (length g.nodes) (shape_of a.tree) × (size_of (shape_of a.tree) < 2 * length g.nodes)
 
-pub first_in : (g : Graph) (edges : List Branch) (root : Branch) (a : Option (Grown Part ℕ)) → IsFirst g a → IsBranch edges (Some root) a → FitsIn g edges root
+pub first_in : (g : Graph) (edges : List Edge) (root : Edge) (a : Option (Grown Part ℕ)) → IsFirst g a → LeadsTo edges (Some root) a → FitsIn g edges root
 first_in g edges root None first h = absurd h
 first_in g edges root (Some a) first h = let f = first_fits g a first in (a, h, f.0, f.1)
 
-pub next_in : (g : Graph) (b : ℕ) (s : Shape ℕ) (edges : List Branch) (root : Branch) (a : Option (Grown Part ℕ)) → IsNext g b s a → IsBranch edges (Some root) a → FitsIn g edges root
+pub next_in : (g : Graph) (b : ℕ) (s : Shape ℕ) (edges : List Edge) (root : Edge) (a : Option (Grown Part ℕ)) → IsNext g b s a → LeadsTo edges (Some root) a → FitsIn g edges root
 next_in g b s edges root None next h = absurd h
 next_in g b s edges root (Some a) next h = let f = next_fits g b s a next in (a, h, f.0, f.1)
 
-abbrev pub IsGathered : List Branch → Branch → Outline → Change → Type 0
-IsGathered edges root t u = (a : Grown Part ℕ) → IsBranch edges (Some root) (Some a) → IsOfShape t (shape_of a.tree) × IsChange u a
+abbrev pub IsGathered : List Edge → Edge → Outline → Change → Type 0
+IsGathered edges root t u = (a : Grown Part ℕ) → LeadsTo edges (Some root) (Some a) → IsOfShape t (shape_of a.tree) × IsChange u a
 
-pub begins : (g : Graph) (edges : List Branch) (root : Branch) (t : Outline) (u : Change) → t.machine ≡ g → IsGathered edges root t u → (a : Option (Grown Part ℕ)) → IsFirst g a → IsBranch edges (Some root) a → Begins t u
+pub begins : (g : Graph) (edges : List Edge) (root : Edge) (t : Outline) (u : Change) → t.machine ≡ g → IsGathered edges root t u → (a : Option (Grown Part ℕ)) → IsFirst g a → LeadsTo edges (Some root) a → Begins t u
 begins g edges root t u same got None first h = absurd h
 begins g edges root t u same got (Some a) first h = let q = got a h in (a, subst (λ z. IsFirst z (Some a)) (sym same) first, q.0, q.1)
 
-pub follows : (g : Graph) (b : ℕ) (s : Shape ℕ) (edges : List Branch) (root : Branch) (t : Outline) (u : Change) → t.machine ≡ g → IsGathered edges root t u → (a : Option (Grown Part ℕ)) → IsNext g b s a → IsBranch edges (Some root) a → Follows t b s u
+pub follows : (g : Graph) (b : ℕ) (s : Shape ℕ) (edges : List Edge) (root : Edge) (t : Outline) (u : Change) → t.machine ≡ g → IsGathered edges root t u → (a : Option (Grown Part ℕ)) → IsNext g b s a → LeadsTo edges (Some root) a → Follows t b s u
 follows g b s edges root t u same got None next h = absurd h
 follows g b s edges root t u same got (Some a) next h = let q = got a h in (a, subst (λ z. IsNext z b s (Some a)) (sym same) next, q.0, q.1)
 
-pub none_follows : (g : Graph) (b : ℕ) (s : Shape ℕ) (edges : List Branch) (a : Option (Grown Part ℕ)) → IsNext g b s a → IsBranch edges None a → IsNext g b s None
+pub none_follows : (g : Graph) (b : ℕ) (s : Shape ℕ) (edges : List Edge) (a : Option (Grown Part ℕ)) → IsNext g b s a → LeadsTo edges None a → IsNext g b s None
 none_follows g b s edges None next h = next
 none_follows g b s edges (Some a) next h = absurd h
 

@@ -2,44 +2,44 @@
 use Rattle.std.specs.Prelude.{◌≡◌, ℕ, List, [], ◌∷◌, Option, Some, None, reverse, slice_get}
 use Rattle.kex_model.specs.Labelled.{Labelled, tip, fork, Grown}
 use Rattle.kex_sst.specs.declared.parts.Part.{Part}
-use Rattle.kex_paths.specs.declared.grove.Branch.{Branch}
-use Rattle.kex_paths.specs.declared.grove.Knot.{Knot}
-use Rattle.kex_paths.specs.declared.grove.Knot.TheVariants.{Tip, Fork}
+use Rattle.kex_paths.specs.declared.forest.Edge.{Edge}
+use Rattle.kex_paths.specs.declared.forest.TreeNode.{TreeNode}
+use Rattle.kex_paths.specs.declared.forest.TreeNode.TheVariants.{Tip, Fork}
 
 -- trees side by side: the edges below their roots, and the edges to these, the last first; a tree may be gone
-pub record Wood : Type 0 where
-  pub edges : List Branch
-  pub roots : List (Option Branch)
+pub record Trees : Type 0 where
+  pub edges : List Edge
+  pub roots : List (Option Edge)
 
-abbrev pub no_wood : Wood
-no_wood = record { edges = []; roots = [] }
+abbrev pub no_trees : Trees
+no_trees = record { edges = []; roots = [] }
 
--- the tree that a knot leads to
-pub data Stands (edges : List Branch) : Knot → Labelled Part ℕ → Type 0 where
-  at_tip : {p : ℕ} → Stands edges (Tip p) (tip p)
-  at_fork : {n m : ℕ} {x y : Branch} {l r : Labelled Part ℕ} → slice_get edges n ≡ Some x → slice_get edges m ≡ Some y → Stands edges x.knot l → Stands edges y.knot r → Stands edges (Fork n m) (fork (reverse x.label.items) l (reverse y.label.items) r)
+-- the tree that a node leads to
+pub data IsTreeAt (edges : List Edge) : TreeNode → Labelled Part ℕ → Type 0 where
+  at_tip : {p : ℕ} → IsTreeAt edges (Tip p) (tip p)
+  at_fork : {n m : ℕ} {x y : Edge} {l r : Labelled Part ℕ} → slice_get edges n ≡ Some x → slice_get edges m ≡ Some y → IsTreeAt edges x.node l → IsTreeAt edges y.node r → IsTreeAt edges (Fork n m) (fork (reverse x.label.items) l (reverse y.label.items) r)
 
 -- the tree that an edge leads to, with the edge's label, if it is there
-abbrev pub IsBranch : List Branch → Option Branch → Option (Grown Part ℕ) → Type 0
-IsBranch edges None None = Unit {0}
-IsBranch edges None (Some g) = ⊥
-IsBranch edges (Some x) None = ⊥
-IsBranch edges (Some x) (Some g) = (reverse x.label.items ≡ g.label) × Stands edges x.knot g.tree
+abbrev pub LeadsTo : List Edge → Option Edge → Option (Grown Part ℕ) → Type 0
+LeadsTo edges None None = Unit {0}
+LeadsTo edges None (Some g) = ⊥
+LeadsTo edges (Some x) None = ⊥
+LeadsTo edges (Some x) (Some g) = (reverse x.label.items ≡ g.label) × IsTreeAt edges x.node g.tree
 
-abbrev pub AreBranches : List Branch → List (Option Branch) → List (Option (Grown Part ℕ)) → Type 0
-AreBranches edges [] [] = Unit {0}
-AreBranches edges [] (t ∷ ts) = ⊥
-AreBranches edges (x ∷ xs) [] = ⊥
-AreBranches edges (x ∷ xs) (t ∷ ts) = IsBranch edges x t × AreBranches edges xs ts
+abbrev pub LeadToEach : List Edge → List (Option Edge) → List (Option (Grown Part ℕ)) → Type 0
+LeadToEach edges [] [] = Unit {0}
+LeadToEach edges [] (t ∷ ts) = ⊥
+LeadToEach edges (x ∷ xs) [] = ⊥
+LeadToEach edges (x ∷ xs) (t ∷ ts) = LeadsTo edges x t × LeadToEach edges xs ts
 
--- the wood has these trees, the last first
-abbrev pub HasTrees : Wood → List (Option (Grown Part ℕ)) → Type 0
-HasTrees w rs = AreBranches w.edges w.roots rs
+-- the forest has these trees, the last first
+abbrev pub HasTrees : Trees → List (Option (Grown Part ℕ)) → Type 0
+HasTrees w rs = LeadToEach w.edges w.roots rs
 
-abbrev pub top : List (Option (Grown Part ℕ)) → Option (Grown Part ℕ)
-top [] = None
-top (t ∷ ts) = t
+abbrev pub last_tree : List (Option (Grown Part ℕ)) → Option (Grown Part ℕ)
+last_tree [] = None
+last_tree (t ∷ ts) = t
 
-abbrev pub under : List (Option (Grown Part ℕ)) → List (Option (Grown Part ℕ))
-under [] = []
-under (t ∷ ts) = ts
+abbrev pub trees_before : List (Option (Grown Part ℕ)) → List (Option (Grown Part ℕ))
+trees_before [] = []
+trees_before (t ∷ ts) = ts

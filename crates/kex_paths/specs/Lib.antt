@@ -1,6 +1,6 @@
 pub mod Nexts
-pub mod Groves
-pub mod Jobs
+pub mod Forests
+pub mod Tasks
 pub mod Spellings
 pub mod Workspaces
 pub mod Laws

@@ -5,10 +5,10 @@ use Rattle.kex_machine.specs.Nodes.{Graph}
 use Rattle.kex_machine.specs.Advancing.{EachPlace}
 use Rattle.kex_sst.specs.declared.parts.Part.{Part}
 use Rattle.kex_paths.specs.Nexts.{inner_of, places_of}
-use Rattle.kex_paths.specs.Groves.{Stands}
-use Rattle.kex_paths.specs.declared.grove.Branch.{Branch}
-use Rattle.kex_paths.specs.declared.grove.Knot.{Knot}
-use Rattle.kex_paths.specs.declared.grove.Knot.TheVariants as knot
+use Rattle.kex_paths.specs.Forests.{IsTreeAt}
+use Rattle.kex_paths.specs.declared.forest.Edge.{Edge}
+use Rattle.kex_paths.specs.declared.forest.TreeNode.{TreeNode}
+use Rattle.kex_paths.specs.declared.forest.TreeNode.TheVariants as node
 use Rattle.kex_paths.specs.declared.walk.Token.{Token}
 use Rattle.kex_paths.specs.declared.walk.Token.TheVariants.{Tip, Fork}
 
@@ -31,27 +31,27 @@ abbrev pub number_of : Token → ℕ
 number_of Fork = 0
 number_of (Tip p) = suc p
 
-abbrev pub is_inner : Knot → Bool
-is_inner (knot.Tip p) = false
-is_inner (knot.Fork l r) = true
+abbrev pub is_inner : TreeNode → Bool
+is_inner (node.Tip p) = false
+is_inner (node.Fork l r) = true
 
-abbrev pub tip_in : Knot → List ℕ
-tip_in (knot.Tip p) = p ∷ []
-tip_in (knot.Fork l r) = []
+abbrev pub tip_in : TreeNode → List ℕ
+tip_in (node.Tip p) = p ∷ []
+tip_in (node.Fork l r) = []
 
--- the edges that go from a knot, the last first
-abbrev pub edges_from : Knot → List ℕ
-edges_from (knot.Tip p) = []
-edges_from (knot.Fork l r) = r ∷ l ∷ []
+-- the edges that go from a node, the last first
+abbrev pub edges_from : TreeNode → List ℕ
+edges_from (node.Tip p) = []
+edges_from (node.Fork l r) = r ∷ l ∷ []
 
 -- the edge of this number leads to the tree
-pub record IsEdge (edges : List Branch) (i : ℕ) (t : Grown Part ℕ) : Type 0 where
-  pub edge : Branch
+pub record IsEdge (edges : List Edge) (i : ℕ) (t : Grown Part ℕ) : Type 0 where
+  pub edge : Edge
   pub here : slice_get edges i ≡ Some edge
   pub label : reverse edge.label.items ≡ t.label
-  pub stands : Stands edges edge.knot t.tree
+  pub stands : IsTreeAt edges edge.node t.tree
 
-abbrev pub AreEdges : List Branch → List ℕ → List (Grown Part ℕ) → Type 0
+abbrev pub AreEdges : List Edge → List ℕ → List (Grown Part ℕ) → Type 0
 AreEdges edges [] [] = Unit {0}
 AreEdges edges [] (t ∷ ts) = ⊥
 AreEdges edges (i ∷ is) [] = ⊥
@@ -70,7 +70,7 @@ labels_in [] = []
 labels_in (t ∷ ts) = t.label ∷ (labels_of t.tree ++ labels_in ts)
 
 -- a tree is spelled so far; what is left are the trees of these edges, of which the last is the next
-pub record IsSpelled (edges : List Branch) (a : Grown Part ℕ) (inner : List Bool) (places : List ℕ) (labels : List (List Part)) (pending : List ℕ) : Type 0 where
+pub record IsSpelled (edges : List Edge) (a : Grown Part ℕ) (inner : List Bool) (places : List ℕ) (labels : List (List Part)) (pending : List ℕ) : Type 0 where
   pub left : List (Grown Part ℕ)
   pub are : AreEdges edges (reverse pending) left
   pub inner_is : inner_of (shape_of a.tree) ≡ inner ++ inner_in left

@@ -8,9 +8,9 @@ use Rattle.kex_sst.specs.declared.parts.Part.{Part}
 use Rattle.kex_sst.specs.declared.parts.Part.TheVariants.{Put, Old, Input}
 use Rattle.kex_paths.specs.declared.walk.Token.{Token}
 use Rattle.kex_paths.specs.declared.walk.Token.TheVariants.{Fork, Tip}
-use Rattle.kex_paths.specs.declared.walk.Work.{Work}
-use Rattle.kex_paths.specs.declared.walk.Work.TheVariants.{Tree, Edge, Merge, Front, Visit}
-use Rattle.kex_paths.specs.Groves.{top, under}
+use Rattle.kex_paths.specs.declared.walk.Task.{Task}
+use Rattle.kex_paths.specs.declared.walk.Task.TheVariants.{OldTree, OldEdge, Merge, Front, Visit}
+use Rattle.kex_paths.specs.Forests.{last_tree, trees_before}
 use Rattle.kex_paths.specs.Nexts.{Explores, GoesOn}
 
 -- a shape in preorder
@@ -19,19 +19,19 @@ tokens (place p) = Tip p ∷ []
 tokens (parts l r) = Fork ∷ (tokens l ++ tokens r)
 
 -- what is to be done at a place, the last first
-abbrev pub spread : Move ℕ → List Work
-spread accept = []
-spread (read set t) = []
-spread (choose l r) = Merge ∷ Front (Put R) ∷ Visit r ∷ Front (Put L) ∷ Visit l ∷ []
-spread (forced x t) = Front (Put (symbol_of x)) ∷ Visit t ∷ []
-spread (go e t) = Visit t ∷ []
+abbrev pub tasks_from : Move ℕ → List Task
+tasks_from accept = []
+tasks_from (read set t) = []
+tasks_from (choose l r) = Merge ∷ Front (Put R) ∷ Visit r ∷ Front (Put L) ∷ Visit l ∷ []
+tasks_from (forced x t) = Front (Put (symbol_of x)) ∷ Visit t ∷ []
+tasks_from (go e t) = Visit t ∷ []
 
-abbrev pub stopped : Move ℕ → ℕ → List (Option (Grown Part ℕ))
-stopped accept n = Some (record { label = []; tree = tip n }) ∷ []
-stopped (read set t) n = Some (record { label = []; tree = tip n }) ∷ []
-stopped (choose l r) n = []
-stopped (forced x t) n = []
-stopped (go e t) n = []
+abbrev pub leaf_at : Move ℕ → ℕ → List (Option (Grown Part ℕ))
+leaf_at accept n = Some (record { label = []; tree = tip n }) ∷ []
+leaf_at (read set t) n = Some (record { label = []; tree = tip n }) ∷ []
+leaf_at (choose l r) n = []
+leaf_at (forced x t) n = []
+leaf_at (go e t) n = []
 
 abbrev pub IsTipBelow : ℕ → Token → Type 0
 IsTipBelow m Fork = Unit {0}
@@ -40,26 +40,26 @@ IsTipBelow m (Tip p) = p < m
 abbrev pub EachTip : ℕ → List Token → Type 0
 EachTip m xs = (x : Token) → IsAmong xs x → IsTipBelow m x
 
-abbrev pub IsWorkBelow : ℕ → Work → Type 0
-IsWorkBelow m (Visit n) = n < m
-IsWorkBelow m _ = Unit {0}
+abbrev pub IsTaskBelow : ℕ → Task → Type 0
+IsTaskBelow m (Visit n) = n < m
+IsTaskBelow m _ = Unit {0}
 
-abbrev pub EachWork : ℕ → List Work → Type 0
-EachWork m xs = (x : Work) → IsAmong xs x → IsWorkBelow m x
+abbrev pub EachTask : ℕ → List Task → Type 0
+EachTask m xs = (x : Task) → IsAmong xs x → IsTaskBelow m x
 
-abbrev pub byte_jobs : Bool → ℕ → List Work
-byte_jobs true t = Front Input ∷ Visit t ∷ []
-byte_jobs false t = []
+abbrev pub byte_tasks : Bool → ℕ → List Task
+byte_tasks true t = Front Input ∷ Visit t ∷ []
+byte_tasks false t = []
 
 -- what is to be done where a byte is read
-abbrev pub read_jobs : Move ℕ → ℕ → List Work
-read_jobs (read set t) b = byte_jobs (get_or set b false) t
-read_jobs _ b = []
+abbrev pub read_tasks : Move ℕ → ℕ → List Task
+read_tasks (read set t) b = byte_tasks (get_or set b false) t
+read_tasks _ b = []
 
 -- what is to be done at a token of the old shape
-abbrev pub token_jobs : (ℕ → Move ℕ) → ℕ → Token → List Work
-token_jobs moves b Fork = Merge ∷ Edge ∷ Edge ∷ []
-token_jobs moves b (Tip p) = read_jobs (moves p) b
+abbrev pub token_tasks : (ℕ → Move ℕ) → ℕ → Token → List Task
+token_tasks moves b Fork = Merge ∷ OldEdge ∷ OldEdge ∷ []
+token_tasks moves b (Tip p) = read_tasks (moves p) b
 
 abbrev pub byte_dead : Bool → List (Option (Grown Part ℕ))
 byte_dead true = []
@@ -74,13 +74,13 @@ abbrev pub token_dead : (ℕ → Move ℕ) → ℕ → Token → List (Option (G
 token_dead moves b Fork = []
 token_dead moves b (Tip p) = read_dead (moves p) b
 
-abbrev pub meet_jobs : Bool → Move ℕ → List Work
-meet_jobs true m = []
-meet_jobs false m = spread m
+abbrev pub place_tasks : Bool → Move ℕ → List Task
+place_tasks true m = []
+place_tasks false m = tasks_from m
 
-abbrev pub met : Bool → Move ℕ → ℕ → List (Option (Grown Part ℕ))
-met true m n = None ∷ []
-met false m n = stopped m n
+abbrev pub place_trees : Bool → Move ℕ → ℕ → List (Option (Grown Part ℕ))
+place_trees true m n = None ∷ []
+place_trees false m n = leaf_at m n
 
 -- the tokens of a tree as two lists
 abbrev pub tokens_from : List Bool → List ℕ → List Token
@@ -90,35 +90,35 @@ tokens_from (false ∷ xs) [] = tokens_from xs []
 tokens_from (false ∷ xs) (p ∷ ps) = Tip p ∷ tokens_from xs ps
 
 -- what is to be done, with the shapes that are walked
-pub data Job : Type 0 where
-  tree : Shape ℕ → Job
-  edge : Shape ℕ → Job
-  merge_two : Job
-  put_front : Part → Job
-  go_to : ℕ → Job
+pub data ShapedTask : Type 0 where
+  tree : Shape ℕ → ShapedTask
+  edge : Shape ℕ → ShapedTask
+  merge_two : ShapedTask
+  put_front : Part → ShapedTask
+  go_to : ℕ → ShapedTask
 
-abbrev pub work_of : Job → Work
-work_of (tree s) = Tree
-work_of (edge s) = Edge
-work_of merge_two = Merge
-work_of (put_front x) = Front x
-work_of (go_to n) = Visit n
+abbrev pub task_of : ShapedTask → Task
+task_of (tree s) = OldTree
+task_of (edge s) = OldEdge
+task_of merge_two = Merge
+task_of (put_front x) = Front x
+task_of (go_to n) = Visit n
 
 -- the tokens that are still to be read
-abbrev pub text_of : List Job → List Token
-text_of [] = []
-text_of (tree s ∷ js) = tokens s ++ text_of js
-text_of (edge s ∷ js) = tokens s ++ text_of js
-text_of (merge_two ∷ js) = text_of js
-text_of (put_front x ∷ js) = text_of js
-text_of (go_to n ∷ js) = text_of js
+abbrev pub tokens_left : List ShapedTask → List Token
+tokens_left [] = []
+tokens_left (tree s ∷ js) = tokens s ++ tokens_left js
+tokens_left (edge s ∷ js) = tokens s ++ tokens_left js
+tokens_left (merge_two ∷ js) = tokens_left js
+tokens_left (put_front x ∷ js) = tokens_left js
+tokens_left (go_to n ∷ js) = tokens_left js
 
 module _ (moves : ℕ → Move ℕ) (b : ℕ) where
-  -- the jobs lead from marks f and trees rs, at token k, to marks g and trees out
-  abbrev pub Runs : List Job → ℕ → List Bool → List (Option (Grown Part ℕ)) → List Bool → List (Option (Grown Part ℕ)) → Type 0
+  -- the tasks lead from marks f and trees rs, at token k, to marks g and trees out
+  abbrev pub Runs : List ShapedTask → ℕ → List Bool → List (Option (Grown Part ℕ)) → List Bool → List (Option (Grown Part ℕ)) → Type 0
   Runs [] k f rs g out = (f ≡ g) × (rs ≡ out)
   Runs (tree s ∷ js) k f rs g out = (a : Option (Grown Part ℕ)) × (h : List Bool) × GoesOn moves b k f s a h × Runs js (k + size_of s) h (a ∷ rs) g out
   Runs (edge s ∷ js) k f rs g out = (a : Option (Grown Part ℕ)) × (h : List Bool) × GoesOn moves b k f s a h × Runs js (k + size_of s) h (behind (Old (k - 1) ∷ []) a ∷ rs) g out
-  Runs (merge_two ∷ js) k f rs g out = Runs js k f (joined (top (under rs)) (top rs) ∷ under (under rs)) g out
-  Runs (put_front x ∷ js) k f rs g out = Runs js k f (behind (x ∷ []) (top rs) ∷ under rs) g out
+  Runs (merge_two ∷ js) k f rs g out = Runs js k f (joined (last_tree (trees_before rs)) (last_tree rs) ∷ trees_before (trees_before rs)) g out
+  Runs (put_front x ∷ js) k f rs g out = Runs js k f (behind (x ∷ []) (last_tree rs) ∷ trees_before rs) g out
   Runs (go_to n ∷ js) k f rs g out = (a : Option (Grown Part ℕ)) × (h : List Bool) × Explores moves f n a h × Runs js k h (a ∷ rs) g out

@@ -5,7 +5,7 @@ ghost use Rattle.kex_model.specs.Labelled.{Shape};
 ghost use Rattle.kex_paths.specs.Nexts.{IsOfShape, HasClass, IsNext, Begins, Follows, ShowsFirst, ShowsFor};
 
 use crate::tree::{PathTree, gather};
-use crate::walk::{Tools, Work, walk};
+use crate::walk::{Task, Tools, walk};
 use crate::workspace::Workspace;
 use kex_code::memory::Memory;
 use kex_machine::Trimmed;
@@ -29,9 +29,9 @@ impl<'m> PathTree<'m> {
             return Err(Memory);
         }
         let mut tools = Tools::new(alloc, nodes.len())?;
-        walk(nodes, &[], 0, Work::Visit(machine.start()), &mut tools)?;
-        let root = tools.grove.pop_root().unwrap();
-        gather(alloc, machine, &root, tools.grove.edges())
+        walk(nodes, &[], 0, Task::Visit(machine.start()), &mut tools)?;
+        let root = tools.forest.pop_root().unwrap();
+        gather(alloc, machine, &root, tools.forest.edges())
     }
 
     /// The tree that comes with a byte of a class, and the update; none exactly where no byte of the class can come. The

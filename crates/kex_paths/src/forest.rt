@@ -3,7 +3,7 @@
 ghost use Rattle.std.specs.Prelude.{◌≡◌, ℕ, List, [], ◌∷◌, ◌++◌, Some, Option, OnOk};
 ghost use Rattle.kex_model.specs.Labelled.{Grown, tip, behind, joined};
 ghost use Rattle.kex_sst.specs.declared.parts.Part.{Part};
-ghost use Rattle.kex_paths.specs.Groves.{HasTrees, IsBranch, top, under, no_wood};
+ghost use Rattle.kex_paths.specs.Forests.{HasTrees, LeadsTo, last_tree, trees_before, no_trees};
 
 use kex_code::memory::Memory;
 use kex_sst::parts::Part;
@@ -12,41 +12,41 @@ use std::marker::Model;
 
 /// What an edge leads to: a place, or a fork, by the numbers of its left and its right edge.
 #[derive(Clone, Copy, Debug, PartialEq, Eq)]
-pub enum Knot {
+pub enum TreeNode {
     Tip(u32),
     Fork(usize, usize),
 }
 
 /// An edge, with what it leads to. Its label is turned: what is put in front stands at its end.
 #[derive(Drop)]
-pub struct Branch {
+pub struct Edge {
     pub label: Vec<Part>,
-    pub knot: Knot,
+    pub node: TreeNode,
 }
 
 /// Trees side by side, each with an edge to its root; the edges below the roots stand by number.
 #[derive(Drop)]
-pub struct Grove {
+pub struct Forest {
     alloc: Global,
-    edges: Vec<Branch>,
-    roots: Vec<Option<Branch>>,
+    edges: Vec<Edge>,
+    roots: Vec<Option<Edge>>,
 }
 
-impl Model for Grove {
+impl Model for Forest {
     ghost use Rattle.std.specs.Prelude.{reverse};
-    ghost use Rattle.kex_paths.specs.Groves.{Wood};
+    ghost use Rattle.kex_paths.specs.Forests.{Trees};
 
-    ghost Value = { Wood };
+    ghost Value = { Trees };
 
     ghost view = { λ g. record { edges = g.edges.items; roots = reverse g.roots.items } };
 }
 
-impl Grove {
+impl Forest {
     /// No trees.
-    pub fn new(alloc: Global) -> Grove
-        ensures { result ≡ no_wood }
+    pub fn new(alloc: Global) -> Forest
+        ensures { result ≡ no_trees }
     {
-        Grove {
+        Forest {
             alloc,
             edges: Vec::new(alloc),
             roots: Vec::new(alloc),
@@ -55,29 +55,29 @@ impl Grove {
 
     /// Takes all trees away.
     pub fn clear(&mut self)
-        ensures { self.new ≡ no_wood }
+        ensures { self.new ≡ no_trees }
     {
         self.edges.clear();
         self.roots.clear();
     }
 
     /// The edges below the roots.
-    pub fn edges(&self) -> &[Branch]
+    pub fn edges(&self) -> &[Edge]
         ensures { result.now ≡ self.now.edges }
     {
         &self.edges
     }
 
-    fn push_root(&mut self, root: Option<Branch>) -> Result<(), Memory>
-        ensures { OnOk result ((t : Option (Grown Part ℕ)) (rs : List (Option (Grown Part ℕ))) → IsBranch self.old.edges root t → HasTrees self.old rs → HasTrees self.new (t ∷ rs)) }
+    fn push_root(&mut self, root: Option<Edge>) -> Result<(), Memory>
+        ensures { OnOk result ((t : Option (Grown Part ℕ)) (rs : List (Option (Grown Part ℕ))) → LeadsTo self.old.edges root t → HasTrees self.old rs → HasTrees self.new (t ∷ rs)) }
     {
         self.roots.push(root)?;
         Ok(())
     }
 
     /// Takes the last tree away; the edges below its root stay.
-    pub fn pop_root(&mut self) -> Option<Branch>
-        ensures trees { (rs : List (Option (Grown Part ℕ))) → HasTrees self.old rs → IsBranch self.new.edges result (top rs) × HasTrees self.new (under rs) }
+    pub fn pop_root(&mut self) -> Option<Edge>
+        ensures trees { (rs : List (Option (Grown Part ℕ))) → HasTrees self.old rs → LeadsTo self.new.edges result (last_tree rs) × HasTrees self.new (trees_before rs) }
         ensures edges { self.new.edges ≡ self.old.edges }
     {
         match self.roots.pop() {
@@ -98,26 +98,26 @@ impl Grove {
         ensures { OnOk result ((rs : List (Option (Grown Part ℕ))) → HasTrees self.old rs → HasTrees self.new (Some (record { label = []; tree = tip place }) ∷ rs)) }
     {
         let label = Vec::new(self.alloc);
-        let knot = Knot::Tip(place);
-        self.push_root(Some(Branch { label, knot }))
+        let node = TreeNode::Tip(place);
+        self.push_root(Some(Edge { label, node }))
     }
 
     // A fork of two trees, as the last tree.
-    fn add_fork(&mut self, left: Branch, right: Branch) -> Result<(), Memory>
-        ensures { OnOk result ((a : Grown Part ℕ) (b : Grown Part ℕ) (rs : List (Option (Grown Part ℕ))) → IsBranch self.old.edges (Some left) (Some a) → IsBranch self.old.edges (Some right) (Some b) → HasTrees self.old rs → HasTrees self.new (joined (Some a) (Some b) ∷ rs)) }
+    fn add_fork(&mut self, left: Edge, right: Edge) -> Result<(), Memory>
+        ensures { OnOk result ((a : Grown Part ℕ) (b : Grown Part ℕ) (rs : List (Option (Grown Part ℕ))) → LeadsTo self.old.edges (Some left) (Some a) → LeadsTo self.old.edges (Some right) (Some b) → HasTrees self.old rs → HasTrees self.new (joined (Some a) (Some b) ∷ rs)) }
     {
         let label = Vec::new(self.alloc);
         let left_number = self.edges.len();
         self.edges.push(left)?;
         let right_number = self.edges.len();
         self.edges.push(right)?;
-        let knot = Knot::Fork(left_number, right_number);
-        self.push_root(Some(Branch { label, knot }))
+        let node = TreeNode::Fork(left_number, right_number);
+        self.push_root(Some(Edge { label, node }))
     }
 
     /// The last two trees as the sides of a fork; of one that is gone no fork is left.
     pub fn merge(&mut self) -> Result<(), Memory>
-        ensures { OnOk result ((rs : List (Option (Grown Part ℕ))) → HasTrees self.old rs → HasTrees self.new (joined (top (under rs)) (top rs) ∷ under (under rs))) }
+        ensures { OnOk result ((rs : List (Option (Grown Part ℕ))) → HasTrees self.old rs → HasTrees self.new (joined (last_tree (trees_before rs)) (last_tree rs) ∷ trees_before (trees_before rs))) }
     {
         let right = self.pop_root();
         let left = self.pop_root();
@@ -130,7 +130,7 @@ impl Grove {
 
     /// A part in front of the last tree.
     pub fn put_front(&mut self, part: Part) -> Result<(), Memory>
-        ensures { OnOk result ((rs : List (Option (Grown Part ℕ))) → HasTrees self.old rs → HasTrees self.new (behind (part ∷ []) (top rs) ∷ under rs)) }
+        ensures { OnOk result ((rs : List (Option (Grown Part ℕ))) → HasTrees self.old rs → HasTrees self.new (behind (part ∷ []) (last_tree rs) ∷ trees_before rs)) }
     {
         match self.pop_root() {
             None => self.push_root(None),

@@ -5,7 +5,7 @@
 #![tactic(auto)]
 
 mod advance;
-mod grove;
+mod forest;
 pub mod laws;
 #[cfg(test)]
 mod tests;

@@ -4,12 +4,12 @@ ghost use Rattle.std.specs.Prelude.{◌≡◌, ℕ, ◌*◌, ◌<◌, ◌≤◌,
 ghost use Rattle.kex_model.specs.Labelled.{Grown, Shape, shape_of, size_of};
 ghost use Rattle.kex_machine.specs.Advancing.{EachPlace};
 ghost use Rattle.kex_sst.specs.declared.parts.Part.{Part};
-ghost use Rattle.kex_paths.specs.Groves.{IsBranch};
+ghost use Rattle.kex_paths.specs.Forests.{LeadsTo};
 ghost use Rattle.kex_paths.specs.Nexts.{Outline, IsOfShape, IsChange};
 ghost use Rattle.kex_paths.specs.Spellings.{IsSound, key_of, number_of, is_inner, tip_in, edges_from};
-ghost use Rattle.kex_paths.specs.Jobs.{tokens_from, IsTipBelow};
+ghost use Rattle.kex_paths.specs.Tasks.{tokens_from, IsTipBelow};
 
-use crate::grove::{Branch, Knot};
+use crate::forest::{Edge, TreeNode};
 use crate::walk::Token;
 use kex_code::memory::Memory;
 use kex_machine::Trimmed;
@@ -115,24 +115,24 @@ fn parts_of(alloc: Global, label: &[Part]) -> Result<Parts, Memory>
     Ok(parts)
 }
 
-// A knot is spelled; the edges that go from it are to be followed, the left one first.
-fn add_knot(
-    knot: Knot,
+// A node is spelled; the edges that go from it are to be followed, the left one first.
+fn add_node(
+    node: TreeNode,
     shape: &mut Vec<bool>,
     leaves: &mut Vec<u32>,
     pending: &mut Vec<usize>,
 ) -> Result<(), Memory>
-    ensures shape { OnOk result (shape.new.items ≡ shape.old.items ++ is_inner knot ∷ []) }
-    ensures leaves { OnOk result (leaves.new.items ≡ leaves.old.items ++ tip_in knot) }
-    ensures pending { OnOk result (pending.new.items ≡ pending.old.items ++ edges_from knot) }
+    ensures shape { OnOk result (shape.new.items ≡ shape.old.items ++ is_inner node ∷ []) }
+    ensures leaves { OnOk result (leaves.new.items ≡ leaves.old.items ++ tip_in node) }
+    ensures pending { OnOk result (pending.new.items ≡ pending.old.items ++ edges_from node) }
 {
-    match knot {
-        Knot::Tip(place) => {
+    match node {
+        TreeNode::Tip(place) => {
             shape.push(false)?;
             leaves.push(place)?;
             Ok(())
         }
-        Knot::Fork(left, right) => {
+        TreeNode::Fork(left, right) => {
             shape.push(true)?;
             pending.push(right)?;
             pending.push(left)?;
@@ -142,7 +142,7 @@ fn add_knot(
 }
 
 // The edge of a number.
-fn edge_at(edges: &[Branch], number: usize) -> &Branch
+fn edge_at(edges: &[Edge], number: usize) -> &Edge
     requires { number < length edges.now }
     ensures { slice_get edges.now number ≡ Some result.now }
 {
@@ -153,24 +153,24 @@ fn edge_at(edges: &[Branch], number: usize) -> &Branch
 pub fn gather<'m>(
     alloc: Global,
     machine: &'m Trimmed,
-    root: &Branch,
-    edges: &[Branch],
+    root: &Edge,
+    edges: &[Edge],
 ) -> Result<(PathTree<'m>, Update), Memory>
     requires few { 2 * length machine.now.nodes ≤ 2 ^ 32 }
-    requires fits { (a : Grown Part ℕ) × IsBranch edges.now (Some root.now) (Some a) × EachPlace (length machine.now.nodes) (shape_of a.tree) × (size_of (shape_of a.tree) < 2 * length machine.now.nodes) }
+    requires fits { (a : Grown Part ℕ) × LeadsTo edges.now (Some root.now) (Some a) × EachPlace (length machine.now.nodes) (shape_of a.tree) × (size_of (shape_of a.tree) < 2 * length machine.now.nodes) }
     ensures machine { IfOk result (λ r. r.0.machine ≡ machine.now) }
-    ensures tree { IfOk result (λ r. (a : Grown Part ℕ) → IsBranch edges.now (Some root.now) (Some a) → IsOfShape r.0 (shape_of a.tree) × IsChange r.1 a) }
+    ensures tree { IfOk result (λ r. (a : Grown Part ℕ) → LeadsTo edges.now (Some root.now) (Some a) → IsOfShape r.0 (shape_of a.tree) × IsChange r.1 a) }
 {
     let mut shape = Vec::new(alloc);
     let mut leaves = Vec::new(alloc);
     let mut regs = Vec::with_capacity(alloc, edges.len())?;
     let mut pending = Vec::new(alloc);
-    add_knot(root.knot, &mut shape, &mut leaves, &mut pending)?;
+    add_node(root.node, &mut shape, &mut leaves, &mut pending)?;
     while let Some(number) = pending.pop() {
         let edge = edge_at(edges, number);
         let label = parts_of(alloc, &edge.label)?;
         regs.push(label)?;
-        add_knot(edge.knot, &mut shape, &mut leaves, &mut pending)?;
+        add_node(edge.node, &mut shape, &mut leaves, &mut pending)?;
     }
     let out = parts_of(alloc, &root.label)?;
     let tree = PathTree {

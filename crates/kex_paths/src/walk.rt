@@ -5,10 +5,10 @@ ghost use Rattle.kex_model.specs.Labelled.{Grown};
 ghost use Rattle.kex_model.specs.Moves.{symbol_of};
 ghost use Rattle.kex_machine.specs.Nodes.{node_moves, move_of, side_of, StaysWithin};
 ghost use Rattle.kex_sst.specs.declared.parts.Part.{Part};
-ghost use Rattle.kex_paths.specs.Groves.{HasTrees, top};
-ghost use Rattle.kex_paths.specs.Jobs.{Job, work_of, text_of, Runs, spread, stopped, IsTipBelow, token_jobs, token_dead, read_jobs, read_dead, meet_jobs, met, EachTip, IsWorkBelow};
+ghost use Rattle.kex_paths.specs.Forests.{HasTrees, last_tree};
+ghost use Rattle.kex_paths.specs.Tasks.{ShapedTask, task_of, tokens_left, Runs, tasks_from, leaf_at, IsTipBelow, token_tasks, token_dead, read_tasks, read_dead, place_tasks, place_trees, EachTip, IsTaskBelow};
 
-use crate::grove::Grove;
+use crate::forest::Forest;
 use kex_code::memory::Memory;
 use kex_code::symbol::Symbol;
 use kex_machine::marks::Marks;
@@ -26,9 +26,9 @@ pub enum Token {
 /// What is still to be done: the next old tree is walked, or that with the old edge to it; the last two trees are merged,
 /// a part is put in front of the last tree, or a place is visited.
 #[derive(Clone, Copy, Debug, PartialEq, Eq)]
-pub enum Work {
-    Tree,
-    Edge,
+pub enum Task {
+    OldTree,
+    OldEdge,
     Merge,
     Front(Part),
     Visit(u32),
@@ -38,8 +38,8 @@ pub enum Work {
 #[derive(Drop)]
 pub struct Tools {
     pub marks: Marks,
-    pub grove: Grove,
-    pub work: Vec<Work>,
+    pub forest: Forest,
+    pub tasks: Vec<Task>,
 }
 
 impl Tools {
@@ -50,8 +50,8 @@ impl Tools {
         let marks = Marks::new(alloc, count)?;
         Ok(Tools {
             marks,
-            grove: Grove::new(alloc),
-            work: Vec::new(alloc),
+            forest: Forest::new(alloc),
+            tasks: Vec::new(alloc),
         })
     }
 }
@@ -74,33 +74,33 @@ fn symbol_at(side: Bit) -> Symbol
 }
 
 // A place that wasn't met: where it leads without a byte is to be visited, or it is a tree.
-fn enter(nodes: &[MNode], n: u32, grove: &mut Grove, work: &mut Vec<Work>) -> Result<(), Memory>
+fn enter(nodes: &[MNode], n: u32, forest: &mut Forest, tasks: &mut Vec<Task>) -> Result<(), Memory>
     requires { n < length nodes.now }
-    ensures work { OnOk result (work.new.items ≡ work.old.items ++ spread (node_moves nodes.now n)) }
-    ensures trees { OnOk result ((rs : List (Option (Grown Part ℕ))) → HasTrees grove.old rs → HasTrees grove.new (stopped (node_moves nodes.now n) n ++ rs)) }
+    ensures tasks { OnOk result (tasks.new.items ≡ tasks.old.items ++ tasks_from (node_moves nodes.now n)) }
+    ensures trees { OnOk result ((rs : List (Option (Grown Part ℕ))) → HasTrees forest.old rs → HasTrees forest.new (leaf_at (node_moves nodes.now n) n ++ rs)) }
 {
     match node_at(nodes, n) {
-        MNode::Accept => grove.add_tip(n),
-        MNode::Read(_, _) => grove.add_tip(n),
+        MNode::Accept => forest.add_tip(n),
+        MNode::Read(_, _) => forest.add_tip(n),
         MNode::Choice(l, r) => {
-            work.push(Work::Merge)?;
-            work.push(Work::Front(Part::Put(Symbol::R)))?;
-            work.push(Work::Visit(*r))?;
-            work.push(Work::Front(Part::Put(Symbol::L)))?;
-            work.push(Work::Visit(*l))?;
+            tasks.push(Task::Merge)?;
+            tasks.push(Task::Front(Part::Put(Symbol::R)))?;
+            tasks.push(Task::Visit(*r))?;
+            tasks.push(Task::Front(Part::Put(Symbol::L)))?;
+            tasks.push(Task::Visit(*l))?;
             Ok(())
         }
         MNode::Forced(side, next) => {
-            work.push(Work::Front(Part::Put(symbol_at(*side))))?;
-            work.push(Work::Visit(*next))?;
+            tasks.push(Task::Front(Part::Put(symbol_at(*side))))?;
+            tasks.push(Task::Visit(*next))?;
             Ok(())
         }
         MNode::Do(_, next) => {
-            work.push(Work::Visit(*next))?;
+            tasks.push(Task::Visit(*next))?;
             Ok(())
         }
         MNode::Skip(next) => {
-            work.push(Work::Visit(*next))?;
+            tasks.push(Task::Visit(*next))?;
             Ok(())
         }
     }
@@ -111,19 +111,19 @@ fn meet(
     nodes: &[MNode],
     n: u32,
     marks: &mut Marks,
-    grove: &mut Grove,
-    work: &mut Vec<Work>,
+    forest: &mut Forest,
+    tasks: &mut Vec<Task>,
 ) -> Result<(), Memory>
     requires below { n < length nodes.now }
     requires long { length marks.old ≡ length nodes.now }
     ensures marks { marks.new ≡ set marks.old n true }
-    ensures work { OnOk result (work.new.items ≡ work.old.items ++ meet_jobs (get_or marks.old n false) (node_moves nodes.now n)) }
-    ensures trees { OnOk result ((rs : List (Option (Grown Part ℕ))) → HasTrees grove.old rs → HasTrees grove.new (met (get_or marks.old n false) (node_moves nodes.now n) n ++ rs)) }
+    ensures tasks { OnOk result (tasks.new.items ≡ tasks.old.items ++ place_tasks (get_or marks.old n false) (node_moves nodes.now n)) }
+    ensures trees { OnOk result ((rs : List (Option (Grown Part ℕ))) → HasTrees forest.old rs → HasTrees forest.new (place_trees (get_or marks.old n false) (node_moves nodes.now n) n ++ rs)) }
 {
     if marks.mark(n) {
-        grove.add_none()
+        forest.add_none()
     } else {
-        enter(nodes, n, grove, work)
+        enter(nodes, n, forest, tasks)
     }
 }
 
@@ -132,21 +132,21 @@ fn read(
     nodes: &[MNode],
     place: u32,
     byte: u8,
-    grove: &mut Grove,
-    work: &mut Vec<Work>,
+    forest: &mut Forest,
+    tasks: &mut Vec<Task>,
 ) -> Result<(), Memory>
     requires { place < length nodes.now }
-    ensures work { OnOk result (work.new.items ≡ work.old.items ++ read_jobs (node_moves nodes.now place) byte) }
-    ensures trees { OnOk result ((rs : List (Option (Grown Part ℕ))) → HasTrees grove.old rs → HasTrees grove.new (read_dead (node_moves nodes.now place) byte ++ rs)) }
+    ensures tasks { OnOk result (tasks.new.items ≡ tasks.old.items ++ read_tasks (node_moves nodes.now place) byte) }
+    ensures trees { OnOk result ((rs : List (Option (Grown Part ℕ))) → HasTrees forest.old rs → HasTrees forest.new (read_dead (node_moves nodes.now place) byte ++ rs)) }
 {
     if let MNode::Read(set, next) = node_at(nodes, place) {
         if set.has(byte) {
-            work.push(Work::Front(Part::Input))?;
-            work.push(Work::Visit(*next))?;
+            tasks.push(Task::Front(Part::Input))?;
+            tasks.push(Task::Visit(*next))?;
             return Ok(());
         }
     }
-    grove.add_none()
+    forest.add_none()
 }
 
 // A node of the old tree: the sides of a fork are to be walked, each with the edge to it.
@@ -154,64 +154,68 @@ fn take_token(
     nodes: &[MNode],
     token: Token,
     byte: u8,
-    grove: &mut Grove,
-    work: &mut Vec<Work>,
+    forest: &mut Forest,
+    tasks: &mut Vec<Task>,
 ) -> Result<(), Memory>
     requires { IsTipBelow (length nodes.now) token }
-    ensures work { OnOk result (work.new.items ≡ work.old.items ++ token_jobs (node_moves nodes.now) byte token) }
-    ensures trees { OnOk result ((rs : List (Option (Grown Part ℕ))) → HasTrees grove.old rs → HasTrees grove.new (token_dead (node_moves nodes.now) byte token ++ rs)) }
+    ensures tasks { OnOk result (tasks.new.items ≡ tasks.old.items ++ token_tasks (node_moves nodes.now) byte token) }
+    ensures trees { OnOk result ((rs : List (Option (Grown Part ℕ))) → HasTrees forest.old rs → HasTrees forest.new (token_dead (node_moves nodes.now) byte token ++ rs)) }
 {
     match token {
         Token::Fork => {
-            work.push(Work::Merge)?;
-            work.push(Work::Edge)?;
-            work.push(Work::Edge)?;
+            tasks.push(Task::Merge)?;
+            tasks.push(Task::OldEdge)?;
+            tasks.push(Task::OldEdge)?;
             Ok(())
         }
-        Token::Tip(place) => read(nodes, place, byte, grove, work),
+        Token::Tip(place) => read(nodes, place, byte, forest, tasks),
     }
 }
 
-/// Does a job and those that come of it, left first; past an old tree, node by node. What comes of it is the last tree.
+/// Does a task and those that come of it, left first; past an old tree, node by node. What comes of it is the last tree.
 pub fn walk(
     nodes: &[MNode],
     tokens: &[Token],
     byte: u8,
-    first: Work,
+    first: Task,
     tools: &mut Tools,
 ) -> Result<(), Memory>
     requires range { StaysWithin nodes.now }
     requires tips { EachTip (length nodes.now) tokens.now }
     requires short { length tokens.now ≤ 2 ^ 32 }
-    requires first { IsWorkBelow (length nodes.now) first }
+    requires first { IsTaskBelow (length nodes.now) first }
     requires long { length tools.old.marks ≡ length nodes.now }
-    ensures done { OnOk result ((j : Job) → work_of j ≡ first → tokens.now ≡ text_of (j ∷ []) → (rs : List (Option (Grown Part ℕ))) × HasTrees tools.new.grove rs × ((h : List Bool) × Runs (node_moves nodes.now) byte (j ∷ []) 0 (replicate (length nodes.now) false) [] h rs)) }
+    ensures done { OnOk result ((j : ShapedTask) → task_of j ≡ first → tokens.now ≡ tokens_left (j ∷ []) → (rs : List (Option (Grown Part ℕ))) × HasTrees tools.new.forest rs × ((h : List Bool) × Runs (node_moves nodes.now) byte (j ∷ []) 0 (replicate (length nodes.now) false) [] h rs)) }
     ensures long { length tools.new.marks ≡ length nodes.now }
 {
-    let Tools { marks, grove, work } = tools;
+    let Tools {
+        marks,
+        forest,
+        tasks,
+    } = tools;
     marks.clear();
-    grove.clear();
-    work.clear();
-    work.push(first)?;
+    forest.clear();
+    tasks.clear();
+    tasks.push(first)?;
     let mut cursor: usize = 0;
-    while let Some(job) = work.pop() {
-        match job {
-            Work::Tree => {
+    while let Some(task) = tasks.pop() {
+        match task {
+            Task::OldTree => {
                 if cursor < tokens.len() {
-                    take_token(nodes, tokens[cursor], byte, grove, work)?;
+                    take_token(nodes, tokens[cursor], byte, forest, tasks)?;
                     cursor += 1;
                 }
             }
-            Work::Edge => {
+            Task::OldEdge => {
                 if cursor < tokens.len() {
-                    work.push(Work::Front(Part::Old(cursor.saturating_sub(1) as u32)))?;
-                    take_token(nodes, tokens[cursor], byte, grove, work)?;
+                    tasks.push(Task::Front(Part::Old(cursor.saturating_sub(1) as u32)))?;
+                    take_token(nodes, tokens[cursor], byte, forest, tasks)?;
                     cursor += 1;
                 }
             }
-            Work::Merge => grove.merge()?,
-            Work::Front(part) => grove.put_front(part)?,
-            Work::Visit(n) => meet(nodes, n, marks, grove, work)?,
+            Task::Merge => forest.merge()?,
+            Task::Front(part) => forest.put_front(part)?,
+            Task::Visit(n) => meet(nodes, n, marks, forest, tasks)?,
         }
     }
     Ok(())

@@ -10,7 +10,7 @@ ghost use Rattle.kex_paths.specs.Spellings.{IsSound};
 ghost use Rattle.kex_paths.specs.Workspaces.{AreSamples};
 
 use crate::tree::{PathTree, gather, read_tokens};
-use crate::walk::{Token, Tools, Work, walk};
+use crate::walk::{Task, Token, Tools, walk};
 use kex_byteset::Partition;
 use kex_code::memory::Memory;
 use kex_machine::Trimmed;
@@ -89,11 +89,11 @@ impl<'m> Workspace<'m> {
     {
         let nodes = self.machine.nodes();
         read_tokens(shape, leaves, &mut self.tokens)?;
-        walk(nodes, &self.tokens, byte, Work::Tree, &mut self.tools)?;
-        match self.tools.grove.pop_root() {
+        walk(nodes, &self.tokens, byte, Task::OldTree, &mut self.tools)?;
+        match self.tools.forest.pop_root() {
             None => Ok(None),
             Some(root) => {
-                let edges = self.tools.grove.edges();
+                let edges = self.tools.forest.edges();
                 let next = gather(self.alloc, self.machine, &root, edges)?;
                 Ok(Some(next))
             }

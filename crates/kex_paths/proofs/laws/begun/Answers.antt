@@ -1,4 +1,4 @@
-use Rattle.kex_paths.proofs.Ordering.{determines_first}
+use Rattle.kex_paths.proofs.InOrder.{determines_first}
 use Rattle.kex_paths.proofs.laws.begun.Goals as goal
 
 pub returns : goal.returns

@@ -1,4 +1,4 @@
-use Rattle.kex_paths.proofs.Ordering.{determines}
+use Rattle.kex_paths.proofs.InOrder.{determines}
 use Rattle.kex_paths.proofs.laws.determined.Goals as goal
 
 pub returns : goal.returns

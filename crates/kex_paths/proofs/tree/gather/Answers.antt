@@ -1,21 +1,21 @@
 use Rattle.std.proofs.Common.{◌≡◌, ℕ, [], ◌∷◌, ◌++◌, Some, length, reverse, ap, subst, ◌∙◌, length-append, arith}
 use Rattle.kex_model.specs.Labelled.{Grown}
 use Rattle.kex_sst.specs.declared.parts.Part.{Part}
-use Rattle.kex_paths.specs.Groves.{IsBranch}
+use Rattle.kex_paths.specs.Forests.{LeadsTo}
 use Rattle.kex_paths.specs.Spellings.{IsSpelled, is_inner, tip_in, edges_from}
-use Rattle.kex_paths.proofs.Spelling.{spelled_start, spelled_more, spelled_as, next_edge}
+use Rattle.kex_paths.proofs.Preorders.{spelled_start, spelled_more, spelled_as, next_edge}
 use Rattle.kex_paths.proofs.tree.gather.Goals as goal
 use Rattle.kex_paths.proofs.tree.gather.Goals.{In-Some}
 
 pub loop-number-init : goal.loop-number-init
 loop-number-init c = λ a h.
-    let shape : c.add_knot.new.shape.items ≡ is_inner c.args.root.now.knot ∷ [] = c.in_ok-add_knot.ensures.shape ∙ ap (λ z. z ++ is_inner c.args.root.now.knot ∷ []) c.new-shape.ensures.items in
-    let leaves : c.add_knot.new.leaves.items ≡ tip_in c.args.root.now.knot = c.in_ok-add_knot.ensures.leaves ∙ ap (λ z. z ++ tip_in c.args.root.now.knot) c.new-leaves.ensures.items in
-    let pending : c.add_knot.new.pending.items ≡ edges_from c.args.root.now.knot = c.in_ok-add_knot.ensures.pending ∙ ap (λ z. z ++ edges_from c.args.root.now.knot) c.new-pending.ensures.items in
-    spelled_as c.args.edges.now a (is_inner c.args.root.now.knot ∷ []) c.add_knot.new.shape.items (tip_in c.args.root.now.knot) c.add_knot.new.leaves.items [] c.in_ok-regs.regs.items (edges_from c.args.root.now.knot) c.add_knot.new.pending.items shape leaves c.in_ok-regs.ensures.items pending (spelled_start c.args.edges.now c.args.root.now a h)
+    let shape : c.add_node.new.shape.items ≡ is_inner c.args.root.now.node ∷ [] = c.in_ok-add_node.ensures.shape ∙ ap (λ z. z ++ is_inner c.args.root.now.node ∷ []) c.new-shape.ensures.items in
+    let leaves : c.add_node.new.leaves.items ≡ tip_in c.args.root.now.node = c.in_ok-add_node.ensures.leaves ∙ ap (λ z. z ++ tip_in c.args.root.now.node) c.new-leaves.ensures.items in
+    let pending : c.add_node.new.pending.items ≡ edges_from c.args.root.now.node = c.in_ok-add_node.ensures.pending ∙ ap (λ z. z ++ edges_from c.args.root.now.node) c.new-pending.ensures.items in
+    spelled_as c.args.edges.now a (is_inner c.args.root.now.node ∷ []) c.add_node.new.shape.items (tip_in c.args.root.now.node) c.add_node.new.leaves.items [] c.in_ok-regs.regs.items (edges_from c.args.root.now.node) c.add_node.new.pending.items shape leaves c.in_ok-regs.ensures.items pending (spelled_start c.args.edges.now c.args.root.now a h)
 
 -- what is spelled, with the edge that is the next
-spelled : (c : In-Some) (a : Grown Part ℕ) → IsBranch c.args.edges.now (Some c.args.root.now) (Some a) → IsSpelled c.args.edges.now a c.loop-number.shape.items c.loop-number.leaves.items c.loop-number.regs.items (c.pop.new.self.items ++ c.in-Some.number ∷ [])
+spelled : (c : In-Some) (a : Grown Part ℕ) → LeadsTo c.args.edges.now (Some c.args.root.now) (Some a) → IsSpelled c.args.edges.now a c.loop-number.shape.items c.loop-number.leaves.items c.loop-number.regs.items (c.pop.new.self.items ++ c.in-Some.number ∷ [])
 spelled c a h = subst (λ z. IsSpelled c.args.edges.now a c.loop-number.shape.items c.loop-number.leaves.items c.loop-number.regs.items z) c.in-Some.ensures.items (c.loop-number.invariant a h)
 
 pub edge_at-edge-requires : goal.edge_at-edge-requires
@@ -28,7 +28,7 @@ loop-number-smaller c =
     let top = (goal.at.loop-number-smaller c).In-Some in
     let less = (next_edge c.args.edges.now c.requires.fits.0 c.loop-number.shape.items c.loop-number.leaves.items c.loop-number.regs.items c.pop.new.self.items c.in-Some.number (spelled top c.requires.fits.0 c.requires.fits.1)).1 in
     let small = c.requires.fits.3 in
-    let longer = ap length c.in_ok-add_knot-2.ensures.shape ∙ length-append c.loop-number.shape.items (is_inner c.edge_at-edge.result.now.knot ∷ []) in
+    let longer = ap length c.in_ok-add_node-2.ensures.shape ∙ length-append c.loop-number.shape.items (is_inner c.edge_at-edge.result.now.node ∷ []) in
     omega arith
 
 pub loop-number-preserved : goal.loop-number-preserved
@@ -36,6 +36,6 @@ loop-number-preserved c = λ a h.
     let top = (goal.at.loop-number-preserved c).In-Some in
     let x = c.edge_at-edge.result.now in
     let regs : c.push.new.self.items ≡ c.loop-number.regs.items ++ reverse x.label.items ∷ [] = c.in_ok-push.ensures.items ∙ ap (λ z. c.loop-number.regs.items ++ z ∷ []) (c.in_ok-label.ensures ∙ ap reverse c.deref.ensures.value) in
-    spelled_as c.args.edges.now a (c.loop-number.shape.items ++ is_inner x.knot ∷ []) c.add_knot-in-Some.new.shape.items (c.loop-number.leaves.items ++ tip_in x.knot) c.add_knot-in-Some.new.leaves.items (c.loop-number.regs.items ++ reverse x.label.items ∷ []) c.push.new.self.items (c.pop.new.self.items ++ edges_from x.knot) c.add_knot-in-Some.new.pending.items
-    c.in_ok-add_knot-2.ensures.shape c.in_ok-add_knot-2.ensures.leaves regs c.in_ok-add_knot-2.ensures.pending
+    spelled_as c.args.edges.now a (c.loop-number.shape.items ++ is_inner x.node ∷ []) c.add_node-in-Some.new.shape.items (c.loop-number.leaves.items ++ tip_in x.node) c.add_node-in-Some.new.leaves.items (c.loop-number.regs.items ++ reverse x.label.items ∷ []) c.push.new.self.items (c.pop.new.self.items ++ edges_from x.node) c.add_node-in-Some.new.pending.items
+    c.in_ok-add_node-2.ensures.shape c.in_ok-add_node-2.ensures.leaves regs c.in_ok-add_node-2.ensures.pending
     (spelled_more c.args.edges.now a c.loop-number.shape.items c.loop-number.leaves.items c.loop-number.regs.items c.pop.new.self.items c.in-Some.number x c.edge_at-edge.ensures (spelled top a h))

@@ -1,5 +1,5 @@
-use Rattle.kex_paths.specs.Jobs.{tokens_from}
-use Rattle.kex_paths.proofs.Spelling.{IsRead}
+use Rattle.kex_paths.specs.Tasks.{tokens_from}
+use Rattle.kex_paths.proofs.Preorders.{IsRead}
 use Rattle.kex_paths.proofs.tree.read_tokens.Given as goal
 
 abbrev pub invariant-loop-inner : goal.invariant-loop-inner

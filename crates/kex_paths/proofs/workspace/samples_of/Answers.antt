@@ -1,6 +1,6 @@
 use Rattle.std.proofs.Common.{◌≡◌, ◌∙◌, refl, subst, arith, ◌+◌, Some}
 use Rattle.std.specs.Prelude.{slice_set}
-use Rattle.kex_paths.proofs.Sampling.{AreSampled, sampled_none, sampled_more, sampled_all}
+use Rattle.kex_paths.proofs.Samples.{AreSampled, sampled_none, sampled_more, sampled_all}
 use Rattle.kex_paths.proofs.workspace.samples_of.Goals as goal
 
 pub loop-byte-init : goal.loop-byte-init

@@ -1,4 +1,4 @@
-use Rattle.kex_paths.proofs.Sampling.{AreSampled}
+use Rattle.kex_paths.proofs.Samples.{AreSampled}
 use Rattle.kex_paths.proofs.workspace.samples_of.Given as goal
 
 abbrev pub invariant-loop-byte : goal.invariant-loop-byte

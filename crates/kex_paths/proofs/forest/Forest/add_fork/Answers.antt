@@ -1,8 +1,8 @@
 use Rattle.std.proofs.Common.{◌≡◌, suc, [], ◌∷◌, ◌++◌, Some, length, ap, reverse, ◌∙◌, length-append, arith}
 use Rattle.std.proofs.lemmas.Result.{on_ok_weaker}
 use Rattle.kex_model.specs.Labelled.{fork}
-use Rattle.kex_paths.proofs.Branching.{fork_added, trees_added}
-use Rattle.kex_paths.proofs.grove.Grove.add_fork.Goals as goal
+use Rattle.kex_paths.proofs.MoreEdges.{fork_added, trees_added}
+use Rattle.kex_paths.proofs.forest.Forest.add_fork.Goals as goal
 
 pub returns : goal.returns
 returns c =

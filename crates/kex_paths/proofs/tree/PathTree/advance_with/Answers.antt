@@ -2,7 +2,7 @@ use Rattle.std.proofs.Common.{◌≡◌, sym, subst}
 use Rattle.std.specs.Prelude.{IfOk, IfSome}
 use Rattle.kex_paths.specs.Nexts.{HasClass}
 use Rattle.kex_paths.specs.Spellings.{IsSound}
-use Rattle.kex_paths.proofs.Doing.{GoesOnBy, GoesOnFor, ShowsOver, goes_on_for, shows_for, if_ok_both}
+use Rattle.kex_paths.proofs.TaskSteps.{GoesOnBy, GoesOnFor, ShowsOver, goes_on_for, shows_for, if_ok_both}
 use Rattle.kex_paths.proofs.tree.PathTree.advance_with.Goals as goal
 
 pub advance-requires : goal.advance-requires

@@ -1,9 +1,9 @@
 use Rattle.std.proofs.Common.{◌≡◌, map, take, length, sym, ap, ap₂, subst, ◌∙◌, arith}
 use Rattle.std.proofs.Math.Seq.{take-length}
 use Rattle.kex_paths.specs.Spellings.{key_of, number_of}
-use Rattle.kex_paths.specs.Jobs.{tokens, tokens_from, EachTip}
-use Rattle.kex_paths.proofs.Spelling.{tokens_of_lists, key_of_tokens, key_same, each_tip, tip_within}
-use Rattle.kex_paths.proofs.Keeping.{tip_at}
+use Rattle.kex_paths.specs.Tasks.{tokens, tokens_from, EachTip}
+use Rattle.kex_paths.proofs.Preorders.{tokens_of_lists, key_of_tokens, key_same, each_tip, tip_within}
+use Rattle.kex_paths.proofs.WalkLoop.{tip_at}
 use Rattle.kex_paths.proofs.tree.PathTree.key.Goals as goal
 
 pub number_of-requires : goal.number_of-requires

@@ -3,7 +3,7 @@ use Rattle.std.specs.Prelude.{MatchOption}
 use Rattle.kex_machine.specs.Nodes.{node_moves}
 use Rattle.kex_machine.specs.Advancing.{LeadAlike}
 use Rattle.kex_paths.specs.Nexts.{HasClass}
-use Rattle.kex_paths.proofs.Sampling.{sample_at}
+use Rattle.kex_paths.proofs.Samples.{sample_at}
 use Rattle.kex_paths.proofs.workspace.Workspace.sample.Goals as goal
 
 pub returns : goal.returns
