@@ -12,7 +12,7 @@ use Rattle.kex_lowering.specs.declared.refusal.StageRefusal.{StageRefusal}
 use Rattle.kex_lowering.specs.declared.refusal.StageRefusal.TheVariants.{TooManyPlaces, EmptyLoop, NoText, Memory}
 use Rattle.kex_compile.specs.declared.firsts.Firsts.{Firsts}
 use Rattle.kex_compile.specs.declared.limits.Limits.{Limits}
-use Rattle.kex_compile.specs.Stages.{AreFirsts, AreMachines, AreStages, CanRun, HaveInAll, IsFirst, IsFirstIn, IsRefusedFor, IsStage, IsUnplanned, Machines, first_of, least, least_of, most_places, noted, roots_of}
+use Rattle.kex_compile.specs.Stages.{AreFirsts, AreMachines, AreStages, CanRun, HaveInAll, IsFirst, IsFirstIn, IsStageRefused, IsStage, IsUnplanned, Machines, first_of, least, least_of, most_places, with_first, roots_of}
 use Rattle.kex_compile.specs.declared.refusal.PlanRefusal.{PlanRefusal}
 use Rattle.kex_compile.specs.declared.refusal.PlanRefusal.TheVariants as plan
 
@@ -52,30 +52,30 @@ module _ (Q : ℕ → Type 0) where
 
 module _ (P : Grammar) where
   -- a stage that is refused
-  pub refused-more : (xs : List ℕ) (f : Firsts) (x n : ℕ) (e : StageRefusal) → n ≡ suc (length xs) → (e ≡ Memory → ⊥) → IsWhy P x most_places e → AreFirsts P xs f → AreFirsts P (xs ++ x ∷ []) (noted e n f)
+  pub refused-more : (xs : List ℕ) (f : Firsts) (x n : ℕ) (e : StageRefusal) → n ≡ suc (length xs) → (e ≡ Memory → ⊥) → IsWhy P x most_places e → AreFirsts P xs f → AreFirsts P (xs ++ x ∷ []) (with_first e n f)
   refused-more xs f x n TooManyPlaces number some q h = record {
-    too_many_places = first-now (IsRefusedFor P TooManyPlaces) xs f.too_many_places x n number q h.too_many_places;
-    empty_loop = first-then (IsRefusedFor P EmptyLoop) xs f.empty_loop x (λ k. k.0 q) h.empty_loop;
-    no_text = first-then (IsRefusedFor P NoText) xs f.no_text x (λ k. k.0 q) h.no_text;
+    too_many_places = first-now (IsStageRefused P TooManyPlaces) xs f.too_many_places x n number q h.too_many_places;
+    empty_loop = first-then (IsStageRefused P EmptyLoop) xs f.empty_loop x (λ k. k.0 q) h.empty_loop;
+    no_text = first-then (IsStageRefused P NoText) xs f.no_text x (λ k. k.0 q) h.no_text;
   }
   refused-more xs f x n EmptyLoop number some q h = record {
-    too_many_places = first-then (IsRefusedFor P TooManyPlaces) xs f.too_many_places x q.0 h.too_many_places;
-    empty_loop = first-now (IsRefusedFor P EmptyLoop) xs f.empty_loop x n number q h.empty_loop;
-    no_text = first-then (IsRefusedFor P NoText) xs f.no_text x (λ k. k.1 q.1) h.no_text;
+    too_many_places = first-then (IsStageRefused P TooManyPlaces) xs f.too_many_places x q.0 h.too_many_places;
+    empty_loop = first-now (IsStageRefused P EmptyLoop) xs f.empty_loop x n number q h.empty_loop;
+    no_text = first-then (IsStageRefused P NoText) xs f.no_text x (λ k. k.1 q.1) h.no_text;
   }
   refused-more xs f x n NoText number some q h = record {
-    too_many_places = first-then (IsRefusedFor P TooManyPlaces) xs f.too_many_places x q.0 h.too_many_places;
-    empty_loop = first-then (IsRefusedFor P EmptyLoop) xs f.empty_loop x (λ k. q.1 k.1) h.empty_loop;
-    no_text = first-now (IsRefusedFor P NoText) xs f.no_text x n number q h.no_text;
+    too_many_places = first-then (IsStageRefused P TooManyPlaces) xs f.too_many_places x q.0 h.too_many_places;
+    empty_loop = first-then (IsStageRefused P EmptyLoop) xs f.empty_loop x (λ k. q.1 k.1) h.empty_loop;
+    no_text = first-now (IsStageRefused P NoText) xs f.no_text x n number q h.no_text;
   }
   refused-more xs f x n Memory number some q h = absurd (some refl)
 
   -- a stage that can run
   pub planned-more : (xs : List ℕ) (f : Firsts) (x : ℕ) → CanRun P x → AreFirsts P xs f → AreFirsts P (xs ++ x ∷ []) f
   planned-more xs f x q h = record {
-    too_many_places = first-then (IsRefusedFor P TooManyPlaces) xs f.too_many_places x q.few h.too_many_places;
-    empty_loop = first-then (IsRefusedFor P EmptyLoop) xs f.empty_loop x (λ k. q.no_loop k.1) h.empty_loop;
-    no_text = first-then (IsRefusedFor P NoText) xs f.no_text x (λ k. k.2 q.some_text) h.no_text;
+    too_many_places = first-then (IsStageRefused P TooManyPlaces) xs f.too_many_places x q.few h.too_many_places;
+    empty_loop = first-then (IsStageRefused P EmptyLoop) xs f.empty_loop x (λ k. q.no_loop k.1) h.empty_loop;
+    no_text = first-then (IsStageRefused P NoText) xs f.no_text x (λ k. k.2 q.some_text) h.no_text;
   }
 
   pub stages-more : (i : ℕ) (xs : List ℕ) (ms : List Graph) (x : ℕ) (m : Graph) → IsStage P x (i + length xs) m → AreStages P i xs ms → AreStages P i (xs ++ x ∷ []) (ms ++ m ∷ [])
@@ -119,7 +119,7 @@ text-noted None None (Some m) n e = cc
 text-noted None (Some m) c n e = cc
 text-noted (Some k) b c n e = cc
 
-some-noted : (e : StageRefusal) (n : ℕ) (f : Firsts) → (e ≡ Memory → ⊥) → least (noted e n f) ≡ None → ⊥
+some-noted : (e : StageRefusal) (n : ℕ) (f : Firsts) → (e ≡ Memory → ⊥) → least (with_first e n f) ≡ None → ⊥
 some-noted TooManyPlaces n f some none = too-many-noted f.too_many_places f.empty_loop f.no_text n none
 some-noted EmptyLoop n f some none = loop-noted f.too_many_places f.empty_loop f.no_text n none
 some-noted NoText n f some none = text-noted f.too_many_places f.empty_loop f.no_text n none
@@ -132,9 +132,9 @@ module _ (P : Grammar) (all : List Start) (i : ℕ) (d : Start) (lt : i < length
   so_far : length (map (root P) (take i all)) ≡ i
   so_far = length-map (take i all) (root P) ∙ length-take-le i all (omega arith)
 
-  pub one-refused : (f : Firsts) (c : Machines) (n : ℕ) (e : StageRefusal) → n ≡ i + 1 → (e ≡ Memory → ⊥) → IsWhy P (root P (get_or all i d)) most_places e → Gathered P (take i all) f c → Gathered P (take (i + 1) all) (noted e n f) c
+  pub one-refused : (f : Firsts) (c : Machines) (n : ℕ) (e : StageRefusal) → n ≡ i + 1 → (e ≡ Memory → ⊥) → IsWhy P (root P (get_or all i d)) most_places e → Gathered P (take i all) f c → Gathered P (take (i + 1) all) (with_first e n f) c
   one-refused f c n e number some why g = record {
-    firsts = subst (λ z. AreFirsts P z (noted e n f)) (sym more) (refused-more P (map (root P) (take i all)) f (root P (get_or all i d)) n e (omega (arith, so_far)) some why g.firsts);
+    firsts = subst (λ z. AreFirsts P z (with_first e n f)) (sym more) (refused-more P (map (root P) (take i all)) f (root P (get_or all i d)) n e (omega (arith, so_far)) some why g.firsts);
     stages = λ none. absurd (some-noted e n f some none);
     places = λ none. absurd (some-noted e n f some none);
   }
@@ -149,7 +149,7 @@ module _ (P : Grammar) (all : List Start) (i : ℕ) (d : Start) (lt : i < length
 some-same : (a b : PlanRefusal) → Some a ≡ Some b → a ≡ b
 some-same a b e = cc
 
-unplanned : (limits : Limits) (P : Grammar) (a b c : Option ℕ) (e : PlanRefusal) → IsFirstIn (IsRefusedFor P TooManyPlaces) (roots_of P) a → IsFirstIn (IsRefusedFor P EmptyLoop) (roots_of P) b → IsFirstIn (IsRefusedFor P NoText) (roots_of P) c → least_of a b c ≡ Some e → IsUnplanned limits P e
+unplanned : (limits : Limits) (P : Grammar) (a b c : Option ℕ) (e : PlanRefusal) → IsFirstIn (IsStageRefused P TooManyPlaces) (roots_of P) a → IsFirstIn (IsStageRefused P EmptyLoop) (roots_of P) b → IsFirstIn (IsStageRefused P NoText) (roots_of P) c → least_of a b c ≡ Some e → IsUnplanned limits P e
 unplanned limits P (Some n) b c e h k l is = subst (λ z. IsUnplanned limits P z) (some-same (plan.TooManyPlaces n) e is) h
 unplanned limits P None (Some n) c e h k l is = subst (λ z. IsUnplanned limits P z) (some-same (plan.EmptyLoop n) e is) (h, k)
 unplanned limits P None None (Some n) e h k l is = subst (λ z. IsUnplanned limits P z) (some-same (plan.NoText n) e is) (h, k, l)

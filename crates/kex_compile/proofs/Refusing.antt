@@ -9,7 +9,7 @@ use Rattle.kex_rules.specs.declared.refusal.RuleRefusal.{RuleRefusal}
 use Rattle.kex_rules.specs.declared.refusal.RuleRefusal.TheVariants as rule
 use Rattle.kex_lowering.specs.declared.refusal.StageRefusal.{StageRefusal}
 use Rattle.kex_lowering.specs.declared.refusal.StageRefusal.TheVariants as why
-use Rattle.kex_compile.specs.Stages.{AllRun, CanRun, IsFirst, IsRefusedFor, IsUnplanned, KeepsToOneStage, KeepsToStates, roots_of}
+use Rattle.kex_compile.specs.Stages.{AllRun, CanRun, IsFirst, IsStageRefused, IsUnplanned, KeepsToOneStage, KeepsToStates, roots_of}
 use Rattle.kex_compile.specs.declared.limits.Limits.{Limits}
 use Rattle.kex_compile.specs.Compiled.{Accepts, IsRefused, of_read, of_rule, of_plan}
 use Rattle.kex_compile.specs.declared.refusal.PlanRefusal.{PlanRefusal}
@@ -81,7 +81,7 @@ one_rule P Q a b (rule.NotTail i) rule.NoStart n m h k = absurd (h.2 (none_on Q 
 one_rule P Q a b (rule.NotTail i) (rule.NotTail j) n m h k = ap rule.NotTail (one_lowest (IsNotTail P) (IsNotTail Q) i j (not_tail_on P Q a) (not_tail_on Q P b) h.3 k.3)
 
 -- a stage that can run isn't refused
-runs : (P : Grammar) (root : ℕ) (e : StageRefusal) → (e ≡ why.Memory → ⊥) → CanRun P root → IsRefusedFor P e root → ⊥
+runs : (P : Grammar) (root : ℕ) (e : StageRefusal) → (e ≡ why.Memory → ⊥) → CanRun P root → IsStageRefused P e root → ⊥
 runs P root why.TooManyPlaces n r h = r.few h
 runs P root why.EmptyLoop n r h = r.no_loop h.1
 runs P root why.NoText n r h = h.2 r.some_text
@@ -89,10 +89,10 @@ runs P root why.Memory n r h = n refl
 
 module _ (limits : Limits) (P Q : Grammar) (a : Alike P Q) (b : Alike Q P) (known : Known P) (known' : Known Q) where
   -- of one program a stage is refused, and of the other all can run
-  refused_here : (e : StageRefusal) (i : ℕ) → (e ≡ why.Memory → ⊥) → IsFirst (IsRefusedFor P e) (roots_of P) i → AllRun Q → ⊥
+  refused_here : (e : StageRefusal) (i : ℕ) → (e ≡ why.Memory → ⊥) → IsFirst (IsStageRefused P e) (roots_of P) i → AllRun Q → ⊥
   refused_here e i n h run = let f = refused_on P Q a b known known' e i h in runs Q f.0 e n (run f.0 f.1) f.2
 
-  refused_there : (e : StageRefusal) (i : ℕ) → (e ≡ why.Memory → ⊥) → IsFirst (IsRefusedFor Q e) (roots_of Q) i → AllRun P → ⊥
+  refused_there : (e : StageRefusal) (i : ℕ) → (e ≡ why.Memory → ⊥) → IsFirst (IsStageRefused Q e) (roots_of Q) i → AllRun P → ⊥
   refused_there e i n h run = let f = refused_on Q P b a known' known e i h in runs P f.0 e n (run f.0 f.1) f.2
 
   -- one stage is asked for, and there is and there isn't one more

@@ -8,7 +8,7 @@ use Rattle.kex_model.proofs.Tables.{some_same}
 use Rattle.kex_rules.specs.Rules.{IsDefined, IsUse}
 use Rattle.kex_lowering.specs.declared.refusal.StageRefusal.{StageRefusal}
 use Rattle.kex_lowering.specs.declared.refusal.StageRefusal.TheVariants.{TooManyPlaces, EmptyLoop, NoText, Memory}
-use Rattle.kex_compile.specs.Stages.{IsFirst, IsRefusedFor, NoneIs, most_places, roots_of}
+use Rattle.kex_compile.specs.Stages.{IsFirst, IsStageRefused, NoneIs, most_places, roots_of}
 use Rattle.kex_compile.proofs.Terms.{SameName}
 use Rattle.kex_compile.proofs.Alike.{Alike, SameStages, name_back}
 use Rattle.kex_compile.proofs.Placing.{Partners, end_ahead, loop_on, more_on, root_on}
@@ -103,20 +103,20 @@ module _ (P Q : Grammar) (a : Alike P Q) (b : Alike Q P) (known : Known P) (know
   pub roots : Pairwise Both (roots_of P) (roots_of Q)
   roots = roots_from P.stages Q.stages a.stages (λ s i. known s.name s.at (inr (s, i, refl, refl))) (λ t i. known' t.name t.at (inr (t, i, refl, refl)))
 
-  why_on : (e : StageRefusal) (r r' : ℕ) → Both r r' → IsRefusedFor P e r → IsRefusedFor Q e r'
+  why_on : (e : StageRefusal) (r r' : ℕ) → Both r r' → IsStageRefused P e r → IsStageRefused Q e r'
   why_on TooManyPlaces r r' x h = more_on P Q a known r r' x.0 most_places h
   why_on EmptyLoop r r' x h = ((λ m. h.0 (more_on Q P b known' r' r x.1 most_places m)), loop_on P Q a known r r' x.0 h.1)
   why_on NoText r r' x h = ((λ m. h.0 (more_on Q P b known' r' r x.1 most_places m)), (λ l. h.1 (loop_on Q P b known' r' r x.1 l)), (λ l. h.2 (end_ahead Q P b known' r' r x.1 l)))
   why_on Memory r r' x h = tt
 
   -- a stage that is refused has a partner that is
-  pub refused_on : (e : StageRefusal) (n : ℕ) → IsFirst (IsRefusedFor P e) (roots_of P) n → (r : ℕ) × IsAmong (roots_of Q) r × IsRefusedFor Q e r
+  pub refused_on : (e : StageRefusal) (n : ℕ) → IsFirst (IsStageRefused P e) (roots_of P) n → (r : ℕ) × IsAmong (roots_of Q) r × IsStageRefused Q e r
   refused_on e n h =
-      let f = first_among (IsRefusedFor P e) (roots_of P) n h in
+      let f = first_among (IsStageRefused P e) (roots_of P) n h in
       let p = pair_on Both (roots_of P) (roots_of Q) roots f.0 f.1 in
       (p.0, p.1, why_on e f.0 p.0 p.2 f.2)
 
 -- the first stage that is refused for something has one number
-pub one_stage : (P Q : Grammar) (a : Alike P Q) (b : Alike Q P) (known : Known P) (known' : Known Q) (e : StageRefusal) (n m : ℕ) → IsFirst (IsRefusedFor P e) (roots_of P) n → IsFirst (IsRefusedFor Q e) (roots_of Q) m → n ≡ m
+pub one_stage : (P Q : Grammar) (a : Alike P Q) (b : Alike Q P) (known : Known P) (known' : Known Q) (e : StageRefusal) (n m : ℕ) → IsFirst (IsStageRefused P e) (roots_of P) n → IsFirst (IsStageRefused Q e) (roots_of Q) m → n ≡ m
 one_stage P Q a b known known' e n m h k =
-    same_first (Both P Q a b known known') (IsRefusedFor P e) (IsRefusedFor Q e) (why_on P Q a b known known' e) (λ x y t q. why_on Q P b a known' known e y x (t.1, t.0) q) (roots_of P) (roots_of Q) n m (roots P Q a b known known') (first_of (IsRefusedFor P e) (roots_of P) n h) (first_of (IsRefusedFor Q e) (roots_of Q) m k)
+    same_first (Both P Q a b known known') (IsStageRefused P e) (IsStageRefused Q e) (why_on P Q a b known known' e) (λ x y t q. why_on Q P b a known' known e y x (t.1, t.0) q) (roots_of P) (roots_of Q) n m (roots P Q a b known known') (first_of (IsStageRefused P e) (roots_of P) n h) (first_of (IsStageRefused Q e) (roots_of Q) m k)

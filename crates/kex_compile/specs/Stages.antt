@@ -124,14 +124,14 @@ abbrev pub NoneIs : (ℕ → Type 0) → List ℕ → Type 0
 NoneIs Q xs = (x : ℕ) → IsAmong xs x → Q x → ⊥
 
 -- the stage that begins there is refused for this
-abbrev pub IsRefusedFor : Grammar → StageRefusal → ℕ → Type 0
-IsRefusedFor P e root = IsWhy P root most_places e
+abbrev pub IsStageRefused : Grammar → StageRefusal → ℕ → Type 0
+IsStageRefused P e root = IsWhy P root most_places e
 
 -- no stage is refused by a rule that comes before, and this stage is the first that is by this one, or there is one too many
 abbrev pub IsUnplanned : Limits → Grammar → PlanRefusal → Type 0
-IsUnplanned limits P (TooManyPlaces n) = IsFirst (IsRefusedFor P why.TooManyPlaces) (roots_of P) n
-IsUnplanned limits P (EmptyLoop n) = NoneIs (IsRefusedFor P why.TooManyPlaces) (roots_of P) × IsFirst (IsRefusedFor P why.EmptyLoop) (roots_of P) n
-IsUnplanned limits P (NoText n) = NoneIs (IsRefusedFor P why.TooManyPlaces) (roots_of P) × NoneIs (IsRefusedFor P why.EmptyLoop) (roots_of P) × IsFirst (IsRefusedFor P why.NoText) (roots_of P) n
+IsUnplanned limits P (TooManyPlaces n) = IsFirst (IsStageRefused P why.TooManyPlaces) (roots_of P) n
+IsUnplanned limits P (EmptyLoop n) = NoneIs (IsStageRefused P why.TooManyPlaces) (roots_of P) × IsFirst (IsStageRefused P why.EmptyLoop) (roots_of P) n
+IsUnplanned limits P (NoText n) = NoneIs (IsStageRefused P why.TooManyPlaces) (roots_of P) × NoneIs (IsStageRefused P why.EmptyLoop) (roots_of P) × IsFirst (IsStageRefused P why.NoText) (roots_of P) n
 IsUnplanned limits P OneStage = AllRun P × (limits.one_stage ≡ true) × (1 < length P.stages)
 IsUnplanned limits P (TooManyStates n) = AllRun P × KeepsToOneStage limits P × (limits.tables ≡ true) × IsFirst (HasTooManyStates limits P) (roots_of P) n
 IsUnplanned limits P Memory = Unit {0}
@@ -145,19 +145,19 @@ IsFirstIn Q xs (Some n) = IsFirst Q xs n
 
 -- of these stages the firsts that are refused
 pub record AreFirsts (P : Grammar) (roots : List ℕ) (f : Firsts) : Type 0 where
-  pub too_many_places : IsFirstIn (IsRefusedFor P why.TooManyPlaces) roots f.too_many_places
-  pub empty_loop : IsFirstIn (IsRefusedFor P why.EmptyLoop) roots f.empty_loop
-  pub no_text : IsFirstIn (IsRefusedFor P why.NoText) roots f.no_text
+  pub too_many_places : IsFirstIn (IsStageRefused P why.TooManyPlaces) roots f.too_many_places
+  pub empty_loop : IsFirstIn (IsStageRefused P why.EmptyLoop) roots f.empty_loop
+  pub no_text : IsFirstIn (IsStageRefused P why.NoText) roots f.no_text
 
 abbrev pub first_of : Option ℕ → ℕ → Option ℕ
 first_of None n = Some n
 first_of (Some m) n = Some m
 
-abbrev pub noted : StageRefusal → ℕ → Firsts → Firsts
-noted why.TooManyPlaces n f = record f { too_many_places = first_of f.too_many_places n }
-noted why.EmptyLoop n f = record f { empty_loop = first_of f.empty_loop n }
-noted why.NoText n f = record f { no_text = first_of f.no_text n }
-noted why.Memory n f = f
+abbrev pub with_first : StageRefusal → ℕ → Firsts → Firsts
+with_first why.TooManyPlaces n f = record f { too_many_places = first_of f.too_many_places n }
+with_first why.EmptyLoop n f = record f { empty_loop = first_of f.empty_loop n }
+with_first why.NoText n f = record f { no_text = first_of f.no_text n }
+with_first why.Memory n f = f
 
 -- the rule of the lowest number of which there is a first
 abbrev pub least_of : Option ℕ → Option ℕ → Option ℕ → Option PlanRefusal

@@ -1,7 +1,7 @@
 // The first stage that each rule refuses.
 
 ghost use Rattle.std.specs.Prelude.{◌≡◌, ◌≢◌, None, OnOk};
-ghost use Rattle.kex_compile.specs.Stages.{first_of, least, noted};
+ghost use Rattle.kex_compile.specs.Stages.{first_of, least, with_first};
 
 use crate::refusal::PlanRefusal;
 use kex_code::memory::Memory;
@@ -28,7 +28,7 @@ impl Firsts {
 
     /// The stage is refused for this.
     pub(crate) fn note(&mut self, why: StageRefusal, stage: u32) -> Result<(), Memory>
-        ensures noted { OnOk result (self.new ≡ noted why stage self.old) }
+        ensures noted { OnOk result (self.new ≡ with_first why stage self.old) }
         ensures rule { OnOk result (why ≢ StageRefusal.Memory) }
     {
         match why {

@@ -9,13 +9,13 @@ use Rattle.kex_sst.specs.declared.table.Transition.{Transition}
 use Rattle.kex_sst.specs.Parts.{value, meant, Change}
 use Rattle.kex_sst.specs.Tables.{Row, Transducer, transition_if, transition_on}
 use Rattle.kex_sst.specs.Passes.{Pass, changed, begun, transition_at, next_of, stepped, passes_if, passes, way_of, ended_by}
-use Rattle.kex_constants.specs.Known.{Constants, Hold, kept, number}
-use Rattle.kex_constants.specs.Clearing.{in_place, instead, replaced, cleared, cleared_transition, cleared_way, cleared_state, cleared_states, cleared_table, HoldAfter, HoldAlways}
+use Rattle.kex_constants.specs.Known.{Constants, Hold, kept_items, number}
+use Rattle.kex_constants.specs.Clearing.{constant_or_register, parts_for, cleared_parts, cleared_change, cleared_transition, cleared_way, cleared_state, cleared_states, cleared_table, HoldAfter, HoldAlways}
 use Rattle.kex_constants.specs.Alike.{AreAlike, PassAlike}
 use Rattle.kex_constants.proofs.Lists.{meant-append, meant-puts}
 
 -- a register that is kept holds what it held
-kept_get : (cs : Constants) (regs : List (List Symbol)) (i : ℕ) → get_or cs i None ≡ None → get_or (kept cs regs) (number cs i) [] ≡ get_or regs i []
+kept_get : (cs : Constants) (regs : List (List Symbol)) (i : ℕ) → get_or cs i None ≡ None → get_or (kept_items cs regs) (number cs i) [] ≡ get_or regs i []
 kept_get [] regs i e = refl
 kept_get (c ∷ cs) [] i e = refl
 kept_get (Some v ∷ cs) (x ∷ xs) zero e = cc
@@ -23,43 +23,43 @@ kept_get (Some v ∷ cs) (x ∷ xs) (suc i) e = kept_get cs xs i e
 kept_get (None ∷ cs) (x ∷ xs) zero e = refl
 kept_get (None ∷ cs) (x ∷ xs) (suc i) e = kept_get cs xs i e
 
-kept-map : {A B : Type 0} (f : A → B) (cs : Constants) (xs : List A) → kept cs (map f xs) ≡ map f (kept cs xs)
+kept-map : {A B : Type 0} (f : A → B) (cs : Constants) (xs : List A) → kept_items cs (map f xs) ≡ map f (kept_items cs xs)
 kept-map f [] xs = refl
 kept-map f (c ∷ cs) [] = refl
 kept-map f (Some v ∷ cs) (x ∷ xs) = kept-map f cs xs
 kept-map f (None ∷ cs) (x ∷ xs) = ap (λ z. f x ∷ z) (kept-map f cs xs)
 
 module _ (cs : Constants) (regs : List (List Symbol)) (b : ℕ) (h : Hold cs regs) where
-  instead_meant : (x : Part) → meant (kept cs regs) b (instead cs x) ≡ value regs b x
+  instead_meant : (x : Part) → meant (kept_items cs regs) b (parts_for cs x) ≡ value regs b x
   instead_meant (Put s) = refl
   instead_meant Input = refl
   instead_meant (Old i) = by (get_or cs i None) refl
     where
-      by : (c : Option (List Bit)) → get_or cs i None ≡ c → meant (kept cs regs) b (in_place cs i c) ≡ get_or regs i []
-      by None e = append-nil (get_or (kept cs regs) (number cs i) []) ∙ kept_get cs regs i e
-      by (Some v) e = meant-puts (kept cs regs) b v ∙ sym (h i v e)
+      by : (c : Option (List Bit)) → get_or cs i None ≡ c → meant (kept_items cs regs) b (constant_or_register cs i c) ≡ get_or regs i []
+      by None e = append-nil (get_or (kept_items cs regs) (number cs i) []) ∙ kept_get cs regs i e
+      by (Some v) e = meant-puts (kept_items cs regs) b v ∙ sym (h i v e)
 
-  pub replaced_meant : (xs : List Part) → meant (kept cs regs) b (replaced cs xs) ≡ meant regs b xs
+  pub replaced_meant : (xs : List Part) → meant (kept_items cs regs) b (cleared_parts cs xs) ≡ meant regs b xs
   replaced_meant [] = refl
-  replaced_meant (x ∷ xs) = meant-append (kept cs regs) b (instead cs x) (replaced cs xs) ∙ ap₂ (λ u v. u ++ v) (instead_meant x) (replaced_meant xs)
+  replaced_meant (x ∷ xs) = meant-append (kept_items cs regs) b (parts_for cs x) (cleared_parts cs xs) ∙ ap₂ (λ u v. u ++ v) (instead_meant x) (replaced_meant xs)
 
-  replaced_map : (xs : List (List Part)) → map (λ x. meant (kept cs regs) b x) (map (λ x. replaced cs x) xs) ≡ map (λ x. meant regs b x) xs
+  replaced_map : (xs : List (List Part)) → map (λ x. meant (kept_items cs regs) b x) (map (λ x. cleared_parts cs x) xs) ≡ map (λ x. meant regs b x) xs
   replaced_map [] = refl
   replaced_map (x ∷ xs) = ap₂ (λ u v. u ∷ v) (replaced_meant x) (replaced_map xs)
 
 -- the same place, with the registers that are kept
 abbrev Like : List Constants → Option Pass → Option Pass → Type 0
 Like css None None = Unit {0}
-Like css (Some p) (Some q) = (q.state ≡ p.state) × (q.code ≡ p.code) × (q.registers ≡ kept (get_or css p.state []) p.registers)
+Like css (Some p) (Some q) = (q.state ≡ p.state) × (q.code ≡ p.code) × (q.registers ≡ kept_items (get_or css p.state []) p.registers)
 Like css None (Some q) = ⊥
 Like css (Some p) None = ⊥
 
-changed_like : (css : List Constants) (cs : Constants) (u : Change) (b target : ℕ) (p q : Pass) → Hold cs p.registers → q.code ≡ p.code → q.registers ≡ kept cs p.registers → Like css (Some (changed u b p target)) (Some (changed (cleared cs u (get_or css target [])) b q target))
+changed_like : (css : List Constants) (cs : Constants) (u : Change) (b target : ℕ) (p q : Pass) → Hold cs p.registers → q.code ≡ p.code → q.registers ≡ kept_items cs p.registers → Like css (Some (changed u b p target)) (Some (changed (cleared_change cs u (get_or css target [])) b q target))
 changed_like css cs u b target p q h code regs = (
   refl,
-  ap₂ (λ y z. y ++ z) code (ap (λ z. meant z b (replaced cs u.out)) regs ∙ replaced_meant cs p.registers b h u.out),
-  ap (λ z. map (λ x. meant z b x) (map (λ x. replaced cs x) (kept (get_or css target []) u.regs))) regs
-      ∙ replaced_map cs p.registers b h (kept (get_or css target []) u.regs)
+  ap₂ (λ y z. y ++ z) code (ap (λ z. meant z b (cleared_parts cs u.out)) regs ∙ replaced_meant cs p.registers b h u.out),
+  ap (λ z. map (λ x. meant z b x) (map (λ x. cleared_parts cs x) (kept_items (get_or css target []) u.regs))) regs
+      ∙ replaced_map cs p.registers b h (kept_items (get_or css target []) u.regs)
       ∙ sym (kept-map (λ x. meant p.registers b x) (get_or css target []) u.regs),
 )
 
@@ -90,9 +90,9 @@ way_alike : (css : List Constants) (cs : Constants) (s : Option Row) → way_of 
 way_alike css cs None = refl
 way_alike css cs (Some s) = refl
 
-ended_alike : (cs : Constants) (p q : Pass) (way : Option (List Part)) → Hold cs p.registers → q.code ≡ p.code → q.registers ≡ kept cs p.registers → ended_by (cleared_way cs way) q ≡ ended_by way p
+ended_alike : (cs : Constants) (p q : Pass) (way : Option (List Part)) → Hold cs p.registers → q.code ≡ p.code → q.registers ≡ kept_items cs p.registers → ended_by (cleared_way cs way) q ≡ ended_by way p
 ended_alike cs p q None h code regs = refl
-ended_alike cs p q (Some way) h code regs = ap Some (ap₂ (λ y z. y ++ z) code (ap (λ z. meant z 0 (replaced cs way)) regs ∙ replaced_meant cs p.registers 0 h way))
+ended_alike cs p q (Some way) h code regs = ap Some (ap₂ (λ y z. y ++ z) code (ap (λ z. meant z 0 (cleared_parts cs way)) regs ∙ replaced_meant cs p.registers 0 h way))
 
 module _ (css : List Constants) (t : Transducer) where
   next_at : (state b : ℕ) → next_of (cleared_table css t) state b ≡ cleared_transition css (get_or css state []) (next_of t state b)

@@ -15,8 +15,8 @@ use Rattle.kex_sst.specs.declared.parts.Part.TheVariants.{Put, Old, Input}
 use Rattle.kex_sst.specs.declared.table.Transition.{Transition}
 use Rattle.kex_sst.specs.Parts.{Change, olds, olds_in, reads_of, IsChoice, PutsChoice, IsKept, IsPut, EachPart, IsUpdate}
 use Rattle.kex_sst.specs.Tables.{Row, Transducer, IsWayIf, LeadsTo, IsState, IsTable}
-use Rattle.kex_constants.specs.Known.{Constants, kept, number}
-use Rattle.kex_constants.specs.Clearing.{puts, in_place, instead, replaced, cleared, cleared_transition, cleared_way, cleared_state, cleared_states, cleared_table}
+use Rattle.kex_constants.specs.Known.{Constants, kept_items, number}
+use Rattle.kex_constants.specs.Clearing.{puts, constant_or_register, parts_for, cleared_parts, cleared_change, cleared_transition, cleared_way, cleared_state, cleared_states, cleared_table}
 use Rattle.kex_model.proofs.Shapes.{among-append}
 use Rattle.kex_constants.proofs.Clearing.{cleared_state_if, state_at}
 
@@ -49,11 +49,11 @@ of_different done d = d
 of_different (left_out y p) d = of_different p d.1
 of_different (taken y p) d = ((λ i. d.0 (of_among p y i)), of_different p d.1)
 
-kept_reads : (cs : Constants) (xs : List (List Part)) → IsOf (olds_in (kept cs xs)) (olds_in xs)
+kept_reads : (cs : Constants) (xs : List (List Part)) → IsOf (olds_in (kept_items cs xs)) (olds_in xs)
 kept_reads [] xs = of_self (olds_in xs)
 kept_reads (c ∷ cs) [] = done
-kept_reads (Some v ∷ cs) (x ∷ xs) = of_both (olds_in (kept cs xs)) (olds_in xs) (of_none (olds x)) (kept_reads cs xs)
-kept_reads (None ∷ cs) (x ∷ xs) = of_both (olds_in (kept cs xs)) (olds_in xs) (of_self (olds x)) (kept_reads cs xs)
+kept_reads (Some v ∷ cs) (x ∷ xs) = of_both (olds_in (kept_items cs xs)) (olds_in xs) (of_none (olds x)) (kept_reads cs xs)
+kept_reads (None ∷ cs) (x ∷ xs) = of_both (olds_in (kept_items cs xs)) (olds_in xs) (of_self (olds x)) (kept_reads cs xs)
 
 -- the new number of a register that is kept, alone
 abbrev renumbered : Constants → ℕ → Option (List Bit) → List ℕ
@@ -79,17 +79,17 @@ module _ (cs : Constants) where
   renumbered-append [] ys = refl
   renumbered-append (x ∷ xs) ys = ap (λ z. renumbered cs x (get_or cs x None) ++ z) (renumbered-append xs ys) ∙ sym (append_assoc (renumbered cs x (get_or cs x None)) (all_renumbered cs xs) (all_renumbered cs ys))
 
-  replaced_olds : (xs : List Part) → olds (replaced cs xs) ≡ all_renumbered cs (olds xs)
+  replaced_olds : (xs : List Part) → olds (cleared_parts cs xs) ≡ all_renumbered cs (olds xs)
   replaced_olds [] = refl
   replaced_olds (Put s ∷ xs) = replaced_olds xs
   replaced_olds (Input ∷ xs) = replaced_olds xs
-  replaced_olds (Old i ∷ xs) = olds-append (in_place cs i (get_or cs i None)) (replaced cs xs) ∙ ap₂ (λ u v. u ++ v) (by (get_or cs i None)) (replaced_olds xs)
+  replaced_olds (Old i ∷ xs) = olds-append (constant_or_register cs i (get_or cs i None)) (cleared_parts cs xs) ∙ ap₂ (λ u v. u ++ v) (by (get_or cs i None)) (replaced_olds xs)
     where
-      by : (c : Option (List Bit)) → olds (in_place cs i c) ≡ renumbered cs i c
+      by : (c : Option (List Bit)) → olds (constant_or_register cs i c) ≡ renumbered cs i c
       by None = refl
       by (Some v) = olds-puts v
 
-  replaced_reads : (xs : List (List Part)) → olds_in (map (λ x. replaced cs x) xs) ≡ all_renumbered cs (olds_in xs)
+  replaced_reads : (xs : List (List Part)) → olds_in (map (λ x. cleared_parts cs x) xs) ≡ all_renumbered cs (olds_in xs)
   replaced_reads [] = refl
   replaced_reads (x ∷ xs) = ap₂ (λ u v. u ++ v) (replaced_olds x) (replaced_reads xs) ∙ sym (renumbered-append (olds x) (olds_in xs))
 
@@ -139,7 +139,7 @@ within_kept cs is n below j k =
     omega (arith, lt, r.3)
 
 -- how many registers are left
-kept_length : {A : Type 0} (cs : Constants) (xs : List A) → length (kept cs xs) ≡ number cs (length xs)
+kept_length : {A : Type 0} (cs : Constants) (xs : List A) → length (kept_items cs xs) ≡ number cs (length xs)
 kept_length [] xs = refl
 kept_length (c ∷ cs) [] = refl
 kept_length (Some v ∷ cs) (x ∷ xs) = kept_length cs xs
@@ -154,44 +154,44 @@ module _ (P : Part → Type 0) (sides : (x : Bit) → P (Put (symbol_of (side_of
   one_each : (y x : Part) → P y → IsAmong (y ∷ []) x → P x
   one_each y x h i = ⊎_elim (λ e. subst (λ z. P z) e h) (λ j. absurd j) i
 
-  instead_each : (cs : Constants) (y : Part) → P y → (x : Part) → IsAmong (instead cs y) x → P x
+  instead_each : (cs : Constants) (y : Part) → P y → (x : Part) → IsAmong (parts_for cs y) x → P x
   instead_each cs (Put s) h x i = one_each (Put s) x h i
   instead_each cs Input h x i = one_each Input x h i
   instead_each cs (Old n) h x i = by (get_or cs n None) i
     where
-      by : (c : Option (List Bit)) → IsAmong (in_place cs n c) x → P x
+      by : (c : Option (List Bit)) → IsAmong (constant_or_register cs n c) x → P x
       by None i = one_each (Old (number cs n)) x (old n (number cs n) h) i
       by (Some c) i = puts_each c x i
 
-  replaced_each : (cs : Constants) (ys : List Part) → ((y : Part) → IsAmong ys y → P y) → (x : Part) → IsAmong (replaced cs ys) x → P x
+  replaced_each : (cs : Constants) (ys : List Part) → ((y : Part) → IsAmong ys y → P y) → (x : Part) → IsAmong (cleared_parts cs ys) x → P x
   replaced_each cs [] h x i = absurd i
-  replaced_each cs (y ∷ ys) h x i = ⊎_elim (λ j. instead_each cs y (h y (inl refl)) x j) (λ j. replaced_each cs ys (λ z k. h z (inr k)) x j) (among-append (instead cs y) (replaced cs ys) x i)
+  replaced_each cs (y ∷ ys) h x i = ⊎_elim (λ j. instead_each cs y (h y (inl refl)) x j) (λ j. replaced_each cs ys (λ z k. h z (inr k)) x j) (among-append (parts_for cs y) (cleared_parts cs ys) x i)
 
-  lists_each : (cs ds : Constants) (lists : List (List Part)) → ((ys : List Part) → IsAmong lists ys → (y : Part) → IsAmong ys y → P y) → (xs : List Part) → IsAmong (map (λ ys. replaced cs ys) (kept ds lists)) xs → (x : Part) → IsAmong xs x → P x
+  lists_each : (cs ds : Constants) (lists : List (List Part)) → ((ys : List Part) → IsAmong lists ys → (y : Part) → IsAmong ys y → P y) → (xs : List Part) → IsAmong (map (λ ys. cleared_parts cs ys) (kept_items ds lists)) xs → (x : Part) → IsAmong xs x → P x
   lists_each cs [] [] h xs i = absurd i
   lists_each cs (d ∷ ds) [] h xs i = absurd i
   lists_each cs [] (ys ∷ lists) h xs i = ⊎_elim (λ e. subst (λ z. (x : Part) → IsAmong z x → P x) e (replaced_each cs ys (h ys (inl refl)))) (λ j. lists_each cs [] lists (λ zs k. h zs (inr k)) xs j) i
   lists_each cs (Some c ∷ ds) (ys ∷ lists) h xs i = lists_each cs ds lists (λ zs k. h zs (inr k)) xs i
   lists_each cs (None ∷ ds) (ys ∷ lists) h xs i = ⊎_elim (λ e. subst (λ z. (x : Part) → IsAmong z x → P x) e (replaced_each cs ys (h ys (inl refl)))) (λ j. lists_each cs ds lists (λ zs k. h zs (inr k)) xs j) i
 
-  cleared_each : (cs ds : Constants) (u : Change) → EachPart P u → EachPart P (cleared cs u ds)
+  cleared_each : (cs ds : Constants) (u : Change) → EachPart P u → EachPart P (cleared_change cs u ds)
   cleared_each cs ds u h = record { out = replaced_each cs u.out h.out; regs = lists_each cs ds u.regs h.regs }
 
-cleared_reads : (cs ds : Constants) (u : Change) → all_renumbered cs (olds u.out ++ olds_in (kept ds u.regs)) ≡ reads_of (cleared cs u ds)
-cleared_reads cs ds u = renumbered-append cs (olds u.out) (olds_in (kept ds u.regs)) ∙ ap₂ (λ x y. x ++ y) (sym (replaced_olds cs u.out)) (sym (replaced_reads cs (kept ds u.regs)))
+cleared_reads : (cs ds : Constants) (u : Change) → all_renumbered cs (olds u.out ++ olds_in (kept_items ds u.regs)) ≡ reads_of (cleared_change cs u ds)
+cleared_reads cs ds u = renumbered-append cs (olds u.out) (olds_in (kept_items ds u.regs)) ∙ ap₂ (λ x y. x ++ y) (sym (replaced_olds cs u.out)) (sym (replaced_reads cs (kept_items ds u.regs)))
 
-some_reads : (ds : Constants) (u : Change) → IsOf (olds u.out ++ olds_in (kept ds u.regs)) (reads_of u)
-some_reads ds u = of_both (olds_in (kept ds u.regs)) (olds_in u.regs) (of_self (olds u.out)) (kept_reads ds u.regs)
+some_reads : (ds : Constants) (u : Change) → IsOf (olds u.out ++ olds_in (kept_items ds u.regs)) (reads_of u)
+some_reads ds u = of_both (olds_in (kept_items ds u.regs)) (olds_in u.regs) (of_self (olds u.out)) (kept_reads ds u.regs)
 
 side_choice : (x : Bit) → IsChoice (symbol_of (side_of x))
 side_choice L = tt
 side_choice R = tt
 
-cleared_update : (cs ds : Constants) (u : Change) (n m : ℕ) → IsUpdate n m u → IsUpdate (number cs n) (number ds m) (cleared cs u ds)
+cleared_update : (cs ds : Constants) (u : Change) (n m : ℕ) → IsUpdate n m u → IsUpdate (number cs n) (number ds m) (cleared_change cs u ds)
 cleared_update cs ds u n m h = record {
-  count = length-map (kept ds u.regs) (λ x. replaced cs x) ∙ kept_length ds u.regs ∙ ap (λ z. number ds z) h.count;
-  once = subst (λ z. Different z) (cleared_reads cs ds u) (different_kept cs (olds u.out ++ olds_in (kept ds u.regs)) (of_different (some_reads ds u) h.once));
-  within = λ j k. within_kept cs (olds u.out ++ olds_in (kept ds u.regs)) n (λ i l. h.within i (of_among (some_reads ds u) i l)) j (subst (λ z. IsAmong z j) (sym (cleared_reads cs ds u)) k);
+  count = length-map (kept_items ds u.regs) (λ x. cleared_parts cs x) ∙ kept_length ds u.regs ∙ ap (λ z. number ds z) h.count;
+  once = subst (λ z. Different z) (cleared_reads cs ds u) (different_kept cs (olds u.out ++ olds_in (kept_items ds u.regs)) (of_different (some_reads ds u) h.once));
+  within = λ j k. within_kept cs (olds u.out ++ olds_in (kept_items ds u.regs)) n (λ i l. h.within i (of_among (some_reads ds u) i l)) j (subst (λ z. IsAmong z j) (sym (cleared_reads cs ds u)) k);
   choices = cleared_each PutsChoice side_choice (λ i j h. tt) cs ds u h.choices;
 }
 
@@ -203,7 +203,7 @@ cleared_ends cs (Some way) n h = record {
   kept = replaced_each IsKept side_choice (λ i j h. tt) cs way h.kept;
 }
 
-leads_cleared : (css : List Constants) (ss : List Row) (cs : Constants) (from target : ℕ) (u : Change) → LeadsTo ss from target u → LeadsTo (cleared_states css 0 ss) (number cs from) target (cleared cs u (get_or css target []))
+leads_cleared : (css : List Constants) (ss : List Row) (cs : Constants) (from target : ℕ) (u : Change) → LeadsTo ss from target u → LeadsTo (cleared_states css 0 ss) (number cs from) target (cleared_change cs u (get_or css target []))
 leads_cleared css ss cs from target u h = record {
   row = cleared_state css (get_or css target []) h.row;
   at = state_at css ss target ∙ ap (λ z. cleared_state_if css (get_or css target []) z) h.at;
@@ -223,7 +223,7 @@ cleared_state_is css cs classes ss s h = record {
   ends = cleared_ends cs s.accepting s.registers h.ends;
   goes = λ k r e.
       let q = of_transition css cs s.go k r e in
-      let same = same_Some (record { target = q.0.target; update = cleared cs q.0.update (get_or css q.0.target []) }) r q.2 in
+      let same = same_Some (record { target = q.0.target; update = cleared_change cs q.0.update (get_or css q.0.target []) }) r q.2 in
       subst (λ (z : Transition). LeadsTo (cleared_states css 0 ss) (number cs s.registers) z.target z.update) same (leads_cleared css ss cs s.registers q.0.target q.0.update (h.goes k q.0 q.1));
 }
 

@@ -13,8 +13,8 @@ use Rattle.kex_sst.specs.declared.parts.Part.TheVariants.{Put}
 use Rattle.kex_sst.specs.declared.table.Transition.{Transition}
 use Rattle.kex_sst.specs.Parts.{value, meant}
 use Rattle.kex_sst.specs.Tables.{Row, transition_if}
-use Rattle.kex_constants.specs.Known.{Constants, symbols, kept, if_kept}
-use Rattle.kex_constants.specs.Clearing.{puts, instead, replaced, cleared_state, cleared_states}
+use Rattle.kex_constants.specs.Known.{Constants, symbols, kept_items, item_if_kept}
+use Rattle.kex_constants.specs.Clearing.{puts, parts_for, cleared_parts, cleared_state, cleared_states}
 
 pub symbols-append : (c d : List Bit) → symbols (c ++ d) ≡ symbols c ++ symbols d
 symbols-append [] d = refl
@@ -49,18 +49,18 @@ puts-append (x ∷ c) d = ap (λ z. Put (symbol_of (side_of x)) ∷ z) (puts-app
 pub puts_more : (c : List Bit) (i : ℕ) → i < length c → puts (take (i + 1) c) ≡ puts (take i c) ++ Put (symbol_of (side_of (get_or c i L))) ∷ []
 puts_more c i lt = ap puts (take_more c i L lt) ∙ puts-append (take i c) (get_or c i L ∷ [])
 
-pub replaced-append : (cs : Constants) (xs ys : List Part) → replaced cs (xs ++ ys) ≡ replaced cs xs ++ replaced cs ys
+pub replaced-append : (cs : Constants) (xs ys : List Part) → cleared_parts cs (xs ++ ys) ≡ cleared_parts cs xs ++ cleared_parts cs ys
 replaced-append cs [] ys = refl
-replaced-append cs (x ∷ xs) ys = ap (λ z. instead cs x ++ z) (replaced-append cs xs ys) ∙ sym (append_assoc (instead cs x) (replaced cs xs) (replaced cs ys))
+replaced-append cs (x ∷ xs) ys = ap (λ z. parts_for cs x ++ z) (replaced-append cs xs ys) ∙ sym (append_assoc (parts_for cs x) (cleared_parts cs xs) (cleared_parts cs ys))
 
-pub replaced_more : (cs : Constants) (xs : List Part) (i : ℕ) → i < length xs → replaced cs (take (i + 1) xs) ≡ replaced cs (take i xs) ++ instead cs (get_or xs i (Put symbol.L))
-replaced_more cs xs i lt = ap (λ z. replaced cs z) (take_more xs i (Put symbol.L) lt) ∙ replaced-append cs (take i xs) (get_or xs i (Put symbol.L) ∷ []) ∙ ap (λ z. replaced cs (take i xs) ++ z) (append-nil (instead cs (get_or xs i (Put symbol.L))))
+pub replaced_more : (cs : Constants) (xs : List Part) (i : ℕ) → i < length xs → cleared_parts cs (take (i + 1) xs) ≡ cleared_parts cs (take i xs) ++ parts_for cs (get_or xs i (Put symbol.L))
+replaced_more cs xs i lt = ap (λ z. cleared_parts cs z) (take_more xs i (Put symbol.L) lt) ∙ replaced-append cs (take i xs) (get_or xs i (Put symbol.L) ∷ []) ∙ ap (λ z. cleared_parts cs (take i xs) ++ z) (append-nil (parts_for cs (get_or xs i (Put symbol.L))))
 
-pub kept_none : {A : Type 0} (cs : Constants) → [] ≡ kept {A = A} cs []
+pub kept_none : {A : Type 0} (cs : Constants) → [] ≡ kept_items {A = A} cs []
 kept_none [] = refl
 kept_none (c ∷ cs) = refl
 
-kept_push : {A : Type 0} (cs : Constants) (xs : List A) (y : A) → kept cs (xs ++ y ∷ []) ≡ kept cs xs ++ if_kept (get_or cs (length xs) None) y
+kept_push : {A : Type 0} (cs : Constants) (xs : List A) (y : A) → kept_items cs (xs ++ y ∷ []) ≡ kept_items cs xs ++ item_if_kept (get_or cs (length xs) None) y
 kept_push [] xs y = refl
 kept_push (None ∷ []) [] y = refl
 kept_push (None ∷ c ∷ cs) [] y = refl
@@ -75,14 +75,14 @@ take_here xs i x lt e = take_more xs i x lt ∙ ap (λ z. take i xs ++ z ∷ [])
 pub map_more : {A B : Type 0} (f : A → B) (xs : List A) (i : ℕ) (x : A) → i < length xs → x ≡ get_or xs i x → map f (take (i + 1) xs) ≡ map f (take i xs) ++ f x ∷ []
 map_more f xs i x lt e = ap (λ z. map f z) (take_here xs i x lt e) ∙ map-append f (take i xs) (x ∷ [])
 
-pub kept_more : (cs ds : Constants) (lists : List (List Part)) (i : ℕ) (x : List Part) → i < length lists → x ≡ get_or lists i x → map (λ y. replaced cs y) (kept ds (take i lists)) ++ map (λ y. replaced cs y) (if_kept (get_or ds i None) x) ≡ map (λ y. replaced cs y) (kept ds (take (i + 1) lists))
+pub kept_more : (cs ds : Constants) (lists : List (List Part)) (i : ℕ) (x : List Part) → i < length lists → x ≡ get_or lists i x → map (λ y. cleared_parts cs y) (kept_items ds (take i lists)) ++ map (λ y. cleared_parts cs y) (item_if_kept (get_or ds i None) x) ≡ map (λ y. cleared_parts cs y) (kept_items ds (take (i + 1) lists))
 kept_more cs ds lists i x lt e =
     let long : length (take i lists) ≡ i = length-take-le i lists (omega arith) in
     sym (
-    ap (λ z. map (λ y. replaced cs y) (kept ds z)) (take_here lists i x lt e)
-    ∙ ap (λ z. map (λ y. replaced cs y) z) (kept_push ds (take i lists) x)
-    ∙ map-append (λ y. replaced cs y) (kept ds (take i lists)) (if_kept (get_or ds (length (take i lists)) None) x)
-    ∙ ap (λ z. map (λ y. replaced cs y) (kept ds (take i lists)) ++ map (λ y. replaced cs y) (if_kept (get_or ds z None) x)) long
+    ap (λ z. map (λ y. cleared_parts cs y) (kept_items ds z)) (take_here lists i x lt e)
+    ∙ ap (λ z. map (λ y. cleared_parts cs y) z) (kept_push ds (take i lists) x)
+    ∙ map-append (λ y. cleared_parts cs y) (kept_items ds (take i lists)) (item_if_kept (get_or ds (length (take i lists)) None) x)
+    ∙ ap (λ z. map (λ y. cleared_parts cs y) (kept_items ds (take i lists)) ++ map (λ y. cleared_parts cs y) (item_if_kept (get_or ds z None) x)) long
     )
 
 states_push : (css : List Constants) (i : ℕ) (ss : List Row) (s : Row) → cleared_states css i (ss ++ s ∷ []) ≡ cleared_states css i ss ++ cleared_state css (get_or css (i + length ss) []) s ∷ []

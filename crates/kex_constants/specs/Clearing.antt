@@ -10,7 +10,7 @@ use Rattle.kex_sst.specs.declared.table.Transition.{Transition}
 use Rattle.kex_sst.specs.Parts.{Change, meant}
 use Rattle.kex_sst.specs.Tables.{Row, Transducer}
 use Rattle.kex_sst.specs.Passes.{Pass, passes}
-use Rattle.kex_constants.specs.Known.{Constants, Hold, kept, number}
+use Rattle.kex_constants.specs.Known.{Constants, Hold, kept_items, number}
 
 -- each choice as a part
 abbrev pub puts : List Bit → List Part
@@ -18,31 +18,31 @@ puts [] = []
 puts (x ∷ xs) = Put (symbol_of (side_of x)) ∷ puts xs
 
 -- a constant, or else the register by its new number
-abbrev pub in_place : Constants → ℕ → Option (List Bit) → List Part
-in_place cs i None = Old (number cs i) ∷ []
-in_place cs i (Some c) = puts c
+abbrev pub constant_or_register : Constants → ℕ → Option (List Bit) → List Part
+constant_or_register cs i None = Old (number cs i) ∷ []
+constant_or_register cs i (Some c) = puts c
 
-abbrev pub instead : Constants → Part → List Part
-instead cs (Put s) = Put s ∷ []
-instead cs (Old i) = in_place cs i (get_or cs i None)
-instead cs Input = Input ∷ []
+abbrev pub parts_for : Constants → Part → List Part
+parts_for cs (Put s) = Put s ∷ []
+parts_for cs (Old i) = constant_or_register cs i (get_or cs i None)
+parts_for cs Input = Input ∷ []
 
 -- each constant in place of its register, and the other registers by their new numbers
-abbrev pub replaced : Constants → List Part → List Part
-replaced cs [] = []
-replaced cs (x ∷ xs) = instead cs x ++ replaced cs xs
+abbrev pub cleared_parts : Constants → List Part → List Part
+cleared_parts cs [] = []
+cleared_parts cs (x ∷ xs) = parts_for cs x ++ cleared_parts cs xs
 
 -- the update between the registers that are kept
-abbrev pub cleared : Constants → Change → Constants → Change
-cleared cs u ds = record { out = replaced cs u.out; regs = map (λ x. replaced cs x) (kept ds u.regs) }
+abbrev pub cleared_change : Constants → Change → Constants → Change
+cleared_change cs u ds = record { out = cleared_parts cs u.out; regs = map (λ x. cleared_parts cs x) (kept_items ds u.regs) }
 
 abbrev pub cleared_transition : List Constants → Constants → Option Transition → Option Transition
 cleared_transition css cs None = None
-cleared_transition css cs (Some r) = Some (record { target = r.target; update = cleared cs r.update (get_or css r.target []) })
+cleared_transition css cs (Some r) = Some (record { target = r.target; update = cleared_change cs r.update (get_or css r.target []) })
 
 abbrev pub cleared_way : Constants → Option (List Part) → Option (List Part)
 cleared_way cs None = None
-cleared_way cs (Some way) = Some (replaced cs way)
+cleared_way cs (Some way) = Some (cleared_parts cs way)
 
 abbrev pub cleared_state : List Constants → Constants → Row → Row
 cleared_state css cs s = record { registers = number cs s.registers; accepting = cleared_way cs s.accepting; go = map (λ r. cleared_transition css cs r) s.go }
@@ -53,7 +53,7 @@ cleared_states css i [] = []
 cleared_states css i (s ∷ ss) = cleared_state css (get_or css i []) s ∷ cleared_states css (suc i) ss
 
 abbrev pub cleared_table : List Constants → Transducer → Transducer
-cleared_table css t = record { classes = t.classes; initial = cleared [] t.initial (get_or css 0 []); states = cleared_states css 0 t.states }
+cleared_table css t = record { classes = t.classes; initial = cleared_change [] t.initial (get_or css 0 []); states = cleared_states css 0 t.states }
 
 -- where the old registers hold their constants, the new ones are given theirs
 abbrev pub Gives : Constants → Change → Constants → Type 0

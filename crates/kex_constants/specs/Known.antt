@@ -19,16 +19,16 @@ abbrev pub Hold : Constants → List (List Symbol) → Type 0
 Hold cs regs = (i : ℕ) (c : List Bit) → get_or cs i None ≡ Some c → get_or regs i [] ≡ symbols c
 
 -- of a list by register what belongs to the registers that no constant is known of, in order
-abbrev pub kept : {A : Type 0} → Constants → List A → List A
-kept [] xs = xs
-kept (c ∷ cs) [] = []
-kept (Some c ∷ cs) (x ∷ xs) = kept cs xs
-kept (None ∷ cs) (x ∷ xs) = x ∷ kept cs xs
+abbrev pub kept_items : {A : Type 0} → Constants → List A → List A
+kept_items [] xs = xs
+kept_items (c ∷ cs) [] = []
+kept_items (Some c ∷ cs) (x ∷ xs) = kept_items cs xs
+kept_items (None ∷ cs) (x ∷ xs) = x ∷ kept_items cs xs
 
 -- the same for one register
-abbrev pub if_kept : {A : Type 0} → Option (List Bit) → A → List A
-if_kept None x = x ∷ []
-if_kept (Some c) x = []
+abbrev pub item_if_kept : {A : Type 0} → Option (List Bit) → A → List A
+item_if_kept None x = x ∷ []
+item_if_kept (Some c) x = []
 
 -- the number of a register among those that are kept
 abbrev pub number : Constants → ℕ → ℕ

@@ -3,8 +3,8 @@
 ghost use Rattle.std.specs.Prelude.{◌≡◌, ◌++◌, IfOk, OnOk, map, get_or, None};
 ghost use Rattle.kex_model.specs.Moves.{symbol_of};
 ghost use Rattle.kex_machine.specs.Nodes.{side_of};
-ghost use Rattle.kex_constants.specs.Known.{if_kept};
-ghost use Rattle.kex_constants.specs.Clearing.{puts, instead, replaced, cleared, cleared_transition, cleared_way, cleared_state, cleared_states, cleared_table};
+ghost use Rattle.kex_constants.specs.Known.{item_if_kept};
+ghost use Rattle.kex_constants.specs.Clearing.{puts, parts_for, cleared_parts, cleared_change, cleared_transition, cleared_way, cleared_state, cleared_states, cleared_table};
 
 use crate::choices::Choices;
 use crate::known::{Constants, Known, constant_of};
@@ -35,7 +35,7 @@ fn put_choices(choices: &[Bit], into: &mut Parts) -> Result<(), Memory>
 
 // Adds what stands for a part: a constant, or a register by its new number, or the part itself.
 fn put(part: Part, known: &Known, into: &mut Parts) -> Result<(), Memory>
-    ensures { OnOk result (into.new ≡ into.old ++ instead known.now part) }
+    ensures { OnOk result (into.new ≡ into.old ++ parts_for known.now part) }
 {
     match part {
         Part::Old(register) => match constant_of(known.constants(), register as usize) {
@@ -48,7 +48,7 @@ fn put(part: Part, known: &Known, into: &mut Parts) -> Result<(), Memory>
 
 // A list of parts with the constants in place of their registers.
 fn replace(alloc: Global, parts: &Parts, known: &Known) -> Result<Parts, Memory>
-    ensures { IfOk result (λ p. p ≡ replaced known.now parts.now) }
+    ensures { IfOk result (λ p. p ≡ cleared_parts known.now parts.now) }
 {
     let mut list = Parts::new(alloc);
     for part in parts.as_slice() {
@@ -66,7 +66,7 @@ fn put_list(
     to: &Known,
     into: &mut Vec<Parts>,
 ) -> Result<(), Memory>
-    ensures { OnOk result (into.new.items ≡ into.old.items ++ map (λ x. replaced from.now x) (if_kept (get_or to.now register None) parts.now)) }
+    ensures { OnOk result (into.new.items ≡ into.old.items ++ map (λ x. cleared_parts from.now x) (item_if_kept (get_or to.now register None) parts.now)) }
 {
     match constant_of(to.constants(), register) {
         Some(_) => Ok(()),
@@ -79,7 +79,7 @@ fn put_list(
 
 // An update between the registers that are kept.
 fn clear(alloc: Global, update: &Update, from: &Known, to: &Known) -> Result<Update, Memory>
-    ensures { IfOk result (λ u. u ≡ cleared from.now update.now to.now) }
+    ensures { IfOk result (λ u. u ≡ cleared_change from.now update.now to.now) }
 {
     let out = replace(alloc, update.out(), from)?;
     let mut regs = Vec::new(alloc);

@@ -21,11 +21,11 @@ frames (Under f) = f ∷ []
 frames (Both f g) = f ∷ g ∷ []
 
 -- what a plan says there is to do, on top of q
-abbrev pub planned : Plan → Place → Move Place
-planned (Take set) q = read set q
-planned (Fork l r) q = choose (frames l ++ q) (frames r ++ q)
-planned (Act e w) q = go (effect_of e) (frames w ++ q)
-planned (Pass w) q = go nothing (frames w ++ q)
+abbrev pub plan_move : Plan → Place → Move Place
+plan_move (Take set) q = read set q
+plan_move (Fork l r) q = choose (frames l ++ q) (frames r ++ q)
+plan_move (Act e w) q = go (effect_of e) (frames w ++ q)
+plan_move (Pass w) q = go nothing (frames w ++ q)
 
 -- the kind that was found; a node that isn't there does nothing
 abbrev pub kind_or : Option Kind → Kind

@@ -5,7 +5,7 @@ ghost use Rattle.kex_model.specs.Moves.{go};
 ghost use Rattle.kex_model.specs.declared.program.Kind.TheVariants.{Rep};
 ghost use Rattle.kex_model.specs.Trees.{kind_at, less};
 ghost use Rattle.kex_model.specs.Places.{Place, enter, with_counts, moves_of, moves, end_effect};
-ghost use Rattle.kex_desugar.specs.Plans.{HasRoots, kind_or, planned};
+ghost use Rattle.kex_desugar.specs.Plans.{HasRoots, kind_or, plan_move};
 
 use crate::roots::root_by_name;
 use indexmap::IndexMap;
@@ -72,7 +72,7 @@ fn one_less(left: Option<u32>) -> Option<u32>
 
 // The plan of a repetition's node, with the turns that are needed and left.
 fn rep_plan(program: &Program, node: u32, body: u32, need: u32, left: Option<u32>) -> Plan
-    ensures { (q : Place) → moves_of program.now node (Rep body need left) q ≡ planned result q }
+    ensures { (q : Place) → moves_of program.now node (Rep body need left) q ≡ plan_move result q }
 {
     let turn = entered(program, body);
     let again = Frame::Pending {
@@ -99,7 +99,7 @@ fn kind_plan(
     left: Option<u32>,
 ) -> Result<Plan, Memory>
     requires { HasRoots program.now roots.now }
-    ensures { IfOk result (λ plan. (q : Place) → moves_of program.now node (with_counts kind.now need left) q ≡ planned plan q) }
+    ensures { IfOk result (λ plan. (q : Place) → moves_of program.now node (with_counts kind.now need left) q ≡ plan_move plan q) }
 {
     let plan = match kind {
         Kind::One => Plan::Pass(Way::Rest),
@@ -125,7 +125,7 @@ fn kind_plan(
 
 // The plan of the end of a node.
 fn end_plan(program: &Program, n: u32) -> Plan
-    ensures { (q : Place) → go (end_effect (kind_at program.now n)) q ≡ planned result q }
+    ensures { (q : Place) → go (end_effect (kind_at program.now n)) q ≡ plan_move result q }
 {
     match kind_of(program, n) {
         Some(Kind::Mute(_)) => Plan::Act(Effect::Drop, Way::Rest),
@@ -141,7 +141,7 @@ pub(crate) fn frame_plan(
     frame: Frame,
 ) -> Result<Plan, Memory>
     requires { HasRoots program.now roots.now }
-    ensures { IfOk result (λ plan. (q : Place) → moves program.now (frame ∷ q) ≡ planned plan q) }
+    ensures { IfOk result (λ plan. (q : Place) → moves program.now (frame ∷ q) ≡ plan_move plan q) }
 {
     match frame {
         Frame::EndOf(n) => Ok(end_plan(program, n)),

@@ -24,7 +24,7 @@ use Rattle.kex_desugar.specs.Machines.{IsMachineOf}
 use Rattle.kex_trim.specs.Trim.{IsTrimOf}
 use Rattle.kex_trim.proofs.Keeping.{alike_kept}
 use Rattle.kex_lowering.specs.Stages.{Carries, SameRun}
-use Rattle.kex_lowering.specs.Shapes.{SameShapes, MachineAnswersAsPlaces, StoodFor}
+use Rattle.kex_lowering.specs.Shapes.{SameShapes, MachineAnswersAsPlaces, WasPlaceOf}
 use Rattle.kex_lowering.proofs.Pairs.{Through, alike_through, end_back}
 use Rattle.kex_lowering.proofs.Loops.{Numbered, alike, alike_back, loop_of_places}
 use Rattle.kex_lowering.proofs.Shaping.{same_shapes, same_paths}
@@ -266,7 +266,7 @@ module _ (P : Grammar) (root : ℕ) (m t : Graph) (is : IsMachineOf P root m) (t
   pub carries : (HasLoop m.nodes → ⊥) → Carries P root t
   carries none = carried P root t Pairs pairs_alike (m.start, is.start, trim.start) (λ h. none (loop_of_places P root m is h)) (trim.registers ∙ is.registers) (end_back placed numbered (Numbered P root m is) (alike P root m is) (start_of P root) m.start is.start (trim.each m.start t.start trim.start).0)
 
-  pub shaped : SameShapes P root t (λ p n. StoodFor is trim p n)
+  pub shaped : SameShapes P root t (λ p n. WasPlaceOf is trim p n)
   shaped = same_shapes P root t Pairs pairs_alike (m.start, is.start, trim.start)
 
 -- all nodes of a stage's machine

@@ -9,7 +9,7 @@ use Rattle.kex_model.specs.Programs.{Grammar}
 use Rattle.kex_model.specs.Places.{Place, moves, start_of}
 use Rattle.kex_machine.specs.Nodes.{Graph, node_moves}
 use Rattle.kex_lowering.specs.Stages.{IsKeptOf}
-use Rattle.kex_lowering.specs.Shapes.{SameShape, SameShapes, SameStates, StoodFor}
+use Rattle.kex_lowering.specs.Shapes.{SameShape, SameShapes, SameStates, WasPlaceOf}
 use Rattle.kex_lowering.proofs.Shaping.{turned_shape}
 use Rattle.kex_lowering.proofs.Carrying.{shaped}
 
@@ -80,7 +80,7 @@ module _ {S T : Type 0} (f : S → Move S) (g : T → Move T) (s₀ : S) (t₀ :
 -- the nodes that are left of a stage's machine
 module _ (P : Grammar) (root : ℕ) (m : Graph) (kept : IsKeptOf P root m) where
   abbrev Pairs : Place → ℕ → Type 0
-  Pairs p k = StoodFor kept.of_places kept.trimmed p k
+  Pairs p k = WasPlaceOf kept.of_places kept.trimmed p k
 
   same : SameShapes P root m Pairs
   same = shaped P root kept.whole m kept.of_places kept.trimmed

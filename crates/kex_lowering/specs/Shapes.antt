@@ -34,17 +34,17 @@ pub record SamePaths (P : Grammar) (root : ℕ) (m : Graph) (R : Place → ℕ �
   pub to_place : (w : List ℕ) (n : ℕ) (c : List Symbol) → Reaches (node_moves m.nodes) m.start w n c → (p : Place) × R p n × Reaches (moves P) (start_of P root) w p c
 
 -- the place is the one that the node stands for
-abbrev pub StandsFor : {P : Grammar} {root : ℕ} {m : Graph} → IsMachineOf P root m → Place → ℕ → Type 0
-StandsFor is p n = HasNumber is.places p n
+abbrev pub IsPlaceOf : {P : Grammar} {root : ℕ} {m : Graph} → IsMachineOf P root m → Place → ℕ → Type 0
+IsPlaceOf is p n = HasNumber is.places p n
 
 -- the place is the one that the node stood for before the machine was trimmed
-abbrev pub StoodFor : {P : Grammar} {root : ℕ} {m t : Graph} → IsMachineOf P root m → IsTrimOf m t → Place → ℕ → Type 0
-StoodFor is trimmed p n = (before : ℕ) × HasNumber is.places p before × HasNumber trimmed.kept before n
+abbrev pub WasPlaceOf : {P : Grammar} {root : ℕ} {m t : Graph} → IsMachineOf P root m → IsTrimOf m t → Place → ℕ → Type 0
+WasPlaceOf is trimmed p n = (before : ℕ) × HasNumber is.places p before × HasNumber trimmed.kept before n
 
 -- the machine before it is trimmed
 pub record MachineAnswersAsPlaces (P : Grammar) (root : ℕ) (m : Graph) (is : IsMachineOf P root m) : Type 0 where
-  pub paths : SamePaths P root m (λ p n. StandsFor is p n)
-  pub shapes : SameShapes P root m (λ p n. StandsFor is p n)
+  pub paths : SamePaths P root m (λ p n. IsPlaceOf is p n)
+  pub shapes : SameShapes P root m (λ p n. IsPlaceOf is p n)
   pub carries : (HasLoop m.nodes → ⊥) → LeadsToEnd (moves P) (start_of P root) → Carries P root m
 
 abbrev pub MachinesAnswerAsPlaces : Type 0
@@ -52,7 +52,7 @@ MachinesAnswerAsPlaces = (P : Grammar) (root : ℕ) (m : Graph) (is : IsMachineO
 
 -- and what is left of it
 abbrev pub NodesHaveShapesOfPlaces : Type 0
-NodesHaveShapesOfPlaces = (P : Grammar) (root : ℕ) (m t : Graph) (is : IsMachineOf P root m) (trimmed : IsTrimOf m t) → SameShapes P root t (λ p n. StoodFor is trimmed p n)
+NodesHaveShapesOfPlaces = (P : Grammar) (root : ℕ) (m t : Graph) (is : IsMachineOf P root m) (trimmed : IsTrimOf m t) → SameShapes P root t (λ p n. WasPlaceOf is trimmed p n)
 
 -- the machine has as many states as the stage
 pub record SameStates (P : Grammar) (root : ℕ) (m : Graph) (n : ℕ) : Type 0 where

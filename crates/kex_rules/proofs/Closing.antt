@@ -9,7 +9,7 @@ use Rattle.kex_rules.specs.declared.components.Mark.{Mark}
 use Rattle.kex_rules.specs.declared.components.Mark.TheVariants.{Unseen, Open, Closed}
 use Rattle.kex_rules.specs.declared.components.Bound.{Bound}
 use Rattle.kex_rules.specs.Graphs.{Leads, IsParted}
-use Rattle.kex_rules.specs.Searches.{unseen, Met, is_closed, is_open, is_ahead, in_hand, IsSearch, Closes}
+use Rattle.kex_rules.specs.Searches.{unseen_count, Met, is_closed, is_open, is_ahead, in_hand, IsSearch, Closes}
 use Rattle.kex_rules.proofs.Marks.{same_or_not, less_or_not, at_most_or_not, number_front, mark_set, one_number, unseen-closed}
 
 -- nothing is closed yet
@@ -22,7 +22,7 @@ closes_more p q closed path old mid v le h lt c = record {
   long = length-set mid v (Closed closed) ∙ c.long;
   done = λ u i l m k. ⊎_elim (λ e. mark_set mid v u (Closed closed) fits e) (λ ne. get_or-set_other mid v u (Closed closed) Unseen ne ∙ c.done u i l (earlier u i m k ne) k) (same_or_not v u);
   kept = λ u n. ⊎_elim (λ e. absurd (n q le (omega arith) (subst (λ z. HasNumber path z q) e h))) (λ ne. get_or-set_other mid v u (Closed closed) Unseen ne ∙ c.kept u (λ i l m k. n i l (omega arith) k)) (same_or_not v u);
-  count = let m : unseen (set mid v (Closed closed)) ≤ unseen mid = unseen-closed mid v closed in omega (arith, c.count);
+  count = let m : unseen_count (set mid v (Closed closed)) ≤ unseen_count mid = unseen-closed mid v closed in omega (arith, c.count);
 }
   where
     fits : v < length mid

@@ -5,7 +5,7 @@ use Rattle.kex_code.specs.Codes.{IsAmong, HasNumber}
 use Rattle.kex_model.proofs.Tables.{some_same, get_more}
 use Rattle.kex_rules.specs.declared.components.Mark.{Mark}
 use Rattle.kex_rules.specs.declared.components.Mark.TheVariants.{Unseen, Open, Closed}
-use Rattle.kex_rules.specs.Searches.{unseen}
+use Rattle.kex_rules.specs.Searches.{unseen_count}
 
 pub same_or_not : (a b : ℕ) → (a ≡ b) ⊎ (b ≢ a)
 same_or_not a b = grind arith
@@ -56,7 +56,7 @@ read_any [] n d e lt = absurd (omega arith)
 read_any (x ∷ xs) zero d e lt = refl
 read_any (x ∷ xs) (suc n) d e lt = read_any xs n d e (omega arith)
 
-pub unseen-open : (marks : List Mark) (n i : ℕ) → n < length marks → get_or marks n Unseen ≡ Unseen → unseen marks ≡ suc (unseen (set marks n (Open i)))
+pub unseen-open : (marks : List Mark) (n i : ℕ) → n < length marks → get_or marks n Unseen ≡ Unseen → unseen_count marks ≡ suc (unseen_count (set marks n (Open i)))
 unseen-open [] n i lt e = absurd (omega arith)
 unseen-open (Unseen ∷ xs) zero i lt e = refl
 unseen-open (Open j ∷ xs) zero i lt e = cc
@@ -65,12 +65,12 @@ unseen-open (Unseen ∷ xs) (suc n) i lt e = ap suc (unseen-open xs n i (omega a
 unseen-open (Open j ∷ xs) (suc n) i lt e = unseen-open xs n i (omega arith) e
 unseen-open (Closed a ∷ xs) (suc n) i lt e = unseen-open xs n i (omega arith) e
 
-pub unseen-closed : (marks : List Mark) (n a : ℕ) → unseen (set marks n (Closed a)) ≤ unseen marks
+pub unseen-closed : (marks : List Mark) (n a : ℕ) → unseen_count (set marks n (Closed a)) ≤ unseen_count marks
 unseen-closed [] n a = omega arith
 unseen-closed (Unseen ∷ xs) zero a = omega arith
 unseen-closed (Open j ∷ xs) zero a = omega arith
 unseen-closed (Closed b ∷ xs) zero a = omega arith
-unseen-closed (Unseen ∷ xs) (suc n) a = let h : unseen (set xs n (Closed a)) ≤ unseen xs = unseen-closed xs n a in omega arith
+unseen-closed (Unseen ∷ xs) (suc n) a = let h : unseen_count (set xs n (Closed a)) ≤ unseen_count xs = unseen-closed xs n a in omega arith
 unseen-closed (Open j ∷ xs) (suc n) a = unseen-closed xs n a
 unseen-closed (Closed b ∷ xs) (suc n) a = unseen-closed xs n a
 
@@ -79,12 +79,12 @@ fresh_mark zero v = refl
 fresh_mark (suc k) zero = refl
 fresh_mark (suc k) (suc v) = fresh_mark k v
 
-pub unseen-fresh : (k : ℕ) → unseen (replicate k Unseen) ≡ k
+pub unseen-fresh : (k : ℕ) → unseen_count (replicate k Unseen) ≡ k
 unseen-fresh zero = refl
 unseen-fresh (suc k) = ap suc (unseen-fresh k)
 
-pub unseen_at_most : (marks : List Mark) → unseen marks ≤ length marks
+pub unseen_at_most : (marks : List Mark) → unseen_count marks ≤ length marks
 unseen_at_most [] = omega arith
-unseen_at_most (Unseen ∷ xs) = let h : unseen xs ≤ length xs = unseen_at_most xs in omega arith
-unseen_at_most (Open i ∷ xs) = let h : unseen xs ≤ length xs = unseen_at_most xs in omega arith
-unseen_at_most (Closed a ∷ xs) = let h : unseen xs ≤ length xs = unseen_at_most xs in omega arith
+unseen_at_most (Unseen ∷ xs) = let h : unseen_count xs ≤ length xs = unseen_at_most xs in omega arith
+unseen_at_most (Open i ∷ xs) = let h : unseen_count xs ≤ length xs = unseen_at_most xs in omega arith
+unseen_at_most (Closed a ∷ xs) = let h : unseen_count xs ≤ length xs = unseen_at_most xs in omega arith

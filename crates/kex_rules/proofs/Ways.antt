@@ -13,7 +13,7 @@ use Rattle.kex_model.proofs.Counting.{among_get}
 use Rattle.kex_model.proofs.Tables.{some_same}
 use Rattle.kex_rules.specs.declared.graph.Ways.{Ways}
 use Rattle.kex_rules.specs.declared.graph.Ways.TheVariants.{NoWay as NoWays, One as OneWay, Two as TwoWays}
-use Rattle.kex_rules.specs.Graphs.{Leads, stays, goes, listed, kind_ways, root_ways, vertex_ways, vertices, ways}
+use Rattle.kex_rules.specs.Graphs.{Leads, stays, goes, listed_ways, kind_ways, root_ways, vertex_ways, vertices, ways}
 
 pub leads_on : {f : ℕ → List ℕ} {u v w : ℕ} → Leads f u v → Leads f v w → Leads f u w
 leads_on stays k = k
@@ -22,7 +22,7 @@ leads_on (goes i h) k = goes i (leads_on h k)
 pub leads_one : (f : ℕ → List ℕ) (u v : ℕ) → IsAmong (f u) v → Leads f u v
 leads_one f u v i = goes i stays
 
-pub two_ways : (w : Ways) → length (listed w) ≤ 2
+pub two_ways : (w : Ways) → length (listed_ways w) ≤ 2
 two_ways NoWays = omega arith
 two_ways (OneWay t) = omega arith
 two_ways (TwoWays l r) = omega arith

@@ -11,10 +11,10 @@ use Rattle.kex_rules.specs.declared.graph.Ways.TheVariants.{NoWay, One, Two}
 use Rattle.kex_rules.specs.declared.components.Mark.{Mark}
 use Rattle.kex_rules.specs.declared.components.Mark.TheVariants.{Unseen, Closed}
 
-abbrev pub listed : Ways → List ℕ
-listed NoWay = []
-listed (One t) = t ∷ []
-listed (Two l r) = l ∷ r ∷ []
+abbrev pub listed_ways : Ways → List ℕ
+listed_ways NoWay = []
+listed_ways (One t) = t ∷ []
+listed_ways (Two l r) = l ∷ r ∷ []
 
 -- where a node of a kind leads, with so many nodes before the names
 abbrev pub kind_ways : ℕ → Kind → List ℕ

@@ -9,11 +9,11 @@ use Rattle.kex_rules.specs.declared.components.Bound.{Bound}
 use Rattle.kex_rules.specs.declared.components.Search.{Search}
 
 -- how many vertices were not met
-abbrev pub unseen : List Mark → ℕ
-unseen [] = 0
-unseen (Unseen ∷ xs) = suc (unseen xs)
-unseen (Open i ∷ xs) = unseen xs
-unseen (Closed a ∷ xs) = unseen xs
+abbrev pub unseen_count : List Mark → ℕ
+unseen_count [] = 0
+unseen_count (Unseen ∷ xs) = suc (unseen_count xs)
+unseen_count (Open i ∷ xs) = unseen_count xs
+unseen_count (Closed a ∷ xs) = unseen_count xs
 
 -- number i of the path and number q of what is ahead stand on one side of the bound
 abbrev pub SameSide : Bound → ℕ → ℕ → Type 0
@@ -44,7 +44,7 @@ pub record IsSearch (f : ℕ → List ℕ) (count : ℕ) (hand : List ℕ) (mark
   pub falls : (u a w : ℕ) → get_or marks u Unseen ≡ Closed a → IsAmong (f u) w → (b : ℕ) × (get_or marks w Unseen ≡ Closed b) × (b ≤ a)
   pub same : (u v a : ℕ) → get_or marks u Unseen ≡ Closed a → get_or marks v Unseen ≡ Closed a → Leads f u v
   pub fresh : (u a : ℕ) → get_or marks u Unseen ≡ Closed a → a < closed
-  pub few : closed + (unseen marks + length bounds) ≤ count
+  pub few : closed + (unseen_count marks + length bounds) ≤ count
 
 -- all that is open leads to the vertex
 abbrev pub AllLead : (ℕ → List ℕ) → List ℕ → ℕ → Type 0
@@ -62,7 +62,7 @@ pub record Closes (p q closed : ℕ) (path : List ℕ) (old new : List Mark) : T
   pub long : length new ≡ length old
   pub done : (v i : ℕ) → p ≤ i → i < q → HasNumber path v i → get_or new v Unseen ≡ Closed closed
   pub kept : (v : ℕ) → ((i : ℕ) → p ≤ i → i < q → HasNumber path v i → ⊥) → get_or new v Unseen ≡ get_or old v Unseen
-  pub count : unseen new ≤ unseen old
+  pub count : unseen_count new ≤ unseen_count old
 
 -- the search over a program's graph so far
 abbrev pub Searching : Grammar → List ℕ → Search → Type 0
@@ -70,7 +70,7 @@ Searching P hand s = IsSearch (ways P) (vertices P) hand s.marks.items s.path.it
 
 -- the work that is left: each vertex is opened once, and puts two vertices ahead at most
 abbrev pub work : Search → ℕ
-work s = 4 * unseen s.marks.items + (length s.ahead.items + length s.bounds.items)
+work s = 4 * unseen_count s.marks.items + (length s.ahead.items + length s.bounds.items)
 
 -- what was met stays so
 abbrev pub StaysMet : Search → Search → Type 0

@@ -4,7 +4,7 @@
 ghost use Rattle.std.specs.Prelude.{◌≡◌, ℕ, ◌<◌, ◌≤◌, ◌+◌, ◌++◌, ◌∷◌, [], length, IfOk, OnOk, get_or};
 ghost use Rattle.kex_code.specs.Codes.{HasNumber};
 ghost use Rattle.kex_model.specs.Programs.{IsGrammar};
-ghost use Rattle.kex_rules.specs.Graphs.{IsParted, listed, vertices, ways};
+ghost use Rattle.kex_rules.specs.Graphs.{IsParted, listed_ways, vertices, ways};
 ghost use Rattle.kex_rules.specs.Searches.{AllLead, Closes, Joins, Searching, StaysMet, work};
 ghost use Rattle.kex_rules.specs.Tables.{HasRoots};
 ghost use Rattle.kex_rules.specs.declared.components.Mark.TheVariants.{Unseen};
@@ -43,7 +43,7 @@ pub struct Search {
 
 // What a vertex leads to is ahead.
 fn push_ways(ahead: &mut Vec<usize>, ways: Ways) -> Result<(), Memory>
-    ensures { OnOk result (ahead.new.items ≡ ahead.old.items ++ listed ways) }
+    ensures { OnOk result (ahead.new.items ≡ ahead.old.items ++ listed_ways ways) }
 {
     match ways {
         Ways::NoWay => {}

@@ -1,7 +1,7 @@
 // A program as a graph: its nodes are vertices, and so are its names, which stand behind the nodes.
 
 ghost use Rattle.std.specs.Prelude.{◌≡◌, ◌<◌, ◌^◌, length};
-ghost use Rattle.kex_rules.specs.Graphs.{kind_ways, listed, root_ways, vertices, ways};
+ghost use Rattle.kex_rules.specs.Graphs.{kind_ways, listed_ways, root_ways, vertices, ways};
 ghost use Rattle.kex_rules.specs.Tables.{HasRoots};
 
 use kex_model::program::{Kind, Program};
@@ -17,7 +17,7 @@ pub enum Ways {
 // Where a node of this kind leads, with so many nodes before the names.
 fn ways_of_kind(nodes: usize, kind: &Kind) -> Ways
     requires { nodes < 2 ^ 63 }
-    ensures { listed result ≡ kind_ways nodes kind.now }
+    ensures { listed_ways result ≡ kind_ways nodes kind.now }
 {
     match kind {
         Kind::Call(name) => Ways::One(nodes + *name as usize),
@@ -32,7 +32,7 @@ fn ways_of_kind(nodes: usize, kind: &Kind) -> Ways
 
 // Where a name leads.
 fn ways_of_root(root: Option<u32>) -> Ways
-    ensures { listed result ≡ root_ways root }
+    ensures { listed_ways result ≡ root_ways root }
 {
     match root {
         None => Ways::NoWay,
@@ -44,7 +44,7 @@ fn ways_of_root(root: Option<u32>) -> Ways
 pub(crate) fn ways_of(program: &Program, roots: &[Option<u32>], v: usize) -> Ways
     requires roots { HasRoots program.now.definitions (length program.now.names) roots.now }
     requires fits { v < vertices program.now }
-    ensures { listed result ≡ ways program.now v }
+    ensures { listed_ways result ≡ ways program.now v }
 {
     let nodes = program.nodes();
     match nodes.get(v) {

@@ -16,7 +16,7 @@ use Rattle.kex_machine.specs.Nodes.{Graph, HasLoop, IsBelow, IsInRange, IsTrimme
 use Rattle.kex_trim.specs.Loops.{IsOrder}
 use Rattle.kex_trim.proofs.Searching.{quiet_step, is_quiet}
 use Rattle.kex_trim.specs.Ways.{IsAlive}
-use Rattle.kex_trim.specs.Trim.{Keeps, still_accepts, still_reads, still_chooses, only_left, only_right, still_forced, still_goes, IsTrimOf, IsNumbering, IsShrunk, chosen, renamed}
+use Rattle.kex_trim.specs.Trim.{Keeps, still_accepts, still_reads, still_chooses, only_left, only_right, still_forced, still_goes, IsTrimOf, IsNumbering, IsShrunk, choice_left, renumbered_move}
 
 module _ {S T : Type 0} (R : S → T → Type 0) (Lost : S → Type 0) where
   kept_ahead : {m : Move S} {n : Move T} {k : Step S} → Keeps R Lost m n → Allows m k → (Lost (entered k) → ⊥) → (j : Step T) × Allows n j × SameLabel k j × R (entered k) (entered j)
@@ -111,12 +111,12 @@ module _ (nodes : List MNode) (alive : List Bool) (order kept numbers : List ℕ
   lost : (s : ℕ) → s < length nodes → get_or alive s false ≡ false → Lost s
   lost s lt e l = let bad : false ≡ true = sym e ∙ is.all s lt l in cc
 
-  pub choice : (a b : Bool) (l r : ℕ) → get_or alive l false ≡ a → get_or alive r false ≡ b → l < length nodes → r < length nodes → (LeadsToEnd f l ⊎ LeadsToEnd f r) → Keeps (HasNumber kept) Lost (choose l r) (chosen a b (get_or numbers l 0) (get_or numbers r 0))
+  pub choice : (a b : Bool) (l r : ℕ) → get_or alive l false ≡ a → get_or alive r false ≡ b → l < length nodes → r < length nodes → (LeadsToEnd f l ⊎ LeadsToEnd f r) → Keeps (HasNumber kept) Lost (choose l r) (choice_left a b (get_or numbers l 0) (get_or numbers r 0))
   choice true true l r ea eb fl fr some = still_chooses (numbered_at l fl ea) (numbered_at r fr eb)
   choice true false l r ea eb fl fr some = only_left (numbered_at l fl ea) (lost r fr eb)
   choice false b l r ea eb fl fr some = only_right (lost l fl ea) (⊎_elim (λ h. absurd (lost l fl ea h)) (λ h. has_number r fr h) some)
 
-  by_move : (m : MNode) → LeadsBelow (length nodes) m → ((move_of (Some m) ≡ accept) ⊎ ((k : Step ℕ) × Allows (move_of (Some m)) k × LeadsToEnd f (entered k))) → Keeps (HasNumber kept) Lost (move_of (Some m)) (renamed alive numbers (move_of (Some m)))
+  by_move : (m : MNode) → LeadsBelow (length nodes) m → ((move_of (Some m) ≡ accept) ⊎ ((k : Step ℕ) × Allows (move_of (Some m)) k × LeadsToEnd f (entered k))) → Keeps (HasNumber kept) Lost (move_of (Some m)) (renumbered_move alive numbers (move_of (Some m)))
   by_move Accept b h = still_accepts
   by_move (Read set t) b (inl e) = cc
   by_move (Read set t) b (inr (k, a, e)) = still_reads (has_number t b (side a e))
@@ -146,11 +146,11 @@ module _ (nodes : List MNode) (alive : List Bool) (order kept numbers : List ℕ
       side goes e = e
 
   -- a node that is kept, by the new numbers
-  pub kept_node : All (LeadsBelow (length nodes)) nodes → (s : ℕ) → s < length nodes → LeadsToEnd f s → Keeps (HasNumber kept) Lost (f s) (renamed alive numbers (f s))
+  pub kept_node : All (LeadsBelow (length nodes)) nodes → (s : ℕ) → s < length nodes → LeadsToEnd f s → Keeps (HasNumber kept) Lost (f s) (renumbered_move alive numbers (f s))
   kept_node range s lt (ks, e, w, a) =
       let m = get_or nodes s Accept in
       let here : f s ≡ move_of (Some m) = ap (λ z. move_of z) (slice_get-get_or nodes s Accept lt) in
-      subst (λ z. Keeps (HasNumber kept) Lost z (renamed alive numbers z)) (sym here) (by_move m (All-get_or (LeadsBelow (length nodes)) nodes s Accept lt range) (steps here ks w))
+      subst (λ z. Keeps (HasNumber kept) Lost z (renumbered_move alive numbers z)) (sym here) (by_move m (All-get_or (LeadsBelow (length nodes)) nodes s Accept lt range) (steps here ks w))
     where
       steps : {v : Move ℕ} → f s ≡ v → (ks : List (Step ℕ)) → Walk f s ks e → (v ≡ accept) ⊎ ((k : Step ℕ) × Allows v k × LeadsToEnd f (entered k))
       steps {v} here [] w = inl (sym here ∙ ap f w ∙ a)
@@ -162,7 +162,7 @@ pub record Shrinking (nodes rest made : List MNode) (alive : List Bool) (kept nu
   pub below : All (LeadsBelow (length nodes)) rest
   pub same : (s u : ℕ) → HasNumber kept s u → t ≤ u → node_moves rest s ≡ node_moves nodes s
   pub count : length made ≡ t
-  pub each : (s u : ℕ) → HasNumber kept s u → u < t → node_moves made u ≡ renamed alive numbers (node_moves nodes s)
+  pub each : (s u : ℕ) → HasNumber kept s u → u < t → node_moves made u ≡ renumbered_move alive numbers (node_moves nodes s)
 
 pub shrinking_start : (nodes made : List MNode) (alive : List Bool) (kept numbers : List ℕ) → All (LeadsBelow (length nodes)) nodes → made ≡ [] → Shrinking nodes nodes made alive kept numbers 0
 shrinking_start nodes made alive kept numbers below none = rw none (record { long = refl; below = below; same = λ s u h le. refl; count = refl; each = λ s u h lt. absurd (omega arith) })
@@ -183,14 +183,14 @@ moves_at_end made m u e = ap (λ z. move_of (slice_get (made ++ m ∷ []) z)) e 
 moves_before : (made : List MNode) (m : MNode) (u : ℕ) → u < length made → node_moves (made ++ m ∷ []) u ≡ node_moves made u
 moves_before made m u lt = let g = slice_get-get_or made u Accept lt in ap (λ z. move_of z) (get_more made (m ∷ []) u (get_or made u Accept) g ∙ sym g)
 
-pub shrinking_more : (nodes rest made : List MNode) (alive : List Bool) (order kept numbers : List ℕ) (t s : ℕ) (node new : MNode) → Shrinking nodes rest made alive kept numbers t → IsNumbering alive order kept numbers → HasNumber kept s t → move_of (Some node) ≡ node_moves rest s → move_of (Some new) ≡ renamed alive numbers (move_of (Some node)) → Shrinking nodes (set rest s Accept) (made ++ new ∷ []) alive kept numbers (t + 1)
+pub shrinking_more : (nodes rest made : List MNode) (alive : List Bool) (order kept numbers : List ℕ) (t s : ℕ) (node new : MNode) → Shrinking nodes rest made alive kept numbers t → IsNumbering alive order kept numbers → HasNumber kept s t → move_of (Some node) ≡ node_moves rest s → move_of (Some new) ≡ renumbered_move alive numbers (move_of (Some node)) → Shrinking nodes (set rest s Accept) (made ++ new ∷ []) alive kept numbers (t + 1)
 shrinking_more nodes rest made alive order kept numbers t s node new h num at is made_is = record {
   long = length-set rest s Accept ∙ h.long;
   below = All-set (LeadsBelow (length nodes)) rest s Accept tt h.below;
   same = λ s' u g le. moves_set_other rest s s' Accept (λ e. let same : u ≡ t = sym (num.once s' u g) ∙ ap (λ z. get_or numbers z 0) e ∙ num.once s t at in absurd (omega arith)) ∙ h.same s' u g (omega arith);
   count = let c : length made ≡ t = h.count in omega (arith, length-append made (new ∷ []));
   each = λ s' u g lt. ⊎_elim
-      (λ e. moves_at_end made new u (sym e ∙ sym h.count) ∙ made_is ∙ ap (λ z. renamed alive numbers z) (is ∙ h.same s t at (omega arith) ∙ ap (λ z. node_moves nodes z) (some_same s s' (sym at ∙ ap (λ z. slice_get kept z) e ∙ g))))
+      (λ e. moves_at_end made new u (sym e ∙ sym h.count) ∙ made_is ∙ ap (λ z. renumbered_move alive numbers z) (is ∙ h.same s t at (omega arith) ∙ ap (λ z. node_moves nodes z) (some_same s s' (sym at ∙ ap (λ z. slice_get kept z) e ∙ g))))
       (λ l. moves_before made new u (let c : length made ≡ t = h.count in omega arith) ∙ h.each s' u g l)
       (last_or_less t u lt);
 }

@@ -12,7 +12,7 @@ use Rattle.kex_machine.specs.declared.MNode.{MNode}
 use Rattle.kex_machine.specs.declared.MNode.TheVariants.{Accept, Read, Choice, Forced, Do, Skip}
 use Rattle.kex_trim.specs.Ways.{LeadsBelow}
 use Rattle.kex_machine.specs.Nodes.{node_moves, move_of}
-use Rattle.kex_trim.specs.Ways.{ways, Adds, IsReverse, unmarked, Marks, IsAlive}
+use Rattle.kex_trim.specs.Ways.{ways, Adds, IsReverse, unmarked_count, Marks, IsAlive}
 use Rattle.kex_trim.proofs.Searching.{among-cases, among_left, among_right}
 
 pub same_or_not : (a b : ℕ) → (a ≡ b) ⊎ (b ≢ a)
@@ -145,7 +145,7 @@ reversed_all nodes into r = record {
     less_or_not : (a b : ℕ) → (a < b) ⊎ (b ≤ a)
     less_or_not a b = grind arith
 
-unmarked-set : (xs : List Bool) (n : ℕ) → n < length xs → get_or xs n false ≡ false → unmarked xs ≡ suc (unmarked (set xs n true))
+unmarked-set : (xs : List Bool) (n : ℕ) → n < length xs → get_or xs n false ≡ false → unmarked_count xs ≡ suc (unmarked_count (set xs n true))
 unmarked-set [] n lt e = absurd (omega arith)
 unmarked-set (true ∷ xs) zero lt e = cc
 unmarked-set (false ∷ xs) zero lt e = refl

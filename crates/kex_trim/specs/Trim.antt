@@ -50,20 +50,20 @@ abbrev pub NumbersOne : Bool → ℕ → List ℕ → List ℕ → List ℕ → 
 NumbersOne true s kept numbers kept' numbers' = (kept' ≡ kept ++ s ∷ []) × (numbers' ≡ slice_set numbers s (length kept))
 NumbersOne false s kept numbers kept' numbers' = (kept' ≡ kept) × (numbers' ≡ numbers)
 
-abbrev pub chosen : Bool → Bool → ℕ → ℕ → Move ℕ
-chosen true true l r = choose l r
-chosen true false l r = forced to_left l
-chosen false x l r = forced to_right r
+abbrev pub choice_left : Bool → Bool → ℕ → ℕ → Move ℕ
+choice_left true true l r = choose l r
+choice_left true false l r = forced to_left l
+choice_left false x l r = forced to_right r
 
 -- the move by the new numbers
-abbrev pub renamed : List Bool → List ℕ → Move ℕ → Move ℕ
-renamed alive numbers accept = accept
-renamed alive numbers (read set t) = read set (get_or numbers t 0)
-renamed alive numbers (choose l r) = chosen (get_or alive l false) (get_or alive r false) (get_or numbers l 0) (get_or numbers r 0)
-renamed alive numbers (forced x t) = forced x (get_or numbers t 0)
-renamed alive numbers (go e t) = go e (get_or numbers t 0)
+abbrev pub renumbered_move : List Bool → List ℕ → Move ℕ → Move ℕ
+renumbered_move alive numbers accept = accept
+renumbered_move alive numbers (read set t) = read set (get_or numbers t 0)
+renumbered_move alive numbers (choose l r) = choice_left (get_or alive l false) (get_or alive r false) (get_or numbers l 0) (get_or numbers r 0)
+renumbered_move alive numbers (forced x t) = forced x (get_or numbers t 0)
+renumbered_move alive numbers (go e t) = go e (get_or numbers t 0)
 
 -- the nodes that were made so far are those that are kept, by their new numbers
 pub record IsShrunk (nodes made : List MNode) (alive : List Bool) (kept numbers : List ℕ) : Type 0 where
   pub count : length made ≡ length kept
-  pub each : (s t : ℕ) → HasNumber kept s t → node_moves made t ≡ renamed alive numbers (node_moves nodes s)
+  pub each : (s t : ℕ) → HasNumber kept s t → node_moves made t ≡ renumbered_move alive numbers (node_moves nodes s)

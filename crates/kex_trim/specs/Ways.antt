@@ -27,10 +27,10 @@ LeadsBelow count (Forced b n) = n < count
 LeadsBelow count (Do e n) = n < count
 LeadsBelow count (Skip n) = n < count
 
-abbrev pub listed : Ways → List ℕ
-listed NoWay = []
-listed (One t) = t ∷ []
-listed (Two l r) = l ∷ r ∷ []
+abbrev pub listed_ways : Ways → List ℕ
+listed_ways NoWay = []
+listed_ways (One t) = t ∷ []
+listed_ways (Two l r) = l ∷ r ∷ []
 
 abbrev pub EachUnder : ℕ → List ℕ → Type 0
 EachUnder k ns = (n : ℕ) → IsAmong ns n → n < k
@@ -49,10 +49,10 @@ pub record IsReverse (nodes : List MNode) (into : List (List ℕ)) : Type 0 wher
   pub all : (t s : ℕ) → t < length nodes → IsAmong (ways (node_moves nodes s)) t → IsAmong (get_or into t []) s
 
 -- how many flags are false
-abbrev pub unmarked : List Bool → ℕ
-unmarked [] = 0
-unmarked (true ∷ xs) = unmarked xs
-unmarked (false ∷ xs) = suc (unmarked xs)
+abbrev pub unmarked_count : List Bool → ℕ
+unmarked_count [] = 0
+unmarked_count (true ∷ xs) = unmarked_count xs
+unmarked_count (false ∷ xs) = suc (unmarked_count xs)
 
 -- xs were marked, and those among them that were not before are on the stack
 pub record Marks (xs : List ℕ) (old : List Bool) (stack : List ℕ) (new : List Bool) (stack' : List ℕ) : Type 0 where
@@ -63,7 +63,7 @@ pub record Marks (xs : List ℕ) (old : List Bool) (stack : List ℕ) (new : Lis
   pub stacked : (n : ℕ) → get_or new n false ≡ true → (get_or old n false ≡ true) ⊎ IsAmong stack' n
   pub still : (n : ℕ) → IsAmong stack n → IsAmong stack' n
   pub from : (n : ℕ) → IsAmong stack' n → IsAmong stack n ⊎ IsAmong xs n
-  pub sum : unmarked new + length stack' ≡ unmarked old + length stack
+  pub sum : unmarked_count new + length stack' ≡ unmarked_count old + length stack
 
 -- the flags say from which nodes the end is reached
 pub record IsAlive (nodes : List MNode) (alive : List Bool) : Type 0 where

@@ -2,7 +2,7 @@
 
 ghost use Rattle.std.specs.Prelude.{◌≡◌, ◌<◌, ◌++◌, ◌∷◌, [], All, length, Some, IfOk, OnOk, slice_set, get_or, replicate};
 ghost use Rattle.kex_machine.specs.Nodes.{move_of};
-ghost use Rattle.kex_trim.specs.Ways.{Adds, EachUnder, IsAlive, IsReverse, LeadsBelow, Marks, listed, ways};
+ghost use Rattle.kex_trim.specs.Ways.{Adds, EachUnder, IsAlive, IsReverse, LeadsBelow, Marks, listed_ways, ways};
 
 use crate::node_at;
 use kex_machine::MNode;
@@ -18,7 +18,7 @@ pub enum Ways {
 }
 
 fn ways_of(node: &MNode) -> Ways
-    ensures { listed result ≡ ways (move_of (Some node.now)) }
+    ensures { listed_ways result ≡ ways (move_of (Some node.now)) }
 {
     match node {
         MNode::Accept => Ways::NoWay,
@@ -92,8 +92,8 @@ fn no_sources(alloc: Global, count: usize) -> Result<Vec<Sources>, AllocError>
 
 // The ways of a node are added to what leads where.
 fn add_ways(into: &mut Vec<Sources>, found: Ways, from: u32) -> Result<(), AllocError>
-    requires { EachUnder (length into.old.items) (listed found) }
-    ensures { OnOk result (Adds (listed found) from into.old.items into.new.items) }
+    requires { EachUnder (length into.old.items) (listed_ways found) }
+    ensures { OnOk result (Adds (listed_ways found) from into.old.items into.new.items) }
 {
     match found {
         Ways::NoWay => Ok(()),

@@ -4,7 +4,7 @@ ghost use Rattle.std.specs.Prelude.{◌≡◌, ℕ, ◌<◌, All, length, Some, 
 ghost use Rattle.kex_code.specs.Codes.{HasNumber};
 ghost use Rattle.kex_machine.specs.Nodes.{move_of, node_moves};
 ghost use Rattle.kex_machine.specs.declared.MNode.TheVariants.{Accept};
-ghost use Rattle.kex_trim.specs.Trim.{IsNumbering, IsShrunk, NumbersOne, renamed};
+ghost use Rattle.kex_trim.specs.Trim.{IsNumbering, IsShrunk, NumbersOne, renumbered_move};
 ghost use Rattle.kex_trim.specs.Ways.{LeadsBelow};
 
 use kex_machine::{Bit, MNode};
@@ -53,7 +53,7 @@ pub(crate) fn number(alloc: Global, alive: &[bool], order: &[u32]) -> Result<Num
 fn shrunk(node: MNode, alive: &[bool], numbers: &[u32]) -> MNode
     requires below { LeadsBelow (length alive.now) node }
     requires long { length numbers.now ≡ length alive.now }
-    ensures { move_of (Some result) ≡ renamed alive.now numbers.now (move_of (Some node)) }
+    ensures { move_of (Some result) ≡ renumbered_move alive.now numbers.now (move_of (Some node)) }
 {
     match node {
         MNode::Accept => MNode::Accept,

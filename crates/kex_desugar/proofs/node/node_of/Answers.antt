@@ -8,7 +8,7 @@ use Rattle.kex_desugar.specs.declared.spot.Spot.TheVariants.{Empty, On}
 use Rattle.kex_desugar.specs.declared.plan.Plan.{Plan}
 use Rattle.kex_desugar.specs.declared.plan.Plan.TheVariants.{Take, Fork, Act, Pass}
 use Rattle.kex_desugar.specs.declared.plan.Way.{Way}
-use Rattle.kex_desugar.specs.Plans.{frames, planned}
+use Rattle.kex_desugar.specs.Plans.{frames, plan_move}
 use Rattle.kex_desugar.specs.Spots.{Names, IsAt, IsOnPlace, IsReal}
 use Rattle.kex_desugar.proofs.Numbers.{not_empty}
 use Rattle.kex_desugar.proofs.Ways.{at_later, begins_twice, err_as, had, node_by_plan, on_place, on_place_later}
@@ -19,11 +19,11 @@ real : (c : In_ok-plan) (root : ℕ) → IsReal c.args.program.now root c.args.s
 real c root here = subst (λ s. IsReal c.args.program.now root c.args.spots.now.keys s) c.in-On.is here
 
 -- what is on top does what the plan says
-does : (c : In_ok-plan) (plan : Plan) → c.in_ok-plan.plan ≡ plan → (q : Place) → moves c.args.program.now (c.in-On.frame ∷ q) ≡ planned plan q
-does c plan e q = c.in_ok-plan.ensures q ∙ ap (λ z. planned z q) e
+does : (c : In_ok-plan) (plan : Plan) → c.in_ok-plan.plan ≡ plan → (q : Place) → moves c.args.program.now (c.in-On.frame ∷ q) ≡ plan_move plan q
+does c plan e q = c.in_ok-plan.ensures q ∙ ap (λ z. plan_move z q) e
 
 -- where the plan leads is a place
-leads : (c : In_ok-plan) (plan : Plan) (way : Way) (root : ℕ) → c.in_ok-plan.plan ≡ plan → ((q : Place) → (k : Step Place) × Allows (planned plan q) k × (entered k ≡ frames way ++ q)) → IsReal c.args.program.now root c.args.spots.now.keys c.args.spot → IsOnPlace c.args.program.now root c.args.spots.now.keys way c.in-On.rest
+leads : (c : In_ok-plan) (plan : Plan) (way : Way) (root : ℕ) → c.in_ok-plan.plan ≡ plan → ((q : Place) → (k : Step Place) × Allows (plan_move plan q) k × (entered k ≡ frames way ++ q)) → IsReal c.args.program.now root c.args.spots.now.keys c.args.spot → IsOnPlace c.args.program.now root c.args.spots.now.keys way c.in-On.rest
 leads c plan way root e step here = on_place c.args.program.now root c.args.spots.now.keys c.in-On.frame c.in-On.rest plan way (real c root here) (does c plan e) step
 
 pub returns-in_default-clause-node : goal.returns-in_default-clause-node

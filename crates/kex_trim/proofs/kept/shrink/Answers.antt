@@ -2,7 +2,7 @@ use Rattle.std.proofs.Common.{◌≡◌, ◌<◌, Some, length, sym, ap, subst, 
 use Rattle.std.proofs.lemmas.Option.{slice_get-get_or}
 use Rattle.kex_code.specs.Codes.{HasNumber}
 use Rattle.kex_machine.specs.Nodes.{move_of}
-use Rattle.kex_trim.specs.Trim.{renamed}
+use Rattle.kex_trim.specs.Trim.{renumbered_move}
 use Rattle.kex_trim.proofs.Trimming.{past}
 use Rattle.kex_trim.proofs.Keeping.{Shrinking, shrinking_more, shrinking_end}
 use Rattle.kex_trim.proofs.kept.shrink.Goals as goal
@@ -24,7 +24,7 @@ loop-t-preserved c =
     let numbers = c.args.numbering.now.numbers.items in
     rw (c.in_ok-push.ensures.items, c.take_node-node.ensures.left)
     (shrinking_more c.args.nodes.items c.loop-t.rest.items c.loop-t.made.items c.args.alive.now c.args.order.now kept numbers c.loop-t.t s c.take_node-node.result c.shrunk.result c.loop-t.invariant c.requires.numbering (next (goal.at.loop-t-preserved c).After-index) c.take_node-node.ensures.node
-    (subst (λ z. move_of (Some c.shrunk.result) ≡ renamed c.args.alive.now z (move_of (Some c.take_node-node.result))) c.deref.ensures.value c.shrunk.ensures))
+    (subst (λ z. move_of (Some c.shrunk.result) ≡ renumbered_move c.args.alive.now z (move_of (Some c.take_node-node.result))) c.deref.ensures.value c.shrunk.ensures))
 
 pub returns : goal.returns
 returns c =

@@ -1,5 +1,5 @@
 use Rattle.std.proofs.Common.{◌≡◌, ◌<◌, ◌++◌, ◌∷◌, [], length, set, ap, ◌∙◌, length-append, arith}
-use Rattle.kex_rules.specs.Graphs.{vertices, ways, listed}
+use Rattle.kex_rules.specs.Graphs.{vertices, ways, listed_ways}
 use Rattle.kex_rules.specs.declared.components.Mark.TheVariants.{Open}
 use Rattle.kex_rules.proofs.Marks.{unseen-open}
 use Rattle.kex_rules.proofs.Ways.{two_ways}
@@ -18,4 +18,4 @@ returns-clause-search c =
 pub returns-clause-work : goal.returns-clause-work
 returns-clause-work c =
     let fits : c.args.v < length c.args.self.now.marks.items = omega (arith, c.requires.fits, c.requires.search.long) in
-    omega (arith, unseen-open c.args.self.now.marks.items c.args.v c.len.result fits c.requires.unseen, ap length c.in_ok-push_ways.ensures, length-append c.args.self.now.ahead.items (listed c.ways_of.result), two_ways c.ways_of.result, ap length c.in_ok-push-2.ensures.items, length-append c.args.self.now.bounds.items (record { path = c.len.result; ahead = c.len-2.result } ∷ []))
+    omega (arith, unseen-open c.args.self.now.marks.items c.args.v c.len.result fits c.requires.unseen, ap length c.in_ok-push_ways.ensures, length-append c.args.self.now.ahead.items (listed_ways c.ways_of.result), two_ways c.ways_of.result, ap length c.in_ok-push-2.ensures.items, length-append c.args.self.now.bounds.items (record { path = c.len.result; ahead = c.len-2.result } ∷ []))
