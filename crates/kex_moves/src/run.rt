@@ -64,6 +64,8 @@ fn skip(classes: &[u8; 256], edges: &[Edge], piece: &[u8], row: usize, from: usi
 }
 
 /// Goes along edges while they are written.
+// Not inlined: within a long caller what the loop reads for each byte would stand in memory.
+#[inline(never)]
 pub fn run(
     classes: &[u8; 256],
     edges: &[Edge],
