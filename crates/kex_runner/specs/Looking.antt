@@ -1,34 +1,37 @@
--- Looking a register up: the parts that are still to be read, what they stand for, and how many parts that takes.
-use Rattle.std.specs.Prelude.{◌≡◌, ℕ, suc, ◌+◌, ◌<◌, ◌≤◌, List, [], ◌∷◌, ◌++◌, map, length, get_or, take, reverse}
+-- Looking up backwards: the lists that are still to be read, what they stand for, and how much there is to be read.
+use Rattle.std.specs.Prelude.{◌≡◌, ℕ, zero, suc, ◌+◌, ◌<◌, ◌≤◌, List, [], ◌∷◌, ◌++◌, Option, Some, None, map, length, get_or, take}
 use Rattle.kex_code.specs.declared.symbol.Symbol.{Symbol}
 use Rattle.kex_sst.specs.declared.parts.Part.{Part}
 use Rattle.kex_sst.specs.declared.parts.Part.TheVariants.{Put, Old, Input}
 use Rattle.kex_sst.specs.Parts.{meant}
-use Rattle.kex_runner.specs.Noting.{ByteUpdate, UnreadParts, registers_after}
-use Rattle.kex_runner.specs.declared.registers.Reading.{Reading}
+use Rattle.kex_script.specs.declared.piece.Piece.{Piece}
+use Rattle.kex_script.specs.Scripts.{Sheet, list_at}
+use Rattle.kex_runner.specs.Noting.{ByteUpdate, registers_after, turned}
+use Rattle.kex_runner.specs.declared.reading.Reading.{Reading}
+use Rattle.kex_runner.specs.declared.reading.Unread.{Unread}
 
--- what unread parts stand for
-abbrev pub code_of : List (List Symbol) → List ByteUpdate → UnreadParts → List Symbol
-code_of base notes u = meant (registers_after base (take u.after notes)) u.byte u.parts
+-- what an unread list stands for
+abbrev pub code_of : Sheet → List (List Symbol) → List ByteUpdate → Unread → List Symbol
+code_of s base notes u = meant (registers_after base (take u.after notes)) u.byte (list_at s u.list)
 
--- the same of all that are pending, joined
-abbrev pub codes_of : List (List Symbol) → List ByteUpdate → List UnreadParts → List Symbol
-codes_of base notes [] = []
-codes_of base notes (u ∷ us) = code_of base notes u ++ codes_of base notes us
+-- the same of some, joined
+abbrev pub codes_of : Sheet → List (List Symbol) → List ByteUpdate → List Unread → List Symbol
+codes_of s base notes [] = []
+codes_of s base notes (u ∷ us) = code_of s base notes u ++ codes_of s base notes us
 
--- some parts, after one of so many notes
-pub record IsUnread (count : ℕ) (u : UnreadParts) : Type 0 where
-  pub noted : u.after ≤ count
-  pub some : 0 < length u.parts
+-- each comes after one of so many notes
+abbrev pub AreNoted : ℕ → List Unread → Type 0
+AreNoted count [] = Unit {0}
+AreNoted count (u ∷ us) = (u.after ≤ count) × AreNoted count us
 
-abbrev pub AreUnread : ℕ → List UnreadParts → Type 0
-AreUnread count [] = Unit {0}
-AreUnread count (u ∷ us) = IsUnread count u × AreUnread count us
+abbrev pub if_some : Option Unread → List Unread
+if_some None = []
+if_some (Some u) = u ∷ []
 
--- unread parts that are put on a stack, if there are any
-abbrev pub some_of : List Part → UnreadParts → List UnreadParts
-some_of [] u = []
-some_of (x ∷ xs) u = u ∷ []
+-- a list that is put on a stack, if it isn't the empty one
+abbrev pub unless_empty : ℕ → Unread → List Unread
+unless_empty zero u = []
+unless_empty (suc n) u = u ∷ []
 
 -- how many parts are read behind this one, where each register takes so many
 abbrev pub further_work : List ℕ → Part → ℕ
@@ -46,23 +49,24 @@ abbrev pub register_work : List ℕ → List ByteUpdate → List ℕ
 register_work ws [] = ws
 register_work ws (n ∷ ns) = register_work (map (λ xs. part_work ws xs) n.update.regs) ns
 
--- how many parts are read for all that are pending; what a register was where the notes begin takes none
-abbrev pub work_of : List ByteUpdate → List UnreadParts → ℕ
-work_of notes [] = 0
-work_of notes (u ∷ us) = part_work (register_work [] (take u.after notes)) u.parts + work_of notes us
+-- how many parts are read for an unread list; what a register was where the notes begin takes none
+abbrev pub list_work : Sheet → List ByteUpdate → Unread → ℕ
+list_work s notes u = part_work (register_work [] (take u.after notes)) (list_at s u.list)
 
--- what pending parts stand for, and behind it what was read
-abbrev pub text_of : List (List Symbol) → List ByteUpdate → Reading → List Symbol
-text_of base notes r = codes_of base notes r.pending.items ++ reverse r.back.items
+-- a measure of all that are unread: twice their parts, and one for each list
+abbrev pub weight_of : Sheet → List ByteUpdate → List Unread → ℕ
+weight_of s notes [] = 0
+weight_of s notes (u ∷ us) = suc (list_work s notes u + list_work s notes u) + weight_of s notes us
 
--- symbols were read before those that were, or are to be read from what is now pending, by so many parts
-pub record HasAsked (base : List (List Symbol)) (notes : List ByteUpdate) (old new : Reading) (said : List Symbol) (parts : ℕ) : Type 0 where
-  pub text : text_of base notes new ≡ codes_of base notes old.pending.items ++ (said ++ reverse old.back.items)
-  pub unread : AreUnread (length notes) old.pending.items → AreUnread (length notes) new.pending.items
-  pub work : work_of notes new.pending.items ≡ work_of notes old.pending.items + parts
+-- what is said is to be read from the next list, or was read, before the pieces that were; and it takes so many parts
+pub record HasAsked (s : Sheet) (base : List (List Symbol)) (notes : List ByteUpdate) (old new : Reading) (next : Option Unread) (said : List Symbol) (parts : ℕ) : Type 0 where
+  pub text : codes_of s base notes (if_some next) ++ turned s.words new.back.items ≡ said ++ turned s.words old.back.items
+  pub pending : new.pending.items ≡ old.pending.items
+  pub noted : AreNoted (length notes) (if_some next)
+  pub weight : weight_of s notes (if_some next) ≤ suc (parts + parts)
 
--- a part was read of what was pending with these parts on top
-pub record HasRead (base : List (List Symbol)) (notes : List ByteUpdate) (old : Reading) (top : UnreadParts) (new : Reading) : Type 0 where
-  pub text : text_of base notes new ≡ codes_of base notes old.pending.items ++ (code_of base notes top ++ reverse old.back.items)
-  pub unread : AreUnread (length notes) old.pending.items → AreUnread (length notes) new.pending.items
-  pub work : suc (work_of notes new.pending.items) ≡ work_of notes old.pending.items + work_of notes (top ∷ [])
+-- of lists that were unread the last was read from its end, which leaves others, and less
+pub record HasRead (s : Sheet) (base : List (List Symbol)) (notes : List ByteUpdate) (before after : List Unread) (old new : List Piece) : Type 0 where
+  pub text : codes_of s base notes after ++ turned s.words new ≡ codes_of s base notes before ++ turned s.words old
+  pub noted : AreNoted (length notes) before → AreNoted (length notes) after
+  pub weight : weight_of s notes after < weight_of s notes before

@@ -1,19 +1,18 @@
 -- Registers whose updates are noted: what they were where the notes begin, and the updates since, each with its byte.
-use Rattle.std.specs.Prelude.{ℕ, List, [], ◌∷◌, map}
+use Rattle.std.specs.Prelude.{ℕ, List, [], ◌∷◌, map, reverse}
 use Rattle.kex_code.specs.declared.symbol.Symbol.{Symbol}
 use Rattle.kex_sst.specs.declared.parts.Part.{Part}
 use Rattle.kex_sst.specs.Parts.{Change, meant}
+use Rattle.kex_script.specs.declared.piece.Piece.{Piece}
+use Rattle.kex_script.specs.Pieces.{spelled}
+use Rattle.kex_script.specs.Scripts.{Sheet, change_at}
+use Rattle.kex_runner.specs.declared.reading.Note.{Note}
+use Rattle.kex_runner.specs.declared.registers.Registers.{Registers}
 
 -- an update, and the byte that was read
 pub record ByteUpdate : Type 0 where
   pub update : Change
   pub byte : ℕ
-
--- parts over what the registers were after so many notes, and the byte that was read then
-pub record UnreadParts : Type 0 where
-  pub after : ℕ
-  pub byte : ℕ
-  pub parts : List Part
 
 -- the registers that an update leaves
 abbrev pub next_registers : Change → ℕ → List (List Symbol) → List (List Symbol)
@@ -23,3 +22,26 @@ next_registers u b regs = map (λ xs. meant regs b xs) u.regs
 abbrev pub registers_after : List (List Symbol) → List ByteUpdate → List (List Symbol)
 registers_after base [] = base
 registers_after base (n ∷ ns) = registers_after (next_registers n.update n.byte base) ns
+
+-- what pieces spell that stand last first
+abbrev pub turned : List (List Part) → List Piece → List Symbol
+turned words ps = spelled words (reverse ps)
+
+-- registers that are settled, each in pieces that stand last first
+abbrev pub settled_of : Sheet → List (List Piece) → List (List Symbol)
+settled_of s base = map (λ ps. turned s.words ps) base
+
+-- the update that a note names
+abbrev pub update_of : Sheet → Note → ByteUpdate
+update_of s n = record { update = change_at s n.lists; byte = n.byte }
+
+abbrev pub updates_of : Sheet → List Note → List ByteUpdate
+updates_of s notes = map (λ n. update_of s n) notes
+
+-- what registers hold after so many notes
+abbrev pub noted_by : Sheet → List (List Piece) → List Note → List (List Symbol)
+noted_by s base notes = registers_after (settled_of s base) (updates_of s notes)
+
+-- what the registers hold
+abbrev pub held : Sheet → Registers → List (List Symbol)
+held s r = noted_by s r.base.items r.notes.items

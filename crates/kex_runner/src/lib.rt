@@ -1,12 +1,16 @@
 //! Runs a table over bytes, and passes on its code as the bytes come.
 //!
-//! Stands on ropes and tables. A `Runner` keeps neither its bytes nor its code: `StandsFor` relates it to the bytes that it was fed
+//! Stands on tables and their scripts. A `Runner` keeps neither its bytes nor its code: `StandsFor` relates it to the bytes that it was fed
 //! and the code that it has passed on; the clauses of `Runner::feed` and `Runner::end` carry this on. Its registers are the updates
-//! since they were last settled, and are looked up backwards where one of them is passed on.
+//! since they were last settled, and are looked up backwards, in words, where one of them is passed on.
 #![tactic(auto)]
 
 mod answers;
+mod reading;
 mod registers;
 pub mod runner;
+mod spelling;
+#[cfg(test)]
+mod tests;
 
 pub use answers::{Ended, Fed};

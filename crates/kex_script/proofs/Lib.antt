@@ -1,0 +1,4 @@
+pub mod Olds
+pub mod Growing
+pub mod Reading
+pub mod Segments

@@ -1,0 +1,76 @@
+-- What a script is written on: its lists and rows as far as they are, which only grow.
+use Rattle.std.specs.Prelude.{◌≡◌, ℕ, ◌+◌, ◌<◌, ◌≤◌, true, false, List, [], ◌∷◌, ◌++◌, Option, Some, None, ◌↔◌, get_or, slice_get, length, take, drop}
+use Rattle.kex_sst.specs.declared.parts.Part.{Part}
+use Rattle.kex_sst.specs.declared.table.Transition.{Transition}
+use Rattle.kex_sst.specs.Parts.{Change, olds, olds_in}
+use Rattle.kex_script.specs.declared.script.Tail.{Tail}
+use Rattle.kex_script.specs.declared.script.Entry.{Entry}
+use Rattle.kex_script.specs.declared.writer.Segment.{Segment}
+use Rattle.kex_script.specs.Scripts.{AreTails, if_old, no_entry}
+
+pub record Pages : Type 0 where
+  pub words : List (List Part)
+  pub lists : List (List Part)
+  pub tails : List Tail
+  pub rows : List ℕ
+
+-- what stands in the first list stands there in the second
+abbrev pub Keeps : {A : Type 0} → List A → List A → Type 0
+Keeps {A} xs ys = (k : ℕ) (x : A) → slice_get xs k ≡ Some x → slice_get ys k ≡ Some x
+
+-- lists and rows stay where they are
+pub record Grows (old new : Pages) : Type 0 where
+  pub lists : Keeps old.lists new.lists
+  pub rows : Keeps old.rows new.rows
+
+abbrev pub AreSound : Pages → Type 0
+AreSound p = AreTails p.words p.lists p.tails
+
+-- an old register or none, and parts up to the next old register
+pub record IsSegment (s : Segment) (parts : List Part) : Type 0 where
+  pub within : s.end ≤ length parts
+  pub some : 0 < s.end
+  pub start : s.start ≤ s.end
+  pub old : take s.start parts ≡ if_old s.old
+  pub plain : olds (drop s.start (take s.end parts)) ≡ []
+
+-- a list of this number, then an old register or none, then a word, are these parts
+pub record IsJoined (lists : List (List Part)) (number : ℕ) (old : Option ℕ) (word whole : List Part) : Type 0 where
+  pub front : List Part
+  pub before : slice_get lists number ≡ Some front
+  pub shorter : length front < length whole
+  pub plain : olds word ≡ []
+  pub joined : whole ≡ front ++ (if_old old ++ word)
+
+-- the number of a list stands in the rows at a place
+pub record IsListAt (p : Pages) (k : ℕ) (parts : List Part) : Type 0 where
+  pub number : ℕ
+  pub row : slice_get p.rows k ≡ Some number
+  pub list : slice_get p.lists number ≡ Some parts
+
+-- so many lists stand in the rows from a place on
+abbrev pub AreListsAt : Pages → ℕ → ℕ → List (List Part) → Type 0
+AreListsAt p k n lists = (i : ℕ) → i < n → IsListAt p (k + i) (get_or lists i [])
+
+-- an update stands in the rows at a place
+pub record IsRow (p : Pages) (at : ℕ) (u : Change) : Type 0 where
+  pub count : slice_get p.rows at ≡ Some (length u.regs)
+  pub out : IsListAt p (at + 1) u.out
+  pub regs : AreListsAt p (at + 2) (length u.regs) u.regs
+
+pub record HasRow (p : Pages) (e : Entry) (to : ℕ) (u : Change) : Type 0 where
+  pub goes : e.goes ≡ true
+  pub target : e.target ≡ to
+  pub row : IsRow p e.lists u
+  pub registers : e.registers ≡ length u.regs
+  pub silent : (e.silent ≡ true) ↔ (u.out ≡ [])
+  pub fresh : e.fresh ≡ true → olds_in u.regs ≡ []
+
+abbrev pub HasRowIf : Pages → Entry → Option Transition → Type 0
+HasRowIf p e None = e.goes ≡ false
+HasRowIf p e (Some r) = HasRow p e r.target r.update
+
+-- the entries are those of these transitions, one for one
+pub record AreEntries (p : Pages) (entries : List Entry) (go : List (Option Transition)) : Type 0 where
+  pub as_many : length entries ≡ length go
+  pub each : (k : ℕ) → k < length go → HasRowIf p (get_or entries k no_entry) (get_or go k None)

@@ -1,0 +1,116 @@
+// Lists of parts by number.
+
+ghost use Rattle.std.specs.Prelude.{◌≡◌, ◌∷◌, ◌++◌, length, [], Some, IfOk, OnOk, IfSome, slice_get};
+ghost use Rattle.kex_script.specs.Pages.{Keeps};
+
+use indexmap::IndexMap;
+use kex_code::memory::Memory;
+use kex_code::symbol::Symbol;
+use kex_sst::parts::{Part, Parts};
+use std::alloc::Global;
+use std::marker::Model;
+
+/// Lists of parts by number. Equal ones are found by a sum of their parts; where two lists have one sum, the second isn't found again.
+#[derive(Drop)]
+pub struct Interned {
+    alloc: Global,
+    all: Vec<Parts>,
+    numbers: IndexMap<u64, u32>,
+}
+
+impl Model for Interned {
+    ghost use Rattle.std.specs.Prelude.{List};
+    ghost use Rattle.kex_sst.specs.declared.parts.Part.{Part};
+
+    ghost Value = { List (List Part) };
+
+    ghost view = { λ i. i.all.items };
+}
+
+// A number for a part.
+fn code_of(part: Part) -> u64 {
+    match part {
+        Part::Input => 1,
+        Part::Put(Symbol::L) => 2,
+        Part::Put(Symbol::R) => 3,
+        Part::Put(Symbol::Byte(byte)) => 4 + u64::from(byte),
+        Part::Old(register) => 512 + u64::from(register),
+    }
+}
+
+// A sum of parts in their order.
+fn sum_of(parts: &[Part]) -> u64 {
+    let mut sum: u64 = 0xcbf2_9ce4_8422_2325;
+    for part in parts {
+        sum = (sum ^ code_of(*part)).wrapping_mul(0x0000_0100_0000_01b3);
+    }
+    sum
+}
+
+// The same parts in a list of their own.
+fn parts_of(alloc: Global, all: &[Part]) -> Result<Parts, Memory>
+    ensures { IfOk result (λ p. p ≡ all.now) }
+{
+    let mut parts = Parts::new(alloc);
+    for part in all {
+        parts.push(*part)?;
+    }
+    Ok(parts)
+}
+
+impl Interned {
+    /// No lists.
+    pub fn new(alloc: Global) -> Interned
+        ensures { result ≡ [] }
+    {
+        Interned {
+            alloc,
+            all: Vec::new(alloc),
+            numbers: IndexMap::new(alloc),
+        }
+    }
+
+    /// The number of these parts, if it is found.
+    pub fn find(&self, parts: &[Part]) -> Option<u32>
+        ensures { IfSome result (λ n. slice_get self.now n ≡ Some parts.now) }
+    {
+        let number = *self.numbers.get(&sum_of(parts))?;
+        let list = self.all.get(number as usize)?;
+        if list.as_slice() == parts {
+            Some(number)
+        } else {
+            None
+        }
+    }
+
+    /// A number of these parts that is new.
+    pub fn add(&mut self, parts: &[Part]) -> Result<u32, Memory>
+        ensures added { OnOk result (self.new ≡ self.old ++ parts.now ∷ []) }
+        ensures number { IfOk result (λ n. n ≡ length self.old) }
+    {
+        let Ok(number) = u32::try_from(self.all.len()) else {
+            return Err(Memory);
+        };
+        self.numbers.insert(sum_of(parts), number)?;
+        self.all.push(parts_of(self.alloc, parts)?)?;
+        Ok(number)
+    }
+
+    /// A number of these parts.
+    pub fn number(&mut self, parts: &[Part]) -> Result<u32, Memory>
+        ensures number { IfOk result (λ n. slice_get self.new n ≡ Some parts.now) }
+        ensures kept { OnOk result (Keeps self.old self.new) }
+    {
+        match self.find(parts) {
+            Some(number) => Ok(number),
+            None => self.add(parts),
+        }
+    }
+
+    /// The lists, by number.
+    pub fn into_lists(self) -> Vec<Parts>
+        ensures { result.items ≡ self }
+    {
+        self.all
+    }
+}

@@ -1,0 +1,168 @@
+// The lists of a table's updates, and what each state does on each class of bytes.
+
+ghost use Rattle.std.specs.Prelude.{◌≡◌, ◌+◌, ◌*◌, ◌<◌, [], suc, false, Option, Some, None, IfOk, MatchOption, get_or, slice_get};
+ghost use Rattle.kex_script.specs.Scripts.{IsScriptOf, IsTail, change_at, entry_at, list_at};
+
+use crate::writer::Writer;
+use kex_code::memory::Memory;
+use kex_sst::parts::Parts;
+use kex_sst::table::Table;
+use std::alloc::Global;
+use std::marker::Model;
+
+/// A list from its end: a word or none, before it an old register or none, and before that the list of this number, which is shorter.
+#[derive(Clone, Copy, Debug, PartialEq, Eq)]
+pub struct Tail {
+    pub before: u32,
+    pub old: Option<u32>,
+    pub word: Option<u32>,
+}
+
+/// What a state does on a class of bytes. Where it has no transition the rest says nothing.
+#[derive(Clone, Copy, Debug, PartialEq, Eq)]
+pub struct Entry {
+    /// Whether there is a transition.
+    pub goes: bool,
+    /// Whether it passes nothing on.
+    pub silent: bool,
+    /// Whether no register is given an old one.
+    pub fresh: bool,
+    pub target: u32,
+    /// Which lists it has: the place of its update among the rows.
+    pub lists: u32,
+    /// How many registers the target has.
+    pub registers: u32,
+}
+
+/// The lists of a table's updates by number, each as parts and from its end, and the words that they end with; the updates, in rows: how
+/// many registers are given something, the number of the list that is passed on, and those of the registers; and for each state, and in
+/// it for each class, an entry.
+#[derive(Drop)]
+pub struct Script {
+    words: Vec<Parts>,
+    lists: Vec<Parts>,
+    tails: Vec<Tail>,
+    rows: Vec<u32>,
+    initial: Entry,
+    entries: Vec<Entry>,
+    width: u16,
+}
+
+impl Model for Script {
+    ghost use Rattle.kex_script.specs.Scripts.{AreTails, Sheet};
+
+    ghost Value = { Sheet };
+
+    ghost view = { λ s. record { words = s.words.items; lists = s.lists.items; tails = s.tails.items; rows = s.rows.items; initial = s.initial; entries = s.entries.items; width = s.width } };
+
+    ghost invariant = { λ s. AreTails s.words.items s.lists.items s.tails.items };
+}
+
+// What stands at a place of the rows.
+#[inline(always)]
+fn number_at(rows: &[u32], at: usize) -> u32
+    ensures { result ≡ get_or rows.now at 0 }
+{
+    match rows.get(at) {
+        Some(number) => *number,
+        None => 0,
+    }
+}
+
+impl Script {
+    /// The lists of a table.
+    pub fn new(alloc: Global, table: &Table) -> Result<Script, Memory>
+        ensures { IfOk result (λ s. IsScriptOf s table.now) }
+    {
+        let mut writer = Writer::new(alloc)?;
+        let initial = writer.transition(0, table.initial())?;
+        let entries = writer.entries(alloc, table.states())?;
+        let (words, lists, tails, rows) = writer.finish();
+        Ok(Script {
+            words,
+            lists,
+            tails,
+            rows,
+            initial,
+            entries,
+            width: table.partition().classes(),
+        })
+    }
+
+    /// The words, by number.
+    pub fn words(&self) -> &[Parts]
+        ensures { result.now ≡ self.now.words }
+    {
+        &self.words
+    }
+
+    /// What is done before the first byte.
+    pub fn initial(&self) -> Entry
+        ensures { result ≡ self.now.initial }
+    {
+        self.initial
+    }
+
+    /// What a state does on a class of bytes.
+    #[inline(always)]
+    pub fn entry(&self, state: u32, class: u8) -> Entry
+        ensures { result ≡ entry_at self.now state class }
+    {
+        let at = state as usize * usize::from(self.width) + usize::from(class);
+        match self.entries.get(at) {
+            Some(entry) => *entry,
+            None => Entry::none(),
+        }
+    }
+
+    /// The number of the list that an update passes on.
+    #[inline(always)]
+    pub fn passed(&self, lists: u32) -> u32
+        ensures { list_at self.now result ≡ (change_at self.now lists).out }
+    {
+        number_at(&self.rows, lists as usize + 1)
+    }
+
+    /// The number of the list that an update gives to a register; list 0, which is empty, where there is no such register.
+    #[inline(always)]
+    pub fn given(&self, lists: u32, register: usize) -> u32
+        ensures { list_at self.now result ≡ get_or (change_at self.now lists).regs register [] }
+    {
+        let at = lists as usize;
+        if register >= number_at(&self.rows, at) as usize {
+            return 0;
+        }
+        number_at(&self.rows, at + 2 + register)
+    }
+
+    /// A list from its end; none for a list that is empty.
+    #[inline(always)]
+    pub fn tail(&self, list: u32) -> Option<Tail>
+        ensures { MatchOption result (list_at self.now list ≡ []) (λ x. IsTail self.now.words self.now.lists x (list_at self.now list)) }
+    {
+        let tails = self.tails.as_slice();
+        if list == 0 {
+            return None;
+        }
+        match tails.get(list as usize) {
+            Some(tail) => Some(*tail),
+            None => None,
+        }
+    }
+}
+
+impl Entry {
+    /// No transition.
+    pub fn none() -> Entry
+        ensures { result ≡ record { goes = false; silent = false; fresh = false; target = 0; lists = 0; registers = 0 } }
+    {
+        Entry {
+            goes: false,
+            silent: false,
+            fresh: false,
+            target: 0,
+            lists: 0,
+            registers: 0,
+        }
+    }
+}

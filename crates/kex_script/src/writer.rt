@@ -1,0 +1,317 @@
+// Writes the lists of updates down, each once.
+
+ghost use Rattle.std.specs.Prelude.{◌≡◌, ◌+◌, ◌<◌, ◌≤◌, List, [], ◌∷◌, ◌++◌, Option, Some, None, true, false, IfOk, OnOk, IfSome, ◌↔◌, flat_map, length, get_or, slice_get, take, drop};
+ghost use Rattle.kex_sst.specs.Parts.{olds, olds_in};
+ghost use Rattle.kex_sst.specs.Tables.{Row};
+ghost use Rattle.kex_sst.specs.declared.table.Transition.{Transition};
+ghost use Rattle.kex_script.specs.Scripts.{IsWord};
+ghost use Rattle.kex_script.specs.Pages.{AreEntries, AreListsAt, AreSound, Grows, HasRow, HasRowIf, IsJoined, IsListAt, IsRow, IsSegment, Keeps};
+
+use crate::interned::Interned;
+use crate::script::{Entry, Tail};
+use kex_code::memory::Memory;
+use kex_sst::parts::{Part, Parts, Update};
+use kex_sst::table::{State, Transition};
+use std::alloc::Global;
+use std::marker::Model;
+
+/// The lists that were met, as a `Script` has them.
+#[derive(Drop)]
+pub struct Writer {
+    words: Interned,
+    lists: Interned,
+    tails: Vec<Tail>,
+    rows: Vec<u32>,
+}
+
+impl Model for Writer {
+    ghost use Rattle.kex_script.specs.Pages.{Pages};
+
+    ghost Value = { Pages };
+
+    ghost view = { λ w. record { words = w.words; lists = w.lists; tails = w.tails.items; rows = w.rows.items } };
+}
+
+// Whether a part is an old register.
+fn is_old(part: Part) -> bool
+    ensures { result ≡ false → olds (part ∷ []) ≡ [] }
+{
+    match part {
+        Part::Old(_) => true,
+        Part::Put(_) => false,
+        Part::Input => false,
+    }
+}
+
+// Whether a list of parts reads an old register.
+fn reads_old(parts: &[Part]) -> bool
+    ensures { result ≡ false → olds parts.now ≡ [] }
+{
+    for part in parts {
+        if is_old(*part) {
+            return true;
+        }
+    }
+    false
+}
+
+// Whether no register is given an old one.
+fn is_fresh(lists: &[Parts]) -> bool
+    ensures { result ≡ true → olds_in lists.now ≡ [] }
+{
+    for list in lists {
+        if reads_old(list.as_slice()) {
+            return false;
+        }
+    }
+    true
+}
+
+// The front of some parts: an old register or none, and then a word, from `start` to `end`.
+#[derive(Clone, Copy)]
+struct Segment {
+    old: Option<u32>,
+    start: usize,
+    end: usize,
+}
+
+// Where the word ends that goes on here: at the next old register, or with the parts.
+fn word_end(parts: &[Part], start: usize) -> usize
+    requires { start ≤ length parts.now }
+    ensures within { (start ≤ result) × (result ≤ length parts.now) }
+    ensures plain { olds (drop start (take result parts.now)) ≡ [] }
+{
+    for i in start..parts.len() {
+        if is_old(parts[i]) {
+            return i;
+        }
+    }
+    parts.len()
+}
+
+// The front of parts, up to the next old register behind the first part.
+fn first_segment(parts: &[Part]) -> Segment
+    requires { 0 < length parts.now }
+    ensures { IsSegment result parts.now }
+{
+    let end = word_end(parts, 1);
+    match parts[0] {
+        Part::Old(register) => Segment {
+            old: Some(register),
+            start: 1,
+            end,
+        },
+        Part::Put(_) => Segment {
+            old: None,
+            start: 0,
+            end,
+        },
+        Part::Input => Segment {
+            old: None,
+            start: 0,
+            end,
+        },
+    }
+}
+
+// The number of a word, if it has parts.
+fn word_number(words: &mut Interned, word: &[Part]) -> Result<Option<u32>, Memory>
+    ensures number { IfOk result (λ n. IsWord words.new n word.now) }
+    ensures kept { OnOk result (Keeps words.old words.new) }
+{
+    if word.is_empty() {
+        return Ok(None);
+    }
+    let number = words.number(word)?;
+    Ok(Some(number))
+}
+
+impl Writer {
+    /// The empty list alone.
+    pub fn new(alloc: Global) -> Result<Writer, Memory>
+        ensures { IfOk result (λ w. AreSound w) }
+    {
+        let mut lists = Interned::new(alloc);
+        lists.add(&[])?;
+        let mut tails = Vec::new(alloc);
+        tails.push(Tail {
+            before: 0,
+            old: None,
+            word: None,
+        })?;
+        Ok(Writer {
+            words: Interned::new(alloc),
+            lists,
+            tails,
+            rows: Vec::new(alloc),
+        })
+    }
+
+    // The number of the list that is the list `before`, an old register or none, and a word.
+    fn join(
+        &mut self,
+        before: u32,
+        old: Option<u32>,
+        word: &[Part],
+        whole: &[Part],
+    ) -> Result<u32, Memory>
+        requires sound { AreSound self.old }
+        requires joined { IsJoined self.old.lists before old word.now whole.now }
+        ensures number { IfOk result (λ n. slice_get self.new.lists n ≡ Some whole.now) }
+        ensures sound { OnOk result (AreSound self.new) }
+        ensures grown { OnOk result (Grows self.old self.new) }
+        ensures rows { self.new.rows ≡ self.old.rows }
+    {
+        if let Some(number) = self.lists.find(whole) {
+            return Ok(number);
+        }
+        let word = word_number(&mut self.words, word)?;
+        let number = self.lists.add(whole)?;
+        self.tails.push(Tail { before, old, word })?;
+        Ok(number)
+    }
+
+    // The number of a list.
+    fn list(&mut self, parts: &[Part]) -> Result<u32, Memory>
+        requires sound { AreSound self.old }
+        ensures number { IfOk result (λ n. slice_get self.new.lists n ≡ Some parts.now) }
+        ensures sound { OnOk result (AreSound self.new) }
+        ensures grown { OnOk result (Grows self.old self.new) }
+        ensures rows { self.new.rows ≡ self.old.rows }
+    {
+        if let Some(number) = self.lists.find(parts) {
+            return Ok(number);
+        }
+        let mut number = 0;
+        let mut from = 0;
+        while from < parts.len() {
+            let segment = first_segment(&parts[from..]);
+            let to = from + segment.end;
+            let word = &parts[from + segment.start..to];
+            number = self.join(number, segment.old, word, &parts[..to])?;
+            from = to;
+        }
+        Ok(number)
+    }
+
+    // The number of a list is put behind the rows.
+    fn put(&mut self, parts: &[Part]) -> Result<(), Memory>
+        requires sound { AreSound self.old }
+        ensures at { OnOk result (IsListAt self.new (length self.old.rows) parts.now) }
+        ensures count { OnOk result (length self.new.rows ≡ length self.old.rows + 1) }
+        ensures sound { OnOk result (AreSound self.new) }
+        ensures grown { OnOk result (Grows self.old self.new) }
+    {
+        let number = self.list(parts)?;
+        self.rows.push(number)?;
+        Ok(())
+    }
+
+    // The numbers of lists are put behind the rows.
+    fn put_all(&mut self, lists: &[Parts]) -> Result<(), Memory>
+        requires sound { AreSound self.old }
+        ensures at { OnOk result (AreListsAt self.new (length self.old.rows) (length lists.now) lists.now) }
+        ensures sound { OnOk result (AreSound self.new) }
+        ensures grown { OnOk result (Grows self.old self.new) }
+    {
+        for list in lists {
+            self.put(list.as_slice())?;
+        }
+        Ok(())
+    }
+
+    // An update is put behind the rows, and its place told.
+    fn update(&mut self, update: &Update) -> Result<u32, Memory>
+        requires sound { AreSound self.old }
+        ensures row { IfOk result (λ at. IsRow self.new at update.now) }
+        ensures sound { OnOk result (AreSound self.new) }
+        ensures grown { OnOk result (Grows self.old self.new) }
+    {
+        let Ok(at) = u32::try_from(self.rows.len()) else {
+            return Err(Memory);
+        };
+        let Ok(count) = u32::try_from(update.regs().len()) else {
+            return Err(Memory);
+        };
+        self.rows.push(count)?;
+        self.put(update.out().as_slice())?;
+        self.put_all(update.regs())?;
+        Ok(at)
+    }
+
+    /// The entry of a transition.
+    pub fn transition(&mut self, target: u32, update: &Update) -> Result<Entry, Memory>
+        requires sound { AreSound self.old }
+        ensures entry { IfOk result (λ e. HasRow self.new e target update.now) }
+        ensures sound { OnOk result (AreSound self.new) }
+        ensures grown { OnOk result (Grows self.old self.new) }
+    {
+        let Ok(registers) = u32::try_from(update.regs().len()) else {
+            return Err(Memory);
+        };
+        Ok(Entry {
+            goes: true,
+            silent: update.out().as_slice().is_empty(),
+            fresh: is_fresh(update.regs()),
+            target,
+            lists: self.update(update)?,
+            registers,
+        })
+    }
+
+    // The entry of a transition, or of none.
+    fn entry(&mut self, transition: &Option<Transition>) -> Result<Entry, Memory>
+        requires sound { AreSound self.old }
+        ensures entry { IfOk result (λ e. HasRowIf self.new e transition.now) }
+        ensures sound { OnOk result (AreSound self.new) }
+        ensures grown { OnOk result (Grows self.old self.new) }
+    {
+        match transition {
+            None => Ok(Entry::none()),
+            Some(transition) => self.transition(transition.target, &transition.update),
+        }
+    }
+
+    // The entries of a state are put behind others.
+    fn state(&mut self, go: &[Option<Transition>], entries: &mut Vec<Entry>) -> Result<(), Memory>
+        requires sound { AreSound self.old }
+        ensures entries { OnOk result ((before : List (Option Transition)) → AreEntries self.old entries.old.items before → AreEntries self.new entries.new.items (before ++ go.now)) }
+        ensures sound { OnOk result (AreSound self.new) }
+        ensures grown { OnOk result (Grows self.old self.new) }
+    {
+        for transition in go {
+            let entry = self.entry(transition)?;
+            entries.push(entry)?;
+        }
+        Ok(())
+    }
+
+    /// The entries of all states, one state behind the other.
+    pub fn entries(&mut self, alloc: Global, states: &[State]) -> Result<Vec<Entry>, Memory>
+        requires sound { AreSound self.old }
+        ensures entries { IfOk result (λ es. AreEntries self.new es.items (flat_map (λ (s : Row). s.go) states.now)) }
+        ensures sound { OnOk result (AreSound self.new) }
+        ensures grown { OnOk result (Grows self.old self.new) }
+    {
+        let mut entries = Vec::new(alloc);
+        for state in states {
+            self.state(state.go(), &mut entries)?;
+        }
+        Ok(entries)
+    }
+
+    /// The words, the lists, their tails and the rows.
+    pub fn finish(self) -> (Vec<Parts>, Vec<Parts>, Vec<Tail>, Vec<u32>)
+        ensures words { result.0.items ≡ self.words }
+        ensures lists { result.1.items ≡ self.lists }
+        ensures tails { result.2.items ≡ self.tails }
+        ensures rows { result.3.items ≡ self.rows }
+    {
+        (
+            self.words.into_lists(),
+            self.lists.into_lists(),
+            self.tails,
+            self.rows,
+        )
+    }
+}
