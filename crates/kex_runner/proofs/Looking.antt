@@ -1,22 +1,20 @@
--- Looking up backwards: what is pending, read to the end, spells the rest.
-use Rattle.std.proofs.Common.{◌≡◌, ℕ, zero, suc, ◌+◌, ◌-◌, ◌<◌, ◌≤◌, List, [], ◌∷◌, ◌++◌, length, map, get_or, take, drop, reverse, refl, sym, ap, ap₂, subst, ◌∙◌, append_assoc, append-nil, arith, drop-cons}
-use Rattle.std.proofs.lemmas.List.{take_more, take_all, reverse-append, get_or_past}
+-- Looking up backwards: what is unread, and what was read, spell the whole.
+use Rattle.std.proofs.Common.{◌≡◌, ℕ, zero, suc, ◌+◌, ◌-◌, ◌<◌, ◌≤◌, List, [], ◌∷◌, ◌++◌, Option, Some, None, length, map, get_or, take, refl, sym, ap, ap₂, subst, ◌∙◌, append_assoc, append-nil, length-append, arith}
+use Rattle.std.proofs.lemmas.Option.{get_or_from_slice_get}
 use Rattle.std.proofs.Math.ListN.{get_or-map}
+use Rattle.std.proofs.lemmas.List.{get_or_past}
 use Rattle.kex_code.specs.declared.symbol.Symbol.{Symbol}
-use Rattle.kex_code.specs.declared.symbol.Symbol.TheVariants.{L}
 use Rattle.kex_sst.specs.declared.parts.Part.{Part}
+use Rattle.kex_sst.specs.declared.parts.Part.TheVariants.{Put, Old, Input}
 use Rattle.kex_sst.specs.Parts.{value, meant}
-use Rattle.kex_runner.specs.declared.registers.Reading.{Reading}
-use Rattle.kex_runner.specs.Noting.{ByteUpdate, UnreadParts, next_registers, registers_after}
-use Rattle.kex_runner.specs.Looking.{code_of, codes_of, AreUnread, some_of, further_work, part_work, register_work, work_of, text_of, HasAsked, HasRead}
-
--- a list of symbols from its end, one before it
-pub before_drop : (xs : List Symbol) (n k : ℕ) (back rest : List Symbol) → n ≡ length xs → k < n → reverse back ≡ drop (n - k) xs ++ rest → reverse (back ++ get_or xs (n - 1 - k) L ∷ []) ≡ drop (n - (k + 1)) xs ++ rest
-before_drop xs n k back rest e lt h =
-    let same : n - k ≡ suc (n - 1 - k) = omega arith in
-    let here : n - (k + 1) ≡ n - 1 - k = omega arith in
-    let more : drop (n - 1 - k) xs ≡ get_or xs (n - 1 - k) L ∷ drop (suc (n - 1 - k)) xs = drop-cons xs (n - 1 - k) L (omega arith) in
-    reverse-append back (get_or xs (n - 1 - k) L ∷ []) ∙ ap (λ z. get_or xs (n - 1 - k) L ∷ z) (h ∙ ap (λ z. drop z xs ++ rest) same) ∙ sym (ap (λ z. z ++ rest) (ap (λ z. drop z xs) here ∙ more))
+use Rattle.kex_script.specs.declared.piece.Piece.{Piece}
+use Rattle.kex_script.specs.declared.script.Tail.{Tail}
+use Rattle.kex_script.specs.Scripts.{Sheet, list_at, if_old, IsTail, IsWord}
+use Rattle.kex_runner.specs.declared.reading.Reading.{Reading}
+use Rattle.kex_runner.specs.declared.reading.Unread.{Unread}
+use Rattle.kex_runner.specs.Noting.{ByteUpdate, next_registers, registers_after, turned}
+use Rattle.kex_runner.specs.Looking.{code_of, codes_of, AreNoted, if_some, unless_empty, further_work, part_work, register_work, list_work, weight_of, old_text, old_weight, HasAsked, HasRead}
+use Rattle.kex_runner.proofs.Noting.{meant_fresh}
 
 meant-append : (regs : List (List Symbol)) (b : ℕ) (xs ys : List Part) → meant regs b (xs ++ ys) ≡ meant regs b xs ++ meant regs b ys
 meant-append regs b [] ys = refl
@@ -25,6 +23,10 @@ meant-append regs b (x ∷ xs) ys = ap (λ z. value regs b x ++ z) (meant-append
 part_work-append : (ws : List ℕ) (xs ys : List Part) → part_work ws (xs ++ ys) ≡ part_work ws xs + part_work ws ys
 part_work-append ws [] ys = omega arith
 part_work-append ws (x ∷ xs) ys = omega (arith, part_work-append ws xs ys)
+
+work_each : (ws : List ℕ) (xs : List Part) → length xs ≤ part_work ws xs
+work_each ws [] = omega arith
+work_each ws (x ∷ xs) = omega (arith, work_each ws xs)
 
 -- one more note
 pub registers_more : (base : List (List Symbol)) (notes : List ByteUpdate) (k : ℕ) (d : ByteUpdate) → k < length notes → registers_after base (take (suc k) notes) ≡ next_registers (get_or notes k d).update (get_or notes k d).byte (registers_after base (take k notes))
@@ -37,119 +39,108 @@ work_more ws [] k d lt = absurd (omega arith)
 work_more ws (n ∷ ns) zero d lt = refl
 work_more ws (n ∷ ns) (suc k) d lt = work_more (map (λ xs. part_work ws xs) n.update.regs) ns k d (omega arith)
 
-module _ (base : List (List Symbol)) (notes : List ByteUpdate) where
-  codes-append : (us vs : List UnreadParts) → codes_of base notes (us ++ vs) ≡ codes_of base notes us ++ codes_of base notes vs
+-- what an old register holds, and how much is read for it
+old_means : (regs : List (List Symbol)) (b : ℕ) (o : Option ℕ) → meant regs b (if_old o) ≡ old_text regs o
+old_means regs b None = refl
+old_means regs b (Some i) = append-nil (get_or regs i [])
+
+lighter : (ws : List ℕ) (o : Option ℕ) (parts : List Part) → 0 < length (if_old o ++ parts) → old_weight ws o < (part_work ws (if_old o) + part_work ws parts) + (part_work ws (if_old o) + part_work ws parts)
+lighter ws None parts some = omega (arith, some, work_each ws parts)
+lighter ws (Some i) parts some = omega arith
+
+module _ (s : Sheet) (base : List (List Symbol)) (notes : List ByteUpdate) where
+  codes-append : (us vs : List Unread) → codes_of s base notes (us ++ vs) ≡ codes_of s base notes us ++ codes_of s base notes vs
   codes-append [] vs = refl
-  codes-append (u ∷ us) vs = ap (λ z. code_of base notes u ++ z) (codes-append us vs) ∙ sym (append_assoc (code_of base notes u) (codes_of base notes us) (codes_of base notes vs))
+  codes-append (u ∷ us) vs = ap (λ z. code_of s base notes u ++ z) (codes-append us vs) ∙ sym (append_assoc (code_of s base notes u) (codes_of s base notes us) (codes_of s base notes vs))
 
-  work-append : (us vs : List UnreadParts) → work_of notes (us ++ vs) ≡ work_of notes us + work_of notes vs
-  work-append [] vs = omega arith
-  work-append (u ∷ us) vs = omega (arith, work-append us vs)
+  weight-append : (us vs : List Unread) → weight_of s notes (us ++ vs) ≡ weight_of s notes us + weight_of s notes vs
+  weight-append [] vs = omega arith
+  weight-append (u ∷ us) vs = omega (arith, weight-append us vs)
 
-  unread-append : (n : ℕ) (us vs : List UnreadParts) → AreUnread n us → AreUnread n vs → AreUnread n (us ++ vs)
-  unread-append n [] vs h k = k
-  unread-append n (u ∷ us) vs h k = (h.0, unread-append n us vs h.1 k)
+  noted-append : (n : ℕ) (us vs : List Unread) → AreNoted n us → AreNoted n vs → AreNoted n (us ++ vs)
+  noted-append n [] vs h k = k
+  noted-append n (u ∷ us) vs h k = (h.0, noted-append n us vs h.1 k)
 
-  pub unread_left : (n : ℕ) (us vs : List UnreadParts) → AreUnread n (us ++ vs) → AreUnread n us
-  unread_left n [] vs h = tt
-  unread_left n (u ∷ us) vs h = (h.0, unread_left n us vs h.1)
+  pub noted_left : (n : ℕ) (us vs : List Unread) → AreNoted n (us ++ vs) → AreNoted n us
+  noted_left n [] vs h = tt
+  noted_left n (u ∷ us) vs h = (h.0, noted_left n us vs h.1)
 
-  pub unread_right : (n : ℕ) (us vs : List UnreadParts) → AreUnread n (us ++ vs) → AreUnread n vs
-  unread_right n [] vs h = h
-  unread_right n (u ∷ us) vs h = unread_right n us vs h.1
+  pub noted_right : (n : ℕ) (us vs : List Unread) → AreNoted n (us ++ vs) → AreNoted n vs
+  noted_right n [] vs h = h
+  noted_right n (u ∷ us) vs h = noted_right n us vs h.1
 
-  -- no parts spell nothing
-  some_code : (ps : List Part) (u : UnreadParts) → u.parts ≡ ps → codes_of base notes (some_of ps u) ≡ code_of base notes u
-  some_code [] u e = ap (λ z. meant (registers_after base (take u.after notes)) u.byte z) (sym e)
-  some_code (p ∷ ps) u e = append-nil (code_of base notes u)
+  -- a list that is put on the stack, unless it is the empty one
+  kept_code : list_at s 0 ≡ [] → (u : Unread) (k : ℕ) → u.list ≡ k → codes_of s base notes (unless_empty k u) ≡ code_of s base notes u
+  kept_code none u zero e = sym (ap (λ z. meant (registers_after base (take u.after notes)) u.byte (list_at s z)) e ∙ ap (λ z. meant (registers_after base (take u.after notes)) u.byte z) none)
+  kept_code none u (suc k) e = append-nil (code_of s base notes u)
 
-  some_work : (ps : List Part) (u : UnreadParts) → u.parts ≡ ps → work_of notes (some_of ps u) ≡ part_work (register_work [] (take u.after notes)) u.parts
-  some_work [] u e = ap (λ z. part_work (register_work [] (take u.after notes)) z) (sym e)
-  some_work (p ∷ ps) u e = omega arith
+  kept_weight : (u : Unread) (k : ℕ) → weight_of s notes (unless_empty k u) ≤ suc (list_work s notes u + list_work s notes u)
+  kept_weight u zero = omega arith
+  kept_weight u (suc k) = omega arith
 
-  some_unread : (ps : List Part) (u : UnreadParts) → u.parts ≡ ps → u.after ≤ length notes → AreUnread (length notes) (some_of ps u)
-  some_unread [] u e le = tt
-  some_unread (p ∷ ps) u e le = (record { noted = le; some = omega (arith, ap length e) }, tt)
-
-  -- parts that are put on the stack, where there are any
-  pub record Kept (old new : List UnreadParts) (u : UnreadParts) : Type 0 where
-    pub code : codes_of base notes new ≡ codes_of base notes old ++ code_of base notes u
-    pub unread : AreUnread (length notes) old → AreUnread (length notes) new
-    pub work : work_of notes new ≡ work_of notes old + part_work (register_work [] (take u.after notes)) u.parts
-
-  pub kept : (old new : List UnreadParts) (u : UnreadParts) → new ≡ old ++ some_of u.parts u → u.after ≤ length notes → Kept old new u
-  kept old new u e le = record {
-    code = ap (λ z. codes_of base notes z) e ∙ codes-append old (some_of u.parts u) ∙ ap (λ z. codes_of base notes old ++ z) (some_code u.parts u refl);
-    unread = λ h. subst (λ z. AreUnread (length notes) z) (sym e) (unread-append (length notes) old (some_of u.parts u) h (some_unread u.parts u refl le));
-    work = ap (λ z. work_of notes z) e ∙ work-append old (some_of u.parts u) ∙ ap (λ z. work_of notes old + z) (some_work u.parts u refl);
-  }
-
-  -- symbols were read
-  pub asked_here : (old new : Reading) (said : List Symbol) → new.pending.items ≡ old.pending.items → reverse new.back.items ≡ said ++ reverse old.back.items → HasAsked base notes old new said 0
-  asked_here old new said e h = record {
-    text = ap₂ (λ x y. codes_of base notes x ++ y) e h;
-    unread = λ k. subst (λ z. AreUnread (length notes) z) (sym e) k;
-    work = let f = ap (λ z. work_of notes z) e in omega (arith, f);
-  }
+  kept_noted : (n : ℕ) (u : Unread) (k : ℕ) → u.after ≤ n → AreNoted n (unless_empty k u)
+  kept_noted n u zero le = tt
+  kept_noted n u (suc k) le = (le, tt)
 
   -- a register where the notes begin
-  pub asked_settled : (old new : Reading) (after i : ℕ) → after ≡ 0 → new.pending.items ≡ old.pending.items → reverse new.back.items ≡ get_or base i [] ++ reverse old.back.items → HasAsked base notes old new (get_or (registers_after base (take after notes)) i []) (get_or (register_work [] (take after notes)) i 0)
-  asked_settled old new after i e f h =
-      let none : get_or {A = ℕ} [] i 0 ≡ 0 = get_or_past [] i 0 (omega arith) in
-      subst (λ z. HasAsked base notes old new (get_or (registers_after base (take z notes)) i []) (get_or (register_work [] (take z notes)) i 0)) (sym e) (subst (λ z. HasAsked base notes old new (get_or base i []) z) (sym none) (asked_here old new (get_or base i []) f h))
+  pub asked_settled : (old new : Reading) (after i : ℕ) → after ≡ 0 → new.pending.items ≡ old.pending.items → turned s.words new.back.items ≡ get_or base i [] ++ turned s.words old.back.items → (most : ℕ) → HasAsked s base notes old new None (get_or (registers_after base (take after notes)) i []) most
+  asked_settled old new after i e f h most = record {
+    text = h ∙ ap (λ z. get_or (registers_after base (take z notes)) i [] ++ turned s.words old.back.items) (sym e);
+    pending = f;
+    noted = tt;
+    weight = omega arith;
+  }
 
-  -- a register after a note is what the note gives it
-  pub asked_before : (old new : Reading) (after k i : ℕ) (d n : ByteUpdate) (parts : List Part) → after ≡ suc k → after ≤ length notes → n ≡ get_or notes k d → parts ≡ get_or n.update.regs i [] → new.pending.items ≡ old.pending.items ++ some_of parts (record { after = k; byte = n.byte; parts = parts }) → new.back.items ≡ old.back.items → HasAsked base notes old new (get_or (registers_after base (take after notes)) i []) (get_or (register_work [] (take after notes)) i 0)
-  asked_before old new after k i d n parts e le at is f same =
-      let u : UnreadParts = record { after = k; byte = n.byte; parts = parts } in
-      let k' = kept old.pending.items new.pending.items u f (omega arith) in
+  -- a register after a note is the list that the note gives it
+  pub asked_before : (old : Reading) (after k i : ℕ) (d n : ByteUpdate) (u : Unread) → after ≡ suc k → after ≤ length notes → n ≡ get_or notes k d → u.after ≡ k → u.byte ≡ n.byte → list_at s u.list ≡ get_or n.update.regs i [] → HasAsked s base notes old old (Some u) (get_or (registers_after base (take after notes)) i []) (suc (get_or (register_work [] (take after notes)) i 0 + get_or (register_work [] (take after notes)) i 0))
+  asked_before old after k i d n u e le at here byte is =
       let regs : List (List Symbol) = registers_after base (take k notes) in
       let ws : List ℕ = register_work [] (take k notes) in
-      let said : get_or (registers_after base (take after notes)) i [] ≡ code_of base notes u =
-      ap (λ z. get_or (registers_after base (take z notes)) i []) e ∙ ap (λ z. get_or z i []) (registers_more base notes k d (omega arith)) ∙ ap (λ z. get_or (next_registers z.update z.byte regs) i []) (sym at) ∙ get_or-map (λ xs. meant regs n.byte xs) n.update.regs i [] ∙ ap (λ z. meant regs n.byte z) (sym is) in
-      let work : get_or (register_work [] (take after notes)) i 0 ≡ part_work ws parts =
-      ap (λ z. get_or (register_work [] (take z notes)) i 0) e ∙ ap (λ z. get_or z i 0) (work_more [] notes k d (omega arith)) ∙ ap (λ z. get_or (map (λ xs. part_work ws xs) z.update.regs) i 0) (sym at) ∙ get_or-map (λ xs. part_work ws xs) n.update.regs i [] ∙ ap (λ z. part_work ws z) (sym is) in
+      let said : get_or (registers_after base (take after notes)) i [] ≡ code_of s base notes u =
+      ap (λ z. get_or (registers_after base (take z notes)) i []) e ∙ ap (λ z. get_or z i []) (registers_more base notes k d (omega arith)) ∙ ap (λ z. get_or (next_registers z.update z.byte regs) i []) (sym at) ∙ get_or-map (λ xs. meant regs n.byte xs) n.update.regs i [] ∙ ap (λ z. meant regs n.byte z) (sym is) ∙ ap₂ (λ y z. meant (registers_after base (take y notes)) z (list_at s u.list)) (sym here) (sym byte) in
+      let work : get_or (register_work [] (take after notes)) i 0 ≡ list_work s notes u =
+      ap (λ z. get_or (register_work [] (take z notes)) i 0) e ∙ ap (λ z. get_or z i 0) (work_more [] notes k d (omega arith)) ∙ ap (λ z. get_or (map (λ xs. part_work ws xs) z.update.regs) i 0) (sym at) ∙ get_or-map (λ xs. part_work ws xs) n.update.regs i [] ∙ ap (λ z. part_work ws z) (sym is) ∙ ap (λ z. part_work (register_work [] (take z notes)) (list_at s u.list)) (sym here) in
       record {
-        text = ap₂ (λ x y. x ++ reverse y) k'.code same ∙ append_assoc (codes_of base notes old.pending.items) (code_of base notes u) (reverse old.back.items) ∙ ap (λ z. codes_of base notes old.pending.items ++ (z ++ reverse old.back.items)) (sym said);
-        unread = k'.unread;
-        work = k'.work ∙ ap (λ z. work_of notes old.pending.items + z) (sym work);
+        text = ap (λ z. z ++ turned s.words old.back.items) (append-nil (code_of s base notes u) ∙ sym said);
+        pending = refl;
+        noted = (omega (arith, here, le, e), tt);
+        weight = omega (arith, work);
       }
 
-  -- the last of the parts on top is read, and the rest kept
-  pub read_onward : (old mid new : Reading) (u : UnreadParts) (front : List Part) (x : Part) → u.parts ≡ front ++ x ∷ [] → u.after ≤ length notes → mid.pending.items ≡ old.pending.items ++ some_of front (record { after = u.after; byte = u.byte; parts = front }) → mid.back.items ≡ old.back.items → HasAsked base notes mid new (value (registers_after base (take u.after notes)) u.byte x) (further_work (register_work [] (take u.after notes)) x) → HasRead base notes old u new
-  read_onward old mid new u front x e le f same h =
-      let r : UnreadParts = record { after = u.after; byte = u.byte; parts = front } in
-      let k = kept old.pending.items mid.pending.items r f le in
+  -- the end of the list on top is read, and the rest of it kept
+  pub read_on : (u : Unread) (x : Tail) (mid new : Reading) (pending : List Unread) (old : List Piece) (next : Option Unread) → list_at s 0 ≡ [] → IsTail s.words s.lists x (list_at s u.list) → u.after ≤ length notes
+      → ((words : List (List Part)) (w : List Part) → IsWord words x.word w → turned words mid.back.items ≡ meant [] u.byte w ++ turned words old)
+      → mid.pending.items ≡ pending ++ unless_empty x.before (record { list = x.before; after = u.after; byte = u.byte })
+      → HasAsked s base notes mid new next (old_text (registers_after base (take u.after notes)) x.old) (old_weight (register_work [] (take u.after notes)) x.old)
+      → HasRead s base notes (pending ++ u ∷ []) (new.pending.items ++ if_some next) old new.back.items
+  read_on u x mid new pending old next none t le said kept h =
+      let r : Unread = record { list = x.before; after = u.after; byte = u.byte } in
       let regs : List (List Symbol) = registers_after base (take u.after notes) in
       let ws : List ℕ = register_work [] (take u.after notes) in
-      let v : List Symbol = value regs u.byte x in
-      let whole : code_of base notes u ≡ code_of base notes r ++ v = ap (λ z. meant regs u.byte z) e ∙ meant-append regs u.byte front (x ∷ []) ∙ ap (λ z. meant regs u.byte front ++ z) (append-nil v) in
-      let work = ap (λ z. part_work ws z) e ∙ part_work-append ws front (x ∷ []) in
+      let rest : List Unread = unless_empty x.before r in
+      let front : list_at s x.before ≡ t.front = get_or_from_slice_get s.lists x.before t.front [] t.before in
+      let word : List Symbol = meant [] u.byte t.parts in
+      let back : List Symbol = turned s.words old in
+      let whole : code_of s base notes u ≡ code_of s base notes r ++ (old_text regs x.old ++ word) =
+      ap (λ z. meant regs u.byte z) t.joined ∙ meant-append regs u.byte t.front (if_old x.old ++ t.parts)
+      ∙ ap₂ (λ y z. meant regs u.byte y ++ z) (sym front) (meant-append regs u.byte (if_old x.old) t.parts ∙ ap₂ (λ y z. y ++ z) (old_means regs u.byte x.old) (meant_fresh regs [] u.byte t.parts t.plain)) in
+      let after : new.pending.items ≡ pending ++ rest = h.pending ∙ kept in
+      let work = ap (λ z. part_work ws z) t.joined ∙ part_work-append ws t.front (if_old x.old ++ t.parts) in
+      let work' = part_work-append ws (if_old x.old) t.parts in
+      let before = ap (λ z. part_work ws z) front in
+      let longer = ap length t.joined in
+      let long = length-append t.front (if_old x.old ++ t.parts) in
+      let light = lighter ws x.old t.parts (omega (arith, t.shorter, longer, long)) in
+      let stack = ap (λ z. weight_of s notes (z ++ if_some next)) after in
       record {
         text =
-            h.text ∙ ap₂ (λ y z. y ++ (v ++ reverse z)) k.code same ∙ append_assoc (codes_of base notes old.pending.items) (code_of base notes r) (v ++ reverse old.back.items)
-            ∙ ap (λ z. codes_of base notes old.pending.items ++ z) (sym (append_assoc (code_of base notes r) v (reverse old.back.items)) ∙ ap (λ z. z ++ reverse old.back.items) (sym whole));
-        unread = λ j. h.unread (k.unread j);
-        work = omega (arith, h.work, k.work, work);
+            ap (λ z. z ++ turned s.words new.back.items) (ap (λ z. codes_of s base notes (z ++ if_some next)) after ∙ codes-append (pending ++ rest) (if_some next))
+            ∙ append_assoc (codes_of s base notes (pending ++ rest)) (codes_of s base notes (if_some next)) (turned s.words new.back.items)
+            ∙ ap₂ (λ y z. y ++ z) (codes-append pending rest ∙ ap (λ z. codes_of s base notes pending ++ z) (kept_code none r x.before refl)) (h.text ∙ ap (λ z. old_text regs x.old ++ z) (said s.words t.parts t.word) ∙ sym (append_assoc (old_text regs x.old) word back))
+            ∙ append_assoc (codes_of s base notes pending) (code_of s base notes r) ((old_text regs x.old ++ word) ++ back)
+            ∙ ap (λ z. codes_of s base notes pending ++ z) (sym (append_assoc (code_of s base notes r) (old_text regs x.old ++ word) back) ∙ ap (λ z. z ++ back) (sym whole))
+            ∙ sym (append_assoc (codes_of s base notes pending) (code_of s base notes u) back)
+            ∙ ap (λ z. z ++ back) (ap (λ z. codes_of s base notes pending ++ z) (sym (append-nil (code_of s base notes u))) ∙ sym (codes-append pending (u ∷ [])));
+        noted = λ k. subst (λ z. AreNoted (length notes) (z ++ if_some next)) (sym after) (noted-append (length notes) (pending ++ rest) (if_some next) (noted-append (length notes) pending rest (noted_left (length notes) pending (u ∷ []) k) (kept_noted (length notes) r x.before le)) h.noted);
+        weight = omega (arith, stack, weight-append (pending ++ rest) (if_some next), weight-append pending rest, weight-append pending (u ∷ []), kept_weight r x.before, h.weight, light, work, work', before);
       }
-
-  -- what was on top is pending, and was read
-  pub text_popped : (old new : Reading) (popped : List UnreadParts) (u : UnreadParts) → old.pending.items ≡ popped ++ u ∷ [] → text_of base notes new ≡ codes_of base notes popped ++ (code_of base notes u ++ reverse old.back.items) → text_of base notes new ≡ text_of base notes old
-  text_popped old new popped u e h =
-      h ∙ sym (append_assoc (codes_of base notes popped) (code_of base notes u) (reverse old.back.items))
-      ∙ ap (λ z. z ++ reverse old.back.items) (ap (λ z. codes_of base notes popped ++ z) (sym (append-nil (code_of base notes u))) ∙ sym (codes-append popped (u ∷ [])) ∙ ap (λ z. codes_of base notes z) (sym e))
-
-  pub work_popped : (old popped : List UnreadParts) (u : UnreadParts) → old ≡ popped ++ u ∷ [] → work_of notes old ≡ work_of notes popped + work_of notes (u ∷ [])
-  work_popped old popped u e = ap (λ z. work_of notes z) e ∙ work-append popped (u ∷ [])
-
--- parts without the last, and the last
-pub last_part : (parts : List Part) (last : ℕ) (d : Part) → last + 1 ≡ length parts → parts ≡ take last parts ++ get_or parts last d ∷ []
-last_part parts last d e = sym (take_all (last + 1) parts (omega arith)) ∙ take_more parts last d (omega arith)
-
-pub some_some : (ps : List Part) (u : UnreadParts) → 0 < length ps → some_of ps u ≡ u ∷ []
-some_some [] u lt = absurd (omega arith)
-some_some (p ∷ ps) u lt = refl
-
-pub some_none : (ps : List Part) (u : UnreadParts) → length ps ≡ 0 → some_of ps u ≡ []
-some_none [] u e = refl
-some_none (p ∷ ps) u e = absurd (omega arith)

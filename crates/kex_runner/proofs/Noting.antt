@@ -21,7 +21,7 @@ as_many base (m ∷ o ∷ ms) zero n e is = absurd (omega arith)
 as_many base (m ∷ o ∷ ms) (suc k) n e is = as_many (next_registers m.update m.byte base) (o ∷ ms) k n (omega arith) is
 
 -- a list of parts that reads no register is the same whatever they hold
-meant_fresh : (regs regs' : List (List Symbol)) (b : ℕ) (xs : List Part) → olds xs ≡ [] → meant regs b xs ≡ meant regs' b xs
+pub meant_fresh : (regs regs' : List (List Symbol)) (b : ℕ) (xs : List Part) → olds xs ≡ [] → meant regs b xs ≡ meant regs' b xs
 meant_fresh regs regs' b [] e = refl
 meant_fresh regs regs' b (Put s ∷ xs) e = ap (λ z. s ∷ z) (meant_fresh regs regs' b xs e)
 meant_fresh regs regs' b (Old i ∷ xs) e = cc
@@ -59,21 +59,3 @@ long_more lists k x d lt e =
     let more = ap long_in (take_more lists k d lt) ∙ long_in-append (take k lists) (get_or lists k d ∷ []) in
     let same = ap length e in
     omega (arith, more, same)
-
-olds-append : (xs ys : List Part) → olds (xs ++ ys) ≡ olds xs ++ olds ys
-olds-append [] ys = refl
-olds-append (Put s ∷ xs) ys = olds-append xs ys
-olds-append (Old i ∷ xs) ys = ap (λ z. i ∷ z) (olds-append xs ys)
-olds-append (Input ∷ xs) ys = olds-append xs ys
-
-olds_in-append : (xs ys : List (List Part)) → olds_in (xs ++ ys) ≡ olds_in xs ++ olds_in ys
-olds_in-append [] ys = refl
-olds_in-append (x ∷ xs) ys = ap (λ z. olds x ++ z) (olds_in-append xs ys) ∙ sym (append_assoc (olds x) (olds_in xs) (olds_in ys))
-
--- no part so far is a register
-pub olds_more : (parts : List Part) (k : ℕ) (d : Part) → k < length parts → olds (get_or parts k d ∷ []) ≡ [] → olds (take k parts) ≡ [] → olds (take (k + 1) parts) ≡ []
-olds_more parts k d lt h g = ap olds (take_more parts k d lt) ∙ olds-append (take k parts) (get_or parts k d ∷ []) ∙ ap₂ (λ u v. u ++ v) g h
-
--- no list so far reads a register
-pub fresh_more : (lists : List (List Part)) (k : ℕ) (x d : List Part) → k < length lists → x ≡ get_or lists k d → olds x ≡ [] → olds_in (take k lists) ≡ [] → olds_in (take (k + 1) lists) ≡ []
-fresh_more lists k x d lt e h g = ap olds_in (take_more lists k d lt) ∙ olds_in-append (take k lists) (get_or lists k d ∷ []) ∙ ap₂ (λ u v. u ++ v) g (append-nil (olds (get_or lists k d)) ∙ ap olds (sym e) ∙ h)

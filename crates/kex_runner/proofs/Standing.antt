@@ -74,7 +74,7 @@ ends_parsed r way before after d e some = record {
 
 -- a runner that a piece was fed to, and has refused or not
 abbrev pub fed : Running → ℕ → List (List Symbol) → ℕ → Bool → Running
-fed r state registers count dead = record { table = r.table; state = state; pending = []; registers = registers; read = r.read + count; dead = dead; ended = r.ended; usable = true }
+fed r state registers count dead = record { table = r.table; words = r.words; state = state; pending = []; registers = registers; read = r.read + count; dead = dead; ended = r.ended; usable = true }
 
 module _ (r : Running) (piece : List ℕ) (count state : ℕ) (registers : List (List Symbol)) (before mid after : List Symbol) (live : r.dead ≡ false) (first : mid ≡ before ++ r.pending) (f : Follows r.table r.state r.registers piece count state registers mid after) where
   added : after ≡ before ++ (r.pending ++ f.more)
@@ -132,7 +132,7 @@ feeds r piece count state registers before mid after true live first f lt le = f
 feeds r piece count state registers before mid after false live first f lt le = feeds_on r piece count state registers before mid after live first f (le refl)
 
 -- a runner that has refused a byte is fed more
-pub feeds_after : (r : Running) (piece : List ℕ) (before after : List Symbol) → r.dead ≡ true → after ≡ before ++ r.pending → Feeds Dead r (record { table = r.table; state = r.state; pending = []; registers = r.registers; read = r.read; dead = r.dead; ended = r.ended; usable = true }) piece before after
+pub feeds_after : (r : Running) (piece : List ℕ) (before after : List Symbol) → r.dead ≡ true → after ≡ before ++ r.pending → Feeds Dead r (record { table = r.table; words = r.words; state = r.state; pending = []; registers = r.registers; read = r.read; dead = r.dead; ended = r.ended; usable = true }) piece before after
 feeds_after r piece before after d e = record {
   more = r.pending;
   code = e;

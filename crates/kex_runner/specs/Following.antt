@@ -3,6 +3,9 @@ use Rattle.std.specs.Prelude.{◌≡◌, ℕ, ◌<◌, ◌≤◌, ◌+◌, List,
 use Rattle.kex_code.specs.declared.symbol.Symbol.{Symbol}
 use Rattle.kex_sst.specs.Tables.{Row, Transducer, IsTable}
 use Rattle.kex_sst.specs.Passes.{Pass, passes_if}
+use Rattle.kex_script.specs.Scripts.{Sheet, IsScriptOf}
+use Rattle.kex_runner.specs.Noting.{held}
+use Rattle.kex_runner.specs.declared.registers.Registers.{Registers}
 
 -- a state of the table, and as many registers as it has
 pub record IsPlace (t : Transducer) (state : ℕ) (registers : List (List Symbol)) : Type 0 where
@@ -27,3 +30,9 @@ pub record Follows (t : Transducer) (state : ℕ) (registers : List (List Symbol
   pub code : after ≡ before ++ more
   pub goes : (c : List Symbol) → passes_if t (Some (pass_at state c registers)) (take count piece) ≡ Some (pass_at state' (c ++ more) registers')
   pub stops : (c : List Symbol) → count < length piece → passes_if t (Some (pass_at state c registers)) (take (count + 1) piece) ≡ None
+
+-- a runner's parts: its table and place, the script of the table, and the count of its registers
+pub record IsRunner (t : Transducer) (s : Sheet) (state : ℕ) (registers : Registers) : Type 0 where
+  pub sound : IsSound t state (held s registers)
+  pub script : IsScriptOf s t
+  pub counted : registers.count ≡ length (held s registers)

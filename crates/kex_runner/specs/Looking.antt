@@ -58,12 +58,22 @@ abbrev pub weight_of : Sheet → List ByteUpdate → List Unread → ℕ
 weight_of s notes [] = 0
 weight_of s notes (u ∷ us) = suc (list_work s notes u + list_work s notes u) + weight_of s notes us
 
--- what is said is to be read from the next list, or was read, before the pieces that were; and it takes so many parts
-pub record HasAsked (s : Sheet) (base : List (List Symbol)) (notes : List ByteUpdate) (old new : Reading) (next : Option Unread) (said : List Symbol) (parts : ℕ) : Type 0 where
+-- what an old register holds, if there is one
+abbrev pub old_text : List (List Symbol) → Option ℕ → List Symbol
+old_text regs None = []
+old_text regs (Some i) = get_or regs i []
+
+-- twice the parts that are read for it, and one
+abbrev pub old_weight : List ℕ → Option ℕ → ℕ
+old_weight ws None = 0
+old_weight ws (Some i) = suc (get_or ws i 0 + get_or ws i 0)
+
+-- what is said is to be read from the next list, or was read, before the pieces that were; and it takes no more than so much
+pub record HasAsked (s : Sheet) (base : List (List Symbol)) (notes : List ByteUpdate) (old new : Reading) (next : Option Unread) (said : List Symbol) (most : ℕ) : Type 0 where
   pub text : codes_of s base notes (if_some next) ++ turned s.words new.back.items ≡ said ++ turned s.words old.back.items
   pub pending : new.pending.items ≡ old.pending.items
   pub noted : AreNoted (length notes) (if_some next)
-  pub weight : weight_of s notes (if_some next) ≤ suc (parts + parts)
+  pub weight : weight_of s notes (if_some next) ≤ most
 
 -- of lists that were unread the last was read from its end, which leaves others, and less
 pub record HasRead (s : Sheet) (base : List (List Symbol)) (notes : List ByteUpdate) (before after : List Unread) (old new : List Piece) : Type 0 where

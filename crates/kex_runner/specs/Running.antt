@@ -1,6 +1,7 @@
 -- What a runner stands for: the bytes that it was fed, and the code that it has passed on.
 use Rattle.std.specs.Prelude.{◌≡◌, ℕ, ◌⊎◌, Bool, true, false, length, List, [], ◌∷◌, ◌++◌, Option, Some, None, if◌then◌else◌}
 use Rattle.kex_code.specs.declared.symbol.Symbol.{Symbol}
+use Rattle.kex_sst.specs.declared.parts.Part.{Part}
 use Rattle.kex_sst.specs.Tables.{Transducer}
 use Rattle.kex_sst.specs.Passes.{Pass, passes, ending}
 use Rattle.kex_runner.specs.Items.{items_along}
@@ -9,10 +10,11 @@ use Rattle.kex_runner.specs.declared.answers.Fed.TheVariants.{On, Dead}
 use Rattle.kex_runner.specs.declared.answers.Ended.{Ended}
 use Rattle.kex_runner.specs.declared.answers.Ended.TheVariants.{Parsed, Cut}
 
--- a runner: its table, its state, what it has still to pass on, what its registers hold, how many good bytes it has read,
+-- a runner: its table, the words that it tells, its state, what it has still to pass on, what its registers hold, how many good bytes it has read,
 -- whether a byte was refused, whether the end was given, and whether no call has answered want of memory
 pub record Running : Type 0 where
   pub table : Transducer
+  pub words : List (List Part)
   pub state : ℕ
   pub pending : List Symbol
   pub registers : List (List Symbol)

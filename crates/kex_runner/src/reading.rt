@@ -1,16 +1,15 @@
 // Looking registers up: lists are read from their ends, back through the notes.
 
-ghost use Rattle.std.specs.Prelude.{◌≡◌, ◌+◌, ◌<◌, ◌≤◌, [], List, ◌∷◌, ◌++◌, Some, None, OnOk, IfOk, IfNone, length, get_or, take};
+ghost use Rattle.std.specs.Prelude.{◌≡◌, suc, ◌+◌, ◌<◌, ◌≤◌, [], List, ◌∷◌, ◌++◌, Some, None, OnOk, IfOk, IfNone, length, get_or, take};
 ghost use Rattle.kex_sst.specs.declared.parts.Part.{Part};
 ghost use Rattle.kex_sst.specs.Parts.{meant};
-ghost use Rattle.kex_script.specs.Scripts.{IsWord, list_at};
+ghost use Rattle.kex_script.specs.Scripts.{IsTail, IsWord, list_at};
 ghost use Rattle.kex_runner.specs.Noting.{noted_by, registers_after, settled_of, turned, updates_of};
-ghost use Rattle.kex_runner.specs.Looking.{AreNoted, HasAsked, HasRead, codes_of, if_some, register_work, unless_empty};
+ghost use Rattle.kex_runner.specs.Looking.{AreNoted, HasAsked, HasRead, codes_of, if_some, old_text, old_weight, register_work, unless_empty};
 
 use kex_code::memory::Memory;
 use kex_script::piece::Piece;
-use kex_script::script::Script;
-use std::alloc::Global;
+use kex_script::script::{Script, Tail};
 use std::marker::Model;
 
 /// The update that was done, by the place of its lists in the script, and the byte that was read.
@@ -49,13 +48,6 @@ impl Model for Settled {
 pub struct Reading {
     pub pending: Vec<Unread>,
     pub back: Vec<Piece>,
-}
-
-/// What the registers were where the notes begin, and the notes.
-#[derive(Clone, Copy)]
-pub struct Past<'a> {
-    pub base: &'a [Settled],
-    pub notes: &'a [Note],
 }
 
 // A word is read, if there is one.
@@ -106,7 +98,7 @@ fn ask(
     reading: &mut Reading,
 ) -> Result<Option<Unread>, Memory>
     requires { after ≤ length notes.now }
-    ensures { IfOk result (λ next. HasAsked script.now (settled_of script.now base.now) (updates_of script.now notes.now) reading.old reading.new next (get_or (registers_after (settled_of script.now base.now) (take after (updates_of script.now notes.now))) register []) (get_or (register_work [] (take after (updates_of script.now notes.now))) register 0)) }
+    ensures { IfOk result (λ next. HasAsked script.now (settled_of script.now base.now) (updates_of script.now notes.now) reading.old reading.new next (get_or (registers_after (settled_of script.now base.now) (take after (updates_of script.now notes.now))) register []) (let w = get_or (register_work [] (take after (updates_of script.now notes.now))) register 0 in suc (w + w))) }
 {
     if after == 0 {
         if let Some(settled) = base.get(register) {
@@ -120,4 +112,124 @@ fn ask(
         after: after - 1,
         byte: note.byte,
     }))
+}
+
+// What an old register holds, if there is one, is to be read.
+#[inline(always)]
+fn ask_if(
+    script: &Script,
+    base: &[Settled],
+    notes: &[Note],
+    after: usize,
+    old: Option<u32>,
+    reading: &mut Reading,
+) -> Result<Option<Unread>, Memory>
+    requires { after ≤ length notes.now }
+    ensures { IfOk result (λ next. HasAsked script.now (settled_of script.now base.now) (updates_of script.now notes.now) reading.old reading.new next (old_text (registers_after (settled_of script.now base.now) (take after (updates_of script.now notes.now))) old) (old_weight (register_work [] (take after (updates_of script.now notes.now))) old)) }
+{
+    match old {
+        None => Ok(None),
+        Some(register) => ask(script, base, notes, after, register as usize, reading),
+    }
+}
+
+// The end of a list is read, and the rest of it kept. Tells which list is next.
+#[inline(always)]
+fn read_end(
+    script: &Script,
+    base: &[Settled],
+    notes: &[Note],
+    unread: Unread,
+    tail: Tail,
+    reading: &mut Reading,
+) -> Result<Option<Unread>, Memory>
+    requires after { unread.after ≤ length notes.now }
+    requires empty { list_at script.now 0 ≡ [] }
+    requires tail { IsTail script.now.words script.now.lists tail (list_at script.now unread.list) }
+    ensures read { IfOk result (λ next. HasRead script.now (settled_of script.now base.now) (updates_of script.now notes.now) (reading.old.pending.items ++ unread ∷ []) (reading.new.pending.items ++ if_some next) reading.old.back.items reading.new.back.items) }
+{
+    say(tail.word, unread.byte, &mut reading.back)?;
+    let rest = Unread {
+        list: tail.before,
+        after: unread.after,
+        byte: unread.byte,
+    };
+    keep(rest, &mut reading.pending)?;
+    ask_if(script, base, notes, unread.after, tail.old, reading)
+}
+
+// A list is read from its end. Tells which list is next.
+#[inline(always)]
+fn read(
+    script: &Script,
+    base: &[Settled],
+    notes: &[Note],
+    unread: Unread,
+    reading: &mut Reading,
+) -> Result<Option<Unread>, Memory>
+    requires { unread.after ≤ length notes.now }
+    ensures read { IfOk result (λ next. HasRead script.now (settled_of script.now base.now) (updates_of script.now notes.now) (reading.old.pending.items ++ unread ∷ []) (reading.new.pending.items ++ if_some next) reading.old.back.items reading.new.back.items) }
+    ensures none { IfOk result (λ next. next ≡ None → reading.new.pending.items ≡ []) }
+{
+    let next = match script.tail(unread.list) {
+        None => None,
+        Some(tail) => read_end(script, base, notes, unread, tail, reading)?,
+    };
+    Ok(or_pop(next, &mut reading.pending))
+}
+
+// What a list stands for, and what is to be read from it, is read.
+fn look_up(
+    script: &Script,
+    base: &[Settled],
+    notes: &[Note],
+    first: Option<Unread>,
+    reading: &mut Reading,
+) -> Result<(), Memory>
+    requires noted { AreNoted (length notes.now) (if_some first) }
+    requires none { reading.old.pending.items ≡ [] }
+    ensures { OnOk result (turned script.now.words reading.new.back.items ≡ codes_of script.now (settled_of script.now base.now) (updates_of script.now notes.now) (if_some first) ++ turned script.now.words reading.old.back.items) }
+{
+    let mut next = first;
+    while let Some(unread) = next {
+        next = read(script, base, notes, unread, reading)?;
+    }
+    Ok(())
+}
+
+/// Reads a list, over what the registers are after all notes.
+pub fn read_list(
+    script: &Script,
+    base: &[Settled],
+    notes: &[Note],
+    list: u32,
+    byte: u8,
+    reading: &mut Reading,
+) -> Result<(), Memory>
+    ensures { OnOk result (turned script.now.words reading.new.back.items ≡ meant (noted_by script.now base.now notes.now) byte (list_at script.now list)) }
+{
+    reading.pending.clear();
+    reading.back.clear();
+    let first = Unread {
+        list,
+        after: notes.len(),
+        byte,
+    };
+    look_up(script, base, notes, Some(first), reading)
+}
+
+/// Reads what a register holds after all notes.
+pub fn read_register(
+    script: &Script,
+    base: &[Settled],
+    notes: &[Note],
+    register: usize,
+    reading: &mut Reading,
+) -> Result<(), Memory>
+    ensures { OnOk result (turned script.now.words reading.new.back.items ≡ get_or (noted_by script.now base.now notes.now) register []) }
+{
+    reading.pending.clear();
+    reading.back.clear();
+    let first = ask(script, base, notes, notes.len(), register, reading)?;
+    look_up(script, base, notes, first, reading)
 }

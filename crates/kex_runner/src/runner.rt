@@ -4,26 +4,34 @@ ghost use Rattle.std.specs.Prelude.{◌≡◌, ℕ, ◌+◌, ◌^◌, ◌<◌, �
 ghost use Rattle.kex_code.specs.declared.symbol.Symbol.{Symbol};
 ghost use Rattle.kex_sst.specs.Passes.{begun, passes};
 ghost use Rattle.kex_runner.specs.Running.{Ends, Feeds, StandsFor, items_taken};
-ghost use Rattle.kex_runner.specs.Following.{Follows, IsPlace, IsSound, pass_at};
+ghost use Rattle.kex_script.specs.Pieces.{spelled};
+ghost use Rattle.kex_script.specs.Scripts.{IsScriptOf};
+ghost use Rattle.kex_runner.specs.Noting.{held};
+ghost use Rattle.kex_runner.specs.Following.{Follows, IsPlace, IsRunner, pass_at};
 ghost use Rattle.kex_runner.specs.Items.{items_along};
 
 use crate::answers::{Ended, Fed, answer_of};
-use crate::registers::Registers;
+use crate::registers::{Registers, count_items};
+use crate::spelling::spell;
 use kex_code::code::Code;
 use kex_code::memory::Memory;
 use kex_ports::Steps;
+use kex_script::piece::Piece;
+use kex_script::script::Script;
+use kex_sst::parts::Parts;
 use kex_sst::table::Table;
 use std::alloc::Global;
-use std::marker::{Brand, Model};
-use std::sync::ledger::{Blank, Ledger};
+use std::marker::Model;
+use std::sync::ledger::Ledger;
 
 /// Runs a table over the bytes that it is fed. What its updates pass on goes to a code at once.
 #[derive(Drop)]
 pub struct Runner<'t> {
     table: &'t Table,
+    script: Script,
     state: u32,
-    pending: Code,
-    registers: Registers<'t>,
+    pending: Vec<Piece>,
+    registers: Registers,
     read: u64,
     dead: bool,
     ended: bool,
@@ -31,37 +39,42 @@ pub struct Runner<'t> {
 }
 
 impl<'t> Model for Runner<'t> {
+    ghost use Rattle.kex_script.specs.Pieces.{spelled};
+    ghost use Rattle.kex_runner.specs.Noting.{held};
     ghost use Rattle.kex_runner.specs.Running.{Running};
-    ghost use Rattle.kex_runner.specs.Following.{IsSound};
+    ghost use Rattle.kex_runner.specs.Following.{IsRunner};
 
     ghost Value = { Running };
 
-    ghost view = { λ r. record { table = r.table.now; state = r.state; pending = r.pending; registers = r.registers; read = r.read; dead = r.dead; ended = r.ended; usable = r.usable } };
+    ghost view = { λ r. record { table = r.table.now; words = r.script.words; state = r.state; pending = spelled r.script.words r.pending.items; registers = held r.script r.registers; read = r.read; dead = r.dead; ended = r.ended; usable = r.usable } };
 
-    ghost invariant = { λ r. IsSound r.table.now r.state r.registers };
+    ghost invariant = { λ r. IsRunner r.table.now r.script r.state r.registers };
 }
 
-// Follows the table along a piece, as far as it goes on, and tells how many bytes that is.
-fn follow<'t, L: Ledger>(
-    table: &'t Table,
+// Follows the table along a piece, as far as it goes on, and tells how many bytes that is. What is passed on is put behind pieces.
+fn follow<L: Ledger>(
+    table: &Table,
+    script: &Script,
     state: &mut u32,
-    registers: &mut Registers<'t>,
+    registers: &mut Registers,
     piece: &[u8],
-    code: &mut Code,
+    pieces: &mut Vec<Piece>,
     steps: &mut Steps<L>,
 ) -> Result<usize, Memory>
-    requires { IsPlace table.now state.old registers.old }
-    ensures follows { IfOk result (λ count. Follows table.now state.old registers.old piece.now count state.new registers.new code.old code.new) }
+    requires runner { IsRunner table.now script.now state.old registers.old }
+    ensures follows { IfOk result (λ count. Follows table.now state.old (held script.now registers.old) piece.now count state.new (held script.now registers.new) (spelled script.now.words pieces.old.items) (spelled script.now.words pieces.new.items)) }
     ensures steps { OnOk result (steps.new ≡ steps.old + items_along table.now state.old piece.now) }
-    ensures place { IsPlace table.now state.new registers.new }
+    ensures runner { IsRunner table.now script.now state.new registers.new }
 {
     for i in 0..piece.len() {
         let class = table.partition().class_of(piece[i]);
-        let Some((target, update)) = table.next(*state, class) else {
+        let Some((_, update)) = table.next(*state, class) else {
             return Ok(i);
         };
-        registers.change(update, piece[i], code, steps)?;
-        *state = target;
+        count_items(update, steps);
+        let entry = script.entry(*state, class);
+        registers.take(script, entry, piece[i], pieces)?;
+        *state = entry.target;
     }
     Ok(piece.len())
 }
@@ -80,31 +93,34 @@ struct Taken {
     good: usize,
 }
 
-// Follows the table along a piece, up to a byte behind which there are no registers, or one at which it stops.
-fn follow_held<'t>(
-    table: &'t Table,
+// Follows the table along a piece, up to a byte behind which there are no registers, or one at which it stops. What is passed on is
+// put behind pieces.
+fn follow_held(
+    table: &Table,
+    script: &Script,
     state: &mut u32,
-    registers: &mut Registers<'t>,
+    registers: &mut Registers,
     piece: &[u8],
-    code: &mut Code,
+    pieces: &mut Vec<Piece>,
 ) -> Result<Taken, Memory>
-    requires { IsPlace table.now state.old registers.old }
-    ensures follows { IfOk result (λ t. Follows table.now state.old registers.old (take t.taken piece.now) t.good state.new registers.new code.old code.new) }
+    requires runner { IsRunner table.now script.now state.old registers.old }
+    ensures follows { IfOk result (λ t. Follows table.now state.old (held script.now registers.old) (take t.taken piece.now) t.good state.new (held script.now registers.new) (spelled script.now.words pieces.old.items) (spelled script.now.words pieces.new.items)) }
     ensures taken { IfOk result (λ t. t.taken ≤ length piece.now) }
     ensures some { IfOk result (λ t. 0 < length piece.now → 0 < t.taken) }
-    ensures place { IsPlace table.now state.new registers.new }
+    ensures runner { IsRunner table.now script.now state.new registers.new }
 {
     for i in 0..piece.len() {
         let class = table.partition().class_of(piece[i]);
-        let Some((target, update)) = table.next(*state, class) else {
+        let entry = script.entry(*state, class);
+        if !entry.goes {
             return Ok(Taken {
                 taken: i + 1,
                 good: i,
             });
-        };
-        registers.take(update, piece[i], code)?;
-        *state = target;
-        if registers.len() == 0 {
+        }
+        registers.take(script, entry, piece[i], pieces)?;
+        *state = entry.target;
+        if entry.registers == 0 {
             return Ok(Taken {
                 taken: i + 1,
                 good: i + 1,
@@ -118,22 +134,20 @@ fn follow_held<'t>(
 }
 
 // What stands before the first byte: the registers, and what is to be passed on.
-fn begin<'t, L: Ledger>(
+fn begin(
     alloc: Global,
-    table: &'t Table,
-    blank: Blank,
-) -> Result<(Registers<'t>, Code), Memory>
-    requires name { blank.name ≡ L.name }
-    requires parts { blank.parts ≡ L.parts }
-    requires some { 0 < L.parts }
-    ensures begun { IfOk result (λ made. (made.0 ≡ (begun table.now.initial).registers) × (made.1 ≡ (begun table.now.initial).code)) }
-    ensures sound { IfOk result (λ made. IsSound table.now 0 made.0) }
+    table: &Table,
+    script: &Script,
+) -> Result<(Registers, Vec<Piece>), Memory>
+    requires script { IsScriptOf script.now table.now }
+    ensures registers { IfOk result (λ made. held script.now made.0 ≡ (begun table.now.initial).registers) }
+    ensures code { IfOk result (λ made. spelled script.now.words made.1.items ≡ (begun table.now.initial).code) }
+    ensures runner { IfOk result (λ made. IsRunner table.now script.now 0 made.0) }
 {
-    let mut steps = Steps::<L>::new(blank);
     let mut registers = Registers::new(alloc);
-    let mut code = Code::new(alloc);
-    registers.change(table.initial(), 0, &mut code, &mut steps)?;
-    Ok((registers, code))
+    let mut pieces = Vec::new(alloc);
+    registers.take(script, script.initial(), 0, &mut pieces)?;
+    Ok((registers, pieces))
 }
 
 impl<'t> Runner<'t> {
@@ -143,9 +157,11 @@ impl<'t> Runner<'t> {
         ensures stands { IfOk result (λ r. StandsFor r [] []) }
         ensures usable { IfOk result (λ r. (r.usable ≡ true) × (r.ended ≡ false) × (r.read ≡ 0)) }
     {
-        let (registers, pending) = begin::<Brand>(alloc, table, Blank::new(1))?;
+        let script = Script::new(alloc, table)?;
+        let (registers, pending) = begin(alloc, table, &script)?;
         Ok(Runner {
             table,
+            script,
             state: 0,
             pending,
             registers,
@@ -173,24 +189,28 @@ impl<'t> Runner<'t> {
         ensures steps { OnOk result (steps.new ≡ steps.old + items_taken self.old piece.now) }
         ensures read { (self.old.read ≤ self.new.read) × (self.new.read ≤ self.old.read + length piece.now) }
         ensures table { self.new.table ≡ self.old.table }
+        ensures words { self.new.words ≡ self.old.words }
         ensures open { self.new.ended ≡ false }
         ensures usable { IsTrue self.new.usable ↔ IsOk result }
     {
         self.usable = false;
-        code.append(self.pending.as_slice())?;
-        self.pending.clear();
         if self.dead {
+            spell(self.script.words(), &self.pending, code)?;
+            self.pending.clear();
             self.usable = true;
             return Ok(Fed::Dead);
         }
         let count = follow(
             self.table,
+            &self.script,
             &mut self.state,
             &mut self.registers,
             piece,
-            code,
+            &mut self.pending,
             steps,
         )?;
+        spell(self.script.words(), &self.pending, code)?;
+        self.pending.clear();
         self.read += count as u64;
         self.dead = count < piece.len();
         self.usable = true;
@@ -198,24 +218,26 @@ impl<'t> Runner<'t> {
     }
 
     /// Takes bytes as `feed` does, and counts no steps: as many as there are up to the first behind which there are no registers, or
-    /// at which the table stops.
+    /// at which the table stops. What was in `pieces` goes, and what the bytes let it pass on is left there, in words.
     ///
-    /// After `Memory` the code may have a part of what they let it pass on, and the runner is only dropped.
-    pub fn hold(&mut self, piece: &[u8], code: &mut Code) -> Result<Held, Memory>
+    /// After `Memory` the pieces may be a part of that, and the runner is only dropped.
+    pub fn hold(&mut self, piece: &[u8], pieces: &mut Vec<Piece>) -> Result<Held, Memory>
         requires usable { IsTrue self.old.usable }
         requires open { self.old.ended ≡ false }
         requires room { self.old.read + length piece.now < 2 ^ 64 }
-        ensures fed { IfOk result (λ h. Feeds h.fed self.old self.new (take h.taken piece.now) code.old code.new) }
+        ensures fed { IfOk result (λ h. Feeds h.fed self.old self.new (take h.taken piece.now) [] (spelled self.old.words pieces.new.items)) }
         ensures taken { IfOk result (λ h. h.taken ≤ length piece.now) }
         ensures some { IfOk result (λ h. 0 < length piece.now → 0 < h.taken) }
         ensures read { (self.old.read ≤ self.new.read) × (self.new.read ≤ self.old.read + length piece.now) }
         ensures within { IfOk result (λ h. self.new.read ≤ self.old.read + h.taken) }
         ensures table { self.new.table ≡ self.old.table }
+        ensures words { self.new.words ≡ self.old.words }
         ensures open { self.new.ended ≡ false }
         ensures usable { IsTrue self.new.usable ↔ IsOk result }
     {
         self.usable = false;
-        code.append(self.pending.as_slice())?;
+        pieces.clear();
+        pieces.extend_from_slice(&self.pending)?;
         self.pending.clear();
         if self.dead {
             self.usable = true;
@@ -226,10 +248,11 @@ impl<'t> Runner<'t> {
         }
         let Taken { taken, good } = follow_held(
             self.table,
+            &self.script,
             &mut self.state,
             &mut self.registers,
             piece,
-            code,
+            pieces,
         )?;
         self.read += good as u64;
         self.dead = good < taken;
@@ -248,13 +271,14 @@ impl<'t> Runner<'t> {
         requires open { self.old.ended ≡ false }
         ensures over { IfOk result (λ answer. Ends answer self.old code.old code.new) }
         ensures table { self.new.table ≡ self.old.table }
+        ensures words { self.new.words ≡ self.old.words }
         ensures read { self.new.read ≡ self.old.read }
         ensures ended { self.new.ended ≡ true }
         ensures usable { IsTrue self.new.usable ↔ IsOk result }
     {
         self.ended = true;
         self.usable = false;
-        code.append(self.pending.as_slice())?;
+        spell(self.script.words(), &self.pending, code)?;
         self.pending.clear();
         if self.dead {
             self.usable = true;
@@ -267,7 +291,7 @@ impl<'t> Runner<'t> {
                 Ok(Ended::Cut)
             }
             Some(way) => {
-                self.registers.spell(way.as_slice(), code)?;
+                self.registers.spell(&self.script, way.as_slice(), code)?;
                 self.usable = true;
                 Ok(Ended::Parsed)
             }
@@ -296,6 +320,13 @@ impl<'t> Runner<'t> {
         self.registers.clear();
         self.state = state;
         self.read += bytes;
+    }
+
+    /// The words that pieces name, by number.
+    pub fn words(&self) -> &[Parts]
+        ensures { result.now ≡ self.now.words }
+    {
+        self.script.words()
     }
 
     /// The number of the state that it is in.

@@ -138,7 +138,8 @@ impl Script {
     /// A list from its end; none for a list that is empty.
     #[inline(always)]
     pub fn tail(&self, list: u32) -> Option<Tail>
-        ensures { MatchOption result (list_at self.now list ≡ []) (λ x. IsTail self.now.words self.now.lists x (list_at self.now list)) }
+        ensures empty { list_at self.now 0 ≡ [] }
+        ensures tail { MatchOption result (list_at self.now list ≡ []) (λ x. IsTail self.now.words self.now.lists x (list_at self.now list)) }
     {
         let tails = self.tails.as_slice();
         if list == 0 {

@@ -1,0 +1,24 @@
+-- What pieces spell.
+use Rattle.std.proofs.Common.{◌≡◌, ℕ, ◌+◌, ◌<◌, List, [], ◌∷◌, ◌++◌, length, get_or, take, reverse, refl, sym, ap, ap₂, ◌∙◌, append_assoc, append-nil, arith}
+use Rattle.std.proofs.lemmas.List.{take_more, reverse-append}
+use Rattle.kex_code.specs.declared.symbol.Symbol.{Symbol}
+use Rattle.kex_sst.specs.declared.parts.Part.{Part}
+use Rattle.kex_script.specs.declared.piece.Piece.{Piece}
+use Rattle.kex_script.specs.Pieces.{spelled, word_of}
+use Rattle.kex_runner.specs.Noting.{turned}
+
+module _ (words : List (List Part)) where
+  pub spelled-append : (xs ys : List Piece) → spelled words (xs ++ ys) ≡ spelled words xs ++ spelled words ys
+  spelled-append [] ys = refl
+  spelled-append (x ∷ xs) ys = ap (λ z. word_of words x ++ z) (spelled-append xs ys) ∙ sym (append_assoc (word_of words x) (spelled words xs) (spelled words ys))
+
+  pub spelled_more : (ps : List Piece) (i : ℕ) (p : Piece) (before now : List Symbol) → i < length ps → now ≡ before ++ spelled words (take i ps) → p ≡ get_or ps i p → now ++ word_of words p ≡ before ++ spelled words (take (i + 1) ps)
+  spelled_more ps i p before now lt e is =
+      ap (λ z. z ++ word_of words p) e ∙ append_assoc before (spelled words (take i ps)) (word_of words p)
+      ∙ ap (λ z. before ++ z) (ap (λ z. spelled words (take i ps) ++ z) (sym (append-nil (word_of words p))) ∙ sym (spelled-append (take i ps) (p ∷ [])) ∙ ap (λ z. spelled words (take i ps ++ z ∷ [])) is ∙ ap (λ z. spelled words z) (sym (take_more ps i p lt)))
+
+  pub turned-append : (xs ys : List Piece) → turned words (xs ++ ys) ≡ turned words ys ++ turned words xs
+  turned-append xs ys = ap (λ z. spelled words z) (reverse-append xs ys) ∙ spelled-append (reverse ys) (reverse xs)
+
+  pub turned_more : (xs : List Piece) (p : Piece) → turned words (xs ++ p ∷ []) ≡ word_of words p ++ turned words xs
+  turned_more xs p = turned-append xs (p ∷ []) ∙ ap (λ z. z ++ turned words xs) (append-nil (word_of words p))

@@ -1,6 +1,0 @@
-use Rattle.std.proofs.Common.{◌≡◌, [], take}
-use Rattle.kex_sst.specs.Parts.{olds}
-use Rattle.kex_runner.proofs.registers.reads_old.Given as goal
-
-abbrev pub invariant-loop-part : goal.invariant-loop-part
-invariant-loop-part l = olds (take l.part-index l.parts) ≡ []

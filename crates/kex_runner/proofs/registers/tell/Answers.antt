@@ -1,9 +1,0 @@
-use Rattle.std.proofs.Common.{◌∙◌}
-use Rattle.kex_code.specs.declared.symbol.Symbol.TheVariants.{L}
-use Rattle.kex_sst.specs.declared.parts.Part.TheVariants.{Put}
-use Rattle.kex_runner.specs.Noting.{registers_after}
-use Rattle.kex_runner.proofs.Noting.{meant_more}
-use Rattle.kex_runner.proofs.registers.tell.Goals as goal
-
-pub loop-part-preserved : goal.loop-part-preserved
-loop-part-preserved c = c.in_ok-tell_part.ensures ∙ meant_more (registers_after c.args.base.now c.args.notes.now) c.args.byte c.args.parts.now c.loop-part.part-index (Put L) c.args.code.now c.loop-part.code c.loop-part-test.true c.loop-part.invariant
