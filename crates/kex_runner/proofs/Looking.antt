@@ -2,7 +2,7 @@
 use Rattle.std.proofs.Common.{◌≡◌, ℕ, zero, suc, ◌+◌, ◌-◌, ◌<◌, ◌≤◌, List, [], ◌∷◌, ◌++◌, Option, Some, None, length, map, get_or, take, refl, sym, ap, ap₂, subst, ◌∙◌, append_assoc, append-nil, length-append, arith}
 use Rattle.std.proofs.lemmas.Option.{get_or_from_slice_get}
 use Rattle.std.proofs.Math.ListN.{get_or-map}
-use Rattle.std.proofs.lemmas.List.{get_or_past}
+use Rattle.std.proofs.lemmas.List.{take_all}
 use Rattle.kex_code.specs.declared.symbol.Symbol.{Symbol}
 use Rattle.kex_sst.specs.declared.parts.Part.{Part}
 use Rattle.kex_sst.specs.declared.parts.Part.TheVariants.{Put, Old, Input}
@@ -144,3 +144,18 @@ module _ (s : Sheet) (base : List (List Symbol)) (notes : List ByteUpdate) where
         noted = λ k. subst (λ z. AreNoted (length notes) (z ++ if_some next)) (sym after) (noted-append (length notes) (pending ++ rest) (if_some next) (noted-append (length notes) pending rest (noted_left (length notes) pending (u ∷ []) k) (kept_noted (length notes) r x.before le)) h.noted);
         weight = omega (arith, stack, weight-append (pending ++ rest) (if_some next), weight-append pending rest, weight-append pending (u ∷ []), kept_weight r x.before, h.weight, light, work, work', before);
       }
+
+  -- the list on top is empty, and goes
+  pub read_empty : (u : Unread) (pending after : List Unread) (back : List Piece) → list_at s u.list ≡ [] → after ≡ pending ++ [] → HasRead s base notes (pending ++ u ∷ []) after back back
+  read_empty u pending after back none e =
+      let same : after ≡ pending = e ∙ append-nil pending in
+      let nothing : code_of s base notes u ≡ [] = ap (λ z. meant (registers_after base (take u.after notes)) u.byte z) none in
+      record {
+        text = ap (λ z. z ++ turned s.words back) (ap (λ z. codes_of s base notes z) same ∙ sym (append-nil (codes_of s base notes pending)) ∙ ap (λ z. codes_of s base notes pending ++ z) (sym (append-nil (code_of s base notes u) ∙ nothing)) ∙ sym (codes-append pending (u ∷ [])));
+        noted = λ k. subst (λ z. AreNoted (length notes) z) (sym same) (noted_left (length notes) pending (u ∷ []) k);
+        weight = let f = ap (λ z. weight_of s notes z) same in omega (arith, f, weight-append pending (u ∷ []));
+      }
+
+  -- one list over all notes
+  pub one_list : (u : Unread) → length notes ≤ u.after → codes_of s base notes (u ∷ []) ++ turned s.words [] ≡ meant (registers_after base notes) u.byte (list_at s u.list)
+  one_list u le = append-nil (codes_of s base notes (u ∷ [])) ∙ append-nil (code_of s base notes u) ∙ ap (λ z. meant (registers_after base z) u.byte (list_at s u.list)) (take_all u.after notes le)

@@ -12,10 +12,11 @@ module _ (words : List (List Part)) where
   spelled-append [] ys = refl
   spelled-append (x ∷ xs) ys = ap (λ z. word_of words x ++ z) (spelled-append xs ys) ∙ sym (append_assoc (word_of words x) (spelled words xs) (spelled words ys))
 
-  pub spelled_more : (ps : List Piece) (i : ℕ) (p : Piece) (before now : List Symbol) → i < length ps → now ≡ before ++ spelled words (take i ps) → p ≡ get_or ps i p → now ++ word_of words p ≡ before ++ spelled words (take (i + 1) ps)
-  spelled_more ps i p before now lt e is =
+  pub spelled_more : (ps : List Piece) (i : ℕ) (d : Piece) (before now : List Symbol) → i < length ps → now ≡ before ++ spelled words (take i ps) → now ++ word_of words (get_or ps i d) ≡ before ++ spelled words (take (i + 1) ps)
+  spelled_more ps i d before now lt e =
+      let p : Piece = get_or ps i d in
       ap (λ z. z ++ word_of words p) e ∙ append_assoc before (spelled words (take i ps)) (word_of words p)
-      ∙ ap (λ z. before ++ z) (ap (λ z. spelled words (take i ps) ++ z) (sym (append-nil (word_of words p))) ∙ sym (spelled-append (take i ps) (p ∷ [])) ∙ ap (λ z. spelled words (take i ps ++ z ∷ [])) is ∙ ap (λ z. spelled words z) (sym (take_more ps i p lt)))
+      ∙ ap (λ z. before ++ z) (ap (λ z. spelled words (take i ps) ++ z) (sym (append-nil (word_of words p))) ∙ sym (spelled-append (take i ps) (p ∷ [])) ∙ ap (λ z. spelled words z) (sym (take_more ps i d lt)))
 
   pub turned-append : (xs ys : List Piece) → turned words (xs ++ ys) ≡ turned words ys ++ turned words xs
   turned-append xs ys = ap (λ z. spelled words z) (reverse-append xs ys) ∙ spelled-append (reverse ys) (reverse xs)

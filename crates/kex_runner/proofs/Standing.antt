@@ -7,6 +7,7 @@ use Rattle.kex_sst.specs.Parts.{meant}
 use Rattle.kex_sst.specs.Tables.{Transducer}
 use Rattle.kex_sst.specs.Passes.{Pass, begun, passes, passes_if, ending}
 use Rattle.kex_sst.proofs.Passing.{passes_more, passes_none}
+use Rattle.kex_runner.specs.declared.answers.Fed.{Fed}
 use Rattle.kex_runner.specs.declared.answers.Fed.TheVariants.{On, Dead}
 use Rattle.kex_runner.specs.declared.answers.Ended.TheVariants.{Parsed, Cut}
 use Rattle.kex_runner.specs.Following.{Follows, pass_at}
@@ -176,3 +177,7 @@ jumps r state bytes w v c d none s count e =
   where
     no_pass : {p : Pass} → None ≡ Some p → ⊥
     no_pass e = cc
+
+-- what is pending is nothing
+pub none_pending : (answer : Fed) (r n : Running) (piece : List ℕ) (before after : List Symbol) (pending : List Symbol) → pending ≡ [] → Feeds answer r (record n { pending = [] }) piece before after → Feeds answer r (record n { pending = pending }) piece before after
+none_pending answer r n piece before after pending e f = subst (λ z. Feeds answer r (record n { pending = z }) piece before after) (sym e) f

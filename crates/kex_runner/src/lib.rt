@@ -10,7 +10,5 @@ mod reading;
 mod registers;
 pub mod runner;
 mod spelling;
-#[cfg(test)]
-mod tests;
 
 pub use answers::{Ended, Fed};

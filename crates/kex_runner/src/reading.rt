@@ -146,7 +146,7 @@ fn read_end(
     requires after { unread.after ≤ length notes.now }
     requires empty { list_at script.now 0 ≡ [] }
     requires tail { IsTail script.now.words script.now.lists tail (list_at script.now unread.list) }
-    ensures read { IfOk result (λ next. HasRead script.now (settled_of script.now base.now) (updates_of script.now notes.now) (reading.old.pending.items ++ unread ∷ []) (reading.new.pending.items ++ if_some next) reading.old.back.items reading.new.back.items) }
+    ensures { IfOk result (λ next. HasRead script.now (settled_of script.now base.now) (updates_of script.now notes.now) (reading.old.pending.items ++ unread ∷ []) (reading.new.pending.items ++ if_some next) reading.old.back.items reading.new.back.items) }
 {
     say(tail.word, unread.byte, &mut reading.back)?;
     let rest = Unread {
@@ -171,11 +171,13 @@ fn read(
     ensures read { IfOk result (λ next. HasRead script.now (settled_of script.now base.now) (updates_of script.now notes.now) (reading.old.pending.items ++ unread ∷ []) (reading.new.pending.items ++ if_some next) reading.old.back.items reading.new.back.items) }
     ensures none { IfOk result (λ next. next ≡ None → reading.new.pending.items ≡ []) }
 {
-    let next = match script.tail(unread.list) {
-        None => None,
-        Some(tail) => read_end(script, base, notes, unread, tail, reading)?,
-    };
-    Ok(or_pop(next, &mut reading.pending))
+    match script.tail(unread.list) {
+        None => Ok(or_pop(None, &mut reading.pending)),
+        Some(tail) => {
+            let next = read_end(script, base, notes, unread, tail, reading)?;
+            Ok(or_pop(next, &mut reading.pending))
+        }
+    }
 }
 
 // What a list stands for, and what is to be read from it, is read.

@@ -256,7 +256,12 @@ impl Registers {
     }
 
     // What a register holds goes to the end of a code.
-    fn spell_register(&mut self, script: &Script, register: usize, code: &mut Code) -> Result<(), Memory>
+    fn spell_register(
+        &mut self,
+        script: &Script,
+        register: usize,
+        code: &mut Code,
+    ) -> Result<(), Memory>
         ensures code { OnOk result (code.new ≡ code.old ++ get_or (held script.now self.old) register []) }
         ensures same { held script.now self.new ≡ held script.now self.old }
         ensures count { self.new.count ≡ self.old.count }

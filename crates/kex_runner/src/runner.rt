@@ -134,11 +134,7 @@ fn follow_held(
 }
 
 // What stands before the first byte: the registers, and what is to be passed on.
-fn begin(
-    alloc: Global,
-    table: &Table,
-    script: &Script,
-) -> Result<(Registers, Vec<Piece>), Memory>
+fn begin(alloc: Global, table: &Table, script: &Script) -> Result<(Registers, Vec<Piece>), Memory>
     requires script { IsScriptOf script.now table.now }
     ensures registers { IfOk result (λ made. held script.now made.0 ≡ (begun table.now.initial).registers) }
     ensures code { IfOk result (λ made. spelled script.now.words made.1.items ≡ (begun table.now.initial).code) }

@@ -5,7 +5,7 @@ use Rattle.kex_sst.specs.declared.parts.Part.{Part}
 use Rattle.kex_sst.specs.declared.parts.Part.TheVariants.{Old}
 use Rattle.kex_sst.specs.declared.table.Transition.{Transition}
 use Rattle.kex_sst.specs.Parts.{Change, olds, olds_in}
-use Rattle.kex_sst.specs.Tables.{Transducer, transition_of}
+use Rattle.kex_sst.specs.Tables.{Transducer, IsTable, transition_of}
 use Rattle.kex_script.specs.declared.script.Tail.{Tail}
 use Rattle.kex_script.specs.declared.script.Entry.{Entry}
 
@@ -79,5 +79,6 @@ IsEntryOf s e (Some r) = HasUpdate s e r.target r.update
 -- each state does on each class what the table does: nothing where that has no transition, and else it goes to the same target with lists
 -- that are those of the update, part for part
 pub record IsScriptOf (s : Sheet) (t : Transducer) : Type 0 where
+  pub table : IsTable t
   pub initial : HasUpdate s s.initial 0 t.initial
   pub entries : (state class : ℕ) → class < class_count t.classes → IsEntryOf s (entry_at s state class) (transition_of t state class)

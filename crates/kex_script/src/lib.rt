@@ -8,6 +8,4 @@
 mod interned;
 pub mod piece;
 pub mod script;
-#[cfg(test)]
-mod tests;
 mod writer;

@@ -19,6 +19,7 @@ returns c =
     let entries : AreEntries p s.entries all = subst (λ z. AreEntries p s.entries (flat_map (λ (s : Row). s.go) z)) c.states.ensures.same c.in_ok-entries.ensures.entries in
     let table : IsTable t = c.partition.ensures.table in
     record {
+      table = table;
       initial = has_update s p c.finish-words.ensures.lists c.finish-words.ensures.rows s.initial 0 t.initial (subst (λ z. HasRow p s.initial 0 z) c.initial.ensures.same (has_kept c.transition.new.self p s.initial 0 c.initial.result.now c.in_ok-entries.ensures.grown c.in_ok-initial.ensures.entry));
       entries = λ state class lt.
           let long : (i : ℕ) (r : Row) → slice_get t.states i ≡ Some r → length r.go ≡ c.classes.result = λ i r at. (table.states i r at).long ∙ sym width in
