@@ -1,11 +1,10 @@
 -- Looking up backwards: what is unread, and what was read, spell the whole.
-use Rattle.std.proofs.Common.{◌≡◌, ℕ, zero, suc, ◌+◌, ◌-◌, ◌<◌, ◌≤◌, List, [], ◌∷◌, ◌++◌, Option, Some, None, length, map, get_or, take, refl, sym, ap, ap₂, subst, ◌∙◌, append_assoc, append-nil, length-append, arith}
+use Rattle.std.proofs.Common.{◌≡◌, ℕ, zero, suc, ◌+◌, ◌<◌, ◌≤◌, List, [], ◌∷◌, ◌++◌, Option, Some, None, length, map, get_or, take, refl, sym, ap, ap₂, subst, ◌∙◌, append_assoc, append-nil, length-append, arith}
 use Rattle.std.proofs.lemmas.Option.{get_or_from_slice_get}
 use Rattle.std.proofs.Math.ListN.{get_or-map}
 use Rattle.std.proofs.lemmas.List.{take_all}
 use Rattle.kex_code.specs.declared.symbol.Symbol.{Symbol}
 use Rattle.kex_sst.specs.declared.parts.Part.{Part}
-use Rattle.kex_sst.specs.declared.parts.Part.TheVariants.{Put, Old, Input}
 use Rattle.kex_sst.specs.Parts.{value, meant}
 use Rattle.kex_script.specs.declared.piece.Piece.{Piece}
 use Rattle.kex_script.specs.declared.script.Tail.{Tail}
@@ -13,7 +12,7 @@ use Rattle.kex_script.specs.Scripts.{Sheet, list_at, if_old, IsTail, IsWord}
 use Rattle.kex_runner.specs.declared.reading.Reading.{Reading}
 use Rattle.kex_runner.specs.declared.reading.Unread.{Unread}
 use Rattle.kex_runner.specs.Noting.{ByteUpdate, next_registers, registers_after, turned}
-use Rattle.kex_runner.specs.Looking.{code_of, codes_of, AreNoted, if_some, unless_empty, further_work, part_work, register_work, list_work, weight_of, old_text, old_weight, HasAsked, HasRead}
+use Rattle.kex_runner.specs.Looking.{code_of, codes_of, AreNoted, if_some, unless_empty, part_work, register_work, list_work, weight_of, old_text, old_weight, HasAsked, HasRead}
 use Rattle.kex_runner.proofs.Noting.{meant_fresh}
 
 meant-append : (regs : List (List Symbol)) (b : ℕ) (xs ys : List Part) → meant regs b (xs ++ ys) ≡ meant regs b xs ++ meant regs b ys

@@ -1,17 +1,17 @@
 -- A runner that takes a step by its script.
-use Rattle.std.proofs.Common.{◌≡◌, ℕ, ◌<◌, Bool, true, false, not, List, [], ◌++◌, Option, Some, None, length, map, refl, sym, ap, ap₂, subst, ◌∙◌, append_assoc}
+use Rattle.std.proofs.Common.{◌≡◌, ℕ, ◌<◌, Bool, true, false, not, List, [], ◌++◌, Option, Some, None, length, refl, sym, ap, ap₂, subst, ◌∙◌, append_assoc}
 use Rattle.kex_byteset.specs.Classes.{class_count}
 use Rattle.kex_code.specs.declared.symbol.Symbol.{Symbol}
 use Rattle.kex_sst.specs.declared.table.Transition.{Transition}
-use Rattle.kex_sst.specs.Parts.{Change, meant}
+use Rattle.kex_sst.specs.Parts.{Change}
 use Rattle.kex_sst.specs.Tables.{Transducer, transition_of}
 use Rattle.kex_sst.specs.Passes.{begun}
 use Rattle.kex_script.specs.declared.script.Entry.{Entry}
 use Rattle.kex_script.specs.Scripts.{Sheet, HasUpdate, IsEntryOf, IsScriptOf, change_at, entry_at}
 use Rattle.kex_runner.specs.declared.registers.Registers.{Registers}
 use Rattle.kex_runner.specs.Noting.{held, next_registers}
-use Rattle.kex_runner.specs.Following.{IsRunner, IsSound, IsPlace, Follows}
-use Rattle.kex_runner.proofs.Going.{place_next, place_begun}
+use Rattle.kex_runner.specs.Following.{IsRunner, IsPlace, Follows}
+use Rattle.kex_runner.proofs.Going.{place_next}
 
 -- the transition that an entry tells
 abbrev pub told_by : Sheet → Entry → Transition

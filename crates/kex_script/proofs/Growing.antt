@@ -1,7 +1,7 @@
 -- Pages that grow: what stands stays.
-use Rattle.std.proofs.Common.{◌≡◌, ℕ, zero, suc, ◌+◌, ◌<◌, ◌≤◌, List, [], ◌∷◌, ◌++◌, ◌⊎◌, inl, inr, ⊎_elim, Option, Some, None, length, get_or, take, refl, sym, ap, subst, ◌∙◌, append_assoc, arith}
+use Rattle.std.proofs.Common.{◌≡◌, ℕ, zero, suc, ◌+◌, ◌<◌, List, [], ◌∷◌, ◌++◌, ◌⊎◌, inl, inr, ⊎_elim, Option, Some, None, length, get_or, take, refl, sym, ap, subst, ◌∙◌, append_assoc, arith}
 use Rattle.std.specs.Prelude.{slice_get}
-use Rattle.std.proofs.lemmas.Option.{slice_get_within, slice_get-get_or, get_or_from_slice_get}
+use Rattle.std.proofs.lemmas.Option.{slice_get_within, slice_get-get_or}
 use Rattle.std.proofs.lemmas.List.{get_or_append_left, get_or_push, length_push, take_more}
 use Rattle.kex_sst.specs.declared.parts.Part.{Part}
 use Rattle.kex_sst.specs.declared.table.Transition.{Transition}
@@ -9,7 +9,7 @@ use Rattle.kex_sst.specs.Parts.{Change}
 use Rattle.kex_script.specs.declared.script.Tail.{Tail}
 use Rattle.kex_script.specs.declared.script.Entry.{Entry}
 use Rattle.kex_script.specs.Scripts.{IsWord, IsTail, AreTails, no_entry}
-use Rattle.kex_script.specs.Pages.{Pages, Keeps, Grows, IsJoined, IsListAt, AreListsAt, IsRow, HasRow, HasRowIf, AreEntries}
+use Rattle.kex_script.specs.Pages.{Pages, Keeps, Grows, IsListAt, AreListsAt, IsRow, HasRow, HasRowIf, AreEntries}
 
 pub keeps_same : {A : Type 0} (xs : List A) → Keeps xs xs
 keeps_same xs k x e = e

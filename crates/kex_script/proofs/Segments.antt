@@ -1,9 +1,9 @@
 -- Segments of lists of parts.
-use Rattle.std.proofs.Common.{◌≡◌, ℕ, zero, suc, ◌+◌, ◌-◌, ◌<◌, ◌≤◌, List, [], ◌∷◌, ◌++◌, Option, Some, None, length, get_or, take, drop, refl, sym, ap, ap₂, subst, ◌∙◌, append_assoc, append-nil, length-append, length-drop, length-take, arith}
+use Rattle.std.proofs.Common.{◌≡◌, ℕ, zero, suc, ◌+◌, ◌-◌, ◌<◌, ◌≤◌, List, [], ◌∷◌, ◌++◌, Some, None, length, get_or, take, drop, refl, sym, ap, ap₂, subst, ◌∙◌, length-drop, arith}
 use Rattle.std.specs.Prelude.{slice_get}
 use Rattle.std.proofs.lemmas.List.{take-append-drop, length-take-le, drop-take, take-take, drop-drop, take_rest}
 use Rattle.kex_sst.specs.declared.parts.Part.{Part}
-use Rattle.kex_sst.specs.declared.parts.Part.TheVariants.{Put, Old, Input}
+use Rattle.kex_sst.specs.declared.parts.Part.TheVariants.{Old}
 use Rattle.kex_sst.specs.Parts.{olds}
 use Rattle.kex_script.specs.declared.writer.Segment.{Segment}
 use Rattle.kex_script.specs.Scripts.{if_old}

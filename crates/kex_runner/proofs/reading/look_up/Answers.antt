@@ -1,7 +1,7 @@
-use Rattle.std.proofs.Common.{◌≡◌, ◌++◌, ◌∷◌, [], Some, length, sym, ap, ap₂, subst, ◌∙◌, arith}
+use Rattle.std.proofs.Common.{◌++◌, ◌∷◌, [], length, sym, ap, ap₂, subst, ◌∙◌, arith}
 use Rattle.std.proofs.lemmas.List.{length-map}
 use Rattle.kex_runner.specs.Noting.{settled_of, turned, update_of, updates_of}
-use Rattle.kex_runner.specs.Looking.{AreNoted, HasRead, codes_of, if_some, weight_of}
+use Rattle.kex_runner.specs.Looking.{AreNoted, codes_of, if_some, weight_of}
 use Rattle.kex_runner.proofs.Looking.{noted_right}
 use Rattle.kex_runner.proofs.reading.look_up.Goals as goal
 use Rattle.kex_runner.proofs.reading.look_up.Goals.{In-Some}

@@ -1,10 +1,10 @@
-use Rattle.std.proofs.Common.{◌≡◌, ◌++◌, [], length, sym, ap, ap₂, subst, ◌∙◌}
+use Rattle.std.proofs.Common.{◌≡◌, ◌++◌, sym, ap, ap₂, subst, ◌∙◌}
 use Rattle.kex_sst.specs.Parts.{meant}
 use Rattle.kex_sst.specs.Passes.{begun}
 use Rattle.kex_script.specs.Pieces.{spelled}
 use Rattle.kex_script.specs.Scripts.{HasUpdate, change_at}
 use Rattle.kex_runner.specs.Noting.{held, next_registers}
-use Rattle.kex_runner.specs.Following.{IsPlace, IsRunner}
+use Rattle.kex_runner.specs.Following.{IsPlace}
 use Rattle.kex_runner.proofs.Going.{place_begun}
 use Rattle.kex_runner.proofs.Stepping.{begins, registers_begun}
 use Rattle.kex_runner.proofs.runner.begin.Goals as goal

@@ -1,11 +1,11 @@
-use Rattle.std.proofs.Common.{◌≡◌, ◌+◌, ◌<◌, ◌≤◌, ℕ, Some, get_or, length, refl, ap, subst, sym, ◌∙◌, arith}
+use Rattle.std.proofs.Common.{◌≡◌, ◌<◌, Some, get_or, refl, ap, subst, sym, ◌∙◌, arith}
 use Rattle.kex_byteset.specs.Classes.{class_at, class_count}
 use Rattle.kex_sst.specs.declared.table.Transition.{Transition}
 use Rattle.kex_sst.specs.Parts.{items_of}
 use Rattle.kex_script.specs.Pieces.{spelled}
 use Rattle.kex_runner.specs.Noting.{held}
-use Rattle.kex_runner.proofs.Going.{Goes, follows_front, goes_next, goes_nowhere, next_by_class, items_next, items_stop}
-use Rattle.kex_runner.proofs.Stepping.{told_by, step_of, step_at, no_step, runner_kept, runner_next}
+use Rattle.kex_runner.proofs.Going.{goes_next, goes_nowhere, next_by_class, items_next, items_stop}
+use Rattle.kex_runner.proofs.Stepping.{told_by, step_at, runner_next}
 use Rattle.kex_runner.proofs.runner.follow.Goals as goal
 
 pub returns-in_default-clause-follows : goal.returns-in_default-clause-follows

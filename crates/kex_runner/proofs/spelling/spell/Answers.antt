@@ -1,4 +1,4 @@
-use Rattle.std.proofs.Common.{◌≡◌, get_or, refl, ◌∙◌}
+use Rattle.std.proofs.Common.{◌∙◌}
 use Rattle.kex_runner.proofs.Pieces.{spelled_more}
 use Rattle.kex_runner.proofs.spelling.spell.Goals as goal
 

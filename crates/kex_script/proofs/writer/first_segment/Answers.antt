@@ -1,7 +1,7 @@
-use Rattle.std.proofs.Common.{◌≡◌, ◌∷◌, [], get_or, refl, sym, ap, subst, ◌∙◌}
+use Rattle.std.proofs.Common.{◌∷◌, [], ap}
 use Rattle.kex_code.specs.declared.symbol.Symbol.TheVariants.{L}
 use Rattle.kex_sst.specs.Parts.{olds}
-use Rattle.kex_sst.specs.declared.parts.Part.TheVariants.{Put, Old}
+use Rattle.kex_sst.specs.declared.parts.Part.TheVariants.{Put}
 use Rattle.kex_script.proofs.Segments.{with_old, without_old}
 use Rattle.kex_script.proofs.writer.first_segment.Goals as goal
 

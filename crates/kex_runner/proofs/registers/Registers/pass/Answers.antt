@@ -1,4 +1,4 @@
-use Rattle.std.proofs.Common.{◌≡◌, ◌++◌, reverse, sym, ap, ap₂, ◌∙◌}
+use Rattle.std.proofs.Common.{◌++◌, reverse, ap, ap₂, ◌∙◌}
 use Rattle.std.proofs.lemmas.Result.{on_ok_weaker}
 use Rattle.kex_sst.specs.Parts.{meant}
 use Rattle.kex_script.specs.Pieces.{spelled}

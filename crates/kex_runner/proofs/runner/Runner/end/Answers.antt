@@ -1,4 +1,4 @@
-use Rattle.std.proofs.Common.{◌≡◌, ◌++◌, ◌<◌, ℕ, List, Some, length, get_or, refl, sym, ap, ap₂, ◌∙◌, subst, arith}
+use Rattle.std.proofs.Common.{◌≡◌, ◌++◌, ◌<◌, ℕ, List, Some, length, get_or, refl, ap, ap₂, ◌∙◌, subst, arith}
 use Rattle.std.specs.Prelude.{slice_get}
 use Rattle.std.proofs.lemmas.Option.{slice_get_read}
 use Rattle.kex_sst.specs.Parts.{meant}
@@ -6,7 +6,7 @@ use Rattle.kex_sst.specs.Tables.{Row, Transducer}
 use Rattle.kex_runner.specs.declared.answers.Ended.TheVariants.{Parsed, Cut}
 use Rattle.kex_script.specs.Pieces.{spelled}
 use Rattle.kex_runner.specs.Noting.{held}
-use Rattle.kex_runner.specs.Running.{Running, Ends}
+use Rattle.kex_runner.specs.Running.{Ends}
 use Rattle.kex_runner.proofs.Going.{place_in_range, ending_none, ending_some}
 use Rattle.kex_runner.proofs.Standing.{ends_dead, ends_cut, ends_parsed}
 use Rattle.kex_runner.proofs.runner.Runner.end.Goals as goal

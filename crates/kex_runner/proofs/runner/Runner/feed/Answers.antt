@@ -1,9 +1,6 @@
-use Rattle.std.proofs.Common.{◌≡◌, ◌+◌, ◌<◌, ◌≤◌, ◌++◌, [], ℕ, List, true, nat_lt, length, take, refl, sym, ap, ap₂, ◌∙◌, subst, arith}
+use Rattle.std.proofs.Common.{◌≡◌, ◌+◌, ◌++◌, [], true, nat_lt, length, refl, sym, ap, ap₂, ◌∙◌, subst}
 use Rattle.std.proofs.lemmas.Bool.{ltb-true, ltb-false}
-use Rattle.std.proofs.lemmas.List.{length-take-le}
-use Rattle.kex_code.specs.declared.symbol.Symbol.{Symbol}
 use Rattle.kex_script.specs.Pieces.{spelled}
-use Rattle.kex_runner.specs.declared.answers.Fed.{Fed}
 use Rattle.kex_runner.specs.declared.answers.Fed.TheVariants.{Dead}
 use Rattle.kex_runner.specs.Noting.{held}
 use Rattle.kex_runner.specs.Running.{Running, Feeds, answer_of}

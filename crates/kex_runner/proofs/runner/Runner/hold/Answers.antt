@@ -1,15 +1,11 @@
-use Rattle.std.proofs.Common.{◌≡◌, ◌+◌, ◌<◌, ◌≤◌, ◌++◌, [], ℕ, List, true, nat_lt, length, take, sym, ap, ap₂, ◌∙◌, subst, arith}
+use Rattle.std.proofs.Common.{◌≡◌, ◌+◌, ◌++◌, [], true, nat_lt, length, take, sym, ap, ap₂, ◌∙◌, subst, arith}
 use Rattle.std.proofs.lemmas.Bool.{ltb-true, ltb-false}
 use Rattle.std.proofs.lemmas.List.{length-take-le}
-use Rattle.kex_code.specs.declared.symbol.Symbol.{Symbol}
 use Rattle.kex_script.specs.Pieces.{spelled}
-use Rattle.kex_runner.specs.declared.answers.Fed.{Fed}
 use Rattle.kex_runner.specs.declared.answers.Fed.TheVariants.{Dead}
 use Rattle.kex_runner.specs.Noting.{held}
 use Rattle.kex_runner.specs.Running.{Running, Feeds, answer_of}
-use Rattle.kex_runner.specs.Following.{Follows}
 use Rattle.kex_runner.proofs.Standing.{feeds, feeds_after, none_pending}
-use Rattle.kex_runner.proofs.Stepping.{follows_behind}
 use Rattle.kex_runner.proofs.runner.Runner.hold.Goals as goal
 
 pub returns-then-self-clause-fed : goal.returns-then-self-clause-fed

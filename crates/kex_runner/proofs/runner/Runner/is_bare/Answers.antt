@@ -1,9 +1,8 @@
-use Rattle.std.proofs.Common.{◌≡◌, ℕ, ◌<◌, ◌≤◌, true, false, List, [], Some, length, get_or, refl, sym, ap, subst, ◌∙◌, arith, eq-eqb}
+use Rattle.std.proofs.Common.{◌≡◌, ◌<◌, true, false, Some, length, refl, sym, ap, subst, ◌∙◌, arith, eq-eqb}
 use Rattle.std.specs.Prelude.{slice_get}
 use Rattle.std.proofs.lemmas.Bool.{eqb-true, ltb-true, ltb-false}
 use Rattle.std.proofs.lemmas.Option.{slice_get_read}
-use Rattle.kex_sst.specs.Tables.{Row, Transducer}
-use Rattle.kex_runner.specs.Following.{IsPlace}
+use Rattle.kex_sst.specs.Tables.{Row}
 use Rattle.kex_runner.proofs.Going.{place_in_range}
 use Rattle.kex_runner.proofs.runner.Runner.is_bare.Goals as goal
 

@@ -1,4 +1,4 @@
-use Rattle.std.proofs.Common.{◌≡◌, ℕ, zero, suc, ◌+◌, ◌<◌, ◌≤◌, [], get_or, refl, sym, ap, subst, ◌∙◌, arith}
+use Rattle.std.proofs.Common.{◌≡◌, suc, ◌+◌, [], get_or, sym, ap, subst, ◌∙◌, arith}
 use Rattle.kex_script.specs.Scripts.{Sheet, list_at}
 use Rattle.kex_script.proofs.Reading.{given_at, given_past, empty_list}
 use Rattle.kex_script.proofs.script.Script.given.Goals as goal

@@ -1,9 +1,9 @@
-use Rattle.std.proofs.Common.{◌≡◌, ◌<◌, [], Some, length, get_or, refl, sym, ap, subst, ◌∙◌, arith}
+use Rattle.std.proofs.Common.{◌≡◌, [], Some, length, refl, sym, ap, subst, ◌∙◌, arith}
 use Rattle.std.specs.Prelude.{slice_get}
 use Rattle.std.proofs.lemmas.Bool.{ltb-true, ltb-false}
 use Rattle.std.proofs.lemmas.Option.{slice_get_read}
 use Rattle.std.proofs.lemmas.List.{get_or_past}
-use Rattle.kex_script.specs.Scripts.{Sheet, list_at, IsTail, AreTails}
+use Rattle.kex_script.specs.Scripts.{Sheet, list_at, AreTails}
 use Rattle.kex_script.proofs.Reading.{empty_list}
 use Rattle.kex_script.proofs.script.Script.tail.Goals as goal
 

@@ -1,4 +1,4 @@
-use Rattle.std.proofs.Common.{◌≡◌, List, Option, flat_map, take, get_or, ◌+◌, ◌++◌, ◌∷◌, [], sym, ap, subst, ◌∙◌}
+use Rattle.std.proofs.Common.{◌≡◌, List, Option, flat_map, take, ◌+◌, ◌++◌, ◌∷◌, [], sym, ap, subst, ◌∙◌}
 use Rattle.std.proofs.lemmas.List.{take_more, flat_map_more}
 use Rattle.kex_sst.specs.declared.table.Transition.{Transition}
 use Rattle.kex_sst.specs.Tables.{Row}

@@ -1,7 +1,7 @@
-use Rattle.std.proofs.Common.{◌≡◌, ◌++◌, ◌∷◌, [], Some, sym, ap, ap₂, subst, ◌∙◌}
+use Rattle.std.proofs.Common.{◌++◌, ◌∷◌, [], sym, ap, subst, ◌∙◌}
 use Rattle.kex_script.specs.declared.script.Tail.{Tail}
 use Rattle.kex_script.specs.Scripts.{AreTails, IsTail}
-use Rattle.kex_script.specs.Pages.{Pages, Keeps, Grows, IsJoined}
+use Rattle.kex_script.specs.Pages.{Pages, Keeps, IsJoined}
 use Rattle.kex_script.proofs.Growing.{keeps_same, keeps_more, tails_more}
 use Rattle.kex_script.proofs.writer.Writer.join.Goals as goal
 

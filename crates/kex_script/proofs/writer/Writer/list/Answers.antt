@@ -1,6 +1,4 @@
-use Rattle.std.proofs.Common.{◌≡◌, ◌+◌, ◌-◌, ◌<◌, ◌≤◌, refl, arith, length-drop, length-take}
-use Rattle.std.proofs.lemmas.List.{take_rest}
-use Rattle.kex_script.proofs.Growing.{grows_on}
+use Rattle.std.proofs.Common.{refl}
 use Rattle.kex_script.proofs.Segments.{joined}
 use Rattle.kex_script.proofs.writer.Writer.list.Goals as goal
 

@@ -1,4 +1,4 @@
-use Rattle.std.proofs.Common.{◌≡◌, ◌++◌, ◌∷◌, [], length, sym, ap, ◌∙◌, arith, subst}
+use Rattle.std.proofs.Common.{◌≡◌, ◌++◌, ◌∷◌, [], length, ap, ◌∙◌, arith, subst}
 use Rattle.kex_sst.specs.Parts.{Change}
 use Rattle.kex_script.specs.Pages.{Pages, AreListsAt, IsListAt}
 use Rattle.kex_script.proofs.Growing.{the_row}
