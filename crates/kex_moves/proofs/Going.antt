@@ -20,8 +20,7 @@ use Rattle.kex_sst.specs.Tables.{Transducer}
 use Rattle.kex_sst.specs.Passes.{transition_at, next_of, stepped, passes_if}
 use Rattle.kex_sst.proofs.Passing.{passes_more}
 use Rattle.kex_moves.specs.declared.edge.Edge.{Edge}
-use Rattle.kex_moves.specs.declared.edge.Kind.{Kind}
-use Rattle.kex_moves.specs.declared.edge.Kind.TheVariants.{Keep, Drop, Text, Acts, Plain, Unknown}
+use Rattle.kex_moves.specs.declared.edge.Kind.TheVariants.{Acts}
 use Rattle.kex_moves.specs.declared.edges.Pair.{Pair}
 use Rattle.kex_moves.specs.Edges.{writes, is_written, is_known}
 use Rattle.kex_moves.specs.Runs as runs
@@ -29,16 +28,8 @@ use Rattle.kex_moves.specs.Runs.{Stop, by_edge, step_of, behind, on_step, run_of
 use Rattle.kex_moves.specs.Walks.{Takes, code_at}
 use Rattle.kex_moves.specs.Known.{Known, rows_of, IsRowOf, IsRight, IsKnown, makes}
 use Rattle.kex_moves.specs.Along.{bare, Goes, Reached, RunsOn}
-use Rattle.kex_moves.proofs.Knowing.{at_of}
+use Rattle.kex_moves.proofs.Knowing.{at_of, known_if}
 use Rattle.kex_moves.proofs.Settling.{adding_more, adding_none}
-
-known_if : (k : Kind) → is_written k ≡ true → is_known k ≡ true
-known_if Keep h = refl
-known_if Drop h = refl
-known_if Text h = refl
-known_if Acts h = cc
-known_if Plain h = cc
-known_if Unknown h = cc
 
 -- what stands behind a step
 record Stands (k : Known) (row b : ℕ) (w : runs.Step) : Type 0 where
@@ -129,7 +120,7 @@ pub gone_is : (gone left bs : List ℕ) (at : ℕ) → bs ≡ gone ++ left → l
 gone_is gone left bs at e f = append_cancel_right gone (take at bs) (drop at bs) (ap (λ l. gone ++ l) (sym f) ∙ sym e ∙ sym (take-append-drop at bs))
 
 -- one and then another
-went_more : (old mid new : Position) (c d : List Symbol) (xs ys zs : List ℕ) → WentOn old mid c c xs ys → WentOn mid new d d ys zs → WentOn old new (c ++ d) (c ++ d) xs zs
+pub went_more : (old mid new : Position) (c d : List Symbol) (xs ys zs : List ℕ) → WentOn old mid c c xs ys → WentOn mid new d d ys zs → WentOn old new (c ++ d) (c ++ d) xs zs
 went_more old mid new c d xs ys zs p q = record {
   more = p.more ++ q.more;
   written = q.written ∙ ap (λ l. l ++ q.more) p.written ∙ append_assoc xs p.more q.more;
@@ -138,7 +129,7 @@ went_more old mid new c d xs ys zs p q = record {
       subst (λ l. HasPerformed new (given ++ (c ++ d)) (code ++ (c ++ d)) l) (append_assoc out p.more q.more) (subst (λ l. HasPerformed new (given ++ (c ++ d)) l ((out ++ p.more) ++ q.more)) (append_assoc code c d) (subst (λ l. HasPerformed new l ((code ++ c) ++ d) ((out ++ p.more) ++ q.more)) (append_assoc given c d) all));
 }
 
-went_none : (a : Position) (xs : List ℕ) → WentOn a a [] [] xs xs
+pub went_none : (a : Position) (xs : List ℕ) → WentOn a a [] [] xs xs
 went_none a xs = record {
   more = [];
   written = sym (append-nil xs);
@@ -159,7 +150,7 @@ goes_more t old mid new q r s us vs xs ys zs p n = record {
 }
 
 -- where a run's code goes on from what was performed, it can be taken
-takes_run : (a : Position) (given c d : List Symbol) (out : List ℕ) → HasPerformed a given c out → BeginsRun a.machine (c ++ d) → (x : List Symbol) × Takes a.machine.nodes a.at (d ++ x)
+pub takes_run : (a : Position) (given c d : List Symbol) (out : List ℕ) → HasPerformed a given c out → BeginsRun a.machine (c ++ d) → (x : List Symbol) × Takes a.machine.nodes a.at (d ++ x)
 takes_run a given c d out h run =
     let code : code_of run.0 ≡ c ++ (d ++ run.2.0) = run.2.1 ∙ append_assoc c d run.2.0 in
     let on = goes_from a.machine h.came.steps run.0 a.at c h.came.walk h.came.codes run.1 (d ++ run.2.0, code) in
@@ -219,18 +210,18 @@ reached_act t k old new p class b e xs ys is r acts node machine there went = re
     from x takes = subst (λ n. Takes old.machine.nodes n (code ++ x)) (sym node) takes
 
 -- a part of the piece more
-pub part_more : (piece part : List ℕ) (at n count : ℕ) → part ≡ take n (drop at piece) → count ≤ length part → take at piece ++ take count part ≡ take (at + count) piece
+pub part_more : {A : Type 0} (piece part : List A) (at n count : ℕ) → part ≡ take n (drop at piece) → count ≤ length part → take at piece ++ take count part ≡ take (at + count) piece
 part_more piece part at n count e le =
     let rest = drop at piece in
     let whole : part ++ drop n rest ≡ rest = ap (λ l. l ++ drop n rest) e ∙ take-append-drop n rest in
     let same : take count part ≡ take count rest = sym (take-append-le count part (drop n rest) le) ∙ ap (take count) whole in
     ap (λ l. take at piece ++ l) same ∙ sym (take-add at count piece)
 
--- a byte more, or none
-pub byte_more : (piece : List ℕ) (at count : ℕ) → at < length piece → count ≤ 1 → take at piece ++ take count (get_or piece at 0 ∷ []) ≡ take (at + count) piece
-byte_more piece at zero lt le = append-nil (take at piece) ∙ ap (λ n. take n piece) at_zero
+-- one more, or none
+pub one_more : {A : Type 0} (piece : List A) (d : A) (at count : ℕ) → at < length piece → count ≤ 1 → take at piece ++ take count (get_or piece at d ∷ []) ≡ take (at + count) piece
+one_more piece d at zero lt le = append-nil (take at piece) ∙ ap (λ n. take n piece) at_zero
   where
     at_zero : at ≡ at + 0
     at_zero = omega arith
-byte_more piece at (suc zero) lt le = sym (take_more piece at 0 lt)
-byte_more piece at (suc (suc n)) lt le = absurd (omega arith)
+one_more piece d at (suc zero) lt le = sym (take_more piece at d lt)
+one_more piece d at (suc (suc n)) lt le = absurd (omega arith)

@@ -21,9 +21,10 @@ use Rattle.kex_moves.specs.declared.edge.Kind.{Kind}
 use Rattle.kex_moves.specs.declared.edge.Kind.TheVariants.{Keep, Drop, Text, Acts, Plain, Unknown}
 use Rattle.kex_moves.specs.declared.edges.Pair.{Pair}
 use Rattle.kex_moves.specs.Edges.{writes, is_written, is_known, HasRoom}
-use Rattle.kex_moves.specs.Runs.{HasRow}
+use Rattle.kex_moves.specs.Runs.{HasRow, HasRoomBelow, IsWithin}
+use Rattle.kex_moves.specs.Trails.{LeadsBelow}
 use Rattle.kex_moves.specs.Walks.{code_at, Takes, Learns}
-use Rattle.kex_moves.specs.Known.{Known, IsEdge, IsOrdered, IsRowOf, HasRowFor, IsRight, AreRight, IsPairOf, IsKnown, IsLed, Grows, Widens, Lengthens, Forgets, Settles, makes}
+use Rattle.kex_moves.specs.Known.{Known, rows_of, IsEdge, IsOrdered, IsRowOf, HasRowFor, IsRight, AreRight, IsPairOf, IsKnown, IsLed, Grows, Widens, Lengthens, Forgets, Settles, makes}
 
 -- the edge of a row at a class is one of the edges
 pub index_in : (k : Known) (row : ℕ) (p : Pair) (class : ℕ) → IsOrdered k → IsRowOf k row p → class < k.width → row + class < length k.edges
@@ -33,8 +34,37 @@ index_in k row p class o r h =
     let one : suc r.number * k.width ≡ r.number * k.width + k.width = omega arith in
     omega (arith, o.rows, r.begins, all, one, h)
 
+-- the row of a pair is within
+pub row_fits : (k : Known) (row : ℕ) (p : Pair) → IsOrdered k → IsRowOf k row p → row + k.width ≤ length k.edges
+row_fits k row p o r =
+    let n : r.number < length k.pairs = slice_get_within k.pairs r.number p r.at in
+    let all : suc r.number * k.width ≤ length k.pairs * k.width = mul-le-mul_right k.width n in
+    let one : suc r.number * k.width ≡ r.number * k.width + k.width = omega arith in
+    omega (arith, o.rows, r.begins, all, one)
+
+has_row : (k : Known) (row : ℕ) → IsOrdered k → row + k.width ≤ length k.edges → HasRow k.classes k.edges row
+has_row k row o h = λ i d lt. omega (arith, o.classes i d lt)
+
 pub row_in : (k : Known) (row : ℕ) (p : Pair) → IsOrdered k → IsRowOf k row p → HasRow k.classes k.edges row
-row_in k row p o r = λ i d h. index_in k row p (get_or k.classes i d) o r (o.classes i d h)
+row_in k row p o r = has_row k row o (row_fits k row p o r)
+
+pub known_if : (k : Kind) → is_written k ≡ true → is_known k ≡ true
+known_if Keep h = refl
+known_if Drop h = refl
+known_if Text h = refl
+known_if Acts h = cc
+known_if Plain h = cc
+known_if Unknown h = cc
+
+-- where edges lead that are written there is a row, and what they write is within
+pub rooms_below : (k : Known) → IsOrdered k → HasRoomBelow (length k.text) k.edges
+rooms_below k o = λ i d lt written. (o.edges i d lt).room written
+
+pub leads_below : (k : Known) → IsOrdered k → LeadsBelow k.width k.edges
+leads_below k o = λ i d lt written. (o.edges i d lt).next (known_if (get_or k.edges i d).kind written)
+
+pub rows_within : (k : Known) → IsOrdered k → IsWithin (rows_of k)
+rows_within k o = record { next = λ i d lt written. has_row k (get_or k.edges i d).next o (leads_below k o i d lt written); room = rooms_below k o }
 
 front_of : {A : Type 0} (xs ys : List A) (i : ℕ) → i < length xs → slice_get (xs ++ ys) i ≡ slice_get xs i
 front_of [] ys i h = absurd (omega arith)
@@ -166,7 +196,7 @@ pub led : (nodes : List MNode) (mid new : Known) (state node next : ℕ) (action
 led nodes mid new state node next actions e o r l s =
     let row = λ (known : is_known e.kind ≡ true). subst (λ x. IsRowOf new x r.0) (sym (s.goes known)) (subst (λ k. IsRowOf k next r.0) (sym l.longer) (rows_long mid l.text l.acts next r.0 r.1)) in
     record {
-      edge = record { next = λ known. row_in new e.next r.0 o (row known); room = s.room; acts = s.acts };
+      edge = record { next = λ known. row_fits new e.next r.0 o (row known); room = s.room; acts = s.acts };
       row = λ known. (r.0, row known, r.2, r.3);
       does = s.does;
     }

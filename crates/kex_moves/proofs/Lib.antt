@@ -6,5 +6,7 @@ mod Learning
 mod Putting
 mod Running
 mod Settling
+mod Speaking
+mod Trailing
 mod Widening
 pub mod Carrying

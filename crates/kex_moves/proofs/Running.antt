@@ -1,8 +1,9 @@
 -- A run, byte by byte.
-use Rattle.std.proofs.Common.{◌≡◌, ℕ, ◌+◌, ◌<◌, true, false, cond, List, [], ◌∷◌, ◌++◌, Some, None, length, take, drop, set, get_or, refl, ap, ap₂, ◌∙◌, sym, arith, append_assoc, length-take, length-drop}
+use Rattle.std.proofs.Common.{◌≡◌, ℕ, zero, suc, ◌+◌, ◌<◌, true, false, cond, List, [], ◌∷◌, ◌++◌, Some, None, length, take, drop, set, get_or, refl, ap, ap₂, ◌∙◌, sym, arith, append_assoc, length-take, length-drop}
 use Rattle.std.proofs.lemmas.List.{drop_more, append-nil}
 use Rattle.std.proofs.lemmas.List.Elements.{All-get_or}
-use Rattle.std.proofs.lemmas.Option.{slice_get-get_or}
+use Rattle.std.specs.Prelude.{slice_get}
+use Rattle.std.proofs.lemmas.Option.{slice_get-get_or, get_or_from_slice_get}
 use Rattle.kex_moves.specs.declared.edge.Edge.{Edge}
 use Rattle.kex_moves.specs.declared.edge.Kind.TheVariants.{Keep, Drop}
 use Rattle.kex_moves.specs.Edges.{writes, is_written, HasRoom}
@@ -68,3 +69,14 @@ drops t r b row h room k n =
 -- an edge that is written leads to a row
 pub row_at : (t : Rows) (r b : ℕ) → HasRow t.classes t.edges r → b < length t.classes → IsWithin t → is_written (edge_at t r b).kind ≡ true → HasRow t.classes t.edges (edge_at t r b).next
 row_at t r b row h within k = All-get_or (λ (e : Edge). is_written e.kind ≡ true → HasRow t.classes t.edges e.next) t.edges (r + get_or t.classes b 0) no_edge (edge_in t r b row h) within.next k
+
+pub some_left : (n : ℕ) → (n ≡ 0 → ⊥) → 0 < n
+some_left zero none = absurd (none refl)
+some_left (suc n) none = omega arith
+
+-- nothing is taken where no edge is written
+pub stays_at : (t : Rows) (row class : ℕ) (e : Edge) (piece : List ℕ) → 0 < length piece → slice_get t.classes (get_or piece 0 0) ≡ Some class → slice_get t.edges (row + class) ≡ Some e → is_written e.kind ≡ false → run_of t row piece ≡ record { written = []; row = row; left = piece }
+stays_at t row class e piece some is edge none =
+    let b = get_or piece 0 0 in
+    let step : step_of t row b ≡ None = ap (λ c. by_edge t.text b (slice_get t.edges (row + c))) (get_or_from_slice_get t.classes b class 0 is) ∙ ap (by_edge t.text b) edge ∙ ap (λ x. cond x (Some (record { row = e.next; writes = writes t.text e b })) None) none in
+    sym (stops t row [] piece 0 some step)

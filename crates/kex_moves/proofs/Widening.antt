@@ -1,5 +1,5 @@
 -- Rows that are added.
-use Rattle.std.proofs.Common.{◌<◌, ◌≡◌, ℕ, zero, suc, ◌+◌, ◌*◌, ◌/◌, ◌^◌, List, [], ◌∷◌, ◌++◌, All, Some, length, get_or, refl, sym, ap, ap₂, subst, ◌∙◌, arith, length-append}
+use Rattle.std.proofs.Common.{◌<◌, ◌≡◌, ℕ, zero, suc, ◌+◌, ◌≤◌, ◌*◌, ◌/◌, ◌^◌, List, [], ◌∷◌, ◌++◌, All, Some, length, get_or, refl, sym, ap, ap₂, subst, ◌∙◌, arith, length-append}
 use Rattle.std.specs.Prelude.{slice_get}
 use Rattle.std.proofs.lemmas.List.{append-nil}
 use Rattle.std.proofs.lemmas.List.Elements.{All-append, All-nil}
@@ -8,7 +8,6 @@ use Rattle.std.proofs.lemmas.Nat.{div-mul-add, pow_pos}
 use Rattle.kex_moves.specs.declared.edge.Edge.{Edge}
 use Rattle.kex_moves.specs.declared.edge.Kind.TheVariants.{Unknown}
 use Rattle.kex_moves.specs.declared.edges.Pair.{Pair}
-use Rattle.kex_moves.specs.Runs.{HasRow}
 use Rattle.kex_moves.specs.Known.{Known, IsEdge, IsOrdered, IsRowOf, Widens}
 
 pub widens_none : (k : Known) (state node : ℕ) → Widens k k state node
@@ -20,11 +19,8 @@ widens_none k state node = record {
   unknown = All-nil (λ (e : Edge). e.kind ≡ Unknown);
 }
 
-row_stands : (classes : List ℕ) (edges more : List Edge) (row : ℕ) → HasRow classes edges row → HasRow classes (edges ++ more) row
-row_stands classes edges more row h = λ k d l. omega (arith, h k d l, length-append edges more)
-
-edge_stands : (classes text : List ℕ) (k k' : Known) (more : List Edge) (e : Edge) → k' ≡ record { classes = k.classes; width = k.width; shift = k.shift; pairs = k'.pairs; edges = k.edges ++ more; text = k.text; acts = k.acts } → IsEdge k e → IsEdge k' e
-edge_stands classes text k k' more e f h = subst (λ x. IsEdge x e) (sym f) (record { next = λ known. row_stands k.classes k.edges more e.next (h.next known); room = h.room; acts = h.acts })
+edge_stands : (k k' : Known) (more : List Edge) (e : Edge) → k' ≡ record { classes = k.classes; width = k.width; shift = k.shift; pairs = k'.pairs; edges = k.edges ++ more; text = k.text; acts = k.acts } → IsEdge k e → IsEdge k' e
+edge_stands k k' more e f h = subst (λ x. IsEdge x e) (sym f) (record { next = λ known. omega (arith, h.next known, length-append k.edges more); room = h.room; acts = h.acts })
 
 silent : (k : Known) (e : Edge) → e.kind ≡ Unknown → IsEdge k e
 silent k e h = record { next = λ known. cc; room = λ written. cc; acts = λ acts. cc }
@@ -39,7 +35,7 @@ ordered_wider k p more h e unknown =
       text = h.text;
       classes = h.classes;
       rows = length-append k.edges more ∙ ap₂ (λ (a b : ℕ). a + b) h.rows e ∙ one_more (length k.pairs) k.width ∙ ap (λ n. n * k.width) (sym (length-append k.pairs (p ∷ [])));
-      edges = All-append (IsEdge wide) k.edges more (λ i d l. edge_stands k.classes k.text k wide more (get_or k.edges i d) refl (h.edges i d l)) (λ i d l. silent wide (get_or more i d) (unknown i d l));
+      edges = All-append (IsEdge wide) k.edges more (λ i d l. edge_stands k wide more (get_or k.edges i d) refl (h.edges i d l)) (λ i d l. silent wide (get_or more i d) (unknown i d l));
     }
   where
     one_more : (n w : ℕ) → n * w + w ≡ (n + 1) * w

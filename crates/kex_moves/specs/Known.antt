@@ -13,7 +13,7 @@ use Rattle.kex_moves.specs.declared.edge.Edge.{Edge}
 use Rattle.kex_moves.specs.declared.edge.Kind.TheVariants.{Acts, Unknown}
 use Rattle.kex_moves.specs.declared.edges.Pair.{Pair}
 use Rattle.kex_moves.specs.Edges.{writes, is_written, is_known, HasRoom}
-use Rattle.kex_moves.specs.Runs.{Rows, HasRow}
+use Rattle.kex_moves.specs.Runs.{Rows}
 use Rattle.kex_moves.specs.Walks.{Takes, code_at}
 
 -- the class of each byte, how long a row is (2 to the power of `shift`), the pairs of a state and a node, for each of them a row of edges by
@@ -32,7 +32,7 @@ rows_of k = record { classes = k.classes; edges = k.edges; text = k.text }
 
 -- the edge leads to a row, and its text or its actions lie within
 pub record IsEdge (k : Known) (e : Edge) : Type 0 where
-  pub next : is_known e.kind ≡ true → HasRow k.classes k.edges e.next
+  pub next : is_known e.kind ≡ true → e.next + k.width ≤ length k.edges
   pub room : is_written e.kind ≡ true → HasRoom (length k.text) e
   pub acts : e.kind ≡ Acts → e.from + e.adds ≤ length k.acts
 

@@ -4,3 +4,5 @@ pub mod Walks
 pub mod Known
 pub mod Along
 pub mod Drafts
+pub mod Trails
+pub mod Speech

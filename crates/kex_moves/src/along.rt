@@ -8,13 +8,13 @@ ghost use Rattle.kex_action.specs.Actors.{Position};
 ghost use Rattle.kex_action.specs.Sheets.{IsSheet, IsBlank, IsAsLong, state_with};
 ghost use Rattle.kex_moves.specs.declared.edge.Kind.{Kind};
 ghost use Rattle.kex_moves.specs.declared.edges.Pair.{Pair};
-ghost use Rattle.kex_moves.specs.Known.{IsEdge, IsRowOf, HasRowFor, IsKnown};
+ghost use Rattle.kex_moves.specs.Runs.{run_of};
+ghost use Rattle.kex_moves.specs.Known.{rows_of, IsEdge, IsRowOf, HasRowFor, IsKnown};
 ghost use Rattle.kex_moves.specs.Along.{ReachedOn, Goes, with_sheet, written_with};
 
 use crate::edge::{Edge, Kind};
 use crate::edges::Edges;
-use crate::learn::learn_edge;
-use crate::walk::is_resting;
+use crate::learn::{learn_edge, row_for};
 use kex_action::action::Action;
 use kex_action::actor::Actor;
 use kex_action::sheet::Sheet;
@@ -39,19 +39,19 @@ pub struct Ran {
     pub state: u32,
 }
 
-// How many bytes were taken, and the row to which they lead.
+/// How many bytes or pieces were taken, and the row to which they lead.
 #[derive(Clone, Copy)]
-struct Place {
-    count: usize,
-    row: usize,
+pub struct Place {
+    pub count: usize,
+    pub row: usize,
 }
 
-// The same, and whether no more can be taken from there.
+/// The same, and whether no more can be taken from there.
 #[derive(Clone, Copy)]
-struct Stride {
-    count: usize,
-    row: usize,
-    stops: bool,
+pub struct Stride {
+    pub count: usize,
+    pub row: usize,
+    pub stops: bool,
 }
 
 // Goes along edges while they are written, on a sheet.
@@ -96,9 +96,9 @@ fn act_rest(
     actor.act(node, rest, byte, out)
 }
 
-// Does the actions of an edge at which a byte was read.
+/// Does the actions of an edge at which a byte was read.
 #[inline(always)]
-fn act(
+pub fn act(
     edges: &Edges,
     edge: Edge,
     byte: u8,
@@ -174,8 +174,8 @@ fn next(
     }
 }
 
-// Hands on what stands on a sheet, at the node of a row. Tells the row's state.
-fn arrive(
+/// Hands on what stands on a sheet, at the node of a row. Tells the row's state.
+pub fn arrive(
     edges: &Edges,
     row: usize,
     actor: &mut Actor,
@@ -196,8 +196,8 @@ fn arrive(
     Ok(pair.state)
 }
 
-// Hands on what stands on a sheet where there is much.
-fn make_room(
+/// Hands on what stands on a sheet where there is much.
+pub fn make_room(
     edges: &Edges,
     row: usize,
     actor: &mut Actor,
@@ -219,8 +219,8 @@ fn make_room(
     Ok(())
 }
 
-// The part of a piece that is gone over at once.
-fn part_of(piece: &[u8]) -> &[u8]
+/// The part of a piece that is gone over at once.
+pub fn part_of<T>(piece: &[T]) -> &[T]
     ensures front { result.now ≡ take PART piece.now }
     ensures few { length result.now ≤ PART }
 {
@@ -278,8 +278,8 @@ fn go_on(
     })
 }
 
-// How many rounds are left.
-fn rounds_left(stops: bool, rounds: usize) -> usize
+/// How many rounds are left.
+pub fn rounds_left(stops: bool, rounds: usize) -> usize
     requires { 0 < rounds }
     ensures { result < rounds }
 {
@@ -326,6 +326,20 @@ fn run_from(
     Ok(Ran { count: at, state })
 }
 
+// Whether a piece is empty, or a plain step is to be taken at its first byte.
+fn ends_at(edges: &Edges, row: usize, piece: &[u8]) -> bool
+    requires { (p : Pair) × IsRowOf edges.now row p }
+    ensures { IsTrue result → run_of (rows_of edges.now) row piece.now ≡ record { written = []; row = row; left = piece.now } }
+{
+    if piece.is_empty() {
+        return true;
+    }
+    match edges.edge_at(row, edges.class_of(piece[0])).kind {
+        Kind::Plain => true,
+        _ => false,
+    }
+}
+
 /// Goes on from a state, as far as edges go. Nothing is taken where the actor doesn't rest, or where there is no room for
 /// the row.
 pub fn run_at(
@@ -352,13 +366,11 @@ pub fn run_at(
     ensures machine { actor.new.machine ≡ actor.old.machine }
     ensures usable { OnOk result (IsTrue actor.new.usable) }
 {
-    let node = actor.node();
-    if state as usize >= table.states().len() || !is_resting(machine, node) {
-        return Ok(Ran { count: 0, state });
-    }
-    let Some(row) = edges.row_of(state, node)? else {
-        edges.forget();
+    let Some(row) = row_for(machine, edges, table.states().len(), state, actor.node())? else {
         return Ok(Ran { count: 0, state });
     };
+    if ends_at(edges, row, piece) {
+        return Ok(Ran { count: 0, state });
+    }
     run_from(alloc, table, machine, edges, sheet, row, actor, piece, out)
 }

@@ -6,12 +6,15 @@ ghost use Rattle.kex_action.specs.Holdings.{adding};
 ghost use Rattle.kex_action.specs.Actions.{done};
 ghost use Rattle.kex_moves.specs.Edges.{is_written};
 ghost use Rattle.kex_moves.specs.Runs.{behind, run_of};
+ghost use Rattle.kex_moves.specs.Trails.{IsTrail, IsOver};
 ghost use Rattle.kex_moves.specs.Known.{rows_of, IsEdge, IsOrdered, IsRowOf, HasRowFor, HasPlace, Settles, Widens, Lengthens, Forgets};
 
 use crate::edge::{Edge, Kind};
+use crate::follow::follow;
 use crate::run::{Spot, run};
 use kex_action::action::Action;
 use kex_code::memory::Memory;
+use kex_script::piece::Piece;
 use std::alloc::Global;
 use std::marker::Model;
 use std::mem;
@@ -36,12 +39,20 @@ const MAX_TEXT: usize = 262_144;
 /// How many pairs of one state are looked at.
 const LOOKS: u32 = 8;
 
+/// By which number of a pair it is looked for.
+#[derive(Clone, Copy, Debug, PartialEq, Eq)]
+pub enum By {
+    State,
+    Node,
+}
+
 /// What is learnt: pairs, and for each a row of edges by class. All is forgotten when there is too much of it.
 #[derive(Drop)]
 pub struct Edges {
     classes: [u8; 256],
     width: usize,
     shift: u32,
+    by: By,
     heads: Vec<u32>,
     pairs: Vec<Pair>,
     edges: Vec<Edge>,
@@ -59,9 +70,9 @@ impl Model for Edges {
     ghost invariant = { λ e. IsOrdered (record { classes = e.classes; width = e.width; shift = e.shift; pairs = e.pairs.items; edges = e.edges.items; text = e.text.items; acts = e.acts.items }) };
 }
 
-// The head of a state's pairs, in whose place the number is put.
-fn head_of(heads: &mut [u32], state: u32, number: u32) -> u32 {
-    match heads.get_mut(state as usize) {
+// The head of some pairs, in whose place the number is put.
+fn head_of(heads: &mut [u32], slot: u32, number: u32) -> u32 {
+    match heads.get_mut(slot as usize) {
         Some(head) => mem::replace(head, number),
         None => NONE,
     }
@@ -109,25 +120,28 @@ fn append_text(text: &mut Vec<u8>, bytes: &[u8]) -> Result<(), Memory>
 }
 
 impl Edges {
-    /// Nothing is learnt. A row has 2 to the power of `shift` edges, and there are so many states.
+    /// Nothing is learnt. A row has 2 to the power of `shift` edges, and there are so many states or nodes by which pairs
+    /// are looked for.
     pub fn new(
         alloc: Global,
         classes: [u8; 256],
         shift: u32,
-        states: usize,
+        by: By,
+        count: usize,
     ) -> Result<Edges, Memory>
         requires few { shift ≤ 8 }
         requires classes { All (λ c. c < 2 ^ shift) classes }
         ensures { IfOk result (λ e. e ≡ record { classes = classes; width = 2 ^ shift; shift = shift; pairs = []; edges = []; text = replicate 16 0; acts = [] }) }
     {
         let mut heads = Vec::new(alloc);
-        heads.resize(states, NONE)?;
+        heads.resize(count, NONE)?;
         let mut text = Vec::new(alloc);
         text.resize(16, 0)?;
         Ok(Edges {
             classes,
             width: 1 << shift,
             shift,
+            by,
             heads,
             pairs: Vec::new(alloc),
             edges: Vec::new(alloc),
@@ -136,12 +150,22 @@ impl Edges {
         })
     }
 
-    // The row of a state and a node, if there is one and it is found soon.
-    fn find(&self, state: u32, node: u32) -> Option<usize>
+    // Where the head of the pairs stands among which the pair of a state and a node is.
+    #[inline(always)]
+    fn slot_of(&self, state: u32, node: u32) -> u32 {
+        match self.by {
+            By::State => state,
+            By::Node => node,
+        }
+    }
+
+    /// The row of a state and a node, if there is one and it is found soon.
+    pub fn find(&self, state: u32, node: u32) -> Option<usize>
         ensures row { IfSome result (λ row. HasRowFor self.now row state node) }
         ensures ordered { IsOrdered self.now }
     {
-        let mut number = *self.heads.get(state as usize)? as usize;
+        let slot = self.slot_of(state, node);
+        let mut number = *self.heads.get(slot as usize)? as usize;
         for _ in 0..LOOKS {
             let pair = self.pairs.get(number)?;
             if pair.state == state && pair.node == node {
@@ -152,8 +176,8 @@ impl Edges {
         None
     }
 
-    // Adds a row of which nothing is learnt. `None` where there are too many.
-    fn add(&mut self, state: u32, node: u32) -> Result<Option<usize>, Memory>
+    /// Adds a row of which nothing is learnt. `None` where there are too many.
+    pub fn add(&mut self, state: u32, node: u32) -> Result<Option<usize>, Memory>
         ensures ordered { IfOk result (λ o. IsOrdered self.new) }
         ensures wider { IfOk result (λ o. Widens self.old self.new state node) }
         ensures row { IfOk result (λ o. IfSome o (λ row. HasRowFor self.new row state node)) }
@@ -163,10 +187,11 @@ impl Edges {
         if row + self.width > MAX_EDGES || number >= MAX_EDGES || self.text.len() > MAX_TEXT {
             return Ok(None);
         }
+        let slot = self.slot_of(state, node);
         let pair = Pair {
             state,
             node,
-            earlier: head_of(&mut self.heads, state, number as u32),
+            earlier: head_of(&mut self.heads, slot, number as u32),
         };
         match push_row(&mut self.pairs, &mut self.edges, pair, self.width) {
             Ok(()) => Ok(Some(row)),
@@ -305,6 +330,34 @@ impl Edges {
             piece,
             buffer,
             Spot { at: 0, row, used },
+        )
+    }
+
+    /// How many classes a row has edges for.
+    pub fn width(&self) -> usize
+        ensures { result ≡ self.now.width }
+    {
+        self.width
+    }
+
+    /// Goes along edges from a row by the words of pieces while they are written, behind what is used of a buffer.
+    pub fn follow(&self, row: usize, pieces: &[Piece], buffer: &mut [u8], used: usize) -> Spot
+        requires row { (p : Pair) × IsRowOf self.now row p }
+        requires room { used + 17 * length pieces.now + 17 ≤ length buffer.old }
+        ensures at { result.at ≤ length pieces.now }
+        ensures used { result.used ≤ length buffer.new }
+        ensures trail { IsTrail self.now.edges self.now.text self.now.width (take result.at pieces.now) (record { row = row; writes = take used buffer.old }) (record { row = result.row; writes = take result.used buffer.new }) }
+        ensures stops { IsOver self.now.edges self.now.width result.row (drop result.at pieces.now) }
+        ensures ordered { IsOrdered self.now }
+    {
+        follow(
+            &self.edges,
+            self.width,
+            &self.text,
+            pieces,
+            buffer,
+            row,
+            used,
         )
     }
 

@@ -1,19 +1,22 @@
-// How an edge is learnt from the table and the machine.
+// How an edge is learnt, from the table or a list of words and the machine.
 
-ghost use Rattle.std.specs.Prelude.{◌≡◌, ◌<◌, true, IfOk, IfSome, length};
+ghost use Rattle.std.specs.Prelude.{◌≡◌, ◌<◌, true, IfOk, IfSome, OnOk, length};
 ghost use Rattle.kex_byteset.specs.Classes.{class_count};
 ghost use Rattle.kex_machine.specs.Nodes.{node_moves};
+ghost use Rattle.kex_sst.specs.Tables.{Transducer};
 ghost use Rattle.kex_action.specs.Holdings.{Rests};
 ghost use Rattle.kex_moves.specs.declared.edges.Pair.{Pair};
 ghost use Rattle.kex_moves.specs.Edges.{is_known};
-ghost use Rattle.kex_moves.specs.Known.{IsEdge, IsRight, IsRowOf, IsPairOf, IsKnown, IsLed, Grows};
+ghost use Rattle.kex_moves.specs.Known.{IsEdge, IsRight, IsRowOf, HasRowFor, IsPairOf, IsKnown, IsLed, Grows};
+ghost use Rattle.kex_moves.specs.Speech.{table_of};
 
 use crate::edge::Edge;
 use crate::edges::{Edges, Pair};
 use crate::settle::settle;
-use crate::walk::{Learnt, learn};
+use crate::walk::{Learnt, is_resting, learn};
 use kex_code::memory::Memory;
 use kex_machine::Trimmed;
+use kex_sst::parts::Parts;
 use kex_sst::table::Table;
 use std::alloc::Global;
 
@@ -21,17 +24,14 @@ use std::alloc::Global;
 // is no room for the row.
 fn lead(
     alloc: Global,
-    table: &Table,
     machine: &Trimmed,
     edges: &mut Edges,
     state: u32,
     learnt: &Learnt,
 ) -> Result<Option<Edge>, Memory>
-    requires state { state < length table.now.states }
     requires node { learnt.now.to < length machine.now.nodes }
     requires rests { Rests (node_moves machine.now.nodes learnt.now.to) }
-    requires known { IsKnown table.now machine.now edges.old }
-    ensures known { IfOk result (λ o. IsKnown table.now machine.now edges.new) }
+    ensures known { IfOk result (λ o. (t : Transducer) → state < length t.states → IsKnown t machine.now edges.old → IsKnown t machine.now edges.new) }
     ensures grows { IfOk result (λ o. Grows edges.old edges.new) }
     ensures led { IfOk result (λ o. IfSome o (IsLed machine.now.nodes edges.new state learnt.now.to learnt.now.actions.items)) }
 {
@@ -68,7 +68,7 @@ fn edge_of(
     let Some(learnt) = learn(alloc, machine, pair.node, update.out().as_slice())? else {
         return Ok(Some(Edge::plain()));
     };
-    lead(alloc, table, machine, edges, target, &learnt)
+    lead(alloc, machine, edges, target, &learnt)
 }
 
 /// Learns the edge of a row at a byte. False where there is no room for the row to which it leads.
@@ -92,4 +92,75 @@ pub fn learn_edge(
     };
     edges.put(row, class, edge);
     Ok(true)
+}
+
+// The edge of a pair at a word. `None` where there is no room for the row to which it leads.
+fn word_edge(
+    alloc: Global,
+    words: &[Parts],
+    machine: &Trimmed,
+    edges: &mut Edges,
+    pair: Pair,
+    word: u8,
+) -> Result<Option<Edge>, Memory>
+    requires pair { IsPairOf (table_of words.now) machine.now pair }
+    requires known { IsKnown (table_of words.now) machine.now edges.old }
+    ensures known { IfOk result (λ o. IsKnown (table_of words.now) machine.now edges.new) }
+    ensures grows { IfOk result (λ o. Grows edges.old edges.new) }
+    ensures edge { IfOk result (λ o. IfSome o (IsEdge edges.new)) }
+    ensures right { IfOk result (λ o. IfSome o (λ e. is_known e.kind ≡ true → IsRight (table_of words.now) machine.now.nodes edges.new pair word e)) }
+{
+    let Some(parts) = words.get(word as usize) else {
+        return Ok(Some(Edge::plain()));
+    };
+    let Some(learnt) = learn(alloc, machine, pair.node, parts.as_slice())? else {
+        return Ok(Some(Edge::plain()));
+    };
+    lead(alloc, machine, edges, 0, &learnt)
+}
+
+/// Learns the edge of a row at a word, if there is room for the row to which it leads.
+pub fn learn_word(
+    alloc: Global,
+    words: &[Parts],
+    machine: &Trimmed,
+    edges: &mut Edges,
+    row: usize,
+    word: u8,
+) -> Result<(), Memory>
+    requires row { (p : Pair) × IsRowOf edges.old row p }
+    requires word { word < edges.old.width }
+    requires known { IsKnown (table_of words.now) machine.now edges.old }
+    ensures known { OnOk result (IsKnown (table_of words.now) machine.now edges.new) }
+{
+    let pair = edges.pair_at(row);
+    if let Some(edge) = word_edge(alloc, words, machine, edges, pair, word)? {
+        edges.put(row, word, edge);
+    }
+    Ok(())
+}
+
+/// The row of a state and a node. `None` where no symbol comes next at the node, where there is no such state, and where
+/// there is no room for the row: all is forgotten then.
+pub fn row_for(
+    machine: &Trimmed,
+    edges: &mut Edges,
+    states: usize,
+    state: u32,
+    node: u32,
+) -> Result<Option<usize>, Memory>
+    ensures known { IfOk result (λ o. (t : Transducer) → length t.states ≡ states → IsKnown t machine.now edges.old → IsKnown t machine.now edges.new) }
+    ensures row { IfOk result (λ o. IfSome o (λ row. HasRowFor edges.new row state node)) }
+{
+    if let Some(row) = edges.find(state, node) {
+        return Ok(Some(row));
+    }
+    if state as usize >= states || !is_resting(machine, node) {
+        return Ok(None);
+    }
+    let row = edges.add(state, node)?;
+    if row.is_none() {
+        edges.forget();
+    }
+    Ok(row)
 }

@@ -1,15 +1,20 @@
 //! The hot loop of a stage over a table: along bytes whose updates say a code alone, without registers, it goes with the
 //! table and the actor at once, by what it has learnt of both.
 //!
-//! Stands on tables and actors. `Moves::run` takes a part of a piece of input; `RunsOn` says what it leaves.
+//! Stands on tables and actors. `Moves::run` takes a part of a piece of input; `RunsOn` says what it leaves. `Phrases::say`
+//! performs the words that a runner hands on where registers are held, by what was learnt of each word at each node.
 #![tactic(auto)]
 
 mod along;
 mod edge;
 mod edges;
+mod follow;
 mod learn;
 pub mod moves;
+pub mod phrases;
 mod put;
 mod run;
 mod settle;
+mod spell;
+mod tell;
 mod walk;

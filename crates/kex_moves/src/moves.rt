@@ -5,7 +5,7 @@ ghost use Rattle.kex_moves.specs.Along.{RunsOn};
 
 pub use crate::along::Ran;
 use crate::along::{ROOM, run_at};
-use crate::edges::Edges;
+use crate::edges::{By, Edges};
 use kex_action::actor::Actor;
 use kex_action::sheet::Sheet;
 use kex_code::memory::Memory;
@@ -54,8 +54,8 @@ fn classes_of(table: &Table) -> [u8; 256]
     classes
 }
 
-// The least power of two that is no less than a count.
-fn shift_of(count: u16) -> u32
+/// The least power of two that is no less than a count.
+pub fn shift_of(count: u16) -> u32
     requires { count ≤ 256 }
     ensures within { result ≤ 8 }
     ensures enough { count ≤ 2 ^ result }
@@ -73,7 +73,8 @@ impl<'p> Moves<'p> {
         ensures { IfOk result (λ m. m ≡ record { table = table.now; machine = machine.now }) }
     {
         let shift = shift_of(table.partition().classes());
-        let edges = Edges::new(alloc, classes_of(table), shift, table.states().len())?;
+        let states = table.states().len();
+        let edges = Edges::new(alloc, classes_of(table), shift, By::State, states)?;
         let sheet = Sheet::new(alloc, ROOM)?;
         Ok(Moves {
             alloc,

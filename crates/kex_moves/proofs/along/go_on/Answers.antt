@@ -3,7 +3,7 @@ use Rattle.std.proofs.lemmas.List.{take-take}
 use Rattle.kex_moves.specs.Known.{IsKnown}
 use Rattle.kex_moves.specs.Along.{ReachedOn}
 use Rattle.kex_moves.proofs.Knowing.{pair_known}
-use Rattle.kex_moves.proofs.Going.{byte_more}
+use Rattle.kex_moves.proofs.Going.{one_more}
 use Rattle.kex_moves.proofs.Carrying.{reached_from, reached_on}
 use Rattle.kex_moves.proofs.along.go_on.Goals as goal
 
@@ -64,7 +64,7 @@ returns-clause-reached c =
     let lt : count < length piece = omega (arith, within, c.along-place.ensures.within, c.if-count-piece.false) in
     let run = reached_from t k k old mid mid c.args.sheet.now c.make_room.new.sheet c.along-place.new.sheet c.args.row c.along-place.result.row (take count part) x0 x1 x1 made.same (c.along-place.ensures.reached t mid x1 known) in
     let all = reached_on t k k c.next.new.edges old mid new c.args.sheet.now c.along-place.new.sheet c.next.new.sheet c.args.row c.along-place.result.row c.in_ok-last.last.row (take count part) (take one (byte ∷ [])) x0 x1 y run last.reached in
-    subst (λ l. ReachedOn t k c.next.new.edges old new c.args.sheet.now c.next.new.sheet c.args.row c.in_ok-last.last.row l x0 y) (ap (λ l. l ++ take one (byte ∷ [])) same ∙ byte_more piece count one lt last.within) all
+    subst (λ l. ReachedOn t k c.next.new.edges old new c.args.sheet.now c.next.new.sheet c.args.row c.in_ok-last.last.row l x0 y) (ap (λ l. l ++ take one (byte ∷ [])) same ∙ one_more piece 0 count one lt last.within) all
 
 pub bounds-piece-count : goal.bounds-piece-count
 bounds-piece-count c =

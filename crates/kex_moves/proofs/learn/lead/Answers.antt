@@ -5,19 +5,19 @@ use Rattle.kex_moves.proofs.Knowing.{known_wider, known_longer, grows_wider, gro
 use Rattle.kex_moves.proofs.learn.lead.Goals as goal
 
 pub returns-in_default-clause-known : goal.returns-in_default-clause-known
-returns-in_default-clause-known c =
+returns-in_default-clause-known c = λ t state known.
     let w = c.in_ok-row.ensures {u = tt} in
-    known_wider c.args.table.now c.args.machine.now c.args.edges.now c.row_of.new.self c.args.state c.args.learnt.now.to c.requires.known w.wider w.ordered c.requires.state c.requires.node c.requires.rests
+    known_wider t c.args.machine.now c.args.edges.now c.row_of.new.self c.args.state c.args.learnt.now.to known w.wider w.ordered state c.requires.node c.requires.rests
 
 pub returns-in_default-clause-grows : goal.returns-in_default-clause-grows
 returns-in_default-clause-grows c = grows_wider c.args.edges.now c.row_of.new.self c.args.state c.args.learnt.now.to (c.in_ok-row.ensures {u = tt}).wider
 
 pub returns-clause-known : goal.returns-clause-known
-returns-clause-known c =
+returns-clause-known c = λ t state known.
     let w = c.in_ok-row.ensures {u = tt} in
-    let mid = known_wider c.args.table.now c.args.machine.now c.args.edges.now c.row_of.new.self c.args.state c.args.learnt.now.to c.requires.known w.wider w.ordered c.requires.state c.requires.node c.requires.rests in
+    let mid = known_wider t c.args.machine.now c.args.edges.now c.row_of.new.self c.args.state c.args.learnt.now.to known w.wider w.ordered state c.requires.node c.requires.rests in
     let l = c.in_ok-edge.ensures {u = tt} in
-    known_longer c.args.table.now c.args.machine.now c.row_of.new.self c.settle.new.edges mid l.longer l.ordered
+    known_longer t c.args.machine.now c.row_of.new.self c.settle.new.edges mid l.longer l.ordered
 
 pub returns-clause-grows : goal.returns-clause-grows
 returns-clause-grows c = grows_longer c.args.edges.now c.row_of.new.self c.settle.new.edges (grows_wider c.args.edges.now c.row_of.new.self c.args.state c.args.learnt.now.to (c.in_ok-row.ensures {u = tt}).wider) (c.in_ok-edge.ensures {u = tt}).longer

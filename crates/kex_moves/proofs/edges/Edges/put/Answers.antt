@@ -1,4 +1,4 @@
-use Rattle.std.proofs.Common.{◌∙◌, ◌+◌, ◌<◌, ℕ, get_or, set, sym, subst}
+use Rattle.std.proofs.Common.{◌∙◌, ◌+◌, ◌≤◌, ℕ, get_or, set, sym, subst}
 use Rattle.std.proofs.Math.ListN.{length-set}
 use Rattle.std.proofs.lemmas.List.Elements.{All-set}
 use Rattle.kex_moves.specs.declared.edge.Edge.{Edge}
@@ -11,7 +11,7 @@ with_edge k i e = record { classes = k.classes; width = k.width; shift = k.shift
 
 stays : (k : Known) (i : ℕ) (e x : Edge) → IsEdge k x → IsEdge (with_edge k i e) x
 stays k i e x h = record {
-  next = λ known j d lt. subst (λ n. x.next + get_or k.classes j d < n) (sym (length-set k.edges i e)) (h.next known j d lt);
+  next = λ known. subst (λ n. x.next + k.width ≤ n) (sym (length-set k.edges i e)) (h.next known);
   room = h.room;
   acts = h.acts;
 }

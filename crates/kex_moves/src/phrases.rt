@@ -1,0 +1,115 @@
+// What the words of a list do at the nodes of a machine.
+
+ghost use Rattle.std.specs.Prelude.{◌≡◌, ◌≤◌, ◌^◌, IsTrue, IfOk, OnOk};
+ghost use Rattle.kex_script.specs.Pieces.{spelled};
+ghost use Rattle.kex_moves.specs.Speech.{Performs};
+
+use crate::along::ROOM;
+use crate::edges::{By, Edges};
+use crate::moves::shift_of;
+use crate::tell::tell;
+use kex_action::actor::Actor;
+use kex_action::sheet::Sheet;
+use kex_code::memory::Memory;
+use kex_code::symbol::Symbol;
+use kex_machine::Trimmed;
+use kex_script::piece::Piece;
+use kex_sst::parts::Parts;
+use std::alloc::Global;
+use std::marker::Model;
+
+/// How many words have edges.
+const MOST: usize = 256;
+
+/// What the words of a list do at the nodes of a machine: an edge for each node and word, learnt when it is first met.
+///
+/// The first 256 words have edges; those behind them are performed symbol by symbol. Once a call has answered `Memory` the
+/// actor may only be dropped, and each later call answers it too.
+#[derive(Drop)]
+pub struct Phrases<'p> {
+    alloc: Global,
+    words: Vec<Parts>,
+    machine: &'p Trimmed,
+    edges: Edges,
+    sheet: Sheet,
+    symbols: Vec<Symbol>,
+    usable: bool,
+}
+
+impl<'p> Model for Phrases<'p> {
+    ghost use Rattle.std.specs.Prelude.{◌≡◌, IsTrue, length};
+    ghost use Rattle.kex_moves.specs.Known.{IsKnown};
+    ghost use Rattle.kex_action.specs.Sheets.{IsBlank};
+    ghost use Rattle.kex_moves.specs.Speech.{Speech, table_of};
+    ghost use Rattle.kex_moves.specs.declared.along.TheConstants.{ROOM};
+
+    ghost Value = { Speech };
+
+    ghost view = { λ p. record { words = p.words.items; machine = p.machine.now } };
+
+    ghost invariant = { λ p. IsTrue p.usable → IsKnown (table_of p.words.items) p.machine.now p.edges × IsBlank p.sheet × (length p.sheet.bytes.items ≡ ROOM) };
+}
+
+// The same words again.
+fn copy_of(alloc: Global, words: &[Parts]) -> Result<Vec<Parts>, Memory>
+    ensures { IfOk result (λ copy. copy.items ≡ words.now) }
+{
+    let mut copy = Vec::new(alloc);
+    for word in words {
+        copy.push(word.copy(alloc)?)?;
+    }
+    Ok(copy)
+}
+
+impl<'p> Phrases<'p> {
+    /// Nothing is learnt. The words are copied.
+    pub fn new(alloc: Global, words: &[Parts], machine: &'p Trimmed) -> Result<Phrases<'p>, Memory>
+        ensures { IfOk result (λ p. p ≡ record { words = words.now; machine = machine.now }) }
+    {
+        let shift = shift_of(words.len().min(MOST) as u16);
+        let classes = [0; 256];
+        let edges = Edges::new(alloc, classes, shift, By::Node, machine.nodes().len())?;
+        Ok(Phrases {
+            alloc,
+            words: copy_of(alloc, words)?,
+            machine,
+            edges,
+            sheet: Sheet::new(alloc, ROOM)?,
+            symbols: Vec::new(alloc),
+            usable: true,
+        })
+    }
+
+    /// Performs what the pieces spell. What is written is appended to `out`.
+    pub fn say(
+        &mut self,
+        actor: &mut Actor<'p>,
+        pieces: &[Piece],
+        out: &mut Vec<u8>,
+    ) -> Result<(), Memory>
+        requires usable { IsTrue actor.old.usable }
+        requires machine { actor.old.machine ≡ self.old.machine }
+        ensures performs { OnOk result (Performs actor.old actor.new (spelled self.old.words pieces.now) out.old.items out.new.items) }
+        ensures same { self.new ≡ self.old }
+        ensures machine { actor.new.machine ≡ actor.old.machine }
+        ensures usable { OnOk result (IsTrue actor.new.usable) }
+    {
+        if !self.usable {
+            return Err(Memory);
+        }
+        self.usable = false;
+        tell(
+            self.alloc,
+            &self.words,
+            self.machine,
+            &mut self.edges,
+            &mut self.sheet,
+            &mut self.symbols,
+            actor,
+            pieces,
+            out,
+        )?;
+        self.usable = true;
+        Ok(())
+    }
+}

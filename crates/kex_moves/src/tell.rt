@@ -1,0 +1,256 @@
+// Pieces along edges with the actor, in which new edges are learnt.
+
+ghost use Rattle.std.specs.Prelude.{◌≡◌, ◌<◌, ◌≤◌, ◌+◌, ◌*◌, ℕ, List, [], ◌∷◌, IsTrue, IfOk, OnOk, length, take, drop};
+ghost use Rattle.kex_sst.specs.declared.parts.Part.{Part};
+ghost use Rattle.kex_action.specs.Actors.{Position};
+ghost use Rattle.kex_action.specs.Sheets.{IsSheet, IsBlank, IsAsLong};
+ghost use Rattle.kex_script.specs.Pieces.{spelled};
+ghost use Rattle.kex_moves.specs.declared.along.TheConstants.{ROOM};
+ghost use Rattle.kex_moves.specs.declared.edges.Pair.{Pair};
+ghost use Rattle.kex_moves.specs.Known.{IsRowOf, IsKnown};
+ghost use Rattle.kex_moves.specs.Speech.{table_of, Performs, SaidOn};
+
+use crate::along::{Place, Stride, act, arrive, make_room, part_of, rounds_left};
+use crate::edge::Kind;
+use crate::edges::Edges;
+use crate::learn::{learn_word, row_for};
+use crate::spell::take_word;
+use kex_action::actor::Actor;
+use kex_action::sheet::Sheet;
+use kex_code::memory::Memory;
+use kex_code::symbol::Symbol;
+use kex_machine::Trimmed;
+use kex_script::piece::Piece;
+use kex_sst::parts::Parts;
+use std::alloc::Global;
+
+// Goes along edges while they are written, on a sheet.
+#[inline(always)]
+fn along(edges: &Edges, sheet: &mut Sheet, row: usize, pieces: &[Piece]) -> Place
+    requires row { (p : Pair) × IsRowOf edges.now row p }
+    requires sheet { IsSheet sheet.old }
+    requires room { sheet.old.used + 17 * length pieces.now + 17 ≤ length sheet.old.bytes.items }
+    ensures within { result.count ≤ length pieces.now }
+    ensures sheet { IsSheet sheet.new × IsAsLong sheet.old sheet.new }
+    ensures said { (words : List (List Part)) (a : Position) (out : List ℕ) → IsKnown (table_of words) a.machine edges.now → SaidOn edges.now a a sheet.old sheet.new row result.row (spelled words (take result.count pieces.now)) out out }
+{
+    let spot = edges.follow(row, pieces, &mut sheet.bytes, sheet.used);
+    sheet.used = spot.used;
+    Place {
+        count: spot.at,
+        row: spot.row,
+    }
+}
+
+// Takes a piece at whose edge actions are done. Nothing is taken at another one.
+#[inline(always)]
+fn act_next(
+    edges: &Edges,
+    row: usize,
+    piece: Piece,
+    actor: &mut Actor,
+    sheet: &mut Sheet,
+    out: &mut Vec<u8>,
+) -> Result<Stride, Memory>
+    requires usable { IsTrue actor.old.usable }
+    requires known { (words : List (List Part)) × IsKnown (table_of words) actor.old.machine edges.now }
+    requires row { (p : Pair) × IsRowOf edges.now row p }
+    requires sheet { IsSheet sheet.old }
+    ensures within { IfOk result (λ s. s.count ≤ 1) }
+    ensures said { IfOk result (λ s. (words : List (List Part)) → IsKnown (table_of words) actor.old.machine edges.now → SaidOn edges.now actor.old actor.new sheet.old sheet.new row s.row (spelled words (take s.count (piece ∷ []))) out.old.items out.new.items) }
+    ensures sheet { OnOk result (IsSheet sheet.new × IsAsLong sheet.old sheet.new) }
+    ensures machine { actor.new.machine ≡ actor.old.machine }
+    ensures usable { OnOk result (IsTrue actor.new.usable) }
+{
+    if piece.word as usize >= edges.width() {
+        return Ok(Stride {
+            count: 0,
+            row,
+            stops: true,
+        });
+    }
+    let edge = edges.edge_at(row, piece.word as u8);
+    match edge.kind {
+        Kind::Acts => {
+            act(edges, edge, piece.byte, actor, sheet, out)?;
+            Ok(Stride {
+                count: 1,
+                row: edge.next,
+                stops: false,
+            })
+        }
+        _ => Ok(Stride {
+            count: 0,
+            row,
+            stops: true,
+        }),
+    }
+}
+
+// Goes on from a row over some of the pieces, and does the actions of one more.
+fn go_on(
+    edges: &Edges,
+    sheet: &mut Sheet,
+    row: usize,
+    actor: &mut Actor,
+    pieces: &[Piece],
+    out: &mut Vec<u8>,
+) -> Result<Stride, Memory>
+    requires usable { IsTrue actor.old.usable }
+    requires known { (words : List (List Part)) × IsKnown (table_of words) actor.old.machine edges.now }
+    requires row { (p : Pair) × IsRowOf edges.now row p }
+    requires sheet { IsSheet sheet.old }
+    requires room { length sheet.old.bytes.items ≡ ROOM }
+    ensures within { IfOk result (λ s. s.count ≤ length pieces.now) }
+    ensures said { IfOk result (λ s. (words : List (List Part)) → IsKnown (table_of words) actor.old.machine edges.now → SaidOn edges.now actor.old actor.new sheet.old sheet.new row s.row (spelled words (take s.count pieces.now)) out.old.items out.new.items) }
+    ensures sheet { OnOk result (IsSheet sheet.new × IsAsLong sheet.old sheet.new) }
+    ensures machine { actor.new.machine ≡ actor.old.machine }
+    ensures usable { OnOk result (IsTrue actor.new.usable) }
+{
+    make_room(edges, row, actor, sheet, out)?;
+    let place = along(edges, sheet, row, part_of(pieces));
+    let count = place.count;
+    if count == pieces.len() {
+        return Ok(Stride {
+            count,
+            row: place.row,
+            stops: true,
+        });
+    }
+    let last = act_next(edges, place.row, pieces[count], actor, sheet, out)?;
+    Ok(Stride {
+        count: count + last.count,
+        row: last.row,
+        stops: last.stops,
+    })
+}
+
+// Goes on from the row of the actor's node as far as edges go.
+fn tell_from(
+    edges: &Edges,
+    sheet: &mut Sheet,
+    from: usize,
+    actor: &mut Actor,
+    pieces: &[Piece],
+    out: &mut Vec<u8>,
+) -> Result<Place, Memory>
+    requires usable { IsTrue actor.old.usable }
+    requires known { (words : List (List Part)) × IsKnown (table_of words) actor.old.machine edges.now }
+    requires row { (p : Pair) × IsRowOf edges.now from p × (p.node ≡ actor.old.at) }
+    requires room { length sheet.old.bytes.items ≡ ROOM }
+    requires none { IsBlank sheet.old }
+    ensures row { IfOk result (λ place. (p : Pair) × IsRowOf edges.now place.row p) }
+    ensures within { IfOk result (λ place. place.count ≤ length pieces.now) }
+    ensures performs { IfOk result (λ place. (words : List (List Part)) → IsKnown (table_of words) actor.old.machine edges.now → Performs actor.old actor.new (spelled words (take place.count pieces.now)) out.old.items out.new.items) }
+    ensures none { OnOk result (IsBlank sheet.new) }
+    ensures room { OnOk result (IsAsLong sheet.old sheet.new) }
+    ensures machine { actor.new.machine ≡ actor.old.machine }
+    ensures usable { OnOk result (IsTrue actor.new.usable) }
+{
+    let mut row = from;
+    let mut at = 0;
+    let mut left = pieces.len();
+    'rounds: while left > 0 {
+        let gone = go_on(edges, sheet, row, actor, &pieces[at..], out)?;
+        at += gone.count;
+        row = gone.row;
+        left = rounds_left(gone.stops, left);
+    }
+    let _state = arrive(edges, row, actor, sheet, out)?;
+    Ok(Place { count: at, row })
+}
+
+// Learns the edge of a row at the first of some pieces, if it isn't learnt.
+fn learn_next(
+    alloc: Global,
+    words: &[Parts],
+    machine: &Trimmed,
+    edges: &mut Edges,
+    row: usize,
+    pieces: &[Piece],
+) -> Result<(), Memory>
+    requires known { IsKnown (table_of words.now) machine.now edges.old }
+    requires row { (p : Pair) × IsRowOf edges.old row p }
+    ensures { OnOk result (IsKnown (table_of words.now) machine.now edges.new) }
+{
+    let Some(piece) = pieces.first() else {
+        return Ok(());
+    };
+    if piece.word as usize >= edges.width() {
+        return Ok(());
+    }
+    let word = piece.word as u8;
+    match edges.edge_at(row, word).kind {
+        Kind::Unknown => learn_word(alloc, words, machine, edges, row, word),
+        _ => Ok(()),
+    }
+}
+
+// Performs pieces as far as edges go, and learns the edge of the next one.
+fn tell_some(
+    alloc: Global,
+    words: &[Parts],
+    machine: &Trimmed,
+    edges: &mut Edges,
+    sheet: &mut Sheet,
+    actor: &mut Actor,
+    pieces: &[Piece],
+    out: &mut Vec<u8>,
+) -> Result<usize, Memory>
+    requires usable { IsTrue actor.old.usable }
+    requires machine { actor.old.machine ≡ machine.now }
+    requires known { IsKnown (table_of words.now) machine.now edges.old }
+    requires room { length sheet.old.bytes.items ≡ ROOM }
+    requires none { IsBlank sheet.old }
+    ensures known { OnOk result (IsKnown (table_of words.now) machine.now edges.new) }
+    ensures within { IfOk result (λ count. count ≤ length pieces.now) }
+    ensures performs { IfOk result (λ count. Performs actor.old actor.new (spelled words.now (take count pieces.now)) out.old.items out.new.items) }
+    ensures none { OnOk result (IsBlank sheet.new) }
+    ensures room { OnOk result (IsAsLong sheet.old sheet.new) }
+    ensures machine { actor.new.machine ≡ actor.old.machine }
+    ensures usable { OnOk result (IsTrue actor.new.usable) }
+{
+    let Some(row) = row_for(machine, edges, 1, 0, actor.node())? else {
+        return Ok(0);
+    };
+    let place = tell_from(edges, sheet, row, actor, pieces, out)?;
+    let rest = &pieces[place.count..];
+    learn_next(alloc, words, machine, edges, place.row, rest)?;
+    Ok(place.count)
+}
+
+/// Performs pieces: by edges, and symbol by symbol where no edge is known.
+pub fn tell(
+    alloc: Global,
+    words: &[Parts],
+    machine: &Trimmed,
+    edges: &mut Edges,
+    sheet: &mut Sheet,
+    symbols: &mut Vec<Symbol>,
+    actor: &mut Actor,
+    pieces: &[Piece],
+    out: &mut Vec<u8>,
+) -> Result<(), Memory>
+    requires usable { IsTrue actor.old.usable }
+    requires machine { actor.old.machine ≡ machine.now }
+    requires known { IsKnown (table_of words.now) machine.now edges.old }
+    requires room { length sheet.old.bytes.items ≡ ROOM }
+    requires none { IsBlank sheet.old }
+    ensures known { OnOk result (IsKnown (table_of words.now) machine.now edges.new) }
+    ensures performs { OnOk result (Performs actor.old actor.new (spelled words.now pieces.now) out.old.items out.new.items) }
+    ensures none { OnOk result (IsBlank sheet.new) }
+    ensures room { OnOk result (IsAsLong sheet.old sheet.new) }
+    ensures machine { actor.new.machine ≡ actor.old.machine }
+    ensures usable { OnOk result (IsTrue actor.new.usable) }
+{
+    let mut at = 0;
+    'pieces: while at < pieces.len() {
+        let rest = &pieces[at..];
+        at += tell_some(alloc, words, machine, edges, sheet, actor, rest, out)?;
+        if at < pieces.len() {
+            take_word(words, pieces[at], symbols, actor, out)?;
+            at += 1;
+        }
+    }
+    Ok(())
+}
