@@ -17,4 +17,6 @@ mod run;
 mod settle;
 mod spell;
 mod tell;
+#[cfg(test)]
+mod tests;
 mod walk;

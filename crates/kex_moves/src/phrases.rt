@@ -30,7 +30,7 @@ pub struct Phrases<'p> {
     alloc: Global,
     words: Vec<Parts>,
     machine: &'p Trimmed,
-    edges: Edges,
+    pub(crate) edges: Edges,
     sheet: Sheet,
     symbols: Vec<Symbol>,
     usable: bool,
