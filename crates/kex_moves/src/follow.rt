@@ -10,6 +10,8 @@ use crate::run::Spot;
 use kex_script::piece::Piece;
 
 /// Goes along edges while they are written. A row has so many edges as its width.
+// Not inlined: within a long caller what the loop reads for each piece would stand in memory.
+#[inline(never)]
 pub fn follow(
     edges: &[Edge],
     width: usize,
