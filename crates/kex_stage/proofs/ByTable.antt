@@ -21,6 +21,7 @@ use Rattle.kex_runner.specs.declared.answers.Fed.TheVariants.{On, Dead}
 use Rattle.kex_runner.specs.declared.answers.Ended.TheVariants.{Parsed, Cut}
 use Rattle.kex_runner.proofs.Standing.{stopped_none}
 use Rattle.kex_stage.specs.declared.follower.Follower.{Follower}
+use Rattle.kex_stage.specs.declared.oracle.Oracle.{Oracle}
 use Rattle.kex_stage.specs.declared.oracle.Oracle.TheVariants.{Table}
 use Rattle.kex_stage.specs.Oracles.{Hears, Agrees, HearsOn, Tells, TellsEnd}
 use Rattle.kex_stage.proofs.Telling.{take_all}
@@ -149,3 +150,25 @@ pub table_told : (f : Follower) (g : Graph) (w : List ℕ) (c : List Symbol) →
 table_told f g w c none h v =
     let live = still_live g f.runner.table h.0 h.1 f.runner w c refl h.3 v in
     subst (λ z. Agrees g w z) (ap (λ z. c ++ z) none ∙ append-nil c) (table_agrees g f.runner.table h.0 h.1 w (pass_of f.runner c) live.passes)
+
+-- what was told is told whatever else the follower keeps
+pub still_tells : (o : Oracle) (f n : Follower) (piece : List ℕ) (count : ℕ) (before after : List Symbol) → n.runner ≡ f.runner → n.moves ≡ f.moves → Tells o (Table f) piece count before after → Tells o (Table n) piece count before after
+still_tells o f n piece count before after runner moves t = record {
+  more = t.more;
+  code = t.code;
+  within = t.within;
+  tells = λ g w c h v.
+      let k = t.tells g w c h v in
+      record {
+        hears = λ e.
+            let q = k.hears e in (
+              q.0,
+              subst (λ r. IsTableOf g r.table) (sym runner) q.1,
+              ap (λ m. m.table) moves ∙ q.2 ∙ ap (λ r. r.table) (sym runner),
+              subst (λ r. StandsFor r (w ++ piece) (c ++ t.more)) (sym runner) q.3,
+            );
+        good = k.good;
+        bad = k.bad;
+        agrees = k.agrees;
+      };
+}

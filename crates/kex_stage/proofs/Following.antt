@@ -140,24 +140,51 @@ runs_go f new a b q count bs before after none no_registers moves table mb long 
 }
 
 -- a part is run, and a part read behind it
-pub strides : (refused : Bool) (o m n : Oracle) (a b c : Position) (piece next rest : List ℕ) (ran count : ℕ) (x y z : List ℕ) → piece ≡ take ran piece ++ (next ++ rest) → ran ≤ length piece → Goes o m a b (take ran piece) x y → Works m n b c next count y z → (refused ≡ true → count < length next) → (refused ≡ false → length next ≤ count) → HasGone refused o n a c piece (ran + count) x z
-strides true o m n a b c piece next rest ran count x y z is le first then r k =
-    let lt : count < length next = r refl in
+pub strides : (refused : Bool) (o m n : Oracle) (a b c : Position) (piece next rest : List ℕ) (ran count : ℕ) (x y z : List ℕ) → piece ≡ take ran piece ++ (next ++ rest) → ran ≤ length piece → count ≤ length next → Goes o m a b (take ran piece) x y → HasGone refused m n b c next count y z → HasGone refused o n a c piece (ran + count) x z
+strides true o m n a b c piece next rest ran count x y z is le within first then =
+    let lt : count < length next = then.0 in
     let long : length (take ran piece) ≡ ran = length-take-le ran piece le in
     let all : (take ran piece ++ next) ++ rest ≡ piece = append_assoc (take ran piece) next rest ∙ sym is in
-    let done = works_longer o n a c (take ran piece ++ next) rest (length (take ran piece) + count) x z (omega (arith, length-append (take ran piece) next, lt)) (works_more o m n a b c (take ran piece) next count x y z first then lt) in (
+    let done = works_longer o n a c (take ran piece ++ next) rest (length (take ran piece) + count) x z (omega (arith, length-append (take ran piece) next, lt)) (works_more o m n a b c (take ran piece) next count x y z first then.1 lt) in (
       omega (arith, ap length is, length-append (take ran piece) (next ++ rest), length-append next rest, long, lt),
       subst (λ k. Works o n a c piece (k + count) x z) long (subst (λ p. Works o n a c p (length (take ran piece) + count) x z) all done),
     )
-strides false o m n a b c piece next rest ran count x y z is le first then r k =
-    let e : count ≡ length next = omega (arith, k refl, then.within) in
+strides false o m n a b c piece next rest ran count x y z is le within first then =
     let long : length (take ran piece) ≡ ran = length-take-le ran piece le in
-    let both : take ran piece ++ next ≡ take (ran + count) piece =
-    ap (λ u. take ran piece ++ u) (sym (take_all next) ∙ ap (λ i. take i next) (sym e) ∙ sym (take_front next rest count (omega (arith, e))))
+    let both : take ran piece ++ take count next ≡ take (ran + count) piece =
+    ap (λ u. take ran piece ++ u) (sym (take_front next rest count within))
     ∙ sym (take_past (take ran piece) (next ++ rest) count)
     ∙ ap (λ i. take (i + count) (take ran piece ++ (next ++ rest))) long
     ∙ ap (λ u. take (ran + count) u) (sym is) in
-    subst (λ p. Goes o n a c p x z) both (goes_more o m n a b c (take ran piece) next x y z first (goes_all m n b c next count y z e then))
+    subst (λ p. Goes o n a c p x z) both (goes_more o m n a b c (take ran piece) (take count next) x y z first then)
+
+-- the front of a piece is read: all of it is good, or a byte of it is refused
+pub fronts : (refused : Bool) (o n : Oracle) (a b : Position) (piece : List ℕ) (taken count : ℕ) (x y : List ℕ) → taken ≤ length piece → HasGone refused o n a b (take taken piece) count x y → count ≤ taken → HasGone refused o n a b piece count x y
+fronts true o n a b piece taken count x y le h within =
+    let long = length-take-le taken piece le in
+    (omega (arith, h.0, long, le), subst (λ p. Works o n a b p count x y) (take-append-drop taken piece) (works_longer o n a b (take taken piece) (drop taken piece) count x y h.0 h.1))
+fronts false o n a b piece taken count x y le h within =
+    let long = length-take-le taken piece le in
+    subst (λ p. Goes o n a b p x y) (sym (take_front (take taken piece) (drop taken piece) count (omega (arith, long, within))) ∙ ap (λ p. take count p) (take-append-drop taken piece)) h
+
+-- the actor does what needs no symbol
+pub rests : (o : Oracle) (a b : Position) (x y : List ℕ) → TookAll a b [] x y → b.machine ≡ a.machine → Goes o o a b [] x y
+rests o a b x y took mb = record {
+  goes = λ g w text f v.
+      let done : HasPerformed b f.code f.code (text ++ took.went.more) = subst (λ u. HasPerformed b u u (text ++ took.went.more)) (append-nil f.code) (took.went.performed f.code f.code text f.performed) in
+      record {
+        more = took.went.more;
+        written = took.went.written;
+        followed = subst (λ z. Followed g o b z (text ++ took.went.more)) (sym (append-nil w)) (record { code = f.code; hears = f.hears; performed = done; machine = mb ∙ f.machine });
+        good = subst (λ z. Viable g z) (sym (append-nil w)) v;
+      };
+}
+
+-- of no bytes none is refused
+pub none_refused : (refused : Bool) (o n : Oracle) (a b : Position) (count : ℕ) (x y : List ℕ) → count ≤ 0 → HasGone refused o n a b [] count x y → Goes o n a b [] x y
+none_refused true o n a b count x y le h = absurd (omega (arith, h.0))
+none_refused false o n a b zero x y le h = h
+none_refused false o n a b (suc k) x y le h = absurd (omega arith)
 
 -- a piece in two, as the code cuts it
 pub cut_at : (piece : List ℕ) (at : ℕ) → take at piece ++ take (length piece - at) (drop at piece) ≡ piece

@@ -1,212 +1,50 @@
 // A runner of a table, and what was learnt of the table and the actor.
 
-ghost use Rattle.std.specs.Prelude.{◌≡◌, ◌+◌, ◌^◌, ◌<◌, ◌≤◌, [], true, false, IfOk, OnOk, IsTrue, length, take};
-ghost use Rattle.kex_stage.specs.Oracles.{Tells, TellsEnd};
-ghost use Rattle.kex_stage.specs.Works.{Goes, Works};
-ghost use Rattle.kex_stage.specs.Strides.{HasGone};
+ghost use Rattle.std.specs.Prelude.{◌≡◌, [], false, IfOk, IsTrue};
+ghost use Rattle.kex_runner.specs.Running.{StandsFor};
 
-use crate::oracle::Oracle;
-use crate::speak::speak;
-use kex_action::actor::Actor;
-use kex_code::code::Code;
 use kex_code::memory::Memory;
+use kex_machine::Trimmed;
 use kex_moves::moves::Moves;
-use kex_runner::Ended;
+use kex_moves::phrases::Phrases;
 use kex_runner::runner::Runner;
+use kex_script::piece::Piece;
+use kex_sst::table::Table;
+use std::alloc::Global;
 
-// How many bytes are read at most by the runner at once.
-const HELD: usize = 4096;
-
-/// A runner of a table, and what was learnt of the table and the actor, by which both go on at once where no registers are.
+/// A runner of a table; what was learnt of the table and the actor, by which both go on at once where no registers are; and what
+/// was learnt of the runner's words, by which the actor performs what is passed on where there are some.
 #[derive(Drop)]
 pub struct Follower<'p> {
     pub runner: Runner<'p>,
     pub moves: Moves<'p>,
-}
-
-// So many bytes are good, and the byte behind them was refused or not.
-#[derive(Clone, Copy)]
-struct Stride {
-    count: usize,
-    refused: bool,
-}
-
-// So many bytes were taken, of which so many are good: all, or all but the last.
-#[derive(Clone, Copy)]
-struct Heard {
-    taken: usize,
-    good: usize,
+    pub phrases: Phrases<'p>,
+    // What was passed on last.
+    pub pieces: Vec<Piece>,
+    ghost same_words: { phrases.words ≡ runner.words },
+    ghost same_machine: { phrases.machine ≡ moves.machine },
 }
 
 impl<'p> Follower<'p> {
-    // What the table passes on along the front of a piece is put behind a code, up to a byte behind which there are no registers.
-    fn hear(&mut self, piece: &[u8], code: &mut Code) -> Result<Heard, Memory>
-        requires usable { IsTrue self.old.runner.usable }
-        requires open { self.old.runner.ended ≡ false }
-        requires room { self.old.runner.read + length piece.now < 2 ^ 64 }
-        ensures tells { IfOk result (λ h. Tells (Oracle.Table self.old) (Oracle.Table self.new) (take h.taken piece.now) h.good code.old code.new) }
-        ensures taken { IfOk result (λ h. h.taken ≤ length piece.now) }
-        ensures some { IfOk result (λ h. 0 < length piece.now → 0 < h.taken) }
-        ensures read { IfOk result (λ h. self.new.runner.read ≡ self.old.runner.read + h.good) }
-        ensures within { self.new.runner.read ≤ self.old.runner.read + length piece.now }
-        ensures good { IfOk result (λ h. h.good ≤ h.taken) }
-        ensures told { OnOk result (self.new.runner.pending ≡ []) }
-        ensures usable { OnOk result (IsTrue self.new.runner.usable) }
-        ensures open { self.new.runner.ended ≡ false }
-        ensures moves { self.new.moves ≡ self.old.moves }
+    /// At the start of a table, where nothing is learnt.
+    pub fn new(
+        alloc: Global,
+        table: &'p Table,
+        machine: &'p Trimmed,
+    ) -> Result<Follower<'p>, Memory>
+        ensures tables { IfOk result (λ f. (f.runner.table ≡ table.now) × (f.moves.table ≡ table.now)) }
+        ensures machine { IfOk result (λ f. f.moves.machine ≡ machine.now) }
+        ensures stands { IfOk result (λ f. StandsFor f.runner [] []) }
+        ensures usable { IfOk result (λ f. (IsTrue f.runner.usable) × (f.runner.ended ≡ false) × (f.runner.read ≡ 0)) }
     {
-        let before = self.runner.read();
-        let held = self.runner.hold(piece, code)?;
-        Ok(Heard {
-            taken: held.taken,
-            good: (self.runner.read() - before) as usize,
+        let runner = Runner::new(alloc, table)?;
+        let moves = Moves::new(alloc, table, machine)?;
+        let phrases = Phrases::new(alloc, runner.words(), machine)?;
+        Ok(Follower {
+            runner,
+            moves,
+            phrases,
+            pieces: Vec::new(alloc),
         })
-    }
-
-    /// Tells whether the table ends, and puts what is passed on then behind a code.
-    pub fn end(&mut self, code: &mut Code) -> Result<bool, Memory>
-        requires usable { IsTrue self.old.runner.usable }
-        requires open { self.old.runner.ended ≡ false }
-        ensures tells { IfOk result (λ parsed. TellsEnd parsed (Oracle.Table self.old) code.old code.new) }
-        ensures read { self.new.runner.read ≡ self.old.runner.read }
-        ensures moves { self.new.moves ≡ self.old.moves }
-    {
-        Ok(match self.runner.end(code)? {
-            Ended::Parsed => true,
-            Ended::Cut => false,
-        })
-    }
-
-    // Reads the front of a piece by the runner alone, and writes what is said.
-    fn step(
-        &mut self,
-        actor: &mut Actor,
-        piece: &[u8],
-        code: &mut Code,
-        out: &mut Vec<u8>,
-    ) -> Result<Heard, Memory>
-        requires usable { IsTrue self.old.runner.usable }
-        requires open { self.old.runner.ended ≡ false }
-        requires actor { IsTrue actor.old.usable }
-        requires room { self.old.runner.read + length piece.now < 2 ^ 64 }
-        ensures works { IfOk result (λ h. Works (Oracle.Table self.old) (Oracle.Table self.new) actor.old actor.new (take h.taken piece.now) h.good out.old.items out.new.items) }
-        ensures taken { IfOk result (λ h. h.taken ≤ length piece.now) }
-        ensures some { IfOk result (λ h. 0 < length piece.now → 0 < h.taken) }
-        ensures read { IfOk result (λ h. self.new.runner.read ≡ self.old.runner.read + h.good) }
-        ensures within { self.new.runner.read ≤ self.old.runner.read + length piece.now }
-        ensures good { IfOk result (λ h. h.good ≤ h.taken) }
-        ensures told { OnOk result (self.new.runner.pending ≡ []) }
-        ensures usable { OnOk result (IsTrue self.new.runner.usable × IsTrue actor.new.usable) }
-        ensures open { self.new.runner.ended ≡ false }
-        ensures moves { self.new.moves ≡ self.old.moves }
-        ensures machine { actor.new.machine ≡ actor.old.machine }
-    {
-        code.clear();
-        let heard = self.hear(piece, code)?;
-        speak(actor, code.as_slice(), out)?;
-        Ok(heard)
-    }
-
-    // Reads the front of a piece by what is learnt, where no registers are. The table is at a state of its own then, with none.
-    fn run(
-        &mut self,
-        actor: &mut Actor<'p>,
-        piece: &[u8],
-        out: &mut Vec<u8>,
-    ) -> Result<usize, Memory>
-        requires actor { IsTrue actor.old.usable }
-        requires learnt { actor.old.machine ≡ self.old.moves.machine }
-        requires told { self.old.runner.pending ≡ [] }
-        requires room { self.old.runner.read + length piece.now < 2 ^ 64 }
-        ensures goes { IfOk result (λ count. Goes (Oracle.Table self.old) (Oracle.Table self.new) actor.old actor.new (take count piece.now) out.old.items out.new.items) }
-        ensures count { IfOk result (λ count. count ≤ length piece.now) }
-        ensures read { IfOk result (λ count. self.new.runner.read ≡ self.old.runner.read + count) }
-        ensures within { self.new.runner.read ≤ self.old.runner.read + length piece.now }
-        ensures told { self.new.runner.pending ≡ [] }
-        ensures same { (self.new.runner.usable ≡ self.old.runner.usable) × (self.new.runner.ended ≡ self.old.runner.ended) }
-        ensures moves { self.new.moves ≡ self.old.moves }
-        ensures machine { actor.new.machine ≡ actor.old.machine }
-        ensures usable { OnOk result (IsTrue actor.new.usable) }
-    {
-        if self.runner.holds_registers() {
-            return Ok(0);
-        }
-        let state = self.runner.state();
-        let ran = self.moves.run(state, actor, piece, out)?;
-        if !self.runner.is_bare(ran.state) {
-            return Err(Memory);
-        }
-        self.runner.jump(ran.state, ran.count as u64);
-        Ok(ran.count)
-    }
-
-    // Reads some of a piece: what is learnt, and then by the runner up to a byte behind which there are no registers.
-    fn stride(
-        &mut self,
-        actor: &mut Actor<'p>,
-        piece: &[u8],
-        code: &mut Code,
-        out: &mut Vec<u8>,
-    ) -> Result<Stride, Memory>
-        requires usable { IsTrue self.old.runner.usable }
-        requires open { self.old.runner.ended ≡ false }
-        requires actor { IsTrue actor.old.usable }
-        requires learnt { actor.old.machine ≡ self.old.moves.machine }
-        requires told { self.old.runner.pending ≡ [] }
-        requires some { 0 < length piece.now }
-        requires room { self.old.runner.read + length piece.now < 2 ^ 64 }
-        ensures gone { IfOk result (λ s. HasGone s.refused (Oracle.Table self.old) (Oracle.Table self.new) actor.old actor.new piece.now s.count out.old.items out.new.items) }
-        ensures some { IfOk result (λ s. s.refused ≡ false → 0 < s.count) }
-        ensures count { IfOk result (λ s. s.count ≤ length piece.now) }
-        ensures read { IfOk result (λ s. self.new.runner.read ≡ self.old.runner.read + s.count) }
-        ensures within { self.new.runner.read ≤ self.old.runner.read + length piece.now }
-        ensures told { OnOk result (self.new.runner.pending ≡ []) }
-        ensures usable { OnOk result (IsTrue self.new.runner.usable × IsTrue actor.new.usable) }
-        ensures open { self.new.runner.ended ≡ false }
-        ensures moves { self.new.moves ≡ self.old.moves }
-        ensures machine { actor.new.machine ≡ actor.old.machine }
-    {
-        let ran = self.run(actor, piece, out)?;
-        let rest = &piece[ran..];
-        let next = &rest[..rest.len().min(HELD)];
-        let heard = self.step(actor, next, code, out)?;
-        Ok(Stride {
-            count: ran + heard.good,
-            refused: heard.good < heard.taken,
-        })
-    }
-
-    /// Takes a piece, and writes what is said. Tells how many bytes are good.
-    pub fn go_on(
-        &mut self,
-        actor: &mut Actor<'p>,
-        piece: &[u8],
-        code: &mut Code,
-        out: &mut Vec<u8>,
-    ) -> Result<usize, Memory>
-        requires usable { IsTrue self.old.runner.usable }
-        requires open { self.old.runner.ended ≡ false }
-        requires actor { IsTrue actor.old.usable }
-        requires learnt { actor.old.machine ≡ self.old.moves.machine }
-        requires room { self.old.runner.read + length piece.now < 2 ^ 64 }
-        ensures works { IfOk result (λ count. Works (Oracle.Table self.old) (Oracle.Table self.new) actor.old actor.new piece.now count out.old.items out.new.items) }
-        ensures read { IfOk result (λ count. self.new.runner.read ≡ self.old.runner.read + count) }
-        ensures within { self.new.runner.read ≤ self.old.runner.read + length piece.now }
-        ensures usable { OnOk result (IsTrue self.new.runner.usable × IsTrue actor.new.usable) }
-        ensures open { self.new.runner.ended ≡ false }
-        ensures moves { self.new.moves ≡ self.old.moves }
-        ensures machine { actor.new.machine ≡ actor.old.machine }
-    {
-        let _none = self.step(actor, &piece[..0], code, out)?;
-        let mut at = 0;
-        'strides: while at < piece.len() {
-            let stride = self.stride(actor, &piece[at..], code, out)?;
-            at += stride.count;
-            if stride.refused {
-                return Ok(at);
-            }
-        }
-        speak(actor, &[], out)?;
-        Ok(at)
     }
 }

@@ -9,3 +9,4 @@ mod paths;
 pub mod plan;
 mod speak;
 pub mod stage;
+mod strides;

@@ -14,8 +14,6 @@ use kex_action::actor::Actor;
 use kex_code::code::Code;
 use kex_code::memory::Memory;
 use kex_frontier::frontier::Frontier;
-use kex_moves::moves::Moves;
-use kex_runner::runner::Runner;
 use std::alloc::Global;
 
 /// Finds the code that the bytes agree on.
@@ -36,9 +34,8 @@ impl<'p> Oracle<'p> {
         let machine = plan.machine();
         match plan.shortest_table() {
             Some(table) => {
-                let runner = Runner::new(alloc, table)?;
-                let moves = Moves::new(alloc, table, machine)?;
-                Ok(Oracle::Table(Follower { runner, moves }))
+                let follower = Follower::new(alloc, table, machine)?;
+                Ok(Oracle::Table(follower))
             }
             None => {
                 let frontier = Frontier::new(alloc, machine)?;
@@ -79,7 +76,7 @@ impl<'p> Oracle<'p> {
     {
         match self {
             Oracle::Paths(paths) => paths.go_on(actor, piece, code, out),
-            Oracle::Table(follower) => follower.go_on(actor, piece, code, out),
+            Oracle::Table(follower) => follower.go_on(actor, piece, out),
         }
     }
 

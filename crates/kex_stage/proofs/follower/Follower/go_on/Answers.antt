@@ -1,28 +1,28 @@
-use Rattle.std.proofs.Common.{◌≡◌, ◌+◌, ◌-◌, [], List, ℕ, true, length, take, drop, refl, sym, ap, subst, ◌∙◌, arith, length-drop}
+use Rattle.std.proofs.Common.{◌≡◌, ◌+◌, ◌-◌, [], List, ℕ, true, length, take, drop, sym, ap, subst, ◌∙◌, arith, length-drop}
 use Rattle.std.proofs.lemmas.List.{length-take-le, take_all, take_rest}
 use Rattle.kex_stage.specs.declared.oracle.Oracle.TheVariants.{Table}
 use Rattle.kex_stage.specs.Works.{Goes, Works}
 use Rattle.kex_stage.specs.Strides.{HasGone}
-use Rattle.kex_stage.proofs.Following.{cut_at, goes_all, goes_more, settles, taken_both, works_more}
+use Rattle.kex_stage.proofs.Following.{cut_at, goes_more, none_refused, rests, settles, taken_both, works_more}
 use Rattle.kex_stage.proofs.follower.Follower.go_on.Goals as goal
 
 pub strides-init : goal.strides-init
 strides-init c =
     let n = c.in_ok-_none.ensures in
     let h = c.in_ok-_none._none in
-    let none : h.taken ≡ 0 = omega (arith, n.taken) in
-    let no_good : h.good ≡ 0 = omega (arith, n.taken, n.good) in
-    let works : Works (Table c.args.self.now) (Table c.step.new.self) c.args.actor.now c.step.new.actor [] 0 c.args.out.now.items c.step.new.out.items =
-    subst (λ k. Works (Table c.args.self.now) (Table c.step.new.self) c.args.actor.now c.step.new.actor [] k c.args.out.now.items c.step.new.out.items) no_good (subst (λ k. Works (Table c.args.self.now) (Table c.step.new.self) c.args.actor.now c.step.new.actor (take k []) h.good c.args.out.now.items c.step.new.out.items) none n.works) in
+    let no_good : h.count ≡ 0 = omega (arith, n.count) in
+    let said = none_refused h.refused (Table c.args.self.now) (Table c.step.new.self) c.speak.new.actor c.step.new.actor h.count c.speak.new.out.items c.step.new.out.items n.count n.gone in
     record {
       at = omega arith;
-      goes = goes_all (Table c.args.self.now) (Table c.step.new.self) c.args.actor.now c.step.new.actor [] 0 c.args.out.now.items c.step.new.out.items refl works;
-      told = c.in_ok-_none.ensures.told;
-      moves = c.in_ok-_none.ensures.moves;
-      machine = c.in_ok-_none.ensures.machine;
-      usable = c.in_ok-_none.ensures.usable;
-      open_ = c.in_ok-_none.ensures.open;
-      read = omega (arith, c.in_ok-_none.ensures.read, no_good);
+      goes = goes_more (Table c.args.self.now) (Table c.args.self.now) (Table c.step.new.self) c.args.actor.now c.speak.new.actor c.step.new.actor [] [] c.args.out.now.items c.speak.new.out.items c.step.new.out.items
+          (rests (Table c.args.self.now) c.args.actor.now c.speak.new.actor c.args.out.now.items c.speak.new.out.items c.in_ok-speak.ensures.took c.in_ok-speak.ensures.machine)
+          said;
+      told = n.told;
+      moves = n.moves;
+      machine = n.machine ∙ c.in_ok-speak.ensures.machine;
+      usable = n.usable;
+      open_ = n.open;
+      read = omega (arith, n.read, no_good);
     }
 
 pub returns-then-stride-clause-works : goal.returns-then-stride-clause-works
@@ -54,5 +54,5 @@ pub returns-clause-works : goal.returns-clause-works
 returns-clause-works c =
     let all : c.strides.at ≡ length c.args.piece.now = omega (arith, c.strides-test.false, c.strides.invariant.at) in
     let goes = subst (λ p. Goes (Table c.args.self.now) (Table c.strides.self) c.args.actor.now c.strides.actor p c.args.out.now.items c.strides.out.items) (take_all c.strides.at c.args.piece.now c.strides-test.false) c.strides.invariant.goes in
-    subst (λ k. Works (Table c.args.self.now) (Table c.strides.self) c.args.actor.now c.speak.new.actor c.args.piece.now k c.args.out.now.items c.speak.new.out.items) (sym all)
-    (settles (Table c.args.self.now) c.strides.self c.args.actor.now c.strides.actor c.speak.new.actor c.args.piece.now c.args.out.now.items c.strides.out.items c.speak.new.out.items c.strides.invariant.told goes c.in_ok-speak.ensures.took c.in_ok-speak.ensures.machine)
+    subst (λ k. Works (Table c.args.self.now) (Table c.strides.self) c.args.actor.now c.speak-2.new.actor c.args.piece.now k c.args.out.now.items c.speak-2.new.out.items) (sym all)
+    (settles (Table c.args.self.now) c.strides.self c.args.actor.now c.strides.actor c.speak-2.new.actor c.args.piece.now c.args.out.now.items c.strides.out.items c.speak-2.new.out.items c.strides.invariant.told goes c.in_ok-speak-2.ensures.took c.in_ok-speak-2.ensures.machine)

@@ -10,7 +10,7 @@ returns-then-holds_registers-clause-goes c = goes_nowhere (Table c.args.self.now
 
 pub returns-clause-goes : goal.returns-clause-goes
 returns-clause-goes c =
-    runs_go c.args.self.now (record { runner = c.jump.new.self; moves = c.run.new.self }) c.args.actor.now c.run.new.actor c.in_ok-ran.ran.state c.in_ok-ran.ran.count (take c.in_ok-ran.ran.count c.args.piece.now) c.args.out.now.items c.run.new.out.items
+    runs_go c.args.self.now _ c.args.actor.now c.run.new.actor c.in_ok-ran.ran.state c.in_ok-ran.ran.count (take c.in_ok-ran.ran.count c.args.piece.now) c.args.out.now.items c.run.new.out.items
     c.requires.told
     (none_held c.holds_registers.result c.args.self.now.runner.registers c.if-holds_registers.false c.holds_registers.ensures.1)
     c.in_ok-ran.ensures.same
