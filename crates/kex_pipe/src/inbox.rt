@@ -10,7 +10,7 @@ use std::mem::{replace, swap};
 ///
 /// What was taken lies before `start` until it is more than what waits: no more bytes are moved than were taken.
 #[derive(Drop)]
-pub(crate) struct Inbox {
+pub struct Inbox {
     pub(crate) bytes: Vec<u8>,
     pub(crate) start: usize,
     pub(crate) ended: bool,
@@ -20,7 +20,7 @@ pub(crate) struct Inbox {
 impl Inbox {
     ghost use Rattle.kex_pipe.specs.Waiting.{unread, waiting};
 
-    pub(crate) fn new(alloc: Global) -> Inbox
+    pub fn new(alloc: Global) -> Inbox
         ensures bytes { unread result ≡ [] }
         ensures open { result.ended ≡ false }
     {
@@ -31,14 +31,14 @@ impl Inbox {
         }
     }
 
-    pub(crate) fn is_empty(&self) -> bool
+    pub fn is_empty(&self) -> bool
         ensures { IsTrue result ↔ ((unread self.now ≡ []) × (self.now.ended ≡ false)) }
     {
         !self.ended && self.bytes[self.start..].is_empty()
     }
 
     /// The bytes among the first items.
-    pub(crate) fn front(&self, at_most: u64) -> &[u8]
+    pub fn front(&self, at_most: u64) -> &[u8]
         ensures { result.now ≡ take at_most (unread self.now) }
     {
         let rest = &self.bytes[self.start..];
@@ -47,14 +47,14 @@ impl Inbox {
     }
 
     /// Whether the end is among the first items.
-    pub(crate) fn reaches_end(&self, at_most: u64) -> bool
+    pub fn reaches_end(&self, at_most: u64) -> bool
         ensures { result ≡ (self.now.ended && nat_lt (length (unread self.now)) at_most) }
     {
         self.ended && self.bytes.len() - self.start < at_most as usize
     }
 
     /// How many items there are.
-    pub(crate) fn count(&self) -> u64
+    pub fn count(&self) -> u64
         ensures { result ≡ length (waiting self.now) }
     {
         (self.bytes.len() - self.start) as u64 + u64::from(self.ended)
@@ -62,7 +62,7 @@ impl Inbox {
 
     /// Moves all that waits there behind what waits here, where the end hasn't come or nothing waits there. After an error
     /// nothing was moved.
-    pub(crate) fn append(&mut self, other: &mut Inbox) -> Result<(), Memory>
+    pub fn append(&mut self, other: &mut Inbox) -> Result<(), Memory>
         ensures ok { OnOk result ((self.old.ended ≡ false) ⊎ (waiting other.old ≡ []) → waiting self.new ≡ waiting self.old ++ waiting other.old) }
         ensures none_left { OnOk result (waiting other.new ≡ []) }
         ensures err { OnErr result (unread self.new ≡ unread self.old) }
@@ -78,7 +78,7 @@ impl Inbox {
     }
 
     /// Takes the first items away.
-    pub(crate) fn remove(&mut self, at_most: u64)
+    pub fn remove(&mut self, at_most: u64)
         ensures bytes { unread self.new ≡ drop at_most (unread self.old) }
         ensures end { self.new.ended ≡ (self.old.ended && not (nat_lt (length (unread self.old)) at_most)) }
     {
@@ -103,7 +103,7 @@ impl Inbox {
     }
 
     /// The bytes, which are moved out. The end stays.
-    pub(crate) fn take_bytes(&mut self, alloc: Global) -> Vec<u8>
+    pub fn take_bytes(&mut self, alloc: Global) -> Vec<u8>
         ensures bytes { result.items ≡ unread self.old }
         ensures none_left { unread self.new ≡ [] }
         ensures same_end { self.new.ended ≡ self.old.ended }
@@ -113,7 +113,7 @@ impl Inbox {
     }
 
     /// Adds bytes. After an error nothing was added.
-    pub(crate) fn give(&mut self, bytes: &[u8]) -> Result<(), Memory>
+    pub fn give(&mut self, bytes: &[u8]) -> Result<(), Memory>
         ensures ok { OnOk result (unread self.new ≡ unread self.old ++ bytes.now) }
         ensures err { OnErr result (unread self.new ≡ unread self.old) }
         ensures same_end { self.new.ended ≡ self.old.ended }
@@ -123,7 +123,7 @@ impl Inbox {
     }
 
     /// The end comes.
-    pub(crate) fn give_end(&mut self)
+    pub fn give_end(&mut self)
         ensures same_bytes { unread self.new ≡ unread self.old }
         ensures end { self.new.ended ≡ true }
     {

@@ -11,10 +11,10 @@ use kex_code::memory::Memory;
 /// A stage, what waits before it, and what it has written and isn't handed on yet.
 #[derive(Drop)]
 pub struct Seat<T: Turn> {
-    pub(crate) staged: Staged<T>,
-    pub(crate) inbox: Inbox,
-    pub(crate) outbox: Inbox,
-    pub(crate) usable: bool,
+    pub staged: Staged<T>,
+    pub inbox: Inbox,
+    pub outbox: Inbox,
+    pub usable: bool,
     ghost whole: { usable ≡ true → IsTrue (T.is_usable staged.stage) },
 }
 
@@ -22,7 +22,7 @@ impl<T: Turn> Seat<T> {
     ghost use Rattle.kex_pipe.specs.Rounds.{Takes, Works, LeftBy};
 
     /// Takes at most this many items of the inbox, and writes into the outbox.
-    pub(crate) fn take(&mut self, at_most: u64) -> Result<(), Memory>
+    pub fn take(&mut self, at_most: u64) -> Result<(), Memory>
         requires { IsTrue self.old.usable }
         ensures usable { self.new.usable ≡ is_ok result }
         ensures takes { OnOk result (Takes T.Turn at_most self.old self.new) }

@@ -12,9 +12,9 @@ use kex_code::memory::Memory;
 
 /// A stage, and whether it had a turn.
 #[derive(Drop)]
-pub(crate) struct Staged<T> {
-    pub(crate) stage: T,
-    pub(crate) turned: bool,
+pub struct Staged<T> {
+    pub stage: T,
+    pub turned: bool,
 }
 
 impl<T: Turn> Staged<T> {

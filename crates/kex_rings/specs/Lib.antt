@@ -1,0 +1,6 @@
+pub mod Items
+pub mod Ends
+pub mod Passing
+pub mod Looking
+pub mod Settling
+pub mod Standing

@@ -1,0 +1,132 @@
+-- What a stage between two rings does.
+use Rattle.std.specs.Prelude.{◌≡◌, ◌≤◌, ◌+◌, ◌++◌, ◌⊎◌, [], ◌∷◌, true, false, Bool, List, ℕ, Some, None, length, min, All, IsTrue}
+use Rattle.rtrb.specs.Ring.{known_items}
+use Rattle.kex_model.specs.Schedules.{Seat}
+use Rattle.kex_model.specs.Schedules as schedule
+use Rattle.kex_pipe.specs.Seats.{IsWhole, Sits}
+use Rattle.kex_pipe.specs.Waiting.{waiting}
+use Rattle.kex_pipe.specs.declared.inbox.Inbox.{Inbox}
+use Rattle.kex_pipe.specs.declared.turn.Turn.{Ghosts}
+use Rattle.kex_rings.specs.declared.item.Item.{Item}
+use Rattle.kex_rings.specs.declared.ring_seat.RingSeat.{RingSeat}
+use Rattle.kex_rings.specs.Items.{items_as}
+use Rattle.kex_rings.specs.Ends.{Giver, Taker, sent_to, free_in, taken_from, seen_in, SameGiver, SameTaker}
+
+-- the place in the schedule when these items more were taken
+abbrev pub fed_more : List schedule.Item → Seat → Seat
+fed_more items x = record { taken = x.taken ++ items; turned = true }
+
+module _ {T : Type 0} (t : Ghosts T) where
+  -- what lies before the stage: in its inbox, and behind that in its ring
+  abbrev pub lies_before : RingSeat T t → List schedule.Item
+  lies_before s = waiting s.seat.inbox ++ items_as (seen_in s.from)
+
+  -- how much the stage finds: what lies in its ring, before the first stage what lies in its inbox
+  abbrev pub found : Taker → Inbox → ℕ
+  found None inbox = length (waiting inbox)
+  found (Some c) inbox = length (known_items c)
+
+  -- what is not sent yet: all that the stage has written and the ring behind it didn't take. Behind the last stage there is none
+  abbrev pub unsent_of : Giver → Inbox → List schedule.Item
+  unsent_of None outbox = []
+  unsent_of (Some p) outbox = waiting outbox
+
+  abbrev pub finds : RingSeat T t → ℕ
+  finds s = found s.from s.seat.inbox
+
+  abbrev pub unsent : RingSeat T t → List schedule.Item
+  unsent s = unsent_of s.to s.seat.outbox
+
+  -- a stage that sits at x was fed so many of what lay in its inbox and of what came out of its ring; what it wrote was sent or lies in its outbox, in order
+  pub record FedBy (p : t.Plan) (x : Seat) (front : List schedule.Item) (s s' : RingSeat T t) (popped more : List Item) (count : ℕ) : Type 0 where
+    pub got : List schedule.Item
+    pub count_is : count ≡ length got
+    pub parts : waiting s.seat.inbox ++ items_as popped ≡ got ++ waiting s'.seat.inbox
+    pub out : List schedule.Item
+    pub sits : Sits t p s'.seat.staged (fed_more got x) out
+    pub out_is : out ≡ front ++ (items_as more ++ waiting s'.seat.outbox)
+
+  abbrev pub Feeds : RingSeat T t → RingSeat T t → List Item → List Item → ℕ → Type 0
+  Feeds s s' popped more count = (p : t.Plan) (x : Seat) (out front : List schedule.Item) → IsWhole (x.taken ++ (waiting s.seat.inbox ++ items_as popped))
+      → Sits t p s.seat.staged x out → out ≡ front ++ waiting s.seat.outbox → FedBy p x front s s' popped more count
+
+  -- looks, in which the stage took so many items
+  pub record Looks (room : ℕ) (s s' : RingSeat T t) (count : ℕ) : Type 0 where
+    pub same_from : SameTaker s.from s'.from
+    pub same_to : SameGiver s.to s'.to
+    pub popped : List Item
+    pub more : List Item
+    pub came : taken_from s'.from ≡ taken_from s.from ++ popped
+    pub went : sent_to s'.to ≡ sent_to s.to ++ more
+    pub feeds : Feeds s s' popped more count
+    -- with nothing unsent it took all that it found, within the room
+    pub took : unsent s ≡ [] → min room (finds s) ≤ count
+    -- it sent what was unsent, as far as it knew slots to be free
+    pub sent_most : min (length (unsent s)) (free_in s.to) ≤ length more
+    pub free : free_in s.to ≤ free_in s'.to + length more
+
+  -- what was unsent was sent as far as the ring took it; nothing was taken
+  pub record SendsOn (s s' : RingSeat T t) : Type 0 where
+    pub same_from : s'.from ≡ s.from
+    pub same_to : SameGiver s.to s'.to
+    pub same_staged : s'.seat.staged ≡ s.seat.staged
+    pub same_inbox : s'.seat.inbox ≡ s.seat.inbox
+    pub more : List Item
+    pub went : sent_to s'.to ≡ sent_to s.to ++ more
+    pub parts : waiting s.seat.outbox ≡ items_as more ++ waiting s'.seat.outbox
+    pub most : min (length (unsent s)) (free_in s.to) ≤ length more
+    pub free : free_in s.to ≤ free_in s'.to + length more
+
+  -- what it found was taken, within the room; nothing was sent
+  pub record TakesIn (room : ℕ) (s s' : RingSeat T t) (count : ℕ) : Type 0 where
+    pub same_from : SameTaker s.from s'.from
+    pub same_to : s'.to ≡ s.to
+    pub popped : List Item
+    pub came : taken_from s'.from ≡ taken_from s.from ++ popped
+    pub feeds : Feeds s s' popped [] count
+    pub took : min room (finds s) ≤ count
+
+  -- it had a turn, nothing lies before it, and nothing is unsent
+  abbrev pub IsIdle : RingSeat T t → Type 0
+  IsIdle s = (s.seat.staged.turned ≡ true) × (lies_before s ≡ []) × (waiting s.seat.outbox ≡ [])
+
+  -- both ends in one hand: nothing was passed, and all that lies in the rings may be seen
+  pub record OnlyLooked (s s' : RingSeat T t) : Type 0 where
+    pub same_seat : s'.seat ≡ s.seat
+    pub same_from : SameTaker s.from s'.from
+    pub same_to : SameGiver s.to s'.to
+    pub came : taken_from s'.from ≡ taken_from s.from
+    pub went : sent_to s'.to ≡ sent_to s.to
+    pub free : free_in s.to ≤ free_in s'.to
+
+  -- the neighbours at the place between front and back, in one hand
+  pub record NowBeside (front back : List (RingSeat T t)) (s n : RingSeat T t) (new : List (RingSeat T t)) : Type 0 where
+    pub s' : RingSeat T t
+    pub n' : RingSeat T t
+    pub is : new ≡ front ++ s' ∷ n' ∷ back
+    pub looked : OnlyLooked s s'
+    pub next_looked : OnlyLooked n n'
+    pub same_from : s'.from ≡ s.from
+    pub same_to : n'.to ≡ n.to
+    pub fifo : taken_from n'.from ++ seen_in n'.from ≡ sent_to s'.to
+
+  -- what the last stage had written lies behind what was in hand
+  pub record CarriedOut (front : List (RingSeat T t)) (s : RingSeat T t) (b : Inbox) (new : List (RingSeat T t)) (b' : Inbox) : Type 0 where
+    pub s' : RingSeat T t
+    pub is : new ≡ front ++ s' ∷ []
+    pub same_from : s'.from ≡ s.from
+    pub same_to : s'.to ≡ s.to
+    pub same_staged : s'.seat.staged ≡ s.seat.staged
+    pub same_inbox : s'.seat.inbox ≡ s.seat.inbox
+    pub same_usable : s'.seat.usable ≡ s.seat.usable
+    pub none_left : waiting s'.seat.outbox ≡ []
+    pub moves : (b.ended ≡ false) ⊎ (waiting s.seat.outbox ≡ []) → waiting b' ≡ waiting b ++ waiting s.seat.outbox
+
+  abbrev pub AllUsable : List (RingSeat T t) → Type 0
+  AllUsable ss = All (λ s. IsTrue s.seat.usable) ss
+
+  -- the looks of each stage
+  abbrev pub EachLooks : ℕ → List (RingSeat T t) → List (RingSeat T t) → List ℕ → Type 0
+  EachLooks room [] [] [] = Unit {0}
+  EachLooks room (s ∷ ss) (s' ∷ ss') (c ∷ cs) = Looks room s s' c × EachLooks room ss ss' cs
+  EachLooks room ss ss' cs = ⊥

@@ -1,0 +1,208 @@
+// A pipeline of stages that rings join.
+
+ghost use Rattle.std.specs.Prelude.{◌≡◌, ◌≢◌, ◌<◌, ◌≤◌, ◌^◌, ◌↔◌, ◌++◌, ◌∷◌, ◌⊎◌, [], List, ℕ, Bool, false, None, Err, IsTrue, IfOk, OnOk, OnErr, is_err, All, map, vec_len};
+ghost use Rattle.kex_model.specs.Answers.{Pipeline};
+ghost use Rattle.kex_model.specs.Schedules.{Event, give, give_end, Settled};
+ghost use Rattle.kex_rings.specs.Ends.{AreBeside};
+ghost use Rattle.kex_rings.specs.Looking.{AllUsable};
+ghost use Rattle.kex_rings.specs.Standing.{Joined};
+
+use crate::joining::join_all;
+use crate::ring_seat::RingSeat;
+use crate::settling::settle_all;
+use kex_code::memory::Memory;
+use kex_pipe::inbox::Inbox;
+use kex_pipe::pipe::PipeFault;
+use kex_pipe::report::{Rejected, latest};
+use kex_pipe::seat::Seat;
+use kex_pipe::staged::Staged;
+use kex_pipe::turn::Turn;
+use std::alloc::Global;
+use std::mem::replace;
+
+/// Stages, each but the last with a ring behind it. What the last one writes is the output.
+///
+/// What the contracts say of what it was given and has written is a schedule of turns, which it doesn't store. To the inbox of a
+/// stage in that schedule belongs what lies in the ring before it, and behind that what the stage before it has not sent yet.
+#[derive(Drop)]
+pub struct RingPipe<T: Turn> {
+    pub(crate) alloc: Global,
+    pub(crate) room: u32,
+    pub(crate) seats: Vec<RingSeat<T>>,
+    pub(crate) output: Inbox,
+    pub(crate) ended: bool,
+    pub(crate) spent: bool,
+    ghost some: { spent ≡ false → 0 < vec_len seats },
+    ghost few: { spent ≡ false → vec_len seats < 2 ^ 32 },
+    ghost all_usable: { spent ≡ false → All (λ s. IsTrue s.seat.usable) seats.items },
+    ghost joined: { spent ≡ false → Joined T.Turn (AreBeside room) None seats.items None },
+}
+
+impl<T: Turn + Drop> RingPipe<T> {
+    ghost use Rattle.kex_rings.specs.Standing.{Stands, BeginsAnswer, HasWritten, WorksOff, AreNew, in_hand, is_ended, is_spent, stage_count};
+    ghost use Rattle.kex_pipe.specs.Reports.{report_as, LastStop};
+    ghost use Rattle.kex_pipe.specs.Events.{bytes_given, end_given};
+
+    /// At least one stage, none of which was fed before. Each ring has this room, 1 to 1,048,576 items. `Memory` comes also for
+    /// more stages than a `u32` counts.
+    pub fn new(alloc: Global, stages: Vec<T>, room: u32) -> Result<RingPipe<T>, Memory>
+        requires some { 0 < vec_len stages }
+        requires unfed { All (λ s. T.stands s None) stages.items }
+        requires least { 1 ≤ room }
+        requires most { room ≤ 1048576 }
+        ensures stands { IfOk result (λ pipe. Stands T.Turn (map T.plan stages.items) pipe [] []) }
+        ensures count { IfOk result (λ pipe. stage_count T.Turn pipe ≡ vec_len stages) }
+        ensures room { IfOk result (λ pipe. pipe.room ≡ room) }
+        ensures open { IfOk result (λ pipe. is_ended T.Turn pipe ≡ false) }
+        ensures going { IfOk result (λ pipe. is_spent T.Turn pipe ≡ false) }
+    {
+        if stages.len() > u32::MAX as usize {
+            return Err(Memory);
+        }
+        let mut seats = Vec::new(alloc);
+        for stage in stages {
+            seats.push(Seat {
+                staged: Staged {
+                    stage,
+                    turned: false,
+                },
+                inbox: Inbox::new(alloc),
+                outbox: Inbox::new(alloc),
+                usable: true,
+            })?;
+        }
+        Ok(RingPipe {
+            alloc,
+            room,
+            seats: join_all(alloc, room, seats)?,
+            output: Inbox::new(alloc),
+            ended: false,
+            spent: false,
+        })
+    }
+
+    /// Whether the end was given.
+    pub fn ended(&self) -> bool
+        ensures { result ≡ is_ended T.Turn self.now }
+    {
+        self.ended
+    }
+
+    /// Gives bytes to the first stage. After an error the output in hand is as it was, here and at every other call.
+    pub fn give(&mut self, bytes: &[u8]) -> Result<(), PipeFault>
+        requires unended { is_ended T.Turn self.old ≡ false }
+        ensures stands { OnOk result ((ps : List T.Plan) (h : List Event) (taken : List ℕ) → Stands T.Turn ps self.old h taken → Stands T.Turn ps self.new (h ++ give bytes.now ∷ []) taken) }
+        ensures memory { result ≡ Err PipeFault.Memory → (ps : List T.Plan) (h : List Event) (taken : List ℕ) → Stands T.Turn ps self.old h taken → BeginsAnswer T.Turn ps self.new h taken }
+        ensures written { result ≡ Err PipeFault.Memory → (ps : List T.Plan) (h : List Event) (taken : List ℕ) → Stands T.Turn ps self.old h taken → HasWritten T.Turn ps self.new h taken }
+        ensures hand { in_hand T.Turn self.new ≡ in_hand T.Turn self.old }
+        ensures spent { (result ≡ Err PipeFault.Spent) ↔ IsTrue (is_spent T.Turn self.old) }
+        ensures unchanged { result ≡ Err PipeFault.Spent → self.new ≡ self.old }
+        ensures spends { is_spent T.Turn self.new ≡ is_err result }
+        ensures ended { is_ended T.Turn self.new ≡ is_ended T.Turn self.old }
+        ensures count { stage_count T.Turn self.new ≡ stage_count T.Turn self.old }
+    {
+        if self.spent {
+            return Err(PipeFault::Spent);
+        }
+        match self.seats[0].seat.inbox.give(bytes) {
+            Ok(()) => Ok(()),
+            Err(Memory) => {
+                self.spent = true;
+                Err(PipeFault::Memory)
+            }
+        }
+    }
+
+    /// The input ends here.
+    pub fn give_end(&mut self) -> Result<(), PipeFault>
+        requires unended { is_ended T.Turn self.old ≡ false }
+        ensures stands { OnOk result ((ps : List T.Plan) (h : List Event) (taken : List ℕ) → Stands T.Turn ps self.old h taken → Stands T.Turn ps self.new (h ++ give_end ∷ []) taken) }
+        ensures memory { result ≢ Err PipeFault.Memory }
+        ensures hand { in_hand T.Turn self.new ≡ in_hand T.Turn self.old }
+        ensures spent { (result ≡ Err PipeFault.Spent) ↔ IsTrue (is_spent T.Turn self.old) }
+        ensures unchanged { result ≡ Err PipeFault.Spent → self.new ≡ self.old }
+        ensures spends { is_spent T.Turn self.new ≡ is_err result }
+        ensures ended { OnOk result (IsTrue (is_ended T.Turn self.new)) }
+        ensures count { stage_count T.Turn self.new ≡ stage_count T.Turn self.old }
+    {
+        if self.spent {
+            return Err(PipeFault::Spent);
+        }
+        self.seats[0].seat.inbox.give_end();
+        self.ended = true;
+        Ok(())
+    }
+
+    /// Whether every stage had a turn, and nothing waits before a stage or is unsent. Not so of a spent pipe.
+    pub fn settled(&self) -> bool
+        ensures settled { (ps : List T.Plan) (h : List Event) (taken : List ℕ) (s : Stands T.Turn ps self.now h taken) → (IsTrue result ↔ Settled T.gives s.came ps s.seats) }
+        ensures spent { IsTrue (is_spent T.Turn self.now) → result ≡ false }
+    {
+        if self.spent {
+            return false;
+        }
+        for seat in &self.seats {
+            if !seat.is_idle() {
+                return false;
+            }
+        }
+        true
+    }
+
+    /// The stop of the last stage, in the order of the pipeline, that has stopped. Of a spent pipe it says nothing.
+    pub fn report(&self) -> Option<Rejected>
+        ensures last { (ps : List T.Plan) (h : List Event) (taken : List ℕ) (s : Stands T.Turn ps self.now h taken) → LastStop T.Turn 1 ps s.seats (report_as result) }
+        ensures settled { (ps : List T.Plan) (h : List Event) (taken : List ℕ) (s : Stands T.Turn ps self.now h taken) → Settled T.gives s.came ps s.seats
+            → Pipeline T.gives 1 ps (bytes_given h) (end_given h) (taken ++ in_hand T.Turn self.now) (report_as result) }
+    {
+        let mut report = None;
+        for (i, seat) in self.seats.iter().enumerate() {
+            report = latest(i as u32 + 1, seat.seat.staged.stage.stop(), report);
+        }
+        report
+    }
+
+    /// Takes the output that is in hand.
+    pub fn take_output(&mut self) -> Vec<u8>
+        ensures all { result.items ≡ in_hand T.Turn self.old }
+        ensures none_left { in_hand T.Turn self.new ≡ [] }
+        ensures stands { (ps : List T.Plan) (h : List Event) (taken : List ℕ) → Stands T.Turn ps self.old h taken → Stands T.Turn ps self.new h (taken ++ result.items) }
+        ensures begins { (ps : List T.Plan) (h : List Event) (taken : List ℕ) → BeginsAnswer T.Turn ps self.old h taken → BeginsAnswer T.Turn ps self.new h (taken ++ result.items) }
+        ensures written { (ps : List T.Plan) (h : List Event) (taken : List ℕ) → HasWritten T.Turn ps self.old h taken → HasWritten T.Turn ps self.new h (taken ++ result.items) }
+        ensures spent { is_spent T.Turn self.new ≡ is_spent T.Turn self.old }
+        ensures ended { is_ended T.Turn self.new ≡ is_ended T.Turn self.old }
+        ensures count { stage_count T.Turn self.new ≡ stage_count T.Turn self.old }
+    {
+        self.output.take_bytes(self.alloc)
+    }
+
+    /// Works off all that waits, on this thread: stage after stage, each takes what lies in the ring before it, and then what was
+    /// unsent. Every ring is made anew.
+    pub fn settle(&mut self) -> Result<(), PipeFault>
+        ensures works { OnOk result ((ps : List T.Plan) (h : List Event) (taken : List ℕ) → Stands T.Turn ps self.old h taken → WorksOff T.Turn ps self.new h taken) }
+        ensures new { OnOk result (AreNew T.Turn self.new.seats.items) }
+        ensures begins { OnErr result ((ps : List T.Plan) (h : List Event) (taken : List ℕ) → Stands T.Turn ps self.old h taken → BeginsAnswer T.Turn ps self.new h taken) }
+        ensures written { OnErr result ((ps : List T.Plan) (h : List Event) (taken : List ℕ) → Stands T.Turn ps self.old h taken → HasWritten T.Turn ps self.new h taken) }
+        ensures hand { OnErr result (in_hand T.Turn self.new ≡ in_hand T.Turn self.old) }
+        ensures spent { (result ≡ Err PipeFault.Spent) ↔ IsTrue (is_spent T.Turn self.old) }
+        ensures unchanged { result ≡ Err PipeFault.Spent → self.new ≡ self.old }
+        ensures spends { is_spent T.Turn self.new ≡ is_err result }
+        ensures ended { is_ended T.Turn self.new ≡ is_ended T.Turn self.old }
+        ensures count { OnOk result (stage_count T.Turn self.new ≡ stage_count T.Turn self.old) }
+    {
+        if self.spent {
+            return Err(PipeFault::Spent);
+        }
+        let seats = replace(&mut self.seats, Vec::new(self.alloc));
+        match settle_all(self.alloc, self.room, seats, &mut self.output) {
+            Ok(row) => {
+                self.seats = row;
+                Ok(())
+            }
+            Err(Memory) => {
+                self.spent = true; // its stages are dropped
+                Err(PipeFault::Memory)
+            }
+        }
+    }
+}

@@ -1,0 +1,92 @@
+// A stage between two rings.
+
+ghost use Rattle.std.specs.Prelude.{◌≡◌, ◌≤◌, ◌+◌, ◌<◌, ◌*◌, ◌^◌, ◌↔◌, [], ℕ, true, false, IsTrue, IfOk, OnOk};
+
+use crate::item::Item;
+use crate::passing::{pull, send};
+use kex_code::memory::Memory;
+use kex_pipe::seat::Seat;
+use kex_pipe::turn::Turn;
+use rtrb::{Consumer, Producer};
+
+/// A stage, the end of the ring before it that gives, and the end of the ring behind it that takes. What the ring behind
+/// didn't take lies in the outbox. The first stage takes from its inbox, and what the last one writes stays in its outbox.
+#[derive(Drop)]
+pub struct RingSeat<T: Turn> {
+    pub(crate) seat: Seat<T>,
+    pub(crate) from: Option<Consumer<Item>>,
+    pub(crate) to: Option<Producer<Item>>,
+}
+
+impl<T: Turn> RingSeat<T> {
+    ghost use Rattle.kex_rings.specs.Looking.{Looks, SendsOn, TakesIn, IsIdle, unsent};
+
+    // Sends what is unsent, as far as the ring takes it, and tells whether that was all.
+    fn send_on(&mut self) -> bool
+        ensures usable { self.new.seat.usable ≡ self.old.seat.usable }
+        ensures sends { SendsOn T.Turn self.old self.new }
+        ensures all { IsTrue result ↔ (unsent T.Turn self.new ≡ []) }
+    {
+        let Some(ring) = &mut self.to else {
+            return true;
+        };
+        send(&mut self.seat.outbox, ring);
+        self.seat.outbox.is_empty()
+    }
+
+    // Takes what it finds, within the room, and feeds it to the stage.
+    fn take_in(&mut self, room: u64) -> Result<u64, Memory>
+        requires { IsTrue self.old.seat.usable }
+        ensures usable { OnOk result (IsTrue self.new.seat.usable) }
+        ensures within { IfOk result (λ count. count ≤ room) }
+        ensures takes { IfOk result (λ count. TakesIn T.Turn room self.old self.new count) }
+    {
+        let count = match &mut self.from {
+            None => self.seat.inbox.count().min(room),
+            Some(ring) => pull(ring, &mut self.seat.inbox, room)?,
+        };
+        self.seat.take(count)?;
+        Ok(count)
+    }
+
+    /// Sends what is unsent, as far as the ring takes it; if all was sent takes what it finds, within the room.
+    fn look(&mut self, room: u64) -> Result<u64, Memory>
+        requires { IsTrue self.old.seat.usable }
+        ensures usable { OnOk result (IsTrue self.new.seat.usable) }
+        ensures within { IfOk result (λ count. count ≤ room) }
+        ensures looks { IfOk result (λ count. Looks T.Turn room self.old self.new count) }
+    {
+        if !self.send_on() {
+            return Ok(0);
+        }
+        self.take_in(room)
+    }
+
+    /// Whether it had a turn, and nothing lies before it or is unsent.
+    pub(crate) fn is_idle(&self) -> bool
+        ensures { IsTrue result ↔ IsIdle T.Turn self.now }
+    {
+        let all_taken = match &self.from {
+            None => true,
+            Some(ring) => ring.cached_slots() == 0,
+        };
+        self.seat.staged.turned
+            && all_taken
+            && self.seat.inbox.is_empty()
+            && self.seat.outbox.is_empty()
+    }
+
+    /// So many looks, at least one.
+    pub(crate) fn work(&mut self, looks: u32, room: u32) -> Result<u64, Memory>
+        requires usable { IsTrue self.old.seat.usable }
+        requires some { 0 < looks }
+        ensures usable { OnOk result (IsTrue self.new.seat.usable) }
+        ensures looks { IfOk result (λ count. Looks T.Turn room self.old self.new count) }
+    {
+        let mut count = self.look(u64::from(room))?;
+        'more: for _look in 1..looks {
+            count += self.look(u64::from(room))?;
+        }
+        Ok(count)
+    }
+}

@@ -1,0 +1,197 @@
+// A round of all stages at once, joined by their rings.
+
+ghost use Rattle.std.specs.Prelude.{◌≡◌, ◌+◌, ◌<◌, ◌≤◌, ◌^◌, ◌++◌, ◌∷◌, ◌↔◌, [], List, ℕ, None, Err, IsTrue, IfOk, OnOk, OnErr, is_err, length, vec_len};
+ghost use Rattle.std.specs.Thread.{IsSync};
+ghost use Rattle.kex_model.specs.Schedules.{Item, Event, After};
+ghost use Rattle.kex_model.specs.Schedules as schedule;
+ghost use Rattle.kex_pipe.specs.Rounds.{Each};
+ghost use Rattle.kex_pipe.specs.Seats.{IsWhole};
+ghost use Rattle.kex_pipe.specs.Waiting.{unread};
+ghost use Rattle.kex_rings.specs.Ends.{ArePaired, AreBeside};
+ghost use Rattle.kex_rings.specs.Looking.{Looks, OnlyLooked, NowBeside, CarriedOut, AllUsable, EachLooks};
+ghost use Rattle.kex_rings.specs.Standing.{turns_from, Line, Joined, Stands, BeginsAnswer, HasWritten, AllGetOn, LineRounds, in_hand, is_ended, is_spent, stage_count};
+
+use crate::pipe::RingPipe;
+use crate::ring_seat::RingSeat;
+use kex_code::memory::Memory;
+use kex_pipe::inbox::Inbox;
+use kex_pipe::pipe::PipeFault;
+use kex_pipe::turn::Turn;
+use kex_ports::Gate;
+use std::thread::{Threads, join_mut};
+
+// A stage's looks, between its entering the gate and its leaving it.
+fn work_one<T: Turn, G: Gate>(
+    gate: &G,
+    stage: u32,
+    seat: &mut RingSeat<T>,
+    looks: u32,
+    room: u32,
+) -> Result<u64, Memory>
+    requires usable { IsTrue seat.old.seat.usable }
+    requires some { 0 < looks }
+    ensures usable { OnOk result (IsTrue seat.new.seat.usable) }
+    ensures looks { IfOk result (λ count. Looks T.Turn room seat.old seat.new count) }
+{
+    gate.enter(stage);
+    let worked = seat.work(looks, room);
+    gate.leave(stage);
+    worked
+}
+
+// The looks of these stages, the first of which has this number, and how much each took.
+fn work_all<R: Threads + Sync, T: Turn + Send, G: Gate + Sync>(
+    rt: &R,
+    gate: &G,
+    first: u32,
+    looks: u32,
+    room: u32,
+    seats: &mut [RingSeat<T>],
+    counts: &mut [u64],
+) -> Result<(), Memory>
+    requires few { first + length seats.old ≤ 2 ^ 32 }
+    requires some { 0 < looks }
+    requires usable { AllUsable T.Turn seats.old }
+    requires long { length counts.old ≡ length seats.old }
+    ensures { OnOk result (EachLooks T.Turn room seats.old seats.new counts.new × AllUsable T.Turn seats.new) }
+{
+    if seats.len() < 2 {
+        if seats.is_empty() {
+            return Ok(());
+        }
+        counts[0] = work_one(gate, first, &mut seats[0], looks, room)?;
+        return Ok(());
+    }
+    let half = seats.len() / 2;
+    let next = first + half as u32;
+    let (front, back) = seats.split_at_mut(half);
+    let (front_counts, back_counts) = counts.split_at_mut(half);
+    let (one, other) = join_mut(
+        rt,
+        &mut || -> Result<(), Memory>
+            requires { IsSync R.row × (first + length front.now ≤ 2 ^ 32) × (0 < looks) × AllUsable T.Turn front.now × (length front_counts.now ≡ length front.now) }
+            ensures { OnOk result (EachLooks T.Turn room front.entry.now front.exit.now front_counts.exit.now × AllUsable T.Turn front.exit.now) }
+        { work_all(rt, gate, first, looks, room, front, front_counts) },
+        &mut || -> Result<(), Memory>
+            requires { IsSync R.row × (next + length back.now ≤ 2 ^ 32) × (0 < looks) × AllUsable T.Turn back.now × (length back_counts.now ≡ length back.now) }
+            ensures { OnOk result (EachLooks T.Turn room back.entry.now back.exit.now back_counts.exit.now × AllUsable T.Turn back.exit.now) }
+        { work_all(rt, gate, next, looks, room, back, back_counts) },
+    );
+    one?;
+    other
+}
+
+// The stages before and at this place, which have the ends of one ring.
+fn look_beside<T: Turn>(seats: &mut [RingSeat<T>], i: usize)
+    requires some { 0 < i }
+    requires within { i < length seats.old }
+    requires paired { (room : ℕ) × Joined T.Turn (ArePaired room) None seats.old None }
+    ensures { (front back : List (RingSeat T T.Turn)) (s n : RingSeat T T.Turn) → seats.old ≡ front ++ s ∷ n ∷ back → length front + 1 ≡ i → NowBeside T.Turn front back s n seats.new }
+{
+    let (front, back) = seats.split_at_mut(i);
+    let before = &mut front[i - 1];
+    let behind = &mut back[0];
+    if let Some(to) = &mut before.to {
+        if let Some(from) = &mut behind.from {
+            from.slots_beside(to);
+        }
+    }
+}
+
+// With both ends of each ring in one hand each stage sees all that lies before it.
+fn look_beside_all<T: Turn>(seats: &mut [RingSeat<T>])
+    requires some { 0 < length seats.old }
+    requires paired { (room : ℕ) × Joined T.Turn (ArePaired room) None seats.old None }
+    ensures looked { Each (OnlyLooked T.Turn) seats.old seats.new }
+    ensures beside { (room : ℕ) → Joined T.Turn (ArePaired room) None seats.old None → Joined T.Turn (AreBeside room) None seats.new None }
+{
+    for i in 1..seats.len() {
+        look_beside(seats, i);
+    }
+}
+
+// What the last stage has written goes behind the output in hand.
+fn carry_out<T: Turn>(seats: &mut [RingSeat<T>], output: &mut Inbox) -> Result<(), Memory>
+    requires { 0 < length seats.old }
+    ensures out { OnOk result ((front : List (RingSeat T T.Turn)) (s : RingSeat T T.Turn) → seats.old ≡ front ++ s ∷ [] → CarriedOut T.Turn front s output.old seats.new output.new) }
+    ensures hand { OnErr result (unread output.new ≡ unread output.old) }
+{
+    let last = seats.len() - 1;
+    let seat = &mut seats[last];
+    output.append(&mut seat.seat.outbox)
+}
+
+// A round of these stages.
+fn run<R: Threads + Sync, T: Turn + Send, G: Gate + Sync>(
+    rt: &R,
+    gate: &G,
+    looks: u32,
+    room: u32,
+    seats: &mut [RingSeat<T>],
+    output: &mut Inbox,
+    counts: &mut Vec<u64>,
+) -> Result<(), Memory>
+    requires few { length seats.old < 2 ^ 32 }
+    requires some { 0 < length seats.old }
+    requires looks { 0 < looks }
+    requires usable { AllUsable T.Turn seats.old }
+    requires joined { Joined T.Turn (AreBeside room) None seats.old None }
+    ensures usable { OnOk result (AllUsable T.Turn seats.new) }
+    ensures joined { OnOk result (Joined T.Turn (AreBeside room) None seats.new None) }
+    ensures count { OnOk result (length seats.new ≡ length seats.old) }
+    ensures counts { OnOk result (length counts.new.items ≡ length seats.old) }
+    ensures turns { OnOk result (LineRounds T.Turn seats.old output.old seats.new output.new counts.new.items) }
+    ensures gets_on { OnOk result (AllGetOn T.Turn room seats.old seats.new counts.new.items) }
+    ensures hand { OnErr result (unread output.new ≡ unread output.old) }
+{
+    counts.clear();
+    counts.resize(seats.len(), 0)?;
+    work_all(rt, gate, 1, looks, room, seats, counts.as_mut_slice())?;
+    look_beside_all(seats);
+    carry_out(seats, output)
+}
+
+/// Each stage makes so many looks, at least one, all at once. A look sends what is unsent while the ring behind takes it; only
+/// if nothing is left unsent it takes what it sees in the ring before, as much as a ring has room for. The stages enter the
+/// gate before their looks and leave it after. `counts` becomes the number of items that each stage took.
+pub fn ring_round<R: Threads + Sync, T: Turn + Drop + Send, G: Gate + Sync>(
+    rt: &R,
+    pipe: &mut RingPipe<T>,
+    gate: &G,
+    looks: u32,
+    counts: &mut Vec<u64>,
+) -> Result<(), PipeFault>
+    requires { 0 < looks }
+    ensures stands { OnOk result ((ps : List T.Plan) (h : List Event) (taken : List ℕ) → Stands T.Turn ps pipe.old h taken → Stands T.Turn ps pipe.new (h ++ turns_from 0 counts.new.items) taken) }
+    ensures counts { OnOk result (vec_len counts.new ≡ stage_count T.Turn pipe.old) }
+    // With nothing unsent a stage took at least all that lay in its ring when the round began, or as much as there is room for; what
+    // was unsent it sent, as far as the room goes since its ring was made.
+    ensures gets_on { OnOk result (AllGetOn T.Turn pipe.old.room pipe.old.seats.items pipe.new.seats.items counts.new.items) }
+    ensures begins { OnErr result ((ps : List T.Plan) (h : List Event) (taken : List ℕ) → Stands T.Turn ps pipe.old h taken → BeginsAnswer T.Turn ps pipe.new h taken) }
+    ensures written { OnErr result ((ps : List T.Plan) (h : List Event) (taken : List ℕ) → Stands T.Turn ps pipe.old h taken → HasWritten T.Turn ps pipe.new h taken) }
+    ensures hand { OnErr result (in_hand T.Turn pipe.new ≡ in_hand T.Turn pipe.old) }
+    ensures spent { (result ≡ Err PipeFault.Spent) ↔ IsTrue (is_spent T.Turn pipe.old) }
+    ensures unchanged { result ≡ Err PipeFault.Spent → pipe.new ≡ pipe.old }
+    ensures spends { is_spent T.Turn pipe.new ≡ is_err result }
+    ensures ended { is_ended T.Turn pipe.new ≡ is_ended T.Turn pipe.old }
+{
+    if pipe.spent {
+        return Err(PipeFault::Spent);
+    }
+    let room = pipe.room;
+    match run(
+        rt,
+        gate,
+        looks,
+        room,
+        &mut pipe.seats,
+        &mut pipe.output,
+        counts,
+    ) {
+        Ok(()) => Ok(()),
+        Err(Memory) => {
+            pipe.spent = true; // its stages may only be dropped
+            Err(PipeFault::Memory)
+        }
+    }
+}

@@ -1,0 +1,78 @@
+// All that waits is worked off, stage after stage.
+
+ghost use Rattle.std.specs.Prelude.{◌≡◌, ◌++◌, [], List, ℕ, None, IsTrue, IfOk, OnOk, OnErr, length};
+ghost use Rattle.kex_pipe.specs.Waiting.{unread, waiting};
+ghost use Rattle.kex_rings.specs.Ends.{AreBeside};
+ghost use Rattle.kex_rings.specs.Looking.{AllUsable};
+ghost use Rattle.kex_rings.specs.Settling.{SettlesBy, SettlesAll, AllSeatsUsable};
+ghost use Rattle.kex_rings.specs.Standing.{Joined, AreNew, LineSettles};
+
+use crate::joining::join_all;
+use crate::passing::pull_all;
+use crate::ring_seat::RingSeat;
+use kex_code::memory::Memory;
+use kex_pipe::inbox::Inbox;
+use kex_pipe::seat::Seat;
+use kex_pipe::turn::Turn;
+use std::alloc::Global;
+
+// The stage takes what lies in its ring and then what was carried here, and what it has written is carried on.
+fn settle_one<T: Turn + Drop>(seat: RingSeat<T>, carried: &mut Inbox) -> Result<Seat<T>, Memory>
+    requires { IsTrue seat.seat.usable }
+    ensures usable { IfOk result (λ s. IsTrue s.usable) }
+    ensures settles { IfOk result (λ s. SettlesBy T.Turn seat s (waiting carried.old) (waiting carried.new)) }
+{
+    let RingSeat {
+        mut seat,
+        from,
+        to: _,
+    } = seat;
+    if let Some(mut ring) = from {
+        pull_all(&mut ring, &mut seat.inbox)?;
+    }
+    seat.inbox.append(carried)?;
+    let all = seat.inbox.count();
+    seat.take(all)?;
+    carried.append(&mut seat.outbox)?;
+    Ok(seat)
+}
+
+// The same for all of them.
+fn settle_each<T: Turn + Drop>(
+    alloc: Global,
+    seats: Vec<RingSeat<T>>,
+    carried: &mut Inbox,
+) -> Result<Vec<Seat<T>>, Memory>
+    requires { AllUsable T.Turn seats.items }
+    ensures usable { IfOk result (λ settled. AllSeatsUsable T.Turn settled.items) }
+    ensures settles { IfOk result (λ settled. SettlesAll T.Turn seats.items settled.items (waiting carried.old) (waiting carried.new)) }
+{
+    let mut settled = Vec::new(alloc);
+    for seat in seats {
+        settled.push(settle_one(seat, carried)?)?;
+    }
+    Ok(settled)
+}
+
+/// The stages with new rings, after each has taken all that waits before it, those in front first. What the last one has written
+/// goes behind the output in hand.
+pub(crate) fn settle_all<T: Turn + Drop>(
+    alloc: Global,
+    room: u32,
+    seats: Vec<RingSeat<T>>,
+    output: &mut Inbox,
+) -> Result<Vec<RingSeat<T>>, Memory>
+    requires { AllUsable T.Turn seats.items }
+    ensures usable { IfOk result (λ row. AllUsable T.Turn row.items) }
+    ensures joined { IfOk result (λ row. Joined T.Turn (AreBeside room) None row.items None) }
+    ensures new { IfOk result (λ row. AreNew T.Turn row.items) }
+    ensures count { IfOk result (λ row. length row.items ≡ length seats.items) }
+    ensures settles { IfOk result (λ row. LineSettles T.Turn seats.items output.old row.items output.new) }
+    ensures hand { OnErr result (unread output.new ≡ unread output.old) }
+{
+    let mut carried = Inbox::new(alloc);
+    let settled = settle_each(alloc, seats, &mut carried)?;
+    let row = join_all(alloc, room, settled)?;
+    output.append(&mut carried)?;
+    Ok(row)
+}
