@@ -48,7 +48,7 @@ module _ {P : Type 0} (gives : P → List ℕ → Bool → Answer → Type 0) wh
   came-given (turned {h = h} i m a t) = came-given a ∙ ap₂ items_of (sym (bytes_given-append h (turn (suc i) m ∷ []) ∙ append-nil (bytes_given h))) (or-not (end_given h) ∙ sym (end_given-append h (turn (suc i) m ∷ [])))
 
 module _ {T : Type 0} (t : Ghosts T) where
-  out-items : (taken w : List ℕ) (e : Bool) → items_of (taken ++ w) e ≡ map byte taken ++ items_of w e
+  pub out-items : (taken w : List ℕ) (e : Bool) → items_of (taken ++ w) e ≡ map byte taken ++ items_of w e
   out-items taken w e = ap (λ z. z ++ ending e) (map-append byte taken w) ∙ append_assoc (map byte taken) (map byte w) (ending e)
 
   -- what the last stage has written is what was taken from the output, and what is in hand

@@ -43,6 +43,10 @@ SameTaker None None = Unit {0}
 SameTaker (Some a) (Some b) = SameConsumer a b
 SameTaker a b = ⊥
 
+abbrev pub IsLast : Giver → Type 0
+IsLast None = Unit {0}
+IsLast (Some p) = ⊥
+
 -- the two ends of one ring with this room, or no ring
 abbrev pub ArePaired : ℕ → Giver → Taker → Type 0
 ArePaired room None None = Unit {0}

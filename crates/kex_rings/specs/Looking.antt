@@ -4,17 +4,20 @@ use Rattle.rtrb.specs.Ring.{known_items}
 use Rattle.kex_model.specs.Schedules.{Seat}
 use Rattle.kex_model.specs.Schedules as schedule
 use Rattle.kex_pipe.specs.Seats.{IsWhole, Sits}
-use Rattle.kex_pipe.specs.Waiting.{waiting}
+use Rattle.kex_pipe.specs.Waiting.{unread, waiting}
 use Rattle.kex_pipe.specs.declared.inbox.Inbox.{Inbox}
 use Rattle.kex_pipe.specs.declared.turn.Turn.{Ghosts}
 use Rattle.kex_rings.specs.declared.item.Item.{Item}
 use Rattle.kex_rings.specs.declared.ring_seat.RingSeat.{RingSeat}
 use Rattle.kex_rings.specs.Items.{items_as}
-use Rattle.kex_rings.specs.Ends.{Giver, Taker, sent_to, free_in, taken_from, seen_in, SameGiver, SameTaker}
+use Rattle.kex_rings.specs.Ends.{Giver, Taker, sent_to, free_in, taken_from, seen_in, SameGiver, SameTaker, ArePaired, AreBeside}
 
 -- the place in the schedule when these items more were taken
 abbrev pub fed_more : List schedule.Item → Seat → Seat
 fed_more items x = record { taken = x.taken ++ items; turned = true }
+
+abbrev pub IsEmpty : Inbox → Type 0
+IsEmpty b = (unread b ≡ []) × (b.ended ≡ false)
 
 module _ {T : Type 0} (t : Ghosts T) where
   -- what lies before the stage: in its inbox, and behind that in its ring
@@ -77,6 +80,18 @@ module _ {T : Type 0} (t : Ghosts T) where
     pub most : min (length (unsent s)) (free_in s.to) ≤ length more
     pub free : free_in s.to ≤ free_in s'.to + length more
 
+  -- what it finds lies in the inbox; so much of that is to be taken
+  pub record FindsIn (room : ℕ) (s s' : RingSeat T t) (count : ℕ) : Type 0 where
+    pub same_from : SameTaker s.from s'.from
+    pub same_to : s'.to ≡ s.to
+    pub same_staged : s'.seat.staged ≡ s.seat.staged
+    pub same_outbox : s'.seat.outbox ≡ s.seat.outbox
+    pub popped : List Item
+    pub came : taken_from s'.from ≡ taken_from s.from ++ popped
+    pub lies : IsWhole (waiting s.seat.inbox ++ items_as popped) → waiting s'.seat.inbox ≡ waiting s.seat.inbox ++ items_as popped
+    pub enough : count ≤ length (waiting s.seat.inbox ++ items_as popped)
+    pub least : min room (finds s) ≤ count
+
   -- what it found was taken, within the room; nothing was sent
   pub record TakesIn (room : ℕ) (s s' : RingSeat T t) (count : ℕ) : Type 0 where
     pub same_from : SameTaker s.from s'.from
@@ -88,7 +103,7 @@ module _ {T : Type 0} (t : Ghosts T) where
 
   -- it had a turn, nothing lies before it, and nothing is unsent
   abbrev pub IsIdle : RingSeat T t → Type 0
-  IsIdle s = (s.seat.staged.turned ≡ true) × (lies_before s ≡ []) × (waiting s.seat.outbox ≡ [])
+  IsIdle s = (s.seat.staged.turned ≡ true) × IsEmpty s.seat.inbox × (seen_in s.from ≡ []) × IsEmpty s.seat.outbox
 
   -- both ends in one hand: nothing was passed, and all that lies in the rings may be seen
   pub record OnlyLooked (s s' : RingSeat T t) : Type 0 where
@@ -108,7 +123,7 @@ module _ {T : Type 0} (t : Ghosts T) where
     pub next_looked : OnlyLooked n n'
     pub same_from : s'.from ≡ s.from
     pub same_to : n'.to ≡ n.to
-    pub fifo : taken_from n'.from ++ seen_in n'.from ≡ sent_to s'.to
+    pub beside : (room : ℕ) → ArePaired room s.to n.from → AreBeside room s'.to n'.from
 
   -- what the last stage had written lies behind what was in hand
   pub record CarriedOut (front : List (RingSeat T t)) (s : RingSeat T t) (b : Inbox) (new : List (RingSeat T t)) (b' : Inbox) : Type 0 where

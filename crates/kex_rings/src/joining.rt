@@ -3,7 +3,7 @@
 ghost use Rattle.std.specs.Prelude.{◌≡◌, [], false, None, IfOk};
 ghost use Rattle.kex_pipe.specs.Rounds.{Each};
 ghost use Rattle.kex_rings.specs.Ends.{AreBeside, sent_to, taken_from};
-ghost use Rattle.kex_rings.specs.Standing.{Joined, AreNew};
+ghost use Rattle.kex_rings.specs.Lines.{Joined, AreNew};
 
 use crate::item::Item;
 use crate::ring_seat::RingSeat;
@@ -37,7 +37,7 @@ pub(crate) fn join_all<T: Turn + Drop>(
     room: u32,
     seats: Vec<Seat<T>>,
 ) -> Result<Vec<RingSeat<T>>, Memory>
-    ensures joined { IfOk result (λ row. Joined T.Turn (AreBeside room) None row.items None) }
+    ensures joined { IfOk result (λ row. Joined T.Turn (AreBeside room) None row.items) }
     ensures same { IfOk result (λ row. Each (λ s r. r.seat ≡ s) seats.items row.items) }
     ensures new { IfOk result (λ row. AreNew T.Turn row.items) }
 {

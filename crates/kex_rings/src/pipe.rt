@@ -5,7 +5,8 @@ ghost use Rattle.kex_model.specs.Answers.{Pipeline};
 ghost use Rattle.kex_model.specs.Schedules.{Event, give, give_end, Settled};
 ghost use Rattle.kex_rings.specs.Ends.{AreBeside};
 ghost use Rattle.kex_rings.specs.Looking.{AllUsable};
-ghost use Rattle.kex_rings.specs.Standing.{Joined};
+ghost use Rattle.kex_rings.specs.Lines.{Joined};
+ghost use Rattle.kex_rings.specs.Props.{prop};
 
 use crate::joining::join_all;
 use crate::ring_seat::RingSeat;
@@ -33,13 +34,14 @@ pub struct RingPipe<T: Turn> {
     pub(crate) ended: bool,
     pub(crate) spent: bool,
     ghost some: { spent ≡ false → 0 < vec_len seats },
-    ghost few: { spent ≡ false → vec_len seats < 2 ^ 32 },
+    ghost few: { vec_len seats < 2 ^ 32 },
     ghost all_usable: { spent ≡ false → All (λ s. IsTrue s.seat.usable) seats.items },
-    ghost joined: { spent ≡ false → Joined T.Turn (AreBeside room) None seats.items None },
+    ghost joined: { spent ≡ false → Joined T.Turn (AreBeside room) None seats.items } by { prop T.Turn spent room seats.items },
 }
 
 impl<T: Turn + Drop> RingPipe<T> {
-    ghost use Rattle.kex_rings.specs.Standing.{Stands, BeginsAnswer, HasWritten, WorksOff, AreNew, in_hand, is_ended, is_spent, stage_count};
+    ghost use Rattle.kex_rings.specs.Lines.{AreNew};
+    ghost use Rattle.kex_rings.specs.Standing.{Stands, BeginsAnswer, HasWritten, WorksOff, in_hand, is_ended, is_spent, stage_count};
     ghost use Rattle.kex_pipe.specs.Reports.{report_as, LastStop};
     ghost use Rattle.kex_pipe.specs.Events.{bytes_given, end_given};
 
@@ -71,10 +73,11 @@ impl<T: Turn + Drop> RingPipe<T> {
                 usable: true,
             })?;
         }
+        let row = join_all(alloc, room, seats)?;
         Ok(RingPipe {
             alloc,
             room,
-            seats: join_all(alloc, room, seats)?,
+            seats: row,
             output: Inbox::new(alloc),
             ended: false,
             spent: false,

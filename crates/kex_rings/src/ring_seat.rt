@@ -19,7 +19,8 @@ pub struct RingSeat<T: Turn> {
 }
 
 impl<T: Turn> RingSeat<T> {
-    ghost use Rattle.kex_rings.specs.Looking.{Looks, SendsOn, TakesIn, IsIdle, unsent};
+    ghost use Rattle.kex_rings.specs.Ends.{seen_in};
+    ghost use Rattle.kex_rings.specs.Looking.{Looks, SendsOn, FindsIn, TakesIn, IsIdle, unsent};
 
     // Sends what is unsent, as far as the ring takes it, and tells whether that was all.
     fn send_on(&mut self) -> bool
@@ -34,6 +35,18 @@ impl<T: Turn> RingSeat<T> {
         self.seat.outbox.is_empty()
     }
 
+    // What comes out of the ring goes into the inbox. Tells how much is to be taken, within the room.
+    fn find(&mut self, room: u64) -> Result<u64, Memory>
+        ensures usable { self.new.seat.usable ≡ self.old.seat.usable }
+        ensures within { IfOk result (λ count. count ≤ room) }
+        ensures finds { IfOk result (λ count. FindsIn T.Turn room self.old self.new count) }
+    {
+        let Some(ring) = &mut self.from else {
+            return Ok(self.seat.inbox.count().min(room));
+        };
+        pull(ring, &mut self.seat.inbox, room)
+    }
+
     // Takes what it finds, within the room, and feeds it to the stage.
     fn take_in(&mut self, room: u64) -> Result<u64, Memory>
         requires { IsTrue self.old.seat.usable }
@@ -41,10 +54,7 @@ impl<T: Turn> RingSeat<T> {
         ensures within { IfOk result (λ count. count ≤ room) }
         ensures takes { IfOk result (λ count. TakesIn T.Turn room self.old self.new count) }
     {
-        let count = match &mut self.from {
-            None => self.seat.inbox.count().min(room),
-            Some(ring) => pull(ring, &mut self.seat.inbox, room)?,
-        };
+        let count = self.find(room)?;
         self.seat.take(count)?;
         Ok(count)
     }
@@ -62,30 +72,37 @@ impl<T: Turn> RingSeat<T> {
         self.take_in(room)
     }
 
+    // Whether it sees nothing in the ring before it.
+    fn sees_none(&self) -> bool
+        ensures { IsTrue result ↔ (seen_in self.now.from ≡ []) }
+    {
+        match &self.from {
+            None => true,
+            Some(ring) => ring.cached_slots() == 0,
+        }
+    }
+
     /// Whether it had a turn, and nothing lies before it or is unsent.
     pub(crate) fn is_idle(&self) -> bool
         ensures { IsTrue result ↔ IsIdle T.Turn self.now }
     {
-        let all_taken = match &self.from {
-            None => true,
-            Some(ring) => ring.cached_slots() == 0,
-        };
         self.seat.staged.turned
-            && all_taken
             && self.seat.inbox.is_empty()
+            && self.sees_none()
             && self.seat.outbox.is_empty()
     }
 
     /// So many looks, at least one.
-    pub(crate) fn work(&mut self, looks: u32, room: u32) -> Result<u64, Memory>
+    pub(crate) fn work(&mut self, looks: u32, room: u64) -> Result<u64, Memory>
         requires usable { IsTrue self.old.seat.usable }
         requires some { 0 < looks }
+        requires small { looks * room < 2 ^ 64 }
         ensures usable { OnOk result (IsTrue self.new.seat.usable) }
         ensures looks { IfOk result (λ count. Looks T.Turn room self.old self.new count) }
     {
-        let mut count = self.look(u64::from(room))?;
+        let mut count = self.look(room)?;
         'more: for _look in 1..looks {
-            count += self.look(u64::from(room))?;
+            count += self.look(room)?;
         }
         Ok(count)
     }

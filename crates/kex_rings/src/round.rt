@@ -2,15 +2,15 @@
 
 ghost use Rattle.std.specs.Prelude.{◌≡◌, ◌+◌, ◌<◌, ◌≤◌, ◌^◌, ◌++◌, ◌∷◌, ◌↔◌, [], List, ℕ, None, Err, IsTrue, IfOk, OnOk, OnErr, is_err, length, vec_len};
 ghost use Rattle.std.specs.Thread.{IsSync};
-ghost use Rattle.kex_model.specs.Schedules.{Item, Event, After};
-ghost use Rattle.kex_model.specs.Schedules as schedule;
+ghost use Rattle.kex_model.specs.Schedules.{Event};
 ghost use Rattle.kex_pipe.specs.Rounds.{Each};
-ghost use Rattle.kex_pipe.specs.Seats.{IsWhole};
 ghost use Rattle.kex_pipe.specs.Waiting.{unread};
-ghost use Rattle.kex_rings.specs.Ends.{ArePaired, AreBeside};
+ghost use Rattle.kex_rings.specs.Ends.{sent_to, free_in, taken_from, SameGiver, SameTaker, ArePaired, AreBeside};
 ghost use Rattle.kex_rings.specs.Looking.{Looks, OnlyLooked, NowBeside, CarriedOut, AllUsable, EachLooks};
-ghost use Rattle.kex_rings.specs.Standing.{turns_from, Line, Joined, Stands, BeginsAnswer, HasWritten, AllGetOn, LineRounds, in_hand, is_ended, is_spent, stage_count};
+ghost use Rattle.kex_rings.specs.Lines.{turns_from, Line, Joined, AllGetOn, LineRounds};
+ghost use Rattle.kex_rings.specs.Standing.{Stands, BeginsAnswer, HasWritten, in_hand, is_ended, is_spent, stage_count};
 
+use crate::item::Item;
 use crate::pipe::RingPipe;
 use crate::ring_seat::RingSeat;
 use kex_code::memory::Memory;
@@ -18,6 +18,7 @@ use kex_pipe::inbox::Inbox;
 use kex_pipe::pipe::PipeFault;
 use kex_pipe::turn::Turn;
 use kex_ports::Gate;
+use rtrb::{Consumer, Producer};
 use std::thread::{Threads, join_mut};
 
 // A stage's looks, between its entering the gate and its leaving it.
@@ -34,7 +35,7 @@ fn work_one<T: Turn, G: Gate>(
     ensures looks { IfOk result (λ count. Looks T.Turn room seat.old seat.new count) }
 {
     gate.enter(stage);
-    let worked = seat.work(looks, room);
+    let worked = seat.work(looks, u64::from(room));
     gate.leave(stage);
     worked
 }
@@ -81,31 +82,54 @@ fn work_all<R: Threads + Sync, T: Turn + Send, G: Gate + Sync>(
     other
 }
 
-// The stages before and at this place, which have the ends of one ring.
-fn look_beside<T: Turn>(seats: &mut [RingSeat<T>], i: usize)
-    requires some { 0 < i }
-    requires within { i < length seats.old }
-    requires paired { (room : ℕ) × Joined T.Turn (ArePaired room) None seats.old None }
-    ensures { (front back : List (RingSeat T T.Turn)) (s n : RingSeat T T.Turn) → seats.old ≡ front ++ s ∷ n ∷ back → length front + 1 ≡ i → NowBeside T.Turn front back s n seats.new }
+// With both ends of a ring, where there is one, in one hand all that lies in it is seen.
+fn look_at(to: &mut Option<Producer<Item>>, from: &mut Option<Consumer<Item>>)
+    requires { (room : ℕ) × ArePaired room to.old from.old }
+    ensures beside { (room : ℕ) → ArePaired room to.old from.old → AreBeside room to.new from.new }
+    ensures to { SameGiver to.old to.new × (sent_to to.new ≡ sent_to to.old) × (free_in to.old ≤ free_in to.new) }
+    ensures from { SameTaker from.old from.new × (taken_from from.new ≡ taken_from from.old) }
 {
-    let (front, back) = seats.split_at_mut(i);
-    let before = &mut front[i - 1];
-    let behind = &mut back[0];
-    if let Some(to) = &mut before.to {
-        if let Some(from) = &mut behind.from {
+    if let Some(to) = to {
+        if let Some(from) = from {
             from.slots_beside(to);
         }
     }
 }
 
+// The last stage in front and the first one behind it, which have the ends of one ring.
+fn look_between<T: Turn>(front: &mut [RingSeat<T>], back: &mut [RingSeat<T>])
+    requires front { 0 < length front.old }
+    requires back { 0 < length back.old }
+    requires paired { (room : ℕ) × (fs : List (RingSeat T T.Turn)) × (s : RingSeat T T.Turn) × (n : RingSeat T T.Turn) × (bs : List (RingSeat T T.Turn)) × (front.old ≡ fs ++ s ∷ []) × (back.old ≡ n ∷ bs) × ArePaired room s.to n.from }
+    ensures { (fs bs : List (RingSeat T T.Turn)) (s n : RingSeat T T.Turn) → front.old ≡ fs ++ s ∷ [] → back.old ≡ n ∷ bs → NowBeside T.Turn fs bs s n (front.new ++ back.new) }
+{
+    let last = front.len() - 1;
+    let before = &mut front[last];
+    let behind = &mut back[0];
+    look_at(&mut before.to, &mut behind.from);
+}
+
+// The stages at this place and behind it, which have the ends of one ring.
+fn look_beside<T: Turn>(seats: &mut [RingSeat<T>], i: usize)
+    requires within { i + 1 < length seats.old }
+    requires paired { (room : ℕ) × (front : List (RingSeat T T.Turn)) × (s : RingSeat T T.Turn) × (n : RingSeat T T.Turn) × (back : List (RingSeat T T.Turn)) × (seats.old ≡ front ++ s ∷ n ∷ back) × (length front ≡ i) × ArePaired room s.to n.from }
+    ensures count { length seats.new ≡ length seats.old }
+    ensures beside { (front back : List (RingSeat T T.Turn)) (s n : RingSeat T T.Turn) → seats.old ≡ front ++ s ∷ n ∷ back → length front ≡ i → NowBeside T.Turn front back s n seats.new }
+{
+    let (front, back) = seats.split_at_mut(i + 1);
+    look_between(front, back);
+}
+
 // With both ends of each ring in one hand each stage sees all that lies before it.
 fn look_beside_all<T: Turn>(seats: &mut [RingSeat<T>])
     requires some { 0 < length seats.old }
-    requires paired { (room : ℕ) × Joined T.Turn (ArePaired room) None seats.old None }
+    requires paired { (room : ℕ) × Joined T.Turn (ArePaired room) None seats.old }
+    ensures count { length seats.new ≡ length seats.old }
     ensures looked { Each (OnlyLooked T.Turn) seats.old seats.new }
-    ensures beside { (room : ℕ) → Joined T.Turn (ArePaired room) None seats.old None → Joined T.Turn (AreBeside room) None seats.new None }
+    ensures beside { (room : ℕ) → Joined T.Turn (ArePaired room) None seats.old → Joined T.Turn (AreBeside room) None seats.new }
 {
-    for i in 1..seats.len() {
+    let last = seats.len() - 1;
+    for i in 0..last {
         look_beside(seats, i);
     }
 }
@@ -135,9 +159,9 @@ fn run<R: Threads + Sync, T: Turn + Send, G: Gate + Sync>(
     requires some { 0 < length seats.old }
     requires looks { 0 < looks }
     requires usable { AllUsable T.Turn seats.old }
-    requires joined { Joined T.Turn (AreBeside room) None seats.old None }
+    requires joined { Joined T.Turn (AreBeside room) None seats.old }
     ensures usable { OnOk result (AllUsable T.Turn seats.new) }
-    ensures joined { OnOk result (Joined T.Turn (AreBeside room) None seats.new None) }
+    ensures joined { OnOk result (Joined T.Turn (AreBeside room) None seats.new) }
     ensures count { OnOk result (length seats.new ≡ length seats.old) }
     ensures counts { OnOk result (length counts.new.items ≡ length seats.old) }
     ensures turns { OnOk result (LineRounds T.Turn seats.old output.old seats.new output.new counts.new.items) }

@@ -2,11 +2,14 @@
 
 ghost use Rattle.std.specs.Prelude.{◌≡◌, ◌++◌, [], List, ℕ, None, IsTrue, IfOk, OnOk, OnErr, length};
 ghost use Rattle.kex_pipe.specs.Waiting.{unread, waiting};
-ghost use Rattle.kex_rings.specs.Ends.{AreBeside};
+ghost use Rattle.kex_pipe.specs.Seats.{IsWhole};
+ghost use Rattle.kex_rings.specs.Ends.{AreBeside, seen_in};
+ghost use Rattle.kex_rings.specs.Items.{items_as};
 ghost use Rattle.kex_rings.specs.Looking.{AllUsable};
 ghost use Rattle.kex_rings.specs.Settling.{SettlesBy, SettlesAll, AllSeatsUsable};
-ghost use Rattle.kex_rings.specs.Standing.{Joined, AreNew, LineSettles};
+ghost use Rattle.kex_rings.specs.Lines.{Joined, AreNew, LineSettles};
 
+use crate::item::Item;
 use crate::joining::join_all;
 use crate::passing::pull_all;
 use crate::ring_seat::RingSeat;
@@ -14,7 +17,18 @@ use kex_code::memory::Memory;
 use kex_pipe::inbox::Inbox;
 use kex_pipe::seat::Seat;
 use kex_pipe::turn::Turn;
+use rtrb::Consumer;
 use std::alloc::Global;
+
+// Takes all that is seen in the ring, if there is one.
+fn empty(from: Option<Consumer<Item>>, inbox: &mut Inbox) -> Result<(), Memory>
+    ensures { OnOk result (IsWhole (waiting inbox.old ++ items_as (seen_in from)) → waiting inbox.new ≡ waiting inbox.old ++ items_as (seen_in from)) }
+{
+    match from {
+        None => Ok(()),
+        Some(mut ring) => pull_all(&mut ring, inbox),
+    }
+}
 
 // The stage takes what lies in its ring and then what was carried here, and what it has written is carried on.
 fn settle_one<T: Turn + Drop>(seat: RingSeat<T>, carried: &mut Inbox) -> Result<Seat<T>, Memory>
@@ -27,9 +41,7 @@ fn settle_one<T: Turn + Drop>(seat: RingSeat<T>, carried: &mut Inbox) -> Result<
         from,
         to: _,
     } = seat;
-    if let Some(mut ring) = from {
-        pull_all(&mut ring, &mut seat.inbox)?;
-    }
+    empty(from, &mut seat.inbox)?;
     seat.inbox.append(carried)?;
     let all = seat.inbox.count();
     seat.take(all)?;
@@ -49,7 +61,8 @@ fn settle_each<T: Turn + Drop>(
 {
     let mut settled = Vec::new(alloc);
     for seat in seats {
-        settled.push(settle_one(seat, carried)?)?;
+        let after = settle_one(seat, carried)?;
+        settled.push(after)?;
     }
     Ok(settled)
 }
@@ -64,7 +77,7 @@ pub(crate) fn settle_all<T: Turn + Drop>(
 ) -> Result<Vec<RingSeat<T>>, Memory>
     requires { AllUsable T.Turn seats.items }
     ensures usable { IfOk result (λ row. AllUsable T.Turn row.items) }
-    ensures joined { IfOk result (λ row. Joined T.Turn (AreBeside room) None row.items None) }
+    ensures joined { IfOk result (λ row. Joined T.Turn (AreBeside room) None row.items) }
     ensures new { IfOk result (λ row. AreNew T.Turn row.items) }
     ensures count { IfOk result (λ row. length row.items ≡ length seats.items) }
     ensures settles { IfOk result (λ row. LineSettles T.Turn seats.items output.old row.items output.new) }

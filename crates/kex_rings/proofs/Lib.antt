@@ -1,0 +1,10 @@
+pub mod Wholes
+pub mod Pulling
+pub mod Sending
+pub mod Looks
+pub mod Steps
+pub mod Line
+pub mod Joins
+pub mod Standings
+pub mod Settles
+pub mod Rounds

@@ -1,0 +1,24 @@
+use Rattle.std.proofs.Common.{◌≡◌, ◌-◌, ◌++◌, ◌∷◌, ◌∙◌, [], refl, sym, ap, ap₂, subst, length, get_or, append_assoc, length-append, arith}
+use Rattle.std.proofs.Math.ListN.{set}
+use Rattle.kex_rings.specs.Ends.{ArePaired}
+use Rattle.kex_rings.proofs.Joins.{set-at, get-at, now-beside}
+use Rattle.kex_rings.proofs.round.look_between.Goals as goal
+
+pub look_at-requires : goal.look_at-requires
+look_at-requires g c =
+    let q = c.requires.paired in
+    let last = length c.args.front.now - 1 in
+    let place : length q.1 ≡ last = omega (arith, ap length q.5, length-append q.1 (q.2 ∷ [])) in
+    let first : get_or c.args.front.now last c.index-front-last.result ≡ q.2 = ap (λ z. get_or z last c.index-front-last.result) q.5 ∙ get-at q.1 q.2 [] last c.index-front-last.result place in
+    let second : get_or c.args.back.now 0 c.index-back-0.result ≡ q.3 = ap (λ z. get_or z 0 c.index-back-0.result) q.6 in
+    (q.0, subst (λ z. ArePaired q.0 z.to (get_or c.args.back.now 0 c.index-back-0.result).from) (sym first) (subst (λ z. ArePaired q.0 q.2.to z.from) (sym second) q.7))
+
+pub returns : goal.returns
+returns g c = λ fs bs s n front_is back_is.
+    let t = g.T.Turn in
+    let last = length c.args.front.now - 1 in
+    let place : length fs ≡ last = omega (arith, ap length front_is, length-append fs (s ∷ [])) in
+    let first : get_or c.args.front.now last c.index-front-last.result ≡ s = ap (λ z. get_or z last c.index-front-last.result) front_is ∙ get-at fs s [] last c.index-front-last.result place in
+    let second : get_or c.args.back.now 0 c.index-back-0.result ≡ n = ap (λ z. get_or z 0 c.index-back-0.result) back_is in
+    now-beside t fs bs s n _ _ _ _ _ first second
+    (ap₂ (λ a b. a ++ b) (ap (λ z. set z last _) front_is ∙ set-at fs s [] last _ place) (ap (λ z. set z 0 _) back_is) ∙ append_assoc fs _ _) refl refl refl refl c.look_at.ensures.to c.look_at.ensures.from c.look_at.ensures.beside
