@@ -189,17 +189,6 @@ module _ {T : Type 0} (t : Ghosts T) where
   both-looks room (s ∷ fs) [] bs bs' cs ds f g = absurd f
   both-looks room (s ∷ fs) (s' ∷ fs') bs bs' [] ds f g = absurd f
 
-  one-usable : (s : RingSeat T t) → IsTrue s.seat.usable → AllUsable t (s ∷ [])
-  one-usable s usable zero d lt = usable
-  one-usable s usable (suc k) d lt = absurd (omega arith)
-
-  pub one-looks : (room : ℕ) (ss : List (RingSeat T t)) (s s' : RingSeat T t) (cs : List ℕ) (n : ℕ) → length ss < 2 → 0 < length ss → length cs ≡ length ss → s ≡ get_or ss 0 s → Looks t room s s' n → IsTrue s'.seat.usable → EachLooks t room ss (set ss 0 s') (set cs 0 n) × AllUsable t (set ss 0 s')
-  one-looks room [] s s' cs n few some long is looks usable = absurd (omega arith)
-  one-looks room (a ∷ b ∷ ss) s s' cs n few some long is looks usable = absurd (omega arith)
-  one-looks room (a ∷ []) s s' [] n few some long is looks usable = absurd (omega arith)
-  one-looks room (a ∷ []) s s' (c ∷ d ∷ cs) n few some long is looks usable = absurd (omega arith)
-  one-looks room (a ∷ []) s s' (c ∷ []) n few some long is looks usable = ((subst (λ z. Looks t room z s' n) is looks, tt), one-usable s' usable)
-
 heads : {A : Type 0} {x y : A} {xs ys : List A} → x ∷ xs ≡ y ∷ ys → x ≡ y
 heads e = cc
 

@@ -1,6 +1,8 @@
 -- What a round keeps, and how far it gets.
-use Rattle.std.proofs.Common.{◌≡◌, ◌≤◌, ◌<◌, ◌+◌, ◌-◌, ℕ, zero, suc, true, List, [], ◌∷◌, ◌++◌, Some, None, length, get_or, min, refl, sym, ap, subst, ◌∙◌, length-append, arith, Global}
-use Rattle.std.specs.Prelude.{IsTrue}
+use Rattle.std.proofs.Common.{◌≡◌, ◌≤◌, ◌<◌, ◌+◌, ◌-◌, ℕ, zero, suc, Bool, true, false, List, [], ◌∷◌, ◌++◌, Some, None, length, map, take, get_or, min, refl, sym, ap, subst, ◌∙◌, length-append, arith, Global}
+use Rattle.std.specs.Prelude.{IsTrue, IsErr, Result, Ok, Err, OnOk, is_ok}
+use Rattle.std.proofs.Math.ListN.{set}
+use Rattle.std.proofs.lemmas.List.{map-append}
 use Rattle.rtrb.specs.Ring.{sent, known_free, producer_capacity}
 use Rattle.rtrb.specs.declared.producer.Producer.{Producer}
 use Rattle.rtrb.specs.declared.AnyItems.{AnyItems}
@@ -14,10 +16,10 @@ use Rattle.kex_rings.specs.declared.item.Item.{Item}
 use Rattle.kex_rings.specs.declared.ring_seat.RingSeat.{RingSeat}
 use Rattle.kex_rings.specs.Items.{items_as}
 use Rattle.kex_rings.specs.Ends.{Giver, Taker, sent_to, free_in, taken_from, seen_in, SameGiver, SameTaker, IsLast, ArePaired, AreBeside}
-use Rattle.kex_rings.specs.Looking.{fed_more, Looks, EachLooks, OnlyLooked, CarriedOut, AllUsable, unsent_of, unsent}
+use Rattle.kex_rings.specs.Looking.{fed_more, Looks, EachLooks, OnlyLooked, CarriedOut, AllUsable, WorkedAll, unsent_of, unsent}
 use Rattle.kex_rings.specs.Lines.{Joined, AllGetOn, GetOn}
-use Rattle.kex_rings.proofs.Looks.{same-taker, same-giver}
-use Rattle.kex_rings.proofs.Joins.{all-both, all-one}
+use Rattle.kex_rings.proofs.Looks.{same-taker, same-giver, one-taker, one-giver}
+use Rattle.kex_rings.proofs.Joins.{all-both, all-one, both-looks}
 
 pub same-pair : (room : ℕ) (to to' : Giver) (from from' : Taker) → SameGiver to to' → SameTaker from from' → ArePaired room to from → ArePaired room to' from'
 same-pair room None None None None a b h = tt
@@ -62,7 +64,7 @@ module _ {T : Type 0} (t : Ghosts T) where
   joined-kept room to to' (s ∷ ss) (s' ∷ ss') [] a j work = absurd work
 
   -- looks, and then a look with both ends in one hand
-  looks-looked : (room : ℕ) (s m s' : RingSeat T t) (c : ℕ) → Looks t room s m c → OnlyLooked t m s' → Looks t room s s' c
+  pub looks-looked : (room : ℕ) (s m s' : RingSeat T t) (c : ℕ) → Looks t room s m c → OnlyLooked t m s' → Looks t room s s' c
   looks-looked room s m s' c l o = record {
     same_from = same-taker s.from m.from s'.from l.same_from o.same_from;
     same_to = same-giver s.to m.to s'.to l.same_to o.same_to;
@@ -84,6 +86,36 @@ module _ {T : Type 0} (t : Ghosts T) where
     sent_most = l.sent_most;
     free = let x = l.free in let y = o.free in omega (arith, x, y);
   }
+
+  pub retook : (room : ℕ) (s m s' : RingSeat T t) (c : ℕ) → s'.seat ≡ m.seat → s'.from ≡ m.from → s'.to ≡ m.to → Looks t room s m c → Looks t room s s' c
+  retook room s m s' c seat from to l = looks-looked room s m s' c l (record {
+    same_seat = seat;
+    same_from = subst (λ z. SameTaker m.from z) (sym from) (one-taker m.from);
+    same_to = subst (λ z. SameGiver m.to z) (sym to) (one-giver m.to);
+    came = ap taken_from from;
+    went = ap sent_to to;
+    free = subst (λ z. free_in m.to ≤ free_in z) (sym to) (omega arith);
+  })
+
+  -- rows side by side
+  pub both-worked : (room : ℕ) (a b : Bool) (fs fs' bs bs' : List (RingSeat T t)) → a ≡ true → WorkedAll t room a fs fs' → WorkedAll t room b bs bs' → WorkedAll t room b (fs ++ bs) (fs' ++ bs')
+  both-worked room a b fs fs' bs bs' sure f g = record {
+    looks = λ also. subst (λ z. EachLooks t room (fs ++ bs) (fs' ++ bs') z) (sym (map-append (λ s. s.took) fs' bs')) (both-looks t room fs fs' bs bs' (map (λ s. s.took) fs') (map (λ s. s.took) bs') (f.looks sure) (g.looks also));
+    usable = λ also. all-both (λ s. IsTrue s.seat.usable) fs' bs' (f.usable sure) (g.usable also);
+  }
+
+  pub not-worked : {A E : Type 0} (r : Result A E) (room : ℕ) (ss ss' : List (RingSeat T t)) → IsErr r → WorkedAll t room (is_ok r) ss ss'
+  not-worked (Ok x) room ss ss' err = cc
+  not-worked (Err e) room ss ss' err = record { looks = λ yes. cc; usable = λ yes. cc }
+
+  one-all : (room : ℕ) (ss : List (RingSeat T t)) (s s' : RingSeat T t) → length ss < 2 → 0 < length ss → s ≡ get_or ss 0 s → Looks t room s s' s'.took → IsTrue s'.seat.usable → EachLooks t room ss (set ss 0 s') (map (λ z. z.took) (set ss 0 s')) × AllUsable t (set ss 0 s')
+  one-all room [] s s' few some is looks usable = absurd (omega arith)
+  one-all room (a ∷ b ∷ ss) s s' few some is looks usable = absurd (omega arith)
+  one-all room (a ∷ []) s s' few some is looks usable = ((subst (λ z. Looks t room z s' s'.took) is looks, tt), all-one (λ z. IsTrue z.seat.usable) s' usable)
+
+  pub one-worked : {A E : Type 0} (r : Result A E) (room : ℕ) (ss : List (RingSeat T t)) (s s' : RingSeat T t) → length ss < 2 → 0 < length ss → s ≡ get_or ss 0 s → OnOk r (Looks t room s s' s'.took) → OnOk r (IsTrue s'.seat.usable) → WorkedAll t room (is_ok r) ss (set ss 0 s')
+  one-worked (Ok x) room ss s s' few some is looks usable = record { looks = λ yes. (one-all room ss s s' few some is looks usable).0; usable = λ yes. (one-all room ss s s' few some is looks usable).1 }
+  one-worked (Err e) room ss s s' few some is looks usable = record { looks = λ yes. cc; usable = λ yes. cc }
 
   pub each-looked : (room : ℕ) (ss mid ss' : List (RingSeat T t)) (cs : List ℕ) → EachLooks t room ss mid cs → Each (OnlyLooked t) mid ss' → EachLooks t room ss ss' cs
   each-looked room [] [] [] [] work look = tt
@@ -116,7 +148,8 @@ module _ {T : Type 0} (t : Ghosts T) where
   joined-out R to (f ∷ front) s s' from end j = (j.0, joined-out R f.to front s s' from end j.1)
 
   pub usable-out : (front : List (RingSeat T t)) (s s' : RingSeat T t) → s'.seat.usable ≡ s.seat.usable → AllUsable t (front ++ s ∷ []) → AllUsable t (front ++ s' ∷ [])
-  usable-out [] s s' same all = all-one (λ z. IsTrue z.seat.usable) s' (subst IsTrue (sym same) (all zero s (omega arith)))
+  usable-out [] s s' same all zero d lt = subst IsTrue (sym same) (all zero s (omega arith))
+  usable-out [] s s' same all (suc k) d lt = absurd (omega arith)
   usable-out (f ∷ front) s s' same all zero d lt = all zero f (omega arith)
   usable-out (f ∷ front) s s' same all (suc k) d lt = usable-out front s s' same (λ n e less. all (suc n) e (omega arith)) k d (omega arith)
 
@@ -151,3 +184,14 @@ module _ {T : Type 0} (t : Ghosts T) where
   get-on-out room (a ∷ ss) (f ∷ front) s s' [] end h = absurd h
   get-on-out room (a ∷ b ∷ ss) [] s s' (c ∷ cs) end h = absurd h.1
   get-on-out room (a ∷ []) [] s s' (c ∷ d ∷ cs) end h = absurd h.1
+
+  pub took-more : (ss : List (RingSeat T t)) (i : ℕ) (d : RingSeat T t) → i < length ss → map (λ s. s.took) (take (suc i) ss) ≡ map (λ s. s.took) (take i ss) ++ (get_or ss i d).took ∷ []
+  took-more [] i d lt = absurd (omega arith)
+  took-more (s ∷ ss) zero d lt = refl
+  took-more (s ∷ ss) (suc i) d lt = ap (λ z. s.took ∷ z) (took-more ss i d (omega arith))
+
+  pub took-all : (ss : List (RingSeat T t)) (i : ℕ) → length ss ≤ i → map (λ s. s.took) (take i ss) ≡ map (λ s. s.took) ss
+  took-all [] zero le = refl
+  took-all [] (suc i) le = refl
+  took-all (s ∷ ss) zero le = absurd (omega arith)
+  took-all (s ∷ ss) (suc i) le = ap (λ z. s.took ∷ z) (took-all ss i (omega arith))

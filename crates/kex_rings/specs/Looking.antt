@@ -1,5 +1,5 @@
 -- What a stage between two rings does.
-use Rattle.std.specs.Prelude.{◌≡◌, ◌≤◌, ◌+◌, ◌++◌, ◌⊎◌, [], ◌∷◌, true, false, Bool, List, ℕ, Some, None, length, min, All, IsTrue}
+use Rattle.std.specs.Prelude.{◌≡◌, ◌≤◌, ◌+◌, ◌++◌, ◌⊎◌, [], ◌∷◌, true, false, Bool, List, ℕ, Some, None, length, map, min, All, IsTrue}
 use Rattle.rtrb.specs.Ring.{known_items}
 use Rattle.kex_model.specs.Schedules.{Seat}
 use Rattle.kex_model.specs.Schedules as schedule
@@ -145,3 +145,8 @@ module _ {T : Type 0} (t : Ghosts T) where
   EachLooks room [] [] [] = Unit {0}
   EachLooks room (s ∷ ss) (s' ∷ ss') (c ∷ cs) = Looks room s s' c × EachLooks room ss ss' cs
   EachLooks room ss ss' cs = ⊥
+
+  -- all of them have made their looks, or one wanted memory
+  pub record WorkedAll (room : ℕ) (done : Bool) (ss ss' : List (RingSeat T t)) : Type 0 where
+    pub looks : done ≡ true → EachLooks room ss ss' (map (λ s. s.took) ss')
+    pub usable : done ≡ true → AllUsable ss'

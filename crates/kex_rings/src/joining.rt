@@ -51,6 +51,7 @@ pub(crate) fn join_all<T: Turn + Drop>(
             seat,
             from: replace(&mut from, next),
             to,
+            took: 0,
         })?;
     }
     Ok(row)

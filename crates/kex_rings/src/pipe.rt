@@ -91,6 +91,11 @@ impl<T: Turn + Drop> RingPipe<T> {
         self.ended
     }
 
+    // A law: what was taken and is in hand begins the pipeline's text.
+    pub(crate) fn begins(&self)
+        ensures { (ps : List T.Plan) (h : List Event) (taken : List ℕ) → Stands T.Turn ps self.now h taken → BeginsAnswer T.Turn ps self.now h taken }
+    {}
+
     /// Gives bytes to the first stage. After an error the output in hand is as it was, here and at every other call.
     pub fn give(&mut self, bytes: &[u8]) -> Result<(), PipeFault>
         requires unended { is_ended T.Turn self.old ≡ false }

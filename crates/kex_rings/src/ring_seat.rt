@@ -16,6 +16,8 @@ pub struct RingSeat<T: Turn> {
     pub(crate) seat: Seat<T>,
     pub(crate) from: Option<Consumer<Item>>,
     pub(crate) to: Option<Producer<Item>>,
+    /// How many items it took in the last round.
+    pub(crate) took: u64,
 }
 
 impl<T: Turn> RingSeat<T> {

@@ -1,12 +1,12 @@
 // A round of all stages at once, joined by their rings.
 
-ghost use Rattle.std.specs.Prelude.{◌≡◌, ◌+◌, ◌<◌, ◌≤◌, ◌^◌, ◌++◌, ◌∷◌, ◌↔◌, [], List, ℕ, None, Err, IsTrue, IfOk, OnOk, OnErr, is_err, length, vec_len};
+ghost use Rattle.std.specs.Prelude.{◌≡◌, ◌+◌, ◌<◌, ◌≤◌, ◌^◌, ◌++◌, ◌∷◌, ◌↔◌, [], List, ℕ, None, Err, IsTrue, IfOk, OnOk, OnErr, is_ok, is_err, length, map, vec_len};
 ghost use Rattle.std.specs.Thread.{IsSync};
 ghost use Rattle.kex_model.specs.Schedules.{Event};
 ghost use Rattle.kex_pipe.specs.Rounds.{Each};
 ghost use Rattle.kex_pipe.specs.Waiting.{unread};
 ghost use Rattle.kex_rings.specs.Ends.{sent_to, free_in, taken_from, SameGiver, SameTaker, ArePaired, AreBeside};
-ghost use Rattle.kex_rings.specs.Looking.{Looks, OnlyLooked, NowBeside, CarriedOut, AllUsable, EachLooks};
+ghost use Rattle.kex_rings.specs.Looking.{Looks, OnlyLooked, NowBeside, CarriedOut, AllUsable, WorkedAll};
 ghost use Rattle.kex_rings.specs.Lines.{turns_from, Line, Joined, AllGetOn, LineRounds};
 ghost use Rattle.kex_rings.specs.Standing.{Stands, BeginsAnswer, HasWritten, in_hand, is_ended, is_spent, stage_count};
 
@@ -28,58 +28,73 @@ fn work_one<T: Turn, G: Gate>(
     seat: &mut RingSeat<T>,
     looks: u32,
     room: u32,
-) -> Result<u64, Memory>
+) -> Result<(), Memory>
     requires usable { IsTrue seat.old.seat.usable }
     requires some { 0 < looks }
     ensures usable { OnOk result (IsTrue seat.new.seat.usable) }
-    ensures looks { IfOk result (λ count. Looks T.Turn room seat.old seat.new count) }
+    ensures looks { OnOk result (Looks T.Turn room seat.old seat.new seat.new.took) }
 {
     gate.enter(stage);
     let worked = seat.work(looks, u64::from(room));
     gate.leave(stage);
-    worked
+    seat.took = worked?;
+    Ok(())
 }
 
-// The looks of these stages, the first of which has this number, and how much each took.
-fn work_all<R: Threads + Sync, T: Turn + Send, G: Gate + Sync>(
-    rt: &R,
-    gate: &G,
+// What each of some stages is to do, the first of which has this number.
+#[derive(Clone, Copy)]
+struct Task {
     first: u32,
     looks: u32,
     room: u32,
+}
+
+// The looks of these stages.
+fn work_all<R: Threads + Sync, T: Turn + Send, G: Gate + Sync>(
+    rt: &R,
+    gate: &G,
+    task: Task,
     seats: &mut [RingSeat<T>],
-    counts: &mut [u64],
 ) -> Result<(), Memory>
-    requires few { first + length seats.old ≤ 2 ^ 32 }
-    requires some { 0 < looks }
-    requires usable { AllUsable T.Turn seats.old }
-    requires long { length counts.old ≡ length seats.old }
-    ensures { OnOk result (EachLooks T.Turn room seats.old seats.new counts.new × AllUsable T.Turn seats.new) }
+    requires { (task.first + length seats.old ≤ 2 ^ 32) × (0 < task.looks) × AllUsable T.Turn seats.old }
+    ensures { WorkedAll T.Turn task.room (is_ok result) seats.old seats.new }
 {
     if seats.len() < 2 {
-        if seats.is_empty() {
-            return Ok(());
-        }
-        counts[0] = work_one(gate, first, &mut seats[0], looks, room)?;
-        return Ok(());
+        return match seats.first_mut() {
+            None => Ok(()),
+            Some(seat) => work_one(gate, task.first, seat, task.looks, task.room),
+        };
     }
     let half = seats.len() / 2;
-    let next = first + half as u32;
+    let next = Task {
+        first: task.first + half as u32,
+        ..task
+    };
     let (front, back) = seats.split_at_mut(half);
-    let (front_counts, back_counts) = counts.split_at_mut(half);
     let (one, other) = join_mut(
         rt,
         &mut || -> Result<(), Memory>
-            requires { IsSync R.row × (first + length front.now ≤ 2 ^ 32) × (0 < looks) × AllUsable T.Turn front.now × (length front_counts.now ≡ length front.now) }
-            ensures { OnOk result (EachLooks T.Turn room front.entry.now front.exit.now front_counts.exit.now × AllUsable T.Turn front.exit.now) }
-        { work_all(rt, gate, first, looks, room, front, front_counts) },
+            requires { IsSync R.row × (task.first + length front.now ≤ 2 ^ 32) × (0 < task.looks) × AllUsable T.Turn front.now }
+            ensures { WorkedAll T.Turn task.entry.room (is_ok result) front.entry.now front.exit.now }
+        { work_all(rt, gate, task, front) },
         &mut || -> Result<(), Memory>
-            requires { IsSync R.row × (next + length back.now ≤ 2 ^ 32) × (0 < looks) × AllUsable T.Turn back.now × (length back_counts.now ≡ length back.now) }
-            ensures { OnOk result (EachLooks T.Turn room back.entry.now back.exit.now back_counts.exit.now × AllUsable T.Turn back.exit.now) }
-        { work_all(rt, gate, next, looks, room, back, back_counts) },
+            requires { IsSync R.row × (next.first + length back.now ≤ 2 ^ 32) × (0 < next.looks) × AllUsable T.Turn back.now }
+            ensures { WorkedAll T.Turn next.entry.room (is_ok result) back.entry.now back.exit.now }
+        { work_all(rt, gate, next, back) },
     );
     one?;
     other
+}
+
+// How many items each stage took.
+fn gather<T: Turn>(seats: &[RingSeat<T>], counts: &mut Vec<u64>) -> Result<(), Memory>
+    ensures { OnOk result (counts.new.items ≡ map (λ s. s.took) seats.now) }
+{
+    counts.clear();
+    for seat in seats {
+        counts.push(seat.took)?;
+    }
+    Ok(())
 }
 
 // With both ends of a ring, where there is one, in one hand all that lies in it is seen.
@@ -137,6 +152,7 @@ fn look_beside_all<T: Turn>(seats: &mut [RingSeat<T>])
 // What the last stage has written goes behind the output in hand.
 fn carry_out<T: Turn>(seats: &mut [RingSeat<T>], output: &mut Inbox) -> Result<(), Memory>
     requires { 0 < length seats.old }
+    ensures count { length seats.new ≡ length seats.old }
     ensures out { OnOk result ((front : List (RingSeat T T.Turn)) (s : RingSeat T T.Turn) → seats.old ≡ front ++ s ∷ [] → CarriedOut T.Turn front s output.old seats.new output.new) }
     ensures hand { OnErr result (unread output.new ≡ unread output.old) }
 {
@@ -168,9 +184,10 @@ fn run<R: Threads + Sync, T: Turn + Send, G: Gate + Sync>(
     ensures gets_on { OnOk result (AllGetOn T.Turn room seats.old seats.new counts.new.items) }
     ensures hand { OnErr result (unread output.new ≡ unread output.old) }
 {
-    counts.clear();
-    counts.resize(seats.len(), 0)?;
-    work_all(rt, gate, 1, looks, room, seats, counts.as_mut_slice())?;
+    let first = 1;
+    let task = Task { first, looks, room };
+    work_all(rt, gate, task, seats)?;
+    gather(seats, counts)?;
     look_beside_all(seats);
     carry_out(seats, output)
 }
@@ -202,6 +219,7 @@ pub fn ring_round<R: Threads + Sync, T: Turn + Drop + Send, G: Gate + Sync>(
     if pipe.spent {
         return Err(PipeFault::Spent);
     }
+    pipe.begins();
     let room = pipe.room;
     match run(
         rt,

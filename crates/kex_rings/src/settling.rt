@@ -40,6 +40,7 @@ fn settle_one<T: Turn + Drop>(seat: RingSeat<T>, carried: &mut Inbox) -> Result<
         mut seat,
         from,
         to: _,
+        took: _,
     } = seat;
     empty(from, &mut seat.inbox)?;
     seat.inbox.append(carried)?;

@@ -1,11 +1,21 @@
-use Rattle.std.proofs.Common.{rules, ◌≡◌, ◌++◌, ◌∙◌, [], refl, sym, ap, subst, length, arith}
-use Rattle.std.specs.Prelude.{OnOk}
-use Rattle.kex_rings.specs.Looking.{EachLooks, AllUsable}
-use Rattle.kex_rings.proofs.Joins.{one-looks, both-looks, all-both, from-ok}
+use Rattle.std.proofs.Common.{rules, ◌≡◌, ◌++◌, true, sym, ap, subst}
+use Rattle.std.specs.Prelude.{is_ok}
+use Rattle.kex_rings.specs.Looking.{WorkedAll}
+use Rattle.kex_rings.proofs.Rounds.{both-worked, not-worked, one-worked}
 use Rattle.kex_rings.proofs.round.+fn-work_all-join_mut+arg2+fn-work_all-join_mut+arg3+work_all.Goals as goal
 
-pub returns-then-seats-lt2 : goal.returns-then-seats-lt2
-returns-then-seats-lt2 g t c = ?
+pub returns-in-Some : goal.returns-in-Some
+returns-in-Some g t c =
+    let item = c.in-Some.ensures.item in
+    one-worked g.T.Turn c.work_one.result c.args.task.room c.args.seats.now c.in-Some.seat.now c.work_one.new.seat c.if-seats-lt2.true item.3.0 item.1 c.work_one.ensures.looks c.work_one.ensures.usable
+
+pub returns-in_err-one : goal.returns-in_err-one
+returns-in_err-one g t c = not-worked g.T.Turn c.from_residual.result c.args.task.room _ _ c.from_residual.ensures.0
 
 pub returns : goal.returns
-returns g t c = ?
+returns g t c =
+    let h = c.split_at_mut-front in
+    let front : WorkedAll g.T.Turn c.args.task.room (is_ok c.join_mut-one.result.0) h.result.0.now c.front-1.given.0 = search rules in
+    let back : WorkedAll g.T.Turn c.args.task.room (is_ok c.join_mut-one.result.1) h.result.1.now c.back-1.given.0 = search rules in
+    subst (λ z. WorkedAll g.T.Turn c.args.task.room (is_ok c.join_mut-one.result.1) z (c.front-1.given.0 ++ c.back-1.given.0)) (sym h.ensures.value)
+    (both-worked g.T.Turn c.args.task.room (is_ok c.join_mut-one.result.0) (is_ok c.join_mut-one.result.1) h.result.0.now c.front-1.given.0 h.result.1.now c.back-1.given.0 (ap is_ok c.in_ok-one.was) front back)

@@ -1,11 +1,25 @@
-use Rattle.std.proofs.Common.{◌≡◌, ◌∙◌, [], ◌++◌, sym, ap, ap₂, subst, length, arith}
+use Rattle.std.proofs.Common.{◌≡◌, ◌∙◌, [], ◌++◌, None, sym, ap, ap₂, subst, length, arith}
 use Rattle.std.specs.Vec.{with_items}
 use Rattle.std.proofs.lemmas.List.{with_items_is}
 use Rattle.kex_code.specs.Codes.{Begins}
 use Rattle.kex_pipe.proofs.Schedule.{came-given}
-use Rattle.kex_rings.specs.Lines.{Line, turns_from, AllGetOn}
-use Rattle.kex_rings.proofs.Standings.{standing, has-written, stands-begins, whole-given}
+use Rattle.kex_rings.specs.Ends.{AreBeside}
+use Rattle.kex_rings.specs.Looking.{AllUsable}
+use Rattle.kex_rings.specs.Lines.{Line, Joined, turns_from, AllGetOn}
+use Rattle.kex_rings.proofs.Standings.{standing, has-written, whole-given}
 use Rattle.kex_rings.proofs.round.ring_round.Goals as goal
+
+pub invariant_of-pipe : goal.invariant_of-pipe
+invariant_of-pipe g c =
+    let t = g.T.Turn in
+    let pipe = c.args.pipe.now in
+    let seats = with_items_is pipe.seats c.run.new.seats (omega (arith, c.in-Ok.ensures.count, c.deref_mut.ensures.len)) in
+    record {
+      some = pipe.some;
+      few = pipe.few;
+      all_usable = λ going. subst (λ z. AllUsable t z) (sym seats) c.in-Ok.ensures.usable;
+      joined = λ going. subst (λ z. Joined t (AreBeside pipe.room) None z) (sym seats) c.in-Ok.ensures.joined;
+    }
 
 pub returns-in-Ok-clause-stands : goal.returns-in-Ok-clause-stands
 returns-in-Ok-clause-stands g c = λ ps h taken s.
@@ -26,8 +40,7 @@ returns-in-Ok-clause-gets_on g c =
 
 pub returns-in-Err-clause-begins : goal.returns-in-Err-clause-begins
 returns-in-Err-clause-begins g c = λ ps h taken s text report answer.
-    let t = g.met.T.Turn in
-    subst (λ z. Begins text (taken ++ z)) (sym c.in-Err.ensures.hand) (stands-begins g.T.Turn t.one t.grows t.ends ps c.args.pipe.now h taken s text report answer)
+    subst (λ z. Begins text (taken ++ z)) (sym c.in-Err.ensures.hand) (c.begins.ensures ps h taken s text report answer)
 
 pub returns-in-Err-clause-written : goal.returns-in-Err-clause-written
 returns-in-Err-clause-written g c = λ ps h taken s. has-written g.T.Turn ps c.args.pipe.now _ h taken c.in-Err.ensures.hand s
