@@ -41,46 +41,48 @@ fn work_one<T: Turn, G: Gate>(
     Ok(())
 }
 
-// What each of some stages is to do, the first of which has this number.
-#[derive(Clone, Copy)]
-struct Task {
+// What some stages are to do, the first of which has this number.
+#[derive(Drop)]
+struct Task<'g, G: Gate> {
+    gate: &'g G,
     first: u32,
     looks: u32,
-    room: u32,
 }
 
 // The looks of these stages.
 fn work_all<R: Threads + Sync, T: Turn + Send, G: Gate + Sync>(
     rt: &R,
-    gate: &G,
-    task: Task,
+    task: &Task<'_, G>,
+    room: u32,
     seats: &mut [RingSeat<T>],
 ) -> Result<(), Memory>
-    requires { (task.first + length seats.old ≤ 2 ^ 32) × (0 < task.looks) × AllUsable T.Turn seats.old }
-    ensures { WorkedAll T.Turn task.room (is_ok result) seats.old seats.new }
+    requires { (task.now.first + length seats.old ≤ 2 ^ 32) × (0 < task.now.looks) × AllUsable T.Turn seats.old }
+    ensures { WorkedAll T.Turn room (is_ok result) seats.old seats.new }
 {
     if seats.len() < 2 {
         return match seats.first_mut() {
             None => Ok(()),
-            Some(seat) => work_one(gate, task.first, seat, task.looks, task.room),
+            Some(seat) => work_one(task.gate, task.first, seat, task.looks, room),
         };
     }
     let half = seats.len() / 2;
     let next = Task {
+        gate: task.gate,
         first: task.first + half as u32,
-        ..task
+        looks: task.looks,
     };
+    let behind = &next;
     let (front, back) = seats.split_at_mut(half);
     let (one, other) = join_mut(
         rt,
         &mut || -> Result<(), Memory>
-            requires { IsSync R.row × (task.first + length front.now ≤ 2 ^ 32) × (0 < task.looks) × AllUsable T.Turn front.now }
-            ensures { WorkedAll T.Turn task.entry.room (is_ok result) front.entry.now front.exit.now }
-        { work_all(rt, gate, task, front) },
+            requires { IsSync R.row × (task.now.first + length front.now ≤ 2 ^ 32) × (0 < task.now.looks) × AllUsable T.Turn front.now }
+            ensures { WorkedAll T.Turn room (is_ok result) front.entry.now front.exit.now }
+        { work_all(rt, task, room, front) },
         &mut || -> Result<(), Memory>
-            requires { IsSync R.row × (next.first + length back.now ≤ 2 ^ 32) × (0 < next.looks) × AllUsable T.Turn back.now }
-            ensures { WorkedAll T.Turn next.entry.room (is_ok result) back.entry.now back.exit.now }
-        { work_all(rt, gate, next, back) },
+            requires { IsSync R.row × (behind.now.first + length back.now ≤ 2 ^ 32) × (0 < behind.now.looks) × AllUsable T.Turn back.now }
+            ensures { WorkedAll T.Turn room (is_ok result) back.entry.now back.exit.now }
+        { work_all(rt, behind, room, back) },
     );
     one?;
     other
@@ -184,9 +186,12 @@ fn run<R: Threads + Sync, T: Turn + Send, G: Gate + Sync>(
     ensures gets_on { OnOk result (AllGetOn T.Turn room seats.old seats.new counts.new.items) }
     ensures hand { OnErr result (unread output.new ≡ unread output.old) }
 {
-    let first = 1;
-    let task = Task { first, looks, room };
-    work_all(rt, gate, task, seats)?;
+    let task = Task {
+        gate,
+        first: 1,
+        looks,
+    };
+    work_all(rt, &task, room, seats)?;
     gather(seats, counts)?;
     look_beside_all(seats);
     carry_out(seats, output)
