@@ -10,3 +10,5 @@ pub mod pipe;
 pub mod ring_seat;
 pub mod round;
 mod settling;
+#[cfg(test)]
+mod tests;
