@@ -2,6 +2,8 @@ pub mod Schedules
 pub mod Rounding
 pub mod Working
 pub mod Placing
+pub mod Passing
+pub mod Existing
 pub mod Running
 pub mod Calling
 pub mod Completing

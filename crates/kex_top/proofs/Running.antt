@@ -1,14 +1,14 @@
 -- From one piece to the whole run.
 use Rattle.std.proofs.Common.{◌≡◌, ◌++◌, ◌≤◌, ℕ, List, [], Bool, true, false, refl, sym, ◌∙◌, subst, ap, arith, append_assoc, length, inl, inr}
-use Rattle.std.specs.Prelude.{Option, Some, None, IsSome, Err}
+use Rattle.std.specs.Prelude.{◌⊎◌, Option, Some, None, IsSome, Err}
 use Rattle.std.specs.Io.KnownBytes.{Appends, Consumes, IsAtEnd, Keeps}
 use Rattle.kex_ports.specs.Causes.{Rose}
 use Rattle.kex_ports.specs.Bytes.{IsPrefix}
 use Rattle.kex_ports.proofs.Known.{append-nil, appends-nothing, appends-then, appends-same, appends-kept, consumes-nothing, prefix-whole}
 use Rattle.kex_top.specs.Answer.{Said}
-use Rattle.kex_top.specs.History.{History, Fed, text_of, Writes, WritesFront, WritesUpTo}
+use Rattle.kex_top.specs.History.{History, Fed, IsSaid, bytes_of, text_of, Writes, WritesEarly, WritesFront, WritesUpTo}
 use Rattle.kex_words.specs.Gains.{Change, change}
-use Rattle.kex_top.specs.Run.{is_whole, Pumped, Ran, EndsAs, WritesAll, WritesBegun, WritesEarlier, TroubleCause, status_of, status_for, status_after}
+use Rattle.kex_top.specs.Run.{is_whole, IsSaidBy, Pumped, Ran, EndsAs, WritesAll, WritesBegun, WritesEarlier, TroubleCause, status_of, status_for, status_after}
 use Rattle.kex_pipe.specs.declared.turn.Fate.{Fate}
 use Rattle.kex_pipe.specs.declared.turn.Why.{Why}
 use Rattle.kex_pipe.specs.declared.turn.Why.TheVariants.{Byte, End, Limit}
@@ -62,17 +62,31 @@ module _ {Plan : Type 0} (says : Plan → List ℕ → Bool → Said → Type 0)
         λ whole. opened,
       )
 
+-- what was written of some of a text is that of a front of it
+module _ {Plan : Type 0} (says : Plan → List ℕ → Bool → Said → Type 0) (p p' : Plan) (same : p' ≡ p) (h : History) (w : List ℕ) (e : Bool) (sink : Change) (mid : Option (List ℕ)) where
+  earlier-of : (grows : (q : Plan) (v x : List ℕ) (d : Bool) (a b : Said) → says q v false a → says q (v ++ x) d b → IsPrefix a.text b.text)
+      → Appends sink.old mid (text_of h) → WritesEarly (says p') h w mid sink.new → WritesEarlier (says p) w e sink
+  earlier-of grows before x = record {
+    added = text_of x.now;
+    appended = appends-same _ _ _ _ (sym x.whole) (appends-then _ _ _ _ _ before x.appended);
+    from = from x.now x.cut x.is_said;
+    front = front x.now x.cut x.is_said;
+  }
+    where
+      from : (k : History) → w ≡ bytes_of k ++ x.rest → IsSaid (says p') k → (text_of k ≡ []) ⊎ IsSaidBy (says p) w (text_of k)
+      from None cut said = inl refl
+      from (Some f) cut said = inr (f.bytes, f.said, record { rest = x.rest; joined = cut }, subst (λ q. says q f.bytes false f.said) same said, refl)
+
+      front : (k : History) → w ≡ bytes_of k ++ x.rest → IsSaid (says p') k → (b : Said) → says p w e b → IsPrefix (text_of k) b.text
+      front None cut said b h = record { rest = b.text; joined = refl }
+      front (Some f) cut said b h = grows p f.bytes x.rest e f.said b (subst (λ q. says q f.bytes false f.said) same said) (subst (λ z. says p z e b) cut h)
+
 module _ {Plan : Type 0} (says : Plan → List ℕ → Bool → Said → Type 0) (p p' : Plan) (same : p' ≡ p) (f : Fed) (n : ℕ) (source sink : Change) (mid : Option (List ℕ)) (w : List ℕ) (e : Bool) (s : Status) where
   -- the piece before which the bytes f were said
   module _ (u : List ℕ) (cut : w ≡ f.bytes ++ u) (short : length u ≤ n) (is_said : says p f.bytes false f.said) (before : Appends sink.old mid f.said.text) where
     wanted : (grows : (q : Plan) (v x : List ℕ) (d : Bool) (a b : Said) → says q v false a → says q (v ++ x) d b → IsPrefix a.text b.text)
-        → Keeps mid sink.new → WritesEarlier (says p) w e sink
-    wanted grows kept = record {
-      added = f.said.text;
-      appended = appends-kept-after _ _ _ _ before kept;
-      from = inr (f.bytes, f.said, record { rest = u; joined = cut }, is_said, refl);
-      front = λ b h. grows p f.bytes u e f.said b is_said (subst (λ z. says p z e b) cut h);
-    }
+        → WritesEarly (says p') (Some f) w mid sink.new → WritesEarlier (says p) w e sink
+    wanted grows early = earlier-of says p p' same (Some f) w e sink mid grows before early
 
     failed : WritesFront (says p') (Some f) w e mid sink.new → WritesBegun (says p) n w e sink
     failed x = record {
@@ -134,18 +148,13 @@ module _ (says : List ℕ → Bool → Said → Type 0) (n : ℕ) (source sink :
     begun = λ more. absurd (omega arith);
   }
 
-  wanted-first : Keeps sink.old sink.new → WritesEarlier says [] false sink
-  wanted-first kept = record {
-    added = [];
-    appended = appends-kept _ _ kept;
-    from = inl refl;
-    front = λ said h. record { rest = said.text; joined = refl };
-  }
+  wanted-first : (grows : (v x : List ℕ) (d : Bool) (a b : Said) → says v false a → says (v ++ x) d b → IsPrefix a.text b.text) → WritesEarly says None [] sink.old sink.new → WritesEarlier says [] false sink
+  wanted-first grows early = earlier-of {Plan = Unit {0}} (λ q v d a. says v d a) tt tt refl None [] false sink sink.old (λ q v x d a b. grows v x d a b) (appends-nothing sink.old) early
 
-  pub broken-first : (t : Trouble) → Consumes source.old source.new [] → source.now ≡ source.before
+  pub broken-first : (grows : (v x : List ℕ) (d : Bool) (a b : Said) → says v false a → says (v ++ x) d b → IsPrefix a.text b.text) (t : Trouble) → Consumes source.old source.new [] → source.now ≡ source.before
       → WritesUpTo says None [] false sink.old sink.new t → TroubleCause {T = Fate} sink.before sink.now (Err t)
       → s ≡ status_after t → Pumped says n source sink s
-  broken-first t read a x cause status = (
+  broken-first grows t read a x cause status = (
     record {
       w = [];
       e = false;
@@ -161,7 +170,7 @@ module _ (says : List ℕ → Bool → Said → Type 0) (n : ℕ) (source sink :
       not_whole trouble.Write y = let bad : false ≡ true = y in cc
 
       by_trouble : (t : Trouble) → WritesUpTo says None [] false sink.old sink.new t → TroubleCause {T = Fate} sink.before sink.now (Err t) → EndsAs says n [] false source sink (status_after t)
-      by_trouble trouble.Memory y c = (wanted-first y, a, c)
+      by_trouble trouble.Memory y c = (wanted-first grows y, a, c)
       by_trouble trouble.Write y c = (begun-first y, omega (arith, a), c)
 
 pub some-not-none : (r r' : Option Report) → r ≡ r' → IsSome r' → r ≡ None → ⊥

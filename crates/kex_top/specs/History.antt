@@ -1,6 +1,6 @@
 -- What the stages were fed, and what they have said.
 use Rattle.std.specs.Prelude.{◌≡◌, ◌++◌, ℕ, Bool, false, List, [], Option, Some, None, IsSome}
-use Rattle.std.specs.Io.KnownBytes.{Appends, Keeps}
+use Rattle.std.specs.Io.KnownBytes.{Appends}
 use Rattle.kex_ports.specs.Bytes.{AppendsFront}
 use Rattle.kex_top.specs.Answer.{Said}
 use Rattle.kex_pipe.specs.declared.turn.Fate.{Fate}
@@ -63,7 +63,21 @@ module _ (says : List ℕ → Bool → Said → Type 0) where
     pub whole : said.text ≡ text_of h ++ added
     pub appended : AppendsFront old new added
 
-  -- Where memory is wanted nothing of the piece is written, and where the sink fails a front of what is said.
+  abbrev pub IsSaid : History → Type 0
+  IsSaid None = Unit {0}
+  IsSaid (Some f) = says f.bytes false f.said
+
+  -- What is said of a front of w, so far as it wasn't said yet.
+  pub record WritesEarly (h : History) (w : List ℕ) (old new : Option (List ℕ)) : Type 0 where
+    pub now : History
+    pub rest : List ℕ
+    pub cut : w ≡ bytes_of now ++ rest
+    pub is_said : IsSaid now
+    pub added : List ℕ
+    pub whole : text_of now ≡ text_of h ++ added
+    pub appended : Appends old new added
+
+  -- What was written where memory is wanted, and where the sink fails.
   abbrev pub WritesUpTo : History → List ℕ → Bool → Option (List ℕ) → Option (List ℕ) → Trouble → Type 0
-  WritesUpTo h w e old new trouble.Memory = Keeps old new
+  WritesUpTo h w e old new trouble.Memory = WritesEarly h w old new
   WritesUpTo h w e old new trouble.Write = WritesFront h w e old new

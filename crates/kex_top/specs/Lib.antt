@@ -1,5 +1,6 @@
 pub mod Answer
 pub mod History
+pub mod Fronts
 pub mod Run
 pub mod Outside
 pub mod Status

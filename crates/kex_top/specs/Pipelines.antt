@@ -17,6 +17,14 @@ PipelineSays Gives stages w e said = Pipeline Gives 1 stages w e said.text (repo
 abbrev pub StagesSay : {T : Type 0} → (T → List ℕ → Bool → Answer → Type 0) → List T → List ℕ → Bool → Said → Type 0
 StagesSay Gives stages w e said = (0 < length stages) × PipelineSays Gives stages w e said
 
+-- on each text, open or ended, there is something that is said
+abbrev pub AlwaysSays : (List ℕ → Bool → Said → Type 0) → Type 0
+AlwaysSays says = (w : List ℕ) (e : Bool) → (said : Said) × says w e said
+
+-- on each text, open or ended, a stage with this plan has an answer
+abbrev pub AlwaysAnswers : {T : Type 0} → (T → List ℕ → Bool → Answer → Type 0) → T → Type 0
+AlwaysAnswers Gives p = (w : List ℕ) (e : Bool) → (a : Answer) × Gives p w e a
+
 -- the limit of the first stage
 abbrev pub first_limit : {T : Type 0} → (T → ℕ) → List T → ℕ
 first_limit limit [] = 0

@@ -1,11 +1,13 @@
-// One piece through the stages into a sink.
+// One block through the stages into a sink.
 ghost use Rattle.std.specs.Prelude.{◌≡◌, ◌++◌, true, false, List, ℕ, Option, Some, None, IfErr, IfOk, OnOk};
 ghost use Rattle.kex_ports.specs.Endings.{IsUnfinished};
 ghost use Rattle.kex_top.specs.History.{History, bytes_of, is_ended, Writes, WritesUpTo};
 ghost use Rattle.kex_top.specs.Piped.{PipeSays, PipeStands, plans_of};
+ghost use Rattle.kex_top.specs.Pipelines.{AlwaysSays};
 ghost use Rattle.kex_top.specs.Run.{TroubleCause};
 
 use crate::pipeline::{Limited, end, feed};
+use crate::rounds::Pace;
 use kex_code::memory::Memory;
 use kex_pipe::pipe::Pipe;
 use kex_pipe::turn::Fate;
@@ -19,31 +21,41 @@ pub(crate) enum Trouble {
     Write,
 }
 
-/// Feeds a piece and writes what is said.
+/// Feeds a block front by front, and writes what is said after each.
+///
+/// What is said of a front begins what is said of the block, if anything is: that has to be known where fronts are written.
 pub(crate) fn pass<R: Threads + Sync, T: Limited + Drop + Send, G: Gate + Sync, K: Sink>(
     rt: &R,
     gate: &G,
     pipe: &mut Pipe<T>,
-    piece: &[u8],
+    pace: Pace,
+    block: &[u8],
     out: &mut Vec<u8>,
     output: &mut K,
 ) -> Result<Fate, Trouble>
-    requires { (h : History) × PipeStands T.Turn pipe.old h × (is_ended h ≡ false) }
+    requires stands { (h : History) × PipeStands T.Turn pipe.old h × (is_ended h ≡ false) }
+    requires says { pace ≡ Pace.Parts → AlwaysSays (PipeSays T.Turn (plans_of T.Turn pipe.old)) }
     ensures same { OnOk result (plans_of T.Turn pipe.new ≡ plans_of T.Turn pipe.old) }
     ensures writes { IfOk result (λ fate. (h : History) → PipeStands T.Turn pipe.old h → is_ended h ≡ false
-        → Writes (PipeSays T.Turn (plans_of T.Turn pipe.old)) (PipeStands T.Turn pipe.new) h (bytes_of h ++ piece.now) false (K.held output.old) (K.held output.new) fate) }
+        → Writes (PipeSays T.Turn (plans_of T.Turn pipe.old)) (PipeStands T.Turn pipe.new) h (bytes_of h ++ block.now) false (K.held output.old) (K.held output.new) fate) }
     ensures trouble { IfErr result (λ trouble. (h : History) → PipeStands T.Turn pipe.old h → is_ended h ≡ false
-        → WritesUpTo (PipeSays T.Turn (plans_of T.Turn pipe.old)) h (bytes_of h ++ piece.now) false (K.held output.old) (K.held output.new) trouble) }
+        → WritesUpTo (PipeSays T.Turn (plans_of T.Turn pipe.old)) h (bytes_of h ++ block.now) false (K.held output.old) (K.held output.new) trouble) }
     ensures cause { TroubleCause (K.faults output.old) (K.faults output.new) result }
     ensures unfinished { IsUnfinished (K.ending output.old) (K.ending output.new) result }
 {
-    let fate = match feed(rt, gate, pipe, piece, out) {
-        Ok(fate) => fate,
-        Err(Memory) => return Err(Trouble::Memory),
-    };
-    match write_all(output, out) {
-        Ok(()) => Ok(fate),
-        Err(Failed) => Err(Trouble::Write),
+    let mut rest = block;
+    'fronts: loop {
+        let front = match feed(rt, gate, pipe, pace, rest, out) {
+            Ok(front) => front,
+            Err(Memory) => return Err(Trouble::Memory),
+        };
+        let Ok(()) = write_all(output, out) else {
+            return Err(Trouble::Write);
+        };
+        if front.count == rest.len() {
+            return Ok(front.fate);
+        }
+        rest = &rest[front.count..];
     }
 }
 

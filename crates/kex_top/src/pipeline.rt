@@ -1,12 +1,13 @@
 // The stages of a program, fed piece by piece.
-ghost use Rattle.std.specs.Prelude.{◌≡◌, ◌<◌, ◌++◌, List, ℕ, Some, IsSome, OnOk, IfOk, false, true, length};
+ghost use Rattle.std.specs.Prelude.{◌≡◌, ◌<◌, ◌++◌, List, ℕ, Some, IsSome, OnOk, IfOk, false, true, length, take};
 ghost use Rattle.std.proofs.Common.{ap};
 ghost use Rattle.kex_machine.proofs.Standing.{past_limit};
 ghost use Rattle.kex_model.specs.Answers.{Answer};
+ghost use Rattle.kex_top.specs.Fronts.{IsFront};
 ghost use Rattle.kex_top.specs.History.{Fed, History, bytes_of, is_ended, IsFateOf, Feeds};
 ghost use Rattle.kex_top.specs.Piped.{PipeSays, PipeStands, plans_of};
 
-use crate::rounds::{give_all, work_off};
+use crate::rounds::{Pace, give_front, work_off};
 use kex_code::memory::Memory;
 use kex_pipe::pipe::Pipe;
 use kex_pipe::report::Rejected;
@@ -42,25 +43,37 @@ fn fate_of(report: Option<Rejected>) -> Fate
     }
 }
 
-/// Puts into `out`, in place of what it held, what the stages say now of the bytes and haven't said yet.
+/// How many bytes of a piece were fed, and whether the stages go on.
+#[derive(Clone, Copy)]
+pub(crate) struct Front {
+    pub(crate) count: usize,
+    pub(crate) fate: Fate,
+}
+
+/// Feeds a front of the piece, and puts into `out`, in place of what it held, what the stages say now of the bytes and haven't said yet.
 ///
 /// Once a call has answered that memory was wanted, the pipe may only be dropped.
 pub(crate) fn feed<R: Threads + Sync, T: Limited + Drop + Send, G: Gate + Sync>(
     rt: &R,
     gate: &G,
     pipe: &mut Pipe<T>,
+    pace: Pace,
     piece: &[u8],
     out: &mut Vec<u8>,
-) -> Result<Fate, Memory>
+) -> Result<Front, Memory>
     requires { (h : History) × PipeStands T.Turn pipe.old h × (is_ended h ≡ false) }
     ensures same { OnOk result (plans_of T.Turn pipe.new ≡ plans_of T.Turn pipe.old) }
-    ensures feeds { IfOk result (λ fate. (h : History) → PipeStands T.Turn pipe.old h → is_ended h ≡ false
-        → Feeds (PipeSays T.Turn (plans_of T.Turn pipe.old)) (PipeStands T.Turn pipe.new) h (bytes_of h ++ piece.now) false out.new.items fate) }
+    ensures front { IfOk result (λ front. IsFront pace piece.now front.count) }
+    ensures feeds { IfOk result (λ front. (h : History) → PipeStands T.Turn pipe.old h → is_ended h ≡ false
+        → Feeds (PipeSays T.Turn (plans_of T.Turn pipe.old)) (PipeStands T.Turn pipe.new) h (bytes_of h ++ take front.count piece.now) false out.new.items front.fate) }
 {
-    give_all(rt, pipe, gate, piece)?;
+    let count = give_front(rt, pipe, gate, pace, piece)?;
     work_off(rt, pipe, gate)?;
     *out = pipe.take_output();
-    Ok(fate_of(pipe.report()))
+    Ok(Front {
+        count,
+        fate: fate_of(pipe.report()),
+    })
 }
 
 /// The same, for the end of the bytes.

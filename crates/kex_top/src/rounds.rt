@@ -1,7 +1,8 @@
 // A program's stages take what they are given, round by round.
-ghost use Rattle.std.specs.Prelude.{◌≡◌, List, ℕ, OnOk, false};
+ghost use Rattle.std.specs.Prelude.{◌≡◌, List, ℕ, IfOk, OnOk, false, take};
 ghost use Rattle.kex_model.specs.Schedules.{Event};
 ghost use Rattle.kex_pipe.specs.Standing.{Stands, is_ended, is_in_round};
+ghost use Rattle.kex_top.specs.Fronts.{IsFront};
 ghost use Rattle.kex_top.specs.Piped.{IsGiven, IsWorkedOff};
 
 use kex_code::memory::Memory;
@@ -14,30 +15,45 @@ use std::thread::Threads;
 /// The most bytes that are given at once.
 const PART: usize = 4096;
 
-/// Gives the bytes in parts, with a round after each: a stage works on one part while the next works on what came of the part before.
-pub(crate) fn give_all<R: Threads + Sync, T: Turn + Drop + Send, G: Gate + Sync>(
+/// When what the stages say goes out.
+#[derive(Clone, Copy, Debug, PartialEq, Eq)]
+pub(crate) enum Pace {
+    /// After each part of a block behind which nothing waits, and when the block is worked off.
+    Parts,
+    /// When a block is worked off.
+    Blocks,
+}
+
+/// Gives bytes in parts, with a round after each: a stage works on one part while the next works on what came of the part before.
+/// Tells how many were given: all, or by parts as many as leave nothing waiting.
+pub(crate) fn give_front<R: Threads + Sync, T: Turn + Drop + Send, G: Gate + Sync>(
     rt: &R,
     pipe: &mut Pipe<T>,
     gate: &G,
+    pace: Pace,
     bytes: &[u8],
-) -> Result<(), Memory>
+) -> Result<usize, Memory>
     requires unended { is_ended T.Turn pipe.old ≡ false }
     requires closed { is_in_round T.Turn pipe.old ≡ false }
-    ensures given { OnOk result ((ps : List T.Plan) (h : List Event) (taken : List ℕ) → Stands T.Turn ps pipe.old h taken → IsGiven T.Turn bytes.now ps h taken pipe.new) }
+    ensures front { IfOk result (λ count. IsFront pace bytes.now count) }
+    ensures given { IfOk result (λ count. (ps : List T.Plan) (h : List Event) (taken : List ℕ) → Stands T.Turn ps pipe.old h taken → IsGiven T.Turn (take count bytes.now) ps h taken pipe.new) }
     ensures closed { is_in_round T.Turn pipe.new ≡ false }
 {
-    let mut rest = bytes;
-    'parts: while !rest.is_empty() {
-        let (part, more) = rest.split_at(rest.len().min(PART));
-        rest = more;
-        let Ok(()) = pipe.give(part) else {
+    let mut given = 0;
+    'parts: while given < bytes.len() {
+        let end = bytes.len().min(given + PART);
+        let Ok(()) = pipe.give(&bytes[given..end]) else {
             return Err(Memory);
         };
         let Ok(()) = round(rt, pipe, gate) else {
             return Err(Memory);
         };
+        given = end;
+        if pace == Pace::Parts && pipe.settled() {
+            return Ok(given);
+        }
     }
-    Ok(())
+    Ok(given)
 }
 
 /// Makes rounds until nothing waits: with each one stage more, in the order of the pipeline, has worked off all that comes to it.

@@ -7,11 +7,12 @@ ghost use Rattle.kex_words.specs.Words.{mode_of};
 ghost use Rattle.kex_words.specs.declared.asked.Mode.TheVariants as of_mode;
 ghost use Rattle.kex_top.specs.Modes.{MachinesSay, limits_of};
 ghost use Rattle.kex_top.specs.Outside.{Closes, ReadsBlocks};
-ghost use Rattle.kex_top.specs.Piped.{PipeStands, plans_of};
-ghost use Rattle.kex_top.specs.Pipelines.{NodesSay, StagesSay, stage_plans};
+ghost use Rattle.kex_top.specs.Piped.{PipeSays, PipeStands, plans_of};
+ghost use Rattle.kex_top.specs.Pipelines.{AlwaysSays, NodesSay, StagesSay, stage_plans};
 ghost use Rattle.kex_top.specs.Run.{Left, Ran};
 
 use crate::pipeline::Limited;
+use crate::rounds::Pace;
 use crate::single::{act, code, test};
 use crate::status::Status;
 use crate::stream::run;
@@ -35,9 +36,11 @@ pub(crate) fn pipe_of<'p>(
     requires { 0 < length plans.now }
     ensures plans { IfOk result (λ pipe. plans_of ⟦<Stage<'p> as Turn>⟧ pipe ≡ stage_plans max_input (map machine_of plans.now)) }
     ensures fresh { IfOk result (λ pipe. PipeStands ⟦<Stage<'p> as Turn>⟧ pipe None) }
+    ensures says { IfOk result (λ pipe. AlwaysSays (PipeSays ⟦<Stage<'p> as Turn>⟧ (plans_of ⟦<Stage<'p> as Turn>⟧ pipe))) }
 {
     let mut stages = Vec::new(alloc);
     'plans: for plan in plans {
+        let _nodes = plan.machine().nodes();
         let stage = Stage::new(alloc, plan, max_input)?;
         stages.push(stage)?;
     }
@@ -67,7 +70,16 @@ fn run_stages<R: Threads + Sync, G: Gate + Sync, S: Source, K: Sink>(
     let Ok(mut pipe) = pipe_of(alloc, compiled.stages(), limits.max_input) else {
         return Status::Memory;
     };
-    run(rt, gate, alloc, &mut pipe, limits, input, output)
+    run(
+        rt,
+        gate,
+        alloc,
+        &mut pipe,
+        Pace::Parts,
+        limits,
+        input,
+        output,
+    )
 }
 
 /// Writes for the input what is asked for. A test doesn't call the output.

@@ -1,5 +1,6 @@
 // The commands on a program of one stage.
 ghost use Rattle.std.specs.Prelude.{◌≡◌, ◌⊎◌, ◌∷◌, [], None};
+ghost use Rattle.kex_top.specs.Pipelines.{AlwaysAnswers};
 ghost use Rattle.std.proofs.Common.{ap};
 ghost use Rattle.kex_ports.specs.Reads.{last_given};
 ghost use Rattle.kex_single.specs.CodeLaws as code;
@@ -13,6 +14,7 @@ ghost use Rattle.kex_top.specs.Pipelines.{StagesSay};
 ghost use Rattle.kex_top.specs.Run.{IsLeft, Left, Ran};
 
 use crate::pipeline::Limited;
+use crate::rounds::Pace;
 use crate::status::Status;
 use crate::stream::run;
 use kex_machine::Trimmed;
@@ -54,12 +56,14 @@ fn run_one<R: Threads + Sync, T: Limited + Drop + Send, G: Gate + Sync, S: Sourc
     gate: &G,
     alloc: Global,
     stage: T,
+    pace: Pace,
     limits: Limits,
     input: &mut S,
     output: &mut K,
 ) -> Status
     requires fresh { T.stands stage None }
     requires limit { T.limit stage ≡ limits.max_input }
+    requires answers { pace ≡ Pace.Parts → AlwaysAnswers T.gives (T.plan stage) }
     ensures ran { (Left (change_of S.rest S.faults input.old input.new)
         (change_of K.held K.faults output.old output.new) × (result ≡ Status.Memory))
         ⊎ Ran (StagesSay (λ p w e a. T.gives p w e a) (T.plan stage ∷ [])) (last_given limits.block (S.reads input.new))
@@ -75,7 +79,7 @@ fn run_one<R: Threads + Sync, T: Limited + Drop + Send, G: Gate + Sync, S: Sourc
     let Ok(mut pipe) = Pipe::new(alloc, stages) else {
         return Status::Memory;
     };
-    run(rt, gate, alloc, &mut pipe, limits, input, output)
+    run(rt, gate, alloc, &mut pipe, pace, limits, input, output)
 }
 
 /// Writes the code of the input.
@@ -96,10 +100,11 @@ pub(crate) fn code<R: Threads + Sync, G: Gate + Sync, S: Source, K: Sink>(
     ensures blocks { ReadsBlocks limits.block (S.reads input.old) (S.reads input.new) result }
     ensures closes { Closes (K.ending output.old) (K.ending output.new) result }
 {
+    let _nodes = machine.nodes();
     let Ok(coder) = Coder::new(alloc, machine, limits.max_input) else {
         return Status::Memory;
     };
-    run_one(rt, gate, alloc, coder, limits, input, output)
+    run_one(rt, gate, alloc, coder, Pace::Parts, limits, input, output)
 }
 
 /// Writes what the input means as the text of a code.
@@ -123,7 +128,7 @@ pub(crate) fn act<R: Threads + Sync, G: Gate + Sync, S: Source, K: Sink>(
     let Ok(player) = Player::new(alloc, machine, limits.max_input) else {
         return Status::Memory;
     };
-    run_one(rt, gate, alloc, player, limits, input, output)
+    run_one(rt, gate, alloc, player, Pace::Blocks, limits, input, output)
 }
 
 /// Tells whether the input has a parse, and writes nothing.
@@ -143,5 +148,14 @@ pub(crate) fn test<R: Threads + Sync, G: Gate + Sync, S: Source>(
     let Ok(tester) = Tester::new(alloc, machine, limits.max_input) else {
         return Status::Memory;
     };
-    run_one(rt, gate, alloc, tester, limits, input, &mut NeverFailsSink)
+    run_one(
+        rt,
+        gate,
+        alloc,
+        tester,
+        Pace::Blocks,
+        limits,
+        input,
+        &mut NeverFailsSink,
+    )
 }

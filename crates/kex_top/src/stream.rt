@@ -4,10 +4,12 @@ ghost use Rattle.kex_ports.specs.Reads.{Asks, last_given};
 ghost use Rattle.kex_words.specs.Gains.{change_of};
 ghost use Rattle.kex_top.specs.Outside.{Closes, IsOpen, ReadsBlocks};
 ghost use Rattle.kex_top.specs.Piped.{PipeSays, PipeStands, limit_of, plans_of};
+ghost use Rattle.kex_top.specs.Pipelines.{AlwaysSays};
 ghost use Rattle.kex_top.specs.Run.{Pumped, Ran, status_of, status_after, is_whole};
 
 use crate::pass::{Trouble, pass, pass_end};
 use crate::pipeline::{Limited, rejected};
+use crate::rounds::Pace;
 use crate::status::Status;
 use kex_pipe::pipe::Pipe;
 use kex_pipe::report::Rejected;
@@ -39,11 +41,12 @@ fn status_after(trouble: Trouble) -> Status
     }
 }
 
-/// Reads blocks until the end of input, a fault or a report, and writes what the stages say of each.
+/// Reads blocks until the end of input, a fault or a report, and writes what the stages say of each at this pace.
 pub(crate) fn pump<R: Threads + Sync, T: Limited + Drop + Send, G: Gate + Sync, S: Source, K: Sink>(
     rt: &R,
     gate: &G,
     pipe: &mut Pipe<T>,
+    pace: Pace,
     block: &mut [u8],
     out: &mut Vec<u8>,
     input: &mut S,
@@ -51,6 +54,7 @@ pub(crate) fn pump<R: Threads + Sync, T: Limited + Drop + Send, G: Gate + Sync, 
     most: u64,
 ) -> Status
     requires fresh { PipeStands T.Turn pipe.old None }
+    requires says { pace ≡ Pace.Parts → AlwaysSays (PipeSays T.Turn (plans_of T.Turn pipe.old)) }
     requires limit { (limit_of T.Turn T.limit pipe.old ≡ most) × (most ≤ 2 ^ 48) }
     requires block { (0 < length block.old) × (length block.old ≤ 2 ^ 20) }
     ensures pumped { Pumped (PipeSays T.Turn (plans_of T.Turn pipe.old)) (last_given (length block.old) (S.reads input.new))
@@ -59,7 +63,7 @@ pub(crate) fn pump<R: Threads + Sync, T: Limited + Drop + Send, G: Gate + Sync, 
     ensures asks { Asks (length block.old) (S.reads input.old) (S.reads input.new) }
     ensures unclosed { IsOpen (K.ending output.old) (K.ending output.new) result }
 {
-    match pass(rt, gate, pipe, &[], out, output) {
+    match pass(rt, gate, pipe, pace, &[], out, output) {
         Ok(Fate::On) => {}
         Ok(Fate::Stopped) => return status_of(rejected(pipe)),
         Err(trouble) => return status_after(trouble),
@@ -72,7 +76,7 @@ pub(crate) fn pump<R: Threads + Sync, T: Limited + Drop + Send, G: Gate + Sync, 
                 Ok(_) => status_of(rejected(pipe)),
                 Err(trouble) => status_after(trouble),
             },
-            Ok(count) => match pass(rt, gate, pipe, &block[..count], out, output) {
+            Ok(count) => match pass(rt, gate, pipe, pace, &block[..count], out, output) {
                 Ok(Fate::On) => {}
                 Ok(Fate::Stopped) => return status_of(rejected(pipe)),
                 Err(trouble) => return status_after(trouble),
@@ -98,11 +102,13 @@ pub(crate) fn run<R: Threads + Sync, T: Limited + Drop + Send, G: Gate + Sync, S
     gate: &G,
     alloc: Global,
     pipe: &mut Pipe<T>,
+    pace: Pace,
     limits: Limits,
     input: &mut S,
     output: &mut K,
 ) -> Status
     requires fresh { PipeStands T.Turn pipe.old None }
+    requires says { pace ≡ Pace.Parts → AlwaysSays (PipeSays T.Turn (plans_of T.Turn pipe.old)) }
     requires limit { limit_of T.Turn T.limit pipe.old ≡ limits.max_input }
     ensures ran { Ran (PipeSays T.Turn (plans_of T.Turn pipe.old)) (last_given limits.block (S.reads input.new))
         (change_of S.rest S.faults input.old input.new)
@@ -118,6 +124,7 @@ pub(crate) fn run<R: Threads + Sync, T: Limited + Drop + Send, G: Gate + Sync, S
         rt,
         gate,
         pipe,
+        pace,
         &mut buffer,
         &mut out,
         input,

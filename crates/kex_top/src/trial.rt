@@ -15,6 +15,7 @@ use crate::limits::limits_to_check;
 use crate::lines::{next, push_line};
 use crate::pipeline::{Limited, end, feed};
 use crate::refused::refused;
+use crate::rounds::Pace;
 use crate::serve::pipe_of;
 use crate::status::Status;
 use crate::tally::Tally;
@@ -48,7 +49,7 @@ fn give<R: Threads + Sync, T: Limited + Drop + Send, G: Gate + Sync>(
     ensures counts { IfOk result (λ more. (h : History) → PipeStands T.Turn pipe.old h → is_ended h ≡ false
         → Counts (PipeSays T.Turn (plans_of T.Turn pipe.old)) (PipeStands T.Turn pipe.new) h (bytes_of h ++ piece.now) false tally more) }
 {
-    let _ = feed(rt, gate, pipe, piece, out)?;
+    let _ = feed(rt, gate, pipe, Pace::Blocks, piece, out)?;
     Ok(tally.add(piece.len(), out))
 }
 

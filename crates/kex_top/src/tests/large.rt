@@ -43,6 +43,38 @@ fn blocks_and_pieces_are_long(rt: HostRuntime) -> Result<(), Fail> {
     Ok(())
 }
 
+// What one stage says of a part of a block is written before the next part is given. The second write fails.
+#[test]
+fn parts_are_written(rt: HostRuntime) -> Result<(), Fail> {
+    let alloc = rt.alloc();
+    let input = around(alloc, b"", b"a", 5_000, b"")?;
+    let part = around(alloc, b"", b"a", 4_096, b"")?;
+    let code = around(alloc, b"", b"0'61", 4_096, b"")?;
+    let cases = [
+        Case {
+            input: &input,
+            failing_writes: &[2],
+            held: &part,
+            status: Status::WriteFault,
+            notes: b"write fault\n",
+            ..PLAIN
+        },
+        Case {
+            words: &["kex", "code", "p"],
+            input: &input,
+            failing_writes: &[2],
+            held: &code,
+            status: Status::WriteFault,
+            notes: b"write fault\n",
+            ..PLAIN
+        },
+    ];
+    for case in &cases {
+        assert!(&rt; holds(&rt, alloc, case)?, "{}", text_of(case));
+    }
+    Ok(())
+}
+
 #[test]
 fn stages_have_many_places(rt: HostRuntime) -> Result<(), Fail> {
     let program = around(rt.alloc(), b"start: a", b" >> a", 63, b"\na := /a{100}/")?;

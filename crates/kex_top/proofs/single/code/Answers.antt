@@ -1,9 +1,14 @@
 use Rattle.std.proofs.Common.{sym, subst}
+use Rattle.kex_top.specs.Pipelines.{AlwaysAnswers}
 use Rattle.kex_single.specs.Singles.{CodeAnswers, Single}
 use Rattle.kex_single.specs.contracts.coder.CoderTurn.TheImpl.{ghosts}
 use Rattle.kex_words.specs.Words.Mode.{coding}
 use Rattle.kex_top.proofs.Calling.{ran_single}
+use Rattle.kex_top.proofs.Existing.{code-answers}
 use Rattle.kex_top.proofs.single.code.Goals as goal
+
+pub run_one-requires-clause-answers : goal.run_one-requires-clause-answers
+run_one-requires-clause-answers g c = λ κs bounds by_parts. subst (λ p. AlwaysAnswers ghosts.gives p) (sym c.in-Ok.ensures.plan) (λ w e. code-answers _ c.args.limits.max_input c.nodes-nodes.ensures.in_range c.nodes-nodes.ensures.trimmed w e)
 
 pub returns-clause-ran : goal.returns-clause-ran
 returns-clause-ran g c =

@@ -1,11 +1,20 @@
-use Rattle.std.proofs.Common.{◌≡◌, ◌++◌, ◌∷◌, [], List, map, ap, subst, inr, ◌∙◌}
+use Rattle.std.proofs.Common.{◌≡◌, ◌++◌, ◌∷◌, [], List, map, arith, ap, subst, sym, inr, ◌∙◌}
 use Rattle.kex_ports.specs.Reads.{last_given}
 use Rattle.kex_words.specs.Gains.{change}
 use Rattle.kex_top.specs.Piped.{plans_of}
-use Rattle.kex_top.specs.Pipelines.{StagesSay}
+use Rattle.kex_top.specs.Pipelines.{AlwaysAnswers, AlwaysSays, StagesSay}
+use Rattle.kex_top.proofs.Existing.{always-says, one-more}
 use Rattle.kex_top.specs.Run.{Ran}
 use Rattle.kex_top.proofs.Working.{same-plans}
 use Rattle.kex_top.proofs.single.run_one.Goals as goal
+
+pub run-requires-clause-says : goal.run-requires-clause-says
+run-requires-clause-says g c = λ κs within by_parts.
+    let t = g.T.Turn in
+    let plan = t.plan c.args.stage in
+    let one = c.in-Ok.ensures.items ∙ ap (λ z. z ++ c.args.stage ∷ []) c.new-stages.ensures.items in
+    let same : plans_of t c.in-Ok-new.pipe ≡ plan ∷ [] = same-plans t (map t.plan c.push.new.self.items) c.in-Ok-new.pipe [] [] c.in-Ok-new.ensures.stands ∙ ap (λ z. map t.plan z) one in
+    subst (λ ps. AlwaysSays (StagesSay t.gives ps)) (sym same) (always-says t.gives (plan ∷ []) (omega arith) (one-more (λ p. AlwaysAnswers t.gives p) [] plan (λ p none. absurd none) (c.requires.answers by_parts)))
 
 pub returns-clause-ran : goal.returns-clause-ran
 returns-clause-ran g c =

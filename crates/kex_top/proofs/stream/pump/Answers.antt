@@ -7,6 +7,7 @@ use Rattle.kex_ports.proofs.Endings.{same-finishes}
 use Rattle.kex_top.specs.History.{Fed}
 use Rattle.kex_top.specs.declared.status.Status.TheVariants.{ReadFault}
 use Rattle.kex_top.specs.Piped.{PipeSays, limit_of, plans_of}
+use Rattle.kex_top.specs.Pipelines.{AlwaysSays}
 use Rattle.kex_top.specs.PipelineLaws.{says_grows, says_ends}
 use Rattle.kex_top.proofs.Closing.{open-broken, open-worked}
 use Rattle.kex_top.proofs.Running.{worked, broken, broken-first, some-not-none}
@@ -102,7 +103,9 @@ returns-in-Err-read-clause-pumped g c =
 
 pub returns-in-Err-clause-pumped : goal.returns-in-Err-clause-pumped
 returns-in-Err-clause-pumped g c =
-    broken-first (PipeSays g.T.Turn (plans_of g.T.Turn c.args.pipe.now)) _ _ _ _ _ (consumes-nothing _) refl (c.in-Err.ensures.trouble None c.requires.fresh refl) c.in-Err.ensures.cause c.status_after.ensures
+    let laws = g.met.T.Turn g.world.𝓛 g.world.𝓜 g.world.𝓡 ((λ s x. x), (λ x. x), (λ x. x), λ x. x) in
+    let plans = plans_of g.T.Turn c.args.pipe.now in
+    broken-first (PipeSays g.T.Turn plans) _ _ _ _ (says_grows g.T.Turn.gives laws.one laws.grows laws.stays laws.ends plans) _ (consumes-nothing _) refl (c.in-Err.ensures.trouble None c.requires.fresh refl) c.in-Err.ensures.cause c.status_after.ensures
 
 -- past the limit there would have been a report
 pub returns-clause-pumped : goal.returns-clause-pumped
@@ -165,8 +168,11 @@ reads-init g c =
       unfinished = c.in-Ok-On.ensures.unfinished;
     }
 
-pub pass-requires-in-Ok-after_bounds : goal.pass-requires-in-Ok-after_bounds
-pass-requires-in-Ok-after_bounds g c = λ κs bounds. let i = c.reads.invariant in (Some (record { bytes = i.fed.0; ended = false; said = i.fed.1 }), i.fed.3, refl)
+pub pass-requires-in-Ok-clause-stands : goal.pass-requires-in-Ok-clause-stands
+pass-requires-in-Ok-clause-stands g c = λ κs bounds. let i = c.reads.invariant in (Some (record { bytes = i.fed.0; ended = false; said = i.fed.1 }), i.fed.3, refl)
+
+pub pass-requires-in-Ok-clause-says : goal.pass-requires-in-Ok-clause-says
+pass-requires-in-Ok-clause-says g c = λ κs bounds by_parts. subst (λ q. AlwaysSays (PipeSays g.T.Turn q)) (sym c.reads.invariant.same) (c.requires.says by_parts)
 
 pub pass_end-requires-after_bounds : goal.pass_end-requires-after_bounds
 pass_end-requires-after_bounds g c = λ κs bounds. let i = c.reads.invariant in (Some (record { bytes = i.fed.0; ended = false; said = i.fed.1 }), i.fed.3, refl)
