@@ -11,7 +11,7 @@ use Rattle.kex_script.specs.declared.script.Tail.{Tail}
 use Rattle.kex_script.specs.Scripts.{Sheet, list_at, if_old, IsTail, IsWord}
 use Rattle.kex_runner.specs.declared.reading.Reading.{Reading}
 use Rattle.kex_runner.specs.declared.reading.Unread.{Unread}
-use Rattle.kex_runner.specs.Noting.{ByteUpdate, next_registers, registers_after, turned}
+use Rattle.kex_runner.specs.Noting.{ByteUpdate, next_registers, registers_after, spelled_back}
 use Rattle.kex_runner.specs.Looking.{code_of, codes_of, AreNoted, if_some, unless_empty, part_work, register_work, list_work, weight_of, old_text, old_weight, HasAsked, HasRead}
 use Rattle.kex_runner.proofs.Noting.{meant_fresh}
 
@@ -82,9 +82,9 @@ module _ (s : Sheet) (base : List (List Symbol)) (notes : List ByteUpdate) where
   kept_noted n u (suc k) le = (le, tt)
 
   -- a register where the notes begin
-  pub asked_settled : (old new : Reading) (after i : ℕ) → after ≡ 0 → new.pending.items ≡ old.pending.items → turned s.words new.back.items ≡ get_or base i [] ++ turned s.words old.back.items → (most : ℕ) → HasAsked s base notes old new None (get_or (registers_after base (take after notes)) i []) most
+  pub asked_settled : (old new : Reading) (after i : ℕ) → after ≡ 0 → new.pending.items ≡ old.pending.items → spelled_back s.words new.back.items ≡ get_or base i [] ++ spelled_back s.words old.back.items → (most : ℕ) → HasAsked s base notes old new None (get_or (registers_after base (take after notes)) i []) most
   asked_settled old new after i e f h most = record {
-    text = h ∙ ap (λ z. get_or (registers_after base (take z notes)) i [] ++ turned s.words old.back.items) (sym e);
+    text = h ∙ ap (λ z. get_or (registers_after base (take z notes)) i [] ++ spelled_back s.words old.back.items) (sym e);
     pending = f;
     noted = tt;
     weight = omega arith;
@@ -100,7 +100,7 @@ module _ (s : Sheet) (base : List (List Symbol)) (notes : List ByteUpdate) where
       let work : get_or (register_work [] (take after notes)) i 0 ≡ list_work s notes u =
       ap (λ z. get_or (register_work [] (take z notes)) i 0) e ∙ ap (λ z. get_or z i 0) (work_more [] notes k d (omega arith)) ∙ ap (λ z. get_or (map (λ xs. part_work ws xs) z.update.regs) i 0) (sym at) ∙ get_or-map (λ xs. part_work ws xs) n.update.regs i [] ∙ ap (λ z. part_work ws z) (sym is) ∙ ap (λ z. part_work (register_work [] (take z notes)) (list_at s u.list)) (sym here) in
       record {
-        text = ap (λ z. z ++ turned s.words old.back.items) (append-nil (code_of s base notes u) ∙ sym said);
+        text = ap (λ z. z ++ spelled_back s.words old.back.items) (append-nil (code_of s base notes u) ∙ sym said);
         pending = refl;
         noted = (omega (arith, here, le, e), tt);
         weight = omega (arith, work);
@@ -108,7 +108,7 @@ module _ (s : Sheet) (base : List (List Symbol)) (notes : List ByteUpdate) where
 
   -- the end of the list on top is read, and the rest of it kept
   pub read_on : (u : Unread) (x : Tail) (mid new : Reading) (pending : List Unread) (old : List Piece) (next : Option Unread) → list_at s 0 ≡ [] → IsTail s.words s.lists x (list_at s u.list) → u.after ≤ length notes
-      → ((words : List (List Part)) (w : List Part) → IsWord words x.word w → turned words mid.back.items ≡ meant [] u.byte w ++ turned words old)
+      → ((words : List (List Part)) (w : List Part) → IsWord words x.word w → spelled_back words mid.back.items ≡ meant [] u.byte w ++ spelled_back words old)
       → mid.pending.items ≡ pending ++ unless_empty x.before (record { list = x.before; after = u.after; byte = u.byte })
       → HasAsked s base notes mid new next (old_text (registers_after base (take u.after notes)) x.old) (old_weight (register_work [] (take u.after notes)) x.old)
       → HasRead s base notes (pending ++ u ∷ []) (new.pending.items ++ if_some next) old new.back.items
@@ -119,7 +119,7 @@ module _ (s : Sheet) (base : List (List Symbol)) (notes : List ByteUpdate) where
       let rest : List Unread = unless_empty x.before r in
       let front : list_at s x.before ≡ t.front = get_or_from_slice_get s.lists x.before t.front [] t.before in
       let word : List Symbol = meant [] u.byte t.parts in
-      let back : List Symbol = turned s.words old in
+      let back : List Symbol = spelled_back s.words old in
       let whole : code_of s base notes u ≡ code_of s base notes r ++ (old_text regs x.old ++ word) =
       ap (λ z. meant regs u.byte z) t.joined ∙ meant-append regs u.byte t.front (if_old x.old ++ t.parts)
       ∙ ap₂ (λ y z. meant regs u.byte y ++ z) (sym front) (meant-append regs u.byte (if_old x.old) t.parts ∙ ap₂ (λ y z. y ++ z) (old_means regs u.byte x.old) (meant_fresh regs [] u.byte t.parts t.plain)) in
@@ -133,8 +133,8 @@ module _ (s : Sheet) (base : List (List Symbol)) (notes : List ByteUpdate) where
       let stack = ap (λ z. weight_of s notes (z ++ if_some next)) after in
       record {
         text =
-            ap (λ z. z ++ turned s.words new.back.items) (ap (λ z. codes_of s base notes (z ++ if_some next)) after ∙ codes-append (pending ++ rest) (if_some next))
-            ∙ append_assoc (codes_of s base notes (pending ++ rest)) (codes_of s base notes (if_some next)) (turned s.words new.back.items)
+            ap (λ z. z ++ spelled_back s.words new.back.items) (ap (λ z. codes_of s base notes (z ++ if_some next)) after ∙ codes-append (pending ++ rest) (if_some next))
+            ∙ append_assoc (codes_of s base notes (pending ++ rest)) (codes_of s base notes (if_some next)) (spelled_back s.words new.back.items)
             ∙ ap₂ (λ y z. y ++ z) (codes-append pending rest ∙ ap (λ z. codes_of s base notes pending ++ z) (kept_code none r x.before refl)) (h.text ∙ ap (λ z. old_text regs x.old ++ z) (said s.words t.parts t.word) ∙ sym (append_assoc (old_text regs x.old) word back))
             ∙ append_assoc (codes_of s base notes pending) (code_of s base notes r) ((old_text regs x.old ++ word) ++ back)
             ∙ ap (λ z. codes_of s base notes pending ++ z) (sym (append_assoc (code_of s base notes r) (old_text regs x.old ++ word) back) ∙ ap (λ z. z ++ back) (sym whole))
@@ -150,11 +150,11 @@ module _ (s : Sheet) (base : List (List Symbol)) (notes : List ByteUpdate) where
       let same : after ≡ pending = e ∙ append-nil pending in
       let nothing : code_of s base notes u ≡ [] = ap (λ z. meant (registers_after base (take u.after notes)) u.byte z) none in
       record {
-        text = ap (λ z. z ++ turned s.words back) (ap (λ z. codes_of s base notes z) same ∙ sym (append-nil (codes_of s base notes pending)) ∙ ap (λ z. codes_of s base notes pending ++ z) (sym (append-nil (code_of s base notes u) ∙ nothing)) ∙ sym (codes-append pending (u ∷ [])));
+        text = ap (λ z. z ++ spelled_back s.words back) (ap (λ z. codes_of s base notes z) same ∙ sym (append-nil (codes_of s base notes pending)) ∙ ap (λ z. codes_of s base notes pending ++ z) (sym (append-nil (code_of s base notes u) ∙ nothing)) ∙ sym (codes-append pending (u ∷ [])));
         noted = λ k. subst (λ z. AreNoted (length notes) z) (sym same) (noted_left (length notes) pending (u ∷ []) k);
         weight = let f = ap (λ z. weight_of s notes z) same in omega (arith, f, weight-append pending (u ∷ []));
       }
 
   -- one list over all notes
-  pub one_list : (u : Unread) → length notes ≤ u.after → codes_of s base notes (u ∷ []) ++ turned s.words [] ≡ meant (registers_after base notes) u.byte (list_at s u.list)
+  pub one_list : (u : Unread) → length notes ≤ u.after → codes_of s base notes (u ∷ []) ++ spelled_back s.words [] ≡ meant (registers_after base notes) u.byte (list_at s u.list)
   one_list u le = append-nil (codes_of s base notes (u ∷ [])) ∙ append-nil (code_of s base notes u) ∙ ap (λ z. meant (registers_after base z) u.byte (list_at s u.list)) (take_all u.after notes le)

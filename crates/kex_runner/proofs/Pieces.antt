@@ -5,7 +5,7 @@ use Rattle.kex_code.specs.declared.symbol.Symbol.{Symbol}
 use Rattle.kex_sst.specs.declared.parts.Part.{Part}
 use Rattle.kex_script.specs.declared.piece.Piece.{Piece}
 use Rattle.kex_script.specs.Pieces.{spelled, word_of}
-use Rattle.kex_runner.specs.Noting.{turned}
+use Rattle.kex_runner.specs.Noting.{spelled_back}
 
 module _ (words : List (List Part)) where
   pub spelled-append : (xs ys : List Piece) → spelled words (xs ++ ys) ≡ spelled words xs ++ spelled words ys
@@ -18,8 +18,8 @@ module _ (words : List (List Part)) where
       ap (λ z. z ++ word_of words p) e ∙ append_assoc before (spelled words (take i ps)) (word_of words p)
       ∙ ap (λ z. before ++ z) (ap (λ z. spelled words (take i ps) ++ z) (sym (append-nil (word_of words p))) ∙ sym (spelled-append (take i ps) (p ∷ [])) ∙ ap (λ z. spelled words z) (sym (take_more ps i d lt)))
 
-  pub turned-append : (xs ys : List Piece) → turned words (xs ++ ys) ≡ turned words ys ++ turned words xs
-  turned-append xs ys = ap (λ z. spelled words z) (reverse-append xs ys) ∙ spelled-append (reverse ys) (reverse xs)
+  pub spelled_back-append : (xs ys : List Piece) → spelled_back words (xs ++ ys) ≡ spelled_back words ys ++ spelled_back words xs
+  spelled_back-append xs ys = ap (λ z. spelled words z) (reverse-append xs ys) ∙ spelled-append (reverse ys) (reverse xs)
 
-  pub turned_more : (xs : List Piece) (p : Piece) → turned words (xs ++ p ∷ []) ≡ word_of words p ++ turned words xs
-  turned_more xs p = turned-append xs (p ∷ []) ∙ ap (λ z. z ++ turned words xs) (append-nil (word_of words p))
+  pub spelled_back_more : (xs : List Piece) (p : Piece) → spelled_back words (xs ++ p ∷ []) ≡ word_of words p ++ spelled_back words xs
+  spelled_back_more xs p = spelled_back-append xs (p ∷ []) ∙ ap (λ z. z ++ spelled_back words xs) (append-nil (word_of words p))

@@ -24,12 +24,12 @@ registers_after base [] = base
 registers_after base (n ∷ ns) = registers_after (next_registers n.update n.byte base) ns
 
 -- what pieces spell that stand last first
-abbrev pub turned : List (List Part) → List Piece → List Symbol
-turned words ps = spelled words (reverse ps)
+abbrev pub spelled_back : List (List Part) → List Piece → List Symbol
+spelled_back words ps = spelled words (reverse ps)
 
 -- registers that are settled, each in pieces that stand last first
 abbrev pub settled_of : Sheet → List (List Piece) → List (List Symbol)
-settled_of s base = map (λ ps. turned s.words ps) base
+settled_of s base = map (λ ps. spelled_back s.words ps) base
 
 -- the update that a note names
 abbrev pub update_of : Sheet → Note → ByteUpdate

@@ -1,11 +1,11 @@
 // Looking registers up: lists are read from their ends, back through the notes.
 
-ghost use Rattle.std.specs.Prelude.{◌≡◌, suc, ◌+◌, ◌<◌, ◌≤◌, [], List, ◌∷◌, ◌++◌, Some, None, OnOk, IfOk, IfNone, length, get_or, take};
+ghost use Rattle.std.specs.Prelude.{◌≡◌, ◌<◌, ◌≤◌, [], List, ◌∷◌, ◌++◌, Some, None, OnOk, IfOk, IfNone, length, get_or};
 ghost use Rattle.kex_sst.specs.declared.parts.Part.{Part};
 ghost use Rattle.kex_sst.specs.Parts.{meant};
 ghost use Rattle.kex_script.specs.Scripts.{IsTail, IsWord, list_at};
-ghost use Rattle.kex_runner.specs.Noting.{noted_by, registers_after, settled_of, turned, updates_of};
-ghost use Rattle.kex_runner.specs.Looking.{AreNoted, HasAsked, HasRead, codes_of, if_some, old_text, old_weight, register_work, unless_empty};
+ghost use Rattle.kex_runner.specs.Noting.{noted_by, settled_of, spelled_back, updates_of};
+ghost use Rattle.kex_runner.specs.Looking.{AreNoted, HasAskedFor, HasRead, codes_of, if_some, unless_empty};
 
 use kex_code::memory::Memory;
 use kex_script::piece::Piece;
@@ -53,7 +53,7 @@ pub struct Reading {
 // A word is read, if there is one.
 #[inline(always)]
 fn say(word: Option<u32>, byte: u8, back: &mut Vec<Piece>) -> Result<(), Memory>
-    ensures { OnOk result ((words : List (List Part)) (w : List Part) → IsWord words word w → turned words back.new.items ≡ meant [] byte w ++ turned words back.old.items) }
+    ensures { OnOk result ((words : List (List Part)) (w : List Part) → IsWord words word w → spelled_back words back.new.items ≡ meant [] byte w ++ spelled_back words back.old.items) }
 {
     match word {
         None => Ok(()),
@@ -98,7 +98,7 @@ fn ask(
     reading: &mut Reading,
 ) -> Result<Option<Unread>, Memory>
     requires { after ≤ length notes.now }
-    ensures { IfOk result (λ next. HasAsked script.now (settled_of script.now base.now) (updates_of script.now notes.now) reading.old reading.new next (get_or (registers_after (settled_of script.now base.now) (take after (updates_of script.now notes.now))) register []) (let w = get_or (register_work [] (take after (updates_of script.now notes.now))) register 0 in suc (w + w))) }
+    ensures { IfOk result (λ next. HasAskedFor script.now (settled_of script.now base.now) (updates_of script.now notes.now) after (Some register) reading.old reading.new next) }
 {
     if after == 0 {
         if let Some(settled) = base.get(register) {
@@ -125,7 +125,7 @@ fn ask_if(
     reading: &mut Reading,
 ) -> Result<Option<Unread>, Memory>
     requires { after ≤ length notes.now }
-    ensures { IfOk result (λ next. HasAsked script.now (settled_of script.now base.now) (updates_of script.now notes.now) reading.old reading.new next (old_text (registers_after (settled_of script.now base.now) (take after (updates_of script.now notes.now))) old) (old_weight (register_work [] (take after (updates_of script.now notes.now))) old)) }
+    ensures { IfOk result (λ next. HasAskedFor script.now (settled_of script.now base.now) (updates_of script.now notes.now) after old reading.old reading.new next) }
 {
     match old {
         None => Ok(None),
@@ -190,7 +190,7 @@ fn look_up(
 ) -> Result<(), Memory>
     requires noted { AreNoted (length notes.now) (if_some first) }
     requires none { reading.old.pending.items ≡ [] }
-    ensures { OnOk result (turned script.now.words reading.new.back.items ≡ codes_of script.now (settled_of script.now base.now) (updates_of script.now notes.now) (if_some first) ++ turned script.now.words reading.old.back.items) }
+    ensures { OnOk result (spelled_back script.now.words reading.new.back.items ≡ codes_of script.now (settled_of script.now base.now) (updates_of script.now notes.now) (if_some first) ++ spelled_back script.now.words reading.old.back.items) }
 {
     let mut next = first;
     while let Some(unread) = next {
@@ -208,7 +208,7 @@ pub fn read_list(
     byte: u8,
     reading: &mut Reading,
 ) -> Result<(), Memory>
-    ensures { OnOk result (turned script.now.words reading.new.back.items ≡ meant (noted_by script.now base.now notes.now) byte (list_at script.now list)) }
+    ensures { OnOk result (spelled_back script.now.words reading.new.back.items ≡ meant (noted_by script.now base.now notes.now) byte (list_at script.now list)) }
 {
     reading.pending.clear();
     reading.back.clear();
@@ -228,7 +228,7 @@ pub fn read_register(
     register: usize,
     reading: &mut Reading,
 ) -> Result<(), Memory>
-    ensures { OnOk result (turned script.now.words reading.new.back.items ≡ get_or (noted_by script.now base.now notes.now) register []) }
+    ensures { OnOk result (spelled_back script.now.words reading.new.back.items ≡ get_or (noted_by script.now base.now notes.now) register []) }
 {
     reading.pending.clear();
     reading.back.clear();

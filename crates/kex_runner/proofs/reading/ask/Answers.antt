@@ -4,8 +4,8 @@ use Rattle.std.proofs.lemmas.List.{get_or_read, length-map}
 use Rattle.std.proofs.Math.ListN.{get_or-map}
 use Rattle.kex_runner.specs.declared.reading.Note.{Note}
 use Rattle.kex_runner.specs.declared.reading.Reading.{Reading}
-use Rattle.kex_runner.specs.Noting.{settled_of, turned, update_of, updates_of}
-use Rattle.kex_runner.proofs.Pieces.{turned-append}
+use Rattle.kex_runner.specs.Noting.{settled_of, spelled_back, update_of, updates_of}
+use Rattle.kex_runner.proofs.Pieces.{spelled_back-append}
 use Rattle.kex_runner.proofs.Looking.{asked_settled, asked_before}
 use Rattle.kex_runner.proofs.reading.ask.Goals as goal
 
@@ -16,9 +16,9 @@ returns-in_ok-extend_from_slice c =
     let old = c.args.reading.now in
     let new : Reading = record { pending = old.pending; back = c.extend_from_slice.new.self } in
     let at = get_or_read base c.args.register c.in-Some.settled.now (ltb-true c.args.register (length base) (sym c.in-Some.ensures.lookup.0)) c.in-Some.ensures.lookup.1 [] in
-    let said = ap (λ z. turned s.words z) (c.deref.ensures.value ∙ c.settled.view_is ∙ at) ∙ sym (get_or-map (λ ps. turned s.words ps) base c.args.register []) in
+    let said = ap (λ z. spelled_back s.words z) (c.deref.ensures.value ∙ c.settled.view_is ∙ at) ∙ sym (get_or-map (λ ps. spelled_back s.words ps) base c.args.register []) in
     asked_settled s (settled_of s base) (updates_of s c.args.notes.now) old new c.args.after c.args.register c.if-after-eq0.true refl
-    (ap (λ z. turned s.words z) c.in_ok-extend_from_slice.ensures.items ∙ turned-append s.words old.back.items c.deref.result.now ∙ ap (λ z. z ++ turned s.words old.back.items) said) _
+    (ap (λ z. spelled_back s.words z) c.in_ok-extend_from_slice.ensures.items ∙ spelled_back-append s.words old.back.items c.deref.result.now ∙ ap (λ z. z ++ spelled_back s.words old.back.items) said) _
 
 pub returns : goal.returns
 returns c =

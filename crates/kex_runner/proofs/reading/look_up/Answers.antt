@@ -1,6 +1,6 @@
 use Rattle.std.proofs.Common.{◌++◌, ◌∷◌, [], length, sym, ap, ap₂, subst, ◌∙◌, arith}
 use Rattle.std.proofs.lemmas.List.{length-map}
-use Rattle.kex_runner.specs.Noting.{settled_of, turned, update_of, updates_of}
+use Rattle.kex_runner.specs.Noting.{settled_of, spelled_back, update_of, updates_of}
 use Rattle.kex_runner.specs.Looking.{AreNoted, codes_of, if_some, weight_of}
 use Rattle.kex_runner.proofs.Looking.{noted_right}
 use Rattle.kex_runner.proofs.reading.look_up.Goals as goal
@@ -12,7 +12,7 @@ loop-next-init c =
     let notes = updates_of s c.args.notes.now in
     let first = if_some c.args.first in
     record {
-      text = ap (λ z. codes_of s (settled_of s c.args.base.now) notes (z ++ first) ++ turned s.words c.args.reading.now.back.items) c.requires.none;
+      text = ap (λ z. codes_of s (settled_of s c.args.base.now) notes (z ++ first) ++ spelled_back s.words c.args.reading.now.back.items) c.requires.none;
       noted = subst (λ z. AreNoted (length notes) (z ++ first)) (sym c.requires.none) (subst (λ z. AreNoted z first) (sym (length-map c.args.notes.now (λ n. update_of s n))) c.requires.noted);
       none = λ e. c.requires.none;
     }
@@ -40,7 +40,7 @@ loop-next-preserved c =
     let notes = updates_of s c.args.notes.now in
     let h = c.in_ok-next.ensures.read in
     record {
-      text = h.text ∙ ap (λ z. codes_of s base notes (c.loop-next.reading.pending.items ++ if_some z) ++ turned s.words c.loop-next.reading.back.items) (sym c.in-Some.is) ∙ c.loop-next.invariant.text;
+      text = h.text ∙ ap (λ z. codes_of s base notes (c.loop-next.reading.pending.items ++ if_some z) ++ spelled_back s.words c.loop-next.reading.back.items) (sym c.in-Some.is) ∙ c.loop-next.invariant.text;
       noted = h.noted (noted (goal.at.loop-next-preserved c).In-Some);
       none = c.in_ok-next.ensures.none;
     }
@@ -48,5 +48,5 @@ loop-next-preserved c =
 pub returns : goal.returns
 returns c =
     let s = c.args.script.now in
-    let back = turned s.words c.loop-next.reading.back.items in
+    let back = spelled_back s.words c.loop-next.reading.back.items in
     sym (ap₂ (λ y z. codes_of s (settled_of s c.args.base.now) (updates_of s c.args.notes.now) (y ++ if_some z) ++ back) (c.loop-next.invariant.none c.in_default.is) c.in_default.is) ∙ c.loop-next.invariant.text
