@@ -16,6 +16,7 @@ use kex_script::piece::Piece;
 use kex_script::script::{Entry, Script};
 use kex_sst::parts::{Part, Update};
 use std::alloc::Global;
+use std::mem;
 use std::sync::ledger::Ledger;
 
 // So many updates are noted at least before the registers are settled.
@@ -85,11 +86,15 @@ fn cut(last: Note, base: &mut Vec<Settled>, notes: &mut Vec<Note>)
     notes.truncate(1);
 }
 
-// What was read is put behind pieces, in its order.
+// What was read is put behind pieces, in its order. Where there are none it isn't copied.
 fn hand_on(back: &mut Vec<Piece>, pieces: &mut Vec<Piece>) -> Result<(), Memory>
     ensures { OnOk result (pieces.new.items ≡ pieces.old.items ++ reverse back.old.items) }
 {
     back.reverse();
+    if pieces.is_empty() {
+        mem::swap(back, pieces);
+        return Ok(());
+    }
     pieces.extend_from_slice(back)?;
     Ok(())
 }
@@ -171,6 +176,7 @@ impl Registers {
     }
 
     // Settles the registers where the notes are many.
+    #[inline(always)]
     fn make_room(&mut self, script: &Script) -> Result<(), Memory>
         requires counted { self.old.count ≡ length (held script.now self.old) }
         ensures same { held script.now self.new ≡ held script.now self.old }

@@ -22,6 +22,7 @@ use kex_sst::parts::Parts;
 use kex_sst::table::Table;
 use std::alloc::Global;
 use std::marker::Model;
+use std::mem;
 use std::sync::ledger::Ledger;
 
 /// Runs a table over the bytes that it is fed. What its updates pass on goes to a code at once.
@@ -233,8 +234,7 @@ impl<'t> Runner<'t> {
     {
         self.usable = false;
         pieces.clear();
-        pieces.extend_from_slice(&self.pending)?;
-        self.pending.clear();
+        mem::swap(pieces, &mut self.pending);
         if self.dead {
             self.usable = true;
             return Ok(Held {
