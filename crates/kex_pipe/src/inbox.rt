@@ -57,7 +57,14 @@ impl Inbox {
     pub fn count(&self) -> u64
         ensures { result ≡ length (waiting self.now) }
     {
-        (self.bytes.len() - self.start) as u64 + u64::from(self.ended)
+        self.byte_count() as u64 + u64::from(self.ended)
+    }
+
+    /// How many bytes there are.
+    pub fn byte_count(&self) -> usize
+        ensures { result ≡ length (unread self.now) }
+    {
+        self.bytes.len() - self.start
     }
 
     /// Moves all that waits there behind what waits here, where the end hasn't come or nothing waits there. After an error
@@ -98,7 +105,12 @@ impl Inbox {
         ensures same_end { self.new.ended ≡ self.old.ended }
         ensures start { self.new.start ≡ 0 }
     {
-        self.bytes.drain(..self.start);
+        // Where all was taken nothing has to be moved.
+        if self.start == self.bytes.len() {
+            self.bytes.clear();
+        } else {
+            self.bytes.drain(..self.start);
+        }
         self.start = 0;
     }
 

@@ -225,6 +225,13 @@ impl<T: Turn + Drop> Pipe<T> {
         report
     }
 
+    /// How many bytes of output are in hand.
+    pub fn output_length(&self) -> usize
+        ensures { result ≡ length (in_hand T.Turn self.now) }
+    {
+        self.output.byte_count()
+    }
+
     /// Takes the output that is in hand.
     pub fn take_output(&mut self) -> Vec<u8>
         requires { is_in_round T.Turn self.old ≡ false }
