@@ -6,3 +6,4 @@ pub mod Refusing
 pub mod Shaping
 pub mod States
 pub mod Existence
+pub mod Continuations

@@ -1,8 +1,8 @@
--- That there is an answer.
-use Rattle.std.specs.Prelude.{ℕ, ◌<◌, Bool, List, length}
+-- That there is an answer, and what a viable text is.
+use Rattle.std.specs.Prelude.{ℕ, ◌<◌, ◌++◌, ◌↔◌, Bool, List, length}
 use Rattle.kex_model.specs.Programs.{Grammar}
 use Rattle.kex_model.specs.Places.{HasEmptyLoop}
-use Rattle.kex_model.specs.Answers.{Answer}
+use Rattle.kex_model.specs.Answers.{Answer, HasParse, Viable}
 use Rattle.kex_machine.specs.Nodes.{Graph, IsTrimmed, StaysWithin}
 use Rattle.kex_lowering.specs.Stages.{IsKeptOf}
 use Rattle.kex_machine.specs.Answers as nodes
@@ -19,3 +19,7 @@ MachinesHaveAnswers = (g : Graph) → StaysWithin g.nodes → g.start < length g
 -- and each stage without an empty loop that has a machine
 abbrev pub StagesHaveAnswers : Type 0
 StagesHaveAnswers = (P : Grammar) (root : ℕ) (m : Graph) → IsKeptOf P root m → (HasEmptyLoop P root → ⊥) → (limit : ℕ) (w : List ℕ) (e : Bool) → (a : Answer) × stages.StageAnswers P root limit w e a
+
+-- a text is viable exactly where some text that begins with it has a parse
+abbrev pub ViableTextsGoOn : Type 0
+ViableTextsGoOn = (P : Grammar) (root : ℕ) (m : Graph) → IsKeptOf P root m → (HasEmptyLoop P root → ⊥) → (w : List ℕ) → Viable P root w ↔ ((v : List ℕ) × HasParse P root (w ++ v))

@@ -1,7 +1,7 @@
 // That a stage's places and its nodes answer alike. Each function's contract is a law.
 
 ghost use Rattle.kex_lowering.specs.Stages.{NodesAnswerAsPlaces};
-ghost use Rattle.kex_lowering.specs.Existence.{MachinesHaveAnswers, StagesHaveAnswers};
+ghost use Rattle.kex_lowering.specs.Existence.{MachinesHaveAnswers, StagesHaveAnswers, ViableTextsGoOn};
 ghost use Rattle.kex_lowering.specs.Shapes.{MachinesAnswerAsPlaces, NodesHaveShapesOfPlaces, NodesHaveStatesOfPlaces};
 
 /// What holds of a stage's places holds of the nodes that are left of its machine, and back: what is viable, what is
@@ -34,4 +34,9 @@ pub fn machines_have_answers()
 /// So has a stage that has a machine.
 pub fn stages_have_answers()
     ensures { StagesHaveAnswers }
+{}
+
+/// A text of such a stage is viable exactly where some text that begins with it has a parse.
+pub fn viable_texts_go_on()
+    ensures { ViableTextsGoOn }
 {}
