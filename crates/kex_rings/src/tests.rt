@@ -192,3 +192,30 @@ fn spent_by_settling(rt: HostRuntime) -> Result<(), Fail> {
     assert!(rt; pipe.take_output().is_empty());
     Ok(())
 }
+
+// The second stage wants memory at its second call, which comes in one of the rounds.
+#[test]
+fn spent_by_a_round(rt: HostRuntime) -> Result<(), Fail> {
+    let alloc = rt.alloc();
+    let mut pipe = RingPipe::new(alloc, vec![in alloc; copy(), failing(1)]?, 4)?;
+    let mut counts = Vec::new(alloc);
+    pipe.give(b"ab")?;
+    pipe.settle()?;
+    let before = pipe.take_output();
+    assert_eq!(rt; before.as_slice(), b"ab".as_slice());
+    pipe.give(b"cd")?;
+    let mut last = Ok(());
+    for _round in 0..4 {
+        if last.is_ok() {
+            last = ring_round(&rt, &mut pipe, &OpenGate, 1, &mut counts);
+        }
+    }
+    assert!(rt; matches!(last, Err(PipeFault::Memory)));
+    let again = ring_round(&rt, &mut pipe, &OpenGate, 1, &mut counts);
+    assert!(rt; matches!(again, Err(PipeFault::Spent)));
+    assert!(rt; !pipe.settled());
+    assert!(rt; matches!(pipe.settle(), Err(PipeFault::Spent)));
+    let after = pipe.take_output();
+    assert!(rt; b"cd".starts_with(after.as_slice()));
+    Ok(())
+}
