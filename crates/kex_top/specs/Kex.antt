@@ -52,7 +52,7 @@ abbrev pub WhereCheck : List (List ℕ) → (List ℕ → ℕ → Type 0) → Ty
 WhereCheck words P = (name : List ℕ) (states : ℕ) → asked_of words ≡ Some (ToCheck name states) → P name states
 
 abbrev pub WhereTrial : List (List ℕ) → (ℕ → ℕ → Type 0) → Type 0
-WhereTrial words P = (lines block : ℕ) → asked_of words ≡ Some (ToTry lines block) → P lines block
+WhereTrial words P = (lines block : ℕ) (rings : Option ℕ) → asked_of words ≡ Some (ToTry lines block rings) → P lines block
 
 -- the words don't ask for a test
 abbrev pub IsNoTest : List (List ℕ) → Type 0

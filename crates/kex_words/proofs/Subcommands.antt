@@ -1,6 +1,6 @@
 -- The subcommand that words in form name.
 use Rattle.std.proofs.Common.{◌≡◌, ◌∙◌, List, [], ◌∷◌, Bool, true, false, refl, sym, ap, subst, inl, inr, rules, map}
-use Rattle.std.specs.Prelude.{◌⊎◌, Option, Some, None, ◌&&◌, ℕ, not, is_some, find, option_map, slice_get, unwrap_or, codes}
+use Rattle.std.specs.Prelude.{Option, Some, None, ◌&&◌, not, is_some, find, option_map, unwrap_or}
 use Rattle.std.specs.List.{list_any}
 use Rattle.clap.specs.Words.{Row, Text, Kinds, subcommand_of, fault_of}
 use Rattle.clap.specs.Kinds.{check_kinds, or_else}

@@ -36,15 +36,19 @@ most_lines = 1000000
 abbrev pub states_rule : Rule
 states_rule = number_rule (codes "states") 1 most_states (codes "4096")
 
+abbrev pub most_room : ℕ
+most_room = 1048576
+
+-- where it isn't given there are no rings
+abbrev pub rings_rule : Rule
+rings_rule = record (new_rule (codes "rings")) { long = Some (codes "rings"); parser = Some (vp.Unsigned 1 most_room) }
+
 abbrev pub lines_rule : Rule
 lines_rule = record (new_rule (codes "N")) { parser = Some (vp.Unsigned 0 most_lines); required = true }
 
 abbrev pub with_rules : App → List Rule → App
 with_rules app [] = app
 with_rules app (rule ∷ rules) = with_rules (with_rule app rule) rules
-
-abbrev pub run_app : App
-run_app = with_rules (new_app (codes "run")) (program_rule ∷ states_rule ∷ max_input_rule ∷ block_rule ∷ [])
 
 -- a check reads no input
 abbrev pub check_app : App
@@ -54,8 +58,12 @@ check_app = with_rules (new_app (codes "check")) (program_rule ∷ states_rule �
 abbrev pub stage_app : Text → App
 stage_app name = with_rules (new_app name) (program_rule ∷ max_input_rule ∷ block_rule ∷ [])
 
+-- a run makes tables, and may join stages by rings
+abbrev pub run_app : App
+run_app = with_rules (stage_app (codes "run")) (states_rule ∷ rings_rule ∷ [])
+
 abbrev pub trial_app : App
-trial_app = with_rules (new_app (codes "trial")) (lines_rule ∷ block_rule ∷ [])
+trial_app = with_rules (new_app (codes "trial")) (lines_rule ∷ block_rule ∷ rings_rule ∷ [])
 
 -- no flag or subcommand for help or the version
 abbrev pub bare_app : App

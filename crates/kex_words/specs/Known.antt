@@ -3,7 +3,7 @@ use Rattle.std.specs.Prelude.{◌≡◌, ◌==◌, ℕ, List, [], ◌∷◌, Boo
 use Rattle.std.specs.List.{list_all, slice_split}
 use Prim.Native.String.{String}
 use Rattle.clap.specs.Words.{Text}
-use Rattle.kex_words.specs.Words.{Asked, Mode, Reach, asked_of}
+use Rattle.kex_words.specs.Words.{Asked, Reach, asked_of}
 use Rattle.kex_words.specs.Words.Asked.{ToStream, ToCheck, ToTry}
 use Rattle.kex_words.specs.Words.Mode.{running, coding, acting, testing}
 
@@ -12,10 +12,14 @@ abbrev pub words_of : String → List Text
 words_of line = slice_split (λ byte. byte == 32) (codes line)
 
 abbrev pub reach : ℕ → ℕ → Reach
-reach max_input block = record { max_input = max_input; block = block }
+reach max_input block = record { max_input = max_input; block = block; rings = None }
 
 abbrev pub usual_reach : Reach
 usual_reach = reach 281474976710656 65536
+
+-- with rings that have room for so many items
+abbrev pub over_rings : ℕ → Reach
+over_rings room = record usual_reach { rings = Some room }
 
 -- the line asks for this
 abbrev pub Asks : String → Asked → Type 0
@@ -38,6 +42,8 @@ pub record ReadsRun : Type 0 where
   pub options_first : Asks "kex run --block=1048576 --max-input=0 p" (to_run "p" (reach 0 1048576))
   pub states : Asks "kex run p --states 7 --block 1" (ToStream (running 7) (codes "p") (reach 281474976710656 1))
   pub largest : Asks "kex run p --max-input 281474976710656 --states 65536" (ToStream (running 65536) (codes "p") usual_reach)
+  pub rings : Asks "kex run p --rings 1" (to_run "p" (over_rings 1))
+  pub largest_rings : Asks "kex run --rings=1048576 p" (to_run "p" (over_rings 1048576))
   -- as `clap` reads numbers
   pub plus_and_zeros : Asks "kex run p --max-input +3 --block 007" (to_run "p" (reach 3 7))
   pub empty_name : Asks "kex run " (to_run "" usual_reach)
@@ -64,9 +70,10 @@ pub record ReadsSingles : Type 0 where
   pub test : Asks "kex test --max-input 3 p" (ToStream testing (codes "p") (reach 3 65536))
 
 pub record ReadsTrial : Type 0 where
-  pub plain : Asks "kex trial 2" (ToTry 2 65536)
-  pub none : Asks "kex trial --block 1 0" (ToTry 0 1)
-  pub most : Asks "kex trial 1000000" (ToTry 1000000 65536)
+  pub plain : Asks "kex trial 2" (ToTry 2 65536 None)
+  pub none : Asks "kex trial --block 1 0" (ToTry 0 1 None)
+  pub most : Asks "kex trial 1000000" (ToTry 1000000 65536 None)
+  pub rings : Asks "kex trial 2 --rings 64" (ToTry 2 65536 (Some 64))
 
 pub record RefusesWords : Type 0 where
   pub no_words : asked_of [] ≡ None
@@ -80,15 +87,16 @@ pub record RefusesWords : Type 0 where
   pub unknown_option : AreUsage ("kex run p --rate 1" ∷ "kex run p --state 1" ∷ "kex run p --bloc 3" ∷ "kex run p --Block 3"
       ∷ "kex run p --max_input 3" ∷ "kex run p -b 3" ∷ "kex run p -block 3" ∷ "kex run -p" ∷ "kex run -5" ∷ [])
   pub option_of_another_command : AreUsage ("kex check p --block 1" ∷ "kex check p --max-input 1" ∷ "kex code p --states 1" ∷ "kex act p --states 1"
-      ∷ "kex test p --states 1" ∷ "kex trial 1 --states 1" ∷ "kex trial 1 --max-input 1" ∷ [])
+      ∷ "kex test p --states 1" ∷ "kex trial 1 --states 1" ∷ "kex trial 1 --max-input 1" ∷ "kex check p --rings 1" ∷ "kex code p --rings 1"
+      ∷ "kex act p --rings 1" ∷ "kex test p --rings 1" ∷ [])
   pub option_twice : AreUsage ("kex run p --block 2 --block 3" ∷ "kex run p --block=2 --block=2"
       ∷ "kex run --max-input 1 p --max-input 1" ∷ [])
   pub no_value : AreUsage ("kex run p --block" ∷ "kex run p --block=" ∷ "kex run p --block " ∷ "kex run p --block --max-input 3"
       ∷ "kex run --block -- p" ∷ [])
   pub below_range : AreUsage ("kex run p --block 0" ∷ "kex run p --block -1" ∷ "kex run p --max-input -1" ∷ "kex run p --max-input=-0"
-      ∷ "kex run p --states 0" ∷ "kex check p --states 0" ∷ "kex trial -1" ∷ [])
+      ∷ "kex run p --states 0" ∷ "kex run p --rings 0" ∷ "kex trial 1 --rings 0" ∷ "kex check p --states 0" ∷ "kex trial -1" ∷ [])
   pub above_range : AreUsage ("kex run p --block 1048577" ∷ "kex run p --max-input 281474976710657"
-      ∷ "kex run p --block 18446744073709551617" ∷ "kex run p --states 65537" ∷ "kex trial 1000001" ∷ [])
+      ∷ "kex run p --block 18446744073709551617" ∷ "kex run p --states 65537" ∷ "kex run p --rings 1048577" ∷ "kex trial 1000001" ∷ [])
   pub no_number : AreUsage ("kex run p --block two" ∷ "kex run p --block 3k" ∷ "kex run p --block 0x10" ∷ "kex run p --block 1_000"
       ∷ "kex run p --block 3.0" ∷ "kex run p --block +" ∷ "kex run p --block ++3" ∷ "kex run p --block=3=4"
       ∷ "kex run p --block 3,5" ∷ "kex trial p" ∷ "kex trial " ∷ [])

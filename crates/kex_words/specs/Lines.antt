@@ -50,7 +50,7 @@ abbrev pub refused_line : Refusal → List ℕ
 refused_line refusal = placed_line refusal.place (title_of refusal.rule)
 
 abbrev pub usage_line : List ℕ
-usage_line = codes "usage: kex run|check|code|act|test PROGRAM [--states N] [--max-input N] [--block N] | kex trial N [--block N]\n"
+usage_line = codes "usage: kex run|check|code|act|test PROGRAM [--states N] [--max-input N] [--block N] [--rings N] | kex trial N [--block N] [--rings N]\n"
 
 abbrev pub line_of : Note → List ℕ
 line_of Nothing = []

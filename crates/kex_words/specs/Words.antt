@@ -5,17 +5,19 @@ use Rattle.std.specs.Str.Parse.{digits_value, without_leading_plus}
 use Rattle.clap.specs.Words.{Row, Text, first_of, one_of, subcommand_of, fault_of}
 use Rattle.clap.specs.Walk.{is_empty}
 use Rattle.clap.specs.ValueTests.{is_unsigned_in}
-use Rattle.kex_words.specs.Form.{kex_app, most_block, most_input, most_lines, most_states}
+use Rattle.kex_words.specs.Form.{kex_app, most_block, most_input, most_lines, most_room, most_states}
 use Rattle.kex_words.specs.declared.asked.Limits.{Limits}
+use Rattle.kex_words.specs.declared.asked.Rings.{Rings}
 use Rattle.kex_words.specs.declared.asked.Command.{Command}
 use Rattle.kex_words.specs.declared.asked.Command.TheVariants.{Stream, Check, Trial}
 use Rattle.kex_words.specs.declared.asked.Mode.{Mode as Moded}
 use Rattle.kex_words.specs.declared.asked.Mode.TheVariants as of_mode
 
--- how many bytes are read, in all and at a time
+-- how many bytes are read, in all and at a time, and how many items each ring between two stages has room for, where there are rings
 pub record Reach : Type 0 where
   pub max_input : ℕ
   pub block : ℕ
+  pub rings : Option ℕ
 
 -- what is written for the bytes of the input: what they mean, by tables of at most so many states; their code; what they mean as
 -- the text of a code; or nothing, where it is only asked whether they have a parse
@@ -29,7 +31,7 @@ pub data Mode : Type 0 where
 pub data Asked : Type 0 where
   ToStream : (mode : Mode) (program : Text) (reach : Reach) → Asked
   ToCheck : (program : Text) (states : ℕ) → Asked
-  ToTry : (lines block : ℕ) → Asked
+  ToTry : (lines block : ℕ) (rings : Option ℕ) → Asked
 
 -- the number where it is within the bounds
 abbrev pub bounded : ℕ → ℕ → Option ℕ → Option ℕ
@@ -50,10 +52,14 @@ program_in rows = unwrap_or (first_of (codes "PROGRAM") rows) []
 abbrev pub block_in : List Row → ℕ
 block_in rows = unwrap_or (number_at (codes "block") 1 most_block rows) 65536
 
+abbrev pub rings_in : List Row → Option ℕ
+rings_in rows = number_at (codes "rings") 1 most_room rows
+
 abbrev pub reach_in : List Row → Reach
 reach_in rows = record {
   max_input = unwrap_or (number_at (codes "max-input") 0 most_input rows) most_input;
   block = block_in rows;
+  rings = rings_in rows;
 }
 
 abbrev pub states_in : List Row → ℕ
@@ -69,20 +75,24 @@ asked_by name rows =
     else if bytes_eq name (codes "code") then ToStream coding (program_in rows) (reach_in rows)
     else if bytes_eq name (codes "act") then ToStream acting (program_in rows) (reach_in rows)
     else if bytes_eq name (codes "test") then ToStream testing (program_in rows) (reach_in rows)
-    else if bytes_eq name (codes "trial") then ToTry (lines_in rows) (block_in rows)
+    else if bytes_eq name (codes "trial") then ToTry (lines_in rows) (block_in rows) (rings_in rows)
     else ToStream (running (states_in rows)) (program_in rows) (reach_in rows)
 
 -- the same, where there is a subcommand; words in form have one
 abbrev pub asked_in : Option (Text × List Row) → Asked
-asked_in None = ToTry 0 65536
+asked_in None = ToTry 0 65536 None
 asked_in (Some sub) = asked_by sub.0 sub.1
 
 -- what the words ask for, where they are in form, and else nothing
 unfoldable pub asked_of : List Text → Option Asked
 asked_of words = if is_empty (fault_of kex_app words) then Some (asked_in (subcommand_of kex_app words)) else None
 
+abbrev pub room_of : Option Rings → Option ℕ
+room_of None = None
+room_of (Some rings) = Some rings.room
+
 abbrev pub reach_of : Limits → Reach
-reach_of limits = record { max_input = limits.max_input; block = limits.block }
+reach_of limits = record { max_input = limits.max_input; block = limits.block; rings = room_of limits.rings }
 
 abbrev pub mode_of : Moded → Mode
 mode_of (of_mode.Run states) = running states.most
@@ -94,4 +104,4 @@ mode_of of_mode.Test = testing
 abbrev pub asked : Command → Asked
 asked (Stream mode program limits) = ToStream (mode_of mode) program.now (reach_of limits)
 asked (Check program states) = ToCheck program.now states.most
-asked (Trial lines) = ToTry lines.count lines.block
+asked (Trial lines) = ToTry lines.count lines.block (room_of lines.rings)

@@ -15,6 +15,17 @@ pub(crate) const USUAL_STATES: u64 = 4_096;
 
 pub(crate) const MOST_LINES: u64 = 1_000_000;
 
+pub(crate) const MOST_ROOM: u64 = 1_048_576;
+
+/// Rings between stages that work at once.
+#[derive(Clone, Copy, Debug, PartialEq, Eq)]
+pub struct Rings {
+    /// How many items each has room for.
+    pub room: u32,
+    ghost some: { 1 ≤ room },
+    ghost fits: { room ≤ 2 ^ 20 },
+}
+
 /// How many bytes are read, in all and at a time.
 #[derive(Clone, Copy, Debug, PartialEq, Eq)]
 pub struct Limits {
@@ -22,6 +33,8 @@ pub struct Limits {
     pub max_input: u64,
     /// The bytes that one read asks for.
     pub block: u32,
+    /// What joins the stages, where they don't work by rounds.
+    pub rings: Option<Rings>,
     ghost most: { max_input ≤ 2 ^ 48 },
     ghost some: { 1 ≤ block },
     ghost fits: { block ≤ 2 ^ 20 },
@@ -40,6 +53,7 @@ pub struct States {
 pub struct Lines {
     pub count: u32,
     pub block: u32,
+    pub rings: Option<Rings>,
     ghost few: { count ≤ 1000000 },
     ghost some: { 1 ≤ block },
     ghost fits: { block ≤ 2 ^ 20 },

@@ -2,9 +2,9 @@
 ghost use Rattle.std.specs.Prelude.{◌≡◌, IfOk, false};
 ghost use Rattle.clap.specs.Words.{app_of, rule_of, with_subcommand};
 ghost use Rattle.clap.specs.declared.builder.command.Command.TheViews.{out-Command};
-ghost use Rattle.kex_words.specs.Form.{bare_app, begun_app, block_rule, check_app, kex_app, lines_rule, max_input_rule, number_rule, program_rule, run_app, stage_app, states_rule, trial_app};
+ghost use Rattle.kex_words.specs.Form.{bare_app, begun_app, block_rule, check_app, kex_app, lines_rule, max_input_rule, number_rule, program_rule, rings_rule, run_app, stage_app, states_rule, trial_app};
 
-use crate::asked::{MOST_BLOCK, MOST_INPUT, MOST_LINES, MOST_STATES};
+use crate::asked::{MOST_BLOCK, MOST_INPUT, MOST_LINES, MOST_ROOM, MOST_STATES};
 use clap::builder::ValueParser;
 use clap::{Arg, Command};
 use std::alloc::{AllocError, Global};
@@ -47,6 +47,16 @@ fn states<'a>(alloc: Global) -> Arg<'a>
     number(alloc, "states", 1, MOST_STATES, "4096")
 }
 
+// Where it isn't given there are no rings.
+fn rings<'a>(alloc: Global) -> Arg<'a>
+    ensures rule { rule_of result ≡ rings_rule }
+    ensures local { result.global ≡ false }
+{
+    Arg::new(alloc, "rings")
+        .long("rings")
+        .value_parser(ValueParser::Unsigned(1, MOST_ROOM))
+}
+
 fn lines<'a>(alloc: Global) -> Arg<'a>
     ensures rule { rule_of result ≡ lines_rule }
     ensures local { result.global ≡ false }
@@ -54,17 +64,6 @@ fn lines<'a>(alloc: Global) -> Arg<'a>
     Arg::new(alloc, "N")
         .value_parser(ValueParser::Unsigned(0, MOST_LINES))
         .required(true)
-}
-
-fn run<'a>(alloc: Global) -> Result<Command<'a>, AllocError>
-    ensures app { IfOk result (λ command. app_of command ≡ run_app) }
-    ensures local { IfOk result (λ command. (out-Command command).has_globals ≡ false) }
-{
-    Command::new(alloc, "run")
-        .arg(program(alloc))?
-        .arg(states(alloc))?
-        .arg(max_input(alloc))?
-        .arg(block(alloc))
 }
 
 fn check<'a>(alloc: Global) -> Result<Command<'a>, AllocError>
@@ -87,13 +86,21 @@ fn stage<'a>(alloc: Global, name: &'a str) -> Result<Command<'a>, AllocError>
         .arg(block(alloc))
 }
 
+fn run<'a>(alloc: Global) -> Result<Command<'a>, AllocError>
+    ensures app { IfOk result (λ command. app_of command ≡ run_app) }
+    ensures local { IfOk result (λ command. (out-Command command).has_globals ≡ false) }
+{
+    stage(alloc, "run")?.arg(states(alloc))?.arg(rings(alloc))
+}
+
 fn trial<'a>(alloc: Global) -> Result<Command<'a>, AllocError>
     ensures app { IfOk result (λ command. app_of command ≡ trial_app) }
     ensures local { IfOk result (λ command. (out-Command command).has_globals ≡ false) }
 {
     Command::new(alloc, "trial")
         .arg(lines(alloc))?
-        .arg(block(alloc))
+        .arg(block(alloc))?
+        .arg(rings(alloc))
 }
 
 // Help and the version are no words of the form.

@@ -16,7 +16,7 @@ mod refusals;
 mod tests;
 mod writing;
 
-pub use asked::{Command, Limits, Lines, Mode, States, WordsRefusal};
+pub use asked::{Command, Limits, Lines, Mode, Rings, States, WordsRefusal};
 pub use counts::{Counts, Summary, write_counts, write_summary};
 pub use known::{asks_by_subcommand, reads_known_words};
 pub use notes::{Note, tell};

@@ -10,7 +10,7 @@ use crate::refusals::{Place, Refusal};
 use kex_ports::{Failed, Sink};
 
 const USAGE: &str =
-    "usage: kex run|check|code|act|test PROGRAM [--states N] [--max-input N] [--block N] | kex trial N [--block N]\n";
+    "usage: kex run|check|code|act|test PROGRAM [--states N] [--max-input N] [--block N] [--rings N] | kex trial N [--block N] [--rings N]\n";
 
 /// What a run leaves to be told. Stages count from 1, bytes from 0.
 #[derive(Clone, Copy, Debug, PartialEq, Eq)]

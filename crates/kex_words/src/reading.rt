@@ -1,13 +1,13 @@
 // What the words of a command line ask for.
 ghost use Rattle.std.specs.Prelude.{◌≡◌, ◌≤◌, ◌^◌, IfSome, IfOk, Some, None, map, string_bytes, IsErrOf, option_map};
 ghost use Rattle.clap.specs.Words.{found_of, rows_of, first_of, subcommand_rows_of};
-ghost use Rattle.kex_words.specs.Words.{asked, asked_in, asked_of, block_in, bounded, lines_in, mode_of, number_at, program_in, reach_in, states_in};
+ghost use Rattle.kex_words.specs.Words.{asked, asked_in, asked_of, block_in, bounded, lines_in, mode_of, number_at, program_in, reach_in, rings_in, room_of, states_in};
 ghost use Rattle.kex_words.specs.Words.Asked.{ToStream};
 ghost use Rattle.kex_words.specs.declared.asked.WordsRefusal.TheVariants.{Usage};
 
 use crate::asked::{
-    Command, Limits, Lines, MOST_BLOCK, MOST_INPUT, MOST_LINES, MOST_STATES, Mode, States,
-    USUAL_BLOCK, USUAL_STATES, WordsRefusal,
+    Command, Limits, Lines, MOST_BLOCK, MOST_INPUT, MOST_LINES, MOST_ROOM, MOST_STATES, Mode,
+    Rings, States, USUAL_BLOCK, USUAL_STATES, WordsRefusal,
 };
 use crate::form::form;
 use clap::error::ErrorKind;
@@ -48,13 +48,22 @@ fn block(matches: &ArgMatches) -> u32
     number(matches, "block", 1, MOST_BLOCK).unwrap_or(USUAL_BLOCK) as u32
 }
 
+fn rings(matches: &ArgMatches) -> Option<Rings>
+    ensures { room_of result ≡ rings_in (rows_of (found_of matches.now)) }
+{
+    let room = number(matches, "rings", 1, MOST_ROOM)?;
+    Some(Rings { room: room as u32 })
+}
+
 fn limits(matches: &ArgMatches) -> Limits
     ensures max_input { result.max_input ≡ (reach_in (rows_of (found_of matches.now))).max_input }
     ensures block { result.block ≡ (reach_in (rows_of (found_of matches.now))).block }
+    ensures rings { room_of result.rings ≡ (reach_in (rows_of (found_of matches.now))).rings }
 {
     Limits {
         max_input: number(matches, "max-input", 0, MOST_INPUT).unwrap_or(MOST_INPUT),
         block: block(matches),
+        rings: rings(matches),
     }
 }
 
@@ -69,10 +78,12 @@ fn states(matches: &ArgMatches) -> States
 fn lines(matches: &ArgMatches) -> Lines
     ensures count { result.count ≡ lines_in (rows_of (found_of matches.now)) }
     ensures block { result.block ≡ block_in (rows_of (found_of matches.now)) }
+    ensures rings { room_of result.rings ≡ rings_in (rows_of (found_of matches.now)) }
 {
     Lines {
         count: number(matches, "N", 0, MOST_LINES).unwrap_or(0) as u32,
         block: block(matches),
+        rings: rings(matches),
     }
 }
 
@@ -102,6 +113,7 @@ fn command<'a>(matches: &ArgMatches<'a>) -> Command<'a>
         None => Command::Trial(Lines {
             count: 0,
             block: USUAL_BLOCK as u32,
+            rings: None,
         }),
     }
 }

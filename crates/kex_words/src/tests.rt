@@ -1,6 +1,6 @@
 //! Words and what they ask for; notes, counts and their lines.
 use crate::{
-    Command, Counts, Limits, Lines, Mode, Note, Place, Refusal, Rule, States, Summary,
+    Command, Counts, Limits, Lines, Mode, Note, Place, Refusal, Rings, Rule, States, Summary,
     WordsRefusal, asks_by_subcommand, read, reads_known_words, tell, write_all, write_counts,
     write_summary,
 };
@@ -29,16 +29,29 @@ fn words_are_read(rt: HostRuntime) -> Result<(), Fail> {
     let limits = Limits {
         max_input: 281_474_976_710_656,
         block: 65_536,
+        rings: None,
     };
     let small = Limits {
         max_input: 3,
         block: 1,
+        rings: None,
+    };
+    let over_rings = Limits {
+        max_input: 3,
+        block: 65_536,
+        rings: Some(Rings { room: 4_096 }),
     };
     let states = States { most: 4_096 };
     let run = Mode::Run(states);
     let lines = Lines {
         count: 2,
         block: 65_536,
+        rings: None,
+    };
+    let lines_over_rings = Lines {
+        count: 2,
+        block: 65_536,
+        rings: Some(Rings { room: 1 }),
     };
     let cases = [
         ("kex run p", stream(run, "p", limits)),
@@ -48,6 +61,10 @@ fn words_are_read(rt: HostRuntime) -> Result<(), Fail> {
             stream(run, "-p", small),
         ),
         ("kex run ", stream(run, "", limits)),
+        (
+            "kex run --rings 4096 p --max-input 3",
+            stream(run, "p", over_rings),
+        ),
         ("kex code p", stream(Mode::Code, "p", limits)),
         (
             "kex act p --max-input 3 --block 1",
@@ -62,6 +79,7 @@ fn words_are_read(rt: HostRuntime) -> Result<(), Fail> {
             },
         ),
         ("kex trial 2", Command::Trial(lines)),
+        ("kex trial 2 --rings 1", Command::Trial(lines_over_rings)),
     ];
     reads_known_words();
     asks_by_subcommand();
@@ -108,6 +126,10 @@ fn words_out_of_form_are_usage(rt: HostRuntime) -> Result<(), Fail> {
         "kex run p --max-input 281474976710657",
         "kex run p --max-input 18446744073709551616",
         "kex run p --block two",
+        "kex run p --rings 0",
+        "kex run p --rings 1048577",
+        "kex trial 1 --rings 0",
+        "kex code p --rings 1",
     ];
     for line in &lines {
         let words = words_of(rt.alloc(), line)?;
@@ -167,7 +189,7 @@ fn lines_are_told(rt: HostRuntime) -> Result<(), Fail> {
         (Note::Refused(no_start), "refused: K09 NoStart\n"),
         (
             Note::Usage,
-            "usage: kex run|check|code|act|test PROGRAM [--states N] [--max-input N] [--block N] | kex trial N [--block N]\n",
+            "usage: kex run|check|code|act|test PROGRAM [--states N] [--max-input N] [--block N] [--rings N] | kex trial N [--block N] [--rings N]\n",
         ),
         (Note::ReadFault, "read fault\n"),
         (Note::WriteFault, "write fault\n"),

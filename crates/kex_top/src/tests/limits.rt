@@ -7,7 +7,7 @@ use std::alloc::{AllocError, Global};
 use std::test::Fail;
 
 const USAGE: &[u8] =
-    b"usage: kex run|check|code|act|test PROGRAM [--states N] [--max-input N] [--block N] | kex trial N [--block N]\n";
+    b"usage: kex run|check|code|act|test PROGRAM [--states N] [--max-input N] [--block N] [--rings N] | kex trial N [--block N] [--rings N]\n";
 
 // A name, the words, what is answered, and the note.
 const WORDS: [(&str, &[&str], Status, &[u8]); 4] = [

@@ -14,5 +14,5 @@ returns-clause-check_complete g c = λ name states asked good.
     check_completes _ _ _ _ _ _ good (c.answer-status.ensures.check_shelf name states asked) (c.answer-status.ensures.checks name states asked)
 
 pub returns-clause-trial_complete : goal.returns-clause-trial_complete
-returns-clause-trial_complete g c = λ lines block asked good.
-    trial_completes lines _ _ good (c.answer-status.ensures.trial lines block asked)
+returns-clause-trial_complete g c = λ lines block rings asked good.
+    trial_completes lines _ _ good (c.answer-status.ensures.trial lines block rings asked)

@@ -12,6 +12,8 @@ reads-run = record {
   options_first = refl;
   states = refl;
   largest = refl;
+  rings = refl;
+  largest_rings = refl;
   plus_and_zeros = refl;
   empty_name = refl;
   dash_for_a_name = refl;
@@ -39,7 +41,7 @@ reads-singles = record { code = refl; act = refl; test = refl }
 
 reads-trial : ReadsTrial
 unfolding clap_on_literals asked_of
-reads-trial = record { plain = refl; none = refl; most = refl }
+reads-trial = record { plain = refl; none = refl; most = refl; rings = refl }
 
 refuses-words : RefusesWords
 unfolding clap_on_literals asked_of
