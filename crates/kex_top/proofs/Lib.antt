@@ -1,5 +1,6 @@
 pub mod Schedules
 pub mod Rounding
+pub mod RingRounds
 pub mod Working
 pub mod Placing
 pub mod Passing

@@ -5,7 +5,6 @@ use Rattle.std.specs.Io.KnownBytes.{Appends}
 use Rattle.std.proofs.lemmas.List.{length-drop, take_all, take-append-drop}
 use Rattle.kex_ports.specs.Bytes.{AppendsFront, IsPrefix}
 use Rattle.kex_ports.proofs.Known.{append-nil, appends-nothing, appends-then, front-then, front-more}
-use Rattle.kex_pipe.specs.declared.pipe.Pipe.{Pipe}
 use Rattle.kex_pipe.specs.declared.turn.Fate.{Fate}
 use Rattle.kex_pipe.specs.declared.turn.Turn.{Ghosts}
 use Rattle.kex_top.specs.Answer.{Said}
@@ -13,6 +12,7 @@ use Rattle.kex_top.specs.Fronts.{IsFront}
 use Rattle.kex_top.specs.History.{Feeds, History, IsSaid, Writes, WritesEarly, WritesFront, bytes_of, is_ended, text_of}
 use Rattle.kex_top.specs.Piped.{PipeSays, PipeStands, plans_of}
 use Rattle.kex_top.specs.Pipelines.{AlwaysSays}
+use Rattle.kex_top.specs.declared.any_pipe.AnyPipe.{AnyPipe}
 use Rattle.kex_top.specs.declared.rounds.Pace.{Pace}
 use Rattle.kex_top.specs.declared.rounds.Pace.TheVariants.{Blocks, Parts}
 
@@ -20,7 +20,7 @@ pub what-is-left : (xs : List ℕ) (n : ℕ) → n ≤ length xs → take (lengt
 what-is-left xs n le = take_all (length xs - n) (drop n xs) (let long = length-drop n xs in omega arith)
 
 -- what an open pipe stands for was said
-pub said-open : {T : Type 0} (t : Ghosts T) (pipe : Pipe T t) (h : History) → PipeStands t pipe h → is_ended h ≡ false → IsSaid (PipeSays t (plans_of t pipe)) h
+pub said-open : {T : Type 0} (t : Ghosts T) (pipe : AnyPipe T t) (h : History) → PipeStands t pipe h → is_ended h ≡ false → IsSaid (PipeSays t (plans_of t pipe)) h
 said-open t pipe None s is_open = tt
 said-open t pipe (Some f) s is_open = subst (λ e. PipeSays t (plans_of t pipe) f.bytes e f.said) is_open s.says
 

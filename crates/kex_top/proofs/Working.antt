@@ -1,22 +1,27 @@
 -- What a pipe of stages says of what it was fed.
 use Rattle.std.proofs.Common.{◌≡◌, ℕ, ◌<◌, Bool, true, false, List, [], ◌∷◌, ◌++◌, ◌||◌, Option, Some, None, length, map, get_or, zero, suc, arith, refl, sym, ap, ap₂, subst, ◌∙◌, append-nil}
 use Rattle.kex_model.specs.Answers.{Answer, Pipeline}
-use Rattle.kex_model.specs.Schedules.{Item, Seat, has_end, Event, give, give_end, Settled}
+use Rattle.kex_model.specs.Schedules.{Item, Seat, has_end, Event, give, give_end, After, Settled}
 use Rattle.kex_pipe.specs.Events.{bytes_given, end_given}
 use Rattle.kex_pipe.specs.Reports.{report_as}
-use Rattle.kex_pipe.specs.Standing.{Line, Stands, in_hand}
+use Rattle.kex_pipe.specs.Standing as by_rounds
+use Rattle.kex_pipe.specs.Waiting.{waiting}
 use Rattle.kex_pipe.specs.declared.inbox.Inbox.{Inbox}
 use Rattle.kex_pipe.specs.declared.seat.Seat.{Seat as Seated}
-use Rattle.kex_pipe.specs.declared.pipe.Pipe.{Pipe}
 use Rattle.kex_pipe.specs.declared.report.Rejected.{Rejected}
 use Rattle.kex_pipe.specs.declared.turn.Fate.{Fate}
 use Rattle.kex_pipe.specs.declared.turn.Turn.{Ghosts}
 use Rattle.kex_pipe.proofs.Items.{end-items}
 use Rattle.kex_model.proofs.Pipelines.{one_answer}
 use Rattle.kex_pipe.proofs.Schedule.{came-given, bytes_given-append, end_given-append}
+use Rattle.kex_rings.specs.Lines as by_rings
+use Rattle.kex_rings.specs.declared.ring_seat.RingSeat.{RingSeat}
+use Rattle.kex_top.specs.declared.any_pipe.AnyPipe.{AnyPipe}
+use Rattle.kex_top.specs.declared.any_pipe.AnyPipe.TheVariants.{Rounds, Rings}
 use Rattle.kex_top.specs.Answer.{Said}
 use Rattle.kex_top.specs.History.{Fed, History, bytes_of, text_of, is_ended, IsFateOf, Feeds}
-use Rattle.kex_top.specs.Piped.{plans_of, IsWorkedOff, HasSaid, PipeStands}
+use Rattle.kex_top.specs.Piped as piped
+use Rattle.kex_top.specs.Piped.{plans_of, in_hand, is_in_round, Stands, IsSettled, IsWorkedOff, HasSaid, PipeStands}
 use Rattle.kex_top.specs.PipelineLaws.{report-same}
 use Rattle.kex_top.specs.Pipelines.{StagesSay}
 use Rattle.kex_top.proofs.Schedules.{same-came, same-seats}
@@ -30,13 +35,27 @@ or-yes true = refl
 or-yes false = refl
 
 module _ {T : Type 0} (t : Ghosts T) where
-  line-plans : (came : List Item) (ps : List t.Plan) (ss : List (Seated T t)) (xs : List Seat) (b : Inbox) (taken : List ℕ) → Line t came ps ss xs b taken → map (λ s. t.plan s.staged.stage) ss ≡ ps
+  line-plans : (came : List Item) (ps : List t.Plan) (ss : List (Seated T t)) (xs : List Seat) (b : Inbox) (taken : List ℕ) → by_rounds.Line t came ps ss xs b taken → map t.plan (map (λ s. s.staged.stage) ss) ≡ ps
   line-plans came [] [] [] b taken h = refl
   line-plans came (p ∷ ps) (s ∷ ss) (x ∷ xs) b taken h = ap₂ (λ q qs. q ∷ qs) h.2.same_plan (line-plans h.1 ps ss xs b taken h.3)
   line-plans came ps ss xs b taken h = absurd h
 
-  pub same-plans : (ps : List t.Plan) (pipe : Pipe T t) (h : List Event) (taken : List ℕ) → Stands t ps pipe h taken → plans_of t pipe ≡ ps
-  same-plans ps pipe h taken s = line-plans s.came ps pipe.seats.items s.seats pipe.output taken s.line
+  ring-plans : (came ahead : List Item) (ps : List t.Plan) (ss : List (RingSeat T t)) (xs : List Seat) (b : Inbox) (taken : List ℕ) → by_rings.Line t came ahead ps ss xs b taken → map t.plan (map (λ s. s.seat.staged.stage) ss) ≡ ps
+  ring-plans came ahead [] [] [] b taken h = refl
+  ring-plans came ahead (p ∷ ps) (s ∷ ss) (x ∷ xs) b taken h = ap₂ (λ q qs. q ∷ qs) h.2.same_plan (ring-plans h.1 (waiting s.seat.outbox) ps ss xs b taken h.3)
+  ring-plans came ahead ps ss xs b taken h = absurd h
+
+  pub same-plans : (ps : List t.Plan) (pipe : AnyPipe T t) (h : List Event) (taken : List ℕ) → Stands t ps pipe h taken → plans_of t pipe ≡ ps
+  same-plans ps (Rounds pipe) h taken s = line-plans s.came ps pipe.seats.items s.seats pipe.output taken s.line
+  same-plans ps (Rings pipe counts) h taken s = ring-plans s.came [] ps pipe.seats.items s.seats pipe.output taken s.line
+
+  pub is-closed : (ps : List t.Plan) (pipe : AnyPipe T t) (h : List Event) (taken : List ℕ) → Stands t ps pipe h taken → is_in_round t pipe ≡ false
+  is-closed ps (Rounds pipe) h taken s = s.closed
+  is-closed ps (Rings pipe counts) h taken s = refl
+
+  end-as-given : (ps : List t.Plan) (pipe : AnyPipe T t) (h : List Event) (taken : List ℕ) → Stands t ps pipe h taken → piped.is_ended t pipe ≡ end_given h
+  end-as-given ps (Rounds pipe) h taken s = s.same_end ∙ ap has_end (came-given t.gives s.after) ∙ end-items (bytes_given h) (end_given h)
+  end-as-given ps (Rings pipe counts) h taken s = s.same_end ∙ ap has_end (came-given t.gives s.after) ∙ end-items (bytes_given h) (end_given h)
 
   -- a stage more that wasn't fed
   pub unfed-more : (xs : List T) (x : T) → ((k : ℕ) (d : T) → k < length xs → t.stands (get_or xs k d) None) → t.stands x None → (k : ℕ) (d : T) → k < length (xs ++ x ∷ []) → t.stands (get_or (xs ++ x ∷ []) k d) None
@@ -46,72 +65,76 @@ module _ {T : Type 0} (t : Ghosts T) where
   unfed-more (y ∷ xs) x unfed h (suc k) d lt = unfed-more xs x (λ n c less. unfed (suc n) c (omega arith)) h k d (omega arith)
 
   -- what the pipe was given, by what it was fed
-  pub record Standing (pipe : Pipe T t) (h : History) : Type 0 where
+  pub record Standing (pipe : AnyPipe T t) (h : History) : Type 0 where
     pub events : List Event
     pub some : 0 < length (plans_of t pipe)
     pub stands : Stands t (plans_of t pipe) pipe events (text_of h)
     pub bytes : bytes_given events ≡ bytes_of h
     pub end : end_given events ≡ is_ended h
 
-  pub standing : (pipe : Pipe T t) (h : History) → PipeStands t pipe h → Standing pipe h
+  pub standing : (pipe : AnyPipe T t) (h : History) → PipeStands t pipe h → Standing pipe h
   standing pipe None s = record { events = []; some = s.0; stands = s.1; bytes = refl; end = refl }
-  standing pipe (Some f) s = record { events = s.worked_off.events; some = s.says.0; stands = s.worked_off.stands; bytes = s.worked_off.same_bytes ∙ s.bytes; end = s.worked_off.same_end ∙ s.end }
+  standing pipe (Some f) s = record { events = s.worked_off.events; some = s.says.0; stands = s.worked_off.stands_for; bytes = s.worked_off.same_bytes ∙ s.bytes; end = s.worked_off.same_end ∙ s.end }
 
   -- the end wasn't given
-  pub still-open : (pipe : Pipe T t) (h : History) → PipeStands t pipe h → is_ended h ≡ false → pipe.ended ≡ false
+  pub still-open : (pipe : AnyPipe T t) (h : History) → PipeStands t pipe h → is_ended h ≡ false → piped.is_ended t pipe ≡ false
   still-open pipe h s e =
       let x = standing pipe h s in
-      x.stands.same_end ∙ ap has_end (came-given t.gives x.stands.after) ∙ end-items (bytes_given x.events) (end_given x.events) ∙ x.end ∙ e
+      end-as-given (plans_of t pipe) pipe x.events (text_of h) x.stands ∙ x.end ∙ e
+
+  pub not-in-round : (pipe : AnyPipe T t) (h : History) → PipeStands t pipe h → is_in_round t pipe ≡ false
+  not-in-round pipe h s =
+      let x = standing pipe h s in
+      is-closed (plans_of t pipe) pipe x.events (text_of h) x.stands
 
   module _ (one : (p : t.Plan) (w : List ℕ) (e : Bool) (a b : Answer) → t.gives p w e a → t.gives p w e b → a ≡ b) where
-    module _ (ps : List t.Plan) (old pipe : Pipe T t) (given : List Event) (taken out : List ℕ) (r : Option Rejected) where
-      -- what was worked off stays so when the output is taken
-      taken-off : IsWorkedOff t ps given taken old → ((h : List Event) → Stands t ps old h taken → Stands t ps pipe h (taken ++ out)) → IsWorkedOff t ps given (taken ++ out) pipe
-      taken-off w takes =
-          let s = takes w.events w.stands in
-          record {
-            events = w.events;
-            same_bytes = w.same_bytes;
-            same_end = w.same_end;
-            stands = s;
-            settled = subst (λ z. Settled t.gives s.came ps z) (same-seats t.gives one ps w.stands.after s.after) (subst (λ z. Settled t.gives z ps w.stands.seats) (same-came t.gives ps w.stands.after s.after) w.settled);
-          }
+    -- what is settled is so with whatever came and whatever seats that leaves
+    pub settled-here : (ps : List t.Plan) (h : List Event) (came : List Item) (seats : List Seat) → After t.gives ps h came seats → IsSettled t.gives ps h → Settled t.gives came ps seats
+    settled-here ps h came seats after s = subst (λ z. Settled t.gives came ps z) (same-seats t.gives one ps s.after after) (subst (λ z. Settled t.gives z ps s.seats) (same-came t.gives ps s.after after) s.settled)
 
-      answered : (w : IsWorkedOff t ps given (taken ++ out) pipe) → in_hand t pipe ≡ [] → ((h : List Event) (text : List ℕ) (s : Stands t ps pipe h text) → Settled t.gives s.came ps s.seats → Pipeline t.gives 1 ps (bytes_given h) (end_given h) (text ++ in_hand t pipe) (report_as r)) → Pipeline t.gives 1 ps (bytes_given given) (end_given given) (taken ++ out) (report_as r)
-      answered w none reports =
-          let all = reports w.events (taken ++ out) w.stands w.settled in
-          subst (λ z. Pipeline t.gives 1 ps z (end_given given) (taken ++ out) (report_as r)) w.same_bytes
-          (subst (λ z. Pipeline t.gives 1 ps (bytes_given w.events) z (taken ++ out) (report_as r)) w.same_end
-          (subst (λ z. Pipeline t.gives 1 ps (bytes_given w.events) (end_given w.events) z (report_as r)) (ap (λ z. (taken ++ out) ++ z) none ∙ append-nil (taken ++ out)) all))
+  -- what the report says of all that is worked off
+  abbrev pub Reports : AnyPipe T t → List t.Plan → Option Rejected → Type 0
+  Reports pipe ps r = (k : List Event) (text : List ℕ) → Stands t ps pipe k text → IsSettled t.gives ps k → Pipeline t.gives 1 ps (bytes_given k) (end_given k) (text ++ in_hand t pipe) (report_as r)
 
-      -- the pipe has said all that there is to say on what it was given
-      pub said-all : (h : History) (w : List ℕ) (e : Bool) (fate : Fate) → 0 < length ps → taken ≡ text_of h → bytes_given given ≡ w → end_given given ≡ e
-          → IsWorkedOff t ps given taken old → ((k : List Event) → Stands t ps old k taken → Stands t ps pipe k (taken ++ out)) → in_hand t pipe ≡ []
-          → ((k : List Event) (text : List ℕ) (s : Stands t ps pipe k text) → Settled t.gives s.came ps s.seats → Pipeline t.gives 1 ps (bytes_given k) (end_given k) (text ++ in_hand t pipe) (report_as r))
-          → IsFateOf r fate → Feeds (λ v d said. StagesSay t.gives ps v d said) (λ k. PipeStands t pipe k) h w e out fate
-      said-all h w e fate some text bytes end worked takes none reports is_fate =
-          let said : Said = record { text = taken ++ out; report = r } in
-          let off = taken-off worked takes in
-          let says : StagesSay t.gives ps w e said = (some, subst (λ z. Pipeline t.gives 1 ps z e (taken ++ out) (report_as r)) bytes (subst (λ z. Pipeline t.gives 1 ps (bytes_given given) z (taken ++ out) (report_as r)) end (answered off none reports))) in
-          let fed : Fed = record { bytes = w; ended = e; said = said } in
-          let has : HasSaid t ps pipe fed = record { given = given; bytes = bytes; end = end; worked_off = off; says = says } in
-          record {
-            said = said;
-            is_said = says;
-            stands_for = subst (λ z. HasSaid t z pipe fed) (sym (same-plans ps pipe off.events (taken ++ out) off.stands)) has;
-            whole = ap (λ z. z ++ out) text;
-            is_fate = is_fate;
-          }
+  module _ (ps : List t.Plan) (old pipe : AnyPipe T t) (given : List Event) (taken out : List ℕ) (r : Option Rejected) where
+    -- what was worked off stays so when the output is taken
+    taken-off : IsWorkedOff t.gives ps (λ k. Stands t ps old k taken) given → ((h : List Event) → Stands t ps old h taken → Stands t ps pipe h (taken ++ out)) → IsWorkedOff t.gives ps (λ k. Stands t ps pipe k (taken ++ out)) given
+    taken-off w takes = record { events = w.events; same_bytes = w.same_bytes; same_end = w.same_end; stands_for = takes w.events w.stands_for; settled = w.settled }
 
-    pub rejected-is : (pipe : Pipe T t) (f : Fed) (r : Option Rejected) → ((ps : List t.Plan) (h : List Event) (taken : List ℕ) (s : Stands t ps pipe h taken) → Settled t.gives s.came ps s.seats → Pipeline t.gives 1 ps (bytes_given h) (end_given h) (taken ++ in_hand t pipe) (report_as r)) → PipeStands t pipe (Some f) → r ≡ f.said.report
-    rejected-is pipe f r reports s =
-        let ps = plans_of t pipe in
-        let w = s.worked_off in
-        let all = reports ps w.events f.said.text w.stands w.settled in
-        let here : Pipeline t.gives 1 ps f.bytes f.ended (f.said.text ++ in_hand t pipe) (report_as r) =
-        subst (λ z. Pipeline t.gives 1 ps z f.ended (f.said.text ++ in_hand t pipe) (report_as r)) (w.same_bytes ∙ s.bytes)
-        (subst (λ z. Pipeline t.gives 1 ps (bytes_given w.events) z (f.said.text ++ in_hand t pipe) (report_as r)) (w.same_end ∙ s.end) all) in
-        report-same r f.said.report ((one_answer t.gives one ps 1 f.bytes f.said.text (f.said.text ++ in_hand t pipe) f.ended (report_as f.said.report) (report_as r) s.says.1 here).1)
+    answered : IsWorkedOff t.gives ps (λ k. Stands t ps pipe k (taken ++ out)) given → in_hand t pipe ≡ [] → Reports pipe ps r → Pipeline t.gives 1 ps (bytes_given given) (end_given given) (taken ++ out) (report_as r)
+    answered w none reports =
+        let all = reports w.events (taken ++ out) w.stands_for w.settled in
+        subst (λ z. Pipeline t.gives 1 ps z (end_given given) (taken ++ out) (report_as r)) w.same_bytes
+        (subst (λ z. Pipeline t.gives 1 ps (bytes_given w.events) z (taken ++ out) (report_as r)) w.same_end
+        (subst (λ z. Pipeline t.gives 1 ps (bytes_given w.events) (end_given w.events) z (report_as r)) (ap (λ z. (taken ++ out) ++ z) none ∙ append-nil (taken ++ out)) all))
+
+    -- the pipe has said all that there is to say on what it was given
+    pub said-all : (h : History) (w : List ℕ) (e : Bool) (fate : Fate) → 0 < length ps → taken ≡ text_of h → bytes_given given ≡ w → end_given given ≡ e
+        → IsWorkedOff t.gives ps (λ k. Stands t ps old k taken) given → ((k : List Event) → Stands t ps old k taken → Stands t ps pipe k (taken ++ out)) → in_hand t pipe ≡ []
+        → Reports pipe ps r → IsFateOf r fate → Feeds (λ v d said. StagesSay t.gives ps v d said) (λ k. PipeStands t pipe k) h w e out fate
+    said-all h w e fate some text bytes end worked takes none reports is_fate =
+        let said : Said = record { text = taken ++ out; report = r } in
+        let off = taken-off worked takes in
+        let says : StagesSay t.gives ps w e said = (some, subst (λ z. Pipeline t.gives 1 ps z e (taken ++ out) (report_as r)) bytes (subst (λ z. Pipeline t.gives 1 ps (bytes_given given) z (taken ++ out) (report_as r)) end (answered off none reports))) in
+        let fed : Fed = record { bytes = w; ended = e; said = said } in
+        let has : HasSaid t ps pipe fed = record { given = given; bytes = bytes; end = end; worked_off = off; says = says } in
+        record {
+          said = said;
+          is_said = says;
+          stands_for = subst (λ z. HasSaid t z pipe fed) (sym (same-plans ps pipe off.events (taken ++ out) off.stands_for)) has;
+          whole = ap (λ z. z ++ out) text;
+          is_fate = is_fate;
+        }
+
+  pub rejected-is : (one : (p : t.Plan) (w : List ℕ) (e : Bool) (a b : Answer) → t.gives p w e a → t.gives p w e b → a ≡ b) (pipe : AnyPipe T t) (f : Fed) (r : Option Rejected) → Reports pipe (plans_of t pipe) r → PipeStands t pipe (Some f) → r ≡ f.said.report
+  rejected-is one pipe f r reports s =
+      let ps = plans_of t pipe in
+      let w = s.worked_off in
+      let all = reports w.events f.said.text w.stands_for w.settled in
+      let here : Pipeline t.gives 1 ps f.bytes f.ended (f.said.text ++ in_hand t pipe) (report_as r) =
+      subst (λ z. Pipeline t.gives 1 ps z f.ended (f.said.text ++ in_hand t pipe) (report_as r)) (w.same_bytes ∙ s.bytes)
+      (subst (λ z. Pipeline t.gives 1 ps (bytes_given w.events) z (f.said.text ++ in_hand t pipe) (report_as r)) (w.same_end ∙ s.end) all) in
+      report-same r f.said.report ((one_answer t.gives one ps 1 f.bytes f.said.text (f.said.text ++ in_hand t pipe) f.ended (report_as f.said.report) (report_as r) s.says.1 here).1)
 
 -- more was given
 pub bytes-more : (h : List Event) (w : List ℕ) → bytes_given (h ++ give w ∷ []) ≡ bytes_given h ++ w

@@ -1,50 +1,83 @@
 -- What a pipe stands for, fed piece by piece.
-use Rattle.std.specs.Prelude.{◌≡◌, ◌<◌, ◌++◌, [], ℕ, Bool, List, None, Some, length, map}
-use Rattle.kex_model.specs.Schedules.{Event, Settled}
+use Rattle.std.specs.Prelude.{◌≡◌, ◌<◌, ◌++◌, [], ℕ, Bool, false, List, None, Some, length, map}
+use Rattle.kex_model.specs.Answers.{Answer}
+use Rattle.kex_model.specs.Schedules.{Event, Item, Seat, After, Settled}
 use Rattle.kex_pipe.specs.Events.{bytes_given, end_given}
-use Rattle.kex_pipe.specs.Standing.{Stands}
-use Rattle.kex_pipe.specs.declared.pipe.Pipe.{Pipe}
+use Rattle.kex_pipe.specs.Standing as by_rounds
 use Rattle.kex_pipe.specs.declared.turn.Turn.{Ghosts}
+use Rattle.kex_rings.specs.Standing as by_rings
+use Rattle.kex_top.specs.declared.any_pipe.AnyPipe.{AnyPipe}
+use Rattle.kex_top.specs.declared.any_pipe.AnyPipe.TheVariants.{Rounds, Rings}
 use Rattle.kex_top.specs.Answer.{Said}
 use Rattle.kex_top.specs.History.{Fed, History}
 use Rattle.kex_top.specs.Pipelines.{StagesSay, first_limit}
 
+-- what stands for schedules in this way stands for one that gave these bytes more
+pub record IsGiven (stands : List Event → Type 0) (more : List ℕ) (given : List Event) : Type 0 where
+  pub events : List Event
+  pub bytes : bytes_given events ≡ bytes_given given ++ more
+  pub same_end : end_given events ≡ end_given given
+  pub stands_for : stands events
+
+module _ {P : Type 0} (gives : P → List ℕ → Bool → Answer → Type 0) (plans : List P) where
+  -- all that the schedule gave is worked off
+  pub record IsSettled (events : List Event) : Type 0 where
+    pub came : List Item
+    pub seats : List Seat
+    pub after : After gives plans events came seats
+    pub settled : Settled gives came plans seats
+
+  -- what stands for schedules in this way stands for one that gave the same, and all of that is worked off
+  pub record IsWorkedOff (stands : List Event → Type 0) (given : List Event) : Type 0 where
+    pub events : List Event
+    pub same_bytes : bytes_given events ≡ bytes_given given
+    pub same_end : end_given events ≡ end_given given
+    pub stands_for : stands events
+    pub settled : IsSettled events
+
 module _ {T : Type 0} (t : Ghosts T) where
+  abbrev pub is_ended : AnyPipe T t → Bool
+  is_ended (Rounds pipe) = by_rounds.is_ended t pipe
+  is_ended (Rings pipe counts) = by_rings.is_ended t pipe
+
+  abbrev pub is_in_round : AnyPipe T t → Bool
+  is_in_round (Rounds pipe) = by_rounds.is_in_round t pipe
+  is_in_round (Rings pipe counts) = false
+
+  -- the output that is in hand
+  abbrev pub in_hand : AnyPipe T t → List ℕ
+  in_hand (Rounds pipe) = by_rounds.in_hand t pipe
+  in_hand (Rings pipe counts) = by_rings.in_hand t pipe
+
+  -- the pipe of stages with these plans has come by this schedule, and this was taken from its output
+  abbrev pub Stands : List t.Plan → AnyPipe T t → List Event → List ℕ → Type 0
+  Stands plans (Rounds pipe) events taken = by_rounds.Stands t plans pipe events taken
+  Stands plans (Rings pipe counts) events taken = by_rings.Stands t plans pipe events taken
+
+  abbrev pub stages_of : AnyPipe T t → List T
+  stages_of (Rounds pipe) = map (λ s. s.staged.stage) pipe.seats.items
+  stages_of (Rings pipe counts) = map (λ s. s.seat.staged.stage) pipe.seats.items
+
   -- the plans of its stages
-  abbrev pub plans_of : Pipe T t → List t.Plan
-  plans_of pipe = map (λ s. t.plan s.staged.stage) pipe.seats.items
+  abbrev pub plans_of : AnyPipe T t → List t.Plan
+  plans_of pipe = map t.plan (stages_of pipe)
 
   -- what stages with these plans say together
   abbrev pub PipeSays : List t.Plan → List ℕ → Bool → Said → Type 0
   PipeSays plans w e said = StagesSay t.gives plans w e said
 
   -- the limit of its first stage
-  abbrev pub limit_of : (T → ℕ) → Pipe T t → ℕ
-  limit_of limit pipe = first_limit (λ s. limit s.staged.stage) pipe.seats.items
-
-  -- the pipe stands for a schedule that gave these bytes more
-  pub record IsGiven (more : List ℕ) (plans : List t.Plan) (given : List Event) (taken : List ℕ) (pipe : Pipe T t) : Type 0 where
-    pub events : List Event
-    pub bytes : bytes_given events ≡ bytes_given given ++ more
-    pub same_end : end_given events ≡ end_given given
-    pub stands : Stands t plans pipe events taken
-
-  -- the pipe stands for a schedule that gave the same, and all of that is worked off
-  pub record IsWorkedOff (plans : List t.Plan) (given : List Event) (taken : List ℕ) (pipe : Pipe T t) : Type 0 where
-    pub events : List Event
-    pub same_bytes : bytes_given events ≡ bytes_given given
-    pub same_end : end_given events ≡ end_given given
-    pub stands : Stands t plans pipe events taken
-    pub settled : Settled t.gives stands.came plans stands.seats
+  abbrev pub limit_of : (T → ℕ) → AnyPipe T t → ℕ
+  limit_of limit pipe = first_limit limit (stages_of pipe)
 
   -- the pipe was given what was fed, and what it has said was taken
-  pub record HasSaid (plans : List t.Plan) (pipe : Pipe T t) (f : Fed) : Type 0 where
+  pub record HasSaid (plans : List t.Plan) (pipe : AnyPipe T t) (f : Fed) : Type 0 where
     pub given : List Event
     pub bytes : bytes_given given ≡ f.bytes
     pub end : end_given given ≡ f.ended
-    pub worked_off : IsWorkedOff plans given f.said.text pipe
+    pub worked_off : IsWorkedOff t.gives plans (λ events. Stands plans pipe events f.said.text) given
     pub says : PipeSays plans f.bytes f.ended f.said
 
-  abbrev pub PipeStands : Pipe T t → History → Type 0
-  PipeStands pipe None = (0 < length (plans_of pipe)) × Stands t (plans_of pipe) pipe [] []
+  abbrev pub PipeStands : AnyPipe T t → History → Type 0
+  PipeStands pipe None = (0 < length (plans_of pipe)) × Stands (plans_of pipe) pipe [] []
   PipeStands pipe (Some f) = HasSaid (plans_of pipe) pipe f

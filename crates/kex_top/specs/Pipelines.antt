@@ -1,5 +1,6 @@
 -- What the stages of a program say together.
 use Rattle.std.specs.Prelude.{◌≡◌, ◌<◌, ◌≤◌, ◌∷◌, [], ℕ, Bool, List, length, map}
+use Rattle.kex_code.specs.Codes.{IsAmong}
 use Rattle.kex_model.specs.Programs.{Grammar}
 use Rattle.kex_model.specs.Answers.{Answer, Pipeline, Means}
 use Rattle.kex_model.specs.Laws.{StageAnswers}
@@ -24,6 +25,10 @@ AlwaysSays says = (w : List ℕ) (e : Bool) → (said : Said) × says w e said
 -- on each text, open or ended, a stage with this plan has an answer
 abbrev pub AlwaysAnswers : {T : Type 0} → (T → List ℕ → Bool → Answer → Type 0) → T → Type 0
 AlwaysAnswers Gives p = (w : List ℕ) (e : Bool) → (a : Answer) × Gives p w e a
+
+-- so has a stage with any of these plans
+abbrev pub AllAnswer : {T : Type 0} → (T → List ℕ → Bool → Answer → Type 0) → List T → Type 0
+AllAnswer {T = T} Gives ps = (p : T) → IsAmong ps p → AlwaysAnswers Gives p
 
 -- the limit of the first stage
 abbrev pub first_limit : {T : Type 0} → (T → ℕ) → List T → ℕ

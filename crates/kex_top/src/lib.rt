@@ -3,6 +3,7 @@
 //! Stands on plans, stages and the outside's traits. The clauses of `kex` are the promise of the whole program.
 #![tactic(auto)]
 
+mod any_pipe;
 mod call;
 mod check;
 mod limits;
@@ -10,6 +11,7 @@ mod lines;
 mod pass;
 mod pipeline;
 mod refused;
+mod rings;
 mod rounds;
 mod serve;
 mod single;

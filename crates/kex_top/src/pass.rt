@@ -6,10 +6,10 @@ ghost use Rattle.kex_top.specs.Piped.{PipeSays, PipeStands, plans_of};
 ghost use Rattle.kex_top.specs.Pipelines.{AlwaysSays};
 ghost use Rattle.kex_top.specs.Run.{TroubleCause};
 
+use crate::any_pipe::AnyPipe;
 use crate::pipeline::{Limited, end, feed};
 use crate::rounds::Pace;
 use kex_code::memory::Memory;
-use kex_pipe::pipe::Pipe;
 use kex_pipe::turn::Fate;
 use kex_ports::{Failed, Gate, Sink};
 use kex_words::write_all;
@@ -27,7 +27,7 @@ pub(crate) enum Trouble {
 pub(crate) fn pass<R: Threads + Sync, T: Limited + Drop + Send, G: Gate + Sync, K: Sink>(
     rt: &R,
     gate: &G,
-    pipe: &mut Pipe<T>,
+    pipe: &mut AnyPipe<T>,
     pace: Pace,
     block: &[u8],
     out: &mut Vec<u8>,
@@ -63,7 +63,7 @@ pub(crate) fn pass<R: Threads + Sync, T: Limited + Drop + Send, G: Gate + Sync, 
 pub(crate) fn pass_end<R: Threads + Sync, T: Limited + Drop + Send, G: Gate + Sync, K: Sink>(
     rt: &R,
     gate: &G,
-    pipe: &mut Pipe<T>,
+    pipe: &mut AnyPipe<T>,
     out: &mut Vec<u8>,
     output: &mut K,
 ) -> Result<Fate, Trouble>

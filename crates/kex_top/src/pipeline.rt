@@ -7,9 +7,9 @@ ghost use Rattle.kex_top.specs.Fronts.{IsFront};
 ghost use Rattle.kex_top.specs.History.{Fed, History, bytes_of, is_ended, IsFateOf, Feeds};
 ghost use Rattle.kex_top.specs.Piped.{PipeSays, PipeStands, plans_of};
 
-use crate::rounds::{Pace, give_front, work_off};
+use crate::any_pipe::{AnyPipe, give_front, work_off};
+use crate::rounds::Pace;
 use kex_code::memory::Memory;
-use kex_pipe::pipe::Pipe;
 use kex_pipe::report::Rejected;
 use kex_pipe::turn::{Fate, Turn};
 use kex_ports::Gate;
@@ -56,7 +56,7 @@ pub(crate) struct Front {
 pub(crate) fn feed<R: Threads + Sync, T: Limited + Drop + Send, G: Gate + Sync>(
     rt: &R,
     gate: &G,
-    pipe: &mut Pipe<T>,
+    pipe: &mut AnyPipe<T>,
     pace: Pace,
     piece: &[u8],
     out: &mut Vec<u8>,
@@ -80,7 +80,7 @@ pub(crate) fn feed<R: Threads + Sync, T: Limited + Drop + Send, G: Gate + Sync>(
 pub(crate) fn end<R: Threads + Sync, T: Limited + Drop + Send, G: Gate + Sync>(
     rt: &R,
     gate: &G,
-    pipe: &mut Pipe<T>,
+    pipe: &mut AnyPipe<T>,
     out: &mut Vec<u8>,
 ) -> Result<Fate, Memory>
     requires { (h : History) × PipeStands T.Turn pipe.old h × (is_ended h ≡ false) }
@@ -97,7 +97,7 @@ pub(crate) fn end<R: Threads + Sync, T: Limited + Drop + Send, G: Gate + Sync>(
 }
 
 /// The report of what was fed.
-pub(crate) fn rejected<T: Limited + Drop>(pipe: &Pipe<T>) -> Option<Rejected>
+pub(crate) fn rejected<T: Limited + Drop>(pipe: &AnyPipe<T>) -> Option<Rejected>
     ensures { (f : Fed) → PipeStands T.Turn pipe.now (Some f) → result ≡ f.said.report }
 {
     pipe.report()

@@ -36,7 +36,7 @@ pub(crate) fn give_front<R: Threads + Sync, T: Turn + Drop + Send, G: Gate + Syn
     requires unended { is_ended T.Turn pipe.old ≡ false }
     requires closed { is_in_round T.Turn pipe.old ≡ false }
     ensures front { IfOk result (λ count. IsFront pace bytes.now count) }
-    ensures given { IfOk result (λ count. (ps : List T.Plan) (h : List Event) (taken : List ℕ) → Stands T.Turn ps pipe.old h taken → IsGiven T.Turn (take count bytes.now) ps h taken pipe.new) }
+    ensures given { IfOk result (λ count. (ps : List T.Plan) (h : List Event) (taken : List ℕ) → Stands T.Turn ps pipe.old h taken → IsGiven (λ k. Stands T.Turn ps pipe.new k taken) (take count bytes.now) h) }
     ensures closed { is_in_round T.Turn pipe.new ≡ false }
 {
     let mut given = 0;
@@ -63,7 +63,7 @@ pub(crate) fn work_off<R: Threads + Sync, T: Turn + Drop + Send, G: Gate + Sync>
     gate: &G,
 ) -> Result<(), Memory>
     requires closed { is_in_round T.Turn pipe.old ≡ false }
-    ensures works { OnOk result ((ps : List T.Plan) (h : List Event) (taken : List ℕ) → Stands T.Turn ps pipe.old h taken → IsWorkedOff T.Turn ps h taken pipe.new) }
+    ensures works { OnOk result ((ps : List T.Plan) (h : List Event) (taken : List ℕ) → Stands T.Turn ps pipe.old h taken → IsWorkedOff T.gives ps (λ k. Stands T.Turn ps pipe.new k taken) h) }
     ensures closed { is_in_round T.Turn pipe.new ≡ false }
 {
     let count = pipe.count();

@@ -1,5 +1,5 @@
 // A program's stages over a source into a sink.
-ghost use Rattle.std.specs.Prelude.{◌≡◌, ◌⊎◌, ◌<◌, ◌∷◌, [], IfOk, None, true, length, map};
+ghost use Rattle.std.specs.Prelude.{◌≡◌, ◌⊎◌, ◌<◌, ◌∷◌, [], All, IfOk, None, true, length, map, vec_len};
 ghost use Rattle.kex_ports.specs.Reads.{last_given};
 ghost use Rattle.kex_stage.specs.Plans.{machine_of};
 ghost use Rattle.kex_words.specs.Gains.{change_of};
@@ -8,9 +8,10 @@ ghost use Rattle.kex_words.specs.declared.asked.Mode.TheVariants as of_mode;
 ghost use Rattle.kex_top.specs.Modes.{MachinesSay, limits_of};
 ghost use Rattle.kex_top.specs.Outside.{Closes, ReadsBlocks};
 ghost use Rattle.kex_top.specs.Piped.{PipeSays, PipeStands, plans_of};
-ghost use Rattle.kex_top.specs.Pipelines.{AlwaysSays, NodesSay, StagesSay, stage_plans};
+ghost use Rattle.kex_top.specs.Pipelines.{AllAnswer, AlwaysSays, NodesSay, StagesSay, stage_plans};
 ghost use Rattle.kex_top.specs.Run.{Left, Ran};
 
+use crate::any_pipe::AnyPipe;
 use crate::pipeline::Limited;
 use crate::rounds::Pace;
 use crate::single::{act, code, test};
@@ -18,25 +19,24 @@ use crate::status::Status;
 use crate::stream::run;
 use kex_code::memory::Memory;
 use kex_compile::compiled::Compiled;
-use kex_pipe::pipe::Pipe;
 use kex_pipe::turn::Turn;
 use kex_ports::{Gate, Sink, Source};
 use kex_stage::plan::Plan;
 use kex_stage::stage::Stage;
-use kex_words::{Limits, Mode};
+use kex_words::{Limits, Mode, Rings};
 use std::alloc::Global;
 use std::thread::Threads;
 
-/// The pipe of the stages with these plans, each of which takes at most so many bytes.
-pub(crate) fn pipe_of<'p>(
+/// The stages with these plans, each of which takes at most so many bytes.
+pub(crate) fn stages_of<'p>(
     alloc: Global,
     plans: &'p [Plan],
     max_input: u64,
-) -> Result<Pipe<Stage<'p>>, Memory>
-    requires { 0 < length plans.now }
-    ensures plans { IfOk result (λ pipe. plans_of ⟦<Stage<'p> as Turn>⟧ pipe ≡ stage_plans max_input (map machine_of plans.now)) }
-    ensures fresh { IfOk result (λ pipe. PipeStands ⟦<Stage<'p> as Turn>⟧ pipe None) }
-    ensures says { IfOk result (λ pipe. AlwaysSays (PipeSays ⟦<Stage<'p> as Turn>⟧ (plans_of ⟦<Stage<'p> as Turn>⟧ pipe))) }
+) -> Result<Vec<Stage<'p>>, Memory>
+    ensures count { IfOk result (λ stages. vec_len stages ≡ length plans.now) }
+    ensures plans { IfOk result (λ stages. map ⟦<Stage<'p> as Turn>⟧.plan stages.items ≡ stage_plans max_input (map machine_of plans.now)) }
+    ensures unfed { IfOk result (λ stages. All (λ s. ⟦<Stage<'p> as Turn>⟧.stands s None) stages.items) }
+    ensures answers { IfOk result (λ stages. AllAnswer ⟦<Stage<'p> as Turn>⟧.gives (map ⟦<Stage<'p> as Turn>⟧.plan stages.items)) }
 {
     let mut stages = Vec::new(alloc);
     'plans: for plan in plans {
@@ -44,7 +44,23 @@ pub(crate) fn pipe_of<'p>(
         let stage = Stage::new(alloc, plan, max_input)?;
         stages.push(stage)?;
     }
-    let pipe = Pipe::new(alloc, stages)?;
+    Ok(stages)
+}
+
+// The pipe of these stages.
+pub(crate) fn pipe_of<'p>(
+    alloc: Global,
+    plans: &'p [Plan],
+    max_input: u64,
+    rings: Option<Rings>,
+) -> Result<AnyPipe<Stage<'p>>, Memory>
+    requires { 0 < length plans.now }
+    ensures plans { IfOk result (λ pipe. plans_of ⟦<Stage<'p> as Turn>⟧ pipe ≡ stage_plans max_input (map machine_of plans.now)) }
+    ensures fresh { IfOk result (λ pipe. PipeStands ⟦<Stage<'p> as Turn>⟧ pipe None) }
+    ensures says { IfOk result (λ pipe. AlwaysSays (PipeSays ⟦<Stage<'p> as Turn>⟧ (plans_of ⟦<Stage<'p> as Turn>⟧ pipe))) }
+{
+    let stages = stages_of(alloc, plans, max_input)?;
+    let pipe = AnyPipe::new(alloc, stages, rings)?;
     Ok(pipe)
 }
 
@@ -67,7 +83,7 @@ fn run_stages<R: Threads + Sync, G: Gate + Sync, S: Source, K: Sink>(
     ensures blocks { ReadsBlocks limits.block (S.reads input.old) (S.reads input.new) result }
     ensures closes { Closes (K.ending output.old) (K.ending output.new) result }
 {
-    let Ok(mut pipe) = pipe_of(alloc, compiled.stages(), limits.max_input) else {
+    let Ok(mut pipe) = pipe_of(alloc, compiled.stages(), limits.max_input, limits.rings) else {
         return Status::Memory;
     };
     run(

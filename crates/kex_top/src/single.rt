@@ -13,12 +13,12 @@ ghost use Rattle.kex_top.specs.Outside.{Closes, ReadsBlocks};
 ghost use Rattle.kex_top.specs.Pipelines.{StagesSay};
 ghost use Rattle.kex_top.specs.Run.{IsLeft, Left, Ran};
 
+use crate::any_pipe::AnyPipe;
 use crate::pipeline::Limited;
 use crate::rounds::Pace;
 use crate::status::Status;
 use crate::stream::run;
 use kex_machine::Trimmed;
-use kex_pipe::pipe::Pipe;
 use kex_pipe::turn::Turn;
 use kex_ports::{Gate, NeverFailsSink, Sink, Source};
 use kex_single::{Coder, Player, Tester};
@@ -76,7 +76,7 @@ fn run_one<R: Threads + Sync, T: Limited + Drop + Send, G: Gate + Sync, S: Sourc
     let Ok(()) = stages.push(stage) else {
         return Status::Memory;
     };
-    let Ok(mut pipe) = Pipe::new(alloc, stages) else {
+    let Ok(mut pipe) = AnyPipe::new(alloc, stages, None) else {
         return Status::Memory;
     };
     run(rt, gate, alloc, &mut pipe, pace, limits, input, output)

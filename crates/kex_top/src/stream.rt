@@ -7,11 +7,11 @@ ghost use Rattle.kex_top.specs.Piped.{PipeSays, PipeStands, limit_of, plans_of};
 ghost use Rattle.kex_top.specs.Pipelines.{AlwaysSays};
 ghost use Rattle.kex_top.specs.Run.{Pumped, Ran, status_of, status_after, is_whole};
 
+use crate::any_pipe::AnyPipe;
 use crate::pass::{Trouble, pass, pass_end};
 use crate::pipeline::{Limited, rejected};
 use crate::rounds::Pace;
 use crate::status::Status;
-use kex_pipe::pipe::Pipe;
 use kex_pipe::report::Rejected;
 use kex_pipe::turn::{Fate, Why};
 use kex_ports::{Failed, Gate, Sink, Source};
@@ -45,7 +45,7 @@ fn status_after(trouble: Trouble) -> Status
 pub(crate) fn pump<R: Threads + Sync, T: Limited + Drop + Send, G: Gate + Sync, S: Source, K: Sink>(
     rt: &R,
     gate: &G,
-    pipe: &mut Pipe<T>,
+    pipe: &mut AnyPipe<T>,
     pace: Pace,
     block: &mut [u8],
     out: &mut Vec<u8>,
@@ -101,7 +101,7 @@ pub(crate) fn run<R: Threads + Sync, T: Limited + Drop + Send, G: Gate + Sync, S
     rt: &R,
     gate: &G,
     alloc: Global,
-    pipe: &mut Pipe<T>,
+    pipe: &mut AnyPipe<T>,
     pace: Pace,
     limits: Limits,
     input: &mut S,

@@ -5,6 +5,7 @@ mod large;
 mod limits;
 mod pipes;
 mod refusals;
+mod rings;
 mod rounds;
 mod terms;
 
@@ -318,9 +319,8 @@ const fn stopped(stage: u32, at: u64, why: Why) -> Status {
     Status::Rejected(Rejected { stage, at, why })
 }
 
-#[test]
-fn each_stage_reads_what_the_one_before_wrote(rt: HostRuntime) -> Result<(), Fail> {
-    let cases = [
+fn pipelines() -> [Case<'static>; 6] {
+    [
         PAIR,
         Case {
             input: b"xx",
@@ -361,9 +361,13 @@ fn each_stage_reads_what_the_one_before_wrote(rt: HostRuntime) -> Result<(), Fai
             held: b"bc",
             ..PLAIN
         },
-    ];
+    ]
+}
+
+#[test]
+fn each_stage_reads_what_the_one_before_wrote(rt: HostRuntime) -> Result<(), Fail> {
     for way in &WAYS {
-        for case in &cases {
+        for case in &pipelines() {
             assert!(&rt; holds_by(&rt, rt.alloc(), way, case)?, "{}", text_of(case));
         }
     }

@@ -11,6 +11,7 @@ ghost use Rattle.kex_top.specs.Pipelines.{NodesSay, stage_plans};
 ghost use Rattle.kex_top.specs.Tallies.{Counts, HasWaiting, SumsUp};
 ghost use Rattle.kex_top.specs.Trials.{IsSummary, Tries, made_lines};
 
+use crate::any_pipe::AnyPipe;
 use crate::limits::limits_to_check;
 use crate::lines::{next, push_line};
 use crate::pipeline::{Limited, end, feed};
@@ -22,7 +23,6 @@ use crate::tally::Tally;
 use kex_code::memory::Memory;
 use kex_compile::compile;
 use kex_compile::compiled::Compiled;
-use kex_pipe::pipe::Pipe;
 use kex_ports::{Failed, Gate, Sink};
 use kex_words::{Lines, Summary, write_summary};
 use std::alloc::Global;
@@ -39,7 +39,7 @@ const MOST_INPUT: u64 = 281_474_976_710_656;
 fn give<R: Threads + Sync, T: Limited + Drop + Send, G: Gate + Sync>(
     rt: &R,
     gate: &G,
-    pipe: &mut Pipe<T>,
+    pipe: &mut AnyPipe<T>,
     piece: &[u8],
     out: &mut Vec<u8>,
     tally: Tally,
@@ -57,7 +57,7 @@ fn give<R: Threads + Sync, T: Limited + Drop + Send, G: Gate + Sync>(
 fn give_end<R: Threads + Sync, T: Limited + Drop + Send, G: Gate + Sync>(
     rt: &R,
     gate: &G,
-    pipe: &mut Pipe<T>,
+    pipe: &mut AnyPipe<T>,
     out: &mut Vec<u8>,
     tally: Tally,
 ) -> Result<Tally, Memory>
@@ -82,7 +82,7 @@ fn drop_front(waiting: &mut Vec<u8>, count: usize)
 fn give_blocks<R: Threads + Sync, T: Limited + Drop + Send, G: Gate + Sync>(
     rt: &R,
     gate: &G,
-    pipe: &mut Pipe<T>,
+    pipe: &mut AnyPipe<T>,
     waiting: &mut Vec<u8>,
     block: usize,
     out: &mut Vec<u8>,
@@ -107,7 +107,7 @@ fn give_lines<R: Threads + Sync, T: Limited + Drop + Send, G: Gate + Sync>(
     rt: &R,
     gate: &G,
     alloc: Global,
-    pipe: &mut Pipe<T>,
+    pipe: &mut AnyPipe<T>,
     lines: Lines,
 ) -> Result<Tally, Memory>
     requires { PipeStands T.Turn pipe.old None }
@@ -145,7 +145,7 @@ fn sum_up<R: Threads + Sync, G: Gate + Sync>(
     requires { 0 < length compiled.now.stages }
     ensures { IfOk result (λ summary. IsSummary (NodesSay (stage_plans most_input compiled.now.stages)) lines.count summary) }
 {
-    let mut pipe = pipe_of(alloc, compiled.stages(), MOST_INPUT)?;
+    let mut pipe = pipe_of(alloc, compiled.stages(), MOST_INPUT, lines.rings)?;
     let tally = give_lines(rt, gate, alloc, &mut pipe, lines)?;
     Ok(Summary {
         lines: lines.count,

@@ -10,7 +10,7 @@ const USAGE: &[u8] =
     b"usage: kex run|check|code|act|test PROGRAM [--states N] [--max-input N] [--block N] [--rings N] | kex trial N [--block N] [--rings N]\n";
 
 // A name, the words, what is answered, and the note.
-const WORDS: [(&str, &[&str], Status, &[u8]); 4] = [
+const WORDS: [(&str, &[&str], Status, &[u8]); 6] = [
     (
         "an input that is longer than none",
         &["kex", "run", "p", "--max-input", "0"],
@@ -30,6 +30,18 @@ const WORDS: [(&str, &[&str], Status, &[u8]); 4] = [
     (
         "a block of nothing",
         &["kex", "run", "p", "--block", "0"],
+        Status::Usage,
+        USAGE,
+    ),
+    (
+        "rings with no room",
+        &["kex", "run", "p", "--rings", "0"],
+        Status::Usage,
+        USAGE,
+    ),
+    (
+        "rings with more room than there may be",
+        &["kex", "trial", "1", "--rings", "1048577"],
         Status::Usage,
         USAGE,
     ),

@@ -1,8 +1,9 @@
 //! A pipe of stages whose turns come out of order, with empty pieces among those that it is given.
 use super::PAIR;
 use crate::limits::limits_to_check;
-use crate::serve::pipe_of;
+use crate::serve::stages_of;
 use kex_compile::compile;
+use kex_pipe::pipe::Pipe;
 use kex_pipe::report::Rejected;
 use kex_pipe::turn::Why;
 use std::test::Fail;
@@ -13,7 +14,7 @@ fn turns_out_of_order(rt: HostRuntime) -> Result<(), Fail> {
     let compiled = compile(alloc, PAIR.program, &limits_to_check(4_096))?;
     let plans = compiled.stages();
     assert!(&rt; !plans.is_empty());
-    let mut pipe = pipe_of(alloc, plans, 1_000)?;
+    let mut pipe = Pipe::new(alloc, stages_of(alloc, plans, 1_000)?)?;
     assert_eq!(&rt; pipe.count(), 2);
     assert!(&rt; !pipe.ended());
     pipe.turn(2, 0)?;

@@ -1,9 +1,10 @@
 //! Stages that work at once.
 use super::{PAIR, words_of};
 use crate::limits::limits_to_check;
-use crate::serve::pipe_of;
+use crate::serve::stages_of;
 use crate::{Status, kex};
 use kex_compile::compile;
+use kex_pipe::pipe::Pipe;
 use kex_ports::{MeetGate, MemShelf, MemSink, MemSource};
 use kex_rounds::round::round;
 use std::alloc::Global;
@@ -45,6 +46,10 @@ fn stages_meet(rt: HostRuntime) -> Result<(), Fail> {
     assert!(&rt; meet_in_call(&rt, alloc, &["kex", "run", "p"], b"zz")?);
     let line = b"lines 1 in 9 out 9 roll 393038870\n";
     assert!(&rt; meet_in_call(&rt, alloc, &["kex", "trial", "1"], line)?);
+    let over_rings = ["kex", "run", "p", "--rings", "4"];
+    assert!(&rt; meet_in_call(&rt, alloc, &over_rings, b"zz")?);
+    let trial = ["kex", "trial", "1", "--rings", "4"];
+    assert!(&rt; meet_in_call(&rt, alloc, &trial, line)?);
     Ok(())
 }
 
@@ -54,7 +59,7 @@ fn any_two_stages_meet(rt: HostRuntime) -> Result<(), Fail> {
     let compiled = compile(alloc, FOUR, &limits_to_check(4_096))?;
     let plans = compiled.stages();
     assert!(&rt; !plans.is_empty());
-    let mut pipe = pipe_of(alloc, plans, 1_000)?;
+    let mut pipe = Pipe::new(alloc, stages_of(alloc, plans, 1_000)?)?;
     for (one, other) in [(1, 2), (3, 4)] {
         let gate = MeetGate::new(one, other);
         let opened = pipe.in_round();

@@ -2,14 +2,14 @@ use Rattle.std.proofs.Common.{◌∷◌, [], ◌++◌, true, refl, ◌∙◌}
 use Rattle.kex_model.specs.Schedules.{give_end}
 use Rattle.kex_top.specs.History.{bytes_of, text_of}
 use Rattle.kex_top.specs.Piped.{plans_of}
-use Rattle.kex_top.proofs.Working.{standing, still-open, same-plans, said-all, bytes-same, end-now}
+use Rattle.kex_top.proofs.Working.{not-in-round, standing, still-open, same-plans, said-all, bytes-same, end-now}
 use Rattle.kex_top.proofs.pipeline.end.Goals as goal
 
 pub give_end-requires-clause-unended : goal.give_end-requires-clause-unended
 give_end-requires-clause-unended g c = still-open g.T.Turn c.args.pipe.now c.requires.0 c.requires.1 c.requires.2
 
 pub give_end-requires-clause-closed : goal.give_end-requires-clause-closed
-give_end-requires-clause-closed g c = (standing g.T.Turn c.args.pipe.now c.requires.0 c.requires.1).stands.closed
+give_end-requires-clause-closed g c = not-in-round g.T.Turn c.args.pipe.now c.requires.0 c.requires.1
 
 pub returns-clause-same : goal.returns-clause-same
 returns-clause-same g c =
@@ -17,15 +17,14 @@ returns-clause-same g c =
     let x = standing g.T.Turn c.args.pipe.now c.requires.0 c.requires.1 in
     let ps = plans_of g.T.Turn c.args.pipe.now in
     let w = c.in_ok-work_off.ensures.works ps (x.events ++ give_end ∷ []) text (c.in-Ok.ensures.stands ps x.events text x.stands) in
-    same-plans g.T.Turn ps c.take_output.new.self w.events (text ++ c.take_output.result.items) (c.take_output.ensures.stands ps w.events text w.stands)
+    same-plans g.T.Turn ps c.take_output.new.self w.events (text ++ c.take_output.result.items) (c.take_output.ensures.stands ps w.events text w.stands_for)
 
 pub returns-clause-feeds : goal.returns-clause-feeds
 returns-clause-feeds g c = λ h s e.
-    let laws = g.met.T.Turn g.world.𝓛 g.world.𝓜 g.world.𝓡 ((λ s x. x), (λ x. x), (λ x. x), λ x. x) in
     let x = standing g.T.Turn c.args.pipe.now h s in
     let ps = plans_of g.T.Turn c.args.pipe.now in
     let given = x.events ++ give_end ∷ [] in
     let w = c.in_ok-work_off.ensures.works ps given (text_of h) (c.in-Ok.ensures.stands ps x.events (text_of h) x.stands) in
-    said-all g.T.Turn laws.one ps c.work_off.new.pipe c.take_output.new.self given (text_of h) c.take_output.result.items c.report.result
+    said-all g.T.Turn ps c.work_off.new.pipe c.take_output.new.self given (text_of h) c.take_output.result.items c.report.result
     h (bytes_of h) true c.fate_of.result x.some refl (bytes-same x.events ∙ x.bytes) (end-now x.events)
     w (λ k st. c.take_output.ensures.stands ps k (text_of h) st) c.take_output.ensures.none_left (λ k text st done. c.report.ensures.settled ps k text st done) c.fate_of.ensures

@@ -1,8 +1,8 @@
 use Rattle.std.proofs.Common.{◌∷◌, [], ◌++◌, ℕ, List, false, refl, sym, ap, ◌∙◌, take}
 use Rattle.kex_model.specs.Schedules.{give}
 use Rattle.kex_top.specs.History.{bytes_of, text_of}
-use Rattle.kex_top.specs.Piped.{plans_of}
-use Rattle.kex_top.proofs.Working.{standing, still-open, same-plans, said-all, bytes-more, end-open}
+use Rattle.kex_top.specs.Piped.{Stands, plans_of}
+use Rattle.kex_top.proofs.Working.{not-in-round, standing, still-open, same-plans, said-all, bytes-more, end-open}
 use Rattle.kex_top.proofs.Rounding.{off-of}
 use Rattle.kex_top.proofs.pipeline.feed.Goals as goal
 
@@ -10,7 +10,7 @@ pub give_front-requires-clause-unended : goal.give_front-requires-clause-unended
 give_front-requires-clause-unended g c = λ κs bounds. still-open g.T.Turn c.args.pipe.now c.requires.0 c.requires.1 c.requires.2
 
 pub give_front-requires-clause-closed : goal.give_front-requires-clause-closed
-give_front-requires-clause-closed g c = λ κs bounds. (standing g.T.Turn c.args.pipe.now c.requires.0 c.requires.1).stands.closed
+give_front-requires-clause-closed g c = λ κs bounds. not-in-round g.T.Turn c.args.pipe.now c.requires.0 c.requires.1
 
 pub returns-clause-same : goal.returns-clause-same
 returns-clause-same g c =
@@ -18,18 +18,17 @@ returns-clause-same g c =
     let x = standing g.T.Turn c.args.pipe.now c.requires.0 c.requires.1 in
     let ps = plans_of g.T.Turn c.args.pipe.now in
     let given = c.in_ok-count.ensures.given ps x.events text x.stands in
-    let w = c.in_ok-work_off.ensures.works ps given.events text given.stands in
-    same-plans g.T.Turn ps c.take_output.new.self w.events (text ++ c.take_output.result.items) (c.take_output.ensures.stands ps w.events text w.stands)
+    let w = c.in_ok-work_off.ensures.works ps given.events text given.stands_for in
+    same-plans g.T.Turn ps c.take_output.new.self w.events (text ++ c.take_output.result.items) (c.take_output.ensures.stands ps w.events text w.stands_for)
 
 pub returns-clause-feeds : goal.returns-clause-feeds
 returns-clause-feeds g c = λ h s e.
-    let laws = g.met.T.Turn g.world.𝓛 g.world.𝓜 g.world.𝓡 ((λ s x. x), (λ x. x), (λ x. x), λ x. x) in
     let piece : List ℕ = take c.in_ok-count.count c.args.piece.now in
     let x = standing g.T.Turn c.args.pipe.now h s in
     let ps = plans_of g.T.Turn c.args.pipe.now in
     let events = x.events ++ give piece ∷ [] in
     let given = c.in_ok-count.ensures.given ps x.events (text_of h) x.stands in
-    let w = off-of g.T.Turn ps events given.events (text_of h) c.work_off.new.pipe (given.bytes ∙ sym (bytes-more x.events piece)) (given.same_end ∙ sym (end-open x.events piece)) (c.in_ok-work_off.ensures.works ps given.events (text_of h) given.stands) in
-    said-all g.T.Turn laws.one ps c.work_off.new.pipe c.take_output.new.self events (text_of h) c.take_output.result.items c.report.result
+    let w = off-of g.T.Turn.gives ps (λ k. Stands g.T.Turn ps c.work_off.new.pipe k (text_of h)) events given.events (given.bytes ∙ sym (bytes-more x.events piece)) (given.same_end ∙ sym (end-open x.events piece)) (c.in_ok-work_off.ensures.works ps given.events (text_of h) given.stands_for) in
+    said-all g.T.Turn ps c.work_off.new.pipe c.take_output.new.self events (text_of h) c.take_output.result.items c.report.result
     h (bytes_of h ++ piece) false c.fate_of.result x.some refl (bytes-more x.events piece ∙ ap (λ (z : List ℕ). z ++ piece) x.bytes) (end-open x.events piece ∙ x.end ∙ e)
     w (λ k st. c.take_output.ensures.stands ps k (text_of h) st) c.take_output.ensures.none_left (λ k text st done. c.report.ensures.settled ps k text st done) c.fate_of.ensures

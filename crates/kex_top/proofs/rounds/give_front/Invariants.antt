@@ -10,7 +10,7 @@ decreases-parts g l = length l.fn.bytes - l.given
 abbrev pub invariant-parts : goal.invariant-parts
 invariant-parts g l = record {
   within : l.given ≤ length l.fn.bytes;
-  given : (ps : List g.T.Turn.Plan) (h : List Event) (taken : List ℕ) → Stands g.T.Turn ps l.fn.pipe h taken → IsGiven g.T.Turn (take l.given l.fn.bytes) ps h taken l.pipe;
+  given : (ps : List g.T.Turn.Plan) (h : List Event) (taken : List ℕ) → Stands g.T.Turn ps l.fn.pipe h taken → IsGiven (λ k. Stands g.T.Turn ps l.pipe k taken) (take l.given l.fn.bytes) h;
   unended : is_ended g.T.Turn l.pipe ≡ false;
   closed : is_in_round g.T.Turn l.pipe ≡ false;
 }

@@ -2,6 +2,7 @@ use Rattle.std.proofs.Common.{ℕ, List, subst, ap, inr, ◌∙◌}
 use Rattle.kex_ports.specs.Reads.{last_given}
 use Rattle.kex_words.specs.Gains.{change}
 use Rattle.kex_stage.specs.Stages.{StagePlan}
+use Rattle.kex_top.specs.Piped.{stages_of}
 use Rattle.kex_top.specs.Pipelines.{NodesSay, first_limit, stage_plans}
 use Rattle.kex_top.specs.Run.{Ran}
 use Rattle.kex_stage.specs.contracts.stage.StageTurn.TheImpl.{ghosts}
@@ -12,7 +13,7 @@ pub run-requires-clause-limit : goal.run-requires-clause-limit
 run-requires-clause-limit g c = λ κs bounds.
     let max = c.args.limits.max_input in
     let limit : StagePlan → ℕ = λ p. p.limit in
-    first-of (λ s. ghosts.plan s.staged.stage) limit c.in-Ok.pipe.seats.items ∙ ap (λ (ps : List StagePlan). first_limit limit ps) (c.in-Ok.ensures.plans ∙ ap (λ z. stage_plans max z) c.stages.ensures.same) ∙ first-limit max c.args.compiled.now.stages c.requires
+    first-of ghosts.plan limit (stages_of ghosts c.in-Ok.pipe) ∙ ap (λ (ps : List StagePlan). first_limit limit ps) (c.in-Ok.ensures.plans ∙ ap (λ z. stage_plans max z) c.stages.ensures.same) ∙ first-limit max c.args.compiled.now.stages c.requires
 
 pub returns-clause-ran : goal.returns-clause-ran
 returns-clause-ran g c =

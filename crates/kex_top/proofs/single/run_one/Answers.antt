@@ -5,7 +5,6 @@ use Rattle.kex_top.specs.Piped.{plans_of}
 use Rattle.kex_top.specs.Pipelines.{AlwaysAnswers, AlwaysSays, StagesSay}
 use Rattle.kex_top.proofs.Existing.{always-says, one-more}
 use Rattle.kex_top.specs.Run.{Ran}
-use Rattle.kex_top.proofs.Working.{same-plans}
 use Rattle.kex_top.proofs.single.run_one.Goals as goal
 
 pub run-requires-clause-says : goal.run-requires-clause-says
@@ -13,14 +12,14 @@ run-requires-clause-says g c = λ κs within by_parts.
     let t = g.T.Turn in
     let plan = t.plan c.args.stage in
     let one = c.in-Ok.ensures.items ∙ ap (λ z. z ++ c.args.stage ∷ []) c.new-stages.ensures.items in
-    let same : plans_of t c.in-Ok-new.pipe ≡ plan ∷ [] = same-plans t (map t.plan c.push.new.self.items) c.in-Ok-new.pipe [] [] c.in-Ok-new.ensures.stands ∙ ap (λ z. map t.plan z) one in
+    let same : plans_of t c.in-Ok-new.pipe ≡ plan ∷ [] = c.in-Ok-new.ensures.plans ∙ ap (λ z. map t.plan z) one in
     subst (λ ps. AlwaysSays (StagesSay t.gives ps)) (sym same) (always-says t.gives (plan ∷ []) (omega arith) (one-more (λ p. AlwaysAnswers t.gives p) [] plan (λ p none. absurd none) (c.requires.answers by_parts)))
 
 pub returns-clause-ran : goal.returns-clause-ran
 returns-clause-ran g c =
     let pipe = c.in-Ok-new.pipe in
     let one = c.in-Ok.ensures.items ∙ ap (λ z. z ++ c.args.stage ∷ []) c.new-stages.ensures.items in
-    let same : plans_of g.T.Turn pipe ≡ g.T.Turn.plan c.args.stage ∷ [] = same-plans g.T.Turn (map g.T.Turn.plan c.push.new.self.items) pipe [] [] c.in-Ok-new.ensures.stands ∙ ap (λ z. map g.T.Turn.plan z) one in
+    let same : plans_of g.T.Turn pipe ≡ g.T.Turn.plan c.args.stage ∷ [] = c.in-Ok-new.ensures.plans ∙ ap (λ z. map g.T.Turn.plan z) one in
     let P : List g.T.Turn.Plan → Type 0 = λ ps. Ran (StagesSay {T = g.T.Turn.Plan} (λ p w e a. g.T.Turn.gives p w e a) ps) (last_given c.args.limits.block (g.S.Source.reads c.run.new.input))
     (change (g.S.Source.rest c.args.input.now) (g.S.Source.rest c.run.new.input) (g.S.Source.faults c.args.input.now) (g.S.Source.faults c.run.new.input))
     (change (g.K.Sink.held c.args.output.now) (g.K.Sink.held c.run.new.output) (g.K.Sink.faults c.args.output.now) (g.K.Sink.faults c.run.new.output))

@@ -6,7 +6,7 @@ use Rattle.kex_ports.proofs.Asking.{asks-on, last-read}
 use Rattle.kex_ports.proofs.Endings.{same-finishes}
 use Rattle.kex_top.specs.History.{Fed}
 use Rattle.kex_top.specs.declared.status.Status.TheVariants.{ReadFault}
-use Rattle.kex_top.specs.Piped.{PipeSays, limit_of, plans_of}
+use Rattle.kex_top.specs.Piped.{PipeSays, limit_of, plans_of, stages_of}
 use Rattle.kex_top.specs.Pipelines.{AlwaysSays}
 use Rattle.kex_top.specs.PipelineLaws.{says_grows, says_ends}
 use Rattle.kex_top.proofs.Closing.{open-broken, open-worked}
@@ -113,7 +113,7 @@ returns-clause-pumped g c =
     let limited = g.met.T.Limited g.world.𝓛 g.world.𝓜 g.world.𝓡 ((λ s x. x), (λ x. x), (λ x. x), λ x. x) in
     let i = c.reads.invariant in
     let past : limit_of g.T.Turn g.T.Limited.limit c.args.pipe.now < length i.fed.0 = omega (arith, c.reads-test.false, i.fed.4, c.requires.limit.0) in
-    absurd (some-not-none _ _ refl ((says_ends g.T.Turn.gives (λ s. g.T.Turn.plan s.staged.stage) (λ s. g.T.Limited.limit s.staged.stage) (λ s v b gives more. limited.past_limit s.staged.stage v b gives more) c.args.pipe.now.seats.items) _ _ i.fed.2 past) i.fed.6)
+    absurd (some-not-none _ _ refl ((says_ends g.T.Turn.gives g.T.Turn.plan g.T.Limited.limit (λ s v b gives more. limited.past_limit s v b gives more) (stages_of g.T.Turn c.args.pipe.now)) _ _ i.fed.2 past) i.fed.6)
 
 -- ---- what was asked for
 

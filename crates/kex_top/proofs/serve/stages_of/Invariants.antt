@@ -5,7 +5,7 @@ use Rattle.kex_stage.specs.Plans.{machine_of}
 use Rattle.kex_stage.specs.Stages.{StagePlan}
 use Rattle.kex_stage.specs.contracts.stage.StageTurn.TheImpl.{ghosts}
 use Rattle.kex_top.specs.Pipelines.{AlwaysAnswers, stage_plans}
-use Rattle.kex_top.proofs.serve.pipe_of.Given as goal
+use Rattle.kex_top.proofs.serve.stages_of.Given as goal
 
 abbrev pub invariant-plans : goal.invariant-plans
 invariant-plans l = record {

@@ -1,0 +1,48 @@
+-- What is given over rings is worked off by some rounds, and then by settling.
+use Rattle.std.proofs.Common.{ℕ, take, List, [], ◌∷◌, ◌++◌, length, refl, sym, ap, ◌∙◌, arith, append-nil}
+use Rattle.std.proofs.lemmas.List.{take_all}
+use Rattle.kex_model.specs.Schedules.{Event, give}
+use Rattle.kex_pipe.specs.Events.{bytes_given}
+use Rattle.kex_pipe.specs.declared.turn.Turn.{Ghosts}
+use Rattle.kex_rings.specs.Lines.{turns_from}
+use Rattle.kex_rings.specs.Standing.{Stands, WorksOff}
+use Rattle.kex_rings.specs.declared.pipe.RingPipe.{RingPipe}
+use Rattle.kex_rings.proofs.Steps.{same-bytes, same-end}
+use Rattle.kex_top.specs.Piped.{IsGiven, IsWorkedOff}
+use Rattle.kex_top.proofs.Working.{bytes-more, end-open}
+
+module _ {T : Type 0} (t : Ghosts T) (ps : List t.Plan) (h : List Event) (taken : List ℕ) where
+  -- the pipe stands for a schedule that gave these bytes more
+  abbrev pub Given : RingPipe T t → List ℕ → Type 0
+  Given pipe more = IsGiven (λ k. Stands t ps pipe k taken) more h
+
+  pub given-all : (pipe : RingPipe T t) (bytes : List ℕ) → Stands t ps pipe (h ++ give bytes ∷ []) taken → Given pipe (take (length bytes) bytes)
+  given-all pipe bytes s = record {
+    events = h ++ give bytes ∷ [];
+    bytes = bytes-more h bytes ∙ ap (λ z. bytes_given h ++ z) (sym (take_all (length bytes) bytes (omega arith)));
+    same_end = end-open h bytes;
+    stands_for = s;
+  }
+
+  pub none-given : (pipe : RingPipe T t) → Stands t ps pipe h taken → Given pipe []
+  none-given pipe s = record { events = h; bytes = sym (append-nil (bytes_given h)); same_end = refl; stands_for = s }
+
+  module _ (old pipe : RingPipe T t) (g : Given old []) where
+    pub round-made : (counts : List ℕ) → ((k : List Event) → Stands t ps old k taken → Stands t ps pipe (k ++ turns_from 0 counts) taken) → Given pipe []
+    round-made counts next = record {
+      events = g.events ++ turns_from 0 counts;
+      bytes = same-bytes g.events 0 counts ∙ g.bytes;
+      same_end = same-end g.events 0 counts ∙ g.same_end;
+      stands_for = next g.events g.stands_for;
+    }
+
+    pub rest-settled : ((k : List Event) → Stands t ps old k taken → WorksOff t ps pipe k taken) → IsWorkedOff t.gives ps (λ k. Stands t ps pipe k taken) h
+    rest-settled settles =
+        let w = settles g.events g.stands_for in
+        record {
+          events = w.events;
+          same_bytes = w.same_bytes ∙ g.bytes ∙ append-nil (bytes_given h);
+          same_end = w.same_end ∙ g.same_end;
+          stands_for = w.stands;
+          settled = record { came = w.stands.came; seats = w.stands.seats; after = w.stands.after; settled = w.settled };
+        }

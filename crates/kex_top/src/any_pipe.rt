@@ -1,0 +1,122 @@
+// A pipe of a program's stages, which work by rounds or over rings.
+ghost use Rattle.std.specs.Prelude.{◌≡◌, ◌<◌, ◌++◌, ◌∷◌, [], List, ℕ, Some, None, All, IfOk, OnOk, false, take, map, vec_len};
+ghost use Rattle.kex_model.specs.Answers.{Pipeline};
+ghost use Rattle.kex_model.specs.Schedules.{Event, give_end};
+ghost use Rattle.kex_pipe.specs.Events.{bytes_given, end_given};
+ghost use Rattle.kex_pipe.specs.Reports.{report_as};
+ghost use Rattle.kex_top.specs.Fronts.{IsFront};
+ghost use Rattle.kex_top.specs.Piped.{IsGiven, IsSettled, IsWorkedOff, Stands, in_hand, is_ended, is_in_round, plans_of};
+
+use crate::rounds::Pace;
+use crate::{rings, rounds};
+use kex_code::memory::Memory;
+use kex_pipe::pipe::{Pipe, PipeFault};
+use kex_pipe::report::Rejected;
+use kex_pipe::turn::Turn;
+use kex_ports::Gate;
+use kex_rings::pipe::RingPipe;
+use kex_words::Rings;
+use std::alloc::Global;
+use std::thread::Threads;
+
+#[derive(Drop)]
+pub(crate) enum AnyPipe<T: Turn> {
+    /// The stages work by rounds.
+    Rounds(Pipe<T>),
+    /// Rings join the stages. How much each took in the last round is kept beside.
+    Rings { pipe: RingPipe<T>, counts: Vec<u64> },
+}
+
+impl<T: Turn + Drop> AnyPipe<T> {
+    /// At least one stage, none of which was fed before.
+    pub(crate) fn new(
+        alloc: Global,
+        stages: Vec<T>,
+        rings: Option<Rings>,
+    ) -> Result<AnyPipe<T>, Memory>
+        requires some { 0 < vec_len stages }
+        requires unfed { All (λ s. T.stands s None) stages.items }
+        ensures stands { IfOk result (λ pipe. Stands T.Turn (map T.plan stages.items) pipe [] []) }
+        ensures plans { IfOk result (λ pipe. plans_of T.Turn pipe ≡ map T.plan stages.items) }
+    {
+        match rings {
+            None => Ok(AnyPipe::Rounds(Pipe::new(alloc, stages)?)),
+            Some(rings) => Ok(AnyPipe::Rings {
+                pipe: RingPipe::new(alloc, stages, rings.room)?,
+                counts: Vec::new(alloc),
+            }),
+        }
+    }
+
+    /// The input ends here.
+    pub(crate) fn give_end(&mut self) -> Result<(), PipeFault>
+        requires unended { is_ended T.Turn self.old ≡ false }
+        requires closed { is_in_round T.Turn self.old ≡ false }
+        ensures stands { OnOk result ((ps : List T.Plan) (h : List Event) (taken : List ℕ) → Stands T.Turn ps self.old h taken → Stands T.Turn ps self.new (h ++ give_end ∷ []) taken) }
+        ensures closed { is_in_round T.Turn self.new ≡ false }
+    {
+        match self {
+            AnyPipe::Rounds(pipe) => pipe.give_end(),
+            AnyPipe::Rings { pipe, .. } => pipe.give_end(),
+        }
+    }
+
+    /// Takes the output that is in hand.
+    pub(crate) fn take_output(&mut self) -> Vec<u8>
+        requires closed { is_in_round T.Turn self.old ≡ false }
+        ensures none_left { in_hand T.Turn self.new ≡ [] }
+        ensures stands { (ps : List T.Plan) (h : List Event) (taken : List ℕ) → Stands T.Turn ps self.old h taken → Stands T.Turn ps self.new h (taken ++ result.items) }
+    {
+        match self {
+            AnyPipe::Rounds(pipe) => pipe.take_output(),
+            AnyPipe::Rings { pipe, .. } => pipe.take_output(),
+        }
+    }
+
+    /// The stop of the last stage that has stopped.
+    pub(crate) fn report(&self) -> Option<Rejected>
+        ensures settled { (ps : List T.Plan) (h : List Event) (taken : List ℕ) → Stands T.Turn ps self.now h taken → IsSettled T.gives ps h
+            → Pipeline T.gives 1 ps (bytes_given h) (end_given h) (taken ++ in_hand T.Turn self.now) (report_as result) }
+    {
+        match self {
+            AnyPipe::Rounds(pipe) => pipe.report(),
+            AnyPipe::Rings { pipe, .. } => pipe.report(),
+        }
+    }
+}
+
+/// Gives bytes at this pace, and tells how many were given: over rings all of them.
+pub(crate) fn give_front<R: Threads + Sync, T: Turn + Drop + Send, G: Gate + Sync>(
+    rt: &R,
+    pipe: &mut AnyPipe<T>,
+    gate: &G,
+    pace: Pace,
+    bytes: &[u8],
+) -> Result<usize, Memory>
+    requires unended { is_ended T.Turn pipe.old ≡ false }
+    requires closed { is_in_round T.Turn pipe.old ≡ false }
+    ensures front { IfOk result (λ count. IsFront pace bytes.now count) }
+    ensures given { IfOk result (λ count. (ps : List T.Plan) (h : List Event) (taken : List ℕ) → Stands T.Turn ps pipe.old h taken → IsGiven (λ k. Stands T.Turn ps pipe.new k taken) (take count bytes.now) h) }
+    ensures closed { is_in_round T.Turn pipe.new ≡ false }
+{
+    match pipe {
+        AnyPipe::Rounds(pipe) => rounds::give_front(rt, pipe, gate, pace, bytes),
+        AnyPipe::Rings { pipe, .. } => rings::give_all(pipe, bytes),
+    }
+}
+
+/// Works off all that waits.
+pub(crate) fn work_off<R: Threads + Sync, T: Turn + Drop + Send, G: Gate + Sync>(
+    rt: &R,
+    pipe: &mut AnyPipe<T>,
+    gate: &G,
+) -> Result<(), Memory>
+    requires closed { is_in_round T.Turn pipe.old ≡ false }
+    ensures works { OnOk result ((ps : List T.Plan) (h : List Event) (taken : List ℕ) → Stands T.Turn ps pipe.old h taken → IsWorkedOff T.gives ps (λ k. Stands T.Turn ps pipe.new k taken) h) }
+    ensures closed { is_in_round T.Turn pipe.new ≡ false }
+{
+    match pipe {
+        AnyPipe::Rounds(pipe) => rounds::work_off(rt, pipe, gate),
+        AnyPipe::Rings { pipe, counts } => rings::work_off(rt, pipe, gate, counts),
+    }
+}
