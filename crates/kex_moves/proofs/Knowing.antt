@@ -10,7 +10,7 @@ use Rattle.kex_model.specs.Acting.{State}
 use Rattle.kex_machine.specs.declared.MNode.{MNode}
 use Rattle.kex_machine.specs.Nodes.{Graph, node_moves}
 use Rattle.kex_action.specs.declared.action.Action.{Action}
-use Rattle.kex_action.specs.Holdings.{Rests, Leads, adding}
+use Rattle.kex_action.specs.Holdings.{Leads, adding}
 use Rattle.kex_action.specs.Actions.{done}
 use Rattle.kex_byteset.specs.Classes.{class_count}
 use Rattle.kex_sst.specs.declared.parts.Part.{Part}
@@ -126,8 +126,8 @@ right_wide t nodes k pairs edges o unknown right number class p e at lt is known
         let no : true ≡ false = sym known ∙ said in
         cc
 
-pub known_wider : (t : Transducer) (g : Graph) (old new : Known) (state node : ℕ) → IsKnown t g old → Widens old new state node → IsOrdered new → state < length t.states → node < length g.nodes → Rests (node_moves g.nodes node) → IsKnown t g new
-known_wider t g old new state node h w o s n r = subst (λ k. IsKnown t g k) (sym w.wider) (record {
+pub known_wider : (t : Transducer) (g : Graph) (old new : Known) (state node : ℕ) → IsKnown t g old → Widens old new state node → IsOrdered new → state < length t.states → node < length g.nodes → IsKnown t g new
+known_wider t g old new state node h w o s n = subst (λ k. IsKnown t g k) (sym w.wider) (record {
   ordered = subst (λ k. IsOrdered k) w.wider o;
   classes = h.classes;
   pairs = All-append (IsPairOf t g) old.pairs w.pairs h.pairs (λ i d l. of_pair (get_or w.pairs i d) (w.of i d l));
@@ -138,7 +138,6 @@ known_wider t g old new state node h w o s n r = subst (λ k. IsKnown t g k) (sy
     of_pair p e = record {
       state = subst (λ x. x < length t.states) (sym e.0) s;
       node = subst (λ x. x < length g.nodes) (sym e.1) n;
-      rests = subst (λ x. Rests (node_moves g.nodes x)) (sym e.1) r;
     }
 
 pub grows_wider : (old new : Known) (state node : ℕ) → Widens old new state node → Grows old new

@@ -43,18 +43,11 @@ takes_passed nodes n t e c f p = by p.steps p.walk p.codes
         let h = only_goes e t f w.0 in
         record { steps = ks; to = p.to; walk = subst (λ q. Walk (node_moves nodes) q ks p.to) (ap entered h) w.1; codes = sym (ap (λ q. symbols_of q ++ code_of ks) h) ∙ g }
 
--- a part of the walk without a letter
-pub record Going (nodes : List MNode) (n : ℕ) (before : List Action) (t : ℕ) (after : List Action) : Type 0 where
-  pub more : List Action
-  pub noted : after ≡ before ++ more
-  pub leads : (b : ℕ) (s : State) → Leads nodes n s [] t (done nodes b more s)
-  pub takes : (c : List Symbol) → Takes nodes n c → Takes nodes t c
-
-pub going_none : (nodes : List MNode) (n : ℕ) (ds : List Action) → Going nodes n ds n ds
+pub going_none : (nodes : List MNode) (n : ℕ) (ds : List Action) → GoesOn nodes n ds n ds
 going_none nodes n ds = record { more = []; noted = sym (append-nil ds); leads = λ b s. stays nodes n s; takes = λ c p. p }
 
 -- one step more, of which some actions are noted
-going_by : (nodes : List MNode) (n m t : ℕ) (e : Effect) (before after more : List Action) → Going nodes n before m after → node_moves nodes m ≡ go e t → ((b : ℕ) (s : State) → done_by e s ≡ done nodes b more s) → Going nodes n before t (after ++ more)
+going_by : (nodes : List MNode) (n m t : ℕ) (e : Effect) (before after more : List Action) → GoesOn nodes n before m after → node_moves nodes m ≡ go e t → ((b : ℕ) (s : State) → done_by e s ≡ done nodes b more s) → GoesOn nodes n before t (after ++ more)
 going_by nodes n m t e before after more p f h = record {
   more = p.more ++ more;
   noted = ap (λ l. l ++ more) p.noted ∙ append_assoc before p.more more;
@@ -66,15 +59,12 @@ going_by nodes n m t e before after more p f h = record {
 }
 
 -- the node's effect is noted
-pub going_done : (nodes : List MNode) (n m t : ℕ) (e : Effect) (before after : List Action) → Going nodes n before m after → node_moves nodes m ≡ go e t → Going nodes n before t (after ++ Node m ∷ [])
+pub going_done : (nodes : List MNode) (n m t : ℕ) (e : Effect) (before after : List Action) → GoesOn nodes n before m after → node_moves nodes m ≡ go e t → GoesOn nodes n before t (after ++ Node m ∷ [])
 going_done nodes n m t e before after p f = going_by nodes n m t e before after (Node m ∷ []) p f (λ b s. sym (ap (λ q. passing q s) f))
 
 -- it has none
-pub going_skipped : (nodes : List MNode) (n m t : ℕ) (before after : List Action) → Going nodes n before m after → node_moves nodes m ≡ go Effect.nothing t → Going nodes n before t after
-going_skipped nodes n m t before after p f = subst (λ l. Going nodes n before t l) (append-nil after) (going_by nodes n m t Effect.nothing before after [] p f (λ b s. refl))
-
-pub gone : (nodes : List MNode) (n t : ℕ) (before after : List Action) → Going nodes n before t after → Rests (node_moves nodes t) → GoesOn nodes n before t after
-gone nodes n t before after p r = record { more = p.more; noted = p.noted; leads = p.leads; takes = p.takes; rests = r }
+pub going_skipped : (nodes : List MNode) (n m t : ℕ) (before after : List Action) → GoesOn nodes n before m after → node_moves nodes m ≡ go Effect.nothing t → GoesOn nodes n before t after
+going_skipped nodes n m t before after p f = subst (λ l. GoesOn nodes n before t l) (append-nil after) (going_by nodes n m t Effect.nothing before after [] p f (λ b s. refl))
 
 code_at-append : (b : ℕ) (xs ys : List Part) → code_at b (xs ++ ys) ≡ code_at b xs ++ code_at b ys
 code_at-append b [] ys = refl
@@ -91,10 +81,21 @@ code_at-drop b w i d x c h e = ap (λ l. code_at b l ++ c) (drop_more w i d h) �
 pub record Follows (nodes : List MNode) (n : ℕ) (w : List Part) (i t : ℕ) (actions : List Action) : Type 0 where
   pub leads : (b : ℕ) (c : List Symbol) → Takes nodes n (code_at b w ++ c) → (s : State) → Leads nodes n s (code_at b (take i w)) t (done nodes b actions s)
   pub takes : (b : ℕ) (c : List Symbol) → Takes nodes n (code_at b w ++ c) → Takes nodes t (code_at b (drop i w) ++ c)
-  pub rests : Rests (node_moves nodes t)
 
-pub follows_none : (nodes : List MNode) (n : ℕ) (w : List Part) → Rests (node_moves nodes n) → Follows nodes n w 0 n []
-follows_none nodes n w r = record { leads = λ b c p s. stays nodes n s; takes = λ b c p. p; rests = r }
+pub follows_none : (nodes : List MNode) (n : ℕ) (w : List Part) → Follows nodes n w 0 n []
+follows_none nodes n w = record { leads = λ b c p s. stays nodes n s; takes = λ b c p. p }
+
+-- and then what needs no symbol
+pub follows_on : (nodes : List MNode) (n m t : ℕ) (w : List Part) (i : ℕ) (actions after : List Action) → Follows nodes n w i m actions → GoesOn nodes m actions t after → Follows nodes n w i t after
+follows_on nodes n m t w i actions after p q = record {
+  leads = λ b c f s.
+      let front = code_at b (take i w) in
+      let before = done nodes b actions s in
+      let all = leads_on nodes n m t front [] s before (done nodes b q.more before) (p.leads b c f s) (q.leads b before) in
+      let did : done nodes b q.more before ≡ done nodes b after s = sym (ap (λ l. done nodes b l s) q.noted ∙ done-append nodes b actions q.more s) in
+      subst (λ k. Leads nodes n s k t (done nodes b after s)) (append-nil front) (subst (λ z. Leads nodes n s (front ++ []) t z) did all);
+  takes = λ b c f. q.takes (code_at b (drop i w) ++ c) (p.takes b c f);
+}
 
 -- what a letter does by itself
 abbrev pub own : Letter → List Action
@@ -130,9 +131,9 @@ takes_first nodes n t b x c r h p = by p.steps p.walk p.codes
         let same : f.0 ≡ t = h b f.0 allowed in
         (subst (λ q. Allows (node_moves nodes n) (step_by y q)) same allowed, record { steps = ks; to = p.to; walk = subst (λ q. Walk (node_moves nodes) q ks p.to) (ap entered f.1 ∙ entered_by y f.0 ∙ same) w.1; codes = rest_of y f.0 k ks c f.1 g })
 
-pub follows_more : (nodes : List MNode) (n m u t : ℕ) (w : List Part) (i : ℕ) (d : Part) (x : Letter) (actions after : List Action) → i < length w → ((b : ℕ) → value [] b (get_or w i d) ≡ symbol_at b x ∷ []) → Follows nodes n w i m actions → ((b s : ℕ) → Allows (node_moves nodes m) (step_by (symbol_at b x) s) → s ≡ u) → GoesOn nodes u (actions ++ own x) t after → Follows nodes n w (i + 1) t after
-follows_more nodes n m u t w i d x actions after h e p a q =
-    let first = λ (b : ℕ) (c : List Symbol) (f : Takes nodes n (code_at b w ++ c)). takes_first nodes m u b x (code_at b (drop (i + 1) w) ++ c) p.rests a (subst (λ k. Takes nodes m k) (code_at-drop b w i d x c h (e b)) (p.takes b c f)) in
+pub follows_more : (nodes : List MNode) (n m u : ℕ) (w : List Part) (i : ℕ) (d : Part) (x : Letter) (actions : List Action) → i < length w → ((b : ℕ) → value [] b (get_or w i d) ≡ symbol_at b x ∷ []) → Follows nodes n w i m actions → Rests (node_moves nodes m) → ((b s : ℕ) → Allows (node_moves nodes m) (step_by (symbol_at b x) s) → s ≡ u) → Follows nodes n w (i + 1) u (actions ++ own x)
+follows_more nodes n m u w i d x actions h e p rests a =
+    let first = λ (b : ℕ) (c : List Symbol) (f : Takes nodes n (code_at b w ++ c)). takes_first nodes m u b x (code_at b (drop (i + 1) w) ++ c) rests a (subst (λ k. Takes nodes m k) (code_at-drop b w i d x c h (e b)) (p.takes b c f)) in
     record {
       leads = λ b c f s.
           let y = symbol_at b x in
@@ -140,36 +141,22 @@ follows_more nodes n m u t w i d x actions after h e p a q =
           let before = done nodes b actions s in
           let read = done nodes b (own x) before in
           let both = leads_on nodes n m u front (y ∷ []) s before read (p.leads b c f s) (by_symbol nodes m u y before read (first b c f).0 (did_letter nodes b u x before)) in
-          let all = leads_on nodes n u t (front ++ y ∷ []) [] s read (done nodes b q.more read) both (q.leads b read) in
-          let code : (front ++ y ∷ []) ++ [] ≡ code_at b (take (i + 1) w) = append-nil (front ++ y ∷ []) ∙ sym (code_at-take b w i d x h (e b)) in
-          let did : done nodes b q.more read ≡ done nodes b after s = sym (ap (λ l. done nodes b l s) q.noted ∙ done-append nodes b (actions ++ own x) q.more s ∙ ap (λ z. done nodes b q.more z) (done-append nodes b actions (own x) s)) in
-          subst (λ k. Leads nodes n s k t (done nodes b after s)) code (subst (λ z. Leads nodes n s ((front ++ y ∷ []) ++ []) t z) did all);
-      takes = λ b c f. q.takes (code_at b (drop (i + 1) w) ++ c) (first b c f).1;
-      rests = q.rests;
+          subst (λ k. Leads nodes n s k u (done nodes b (actions ++ own x) s)) (sym (code_at-take b w i d x h (e b))) (subst (λ z. Leads nodes n s (front ++ y ∷ []) u z) (sym (done-append nodes b actions (own x) s)) both);
+      takes = λ b c f. (first b c f).1;
     }
 
 pub learnt : (nodes : List MNode) (n t : ℕ) (w : List Part) (i : ℕ) (actions : List Action) → length w ≤ i → Follows nodes n w i t actions → Learns nodes n w t actions
 learnt nodes n t w i actions h p = record {
   does = λ b c q s. subst (λ l. Leads nodes n s (code_at b l) t (done nodes b actions s)) (take_all i w h) (p.leads b c q s);
   takes = λ b c q. subst (λ l. Takes nodes t (code_at b l ++ c)) (drop_all i w h) (p.takes b c q);
-  rests = p.rests;
 }
-
--- a node that does nothing by itself waits for a letter
-pub rests_unless : (m : MNode) → ((e : effects.Effect) (n : ℕ) → m ≡ Do e n → ⊥) → ((n : ℕ) → m ≡ Skip n → ⊥) → Rests (move_of (Some m))
-rests_unless Accept h k = tt
-rests_unless (nodes.Read set n) h k = tt
-rests_unless (Choice l r) h k = tt
-rests_unless (Forced b n) h k = tt
-rests_unless (Do e n) h k = absurd (h e n refl)
-rests_unless (Skip n) h k = absurd (k n refl)
 
 -- the next node is in range, and the loop goes on there
 pub record GoesTo (g : Graph) (n : ℕ) (before : List Action) (t : ℕ) (after : List Action) : Type 0 where
   pub node : t < length g.nodes
-  pub going : Going g.nodes n before t after
+  pub going : GoesOn g.nodes n before t after
 
-pub goes_to : (g : Graph) (n m t u : ℕ) (e : Effect) (before after last : List Action) → IsInRange g.start g.nodes g.registers → node_moves g.nodes m ≡ go e t → Going g.nodes n before t after → u ≡ t → last ≡ after → GoesTo g n before u last
+pub goes_to : (g : Graph) (n m t u : ℕ) (e : Effect) (before after last : List Action) → IsInRange g.start g.nodes g.registers → node_moves g.nodes m ≡ go e t → GoesOn g.nodes n before t after → u ≡ t → last ≡ after → GoesTo g n before u last
 goes_to g n m t u e before after last range here p f l =
     subst (λ q. GoesTo g n before q last) (sym f) (subst (λ q. GoesTo g n before t q) (sym l) (record { node = entered_in g m (went e t) range (subst (λ q. Allows q (went e t)) (sym here) goes); going = p }))
 

@@ -5,7 +5,7 @@ use Rattle.kex_model.specs.Acting.{State}
 use Rattle.kex_machine.specs.declared.MNode.{MNode}
 use Rattle.kex_machine.specs.Nodes.{Graph, node_moves}
 use Rattle.kex_action.specs.declared.action.Action.{Action}
-use Rattle.kex_action.specs.Holdings.{Rests, Does, adding}
+use Rattle.kex_action.specs.Holdings.{Does, adding}
 use Rattle.kex_action.specs.Actions.{done}
 use Rattle.kex_sst.specs.declared.table.Transition.{Transition}
 use Rattle.kex_sst.specs.Tables.{Transducer, transition_of}
@@ -77,11 +77,10 @@ pub record IsRight (t : Transducer) (nodes : List MNode) (k : Known) (p : Pair) 
 abbrev pub AreRight : Transducer → List MNode → Known → Type 0
 AreRight t nodes k = (number class : ℕ) (p : Pair) (e : Edge) → slice_get k.pairs number ≡ Some p → class < k.width → slice_get k.edges (number * k.width + class) ≡ Some e → is_known e.kind ≡ true → IsRight t nodes k p class e
 
--- a state of the table, and a node of the machine at which a symbol or the end comes next
+-- a state of the table, and a node of the machine
 pub record IsPairOf (t : Transducer) (g : Graph) (p : Pair) : Type 0 where
   pub state : p.state < length t.states
   pub node : p.node < length g.nodes
-  pub rests : Rests (node_moves g.nodes p.node)
 
 -- what is learnt is right of the table and the machine
 pub record IsKnown (t : Transducer) (g : Graph) (k : Known) : Type 0 where

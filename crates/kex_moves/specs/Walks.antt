@@ -7,7 +7,7 @@ use Rattle.kex_model.specs.Acting.{State}
 use Rattle.kex_machine.specs.declared.MNode.{MNode}
 use Rattle.kex_machine.specs.Nodes.{node_moves}
 use Rattle.kex_action.specs.declared.action.Action.{Action}
-use Rattle.kex_action.specs.Holdings.{Rests, Leads, Does}
+use Rattle.kex_action.specs.Holdings.{Leads, Does}
 use Rattle.kex_action.specs.Actions.{done}
 use Rattle.kex_sst.specs.declared.parts.Part.{Part}
 use Rattle.kex_sst.specs.Parts.{meant}
@@ -31,16 +31,14 @@ pub record Takes (nodes : List MNode) (n : ℕ) (c : List Symbol) : Type 0 where
   pub walk : Walk (node_moves nodes) n steps to
   pub codes : code_of steps ≡ c
 
--- from n all is done that needs no symbol, and noted
+-- on the way from n to t no symbol is needed, and what is done is noted
 pub record GoesOn (nodes : List MNode) (n : ℕ) (before : List Action) (t : ℕ) (after : List Action) : Type 0 where
   pub more : List Action
   pub noted : after ≡ before ++ more
   pub leads : (b : ℕ) (s : State) → Leads nodes n s [] t (done nodes b more s)
   pub takes : (c : List Symbol) → Takes nodes n c → Takes nodes t c
-  pub rests : Rests (node_moves nodes t)
 
 -- for each byte with which the code can be taken from n, on the way to anything, it leads to t and does what is noted
 pub record Learns (nodes : List MNode) (n : ℕ) (parts : List Part) (t : ℕ) (actions : List Action) : Type 0 where
   pub does : (b : ℕ) (c : List Symbol) → Takes nodes n (code_at b parts ++ c) → Does nodes n (code_at b parts) t (done nodes b actions)
   pub takes : (b : ℕ) (c : List Symbol) → Takes nodes n (code_at b parts ++ c) → Takes nodes t c
-  pub rests : Rests (node_moves nodes t)

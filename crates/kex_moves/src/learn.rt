@@ -2,9 +2,7 @@
 
 ghost use Rattle.std.specs.Prelude.{◌≡◌, ◌<◌, true, IfOk, IfSome, OnOk, length};
 ghost use Rattle.kex_byteset.specs.Classes.{class_count};
-ghost use Rattle.kex_machine.specs.Nodes.{node_moves};
 ghost use Rattle.kex_sst.specs.Tables.{Transducer};
-ghost use Rattle.kex_action.specs.Holdings.{Rests};
 ghost use Rattle.kex_moves.specs.declared.edges.Pair.{Pair};
 ghost use Rattle.kex_moves.specs.Edges.{is_known};
 ghost use Rattle.kex_moves.specs.Known.{IsEdge, IsRight, IsRowOf, HasRowFor, IsPairOf, IsKnown, IsLed, Grows};
@@ -13,7 +11,7 @@ ghost use Rattle.kex_moves.specs.Speech.{table_of};
 use crate::edge::Edge;
 use crate::edges::{Edges, Pair};
 use crate::settle::settle;
-use crate::walk::{Learnt, is_resting, learn};
+use crate::walk::{Learnt, learn};
 use kex_code::memory::Memory;
 use kex_machine::Trimmed;
 use kex_sst::parts::Parts;
@@ -29,8 +27,7 @@ fn lead(
     state: u32,
     learnt: &Learnt,
 ) -> Result<Option<Edge>, Memory>
-    requires node { learnt.now.to < length machine.now.nodes }
-    requires rests { Rests (node_moves machine.now.nodes learnt.now.to) }
+    requires { learnt.now.to < length machine.now.nodes }
     ensures known { IfOk result (λ o. (t : Transducer) → state < length t.states → IsKnown t machine.now edges.old → IsKnown t machine.now edges.new) }
     ensures grows { IfOk result (λ o. Grows edges.old edges.new) }
     ensures led { IfOk result (λ o. IfSome o (IsLed machine.now.nodes edges.new state learnt.now.to learnt.now.actions.items)) }
@@ -140,8 +137,8 @@ pub fn learn_word(
     Ok(())
 }
 
-/// The row of a state and a node. `None` where no symbol comes next at the node, where there is no such state, and where
-/// there is no room for the row: all is forgotten then.
+/// The row of a state and a node. `None` where there is no such state or node, and where there is no room for the row: all
+/// is forgotten then.
 pub fn row_for(
     machine: &Trimmed,
     edges: &mut Edges,
@@ -155,7 +152,7 @@ pub fn row_for(
     if let Some(row) = edges.find(state, node) {
         return Ok(Some(row));
     }
-    if state as usize >= states || !is_resting(machine, node) {
+    if state as usize >= states || node as usize >= machine.nodes().len() {
         return Ok(None);
     }
     let row = edges.add(state, node)?;

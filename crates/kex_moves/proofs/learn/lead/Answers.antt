@@ -7,7 +7,7 @@ use Rattle.kex_moves.proofs.learn.lead.Goals as goal
 pub returns-in_default-clause-known : goal.returns-in_default-clause-known
 returns-in_default-clause-known c = λ t state known.
     let w = c.in_ok-row.ensures {u = tt} in
-    known_wider t c.args.machine.now c.args.edges.now c.row_of.new.self c.args.state c.args.learnt.now.to known w.wider w.ordered state c.requires.node c.requires.rests
+    known_wider t c.args.machine.now c.args.edges.now c.row_of.new.self c.args.state c.args.learnt.now.to known w.wider w.ordered state c.requires
 
 pub returns-in_default-clause-grows : goal.returns-in_default-clause-grows
 returns-in_default-clause-grows c = grows_wider c.args.edges.now c.row_of.new.self c.args.state c.args.learnt.now.to (c.in_ok-row.ensures {u = tt}).wider
@@ -15,7 +15,7 @@ returns-in_default-clause-grows c = grows_wider c.args.edges.now c.row_of.new.se
 pub returns-clause-known : goal.returns-clause-known
 returns-clause-known c = λ t state known.
     let w = c.in_ok-row.ensures {u = tt} in
-    let mid = known_wider t c.args.machine.now c.args.edges.now c.row_of.new.self c.args.state c.args.learnt.now.to known w.wider w.ordered state c.requires.node c.requires.rests in
+    let mid = known_wider t c.args.machine.now c.args.edges.now c.row_of.new.self c.args.state c.args.learnt.now.to known w.wider w.ordered state c.requires in
     let l = c.in_ok-edge.ensures {u = tt} in
     known_longer t c.args.machine.now c.row_of.new.self c.settle.new.edges mid l.longer l.ordered
 

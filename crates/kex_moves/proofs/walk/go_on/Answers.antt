@@ -1,21 +1,10 @@
 use Rattle.std.proofs.Common.{◌∙◌, Some, sym, ap, subst}
 use Rattle.kex_machine.specs.Nodes.{move_of, effect_of}
 use Rattle.kex_model.specs.Moves.{nothing}
-use Rattle.kex_action.specs.Holdings.{Rests}
 use Rattle.kex_action.proofs.Leading.{move_at}
-use Rattle.kex_moves.proofs.Learning.{rests_unless, gone, going_done, going_skipped, goes_to}
+use Rattle.kex_moves.proofs.Learning.{going_done, going_skipped, goes_to}
 use Rattle.kex_moves.proofs.walk.go_on.Goals as goal
 use Rattle.kex_moves.proofs.walk.go_on.Goals.{in-Do+in_ok-push-in-Do, in-Skip}
-
-pub returns-in_default : goal.returns-in_default
-returns-in_default c =
-    let g = c.args.machine.now in
-    let same = c.nodes-nodes.ensures.same in
-    let here = move_at g.nodes c.nodes-nodes.result.now c.loop.at c.index-nodes-at.result same c.loop.invariant.node c.index-nodes-at.is in
-    record {
-      ok = gone g.nodes c.args.from c.loop.at c.args.actions.now.items c.loop.actions.items c.loop.invariant.going (subst (λ m. Rests m) (sym here) (rests_unless c.index-nodes-at.result c.in_default.not-Do c.in_default.not-Skip));
-      within = c.loop.invariant.node;
-    }
 
 pub loop-preserved : goal.loop-preserved
 loop-preserved c =
