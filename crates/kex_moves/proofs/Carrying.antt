@@ -1,5 +1,5 @@
 -- A run along edges, with the table, the actor and a sheet.
-use Rattle.std.proofs.Common.{◌≡◌, ℕ, ◌<◌, ◌≤◌, true, Bool, IsTrue, List, [], ◌∷◌, ◌++◌, length, get_or, take, drop, reverse, refl, sym, ap, ap₂, subst, ◌∙◌, arith, length-append}
+use Rattle.std.proofs.Common.{◌≡◌, ℕ, ◌<◌, ◌≤◌, true, false, cond, Bool, IsTrue, List, [], ◌∷◌, ◌++◌, length, get_or, take, drop, reverse, refl, sym, ap, ap₂, subst, ◌∙◌, arith, length-append}
 use Rattle.std.specs.Prelude.{slice_get, Some}
 use Rattle.std.proofs.lemmas.List.{length-take-le}
 use Rattle.kex_code.specs.declared.symbol.Symbol.{Symbol}
@@ -9,13 +9,14 @@ use Rattle.kex_action.specs.declared.sheet.Sheet.{Sheet}
 use Rattle.kex_action.specs.Holdings.{Holding, Leads, Does, adding, state_of}
 use Rattle.kex_action.specs.Actors.{Position, WentOn}
 use Rattle.kex_action.specs.Actions.{done}
-use Rattle.kex_action.specs.Sheets.{laid, AreMarks, IsSheet, IsBlank, state_with}
+use Rattle.kex_action.specs.Sheets.{topped, laid, AreMarks, IsSheet, IsBlank, state_with}
 use Rattle.kex_action.proofs.Performing.{went_on, position}
 use Rattle.kex_action.proofs.Sheeting.{laid_none, laid_adds}
 use Rattle.kex_sst.specs.Tables.{Transducer}
 use Rattle.kex_moves.specs.declared.edge.Edge.{Edge}
-use Rattle.kex_moves.specs.declared.edge.Kind.TheVariants.{Acts}
+use Rattle.kex_moves.specs.declared.edge.Kind.TheVariants.{Opens}
 use Rattle.kex_moves.specs.declared.edges.Pair.{Pair}
+use Rattle.kex_moves.specs.Edges.{writes, is_written}
 use Rattle.kex_moves.specs.Runs.{Stop, behind, run_of}
 use Rattle.kex_moves.specs.Known.{Known, rows_of, IsRowOf, HasRowFor, IsRight, IsKnown, Grows}
 use Rattle.kex_moves.specs.Along.{Goes, Reached, with_sheet, written_with, ReachedWith, ReachedOn}
@@ -80,7 +81,7 @@ reached_run t k a s s' row row' at piece out known bytes sheet marks e q n h =
     }
 
 -- where an edge's actions are done
-pub reached_acts : (t : Transducer) (k : Known) (a b : Position) (s s' : Sheet) (row class byte : ℕ) (e : Edge) (x y : List ℕ) → slice_get t.classes byte ≡ Some class → ((p : Pair) → IsRowOf k row p → IsRight t a.machine.nodes k p class e) → e.kind ≡ Acts → b.machine ≡ a.machine → b.refused ≡ a.refused → state_with s' y b.holding ≡ done a.machine.nodes byte (take e.adds (drop e.from k.acts)) (state_with s x a.holding) → ReachedOn t k k a b s s' row e.next (byte ∷ []) x y
+pub reached_acts : (t : Transducer) (k : Known) (a b : Position) (s s' : Sheet) (row class byte : ℕ) (e : Edge) (x y : List ℕ) → slice_get t.classes byte ≡ Some class → ((p : Pair) → IsRowOf k row p → IsRight t a.machine.nodes k p class e) → is_written e.kind ≡ false → b.machine ≡ a.machine → b.refused ≡ a.refused → state_with s' y b.holding ≡ done a.machine.nodes byte (take e.adds (drop e.from k.acts)) (state_with s x a.holding) → ReachedOn t k k a b s s' row e.next (byte ∷ []) x y
 reached_acts t k a b s s' row class byte e x y is right acts machine refused did q n h =
     let r = right h.0 h.1 in
     let m = r.to.node in
@@ -88,6 +89,15 @@ reached_acts t k a b s s' row class byte e x y is right acts machine refused did
       node = m;
       reached = subst (λ z. Reached t k (with_sheet a n s x) (with_sheet b m s' y) z e.next (byte ∷ []) (written_with a s x) (written_with b s' y)) h.2 (reached_act t k (with_sheet a n s x) (with_sheet b m s' y) h.0 class byte e (written_with a s x) (written_with b s' y) is r acts h.3 machine refl (λ d does. moved a b n m s s' x y (done a.machine.nodes byte (take e.adds (drop e.from k.acts))) machine refused did d does));
     }
+
+-- where an edge opens a buffer
+pub reached_opens : (t : Transducer) (k : Known) (a : Position) (s s' : Sheet) (row class byte : ℕ) (e : Edge) (x : List ℕ) → slice_get t.classes byte ≡ Some class → ((p : Pair) → IsRowOf k row p → IsRight t a.machine.nodes k p class e) → e.kind ≡ Opens → ((out : List ℕ) (h : Holding) → state_with s' out h ≡ topped (byte ∷ []) (state_with s out h)) → ReachedOn t k k a a s s' row e.next (byte ∷ []) x x
+reached_opens t k a s s' row class byte e x is right opens opened q n h =
+    let z = state_with s x a.holding in
+    let acts = done a.machine.nodes byte (take e.adds (drop e.from k.acts)) z in
+    let unwritten : is_written e.kind ≡ false = ap is_written opens in
+    let made : topped (byte ∷ []) z ≡ acts = sym ((right h.0 h.1).opens opens byte z) ∙ ap (λ w. cond w (adding (writes k.text e byte) z) acts) unwritten in
+    reached_acts t k a a s s' row class byte e x x is right unwritten refl refl (opened x a.holding ∙ made) q n h
 
 -- where nothing is taken
 pub reached_none : (t : Transducer) (k k' : Known) (a : Position) (s : Sheet) (row : ℕ) (x : List ℕ) → Grows k k' → ReachedOn t k k' a a s s row row [] x x
@@ -112,6 +122,13 @@ reached_on t k k' k'' a b c s s' s'' row row' row'' us vs x y z f g q n h =
         goes = goes_more t (with_sheet a n s x) (with_sheet b p.node s' y) (with_sheet c r.node s'' z) q p.reached.state r.reached.state us vs (written_with a s x) (written_with b s' y) (written_with c s'' z) p.reached.goes r.reached.goes;
       };
     }
+
+-- what is reached is a row
+pub row_reached : (t : Transducer) (g : Graph) (k : Known) (s s' : Sheet) (row row' : ℕ) (bs : List ℕ) → IsKnown t g k → (p : Pair) × IsRowOf k row p → ((t : Transducer) (a : Position) (out : List ℕ) → IsKnown t a.machine k → ReachedOn t k k a a s s' row row' bs out out) → (p : Pair) × IsRowOf k row' p
+row_reached t g k s s' row row' bs known from reached =
+    let a : Position = record { machine = g; at = 0; holding = record { buffers = []; registers = [] }; refused = false; usable = true } in
+    let r = reached t a [] known from.0.state from.0.node (from.0, from.1, refl, refl) in
+    (r.reached.row_for.0, r.reached.row_for.1)
 
 -- at its end all is handed on
 pub arrived : (t : Transducer) (k k' : Known) (a b b' : Position) (s s' : Sheet) (row row' state : ℕ) (bs x y y' : List ℕ) → IsBlank s → IsTrue a.usable → ReachedOn t k k' a b s s' row row' bs x y → ((p : Pair) → IsRowOf k' row' p → (state ≡ p.state) × (b' ≡ with_sheet b p.node s' y) × (y' ≡ written_with b s' y)) → (q : ℕ) → HasRowFor k row q a.at → Goes t a b' q state bs x y'

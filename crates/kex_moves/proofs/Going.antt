@@ -20,7 +20,6 @@ use Rattle.kex_sst.specs.Tables.{Transducer}
 use Rattle.kex_sst.specs.Passes.{transition_at, next_of, stepped, passes_if}
 use Rattle.kex_sst.proofs.Passing.{passes_more}
 use Rattle.kex_moves.specs.declared.edge.Edge.{Edge}
-use Rattle.kex_moves.specs.declared.edge.Kind.TheVariants.{Acts}
 use Rattle.kex_moves.specs.declared.edges.Pair.{Pair}
 use Rattle.kex_moves.specs.Edges.{writes, is_written, is_known}
 use Rattle.kex_moves.specs.Runs as runs
@@ -188,7 +187,7 @@ pub right_at : (t : Transducer) (g : Graph) (k : Known) (row class : ℕ) (p : P
 right_at t g k row class p e h r lt is known = h.right r.number class p e r.at lt (ap (λ x. slice_get k.edges (x + class)) (sym r.begins) ∙ is) known
 
 -- the actor that has gone where an edge leads and has done its actions
-pub reached_act : (t : Transducer) (k : Known) (old new : Position) (p : Pair) (class b : ℕ) (e : Edge) (xs ys : List ℕ) → slice_get t.classes b ≡ Some class → (r : IsRight t old.machine.nodes k p class e) → e.kind ≡ Acts → p.node ≡ old.at → new.machine ≡ old.machine → new.at ≡ r.to.node → ((d : List Symbol) → Does old.machine.nodes old.at d new.at (done old.machine.nodes b (take e.adds (drop e.from k.acts))) → WentOn old new d d xs ys) → Reached t k old new p.state e.next (b ∷ []) xs ys
+pub reached_act : (t : Transducer) (k : Known) (old new : Position) (p : Pair) (class b : ℕ) (e : Edge) (xs ys : List ℕ) → slice_get t.classes b ≡ Some class → (r : IsRight t old.machine.nodes k p class e) → is_written e.kind ≡ false → p.node ≡ old.at → new.machine ≡ old.machine → new.at ≡ r.to.node → ((d : List Symbol) → Does old.machine.nodes old.at d new.at (done old.machine.nodes b (take e.adds (drop e.from k.acts))) → WentOn old new d d xs ys) → Reached t k old new p.state e.next (b ∷ []) xs ys
 reached_act t k old new p class b e xs ys is r acts node machine there went = record {
   state = r.to.state;
   row_for = (r.to, r.row, refl, sym there);
@@ -204,7 +203,7 @@ reached_act t k old new p class b e xs ys is r acts node machine there went = re
     code = code_at b r.by.update.out
 
     made : (s : State) → makes old.machine.nodes k e b s ≡ done old.machine.nodes b (take e.adds (drop e.from k.acts)) s
-    made s = ap (λ x. cond x (adding (writes k.text e b) s) (done old.machine.nodes b (take e.adds (drop e.from k.acts)) s)) (ap is_written acts)
+    made s = ap (λ x. cond x (adding (writes k.text e b) s) (done old.machine.nodes b (take e.adds (drop e.from k.acts)) s)) acts
 
     from : (x : List Symbol) → Takes old.machine.nodes old.at (code ++ x) → Takes old.machine.nodes p.node (code ++ x)
     from x takes = subst (λ n. Takes old.machine.nodes n (code ++ x)) (sym node) takes

@@ -18,9 +18,9 @@ use Rattle.kex_sst.specs.declared.table.Transition.{Transition}
 use Rattle.kex_sst.specs.Tables.{Transducer, transition_of}
 use Rattle.kex_moves.specs.declared.edge.Edge.{Edge}
 use Rattle.kex_moves.specs.declared.edge.Kind.{Kind}
-use Rattle.kex_moves.specs.declared.edge.Kind.TheVariants.{Keep, Drop, Text, Acts, Plain, Unknown}
+use Rattle.kex_moves.specs.declared.edge.Kind.TheVariants.{Keep, Drop, Text, Acts, Opens, Plain, Unknown}
 use Rattle.kex_moves.specs.declared.edges.Pair.{Pair}
-use Rattle.kex_moves.specs.Edges.{writes, is_written, is_known, HasRoom}
+use Rattle.kex_moves.specs.Edges.{writes, is_written, is_known, has_acts, HasRoom}
 use Rattle.kex_moves.specs.Runs.{HasRow, HasRoomBelow, IsWithin}
 use Rattle.kex_moves.specs.Trails.{LeadsBelow}
 use Rattle.kex_moves.specs.Walks.{code_at, Takes, Learns}
@@ -53,6 +53,7 @@ known_if Keep h = refl
 known_if Drop h = refl
 known_if Text h = refl
 known_if Acts h = cc
+known_if Opens h = cc
 known_if Plain h = cc
 known_if Unknown h = cc
 
@@ -99,6 +100,7 @@ right_moved t nodes k k' p class e rows same r = record {
   target = r.target;
   does = λ b c takes before. subst (λ z. Leads nodes p.node before (code_at b r.by.update.out) r.to.node z) (same b before) (r.does b c takes before);
   takes = r.takes;
+  opens = λ is b s. sym (same b s) ∙ r.opens is b s;
 }
 
 -- rows that are added
@@ -159,11 +161,12 @@ acts_long : (acts more : List Action) (e : Edge) → e.from + e.adds ≤ length 
 acts_long acts more e h = sym (ap (take e.adds) (drop-append-le e.from acts more (omega arith)) ∙ take-append-le e.adds (drop e.from acts) more (omega (arith, length-drop e.from acts)))
 
 -- what is known is written, or actions
-acts_unless : (k : Kind) → is_known k ≡ true → is_written k ≡ false → k ≡ Acts
+acts_unless : (k : Kind) → is_known k ≡ true → is_written k ≡ false → has_acts k ≡ true
 acts_unless Keep h w = cc
 acts_unless Drop h w = cc
 acts_unless Text h w = cc
 acts_unless Acts h w = refl
+acts_unless Opens h w = refl
 acts_unless Plain h w = cc
 acts_unless Unknown h w = cc
 
@@ -198,6 +201,7 @@ led nodes mid new state node next actions e o r l s =
       edge = record { next = λ known. row_fits new e.next r.0 o (row known); room = s.room; acts = s.acts };
       row = λ known. (r.0, row known, r.2, r.3);
       does = s.does;
+      opens = s.opens;
     }
 
 -- an edge that is put
@@ -259,6 +263,7 @@ right_led t nodes k p class by out node actions e goes bare same l h known =
       target = r.2;
       does = λ b c takes before. subst (λ z. Leads nodes p.node before (code_at b by.update.out) r.0.node z) (h.does known b before) (subst (λ n. Leads nodes p.node before (code_at b by.update.out) n (done nodes b actions before)) (sym r.3) (learns.does b c takes before));
       takes = λ b c takes. subst (λ n. Takes nodes n c) (sym r.3) (learns.takes b c takes);
+      opens = h.opens;
     }
 
 pub map_some : {A : Type 0} (P Q : A → Type 0) (o : Option A) → ((a : A) → P a → Q a) → IfSome o P → IfSome o Q

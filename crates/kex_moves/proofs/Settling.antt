@@ -8,10 +8,11 @@ use Rattle.kex_machine.specs.declared.MNode.{MNode}
 use Rattle.kex_action.specs.declared.action.Action.{Action}
 use Rattle.kex_action.specs.Holdings.{adding}
 use Rattle.kex_action.specs.Actions.{done}
+use Rattle.kex_action.specs.Sheets.{topped}
 use Rattle.kex_moves.specs.declared.edge.Edge.{Edge}
 use Rattle.kex_moves.specs.declared.edge.Kind.{Kind}
-use Rattle.kex_moves.specs.declared.edge.Kind.TheVariants.{Keep, Drop, Text, Acts, Plain, Unknown}
-use Rattle.kex_moves.specs.Edges.{writes, is_written, is_known, HasRoom}
+use Rattle.kex_moves.specs.declared.edge.Kind.TheVariants.{Keep, Drop, Text, Acts, Opens, Plain, Unknown}
+use Rattle.kex_moves.specs.Edges.{writes, is_written, is_known, has_acts, HasRoom}
 use Rattle.kex_moves.specs.Known.{Known, HasPlace, Settles, Lengthens}
 use Rattle.kex_moves.proofs.Putting.{within}
 use Rattle.kex_moves.proofs.Running.{one}
@@ -74,30 +75,37 @@ short_written text xs p b e Keep is room w none keeps drops f g l =
 short_written text xs p b e Drop is room w none keeps drops f g l = ap (λ n. take n (set (take 16 (drop e.from text)) e.byte_at b)) (l ∙ drops refl) ∙ sym (no_bytes xs p b (drops refl))
 short_written text xs p b e Text is room w none keeps drops f g l = absurd (none refl)
 short_written text xs p b e Acts is room w none keeps drops f g l = cc
+short_written text xs p b e Opens is room w none keeps drops f g l = cc
 short_written text xs p b e Plain is room w none keeps drops f g l = cc
 short_written text xs p b e Unknown is room w none keeps drops f g l = cc
 
 pub place_small : (xs : List ℕ) (p : ℕ) → HasPlace xs p → p ≤ 16
 place_small xs p h = elim h.place [ inl a ↦ omega (arith, h.count) | inr a ↦ omega arith ]
 
-no_acts : (k : Kind) → is_written k ≡ true → k ≡ Acts → ⊥
-no_acts Keep w e = cc
-no_acts Drop w e = cc
-no_acts Text w e = cc
-no_acts Acts w e = cc
-no_acts Plain w e = cc
-no_acts Unknown w e = cc
+-- what is written has no actions
+unwritten : (k : Kind) → has_acts k ≡ true → is_written k ≡ false
+unwritten Keep h = cc
+unwritten Drop h = cc
+unwritten Text h = cc
+unwritten Acts h = refl
+unwritten Opens h = refl
+unwritten Plain h = cc
+unwritten Unknown h = cc
 
-no_written : (k : Kind) → k ≡ Acts → is_written k ≡ true → ⊥
-no_written k e w = no_acts k w e
+no_written : (k : Kind) → has_acts k ≡ true → is_written k ≡ true → ⊥
+no_written k h w = let f : false ≡ true = sym (unwritten k h) ∙ w in cc
+
+no_opens : (k : Kind) → is_written k ≡ true → k ≡ Opens → ⊥
+no_opens k w e = no_written k (ap has_acts e) w
 
 -- an edge that writes what is a text with the byte settles
 settles_written : (nodes : List MNode) (k : Known) (next p : ℕ) (xs : List ℕ) (e : Edge) → e.next ≡ next → is_written e.kind ≡ true → HasRoom (length k.text) e → ((b : ℕ) → writes k.text e b ≡ set xs p b) → Settles nodes k next (λ b. adding (set xs p b)) e
 settles_written nodes k next p xs e n w room h = record {
   goes = λ known. n;
   room = λ written. room;
-  acts = λ acts. absurd (no_acts e.kind w acts);
+  acts = λ acts. absurd (no_written e.kind acts w);
   does = λ known b s. ap (λ l. adding l s) (sym (h b)) ∙ sym (ap (λ x. cond x (adding (writes k.text e b) s) (done nodes b (take e.adds (drop e.from k.acts)) s)) w);
+  opens = λ opens. absurd (no_opens e.kind w opens);
 }
 
 pub settles_short : (nodes : List MNode) (k : Known) (next p : ℕ) (xs : List ℕ) (e : Edge) → 16 ≤ length k.text → HasPlace xs p → e.next ≡ next → e.from ≡ 0 → e.byte_at ≡ p → e.adds ≡ length xs → is_written e.kind ≡ true → (e.kind ≡ Text → ⊥) → (e.kind ≡ Keep → (p ≡ 0) × (length xs ≡ 1)) → (e.kind ≡ Drop → length xs ≡ 0) → Settles nodes k next (λ b. adding (set xs p b)) e
@@ -110,14 +118,16 @@ settles_text nodes k old next p xs e is place n f g l text =
     settles_written nodes k next p xs e n (ap is_written text) (record { text = omega arith; byte_at = omega (arith, place_small xs p place); adds = omega (arith, place.count); keeps = λ q. cc; drops = λ q. cc }) (λ b. text_written old xs (replicate 16 0) k.text p b e is refl place.count f g l)
 
 -- an edge at which actions are done settles
-pub settles_acts : (nodes : List MNode) (k : Known) (old actions : List Action) (next : ℕ) (e : Edge) → k.acts ≡ old ++ actions → e.next ≡ next → e.from ≡ length old → e.adds ≡ length actions → e.kind ≡ Acts → Settles nodes k next (λ b. done nodes b actions) e
-settles_acts nodes k old actions next e is n f l acts =
+pub settles_acts : (nodes : List MNode) (k : Known) (old actions : List Action) (next : ℕ) (e : Edge) → k.acts ≡ old ++ actions → e.next ≡ next → e.from ≡ length old → e.adds ≡ length actions → has_acts e.kind ≡ true → (e.kind ≡ Opens → (b : ℕ) (s : State) → done nodes b actions s ≡ topped (b ∷ []) s) → Settles nodes k next (λ b. done nodes b actions) e
+settles_acts nodes k old actions next e is n f l acts opens =
     let same : take e.adds (drop e.from k.acts) ≡ actions = ap₂ (λ i m. take m (drop i k.acts)) f l ∙ ap (λ q. take (length actions) (drop (length old) q)) is ∙ ap (take (length actions)) (drop_at old actions (length old) refl) ∙ take_all (length actions) actions (omega arith) in
+    let does = λ (b : ℕ) (s : State). ap (λ q. done nodes b q s) (sym same) ∙ sym (ap (λ x. cond x (adding (writes k.text e b) s) (done nodes b (take e.adds (drop e.from k.acts)) s)) (unwritten e.kind acts)) in
     record {
       goes = λ known. n;
       room = λ written. absurd (no_written e.kind acts written);
       acts = λ q. omega (arith, ap length is, length-append old actions);
-      does = λ known b s. ap (λ q. done nodes b q s) (sym same) ∙ sym (ap (λ x. cond x (adding (writes k.text e b) s) (done nodes b (take e.adds (drop e.from k.acts)) s)) (ap is_written acts));
+      does = λ known b s. does b s;
+      opens = λ q b s. sym (does b s) ∙ opens q b s;
     }
 
 pub settles_plain : (nodes : List MNode) (k : Known) (next : ℕ) (f : ℕ → State → State) (e : Edge) → is_known e.kind ≡ false → Settles nodes k next f e
@@ -128,8 +138,9 @@ settles_plain nodes k next f e h = by e.kind refl h
     by Drop is h = cc
     by Text is h = cc
     by Acts is h = cc
-    by Plain is h = record { goes = λ known. cc; room = λ written. cc; acts = λ q. cc; does = λ known. cc }
-    by Unknown is h = record { goes = λ known. cc; room = λ written. cc; acts = λ q. cc; does = λ known. cc }
+    by Opens is h = cc
+    by Plain is h = record { goes = λ known. cc; room = λ written. cc; acts = λ q. cc; does = λ known. cc; opens = λ q. cc }
+    by Unknown is h = record { goes = λ known. cc; room = λ written. cc; acts = λ q. cc; does = λ known. cc; opens = λ q. cc }
 
 pub lengthens_none : (k : Known) → Lengthens k k
 lengthens_none k = record { text = []; acts = []; longer = ap₂ (λ (t : List ℕ) (a : List Action). record { classes = k.classes; width = k.width; shift = k.shift; pairs = k.pairs; edges = k.edges; text = t; acts = a }) (sym (append-nil k.text)) (sym (append-nil k.acts)) }
@@ -142,7 +153,7 @@ lengthens_acts k acts more e = record { text = []; acts = more; longer = ap₂ (
 
 -- an edge that settles what is the same settles
 pub settles_same : (nodes : List MNode) (k : Known) (next : ℕ) (f g : ℕ → State → State) (e : Edge) → ((b : ℕ) (s : State) → g b s ≡ f b s) → Settles nodes k next f e → Settles nodes k next g e
-settles_same nodes k next f g e same h = record { goes = h.goes; room = h.room; acts = h.acts; does = λ known b s. same b s ∙ h.does known b s }
+settles_same nodes k next f g e same h = record { goes = h.goes; room = h.room; acts = h.acts; does = λ known b s. same b s ∙ h.does known b s; opens = h.opens }
 
 pub map_ok : {A E : Type 0} (P Q : A → Type 0) (r : Result A E) → ((a : A) → P a → Q a) → IfOk r P → IfOk r Q
 map_ok P Q (Ok a) f h = f a h

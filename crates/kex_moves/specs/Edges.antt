@@ -2,7 +2,7 @@
 use Rattle.std.specs.Prelude.{◌≡◌, ◌≤◌, ◌+◌, ℕ, Bool, true, false, List, take, drop, slice_set}
 use Rattle.kex_moves.specs.declared.edge.Edge.{Edge}
 use Rattle.kex_moves.specs.declared.edge.Kind.{Kind}
-use Rattle.kex_moves.specs.declared.edge.Kind.TheVariants.{Keep, Drop, Text, Acts, Plain, Unknown}
+use Rattle.kex_moves.specs.declared.edge.Kind.TheVariants.{Keep, Drop, Text, Acts, Opens, Plain, Unknown}
 
 -- as much of the text as counts, with the byte over the one at its place
 abbrev pub writes : List ℕ → Edge → ℕ → List ℕ
@@ -13,6 +13,7 @@ is_written Keep = true
 is_written Drop = true
 is_written Text = true
 is_written Acts = false
+is_written Opens = false
 is_written Plain = false
 is_written Unknown = false
 
@@ -22,8 +23,19 @@ is_known Keep = true
 is_known Drop = true
 is_known Text = true
 is_known Acts = true
+is_known Opens = true
 is_known Plain = false
 is_known Unknown = false
+
+-- actions are done
+abbrev pub has_acts : Kind → Bool
+has_acts Keep = false
+has_acts Drop = false
+has_acts Text = false
+has_acts Acts = true
+has_acts Opens = true
+has_acts Plain = false
+has_acts Unknown = false
 
 -- its text lies within, no more counts than is copied, and the byte alone is what is kept
 pub record HasRoom (length : ℕ) (e : Edge) : Type 0 where

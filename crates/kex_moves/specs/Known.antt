@@ -1,5 +1,5 @@
 -- What is learnt of a table and a machine, and when it is right.
-use Rattle.std.specs.Prelude.{◌≡◌, ◌<◌, ◌≤◌, ◌+◌, ◌*◌, ◌^◌, ◌⊎◌, ℕ, List, [], ◌++◌, Some, All, true, length, if◌then◌else◌, take, drop, slice_get}
+use Rattle.std.specs.Prelude.{◌≡◌, ◌<◌, ◌≤◌, ◌+◌, ◌*◌, ◌^◌, ◌⊎◌, ℕ, List, [], ◌∷◌, ◌++◌, Some, All, true, length, if◌then◌else◌, take, drop, slice_get}
 use Rattle.kex_code.specs.declared.symbol.Symbol.{Symbol}
 use Rattle.kex_model.specs.Acting.{State}
 use Rattle.kex_machine.specs.declared.MNode.{MNode}
@@ -7,12 +7,13 @@ use Rattle.kex_machine.specs.Nodes.{Graph, node_moves}
 use Rattle.kex_action.specs.declared.action.Action.{Action}
 use Rattle.kex_action.specs.Holdings.{Does, adding}
 use Rattle.kex_action.specs.Actions.{done}
+use Rattle.kex_action.specs.Sheets.{topped}
 use Rattle.kex_sst.specs.declared.table.Transition.{Transition}
 use Rattle.kex_sst.specs.Tables.{Transducer, transition_of}
 use Rattle.kex_moves.specs.declared.edge.Edge.{Edge}
-use Rattle.kex_moves.specs.declared.edge.Kind.TheVariants.{Acts, Unknown}
+use Rattle.kex_moves.specs.declared.edge.Kind.TheVariants.{Opens, Unknown}
 use Rattle.kex_moves.specs.declared.edges.Pair.{Pair}
-use Rattle.kex_moves.specs.Edges.{writes, is_written, is_known, HasRoom}
+use Rattle.kex_moves.specs.Edges.{writes, is_written, is_known, has_acts, HasRoom}
 use Rattle.kex_moves.specs.Runs.{Rows}
 use Rattle.kex_moves.specs.Walks.{Takes, code_at}
 
@@ -34,7 +35,7 @@ rows_of k = record { classes = k.classes; edges = k.edges; text = k.text }
 pub record IsEdge (k : Known) (e : Edge) : Type 0 where
   pub next : is_known e.kind ≡ true → e.next + k.width ≤ length k.edges
   pub room : is_written e.kind ≡ true → HasRoom (length k.text) e
-  pub acts : e.kind ≡ Acts → e.from + e.adds ≤ length k.acts
+  pub acts : has_acts e.kind ≡ true → e.from + e.adds ≤ length k.acts
 
 -- there is a row for each pair, with an edge for each class, and a text where nothing or the byte alone is written
 pub record IsOrdered (k : Known) : Type 0 where
@@ -60,6 +61,10 @@ HasRowFor k row state node = (p : Pair) × IsRowOf k row p × (p.state ≡ state
 abbrev pub makes : List MNode → Known → Edge → ℕ → State → State
 makes nodes k e b s = if is_written e.kind then adding (writes k.text e b) s else done nodes b (take e.adds (drop e.from k.acts)) s
 
+-- an edge that opens makes just a buffer with the byte in it
+abbrev pub IsOpening : List MNode → Known → Edge → Type 0
+IsOpening nodes k e = e.kind ≡ Opens → (b : ℕ) (s : State) → makes nodes k e b s ≡ topped (b ∷ []) s
+
 -- on a byte of the class the table goes from the pair's state to the edge's, with an update of `out` alone; and for each
 -- byte with which its code can be taken from the pair's node, on the way to anything, it leads to the edge's node and
 -- makes what the edge makes
@@ -72,6 +77,7 @@ pub record IsRight (t : Transducer) (nodes : List MNode) (k : Known) (p : Pair) 
   pub target : to.state ≡ by.target
   pub does : (b : ℕ) (c : List Symbol) → Takes nodes p.node (code_at b by.update.out ++ c) → Does nodes p.node (code_at b by.update.out) to.node (makes nodes k e b)
   pub takes : (b : ℕ) (c : List Symbol) → Takes nodes p.node (code_at b by.update.out ++ c) → Takes nodes to.node c
+  pub opens : IsOpening nodes k e
 
 -- each edge is right, or says nothing
 abbrev pub AreRight : Transducer → List MNode → Known → Type 0
@@ -113,6 +119,7 @@ pub record IsLed (nodes : List MNode) (k : Known) (state node : ℕ) (actions : 
   pub edge : IsEdge k e
   pub row : is_known e.kind ≡ true → HasRowFor k e.next state node
   pub does : is_known e.kind ≡ true → (b : ℕ) (s : State) → done nodes b actions s ≡ makes nodes k e b s
+  pub opens : IsOpening nodes k e
 
 -- all is forgotten
 pub record Forgets (old new : Known) : Type 0 where
@@ -130,5 +137,6 @@ pub record HasPlace (bytes : List ℕ) (p : ℕ) : Type 0 where
 pub record Settles (nodes : List MNode) (k : Known) (next : ℕ) (f : ℕ → State → State) (e : Edge) : Type 0 where
   pub goes : is_known e.kind ≡ true → e.next ≡ next
   pub room : is_written e.kind ≡ true → HasRoom (length k.text) e
-  pub acts : e.kind ≡ Acts → e.from + e.adds ≤ length k.acts
+  pub acts : has_acts e.kind ≡ true → e.from + e.adds ≤ length k.acts
   pub does : is_known e.kind ≡ true → (b : ℕ) (s : State) → f b s ≡ makes nodes k e b s
+  pub opens : IsOpening nodes k e

@@ -1,11 +1,12 @@
 // A run along edges with the actor, in which new edges are learnt.
 
-ghost use Rattle.std.specs.Prelude.{◌≡◌, ◌<◌, ◌≤◌, ◌+◌, ◌*◌, ℕ, List, [], ◌∷◌, IsTrue, IfOk, OnOk, length, take, drop};
+ghost use Rattle.std.specs.Prelude.{◌≡◌, ◌<◌, ◌≤◌, ◌+◌, ◌*◌, ◌-◌, ℕ, List, [], ◌∷◌, IsTrue, IfOk, OnOk, length, take, drop};
 ghost use Rattle.kex_sst.specs.Tables.{Transducer};
-ghost use Rattle.kex_action.specs.Holdings.{state_of};
+ghost use Rattle.kex_machine.specs.Nodes.{Graph};
+ghost use Rattle.kex_action.specs.Holdings.{Holding, state_of};
 ghost use Rattle.kex_action.specs.Actions.{done};
 ghost use Rattle.kex_action.specs.Actors.{Position};
-ghost use Rattle.kex_action.specs.Sheets.{IsSheet, IsBlank, IsAsLong, state_with};
+ghost use Rattle.kex_action.specs.Sheets.{IsSheet, IsBlank, IsAsLong, topped, state_with};
 ghost use Rattle.kex_moves.specs.declared.edge.Kind.{Kind};
 ghost use Rattle.kex_moves.specs.declared.edges.Pair.{Pair};
 ghost use Rattle.kex_moves.specs.Runs.{run_of};
@@ -54,6 +55,22 @@ pub struct Stride {
     pub stops: bool,
 }
 
+// Opens a buffer on a sheet, and writes a byte into it.
+#[inline(always)]
+fn open(sheet: &mut Sheet, byte: u8) -> Result<(), Memory>
+    requires sheet { IsSheet sheet.old }
+    requires room { sheet.old.used < length sheet.old.bytes.items }
+    ensures opened { OnOk result ((out : List ℕ) (h : Holding) → state_with sheet.new out h ≡ topped (byte ∷ []) (state_with sheet.old out h)) }
+    ensures sheet { OnOk result (IsSheet sheet.new × IsAsLong sheet.old sheet.new) }
+    ensures used { sheet.new.used ≤ sheet.old.used + 1 }
+{
+    let used = sheet.used;
+    sheet.marks.push(used)?;
+    sheet.bytes[used] = byte;
+    sheet.used = used + 1;
+    Ok(())
+}
+
 // Goes along edges while they are written, on a sheet.
 #[inline(always)]
 fn along(edges: &Edges, sheet: &mut Sheet, row: usize, piece: &[u8]) -> Place
@@ -62,6 +79,7 @@ fn along(edges: &Edges, sheet: &mut Sheet, row: usize, piece: &[u8]) -> Place
     requires room { sheet.old.used + 17 * length piece.now + 17 ≤ length sheet.old.bytes.items }
     ensures within { result.count ≤ length piece.now }
     ensures sheet { IsSheet sheet.new × (length sheet.new.bytes.items ≡ length sheet.old.bytes.items) }
+    ensures room { sheet.new.used + 17 * (length piece.now - result.count) + 17 ≤ length sheet.old.bytes.items }
     ensures reached { (t : Transducer) (a : Position) (out : List ℕ) → IsKnown t a.machine edges.now → ReachedOn t edges.now edges.now a a sheet.old sheet.new row result.row (take result.count piece.now) out out }
 {
     let spot = edges.run(row, piece, &mut sheet.bytes, sheet.used);
@@ -70,6 +88,76 @@ fn along(edges: &Edges, sheet: &mut Sheet, row: usize, piece: &[u8]) -> Place
         count: spot.at,
         row: spot.row,
     }
+}
+
+// The same, and along one edge more if it opens a buffer.
+#[inline(always)]
+fn open_next(edges: &Edges, sheet: &mut Sheet, row: usize, piece: &[u8]) -> Result<Stride, Memory>
+    requires known { (t : Transducer) × (g : Graph) × IsKnown t g edges.now }
+    requires row { (p : Pair) × IsRowOf edges.now row p }
+    requires sheet { IsSheet sheet.old }
+    requires room { sheet.old.used + 17 * length piece.now + 17 ≤ length sheet.old.bytes.items }
+    ensures within { IfOk result (λ s. s.count ≤ length piece.now) }
+    ensures row { IfOk result (λ s. (p : Pair) × IsRowOf edges.now s.row p) }
+    ensures sheet { OnOk result (IsSheet sheet.new × IsAsLong sheet.old sheet.new) }
+    ensures room { IfOk result (λ s. sheet.new.used + 17 * (length piece.now - s.count) + 17 ≤ length sheet.old.bytes.items) }
+    ensures reached { IfOk result (λ s. (t : Transducer) (a : Position) (out : List ℕ) → IsKnown t a.machine edges.now → ReachedOn t edges.now edges.now a a sheet.old sheet.new row s.row (take s.count piece.now) out out) }
+{
+    let place = along(edges, sheet, row, piece);
+    let count = place.count;
+    if count == piece.len() {
+        return Ok(Stride {
+            count,
+            row: place.row,
+            stops: true,
+        });
+    }
+    let byte = piece[count];
+    let edge = edges.edge_at(place.row, edges.class_of(byte));
+    match edge.kind {
+        Kind::Opens => {
+            open(sheet, byte)?;
+            Ok(Stride {
+                count: count + 1,
+                row: edge.next,
+                stops: false,
+            })
+        }
+        _ => Ok(Stride {
+            count,
+            row: place.row,
+            stops: true,
+        }),
+    }
+}
+
+// Goes along edges while they are written or open a buffer, on a sheet.
+// Not inlined: within a long caller what the loop reads for each byte would stand in memory.
+#[inline(never)]
+fn along_opening(
+    edges: &Edges,
+    sheet: &mut Sheet,
+    from: usize,
+    piece: &[u8],
+) -> Result<Place, Memory>
+    requires known { (t : Transducer) × (g : Graph) × IsKnown t g edges.now }
+    requires row { (p : Pair) × IsRowOf edges.now from p }
+    requires sheet { IsSheet sheet.old }
+    requires room { sheet.old.used + 17 * length piece.now + 17 ≤ length sheet.old.bytes.items }
+    ensures within { IfOk result (λ place. place.count ≤ length piece.now) }
+    ensures sheet { OnOk result (IsSheet sheet.new × IsAsLong sheet.old sheet.new) }
+    ensures reached { IfOk result (λ place. (t : Transducer) (a : Position) (out : List ℕ) → IsKnown t a.machine edges.now → ReachedOn t edges.now edges.now a a sheet.old sheet.new from place.row (take place.count piece.now) out out) }
+{
+    let mut row = from;
+    let mut at = 0;
+    let mut left = piece.len();
+    'rounds: while left > 0 {
+        let gone = open_next(edges, sheet, row, &piece[at..])?;
+        at += gone.count;
+        row = gone.row;
+        left = rounds_left(gone.stops, left);
+    }
+    Ok(Place { count: at, row })
 }
 
 // Does the rest of an edge's actions that can't be done on a sheet.
@@ -258,7 +346,7 @@ fn go_on(
 {
     make_room(edges, row, actor, sheet, out)?;
     let part = part_of(piece);
-    let place = along(edges, sheet, row, part);
+    let place = along_opening(edges, sheet, row, part)?;
     let count = place.count;
     if count == piece.len() {
         return Ok(Stride {

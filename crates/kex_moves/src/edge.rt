@@ -11,6 +11,8 @@ pub enum Kind {
     Text,
     /// Actions, which are done outside of the loop.
     Acts,
+    /// Actions that open a buffer and write the byte alone.
+    Opens,
     /// None of these: a plain step is taken.
     Plain,
     /// It isn't learnt yet.
@@ -40,7 +42,7 @@ impl Kind {
     {
         match self {
             Kind::Keep | Kind::Drop | Kind::Text => true,
-            Kind::Acts | Kind::Plain | Kind::Unknown => false,
+            Kind::Acts | Kind::Opens | Kind::Plain | Kind::Unknown => false,
         }
     }
 

@@ -1,10 +1,12 @@
 // The rows of edges that are learnt, one for each pair of a state and a node.
 
-ghost use Rattle.std.specs.Prelude.{◌≡◌, ◌<◌, ◌≤◌, ◌+◌, ◌*◌, ◌^◌, ◌++◌, ◌∷◌, List, ℕ, [], All, OnOk, IfOk, IfSome, length, take, drop, replicate, slice_get, Some, slice_set, true};
+ghost use Rattle.std.specs.Prelude.{◌≡◌, ◌<◌, ◌≤◌, ◌+◌, ◌*◌, ◌-◌, ◌^◌, IsTrue, ◌++◌, ◌∷◌, List, ℕ, [], All, OnOk, IfOk, IfSome, length, take, drop, replicate, slice_get, Some, slice_set, true};
 ghost use Rattle.kex_machine.specs.declared.MNode.{MNode};
 ghost use Rattle.kex_action.specs.Holdings.{adding};
+ghost use Rattle.kex_model.specs.Acting.{State};
 ghost use Rattle.kex_action.specs.Actions.{done};
-ghost use Rattle.kex_moves.specs.Edges.{is_written};
+ghost use Rattle.kex_action.specs.Sheets.{topped};
+ghost use Rattle.kex_moves.specs.Edges.{is_written, has_acts};
 ghost use Rattle.kex_moves.specs.Runs.{behind, run_of};
 ghost use Rattle.kex_moves.specs.Trails.{IsTrail, IsOver};
 ghost use Rattle.kex_moves.specs.Known.{rows_of, IsEdge, IsOrdered, IsRowOf, HasRowFor, HasPlace, Settles, Widens, Lengthens, Forgets};
@@ -109,6 +111,19 @@ fn kind_of(place: usize, count: usize) -> Kind
     Kind::Text
 }
 
+// The kind of an edge with actions. Those that open a buffer and write the byte alone have a kind of their own where
+// edges are those of bytes.
+fn kind_of_acts(opens: bool, bytes: bool) -> Kind
+    ensures acts { has_acts result ≡ true }
+    ensures opens { result ≡ Kind.Opens → IsTrue opens }
+{
+    if opens && bytes {
+        Kind::Opens
+    } else {
+        Kind::Acts
+    }
+}
+
 // Adds a text, and room to copy 16 bytes from its begin.
 fn append_text(text: &mut Vec<u8>, bytes: &[u8]) -> Result<(), Memory>
     ensures ok { OnOk result (text.new.items ≡ (text.old.items ++ bytes.now) ++ replicate 16 0) }
@@ -148,6 +163,11 @@ impl Edges {
             text,
             acts: Vec::new(alloc),
         })
+    }
+
+    // Whether edges are those of bytes.
+    fn by_state(&self) -> bool {
+        matches!(self.by, By::State)
     }
 
     // Where the head of the pairs stands among which the pair of a state and a node is.
@@ -283,11 +303,16 @@ impl Edges {
         })
     }
 
-    /// An edge to `next` at which the actions are done.
-    pub fn acts_edge(&mut self, next: usize, actions: &[Action]) -> Result<Edge, Memory>
+    /// An edge to `next` at which the actions are done. Whether they only open a buffer and write the byte is told.
+    pub fn acts_edge(
+        &mut self,
+        next: usize,
+        actions: &[Action],
+        opens: bool,
+    ) -> Result<Edge, Memory>
         ensures ordered { IfOk result (λ e. IsOrdered self.new) }
         ensures longer { IfOk result (λ e. Lengthens self.old self.new) }
-        ensures settles { IfOk result (λ e. (nodes : List MNode) → Settles nodes self.new next (λ b. done nodes b actions.now) e) }
+        ensures settles { IfOk result (λ e. (nodes : List MNode) → (IsTrue opens → (b : ℕ) (s : State) → done nodes b actions.now s ≡ topped (b ∷ []) s) → Settles nodes self.new next (λ b. done nodes b actions.now) e) }
     {
         let (Ok(from), Ok(adds)) = (u32::try_from(self.acts.len()), u8::try_from(actions.len()))
         else {
@@ -299,7 +324,7 @@ impl Edges {
             from,
             byte_at: 16,
             adds,
-            kind: Kind::Acts,
+            kind: kind_of_acts(opens, self.by_state()),
         })
     }
 
@@ -315,11 +340,13 @@ impl Edges {
     }
 
     /// Goes along edges from a row while they are written, behind what is used of a buffer.
+    #[inline(always)]
     pub fn run(&self, row: usize, piece: &[u8], buffer: &mut [u8], used: usize) -> Spot
         requires row { (p : Pair) × IsRowOf self.now row p }
         requires room { used + 17 * length piece.now + 17 ≤ length buffer.old }
         ensures at { result.at ≤ length piece.now }
         ensures used { result.used ≤ length buffer.new }
+        ensures room { result.used + 17 * (length piece.now - result.at) + 17 ≤ length buffer.new }
         ensures ran { record { written = take result.used buffer.new; row = result.row; left = drop result.at piece.now } ≡ behind (take used buffer.old) (run_of (rows_of self.now) row piece.now) }
         ensures ordered { IsOrdered self.now }
     {

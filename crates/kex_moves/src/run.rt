@@ -64,8 +64,7 @@ fn skip(classes: &[u8; 256], edges: &[Edge], piece: &[u8], row: usize, from: usi
 }
 
 /// Goes along edges while they are written.
-// Not inlined: within a long caller what the loop reads for each byte would stand in memory.
-#[inline(never)]
+#[inline(always)]
 pub fn run(
     classes: &[u8; 256],
     edges: &[Edge],
@@ -81,6 +80,7 @@ pub fn run(
     ensures at { result.at ≤ length piece.now }
     ensures row { HasRow classes.now edges.now result.row }
     ensures used { result.used ≤ length buffer.new }
+    ensures room { result.used + 17 * (length piece.now - result.at) + 17 ≤ length buffer.new }
     ensures ran { record { written = take result.used buffer.new; row = result.row; left = drop result.at piece.now } ≡ run_from (record { classes = classes.now; edges = edges.now; text = text.now }) piece.now (take from.used buffer.old) from.row from.at }
 {
     let mut at = from.at;

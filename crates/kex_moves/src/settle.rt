@@ -1,10 +1,11 @@
 // What is done along a walk, as an edge.
 
-ghost use Rattle.std.specs.Prelude.{◌≡◌, ℕ, [], ◌∷◌, IfOk, IfSome, slice_set};
+ghost use Rattle.std.specs.Prelude.{◌≡◌, ℕ, [], ◌∷◌, IfOk, IfSome, IsTrue, slice_set};
 ghost use Rattle.kex_model.specs.Acting.{State, done_by};
 ghost use Rattle.kex_machine.specs.Nodes.{node_moves, effect_of};
 ghost use Rattle.kex_action.specs.Holdings.{adding};
 ghost use Rattle.kex_action.specs.Actions.{passing, done_at, done};
+ghost use Rattle.kex_action.specs.Sheets.{topped};
 ghost use Rattle.kex_moves.specs.Known.{HasPlace, IsOrdered, Settles, Lengthens};
 ghost use Rattle.kex_moves.specs.Drafts.{IsDraft, Drafts, IsTurn, Keeps};
 
@@ -195,6 +196,19 @@ fn kept_of(alloc: Global, machine: &Trimmed, actions: &[Action]) -> Result<Vec<A
     Ok(kept)
 }
 
+// Whether the actions only open a buffer and write the byte.
+fn only_open(machine: &Trimmed, actions: &[Action]) -> bool
+    ensures { IsTrue result → (b : ℕ) (s : State) → done machine.now.nodes b actions.now s ≡ topped (b ∷ []) s }
+{
+    let [Action::Node(n), Action::Byte] = actions else {
+        return false;
+    };
+    match effect_at(machine, *n) {
+        Some(Effect::Open) => true,
+        _ => false,
+    }
+}
+
 /// The edge to `next` that does what was noted. Its text or its actions are kept.
 pub fn settle(
     alloc: Global,
@@ -212,7 +226,8 @@ pub fn settle(
         Some(place) => edges.text_edge(next, &bytes, place),
         None => {
             let kept = kept_of(alloc, machine, actions)?;
-            edges.acts_edge(next, &kept)
+            let opens = only_open(machine, &kept);
+            edges.acts_edge(next, &kept, opens)
         }
     }
 }

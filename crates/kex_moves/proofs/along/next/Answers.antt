@@ -1,6 +1,6 @@
 use Rattle.std.proofs.Common.{◌≡◌, ◌∙◌, Some, refl, sym, ap, subst, length, ◌<◌}
 use Rattle.std.specs.Prelude.{slice_get}
-use Rattle.kex_moves.specs.Edges.{is_known}
+use Rattle.kex_moves.specs.Edges.{is_written, is_known}
 use Rattle.kex_moves.specs.Known.{IsRight}
 use Rattle.kex_moves.proofs.Knowing.{pair_known}
 use Rattle.kex_moves.proofs.Going.{right_at}
@@ -22,7 +22,7 @@ returns-in_ok-act-in-Acts-clause-reached c =
     let e = c.edge_at-edge.result in
     let did = c.in_ok-act-in-Acts.ensures {u = tt} in
     let is : slice_get t.classes c.args.byte ≡ Some class = ap (λ l. slice_get l c.args.byte) (sym c.requires.known.classes) ∙ c.class_of.ensures.class in
-    reached_acts t k c.args.actor.now c.act.new.actor c.args.sheet.now c.act.new.sheet c.args.row class c.args.byte e c.args.out.now.items c.act.new.out.items is (λ p r. subst (λ m. IsRight t m.nodes k p class e) (sym c.requires.machine) (right_at t c.args.machine.now k c.args.row class p e c.requires.known r c.class_of.ensures.within c.edge_at-edge.ensures.edge (ap is_known c.in-Acts.is))) c.in-Acts.is did.same.0 did.same.1 did.did
+    reached_acts t k c.args.actor.now c.act.new.actor c.args.sheet.now c.act.new.sheet c.args.row class c.args.byte e c.args.out.now.items c.act.new.out.items is (λ p r. subst (λ m. IsRight t m.nodes k p class e) (sym c.requires.machine) (right_at t c.args.machine.now k c.args.row class p e c.requires.known r c.class_of.ensures.within c.edge_at-edge.ensures.edge (ap is_known c.in-Acts.is))) (ap is_written c.in-Acts.is) did.same.0 did.same.1 did.did
 
 pub returns-in_ok-learnt-in-Unknown-clause-reached : goal.returns-in_ok-learnt-in-Unknown-clause-reached
 returns-in_ok-learnt-in-Unknown-clause-reached c = reached_none c.args.table.now c.args.edges.now c.learn_edge.new.edges c.args.actor.now c.args.sheet.now c.args.row c.args.out.now.items (c.in_ok-learnt-in-Unknown.ensures {u = tt}).rows

@@ -1,8 +1,9 @@
-use Rattle.std.proofs.Common.{◌≡◌, ◌∙◌, ℕ, List, IfSome, set, sym, ap, subst}
+use Rattle.std.proofs.Common.{◌≡◌, ◌∙◌, ◌∷◌, [], ℕ, List, IfSome, IsTrue, set, sym, ap, subst}
 use Rattle.kex_model.specs.Acting.{State}
 use Rattle.kex_machine.specs.declared.MNode.{MNode}
 use Rattle.kex_action.specs.Holdings.{adding}
 use Rattle.kex_action.specs.Actions.{done}
+use Rattle.kex_action.specs.Sheets.{topped}
 use Rattle.kex_moves.specs.declared.edge.Edge.{Edge}
 use Rattle.kex_moves.specs.Known.{Settles}
 use Rattle.kex_moves.proofs.Settling.{settles_same, map_ok}
@@ -23,6 +24,7 @@ pub returns-clause-settles : goal.returns-clause-settles
 returns-clause-settles c =
     let ns = c.args.machine.now.nodes in
     let k = c.acts_edge.new.self in
-    let kept = c.deref-in-None.result.now in
-    let same = λ (b : ℕ) (s : State). c.in_ok-kept-in-None.ensures {u = tt} b s ∙ ap (λ l. done ns b l s) (sym c.deref-in-None.ensures.value) in
-    map_ok (λ (e : Edge). (nodes : List MNode) → Settles nodes k c.args.next (λ b. done nodes b kept) e) (λ (e : Edge). Settles ns k c.args.next (λ b. done ns b c.args.actions.now) e) c.acts_edge.result (λ e h. settles_same ns k c.args.next (λ b. done ns b kept) (λ b. done ns b c.args.actions.now) e same (h ns)) c.acts_edge.ensures.settles
+    let kept = c.deref-in-None-2.result.now in
+    let same = λ (b : ℕ) (s : State). c.in_ok-kept-in-None.ensures {u = tt} b s ∙ ap (λ l. done ns b l s) (sym c.deref-in-None-2.ensures.value) in
+    let told = λ (q : IsTrue c.only_open-opens.result) (b : ℕ) (s : State). ap (λ l. done ns b l s) (c.deref-in-None-2.ensures.value ∙ sym c.deref-in-None.ensures.value) ∙ c.only_open-opens.ensures q b s in
+    map_ok (λ (e : Edge). (nodes : List MNode) → (IsTrue c.only_open-opens.result → (b : ℕ) (s : State) → done nodes b kept s ≡ topped (b ∷ []) s) → Settles nodes k c.args.next (λ b. done nodes b kept) e) (λ (e : Edge). Settles ns k c.args.next (λ b. done ns b c.args.actions.now) e) c.acts_edge.result (λ e h. settles_same ns k c.args.next (λ b. done ns b kept) (λ b. done ns b c.args.actions.now) e same (h ns told)) c.acts_edge.ensures.settles
