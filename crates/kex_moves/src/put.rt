@@ -14,6 +14,9 @@ pub fn put(buffer: &mut [u8], used: usize, byte: u8, text: &[u8], e: Edge)
     ensures len { length buffer.new ≡ length buffer.old }
 {
     let from = e.from as usize;
-    buffer[used..used + 16].copy_from_slice(&text[from..from + 16]);
+    // By a copy, so that nothing asks whether text and buffer overlap.
+    let mut copy = [0; 16];
+    copy.copy_from_slice(&text[from..from + 16]);
+    buffer[used..used + 16].copy_from_slice(&copy);
     buffer[used + e.byte_at as usize] = byte;
 }

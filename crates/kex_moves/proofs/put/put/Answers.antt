@@ -7,5 +7,6 @@ returns-clause-written c =
     let used = c.args.used in
     let xs = c.args.buffer.now in
     let e = c.args.e in
-    let text = copied c.args.text.now c.copy_from_slice.new.self e.from c.requires.edge.text c.copy_from_slice.ensures.after in
-    over_text xs c.copy_from_slice.new.self used e.byte_at (used + 16 - used) e.adds c.args.byte (omega arith) (omega arith) ∙ ap (λ t. take used xs ++ take e.adds (set t e.byte_at c.args.byte)) text.0
+    let copy = c.copy_from_slice-2.new.self in
+    let text = copied c.args.text.now copy e.from c.requires.edge.text (c.copy_from_slice-2.ensures.after ∙ c.copy_from_slice.ensures.after) in
+    over_text xs copy used e.byte_at (used + 16 - used) e.adds c.args.byte (omega arith) (omega arith) ∙ ap (λ t. take used xs ++ take e.adds (set t e.byte_at c.args.byte)) text.0
