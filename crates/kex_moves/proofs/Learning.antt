@@ -1,6 +1,5 @@
 -- Walks for every byte at once.
 use Rattle.std.proofs.Common.{◌≡◌, ℕ, ◌<◌, ◌≤◌, ◌+◌, List, [], ◌∷◌, ◌++◌, length, take, drop, get_or, All, refl, sym, ap, ◌∙◌, subst, append_assoc}
-use Rattle.std.specs.Prelude.{Some}
 use Rattle.std.proofs.lemmas.List.Elements.{All-get_or}
 use Rattle.std.proofs.lemmas.List.{append-nil, drop_more, take_more, take_all, drop_all}
 use Rattle.kex_code.specs.declared.symbol.Symbol.{Symbol}
@@ -8,10 +7,7 @@ use Rattle.kex_code.specs.declared.symbol.Symbol.TheVariants as symbols
 use Rattle.kex_model.specs.Moves.{Move, go, Allows, reads, goes_left, goes_right, goes_forced, goes, Effect, Step, went, code_of, symbols_of, entered, Walk}
 use Rattle.kex_model.specs.Acting.{State, done_by, acted}
 use Rattle.kex_machine.specs.declared.MNode.{MNode}
-use Rattle.kex_machine.specs.declared.MNode.TheVariants.{Accept, Choice, Forced, Do, Skip}
-use Rattle.kex_machine.specs.declared.MNode.TheVariants as nodes
-use Rattle.kex_machine.specs.declared.Effect as effects
-use Rattle.kex_machine.specs.Nodes.{Graph, node_moves, move_of, IsInRange, IsBelow}
+use Rattle.kex_machine.specs.Nodes.{Graph, node_moves, IsInRange, IsBelow}
 use Rattle.kex_action.specs.Holdings.{Rests, Leads, step_by}
 use Rattle.kex_action.proofs.Walking.{first_step}
 use Rattle.kex_action.proofs.Looping.{entered_in}

@@ -3,7 +3,7 @@ use Rattle.std.specs.Prelude.{◌≡◌, ◌<◌, ◌≤◌, ◌+◌, ◌*◌, �
 use Rattle.kex_code.specs.declared.symbol.Symbol.{Symbol}
 use Rattle.kex_model.specs.Acting.{State}
 use Rattle.kex_machine.specs.declared.MNode.{MNode}
-use Rattle.kex_machine.specs.Nodes.{Graph, node_moves}
+use Rattle.kex_machine.specs.Nodes.{Graph}
 use Rattle.kex_action.specs.declared.action.Action.{Action}
 use Rattle.kex_action.specs.Holdings.{Does, adding}
 use Rattle.kex_action.specs.Actions.{done}

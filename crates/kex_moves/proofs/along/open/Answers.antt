@@ -1,4 +1,4 @@
-use Rattle.std.proofs.Common.{◌∙◌, ◌+◌, ◌∷◌, [], length, reverse, refl, ap, arith}
+use Rattle.std.proofs.Common.{◌∙◌, ◌+◌, ◌∷◌, [], reverse, refl, ap, arith}
 use Rattle.std.specs.Vec.{with_item}
 use Rattle.std.proofs.Math.ListN.{length-set}
 use Rattle.std.proofs.lemmas.List.{take_more_set}

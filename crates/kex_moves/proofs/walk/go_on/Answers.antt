@@ -1,4 +1,4 @@
-use Rattle.std.proofs.Common.{◌∙◌, Some, sym, ap, subst}
+use Rattle.std.proofs.Common.{◌∙◌, Some, ap}
 use Rattle.kex_machine.specs.Nodes.{move_of, effect_of}
 use Rattle.kex_model.specs.Moves.{nothing}
 use Rattle.kex_action.proofs.Leading.{move_at}
