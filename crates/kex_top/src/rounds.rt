@@ -15,17 +15,20 @@ use std::thread::Threads;
 /// The most bytes that are given at once.
 const PART: usize = 4096;
 
+/// So many bytes of output are worth a write before the block is worked off.
+const ENOUGH: usize = 65_536;
+
 /// When what the stages say goes out.
 #[derive(Clone, Copy, Debug, PartialEq, Eq)]
 pub(crate) enum Pace {
-    /// After each part of a block behind which nothing waits, and when the block is worked off.
+    /// After a part of a block behind which nothing waits, where there is enough of it, and when the block is worked off.
     Parts,
     /// When a block is worked off.
     Blocks,
 }
 
 /// Gives bytes in parts, with a round after each: a stage works on one part while the next works on what came of the part before.
-/// Tells how many were given: all, or by parts as many as leave nothing waiting.
+/// Tells how many were given: all, or by parts as many as leave nothing waiting and enough output.
 pub(crate) fn give_front<R: Threads + Sync, T: Turn + Drop + Send, G: Gate + Sync>(
     rt: &R,
     pipe: &mut Pipe<T>,
@@ -49,7 +52,7 @@ pub(crate) fn give_front<R: Threads + Sync, T: Turn + Drop + Send, G: Gate + Syn
             return Err(Memory);
         };
         given = end;
-        if pace == Pace::Parts && pipe.settled() {
+        if pace == Pace::Parts && pipe.output_length() >= ENOUGH && pipe.settled() {
             return Ok(given);
         }
     }

@@ -43,15 +43,16 @@ fn blocks_and_pieces_are_long(rt: HostRuntime) -> Result<(), Fail> {
     Ok(())
 }
 
-// What one stage says of a part of a block is written before the next part is given. The second write fails.
+// What one stage says is written before the next part of a block is given, where there are 65,536 bytes of it. The second write fails.
 #[test]
 fn parts_are_written(rt: HostRuntime) -> Result<(), Fail> {
     let alloc = rt.alloc();
-    let input = around(alloc, b"", b"a", 5_000, b"")?;
-    let part = around(alloc, b"", b"a", 4_096, b"")?;
-    let code = around(alloc, b"", b"0'61", 4_096, b"")?;
+    let input = around(alloc, b"", b"a", 20_000, b"")?;
+    let part = around(alloc, b"", b"yyyyyyyyyyyyyyyy", 4_096, b"")?;
+    let code = around(alloc, b"", b"0'61", 16_384, b"")?;
     let cases = [
         Case {
+            program: b"main := (~/a/ \"yyyyyyyyyyyyyyyy\")*",
             input: &input,
             failing_writes: &[2],
             held: &part,
