@@ -4,7 +4,7 @@ use Rattle.kex_model.specs.Trees.{root_of}
 use Rattle.kex_pipe.specs.Reports.{report_as}
 use Rattle.std.proofs.Common.{◌≡◌, ◌<◌, ℕ, suc, arith, List, [], ◌∷◌, Bool, true, false, refl, sym, ◌∙◌, subst, ap, inl, inr, ⊎_elim, length, get_or, map}
 use Rattle.std.specs.Prelude.{◌⊎◌, ◌↔◌, Option, Some, None}
-use Rattle.kex_ports.specs.Shelf.{IsTold}
+use Rattle.kex_ports.specs.Shelf.{ShelfText, IsTold}
 use Rattle.kex_machine.specs.Nodes.{Graph}
 use Rattle.kex_code.specs.Codes.{IsAmong}
 use Rattle.kex_model.specs.Answers.{Answer, Pipeline, bad_byte, too_long, cut_off, whole, still_open}
@@ -252,7 +252,7 @@ module _ {A : Type 0} (F : A → List ℕ → Bool → Answer → Type 0) (x : A
       block source sink s r
       )
 
-pub runs_by : (mode : Mode) (limit block : ℕ) (told : Option (Option (List ℕ))) (text : List ℕ) (plans : Plans) (source sink : Change) (s : Status) → IsTold told text → IsCompiled (limits_of mode) text plans → Ran (MachinesSay mode limit plans.stages) block source sink s → Runs mode limit block told source sink s
+pub runs_by : (mode : Mode) (limit block : ℕ) (told : ShelfText) (text : List ℕ) (plans : Plans) (source sink : Change) (s : Status) → IsTold told text → IsCompiled (limits_of mode) text plans → Ran (MachinesSay mode limit plans.stages) block source sink s → Runs mode limit block told source sink s
 runs_by mode limit block told text plans source sink s is_told p r = record {
   text = text;
   is_told = is_told;
@@ -265,7 +265,7 @@ runs_by mode limit block told text plans source sink s is_told p r = record {
 }
 
 -- a run's status is none that comes before a run
-pub answers_by : (mode : Mode) (limit block : ℕ) (told : Option (Option (List ℕ))) (source sink : Change) (s : Status) → Runs mode limit block told source sink s → Answers mode limit block told source sink s
+pub answers_by : (mode : Mode) (limit block : ℕ) (told : ShelfText) (source sink : Change) (s : Status) → Runs mode limit block told source sink s → Answers mode limit block told source sink s
 answers_by mode limit block told source sink Done r = r
 answers_by mode limit block told source sink (Rejected x) r = r
 answers_by mode limit block told source sink (TooLong x) r = r
@@ -276,11 +276,11 @@ answers_by mode limit block told source sink Usage r = r.ran.ends
 answers_by mode limit block told source sink (Refused x) r = absurd r.ran.ends
 answers_by mode limit block told source sink ShelfFault r = absurd r.ran.ends
 
-pub served : (mode : Mode) (limit block : ℕ) (told : Option (Option (List ℕ))) (text : List ℕ) (plans : Plans) (source sink : Change) (s : Status) → IsTold told text → IsCompiled (limits_of mode) text plans → (Left source sink × (s ≡ Memory)) ⊎ Ran (MachinesSay mode limit plans.stages) block source sink s → Answers mode limit block told source sink s
+pub served : (mode : Mode) (limit block : ℕ) (told : ShelfText) (text : List ℕ) (plans : Plans) (source sink : Change) (s : Status) → IsTold told text → IsCompiled (limits_of mode) text plans → (Left source sink × (s ≡ Memory)) ⊎ Ran (MachinesSay mode limit plans.stages) block source sink s → Answers mode limit block told source sink s
 served mode limit block told text plans source sink s t p (inl x) = subst (λ z. Answers mode limit block told source sink z) (sym x.1) (inl x.0)
 served mode limit block told text plans source sink s t p (inr r) = answers_by mode limit block told source sink s (runs_by mode limit block told text plans source sink s t p r)
 
-pub refused_by : (mode : Mode) (limit block : ℕ) (told : Option (Option (List ℕ))) (text : List ℕ) (rule : CompileRefusal) (source sink : Change) (s : Status) → IsTold told text → IsRefused (limits_of mode) text rule → Left source sink → IsStatusOf text rule s → Answers mode limit block told source sink s
+pub refused_by : (mode : Mode) (limit block : ℕ) (told : ShelfText) (text : List ℕ) (rule : CompileRefusal) (source sink : Change) (s : Status) → IsTold told text → IsRefused (limits_of mode) text rule → Left source sink → IsStatusOf text rule s → Answers mode limit block told source sink s
 refused_by mode limit block told text rule source sink Memory t h l i = inl l
 refused_by mode limit block told text rule source sink (Refused r) t h l i = (l, inr (record { text = text; is_told = t; rule = rule; is_refused = h; is_shown = i }))
 refused_by mode limit block told text rule source sink Done t h l i = absurd i
@@ -293,7 +293,7 @@ refused_by mode limit block told text rule source sink ShelfFault t h l i = absu
 
 -- ---- a check
 
-pub check_refused : (asked : ℕ) (told : Option (Option (List ℕ))) (text : List ℕ) (rule : CompileRefusal) (source sink : Change) (s : Status) → IsTold told text → IsRefused (limits_to_check asked) text rule → Left source sink → IsStatusOf text rule s → Checks asked told source sink s
+pub check_refused : (asked : ℕ) (told : ShelfText) (text : List ℕ) (rule : CompileRefusal) (source sink : Change) (s : Status) → IsTold told text → IsRefused (limits_to_check asked) text rule → Left source sink → IsStatusOf text rule s → Checks asked told source sink s
 check_refused asked told text rule source sink Memory t h l i = l
 check_refused asked told text rule source sink (Refused r) t h l i = (l, inr (record { text = text; is_told = t; rule = rule; is_refused = h; is_shown = i }))
 check_refused asked told text rule source sink Done t h l i = absurd i
@@ -305,7 +305,7 @@ check_refused asked told text rule source sink Usage t h l i = absurd i
 check_refused asked told text rule source sink ShelfFault t h l i = absurd i
 
 -- the counts of the plans are those of the program
-counted : (asked : ℕ) (told : Option (Option (List ℕ))) (text : List ℕ) (plans : Plans) (Q : List ℕ → Type 0) → IsTold told text → IsCompiled (limits_to_check asked) text plans → Q (counts_line (record { stages = length plans.stages; places = plans.places; states = plans.states })) → Counted asked told Q
+counted : (asked : ℕ) (told : ShelfText) (text : List ℕ) (plans : Plans) (Q : List ℕ → Type 0) → IsTold told text → IsCompiled (limits_to_check asked) text plans → Q (counts_line (record { stages = length plans.stages; places = plans.places; states = plans.states })) → Counted asked told Q
 counted asked told text plans Q t p q =
     let n = as-many p.program 1 (roots_of p.program) plans.stages p.plans_of.stages in
     let m = length-map p.program.stages (λ s. root_of p.program s.name) in
@@ -322,7 +322,7 @@ counted asked told text plans Q t p q =
       written = subst (λ k. Q (counts_line (record { stages = k; places = plans.places; states = plans.states }))) same q;
     }
 
-pub checked : (asked : ℕ) (told : Option (Option (List ℕ))) (text : List ℕ) (plans : Plans) (source sink : Change) (s : Status) → IsTold told text → IsCompiled (limits_to_check asked) text plans → IsLeft source → Told (counts_line (record { stages = length plans.stages; places = plans.places; states = plans.states })) sink s → Checks asked told source sink s
+pub checked : (asked : ℕ) (told : ShelfText) (text : List ℕ) (plans : Plans) (source sink : Change) (s : Status) → IsTold told text → IsCompiled (limits_to_check asked) text plans → IsLeft source → Told (counts_line (record { stages = length plans.stages; places = plans.places; states = plans.states })) sink s → Checks asked told source sink s
 checked asked told text plans source sink Done t p l q = (l, counted asked told text plans (λ line. GainsWhole sink line) t p q)
 checked asked told text plans source sink WriteFault t p l q = (l, counted asked told text plans (λ line. GainsFront sink line) t p q)
 checked asked told text plans source sink (Rejected x) t p l q = absurd q

@@ -3,7 +3,7 @@ use Rattle.std.proofs.Common.{◌≡◌, ◌++◌, ◌≤◌, ◌<◌, ℕ, suc,
 use Rattle.std.specs.Prelude.{◌⊎◌, Option, Some, None}
 use Rattle.std.specs.Io.KnownBytes.{Appends, Consumes, IsAtEnd}
 use Rattle.kex_code.specs.Codes.{Begins, IsAmong}
-use Rattle.kex_ports.specs.Shelf.{IsTold, IsPast}
+use Rattle.kex_ports.specs.Shelf.{ShelfText, untold, absent, present, IsTold, IsPast}
 use Rattle.kex_ports.proofs.Known.{append-nil}
 use Rattle.kex_model.specs.Programs.{Grammar}
 use Rattle.kex_model.specs.Places.{HasEmptyLoop, moves, start_of, steps_of}
@@ -179,28 +179,29 @@ unrejected_by P mode limit run (Some xs) (Some ys) w input e said done r is read
     let same : input ≡ xs = cc in
     unrejected P limit mode run w ys input e said done r (same ∙ read) end h rep k n
 
-told-same : (told : Option (Option (List ℕ))) (text other : List ℕ) → told ≡ Some (Some text) → IsTold told other → other ≡ text
-told-same None text other is t = cc
-told-same (Some x) text other is t = cc
+told-same : (told : ShelfText) (text other : List ℕ) → told ≡ present text → IsTold told other → other ≡ text
+told-same untold text other is t = cc
+told-same absent text other is t = cc
+told-same (present x) text other is t = cc
 
-unbroken : (told : Option (Option (List ℕ))) (text : List ℕ) (s : ShelfChange) → told ≡ Some (Some text) → IsQuiet s.breaks_before s.breaks_now → Broke told s → ⊥
+unbroken : (told : ShelfText) (text : List ℕ) (s : ShelfChange) → told ≡ present text → IsQuiet s.breaks_before s.breaks_now → Broke told s → ⊥
 unbroken told text s is quiet broke =
-    let P : Option (Option (List ℕ)) → Type 0 = λ t. Broke t s in
+    let P : ShelfText → Type 0 = λ t. Broke t s in
     let b = subst P is broke in
     let rose = b.1 in omega arith
 
 shown_memory : (text : List ℕ) (r : Refusal) (rule : CompileRefusal) → rule ≡ compile.Memory → IsRefusalOf text rule r → ⊥
 shown_memory text r rule e i = subst (λ z. IsRefusalOf text z r) e i
 
-unrefused : (limits : Limits) (told : Option (Option (List ℕ))) (text : List ℕ) (r : Refusal) → told ≡ Some (Some text) → length text ≤ most_text → ((rule : CompileRefusal) → IsRefused limits text rule → rule ≡ compile.Memory) → IsRefusedFor limits told r → ⊥
+unrefused : (limits : Limits) (told : ShelfText) (text : List ℕ) (r : Refusal) → told ≡ present text → length text ≤ most_text → ((rule : CompileRefusal) → IsRefused limits text rule → rule ≡ compile.Memory) → IsRefusedFor limits told r → ⊥
 unrefused limits told text r is short good (inl past) =
-    let P : Option (Option (List ℕ)) → Type 0 = λ t. IsPast t most_text in
+    let P : ShelfText → Type 0 = λ t. IsPast t most_text in
     let long : most_text < length text = subst P is past.0 in omega arith
 unrefused limits told text r is short good (inr b) =
     let same : b.text ≡ text = told-same told text b.text is b.is_told in
     shown_memory b.text r b.rule (good b.rule (subst (λ t. IsRefused limits t b.rule) same b.is_refused)) b.is_shown
 
-ran-good : (mode : Mode) (limit block : ℕ) (told : Option (Option (List ℕ))) (shelf : ShelfChange) (source sink : Change) (s : Status) (r : Report) → IsGood mode limit told shelf source sink → (p : Runs mode limit block told source sink s) → WritesAll (SaysBy mode p.program limit) p.ran.w p.ran.e (Some r) sink → ⊥
+ran-good : (mode : Mode) (limit block : ℕ) (told : ShelfText) (shelf : ShelfChange) (source sink : Change) (s : Status) (r : Report) → IsGood mode limit told shelf source sink → (p : Runs mode limit block told source sink s) → WritesAll (SaysBy mode p.program limit) p.ran.w p.ran.e (Some r) sink → ⊥
 ran-good mode limit block told shelf source sink s r g p all =
     let same : p.text ≡ g.text = told-same told g.text p.text g.is_told p.is_told in
     let goes = by p.text same p.program p.accepts.spells in
@@ -209,7 +210,7 @@ ran-good mode limit block told shelf source sink s r g p all =
     by : (text : List ℕ) → text ≡ g.text → (P : Grammar) → Spells text P → (said : Said) × SaysBy mode P limit g.input true said × (said.report ≡ None)
     by text e = subst (λ t. (P : Grammar) → Spells t P → (said : Said) × SaysBy mode P limit g.input true said × (said.report ≡ None)) (sym e) g.parses
 
-pub completes : (mode : Mode) (limit block : ℕ) (told : Option (Option (List ℕ))) (shelf : ShelfChange) (source sink : Change) (s : Status) → IsGood mode limit told shelf source sink → ShelfAnswers told shelf s → Answers mode limit block told source sink s → (s ≡ Done) ⊎ (s ≡ Memory)
+pub completes : (mode : Mode) (limit block : ℕ) (told : ShelfText) (shelf : ShelfChange) (source sink : Change) (s : Status) → IsGood mode limit told shelf source sink → ShelfAnswers told shelf s → Answers mode limit block told source sink s → (s ≡ Done) ⊎ (s ≡ Memory)
 completes mode limit block told shelf source sink Done g h a = inl refl
 completes mode limit block told shelf source sink Memory g h a = inr refl
 completes mode limit block told shelf source sink Usage g h a = absurd a
@@ -222,7 +223,7 @@ completes mode limit block told shelf source sink ReadFault g h a =
 completes mode limit block told shelf source sink WriteFault g h a =
     let rose = a.ran.ends.2.1 in let quiet = g.writable in absurd (omega arith)
 
-pub check_completes : (asked : ℕ) (told : Option (Option (List ℕ))) (shelf : ShelfChange) (source sink : Change) (s : Status) → IsSound asked told shelf sink → ShelfAnswers told shelf s → Checks asked told source sink s → (s ≡ Done) ⊎ (s ≡ Memory)
+pub check_completes : (asked : ℕ) (told : ShelfText) (shelf : ShelfChange) (source sink : Change) (s : Status) → IsSound asked told shelf sink → ShelfAnswers told shelf s → Checks asked told source sink s → (s ≡ Done) ⊎ (s ≡ Memory)
 check_completes asked told shelf source sink Done g h a = inl refl
 check_completes asked told shelf source sink Memory g h a = inr refl
 check_completes asked told shelf source sink ShelfFault g h a = absurd (unbroken told g.text shelf g.is_told g.on_shelf h.1)
@@ -237,7 +238,7 @@ check_completes asked told shelf source sink ReadFault g h a = absurd a
 pub trial_completes : (lines : ℕ) (sink : Change) (s : Status) → KeepsRules sink → Tries lines sink s → (s ≡ Done) ⊎ (s ≡ Memory)
 trial_completes lines sink Done g a = inl refl
 trial_completes lines sink Memory g a = inr refl
-trial_completes lines sink (Refused k) g a = absurd (shown_memory a.1.text k a.1.rule (g.unbroken a.1.rule (subst (λ t. IsRefused (limits_to_check usual_states) t a.1.rule) (told-same (Some (Some trial_text)) trial_text a.1.text refl a.1.is_told) a.1.is_refused)) a.1.is_shown)
+trial_completes lines sink (Refused k) g a = absurd (shown_memory a.1.text k a.1.rule (g.unbroken a.1.rule (subst (λ t. IsRefused (limits_to_check usual_states) t a.1.rule) (told-same (present trial_text) trial_text a.1.text refl a.1.is_told) a.1.is_refused)) a.1.is_shown)
 trial_completes lines sink WriteFault g a =
     let rose = a.written.1.1 in let quiet = g.writable in absurd (omega arith)
 trial_completes lines sink Usage g a = absurd a
@@ -285,7 +286,7 @@ all-meant P limit i (root ∷ rs) w text r (a, rest, gives, others, is) none =
     let m = whole_of P root limit gives n.0 in
     (m.0, a.text, m.1, all-meant P limit (suc i) rs a.text text rest (subst (λ z. Pipeline (λ root v d b. StageAnswers P root limit v d b) (suc i) rs a.text z text rest) m.2 others) n.1)
 
-pub done-as-told : (states limit block : ℕ) (told : Option (Option (List ℕ))) (source sink : Change) (s : Status) (text input before : List ℕ) → told ≡ Some (Some text) → source.old ≡ Some input → sink.old ≡ Some before → s ≡ Done → Answers (running states) limit block told source sink s → Headline states text limit input before source.new sink.new
+pub done-as-told : (states limit block : ℕ) (told : ShelfText) (source sink : Change) (s : Status) (text input before : List ℕ) → told ≡ present text → source.old ≡ Some input → sink.old ≡ Some before → s ≡ Done → Answers (running states) limit block told source sink s → Headline states text limit input before source.new sink.new
 done-as-told states limit block told source sink s text input before is rest held done answers =
     let p : Runs (running states) limit block told source sink Done = subst (λ x. Answers (running states) limit block told source sink x) done answers in
     let same : p.text ≡ text = told-same told text p.text is p.is_told in

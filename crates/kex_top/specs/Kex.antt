@@ -1,6 +1,6 @@
 -- What a call of the program leaves, by its answer.
 use Rattle.std.specs.Prelude.{◌≡◌, ◌⊎◌, ◌+◌, ◌-◌, ◌^◌, ◌<◌, ◌≤◌, ℕ, true, List, [], ◌++◌, Option, Some, None, length, min, take}
-use Rattle.kex_ports.specs.Shelf.{IsTold, IsPast}
+use Rattle.kex_ports.specs.Shelf.{ShelfText, untold, absent, present, IsTold, IsPast}
 use Rattle.kex_ports.specs.Causes.{Rose}
 use Rattle.kex_model.specs.Programs.{Grammar}
 use Rattle.kex_reader.specs.Spelling.{Spells}
@@ -62,13 +62,13 @@ abbrev pub ShelfIsLeft : ShelfChange → Type 0
 ShelfIsLeft s = (s.faults_now ≡ s.faults_before) × (s.breaks_now ≡ s.breaks_before)
 
 -- Breaks rose where the name is known to have a text.
-abbrev pub Broke : Option (Option (List ℕ)) → ShelfChange → Type 0
-Broke None s = s.breaks_before ≤ s.breaks_now
-Broke (Some None) s = s.breaks_now ≡ s.breaks_before
-Broke (Some (Some text)) s = (s.breaks_before ≤ s.breaks_now) × Rose s.breaks_before s.breaks_now
+abbrev pub Broke : ShelfText → ShelfChange → Type 0
+Broke untold s = s.breaks_before ≤ s.breaks_now
+Broke absent s = s.breaks_now ≡ s.breaks_before
+Broke (present text) s = (s.breaks_before ≤ s.breaks_now) × Rose s.breaks_before s.breaks_now
 
 -- The shelf failed exactly where the answer says so.
-abbrev pub ShelfAnswers : Option (Option (List ℕ)) → ShelfChange → Status → Type 0
+abbrev pub ShelfAnswers : ShelfText → ShelfChange → Status → Type 0
 ShelfAnswers told s ShelfFault = ((s.faults_before ≤ s.faults_now) × Rose s.faults_before s.faults_now) × Broke told s
 ShelfAnswers told s _ = ShelfIsLeft s
 
@@ -117,7 +117,7 @@ IsStatusOf text rule (Refused r) = IsRefusalOf text rule r
 IsStatusOf text rule _ = ⊥
 
 -- A text that is told breaks this rule.
-pub record Breaks (limits : Limits) (told : Option (Option (List ℕ))) (r : Refusal) : Type 0 where
+pub record Breaks (limits : Limits) (told : ShelfText) (r : Refusal) : Type 0 where
   pub text : List ℕ
   pub is_told : IsTold told text
   pub rule : CompileRefusal
@@ -125,28 +125,28 @@ pub record Breaks (limits : Limits) (told : Option (Option (List ℕ))) (r : Ref
   pub is_shown : IsRefusalOf text rule r
 
 -- What is told is past the limit, or breaks the rule.
-abbrev pub IsRefusedFor : Limits → Option (Option (List ℕ)) → Refusal → Type 0
+abbrev pub IsRefusedFor : Limits → ShelfText → Refusal → Type 0
 IsRefusedFor limits told r = (IsPast told most_text × (r ≡ broken TextTooLong)) ⊎ Breaks limits told r
 
 -- A program that the told text spells ran.
-pub record Runs (mode : Mode) (limit block : ℕ) (told : Option (Option (List ℕ))) (source sink : Change) (status : Status) : Type 0 where
+pub record Runs (mode : Mode) (limit last : ℕ) (told : ShelfText) (source sink : Change) (status : Status) : Type 0 where
   pub text : List ℕ
   pub is_told : IsTold told text
   pub program : Grammar
   pub accepts : Accepts (limits_of mode) text program
-  pub ran : Ran (SaysBy mode program limit) block source sink status
+  pub ran : Ran (SaysBy mode program limit) last source sink status
 
 -- What each answer says, where the words are in form.
-abbrev pub Answers : Mode → ℕ → ℕ → Option (Option (List ℕ)) → Change → Change → Status → Type 0
-Answers mode limit block told source sink Usage = ⊥
-Answers mode limit block told source sink ShelfFault = Left source sink
-Answers mode limit block told source sink (Refused r) = Left source sink × IsRefusedFor (limits_of mode) told r
-Answers mode limit block told source sink Memory = Left source sink ⊎ Runs mode limit block told source sink Memory
-Answers mode limit block told source sink Done = Runs mode limit block told source sink Done
-Answers mode limit block told source sink (Rejected r) = Runs mode limit block told source sink (Rejected r)
-Answers mode limit block told source sink (TooLong r) = Runs mode limit block told source sink (TooLong r)
-Answers mode limit block told source sink ReadFault = Runs mode limit block told source sink ReadFault
-Answers mode limit block told source sink WriteFault = Runs mode limit block told source sink WriteFault
+abbrev pub Answers : Mode → ℕ → ℕ → ShelfText → Change → Change → Status → Type 0
+Answers mode limit last told source sink Usage = ⊥
+Answers mode limit last told source sink ShelfFault = Left source sink
+Answers mode limit last told source sink (Refused r) = Left source sink × IsRefusedFor (limits_of mode) told r
+Answers mode limit last told source sink Memory = Left source sink ⊎ Runs mode limit last told source sink Memory
+Answers mode limit last told source sink Done = Runs mode limit last told source sink Done
+Answers mode limit last told source sink (Rejected r) = Runs mode limit last told source sink (Rejected r)
+Answers mode limit last told source sink (TooLong r) = Runs mode limit last told source sink (TooLong r)
+Answers mode limit last told source sink ReadFault = Runs mode limit last told source sink ReadFault
+Answers mode limit last told source sink WriteFault = Runs mode limit last told source sink WriteFault
 
 -- The line was written, or a front of it.
 abbrev pub Told : List ℕ → Change → Status → Type 0
@@ -155,7 +155,7 @@ Told line sink WriteFault = GainsFront sink line
 Told line sink _ = ⊥
 
 -- A program that the told text spells was counted, and so was its line written.
-pub record Counted (asked : ℕ) (told : Option (Option (List ℕ))) (Written : List ℕ → Type 0) : Type 0 where
+pub record Counted (asked : ℕ) (told : ShelfText) (Written : List ℕ → Type 0) : Type 0 where
   pub text : List ℕ
   pub is_told : IsTold told text
   pub program : Grammar
@@ -167,7 +167,7 @@ pub record Counted (asked : ℕ) (told : Option (Option (List ℕ))) (Written : 
   pub written : Written (counts_line (record { stages = length program.stages; places = places; states = states }))
 
 -- What each answer to a check of at most so many states says. Nothing is read.
-abbrev pub Checks : ℕ → Option (Option (List ℕ)) → Change → Change → Status → Type 0
+abbrev pub Checks : ℕ → ShelfText → Change → Change → Status → Type 0
 Checks asked told source sink ShelfFault = Left source sink
 Checks asked told source sink (Refused r) = Left source sink × IsRefusedFor (limits_to_check asked) told r
 Checks asked told source sink Memory = Left source sink
@@ -186,10 +186,10 @@ abbrev pub IsQuiet : ℕ → ℕ → Type 0
 IsQuiet before now = now < min (before + 1) (2 ^ 64 - 1)
 
 -- The program breaks no rule, the whole input and what each stage hands on parse within the limit, and no count rose.
-pub record IsGood (mode : Mode) (limit : ℕ) (told : Option (Option (List ℕ))) (shelf : ShelfChange) (source sink : Change) : Type 0 where
+pub record IsGood (mode : Mode) (limit : ℕ) (told : ShelfText) (shelf : ShelfChange) (source sink : Change) : Type 0 where
   pub text : List ℕ
   pub input : List ℕ
-  pub is_told : told ≡ Some (Some text)
+  pub is_told : told ≡ present text
   pub short : length text ≤ most_text
   pub unbroken : (rule : CompileRefusal) → IsRefused (limits_of mode) text rule → rule ≡ compile.Memory
   pub rest : source.old ≡ Some input
@@ -199,9 +199,9 @@ pub record IsGood (mode : Mode) (limit : ℕ) (told : Option (Option (List ℕ))
   pub writable : IsQuiet sink.before sink.now
 
 -- The program breaks no rule, and no count rose that a check raises.
-pub record IsSound (asked : ℕ) (told : Option (Option (List ℕ))) (shelf : ShelfChange) (sink : Change) : Type 0 where
+pub record IsSound (asked : ℕ) (told : ShelfText) (shelf : ShelfChange) (sink : Change) : Type 0 where
   pub text : List ℕ
-  pub is_told : told ≡ Some (Some text)
+  pub is_told : told ≡ present text
   pub short : length text ≤ most_text
   pub unbroken : (rule : CompileRefusal) → IsRefused (limits_to_check asked) text rule → rule ≡ compile.Memory
   pub on_shelf : IsQuiet shelf.breaks_before shelf.breaks_now

@@ -55,14 +55,14 @@ module _ (says : List ℕ → Bool → Said → Type 0) where
     pub reports : said.report ≡ report
     pub appended : Appends sink.old sink.new said.text
 
-  -- After a failed write: a front of the text, that begins with the text of all bytes read but for the last block at most.
-  pub record WritesBegun (block : ℕ) (w : List ℕ) (e : Bool) (sink : Change) : Type 0 where
+  -- After a failed write: a front of the text, that begins with the text of all bytes read but for as many as the last read gave, at most.
+  pub record WritesBegun (last : ℕ) (w : List ℕ) (e : Bool) (sink : Change) : Type 0 where
     pub said : Said
     pub is_said : says w e said
     pub added : List ℕ
     pub appended : Appends sink.old sink.new added
     pub front : IsPrefix added said.text
-    pub begun : block < length w → (v u : List ℕ) × (earlier : Said) × (w ≡ v ++ u) × (length u ≤ block) × says v false earlier × IsPrefix earlier.text added
+    pub begun : last < length w → (v u : List ℕ) × (earlier : Said) × (w ≡ v ++ u) × (length u ≤ last) × says v false earlier × IsPrefix earlier.text added
 
   -- Some front of w said the bytes.
   abbrev pub IsSaidBy : List ℕ → List ℕ → Type 0
@@ -77,24 +77,24 @@ module _ (says : List ℕ → Bool → Said → Type 0) where
 
   -- What each status says of a run that read w, and the end after it where e.
   abbrev pub EndsAs : ℕ → List ℕ → Bool → Change → Change → Status → Type 0
-  EndsAs block w e source sink Done = (e ≡ true) × WritesAll w e None sink × (source.now ≡ source.before) × (sink.now ≡ sink.before)
-  EndsAs block w e source sink (Rejected r) =
+  EndsAs last w e source sink Done = (e ≡ true) × WritesAll w e None sink × (source.now ≡ source.before) × (sink.now ≡ sink.before)
+  EndsAs last w e source sink (Rejected r) =
       (status_of (Some r) ≡ Rejected r) × WritesAll w e (Some r) sink × (source.now ≡ source.before) × (sink.now ≡ sink.before)
-  EndsAs block w e source sink (TooLong r) =
+  EndsAs last w e source sink (TooLong r) =
       (status_of (Some r) ≡ TooLong r) × WritesAll w e (Some r) sink × (source.now ≡ source.before) × (sink.now ≡ sink.before)
-  EndsAs block w e source sink ReadFault = (e ≡ false) × WritesAll w e None sink × HasFailed source × (sink.now ≡ sink.before)
-  EndsAs block w e source sink WriteFault = WritesBegun block w e sink × (source.before ≤ source.now) × HasFailed sink
-  EndsAs block w e source sink Memory = WritesEarlier w e sink × (source.now ≡ source.before) × (sink.now ≡ sink.before)
-  EndsAs block w e source sink _ = ⊥
+  EndsAs last w e source sink ReadFault = (e ≡ false) × WritesAll w e None sink × HasFailed source × (sink.now ≡ sink.before)
+  EndsAs last w e source sink WriteFault = WritesBegun last w e sink × (source.before ≤ source.now) × HasFailed sink
+  EndsAs last w e source sink Memory = WritesEarlier w e sink × (source.now ≡ source.before) × (sink.now ≡ sink.before)
+  EndsAs last w e source sink _ = ⊥
 
   -- A run: what it read, whether to the end, and what its status says.
-  pub record Ran (block : ℕ) (source sink : Change) (status : Status) : Type 0 where
+  pub record Ran (last : ℕ) (source sink : Change) (status : Status) : Type 0 where
     pub w : List ℕ
     pub e : Bool
     pub read : Consumes source.old source.new w
     pub ended : e ≡ true → IsAtEnd source.new
-    pub ends : EndsAs block w e source sink status
+    pub ends : EndsAs last w e source sink status
 
   -- A run before the sink is closed: where all was written, something is said on what was read as open input.
   abbrev pub Pumped : ℕ → Change → Change → Status → Type 0
-  Pumped block source sink status = (ran : Ran block source sink status) × (is_whole status ≡ true → (earlier : Said) × says ran.w false earlier)
+  Pumped last source sink status = (ran : Ran last source sink status) × (is_whole status ≡ true → (earlier : Said) × says ran.w false earlier)

@@ -9,6 +9,7 @@ use Rattle.kex_words.specs.Gains.{Change, GainsFront, GainsWhole}
 use Rattle.kex_words.specs.Lines.{trial_line}
 use Rattle.kex_words.specs.declared.counts.Summary.{Summary}
 use Rattle.kex_top.specs.Answer.{Said}
+use Rattle.kex_ports.specs.Shelf.{present}
 use Rattle.kex_top.specs.Kex.{Breaks, IsQuiet}
 use Rattle.kex_top.specs.Modes.{limits_to_check}
 use Rattle.kex_top.specs.Pipelines.{Answered}
@@ -72,7 +73,7 @@ pub record Tried (lines : ℕ) (Written : List ℕ → Type 0) : Type 0 where
 
 -- what each answer to a trial of so many lines says
 abbrev pub Tries : ℕ → Change → Status → Type 0
-Tries lines sink (Refused r) = IsLeft sink × Breaks (limits_to_check usual_states) (Some (Some trial_text)) r
+Tries lines sink (Refused r) = IsLeft sink × Breaks (limits_to_check usual_states) (present trial_text) r
 Tries lines sink Memory = IsLeft sink
 Tries lines sink Done = Tried lines (GainsWhole sink)
 Tries lines sink WriteFault = Tried lines (GainsFront sink)

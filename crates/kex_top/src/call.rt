@@ -2,7 +2,7 @@
 ghost use Rattle.std.specs.Prelude.{◌≡◌, ◌⊎◌, ℕ, List, Some, None, map, string_bytes};
 ghost use Rattle.kex_ports.specs.Endings.{finishes_of};
 ghost use Rattle.kex_ports.specs.Reads.{last_given};
-ghost use Rattle.kex_ports.specs.Shelf.{told_of};
+ghost use Rattle.kex_ports.specs.Shelf.{present, told_of};
 ghost use Rattle.kex_words.specs.Words.{Reach, asked_of, mode_of};
 ghost use Rattle.kex_words.specs.Words.Asked.{ToStream};
 ghost use Rattle.kex_words.specs.Words.Mode.{running, testing};
@@ -151,7 +151,7 @@ pub fn kex<R: Threads + Sync, H: Shelf, S: Source, K: Sink, N: Sink, G: Gate + S
     // What is told of shelf, source and sink, and the answer Done, fix the output.
     ensures headline { (states : ℕ) (name : List ℕ) (reach : Reach) (text input_bytes before : List ℕ)
         → asked_of (map string_bytes words.now) ≡ Some (ToStream (running states) name reach)
-        → told_of (H.texts shelf.old) name ≡ Some (Some text)
+        → told_of (H.texts shelf.old) name ≡ present text
         → S.rest input.old ≡ Some input_bytes → K.held output.old ≡ Some before → result ≡ Done
         → Headline states text reach.max_input input_bytes before (S.rest input.new) (K.held output.new) }
     ensures check_shelf { WhereCheck (map string_bytes words.now) (λ name states. ShelfAnswers (told_of (H.texts shelf.old) name)
