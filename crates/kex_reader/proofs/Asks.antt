@@ -6,7 +6,7 @@ use Rattle.kex_model.specs.declared.program.Start.{Start}
 use Rattle.kex_regexp.specs.declared.breaks.Break.{Break}
 use Rattle.kex_tokens.specs.declared.token.Kind.{Kind}
 use Rattle.kex_tokens.specs.declared.token.Kind.TheVariants as kinds
-use Rattle.kex_reader.specs.declared.stack.Frame.{Frame}
+use Rattle.kex_reader.specs.declared.stack.Construct.{Construct}
 use Rattle.kex_reader.specs.declared.inside.StepFault.{StepFault}
 use Rattle.kex_reader.specs.declared.reader.Phase.{Phase}
 use Rattle.kex_reader.specs.Syntax.{word, Word, Define, Definition, Header}
@@ -76,16 +76,16 @@ define_quiet : (at : ℕ → ℕ) (k : ℕ) (n : List ℕ) (es : List Entry) →
 unfolding asks named_asks
 define_quiet at k n es = refl
 
-nothing_made : (made : Made) (at : ℕ → ℕ) (fs : List Frame) (ds : List Root) (ss : List Start) (r : Result Phase StepFault) (P : Type 0) → StateSteps made at fs ds ss r None → OnOk r P
+nothing_made : (made : Made) (at : ℕ → ℕ) (fs : List Construct) (ds : List Root) (ss : List Start) (r : Result Phase StepFault) (P : Type 0) → StateSteps made at fs ds ss r None → OnOk r P
 unfolding StateSteps
 nothing_made made at fs ds ss (Ok p) P h = absurd h
 nothing_made made at fs ds ss (Err e) P h = tt
 
-define_on : (at : ℕ → ℕ) (h : Header) (done : List Definition) (name : List ℕ) (m : Mode) (es : List Entry) (cs : List Check) (o : Option Break) (made : Made) (fs : List Frame) (ds : List Root) (ss : List Start) (r : Result Phase StepFault) → StateSteps made at fs ds ss r (step_within h done name m es Define) → OnOk r (NotesLeast (cs ++ []) o) → OnOk r (NotesLeast (cs ++ asks at (length (before h done name) + length (entries es)) m es Define) o)
+define_on : (at : ℕ → ℕ) (h : Header) (done : List Definition) (name : List ℕ) (m : Mode) (es : List Entry) (cs : List Check) (o : Option Break) (made : Made) (fs : List Construct) (ds : List Root) (ss : List Start) (r : Result Phase StepFault) → StateSteps made at fs ds ss r (step_within h done name m es Define) → OnOk r (NotesLeast (cs ++ []) o) → OnOk r (NotesLeast (cs ++ asks at (length (before h done name) + length (entries es)) m es Define) o)
 define_on at h done name (Named true n) es cs o made fs ds ss r st k = subst (λ (x : List Check). OnOk r (NotesLeast (cs ++ x) o)) (define_quiet at (length (before h done name) + length (entries es)) n es) k
 define_on at h done name m es cs o made fs ds ss r st k = nothing_made made at fs ds ss r (NotesLeast (cs ++ asks at (length (before h done name) + length (entries es)) m es Define) o) (subst (λ (x : Option State). StateSteps made at fs ds ss r x) (define_none h done name m es (λ n e. cc)) st)
 
-pub define_notes : (at : ℕ → ℕ) (s : State) (h : Header) (done : List Definition) (name : List ℕ) (i : Inside) (k : Kind) (b : List ℕ) → s ≡ Within h done name i → k ≡ kinds.Define → (cs : List Check) (o : Option Break) (made : Made) (fs : List Frame) (ds : List Root) (ss : List Start) (r : Result Phase StepFault) → StateSteps made at fs ds ss r (step_within h done name i.mode i.entries Define) → OnOk r (NotesLeast (cs ++ []) o) → OnOk r (NotesLeast (cs ++ state_asks at s (word k b)) o)
+pub define_notes : (at : ℕ → ℕ) (s : State) (h : Header) (done : List Definition) (name : List ℕ) (i : Inside) (k : Kind) (b : List ℕ) → s ≡ Within h done name i → k ≡ kinds.Define → (cs : List Check) (o : Option Break) (made : Made) (fs : List Construct) (ds : List Root) (ss : List Start) (r : Result Phase StepFault) → StateSteps made at fs ds ss r (step_within h done name i.mode i.entries Define) → OnOk r (NotesLeast (cs ++ []) o) → OnOk r (NotesLeast (cs ++ state_asks at s (word k b)) o)
 unfolding state_asks
 define_notes at s h done name i k b e f cs o made fs ds ss r st n =
     subst (λ (x : State). OnOk r (NotesLeast (cs ++ state_asks at x (word k b)) o)) (sym e)

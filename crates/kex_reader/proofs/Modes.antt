@@ -9,7 +9,7 @@ use Rattle.kex_model.specs.declared.program.Kind.{Kind as NodeKind}
 use Rattle.kex_model.specs.declared.program.Kind.TheVariants as nodes
 use Rattle.kex_tokens.specs.declared.token.Kind.{Kind}
 use Rattle.kex_tokens.specs.declared.token.Kind.TheVariants as kinds
-use Rattle.kex_reader.specs.declared.stack.Frame.{Frame}
+use Rattle.kex_reader.specs.declared.stack.Construct.{Construct}
 use Rattle.kex_reader.specs.declared.stack.Part.{Part as Shown}
 use Rattle.kex_reader.specs.declared.counts.Count.{Count}
 use Rattle.kex_reader.specs.declared.counts.CountStep.TheVariants as steps
@@ -24,9 +24,9 @@ use Rattle.kex_reader.specs.Syntax.{Word, Name, Literal, word, Part, Text, Held,
 use Rattle.kex_reader.specs.Reading.{Entry, Mode, Need, Ready, After, Named, Writing, Bracket, BracketName, Assigning, Assigned, InCount, Inside, Counting, CountStep, CountOn, CountRead, CountWrong, with_pre, goes, begin_pre, after_atom, after_name, on_name, on_sign, first_part, next_part, count_step, on_count, step_in, inside, mode, entries}
 use Rattle.kex_reader.specs.Checks.{is_bad_count}
 use Rattle.kex_reader.specs.Shown.{Made, IsNode, IsRegister, ShowsPre, ShowsAtom, ShowsPart, ShowsParts, assignment_kind, low, high}
-use Rattle.kex_reader.specs.Stands.{Keeps, NotesLeast, count_asks, FramesShow, IsLeaf, PieceShows, part_of, ShowsMode, ShowsCount, ShowsCountStep, SomeAtom, SomeFrames, SomeInside, SomeName, Steps}
+use Rattle.kex_reader.specs.Stands.{Keeps, NotesLeast, count_asks, ConstructsShow, IsLeaf, PieceShows, part_of, ShowsMode, ShowsCount, ShowsCountStep, SomeAtom, SomeConstructs, SomeInside, SomeName, Steps}
 use Rattle.kex_reader.proofs.Drafts.{parts_more}
-use Rattle.kex_reader.proofs.Stacks.{frames_more}
+use Rattle.kex_reader.proofs.Stacks.{constructs_more}
 use Rattle.kex_reader.proofs.MoreChecks.{same}
 use Rattle.kex_reader.specs.Checks.{Check}
 use Rattle.kex_regexp.specs.declared.breaks.Break.{Break}
@@ -178,28 +178,28 @@ some_piece : (o : Option Part) (made : Made) (q : Piece) → PieceShows o made (
 some_piece None made q h = absurd h
 some_piece (Some p) made q h = (p, refl, h)
 
-module _ (a b : Made) (at : ℕ → ℕ) (base : ℕ) (fs : List Frame) (es : List Entry) (x : Assignment) (append : Bool) (r : List ℕ) (k : Kind) (bytes : List ℕ) where
+module _ (a b : Made) (at : ℕ → ℕ) (base : ℕ) (fs : List Construct) (es : List Entry) (x : Assignment) (append : Bool) (r : List ℕ) (k : Kind) (bytes : List ℕ) where
   pub first_wrong : PieceShows (part_of (word k bytes)) b None → Steps b at base fs (Err faults.Wrong) (first_part append r es (word k bytes))
   first_wrong h = to b at base fs _ _ _ (first_none append r es (word k bytes) (none_piece (part_of (word k bytes)) b h)) (wrong b at base fs)
 
-  pub first_on : (q : Piece) (y : Assignment) → y.at ≡ x.at → y.append ≡ x.append → y.register ≡ x.register → y.pieces.items ≡ x.pieces.items ++ q ∷ [] → Keeps a b → PieceShows (part_of (word k bytes)) b (Some q) → FramesShow a at base fs es → ShowsMode a at (base + length (entries es)) (waits.Assigning x) (Assigning append r) → Steps b at base fs (Ok (waits.Assigned y)) (first_part append r es (word k bytes))
+  pub first_on : (q : Piece) (y : Assignment) → y.at ≡ x.at → y.append ≡ x.append → y.register ≡ x.register → y.pieces.items ≡ x.pieces.items ++ q ∷ [] → Keeps a b → PieceShows (part_of (word k bytes)) b (Some q) → ConstructsShow a at base fs es → ShowsMode a at (base + length (entries es)) (waits.Assigning x) (Assigning append r) → Steps b at base fs (Ok (waits.Assigned y)) (first_part append r es (word k bytes))
   unfolding ShowsMode ShowsParts
   first_on q y e1 e2 e3 e4 keep h f m =
       let p = some_piece (part_of (word k bytes)) b q h in
       let items : y.pieces.items ≡ q ∷ [] = e4 ∙ ap (λ (z : List Piece). z ++ q ∷ []) m.3 in
       to b at base fs _ _ _ (first_some append r es (word k bytes) p.0 p.1)
-      (stood b at base fs (waits.Assigned y) (Assigned append r p.0 []) es (frames_more a b at base fs es keep f)
+      (stood b at base fs (waits.Assigned y) (Assigned append r p.0 []) es (constructs_more a b at base fs es keep f)
       (e1 ∙ m.0, e2 ∙ m.1, subst (λ (z : ℕ). IsRegister b z r) (sym e3) (keep.registers x.register r m.2), subst (λ (z : List Piece). ShowsParts (p.0 ∷ []) b z) (sym items) (p.2, tt)))
 
   pub next_wrong : (p : Part) (ps : List Part) → (k ≡ kinds.CloseBracket → ⊥) → PieceShows (part_of (word k bytes)) b None → Steps b at base fs (Err faults.Wrong) (next_part append r p ps es (word k bytes))
   next_wrong p ps n h = to b at base fs _ _ _ (next_none append r p ps es k bytes n (none_piece (part_of (word k bytes)) b h)) (wrong b at base fs)
 
-  pub next_on : (p : Part) (ps : List Part) (q : Piece) (y : Assignment) → y.at ≡ x.at → y.append ≡ x.append → y.register ≡ x.register → y.pieces.items ≡ x.pieces.items ++ q ∷ [] → Keeps a b → PieceShows (part_of (word k bytes)) b (Some q) → FramesShow a at base fs es → ShowsMode a at (base + length (entries es)) (waits.Assigned x) (Assigned append r p ps) → Steps b at base fs (Ok (waits.Assigned y)) (next_part append r p ps es (word k bytes))
+  pub next_on : (p : Part) (ps : List Part) (q : Piece) (y : Assignment) → y.at ≡ x.at → y.append ≡ x.append → y.register ≡ x.register → y.pieces.items ≡ x.pieces.items ++ q ∷ [] → Keeps a b → PieceShows (part_of (word k bytes)) b (Some q) → ConstructsShow a at base fs es → ShowsMode a at (base + length (entries es)) (waits.Assigned x) (Assigned append r p ps) → Steps b at base fs (Ok (waits.Assigned y)) (next_part append r p ps es (word k bytes))
   unfolding ShowsMode
   next_on p ps q y e1 e2 e3 e4 keep h f m =
       let t = some_piece (part_of (word k bytes)) b q h in
       to b at base fs _ _ _ (next_some append r p ps es (word k bytes) t.0 t.1)
-      (stood b at base fs (waits.Assigned y) (Assigned append r p (ps ++ t.0 ∷ [])) es (frames_more a b at base fs es keep f)
+      (stood b at base fs (waits.Assigned y) (Assigned append r p (ps ++ t.0 ∷ [])) es (constructs_more a b at base fs es keep f)
       (e1 ∙ m.0, e2 ∙ m.1, subst (λ (z : ℕ). IsRegister b z r) (sym e3) (keep.registers x.register r m.2), subst (λ (z : List Piece). ShowsParts (p ∷ (ps ++ t.0 ∷ [])) b z) (sym e4) (parts_push (p ∷ ps) t.0 b x.pieces.items q (parts_more (p ∷ ps) a b x.pieces.items keep m.3) t.2)))
 
 -- an assignment that is in range
@@ -218,13 +218,13 @@ assigned_at made at i x append r p ps m = m.0
 
 -- ---- counts
 
-pub count_on : (made : Made) (at : ℕ → ℕ) (base : ℕ) (fs : List Frame) (es : List Entry) (a : Atom) (item : Shown) (brace : ℕ) (c : Count) (t : CountStep) → FramesShow made at base fs es → item.at ≡ at (base + length (entries es)) → brace ≡ at (base + length (entries es) + length (atom a)) → ShowsAtom a made at item.node (base + length (entries es)) → ShowsCountStep (steps.On c) t → Steps made at base fs (Ok (waits.InCount item c brace)) (on_count a es t)
+pub count_on : (made : Made) (at : ℕ → ℕ) (base : ℕ) (fs : List Construct) (es : List Entry) (a : Atom) (item : Shown) (brace : ℕ) (c : Count) (t : CountStep) → ConstructsShow made at base fs es → item.at ≡ at (base + length (entries es)) → brace ≡ at (base + length (entries es) + length (atom a)) → ShowsAtom a made at item.node (base + length (entries es)) → ShowsCountStep (steps.On c) t → Steps made at base fs (Ok (waits.InCount item c brace)) (on_count a es t)
 unfolding ShowsCountStep on_count ShowsMode
 count_on made at base fs es a item brace c (CountOn d) h e b s k = stood made at base fs (waits.InCount item c brace) (InCount a d) es h (e, s, k, b)
 count_on made at base fs es a item brace c (CountRead p) h e b s k = absurd k
 count_on made at base fs es a item brace c CountWrong h e b s k = absurd k
 
-pub count_wrong : (made : Made) (at : ℕ → ℕ) (base : ℕ) (fs : List Frame) (es : List Entry) (a : Atom) (t : CountStep) → ShowsCountStep steps.Wrong t → Steps made at base fs (Err faults.Wrong) (on_count a es t)
+pub count_wrong : (made : Made) (at : ℕ → ℕ) (base : ℕ) (fs : List Construct) (es : List Entry) (a : Atom) (t : CountStep) → ShowsCountStep steps.Wrong t → Steps made at base fs (Err faults.Wrong) (on_count a es t)
 unfolding ShowsCountStep on_count
 count_wrong made at base fs es a (CountOn d) k = absurd k
 count_wrong made at base fs es a (CountRead p) k = absurd k
@@ -338,25 +338,25 @@ pub call_place : (at : ℕ → ℕ) (base a : ℕ) (n : List ℕ) (es : List Ent
 unfolding atom
 call_place at base a n es e = e
 
-pub some_named : (made : Made) (fs : List Frame) (wait : Wait) → SomeInside made fs wait → SomeFrames made fs
+pub some_named : (made : Made) (fs : List Construct) (wait : Wait) → SomeInside made fs wait → SomeConstructs made fs
 some_named made fs wait s = (s.0, s.1, s.2.entries, s.3.below)
 
-pub some_atom : (made : Made) (fs : List Frame) (wait : Wait) (part : Shown) → wait ≡ waits.After part → SomeInside made fs wait → SomeAtom made fs part
+pub some_atom : (made : Made) (fs : List Construct) (wait : Wait) (part : Shown) → wait ≡ waits.After part → SomeInside made fs wait → SomeAtom made fs part
 some_atom made fs wait part e s =
     let m = mode_after made s.0 (s.1 + length (entries s.2.entries)) part s.2.mode (subst (λ (w : Wait). ShowsMode made s.0 (s.1 + length (entries s.2.entries)) w s.2.mode) e s.3.mode) in
     (s.0, s.1, s.2.entries, m.0, s.3.below, m.2, m.3)
 
-pub some_count : (made : Made) (fs : List Frame) (wait : Wait) (part : Shown) (c : Count) (brace : ℕ) → wait ≡ waits.InCount part c brace → SomeInside made fs wait → SomeAtom made fs part
+pub some_count : (made : Made) (fs : List Construct) (wait : Wait) (part : Shown) (c : Count) (brace : ℕ) → wait ≡ waits.InCount part c brace → SomeInside made fs wait → SomeAtom made fs part
 some_count made fs wait part c brace e s =
     let m = mode_count made s.0 (s.1 + length (entries s.2.entries)) part c brace s.2.mode (subst (λ (w : Wait). ShowsMode made s.0 (s.1 + length (entries s.2.entries)) w s.2.mode) e s.3.mode) in
     (s.0, s.1, s.2.entries, m.0, s.3.below, m.3, m.4)
 
-pub some_counting : (made : Made) (fs : List Frame) (wait : Wait) (part : Shown) (c : Count) (brace : ℕ) → wait ≡ waits.InCount part c brace → SomeInside made fs wait → (d : Counting) × ShowsCount c d
+pub some_counting : (made : Made) (fs : List Construct) (wait : Wait) (part : Shown) (c : Count) (brace : ℕ) → wait ≡ waits.InCount part c brace → SomeInside made fs wait → (d : Counting) × ShowsCount c d
 some_counting made fs wait part c brace e s =
     let m = mode_count made s.0 (s.1 + length (entries s.2.entries)) part c brace s.2.mode (subst (λ (w : Wait). ShowsMode made s.0 (s.1 + length (entries s.2.entries)) w s.2.mode) e s.3.mode) in
     (m.1, m.5)
 
-pub some_assigned : (made : Made) (fs : List Frame) (wait : Wait) (x : Assignment) → wait ≡ waits.Assigned x → SomeInside made fs wait → (place : ℕ → ℕ) × (i : ℕ) × (append : Bool) × (r : List ℕ) × (p : Part) × (ps : List Part) × ShowsMode made place i (waits.Assigned x) (Assigned append r p ps)
+pub some_assigned : (made : Made) (fs : List Construct) (wait : Wait) (x : Assignment) → wait ≡ waits.Assigned x → SomeInside made fs wait → (place : ℕ → ℕ) × (i : ℕ) × (append : Bool) × (r : List ℕ) × (p : Part) × (ps : List Part) × ShowsMode made place i (waits.Assigned x) (Assigned append r p ps)
 some_assigned made fs wait x e s =
     let i = s.1 + length (entries s.2.entries) in
     let here = subst (λ (w : Wait). ShowsMode made s.0 i w s.2.mode) e s.3.mode in
@@ -371,11 +371,11 @@ pub assign_of : (a b : Made) (at : ℕ → ℕ) (i : ℕ) (x : Assignment) (appe
 assign_of a b at i x append r p ps kind (Ok w) e m keep h = (h.0, h.1, assign_shows a b at i h.0 x append r p ps keep m (subst (λ (y : NodeKind). IsNode b h.0 y x.at) e h.2))
 assign_of a b at i x append r p ps kind (Err f) e m keep h = tt
 
-pub assigning_on : (made : Made) (at : ℕ → ℕ) (base : ℕ) (fs : List Frame) (es : List Entry) (x : Assignment) (append : Bool) (r : List ℕ) → FramesShow made at base fs es → x.at ≡ at (base + length (entries es)) → x.append ≡ append → IsRegister made x.register r → x.pieces.items ≡ [] → Steps made at base fs (Ok (waits.Assigning x)) (goes (Assigning append r) es)
+pub assigning_on : (made : Made) (at : ℕ → ℕ) (base : ℕ) (fs : List Construct) (es : List Entry) (x : Assignment) (append : Bool) (r : List ℕ) → ConstructsShow made at base fs es → x.at ≡ at (base + length (entries es)) → x.append ≡ append → IsRegister made x.register r → x.pieces.items ≡ [] → Steps made at base fs (Ok (waits.Assigning x)) (goes (Assigning append r) es)
 unfolding ShowsMode
 assigning_on made at base fs es x append r h a p k q = stood made at base fs (waits.Assigning x) (Assigning append r) es h (a, p, k, q)
 
-pub some_name : (made : Made) (fs : List Frame) (wait : Wait) (f : Bool) (n : Named') → wait ≡ waits.Named f n → SomeInside made fs wait → SomeName made fs n.at
+pub some_name : (made : Made) (fs : List Construct) (wait : Wait) (f : Bool) (n : Named') → wait ≡ waits.Named f n → SomeInside made fs wait → SomeName made fs n.at
 some_name made fs wait f n e s =
     let m = mode_named made s.0 (s.1 + length (entries s.2.entries)) f n s.2.mode (subst (λ (w : Wait). ShowsMode made s.0 (s.1 + length (entries s.2.entries)) w s.2.mode) e s.3.mode) in
     (s.0, s.1, s.2.entries, s.3.below, m.1)

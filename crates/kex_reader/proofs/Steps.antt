@@ -8,8 +8,8 @@ use Rattle.kex_model.specs.declared.program.Kind.TheVariants as nodes
 use Rattle.kex_regexp.specs.Grammar.{Regex as Body}
 use Rattle.kex_regexp.specs.Bodies.{Spells as BodySpells}
 use Rattle.kex_regexp.specs.Shown.{ShowsRegex}
-use Rattle.kex_reader.specs.declared.stack.Frame.{Frame}
-use Rattle.kex_reader.specs.declared.stack.Frame.TheVariants as frames
+use Rattle.kex_reader.specs.declared.stack.Construct.{Construct}
+use Rattle.kex_reader.specs.declared.stack.Construct.TheVariants as constructs
 use Rattle.kex_reader.specs.declared.stack.Part.{Part as Shown}
 use Rattle.kex_reader.specs.declared.counts.Count.TheVariants as counts
 use Rattle.kex_reader.specs.declared.inside.Wait.{Wait}
@@ -20,14 +20,14 @@ use Rattle.kex_reader.specs.declared.word.Name.{Name as Named'}
 use Rattle.kex_reader.specs.Syntax.{Word, Name, Number, Literal, Regex, Define, Bar, Tilde, At, Star, Plus, Question, OpenBrace, Bang, OpenBracket, OpenParen, CloseParen, word, Postfix, ZeroOrMore, OneOrMore, Optional, Term, Seq, Once, Turns, Atom, One, Call, Lit, Match, Write, Group, pre, atom}
 use Rattle.kex_reader.specs.Reading.{Entry, Mark, Ended, Done, Muted, Storing, Opened, Mode, Need, Ready, After, Named, Writing, Bracket, BracketName, Assigning, InCount, Inside, with_pre, take_seq, take_term, goes, on_bar, after_group, on_close, on_number, begin_pre, after_atom, after_name, on_name, on_sign, entries, entry}
 use Rattle.kex_reader.specs.Shown.{Made, IsNode, IsName, IsRegister, ShowsTerm, ShowsPre, ShowsAtom, low, high}
-use Rattle.kex_reader.specs.Stands.{Keeps, FramesShow, SeqTaken, TermTaken, ShowsMode, ShowsCount, Steps}
+use Rattle.kex_reader.specs.Stands.{Keeps, ConstructsShow, SeqTaken, TermTaken, ShowsMode, ShowsCount, Steps}
 use Rattle.kex_reader.proofs.Drafts.{Keeps-trans}
 use Rattle.kex_reader.proofs.Sound.{put_is}
-use Rattle.kex_reader.proofs.Stacks.{frames_more}
+use Rattle.kex_reader.proofs.Stacks.{constructs_more}
 
 -- ---- outcomes
 
-module _ (made : Made) (at : ℕ → ℕ) (base : ℕ) (fs : List Frame) where
+module _ (made : Made) (at : ℕ → ℕ) (base : ℕ) (fs : List Construct) where
   pub to : (r : Result Wait StepFault) (o p : Option Inside) → o ≡ p → Steps made at base fs r p → Steps made at base fs r o
   to r o p e s = subst (λ (x : Option Inside). Steps made at base fs r x) (sym e) s
 
@@ -44,39 +44,39 @@ module _ (made : Made) (at : ℕ → ℕ) (base : ℕ) (fs : List Frame) where
   unfolding Steps
   wrong = tt
 
-  pub stood : (w : Wait) (m : Mode) (es : List Entry) → FramesShow made at base fs es → ShowsMode made at (base + length (entries es)) w m → Steps made at base fs (Ok w) (goes m es)
+  pub stood : (w : Wait) (m : Mode) (es : List Entry) → ConstructsShow made at base fs es → ShowsMode made at (base + length (entries es)) w m → Steps made at base fs (Ok w) (goes m es)
   unfolding Steps
   stood w m es h s = record { below = h; mode = s }
 
-  pub need : (es : List Entry) → FramesShow made at base fs es → Steps made at base fs (Ok waits.Need) (goes Need es)
+  pub need : (es : List Entry) → ConstructsShow made at base fs es → Steps made at base fs (Ok waits.Need) (goes Need es)
   unfolding ShowsMode
   need es h = stood waits.Need Need es h tt
 
-  pub ready : (es : List Entry) → FramesShow made at base fs es → Steps made at base fs (Ok waits.Ready) (goes Ready es)
+  pub ready : (es : List Entry) → ConstructsShow made at base fs es → Steps made at base fs (Ok waits.Ready) (goes Ready es)
   unfolding ShowsMode
   ready es h = stood waits.Ready Ready es h tt
 
-  pub after : (es : List Entry) (n a : ℕ) (x : Atom) → FramesShow made at base fs es → a ≡ at (base + length (entries es)) → ShowsAtom x made at n (base + length (entries es)) → Steps made at base fs (Ok (waits.After (record { node = n; at = a }))) (goes (After x) es)
+  pub after : (es : List Entry) (n a : ℕ) (x : Atom) → ConstructsShow made at base fs es → a ≡ at (base + length (entries es)) → ShowsAtom x made at n (base + length (entries es)) → Steps made at base fs (Ok (waits.After (record { node = n; at = a }))) (goes (After x) es)
   unfolding ShowsMode
   after es n a x h e s = stood (waits.After (record { node = n; at = a })) (After x) es h (e, s)
 
-  pub named_waits : (es : List Entry) (free : Bool) (n : Named') → FramesShow made at base fs es → n.at ≡ at (base + length (entries es)) → Steps made at base fs (Ok (waits.Named free n)) (goes (Named free n.bytes.now) es)
+  pub named_waits : (es : List Entry) (free : Bool) (n : Named') → ConstructsShow made at base fs es → n.at ≡ at (base + length (entries es)) → Steps made at base fs (Ok (waits.Named free n)) (goes (Named free n.bytes.now) es)
   unfolding ShowsMode
   named_waits es free n h e = stood (waits.Named free n) (Named free n.bytes.now) es h (refl, refl, e)
 
-  pub writing : (es : List Entry) (a : ℕ) → FramesShow made at base fs es → a ≡ at (base + length (entries es)) → Steps made at base fs (Ok (waits.Writing a)) (goes Writing es)
+  pub writing : (es : List Entry) (a : ℕ) → ConstructsShow made at base fs es → a ≡ at (base + length (entries es)) → Steps made at base fs (Ok (waits.Writing a)) (goes Writing es)
   unfolding ShowsMode
   writing es a h e = stood (waits.Writing a) Writing es h e
 
-  pub bracket : (es : List Entry) (a : ℕ) → FramesShow made at base fs es → a ≡ at (base + length (entries es)) → Steps made at base fs (Ok (waits.Bracket a)) (goes Bracket es)
+  pub bracket : (es : List Entry) (a : ℕ) → ConstructsShow made at base fs es → a ≡ at (base + length (entries es)) → Steps made at base fs (Ok (waits.Bracket a)) (goes Bracket es)
   unfolding ShowsMode
   bracket es a h e = stood (waits.Bracket a) Bracket es h e
 
-  pub bracket_name : (es : List Entry) (a k : ℕ) (r : List ℕ) → FramesShow made at base fs es → a ≡ at (base + length (entries es)) → IsRegister made k r → Steps made at base fs (Ok (waits.BracketName a k)) (goes (BracketName r) es)
+  pub bracket_name : (es : List Entry) (a k : ℕ) (r : List ℕ) → ConstructsShow made at base fs es → a ≡ at (base + length (entries es)) → IsRegister made k r → Steps made at base fs (Ok (waits.BracketName a k)) (goes (BracketName r) es)
   unfolding ShowsMode
   bracket_name es a k r h e s = stood (waits.BracketName a k) (BracketName r) es h (e, s)
 
-  pub count_opens : (es : List Entry) (x : Atom) (part : Shown) (brace : ℕ) → FramesShow made at base fs es → part.at ≡ at (base + length (entries es)) → ShowsAtom x made at part.node (base + length (entries es)) → brace ≡ at (base + length (entries es) + length (atom x)) → Steps made at base fs (Ok (waits.InCount part counts.Opened brace)) (goes (InCount x Opened) es)
+  pub count_opens : (es : List Entry) (x : Atom) (part : Shown) (brace : ℕ) → ConstructsShow made at base fs es → part.at ≡ at (base + length (entries es)) → ShowsAtom x made at part.node (base + length (entries es)) → brace ≡ at (base + length (entries es) + length (atom x)) → Steps made at base fs (Ok (waits.InCount part counts.Opened brace)) (goes (InCount x Opened) es)
   unfolding ShowsMode ShowsCount
   count_opens es x part brace h e s b = stood (waits.InCount part counts.Opened brace) (InCount x Opened) es h (e, s, tt, b)
 
@@ -180,17 +180,17 @@ begin_number free es b e = ap (λ (x : Bool). if x then goes (After One) es else
 
 -- ---- bars and parentheses
 
-pub bar_steps : (a b : Made) (at : ℕ → ℕ) (base : ℕ) (fs gs : List Frame) (part : Shown) (o : Option (Seq × List Entry)) → gs ≡ frames.Ended part ∷ fs → SeqTaken a at base fs (Some part) o → Steps a at base gs (Ok waits.Need) (on_bar o)
-unfolding on_bar FramesShow
+pub bar_steps : (a b : Made) (at : ℕ → ℕ) (base : ℕ) (fs gs : List Construct) (part : Shown) (o : Option (Seq × List Entry)) → gs ≡ constructs.Ended part ∷ fs → SeqTaken a at base fs (Some part) o → Steps a at base gs (Ok waits.Need) (on_bar o)
+unfolding on_bar ConstructsShow
 bar_steps a b at base fs gs part None e h = absurd h
-bar_steps a b at base fs gs part (Some t) e h = need a at base gs (Ended t.0 ∷ t.1) (subst (λ (x : List Frame). FramesShow a at base x (Ended t.0 ∷ t.1)) (sym e) (h.place, h.shows, h.below))
+bar_steps a b at base fs gs part (Some t) e h = need a at base gs (Ended t.0 ∷ t.1) (subst (λ (x : List Construct). ConstructsShow a at base x (Ended t.0 ∷ t.1)) (sym e) (h.place, h.shows, h.below))
 
-pub bar_wrong : (a : Made) (at : ℕ → ℕ) (base : ℕ) (fs gs : List Frame) (o : Option (Seq × List Entry)) → SeqTaken a at base fs None o → Steps a at base gs (Err faults.Wrong) (on_bar o)
+pub bar_wrong : (a : Made) (at : ℕ → ℕ) (base : ℕ) (fs gs : List Construct) (o : Option (Seq × List Entry)) → SeqTaken a at base fs None o → Steps a at base gs (Err faults.Wrong) (on_bar o)
 unfolding on_bar
 bar_wrong a at base fs gs None h = wrong a at base gs
 bar_wrong a at base fs gs (Some t) h = absurd h
 
-pub close_wrong : (a : Made) (at : ℕ → ℕ) (base : ℕ) (fs gs : List Frame) (o : Option (Term × List Entry)) → TermTaken a at base fs None o → Steps a at base gs (Err faults.Wrong) (on_close o)
+pub close_wrong : (a : Made) (at : ℕ → ℕ) (base : ℕ) (fs gs : List Construct) (o : Option (Term × List Entry)) → TermTaken a at base fs None o → Steps a at base gs (Err faults.Wrong) (on_close o)
 unfolding on_close
 close_wrong a at base fs gs None h = wrong a at base gs
 close_wrong a at base fs gs (Some t) h = absurd h
@@ -199,29 +199,29 @@ group_shows : (a : Made) (at : ℕ → ℕ) (n i : ℕ) (t : Term) → ShowsTerm
 unfolding ShowsAtom
 group_shows a at n i t h = h
 
-closes : (a : Made) (at : ℕ → ℕ) (base : ℕ) (new : List Frame) (part : Shown) (from : ℕ) (t : Term) (es : List Entry) → ShowsTerm t a at part.node (base + length (entries es)) → FramesShow a at base (frames.Mark from ∷ new) es → Steps a at base new (Ok (waits.After (record { node = part.node; at = from }))) (after_group t es)
-unfolding after_group FramesShow entries entry
+closes : (a : Made) (at : ℕ → ℕ) (base : ℕ) (new : List Construct) (part : Shown) (from : ℕ) (t : Term) (es : List Entry) → ShowsTerm t a at part.node (base + length (entries es)) → ConstructsShow a at base (constructs.Mark from ∷ new) es → Steps a at base new (Ok (waits.After (record { node = part.node; at = from }))) (after_group t es)
+unfolding after_group ConstructsShow entries entry
 closes a at base new part from t (Mark ∷ es) s h =
     let j : base + length (entries es ++ OpenParen ∷ []) ≡ base + length (entries es) + 1 = omega (arith, length-append (entries es) (OpenParen ∷ [])) in
     after a at base new es part.node from (Group t) h.1 h.0 (group_shows a at part.node (base + length (entries es)) t (subst (λ (y : ℕ). ShowsTerm t a at part.node y) j s))
 closes a at base new part from t _ s h = absurd h
 
-pub close_steps : (a : Made) (at : ℕ → ℕ) (base : ℕ) (fs new : List Frame) (part : Shown) (from : ℕ) (o : Option (Term × List Entry)) → fs ≡ frames.Mark from ∷ new → TermTaken a at base fs (Some part) o → Steps a at base new (Ok (waits.After (record { node = part.node; at = from }))) (on_close o)
+pub close_steps : (a : Made) (at : ℕ → ℕ) (base : ℕ) (fs new : List Construct) (part : Shown) (from : ℕ) (o : Option (Term × List Entry)) → fs ≡ constructs.Mark from ∷ new → TermTaken a at base fs (Some part) o → Steps a at base new (Ok (waits.After (record { node = part.node; at = from }))) (on_close o)
 unfolding on_close
 close_steps a at base fs new part from None e h = absurd h
-close_steps a at base fs new part from (Some t) e h = closes a at base new part from t.0 t.1 h.shows (subst (λ (x : List Frame). FramesShow a at base x t.1) e h.below)
+close_steps a at base fs new part from (Some t) e h = closes a at base new part from t.0 t.1 h.shows (subst (λ (x : List Construct). ConstructsShow a at base x t.1) e h.below)
 
-unmarked : (a : Made) (at : ℕ → ℕ) (base : ℕ) (fs gs : List Frame) (t : Term) (es : List Entry) → ((x : ℕ) (hs : List Frame) → fs ≡ frames.Mark x ∷ hs → ⊥) → FramesShow a at base fs es → Steps a at base gs (Err faults.Wrong) (after_group t es)
-unfolding after_group FramesShow
+unmarked : (a : Made) (at : ℕ → ℕ) (base : ℕ) (fs gs : List Construct) (t : Term) (es : List Entry) → ((x : ℕ) (hs : List Construct) → fs ≡ constructs.Mark x ∷ hs → ⊥) → ConstructsShow a at base fs es → Steps a at base gs (Err faults.Wrong) (after_group t es)
+unfolding after_group ConstructsShow
 unmarked a at base fs gs t [] n h = wrong a at base gs
 unmarked a at base fs gs t (Ended s ∷ es) n h = wrong a at base gs
 unmarked a at base fs gs t (Done p ∷ es) n h = wrong a at base gs
 unmarked a at base fs gs t (Muted ∷ es) n h = wrong a at base gs
 unmarked a at base fs gs t (Storing r ∷ es) n h = wrong a at base gs
-unmarked a at base (frames.Mark x ∷ fs) gs t (Mark ∷ es) n h = absurd (n x fs refl)
+unmarked a at base (constructs.Mark x ∷ fs) gs t (Mark ∷ es) n h = absurd (n x fs refl)
 unmarked a at base _ gs t (Mark ∷ es) n h = absurd h
 
-pub unclosed : (a : Made) (at : ℕ → ℕ) (base : ℕ) (fs gs : List Frame) (part : Shown) (o : Option (Term × List Entry)) → ((x : ℕ) (hs : List Frame) → fs ≡ frames.Mark x ∷ hs → ⊥) → TermTaken a at base fs (Some part) o → Steps a at base gs (Err faults.Wrong) (on_close o)
+pub unclosed : (a : Made) (at : ℕ → ℕ) (base : ℕ) (fs gs : List Construct) (part : Shown) (o : Option (Term × List Entry)) → ((x : ℕ) (hs : List Construct) → fs ≡ constructs.Mark x ∷ hs → ⊥) → TermTaken a at base fs (Some part) o → Steps a at base gs (Err faults.Wrong) (on_close o)
 unfolding on_close
 unclosed a at base fs gs part None n h = absurd h
 unclosed a at base fs gs part (Some t) n h = unmarked a at base fs gs t.0 t.1 n h.below
@@ -298,19 +298,19 @@ pub call_ends : (n : List ℕ) → length (atom (Call n)) ≡ 1
 unfolding atom
 call_ends n = refl
 
--- frames that were pushed
+-- constructs that were pushed
 
-pub mark_pushed : (a : Made) (at : ℕ → ℕ) (base : ℕ) (fs gs : List Frame) (es : List Entry) (x : ℕ) → gs ≡ frames.Mark x ∷ fs → FramesShow a at base fs es → x ≡ at (base + length (entries es)) → FramesShow a at base gs (Mark ∷ es)
-unfolding FramesShow
-mark_pushed a at base fs gs es x e h p = subst (λ (y : List Frame). FramesShow a at base y (Mark ∷ es)) (sym e) (p, h)
+pub mark_pushed : (a : Made) (at : ℕ → ℕ) (base : ℕ) (fs gs : List Construct) (es : List Entry) (x : ℕ) → gs ≡ constructs.Mark x ∷ fs → ConstructsShow a at base fs es → x ≡ at (base + length (entries es)) → ConstructsShow a at base gs (Mark ∷ es)
+unfolding ConstructsShow
+mark_pushed a at base fs gs es x e h p = subst (λ (y : List Construct). ConstructsShow a at base y (Mark ∷ es)) (sym e) (p, h)
 
-pub muted_pushed : (a : Made) (at : ℕ → ℕ) (base : ℕ) (fs gs : List Frame) (es : List Entry) (x : ℕ) → gs ≡ frames.Muted x ∷ fs → FramesShow a at base fs es → x ≡ at (base + length (entries es)) → FramesShow a at base gs (Muted ∷ es)
-unfolding FramesShow
-muted_pushed a at base fs gs es x e h p = subst (λ (y : List Frame). FramesShow a at base y (Muted ∷ es)) (sym e) (p, h)
+pub muted_pushed : (a : Made) (at : ℕ → ℕ) (base : ℕ) (fs gs : List Construct) (es : List Entry) (x : ℕ) → gs ≡ constructs.Muted x ∷ fs → ConstructsShow a at base fs es → x ≡ at (base + length (entries es)) → ConstructsShow a at base gs (Muted ∷ es)
+unfolding ConstructsShow
+muted_pushed a at base fs gs es x e h p = subst (λ (y : List Construct). ConstructsShow a at base y (Muted ∷ es)) (sym e) (p, h)
 
-pub storing_pushed : (a : Made) (at : ℕ → ℕ) (base : ℕ) (fs gs : List Frame) (es : List Entry) (x k : ℕ) (r : List ℕ) → gs ≡ frames.Storing (record { register = k; at = x }) ∷ fs → FramesShow a at base fs es → x ≡ at (base + length (entries es)) → IsRegister a k r → FramesShow a at base gs (Storing r ∷ es)
-unfolding FramesShow
-storing_pushed a at base fs gs es x k r e h p s = subst (λ (y : List Frame). FramesShow a at base y (Storing r ∷ es)) (sym e) (p, s, h)
+pub storing_pushed : (a : Made) (at : ℕ → ℕ) (base : ℕ) (fs gs : List Construct) (es : List Entry) (x k : ℕ) (r : List ℕ) → gs ≡ constructs.Storing (record { register = k; at = x }) ∷ fs → ConstructsShow a at base fs es → x ≡ at (base + length (entries es)) → IsRegister a k r → ConstructsShow a at base gs (Storing r ∷ es)
+unfolding ConstructsShow
+storing_pushed a at base fs gs es x k r e h p s = subst (λ (y : List Construct). ConstructsShow a at base y (Storing r ∷ es)) (sym e) (p, s, h)
 
 -- ---- a name that has to come
 
@@ -341,13 +341,13 @@ sign_plus r es k b e = ap (λ (y : Kind). on_sign r es (word y b)) e
 
 -- ---- what a call answered
 
-module _ (a b : Made) (at : ℕ → ℕ) (base : ℕ) (fs gs : List Frame) (es : List Entry) where
-  -- an atom, over the frames that were there
-  pub atom_steps : (r : Result Wait StepFault) (x : Atom) (from : ℕ) → OnOk r (Keeps a b) → IfOk r (λ w. (n : ℕ) × (w ≡ waits.After (record { node = n; at = from })) × ShowsAtom x b at n (base + length (entries es))) → IfErr r (λ e. e ≡ faults.Memory) → FramesShow a at base fs es → from ≡ at (base + length (entries es)) → Steps b at base fs r (goes (After x) es)
-  atom_steps (Ok w) x from k h m f e = subst (λ (y : Wait). Steps b at base fs (Ok y) (goes (After x) es)) (sym h.1) (after b at base fs es h.0 from x (frames_more a b at base fs es k f) e h.2)
+module _ (a b : Made) (at : ℕ → ℕ) (base : ℕ) (fs gs : List Construct) (es : List Entry) where
+  -- an atom, over the constructs that were there
+  pub atom_steps : (r : Result Wait StepFault) (x : Atom) (from : ℕ) → OnOk r (Keeps a b) → IfOk r (λ w. (n : ℕ) × (w ≡ waits.After (record { node = n; at = from })) × ShowsAtom x b at n (base + length (entries es))) → IfErr r (λ e. e ≡ faults.Memory) → ConstructsShow a at base fs es → from ≡ at (base + length (entries es)) → Steps b at base fs r (goes (After x) es)
+  atom_steps (Ok w) x from k h m f e = subst (λ (y : Wait). Steps b at base fs (Ok y) (goes (After x) es)) (sym h.1) (after b at base fs es h.0 from x (constructs_more a b at base fs es k f) e h.2)
   atom_steps (Err e) x from k h m f p = subst (λ (y : StepFault). Steps b at base fs (Err y) (goes (After x) es)) (sym m) (memory b at base fs (goes (After x) es))
 
-  opened_steps : (r : Result Wait StepFault) (top : Entry) → OnOk r (FramesShow b at base gs (top ∷ es)) → IfOk r (λ w. w ≡ waits.Need) → IfErr r (λ e. e ≡ faults.Memory) → Steps b at base gs r (goes Need (top ∷ es))
+  opened_steps : (r : Result Wait StepFault) (top : Entry) → OnOk r (ConstructsShow b at base gs (top ∷ es)) → IfOk r (λ w. w ≡ waits.Need) → IfErr r (λ e. e ≡ faults.Memory) → Steps b at base gs r (goes Need (top ∷ es))
   opened_steps (Ok w) top f h m = subst (λ (y : Wait). Steps b at base gs (Ok y) (goes Need (top ∷ es))) (sym h) (need b at base gs (top ∷ es) f)
   opened_steps (Err e) top f h m = subst (λ (y : StepFault). Steps b at base gs (Err y) (goes Need (top ∷ es))) (sym m) (memory b at base gs (goes Need (top ∷ es)))
 
@@ -355,14 +355,14 @@ module _ (a b : Made) (at : ℕ → ℕ) (base : ℕ) (fs gs : List Frame) (es :
   on_both (Ok w) f x y = f x y
   on_both (Err e) f x y = tt
 
-  pub tilde_steps : (r : Result Wait StepFault) (x : ℕ) → OnOk r (Keeps a b) → OnOk r (gs ≡ frames.Muted x ∷ fs) → IfOk r (λ w. w ≡ waits.Need) → IfErr r (λ e. e ≡ faults.Memory) → FramesShow a at base fs es → x ≡ at (base + length (entries es)) → Steps b at base gs r (goes Need (Muted ∷ es))
-  tilde_steps r x k p h m f e = opened_steps r Muted (on_both r (λ k p. muted_pushed b at base fs gs es x p (frames_more a b at base fs es k f) e) k p) h m
+  pub tilde_steps : (r : Result Wait StepFault) (x : ℕ) → OnOk r (Keeps a b) → OnOk r (gs ≡ constructs.Muted x ∷ fs) → IfOk r (λ w. w ≡ waits.Need) → IfErr r (λ e. e ≡ faults.Memory) → ConstructsShow a at base fs es → x ≡ at (base + length (entries es)) → Steps b at base gs r (goes Need (Muted ∷ es))
+  tilde_steps r x k p h m f e = opened_steps r Muted (on_both r (λ k p. muted_pushed b at base fs gs es x p (constructs_more a b at base fs es k f) e) k p) h m
 
-  pub paren_steps : (r : Result Wait StepFault) (x : ℕ) → OnOk r (Keeps a b) → OnOk r (gs ≡ frames.Mark x ∷ fs) → IfOk r (λ w. w ≡ waits.Need) → IfErr r (λ e. e ≡ faults.Memory) → FramesShow a at base fs es → x ≡ at (base + length (entries es)) → Steps b at base gs r (goes Need (Mark ∷ es))
-  paren_steps r x k p h m f e = opened_steps r Mark (on_both r (λ k p. mark_pushed b at base fs gs es x p (frames_more a b at base fs es k f) e) k p) h m
+  pub paren_steps : (r : Result Wait StepFault) (x : ℕ) → OnOk r (Keeps a b) → OnOk r (gs ≡ constructs.Mark x ∷ fs) → IfOk r (λ w. w ≡ waits.Need) → IfErr r (λ e. e ≡ faults.Memory) → ConstructsShow a at base fs es → x ≡ at (base + length (entries es)) → Steps b at base gs r (goes Need (Mark ∷ es))
+  paren_steps r x k p h m f e = opened_steps r Mark (on_both r (λ k p. mark_pushed b at base fs gs es x p (constructs_more a b at base fs es k f) e) k p) h m
 
-  pub storing_steps : (r : Result Wait StepFault) (x k : ℕ) (name : List ℕ) → OnOk r (Keeps a b) → OnOk r (gs ≡ frames.Storing (record { register = k; at = x }) ∷ fs) → IfOk r (λ w. w ≡ waits.Need) → IfErr r (λ e. e ≡ faults.Memory) → FramesShow a at base fs es → x ≡ at (base + length (entries es)) → IsRegister a k name → Steps b at base gs r (goes Need (Storing name ∷ es))
-  storing_steps r x k name l p h m f e s = opened_steps r (Storing name) (on_both r (λ l p. storing_pushed b at base fs gs es x k name p (frames_more a b at base fs es l f) e (l.registers k name s)) l p) h m
+  pub storing_steps : (r : Result Wait StepFault) (x k : ℕ) (name : List ℕ) → OnOk r (Keeps a b) → OnOk r (gs ≡ constructs.Storing (record { register = k; at = x }) ∷ fs) → IfOk r (λ w. w ≡ waits.Need) → IfErr r (λ e. e ≡ faults.Memory) → ConstructsShow a at base fs es → x ≡ at (base + length (entries es)) → IsRegister a k name → Steps b at base gs r (goes Need (Storing name ∷ es))
+  storing_steps r x k name l p h m f e s = opened_steps r (Storing name) (on_both r (λ l p. storing_pushed b at base fs gs es x k name p (constructs_more a b at base fs es l f) e (l.registers k name s)) l p) h m
 
 pub on_keeps : {A : Type 0} (r : Result A StepFault) (a b d : Made) → Keeps a b → OnOk r (Keeps b d) → OnOk r (Keeps a d)
 on_keeps (Ok w) a b d k l = Keeps-trans a b d k l

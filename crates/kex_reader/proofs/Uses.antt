@@ -21,14 +21,14 @@ use Rattle.kex_reader.specs.declared.reader.Head.{Head}
 use Rattle.kex_reader.specs.declared.reader.Phase.{Phase}
 use Rattle.kex_reader.specs.declared.reader.Phase.TheVariants as phases
 use Rattle.kex_reader.specs.declared.reader.Reader.{Reader}
-use Rattle.kex_reader.specs.declared.stack.Frame.{Frame}
-use Rattle.kex_reader.specs.declared.stack.Frame.TheVariants as frames
+use Rattle.kex_reader.specs.declared.stack.Construct.{Construct}
+use Rattle.kex_reader.specs.declared.stack.Construct.TheVariants as constructs
 use Rattle.kex_reader.specs.declared.stack.Prefix.{Prefix}
 use Rattle.kex_reader.specs.declared.stack.Prefix.TheVariants as prefixes
 use Rattle.kex_reader.specs.declared.stack.Part.{Part as Shown}
 use Rattle.kex_reader.specs.Reading.{State, Begin, StageRead}
 use Rattle.kex_reader.specs.Shown.{Made, assignment_kind}
-use Rattle.kex_reader.specs.Stands.{Keeps, Has, NoneLost, LosesNone, InFrame, InFrames, InPart, InPieces, InPiece, InAssignment, InWait, IsHeld, StepLosesNone, frame_of, prefixed_kind}
+use Rattle.kex_reader.specs.Stands.{Keeps, Has, NoneLost, LosesNone, InConstruct, InConstructs, InPart, InPieces, InPiece, InAssignment, InWait, IsHeld, StepLosesNone, construct_of, prefixed_kind}
 use Rattle.kex_reader.specs.Holding.{InPhase, InReader, InProgram, EndLosesNone, ReaderLosesNone, FinishLosesNone, ShowsState, SomeState}
 use Rattle.kex_reader.specs.Uses.{Numbered, NodeNumber, NameNumber, RegisterNumber, InKind, InNodes, InDefinition, InDefinitions, InStages, NoneSpare}
 use Rattle.kex_model.specs.Programs.{Grammar}
@@ -127,14 +127,14 @@ in_call n x e = subst (λ (y : Numbered). InKind (kinds.Call n) y) (sym e) refl
 pub in_write : (n : ℕ) (x : Numbered) → x ≡ RegisterNumber n → InKind (kinds.Write n) x
 in_write n x e = subst (λ (y : Numbered). InKind (kinds.Write n) y) (sym e) refl
 
-pub in_prefixed : (prefix : Prefix) (n : ℕ) (x : Numbered) → (x ≡ NodeNumber n) ⊎ InFrame (frame_of prefix) x → InKind (prefixed_kind prefix n) x
+pub in_prefixed : (prefix : Prefix) (n : ℕ) (x : Numbered) → (x ≡ NodeNumber n) ⊎ InConstruct (construct_of prefix) x → InKind (prefixed_kind prefix n) x
 in_prefixed (prefixes.Mute at) n x (inl e) = subst (λ (y : Numbered). InKind (kinds.Mute n) y) (sym e) refl
 in_prefixed (prefixes.Mute at) n x (inr h) = absurd h
 in_prefixed (prefixes.Store s) n x (inl e) = subst (λ (y : Numbered). InKind (kinds.At s.register n) y) (sym e) refl
 in_prefixed (prefixes.Store s) n x (inr e) = subst (λ (y : Numbered). InKind (kinds.At s.register n) y) (sym e) refl
 
-pub prefixed_as : (prefix p : Prefix) (n : ℕ) → prefix ≡ p → (x : Numbered) → (x ≡ NodeNumber n) ⊎ InFrame (frame_of prefix) x → InKind (prefixed_kind p n) x
-prefixed_as prefix p n e x h = in_prefixed p n x (subst (λ (q : Prefix). (x ≡ NodeNumber n) ⊎ InFrame (frame_of q) x) e h)
+pub prefixed_as : (prefix p : Prefix) (n : ℕ) → prefix ≡ p → (x : Numbered) → (x ≡ NodeNumber n) ⊎ InConstruct (construct_of prefix) x → InKind (prefixed_kind p n) x
+prefixed_as prefix p n e x h = in_prefixed p n x (subst (λ (q : Prefix). (x ≡ NodeNumber n) ⊎ InConstruct (construct_of q) x) e h)
 
 pub in_assigned : (append : Bool) (r : ℕ) (ps : List Piece) (x : Numbered) → (x ≡ RegisterNumber r) ⊎ InPieces ps x → InKind (assignment_kind append r ps) x
 in_assigned true r ps x (inl e) = subst (λ (y : Numbered). InKind (kinds.Add r ps) y) (sym e) (inl refl)
@@ -162,32 +162,32 @@ pieces_are o p e x h = subst (λ (y : Option Piece). InPiece y x) e h
 pub register_piece : (r : ℕ) (x : Numbered) → x ≡ RegisterNumber r → InPieces (pieces.Register r ∷ []) x
 register_piece r x e = subst (λ (y : Numbered). InPieces (pieces.Register r ∷ []) y) (sym e) (inl refl)
 
--- ---- frames
+-- ---- constructs
 
-pub frames_are : (fs gs : List Frame) → fs ≡ gs → (x : Numbered) → InFrames fs x → InFrames gs x
-frames_are fs gs e x h = subst (λ (ys : List Frame). InFrames ys x) e h
+pub constructs_are : (fs gs : List Construct) → fs ≡ gs → (x : Numbered) → InConstructs fs x → InConstructs gs x
+constructs_are fs gs e x h = subst (λ (ys : List Construct). InConstructs ys x) e h
 
-pub no_frames : (fs : List Frame) → length fs ≡ 0 → (x : Numbered) → InFrames fs x → ⊥
-no_frames [] e x h = h
-no_frames (f ∷ fs) e x h = absurd (omega (arith, e))
+pub no_constructs : (fs : List Construct) → length fs ≡ 0 → (x : Numbered) → InConstructs fs x → ⊥
+no_constructs [] e x h = h
+no_constructs (f ∷ fs) e x h = absurd (omega (arith, e))
 
 pub parts_are : (o p : Option Shown) → o ≡ p → (x : Numbered) → InPart o x → InPart p x
 parts_are o p e x h = subst (λ (y : Option Shown). InPart y x) e h
 
 -- ---- steps
 
-pub step_from : (r : Result Wait StepFault) (a b : Made) (B B' : Numbered → Type 0) (gs : List Frame) → ((x : Numbered) → B' x → B x) → IfOk r (λ w. LosesNone a b B (IsHeld gs w)) → IfOk r (λ w. LosesNone a b B' (IsHeld gs w))
+pub step_from : (r : Result Wait StepFault) (a b : Made) (B B' : Numbered → Type 0) (gs : List Construct) → ((x : Numbered) → B' x → B x) → IfOk r (λ w. LosesNone a b B (IsHeld gs w)) → IfOk r (λ w. LosesNone a b B' (IsHeld gs w))
 step_from (Ok w) a b B B' gs f h = held_as a b _ _ _ _ f (λ x i. i) h
 step_from (Err e) a b B B' gs f h = tt
 
-pub step_then : (r : Result Wait StepFault) (a b c : Made) (B M M' : Numbered → Type 0) (gs : List Frame) → OnOk r (Keeps b c) → LosesNone a b B M → ((x : Numbered) → M x → M' x) → IfOk r (λ w. LosesNone b c M' (IsHeld gs w)) → IfOk r (λ w. LosesNone a c B (IsHeld gs w))
+pub step_then : (r : Result Wait StepFault) (a b c : Made) (B M M' : Numbered → Type 0) (gs : List Construct) → OnOk r (Keeps b c) → LosesNone a b B M → ((x : Numbered) → M x → M' x) → IfOk r (λ w. LosesNone b c M' (IsHeld gs w)) → IfOk r (λ w. LosesNone a c B (IsHeld gs w))
 step_then (Ok w) a b c B M M' gs k f g h = none_lost a b c B M (IsHeld gs w) k f (held_as b c _ _ _ _ g (λ x i. i) h)
 step_then (Err e) a b c B M M' gs k f g h = tt
 
-pub waiting : (w v : Wait) (a b : Made) (fs gs : List Frame) (r : Result Wait StepFault) → w ≡ v → StepLosesNone a b fs v gs r → StepLosesNone a b fs w gs r
+pub waiting : (w v : Wait) (a b : Made) (fs gs : List Construct) (r : Result Wait StepFault) → w ≡ v → StepLosesNone a b fs v gs r → StepLosesNone a b fs w gs r
 waiting w v a b fs gs r e h = subst (λ (x : Wait). StepLosesNone a b fs x gs r) (sym e) h
 
-pub sign_read : (r : Result Wait StepFault) (a : Made) (fs : List Frame) (at k : ℕ) → IfOk r (λ w. (x : Numbered) → x ≡ RegisterNumber k → InWait w x) → StepLosesNone a a fs (waits.BracketName at k) fs r
+pub sign_read : (r : Result Wait StepFault) (a : Made) (fs : List Construct) (at k : ℕ) → IfOk r (λ w. (x : Numbered) → x ≡ RegisterNumber k → InWait w x) → StepLosesNone a a fs (waits.BracketName at k) fs r
 sign_read (Ok w) a fs at k h = unchanged a _ _ (λ x i. elim i [ inl j ↦ inl j | inr e ↦ inr (h x e) ])
 sign_read (Err e) a fs at k h = tt
 
@@ -224,13 +224,13 @@ pub reader_still : (r : Reader) (p q : Phase) → ((x : Numbered) → InPhase p 
 reader_still r p q f = (Keeps-refl r.draft, unchanged r.draft _ _ (λ x h. elim h [ inl i ↦ inl i | inr j ↦ elim j [ inl k ↦ inr (inl (f x k)) | inr k ↦ inr (inr k) ] ]))
 
 -- a head is read
-pub head_then : (r : Result Phase StepFault) (a : Made) (mid new : Reader) (B : Numbered → Type 0) → Keeps a mid.draft → LosesNone a mid.draft B (λ x. InFrames mid.stack x ⊎ InProgram mid x) → OnOk r (Keeps mid.draft new.draft) → OnOk r ((new.stack ≡ mid.stack) × (new.definitions.items ≡ mid.definitions.items) × (new.stages.items ≡ mid.stages.items)) → IfOk r (λ p. LosesNone mid.draft new.draft (λ x. ⊥) (InPhase p)) → IfOk r (λ p. Keeps a new.draft × LosesNone a new.draft B (InReader new p))
+pub head_then : (r : Result Phase StepFault) (a : Made) (mid new : Reader) (B : Numbered → Type 0) → Keeps a mid.draft → LosesNone a mid.draft B (λ x. InConstructs mid.stack x ⊎ InProgram mid x) → OnOk r (Keeps mid.draft new.draft) → OnOk r ((new.stack ≡ mid.stack) × (new.definitions.items ≡ mid.definitions.items) × (new.stages.items ≡ mid.stages.items)) → IfOk r (λ p. LosesNone mid.draft new.draft (λ x. ⊥) (InPhase p)) → IfOk r (λ p. Keeps a new.draft × LosesNone a new.draft B (InReader new p))
 head_then (Err e) a mid new B k f l rest h = tt
 head_then (Ok p) a mid new B k f l rest h = (
   Keeps-trans a mid.draft new.draft k l,
-  none_lost a mid.draft new.draft B (λ x. InFrames mid.stack x ⊎ InProgram mid x) (InReader new p) l f
-      (beside mid.draft new.draft _ _ (λ x. InFrames mid.stack x ⊎ InProgram mid x) _ _ (λ x i. inr i) (λ x i. inr (inl i)) (λ x i. elim i [
-        | inl j ↦ inl (frames_are _ _ (sym rest.0) x j)
+  none_lost a mid.draft new.draft B (λ x. InConstructs mid.stack x ⊎ InProgram mid x) (InReader new p) l f
+      (beside mid.draft new.draft _ _ (λ x. InConstructs mid.stack x ⊎ InProgram mid x) _ _ (λ x i. inr i) (λ x i. inr (inl i)) (λ x i. elim i [
+        | inl j ↦ inl (constructs_are _ _ (sym rest.0) x j)
         | inr j ↦ elim j [ inl d ↦ inr (inr (inl (definitions_are _ _ (sym rest.1) x d))) | inr s ↦ inr (inr (inr (stages_are _ _ (sym rest.2) x s))) ]
       ]) h),
 )
@@ -243,10 +243,10 @@ pub stage_then : (r : Result Phase StepFault) (old new : Reader) (q : Phase) →
 stage_then (Err e) old new q f k h rest = tt
 stage_then (Ok p) old new q f k h rest = (
   k,
-  beside old.draft new.draft _ _ (λ x. InFrames old.stack x ⊎ InDefinitions old.definitions.items x) _ _ (λ x i. elim i [
+  beside old.draft new.draft _ _ (λ x. InConstructs old.stack x ⊎ InDefinitions old.definitions.items x) _ _ (λ x i. elim i [
     | inl j ↦ inr (inl j)
     | inr j ↦ elim j [ inl z ↦ absurd (f x z) | inr l ↦ elim l [ inl d ↦ inr (inr d) | inr s ↦ inl s ] ]
-  ]) (λ x s. inr (inr (inr s))) (λ x i. elim i [ inl j ↦ inl (frames_are _ _ (sym rest.0) x j) | inr d ↦ inr (inr (inl (definitions_are _ _ (sym rest.1) x d))) ]) h,
+  ]) (λ x s. inr (inr (inr s))) (λ x i. elim i [ inl j ↦ inl (constructs_are _ _ (sym rest.0) x j) | inr d ↦ inr (inr (inl (definitions_are _ _ (sym rest.1) x d))) ]) h,
 )
 
 -- a step inside a definition
@@ -282,12 +282,12 @@ on_then (Err e) a b c B M A k f g = tt
 
 -- ---- the end
 
-begin_open : (made : Made) (at : ℕ → ℕ) (fs : List Frame) (ds : List Root) (ss : List Start) (s : State) → ShowsState made at fs ds ss phases.Begin s → fs ≡ []
+begin_open : (made : Made) (at : ℕ → ℕ) (fs : List Construct) (ds : List Root) (ss : List Start) (s : State) → ShowsState made at fs ds ss phases.Begin s → fs ≡ []
 unfolding ShowsState
 begin_open made at fs ds ss Begin h = h.0
 begin_open made at fs ds ss _ h = absurd h
 
-read_open : (made : Made) (at : ℕ → ℕ) (fs : List Frame) (ds : List Root) (ss : List Start) (s : State) → ShowsState made at fs ds ss phases.StageRead s → fs ≡ []
+read_open : (made : Made) (at : ℕ → ℕ) (fs : List Construct) (ds : List Root) (ss : List Start) (s : State) → ShowsState made at fs ds ss phases.StageRead s → fs ≡ []
 unfolding ShowsState
 read_open made at fs ds ss (StageRead f ns) h = h.0
 read_open made at fs ds ss _ h = absurd h
@@ -296,7 +296,7 @@ finish_still : (r : Reader) (p q : Phase) → p ≡ q → r.stack ≡ [] → ((x
 finish_still r p q e s f = (
   Keeps-refl r.draft,
   unchanged r.draft _ _ (λ x h. elim h [
-    | inl i ↦ absurd (frames_are _ _ s x i)
+    | inl i ↦ absurd (constructs_are _ _ s x i)
     | inr j ↦ elim j [ inl k ↦ absurd (f x (subst (λ (y : Phase). InPhase y x) e k)) | inr l ↦ l ]
   ]),
 )

@@ -2,7 +2,7 @@
 use Rattle.std.specs.Prelude.{◌≡◌, ℕ, ◌+◌, ◌++◌, ◌∷◌, List, [], length, ◌⊎◌, Option, Some, None, Result, Ok, Err, IfOk, OnOk}
 use Rattle.kex_model.specs.declared.program.Definition.{Definition as Root}
 use Rattle.kex_model.specs.declared.program.Start.{Start}
-use Rattle.kex_reader.specs.declared.stack.Frame.{Frame}
+use Rattle.kex_reader.specs.declared.stack.Construct.{Construct}
 use Rattle.kex_reader.specs.declared.inside.StepFault.{StepFault}
 use Rattle.kex_reader.specs.declared.inside.StepFault.TheVariants as faults
 use Rattle.kex_reader.specs.declared.inside.Wait.{Wait}
@@ -14,7 +14,7 @@ use Rattle.kex_reader.specs.Syntax.{Header, NoStart, Stages, Definition, Program
 use Rattle.kex_reader.specs.Reading.{Entry, Inside, State, Begin, FirstName, StartLine, StageRead, StageNext, HeadRead, Within, before, words_read}
 use Rattle.kex_reader.specs.Shown.{Made, IsName, ShowsTerm, ShowsDefinitions, ShowsStages}
 use Rattle.kex_reader.specs.Uses.{Numbered, NameNumber, InDefinitions, InStages}
-use Rattle.kex_reader.specs.Stands.{ShowsInside, InFrames, InWait, Keeps, LosesNone}
+use Rattle.kex_reader.specs.Stands.{ShowsInside, InConstructs, InWait, Keeps, LosesNone}
 
 abbrev pub ShowsHead : Header → Made → (ℕ → ℕ) → List Start → Type 0
 ShowsHead NoStart made at ss = ss ≡ []
@@ -24,8 +24,8 @@ ShowsHead (Stages n ns) made at ss = ShowsStages (n ∷ ns) made at ss 2
 abbrev pub next_index : Header → List Definition → ℕ
 next_index h done = length (header h) + length (definitions done)
 
--- frames, definitions and stages so far, and what is waited for, are those of a state
-unfoldable pub ShowsState : Made → (ℕ → ℕ) → List Frame → List Root → List Start → Phase → State → Type 0
+-- constructs, definitions and stages so far, and what is waited for, are those of a state
+unfoldable pub ShowsState : Made → (ℕ → ℕ) → List Construct → List Root → List Start → Phase → State → Type 0
 ShowsState made at fs ds ss phases.Begin Begin = (fs ≡ []) × (ds ≡ []) × (ss ≡ [])
 ShowsState made at fs ds ss (phases.FirstName n) (FirstName name) = (fs ≡ []) × (ds ≡ []) × (ss ≡ []) × (n.bytes.now ≡ name) × (n.at ≡ at 0)
 ShowsState made at fs ds ss phases.StartLine StartLine = (fs ≡ []) × (ds ≡ []) × (ss ≡ [])
@@ -36,14 +36,14 @@ ShowsState made at fs ds ss (phases.Within head wait) (Within h done name i) = S
 ShowsState made at fs ds ss _ _ = ⊥
 
 -- what a step made is what the machine makes, unless memory ran out
-unfoldable pub StateSteps : Made → (ℕ → ℕ) → List Frame → List Root → List Start → Result Phase StepFault → Option State → Type 0
+unfoldable pub StateSteps : Made → (ℕ → ℕ) → List Construct → List Root → List Start → Result Phase StepFault → Option State → Type 0
 StateSteps made at fs ds ss (Ok phase) None = ⊥
 StateSteps made at fs ds ss (Ok phase) (Some s) = ShowsState made at fs ds ss phase s
 StateSteps made at fs ds ss (Err faults.Memory) o = Unit {0}
 StateSteps made at fs ds ss (Err faults.Wrong) None = Unit {0}
 StateSteps made at fs ds ss (Err faults.Wrong) (Some s) = ⊥
 
-abbrev pub SomeState : Made → List Frame → List Root → List Start → Phase → Type 0
+abbrev pub SomeState : Made → List Construct → List Root → List Start → Phase → Type 0
 SomeState made fs ds ss phase = (at : ℕ → ℕ) × (s : State) × ShowsState made at fs ds ss phase s
 
 -- the term that is left, where nothing stands below it
@@ -53,7 +53,7 @@ whole_term (Some (t, [])) = Some t
 whole_term (Some (t, e ∷ es)) = None
 
 -- a definition that ends with this term, unless memory ran out
-unfoldable pub Ends : Made → (ℕ → ℕ) → ℕ → List Frame → List Root → List Root → ℕ → ℕ → Result (Unit {0}) StepFault → Option Term → Type 0
+unfoldable pub Ends : Made → (ℕ → ℕ) → ℕ → List Construct → List Root → List Root → ℕ → ℕ → Result (Unit {0}) StepFault → Option Term → Type 0
 Ends made at base fs old new name from (Ok u) None = ⊥
 Ends made at base fs old new name from (Ok u) (Some t) = (fs ≡ []) × (root : ℕ) × (new ≡ old ++ record { name = name; at = from; root = root } ∷ []) × ShowsTerm t made at root base
 Ends made at base fs old new name from (Err faults.Memory) o = Unit {0}
@@ -74,7 +74,7 @@ InPhase (phases.Within head wait) x = (x ≡ NameNumber head.name) ⊎ InWait wa
 InPhase _ x = ⊥
 
 abbrev pub InReader : Reader → Phase → Numbered → Type 0
-InReader r phase x = InFrames r.stack x ⊎ (InPhase phase x ⊎ (InDefinitions r.definitions.items x ⊎ InStages r.stages.items x))
+InReader r phase x = InConstructs r.stack x ⊎ (InPhase phase x ⊎ (InDefinitions r.definitions.items x ⊎ InStages r.stages.items x))
 
 -- what a reader is left with at the end
 abbrev pub InProgram : Reader → Numbered → Type 0

@@ -8,8 +8,8 @@ use Rattle.kex_code.specs.declared.piece.Piece.{Piece}
 use Rattle.kex_code.specs.declared.piece.Piece.TheVariants as piece_kinds
 use Rattle.kex_tokens.specs.Values.{number_of}
 use Rattle.kex_regexp.specs.declared.breaks.Break.{Break}
-use Rattle.kex_reader.specs.declared.stack.Frame.{Frame}
-use Rattle.kex_reader.specs.declared.stack.Frame.TheVariants as frames
+use Rattle.kex_reader.specs.declared.stack.Construct.{Construct}
+use Rattle.kex_reader.specs.declared.stack.Construct.TheVariants as constructs
 use Rattle.kex_reader.specs.declared.stack.Prefix.{Prefix}
 use Rattle.kex_reader.specs.declared.stack.Prefix.TheVariants as prefixes
 use Rattle.kex_reader.specs.declared.stack.Part.{Part as Shown}
@@ -42,18 +42,18 @@ abbrev pub NotesLeast : List Check → Option Break → Type 0
 NotesLeast cs None = (b : Break) → SomeBreaks cs b → ⊥
 NotesLeast cs (Some b) = IsLeastBreak cs b
 
--- ---- frames
+-- ---- constructs
 
-abbrev pub is_opening : Frame → Bool
-is_opening (frames.Mark at) = true
-is_opening (frames.Ended part) = false
-is_opening (frames.Done part) = false
-is_opening (frames.Muted at) = true
-is_opening (frames.Storing s) = true
+abbrev pub is_opening : Construct → Bool
+is_opening (constructs.Mark at) = true
+is_opening (constructs.Ended part) = false
+is_opening (constructs.Done part) = false
+is_opening (constructs.Muted at) = true
+is_opening (constructs.Storing s) = true
 
-abbrev pub frame_of : Prefix → Frame
-frame_of (prefixes.Mute at) = frames.Muted at
-frame_of (prefixes.Store s) = frames.Storing s
+abbrev pub construct_of : Prefix → Construct
+construct_of (prefixes.Mute at) = constructs.Muted at
+construct_of (prefixes.Store s) = constructs.Storing s
 
 -- the node of a prefix over another node, and its offset
 abbrev pub prefixed_kind : Prefix → ℕ → Kind
@@ -68,10 +68,10 @@ abbrev pub HasRegisterBelow : ℕ → Prefix → Type 0
 HasRegisterBelow registers (prefixes.Mute at) = Unit {0}
 HasRegisterBelow registers (prefixes.Store s) = s.register < registers
 
--- how many parentheses and prefixes are among the frames
-unfoldable pub open_frames : List Frame → ℕ
-open_frames [] = 0
-open_frames (f ∷ fs) = if is_opening f then suc (open_frames fs) else open_frames fs
+-- how many parentheses and prefixes are among the constructs
+unfoldable pub open_constructs : List Construct → ℕ
+open_constructs [] = 0
+open_constructs (f ∷ fs) = if is_opening f then suc (open_constructs fs) else open_constructs fs
 
 -- and among the entries
 unfoldable pub depth : List Entry → ℕ
@@ -82,33 +82,33 @@ depth (Done p ∷ es) = depth es
 depth (Muted ∷ es) = suc (depth es)
 depth (Storing r ∷ es) = suc (depth es)
 
--- the frames, the newest first, show the entries of a definition whose term begins with word number base
-unfoldable pub FramesShow : Made → (ℕ → ℕ) → ℕ → List Frame → List Entry → Type 0
-FramesShow made at base [] [] = Unit {0}
-FramesShow made at base (frames.Mark a ∷ fs) (Mark ∷ es) = (a ≡ at (base + length (entries es))) × FramesShow made at base fs es
-FramesShow made at base (frames.Ended p ∷ fs) (Ended s ∷ es) = (p.at ≡ at (base + length (entries es))) × ShowsSeq s made at p.node (base + length (entries es)) × FramesShow made at base fs es
-FramesShow made at base (frames.Done p ∷ fs) (Done q ∷ es) = (p.at ≡ at (base + length (entries es))) × ShowsPre q made at p.node (base + length (entries es)) × FramesShow made at base fs es
-FramesShow made at base (frames.Muted a ∷ fs) (Muted ∷ es) = (a ≡ at (base + length (entries es))) × FramesShow made at base fs es
-FramesShow made at base (frames.Storing s ∷ fs) (Storing r ∷ es) = (s.at ≡ at (base + length (entries es))) × IsRegister made s.register r × FramesShow made at base fs es
-FramesShow made at base _ _ = ⊥
+-- the constructs, the newest first, show the entries of a definition whose term begins with word number base
+unfoldable pub ConstructsShow : Made → (ℕ → ℕ) → ℕ → List Construct → List Entry → Type 0
+ConstructsShow made at base [] [] = Unit {0}
+ConstructsShow made at base (constructs.Mark a ∷ fs) (Mark ∷ es) = (a ≡ at (base + length (entries es))) × ConstructsShow made at base fs es
+ConstructsShow made at base (constructs.Ended p ∷ fs) (Ended s ∷ es) = (p.at ≡ at (base + length (entries es))) × ShowsSeq s made at p.node (base + length (entries es)) × ConstructsShow made at base fs es
+ConstructsShow made at base (constructs.Done p ∷ fs) (Done q ∷ es) = (p.at ≡ at (base + length (entries es))) × ShowsPre q made at p.node (base + length (entries es)) × ConstructsShow made at base fs es
+ConstructsShow made at base (constructs.Muted a ∷ fs) (Muted ∷ es) = (a ≡ at (base + length (entries es))) × ConstructsShow made at base fs es
+ConstructsShow made at base (constructs.Storing s ∷ fs) (Storing r ∷ es) = (s.at ≡ at (base + length (entries es))) × IsRegister made s.register r × ConstructsShow made at base fs es
+ConstructsShow made at base _ _ = ⊥
 
--- what has ended on top, as a seq or term above entries that the frames show
-pub record SeqOn (made : Made) (at : ℕ → ℕ) (base : ℕ) (fs : List Frame) (part : Shown) (t : Seq × List Entry) : Type 0 where
+-- what has ended on top, as a seq or term above entries that the constructs show
+pub record SeqOn (made : Made) (at : ℕ → ℕ) (base : ℕ) (fs : List Construct) (part : Shown) (t : Seq × List Entry) : Type 0 where
   pub place : part.at ≡ at (base + length (entries t.1))
   pub shows : ShowsSeq t.0 made at part.node (base + length (entries t.1))
-  pub below : FramesShow made at base fs t.1
+  pub below : ConstructsShow made at base fs t.1
 
-pub record TermOn (made : Made) (at : ℕ → ℕ) (base : ℕ) (fs : List Frame) (part : Shown) (t : Term × List Entry) : Type 0 where
+pub record TermOn (made : Made) (at : ℕ → ℕ) (base : ℕ) (fs : List Construct) (part : Shown) (t : Term × List Entry) : Type 0 where
   pub place : part.at ≡ at (base + length (entries t.1))
   pub shows : ShowsTerm t.0 made at part.node (base + length (entries t.1))
-  pub below : FramesShow made at base fs t.1
+  pub below : ConstructsShow made at base fs t.1
 
-abbrev pub SeqTaken : Made → (ℕ → ℕ) → ℕ → List Frame → Option Shown → Option (Seq × List Entry) → Type 0
+abbrev pub SeqTaken : Made → (ℕ → ℕ) → ℕ → List Construct → Option Shown → Option (Seq × List Entry) → Type 0
 SeqTaken made at base fs None None = Unit {0}
 SeqTaken made at base fs (Some part) (Some t) = SeqOn made at base fs part t
 SeqTaken made at base fs _ _ = ⊥
 
-abbrev pub TermTaken : Made → (ℕ → ℕ) → ℕ → List Frame → Option Shown → Option (Term × List Entry) → Type 0
+abbrev pub TermTaken : Made → (ℕ → ℕ) → ℕ → List Construct → Option Shown → Option (Term × List Entry) → Type 0
 TermTaken made at base fs None None = Unit {0}
 TermTaken made at base fs (Some part) (Some t) = TermOn made at base fs part t
 TermTaken made at base fs _ _ = ⊥
@@ -173,33 +173,33 @@ ShowsMode made at i (waits.Assigned x) (Assigned append r p ps) = (x.at ≡ at i
 ShowsMode made at i (waits.InCount part c brace) (InCount a d) = (part.at ≡ at i) × ShowsAtom a made at part.node i × ShowsCount c d × (brace ≡ at (i + length (atom a)))
 ShowsMode _ _ _ _ _ = ⊥
 
--- frames and what is waited for are those of a place inside a definition
-pub record ShowsInside (made : Made) (at : ℕ → ℕ) (base : ℕ) (fs : List Frame) (wait : Wait) (i : Inside) : Type 0 where
-  pub below : FramesShow made at base fs i.entries
+-- constructs and what is waited for are those of a place inside a definition
+pub record ShowsInside (made : Made) (at : ℕ → ℕ) (base : ℕ) (fs : List Construct) (wait : Wait) (i : Inside) : Type 0 where
+  pub below : ConstructsShow made at base fs i.entries
   pub mode : ShowsMode made at (base + length (entries i.entries)) wait i.mode
 
 -- what a step made is what the machine makes, unless memory ran out
-unfoldable pub Steps : Made → (ℕ → ℕ) → ℕ → List Frame → Result Wait StepFault → Option Inside → Type 0
+unfoldable pub Steps : Made → (ℕ → ℕ) → ℕ → List Construct → Result Wait StepFault → Option Inside → Type 0
 Steps made at base fs (Ok wait) None = ⊥
 Steps made at base fs (Ok wait) (Some i) = ShowsInside made at base fs wait i
 Steps made at base fs (Err faults.Memory) o = Unit {0}
 Steps made at base fs (Err faults.Wrong) None = Unit {0}
 Steps made at base fs (Err faults.Wrong) (Some i) = ⊥
 
--- these frames are those of some entries, and an atom stands on them
-abbrev pub SomeFrames : Made → List Frame → Type 0
-SomeFrames made fs = (at : ℕ → ℕ) × (base : ℕ) × (es : List Entry) × FramesShow made at base fs es
+-- these constructs are those of some entries, and an atom stands on them
+abbrev pub SomeConstructs : Made → List Construct → Type 0
+SomeConstructs made fs = (at : ℕ → ℕ) × (base : ℕ) × (es : List Entry) × ConstructsShow made at base fs es
 
-abbrev pub SomeAtom : Made → List Frame → Shown → Type 0
-SomeAtom made fs part = (at : ℕ → ℕ) × (base : ℕ) × (es : List Entry) × (a : Atom) × FramesShow made at base fs es × (part.at ≡ at (base + length (entries es))) × ShowsAtom a made at part.node (base + length (entries es))
+abbrev pub SomeAtom : Made → List Construct → Shown → Type 0
+SomeAtom made fs part = (at : ℕ → ℕ) × (base : ℕ) × (es : List Entry) × (a : Atom) × ConstructsShow made at base fs es × (part.at ≡ at (base + length (entries es))) × ShowsAtom a made at part.node (base + length (entries es))
 
-abbrev pub SomePre : Made → List Frame → Shown → Type 0
-SomePre made fs part = (at : ℕ → ℕ) × (base : ℕ) × (es : List Entry) × (p : Pre) × FramesShow made at base fs es × (part.at ≡ at (base + length (entries es))) × ShowsPre p made at part.node (base + length (entries es))
+abbrev pub SomePre : Made → List Construct → Shown → Type 0
+SomePre made fs part = (at : ℕ → ℕ) × (base : ℕ) × (es : List Entry) × (p : Pre) × ConstructsShow made at base fs es × (part.at ≡ at (base + length (entries es))) × ShowsPre p made at part.node (base + length (entries es))
 
-abbrev pub SomeName : Made → List Frame → ℕ → Type 0
-SomeName made fs a = (at : ℕ → ℕ) × (base : ℕ) × (es : List Entry) × FramesShow made at base fs es × (a ≡ at (base + length (entries es)))
+abbrev pub SomeName : Made → List Construct → ℕ → Type 0
+SomeName made fs a = (at : ℕ → ℕ) × (base : ℕ) × (es : List Entry) × ConstructsShow made at base fs es × (a ≡ at (base + length (entries es)))
 
-abbrev pub SomeInside : Made → List Frame → Wait → Type 0
+abbrev pub SomeInside : Made → List Construct → Wait → Type 0
 SomeInside made fs wait = (at : ℕ → ℕ) × (base : ℕ) × (i : Inside) × ShowsInside made at base fs wait i
 
 -- ---- the checks that a word asks
@@ -253,15 +253,15 @@ abbrev pub InPart : Option Shown → Numbered → Type 0
 InPart None x = ⊥
 InPart (Some p) x = x ≡ NodeNumber p.node
 
-abbrev pub InFrame : Frame → Numbered → Type 0
-InFrame (frames.Ended p) x = x ≡ NodeNumber p.node
-InFrame (frames.Done p) x = x ≡ NodeNumber p.node
-InFrame (frames.Storing s) x = x ≡ RegisterNumber s.register
-InFrame _ x = ⊥
+abbrev pub InConstruct : Construct → Numbered → Type 0
+InConstruct (constructs.Ended p) x = x ≡ NodeNumber p.node
+InConstruct (constructs.Done p) x = x ≡ NodeNumber p.node
+InConstruct (constructs.Storing s) x = x ≡ RegisterNumber s.register
+InConstruct _ x = ⊥
 
-abbrev pub InFrames : List Frame → Numbered → Type 0
-InFrames [] x = ⊥
-InFrames (f ∷ fs) x = InFrame f x ⊎ InFrames fs x
+abbrev pub InConstructs : List Construct → Numbered → Type 0
+InConstructs [] x = ⊥
+InConstructs (f ∷ fs) x = InConstruct f x ⊎ InConstructs fs x
 
 abbrev pub InPieces : List Piece → Numbered → Type 0
 InPieces ps (RegisterNumber r) = IsAmong ps (piece_kinds.Register r)
@@ -282,11 +282,11 @@ InWait (waits.Assigning y) x = InAssignment y x
 InWait (waits.Assigned y) x = InAssignment y x
 InWait _ x = ⊥
 
-abbrev pub IsHeld : List Frame → Wait → Numbered → Type 0
-IsHeld fs wait x = InFrames fs x ⊎ InWait wait x
+abbrev pub IsHeld : List Construct → Wait → Numbered → Type 0
+IsHeld fs wait x = InConstructs fs x ⊎ InWait wait x
 
 -- a step loses none
-abbrev pub StepLosesNone : Made → Made → List Frame → Wait → List Frame → Result Wait StepFault → Type 0
+abbrev pub StepLosesNone : Made → Made → List Construct → Wait → List Construct → Result Wait StepFault → Type 0
 StepLosesNone old new fs wait gs result = IfOk result (λ next. LosesNone old new (IsHeld fs wait) (IsHeld gs next))
 
 -- ---- what clauses say
@@ -295,38 +295,38 @@ StepLosesNone old new fs wait gs result = IfOk result (λ next. LosesNone old ne
 abbrev pub word_of : WordHeld → Word
 word_of w = word w.kind w.spelling.now
 
--- where the frames show entries, behind which a word stands at this offset
-abbrev pub Behind : Made → List Frame → ℕ → ((ℕ → ℕ) → ℕ → List Entry → Type 0) → Type 0
-Behind made fs place Says = (at : ℕ → ℕ) (base : ℕ) (es : List Entry) → FramesShow made at base fs es → place ≡ at (base + length (entries es)) → Says at base es
+-- where the constructs show entries, behind which a word stands at this offset
+abbrev pub Behind : Made → List Construct → ℕ → ((ℕ → ℕ) → ℕ → List Entry → Type 0) → Type 0
+Behind made fs place Says = (at : ℕ → ℕ) (base : ℕ) (es : List Entry) → ConstructsShow made at base fs es → place ≡ at (base + length (entries es)) → Says at base es
 
--- the same for any frames
-abbrev pub BehindAny : Made → ℕ → ((ℕ → ℕ) → ℕ → List Frame → List Entry → Type 0) → Type 0
-BehindAny made place Says = (at : ℕ → ℕ) (base : ℕ) (fs : List Frame) (es : List Entry) → FramesShow made at base fs es → place ≡ at (base + length (entries es)) → Says at base fs es
+-- the same for any constructs
+abbrev pub BehindAny : Made → ℕ → ((ℕ → ℕ) → ℕ → List Construct → List Entry → Type 0) → Type 0
+BehindAny made place Says = (at : ℕ → ℕ) (base : ℕ) (fs : List Construct) (es : List Entry) → ConstructsShow made at base fs es → place ≡ at (base + length (entries es)) → Says at base fs es
 
--- where the frames show entries, behind which stands an atom with this node
-abbrev pub OnAtom : Made → List Frame → Shown → ((ℕ → ℕ) → ℕ → List Entry → Atom → Type 0) → Type 0
-OnAtom made fs part Says = (at : ℕ → ℕ) (base : ℕ) (es : List Entry) (a : Atom) → FramesShow made at base fs es → part.at ≡ at (base + length (entries es)) → ShowsAtom a made at part.node (base + length (entries es)) → Says at base es a
+-- where the constructs show entries, behind which stands an atom with this node
+abbrev pub OnAtom : Made → List Construct → Shown → ((ℕ → ℕ) → ℕ → List Entry → Atom → Type 0) → Type 0
+OnAtom made fs part Says = (at : ℕ → ℕ) (base : ℕ) (es : List Entry) (a : Atom) → ConstructsShow made at base fs es → part.at ≡ at (base + length (entries es)) → ShowsAtom a made at part.node (base + length (entries es)) → Says at base es a
 
 -- the offset is that of the word behind the atom
 abbrev pub IsBehindAtom : (ℕ → ℕ) → ℕ → List Entry → Atom → ℕ → Type 0
 IsBehindAtom at base es a place = place ≡ at (base + length (entries es) + length (atom a))
 
--- where frames and what is waited for are those of a place inside a definition, and a word stands behind it at this offset
-abbrev pub InPlace : Made → List Frame → Wait → ℕ → ((ℕ → ℕ) → ℕ → Inside → Type 0) → Type 0
+-- where constructs and what is waited for are those of a place inside a definition, and a word stands behind it at this offset
+abbrev pub InPlace : Made → List Construct → Wait → ℕ → ((ℕ → ℕ) → ℕ → Inside → Type 0) → Type 0
 InPlace made fs wait place Says = (at : ℕ → ℕ) (base : ℕ) (i : Inside) → ShowsInside made at base fs wait i → place ≡ at (base + length (inside i)) → Says at base i
 
 -- the least limit that is broken goes on to be that of these checks too
 abbrev pub NotesMore : {A E : Type 0} → Option Break → Option Break → Result A E → List Check → Type 0
 NotesMore old new result more = (cs : List Check) → NotesLeast cs old → OnOk result (NotesLeast (cs ++ more) new)
 
--- where the frames show entries, behind which this is half read
-abbrev pub WhereHalfRead : Made → (ℕ → ℕ) → ℕ → List Frame → List Entry → Wait → Mode → Type 0 → Type 0
-WhereHalfRead made at base fs es wait mode Says = FramesShow made at base fs es → ShowsMode made at (base + length (entries es)) wait mode → Says
+-- where the constructs show entries, behind which this is half read
+abbrev pub WhereHalfRead : Made → (ℕ → ℕ) → ℕ → List Construct → List Entry → Wait → Mode → Type 0 → Type 0
+WhereHalfRead made at base fs es wait mode Says = ConstructsShow made at base fs es → ShowsMode made at (base + length (entries es)) wait mode → Says
 
 -- a word where the first part of an assignment has to come
 abbrev pub FirstPart : Made → Made → Assignment → Result Wait StepFault → Word → Type 0
-FirstPart old new x result w = (at : ℕ → ℕ) (base : ℕ) (fs : List Frame) (es : List Entry) (append : Bool) (r : List ℕ) → WhereHalfRead old at base fs es (waits.Assigning x) (Assigning append r) (Steps new at base fs result (first_part append r es w))
+FirstPart old new x result w = (at : ℕ → ℕ) (base : ℕ) (fs : List Construct) (es : List Entry) (append : Bool) (r : List ℕ) → WhereHalfRead old at base fs es (waits.Assigning x) (Assigning append r) (Steps new at base fs result (first_part append r es w))
 
 -- a word behind a part of an assignment
 abbrev pub NextPart : Made → Made → Assignment → Result Wait StepFault → Word → Type 0
-NextPart old new x result w = (at : ℕ → ℕ) (base : ℕ) (fs : List Frame) (es : List Entry) (append : Bool) (r : List ℕ) (p : Part) (ps : List Part) → WhereHalfRead old at base fs es (waits.Assigned x) (Assigned append r p ps) (Steps new at base fs result (next_part append r p ps es w))
+NextPart old new x result w = (at : ℕ → ℕ) (base : ℕ) (fs : List Construct) (es : List Entry) (append : Bool) (r : List ℕ) (p : Part) (ps : List Part) → WhereHalfRead old at base fs es (waits.Assigned x) (Assigned append r p ps) (Steps new at base fs result (next_part append r p ps es w))

@@ -11,15 +11,15 @@ ghost use Rattle.kex_reader.specs.Checks.{Check, Matched, Nested};
 ghost use Rattle.kex_reader.specs.Reading.{After, Assigned, Assigning, BracketName, CountStep as SpecCountStep, Entry, Inside, Ready, after_atom, begin_pre, entries, first_part};
 ghost use Rattle.kex_reader.specs.Reading.{goes, after_name, next_part, on_bar, on_close, on_count, on_name, on_sign, with_pre, inside, step_in as spec_step_in, take_seq, take_term};
 ghost use Rattle.kex_reader.specs.Shown.{Made, IsName, IsNode, IsRegister, ShowsAtom, ShowsParts, high as high_of, low as low_of};
-ghost use Rattle.kex_reader.specs.Stands.{Behind, BehindAny, FirstPart, FramesShow, InFrames, InPlace, InWait, IsBehindAtom, IsHeld, IsLeaf, Keeps, LosesNone, NextPart, NotesLeast, NotesMore};
-ghost use Rattle.kex_reader.specs.Stands.{OnAtom, ShowsCountStep, ShowsMode, SomeAtom, SomeFrames, SomeInside, SomeName, StepLosesNone, Steps, after_asks, asks, begin_asks, count_asks, named_asks, open_frames, word_of};
+ghost use Rattle.kex_reader.specs.Stands.{Behind, BehindAny, FirstPart, ConstructsShow, InConstructs, InPlace, InWait, IsBehindAtom, IsHeld, IsLeaf, Keeps, LosesNone, NextPart, NotesLeast, NotesMore};
+ghost use Rattle.kex_reader.specs.Stands.{OnAtom, ShowsCountStep, ShowsMode, SomeAtom, SomeConstructs, SomeInside, SomeName, StepLosesNone, Steps, after_asks, asks, begin_asks, count_asks, named_asks, open_constructs, word_of};
 ghost use Rattle.kex_reader.specs.Uses.{InKind, NodeNumber, Numbered, RegisterNumber};
 ghost use Rattle.kex_reader.specs.Syntax.{Atom, Part as SpecPart, Postfix, Turns, Write as SpecWrite, atom, between, word as grammar_word};
 
 use crate::counts::{Bounds, Count, CountStep, MOST, count_step};
 use crate::draft::Draft;
 use crate::pieces::{Assignment, piece};
-use crate::stack::{Frame, Part, Stack, Store};
+use crate::stack::{Construct, Part, Stack, Store};
 use crate::terms::{close_seq, close_term, put};
 use crate::word::{Name, Word};
 use kex_code::memory::Memory;
@@ -90,7 +90,7 @@ impl<T: Drop> From<AllocFailed<T>> for StepFault {
 fn leaf<'t>(draft: &mut Draft<'t>, kind: NodeKind, at: u32) -> Result<Wait<'t>, StepFault>
     requires below { HasNames (length draft.old.names) (length draft.old.registers) kind }
     requires alone { IsLeaf kind }
-    ensures held { (fs : List Frame) → IfOk result (λ w. LosesNone draft.old draft.new (λ x. InFrames fs x ⊎ InKind kind x) (IsHeld fs w)) }
+    ensures held { (fs : List Construct) → IfOk result (λ w. LosesNone draft.old draft.new (λ x. InConstructs fs x ⊎ InKind kind x) (IsHeld fs w)) }
     ensures keeps { OnOk result (Keeps draft.old draft.new) }
     ensures broken { OnOk result (draft.new.broken ≡ draft.old.broken) }
     ensures wait { IfOk result (λ w. (n : ℕ) × (w ≡ Wait.After (record { node = n; at = at })) × IsNode draft.new n kind at) }
@@ -103,7 +103,7 @@ fn leaf<'t>(draft: &mut Draft<'t>, kind: NodeKind, at: u32) -> Result<Wait<'t>, 
 // A literal.
 fn literal<'t>(alloc: Global, draft: &mut Draft<'t>, word: Word<'t>) -> Result<Wait<'t>, StepFault>
     requires { IsToken Kind.Literal word.spelling.now }
-    ensures held { (fs : List Frame) → StepLosesNone draft.old draft.new fs Wait.Need fs result }
+    ensures held { (fs : List Construct) → StepLosesNone draft.old draft.new fs Wait.Need fs result }
     ensures keeps { OnOk result (Keeps draft.old draft.new) }
     ensures broken { OnOk result (draft.new.broken ≡ draft.old.broken) }
     ensures wait { IfOk result (λ w. (n : ℕ) × (bytes : List ℕ) × (w ≡ Wait.After (record { node = n; at = word.entry.at })) × IsNode draft.new n (NodeKind.Lit bytes) word.entry.at × StandsFor word.entry.spelling.now bytes) }
@@ -133,7 +133,7 @@ fn body<'t>(
 ) -> Result<Wait<'t>, StepFault>
     requires token { IsToken Kind.Regex word.spelling.now }
     requires place { word.at + length word.spelling.now < 2 ^ 32 }
-    ensures held { (fs : List Frame) → StepLosesNone draft.old draft.new fs Wait.Need fs result }
+    ensures held { (fs : List Construct) → StepLosesNone draft.old draft.new fs Wait.Need fs result }
     ensures keeps { OnOk result (Keeps draft.old draft.new) }
     ensures wait { IfOk result (λ w. (n : ℕ) × (w ≡ Wait.After (record { node = n; at = word.entry.at })) × (n < length draft.new.nodes) × (draft.new.broken ≡ None → (r : Regex) × BodySpells r (between word.entry.spelling.now) × ShowsRegex r draft.new.nodes n (word.entry.at + 1))) }
     ensures notes { OnOk result ((cs : List Check) → NotesLeast cs draft.old.broken → NotesLeast (cs ++ Matched (word.entry.at + 1) depth (between word.entry.spelling.now) ∷ []) draft.new.broken) }
@@ -160,44 +160,44 @@ fn nest(draft: &mut Draft, depth: usize, at: u32)
 fn open<'t>(
     stack: &mut Stack,
     draft: &mut Draft<'t>,
-    frame: Frame,
+    construct: Construct,
     at: u32,
 ) -> Result<Wait<'t>, StepFault>
-    ensures held { IfOk result (λ w. LosesNone draft.old draft.new (InFrames (frame ∷ stack.old)) (IsHeld stack.new w)) }
+    ensures held { IfOk result (λ w. LosesNone draft.old draft.new (InConstructs (construct ∷ stack.old)) (IsHeld stack.new w)) }
     ensures keeps { OnOk result (Keeps draft.old draft.new) }
     ensures wait { IfOk result (λ w. w ≡ Wait.Need) }
-    ensures pushed { OnOk result (stack.new ≡ frame ∷ stack.old) }
-    ensures notes { OnOk result ((cs : List Check) → NotesLeast cs draft.old.broken → NotesLeast (cs ++ Nested at (open_frames stack.old) ∷ []) draft.new.broken) }
+    ensures pushed { OnOk result (stack.new ≡ construct ∷ stack.old) }
+    ensures notes { OnOk result ((cs : List Check) → NotesLeast cs draft.old.broken → NotesLeast (cs ++ Nested at (open_constructs stack.old) ∷ []) draft.new.broken) }
     ensures fault { IfErr result (λ e. e ≡ StepFault.Memory) }
 {
     nest(draft, stack.depth(), at);
-    stack.push(frame)?;
+    stack.push(construct)?;
     Ok(Wait::Need)
 }
 
 // A bar ends a sequence.
 fn bar<'t>(stack: &mut Stack, draft: &mut Draft<'t>) -> Result<Wait<'t>, StepFault>
-    requires { SomeFrames draft.old stack.old }
+    requires { SomeConstructs draft.old stack.old }
     ensures held { StepLosesNone draft.old draft.new stack.old Wait.Need stack.new result }
     ensures keeps { OnOk result (Keeps draft.old draft.new) }
     ensures broken { OnOk result (draft.new.broken ≡ draft.old.broken) }
-    ensures step { (at : ℕ → ℕ) (base : ℕ) (es : List Entry) → FramesShow draft.old at base stack.old es → Steps draft.new at base stack.new result (on_bar (take_seq es)) }
+    ensures step { (at : ℕ → ℕ) (base : ℕ) (es : List Entry) → ConstructsShow draft.old at base stack.old es → Steps draft.new at base stack.new result (on_bar (take_seq es)) }
 {
     let closed = close_seq(stack, draft)?;
     let Some(seq) = closed else {
         return Err(StepFault::Wrong);
     };
-    stack.push(Frame::Ended(seq))?;
+    stack.push(Construct::Ended(seq))?;
     Ok(Wait::Need)
 }
 
 // A parenthesis ends a term.
 fn close<'t>(stack: &mut Stack, draft: &mut Draft<'t>) -> Result<Wait<'t>, StepFault>
-    requires { SomeFrames draft.old stack.old }
+    requires { SomeConstructs draft.old stack.old }
     ensures held { StepLosesNone draft.old draft.new stack.old Wait.Need stack.new result }
     ensures keeps { OnOk result (Keeps draft.old draft.new) }
     ensures broken { OnOk result (draft.new.broken ≡ draft.old.broken) }
-    ensures step { (at : ℕ → ℕ) (base : ℕ) (es : List Entry) → FramesShow draft.old at base stack.old es → Steps draft.new at base stack.new result (on_close (take_term es)) }
+    ensures step { (at : ℕ → ℕ) (base : ℕ) (es : List Entry) → ConstructsShow draft.old at base stack.old es → Steps draft.new at base stack.new result (on_close (take_term es)) }
 {
     let closed = close_term(stack, draft)?;
     let Some(term) = closed else {
@@ -220,7 +220,7 @@ fn begin<'t>(
     free: bool,
     word: Word<'t>,
 ) -> Result<Wait<'t>, StepFault>
-    requires frames { SomeFrames draft.old stack.old }
+    requires constructs { SomeConstructs draft.old stack.old }
     requires token { IsToken word.kind word.spelling.now }
     requires place { word.at + length word.spelling.now < 2 ^ 32 }
     ensures held { StepLosesNone draft.old draft.new stack.old Wait.Need stack.new result }
@@ -245,10 +245,10 @@ fn begin<'t>(
         }
         Kind::Literal => literal(alloc, draft, word),
         Kind::Regex => body(alloc, stack.depth(), draft, word),
-        Kind::Tilde => open(stack, draft, Frame::Muted(word.at), word.at),
+        Kind::Tilde => open(stack, draft, Construct::Muted(word.at), word.at),
         Kind::Bang => Ok(Wait::Writing(word.at)),
         Kind::OpenBracket => Ok(Wait::Bracket(word.at)),
-        Kind::OpenParen => open(stack, draft, Frame::Mark(word.at), word.at),
+        Kind::OpenParen => open(stack, draft, Construct::Mark(word.at), word.at),
         Kind::Bar => {
             if free {
                 bar(stack, draft)
@@ -337,7 +337,7 @@ fn word_after_name<'t>(
     name: Name<'t>,
     word: Word<'t>,
 ) -> Result<Wait<'t>, StepFault>
-    requires frames { SomeName draft.old stack.old name.at }
+    requires constructs { SomeName draft.old stack.old name.at }
     requires token { IsToken word.kind word.spelling.now }
     requires place { word.at + length word.spelling.now < 2 ^ 32 }
     ensures held { StepLosesNone draft.old draft.new stack.old Wait.Need stack.new result }
@@ -352,7 +352,7 @@ fn word_after_name<'t>(
                 register,
                 at: name.at,
             };
-            open(stack, draft, Frame::Storing(store), name.at)
+            open(stack, draft, Construct::Storing(store), name.at)
         }
         Kind::Define => Err(StepFault::Wrong),
         _ => {
@@ -377,7 +377,7 @@ pub(crate) fn call<'t>(draft: &mut Draft<'t>, name: Name<'t>) -> Result<Part, Me
 
 // The register that is written.
 fn write<'t>(draft: &mut Draft<'t>, at: u32, word: Word<'t>) -> Result<Wait<'t>, StepFault>
-    ensures held { (fs : List Frame) → StepLosesNone draft.old draft.new fs Wait.Need fs result }
+    ensures held { (fs : List Construct) → StepLosesNone draft.old draft.new fs Wait.Need fs result }
     ensures keeps { OnOk result (Keeps draft.old draft.new) }
     ensures broken { OnOk result (draft.new.broken ≡ draft.old.broken) }
     ensures step { BehindAny draft.old at (λ place base fs es. Steps draft.new place base fs result (on_name (λ n. goes (After (SpecWrite n)) es) (word_of word.entry))) }
@@ -391,7 +391,7 @@ fn write<'t>(draft: &mut Draft<'t>, at: u32, word: Word<'t>) -> Result<Wait<'t>,
 
 // The register behind a bracket.
 fn bracket<'t>(draft: &mut Draft<'t>, at: u32, word: Word<'t>) -> Result<Wait<'t>, StepFault>
-    ensures held { (fs : List Frame) → StepLosesNone draft.old draft.new fs Wait.Need fs result }
+    ensures held { (fs : List Construct) → StepLosesNone draft.old draft.new fs Wait.Need fs result }
     ensures keeps { OnOk result (Keeps draft.old draft.new) }
     ensures broken { OnOk result (draft.new.broken ≡ draft.old.broken) }
     ensures step { BehindAny draft.old at (λ place base fs es. Steps draft.new place base fs result (on_name (λ n. goes (BracketName n) es) (word_of word.entry))) }
@@ -406,7 +406,8 @@ fn bracket<'t>(draft: &mut Draft<'t>, at: u32, word: Word<'t>) -> Result<Wait<'t
 // The sign behind a register.
 fn sign<'t>(alloc: Global, at: u32, register: u32, kind: Kind) -> Result<Wait<'t>, StepFault>
     ensures held { IfOk result (λ w. (x : Numbered) → x ≡ RegisterNumber register → InWait w x) }
-    ensures step { (made : Made) (place : ℕ → ℕ) (base : ℕ) (fs : List Frame) (es : List Entry) (r : List ℕ) (b : List ℕ) → FramesShow made place base fs es → at ≡ place (base + length (entries es)) → IsRegister made register r → Steps made place base fs result (on_sign r es (grammar_word kind b)) }
+    ensures step { (made : Made) (place : ℕ → ℕ) (base : ℕ) (fs : List Construct) (es : List Entry) (r : List ℕ) (b : List ℕ) → ConstructsShow made place base fs es → at ≡ place (base + length (entries es))
+        → IsRegister made register r → Steps made place base fs result (on_sign r es (grammar_word kind b)) }
 {
     match kind {
         Kind::Arrow => Ok(Wait::Assigning(Assignment {
@@ -433,7 +434,7 @@ fn part<'t>(
     word: Word<'t>,
 ) -> Result<Wait<'t>, StepFault>
     requires token { IsToken word.kind word.spelling.now }
-    ensures held { (fs : List Frame) → StepLosesNone draft.old draft.new fs (Wait.Assigning assignment) fs result }
+    ensures held { (fs : List Construct) → StepLosesNone draft.old draft.new fs (Wait.Assigning assignment) fs result }
     ensures keeps { OnOk result (Keeps draft.old draft.new) }
     ensures broken { OnOk result (draft.new.broken ≡ draft.old.broken) }
     ensures first { FirstPart draft.old draft.new assignment result (word_of word.entry) }
@@ -456,7 +457,7 @@ fn word_after_part<'t>(
 ) -> Result<Wait<'t>, StepFault>
     requires some { (place : ℕ → ℕ) × (i : ℕ) × (append : Bool) × (r : List ℕ) × (p : SpecPart) × (ps : List SpecPart) × ShowsMode draft.old place i (Wait.Assigned assignment) (Assigned append r p ps) }
     requires token { IsToken word.kind word.spelling.now }
-    ensures held { (fs : List Frame) → StepLosesNone draft.old draft.new fs (Wait.Assigned assignment) fs result }
+    ensures held { (fs : List Construct) → StepLosesNone draft.old draft.new fs (Wait.Assigned assignment) fs result }
     ensures keeps { OnOk result (Keeps draft.old draft.new) }
     ensures broken { OnOk result (draft.new.broken ≡ draft.old.broken) }
     ensures step { NextPart draft.old draft.new assignment result (word_of word.entry) }

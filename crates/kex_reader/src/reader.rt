@@ -8,7 +8,7 @@ ghost use Rattle.kex_reader.specs.Shown.{IsName, ShowsAtom};
 ghost use Rattle.kex_reader.specs.Asked.{state_asks};
 ghost use Rattle.kex_reader.specs.Uses.{InStages, NodeNumber};
 ghost use Rattle.kex_reader.specs.Checks.{Check, Staged};
-ghost use Rattle.kex_reader.specs.Stands.{Behind, FramesShow, InFrames, Keeps, LosesNone, NotesLeast, NotesMore, OnAtom, SomeAtom, SomeFrames, SomeInside, SomeName, word_of};
+ghost use Rattle.kex_reader.specs.Stands.{Behind, ConstructsShow, InConstructs, Keeps, LosesNone, NotesLeast, NotesMore, OnAtom, SomeAtom, SomeConstructs, SomeInside, SomeName, word_of};
 ghost use Rattle.kex_reader.specs.Syntax.{Atom, Call, Definition as SpecDefinition, Define, Once, Header, word as grammar_word};
 
 use crate::draft::Draft;
@@ -117,11 +117,11 @@ impl<'t> Reader<'t> {
 
     // The definition that is being read ends with what stands open.
     fn end(&mut self, head: Head) -> Result<(), StepFault>
-        requires { SomeFrames self.old.draft self.old.stack }
-        ensures held { OnOk result (EndLosesNone self.old self.new head (InFrames self.old.stack)) }
+        requires { SomeConstructs self.old.draft self.old.stack }
+        ensures held { OnOk result (EndLosesNone self.old self.new head (InConstructs self.old.stack)) }
         ensures keeps { OnOk result (Keeps self.old.draft self.new.draft) }
         ensures stages { OnOk result (self.new.stages.items ≡ self.old.stages.items) }
-        ensures ends { (at : ℕ → ℕ) (base : ℕ) (es : List Entry) → FramesShow self.old.draft at base self.old.stack es → ReaderEnds self.old self.new at base head result (whole_term (take_term es)) }
+        ensures ends { (at : ℕ → ℕ) (base : ℕ) (es : List Entry) → ConstructsShow self.old.draft at base self.old.stack es → ReaderEnds self.old self.new at base head result (whole_term (take_term es)) }
         ensures broken { OnOk result (self.new.draft.broken ≡ self.old.draft.broken) }
     {
         let closed = close_term(&mut self.stack, &mut self.draft)?;
@@ -248,7 +248,7 @@ impl<'t> Reader<'t> {
     // The last definition ends with this call.
     fn end_call(&mut self, head: Head, name: Name<'t>) -> Result<(), StepFault>
         requires { SomeName self.old.draft self.old.stack name.at }
-        ensures held { OnOk result (EndLosesNone self.old self.new head (InFrames self.old.stack)) }
+        ensures held { OnOk result (EndLosesNone self.old self.new head (InConstructs self.old.stack)) }
         ensures keeps { OnOk result (Keeps self.old.draft self.new.draft) }
         ensures stages { OnOk result (self.new.stages.items ≡ self.old.stages.items) }
         ensures ends { Behind self.old.draft self.old.stack name.entry.at (λ at base es. ReaderEnds self.old self.new at base head result (whole_term (take_term (with_pre (Once (Call name.entry.bytes.now)) es)))) }
@@ -261,7 +261,7 @@ impl<'t> Reader<'t> {
     // The last definition ends with this atom.
     fn end_with(&mut self, head: Head, item: Part) -> Result<(), StepFault>
         requires { SomeAtom self.old.draft self.old.stack item }
-        ensures held { OnOk result (EndLosesNone self.old self.new head (λ x. (x ≡ NodeNumber item.node) ⊎ InFrames self.old.stack x)) }
+        ensures held { OnOk result (EndLosesNone self.old self.new head (λ x. (x ≡ NodeNumber item.node) ⊎ InConstructs self.old.stack x)) }
         ensures keeps { OnOk result (Keeps self.old.draft self.new.draft) }
         ensures stages { OnOk result (self.new.stages.items ≡ self.old.stages.items) }
         ensures ends { OnAtom self.old.draft self.old.stack item (λ at base es a. ReaderEnds self.old self.new at base head result (whole_term (take_term (with_pre (Once a) es)))) }

@@ -1,7 +1,7 @@
 // What stands open in a definition.
 
 ghost use Rattle.std.specs.Prelude.{◌≡◌, ℕ, Bool, List, [], ◌∷◌, length, OnOk, IfSome, IfNone, ◌==◌};
-ghost use Rattle.kex_reader.specs.Stands.{is_opening, open_frames, frame_of};
+ghost use Rattle.kex_reader.specs.Stands.{is_opening, open_constructs, construct_of};
 
 use kex_code::memory::Memory;
 use std::alloc::Global;
@@ -24,7 +24,7 @@ pub(crate) struct Store {
 /// An open parenthesis; a sequence that a bar has ended; a member of the sequence that is being read; a prefix that waits for
 /// what it stands before.
 #[derive(Clone, Copy)]
-pub(crate) enum Frame {
+pub(crate) enum Construct {
     Mark(u32),
     Ended(Part),
     Done(Part),
@@ -39,33 +39,33 @@ pub(crate) enum Prefix {
     Store(Store),
 }
 
-/// Frames, the newest on top, and how many of them are parentheses or prefixes.
+/// Constructs, the newest on top, and how many of them are parentheses or prefixes.
 #[derive(Drop)]
 pub(crate) struct Stack {
-    frames: Vec<Frame>,
+    constructs: Vec<Construct>,
     depth: usize,
 }
 
 impl Model for Stack {
     ghost use Rattle.std.specs.Prelude.{◌≡◌, List, reverse};
-    ghost use Rattle.kex_reader.specs.declared.stack.Frame.{Frame};
-    ghost use Rattle.kex_reader.specs.Stands.{open_frames};
+    ghost use Rattle.kex_reader.specs.declared.stack.Construct.{Construct};
+    ghost use Rattle.kex_reader.specs.Stands.{open_constructs};
 
-    ghost Value = { List Frame };
+    ghost Value = { List Construct };
 
-    ghost view = { λ s. reverse s.frames.items };
+    ghost view = { λ s. reverse s.constructs.items };
 
-    ghost invariant = { λ s. s.depth ≡ open_frames (reverse s.frames.items) };
+    ghost invariant = { λ s. s.depth ≡ open_constructs (reverse s.constructs.items) };
 }
 
-impl Frame {
+impl Construct {
     fn is_open(self) -> bool
         ensures { result ≡ is_opening self }
     {
         match self {
-            Frame::Mark(_) => true,
-            Frame::Muted(_) => true,
-            Frame::Storing(_) => true,
+            Construct::Mark(_) => true,
+            Construct::Muted(_) => true,
+            Construct::Storing(_) => true,
             _ => false,
         }
     }
@@ -76,14 +76,14 @@ impl Stack {
         ensures { result ≡ [] }
     {
         Stack {
-            frames: Vec::new(alloc),
+            constructs: Vec::new(alloc),
             depth: 0,
         }
     }
 
     // How many parentheses and prefixes stand open.
     pub(crate) fn depth(&self) -> usize
-        ensures { result ≡ open_frames self.now }
+        ensures { result ≡ open_constructs self.now }
     {
         self.depth
     }
@@ -91,14 +91,14 @@ impl Stack {
     pub(crate) fn is_empty(&self) -> bool
         ensures { result ≡ (length self.now == 0) }
     {
-        self.frames.is_empty()
+        self.constructs.is_empty()
     }
 
-    pub(crate) fn push(&mut self, frame: Frame) -> Result<(), Memory>
-        ensures { OnOk result (self.new ≡ frame ∷ self.old) }
+    pub(crate) fn push(&mut self, construct: Construct) -> Result<(), Memory>
+        ensures { OnOk result (self.new ≡ construct ∷ self.old) }
     {
-        self.frames.push(frame)?;
-        if frame.is_open() {
+        self.constructs.push(construct)?;
+        if construct.is_open() {
             self.depth += 1;
         }
         Ok(())
@@ -106,12 +106,12 @@ impl Stack {
 
     // Takes a member from the top.
     pub(crate) fn take_done(&mut self) -> Option<Part>
-        ensures some { IfSome result (λ p. self.old ≡ Frame.Done p ∷ self.new) }
+        ensures some { IfSome result (λ p. self.old ≡ Construct.Done p ∷ self.new) }
         ensures none { IfNone result (self.new ≡ self.old) }
-        ensures top { IfNone result ((p : Part) (fs : List Frame) → self.old ≡ Frame.Done p ∷ fs → ⊥) }
+        ensures top { IfNone result ((p : Part) (fs : List Construct) → self.old ≡ Construct.Done p ∷ fs → ⊥) }
     {
-        if let Some(&Frame::Done(part)) = self.frames.last() {
-            self.frames.pop();
+        if let Some(&Construct::Done(part)) = self.constructs.last() {
+            self.constructs.pop();
             return Some(part);
         }
         None
@@ -119,12 +119,12 @@ impl Stack {
 
     // Takes a sequence that a bar has ended from the top.
     pub(crate) fn take_ended(&mut self) -> Option<Part>
-        ensures some { IfSome result (λ p. self.old ≡ Frame.Ended p ∷ self.new) }
+        ensures some { IfSome result (λ p. self.old ≡ Construct.Ended p ∷ self.new) }
         ensures none { IfNone result (self.new ≡ self.old) }
-        ensures top { IfNone result ((p : Part) (fs : List Frame) → self.old ≡ Frame.Ended p ∷ fs → ⊥) }
+        ensures top { IfNone result ((p : Part) (fs : List Construct) → self.old ≡ Construct.Ended p ∷ fs → ⊥) }
     {
-        if let Some(&Frame::Ended(part)) = self.frames.last() {
-            self.frames.pop();
+        if let Some(&Construct::Ended(part)) = self.constructs.last() {
+            self.constructs.pop();
             return Some(part);
         }
         None
@@ -132,11 +132,11 @@ impl Stack {
 
     // Takes a parenthesis from the top.
     pub(crate) fn take_mark(&mut self) -> Option<u32>
-        ensures some { IfSome result (λ at. self.old ≡ Frame.Mark at ∷ self.new) }
-        ensures top { IfNone result ((at : ℕ) (fs : List Frame) → self.old ≡ Frame.Mark at ∷ fs → ⊥) }
+        ensures some { IfSome result (λ at. self.old ≡ Construct.Mark at ∷ self.new) }
+        ensures top { IfNone result ((at : ℕ) (fs : List Construct) → self.old ≡ Construct.Mark at ∷ fs → ⊥) }
     {
-        if let Some(&Frame::Mark(at)) = self.frames.last() {
-            self.frames.pop();
+        if let Some(&Construct::Mark(at)) = self.constructs.last() {
+            self.constructs.pop();
             self.depth -= 1;
             return Some(at);
         }
@@ -145,12 +145,12 @@ impl Stack {
 
     // Takes a `~` from the top.
     fn take_muted(&mut self) -> Option<u32>
-        ensures some { IfSome result (λ at. self.old ≡ Frame.Muted at ∷ self.new) }
+        ensures some { IfSome result (λ at. self.old ≡ Construct.Muted at ∷ self.new) }
         ensures none { IfNone result (self.new ≡ self.old) }
-        ensures top { IfNone result ((at : ℕ) (fs : List Frame) → self.old ≡ Frame.Muted at ∷ fs → ⊥) }
+        ensures top { IfNone result ((at : ℕ) (fs : List Construct) → self.old ≡ Construct.Muted at ∷ fs → ⊥) }
     {
-        if let Some(&Frame::Muted(at)) = self.frames.last() {
-            self.frames.pop();
+        if let Some(&Construct::Muted(at)) = self.constructs.last() {
+            self.constructs.pop();
             self.depth -= 1;
             return Some(at);
         }
@@ -159,12 +159,12 @@ impl Stack {
 
     // Takes a register that waits from the top.
     fn take_storing(&mut self) -> Option<Store>
-        ensures some { IfSome result (λ s. self.old ≡ Frame.Storing s ∷ self.new) }
+        ensures some { IfSome result (λ s. self.old ≡ Construct.Storing s ∷ self.new) }
         ensures none { IfNone result (self.new ≡ self.old) }
-        ensures top { IfNone result ((s : Store) (fs : List Frame) → self.old ≡ Frame.Storing s ∷ fs → ⊥) }
+        ensures top { IfNone result ((s : Store) (fs : List Construct) → self.old ≡ Construct.Storing s ∷ fs → ⊥) }
     {
-        if let Some(&Frame::Storing(store)) = self.frames.last() {
-            self.frames.pop();
+        if let Some(&Construct::Storing(store)) = self.constructs.last() {
+            self.constructs.pop();
             self.depth -= 1;
             return Some(store);
         }
@@ -173,10 +173,10 @@ impl Stack {
 
     // Takes a prefix from the top.
     pub(crate) fn take_prefix(&mut self) -> Option<Prefix>
-        ensures some { IfSome result (λ p. self.old ≡ frame_of p ∷ self.new) }
+        ensures some { IfSome result (λ p. self.old ≡ construct_of p ∷ self.new) }
         ensures none { IfNone result (self.new ≡ self.old) }
-        ensures muted { IfNone result ((at : ℕ) (fs : List Frame) → self.old ≡ Frame.Muted at ∷ fs → ⊥) }
-        ensures storing { IfNone result ((s : Store) (fs : List Frame) → self.old ≡ Frame.Storing s ∷ fs → ⊥) }
+        ensures muted { IfNone result ((at : ℕ) (fs : List Construct) → self.old ≡ Construct.Muted at ∷ fs → ⊥) }
+        ensures storing { IfNone result ((s : Store) (fs : List Construct) → self.old ≡ Construct.Storing s ∷ fs → ⊥) }
     {
         if let Some(at) = self.take_muted() {
             return Some(Prefix::Mute(at));

@@ -4,9 +4,9 @@ use Rattle.std.specs.Prelude.{reverse}
 use Rattle.std.proofs.Math.Seq.{take-suc}
 use Rattle.std.proofs.lemmas.List.{take_all, length-take-le, length-reverse}
 use Rattle.kex_model.specs.declared.program.Node.{Node}
-use Rattle.kex_regexp.specs.declared.frames.Frame.{Frame}
-use Rattle.kex_regexp.specs.declared.frames.Frame.TheVariants as frames
-use Rattle.kex_regexp.specs.declared.frames.Placed.{Placed}
+use Rattle.kex_regexp.specs.declared.constructs.Construct.{Construct}
+use Rattle.kex_regexp.specs.declared.constructs.Construct.TheVariants as constructs
+use Rattle.kex_regexp.specs.declared.constructs.Placed.{Placed}
 use Rattle.kex_regexp.specs.declared.sets.SetSoFar.{SetSoFar}
 use Rattle.kex_regexp.specs.declared.wait.Wait.{Wait}
 use Rattle.kex_regexp.specs.declared.wait.Wait.TheVariants as waits
@@ -15,22 +15,22 @@ use Rattle.kex_regexp.specs.declared.wait.StepFault.TheVariants as faults
 use Rattle.kex_regexp.specs.Grammar.{Regex, Item, Once, Member}
 use Rattle.kex_regexp.specs.Bodies.{Spells, IsFirstWrong}
 use Rattle.kex_regexp.specs.Machine.{Entry, Mark, Ended, Read, Mode, Ready, After, InEscape, InSet, InCount, State, entries, bytes_read, take_regex, step, next, state_after, start, whole_regex, finish, finish_in, step_in, Escaping, Counting, Part as SpecPart}
-use Rattle.kex_regexp.specs.Holding.{IsSetAfter, IsSetIn, HoldsRegex, FramesShow, RegexOn, ShowsState, Steps, Ends, ShowsMode}
+use Rattle.kex_regexp.specs.Holding.{IsSetAfter, IsSetIn, HoldsRegex, ConstructsShow, RegexOn, ShowsState, Steps, Ends, ShowsMode}
 use Rattle.kex_regexp.proofs.Sound.{Goes, reads_sound, start_sound}
 use Rattle.kex_regexp.proofs.Complete.{reads-append}
 use Rattle.kex_regexp.proofs.Viable.{read_begins, read_spells, unread_begins, unfinished}
 
-pub steps_wrong : (nodes : List Node) (base : ℕ) (fs : List Frame) (o : Option State) → Steps nodes base fs (Err faults.Wrong) o → o ≡ None
+pub steps_wrong : (nodes : List Node) (base : ℕ) (fs : List Construct) (o : Option State) → Steps nodes base fs (Err faults.Wrong) o → o ≡ None
 unfolding Steps
 steps_wrong nodes base fs None s = refl
 steps_wrong nodes base fs (Some t) s = absurd s
 
-pub record Stepped (nodes : List Node) (base : ℕ) (fs : List Frame) (w : Wait) (o : Option State) : Type 0 where
+pub record Stepped (nodes : List Node) (base : ℕ) (fs : List Construct) (w : Wait) (o : Option State) : Type 0 where
   pub state : State
   pub is : o ≡ Some state
   pub stands : ShowsState nodes base fs w state
 
-pub steps_ok : (nodes : List Node) (base : ℕ) (fs : List Frame) (w : Wait) (o : Option State) → Steps nodes base fs (Ok w) o → Stepped nodes base fs w o
+pub steps_ok : (nodes : List Node) (base : ℕ) (fs : List Construct) (w : Wait) (o : Option State) → Steps nodes base fs (Ok w) o → Stepped nodes base fs w o
 unfolding Steps
 steps_ok nodes base fs w None s = absurd s
 steps_ok nodes base fs w (Some t) s = record { state = t; is = refl; stands = s }
@@ -80,43 +80,43 @@ body_read bytes k s r h e f = subst (λ (w : List ℕ). Spells r w) (take_all k 
 
 -- ---- the end
 
-pub no_frames : (nodes : List Node) (base : ℕ) (fs : List Frame) (es : List Entry) → length fs ≡ 0 → FramesShow nodes base (reverse fs) es → es ≡ []
-unfolding FramesShow
-no_frames nodes base [] [] e h = refl
-no_frames nodes base [] (x ∷ es) e h = absurd h
-no_frames nodes base (f ∷ fs) es e h = absurd (omega (arith, e))
+pub no_constructs : (nodes : List Node) (base : ℕ) (fs : List Construct) (es : List Entry) → length fs ≡ 0 → ConstructsShow nodes base (reverse fs) es → es ≡ []
+unfolding ConstructsShow
+no_constructs nodes base [] [] e h = refl
+no_constructs nodes base [] (x ∷ es) e h = absurd h
+no_constructs nodes base (f ∷ fs) es e h = absurd (omega (arith, e))
 
-pub none_shown : (nodes : List Node) (base : ℕ) (gs : List Frame) → FramesShow nodes base gs [] → length gs ≡ 0
-unfolding FramesShow
+pub none_shown : (nodes : List Node) (base : ℕ) (gs : List Construct) → ConstructsShow nodes base gs [] → length gs ≡ 0
+unfolding ConstructsShow
 none_shown nodes base [] h = refl
-none_shown nodes base (frames.Mark at ∷ gs) h = absurd h
-none_shown nodes base (frames.Ended n at ∷ gs) h = absurd h
-none_shown nodes base (frames.Piece n at ∷ gs) h = absurd h
+none_shown nodes base (constructs.Mark at ∷ gs) h = absurd h
+none_shown nodes base (constructs.Ended n at ∷ gs) h = absurd h
+none_shown nodes base (constructs.Piece n at ∷ gs) h = absurd h
 
 pub whole_of : (t : Regex × List Entry) → t.1 ≡ [] → whole_regex t ≡ Some t.0
 unfolding whole_regex
 whole_of t e = ap (λ (x : List Entry). whole_regex (t.0, x)) e
 
-pub shown_none : (nodes : List Node) (base : ℕ) (fs : List Frame) → FramesShow nodes base (reverse fs) [] → length fs ≡ 0
+pub shown_none : (nodes : List Node) (base : ℕ) (fs : List Construct) → ConstructsShow nodes base (reverse fs) [] → length fs ≡ 0
 shown_none nodes base fs h = sym (length-reverse fs) ∙ none_shown nodes base (reverse fs) h
 
-pub some_frames : (nodes : List Node) (base : ℕ) (fs : List Frame) (r : Regex) (es : List Entry) → (length fs ≡ 0 → ⊥) → FramesShow nodes base (reverse fs) es → whole_regex (r, es) ≡ None
+pub some_constructs : (nodes : List Node) (base : ℕ) (fs : List Construct) (r : Regex) (es : List Entry) → (length fs ≡ 0 → ⊥) → ConstructsShow nodes base (reverse fs) es → whole_regex (r, es) ≡ None
 unfolding whole_regex
-some_frames nodes base fs r (Mark ∷ es) n h = refl
-some_frames nodes base fs r (Ended b ∷ es) n h = refl
-some_frames nodes base fs r (Read p ∷ es) n h = refl
-some_frames nodes base fs r [] n h = absurd (n (shown_none nodes base fs h))
+some_constructs nodes base fs r (Mark ∷ es) n h = refl
+some_constructs nodes base fs r (Ended b ∷ es) n h = refl
+some_constructs nodes base fs r (Read p ∷ es) n h = refl
+some_constructs nodes base fs r [] n h = absurd (n (shown_none nodes base fs h))
 
-pub ends_whole : (nodes : List Node) (base : ℕ) (fs : List Frame) (part : Placed) (t : Regex × List Entry) → length fs ≡ 0 → RegexOn nodes base fs part t → Ends nodes base (Ok part.node) (whole_regex t)
+pub ends_whole : (nodes : List Node) (base : ℕ) (fs : List Construct) (part : Placed) (t : Regex × List Entry) → length fs ≡ 0 → RegexOn nodes base fs part t → Ends nodes base (Ok part.node) (whole_regex t)
 unfolding Ends entries
 ends_whole nodes base fs part t e r =
-    let n = no_frames nodes base fs t.1 e r.below in
+    let n = no_constructs nodes base fs t.1 e r.below in
     let at : part.at ≡ base = omega (arith, r.at, ap (λ (x : List Entry). length (entries x)) n) in
     subst (λ (x : Option Regex). Ends nodes base (Ok part.node) x) (sym (whole_of t n)) (subst (λ (x : ℕ). HoldsRegex t.0 nodes part.node x) at r.shows)
 
-pub ends_open : (nodes : List Node) (base : ℕ) (fs : List Frame) (part : Placed) (t : Regex × List Entry) → (length fs ≡ 0 → ⊥) → RegexOn nodes base fs part t → Ends nodes base (Err faults.Wrong) (whole_regex t)
+pub ends_open : (nodes : List Node) (base : ℕ) (fs : List Construct) (part : Placed) (t : Regex × List Entry) → (length fs ≡ 0 → ⊥) → RegexOn nodes base fs part t → Ends nodes base (Err faults.Wrong) (whole_regex t)
 unfolding Ends
-ends_open nodes base fs part t n r = subst (λ (x : Option Regex). Ends nodes base (Err faults.Wrong) x) (sym (some_frames nodes base fs t.0 t.1 n r.below)) tt
+ends_open nodes base fs part t n r = subst (λ (x : Option Regex). Ends nodes base (Err faults.Wrong) x) (sym (some_constructs nodes base fs t.0 t.1 n r.below)) tt
 
 pub ends_memory : (nodes : List Node) (base : ℕ) (o : Option Regex) → Ends nodes base (Err faults.Memory) o
 unfolding Ends
@@ -153,9 +153,9 @@ pub finish_count : (s : State) (i : Item) (x : Counting) → s.mode ≡ InCount 
 unfolding finish_in
 finish_count s i x e = finish_mode s (InCount i x) e
 
-pub start_stands : (nodes : List Node) (base : ℕ) (fs : List Frame) → fs ≡ [] → ShowsState nodes base fs waits.Ready (record { mode = Ready; entries = [] })
-unfolding FramesShow ShowsMode
-start_stands nodes base fs e = record { below = subst (λ (x : List Frame). FramesShow nodes base (reverse x) []) (sym e) tt; mode = tt }
+pub start_stands : (nodes : List Node) (base : ℕ) (fs : List Construct) → fs ≡ [] → ShowsState nodes base fs waits.Ready (record { mode = Ready; entries = [] })
+unfolding ConstructsShow ShowsMode
+start_stands nodes base fs e = record { below = subst (λ (x : List Construct). ConstructsShow nodes base (reverse x) []) (sym e) tt; mode = tt }
 
 pub start_reads : state_after start [] ≡ Some (record { mode = Ready; entries = [] })
 unfolding state_after start
@@ -168,7 +168,7 @@ unfolding IsSetIn
 start_set set = tt
 
 -- what is taken in at a byte is the set behind it
-pub taken : (old new : SetSoFar) (nodes : List Node) (at b : ℕ) (fs : List Frame) (w : Wait) (s : State) → ShowsState nodes at fs w s → IsSetIn old s.mode → ((nodes : List Node) (at : ℕ) (m : Mode) (es : List Entry) → ShowsMode nodes at w m → IsSetIn old m → IsSetAfter new (step_in m es b)) → IsSetAfter new (step s b)
+pub taken : (old new : SetSoFar) (nodes : List Node) (at b : ℕ) (fs : List Construct) (w : Wait) (s : State) → ShowsState nodes at fs w s → IsSetIn old s.mode → ((nodes : List Node) (at : ℕ) (m : Mode) (es : List Entry) → ShowsMode nodes at w m → IsSetIn old m → IsSetAfter new (step_in m es b)) → IsSetAfter new (step s b)
 unfolding step
 taken old new nodes at b fs w s st i f = f nodes (at + length (entries s.entries)) s.mode s.entries st.mode i
 

@@ -3,16 +3,16 @@ use Rattle.std.proofs.Common.{◌≡◌, ℕ, ◌+◌, ◌<◌, List, [], ◌∷
 use Rattle.std.specs.Prelude.{Bool, true, false, MatchBool, Some, slice_get, reverse}
 use Rattle.std.proofs.lemmas.Option.{slice_get_within}
 use Rattle.kex_model.specs.declared.program.Node.{Node}
-use Rattle.kex_regexp.specs.declared.frames.Frame.{Frame}
-use Rattle.kex_regexp.specs.declared.frames.Frame.TheVariants as frames
-use Rattle.kex_regexp.specs.declared.frames.Placed.{Placed}
+use Rattle.kex_regexp.specs.declared.constructs.Construct.{Construct}
+use Rattle.kex_regexp.specs.declared.constructs.Construct.TheVariants as constructs
+use Rattle.kex_regexp.specs.declared.constructs.Placed.{Placed}
 use Rattle.kex_regexp.specs.declared.wait.Wait.{Wait}
 use Rattle.kex_regexp.specs.declared.wait.Wait.TheVariants as waits
 use Rattle.kex_regexp.specs.declared.counts.Count.{Count}
 use Rattle.kex_regexp.specs.Breaks.{is_bad_count}
 use Rattle.kex_regexp.specs.Grammar.{Regex, Last, Or, Branch, Empty, Then, Piece, Once, Turns, Item, Plain, Escaped, Dot, Set, Group}
 use Rattle.kex_regexp.specs.Machine.{Entry, Read}
-use Rattle.kex_regexp.specs.Holding.{HoldsRegex, HoldsBranch, HoldsPiece, HoldsItem, FramesShow, SomeFrames, SomeItem, SomeState, SomeBehind}
+use Rattle.kex_regexp.specs.Holding.{HoldsRegex, HoldsBranch, HoldsPiece, HoldsItem, ConstructsShow, SomeConstructs, SomeItem, SomeState, SomeBehind}
 use Rattle.kex_regexp.proofs.Stacks.{BranchSoFar, RegexSoFar, piece_on, ended_on, reverse_push}
 use Rattle.kex_regexp.proofs.ShownSteps.{mode_ready, mode_after, mode_count, ready_place, after_place, once_shows, once_ends}
 
@@ -43,33 +43,33 @@ mutual
   item_within (Set negated ms) nodes n at h = slice_get_within nodes n _ h.2
   item_within (Group r) nodes n at h = regex_within r nodes n (at + 1) h
 
-pub pieces_within : (nodes : List Node) (base : ℕ) (old new : List Frame) (part front : Placed) (t : Branch × List Entry) → old ≡ new ++ frames.Piece front.node front.at ∷ [] → BranchSoFar nodes base old part t → (front.node < length nodes) × (part.node < length nodes)
+pub pieces_within : (nodes : List Node) (base : ℕ) (old new : List Construct) (part front : Placed) (t : Branch × List Entry) → old ≡ new ++ constructs.Piece front.node front.at ∷ [] → BranchSoFar nodes base old part t → (front.node < length nodes) × (part.node < length nodes)
 pieces_within nodes base old new part front t e s =
-    let p = piece_on nodes base front.node front.at (reverse new) s.rest (subst (λ (x : List Frame). FramesShow nodes base x s.rest) (reverse_push old new (frames.Piece front.node front.at) e) s.below) in
+    let p = piece_on nodes base front.node front.at (reverse new) s.rest (subst (λ (x : List Construct). ConstructsShow nodes base x s.rest) (reverse_push old new (constructs.Piece front.node front.at) e) s.below) in
     (piece_within p.piece nodes front.node front.at p.shows, branch_within (Then s.piece s.branch) nodes part.node part.at s.shows)
 
-pub branches_within : (nodes : List Node) (base : ℕ) (old new : List Frame) (part front : Placed) (t : Regex × List Entry) → old ≡ new ++ frames.Ended front.node front.at ∷ [] → RegexSoFar nodes base old part t → (front.node < length nodes) × (part.node < length nodes)
+pub branches_within : (nodes : List Node) (base : ℕ) (old new : List Construct) (part front : Placed) (t : Regex × List Entry) → old ≡ new ++ constructs.Ended front.node front.at ∷ [] → RegexSoFar nodes base old part t → (front.node < length nodes) × (part.node < length nodes)
 branches_within nodes base old new part front t e s =
-    let p = ended_on nodes base front.node front.at (reverse new) s.rest (subst (λ (x : List Frame). FramesShow nodes base x s.rest) (reverse_push old new (frames.Ended front.node front.at) e) s.below) in
+    let p = ended_on nodes base front.node front.at (reverse new) s.rest (subst (λ (x : List Construct). ConstructsShow nodes base x s.rest) (reverse_push old new (constructs.Ended front.node front.at) e) s.below) in
     (branch_within p.branch nodes front.node front.at p.shows, regex_within s.tree nodes part.node part.at s.shows)
 
-pub some_item : (nodes : List Node) (fs : List Frame) (part : Placed) → SomeItem nodes fs part → part.node < length nodes
+pub some_item : (nodes : List Node) (fs : List Construct) (part : Placed) → SomeItem nodes fs part → part.node < length nodes
 some_item nodes fs part s = item_within s.2 nodes part.node part.at s.5
 
-pub some_ready : (nodes : List Node) (fs : List Frame) (w : Wait) (at : ℕ) → w ≡ waits.Ready → SomeState nodes fs w at → SomeFrames nodes fs at
+pub some_ready : (nodes : List Node) (fs : List Construct) (w : Wait) (at : ℕ) → w ≡ waits.Ready → SomeState nodes fs w at → SomeConstructs nodes fs at
 some_ready nodes fs w at e st =
     let m = mode_ready _ _ _ (rw e at st.2.mode) in
     (st.0, st.1.entries, st.2.below, ready_place st.1 st.0 at m st.3)
 
-pub some_behind : (nodes : List Node) (fs : List Frame) (w : Wait) (part : Placed) (at : ℕ) → w ≡ waits.After part → SomeState nodes fs w at → SomeBehind nodes fs part at
+pub some_behind : (nodes : List Node) (fs : List Construct) (w : Wait) (part : Placed) (at : ℕ) → w ≡ waits.After part → SomeState nodes fs w at → SomeBehind nodes fs part at
 some_behind nodes fs w part at e st =
     let m = mode_after _ _ part _ (rw e at st.2.mode) in
     (st.0, st.1.entries, m.tree, st.2.below, m.place, after_place st.1 st.0 at part.at m.tree m.is m.place st.3, m.shows)
 
-pub some_once : (nodes : List Node) (fs gs : List Frame) (part : Placed) (at : ℕ) → gs ≡ fs ++ frames.Piece part.node part.at ∷ [] → SomeBehind nodes fs part at → SomeFrames nodes gs at
+pub some_once : (nodes : List Node) (fs gs : List Construct) (part : Placed) (at : ℕ) → gs ≡ fs ++ constructs.Piece part.node part.at ∷ [] → SomeBehind nodes fs part at → SomeConstructs nodes gs at
 some_once nodes fs gs part at e s = (s.0, Read (Once s.2) ∷ s.1, once_shows nodes s.0 fs gs s.1 s.2 part s.3 s.4 s.6 e, once_ends s.0 at part.at s.1 s.2 s.4 s.5)
 
-pub some_count : (nodes : List Node) (fs : List Frame) (w : Wait) (part : Placed) (c : Count) (brace at : ℕ) → w ≡ waits.InCount part c brace → SomeState nodes fs w at → SomeItem nodes fs part
+pub some_count : (nodes : List Node) (fs : List Construct) (w : Wait) (part : Placed) (c : Count) (brace at : ℕ) → w ≡ waits.InCount part c brace → SomeState nodes fs w at → SomeItem nodes fs part
 some_count nodes fs w part c brace at e st =
     let m = mode_count _ _ part c brace _ (rw e at st.2.mode) in
     (st.0, st.1.entries, m.tree, st.2.below, m.place, m.shows)

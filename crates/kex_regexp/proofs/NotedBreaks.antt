@@ -4,7 +4,7 @@ use Rattle.std.specs.Prelude.{◌==◌, ◌&&◌}
 use Rattle.std.proofs.lemmas.Bool.{eqb-true}
 use Rattle.std.proofs.lemmas.List.{append-nil}
 use Rattle.kex_model.specs.declared.program.Node.{Node}
-use Rattle.kex_regexp.specs.declared.frames.Frame.{Frame}
+use Rattle.kex_regexp.specs.declared.constructs.Construct.{Construct}
 use Rattle.kex_regexp.specs.declared.counts.CountOutcome.{CountOutcome}
 use Rattle.kex_regexp.specs.declared.counts.CountOutcome.TheVariants as outcomes
 use Rattle.kex_regexp.specs.declared.sets.SetSoFar.{SetSoFar}
@@ -233,7 +233,7 @@ pub went_depth : (d0 d : ℕ) (o : Option State) (t : State) → o ≡ Some t �
 unfolding DepthGoes
 went_depth d0 d o t e g = subst (λ (x : Option State). DepthGoes d0 d x) e g
 
-pub turn_depth : (nodes : List Node) (at d0 nested b : ℕ) (fs : List Frame) (w : Wait) (s t : State) → ShowsState nodes at fs w s → step s b ≡ Some t → nested ≡ d0 + marks s.entries → next_depth w nested b ≡ d0 + marks t.entries
+pub turn_depth : (nodes : List Node) (at d0 nested b : ℕ) (fs : List Construct) (w : Wait) (s t : State) → ShowsState nodes at fs w s → step s b ≡ Some t → nested ≡ d0 + marks s.entries → next_depth w nested b ≡ d0 + marks t.entries
 unfolding step
 turn_depth nodes at d0 nested b fs w s t st e h = went_depth d0 (next_depth w nested b) (step s b) t e (depths_go nodes (at + length (entries s.entries)) d0 nested b w s.mode s.entries st.mode h)
 
@@ -241,7 +241,7 @@ pub step_breaks_here : (at d0 : ℕ) (s : State) (b : ℕ) → BreaksGo at d0 ((
 unfolding place level
 step_breaks_here at d0 s b = step_breaks at d0 s.mode s.entries b
 
-pub turn_least : (nodes more : List Node) (at d0 nested place b : ℕ) (fs gs : List Frame) (w next : Wait) (set : SetSoFar) (s t : State) (least new : Option Break) → ShowsState nodes at fs w s → step s b ≡ Some t → ShowsState more at gs next t → IsSetIn set t.mode → place ≡ at + length (bytes_read s) → nested ≡ d0 + marks s.entries → least ≡ least_from None (state_breaks at d0 s) → new ≡ byte_break w next set nested place b → lesser_of least new ≡ least_from None (state_breaks at d0 t)
+pub turn_least : (nodes more : List Node) (at d0 nested place b : ℕ) (fs gs : List Construct) (w next : Wait) (set : SetSoFar) (s t : State) (least new : Option Break) → ShowsState nodes at fs w s → step s b ≡ Some t → ShowsState more at gs next t → IsSetIn set t.mode → place ≡ at + length (bytes_read s) → nested ≡ d0 + marks s.entries → least ≡ least_from None (state_breaks at d0 s) → new ≡ byte_break w next set nested place b → lesser_of least new ≡ least_from None (state_breaks at d0 t)
 unfolding step state_breaks
 turn_least nodes more at d0 nested place b fs gs w next set s t least new st e st' i p h l n =
     let here = at + length (entries s.entries) in

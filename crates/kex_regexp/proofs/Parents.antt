@@ -5,13 +5,13 @@ use Rattle.std.specs.Prelude.{IfOk, slice_get}
 use Rattle.kex_code.specs.Codes.{IsAmong}
 use Rattle.kex_model.specs.declared.program.Node.{Node}
 use Rattle.kex_model.proofs.Shapes.{among-append, among_left, among_right}
-use Rattle.kex_regexp.specs.declared.frames.Frame.{Frame}
+use Rattle.kex_regexp.specs.declared.constructs.Construct.{Construct}
 use Rattle.kex_regexp.specs.declared.wait.Wait.{Wait}
 use Rattle.kex_regexp.specs.declared.wait.StepFault.{StepFault}
 use Rattle.kex_regexp.specs.declared.fault.RegexFault.{RegexFault}
 use Rattle.kex_regexp.specs.declared.breaks.Break.{Break}
 use Rattle.kex_regexp.specs.Parents.{HasChild, HasParent, NoneLost}
-use Rattle.kex_regexp.specs.Holding.{InFrame, InFrames, IsHeld, LosesNone}
+use Rattle.kex_regexp.specs.Holding.{InConstruct, InConstructs, IsHeld, LosesNone}
 use Rattle.kex_regexp.specs.Shown.{Adds}
 use Rattle.kex_regexp.proofs.Additions.{stays, added}
 
@@ -58,37 +58,37 @@ beside a b B A R B' A' f g r h = record {
   added = λ n lt. elim (h.added n lt) [ inl old ↦ inl old | inr q ↦ elim q [ inl p ↦ inr (inl p) | inr m ↦ inr (inr (g n m)) ] ];
 }
 
--- ---- frames
+-- ---- constructs
 
-pub frame_under : (old new : List Frame) (f : Frame) → new ≡ old ++ f ∷ [] → (n : ℕ) → InFrames old n → InFrames new n
-frame_under old new f e n h = (h.0, subst (λ (x : List Frame). IsAmong x h.0) (sym e) (among_left old (f ∷ []) h.0 h.1), h.2)
+pub construct_under : (old new : List Construct) (f : Construct) → new ≡ old ++ f ∷ [] → (n : ℕ) → InConstructs old n → InConstructs new n
+construct_under old new f e n h = (h.0, subst (λ (x : List Construct). IsAmong x h.0) (sym e) (among_left old (f ∷ []) h.0 h.1), h.2)
 
-pub frame_on : (old new : List Frame) (f : Frame) → new ≡ old ++ f ∷ [] → (n : ℕ) → InFrame f n → InFrames new n
-frame_on old new f e n h = (f, subst (λ (x : List Frame). IsAmong x f) (sym e) (among_right old (f ∷ []) f (inl refl)), h)
+pub construct_on : (old new : List Construct) (f : Construct) → new ≡ old ++ f ∷ [] → (n : ℕ) → InConstruct f n → InConstructs new n
+construct_on old new f e n h = (f, subst (λ (x : List Construct). IsAmong x f) (sym e) (among_right old (f ∷ []) f (inl refl)), h)
 
-pub frame_taken : (old new : List Frame) (f : Frame) → old ≡ new ++ f ∷ [] → (n : ℕ) → InFrames old n → InFrame f n ⊎ InFrames new n
-frame_taken old new f e n h = elim (among-append new (f ∷ []) h.0 (subst (λ (x : List Frame). IsAmong x h.0) e h.1)) [
+pub construct_taken : (old new : List Construct) (f : Construct) → old ≡ new ++ f ∷ [] → (n : ℕ) → InConstructs old n → InConstruct f n ⊎ InConstructs new n
+construct_taken old new f e n h = elim (among-append new (f ∷ []) h.0 (subst (λ (x : List Construct). IsAmong x h.0) e h.1)) [
   | inl i ↦ inr (h.0, i, h.2)
-  | inr i ↦ elim i [ inl same ↦ inl (subst (λ (g : Frame). InFrame g n) (sym same) h.2) | inr none_left ↦ absurd none_left ]
+  | inr i ↦ elim i [ inl same ↦ inl (subst (λ (g : Construct). InConstruct g n) (sym same) h.2) | inr none_left ↦ absurd none_left ]
 ]
 
-pub frames_same : (old new : List Frame) → new ≡ old → (n : ℕ) → InFrames old n → InFrames new n
-frames_same old new e n h = subst (λ (x : List Frame). InFrames x n) (sym e) h
+pub constructs_same : (old new : List Construct) → new ≡ old → (n : ℕ) → InConstructs old n → InConstructs new n
+constructs_same old new e n h = subst (λ (x : List Construct). InConstructs x n) (sym e) h
 
-pub no_frames : (fs : List Frame) → length fs ≡ 0 → (n : ℕ) → InFrames fs n → ⊥
-no_frames [] e n h = h.1
-no_frames (f ∷ fs) e n h = absurd (omega (arith, e))
+pub no_constructs : (fs : List Construct) → length fs ≡ 0 → (n : ℕ) → InConstructs fs n → ⊥
+no_constructs [] e n h = h.1
+no_constructs (f ∷ fs) e n h = absurd (omega (arith, e))
 
 -- ---- steps
 
-pub later : (r : Result Wait StepFault) (a b : List Node) (fs gs hs : List Frame) (v w : Wait) → ((n : ℕ) → IsHeld fs v n → IsHeld gs w n) → LosesNone a b gs w hs r → LosesNone a b fs v hs r
+pub later : (r : Result Wait StepFault) (a b : List Node) (fs gs hs : List Construct) (v w : Wait) → ((n : ℕ) → IsHeld fs v n → IsHeld gs w n) → LosesNone a b gs w hs r → LosesNone a b fs v hs r
 later (Ok next) a b fs gs hs v w f h = held_as a b _ _ _ _ f (λ n i. i) h
 later (Err e) a b fs gs hs v w f h = tt
 
-pub waiting : (w v : Wait) (a b : List Node) (fs gs : List Frame) (r : Result Wait StepFault) → w ≡ v → LosesNone a b fs v gs r → LosesNone a b fs w gs r
+pub waiting : (w v : Wait) (a b : List Node) (fs gs : List Construct) (r : Result Wait StepFault) → w ≡ v → LosesNone a b fs v gs r → LosesNone a b fs w gs r
 waiting w v a b fs gs r e h = subst (λ (x : Wait). LosesNone a b fs x gs r) (sym e) h
 
-pub ended_as : (r : Result ℕ StepFault) (a b : List Node) (fs gs : List Frame) (w : Wait) {v : Wait} → w ≡ v → ((n : ℕ) → IsHeld fs v n → InFrames gs n) → IfOk r (λ m. NoneLost a b (InFrames gs) (λ n. n ≡ m)) → IfOk r (λ m. NoneLost a b (IsHeld fs w) (λ n. n ≡ m))
+pub ended_as : (r : Result ℕ StepFault) (a b : List Node) (fs gs : List Construct) (w : Wait) {v : Wait} → w ≡ v → ((n : ℕ) → IsHeld fs v n → InConstructs gs n) → IfOk r (λ m. NoneLost a b (InConstructs gs) (λ n. n ≡ m)) → IfOk r (λ m. NoneLost a b (IsHeld fs w) (λ n. n ≡ m))
 ended_as (Ok m) a b fs gs w e f h = held_as a b _ _ _ _ (λ n i. f n (subst (λ (x : Wait). IsHeld fs x n) e i)) (λ n i. i) h
 ended_as (Err z) a b fs gs w e f h = tt
 

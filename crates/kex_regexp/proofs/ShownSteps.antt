@@ -7,9 +7,9 @@ use Rattle.kex_byteset.proofs.Flags.{in_words}
 use Rattle.kex_model.specs.declared.program.Kind.{Kind}
 use Rattle.kex_model.specs.declared.program.Kind.TheVariants as kinds
 use Rattle.kex_model.specs.declared.program.Node.{Node}
-use Rattle.kex_regexp.specs.declared.frames.Frame.{Frame}
-use Rattle.kex_regexp.specs.declared.frames.Frame.TheVariants as frames
-use Rattle.kex_regexp.specs.declared.frames.Placed.{Placed}
+use Rattle.kex_regexp.specs.declared.constructs.Construct.{Construct}
+use Rattle.kex_regexp.specs.declared.constructs.Construct.TheVariants as constructs
+use Rattle.kex_regexp.specs.declared.constructs.Placed.{Placed}
 use Rattle.kex_regexp.specs.declared.wait.Wait.{Wait}
 use Rattle.kex_regexp.specs.declared.wait.Wait.TheVariants as waits
 use Rattle.kex_regexp.specs.declared.escapes.EscapeOutcome.TheVariants as escapes
@@ -26,45 +26,45 @@ use Rattle.kex_regexp.specs.Grammar.{is_plain, Member, Postfix, Star, Plus, Ques
 use Rattle.kex_regexp.specs.Values.{escaped_byte, flipped, high, in_set, low}
 use Rattle.kex_regexp.specs.Shown.{IsNode, Adds}
 use Rattle.kex_regexp.specs.Machine.{Part, Escaping, Begun, EscapeStep, EscapeOn, EscapeRead, EscapeWrong, SetStep, SetOn, SetRead, SetWrong, AtStart, Counting, Opened, CountStep, CountOn, CountRead, CountWrong, Entry, Mark, Ended, Read, Mode, Ready, After, InEscape, InSet, InCount, State, entries, entry, take_pieces, take_regex, goes, after_group, end_branch, begin_piece, after_item, on_escape, on_set, on_count, step_in, step, bytes_read, mode, escape_step, set_step, count_step}
-use Rattle.kex_regexp.specs.Holding.{HasMembers, IsSetAfter, IsSetIn, IsTurns, HoldsRegex, HoldsPiece, HoldsItem, FramesShow, BranchOn, RegexOn, Steps, ShowsMode, ShowsEscape, ShowsPart, ShowsSet, ShowsCount, ShowsCountStep, is_empty, capped, capped_option}
+use Rattle.kex_regexp.specs.Holding.{HasMembers, IsSetAfter, IsSetIn, IsTurns, HoldsRegex, HoldsPiece, HoldsItem, ConstructsShow, BranchOn, RegexOn, Steps, ShowsMode, ShowsEscape, ShowsPart, ShowsSet, ShowsCount, ShowsCountStep, is_empty, capped, capped_option}
 use Rattle.kex_regexp.proofs.Complete.{cond_no}
-use Rattle.kex_regexp.proofs.Stacks.{HoldsItem-more, FramesShow-more, reverse_push}
+use Rattle.kex_regexp.proofs.Stacks.{HoldsItem-more, ConstructsShow-more, reverse_push}
 
-pub memory_steps : (nodes : List Node) (base : ℕ) (fs : List Frame) (e : StepFault) (o : Option State) → e ≡ faults.Memory → Steps nodes base fs (Err e) o
+pub memory_steps : (nodes : List Node) (base : ℕ) (fs : List Construct) (e : StepFault) (o : Option State) → e ≡ faults.Memory → Steps nodes base fs (Err e) o
 unfolding Steps
 memory_steps nodes base fs e o m = subst (λ (x : StepFault). Steps nodes base fs (Err x) o) (sym m) tt
 
-pub wrong_steps : (nodes : List Node) (base : ℕ) (fs : List Frame) → Steps nodes base fs (Err faults.Wrong) None
+pub wrong_steps : (nodes : List Node) (base : ℕ) (fs : List Construct) → Steps nodes base fs (Err faults.Wrong) None
 unfolding Steps
 wrong_steps nodes base fs = tt
 
 -- ---- a push
 
-pub push_shows : (nodes : List Node) (base : ℕ) (old new : List Frame) (f : Frame) (es : List Entry) → new ≡ old ++ f ∷ [] → FramesShow nodes base (f ∷ reverse old) es → FramesShow nodes base (reverse new) es
-push_shows nodes base old new f es e h = subst (λ (x : List Frame). FramesShow nodes base x es) (sym (reverse_push new old f e)) h
+pub push_shows : (nodes : List Node) (base : ℕ) (old new : List Construct) (f : Construct) (es : List Entry) → new ≡ old ++ f ∷ [] → ConstructsShow nodes base (f ∷ reverse old) es → ConstructsShow nodes base (reverse new) es
+push_shows nodes base old new f es e h = subst (λ (x : List Construct). ConstructsShow nodes base x es) (sym (reverse_push new old f e)) h
 
-pub ready_steps : (nodes : List Node) (base : ℕ) (fs : List Frame) (es : List Entry) → FramesShow nodes base (reverse fs) es → Steps nodes base fs (Ok waits.Ready) (goes Ready es)
+pub ready_steps : (nodes : List Node) (base : ℕ) (fs : List Construct) (es : List Entry) → ConstructsShow nodes base (reverse fs) es → Steps nodes base fs (Ok waits.Ready) (goes Ready es)
 unfolding Steps ShowsMode
 ready_steps nodes base fs es h = record { below = h; mode = tt }
 
-pub bar_steps : (nodes : List Node) (base : ℕ) (fs gs : List Frame) (part : Placed) (t : Branch × List Entry) → BranchOn nodes base fs part t → gs ≡ fs ++ frames.Ended part.node part.at ∷ [] → Steps nodes base gs (Ok waits.Ready) (end_branch t)
-unfolding end_branch FramesShow
-bar_steps nodes base fs gs part t b e = ready_steps nodes base gs (Ended t.0 ∷ t.1) (push_shows nodes base fs gs (frames.Ended part.node part.at) (Ended t.0 ∷ t.1) e (b.at, b.shows, b.below))
+pub bar_steps : (nodes : List Node) (base : ℕ) (fs gs : List Construct) (part : Placed) (t : Branch × List Entry) → BranchOn nodes base fs part t → gs ≡ fs ++ constructs.Ended part.node part.at ∷ [] → Steps nodes base gs (Ok waits.Ready) (end_branch t)
+unfolding end_branch ConstructsShow
+bar_steps nodes base fs gs part t b e = ready_steps nodes base gs (Ended t.0 ∷ t.1) (push_shows nodes base fs gs (constructs.Ended part.node part.at) (Ended t.0 ∷ t.1) e (b.at, b.shows, b.below))
 
-pub item_steps : (nodes : List Node) (base : ℕ) (fs : List Frame) (es : List Entry) (i : Item) (part : Placed) → FramesShow nodes base (reverse fs) es → part.at ≡ base + length (entries es) → HoldsItem i nodes part.node part.at → Steps nodes base fs (Ok (waits.After part)) (goes (After i) es)
+pub item_steps : (nodes : List Node) (base : ℕ) (fs : List Construct) (es : List Entry) (i : Item) (part : Placed) → ConstructsShow nodes base (reverse fs) es → part.at ≡ base + length (entries es) → HoldsItem i nodes part.node part.at → Steps nodes base fs (Ok (waits.After part)) (goes (After i) es)
 unfolding Steps ShowsMode
 item_steps nodes base fs es i part h e s = record { below = h; mode = (e, subst (λ (x : ℕ). HoldsItem i nodes part.node x) e s) }
 
 -- ---- a parenthesis that closes
 
-pub record MarkOn (nodes : List Node) (base : ℕ) (at : ℕ) (fs : List Frame) (es : List Entry) : Type 0 where
+pub record MarkOn (nodes : List Node) (base : ℕ) (at : ℕ) (fs : List Construct) (es : List Entry) : Type 0 where
   pub rest : List Entry
   pub is : es ≡ Mark ∷ rest
   pub place : at ≡ base + length (entries rest)
-  pub below : FramesShow nodes base fs rest
+  pub below : ConstructsShow nodes base fs rest
 
-pub mark_on : (nodes : List Node) (base at : ℕ) (fs : List Frame) (es : List Entry) → FramesShow nodes base (frames.Mark at ∷ fs) es → MarkOn nodes base at fs es
-unfolding FramesShow
+pub mark_on : (nodes : List Node) (base at : ℕ) (fs : List Construct) (es : List Entry) → ConstructsShow nodes base (constructs.Mark at ∷ fs) es → MarkOn nodes base at fs es
+unfolding ConstructsShow
 mark_on nodes base at fs [] h = absurd h
 mark_on nodes base at fs (Mark ∷ es) h = record { rest = es; is = refl; place = h.0; below = h.1 }
 mark_on nodes base at fs (Ended b ∷ es) h = absurd h
@@ -74,45 +74,45 @@ pub closes : (t : Regex × List Entry) (rest : List Entry) → t.1 ≡ Mark ∷ 
 unfolding after_group
 closes t rest e = ap (λ (x : List Entry). after_group (t.0, x)) e
 
-pub unclosed : (nodes : List Node) (base : ℕ) (fs : List Frame) (r : Regex) (es : List Entry) → FramesShow nodes base fs es → ((at : ℕ) (gs : List Frame) → fs ≡ frames.Mark at ∷ gs → ⊥) → after_group (r, es) ≡ None
-unfolding FramesShow after_group
+pub unclosed : (nodes : List Node) (base : ℕ) (fs : List Construct) (r : Regex) (es : List Entry) → ConstructsShow nodes base fs es → ((at : ℕ) (gs : List Construct) → fs ≡ constructs.Mark at ∷ gs → ⊥) → after_group (r, es) ≡ None
+unfolding ConstructsShow after_group
 unclosed nodes base fs r [] h none_on = refl
 unclosed nodes base fs r (Ended b ∷ es) h none_on = refl
 unclosed nodes base fs r (Read p ∷ es) h none_on = refl
 unclosed nodes base [] r (Mark ∷ es) h none_on = absurd h
-unclosed nodes base (frames.Mark at ∷ fs) r (Mark ∷ es) h none_on = absurd (none_on at fs refl)
-unclosed nodes base (frames.Ended n at ∷ fs) r (Mark ∷ es) h none_on = absurd h
-unclosed nodes base (frames.Piece n at ∷ fs) r (Mark ∷ es) h none_on = absurd h
+unclosed nodes base (constructs.Mark at ∷ fs) r (Mark ∷ es) h none_on = absurd (none_on at fs refl)
+unclosed nodes base (constructs.Ended n at ∷ fs) r (Mark ∷ es) h none_on = absurd h
+unclosed nodes base (constructs.Piece n at ∷ fs) r (Mark ∷ es) h none_on = absurd h
 
 abbrev node_of : Kind → ℕ → Node
 node_of kind at = record { kind = kind; at = at }
 
-pub close_steps : (nodes : List Node) (base : ℕ) (old fs : List Frame) (part : Placed) (from : ℕ) (t : Regex × List Entry) → RegexOn nodes base old part t → old ≡ fs ++ frames.Mark from ∷ [] → Steps nodes base fs (Ok (waits.After (record { node = part.node; at = from }))) (after_group t)
+pub close_steps : (nodes : List Node) (base : ℕ) (old fs : List Construct) (part : Placed) (from : ℕ) (t : Regex × List Entry) → RegexOn nodes base old part t → old ≡ fs ++ constructs.Mark from ∷ [] → Steps nodes base fs (Ok (waits.After (record { node = part.node; at = from }))) (after_group t)
 unfolding entries entry HoldsItem
 close_steps nodes base old fs part from t r e =
-    let m = mark_on nodes base from (reverse fs) t.1 (subst (λ (x : List Frame). FramesShow nodes base x t.1) (reverse_push old fs (frames.Mark from) e) r.below) in
+    let m = mark_on nodes base from (reverse fs) t.1 (subst (λ (x : List Construct). ConstructsShow nodes base x t.1) (reverse_push old fs (constructs.Mark from) e) r.below) in
     let at : part.at ≡ from + 1 = omega (arith, r.at, m.place, ap (λ (x : List Entry). length (entries x)) m.is, length-append (entries m.rest) (40 ∷ [])) in
     subst (λ (x : Option State). Steps nodes base fs (Ok (waits.After (record { node = part.node; at = from }))) x) (sym (closes t m.rest m.is))
     (item_steps nodes base fs m.rest (Group t.0) (record { node = part.node; at = from }) m.below m.place (subst (λ (x : ℕ). HoldsRegex t.0 nodes part.node x) at r.shows))
 
 -- no mark on top: nothing is closed
-pub unclosed_steps : (nodes : List Node) (base : ℕ) (old gs : List Frame) (part : Placed) (t : Regex × List Entry) → RegexOn nodes base old part t → ((at : ℕ) (fs : List Frame) → reverse old ≡ frames.Mark at ∷ fs → ⊥) → Steps nodes base gs (Err faults.Wrong) (after_group t)
+pub unclosed_steps : (nodes : List Node) (base : ℕ) (old gs : List Construct) (part : Placed) (t : Regex × List Entry) → RegexOn nodes base old part t → ((at : ℕ) (fs : List Construct) → reverse old ≡ constructs.Mark at ∷ fs → ⊥) → Steps nodes base gs (Err faults.Wrong) (after_group t)
 unclosed_steps nodes base old gs part t r none_on = subst (λ (x : Option State). Steps nodes base gs (Err faults.Wrong) x) (sym (unclosed nodes base (reverse old) t.0 t.1 r.below none_on)) (wrong_steps nodes base gs)
 
 -- ---- pieces with a postfix
 
-pub turns_steps : (nodes more : List Node) (base : ℕ) (fs gs : List Frame) (es : List Entry) (i : Item) (p : Postfix) (part : Placed) (n : ℕ) → FramesShow nodes base (reverse fs) es → part.at ≡ base + length (entries es) → HoldsItem i nodes part.node part.at → Adds nodes more → IsTurns p more n part.node part.at → gs ≡ fs ++ frames.Piece n part.at ∷ [] → Steps more base gs (Ok waits.Ready) (goes Ready (Read (Turns i p) ∷ es))
-unfolding FramesShow HoldsPiece
+pub turns_steps : (nodes more : List Node) (base : ℕ) (fs gs : List Construct) (es : List Entry) (i : Item) (p : Postfix) (part : Placed) (n : ℕ) → ConstructsShow nodes base (reverse fs) es → part.at ≡ base + length (entries es) → HoldsItem i nodes part.node part.at → Adds nodes more → IsTurns p more n part.node part.at → gs ≡ fs ++ constructs.Piece n part.at ∷ [] → Steps more base gs (Ok waits.Ready) (goes Ready (Read (Turns i p) ∷ es))
+unfolding ConstructsShow HoldsPiece
 turns_steps nodes more base fs gs es i p part n below at shows k turns ge =
-    ready_steps more base gs (Read (Turns i p) ∷ es) (push_shows more base fs gs (frames.Piece n part.at) (Read (Turns i p) ∷ es) ge
-    (at, (part.node, turns, HoldsItem-more i nodes more part.node part.at k shows), FramesShow-more nodes more base (reverse fs) es k below))
+    ready_steps more base gs (Read (Turns i p) ∷ es) (push_shows more base fs gs (constructs.Piece n part.at) (Read (Turns i p) ∷ es) ge
+    (at, (part.node, turns, HoldsItem-more i nodes more part.node part.at k shows), ConstructsShow-more nodes more base (reverse fs) es k below))
 
 -- a leaf
-pub leaf_steps : (nodes more : List Node) (base : ℕ) (fs : List Frame) (es : List Entry) (i : Item) (s : List Bool) (at : ℕ) (r : Result Wait StepFault) → Adds nodes more → FramesShow nodes base (reverse fs) es → at ≡ base + length (entries es) → IfOk r (λ w. (n : ℕ) × (w ≡ waits.After (record { node = n; at = at })) × IsNode more n (kinds.Class s) at) → IfErr r (λ e. e ≡ faults.Memory) → ((n : ℕ) → IsNode more n (kinds.Class s) at → HoldsItem i more n at) → Steps more base fs r (goes (After i) es)
+pub leaf_steps : (nodes more : List Node) (base : ℕ) (fs : List Construct) (es : List Entry) (i : Item) (s : List Bool) (at : ℕ) (r : Result Wait StepFault) → Adds nodes more → ConstructsShow nodes base (reverse fs) es → at ≡ base + length (entries es) → IfOk r (λ w. (n : ℕ) × (w ≡ waits.After (record { node = n; at = at })) × IsNode more n (kinds.Class s) at) → IfErr r (λ e. e ≡ faults.Memory) → ((n : ℕ) → IsNode more n (kinds.Class s) at → HoldsItem i more n at) → Steps more base fs r (goes (After i) es)
 leaf_steps nodes more base fs es i s at (Err e) k below a ok err shows = memory_steps more base fs e _ err
 leaf_steps nodes more base fs es i s at (Ok w) k below a ok err shows =
     subst (λ (x : Wait). Steps more base fs (Ok x) (goes (After i) es)) (sym ok.1)
-    (item_steps more base fs es i (record { node = ok.0; at = at }) (FramesShow-more nodes more base (reverse fs) es k below) a (shows ok.0 ok.2))
+    (item_steps more base fs es i (record { node = ok.0; at = at }) (ConstructsShow-more nodes more base (reverse fs) es k below) a (shows ok.0 ok.2))
 
 pub plain_item : (more : List Node) (s : List Bool) (b at n : ℕ) → HasExactly s (λ c. c == b) → IsNode more n (kinds.Class s) at → HoldsItem (Plain b) more n at
 unfolding HoldsItem
@@ -132,55 +132,55 @@ set_item more set s negated ms at n m x h = (s, in_words s (λ b. flipped negate
 
 -- ---- escapes, sets, counts
 
-pub escape_on_steps : (nodes : List Node) (base : ℕ) (fs : List Frame) (es : List Entry) (e : Escaping) (from : ℕ) (t : EscapeStep) → FramesShow nodes base (reverse fs) es → from ≡ base + length (entries es) → ShowsEscape (escapes.On e) t → Steps nodes base fs (Ok (waits.InEscape e from)) (on_escape es t)
+pub escape_on_steps : (nodes : List Node) (base : ℕ) (fs : List Construct) (es : List Entry) (e : Escaping) (from : ℕ) (t : EscapeStep) → ConstructsShow nodes base (reverse fs) es → from ≡ base + length (entries es) → ShowsEscape (escapes.On e) t → Steps nodes base fs (Ok (waits.InEscape e from)) (on_escape es t)
 unfolding on_escape ShowsEscape Steps ShowsMode
 escape_on_steps nodes base fs es e from (EscapeOn f) h a s = record { below = h; mode = (s, a) }
 escape_on_steps nodes base fs es e from (EscapeRead x) h a s = absurd s
 escape_on_steps nodes base fs es e from EscapeWrong h a s = absurd s
 
-pub escape_read_steps : (nodes more : List Node) (base : ℕ) (fs : List Frame) (es : List Entry) (s : List Bool) (b at : ℕ) (t : EscapeStep) (r : Result Wait StepFault) → Adds nodes more → FramesShow nodes base (reverse fs) es → at ≡ base + length (entries es) → ShowsEscape (escapes.Read b) t → HasExactly s (λ c. c == b) → IfOk r (λ w. (n : ℕ) × (w ≡ waits.After (record { node = n; at = at })) × IsNode more n (kinds.Class s) at) → IfErr r (λ e. e ≡ faults.Memory) → Steps more base fs r (on_escape es t)
+pub escape_read_steps : (nodes more : List Node) (base : ℕ) (fs : List Construct) (es : List Entry) (s : List Bool) (b at : ℕ) (t : EscapeStep) (r : Result Wait StepFault) → Adds nodes more → ConstructsShow nodes base (reverse fs) es → at ≡ base + length (entries es) → ShowsEscape (escapes.Read b) t → HasExactly s (λ c. c == b) → IfOk r (λ w. (n : ℕ) × (w ≡ waits.After (record { node = n; at = at })) × IsNode more n (kinds.Class s) at) → IfErr r (λ e. e ≡ faults.Memory) → Steps more base fs r (on_escape es t)
 unfolding on_escape ShowsEscape
 escape_read_steps nodes more base fs es s b at (EscapeOn f) r k h a e x ok err = absurd e
 escape_read_steps nodes more base fs es s b at (EscapeRead y) r k h a e x ok err = leaf_steps nodes more base fs es (Escaped y) s at r k h a ok err (λ n i. escaped_item more s y at n (subst (λ (z : ℕ). HasExactly s (λ c. c == z)) e x) i)
 escape_read_steps nodes more base fs es s b at EscapeWrong r k h a e x ok err = absurd e
 
-pub escape_wrong_steps : (nodes : List Node) (base : ℕ) (fs : List Frame) (es : List Entry) (t : EscapeStep) → ShowsEscape escapes.Wrong t → Steps nodes base fs (Err faults.Wrong) (on_escape es t)
+pub escape_wrong_steps : (nodes : List Node) (base : ℕ) (fs : List Construct) (es : List Entry) (t : EscapeStep) → ShowsEscape escapes.Wrong t → Steps nodes base fs (Err faults.Wrong) (on_escape es t)
 unfolding on_escape ShowsEscape
 escape_wrong_steps nodes base fs es (EscapeOn f) s = absurd s
 escape_wrong_steps nodes base fs es (EscapeRead x) s = absurd s
 escape_wrong_steps nodes base fs es EscapeWrong s = wrong_steps nodes base fs
 
-pub set_on_steps : (nodes : List Node) (base : ℕ) (fs : List Frame) (es : List Entry) (n e : Bool) (p : SetPart) (from : ℕ) (t : SetStep) → FramesShow nodes base (reverse fs) es → from ≡ base + length (entries es) → ShowsSet (sets.On n e p) t → Steps nodes base fs (Ok (waits.InSet n e p from)) (on_set es t)
+pub set_on_steps : (nodes : List Node) (base : ℕ) (fs : List Construct) (es : List Entry) (n e : Bool) (p : SetPart) (from : ℕ) (t : SetStep) → ConstructsShow nodes base (reverse fs) es → from ≡ base + length (entries es) → ShowsSet (sets.On n e p) t → Steps nodes base fs (Ok (waits.InSet n e p from)) (on_set es t)
 unfolding on_set ShowsSet Steps ShowsMode
 set_on_steps nodes base fs es n e p from (SetOn m ms q) h a s = record { below = h; mode = (s.0, s.1, s.2, a) }
 set_on_steps nodes base fs es n e p from (SetRead m ms) h a s = absurd s
 set_on_steps nodes base fs es n e p from SetWrong h a s = absurd s
 
-pub set_read_steps : (nodes more : List Node) (base : ℕ) (fs : List Frame) (es : List Entry) (set : SetSoFar) (s : List Bool) (m : Bool) (at : ℕ) (t : SetStep) (r : Result Wait StepFault) → Adds nodes more → FramesShow nodes base (reverse fs) es → at ≡ base + length (entries es) → ShowsSet (sets.Read m) t → IsSetAfter set (on_set es t) → HasExactly s (λ b. flipped m (has set.bytes b)) → IfOk r (λ w. (n : ℕ) × (w ≡ waits.After (record { node = n; at = at })) × IsNode more n (kinds.Class s) at) → IfErr r (λ e. e ≡ faults.Memory) → Steps more base fs r (on_set es t)
+pub set_read_steps : (nodes more : List Node) (base : ℕ) (fs : List Construct) (es : List Entry) (set : SetSoFar) (s : List Bool) (m : Bool) (at : ℕ) (t : SetStep) (r : Result Wait StepFault) → Adds nodes more → ConstructsShow nodes base (reverse fs) es → at ≡ base + length (entries es) → ShowsSet (sets.Read m) t → IsSetAfter set (on_set es t) → HasExactly s (λ b. flipped m (has set.bytes b)) → IfOk r (λ w. (n : ℕ) × (w ≡ waits.After (record { node = n; at = at })) × IsNode more n (kinds.Class s) at) → IfErr r (λ e. e ≡ faults.Memory) → Steps more base fs r (on_set es t)
 unfolding on_set ShowsSet IsSetIn
 set_read_steps nodes more base fs es set s m at (SetOn n ms q) r k h a e i x ok err = absurd e
 set_read_steps nodes more base fs es set s m at (SetRead n ms) r k h a e i x ok err = leaf_steps nodes more base fs es (Set n ms) s at r k h a ok err (λ j y. set_item more set s n ms at j i (subst (λ (z : Bool). HasExactly s (λ b. flipped z (has set.bytes b))) e x) y)
 set_read_steps nodes more base fs es set s m at SetWrong r k h a e i x ok err = absurd e
 
-pub set_wrong_steps : (nodes : List Node) (base : ℕ) (fs : List Frame) (es : List Entry) (t : SetStep) → ShowsSet sets.Wrong t → Steps nodes base fs (Err faults.Wrong) (on_set es t)
+pub set_wrong_steps : (nodes : List Node) (base : ℕ) (fs : List Construct) (es : List Entry) (t : SetStep) → ShowsSet sets.Wrong t → Steps nodes base fs (Err faults.Wrong) (on_set es t)
 unfolding on_set ShowsSet
 set_wrong_steps nodes base fs es (SetOn n ms q) s = absurd s
 set_wrong_steps nodes base fs es (SetRead n ms) s = absurd s
 set_wrong_steps nodes base fs es SetWrong s = wrong_steps nodes base fs
 
-pub count_on_steps : (nodes : List Node) (base : ℕ) (fs : List Frame) (es : List Entry) (i : Item) (part : Placed) (c : Count) (brace : ℕ) (t : CountStep) → FramesShow nodes base (reverse fs) es → part.at ≡ base + length (entries es) → brace ≡ part.at + length (item i) → HoldsItem i nodes part.node part.at → ShowsCountStep (outcomes.On c) t → Steps nodes base fs (Ok (waits.InCount part c brace)) (on_count i es t)
+pub count_on_steps : (nodes : List Node) (base : ℕ) (fs : List Construct) (es : List Entry) (i : Item) (part : Placed) (c : Count) (brace : ℕ) (t : CountStep) → ConstructsShow nodes base (reverse fs) es → part.at ≡ base + length (entries es) → brace ≡ part.at + length (item i) → HoldsItem i nodes part.node part.at → ShowsCountStep (outcomes.On c) t → Steps nodes base fs (Ok (waits.InCount part c brace)) (on_count i es t)
 unfolding on_count ShowsCountStep Steps ShowsMode
 count_on_steps nodes base fs es i part c brace (CountOn d) h a q x s = record { below = h; mode = (a, subst (λ (y : ℕ). HoldsItem i nodes part.node y) a x, s, omega (arith, q, a)) }
 count_on_steps nodes base fs es i part c brace (CountRead p) h a q x s = absurd s
 count_on_steps nodes base fs es i part c brace CountWrong h a q x s = absurd s
 
-pub count_read_steps : (more : List Node) (base : ℕ) (gs : List Frame) (es : List Entry) (i : Item) (l : ℕ) (h : Option ℕ) (t : CountStep) (r : Result Wait StepFault) → ShowsCountStep (outcomes.Read l h) t → ((p : Postfix) → l ≡ capped (low p) → h ≡ capped_option (high p) → Steps more base gs r (goes Ready (Read (Turns i p) ∷ es))) → Steps more base gs r (on_count i es t)
+pub count_read_steps : (more : List Node) (base : ℕ) (gs : List Construct) (es : List Entry) (i : Item) (l : ℕ) (h : Option ℕ) (t : CountStep) (r : Result Wait StepFault) → ShowsCountStep (outcomes.Read l h) t → ((p : Postfix) → l ≡ capped (low p) → h ≡ capped_option (high p) → Steps more base gs r (goes Ready (Read (Turns i p) ∷ es))) → Steps more base gs r (on_count i es t)
 unfolding on_count ShowsCountStep
 count_read_steps more base gs es i l h (CountOn d) r s f = absurd s
 count_read_steps more base gs es i l h (CountRead p) r s f = f p s.0 s.1
 count_read_steps more base gs es i l h CountWrong r s f = absurd s
 
-pub count_wrong_steps : (nodes : List Node) (base : ℕ) (fs : List Frame) (es : List Entry) (i : Item) (t : CountStep) → ShowsCountStep outcomes.Wrong t → Steps nodes base fs (Err faults.Wrong) (on_count i es t)
+pub count_wrong_steps : (nodes : List Node) (base : ℕ) (fs : List Construct) (es : List Entry) (i : Item) (t : CountStep) → ShowsCountStep outcomes.Wrong t → Steps nodes base fs (Err faults.Wrong) (on_count i es t)
 unfolding on_count ShowsCountStep
 count_wrong_steps nodes base fs es i (CountOn d) s = absurd s
 count_wrong_steps nodes base fs es i (CountRead p) s = absurd s
@@ -188,18 +188,18 @@ count_wrong_steps nodes base fs es i CountWrong s = wrong_steps nodes base fs
 
 -- ---- where a piece may begin
 
-pub to : (nodes : List Node) (base : ℕ) (fs : List Frame) (r : Result Wait StepFault) (o p : Option State) → o ≡ p → Steps nodes base fs r p → Steps nodes base fs r o
+pub to : (nodes : List Node) (base : ℕ) (fs : List Construct) (r : Result Wait StepFault) (o p : Option State) → o ≡ p → Steps nodes base fs r p → Steps nodes base fs r o
 to nodes base fs r o p e s = subst (λ (x : Option State). Steps nodes base fs r x) (sym e) s
 
-pub mark_steps : (nodes : List Node) (base : ℕ) (fs gs : List Frame) (es : List Entry) (at : ℕ) → FramesShow nodes base (reverse fs) es → at ≡ base + length (entries es) → gs ≡ fs ++ frames.Mark at ∷ [] → Steps nodes base gs (Ok waits.Ready) (goes Ready (Mark ∷ es))
-unfolding FramesShow
-mark_steps nodes base fs gs es at h a e = ready_steps nodes base gs (Mark ∷ es) (push_shows nodes base fs gs (frames.Mark at) (Mark ∷ es) e (a, h))
+pub mark_steps : (nodes : List Node) (base : ℕ) (fs gs : List Construct) (es : List Entry) (at : ℕ) → ConstructsShow nodes base (reverse fs) es → at ≡ base + length (entries es) → gs ≡ fs ++ constructs.Mark at ∷ [] → Steps nodes base gs (Ok waits.Ready) (goes Ready (Mark ∷ es))
+unfolding ConstructsShow
+mark_steps nodes base fs gs es at h a e = ready_steps nodes base gs (Mark ∷ es) (push_shows nodes base fs gs (constructs.Mark at) (Mark ∷ es) e (a, h))
 
-pub set_begins_steps : (nodes : List Node) (base : ℕ) (fs : List Frame) (es : List Entry) (at : ℕ) → FramesShow nodes base (reverse fs) es → at ≡ base + length (entries es) → Steps nodes base fs (Ok (waits.InSet false true parts.AtStart at)) (goes (InSet false [] AtStart) es)
+pub set_begins_steps : (nodes : List Node) (base : ℕ) (fs : List Construct) (es : List Entry) (at : ℕ) → ConstructsShow nodes base (reverse fs) es → at ≡ base + length (entries es) → Steps nodes base fs (Ok (waits.InSet false true parts.AtStart at)) (goes (InSet false [] AtStart) es)
 unfolding Steps ShowsMode ShowsPart
 set_begins_steps nodes base fs es at h a = record { below = h; mode = (refl, refl, tt, a) }
 
-pub escape_begins_steps : (nodes : List Node) (base : ℕ) (fs : List Frame) (es : List Entry) (at : ℕ) → FramesShow nodes base (reverse fs) es → at ≡ base + length (entries es) → Steps nodes base fs (Ok (waits.InEscape Begun at)) (goes (InEscape Begun) es)
+pub escape_begins_steps : (nodes : List Node) (base : ℕ) (fs : List Construct) (es : List Entry) (at : ℕ) → ConstructsShow nodes base (reverse fs) es → at ≡ base + length (entries es) → Steps nodes base fs (Ok (waits.InEscape Begun at)) (goes (InEscape Begun) es)
 unfolding Steps ShowsMode
 escape_begins_steps nodes base fs es at h a = record { below = h; mode = (refl, a) }
 
@@ -222,7 +222,7 @@ begin_none es b p n1 n2 n3 n4 n5 n6 =
 
 -- ---- behind an item
 
-pub count_begins_steps : (nodes : List Node) (base : ℕ) (fs : List Frame) (es : List Entry) (i : Item) (part : Placed) (at : ℕ) → FramesShow nodes base (reverse fs) es → part.at ≡ base + length (entries es) → at ≡ part.at + length (item i) → HoldsItem i nodes part.node part.at → Steps nodes base fs (Ok (waits.InCount part counts.Opened at)) (goes (InCount i Opened) es)
+pub count_begins_steps : (nodes : List Node) (base : ℕ) (fs : List Construct) (es : List Entry) (i : Item) (part : Placed) (at : ℕ) → ConstructsShow nodes base (reverse fs) es → part.at ≡ base + length (entries es) → at ≡ part.at + length (item i) → HoldsItem i nodes part.node part.at → Steps nodes base fs (Ok (waits.InCount part counts.Opened at)) (goes (InCount i Opened) es)
 unfolding Steps ShowsMode ShowsCount
 count_begins_steps nodes base fs es i part at h a q x = record { below = h; mode = (a, subst (λ (y : ℕ). HoldsItem i nodes part.node y) a x, tt, omega (arith, q, a)) }
 
@@ -274,9 +274,9 @@ unfolding high
 quest_high = refl
 
 -- the item becomes a piece
-pub once_shows : (nodes : List Node) (base : ℕ) (fs gs : List Frame) (es : List Entry) (i : Item) (part : Placed) → FramesShow nodes base (reverse fs) es → part.at ≡ base + length (entries es) → HoldsItem i nodes part.node part.at → gs ≡ fs ++ frames.Piece part.node part.at ∷ [] → FramesShow nodes base (reverse gs) (Read (Once i) ∷ es)
-unfolding FramesShow HoldsPiece
-once_shows nodes base fs gs es i part h a x e = push_shows nodes base fs gs (frames.Piece part.node part.at) (Read (Once i) ∷ es) e (a, x, h)
+pub once_shows : (nodes : List Node) (base : ℕ) (fs gs : List Construct) (es : List Entry) (i : Item) (part : Placed) → ConstructsShow nodes base (reverse fs) es → part.at ≡ base + length (entries es) → HoldsItem i nodes part.node part.at → gs ≡ fs ++ constructs.Piece part.node part.at ∷ [] → ConstructsShow nodes base (reverse gs) (Read (Once i) ∷ es)
+unfolding ConstructsShow HoldsPiece
+once_shows nodes base fs gs es i part h a x e = push_shows nodes base fs gs (constructs.Piece part.node part.at) (Read (Once i) ∷ es) e (a, x, h)
 
 pub once_ends : (base at from : ℕ) (es : List Entry) (i : Item) → from ≡ base + length (entries es) → at ≡ from + length (item i) → at ≡ base + length (entries (Read (Once i) ∷ es))
 unfolding entries entry piece

@@ -1,4 +1,4 @@
--- What the reader holds while it reads: nodes, frames, a set, a count, each against what the machine holds.
+-- What the reader holds while it reads: nodes, constructs, a set, a count, each against what the machine holds.
 use Rattle.std.specs.Prelude.{◌≡◌, ℕ, ◌+◌, Bool, true, false, List, [], ◌∷◌, length, reverse, Option, Some, None, Result, Ok, Err, IfOk, MatchBool, min, ◌==◌, ◌⊎◌}
 use Rattle.kex_byteset.specs.Sets.{HasExactly}
 use Rattle.kex_code.specs.Codes.{IsAmong}
@@ -10,9 +10,9 @@ use Rattle.kex_regexp.specs.declared.counts.CountOutcome.{CountOutcome}
 use Rattle.kex_regexp.specs.declared.counts.CountOutcome.TheVariants as outcomes
 use Rattle.kex_regexp.specs.declared.escapes.EscapeOutcome.{EscapeOutcome}
 use Rattle.kex_regexp.specs.declared.escapes.EscapeOutcome.TheVariants as escapes
-use Rattle.kex_regexp.specs.declared.frames.Frame.{Frame}
-use Rattle.kex_regexp.specs.declared.frames.Frame.TheVariants as frames
-use Rattle.kex_regexp.specs.declared.frames.Placed.{Placed}
+use Rattle.kex_regexp.specs.declared.constructs.Construct.{Construct}
+use Rattle.kex_regexp.specs.declared.constructs.Construct.TheVariants as constructs
+use Rattle.kex_regexp.specs.declared.constructs.Placed.{Placed}
 use Rattle.kex_regexp.specs.declared.sets.SetOutcome.{SetOutcome}
 use Rattle.kex_regexp.specs.declared.sets.SetOutcome.TheVariants as sets
 use Rattle.kex_regexp.specs.declared.sets.SetPart.{SetPart}
@@ -56,26 +56,26 @@ unfoldable mutual
   HoldsItem (Set negated ms) nodes n at = IsClass nodes n (in_set negated ms) at
   HoldsItem (Group r) nodes n at = HoldsRegex r nodes n (at + 1)
 
--- ---- frames
+-- ---- constructs
 
--- the frames, the newest first, show the entries of a body that begins at base
-unfoldable pub FramesShow : List Node → ℕ → List Frame → List Entry → Type 0
-FramesShow nodes base [] [] = Unit {0}
-FramesShow nodes base (frames.Mark at ∷ fs) (Mark ∷ es) = (at ≡ base + length (entries es)) × FramesShow nodes base fs es
-FramesShow nodes base (frames.Ended n at ∷ fs) (Ended b ∷ es) = (at ≡ base + length (entries es)) × HoldsBranch b nodes n at × FramesShow nodes base fs es
-FramesShow nodes base (frames.Piece n at ∷ fs) (Read p ∷ es) = (at ≡ base + length (entries es)) × HoldsPiece p nodes n at × FramesShow nodes base fs es
-FramesShow nodes base _ _ = ⊥
+-- the constructs, the newest first, show the entries of a body that begins at base
+unfoldable pub ConstructsShow : List Node → ℕ → List Construct → List Entry → Type 0
+ConstructsShow nodes base [] [] = Unit {0}
+ConstructsShow nodes base (constructs.Mark at ∷ fs) (Mark ∷ es) = (at ≡ base + length (entries es)) × ConstructsShow nodes base fs es
+ConstructsShow nodes base (constructs.Ended n at ∷ fs) (Ended b ∷ es) = (at ≡ base + length (entries es)) × HoldsBranch b nodes n at × ConstructsShow nodes base fs es
+ConstructsShow nodes base (constructs.Piece n at ∷ fs) (Read p ∷ es) = (at ≡ base + length (entries es)) × HoldsPiece p nodes n at × ConstructsShow nodes base fs es
+ConstructsShow nodes base _ _ = ⊥
 
--- a node that shows a branch, above entries that the frames show
-pub record BranchOn (nodes : List Node) (base : ℕ) (fs : List Frame) (part : Placed) (t : Branch × List Entry) : Type 0 where
+-- a node that shows a branch, above entries that the constructs show
+pub record BranchOn (nodes : List Node) (base : ℕ) (fs : List Construct) (part : Placed) (t : Branch × List Entry) : Type 0 where
   pub at : part.at ≡ base + length (entries t.1)
   pub shows : HoldsBranch t.0 nodes part.node part.at
-  pub below : FramesShow nodes base (reverse fs) t.1
+  pub below : ConstructsShow nodes base (reverse fs) t.1
 
-pub record RegexOn (nodes : List Node) (base : ℕ) (fs : List Frame) (part : Placed) (t : Regex × List Entry) : Type 0 where
+pub record RegexOn (nodes : List Node) (base : ℕ) (fs : List Construct) (part : Placed) (t : Regex × List Entry) : Type 0 where
   pub at : part.at ≡ base + length (entries t.1)
   pub shows : HoldsRegex t.0 nodes part.node part.at
-  pub below : FramesShow nodes base (reverse fs) t.1
+  pub below : ConstructsShow nodes base (reverse fs) t.1
 
 -- ---- escapes
 
@@ -167,13 +167,13 @@ ShowsMode nodes at (waits.InSet negated empty p from) (InSet n ms q) = (negated 
 ShowsMode nodes at (waits.InCount part c brace) (InCount i d) = (part.at ≡ at) × HoldsItem i nodes part.node at × ShowsCount c d × (brace ≡ at + length (item i))
 ShowsMode _ _ _ _ = ⊥
 
--- the frames and what the code waits for are those of a state
-pub record ShowsState (nodes : List Node) (base : ℕ) (fs : List Frame) (wait : Wait) (s : State) : Type 0 where
-  pub below : FramesShow nodes base (reverse fs) s.entries
+-- the constructs and what the code waits for are those of a state
+pub record ShowsState (nodes : List Node) (base : ℕ) (fs : List Construct) (wait : Wait) (s : State) : Type 0 where
+  pub below : ConstructsShow nodes base (reverse fs) s.entries
   pub mode : ShowsMode nodes (base + length (entries s.entries)) wait s.mode
 
 -- what a step made is what the machine makes, unless memory ran out
-unfoldable pub Steps : List Node → ℕ → List Frame → Result Wait StepFault → Option State → Type 0
+unfoldable pub Steps : List Node → ℕ → List Construct → Result Wait StepFault → Option State → Type 0
 Steps nodes base fs (Ok wait) None = ⊥
 Steps nodes base fs (Ok wait) (Some s) = ShowsState nodes base fs wait s
 Steps nodes base fs (Err faults.Memory) o = Unit {0}
@@ -188,44 +188,44 @@ Ends nodes base (Err faults.Memory) o = Unit {0}
 Ends nodes base (Err faults.Wrong) None = Unit {0}
 Ends nodes base (Err faults.Wrong) (Some r) = ⊥
 
--- these frames, and an offset behind them, are those of some state
-abbrev pub SomeFrames : List Node → List Frame → ℕ → Type 0
-SomeFrames nodes fs at = (base : ℕ) × (es : List Entry) × FramesShow nodes base (reverse fs) es × (at ≡ base + length (entries es))
+-- these constructs, and an offset behind them, are those of some state
+abbrev pub SomeConstructs : List Node → List Construct → ℕ → Type 0
+SomeConstructs nodes fs at = (base : ℕ) × (es : List Entry) × ConstructsShow nodes base (reverse fs) es × (at ≡ base + length (entries es))
 
 -- and an item that begins there
-abbrev pub SomeItem : List Node → List Frame → Placed → Type 0
-SomeItem nodes fs part = (base : ℕ) × (es : List Entry) × (i : Item) × FramesShow nodes base (reverse fs) es × (part.at ≡ base + length (entries es)) × HoldsItem i nodes part.node part.at
+abbrev pub SomeItem : List Node → List Construct → Placed → Type 0
+SomeItem nodes fs part = (base : ℕ) × (es : List Entry) × (i : Item) × ConstructsShow nodes base (reverse fs) es × (part.at ≡ base + length (entries es)) × HoldsItem i nodes part.node part.at
 
-abbrev pub SomeState : List Node → List Frame → Wait → ℕ → Type 0
+abbrev pub SomeState : List Node → List Construct → Wait → ℕ → Type 0
 SomeState nodes fs wait at = (base : ℕ) × (s : State) × ShowsState nodes base fs wait s × (at ≡ base + length (bytes_read s))
 
-abbrev pub SomeBehind : List Node → List Frame → Placed → ℕ → Type 0
-SomeBehind nodes fs part at = (base : ℕ) × (es : List Entry) × (i : Item) × FramesShow nodes base (reverse fs) es × (part.at ≡ base + length (entries es)) × (at ≡ part.at + length (item i)) × HoldsItem i nodes part.node part.at
+abbrev pub SomeBehind : List Node → List Construct → Placed → ℕ → Type 0
+SomeBehind nodes fs part at = (base : ℕ) × (es : List Entry) × (i : Item) × ConstructsShow nodes base (reverse fs) es × (part.at ≡ base + length (entries es)) × (at ≡ part.at + length (item i)) × HoldsItem i nodes part.node part.at
 
 -- ---- what clauses say
 
--- where the frames show entries, behind which stands an item with this node
-abbrev pub OnItem : List Node → List Frame → Placed → (ℕ → List Entry → Item → Type 0) → Type 0
-OnItem nodes frames placed Says = (base : ℕ) (es : List Entry) (i : Item) → FramesShow nodes base (reverse frames) es → placed.at ≡ base + length (entries es) → HoldsItem i nodes placed.node placed.at → Says base es i
+-- where the constructs show entries, behind which stands an item with this node
+abbrev pub OnItem : List Node → List Construct → Placed → (ℕ → List Entry → Item → Type 0) → Type 0
+OnItem nodes constructs placed Says = (base : ℕ) (es : List Entry) (i : Item) → ConstructsShow nodes base (reverse constructs) es → placed.at ≡ base + length (entries es) → HoldsItem i nodes placed.node placed.at → Says base es i
 
 -- ---- nodes that are held: they have no parent yet
 
-abbrev pub InFrame : Frame → ℕ → Type 0
-InFrame (frames.Mark at) n = ⊥
-InFrame (frames.Ended m at) n = n ≡ m
-InFrame (frames.Piece m at) n = n ≡ m
+abbrev pub InConstruct : Construct → ℕ → Type 0
+InConstruct (constructs.Mark at) n = ⊥
+InConstruct (constructs.Ended m at) n = n ≡ m
+InConstruct (constructs.Piece m at) n = n ≡ m
 
-abbrev pub InFrames : List Frame → ℕ → Type 0
-InFrames fs n = (f : Frame) × IsAmong fs f × InFrame f n
+abbrev pub InConstructs : List Construct → ℕ → Type 0
+InConstructs fs n = (f : Construct) × IsAmong fs f × InConstruct f n
 
 abbrev pub InWait : Wait → ℕ → Type 0
 InWait (waits.After item) n = n ≡ item.node
 InWait (waits.InCount item count brace) n = n ≡ item.node
 InWait _ n = ⊥
 
-abbrev pub IsHeld : List Frame → Wait → ℕ → Type 0
-IsHeld fs wait n = InFrames fs n ⊎ InWait wait n
+abbrev pub IsHeld : List Construct → Wait → ℕ → Type 0
+IsHeld fs wait n = InConstructs fs n ⊎ InWait wait n
 
 -- a step loses no node
-abbrev pub LosesNone : List Node → List Node → List Frame → Wait → List Frame → Result Wait StepFault → Type 0
+abbrev pub LosesNone : List Node → List Node → List Construct → Wait → List Construct → Result Wait StepFault → Type 0
 LosesNone old new fs wait gs result = IfOk result (λ next. NoneLost old new (IsHeld fs wait) (IsHeld gs next))

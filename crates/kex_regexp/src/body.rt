@@ -4,14 +4,14 @@ ghost use Rattle.std.specs.Prelude.{◌≡◌, ℕ, ◌+◌, ◌<◌, ◌^◌, L
 ghost use Rattle.kex_regexp.specs.Bodies.{IsRefusal, Spells, fault_of};
 ghost use Rattle.kex_regexp.specs.Breaks.{regex_breaks};
 ghost use Rattle.kex_regexp.specs.Grammar.{Regex, Empty};
-ghost use Rattle.kex_regexp.specs.Holding.{Ends, FramesShow, InFrames, IsHeld, SomeFrames, SomeState, ShowsState};
+ghost use Rattle.kex_regexp.specs.Holding.{Ends, ConstructsShow, InConstructs, IsHeld, SomeConstructs, SomeState, ShowsState};
 ghost use Rattle.kex_regexp.specs.Machine.{Entry, State, entries, bytes_read, take_regex, whole_regex, finish as spec_finish};
 ghost use Rattle.kex_regexp.specs.Parents.{NoneLost};
 ghost use Rattle.kex_regexp.specs.Shown.{Adds, ShowsRegex};
 
 use crate::breaks::{Break, lesser};
+use crate::constructs::{Construct, close_regex};
 use crate::fault::RegexFault;
-use crate::frames::{Frame, close_regex};
 use crate::notes::{deeper, noted};
 use crate::sets::SetSoFar;
 use crate::steps::{push, step};
@@ -21,16 +21,16 @@ use std::alloc::Global;
 
 /// The regex that is left, where nothing stands open.
 #[tactic(auto, using(crate::proofs::Additions::adding))]
-fn end(frames: &mut Vec<Frame>, into: &mut Builder, at: u32) -> Result<u32, StepFault>
-    requires { SomeFrames into.old frames.old.items at }
+fn end(constructs: &mut Vec<Construct>, into: &mut Builder, at: u32) -> Result<u32, StepFault>
+    requires { SomeConstructs into.old constructs.old.items at }
     ensures adds { Adds into.old into.new }
-    ensures nodes { IfOk result (λ m. NoneLost into.old into.new (InFrames frames.old.items) (λ n. n ≡ m)) }
-    ensures ends { (base : ℕ) (es : List Entry) → FramesShow into.old base (reverse frames.old.items) es → at ≡ base + length (entries es) → Ends into.new base result (whole_regex (take_regex es)) }
+    ensures nodes { IfOk result (λ m. NoneLost into.old into.new (InConstructs constructs.old.items) (λ n. n ≡ m)) }
+    ensures ends { (base : ℕ) (es : List Entry) → ConstructsShow into.old base (reverse constructs.old.items) es → at ≡ base + length (entries es) → Ends into.new base result (whole_regex (take_regex es)) }
 {
-    let Ok(regex) = close_regex(frames, into, at) else {
+    let Ok(regex) = close_regex(constructs, into, at) else {
         return Err(StepFault::Memory);
     };
-    if frames.is_empty() {
+    if constructs.is_empty() {
         Ok(regex.node)
     } else {
         Err(StepFault::Wrong)
@@ -40,27 +40,27 @@ fn end(frames: &mut Vec<Frame>, into: &mut Builder, at: u32) -> Result<u32, Step
 /// The node of the body, where it may end.
 #[tactic(auto, using(crate::proofs::Additions::adding))]
 fn finish(
-    frames: &mut Vec<Frame>,
+    constructs: &mut Vec<Construct>,
     into: &mut Builder,
     wait: Wait,
     at: u32,
 ) -> Result<u32, StepFault>
-    requires { SomeState into.old frames.old.items wait at }
+    requires { SomeState into.old constructs.old.items wait at }
     ensures adds { Adds into.old into.new }
-    ensures nodes { IfOk result (λ m. NoneLost into.old into.new (IsHeld frames.old.items wait) (λ n. n ≡ m)) }
-    ensures ends { (base : ℕ) (s : State) → ShowsState into.old base frames.old.items wait s → at ≡ base + length (bytes_read s) → Ends into.new base result (spec_finish s) }
+    ensures nodes { IfOk result (λ m. NoneLost into.old into.new (IsHeld constructs.old.items wait) (λ n. n ≡ m)) }
+    ensures ends { (base : ℕ) (s : State) → ShowsState into.old base constructs.old.items wait s → at ≡ base + length (bytes_read s) → Ends into.new base result (spec_finish s) }
 {
     match wait {
-        Wait::Ready => end(frames, into, at),
+        Wait::Ready => end(constructs, into, at),
         Wait::After(item) => {
-            let piece = Frame::Piece {
+            let piece = Construct::Piece {
                 node: item.node,
                 at: item.at,
             };
-            let Ok(()) = push(frames, piece) else {
+            let Ok(()) = push(constructs, piece) else {
                 return Err(StepFault::Memory);
             };
-            end(frames, into, at)
+            end(constructs, into, at)
         }
         Wait::InEscape { .. } => Err(StepFault::Wrong),
         Wait::InSet { .. } => Err(StepFault::Wrong),
@@ -89,7 +89,7 @@ pub fn regex(
     // A body that breaks no rule is read, unless memory is wanting.
     ensures accepted { (r : Regex) → Spells r bytes.now → regex_breaks r at depth ≡ [] → IfErr result (λ fault. fault ≡ RegexFault.Memory) }
 {
-    let mut frames = Vec::new(alloc);
+    let mut constructs = Vec::new(alloc);
     let mut set = SetSoFar::new();
     let mut wait = Wait::Ready;
     let mut place = at;
@@ -98,7 +98,7 @@ pub fn regex(
     for byte in bytes {
         let deep = deeper(wait, nested, *byte);
         set.take_in(wait, *byte);
-        let next = match step(&mut frames, into, wait, &set, place, *byte) {
+        let next = match step(&mut constructs, into, wait, &set, place, *byte) {
             Ok(next) => next,
             Err(StepFault::Memory) => return Err(RegexFault::Memory),
             Err(StepFault::Wrong) => return Err(RegexFault::BadRegex { at: place }),
@@ -108,7 +108,7 @@ pub fn regex(
         nested = deep;
         place += 1;
     }
-    match finish(&mut frames, into, wait, place) {
+    match finish(&mut constructs, into, wait, place) {
         Ok(node) => unless_broken(node, least),
         Err(StepFault::Memory) => Err(RegexFault::Memory),
         Err(StepFault::Wrong) => Err(RegexFault::BadRegex { at: place }),

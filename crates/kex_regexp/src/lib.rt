@@ -8,10 +8,10 @@
 mod body;
 pub mod breaks;
 mod bytes;
+mod constructs;
 mod counts;
 mod escapes;
 pub mod fault;
-mod frames;
 pub mod laws;
 mod notes;
 mod sets;

@@ -2,16 +2,16 @@
 
 ghost use Rattle.std.specs.Prelude.{◌≡◌, ℕ, ◌+◌, ◌<◌, List, [], ◌∷◌, ◌++◌, length, reverse, OnOk, IfOk, IfErr};
 ghost use Rattle.kex_regexp.specs.Grammar.{Item, Postfix, Empty, Turns, item as spelled_item};
-ghost use Rattle.kex_regexp.specs.Holding.{FramesShow, HoldsItem, IsSetAfter, LosesNone, IsTurns, OnItem, ShowsCountStep, ShowsEscape, ShowsSet, SomeBehind, SomeFrames, SomeItem, SomeState, ShowsState, Steps, capped, capped_option};
+ghost use Rattle.kex_regexp.specs.Holding.{ConstructsShow, HoldsItem, IsSetAfter, LosesNone, IsTurns, OnItem, ShowsCountStep, ShowsEscape, ShowsSet, SomeBehind, SomeConstructs, SomeItem, SomeState, ShowsState, Steps, capped, capped_option};
 ghost use Rattle.kex_regexp.specs.Machine.{EscapeStep, SetStep, CountStep, Entry, Read, Ready, State, entries, bytes_read, goes, take_pieces, take_regex, begin_piece, after_item, end_branch, after_group as close_parenthesis, on_escape as spec_on_escape, on_set as spec_on_set, on_count as spec_on_count, step as spec_step};
 ghost use Rattle.kex_regexp.specs.Parents.{NoneLost};
 ghost use Rattle.kex_regexp.specs.Shown.{Adds, IsNode};
 ghost use Rattle.kex_regexp.specs.Values.{low as low_of, high as high_of};
 
 use crate::bytes::is_plain;
+use crate::constructs::{Construct, Placed, close_branch, close_regex, take_mark};
 use crate::counts::{Count, CountOutcome, in_count, is_bad_count};
 use crate::escapes::{EscapeOutcome, Escaping, escape};
-use crate::frames::{Frame, Placed, close_branch, close_regex, take_mark};
 use crate::sets::{SetOutcome, SetPart, SetSoFar, in_set};
 use crate::wait::{StepFault, Wait};
 use kex_byteset::ByteSet;
@@ -19,11 +19,11 @@ use kex_code::memory::Memory;
 use kex_model::builder::Builder;
 use kex_model::program::{Kind, Node};
 
-pub fn push(frames: &mut Vec<Frame>, frame: Frame) -> Result<(), StepFault>
-    ensures ok { OnOk result (frames.new.items ≡ frames.old.items ++ frame ∷ []) }
+pub fn push(constructs: &mut Vec<Construct>, construct: Construct) -> Result<(), StepFault>
+    ensures ok { OnOk result (constructs.new.items ≡ constructs.old.items ++ construct ∷ []) }
     ensures err { IfErr result (λ e. e ≡ StepFault.Memory) }
 {
-    match frames.push(frame) {
+    match constructs.push(construct) {
         Ok(()) => Ok(()),
         Err(_) => Err(StepFault::Memory),
     }
@@ -33,7 +33,7 @@ pub fn push(frames: &mut Vec<Frame>, frame: Frame) -> Result<(), StepFault>
 #[tactic(auto, using(crate::proofs::Additions::adding))]
 fn leaf(into: &mut Builder, set: ByteSet, at: u32) -> Result<Wait, StepFault>
     ensures adds { Adds into.old into.new }
-    ensures nodes { (fs : List Frame) → LosesNone into.old into.new fs Wait.Ready fs result }
+    ensures nodes { (fs : List Construct) → LosesNone into.old into.new fs Wait.Ready fs result }
     ensures ok { IfOk result (λ w. (n : ℕ) × (w ≡ Wait.After (record { node = n; at = at })) × IsNode into.new n (Kind.Class set) at) }
     ensures err { IfErr result (λ e. e ≡ StepFault.Memory) }
 {
@@ -49,20 +49,20 @@ fn leaf(into: &mut Builder, set: ByteSet, at: u32) -> Result<Wait, StepFault>
 
 /// A bar.
 #[tactic(auto, using(crate::proofs::Additions::adding))]
-fn bar(frames: &mut Vec<Frame>, into: &mut Builder, at: u32) -> Result<Wait, StepFault>
-    requires { SomeFrames into.old frames.old.items at }
+fn bar(constructs: &mut Vec<Construct>, into: &mut Builder, at: u32) -> Result<Wait, StepFault>
+    requires { SomeConstructs into.old constructs.old.items at }
     ensures adds { Adds into.old into.new }
-    ensures nodes { LosesNone into.old into.new frames.old.items Wait.Ready frames.new.items result }
-    ensures step { (base : ℕ) (es : List Entry) → FramesShow into.old base (reverse frames.old.items) es → at ≡ base + length (entries es) → Steps into.new base frames.new.items result (end_branch (take_pieces es Empty)) }
+    ensures nodes { LosesNone into.old into.new constructs.old.items Wait.Ready constructs.new.items result }
+    ensures step { (base : ℕ) (es : List Entry) → ConstructsShow into.old base (reverse constructs.old.items) es → at ≡ base + length (entries es) → Steps into.new base constructs.new.items result (end_branch (take_pieces es Empty)) }
 {
-    let Ok(branch) = close_branch(frames, into, at) else {
+    let Ok(branch) = close_branch(constructs, into, at) else {
         return Err(StepFault::Memory);
     };
-    let ended = Frame::Ended {
+    let ended = Construct::Ended {
         node: branch.node,
         at: branch.at,
     };
-    let Ok(()) = push(frames, ended) else {
+    let Ok(()) = push(constructs, ended) else {
         return Err(StepFault::Memory);
     };
     Ok(Wait::Ready)
@@ -70,16 +70,16 @@ fn bar(frames: &mut Vec<Frame>, into: &mut Builder, at: u32) -> Result<Wait, Ste
 
 /// A parenthesis that closes.
 #[tactic(auto, using(crate::proofs::Additions::adding))]
-fn close(frames: &mut Vec<Frame>, into: &mut Builder, at: u32) -> Result<Wait, StepFault>
-    requires { SomeFrames into.old frames.old.items at }
+fn close(constructs: &mut Vec<Construct>, into: &mut Builder, at: u32) -> Result<Wait, StepFault>
+    requires { SomeConstructs into.old constructs.old.items at }
     ensures adds { Adds into.old into.new }
-    ensures nodes { LosesNone into.old into.new frames.old.items Wait.Ready frames.new.items result }
-    ensures step { (base : ℕ) (es : List Entry) → FramesShow into.old base (reverse frames.old.items) es → at ≡ base + length (entries es) → Steps into.new base frames.new.items result (close_parenthesis (take_regex es)) }
+    ensures nodes { LosesNone into.old into.new constructs.old.items Wait.Ready constructs.new.items result }
+    ensures step { (base : ℕ) (es : List Entry) → ConstructsShow into.old base (reverse constructs.old.items) es → at ≡ base + length (entries es) → Steps into.new base constructs.new.items result (close_parenthesis (take_regex es)) }
 {
-    let Ok(regex) = close_regex(frames, into, at) else {
+    let Ok(regex) = close_regex(constructs, into, at) else {
         return Err(StepFault::Memory);
     };
-    let Some(from) = take_mark(frames) else {
+    let Some(from) = take_mark(constructs) else {
         return Err(StepFault::Wrong);
     };
     Ok(Wait::After(Placed {
@@ -90,11 +90,11 @@ fn close(frames: &mut Vec<Frame>, into: &mut Builder, at: u32) -> Result<Wait, S
 
 /// A byte where a piece may begin.
 #[tactic(auto, using(crate::proofs::Additions::adding))]
-fn begin(frames: &mut Vec<Frame>, into: &mut Builder, at: u32, byte: u8) -> Result<Wait, StepFault>
-    requires { SomeFrames into.old frames.old.items at }
+fn begin(constructs: &mut Vec<Construct>, into: &mut Builder, at: u32, byte: u8) -> Result<Wait, StepFault>
+    requires { SomeConstructs into.old constructs.old.items at }
     ensures adds { Adds into.old into.new }
-    ensures nodes { LosesNone into.old into.new frames.old.items Wait.Ready frames.new.items result }
-    ensures step { (base : ℕ) (es : List Entry) → FramesShow into.old base (reverse frames.old.items) es → at ≡ base + length (entries es) → Steps into.new base frames.new.items result (begin_piece es byte) }
+    ensures nodes { LosesNone into.old into.new constructs.old.items Wait.Ready constructs.new.items result }
+    ensures step { (base : ℕ) (es : List Entry) → ConstructsShow into.old base (reverse constructs.old.items) es → at ≡ base + length (entries es) → Steps into.new base constructs.new.items result (begin_piece es byte) }
 {
     if is_plain(byte) {
         leaf(into, ByteSet::single(byte), at)
@@ -113,14 +113,14 @@ fn begin(frames: &mut Vec<Frame>, into: &mut Builder, at: u32, byte: u8) -> Resu
             from: at,
         })
     } else if byte == b'(' {
-        let Ok(()) = push(frames, Frame::Mark { at }) else {
+        let Ok(()) = push(constructs, Construct::Mark { at }) else {
             return Err(StepFault::Memory);
         };
         Ok(Wait::Ready)
     } else if byte == b'|' {
-        bar(frames, into, at)
+        bar(constructs, into, at)
     } else if byte == b')' {
-        close(frames, into, at)
+        close(constructs, into, at)
     } else {
         Err(StepFault::Wrong)
     }
@@ -151,22 +151,22 @@ fn repeated(into: &mut Builder, item: Placed, low: u32, high: Option<u32>) -> Re
 /// A piece with a postfix. Where the count is bad the body is refused in the end, and the item stands alone until then.
 #[tactic(auto, using(crate::proofs::Additions::adding))]
 fn turns(
-    frames: &mut Vec<Frame>,
+    constructs: &mut Vec<Construct>,
     into: &mut Builder,
     item: Placed,
     low: u32,
     high: Option<u32>,
 ) -> Result<Wait, StepFault>
-    requires { SomeItem into.old frames.old.items item }
+    requires { SomeItem into.old constructs.old.items item }
     ensures adds { Adds into.old into.new }
-    ensures nodes { LosesNone into.old into.new frames.old.items (Wait.After item) frames.new.items result }
-    ensures step { OnItem into.old frames.old.items item (λ base es i. (p : Postfix) → low ≡ capped (low_of p) → high ≡ capped_option (high_of p) → Steps into.new base frames.new.items result (goes Ready (Read (Turns i p) ∷ es))) }
+    ensures nodes { LosesNone into.old into.new constructs.old.items (Wait.After item) constructs.new.items result }
+    ensures step { OnItem into.old constructs.old.items item (λ base es i. (p : Postfix) → low ≡ capped (low_of p) → high ≡ capped_option (high_of p) → Steps into.new base constructs.new.items result (goes Ready (Read (Turns i p) ∷ es))) }
 {
     let Ok(node) = repeated(into, item, low, high) else {
         return Err(StepFault::Memory);
     };
-    let piece = Frame::Piece { node, at: item.at };
-    let Ok(()) = push(frames, piece) else {
+    let piece = Construct::Piece { node, at: item.at };
+    let Ok(()) = push(constructs, piece) else {
         return Err(StepFault::Memory);
     };
     Ok(Wait::Ready)
@@ -175,23 +175,23 @@ fn turns(
 /// A byte behind an item.
 #[tactic(auto, using(crate::proofs::Additions::adding))]
 fn byte_after_item(
-    frames: &mut Vec<Frame>,
+    constructs: &mut Vec<Construct>,
     into: &mut Builder,
     item: Placed,
     at: u32,
     byte: u8,
 ) -> Result<Wait, StepFault>
-    requires { SomeBehind into.old frames.old.items item at }
+    requires { SomeBehind into.old constructs.old.items item at }
     ensures adds { Adds into.old into.new }
-    ensures nodes { LosesNone into.old into.new frames.old.items (Wait.After item) frames.new.items result }
-    ensures step { OnItem into.old frames.old.items item (λ base es i. at ≡ item.at + length (spelled_item i) → Steps into.new base frames.new.items result (after_item i es byte)) }
+    ensures nodes { LosesNone into.old into.new constructs.old.items (Wait.After item) constructs.new.items result }
+    ensures step { OnItem into.old constructs.old.items item (λ base es i. at ≡ item.at + length (spelled_item i) → Steps into.new base constructs.new.items result (after_item i es byte)) }
 {
     if byte == b'*' {
-        turns(frames, into, item, 0, None)
+        turns(constructs, into, item, 0, None)
     } else if byte == b'+' {
-        turns(frames, into, item, 1, None)
+        turns(constructs, into, item, 1, None)
     } else if byte == b'?' {
-        turns(frames, into, item, 0, Some(1))
+        turns(constructs, into, item, 0, Some(1))
     } else if byte == b'{' {
         Ok(Wait::InCount {
             item,
@@ -199,14 +199,14 @@ fn byte_after_item(
             brace: at,
         })
     } else {
-        let piece = Frame::Piece {
+        let piece = Construct::Piece {
             node: item.node,
             at: item.at,
         };
-        let Ok(()) = push(frames, piece) else {
+        let Ok(()) = push(constructs, piece) else {
             return Err(StepFault::Memory);
         };
-        begin(frames, into, at, byte)
+        begin(constructs, into, at, byte)
     }
 }
 
@@ -219,8 +219,8 @@ fn on_set(
     from: u32,
 ) -> Result<Wait, StepFault>
     ensures adds { Adds into.old into.new }
-    ensures nodes { (fs : List Frame) → LosesNone into.old into.new fs Wait.Ready fs result }
-    ensures step { (base : ℕ) (fs : List Frame) (es : List Entry) (t : SetStep) → FramesShow into.old base (reverse fs) es → from ≡ base + length (entries es) → ShowsSet outcome t → IsSetAfter set.now (spec_on_set es t) → Steps into.new base fs result (spec_on_set es t) }
+    ensures nodes { (fs : List Construct) → LosesNone into.old into.new fs Wait.Ready fs result }
+    ensures step { (base : ℕ) (fs : List Construct) (es : List Entry) (t : SetStep) → ConstructsShow into.old base (reverse fs) es → from ≡ base + length (entries es) → ShowsSet outcome t → IsSetAfter set.now (spec_on_set es t) → Steps into.new base fs result (spec_on_set es t) }
 {
     match outcome {
         SetOutcome::On {
@@ -242,8 +242,8 @@ fn on_set(
 #[tactic(auto, using(crate::proofs::Additions::adding))]
 fn on_escape(outcome: EscapeOutcome, into: &mut Builder, from: u32) -> Result<Wait, StepFault>
     ensures adds { Adds into.old into.new }
-    ensures nodes { (fs : List Frame) → LosesNone into.old into.new fs Wait.Ready fs result }
-    ensures step { (base : ℕ) (fs : List Frame) (es : List Entry) (t : EscapeStep) → FramesShow into.old base (reverse fs) es → from ≡ base + length (entries es) → ShowsEscape outcome t → Steps into.new base fs result (spec_on_escape es t) }
+    ensures nodes { (fs : List Construct) → LosesNone into.old into.new fs Wait.Ready fs result }
+    ensures step { (base : ℕ) (fs : List Construct) (es : List Entry) (t : EscapeStep) → ConstructsShow into.old base (reverse fs) es → from ≡ base + length (entries es) → ShowsEscape outcome t → Steps into.new base fs result (spec_on_escape es t) }
 {
     match outcome {
         EscapeOutcome::On(escaping) => Ok(Wait::InEscape { escaping, from }),
@@ -256,19 +256,19 @@ fn on_escape(outcome: EscapeOutcome, into: &mut Builder, from: u32) -> Result<Wa
 #[tactic(auto, using(crate::proofs::Additions::adding))]
 fn on_count(
     outcome: CountOutcome,
-    frames: &mut Vec<Frame>,
+    constructs: &mut Vec<Construct>,
     into: &mut Builder,
     item: Placed,
     brace: u32,
 ) -> Result<Wait, StepFault>
-    requires { SomeItem into.old frames.old.items item }
+    requires { SomeItem into.old constructs.old.items item }
     ensures adds { Adds into.old into.new }
-    ensures nodes { LosesNone into.old into.new frames.old.items (Wait.After item) frames.new.items result }
-    ensures step { OnItem into.old frames.old.items item (λ base es i. (t : CountStep) → brace ≡ item.at + length (spelled_item i) → ShowsCountStep outcome t → Steps into.new base frames.new.items result (spec_on_count i es t)) }
+    ensures nodes { LosesNone into.old into.new constructs.old.items (Wait.After item) constructs.new.items result }
+    ensures step { OnItem into.old constructs.old.items item (λ base es i. (t : CountStep) → brace ≡ item.at + length (spelled_item i) → ShowsCountStep outcome t → Steps into.new base constructs.new.items result (spec_on_count i es t)) }
 {
     match outcome {
         CountOutcome::On(count) => Ok(Wait::InCount { item, count, brace }),
-        CountOutcome::Read { low, high } => turns(frames, into, item, low, high),
+        CountOutcome::Read { low, high } => turns(constructs, into, item, low, high),
         CountOutcome::Wrong => Err(StepFault::Wrong),
     }
 }
@@ -276,21 +276,21 @@ fn on_count(
 /// A byte, in whatever it is waited for. What it ends of a set was taken in before.
 #[tactic(auto, using(crate::proofs::Additions::adding))]
 pub fn step(
-    frames: &mut Vec<Frame>,
+    constructs: &mut Vec<Construct>,
     into: &mut Builder,
     wait: Wait,
     set: &SetSoFar,
     at: u32,
     byte: u8,
 ) -> Result<Wait, StepFault>
-    requires { SomeState into.old frames.old.items wait at }
+    requires { SomeState into.old constructs.old.items wait at }
     ensures adds { Adds into.old into.new }
-    ensures nodes { LosesNone into.old into.new frames.old.items wait frames.new.items result }
-    ensures step { (base : ℕ) (s : State) → ShowsState into.old base frames.old.items wait s → IsSetAfter set.now (spec_step s byte) → at ≡ base + length (bytes_read s) → Steps into.new base frames.new.items result (spec_step s byte) }
+    ensures nodes { LosesNone into.old into.new constructs.old.items wait constructs.new.items result }
+    ensures step { (base : ℕ) (s : State) → ShowsState into.old base constructs.old.items wait s → IsSetAfter set.now (spec_step s byte) → at ≡ base + length (bytes_read s) → Steps into.new base constructs.new.items result (spec_step s byte) }
 {
     match wait {
-        Wait::Ready => begin(frames, into, at, byte),
-        Wait::After(item) => byte_after_item(frames, into, item, at, byte),
+        Wait::Ready => begin(constructs, into, at, byte),
+        Wait::After(item) => byte_after_item(constructs, into, item, at, byte),
         Wait::InEscape { escaping, from } => on_escape(escape(escaping, byte), into, from),
         Wait::InSet {
             negated,
@@ -300,7 +300,7 @@ pub fn step(
         } => on_set(in_set(negated, empty, part, byte), set, into, from),
         Wait::InCount { item, count, brace } => on_count(
             in_count(count, byte),
-            frames,
+            constructs,
             into,
             item,
             brace,

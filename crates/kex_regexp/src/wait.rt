@@ -1,8 +1,8 @@
 // What the next byte belongs to.
 
+use crate::constructs::Placed;
 use crate::counts::Count;
 use crate::escapes::Escaping;
-use crate::frames::Placed;
 use crate::sets::SetPart;
 
 /// What the next byte belongs to.

@@ -79,10 +79,10 @@ pub returns-in-Regex-clause-notes : goal.returns-in-Regex-clause-notes
 returns-in-Regex-clause-notes c = λ at base es h a cs n. on_from c.body.result cs _ _ c.body.new.draft.broken (begin_regex_asks at (base + length (entries es)) es c.args.word.spelling.now c.args.word.kind c.args.word.at c.depth.result c.in-Regex.is a (c.depth.ensures ∙ depth_is c.args.draft.now at base c.args.stack.now es h)) (on_apply c.body.result cs _ c.args.draft.now.broken c.body.new.draft.broken c.body.ensures.notes n)
 
 pub returns-in-Tilde-clause-notes : goal.returns-in-Tilde-clause-notes
-returns-in-Tilde-clause-notes c = λ at base es h a cs n. on_from c.open.result cs _ _ c.open.new.draft.broken (begin_tilde_asks at (base + length (entries es)) es c.args.word.spelling.now c.args.word.kind c.args.word.at (Rattle.kex_reader.specs.Stands.open_frames c.args.stack.now) c.in-Tilde.is a (depth_is c.args.draft.now at base c.args.stack.now es h)) (on_apply c.open.result cs _ c.args.draft.now.broken c.open.new.draft.broken c.open.ensures.notes n)
+returns-in-Tilde-clause-notes c = λ at base es h a cs n. on_from c.open.result cs _ _ c.open.new.draft.broken (begin_tilde_asks at (base + length (entries es)) es c.args.word.spelling.now c.args.word.kind c.args.word.at (Rattle.kex_reader.specs.Stands.open_constructs c.args.stack.now) c.in-Tilde.is a (depth_is c.args.draft.now at base c.args.stack.now es h)) (on_apply c.open.result cs _ c.args.draft.now.broken c.open.new.draft.broken c.open.ensures.notes n)
 
 pub returns-in-OpenParen-clause-notes : goal.returns-in-OpenParen-clause-notes
-returns-in-OpenParen-clause-notes c = λ at base es h a cs n. on_from c.open-in-OpenParen.result cs _ _ c.open-in-OpenParen.new.draft.broken (begin_paren_asks at (base + length (entries es)) es c.args.word.spelling.now c.args.word.kind c.args.word.at (Rattle.kex_reader.specs.Stands.open_frames c.args.stack.now) c.in-OpenParen.is a (depth_is c.args.draft.now at base c.args.stack.now es h)) (on_apply c.open-in-OpenParen.result cs _ c.args.draft.now.broken c.open-in-OpenParen.new.draft.broken c.open-in-OpenParen.ensures.notes n)
+returns-in-OpenParen-clause-notes c = λ at base es h a cs n. on_from c.open-in-OpenParen.result cs _ _ c.open-in-OpenParen.new.draft.broken (begin_paren_asks at (base + length (entries es)) es c.args.word.spelling.now c.args.word.kind c.args.word.at (Rattle.kex_reader.specs.Stands.open_constructs c.args.stack.now) c.in-OpenParen.is a (depth_is c.args.draft.now at base c.args.stack.now es h)) (on_apply c.open-in-OpenParen.result cs _ c.args.draft.now.broken c.open-in-OpenParen.new.draft.broken c.open-in-OpenParen.ensures.notes n)
 
 pub returns-in-Name-clause-held : goal.returns-in-Name-clause-held
 returns-in-Name-clause-held c = unchanged _ _ _ (λ x h. h)

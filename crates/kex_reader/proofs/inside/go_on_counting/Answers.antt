@@ -2,7 +2,7 @@ use Rattle.std.proofs.Common.{◌≡◌, ◌+◌, ◌++◌, length, None, sym, a
 use Rattle.kex_reader.specs.Syntax.{Once, Turns}
 use Rattle.kex_reader.specs.Reading.{entries, with_pre}
 use Rattle.kex_reader.proofs.Drafts.{atom_within, atom_more}
-use Rattle.kex_reader.proofs.Stacks.{frames_more}
+use Rattle.kex_reader.proofs.Stacks.{constructs_more}
 use Rattle.kex_reader.proofs.Steps.{to, memory_exit, ready, once_shows}
 use Rattle.kex_reader.specs.Stands.{ShowsMode, ShowsCountStep}
 use Rattle.kex_reader.proofs.LeastBreak.{never_none}
@@ -33,7 +33,7 @@ returns-in_ok-put-in-Bad-clause-step c = λ at base es a h e s t b k.
     let more = c.note.ensures.keeps in
     let never = λ (z : c.note.new.self.broken ≡ None). never_none c.args.draft.now.broken _ (sym (ap (λ m. m.broken) c.note.ensures.noted) ∙ z) in
     let bad = bad_turns c.note.new.self at c.args.item.node i a r.0 (atom_within a c.note.new.self at c.args.item.node i (atom_more a c.args.draft.now c.note.new.self at c.args.item.node i more s)) never (atom_more a c.args.draft.now c.note.new.self at c.args.item.node i more s) in
-    to _ at base _ _ _ _ (read_is a es t r.0 r.1) (ready c.put.new.draft at base c.put.new.stack (with_pre (Turns a r.0) es) (c.in_ok-put-in-Bad.ensures.put at base es (Turns a r.0) (frames_more c.args.draft.now c.note.new.self at base c.args.stack.now es more h) e bad))
+    to _ at base _ _ _ _ (read_is a es t r.0 r.1) (ready c.put.new.draft at base c.put.new.stack (with_pre (Turns a r.0) es) (c.in_ok-put-in-Bad.ensures.put at base es (Turns a r.0) (constructs_more c.args.draft.now c.note.new.self at base c.args.stack.now es more h) e bad))
 
 pub turns-requires-clause-count : goal.turns-requires-clause-count
 turns-requires-clause-count c =
@@ -46,7 +46,7 @@ put-requires c =
     let r = c.requires.atom in
     let more = c.note.ensures.keeps in
     let i = r.1 + length (entries r.2) in
-    (r.0, r.1, r.2, Once r.3, frames_more c.args.draft.now c.note.new.self r.0 r.1 c.args.stack.now r.2 more r.4, r.5, once_shows c.note.new.self r.0 c.args.item.node i r.3 (atom_more r.3 c.args.draft.now c.note.new.self r.0 c.args.item.node i more r.6))
+    (r.0, r.1, r.2, Once r.3, constructs_more c.args.draft.now c.note.new.self r.0 r.1 c.args.stack.now r.2 more r.4, r.5, once_shows c.note.new.self r.0 c.args.item.node i r.3 (atom_more r.3 c.args.draft.now c.note.new.self r.0 c.args.item.node i more r.6))
 
 pub returns-in-On-clause-notes : goal.returns-in-On-clause-notes
 returns-in-On-clause-notes c = λ t from b k cs n. count_on_notes from t c.in-On.count (subst (λ x. ShowsCountStep x t) c.in-On.is k) cs c.args.draft.now.broken n

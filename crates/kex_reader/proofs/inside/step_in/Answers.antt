@@ -65,17 +65,17 @@ returns-in-InCount-clause-step c = λ at base i st p.
     to _ at base _ _ _ _ (step_of i (InCount m.0 m.1) (word c.args.word.kind c.args.word.spelling.now) m.2 ∙ in_count m.0 m.1 i.entries (word c.args.word.kind c.args.word.spelling.now)) (c.go_on_counting.ensures.step at base i.entries m.0 st.below m.3 m.4 (count_step m.1 (word c.args.word.kind c.args.word.spelling.now)) m.6
     (subst (λ x. ShowsCountStep x (count_step m.1 (word c.args.word.kind c.args.word.spelling.now))) (sym c.count_step.ensures) (count_refines c.in-InCount.count m.1 c.args.word.kind c.args.word.spelling.now c.number_value.result c.number_value.ensures m.5)))
 
-pub begin-requires-clause-frames : goal.begin-requires-clause-frames
-begin-requires-clause-frames c = some_named c.args.draft.now c.args.stack.now c.args.wait c.requires.inside
+pub begin-requires-clause-constructs : goal.begin-requires-clause-constructs
+begin-requires-clause-constructs c = some_named c.args.draft.now c.args.stack.now c.args.wait c.requires.inside
 
-pub begin-requires-in-Ready-clause-frames : goal.begin-requires-in-Ready-clause-frames
-begin-requires-in-Ready-clause-frames c = some_named c.args.draft.now c.args.stack.now c.args.wait c.requires.inside
+pub begin-requires-in-Ready-clause-constructs : goal.begin-requires-in-Ready-clause-constructs
+begin-requires-in-Ready-clause-constructs c = some_named c.args.draft.now c.args.stack.now c.args.wait c.requires.inside
 
 pub word_after_atom-requires-clause-atom : goal.word_after_atom-requires-clause-atom
 word_after_atom-requires-clause-atom c = some_atom c.args.draft.now c.args.stack.now c.args.wait c.in-After.item c.in-After.is c.requires.inside
 
-pub word_after_name-requires-clause-frames : goal.word_after_name-requires-clause-frames
-word_after_name-requires-clause-frames c = some_name c.args.draft.now c.args.stack.now c.args.wait c.in-Named.field-0 c.in-Named.name c.in-Named.is c.requires.inside
+pub word_after_name-requires-clause-constructs : goal.word_after_name-requires-clause-constructs
+word_after_name-requires-clause-constructs c = some_name c.args.draft.now c.args.stack.now c.args.wait c.in-Named.field-0 c.in-Named.name c.in-Named.is c.requires.inside
 
 pub word_after_part-requires-clause-some : goal.word_after_part-requires-clause-some
 word_after_part-requires-clause-some c = some_assigned c.args.draft.now c.args.stack.now c.args.wait c.in-Assigned.assignment c.in-Assigned.is c.requires.inside

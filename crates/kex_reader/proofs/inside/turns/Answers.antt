@@ -2,10 +2,10 @@ use Rattle.std.proofs.Common.{◌+◌, length, ◌≡◌, ◌⊎◌, inl, inr}
 use Rattle.kex_reader.specs.Syntax.{Turns}
 use Rattle.kex_reader.specs.Reading.{entries, with_pre}
 use Rattle.kex_reader.proofs.Drafts.{atom_within, atom_more}
-use Rattle.kex_reader.proofs.Stacks.{frames_more}
+use Rattle.kex_reader.proofs.Stacks.{constructs_more}
 use Rattle.kex_reader.proofs.Steps.{memory_exit, ready, turns_show}
 use Rattle.std.proofs.lemmas.Option.{slice_get_within}
-use Rattle.kex_reader.specs.Stands.{InFrames}
+use Rattle.kex_reader.specs.Stands.{InConstructs}
 use Rattle.kex_reader.specs.Uses.{NodeNumber}
 use Rattle.kex_reader.proofs.Uses.{beside, held_as, in_rep, none_lost}
 use Rattle.kex_reader.proofs.inside.turns.Goals as goal
@@ -23,7 +23,7 @@ put-requires c =
       r.1,
       r.2,
       Turns r.3 q.0,
-      frames_more c.args.draft.now c.add.new.self r.0 r.1 c.args.stack.now r.2 more r.4,
+      constructs_more c.args.draft.now c.add.new.self r.0 r.1 c.args.stack.now r.2 more r.4,
       r.5,
       turns_show c.add.new.self r.0 c.in_ok-node.node c.args.item.node i c.args.item.at c.args.bounds.low c.args.bounds.high r.3 q.0 (slice_get_within c.add.new.self.nodes c.in_ok-node.node _ c.in_ok-node.ensures.node) r.5 q.1 q.2 c.in_ok-node.ensures.node (atom_more r.3 c.args.draft.now c.add.new.self r.0 c.args.item.node i more r.6),
     )
@@ -39,10 +39,10 @@ returns-clause-step c = λ at base es a h e s p l k.
     let more = c.in_ok-node.ensures.keeps in
     let i = base + length (entries es) in
     ready c.put.new.draft at base c.put.new.stack (with_pre (Turns a p) es)
-    (c.in_ok-put.ensures.put at base es (Turns a p) (frames_more c.args.draft.now c.add.new.self at base c.args.stack.now es more h) e
+    (c.in_ok-put.ensures.put at base es (Turns a p) (constructs_more c.args.draft.now c.add.new.self at base c.args.stack.now es more h) e
     (turns_show c.add.new.self at c.in_ok-node.node c.args.item.node i c.args.item.at c.args.bounds.low c.args.bounds.high a p (slice_get_within c.add.new.self.nodes c.in_ok-node.node _ c.in_ok-node.ensures.node) e l k c.in_ok-node.ensures.node (atom_more a c.args.draft.now c.add.new.self at c.args.item.node i more s)))
 
 pub returns-clause-held : goal.returns-clause-held
 returns-clause-held c = none_lost _ _ _ _ _ _ c.in_ok-put.ensures.keeps
-    (beside _ _ _ _ (InFrames c.args.stack.now) _ (λ x. (x ≡ NodeNumber c.in_ok-node.node) ⊎ InFrames c.args.stack.now x) (λ x h. elim h [ inl i ↦ inr i | inr e ↦ inl (in_rep _ _ _ x e) ]) (λ x e. inl e) (λ x i. inr i) c.in_ok-node.ensures.held)
+    (beside _ _ _ _ (InConstructs c.args.stack.now) _ (λ x. (x ≡ NodeNumber c.in_ok-node.node) ⊎ InConstructs c.args.stack.now x) (λ x h. elim h [ inl i ↦ inr i | inr e ↦ inl (in_rep _ _ _ x e) ]) (λ x e. inl e) (λ x i. inr i) c.in_ok-node.ensures.held)
     (held_as _ _ _ _ _ _ (λ x h. h) (λ x i. inl i) c.in_ok-put.ensures.held)

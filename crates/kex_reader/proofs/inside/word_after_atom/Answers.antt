@@ -40,8 +40,8 @@ returns-in_ok-put-in_default c = record {
 pub put-requires : goal.put-requires
 put-requires c = let r = c.requires.atom in (r.0, r.1, r.2, Once r.3, r.4, r.5, once_shows c.args.draft.now r.0 c.args.item.node (r.1 + length (entries r.2)) r.3 r.6)
 
-pub begin-requires-clause-frames : goal.begin-requires-clause-frames
-begin-requires-clause-frames c = let r = c.requires.atom in (r.0, r.1, with_pre (Once r.3) r.2, c.in_ok-put-in_default.ensures.put r.0 r.1 r.2 (Once r.3) r.4 r.5 (once_shows c.args.draft.now r.0 c.args.item.node (r.1 + length (entries r.2)) r.3 r.6))
+pub begin-requires-clause-constructs : goal.begin-requires-clause-constructs
+begin-requires-clause-constructs c = let r = c.requires.atom in (r.0, r.1, with_pre (Once r.3) r.2, c.in_ok-put-in_default.ensures.put r.0 r.1 r.2 (Once r.3) r.4 r.5 (once_shows c.args.draft.now r.0 c.args.item.node (r.1 + length (entries r.2)) r.3 r.6))
 
 pub turns-requires-clause-count : goal.turns-requires-clause-count
 turns-requires-clause-count c = (ZeroOrMore, star_low, star_high, tt)

@@ -1,6 +1,6 @@
 use Rattle.std.proofs.Common.{◌≡◌, ◌⊎◌, ℕ, List, length}
 use Rattle.kex_reader.specs.Reading.{Entry, take_seq}
-use Rattle.kex_reader.specs.Stands.{FramesShow, InFrames, Keeps, LosesNone}
+use Rattle.kex_reader.specs.Stands.{ConstructsShow, InConstructs, Keeps, LosesNone}
 use Rattle.kex_reader.specs.Uses.{NodeNumber}
 use Rattle.kex_reader.proofs.Stacks.{SeqSoFar}
 use Rattle.kex_reader.proofs.terms.close_seq.Given as goal
@@ -9,8 +9,8 @@ abbrev pub invariant-loop-front : goal.invariant-loop-front
 invariant-loop-front l = record {
   keeps : Keeps l.fn.draft l.draft;
   broken : l.draft.broken ≡ l.fn.draft.broken;
-  held : LosesNone l.fn.draft l.draft (InFrames l.fn.stack) (λ x. (x ≡ NodeNumber l.seq.node) ⊎ InFrames l.stack x);
-  so_far : (at : ℕ → ℕ) (base : ℕ) (es : List Entry) → FramesShow l.fn.draft at base l.fn.stack es → SeqSoFar l.draft at base l.stack l.seq (take_seq es);
+  held : LosesNone l.fn.draft l.draft (InConstructs l.fn.stack) (λ x. (x ≡ NodeNumber l.seq.node) ⊎ InConstructs l.stack x);
+  so_far : (at : ℕ → ℕ) (base : ℕ) (es : List Entry) → ConstructsShow l.fn.draft at base l.fn.stack es → SeqSoFar l.draft at base l.stack l.seq (take_seq es);
 }
 
 abbrev pub decreases-loop-front : goal.decreases-loop-front

@@ -4,7 +4,7 @@ use Rattle.kex_regexp.specs.Machine.{Read}
 use Rattle.kex_regexp.proofs.ShownSteps.{mode_ready, mode_after, mode_escape, mode_set, mode_count, ready_place, after_place, once_shows, once_ends}
 use Rattle.kex_regexp.proofs.Bodies.{ends_memory, ends_none, to_end, finish_ready, finish_after, finish_escape, finish_set, finish_count}
 use Rattle.kex_regexp.proofs.Bounds.{some_ready, some_behind, some_once}
-use Rattle.kex_regexp.proofs.Parents.{ended_as, frame_on, frame_under}
+use Rattle.kex_regexp.proofs.Parents.{ended_as, construct_on, construct_under}
 use Rattle.kex_regexp.proofs.body.finish.Goals as goal
 
 pub returns-in_default-clause-ends : goal.returns-in_default-clause-ends
@@ -47,4 +47,4 @@ returns-in-Ready-clause-nodes c = ended_as c.end.result _ _ _ _ _ c.in-Ready.is 
 pub returns-in-Ok-clause-nodes : goal.returns-in-Ok-clause-nodes
 returns-in-Ok-clause-nodes c =
     let on = c.in-Ok.ensures.ok in
-    ended_as c.end-in-After.result _ _ c.args.frames.now.items _ _ c.in-After.is (λ n h. elim h [ inl f ↦ frame_under _ _ _ on n f | inr e ↦ frame_on _ _ _ on n e ]) c.end-in-After.ensures.nodes
+    ended_as c.end-in-After.result _ _ c.args.constructs.now.items _ _ c.in-After.is (λ n h. elim h [ inl f ↦ construct_under _ _ _ on n f | inr e ↦ construct_on _ _ _ on n e ]) c.end-in-After.ensures.nodes

@@ -16,7 +16,7 @@ loop-byte-init c = record {
   place = omega arith;
   state = record { mode = Ready; entries = [] };
   reads = start_reads;
-  stands = start_stands _ _ _ c.new-frames.ensures.items;
+  stands = start_stands _ _ _ c.new-constructs.ensures.items;
   set = start_set _;
   nested = start_depth c.args.depth;
   least = start_least c.args.at c.args.depth;

@@ -10,11 +10,11 @@ use Rattle.kex_regexp.proofs.body.regex.Given as goal
 abbrev pub invariant-loop-byte : goal.invariant-loop-byte
 invariant-loop-byte l = record {
   adds : Adds l.fn.into l.into;
-  nodes : NoneLost l.fn.into l.into (λ n. ⊥) (IsHeld l.frames.items l.wait);
+  nodes : NoneLost l.fn.into l.into (λ n. ⊥) (IsHeld l.constructs.items l.wait);
   place : l.place ≡ l.at + l.byte-index;
   state : State;
   reads : state_after start (take l.byte-index l.bytes) ≡ Some state;
-  stands : ShowsState l.into l.at l.frames.items l.wait state;
+  stands : ShowsState l.into l.at l.constructs.items l.wait state;
   set : IsSetIn l.set state.mode;
   nested : l.nested ≡ l.depth + marks state.entries;
   least : l.least ≡ least_from None (state_breaks l.at l.depth state);

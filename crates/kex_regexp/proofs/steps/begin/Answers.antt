@@ -2,7 +2,7 @@ use Rattle.std.proofs.Common.{refl, ◌∙◌, sym, inl, inr}
 use Rattle.kex_regexp.specs.Grammar.{Plain, Dot}
 use Rattle.kex_regexp.proofs.Complete.{begin_byte, begin_92, begin_46, begin_91, begin_40, in_set}
 use Rattle.kex_regexp.proofs.ShownSteps.{memory_steps, leaf_steps, plain_item, dot_item, to, begin_is, mark_steps, set_begins_steps, escape_begins_steps, begin_bar, begin_close, begin_none, wrong_steps}
-use Rattle.kex_regexp.proofs.Parents.{frame_under, none_added}
+use Rattle.kex_regexp.proofs.Parents.{construct_under, none_added}
 use Rattle.kex_regexp.proofs.steps.begin.Goals as goal
 
 pub returns-then-is_plain-clause-step : goal.returns-then-is_plain-clause-step
@@ -34,10 +34,10 @@ pub returns-in_default-clause-step : goal.returns-in_default-clause-step
 returns-in_default-clause-step c = λ base es h a. memory_steps _ _ _ _ _ refl
 
 pub returns-then-is_plain-clause-nodes : goal.returns-then-is_plain-clause-nodes
-returns-then-is_plain-clause-nodes c = c.leaf.ensures.nodes c.args.frames.now.items
+returns-then-is_plain-clause-nodes c = c.leaf.ensures.nodes c.args.constructs.now.items
 
 pub returns-then-byte-eq46-clause-nodes : goal.returns-then-byte-eq46-clause-nodes
-returns-then-byte-eq46-clause-nodes c = c.leaf-then-byte-eq46.ensures.nodes c.args.frames.now.items
+returns-then-byte-eq46-clause-nodes c = c.leaf-then-byte-eq46.ensures.nodes c.args.constructs.now.items
 
 pub returns-then-byte-eq92-clause-nodes : goal.returns-then-byte-eq92-clause-nodes
 returns-then-byte-eq92-clause-nodes c = none_added _ _ _ (λ n h. h)
@@ -46,4 +46,4 @@ pub returns-then-byte-eq91-clause-nodes : goal.returns-then-byte-eq91-clause-nod
 returns-then-byte-eq91-clause-nodes c = none_added _ _ _ (λ n h. h)
 
 pub returns-in-Ok-clause-nodes : goal.returns-in-Ok-clause-nodes
-returns-in-Ok-clause-nodes c = none_added _ _ _ (λ n h. elim h [ inl f ↦ inl (frame_under _ _ _ c.in-Ok.ensures.ok n f) | inr g ↦ absurd g ])
+returns-in-Ok-clause-nodes c = none_added _ _ _ (λ n h. elim h [ inl f ↦ inl (construct_under _ _ _ c.in-Ok.ensures.ok n f) | inr g ↦ absurd g ])

@@ -3,7 +3,7 @@ use Rattle.kex_regexp.specs.Grammar.{Star, Plus, Quest, Once}
 use Rattle.kex_regexp.specs.Machine.{Read}
 use Rattle.kex_regexp.proofs.ShownSteps.{memory_steps, to, behind_is, behind_star, behind_plus, behind_quest, behind_brace, behind_other, count_begins_steps, star_low, star_high, plus_low, plus_high, quest_low, quest_high, once_shows, once_ends}
 use Rattle.kex_regexp.proofs.Bounds.{some_once}
-use Rattle.kex_regexp.proofs.Parents.{frame_on, frame_under, later, none_added}
+use Rattle.kex_regexp.proofs.Parents.{construct_on, construct_under, later, none_added}
 use Rattle.kex_regexp.proofs.steps.byte_after_item.Goals as goal
 
 pub returns-then-byte-eq42-clause-step : goal.returns-then-byte-eq42-clause-step
@@ -33,4 +33,4 @@ returns-then-byte-eq123-clause-nodes c = none_added _ _ _ (λ n h. h)
 pub returns-in-Ok-clause-nodes : goal.returns-in-Ok-clause-nodes
 returns-in-Ok-clause-nodes c =
     let on = c.in-Ok.ensures.ok in
-    later c.begin.result _ _ c.args.frames.now.items _ _ (Rattle.kex_regexp.specs.declared.wait.Wait.TheVariants.After c.args.item) Rattle.kex_regexp.specs.declared.wait.Wait.TheVariants.Ready (λ n h. elim h [ inl f ↦ inl (frame_under _ _ _ on n f) | inr e ↦ inl (frame_on _ _ _ on n e) ]) c.begin.ensures.nodes
+    later c.begin.result _ _ c.args.constructs.now.items _ _ (Rattle.kex_regexp.specs.declared.wait.Wait.TheVariants.After c.args.item) Rattle.kex_regexp.specs.declared.wait.Wait.TheVariants.Ready (λ n h. elim h [ inl f ↦ inl (construct_under _ _ _ on n f) | inr e ↦ inl (construct_on _ _ _ on n e) ]) c.begin.ensures.nodes

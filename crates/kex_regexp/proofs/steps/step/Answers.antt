@@ -55,10 +55,10 @@ pub returns-in-After-clause-nodes : goal.returns-in-After-clause-nodes
 returns-in-After-clause-nodes c = waiting c.args.wait _ _ _ _ _ _ c.in-After.is c.byte_after_item.ensures.nodes
 
 pub returns-in-InEscape-clause-nodes : goal.returns-in-InEscape-clause-nodes
-returns-in-InEscape-clause-nodes c = waiting c.args.wait _ _ _ _ _ _ c.in-InEscape.is (c.on_escape.ensures.nodes c.args.frames.now.items)
+returns-in-InEscape-clause-nodes c = waiting c.args.wait _ _ _ _ _ _ c.in-InEscape.is (c.on_escape.ensures.nodes c.args.constructs.now.items)
 
 pub returns-in-InSet-clause-nodes : goal.returns-in-InSet-clause-nodes
-returns-in-InSet-clause-nodes c = waiting c.args.wait _ _ _ _ _ _ c.in-InSet.is (c.on_set.ensures.nodes c.args.frames.now.items)
+returns-in-InSet-clause-nodes c = waiting c.args.wait _ _ _ _ _ _ c.in-InSet.is (c.on_set.ensures.nodes c.args.constructs.now.items)
 
 pub returns-in-InCount-clause-nodes : goal.returns-in-InCount-clause-nodes
 returns-in-InCount-clause-nodes c = waiting c.args.wait _ _ _ _ _ _ c.in-InCount.is c.on_count.ensures.nodes

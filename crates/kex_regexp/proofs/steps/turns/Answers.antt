@@ -1,8 +1,8 @@
 use Rattle.std.proofs.Common.{refl, inl, inr}
-use Rattle.kex_regexp.specs.Holding.{InFrames}
+use Rattle.kex_regexp.specs.Holding.{InConstructs}
 use Rattle.kex_regexp.proofs.Bounds.{some_item}
 use Rattle.kex_regexp.proofs.ShownSteps.{memory_steps, turns_steps}
-use Rattle.kex_regexp.proofs.Parents.{beside, frame_on, frame_under}
+use Rattle.kex_regexp.proofs.Parents.{beside, construct_on, construct_under}
 use Rattle.kex_regexp.proofs.steps.turns.Goals as goal
 
 pub returns-in_default-clause-step : goal.returns-in_default-clause-step
@@ -15,9 +15,9 @@ pub returns-in_default-push-clause-step : goal.returns-in_default-push-clause-st
 returns-in_default-push-clause-step c = λ base es i h a x p l k. memory_steps _ _ _ _ _ refl
 
 pub repeated-requires : goal.repeated-requires
-repeated-requires c = some_item _ c.args.frames.now.items c.args.item c.requires
+repeated-requires c = some_item _ c.args.constructs.now.items c.args.item c.requires
 
 pub returns-clause-nodes : goal.returns-clause-nodes
 returns-clause-nodes c =
     let on = c.in-Ok-push.ensures.ok in
-    beside _ _ _ _ (InFrames c.args.frames.now.items) _ _ (λ n h. elim h [ inl f ↦ inr f | inr e ↦ inl e ]) (λ n e. inl (frame_on _ _ _ on n e)) (λ n f. inl (frame_under _ _ _ on n f)) c.in-Ok.ensures.nodes
+    beside _ _ _ _ (InConstructs c.args.constructs.now.items) _ _ (λ n h. elim h [ inl f ↦ inr f | inr e ↦ inl e ]) (λ n e. inl (construct_on _ _ _ on n e)) (λ n f. inl (construct_under _ _ _ on n f)) c.in-Ok.ensures.nodes

@@ -3,7 +3,7 @@ use Rattle.kex_reader.specs.Reading.{take_term}
 use Rattle.kex_reader.specs.Stands.{TermTaken}
 use Rattle.kex_reader.proofs.Programs.{ends_of, ends_none, ends_open, ends_exit, not_empty, is_empty}
 use Rattle.kex_reader.specs.Uses.{InDefinitions, NameNumber}
-use Rattle.kex_reader.proofs.Uses.{beside, definition_on, definitions_under, no_frames, parts_are}
+use Rattle.kex_reader.proofs.Uses.{beside, definition_on, definitions_under, no_constructs, parts_are}
 use Rattle.kex_reader.proofs.reader.Reader.end.Goals as goal
 
 pub returns-in_err-closed-clause-ends : goal.returns-in_err-closed-clause-ends
@@ -25,5 +25,5 @@ pub returns-clause-held : goal.returns-clause-held
 returns-clause-held c =
     let pushed = c.in_ok-push.ensures.items in
     beside _ _ _ _ (λ x. (x ≡ NameNumber c.args.head.name) ⊎ InDefinitions c.args.self.now.definitions.items x) _ _ (λ x h. h)
-    (λ x h. elim h [ inl p ↦ definition_on _ _ _ _ _ pushed x (inl (parts_are _ _ c.in-Some.is x p)) | inr i ↦ absurd (no_frames c.close_term.new.stack (is_empty (length c.close_term.new.stack) c.is_empty.result c.is_empty.ensures c.if-not-is_empty.false) x i) ])
+    (λ x h. elim h [ inl p ↦ definition_on _ _ _ _ _ pushed x (inl (parts_are _ _ c.in-Some.is x p)) | inr i ↦ absurd (no_constructs c.close_term.new.stack (is_empty (length c.close_term.new.stack) c.is_empty.result c.is_empty.ensures c.if-not-is_empty.false) x i) ])
     (λ x h. elim h [ inl e ↦ definition_on _ _ _ _ _ pushed x (inr e) | inr d ↦ definitions_under _ _ _ pushed x d ]) c.in_ok-closed.ensures.held

@@ -1,17 +1,17 @@
 use Rattle.std.proofs.Common.{rules, ap, ◌∙◌, arith}
-use Rattle.kex_reader.specs.declared.stack.Frame.TheVariants as frames
-use Rattle.kex_reader.specs.Stands.{open_frames}
-use Rattle.kex_reader.proofs.OpenFrames.{pushed}
+use Rattle.kex_reader.specs.declared.stack.Construct.TheVariants as constructs
+use Rattle.kex_reader.specs.Stands.{open_constructs}
+use Rattle.kex_reader.proofs.OpenConstructs.{pushed}
 use Rattle.kex_reader.proofs.stack.Stack.take_muted.Goals as goal
 
 pub overflow_sub-self : goal.overflow_sub-self
-unfolding open_frames
+unfolding open_constructs
 overflow_sub-self c =
-    let e = pushed c.pop.new.self.items c.self.inside.frames.items (frames.Muted c.in-Some-Muted.at) (search rules) in
-    omega (arith, c.self.invariant ∙ ap open_frames e)
+    let e = pushed c.pop.new.self.items c.self.inside.constructs.items (constructs.Muted c.in-Some-Muted.at) (search rules) in
+    omega (arith, c.self.invariant ∙ ap open_constructs e)
 
 pub invariant_of-self : goal.invariant_of-self
-unfolding open_frames
+unfolding open_constructs
 invariant_of-self c =
-    let e = pushed c.pop.new.self.items c.self.inside.frames.items (frames.Muted c.in-Some-Muted.at) (search rules) in
-    omega (arith, c.self.invariant ∙ ap open_frames e)
+    let e = pushed c.pop.new.self.items c.self.inside.constructs.items (constructs.Muted c.in-Some-Muted.at) (search rules) in
+    omega (arith, c.self.invariant ∙ ap open_constructs e)

@@ -2,8 +2,8 @@ use Rattle.std.proofs.Common.{inl, inr, sym}
 use Rattle.kex_regexp.proofs.Additions.{Adds-to, Adds-trans}
 use Rattle.kex_regexp.proofs.Stacks.{first_branch, further_branch, regex_done}
 use Rattle.kex_regexp.proofs.Bounds.{branches_within}
-use Rattle.kex_regexp.proofs.Parents.{frame_taken, frames_same, held_as, none_lost, one_added}
-use Rattle.kex_regexp.proofs.frames.close_regex.Goals as goal
+use Rattle.kex_regexp.proofs.Parents.{construct_taken, constructs_same, held_as, none_lost, one_added}
+use Rattle.kex_regexp.proofs.constructs.close_regex.Goals as goal
 
 pub loop-branch-init : goal.loop-branch-init
 loop-branch-init c = record {
@@ -16,7 +16,7 @@ pub loop-branch-preserved : goal.loop-branch-preserved
 loop-branch-preserved c = record {
   adds = Adds-trans _ _ _ c.loop-branch.invariant.adds (Adds-to _ _ _ _ c.in_ok-node.ensures.added tt);
   so_far = λ base es h a. further_branch _ _ base _ _ c.loop-branch.regex c.in-Some.branch _ _ c.in-Some.ensures.some c.in_ok-node.ensures.number c.in_ok-node.ensures.added (c.loop-branch.invariant.so_far base es h a);
-  nodes = none_lost _ _ _ _ _ _ (Adds-to _ _ _ _ c.in_ok-node.ensures.added tt) c.loop-branch.invariant.nodes (one_added c.loop-branch.into _ _ _ _ c.in_ok-node.ensures.added (λ n h. elim h [ inl e ↦ inl (inr e) | inr f ↦ elim (frame_taken c.loop-branch.frames.items _ _ c.in-Some.ensures.some n f) [ inl e ↦ inl (inl e) | inr g ↦ inr (inr g) ] ]) (inl (sym c.in_ok-node.ensures.number)));
+  nodes = none_lost _ _ _ _ _ _ (Adds-to _ _ _ _ c.in_ok-node.ensures.added tt) c.loop-branch.invariant.nodes (one_added c.loop-branch.into _ _ _ _ c.in_ok-node.ensures.added (λ n h. elim h [ inl e ↦ inl (inr e) | inr f ↦ elim (construct_taken c.loop-branch.constructs.items _ _ c.in-Some.ensures.some n f) [ inl e ↦ inl (inl e) | inr g ↦ inr (inr g) ] ]) (inl (sym c.in_ok-node.ensures.number)));
 }
 
 pub returns-clause-regex : goal.returns-clause-regex
@@ -26,4 +26,4 @@ pub add-requires : goal.add-requires
 add-requires c = branches_within _ c.requires.0 _ _ c.loop-branch.regex c.in-Some.branch _ c.in-Some.ensures.some (c.loop-branch.invariant.so_far c.requires.0 c.requires.1 c.requires.2 c.requires.3)
 
 pub returns-clause-nodes : goal.returns-clause-nodes
-returns-clause-nodes c = held_as _ _ _ _ _ _ (λ n h. h) (λ n h. elim h [ inl e ↦ inl e | inr f ↦ inr (frames_same c.loop-branch.frames.items _ c.in_default.ensures.none n f) ]) c.loop-branch.invariant.nodes
+returns-clause-nodes c = held_as _ _ _ _ _ _ (λ n h. h) (λ n h. elim h [ inl e ↦ inl e | inr f ↦ inr (constructs_same c.loop-branch.constructs.items _ c.in_default.ensures.none n f) ]) c.loop-branch.invariant.nodes
