@@ -16,8 +16,8 @@ use Rattle.kex_regexp.specs.Grammar.{Regex as Body}
 use Rattle.kex_reader.specs.Syntax.{Name, Define, Definition, Header, NoStart, Stages, Program, term, definitions, header, program}
 use Rattle.kex_reader.specs.Shown.{Made, ShowsDefinitions, ShowsStages}
 use Rattle.kex_reader.specs.Spelling.{words, offset, main_stage, ShowsHeader, ShowsProgram, Spells}
-use Rattle.kex_compile.proofs.Pairing.{Pair, Joins, AllMatch, Rising, match_both, rising_from, rising_to, rising_both}
-use Rattle.kex_compile.proofs.Spacing.{Spaced, spaced, spaced_front, spaced_rest, rises}
+use Rattle.kex_compile.proofs.NodePairs.{Pair, Joins, AllMatch, Rising, match_both, rising_from, rising_to, rising_both}
+use Rattle.kex_compile.proofs.WordOffsets.{Spaced, spaced, spaced_front, spaced_rest, rises}
 use Rattle.kex_compile.proofs.Terms.{SameName, term_of}
 
 -- definitions of the same names, at the same offsets, whose roots R pairs

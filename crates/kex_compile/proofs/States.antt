@@ -7,14 +7,14 @@ use Rattle.kex_model.specs.Places.{Place, moves, start_of, HasEmptyLoop}
 use Rattle.kex_model.specs.Survivors.{HasShape}
 use Rattle.kex_model.specs.States.{HasMoreStates, HasStates}
 use Rattle.kex_lowering.specs.Shapes.{SameShape}
-use Rattle.kex_lowering.proofs.Shaping.{shape_on, turned_shape}
+use Rattle.kex_lowering.proofs.SameShapes.{shape_on, turned_shape}
 use Rattle.kex_lowering.proofs.States.{more_states_on, states_on}
 use Rattle.kex_compile.specs.declared.limits.Limits.{Limits}
 use Rattle.kex_compile.specs.Stages.{AllRun, HasTooManyStates, HaveStatesInAll, IsFirst, roots_of}
 use Rattle.kex_compile.proofs.Alike.{Alike}
-use Rattle.kex_compile.proofs.Placing.{SamePlace, Partners, one_partner, one_partner_back, place_back, place_forth}
-use Rattle.kex_compile.proofs.Staging.{Known, Pairwise, Both, first_among, first_of, pair_on, pairs_within, roots, same_first}
-use Rattle.kex_compile.proofs.Surviving.{alive_on, alive_there, reach_on, survives_back, survives_on}
+use Rattle.kex_compile.proofs.PlacePairs.{SamePlace, Partners, one_partner, one_partner_back, place_back, place_forth}
+use Rattle.kex_compile.proofs.StagePairs.{Known, Pairwise, Both, first_among, first_of, pair_on, pairs_within, roots, same_first}
+use Rattle.kex_compile.proofs.SurvivorPairs.{alive_on, alive_there, reach_on, survives_back, survives_on}
 
 module _ (P Q : Grammar) (a : Alike P Q) (known : Known P) (root root' : ℕ) (same : Partners P Q a known root root') (none : HasEmptyLoop P root → ⊥) (none' : HasEmptyLoop Q root' → ⊥) where
   abbrev Here : Place → Place → Type 0

@@ -10,9 +10,9 @@ use Rattle.kex_regexp.specs.Grammar.{regex, Regex as Body}
 use Rattle.kex_regexp.specs.Shown.{ShowsRegex}
 use Rattle.kex_reader.specs.Syntax.{Part, Text, Held, Word, Name, Regex, Tilde, At, Bar, OpenParen, CloseParen, Term, Last, Or, Seq, Only, Then, Pre, Mute, Into, Once, Turns, Atom, One, Call, Lit, Match, Write, Assign, Group, term, seq, pre, atom, postfix}
 use Rattle.kex_reader.specs.Shown.{Made, IsNode, assignment_kind, low, high, ShowsPart, ShowsParts, ShowsTerm, ShowsSeq, ShowsPre, ShowsAtom}
-use Rattle.kex_compile.proofs.Pairing.{Joins, SameKind, SameParts, no_more, text, register, one, lit, call, seq as in_seq, alt, rep, mute, at_register, write_register, set_register, add_register, Together, on_top, alone, beside, within, rank}
-use Rattle.kex_compile.proofs.Bodies.{regex_of}
-use Rattle.kex_compile.proofs.Spacing.{Spaced, width, spaced_front, spaced_rest, spaced_next, spaced_width, width_some, rises}
+use Rattle.kex_compile.proofs.NodePairs.{Joins, SameKind, SameParts, no_more, text, register, one, lit, call, seq as in_seq, alt, rep, mute, at_register, write_register, set_register, add_register, Together, on_top, alone, beside, within, rank}
+use Rattle.kex_compile.proofs.BodyPairs.{regex_of}
+use Rattle.kex_compile.proofs.WordOffsets.{Spaced, width, spaced_front, spaced_rest, spaced_next, spaced_width, width_some, rises}
 use Rattle.kex_tokens.specs.Values.{StandsFor}
 
 -- the same name, by its bytes

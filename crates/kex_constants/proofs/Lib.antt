@@ -1,7 +1,7 @@
-mod Counting
+mod RegisterNumbers
 mod Lists
-mod Clearing
-mod Holding
-mod Keeping
+mod ClearedRuns
+mod Certificates
+mod ClearedTables
 mod Machines
 mod Worked

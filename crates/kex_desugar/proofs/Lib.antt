@@ -1,4 +1,4 @@
-pub mod Numbers
-pub mod Ways
+pub mod PlaceNumbers
+pub mod SpotWays
 pub mod Registers
 pub mod Made

@@ -17,8 +17,8 @@ use Rattle.kex_desugar.specs.declared.spot.Spot.TheVariants.{Empty, On}
 use Rattle.kex_desugar.specs.Machines.{HasMore, IsMachineOf}
 use Rattle.kex_desugar.specs.Spots.{Names, IsAt, IsReal, NodeOf, Real}
 use Rattle.kex_model.proofs.Tables.{some_same, get_more, get_pushed}
-use Rattle.kex_desugar.proofs.Numbers.{names_more, one_place, one_at, one_number}
-use Rattle.kex_desugar.proofs.Ways.{at_later}
+use Rattle.kex_desugar.proofs.PlaceNumbers.{names_more, one_place, one_at, one_number}
+use Rattle.kex_desugar.proofs.SpotWays.{at_later}
 use Rattle.kex_desugar.proofs.Registers.{IsWithin, moves_within}
 use Rattle.kex_model.proofs.Counting.{among_get, different_fits}
 

@@ -1,8 +1,8 @@
-mod Passing
-mod Shapes
-mod Adding
-mod Following
-mod Stepping
-mod Ending
-mod Filling
-mod Tabling
+mod MachineTables
+mod DifferentShapes
+mod ShapeKeys
+mod Targets
+mod Transitions
+mod FirstLeaves
+mod StateRows
+mod TableForms

@@ -4,5 +4,5 @@ pub mod AdvanceLoop
 pub mod FedTexts
 pub mod Bits
 pub mod Closures
-pub mod Steps
+pub mod RowSteps
 pub mod Matches

@@ -13,7 +13,7 @@ use Rattle.kex_machine.proofs.Ranges.{is_trim}
 use Rattle.kex_lowering.specs.Existence.{ViableTextsGoOn}
 use Rattle.kex_lowering.specs.Stages.{Carries, IsKeptOf}
 use Rattle.kex_lowering.proofs.Loops.{loop_of_nodes}
-use Rattle.kex_lowering.proofs.Carrying.{carries}
+use Rattle.kex_lowering.proofs.PairedNodes.{carries}
 use Rattle.kex_lowering.proofs.Existence.{left_trimmed, stage_answers}
 use Rattle.kex_model.specs.Answers as places
 use Rattle.kex_model.specs.Laws as stages

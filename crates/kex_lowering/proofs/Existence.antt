@@ -28,12 +28,12 @@ use Rattle.kex_machine.proofs.Saying.{longest_self, longest_later, viable_before
 use Rattle.kex_machine.proofs.Ending.{none_parses, greedy_found}
 use Rattle.kex_machine.proofs.Sizes.{unseen, unseen-set, visit_fits, advance_fits}
 use Rattle.kex_trim.specs.Trim.{IsTrimOf, Keeps, still_accepts, still_reads, still_chooses, only_left, only_right, still_forced, still_goes}
-use Rattle.kex_trim.proofs.Keeping.{alike_kept}
+use Rattle.kex_trim.proofs.KeptNodes.{alike_kept}
 use Rattle.kex_lowering.specs.Existence.{HasAnswers}
 use Rattle.kex_lowering.specs.Stages.{IsKeptOf}
 use Rattle.kex_lowering.proofs.Loops.{loop_of_nodes}
 use Rattle.kex_lowering.proofs.Pairs.{end_ahead}
-use Rattle.kex_lowering.proofs.Carrying.{carries}
+use Rattle.kex_lowering.proofs.PairedNodes.{carries}
 use Rattle.kex_model.specs.Laws as stages
 
 not_true : {x : Bool} → x ≡ false → IsTrue x → ⊥

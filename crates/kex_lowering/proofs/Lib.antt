@@ -1,9 +1,9 @@
 pub mod Pairs
 pub mod Loops
-pub mod Answering
-pub mod Carrying
-pub mod Refusing
-pub mod Shaping
+pub mod SameAnswers
+pub mod PairedNodes
+pub mod Causes
+pub mod SameShapes
 pub mod States
 pub mod Existence
 pub mod Continuations

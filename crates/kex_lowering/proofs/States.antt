@@ -10,8 +10,8 @@ use Rattle.kex_model.specs.Places.{Place, moves, start_of}
 use Rattle.kex_machine.specs.Nodes.{Graph, node_moves}
 use Rattle.kex_lowering.specs.Stages.{IsKeptOf}
 use Rattle.kex_lowering.specs.Shapes.{SameShape, SameShapes, SameStates, WasPlaceOf}
-use Rattle.kex_lowering.proofs.Shaping.{turned_shape}
-use Rattle.kex_lowering.proofs.Carrying.{shaped}
+use Rattle.kex_lowering.proofs.SameShapes.{turned_shape}
+use Rattle.kex_lowering.proofs.PairedNodes.{shaped}
 
 module _ {S T : Type 0} (R : S → T → Type 0) where
   pub shape_back : ((p p' : S) (q : T) → R p q → R p' q → p ≡ p') → (s s' : Shape S) (u : Shape T) → SameShape R s u → SameShape R s' u → s ≡ s'

@@ -14,7 +14,7 @@ use Rattle.kex_rules.specs.Tables.{IsLeast, lower}
 use Rattle.kex_rules.specs.Graphs.{IsParted, vertices, ways}
 use Rattle.kex_rules.specs.Tails.{AreSame, by_other, by_last, MarksParts, HasApart}
 use Rattle.kex_rules.proofs.Marks.{one_number}
-use Rattle.kex_rules.proofs.Naming.{least_more, least_same}
+use Rattle.kex_rules.proofs.DefinedNames.{least_more, least_same}
 use Rattle.kex_rules.proofs.Tails.{is_apart, is_not_tail, flagged, no_kind}
 
 -- no node was looked at

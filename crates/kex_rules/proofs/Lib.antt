@@ -1,9 +1,9 @@
 pub mod Marks
 pub mod Ways
-pub mod Naming
+pub mod DefinedNames
 pub mod Tails
 pub mod Apart
-pub mod Opening
-pub mod Joining
-pub mod Closing
-pub mod Standing
+pub mod OpenVertices
+pub mod JoinedComponents
+pub mod LastComponent
+pub mod NodeFlags

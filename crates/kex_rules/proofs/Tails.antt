@@ -17,7 +17,7 @@ use Rattle.kex_rules.specs.Tables.{first_root}
 use Rattle.kex_rules.specs.Graphs.{Leads, stays, goes, kind_ways, root_ways, vertex_ways, vertices, ways, IsParted}
 use Rattle.kex_rules.specs.Tails.{AreSame, IsApart, by_other, by_last, HasApart}
 use Rattle.kex_rules.proofs.Ways.{leads_on, leads_one, find_among}
-use Rattle.kex_rules.proofs.Naming.{find_none, find_named}
+use Rattle.kex_rules.proofs.DefinedNames.{find_none, find_named}
 
 -- where a node of a kind leads: to a last part, another part, or the name that it calls
 kind_cases : (nodes v : ℕ) (k : Kind) → IsAmong (kind_ways nodes k) v → IsAmong (last_parts k) v ⊎ (IsAmong (other_parts k) v ⊎ ((name : ℕ) × (k ≡ Call name) × (v ≡ nodes + name)))

@@ -1,4 +1,4 @@
-pub mod Stopping
-pub mod Coded
-pub mod Tested
-pub mod Played
+pub mod PieceAnswers
+pub mod Coders
+pub mod Testers
+pub mod Players

@@ -1,5 +1,5 @@
 -- The laws of a tester's answers.
-use Rattle.std.proofs.Common.{◌≡◌, ℕ, ◌<◌, Bool, true, false, ◌&&◌, List, [], ◌++◌, None, length, sym, ◌∙◌, append-nil}
+use Rattle.std.proofs.Common.{◌≡◌, ℕ, ◌<◌, Bool, false, ◌&&◌, List, [], ◌++◌, None, length, sym, ◌∙◌, append-nil}
 use Rattle.std.specs.Prelude.{is_none, IsSome}
 use Rattle.kex_code.specs.Codes.{Begins}
 use Rattle.kex_model.specs.Answers.{Answer}

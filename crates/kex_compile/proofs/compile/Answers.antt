@@ -6,7 +6,7 @@ use Rattle.kex_reader.specs.declared.refusal.ReadRefusal.TheVariants as read
 use Rattle.kex_rules.specs.Rules.{IsRuled, IsCause}
 use Rattle.kex_rules.specs.declared.refusal.RuleRefusal.{RuleRefusal}
 use Rattle.kex_rules.specs.declared.refusal.RuleRefusal.TheVariants as rule
-use Rattle.kex_lowering.proofs.Refusing.{if_err}
+use Rattle.kex_lowering.proofs.Causes.{if_err}
 use Rattle.kex_compile.specs.Compiled.{IsRefused, of_plan, of_read, of_rule}
 use Rattle.kex_compile.specs.Stages.{ArePlans, IsUnplanned, KeepsToOneStage, KeepsToStates, roots_of}
 use Rattle.kex_compile.specs.declared.limits.Limits.{Limits}

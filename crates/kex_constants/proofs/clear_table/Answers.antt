@@ -4,7 +4,7 @@ use Rattle.kex_machine.specs.Nodes.{Graph}
 use Rattle.kex_sst.specs.Machines.{IsTableOf}
 use Rattle.kex_constants.specs.Alike.{PassAlike}
 use Rattle.kex_constants.specs.Clearing.{cleared_table}
-use Rattle.kex_constants.proofs.Clearing.{pass_alike}
+use Rattle.kex_constants.proofs.ClearedRuns.{pass_alike}
 use Rattle.kex_constants.proofs.Machines.{same_machine}
 use Rattle.kex_constants.proofs.clear_table.Goals as goal
 

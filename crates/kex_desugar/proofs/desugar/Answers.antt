@@ -5,8 +5,8 @@ use Rattle.kex_machine.specs.Nodes.{IsInRange}
 use Rattle.kex_desugar.specs.declared.spot.Spot.TheVariants.{Empty, On}
 use Rattle.kex_desugar.specs.Machines.{IsMachineOf}
 use Rattle.kex_desugar.specs.Spots.{IsReal, Real}
-use Rattle.kex_desugar.proofs.Numbers.{real_empty}
-use Rattle.kex_desugar.proofs.Ways.{err_as, real_on}
+use Rattle.kex_desugar.proofs.PlaceNumbers.{real_empty}
+use Rattle.kex_desugar.proofs.SpotWays.{err_as, real_on}
 use Rattle.kex_desugar.proofs.Made.{Made, get_later, made_none, made_more, is_machine, fits, in_range}
 use Rattle.kex_desugar.proofs.desugar.Goals as goal
 use Rattle.kex_desugar.proofs.desugar.Goals.{After-entered, After-places, After-len-in-places-2}

@@ -11,9 +11,9 @@ use Rattle.kex_sst.specs.Machines.{IsTableOf}
 use Rattle.kex_determine.specs.Determined.{IsDetermined}
 use Rattle.kex_determine.specs.Numbering.{IsMet, AreNumbered, Refuses}
 use Rattle.kex_determine.specs.Rows.{AreRows}
-use Rattle.kex_determine.proofs.Filling.{none_yet, first_met, first_filled, all_rows, determined, tabled, has_states, more_states}
-use Rattle.kex_determine.proofs.Stepping.{err_as, refuses_as}
-use Rattle.kex_determine.proofs.Tabling.{well_formed}
+use Rattle.kex_determine.proofs.StateRows.{none_yet, first_met, first_filled, all_rows, determined, tabled, has_states, more_states}
+use Rattle.kex_determine.proofs.Transitions.{err_as, refuses_as}
+use Rattle.kex_determine.proofs.TableForms.{well_formed}
 use Rattle.kex_determine.proofs.determine.Goals as goal
 use Rattle.kex_determine.proofs.determine.Goals.{After-enter, In_ok-rows}
 

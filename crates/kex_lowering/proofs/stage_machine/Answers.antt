@@ -1,7 +1,7 @@
 use Rattle.kex_lowering.specs.Refusals.{of_trim}
 use Rattle.kex_lowering.specs.Stages.{IsWhy}
-use Rattle.kex_lowering.proofs.Carrying.{carries}
-use Rattle.kex_lowering.proofs.Refusing.{why, if_err}
+use Rattle.kex_lowering.proofs.PairedNodes.{carries}
+use Rattle.kex_lowering.proofs.Causes.{why, if_err}
 use Rattle.kex_lowering.proofs.stage_machine.Goals as goal
 
 pub returns-in_err-trimmed-clause-refused : goal.returns-in_err-trimmed-clause-refused

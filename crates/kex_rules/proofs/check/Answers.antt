@@ -1,4 +1,4 @@
-use Rattle.kex_rules.proofs.Naming.{ruled_by}
+use Rattle.kex_rules.proofs.DefinedNames.{ruled_by}
 use Rattle.kex_rules.proofs.check.Goals as goal
 
 pub invariant_of-result : goal.invariant_of-result

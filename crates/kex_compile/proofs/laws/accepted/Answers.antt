@@ -1,5 +1,5 @@
 use Rattle.kex_compile.proofs.Alike.{alike}
-use Rattle.kex_compile.proofs.Refusing as refusing
+use Rattle.kex_compile.proofs.OneCause as refusing
 use Rattle.kex_compile.proofs.laws.accepted.Goals as goal
 
 pub returns : goal.returns

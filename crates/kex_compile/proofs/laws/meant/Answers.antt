@@ -1,5 +1,5 @@
 use Rattle.kex_compile.proofs.Alike.{alike}
-use Rattle.kex_compile.proofs.Answering.{accepts, answered, counted, meant, states_counted}
+use Rattle.kex_compile.proofs.ProgramAnswers.{accepts, answered, counted, meant, states_counted}
 use Rattle.kex_compile.proofs.laws.meant.Goals as goal
 
 pub returns-clause-accepted : goal.returns-clause-accepted

@@ -1,5 +1,5 @@
 use Rattle.kex_compile.proofs.Alike.{alike}
-use Rattle.kex_compile.proofs.Refusing.{one_cause}
+use Rattle.kex_compile.proofs.OneCause.{one_cause}
 use Rattle.kex_compile.proofs.laws.refused.Goals as goal
 
 pub returns : goal.returns

@@ -1,10 +1,10 @@
 use Rattle.std.proofs.Common.{◌≡◌, ◌<◌, ◌≤◌, true, false, List, length, sym, ◌∙◌, subst}
 use Rattle.kex_machine.specs.Nodes.{Graph}
 use Rattle.kex_model.specs.declared.program.Start.{Start}
-use Rattle.kex_lowering.proofs.Refusing.{if_err}
+use Rattle.kex_lowering.proofs.Causes.{if_err}
 use Rattle.kex_compile.specs.Stages.{AllRun, AreStages, HaveInAll, IsUnplanned, KeepsToOneStage, roots_of}
 use Rattle.kex_compile.proofs.FirstStages.{all-run}
-use Rattle.kex_compile.proofs.Tabling.{none_more, states_of_stages, unplanned_by}
+use Rattle.kex_compile.proofs.StageTables.{none_more, states_of_stages, unplanned_by}
 use Rattle.kex_compile.proofs.stages.plan_stages.Goals as goal
 use Rattle.kex_compile.proofs.stages.plan_stages.Goals.{else-limits-via-then-limits+else-stages-gt1, else-limits-via-else-limits}
 

@@ -2,7 +2,7 @@ use Rattle.std.proofs.Common.{List, length, sym, subst}
 use Rattle.kex_machine.specs.Nodes.{node_moves}
 use Rattle.kex_model.specs.States.{HasStates}
 use Rattle.kex_sst.specs.Tables.{Row}
-use Rattle.kex_compile.proofs.Tabling.{not_more}
+use Rattle.kex_compile.proofs.StageTables.{not_more}
 use Rattle.kex_compile.proofs.tables.plan.Goals as goal
 
 pub returns-in-Ok-clause-states : goal.returns-in-Ok-clause-states

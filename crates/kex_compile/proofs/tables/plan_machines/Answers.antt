@@ -1,8 +1,8 @@
 use Rattle.std.proofs.Common.{◌≡◌, ◌++◌, ◌∷◌, [], ◌+◌, List, length, suc, sym, ap, ap₂, ◌∙◌, subst, append_assoc, length-append, arith}
 use Rattle.kex_machine.specs.Nodes.{Graph}
-use Rattle.kex_lowering.proofs.Refusing.{if_err}
+use Rattle.kex_lowering.proofs.Causes.{if_err}
 use Rattle.kex_compile.specs.Stages.{AreTabled, IsUntabled, NodeStates, Plans}
-use Rattle.kex_compile.proofs.Tabling.{states_more, tabled_more, untabled}
+use Rattle.kex_compile.proofs.StageTables.{states_more, tabled_more, untabled}
 use Rattle.kex_compile.proofs.tables.plan_machines.Goals as goal
 
 pub returns-in_err-planned-clause-refused : goal.returns-in_err-planned-clause-refused

@@ -1,7 +1,7 @@
 use Rattle.std.proofs.Common.{◌≤◌, [], ap, subst, ◌∙◌, arith, length, get_or}
 use Rattle.std.specs.Prelude.{slice_get}
 use Rattle.kex_constants.specs.Clearing.{Gives}
-use Rattle.kex_constants.proofs.Holding.{hold_always, all_states, StateGives}
+use Rattle.kex_constants.proofs.Certificates.{hold_always, all_states, StateGives}
 use Rattle.kex_constants.proofs.check.are_constant.Goals as goal
 
 pub returns : goal.returns

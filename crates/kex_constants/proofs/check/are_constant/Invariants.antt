@@ -1,6 +1,6 @@
 use Rattle.std.proofs.Common.{ℕ, ◌<◌, [], get_or}
 use Rattle.std.specs.Prelude.{slice_get}
-use Rattle.kex_constants.proofs.Holding.{StateGives}
+use Rattle.kex_constants.proofs.Certificates.{StateGives}
 use Rattle.kex_constants.proofs.check.are_constant.Given as goal
 
 abbrev pub invariant-loop-number : goal.invariant-loop-number

@@ -1,7 +1,7 @@
 use Rattle.std.proofs.Common.{◌≡◌, ◌+◌, suc, [], ◌∷◌, None, length, get_or, ap, ◌∙◌, arith, length-append}
 use Rattle.std.proofs.lemmas.List.{get_or_read}
 use Rattle.kex_constants.specs.Known.{number, one_if_kept}
-use Rattle.kex_constants.proofs.Counting.{number_zero, number_next, one_most, numbers_more}
+use Rattle.kex_constants.proofs.RegisterNumbers.{number_zero, number_next, one_most, numbers_more}
 use Rattle.kex_constants.proofs.known.numbers.Goals as goal
 
 pub loop-constant-init : goal.loop-constant-init

@@ -1,7 +1,7 @@
 use Rattle.std.proofs.Common.{◌≡◌, [], get_or, sym, ap, ap₂, subst, ◌∙◌}
 use Rattle.kex_sst.specs.Tables.{Transducer, IsTable}
 use Rattle.kex_constants.specs.Clearing.{cleared_change, cleared_states, cleared_table}
-use Rattle.kex_constants.proofs.Keeping.{cleared_is_table}
+use Rattle.kex_constants.proofs.ClearedTables.{cleared_is_table}
 use Rattle.kex_constants.proofs.rewrite.without_constants.Goals as goal
 
 pub new-requires-3 : goal.new-requires-3

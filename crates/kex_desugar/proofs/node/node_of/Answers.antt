@@ -10,8 +10,8 @@ use Rattle.kex_desugar.specs.declared.plan.Plan.TheVariants.{Take, Fork, Act, Pa
 use Rattle.kex_desugar.specs.declared.plan.Way.{Way}
 use Rattle.kex_desugar.specs.Plans.{frames, plan_move}
 use Rattle.kex_desugar.specs.Spots.{Names, IsAt, IsOnPlace, IsReal}
-use Rattle.kex_desugar.proofs.Numbers.{not_empty}
-use Rattle.kex_desugar.proofs.Ways.{at_later, begins_twice, err_as, had, node_by_plan, on_place, on_place_later}
+use Rattle.kex_desugar.proofs.PlaceNumbers.{not_empty}
+use Rattle.kex_desugar.proofs.SpotWays.{at_later, begins_twice, err_as, had, node_by_plan, on_place, on_place_later}
 use Rattle.kex_desugar.proofs.node.node_of.Goals as goal
 use Rattle.kex_desugar.proofs.node.node_of.Goals.{In_ok-plan}
 

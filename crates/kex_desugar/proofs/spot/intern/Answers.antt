@@ -3,7 +3,7 @@ use Rattle.kex_desugar.specs.declared.spot.Spot.{Spot}
 use Rattle.kex_desugar.specs.Spots.{Real}
 use Rattle.kex_desugar.specs.contracts.spot.SpotPartialEq.TheImpl.{eq-value}
 use Rattle.kex_model.proofs.Tables.{found_at, absent_at}
-use Rattle.kex_desugar.proofs.Numbers.{real_push, more_than}
+use Rattle.kex_desugar.proofs.PlaceNumbers.{real_push, more_than}
 use Rattle.kex_desugar.proofs.spot.intern.Goals as goal
 
 same : (s t : Spot) → eq-value.it s t ≡ true → s ≡ t

@@ -5,7 +5,7 @@ use Rattle.kex_model.specs.Places.{Place}
 use Rattle.kex_desugar.specs.Plans.{frames}
 use Rattle.kex_desugar.specs.Spots.{IsAt, IsOnPlace, IsReal, Real}
 use Rattle.kex_desugar.specs.declared.spot.Spot.TheVariants.{On}
-use Rattle.kex_desugar.proofs.Ways.{err_as, if_ok_two, lower_real, on_ok, put_on_later, upper_real}
+use Rattle.kex_desugar.proofs.SpotWays.{err_as, if_ok_two, lower_real, on_ok, put_on_later, upper_real}
 use Rattle.kex_desugar.proofs.spot.reach.Goals as goal
 use Rattle.kex_desugar.proofs.spot.reach.Goals.{In_ok-under-in-Both}
 

@@ -1,7 +1,7 @@
 use Rattle.std.proofs.Common.{◌≡◌, ℕ, zero, suc, ◌<◌, true, false, vec_len, [], ◌∷◌, ◌++◌, Some, map, refl, ap, sym, ◌∙◌, arith}
 use Rattle.kex_model.proofs.Standing.{empty_list}
 use Rattle.kex_sst.specs.declared.parts.Part.TheVariants.{Old}
-use Rattle.kex_determine.proofs.Ending.{leaf_of, found, none_left, next_side, into_fork, not_past, on_as}
+use Rattle.kex_determine.proofs.FirstLeaves.{leaf_of, found, none_left, next_side, into_fork, not_past, on_as}
 use Rattle.kex_determine.proofs.ends.way_to_end.Goals as goal
 use Rattle.kex_determine.proofs.ends.way_to_end.Goals.{then-inner+in_ok-push, else-inner+else-is_end+in-Some}
 

@@ -3,8 +3,8 @@ use Rattle.std.specs.Prelude.{slice_get}
 use Rattle.kex_model.specs.Labelled.{Shape}
 use Rattle.kex_determine.specs.Filling.{IsFilled}
 use Rattle.kex_determine.specs.Numbering.{Refuses, HasMoreFound}
-use Rattle.kex_determine.proofs.Filling.{next_state, fill_more}
-use Rattle.kex_determine.proofs.Stepping.{err_as, refuses_as}
+use Rattle.kex_determine.proofs.StateRows.{next_state, fill_more}
+use Rattle.kex_determine.proofs.Transitions.{err_as, refuses_as}
 use Rattle.kex_determine.proofs.rows.rows_of.Goals as goal
 use Rattle.kex_determine.proofs.rows.rows_of.Goals.{After-len-in-states-2}
 

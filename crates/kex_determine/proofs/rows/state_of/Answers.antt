@@ -7,8 +7,8 @@ use Rattle.kex_sst.specs.Parts.{numbered}
 use Rattle.kex_paths.specs.Nexts.{inner_of, places_of}
 use Rattle.kex_determine.specs.Rows.{way_to}
 use Rattle.kex_determine.specs.Numbering.{IsMet, AreNumbered, AreTransitions, IsStateWith}
-use Rattle.kex_determine.proofs.Shapes.{inner_long, size_above, sound_as}
-use Rattle.kex_determine.proofs.Stepping.{class_below, get_later, tree_at}
+use Rattle.kex_determine.proofs.DifferentShapes.{inner_long, size_above, sound_as}
+use Rattle.kex_determine.proofs.Transitions.{class_below, get_later, tree_at}
 use Rattle.kex_determine.proofs.rows.state_of.Goals as goal
 use Rattle.kex_determine.proofs.rows.state_of.Goals.{After-leaves}
 

@@ -3,7 +3,7 @@ use Rattle.std.specs.Prelude.{slice_get}
 use Rattle.kex_byteset.specs.Classes.{class_at}
 use Rattle.kex_model.specs.Labelled.{Shape}
 use Rattle.kex_determine.specs.Numbering.{NextIs, IsMet, AreNumbered, AreTransitionsTo, Refuses, IsMetIf, HasMoreFound}
-use Rattle.kex_determine.proofs.Stepping.{get_later, tree_at, next_on, next_met, one_more, err_as, refuses_as}
+use Rattle.kex_determine.proofs.Transitions.{get_later, tree_at, next_on, next_met, one_more, err_as, refuses_as}
 use Rattle.kex_determine.proofs.rows.transitions_of.Goals as goal
 use Rattle.kex_determine.proofs.rows.transitions_of.Goals.{After-follow}
 

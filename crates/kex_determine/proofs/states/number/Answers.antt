@@ -5,7 +5,7 @@ use Rattle.std.specs.Bool.{Decides}
 use Rattle.std.proofs.lemmas.Slice.Eq.{slice_eq-Decides}
 use Rattle.std.proofs.lemmas.Bool.Decides.{Decides-eqb}
 use Rattle.std.specs.Cmp.Lexicographic.{pointwise}
-use Rattle.kex_determine.proofs.Adding.{added_key, stored_key}
+use Rattle.kex_determine.proofs.ShapeKeys.{added_key, stored_key}
 use Rattle.kex_determine.proofs.states.number.Goals as goal
 
 same : (x y : Vec ℕ) → Decides (pointwise nat_eq x.items y.items) (x.items ≡ y.items)

@@ -1,6 +1,6 @@
 use Rattle.std.proofs.Common.{arith, subst, sym}
 use Rattle.kex_frontier.specs.Rows.{AlsoMarks, byte_ways, IsClosureOf}
-use Rattle.kex_frontier.proofs.Steps.{Entering, enter_on, row_more}
+use Rattle.kex_frontier.proofs.RowSteps.{Entering, enter_on, row_more}
 use Rattle.kex_frontier.proofs.matcher.step.Goals as goal
 
 pub places-preserved : goal.places-preserved

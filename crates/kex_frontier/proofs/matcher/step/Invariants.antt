@@ -1,5 +1,5 @@
 use Rattle.std.proofs.Common.{◌≤◌, length}
-use Rattle.kex_frontier.proofs.Steps.{Entering}
+use Rattle.kex_frontier.proofs.RowSteps.{Entering}
 use Rattle.kex_frontier.proofs.matcher.step.Given as goal
 
 abbrev pub invariant-places : goal.invariant-places

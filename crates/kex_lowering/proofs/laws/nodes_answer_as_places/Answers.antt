@@ -1,4 +1,4 @@
-use Rattle.kex_lowering.proofs.Carrying.{carries}
+use Rattle.kex_lowering.proofs.PairedNodes.{carries}
 use Rattle.kex_lowering.proofs.laws.nodes_answer_as_places.Goals as goal
 
 pub returns : goal.returns

@@ -1,6 +1,6 @@
 use Rattle.std.proofs.Common.{true, [], ◌∷◌, ◌++◌, get_or, sym, ap, ◌∙◌}
 use Rattle.std.specs.Prelude.{bytes_eq, codes}
-use Rattle.kex_reader.proofs.Texts.{among_get, main_here, names_at}
+use Rattle.kex_reader.proofs.ProgramTexts.{among_get, main_here, names_at}
 use Rattle.kex_reader.proofs.text.main_alone.Goals as goal
 
 pub bounds-names-definition : goal.bounds-names-definition

@@ -10,7 +10,7 @@ use Rattle.kex_reader.specs.Asked.{state_checks}
 use Rattle.kex_reader.specs.Holding.{StateSteps, Finishes}
 use Rattle.kex_reader.specs.Stands.{NotesLeast}
 use Rattle.kex_reader.specs.Spelling.{offset, words, IsRefusedAs}
-use Rattle.kex_reader.proofs.Texts.{word_at, offset_at, words_long, offset_end, reads_more, taken_long, wrong_word, wrong_end, program_read, state_ok, state_bad, finish_ok, finish_bad, next_checks, end_checks, begin_shows, begin_reads, begin_notes, step_refused, spells_ok, refused_ok, end_of}
+use Rattle.kex_reader.proofs.ProgramTexts.{word_at, offset_at, words_long, offset_end, reads_more, taken_long, wrong_word, wrong_end, program_read, state_ok, state_bad, finish_ok, finish_bad, next_checks, end_checks, begin_shows, begin_reads, begin_notes, step_refused, spells_ok, refused_ok, end_of}
 use Rattle.kex_reader.specs.Holding.{InProgram}
 use Rattle.kex_reader.proofs.Uses.{all_held, none_made}
 use Rattle.kex_reader.proofs.text.parse.Goals as goal

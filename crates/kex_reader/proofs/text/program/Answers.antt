@@ -2,7 +2,7 @@ use Rattle.std.proofs.Common.{◌<◌, length, sym, ap, ◌∙◌, subst}
 use Rattle.kex_code.specs.Codes.{IsAmong}
 use Rattle.kex_reader.specs.Syntax.{header}
 use Rattle.kex_reader.specs.Spelling.{main_stage}
-use Rattle.kex_reader.proofs.Texts.{definitions_in, memory_refused, started_in, program_shows}
+use Rattle.kex_reader.proofs.ProgramTexts.{definitions_in, memory_refused, started_in, program_shows}
 use Rattle.kex_reader.proofs.Uses.{none_spare}
 use Rattle.kex_reader.proofs.text.program.Goals as goal
 

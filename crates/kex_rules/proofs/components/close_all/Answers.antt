@@ -1,6 +1,6 @@
 use Rattle.std.proofs.Common.{get_or, arith}
 use Rattle.std.proofs.lemmas.Option.{slice_get-get_or}
-use Rattle.kex_rules.proofs.Closing.{closes_none, closes_more, closes_whole}
+use Rattle.kex_rules.proofs.LastComponent.{closes_none, closes_more, closes_whole}
 use Rattle.kex_rules.proofs.components.close_all.Goals as goal
 
 pub index_mut-requires : goal.index_mut-requires

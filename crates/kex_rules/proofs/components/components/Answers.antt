@@ -1,6 +1,6 @@
 use Rattle.std.proofs.Common.{arith}
 use Rattle.kex_rules.specs.Graphs.{vertices, ways}
-use Rattle.kex_rules.proofs.Closing.{parted}
+use Rattle.kex_rules.proofs.LastComponent.{parted}
 use Rattle.kex_rules.proofs.components.components.Goals as goal
 
 pub returns : goal.returns

@@ -3,7 +3,7 @@ use Rattle.std.proofs.lemmas.List.{take_more}
 use Rattle.kex_model.specs.declared.program.Definition.{Definition}
 use Rattle.kex_rules.specs.Rules.{IsTwice}
 use Rattle.kex_rules.specs.Tables.{HasRoots, IsLeast}
-use Rattle.kex_rules.proofs.Naming.{roots_more, roots_kept, twice_more, twice_same, first_none, first_some, name_fits, whole}
+use Rattle.kex_rules.proofs.DefinedNames.{roots_more, roots_kept, twice_more, twice_same, first_none, first_some, name_fits, whole}
 use Rattle.kex_rules.proofs.Marks.{read_any}
 use Rattle.kex_rules.proofs.names.roots_of.Goals as goal
 use Rattle.kex_rules.proofs.names.roots_of.Goals.{in-Some, in-None}

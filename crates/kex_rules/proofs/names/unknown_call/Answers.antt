@@ -5,8 +5,8 @@ use Rattle.kex_model.specs.declared.program.Kind.TheVariants.{Call}
 use Rattle.kex_rules.specs.Rules.{IsDefined}
 use Rattle.kex_rules.specs.Tables.{IsLeast}
 use Rattle.kex_rules.proofs.Marks.{read_any}
-use Rattle.kex_rules.proofs.Naming.{first_none, is_known}
-use Rattle.kex_rules.proofs.Standing.{UnknownBefore, unknown_more, unknown_same, unknown_all}
+use Rattle.kex_rules.proofs.DefinedNames.{first_none, is_known}
+use Rattle.kex_rules.proofs.NodeFlags.{UnknownBefore, unknown_more, unknown_same, unknown_all}
 use Rattle.kex_rules.proofs.names.unknown_call.Goals as goal
 use Rattle.kex_rules.proofs.names.unknown_call.Goals.{in-Call+then-within-n+then-is_unknown, in-Call+else-within-n, else-within-n-via-then-within-n+else-is_unknown, else-within-n-via-else-within-n, in_default}
 

@@ -1,5 +1,5 @@
 use Rattle.kex_rules.specs.Tables.{IsLeast}
-use Rattle.kex_rules.proofs.Standing.{UnknownBefore}
+use Rattle.kex_rules.proofs.NodeFlags.{UnknownBefore}
 use Rattle.kex_rules.proofs.names.unknown_call.Given as goal
 
 abbrev pub invariant-loop-n : goal.invariant-loop-n

@@ -2,7 +2,7 @@ use Rattle.std.proofs.Common.{◌≡◌, ◌+◌, ◌++◌, ◌∷◌, [], get_o
 use Rattle.std.proofs.lemmas.List.{take_more}
 use Rattle.kex_model.specs.declared.program.Start.{Start}
 use Rattle.kex_rules.specs.Tables.{IsLeast}
-use Rattle.kex_rules.proofs.Naming.{UsesUnknown, first_none, is_known, uses_start, uses_more, uses_same, uses_all, whole}
+use Rattle.kex_rules.proofs.DefinedNames.{UsesUnknown, first_none, is_known, uses_start, uses_more, uses_same, uses_all, whole}
 use Rattle.kex_rules.proofs.names.unknown_start.Goals as goal
 use Rattle.kex_rules.proofs.names.unknown_start.Goals.{then-is_unknown, else-is_unknown}
 

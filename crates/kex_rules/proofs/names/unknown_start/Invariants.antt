@@ -1,6 +1,6 @@
 use Rattle.std.proofs.Common.{take}
 use Rattle.kex_rules.specs.Tables.{IsLeast}
-use Rattle.kex_rules.proofs.Naming.{UsesUnknown}
+use Rattle.kex_rules.proofs.DefinedNames.{UsesUnknown}
 use Rattle.kex_rules.proofs.names.unknown_start.Given as goal
 
 abbrev pub invariant-loop-start : goal.invariant-loop-start

@@ -2,7 +2,7 @@ use Rattle.std.proofs.Common.{⊎_elim, subst}
 use Rattle.kex_code.specs.Codes.{IsAmong}
 use Rattle.kex_model.specs.declared.program.Node.{Node}
 use Rattle.kex_model.specs.Programs.{HasNames}
-use Rattle.kex_rules.proofs.Naming.{among-cases}
+use Rattle.kex_rules.proofs.DefinedNames.{among-cases}
 use Rattle.kex_rules.proofs.tests.add.Goals as goal
 
 pub returns-clause-nodes : goal.returns-clause-nodes

@@ -1,6 +1,6 @@
 use Rattle.std.proofs.Common.{◌<◌, ⊎_elim, subst}
 use Rattle.kex_code.specs.Codes.{IsAmong}
-use Rattle.kex_rules.proofs.Naming.{among-cases}
+use Rattle.kex_rules.proofs.DefinedNames.{among-cases}
 use Rattle.kex_rules.proofs.tests.start.Goals as goal
 
 pub returns : goal.returns

@@ -6,7 +6,7 @@ use Rattle.kex_rules.specs.Rules.{last_parts, other_parts}
 use Rattle.kex_rules.specs.Within.{HasWithin, FlagsParts}
 use Rattle.kex_rules.proofs.Marks.{read_any}
 use Rattle.kex_rules.proofs.Tails.{kind_is}
-use Rattle.kex_rules.proofs.Standing.{within_more, within_same}
+use Rattle.kex_rules.proofs.NodeFlags.{within_more, within_same}
 use Rattle.kex_rules.proofs.within.nodes_within.Goals as goal
 
 pub nodes-preserved-then-index : goal.nodes-preserved-then-index

@@ -1,8 +1,8 @@
 use Rattle.std.proofs.Common.{◌<◌, true, length, get_or, set, take, sym, ap, subst, ◌∙◌, arith}
 use Rattle.std.proofs.lemmas.List.{take_more}
 use Rattle.kex_model.specs.declared.program.Definition.{Definition}
-use Rattle.kex_rules.proofs.Naming.{root_fits, definition_among, whole}
-use Rattle.kex_rules.proofs.Standing.{FlagsRoots, roots_none, roots_more, roots_all}
+use Rattle.kex_rules.proofs.DefinedNames.{root_fits, definition_among, whole}
+use Rattle.kex_rules.proofs.NodeFlags.{FlagsRoots, roots_none, roots_more, roots_all}
 use Rattle.kex_rules.proofs.within.roots_within.Goals as goal
 
 pub loop-definition-init : goal.loop-definition-init

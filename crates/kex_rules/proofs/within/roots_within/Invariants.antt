@@ -1,5 +1,5 @@
 use Rattle.std.proofs.Common.{take}
-use Rattle.kex_rules.proofs.Standing.{FlagsRoots}
+use Rattle.kex_rules.proofs.NodeFlags.{FlagsRoots}
 use Rattle.kex_rules.proofs.within.roots_within.Given as goal
 
 abbrev pub invariant-loop-definition : goal.invariant-loop-definition

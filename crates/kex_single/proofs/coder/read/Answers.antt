@@ -1,4 +1,4 @@
-use Rattle.std.proofs.Common.{rules, ◌≡◌, ◌+◌, ◌++◌, ◌<◌, List, ℕ, ◌∷◌, [], length, take, refl, sym, ap, subst, ◌∙◌, arith, append_assoc, take-suc, add-one}
+use Rattle.std.proofs.Common.{rules, ◌≡◌, ◌+◌, ◌++◌, ◌<◌, List, ℕ, ◌∷◌, [], length, take, sym, ap, subst, ◌∙◌, arith, append_assoc, take-suc, add-one}
 use Rattle.std.specs.Prelude.{slice_index_or}
 use Rattle.std.proofs.lemmas.List.{take_all}
 use Rattle.kex_machine.specs.Answers.{Viable}

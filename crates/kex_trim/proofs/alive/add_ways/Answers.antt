@@ -2,7 +2,7 @@ use Rattle.std.proofs.Common.{◌≡◌, ◌<◌, [], ◌∷◌, ◌++◌, inl, 
 use Rattle.std.proofs.lemmas.Result.{IfOk-weaker}
 use Rattle.kex_code.specs.Codes.{IsAmong}
 use Rattle.kex_trim.specs.Ways.{listed_ways, Adds}
-use Rattle.kex_trim.proofs.Reaching.{adds_one, adds_both}
+use Rattle.kex_trim.proofs.EndMarks.{adds_one, adds_both}
 use Rattle.kex_trim.proofs.alive.add_ways.Goals as goal
 use Rattle.kex_trim.proofs.alive.add_ways.Goals.{In-Two}
 

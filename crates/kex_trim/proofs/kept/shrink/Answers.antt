@@ -3,8 +3,8 @@ use Rattle.std.proofs.lemmas.Option.{slice_get-get_or}
 use Rattle.kex_code.specs.Codes.{HasNumber}
 use Rattle.kex_machine.specs.Nodes.{move_of}
 use Rattle.kex_trim.specs.Trim.{renumbered_move}
-use Rattle.kex_trim.proofs.Trimming.{past}
-use Rattle.kex_trim.proofs.Keeping.{Shrinking, shrinking_more, shrinking_end}
+use Rattle.kex_trim.proofs.KeptNumbers.{past}
+use Rattle.kex_trim.proofs.KeptNodes.{Shrinking, shrinking_more, shrinking_end}
 use Rattle.kex_trim.proofs.kept.shrink.Goals as goal
 use Rattle.kex_trim.proofs.kept.shrink.Goals.{After-index, After-loop-t}
 

@@ -1,6 +1,6 @@
 use Rattle.std.proofs.Common.{ap, ◌∙◌, arith}
 use Rattle.kex_constants.specs.Known.{number}
-use Rattle.kex_constants.proofs.Counting.{number_most, number_read, number_beyond}
+use Rattle.kex_constants.proofs.RegisterNumbers.{number_most, number_read, number_beyond}
 use Rattle.kex_constants.proofs.known.Known.number.Goals as goal
 
 pub overflow_cast-result : goal.overflow_cast-result

@@ -4,7 +4,7 @@ use Rattle.kex_model.specs.Labelled.{Shape}
 use Rattle.kex_machine.specs.Nodes.{Graph}
 use Rattle.kex_paths.specs.Spellings.{key_of}
 use Rattle.kex_determine.specs.Numbering.{texts, IsAdded, IsMet, IsWith}
-use Rattle.kex_determine.proofs.Adding.{enter_known, enter_next, enter_full}
+use Rattle.kex_determine.proofs.ShapeKeys.{enter_known, enter_next, enter_full}
 use Rattle.kex_determine.proofs.states.States.enter.Goals as goal
 use Rattle.kex_determine.proofs.states.States.enter.Goals.{In_ok-index}
 

@@ -1,6 +1,6 @@
 use Rattle.std.proofs.Common.{Some, sym, subst}
 use Rattle.kex_determine.specs.Numbering.{IsMetIf, IsFollowed}
-use Rattle.kex_determine.proofs.Following.{followed}
+use Rattle.kex_determine.proofs.Targets.{followed}
 use Rattle.kex_determine.proofs.states.States.follow.Goals as goal
 
 pub returns-in_ok-target-in-Some-clause-ok : goal.returns-in_ok-target-in-Some-clause-ok

@@ -7,7 +7,7 @@ use Rattle.kex_regexp.specs.declared.breaks.Break.{Break}
 use Rattle.kex_regexp.specs.Bodies.{IsRefusal}
 use Rattle.kex_reader.specs.Checks.{Check, Matched}
 use Rattle.kex_reader.proofs.LeastBreak.{never_none, noted_more, noted_same}
-use Rattle.kex_reader.proofs.Bodies.{broken_is, first_breaks, no_breaks}
+use Rattle.kex_reader.proofs.BodyBreaks.{broken_is, first_breaks, no_breaks}
 use Rattle.kex_reader.specs.Stands.{LosesNone}
 use Rattle.kex_reader.specs.Uses.{NodeNumber}
 use Rattle.kex_reader.proofs.Uses.{body_added}

@@ -5,7 +5,7 @@ use Rattle.kex_rules.specs.Graphs.{vertices, ways}
 use Rattle.kex_rules.specs.Searches.{IsSearch, Closes}
 use Rattle.kex_rules.specs.declared.components.Mark.TheVariants.{Open}
 use Rattle.kex_rules.proofs.Marks.{mark_within}
-use Rattle.kex_rules.proofs.Closing.{closed_off, last_off}
+use Rattle.kex_rules.proofs.LastComponent.{closed_off, last_off}
 use Rattle.kex_rules.proofs.components.Search.close.Goals as goal
 
 pub close_all-requires : goal.close_all-requires

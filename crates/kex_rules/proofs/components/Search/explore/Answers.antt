@@ -7,7 +7,7 @@ use Rattle.kex_rules.specs.Graphs.{vertices, ways}
 use Rattle.kex_rules.specs.Searches.{IsSearch}
 use Rattle.kex_rules.specs.declared.components.Bound.{Bound}
 use Rattle.kex_rules.proofs.Ways.{ways_below}
-use Rattle.kex_rules.proofs.Opening.{taken, all_lead_on}
+use Rattle.kex_rules.proofs.OpenVertices.{taken, all_lead_on}
 use Rattle.kex_rules.proofs.components.Search.explore.Goals as goal
 use Rattle.kex_rules.proofs.components.Search.explore.Goals.{In-Some-pop}
 

@@ -2,8 +2,8 @@ use Rattle.std.proofs.Common.{◌<◌, length, sym, ◌∙◌, arith}
 use Rattle.kex_rules.specs.Graphs.{vertices, ways}
 use Rattle.kex_rules.specs.declared.components.Mark.TheVariants.{Unseen}
 use Rattle.kex_rules.proofs.Marks.{read_any}
-use Rattle.kex_rules.proofs.Opening.{passed}
-use Rattle.kex_rules.proofs.Joining.{joined}
+use Rattle.kex_rules.proofs.OpenVertices.{passed}
+use Rattle.kex_rules.proofs.JoinedComponents.{joined}
 use Rattle.kex_rules.proofs.components.Search.meet.Goals as goal
 
 pub returns-in-Open-clause-search : goal.returns-in-Open-clause-search

@@ -1,7 +1,7 @@
 use Rattle.std.proofs.Common.{◌+◌, length, ap, ap₂, replicate, ◌∙◌}
 use Rattle.kex_rules.specs.Graphs.{vertices, ways}
 use Rattle.kex_rules.specs.declared.components.Mark.TheVariants.{Unseen}
-use Rattle.kex_rules.proofs.Opening.{nothing_met}
+use Rattle.kex_rules.proofs.OpenVertices.{nothing_met}
 use Rattle.kex_rules.proofs.components.Search.new.Goals as goal
 
 pub returns-clause-search : goal.returns-clause-search

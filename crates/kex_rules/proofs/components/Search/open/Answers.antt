@@ -3,7 +3,7 @@ use Rattle.kex_rules.specs.Graphs.{vertices, ways, listed_ways}
 use Rattle.kex_rules.specs.declared.components.Mark.TheVariants.{Open}
 use Rattle.kex_rules.proofs.Marks.{unseen-open}
 use Rattle.kex_rules.proofs.Ways.{two_ways}
-use Rattle.kex_rules.proofs.Opening.{opened_as}
+use Rattle.kex_rules.proofs.OpenVertices.{opened_as}
 use Rattle.kex_rules.proofs.components.Search.open.Goals as goal
 
 pub returns-clause-search : goal.returns-clause-search

@@ -1,5 +1,5 @@
 use Rattle.std.proofs.Common.{[], refl, arith}
-use Rattle.kex_single.proofs.Coded.{begins_good}
+use Rattle.kex_single.proofs.Coders.{begins_good}
 use Rattle.kex_single.proofs.coder.Coder.new.Goals as goal
 
 pub returns-clause-stands : goal.returns-clause-stands

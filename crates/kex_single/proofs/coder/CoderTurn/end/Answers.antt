@@ -1,4 +1,4 @@
-use Rattle.std.proofs.Common.{rules, ◌≡◌, ◌++◌, ℕ, List, [], Bool, Option, None, true, false, refl, sym, ap, subst, ◌∙◌, append-nil}
+use Rattle.std.proofs.Common.{rules, ◌≡◌, ℕ, List, [], Bool, Option, None, true, sym, ap, subst, ◌∙◌, append-nil}
 use Rattle.std.specs.Prelude.{IsTrue}
 use Rattle.kex_machine.specs.Nodes.{Graph}
 use Rattle.kex_model.specs.Answers.{Answer}
@@ -9,8 +9,8 @@ use Rattle.kex_pipe.specs.declared.turn.Stop.{Stop}
 use Rattle.kex_single.specs.CodeLaws.{orderly}
 use Rattle.kex_single.specs.Singles.{CodeAnswers, MeansCode, SaysCode, Single}
 use Rattle.kex_single.specs.Standing.{CodeOpen, StandsAs, end_stop, fate_of}
-use Rattle.kex_single.proofs.Coded.{code_ends}
-use Rattle.kex_single.proofs.Stopping.{open_of, stopped_on}
+use Rattle.kex_single.proofs.Coders.{code_ends}
+use Rattle.kex_single.proofs.PieceAnswers.{open_of, stopped_on}
 use Rattle.kex_single.proofs.coder.CoderTurn.end.Goals as goal
 
 pub returns-clause-feeds : goal.returns-clause-feeds

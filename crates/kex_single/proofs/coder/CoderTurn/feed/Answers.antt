@@ -9,8 +9,8 @@ use Rattle.kex_pipe.specs.declared.turn.Stop.{Stop}
 use Rattle.kex_single.specs.CodeLaws.{orderly}
 use Rattle.kex_single.specs.Singles.{CodeAnswers, MeansCode, SaysCode, Single}
 use Rattle.kex_single.specs.Standing.{CodeOpen, StandsAs, fate_of}
-use Rattle.kex_single.proofs.Coded.{code_feeds}
-use Rattle.kex_single.proofs.Stopping.{open_of, stopped_on}
+use Rattle.kex_single.proofs.Coders.{code_feeds}
+use Rattle.kex_single.proofs.PieceAnswers.{open_of, stopped_on}
 use Rattle.kex_single.proofs.coder.CoderTurn.feed.Goals as goal
 
 pub returns-clause-feeds : goal.returns-clause-feeds

@@ -1,4 +1,4 @@
-use Rattle.std.proofs.Common.{rules, ◌≡◌, ◌++◌, ℕ, List, [], Bool, Option, None, true, false, refl, sym, ap, subst, ◌∙◌, append-nil}
+use Rattle.std.proofs.Common.{rules, ◌≡◌, ℕ, List, [], Bool, Option, None, true, refl, sym, subst, append-nil}
 use Rattle.std.specs.Prelude.{IsTrue}
 use Rattle.kex_machine.specs.Nodes.{Graph}
 use Rattle.kex_model.specs.Answers.{Answer}
@@ -9,9 +9,9 @@ use Rattle.kex_pipe.specs.declared.turn.Stop.{Stop}
 use Rattle.kex_single.specs.Plays.{ActAnswers}
 use Rattle.kex_single.specs.Playing.{PlayOpen}
 use Rattle.kex_single.specs.Singles.{Single}
-use Rattle.kex_single.specs.Standing.{StandsAs, end_stop, fate_of}
-use Rattle.kex_single.proofs.Played.{act_ends, act_stopped, took_nothing}
-use Rattle.kex_single.proofs.Stopping.{open_of}
+use Rattle.kex_single.specs.Standing.{StandsAs, fate_of}
+use Rattle.kex_single.proofs.Players.{act_ends, act_stopped, took_nothing}
+use Rattle.kex_single.proofs.PieceAnswers.{open_of}
 use Rattle.kex_single.proofs.player.PlayerTurn.end.Goals as goal
 
 pub returns-clause-feeds : goal.returns-clause-feeds

@@ -1,4 +1,4 @@
-use Rattle.std.proofs.Common.{rules, ◌≡◌, ◌+◌, ◌-◌, ◌^◌, ◌++◌, ℕ, List, [], Bool, Option, None, true, false, min, length, take, refl, sym, ap, subst, ◌∙◌}
+use Rattle.std.proofs.Common.{rules, ◌≡◌, ◌+◌, ◌-◌, ◌^◌, ◌++◌, ℕ, List, Bool, Option, None, true, false, min, length, take, refl, sym, ap, subst, ◌∙◌}
 use Rattle.std.specs.Prelude.{IsTrue}
 use Rattle.kex_code.specs.declared.symbol.Symbol.{Symbol}
 use Rattle.kex_code.specs.Readers.{HasRead}
@@ -13,8 +13,8 @@ use Rattle.kex_single.specs.Plays.{ActAnswers}
 use Rattle.kex_single.specs.Playing.{BadAt, PlayOpen, Refuses}
 use Rattle.kex_single.specs.Singles.{Single}
 use Rattle.kex_single.specs.Standing.{StandsAs, fate_of}
-use Rattle.kex_single.proofs.Played.{act_feeds, act_stopped, bad_read, good_read, text_read}
-use Rattle.kex_single.proofs.Stopping.{open_of}
+use Rattle.kex_single.proofs.Players.{act_feeds, act_stopped, bad_read, good_read, text_read}
+use Rattle.kex_single.proofs.PieceAnswers.{open_of}
 use Rattle.kex_single.proofs.player.PlayerTurn.feed.Goals as goal
 
 pub returns-clause-feeds : goal.returns-clause-feeds

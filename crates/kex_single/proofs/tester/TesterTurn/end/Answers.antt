@@ -1,4 +1,4 @@
-use Rattle.std.proofs.Common.{rules, ◌≡◌, ◌++◌, ℕ, List, [], Bool, Option, None, true, false, refl, sym, ap, subst, ◌∙◌, append-nil}
+use Rattle.std.proofs.Common.{rules, ◌≡◌, ℕ, List, [], Bool, Option, None, true, sym, subst, append-nil}
 use Rattle.std.specs.Prelude.{IsTrue}
 use Rattle.kex_model.specs.Answers.{Answer}
 use Rattle.kex_pipe.specs.Histories.{Feeds, bytes_of, text_of}
@@ -6,10 +6,10 @@ use Rattle.kex_pipe.specs.declared.turn.Fate.{Fate}
 use Rattle.kex_pipe.specs.declared.turn.Fate.TheVariants.{Stopped}
 use Rattle.kex_pipe.specs.declared.turn.Stop.{Stop}
 use Rattle.kex_single.specs.Singles.{HasParseAlone, SaysNothing, Single, TestAnswers}
-use Rattle.kex_single.specs.Standing.{StandsAs, TestOpen, end_stop, fate_of}
+use Rattle.kex_single.specs.Standing.{StandsAs, TestOpen, fate_of}
 use Rattle.kex_single.specs.TestLaws.{orderly}
-use Rattle.kex_single.proofs.Stopping.{open_of, stopped_on}
-use Rattle.kex_single.proofs.Tested.{test_ends}
+use Rattle.kex_single.proofs.PieceAnswers.{open_of, stopped_on}
+use Rattle.kex_single.proofs.Testers.{test_ends}
 use Rattle.kex_single.proofs.tester.TesterTurn.end.Goals as goal
 
 pub returns-clause-feeds : goal.returns-clause-feeds

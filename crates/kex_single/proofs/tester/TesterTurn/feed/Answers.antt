@@ -1,4 +1,4 @@
-use Rattle.std.proofs.Common.{rules, ◌≡◌, ◌+◌, ◌-◌, ◌++◌, ℕ, List, Bool, Option, None, true, false, min, length, take, refl, sym, ap, subst, ◌∙◌}
+use Rattle.std.proofs.Common.{rules, ◌≡◌, ◌+◌, ◌-◌, ◌++◌, ℕ, List, Bool, Option, None, true, false, min, length, refl, sym, subst}
 use Rattle.std.specs.Prelude.{IsTrue}
 use Rattle.kex_machine.specs.Nodes.{Graph}
 use Rattle.kex_model.specs.Answers.{Answer}
@@ -9,8 +9,8 @@ use Rattle.kex_pipe.specs.declared.turn.Stop.{Stop}
 use Rattle.kex_single.specs.Singles.{HasParseAlone, SaysNothing, Single, TestAnswers}
 use Rattle.kex_single.specs.Standing.{StandsAs, StopsAtByte, TestOpen, fate_of}
 use Rattle.kex_single.specs.TestLaws.{orderly}
-use Rattle.kex_single.proofs.Stopping.{open_of, stopped_on}
-use Rattle.kex_single.proofs.Tested.{test_feeds}
+use Rattle.kex_single.proofs.PieceAnswers.{open_of, stopped_on}
+use Rattle.kex_single.proofs.Testers.{test_feeds}
 use Rattle.kex_single.proofs.tester.TesterTurn.feed.Goals as goal
 
 pub returns-clause-feeds : goal.returns-clause-feeds

@@ -13,7 +13,7 @@ use Rattle.kex_rules.specs.Rules.{IsCall, IsDefined, IsWithin, Position, in_tail
 use Rattle.kex_rules.specs.Tables.{CallsUnknown, IsLeast, lower}
 use Rattle.kex_rules.specs.Within.{FlagsParts, HasWithin}
 use Rattle.kex_rules.proofs.Marks.{one_number, same_or_not}
-use Rattle.kex_rules.proofs.Naming.{among-cases, least_more, least_same}
+use Rattle.kex_rules.proofs.DefinedNames.{among-cases, least_more, least_same}
 use Rattle.kex_rules.proofs.Tails.{no_kind}
 
 -- the roots of these definitions are flagged, and nothing else

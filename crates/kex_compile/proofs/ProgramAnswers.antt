@@ -9,19 +9,19 @@ use Rattle.kex_model.specs.Laws.{StageAnswers, StagesAnswer}
 use Rattle.kex_model.proofs.Counting.{among_get}
 use Rattle.kex_rules.specs.Rules.{IsRuled}
 use Rattle.kex_reader.specs.Spelling.{Spells}
-use Rattle.kex_lowering.proofs.Answering.{Serves, answers_so}
+use Rattle.kex_lowering.proofs.SameAnswers.{Serves, answers_so}
 use Rattle.kex_compile.specs.declared.limits.Limits.{Limits}
 use Rattle.kex_compile.specs.Stages.{AllRun, CanRun, HaveInAll, HaveStatesInAll, most_places, roots_of}
 use Rattle.kex_compile.specs.Compiled.{Accepts, AnswersAlike, MeansAlike}
 use Rattle.kex_compile.proofs.Terms.{SameName}
 use Rattle.kex_compile.proofs.Alike.{Alike, name_back}
-use Rattle.kex_compile.proofs.Carrying.{defined_on, not_tail_on, once_back, stage_on as start_on, use_on}
-use Rattle.kex_compile.proofs.Placing.{Partners, partners_on, end_ahead, loop_on, more_on}
-use Rattle.kex_compile.proofs.Staging.{Known, Pairwise, pair_on, pair_at, Both, roots, same_count}
-use Rattle.kex_compile.proofs.Numbering.{as_many_in_all}
-use Rattle.kex_compile.proofs.Surviving.{agreed_on, viable_back, viable_on}
+use Rattle.kex_compile.proofs.SameRules.{defined_on, not_tail_on, once_back, stage_on as start_on, use_on}
+use Rattle.kex_compile.proofs.PlacePairs.{Partners, partners_on, end_ahead, loop_on, more_on}
+use Rattle.kex_compile.proofs.StagePairs.{Known, Pairwise, pair_on, pair_at, Both, roots, same_count}
+use Rattle.kex_compile.proofs.PlaceCounts.{as_many_in_all}
+use Rattle.kex_compile.proofs.SurvivorPairs.{agreed_on, viable_back, viable_on}
 use Rattle.kex_compile.proofs.States.{all_states, states_there}
-use Rattle.kex_compile.proofs.Meaning.{Same, same_empty, tree_on, code_on, part_on, meaning_on}
+use Rattle.kex_compile.proofs.SameMeanings.{Same, same_empty, tree_on, code_on, part_on, meaning_on}
 
 -- ---- trees
 

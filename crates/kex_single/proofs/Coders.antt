@@ -1,27 +1,26 @@
 -- A coder that takes a piece, or the end.
-use Rattle.std.proofs.Common.{◌≡◌, ℕ, ◌<◌, ◌≤◌, ◌+◌, ◌-◌, Bool, true, false, List, [], ◌∷◌, ◌++◌, Option, Some, None, length, min, take, drop, refl, sym, ap, subst, ◌∙◌, append_assoc, append-nil, arith, length-append, length-take, take-append-drop, inl, inr}
+use Rattle.std.proofs.Common.{◌≡◌, ℕ, ◌≤◌, ◌+◌, ◌-◌, true, false, List, [], ◌∷◌, ◌++◌, Option, Some, None, length, min, take, refl, sym, ap, subst, ◌∙◌, append-nil, arith, length-append, length-take, inl, inr}
 use Rattle.std.specs.Prelude.{IsTrue}
 use Rattle.std.proofs.lemmas.List.{take_all}
 use Rattle.kex_code.specs.declared.symbol.Symbol.{Symbol}
 use Rattle.kex_code.specs.Codes.{Begins, IsAmong}
 use Rattle.kex_code.specs.Texts.{text_of as code_text}
 use Rattle.kex_code.proofs.Texts.{text_of-append}
-use Rattle.kex_model.specs.Answers.{Answer}
 use Rattle.kex_model.specs.Labelled.{Leaf, Labelled, tip, fork, leaves_of}
 use Rattle.kex_model.specs.Survivors.{Agreed, LongestViable}
-use Rattle.kex_model.proofs.Standing.{shorter_front, same_front}
+use Rattle.kex_model.proofs.Standing.{same_front}
 use Rattle.kex_machine.specs.Nodes.{Graph, node_moves}
 use Rattle.kex_machine.specs.Answers.{Viable, HasParse, IsSaid, IsGreedy}
 use Rattle.kex_frontier.specs.Frontiers.{Front, IsFed, IsOver}
 use Rattle.kex_frontier.specs.declared.frontier.Ended.{Ended}
 use Rattle.kex_frontier.specs.declared.frontier.Ended.TheVariants.{Parsed, Cut}
-use Rattle.kex_pipe.specs.Histories.{Fed, Feeds, bytes_of, ended_of, text_of}
+use Rattle.kex_pipe.specs.Histories.{Fed, Feeds, bytes_of, text_of}
 use Rattle.kex_pipe.specs.declared.turn.Stop.{Stop}
 use Rattle.kex_single.specs.Singles.{CodeAnswers, MeansCode, SaysCode, Single}
 use Rattle.kex_pipe.specs.declared.turn.Why.TheVariants.{Byte}
 use Rattle.kex_single.specs.Standing.{CodeOpen, StandsAs, StopsAt, GoesOn, good_of, given_of, fate_of, end_stop, is_parsed}
 use Rattle.kex_single.specs.CodeLaws.{orderly}
-use Rattle.kex_single.proofs.Stopping.{feeds, ends_parsed, ends_cut, more_taken}
+use Rattle.kex_single.proofs.PieceAnswers.{feeds, ends_parsed, ends_cut, more_taken}
 
 -- the longest front that can go on of a text that can is the text
 whole_front : (g : Graph) (w of : List ℕ) → LongestViable (node_moves g.nodes) g.start w of → Viable g w → of ≡ w

@@ -8,7 +8,7 @@ use Rattle.kex_sst.specs.Parts.{Change}
 use Rattle.kex_paths.specs.Nexts.{Outline}
 use Rattle.kex_determine.specs.Determined.{MeetsInOrder}
 use Rattle.kex_determine.specs.Numbering.{IsMet, IsWith, IsFollowed}
-use Rattle.kex_determine.proofs.Shapes.{shape_same}
+use Rattle.kex_determine.proofs.DifferentShapes.{shape_same}
 
 pub one_begins : (xs ys : List (Shape ℕ)) (s : Shape ℕ) (i : ℕ) → ((ys ≡ xs) × (i < length xs)) ⊎ ((ys ≡ xs ++ s ∷ []) × (i ≡ length xs)) → Begins ys xs
 one_begins xs ys s i h = ⊎_elim (λ e. ([], e.0 ∙ sym (append-nil xs))) (λ e. (s ∷ [], e.0)) h

@@ -15,10 +15,10 @@ use Rattle.kex_model.specs.Survivors.{LeadsToEnd}
 use Rattle.kex_desugar.specs.Machines.{HasMore}
 use Rattle.kex_rules.specs.Rules.{IsDefined, IsUse, IsWithin, elsewhere, as_last, as_other, last_parts, other_parts}
 use Rattle.kex_rules.proofs.Tails.{kind_is}
-use Rattle.kex_compile.proofs.Pairing.{Joins, SameKind, one, lit, class, call, seq, alt, rep, mute, at_register, write_register, set_register, add_register, one_first, one_second}
+use Rattle.kex_compile.proofs.NodePairs.{Joins, SameKind, one, lit, class, call, seq, alt, rep, mute, at_register, write_register, set_register, add_register, one_first, one_second}
 use Rattle.kex_compile.proofs.Terms.{SameName}
 use Rattle.kex_compile.proofs.Alike.{Alike}
-use Rattle.kex_compile.proofs.Carrying.{G, kinds_on, roots_on, root_within}
+use Rattle.kex_compile.proofs.SameRules.{G, kinds_on, roots_on, root_within}
 
 -- ---- places by their nodes
 

@@ -14,11 +14,11 @@ use Rattle.kex_model.specs.Trees.{kind_at, root_of, Tree, IsTree, one, lit, one_
 use Rattle.kex_model.specs.Answers.{empty}
 use Rattle.kex_model.proofs.Growing.{part_whole}
 use Rattle.kex_rules.specs.Rules.{IsDefined, IsUse}
-use Rattle.kex_compile.proofs.Pairing as kinds
-use Rattle.kex_compile.proofs.Pairing.{SameKind, SameParts}
+use Rattle.kex_compile.proofs.NodePairs as kinds
+use Rattle.kex_compile.proofs.NodePairs.{SameKind, SameParts}
 use Rattle.kex_compile.proofs.Alike.{Alike, one_name, name_back}
-use Rattle.kex_compile.proofs.Carrying.{G}
-use Rattle.kex_compile.proofs.Placing.{Partners, Defined, partners_on, root_on}
+use Rattle.kex_compile.proofs.SameRules.{G}
+use Rattle.kex_compile.proofs.PlacePairs.{Partners, Defined, partners_on, root_on}
 
 none_held : (n r : ℕ) → held (replicate n []) r ≡ []
 none_held zero r = refl

@@ -9,8 +9,8 @@ use Rattle.kex_model.specs.Survivors.{NoReturn, LeadsToEnd, Reaches, IsAlive, Su
 use Rattle.kex_model.specs.Answers.{Viable}
 use Rattle.kex_model.proofs.Loops.{no_return}
 use Rattle.kex_compile.proofs.Alike.{Alike}
-use Rattle.kex_compile.proofs.Placing.{SamePlace, empty, Partners, enter_on, moves_on, walk_on, walk_back, waits_on, waits_back, end_on, end_back, place_back, place_forth, one_partner, one_partner_back}
-use Rattle.kex_compile.proofs.Staging.{Known}
+use Rattle.kex_compile.proofs.PlacePairs.{SamePlace, empty, Partners, enter_on, moves_on, walk_on, walk_back, waits_on, waits_back, end_on, end_back, place_back, place_forth, one_partner, one_partner_back}
+use Rattle.kex_compile.proofs.StagePairs.{Known}
 
 -- where no place is reached again without a byte no walk returns
 once : (P : Grammar) (root : ℕ) → (HasEmptyLoop P root → ⊥) → (ks : List (Step Place)) (t : Place) → Walk (moves P) (start_of P root) ks t → NoReturn (start_of P root ∷ []) ks

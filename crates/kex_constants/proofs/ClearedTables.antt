@@ -18,7 +18,7 @@ use Rattle.kex_sst.specs.Tables.{Row, Transducer, IsWayIf, LeadsTo, IsState, IsT
 use Rattle.kex_constants.specs.Known.{Constants, kept_items, number}
 use Rattle.kex_constants.specs.Clearing.{puts, constant_or_register, parts_for, cleared_parts, cleared_change, cleared_transition, cleared_way, cleared_state, cleared_states, cleared_table}
 use Rattle.kex_model.proofs.Shapes.{among-append}
-use Rattle.kex_constants.proofs.Clearing.{cleared_state_if, state_at}
+use Rattle.kex_constants.proofs.ClearedRuns.{cleared_state_if, state_at}
 
 -- some of a list, in its order
 data IsOf : List ℕ → List ℕ → Type 0 where

@@ -19,10 +19,10 @@ use Rattle.kex_paths.specs.Nexts.{IsChange, RiseWithin}
 use Rattle.kex_paths.proofs.Copyless.{next_reads, first_reads}
 use Rattle.kex_paths.proofs.Meanings.{labels_and_size}
 use Rattle.kex_determine.specs.Rows.{way_to, DoesOn, IsRowOf, AreRows}
-use Rattle.kex_determine.proofs.Shapes.{size_above}
-use Rattle.kex_determine.proofs.Stepping.{class_met}
-use Rattle.kex_determine.proofs.Adding.{get_within}
-use Rattle.kex_determine.proofs.Filling.{some_at}
+use Rattle.kex_determine.proofs.DifferentShapes.{size_above}
+use Rattle.kex_determine.proofs.Transitions.{class_met}
+use Rattle.kex_determine.proofs.ShapeKeys.{get_within}
+use Rattle.kex_determine.proofs.StateRows.{some_at}
 
 -- ---- numbers that rise
 

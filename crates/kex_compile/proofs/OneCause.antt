@@ -18,8 +18,8 @@ use Rattle.kex_compile.specs.declared.refusal.CompileRefusal.{CompileRefusal}
 use Rattle.kex_compile.specs.declared.refusal.CompileRefusal.TheVariants.{TextTooLong, BadToken, Unexpected, BadRegex, BadCount, BadSet, OverLimit, TwiceDefined, Unknown, NoStart, NotTail, TooManyPlaces, EmptyLoop, NoText, OneStage, TooManyStates, Memory}
 use Rattle.kex_compile.proofs.Terms.{SameName}
 use Rattle.kex_compile.proofs.Alike.{Alike, SameStages}
-use Rattle.kex_compile.proofs.Carrying.{begins_on, none_on, not_tail_on, twice_on, unknown_on}
-use Rattle.kex_compile.proofs.Staging.{Known, one_stage, refused_on, same_count}
+use Rattle.kex_compile.proofs.SameRules.{begins_on, none_on, not_tail_on, twice_on, unknown_on}
+use Rattle.kex_compile.proofs.StagePairs.{Known, one_stage, refused_on, same_count}
 use Rattle.kex_compile.proofs.States.{one_states, states_first_on}
 use Rattle.kex_model.specs.declared.program.Start.{Start}
 

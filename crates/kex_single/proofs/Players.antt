@@ -6,13 +6,13 @@ use Rattle.kex_code.specs.declared.symbol.Symbol.{Symbol}
 use Rattle.kex_code.specs.declared.symbol.Symbol.TheVariants.{L, R, Byte}
 use Rattle.kex_code.specs.Codes.{Begins}
 use Rattle.kex_code.specs.Readers.{HasRead, ReadOn, Reading}
-use Rattle.kex_code.specs.Texts.{BeginsText, IsBegun, IsCode, Spells, text_of}
+use Rattle.kex_code.specs.Texts.{BeginsText, IsBegun, IsCode, text_of}
 use Rattle.kex_code.proofs.Texts.{spells_begins, text_of-append}
-use Rattle.kex_model.specs.Answers.{Answer, stopped, at_byte, at_end, at_limit}
+use Rattle.kex_model.specs.Answers.{Answer, stopped, at_end, at_limit}
 use Rattle.kex_model.proofs.Standing.{shorter_front}
 use Rattle.kex_machine.specs.Nodes.{Graph}
 use Rattle.kex_machine.specs.Answers.{IsRun, left_by}
-use Rattle.kex_action.specs.Actors.{BeginsRun, HasPerformed, IsSettled, IsWhole, Position, StoppedAt, TookAll}
+use Rattle.kex_action.specs.Actors.{BeginsRun, HasPerformed, IsSettled, IsWhole, Position, TookAll}
 use Rattle.kex_pipe.specs.Histories.{Fed, Feeds, IsFateOf, bytes_of, ended_of, text_of as said_of, stop_as}
 use Rattle.kex_pipe.specs.declared.turn.Stop.{Stop}
 use Rattle.kex_pipe.specs.declared.turn.Why.TheVariants.{Byte as AtByte}
@@ -22,7 +22,7 @@ use Rattle.kex_single.specs.PlayedLaws.{front, more}
 use Rattle.kex_single.specs.Playing.{BadAt, IsWholeOf, PlayOpen, Refuses, TakesText}
 use Rattle.kex_single.specs.Singles.{Single}
 use Rattle.kex_single.specs.Standing.{StandsAs, StopsAtByte, end_stop, fate_of}
-use Rattle.kex_single.proofs.Tested.{taken_within}
+use Rattle.kex_single.proofs.Testers.{taken_within}
 
 code_front : (c d : List Symbol) → IsCode (c ++ d) → IsCode c
 code_front [] d h = tt

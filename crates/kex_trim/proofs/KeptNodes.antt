@@ -14,7 +14,7 @@ use Rattle.kex_machine.specs.declared.MNode.TheVariants.{Accept, Read, Choice, F
 use Rattle.kex_trim.specs.Ways.{LeadsBelow}
 use Rattle.kex_machine.specs.Nodes.{Graph, HasLoop, IsBelow, IsInRange, IsTrimmed, UsesRegisters, effect_of, node_moves, move_of}
 use Rattle.kex_trim.specs.Loops.{IsOrder}
-use Rattle.kex_trim.proofs.Searching.{quiet_step, is_quiet}
+use Rattle.kex_trim.proofs.LoopSearch.{quiet_step, is_quiet}
 use Rattle.kex_trim.specs.Ways.{IsAlive}
 use Rattle.kex_trim.specs.Trim.{Keeps, still_accepts, still_reads, still_chooses, only_left, only_right, still_forced, still_goes, IsTrimOf, IsNumbering, IsShrunk, choice_left, renumbered_move}
 

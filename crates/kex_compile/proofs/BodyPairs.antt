@@ -5,7 +5,7 @@ use Rattle.kex_byteset.specs.Sets.{has, HasExactly}
 use Rattle.kex_model.specs.declared.program.Node.{Node}
 use Rattle.kex_regexp.specs.Grammar.{Regex, Last, Or, Branch, Empty, Then, Piece, Once, Turns, Item, Plain, Escaped, Dot, Set, Group, Escape, Newline, Tab, Return, Hex, Punctuation, escape, regex, branch, piece, item, postfix}
 use Rattle.kex_regexp.specs.Shown.{IsClass, ShowsRegex, ShowsBranch, ShowsPiece, ShowsItem}
-use Rattle.kex_compile.proofs.Pairing.{one, class, seq, alt, rep, Together, on_top, alone, beside, within}
+use Rattle.kex_compile.proofs.NodePairs.{one, class, seq, alt, rep, Together, on_top, alone, beside, within}
 
 less_or_not : (a b : ℕ) → (a < b) ⊎ (b ≤ a)
 less_or_not a b = grind arith

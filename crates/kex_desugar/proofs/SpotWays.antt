@@ -16,7 +16,7 @@ use Rattle.kex_desugar.specs.declared.plan.Way.TheVariants.{Both}
 use Rattle.kex_desugar.specs.declared.plan.Plan.{Plan}
 use Rattle.kex_desugar.specs.Plans.{frames, plan_move}
 use Rattle.kex_desugar.specs.Spots.{IsAt, IsReal, IsOnPlace, NodeOf}
-use Rattle.kex_desugar.proofs.Numbers.{on_same, not_empty, at_more, one_at}
+use Rattle.kex_desugar.proofs.PlaceNumbers.{on_same, not_empty, at_more, one_at}
 
 pub if_ok_two : {A E : Type 0} (P Q R : A → Type 0) (r : Result A E) → ((v : A) → P v → Q v → R v) → IfOk r P → IfOk r Q → IfOk r R
 if_ok_two P Q R (Ok v) f h k = f v h k

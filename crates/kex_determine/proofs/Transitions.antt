@@ -22,7 +22,7 @@ use Rattle.kex_determine.specs.Rows.{DoesOn, IsFound, by_byte}
 use Rattle.kex_determine.specs.Numbering.{NextIs, IsMet, IsMetIf, AreNumbered, HasTarget, IsFollowed, AreTransitionsTo, Refuses}
 use Rattle.kex_determine.specs.declared.refusal.DetRefusal.{DetRefusal}
 use Rattle.kex_determine.specs.declared.refusal.DetRefusal.TheVariants.{TooManyStates, Memory}
-use Rattle.kex_determine.proofs.Adding.{get_within}
+use Rattle.kex_determine.proofs.ShapeKeys.{get_within}
 
 -- ---- each class has a byte
 

@@ -22,13 +22,13 @@ use Rattle.kex_machine.specs.Nodes.{Graph, HasLoop, node_moves}
 use Rattle.kex_machine.specs.Answers as nodes
 use Rattle.kex_desugar.specs.Machines.{IsMachineOf}
 use Rattle.kex_trim.specs.Trim.{IsTrimOf}
-use Rattle.kex_trim.proofs.Keeping.{alike_kept}
+use Rattle.kex_trim.proofs.KeptNodes.{alike_kept}
 use Rattle.kex_lowering.specs.Stages.{Carries, SameRun}
 use Rattle.kex_lowering.specs.Shapes.{SameShapes, MachineAnswersAsPlaces, WasPlaceOf}
 use Rattle.kex_lowering.proofs.Pairs.{Through, alike_through, end_back}
 use Rattle.kex_lowering.proofs.Loops.{Numbered, alike, alike_back, loop_of_places}
-use Rattle.kex_lowering.proofs.Shaping.{same_shapes, same_paths}
-use Rattle.kex_lowering.proofs.Answering.{Serves, answers_so}
+use Rattle.kex_lowering.proofs.SameShapes.{same_shapes, same_paths}
+use Rattle.kex_lowering.proofs.SameAnswers.{Serves, answers_so}
 
 -- paired steps do the same
 same_done : {S T : Type 0} (f : S → Move S) (g : T → Move T) (R : S → T → Type 0) (ks : List (Step S)) (js : List (Step T)) (c : List Symbol) (st : State) → Paired f g R ks js → acted ks c st ≡ acted js c st

@@ -15,7 +15,7 @@ use Rattle.kex_model.proofs.Tables.{some_same}
 use Rattle.kex_rules.specs.Rules.{IsDefined, IsTwice, IsCall, Position, in_tail, last_parts, other_parts, Stands, at_root, as_last, as_other, IsWithin, IsUse, IsUnknown, Reaches, itself, by_call, IsNotTail}
 use Rattle.kex_rules.proofs.Tails.{kind_is}
 use Rattle.kex_rules.proofs.Ways.{find_among}
-use Rattle.kex_compile.proofs.Pairing.{Joins, SameKind, one, lit, class, call, seq, alt, rep, mute, at_register, write_register, set_register, add_register}
+use Rattle.kex_compile.proofs.NodePairs.{Joins, SameKind, one, lit, class, call, seq, alt, rep, mute, at_register, write_register, set_register, add_register}
 use Rattle.kex_compile.proofs.Terms.{SameName}
 use Rattle.kex_compile.proofs.Alike.{Alike, SameDefinitions, SameStages, one_name, name_back}
 

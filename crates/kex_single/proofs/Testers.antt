@@ -1,23 +1,22 @@
 -- A tester that takes a piece, or the end.
-use Rattle.std.proofs.Common.{◌≡◌, ℕ, ◌<◌, ◌≤◌, ◌+◌, ◌-◌, Bool, true, false, List, [], ◌∷◌, ◌++◌, Option, Some, None, length, min, take, drop, refl, sym, ap, subst, ◌∙◌, append_assoc, append-nil, arith, length-append, length-take, take-append-drop}
+use Rattle.std.proofs.Common.{◌≡◌, ℕ, ◌<◌, ◌≤◌, ◌+◌, ◌-◌, Bool, true, false, List, [], ◌++◌, Option, Some, None, length, min, take, drop, refl, sym, subst, ◌∙◌, append-nil, arith, length-append, length-take, take-append-drop}
 use Rattle.std.specs.Prelude.{IsTrue, ◌↔◌}
 use Rattle.std.proofs.lemmas.List.{take_all}
 use Rattle.kex_code.specs.Codes.{Begins}
 use Rattle.kex_model.specs.Answers.{Answer, stopped, at_byte, at_limit, bad_byte, still_open}
 use Rattle.kex_model.proofs.Standing as model
-use Rattle.kex_machine.specs.Nodes.{Graph}
 use Rattle.kex_machine.specs.Answers.{Viable, HasParse}
 use Rattle.kex_frontier.specs.Matchers.{Match, IsAnswer, WasFed}
 use Rattle.kex_frontier.specs.declared.matcher.Matched.{Matched}
 use Rattle.kex_frontier.specs.declared.matcher.Matched.TheVariants.{On, Dead}
-use Rattle.kex_pipe.specs.Histories.{Fed, Feeds, IsFateOf, bytes_of, ended_of, text_of, stop_as}
+use Rattle.kex_pipe.specs.Histories.{Fed, Feeds, IsFateOf, bytes_of, text_of, stop_as}
 use Rattle.kex_pipe.specs.declared.turn.Stop.{Stop}
 use Rattle.kex_pipe.specs.declared.turn.Why.TheVariants.{Byte}
 use Rattle.kex_single.specs.Singles.{TestAnswers, SaysNothing, HasParseAlone, Single}
 use Rattle.kex_single.specs.Standing.{TestOpen, StandsAs, StopsAtByte, dead_at, end_stop, fate_of}
 use Rattle.kex_single.specs.TestLaws.{orderly}
 use Rattle.kex_single.specs.Laws as laws
-use Rattle.kex_single.proofs.Stopping.{ends_cut, ends_parsed, front_of}
+use Rattle.kex_single.proofs.PieceAnswers.{ends_cut, ends_parsed, front_of}
 
 -- a front of bytes within the limit, and all of it that is within
 pub taken_within : (limit read front : ℕ) (w piece : List ℕ) → read ≡ length w → read ≤ limit → front ≡ min (limit - read) (length piece) → take limit (w ++ piece) ≡ w ++ take front piece

@@ -11,8 +11,8 @@ use Rattle.kex_model.proofs.Tables.{some_same}
 use Rattle.kex_lowering.specs.Stages.{HasPlaces}
 use Rattle.kex_compile.specs.Stages.{HaveInAll}
 use Rattle.kex_compile.proofs.Alike.{Alike}
-use Rattle.kex_compile.proofs.Placing.{SamePlace, empty, pending, ends, Partners, enter_on, moves_on, step_back, place_on, place_back, place_forth, one_partner, one_partner_back}
-use Rattle.kex_compile.proofs.Staging.{Known, Pairwise, Both}
+use Rattle.kex_compile.proofs.PlacePairs.{SamePlace, empty, pending, ends, Partners, enter_on, moves_on, step_back, place_on, place_back, place_forth, one_partner, one_partner_back}
+use Rattle.kex_compile.proofs.StagePairs.{Known, Pairwise, Both}
 
 rest_back : (S : ℕ → ℕ → Type 0) {g : Frame} {p q : Place} → SamePlace S p (g ∷ q) → (f : Frame) × (p' : Place) × (p ≡ f ∷ p') × SamePlace S p' q
 rest_back S (pending {n = n} {need = need} {left = left} {p = p} h s) = (Pending n need left, p, refl, s)

@@ -11,7 +11,7 @@ use Rattle.kex_lowering.specs.declared.refusal.StageRefusal.TheVariants.{TooMany
 use Rattle.kex_compile.specs.Stages.{IsFirst, IsStageRefused, NoneIs, most_places, roots_of}
 use Rattle.kex_compile.proofs.Terms.{SameName}
 use Rattle.kex_compile.proofs.Alike.{Alike, SameStages, name_back}
-use Rattle.kex_compile.proofs.Placing.{Partners, end_ahead, loop_on, more_on, root_on}
+use Rattle.kex_compile.proofs.PlacePairs.{Partners, end_ahead, loop_on, more_on, root_on}
 
 -- ---- lists in pairs
 

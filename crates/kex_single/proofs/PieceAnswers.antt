@@ -1,5 +1,5 @@
 -- A stage that takes a piece, and answers on it.
-use Rattle.std.proofs.Common.{◌≡◌, ℕ, ◌<◌, ◌≤◌, ◌+◌, ◌-◌, Bool, true, false, List, [], ◌∷◌, ◌++◌, Option, Some, None, length, min, take, drop, refl, sym, ap, ap₂, subst, ◌∙◌, append_assoc, append-nil, arith, length-append, length-take, take-append-drop}
+use Rattle.std.proofs.Common.{◌≡◌, ℕ, ◌<◌, ◌≤◌, ◌+◌, ◌-◌, Bool, true, false, List, [], ◌++◌, Option, Some, None, length, min, take, drop, refl, sym, ap, subst, ◌∙◌, append_assoc, append-nil, arith, length-append, length-take, take-append-drop}
 use Rattle.std.specs.Prelude.{IsSome, IsTrue}
 use Rattle.std.proofs.lemmas.List.{take_all}
 use Rattle.kex_code.specs.Codes.{Begins}
@@ -8,9 +8,7 @@ use Rattle.kex_model.proofs.Standing as model
 use Rattle.kex_machine.specs.Nodes.{Graph}
 use Rattle.kex_machine.specs.Answers.{Viable, HasParse}
 use Rattle.kex_pipe.specs.Histories.{Fed, Feeds, IsFateOf, bytes_of, ended_of, text_of, stop_as}
-use Rattle.kex_pipe.specs.declared.turn.Fate.{Fate}
 use Rattle.kex_pipe.specs.declared.turn.Stop.{Stop}
-use Rattle.kex_pipe.specs.declared.turn.Why.TheVariants.{Byte, End, Limit}
 use Rattle.kex_single.specs.Standing.{StandsAs, GoesOn, StopsAt, good_of, fate_of, end_stop}
 use Rattle.kex_single.specs.Laws as laws
 

@@ -17,8 +17,8 @@ use Rattle.kex_paths.specs.Nexts.{Outline}
 use Rattle.kex_paths.specs.Spellings.{key_of}
 use Rattle.kex_determine.specs.Rows.{IsFound}
 use Rattle.kex_determine.specs.Numbering.{texts, IsAdded, IsMet, AreNumbered, IsWith, HasMoreFound}
-use Rattle.kex_determine.proofs.Passing.{among_get}
-use Rattle.kex_determine.proofs.Shapes.{key_same}
+use Rattle.kex_determine.proofs.MachineTables.{among_get}
+use Rattle.kex_determine.proofs.DifferentShapes.{key_same}
 
 module _ (eq : Vec ℕ → Vec ℕ → Bool) (same : (x y : Vec ℕ) → Decides (eq x y) (x.items ≡ y.items)) where
   there : (ks : List (Vec ℕ)) (k : Vec ℕ) → list_any (eq k) ks ≡ true → IsAmong (texts ks) k.items

@@ -20,9 +20,9 @@ use Rattle.kex_determine.specs.Determined.{targets_of, targets_in, MeetsInOrder,
 use Rattle.kex_determine.specs.Rows.{IsRowOf, AreRows, IsFound, at_first}
 use Rattle.kex_determine.specs.Numbering.{texts, IsMet, AreNumbered, IsWith, IsStateWith, HasMoreFound}
 use Rattle.kex_determine.specs.Filling.{IsFilled}
-use Rattle.kex_determine.proofs.Passing.{shows, all_states, is_table, found_state}
-use Rattle.kex_determine.proofs.Stepping.{meets_append, does_later, get_later}
-use Rattle.kex_determine.proofs.Adding.{get_within}
+use Rattle.kex_determine.proofs.MachineTables.{shows, all_states, is_table, found_state}
+use Rattle.kex_determine.proofs.Transitions.{meets_append, does_later, get_later}
+use Rattle.kex_determine.proofs.ShapeKeys.{get_within}
 
 pub some_at : {A : Type 0} (xs : List A) (i : ℕ) → i < length xs → (s : A) × (slice_get xs i ≡ Some s)
 some_at [] i lt = absurd (omega arith)
