@@ -10,7 +10,7 @@ use Rattle.kex_sst.specs.declared.parts.Part.{Part}
 use Rattle.kex_sst.specs.declared.parts.Part.TheVariants.{Old}
 use Rattle.kex_sst.specs.Parts.{numbered}
 use Rattle.kex_paths.specs.Nexts.{inner_of, places_of}
-use Rattle.kex_determine.specs.Rows.{accepts, way_to}
+use Rattle.kex_determine.specs.Rows.{is_accepting, way_to}
 use Rattle.kex_determine.specs.Ways.{Side, inner_in, places_in, EachSide, AreForks, either, onward, from_sides, from_here, IsOnWay}
 
 head_of : {A : Type 0} (xs : List A) (k : ℕ) (d : A) → k < length xs → drop k xs ≡ get_or xs k d ∷ drop (k + 1) xs
@@ -53,14 +53,14 @@ at_fork m shape (parts l r) sides k lt e inner =
     let b : drop (k + 1) shape ≡ (inner_of l ++ inner_of r) ++ inner_in sides = cc in
     (l, r, refl, b ∙ append_assoc (inner_of l) (inner_of r) (inner_in sides))
 
-ends_there : (m : Move ℕ) → accepts m ≡ true → (p : ℕ) → at_end {A = Part} m p ≡ Some (record { label = []; tree = tip p })
+ends_there : (m : Move ℕ) → is_accepting m ≡ true → (p : ℕ) → at_end {A = Part} m p ≡ Some (record { label = []; tree = tip p })
 ends_there accept e p = refl
 ends_there (read s t) e p = cc
 ends_there (choose l r) e p = cc
 ends_there (forced x t) e p = cc
 ends_there (go f t) e p = cc
 
-ends_not : (m : Move ℕ) → accepts m ≡ false → (p : ℕ) → at_end {A = Part} m p ≡ None
+ends_not : (m : Move ℕ) → is_accepting m ≡ false → (p : ℕ) → at_end {A = Part} m p ≡ None
 ends_not accept e p = cc
 ends_not (read s t) e p = refl
 ends_not (choose l r) e p = refl
@@ -102,22 +102,22 @@ module _ (moves : ℕ → Move ℕ) (m : ℕ) (shape : List Bool) (leaves : List
   leaf_of k leaf way forks lt e o = at_leaf m shape leaves o.here o.sides k leaf lt e o.inner o.places o.below
 
   -- a leaf that accepts
-  pub found : (k leaf : ℕ) (way forks : List ℕ) (o : On k leaf way forks) → AtLeaf m shape leaves o.here o.sides k leaf → accepts (moves (get_or leaves leaf 0)) ≡ true → whole ≡ Some (map (λ i. Old i) way)
+  pub found : (k leaf : ℕ) (way forks : List ℕ) (o : On k leaf way forks) → AtLeaf m shape leaves o.here o.sides k leaf → is_accepting (moves (get_or leaves leaf 0)) ≡ true → whole ≡ Some (map (λ i. Old i) way)
   found k leaf way forks o h acc =
-      let e = ends_there (moves h.spot) (ap (λ p. accepts (moves p)) (sym h.read_there) ∙ acc) h.spot in
+      let e = ends_there (moves h.spot) (ap (λ p. is_accepting (moves p)) (sym h.read_there) ∙ acc) h.spot in
       o.answer
       ∙ ap (λ s. from_here moves k way s o.sides) h.is
       ∙ ap (λ a. either (onward way a) (from_sides moves (k + 1) o.sides)) e
       ∙ ap (λ z. Some z) (append-nil (map (λ i. Old i) way))
 
   -- past a leaf that doesn't
-  past : (k leaf : ℕ) (way forks : List ℕ) (o : On k leaf way forks) → AtLeaf m shape leaves o.here o.sides k leaf → accepts (moves (get_or leaves leaf 0)) ≡ false → whole ≡ from_sides moves (k + 1) o.sides
+  past : (k leaf : ℕ) (way forks : List ℕ) (o : On k leaf way forks) → AtLeaf m shape leaves o.here o.sides k leaf → is_accepting (moves (get_or leaves leaf 0)) ≡ false → whole ≡ from_sides moves (k + 1) o.sides
   past k leaf way forks o h acc =
-      let e = ends_not (moves h.spot) (ap (λ p. accepts (moves p)) (sym h.read_there) ∙ acc) h.spot in
+      let e = ends_not (moves h.spot) (ap (λ p. is_accepting (moves p)) (sym h.read_there) ∙ acc) h.spot in
       o.answer ∙ ap (λ s. from_here moves k way s o.sides) h.is ∙ ap (λ a. either (onward way a) (from_sides moves (k + 1) o.sides)) e
 
   -- no side is left
-  pub none_left : (k leaf : ℕ) (way : List ℕ) (o : On k leaf way []) → AtLeaf m shape leaves o.here o.sides k leaf → accepts (moves (get_or leaves leaf 0)) ≡ false → whole ≡ None
+  pub none_left : (k leaf : ℕ) (way : List ℕ) (o : On k leaf way []) → AtLeaf m shape leaves o.here o.sides k leaf → is_accepting (moves (get_or leaves leaf 0)) ≡ false → whole ≡ None
   none_left k leaf way o h acc = past k leaf way [] o h acc ∙ by o.sides o.forked
     where
       by : (sides : List Side) → AreForks way [] sides → from_sides moves (k + 1) sides ≡ None
@@ -129,7 +129,7 @@ module _ (moves : ℕ → Move ℕ) (m : ℕ) (shape : List Bool) (leaves : List
           no_more (y ∷ ys) e = cc
 
   -- the side of the deepest fork is next
-  pub next_side : (k leaf : ℕ) (way forks more : List ℕ) (count : ℕ) → forks ≡ more ++ count ∷ [] → (o : On k leaf way forks) → AtLeaf m shape leaves o.here o.sides k leaf → accepts (moves (get_or leaves leaf 0)) ≡ false → On (k + 1) (leaf + 1) (take count way ++ k ∷ []) more
+  pub next_side : (k leaf : ℕ) (way forks more : List ℕ) (count : ℕ) → forks ≡ more ++ count ∷ [] → (o : On k leaf way forks) → AtLeaf m shape leaves o.here o.sides k leaf → is_accepting (moves (get_or leaves leaf 0)) ≡ false → On (k + 1) (leaf + 1) (take count way ++ k ∷ []) more
   next_side k leaf way forks more count e o h acc = by o.sides o.forked o.each h.inner h.places (past k leaf way forks o h acc)
     where
       by : (sides : List Side) → AreForks way forks sides → EachSide m sides → drop (k + 1) shape ≡ inner_in sides → drop (leaf + 1) leaves ≡ places_in sides → whole ≡ from_sides moves (k + 1) sides → On (k + 1) (leaf + 1) (take count way ++ k ∷ []) more

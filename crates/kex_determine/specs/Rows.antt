@@ -16,12 +16,12 @@ abbrev pub DoesOn : Graph → List (Shape ℕ) → Shape ℕ → ℕ → Option 
 DoesOn g shapes s b None = IsNext g b s None
 DoesOn g shapes s b (Some r) = (a : Grown Part ℕ) × IsNext g b s (Some a) × IsChange r.update a × (slice_get shapes r.target ≡ Some (shape_of a.tree))
 
-abbrev pub accepts : Move ℕ → Bool
-accepts accept = true
-accepts (read set t) = false
-accepts (choose l r) = false
-accepts (forced x t) = false
-accepts (go e t) = false
+abbrev pub is_accepting : Move ℕ → Bool
+is_accepting accept = true
+is_accepting (read set t) = false
+is_accepting (choose l r) = false
+is_accepting (forced x t) = false
+is_accepting (go e t) = false
 
 -- the way to what is found, if it is
 abbrev pub way_to : Option (Grown Part ℕ) → Option (List Part)

@@ -7,7 +7,7 @@ ghost use Rattle.kex_machine.specs.Advancing.{accepting, EachPlace};
 ghost use Rattle.kex_sst.specs.declared.parts.Part.TheVariants.{Old};
 ghost use Rattle.kex_sst.specs.Parts.{numbered};
 ghost use Rattle.kex_paths.specs.Nexts.{inner_of, places_of};
-ghost use Rattle.kex_determine.specs.Rows.{accepts, way_to};
+ghost use Rattle.kex_determine.specs.Rows.{is_accepting, way_to};
 
 use kex_code::memory::Memory;
 use kex_machine::MNode;
@@ -17,7 +17,7 @@ use std::alloc::Global;
 // Whether a text may end at a node.
 fn is_end(nodes: &[MNode], place: u32) -> bool
     requires { place < length nodes.now }
-    ensures { result ≡ accepts (node_moves nodes.now place) }
+    ensures { result ≡ is_accepting (node_moves nodes.now place) }
 {
     match &nodes[place as usize] {
         MNode::Accept => true,

@@ -8,7 +8,7 @@ use Rattle.kex_model.specs.Programs.{IsCount}
 use Rattle.kex_regexp.specs.Breaks.{is_bad_count}
 use Rattle.kex_regexp.specs.Grammar.{Postfix, Star, Plus, Quest, Exactly, AtLeast, AtMost, Within}
 use Rattle.kex_regexp.specs.Outcomes.{are_bad_turns}
-use Rattle.kex_regexp.specs.Holding.{IsTurns, capped, capped_option}
+use Rattle.kex_regexp.specs.Holding.{IsTurns, capped_count, capped_bound}
 use Rattle.kex_regexp.specs.Shown.{IsNode}
 use Rattle.kex_regexp.specs.Values.{high, low, number}
 
@@ -24,7 +24,7 @@ same_capped n = grind (arith, nat_tests)
 pub most_capped : (m : ℕ) → (nat_lt 1000 0 || nat_lt 1000 (min m 1001) || nat_lt (min m 1001) 0) ≡ nat_lt 1000 m
 most_capped m = grind (arith, nat_tests)
 
-pub capped_bad : (p : Postfix) → are_bad_turns (capped (low p)) (capped_option (high p)) ≡ is_bad_count p
+pub capped_bad : (p : Postfix) → are_bad_turns (capped_count (low p)) (capped_bound (high p)) ≡ is_bad_count p
 unfolding are_bad_turns low high
 capped_bad Star = refl
 capped_bad Plus = refl
@@ -34,8 +34,8 @@ capped_bad (AtLeast n) = above_capped (number n)
 capped_bad (AtMost m) = most_capped (number m)
 capped_bad (Within n m) = below_capped (number n) (number m)
 
-pub bad_turns : (l : ℕ) (h : Option ℕ) (p : Postfix) → l ≡ capped (low p) → h ≡ capped_option (high p) → are_bad_turns l h ≡ is_bad_count p
-bad_turns l h p lo hi = ap (λ (x : ℕ). are_bad_turns x h) lo ∙ ap (are_bad_turns (capped (low p))) hi ∙ capped_bad p
+pub bad_turns : (l : ℕ) (h : Option ℕ) (p : Postfix) → l ≡ capped_count (low p) → h ≡ capped_bound (high p) → are_bad_turns l h ≡ is_bad_count p
+bad_turns l h p lo hi = ap (λ (x : ℕ). are_bad_turns x h) lo ∙ ap (are_bad_turns (capped_count (low p))) hi ∙ capped_bad p
 
 -- ---- a count that is not bad is held as it is
 
@@ -45,7 +45,7 @@ uncapped n e = grind (arith, nat_tests)
 pub uncapped_both : (n m : ℕ) → (nat_lt 1000 n || nat_lt 1000 m || nat_lt m n) ≡ false → (min n 1001 ≡ n) × (min m 1001 ≡ m)
 uncapped_both n m e = grind (arith, nat_tests)
 
-pub uncapped_turns : (p : Postfix) → is_bad_count p ≡ false → (capped (low p) ≡ low p) × (capped_option (high p) ≡ high p)
+pub uncapped_turns : (p : Postfix) → is_bad_count p ≡ false → (capped_count (low p) ≡ low p) × (capped_bound (high p) ≡ high p)
 unfolding low high
 uncapped_turns Star e = (refl, refl)
 uncapped_turns Plus e = (refl, refl)
@@ -61,10 +61,10 @@ pub by_bad : (t : Bool) (A B : Type 0) → (t ≡ true → A) → (t ≡ false �
 by_bad true A B f g = f refl
 by_bad false A B f g = g refl
 
-pub bad_stands_alone : (nodes : List Node) (p : Postfix) (n at l : ℕ) (h : Option ℕ) → are_bad_turns l h ≡ true → l ≡ capped (low p) → h ≡ capped_option (high p) → IsTurns p nodes n n at
+pub bad_stands_alone : (nodes : List Node) (p : Postfix) (n at l : ℕ) (h : Option ℕ) → are_bad_turns l h ≡ true → l ≡ capped_count (low p) → h ≡ capped_bound (high p) → IsTurns p nodes n n at
 bad_stands_alone nodes p n at l h bad lo hi = by_bad (is_bad_count p) _ _ (λ _. refl) (λ e. absurd (cc (bad_turns l h p lo hi)))
 
-pub good_turns : (nodes : List Node) (p : Postfix) (n m at l : ℕ) (h : Option ℕ) → are_bad_turns l h ≡ false → IsNode nodes n (kinds.Rep m l h) at → l ≡ capped (low p) → h ≡ capped_option (high p) → IsTurns p nodes n m at
+pub good_turns : (nodes : List Node) (p : Postfix) (n m at l : ℕ) (h : Option ℕ) → are_bad_turns l h ≡ false → IsNode nodes n (kinds.Rep m l h) at → l ≡ capped_count (low p) → h ≡ capped_bound (high p) → IsTurns p nodes n m at
 good_turns nodes p n m at l h good is lo hi = by_bad (is_bad_count p) _ _ (λ e. absurd (cc (bad_turns l h p lo hi))) (λ e.
     let u = uncapped_turns p e in
     subst (λ (x : ℕ). IsNode nodes n (kinds.Rep m x (high p)) at) (lo ∙ u.0) (subst (λ (x : Option ℕ). IsNode nodes n (kinds.Rep m l x) at) (hi ∙ u.1) is))

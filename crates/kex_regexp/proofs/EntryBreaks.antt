@@ -4,7 +4,7 @@ use Rattle.std.specs.Prelude.{◌==◌}
 use Rattle.std.proofs.lemmas.List.{append-nil}
 use Rattle.std.proofs.lemmas.Bool.{eqb-true}
 use Rattle.kex_regexp.specs.Grammar.{is_plain, Postfix, Star, Plus, Quest, Plain, Escaped, Dot, Set, Regex, Last, Or, Branch, Empty, Then, Once, Turns, Item, Group, branch, piece, item}
-use Rattle.kex_regexp.specs.Breaks.{Break, BadCount, OverLimit, when, regex_breaks, branch_breaks, piece_breaks, item_breaks, is_bad_count}
+use Rattle.kex_regexp.specs.Breaks.{Break, BadCount, OverLimit, break_if, regex_breaks, branch_breaks, piece_breaks, item_breaks, is_bad_count}
 use Rattle.kex_regexp.specs.Machine.{Entry, Mark, Ended, Read, entries, entry, take_pieces, take_branches, take_regex, Begun, EscapeStep, EscapeOn, EscapeRead, EscapeWrong, escape_step, AtStart, SetStep, SetOn, SetRead, SetWrong, set_step, Opened, CountStep, CountOn, CountRead, CountWrong, count_step, Mode, Ready, After, InEscape, InSet, InCount, State, goes, after_group, end_branch, begin_piece, after_item, on_escape, on_set, on_count, step_in}
 use Rattle.kex_regexp.specs.Notes.{marks, entry_breaks, entries_breaks, mode_breaks, state_breaks, nesting_breaks, set_breaks, count_breaks, byte_breaks}
 use Rattle.kex_regexp.proofs.Sound.{by_test}
@@ -53,9 +53,9 @@ group_break base depth es r =
     let at = base + length (entries es) in
     let e : base + length (entries es ++ 40 ∷ []) ≡ at + 1 = omega (arith, length-append (entries es) (40 ∷ [])) in
     let d : depth + suc (marks es) ≡ depth + marks es + 1 = omega arith in
-    append_assoc (entries_breaks base depth es) (when (depth + marks es == 200) (OverLimit at)) (regex_breaks r (base + length (entries es ++ 40 ∷ [])) (depth + suc (marks es)))
-    ∙ ap (λ (n : ℕ). entries_breaks base depth es ++ (when (depth + marks es == 200) (OverLimit at) ++ regex_breaks r n (depth + suc (marks es)))) e
-    ∙ ap (λ (n : ℕ). entries_breaks base depth es ++ (when (depth + marks es == 200) (OverLimit at) ++ regex_breaks r (at + 1) n)) d
+    append_assoc (entries_breaks base depth es) (break_if (depth + marks es == 200) (OverLimit at)) (regex_breaks r (base + length (entries es ++ 40 ∷ [])) (depth + suc (marks es)))
+    ∙ ap (λ (n : ℕ). entries_breaks base depth es ++ (break_if (depth + marks es == 200) (OverLimit at) ++ regex_breaks r n (depth + suc (marks es)))) e
+    ∙ ap (λ (n : ℕ). entries_breaks base depth es ++ (break_if (depth + marks es == 200) (OverLimit at) ++ regex_breaks r (at + 1) n)) d
 
 -- ---- one byte more
 
@@ -86,7 +86,7 @@ module _ (base depth : ℕ) where
   unfolding nesting_breaks is_plain
   plain_opens at d b h = cond_no (b == 40) _ _ (apart is_plain b 40 h refl)
 
-  pub mark_opens : (at d b : ℕ) → (b == 40) ≡ true → nesting_breaks at d b ≡ when (d == 200) (OverLimit at)
+  pub mark_opens : (at d b : ℕ) → (b == 40) ≡ true → nesting_breaks at d b ≡ break_if (d == 200) (OverLimit at)
   unfolding nesting_breaks
   mark_opens at d b e = cond_yes (b == 40) _ _ e
 
@@ -124,13 +124,13 @@ module _ (base depth : ℕ) where
       by_test P (b == 124) _ _ (λ e. bar_breaks (take_pieces es Empty) _ (same _ E at d b 124 e refl (pieces_alone es))) (λ _.
       by_test P (b == 41) _ _ (λ e. close_breaks (take_regex es).0 (take_regex es).1 _ (same _ E at d b 41 e refl (regex_break base depth es))) (λ _. tt)))))))
 
-  pub turns_break : (i : Item) (p : Postfix) (es : List Entry) (w : List Break) → entries_breaks base depth es ++ (item_breaks i (place es) (level es) ++ when (is_bad_count p) (BadCount (place es + length (item i)))) ≡ w → BreaksGo w (goes Ready (Read (Turns i p) ∷ es))
+  pub turns_break : (i : Item) (p : Postfix) (es : List Entry) (w : List Break) → entries_breaks base depth es ++ (item_breaks i (place es) (level es) ++ break_if (is_bad_count p) (BadCount (place es + length (item i)))) ≡ w → BreaksGo w (goes Ready (Read (Turns i p) ∷ es))
   unfolding mode_breaks entries_breaks entry_breaks piece_breaks place level
   turns_break i p es w e = goes_on Ready (Read (Turns i p) ∷ es) w (append-nil _ ∙ e)
 
   pub sign_breaks : (i : Item) (p : Postfix) (n : ℕ) (es : List Entry) (b at d : ℕ) → is_bad_count p ≡ false → (b == n) ≡ true → (n == 40) ≡ false → BreaksGo ((entries_breaks base depth es ++ item_breaks i (place es) (level es)) ++ nesting_breaks at d b) (goes Ready (Read (Turns i p) ∷ es))
   sign_breaks i p n es b at d good e k =
-      turns_break i p es _ (same _ _ at d b n e k (ap (λ (x : Bool). entries_breaks base depth es ++ (item_breaks i (place es) (level es) ++ when x (BadCount (place es + length (item i))))) good ∙ ap (λ (w : List Break). entries_breaks base depth es ++ w) (append-nil (item_breaks i (place es) (level es)))))
+      turns_break i p es _ (same _ _ at d b n e k (ap (λ (x : Bool). entries_breaks base depth es ++ (item_breaks i (place es) (level es) ++ break_if x (BadCount (place es + length (item i))))) good ∙ ap (λ (w : List Break). entries_breaks base depth es ++ w) (append-nil (item_breaks i (place es) (level es)))))
 
   pub once_breaks : (i : Item) (es : List Entry) (b : ℕ) → BreaksGo ((entries_breaks base depth es ++ item_breaks i (place es) (level es)) ++ nesting_breaks (place es + length (item i)) (level es) b) (begin_piece (Read (Once i) ∷ es) b)
   unfolding place level entries entry entries_breaks entry_breaks piece_breaks piece marks

@@ -3,7 +3,7 @@ use Rattle.std.proofs.Common.{◌≡◌, ℕ, ◌+◌, Bool, true, false, List, 
 use Rattle.std.specs.Prelude.{MatchBool, ◌==◌}
 use Rattle.kex_model.specs.declared.program.Node.{Node}
 use Rattle.kex_regexp.specs.Grammar.{Regex, Last, Or, Branch, Empty, Then, Piece, Once, Turns, Item, Plain, Escaped, Dot, Set, Group, branch, piece, item}
-use Rattle.kex_regexp.specs.Breaks.{Break, BadCount, OverLimit, when, is_bad_count, regex_breaks, branch_breaks, piece_breaks, item_breaks}
+use Rattle.kex_regexp.specs.Breaks.{Break, BadCount, OverLimit, break_if, is_bad_count, regex_breaks, branch_breaks, piece_breaks, item_breaks}
 use Rattle.kex_regexp.specs.Shown.{ShowsRegex, ShowsBranch, ShowsPiece, ShowsItem}
 use Rattle.kex_regexp.specs.Holding.{HoldsRegex, HoldsBranch, HoldsPiece, HoldsItem}
 
@@ -15,7 +15,7 @@ pub right_none : {A : Type 0} (a b : List A) → a ++ b ≡ [] → b ≡ []
 right_none [] b e = e
 right_none (x ∷ a) b e = absurd cc
 
-pub unless_bad : (t : Bool) (b : Break) (A B : Type 0) → when t b ≡ [] → MatchBool t A B → B
+pub unless_bad : (t : Bool) (b : Break) (A B : Type 0) → break_if t b ≡ [] → MatchBool t A B → B
 unless_bad true b A B e h = absurd cc
 unless_bad false b A B e h = h
 
@@ -37,11 +37,11 @@ mutual
   exact_piece (Once i) nodes n at depth h e = exact_item i nodes n at depth h e
   exact_piece (Turns i p) nodes n at depth h e =
       let brace = BadCount (at + length (item i)) in
-      (h.0, unless_bad (is_bad_count p) brace _ _ (right_none (item_breaks i at depth) (when (is_bad_count p) brace) e) h.1, exact_item i nodes h.0 at depth h.2 (left_none (item_breaks i at depth) (when (is_bad_count p) brace) e))
+      (h.0, unless_bad (is_bad_count p) brace _ _ (right_none (item_breaks i at depth) (break_if (is_bad_count p) brace) e) h.1, exact_item i nodes h.0 at depth h.2 (left_none (item_breaks i at depth) (break_if (is_bad_count p) brace) e))
 
   pub exact_item : (i : Item) (nodes : List Node) (n at depth : ℕ) → HoldsItem i nodes n at → item_breaks i at depth ≡ [] → ShowsItem i nodes n at
   exact_item (Plain b) nodes n at depth h e = h
   exact_item (Escaped x) nodes n at depth h e = h
   exact_item Dot nodes n at depth h e = h
   exact_item (Set negated ms) nodes n at depth h e = h
-  exact_item (Group r) nodes n at depth h e = exact_regex r nodes n (at + 1) (depth + 1) h (right_none (when (depth == 200) (OverLimit at)) (regex_breaks r (at + 1) (depth + 1)) e)
+  exact_item (Group r) nodes n at depth h e = exact_regex r nodes n (at + 1) (depth + 1) h (right_none (break_if (depth == 200) (OverLimit at)) (regex_breaks r (at + 1) (depth + 1)) e)

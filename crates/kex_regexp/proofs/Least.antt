@@ -5,7 +5,7 @@ use Rattle.std.proofs.lemmas.Bool.Decides.{nat_tests}
 use Rattle.kex_code.specs.Codes.{IsAmong}
 use Rattle.kex_model.proofs.Shapes.{among-append}
 use Rattle.kex_regexp.specs.Grammar.{Regex, Last, Or, Branch, Empty, Then, Piece, Once, Turns, Item, Plain, Escaped, Dot, Set, Group, branch, piece, item}
-use Rattle.kex_regexp.specs.Breaks.{Break, BadRegex, BadCount, BadSet, OverLimit, IsLeast, comes_before, is_bad_count, is_bad_set, offset, rank, when, regex_breaks, branch_breaks, piece_breaks, item_breaks}
+use Rattle.kex_regexp.specs.Breaks.{Break, BadRegex, BadCount, BadSet, OverLimit, IsLeast, comes_before, is_bad_count, is_bad_set, offset, rank, break_if, regex_breaks, branch_breaks, piece_breaks, item_breaks}
 use Rattle.kex_regexp.specs.Notes.{least_from}
 
 -- ---- an order of pairs of numbers
@@ -94,9 +94,9 @@ AreRules bs = (b : Break) → IsAmong bs b → IsRule b
 pub rules-append : (xs ys : List Break) → AreRules xs → AreRules ys → AreRules (xs ++ ys)
 rules-append xs ys f g b i = elim (among-append xs ys b i) [ inl l ↦ f b l | inr r ↦ g b r ]
 
-pub rules_when : (t : Bool) (b : Break) → IsRule b → AreRules (when t b)
-rules_when true b h c i = elim i [ inl e ↦ subst IsRule e h | inr n ↦ absurd n ]
-rules_when false b h c i = absurd i
+pub rules_break_if : (t : Bool) (b : Break) → IsRule b → AreRules (break_if t b)
+rules_break_if true b h c i = elim i [ inl e ↦ subst IsRule e h | inr n ↦ absurd n ]
+rules_break_if false b h c i = absurd i
 
 mutual
   unfolding IsRule regex_breaks branch_breaks piece_breaks item_breaks
@@ -111,11 +111,11 @@ mutual
 
   pub piece_rules : (p : Piece) (at depth : ℕ) → AreRules (piece_breaks p at depth)
   piece_rules (Once i) at depth = item_rules i at depth
-  piece_rules (Turns i p) at depth = rules-append (item_breaks i at depth) (when (is_bad_count p) (BadCount (at + length (item i)))) (item_rules i at depth) (rules_when (is_bad_count p) (BadCount (at + length (item i))) tt)
+  piece_rules (Turns i p) at depth = rules-append (item_breaks i at depth) (break_if (is_bad_count p) (BadCount (at + length (item i)))) (item_rules i at depth) (rules_break_if (is_bad_count p) (BadCount (at + length (item i))) tt)
 
   pub item_rules : (i : Item) (at depth : ℕ) → AreRules (item_breaks i at depth)
   item_rules (Plain b) at depth = λ c i. absurd i
   item_rules (Escaped e) at depth = λ c i. absurd i
   item_rules Dot at depth = λ c i. absurd i
-  item_rules (Set negated ms) at depth = rules_when (is_bad_set negated ms) (BadSet at) tt
-  item_rules (Group r) at depth = rules-append (when (depth == 200) (OverLimit at)) (regex_breaks r (at + 1) (depth + 1)) (rules_when (depth == 200) (OverLimit at) tt) (regex_rules r (at + 1) (depth + 1))
+  item_rules (Set negated ms) at depth = rules_break_if (is_bad_set negated ms) (BadSet at) tt
+  item_rules (Group r) at depth = rules-append (break_if (depth == 200) (OverLimit at)) (regex_breaks r (at + 1) (depth + 1)) (rules_break_if (depth == 200) (OverLimit at) tt) (regex_rules r (at + 1) (depth + 1))

@@ -17,7 +17,7 @@ use Rattle.kex_regexp.specs.declared.sets.Span.{Span}
 use Rattle.kex_regexp.specs.declared.wait.Wait.{Wait}
 use Rattle.kex_regexp.specs.declared.wait.Wait.TheVariants as waits
 use Rattle.kex_regexp.specs.Grammar.{is_end, is_plain, Regex, Item, Once, End, Itself, EscapedEnd, Member, Single, Range}
-use Rattle.kex_regexp.specs.Values.{any_below, end_byte, flipped, has_backward, in_member, in_members, in_set, is_backward}
+use Rattle.kex_regexp.specs.Values.{any_below, end_byte, membership, has_backward, in_member, in_members, in_set, is_backward}
 use Rattle.kex_regexp.specs.Breaks.{is_bad_set}
 use Rattle.kex_regexp.specs.Machine.{ended_members, last_members, begin_member, between_step, in_first, in_last, set_step, escape_step, on_escape, on_set, on_count, count_step, begin_piece, after_item, end_branch, after_group, take_regex, step_in, Entry, Mark, Ended, Read, EscapeStep, EscapeOn, EscapeRead, EscapeWrong, CountStep, CountOn, CountRead, CountWrong, SetStep, SetOn, SetRead, SetWrong, Escaping, Part, AtStart, Between, HasEnd, HasDash, InFirst, InLast, Mode, Ready, After, InEscape, InSet, InCount}
 use Rattle.kex_regexp.specs.Holding.{HasMembers, IsSetAfter, IsSetIn, ShowsEscape, ShowsMode, ShowsPart}
@@ -290,12 +290,12 @@ same_below (suc n) f g le h = ap (λ (t : Bool). t || f n) (same_below n f g (om
 pub bad_set : (set : SetSoFar) (negated : Bool) (ms : List Member) → HasMembers set ms → is_bad_set_so_far set negated ≡ is_bad_set negated ms
 unfolding is_bad_set_so_far in_set
 bad_set set negated ms h =
-    ap (λ (t : Bool). t || not (any_below 256 (λ b. flipped negated (has set.bytes b)))) h.backward
-    ∙ ap (λ (t : Bool). has_backward ms || not t) (same_below 256 (λ b. flipped negated (has set.bytes b)) (in_set negated ms) (omega arith) (λ b below. ap (flipped negated) (h.bytes.bytes b below)))
+    ap (λ (t : Bool). t || not (any_below 256 (λ b. membership negated (has set.bytes b)))) h.backward
+    ∙ ap (λ (t : Bool). has_backward ms || not t) (same_below 256 (λ b. membership negated (has set.bytes b)) (in_set negated ms) (omega arith) (λ b below. ap (membership negated) (h.bytes.bytes b below)))
 
-pub clear_bad : (set : SetSoFar) (negated t : Bool) → set.backward ≡ false → t ≡ any_below 256 (λ b. flipped negated (has set.bytes b)) → not t ≡ is_bad_set_so_far set negated
+pub clear_bad : (set : SetSoFar) (negated t : Bool) → set.backward ≡ false → t ≡ any_below 256 (λ b. membership negated (has set.bytes b)) → not t ≡ is_bad_set_so_far set negated
 unfolding is_bad_set_so_far
-clear_bad set negated t back e = ap not e ∙ ap (λ (x : Bool). x || not (any_below 256 (λ b. flipped negated (has set.bytes b)))) (sym back)
+clear_bad set negated t back e = ap not e ∙ ap (λ (x : Bool). x || not (any_below 256 (λ b. membership negated (has set.bytes b)))) (sym back)
 
 -- ---- a byte within a set, by what it ends
 

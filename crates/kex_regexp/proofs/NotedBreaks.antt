@@ -11,7 +11,7 @@ use Rattle.kex_regexp.specs.declared.sets.SetSoFar.{SetSoFar}
 use Rattle.kex_regexp.specs.declared.wait.Wait.{Wait}
 use Rattle.kex_regexp.specs.declared.wait.Wait.TheVariants as waits
 use Rattle.kex_regexp.specs.Grammar.{is_plain, is_digit, is_end, Postfix, Star, Plus, Quest, Exactly, AtLeast, AtMost, Within, End, Member, Item, Plain, Escaped, Dot, Set, Group, Regex, Last, Or, Branch, Empty, Then, Piece, Once, Turns, item}
-use Rattle.kex_regexp.specs.Breaks.{Break, BadCount, BadSet, OverLimit, when, is_bad_count, is_bad_set, regex_breaks, piece_breaks}
+use Rattle.kex_regexp.specs.Breaks.{Break, BadCount, BadSet, OverLimit, break_if, is_bad_count, is_bad_set, regex_breaks, piece_breaks}
 use Rattle.kex_regexp.specs.Machine.{Part, Escaping, Begun, EscapeStep, EscapeOn, EscapeRead, EscapeWrong, escape_step, AtStart, Between, HasEnd, HasDash, InFirst, InLast, Counting, Opened, Low, LowComma, LowHigh, OnlyComma, High, CountStep, CountOn, CountRead, CountWrong, count_step, SetStep, SetOn, SetRead, SetWrong, set_step, Entry, Mark, Ended, Read, Mode, Ready, After, InEscape, InSet, InCount, State, entries, entry, bytes_read, take_pieces, take_branches, take_regex, goes, after_group, end_branch, begin_piece, after_item, on_escape, on_set, on_count, step_in, step, whole_regex, finish, finish_in}
 use Rattle.kex_regexp.specs.Holding.{HasMembers, IsSetIn, ShowsCountStep, ShowsMode, ShowsState}
 use Rattle.kex_regexp.specs.Outcomes.{are_bad_turns, count_outcome}
@@ -28,16 +28,16 @@ abbrev pub listed : Option Break → List Break
 listed None = []
 listed (Some b) = b ∷ []
 
-pub listed_when : (t : Bool) (b : Break) → listed (cond t (Some b) None) ≡ when t b
-listed_when true b = refl
-listed_when false b = refl
+pub listed_break_if : (t : Bool) (b : Break) → listed (cond t (Some b) None) ≡ break_if t b
+listed_break_if true b = refl
+listed_break_if false b = refl
 
 -- ---- counts
 
 pub count_notes : (at : ℕ) (o : CountOutcome) (t : CountStep) → ShowsCountStep o t → listed (count_break o at) ≡ count_breaks at t
 unfolding ShowsCountStep count_break count_breaks
 count_notes at (outcomes.On c) (CountOn d) s = refl
-count_notes at (outcomes.Read l h) (CountRead p) s = listed_when (are_bad_turns l h) (BadCount at) ∙ ap (λ (t : Bool). when t (BadCount at)) (bad_turns l h p s.0 s.1)
+count_notes at (outcomes.Read l h) (CountRead p) s = listed_break_if (are_bad_turns l h) (BadCount at) ∙ ap (λ (t : Bool). break_if t (BadCount at)) (bad_turns l h p s.0 s.1)
 count_notes at outcomes.Wrong CountWrong s = refl
 count_notes at _ _ s = absurd s
 
@@ -69,18 +69,18 @@ set_notes nodes here at next set k es (SetRead n ms) s e neg sh i =
     let m : s.mode ≡ After (Set n ms) = cc in
     let has : HasMembers set ms = subst (IsSetIn set) m i in
     ap (λ (x : Bool). listed (cond (x && is_bad_set_so_far set k) (Some (BadSet at)) None)) (waits_behind nodes here next (Set n ms) (subst (ShowsMode nodes here next) m sh))
-    ∙ listed_when (is_bad_set_so_far set k) (BadSet at) ∙ ap (λ (x : Bool). when x (BadSet at)) (bad_set set k ms has) ∙ ap (λ (x : Bool). when (is_bad_set x ms) (BadSet at)) (sym neg)
+    ∙ listed_break_if (is_bad_set_so_far set k) (BadSet at) ∙ ap (λ (x : Bool). break_if x (BadSet at)) (bad_set set k ms has) ∙ ap (λ (x : Bool). break_if (is_bad_set x ms) (BadSet at)) (sym neg)
 set_notes nodes here at next set k es SetWrong s e neg sh i = absurd cc
 
 -- ---- parentheses
 
-pub when_and : (t u : Bool) (b : Break) → when (t && u) b ≡ cond t (when u b) []
-when_and true u b = refl
-when_and false u b = refl
+pub break_if_and : (t u : Bool) (b : Break) → break_if (t && u) b ≡ cond t (break_if u b) []
+break_if_and true u b = refl
+break_if_and false u b = refl
 
 pub open_notes : (at d b : ℕ) → listed (nesting_break d at b) ≡ nesting_breaks at d b
 unfolding nesting_break nesting_breaks
-open_notes at d b = listed_when ((b == 40) && (d == 200)) (OverLimit at) ∙ when_and (b == 40) (d == 200) (OverLimit at)
+open_notes at d b = listed_break_if ((b == 40) && (d == 200)) (OverLimit at) ∙ break_if_and (b == 40) (d == 200) (OverLimit at)
 
 -- ---- whatever is waited for
 

@@ -11,7 +11,7 @@ use Rattle.kex_regexp.specs.declared.counts.Count.TheVariants as counts
 use Rattle.kex_regexp.specs.Grammar.{is_digit, is_end, is_hex, is_punctuation, End, Itself, EscapedEnd, Member, Single, Range}
 use Rattle.kex_regexp.specs.Values.{escaped_byte, end_byte, number, number_from, low, high}
 use Rattle.kex_regexp.specs.Machine.{Escaping, Begun, HexBegun, HexOne, EscapeStep, EscapeOn, EscapeRead, EscapeWrong, escape_step, Part, AtStart, Between, HasEnd, HasDash, InFirst, InLast, begin_member, between_step, in_first, in_last, set_step, Counting, Opened, Low, LowComma, LowHigh, OnlyComma, High, count_step}
-use Rattle.kex_regexp.specs.Holding.{is_empty, capped, ShowsEscape, ShowsPart, ShowsSet, ShowsCount, ShowsCountStep}
+use Rattle.kex_regexp.specs.Holding.{is_empty, capped_count, ShowsEscape, ShowsPart, ShowsSet, ShowsCount, ShowsCountStep}
 use Rattle.kex_regexp.specs.Outcomes.{escape_outcome, begin_outcome, between_outcome, first_outcome, last_outcome, set_outcome, capped_number, count_outcome}
 
 pub by_both : {A B : Type 0} (R : A → B → Type 0) (b : Bool) (x y : A) (u v : B) → R x u → R y v → R (cond b x y) (cond b u v)
@@ -87,11 +87,11 @@ number_from-more v (e ∷ ds) d = number_from-more (10 * v + (e - 48)) ds d
 pub held_arith : (v x y d : ℕ) → v ≡ min x 1001 → y ≡ 10 * x + d → min (10 * min v 1001 + d) 1001 ≡ min y 1001
 held_arith v x y d e f = omega arith
 
-pub held_more : (v : ℕ) (ds : List ℕ) (d : ℕ) → v ≡ capped (number ds) → capped_number v d ≡ capped (number (ds ++ d ∷ []))
+pub held_more : (v : ℕ) (ds : List ℕ) (d : ℕ) → v ≡ capped_count (number ds) → capped_number v d ≡ capped_count (number (ds ++ d ∷ []))
 unfolding capped_number number
 held_more v ds d e = held_arith v (number_from 0 ds) (number_from 0 (ds ++ d ∷ [])) (d - 48) e (number_from-more 0 ds d)
 
-pub held_first_digit : (d : ℕ) → capped_number 0 d ≡ capped (number (d ∷ []))
+pub held_first_digit : (d : ℕ) → capped_number 0 d ≡ capped_count (number (d ∷ []))
 unfolding number number_from
 held_first_digit d = held_more 0 [] d refl
 

@@ -23,10 +23,10 @@ use Rattle.kex_regexp.specs.declared.counts.CountOutcome.TheVariants as outcomes
 use Rattle.kex_regexp.specs.declared.wait.StepFault.{StepFault}
 use Rattle.kex_regexp.specs.declared.wait.StepFault.TheVariants as faults
 use Rattle.kex_regexp.specs.Grammar.{is_plain, Member, Postfix, Star, Plus, Quest, Regex, Branch, Empty, Once, Turns, Item, Plain, Escape, Escaped, Dot, Set, Group, piece, item}
-use Rattle.kex_regexp.specs.Values.{escaped_byte, flipped, high, in_set, low}
+use Rattle.kex_regexp.specs.Values.{escaped_byte, membership, high, in_set, low}
 use Rattle.kex_regexp.specs.Shown.{IsNode, Adds}
 use Rattle.kex_regexp.specs.Machine.{Part, Escaping, Begun, EscapeStep, EscapeOn, EscapeRead, EscapeWrong, SetStep, SetOn, SetRead, SetWrong, AtStart, Counting, Opened, CountStep, CountOn, CountRead, CountWrong, Entry, Mark, Ended, Read, Mode, Ready, After, InEscape, InSet, InCount, State, entries, entry, take_pieces, take_regex, goes, after_group, end_branch, begin_piece, after_item, on_escape, on_set, on_count, step_in, step, bytes_read, mode, escape_step, set_step, count_step}
-use Rattle.kex_regexp.specs.Holding.{HasMembers, IsSetAfter, IsSetIn, IsTurns, HoldsRegex, HoldsPiece, HoldsItem, ConstructsShow, BranchOn, RegexOn, Steps, ShowsMode, ShowsEscape, ShowsPart, ShowsSet, ShowsCount, ShowsCountStep, is_empty, capped, capped_option}
+use Rattle.kex_regexp.specs.Holding.{HasMembers, IsSetAfter, IsSetIn, IsTurns, HoldsRegex, HoldsPiece, HoldsItem, ConstructsShow, BranchOn, RegexOn, Steps, ShowsMode, ShowsEscape, ShowsPart, ShowsSet, ShowsCount, ShowsCountStep, is_empty, capped_count, capped_bound}
 use Rattle.kex_regexp.proofs.Complete.{cond_no}
 use Rattle.kex_regexp.proofs.Stacks.{HoldsItem-more, ConstructsShow-more, reverse_push}
 
@@ -126,9 +126,9 @@ pub dot_item : (more : List Node) (s t : List Bool) (at n : ℕ) → HasExactly 
 unfolding HoldsItem
 dot_item more s t at n x y h = (t, in_words t (λ b. not (has s b)) (λ b. true) y (λ b below. ap not (x.bytes b below)), h)
 
-pub set_item : (more : List Node) (set : SetSoFar) (s : List Bool) (negated : Bool) (ms : List Member) (at n : ℕ) → HasMembers set ms → HasExactly s (λ b. flipped negated (has set.bytes b)) → IsNode more n (kinds.Class s) at → HoldsItem (Set negated ms) more n at
+pub set_item : (more : List Node) (set : SetSoFar) (s : List Bool) (negated : Bool) (ms : List Member) (at n : ℕ) → HasMembers set ms → HasExactly s (λ b. membership negated (has set.bytes b)) → IsNode more n (kinds.Class s) at → HoldsItem (Set negated ms) more n at
 unfolding HoldsItem in_set
-set_item more set s negated ms at n m x h = (s, in_words s (λ b. flipped negated (has set.bytes b)) (in_set negated ms) x (λ b below. ap (flipped negated) (m.bytes.bytes b below)), h)
+set_item more set s negated ms at n m x h = (s, in_words s (λ b. membership negated (has set.bytes b)) (in_set negated ms) x (λ b below. ap (membership negated) (m.bytes.bytes b below)), h)
 
 -- ---- escapes, sets, counts
 
@@ -156,10 +156,10 @@ set_on_steps nodes base fs es n e p from (SetOn m ms q) h a s = record { below =
 set_on_steps nodes base fs es n e p from (SetRead m ms) h a s = absurd s
 set_on_steps nodes base fs es n e p from SetWrong h a s = absurd s
 
-pub set_read_steps : (nodes more : List Node) (base : ℕ) (fs : List Construct) (es : List Entry) (set : SetSoFar) (s : List Bool) (m : Bool) (at : ℕ) (t : SetStep) (r : Result Wait StepFault) → Adds nodes more → ConstructsShow nodes base (reverse fs) es → at ≡ base + length (entries es) → ShowsSet (sets.Read m) t → IsSetAfter set (on_set es t) → HasExactly s (λ b. flipped m (has set.bytes b)) → IfOk r (λ w. (n : ℕ) × (w ≡ waits.After (record { node = n; at = at })) × IsNode more n (kinds.Class s) at) → IfErr r (λ e. e ≡ faults.Memory) → Steps more base fs r (on_set es t)
+pub set_read_steps : (nodes more : List Node) (base : ℕ) (fs : List Construct) (es : List Entry) (set : SetSoFar) (s : List Bool) (m : Bool) (at : ℕ) (t : SetStep) (r : Result Wait StepFault) → Adds nodes more → ConstructsShow nodes base (reverse fs) es → at ≡ base + length (entries es) → ShowsSet (sets.Read m) t → IsSetAfter set (on_set es t) → HasExactly s (λ b. membership m (has set.bytes b)) → IfOk r (λ w. (n : ℕ) × (w ≡ waits.After (record { node = n; at = at })) × IsNode more n (kinds.Class s) at) → IfErr r (λ e. e ≡ faults.Memory) → Steps more base fs r (on_set es t)
 unfolding on_set ShowsSet IsSetIn
 set_read_steps nodes more base fs es set s m at (SetOn n ms q) r k h a e i x ok err = absurd e
-set_read_steps nodes more base fs es set s m at (SetRead n ms) r k h a e i x ok err = leaf_steps nodes more base fs es (Set n ms) s at r k h a ok err (λ j y. set_item more set s n ms at j i (subst (λ (z : Bool). HasExactly s (λ b. flipped z (has set.bytes b))) e x) y)
+set_read_steps nodes more base fs es set s m at (SetRead n ms) r k h a e i x ok err = leaf_steps nodes more base fs es (Set n ms) s at r k h a ok err (λ j y. set_item more set s n ms at j i (subst (λ (z : Bool). HasExactly s (λ b. membership z (has set.bytes b))) e x) y)
 set_read_steps nodes more base fs es set s m at SetWrong r k h a e i x ok err = absurd e
 
 pub set_wrong_steps : (nodes : List Node) (base : ℕ) (fs : List Construct) (es : List Entry) (t : SetStep) → ShowsSet sets.Wrong t → Steps nodes base fs (Err faults.Wrong) (on_set es t)
@@ -174,7 +174,7 @@ count_on_steps nodes base fs es i part c brace (CountOn d) h a q x s = record { 
 count_on_steps nodes base fs es i part c brace (CountRead p) h a q x s = absurd s
 count_on_steps nodes base fs es i part c brace CountWrong h a q x s = absurd s
 
-pub count_read_steps : (more : List Node) (base : ℕ) (gs : List Construct) (es : List Entry) (i : Item) (l : ℕ) (h : Option ℕ) (t : CountStep) (r : Result Wait StepFault) → ShowsCountStep (outcomes.Read l h) t → ((p : Postfix) → l ≡ capped (low p) → h ≡ capped_option (high p) → Steps more base gs r (goes Ready (Read (Turns i p) ∷ es))) → Steps more base gs r (on_count i es t)
+pub count_read_steps : (more : List Node) (base : ℕ) (gs : List Construct) (es : List Entry) (i : Item) (l : ℕ) (h : Option ℕ) (t : CountStep) (r : Result Wait StepFault) → ShowsCountStep (outcomes.Read l h) t → ((p : Postfix) → l ≡ capped_count (low p) → h ≡ capped_bound (high p) → Steps more base gs r (goes Ready (Read (Turns i p) ∷ es))) → Steps more base gs r (on_count i es t)
 unfolding on_count ShowsCountStep
 count_read_steps more base gs es i l h (CountOn d) r s f = absurd s
 count_read_steps more base gs es i l h (CountRead p) r s f = f p s.0 s.1
@@ -249,27 +249,27 @@ pub behind_other : (i : Item) (es : List Entry) (b : ℕ) → (b ≡ 42 → ⊥)
 unfolding after_item
 behind_other i es b n1 n2 n3 n4 = cond_no (b == 42) _ _ (ne_eqb b 42 n1) ∙ cond_no (b == 43) _ _ (ne_eqb b 43 n2) ∙ cond_no (b == 63) _ _ (ne_eqb b 63 n3) ∙ cond_no (b == 123) _ _ (ne_eqb b 123 n4)
 
-pub star_low : 0 ≡ capped (low Star)
+pub star_low : 0 ≡ capped_count (low Star)
 unfolding low
 star_low = refl
 
-pub star_high : None ≡ capped_option (high Star)
+pub star_high : None ≡ capped_bound (high Star)
 unfolding high
 star_high = refl
 
-pub plus_low : 1 ≡ capped (low Plus)
+pub plus_low : 1 ≡ capped_count (low Plus)
 unfolding low
 plus_low = refl
 
-pub plus_high : None ≡ capped_option (high Plus)
+pub plus_high : None ≡ capped_bound (high Plus)
 unfolding high
 plus_high = refl
 
-pub quest_low : 0 ≡ capped (low Quest)
+pub quest_low : 0 ≡ capped_count (low Quest)
 unfolding low
 quest_low = refl
 
-pub quest_high : Some 1 ≡ capped_option (high Quest)
+pub quest_high : Some 1 ≡ capped_bound (high Quest)
 unfolding high
 quest_high = refl
 

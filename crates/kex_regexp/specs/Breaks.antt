@@ -20,9 +20,9 @@ is_bad_count (Within n m) = nat_lt 1000 (number n) || nat_lt 1000 (number m) || 
 abbrev pub is_bad_set : Bool → List Member → Bool
 is_bad_set negated ms = has_backward ms || not (any_below 256 (in_set negated ms))
 
-abbrev pub when : Bool → Break → List Break
-when true b = b ∷ []
-when false b = []
+abbrev pub break_if : Bool → Break → List Break
+break_if true b = b ∷ []
+break_if false b = []
 
 -- a body at an offset, with so many marks open round it: a bad count stands at its brace, a bad set at its bracket, and
 -- a group that is nested too deep at its parenthesis
@@ -37,14 +37,14 @@ unfoldable mutual
 
   pub piece_breaks : Piece → ℕ → ℕ → List Break
   piece_breaks (Once i) at depth = item_breaks i at depth
-  piece_breaks (Turns i p) at depth = item_breaks i at depth ++ when (is_bad_count p) (BadCount (at + length (item i)))
+  piece_breaks (Turns i p) at depth = item_breaks i at depth ++ break_if (is_bad_count p) (BadCount (at + length (item i)))
 
   pub item_breaks : Item → ℕ → ℕ → List Break
   item_breaks (Plain b) at depth = []
   item_breaks (Escaped e) at depth = []
   item_breaks Dot at depth = []
-  item_breaks (Set negated ms) at depth = when (is_bad_set negated ms) (BadSet at)
-  item_breaks (Group r) at depth = when (depth == 200) (OverLimit at) ++ regex_breaks r (at + 1) (depth + 1)
+  item_breaks (Set negated ms) at depth = break_if (is_bad_set negated ms) (BadSet at)
+  item_breaks (Group r) at depth = break_if (depth == 200) (OverLimit at) ++ regex_breaks r (at + 1) (depth + 1)
 
 -- ---- the least of them: by the number of the refusal, then by the offset
 

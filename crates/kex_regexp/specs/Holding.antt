@@ -134,25 +134,25 @@ IsSetAfter set (Some s) = IsSetIn set s.mode
 -- ---- counts
 
 -- a count above 1000 is held as 1001
-abbrev pub capped : ℕ → ℕ
-capped n = min n 1001
+abbrev pub capped_count : ℕ → ℕ
+capped_count n = min n 1001
 
-abbrev pub capped_option : Option ℕ → Option ℕ
-capped_option None = None
-capped_option (Some n) = Some (capped n)
+abbrev pub capped_bound : Option ℕ → Option ℕ
+capped_bound None = None
+capped_bound (Some n) = Some (capped_count n)
 
 unfoldable pub ShowsCount : Count → Counting → Type 0
 ShowsCount counts.Opened Opened = Unit {0}
-ShowsCount (counts.Low v) (Low n) = v ≡ capped (number n)
-ShowsCount (counts.LowComma v) (LowComma n) = v ≡ capped (number n)
-ShowsCount (counts.LowHigh v w) (LowHigh n m) = (v ≡ capped (number n)) × (w ≡ capped (number m))
+ShowsCount (counts.Low v) (Low n) = v ≡ capped_count (number n)
+ShowsCount (counts.LowComma v) (LowComma n) = v ≡ capped_count (number n)
+ShowsCount (counts.LowHigh v w) (LowHigh n m) = (v ≡ capped_count (number n)) × (w ≡ capped_count (number m))
 ShowsCount counts.OnlyComma OnlyComma = Unit {0}
-ShowsCount (counts.High w) (High m) = w ≡ capped (number m)
+ShowsCount (counts.High w) (High m) = w ≡ capped_count (number m)
 ShowsCount _ _ = ⊥
 
 unfoldable pub ShowsCountStep : CountOutcome → CountStep → Type 0
 ShowsCountStep (outcomes.On c) (CountOn d) = ShowsCount c d
-ShowsCountStep (outcomes.Read l h) (CountRead p) = (l ≡ capped (low p)) × (h ≡ capped_option (high p))
+ShowsCountStep (outcomes.Read l h) (CountRead p) = (l ≡ capped_count (low p)) × (h ≡ capped_bound (high p))
 ShowsCountStep outcomes.Wrong CountWrong = Unit {0}
 ShowsCountStep _ _ = ⊥
 

@@ -7,10 +7,10 @@ use Rattle.kex_regexp.specs.declared.counts.CountOutcome.TheVariants as outcomes
 use Rattle.kex_regexp.specs.declared.sets.SetSoFar.{SetSoFar}
 use Rattle.kex_regexp.specs.declared.wait.Wait.{Wait}
 use Rattle.kex_regexp.specs.declared.wait.Wait.TheVariants as waits
-use Rattle.kex_regexp.specs.Breaks.{Break, BadCount, BadSet, OverLimit, when, is_bad_count, is_bad_set, branch_breaks, piece_breaks, item_breaks, comes_before}
+use Rattle.kex_regexp.specs.Breaks.{Break, BadCount, BadSet, OverLimit, break_if, is_bad_count, is_bad_set, branch_breaks, piece_breaks, item_breaks, comes_before}
 use Rattle.kex_regexp.specs.Grammar.{item}
 use Rattle.kex_regexp.specs.Outcomes.{are_bad_turns, count_outcome}
-use Rattle.kex_regexp.specs.Values.{any_below, flipped}
+use Rattle.kex_regexp.specs.Values.{any_below, membership}
 use Rattle.kex_regexp.specs.Machine.{Entry, Mark, Ended, Read, Mode, Ready, After, InEscape, InSet, InCount, State, SetStep, SetOn, SetRead, SetWrong, set_step, CountStep, CountOn, CountRead, CountWrong, count_step, entries}
 
 -- ---- the least
@@ -32,7 +32,7 @@ marks (Ended b ∷ es) = marks es
 marks (Read p ∷ es) = marks es
 
 unfoldable pub entry_breaks : Entry → ℕ → ℕ → List Break
-entry_breaks Mark at depth = when (depth == 200) (OverLimit at)
+entry_breaks Mark at depth = break_if (depth == 200) (OverLimit at)
 entry_breaks (Ended b) at depth = branch_breaks b at depth
 entry_breaks (Read p) at depth = piece_breaks p at depth
 
@@ -53,16 +53,16 @@ state_breaks base depth s = entries_breaks base depth s.entries ++ mode_breaks s
 -- ---- what one byte more adds
 
 unfoldable pub nesting_breaks : ℕ → ℕ → ℕ → List Break
-nesting_breaks at depth b = if b == byte.open_paren then when (depth == 200) (OverLimit at) else []
+nesting_breaks at depth b = if b == byte.open_paren then break_if (depth == 200) (OverLimit at) else []
 
 unfoldable pub set_breaks : ℕ → SetStep → List Break
 set_breaks at (SetOn negated ms p) = []
-set_breaks at (SetRead negated ms) = when (is_bad_set negated ms) (BadSet at)
+set_breaks at (SetRead negated ms) = break_if (is_bad_set negated ms) (BadSet at)
 set_breaks at SetWrong = []
 
 unfoldable pub count_breaks : ℕ → CountStep → List Break
 count_breaks at (CountOn c) = []
-count_breaks at (CountRead p) = when (is_bad_count p) (BadCount at)
+count_breaks at (CountRead p) = break_if (is_bad_count p) (BadCount at)
 count_breaks at CountWrong = []
 
 unfoldable pub byte_breaks : ℕ → ℕ → Mode → ℕ → List Break
@@ -79,7 +79,7 @@ is_after (waits.After part) = true
 is_after _ = false
 
 unfoldable pub is_bad_set_so_far : SetSoFar → Bool → Bool
-is_bad_set_so_far set negated = set.backward || not (any_below 256 (λ b. flipped negated (has set.bytes b)))
+is_bad_set_so_far set negated = set.backward || not (any_below 256 (λ b. membership negated (has set.bytes b)))
 
 unfoldable pub nesting_break : ℕ → ℕ → ℕ → Option Break
 nesting_break depth at b = if (b == byte.open_paren) && (depth == 200) then Some (OverLimit at) else None

@@ -30,13 +30,13 @@ unfoldable pub in_members : List Member → ℕ → Bool
 in_members [] b = false
 in_members (m ∷ ms) b = in_member m b || in_members ms b
 
-abbrev pub flipped : Bool → Bool → Bool
-flipped true b = not b
-flipped false b = b
+abbrev pub membership : Bool → Bool → Bool
+membership true b = not b
+membership false b = b
 
 -- the byte b is in the set, which is negated or not
 unfoldable pub in_set : Bool → List Member → ℕ → Bool
-in_set negated ms b = flipped negated (in_members ms b)
+in_set negated ms b = membership negated (in_members ms b)
 
 -- the first byte is above the last
 unfoldable pub is_backward : Member → Bool

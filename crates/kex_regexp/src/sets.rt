@@ -8,7 +8,7 @@ ghost use Rattle.kex_regexp.specs.Outcomes.{begin_outcome, between_outcome, ende
 ghost use Rattle.kex_regexp.specs.Holding.{IsSetAfter, IsSetIn, ShowsMode};
 ghost use Rattle.kex_regexp.specs.Machine.{Entry, Mode, step_in};
 ghost use Rattle.kex_regexp.specs.declared.sets.SetPart.TheVariants.{HasDash, HasEnd};
-ghost use Rattle.kex_regexp.specs.Values.{flipped};
+ghost use Rattle.kex_regexp.specs.Values.{membership};
 
 use crate::bytes::is_end;
 use crate::escapes::{EscapeOutcome, Escaping, escape};
@@ -263,7 +263,7 @@ impl SetSoFar {
 
     /// The set of these members, or what is not in one of them.
     pub fn read(&self, negated: bool) -> ByteSet
-        ensures { HasExactly result (λ b. flipped negated (has self.now.bytes b)) }
+        ensures { HasExactly result (λ b. membership negated (has self.now.bytes b)) }
     {
         if negated {
             self.bytes.complement()

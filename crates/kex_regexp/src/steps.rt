@@ -2,7 +2,7 @@
 
 ghost use Rattle.std.specs.Prelude.{◌≡◌, ℕ, ◌+◌, ◌<◌, List, [], ◌∷◌, ◌++◌, length, reverse, OnOk, IfOk, IfErr};
 ghost use Rattle.kex_regexp.specs.Grammar.{Item, Postfix, Empty, Turns, item as spelled_item};
-ghost use Rattle.kex_regexp.specs.Holding.{ConstructsShow, HoldsItem, IsSetAfter, LosesNone, IsTurns, OnItem, ShowsCountStep, ShowsEscape, ShowsSet, SomeBehind, SomeConstructs, SomeItem, SomeState, ShowsState, Steps, capped, capped_option};
+ghost use Rattle.kex_regexp.specs.Holding.{ConstructsShow, HoldsItem, IsSetAfter, LosesNone, IsTurns, OnItem, ShowsCountStep, ShowsEscape, ShowsSet, SomeBehind, SomeConstructs, SomeItem, SomeState, ShowsState, Steps, capped_count, capped_bound};
 ghost use Rattle.kex_regexp.specs.Machine.{EscapeStep, SetStep, CountStep, Entry, Read, Ready, State, entries, bytes_read, goes, take_pieces, take_regex, begin_piece, after_item, end_branch, after_group as close_parenthesis, on_escape as spec_on_escape, on_set as spec_on_set, on_count as spec_on_count, step as spec_step};
 ghost use Rattle.kex_regexp.specs.Parents.{NoneLost};
 ghost use Rattle.kex_regexp.specs.Shown.{Adds, IsNode};
@@ -132,7 +132,7 @@ fn repeated(into: &mut Builder, item: Placed, low: u32, high: Option<u32>) -> Re
     requires { item.node < length into.old }
     ensures adds { Adds into.old into.new }
     ensures nodes { IfOk result (λ m. NoneLost into.old into.new (λ n. n ≡ item.node) (λ n. n ≡ m)) }
-    ensures turns { IfOk result (λ n. (p : Postfix) → low ≡ capped (low_of p) → high ≡ capped_option (high_of p) → IsTurns p into.new n item.node item.at) }
+    ensures turns { IfOk result (λ n. (p : Postfix) → low ≡ capped_count (low_of p) → high ≡ capped_bound (high_of p) → IsTurns p into.new n item.node item.at) }
 {
     if is_bad_count(low, high) {
         return Ok(item.node);
@@ -160,7 +160,7 @@ fn turns(
     requires { SomeItem into.old constructs.old.items item }
     ensures adds { Adds into.old into.new }
     ensures nodes { LosesNone into.old into.new constructs.old.items (Wait.After item) constructs.new.items result }
-    ensures step { OnItem into.old constructs.old.items item (λ base es i. (p : Postfix) → low ≡ capped (low_of p) → high ≡ capped_option (high_of p) → Steps into.new base constructs.new.items result (goes Ready (Read (Turns i p) ∷ es))) }
+    ensures step { OnItem into.old constructs.old.items item (λ base es i. (p : Postfix) → low ≡ capped_count (low_of p) → high ≡ capped_bound (high_of p) → Steps into.new base constructs.new.items result (goes Ready (Read (Turns i p) ∷ es))) }
 {
     let Ok(node) = repeated(into, item, low, high) else {
         return Err(StepFault::Memory);

@@ -17,11 +17,11 @@ use Rattle.kex_trim.specs.declared.order.Mark.TheVariants.{Unseen, Open, Done}
 use Rattle.kex_trim.specs.declared.order.Task.{Task}
 use Rattle.kex_trim.specs.declared.order.Task.TheVariants.{Enter, Leave}
 use Rattle.kex_machine.specs.Nodes.{HasLoop}
-use Rattle.kex_trim.specs.Loops.{IsOrder, entering, count_up}
+use Rattle.kex_trim.specs.Loops.{IsOrder, enter_tasks, count_up}
 
-pub entering-append : (xs ys : List ℕ) → entering (xs ++ ys) ≡ entering xs ++ entering ys
-entering-append [] ys = refl
-entering-append (x ∷ xs) ys = ap (λ z. Enter x ∷ z) (entering-append xs ys)
+pub enter_tasks-append : (xs ys : List ℕ) → enter_tasks (xs ++ ys) ≡ enter_tasks xs ++ enter_tasks ys
+enter_tasks-append [] ys = refl
+enter_tasks-append (x ∷ xs) ys = ap (λ z. Enter x ∷ z) (enter_tasks-append xs ys)
 
 pub among-cases : {A : Type 0} (xs ys : List A) (z : A) → IsAmong (xs ++ ys) z → IsAmong xs z ⊎ IsAmong ys z
 among-cases [] ys z h = inr h
@@ -78,13 +78,13 @@ opens-append [] ts = refl
 opens-append (Enter n ∷ ss) ts = opens-append ss ts
 opens-append (Leave n ∷ ss) ts = ap (λ z. n ∷ z) (opens-append ss ts)
 
-named-entering : (ns : List ℕ) → named (entering ns) ≡ ns
-named-entering [] = refl
-named-entering (n ∷ ns) = ap (λ z. n ∷ z) (named-entering ns)
+named-enter_tasks : (ns : List ℕ) → named (enter_tasks ns) ≡ ns
+named-enter_tasks [] = refl
+named-enter_tasks (n ∷ ns) = ap (λ z. n ∷ z) (named-enter_tasks ns)
 
-opens-entering : (ns : List ℕ) → opens (entering ns) ≡ []
-opens-entering [] = refl
-opens-entering (n ∷ ns) = opens-entering ns
+opens-enter_tasks : (ns : List ℕ) → opens (enter_tasks ns) ≡ []
+opens-enter_tasks [] = refl
+opens-enter_tasks (n ∷ ns) = opens-enter_tasks ns
 
 different_front : {A : Type 0} (xs : List A) (y : A) → Different (xs ++ y ∷ []) → Different xs × (IsAmong xs y → ⊥)
 different_front [] y d = (tt, λ i. absurd i)
@@ -194,7 +194,7 @@ module _ (nodes : List MNode) where
   chain_front o (Enter n ∷ ss) ts c = let r = chain_front o ss ts c.1 in ((c.0, r.0), r.1)
   chain_front o (Leave n ∷ ss) ts c = let r = chain_front (Some n) ss ts c.1 in ((c.0, r.0), r.1)
 
-  chain_entering : (o : Option ℕ) (ns : List ℕ) → ((m : ℕ) → IsAmong ns m → Child o m) → Chain o (entering ns)
+  chain_entering : (o : Option ℕ) (ns : List ℕ) → ((m : ℕ) → IsAmong ns m → Child o m) → Chain o (enter_tasks ns)
   chain_entering o [] h = tt
   chain_entering o (n ∷ ns) h = (h n (inl refl), chain_entering o ns (λ m i. h m (inr i)))
 
@@ -233,7 +233,7 @@ module _ (nodes : List MNode) where
   waits_last order (Enter n ∷ ss) ts w = waits_last order ss ts w
   waits_last order (Leave n ∷ ss) ts w = waits_last order ss ts w.1
 
-  waits_entering : (order ns : List ℕ) → Waits order (entering ns)
+  waits_entering : (order ns : List ℕ) → Waits order (enter_tasks ns)
   waits_entering order [] = tt
   waits_entering order (n ∷ ns) = waits_entering order ns
 
@@ -270,7 +270,7 @@ module _ (nodes : List MNode) where
   count_below zero n i = absurd i
   count_below (suc k) n i = ⊎_elim (λ j. let l : n < k = count_below k n j in omega arith) (λ j. ⊎_elim (λ e. let same : k ≡ n = e in omega arith) (λ x. absurd x) j) (among-cases (count_up k) (k ∷ []) n i)
 
-  pub searched_start : (done : List ℕ) (marks : List Mark) (tasks : List Task) → done ≡ [] → marks ≡ replicate (length nodes) Unseen → tasks ≡ entering (count_up (length nodes)) → Searched done marks tasks
+  pub searched_start : (done : List ℕ) (marks : List Mark) (tasks : List Task) → done ≡ [] → marks ≡ replicate (length nodes) Unseen → tasks ≡ enter_tasks (count_up (length nodes)) → Searched done marks tasks
   searched_start done marks tasks ed em et = rw (ed, em, et) (record {
     long = length-replicate (length nodes) Unseen;
     order = [];
@@ -280,12 +280,12 @@ module _ (nodes : List MNode) where
     done_in = λ n e. let bad : Done ≡ Unseen = sym e ∙ fresh_marks (length nodes) n in cc;
     in_done = λ n i. absurd i;
     open_in = λ n e. let bad : Open ≡ Unseen = sym e ∙ fresh_marks (length nodes) n in cc;
-    in_open = λ n i. absurd (subst (λ z. IsAmong z n) (opens-entering ns) i);
-    once = subst (λ z. Different z) (sym (opens-entering ns)) tt;
+    in_open = λ n i. absurd (subst (λ z. IsAmong z n) (opens-enter_tasks ns) i);
+    once = subst (λ z. Different z) (sym (opens-enter_tasks ns)) tt;
     chain = chain_entering None ns (λ m i. tt);
     waits = waits_entering [] ns;
-    all = λ n lt. inr (subst (λ z. IsAmong z n) (sym (named-entering ns)) (counted (length nodes) n lt));
-    below = λ n i. count_below (length nodes) n (subst (λ z. IsAmong z n) (named-entering ns) i);
+    all = λ n lt. inr (subst (λ z. IsAmong z n) (sym (named-enter_tasks ns)) (counted (length nodes) n lt));
+    below = λ n i. count_below (length nodes) n (subst (λ z. IsAmong z n) (named-enter_tasks ns) i);
   })
     where
       ns : List ℕ
@@ -369,7 +369,7 @@ module _ (nodes : List MNode) where
       is_done m (inr i) = absurd i
 
   -- a node is opened
-  pub searched_open : (done : List ℕ) (marks : List Mark) (ts : List Task) (n : ℕ) → ((m : ℕ) → Leads n m → m < length nodes) → Searched done marks (ts ++ Enter n ∷ []) → get_or marks n Unseen ≡ Unseen → Searched done (set marks n Open) (ts ++ Leave n ∷ entering (quiet (f n)))
+  pub searched_open : (done : List ℕ) (marks : List Mark) (ts : List Task) (n : ℕ) → ((m : ℕ) → Leads n m → m < length nodes) → Searched done marks (ts ++ Enter n ∷ []) → get_or marks n Unseen ≡ Unseen → Searched done (set marks n Open) (ts ++ Leave n ∷ enter_tasks (quiet (f n)))
   searched_open done marks ts n ways s e = record {
     long = length-set marks n Open ∙ s.long;
     order = s.order;
@@ -381,8 +381,8 @@ module _ (nodes : List MNode) where
     open_in = λ m h. subst (λ z. IsAmong z m) (sym split) (⊎_elim (λ q. among_right (opens ts) (n ∷ []) m (inl q)) (λ ne. among_left (opens ts) (n ∷ []) m (subst (λ z. IsAmong z m) before (s.open_in m (sym (get_or-set_other marks n m Open Unseen ne) ∙ h)))) (same_or_not n m));
     in_open = λ m i. ⊎_elim (λ q. at_set m q) (λ ne. get_or-set_other marks n m Open Unseen ne ∙ ⊎_elim (λ j. was_open m j) (λ j. ⊎_elim (λ q. absurd (ne (sym q))) (λ x. absurd x) j) (among-cases (opens ts) (n ∷ []) m (subst (λ z. IsAmong z m) split i))) (same_or_not n m);
     once = subst (λ z. Different z) (sym split) (different_push (opens ts) n (subst (λ z. Different z) before s.once) (λ i. let bad : Open ≡ Unseen = sym (was_open n i) ∙ e in cc));
-    chain = let c = chain_front None ts (Enter n ∷ []) s.chain in chain-append None ts (Leave n ∷ entering (quiet (f n))) c.0 (c.1.0, chain_entering (Some n) (quiet (f n)) (λ m i. i));
-    waits = waits_swap s.order s.order ts (Enter n ∷ []) (Leave n ∷ entering (quiet (f n))) (λ m i. i) (λ m i. inr (on_top m i)) s.waits ((λ m l. inr (subst (λ z. IsAmong z m) (sym (named-entering (quiet (f n)))) l)), waits_entering s.order (quiet (f n)));
+    chain = let c = chain_front None ts (Enter n ∷ []) s.chain in chain-append None ts (Leave n ∷ enter_tasks (quiet (f n))) c.0 (c.1.0, chain_entering (Some n) (quiet (f n)) (λ m i. i));
+    waits = waits_swap s.order s.order ts (Enter n ∷ []) (Leave n ∷ enter_tasks (quiet (f n))) (λ m i. i) (λ m i. inr (on_top m i)) s.waits ((λ m l. inr (subst (λ z. IsAmong z m) (sym (named-enter_tasks (quiet (f n)))) l)), waits_entering s.order (quiet (f n)));
     all = λ m lt. ⊎_elim (λ i. inl i) (λ i. inr (⊎_elim (λ j. put m (among_left (named ts) (n ∷ quiet (f n)) m j)) (λ j. put m (among_right (named ts) (n ∷ quiet (f n)) m (still m j))) (among-cases (named ts) (n ∷ []) m (subst (λ z. IsAmong z m) (named-append ts (Enter n ∷ [])) i)))) (s.all m lt);
     below = λ m i. ⊎_elim (λ j. s.below m (subst (λ z. IsAmong z m) (sym (named-append ts (Enter n ∷ []))) (among_left (named ts) (n ∷ []) m j))) (λ j. ⊎_elim (λ q. subst (λ z. z < length nodes) q n_fits) (λ l. ways m l) j) (among-cases (named ts) (n ∷ quiet (f n)) m (subst (λ z. IsAmong z m) names i));
   }
@@ -390,13 +390,13 @@ module _ (nodes : List MNode) where
       before : opens (ts ++ Enter n ∷ []) ≡ opens ts
       before = opens-append ts (Enter n ∷ []) ∙ append-nil (opens ts)
 
-      split : opens (ts ++ Leave n ∷ entering (quiet (f n))) ≡ opens ts ++ n ∷ []
-      split = opens-append ts (Leave n ∷ entering (quiet (f n))) ∙ ap (λ z. opens ts ++ n ∷ z) (opens-entering (quiet (f n)))
+      split : opens (ts ++ Leave n ∷ enter_tasks (quiet (f n))) ≡ opens ts ++ n ∷ []
+      split = opens-append ts (Leave n ∷ enter_tasks (quiet (f n))) ∙ ap (λ z. opens ts ++ n ∷ z) (opens-enter_tasks (quiet (f n)))
 
-      names : named (ts ++ Leave n ∷ entering (quiet (f n))) ≡ named ts ++ n ∷ quiet (f n)
-      names = named-append ts (Leave n ∷ entering (quiet (f n))) ∙ ap (λ z. named ts ++ n ∷ z) (named-entering (quiet (f n)))
+      names : named (ts ++ Leave n ∷ enter_tasks (quiet (f n))) ≡ named ts ++ n ∷ quiet (f n)
+      names = named-append ts (Leave n ∷ enter_tasks (quiet (f n))) ∙ ap (λ z. named ts ++ n ∷ z) (named-enter_tasks (quiet (f n)))
 
-      put : (m : ℕ) → IsAmong (named ts ++ n ∷ quiet (f n)) m → IsAmong (named (ts ++ Leave n ∷ entering (quiet (f n)))) m
+      put : (m : ℕ) → IsAmong (named ts ++ n ∷ quiet (f n)) m → IsAmong (named (ts ++ Leave n ∷ enter_tasks (quiet (f n)))) m
       put m i = subst (λ z. IsAmong z m) (sym names) i
 
       was_open : (m : ℕ) → IsAmong (opens ts) m → get_or marks m Unseen ≡ Open
@@ -408,7 +408,7 @@ module _ (nodes : List MNode) where
       at_set : (m : ℕ) → n ≡ m → get_or (set marks n Open) m Unseen ≡ Open
       at_set m q = ap (λ z. get_or (set marks n Open) z Unseen) (sym q) ∙ get_or-set_same marks n Open Unseen (omega (arith, s.long, n_fits))
 
-      on_top : (m : ℕ) → IsAmong (n ∷ []) m → IsAmong (n ∷ named (entering (quiet (f n)))) m
+      on_top : (m : ℕ) → IsAmong (n ∷ []) m → IsAmong (n ∷ named (enter_tasks (quiet (f n)))) m
       on_top m (inl q) = inl q
       on_top m (inr i) = absurd i
 

@@ -11,7 +11,7 @@ use Rattle.kex_trim.specs.Ways.{LeadsBelow}
 use Rattle.kex_machine.specs.Nodes.{node_moves, move_of}
 use Rattle.kex_trim.specs.declared.order.Mark.{Mark}
 use Rattle.kex_trim.specs.declared.order.Mark.TheVariants.{Unseen, Open, Done}
-use Rattle.kex_trim.specs.Loops.{entering}
+use Rattle.kex_trim.specs.Loops.{enter_tasks}
 
 -- how many were not seen
 abbrev pub unseen : List Mark → ℕ
@@ -50,9 +50,9 @@ two_quiet (choose l r) = omega arith
 two_quiet (forced x t) = omega arith
 two_quiet (go e t) = omega arith
 
-pub length-entering : (ns : List ℕ) → length (entering ns) ≡ length ns
-length-entering [] = refl
-length-entering (n ∷ ns) = ap suc (length-entering ns)
+pub length-enter_tasks : (ns : List ℕ) → length (enter_tasks ns) ≡ length ns
+length-enter_tasks [] = refl
+length-enter_tasks (n ∷ ns) = ap suc (length-enter_tasks ns)
 
 quiet_in : (k : ℕ) (m : MNode) (t : ℕ) → LeadsBelow k m → IsAmong (quiet (move_of (Some m))) t → t < k
 quiet_in k Accept t b i = absurd i

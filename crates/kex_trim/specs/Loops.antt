@@ -7,9 +7,9 @@ use Rattle.kex_machine.specs.Nodes.{node_moves}
 use Rattle.kex_trim.specs.declared.order.Task.{Task}
 use Rattle.kex_trim.specs.declared.order.Task.TheVariants.{Enter}
 
-abbrev pub entering : List ℕ → List Task
-entering [] = []
-entering (n ∷ ns) = Enter n ∷ entering ns
+abbrev pub enter_tasks : List ℕ → List Task
+enter_tasks [] = []
+enter_tasks (n ∷ ns) = Enter n ∷ enter_tasks ns
 
 abbrev pub count_up : ℕ → List ℕ
 count_up zero = []

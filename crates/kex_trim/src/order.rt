@@ -3,7 +3,7 @@
 ghost use Rattle.std.specs.Prelude.{◌≡◌, ◌<◌, ◌++◌, ◌∷◌, All, length, Some, None, IfSome, IfOk, OnOk, slice_set};
 ghost use Rattle.kex_model.specs.Moves.{quiet};
 ghost use Rattle.kex_machine.specs.Nodes.{HasLoop, move_of, node_moves};
-ghost use Rattle.kex_trim.specs.Loops.{IsOrder, count_up, entering};
+ghost use Rattle.kex_trim.specs.Loops.{IsOrder, count_up, enter_tasks};
 ghost use Rattle.kex_trim.specs.Ways.{LeadsBelow};
 ghost use Rattle.kex_trim.specs.declared.order.Mark.TheVariants.{Open};
 ghost use Rattle.kex_trim.specs.declared.order.Task.TheVariants.{Leave};
@@ -30,7 +30,7 @@ pub enum Task {
 // Each node is to be entered, the last one first.
 fn all_tasks(alloc: Global, count: usize) -> Result<Vec<Task>, AllocError>
     requires { count < 4294967296 }
-    ensures { IfOk result (λ tasks. tasks.items ≡ entering (count_up count)) }
+    ensures { IfOk result (λ tasks. tasks.items ≡ enter_tasks (count_up count)) }
 {
     let mut tasks = Vec::new(alloc);
     for n in 0..count {
@@ -41,7 +41,7 @@ fn all_tasks(alloc: Global, count: usize) -> Result<Vec<Task>, AllocError>
 
 // Where a node leads without a byte is to be entered.
 fn push_quiet(tasks: &mut Vec<Task>, node: &MNode) -> Result<(), AllocError>
-    ensures { OnOk result (tasks.new.items ≡ tasks.old.items ++ entering (quiet (move_of (Some node.now)))) }
+    ensures { OnOk result (tasks.new.items ≡ tasks.old.items ++ enter_tasks (quiet (move_of (Some node.now)))) }
 {
     match node {
         MNode::Accept => Ok(()),
@@ -76,7 +76,7 @@ fn open(
     requires fits { n < length nodes.now }
     requires long { n < length marks.old.items }
     ensures marks { OnOk result (marks.new.items ≡ slice_set marks.old.items n Open) }
-    ensures tasks { OnOk result (tasks.new.items ≡ tasks.old.items ++ Leave n ∷ entering (quiet (node_moves nodes.now n))) }
+    ensures tasks { OnOk result (tasks.new.items ≡ tasks.old.items ++ Leave n ∷ enter_tasks (quiet (node_moves nodes.now n))) }
 {
     marks[n as usize] = Mark::Open;
     tasks.push(Task::Leave(n))?;
