@@ -28,12 +28,8 @@ use std::marker::Model;
 fn room(depth: usize, long: usize) -> Option<u32>
     ensures { IfSome result (λ n. (n ≡ depth) × (n + long < 2 ^ 32)) }
 {
-    let Some(deepest) = depth.checked_add(long) else {
-        return None;
-    };
-    let Ok(_) = u32::try_from(deepest) else {
-        return None;
-    };
+    let deepest = depth.checked_add(long)?;
+    u32::try_from(deepest).ok()?;
     Some(depth as u32)
 }
 

@@ -1,6 +1,6 @@
 -- From the machine to bodies.
 use Rattle.std.proofs.Common.{◌≡◌, Bool, ℕ, ◌+◌, ◌<◌, ◌≤◌, List, [], ◌∷◌, length, get_or, take, Option, Some, None, Result, Ok, Err, refl, sym, ap, ◌∙◌, subst, arith, add-one}
-use Rattle.std.specs.Prelude.{reverse}
+use Rattle.std.specs.Prelude.{reverse, IsErrAnd}
 use Rattle.std.proofs.Math.Seq.{take-suc}
 use Rattle.std.proofs.lemmas.List.{take_all, length-take-le, length-reverse}
 use Rattle.kex_model.specs.declared.program.Node.{Node}
@@ -121,6 +121,10 @@ ends_open nodes base fs part t n r = subst (λ (x : Option Regex). Ends nodes ba
 pub ends_memory : (nodes : List Node) (base : ℕ) (o : Option Regex) → Ends nodes base (Err faults.Memory) o
 unfolding Ends
 ends_memory nodes base o = tt
+
+pub ends_exit : (nodes : List Node) (base : ℕ) (r : Result ℕ StepFault) → IsErrAnd r (λ e. e ≡ faults.Memory) → (o : Option Regex) → Ends nodes base r o
+ends_exit nodes base (Ok n) e o = absurd e
+ends_exit nodes base (Err f) e o = subst (λ (x : StepFault). Ends nodes base (Err x) o) (sym e) (ends_memory nodes base o)
 
 pub ends_none : (nodes : List Node) (base : ℕ) → Ends nodes base (Err faults.Wrong) None
 unfolding Ends

@@ -1,6 +1,6 @@
 -- What each step leaves shows what the machine makes.
 use Rattle.std.proofs.Common.{◌≡◌, Bool, true, false, ℕ, length-append, ◌+◌, List, [], ◌∷◌, ◌++◌, length, Option, Some, None, Result, Ok, Err, refl, sym, ap, ◌∙◌, subst, arith}
-use Rattle.std.specs.Prelude.{reverse, IfOk, IfErr, ◌==◌, not}
+use Rattle.std.specs.Prelude.{reverse, IfOk, IfErr, IsErrAnd, ◌==◌, not}
 use Rattle.std.proofs.lemmas.Bool.{ne_eqb}
 use Rattle.kex_byteset.specs.Sets.{HasExactly, has}
 use Rattle.kex_byteset.proofs.Flags.{in_words}
@@ -33,6 +33,10 @@ use Rattle.kex_regexp.proofs.Stacks.{HoldsItem-more, ConstructsShow-more, revers
 pub memory_steps : (nodes : List Node) (base : ℕ) (fs : List Construct) (e : StepFault) (o : Option State) → e ≡ faults.Memory → Steps nodes base fs (Err e) o
 unfolding Steps
 memory_steps nodes base fs e o m = subst (λ (x : StepFault). Steps nodes base fs (Err x) o) (sym m) tt
+
+pub memory_exit : (nodes : List Node) (base : ℕ) (fs : List Construct) (r : Result Wait StepFault) → IsErrAnd r (λ e. e ≡ faults.Memory) → (o : Option State) → Steps nodes base fs r o
+memory_exit nodes base fs (Ok w) e o = absurd e
+memory_exit nodes base fs (Err f) e o = memory_steps nodes base fs f o e
 
 pub wrong_steps : (nodes : List Node) (base : ℕ) (fs : List Construct) → Steps nodes base fs (Err faults.Wrong) None
 unfolding Steps

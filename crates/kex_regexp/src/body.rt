@@ -27,9 +27,7 @@ fn end(constructs: &mut Vec<Construct>, into: &mut Builder, at: u32) -> Result<u
     ensures nodes { IfOk result (λ m. NoneLost into.old into.new (InConstructs constructs.old.items) (λ n. n ≡ m)) }
     ensures ends { (base : ℕ) (es : List Entry) → ConstructsShow into.old base (reverse constructs.old.items) es → at ≡ base + length (entries es) → Ends into.new base result (whole_regex (take_regex es)) }
 {
-    let Ok(regex) = close_regex(constructs, into, at) else {
-        return Err(StepFault::Memory);
-    };
+    let regex = close_regex(constructs, into, at)?;
     if constructs.is_empty() {
         Ok(regex.node)
     } else {
@@ -57,9 +55,7 @@ fn finish(
                 node: item.node,
                 at: item.at,
             };
-            let Ok(()) = push(constructs, piece) else {
-                return Err(StepFault::Memory);
-            };
+            push(constructs, piece)?;
             end(constructs, into, at)
         }
         Wait::InEscape { .. } => Err(StepFault::Wrong),

@@ -19,14 +19,11 @@ use kex_code::memory::Memory;
 use kex_model::builder::Builder;
 use kex_model::program::{Kind, Node};
 
-pub fn push(constructs: &mut Vec<Construct>, construct: Construct) -> Result<(), StepFault>
+pub fn push(constructs: &mut Vec<Construct>, construct: Construct) -> Result<(), Memory>
     ensures ok { OnOk result (constructs.new.items ≡ constructs.old.items ++ construct ∷ []) }
-    ensures err { IfErr result (λ e. e ≡ StepFault.Memory) }
 {
-    match constructs.push(construct) {
-        Ok(()) => Ok(()),
-        Err(_) => Err(StepFault::Memory),
-    }
+    constructs.push(construct)?;
+    Ok(())
 }
 
 /// A class of its own for an item that begins here.
@@ -41,10 +38,8 @@ fn leaf(into: &mut Builder, set: ByteSet, at: u32) -> Result<Wait, StepFault>
         kind: Kind::Class(set),
         at,
     };
-    match into.add(class) {
-        Ok(node) => Ok(Wait::After(Placed { node, at })),
-        Err(_) => Err(StepFault::Memory),
-    }
+    let node = into.add(class)?;
+    Ok(Wait::After(Placed { node, at }))
 }
 
 /// A bar.
@@ -55,16 +50,12 @@ fn bar(constructs: &mut Vec<Construct>, into: &mut Builder, at: u32) -> Result<W
     ensures nodes { LosesNone into.old into.new constructs.old.items Wait.Ready constructs.new.items result }
     ensures step { (base : ℕ) (es : List Entry) → ConstructsShow into.old base (reverse constructs.old.items) es → at ≡ base + length (entries es) → Steps into.new base constructs.new.items result (end_branch (take_pieces es Empty)) }
 {
-    let Ok(branch) = close_branch(constructs, into, at) else {
-        return Err(StepFault::Memory);
-    };
+    let branch = close_branch(constructs, into, at)?;
     let ended = Construct::Ended {
         node: branch.node,
         at: branch.at,
     };
-    let Ok(()) = push(constructs, ended) else {
-        return Err(StepFault::Memory);
-    };
+    push(constructs, ended)?;
     Ok(Wait::Ready)
 }
 
@@ -76,9 +67,7 @@ fn close(constructs: &mut Vec<Construct>, into: &mut Builder, at: u32) -> Result
     ensures nodes { LosesNone into.old into.new constructs.old.items Wait.Ready constructs.new.items result }
     ensures step { (base : ℕ) (es : List Entry) → ConstructsShow into.old base (reverse constructs.old.items) es → at ≡ base + length (entries es) → Steps into.new base constructs.new.items result (close_parenthesis (take_regex es)) }
 {
-    let Ok(regex) = close_regex(constructs, into, at) else {
-        return Err(StepFault::Memory);
-    };
+    let regex = close_regex(constructs, into, at)?;
     let Some(from) = take_mark(constructs) else {
         return Err(StepFault::Wrong);
     };
@@ -90,7 +79,12 @@ fn close(constructs: &mut Vec<Construct>, into: &mut Builder, at: u32) -> Result
 
 /// A byte where a piece may begin.
 #[tactic(auto, using(crate::proofs::Additions::adding))]
-fn begin(constructs: &mut Vec<Construct>, into: &mut Builder, at: u32, byte: u8) -> Result<Wait, StepFault>
+fn begin(
+    constructs: &mut Vec<Construct>,
+    into: &mut Builder,
+    at: u32,
+    byte: u8,
+) -> Result<Wait, StepFault>
     requires { SomeConstructs into.old constructs.old.items at }
     ensures adds { Adds into.old into.new }
     ensures nodes { LosesNone into.old into.new constructs.old.items Wait.Ready constructs.new.items result }
@@ -113,9 +107,7 @@ fn begin(constructs: &mut Vec<Construct>, into: &mut Builder, at: u32, byte: u8)
             from: at,
         })
     } else if byte == b'(' {
-        let Ok(()) = push(constructs, Construct::Mark { at }) else {
-            return Err(StepFault::Memory);
-        };
+        push(constructs, Construct::Mark { at })?;
         Ok(Wait::Ready)
     } else if byte == b'|' {
         bar(constructs, into, at)
@@ -162,13 +154,9 @@ fn turns(
     ensures nodes { LosesNone into.old into.new constructs.old.items (Wait.After item) constructs.new.items result }
     ensures step { OnItem into.old constructs.old.items item (λ base es i. (p : Postfix) → low ≡ capped_count (low_of p) → high ≡ capped_bound (high_of p) → Steps into.new base constructs.new.items result (goes Ready (Read (Turns i p) ∷ es))) }
 {
-    let Ok(node) = repeated(into, item, low, high) else {
-        return Err(StepFault::Memory);
-    };
+    let node = repeated(into, item, low, high)?;
     let piece = Construct::Piece { node, at: item.at };
-    let Ok(()) = push(constructs, piece) else {
-        return Err(StepFault::Memory);
-    };
+    push(constructs, piece)?;
     Ok(Wait::Ready)
 }
 
@@ -203,9 +191,7 @@ fn byte_after_item(
             node: item.node,
             at: item.at,
         };
-        let Ok(()) = push(constructs, piece) else {
-            return Err(StepFault::Memory);
-        };
+        push(constructs, piece)?;
         begin(constructs, into, at, byte)
     }
 }

@@ -4,6 +4,7 @@ use crate::constructs::Placed;
 use crate::counts::Count;
 use crate::escapes::Escaping;
 use crate::sets::SetPart;
+use kex_code::memory::Memory;
 
 /// What the next byte belongs to.
 #[derive(Clone, Copy, Drop)]
@@ -37,4 +38,15 @@ pub enum StepFault {
     Memory,
     /// No body goes on so.
     Wrong,
+}
+
+impl From<Memory> for StepFault {
+    ghost use Rattle.std.specs.Prelude.{◌≡◌};
+    ghost use Rattle.kex_regexp.specs.declared.wait.StepFault.TheVariants as faults;
+
+    ghost from_gives = { λ _ e. e ≡ faults.Memory };
+
+    fn from(_: Memory) -> StepFault {
+        StepFault::Memory
+    }
 }

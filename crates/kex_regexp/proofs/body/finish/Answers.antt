@@ -2,23 +2,23 @@ use Rattle.std.proofs.Common.{◌∷◌, inl, inr}
 use Rattle.kex_regexp.specs.Grammar.{Once}
 use Rattle.kex_regexp.specs.Machine.{Read}
 use Rattle.kex_regexp.proofs.ShownSteps.{mode_ready, mode_after, mode_escape, mode_set, mode_count, ready_place, after_place, once_shows, once_ends}
-use Rattle.kex_regexp.proofs.Bodies.{ends_memory, ends_none, to_end, finish_ready, finish_after, finish_escape, finish_set, finish_count}
+use Rattle.kex_regexp.proofs.Bodies.{ends_exit, ends_none, to_end, finish_ready, finish_after, finish_escape, finish_set, finish_count}
 use Rattle.kex_regexp.proofs.Bounds.{some_ready, some_behind, some_once}
 use Rattle.kex_regexp.proofs.Parents.{ended_as, construct_on, construct_under}
 use Rattle.kex_regexp.proofs.body.finish.Goals as goal
 
-pub returns-in_default-clause-ends : goal.returns-in_default-clause-ends
-returns-in_default-clause-ends c = λ base s st a. ends_memory _ base _
+pub returns-in_err-push-in-After-clause-ends : goal.returns-in_err-push-in-After-clause-ends
+returns-in_err-push-in-After-clause-ends c = λ base s st a. ends_exit _ base c.from_residual.result c.from_residual.ensures.1 _
 
 pub returns-in-Ready-clause-ends : goal.returns-in-Ready-clause-ends
 returns-in-Ready-clause-ends c = λ base s st a.
     let m = mode_ready _ _ _ (rw c.in-Ready.is at st.mode) in
     to_end _ base _ _ _ (finish_ready s m) (c.end.ensures.ends base s.entries st.below (ready_place s base _ m a))
 
-pub returns-in-Ok-clause-ends : goal.returns-in-Ok-clause-ends
-returns-in-Ok-clause-ends c = λ base s st a.
+pub returns-in_ok-push-in-After-clause-ends : goal.returns-in_ok-push-in-After-clause-ends
+returns-in_ok-push-in-After-clause-ends c = λ base s st a.
     let m = mode_after _ _ c.in-After.item _ (rw c.in-After.is at st.mode) in
-    to_end _ base _ _ _ (finish_after s m.tree m.is) (c.end-in-After.ensures.ends base (Read (Once m.tree) ∷ s.entries) (once_shows _ base _ _ s.entries m.tree c.in-After.item st.below m.place m.shows c.in-Ok.ensures.ok) (once_ends base _ _ s.entries m.tree m.place (after_place s base _ _ m.tree m.is m.place a)))
+    to_end _ base _ _ _ (finish_after s m.tree m.is) (c.end-in-After.ensures.ends base (Read (Once m.tree) ∷ s.entries) (once_shows _ base _ _ s.entries m.tree c.in-After.item st.below m.place m.shows c.in_ok-push-in-After.ensures.ok) (once_ends base _ _ s.entries m.tree m.place (after_place s base _ _ m.tree m.is m.place a)))
 
 pub returns-in-InEscape-clause-ends : goal.returns-in-InEscape-clause-ends
 returns-in-InEscape-clause-ends c = λ base s st a.
@@ -39,12 +39,12 @@ pub end-requires : goal.end-requires
 end-requires c = some_ready _ _ _ _ c.in-Ready.is c.requires
 
 pub end-requires-in-After : goal.end-requires-in-After
-end-requires-in-After c = some_once _ _ _ c.in-After.item _ c.in-Ok.ensures.ok (some_behind _ _ _ c.in-After.item _ c.in-After.is c.requires)
+end-requires-in-After c = some_once _ _ _ c.in-After.item _ c.in_ok-push-in-After.ensures.ok (some_behind _ _ _ c.in-After.item _ c.in-After.is c.requires)
 
 pub returns-in-Ready-clause-nodes : goal.returns-in-Ready-clause-nodes
 returns-in-Ready-clause-nodes c = ended_as c.end.result _ _ _ _ _ c.in-Ready.is (λ n h. elim h [ inl f ↦ f | inr g ↦ absurd g ]) c.end.ensures.nodes
 
-pub returns-in-Ok-clause-nodes : goal.returns-in-Ok-clause-nodes
-returns-in-Ok-clause-nodes c =
-    let on = c.in-Ok.ensures.ok in
+pub returns-in_ok-push-in-After-clause-nodes : goal.returns-in_ok-push-in-After-clause-nodes
+returns-in_ok-push-in-After-clause-nodes c =
+    let on = c.in_ok-push-in-After.ensures.ok in
     ended_as c.end-in-After.result _ _ c.args.constructs.now.items _ _ c.in-After.is (λ n h. elim h [ inl f ↦ construct_under _ _ _ on n f | inr e ↦ construct_on _ _ _ on n e ]) c.end-in-After.ensures.nodes

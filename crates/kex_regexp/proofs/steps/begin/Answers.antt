@@ -1,7 +1,7 @@
-use Rattle.std.proofs.Common.{refl, ◌∙◌, sym, inl, inr}
+use Rattle.std.proofs.Common.{◌∙◌, sym, inl, inr}
 use Rattle.kex_regexp.specs.Grammar.{Plain, Dot}
 use Rattle.kex_regexp.proofs.Complete.{begin_byte, begin_92, begin_46, begin_91, begin_40, in_set}
-use Rattle.kex_regexp.proofs.ShownSteps.{memory_steps, leaf_steps, plain_item, dot_item, to, begin_is, mark_steps, set_begins_steps, escape_begins_steps, begin_bar, begin_close, begin_none, wrong_steps}
+use Rattle.kex_regexp.proofs.ShownSteps.{memory_exit, leaf_steps, plain_item, dot_item, to, begin_is, mark_steps, set_begins_steps, escape_begins_steps, begin_bar, begin_close, begin_none, wrong_steps}
 use Rattle.kex_regexp.proofs.Parents.{construct_under, none_added}
 use Rattle.kex_regexp.proofs.steps.begin.Goals as goal
 
@@ -18,8 +18,8 @@ pub returns-then-byte-eq91-clause-step : goal.returns-then-byte-eq91-clause-step
 unfolding in_set
 returns-then-byte-eq91-clause-step c = λ base es h a. to _ base _ _ _ _ (begin_is es c.args.byte 91 _ c.if-byte-eq91.true (begin_91 es)) (set_begins_steps _ base _ es _ h a)
 
-pub returns-in-Ok-clause-step : goal.returns-in-Ok-clause-step
-returns-in-Ok-clause-step c = λ base es h a. to _ base _ _ _ _ (begin_is es c.args.byte 40 _ c.if-byte-eq40.true (begin_40 es)) (mark_steps _ base _ _ es _ h a c.in-Ok.ensures.ok)
+pub returns-in_ok-push-clause-step : goal.returns-in_ok-push-clause-step
+returns-in_ok-push-clause-step c = λ base es h a. to _ base _ _ _ _ (begin_is es c.args.byte 40 _ c.if-byte-eq40.true (begin_40 es)) (mark_steps _ base _ _ es _ h a c.in_ok-push.ensures.ok)
 
 pub returns-then-byte-eq124-clause-step : goal.returns-then-byte-eq124-clause-step
 returns-then-byte-eq124-clause-step c = λ base es h a. to _ base _ _ _ _ (begin_is es c.args.byte 124 _ c.if-byte-eq124.true (begin_bar es)) (c.bar.ensures.step base es h a)
@@ -30,8 +30,8 @@ returns-then-byte-eq41-clause-step c = λ base es h a. to _ base _ _ _ _ (begin_
 pub returns-else-byte-eq41-clause-step : goal.returns-else-byte-eq41-clause-step
 returns-else-byte-eq41-clause-step c = λ base es h a. to _ base _ _ _ _ (begin_none es c.args.byte (sym c.is_plain.ensures ∙ c.if-is_plain.false) c.if-byte-eq92.false c.if-byte-eq46.false c.if-byte-eq91.false c.if-byte-eq40.false c.if-byte-eq124.false c.if-byte-eq41.false) (wrong_steps _ base _)
 
-pub returns-in_default-clause-step : goal.returns-in_default-clause-step
-returns-in_default-clause-step c = λ base es h a. memory_steps _ _ _ _ _ refl
+pub returns-in_err-push-clause-step : goal.returns-in_err-push-clause-step
+returns-in_err-push-clause-step c = λ base es h a. memory_exit _ _ _ c.from_residual.result c.from_residual.ensures.1 _
 
 pub returns-then-is_plain-clause-nodes : goal.returns-then-is_plain-clause-nodes
 returns-then-is_plain-clause-nodes c = c.leaf.ensures.nodes c.args.constructs.now.items
@@ -45,5 +45,5 @@ returns-then-byte-eq92-clause-nodes c = none_added _ _ _ (λ n h. h)
 pub returns-then-byte-eq91-clause-nodes : goal.returns-then-byte-eq91-clause-nodes
 returns-then-byte-eq91-clause-nodes c = none_added _ _ _ (λ n h. h)
 
-pub returns-in-Ok-clause-nodes : goal.returns-in-Ok-clause-nodes
-returns-in-Ok-clause-nodes c = none_added _ _ _ (λ n h. elim h [ inl f ↦ inl (construct_under _ _ _ c.in-Ok.ensures.ok n f) | inr g ↦ absurd g ])
+pub returns-in_ok-push-clause-nodes : goal.returns-in_ok-push-clause-nodes
+returns-in_ok-push-clause-nodes c = none_added _ _ _ (λ n h. elim h [ inl f ↦ inl (construct_under _ _ _ c.in_ok-push.ensures.ok n f) | inr g ↦ absurd g ])

@@ -1,7 +1,7 @@
-use Rattle.std.proofs.Common.{refl, ◌∷◌, inl, inr}
+use Rattle.std.proofs.Common.{◌∷◌, inl, inr}
 use Rattle.kex_regexp.specs.Grammar.{Star, Plus, Quest, Once}
 use Rattle.kex_regexp.specs.Machine.{Read}
-use Rattle.kex_regexp.proofs.ShownSteps.{memory_steps, to, behind_is, behind_star, behind_plus, behind_quest, behind_brace, behind_other, count_begins_steps, star_low, star_high, plus_low, plus_high, quest_low, quest_high, once_shows, once_ends}
+use Rattle.kex_regexp.proofs.ShownSteps.{memory_exit, to, behind_is, behind_star, behind_plus, behind_quest, behind_brace, behind_other, count_begins_steps, star_low, star_high, plus_low, plus_high, quest_low, quest_high, once_shows, once_ends}
 use Rattle.kex_regexp.proofs.Bounds.{some_once}
 use Rattle.kex_regexp.proofs.Parents.{construct_on, construct_under, later, none_added}
 use Rattle.kex_regexp.proofs.steps.byte_after_item.Goals as goal
@@ -18,19 +18,19 @@ returns-then-byte-eq63-clause-step c = λ base es i h a x b. to _ base _ _ _ _ (
 pub returns-then-byte-eq123-clause-step : goal.returns-then-byte-eq123-clause-step
 returns-then-byte-eq123-clause-step c = λ base es i h a x b. to _ base _ _ _ _ (behind_is i es c.args.byte 123 _ c.if-byte-eq123.true (behind_brace i es)) (count_begins_steps _ base _ es i c.args.item _ h a b x)
 
-pub returns-in-Ok-clause-step : goal.returns-in-Ok-clause-step
-returns-in-Ok-clause-step c = λ base es i h a x b. to _ base _ _ _ _ (behind_other i es c.args.byte c.if-byte-eq42.false c.if-byte-eq43.false c.if-byte-eq63.false c.if-byte-eq123.false) (c.begin.ensures.step base (Read (Once i) ∷ es) (once_shows _ base _ _ es i c.args.item h a x c.in-Ok.ensures.ok) (once_ends base _ _ es i a b))
+pub returns-in_ok-push-clause-step : goal.returns-in_ok-push-clause-step
+returns-in_ok-push-clause-step c = λ base es i h a x b. to _ base _ _ _ _ (behind_other i es c.args.byte c.if-byte-eq42.false c.if-byte-eq43.false c.if-byte-eq63.false c.if-byte-eq123.false) (c.begin.ensures.step base (Read (Once i) ∷ es) (once_shows _ base _ _ es i c.args.item h a x c.in_ok-push.ensures.ok) (once_ends base _ _ es i a b))
 
-pub returns-in_default-clause-step : goal.returns-in_default-clause-step
-returns-in_default-clause-step c = λ base es i h a x b. memory_steps _ _ _ _ _ refl
+pub returns-in_err-push-clause-step : goal.returns-in_err-push-clause-step
+returns-in_err-push-clause-step c = λ base es i h a x b. memory_exit _ _ _ c.from_residual.result c.from_residual.ensures.1 _
 
 pub begin-requires : goal.begin-requires
-begin-requires c = some_once _ _ _ c.args.item _ c.in-Ok.ensures.ok c.requires
+begin-requires c = some_once _ _ _ c.args.item _ c.in_ok-push.ensures.ok c.requires
 
 pub returns-then-byte-eq123-clause-nodes : goal.returns-then-byte-eq123-clause-nodes
 returns-then-byte-eq123-clause-nodes c = none_added _ _ _ (λ n h. h)
 
-pub returns-in-Ok-clause-nodes : goal.returns-in-Ok-clause-nodes
-returns-in-Ok-clause-nodes c =
-    let on = c.in-Ok.ensures.ok in
+pub returns-in_ok-push-clause-nodes : goal.returns-in_ok-push-clause-nodes
+returns-in_ok-push-clause-nodes c =
+    let on = c.in_ok-push.ensures.ok in
     later c.begin.result _ _ c.args.constructs.now.items _ _ (Rattle.kex_regexp.specs.declared.wait.Wait.TheVariants.After c.args.item) Rattle.kex_regexp.specs.declared.wait.Wait.TheVariants.Ready (λ n h. elim h [ inl f ↦ inl (construct_under _ _ _ on n f) | inr e ↦ inl (construct_on _ _ _ on n e) ]) c.begin.ensures.nodes
