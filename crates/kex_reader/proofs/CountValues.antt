@@ -1,47 +1,56 @@
 -- What the code holds of a count is what the machine holds.
-use Rattle.std.proofs.Common.{◌≡◌, ℕ, Bool, true, false, List, Option, Some, None, refl, sym, ap, arith}
-use Rattle.std.specs.Prelude.{nat_lt, if◌then◌else◌}
+use Rattle.std.proofs.Common.{◌≡◌, ℕ, Bool, true, false, List, Option, Some, None, refl, sym, ap, ◌∙◌}
+use Rattle.std.specs.Prelude.{if◌then◌else◌}
+use Rattle.kex_tokens.specs.Values.{number_of}
 use Rattle.kex_tokens.specs.declared.token.Kind.{Kind}
 use Rattle.kex_tokens.specs.declared.token.Kind.TheVariants as kinds
-use Rattle.kex_reader.specs.declared.counts.Count.{Count}
-use Rattle.kex_reader.specs.declared.counts.Count.TheVariants as counts
+use Rattle.kex_regexp.specs.declared.counts.Count.{Count}
+use Rattle.kex_regexp.specs.declared.counts.Count.TheVariants as counts
+use Rattle.kex_regexp.specs.declared.counts.CountOutcome.TheVariants as outcomes
+use Rattle.kex_regexp.specs.Grammar.{is_digit}
+use Rattle.kex_regexp.specs.Holding.{capped_count}
+use Rattle.kex_regexp.specs.Outcomes.{are_bad_turns, count_outcome, number_outcome}
+use Rattle.kex_regexp.proofs.CappedCounts.{above_capped, below_capped, most_capped, same_capped, uncapped, uncapped_both}
 use Rattle.kex_reader.specs.declared.counts.CountStep.TheVariants as steps
 use Rattle.kex_reader.specs.Syntax.{word, Postfix, Exactly, AtLeast, AtMost, Between}
 use Rattle.kex_reader.specs.Reading.{Counting, Opened, Low, LowComma, LowHigh, OnlyComma, High, CountRead, count_step}
 use Rattle.kex_reader.specs.Checks.{is_bad_count}
 use Rattle.kex_reader.specs.Shown.{low, high}
-use Rattle.kex_reader.specs.Stands.{IsNumber, ShowsCount, ShowsCountStep}
-use Rattle.kex_reader.specs.Counts.{bounds_of, count_after, bounds_from}
+use Rattle.kex_reader.specs.Stands.{HoldsNumber, ShowsCount, ShowsCountStep}
+use Rattle.kex_reader.specs.Counts.{count_after, step_of}
 
--- the bounds of two numbers, of which the lower may be none
-tested : (t : Bool) (l h : ℕ) (p : Postfix) → nat_lt h l ≡ t → low p ≡ l → high p ≡ Some h → is_bad_count p ≡ t → ShowsCountStep (if t then steps.Bad else steps.Read (record { low = l; high = Some h })) (CountRead p)
+tested : (t : Bool) (l : ℕ) (h : Option ℕ) (p : Postfix) → is_bad_count p ≡ t → (is_bad_count p ≡ false → (l ≡ low p) × (h ≡ high p)) → ShowsCountStep (if t then steps.Bad else steps.Read (record { low = l; high = h })) (CountRead p)
 unfolding ShowsCountStep
-tested true l h p e f g b = b
-tested false l h p e f g b = (sym f, sym g, b)
+tested true l h p b f = b
+tested false l h p b f = let e = f b in (e.0, e.1, b)
 
-pub between_shows : (v w : Option ℕ) (n m : List ℕ) → IsNumber v n → IsNumber w m → ShowsCountStep (bounds_of v w) (CountRead (Between n m))
-unfolding ShowsCountStep low high
-between_shows None w n m h k = grind (arith, h)
-between_shows (Some l) None n m h k = grind (arith, k)
-between_shows (Some l) (Some x) n m h k = tested (nat_lt x l) l x (Between n m) refl (sym h.0) (ap (λ (y : ℕ). Some y) (sym k.0)) (grind (arith, h.0, h.1, k.0, k.1))
+-- bounds that are held up to 1,001 break the rule where the counts do, and else they are the counts
+read_shows : (l : ℕ) (h : Option ℕ) (p : Postfix) → are_bad_turns l h ≡ is_bad_count p → (is_bad_count p ≡ false → (l ≡ low p) × (h ≡ high p)) → ShowsCountStep (step_of (outcomes.Read l h)) (CountRead p)
+unfolding step_of
+read_shows l h p e f = tested (are_bad_turns l h) l h p (sym e) f
 
-pub exactly_shows : (v : Option ℕ) (n : List ℕ) → IsNumber v n → ShowsCountStep (bounds_of v v) (CountRead (Exactly n))
-unfolding ShowsCountStep low high
-exactly_shows None n h = grind (arith, h)
-exactly_shows (Some l) n h = tested (nat_lt l l) l l (Exactly n) refl (sym h.0) (ap (λ (y : ℕ). Some y) (sym h.0)) (grind (arith, h.0, h.1))
+pub between_shows : (v w : ℕ) (n m : List ℕ) → HoldsNumber v n → HoldsNumber w m → ShowsCountStep (step_of (outcomes.Read v (Some w))) (CountRead (Between n m))
+unfolding low high are_bad_turns
+between_shows v w n m i k = read_shows v (Some w) (Between n m)
+    (ap (λ (x : ℕ). are_bad_turns x (Some w)) i ∙ ap (λ (x : ℕ). are_bad_turns (capped_count (number_of n)) (Some x)) k ∙ below_capped (number_of n) (number_of m))
+    (λ e. let u = uncapped_both (number_of n) (number_of m) e in (i ∙ u.0, ap (λ (x : ℕ). Some x) (k ∙ u.1)))
 
-pub most_shows : (w : Option ℕ) (m : List ℕ) → IsNumber w m → ShowsCountStep (bounds_of (Some 0) w) (CountRead (AtMost m))
-unfolding ShowsCountStep low high
-most_shows None m k = grind (arith, k)
-most_shows (Some x) m k = tested (nat_lt x 0) 0 x (AtMost m) refl refl (ap (λ (y : ℕ). Some y) (sym k.0)) (grind (arith, k.0, k.1))
+pub exactly_shows : (v : ℕ) (n : List ℕ) → HoldsNumber v n → ShowsCountStep (step_of (outcomes.Read v (Some v))) (CountRead (Exactly n))
+unfolding low high are_bad_turns
+exactly_shows v n i = read_shows v (Some v) (Exactly n) (ap (λ (x : ℕ). are_bad_turns x (Some x)) i ∙ same_capped (number_of n))
+    (λ e. let u = i ∙ uncapped (number_of n) e in (u, ap (λ (x : ℕ). Some x) u))
 
-pub least_shows : (v : Option ℕ) (n : List ℕ) → IsNumber v n → ShowsCountStep (bounds_from v) (CountRead (AtLeast n))
-unfolding ShowsCountStep low high
-least_shows None n h = grind (arith, h)
-least_shows (Some l) n h = (h.0, refl, grind (arith, h.0, h.1))
+pub most_shows : (w : ℕ) (m : List ℕ) → HoldsNumber w m → ShowsCountStep (step_of (outcomes.Read 0 (Some w))) (CountRead (AtMost m))
+unfolding low high are_bad_turns
+most_shows w m k = read_shows 0 (Some w) (AtMost m) (ap (λ (x : ℕ). are_bad_turns 0 (Some x)) k ∙ most_capped (number_of m))
+    (λ e. (refl, ap (λ (x : ℕ). Some x) (k ∙ uncapped (number_of m) e)))
 
-pub count_refines : (x : Count) (c : Counting) (k : Kind) (b : List ℕ) (o : Option ℕ) → IsNumber o b → ShowsCount x c → ShowsCountStep (count_after x k o) (count_step c (word k b))
-unfolding ShowsCount ShowsCountStep count_after count_step
+pub least_shows : (v : ℕ) (n : List ℕ) → HoldsNumber v n → ShowsCountStep (step_of (outcomes.Read v None)) (CountRead (AtLeast n))
+unfolding low high are_bad_turns
+least_shows v n i = read_shows v None (AtLeast n) (ap (λ (x : ℕ). are_bad_turns x None) i ∙ above_capped (number_of n)) (λ e. (i ∙ uncapped (number_of n) e, refl))
+
+pub count_refines : (x : Count) (c : Counting) (k : Kind) (b : List ℕ) (o : ℕ) → HoldsNumber o b → ShowsCount x c → ShowsCountStep (count_after x k o) (count_step c (word k b))
+unfolding ShowsCount ShowsCountStep count_after count_step step_of number_outcome count_outcome is_digit
 count_refines counts.Opened Opened kinds.Number b o i h = i
 count_refines counts.Opened Opened kinds.Comma b o i h = tt
 count_refines counts.Opened Opened _ b o i h = tt

@@ -11,7 +11,7 @@ use Rattle.kex_tokens.specs.declared.token.Kind.{Kind}
 use Rattle.kex_tokens.specs.declared.token.Kind.TheVariants as kinds
 use Rattle.kex_reader.specs.declared.stack.Construct.{Construct}
 use Rattle.kex_reader.specs.declared.stack.Part.{Part as Shown}
-use Rattle.kex_reader.specs.declared.counts.Count.{Count}
+use Rattle.kex_regexp.specs.declared.counts.Count.{Count}
 use Rattle.kex_reader.specs.declared.counts.CountStep.TheVariants as steps
 use Rattle.kex_reader.specs.declared.counts.Bounds.{Bounds}
 use Rattle.kex_reader.specs.declared.pieces.Assignment.{Assignment}

@@ -1,12 +1,11 @@
 -- Where nothing is spare a definition reaches each node.
-use Rattle.std.proofs.Common.{◌≡◌, ℕ, zero, suc, ◌+◌, ◌<◌, ◌≤◌, List, [], ◌∷◌, ◌⊎◌, inl, inr, length, Some, refl, sym, subst, arith}
-use Rattle.std.specs.Prelude.{slice_get}
+use Rattle.std.proofs.Common.{◌≡◌, ℕ, zero, suc, ◌+◌, ◌<◌, ◌≤◌, [], ◌∷◌, inl, inr, length, sym, subst, arith}
 use Rattle.std.proofs.lemmas.Option.{slice_get_within}
 use Rattle.kex_model.specs.Programs.{Grammar, HasBelow, IsInOrder}
 use Rattle.kex_model.specs.declared.program.Kind.{Kind}
 use Rattle.kex_model.specs.declared.program.Kind.TheVariants as kinds
 use Rattle.kex_regexp.specs.Parents.{HasChild}
-use Rattle.kex_reader.specs.Uses.{Numbered, NodeNumber, NameNumber, NoneSpare}
+use Rattle.kex_reader.specs.Uses.{NodeNumber, NameNumber, NoneSpare}
 use Rattle.kex_reader.specs.Reach.{LeadsUp, IsReached}
 
 below : (kind : Kind) (n m : ℕ) → HasBelow m kind → HasChild kind n → n < m

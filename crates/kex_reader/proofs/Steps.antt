@@ -11,7 +11,7 @@ use Rattle.kex_regexp.specs.Shown.{ShowsRegex}
 use Rattle.kex_reader.specs.declared.stack.Construct.{Construct}
 use Rattle.kex_reader.specs.declared.stack.Construct.TheVariants as constructs
 use Rattle.kex_reader.specs.declared.stack.Part.{Part as Shown}
-use Rattle.kex_reader.specs.declared.counts.Count.TheVariants as counts
+use Rattle.kex_regexp.specs.declared.counts.Count.TheVariants as counts
 use Rattle.kex_reader.specs.declared.inside.Wait.{Wait}
 use Rattle.kex_reader.specs.declared.inside.Wait.TheVariants as waits
 use Rattle.kex_reader.specs.declared.inside.StepFault.{StepFault}

@@ -1,5 +1,5 @@
 -- Nothing is spare: what is held, and what comes to stand in a node.
-use Rattle.std.proofs.Common.{◌≡◌, ℕ, ◌+◌, ◌<◌, ◌≤◌, Bool, true, false, List, [], ◌∷◌, ◌++◌, ◌⊎◌, inl, inr, length, Option, Some, None, Result, Ok, Err, refl, sym, ap, ◌∙◌, subst, arith, length-append}
+use Rattle.std.proofs.Common.{◌≡◌, ℕ, ◌<◌, Bool, true, false, List, [], ◌∷◌, ◌++◌, ◌⊎◌, inl, inr, length, Option, None, Result, Ok, Err, refl, sym, ap, ◌∙◌, subst, arith, length-append}
 use Rattle.std.specs.Prelude.{slice_get, IfOk, OnOk}
 use Rattle.std.proofs.lemmas.Bool.{cases_lt}
 use Rattle.kex_code.specs.Codes.{IsAmong}
@@ -16,19 +16,17 @@ use Rattle.kex_regexp.specs.Parents.{NoneLost as NodesKept}
 use Rattle.kex_reader.specs.declared.inside.StepFault.{StepFault}
 use Rattle.kex_reader.specs.declared.inside.Wait.{Wait}
 use Rattle.kex_reader.specs.declared.inside.Wait.TheVariants as waits
-use Rattle.kex_reader.specs.declared.pieces.Assignment.{Assignment}
 use Rattle.kex_reader.specs.declared.reader.Head.{Head}
 use Rattle.kex_reader.specs.declared.reader.Phase.{Phase}
 use Rattle.kex_reader.specs.declared.reader.Phase.TheVariants as phases
 use Rattle.kex_reader.specs.declared.reader.Reader.{Reader}
 use Rattle.kex_reader.specs.declared.stack.Construct.{Construct}
-use Rattle.kex_reader.specs.declared.stack.Construct.TheVariants as constructs
 use Rattle.kex_reader.specs.declared.stack.Prefix.{Prefix}
 use Rattle.kex_reader.specs.declared.stack.Prefix.TheVariants as prefixes
 use Rattle.kex_reader.specs.declared.stack.Part.{Part as Shown}
 use Rattle.kex_reader.specs.Reading.{State, Begin, StageRead}
 use Rattle.kex_reader.specs.Shown.{Made, assignment_kind}
-use Rattle.kex_reader.specs.Stands.{Keeps, Has, NoneLost, LosesNone, InConstruct, InConstructs, InPart, InPieces, InPiece, InAssignment, InWait, IsHeld, StepLosesNone, construct_of, prefixed_kind}
+use Rattle.kex_reader.specs.Stands.{Keeps, Has, LosesNone, InConstruct, InConstructs, InPart, InPieces, InPiece, InWait, IsHeld, StepLosesNone, construct_of, prefixed_kind}
 use Rattle.kex_reader.specs.Holding.{InPhase, InReader, InProgram, EndLosesNone, ReaderLosesNone, FinishLosesNone, ShowsState, SomeState}
 use Rattle.kex_reader.specs.Uses.{Numbered, NodeNumber, NameNumber, RegisterNumber, InKind, InNodes, InDefinition, InDefinitions, InStages, NoneSpare}
 use Rattle.kex_model.specs.Programs.{Grammar}

@@ -1,30 +1,23 @@
--- What the code's counts become by one word, by the word's kind and its number.
-use Rattle.std.specs.Prelude.{ℕ, Option, Some, None, nat_lt, if◌then◌else◌}
+-- What comes of the code's counts by one word, by its kind and its number.
+use Rattle.std.specs.Prelude.{ℕ, if◌then◌else◌}
+use Rattle.kex_tokens.specs.Bytes as byte
 use Rattle.kex_tokens.specs.declared.token.Kind.{Kind}
 use Rattle.kex_tokens.specs.declared.token.Kind.TheVariants as kinds
-use Rattle.kex_reader.specs.declared.counts.Count.{Count}
-use Rattle.kex_reader.specs.declared.counts.Count.TheVariants as counts
+use Rattle.kex_regexp.specs.declared.counts.Count.{Count}
+use Rattle.kex_regexp.specs.declared.counts.CountOutcome.{CountOutcome}
+use Rattle.kex_regexp.specs.declared.counts.CountOutcome.TheVariants as outcomes
+use Rattle.kex_regexp.specs.Outcomes.{are_bad_turns, count_outcome, number_outcome}
 use Rattle.kex_reader.specs.declared.counts.CountStep.{CountStep}
 use Rattle.kex_reader.specs.declared.counts.CountStep.TheVariants as steps
 
-abbrev pub bounds_of : Option ℕ → Option ℕ → CountStep
-bounds_of None high = steps.Bad
-bounds_of (Some low) None = steps.Bad
-bounds_of (Some low) (Some high) = if nat_lt high low then steps.Bad else steps.Read (record { low = low; high = Some high })
+-- bounds that break the rule of counts are told apart
+unfoldable pub step_of : CountOutcome → CountStep
+step_of (outcomes.On c) = steps.On c
+step_of (outcomes.Read low high) = if are_bad_turns low high then steps.Bad else steps.Read (record { low = low; high = high })
+step_of outcomes.Wrong = steps.Wrong
 
-abbrev pub bounds_from : Option ℕ → CountStep
-bounds_from None = steps.Bad
-bounds_from (Some low) = steps.Read (record { low = low; high = None })
-
--- the number of the word, if it is one of at most 1,000
-unfoldable pub count_after : Count → Kind → Option ℕ → CountStep
-count_after counts.Opened kinds.Number n = steps.On (counts.Low n)
-count_after counts.Opened kinds.Comma n = steps.On counts.OnlyComma
-count_after (counts.Low v) kinds.Comma n = steps.On (counts.LowComma v)
-count_after (counts.Low v) kinds.CloseBrace n = bounds_of v v
-count_after (counts.LowComma v) kinds.Number n = steps.On (counts.LowHigh v n)
-count_after (counts.LowComma v) kinds.CloseBrace n = bounds_from v
-count_after (counts.LowHigh v w) kinds.CloseBrace n = bounds_of v w
-count_after counts.OnlyComma kinds.Number n = steps.On (counts.High n)
-count_after (counts.High w) kinds.CloseBrace n = bounds_of (Some 0) w
-count_after _ _ n = steps.Wrong
+unfoldable pub count_after : Count → Kind → ℕ → CountStep
+count_after c kinds.Number n = step_of (number_outcome c n)
+count_after c kinds.Comma n = step_of (count_outcome c byte.comma)
+count_after c kinds.CloseBrace n = step_of (count_outcome c byte.close_brace)
+count_after c _ n = steps.Wrong

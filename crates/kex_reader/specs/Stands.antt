@@ -1,5 +1,5 @@
 -- What the code holds of a program that is being read, and the state of the machine that it stands for.
-use Rattle.std.specs.Prelude.{◌≡◌, ℕ, suc, ◌+◌, ◌<◌, ◌≤◌, Bool, true, false, List, [], ◌∷◌, ◌++◌, length, Option, Some, None, Result, Ok, Err, IfOk, OnOk, slice_get, MatchOption, ◌⊎◌, if◌then◌else◌}
+use Rattle.std.specs.Prelude.{◌≡◌, ℕ, suc, ◌+◌, ◌<◌, ◌≤◌, Bool, true, false, List, [], ◌∷◌, ◌++◌, length, Option, Some, None, Result, Ok, Err, IfOk, OnOk, slice_get, ◌⊎◌, if◌then◌else◌}
 use Rattle.kex_model.specs.declared.program.Kind.{Kind}
 use Rattle.kex_model.specs.declared.program.Kind.TheVariants as kinds
 use Rattle.kex_model.specs.declared.program.Node.{Node}
@@ -13,8 +13,9 @@ use Rattle.kex_reader.specs.declared.stack.Construct.TheVariants as constructs
 use Rattle.kex_reader.specs.declared.stack.Prefix.{Prefix}
 use Rattle.kex_reader.specs.declared.stack.Prefix.TheVariants as prefixes
 use Rattle.kex_reader.specs.declared.stack.Part.{Part as Shown}
-use Rattle.kex_reader.specs.declared.counts.Count.{Count}
-use Rattle.kex_reader.specs.declared.counts.Count.TheVariants as counts
+use Rattle.kex_regexp.specs.declared.counts.Count.{Count}
+use Rattle.kex_regexp.specs.declared.counts.Count.TheVariants as counts
+use Rattle.kex_regexp.specs.Holding.{capped_count}
 use Rattle.kex_reader.specs.declared.counts.CountStep.{CountStep as HeldStep}
 use Rattle.kex_reader.specs.declared.counts.CountStep.TheVariants as steps
 use Rattle.kex_reader.specs.declared.word.Word.{Word as WordHeld}
@@ -26,7 +27,7 @@ use Rattle.kex_reader.specs.declared.inside.StepFault.TheVariants as faults
 use Rattle.kex_reader.specs.Syntax.{Word, word, Name, Literal, Text, Held, Tilde, At, Star, Plus, Question, OpenBrace, OpenParen, Regex, Define, Part, Term, Seq, Pre, Atom, Once, Call, atom}
 use Rattle.kex_reader.specs.Reading.{Entry, Mark, Ended, Done, Muted, Storing, Counting, Opened, Low, LowComma, LowHigh, OnlyComma, High, CountStep, CountOn, CountRead, CountWrong, Mode, Need, Ready, After, Named, Writing, Bracket, BracketName, Assigning, Assigned, InCount, Inside, inside, first_part, next_part, with_pre, entries, count_step}
 use Rattle.kex_reader.specs.Checks.{Check, Nested, Matched, SomeBreaks, IsLeastBreak, is_bad_count, postfix_checks}
-use Rattle.kex_reader.specs.Uses.{Numbered, NodeNumber, NameNumber, RegisterNumber, IsBelow, InNodes}
+use Rattle.kex_reader.specs.Uses.{Numbered, NodeNumber, RegisterNumber, IsBelow, InNodes}
 use Rattle.kex_reader.specs.Shown.{Made, IsRegister, ShowsTerm, ShowsSeq, ShowsPre, ShowsAtom, ShowsPart, ShowsParts, low, high}
 
 -- what was made stays: nodes, names and registers keep their numbers, and what is broken stays broken
@@ -137,17 +138,17 @@ PieceShows _ made _ = ⊥
 
 -- ---- counts
 
--- a number, or none where it is above 1,000
-abbrev pub IsNumber : Option ℕ → List ℕ → Type 0
-IsNumber o digits = MatchOption o (1000 < number_of digits) (λ n. (n ≡ number_of digits) × (n ≤ 1000))
+-- a number above 1,000 is held as 1,001
+abbrev pub HoldsNumber : ℕ → List ℕ → Type 0
+HoldsNumber v digits = v ≡ capped_count (number_of digits)
 
 unfoldable pub ShowsCount : Count → Counting → Type 0
 ShowsCount counts.Opened Opened = Unit {0}
-ShowsCount (counts.Low v) (Low n) = IsNumber v n
-ShowsCount (counts.LowComma v) (LowComma n) = IsNumber v n
-ShowsCount (counts.LowHigh v w) (LowHigh n m) = IsNumber v n × IsNumber w m
+ShowsCount (counts.Low v) (Low n) = HoldsNumber v n
+ShowsCount (counts.LowComma v) (LowComma n) = HoldsNumber v n
+ShowsCount (counts.LowHigh v w) (LowHigh n m) = HoldsNumber v n × HoldsNumber w m
 ShowsCount counts.OnlyComma OnlyComma = Unit {0}
-ShowsCount (counts.High w) (High m) = IsNumber w m
+ShowsCount (counts.High w) (High m) = HoldsNumber w m
 ShowsCount _ _ = ⊥
 
 unfoldable pub ShowsCountStep : HeldStep → CountStep → Type 0

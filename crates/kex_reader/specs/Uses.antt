@@ -1,7 +1,6 @@
 -- What has a number in a program, where it stands, and that none of it is spare.
 use Rattle.std.specs.Prelude.{◌≡◌, ℕ, ◌<◌, ◌⊎◌, List, length, Some, slice_get}
 use Rattle.kex_code.specs.Codes.{IsAmong}
-use Rattle.kex_code.specs.declared.piece.Piece.{Piece}
 use Rattle.kex_code.specs.declared.piece.Piece.TheVariants as pieces
 use Rattle.kex_model.specs.Programs.{Grammar}
 use Rattle.kex_model.specs.declared.program.Kind.{Kind}

@@ -1,23 +1,15 @@
-// Counts in braces.
+// Counts in braces, word by word. What is held of a count, and what comes of it, is as in bodies.
 
 ghost use Rattle.std.specs.Prelude.{◌≡◌};
-ghost use Rattle.kex_reader.specs.Counts.{bounds_of, count_after, bounds_from};
+ghost use Rattle.kex_regexp.specs.Holding.{capped_count};
+ghost use Rattle.kex_tokens.specs.Values.{number_of};
+ghost use Rattle.kex_reader.specs.Counts.{count_after, step_of};
 
+use kex_regexp::counts::{
+    Count, CountOutcome, MAX_COUNT, at_brace, at_comma, at_number, is_bad_count,
+};
+use kex_tokens::number_value;
 use kex_tokens::token::Kind;
-
-/// The greatest count.
-pub(crate) const MOST: u32 = 1000;
-
-/// What is read of a count behind its brace. A number above `MOST` is `None`.
-#[derive(Clone, Copy)]
-pub(crate) enum Count {
-    Opened,
-    Low(Option<u32>),
-    LowComma(Option<u32>),
-    LowHigh(Option<u32>, Option<u32>),
-    OnlyComma,
-    High(Option<u32>),
-}
 
 /// How many turns: from so many on, up to so many.
 #[derive(Clone, Copy)]
@@ -35,67 +27,42 @@ pub(crate) enum CountStep {
     Wrong,
 }
 
-// The bounds of two numbers.
-fn bounded(low: Option<u32>, high: Option<u32>) -> CountStep
-    ensures { result ≡ bounds_of low high }
+// The value of a number, held up to 1,001.
+pub(crate) fn held_number(digits: &[u8]) -> u32
+    ensures { result ≡ capped_count (number_of digits.now) }
 {
-    let Some(low) = low else {
-        return CountStep::Bad;
-    };
-    let Some(high) = high else {
-        return CountStep::Bad;
-    };
-    if high < low {
-        return CountStep::Bad;
+    match number_value(digits, MAX_COUNT) {
+        Some(value) => value,
+        None => MAX_COUNT + 1,
     }
-    CountStep::Read(Bounds {
-        low,
-        high: Some(high),
-    })
 }
 
-// The bounds of one number, from which on turns are read.
-fn unbounded(low: Option<u32>) -> CountStep
-    ensures { result ≡ bounds_from low }
+// What comes of a count, with bounds that break the rule of counts told apart.
+#[tactic(auto, unfolding(crate::specs::Counts::step_of))]
+fn step_for(outcome: CountOutcome) -> CountStep
+    ensures { result ≡ step_of outcome }
 {
-    match low {
-        Some(low) => CountStep::Read(Bounds { low, high: None }),
-        None => CountStep::Bad,
+    match outcome {
+        CountOutcome::On(count) => CountStep::On(count),
+        CountOutcome::Read { low, high } => {
+            if is_bad_count(low, high) {
+                return CountStep::Bad;
+            }
+            CountStep::Read(Bounds { low, high })
+        }
+        CountOutcome::Wrong => CountStep::Wrong,
     }
 }
 
 // A word behind what is read of a count, where `number` is its value.
 #[tactic(auto, unfolding(crate::specs::Counts::count_after))]
-pub(crate) fn count_step(count: Count, kind: Kind, number: Option<u32>) -> CountStep
+pub(crate) fn count_step(count: Count, kind: Kind, number: u32) -> CountStep
     ensures { result ≡ count_after count kind number }
 {
-    match count {
-        Count::Opened => match kind {
-            Kind::Number => CountStep::On(Count::Low(number)),
-            Kind::Comma => CountStep::On(Count::OnlyComma),
-            _ => CountStep::Wrong,
-        },
-        Count::Low(low) => match kind {
-            Kind::Comma => CountStep::On(Count::LowComma(low)),
-            Kind::CloseBrace => bounded(low, low),
-            _ => CountStep::Wrong,
-        },
-        Count::LowComma(low) => match kind {
-            Kind::Number => CountStep::On(Count::LowHigh(low, number)),
-            Kind::CloseBrace => unbounded(low),
-            _ => CountStep::Wrong,
-        },
-        Count::LowHigh(low, high) => match kind {
-            Kind::CloseBrace => bounded(low, high),
-            _ => CountStep::Wrong,
-        },
-        Count::OnlyComma => match kind {
-            Kind::Number => CountStep::On(Count::High(number)),
-            _ => CountStep::Wrong,
-        },
-        Count::High(high) => match kind {
-            Kind::CloseBrace => bounded(Some(0), high),
-            _ => CountStep::Wrong,
-        },
+    match kind {
+        Kind::Number => step_for(at_number(count, number)),
+        Kind::Comma => step_for(at_comma(count)),
+        Kind::CloseBrace => step_for(at_brace(count)),
+        _ => CountStep::Wrong,
     }
 }

@@ -16,7 +16,7 @@ ghost use Rattle.kex_reader.specs.Stands.{OnAtom, ShowsCountStep, ShowsMode, Som
 ghost use Rattle.kex_reader.specs.Uses.{InKind, NodeNumber, Numbered, RegisterNumber};
 ghost use Rattle.kex_reader.specs.Syntax.{Atom, Part as SpecPart, Postfix, Turns, Write as SpecWrite, atom, between, word as grammar_word};
 
-use crate::counts::{Bounds, Count, CountStep, MOST, count_step};
+use crate::counts::{Bounds, CountStep, count_step, held_number};
 use crate::draft::Draft;
 use crate::pieces::{Assignment, piece};
 use crate::stack::{Construct, Part, Stack, Store};
@@ -26,8 +26,9 @@ use kex_code::memory::Memory;
 use kex_code::piece::Bytes;
 use kex_model::program::Kind as NodeKind;
 use kex_regexp::breaks::Break;
+use kex_regexp::counts::Count;
+use kex_tokens::literal_bytes;
 use kex_tokens::token::Kind;
-use kex_tokens::{literal_bytes, number_value};
 use std::alloc::{AllocError, AllocFailed, Global};
 
 /// How deep parentheses and prefixes may nest.
@@ -529,7 +530,7 @@ pub(crate) fn step_in<'t>(
             draft,
             item,
             brace,
-            count_step(count, word.kind, number_value(word.spelling, MOST)),
+            count_step(count, word.kind, held_number(word.spelling)),
         ),
     }
 }

@@ -1,7 +1,7 @@
 -- The grammar of regex bodies, as trees, one constructor for each alternative of a rule, and what each tree spells.
 use Rattle.std.specs.Char.{is_ascii_digit, is_ascii_hexdigit, is_ascii_punctuation}
 use Rattle.kex_tokens.specs.Bytes as byte
-use Rattle.std.specs.Prelude.{◌≡◌, ℕ, Bool, true, false, ◌&&◌, ◌||◌, List, [], ◌∷◌, ◌++◌, nat_le, ◌==◌, if◌then◌else◌}
+use Rattle.std.specs.Prelude.{◌≡◌, ℕ, Bool, true, false, List, [], ◌∷◌, ◌++◌, ◌==◌, if◌then◌else◌}
 
 -- ---- which bytes are what
 

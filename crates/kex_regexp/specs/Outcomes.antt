@@ -77,6 +77,13 @@ count_outcome (counts.LowHigh v w) b = if is_digit b then outcomes.On (counts.Lo
 count_outcome counts.OnlyComma b = if is_digit b then outcomes.On (counts.High (capped_number 0 b)) else outcomes.Wrong
 count_outcome (counts.High w) b = if is_digit b then outcomes.On (counts.High (capped_number w b)) else if b == byte.close_brace then outcomes.Read 0 (Some w) else outcomes.Wrong
 
+-- the same by a whole number, where numbers are no bytes
+unfoldable pub number_outcome : Count → ℕ → CountOutcome
+number_outcome counts.Opened n = outcomes.On (counts.Low n)
+number_outcome (counts.LowComma v) n = outcomes.On (counts.LowHigh v n)
+number_outcome counts.OnlyComma n = outcomes.On (counts.High n)
+number_outcome _ n = outcomes.Wrong
+
 unfoldable pub are_bad_turns : ℕ → Option ℕ → Bool
 are_bad_turns low None = nat_lt 1000 low
 are_bad_turns low (Some high) = nat_lt 1000 low || nat_lt 1000 high || nat_lt high low

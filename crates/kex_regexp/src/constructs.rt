@@ -66,7 +66,11 @@ pub fn take_mark(constructs: &mut Vec<Construct>) -> Option<u32>
 
 /// Ends the branch that is being read: its pieces become one node.
 #[tactic(auto, using(crate::proofs::Additions::adding))]
-pub fn close_branch(constructs: &mut Vec<Construct>, into: &mut Builder, at: u32) -> Result<Placed, Memory>
+pub fn close_branch(
+    constructs: &mut Vec<Construct>,
+    into: &mut Builder,
+    at: u32,
+) -> Result<Placed, Memory>
     requires { SomeConstructs into.old constructs.old.items at }
     ensures adds { Adds into.old into.new }
     ensures branch { IfOk result (λ p. (base : ℕ) (es : List Entry) → ConstructsShow into.old base (reverse constructs.old.items) es → at ≡ base + length (entries es) → BranchOn into.new base constructs.new.items p (take_pieces es Empty)) }
@@ -92,7 +96,11 @@ pub fn close_branch(constructs: &mut Vec<Construct>, into: &mut Builder, at: u32
 
 /// Ends the regex that is being read: its branches become one node.
 #[tactic(auto, using(crate::proofs::Additions::adding))]
-pub fn close_regex(constructs: &mut Vec<Construct>, into: &mut Builder, at: u32) -> Result<Placed, Memory>
+pub fn close_regex(
+    constructs: &mut Vec<Construct>,
+    into: &mut Builder,
+    at: u32,
+) -> Result<Placed, Memory>
     requires { SomeConstructs into.old constructs.old.items at }
     ensures adds { Adds into.old into.new }
     ensures regex { IfOk result (λ p. (base : ℕ) (es : List Entry) → ConstructsShow into.old base (reverse constructs.old.items) es → at ≡ base + length (entries es) → RegexOn into.new base constructs.new.items p (take_regex es)) }

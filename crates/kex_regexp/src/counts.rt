@@ -1,11 +1,11 @@
-// Counts in braces. A count above 1,000 is held as 1,001.
+// Counts in braces, of bodies and of programs. A count above 1,000 is held as 1,001.
 
 ghost use Rattle.std.specs.Prelude.{◌≡◌, ◌≤◌};
 ghost use Rattle.kex_tokens.specs.Bytes.{close_brace, comma};
-ghost use Rattle.kex_regexp.specs.Outcomes.{are_bad_turns, count_outcome, capped_number};
+ghost use Rattle.kex_regexp.specs.Outcomes.{are_bad_turns, capped_number, count_outcome, number_outcome};
 
 /// The greatest count that is allowed.
-const MAX_COUNT: u32 = 1000;
+pub const MAX_COUNT: u32 = 1000;
 
 /// What is known of a count, behind the brace.
 #[derive(Clone, Copy, Drop)]
@@ -18,7 +18,7 @@ pub enum Count {
     High(u32),
 }
 
-/// What comes of a count by one more byte.
+/// What comes of a count by what follows.
 #[derive(Clone, Copy, Drop)]
 pub enum CountOutcome {
     On(Count),
@@ -57,9 +57,22 @@ fn at_digit(count: Count, digit: u8) -> CountOutcome
     })
 }
 
-// A comma.
+/// A whole number, held up to 1,001.
+#[tactic(auto, unfolding(crate::specs::Outcomes::number_outcome))]
+pub fn at_number(count: Count, number: u32) -> CountOutcome
+    ensures { result ≡ number_outcome count number }
+{
+    match count {
+        Count::Opened => CountOutcome::On(Count::Low(number)),
+        Count::LowComma(low) => CountOutcome::On(Count::LowHigh { low, high: number }),
+        Count::OnlyComma => CountOutcome::On(Count::High(number)),
+        _ => CountOutcome::Wrong,
+    }
+}
+
+/// A comma.
 #[tactic(auto, unfolding(crate::specs::Outcomes::count_outcome, crate::specs::Grammar::is_digit))]
-fn at_comma(count: Count) -> CountOutcome
+pub fn at_comma(count: Count) -> CountOutcome
     ensures { result ≡ count_outcome count comma }
 {
     match count {
@@ -69,9 +82,9 @@ fn at_comma(count: Count) -> CountOutcome
     }
 }
 
-// The closing brace.
+/// The closing brace.
 #[tactic(auto, unfolding(crate::specs::Outcomes::count_outcome, crate::specs::Grammar::is_digit))]
-fn at_brace(count: Count) -> CountOutcome
+pub fn at_brace(count: Count) -> CountOutcome
     ensures { result ≡ count_outcome count close_brace }
 {
     let (low, high) = match count {

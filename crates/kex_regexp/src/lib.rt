@@ -9,7 +9,7 @@ mod body;
 pub mod breaks;
 mod bytes;
 mod constructs;
-mod counts;
+pub mod counts;
 mod escapes;
 pub mod fault;
 pub mod laws;

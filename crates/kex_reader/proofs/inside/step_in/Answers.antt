@@ -63,7 +63,7 @@ pub returns-in-InCount-clause-step : goal.returns-in-InCount-clause-step
 returns-in-InCount-clause-step c = λ at base i st p.
     let m = mode_count c.args.draft.now at (base + length (entries i.entries)) c.in-InCount.item c.in-InCount.count c.in-InCount.brace i.mode (subst (λ w. ShowsMode c.args.draft.now at (base + length (entries i.entries)) w i.mode) (c.in-InCount.is) st.mode) in
     to _ at base _ _ _ _ (step_of i (InCount m.0 m.1) (word c.args.word.kind c.args.word.spelling.now) m.2 ∙ in_count m.0 m.1 i.entries (word c.args.word.kind c.args.word.spelling.now)) (c.go_on_counting.ensures.step at base i.entries m.0 st.below m.3 m.4 (count_step m.1 (word c.args.word.kind c.args.word.spelling.now)) m.6
-    (subst (λ x. ShowsCountStep x (count_step m.1 (word c.args.word.kind c.args.word.spelling.now))) (sym c.count_step.ensures) (count_refines c.in-InCount.count m.1 c.args.word.kind c.args.word.spelling.now c.number_value.result c.number_value.ensures m.5)))
+    (subst (λ x. ShowsCountStep x (count_step m.1 (word c.args.word.kind c.args.word.spelling.now))) (sym c.count_step.ensures) (count_refines c.in-InCount.count m.1 c.args.word.kind c.args.word.spelling.now c.held_number.result c.held_number.ensures m.5)))
 
 pub begin-requires-clause-constructs : goal.begin-requires-clause-constructs
 begin-requires-clause-constructs c = some_named c.args.draft.now c.args.stack.now c.args.wait c.requires.inside
@@ -86,7 +86,7 @@ go_on_counting-requires-clause-atom c = some_count c.args.draft.now c.args.stack
 pub go_on_counting-requires-clause-count : goal.go_on_counting-requires-clause-count
 go_on_counting-requires-clause-count c =
     let d = some_counting c.args.draft.now c.args.stack.now c.args.wait c.in-InCount.item c.in-InCount.count c.in-InCount.brace c.in-InCount.is c.requires.inside in
-    (count_step d.0 (word c.args.word.kind c.args.word.spelling.now), subst (λ x. ShowsCountStep x (count_step d.0 (word c.args.word.kind c.args.word.spelling.now))) (sym c.count_step.ensures) (count_refines c.in-InCount.count d.0 c.args.word.kind c.args.word.spelling.now c.number_value.result c.number_value.ensures d.1))
+    (count_step d.0 (word c.args.word.kind c.args.word.spelling.now), subst (λ x. ShowsCountStep x (count_step d.0 (word c.args.word.kind c.args.word.spelling.now))) (sym c.count_step.ensures) (count_refines c.in-InCount.count d.0 c.args.word.kind c.args.word.spelling.now c.held_number.result c.held_number.ensures d.1))
 
 pub returns-in-Need-clause-notes : goal.returns-in-Need-clause-notes
 returns-in-Need-clause-notes c = λ at base i st p cs n.
@@ -112,7 +112,7 @@ pub returns-in-InCount-clause-notes : goal.returns-in-InCount-clause-notes
 returns-in-InCount-clause-notes c = λ at base i st p cs n.
     let m = mode_count c.args.draft.now at (base + length (entries i.entries)) c.in-InCount.item c.in-InCount.count c.in-InCount.brace i.mode (subst (λ w. ShowsMode c.args.draft.now at (base + length (entries i.entries)) w i.mode) (c.in-InCount.is) st.mode) in
     on_from c.go_on_counting.result cs _ _ c.go_on_counting.new.draft.broken (mode_count_asks at (base + length (entries i.entries)) i (word c.args.word.kind c.args.word.spelling.now) m.0 m.1 m.2) (c.go_on_counting.ensures.notes (count_step m.1 (word c.args.word.kind c.args.word.spelling.now)) (at (base + length (entries i.entries) + length (atom m.0))) m.6
-    (subst (λ x. ShowsCountStep x (count_step m.1 (word c.args.word.kind c.args.word.spelling.now))) (sym c.count_step.ensures) (count_refines c.in-InCount.count m.1 c.args.word.kind c.args.word.spelling.now c.number_value.result c.number_value.ensures m.5)) cs n)
+    (subst (λ x. ShowsCountStep x (count_step m.1 (word c.args.word.kind c.args.word.spelling.now))) (sym c.count_step.ensures) (count_refines c.in-InCount.count m.1 c.args.word.kind c.args.word.spelling.now c.held_number.result c.held_number.ensures m.5)) cs n)
 
 pub returns-in-Writing-clause-notes : goal.returns-in-Writing-clause-notes
 returns-in-Writing-clause-notes c = λ at base i st p cs n.
