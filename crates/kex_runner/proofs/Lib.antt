@@ -1,4 +1,5 @@
 pub mod Looking
+pub mod WayLemmas
 pub mod Noting
 pub mod Pieces
 pub mod Going

@@ -15,7 +15,7 @@ use Rattle.kex_runner.specs.Noting.{ByteUpdate, next_registers, registers_after,
 use Rattle.kex_runner.specs.Looking.{code_of, codes_of, AreNoted, if_some, unless_empty, part_work, register_work, list_work, weight_of, old_text, old_weight, HasAsked, HasRead}
 use Rattle.kex_runner.proofs.Noting.{meant_fresh}
 
-meant-append : (regs : List (List Symbol)) (b : ℕ) (xs ys : List Part) → meant regs b (xs ++ ys) ≡ meant regs b xs ++ meant regs b ys
+pub meant-append : (regs : List (List Symbol)) (b : ℕ) (xs ys : List Part) → meant regs b (xs ++ ys) ≡ meant regs b xs ++ meant regs b ys
 meant-append regs b [] ys = refl
 meant-append regs b (x ∷ xs) ys = ap (λ z. value regs b x ++ z) (meant-append regs b xs ys) ∙ sym (append_assoc (value regs b x) (meant regs b xs) (meant regs b ys))
 

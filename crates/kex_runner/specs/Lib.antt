@@ -1,5 +1,6 @@
 pub mod Noting
 pub mod Looking
+pub mod Ways
 pub mod Items
 pub mod Running
 pub mod Following

@@ -10,5 +10,7 @@ mod reading;
 mod registers;
 pub mod runner;
 mod spelling;
+mod walking;
+mod ways;
 
 pub use answers::{Ended, Fed};

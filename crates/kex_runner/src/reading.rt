@@ -89,7 +89,7 @@ fn or_pop(next: Option<Unread>, pending: &mut Vec<Unread>) -> Option<Unread>
 
 // What a register holds after so many notes is to be read: the list that the last of them gives it, or the settled register at once.
 #[inline(always)]
-fn ask(
+pub fn ask(
     script: &Script,
     base: &[Settled],
     notes: &[Note],
@@ -181,7 +181,7 @@ fn read(
 }
 
 // What a list stands for, and what is to be read from it, is read.
-fn look_up(
+pub fn look_up(
     script: &Script,
     base: &[Settled],
     notes: &[Note],

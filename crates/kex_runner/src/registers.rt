@@ -5,9 +5,12 @@ ghost use Rattle.kex_sst.specs.Parts.{items_of, long_in, meant, value};
 ghost use Rattle.kex_script.specs.Pieces.{spelled};
 ghost use Rattle.kex_script.specs.Scripts.{HasUpdate, Sheet, change_at};
 ghost use Rattle.kex_runner.specs.Noting.{held, next_registers, noted_by, settled_of};
+ghost use Rattle.kex_runner.specs.Ways.{AreKnown};
 
-use crate::reading::{Note, Reading, Settled, read_list, read_register};
+use crate::reading::{Note, Reading, Settled, read_register};
 use crate::spelling::spell;
+use crate::walking::read_by_ways;
+use crate::ways::Ways;
 use kex_code::code::Code;
 use kex_code::memory::Memory;
 use kex_code::symbol::Symbol;
@@ -220,16 +223,20 @@ impl Registers {
     fn pass(
         &mut self,
         script: &Script,
+        ways: &mut Ways,
         lists: u32,
         byte: u8,
         pieces: &mut Vec<Piece>,
     ) -> Result<(), Memory>
+        requires known { AreKnown script.now ways.old }
+        ensures known { OnOk result (AreKnown script.now ways.new) }
         ensures pieces { OnOk result (spelled script.now.words pieces.new.items ≡ spelled script.now.words pieces.old.items ++ meant (held script.now self.old) byte (change_at script.now lists).out) }
         ensures same { held script.now self.new ≡ held script.now self.old }
         ensures count { self.new.count ≡ self.old.count }
     {
-        read_list(
+        read_by_ways(
             script,
+            ways,
             &self.base,
             &self.notes,
             script.passed(lists),
@@ -244,19 +251,22 @@ impl Registers {
     pub fn take(
         &mut self,
         script: &Script,
+        ways: &mut Ways,
         entry: Entry,
         byte: u8,
         pieces: &mut Vec<Piece>,
     ) -> Result<(), Memory>
+        requires known { AreKnown script.now ways.old }
         requires entry { HasUpdate script.now entry entry.target (change_at script.now entry.lists) }
         requires counted { self.old.count ≡ length (held script.now self.old) }
+        ensures known { OnOk result (AreKnown script.now ways.new) }
         ensures registers { OnOk result (held script.now self.new ≡ next_registers (change_at script.now entry.lists) byte (held script.now self.old)) }
         ensures pieces { OnOk result (spelled script.now.words pieces.new.items ≡ spelled script.now.words pieces.old.items ++ meant (held script.now self.old) byte (change_at script.now entry.lists).out) }
         ensures kept { OnErr result (held script.now self.new ≡ held script.now self.old) }
         ensures counted { self.new.count ≡ length (held script.now self.new) }
     {
         if !entry.silent {
-            self.pass(script, entry.lists, byte, pieces)?;
+            self.pass(script, ways, entry.lists, byte, pieces)?;
         }
         self.note(script, entry, byte)
     }

@@ -9,10 +9,12 @@ ghost use Rattle.kex_script.specs.Scripts.{IsScriptOf};
 ghost use Rattle.kex_runner.specs.Noting.{held};
 ghost use Rattle.kex_runner.specs.Following.{Follows, IsPlace, IsRunner, pass_at};
 ghost use Rattle.kex_runner.specs.Items.{items_along};
+ghost use Rattle.kex_runner.specs.Ways.{AreKnown};
 
 use crate::answers::{Ended, Fed, answer_of};
 use crate::registers::{Registers, count_items};
 use crate::spelling::spell;
+use crate::ways::Ways;
 use kex_code::code::Code;
 use kex_code::memory::Memory;
 use kex_ports::Steps;
@@ -30,6 +32,7 @@ use std::sync::ledger::Ledger;
 pub struct Runner<'t> {
     table: &'t Table,
     script: Script,
+    ways: Ways,
     state: u32,
     pending: Vec<Piece>,
     registers: Registers,
@@ -43,19 +46,22 @@ impl<'t> Model for Runner<'t> {
     ghost use Rattle.kex_script.specs.Pieces.{spelled};
     ghost use Rattle.kex_runner.specs.Noting.{held};
     ghost use Rattle.kex_runner.specs.Running.{Running};
+    ghost use Rattle.std.specs.Prelude.{IsTrue};
     ghost use Rattle.kex_runner.specs.Following.{IsRunner};
+    ghost use Rattle.kex_runner.specs.Ways.{AreKnown};
 
     ghost Value = { Running };
 
     ghost view = { λ r. record { table = r.table.now; words = r.script.words; state = r.state; pending = spelled r.script.words r.pending.items; registers = held r.script r.registers; read = r.read; dead = r.dead; ended = r.ended; usable = r.usable } };
 
-    ghost invariant = { λ r. IsRunner r.table.now r.script r.state r.registers };
+    ghost invariant = { λ r. IsRunner r.table.now r.script r.state r.registers × (IsTrue r.usable → AreKnown r.script r.ways) };
 }
 
 // Follows the table along a piece, as far as it goes on, and tells how many bytes that is. What is passed on is put behind pieces.
 fn follow<L: Ledger>(
     table: &Table,
     script: &Script,
+    ways: &mut Ways,
     state: &mut u32,
     registers: &mut Registers,
     piece: &[u8],
@@ -63,6 +69,8 @@ fn follow<L: Ledger>(
     steps: &mut Steps<L>,
 ) -> Result<usize, Memory>
     requires runner { IsRunner table.now script.now state.old registers.old }
+    requires known { AreKnown script.now ways.old }
+    ensures known { OnOk result (AreKnown script.now ways.new) }
     ensures follows { IfOk result (λ count. Follows table.now state.old (held script.now registers.old) piece.now count state.new (held script.now registers.new) (spelled script.now.words pieces.old.items) (spelled script.now.words pieces.new.items)) }
     ensures steps { OnOk result (steps.new ≡ steps.old + items_along table.now state.old piece.now) }
     ensures runner { IsRunner table.now script.now state.new registers.new }
@@ -74,7 +82,7 @@ fn follow<L: Ledger>(
         };
         count_items(update, steps);
         let entry = script.entry(*state, class);
-        registers.take(script, entry, piece[i], pieces)?;
+        registers.take(script, ways, entry, piece[i], pieces)?;
         *state = entry.target;
     }
     Ok(piece.len())
@@ -99,12 +107,15 @@ struct Taken {
 fn follow_held(
     table: &Table,
     script: &Script,
+    ways: &mut Ways,
     state: &mut u32,
     registers: &mut Registers,
     piece: &[u8],
     pieces: &mut Vec<Piece>,
 ) -> Result<Taken, Memory>
     requires runner { IsRunner table.now script.now state.old registers.old }
+    requires known { AreKnown script.now ways.old }
+    ensures known { OnOk result (AreKnown script.now ways.new) }
     ensures follows { IfOk result (λ t. Follows table.now state.old (held script.now registers.old) (take t.taken piece.now) t.good state.new (held script.now registers.new) (spelled script.now.words pieces.old.items) (spelled script.now.words pieces.new.items)) }
     ensures taken { IfOk result (λ t. t.taken ≤ length piece.now) }
     ensures some { IfOk result (λ t. 0 < length piece.now → 0 < t.taken) }
@@ -119,7 +130,7 @@ fn follow_held(
                 good: i,
             });
         }
-        registers.take(script, entry, piece[i], pieces)?;
+        registers.take(script, ways, entry, piece[i], pieces)?;
         *state = entry.target;
         if entry.registers == 0 {
             return Ok(Taken {
@@ -135,15 +146,22 @@ fn follow_held(
 }
 
 // What stands before the first byte: the registers, and what is to be passed on.
-fn begin(alloc: Global, table: &Table, script: &Script) -> Result<(Registers, Vec<Piece>), Memory>
+fn begin(
+    alloc: Global,
+    table: &Table,
+    script: &Script,
+    ways: &mut Ways,
+) -> Result<(Registers, Vec<Piece>), Memory>
     requires script { IsScriptOf script.now table.now }
+    requires known { AreKnown script.now ways.old }
+    ensures known { OnOk result (AreKnown script.now ways.new) }
     ensures registers { IfOk result (λ made. held script.now made.0 ≡ (begun table.now.initial).registers) }
     ensures code { IfOk result (λ made. spelled script.now.words made.1.items ≡ (begun table.now.initial).code) }
     ensures runner { IfOk result (λ made. IsRunner table.now script.now 0 made.0) }
 {
     let mut registers = Registers::new(alloc);
     let mut pieces = Vec::new(alloc);
-    registers.take(script, script.initial(), 0, &mut pieces)?;
+    registers.take(script, ways, script.initial(), 0, &mut pieces)?;
     Ok((registers, pieces))
 }
 
@@ -155,10 +173,12 @@ impl<'t> Runner<'t> {
         ensures usable { IfOk result (λ r. (r.usable ≡ true) × (r.ended ≡ false) × (r.read ≡ 0)) }
     {
         let script = Script::new(alloc, table)?;
-        let (registers, pending) = begin(alloc, table, &script)?;
+        let mut ways = Ways::new(alloc, &script)?;
+        let (registers, pending) = begin(alloc, table, &script, &mut ways)?;
         Ok(Runner {
             table,
             script,
+            ways,
             state: 0,
             pending,
             registers,
@@ -200,6 +220,7 @@ impl<'t> Runner<'t> {
         let count = follow(
             self.table,
             &self.script,
+            &mut self.ways,
             &mut self.state,
             &mut self.registers,
             piece,
@@ -245,6 +266,7 @@ impl<'t> Runner<'t> {
         let Taken { taken, good } = follow_held(
             self.table,
             &self.script,
+            &mut self.ways,
             &mut self.state,
             &mut self.registers,
             piece,

@@ -1,6 +1,6 @@
 // Lists of parts by number.
 
-ghost use Rattle.std.specs.Prelude.{◌≡◌, ◌∷◌, ◌++◌, length, [], Some, IfOk, OnOk, IfSome, slice_get};
+ghost use Rattle.std.specs.Prelude.{◌≡◌, ◌∷◌, ◌++◌, length, [], Some, true, IfOk, OnOk, IfSome, get_or, slice_get};
 ghost use Rattle.kex_script.specs.Pages.{Keeps};
 
 use indexmap::IndexMap;
@@ -47,6 +47,13 @@ fn sum_of(parts: &[Part]) -> u64 {
     sum
 }
 
+/// Whether two lists of parts are the same.
+pub fn are_same(left: &[Part], right: &[Part]) -> bool
+    ensures { result ≡ true → left.now ≡ right.now }
+{
+    left == right
+}
+
 // The same parts in a list of their own.
 fn parts_of(alloc: Global, all: &[Part]) -> Result<Parts, Memory>
     ensures { IfOk result (λ p. p ≡ all.now) }
@@ -76,7 +83,7 @@ impl Interned {
     {
         let number = *self.numbers.get(&sum_of(parts))?;
         let list = self.all.get(number as usize)?;
-        if list.as_slice() == parts {
+        if are_same(list.as_slice(), parts) {
             Some(number)
         } else {
             None
@@ -105,6 +112,23 @@ impl Interned {
             Some(number) => Ok(number),
             None => self.add(parts),
         }
+    }
+
+    /// The list of a number; an empty one where there is none.
+    pub fn list(&self, number: u32) -> &[Part]
+        ensures { result.now ≡ get_or self.now number [] }
+    {
+        match self.all.get(number as usize) {
+            Some(parts) => parts.as_slice(),
+            None => &[],
+        }
+    }
+
+    /// How many lists there are.
+    pub fn len(&self) -> usize
+        ensures { result ≡ length self.now }
+    {
+        self.all.len()
     }
 
     /// The lists, by number.

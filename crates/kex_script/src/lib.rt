@@ -5,7 +5,7 @@
 //! and class of bytes which lists its update has; `IsScriptOf` ties it to its table.
 #![tactic(auto)]
 
-mod interned;
+pub mod interned;
 pub mod piece;
 pub mod script;
 mod writer;

@@ -5,7 +5,7 @@ ghost use Rattle.kex_script.specs.Scripts.{IsScriptOf, IsTail, change_at, entry_
 
 use crate::writer::Writer;
 use kex_code::memory::Memory;
-use kex_sst::parts::Parts;
+use kex_sst::parts::{Part, Parts};
 use kex_sst::table::Table;
 use std::alloc::Global;
 use std::marker::Model;
@@ -133,6 +133,21 @@ impl Script {
             return 0;
         }
         number_at(&self.rows, at + 2 + register)
+    }
+
+    /// A list by its number; an empty one where there is none.
+    pub fn list(&self, number: u32) -> &[Part]
+        ensures { result.now ≡ list_at self.now number }
+    {
+        match self.lists.get(number as usize) {
+            Some(parts) => parts.as_slice(),
+            None => &[],
+        }
+    }
+
+    /// How long the rows of all updates are.
+    pub fn rows(&self) -> usize {
+        self.rows.len()
     }
 
     /// A list from its end; none for a list that is empty.

@@ -62,6 +62,7 @@ loop-i-preserved g c =
     let told = ap (λ (z : Transition). items_of z.update) (same (sym c.in-Some.ensures ∙ k.at)) in
     record {
       goes = goes_next t c.args.state.now (held s c.args.registers.now) c.args.piece.now c.loop-i.i c.loop-i.state (held s c.loop-i.registers) (spelled s.words c.args.pieces.now.items) (spelled s.words c.loop-i.pieces.items) b c.loop-i-test.true refl (told_by s e) (held s c.take.new.self) (spelled s.words c.take.new.pieces.items) (by ∙ k.at) c.in_ok-take.ensures.registers c.in_ok-take.ensures.pieces c.loop-i.invariant.goes;
+      known = c.in_ok-take.ensures.known;
       runner = runner_next t s c.loop-i.state class b e c.loop-i.registers c.take.new.self c.loop-i.invariant.runner k c.in_ok-take.ensures.registers c.take.ensures.counted;
       steps = omega (arith, items, told, c.count_items.ensures, c.loop-i.invariant.steps);
     }

@@ -68,6 +68,7 @@ loop-i-preserved c =
     let k = step_of s t c.loop-i.state class e c.loop-i.invariant.runner.script lt c.entry-entry.ensures (goes_then e.goes c.if-not-entry.false) in
     record {
       goes = goes_next t c.args.state.now (held s c.args.registers.now) c.args.piece.now c.loop-i.i c.loop-i.state (held s c.loop-i.registers) (spelled s.words c.args.pieces.now.items) (spelled s.words c.loop-i.pieces.items) b c.loop-i-test.true refl (told_by s e) (held s c.take.new.self) (spelled s.words c.take.new.pieces.items) (by ∙ k.at) c.in_ok-take.ensures.registers c.in_ok-take.ensures.pieces c.loop-i.invariant.goes;
+      known = c.in_ok-take.ensures.known;
       runner = runner_next t s c.loop-i.state class b e c.loop-i.registers c.take.new.self c.loop-i.invariant.runner k c.in_ok-take.ensures.registers c.take.ensures.counted;
     }
 

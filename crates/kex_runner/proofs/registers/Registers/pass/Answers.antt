@@ -12,5 +12,5 @@ returns-clause-pieces c =
     let s = c.args.script.now in
     let old = c.args.pieces.now.items in
     let list = list_at s c.passed.result in
-    let read = c.in_ok-read_list.ensures ∙ ap₂ (λ y z. meant (noted_by s y z) c.args.byte list) c.deref.ensures.value c.deref-2.ensures.value ∙ ap (λ z. meant (held s c.args.self.now) c.args.byte z) c.passed.ensures in
-    on_ok_weaker c.hand_on.result (λ e. ap (λ z. spelled s.words z) e ∙ spelled-append s.words old (reverse c.read_list.new.reading.back.items) ∙ ap (λ z. spelled s.words old ++ z) read) c.hand_on.ensures
+    let read = c.in_ok-read_by_ways.ensures.read ∙ ap₂ (λ y z. meant (noted_by s y z) c.args.byte list) c.deref.ensures.value c.deref-2.ensures.value ∙ ap (λ z. meant (held s c.args.self.now) c.args.byte z) c.passed.ensures in
+    on_ok_weaker c.hand_on.result (λ e. ap (λ z. spelled s.words z) e ∙ spelled-append s.words old (reverse c.read_by_ways.new.reading.back.items) ∙ ap (λ z. spelled s.words old ++ z) read) c.hand_on.ensures

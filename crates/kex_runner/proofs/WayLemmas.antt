@@ -1,0 +1,164 @@
+-- Ways: their parts, one by one, and what they stand for.
+use Rattle.std.proofs.Common.{◌≡◌, ℕ, zero, suc, ◌+◌, ◌<◌, ◌≤◌, List, [], ◌∷◌, ◌++◌, Option, Some, None, length, map, get_or, take, drop, refl, sym, ap, ap₂, subst, ◌∙◌, append_assoc, append-nil, arith}
+use Rattle.std.specs.Prelude.{slice_get, All, IfSome, ◌-◌}
+use Rattle.std.proofs.lemmas.List.{take_more, take_all, drop_more}
+use Rattle.std.proofs.lemmas.List.Elements.{All-weaker, All-set}
+use Rattle.std.proofs.lemmas.Option.{get_or_from_slice_get, slice_get-get_or}
+use Rattle.std.proofs.Math.ListN.{get_or-map}
+use Rattle.kex_code.specs.declared.symbol.Symbol.{Symbol}
+use Rattle.kex_sst.specs.declared.parts.Part.{Part}
+use Rattle.kex_sst.specs.declared.parts.Part.TheVariants.{Put, Old, Input}
+use Rattle.kex_sst.specs.Parts.{Change, value, meant, olds}
+use Rattle.kex_script.specs.declared.piece.Piece.{Piece}
+use Rattle.kex_script.specs.Pages.{Keeps}
+use Rattle.kex_script.specs.Scripts.{Sheet, IsWord, change_at, list_at}
+use Rattle.kex_runner.specs.declared.ways.Split.{Split}
+use Rattle.kex_runner.specs.declared.ways.Start.{Start}
+use Rattle.kex_runner.specs.declared.ways.Step.{Step}
+use Rattle.kex_runner.specs.declared.ways.Ways.{Ways}
+use Rattle.kex_runner.specs.declared.walking.Place.{Place}
+use Rattle.kex_runner.specs.Noting.{ByteUpdate, next_registers, registers_after, spelled_back}
+use Rattle.kex_runner.specs.Ways.{one_less, AreOlds, composed, IsWay, IsSplit, IsStart, IsStep, IsStepIf, AreKnown, HasWalked}
+use Rattle.kex_runner.proofs.Noting.{meant_fresh}
+use Rattle.kex_runner.proofs.Looking.{meant-append, registers_more}
+
+olds_both : (xs ys : List Part) → AreOlds xs → AreOlds ys → AreOlds (xs ++ ys)
+olds_both [] ys h k = k
+olds_both (x ∷ xs) ys h k = (h.0, olds_both xs ys h.1 k)
+
+-- one part more is an old register
+pub olds_next : (parts : List Part) (i : ℕ) (d : Part) → i < length parts → AreOlds (get_or parts i d ∷ []) → AreOlds (take i parts) → AreOlds (take (i + 1) parts)
+olds_next parts i d lt h k = subst (λ z. AreOlds z) (sym (take_more parts i d lt)) (olds_both (take i parts) (get_or parts i d ∷ []) k h)
+
+-- a way is the same whatever byte is read
+pub any_byte : (regs : List (List Symbol)) (b b' : ℕ) (way : List Part) → AreOlds way → meant regs b way ≡ meant regs b' way
+any_byte regs b b' [] h = refl
+any_byte regs b b' (Put s ∷ xs) h = absurd h.0
+any_byte regs b b' (Old i ∷ xs) h = ap (λ z. get_or regs i [] ++ z) (any_byte regs b b' xs h.1)
+any_byte regs b b' (Input ∷ xs) h = absurd h.0
+
+-- a way after an update is what it is composed to before
+pub composed_means : (u : Change) (regs : List (List Symbol)) (b b' : ℕ) (way : List Part) → AreOlds way → meant (next_registers u b regs) b' way ≡ meant regs b (composed u way)
+composed_means u regs b b' [] h = refl
+composed_means u regs b b' (Put s ∷ xs) h = absurd h.0
+composed_means u regs b b' (Old i ∷ xs) h = ap₂ (λ y z. y ++ z) (get_or-map (λ ps. meant regs b ps) u.regs i []) (composed_means u regs b b' xs h.1) ∙ sym (meant-append regs b (get_or u.regs i []) (composed u xs))
+composed_means u regs b b' (Input ∷ xs) h = absurd h.0
+
+composed-append : (u : Change) (xs ys : List Part) → composed u (xs ++ ys) ≡ composed u xs ++ composed u ys
+composed-append u [] ys = refl
+composed-append u (Put s ∷ xs) ys = ap (λ z. Put s ∷ z) (composed-append u xs ys)
+composed-append u (Old i ∷ xs) ys = ap (λ z. get_or u.regs i [] ++ z) (composed-append u xs ys) ∙ sym (append_assoc (get_or u.regs i []) (composed u xs) (composed u ys))
+composed-append u (Input ∷ xs) ys = ap (λ z. Input ∷ z) (composed-append u xs ys)
+
+-- one part more is composed
+pub composed_next : (u : Change) (way : List Part) (i : ℕ) (d : Part) → i < length way → composed u (take (i + 1) way) ≡ composed u (take i way) ++ composed u (get_or way i d ∷ [])
+composed_next u way i d lt = ap (λ z. composed u z) (take_more way i d lt) ∙ composed-append u (take i way) (get_or way i d ∷ [])
+
+-- what is known stays, where ways stay
+way_kept : (ways ways' : List (List Part)) (n : ℕ) (way : List Part) → Keeps ways ways' → IsWay ways n way → IsWay ways' n way
+way_kept ways ways' n way k h = record { at = k n way h.at; each = h.each }
+
+split_kept : (words ways ways' : List (List Part)) (x : Split) (list : List Part) → Keeps ways ways' → IsSplit words ways x list → IsSplit words ways' x list
+split_kept words ways ways' x list k h = record { front = h.front; way = way_kept ways ways' x.way h.front k h.way; parts = h.parts; word = h.word; plain = h.plain; joined = h.joined }
+
+starts_kept : (s : Sheet) (ways ways' : List (List Part)) → Keeps ways ways' → (xs : List Start) → All (IsStart s ways) xs → All (IsStart s ways') xs
+starts_kept s ways ways' k xs h = All-weaker (IsStart s ways) (IsStart s ways') (λ x g some. split_kept s.words ways ways' x.split (list_at s x.list) k (g some)) xs h
+
+steps_kept : (s : Sheet) (ways ways' : List (List Part)) → Keeps ways ways' → (xs : List Step) → All (IsStepIf s ways) xs → All (IsStepIf s ways') xs
+steps_kept s ways ways' k xs h = All-weaker (IsStepIf s ways) (IsStepIf s ways') (λ x g some. let st = g some in record { from = st.from; way = way_kept ways ways' x.from st.from k st.way; split = split_kept s.words ways ways' x.split (composed (change_at s x.lists) st.from) k st.split }) xs h
+
+-- more ways, and starts and steps that are so
+pub known_more : (s : Sheet) (w w' : Ways) → Keeps w.lists w'.lists → AreKnown s w → (All (IsStart s w'.lists) w.starts.items → All (IsStart s w'.lists) w'.starts.items) → (All (IsStepIf s w'.lists) w.steps.items → All (IsStepIf s w'.lists) w'.steps.items) → AreKnown s w'
+known_more s w w' k h f g = record { none = k 0 [] h.none; starts = f (starts_kept s w.lists w'.lists k w.starts.items h.starts); steps = g (steps_kept s w.lists w'.lists k w.steps.items h.steps) }
+
+-- a step back
+module _ (s : Sheet) (ways ways' : List (List Part)) (notes : List ByteUpdate) (from : List Part) (p p' : Place) (lists : ℕ) (x : Split) (d n : ByteUpdate) (first old new : List Piece) where
+  pub walked_on : Keeps ways ways' → p.after ≡ suc p'.after → p'.way ≡ x.way → n ≡ get_or notes p'.after d → n.update ≡ change_at s lists
+      → IsStep s ways' (record { from = p.way; lists = lists; split = x })
+      → ((words : List (List Part)) (w : List Part) → IsWord words (one_less x.word) w → spelled_back words new ≡ meant [] n.byte w ++ spelled_back words old)
+      → HasWalked s ways notes from p first old → HasWalked s ways' notes from p' first new
+  walked_on k e same at u st said h =
+      let to : List Part = st.split.front in
+      let here : h.to ≡ st.from = some_same (sym (k p.way h.to h.way.at) ∙ st.way.at) in
+      record {
+        after = omega (arith, h.after, e);
+        to = to;
+        way = subst (λ z. IsWay ways' z to) (sym same) st.split.way;
+        text = λ base.
+            let regs : List (List Symbol) = registers_after base (take p'.after notes) in
+            let word : List Symbol = meant [] n.byte st.split.parts in
+            let back : List Symbol = spelled_back s.words old in
+            let there : meant (registers_after base (take p.after notes)) 0 h.to ≡ meant regs 0 to ++ word =
+            ap₂ (λ y z. meant (registers_after base (take y notes)) 0 z) e here
+            ∙ ap (λ z. meant z 0 st.from) (registers_more base notes p'.after d (omega (arith, h.after, e)))
+            ∙ ap (λ z. meant (next_registers z.update z.byte regs) 0 st.from) (sym at)
+            ∙ ap (λ z. meant (next_registers z n.byte regs) 0 st.from) u
+            ∙ composed_means (change_at s lists) regs n.byte 0 st.from st.way.each
+            ∙ ap (λ z. meant regs n.byte z) st.split.joined
+            ∙ meant-append regs n.byte to st.split.parts
+            ∙ ap₂ (λ y z. y ++ z) (any_byte regs n.byte 0 to st.split.way.each) (meant_fresh regs [] n.byte st.split.parts st.split.plain) in
+            ap (λ z. meant regs 0 to ++ z) (said s.words st.split.parts st.split.word)
+            ∙ sym (append_assoc (meant regs 0 to) word back)
+            ∙ ap (λ z. z ++ back) (sym there)
+            ∙ h.text base;
+      }
+    where
+      some_same : {y z : List Part} → Some y ≡ Some z → y ≡ z
+      some_same e = cc
+
+-- ways may grow where nothing is gone
+pub walked_kept : (s : Sheet) (ways ways' : List (List Part)) (notes : List ByteUpdate) (from : List Part) (p : Place) (old new : List Piece) → Keeps ways ways' → HasWalked s ways notes from p old new → HasWalked s ways' notes from p old new
+walked_kept s ways ways' notes from p old new k h = record { after = h.after; to = h.to; way = way_kept ways ways' p.way h.to k h.way; text = h.text }
+
+-- nothing is gone
+pub walked_none : (s : Sheet) (ways : List (List Part)) (notes : List ByteUpdate) (from : List Part) (p : Place) (back : List Piece) → p.after ≡ length notes → IsWay ways p.way from → HasWalked s ways notes from p back back
+walked_none s ways notes from p back e h = record { after = omega (arith, e); to = from; way = h; text = λ base. ap (λ z. meant (registers_after base z) 0 from ++ spelled_back s.words back) (take_all p.after notes (omega (arith, e))) }
+
+-- one of the parts of a way
+olds_at : (way : List Part) (i : ℕ) (d : Part) → i < length way → AreOlds way → AreOlds (get_or way i d ∷ [])
+olds_at [] i d lt h = absurd (omega arith)
+olds_at (x ∷ xs) zero d lt h = (h.0, tt)
+olds_at (x ∷ xs) (suc i) d lt h = olds_at xs i d (omega (arith, lt)) h.1
+
+-- one part more of a way is read
+pub way_next : (regs : List (List Symbol)) (way : List Part) (k left : ℕ) (d : Part) (new old before : List Symbol) → k + 1 ≡ left → left ≤ length way → AreOlds way → (AreOlds (get_or way k d ∷ []) → new ≡ value regs 0 (get_or way k d) ++ old) → old ≡ meant regs 0 (drop left way) ++ before → new ≡ meant regs 0 (drop k way) ++ before
+way_next regs way k left d new old before e le h read f =
+    let lt : k < length way = omega (arith, e, le) in
+    let part : Part = get_or way k d in
+    read (olds_at way k d lt h)
+    ∙ ap (λ z. value regs 0 part ++ z) (f ∙ ap (λ z. meant regs 0 (drop z way) ++ before) (sym e))
+    ∙ sym (append_assoc (value regs 0 part) (meant regs 0 (drop (k + 1) way)) before)
+    ∙ ap (λ z. meant regs 0 z ++ before) (sym (drop_more way k d lt))
+
+pub less_is : (n : ℕ) → 0 < n → one_less n ≡ Some (n - 1)
+less_is zero lt = absurd (omega arith)
+less_is (suc n) lt = let e : n ≡ suc n - 1 = omega arith in ap (λ z. Some z) e
+
+-- a word that was found
+pub some_word : (words : List (List Part)) (i : ℕ) (w word d : List Part) (o : Option ℕ) → i < length words → w ≡ get_or words i d → w ≡ word → IfSome o (λ n. one_less n ≡ Some i) → IfSome o (λ n. IsWord words (one_less n) word)
+some_word words i w word d None lt is same h = h
+some_word words i w word d (Some n) lt is same h = subst (λ z. IsWord words z word) (sym h) (slice_get-get_or words i d lt ∙ ap (λ z. Some z) (sym is ∙ same))
+
+-- a step that was found
+pub step_is : (s : Sheet) (words ways ways' : List (List Part)) (number lists : ℕ) (x : Split) (from parts : List Part) → words ≡ s.words → Keeps ways ways' → IsWay ways number from → parts ≡ composed (change_at s lists) from → IsSplit words ways' x parts → IsStep s ways' (record { from = number; lists = lists; split = x })
+step_is s words ways ways' number lists x from parts e k h is st = record {
+  from = from;
+  way = way_kept ways ways' number from k h;
+  split = subst (λ z. IsSplit s.words ways' x z) is (subst (λ z. IsSplit z ways' x parts) e st);
+}
+
+-- a list that is a way and a word, the way gone back and read
+pub read_whole : (s : Sheet) (base : List (List Symbol)) (notes : List ByteUpdate) (ways ways' : List (List Part)) (x : Split) (p : Place) (byte : ℕ) (list way : List Part) (none old new : List Piece) (last : List Symbol) → (st : IsSplit s.words ways x list) → HasWalked s ways' notes st.front p old new
+    → ((words : List (List Part)) (w : List Part) → IsWord words (one_less x.word) w → spelled_back words old ≡ meant [] byte w ++ spelled_back words none) → none ≡ [] → way ≡ get_or ways' p.way []
+    → last ≡ meant (registers_after base (take p.after notes)) 0 way ++ spelled_back s.words new → last ≡ meant (registers_after base notes) byte list
+read_whole s base notes ways ways' x p byte list way none old new last st h said e is read =
+    let regs : List (List Symbol) = registers_after base notes in
+    let there : way ≡ h.to = is ∙ get_or_from_slice_get ways' p.way h.to [] h.way.at in
+    let word : List Symbol = meant [] byte st.parts in
+    read
+    ∙ ap (λ z. meant (registers_after base (take p.after notes)) 0 z ++ spelled_back s.words new) there
+    ∙ h.text base
+    ∙ ap (λ z. meant regs 0 st.front ++ z) (said s.words st.parts st.word ∙ ap (λ z. word ++ spelled_back s.words z) e ∙ append-nil word)
+    ∙ ap₂ (λ y z. y ++ z) (any_byte regs 0 byte st.front st.way.each) (meant_fresh [] regs byte st.parts st.plain)
+    ∙ sym (meant-append regs byte st.front st.parts)
+    ∙ ap (λ z. meant regs byte z) (sym st.joined)

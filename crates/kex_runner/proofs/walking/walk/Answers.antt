@@ -1,0 +1,26 @@
+use Rattle.std.proofs.Common.{◌-◌, get_or, refl, sym, subst, arith}
+use Rattle.std.specs.Prelude.{IfSome}
+use Rattle.std.proofs.Math.ListN.{get_or-map}
+use Rattle.kex_runner.specs.declared.reading.Note.{Note}
+use Rattle.kex_runner.specs.declared.walking.Place.{Place}
+use Rattle.kex_runner.specs.Noting.{update_of, updates_of}
+use Rattle.kex_runner.specs.Ways.{IsStep}
+use Rattle.kex_runner.proofs.WayLemmas.{walked_on}
+use Rattle.kex_runner.proofs.walking.walk.Goals as goal
+
+pub notes-preserved : goal.notes-preserved
+notes-preserved c =
+    let s = c.args.script.now in
+    let notes = c.args.notes.now in
+    let p = c.notes.place in
+    let k = p.after - 1 in
+    let none : Note = record { lists = 0; byte = 0 } in
+    let note : Note = get_or notes k none in
+    let split = c.in-Some.split in
+    let next : Place = record { way = split.way; last = split.last; after = k } in
+    let ways' = c.step.new.self.lists in
+    let step : IsStep s ways' (record { from = p.way; lists = note.lists; split = split }) = subst (λ z. IfSome z (λ x. IsStep s ways' (record { from = p.way; lists = note.lists; split = x }))) c.in-Some.is c.in_ok-split.ensures.step in
+    record {
+      known = c.in_ok-split.ensures.known;
+      walked = λ from h. walked_on s c.notes.ways.lists ways' (updates_of s notes) from p next note.lists split (update_of s none) (update_of s note) c.args.back.now.items c.notes.back.items c.say.new.back.items c.in_ok-split.ensures.kept (omega (arith, c.notes-test.true)) refl (sym (get_or-map (λ n. update_of s n) notes k none)) refl step c.in_ok-say.ensures (c.notes.invariant.walked from h);
+    }

@@ -1,0 +1,76 @@
+-- Ways: old registers one behind the other, and what they were before an update.
+use Rattle.std.specs.Prelude.{◌≡◌, ℕ, zero, suc, ◌<◌, ◌≤◌, List, [], ◌∷◌, ◌++◌, Option, Some, None, All, get_or, slice_get, length, take}
+use Rattle.kex_code.specs.declared.symbol.Symbol.{Symbol}
+use Rattle.kex_sst.specs.declared.parts.Part.{Part}
+use Rattle.kex_sst.specs.declared.parts.Part.TheVariants.{Put, Old, Input}
+use Rattle.kex_sst.specs.Parts.{Change, meant, olds}
+use Rattle.kex_script.specs.declared.piece.Piece.{Piece}
+use Rattle.kex_script.specs.Scripts.{Sheet, IsWord, change_at, list_at}
+use Rattle.kex_runner.specs.Noting.{ByteUpdate, registers_after, spelled_back}
+use Rattle.kex_runner.specs.declared.ways.Split.{Split}
+use Rattle.kex_runner.specs.declared.ways.Start.{Start}
+use Rattle.kex_runner.specs.declared.ways.Step.{Step}
+use Rattle.kex_runner.specs.declared.ways.Ways.{Ways}
+use Rattle.kex_runner.specs.declared.walking.Place.{Place}
+
+-- one less, or none
+abbrev pub one_less : ℕ → Option ℕ
+one_less zero = None
+one_less (suc n) = Some n
+
+abbrev pub IsOld : Part → Type 0
+IsOld (Put s) = ⊥
+IsOld (Old i) = Unit {0}
+IsOld Input = ⊥
+
+-- each part is an old register
+abbrev pub AreOlds : List Part → Type 0
+AreOlds [] = Unit {0}
+AreOlds (x ∷ xs) = IsOld x × AreOlds xs
+
+-- the parts, where an old register is what the update gives it
+abbrev pub composed : Change → List Part → List Part
+composed u [] = []
+composed u (Put s ∷ xs) = Put s ∷ composed u xs
+composed u (Old i ∷ xs) = get_or u.regs i [] ++ composed u xs
+composed u (Input ∷ xs) = Input ∷ composed u xs
+
+-- the way of this number
+pub record IsWay (ways : List (List Part)) (number : ℕ) (way : List Part) : Type 0 where
+  pub at : slice_get ways number ≡ Some way
+  pub each : AreOlds way
+
+-- a list is a way, and then a word or none
+pub record IsSplit (words ways : List (List Part)) (x : Split) (list : List Part) : Type 0 where
+  pub front : List Part
+  pub way : IsWay ways x.way front
+  pub parts : List Part
+  pub word : IsWord words (one_less x.word) parts
+  pub plain : olds parts ≡ []
+  pub joined : list ≡ front ++ parts
+
+-- what a list is
+abbrev pub IsStart : Sheet → List (List Part) → Start → Type 0
+IsStart s ways x = 0 < x.list → IsSplit s.words ways x.split (list_at s x.list)
+
+-- what a way was before an update
+pub record IsStep (s : Sheet) (ways : List (List Part)) (x : Step) : Type 0 where
+  pub from : List Part
+  pub way : IsWay ways x.from from
+  pub split : IsSplit s.words ways x.split (composed (change_at s x.lists) from)
+
+abbrev pub IsStepIf : Sheet → List (List Part) → Step → Type 0
+IsStepIf s ways x = 0 < x.from → IsStep s ways x
+
+-- what is known of ways is so, over a script
+pub record AreKnown (s : Sheet) (w : Ways) : Type 0 where
+  pub none : slice_get w.lists 0 ≡ Some []
+  pub starts : All (IsStart s w.lists) w.starts.items
+  pub steps : All (IsStepIf s w.lists) w.steps.items
+
+-- a way over all notes is another one over some of them, and then what was read
+pub record HasWalked (s : Sheet) (ways : List (List Part)) (notes : List ByteUpdate) (from : List Part) (place : Place) (old new : List Piece) : Type 0 where
+  pub after : place.after ≤ length notes
+  pub to : List Part
+  pub way : IsWay ways place.way to
+  pub text : (base : List (List Symbol)) → meant (registers_after base (take place.after notes)) 0 to ++ spelled_back s.words new ≡ meant (registers_after base notes) 0 from ++ spelled_back s.words old

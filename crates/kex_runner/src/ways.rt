@@ -1,0 +1,328 @@
+// Ways: old registers one behind the other, and what they were before an update.
+
+ghost use Rattle.std.specs.Prelude.{◌≡◌, ◌<◌, ◌≤◌, ◌++◌, ◌∷◌, [], List, All, IsTrue, IfOk, IfSome, OnOk, length, drop, false, true, get_or, Some};
+ghost use Rattle.kex_sst.specs.declared.parts.Part.{Part};
+ghost use Rattle.kex_sst.specs.Parts.{olds};
+ghost use Rattle.kex_script.specs.Pages.{Keeps};
+ghost use Rattle.kex_script.specs.Scripts.{IsWord, Sheet, change_at, list_at};
+ghost use Rattle.kex_runner.specs.Ways.{AreKnown, AreOlds, IsSplit, IsStart, IsStep, IsWay, composed, one_less};
+
+use kex_code::memory::Memory;
+use kex_script::interned::{Interned, are_same};
+use kex_script::script::Script;
+use kex_sst::parts::{Part, Parts};
+use std::alloc::Global;
+
+// So many ways are kept at most.
+const MOST: usize = 16_384;
+
+// So many lists are known at once.
+const STARTS: usize = 1024;
+
+/// A list is a way, and then a word: one less than this number, or none for 0. `last` is the way's last register.
+#[derive(Clone, Copy, Debug, PartialEq, Eq)]
+pub struct Split {
+    pub way: u32,
+    pub last: u32,
+    pub word: u32,
+}
+
+/// What a list of the script is. List 0 is none.
+#[derive(Clone, Copy, Debug, PartialEq, Eq)]
+pub struct Start {
+    pub list: u32,
+    pub split: Split,
+}
+
+/// What a way was before an update. Way 0 is none.
+#[derive(Clone, Copy, Debug, PartialEq, Eq)]
+pub struct Step {
+    pub from: u32,
+    pub lists: u32,
+    pub split: Split,
+}
+
+/// Ways by number, of which the first is empty, and what is known of them. Nothing rests on what is known: it may be let go at any time.
+#[derive(Drop)]
+pub struct Ways {
+    lists: Interned,
+    starts: Vec<Start>,
+    steps: Vec<Step>,
+    // Room for parts that are joined.
+    parts: Vec<Part>,
+}
+
+// Whether a part is an old register.
+#[inline(always)]
+fn is_old(part: Part) -> bool
+    ensures old { result ≡ true → AreOlds (part ∷ []) }
+    ensures other { result ≡ false → olds (part ∷ []) ≡ [] }
+{
+    match part {
+        Part::Old(_) => true,
+        Part::Put(_) => false,
+        Part::Input => false,
+    }
+}
+
+// Whether all parts are old registers.
+fn are_olds(parts: &[Part]) -> bool
+    ensures { IsTrue result → AreOlds parts.now }
+{
+    for part in parts {
+        if !is_old(*part) {
+            return false;
+        }
+    }
+    true
+}
+
+// Where the word begins that parts end with: behind the last old register.
+fn word_start(parts: &[Part]) -> usize
+    ensures within { result ≤ length parts.now }
+    ensures plain { olds (drop result parts.now) ≡ [] }
+{
+    let mut start = parts.len();
+    while start > 0 && !is_old(parts[start - 1]) {
+        start -= 1;
+    }
+    start
+}
+
+// One more than the number of a word, or 0 for no parts; nothing where it is none of the words.
+fn word_number(words: &[Parts], word: &[Part]) -> Option<u32>
+    ensures { IfSome result (λ n. IsWord words.now (one_less n) word.now) }
+{
+    if word.is_empty() {
+        return Some(0);
+    }
+    for i in 0..words.len() {
+        if are_same(words[i].as_slice(), word) {
+            return number_behind(i);
+        }
+    }
+    None
+}
+
+// One more than an index.
+fn number_behind(i: usize) -> Option<u32>
+    ensures { IfSome result (λ n. one_less n ≡ Some i) }
+{
+    match u32::try_from(i) {
+        Ok(number) => number.checked_add(1),
+        Err(_) => None,
+    }
+}
+
+// The last register of a way.
+fn last_of(way: &[Part]) -> u32 {
+    match way.last() {
+        Some(Part::Old(register)) => *register,
+        _ => 0,
+    }
+}
+
+// Parts as a way and a word, if they are that.
+fn split_of(words: &[Parts], ways: &mut Interned, parts: &[Part]) -> Result<Option<Split>, Memory>
+    ensures split { IfOk result (λ o. IfSome o (λ x. IsSplit words.now ways.new x parts.now)) }
+    ensures kept { OnOk result (Keeps ways.old ways.new) }
+{
+    let start = word_start(parts);
+    if ways.len() >= MOST || !are_olds(&parts[..start]) {
+        return Ok(None);
+    }
+    let Some(word) = word_number(words, &parts[start..]) else {
+        return Ok(None);
+    };
+    let way = ways.number(&parts[..start])?;
+    let last = last_of(&parts[..start]);
+    Ok(Some(Split { way, last, word }))
+}
+
+// A part is put behind parts, an old register as what an update gives it.
+fn put(script: &Script, lists: u32, part: Part, parts: &mut Vec<Part>) -> Result<(), Memory>
+    ensures { OnOk result (parts.new.items ≡ parts.old.items ++ composed (change_at script.now lists) (part ∷ [])) }
+{
+    match part {
+        Part::Old(register) => {
+            let list = script.list(script.given(lists, register as usize));
+            parts.extend_from_slice(list)?;
+            Ok(())
+        }
+        Part::Put(_) => {
+            parts.push(part)?;
+            Ok(())
+        }
+        Part::Input => {
+            parts.push(part)?;
+            Ok(())
+        }
+    }
+}
+
+// What a way was before an update.
+fn compose(script: &Script, lists: u32, way: &[Part], parts: &mut Vec<Part>) -> Result<(), Memory>
+    ensures { OnOk result (parts.new.items ≡ composed (change_at script.now lists) way.now) }
+{
+    parts.clear();
+    for part in way {
+        put(script, lists, *part, parts)?;
+    }
+    Ok(())
+}
+
+// Where the step of a way with this last register is kept: each way of a state has its own.
+#[inline(always)]
+fn place_of(last: u32, lists: u32) -> usize {
+    lists as usize + last as usize
+}
+
+impl Ways {
+    /// Nothing is known but the empty way.
+    pub fn new(alloc: Global, script: &Script) -> Result<Ways, Memory>
+        ensures { IfOk result (λ w. AreKnown script.now w) }
+    {
+        let mut lists = Interned::new(alloc);
+        lists.add(&[])?;
+        let none = Split {
+            way: 0,
+            last: 0,
+            word: 0,
+        };
+        let start = Start {
+            list: 0,
+            split: none,
+        };
+        let step = Step {
+            from: 0,
+            lists: 0,
+            split: none,
+        };
+        Ok(Ways {
+            lists,
+            starts: vec![in alloc; start; STARTS]?,
+            steps: vec![in alloc; step; script.rows()]?,
+            parts: Vec::new(alloc),
+        })
+    }
+
+    /// The parts of a way.
+    pub fn way(&self, way: u32) -> &[Part]
+        ensures { result.now ≡ get_or self.now.lists way [] }
+    {
+        self.lists.list(way)
+    }
+
+    // What is known of a list.
+    #[inline(always)]
+    fn known_start(&self, list: u32) -> Option<Split>
+        requires { 0 < list }
+        ensures { IfSome result (λ x. (s : Sheet) → AreKnown s self.now → IsSplit s.words self.now.lists x (list_at s list)) }
+    {
+        let start = *self.starts.get(list as usize % STARTS)?;
+        if start.list == list {
+            Some(start.split)
+        } else {
+            None
+        }
+    }
+
+    // A list as a way and a word, if it is that.
+    fn learn_start(&mut self, script: &Script, list: u32) -> Result<Option<Split>, Memory>
+        requires known { AreKnown script.now self.old }
+        ensures known { OnOk result (AreKnown script.now self.new) }
+        ensures split { IfOk result (λ o. IfSome o (λ x. IsSplit script.now.words self.new.lists x (list_at script.now list))) }
+    {
+        let parts = script.list(list);
+        let Some(split) = split_of(script.words(), &mut self.lists, parts)? else {
+            return Ok(None);
+        };
+        let place = list as usize % STARTS;
+        if place < self.starts.len() {
+            self.starts[place] = Start { list, split };
+        }
+        Ok(Some(split))
+    }
+
+    /// A list as a way and a word, if it is that.
+    #[inline(always)]
+    pub fn start(&mut self, script: &Script, list: u32) -> Result<Option<Split>, Memory>
+        requires known { AreKnown script.now self.old }
+        ensures known { OnOk result (AreKnown script.now self.new) }
+        ensures split { IfOk result (λ o. IfSome o (λ x. IsSplit script.now.words self.new.lists x (list_at script.now list))) }
+    {
+        if list == 0 {
+            return Ok(None);
+        }
+        match self.known_start(list) {
+            Some(split) => Ok(Some(split)),
+            None => self.learn_start(script, list),
+        }
+    }
+
+    // What is known of a way before an update.
+    #[inline(always)]
+    fn known_step(&self, way: u32, last: u32, lists: u32) -> Option<Split>
+        requires { 0 < way }
+        ensures { IfSome result (λ x. (s : Sheet) → AreKnown s self.now → IsStep s self.now.lists (record { from = way; lists = lists; split = x })) }
+    {
+        let step = *self.steps.get(place_of(last, lists))?;
+        if step.from == way && step.lists == lists {
+            Some(step.split)
+        } else {
+            None
+        }
+    }
+
+    // What a way was before an update, as a way and a word, if it is that.
+    #[inline(never)]
+    fn learn_step(
+        &mut self,
+        script: &Script,
+        way: u32,
+        last: u32,
+        lists: u32,
+    ) -> Result<Option<Split>, Memory>
+        requires known { AreKnown script.now self.old }
+        requires way { (from : List Part) × IsWay self.old.lists way from }
+        ensures known { OnOk result (AreKnown script.now self.new) }
+        ensures kept { OnOk result (Keeps self.old.lists self.new.lists) }
+        ensures step { IfOk result (λ o. IfSome o (λ x. IsStep script.now self.new.lists (record { from = way; lists = lists; split = x }))) }
+    {
+        compose(script, lists, self.lists.list(way), &mut self.parts)?;
+        let Some(split) = split_of(script.words(), &mut self.lists, &self.parts)? else {
+            return Ok(None);
+        };
+        let place = place_of(last, lists);
+        if place < self.steps.len() {
+            self.steps[place] = Step {
+                from: way,
+                lists,
+                split,
+            };
+        }
+        Ok(Some(split))
+    }
+
+    /// What a way was before an update, as a way and a word, if it is that.
+    #[inline(always)]
+    pub fn step(
+        &mut self,
+        script: &Script,
+        way: u32,
+        last: u32,
+        lists: u32,
+    ) -> Result<Option<Split>, Memory>
+        requires known { AreKnown script.now self.old }
+        requires way { (from : List Part) × IsWay self.old.lists way from }
+        requires some { 0 < way }
+        ensures known { OnOk result (AreKnown script.now self.new) }
+        ensures kept { OnOk result (Keeps self.old.lists self.new.lists) }
+        ensures step { IfOk result (λ o. IfSome o (λ x. IsStep script.now self.new.lists (record { from = way; lists = lists; split = x }))) }
+    {
+        match self.known_step(way, last, lists) {
+            Some(split) => Ok(Some(split)),
+            None => self.learn_step(script, way, last, lists),
+        }
+    }
+}
