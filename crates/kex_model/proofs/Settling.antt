@@ -4,20 +4,20 @@ use Rattle.std.proofs.Math.Seq.{drop-append_seam}
 use Rattle.std.proofs.lemmas.List.{map-append}
 use Rattle.kex_code.specs.Codes.{Begins}
 use Rattle.kex_model.specs.Answers.{Answer, Report, later, Pipeline}
-use Rattle.kex_model.specs.Schedules.{Item, byte, finish, bytes_in, has_end, ending, items_of, Seat, fresh, Event, WroteIf, Wrote, Turned, After, begun, given, ended, turned, Settled, LastWrote}
+use Rattle.kex_model.specs.Schedules.{StreamItem, byte, finish, bytes_in, has_end, ending, items_of, Progress, fresh, Event, WroteIf, Wrote, Turned, After, begun, given, ended, turned, Settled, LastWrote}
 
 -- items after the end count for nothing
-bytes_open : (xs ys : List Item) → has_end xs ≡ false → bytes_in (xs ++ ys) ≡ bytes_in xs ++ bytes_in ys
+bytes_open : (xs ys : List StreamItem) → has_end xs ≡ false → bytes_in (xs ++ ys) ≡ bytes_in xs ++ bytes_in ys
 bytes_open [] ys e = refl
 bytes_open (byte b ∷ xs) ys e = ap (λ z. b ∷ z) (bytes_open xs ys e)
 bytes_open (finish ∷ xs) ys e = cc
 
-bytes_ended : (xs ys : List Item) → has_end xs ≡ true → bytes_in (xs ++ ys) ≡ bytes_in xs
+bytes_ended : (xs ys : List StreamItem) → has_end xs ≡ true → bytes_in (xs ++ ys) ≡ bytes_in xs
 bytes_ended [] ys e = cc
 bytes_ended (byte b ∷ xs) ys e = ap (λ z. b ∷ z) (bytes_ended xs ys e)
 bytes_ended (finish ∷ xs) ys e = refl
 
-end_ended : (xs ys : List Item) → has_end xs ≡ true → has_end (xs ++ ys) ≡ true
+end_ended : (xs ys : List StreamItem) → has_end xs ≡ true → has_end (xs ++ ys) ≡ true
 end_ended [] ys e = cc
 end_ended (byte b ∷ xs) ys e = end_ended xs ys e
 end_ended (finish ∷ xs) ys e = refl
@@ -37,24 +37,24 @@ trans a b c p q = (q.0 ++ p.0, p.1 ∙ ap (λ z. z ++ p.0) q.1 ∙ append_assoc 
 
 module _ {T : Type 0} (Gives : T → List ℕ → Bool → Answer → Type 0) (one : (s : T) (w : List ℕ) (e : Bool) (a b : Answer) → Gives s w e a → Gives s w e b → a ≡ b) (grows : (s : T) (w v : List ℕ) (e : Bool) (a b : Answer) → Gives s w false a → Gives s (w ++ v) e b → Begins b.text a.text) (stays_open : (s : T) (w : List ℕ) (a : Answer) → Gives s w false a → a.ended ≡ false) where
   -- each stage has taken a front of what came to it, and has written
-  abbrev pub InStep : List Item → List T → List Seat → Type 0
+  abbrev pub InStep : List StreamItem → List T → List Progress → Type 0
   InStep came [] [] = Unit {0}
-  InStep came (s ∷ ss) (x ∷ xs) = Begins came x.taken × (out : List Item) × Wrote Gives s x out × InStep out ss xs
+  InStep came (s ∷ ss) (x ∷ xs) = Begins came x.taken × (out : List StreamItem) × Wrote Gives s x out × InStep out ss xs
   InStep came [] (x ∷ xs) = ⊥
   InStep came (s ∷ ss) [] = ⊥
 
-  in_step_more : (ss : List T) (xs : List Seat) (came more : List Item) → Begins more came → InStep came ss xs → InStep more ss xs
+  in_step_more : (ss : List T) (xs : List Progress) (came more : List StreamItem) → Begins more came → InStep came ss xs → InStep more ss xs
   in_step_more [] [] came more p h = tt
   in_step_more (s ∷ ss) (x ∷ xs) came more p h = (trans x.taken came more p h.0, h.1, h.2, h.3)
   in_step_more [] (x ∷ xs) came more p h = h
   in_step_more (s ∷ ss) [] came more p h = h
 
-  one_wrote : (s : T) (t : Bool) (xs out out' : List Item) → WroteIf Gives t s xs out → WroteIf Gives t s xs out' → out' ≡ out
+  one_wrote : (s : T) (t : Bool) (xs out out' : List StreamItem) → WroteIf Gives t s xs out → WroteIf Gives t s xs out' → out' ≡ out
   one_wrote s false xs out out' h h' = h' ∙ sym h
   one_wrote s true xs out out' (a, ga, ea) (b, gb, eb) = eb ∙ ap (λ z. items_of z.text z.ended) (one s (bytes_in xs) (has_end xs) b a gb ga) ∙ sym ea
 
   -- a stage that has taken more has written more
-  wrote_more : (s : T) (t : Bool) (xs ys out out' : List Item) → WroteIf Gives t s xs out → WroteIf Gives true s (xs ++ ys) out' → Begins out' out
+  wrote_more : (s : T) (t : Bool) (xs ys out out' : List StreamItem) → WroteIf Gives t s xs out → WroteIf Gives true s (xs ++ ys) out' → Begins out' out
   wrote_more s false xs ys out out' h h' = (out', ap (λ z. z ++ out') (sym h))
   wrote_more s true xs ys out out' (a, ga, ea) (b, gb, eb) = cases (has_end xs) refl
     where
@@ -70,7 +70,7 @@ module _ {T : Type 0} (Gives : T → List ℕ → Bool → Answer → Type 0) (o
           let whole : out ≡ map byte a.text = ea ∙ ap (λ z. items_of a.text z) (stays_open s (bytes_in xs) a ga') ∙ append-nil (map byte a.text) in
           (map byte more.0 ++ ending b.ended, eb ∙ ap (λ z. items_of z b.ended) more.1 ∙ ap (λ z. z ++ ending b.ended) (map-append byte a.text more.0) ∙ append_assoc (map byte a.text) (map byte more.0) (ending b.ended) ∙ ap (λ z. z ++ (map byte more.0 ++ ending b.ended)) (sym whole))
 
-  turned_keeps : (ss : List T) (xs ys : List Seat) (i m : ℕ) (came : List Item) → Turned Gives i m came ss xs ys → InStep came ss xs → InStep came ss ys
+  turned_keeps : (ss : List T) (xs ys : List Progress) (i m : ℕ) (came : List StreamItem) → Turned Gives i m came ss xs ys → InStep came ss xs → InStep came ss ys
   turned_keeps [] xs ys i m came t h = absurd t
   turned_keeps (s ∷ ss) [] ys i m came t h = absurd t
   turned_keeps (s ∷ ss) (x ∷ xs) ys zero m came t h =
@@ -84,14 +84,14 @@ module _ {T : Type 0} (Gives : T → List ℕ → Bool → Answer → Type 0) (o
   begun_keeps [] = tt
   begun_keeps (s ∷ ss) = (([], refl), [], refl, begun_keeps ss)
 
-  pub in_step : {ss : List T} {h : List Event} {came : List Item} {xs : List Seat} → After Gives ss h came xs → InStep came ss xs
+  pub in_step : {ss : List T} {h : List Event} {came : List StreamItem} {xs : List Progress} → After Gives ss h came xs → InStep came ss xs
   in_step {ss = ss} begun = begun_keeps ss
   in_step {ss = ss} {xs = xs} (given {came = c} w a is_open) = in_step_more ss xs c (c ++ map byte w) (map byte w, refl) (in_step a)
   in_step {ss = ss} {xs = xs} (ended {came = c} a is_open) = in_step_more ss xs c (c ++ finish ∷ []) (finish ∷ [], refl) (in_step a)
   in_step {ss = ss} {came = c} (turned {xs = xs} {ys = ys} i m a t) = turned_keeps ss xs ys i m c t (in_step a)
 
   -- settled, the last stage has written the pipeline's text on what was given
-  pub settled_answer : (ss : List T) (xs : List Seat) (i : ℕ) (came : List Item) (w : List ℕ) (e : Bool) → came ≡ items_of w e → InStep came ss xs → Settled Gives came ss xs → (text : List ℕ) × (f : Bool) × (report : Option Report) × Pipeline Gives i ss w e text report × LastWrote Gives came ss xs (items_of text f)
+  pub settled_answer : (ss : List T) (xs : List Progress) (i : ℕ) (came : List StreamItem) (w : List ℕ) (e : Bool) → came ≡ items_of w e → InStep came ss xs → Settled Gives came ss xs → (text : List ℕ) × (f : Bool) × (report : Option Report) × Pipeline Gives i ss w e text report × LastWrote Gives came ss xs (items_of text f)
   settled_answer [] [] i came w e is h done = (w, e, None, (refl, refl), sym is)
   settled_answer (s ∷ ss) (x ∷ xs) i came w e is h (turn, empty, out, wrote, rest) =
       let left : h.0.0 ≡ [] = sym (ap (λ z. drop (length x.taken) z) h.0.1 ∙ drop-append_seam x.taken h.0.0) ∙ empty in

@@ -2,7 +2,7 @@
 use Rattle.std.specs.Prelude.{◌≡◌, ℕ, Bool, true, false, List, [], ◌∷◌, ◌++◌, Option, map, vec_len}
 use Rattle.kex_code.specs.Codes.{Begins}
 use Rattle.kex_model.specs.Answers.{Report, Pipeline}
-use Rattle.kex_model.specs.Schedules.{Item, byte, has_end, items_of, Seat, Event, Turned, After, LastWrote}
+use Rattle.kex_model.specs.Schedules.{StreamItem, byte, has_end, items_of, Progress, Event, Turned, After, LastWrote}
 use Rattle.kex_pipe.specs.Events.{bytes_given, end_given}
 use Rattle.kex_pipe.specs.Rounds.{Each, LeftBy}
 use Rattle.kex_pipe.specs.Seats.{Sits}
@@ -14,14 +14,14 @@ use Rattle.kex_pipe.specs.declared.turn.Turn.{Ghosts}
 
 module _ {T : Type 0} (t : Ghosts T) where
   -- each stage sits in its seat; what came to it is what it has taken and then what waits, and nothing lies in its outbox; behind the last stage, what was taken from the output and then what is in hand
-  abbrev pub Line : List Item → List t.Plan → List (Seated T t) → List Seat → Inbox → List ℕ → Type 0
+  abbrev pub Line : List StreamItem → List t.Plan → List (Seated T t) → List Progress → Inbox → List ℕ → Type 0
   Line came [] [] [] b taken = came ≡ map byte taken ++ waiting b
-  Line came (p ∷ ps) (s ∷ ss) (x ∷ xs) b taken = (came ≡ x.taken ++ waiting s.inbox) × (out : List Item) × Sits t p s.staged x out × Line out ps ss xs b taken × (waiting s.outbox ≡ [])
+  Line came (p ∷ ps) (s ∷ ss) (x ∷ xs) b taken = (came ≡ x.taken ++ waiting s.inbox) × (out : List StreamItem) × Sits t p s.staged x out × Line out ps ss xs b taken × (waiting s.outbox ≡ [])
   Line came ps ss xs b taken = ⊥
 
   -- after a turn of stage i, counted from 0, of at most m items
-  pub record LineTurns (i m : ℕ) (came : List Item) (ps : List t.Plan) (xs : List Seat) (taken : List ℕ) (ss : List (Seated T t)) (b : Inbox) : Type 0 where
-    pub seats : List Seat
+  pub record LineTurns (i m : ℕ) (came : List StreamItem) (ps : List t.Plan) (xs : List Progress) (taken : List ℕ) (ss : List (Seated T t)) (b : Inbox) : Type 0 where
+    pub seats : List Progress
     pub takes : Turned t.gives i m came ps xs seats
     pub line : Line came ps ss seats b taken
 
@@ -43,8 +43,8 @@ module _ {T : Type 0} (t : Ghosts T) where
 
   -- the pipe of stages with these plans has come by this schedule, and this was taken from its output
   pub record Stands (ps : List t.Plan) (pipe : Pipe T t) (h : List Event) (taken : List ℕ) : Type 0 where
-    pub came : List Item
-    pub seats : List Seat
+    pub came : List StreamItem
+    pub seats : List Progress
     pub after : After t.gives ps h came seats
     pub output_ended : Bool
     pub written : LastWrote t.gives came ps seats (items_of (taken ++ in_hand pipe) output_ended)
@@ -59,8 +59,8 @@ module _ {T : Type 0} (t : Ghosts T) where
 
   -- the text that was taken, and what is in hand, are what the last stage has written by this schedule
   pub record HasWritten (ps : List t.Plan) (pipe : Pipe T t) (h : List Event) (taken : List ℕ) : Type 0 where
-    pub came : List Item
-    pub seats : List Seat
+    pub came : List StreamItem
+    pub seats : List Progress
     pub after : After t.gives ps h came seats
     pub output_ended : Bool
     pub written : LastWrote t.gives came ps seats (items_of (taken ++ in_hand pipe) output_ended)

@@ -1,7 +1,7 @@
 // A stage that takes its turns.
 
 ghost use Rattle.std.specs.Prelude.{◌≡◌, ◌++◌, ℕ, List, [], Bool, Option, true, false, IsTrue, OnOk, OnErr, is_ok, take, drop};
-ghost use Rattle.kex_model.specs.Schedules.{Item};
+ghost use Rattle.kex_model.specs.Schedules.{StreamItem};
 ghost use Rattle.kex_model.specs.Schedules as schedule;
 ghost use Rattle.kex_pipe.specs.Histories.{Fed, bytes_of, ended_of};
 ghost use Rattle.kex_pipe.specs.Waiting.{unread, waiting, Passes};
@@ -29,7 +29,7 @@ impl<T: Turn> Staged<T> {
     ) -> Result<(), Memory>
         requires { IsTrue (T.is_usable self.old.stage) }
         ensures usable { T.is_usable self.new.stage ≡ is_ok result }
-        ensures turns { OnOk result ((p : T.Plan) (x : schedule.Seat) (came out front : List Item)
+        ensures turns { OnOk result ((p : T.Plan) (x : schedule.Progress) (came out front : List StreamItem)
             → IsWhole came → came ≡ x.taken ++ waiting inbox.old → Sits T.Turn p self.old x out → out ≡ front ++ waiting next.old
             → TakesTurn T.Turn p at_most came x front self.new inbox.new next.new) }
         ensures turned { OnOk result (self.new.turned ≡ true) }

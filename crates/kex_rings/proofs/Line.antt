@@ -2,7 +2,7 @@
 use Rattle.std.proofs.Common.{◌≡◌, ◌<◌, ◌+◌, ◌⊎◌, inl, inr, ℕ, zero, suc, Bool, true, false, List, [], ◌∷◌, ◌++◌, Some, None, length, map, take, drop, refl, sym, ap, ap₂, subst, ◌∙◌, append_assoc, append-nil, arith}
 use Rattle.std.proofs.Math.Seq.{drop-append_seam}
 use Rattle.std.proofs.lemmas.List.{map-append}
-use Rattle.kex_model.specs.Schedules.{Item, byte, has_end, Seat, Event, After}
+use Rattle.kex_model.specs.Schedules.{StreamItem, byte, has_end, Progress, Event, After}
 use Rattle.kex_pipe.specs.Seats.{IsWhole, Sits}
 use Rattle.kex_pipe.specs.Waiting.{unread, waiting}
 use Rattle.kex_pipe.specs.declared.inbox.Inbox.{Inbox}
@@ -23,7 +23,7 @@ pub same-rest : {A : Type 0} (front xs ys : List A) → front ++ xs ≡ front ++
 same-rest front xs ys e = sym (drop-append_seam front xs) ∙ ap (λ z. drop (length front) z) e ∙ drop-append_seam front ys
 
 -- nothing is moved behind an end
-pub may-move : (front : List Item) (to : Inbox) (rest : List Item) → IsWhole (front ++ (waiting to ++ rest)) → (to.ended ≡ false) ⊎ (rest ≡ [])
+pub may-move : (front : List StreamItem) (to : Inbox) (rest : List StreamItem) → IsWhole (front ++ (waiting to ++ rest)) → (to.ended ≡ false) ⊎ (rest ≡ [])
 may-move front to [] whole = inr refl
 may-move front to (y ∷ ys) (w, ended, whole) =
     let shut : has_end (front ++ waiting to) ≡ false = whole-front (front ++ waiting to) (y ∷ ys) w ended (append_assoc front (waiting to) (y ∷ ys) ∙ whole) (λ n. cc) in
@@ -31,20 +31,20 @@ may-move front to (y ∷ ys) (w, ended, whole) =
 
 module _ {T : Type 0} (t : Ghosts T) where
   -- what had come to the first of these, but for what was not sent to it yet
-  abbrev pub front_of : List (RingSeat T t) → List Seat → Inbox → List ℕ → List Item
+  abbrev pub front_of : List (RingSeat T t) → List Progress → Inbox → List ℕ → List StreamItem
   front_of [] xs b taken = map byte taken ++ waiting b
   front_of (s ∷ ss) [] b taken = []
   front_of (s ∷ ss) (x ∷ xs) b taken = x.taken ++ lies_before t s
 
-  pub came-front : (came ahead : List Item) (ps : List t.Plan) (ss : List (RingSeat T t)) (xs : List Seat) (b : Inbox) (taken : List ℕ) → Line t came ahead ps ss xs b taken → came ≡ front_of ss xs b taken ++ ahead
+  pub came-front : (came ahead : List StreamItem) (ps : List t.Plan) (ss : List (RingSeat T t)) (xs : List Progress) (b : Inbox) (taken : List ℕ) → Line t came ahead ps ss xs b taken → came ≡ front_of ss xs b taken ++ ahead
   came-front came ahead [] [] [] b taken h = h.0 ∙ sym (append-nil (map byte taken ++ waiting b)) ∙ ap (λ z. (map byte taken ++ waiting b) ++ z) (sym h.1)
   came-front came ahead (p ∷ ps) (s ∷ ss) (x ∷ xs) b taken h = h.0 ∙ sym (append_assoc x.taken (lies_before t s) ahead)
   came-front came ahead ps ss xs b taken h = absurd h
 
   -- as a line, with what the last stage has written behind the output
-  abbrev pub Open : List Item → List Item → List t.Plan → List (RingSeat T t) → List Seat → Inbox → List ℕ → Type 0
+  abbrev pub Open : List StreamItem → List StreamItem → List t.Plan → List (RingSeat T t) → List Progress → Inbox → List ℕ → Type 0
   Open came ahead [] [] [] b taken = came ≡ map byte taken ++ (waiting b ++ ahead)
-  Open came ahead (p ∷ ps) (s ∷ ss) (x ∷ xs) b taken = (came ≡ x.taken ++ (lies_before t s ++ ahead)) × (out : List Item) × Sits t p s.seat.staged x out × Open out (waiting s.seat.outbox) ps ss xs b taken
+  Open came ahead (p ∷ ps) (s ∷ ss) (x ∷ xs) b taken = (came ≡ x.taken ++ (lies_before t s ++ ahead)) × (out : List StreamItem) × Sits t p s.seat.staged x out × Open out (waiting s.seat.outbox) ps ss xs b taken
   Open came ahead ps ss xs b taken = ⊥
 
   -- the looks of each stage; what came out of its ring and what lies there is what lay there, and what was sent
@@ -70,12 +70,12 @@ module _ {T : Type 0} (t : Ghosts T) where
   flows-of room to to' more (s ∷ ss) [] cs j j' went work = absurd work
   flows-of room to to' more (s ∷ ss) (s' ∷ ss') [] j j' went work = absurd work
 
-  pub record Goes (came ahead : List Item) (ps : List t.Plan) (ss : List (RingSeat T t)) (b : Inbox) (taken : List ℕ) (xs : List Seat) (cs : List ℕ) : Type 0 where
-    pub seats : List Seat
+  pub record Goes (came ahead : List StreamItem) (ps : List t.Plan) (ss : List (RingSeat T t)) (b : Inbox) (taken : List ℕ) (xs : List Progress) (cs : List ℕ) : Type 0 where
+    pub seats : List Progress
     pub line : Open came ahead ps ss seats b taken
     pub steps : Steps t.gives came ps xs seats cs
 
-  pub ring-line : (room : ℕ) (came ahead came' ahead' : List Item) (more : List Passed) (ps : List t.Plan) (ss ss' : List (RingSeat T t)) (xs : List Seat) (b : Inbox) (taken cs : List ℕ) → Line t came ahead ps ss xs b taken → came' ≡ front_of ss xs b taken ++ (items_as more ++ ahead') → IsWhole came' → Flows room more ss ss' cs → Goes came' ahead' ps ss' b taken xs cs
+  pub ring-line : (room : ℕ) (came ahead came' ahead' : List StreamItem) (more : List Passed) (ps : List t.Plan) (ss ss' : List (RingSeat T t)) (xs : List Progress) (b : Inbox) (taken cs : List ℕ) → Line t came ahead ps ss xs b taken → came' ≡ front_of ss xs b taken ++ (items_as more ++ ahead') → IsWhole came' → Flows room more ss ss' cs → Goes came' ahead' ps ss' b taken xs cs
   ring-line room came ahead came' ahead' more [] [] [] [] b taken [] h is whole work = record {
     seats = [];
     line = is ∙ ap (λ z. (map byte taken ++ waiting b) ++ (items_as z ++ ahead')) work ∙ append_assoc (map byte taken) (waiting b) ahead';
@@ -107,7 +107,7 @@ module _ {T : Type 0} (t : Ghosts T) where
   ring-line room came ahead came' ahead' more ps ss ss' xs b taken cs h is whole work = absurd h
 
   -- what the last stage has written goes behind the output in hand
-  pub out-line : (came ahead : List Item) (ps : List t.Plan) (front : List (RingSeat T t)) (s : RingSeat T t) (new : List (RingSeat T t)) (xs : List Seat) (b b' : Inbox) (taken : List ℕ) (c : CarriedOut t front s b new b') → IsWhole came → Open came ahead ps (front ++ s ∷ []) xs b taken → Line t came ahead ps (front ++ c.s' ∷ []) xs b' taken
+  pub out-line : (came ahead : List StreamItem) (ps : List t.Plan) (front : List (RingSeat T t)) (s : RingSeat T t) (new : List (RingSeat T t)) (xs : List Progress) (b b' : Inbox) (taken : List ℕ) (c : CarriedOut t front s b new b') → IsWhole came → Open came ahead ps (front ++ s ∷ []) xs b taken → Line t came ahead ps (front ++ c.s' ∷ []) xs b' taken
   out-line came ahead (p ∷ []) [] s new (x ∷ []) b b' taken c whole h =
       let s' = c.s' in
       let lies : lies_before t s ≡ lies_before t s' = ap₂ (λ a z. waiting a ++ items_as (seen_in z)) (sym c.same_inbox) (sym c.same_from) in

@@ -4,7 +4,7 @@ use Rattle.std.proofs.Math.Seq.{drop-append_seam}
 use Rattle.std.proofs.lemmas.List.{map-append, length-map}
 use Rattle.rtrb.specs.declared.consumer.Consumer.{Consumer}
 use Rattle.rtrb.specs.declared.AnyItems.{AnyItems}
-use Rattle.kex_model.specs.Schedules.{Seat, more_taken}
+use Rattle.kex_model.specs.Schedules.{Progress, more_taken}
 use Rattle.kex_model.specs.Schedules as schedule
 use Rattle.kex_pipe.specs.Histories.{Fed}
 use Rattle.kex_pipe.specs.Seats.{IsWhole, IsFed, written_by, Sits, TakesTurn}
@@ -25,7 +25,7 @@ use Rattle.kex_rings.proofs.Wholes.{front-whole}
 use Rattle.kex_rings.proofs.Sending.{same-producer, same-consumer}
 
 -- the back of a whole list is whole
-pub back-whole : (xs ys : List schedule.Item) → IsWhole (xs ++ ys) → IsWhole ys
+pub back-whole : (xs ys : List schedule.StreamItem) → IsWhole (xs ++ ys) → IsWhole ys
 back-whole xs ys (w, e, is) = (drop (length xs) w, _, sym (drop-append_seam xs ys) ∙ ap (λ z. drop (length xs) z) is ∙ drop-items (length xs) w e)
 
 pub same-taker : (a b c : Taker) → SameTaker a b → SameTaker b c → SameTaker a c
@@ -70,7 +70,7 @@ module _ {T : Type 0} (t : Ghosts T) where
   none-unsent (Some p) b none = none
 
   -- a stage that has written had a turn
-  had-turn : (p : t.Plan) (s : Staged T) (x : Seat) (out : List schedule.Item) → Sits t p s x out → (out ≡ [] → ⊥) → x.turned ≡ true
+  had-turn : (p : t.Plan) (s : Staged T) (x : Progress) (out : List schedule.StreamItem) → Sits t p s x out → (out ≡ [] → ⊥) → x.turned ≡ true
   had-turn p s x out sits some = cases sits.history sits.fed sits.wrote
     where
       cases : (h : Option Fed) → IsFed t p x h → out ≡ written_by h → x.turned ≡ true
@@ -125,9 +125,9 @@ module _ {T : Type 0} (t : Ghosts T) where
     popped = f.popped;
     came = ap taken_from from ∙ f.came;
     feeds = λ p x out front whole sits out_is.
-        let lot : List schedule.Item = waiting s.seat.inbox ++ items_as f.popped in
+        let lot : List schedule.StreamItem = waiting s.seat.inbox ++ items_as f.popped in
         let inbox : waiting m.seat.inbox ≡ lot = f.lies (back-whole x.taken lot whole) in
-        let came : List schedule.Item = x.taken ++ lot in
+        let came : List schedule.StreamItem = x.taken ++ lot in
         let r = takes.turns p x came out front whole (ap (λ z. x.taken ++ z) (sym inbox)) (subst (λ z. Sits t p z x out) (sym f.same_staged) sits) (out_is ∙ ap (λ z. front ++ waiting z) (sym f.same_outbox)) in
         let seat : more_taken count came x ≡ fed_more (take count lot) x = ap (λ z. record { taken = z; turned = true }) (taken-more count came lot x refl) in
         record {
@@ -151,7 +151,7 @@ module _ {T : Type 0} (t : Ghosts T) where
     came = takes.came ∙ ap (λ z. taken_from z ++ takes.popped) sends.same_from;
     went = ap sent_to takes.same_to ∙ sends.went;
     feeds = λ p x out front whole sits out_is.
-        let before : List schedule.Item = front ++ items_as sends.more in
+        let before : List schedule.StreamItem = front ++ items_as sends.more in
         let now : out ≡ before ++ waiting m.seat.outbox = out_is ∙ ap (λ z. front ++ z) sends.parts ∙ sym (append_assoc front (items_as sends.more) (waiting m.seat.outbox)) in
         let r = takes.feeds p x out before (subst (λ z. IsWhole (x.taken ++ (waiting z ++ items_as takes.popped))) (sym sends.same_inbox) whole) (subst (λ z. Sits t p z x out) (sym sends.same_staged) sits) now in
         record {

@@ -2,7 +2,7 @@
 use Rattle.std.proofs.Common.{◌≡◌, ◌<◌, ◌+◌, ◌⊎◌, inl, inr, ℕ, zero, suc, Bool, true, false, List, [], ◌∷◌, ◌++◌, None, length, map, take, drop, get_or, refl, sym, ap, ap₂, subst, ◌∙◌, append_assoc, append-nil, length-append, arith}
 use Rattle.std.specs.Prelude.{IsTrue}
 use Rattle.std.proofs.Math.Seq.{drop-append_seam}
-use Rattle.kex_model.specs.Schedules.{Item, byte, Seat, more_taken, After, Settled, Event}
+use Rattle.kex_model.specs.Schedules.{StreamItem, byte, Progress, more_taken, After, Settled, Event}
 use Rattle.kex_pipe.specs.Rounds.{Each, Takes}
 use Rattle.kex_pipe.specs.Seats.{IsWhole, Sits}
 use Rattle.kex_pipe.specs.Waiting.{unread, waiting}
@@ -37,11 +37,11 @@ module _ {T : Type 0} (t : Ghosts T) where
     none_before = ap waiting same_inbox ∙ takes.rest ∙ ap (λ z. drop z (waiting m.inbox)) number ∙ drop-all (waiting m.inbox);
     none_behind = none;
     takes = λ p x out front whole sits out_is.
-        let lot : List Item = lies_before t s ++ waiting c0 in
+        let lot : List StreamItem = lies_before t s ++ waiting c0 in
         let whole_lot : IsWhole lot = back-whole x.taken lot whole in
         let lies : waiting inbox ≡ lies_before t s = out_of (front-whole (lies_before t s) (waiting c0) whole_lot) in
         let all : waiting m.inbox ≡ lot = moves (may-move [] inbox (waiting c0) (subst (λ z. IsWhole (z ++ waiting c0)) (sym lies) whole_lot)) ∙ ap (λ z. z ++ waiting c0) lies in
-        let came : List Item = x.taken ++ lot in
+        let came : List StreamItem = x.taken ++ lot in
         let r = takes.turns p x came out front whole (ap (λ z. x.taken ++ z) (sym all)) (subst (λ z. Sits t p z x out) (sym staged) sits) (out_is ∙ ap (λ z. front ++ waiting z) (sym outbox)) in
         let seat : more_taken n came x ≡ fed_more lot x = ap (λ z. record { taken = z; turned = true }) (taken-more n came lot x refl ∙ ap (λ z. x.taken ++ z) (ap (λ z. take z lot) (number ∙ ap length all) ∙ take-all lot)) in
         let none_there = no-items (unread c1) c1.ended carried in
@@ -50,13 +50,13 @@ module _ {T : Type 0} (t : Ghosts T) where
   }
 
   -- one more
-  pub settles-more : (ss : List (RingSeat T t)) (ss' : List (Seated T t)) (s : RingSeat T t) (s' : Seated T t) (c0 c1 c2 : List Item) → SettlesAll t ss ss' c0 c1 → SettlesBy t s s' c1 c2 → SettlesAll t (ss ++ s ∷ []) (ss' ++ s' ∷ []) c0 c2
+  pub settles-more : (ss : List (RingSeat T t)) (ss' : List (Seated T t)) (s : RingSeat T t) (s' : Seated T t) (c0 c1 c2 : List StreamItem) → SettlesAll t ss ss' c0 c1 → SettlesBy t s s' c1 c2 → SettlesAll t (ss ++ s ∷ []) (ss' ++ s' ∷ []) c0 c2
   settles-more [] [] s s' c0 c1 c2 before by = (c2, subst (λ z. SettlesBy t s s' z c2) before by, refl)
   settles-more (a ∷ ss) (a' ∷ ss') s s' c0 c1 c2 before by = (before.0, before.1, settles-more ss ss' s s' before.0 c1 c2 before.2 by)
   settles-more [] (a' ∷ ss') s s' c0 c1 c2 before by = absurd before
   settles-more (a ∷ ss) [] s s' c0 c1 c2 before by = absurd before
 
-  pub settles-length : (ss : List (RingSeat T t)) (ss' : List (Seated T t)) (c c' : List Item) → SettlesAll t ss ss' c c' → length ss' ≡ length ss
+  pub settles-length : (ss : List (RingSeat T t)) (ss' : List (Seated T t)) (c c' : List StreamItem) → SettlesAll t ss ss' c c' → length ss' ≡ length ss
   settles-length [] [] c c' h = refl
   settles-length (s ∷ ss) (s' ∷ ss') c c' h = ap suc (settles-length ss ss' h.0 c' h.2)
   settles-length [] (s' ∷ ss') c c' h = absurd h
@@ -69,20 +69,20 @@ module _ {T : Type 0} (t : Ghosts T) where
   row-usable [] (r ∷ row) same all k d lt = absurd same
   row-usable (s ∷ ss) [] same all k d lt = absurd same
 
-  record Ends (came : List Item) (ps : List t.Plan) (row : List (RingSeat T t)) (b : Inbox) (taken : List ℕ) (xs : List Seat) : Type 0 where
-    pub seats : List Seat
+  record Ends (came : List StreamItem) (ps : List t.Plan) (row : List (RingSeat T t)) (b : Inbox) (taken : List ℕ) (xs : List Progress) : Type 0 where
+    pub seats : List Progress
     pub counts : List ℕ
     pub steps : Steps t.gives came ps xs seats counts
     pub line : Line t came [] ps row seats b taken
     pub settled : Settled t.gives came ps seats
 
-  settle-line : (room : ℕ) (to : Giver) (came ahead came' carried on : List Item) (ps : List t.Plan) (ss : List (RingSeat T t)) (ss' : List (Seated T t)) (row : List (RingSeat T t)) (xs : List Seat) (b b' : Inbox) (taken : List ℕ) → Line t came ahead ps ss xs b taken → came' ≡ front_of t ss xs b taken ++ carried → IsWhole came' → SettlesAll t ss ss' carried on → Each (λ s r. r.seat ≡ s) ss' row → Joined t (AreBeside room) to row → sent_to to ≡ [] → AreNew t row
+  settle-line : (room : ℕ) (to : Giver) (came ahead came' carried on : List StreamItem) (ps : List t.Plan) (ss : List (RingSeat T t)) (ss' : List (Seated T t)) (row : List (RingSeat T t)) (xs : List Progress) (b b' : Inbox) (taken : List ℕ) → Line t came ahead ps ss xs b taken → came' ≡ front_of t ss xs b taken ++ carried → IsWhole came' → SettlesAll t ss ss' carried on → Each (λ s r. r.seat ≡ s) ss' row → Joined t (AreBeside room) to row → sent_to to ≡ [] → AreNew t row
       → ((b.ended ≡ false) ⊎ (on ≡ []) → waiting b' ≡ waiting b ++ on) → Ends came' ps row b' taken xs
   settle-line room to came ahead came' carried on [] [] [] [] [] b b' taken h is whole work same j none made moves =
       let all : came' ≡ map byte taken ++ (waiting b ++ on) = is ∙ ap (λ z. (map byte taken ++ waiting b) ++ z) (sym work) ∙ append_assoc (map byte taken) (waiting b) on in
       record { seats = []; counts = []; steps = tt; line = (all ∙ ap (λ z. map byte taken ++ z) (sym (moves (may-move (map byte taken) b on (subst IsWhole all whole)))), refl); settled = tt }
   settle-line room to came ahead came' carried on (p ∷ ps) (s ∷ ss) (s' ∷ ss') (r ∷ row) (x ∷ xs) b b' taken h is whole work same j none made moves =
-      let lot : List Item = lies_before t s ++ carried in
+      let lot : List StreamItem = lies_before t s ++ carried in
       let all : came' ≡ x.taken ++ lot = is ∙ append_assoc x.taken (lies_before t s) carried in
       let by = work.1 in
       let k = by.takes p x h.1 (front_of t ss xs b taken) (subst IsWhole all whole) h.2 (came-front t h.1 (waiting s.seat.outbox) ps ss xs b taken h.3) in

@@ -5,7 +5,7 @@ use Rattle.std.proofs.Math.ListN.{set}
 use Rattle.std.proofs.lemmas.List.{map-append}
 use Rattle.kex_code.specs.Codes.{Begins}
 use Rattle.kex_model.specs.Answers.{Answer, Stop, Report, later, Pipeline}
-use Rattle.kex_model.specs.Schedules.{Item, byte, bytes_in, has_end, ending, items_of, Seat, fresh, Event, After, Settled, LastWrote}
+use Rattle.kex_model.specs.Schedules.{StreamItem, byte, bytes_in, has_end, ending, items_of, Progress, fresh, Event, After, Settled, LastWrote}
 use Rattle.kex_pipe.specs.Events.{bytes_given, end_given}
 use Rattle.kex_pipe.specs.Histories.{Fed, stop_in}
 use Rattle.kex_pipe.specs.Rounds.{Each}
@@ -29,7 +29,7 @@ use Rattle.kex_rings.specs.Looking.{lies_before, IsIdle}
 use Rattle.kex_rings.specs.Lines.{Line, Joined, AreNew}
 use Rattle.kex_rings.specs.Standing.{Stands, BeginsAnswer, HasWritten, in_hand}
 
-pub whole-given : (h : List Event) (came : List Item) → came ≡ items_of (bytes_given h) (end_given h) → IsWhole came
+pub whole-given : (h : List Event) (came : List StreamItem) → came ≡ items_of (bytes_given h) (end_given h) → IsWhole came
 whole-given h came e = (bytes_given h, end_given h, e)
 
 none-seen : {A : Type 0} (xs ys : List A) → xs ++ ys ≡ [] → ys ≡ []
@@ -37,26 +37,26 @@ none-seen [] ys e = e
 none-seen (x ∷ xs) ys e = cc
 
 module _ {T : Type 0} (t : Ghosts T) where
-  pub line-wrote : (came ahead : List Item) (ps : List t.Plan) (ss : List (RingSeat T t)) (xs : List Seat) (b : Inbox) (taken : List ℕ) → Line t came ahead ps ss xs b taken → (f : Bool) × LastWrote t.gives came ps xs (items_of (taken ++ unread b) f)
+  pub line-wrote : (came ahead : List StreamItem) (ps : List t.Plan) (ss : List (RingSeat T t)) (xs : List Progress) (b : Inbox) (taken : List ℕ) → Line t came ahead ps ss xs b taken → (f : Bool) × LastWrote t.gives came ps xs (items_of (taken ++ unread b) f)
   line-wrote came ahead [] [] [] b taken h = (b.ended, out-items t taken (unread b) b.ended ∙ sym h.0)
   line-wrote came ahead (p ∷ ps) (s ∷ ss) (x ∷ xs) b taken h =
       let r = line-wrote h.1 (waiting s.seat.outbox) ps ss xs b taken h.3 in
       (r.0, (h.1, sits-wrote t p s.seat.staged x h.1 h.2, r.1))
   line-wrote came ahead ps ss xs b taken h = absurd h
 
-  pub standing : (ps : List t.Plan) (pipe : RingPipe T t) (h : List Event) (taken : List ℕ) (came : List Item) (xs : List Seat) → After t.gives ps h came xs → Line t came [] ps pipe.seats.items xs pipe.output taken → pipe.ended ≡ has_end came → pipe.spent ≡ false → Stands t ps pipe h taken
+  pub standing : (ps : List t.Plan) (pipe : RingPipe T t) (h : List Event) (taken : List ℕ) (came : List StreamItem) (xs : List Progress) → After t.gives ps h came xs → Line t came [] ps pipe.seats.items xs pipe.output taken → pipe.ended ≡ has_end came → pipe.spent ≡ false → Stands t ps pipe h taken
   standing ps pipe h taken came xs after line same_end going =
       let r = line-wrote came [] ps pipe.seats.items xs pipe.output taken line in
       record { came = came; seats = xs; after = after; output_ended = r.0; written = r.1; line = line; same_end = same_end; going = going }
 
   -- the same, with what else is known of the places
-  pub standing-and : (Q : List Item → List Seat → Type 0) (ps : List t.Plan) (pipe : RingPipe T t) (h : List Event) (taken : List ℕ) (came : List Item) (xs : List Seat) → After t.gives ps h came xs → Line t came [] ps pipe.seats.items xs pipe.output taken → pipe.ended ≡ has_end came → pipe.spent ≡ false → Q came xs → (s : Stands t ps pipe h taken) × Q s.came s.seats
+  pub standing-and : (Q : List StreamItem → List Progress → Type 0) (ps : List t.Plan) (pipe : RingPipe T t) (h : List Event) (taken : List ℕ) (came : List StreamItem) (xs : List Progress) → After t.gives ps h came xs → Line t came [] ps pipe.seats.items xs pipe.output taken → pipe.ended ≡ has_end came → pipe.spent ≡ false → Q came xs → (s : Stands t ps pipe h taken) × Q s.came s.seats
   standing-and Q ps pipe h taken came xs after line same_end going q =
       let r = line-wrote came [] ps pipe.seats.items xs pipe.output taken line in
       (record { came = came; seats = xs; after = after; output_ended = r.0; written = r.1; line = line; same_end = same_end; going = going }, q)
 
   -- more comes to the first stage, before which no ring is
-  pub line-more : (room : ℕ) (came came' : List Item) (ps : List t.Plan) (ss : List (RingSeat T t)) (xs : List Seat) (b : Inbox) (taken : List ℕ) (s s' d : RingSeat T t) → Joined t (AreBeside room) None ss → s ≡ get_or ss 0 d → s'.seat.staged ≡ s.seat.staged → s'.seat.outbox ≡ s.seat.outbox → s'.from ≡ s.from → ((front : List Item) → came ≡ front ++ waiting s.seat.inbox → came' ≡ front ++ waiting s'.seat.inbox) → 0 < length ss → Line t came [] ps ss xs b taken → Line t came' [] ps (set ss 0 s') xs b taken
+  pub line-more : (room : ℕ) (came came' : List StreamItem) (ps : List t.Plan) (ss : List (RingSeat T t)) (xs : List Progress) (b : Inbox) (taken : List ℕ) (s s' d : RingSeat T t) → Joined t (AreBeside room) None ss → s ≡ get_or ss 0 d → s'.seat.staged ≡ s.seat.staged → s'.seat.outbox ≡ s.seat.outbox → s'.from ≡ s.from → ((front : List StreamItem) → came ≡ front ++ waiting s.seat.inbox → came' ≡ front ++ waiting s'.seat.inbox) → 0 < length ss → Line t came [] ps ss xs b taken → Line t came' [] ps (set ss 0 s') xs b taken
   line-more room came came' ps [] xs b taken s s' d j s_is staged outbox from more some h = absurd (omega arith)
   line-more room came came' (p ∷ ps) (s0 ∷ ss) (x ∷ xs) b taken s s' d j s_is staged outbox from more some h =
       let none : items_as (seen_in s0.from) ≡ [] = ap items_as (none-seen (taken_from s0.from) (seen_in s0.from) j.0.1) in
@@ -67,7 +67,7 @@ module _ {T : Type 0} (t : Ghosts T) where
   line-more room came came' ps ss xs b taken s s' d j s_is staged outbox from more some h = absurd h
 
   -- the output is taken
-  pub line-taken : (came ahead : List Item) (ps : List t.Plan) (ss : List (RingSeat T t)) (xs : List Seat) (b b' : Inbox) (taken out : List ℕ) → out ≡ unread b → unread b' ≡ [] → b'.ended ≡ b.ended → Line t came ahead ps ss xs b taken → Line t came ahead ps ss xs b' (taken ++ out)
+  pub line-taken : (came ahead : List StreamItem) (ps : List t.Plan) (ss : List (RingSeat T t)) (xs : List Progress) (b b' : Inbox) (taken out : List ℕ) → out ≡ unread b → unread b' ≡ [] → b'.ended ≡ b.ended → Line t came ahead ps ss xs b taken → Line t came ahead ps ss xs b' (taken ++ out)
   line-taken came ahead [] [] [] b b' taken out out_is none end h =
       (h.0 ∙ sym (out-items t taken (unread b) b.ended) ∙ ap₂ (λ z f. map byte (taken ++ z) ++ ending f) (sym out_is) (sym end) ∙ ap (λ z. map byte (taken ++ out) ++ items_of z b'.ended) (sym none), h.1)
   line-taken came ahead (p ∷ ps) (s ∷ ss) (x ∷ xs) b b' taken out out_is none end h =
@@ -98,7 +98,7 @@ module _ {T : Type 0} (t : Ghosts T) where
 
   module _ (one : (p : t.Plan) (w : List ℕ) (e : Bool) (a b : Answer) → t.gives p w e a → t.gives p w e b → a ≡ b) where
     module _ (grows : (p : t.Plan) (w v : List ℕ) (e : Bool) (a b : Answer) → t.gives p w false a → t.gives p (w ++ v) e b → Begins b.text a.text) (ends : (p : t.Plan) (w : List ℕ) (e : Bool) (a : Answer) → t.gives p w e a → a.ended ≡ (e && is_none a.stop)) where
-      line-begins : (i : ℕ) (came ahead : List Item) (ps : List t.Plan) (ss : List (RingSeat T t)) (xs : List Seat) (b : Inbox) (taken w : List ℕ) (e : Bool) (text : List ℕ) (report : Option Report) → Begins (items_of w e) came → Line t came ahead ps ss xs b taken → Pipeline t.gives i ps w e text report → Begins text (taken ++ unread b)
+      line-begins : (i : ℕ) (came ahead : List StreamItem) (ps : List t.Plan) (ss : List (RingSeat T t)) (xs : List Progress) (b : Inbox) (taken w : List ℕ) (e : Bool) (text : List ℕ) (report : Option Report) → Begins (items_of w e) came → Line t came ahead ps ss xs b taken → Pipeline t.gives i ps w e text report → Begins text (taken ++ unread b)
       line-begins i came ahead [] [] [] b taken w e text report front h answer =
           let r = bytes-front (taken ++ unread b) w e (ending b.ended ++ front.0) (front.1 ∙ ap (λ z. z ++ front.0) (h.0 ∙ sym (append_assoc (map byte taken) (map byte (unread b)) (ending b.ended)) ∙ ap (λ z. z ++ ending b.ended) (sym (map-append byte taken (unread b)))) ∙ append_assoc (map byte (taken ++ unread b)) (ending b.ended) front.0) in
           (r.0, answer.0 ∙ r.1)
@@ -112,17 +112,17 @@ module _ {T : Type 0} (t : Ghosts T) where
       stands-begins ps pipe h taken s = λ text report answer.
           line-begins 1 s.came [] ps pipe.seats.items s.seats pipe.output taken (bytes_given h) (end_given h) text report ([], sym (append-nil s.came ∙ came-given t.gives s.after)) s.line answer
 
-    no-lies : (s : RingSeat T t) (ahead : List Item) → IsIdle t s → ahead ≡ [] → lies_before t s ++ ahead ≡ []
+    no-lies : (s : RingSeat T t) (ahead : List StreamItem) → IsIdle t s → ahead ≡ [] → lies_before t s ++ ahead ≡ []
     no-lies s ahead idle none = ap₂ (λ a b. (a ++ items_as b) ++ ahead) (ap₂ items_of idle.1.0 idle.1.1) idle.2 ∙ none
 
-    pub idle-settled : (came ahead : List Item) (ps : List t.Plan) (ss : List (RingSeat T t)) (xs : List Seat) (b : Inbox) (taken : List ℕ) → ahead ≡ [] → ((k : ℕ) → k < length ss → (d : RingSeat T t) → IsIdle t (get_or ss k d)) → Line t came ahead ps ss xs b taken → Settled t.gives came ps xs
+    pub idle-settled : (came ahead : List StreamItem) (ps : List t.Plan) (ss : List (RingSeat T t)) (xs : List Progress) (b : Inbox) (taken : List ℕ) → ahead ≡ [] → ((k : ℕ) → k < length ss → (d : RingSeat T t) → IsIdle t (get_or ss k d)) → Line t came ahead ps ss xs b taken → Settled t.gives came ps xs
     idle-settled came ahead [] [] [] b taken none idle h = tt
     idle-settled came ahead (p ∷ ps) (s ∷ ss) (x ∷ xs) b taken none idle h =
         let z = idle zero (omega arith) s in
         (sym h.2.same_turned ∙ z.0, left x.taken (lies_before t s ++ ahead) came h.0 ∙ no-lies s ahead z none, h.1, sits-wrote t p s.seat.staged x h.1 h.2, idle-settled h.1 (waiting s.seat.outbox) ps ss xs b taken (ap₂ items_of z.3.0 z.3.1) (λ k lt d. idle (suc k) (omega arith) d) h.3)
     idle-settled came ahead ps ss xs b taken none idle h = absurd h
 
-    front-none : (xs ys : List Item) → xs ++ ys ≡ [] → xs ≡ []
+    front-none : (xs ys : List StreamItem) → xs ++ ys ≡ [] → xs ≡ []
     front-none [] ys e = refl
     front-none (x ∷ xs) ys e = cc
 
@@ -134,12 +134,12 @@ module _ {T : Type 0} (t : Ghosts T) where
         cases (x ∷ xs) e = cc
 
     -- of what waits before the next stage nothing is left when all is settled
-    settled-ahead : (came ahead : List Item) (ps : List t.Plan) (ss : List (RingSeat T t)) (xs : List Seat) (b : Inbox) (taken : List ℕ) → Line t came ahead ps ss xs b taken → Settled t.gives came ps xs → ahead ≡ []
+    settled-ahead : (came ahead : List StreamItem) (ps : List t.Plan) (ss : List (RingSeat T t)) (xs : List Progress) (b : Inbox) (taken : List ℕ) → Line t came ahead ps ss xs b taken → Settled t.gives came ps xs → ahead ≡ []
     settled-ahead came ahead [] [] [] b taken h done = h.1
     settled-ahead came ahead (p ∷ ps) (s ∷ ss) (x ∷ xs) b taken h done = rest-empty (lies_before t s) ahead (sym (left x.taken (lies_before t s ++ ahead) came h.0) ∙ done.1)
     settled-ahead came ahead ps ss xs b taken h done = absurd h
 
-    pub settled-idle : (k : ℕ) (came ahead : List Item) (ps : List t.Plan) (ss : List (RingSeat T t)) (xs : List Seat) (b : Inbox) (taken : List ℕ) (d : RingSeat T t) → k < length ss → Line t came ahead ps ss xs b taken → Settled t.gives came ps xs → IsIdle t (get_or ss k d)
+    pub settled-idle : (k : ℕ) (came ahead : List StreamItem) (ps : List t.Plan) (ss : List (RingSeat T t)) (xs : List Progress) (b : Inbox) (taken : List ℕ) (d : RingSeat T t) → k < length ss → Line t came ahead ps ss xs b taken → Settled t.gives came ps xs → IsIdle t (get_or ss k d)
     settled-idle zero came ahead (p ∷ ps) (s ∷ ss) (x ∷ xs) b taken d lt h done =
         let same = one-wrote t one p x.turned x.taken done.2 h.1 done.3 (sits-wrote t p s.seat.staged x h.1 h.2) in
         let lies : lies_before t s ≡ [] = front-none (lies_before t s) ahead (sym (left x.taken (lies_before t s ++ ahead) came h.0) ∙ done.1) in
@@ -153,7 +153,7 @@ module _ {T : Type 0} (t : Ghosts T) where
     settled-idle k came ahead ps ss xs b taken d lt h done = absurd h
 
     -- settled, the output and the report are the pipeline's
-    pub settled-answer : (i : ℕ) (came ahead : List Item) (ps : List t.Plan) (ss : List (RingSeat T t)) (xs : List Seat) (b : Inbox) (taken w : List ℕ) (e : Bool) (report : Option Report) → came ≡ items_of w e → Line t came ahead ps ss xs b taken → Settled t.gives came ps xs → LastStop t i ps xs report → Pipeline t.gives i ps w e (taken ++ unread b) report
+    pub settled-answer : (i : ℕ) (came ahead : List StreamItem) (ps : List t.Plan) (ss : List (RingSeat T t)) (xs : List Progress) (b : Inbox) (taken w : List ℕ) (e : Bool) (report : Option Report) → came ≡ items_of w e → Line t came ahead ps ss xs b taken → Settled t.gives came ps xs → LastStop t i ps xs report → Pipeline t.gives i ps w e (taken ++ unread b) report
     settled-answer i came ahead [] [] [] b taken w e report is h done stop =
         (ap (λ z. taken ++ z) (sym (bytes-items (unread b) b.ended)) ∙ ap (λ z. z ++ bytes_in (waiting b)) (sym (bytes-items taken false)) ∙ sym (bytes-append (items_of taken false) (waiting b) (end-items taken false)) ∙ ap (λ z. bytes_in (z ++ waiting b)) (append-nil (map byte taken)) ∙ ap bytes_in (sym h.0 ∙ is) ∙ bytes-items w e, stop)
     settled-answer i came ahead (p ∷ ps) (s ∷ ss) (x ∷ xs) b taken w e report is h done (own, rest, has, others, er) =
@@ -181,7 +181,7 @@ module _ {T : Type 0} (t : Ghosts T) where
     settled-answer i came ahead ps ss xs b taken w e report is h done stop = absurd h
 
   -- one stage more
-  pub last-stop-more : (k i j : ℕ) (came ahead : List Item) (ps : List t.Plan) (ss : List (RingSeat T t)) (xs : List Seat) (b : Inbox) (taken : List ℕ) (d : RingSeat T t) (own : Option Stop) (report : Option Report) → k < length ss → j ≡ i + k → ((h : Option Fed) → t.stands (get_or ss k d).seat.staged.stage h → own ≡ stop_in h) → Line t came ahead ps ss xs b taken → LastStop t i (take k ps) (take k xs) report → LastStop t i (take (suc k) ps) (take (suc k) xs) (latest_report j own report)
+  pub last-stop-more : (k i j : ℕ) (came ahead : List StreamItem) (ps : List t.Plan) (ss : List (RingSeat T t)) (xs : List Progress) (b : Inbox) (taken : List ℕ) (d : RingSeat T t) (own : Option Stop) (report : Option Report) → k < length ss → j ≡ i + k → ((h : Option Fed) → t.stands (get_or ss k d).seat.staged.stage h → own ≡ stop_in h) → Line t came ahead ps ss xs b taken → LastStop t i (take k ps) (take k xs) report → LastStop t i (take (suc k) ps) (take (suc k) xs) (latest_report j own report)
   last-stop-more zero i j came ahead (p ∷ ps) (s ∷ ss) (x ∷ xs) b taken d own report lt number tells h before =
       (own, None, sits-stop t p s.seat.staged x h.1 own h.2 tells, refl, ap (λ z. latest_report j own z) before ∙ latest-later j own ∙ ap (λ z. later z own None) (let e : j ≡ i = omega arith in e))
   last-stop-more (suc k) i j came ahead (p ∷ ps) (s ∷ ss) (x ∷ xs) b taken d own report lt number tells h (first, rest, has, others, is) =
@@ -189,7 +189,7 @@ module _ {T : Type 0} (t : Ghosts T) where
   last-stop-more k i j came ahead ps [] xs bs taken d own report lt number tells h before = absurd (omega arith)
   last-stop-more k i j came ahead ps ss xs b taken d own report lt number tells h before = absurd h
 
-  pub last-stop-all : (i : ℕ) (came ahead : List Item) (ps : List t.Plan) (ss : List (RingSeat T t)) (xs : List Seat) (b : Inbox) (taken : List ℕ) (report : Option Report) → Line t came ahead ps ss xs b taken → LastStop t i (take (length ss) ps) (take (length ss) xs) report → LastStop t i ps xs report
+  pub last-stop-all : (i : ℕ) (came ahead : List StreamItem) (ps : List t.Plan) (ss : List (RingSeat T t)) (xs : List Progress) (b : Inbox) (taken : List ℕ) (report : Option Report) → Line t came ahead ps ss xs b taken → LastStop t i (take (length ss) ps) (take (length ss) xs) report → LastStop t i ps xs report
   last-stop-all i came ahead [] [] [] b taken report h before = before
   last-stop-all i came ahead (p ∷ ps) (s ∷ ss) (x ∷ xs) b taken report h (own, rest, has, others, is) = (own, rest, has, last-stop-all (suc i) h.1 (waiting s.seat.outbox) ps ss xs b taken rest h.3 others, is)
   last-stop-all i came ahead ps ss xs b taken report h before = absurd h

@@ -1,7 +1,7 @@
 -- What a stage between two rings does.
 use Rattle.std.specs.Prelude.{◌≡◌, ◌≤◌, ◌+◌, ◌++◌, ◌⊎◌, [], ◌∷◌, true, false, Bool, List, ℕ, Some, None, length, map, min, All, IsTrue}
 use Rattle.rtrb.specs.Ring.{known_items}
-use Rattle.kex_model.specs.Schedules.{Seat}
+use Rattle.kex_model.specs.Schedules.{Progress}
 use Rattle.kex_model.specs.Schedules as schedule
 use Rattle.kex_pipe.specs.Seats.{IsWhole, Sits}
 use Rattle.kex_pipe.specs.Waiting.{unread, waiting}
@@ -13,7 +13,7 @@ use Rattle.kex_rings.specs.Items.{items_as}
 use Rattle.kex_rings.specs.Ends.{Giver, Taker, sent_to, free_in, taken_from, seen_in, SameGiver, SameTaker, ArePaired, AreBeside}
 
 -- the place in the schedule when these items more were taken
-abbrev pub fed_more : List schedule.Item → Seat → Seat
+abbrev pub fed_more : List schedule.StreamItem → Progress → Progress
 fed_more items x = record { taken = x.taken ++ items; turned = true }
 
 abbrev pub IsEmpty : Inbox → Type 0
@@ -21,7 +21,7 @@ IsEmpty b = (unread b ≡ []) × (b.ended ≡ false)
 
 module _ {T : Type 0} (t : Ghosts T) where
   -- what lies before the stage: in its inbox, and behind that in its ring
-  abbrev pub lies_before : RingSeat T t → List schedule.Item
+  abbrev pub lies_before : RingSeat T t → List schedule.StreamItem
   lies_before s = waiting s.seat.inbox ++ items_as (seen_in s.from)
 
   -- how much the stage finds: what lies in its ring, before the first stage what lies in its inbox
@@ -30,27 +30,27 @@ module _ {T : Type 0} (t : Ghosts T) where
   found (Some c) inbox = length (known_items c)
 
   -- what is not sent yet: all that the stage has written and the ring behind it didn't take. Behind the last stage there is none
-  abbrev pub unsent_of : Giver → Inbox → List schedule.Item
+  abbrev pub unsent_of : Giver → Inbox → List schedule.StreamItem
   unsent_of None outbox = []
   unsent_of (Some p) outbox = waiting outbox
 
   abbrev pub finds : RingSeat T t → ℕ
   finds s = found s.from s.seat.inbox
 
-  abbrev pub unsent : RingSeat T t → List schedule.Item
+  abbrev pub unsent : RingSeat T t → List schedule.StreamItem
   unsent s = unsent_of s.to s.seat.outbox
 
   -- a stage that sits at x was fed so many of what lay in its inbox and of what came out of its ring; what it wrote was sent or lies in its outbox, in order
-  pub record FedBy (p : t.Plan) (x : Seat) (front : List schedule.Item) (s s' : RingSeat T t) (popped more : List Item) (count : ℕ) : Type 0 where
-    pub got : List schedule.Item
+  pub record FedBy (p : t.Plan) (x : Progress) (front : List schedule.StreamItem) (s s' : RingSeat T t) (popped more : List Item) (count : ℕ) : Type 0 where
+    pub got : List schedule.StreamItem
     pub count_is : count ≡ length got
     pub parts : waiting s.seat.inbox ++ items_as popped ≡ got ++ waiting s'.seat.inbox
-    pub out : List schedule.Item
+    pub out : List schedule.StreamItem
     pub sits : Sits t p s'.seat.staged (fed_more got x) out
     pub out_is : out ≡ front ++ (items_as more ++ waiting s'.seat.outbox)
 
   abbrev pub Feeds : RingSeat T t → RingSeat T t → List Item → List Item → ℕ → Type 0
-  Feeds s s' popped more count = (p : t.Plan) (x : Seat) (out front : List schedule.Item) → IsWhole (x.taken ++ (waiting s.seat.inbox ++ items_as popped))
+  Feeds s s' popped more count = (p : t.Plan) (x : Progress) (out front : List schedule.StreamItem) → IsWhole (x.taken ++ (waiting s.seat.inbox ++ items_as popped))
       → Sits t p s.seat.staged x out → out ≡ front ++ waiting s.seat.outbox → FedBy p x front s s' popped more count
 
   -- looks, in which the stage took so many items

@@ -2,7 +2,7 @@
 use Rattle.std.specs.Prelude.{◌≡◌, ℕ, Bool, true, false, List, [], ◌++◌, Option, vec_len}
 use Rattle.kex_code.specs.Codes.{Begins}
 use Rattle.kex_model.specs.Answers.{Report, Pipeline}
-use Rattle.kex_model.specs.Schedules.{Item, has_end, items_of, Seat, Event, After, LastWrote, Settled}
+use Rattle.kex_model.specs.Schedules.{StreamItem, has_end, items_of, Progress, Event, After, LastWrote, Settled}
 use Rattle.kex_pipe.specs.Events.{bytes_given, end_given}
 use Rattle.kex_pipe.specs.Waiting.{unread}
 use Rattle.kex_pipe.specs.declared.turn.Turn.{Ghosts}
@@ -25,8 +25,8 @@ module _ {T : Type 0} (t : Ghosts T) where
 
   -- the pipe of stages with these plans has come by this schedule, and this was taken from its output
   pub record Stands (ps : List t.Plan) (pipe : RingPipe T t) (h : List Event) (taken : List ℕ) : Type 0 where
-    pub came : List Item
-    pub seats : List Seat
+    pub came : List StreamItem
+    pub seats : List Progress
     pub after : After t.gives ps h came seats
     pub output_ended : Bool
     pub written : LastWrote t.gives came ps seats (items_of (taken ++ in_hand pipe) output_ended)
@@ -40,8 +40,8 @@ module _ {T : Type 0} (t : Ghosts T) where
 
   -- the text that was taken, and what is in hand, are what the last stage has written by this schedule
   pub record HasWritten (ps : List t.Plan) (pipe : RingPipe T t) (h : List Event) (taken : List ℕ) : Type 0 where
-    pub came : List Item
-    pub seats : List Seat
+    pub came : List StreamItem
+    pub seats : List Progress
     pub after : After t.gives ps h came seats
     pub output_ended : Bool
     pub written : LastWrote t.gives came ps seats (items_of (taken ++ in_hand pipe) output_ended)

@@ -1,7 +1,7 @@
 -- What a pipe of stages says of what it was fed.
 use Rattle.std.proofs.Common.{◌≡◌, ℕ, ◌<◌, Bool, true, false, List, [], ◌∷◌, ◌++◌, ◌||◌, Option, Some, None, length, map, get_or, zero, suc, arith, refl, sym, ap, ap₂, subst, ◌∙◌, append-nil}
 use Rattle.kex_model.specs.Answers.{Answer, Pipeline}
-use Rattle.kex_model.specs.Schedules.{Item, Seat, has_end, Event, give, give_end, After, Settled}
+use Rattle.kex_model.specs.Schedules.{StreamItem, Progress, has_end, Event, give, give_end, After, Settled}
 use Rattle.kex_pipe.specs.Events.{bytes_given, end_given}
 use Rattle.kex_pipe.specs.Reports.{report_as}
 use Rattle.kex_pipe.specs.Standing as by_rounds
@@ -35,12 +35,12 @@ or-yes true = refl
 or-yes false = refl
 
 module _ {T : Type 0} (t : Ghosts T) where
-  line-plans : (came : List Item) (ps : List t.Plan) (ss : List (Seated T t)) (xs : List Seat) (b : Inbox) (taken : List ℕ) → by_rounds.Line t came ps ss xs b taken → map t.plan (map (λ s. s.staged.stage) ss) ≡ ps
+  line-plans : (came : List StreamItem) (ps : List t.Plan) (ss : List (Seated T t)) (xs : List Progress) (b : Inbox) (taken : List ℕ) → by_rounds.Line t came ps ss xs b taken → map t.plan (map (λ s. s.staged.stage) ss) ≡ ps
   line-plans came [] [] [] b taken h = refl
   line-plans came (p ∷ ps) (s ∷ ss) (x ∷ xs) b taken h = ap₂ (λ q qs. q ∷ qs) h.2.same_plan (line-plans h.1 ps ss xs b taken h.3)
   line-plans came ps ss xs b taken h = absurd h
 
-  ring-plans : (came ahead : List Item) (ps : List t.Plan) (ss : List (RingSeat T t)) (xs : List Seat) (b : Inbox) (taken : List ℕ) → by_rings.Line t came ahead ps ss xs b taken → map t.plan (map (λ s. s.seat.staged.stage) ss) ≡ ps
+  ring-plans : (came ahead : List StreamItem) (ps : List t.Plan) (ss : List (RingSeat T t)) (xs : List Progress) (b : Inbox) (taken : List ℕ) → by_rings.Line t came ahead ps ss xs b taken → map t.plan (map (λ s. s.seat.staged.stage) ss) ≡ ps
   ring-plans came ahead [] [] [] b taken h = refl
   ring-plans came ahead (p ∷ ps) (s ∷ ss) (x ∷ xs) b taken h = ap₂ (λ q qs. q ∷ qs) h.2.same_plan (ring-plans h.1 (waiting s.seat.outbox) ps ss xs b taken h.3)
   ring-plans came ahead ps ss xs b taken h = absurd h
@@ -89,7 +89,7 @@ module _ {T : Type 0} (t : Ghosts T) where
 
   module _ (one : (p : t.Plan) (w : List ℕ) (e : Bool) (a b : Answer) → t.gives p w e a → t.gives p w e b → a ≡ b) where
     -- what is settled is so with whatever came and whatever seats that leaves
-    pub settled-here : (ps : List t.Plan) (h : List Event) (came : List Item) (seats : List Seat) → After t.gives ps h came seats → IsSettled t.gives ps h → Settled t.gives came ps seats
+    pub settled-here : (ps : List t.Plan) (h : List Event) (came : List StreamItem) (seats : List Progress) → After t.gives ps h came seats → IsSettled t.gives ps h → Settled t.gives came ps seats
     settled-here ps h came seats after s = subst (λ z. Settled t.gives came ps z) (same-seats t.gives one ps s.after after) (subst (λ z. Settled t.gives z ps s.seats) (same-came t.gives ps s.after after) s.settled)
 
   -- what the report says of all that is worked off

@@ -1,7 +1,7 @@
 -- What a pipe stands for, fed piece by piece.
 use Rattle.std.specs.Prelude.{◌≡◌, ◌<◌, ◌++◌, [], ℕ, Bool, false, List, None, Some, length, map}
 use Rattle.kex_model.specs.Answers.{Answer}
-use Rattle.kex_model.specs.Schedules.{Event, Item, Seat, After, Settled}
+use Rattle.kex_model.specs.Schedules.{Event, StreamItem, Progress, After, Settled}
 use Rattle.kex_pipe.specs.Events.{bytes_given, end_given}
 use Rattle.kex_pipe.specs.Standing as by_rounds
 use Rattle.kex_pipe.specs.declared.turn.Turn.{Ghosts}
@@ -22,8 +22,8 @@ pub record IsGiven (stands : List Event → Type 0) (more : List ℕ) (given : L
 module _ {P : Type 0} (gives : P → List ℕ → Bool → Answer → Type 0) (plans : List P) where
   -- all that the schedule gave is worked off
   pub record IsSettled (events : List Event) : Type 0 where
-    pub came : List Item
-    pub seats : List Seat
+    pub came : List StreamItem
+    pub seats : List Progress
     pub after : After gives plans events came seats
     pub settled : Settled gives came plans seats
 
