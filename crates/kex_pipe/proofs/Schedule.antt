@@ -13,7 +13,7 @@ use Rattle.kex_pipe.specs.declared.seat.Seat.{Seat as Seated}
 use Rattle.kex_pipe.specs.declared.pipe.Pipe.{Pipe}
 use Rattle.kex_pipe.specs.declared.turn.Turn.{Ghosts}
 use Rattle.kex_pipe.proofs.Items.{end-items, end-append}
-use Rattle.kex_pipe.proofs.Seating.{or-false}
+use Rattle.kex_pipe.proofs.SeatTurns.{or-false}
 use Rattle.kex_pipe.proofs.Lines.{sits-wrote}
 
 pub bytes_given-append : (h k : List Event) → bytes_given (h ++ k) ≡ bytes_given h ++ bytes_given k

@@ -3,7 +3,7 @@
 ghost use Rattle.std.specs.Prelude.{◌≡◌, ◌++◌, ℕ, List, [], Bool, Option, true, false, IsTrue, OnOk, OnErr, is_ok, take, drop};
 ghost use Rattle.kex_model.specs.Schedules.{StreamItem};
 ghost use Rattle.kex_model.specs.Schedules as schedule;
-ghost use Rattle.kex_pipe.specs.Histories.{Fed, bytes_of, ended_of};
+ghost use Rattle.kex_pipe.specs.Histories.{Fed, bytes_fed, ended_of};
 ghost use Rattle.kex_pipe.specs.Waiting.{unread, waiting, Passes};
 
 use crate::inbox::Inbox;
@@ -55,7 +55,7 @@ fn feed<T: Turn>(stage: &mut T, piece: &[u8], into: &mut Inbox) -> Result<(), Me
     ensures usable { T.is_usable stage.new ≡ is_ok result }
     ensures same_plan { T.plan stage.new ≡ T.plan stage.old }
     ensures passes { OnOk result ((h : Option Fed) → T.stands stage.old h → ended_of h ≡ false → into.old.ended ≡ false
-        → Passes (T.gives (T.plan stage.old)) (T.stands stage.new) h (bytes_of h ++ piece.now) false into.old into.new) }
+        → Passes (T.gives (T.plan stage.old)) (T.stands stage.new) h (bytes_fed h ++ piece.now) false into.old into.new) }
     ensures err { OnErr result (unread into.new ≡ []) }
 {
     // Only of a stage that was fed in order it is known that it appends.
@@ -76,7 +76,7 @@ fn end<T: Turn>(stage: &mut T, into: &mut Inbox) -> Result<(), Memory>
     ensures usable { T.is_usable stage.new ≡ is_ok result }
     ensures same_plan { T.plan stage.new ≡ T.plan stage.old }
     ensures passes { OnOk result ((h : Option Fed) → T.stands stage.old h → ended_of h ≡ false → into.old.ended ≡ false
-        → Passes (T.gives (T.plan stage.old)) (T.stands stage.new) h (bytes_of h) true into.old into.new) }
+        → Passes (T.gives (T.plan stage.old)) (T.stands stage.new) h (bytes_fed h) true into.old into.new) }
     ensures err { OnErr result (unread into.new ≡ []) }
 {
     let fate = stage.end(&mut into.bytes);

@@ -9,7 +9,7 @@ use Rattle.kex_pipe.specs.declared.inbox.Inbox.{Inbox}
 use Rattle.kex_pipe.specs.declared.turn.Turn.{Ghosts}
 use Rattle.kex_pipe.proofs.Items.{end-append, end-items, whole-front}
 use Rattle.kex_pipe.proofs.Lines.{sits-wrote, sits-whole}
-use Rattle.kex_pipe.proofs.Seating.{or-false}
+use Rattle.kex_pipe.proofs.SeatTurns.{or-false}
 use Rattle.kex_rings.specs.declared.item.Item.{Item as Passed}
 use Rattle.kex_rings.specs.declared.ring_seat.RingSeat.{RingSeat}
 use Rattle.kex_rings.specs.Items.{item_as, items_as}

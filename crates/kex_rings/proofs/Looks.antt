@@ -14,7 +14,7 @@ use Rattle.kex_pipe.specs.declared.inbox.Inbox.{Inbox}
 use Rattle.kex_pipe.specs.declared.staged.Staged.{Staged}
 use Rattle.kex_pipe.specs.declared.turn.Turn.{Ghosts}
 use Rattle.kex_pipe.proofs.Items.{drop-items, rest-empty}
-use Rattle.kex_pipe.proofs.Seating.{taken-more}
+use Rattle.kex_pipe.proofs.SeatTurns.{taken-more}
 use Rattle.kex_rings.specs.declared.item.Item.{Item}
 use Rattle.kex_rings.specs.declared.ring_seat.RingSeat.{RingSeat}
 use Rattle.kex_rings.specs.Items.{item_as, items_as}

@@ -11,8 +11,8 @@ use Rattle.kex_pipe.specs.declared.seat.Seat.{Seat as Seated}
 use Rattle.kex_pipe.specs.declared.turn.Turn.{Ghosts}
 use Rattle.kex_pipe.proofs.Items.{no-items}
 use Rattle.kex_pipe.proofs.Lines.{sits-wrote, sits-whole}
-use Rattle.kex_pipe.proofs.Rounding.{take-front, drop-all}
-use Rattle.kex_pipe.proofs.Seating.{taken-more}
+use Rattle.kex_pipe.proofs.RoundTurns.{take-front, drop-all}
+use Rattle.kex_pipe.proofs.SeatTurns.{taken-more}
 use Rattle.kex_rings.specs.declared.ring_seat.RingSeat.{RingSeat}
 use Rattle.kex_rings.specs.Items.{items_as}
 use Rattle.kex_rings.specs.Ends.{Giver, sent_to, seen_in, AreBeside}

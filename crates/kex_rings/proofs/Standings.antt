@@ -16,7 +16,7 @@ use Rattle.kex_pipe.specs.declared.inbox.Inbox.{Inbox}
 use Rattle.kex_pipe.specs.declared.seat.Seat.{Seat as Seated}
 use Rattle.kex_pipe.specs.declared.turn.Turn.{Ghosts}
 use Rattle.kex_pipe.proofs.Items.{bytes-items, end-items, bytes-append, no-items, rest-empty}
-use Rattle.kex_pipe.proofs.Seating.{left}
+use Rattle.kex_pipe.proofs.SeatTurns.{left}
 use Rattle.kex_pipe.proofs.Lines.{sits-wrote}
 use Rattle.kex_pipe.proofs.Schedule.{came-given, out-items}
 use Rattle.kex_pipe.proofs.Begins.{bytes-front, sits-begins, one-wrote}

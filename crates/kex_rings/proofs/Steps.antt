@@ -4,7 +4,7 @@ use Rattle.std.proofs.Math.Seq.{drop-append_seam}
 use Rattle.kex_model.specs.Answers.{Answer}
 use Rattle.kex_model.specs.Schedules.{StreamItem, Progress, Event, turn, more_taken, Wrote, Turned, After, turned}
 use Rattle.kex_pipe.specs.Events.{bytes_given, end_given}
-use Rattle.kex_pipe.proofs.Rounding.{take-front}
+use Rattle.kex_pipe.proofs.RoundTurns.{take-front}
 use Rattle.kex_pipe.proofs.Schedule.{bytes_given-append, end_given-append}
 use Rattle.kex_rings.specs.Looking.{fed_more}
 use Rattle.kex_rings.specs.Lines.{turns_from}

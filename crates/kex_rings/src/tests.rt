@@ -2,7 +2,7 @@
 
 ghost use Rattle.std.specs.Prelude.{◌≡◌, ◌≤◌, ◌<◌, true, false, Bool, Option, IsTrue};
 ghost use Rattle.std.proofs.Common.{sym, ◌∙◌};
-ghost use Rattle.kex_pipe.specs.Copying.{copied, Copies, copied-grows, copied-stays, copied-ends};
+ghost use Rattle.kex_pipe.specs.Copying.{copy_answer, Copies, copied-grows, copied-stays, copied-ends};
 
 use crate::pipe::RingPipe;
 use crate::round::ring_round;
@@ -28,7 +28,7 @@ impl Turn for Copier {
 
     ghost plan = { λ s. s.refuses };
 
-    ghost gives = { λ p w e a. a ≡ copied p w e };
+    ghost gives = { λ p w e a. a ≡ copy_answer p w e };
 
     ghost stands = { λ s h. (s.usable ≡ true) × Copies s.refuses s.halted h };
 

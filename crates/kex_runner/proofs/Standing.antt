@@ -11,7 +11,7 @@ use Rattle.kex_runner.specs.declared.answers.Fed.{Fed}
 use Rattle.kex_runner.specs.declared.answers.Fed.TheVariants.{On, Dead}
 use Rattle.kex_runner.specs.declared.answers.Ended.TheVariants.{Parsed, Cut}
 use Rattle.kex_runner.specs.Following.{Follows, pass_at}
-use Rattle.kex_runner.specs.Running.{Running, pass_of, StopsBehind, HasPassed, IsDead, StandsFor, Feeds, HasNoEnd, Ends, answer_of}
+use Rattle.kex_runner.specs.Running.{Running, pass_of, StopsBehind, HasPassed, IsDead, IsRunOf, Feeds, HasNoEnd, Ends, answer_of}
 
 pub passes_on : (t : Transducer) (w v : List ℕ) (p : Pass) → passes t w ≡ Some p → passes t (w ++ v) ≡ passes_if t (Some p) v
 passes_on t w v p e = passes_more t (Some (begun t.initial)) w v ∙ ap (λ z. passes_if t z v) e
@@ -24,13 +24,13 @@ stopped_none {t} {w} {v} h =
     ∙ ap (λ z. passes_if t z h.rest) h.stops
     ∙ passes_none t h.rest
 
-pub dead_stands : {r : Running} {w : List ℕ} {c : List Symbol} → r.dead ≡ true → StandsFor r w c → IsDead r w c
+pub dead_stands : {r : Running} {w : List ℕ} {c : List Symbol} → r.dead ≡ true → IsRunOf r w c → IsDead r w c
 dead_stands d s = ⊎_elim (λ l. let bad : ⊥ = false_true (sym l.0 ∙ d) in absurd bad) (λ x. x) s
   where
     false_true : false ≡ true → ⊥
     false_true e = cc
 
-pub live_stands : {r : Running} {w : List ℕ} {c : List Symbol} → r.dead ≡ false → StandsFor r w c → HasPassed r w c
+pub live_stands : {r : Running} {w : List ℕ} {c : List Symbol} → r.dead ≡ false → IsRunOf r w c → HasPassed r w c
 live_stands d s = ⊎_elim (λ l. l.1) (λ x. let bad : ⊥ = false_true (sym d ∙ x.0) in absurd bad) s
   where
     false_true : false ≡ true → ⊥
@@ -162,7 +162,7 @@ feeds_after r piece before after d e = record {
 }
 
 -- a runner jumps to where the table is after more bytes
-pub jumps : (r : Running) (state bytes : ℕ) (w v : List ℕ) (c d : List Symbol) → r.pending ≡ [] → StandsFor r w c → length v ≡ bytes → passes r.table (w ++ v) ≡ Some (pass_at state (c ++ d) []) → StandsFor (record r { state = state; registers = []; read = r.read + bytes }) (w ++ v) (c ++ d)
+pub jumps : (r : Running) (state bytes : ℕ) (w v : List ℕ) (c d : List Symbol) → r.pending ≡ [] → IsRunOf r w c → length v ≡ bytes → passes r.table (w ++ v) ≡ Some (pass_at state (c ++ d) []) → IsRunOf (record r { state = state; registers = []; read = r.read + bytes }) (w ++ v) (c ++ d)
 jumps r state bytes w v c d none s count e =
     ⊎_elim
     (λ l. inl (

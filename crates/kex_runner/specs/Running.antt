@@ -52,19 +52,19 @@ abbrev pub IsDead : Running → List ℕ → List Symbol → Type 0
 IsDead r w c = (r.dead ≡ true) × ((v : List ℕ) × StopsBehind r.table w v × HasPassed r v c)
 
 -- the runner was fed w, and has passed on c
-abbrev pub StandsFor : Running → List ℕ → List Symbol → Type 0
-StandsFor r w c = IsLive r w c ⊎ IsDead r w c
+abbrev pub IsRunOf : Running → List ℕ → List Symbol → Type 0
+IsRunOf r w c = IsLive r w c ⊎ IsDead r w c
 
 -- and what the last piece was answered by
 abbrev pub IsFed : Fed → Running → List ℕ → List Symbol → Type 0
-IsFed On r w c = (passes r.table w ≡ Some (record { state = r.state; code = c; registers = r.registers })) × StandsFor r w c
-IsFed Dead r w c = (passes r.table w ≡ None) × StandsFor r w c
+IsFed On r w c = (passes r.table w ≡ Some (record { state = r.state; code = c; registers = r.registers })) × IsRunOf r w c
+IsFed Dead r w c = (passes r.table w ≡ None) × IsRunOf r w c
 
 -- feeding a piece has put its code behind what was there
 pub record Feeds (answer : Fed) (old new : Running) (piece : List ℕ) (before after : List Symbol) : Type 0 where
   pub more : List Symbol
   pub code : after ≡ before ++ more
-  pub fed : (w : List ℕ) (c : List Symbol) → StandsFor old w c → IsFed answer new (w ++ piece) (c ++ more)
+  pub fed : (w : List ℕ) (c : List Symbol) → IsRunOf old w c → IsFed answer new (w ++ piece) (c ++ more)
   pub told : new.pending ≡ []
 
 -- the table goes on along w to a state in which nothing ends, or doesn't go on
@@ -89,7 +89,7 @@ IsOver Cut t w c = HasNoEnd t (passes t w) × IsPassedOn t w c
 pub record Ends (answer : Ended) (old : Running) (before after : List Symbol) : Type 0 where
   pub more : List Symbol
   pub code : after ≡ before ++ more
-  pub over : (w : List ℕ) (c : List Symbol) → StandsFor old w c → IsOver answer old.table w (c ++ more)
+  pub over : (w : List ℕ) (c : List Symbol) → IsRunOf old w c → IsOver answer old.table w (c ++ more)
 
 -- how many items the updates have of the bytes of a piece that are taken
 abbrev pub items_taken : Running → List ℕ → ℕ

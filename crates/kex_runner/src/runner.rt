@@ -3,7 +3,7 @@
 ghost use Rattle.std.specs.Prelude.{◌≡◌, ℕ, ◌+◌, ◌^◌, ◌<◌, ◌≤◌, ◌++◌, [], List, IfOk, OnOk, IsTrue, IsOk, ◌↔◌, true, false, Some, length, take};
 ghost use Rattle.kex_code.specs.declared.symbol.Symbol.{Symbol};
 ghost use Rattle.kex_sst.specs.Passes.{begun, passes};
-ghost use Rattle.kex_runner.specs.Running.{Ends, Feeds, StandsFor, items_taken};
+ghost use Rattle.kex_runner.specs.Running.{Ends, Feeds, IsRunOf, items_taken};
 ghost use Rattle.kex_script.specs.Pieces.{spelled};
 ghost use Rattle.kex_script.specs.Scripts.{IsScriptOf};
 ghost use Rattle.kex_runner.specs.Noting.{held};
@@ -169,7 +169,7 @@ impl<'t> Runner<'t> {
     /// A runner that was fed nothing.
     pub fn new(alloc: Global, table: &'t Table) -> Result<Runner<'t>, Memory>
         ensures table { IfOk result (λ r. r.table ≡ table.now) }
-        ensures stands { IfOk result (λ r. StandsFor r [] []) }
+        ensures stands { IfOk result (λ r. IsRunOf r [] []) }
         ensures usable { IfOk result (λ r. (r.usable ≡ true) × (r.ended ≡ false) × (r.read ≡ 0)) }
     {
         let script = Script::new(alloc, table)?;
@@ -332,8 +332,8 @@ impl<'t> Runner<'t> {
         requires told { self.old.pending ≡ [] }
         requires room { self.old.read + bytes < 2 ^ 64 }
         ensures jumped { self.new ≡ record self.old { state = state; registers = []; read = self.old.read + bytes } }
-        ensures stands { (w v : List ℕ) (c d : List Symbol) → StandsFor self.old w c → length v ≡ bytes
-            → passes self.old.table (w ++ v) ≡ Some (pass_at state (c ++ d) []) → StandsFor self.new (w ++ v) (c ++ d) }
+        ensures stands { (w v : List ℕ) (c d : List Symbol) → IsRunOf self.old w c → length v ≡ bytes
+            → passes self.old.table (w ++ v) ≡ Some (pass_at state (c ++ d) []) → IsRunOf self.new (w ++ v) (c ++ d) }
     {
         self.registers.clear();
         self.state = state;

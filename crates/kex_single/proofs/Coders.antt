@@ -14,7 +14,7 @@ use Rattle.kex_machine.specs.Answers.{Viable, HasParse, IsSaid, IsGreedy}
 use Rattle.kex_frontier.specs.Frontiers.{Front, IsFed, IsOver}
 use Rattle.kex_frontier.specs.declared.frontier.Ended.{Ended}
 use Rattle.kex_frontier.specs.declared.frontier.Ended.TheVariants.{Parsed, Cut}
-use Rattle.kex_pipe.specs.Histories.{Fed, Feeds, bytes_of, text_of}
+use Rattle.kex_pipe.specs.Histories.{Fed, Feeds, bytes_fed, text_of}
 use Rattle.kex_pipe.specs.declared.turn.Stop.{Stop}
 use Rattle.kex_single.specs.Singles.{CodeAnswers, MeansCode, SaysCode, Single}
 use Rattle.kex_pipe.specs.declared.turn.Why.TheVariants.{Byte}
@@ -62,7 +62,7 @@ begins_good f g e (inr (dead, h, k)) = absurd (dead (subst (λ z. Viable f.machi
     empty [] b = refl
     empty (x ∷ of) b = let bad : [] ≡ x ∷ (of ++ b.0) = b.1 in cc
 
-module _ (p : Single) (f f1 f2 : Front) (h : Option Fed) (read : ℕ) (old new : List ℕ) (o : CodeOpen p f read (bytes_of h) (text_of h)) (m : f1.machine ≡ p.machine) (appended : new ≡ old ++ code_text f1.untaken) where
+module _ (p : Single) (f f1 f2 : Front) (h : Option Fed) (read : ℕ) (old new : List ℕ) (o : CodeOpen p f read (bytes_fed h) (text_of h)) (m : f1.machine ≡ p.machine) (appended : new ≡ old ++ code_text f1.untaken) where
   abbrev code : List Symbol
   code = o.code ++ f1.untaken
 
@@ -76,44 +76,44 @@ module _ (p : Single) (f f1 f2 : Front) (h : Option Fed) (read : ℕ) (old new :
     abbrev taken : List ℕ
     taken = take front piece
 
-    says : (bad : Option ℕ) → GoesOn p.machine (bytes_of h) taken bad → IsFed f1 (given_of (bytes_of h) taken bad) o.code → SaysCode p.machine (good_of (bytes_of h) taken bad) text
+    says : (bad : Option ℕ) → GoesOn p.machine (bytes_fed h) taken bad → IsFed f1 (given_of (bytes_fed h) taken bad) o.code → SaysCode p.machine (good_of (bytes_fed h) taken bad) text
     says None good fed =
-        let w = bytes_of h ++ taken in
+        let w = bytes_fed h ++ taken in
         let s = subst (λ z. IsSaid z w code) m (said w o.code fed).1 in
         (code, subst (λ z. Agreed (node_moves p.machine.nodes) p.machine.start z code) (whole_front p.machine w s.of s.longest good) s.agreed, text_is)
     says (Some k) (lt, good, none) fed =
-        let v = bytes_of h ++ take k taken in
-        let next = bytes_of h ++ take (k + 1) taken in
+        let v = bytes_fed h ++ take k taken in
+        let next = bytes_fed h ++ take (k + 1) taken in
         let s = subst (λ z. IsSaid z next code) m (said next o.code fed).1 in
-        let one : length next ≡ length v + 1 = omega (arith, lt, length-append (bytes_of h) (take k taken), length-append (bytes_of h) (take (k + 1) taken), length-take k taken, length-take (k + 1) taken) in
-        (code, said_before p.machine v next code (more_taken k (bytes_of h) taken) one good none s, text_is)
+        let one : length next ≡ length v + 1 = omega (arith, lt, length-append (bytes_fed h) (take k taken), length-append (bytes_fed h) (take (k + 1) taken), length-take k taken, length-take (k + 1) taken) in
+        (code, said_before p.machine v next code (more_taken k (bytes_fed h) taken) one good none s, text_is)
 
-    opens : (bad : Option ℕ) (stop : Option Stop) → StopsAt bad read front (length piece) stop → GoesOn p.machine (bytes_of h) taken bad → IsFed f1 (given_of (bytes_of h) taken bad) o.code → stop ≡ None → CodeOpen p f2 (read + front) (bytes_of h ++ piece) text
+    opens : (bad : Option ℕ) (stop : Option Stop) → StopsAt bad read front (length piece) stop → GoesOn p.machine (bytes_fed h) taken bad → IsFed f1 (given_of (bytes_fed h) taken bad) o.code → stop ≡ None → CodeOpen p f2 (read + front) (bytes_fed h ++ piece) text
     opens (Some k) stop is goes fed none = let bad : Some (record { at = read + k; why = Byte }) ≡ None = sym is ∙ none in cc
     opens None (Some s) is goes fed none = let bad : Some s ≡ None = none in cc
     opens None None is good fed none =
         let all : taken ≡ piece = take_all front piece (omega (arith, is)) in
         record {
           code = code;
-          fed = subst (λ z. IsFed f2 (bytes_of h ++ z) code) all (said (bytes_of h ++ taken) o.code fed).0;
+          fed = subst (λ z. IsFed f2 (bytes_fed h ++ z) code) all (said (bytes_fed h ++ taken) o.code fed).0;
           written = text_is;
-          count = omega (arith, o.count, is, length-append (bytes_of h) piece);
+          count = omega (arith, o.count, is, length-append (bytes_fed h) piece);
           within = omega (arith, o.within, is_front);
-          good = subst (λ z. Viable p.machine (bytes_of h ++ z)) all good;
+          good = subst (λ z. Viable p.machine (bytes_fed h ++ z)) all good;
         }
 
-    pub code_feeds : (bad : Option ℕ) (stop : Option Stop) → StopsAt bad read front (length piece) stop → GoesOn p.machine (bytes_of h) taken bad → IsFed f1 (given_of (bytes_of h) taken bad) o.code
-        → Feeds (λ w e a. CodeAnswers p.machine p.limit w e a) (λ k. StandsAs (λ w e a. CodeAnswers p.machine p.limit w e a) (λ w t. CodeOpen p f2 (read + front) w t) stop false k × IsTrue true) h (bytes_of h ++ piece) false old new (fate_of stop)
+    pub code_feeds : (bad : Option ℕ) (stop : Option Stop) → StopsAt bad read front (length piece) stop → GoesOn p.machine (bytes_fed h) taken bad → IsFed f1 (given_of (bytes_fed h) taken bad) o.code
+        → Feeds (λ w e a. CodeAnswers p.machine p.limit w e a) (λ k. StandsAs (λ w e a. CodeAnswers p.machine p.limit w e a) (λ w t. CodeOpen p f2 (read + front) w t) stop false k × IsTrue true) h (bytes_fed h ++ piece) false old new (fate_of stop)
     code_feeds bad stop is goes fed =
-        feeds p.machine (SaysCode p.machine) (MeansCode p.machine) (orderly p.machine) p.limit (bytes_of h) piece text read front o.count o.within is_front
+        feeds p.machine (SaysCode p.machine) (MeansCode p.machine) (orderly p.machine) p.limit (bytes_fed h) piece text read front o.count o.within is_front
         h refl (λ w t. CodeOpen p f2 (read + front) w t) (code_text f1.untaken) old new refl appended bad stop is goes (says bad goes fed) (opens bad stop is goes fed)
 
-  pub code_ends : (answer : Ended) → IsOver answer f1 (bytes_of h) o.code
-      → Feeds (λ w e a. CodeAnswers p.machine p.limit w e a) (λ k. StandsAs (λ w e a. CodeAnswers p.machine p.limit w e a) (λ w t. CodeOpen p f2 read w t) (end_stop (is_parsed answer) read) true k × IsTrue true) h (bytes_of h) true old new (fate_of (end_stop (is_parsed answer) read))
+  pub code_ends : (answer : Ended) → IsOver answer f1 (bytes_fed h) o.code
+      → Feeds (λ w e a. CodeAnswers p.machine p.limit w e a) (λ k. StandsAs (λ w e a. CodeAnswers p.machine p.limit w e a) (λ w t. CodeOpen p f2 read w t) (end_stop (is_parsed answer) read) true k × IsTrue true) h (bytes_fed h) true old new (fate_of (end_stop (is_parsed answer) read))
   code_ends Parsed over =
       ends_parsed p.machine (SaysCode p.machine) (MeansCode p.machine) (orderly p.machine) p.limit h read text (code_text f1.untaken) old new (λ w t. CodeOpen p f2 read w t) o.count o.within refl appended
-      (code, subst (λ z. IsGreedy z (bytes_of h) code) m over, text_is)
+      (code, subst (λ z. IsGreedy z (bytes_fed h) code) m over, text_is)
   code_ends Cut over =
-      let s = subst (λ z. IsSaid z (bytes_of h) code) m over.1 in
+      let s = subst (λ z. IsSaid z (bytes_fed h) code) m over.1 in
       ends_cut p.machine (SaysCode p.machine) (MeansCode p.machine) (orderly p.machine) p.limit h read text (code_text f1.untaken) old new (λ w t. CodeOpen p f2 read w t) o.count o.within refl appended
-      o.good (subst (λ z. HasParse z (bytes_of h) → ⊥) m over.0) (code, subst (λ z. Agreed (node_moves p.machine.nodes) p.machine.start z code) (whole_front p.machine (bytes_of h) s.of s.longest o.good) s.agreed, text_is)
+      o.good (subst (λ z. HasParse z (bytes_fed h) → ⊥) m over.0) (code, subst (λ z. Agreed (node_moves p.machine.nodes) p.machine.start z code) (whole_front p.machine (bytes_fed h) s.of s.longest o.good) s.agreed, text_is)

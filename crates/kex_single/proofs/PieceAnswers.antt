@@ -7,13 +7,13 @@ use Rattle.kex_model.specs.Answers.{Answer, Answers, stopped, at_byte, at_end, a
 use Rattle.kex_model.proofs.Standing as model
 use Rattle.kex_machine.specs.Nodes.{Graph}
 use Rattle.kex_machine.specs.Answers.{Viable, HasParse}
-use Rattle.kex_pipe.specs.Histories.{Fed, Feeds, IsFateOf, bytes_of, ended_of, text_of, stop_as}
+use Rattle.kex_pipe.specs.Histories.{Fed, Feeds, IsFateOf, bytes_fed, ended_of, text_of, stop_as}
 use Rattle.kex_pipe.specs.declared.turn.Stop.{Stop}
 use Rattle.kex_single.specs.Standing.{StandsAs, GoesOn, StopsAt, good_of, fate_of, end_stop}
 use Rattle.kex_single.specs.Laws as laws
 
 -- open where it neither stopped nor ended
-pub open_of : (Gives : List ℕ → Bool → Answer → Type 0) (Open : List ℕ → List ℕ → Type 0) (stop : Option Stop) (over : Bool) (h : Option Fed) → StandsAs Gives Open stop over h → ended_of h ≡ false → stop ≡ None → Open (bytes_of h) (text_of h)
+pub open_of : (Gives : List ℕ → Bool → Answer → Type 0) (Open : List ℕ → List ℕ → Type 0) (stop : Option Stop) (over : Bool) (h : Option Fed) → StandsAs Gives Open stop over h → ended_of h ≡ false → stop ≡ None → Open (bytes_fed h) (text_of h)
 open_of Gives Open stop over None s e n = s.0
 open_of Gives Open stop over (Some h) s e n = s.3 e n
 
@@ -68,7 +68,7 @@ module _ (g : Graph) (Says : List ℕ → List ℕ → Type 0) (Means : List ℕ
         subst (λ z. Gives (w ++ piece) false (answer_of text (Some z))) (sym is) at_limit_n
 
     -- a piece more
-    module _ (h : Option Fed) (bytes : w ≡ bytes_of h) (Open : List ℕ → List ℕ → Type 0) (added old new : List ℕ) (whole_text : text ≡ text_of h ++ added) (appended : new ≡ old ++ added) where
+    module _ (h : Option Fed) (bytes : w ≡ bytes_fed h) (Open : List ℕ → List ℕ → Type 0) (added old new : List ℕ) (whole_text : text ≡ text_of h ++ added) (appended : new ≡ old ++ added) where
       pub feeds : (bad : Option ℕ) (stop : Option Stop) → StopsAt bad read front (length piece) stop → GoesOn g w taken bad → Says (good_of w taken bad) text → (stop ≡ None → Open (w ++ piece) text) → Feeds Gives (λ k. StandsAs Gives Open stop false k × IsTrue true) h (w ++ piece) false old new (fate_of stop)
       feeds bad stop is goes says opens =
           let gives = answers bad stop is goes says in
@@ -87,11 +87,11 @@ module _ (g : Graph) (Says : List ℕ → List ℕ → Type 0) (Means : List ℕ
           fated (Some s) = refl
 
   -- the end
-  module _ (h : Option Fed) (read : ℕ) (text added old new : List ℕ) (Open : List ℕ → List ℕ → Type 0) (count : read ≡ length (bytes_of h)) (within : read ≤ limit) (whole_text : text ≡ text_of h ++ added) (appended : new ≡ old ++ added) where
-    pub ends_parsed : Means (bytes_of h) text → Feeds Gives (λ k. StandsAs Gives Open None true k × IsTrue true) h (bytes_of h) true old new (fate_of None)
+  module _ (h : Option Fed) (read : ℕ) (text added old new : List ℕ) (Open : List ℕ → List ℕ → Type 0) (count : read ≡ length (bytes_fed h)) (within : read ≤ limit) (whole_text : text ≡ text_of h ++ added) (appended : new ≡ old ++ added) where
+    pub ends_parsed : Means (bytes_fed h) text → Feeds Gives (λ k. StandsAs Gives Open None true k × IsTrue true) h (bytes_fed h) true old new (fate_of None)
     ends_parsed means =
         let answer : Answer = record { text = text; ended = true; stop = None } in
-        let gives : Gives (bytes_of h) true answer = whole (omega (arith, count, within)) means in
+        let gives : Gives (bytes_fed h) true answer = whole (omega (arith, count, within)) means in
         record {
           answer = answer;
           gives = gives;
@@ -102,10 +102,10 @@ module _ (g : Graph) (Says : List ℕ → List ℕ → Type 0) (Means : List ℕ
           is_fate = refl;
         }
 
-    pub ends_cut : Viable g (bytes_of h) → (HasParse g (bytes_of h) → ⊥) → Says (bytes_of h) text → Feeds Gives (λ k. StandsAs Gives Open (end_stop false read) true k × IsTrue true) h (bytes_of h) true old new (fate_of (end_stop false read))
+    pub ends_cut : Viable g (bytes_fed h) → (HasParse g (bytes_fed h) → ⊥) → Says (bytes_fed h) text → Feeds Gives (λ k. StandsAs Gives Open (end_stop false read) true k × IsTrue true) h (bytes_fed h) true old new (fate_of (end_stop false read))
     ends_cut good none says =
-        let answer : Answer = stopped text (length (bytes_of h)) at_end in
-        let gives : Gives (bytes_of h) true answer = cut_off (omega (arith, count, within)) good none says in
+        let answer : Answer = stopped text (length (bytes_fed h)) at_end in
+        let gives : Gives (bytes_fed h) true answer = cut_off (omega (arith, count, within)) good none says in
         record {
           answer = answer;
           gives = gives;
@@ -117,7 +117,7 @@ module _ (g : Graph) (Says : List ℕ → List ℕ → Type 0) (Means : List ℕ
         }
 
   -- a stage that has stopped drops what comes
-  pub stopped_on : (Open : List ℕ → List ℕ → Type 0) (s : Stop) (over : Bool) (h : Option Fed) (w : List ℕ) (e : Bool) (out : List ℕ) → StandsAs Gives Open (Some s) over h → ended_of h ≡ false → Begins w (bytes_of h) → Feeds Gives (λ k. StandsAs Gives Open (Some s) e k × IsTrue true) h w e out out (fate_of (Some s))
+  pub stopped_on : (Open : List ℕ → List ℕ → Type 0) (s : Stop) (over : Bool) (h : Option Fed) (w : List ℕ) (e : Bool) (out : List ℕ) → StandsAs Gives Open (Some s) over h → ended_of h ≡ false → Begins w (bytes_fed h) → Feeds Gives (λ k. StandsAs Gives Open (Some s) e k × IsTrue true) h w e out out (fate_of (Some s))
   stopped_on Open s over None w e out h n b = let bad : Some s ≡ None = h.1 in cc
   stopped_on Open s over (Some k) w e out h n b =
       let open_ = subst (λ z. Gives k.bytes z k.answer) n h.0 in

@@ -13,7 +13,7 @@ use Rattle.kex_model.proofs.Standing.{shorter_front}
 use Rattle.kex_machine.specs.Nodes.{Graph}
 use Rattle.kex_machine.specs.Answers.{IsRun, left_by}
 use Rattle.kex_action.specs.Actors.{BeginsRun, HasPerformed, IsSettled, IsWhole, Position, TookAll}
-use Rattle.kex_pipe.specs.Histories.{Fed, Feeds, IsFateOf, bytes_of, ended_of, text_of as said_of, stop_as}
+use Rattle.kex_pipe.specs.Histories.{Fed, Feeds, IsFateOf, bytes_fed, ended_of, text_of as said_of, stop_as}
 use Rattle.kex_pipe.specs.declared.turn.Stop.{Stop}
 use Rattle.kex_pipe.specs.declared.turn.Why.TheVariants.{Byte as AtByte}
 use Rattle.kex_single.specs.Plays.{ActAnswers, HasNext, IsBadByte, LongestCode, PlaysOn, StopsIn, WritesRun, bad_byte, too_long, cut_off, whole, still_open}
@@ -78,7 +78,7 @@ longest_by g u c code p begins none = record {
             let split : d ≡ (c ++ x ∷ []) ++ m = e ∙ sym (append_assoc c (x ∷ []) m) in
             none (x, code_front (c ++ x ∷ []) m (subst (λ z. IsCode z) split k), further (text_of d) u (text_of (c ++ x ∷ [])) q (text_of m, ap (λ z. text_of z) split ∙ text_of-append (c ++ x ∷ []) m))
 
-module _ (p : Single) (r r1 : Reading) (a a1 : Position) (size read : ℕ) (h : Option Fed) (o : PlayOpen p r a size read (bytes_of h) (said_of h)) (m1 : a1.machine ≡ p.machine) (m : a.machine ≡ p.machine) (old new : List ℕ) where
+module _ (p : Single) (r r1 : Reading) (a a1 : Position) (size read : ℕ) (h : Option Fed) (o : PlayOpen p r a size read (bytes_fed h) (said_of h)) (m1 : a1.machine ≡ p.machine) (m : a.machine ≡ p.machine) (old new : List ℕ) where
   abbrev B : List Symbol → Type 0
   B = BeginsRun p.machine
 
@@ -96,9 +96,9 @@ module _ (p : Single) (r r1 : Reading) (a a1 : Position) (size read : ℕ) (h : 
       let left = done.left settled ks (subst (λ g. IsRun g ks) (sym m1) run) b in
       (ks, run, b, subst (λ g. text ≡ (left_by g ks c).out) m1 (sym (ap (λ z. z.out) left)))
 
-  module _ (piece : List ℕ) (taken_front : ℕ) (is_front : taken_front ≡ min (p.limit - read) (length piece)) (symbols : List Symbol) (spelt : HasRead r1 (bytes_of h ++ take taken_front piece) (o.code ++ symbols)) where
+  module _ (piece : List ℕ) (taken_front : ℕ) (is_front : taken_front ≡ min (p.limit - read) (length piece)) (symbols : List Symbol) (spelt : HasRead r1 (bytes_fed h ++ take taken_front piece) (o.code ++ symbols)) where
     abbrev u : List ℕ
-    u = bytes_of h ++ take taken_front piece
+    u = bytes_fed h ++ take taken_front piece
 
     all_code : IsCode (o.code ++ symbols)
     all_code = spelt.spells.code
@@ -261,35 +261,35 @@ module _ (p : Single) (r r1 : Reading) (a a1 : Position) (size read : ℕ) (h : 
     fits_of most =
         let short : length (text_of (o.code ++ symbols)) ≤ length u = omega (arith, ap (λ (z : List ℕ). length z) all_front.1, length-append (text_of (o.code ++ symbols)) all_front.0) in
         let long : length (text_of (o.code ++ symbols)) ≡ length (text_of o.code) + length (text_of symbols) = ap (λ (z : List ℕ). length z) (text_of-append o.code symbols) ∙ length-append (text_of o.code) (text_of symbols) in
-        omega (arith, most, short, long, o.long, o.count, o.within, is_front, length-append (bytes_of h) (take taken_front piece), length-take taken_front piece)
+        omega (arith, most, short, long, o.long, o.count, o.within, is_front, length-append (bytes_fed h) (take taken_front piece), length-take taken_front piece)
 
-    within_limit : take p.limit (bytes_of h ++ piece) ≡ u
-    within_limit = taken_within p.limit read taken_front (bytes_of h) piece o.count o.within is_front
+    within_limit : take p.limit (bytes_fed h ++ piece) ≡ u
+    within_limit = taken_within p.limit read taken_front (bytes_fed h) piece o.count o.within is_front
 
     fated : (stop : Option Stop) → IsFateOf (stop_as stop) (fate_of stop)
     fated None = refl
     fated (Some s) = refl
 
-    answers : (text : List ℕ) (c : List Symbol) (at : Option ℕ) (stop : Option Stop) → Writes c text → PlaysOn B W Writes u c at → StopsAtByte at read taken_front (length piece) stop → Gives (bytes_of h ++ piece) false (record { text = text; ended = false; stop = stop_as stop })
+    answers : (text : List ℕ) (c : List Symbol) (at : Option ℕ) (stop : Option Stop) → Writes c text → PlaysOn B W Writes u c at → StopsAtByte at read taken_front (length piece) stop → Gives (bytes_fed h ++ piece) false (record { text = text; ended = false; stop = stop_as stop })
     answers text c (Some k) stop writes on is =
-        subst (λ z. Gives (bytes_of h ++ piece) false (record { text = text; ended = false; stop = stop_as z })) (sym is)
+        subst (λ z. Gives (bytes_fed h ++ piece) false (record { text = text; ended = false; stop = stop_as z })) (sym is)
         (bad_byte c k (subst (λ z. PlaysOn B W Writes z c (Some k)) (sym within_limit) on) writes)
     answers text c None None writes on is =
-        let all : u ≡ bytes_of h ++ piece = ap (λ z. bytes_of h ++ z) (take_all taken_front piece (omega (arith, is))) in
-        still_open c (omega (arith, o.count, o.within, is, is_front, length-append (bytes_of h) piece)) (subst (λ z. PlaysOn B W Writes z c None) all on) writes
+        let all : u ≡ bytes_fed h ++ piece = ap (λ z. bytes_fed h ++ z) (take_all taken_front piece (omega (arith, is))) in
+        still_open c (omega (arith, o.count, o.within, is, is_front, length-append (bytes_fed h) piece)) (subst (λ z. PlaysOn B W Writes z c None) all on) writes
     answers text c None (Some s) writes on (lt, is) =
         let at : read + taken_front ≡ p.limit = omega (arith, lt, o.within, is_front) in
-        let past : p.limit < length (bytes_of h ++ piece) = omega (arith, o.count, lt, at, length-append (bytes_of h) piece) in
-        let there : Gives (bytes_of h ++ piece) false (stopped text (read + taken_front) at_limit) =
-        subst (λ n. Gives (bytes_of h ++ piece) false (stopped text n at_limit)) (sym at) (too_long c past (subst (λ z. PlaysOn B W Writes z c None) (sym within_limit) on) writes) in
-        subst (λ z. Gives (bytes_of h ++ piece) false (record { text = text; ended = false; stop = stop_as (Some z) })) (sym is) there
+        let past : p.limit < length (bytes_fed h ++ piece) = omega (arith, o.count, lt, at, length-append (bytes_fed h) piece) in
+        let there : Gives (bytes_fed h ++ piece) false (stopped text (read + taken_front) at_limit) =
+        subst (λ n. Gives (bytes_fed h ++ piece) false (stopped text n at_limit)) (sym at) (too_long c past (subst (λ z. PlaysOn B W Writes z c None) (sym within_limit) on) writes) in
+        subst (λ z. Gives (bytes_fed h ++ piece) false (record { text = text; ended = false; stop = stop_as (Some z) })) (sym is) there
 
-    opened : (size1 : ℕ) (refused bad at : Option ℕ) (stop : Option Stop) (t : Took refused bad at) → p.limit ≤ 2 ^ 48 → size1 ≡ min (size + length (text_of symbols)) (2 ^ 64 - 1) → StopsAtByte at read taken_front (length piece) stop → stop ≡ None → PlayOpen p r1 a1 size1 (read + taken_front) (bytes_of h ++ piece) t.text
+    opened : (size1 : ℕ) (refused bad at : Option ℕ) (stop : Option Stop) (t : Took refused bad at) → p.limit ≤ 2 ^ 48 → size1 ≡ min (size + length (text_of symbols)) (2 ^ 64 - 1) → StopsAtByte at read taken_front (length piece) stop → stop ≡ None → PlayOpen p r1 a1 size1 (read + taken_front) (bytes_fed h ++ piece) t.text
     opened size1 refused bad (Some k) stop t most size_is is none = let no : Some (record { at = k; why = AtByte }) ≡ None = sym is ∙ none in cc
     opened size1 refused bad None (Some s) t most size_is is none = let no : Some s ≡ None = none in cc
     opened size1 refused bad None None t most size_is is none =
         let x = t.opens refl in
-        let all : u ≡ bytes_of h ++ piece = ap (λ z. bytes_of h ++ z) (take_all taken_front piece (omega (arith, is))) in
+        let all : u ≡ bytes_fed h ++ piece = ap (λ z. bytes_fed h ++ z) (take_all taken_front piece (omega (arith, is))) in
         let long : length (text_of (o.code ++ symbols)) ≡ length (text_of o.code) + length (text_of symbols) = ap (λ (z : List ℕ). length z) (text_of-append o.code symbols) ∙ length-append (text_of o.code) (text_of symbols) in
         record {
           code = o.code ++ symbols;
@@ -298,12 +298,12 @@ module _ (p : Single) (r r1 : Reading) (a a1 : Position) (size read : ℕ) (h : 
           performed = x.2;
           begins = x.3;
           long = omega (arith, size_is, long, o.long, fits_of most);
-          count = omega (arith, o.count, is, length-append (bytes_of h) piece);
+          count = omega (arith, o.count, is, length-append (bytes_fed h) piece);
           within = omega (arith, o.within, is_front);
         }
 
     pub act_feeds : (size1 : ℕ) (refused bad at : Option ℕ) (stop : Option Stop) → p.limit ≤ 2 ^ 48 → size1 ≡ min (size + length (text_of symbols)) (2 ^ 64 - 1) → Refuses refused a a1 symbols old new → ((i : ℕ) → bad ≡ Some i → (r1.bad ≡ true) × (r1.good ≡ i)) → (bad ≡ None → r1.bad ≡ false) → BadAt refused bad size symbols at → StopsAtByte at read taken_front (length piece) stop
-        → Feeds Gives (λ k. StandsAs Gives (λ w t. PlayOpen p r1 a1 size1 (read + taken_front) w t) stop false k × IsTrue true) h (bytes_of h ++ piece) false old new (fate_of stop)
+        → Feeds Gives (λ k. StandsAs Gives (λ w t. PlayOpen p r1 a1 size1 (read + taken_front) w t) stop false k × IsTrue true) h (bytes_fed h ++ piece) false old new (fate_of stop)
     act_feeds size1 refused bad at stop most size_is refuses is_bad is_good place is =
         let t = took refused bad at (fits_of most) refuses is_bad is_good place in
         let gives = answers t.text t.code at stop t.writes t.on is in
@@ -341,7 +341,7 @@ took_nothing (Some i) a a1 old new t within = absurd (omega arith)
 
 -- a player that has stopped drops what comes
 module _ (g : Graph) (limit : ℕ) where
-  pub act_stopped : (Open : List ℕ → List ℕ → Type 0) (s : Stop) (over : Bool) (h : Option Fed) (w : List ℕ) (e : Bool) (out : List ℕ) → StandsAs (λ w e x. ActAnswers g limit w e x) Open (Some s) over h → ended_of h ≡ false → Begins w (bytes_of h) → Feeds (λ w e x. ActAnswers g limit w e x) (λ k. StandsAs (λ w e x. ActAnswers g limit w e x) Open (Some s) e k × IsTrue true) h w e out out (fate_of (Some s))
+  pub act_stopped : (Open : List ℕ → List ℕ → Type 0) (s : Stop) (over : Bool) (h : Option Fed) (w : List ℕ) (e : Bool) (out : List ℕ) → StandsAs (λ w e x. ActAnswers g limit w e x) Open (Some s) over h → ended_of h ≡ false → Begins w (bytes_fed h) → Feeds (λ w e x. ActAnswers g limit w e x) (λ k. StandsAs (λ w e x. ActAnswers g limit w e x) Open (Some s) e k × IsTrue true) h w e out out (fate_of (Some s))
   act_stopped Open s over None w e out h n b = let bad : Some s ≡ None = h.1 in cc
   act_stopped Open s over (Some k) w e out h n b =
       let open_ = subst (λ z. ActAnswers g limit k.bytes z k.answer) n h.0 in
@@ -358,7 +358,7 @@ module _ (g : Graph) (limit : ℕ) where
       }
 
 -- the end
-module _ (p : Single) (r : Reading) (a a1 : Position) (size read : ℕ) (h : Option Fed) (o : PlayOpen p r a size read (bytes_of h) (said_of h)) (m1 : a1.machine ≡ p.machine) (m : a.machine ≡ p.machine) (old new : List ℕ) (took : TookAll a a1 [] old new) (is_whole : Bool) (tells : IsWholeOf r a1 is_whole) where
+module _ (p : Single) (r : Reading) (a a1 : Position) (size read : ℕ) (h : Option Fed) (o : PlayOpen p r a size read (bytes_fed h) (said_of h)) (m1 : a1.machine ≡ p.machine) (m : a.machine ≡ p.machine) (old new : List ℕ) (took : TookAll a a1 [] old new) (is_whole : Bool) (tells : IsWholeOf r a1 is_whole) where
   abbrev said : List ℕ
   said = said_of h ++ took.went.more
 
@@ -373,26 +373,26 @@ module _ (p : Single) (r : Reading) (a a1 : Position) (size read : ℕ) (h : Opt
       let left = done.left took.settled ks (subst (λ g. IsRun g ks) (sym m1) run) b in
       (ks, run, b, subst (λ g. said ≡ (left_by g ks o.code).out) m1 (sym (ap (λ z. z.out) left)))
 
-  spelt : bytes_of h ≡ text_of o.code ++ r.begun
-  spelt = sym (take_all r.good (bytes_of h) (omega (arith, o.spelt.all o.good))) ∙ o.spelt.spells.text
+  spelt : bytes_fed h ≡ text_of o.code ++ r.begun
+  spelt = sym (take_all r.good (bytes_fed h) (omega (arith, o.spelt.all o.good))) ∙ o.spelt.spells.text
 
-  on : PlaysOn (BeginsRun p.machine) (IsWhole p.machine) (WritesRun p.machine) (bytes_of h) o.code None
+  on : PlaysOn (BeginsRun p.machine) (IsWhole p.machine) (WritesRun p.machine) (bytes_fed h) o.code None
   on =
-      let none = no_next p.machine (bytes_of h) o.code r.begun spelt o.spelt.spells.front in
+      let none = no_next p.machine (bytes_fed h) o.code r.begun spelt o.spelt.spells.front in
       record {
-        longest = longest_by p.machine (bytes_of h) o.code o.spelt.spells.code (r.begun, spelt) o.begins none;
-        stops = (none, subst (λ z. BeginsText z) (take_all r.good (bytes_of h) (omega (arith, o.spelt.all o.good))) (spells_begins (take r.good (bytes_of h)) o.code r.begun o.spelt.spells));
+        longest = longest_by p.machine (bytes_fed h) o.code o.spelt.spells.code (r.begun, spelt) o.begins none;
+        stops = (none, subst (λ z. BeginsText z) (take_all r.good (bytes_fed h) (omega (arith, o.spelt.all o.good))) (spells_begins (take r.good (bytes_fed h)) o.code r.begun o.spelt.spells));
       }
 
-  pub act_ends : Feeds (λ w e x. ActAnswers p.machine p.limit w e x) (λ k. StandsAs (λ w e x. ActAnswers p.machine p.limit w e x) (λ w t. PlayOpen p r a1 size read w t) (end_stop is_whole read) true k × IsTrue true) h (bytes_of h) true old new (fate_of (end_stop is_whole read))
+  pub act_ends : Feeds (λ w e x. ActAnswers p.machine p.limit w e x) (λ k. StandsAs (λ w e x. ActAnswers p.machine p.limit w e x) (λ w t. PlayOpen p r a1 size read w t) (end_stop is_whole read) true k × IsTrue true) h (bytes_fed h) true old new (fate_of (end_stop is_whole read))
   act_ends = by is_whole (tells o.code said done)
     where
       by : (b : Bool) → (IsTrue b ↔ ((r.bad ≡ false) × (r.begun ≡ []) × IsWhole a1.machine o.code))
-          → Feeds (λ w e x. ActAnswers p.machine p.limit w e x) (λ k. StandsAs (λ w e x. ActAnswers p.machine p.limit w e x) (λ w t. PlayOpen p r a1 size read w t) (end_stop b read) true k × IsTrue true) h (bytes_of h) true old new (fate_of (end_stop b read))
+          → Feeds (λ w e x. ActAnswers p.machine p.limit w e x) (λ k. StandsAs (λ w e x. ActAnswers p.machine p.limit w e x) (λ w t. PlayOpen p r a1 size read w t) (end_stop b read) true k × IsTrue true) h (bytes_fed h) true old new (fate_of (end_stop b read))
       by true t =
           let x = t.0 refl in
           let answer : Answer = record { text = said; ended = true; stop = None } in
-          let gives : ActAnswers p.machine p.limit (bytes_of h) true answer = whole o.code (omega (arith, o.count, o.within)) on (spelt ∙ ap (λ z. text_of o.code ++ z) x.1 ∙ append-nil (text_of o.code)) (subst (λ g. IsWhole g o.code) m1 x.2) writes in
+          let gives : ActAnswers p.machine p.limit (bytes_fed h) true answer = whole o.code (omega (arith, o.count, o.within)) on (spelt ∙ ap (λ z. text_of o.code ++ z) x.1 ∙ append-nil (text_of o.code)) (subst (λ g. IsWhole g o.code) m1 x.2) writes in
           record {
             answer = answer;
             gives = gives;
@@ -403,8 +403,8 @@ module _ (p : Single) (r : Reading) (a a1 : Position) (size read : ℕ) (h : Opt
             is_fate = refl;
           }
       by false t =
-          let answer : Answer = stopped said (length (bytes_of h)) at_end in
-          let gives : ActAnswers p.machine p.limit (bytes_of h) true answer =
+          let answer : Answer = stopped said (length (bytes_fed h)) at_end in
+          let gives : ActAnswers p.machine p.limit (bytes_fed h) true answer =
           cut_off o.code (omega (arith, o.count, o.within)) on
           (λ is w. let bad : false ≡ true = t.1 (o.good, same_rest (text_of o.code) r.begun [] (sym spelt ∙ is ∙ sym (append-nil (text_of o.code))), subst (λ g. IsWhole g o.code) (sym m1) w) in cc)
           writes in

@@ -15,7 +15,7 @@ use Rattle.kex_machine.proofs.Saying.{no_parse}
 use Rattle.kex_sst.specs.Tables.{Transducer}
 use Rattle.kex_sst.specs.Passes.{Pass, begun, passes, ending}
 use Rattle.kex_sst.specs.Machines.{IsTableOf}
-use Rattle.kex_runner.specs.Running.{Running, HasNoEnd, IsFed, StandsFor, IsLive, IsDead, HasPassed, Feeds, Ends, pass_of}
+use Rattle.kex_runner.specs.Running.{Running, HasNoEnd, IsFed, IsRunOf, IsLive, IsDead, HasPassed, Feeds, Ends, pass_of}
 use Rattle.kex_runner.specs.declared.answers.Fed.{Fed}
 use Rattle.kex_runner.specs.declared.answers.Fed.TheVariants.{On, Dead}
 use Rattle.kex_runner.specs.declared.answers.Ended.TheVariants.{Parsed, Cut}
@@ -63,13 +63,13 @@ module _ (g : Graph) (t : Transducer) (trimmed : IsTrimmed g) (of : IsTableOf g 
           )
 
   -- where a text can go on, no byte of it was refused
-  pub still_live : (r : Running) (w : List ℕ) (c : List Symbol) → r.table ≡ t → StandsFor r w c → Viable g w → HasPassed r w c
+  pub still_live : (r : Running) (w : List ℕ) (c : List Symbol) → r.table ≡ t → IsRunOf r w c → Viable g w → HasPassed r w c
   still_live r w c e s v = ⊎_elim (λ l. l.1) (λ x. absurd (of.stops w (subst (λ z. passes z w ≡ None) e (stopped_none x.1.1)) v)) s
 
   pub begins_good : Viable g []
   begins_good = (of.goes_on [] (begun t.initial) refl).viable
 
-fed_stands : (answer : Fed) (r : Running) (w : List ℕ) (c : List Symbol) → IsFed answer r w c → StandsFor r w c
+fed_stands : (answer : Fed) (r : Running) (w : List ℕ) (c : List Symbol) → IsFed answer r w c → IsRunOf r w c
 fed_stands On r w c h = h.1
 fed_stands Dead r w c h = h.1
 
@@ -85,7 +85,7 @@ table_tells answer f0 f1 piece count before after moves same f read within = rec
   tells = λ g w c h v. on g w c h.0 h.1 h.2 (still_live g f0.runner.table h.0 h.1 f0.runner w c refl h.3 v) (fed_stands answer f1.runner (w ++ piece) (c ++ f.more) (f.fed w c h.3));
 }
   where
-    on : (g : Graph) (w : List ℕ) (c : List Symbol) → IsTrimmed g → IsTableOf g f0.runner.table → f0.moves.table ≡ f0.runner.table → HasPassed f0.runner w c → StandsFor f1.runner (w ++ piece) (c ++ f.more) → HearsOn g (Table f1) w piece count (c ++ f.more)
+    on : (g : Graph) (w : List ℕ) (c : List Symbol) → IsTrimmed g → IsTableOf g f0.runner.table → f0.moves.table ≡ f0.runner.table → HasPassed f0.runner w c → IsRunOf f1.runner (w ++ piece) (c ++ f.more) → HearsOn g (Table f1) w piece count (c ++ f.more)
     on g w c trimmed of learnt was s = ⊎_elim live dead s
       where
         of_new : IsTableOf g f1.runner.table
@@ -165,7 +165,7 @@ still_tells o f n piece count before after runner moves t = record {
               q.0,
               subst (λ r. IsTableOf g r.table) (sym runner) q.1,
               ap (λ m. m.table) moves ∙ q.2 ∙ ap (λ r. r.table) (sym runner),
-              subst (λ r. StandsFor r (w ++ piece) (c ++ t.more)) (sym runner) q.3,
+              subst (λ r. IsRunOf r (w ++ piece) (c ++ t.more)) (sym runner) q.3,
             );
         good = k.good;
         bad = k.bad;

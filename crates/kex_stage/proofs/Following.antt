@@ -7,7 +7,7 @@ use Rattle.kex_action.specs.Actors.{Position, HasPerformed, BeginsRun, TookAll}
 use Rattle.kex_sst.specs.Machines.{IsTableOf}
 use Rattle.kex_sst.specs.Passes.{passes}
 use Rattle.kex_moves.specs.Along.{RunsOn, bare}
-use Rattle.kex_runner.specs.Running.{StandsFor}
+use Rattle.kex_runner.specs.Running.{IsRunOf}
 use Rattle.kex_runner.specs.Following.{pass_at}
 use Rattle.kex_stage.specs.declared.follower.Follower.{Follower}
 use Rattle.kex_stage.specs.declared.oracle.Oracle.{Oracle}
@@ -116,7 +116,7 @@ settles o f a b c p x y z none first took mc = record {
 }
 
 -- table and actor run on at once
-pub runs_go : (f new : Follower) (a b : Position) (q count : ℕ) (bs before after : List ℕ) → f.runner.pending ≡ [] → f.runner.registers ≡ [] → new.moves ≡ f.moves → new.runner.table ≡ f.runner.table → b.machine ≡ a.machine → length bs ≡ count → RunsOn f.moves.table a b f.runner.state q bs before after → ((w v : List ℕ) (c d : List Symbol) → StandsFor f.runner w c → length v ≡ count → passes f.runner.table (w ++ v) ≡ Some (pass_at q (c ++ d) []) → StandsFor new.runner (w ++ v) (c ++ d)) → Goes (Table f) (Table new) a b bs before after
+pub runs_go : (f new : Follower) (a b : Position) (q count : ℕ) (bs before after : List ℕ) → f.runner.pending ≡ [] → f.runner.registers ≡ [] → new.moves ≡ f.moves → new.runner.table ≡ f.runner.table → b.machine ≡ a.machine → length bs ≡ count → RunsOn f.moves.table a b f.runner.state q bs before after → ((w v : List ℕ) (c d : List Symbol) → IsRunOf f.runner w c → length v ≡ count → passes f.runner.table (w ++ v) ≡ Some (pass_at q (c ++ d) []) → IsRunOf new.runner (w ++ v) (c ++ d)) → Goes (Table f) (Table new) a b bs before after
 runs_go f new a b q count bs before after none no_registers moves table mb long r stands = record {
   goes = λ g w text fol v.
       let h = fol.hears in

@@ -17,7 +17,7 @@ use Rattle.kex_stage.specs.declared.oracle.Oracle.TheVariants.{Paths, Table}
 -- the oracle was fed w, and has told c
 abbrev pub Hears : Graph → Oracle → List ℕ → List Symbol → Type 0
 Hears g (Paths p) w c = (p.frontier.machine ≡ g) × IsFed p.frontier w c
-Hears g (Table f) w c = IsTrimmed g × IsTableOf g f.runner.table × (f.moves.table ≡ f.runner.table) × runs.StandsFor f.runner w c
+Hears g (Table f) w c = IsTrimmed g × IsTableOf g f.runner.table × (f.moves.table ≡ f.runner.table) × runs.IsRunOf f.runner w c
 
 -- how many good bytes it has read
 abbrev pub read_of : Oracle → ℕ

@@ -29,9 +29,9 @@ pub record IsOpen (p : StagePlan) (o : Oracle) (a : Position) (w : List ℕ) (ou
   pub within : read_of o ≤ p.limit
   pub good : Viable p.machine w
 
-abbrev pub StandsFor : StagePlan → Oracle → Position → Option Stop → Bool → Option Fed → Type 0
-StandsFor p o a stop over None = IsOpen p o a [] [] × (stop ≡ None) × (over ≡ false)
-StandsFor p o a stop over (Some h) = Gives p h.bytes h.ended h.answer × (stop_as stop ≡ h.answer.stop) × (over ≡ h.ended) × (h.ended ≡ false → stop ≡ None → IsOpen p o a h.bytes h.answer.text)
+abbrev pub IsStageOf : StagePlan → Oracle → Position → Option Stop → Bool → Option Fed → Type 0
+IsStageOf p o a stop over None = IsOpen p o a [] [] × (stop ≡ None) × (over ≡ false)
+IsStageOf p o a stop over (Some h) = Gives p h.bytes h.ended h.answer × (stop_as stop ≡ h.answer.stop) × (over ≡ h.ended) × (h.ended ≡ false → stop ≡ None → IsOpen p o a h.bytes h.answer.text)
 
 abbrev pub fate_of : Option Stop → Fate
 fate_of None = On

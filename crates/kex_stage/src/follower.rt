@@ -1,7 +1,7 @@
 // A runner of a table, and what was learnt of the table and the actor.
 
 ghost use Rattle.std.specs.Prelude.{◌≡◌, [], false, IfOk, IsTrue};
-ghost use Rattle.kex_runner.specs.Running.{StandsFor};
+ghost use Rattle.kex_runner.specs.Running.{IsRunOf};
 
 use kex_code::memory::Memory;
 use kex_machine::Trimmed;
@@ -34,7 +34,7 @@ impl<'p> Follower<'p> {
     ) -> Result<Follower<'p>, Memory>
         ensures tables { IfOk result (λ f. (f.runner.table ≡ table.now) × (f.moves.table ≡ table.now)) }
         ensures machine { IfOk result (λ f. f.moves.machine ≡ machine.now) }
-        ensures stands { IfOk result (λ f. StandsFor f.runner [] []) }
+        ensures stands { IfOk result (λ f. IsRunOf f.runner [] []) }
         ensures usable { IfOk result (λ f. (IsTrue f.runner.usable) × (f.runner.ended ≡ false) × (f.runner.read ≡ 0)) }
     {
         let runner = Runner::new(alloc, table)?;

@@ -3,7 +3,7 @@
 ghost use Rattle.std.specs.Prelude.{◌≡◌, ◌≤◌, true, false, IfOk, IsTrue, Some, None, min, take, length};
 ghost use Rattle.kex_machine.proofs.Standing.{one_answer, grows, stays, ends};
 ghost use Rattle.kex_stage.specs.Oracles.{IsReady, learnt_of, read_of};
-ghost use Rattle.kex_stage.specs.Stages.{Gives, StagePlan, StandsFor, end_stop, fate_of, stop_after};
+ghost use Rattle.kex_stage.specs.Stages.{Gives, StagePlan, IsStageOf, end_stop, fate_of, stop_after};
 
 use crate::oracle::Oracle;
 use crate::plan::Plan;
@@ -57,7 +57,7 @@ impl<'p> Turn for Stage<'p> {
 
     ghost gives = { λ p w e a. Gives p w e a };
 
-    ghost stands = { λ s h. StandsFor (record { machine = s.actor.machine; limit = s.limit }) s.oracle s.actor s.stop s.over h × IsTrue s.usable };
+    ghost stands = { λ s h. IsStageOf (record { machine = s.actor.machine; limit = s.limit }) s.oracle s.actor s.stop s.over h × IsTrue s.usable };
 
     ghost is_usable = { λ s. s.usable };
 

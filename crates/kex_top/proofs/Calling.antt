@@ -31,7 +31,7 @@ use Rattle.kex_top.specs.Trials.{IsSummary, Tried, Tries, made_lines, trial_text
 use Rattle.kex_top.specs.Answer.{Said}
 use Rattle.kex_top.specs.Pipelines.{NodesSay, StagesSay, first_limit, stage_plans}
 use Rattle.kex_top.specs.Run.{IsLeft, Left, Ran, EndsAs, WritesAll}
-use Rattle.kex_top.specs.Kex.{Runs, Answers, Checks, Counted, IsStatusOf, Told}
+use Rattle.kex_top.specs.Kex.{Runs, CallAnswers, Checks, Counted, IsStatusOf, TellsLine}
 use Rattle.kex_top.specs.Modes.{BeginsParse, HasParseAlone, IsParse, WritesPart, MachineGives, MachinesSay, MeansCode, SaysCode, SaysNothing, StageGives, limits_of, limits_to_check}
 use Rattle.kex_pipe.specs.declared.report.Rejected.{Rejected as Report}
 use Rattle.kex_top.specs.declared.status.Status.{Status}
@@ -265,7 +265,7 @@ runs_by mode limit block told text plans source sink s is_told p r = record {
 }
 
 -- a run's status is none that comes before a run
-pub answers_by : (mode : Mode) (limit block : ℕ) (told : ShelfText) (source sink : Change) (s : Status) → Runs mode limit block told source sink s → Answers mode limit block told source sink s
+pub answers_by : (mode : Mode) (limit block : ℕ) (told : ShelfText) (source sink : Change) (s : Status) → Runs mode limit block told source sink s → CallAnswers mode limit block told source sink s
 answers_by mode limit block told source sink Done r = r
 answers_by mode limit block told source sink (Rejected x) r = r
 answers_by mode limit block told source sink (TooLong x) r = r
@@ -276,11 +276,11 @@ answers_by mode limit block told source sink Usage r = r.ran.ends
 answers_by mode limit block told source sink (Refused x) r = absurd r.ran.ends
 answers_by mode limit block told source sink ShelfFault r = absurd r.ran.ends
 
-pub served : (mode : Mode) (limit block : ℕ) (told : ShelfText) (text : List ℕ) (plans : Plans) (source sink : Change) (s : Status) → IsTold told text → IsCompiled (limits_of mode) text plans → (Left source sink × (s ≡ Memory)) ⊎ Ran (MachinesSay mode limit plans.stages) block source sink s → Answers mode limit block told source sink s
-served mode limit block told text plans source sink s t p (inl x) = subst (λ z. Answers mode limit block told source sink z) (sym x.1) (inl x.0)
+pub served : (mode : Mode) (limit block : ℕ) (told : ShelfText) (text : List ℕ) (plans : Plans) (source sink : Change) (s : Status) → IsTold told text → IsCompiled (limits_of mode) text plans → (Left source sink × (s ≡ Memory)) ⊎ Ran (MachinesSay mode limit plans.stages) block source sink s → CallAnswers mode limit block told source sink s
+served mode limit block told text plans source sink s t p (inl x) = subst (λ z. CallAnswers mode limit block told source sink z) (sym x.1) (inl x.0)
 served mode limit block told text plans source sink s t p (inr r) = answers_by mode limit block told source sink s (runs_by mode limit block told text plans source sink s t p r)
 
-pub refused_by : (mode : Mode) (limit block : ℕ) (told : ShelfText) (text : List ℕ) (rule : CompileRefusal) (source sink : Change) (s : Status) → IsTold told text → IsRefused (limits_of mode) text rule → Left source sink → IsStatusOf text rule s → Answers mode limit block told source sink s
+pub refused_by : (mode : Mode) (limit block : ℕ) (told : ShelfText) (text : List ℕ) (rule : CompileRefusal) (source sink : Change) (s : Status) → IsTold told text → IsRefused (limits_of mode) text rule → Left source sink → IsStatusOf text rule s → CallAnswers mode limit block told source sink s
 refused_by mode limit block told text rule source sink Memory t h l i = inl l
 refused_by mode limit block told text rule source sink (Refused r) t h l i = (l, inr (record { text = text; is_told = t; rule = rule; is_refused = h; is_shown = i }))
 refused_by mode limit block told text rule source sink Done t h l i = absurd i
@@ -322,7 +322,7 @@ counted asked told text plans Q t p q =
       written = subst (λ k. Q (counts_line (record { stages = k; places = plans.places; states = plans.states }))) same q;
     }
 
-pub checked : (asked : ℕ) (told : ShelfText) (text : List ℕ) (plans : Plans) (source sink : Change) (s : Status) → IsTold told text → IsCompiled (limits_to_check asked) text plans → IsLeft source → Told (counts_line (record { stages = length plans.stages; places = plans.places; states = plans.states })) sink s → Checks asked told source sink s
+pub checked : (asked : ℕ) (told : ShelfText) (text : List ℕ) (plans : Plans) (source sink : Change) (s : Status) → IsTold told text → IsCompiled (limits_to_check asked) text plans → IsLeft source → TellsLine (counts_line (record { stages = length plans.stages; places = plans.places; states = plans.states })) sink s → Checks asked told source sink s
 checked asked told text plans source sink Done t p l q = (l, counted asked told text plans (λ line. GainsWhole sink line) t p q)
 checked asked told text plans source sink WriteFault t p l q = (l, counted asked told text plans (λ line. GainsFront sink line) t p q)
 checked asked told text plans source sink (Rejected x) t p l q = absurd q
@@ -364,7 +364,7 @@ module _ (lines : ℕ) (plans : Plans) (p : IsCompiled (limits_to_check usual_st
     written = q;
   }
 
-  pub tried : (s : Status) → Told (trial_line summary) sink s → Tries lines sink s
+  pub tried : (s : Status) → TellsLine (trial_line summary) sink s → Tries lines sink s
   tried Done q = summed (λ line. GainsWhole sink line) q
   tried WriteFault q = summed (λ line. GainsFront sink line) q
   tried (Rejected x) q = absurd q

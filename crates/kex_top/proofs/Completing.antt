@@ -43,7 +43,7 @@ use Rattle.kex_top.specs.Modes.{BeginsParse, HasParseAlone, IsParse, WritesPart,
 use Rattle.kex_top.specs.Pipelines.{MeansInTurn}
 use Rattle.kex_top.specs.Run.{WritesAll}
 use Rattle.kex_top.specs.Trials.{KeepsRules, Tries, trial_text, usual_states}
-use Rattle.kex_top.specs.Kex.{Answers, Broke, Checks, Headline, IsGood, IsSound, IsQuiet, IsRefusalOf, IsRefusedFor, Runs, ShelfAnswers, ShelfChange, most_text}
+use Rattle.kex_top.specs.Kex.{CallAnswers, Broke, Checks, Headline, IsGood, IsSound, IsQuiet, IsRefusalOf, IsRefusedFor, Runs, ShelfAnswers, ShelfChange, most_text}
 use Rattle.kex_pipe.specs.declared.report.Rejected.{Rejected as Report}
 use Rattle.kex_top.specs.declared.status.Status.{Status}
 use Rattle.kex_top.specs.declared.status.Status.TheVariants.{Done, Rejected, Usage, Refused, ReadFault, WriteFault, ShelfFault, Memory, TooLong}
@@ -210,7 +210,7 @@ ran-good mode limit block told shelf source sink s r g p all =
     by : (text : List ℕ) → text ≡ g.text → (P : Grammar) → Spells text P → (said : Said) × SaysBy mode P limit g.input true said × (said.report ≡ None)
     by text e = subst (λ t. (P : Grammar) → Spells t P → (said : Said) × SaysBy mode P limit g.input true said × (said.report ≡ None)) (sym e) g.parses
 
-pub completes : (mode : Mode) (limit block : ℕ) (told : ShelfText) (shelf : ShelfChange) (source sink : Change) (s : Status) → IsGood mode limit told shelf source sink → ShelfAnswers told shelf s → Answers mode limit block told source sink s → (s ≡ Done) ⊎ (s ≡ Memory)
+pub completes : (mode : Mode) (limit block : ℕ) (told : ShelfText) (shelf : ShelfChange) (source sink : Change) (s : Status) → IsGood mode limit told shelf source sink → ShelfAnswers told shelf s → CallAnswers mode limit block told source sink s → (s ≡ Done) ⊎ (s ≡ Memory)
 completes mode limit block told shelf source sink Done g h a = inl refl
 completes mode limit block told shelf source sink Memory g h a = inr refl
 completes mode limit block told shelf source sink Usage g h a = absurd a
@@ -286,9 +286,9 @@ all-meant P limit i (root ∷ rs) w text r (a, rest, gives, others, is) none =
     let m = whole_of P root limit gives n.0 in
     (m.0, a.text, m.1, all-meant P limit (suc i) rs a.text text rest (subst (λ z. Pipeline (λ root v d b. StageAnswers P root limit v d b) (suc i) rs a.text z text rest) m.2 others) n.1)
 
-pub done-as-told : (states limit block : ℕ) (told : ShelfText) (source sink : Change) (s : Status) (text input before : List ℕ) → told ≡ present text → source.old ≡ Some input → sink.old ≡ Some before → s ≡ Done → Answers (running states) limit block told source sink s → Headline states text limit input before source.new sink.new
+pub done-as-told : (states limit block : ℕ) (told : ShelfText) (source sink : Change) (s : Status) (text input before : List ℕ) → told ≡ present text → source.old ≡ Some input → sink.old ≡ Some before → s ≡ Done → CallAnswers (running states) limit block told source sink s → Headline states text limit input before source.new sink.new
 done-as-told states limit block told source sink s text input before is rest held done answers =
-    let p : Runs (running states) limit block told source sink Done = subst (λ x. Answers (running states) limit block told source sink x) done answers in
+    let p : Runs (running states) limit block told source sink Done = subst (λ x. CallAnswers (running states) limit block told source sink x) done answers in
     let same : p.text ≡ text = told-same told text p.text is p.is_told in
     by p same
   where

@@ -9,7 +9,7 @@ use Rattle.kex_pipe.specs.declared.turn.Fate.{Fate}
 use Rattle.kex_pipe.specs.declared.turn.Turn.{Ghosts}
 use Rattle.kex_top.specs.Answer.{Said}
 use Rattle.kex_top.specs.Fronts.{IsFront}
-use Rattle.kex_top.specs.History.{Feeds, History, IsSaid, Writes, WritesEarly, WritesFront, bytes_of, is_ended, text_of}
+use Rattle.kex_top.specs.History.{Feeds, History, IsSaid, Writes, WritesEarly, WritesFront, bytes_passed, is_ended, text_of}
 use Rattle.kex_top.specs.Piped.{PipeSays, PipeStands, plans_of}
 use Rattle.kex_top.specs.Pipelines.{AlwaysSays}
 use Rattle.kex_top.specs.declared.any_pipe.AnyPipe.{AnyPipe}
@@ -29,12 +29,12 @@ pub record Passing (stands : History → Type 0) (h : History) (w rest : List �
   pub now : History
   pub stands_for : stands now
   pub is_open : is_ended now ≡ false
-  pub cut : w ≡ bytes_of now ++ rest
+  pub cut : w ≡ bytes_passed now ++ rest
   pub added : List ℕ
   pub whole : text_of now ≡ text_of h ++ added
   pub appended : Appends old mid added
 
-pub none-passed : (stands : History → Type 0) (h : History) (block : List ℕ) (held : Option (List ℕ)) → stands h → is_ended h ≡ false → Passing stands h (bytes_of h ++ block) block held held
+pub none-passed : (stands : History → Type 0) (h : History) (block : List ℕ) (held : Option (List ℕ)) → stands h → is_ended h ≡ false → Passing stands h (bytes_passed h ++ block) block held held
 none-passed stands h block held s is_open = record { now = h; stands_for = s; is_open = is_open; cut = refl; added = []; whole = append-nil (text_of h); appended = appends-nothing held }
 
 module _ (says : List ℕ → Bool → Said → Type 0) (stands : History → Type 0) (h : History) (w rest : List ℕ) (old mid : Option (List ℕ)) (p : Passing stands h w rest old mid) where
@@ -42,17 +42,17 @@ module _ (says : List ℕ → Bool → Said → Type 0) (stands : History → Ty
   pub wanted : IsSaid says p.now → WritesEarly says h w old mid
   wanted said = record { now = p.now; rest = rest; cut = p.cut; is_said = said; added = p.added; whole = p.whole; appended = p.appended }
 
-  module _ (then : History → Type 0) (n : ℕ) (out : List ℕ) (fate : Fate) (x : Feeds says then p.now (bytes_of p.now ++ take n rest) false out fate) (new : Option (List ℕ)) where
+  module _ (then : History → Type 0) (n : ℕ) (out : List ℕ) (fate : Fate) (x : Feeds says then p.now (bytes_passed p.now ++ take n rest) false out fate) (new : Option (List ℕ)) where
     text : x.said.text ≡ text_of h ++ (p.added ++ out)
     text = x.whole ∙ ap (λ (z : List ℕ). z ++ out) p.whole ∙ append_assoc (text_of h) p.added out
 
-    cut : w ≡ (bytes_of p.now ++ take n rest) ++ drop n rest
-    cut = p.cut ∙ ap (λ z. bytes_of p.now ++ z) (sym (take-append-drop n rest)) ∙ sym (append_assoc (bytes_of p.now) (take n rest) (drop n rest))
+    cut : w ≡ (bytes_passed p.now ++ take n rest) ++ drop n rest
+    cut = p.cut ∙ ap (λ z. bytes_passed p.now ++ z) (sym (take-append-drop n rest)) ∙ sym (append_assoc (bytes_passed p.now) (take n rest) (drop n rest))
 
     -- a front more
     pub front-passed : Appends mid new out → Passing then h w (drop n rest) old new
     front-passed appended = record {
-      now = Some (record { bytes = bytes_of p.now ++ take n rest; ended = false; said = x.said });
+      now = Some (record { bytes = bytes_passed p.now ++ take n rest; ended = false; said = x.said });
       stands_for = x.stands_for;
       is_open = refl;
       cut = cut;
@@ -61,8 +61,8 @@ module _ (says : List ℕ → Bool → Said → Type 0) (stands : History → Ty
       appended = appends-then old mid new p.added out p.appended appended;
     }
 
-    all : n ≡ length rest → bytes_of p.now ++ take n rest ≡ w
-    all is = ap (λ z. bytes_of p.now ++ z) (take_all n rest (omega (arith, is))) ∙ sym p.cut
+    all : n ≡ length rest → bytes_passed p.now ++ take n rest ≡ w
+    all is = ap (λ z. bytes_passed p.now ++ z) (take_all n rest (omega (arith, is))) ∙ sym p.cut
 
     -- the last one
     pub all-passed : n ≡ length rest → Appends mid new out → Writes says then h w false old new fate
@@ -82,7 +82,7 @@ module _ (says : List ℕ → Bool → Said → Type 0) (stands : History → Ty
         subst (λ z. WritesFront says h z false old new) (all (front.whole refl)) (record { said = x.said; is_said = x.is_said; added = p.added ++ out; whole = text; appended = front-then old mid new p.added out p.appended f })
     failed Parts front always grows f =
         let (said, is_said) = always refl w false in
-        let v = bytes_of p.now ++ take n rest in
+        let v = bytes_passed p.now ++ take n rest in
         let begins = grows v (drop n rest) false x.said said x.is_said (subst (λ z. says z false said) cut is_said) in
         record {
           said = said;

@@ -6,7 +6,7 @@ use Rattle.kex_ports.specs.Causes.{Rose}
 use Rattle.kex_ports.specs.Bytes.{IsPrefix}
 use Rattle.kex_ports.proofs.Known.{append-nil, appends-nothing, appends-then, appends-same, appends-kept, consumes-nothing, prefix-whole}
 use Rattle.kex_top.specs.Answer.{Said}
-use Rattle.kex_top.specs.History.{History, Fed, IsSaid, bytes_of, text_of, Writes, WritesEarly, WritesFront, WritesUpTo}
+use Rattle.kex_top.specs.History.{History, Fed, IsSaid, bytes_passed, text_of, Writes, WritesEarly, WritesFront, WritesUpTo}
 use Rattle.kex_words.specs.Gains.{Change, change}
 use Rattle.kex_top.specs.Run.{is_whole, IsSaidBy, Pumped, Ran, EndsAs, WritesAll, WritesBegun, WritesEarlier, TroubleCause, status_of, status_for, status_after}
 use Rattle.kex_pipe.specs.declared.turn.Fate.{Fate}
@@ -73,11 +73,11 @@ module _ {Plan : Type 0} (says : Plan → List ℕ → Bool → Said → Type 0)
     front = front x.now x.cut x.is_said;
   }
     where
-      from : (k : History) → w ≡ bytes_of k ++ x.rest → IsSaid (says p') k → (text_of k ≡ []) ⊎ IsSaidBy (says p) w (text_of k)
+      from : (k : History) → w ≡ bytes_passed k ++ x.rest → IsSaid (says p') k → (text_of k ≡ []) ⊎ IsSaidBy (says p) w (text_of k)
       from None cut said = inl refl
       from (Some f) cut said = inr (f.bytes, f.said, record { rest = x.rest; joined = cut }, subst (λ q. says q f.bytes false f.said) same said, refl)
 
-      front : (k : History) → w ≡ bytes_of k ++ x.rest → IsSaid (says p') k → (b : Said) → says p w e b → IsPrefix (text_of k) b.text
+      front : (k : History) → w ≡ bytes_passed k ++ x.rest → IsSaid (says p') k → (b : Said) → says p w e b → IsPrefix (text_of k) b.text
       front None cut said b h = record { rest = b.text; joined = refl }
       front (Some f) cut said b h = grows p f.bytes x.rest e f.said b (subst (λ q. says q f.bytes false f.said) same said) (subst (λ z. says p z e b) cut h)
 

@@ -4,7 +4,7 @@ use Rattle.std.specs.Prelude.{Some}
 use Rattle.std.proofs.lemmas.List.{append_assoc, length-append}
 use Rattle.kex_pipe.specs.declared.turn.Fate.{Fate}
 use Rattle.kex_top.specs.Answer.{Said}
-use Rattle.kex_top.specs.History.{Feeds, History, bytes_of, text_of}
+use Rattle.kex_top.specs.History.{Feeds, History, bytes_passed, text_of}
 use Rattle.kex_top.specs.Tallies.{Counts, HasWaiting, IsFed, IsTally}
 use Rattle.kex_top.specs.Trials.{capped, line_of, lines_from, next, rolled}
 use Rattle.kex_top.specs.declared.tally.Tally.{Tally}
@@ -25,12 +25,12 @@ module _ (old new : Tally) (piece out : List ℕ) (made : new.made ≡ capped (o
   }
 
   -- what is given out is counted
-  pub counts : (says : List ℕ → Bool → Said → Type 0) (stands : History → Type 0) (h : History) (w : List ℕ) (e : Bool) (fate : Fate) → w ≡ bytes_of h ++ piece → Feeds says stands h w e out fate → Counts says stands h w e old new
+  pub counts : (says : List ℕ → Bool → Said → Type 0) (stands : History → Type 0) (h : History) (w : List ℕ) (e : Bool) (fate : Fate) → w ≡ bytes_passed h ++ piece → Feeds says stands h w e out fate → Counts says stands h w e old new
   counts says stands h w e fate is f = record {
     said = f.said;
     is_said = f.is_said;
     stands_for = f.stands_for;
-    tallied = λ t. subst (λ z. IsTally new z f.said.text) (sym is) (subst (λ z. IsTally new (bytes_of h ++ piece) z) (sym f.whole) (tallied (bytes_of h) (text_of h) t));
+    tallied = λ t. subst (λ z. IsTally new z f.said.text) (sym is) (subst (λ z. IsTally new (bytes_passed h ++ piece) z) (sym f.whole) (tallied (bytes_passed h) (text_of h) t));
   }
 
 module _ (says : List ℕ → Bool → Said → Type 0) (stands now : History → Type 0) where

@@ -19,7 +19,7 @@ use Rattle.kex_rings.specs.declared.ring_seat.RingSeat.{RingSeat}
 use Rattle.kex_top.specs.declared.any_pipe.AnyPipe.{AnyPipe}
 use Rattle.kex_top.specs.declared.any_pipe.AnyPipe.TheVariants.{Rounds, Rings}
 use Rattle.kex_top.specs.Answer.{Said}
-use Rattle.kex_top.specs.History.{Fed, History, bytes_of, text_of, is_ended, IsFateOf, Feeds}
+use Rattle.kex_top.specs.History.{Fed, History, bytes_passed, text_of, is_ended, IsFateOf, Feeds}
 use Rattle.kex_top.specs.Piped as piped
 use Rattle.kex_top.specs.Piped.{plans_of, in_hand, is_in_round, Stands, IsSettled, IsWorkedOff, HasSaid, PipeStands}
 use Rattle.kex_top.specs.PipelineLaws.{report-same}
@@ -69,7 +69,7 @@ module _ {T : Type 0} (t : Ghosts T) where
     pub events : List Event
     pub some : 0 < length (plans_of t pipe)
     pub stands : Stands t (plans_of t pipe) pipe events (text_of h)
-    pub bytes : bytes_given events ≡ bytes_of h
+    pub bytes : bytes_given events ≡ bytes_passed h
     pub end : end_given events ≡ is_ended h
 
   pub standing : (pipe : AnyPipe T t) (h : History) → PipeStands t pipe h → Standing pipe h

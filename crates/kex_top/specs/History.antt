@@ -19,9 +19,9 @@ pub record Fed : Type 0 where
 abbrev pub History : Type 0
 History = Option Fed
 
-abbrev pub bytes_of : History → List ℕ
-bytes_of None = []
-bytes_of (Some f) = f.bytes
+abbrev pub bytes_passed : History → List ℕ
+bytes_passed None = []
+bytes_passed (Some f) = f.bytes
 
 abbrev pub text_of : History → List ℕ
 text_of None = []
@@ -71,7 +71,7 @@ module _ (says : List ℕ → Bool → Said → Type 0) where
   pub record WritesEarly (h : History) (w : List ℕ) (old new : Option (List ℕ)) : Type 0 where
     pub now : History
     pub rest : List ℕ
-    pub cut : w ≡ bytes_of now ++ rest
+    pub cut : w ≡ bytes_passed now ++ rest
     pub is_said : IsSaid now
     pub added : List ℕ
     pub whole : text_of now ≡ text_of h ++ added

@@ -137,22 +137,22 @@ pub record Runs (mode : Mode) (limit last : ℕ) (told : ShelfText) (source sink
   pub ran : Ran (SaysBy mode program limit) last source sink status
 
 -- What each answer says, where the words are in form.
-abbrev pub Answers : Mode → ℕ → ℕ → ShelfText → Change → Change → Status → Type 0
-Answers mode limit last told source sink Usage = ⊥
-Answers mode limit last told source sink ShelfFault = Left source sink
-Answers mode limit last told source sink (Refused r) = Left source sink × IsRefusedFor (limits_of mode) told r
-Answers mode limit last told source sink Memory = Left source sink ⊎ Runs mode limit last told source sink Memory
-Answers mode limit last told source sink Done = Runs mode limit last told source sink Done
-Answers mode limit last told source sink (Rejected r) = Runs mode limit last told source sink (Rejected r)
-Answers mode limit last told source sink (TooLong r) = Runs mode limit last told source sink (TooLong r)
-Answers mode limit last told source sink ReadFault = Runs mode limit last told source sink ReadFault
-Answers mode limit last told source sink WriteFault = Runs mode limit last told source sink WriteFault
+abbrev pub CallAnswers : Mode → ℕ → ℕ → ShelfText → Change → Change → Status → Type 0
+CallAnswers mode limit last told source sink Usage = ⊥
+CallAnswers mode limit last told source sink ShelfFault = Left source sink
+CallAnswers mode limit last told source sink (Refused r) = Left source sink × IsRefusedFor (limits_of mode) told r
+CallAnswers mode limit last told source sink Memory = Left source sink ⊎ Runs mode limit last told source sink Memory
+CallAnswers mode limit last told source sink Done = Runs mode limit last told source sink Done
+CallAnswers mode limit last told source sink (Rejected r) = Runs mode limit last told source sink (Rejected r)
+CallAnswers mode limit last told source sink (TooLong r) = Runs mode limit last told source sink (TooLong r)
+CallAnswers mode limit last told source sink ReadFault = Runs mode limit last told source sink ReadFault
+CallAnswers mode limit last told source sink WriteFault = Runs mode limit last told source sink WriteFault
 
 -- The line was written, or a front of it.
-abbrev pub Told : List ℕ → Change → Status → Type 0
-Told line sink Done = GainsWhole sink line
-Told line sink WriteFault = GainsFront sink line
-Told line sink _ = ⊥
+abbrev pub TellsLine : List ℕ → Change → Status → Type 0
+TellsLine line sink Done = GainsWhole sink line
+TellsLine line sink WriteFault = GainsFront sink line
+TellsLine line sink _ = ⊥
 
 -- A program that the told text spells was counted, and so was its line written.
 pub record Counted (asked : ℕ) (told : ShelfText) (Written : List ℕ → Type 0) : Type 0 where

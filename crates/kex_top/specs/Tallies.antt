@@ -1,7 +1,7 @@
 -- What a trial counts as it goes on.
 use Rattle.std.specs.Prelude.{◌≡◌, ◌++◌, ℕ, Bool, false, true, List, length, Some}
 use Rattle.kex_top.specs.Answer.{Said}
-use Rattle.kex_top.specs.History.{History, bytes_of, text_of}
+use Rattle.kex_top.specs.History.{History, bytes_passed, text_of}
 use Rattle.kex_top.specs.Trials.{capped, rolled}
 use Rattle.kex_top.specs.declared.tally.Tally.{Tally}
 
@@ -17,7 +17,7 @@ module _ (says : List ℕ → Bool → Said → Type 0) where
     pub said : Said
     pub is_said : says w e said
     pub stands_for : stands (Some (record { bytes = w; ended = e; said = said }))
-    pub tallied : IsTally old (bytes_of h) (text_of h) → IsTally new w said.text
+    pub tallied : IsTally old (bytes_passed h) (text_of h) → IsTally new w said.text
 
 -- stages that were fed these bytes, which are counted
 module _ (says : List ℕ → Bool → Said → Type 0) (stands : History → Type 0) where

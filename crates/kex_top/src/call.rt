@@ -10,7 +10,7 @@ ghost use Rattle.kex_words.specs.declared.asked.Mode.TheVariants as of_mode;
 ghost use Rattle.kex_words.specs.Gains.{Gains, change_of};
 ghost use Rattle.kex_words.specs.Lines.{line_of};
 ghost use Rattle.kex_top.specs.Status.{note_of};
-ghost use Rattle.kex_top.specs.Kex.{WhereCheck, WhereStream, WhereTrial, Answers, AnswersNothing, Checks, Headline, IsGood, IsNoTest, IsSound, ShelfAnswers, shelf_change_of};
+ghost use Rattle.kex_top.specs.Kex.{WhereCheck, WhereStream, WhereTrial, CallAnswers, AnswersNothing, Checks, Headline, IsGood, IsNoTest, IsSound, ShelfAnswers, shelf_change_of};
 ghost use Rattle.kex_top.specs.Trials.{KeepsRules, Tries};
 ghost use Rattle.kex_top.specs.Outside.{Closes, ReadsBlocks};
 ghost use Rattle.kex_top.specs.declared.status.Status.TheVariants.{Done, Memory};
@@ -45,7 +45,7 @@ fn answer_stream<R: Threads + Sync, G: Gate + Sync, H: Shelf, S: Source, K: Sink
     ensures texts { H.texts shelf.new ≡ H.texts shelf.old }
     ensures shelf { ShelfAnswers (told_of (H.texts shelf.old) program.now)
         (shelf_change_of H.faults H.breaks shelf.old shelf.new) result }
-    ensures answers { Answers (mode_of mode) limits.max_input (last_given limits.block (S.reads input.new)) (told_of (H.texts shelf.old) program.now)
+    ensures answers { CallAnswers (mode_of mode) limits.max_input (last_given limits.block (S.reads input.new)) (told_of (H.texts shelf.old) program.now)
         (change_of S.rest S.faults input.old input.new)
         (change_of K.held K.faults output.old output.new) result }
     ensures blocks { ReadsBlocks limits.block (S.reads input.old) (S.reads input.new) result }
@@ -83,7 +83,7 @@ fn answer<R: Threads + Sync, G: Gate + Sync, H: Shelf, S: Source, K: Sink>(
     ensures shelf { WhereStream (map string_bytes words.now) (λ mode name reach. ShelfAnswers (told_of (H.texts shelf.old) name)
         (shelf_change_of H.faults H.breaks shelf.old shelf.new) result) }
     ensures answers { WhereStream (map string_bytes words.now) (λ mode name reach.
-        Answers mode reach.max_input (last_given reach.block (S.reads input.new)) (told_of (H.texts shelf.old) name)
+        CallAnswers mode reach.max_input (last_given reach.block (S.reads input.new)) (told_of (H.texts shelf.old) name)
         (change_of S.rest S.faults input.old input.new)
         (change_of K.held K.faults output.old output.new) result) }
     ensures check_shelf { WhereCheck (map string_bytes words.now) (λ name states. ShelfAnswers (told_of (H.texts shelf.old) name)
@@ -140,7 +140,7 @@ pub fn kex<R: Threads + Sync, H: Shelf, S: Source, K: Sink, N: Sink, G: Gate + S
     ensures shelf { WhereStream (map string_bytes words.now) (λ mode name reach. ShelfAnswers (told_of (H.texts shelf.old) name)
         (shelf_change_of H.faults H.breaks shelf.old shelf.new) result) }
     ensures answers { WhereStream (map string_bytes words.now) (λ mode name reach.
-        Answers mode reach.max_input (last_given reach.block (S.reads input.new)) (told_of (H.texts shelf.old) name)
+        CallAnswers mode reach.max_input (last_given reach.block (S.reads input.new)) (told_of (H.texts shelf.old) name)
         (change_of S.rest S.faults input.old input.new)
         (change_of K.held K.faults output.old output.new) result) }
     ensures complete { WhereStream (map string_bytes words.now) (λ mode name reach. IsGood mode reach.max_input (told_of (H.texts shelf.old) name)

@@ -3,7 +3,7 @@ ghost use Rattle.std.specs.Prelude.{◌≡◌, length};
 ghost use Rattle.kex_ports.specs.Shelf.{told_of};
 ghost use Rattle.kex_words.specs.Gains.{Change, change_of};
 ghost use Rattle.kex_words.specs.Lines.{counts_line};
-ghost use Rattle.kex_top.specs.Kex.{Checks, ShelfAnswers, Told, shelf_change_of};
+ghost use Rattle.kex_top.specs.Kex.{Checks, ShelfAnswers, TellsLine, shelf_change_of};
 ghost use Rattle.kex_top.specs.Outside.{Closes};
 ghost use Rattle.kex_top.specs.Run.{IsLeft};
 
@@ -19,7 +19,7 @@ use std::alloc::Global;
 
 // Writes how many stages, places and states there are, and closes the output.
 fn tell_counts<K: Sink>(compiled: &Compiled, output: &mut K) -> Status
-    ensures told { Told (counts_line (record { stages = length compiled.now.stages; places = compiled.now.places; states = compiled.now.states }))
+    ensures told { TellsLine (counts_line (record { stages = length compiled.now.stages; places = compiled.now.places; states = compiled.now.states }))
         (change_of K.held K.faults output.old output.new) result }
     ensures closes { Closes (K.ending output.old) (K.ending output.new) result }
 {

@@ -4,7 +4,7 @@ ghost use Rattle.std.proofs.Common.{ap};
 ghost use Rattle.kex_machine.proofs.Standing.{past_limit};
 ghost use Rattle.kex_model.specs.Answers.{Answer};
 ghost use Rattle.kex_top.specs.Fronts.{IsFront};
-ghost use Rattle.kex_top.specs.History.{Fed, History, bytes_of, is_ended, IsFateOf, Feeds};
+ghost use Rattle.kex_top.specs.History.{Fed, History, bytes_passed, is_ended, IsFateOf, Feeds};
 ghost use Rattle.kex_top.specs.Piped.{PipeSays, PipeStands, plans_of};
 
 use crate::any_pipe::{AnyPipe, give_front, work_off};
@@ -65,7 +65,7 @@ pub(crate) fn feed<R: Threads + Sync, T: Limited + Drop + Send, G: Gate + Sync>(
     ensures same { OnOk result (plans_of T.Turn pipe.new ≡ plans_of T.Turn pipe.old) }
     ensures front { IfOk result (λ front. IsFront pace piece.now front.count) }
     ensures feeds { IfOk result (λ front. (h : History) → PipeStands T.Turn pipe.old h → is_ended h ≡ false
-        → Feeds (PipeSays T.Turn (plans_of T.Turn pipe.old)) (PipeStands T.Turn pipe.new) h (bytes_of h ++ take front.count piece.now) false out.new.items front.fate) }
+        → Feeds (PipeSays T.Turn (plans_of T.Turn pipe.old)) (PipeStands T.Turn pipe.new) h (bytes_passed h ++ take front.count piece.now) false out.new.items front.fate) }
 {
     let count = give_front(rt, pipe, gate, pace, piece)?;
     work_off(rt, pipe, gate)?;
@@ -86,7 +86,7 @@ pub(crate) fn end<R: Threads + Sync, T: Limited + Drop + Send, G: Gate + Sync>(
     requires { (h : History) × PipeStands T.Turn pipe.old h × (is_ended h ≡ false) }
     ensures same { OnOk result (plans_of T.Turn pipe.new ≡ plans_of T.Turn pipe.old) }
     ensures feeds { IfOk result (λ fate. (h : History) → PipeStands T.Turn pipe.old h → is_ended h ≡ false
-        → Feeds (PipeSays T.Turn (plans_of T.Turn pipe.old)) (PipeStands T.Turn pipe.new) h (bytes_of h) true out.new.items fate) }
+        → Feeds (PipeSays T.Turn (plans_of T.Turn pipe.old)) (PipeStands T.Turn pipe.new) h (bytes_passed h) true out.new.items fate) }
 {
     let Ok(()) = pipe.give_end() else {
         return Err(Memory);

@@ -1,11 +1,11 @@
 // The trial: a program of its own on lines of its own.
 ghost use Rattle.std.specs.Prelude.{◌≡◌, ◌≤◌, ◌<◌, ◌+◌, ◌^◌, ◌++◌, [], List, ℕ, None, true, false, IfOk, OnOk, drop, length};
 ghost use Rattle.kex_words.specs.Gains.{change_of};
-ghost use Rattle.kex_top.specs.History.{History, bytes_of, is_ended};
+ghost use Rattle.kex_top.specs.History.{History, bytes_passed, is_ended};
 ghost use Rattle.kex_top.specs.Outside.{Closes};
 ghost use Rattle.kex_words.specs.Form.{most_input};
 ghost use Rattle.kex_words.specs.Lines.{trial_line};
-ghost use Rattle.kex_top.specs.Kex.{Told};
+ghost use Rattle.kex_top.specs.Kex.{TellsLine};
 ghost use Rattle.kex_top.specs.Piped.{PipeSays, PipeStands, plans_of};
 ghost use Rattle.kex_top.specs.Pipelines.{NodesSay, stage_plans};
 ghost use Rattle.kex_top.specs.Tallies.{Counts, HasWaiting, SumsUp};
@@ -47,7 +47,7 @@ fn give<R: Threads + Sync, T: Limited + Drop + Send, G: Gate + Sync>(
     requires { (h : History) × PipeStands T.Turn pipe.old h × (is_ended h ≡ false) }
     ensures same { OnOk result (plans_of T.Turn pipe.new ≡ plans_of T.Turn pipe.old) }
     ensures counts { IfOk result (λ more. (h : History) → PipeStands T.Turn pipe.old h → is_ended h ≡ false
-        → Counts (PipeSays T.Turn (plans_of T.Turn pipe.old)) (PipeStands T.Turn pipe.new) h (bytes_of h ++ piece.now) false tally more) }
+        → Counts (PipeSays T.Turn (plans_of T.Turn pipe.old)) (PipeStands T.Turn pipe.new) h (bytes_passed h ++ piece.now) false tally more) }
 {
     let _ = feed(rt, gate, pipe, Pace::Blocks, piece, out)?;
     Ok(tally.add(piece.len(), out))
@@ -64,7 +64,7 @@ fn give_end<R: Threads + Sync, T: Limited + Drop + Send, G: Gate + Sync>(
     requires { (h : History) × PipeStands T.Turn pipe.old h × (is_ended h ≡ false) }
     ensures same { OnOk result (plans_of T.Turn pipe.new ≡ plans_of T.Turn pipe.old) }
     ensures counts { IfOk result (λ more. (h : History) → PipeStands T.Turn pipe.old h → is_ended h ≡ false
-        → Counts (PipeSays T.Turn (plans_of T.Turn pipe.old)) (PipeStands T.Turn pipe.new) h (bytes_of h) true tally more) }
+        → Counts (PipeSays T.Turn (plans_of T.Turn pipe.old)) (PipeStands T.Turn pipe.new) h (bytes_passed h) true tally more) }
 {
     let _ = end(rt, gate, pipe, out)?;
     Ok(tally.add(0, out))
@@ -157,7 +157,7 @@ fn sum_up<R: Threads + Sync, G: Gate + Sync>(
 
 // Writes the line, and finishes the output.
 fn tell_summary<K: Sink>(summary: Summary, output: &mut K) -> Status
-    ensures told { Told (trial_line summary) (change_of K.held K.faults output.old output.new) result }
+    ensures told { TellsLine (trial_line summary) (change_of K.held K.faults output.old output.new) result }
     ensures closes { Closes (K.ending output.old) (K.ending output.new) result }
 {
     let Ok(()) = write_summary(output, summary) else {

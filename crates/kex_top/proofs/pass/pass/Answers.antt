@@ -2,7 +2,7 @@ use Rattle.std.proofs.Common.{rules, ◌++◌, ◌∙◌, ℕ, List, false, refl
 use Rattle.std.specs.Prelude.{Some}
 use Rattle.kex_ports.proofs.Endings.{same-finishes}
 use Rattle.kex_ports.proofs.Known.{appends-same, front-same}
-use Rattle.kex_top.specs.History.{Feeds, History, IsSaid, bytes_of}
+use Rattle.kex_top.specs.History.{Feeds, History, IsSaid, bytes_passed}
 use Rattle.kex_top.specs.Piped.{PipeSays, PipeStands, plans_of}
 use Rattle.kex_top.specs.PipelineLaws.{says_grows}
 use Rattle.kex_top.proofs.Passing.{Passing, all-passed, failed, front-passed, said-open, wanted, what-is-left}
@@ -27,7 +27,7 @@ returns-in_default-clause-trouble g c = λ h s is_open.
     let plans = plans_of t c.args.pipe.now in
     let rest : List ℕ = c.fronts.rest.now in
     let n : ℕ = c.in-Ok.front.count in
-    let x = subst (λ q. Feeds (PipeSays t q) (PipeStands t c.feed.new.pipe) p.now (bytes_of p.now ++ take n rest) false c.feed.new.out.items c.in-Ok.front.fate) i.same (c.in-Ok.ensures.feeds p.now p.stands_for p.is_open) in
+    let x = subst (λ q. Feeds (PipeSays t q) (PipeStands t c.feed.new.pipe) p.now (bytes_passed p.now ++ take n rest) false c.feed.new.out.items c.in-Ok.front.fate) i.same (c.in-Ok.ensures.feeds p.now p.stands_for p.is_open) in
     failed (PipeSays t plans) (PipeStands t c.fronts.pipe) h _ rest _ _ p (PipeStands t c.feed.new.pipe) n c.feed.new.out.items c.in-Ok.front.fate x _ c.args.pace c.in-Ok.ensures.front c.requires.says
     (says_grows t.gives laws.one laws.grows laws.stays laws.ends plans)
     (front-same _ _ _ _ c.deref.ensures.value c.in_default.ensures.failed)
@@ -39,7 +39,7 @@ returns-then-front-rest-clause-writes g c = λ h s is_open.
     let p = i.passing h s is_open in
     let rest : List ℕ = c.fronts.rest.now in
     let n : ℕ = c.in-Ok.front.count in
-    let x = subst (λ q. Feeds (PipeSays t q) (PipeStands t c.feed.new.pipe) p.now (bytes_of p.now ++ take n rest) false c.feed.new.out.items c.in-Ok.front.fate) i.same (c.in-Ok.ensures.feeds p.now p.stands_for p.is_open) in
+    let x = subst (λ q. Feeds (PipeSays t q) (PipeStands t c.feed.new.pipe) p.now (bytes_passed p.now ++ take n rest) false c.feed.new.out.items c.in-Ok.front.fate) i.same (c.in-Ok.ensures.feeds p.now p.stands_for p.is_open) in
     all-passed (PipeSays t (plans_of t c.args.pipe.now)) (PipeStands t c.fronts.pipe) h _ rest _ _ p (PipeStands t c.feed.new.pipe) n c.feed.new.out.items c.in-Ok.front.fate x _ (search rules) (appends-same _ _ _ _ c.deref.ensures.value c.in-Ok-write_all.ensures.written)
 
 pub fronts-preserved : goal.fronts-preserved
@@ -52,11 +52,11 @@ fronts-preserved g c =
     let was = c.in-Ok.ensures.feeds i.stands.0 i.stands.1 i.stands.2 in
     record {
       same = c.in-Ok.ensures.same ∙ i.same;
-      stands = (Some (record { bytes = bytes_of i.stands.0 ++ take n rest; ended = false; said = was.said }), was.stands_for, refl);
+      stands = (Some (record { bytes = bytes_passed i.stands.0 ++ take n rest; ended = false; said = was.said }), was.stands_for, refl);
       passing = λ h s is_open.
           let p = i.passing h s is_open in
-          let x = subst (λ q. Feeds (PipeSays t q) stands p.now (bytes_of p.now ++ take n rest) false c.feed.new.out.items c.in-Ok.front.fate) i.same (c.in-Ok.ensures.feeds p.now p.stands_for p.is_open) in
-          subst (λ z. Passing stands h (bytes_of h ++ c.args.block.now) z (g.K.Sink.held c.args.output.now) (g.K.Sink.held c.write_all.new.sink)) (sym (what-is-left rest n c.in-Ok.ensures.front.within))
+          let x = subst (λ q. Feeds (PipeSays t q) stands p.now (bytes_passed p.now ++ take n rest) false c.feed.new.out.items c.in-Ok.front.fate) i.same (c.in-Ok.ensures.feeds p.now p.stands_for p.is_open) in
+          subst (λ z. Passing stands h (bytes_passed h ++ c.args.block.now) z (g.K.Sink.held c.args.output.now) (g.K.Sink.held c.write_all.new.sink)) (sym (what-is-left rest n c.in-Ok.ensures.front.within))
           (front-passed (PipeSays t (plans_of t c.args.pipe.now)) (PipeStands t c.fronts.pipe) h _ rest _ _ p stands n c.feed.new.out.items c.in-Ok.front.fate x _ (appends-same _ _ _ _ c.deref.ensures.value c.in-Ok-write_all.ensures.written));
       written = search rules;
       unfinished = search rules;

@@ -1,6 +1,6 @@
 use Rattle.std.proofs.Common.{[]}
 use Rattle.kex_ports.proofs.Known.{append-nil, appends-nothing}
-use Rattle.kex_top.specs.History.{bytes_of, text_of}
+use Rattle.kex_top.specs.History.{bytes_passed, text_of}
 use Rattle.kex_top.proofs.Passing.{said-open}
 use Rattle.kex_top.proofs.pass.pass_end.Goals as goal
 
@@ -8,7 +8,7 @@ pub returns-in-Err-clause-trouble : goal.returns-in-Err-clause-trouble
 returns-in-Err-clause-trouble g c = λ h s is_open. record {
   now = h;
   rest = [];
-  cut = append-nil (bytes_of h);
+  cut = append-nil (bytes_passed h);
   is_said = said-open g.T.Turn c.args.pipe.now h s is_open;
   added = [];
   whole = append-nil (text_of h);

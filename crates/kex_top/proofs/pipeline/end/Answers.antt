@@ -1,6 +1,6 @@
 use Rattle.std.proofs.Common.{◌∷◌, [], ◌++◌, true, refl, ◌∙◌}
 use Rattle.kex_model.specs.Schedules.{give_end}
-use Rattle.kex_top.specs.History.{bytes_of, text_of}
+use Rattle.kex_top.specs.History.{bytes_passed, text_of}
 use Rattle.kex_top.specs.Piped.{plans_of}
 use Rattle.kex_top.proofs.Working.{not-in-round, standing, still-open, same-plans, said-all, bytes-same, end-now}
 use Rattle.kex_top.proofs.pipeline.end.Goals as goal
@@ -26,5 +26,5 @@ returns-clause-feeds g c = λ h s e.
     let given = x.events ++ give_end ∷ [] in
     let w = c.in_ok-work_off.ensures.works ps given (text_of h) (c.in-Ok.ensures.stands ps x.events (text_of h) x.stands) in
     said-all g.T.Turn ps c.work_off.new.pipe c.take_output.new.self given (text_of h) c.take_output.result.items c.report.result
-    h (bytes_of h) true c.fate_of.result x.some refl (bytes-same x.events ∙ x.bytes) (end-now x.events)
+    h (bytes_passed h) true c.fate_of.result x.some refl (bytes-same x.events ∙ x.bytes) (end-now x.events)
     w (λ k st. c.take_output.ensures.stands ps k (text_of h) st) c.take_output.ensures.none_left (λ k text st done. c.report.ensures.settled ps k text st done) c.fate_of.ensures

@@ -1,6 +1,6 @@
 use Rattle.std.proofs.Common.{◌∷◌, [], ◌++◌, ℕ, List, false, refl, sym, ap, ◌∙◌, take}
 use Rattle.kex_model.specs.Schedules.{give}
-use Rattle.kex_top.specs.History.{bytes_of, text_of}
+use Rattle.kex_top.specs.History.{bytes_passed, text_of}
 use Rattle.kex_top.specs.Piped.{Stands, plans_of}
 use Rattle.kex_top.proofs.Working.{not-in-round, standing, still-open, same-plans, said-all, bytes-more, end-open}
 use Rattle.kex_top.proofs.Rounding.{off-of}
@@ -30,5 +30,5 @@ returns-clause-feeds g c = λ h s e.
     let given = c.in_ok-count.ensures.given ps x.events (text_of h) x.stands in
     let w = off-of g.T.Turn.gives ps (λ k. Stands g.T.Turn ps c.work_off.new.pipe k (text_of h)) events given.events (given.bytes ∙ sym (bytes-more x.events piece)) (given.same_end ∙ sym (end-open x.events piece)) (c.in_ok-work_off.ensures.works ps given.events (text_of h) given.stands_for) in
     said-all g.T.Turn ps c.work_off.new.pipe c.take_output.new.self events (text_of h) c.take_output.result.items c.report.result
-    h (bytes_of h ++ piece) false c.fate_of.result x.some refl (bytes-more x.events piece ∙ ap (λ (z : List ℕ). z ++ piece) x.bytes) (end-open x.events piece ∙ x.end ∙ e)
+    h (bytes_passed h ++ piece) false c.fate_of.result x.some refl (bytes-more x.events piece ∙ ap (λ (z : List ℕ). z ++ piece) x.bytes) (end-open x.events piece ∙ x.end ∙ e)
     w (λ k st. c.take_output.ensures.stands ps k (text_of h) st) c.take_output.ensures.none_left (λ k text st done. c.report.ensures.settled ps k text st done) c.fate_of.ensures

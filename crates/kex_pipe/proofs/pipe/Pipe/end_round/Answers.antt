@@ -14,8 +14,8 @@ use Rattle.kex_pipe.proofs.Lines.{queue-line}
 use Rattle.kex_pipe.proofs.Schedule.{standing, standing-and, has-written, came-given}
 use Rattle.kex_pipe.proofs.Begins.{stands-begins}
 use Rattle.kex_pipe.proofs.Stops.{each-length}
-use Rattle.kex_pipe.proofs.Carrying.{AllUsable}
-use Rattle.kex_pipe.proofs.Rounding.{jobs, seats_now, all_true, all-worked, those-all, round-after, round-line, settles-more}
+use Rattle.kex_pipe.proofs.Transfers.{AllUsable}
+use Rattle.kex_pipe.proofs.RoundTurns.{jobs, seats_now, all_true, all-worked, those-all, round-after, round-line, settles-more}
 use Rattle.kex_pipe.proofs.pipe.Pipe.end_round.Goals as goal
 use Rattle.kex_pipe.proofs.pipe.Pipe.end_round.Goals.{then-self-via-then-self, then-self-via-else-self+then-not-all_usable}
 

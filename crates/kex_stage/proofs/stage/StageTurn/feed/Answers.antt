@@ -2,12 +2,12 @@ use Rattle.std.proofs.Common.{rules, ◌≡◌, ◌-◌, ◌++◌, min, nat_lt, 
 use Rattle.std.specs.Prelude.{IsTrue}
 use Rattle.std.proofs.lemmas.Bool.{ltb-true, ltb-false}
 use Rattle.kex_machine.specs.Nodes.{Graph}
-use Rattle.kex_pipe.specs.Histories.{Feeds, bytes_of}
+use Rattle.kex_pipe.specs.Histories.{Feeds, bytes_fed}
 use Rattle.kex_pipe.specs.declared.turn.Fate.{Fate}
 use Rattle.kex_pipe.specs.declared.turn.Fate.TheVariants.{Stopped}
 use Rattle.kex_pipe.specs.declared.turn.Stop.{Stop}
 use Rattle.kex_stage.specs.Oracles.{read_of}
-use Rattle.kex_stage.specs.Stages.{StagePlan, Gives, StandsFor, fate_of, stop_after}
+use Rattle.kex_stage.specs.Stages.{StagePlan, Gives, IsStageOf, fate_of, stop_after}
 use Rattle.kex_stage.proofs.Feeding.{open_of, feed_more, stopped_on}
 use Rattle.kex_stage.proofs.stage.StageTurn.feed.Goals as goal
 
@@ -27,7 +27,7 @@ returns-clause-feeds c = λ h stands e.
     (λ t. ltb-false c.in_ok-count.count (length c.front_of-front.result.now) t)
     (λ t. ltb-true (length c.front_of-front.result.now) (length c.args.piece.now) t)
     (λ t. ltb-false (length c.front_of-front.result.now) (length c.args.piece.now) t) in
-    let F : Option Stop → Bool → Fate → Graph → Type 0 = λ stop over fate m. Feeds (λ w x b. Gives p w x b) (λ k. StandsFor (record { machine = m; limit = s.limit }) c.go_on.new.self c.go_on.new.actor stop over k × IsTrue true) h (bytes_of h ++ c.args.piece.now) false c.args.out.now.items c.go_on.new.out.items fate in
+    let F : Option Stop → Bool → Fate → Graph → Type 0 = λ stop over fate m. Feeds (λ w x b. Gives p w x b) (λ k. IsStageOf (record { machine = m; limit = s.limit }) c.go_on.new.self c.go_on.new.actor stop over k × IsTrue true) h (bytes_fed h ++ c.args.piece.now) false c.args.out.now.items c.go_on.new.out.items fate in
     let stopped = subst (λ z. F z false (fate_of z) s.actor.machine) (sym stop) more in
     let machine = subst (λ m. F c.stop_after-stop.result false (fate_of c.stop_after-stop.result) m) (sym c.in_ok-count.ensures.machine) stopped in
     let fate = subst (λ z. F c.stop_after-stop.result false z c.go_on.new.actor.machine) (sym c.fate_of-2.ensures) machine in
@@ -38,7 +38,7 @@ returns-in-Some-clause-feeds c = λ h stands e.
     let s = c.args.self.now in
     let p : StagePlan = record { machine = s.actor.machine; limit = s.limit } in
     let on : s.over ≡ false = search rules in
-    let S : Option Stop → Type 0 = λ stop. StandsFor p s.oracle s.actor stop s.over h in
-    let more = stopped_on p s.oracle s.actor c.in-Some.field-0 s.over h (bytes_of h ++ c.args.piece.now) false c.args.out.now.items (subst S c.in-Some.is stands.0) e (c.args.piece.now, refl) in
-    let F : Option Stop → Bool → Bool → Type 0 = λ stop over usable. Feeds (λ w x b. Gives p w x b) (λ k. StandsFor p s.oracle s.actor stop over k × IsTrue usable) h (bytes_of h ++ c.args.piece.now) false c.args.out.now.items c.args.out.now.items Stopped in
+    let S : Option Stop → Type 0 = λ stop. IsStageOf p s.oracle s.actor stop s.over h in
+    let more = stopped_on p s.oracle s.actor c.in-Some.field-0 s.over h (bytes_fed h ++ c.args.piece.now) false c.args.out.now.items (subst S c.in-Some.is stands.0) e (c.args.piece.now, refl) in
+    let F : Option Stop → Bool → Bool → Type 0 = λ stop over usable. Feeds (λ w x b. Gives p w x b) (λ k. IsStageOf p s.oracle s.actor stop over k × IsTrue usable) h (bytes_fed h ++ c.args.piece.now) false c.args.out.now.items c.args.out.now.items Stopped in
     subst (λ u. F s.stop s.over u) (sym stands.1) (subst (λ o. F s.stop o true) (sym on) (subst (λ stop. F stop false true) (sym c.in-Some.is) more))
