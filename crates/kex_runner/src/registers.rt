@@ -78,6 +78,19 @@ fn pieces_in(base: &[Settled]) -> usize {
     count
 }
 
+// A note is put behind others. There is room mostly: what makes room is apart.
+#[inline(always)]
+fn push(notes: &mut Vec<Note>, note: Note) -> Result<(), Memory>
+    ensures ok { OnOk result (notes.new.items ≡ notes.old.items ++ note ∷ []) }
+    ensures err { OnErr result (notes.new.items ≡ notes.old.items) }
+{
+    if notes.len() == notes.capacity() {
+        notes.try_reserve(1)?;
+    }
+    notes.push_reserved(note);
+    Ok(())
+}
+
 // Only the last note is kept, and no register before it.
 fn cut(last: Note, base: &mut Vec<Settled>, notes: &mut Vec<Note>)
     requires { 0 < length notes.old.items }
@@ -210,7 +223,7 @@ impl Registers {
             lists: entry.lists,
             byte,
         };
-        self.notes.push(note)?;
+        push(&mut self.notes, note)?;
         self.count = entry.registers as usize;
         if entry.fresh {
             cut(note, &mut self.base, &mut self.notes);

@@ -145,5 +145,12 @@ pub fn read_by_ways(
     reading.back.clear();
     say(first.word, byte, &mut reading.back)?;
     let place = walk(script, ways, notes, first, &mut reading.back)?;
-    read_way(script, base, notes, place.after, ways.way(place.way), reading)
+    read_way(
+        script,
+        base,
+        notes,
+        place.after,
+        ways.way(place.way),
+        reading,
+    )
 }

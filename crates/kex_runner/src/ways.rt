@@ -322,7 +322,11 @@ impl Ways {
     {
         match self.known_step(way, last, lists) {
             Some(split) => Ok(Some(split)),
-            None => self.learn_step(script, way, last, lists),
+            None => {
+                // Not handed on as it is: what is known stays in registers then.
+                let learnt = self.learn_step(script, way, last, lists)?;
+                Ok(learnt)
+            }
         }
     }
 }

@@ -14,12 +14,12 @@ returns-then-entry-clause-registers c =
     ap₂ (λ x y. registers_after (settled_of s x) (updates_of s y)) c.cut.ensures.base c.cut.ensures.notes
     ∙ registers_fresh (change_at s c.args.entry.lists).regs c.args.byte [] (held s c.args.self.now) (c.requires.entry.fresh c.if-entry.true)
 
-noted : (c : In_ok-push) → registers_after (settled_of c.args.script.now c.make_room.new.self.base.items) (updates_of c.args.script.now c.push.new.self.items) ≡ next_registers (change_at c.args.script.now c.args.entry.lists) c.args.byte (held c.args.script.now c.args.self.now)
+noted : (c : In_ok-push) → registers_after (settled_of c.args.script.now c.make_room.new.self.base.items) (updates_of c.args.script.now c.push.new.notes.items) ≡ next_registers (change_at c.args.script.now c.args.entry.lists) c.args.byte (held c.args.script.now c.args.self.now)
 noted c =
     let s = c.args.script.now in
     let r = c.make_room.new.self in
     let note : Note = record { lists = c.args.entry.lists; byte = c.args.byte } in
-    ap (λ z. registers_after (settled_of s r.base.items) z) (ap (λ z. updates_of s z) c.in_ok-push.ensures.items ∙ map_push (λ n. update_of s n) r.notes.items note)
+    ap (λ z. registers_after (settled_of s r.base.items) z) (ap (λ z. updates_of s z) c.in_ok-push.ensures.ok ∙ map_push (λ n. update_of s n) r.notes.items note)
     ∙ registers_push (settled_of s r.base.items) (updates_of s r.notes.items) (update_of s note)
     ∙ ap (λ z. next_registers (change_at s c.args.entry.lists) c.args.byte z) c.make_room.ensures.same
 
