@@ -19,6 +19,9 @@ const MOST: usize = 16_384;
 // So many lists are known at once.
 const STARTS: usize = 1024;
 
+// Where the rows of updates are longer than this, no ways are known: what is kept of each would be fetched from far.
+const NEAR: usize = 32_768;
+
 /// A list is a way, and then a word: one less than this number, or none for 0. `last` is the way's last register.
 #[derive(Clone, Copy, Debug, PartialEq, Eq)]
 pub struct Split {
@@ -198,10 +201,11 @@ impl Ways {
             lists: 0,
             split: none,
         };
+        let rows = script.rows();
         Ok(Ways {
             lists,
             starts: vec![in alloc; start; STARTS]?,
-            steps: vec![in alloc; step; script.rows()]?,
+            steps: vec![in alloc; step; if rows > NEAR { 0 } else { rows }]?,
             parts: Vec::new(alloc),
         })
     }
@@ -251,7 +255,7 @@ impl Ways {
         ensures known { OnOk result (AreKnown script.now self.new) }
         ensures split { IfOk result (λ o. IfSome o (λ x. IsSplit script.now.words self.new.lists x (list_at script.now list))) }
     {
-        if list == 0 {
+        if list == 0 || self.steps.is_empty() {
             return Ok(None);
         }
         match self.known_start(list) {
