@@ -7,8 +7,6 @@
 ghost use Rattle.std.specs.Prelude.{◌≡◌, ◌<◌, IfOk, IfErr};
 ghost use Rattle.kex_compile.specs.Compiled.{IsCompiled, IsRefused};
 
-#[cfg(test)]
-mod answers;
 pub mod compiled;
 mod firsts;
 pub mod laws;

@@ -206,35 +206,3 @@ fn edges_of_words_are_learnt_and_followed(rt: HostRuntime) -> Result<(), Fail> {
     assert!(rt; &buffer[..spot.used] == b"<x><z>".as_slice());
     Ok(())
 }
-
-#[test]
-fn what_is_dropped_at_once_is_never_written(rt: HostRuntime) -> Result<(), Fail> {
-    let alloc = rt.alloc();
-    let machine = machine(alloc)?;
-    let mut words = Vec::new(alloc);
-    let to_dropped = [
-        Part::Put(L),
-        Part::Put(L),
-        Part::Input,
-        Part::Put(L),
-        Part::Put(R),
-        Part::Put(L),
-    ];
-    words.push(word(alloc, &to_dropped)?)?;
-    words.push(word(alloc, &[Part::Input])?)?;
-    let mut phrases = Phrases::new(alloc, &words, &machine)?;
-    let mut actor = Actor::new(alloc, &machine)?;
-    let all = pieces(alloc, &[(0, b'x'), (1, b'y')])?;
-    let mut out = Vec::new(alloc);
-    phrases.say(&mut actor, &all, &mut out)?;
-    phrases.say(&mut actor, &all, &mut out)?;
-    phrases.say(&mut actor, &all, &mut out)?;
-    phrases.say(&mut actor, &all, &mut out)?;
-    assert!(rt; out.as_slice() == b"(<x><x><x><x>".as_slice());
-    let row = phrases.edges.find(0, actor.node()).expect(&rt, "a row");
-    let mut buffer = [0; 100];
-    let spot = phrases.edges.follow(row, &all, &mut buffer, 0);
-    assert_eq!(rt; spot.at, 2);
-    assert!(rt; &buffer[..spot.used] == b"<x>".as_slice());
-    Ok(())
-}
