@@ -4,7 +4,7 @@ ghost use Rattle.std.specs.Prelude.{◌≡◌, ◌≤◌, ◌&&◌, ◌++◌, �
 
 use kex_code::memory::Memory;
 use std::alloc::Global;
-use std::mem::{replace, swap};
+use std::mem::swap;
 
 /// Items that wait: bytes, and the end behind them where it has come.
 ///
@@ -114,14 +114,15 @@ impl Inbox {
         self.start = 0;
     }
 
-    /// The bytes, which are moved out. The end stays.
-    pub fn take_bytes(&mut self, alloc: Global) -> Vec<u8>
-        ensures bytes { result.items ≡ unread self.old }
+    /// The bytes come in the place of what `out` held, whose room is kept for more. The end stays.
+    pub fn take_bytes_into(&mut self, out: &mut Vec<u8>)
+        ensures bytes { out.new.items ≡ unread self.old }
         ensures none_left { unread self.new ≡ [] }
         ensures same_end { self.new.ended ≡ self.old.ended }
     {
         self.compact();
-        replace(&mut self.bytes, Vec::new(alloc))
+        out.clear();
+        swap(&mut self.bytes, out);
     }
 
     /// Adds bytes. After an error nothing was added.

@@ -170,6 +170,20 @@ impl<T: Turn + Drop> RingPipe<T> {
         report
     }
 
+    /// Takes the output that is in hand, in the place of what `out` held. The room of that is kept for the output to come.
+    pub fn take_output_into(&mut self, out: &mut Vec<u8>)
+        ensures all { out.new.items ≡ in_hand T.Turn self.old }
+        ensures none_left { in_hand T.Turn self.new ≡ [] }
+        ensures stands { (ps : List T.Plan) (h : List Event) (taken : List ℕ) → Stands T.Turn ps self.old h taken → Stands T.Turn ps self.new h (taken ++ out.new.items) }
+        ensures begins { (ps : List T.Plan) (h : List Event) (taken : List ℕ) → BeginsAnswer T.Turn ps self.old h taken → BeginsAnswer T.Turn ps self.new h (taken ++ out.new.items) }
+        ensures written { (ps : List T.Plan) (h : List Event) (taken : List ℕ) → HasWritten T.Turn ps self.old h taken → HasWritten T.Turn ps self.new h (taken ++ out.new.items) }
+        ensures spent { is_spent T.Turn self.new ≡ is_spent T.Turn self.old }
+        ensures ended { is_ended T.Turn self.new ≡ is_ended T.Turn self.old }
+        ensures count { stage_count T.Turn self.new ≡ stage_count T.Turn self.old }
+    {
+        self.output.take_bytes_into(out);
+    }
+
     /// Takes the output that is in hand.
     pub fn take_output(&mut self) -> Vec<u8>
         ensures all { result.items ≡ in_hand T.Turn self.old }
@@ -181,7 +195,9 @@ impl<T: Turn + Drop> RingPipe<T> {
         ensures ended { is_ended T.Turn self.new ≡ is_ended T.Turn self.old }
         ensures count { stage_count T.Turn self.new ≡ stage_count T.Turn self.old }
     {
-        self.output.take_bytes(self.alloc)
+        let mut out = Vec::new(self.alloc);
+        self.take_output_into(&mut out);
+        out
     }
 
     /// Works off all that waits, on this thread: stage after stage, each takes what lies in the ring before it, and then what was

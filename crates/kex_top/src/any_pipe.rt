@@ -61,15 +61,15 @@ impl<T: Turn + Drop> AnyPipe<T> {
         }
     }
 
-    /// Takes the output that is in hand.
-    pub(crate) fn take_output(&mut self) -> Vec<u8>
+    /// Takes the output that is in hand, in the place of what `out` held.
+    pub(crate) fn take_output_into(&mut self, out: &mut Vec<u8>)
         requires closed { is_in_round T.Turn self.old ≡ false }
         ensures none_left { in_hand T.Turn self.new ≡ [] }
-        ensures stands { (ps : List T.Plan) (h : List Event) (taken : List ℕ) → Stands T.Turn ps self.old h taken → Stands T.Turn ps self.new h (taken ++ result.items) }
+        ensures stands { (ps : List T.Plan) (h : List Event) (taken : List ℕ) → Stands T.Turn ps self.old h taken → Stands T.Turn ps self.new h (taken ++ out.new.items) }
     {
         match self {
-            AnyPipe::Rounds(pipe) => pipe.take_output(),
-            AnyPipe::Rings { pipe, .. } => pipe.take_output(),
+            AnyPipe::Rounds(pipe) => pipe.take_output_into(out),
+            AnyPipe::Rings { pipe, .. } => pipe.take_output_into(out),
         }
     }
 

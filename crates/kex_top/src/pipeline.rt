@@ -69,7 +69,7 @@ pub(crate) fn feed<R: Threads + Sync, T: Limited + Drop + Send, G: Gate + Sync>(
 {
     let count = give_front(rt, pipe, gate, pace, piece)?;
     work_off(rt, pipe, gate)?;
-    *out = pipe.take_output();
+    pipe.take_output_into(out);
     Ok(Front {
         count,
         fate: fate_of(pipe.report()),
@@ -92,7 +92,7 @@ pub(crate) fn end<R: Threads + Sync, T: Limited + Drop + Send, G: Gate + Sync>(
         return Err(Memory);
     };
     work_off(rt, pipe, gate)?;
-    *out = pipe.take_output();
+    pipe.take_output_into(out);
     Ok(fate_of(pipe.report()))
 }
 

@@ -17,7 +17,7 @@ returns-clause-same g c =
     let x = standing g.T.Turn c.args.pipe.now c.requires.0 c.requires.1 in
     let ps = plans_of g.T.Turn c.args.pipe.now in
     let w = c.in_ok-work_off.ensures.works ps (x.events ++ give_end ∷ []) text (c.in-Ok.ensures.stands ps x.events text x.stands) in
-    same-plans g.T.Turn ps c.take_output.new.self w.events (text ++ c.take_output.result.items) (c.take_output.ensures.stands ps w.events text w.stands_for)
+    same-plans g.T.Turn ps c.take_output_into.new.self w.events (text ++ c.take_output_into.new.out.items) (c.take_output_into.ensures.stands ps w.events text w.stands_for)
 
 pub returns-clause-feeds : goal.returns-clause-feeds
 returns-clause-feeds g c = λ h s e.
@@ -25,6 +25,6 @@ returns-clause-feeds g c = λ h s e.
     let ps = plans_of g.T.Turn c.args.pipe.now in
     let given = x.events ++ give_end ∷ [] in
     let w = c.in_ok-work_off.ensures.works ps given (text_of h) (c.in-Ok.ensures.stands ps x.events (text_of h) x.stands) in
-    said-all g.T.Turn ps c.work_off.new.pipe c.take_output.new.self given (text_of h) c.take_output.result.items c.report.result
+    said-all g.T.Turn ps c.work_off.new.pipe c.take_output_into.new.self given (text_of h) c.take_output_into.new.out.items c.report.result
     h (bytes_passed h) true c.fate_of.result x.some refl (bytes-same x.events ∙ x.bytes) (end-now x.events)
-    w (λ k st. c.take_output.ensures.stands ps k (text_of h) st) c.take_output.ensures.none_left (λ k text st done. c.report.ensures.settled ps k text st done) c.fate_of.ensures
+    w (λ k st. c.take_output_into.ensures.stands ps k (text_of h) st) c.take_output_into.ensures.none_left (λ k text st done. c.report.ensures.settled ps k text st done) c.fate_of.ensures

@@ -19,7 +19,7 @@ returns-clause-same g c =
     let ps = plans_of g.T.Turn c.args.pipe.now in
     let given = c.in_ok-count.ensures.given ps x.events text x.stands in
     let w = c.in_ok-work_off.ensures.works ps given.events text given.stands_for in
-    same-plans g.T.Turn ps c.take_output.new.self w.events (text ++ c.take_output.result.items) (c.take_output.ensures.stands ps w.events text w.stands_for)
+    same-plans g.T.Turn ps c.take_output_into.new.self w.events (text ++ c.take_output_into.new.out.items) (c.take_output_into.ensures.stands ps w.events text w.stands_for)
 
 pub returns-clause-feeds : goal.returns-clause-feeds
 returns-clause-feeds g c = λ h s e.
@@ -29,6 +29,6 @@ returns-clause-feeds g c = λ h s e.
     let events = x.events ++ give piece ∷ [] in
     let given = c.in_ok-count.ensures.given ps x.events (text_of h) x.stands in
     let w = off-of g.T.Turn.gives ps (λ k. Stands g.T.Turn ps c.work_off.new.pipe k (text_of h)) events given.events (given.bytes ∙ sym (bytes-more x.events piece)) (given.same_end ∙ sym (end-open x.events piece)) (c.in_ok-work_off.ensures.works ps given.events (text_of h) given.stands_for) in
-    said-all g.T.Turn ps c.work_off.new.pipe c.take_output.new.self events (text_of h) c.take_output.result.items c.report.result
+    said-all g.T.Turn ps c.work_off.new.pipe c.take_output_into.new.self events (text_of h) c.take_output_into.new.out.items c.report.result
     h (bytes_passed h ++ piece) false c.fate_of.result x.some refl (bytes-more x.events piece ∙ ap (λ (z : List ℕ). z ++ piece) x.bytes) (end-open x.events piece ∙ x.end ∙ e)
-    w (λ k st. c.take_output.ensures.stands ps k (text_of h) st) c.take_output.ensures.none_left (λ k text st done. c.report.ensures.settled ps k text st done) c.fate_of.ensures
+    w (λ k st. c.take_output_into.ensures.stands ps k (text_of h) st) c.take_output_into.ensures.none_left (λ k text st done. c.report.ensures.settled ps k text st done) c.fate_of.ensures
