@@ -5,4 +5,5 @@ pub mod Looping
 pub mod Leading
 pub mod Performing
 pub mod Faulting
+pub mod Copying
 pub mod Sheeting

@@ -85,7 +85,7 @@ fn act_at(
     ensures sheet { OnOk result (IsSheet sheet.new × IsAsLong sheet.old sheet.new) }
 {
     match action {
-        Action::Byte => Ok(sheet.write(&[byte])),
+        Action::Byte => Ok(sheet.write_byte(byte)),
         Action::Node(n) => match effect_at(machine, n) {
             Some(effect) => store.perform_on(effect, sheet),
             None => Ok(false),
@@ -94,6 +94,7 @@ fn act_at(
 }
 
 // Does on a sheet what actions say, one after another, where this byte is read. Tells how many were done.
+#[inline(always)]
 pub fn act_on(
     machine: &Trimmed,
     actions: &[Action],

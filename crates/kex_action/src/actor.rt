@@ -128,6 +128,7 @@ impl<'m> Actor<'m> {
     }
 
     /// Does on a sheet what the actions say, where this byte is read. Tells how many were done: the rest can't be done there.
+    #[inline(always)]
     pub fn act_on(
         &mut self,
         actions: &[Action],

@@ -8,6 +8,7 @@ pub mod action;
 pub mod actor;
 mod buffer;
 pub mod fault;
+mod piece;
 pub mod sheet;
 mod store;
 mod walk;

@@ -3,6 +3,8 @@
 ghost use Rattle.std.specs.Prelude.{◌≡◌, ◌++◌, [], ◌∷◌, IfOk, OnOk, IfSome, IfNone, IsTrue, false, length};
 ghost use Rattle.kex_action.specs.Sheets.{IsSheet, IsAsLong, IsBlank, IsSame, Writes, Closes};
 
+use crate::buffer::Buffer;
+use crate::piece::{PIECE, copy_piece};
 use kex_code::memory::Memory;
 use std::alloc::Global;
 
@@ -13,6 +15,18 @@ pub struct Sheet {
     pub bytes: Vec<u8>,
     pub used: usize,
     pub marks: Vec<usize>,
+}
+
+// A mark is put behind others. There is room mostly: what makes room is apart.
+#[inline(always)]
+fn push(marks: &mut Vec<usize>, mark: usize) -> Result<(), Memory>
+    ensures ok { OnOk result (marks.new.items ≡ marks.old.items ++ mark ∷ []) }
+{
+    if marks.len() == marks.capacity() {
+        marks.try_reserve(1)?;
+    }
+    marks.push_reserved(mark);
+    Ok(())
 }
 
 impl Sheet {
@@ -30,9 +44,27 @@ impl Sheet {
         })
     }
 
-    // Writes bytes, if there is room for them.
+    // Writes a byte, if there is room for it.
     #[inline(always)]
-    pub(crate) fn write(&mut self, bytes: &[u8]) -> bool
+    pub(crate) fn write_byte(&mut self, byte: u8) -> bool
+        requires { IsSheet self.old }
+        ensures written { IsTrue result → Writes self.old self.new (byte ∷ []) }
+        ensures stays { result ≡ false → IsSame self.old self.new }
+        ensures sheet { IsSheet self.new }
+        ensures room { IsAsLong self.old self.new }
+    {
+        let used = self.used;
+        if used == self.bytes.len() {
+            return false;
+        }
+        self.bytes[used] = byte;
+        self.used = used + 1;
+        true
+    }
+
+    // Writes bytes, if there is room for them.
+    #[inline(never)]
+    fn write_many(&mut self, bytes: &[u8]) -> bool
         requires { IsSheet self.old }
         ensures written { IsTrue result → Writes self.old self.new bytes.now }
         ensures stays { result ≡ false → IsSame self.old self.new }
@@ -48,6 +80,41 @@ impl Sheet {
         true
     }
 
+    // The same. One byte is written without a call.
+    #[inline(always)]
+    pub(crate) fn write(&mut self, bytes: &[u8]) -> bool
+        requires { IsSheet self.old }
+        ensures written { IsTrue result → Writes self.old self.new bytes.now }
+        ensures stays { result ≡ false → IsSame self.old self.new }
+        ensures sheet { IsSheet self.new }
+        ensures room { IsAsLong self.old self.new }
+    {
+        if bytes.len() == 1 {
+            return self.write_byte(bytes[0]);
+        }
+        self.write_many(bytes)
+    }
+
+    // Writes what a buffer has, if there is room for it. A few bytes are copied as a whole piece where there is one.
+    #[inline(always)]
+    pub(crate) fn write_buffer(&mut self, buffer: &Buffer) -> bool
+        requires { IsSheet self.old }
+        ensures written { IsTrue result → Writes self.old self.new buffer.now }
+        ensures stays { result ≡ false → IsSame self.old self.new }
+        ensures sheet { IsSheet self.new }
+        ensures room { IsAsLong self.old self.new }
+    {
+        let used = self.used;
+        let count = buffer.len();
+        let bytes = buffer.room();
+        if count <= PIECE && bytes.len() >= PIECE && self.bytes.len() - used >= PIECE {
+            copy_piece(bytes, 0, &mut self.bytes, used);
+            self.used = used + count;
+            return true;
+        }
+        self.write_many(buffer.as_slice())
+    }
+
     // Opens a buffer.
     #[inline(always)]
     pub(crate) fn open(&mut self) -> Result<(), Memory>
@@ -56,8 +123,7 @@ impl Sheet {
         ensures sheet { OnOk result (IsSheet self.new) }
         ensures same { (self.new.bytes.items ≡ self.old.bytes.items) × (self.new.used ≡ self.old.used) }
     {
-        self.marks.push(self.used)?;
-        Ok(())
+        push(&mut self.marks, self.used)
     }
 
     // Where the innermost buffer was opened here, if one was. It is closed then, and what it had doesn't count any more.

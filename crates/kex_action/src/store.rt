@@ -227,7 +227,7 @@ impl Store {
         let Some(end) = sheet.close() else {
             return Ok(false);
         };
-        self.registers[r as usize].replace(&sheet.bytes[sheet.used..end])?;
+        self.registers[r as usize].replace(&sheet.bytes, sheet.used, end)?;
         Ok(true)
     }
 
@@ -248,7 +248,7 @@ impl Store {
             }
             Effect::Drop => Ok(sheet.close().is_some()),
             Effect::Into(r) => self.take_from(*r, sheet),
-            Effect::Write(r) => Ok(sheet.write(self.registers[*r as usize].as_slice())),
+            Effect::Write(r) => Ok(sheet.write_buffer(&self.registers[*r as usize])),
             Effect::Set(r, pieces) => {
                 self.set(*r, pieces.as_slice())?;
                 Ok(true)

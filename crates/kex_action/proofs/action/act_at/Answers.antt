@@ -7,7 +7,7 @@ use Rattle.kex_model.specs.Acting.{done_by}
 use Rattle.kex_action.proofs.action.act_at.Goals as goal
 
 pub returns-in-Byte-clause-did : goal.returns-in-Byte-clause-did
-returns-in-Byte-clause-did c = λ t out. let z = state_with c.args.sheet.now out c.args.store.now in wrote c.args.sheet.now c.write.new.self (c.args.byte ∷ []) out c.args.store.now c.requires.sheet (c.write.ensures.written t) ∙ sym (ap (λ a. done_at c.args.machine.now.nodes c.args.byte a z) c.in-Byte.is)
+returns-in-Byte-clause-did c = λ t out. let z = state_with c.args.sheet.now out c.args.store.now in wrote c.args.sheet.now c.write_byte.new.self (c.args.byte ∷ []) out c.args.store.now c.requires.sheet (c.write_byte.ensures.written t) ∙ sym (ap (λ a. done_at c.args.machine.now.nodes c.args.byte a z) c.in-Byte.is)
 
 pub returns-in-Some-clause-did : goal.returns-in-Some-clause-did
 returns-in-Some-clause-did c =

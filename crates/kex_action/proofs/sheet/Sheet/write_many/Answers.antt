@@ -1,7 +1,7 @@
 use Rattle.std.proofs.Common.{◌+◌, length, reverse, arith}
 use Rattle.std.proofs.lemmas.Grind.{common_steps}
 use Rattle.kex_action.proofs.Sheeting.{marks_more}
-use Rattle.kex_action.proofs.sheet.Sheet.write.Goals as goal
+use Rattle.kex_action.proofs.sheet.Sheet.write_many.Goals as goal
 
 pub returns-clause-sheet : goal.returns-clause-sheet
 returns-clause-sheet c = record {

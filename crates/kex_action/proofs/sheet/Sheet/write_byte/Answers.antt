@@ -1,0 +1,10 @@
+use Rattle.std.proofs.Common.{◌+◌, reverse, arith}
+use Rattle.std.proofs.lemmas.Grind.{common_steps}
+use Rattle.kex_action.proofs.Sheeting.{marks_more}
+use Rattle.kex_action.proofs.sheet.Sheet.write_byte.Goals as goal
+
+pub returns-clause-sheet : goal.returns-clause-sheet
+returns-clause-sheet c = record {
+  used = grind (arith, common_steps);
+  marks = marks_more c.args.self.now.used (c.args.self.now.used + 1) (reverse c.args.self.now.marks.items) (omega arith) c.requires.marks;
+}
