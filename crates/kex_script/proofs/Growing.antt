@@ -1,8 +1,8 @@
 -- Pages that grow: what stands stays.
-use Rattle.std.proofs.Common.{◌≡◌, ℕ, zero, suc, ◌+◌, ◌<◌, List, [], ◌∷◌, ◌++◌, ◌⊎◌, inl, inr, ⊎_elim, Option, Some, None, length, get_or, take, refl, sym, ap, subst, ◌∙◌, append_assoc, arith}
+use Rattle.std.proofs.Common.{◌≡◌, ℕ, zero, suc, ◌+◌, ◌<◌, ◌≤◌, List, [], ◌∷◌, ◌++◌, ◌⊎◌, inl, inr, ⊎_elim, Option, Some, None, length, get_or, take, drop, refl, sym, ap, subst, ◌∙◌, append_assoc, arith}
 use Rattle.std.specs.Prelude.{slice_get}
 use Rattle.std.proofs.lemmas.Option.{slice_get_within, slice_get-get_or}
-use Rattle.std.proofs.lemmas.List.{get_or_append_left, get_or_push, length_push, take_more}
+use Rattle.std.proofs.lemmas.List.{get_or_append_left, get_or_push, length_push, take_more, take-append-drop}
 use Rattle.kex_sst.specs.declared.parts.Part.{Part}
 use Rattle.kex_sst.specs.declared.table.Transition.{Transition}
 use Rattle.kex_sst.specs.Parts.{Change}
@@ -18,6 +18,25 @@ pub keeps_more : {A : Type 0} (xs ys : List A) → Keeps xs (xs ++ ys)
 keeps_more [] ys k x e = let bad : ⊥ = cc in absurd bad
 keeps_more (a ∷ xs) ys zero x e = e
 keeps_more (a ∷ xs) ys (suc k) x e = keeps_more xs ys k x e
+
+-- the front of a list stands in it
+pub keeps_front : {A : Type 0} (n : ℕ) (xs : List A) → Keeps (take n xs) xs
+keeps_front n xs = subst (λ z. Keeps (take n xs) z) (take-append-drop n xs) (keeps_more (take n xs) (drop n xs))
+
+slice_get-take : {A : Type 0} (n : ℕ) (xs : List A) (k : ℕ) → k < n → slice_get (take n xs) k ≡ slice_get xs k
+slice_get-take zero xs k lt = absurd (omega arith)
+slice_get-take (suc n) [] k lt = refl
+slice_get-take (suc n) (x ∷ xs) zero lt = refl
+slice_get-take (suc n) (x ∷ xs) (suc k) lt = slice_get-take n xs k (omega arith)
+
+slice_get-drop : {A : Type 0} (n : ℕ) (xs : List A) (k : ℕ) → slice_get (drop n xs) k ≡ slice_get xs (n + k)
+slice_get-drop zero xs k = let e : k ≡ 0 + k = omega arith in ap (λ z. slice_get xs z) e
+slice_get-drop (suc n) [] k = refl
+slice_get-drop (suc n) (x ∷ xs) k = let e : suc (n + k) ≡ suc n + k = omega arith in slice_get-drop n xs k ∙ ap (λ z. slice_get (x ∷ xs) z) e
+
+-- what stands in the first list stands in as much of the second
+pub kept_in_front : {A : Type 0} (n : ℕ) (xs ys : List A) → length xs ≤ n → Keeps xs ys → Keeps xs (take n ys)
+kept_in_front n xs ys le h k x e = let within = slice_get_within xs k x e in slice_get-take n ys k (omega (arith, le, within)) ∙ h k x e
 
 pub last_there : {A : Type 0} (xs : List A) (a : A) → slice_get (xs ++ a ∷ []) (length xs) ≡ Some a
 last_there [] a = refl
@@ -137,3 +156,24 @@ the_row o p q r at count u here pushed many g h out more regs =
       out = list_kept q r (at + 1) u.out h (subst (λ z. IsListAt q z u.out) long out);
       regs = subst (λ z. AreListsAt r z (length u.regs) u.regs) longer regs;
     }
+
+-- an update whose row stands elsewhere, too
+module _ (p q : Pages) (at there : ℕ) (same : p.lists ≡ q.lists) (moved : Keeps (drop at p.rows) (drop there q.rows)) where
+  number_moved : (j n : ℕ) → slice_get p.rows (at + j) ≡ Some n → slice_get q.rows (there + j) ≡ Some n
+  number_moved j n e = sym (slice_get-drop there q.rows j) ∙ moved j n (slice_get-drop at p.rows j ∙ e)
+
+  list_moved : (j : ℕ) (parts : List Part) → IsListAt p (at + j) parts → IsListAt q (there + j) parts
+  list_moved j parts h = record { number = h.number; row = number_moved j h.number h.row; list = subst (λ z. slice_get z h.number ≡ Some parts) same h.list }
+
+  pub row_moved : (u : Change) → IsRow p at u → IsRow q there u
+  row_moved u h =
+      let here : at ≡ at + 0 = omega arith in
+      let elsewhere : there + 0 ≡ there = omega arith in
+      record {
+        count = subst (λ z. slice_get q.rows z ≡ Some (length u.regs)) elsewhere (number_moved 0 (length u.regs) (subst (λ z. slice_get p.rows z ≡ Some (length u.regs)) here h.count));
+        out = list_moved 1 u.out h.out;
+        regs = λ i lt.
+            let from : at + 2 + i ≡ at + (2 + i) = omega arith in
+            let to : there + (2 + i) ≡ there + 2 + i = omega arith in
+            subst (λ z. IsListAt q z (get_or u.regs i [])) to (list_moved (2 + i) (get_or u.regs i []) (subst (λ z. IsListAt p z (get_or u.regs i [])) from (h.regs i lt)));
+      }

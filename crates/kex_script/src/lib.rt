@@ -7,5 +7,6 @@
 
 pub mod interned;
 pub mod piece;
+mod rows;
 pub mod script;
 mod writer;

@@ -8,6 +8,7 @@ ghost use Rattle.kex_script.specs.Scripts.{IsWord};
 ghost use Rattle.kex_script.specs.Pages.{AreEntries, AreListsAt, AreSound, Grows, HasRow, HasRowIf, IsJoined, IsListAt, IsRow, IsSegment, Keeps};
 
 use crate::interned::Interned;
+use crate::rows::Rows;
 use crate::script::{Entry, Tail};
 use kex_code::memory::Memory;
 use kex_sst::parts::{Part, Parts, Update};
@@ -21,7 +22,7 @@ pub struct Writer {
     words: Interned,
     lists: Interned,
     tails: Vec<Tail>,
-    rows: Vec<u32>,
+    rows: Rows,
 }
 
 impl Model for Writer {
@@ -29,7 +30,7 @@ impl Model for Writer {
 
     ghost Value = { Pages };
 
-    ghost view = { λ w. record { words = w.words; lists = w.lists; tails = w.tails.items; rows = w.rows.items } };
+    ghost view = { λ w. record { words = w.words; lists = w.lists; tails = w.tails.items; rows = w.rows } };
 }
 
 // Whether a part is an old register.
@@ -143,7 +144,7 @@ impl Writer {
             words: Interned::new(alloc),
             lists,
             tails,
-            rows: Vec::new(alloc),
+            rows: Rows::new(alloc),
         })
     }
 
@@ -220,7 +221,7 @@ impl Writer {
         Ok(())
     }
 
-    // An update is put behind the rows, and its place told.
+    // An update is put behind the rows, if no equal one is there, and its place told.
     fn update(&mut self, update: &Update) -> Result<u32, Memory>
         requires sound { AreSound self.old }
         ensures row { IfOk result (λ at. IsRow self.new at update.now) }
@@ -236,7 +237,7 @@ impl Writer {
         self.rows.push(count)?;
         self.put(update.out().as_slice())?;
         self.put_all(update.regs())?;
-        Ok(at)
+        self.rows.share(at)
     }
 
     /// The entry of a transition.
@@ -311,7 +312,7 @@ impl Writer {
             self.words.into_lists(),
             self.lists.into_lists(),
             self.tails,
-            self.rows,
+            self.rows.into_numbers(),
         )
     }
 }

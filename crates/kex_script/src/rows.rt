@@ -1,0 +1,112 @@
+// Rows of numbers, one behind the other.
+
+ghost use Rattle.std.specs.Prelude.{◌≡◌, ◌≤◌, ◌∷◌, ◌++◌, [], true, IfOk, IfSome, OnOk, length, take, drop};
+ghost use Rattle.kex_script.specs.Pages.{Keeps};
+
+use indexmap::IndexMap;
+use kex_code::memory::Memory;
+use std::alloc::Global;
+use std::marker::Model;
+
+/// Rows of numbers, one behind the other, each known by its place. Equal ones are found by a sum of their numbers; where two rows have
+/// one sum, the first isn't found again.
+#[derive(Drop)]
+pub struct Rows {
+    numbers: Vec<u32>,
+    places: IndexMap<u64, u32>,
+}
+
+impl Model for Rows {
+    ghost use Rattle.std.specs.Prelude.{List, ℕ};
+
+    ghost Value = { List ℕ };
+
+    ghost view = { λ r. r.numbers.items };
+}
+
+// A sum of numbers in their order.
+fn sum_of(row: &[u32]) -> u64 {
+    let mut sum: u64 = 0xcbf2_9ce4_8422_2325;
+    for number in row {
+        sum = (sum ^ u64::from(*number)).wrapping_mul(0x0000_0100_0000_01b3);
+    }
+    sum
+}
+
+// Whether a row stands at the front of numbers.
+fn begins_with(numbers: &[u32], row: &[u32]) -> bool
+    ensures { result ≡ true → Keeps row.now numbers.now }
+{
+    if numbers.len() < row.len() {
+        return false;
+    }
+    &numbers[..row.len()] == row
+}
+
+impl Rows {
+    /// No rows.
+    pub fn new(alloc: Global) -> Rows
+        ensures { result ≡ [] }
+    {
+        Rows {
+            numbers: Vec::new(alloc),
+            places: IndexMap::new(alloc),
+        }
+    }
+
+    /// How many numbers there are.
+    pub fn len(&self) -> usize
+        ensures { result ≡ length self.now }
+    {
+        self.numbers.len()
+    }
+
+    /// A number is put behind the others.
+    pub fn push(&mut self, number: u32) -> Result<(), Memory>
+        ensures { OnOk result (self.new ≡ self.old ++ number ∷ []) }
+    {
+        self.numbers.push(number)?;
+        Ok(())
+    }
+
+    // Where the row that begins at a place stands before it, if that is found.
+    fn find(&self, at: usize) -> Option<u32>
+        requires { at ≤ length self.now }
+        ensures { IfSome result (λ place. Keeps (drop at self.now) (drop place (take at self.now))) }
+    {
+        let row = &self.numbers[at..];
+        let place = *self.places.get(&sum_of(row))?;
+        let before = self.numbers[..at].get(place as usize..)?;
+        if begins_with(before, row) {
+            Some(place)
+        } else {
+            None
+        }
+    }
+
+    /// The row that begins at a place goes, where an equal one stands before it. Tells where it stands.
+    pub fn share(&mut self, at: u32) -> Result<u32, Memory>
+        requires { at ≤ length self.old }
+        ensures row { IfOk result (λ place. Keeps (drop at self.old) (drop place self.new)) }
+        ensures before { OnOk result (Keeps (take at self.old) self.new) }
+    {
+        match self.find(at as usize) {
+            Some(place) => {
+                self.numbers.truncate(at as usize);
+                Ok(place)
+            }
+            None => {
+                self.places
+                    .insert(sum_of(&self.numbers[at as usize..]), at)?;
+                Ok(at)
+            }
+        }
+    }
+
+    /// The numbers, in their order.
+    pub fn into_numbers(self) -> Vec<u32>
+        ensures { result.items ≡ self }
+    {
+        self.numbers
+    }
+}
