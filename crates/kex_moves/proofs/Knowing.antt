@@ -20,8 +20,8 @@ use Rattle.kex_moves.specs.declared.edge.Edge.{Edge}
 use Rattle.kex_moves.specs.declared.edge.Kind.{Kind}
 use Rattle.kex_moves.specs.declared.edge.Kind.TheVariants.{Keep, Drop, Text, Acts, Opens, Plain, Unknown}
 use Rattle.kex_moves.specs.declared.edges.Pair.{Pair}
-use Rattle.kex_moves.specs.Edges.{writes, is_written, is_known, has_acts, HasRoom}
-use Rattle.kex_moves.specs.Runs.{HasRow, HasRoomBelow, IsWithin}
+use Rattle.kex_moves.specs.Edges.{writes, is_written, is_known, has_acts, HasRoom, IsAtRow}
+use Rattle.kex_moves.specs.Runs.{HasRow, LeadsBack, HasRoomBelow, IsWithin}
 use Rattle.kex_moves.specs.Trails.{LeadsBelow}
 use Rattle.kex_moves.specs.Walks.{code_at, Takes, Learns}
 use Rattle.kex_moves.specs.Known.{Known, rows_of, IsEdge, IsOrdered, IsRowOf, HasRowFor, IsRight, AreRight, IsPairOf, IsKnown, IsLed, Grows, Widens, Lengthens, Forgets, Settles, makes}
@@ -48,6 +48,9 @@ has_row k row o h = λ i d lt. omega (arith, o.classes i d lt)
 pub row_in : (k : Known) (row : ℕ) (p : Pair) → IsOrdered k → IsRowOf k row p → HasRow k.classes k.edges row
 row_in k row p o r = has_row k row o (row_fits k row p o r)
 
+pub back_in : (k : Known) (row : ℕ) (number : ℕ) → IsOrdered k → row ≡ number * k.width → LeadsBack k.classes k.edges row
+back_in k row number o begins = λ i d lt e at. subst (λ r. IsAtRow r e) (sym begins) (o.back number (get_or k.classes i d) e (o.classes i d lt) (ap (λ r. slice_get k.edges (r + get_or k.classes i d)) (sym begins) ∙ at))
+
 pub known_if : (k : Kind) → is_written k ≡ true → is_known k ≡ true
 known_if Keep h = refl
 known_if Drop h = refl
@@ -65,14 +68,20 @@ pub leads_below : (k : Known) → IsOrdered k → LeadsBelow k.width k.edges
 leads_below k o = λ i d lt written. (o.edges i d lt).next (known_if (get_or k.edges i d).kind written)
 
 pub rows_within : (k : Known) → IsOrdered k → IsWithin (rows_of k)
-rows_within k o = record { next = λ i d lt written. has_row k (get_or k.edges i d).next o (leads_below k o i d lt written); room = rooms_below k o }
+rows_within k o = record {
+  next = λ i d lt written.
+      let e = get_or k.edges i d in
+      let begins = (o.edges i d lt).begins (known_if e.kind written) in
+      (has_row k e.next o (leads_below k o i d lt written), back_in k e.next begins.0 o begins.1);
+  room = rooms_below k o;
+}
 
-front_of : {A : Type 0} (xs ys : List A) (i : ℕ) → i < length xs → slice_get (xs ++ ys) i ≡ slice_get xs i
+pub front_of : {A : Type 0} (xs ys : List A) (i : ℕ) → i < length xs → slice_get (xs ++ ys) i ≡ slice_get xs i
 front_of [] ys i h = absurd (omega arith)
 front_of (x ∷ xs) ys zero h = refl
 front_of (x ∷ xs) ys (suc i) h = front_of xs ys i (omega arith)
 
-behind_of : {A : Type 0} (P : A → Type 0) (xs ys : List A) (i : ℕ) (x : A) → length xs ≤ i → All P ys → slice_get (xs ++ ys) i ≡ Some x → P x
+pub behind_of : {A : Type 0} (P : A → Type 0) (xs ys : List A) (i : ℕ) (x : A) → length xs ≤ i → All P ys → slice_get (xs ++ ys) i ≡ Some x → P x
 behind_of P [] ys i x h all e = subst P (get_or_from_slice_get ys i x x e) (All-get_or P ys i x (slice_get_within ys i x e) all)
 behind_of P (z ∷ xs) ys zero x h all e = absurd (omega arith)
 behind_of P (z ∷ xs) ys (suc i) x h all e = behind_of P xs ys i x (omega arith) all e
@@ -83,7 +92,7 @@ at_of P xs i x all e = subst P (get_or_from_slice_get xs i x x e) (All-get_or P 
 some_front : {A : Type 0} (xs ys : List A) (i : ℕ) (x : A) → slice_get xs i ≡ Some x → slice_get (xs ++ ys) i ≡ Some x
 some_front xs ys i x e = front_of xs ys i (slice_get_within xs i x e) ∙ e
 
-parts_of : (i n : ℕ) → (i < n) ⊎ (n ≤ i)
+pub parts_of : (i n : ℕ) → (i < n) ⊎ (n ≤ i)
 parts_of zero zero = inr (omega arith)
 parts_of zero (suc n) = inl (omega arith)
 parts_of (suc i) zero = inr (omega arith)
@@ -198,14 +207,14 @@ pub led : (nodes : List MNode) (mid new : Known) (state node next : ℕ) (action
 led nodes mid new state node next actions e o r l s =
     let row = λ (known : is_known e.kind ≡ true). subst (λ x. IsRowOf new x r.0) (sym (s.goes known)) (subst (λ k. IsRowOf k next r.0) (sym l.longer) (rows_long mid l.text l.acts next r.0 r.1)) in
     record {
-      edge = record { next = λ known. row_fits new e.next r.0 o (row known); room = s.room; acts = s.acts };
+      edge = record { next = λ known. row_fits new e.next r.0 o (row known); begins = λ known. ((row known).number, (row known).begins); room = s.room; acts = s.acts };
       row = λ known. (r.0, row known, r.2, r.3);
       does = s.does;
       opens = s.opens;
     }
 
 -- an edge that is put
-slice_get-set : (xs : List Edge) (i j : ℕ) (x y : Edge) → slice_get (set xs i x) j ≡ Some y → (((i ≡ j) × (x ≡ y)) ⊎ (slice_get xs j ≡ Some y))
+pub slice_get-set : (xs : List Edge) (i j : ℕ) (x y : Edge) → slice_get (set xs i x) j ≡ Some y → (((i ≡ j) × (x ≡ y)) ⊎ (slice_get xs j ≡ Some y))
 slice_get-set [] i j x y e = inr e
 slice_get-set (z ∷ xs) zero zero x y e = inl (refl, cc)
 slice_get-set (z ∷ xs) zero (suc j) x y e = inr e
@@ -237,6 +246,36 @@ known_put t g k new row class p e h r lt right o is = subst (λ x. IsKnown t g x
         let both = same_from_place r.number class number class' k.width lt lt' (ap (λ x. x + class) (sym r.begins) ∙ place) in
         let pair : p ≡ p' = some_same p p' (slice_get k.pairs number) (sym (ap (slice_get k.pairs) both.0) ∙ r.at) at in
         subst (λ x. IsRight t g.nodes k p' class' x) same (subst (λ x. IsRight t g.nodes k p' x e) both.1 (subst (λ x. IsRight t g.nodes k x class e) pair (right (ap (λ (x : Edge). is_known x.kind) same ∙ known))))
+
+-- an edge that was right is right as it stands in a row
+makes_at_row : (nodes : List MNode) (k : Known) (e : Edge) (b : ℕ) (s : State) → is_written e.kind ≡ true → makes nodes k e b s ≡ adding (writes k.text e b) s
+makes_at_row nodes k e b s w = ap (λ x. cond x (adding (writes k.text e b) s) (done nodes b (take e.adds (drop e.from k.acts)) s)) w
+
+abbrev as_text : Edge → Edge
+as_text e = record { next = e.next; from = e.from; byte_at = e.byte_at; adds = e.adds; kind = Text }
+
+pub edge_at_row : (k : Known) (e x : Edge) → (x ≡ e) ⊎ ((is_written e.kind ≡ true) × (x ≡ as_text e)) → IsEdge k e → IsEdge k x
+edge_at_row k e x (inl h) is = subst (λ y. IsEdge k y) (sym h) is
+edge_at_row k e x (inr h) is =
+    let room = is.room h.0 in
+    let known = known_if e.kind h.0 in
+    subst (λ y. IsEdge k y) (sym h.1) (record { next = λ q. is.next known; begins = λ q. is.begins known; room = λ q. record { text = room.text; byte_at = room.byte_at; adds = room.adds; keeps = λ q. cc; drops = λ q. cc }; acts = λ q. cc })
+
+pub right_at_row : (t : Transducer) (nodes : List MNode) (k : Known) (p : Pair) (class : ℕ) (e x : Edge) → (x ≡ e) ⊎ ((is_written e.kind ≡ true) × (x ≡ as_text e)) → (is_known e.kind ≡ true → IsRight t nodes k p class e) → is_known x.kind ≡ true → IsRight t nodes k p class x
+right_at_row t nodes k p class e x (inl h) right known = subst (λ y. IsRight t nodes k p class y) (sym h) (right (ap (λ (y : Edge). is_known y.kind) (sym h) ∙ known))
+right_at_row t nodes k p class e x (inr h) right known =
+    let r = right (known_if e.kind h.0) in
+    subst (λ y. IsRight t nodes k p class y) (sym h.1) (record {
+      by = r.by;
+      goes = r.goes;
+      bare = r.bare;
+      to = r.to;
+      row = r.row;
+      target = r.target;
+      does = λ b c takes before. subst (λ z. Leads nodes p.node before (code_at b r.by.update.out) r.to.node z) (makes_at_row nodes k e b before h.0) (r.does b c takes before);
+      takes = r.takes;
+      opens = λ q. cc;
+    })
 
 pub grows_put : (old mid new : Known) (i : ℕ) (e : Edge) → Grows old mid → new ≡ with_edges mid (set mid.edges i e) → Grows old new
 grows_put old mid new i e g is = subst (λ k. Grows old k) (sym is) (record { width = g.width; rows = λ row p r. rows_put mid (set mid.edges i e) row p (g.rows row p r) })

@@ -1,5 +1,5 @@
 -- What pieces make an actor do, edge by edge and symbol by symbol.
-use Rattle.std.proofs.Common.{◌≡◌, ℕ, zero, suc, ◌<◌, ◌+◌, true, cond, IsTrue, List, [], ◌∷◌, ◌++◌, Option, Some, map, length, get_or, take, drop, reverse, refl, sym, ap, ap₂, subst, ◌∙◌, arith, append_assoc, append-nil}
+use Rattle.std.proofs.Common.{◌≡◌, ℕ, zero, suc, ◌<◌, ◌+◌, true, cond, IsTrue, List, [], ◌∷◌, ◌++◌, Some, map, length, get_or, take, drop, reverse, refl, sym, ap, ap₂, subst, ◌∙◌, arith, append_assoc, append-nil}
 use Rattle.std.specs.Prelude.{slice_get}
 use Rattle.std.proofs.lemmas.List.{length-take-le}
 use Rattle.kex_code.specs.declared.symbol.Symbol.{Symbol}
@@ -7,8 +7,8 @@ use Rattle.kex_model.specs.Acting.{State}
 use Rattle.kex_machine.specs.declared.MNode.{MNode}
 use Rattle.kex_machine.specs.Nodes.{Graph}
 use Rattle.kex_action.specs.declared.sheet.Sheet.{Sheet}
-use Rattle.kex_action.specs.Holdings.{Holding, Leads, Does, adding, state_of}
-use Rattle.kex_action.specs.Actors.{Position, HasPerformed, BeginsRun, WentOn, TookAll}
+use Rattle.kex_action.specs.Holdings.{Leads, Does, adding, state_of}
+use Rattle.kex_action.specs.Actors.{Position, BeginsRun, WentOn, TookAll}
 use Rattle.kex_action.specs.Actions.{done}
 use Rattle.kex_action.specs.Sheets.{laid, AreMarks, IsSheet, IsBlank, state_with}
 use Rattle.kex_action.proofs.Leading.{leads_on, stays}
@@ -28,7 +28,7 @@ use Rattle.kex_moves.specs.Runs.{Step}
 use Rattle.kex_moves.specs.Walks.{Takes, code_at}
 use Rattle.kex_moves.specs.Known.{Known, IsRowOf, IsRight, IsKnown, makes}
 use Rattle.kex_moves.specs.Along.{with_sheet, written_with}
-use Rattle.kex_moves.specs.Trails.{IsStep, IsTrail}
+use Rattle.kex_moves.specs.Trails.{IsTrail}
 use Rattle.kex_moves.specs.Speech.{says_word, table_of, Performs, SaidWith, SaidOn}
 use Rattle.kex_moves.proofs.Knowing.{known_if, pair_known}
 use Rattle.kex_moves.proofs.Settling.{adding_more, adding_none}

@@ -1,13 +1,15 @@
 -- Rows that are added.
-use Rattle.std.proofs.Common.{◌<◌, ◌≡◌, ℕ, zero, suc, ◌+◌, ◌≤◌, ◌*◌, ◌/◌, ◌^◌, List, [], ◌∷◌, ◌++◌, All, Some, length, get_or, refl, sym, ap, ap₂, subst, ◌∙◌, arith, length-append}
+use Rattle.std.proofs.Common.{◌<◌, ◌≡◌, ℕ, zero, suc, ◌+◌, ◌*◌, ◌/◌, ◌^◌, List, [], ◌∷◌, ◌++◌, All, Some, length, get_or, refl, sym, ap, ap₂, subst, ◌∙◌, arith, length-append, ⊎_elim}
 use Rattle.std.specs.Prelude.{slice_get}
 use Rattle.std.proofs.lemmas.List.{append-nil}
 use Rattle.std.proofs.lemmas.List.Elements.{All-append, All-nil}
 use Rattle.std.proofs.lemmas.Option.{slice_get_within, get_or_from_slice_get}
 use Rattle.std.proofs.lemmas.Nat.{div-mul-add, pow_pos}
 use Rattle.kex_moves.specs.declared.edge.Edge.{Edge}
-use Rattle.kex_moves.specs.declared.edge.Kind.TheVariants.{Unknown}
+use Rattle.kex_moves.specs.declared.edge.Kind.TheVariants.{Keep, Drop, Unknown}
 use Rattle.kex_moves.specs.declared.edges.Pair.{Pair}
+use Rattle.kex_moves.specs.Edges.{IsAtRow}
+use Rattle.kex_moves.proofs.Knowing.{front_of, behind_of, parts_of}
 use Rattle.kex_moves.specs.Known.{Known, IsEdge, IsOrdered, IsRowOf, Widens}
 
 pub widens_none : (k : Known) (state node : ℕ) → Widens k k state node
@@ -20,10 +22,10 @@ widens_none k state node = record {
 }
 
 edge_stands : (k k' : Known) (more : List Edge) (e : Edge) → k' ≡ record { classes = k.classes; width = k.width; shift = k.shift; pairs = k'.pairs; edges = k.edges ++ more; text = k.text; acts = k.acts } → IsEdge k e → IsEdge k' e
-edge_stands k k' more e f h = subst (λ x. IsEdge x e) (sym f) (record { next = λ known. omega (arith, h.next known, length-append k.edges more); room = h.room; acts = h.acts })
+edge_stands k k' more e f h = subst (λ x. IsEdge x e) (sym f) (record { next = λ known. omega (arith, h.next known, length-append k.edges more); begins = h.begins; room = h.room; acts = h.acts })
 
 silent : (k : Known) (e : Edge) → e.kind ≡ Unknown → IsEdge k e
-silent k e h = record { next = λ known. cc; room = λ written. cc; acts = λ acts. cc }
+silent k e h = record { next = λ known. cc; begins = λ known. cc; room = λ written. cc; acts = λ acts. cc }
 
 pub ordered_wider : (k : Known) (p : Pair) (more : List Edge) → IsOrdered k → length more ≡ k.width → All (λ (e : Edge). e.kind ≡ Unknown) more → IsOrdered (record { classes = k.classes; width = k.width; shift = k.shift; pairs = k.pairs ++ p ∷ []; edges = k.edges ++ more; text = k.text; acts = k.acts })
 ordered_wider k p more h e unknown =
@@ -36,8 +38,12 @@ ordered_wider k p more h e unknown =
       classes = h.classes;
       rows = length-append k.edges more ∙ ap₂ (λ (a b : ℕ). a + b) h.rows e ∙ one_more (length k.pairs) k.width ∙ ap (λ n. n * k.width) (sym (length-append k.pairs (p ∷ [])));
       edges = All-append (IsEdge wide) k.edges more (λ i d l. edge_stands k wide more (get_or k.edges i d) refl (h.edges i d l)) (λ i d l. silent wide (get_or more i d) (unknown i d l));
+      back = λ number class e lt at. ⊎_elim (λ l. h.back number class e lt (sym (front_of k.edges more (number * k.width + class) l) ∙ at)) (λ l. none (number * k.width) e (behind_of (λ (e : Edge). e.kind ≡ Unknown) k.edges more (number * k.width + class) e l unknown at)) (parts_of (number * k.width + class) (length k.edges));
     }
   where
+    none : (row : ℕ) (e : Edge) → e.kind ≡ Unknown → IsAtRow row e
+    none row e h = record { keeps = λ q. let no : Unknown ≡ Keep = sym h ∙ q in cc; drops = λ q. let no : Unknown ≡ Drop = sym h ∙ q in cc }
+
     one_more : (n w : ℕ) → n * w + w ≡ (n + 1) * w
     one_more n w = omega arith
 

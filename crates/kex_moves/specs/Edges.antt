@@ -44,3 +44,8 @@ pub record HasRoom (length : ℕ) (e : Edge) : Type 0 where
   pub adds : e.adds ≤ 16
   pub keeps : e.kind ≡ Keep → (e.byte_at ≡ 0) × (e.adds ≡ 1)
   pub drops : e.kind ≡ Drop → e.adds ≡ 0
+
+-- an edge of a row leads back to it where it keeps or drops
+pub record IsAtRow (row : ℕ) (e : Edge) : Type 0 where
+  pub keeps : e.kind ≡ Keep → e.next ≡ row
+  pub drops : e.kind ≡ Drop → e.next ≡ row

@@ -13,7 +13,7 @@ use Rattle.kex_sst.specs.Tables.{Transducer, transition_of}
 use Rattle.kex_moves.specs.declared.edge.Edge.{Edge}
 use Rattle.kex_moves.specs.declared.edge.Kind.TheVariants.{Opens, Unknown}
 use Rattle.kex_moves.specs.declared.edges.Pair.{Pair}
-use Rattle.kex_moves.specs.Edges.{writes, is_written, is_known, has_acts, HasRoom}
+use Rattle.kex_moves.specs.Edges.{writes, is_written, is_known, has_acts, HasRoom, IsAtRow}
 use Rattle.kex_moves.specs.Runs.{Rows}
 use Rattle.kex_moves.specs.Walks.{Takes, code_at}
 
@@ -34,8 +34,13 @@ rows_of k = record { classes = k.classes; edges = k.edges; text = k.text }
 -- the edge leads to a row, and its text or its actions lie within
 pub record IsEdge (k : Known) (e : Edge) : Type 0 where
   pub next : is_known e.kind ≡ true → e.next + k.width ≤ length k.edges
+  pub begins : is_known e.kind ≡ true → (number : ℕ) × (e.next ≡ number * k.width)
   pub room : is_written e.kind ≡ true → HasRoom (length k.text) e
   pub acts : has_acts e.kind ≡ true → e.from + e.adds ≤ length k.acts
+
+-- an edge that keeps or drops leads back to its row
+abbrev pub LeadBack : Known → Type 0
+LeadBack k = (number class : ℕ) (e : Edge) → class < k.width → slice_get k.edges (number * k.width + class) ≡ Some e → IsAtRow (number * k.width) e
 
 -- there is a row for each pair, with an edge for each class, and a text where nothing or the byte alone is written
 pub record IsOrdered (k : Known) : Type 0 where
@@ -46,6 +51,7 @@ pub record IsOrdered (k : Known) : Type 0 where
   pub classes : All (λ c. c < k.width) k.classes
   pub rows : length k.edges ≡ length k.pairs * k.width
   pub edges : All (IsEdge k) k.edges
+  pub back : LeadBack k
 
 -- the row is that of the pair
 pub record IsRowOf (k : Known) (row : ℕ) (p : Pair) : Type 0 where

@@ -1,7 +1,8 @@
 -- What the edges along a piece write, up to the first byte whose edge isn't written.
 use Rattle.std.specs.Prelude.{◌≡◌, ◌<◌, ◌+◌, ℕ, List, [], ◌∷◌, ◌++◌, Option, Some, None, All, true, drop, length, if◌then◌else◌, slice_get, slice_index}
 use Rattle.kex_moves.specs.declared.edge.Edge.{Edge}
-use Rattle.kex_moves.specs.Edges.{writes, is_written, HasRoom}
+use Rattle.kex_moves.specs.declared.edge.Kind.{Kind}
+use Rattle.kex_moves.specs.Edges.{writes, is_written, HasRoom, IsAtRow}
 
 -- a byte's class, the edges of each row by class, and the texts of the edges
 pub record Rows : Type 0 where
@@ -49,11 +50,23 @@ run_from t piece xs row i = behind xs (run_of t row (drop i piece))
 abbrev pub HasRow : List ℕ → List Edge → ℕ → Type 0
 HasRow classes edges row = All (λ c. row + c < length edges) classes
 
+-- those that keep or drop lead back to the row
+abbrev pub LeadsBack : List ℕ → List Edge → ℕ → Type 0
+LeadsBack classes edges row = All (λ c. (e : Edge) → slice_get edges (row + c) ≡ Some e → IsAtRow row e) classes
+
+-- among the edges of a row that of the byte is of the kind
+pub record HasKind (classes : List ℕ) (edges : List Edge) (k : Kind) (b : ℕ) : Type 0 where
+  pub class : ℕ
+  pub edge : Edge
+  pub of : slice_get classes b ≡ Some class
+  pub at : slice_get edges class ≡ Some edge
+  pub kind : edge.kind ≡ k
+
 -- what edges write lies within so many bytes of text
 abbrev pub HasRoomBelow : ℕ → List Edge → Type 0
 HasRoomBelow n edges = All (λ (e : Edge). is_written e.kind ≡ true → HasRoom n e) edges
 
 -- where edges lead there is a row, and what they write lies within the text
 pub record IsWithin (t : Rows) : Type 0 where
-  pub next : All (λ (e : Edge). is_written e.kind ≡ true → HasRow t.classes t.edges e.next) t.edges
+  pub next : All (λ (e : Edge). is_written e.kind ≡ true → HasRow t.classes t.edges e.next × LeadsBack t.classes t.edges e.next) t.edges
   pub room : HasRoomBelow (length t.text) t.edges

@@ -1,13 +1,14 @@
 // What is known of a pair of a state and a node at a class of bytes.
 
-/// What kind of edge it is.
+/// What kind of edge it is. In a row the first two are kinds of edges that lead back to it, so that the kind alone says that
+/// the row stays.
 #[derive(Clone, Copy, Debug, PartialEq, Eq)]
 pub enum Kind {
-    /// The byte alone is written.
+    /// The byte alone is written, and the row stays.
     Keep,
-    /// Nothing is written.
+    /// Nothing is written, and the row stays.
     Drop,
-    /// A text with the byte at a place in it.
+    /// A text with the byte at a place in it, perhaps the byte alone or nothing.
     Text,
     /// Actions, which are done outside of the loop.
     Acts,
@@ -62,8 +63,8 @@ impl Kind {
 }
 
 impl Edge {
-    ghost use Rattle.std.specs.Prelude.{◌≡◌, false};
-    ghost use Rattle.kex_moves.specs.Edges.{is_known};
+    ghost use Rattle.std.specs.Prelude.{◌≡◌, ◌⊎◌, true, false};
+    ghost use Rattle.kex_moves.specs.Edges.{is_written, is_known, IsAtRow};
 
     // An edge of a kind that says nothing.
     fn silent(kind: Kind) -> Edge
@@ -90,5 +91,19 @@ impl Edge {
         ensures { is_known result.kind ≡ false }
     {
         Edge::silent(Kind::Plain)
+    }
+
+    // The edge as it stands in a row: it keeps or drops only where it leads back to the row.
+    pub fn at_row(self, row: usize) -> Edge
+        ensures at { IsAtRow row result }
+        ensures same { (result ≡ self) ⊎ ((is_written self.kind ≡ true) × (result ≡ record self { kind = Kind.Text })) }
+    {
+        if self.next == row || !self.kind.is_written() {
+            return self;
+        }
+        Edge {
+            kind: Kind::Text,
+            ..self
+        }
     }
 }

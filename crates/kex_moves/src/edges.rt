@@ -6,7 +6,7 @@ ghost use Rattle.kex_action.specs.Holdings.{adding};
 ghost use Rattle.kex_model.specs.Acting.{State};
 ghost use Rattle.kex_action.specs.Actions.{done};
 ghost use Rattle.kex_action.specs.Sheets.{topped};
-ghost use Rattle.kex_moves.specs.Edges.{is_written, has_acts};
+ghost use Rattle.kex_moves.specs.Edges.{is_written, has_acts, IsAtRow};
 ghost use Rattle.kex_moves.specs.Runs.{behind, run_of};
 ghost use Rattle.kex_moves.specs.Trails.{IsTrail, IsOver};
 ghost use Rattle.kex_moves.specs.Known.{rows_of, IsEdge, IsOrdered, IsRowOf, HasRowFor, HasPlace, Settles, Widens, Lengthens, Forgets};
@@ -333,6 +333,7 @@ impl Edges {
         requires row { (p : Pair) × IsRowOf self.old row p }
         requires class { class < self.old.width }
         requires edge { IsEdge self.old edge }
+        requires at { IsAtRow row edge }
         ensures ordered { IsOrdered self.new }
         ensures put { self.new ≡ record self.old { edges = slice_set self.old.edges (row + class) edge } }
     {

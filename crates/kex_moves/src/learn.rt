@@ -87,7 +87,7 @@ pub fn learn_edge(
     let Some(edge) = edge_of(alloc, table, machine, edges, pair, class)? else {
         return Ok(false);
     };
-    edges.put(row, class, edge);
+    edges.put(row, class, edge.at_row(row));
     Ok(true)
 }
 
@@ -132,7 +132,7 @@ pub fn learn_word(
 {
     let pair = edges.pair_at(row);
     if let Some(edge) = word_edge(alloc, words, machine, edges, pair, word)? {
-        edges.put(row, word, edge);
+        edges.put(row, word, edge.at_row(row));
     }
     Ok(())
 }

@@ -1,8 +1,8 @@
 // The hot loop: functions over slices and numbers by value, so that all that changes is in locals.
 
 ghost use Rattle.std.specs.Prelude.{◌≡◌, ℕ, ◌+◌, ◌*◌, ◌-◌, ◌<◌, ◌≤◌, List, All, length, take, drop};
-ghost use Rattle.kex_moves.specs.Edges.{HasRoom};
-ghost use Rattle.kex_moves.specs.Runs.{HasRow, HasRoomBelow, IsWithin, run_from, run_of};
+ghost use Rattle.kex_moves.specs.declared.edge.Kind.{Kind};
+ghost use Rattle.kex_moves.specs.Runs.{HasRow, LeadsBack, HasKind, IsWithin, run_from};
 
 use crate::edge::Edge;
 use crate::put::put;
@@ -15,52 +15,43 @@ pub struct Spot {
     pub used: usize,
 }
 
-// Goes on while the byte alone is written and the row stays.
+// Copies bytes as long as the edges of a row keep them. Tells how many.
 #[inline(always)]
-fn keep(classes: &[u8; 256], edges: &[Edge], piece: &[u8], buffer: &mut [u8], from: Spot) -> Spot
-    requires row { HasRow classes.now edges.now from.row }
-    requires at { from.at ≤ length piece.now }
-    requires room { from.used + 17 * (length piece.now - from.at) + 17 ≤ length buffer.old }
-    ensures at { (from.at ≤ result.at) × (result.at ≤ length piece.now) }
-    ensures row { result.row ≡ from.row }
-    ensures room { result.used + 17 * (length piece.now - result.at) + 17 ≤ length buffer.new }
-    ensures ran { (text : List ℕ) → HasRoomBelow (length text) edges.now → let rest = run_from (record { classes = classes.now; edges = edges.now; text = text }) piece.now in
-        rest (take result.used buffer.new) result.row result.at ≡ rest (take from.used buffer.old) from.row from.at }
+fn keep(classes: &[u8; 256], edges: &[Edge], piece: &[u8], to: &mut [u8]) -> usize
+    requires row { All (λ c. c < length edges.now) classes.now }
+    requires room { length piece.now ≤ length to.old }
+    ensures within { result ≤ length piece.now }
+    ensures kept { All (HasKind classes.now edges.now Kind.Keep) (take result piece.now) }
+    ensures copied { take result to.new ≡ take result piece.now }
 {
-    let row = from.row;
-    let mut at = from.at;
-    let mut used = from.used;
-    while at < piece.len() {
-        let byte = piece[at];
-        let e = edges[row + classes[byte as usize] as usize];
-        if !e.kind.is_keep() || e.next != row {
+    let mut count = 0;
+    while count < piece.len() {
+        let byte = piece[count];
+        if !edges[classes[byte as usize] as usize].kind.is_keep() {
             break;
         }
-        buffer[used] = byte;
-        used += 1;
-        at += 1;
+        to[count] = byte;
+        count += 1;
     }
-    Spot { at, row, used }
+    count
 }
 
-// Goes on while nothing is written and the row stays.
+// Passes over bytes as long as the edges of a row drop them. Tells how many.
 #[inline(always)]
-fn skip(classes: &[u8; 256], edges: &[Edge], piece: &[u8], row: usize, from: usize) -> usize
-    requires row { HasRow classes.now edges.now row }
-    requires at { from ≤ length piece.now }
-    ensures at { (from ≤ result) × (result ≤ length piece.now) }
-    ensures ran { (xs text : List ℕ) → HasRoomBelow (length text) edges.now → let rest = run_from (record { classes = classes.now; edges = edges.now; text = text }) piece.now in
-        rest xs row result ≡ rest xs row from }
+fn skip(classes: &[u8; 256], edges: &[Edge], piece: &[u8]) -> usize
+    requires row { All (λ c. c < length edges.now) classes.now }
+    ensures within { result ≤ length piece.now }
+    ensures dropped { All (HasKind classes.now edges.now Kind.Drop) (take result piece.now) }
 {
-    let mut at = from;
-    while at < piece.len() {
-        let e = edges[row + classes[piece[at] as usize] as usize];
-        if !e.kind.is_drop() || e.next != row {
+    let mut count = 0;
+    while count < piece.len() {
+        let byte = piece[count];
+        if !edges[classes[byte as usize] as usize].kind.is_drop() {
             break;
         }
-        at += 1;
+        count += 1;
     }
-    at
+    count
 }
 
 /// Goes along edges while they are written.
@@ -75,6 +66,7 @@ pub fn run(
 ) -> Spot
     requires rows { IsWithin (record { classes = classes.now; edges = edges.now; text = text.now }) }
     requires row { HasRow classes.now edges.now from.row }
+    requires back { LeadsBack classes.now edges.now from.row }
     requires at { from.at ≤ length piece.now }
     requires room { from.used + 17 * (length piece.now - from.at) + 17 ≤ length buffer.old }
     ensures at { result.at ≤ length piece.now }
@@ -95,14 +87,13 @@ pub fn run(
         put(buffer, used, byte, text, e);
         used += e.adds as usize;
         at += 1;
-        if e.next != row {
-            row = e.next;
-        } else if e.kind.is_keep() {
-            let spot = keep(classes, edges, piece, buffer, Spot { at, row, used });
-            at = spot.at;
-            used = spot.used;
+        row = e.next;
+        if e.kind.is_keep() {
+            let count = keep(classes, &edges[row..], &piece[at..], &mut buffer[used..]);
+            at += count;
+            used += count;
         } else if e.kind.is_drop() {
-            at = skip(classes, edges, piece, row, at);
+            at += skip(classes, &edges[row..], &piece[at..]);
         }
     }
     Spot { at, row, used }

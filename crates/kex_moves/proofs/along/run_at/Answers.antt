@@ -1,4 +1,4 @@
-use Rattle.std.proofs.Common.{ℕ, IfSome, take, ap, refl, subst}
+use Rattle.std.proofs.Common.{ℕ, IfSome, take, subst}
 use Rattle.kex_moves.specs.declared.along.Ran.{Ran}
 use Rattle.kex_moves.specs.Known.{HasRowFor}
 use Rattle.kex_moves.specs.Along.{Goes}

@@ -1,8 +1,6 @@
-use Rattle.std.proofs.Common.{◌≡◌, ◌∙◌, ◌+◌, ◌≤◌, ◌<◌, true, Some, length, get_or, take, drop, sym, ap, subst, arith}
-use Rattle.std.specs.Prelude.{slice_get}
+use Rattle.std.proofs.Common.{◌≡◌, ◌∙◌, ◌+◌, ◌≤◌, ◌<◌, true, length, get_or, take, sym, ap, subst, arith}
 use Rattle.std.proofs.lemmas.List.{take_more}
 use Rattle.std.proofs.lemmas.List.Elements.{All-get_or}
-use Rattle.std.proofs.lemmas.Grind.{common_steps}
 use Rattle.kex_moves.specs.declared.edge.Edge.{Edge}
 use Rattle.kex_moves.specs.Edges.{is_written, HasRoom}
 use Rattle.kex_moves.specs.Runs.{Step}

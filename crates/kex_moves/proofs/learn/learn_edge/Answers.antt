@@ -2,7 +2,7 @@ use Rattle.std.proofs.Common.{◌≡◌, ◌∙◌, ap, sym, subst, IfSome, true
 use Rattle.std.specs.Prelude.{slice_get}
 use Rattle.kex_moves.specs.Edges.{is_known}
 use Rattle.kex_moves.specs.Known.{IsRight, IsRowOf}
-use Rattle.kex_moves.proofs.Knowing.{class_below, pair_known, known_put}
+use Rattle.kex_moves.proofs.Knowing.{class_below, pair_known, known_put, right_at_row}
 use Rattle.kex_moves.proofs.learn.learn_edge.Goals as goal
 
 pub edge_of-requires-clause-class : goal.edge_of-requires-clause-class
@@ -19,7 +19,8 @@ returns-clause-known c =
     let p = c.pair_at-pair.result in
     let class = c.class_of-class.result in
     let e = c.in-Some.edge in
+    let stands = c.at_row.ensures.same in
     let o = c.in_ok-edge.ensures {u = tt} in
     let row = o.grows.rows c.args.row p (subst (λ q. IsRowOf c.args.edges.now c.args.row q) (sym (c.pair_at-pair.ensures c.requires.row.0 c.requires.row.1)) c.requires.row.1) in
     let right = subst (λ o. IfSome o (λ e. is_known e.kind ≡ true → IsRight t g.nodes mid p class e)) c.in-Some.is o.right in
-    known_put t g mid c.put.new.self c.args.row class p e o.known row (omega (arith, o.grows.width, c.class_of-class.ensures.within)) right c.put.ensures.ordered c.put.ensures.put
+    known_put t g mid c.put.new.self c.args.row class p c.at_row.result o.known row (omega (arith, o.grows.width, c.class_of-class.ensures.within)) (right_at_row t g.nodes mid p class e c.at_row.result stands right) c.put.ensures.ordered c.put.ensures.put

@@ -2,7 +2,7 @@ use Rattle.std.proofs.Common.{IfSome, sym, subst, true, ◌≡◌, arith}
 use Rattle.kex_moves.specs.Edges.{is_known}
 use Rattle.kex_moves.specs.Known.{IsRight, IsRowOf}
 use Rattle.kex_moves.specs.Speech.{table_of}
-use Rattle.kex_moves.proofs.Knowing.{pair_known, known_put}
+use Rattle.kex_moves.proofs.Knowing.{pair_known, known_put, right_at_row}
 use Rattle.kex_moves.proofs.learn.learn_word.Goals as goal
 
 pub word_edge-requires-clause-pair : goal.word_edge-requires-clause-pair
@@ -15,7 +15,8 @@ returns-in-Some c =
     let mid = c.word_edge.new.edges in
     let p = c.pair_at-pair.result in
     let e = c.in-Some.edge in
+    let stands = c.at_row.ensures.same in
     let o = c.in_ok-edge.ensures {u = tt} in
     let row = o.grows.rows c.args.row p (subst (λ q. IsRowOf c.args.edges.now c.args.row q) (sym (c.pair_at-pair.ensures c.requires.row.0 c.requires.row.1)) c.requires.row.1) in
     let right = subst (λ o. IfSome o (λ e. is_known e.kind ≡ true → IsRight t g.nodes mid p c.args.word e)) c.in-Some.is o.right in
-    record { known = known_put t g mid c.put.new.self c.args.row c.args.word p e o.known row (omega (arith, o.grows.width, c.requires.word)) right c.put.ensures.ordered c.put.ensures.put }
+    record { known = known_put t g mid c.put.new.self c.args.row c.args.word p c.at_row.result o.known row (omega (arith, o.grows.width, c.requires.word)) (right_at_row t g.nodes mid p c.args.word e c.at_row.result stands right) c.put.ensures.ordered c.put.ensures.put }

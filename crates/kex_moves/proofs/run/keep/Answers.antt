@@ -1,18 +1,17 @@
-use Rattle.std.proofs.Common.{◌∙◌, ◌<◌, length, get_or, take, arith}
-use Rattle.std.proofs.lemmas.Grind.{common_steps}
-use Rattle.std.proofs.lemmas.List.{take_more_set}
-use Rattle.kex_moves.specs.Runs.{Rows}
-use Rattle.kex_moves.proofs.Running.{goes_on, keeps}
+use Rattle.std.proofs.Common.{◌∙◌, ◌++◌, ◌∷◌, [], ◌<◌, length, get_or, sym, ap, arith}
+use Rattle.std.proofs.lemmas.List.{take_more, take_more_set}
+use Rattle.kex_moves.specs.declared.edge.Kind.TheVariants.{Keep}
+use Rattle.kex_moves.proofs.Running.{one_kind}
 use Rattle.kex_moves.proofs.run.keep.Goals as goal
 
-pub loop-at-preserved : goal.loop-at-preserved
-loop-at-preserved c =
-    let b = get_or c.args.piece.now c.loop-at.at 0 in
-    let byte : b < length c.args.classes.now = omega (arith, c.told-classes, c.type_inv.piece c.loop-at.at) in
+pub loop-count-preserved : goal.loop-count-preserved
+loop-count-preserved c =
+    let piece = c.args.piece.now in
+    let count = c.loop-count.count in
+    let b = get_or piece count 0 in
+    let byte : b < length c.args.classes.now = omega (arith, c.told-classes, c.type_inv.piece count) in
     record {
-      at = (omega arith, omega arith);
-      room = grind (arith, common_steps);
-      ran = λ text room.
-          let t : Rows = record { classes = c.args.classes.now; edges = c.args.edges.now; text = text } in
-          goes_on t c.args.from.row (take c.loop-at.used c.loop-at.buffer) _ c.args.piece.now c.loop-at.at _ c.loop-at-test.true (keeps t c.args.from.row b c.requires.row byte room (c.is_keep.ensures.0 c.if-not-is_keep.false) c.if-e-row.false) (take_more_set c.loop-at.buffer c.loop-at.used b (omega arith)) ∙ c.loop-at.invariant.ran text room;
+      within = omega arith;
+      kept = one_kind c.args.classes.now piece c.args.edges.now Keep count c.loop-count-test.true byte c.requires.row (c.is_keep.ensures.0 c.if-not-is_keep.false) c.loop-count.invariant.kept;
+      copied = take_more_set c.loop-count.to count b (omega arith) ∙ ap (λ l. l ++ b ∷ []) c.loop-count.invariant.copied ∙ sym (take_more piece count 0 c.loop-count-test.true);
     }

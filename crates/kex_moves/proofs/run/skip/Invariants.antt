@@ -1,12 +1,13 @@
-use Rattle.std.proofs.Common.{length, ◌-◌, ◌≡◌, ℕ, ◌≤◌, List, drop}
-use Rattle.kex_moves.specs.Runs.{HasRoomBelow, behind, run_of}
+use Rattle.std.proofs.Common.{length, ◌-◌, ◌≤◌, All, take}
+use Rattle.kex_moves.specs.declared.edge.Kind.TheVariants.{Drop}
+use Rattle.kex_moves.specs.Runs.{HasKind}
 use Rattle.kex_moves.proofs.run.skip.Given as goal
 
-abbrev pub invariant-loop-at : goal.invariant-loop-at
-invariant-loop-at l = record {
-  at : (l.fn.from ≤ l.at) × (l.at ≤ length l.piece);
-  ran : (xs text : List ℕ) → HasRoomBelow (length text) l.edges → behind xs (run_of (record { classes = l.classes; edges = l.edges; text = text }) l.row (drop l.at l.piece)) ≡ behind xs (run_of (record { classes = l.classes; edges = l.edges; text = text }) l.row (drop l.fn.from l.piece));
+abbrev pub invariant-loop-count : goal.invariant-loop-count
+invariant-loop-count l = record {
+  within : l.count ≤ length l.piece;
+  dropped : All (HasKind l.classes l.edges Drop) (take l.count l.piece);
 }
 
-abbrev pub decreases-loop-at : goal.decreases-loop-at
-decreases-loop-at l = length l.piece - l.at
+abbrev pub decreases-loop-count : goal.decreases-loop-count
+decreases-loop-count l = length l.piece - l.count

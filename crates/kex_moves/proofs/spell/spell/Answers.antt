@@ -1,4 +1,4 @@
-use Rattle.std.proofs.Common.{◌∙◌, ◌++◌, ◌∷◌, [], get_or, take, sym, ap, append_assoc, append-nil}
+use Rattle.std.proofs.Common.{◌∙◌, ◌++◌, [], get_or, take, sym, ap, append_assoc}
 use Rattle.std.proofs.lemmas.List.{take_more}
 use Rattle.kex_code.specs.declared.symbol.Symbol.TheVariants.{L}
 use Rattle.kex_sst.specs.declared.parts.Part.TheVariants.{Put}

@@ -3,7 +3,7 @@ use Rattle.kex_moves.specs.Edges.{is_known}
 use Rattle.kex_moves.specs.Speech.{table_of}
 use Rattle.kex_moves.proofs.Knowing.{pair_known}
 use Rattle.kex_moves.proofs.Going.{right_at}
-use Rattle.kex_moves.proofs.Speaking.{said_acts}
+use Rattle.kex_moves.proofs.Speaking.{said_acts, said_none}
 use Rattle.kex_moves.proofs.tell.act_next.Goals as goal
 
 pub act-requires-clause-to : goal.act-requires-clause-to
@@ -22,3 +22,12 @@ returns-in_ok-act-in-Acts-clause-said c = λ words known.
     let did = c.in_ok-act-in-Acts.ensures {u = tt} in
     let lt : c.args.piece.word < k.width = omega (arith, c.if-piece-width.false, c.width.ensures) in
     said_acts words k c.args.actor.now c.act.new.actor c.args.sheet.now c.act.new.sheet c.args.row c.args.piece e c.args.out.now.items c.act.new.out.items known lt c.edge_at-edge.ensures.edge c.in-Acts.is did.same.0 did.same.1 did.did
+
+pub returns-in_default : goal.returns-in_default
+returns-in_default c = record {
+  within = omega arith;
+  said = λ words known. said_none c.args.edges.now c.args.actor.now c.args.sheet.now c.args.row c.args.out.now.items;
+  sheet = (c.requires.sheet, refl);
+  machine = refl;
+  usable = c.requires.usable;
+}

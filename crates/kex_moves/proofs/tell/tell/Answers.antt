@@ -1,4 +1,4 @@
-use Rattle.std.proofs.Common.{◌≡◌, ◌∙◌, ◌++◌, ◌∷◌, [], ◌+◌, ◌-◌, ◌<◌, length, get_or, take, drop, refl, sym, ap, subst, arith, append_assoc, append-nil, length-take, length-drop}
+use Rattle.std.proofs.Common.{◌≡◌, ◌∙◌, ◌++◌, ◌∷◌, [], ◌+◌, ◌-◌, length, get_or, take, drop, refl, sym, ap, subst, arith, append-nil, length-take, length-drop}
 use Rattle.std.proofs.lemmas.List.{take_more, take_all}
 use Rattle.kex_script.specs.Pieces.{word_of, spelled}
 use Rattle.kex_moves.specs.Speech.{Performs}

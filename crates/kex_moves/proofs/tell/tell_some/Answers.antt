@@ -1,6 +1,5 @@
-use Rattle.std.proofs.Common.{◌≡◌, IfSome, take, refl, sym, subst}
-use Rattle.kex_script.specs.Pieces.{spelled}
-use Rattle.kex_moves.specs.Known.{IsKnown, HasRowFor}
+use Rattle.std.proofs.Common.{refl, sym, subst}
+use Rattle.kex_moves.specs.Known.{IsKnown}
 use Rattle.kex_moves.specs.Speech.{table_of}
 use Rattle.kex_moves.proofs.tell.tell_some.Goals as goal
 

@@ -1,7 +1,7 @@
 use Rattle.std.proofs.Common.{subst, sym}
 use Rattle.kex_moves.specs.Known.{Known, IsRowOf}
-use Rattle.kex_moves.specs.Runs.{HasRow, IsWithin}
-use Rattle.kex_moves.proofs.Knowing.{row_in, rows_within}
+use Rattle.kex_moves.specs.Runs.{HasRow, LeadsBack, IsWithin}
+use Rattle.kex_moves.proofs.Knowing.{row_in, back_in, rows_within}
 use Rattle.kex_moves.proofs.edges.Edges.run.Goals as goal
 
 pub run-requires-clause-row : goal.run-requires-clause-row
@@ -15,3 +15,10 @@ run-requires-clause-rows c =
     let e = c.self.inside in
     let k : Known = record { classes = e.classes; width = e.width; shift = e.shift; pairs = e.pairs.items; edges = e.edges.items; text = e.text.items; acts = e.acts.items } in
     subst (λ t. IsWithin (record { classes = e.classes; edges = c.deref.result.now; text = t })) (sym c.deref-2.ensures.value) (subst (λ l. IsWithin (record { classes = e.classes; edges = l; text = k.text })) (sym c.deref.ensures.value) (rows_within k c.self.invariant))
+
+pub run-requires-clause-back : goal.run-requires-clause-back
+run-requires-clause-back c =
+    let e = c.self.inside in
+    let k : Known = record { classes = e.classes; width = e.width; shift = e.shift; pairs = e.pairs.items; edges = e.edges.items; text = e.text.items; acts = e.acts.items } in
+    let row = subst (λ k. IsRowOf k c.args.row c.requires.row.0) (sym c.self.view_is) c.requires.row.1 in
+    subst (λ l. LeadsBack e.classes l c.args.row) (sym c.deref.ensures.value) (back_in k c.args.row row.number c.self.invariant row.begins)
