@@ -4,4 +4,5 @@ pub mod Noting
 pub mod Pieces
 pub mod Going
 pub mod Stepping
+pub mod Quieting
 pub mod Standing

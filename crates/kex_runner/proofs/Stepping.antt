@@ -1,5 +1,5 @@
 -- A runner that takes a step by its script.
-use Rattle.std.proofs.Common.{◌≡◌, ℕ, ◌<◌, Bool, true, false, not, List, [], ◌++◌, Option, Some, None, length, refl, sym, ap, ap₂, subst, ◌∙◌, append_assoc}
+use Rattle.std.proofs.Common.{◌≡◌, ℕ, ◌<◌, true, false, List, [], ◌++◌, Option, Some, None, length, refl, sym, ap, ap₂, subst, ◌∙◌, append_assoc}
 use Rattle.kex_byteset.specs.Classes.{class_count}
 use Rattle.kex_code.specs.declared.symbol.Symbol.{Symbol}
 use Rattle.kex_sst.specs.declared.table.Transition.{Transition}
@@ -84,12 +84,3 @@ follows_behind t state registers piece count state' registers' c before after f 
   goes = f.goes;
   stops = f.stops;
 }
-
--- a test that is turned round
-pub not_goes : (b : Bool) → not b ≡ true → b ≡ false
-not_goes true e = sym e
-not_goes false e = refl
-
-pub goes_then : (b : Bool) → not b ≡ false → b ≡ true
-goes_then true e = refl
-goes_then false e = sym e

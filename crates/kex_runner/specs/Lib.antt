@@ -4,3 +4,4 @@ pub mod Ways
 pub mod Items
 pub mod Running
 pub mod Following
+pub mod Quiet

@@ -6,6 +6,7 @@
 #![tactic(auto)]
 
 mod answers;
+mod quiet;
 mod reading;
 mod registers;
 pub mod runner;

@@ -5,8 +5,11 @@ ghost use Rattle.kex_sst.specs.Parts.{items_of, long_in, meant, value};
 ghost use Rattle.kex_script.specs.Pieces.{spelled};
 ghost use Rattle.kex_script.specs.Scripts.{HasUpdate, Sheet, change_at};
 ghost use Rattle.kex_runner.specs.Noting.{held, next_registers, noted_by, settled_of};
+ghost use Rattle.kex_runner.specs.Following.{Follows, IsRunner};
+ghost use Rattle.kex_runner.specs.Quiet.{IsGuide};
 ghost use Rattle.kex_runner.specs.Ways.{AreKnown};
 
+use crate::quiet::{Guide, NOWHERE};
 use crate::reading::{Note, Reading, Settled, read_register};
 use crate::spelling::spell;
 use crate::walking::read_by_ways;
@@ -18,6 +21,7 @@ use kex_ports::Steps;
 use kex_script::piece::Piece;
 use kex_script::script::{Entry, Script};
 use kex_sst::parts::{Part, Update};
+use kex_sst::table::Table;
 use std::alloc::Global;
 use std::mem;
 use std::sync::ledger::Ledger;
@@ -282,6 +286,49 @@ impl Registers {
             self.pass(script, ways, entry.lists, byte, pieces)?;
         }
         self.note(script, entry, byte)
+    }
+
+    /// Goes along the front of a piece while updates are quiet and there is room for notes. Tells how many bytes that is.
+    // Not inlined: within a long caller what the loop reads for each byte would stand in memory.
+    #[inline(never)]
+    pub fn go_quiet(
+        &mut self,
+        table: &Table,
+        guide: &Guide,
+        state: &mut u32,
+        piece: &[u8],
+    ) -> Result<usize, Memory>
+        requires runner { IsRunner table.now guide.now.script state.old self.old }
+        requires guide { IsGuide table.now guide.now }
+        ensures count { IfOk result (λ n. n ≤ length piece.now) }
+        ensures follows { IfOk result (λ n. Follows table.now state.old (held guide.now.script self.old) (take n piece.now) n state.new (held guide.now.script self.new) [] []) }
+        ensures runner { IsRunner table.now guide.now.script state.new self.new }
+    {
+        let quiets = guide.quiets.as_slice();
+        let partition = table.partition();
+        let mut row = *state as usize * guide.width;
+        if row + guide.width > quiets.len() {
+            return Ok(0);
+        }
+        let room = self.limit.saturating_sub(self.notes.len()).min(piece.len());
+        self.notes.try_reserve(room)?;
+        let mut notes = mem::replace(&mut self.notes, Vec::new(self.alloc));
+        let mut count = 0;
+        'quiet: while count < room {
+            let byte = piece[count];
+            let quiet = quiets[row + usize::from(partition.class_of(byte))];
+            if quiet.row == NOWHERE {
+                break;
+            }
+            let lists = quiet.lists;
+            notes.push_reserved(Note { lists, byte });
+            row = quiet.row as usize;
+            count += 1;
+        }
+        self.notes = notes;
+        *state = (row / guide.width) as u32;
+        self.count = table.states()[row / guide.width].registers() as usize;
+        Ok(count)
     }
 
     // What a register holds goes to the end of a code.

@@ -9,9 +9,11 @@ ghost use Rattle.kex_script.specs.Scripts.{IsScriptOf};
 ghost use Rattle.kex_runner.specs.Noting.{held};
 ghost use Rattle.kex_runner.specs.Following.{Follows, IsPlace, IsRunner, pass_at};
 ghost use Rattle.kex_runner.specs.Items.{items_along};
+ghost use Rattle.kex_runner.specs.Quiet.{IsGuide};
 ghost use Rattle.kex_runner.specs.Ways.{AreKnown};
 
 use crate::answers::{Ended, Fed, answer_of};
+use crate::quiet::Guide;
 use crate::registers::{Registers, count_items};
 use crate::spelling::spell;
 use crate::ways::Ways;
@@ -31,7 +33,7 @@ use std::sync::ledger::Ledger;
 #[derive(Drop)]
 pub struct Runner<'t> {
     table: &'t Table,
-    script: Script,
+    guide: Guide,
     ways: Ways,
     state: u32,
     pending: Vec<Piece>,
@@ -48,13 +50,14 @@ impl<'t> Model for Runner<'t> {
     ghost use Rattle.kex_runner.specs.Running.{Running};
     ghost use Rattle.std.specs.Prelude.{IsTrue};
     ghost use Rattle.kex_runner.specs.Following.{IsRunner};
+    ghost use Rattle.kex_runner.specs.Quiet.{IsGuide};
     ghost use Rattle.kex_runner.specs.Ways.{AreKnown};
 
     ghost Value = { Running };
 
-    ghost view = { λ r. record { table = r.table.now; words = r.script.words; state = r.state; pending = spelled r.script.words r.pending.items; registers = held r.script r.registers; read = r.read; dead = r.dead; ended = r.ended; usable = r.usable } };
+    ghost view = { λ r. record { table = r.table.now; words = r.guide.script.words; state = r.state; pending = spelled r.guide.script.words r.pending.items; registers = held r.guide.script r.registers; read = r.read; dead = r.dead; ended = r.ended; usable = r.usable } };
 
-    ghost invariant = { λ r. IsRunner r.table.now r.script r.state r.registers × (IsTrue r.usable → AreKnown r.script r.ways) };
+    ghost invariant = { λ r. IsRunner r.table.now r.guide.script r.state r.registers × IsGuide r.table.now r.guide × (IsTrue r.usable → AreKnown r.guide.script r.ways) };
 }
 
 // Follows the table along a piece, as far as it goes on, and tells how many bytes that is. What is passed on is put behind pieces.
@@ -106,42 +109,47 @@ struct Taken {
 // put behind pieces.
 fn follow_held(
     table: &Table,
-    script: &Script,
+    guide: &Guide,
     ways: &mut Ways,
     state: &mut u32,
     registers: &mut Registers,
     piece: &[u8],
     pieces: &mut Vec<Piece>,
 ) -> Result<Taken, Memory>
-    requires runner { IsRunner table.now script.now state.old registers.old }
-    requires known { AreKnown script.now ways.old }
-    ensures known { OnOk result (AreKnown script.now ways.new) }
-    ensures follows { IfOk result (λ t. Follows table.now state.old (held script.now registers.old) (take t.taken piece.now) t.good state.new (held script.now registers.new) (spelled script.now.words pieces.old.items) (spelled script.now.words pieces.new.items)) }
+    requires runner { IsRunner table.now guide.now.script state.old registers.old }
+    requires guide { IsGuide table.now guide.now }
+    requires known { AreKnown guide.now.script ways.old }
+    ensures known { OnOk result (AreKnown guide.now.script ways.new) }
+    ensures follows { IfOk result (λ t. Follows table.now state.old (held guide.now.script registers.old) (take t.taken piece.now) t.good state.new (held guide.now.script registers.new) (spelled guide.now.script.words pieces.old.items) (spelled guide.now.script.words pieces.new.items)) }
     ensures taken { IfOk result (λ t. t.taken ≤ length piece.now) }
     ensures some { IfOk result (λ t. 0 < length piece.now → 0 < t.taken) }
-    ensures runner { IsRunner table.now script.now state.new registers.new }
+    ensures runner { IsRunner table.now guide.now.script state.new registers.new }
 {
-    for i in 0..piece.len() {
-        let class = table.partition().class_of(piece[i]);
+    let script = &guide.script;
+    let mut at = 0;
+    'bytes: while at < piece.len() {
+        at += registers.go_quiet(table, guide, state, &piece[at..])?;
+        if at == piece.len() {
+            break;
+        }
+        let class = table.partition().class_of(piece[at]);
         let entry = script.entry(*state, class);
         if !entry.goes {
             return Ok(Taken {
-                taken: i + 1,
-                good: i,
+                taken: at + 1,
+                good: at,
             });
         }
-        registers.take(script, ways, entry, piece[i], pieces)?;
+        registers.take(script, ways, entry, piece[at], pieces)?;
         *state = entry.target;
+        at += 1;
         if entry.registers == 0 {
-            return Ok(Taken {
-                taken: i + 1,
-                good: i + 1,
-            });
+            break;
         }
     }
     Ok(Taken {
-        taken: piece.len(),
-        good: piece.len(),
+        taken: at,
+        good: at,
     })
 }
 
@@ -172,12 +180,12 @@ impl<'t> Runner<'t> {
         ensures stands { IfOk result (λ r. IsRunOf r [] []) }
         ensures usable { IfOk result (λ r. (r.usable ≡ true) × (r.ended ≡ false) × (r.read ≡ 0)) }
     {
-        let script = Script::new(alloc, table)?;
-        let mut ways = Ways::new(alloc, &script)?;
-        let (registers, pending) = begin(alloc, table, &script, &mut ways)?;
+        let guide = Guide::new(alloc, table)?;
+        let mut ways = Ways::new(alloc, &guide.script)?;
+        let (registers, pending) = begin(alloc, table, &guide.script, &mut ways)?;
         Ok(Runner {
             table,
-            script,
+            guide,
             ways,
             state: 0,
             pending,
@@ -212,14 +220,14 @@ impl<'t> Runner<'t> {
     {
         self.usable = false;
         if self.dead {
-            spell(self.script.words(), &self.pending, code)?;
+            spell(self.guide.script.words(), &self.pending, code)?;
             self.pending.clear();
             self.usable = true;
             return Ok(Fed::Dead);
         }
         let count = follow(
             self.table,
-            &self.script,
+            &self.guide.script,
             &mut self.ways,
             &mut self.state,
             &mut self.registers,
@@ -227,7 +235,7 @@ impl<'t> Runner<'t> {
             &mut self.pending,
             steps,
         )?;
-        spell(self.script.words(), &self.pending, code)?;
+        spell(self.guide.script.words(), &self.pending, code)?;
         self.pending.clear();
         self.read += count as u64;
         self.dead = count < piece.len();
@@ -265,7 +273,7 @@ impl<'t> Runner<'t> {
         }
         let Taken { taken, good } = follow_held(
             self.table,
-            &self.script,
+            &self.guide,
             &mut self.ways,
             &mut self.state,
             &mut self.registers,
@@ -296,7 +304,7 @@ impl<'t> Runner<'t> {
     {
         self.ended = true;
         self.usable = false;
-        spell(self.script.words(), &self.pending, code)?;
+        spell(self.guide.script.words(), &self.pending, code)?;
         self.pending.clear();
         if self.dead {
             self.usable = true;
@@ -309,7 +317,8 @@ impl<'t> Runner<'t> {
                 Ok(Ended::Cut)
             }
             Some(way) => {
-                self.registers.spell(&self.script, way.as_slice(), code)?;
+                self.registers
+                    .spell(&self.guide.script, way.as_slice(), code)?;
                 self.usable = true;
                 Ok(Ended::Parsed)
             }
@@ -344,7 +353,7 @@ impl<'t> Runner<'t> {
     pub fn words(&self) -> &[Parts]
         ensures { result.now ≡ self.now.words }
     {
-        self.script.words()
+        self.guide.script.words()
     }
 
     /// The number of the state that it is in.

@@ -11,7 +11,7 @@ use Rattle.kex_runner.proofs.runner.Runner.feed.Goals as goal
 
 pub returns-then-self-clause-fed : goal.returns-then-self-clause-fed
 returns-then-self-clause-fed g c =
-    let script = c.self.inside.script in
+    let script = c.self.inside.guide.script in
     let r : Running = record { table = c.self.inside.table.now; words = script.words; state = c.self.inside.state; pending = spelled script.words c.self.inside.pending.items; registers = held script c.self.inside.registers; read = c.self.inside.read; dead = c.self.inside.dead; ended = c.self.inside.ended; usable = c.self.inside.usable } in
     let n : Running = record r { pending = []; usable = true } in
     let told : c.spell.new.code ≡ c.args.code.now ++ r.pending = c.in_ok-spell.ensures ∙ ap₂ (λ y z. c.args.code.now ++ spelled y z) c.words.ensures c.deref.ensures.value in
@@ -20,7 +20,7 @@ returns-then-self-clause-fed g c =
 
 pub returns-clause-fed : goal.returns-clause-fed
 returns-clause-fed g c =
-    let script = c.self.inside.script in
+    let script = c.self.inside.guide.script in
     let r : Running = record { table = c.self.inside.table.now; words = script.words; state = c.self.inside.state; pending = spelled script.words c.self.inside.pending.items; registers = held script c.self.inside.registers; read = c.self.inside.read; dead = c.self.inside.dead; ended = c.self.inside.ended; usable = c.self.inside.usable } in
     let count = c.in_ok-count.count in
     let piece = c.args.piece.now in

@@ -10,7 +10,7 @@ use Rattle.kex_runner.proofs.runner.Runner.hold.Goals as goal
 
 pub returns-then-self-clause-fed : goal.returns-then-self-clause-fed
 returns-then-self-clause-fed c =
-    let script = c.self.inside.script in
+    let script = c.self.inside.guide.script in
     let r : Running = record { table = c.self.inside.table.now; words = script.words; state = c.self.inside.state; pending = spelled script.words c.self.inside.pending.items; registers = held script c.self.inside.registers; read = c.self.inside.read; dead = c.self.inside.dead; ended = c.self.inside.ended; usable = c.self.inside.usable } in
     let n : Running = record r { pending = []; usable = true } in
     let piece = take (length c.args.piece.now) c.args.piece.now in
@@ -21,7 +21,7 @@ returns-then-self-clause-fed c =
 
 pub returns-clause-fed : goal.returns-clause-fed
 returns-clause-fed c =
-    let script = c.self.inside.script in
+    let script = c.self.inside.guide.script in
     let r : Running = record { table = c.self.inside.table.now; words = script.words; state = c.self.inside.state; pending = spelled script.words c.self.inside.pending.items; registers = held script c.self.inside.registers; read = c.self.inside.read; dead = c.self.inside.dead; ended = c.self.inside.ended; usable = c.self.inside.usable } in
     let good = c.in_ok-taken.field-0.good in
     let taken = c.in_ok-taken.field-0.taken in

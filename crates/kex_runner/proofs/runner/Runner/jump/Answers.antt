@@ -9,7 +9,7 @@ use Rattle.kex_runner.proofs.runner.Runner.jump.Goals as goal
 
 pub returns-clause-stands : goal.returns-clause-stands
 returns-clause-stands c = λ w v d e s count p.
-    let script = c.self.inside.script in
+    let script = c.self.inside.guide.script in
     let r : Running = record { table = c.self.inside.table.now; words = script.words; state = c.self.inside.state; pending = spelled script.words c.self.inside.pending.items; registers = held script c.self.inside.registers; read = c.self.inside.read; dead = c.self.inside.dead; ended = c.self.inside.ended; usable = c.self.inside.usable } in
     let n : Running = record r { state = c.args.state; registers = held script c.clear.new.self; read = c.self.inside.read + c.args.bytes } in
     subst (λ z. IsRunOf z w d → passes z.table (w ++ v) ≡ Some (pass_at c.args.state (d ++ e) []) → IsRunOf n (w ++ v) (d ++ e)) c.self.view_is

@@ -1,0 +1,31 @@
+-- Quiet updates: those that pass nothing on. They are told by places, a row for each state and in it a place for each class.
+use Rattle.std.specs.Prelude.{◌≡◌, ℕ, ◌+◌, ◌*◌, ◌/◌, ◌%◌, ◌<◌, ◌≤◌, true, List, Some, length, slice_get}
+use Rattle.kex_byteset.specs.Classes.{class_count}
+use Rattle.kex_sst.specs.Tables.{Transducer}
+use Rattle.kex_script.specs.declared.script.Entry.{Entry}
+use Rattle.kex_script.specs.Scripts.{Sheet, entry_at}
+use Rattle.kex_runner.specs.declared.quiet.Quiet.{Quiet}
+use Rattle.kex_runner.specs.declared.quiet.Guide.{Guide}
+
+-- an entry is quiet, and this tells its lists, and where the row of its target begins, within so many places
+pub record IsQuiet (e : Entry) (width count : ℕ) (q : Quiet) : Type 0 where
+  pub goes : e.goes ≡ true
+  pub silent : e.silent ≡ true
+  pub lists : q.lists ≡ e.lists
+  pub row : q.row ≡ e.target * width
+  pub within : q.row + width ≤ count
+
+-- the same, where a row is told
+abbrev pub IsQuietIf : Entry → ℕ → ℕ → Quiet → Type 0
+IsQuietIf e width count q = (q.row ≡ 4294967295 → ⊥) → IsQuiet e width count q
+
+-- each place tells what a state does on a class
+abbrev pub AreQuiet : Sheet → ℕ → ℕ → List Quiet → Type 0
+AreQuiet s width count qs = (k : ℕ) (q : Quiet) → slice_get qs k ≡ Some q → IsQuietIf (entry_at s (k / width) (k % width)) width count q
+
+-- the rows are as wide as a table has classes
+pub record IsGuide (t : Transducer) (g : Guide) : Type 0 where
+  pub width : g.width ≡ class_count t.classes
+  pub some : 0 < g.width
+  pub narrow : g.width ≤ 256
+  pub quiet : AreQuiet g.script g.width (length g.quiets.items) g.quiets.items

@@ -1,0 +1,89 @@
+// Quiet updates: those that pass nothing on and leave registers.
+
+ghost use Rattle.std.specs.Prelude.{◌≡◌, ◌<◌, ◌≤◌, ◌^◌, IfOk, length};
+ghost use Rattle.kex_script.specs.Scripts.{IsScriptOf};
+ghost use Rattle.kex_runner.specs.Quiet.{AreQuiet, IsGuide, IsQuietIf};
+
+use kex_code::memory::Memory;
+use kex_script::script::{Entry, Script};
+use kex_sst::table::Table;
+use std::alloc::Global;
+
+/// Where no row begins.
+pub const NOWHERE: u32 = u32::MAX;
+
+/// What a state does on a class of bytes, where its update is quiet: where the row of its target begins, and which lists it has.
+#[derive(Clone, Copy, Debug, PartialEq, Eq)]
+pub struct Quiet {
+    pub row: u32,
+    pub lists: u32,
+}
+
+/// A script, and its quiet updates: of each state a row, by class.
+#[derive(Drop)]
+pub struct Guide {
+    pub script: Script,
+    pub quiets: Vec<Quiet>,
+    pub width: usize,
+}
+
+// What an entry does, if it is quiet and the row of its target is within so many places.
+fn quiet_of(entry: Entry, width: usize, count: usize) -> Quiet
+    requires width { width ≤ 256 }
+    requires count { count < 2 ^ 32 }
+    ensures { IsQuietIf entry width count result }
+{
+    let row = entry.target as usize * width;
+    if entry.goes && entry.silent && entry.registers > 0 && row + width <= count {
+        return Quiet {
+            row: row as u32,
+            lists: entry.lists,
+        };
+    }
+    Quiet {
+        row: NOWHERE,
+        lists: 0,
+    }
+}
+
+// The quiet updates of a script, as far as they are within so many places.
+fn quiets_of(
+    alloc: Global,
+    script: &Script,
+    width: usize,
+    count: usize,
+) -> Result<Vec<Quiet>, Memory>
+    requires some { 0 < width }
+    requires width { width ≤ 256 }
+    requires count { count < 2 ^ 32 }
+    ensures { IfOk result (λ all. AreQuiet script.now width (length all.items) all.items) }
+{
+    let mut all = Vec::new(alloc);
+    for i in 0..count {
+        let entry = script.entry((i / width) as u32, (i % width) as u8);
+        all.push(quiet_of(entry, width, count))?;
+    }
+    Ok(all)
+}
+
+impl Guide {
+    /// The script of a table, with its quiet updates.
+    pub fn new(alloc: Global, table: &Table) -> Result<Guide, Memory>
+        ensures script { IfOk result (λ g. IsScriptOf g.script table.now) }
+        ensures guide { IfOk result (λ g. IsGuide table.now g) }
+    {
+        let script = Script::new(alloc, table)?;
+        let width = usize::from(table.partition().classes());
+        let count = table
+            .states()
+            .len()
+            .saturating_mul(width)
+            .min(NOWHERE as usize);
+        let quiets = quiets_of(alloc, &script, width, count)?;
+        Ok(Guide {
+            script,
+            quiets,
+            width,
+        })
+    }
+}
