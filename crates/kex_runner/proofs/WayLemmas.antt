@@ -1,14 +1,14 @@
 -- Ways: their parts, one by one, and what they stand for.
-use Rattle.std.proofs.Common.{◌≡◌, ℕ, zero, suc, ◌+◌, ◌<◌, ◌≤◌, List, [], ◌∷◌, ◌++◌, Option, Some, None, length, map, get_or, take, drop, refl, sym, ap, ap₂, subst, ◌∙◌, append_assoc, append-nil, arith}
-use Rattle.std.specs.Prelude.{slice_get, All, IfSome, ◌-◌}
+use Rattle.std.proofs.Common.{◌≡◌, ℕ, zero, suc, ◌+◌, ◌<◌, ◌≤◌, List, [], ◌∷◌, ◌++◌, Option, Some, None, length, get_or, take, drop, refl, sym, ap, ap₂, subst, ◌∙◌, append_assoc, append-nil, arith}
+use Rattle.std.specs.Prelude.{All, IfSome}
 use Rattle.std.proofs.lemmas.List.{take_more, take_all, drop_more}
-use Rattle.std.proofs.lemmas.List.Elements.{All-weaker, All-set}
-use Rattle.std.proofs.lemmas.Option.{get_or_from_slice_get, slice_get-get_or}
+use Rattle.std.proofs.lemmas.List.Elements.{All-weaker}
+use Rattle.std.proofs.lemmas.Option.{get_or_from_slice_get, IfSome_then}
 use Rattle.std.proofs.Math.ListN.{get_or-map}
 use Rattle.kex_code.specs.declared.symbol.Symbol.{Symbol}
 use Rattle.kex_sst.specs.declared.parts.Part.{Part}
 use Rattle.kex_sst.specs.declared.parts.Part.TheVariants.{Put, Old, Input}
-use Rattle.kex_sst.specs.Parts.{Change, value, meant, olds}
+use Rattle.kex_sst.specs.Parts.{Change, value, meant}
 use Rattle.kex_script.specs.declared.piece.Piece.{Piece}
 use Rattle.kex_script.specs.Pages.{Keeps}
 use Rattle.kex_script.specs.Scripts.{Sheet, IsWord, change_at, list_at}
@@ -18,8 +18,9 @@ use Rattle.kex_runner.specs.declared.ways.Step.{Step}
 use Rattle.kex_runner.specs.declared.ways.Ways.{Ways}
 use Rattle.kex_runner.specs.declared.walking.Place.{Place}
 use Rattle.kex_runner.specs.Noting.{ByteUpdate, next_registers, registers_after, spelled_back}
-use Rattle.kex_runner.specs.Ways.{one_less, AreOlds, composed, IsWay, IsSplit, IsStart, IsStep, IsStepIf, AreKnown, HasWalked}
+use Rattle.kex_runner.specs.Ways.{AreOlds, composed, IsWay, IsSplit, IsStart, IsStep, IsStepIf, AreKnown, HasWalked}
 use Rattle.kex_runner.proofs.Noting.{meant_fresh}
+use Rattle.kex_runner.proofs.Pieces.{spelled_back_more}
 use Rattle.kex_runner.proofs.Looking.{meant-append, registers_more}
 
 olds_both : (xs ys : List Part) → AreOlds xs → AreOlds ys → AreOlds (xs ++ ys)
@@ -61,11 +62,14 @@ way_kept ways ways' n way k h = record { at = k n way h.at; each = h.each }
 split_kept : (words ways ways' : List (List Part)) (x : Split) (list : List Part) → Keeps ways ways' → IsSplit words ways x list → IsSplit words ways' x list
 split_kept words ways ways' x list k h = record { front = h.front; way = way_kept ways ways' x.way h.front k h.way; parts = h.parts; word = h.word; plain = h.plain; joined = h.joined }
 
+step_kept : (s : Sheet) (ways ways' : List (List Part)) (number lists : ℕ) (x : Split) → Keeps ways ways' → IsStep s ways number lists x → IsStep s ways' number lists x
+step_kept s ways ways' number lists x k h = record { from = h.from; way = way_kept ways ways' number h.from k h.way; split = split_kept s.words ways ways' x (composed (change_at s lists) h.from) k h.split }
+
 starts_kept : (s : Sheet) (ways ways' : List (List Part)) → Keeps ways ways' → (xs : List Start) → All (IsStart s ways) xs → All (IsStart s ways') xs
-starts_kept s ways ways' k xs h = All-weaker (IsStart s ways) (IsStart s ways') (λ x g some. split_kept s.words ways ways' x.split (list_at s x.list) k (g some)) xs h
+starts_kept s ways ways' k xs h = All-weaker (IsStart s ways) (IsStart s ways') (λ x g some. IfSome_then x.split (g some) (λ y h. split_kept s.words ways ways' y (list_at s x.list) k h)) xs h
 
 steps_kept : (s : Sheet) (ways ways' : List (List Part)) → Keeps ways ways' → (xs : List Step) → All (IsStepIf s ways) xs → All (IsStepIf s ways') xs
-steps_kept s ways ways' k xs h = All-weaker (IsStepIf s ways) (IsStepIf s ways') (λ x g some. let st = g some in record { from = st.from; way = way_kept ways ways' x.from st.from k st.way; split = split_kept s.words ways ways' x.split (composed (change_at s x.lists) st.from) k st.split }) xs h
+steps_kept s ways ways' k xs h = All-weaker (IsStepIf s ways) (IsStepIf s ways') (λ x g some. IfSome_then x.split (g some) (λ y st. step_kept s ways ways' x.from x.lists y k st)) xs h
 
 -- more ways, and starts and steps that are so
 pub known_more : (s : Sheet) (w w' : Ways) → Keeps w.lists w'.lists → AreKnown s w → (All (IsStart s w'.lists) w.starts.items → All (IsStart s w'.lists) w'.starts.items) → (All (IsStepIf s w'.lists) w.steps.items → All (IsStepIf s w'.lists) w'.steps.items) → AreKnown s w'
@@ -74,8 +78,8 @@ known_more s w w' k h f g = record { none = k 0 [] h.none; starts = f (starts_ke
 -- a step back
 module _ (s : Sheet) (ways ways' : List (List Part)) (notes : List ByteUpdate) (from : List Part) (p p' : Place) (lists : ℕ) (x : Split) (d n : ByteUpdate) (first old new : List Piece) where
   pub walked_on : Keeps ways ways' → p.after ≡ suc p'.after → p'.way ≡ x.way → n ≡ get_or notes p'.after d → n.update ≡ change_at s lists
-      → IsStep s ways' (record { from = p.way; lists = lists; split = x })
-      → ((words : List (List Part)) (w : List Part) → IsWord words (one_less x.word) w → spelled_back words new ≡ meant [] n.byte w ++ spelled_back words old)
+      → IsStep s ways' p.way lists x
+      → ((words : List (List Part)) (w : List Part) → IsWord words x.word w → spelled_back words new ≡ meant [] n.byte w ++ spelled_back words old)
       → HasWalked s ways notes from p first old → HasWalked s ways' notes from p' first new
   walked_on k e same at u st said h =
       let to : List Part = st.split.front in
@@ -130,26 +134,30 @@ way_next regs way k left d new old before e le h read f =
     ∙ sym (append_assoc (value regs 0 part) (meant regs 0 (drop (k + 1) way)) before)
     ∙ ap (λ z. meant regs 0 z ++ before) (sym (drop_more way k d lt))
 
-pub less_is : (n : ℕ) → 0 < n → one_less n ≡ Some (n - 1)
-less_is zero lt = absurd (omega arith)
-less_is (suc n) lt = let e : n ≡ suc n - 1 = omega arith in ap (λ z. Some z) e
+-- a piece more says its word
+pub word_said : (words : List (List Part)) (word : Option ℕ) (w : List Part) (number byte n : ℕ) (old new : List Piece) → word ≡ Some number → n ≡ number → new ≡ old ++ (record { word = n; byte = byte }) ∷ [] → IsWord words word w → spelled_back words new ≡ meant [] byte w ++ spelled_back words old
+word_said words word w number byte n old new e same more is =
+    let at : IsWord words (Some number) w = subst (λ z. IsWord words z w) e is in
+    ap (λ z. spelled_back words z) (more ∙ ap (λ z. old ++ (record { word = z; byte = byte }) ∷ []) same)
+    ∙ spelled_back_more words old (record { word = number; byte = byte })
+    ∙ ap (λ z. meant [] byte z ++ spelled_back words old) (get_or_from_slice_get words number w [] at)
 
--- a word that was found
-pub some_word : (words : List (List Part)) (i : ℕ) (w word d : List Part) (o : Option ℕ) → i < length words → w ≡ get_or words i d → w ≡ word → IfSome o (λ n. one_less n ≡ Some i) → IfSome o (λ n. IsWord words (one_less n) word)
-some_word words i w word d None lt is same h = h
-some_word words i w word d (Some n) lt is same h = subst (λ z. IsWord words z word) (sym h) (slice_get-get_or words i d lt ∙ ap (λ z. Some z) (sym is ∙ same))
+-- a step that is kept, if it says what the way was
+pub step_said : (o : Option Split) (steps : List Step) (number lists : ℕ) → ((s : Sheet) (ways : List (List Part)) → All (IsStepIf s ways) steps → IfSome o (λ y. IsStep s ways number lists y)) → IfSome o (λ x. (s : Sheet) (ways : List (List Part)) → All (IsStepIf s ways) steps → IsStep s ways number lists x)
+step_said None steps number lists h = tt
+step_said (Some x) steps number lists h = h
 
--- a step that was found
-pub step_is : (s : Sheet) (words ways ways' : List (List Part)) (number lists : ℕ) (x : Split) (from parts : List Part) → words ≡ s.words → Keeps ways ways' → IsWay ways number from → parts ≡ composed (change_at s lists) from → IsSplit words ways' x parts → IsStep s ways' (record { from = number; lists = lists; split = x })
-step_is s words ways ways' number lists x from parts e k h is st = record {
+-- what was found of a way before an update
+pub step_is : (s : Sheet) (words ways ways' : List (List Part)) (number lists : ℕ) (o : Option Split) (from parts : List Part) → words ≡ s.words → Keeps ways ways' → IsWay ways number from → parts ≡ composed (change_at s lists) from → IfSome o (λ x. IsSplit words ways' x parts) → IfSome o (λ x. IsStep s ways' number lists x)
+step_is s words ways ways' number lists o from parts e k h is st = IfSome_then o st (λ x st. record {
   from = from;
   way = way_kept ways ways' number from k h;
   split = subst (λ z. IsSplit s.words ways' x z) is (subst (λ z. IsSplit z ways' x parts) e st);
-}
+})
 
 -- a list that is a way and a word, the way gone back and read
 pub read_whole : (s : Sheet) (base : List (List Symbol)) (notes : List ByteUpdate) (ways ways' : List (List Part)) (x : Split) (p : Place) (byte : ℕ) (list way : List Part) (none old new : List Piece) (last : List Symbol) → (st : IsSplit s.words ways x list) → HasWalked s ways' notes st.front p old new
-    → ((words : List (List Part)) (w : List Part) → IsWord words (one_less x.word) w → spelled_back words old ≡ meant [] byte w ++ spelled_back words none) → none ≡ [] → way ≡ get_or ways' p.way []
+    → ((words : List (List Part)) (w : List Part) → IsWord words x.word w → spelled_back words old ≡ meant [] byte w ++ spelled_back words none) → none ≡ [] → way ≡ get_or ways' p.way []
     → last ≡ meant (registers_after base (take p.after notes)) 0 way ++ spelled_back s.words new → last ≡ meant (registers_after base notes) byte list
 read_whole s base notes ways ways' x p byte list way none old new last st h said e is read =
     let regs : List (List Symbol) = registers_after base notes in

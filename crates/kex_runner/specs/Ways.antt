@@ -1,5 +1,5 @@
 -- Ways: old registers one behind the other, and what they were before an update.
-use Rattle.std.specs.Prelude.{◌≡◌, ℕ, zero, suc, ◌<◌, ◌≤◌, List, [], ◌∷◌, ◌++◌, Option, Some, None, All, get_or, slice_get, length, take}
+use Rattle.std.specs.Prelude.{◌≡◌, ℕ, ◌<◌, ◌≤◌, List, [], ◌∷◌, ◌++◌, Some, All, IfSome, get_or, slice_get, length, take}
 use Rattle.kex_code.specs.declared.symbol.Symbol.{Symbol}
 use Rattle.kex_sst.specs.declared.parts.Part.{Part}
 use Rattle.kex_sst.specs.declared.parts.Part.TheVariants.{Put, Old, Input}
@@ -12,11 +12,6 @@ use Rattle.kex_runner.specs.declared.ways.Start.{Start}
 use Rattle.kex_runner.specs.declared.ways.Step.{Step}
 use Rattle.kex_runner.specs.declared.ways.Ways.{Ways}
 use Rattle.kex_runner.specs.declared.walking.Place.{Place}
-
--- one less, or none
-abbrev pub one_less : ℕ → Option ℕ
-one_less zero = None
-one_less (suc n) = Some n
 
 abbrev pub IsOld : Part → Type 0
 IsOld (Put s) = ⊥
@@ -45,22 +40,23 @@ pub record IsSplit (words ways : List (List Part)) (x : Split) (list : List Part
   pub front : List Part
   pub way : IsWay ways x.way front
   pub parts : List Part
-  pub word : IsWord words (one_less x.word) parts
+  pub word : IsWord words x.word parts
   pub plain : olds parts ≡ []
   pub joined : list ≡ front ++ parts
 
--- what a list is
+-- what a list is, if that is said
 abbrev pub IsStart : Sheet → List (List Part) → Start → Type 0
-IsStart s ways x = 0 < x.list → IsSplit s.words ways x.split (list_at s x.list)
+IsStart s ways x = 0 < x.list → IfSome x.split (λ y. IsSplit s.words ways y (list_at s x.list))
 
 -- what a way was before an update
-pub record IsStep (s : Sheet) (ways : List (List Part)) (x : Step) : Type 0 where
+pub record IsStep (s : Sheet) (ways : List (List Part)) (number lists : ℕ) (x : Split) : Type 0 where
   pub from : List Part
-  pub way : IsWay ways x.from from
-  pub split : IsSplit s.words ways x.split (composed (change_at s x.lists) from)
+  pub way : IsWay ways number from
+  pub split : IsSplit s.words ways x (composed (change_at s lists) from)
 
+-- the same, if it is said
 abbrev pub IsStepIf : Sheet → List (List Part) → Step → Type 0
-IsStepIf s ways x = 0 < x.from → IsStep s ways x
+IsStepIf s ways x = 0 < x.from → IfSome x.split (λ y. IsStep s ways x.from x.lists y)
 
 -- what is known of ways is so, over a script
 pub record AreKnown (s : Sheet) (w : Ways) : Type 0 where

@@ -1,14 +1,15 @@
 // Looking up by ways: back through the notes, a step for each.
 
-ghost use Rattle.std.specs.Prelude.{◌≡◌, ◌≤◌, ◌<◌, ◌++◌, ◌∷◌, [], List, IfOk, OnOk, length, get_or, take};
+ghost use Rattle.std.specs.Prelude.{◌≡◌, ◌+◌, ◌≤◌, ◌<◌, ◌++◌, ◌∷◌, [], List, All, IfOk, OnOk, length, get_or, take, vec_capacity};
 ghost use Rattle.kex_sst.specs.declared.parts.Part.{Part};
 ghost use Rattle.kex_sst.specs.Parts.{meant, value};
-ghost use Rattle.kex_script.specs.Scripts.{IsWord, list_at};
+ghost use Rattle.kex_script.specs.declared.piece.Piece.{Piece};
+ghost use Rattle.kex_script.specs.Scripts.{IsWord, Sheet, list_at};
 ghost use Rattle.kex_runner.specs.Noting.{noted_by, registers_after, settled_of, spelled_back, updates_of};
-ghost use Rattle.kex_runner.specs.Ways.{AreKnown, AreOlds, HasWalked, IsWay, one_less};
+ghost use Rattle.kex_runner.specs.Ways.{AreKnown, AreOlds, HasWalked, IsStepIf, IsWay};
 
 use crate::reading::{Note, Reading, Settled, ask, look_up, read_list};
-use crate::ways::{Split, Ways};
+use crate::ways::{Split, Step, Ways, known_step};
 use kex_code::memory::Memory;
 use kex_script::piece::Piece;
 use kex_script::script::Script;
@@ -17,8 +18,8 @@ use kex_sst::parts::Part;
 // A way over what the registers were after so many notes.
 #[derive(Clone, Copy)]
 pub struct Place {
-    pub way: u32,
-    pub last: u32,
+    pub way: u16,
+    pub last: u16,
     pub after: usize,
 }
 
@@ -35,20 +36,58 @@ fn push(back: &mut Vec<Piece>, piece: Piece) -> Result<(), Memory>
     Ok(())
 }
 
-// A word is read: one less than this number, or none for 0.
+// A word is read, if there is one.
 #[inline(always)]
-fn say(word: u32, byte: u8, back: &mut Vec<Piece>) -> Result<(), Memory>
-    ensures { OnOk result ((words : List (List Part)) (w : List Part) → IsWord words (one_less word) w → spelled_back words back.new.items ≡ meant [] byte w ++ spelled_back words back.old.items) }
+fn say(word: Option<u16>, byte: u8, back: &mut Vec<Piece>) -> Result<(), Memory>
+    ensures { OnOk result ((words : List (List Part)) (w : List Part) → IsWord words word w → spelled_back words back.new.items ≡ meant [] byte w ++ spelled_back words back.old.items) }
 {
-    if word == 0 {
-        return Ok(());
+    match word {
+        None => Ok(()),
+        Some(word) => {
+            let word = u32::from(word);
+            push(back, Piece { word, byte })
+        }
     }
-    let word = word - 1;
-    push(back, Piece { word, byte })
+}
+
+// A word is read, if there is one, where there is room for it.
+#[inline(always)]
+fn say_reserved(word: Option<u16>, byte: u8, back: &mut Vec<Piece>)
+    requires { length back.old.items < vec_capacity back.old }
+    ensures said { (words : List (List Part)) (w : List Part) → IsWord words word w → spelled_back words back.new.items ≡ meant [] byte w ++ spelled_back words back.old.items }
+    ensures length { length back.new.items ≤ length back.old.items + 1 }
+    ensures capacity { vec_capacity back.new ≡ vec_capacity back.old }
+{
+    if let Some(word) = word {
+        let word = u32::from(word);
+        back.push_reserved(Piece { word, byte });
+    }
+}
+
+// Goes back along notes, as far as it is known what the way was. What is said has room.
+#[inline(never)]
+fn walk_known(steps: &[Step], notes: &[Note], first: Place, back: &mut Vec<Piece>) -> Place
+    requires after { first.after ≤ length notes.now }
+    requires room { length back.old.items + first.after ≤ vec_capacity back.old }
+    ensures { (s : Sheet) (ways : List (List Part)) (from : List Part) (none : List Piece) → All (IsStepIf s ways) steps.now → HasWalked s ways (updates_of s notes.now) from first none back.old.items → HasWalked s ways (updates_of s notes.now) from result none back.new.items }
+{
+    let mut place = first;
+    'notes: while place.after > 0 && place.way != 0 {
+        let note = notes[place.after - 1];
+        let Some(split) = known_step(steps, place.way, place.last, note.lists) else {
+            return place;
+        };
+        say_reserved(split.word, note.byte, back);
+        place = Place {
+            way: split.way,
+            last: split.last,
+            after: place.after - 1,
+        };
+    }
+    place
 }
 
 // Goes back along notes from a way, as far as what it was is a way.
-#[inline(never)]
 fn walk(
     script: &Script,
     ways: &mut Ways,
@@ -61,11 +100,13 @@ fn walk(
     ensures known { OnOk result (AreKnown script.now ways.new) }
     ensures walked { IfOk result (λ p. (from : List Part) → IsWay ways.old.lists first.way from → HasWalked script.now ways.new.lists (updates_of script.now notes.now) from p back.old.items back.new.items) }
 {
-    let mut place = Place {
+    let last = Place {
         way: first.way,
         last: first.last,
         after: notes.len(),
     };
+    back.try_reserve(notes.len())?;
+    let mut place = walk_known(ways.steps(), notes, last, back);
     'notes: while place.after > 0 && place.way != 0 {
         let note = notes[place.after - 1];
         let Some(split) = ways.step(script, place.way, place.last, note.lists)? else {

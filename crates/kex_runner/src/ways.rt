@@ -5,7 +5,7 @@ ghost use Rattle.kex_sst.specs.declared.parts.Part.{Part};
 ghost use Rattle.kex_sst.specs.Parts.{olds};
 ghost use Rattle.kex_script.specs.Pages.{Keeps};
 ghost use Rattle.kex_script.specs.Scripts.{IsWord, Sheet, change_at, list_at};
-ghost use Rattle.kex_runner.specs.Ways.{AreKnown, AreOlds, IsSplit, IsStart, IsStep, IsWay, composed, one_less};
+ghost use Rattle.kex_runner.specs.Ways.{AreKnown, AreOlds, IsSplit, IsStart, IsStep, IsStepIf, IsWay, composed};
 
 use kex_code::memory::Memory;
 use kex_script::interned::{Interned, are_same};
@@ -16,33 +16,30 @@ use std::alloc::Global;
 // So many ways are kept at most.
 const MOST: usize = 16_384;
 
-// So many lists are known at once.
-const STARTS: usize = 1024;
-
 // Where the rows of updates are longer than this, no ways are known: what is kept of each would be fetched from far.
-const NEAR: usize = 32_768;
+const NEAR: usize = 65_536;
 
-/// A list is a way, and then a word: one less than this number, or none for 0. `last` is the way's last register.
+/// A list is a way, and then a word or none. `last` is the way's last register.
 #[derive(Clone, Copy, Debug, PartialEq, Eq)]
 pub struct Split {
-    pub way: u32,
-    pub last: u32,
-    pub word: u32,
+    pub way: u16,
+    pub last: u16,
+    pub word: Option<u16>,
 }
 
-/// What a list of the script is. List 0 is none.
+/// What a list of the script is, if it is a way and a word. List 0 is none.
 #[derive(Clone, Copy, Debug, PartialEq, Eq)]
 pub struct Start {
     pub list: u32,
-    pub split: Split,
+    pub split: Option<Split>,
 }
 
-/// What a way was before an update. Way 0 is none.
+/// What a way was before an update, if that is a way and a word. Way 0 is none.
 #[derive(Clone, Copy, Debug, PartialEq, Eq)]
 pub struct Step {
-    pub from: u32,
+    pub from: u16,
     pub lists: u32,
-    pub split: Split,
+    pub split: Option<Split>,
 }
 
 /// Ways by number, of which the first is empty, and what is known of them. Nothing rests on what is known: it may be let go at any time.
@@ -92,35 +89,36 @@ fn word_start(parts: &[Part]) -> usize
     start
 }
 
-// One more than the number of a word, or 0 for no parts; nothing where it is none of the words.
-fn word_number(words: &[Parts], word: &[Part]) -> Option<u32>
-    ensures { IfSome result (λ n. IsWord words.now (one_less n) word.now) }
+// The number of a word, or none for no parts; nothing where it is none of the words.
+fn word_number(words: &[Parts], word: &[Part]) -> Option<Option<u16>>
+    ensures { IfSome result (λ n. IsWord words.now n word.now) }
 {
     if word.is_empty() {
-        return Some(0);
+        return Some(None);
     }
     for i in 0..words.len() {
         if are_same(words[i].as_slice(), word) {
-            return number_behind(i);
+            let number = short(i)?;
+            return Some(Some(number));
         }
     }
     None
 }
 
-// One more than an index.
-fn number_behind(i: usize) -> Option<u32>
-    ensures { IfSome result (λ n. one_less n ≡ Some i) }
+// A number, if it is short.
+fn short(number: usize) -> Option<u16>
+    ensures { IfSome result (λ n. n ≡ number) }
 {
-    match u32::try_from(i) {
-        Ok(number) => number.checked_add(1),
+    match u16::try_from(number) {
+        Ok(number) => Some(number),
         Err(_) => None,
     }
 }
 
-// The last register of a way.
-fn last_of(way: &[Part]) -> u32 {
+// The last register of a way, or 0 where it is none or its number long.
+fn last_of(way: &[Part]) -> u16 {
     match way.last() {
-        Some(Part::Old(register)) => *register,
+        Some(Part::Old(register)) => short(*register as usize).unwrap_or(0),
         _ => 0,
     }
 }
@@ -137,7 +135,10 @@ fn split_of(words: &[Parts], ways: &mut Interned, parts: &[Part]) -> Result<Opti
     let Some(word) = word_number(words, &parts[start..]) else {
         return Ok(None);
     };
-    let way = ways.number(&parts[..start])?;
+    let number = ways.number(&parts[..start])?;
+    let Some(way) = short(number as usize) else {
+        return Ok(None);
+    };
     let last = last_of(&parts[..start]);
     Ok(Some(Split { way, last, word }))
 }
@@ -176,8 +177,31 @@ fn compose(script: &Script, lists: u32, way: &[Part], parts: &mut Vec<Part>) -> 
 
 // Where the step of a way with this last register is kept: each way of a state has its own.
 #[inline(always)]
-fn place_of(last: u32, lists: u32) -> usize {
-    lists as usize + last as usize
+fn place_of(last: u16, lists: u32) -> usize {
+    lists as usize + usize::from(last)
+}
+
+// The step of a way before an update, if it is kept.
+#[inline(always)]
+fn kept(steps: &[Step], way: u16, last: u16, lists: u32) -> Option<Step>
+    requires { 0 < way }
+    ensures { IfSome result (λ x. (s : Sheet) (ways : List (List Part)) → All (IsStepIf s ways) steps.now → IfSome x.split (λ y. IsStep s ways way lists y)) }
+{
+    let step = *steps.get(place_of(last, lists))?;
+    if step.from == way && step.lists == lists {
+        Some(step)
+    } else {
+        None
+    }
+}
+
+/// What a way was before an update, as a way and a word, if that is known.
+#[inline(always)]
+pub fn known_step(steps: &[Step], way: u16, last: u16, lists: u32) -> Option<Split>
+    requires { 0 < way }
+    ensures { IfSome result (λ x. (s : Sheet) (ways : List (List Part)) → All (IsStepIf s ways) steps.now → IsStep s ways way lists x) }
+{
+    kept(steps, way, last, lists)?.split
 }
 
 impl Ways {
@@ -187,45 +211,48 @@ impl Ways {
     {
         let mut lists = Interned::new(alloc);
         lists.add(&[])?;
-        let none = Split {
-            way: 0,
-            last: 0,
-            word: 0,
-        };
         let start = Start {
             list: 0,
-            split: none,
+            split: None,
         };
         let step = Step {
             from: 0,
             lists: 0,
-            split: none,
+            split: None,
         };
-        let rows = script.rows();
+        let far = script.rows() > NEAR;
         Ok(Ways {
             lists,
-            starts: vec![in alloc; start; STARTS]?,
-            steps: vec![in alloc; step; if rows > NEAR { 0 } else { rows }]?,
+            starts: vec![in alloc; start; if far { 0 } else { script.count() }]?,
+            steps: vec![in alloc; step; if far { 0 } else { script.rows() }]?,
             parts: Vec::new(alloc),
         })
     }
 
     /// The parts of a way.
-    pub fn way(&self, way: u32) -> &[Part]
+    pub fn way(&self, way: u16) -> &[Part]
         ensures { result.now ≡ get_or self.now.lists way [] }
     {
-        self.lists.list(way)
+        self.lists.list(u32::from(way))
+    }
+
+    /// The steps that are known.
+    #[inline(always)]
+    pub fn steps(&self) -> &[Step]
+        ensures { result.now ≡ self.now.steps.items }
+    {
+        &self.steps
     }
 
     // What is known of a list.
     #[inline(always)]
-    fn known_start(&self, list: u32) -> Option<Split>
+    fn known_start(&self, list: u32) -> Option<Start>
         requires { 0 < list }
-        ensures { IfSome result (λ x. (s : Sheet) → AreKnown s self.now → IsSplit s.words self.now.lists x (list_at s list)) }
+        ensures { IfSome result (λ x. (s : Sheet) → AreKnown s self.now → IfSome x.split (λ y. IsSplit s.words self.now.lists y (list_at s list))) }
     {
-        let start = *self.starts.get(list as usize % STARTS)?;
+        let start = *self.starts.get(list as usize)?;
         if start.list == list {
-            Some(start.split)
+            Some(start)
         } else {
             None
         }
@@ -238,14 +265,12 @@ impl Ways {
         ensures split { IfOk result (λ o. IfSome o (λ x. IsSplit script.now.words self.new.lists x (list_at script.now list))) }
     {
         let parts = script.list(list);
-        let Some(split) = split_of(script.words(), &mut self.lists, parts)? else {
-            return Ok(None);
-        };
-        let place = list as usize % STARTS;
+        let split = split_of(script.words(), &mut self.lists, parts)?;
+        let place = list as usize;
         if place < self.starts.len() {
             self.starts[place] = Start { list, split };
         }
-        Ok(Some(split))
+        Ok(split)
     }
 
     /// A list as a way and a word, if it is that.
@@ -259,22 +284,8 @@ impl Ways {
             return Ok(None);
         }
         match self.known_start(list) {
-            Some(split) => Ok(Some(split)),
+            Some(start) => Ok(start.split),
             None => self.learn_start(script, list),
-        }
-    }
-
-    // What is known of a way before an update.
-    #[inline(always)]
-    fn known_step(&self, way: u32, last: u32, lists: u32) -> Option<Split>
-        requires { 0 < way }
-        ensures { IfSome result (λ x. (s : Sheet) → AreKnown s self.now → IsStep s self.now.lists (record { from = way; lists = lists; split = x })) }
-    {
-        let step = *self.steps.get(place_of(last, lists))?;
-        if step.from == way && step.lists == lists {
-            Some(step.split)
-        } else {
-            None
         }
     }
 
@@ -283,20 +294,23 @@ impl Ways {
     fn learn_step(
         &mut self,
         script: &Script,
-        way: u32,
-        last: u32,
+        way: u16,
+        last: u16,
         lists: u32,
     ) -> Result<Option<Split>, Memory>
         requires known { AreKnown script.now self.old }
         requires way { (from : List Part) × IsWay self.old.lists way from }
         ensures known { OnOk result (AreKnown script.now self.new) }
         ensures kept { OnOk result (Keeps self.old.lists self.new.lists) }
-        ensures step { IfOk result (λ o. IfSome o (λ x. IsStep script.now self.new.lists (record { from = way; lists = lists; split = x }))) }
+        ensures step { IfOk result (λ o. IfSome o (λ x. IsStep script.now self.new.lists way lists x)) }
     {
-        compose(script, lists, self.lists.list(way), &mut self.parts)?;
-        let Some(split) = split_of(script.words(), &mut self.lists, &self.parts)? else {
-            return Ok(None);
-        };
+        compose(
+            script,
+            lists,
+            self.lists.list(u32::from(way)),
+            &mut self.parts,
+        )?;
+        let split = split_of(script.words(), &mut self.lists, &self.parts)?;
         let place = place_of(last, lists);
         if place < self.steps.len() {
             self.steps[place] = Step {
@@ -305,16 +319,15 @@ impl Ways {
                 split,
             };
         }
-        Ok(Some(split))
+        Ok(split)
     }
 
     /// What a way was before an update, as a way and a word, if it is that.
-    #[inline(always)]
     pub fn step(
         &mut self,
         script: &Script,
-        way: u32,
-        last: u32,
+        way: u16,
+        last: u16,
         lists: u32,
     ) -> Result<Option<Split>, Memory>
         requires known { AreKnown script.now self.old }
@@ -322,15 +335,11 @@ impl Ways {
         requires some { 0 < way }
         ensures known { OnOk result (AreKnown script.now self.new) }
         ensures kept { OnOk result (Keeps self.old.lists self.new.lists) }
-        ensures step { IfOk result (λ o. IfSome o (λ x. IsStep script.now self.new.lists (record { from = way; lists = lists; split = x }))) }
+        ensures step { IfOk result (λ o. IfSome o (λ x. IsStep script.now self.new.lists way lists x)) }
     {
-        match self.known_step(way, last, lists) {
-            Some(split) => Ok(Some(split)),
-            None => {
-                // Not handed on as it is: what is known stays in registers then.
-                let learnt = self.learn_step(script, way, last, lists)?;
-                Ok(learnt)
-            }
+        match kept(&self.steps, way, last, lists) {
+            Some(step) => Ok(step.split),
+            None => self.learn_step(script, way, last, lists),
         }
     }
 }

@@ -145,6 +145,11 @@ impl Script {
         }
     }
 
+    /// How many lists there are.
+    pub fn count(&self) -> usize {
+        self.lists.len()
+    }
+
     /// How long the rows of all updates are.
     pub fn rows(&self) -> usize {
         self.rows.len()

@@ -1,34 +1,34 @@
-use Rattle.std.proofs.Common.{◌∷◌, [], ap, subst, ◌∙◌}
+use Rattle.std.proofs.Common.{[], get_or, ap, ◌∙◌}
 use Rattle.std.specs.Prelude.{IfSome}
 use Rattle.std.proofs.lemmas.List.Elements.{All-set}
 use Rattle.std.proofs.lemmas.Option.{get_or_from_slice_get}
 use Rattle.kex_script.specs.Scripts.{change_at}
 use Rattle.kex_runner.specs.declared.ways.Step.{Step}
-use Rattle.kex_runner.specs.Ways.{IsSplit, IsStep, IsStepIf, composed}
+use Rattle.kex_runner.specs.Ways.{IsStep, IsStepIf, composed}
 use Rattle.kex_runner.proofs.WayLemmas.{known_more, step_is}
 use Rattle.kex_runner.proofs.ways.Ways.learn_step.Goals as goal
-use Rattle.kex_runner.proofs.ways.Ways.learn_step.Goals.{In-Some}
+use Rattle.kex_runner.proofs.ways.Ways.learn_step.Goals.{In_ok-split}
 
--- the step that was found
-the_step : (c : In-Some) → IsStep c.args.script.now c.split_of.new.ways (record { from = c.args.way; lists = c.args.lists; split = c.in-Some.split })
-the_step c =
+-- what was found
+found : (c : In_ok-split) → IfSome c.in_ok-split.split (λ x. IsStep c.args.script.now c.split_of.new.ways c.args.way c.args.lists x)
+found c =
     let s = c.args.script.now in
     let ways = c.args.self.now.lists in
     let from = c.requires.way.0 in
     let u = change_at s c.args.lists in
-    step_is s c.words.result.now ways c.split_of.new.ways c.args.way c.args.lists c.in-Some.split from c.deref.result.now c.words.ensures c.in_ok-split.ensures.kept c.requires.way.1
-    (c.deref.ensures.value ∙ c.in_ok-compose.ensures ∙ ap (λ z. composed u z) (c.list.ensures ∙ get_or_from_slice_get ways c.args.way from [] c.requires.way.1.at))
-    (subst (λ z. IfSome z (λ x. IsSplit c.words.result.now c.split_of.new.ways x c.deref.result.now)) c.in-Some.is c.in_ok-split.ensures.split)
+    step_is s c.words.result.now ways c.split_of.new.ways c.args.way c.args.lists c.in_ok-split.split from c.deref.result.now c.words.ensures c.in_ok-split.ensures.kept c.requires.way.1
+    (c.deref.ensures.value ∙ c.in_ok-compose.ensures ∙ ap (λ z. composed u z) (c.list.ensures ∙ ap (λ z. get_or ways z []) c.from.ensures ∙ get_or_from_slice_get ways c.args.way from [] c.requires.way.1.at))
+    c.in_ok-split.ensures.split
 
 pub returns-then-place-len-clause-known : goal.returns-then-place-len-clause-known
 returns-then-place-len-clause-known c =
     let s = c.args.script.now in
     let ways = c.split_of.new.ways in
-    let new : Step = record { from = c.args.way; lists = c.args.lists; split = c.in-Some.split } in
-    known_more s c.args.self.now _ c.in_ok-split.ensures.kept c.requires.known (λ h. h) (λ h. All-set (IsStepIf s ways) c.args.self.now.steps.items c.place_of-place.result new (λ some. the_step (goal.at.returns-then-place-len-clause-known c).In-Some) h)
+    let new : Step = record { from = c.args.way; lists = c.args.lists; split = c.in_ok-split.split } in
+    known_more s c.args.self.now _ c.in_ok-split.ensures.kept c.requires.known (λ h. h) (λ h. All-set (IsStepIf s ways) c.args.self.now.steps.items c.place_of-place.result new (λ some. found (goal.at.returns-then-place-len-clause-known c).In_ok-split) h)
 
 pub returns-then-place-len-clause-step : goal.returns-then-place-len-clause-step
-returns-then-place-len-clause-step c = the_step (goal.at.returns-then-place-len-clause-step c).In-Some
+returns-then-place-len-clause-step c = found (goal.at.returns-then-place-len-clause-step c).In_ok-split
 
 pub returns-else-place-len-clause-step : goal.returns-else-place-len-clause-step
-returns-else-place-len-clause-step c = the_step (goal.at.returns-else-place-len-clause-step c).In-Some
+returns-else-place-len-clause-step c = found (goal.at.returns-else-place-len-clause-step c).In_ok-split

@@ -1,0 +1,28 @@
+use Rattle.std.proofs.Common.{◌-◌, List, All, get_or, refl, sym, subst, arith}
+use Rattle.std.specs.Prelude.{IfSome}
+use Rattle.std.proofs.Math.ListN.{get_or-map}
+use Rattle.kex_sst.specs.declared.parts.Part.{Part}
+use Rattle.kex_script.specs.Scripts.{Sheet}
+use Rattle.kex_runner.specs.declared.reading.Note.{Note}
+use Rattle.kex_runner.specs.declared.walking.Place.{Place}
+use Rattle.kex_runner.specs.Noting.{update_of, updates_of}
+use Rattle.kex_runner.specs.Ways.{IsStep, IsStepIf}
+use Rattle.kex_runner.proofs.WayLemmas.{walked_on}
+use Rattle.kex_runner.proofs.walking.walk_known.Goals as goal
+
+pub notes-preserved : goal.notes-preserved
+notes-preserved c =
+    let notes = c.args.notes.now in
+    let p = c.notes.place in
+    let k = p.after - 1 in
+    let none : Note = record { lists = 0; byte = 0 } in
+    let note : Note = get_or notes k none in
+    let split = c.in-Some.split in
+    let next : Place = record { way = split.way; last = split.last; after = k } in
+    record {
+      after = omega (arith, c.notes.invariant.after);
+      room = omega (arith, c.notes.invariant.room, c.say_reserved.ensures.length, c.say_reserved.ensures.capacity, c.notes-test.true);
+      walked = λ s ways from start known h.
+          let step : IsStep s ways p.way note.lists split = subst (λ z. IfSome z (λ x. (s : Sheet) (ways : List (List Part)) → All (IsStepIf s ways) c.args.steps.now → IsStep s ways p.way note.lists x)) c.in-Some.is c.known_step.ensures s ways known in
+          walked_on s ways ways (updates_of s notes) from p next note.lists split (update_of s none) (update_of s note) start c.notes.back.items c.say_reserved.new.back.items (λ k x e. e) (omega (arith, c.notes-test.true)) refl (sym (get_or-map (λ n. update_of s n) notes k none)) refl step c.say_reserved.ensures.said (c.notes.invariant.walked s ways from start known h);
+    }
