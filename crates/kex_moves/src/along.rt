@@ -1,8 +1,7 @@
 // A run along edges with the actor, in which new edges are learnt.
 
-ghost use Rattle.std.specs.Prelude.{◌≡◌, ◌<◌, ◌≤◌, ◌+◌, ◌*◌, ◌-◌, ℕ, List, [], ◌∷◌, IsTrue, IfOk, OnOk, length, take, drop};
+ghost use Rattle.std.specs.Prelude.{◌≡◌, ◌<◌, ◌≤◌, ◌+◌, ◌*◌, ◌-◌, ℕ, List, [], ◌∷◌, false, IsTrue, IfOk, OnOk, length, take, drop};
 ghost use Rattle.kex_sst.specs.Tables.{Transducer};
-ghost use Rattle.kex_machine.specs.Nodes.{Graph};
 ghost use Rattle.kex_action.specs.Holdings.{Holding, state_of};
 ghost use Rattle.kex_action.specs.Actions.{done};
 ghost use Rattle.kex_action.specs.Actors.{Position};
@@ -10,7 +9,7 @@ ghost use Rattle.kex_action.specs.Sheets.{IsSheet, IsBlank, IsAsLong, topped, st
 ghost use Rattle.kex_moves.specs.declared.edge.Kind.{Kind};
 ghost use Rattle.kex_moves.specs.declared.edges.Pair.{Pair};
 ghost use Rattle.kex_moves.specs.Runs.{run_of};
-ghost use Rattle.kex_moves.specs.Known.{rows_of, IsEdge, IsRowOf, HasRowFor, IsKnown};
+ghost use Rattle.kex_moves.specs.Known.{rows_of, IsEdge, IsRowOf, HasRowFor, IsKnown, Grows};
 ghost use Rattle.kex_moves.specs.Along.{ReachedOn, Goes, with_sheet, written_with};
 
 use crate::edge::{Edge, Kind};
@@ -90,76 +89,6 @@ fn along(edges: &Edges, sheet: &mut Sheet, row: usize, piece: &[u8]) -> Place
     }
 }
 
-// The same, and along one edge more if it opens a buffer.
-#[inline(always)]
-fn open_next(edges: &Edges, sheet: &mut Sheet, row: usize, piece: &[u8]) -> Result<Stride, Memory>
-    requires known { (t : Transducer) × (g : Graph) × IsKnown t g edges.now }
-    requires row { (p : Pair) × IsRowOf edges.now row p }
-    requires sheet { IsSheet sheet.old }
-    requires room { sheet.old.used + 17 * length piece.now + 17 ≤ length sheet.old.bytes.items }
-    ensures within { IfOk result (λ s. s.count ≤ length piece.now) }
-    ensures row { IfOk result (λ s. (p : Pair) × IsRowOf edges.now s.row p) }
-    ensures sheet { OnOk result (IsSheet sheet.new × IsAsLong sheet.old sheet.new) }
-    ensures room { IfOk result (λ s. sheet.new.used + 17 * (length piece.now - s.count) + 17 ≤ length sheet.old.bytes.items) }
-    ensures reached { IfOk result (λ s. (t : Transducer) (a : Position) (out : List ℕ) → IsKnown t a.machine edges.now → ReachedOn t edges.now edges.now a a sheet.old sheet.new row s.row (take s.count piece.now) out out) }
-{
-    let place = along(edges, sheet, row, piece);
-    let count = place.count;
-    if count == piece.len() {
-        return Ok(Stride {
-            count,
-            row: place.row,
-            stops: true,
-        });
-    }
-    let byte = piece[count];
-    let edge = edges.edge_at(place.row, edges.class_of(byte));
-    match edge.kind {
-        Kind::Opens => {
-            open(sheet, byte)?;
-            Ok(Stride {
-                count: count + 1,
-                row: edge.next,
-                stops: false,
-            })
-        }
-        _ => Ok(Stride {
-            count,
-            row: place.row,
-            stops: true,
-        }),
-    }
-}
-
-// Goes along edges while they are written or open a buffer, on a sheet.
-// Not inlined: within a long caller what the loop reads for each byte would stand in memory.
-#[inline(never)]
-fn along_opening(
-    edges: &Edges,
-    sheet: &mut Sheet,
-    from: usize,
-    piece: &[u8],
-) -> Result<Place, Memory>
-    requires known { (t : Transducer) × (g : Graph) × IsKnown t g edges.now }
-    requires row { (p : Pair) × IsRowOf edges.now from p }
-    requires sheet { IsSheet sheet.old }
-    requires room { sheet.old.used + 17 * length piece.now + 17 ≤ length sheet.old.bytes.items }
-    ensures within { IfOk result (λ place. place.count ≤ length piece.now) }
-    ensures sheet { OnOk result (IsSheet sheet.new × IsAsLong sheet.old sheet.new) }
-    ensures reached { IfOk result (λ place. (t : Transducer) (a : Position) (out : List ℕ) → IsKnown t a.machine edges.now → ReachedOn t edges.now edges.now a a sheet.old sheet.new from place.row (take place.count piece.now) out out) }
-{
-    let mut row = from;
-    let mut at = 0;
-    let mut left = piece.len();
-    'rounds: while left > 0 {
-        let gone = open_next(edges, sheet, row, &piece[at..])?;
-        at += gone.count;
-        row = gone.row;
-        left = rounds_left(gone.stops, left);
-    }
-    Ok(Place { count: at, row })
-}
-
 // Does the rest of an edge's actions that can't be done on a sheet.
 fn act_rest(
     edges: &Edges,
@@ -211,13 +140,10 @@ pub fn act(
     Ok(())
 }
 
-// Takes a byte at which no edge is written, or learns its edge.
+// Takes a byte whose edge opens a buffer or has actions. It stops at another one, and where much stands on the sheet.
 #[inline(always)]
-fn next(
-    alloc: Global,
-    table: &Table,
-    machine: &Trimmed,
-    edges: &mut Edges,
+fn act_at(
+    edges: &Edges,
     row: usize,
     byte: u8,
     actor: &mut Actor,
@@ -225,33 +151,33 @@ fn next(
     out: &mut Vec<u8>,
 ) -> Result<Stride, Memory>
     requires usable { IsTrue actor.old.usable }
-    requires machine { actor.old.machine ≡ machine.now }
-    requires known { IsKnown table.now machine.now edges.old }
-    requires row { (q : ℕ) × (n : ℕ) × HasRowFor edges.old row q n }
+    requires known { (t : Transducer) × IsKnown t actor.old.machine edges.now }
+    requires row { (p : Pair) × IsRowOf edges.now row p }
     requires sheet { IsSheet sheet.old }
-    ensures known { IfOk result (λ s. IsKnown table.now machine.now edges.new) }
+    requires room { sheet.old.used < length sheet.old.bytes.items }
     ensures within { IfOk result (λ s. s.count ≤ 1) }
-    ensures reached { IfOk result (λ s. ReachedOn table.now edges.old edges.new actor.old actor.new sheet.old sheet.new row s.row (take s.count (byte ∷ [])) out.old.items out.new.items) }
+    ensures reached { IfOk result (λ s. (t : Transducer) → IsKnown t actor.old.machine edges.now → ReachedOn t edges.now edges.now actor.old actor.new sheet.old sheet.new row s.row (take s.count (byte ∷ [])) out.old.items out.new.items) }
+    ensures few { IfOk result (λ s. s.stops ≡ false → sheet.new.used ≤ MOST) }
     ensures sheet { OnOk result (IsSheet sheet.new × IsAsLong sheet.old sheet.new) }
     ensures machine { actor.new.machine ≡ actor.old.machine }
     ensures usable { OnOk result (IsTrue actor.new.usable) }
 {
     let edge = edges.edge_at(row, edges.class_of(byte));
     match edge.kind {
+        Kind::Opens => {
+            open(sheet, byte)?;
+            Ok(Stride {
+                count: 1,
+                row: edge.next,
+                stops: sheet.used > MOST,
+            })
+        }
         Kind::Acts => {
             act(edges, edge, byte, actor, sheet, out)?;
             Ok(Stride {
                 count: 1,
                 row: edge.next,
-                stops: false,
-            })
-        }
-        Kind::Unknown => {
-            let learnt = learn_edge(alloc, table, machine, edges, row, byte)?;
-            Ok(Stride {
-                count: 0,
-                row,
-                stops: !learnt,
+                stops: sheet.used > MOST,
             })
         }
         _ => Ok(Stride {
@@ -259,6 +185,106 @@ fn next(
             row,
             stops: true,
         }),
+    }
+}
+
+// Goes along edges while they are written, on a sheet, and along the next one if that opens a buffer or has actions.
+#[inline(always)]
+fn act_next(
+    edges: &Edges,
+    row: usize,
+    piece: &[u8],
+    actor: &mut Actor,
+    sheet: &mut Sheet,
+    out: &mut Vec<u8>,
+) -> Result<Stride, Memory>
+    requires usable { IsTrue actor.old.usable }
+    requires known { (t : Transducer) × IsKnown t actor.old.machine edges.now }
+    requires row { (p : Pair) × IsRowOf edges.now row p }
+    requires sheet { IsSheet sheet.old }
+    requires room { sheet.old.used + 17 * length piece.now + 17 ≤ length sheet.old.bytes.items }
+    ensures within { IfOk result (λ s. s.count ≤ length piece.now) }
+    ensures reached { IfOk result (λ s. (t : Transducer) → IsKnown t actor.old.machine edges.now → ReachedOn t edges.now edges.now actor.old actor.new sheet.old sheet.new row s.row (take s.count piece.now) out.old.items out.new.items) }
+    ensures few { IfOk result (λ s. s.stops ≡ false → sheet.new.used ≤ MOST) }
+    ensures sheet { OnOk result (IsSheet sheet.new × IsAsLong sheet.old sheet.new) }
+    ensures machine { actor.new.machine ≡ actor.old.machine }
+    ensures usable { OnOk result (IsTrue actor.new.usable) }
+{
+    let place = along(edges, sheet, row, piece);
+    let count = place.count;
+    if count == piece.len() {
+        return Ok(Stride {
+            count,
+            row: place.row,
+            stops: true,
+        });
+    }
+    let last = act_at(edges, place.row, piece[count], actor, sheet, out)?;
+    Ok(Stride {
+        count: count + last.count,
+        row: last.row,
+        stops: last.stops,
+    })
+}
+
+// Goes along edges of a part of a piece, up to one that is plain or isn't learnt, or until much stands on the sheet.
+// Not inlined: within a long caller what the loop reads for each byte would stand in memory.
+#[inline(never)]
+fn along_acting(
+    edges: &Edges,
+    from: usize,
+    part: &[u8],
+    actor: &mut Actor,
+    sheet: &mut Sheet,
+    out: &mut Vec<u8>,
+) -> Result<Place, Memory>
+    requires usable { IsTrue actor.old.usable }
+    requires known { (t : Transducer) × IsKnown t actor.old.machine edges.now }
+    requires row { (p : Pair) × IsRowOf edges.now from p }
+    requires part { length part.now ≤ PART }
+    requires sheet { IsSheet sheet.old }
+    requires few { sheet.old.used ≤ MOST }
+    requires room { length sheet.old.bytes.items ≡ ROOM }
+    ensures within { IfOk result (λ place. place.count ≤ length part.now) }
+    ensures reached { IfOk result (λ place. (t : Transducer) → IsKnown t actor.old.machine edges.now → ReachedOn t edges.now edges.now actor.old actor.new sheet.old sheet.new from place.row (take place.count part.now) out.old.items out.new.items) }
+    ensures sheet { OnOk result (IsSheet sheet.new × IsAsLong sheet.old sheet.new) }
+    ensures machine { actor.new.machine ≡ actor.old.machine }
+    ensures usable { OnOk result (IsTrue actor.new.usable) }
+{
+    let mut row = from;
+    let mut at = 0;
+    let mut left = part.len();
+    'rounds: while left > 0 {
+        let gone = act_next(edges, row, &part[at..], actor, sheet, out)?;
+        at += gone.count;
+        row = gone.row;
+        left = rounds_left(gone.stops, left);
+    }
+    Ok(Place { count: at, row })
+}
+
+// Learns the edge of a byte if it isn't learnt. Tells whether no edge can be gone along there.
+#[inline(always)]
+fn learn_at(
+    alloc: Global,
+    table: &Table,
+    machine: &Trimmed,
+    edges: &mut Edges,
+    row: usize,
+    byte: u8,
+) -> Result<bool, Memory>
+    requires row { (p : Pair) × IsRowOf edges.old row p }
+    requires known { IsKnown table.now machine.now edges.old }
+    ensures known { IfOk result (λ b. IsKnown table.now machine.now edges.new) }
+    ensures rows { IfOk result (λ b. Grows edges.old edges.new) }
+{
+    match edges.edge_at(row, edges.class_of(byte)).kind {
+        Kind::Unknown => {
+            let learnt = learn_edge(alloc, table, machine, edges, row, byte)?;
+            Ok(!learnt)
+        }
+        Kind::Plain => Ok(true),
+        _ => Ok(false),
     }
 }
 
@@ -319,7 +345,7 @@ pub fn part_of<T>(piece: &[T]) -> &[T]
     }
 }
 
-// Goes on from a row over a part of a piece, and takes or learns one byte more.
+// Goes on from a row over a part of a piece, and learns the edge of the byte behind it.
 fn go_on(
     alloc: Global,
     table: &Table,
@@ -346,7 +372,7 @@ fn go_on(
 {
     make_room(edges, row, actor, sheet, out)?;
     let part = part_of(piece);
-    let place = along_opening(edges, sheet, row, part)?;
+    let place = along_acting(edges, row, part, actor, sheet, out)?;
     let count = place.count;
     if count == piece.len() {
         return Ok(Stride {
@@ -355,21 +381,19 @@ fn go_on(
             stops: true,
         });
     }
-    let byte = piece[count];
-    let last = next(
-        alloc, table, machine, edges, place.row, byte, actor, sheet, out,
-    )?;
+    let stops = learn_at(alloc, table, machine, edges, place.row, piece[count])?;
     Ok(Stride {
-        count: count + last.count,
-        row: last.row,
-        stops: last.stops,
+        count,
+        row: place.row,
+        stops,
     })
 }
 
 /// How many rounds are left.
 pub fn rounds_left(stops: bool, rounds: usize) -> usize
     requires { 0 < rounds }
-    ensures { result < rounds }
+    ensures fewer { result < rounds }
+    ensures goes_on { 0 < result → stops ≡ false }
 {
     if stops { 0 } else { rounds - 1 }
 }
