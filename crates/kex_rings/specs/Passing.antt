@@ -1,5 +1,6 @@
 -- What goes into a ring and out of one.
-use Rattle.std.specs.Prelude.{◌≡◌, ◌≤◌, ◌+◌, ◌++◌, [], List, ℕ, length, min}
+use Rattle.std.specs.Prelude.{◌≡◌, ◌≤◌, ◌+◌, ◌++◌, List, ℕ, length, min}
+use mathlib.Core.List.{IsPrefix}
 use Rattle.rtrb.specs.Ring.{sent, known_free, received, known_items, SameProducer, SameConsumer}
 use Rattle.rtrb.specs.declared.producer.Producer.{Producer}
 use Rattle.rtrb.specs.declared.consumer.Consumer.{Consumer}
@@ -27,4 +28,13 @@ module _ {A P : Type 0} where
     pub count_is : count ≡ length items
     pub within : count ≤ room
     pub least : min room (length (known_items ring)) ≤ count
+    pub lies : IsWhole (waiting old ++ items_as items) → waiting new ≡ waiting old ++ items_as items
+
+  -- so many items came out, what was seen before the rest; where nothing stands behind an end they lie in the inbox
+  pub record ComesOut (old new : Inbox) (ring ring' : Consumer Item A P) (count : ℕ) : Type 0 where
+    pub same : SameConsumer ring ring'
+    pub items : List Item
+    pub came : received ring' ≡ received ring ++ items
+    pub count_is : count ≡ length items
+    pub order : IsPrefix (known_items ring) (items ++ known_items ring')
     pub lies : IsWhole (waiting old ++ items_as items) → waiting new ≡ waiting old ++ items_as items
