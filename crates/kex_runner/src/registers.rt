@@ -326,8 +326,9 @@ impl Registers {
             count += 1;
         }
         self.notes = notes;
-        *state = (row / guide.width) as u32;
-        self.count = table.states()[row / guide.width].registers() as usize;
+        let now = row / guide.width;
+        *state = now as u32;
+        self.count = table.states()[now].registers() as usize;
         Ok(count)
     }
 

@@ -89,13 +89,13 @@ overflow_cast-state c =
     let lt = place_in_range c.quiet.invariant.place in
     omega (arith, lt, c.requires.runner.sound.table.few)
 
-pub offset_bounds-states-row : goal.offset_bounds-states-row
-offset_bounds-states-row c =
+pub offset_bounds-states-now : goal.offset_bounds-states-now
+offset_bounds-states-now c =
     let lt = place_in_range c.quiet.invariant.place in
     omega (arith, lt, c.requires.runner.sound.table.few)
 
-pub bounds-states-row : goal.bounds-states-row
-bounds-states-row c =
+pub bounds-states-now : goal.bounds-states-now
+bounds-states-now c =
     let lt = place_in_range c.quiet.invariant.place in
     omega (arith, lt, ap length c.states.ensures.same)
 
@@ -104,8 +104,8 @@ returns-clause-runner c =
     let t = c.args.table.now in
     let p = c.quiet.invariant.place in
     let state = c.quiet.row / c.args.guide.now.width in
-    let s = c.index-states-row.result in
-    let at : slice_get t.states state ≡ Some s = slice_get_read t.states (length t.states) state s refl (place_in_range p) (subst (λ z. s ≡ get_or z state s) c.states.ensures.same c.index-states-row.is) in
+    let s = c.index-states-now.result in
+    let at : slice_get t.states state ≡ Some s = slice_get_read t.states (length t.states) state s refl (place_in_range p) (subst (λ z. s ≡ get_or z state s) c.states.ensures.same c.index-states-now.is) in
     record {
       sound = record { table = c.requires.runner.sound.table; place = p };
       script = c.requires.runner.script;
