@@ -1,5 +1,5 @@
 -- Ways: old registers one behind the other, and what they were before an update.
-use Rattle.std.specs.Prelude.{◌≡◌, ℕ, ◌<◌, ◌≤◌, List, [], ◌∷◌, ◌++◌, Some, All, IfSome, get_or, slice_get, length, take}
+use Rattle.std.specs.Prelude.{◌≡◌, ℕ, ◌+◌, ◌<◌, ◌≤◌, List, [], ◌∷◌, ◌++◌, Option, Some, All, IfSome, get_or, slice_get, length, take}
 use Rattle.kex_code.specs.declared.symbol.Symbol.{Symbol}
 use Rattle.kex_sst.specs.declared.parts.Part.{Part}
 use Rattle.kex_sst.specs.declared.parts.Part.TheVariants.{Put, Old, Input}
@@ -57,6 +57,14 @@ pub record IsStep (s : Sheet) (ways : List (List Part)) (number lists : ℕ) (x 
 -- the same, if it is said
 abbrev pub IsStepIf : Sheet → List (List Part) → Step → Type 0
 IsStepIf s ways x = 0 < x.from → IfSome x.split (λ y. IsStep s ways x.from x.lists y)
+
+-- this is kept of a list, where it has a place
+abbrev pub HasStart : List Start → ℕ → Option Split → Type 0
+HasStart starts list x = list < length starts → slice_get starts list ≡ Some (record { list = list; split = x })
+
+-- this is kept of a way with that last register before an update, where it has a place
+abbrev pub HasStep : List Step → ℕ → ℕ → ℕ → Option Split → Type 0
+HasStep steps way last lists x = lists + last < length steps → slice_get steps (lists + last) ≡ Some (record { from = way; lists = lists; split = x })
 
 -- what is known of ways is so, over a script
 pub record AreKnown (s : Sheet) (w : Ways) : Type 0 where

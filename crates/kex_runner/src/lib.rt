@@ -11,6 +11,8 @@ mod reading;
 mod registers;
 pub mod runner;
 mod spelling;
+#[cfg(test)]
+mod tests;
 mod walking;
 mod ways;
 

@@ -1,11 +1,11 @@
 // Ways: old registers one behind the other, and what they were before an update.
 
-ghost use Rattle.std.specs.Prelude.{◌≡◌, ◌<◌, ◌≤◌, ◌++◌, ◌∷◌, [], List, All, IsTrue, IfOk, IfSome, OnOk, length, drop, false, true, get_or, Some};
+ghost use Rattle.std.specs.Prelude.{◌≡◌, ◌+◌, ◌^◌, ◌<◌, ◌≤◌, ◌++◌, ◌∷◌, [], List, All, IsTrue, IfOk, IfSome, OnOk, length, drop, false, true, get_or, Some};
 ghost use Rattle.kex_sst.specs.declared.parts.Part.{Part};
 ghost use Rattle.kex_sst.specs.Parts.{olds};
 ghost use Rattle.kex_script.specs.Pages.{Keeps};
 ghost use Rattle.kex_script.specs.Scripts.{IsWord, Sheet, change_at, list_at};
-ghost use Rattle.kex_runner.specs.Ways.{AreKnown, AreOlds, IsSplit, IsStart, IsStep, IsStepIf, IsWay, composed};
+ghost use Rattle.kex_runner.specs.Ways.{AreKnown, AreOlds, HasStart, HasStep, IsSplit, IsStart, IsStep, IsStepIf, IsWay, composed};
 
 use kex_code::memory::Memory;
 use kex_script::interned::{Interned, are_same};
@@ -17,7 +17,7 @@ use std::alloc::Global;
 const MOST: usize = 16_384;
 
 // Where the rows of updates are longer than this, no ways are known: what is kept of each would be fetched from far.
-const NEAR: usize = 65_536;
+const NEAR: usize = 1 << 16;
 
 /// A list is a way, and then a word or none. `last` is the way's last register.
 #[derive(Clone, Copy, Debug, PartialEq, Eq)]
@@ -123,8 +123,12 @@ fn last_of(way: &[Part]) -> u16 {
     }
 }
 
-// Parts as a way and a word, if they are that.
-fn split_of(words: &[Parts], ways: &mut Interned, parts: &[Part]) -> Result<Option<Split>, Memory>
+/// Parts as a way and a word, if they are that.
+pub fn split_of(
+    words: &[Parts],
+    ways: &mut Interned,
+    parts: &[Part],
+) -> Result<Option<Split>, Memory>
     ensures split { IfOk result (λ o. IfSome o (λ x. IsSplit words.now ways.new x parts.now)) }
     ensures kept { OnOk result (Keeps ways.old ways.new) }
 {
@@ -177,7 +181,9 @@ fn compose(script: &Script, lists: u32, way: &[Part], parts: &mut Vec<Part>) -> 
 
 // Where the step of a way with this last register is kept: each way of a state has its own.
 #[inline(always)]
-fn place_of(last: u16, lists: u32) -> usize {
+fn place_of(last: u16, lists: u32) -> usize
+    ensures { result ≡ lists + last }
+{
     lists as usize + usize::from(last)
 }
 
@@ -185,7 +191,8 @@ fn place_of(last: u16, lists: u32) -> usize {
 #[inline(always)]
 fn kept(steps: &[Step], way: u16, last: u16, lists: u32) -> Option<Step>
     requires { 0 < way }
-    ensures { IfSome result (λ x. (s : Sheet) (ways : List (List Part)) → All (IsStepIf s ways) steps.now → IfSome x.split (λ y. IsStep s ways way lists y)) }
+    ensures step { IfSome result (λ x. (s : Sheet) (ways : List (List Part)) → All (IsStepIf s ways) steps.now → IfSome x.split (λ y. IsStep s ways way lists y)) }
+    ensures kept { IfSome result (λ x. HasStep steps.now way last lists x.split) }
 {
     let step = *steps.get(place_of(last, lists))?;
     if step.from == way && step.lists == lists {
@@ -207,7 +214,8 @@ pub fn known_step(steps: &[Step], way: u16, last: u16, lists: u32) -> Option<Spl
 impl Ways {
     /// Nothing is known but the empty way.
     pub fn new(alloc: Global, script: &Script) -> Result<Ways, Memory>
-        ensures { IfOk result (λ w. AreKnown script.now w) }
+        ensures known { IfOk result (λ w. AreKnown script.now w) }
+        ensures room { IfOk result (λ w. length script.now.rows ≤ 2 ^ 16 → (length w.steps.items ≡ length script.now.rows) × (length w.starts.items ≡ length script.now.lists)) }
     {
         let mut lists = Interned::new(alloc);
         lists.add(&[])?;
@@ -248,7 +256,8 @@ impl Ways {
     #[inline(always)]
     fn known_start(&self, list: u32) -> Option<Start>
         requires { 0 < list }
-        ensures { IfSome result (λ x. (s : Sheet) → AreKnown s self.now → IfSome x.split (λ y. IsSplit s.words self.now.lists y (list_at s list))) }
+        ensures split { IfSome result (λ x. (s : Sheet) → AreKnown s self.now → IfSome x.split (λ y. IsSplit s.words self.now.lists y (list_at s list))) }
+        ensures kept { IfSome result (λ x. HasStart self.now.starts.items list x.split) }
     {
         let start = *self.starts.get(list as usize)?;
         if start.list == list {
@@ -263,6 +272,8 @@ impl Ways {
         requires known { AreKnown script.now self.old }
         ensures known { OnOk result (AreKnown script.now self.new) }
         ensures split { IfOk result (λ o. IfSome o (λ x. IsSplit script.now.words self.new.lists x (list_at script.now list))) }
+        ensures learnt { IfOk result (λ o. HasStart self.new.starts.items list o) }
+        ensures steps { self.new.steps ≡ self.old.steps }
     {
         let parts = script.list(list);
         let split = split_of(script.words(), &mut self.lists, parts)?;
@@ -279,6 +290,7 @@ impl Ways {
         requires known { AreKnown script.now self.old }
         ensures known { OnOk result (AreKnown script.now self.new) }
         ensures split { IfOk result (λ o. IfSome o (λ x. IsSplit script.now.words self.new.lists x (list_at script.now list))) }
+        ensures learnt { IfOk result (λ o. 0 < list → 0 < length self.new.steps.items → HasStart self.new.starts.items list o) }
     {
         if list == 0 || self.steps.is_empty() {
             return Ok(None);
@@ -303,6 +315,7 @@ impl Ways {
         ensures known { OnOk result (AreKnown script.now self.new) }
         ensures kept { OnOk result (Keeps self.old.lists self.new.lists) }
         ensures step { IfOk result (λ o. IfSome o (λ x. IsStep script.now self.new.lists way lists x)) }
+        ensures learnt { IfOk result (λ o. HasStep self.new.steps.items way last lists o) }
     {
         compose(
             script,
@@ -336,6 +349,7 @@ impl Ways {
         ensures known { OnOk result (AreKnown script.now self.new) }
         ensures kept { OnOk result (Keeps self.old.lists self.new.lists) }
         ensures step { IfOk result (λ o. IfSome o (λ x. IsStep script.now self.new.lists way lists x)) }
+        ensures learnt { IfOk result (λ o. HasStep self.new.steps.items way last lists o) }
     {
         match kept(&self.steps, way, last, lists) {
             Some(step) => Ok(step.split),

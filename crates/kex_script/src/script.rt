@@ -1,6 +1,6 @@
 // The lists of a table's updates, and what each state does on each class of bytes.
 
-ghost use Rattle.std.specs.Prelude.{◌≡◌, ◌+◌, ◌*◌, ◌<◌, [], suc, false, Option, Some, None, IfOk, MatchOption, get_or, slice_get};
+ghost use Rattle.std.specs.Prelude.{◌≡◌, ◌+◌, ◌*◌, ◌<◌, [], suc, false, Option, Some, None, IfOk, MatchOption, get_or, slice_get, length};
 ghost use Rattle.kex_script.specs.Scripts.{IsScriptOf, IsTail, change_at, entry_at, list_at};
 
 use crate::writer::Writer;
@@ -146,12 +146,16 @@ impl Script {
     }
 
     /// How many lists there are.
-    pub fn count(&self) -> usize {
+    pub fn count(&self) -> usize
+        ensures { result ≡ length self.now.lists }
+    {
         self.lists.len()
     }
 
     /// How long the rows of all updates are.
-    pub fn rows(&self) -> usize {
+    pub fn rows(&self) -> usize
+        ensures { result ≡ length self.now.rows }
+    {
         self.rows.len()
     }
 
