@@ -29,7 +29,7 @@ pub const PART: usize = 4_096;
 /// How many bytes may stand on a sheet when a part is begun.
 const MOST: usize = 16_384;
 
-/// Room for these, and for what is written for a part.
+/// Room for these, and for what is written for a part: 17 bytes for each of its bytes, and 17 more.
 pub const ROOM: usize = 86_033;
 
 /// How many bytes a run took, and the state to which they lead.

@@ -10,7 +10,7 @@ pub enum Kind {
     Drop,
     /// A text with the byte at a place in it, perhaps the byte alone or nothing.
     Text,
-    /// Actions, which are done outside of the loop.
+    /// Actions, which the actor does.
     Acts,
     /// Actions that open a buffer and write the byte alone.
     Opens,

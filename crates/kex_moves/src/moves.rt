@@ -54,7 +54,7 @@ fn classes_of(table: &Table) -> [u8; 256]
     classes
 }
 
-/// The least power of two that is no less than a count.
+/// The exponent of the least power of two that is no less than a count.
 pub fn shift_of(count: u16) -> u32
     requires { count ≤ 256 }
     ensures within { result ≤ 8 }

@@ -1,4 +1,4 @@
-//! Lists that are ways, and steps that are kept for them. No clause says that any are.
+//! Lists that are ways, and the steps that are kept of them.
 
 use crate::ways::{Split, Step, known_step, split_of};
 use kex_code::symbol::Symbol;
