@@ -7,6 +7,7 @@ mod pipes;
 mod refusals;
 mod rings;
 mod rounds;
+mod stages;
 mod terms;
 
 use crate::{Rejected, Status, kex};
