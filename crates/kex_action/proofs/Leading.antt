@@ -3,11 +3,11 @@ use Rattle.std.proofs.Common.{◌≡◌, ℕ, zero, suc, ◌<◌, ◌+◌, List,
 use Rattle.std.specs.Prelude.{slice_get, IfSome}
 use Rattle.std.proofs.lemmas.List.{take-append-drop}
 use Rattle.kex_code.specs.Codes.{Begins}
-use Rattle.kex_code.specs.Registers.{Registers, held, joined}
+use Rattle.kex_code.specs.Registers.{Registers, content_of, pieces_text}
 use Rattle.kex_code.specs.declared.symbol.Symbol.{Symbol}
 use Rattle.kex_code.specs.declared.symbol.Symbol.TheVariants.{L, R, Byte}
-use Rattle.kex_model.specs.Moves.{Allows, code_of, entered, Effect, nothing, append, open_buffer, drop_buffer, into, write, set_to, add_to, went}
-use Rattle.kex_model.specs.Acting.{State, appended, dropped, moved_into, done_by, acted}
+use Rattle.kex_model.specs.Moves.{Allows, code_of, target_of, Effect, nothing, append, open_buffer, drop_buffer, into, write, set_to, add_to, went}
+use Rattle.kex_model.specs.Acting.{State, after_append, after_drop, after_into, after_effect, after_steps}
 use Rattle.kex_model.proofs.Tables.{some_same}
 use Rattle.kex_model.proofs.Derivations.{code_of-append, walk-append}
 use Rattle.kex_machine.specs.declared.MNode.{MNode}
@@ -26,7 +26,7 @@ slice_get-at (y ∷ ys) (suc i) x h e = slice_get-at ys i x (omega arith) e
 pub move_at : (nodes nodes' : List MNode) (i : ℕ) (m : MNode) → nodes' ≡ nodes → i < length nodes → m ≡ get_or nodes' i m → node_moves nodes i ≡ move_of (Some m)
 move_at nodes nodes' i m same h e = ap move_of (slice_get-at nodes i m h (e ∙ ap (λ q. get_or q i m) same))
 
-entered-step_by : (y : Symbol) (t : ℕ) → entered (step_by y t) ≡ t
+entered-step_by : (y : Symbol) (t : ℕ) → target_of (step_by y t) ≡ t
 entered-step_by L t = refl
 entered-step_by R t = refl
 entered-step_by (Byte b) t = refl
@@ -36,7 +36,7 @@ code_of-step_by L t = refl
 code_of-step_by R t = refl
 code_of-step_by (Byte b) t = refl
 
-pub by_symbol : (nodes : List MNode) (s t : ℕ) (y : Symbol) (before after : State) → Allows (node_moves nodes s) (step_by y t) → acted (step_by y t ∷ []) (y ∷ []) before ≡ after → Leads nodes s before (y ∷ []) t after
+pub by_symbol : (nodes : List MNode) (s t : ℕ) (y : Symbol) (before after : State) → Allows (node_moves nodes s) (step_by y t) → after_steps (step_by y t ∷ []) (y ∷ []) before ≡ after → Leads nodes s before (y ∷ []) t after
 by_symbol nodes s t y before after a e = record { steps = step_by y t ∷ []; walk = (a, entered-step_by y t); codes = code_of-step_by y t; did = e }
 
 pub fits_after : (g : Graph) (s t : ℕ) (y : Symbol) (h : Holding) → IsInRange g.start g.nodes g.registers → Allows (node_moves g.nodes s) (step_by y t) → length h.registers ≡ g.registers → Fits g t h
@@ -50,7 +50,7 @@ leads_on nodes s m t c d st st' st'' p q = record {
   steps = p.steps ++ q.steps;
   walk = walk-append (node_moves nodes) p.steps q.steps s m t p.walk q.walk;
   codes = code_of-append p.steps q.steps ∙ ap₂ (λ x y. x ++ y) p.codes q.codes;
-  did = ap (λ x. acted (p.steps ++ q.steps) (x ++ d) st) (sym p.codes) ∙ acted-append p.steps q.steps d st ∙ ap (λ x. acted q.steps d (acted p.steps x st)) p.codes ∙ ap (λ z. acted q.steps d z) p.did ∙ q.did;
+  did = ap (λ x. after_steps (p.steps ++ q.steps) (x ++ d) st) (sym p.codes) ∙ acted-append p.steps q.steps d st ∙ ap (λ x. after_steps q.steps d (after_steps p.steps x st)) p.codes ∙ ap (λ z. after_steps q.steps d z) p.did ∙ q.did;
 }
 
 -- a walk of so many steps without a symbol
@@ -84,10 +84,10 @@ walks_more nodes s n m t p a = record {
   count = length-append p.reaches.steps (went a.0 t ∷ []) ∙ ap (λ k. k + 1) p.count;
 }
 
-pub did_byte : (y : Symbol) (b t : ℕ) (out : List ℕ) (h : Holding) (after : State) → y ≡ Byte b → after ≡ appended (b ∷ []) out h.buffers h.registers → acted (step_by y t ∷ []) (y ∷ []) (state_of out h) ≡ after
-did_byte y b t out h after e f = ap (λ q. acted (step_by q t ∷ []) (q ∷ []) (state_of out h)) e ∙ sym f
+pub did_byte : (y : Symbol) (b t : ℕ) (out : List ℕ) (h : Holding) (after : State) → y ≡ Byte b → after ≡ after_append (b ∷ []) out h.buffers h.registers → after_steps (step_by y t ∷ []) (y ∷ []) (state_of out h) ≡ after
+did_byte y b t out h after e f = ap (λ q. after_steps (step_by q t ∷ []) (q ∷ []) (state_of out h)) e ∙ sym f
 
-pub did_choice : (y : Symbol) (t : ℕ) (s : State) → ((b : ℕ) → y ≡ Byte b → ⊥) → acted (step_by y t ∷ []) (y ∷ []) s ≡ s
+pub did_choice : (y : Symbol) (t : ℕ) (s : State) → ((b : ℕ) → y ≡ Byte b → ⊥) → after_steps (step_by y t ∷ []) (y ∷ []) s ≡ s
 did_choice L t s h = refl
 did_choice R t s h = refl
 did_choice (Byte b) t s h = absurd (h b refl)
@@ -98,33 +98,33 @@ front_of nodes s t before c d out out' h p b e = record {
   to = t;
   walk = p.walk;
   begins = subst (λ q. Begins d q) (sym p.codes) b;
-  wrote = ap (λ q. (acted p.steps q before).out) p.codes ∙ ap (λ z. z.out) p.did ∙ sym e;
+  wrote = ap (λ q. (after_steps p.steps q before).out) p.codes ∙ ap (λ z. z.out) p.did ∙ sym e;
 }
 
-pub appended-registers : (s out : List ℕ) (bs : List (List ℕ)) (regs : Registers) → (appended s out bs regs).registers ≡ regs
+pub appended-registers : (s out : List ℕ) (bs : List (List ℕ)) (regs : Registers) → (after_append s out bs regs).registers ≡ regs
 appended-registers s out [] regs = refl
 appended-registers s out (b ∷ bs) regs = refl
 
-dropped-registers : (out : List ℕ) (bs : List (List ℕ)) (regs : Registers) → (dropped out bs regs).registers ≡ regs
+dropped-registers : (out : List ℕ) (bs : List (List ℕ)) (regs : Registers) → (after_drop out bs regs).registers ≡ regs
 dropped-registers out [] regs = refl
 dropped-registers out (b ∷ bs) regs = refl
 
-moved-registers : (r : ℕ) (out : List ℕ) (bs : List (List ℕ)) (regs : Registers) → length (moved_into r out bs regs).registers ≡ length regs
+moved-registers : (r : ℕ) (out : List ℕ) (bs : List (List ℕ)) (regs : Registers) → length (after_into r out bs regs).registers ≡ length regs
 moved-registers r out [] regs = refl
 moved-registers r out (b ∷ bs) regs = length-set regs r b
 
 -- no effect makes or takes away a register
-pub length-done_by : (e : Effect) (s : State) → length (done_by e s).registers ≡ length s.registers
+pub length-done_by : (e : Effect) (s : State) → length (after_effect e s).registers ≡ length s.registers
 length-done_by nothing s = refl
 length-done_by (append bytes) s = ap length (appended-registers bytes s.out s.buffers s.registers)
 length-done_by open_buffer s = refl
 length-done_by drop_buffer s = ap length (dropped-registers s.out s.buffers s.registers)
 length-done_by (into r) s = moved-registers r s.out s.buffers s.registers
-length-done_by (write r) s = ap length (appended-registers (held s.registers r) s.out s.buffers s.registers)
-length-done_by (set_to r parts) s = length-set s.registers r (joined parts s.registers)
-length-done_by (add_to r parts) s = length-set s.registers r (held s.registers r ++ joined parts s.registers)
+length-done_by (write r) s = ap length (appended-registers (content_of s.registers r) s.out s.buffers s.registers)
+length-done_by (set_to r parts) s = length-set s.registers r (pieces_text parts s.registers)
+length-done_by (add_to r parts) s = length-set s.registers r (content_of s.registers r ++ pieces_text parts s.registers)
 
-pub count_after : (e : Effect) (out out' : List ℕ) (h h' : Holding) (n : ℕ) → state_of out' h' ≡ done_by e (state_of out h) → length h.registers ≡ n → length h'.registers ≡ n
+pub count_after : (e : Effect) (out out' : List ℕ) (h h' : Holding) (n : ℕ) → state_of out' h' ≡ after_effect e (state_of out h) → length h.registers ≡ n → length h'.registers ≡ n
 count_after e out out' h h' n f k = ap (λ z. length z.registers) f ∙ length-done_by e (state_of out h) ∙ k
 
 -- what a node does has registers
@@ -154,10 +154,10 @@ front_behind nodes s m st st' c d out p q =
       to = q.to;
       walk = walk-append (node_moves nodes) p.steps q.steps s m q.to p.walk q.walk;
       begins = (q.begins.0, ap (λ x. c ++ x) q.begins.1 ∙ sym (append_assoc c (code_of q.steps) q.begins.0) ∙ ap (λ x. x ++ q.begins.0) (sym code));
-      wrote = ap (λ x. (acted (p.steps ++ q.steps) x st).out) (code_of-append p.steps q.steps)
+      wrote = ap (λ x. (after_steps (p.steps ++ q.steps) x st).out) (code_of-append p.steps q.steps)
           ∙ ap (λ z. z.out) (acted-append p.steps q.steps (code_of q.steps) st)
-          ∙ ap (λ x. (acted q.steps (code_of q.steps) (acted p.steps x st)).out) p.codes
-          ∙ ap (λ z. (acted q.steps (code_of q.steps) z).out) p.did
+          ∙ ap (λ x. (after_steps q.steps (code_of q.steps) (after_steps p.steps x st)).out) p.codes
+          ∙ ap (λ z. (after_steps q.steps (code_of q.steps) z).out) p.did
           ∙ q.wrote;
     }
 

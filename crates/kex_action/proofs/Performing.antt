@@ -7,18 +7,18 @@ use Rattle.kex_code.specs.declared.symbol.Symbol.{Symbol}
 use Rattle.kex_code.specs.declared.symbol.Symbol.TheVariants.{L}
 use Rattle.kex_code.specs.Codes.{Begins}
 use Rattle.kex_model.specs.Moves.{Move, accept, Allows, reads, goes_left, goes_right, goes_forced, goes, code_of, symbols_of, Walk, Step}
-use Rattle.kex_model.specs.Acting.{State, acted}
+use Rattle.kex_model.specs.Acting.{State, after_steps}
 use Rattle.kex_model.proofs.Derivations.{code_of-append, walk-append}
 use Rattle.kex_machine.specs.declared.MNode.{MNode}
 use Rattle.kex_machine.specs.Nodes.{Graph, node_moves, IsInRange, IsTrimmed}
-use Rattle.kex_machine.specs.Answers.{begun, IsRun, left_by}
+use Rattle.kex_machine.specs.Answers.{start_state, IsRun, left_by}
 use Rattle.kex_action.specs.Holdings.{Holding, state_of, step_by, Rests, Leads, Reaches, WritesFront, Followed}
 use Rattle.kex_action.specs.Actors.{Position, BeginsRun, IsWhole, HasPerformed, WentOn, TookAll, StoppedAt, WroteFront}
 use Rattle.kex_action.proofs.Walking.{parts_none, ahead, acted-ahead, acted-append, nothing_done, first_step, GoesOn, goes_on}
 use Rattle.kex_action.proofs.Leading.{leads_on, take-more}
 use Rattle.kex_action.proofs.Looping.{walked_in}
 
-pub start_of : (g : Graph) → Leads g.nodes g.start (begun g.registers) [] g.start (state_of [] (record { buffers = []; registers = replicate g.registers [] }))
+pub start_of : (g : Graph) → Leads g.nodes g.start (start_state g.registers) [] g.start (state_of [] (record { buffers = []; registers = replicate g.registers [] }))
 start_of g = record { steps = []; walk = refl; codes = refl; did = refl }
 
 -- what is written does not depend on what was written before
@@ -29,8 +29,8 @@ pub record Shifted (nodes : List MNode) (s : ℕ) (h : Holding) (c : List Symbol
 
 pub shifted : (nodes : List MNode) (s t : ℕ) (h h' : Holding) (c : List Symbol) (before after : List ℕ) → Leads nodes s (state_of before h) c t (state_of after h') → Shifted nodes s h c t h' before after
 shifted nodes s t h h' c before after p =
-    let e : State = acted p.steps c (state_of [] h) in
-    let from : (out : List ℕ) → acted p.steps c (state_of out h) ≡ ahead out e = λ out. ap (λ x. acted p.steps c (state_of x h)) (sym (append-nil out)) ∙ acted-ahead p.steps c out (state_of [] h) in
+    let e : State = after_steps p.steps c (state_of [] h) in
+    let from : (out : List ℕ) → after_steps p.steps c (state_of out h) ≡ ahead out e = λ out. ap (λ x. after_steps p.steps c (state_of x h)) (sym (append-nil out)) ∙ acted-ahead p.steps c out (state_of [] h) in
     let here : ahead before e ≡ state_of after h' = sym (from before) ∙ p.did in
     let held : ahead [] e ≡ state_of e.out h' = ap₂ (λ b r. record { out = e.out; buffers = b; registers = r }) (ap (λ z. z.buffers) here) (ap (λ z. z.registers) here) in
     record {
@@ -44,15 +44,15 @@ pub goes_from : (g : Graph) (js ks : List (Step ℕ)) (t : ℕ) (c : List Symbol
 goes_from g js ks t c w e run b = goes_on (node_moves g.nodes) js ks g.start t run.0 b.0 w run.1 run.2 (b.1 ∙ ap (λ q. q ++ b.0) (sym e))
 
 -- what a run leaves that goes on from a walk
-left_behind : (g : Graph) (t e : ℕ) (c d x : List Symbol) (st : State) (ks : List (Step ℕ)) (p : Leads g.nodes g.start (begun g.registers) c t st) (on : GoesOn (node_moves g.nodes) p.steps ks t e x) → left_by g ks (c ++ d) ≡ acted on.rest d st
+left_behind : (g : Graph) (t e : ℕ) (c d x : List Symbol) (st : State) (ks : List (Step ℕ)) (p : Leads g.nodes g.start (start_state g.registers) c t st) (on : GoesOn (node_moves g.nodes) p.steps ks t e x) → left_by g ks (c ++ d) ≡ after_steps on.rest d st
 left_behind g t e c d x st ks p on =
-    ap₂ (λ y z. acted y z (begun g.registers)) on.same (ap (λ q. q ++ d) (sym p.codes))
-    ∙ acted-append p.steps on.rest d (begun g.registers)
-    ∙ ap (λ q. acted on.rest d (acted p.steps q (begun g.registers))) p.codes
-    ∙ ap (λ z. acted on.rest d z) p.did
+    ap₂ (λ y z. after_steps y z (start_state g.registers)) on.same (ap (λ q. q ++ d) (sym p.codes))
+    ∙ acted-append p.steps on.rest d (start_state g.registers)
+    ∙ ap (λ q. after_steps on.rest d (after_steps p.steps q (start_state g.registers))) p.codes
+    ∙ ap (λ z. after_steps on.rest d z) p.did
 
 -- every run leaves what the walk leaves
-pub left_at : (g : Graph) (t : ℕ) (c : List Symbol) (st : State) → Leads g.nodes g.start (begun g.registers) c t st → Rests (node_moves g.nodes t) → (ks : List (Step ℕ)) → IsRun g ks → Begins (code_of ks) c → left_by g ks c ≡ st
+pub left_at : (g : Graph) (t : ℕ) (c : List Symbol) (st : State) → Leads g.nodes g.start (start_state g.registers) c t st → Rests (node_moves g.nodes t) → (ks : List (Step ℕ)) → IsRun g ks → Begins (code_of ks) c → left_by g ks c ≡ st
 left_at g t c st p rests ks run b =
     let on = goes_from g p.steps ks t c p.walk p.codes run b in
     ap (λ q. left_by g ks q) (sym (append-nil c)) ∙ left_behind g t run.0 c [] b.0 st ks p on ∙ nothing_done (node_moves g.nodes) on.rest t run.0 st rests on.walk
@@ -71,12 +71,12 @@ position g n h r u = record { machine = g; at = n; holding = h; refused = r; usa
 
 pub begins_performed : (g : Graph) (h : Holding) (u : Bool) → h ≡ record { buffers = []; registers = replicate g.registers [] } → HasPerformed (position g g.start h false u) [] [] []
 begins_performed g h u e =
-    let came : Leads g.nodes g.start (begun g.registers) [] g.start (state_of [] h) = subst (λ q. Leads g.nodes g.start (begun g.registers) [] g.start (state_of [] q)) (sym e) (start_of g) in
+    let came : Leads g.nodes g.start (start_state g.registers) [] g.start (state_of [] h) = subst (λ q. Leads g.nodes g.start (start_state g.registers) [] g.start (state_of [] q)) (sym e) (start_of g) in
     record { came = came; left = λ settled. left_at g g.start [] (state_of [] h) came settled; all = λ f. refl; none = λ f. cc }
 
 carried : (g : Graph) (n t : ℕ) (h h' : Holding) (r r' u u' : Bool) (gv gv' c d : List Symbol) (out more : List ℕ) → HasPerformed (position g n h r u) gv c out → Leads g.nodes n (state_of out h) d t (state_of (out ++ more) h') → (r' ≡ false → gv' ≡ c ++ d) → (r' ≡ true → BeginsRun g gv' → ⊥) → HasPerformed (position g t h' r' u') gv' (c ++ d) (out ++ more)
 carried g n t h h' r r' u u' gv gv' c d out more p l all none =
-    let came : Leads g.nodes g.start (begun g.registers) (c ++ d) t (state_of (out ++ more) h') = leads_on g.nodes g.start n t c d (begun g.registers) (state_of out h) (state_of (out ++ more) h') p.came l in
+    let came : Leads g.nodes g.start (start_state g.registers) (c ++ d) t (state_of (out ++ more) h') = leads_on g.nodes g.start n t c d (start_state g.registers) (state_of out h) (state_of (out ++ more) h') p.came l in
     record { came = came; left = λ settled. left_at g t (c ++ d) (state_of (out ++ more) h') came settled; all = all; none = none }
 
 -- steps carry on what was performed, whatever came before
@@ -122,7 +122,7 @@ took_all g n t h h' false u u' symbols before after count trim range f all =
       went = record { more = s.more; written = s.written; performed = λ gv c out p. carried g n t h h' false false u u' gv (gv ++ symbols) c symbols out s.more p (s.anywhere out) (λ e. ap (λ q. q ++ symbols) (p.all refl)) (λ e. cc) };
       settled = f.rests;
       good = λ gv c out p i lt.
-          let whole = leads_on g.nodes g.start n t c symbols (begun g.registers) (state_of out h) (state_of (out ++ s.more) h') p.came (s.anywhere out) in
+          let whole = leads_on g.nodes g.start n t c symbols (start_state g.registers) (state_of out h) (state_of (out ++ s.more) h') p.came (s.anywhere out) in
           let run = begins_run g t (c ++ symbols) _ _ trim range whole in
           subst (λ q. BeginsRun g (q ++ take (suc i) symbols)) (sym (p.all refl)) (begins_front g (c ++ take (suc i) symbols) (c ++ symbols) run (begins_behind c symbols (suc i)));
     }
@@ -160,9 +160,9 @@ stopped_at g n t h h' true u u' symbols before after count trim range f less =
     longer c d none run = none (begins_front g c (c ++ d) run (d, refl))
 stopped_at g n t h h' false u u' symbols before after count trim range f less =
     let s = shifted g.nodes n t h h' (take count symbols) before after f.leads in
-    let whole = λ (gv c : List Symbol) (out : List ℕ) (p : HasPerformed (position g n h false u) gv c out). leads_on g.nodes g.start n t c (take count symbols) (begun g.registers) (state_of out h) (state_of (out ++ s.more) h') p.came (s.anywhere out) in
+    let whole = λ (gv c : List Symbol) (out : List ℕ) (p : HasPerformed (position g n h false u) gv c out). leads_on g.nodes g.start n t c (take count symbols) (start_state g.registers) (state_of out h) (state_of (out ++ s.more) h') p.came (s.anywhere out) in
     let here = slice_get-get_or symbols count L less in
-    let bad = λ (gv c : List Symbol) (out : List ℕ) (p : HasPerformed (position g n h false u) gv c out). no_run g t (c ++ take count symbols) (gv ++ take (suc count) symbols) (get_or symbols count L) (begun g.registers) (state_of (out ++ s.more) h') (whole gv c out p) f.rests (λ z a. f.none (get_or symbols count L) z here a) (ap₂ (λ x z. x ++ z) (p.all refl) (take-more symbols count (get_or symbols count L) here) ∙ sym (append_assoc c (take count symbols) (get_or symbols count L ∷ []))) in
+    let bad = λ (gv c : List Symbol) (out : List ℕ) (p : HasPerformed (position g n h false u) gv c out). no_run g t (c ++ take count symbols) (gv ++ take (suc count) symbols) (get_or symbols count L) (start_state g.registers) (state_of (out ++ s.more) h') (whole gv c out p) f.rests (λ z a. f.none (get_or symbols count L) z here a) (ap₂ (λ x z. x ++ z) (p.all refl) (take-more symbols count (get_or symbols count L) here) ∙ sym (append_assoc c (take count symbols) (get_or symbols count L ∷ []))) in
     record {
       went = record { more = s.more; written = s.written; performed = λ gv c out p. carried g n t h h' false true u u' gv (gv ++ symbols) c (take count symbols) out s.more p (s.anywhere out) (λ e. cc) (λ e. spoilt g gv symbols (suc count) (bad gv c out p)) };
       settled = f.rests;
@@ -177,21 +177,21 @@ stopped_at g n t h h' false u u' symbols before after count trim range f less =
     shorter c i l = (drop i (take count symbols), ap (λ q. c ++ q) (sym (take-append-drop i (take count symbols)) ∙ ap (λ q. q ++ drop i (take count symbols)) (take-take i count symbols l)) ∙ sym (append_assoc c (take i symbols) (drop i (take count symbols))))
 
 -- no byte that was written goes away
-acted_grows : (ks : List (Step ℕ)) (c : List Symbol) (s : State) → Begins (acted ks c s).out s.out
+acted_grows : (ks : List (Step ℕ)) (c : List Symbol) (s : State) → Begins (after_steps ks c s).out s.out
 acted_grows ks c s =
     let bare : State = record { out = []; buffers = s.buffers; registers = s.registers } in
-    ((acted ks c bare).out, ap (λ q. (acted ks c (record { out = q; buffers = s.buffers; registers = s.registers })).out) (sym (append-nil s.out)) ∙ ap (λ z. z.out) (acted-ahead ks c s.out bare))
+    ((after_steps ks c bare).out, ap (λ q. (after_steps ks c (record { out = q; buffers = s.buffers; registers = s.registers })).out) (sym (append-nil s.out)) ∙ ap (λ z. z.out) (acted-ahead ks c s.out bare))
 
 open_front : (r : Bool) (symbols c : List Symbol) → Begins (if r then [] else symbols) c → Begins symbols c
 open_front true symbols c b = (symbols, ap (λ q. q ++ symbols) (sym (parts_none c b.0 (sym b.1)).0))
 open_front false symbols c b = b
 
-grown : (g : Graph) (t e : ℕ) (c d x all : List Symbol) (st : State) (ks : List (Step ℕ)) (p : Leads g.nodes g.start (begun g.registers) c t st) (on : GoesOn (node_moves g.nodes) p.steps ks t e x) → all ≡ c ++ d → Begins (left_by g ks all).out st.out
+grown : (g : Graph) (t e : ℕ) (c d x all : List Symbol) (st : State) (ks : List (Step ℕ)) (p : Leads g.nodes g.start (start_state g.registers) c t st) (on : GoesOn (node_moves g.nodes) p.steps ks t e x) → all ≡ c ++ d → Begins (left_by g ks all).out st.out
 grown g t e c d x all st ks p on same = subst (λ z. Begins z.out st.out) (sym (ap (λ q. left_by g ks q) same ∙ left_behind g t e c d x st ks p on)) (acted_grows on.rest d st)
 
 pub wrote_front : (g : Graph) (n : ℕ) (h : Holding) (r u : Bool) (symbols : List Symbol) (before after : List ℕ) → WritesFront g.nodes n (state_of before h) (if r then [] else symbols) after → WroteFront (position g n h r u) symbols before after
 wrote_front g n h r u symbols before after w =
-    let e : State = acted w.steps (code_of w.steps) (state_of before h) in
+    let e : State = after_steps w.steps (code_of w.steps) (state_of before h) in
     let h' : Holding = record { buffers = e.buffers; registers = e.registers } in
     let leads : Leads g.nodes n (state_of before h) (code_of w.steps) w.to (state_of after h') = record { steps = w.steps; walk = w.walk; codes = refl; did = ap (λ o. state_of o h') w.wrote } in
     let s = shifted g.nodes n w.to h h' (code_of w.steps) before after leads in
@@ -200,7 +200,7 @@ wrote_front g n h r u symbols before after w =
       more = s.more;
       written = s.written;
       front = λ gv c out p ks run b.
-          let whole = leads_on g.nodes g.start n w.to c (code_of w.steps) (begun g.registers) (state_of out h) (state_of (out ++ s.more) h') p.came (s.anywhere out) in
+          let whole = leads_on g.nodes g.start n w.to c (code_of w.steps) (start_state g.registers) (state_of out h) (state_of (out ++ s.more) h') p.came (s.anywhere out) in
           let code : c ++ symbols ≡ (c ++ code_of w.steps) ++ front.0 = ap (λ q. c ++ q) front.1 ∙ sym (append_assoc c (code_of w.steps) front.0) in
           let on = goes_from g whole.steps ks w.to (c ++ code_of w.steps) whole.walk whole.codes run (front.0 ++ b.0, b.1 ∙ ap (λ q. q ++ b.0) code ∙ append_assoc (c ++ code_of w.steps) front.0 b.0) in
           grown g w.to run.0 (c ++ code_of w.steps) front.0 _ (c ++ symbols) (state_of (out ++ s.more) h') ks whole on code;

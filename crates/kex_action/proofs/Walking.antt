@@ -3,29 +3,29 @@ use Rattle.std.proofs.Common.{◌≡◌, ℕ, List, [], ◌∷◌, ◌++◌, ref
 use Rattle.std.proofs.lemmas.List.{append_cancel_left}
 use Rattle.kex_code.specs.declared.symbol.Symbol.{Symbol}
 use Rattle.kex_code.specs.declared.symbol.Symbol.TheVariants.{L, R, Byte}
-use Rattle.kex_code.specs.Registers.{Registers, held}
-use Rattle.kex_model.specs.Moves.{Move, accept, Allows, reads, goes_left, goes_right, goes_forced, goes, to_left, to_right, code_of, symbols_of, entered, Walk, Effect, nothing, append, open_buffer, drop_buffer, into, write, set_to, add_to, Step, took, chose, went}
-use Rattle.kex_model.specs.Acting.{State, appended, dropped, moved_into, done_by, acted}
+use Rattle.kex_code.specs.Registers.{Registers, content_of}
+use Rattle.kex_model.specs.Moves.{Move, accept, Allows, reads, goes_left, goes_right, goes_forced, goes, to_left, to_right, code_of, symbols_of, target_of, Walk, Effect, nothing, append, open_buffer, drop_buffer, into, write, set_to, add_to, Step, took, chose, went}
+use Rattle.kex_model.specs.Acting.{State, after_append, after_drop, after_into, after_effect, after_steps}
 use Rattle.kex_model.proofs.Walks.{step_from_code}
 use Rattle.kex_model.proofs.Derivations.{from_accept}
 use Rattle.kex_action.specs.Holdings.{Rests, step_by}
 
 -- one walk, and then another
-pub acted-append : {S : Type 0} (js ks : List (Step S)) (d : List Symbol) (s : State) → acted (js ++ ks) (code_of js ++ d) s ≡ acted ks d (acted js (code_of js) s)
+pub acted-append : {S : Type 0} (js ks : List (Step S)) (d : List Symbol) (s : State) → after_steps (js ++ ks) (code_of js ++ d) s ≡ after_steps ks d (after_steps js (code_of js) s)
 acted-append [] ks d s = refl
-acted-append (went e t ∷ js) ks d s = acted-append js ks d (done_by e s)
+acted-append (went e t ∷ js) ks d s = acted-append js ks d (after_effect e s)
 acted-append (chose x t ∷ js) ks d s = acted-append js ks d s
-acted-append (took b t ∷ js) ks d s = acted-append js ks d (appended (b ∷ []) s.out s.buffers s.registers)
+acted-append (took b t ∷ js) ks d s = acted-append js ks d (after_append (b ∷ []) s.out s.buffers s.registers)
 
 -- from a place that rests nothing is done without a symbol
-resting : {S : Type 0} {m : Move S} {k : Step S} (ks : List (Step S)) (s : State) → Rests m → Allows m k → acted (k ∷ ks) [] s ≡ s
+resting : {S : Type 0} {m : Move S} {k : Step S} (ks : List (Step S)) (s : State) → Rests m → Allows m k → after_steps (k ∷ ks) [] s ≡ s
 resting ks s h (reads t) = refl
 resting ks s h goes_left = refl
 resting ks s h goes_right = refl
 resting ks s h goes_forced = refl
 resting ks s h goes = absurd h
 
-pub nothing_done : {S : Type 0} (f : S → Move S) (ks : List (Step S)) (t e : S) (s : State) → Rests (f t) → Walk f t ks e → acted ks [] s ≡ s
+pub nothing_done : {S : Type 0} (f : S → Move S) (ks : List (Step S)) (t e : S) (s : State) → Rests (f t) → Walk f t ks e → after_steps ks [] s ≡ s
 nothing_done f [] t e s h w = refl
 nothing_done f (k ∷ ks) t e s h w = resting ks s h w.0
 
@@ -42,36 +42,36 @@ first_step x z y h goes e = absurd h
 abbrev pub ahead : List ℕ → State → State
 ahead x s = record { out = x ++ s.out; buffers = s.buffers; registers = s.registers }
 
-appended-ahead : (x s out : List ℕ) (bs : List (List ℕ)) (regs : Registers) → appended s (x ++ out) bs regs ≡ ahead x (appended s out bs regs)
+appended-ahead : (x s out : List ℕ) (bs : List (List ℕ)) (regs : Registers) → after_append s (x ++ out) bs regs ≡ ahead x (after_append s out bs regs)
 appended-ahead x s out [] regs = ap (λ q. record { out = q; buffers = []; registers = regs }) (append_assoc x out s)
 appended-ahead x s out (b ∷ bs) regs = refl
 
-dropped-ahead : (x out : List ℕ) (bs : List (List ℕ)) (regs : Registers) → dropped (x ++ out) bs regs ≡ ahead x (dropped out bs regs)
+dropped-ahead : (x out : List ℕ) (bs : List (List ℕ)) (regs : Registers) → after_drop (x ++ out) bs regs ≡ ahead x (after_drop out bs regs)
 dropped-ahead x out [] regs = refl
 dropped-ahead x out (b ∷ bs) regs = refl
 
-moved_into-ahead : (r : ℕ) (x out : List ℕ) (bs : List (List ℕ)) (regs : Registers) → moved_into r (x ++ out) bs regs ≡ ahead x (moved_into r out bs regs)
+moved_into-ahead : (r : ℕ) (x out : List ℕ) (bs : List (List ℕ)) (regs : Registers) → after_into r (x ++ out) bs regs ≡ ahead x (after_into r out bs regs)
 moved_into-ahead r x out [] regs = refl
 moved_into-ahead r x out (b ∷ bs) regs = refl
 
-done_by-ahead : (e : Effect) (x : List ℕ) (s : State) → done_by e (ahead x s) ≡ ahead x (done_by e s)
+done_by-ahead : (e : Effect) (x : List ℕ) (s : State) → after_effect e (ahead x s) ≡ ahead x (after_effect e s)
 done_by-ahead nothing x s = refl
 done_by-ahead (append bytes) x s = appended-ahead x bytes s.out s.buffers s.registers
 done_by-ahead open_buffer x s = refl
 done_by-ahead drop_buffer x s = dropped-ahead x s.out s.buffers s.registers
 done_by-ahead (into r) x s = moved_into-ahead r x s.out s.buffers s.registers
-done_by-ahead (write r) x s = appended-ahead x (held s.registers r) s.out s.buffers s.registers
+done_by-ahead (write r) x s = appended-ahead x (content_of s.registers r) s.out s.buffers s.registers
 done_by-ahead (set_to r parts) x s = refl
 done_by-ahead (add_to r parts) x s = refl
 
 -- what the output had before stays in front of it
-pub acted-ahead : {S : Type 0} (ks : List (Step S)) (c : List Symbol) (x : List ℕ) (s : State) → acted ks c (ahead x s) ≡ ahead x (acted ks c s)
+pub acted-ahead : {S : Type 0} (ks : List (Step S)) (c : List Symbol) (x : List ℕ) (s : State) → after_steps ks c (ahead x s) ≡ ahead x (after_steps ks c s)
 acted-ahead [] c x s = refl
-acted-ahead (went e t ∷ ks) c x s = ap (λ z. acted ks c z) (done_by-ahead e x s) ∙ acted-ahead ks c x (done_by e s)
+acted-ahead (went e t ∷ ks) c x s = ap (λ z. after_steps ks c z) (done_by-ahead e x s) ∙ acted-ahead ks c x (after_effect e s)
 acted-ahead (chose y t ∷ ks) [] x s = refl
 acted-ahead (chose y t ∷ ks) (z ∷ c) x s = acted-ahead ks c x s
 acted-ahead (took b t ∷ ks) [] x s = refl
-acted-ahead (took b t ∷ ks) (z ∷ c) x s = ap (λ q. acted ks c q) (appended-ahead x (b ∷ []) s.out s.buffers s.registers) ∙ acted-ahead ks c x (appended (b ∷ []) s.out s.buffers s.registers)
+acted-ahead (took b t ∷ ks) (z ∷ c) x s = ap (λ q. after_steps ks c q) (appended-ahead x (b ∷ []) s.out s.buffers s.registers) ∙ acted-ahead ks c x (after_append (b ∷ []) s.out s.buffers s.registers)
 
 pub parts_none : {A : Type 0} (xs ys : List A) → xs ++ ys ≡ [] → (xs ≡ []) × (ys ≡ [])
 parts_none [] ys e = (refl, e)
@@ -91,5 +91,5 @@ goes_on f (j ∷ js) (k ∷ ks) s t e x wj wk ends c =
     let shown : symbols_of j ++ (code_of js ++ x) ≡ symbols_of k ++ code_of ks = sym (c ∙ append_assoc (symbols_of j) (code_of js) x) in
     let same : j ≡ k = step_from_code (code_of js ++ x) (code_of ks) wj.0 wk.0 shown in
     let rest : code_of ks ≡ code_of js ++ x = append_cancel_left (symbols_of k) _ _ (sym (rw same at shown)) in
-    let on = goes_on f js ks (entered j) t e x wj.1 (subst (λ q. Walk f (entered q) ks e) (sym same) wk.1) ends rest in
+    let on = goes_on f js ks (target_of j) t e x wj.1 (subst (λ q. Walk f (target_of q) ks e) (sym same) wk.1) ends rest in
     record { rest = on.rest; same = ap₂ (λ p q. p ∷ q) (sym same) on.same; walk = on.walk; codes = on.codes }

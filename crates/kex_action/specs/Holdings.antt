@@ -3,9 +3,9 @@ use Rattle.std.specs.Prelude.{◌≡◌, ℕ, Bool, IsTrue, ◌<◌, ◌≤◌, 
 use Rattle.kex_code.specs.declared.symbol.Symbol.{Symbol}
 use Rattle.kex_code.specs.declared.symbol.Symbol.TheVariants.{L, R, Byte}
 use Rattle.kex_code.specs.Codes.{Begins}
-use Rattle.kex_code.specs.Registers.{Registers, put}
+use Rattle.kex_code.specs.Registers.{Registers, with_content}
 use Rattle.kex_model.specs.Moves.{Move, accept, read, choose, forced, go, to_left, to_right, Effect, Step, took, chose, went, Allows, code_of, Walk}
-use Rattle.kex_model.specs.Acting.{State, appended, done_by, acted}
+use Rattle.kex_model.specs.Acting.{State, after_append, after_effect, after_steps}
 use Rattle.kex_machine.specs.declared.MNode.{MNode}
 use Rattle.kex_machine.specs.declared.MNode.TheVariants.{Do}
 use Rattle.kex_machine.specs.Nodes.{Graph, node_moves, HasRegisters, IsInRange, IsTrimmed}
@@ -31,11 +31,11 @@ pub record Leads (nodes : List MNode) (s : ℕ) (before : State) (c : List Symbo
   pub steps : List (Step ℕ)
   pub walk : Walk (node_moves nodes) s steps t
   pub codes : code_of steps ≡ c
-  pub did : acted steps c before ≡ after
+  pub did : after_steps steps c before ≡ after
 
 -- bytes are written
-abbrev pub adding : List ℕ → State → State
-adding bytes s = appended bytes s.out s.buffers s.registers
+abbrev pub with_bytes : List ℕ → State → State
+with_bytes bytes s = after_append bytes s.out s.buffers s.registers
 
 -- steps with the code c lead from s to t, and make f of every state
 abbrev pub Does : List MNode → ℕ → List Symbol → ℕ → (State → State) → Type 0
@@ -47,7 +47,7 @@ pub record WritesFront (nodes : List MNode) (s : ℕ) (before : State) (c : List
   pub to : ℕ
   pub walk : Walk (node_moves nodes) s steps to
   pub begins : Begins c (code_of steps)
-  pub wrote : (acted steps (code_of steps) before).out ≡ out
+  pub wrote : (after_steps steps (code_of steps) before).out ≡ out
 
 -- the innermost buffer is gone
 abbrev pub dropped_from : List (List ℕ) → Registers → Holding
@@ -57,7 +57,7 @@ dropped_from (b ∷ bs) regs = record { buffers = bs; registers = regs }
 -- the register has what the innermost buffer had
 abbrev pub moved_to : ℕ → List (List ℕ) → Registers → Holding
 moved_to r [] regs = record { buffers = []; registers = regs }
-moved_to r (b ∷ bs) regs = record { buffers = bs; registers = put regs r b }
+moved_to r (b ∷ bs) regs = record { buffers = bs; registers = with_content regs r b }
 
 -- n is a node of the machine, and there are as many registers as it has
 pub record Fits (g : Graph) (n : ℕ) (h : Holding) : Type 0 where
@@ -99,7 +99,7 @@ CanAct registers _ = Unit {0}
 pub record Passes (m : Move ℕ) (before : State) (t : ℕ) (after : State) : Type 0 where
   pub effect : Effect
   pub allowed : Allows m (went effect t)
-  pub did : done_by effect before ≡ after
+  pub did : after_effect effect before ≡ after
 
 abbrev pub IsPassed : Move ℕ → ℕ → Type 0
 IsPassed m t = (e : Effect) × Allows m (went e t)

@@ -1,10 +1,10 @@
 // The action machine.
 
 ghost use Rattle.std.specs.Prelude.{◌≡◌, ◌<◌, ◌≤◌, ◌↔◌, [], List, ℕ, IfOk, IsOk, OnOk, IfErr, OnErr, IsTrue, if◌then◌else◌, length, take};
-ghost use Rattle.kex_code.specs.Registers.{held};
+ghost use Rattle.kex_code.specs.Registers.{content_of};
 ghost use Rattle.kex_code.specs.declared.symbol.Symbol.{Symbol};
 ghost use Rattle.kex_action.specs.Holdings.{Does, state_of};
-ghost use Rattle.kex_action.specs.Actions.{done};
+ghost use Rattle.kex_action.specs.Actions.{after_actions};
 ghost use Rattle.kex_action.specs.Actors.{HasPerformed, TookAll, WentOn, IsWhole};
 ghost use Rattle.kex_action.specs.Faults.{After};
 ghost use Rattle.kex_action.specs.Sheets.{IsSheet, IsAsLong, IsBlank, state_with};
@@ -113,8 +113,8 @@ impl<'m> Actor<'m> {
     ) -> Result<(), Memory>
         requires usable { IsTrue self.old.usable }
         requires node { node < length self.old.machine.nodes }
-        ensures ok { OnOk result ((c : List Symbol) → Does self.old.machine.nodes self.old.at c node (done self.old.machine.nodes byte actions.now) → WentOn self.old self.new c c out.old.items out.new.items) }
-        ensures did { OnOk result (state_of out.new.items self.new.holding ≡ done self.old.machine.nodes byte actions.now (state_of out.old.items self.old.holding)) }
+        ensures ok { OnOk result ((c : List Symbol) → Does self.old.machine.nodes self.old.at c node (after_actions self.old.machine.nodes byte actions.now) → WentOn self.old self.new c c out.old.items out.new.items) }
+        ensures did { OnOk result (state_of out.new.items self.new.holding ≡ after_actions self.old.machine.nodes byte actions.now (state_of out.old.items self.old.holding)) }
         ensures node { OnOk result (self.new.at ≡ node) }
         ensures machine { self.new.machine ≡ self.old.machine }
         ensures refused { self.new.refused ≡ self.old.refused }
@@ -137,7 +137,7 @@ impl<'m> Actor<'m> {
     ) -> Result<usize, Memory>
         requires usable { IsTrue self.old.usable }
         requires sheet { IsSheet sheet.old }
-        ensures did { IfOk result (λ n. (out : List ℕ) → state_with sheet.new out self.new.holding ≡ done self.old.machine.nodes byte (take n actions.now) (state_with sheet.old out self.old.holding)) }
+        ensures did { IfOk result (λ n. (out : List ℕ) → state_with sheet.new out self.new.holding ≡ after_actions self.old.machine.nodes byte (take n actions.now) (state_with sheet.old out self.old.holding)) }
         ensures count { IfOk result (λ n. n ≤ length actions.now) }
         ensures sheet { OnOk result (IsSheet sheet.new × IsAsLong sheet.old sheet.new) }
         ensures same { (self.new.machine ≡ self.old.machine) × (self.new.at ≡ self.old.at) × (self.new.refused ≡ self.old.refused) }
@@ -182,7 +182,7 @@ impl<'m> Actor<'m> {
     pub fn register(&self, r: u32) -> &[u8]
         requires usable { IsTrue self.now.usable }
         requires within { r < self.now.machine.registers }
-        ensures { result.now ≡ held self.now.holding.registers r }
+        ensures { result.now ≡ content_of self.now.holding.registers r }
     {
         self.store.register(r)
     }

@@ -1,10 +1,10 @@
 // The open buffers and the registers, and what each effect does to them.
 
 ghost use Rattle.std.specs.Prelude.{◌≡◌, ◌<◌, ◌↔◌, ◌++◌, [], ◌∷◌, List, ℕ, OnOk, OnErr, IfOk, IsTrue, length, replicate, reverse, false};
-ghost use Rattle.kex_code.specs.Registers.{joined, put, held};
+ghost use Rattle.kex_code.specs.Registers.{pieces_text, with_content, content_of};
 ghost use Rattle.kex_code.specs.declared.piece.Piece.{Piece};
 ghost use Rattle.kex_model.specs.Programs.{HasPieces};
-ghost use Rattle.kex_model.specs.Acting.{appended, done_by};
+ghost use Rattle.kex_model.specs.Acting.{after_append, after_effect};
 ghost use Rattle.kex_machine.specs.Nodes.{effect_of, HasRegisters};
 ghost use Rattle.kex_model.specs.Moves.{into};
 ghost use Rattle.kex_action.specs.Holdings.{state_of, dropped_from, moved_to};
@@ -41,7 +41,7 @@ impl Model for Store {
 
 // Bytes go to the innermost open buffer, or to the output where none is open.
 fn append_to(buffers: &mut Vec<Buffer>, bytes: &[u8], out: &mut Vec<u8>) -> Result<(), Memory>
-    ensures ok { OnOk result ((regs : List (List ℕ)) → state_of out.new.items (record { buffers = reverse buffers.new.items; registers = regs }) ≡ appended bytes.now out.old.items (reverse buffers.old.items) regs) }
+    ensures ok { OnOk result ((regs : List (List ℕ)) → state_of out.new.items (record { buffers = reverse buffers.new.items; registers = regs }) ≡ after_append bytes.now out.old.items (reverse buffers.old.items) regs) }
     ensures err { OnErr result (out.new.items ≡ out.old.items) }
 {
     let count = buffers.len();
@@ -55,7 +55,7 @@ fn append_to(buffers: &mut Vec<Buffer>, bytes: &[u8], out: &mut Vec<u8>) -> Resu
 // The bytes of a piece.
 fn bytes_of<'a>(piece: &'a Piece, registers: &'a [Buffer]) -> &'a [u8]
     requires { HasPieces (length registers.now) (piece.now ∷ []) }
-    ensures { result.now ≡ joined (piece.now ∷ []) registers.now }
+    ensures { result.now ≡ pieces_text (piece.now ∷ []) registers.now }
 {
     match piece {
         Piece::Lit(bytes) => bytes.as_slice(),
@@ -76,7 +76,7 @@ fn begins_with(pieces: &[Piece], r: u32) -> bool
 // Adds what the pieces join to.
 fn join(pieces: &[Piece], registers: &[Buffer], into: &mut Buffer) -> Result<(), Memory>
     requires { HasPieces (length registers.now) pieces.now }
-    ensures { OnOk result (into.new ≡ into.old ++ joined pieces.now registers.now) }
+    ensures { OnOk result (into.new ≡ into.old ++ pieces_text pieces.now registers.now) }
 {
     for piece in pieces {
         into.append(bytes_of(piece, registers))?;
@@ -103,14 +103,14 @@ impl Store {
 
     pub fn register(&self, r: u32) -> &[u8]
         requires { r < length self.now.registers }
-        ensures { result.now ≡ held self.now.registers r }
+        ensures { result.now ≡ content_of self.now.registers r }
     {
         self.registers[r as usize].as_slice()
     }
 
     // Writes bytes.
     pub fn write(&mut self, bytes: &[u8], out: &mut Vec<u8>) -> Result<(), Memory>
-        ensures ok { OnOk result (state_of out.new.items self.new ≡ appended bytes.now out.old.items self.old.buffers self.old.registers) }
+        ensures ok { OnOk result (state_of out.new.items self.new ≡ after_append bytes.now out.old.items self.old.buffers self.old.registers) }
         ensures err { OnErr result (out.new.items ≡ out.old.items) }
     {
         append_to(&mut self.buffers, bytes, out)
@@ -118,7 +118,7 @@ impl Store {
 
     fn write_register(&mut self, r: u32, out: &mut Vec<u8>) -> Result<(), Memory>
         requires { r < length self.old.registers }
-        ensures ok { OnOk result (state_of out.new.items self.new ≡ appended (held self.old.registers r) out.old.items self.old.buffers self.old.registers) }
+        ensures ok { OnOk result (state_of out.new.items self.new ≡ after_append (content_of self.old.registers r) out.old.items self.old.buffers self.old.registers) }
         ensures err { OnErr result (out.new.items ≡ out.old.items) }
     {
         append_to(
@@ -167,7 +167,7 @@ impl Store {
     fn add(&mut self, r: u32, pieces: &[Piece]) -> Result<(), Memory>
         requires in_range { r < length self.old.registers }
         requires pieces_in { HasPieces (length self.old.registers) pieces.now }
-        ensures { OnOk result (self.new ≡ record { buffers = self.old.buffers; registers = put self.old.registers r (held self.old.registers r ++ joined pieces.now self.old.registers) }) }
+        ensures { OnOk result (self.new ≡ record { buffers = self.old.buffers; registers = with_content self.old.registers r (content_of self.old.registers r ++ pieces_text pieces.now self.old.registers) }) }
     {
         let mut more = mem::replace(&mut self.spare, Buffer::new(self.alloc));
         join(pieces, &self.registers, &mut more)?;
@@ -180,7 +180,7 @@ impl Store {
     fn set(&mut self, r: u32, pieces: &[Piece]) -> Result<(), Memory>
         requires in_range { r < length self.old.registers }
         requires pieces_in { HasPieces (length self.old.registers) pieces.now }
-        ensures { OnOk result (self.new ≡ record { buffers = self.old.buffers; registers = put self.old.registers r (joined pieces.now self.old.registers) }) }
+        ensures { OnOk result (self.new ≡ record { buffers = self.old.buffers; registers = with_content self.old.registers r (pieces_text pieces.now self.old.registers) }) }
     {
         if begins_with(pieces, r) {
             return self.add(r, &pieces[1..]);
@@ -195,7 +195,7 @@ impl Store {
     // Does an effect.
     pub fn perform(&mut self, effect: &Effect, out: &mut Vec<u8>) -> Result<(), Memory>
         requires { HasRegisters (length self.old.registers) effect.now }
-        ensures ok { OnOk result (state_of out.new.items self.new ≡ done_by (effect_of effect.now) (state_of out.old.items self.old)) }
+        ensures ok { OnOk result (state_of out.new.items self.new ≡ after_effect (effect_of effect.now) (state_of out.old.items self.old)) }
         ensures err { OnErr result (out.new.items ≡ out.old.items) }
     {
         match effect {
@@ -220,7 +220,7 @@ impl Store {
     fn take_from(&mut self, r: u32, sheet: &mut Sheet) -> Result<bool, Memory>
         requires register { r < length self.old.registers }
         requires sheet { IsSheet sheet.old }
-        ensures did { IfOk result (λ b. IsTrue b → (out : List ℕ) → state_with sheet.new out self.new ≡ done_by (into r) (state_with sheet.old out self.old)) }
+        ensures did { IfOk result (λ b. IsTrue b → (out : List ℕ) → state_with sheet.new out self.new ≡ after_effect (into r) (state_with sheet.old out self.old)) }
         ensures stays { IfOk result (λ b. b ≡ false → (out : List ℕ) → state_with sheet.new out self.new ≡ state_with sheet.old out self.old) }
         ensures sheet { OnOk result (IsSheet sheet.new × IsAsLong sheet.old sheet.new) }
     {
@@ -236,7 +236,7 @@ impl Store {
     pub fn perform_on(&mut self, effect: &Effect, sheet: &mut Sheet) -> Result<bool, Memory>
         requires registers { HasRegisters (length self.old.registers) effect.now }
         requires sheet { IsSheet sheet.old }
-        ensures did { IfOk result (λ b. IsTrue b → (out : List ℕ) → state_with sheet.new out self.new ≡ done_by (effect_of effect.now) (state_with sheet.old out self.old)) }
+        ensures did { IfOk result (λ b. IsTrue b → (out : List ℕ) → state_with sheet.new out self.new ≡ after_effect (effect_of effect.now) (state_with sheet.old out self.old)) }
         ensures stays { IfOk result (λ b. b ≡ false → (out : List ℕ) → state_with sheet.new out self.new ≡ state_with sheet.old out self.old) }
         ensures sheet { OnOk result (IsSheet sheet.new × IsAsLong sheet.old sheet.new) }
     {

@@ -7,14 +7,14 @@ use Rattle.kex_code.specs.declared.piece.Piece.TheVariants.{Lit, Register}
 abbrev pub Registers : Type 0
 Registers = List (List ℕ)
 
-abbrev pub held : Registers → ℕ → List ℕ
-held regs r = get_or regs r []
+abbrev pub content_of : Registers → ℕ → List ℕ
+content_of regs r = get_or regs r []
 
-abbrev pub put : Registers → ℕ → List ℕ → Registers
-put regs r s = slice_set regs r s
+abbrev pub with_content : Registers → ℕ → List ℕ → Registers
+with_content regs r s = slice_set regs r s
 
 -- the parts joined
-abbrev pub joined : List Piece → Registers → List ℕ
-joined [] regs = []
-joined (Lit s ∷ parts) regs = s ++ joined parts regs
-joined (Register r ∷ parts) regs = held regs r ++ joined parts regs
+abbrev pub pieces_text : List Piece → Registers → List ℕ
+pieces_text [] regs = []
+pieces_text (Lit s ∷ parts) regs = s ++ pieces_text parts regs
+pieces_text (Register r ∷ parts) regs = content_of regs r ++ pieces_text parts regs

@@ -5,7 +5,7 @@ use Rattle.kex_code.specs.Codes.{HasNumber}
 use Rattle.kex_model.specs.Programs.{Grammar}
 use Rattle.kex_model.specs.declared.frame.Frame.{Frame}
 use Rattle.kex_model.specs.declared.frame.Frame.TheVariants.{Pending, EndOf}
-use Rattle.kex_model.specs.Moves.{entered}
+use Rattle.kex_model.specs.Moves.{target_of}
 use Rattle.kex_model.specs.Places.{Place, start_of, IsPlace, at_start, by_step, by_rest}
 use Rattle.kex_model.proofs.Tables.{some_same}
 use Rattle.kex_lowering.specs.Stages.{HasPlaces}
@@ -27,7 +27,7 @@ module _ (P Q : Grammar) (a : Alike P Q) (known : Known P) (root root' : ℕ) (s
   placed_back (by_step k is al) =
       let x = placed_back is in
       let y = step_back S (moves_on P Q a known x.1) al in
-      (entered y.0, y.3, by_step y.0 x.2 y.1)
+      (target_of y.0, y.3, by_step y.0 x.2 y.1)
   placed_back (by_rest is) =
       let x = placed_back is in
       let y = rest_back S x.1 in

@@ -9,7 +9,7 @@ use Rattle.kex_model.specs.declared.program.Kind.TheVariants.{Call}
 use Rattle.kex_model.specs.declared.frame.Frame.{Frame}
 use Rattle.kex_model.specs.declared.frame.Frame.TheVariants.{Pending, EndOf}
 use Rattle.kex_model.specs.Trees.{kind_at, root_of}
-use Rattle.kex_model.specs.Moves.{Move, Effect, accept, read, choose, go, Step, took, chose, went, to_left, to_right, Allows, reads, goes_left, goes_right, goes, entered, symbols_of, code_of, IsWaiting, Walk}
+use Rattle.kex_model.specs.Moves.{Move, Effect, accept, read, choose, go, Step, took, chose, went, to_left, to_right, Allows, reads, goes_left, goes_right, goes, target_of, symbols_of, code_of, IsWaiting, Walk}
 use Rattle.kex_model.specs.Places.{Place, fresh, enter, with_counts, moves_of, moves, start_of, IsPlace, at_start, by_step, by_rest, HasEmptyLoop}
 use Rattle.kex_model.specs.Survivors.{LeadsToEnd}
 use Rattle.kex_desugar.specs.Machines.{HasMore}
@@ -50,14 +50,14 @@ module _ (S : ℕ → ℕ → Type 0) where
   rest_on (pending {m = m} {need = need} {left = left} {q = q} h s) = (Pending m need left, q, refl, s)
   rest_on (ends {m = m} {q = q} h s) = (EndOf m, q, refl, s)
 
-  pub step_on : {m n : Move Place} {k : Step Place} → SameMove S m n → Allows m k → (j : Step Place) × Allows n j × (symbols_of k ≡ symbols_of j) × SamePlace S (entered k) (entered j)
+  pub step_on : {m n : Move Place} {k : Step Place} → SameMove S m n → Allows m k → (j : Step Place) × Allows n j × (symbols_of k ≡ symbols_of j) × SamePlace S (target_of k) (target_of j)
   step_on accepts a = elim a [ ]
   step_on (reads_on {q = q} e r) (reads {b = b} i) = (took b q, reads (subst (λ z. IsTrue z) (e b) i), refl, r)
   step_on (chooses {q = q} r r') goes_left = (chose to_left q, goes_left, refl, r)
   step_on (chooses {q' = q} r r') goes_right = (chose to_right q, goes_right, refl, r')
   step_on (goes_on {f = f} {q = q} r) goes = (went f q, goes, refl, r)
 
-  pub step_back : {m n : Move Place} {j : Step Place} → SameMove S m n → Allows n j → (k : Step Place) × Allows m k × (symbols_of k ≡ symbols_of j) × SamePlace S (entered k) (entered j)
+  pub step_back : {m n : Move Place} {j : Step Place} → SameMove S m n → Allows n j → (k : Step Place) × Allows m k × (symbols_of k ≡ symbols_of j) × SamePlace S (target_of k) (target_of j)
   step_back accepts a = elim a [ ]
   step_back (reads_on {p = p} e r) (reads {b = b} i) = (took b p, reads (subst (λ z. IsTrue z) (sym (e b)) i), refl, r)
   step_back (chooses {p = p} r r') goes_left = (chose to_left p, goes_left, refl, r)
@@ -173,14 +173,14 @@ module _ (P Q : Grammar) (a : Alike P Q) (known : (name at : ℕ) → IsUse P na
   walk_on [] p t q w s = ([], q, refl, subst (λ z. SamePlace Partners z q) w s, refl)
   walk_on (k ∷ ks) p t q (al, w) s =
       let x = step_on Partners (moves_on s) al in
-      let y = walk_on ks (entered k) t (entered x.0) w x.3 in
+      let y = walk_on ks (target_of k) t (target_of x.0) w x.3 in
       (x.0 ∷ y.0, y.1, (x.1, y.2), y.3, ap (λ z. z ++ code_of ks) x.2 ∙ ap (λ z. symbols_of x.0 ++ z) y.4)
 
   pub walk_back : (js : List (Step Place)) (p q u : Place) → Walk (moves Q) q js u → SamePlace Partners p q → (ks : List (Step Place)) × (t : Place) × Walk (moves P) p ks t × SamePlace Partners t u × (code_of ks ≡ code_of js)
   walk_back [] p q u w s = ([], p, refl, subst (λ z. SamePlace Partners p z) w s, refl)
   walk_back (j ∷ js) p q u (al, w) s =
       let x = step_back Partners (moves_on s) al in
-      let y = walk_back js (entered x.0) (entered j) u w x.3 in
+      let y = walk_back js (target_of x.0) (target_of j) u w x.3 in
       (x.0 ∷ y.0, y.1, (x.1, y.2), y.3, ap (λ z. z ++ code_of y.0) x.2 ∙ ap (λ z. symbols_of j ++ z) y.4)
 
   module _ (root root' : ℕ) (same : Partners root root') where
@@ -189,7 +189,7 @@ module _ (P Q : Grammar) (a : Alike P Q) (known : (name at : ℕ) → IsUse P na
     place_on (by_step k is al) =
         let x = place_on is in
         let y = step_on Partners (moves_on x.1) al in
-        (entered y.0, y.3, by_step y.0 x.2 y.1)
+        (target_of y.0, y.3, by_step y.0 x.2 y.1)
     place_on (by_rest is) =
         let x = place_on is in
         let y = rest_on Partners x.1 in
@@ -205,10 +205,10 @@ module _ (P Q : Grammar) (a : Alike P Q) (known : (name at : ℕ) → IsUse P na
     loop_on (p, k, ks, is, (al, w), none) =
         let x = place_on is in
         let y = step_on Partners (moves_on x.1) al in
-        let z = walk_on ks (entered k) p (entered y.0) w y.3 in
+        let z = walk_on ks (target_of k) p (target_of y.0) w y.3 in
         let back : z.1 ≡ x.0 = place_forth Partners one_partner z.3 x.1 in
         let codes = ap (λ c. c ++ code_of ks) y.2 ∙ ap (λ c. symbols_of y.0 ++ c) z.4 in
-        (x.0, y.0, z.0, x.2, (y.1, subst (λ u. Walk (moves Q) (entered y.0) z.0 u) back z.2), ap bytes_of (sym codes) ∙ none)
+        (x.0, y.0, z.0, x.2, (y.1, subst (λ u. Walk (moves Q) (target_of y.0) z.0 u) back z.2), ap bytes_of (sym codes) ∙ none)
 
     pub end_ahead : LeadsToEnd (moves P) (start_of P root) → LeadsToEnd (moves Q) (start_of Q root')
     end_ahead (ks, e, w, done) =

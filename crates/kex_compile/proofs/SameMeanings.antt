@@ -7,10 +7,10 @@ use Rattle.std.proofs.lemmas.Option.{slice_get_within}
 use Rattle.kex_code.specs.declared.symbol.Symbol.{Symbol}
 use Rattle.kex_code.specs.declared.symbol.Symbol.TheVariants.{L, R, Byte}
 use Rattle.kex_code.specs.declared.piece.Piece.{Piece}
-use Rattle.kex_code.specs.Registers.{Registers, held, put, joined}
+use Rattle.kex_code.specs.Registers.{Registers, content_of, with_content, pieces_text}
 use Rattle.kex_model.specs.Programs.{Grammar}
 use Rattle.kex_model.specs.declared.program.Kind.{Kind}
-use Rattle.kex_model.specs.Trees.{kind_at, root_of, Tree, IsTree, one, lit, one_byte, call, seq, alt_left, alt_right, needed, again, end, mute, at_register, write_register, set_register, add_register, code, meaning, end_mark, Part, behind, go_on, then_part, put_whole, kept_part, part}
+use Rattle.kex_model.specs.Trees.{kind_at, root_of, Tree, IsTree, one, lit, one_byte, call, seq, alt_left, alt_right, needed, again, end, mute, at_register, write_register, set_register, add_register, code, meaning, end_mark, Part, part_behind, go_on, then_part, put_whole, kept_part, part}
 use Rattle.kex_model.specs.Answers.{empty}
 use Rattle.kex_model.proofs.Growing.{part_whole}
 use Rattle.kex_rules.specs.Rules.{IsDefined, IsUse}
@@ -20,7 +20,7 @@ use Rattle.kex_compile.proofs.Alike.{Alike, one_name, name_back}
 use Rattle.kex_compile.proofs.SameRules.{G}
 use Rattle.kex_compile.proofs.PlacePairs.{Partners, Defined, partners_on, root_on}
 
-none_held : (n r : ℕ) → held (replicate n []) r ≡ []
+none_held : (n r : ℕ) → content_of (replicate n []) r ≡ []
 none_held zero r = refl
 none_held (suc n) zero = refl
 none_held (suc n) (suc r) = none_held n r
@@ -32,7 +32,7 @@ module _ (P Q : Grammar) (a : Alike P Q) where
   pub record SameRegisters (regs regs' : Registers) : Type 0 where
     pub long : length regs ≡ length a.registers
     pub long' : length regs' ≡ length a.registers'
-    pub same : (r r' : ℕ) → G P Q a r r' → held regs r ≡ held regs' r'
+    pub same : (r r' : ℕ) → G P Q a r r' → content_of regs r ≡ content_of regs' r'
 
   pub same_empty : SameRegisters (empty P) (empty Q)
   same_empty = record {
@@ -41,7 +41,7 @@ module _ (P Q : Grammar) (a : Alike P Q) where
     same = λ r r' g. none_held P.registers r ∙ sym (none_held Q.registers r');
   }
 
-  put_on : (regs regs' : Registers) (r r' : ℕ) (s s' : List ℕ) → SameRegisters regs regs' → G P Q a r r' → s ≡ s' → SameRegisters (put regs r s) (put regs' r' s')
+  put_on : (regs regs' : Registers) (r r' : ℕ) (s s' : List ℕ) → SameRegisters regs regs' → G P Q a r r' → s ≡ s' → SameRegisters (with_content regs r s) (with_content regs' r' s')
   put_on regs regs' r r' s s' h g e = record {
     long = length-set regs r s ∙ h.long;
     long' = length-set regs' r' s' ∙ h.long';
@@ -54,17 +54,17 @@ module _ (P Q : Grammar) (a : Alike P Q) where
       within' : r' < length regs'
       within' = let lt : r' < length a.registers' = slice_get_within a.registers' r' g.0 g.2 in omega (arith, lt, h.long')
 
-      here : (k k' : ℕ) → G P Q a k k' → k ≡ r → held (put regs r s) k ≡ held (put regs' r' s') k'
+      here : (k k' : ℕ) → G P Q a k k' → k ≡ r → content_of (with_content regs r s) k ≡ content_of (with_content regs' r' s') k'
       here k k' j q =
           let q' : k' ≡ r' = one_name a.registers a.registers' a.one_register' r k' r' (subst (λ z. G P Q a z k') q j) g in
-          ap (held (put regs r s)) q ∙ get_or-set_same regs r s [] within ∙ e ∙ sym (get_or-set_same regs' r' s' [] within') ∙ sym (ap (held (put regs' r' s')) q')
+          ap (content_of (with_content regs r s)) q ∙ get_or-set_same regs r s [] within ∙ e ∙ sym (get_or-set_same regs' r' s' [] within') ∙ sym (ap (content_of (with_content regs' r' s')) q')
 
-      there : (k k' : ℕ) → G P Q a k k' → k ≢ r → held (put regs r s) k ≡ held (put regs' r' s') k'
+      there : (k k' : ℕ) → G P Q a k k' → k ≢ r → content_of (with_content regs r s) k ≡ content_of (with_content regs' r' s') k'
       there k k' j n =
           let n' : k' ≢ r' = λ q. n (one_name a.registers' a.registers a.one_register r' k r (name_back a.registers a.registers' k r' (subst (λ z. G P Q a k z) q j)) (name_back a.registers a.registers' r r' g)) in
           get_or-set_other regs r k s [] n ∙ h.same k k' j ∙ sym (get_or-set_other regs' r' k' s' [] n')
 
-  joined_on : {ps qs : List Piece} (regs regs' : Registers) → SameRegisters regs regs' → SameParts (G P Q a) ps qs → joined ps regs ≡ joined qs regs'
+  joined_on : {ps qs : List Piece} (regs regs' : Registers) → SameRegisters regs regs' → SameParts (G P Q a) ps qs → pieces_text ps regs ≡ pieces_text qs regs'
   joined_on regs regs' h kinds.no_more = refl
   joined_on regs regs' h (kinds.text {s = s} p) = ap (λ z. s ++ z) (joined_on regs regs' h p)
   joined_on regs regs' h (kinds.register {r = r} {r' = r'} g p) = ap₂ (λ x y. x ++ y) (h.same r r' g) (joined_on regs regs' h p)
@@ -77,7 +77,7 @@ module _ (P Q : Grammar) (a : Alike P Q) where
     pub registers : SameRegisters p.registers p'.registers
     pub rest : p.rest ≡ p'.rest
 
-  behind_on : (mark c : List Symbol) (regs regs' : Registers) (next next' : List Symbol → Part) → SameRegisters regs regs' → ((d : List Symbol) → SamePart (next d) (next' d)) → SamePart (behind mark c regs next) (behind mark c regs' next')
+  behind_on : (mark c : List Symbol) (regs regs' : Registers) (next next' : List Symbol → Part) → SameRegisters regs regs' → ((d : List Symbol) → SamePart (next d) (next' d)) → SamePart (part_behind mark c regs next) (part_behind mark c regs' next')
   behind_on [] c regs regs' next next' h f = f c
   behind_on (x ∷ mark) [] regs regs' next next' h f = record { bytes = refl; registers = h; rest = refl }
   behind_on (x ∷ mark) (y ∷ c) regs regs' next next' h f = f c

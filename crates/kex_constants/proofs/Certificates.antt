@@ -5,7 +5,7 @@ use Rattle.std.proofs.lemmas.Bool.{cases_lt}
 use Rattle.kex_machine.specs.declared.Bit.{Bit}
 use Rattle.kex_sst.specs.declared.table.Transition.{Transition}
 use Rattle.kex_sst.specs.Tables.{Row, Transducer, transition_if, transition_on}
-use Rattle.kex_sst.specs.Passes.{Pass, begun, transition_at, next_of, stepped, passes_if}
+use Rattle.kex_sst.specs.Passes.{Pass, first_pass, transition_at, next_of, next_pass, passes_if}
 use Rattle.kex_constants.specs.Known.{Constants, Hold}
 use Rattle.kex_constants.specs.Clearing.{Gives, GivesIf, HoldAfter, HoldAlways}
 
@@ -34,7 +34,7 @@ none_there : (i : ℕ) (c : List Bit) → get_or {A = Option (List Bit)} [] i No
 none_there i c e = cc
 
 module _ (t : Transducer) (css : List Constants) where
-  hold_step : (p : Pass) (b : ℕ) (r : Option Transition) → GivesIf css (get_or css p.state []) r → Hold (get_or css p.state []) p.registers → HoldAfter css (stepped r b p)
+  hold_step : (p : Pass) (b : ℕ) (r : Option Transition) → GivesIf css (get_or css p.state []) r → Hold (get_or css p.state []) p.registers → HoldAfter css (next_pass r b p)
   hold_step p b None g h = tt
   hold_step p b (Some r) g h = g p.registers b h
 
@@ -46,10 +46,10 @@ module _ (t : Transducer) (css : List Constants) where
   hold_from g [] None h = tt
   hold_from g (b ∷ w) None h = tt
   hold_from g [] (Some p) h = h
-  hold_from g (b ∷ w) (Some p) h = hold_from g w (stepped (next_of t p.state b) b p) (hold_step p b (next_of t p.state b) (gives_at g p.state (slice_get t.classes b)) h)
+  hold_from g (b ∷ w) (Some p) h = hold_from g w (next_pass (next_of t p.state b) b p) (hold_step p b (next_of t p.state b) (gives_at g p.state (slice_get t.classes b)) h)
 
   pub hold_always : Gives [] t.initial (get_or css 0 []) → ((i : ℕ) → StateGives css (get_or css i []) (slice_get t.states i)) → HoldAlways t css
-  hold_always first g w = hold_from g w (Some (begun t.initial)) (first [] 0 (λ i c e. absurd (none_there i c e)))
+  hold_always first g w = hold_from g w (Some (first_pass t.initial)) (first [] 0 (λ i c e. absurd (none_there i c e)))
 
 hold_nothing : (p : Option Pass) → HoldAfter [] p
 hold_nothing None = tt
@@ -57,4 +57,4 @@ hold_nothing (Some p) = λ i c e. absurd (none_there i c e)
 
 -- no constants are held always
 pub hold_none : (t : Transducer) → HoldAlways t []
-hold_none t w = hold_nothing (passes_if t (Some (begun t.initial)) w)
+hold_none t w = hold_nothing (passes_if t (Some (first_pass t.initial)) w)

@@ -6,9 +6,9 @@ use Rattle.kex_machine.specs.declared.Bit.{Bit}
 use Rattle.kex_sst.specs.declared.parts.Part.{Part}
 use Rattle.kex_sst.specs.declared.parts.Part.TheVariants.{Put, Old, Input}
 use Rattle.kex_sst.specs.declared.table.Transition.{Transition}
-use Rattle.kex_sst.specs.Parts.{value, meant, Change}
+use Rattle.kex_sst.specs.Parts.{value, parts_code, Change}
 use Rattle.kex_sst.specs.Tables.{Row, Transducer, transition_if, transition_on}
-use Rattle.kex_sst.specs.Passes.{Pass, changed, begun, transition_at, next_of, stepped, passes_if, passes, way_of, ended_by}
+use Rattle.kex_sst.specs.Passes.{Pass, pass_after, first_pass, transition_at, next_of, next_pass, passes_if, passes, way_of, ended_by}
 use Rattle.kex_constants.specs.Known.{Constants, Hold, kept_items, number}
 use Rattle.kex_constants.specs.Clearing.{constant_or_register, parts_for, cleared_parts, cleared_change, cleared_transition, cleared_way, cleared_state, cleared_states, cleared_table, HoldAfter, HoldAlways}
 use Rattle.kex_constants.specs.Alike.{AreAlike, PassAlike}
@@ -30,20 +30,20 @@ kept-map f (Some v ∷ cs) (x ∷ xs) = kept-map f cs xs
 kept-map f (None ∷ cs) (x ∷ xs) = ap (λ z. f x ∷ z) (kept-map f cs xs)
 
 module _ (cs : Constants) (regs : List (List Symbol)) (b : ℕ) (h : Hold cs regs) where
-  instead_meant : (x : Part) → meant (kept_items cs regs) b (parts_for cs x) ≡ value regs b x
+  instead_meant : (x : Part) → parts_code (kept_items cs regs) b (parts_for cs x) ≡ value regs b x
   instead_meant (Put s) = refl
   instead_meant Input = refl
   instead_meant (Old i) = by (get_or cs i None) refl
     where
-      by : (c : Option (List Bit)) → get_or cs i None ≡ c → meant (kept_items cs regs) b (constant_or_register cs i c) ≡ get_or regs i []
+      by : (c : Option (List Bit)) → get_or cs i None ≡ c → parts_code (kept_items cs regs) b (constant_or_register cs i c) ≡ get_or regs i []
       by None e = append-nil (get_or (kept_items cs regs) (number cs i) []) ∙ kept_get cs regs i e
       by (Some v) e = meant-puts (kept_items cs regs) b v ∙ sym (h i v e)
 
-  pub replaced_meant : (xs : List Part) → meant (kept_items cs regs) b (cleared_parts cs xs) ≡ meant regs b xs
+  pub replaced_meant : (xs : List Part) → parts_code (kept_items cs regs) b (cleared_parts cs xs) ≡ parts_code regs b xs
   replaced_meant [] = refl
   replaced_meant (x ∷ xs) = meant-append (kept_items cs regs) b (parts_for cs x) (cleared_parts cs xs) ∙ ap₂ (λ u v. u ++ v) (instead_meant x) (replaced_meant xs)
 
-  replaced_map : (xs : List (List Part)) → map (λ x. meant (kept_items cs regs) b x) (map (λ x. cleared_parts cs x) xs) ≡ map (λ x. meant regs b x) xs
+  replaced_map : (xs : List (List Part)) → map (λ x. parts_code (kept_items cs regs) b x) (map (λ x. cleared_parts cs x) xs) ≡ map (λ x. parts_code regs b x) xs
   replaced_map [] = refl
   replaced_map (x ∷ xs) = ap₂ (λ u v. u ∷ v) (replaced_meant x) (replaced_map xs)
 
@@ -54,13 +54,13 @@ Like css (Some p) (Some q) = (q.state ≡ p.state) × (q.code ≡ p.code) × (q.
 Like css None (Some q) = ⊥
 Like css (Some p) None = ⊥
 
-changed_like : (css : List Constants) (cs : Constants) (u : Change) (b target : ℕ) (p q : Pass) → Hold cs p.registers → q.code ≡ p.code → q.registers ≡ kept_items cs p.registers → Like css (Some (changed u b p target)) (Some (changed (cleared_change cs u (get_or css target [])) b q target))
+changed_like : (css : List Constants) (cs : Constants) (u : Change) (b target : ℕ) (p q : Pass) → Hold cs p.registers → q.code ≡ p.code → q.registers ≡ kept_items cs p.registers → Like css (Some (pass_after u b p target)) (Some (pass_after (cleared_change cs u (get_or css target [])) b q target))
 changed_like css cs u b target p q h code regs = (
   refl,
-  ap₂ (λ y z. y ++ z) code (ap (λ z. meant z b (cleared_parts cs u.out)) regs ∙ replaced_meant cs p.registers b h u.out),
-  ap (λ z. map (λ x. meant z b x) (map (λ x. cleared_parts cs x) (kept_items (get_or css target []) u.regs))) regs
+  ap₂ (λ y z. y ++ z) code (ap (λ z. parts_code z b (cleared_parts cs u.out)) regs ∙ replaced_meant cs p.registers b h u.out),
+  ap (λ z. map (λ x. parts_code z b x) (map (λ x. cleared_parts cs x) (kept_items (get_or css target []) u.regs))) regs
       ∙ replaced_map cs p.registers b h (kept_items (get_or css target []) u.regs)
-      ∙ sym (kept-map (λ x. meant p.registers b x) (get_or css target []) u.regs),
+      ∙ sym (kept-map (λ x. parts_code p.registers b x) (get_or css target []) u.regs),
 )
 
 -- a state, if it is there, cleared
@@ -92,7 +92,7 @@ way_alike css cs (Some s) = refl
 
 ended_alike : (cs : Constants) (p q : Pass) (way : Option (List Part)) → Hold cs p.registers → q.code ≡ p.code → q.registers ≡ kept_items cs p.registers → ended_by (cleared_way cs way) q ≡ ended_by way p
 ended_alike cs p q None h code regs = refl
-ended_alike cs p q (Some way) h code regs = ap Some (ap₂ (λ y z. y ++ z) code (ap (λ z. meant z 0 (cleared_parts cs way)) regs ∙ replaced_meant cs p.registers 0 h way))
+ended_alike cs p q (Some way) h code regs = ap Some (ap₂ (λ y z. y ++ z) code (ap (λ z. parts_code z 0 (cleared_parts cs way)) regs ∙ replaced_meant cs p.registers 0 h way))
 
 module _ (css : List Constants) (t : Transducer) where
   next_at : (state b : ℕ) → next_of (cleared_table css t) state b ≡ cleared_transition css (get_or css state []) (next_of t state b)
@@ -102,10 +102,10 @@ module _ (css : List Constants) (t : Transducer) where
       by None = refl
       by (Some k) = ap (λ z. transition_on z k) (state_at css t.states state) ∙ class_at css (get_or css state []) (slice_get t.states state) k
 
-  step_like : (b : ℕ) (p q : Pass) → Hold (get_or css p.state []) p.registers → Like css (Some p) (Some q) → Like css (stepped (next_of t p.state b) b p) (stepped (next_of (cleared_table css t) q.state b) b q)
-  step_like b p q h (state, code, regs) = subst (λ z. Like css (stepped (next_of t p.state b) b p) (stepped z b q)) (sym (ap (λ z. next_of (cleared_table css t) z b) state ∙ next_at p.state b)) (by (next_of t p.state b))
+  step_like : (b : ℕ) (p q : Pass) → Hold (get_or css p.state []) p.registers → Like css (Some p) (Some q) → Like css (next_pass (next_of t p.state b) b p) (next_pass (next_of (cleared_table css t) q.state b) b q)
+  step_like b p q h (state, code, regs) = subst (λ z. Like css (next_pass (next_of t p.state b) b p) (next_pass z b q)) (sym (ap (λ z. next_of (cleared_table css t) z b) state ∙ next_at p.state b)) (by (next_of t p.state b))
     where
-      by : (r : Option Transition) → Like css (stepped r b p) (stepped (cleared_transition css (get_or css p.state []) r) b q)
+      by : (r : Option Transition) → Like css (next_pass r b p) (next_pass (cleared_transition css (get_or css p.state []) r) b q)
       by None = tt
       by (Some r) = changed_like css (get_or css p.state []) r.update b r.target p q h code regs
 
@@ -113,7 +113,7 @@ module _ (css : List Constants) (t : Transducer) where
   like_from [] None None h l = tt
   like_from (b ∷ w) None None h l = tt
   like_from [] (Some p) (Some q) h l = l
-  like_from (b ∷ w) (Some p) (Some q) h l = like_from w (stepped (next_of t p.state b) b p) (stepped (next_of (cleared_table css t) q.state b) b q) (λ v. h (b ∷ v)) (step_like b p q (h []) l)
+  like_from (b ∷ w) (Some p) (Some q) h l = like_from w (next_pass (next_of t p.state b) b p) (next_pass (next_of (cleared_table css t) q.state b) b q) (λ v. h (b ∷ v)) (step_like b p q (h []) l)
   like_from w None (Some q) h l = absurd l
   like_from w (Some p) None h l = absurd l
 
@@ -131,7 +131,7 @@ module _ (css : List Constants) (t : Transducer) where
   ends_alike (Some p) None h l = absurd l
 
   pub pass_alike : HoldAlways t css → PassAlike t (cleared_table css t)
-  pass_alike h w = ends_alike (passes t w) (passes (cleared_table css t) w) (h w) (like_from w (Some (begun t.initial)) (Some (begun (cleared_table css t).initial)) h (changed_like css [] t.initial 0 0 (record { state = 0; code = []; registers = [] }) (record { state = 0; code = []; registers = [] }) nothing refl refl))
+  pass_alike h w = ends_alike (passes t w) (passes (cleared_table css t) w) (h w) (like_from w (Some (first_pass t.initial)) (Some (first_pass (cleared_table css t).initial)) h (changed_like css [] t.initial 0 0 (record { state = 0; code = []; registers = [] }) (record { state = 0; code = []; registers = [] }) nothing refl refl))
     where
       nothing : Hold [] []
       nothing i c e = cc

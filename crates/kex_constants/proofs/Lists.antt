@@ -11,7 +11,7 @@ use Rattle.kex_model.specs.Moves.{symbol_of}
 use Rattle.kex_sst.specs.declared.parts.Part.{Part}
 use Rattle.kex_sst.specs.declared.parts.Part.TheVariants.{Put}
 use Rattle.kex_sst.specs.declared.table.Transition.{Transition}
-use Rattle.kex_sst.specs.Parts.{value, meant}
+use Rattle.kex_sst.specs.Parts.{value, parts_code}
 use Rattle.kex_sst.specs.Tables.{Row, transition_if}
 use Rattle.kex_constants.specs.Known.{Constants, symbols, kept_items, item_if_kept}
 use Rattle.kex_constants.specs.Clearing.{puts, parts_for, cleared_parts, cleared_state, cleared_states}
@@ -20,20 +20,20 @@ pub symbols-append : (c d : List Bit) → symbols (c ++ d) ≡ symbols c ++ symb
 symbols-append [] d = refl
 symbols-append (x ∷ c) d = ap (λ z. symbol_of (side_of x) ∷ z) (symbols-append c d)
 
-pub meant-append : (regs : List (List Symbol)) (b : ℕ) (xs ys : List Part) → meant regs b (xs ++ ys) ≡ meant regs b xs ++ meant regs b ys
+pub meant-append : (regs : List (List Symbol)) (b : ℕ) (xs ys : List Part) → parts_code regs b (xs ++ ys) ≡ parts_code regs b xs ++ parts_code regs b ys
 meant-append regs b [] ys = refl
-meant-append regs b (x ∷ xs) ys = ap (λ z. value regs b x ++ z) (meant-append regs b xs ys) ∙ sym (append_assoc (value regs b x) (meant regs b xs) (meant regs b ys))
+meant-append regs b (x ∷ xs) ys = ap (λ z. value regs b x ++ z) (meant-append regs b xs ys) ∙ sym (append_assoc (value regs b x) (parts_code regs b xs) (parts_code regs b ys))
 
-pub meant-puts : (regs : List (List Symbol)) (b : ℕ) (c : List Bit) → meant regs b (puts c) ≡ symbols c
+pub meant-puts : (regs : List (List Symbol)) (b : ℕ) (c : List Bit) → parts_code regs b (puts c) ≡ symbols c
 meant-puts regs b [] = refl
 meant-puts regs b (x ∷ c) = ap (λ z. symbol_of (side_of x) ∷ z) (meant-puts regs b c)
 
-pub meant_more : (regs : List (List Symbol)) (b : ℕ) (xs : List Part) (i : ℕ) → i < length xs → meant regs b (take (i + 1) xs) ≡ meant regs b (take i xs) ++ value regs b (get_or xs i (Put symbol.L))
-meant_more regs b xs i lt = ap (λ z. meant regs b z) (take_more xs i (Put symbol.L) lt) ∙ meant-append regs b (take i xs) (get_or xs i (Put symbol.L) ∷ []) ∙ ap (λ z. meant regs b (take i xs) ++ z) (append-nil (value regs b (get_or xs i (Put symbol.L))))
+pub meant_more : (regs : List (List Symbol)) (b : ℕ) (xs : List Part) (i : ℕ) → i < length xs → parts_code regs b (take (i + 1) xs) ≡ parts_code regs b (take i xs) ++ value regs b (get_or xs i (Put symbol.L))
+meant_more regs b xs i lt = ap (λ z. parts_code regs b z) (take_more xs i (Put symbol.L) lt) ∙ meant-append regs b (take i xs) (get_or xs i (Put symbol.L) ∷ []) ∙ ap (λ z. parts_code regs b (take i xs) ++ z) (append-nil (value regs b (get_or xs i (Put symbol.L))))
 
-pub given_at : (lists : List (List Part)) (i : ℕ) (x : List Part) (regs : List (List Symbol)) (b : ℕ) → i < length lists → x ≡ get_or lists i x → get_or (map (λ y. meant regs b y) lists) i [] ≡ meant regs b x
+pub given_at : (lists : List (List Part)) (i : ℕ) (x : List Part) (regs : List (List Symbol)) (b : ℕ) → i < length lists → x ≡ get_or lists i x → get_or (map (λ y. parts_code regs b y) lists) i [] ≡ parts_code regs b x
 given_at [] i x regs b lt e = absurd (omega arith)
-given_at (y ∷ lists) zero x regs b lt e = ap (λ z. meant regs b z) (sym e)
+given_at (y ∷ lists) zero x regs b lt e = ap (λ z. parts_code regs b z) (sym e)
 given_at (y ∷ lists) (suc i) x regs b lt e = given_at lists i x regs b (omega arith) e
 
 -- what holds of each item holds of each that is read

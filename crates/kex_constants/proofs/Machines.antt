@@ -3,13 +3,13 @@ use Rattle.std.proofs.Common.{◌≡◌, Option, Some, None, refl, sym, subst, �
 use Rattle.kex_model.specs.Survivors.{Agreed}
 use Rattle.kex_machine.specs.Nodes.{Graph, node_moves}
 use Rattle.kex_sst.specs.Tables.{Transducer}
-use Rattle.kex_sst.specs.Passes.{Pass, passes, ending}
+use Rattle.kex_sst.specs.Passes.{Pass, passes, whole_code}
 use Rattle.kex_sst.specs.Machines.{IsTableOf}
 use Rattle.kex_constants.specs.Alike.{AreAlike, PassAlike}
 
 module _ (g : Graph) (t u : Transducer) where
   -- the pass of the other table
-  other : (p : Option Pass) (q : Pass) → AreAlike t u p (Some q) → (o : Pass) × (p ≡ Some o) × (q.code ≡ o.code) × (ending u q ≡ ending t o)
+  other : (p : Option Pass) (q : Pass) → AreAlike t u p (Some q) → (o : Pass) × (p ≡ Some o) × (q.code ≡ o.code) × (whole_code u q ≡ whole_code t o)
   other None q a = absurd a
   other (Some p) q (state, code, ends) = (p, refl, code, ends)
 

@@ -1,14 +1,14 @@
 -- Tables that pass on the same.
 use Rattle.std.specs.Prelude.{◌≡◌, ℕ, List, Option, Some, None}
 use Rattle.kex_sst.specs.Tables.{Transducer}
-use Rattle.kex_sst.specs.Passes.{Pass, passes, ending}
+use Rattle.kex_sst.specs.Passes.{Pass, passes, whole_code}
 
 -- both or neither went on; then they are at the same state, passed on the same, and end alike
 abbrev pub AreAlike : Transducer → Transducer → Option Pass → Option Pass → Type 0
 AreAlike t u None None = Unit {0}
 AreAlike t u None (Some q) = ⊥
 AreAlike t u (Some p) None = ⊥
-AreAlike t u (Some p) (Some q) = (q.state ≡ p.state) × (q.code ≡ p.code) × (ending u q ≡ ending t p)
+AreAlike t u (Some p) (Some q) = (q.state ≡ p.state) × (q.code ≡ p.code) × (whole_code u q ≡ whole_code t p)
 
 -- they are so after every text
 abbrev pub PassAlike : Transducer → Transducer → Type 0

@@ -7,7 +7,7 @@ use Rattle.kex_machine.specs.Nodes.{side_of}
 use Rattle.kex_sst.specs.declared.parts.Part.{Part}
 use Rattle.kex_sst.specs.declared.parts.Part.TheVariants.{Put, Old, Input}
 use Rattle.kex_sst.specs.declared.table.Transition.{Transition}
-use Rattle.kex_sst.specs.Parts.{Change, meant}
+use Rattle.kex_sst.specs.Parts.{Change, parts_code}
 use Rattle.kex_sst.specs.Tables.{Row, Transducer}
 use Rattle.kex_sst.specs.Passes.{Pass, passes}
 use Rattle.kex_constants.specs.Known.{Constants, Hold, kept_items, number}
@@ -57,7 +57,7 @@ cleared_table css t = record { classes = t.classes; initial = cleared_change [] 
 
 -- where the old registers hold their constants, the new ones are given theirs
 abbrev pub Gives : Constants → Change → Constants → Type 0
-Gives cs u ds = (regs : List (List Symbol)) (b : ℕ) → Hold cs regs → Hold ds (map (λ x. meant regs b x) u.regs)
+Gives cs u ds = (regs : List (List Symbol)) (b : ℕ) → Hold cs regs → Hold ds (map (λ x. parts_code regs b x) u.regs)
 
 abbrev pub GivesIf : List Constants → Constants → Option Transition → Type 0
 GivesIf css cs None = Unit {0}

@@ -5,7 +5,7 @@ ghost use Rattle.kex_code.specs.declared.symbol.Symbol.{Symbol as ASymbol};
 ghost use Rattle.kex_machine.specs.declared.Bit.{Bit as ABit};
 ghost use Rattle.kex_machine.specs.Nodes.{side_of};
 ghost use Rattle.kex_model.specs.Moves.{symbol_of};
-ghost use Rattle.kex_sst.specs.Parts.{value, meant};
+ghost use Rattle.kex_sst.specs.Parts.{value, parts_code};
 ghost use Rattle.kex_sst.specs.Tables.{transition_if};
 ghost use Rattle.kex_constants.specs.Known.{Hold, symbols};
 ghost use Rattle.kex_constants.specs.Clearing.{Gives, GivesIf, HoldAlways};
@@ -54,7 +54,7 @@ pub fn spelled(
     known: &[Option<Choices>],
     into: &mut Choices,
 ) -> Result<bool, Memory>
-    ensures { IfOk result (λ yes. IsTrue yes → (regs : List (List ASymbol)) (b : ℕ) → Hold known.now regs → meant regs b parts.now ≡ symbols into.new) }
+    ensures { IfOk result (λ yes. IsTrue yes → (regs : List (List ASymbol)) (b : ℕ) → Hold known.now regs → parts_code regs b parts.now ≡ symbols into.new) }
 {
     into.clear();
     for part in parts {
@@ -73,7 +73,7 @@ fn is_given(
     constant: &Option<Choices>,
     spare: &mut Choices,
 ) -> Result<bool, Memory>
-    ensures { IfOk result (λ yes. IsTrue yes → (c : List ABit) → constant.now ≡ Some c → (regs : List (List ASymbol)) (b : ℕ) → Hold from.now regs → get_or (map (λ x. meant regs b x) lists.now) register [] ≡ symbols c) }
+    ensures { IfOk result (λ yes. IsTrue yes → (c : List ABit) → constant.now ≡ Some c → (regs : List (List ASymbol)) (b : ℕ) → Hold from.now regs → get_or (map (λ x. parts_code regs b x) lists.now) register [] ≡ symbols c) }
 {
     match constant {
         None => Ok(true),

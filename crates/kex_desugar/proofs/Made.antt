@@ -5,7 +5,7 @@ use Rattle.std.proofs.lemmas.Option.{slice_get_within, slice_get-get_or, slice_g
 use Rattle.std.proofs.lemmas.List.Elements.{All-from_get_or}
 use Rattle.kex_code.specs.Codes.{HasNumber, Begins}
 use Rattle.kex_model.specs.Programs.{Grammar, IsGrammar}
-use Rattle.kex_model.specs.Moves.{Move, entered}
+use Rattle.kex_model.specs.Moves.{Move, target_of}
 use Rattle.kex_model.specs.Places.{Place, IsPlace, at_start, by_step, by_rest, enter, moves, start_of}
 use Rattle.kex_model.specs.Alike.{Goes, reads_on, chooses, forces, goes_on}
 use Rattle.kex_model.proofs.Likeness.{goes_more, step_ahead}
@@ -88,7 +88,7 @@ module _ (P : Grammar) (root : ℕ) where
     has_number p (by_step {p = before} k is a) =
         let i = has_number before is in
         let j = step_ahead (IsAt spots) (goes_at before i.0 i.1) a in
-        (entered j.0, j.3)
+        (target_of j.0, j.3)
     has_number p (by_rest {f = f} is) =
         let i = has_number (f ∷ p) is in
         let under = i.1.2 in

@@ -4,7 +4,7 @@ use Rattle.std.specs.Prelude.{slice_get}
 use Rattle.kex_code.specs.Codes.{Begins}
 use Rattle.kex_model.specs.Programs.{Grammar}
 use Rattle.kex_model.specs.declared.frame.Frame.{Frame}
-use Rattle.kex_model.specs.Moves.{Step, Allows, entered}
+use Rattle.kex_model.specs.Moves.{Step, Allows, target_of}
 use Rattle.kex_model.specs.Places.{Place, IsPlace, by_step, by_rest, moves}
 use Rattle.kex_model.specs.Alike.{Goes}
 use Rattle.kex_machine.specs.Nodes.{move_of}
@@ -56,7 +56,7 @@ module _ (P : Grammar) (root : ℕ) where
       (q, (t, ap (λ z. slice_get xs z) (sym both.1) ∙ at, h), subst (λ z. IsPlace P root (z ∷ q)) both.0 is)
 
   -- where a plan leads is a place
-  pub on_place : (xs : List Spot) (f : Frame) (r : ℕ) (plan : Plan) (w : Way) → IsReal P root xs (On f r) → ((q : Place) → moves P (f ∷ q) ≡ plan_move plan q) → ((q : Place) → (k : Step Place) × Allows (plan_move plan q) k × (entered k ≡ frames w ++ q)) → IsOnPlace P root xs w r
+  pub on_place : (xs : List Spot) (f : Frame) (r : ℕ) (plan : Plan) (w : Way) → IsReal P root xs (On f r) → ((q : Place) → moves P (f ∷ q) ≡ plan_move plan q) → ((q : Place) → (k : Step Place) × Allows (plan_move plan q) k × (target_of k ≡ frames w ++ q)) → IsOnPlace P root xs w r
   on_place xs f r plan w real is step =
       let u = under xs f r real in
       let s = step u.0 in

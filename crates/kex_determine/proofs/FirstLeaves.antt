@@ -4,11 +4,11 @@ use Rattle.std.proofs.lemmas.List.{map-append}
 use Rattle.std.proofs.Math.Seq.{drop-cons}
 use Rattle.kex_code.specs.Codes.{Begins}
 use Rattle.kex_model.specs.Moves.{Move, accept, read, choose, forced, go}
-use Rattle.kex_model.specs.Labelled.{Shape, place, parts, size_of, tip, Grown, behind}
-use Rattle.kex_machine.specs.Advancing.{accepting, at_end, picked, EachPlace}
+use Rattle.kex_model.specs.Labelled.{Shape, place, parts, size_of, tip, Grown, with_prefix}
+use Rattle.kex_machine.specs.Advancing.{first_accepting, at_end, left_or_right, EachPlace}
 use Rattle.kex_sst.specs.declared.parts.Part.{Part}
 use Rattle.kex_sst.specs.declared.parts.Part.TheVariants.{Old}
-use Rattle.kex_sst.specs.Parts.{numbered}
+use Rattle.kex_sst.specs.Parts.{numbered_tree}
 use Rattle.kex_paths.specs.Nexts.{inner_of, places_of}
 use Rattle.kex_determine.specs.Rows.{is_accepting, way_to}
 use Rattle.kex_determine.specs.Ways.{Side, inner_in, places_in, EachSide, AreForks, either, onward, from_sides, from_here, IsOnWay}
@@ -71,11 +71,11 @@ either_assoc : (a b c : Option (List Part)) → either (either a b) c ≡ either
 either_assoc None b c = refl
 either_assoc (Some way) b c = refl
 
-onward_behind : (way : List ℕ) (k : ℕ) (a : Option (Grown Part ℕ)) → onward way (behind (Old k ∷ []) a) ≡ onward (way ++ k ∷ []) a
+onward_behind : (way : List ℕ) (k : ℕ) (a : Option (Grown Part ℕ)) → onward way (with_prefix (Old k ∷ []) a) ≡ onward (way ++ k ∷ []) a
 onward_behind way k None = refl
 onward_behind way k (Some a) = ap (λ z. Some z) (sym (append_assoc (map (λ i. Old i) way) (Old k ∷ []) a.label) ∙ ap (λ z. z ++ a.label) (sym (map-append (λ i. Old i) way (k ∷ []))))
 
-onward_picked : (way : List ℕ) (a b : Option (Grown Part ℕ)) → onward way (picked a b) ≡ either (onward way a) (onward way b)
+onward_picked : (way : List ℕ) (a b : Option (Grown Part ℕ)) → onward way (left_or_right a b) ≡ either (onward way a) (onward way b)
 onward_picked way None b = refl
 onward_picked way (Some a) b = refl
 
@@ -150,7 +150,7 @@ module _ (moves : ℕ → Move ℕ) (m : ℕ) (shape : List Bool) (leaves : List
             below = each.0;
             each = each.1;
             forked = subst (λ w. AreForks (w ++ k ∷ []) more rest) (sym back) (subst (λ z. AreForks (x.before ++ k ∷ []) z rest) same.0 (forks_more x.before (k ∷ []) others rest deeper));
-            answer = answer ∙ ap₂ (λ w n. either (onward (w ++ n ∷ []) (accepting moves (numbered (k + 1) x.shape))) (from_sides moves (k + 1 + size_of x.shape) rest)) (sym back) one;
+            answer = answer ∙ ap₂ (λ w n. either (onward (w ++ n ∷ []) (first_accepting moves (numbered_tree (k + 1) x.shape))) (from_sides moves (k + 1 + size_of x.shape) rest)) (sym back) one;
           }
         where
           one_end : (xs ys : List ℕ) (a b : ℕ) → xs ++ a ∷ [] ≡ ys ++ b ∷ [] → (xs ≡ ys) × (a ≡ b)
@@ -170,11 +170,11 @@ module _ (moves : ℕ → Move ℕ) (m : ℕ) (shape : List Bool) (leaves : List
       by : (l r : Shape ℕ) → o.here ≡ parts l r → drop (k + 1) shape ≡ inner_of l ++ (inner_of r ++ inner_in o.sides) → On (k + 1) leaf (way ++ k ∷ []) (forks ++ length way ∷ [])
       by l r is inner =
           let below : EachPlace m l × EachPlace m r = subst (λ z. EachPlace m z) is o.below in
-          let la = accepting moves (numbered (k + 1) l) in
-          let ra = accepting moves (numbered (k + 1 + size_of l) r) in
+          let la = first_accepting moves (numbered_tree (k + 1) l) in
+          let ra = first_accepting moves (numbered_tree (k + 1 + size_of l) r) in
           let beyond : from_sides moves (k + size_of (parts l r)) o.sides ≡ from_sides moves (k + 1 + size_of l + size_of r) o.sides = ap (λ n. from_sides moves n o.sides) (omega arith) in
-          let left : accepting moves (numbered (suc k) l) ≡ la = ap (λ n. accepting moves (numbered n l)) (omega arith) in
-          let right : accepting moves (numbered (suc (k + size_of l)) r) ≡ ra = ap (λ n. accepting moves (numbered n r)) (omega arith) in
+          let left : first_accepting moves (numbered_tree (suc k) l) ≡ la = ap (λ n. first_accepting moves (numbered_tree n l)) (omega arith) in
+          let right : first_accepting moves (numbered_tree (suc (k + size_of l)) r) ≡ ra = ap (λ n. first_accepting moves (numbered_tree n r)) (omega arith) in
           let edge : k + size_of l ≡ (k + 1 + size_of l) - 1 = omega arith in
           record {
             here = l;
@@ -187,8 +187,8 @@ module _ (moves : ℕ → Move ℕ) (m : ℕ) (shape : List Bool) (leaves : List
             answer =
                 o.answer
                 ∙ ap (λ s. from_here moves k way s o.sides) is
-                ∙ ap₂ (λ a b. either a b) (onward_picked way (behind (Old k ∷ []) (accepting moves (numbered (suc k) l))) (behind (Old (k + size_of l) ∷ []) (accepting moves (numbered (suc (k + size_of l)) r)))
-                ∙ ap₂ (λ a b. either a b) (onward_behind way k (accepting moves (numbered (suc k) l)) ∙ ap (onward (way ++ k ∷ [])) left) (onward_behind way (k + size_of l) (accepting moves (numbered (suc (k + size_of l)) r)) ∙ ap₂ (λ n a. onward (way ++ n ∷ []) a) edge right)) beyond
+                ∙ ap₂ (λ a b. either a b) (onward_picked way (with_prefix (Old k ∷ []) (first_accepting moves (numbered_tree (suc k) l))) (with_prefix (Old (k + size_of l) ∷ []) (first_accepting moves (numbered_tree (suc (k + size_of l)) r)))
+                ∙ ap₂ (λ a b. either a b) (onward_behind way k (first_accepting moves (numbered_tree (suc k) l)) ∙ ap (onward (way ++ k ∷ [])) left) (onward_behind way (k + size_of l) (first_accepting moves (numbered_tree (suc (k + size_of l)) r)) ∙ ap₂ (λ n a. onward (way ++ n ∷ []) a) edge right)) beyond
                 ∙ either_assoc (onward (way ++ k ∷ []) la) (onward (way ++ ((k + 1 + size_of l) - 1) ∷ []) ra) (from_sides moves (k + 1 + size_of l + size_of r) o.sides);
           }
 

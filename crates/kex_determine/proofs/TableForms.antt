@@ -5,15 +5,15 @@ use Rattle.kex_byteset.specs.Classes.{class_at}
 use Rattle.kex_code.specs.declared.symbol.Symbol.TheVariants.{L, R}
 use Rattle.kex_code.specs.Codes.{IsAmong, Different}
 use Rattle.kex_model.specs.Moves.{Move, accept, read, choose, forced, go, Side, to_left, to_right, symbol_of}
-use Rattle.kex_model.specs.Labelled.{Labelled, tip, fork, labels_of, Shape, place, parts, shape_of, size_of, Grown, behind, joined}
+use Rattle.kex_model.specs.Labelled.{Labelled, tip, fork, labels_of, Shape, place, parts, shape_of, size_of, Grown, with_prefix, fork_of}
 use Rattle.kex_model.proofs.Shapes.{among-append}
 use Rattle.kex_model.proofs.Tables.{some_same}
 use Rattle.kex_machine.specs.Nodes.{Graph, node_moves, HasClasses}
-use Rattle.kex_machine.specs.Advancing.{Visits, known, stops, parts_off, is_forced, passes_on, Advances, dies, reads_on, both, accepting, at_end, picked}
+use Rattle.kex_machine.specs.Advancing.{Visits, known, stops, parts_off, is_forced, passes_on, Advances, dies, reads_on, both, first_accepting, at_end, left_or_right}
 use Rattle.kex_sst.specs.declared.parts.Part.{Part}
 use Rattle.kex_sst.specs.declared.parts.Part.TheVariants.{Put, Old, Input}
 use Rattle.kex_sst.specs.declared.table.Transition.{Transition}
-use Rattle.kex_sst.specs.Parts.{Change, numbered, olds, reads_of, PutsChoice, IsPut, IsKept, EachPart}
+use Rattle.kex_sst.specs.Parts.{Change, numbered_tree, olds, reads_of, PutsChoice, IsPut, IsKept, EachPart}
 use Rattle.kex_sst.specs.Tables.{Row, Transducer, transition_if, IsWayIf, LeadsTo, IsState, IsTable}
 use Rattle.kex_paths.specs.Nexts.{IsChange, RiseWithin}
 use Rattle.kex_paths.proofs.Copyless.{next_reads, first_reads}
@@ -55,11 +55,11 @@ module _ (P : Part → Type 0) where
   one_in : (x : Part) → P x → EachIn P (x ∷ [])
   one_in x h y i = ⊎_elim (λ e. subst P e h) (λ k. absurd k) i
 
-  behind_each : (x : List Part) (a : Option (Grown Part ℕ)) → EachIn P x → EachIf P a → EachIf P (behind x a)
+  behind_each : (x : List Part) (a : Option (Grown Part ℕ)) → EachIn P x → EachIf P a → EachIf P (with_prefix x a)
   behind_each x None h k = tt
   behind_each x (Some a) h k = ((λ y i. ⊎_elim (λ j. h y j) (λ j. k.0 y j) (among-append x a.label y i)), k.1)
 
-  joined_each : (a b : Option (Grown Part ℕ)) → EachIf P a → EachIf P b → EachIf P (joined a b)
+  joined_each : (a b : Option (Grown Part ℕ)) → EachIf P a → EachIf P b → EachIf P (fork_of a b)
   joined_each None None h k = tt
   joined_each (Some l) None h k = h
   joined_each None (Some r) h k = k
@@ -78,7 +78,7 @@ module _ (P : Part → Type 0) where
     regs = λ xs i x j. in_labels a.tree h.1 xs (subst (λ z. IsAmong z xs) change.1 i) x j;
   }
 
-  numbered_each : ((i : ℕ) → P (Old i)) → (k : ℕ) (s : Shape ℕ) → EachLabel P (numbered k s)
+  numbered_each : ((i : ℕ) → P (Old i)) → (k : ℕ) (s : Shape ℕ) → EachLabel P (numbered_tree k s)
   numbered_each old k (place p) = tt
   numbered_each old k (parts l r) = (one_in (Old k) (old k), numbered_each old (suc k) l, one_in (Old (k + size_of l)) (old (k + size_of l)), numbered_each old (suc (k + size_of l)) r)
 
@@ -86,7 +86,7 @@ module _ (P : Part → Type 0) where
   visits_each side (known e) = tt
   visits_each side (stops lt e w) = ((λ y i. absurd i), tt)
   visits_each side (parts_off {a = a} {b = b} lt e m va vb) =
-      joined_each (behind (Put L ∷ []) a) (behind (Put R ∷ []) b) (behind_each (Put L ∷ []) a (one_in (Put L) (side to_left)) (visits_each side va)) (behind_each (Put R ∷ []) b (one_in (Put R) (side to_right)) (visits_each side vb))
+      joined_each (with_prefix (Put L ∷ []) a) (with_prefix (Put R ∷ []) b) (behind_each (Put L ∷ []) a (one_in (Put L) (side to_left)) (visits_each side va)) (behind_each (Put R ∷ []) b (one_in (Put R) (side to_right)) (visits_each side vb))
   visits_each side (is_forced {x = x} {a = a} lt e m v) = behind_each (Put (symbol_of x) ∷ []) a (one_in (Put (symbol_of x)) (side x)) (visits_each side v)
   visits_each side (passes_on lt e m v) = visits_each side v
 
@@ -94,7 +94,7 @@ module _ (P : Part → Type 0) where
   advances_each side input (dies h) k = tt
   advances_each side input (reads_on {a = a} h v) k = behind_each (Input ∷ []) a (one_in Input input) (visits_each side v)
   advances_each side input (both {u = u} {v = v} {x = x} {y = y} va vb) k =
-      joined_each (behind u x) (behind v y) (behind_each u x k.0 (advances_each side input va k.1)) (behind_each v y k.2 (advances_each side input vb k.3))
+      joined_each (with_prefix u x) (with_prefix v y) (behind_each u x k.0 (advances_each side input va k.1)) (behind_each v y k.2 (advances_each side input vb k.3))
 
 choice_side : (x : Side) → PutsChoice (Put (symbol_of x))
 choice_side to_left = tt
@@ -120,11 +120,11 @@ IsRisingWay k hi way = RiseWithin k hi (olds way) × EachIn IsKept way
 kept_more : (i : ℕ) (way : List Part) → EachIn IsKept way → EachIn IsKept (Old i ∷ way)
 kept_more i way h x j = ⊎_elim (λ e. subst IsKept e tt) (λ k. h x k) j
 
-way_rises : (moves : ℕ → Move ℕ) (k hi : ℕ) (s : Shape ℕ) (a : Grown Part ℕ) → suc hi ≡ k + size_of s → accepting moves (numbered k s) ≡ Some a → IsRisingWay k hi a.label
+way_rises : (moves : ℕ → Move ℕ) (k hi : ℕ) (s : Shape ℕ) (a : Grown Part ℕ) → suc hi ≡ k + size_of s → first_accepting moves (numbered_tree k s) ≡ Some a → IsRisingWay k hi a.label
 way_rises moves k hi (place p) a size e = subst (IsRisingWay k hi) (sym (end_label (moves p) p a e)) (tt, (λ x i. absurd i))
-way_rises moves k hi (parts l r) a size e = by (accepting moves (numbered (suc k) l)) (accepting moves (numbered (suc (k + size_of l)) r)) e (λ x h. way_rises moves (suc k) (k + size_of l) l x (omega arith) h) (λ x h. way_rises moves (suc (k + size_of l)) (k + size_of l + size_of r) r x (omega arith) h)
+way_rises moves k hi (parts l r) a size e = by (first_accepting moves (numbered_tree (suc k) l)) (first_accepting moves (numbered_tree (suc (k + size_of l)) r)) e (λ x h. way_rises moves (suc k) (k + size_of l) l x (omega arith) h) (λ x h. way_rises moves (suc (k + size_of l)) (k + size_of l + size_of r) r x (omega arith) h)
   where
-    by : (la ra : Option (Grown Part ℕ)) → picked (behind (Old k ∷ []) la) (behind (Old (k + size_of l) ∷ []) ra) ≡ Some a
+    by : (la ra : Option (Grown Part ℕ)) → left_or_right (with_prefix (Old k ∷ []) la) (with_prefix (Old (k + size_of l) ∷ []) ra) ≡ Some a
         → ((x : Grown Part ℕ) → la ≡ Some x → IsRisingWay (suc k) (k + size_of l) x.label) → ((x : Grown Part ℕ) → ra ≡ Some x → IsRisingWay (suc (k + size_of l)) (k + size_of l + size_of r) x.label) → IsRisingWay k hi a.label
     by None None e hl hr = let bad : ⊥ = cc in absurd bad
     by (Some x) ra e hl hr =
@@ -136,10 +136,10 @@ way_rises moves k hi (parts l r) a size e = by (accepting moves (numbered (suc k
         let label : Old (k + size_of l) ∷ x.label ≡ a.label = ap (λ z. z.label) (some_same (record { label = Old (k + size_of l) ∷ x.label; tree = x.tree }) a e) in
         subst (IsRisingWay k hi) label ((omega arith, omega (arith, size, size_above r), rise_wider (suc (k + size_of l)) (k + size_of l + size_of r) hi (olds x.label) (omega (arith, size)) h.0), kept_more (k + size_of l) x.label h.1)
 
-pub way_if : (moves : ℕ → Move ℕ) (s : Shape ℕ) (count : ℕ) → suc count ≡ size_of s → IsWayIf count (way_to (accepting moves (numbered 0 s)))
-way_if moves s count size = by (accepting moves (numbered 0 s)) refl
+pub way_if : (moves : ℕ → Move ℕ) (s : Shape ℕ) (count : ℕ) → suc count ≡ size_of s → IsWayIf count (way_to (first_accepting moves (numbered_tree 0 s)))
+way_if moves s count size = by (first_accepting moves (numbered_tree 0 s)) refl
   where
-    by : (a : Option (Grown Part ℕ)) → accepting moves (numbered 0 s) ≡ a → IsWayIf count (way_to a)
+    by : (a : Option (Grown Part ℕ)) → first_accepting moves (numbered_tree 0 s) ≡ a → IsWayIf count (way_to a)
     by None e = tt
     by (Some a) e =
         let h = way_rises moves 0 count s a (omega (arith, size)) e in

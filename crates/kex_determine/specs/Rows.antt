@@ -4,10 +4,10 @@ use Rattle.kex_byteset.specs.Classes.{class_at, class_count}
 use Rattle.kex_model.specs.Labelled.{Shape, shape_of, size_of, Grown}
 use Rattle.kex_model.specs.Moves.{Move, accept, read, choose, forced, go}
 use Rattle.kex_machine.specs.Nodes.{Graph, node_moves}
-use Rattle.kex_machine.specs.Advancing.{accepting}
+use Rattle.kex_machine.specs.Advancing.{first_accepting}
 use Rattle.kex_sst.specs.declared.parts.Part.{Part}
 use Rattle.kex_sst.specs.declared.table.Transition.{Transition}
-use Rattle.kex_sst.specs.Parts.{numbered}
+use Rattle.kex_sst.specs.Parts.{numbered_tree}
 use Rattle.kex_sst.specs.Tables.{Row, Transducer, transition_if}
 use Rattle.kex_paths.specs.Nexts.{IsFirst, IsNext, IsChange}
 
@@ -32,7 +32,7 @@ way_to (Some a) = Some a.label
 pub record IsRowOf (g : Graph) (classes : List ℕ) (shapes : List (Shape ℕ)) (s : Shape ℕ) (r : Row) : Type 0 where
   pub registers : suc r.registers ≡ size_of s
   pub long : length r.go ≡ class_count classes
-  pub ends : r.accepting ≡ way_to (accepting (node_moves g.nodes) (numbered 0 s))
+  pub ends : r.accepting ≡ way_to (first_accepting (node_moves g.nodes) (numbered_tree 0 s))
   pub does : (b : ℕ) → b < 256 → DoesOn g shapes s b (transition_if (slice_get r.go (class_at classes b)))
 
 -- the states have these shapes, in the order of their numbers, and the first is that of the empty text

@@ -3,10 +3,10 @@ use Rattle.std.specs.Prelude.{◌≡◌, ℕ, ◌+◌, ◌-◌, Bool, List, [], 
 use Rattle.kex_code.specs.Codes.{Begins}
 use Rattle.kex_model.specs.Moves.{Move}
 use Rattle.kex_model.specs.Labelled.{Shape, size_of, Grown}
-use Rattle.kex_machine.specs.Advancing.{accepting, EachPlace}
+use Rattle.kex_machine.specs.Advancing.{first_accepting, EachPlace}
 use Rattle.kex_sst.specs.declared.parts.Part.{Part}
 use Rattle.kex_sst.specs.declared.parts.Part.TheVariants.{Old}
-use Rattle.kex_sst.specs.Parts.{numbered}
+use Rattle.kex_sst.specs.Parts.{numbered_tree}
 use Rattle.kex_paths.specs.Nexts.{inner_of, places_of}
 
 -- the right side of a fork that is still to come, and the way to the fork
@@ -44,10 +44,10 @@ module _ (moves : ℕ → Move ℕ) where
   -- the first way to the end, from node k on
   abbrev pub from_sides : ℕ → List Side → Option (List Part)
   from_sides k [] = None
-  from_sides k (x ∷ rest) = either (onward (x.before ++ (k - 1) ∷ []) (accepting moves (numbered k x.shape))) (from_sides (k + size_of x.shape) rest)
+  from_sides k (x ∷ rest) = either (onward (x.before ++ (k - 1) ∷ []) (first_accepting moves (numbered_tree k x.shape))) (from_sides (k + size_of x.shape) rest)
 
   abbrev pub from_here : ℕ → List ℕ → Shape ℕ → List Side → Option (List Part)
-  from_here k way s rest = either (onward way (accepting moves (numbered k s))) (from_sides (k + size_of s) rest)
+  from_here k way s rest = either (onward way (first_accepting moves (numbered_tree k s))) (from_sides (k + size_of s) rest)
 
 -- at node k, behind so many leaves: what is still to come has the whole tree's way to the end
 pub record IsOnWay (moves : ℕ → Move ℕ) (m : ℕ) (shape : List Bool) (leaves : List ℕ) (whole : Option (List Part)) (k leaf : ℕ) (way forks : List ℕ) : Type 0 where

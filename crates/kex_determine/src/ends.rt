@@ -3,9 +3,9 @@
 ghost use Rattle.std.specs.Prelude.{◌≡◌, ℕ, ◌<◌, ◌≤◌, IfOk, length, map};
 ghost use Rattle.kex_model.specs.Labelled.{Shape};
 ghost use Rattle.kex_machine.specs.Nodes.{node_moves};
-ghost use Rattle.kex_machine.specs.Advancing.{accepting, EachPlace};
+ghost use Rattle.kex_machine.specs.Advancing.{first_accepting, EachPlace};
 ghost use Rattle.kex_sst.specs.declared.parts.Part.TheVariants.{Old};
-ghost use Rattle.kex_sst.specs.Parts.{numbered};
+ghost use Rattle.kex_sst.specs.Parts.{numbered_tree};
 ghost use Rattle.kex_paths.specs.Nexts.{inner_of, places_of};
 ghost use Rattle.kex_determine.specs.Rows.{is_accepting, way_to};
 
@@ -50,7 +50,7 @@ pub(crate) fn way_to_end(
 ) -> Result<Option<Parts>, Memory>
     requires short { length shape.now ≤ 4294967296 }
     requires tree { (s : Shape ℕ) × (shape.now ≡ inner_of s) × (leaves.now ≡ places_of s) × EachPlace (length nodes.now) s }
-    ensures { IfOk result (λ way. (s : Shape ℕ) → shape.now ≡ inner_of s → leaves.now ≡ places_of s → EachPlace (length nodes.now) s → way ≡ way_to (accepting (node_moves nodes.now) (numbered 0 s))) }
+    ensures { IfOk result (λ way. (s : Shape ℕ) → shape.now ≡ inner_of s → leaves.now ≡ places_of s → EachPlace (length nodes.now) s → way ≡ way_to (first_accepting (node_moves nodes.now) (numbered_tree 0 s))) }
 {
     let mut way = Vec::new(alloc);
     // How long the way is to each fork whose right side is still to come.

@@ -5,15 +5,15 @@ use Rattle.std.specs.Prelude.{IfSome}
 use Rattle.kex_code.specs.declared.symbol.Symbol.{Symbol}
 use Rattle.kex_code.specs.Codes.{IsAmong}
 use Rattle.kex_model.specs.Moves.{Move, accept, read, choose, forced, go}
-use Rattle.kex_model.specs.Labelled.{Labelled, tip, fork, Grown, behind, joined}
+use Rattle.kex_model.specs.Labelled.{Labelled, tip, fork, Grown, with_prefix, fork_of}
 use Rattle.kex_model.proofs.Shapes.{among-append}
 use Rattle.kex_frontier.specs.declared.forest.TreeEdge.{TreeEdge}
 use Rattle.kex_frontier.specs.Edges.{Edge, Trees, as_is, edges_of, HasTrees, last_tree, with_front, with_fork, IsTipIf, TipsBelow, IsTreeBelow}
 use Rattle.kex_frontier.specs.Views.{edge_of, edges_at}
-use Rattle.kex_machine.specs.Advancing.{both, picked, at_end, accepting}
+use Rattle.kex_machine.specs.Advancing.{both, left_or_right, at_end, first_accepting}
 use Rattle.kex_frontier.specs.Going.{Advances, trees_at_end}
 
-pub behind_two : (c d : List Symbol) (a : Option (Grown Symbol ℕ)) → behind c (behind d a) ≡ behind (c ++ d) a
+pub behind_two : (c d : List Symbol) (a : Option (Grown Symbol ℕ)) → with_prefix c (with_prefix d a) ≡ with_prefix (c ++ d) a
 behind_two c d None = refl
 behind_two c d (Some g) = ap (λ z. Some (record { label = z; tree = g.tree })) (sym (append_assoc c d g.label))
 
@@ -79,7 +79,7 @@ module _ (moves : ℕ → Move ℕ) (b : ℕ) (f0 : List Bool) where
   -- the trees go on one after another, and are behind their labels
   abbrev pub Steps : List (Grown Symbol ℕ) → List (Option (Grown Symbol ℕ)) → List Bool → Type 0
   Steps [] [] f = f0 ≡ f
-  Steps (t ∷ ts) (r ∷ rs) f = (g : List Bool) × (a : Option (Grown Symbol ℕ)) × Steps ts rs g × Advances moves b g t.tree a f × (r ≡ behind t.label a)
+  Steps (t ∷ ts) (r ∷ rs) f = (g : List Bool) × (a : Option (Grown Symbol ℕ)) × Steps ts rs g × Advances moves b g t.tree a f × (r ≡ with_prefix t.label a)
   Steps [] (r ∷ rs) f = ⊥
   Steps (t ∷ ts) [] f = ⊥
 
@@ -94,10 +94,10 @@ module _ (moves : ℕ → Move ℕ) (b : ℕ) (f0 : List Bool) where
   pub grows_start : (t : Labelled Symbol ℕ) (all ts : List TreeEdge) (forest : Trees) → all ≡ reverse ts → HasTrees as_is forest [] → edges_at ts ≡ edges_of t [] → Grows t f0 (left_of all) forest
   grows_start t all ts forest e has is = record { trees = []; results = []; makes = made_whole t (left_of all) (left_start all ts e ∙ is); has = has; steps = refl }
 
-  pub grows_tip : (t : Labelled Symbol ℕ) (f f' : List Bool) (all rest : List TreeEdge) (x : TreeEdge) (p : ℕ) (old new : Trees) → all ≡ rest ++ x ∷ [] → x.at ≡ Some p → (a : Option (Grown Symbol ℕ)) × Advances moves b f (tip p) a f' × ((rs : List (Option (Grown Symbol ℕ))) → HasTrees as_is old rs → HasTrees as_is new (behind x.label.items a ∷ rs)) → Grows t f (left_of all) old → Grows t f' (left_of rest) new
+  pub grows_tip : (t : Labelled Symbol ℕ) (f f' : List Bool) (all rest : List TreeEdge) (x : TreeEdge) (p : ℕ) (old new : Trees) → all ≡ rest ++ x ∷ [] → x.at ≡ Some p → (a : Option (Grown Symbol ℕ)) × Advances moves b f (tip p) a f' × ((rs : List (Option (Grown Symbol ℕ))) → HasTrees as_is old rs → HasTrees as_is new (with_prefix x.label.items a ∷ rs)) → Grows t f (left_of all) old → Grows t f' (left_of rest) new
   grows_tip t f f' all rest x p old new e at (a, adv, done) h = record {
     trees = record { label = x.label.items; tree = tip p } ∷ h.trees;
-    results = behind x.label.items a ∷ h.results;
+    results = with_prefix x.label.items a ∷ h.results;
     makes = ap (λ z. made (stacked x.label.items z h.trees) (left_of rest)) (sym at) ∙ ap (λ z. made (Some h.trees) z) (sym (left_pop all rest x e)) ∙ h.makes;
     has = done h.results h.has;
     steps = (f, a, h.steps, adv, refl);
@@ -113,16 +113,16 @@ module _ (moves : ℕ → Move ℕ) (b : ℕ) (f0 : List Bool) where
       by (r ∷ l ∷ ts) (r' ∷ []) m has (g, a, s, adv, is) = absurd s
       by (r ∷ l ∷ ts) (r' ∷ l' ∷ rs) m has (g, a, (g', a', s, adv', is'), adv, is) = record {
         trees = record { label = x.label.items; tree = fork l.label l.tree r.label r.tree } ∷ ts;
-        results = behind x.label.items (joined l' r') ∷ rs;
+        results = with_prefix x.label.items (fork_of l' r') ∷ rs;
         makes = m;
         has = done (r' ∷ l' ∷ rs) has;
-        steps = (g', joined (behind l.label a') (behind r.label a), s, both adv' adv, ap (λ z. behind x.label.items (joined z r')) is' ∙ ap (λ z. behind x.label.items (joined (behind l.label a') z)) is);
+        steps = (g', fork_of (with_prefix l.label a') (with_prefix r.label a), s, both adv' adv, ap (λ z. with_prefix x.label.items (fork_of z r')) is' ∙ ap (λ z. with_prefix x.label.items (fork_of (with_prefix l.label a') z)) is);
       }
 
   pub grows_end : (t : Labelled Symbol ℕ) (f : List Bool) (all : List TreeEdge) (forest : Trees) → all ≡ [] → Grows t f (left_of all) forest → (a : Option (Grown Symbol ℕ)) × Advances moves b f0 t a f × HasTrees as_is forest (a ∷ [])
   grows_end t f all forest e h = by h.trees h.results (ap (λ z. made (Some h.trees) (left_of z)) (sym e) ∙ h.makes) h.has h.steps
     where
-      as_it_is : (a : Option (Grown Symbol ℕ)) → behind [] a ≡ a
+      as_it_is : (a : Option (Grown Symbol ℕ)) → with_prefix [] a ≡ a
       as_it_is None = refl
       as_it_is (Some g) = refl
 
@@ -140,7 +140,7 @@ module _ (moves : ℕ → Move ℕ) (b : ℕ) (f0 : List Bool) where
 module _ (moves : ℕ → Move ℕ) where
   -- what of a tree accepts, behind its label
   abbrev pub found_in : Grown Symbol ℕ → Option (Grown Symbol ℕ)
-  found_in g = behind g.label (accepting moves g.tree)
+  found_in g = with_prefix g.label (first_accepting moves g.tree)
 
   end_tip : (m : Move ℕ) (p : ℕ) → IsTipIf (at_end m p)
   end_tip accept p = (p, refl)
@@ -149,17 +149,17 @@ module _ (moves : ℕ → Move ℕ) where
   end_tip (forced x t) p = tt
   end_tip (go e t) p = tt
 
-  behind_tip : (c : List Symbol) (a : Option (Grown Symbol ℕ)) → IsTipIf a → IsTipIf (behind c a)
+  behind_tip : (c : List Symbol) (a : Option (Grown Symbol ℕ)) → IsTipIf a → IsTipIf (with_prefix c a)
   behind_tip c None h = h
   behind_tip c (Some g) h = h
 
-  picked_tip : (a b : Option (Grown Symbol ℕ)) → IsTipIf a → IsTipIf b → IsTipIf (picked a b)
+  picked_tip : (a b : Option (Grown Symbol ℕ)) → IsTipIf a → IsTipIf b → IsTipIf (left_or_right a b)
   picked_tip None b h h' = h'
   picked_tip (Some g) b h h' = h
 
-  pub accepting_tip : (t : Labelled Symbol ℕ) → IsTipIf (accepting moves t)
+  pub accepting_tip : (t : Labelled Symbol ℕ) → IsTipIf (first_accepting moves t)
   accepting_tip (tip p) = end_tip (moves p) p
-  accepting_tip (fork x l y r) = picked_tip (behind x (accepting moves l)) (behind y (accepting moves r)) (behind_tip x (accepting moves l) (accepting_tip l)) (behind_tip y (accepting moves r) (accepting_tip r))
+  accepting_tip (fork x l y r) = picked_tip (with_prefix x (first_accepting moves l)) (with_prefix y (first_accepting moves r)) (behind_tip x (first_accepting moves l) (accepting_tip l)) (behind_tip y (first_accepting moves r) (accepting_tip r))
 
   pub record Ends (t : Labelled Symbol ℕ) (left : List Edge) (forest : Trees) : Type 0 where
     pub trees : List (Grown Symbol ℕ)
@@ -174,18 +174,18 @@ module _ (moves : ℕ → Move ℕ) where
     where
       first_tip : (ts : List (Grown Symbol ℕ)) → IsTipIf (last_tree (map found_in ts))
       first_tip [] = tt
-      first_tip (t ∷ ts) = behind_tip t.label (accepting moves t.tree) (accepting_tip t.tree)
+      first_tip (t ∷ ts) = behind_tip t.label (first_accepting moves t.tree) (accepting_tip t.tree)
 
       by : (at : Option ℕ) (ts : List (Grown Symbol ℕ)) → made (stacked x.label.items at ts) (left_of rest) ≡ Some (whole t ∷ []) → HasTrees as_is old (map found_in ts) → ((rs : List (Option (Grown Symbol ℕ))) → IsTipIf (last_tree rs) → HasTrees as_is old rs → HasTrees as_is mid (trees_at_end moves at rs)) → Ends t (left_of rest) new
       by (Some p) ts m has done = record { trees = record { label = x.label.items; tree = tip p } ∷ ts; makes = m; has = done' (at_end (moves p) p ∷ map found_in ts) (done (map found_in ts) (first_tip ts) has) }
       by None [] m has done = cc
       by None (r ∷ []) m has done = cc
-      by None (r ∷ l ∷ ts) m has done = record { trees = record { label = x.label.items; tree = fork l.label l.tree r.label r.tree } ∷ ts; makes = m; has = done' (picked (found_in l) (found_in r) ∷ map found_in ts) (done (found_in r ∷ found_in l ∷ map found_in ts) (first_tip (r ∷ ts)) has) }
+      by None (r ∷ l ∷ ts) m has done = record { trees = record { label = x.label.items; tree = fork l.label l.tree r.label r.tree } ∷ ts; makes = m; has = done' (left_or_right (found_in l) (found_in r) ∷ map found_in ts) (done (found_in r ∷ found_in l ∷ map found_in ts) (first_tip (r ∷ ts)) has) }
 
-  pub ends_end : (t : Labelled Symbol ℕ) (all : List TreeEdge) (forest : Trees) → all ≡ [] → Ends t (left_of all) forest → HasTrees as_is forest (accepting moves t ∷ [])
-  ends_end t all forest e h = subst (λ z. HasTrees as_is forest z) (ap (λ z. map found_in z) (one h.trees (ap (λ z. made (Some h.trees) (left_of z)) (sym e) ∙ h.makes)) ∙ ap (λ z. z ∷ []) (as_it_is (accepting moves t))) h.has
+  pub ends_end : (t : Labelled Symbol ℕ) (all : List TreeEdge) (forest : Trees) → all ≡ [] → Ends t (left_of all) forest → HasTrees as_is forest (first_accepting moves t ∷ [])
+  ends_end t all forest e h = subst (λ z. HasTrees as_is forest z) (ap (λ z. map found_in z) (one h.trees (ap (λ z. made (Some h.trees) (left_of z)) (sym e) ∙ h.makes)) ∙ ap (λ z. z ∷ []) (as_it_is (first_accepting moves t))) h.has
     where
-      as_it_is : (a : Option (Grown Symbol ℕ)) → behind [] a ≡ a
+      as_it_is : (a : Option (Grown Symbol ℕ)) → with_prefix [] a ≡ a
       as_it_is None = refl
       as_it_is (Some g) = refl
 

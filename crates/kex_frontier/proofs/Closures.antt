@@ -3,7 +3,7 @@ use Rattle.std.proofs.Common.{◌≡◌, ℕ, zero, suc, ◌+◌, ◌<◌, ◌�
 use Rattle.std.proofs.lemmas.Option.{slice_get_past}
 use Rattle.std.proofs.lemmas.Bool.{cases_eq}
 use Rattle.kex_code.specs.Codes.{bytes_of, IsAmong}
-use Rattle.kex_model.specs.Moves.{Move, accept, read, choose, forced, go, quiet, Step, Side, to_left, to_right, symbol_of, chose, went, Allows, reads, goes_left, goes_right, goes_forced, goes, entered, symbols_of, code_of, Walk}
+use Rattle.kex_model.specs.Moves.{Move, accept, read, choose, forced, go, quiet, Step, Side, to_left, to_right, symbol_of, chose, went, Allows, reads, goes_left, goes_right, goes_forced, goes, target_of, symbols_of, code_of, Walk}
 use Rattle.kex_model.proofs.Walks.{bytes_of-append}
 use Rattle.kex_model.proofs.Derivations.{walk-append, code_of-append}
 use Rattle.kex_machine.specs.declared.MNode.{MNode}
@@ -64,7 +64,7 @@ side_bytes : (x : Side) → bytes_of (symbol_of x ∷ []) ≡ []
 side_bytes to_left = refl
 side_bytes to_right = refl
 
-quiet_step : {S : Type 0} (v : Move S) (m : S) → IsAmong (quiet v) m → (k : Step S) × Allows v k × (entered k ≡ m) × (bytes_of (symbols_of k) ≡ [])
+quiet_step : {S : Type 0} (v : Move S) (m : S) → IsAmong (quiet v) m → (k : Step S) × Allows v k × (target_of k ≡ m) × (bytes_of (symbols_of k) ≡ [])
 quiet_step accept m i = absurd i
 quiet_step (read set t) m i = absurd i
 quiet_step (choose l r) m (inl e) = (chose to_right r, goes_right, e, refl)
@@ -75,7 +75,7 @@ quiet_step (forced x t) m (inr i) = absurd i
 quiet_step (go f t) m (inl e) = (went f t, goes, e, refl)
 quiet_step (go f t) m (inr i) = absurd i
 
-is_quiet : {S : Type 0} {v : Move S} {k : Step S} → Allows v k → bytes_of (symbols_of k) ≡ [] → IsAmong (quiet v) (entered k)
+is_quiet : {S : Type 0} {v : Move S} {k : Step S} → Allows v k → bytes_of (symbols_of k) ≡ [] → IsAmong (quiet v) (target_of k)
 is_quiet (reads i) e = cc
 is_quiet goes_left e = inr (inl refl)
 is_quiet goes_right e = inl refl
@@ -141,8 +141,8 @@ module _ (nodes : List MNode) where
   pub past_last : (n : ℕ) → length nodes ≤ n → f n ≡ accept
   past_last n le = ap move_of (slice_get_past nodes n le)
 
-  reached_on : (q n : ℕ) (k : Step ℕ) → IsReachedQuietly nodes q n → Allows (f n) k → bytes_of (symbols_of k) ≡ [] → IsReachedQuietly nodes q (entered k)
-  reached_on q n k (ks, w, e) a s = (ks ++ k ∷ [], walk-append f ks (k ∷ []) q n (entered k) w (a, refl), ap bytes_of (code_of-append ks (k ∷ [])) ∙ bytes_of-append (code_of ks) (symbols_of k ++ []) ∙ ap₂ (λ x y. x ++ y) e (bytes_of-append (symbols_of k) [] ∙ ap (λ z. z ++ []) s))
+  reached_on : (q n : ℕ) (k : Step ℕ) → IsReachedQuietly nodes q n → Allows (f n) k → bytes_of (symbols_of k) ≡ [] → IsReachedQuietly nodes q (target_of k)
+  reached_on q n k (ks, w, e) a s = (ks ++ k ∷ [], walk-append f ks (k ∷ []) q n (target_of k) w (a, refl), ap bytes_of (code_of-append ks (k ∷ [])) ∙ bytes_of-append (code_of ks) (symbols_of k ++ []) ∙ ap₂ (λ x y. x ++ y) e (bytes_of-append (symbols_of k) [] ∙ ap (λ z. z ++ []) s))
 
   reached_both : (m p n : ℕ) → IsReachedQuietly nodes m p → IsReachedQuietly nodes p n → IsReachedQuietly nodes m n
   reached_both m p n (js, v, d) (ks, w, e) = (js ++ ks, walk-append f js ks m p n v w, ap bytes_of (code_of-append js ks) ∙ bytes_of-append (code_of js) (code_of ks) ∙ ap₂ (λ x y. x ++ y) d e)
@@ -226,4 +226,4 @@ module _ (nodes : List MNode) where
       along [] m n e w q = subst (λ z. has_mark new z ≡ true) w e
       along (k ∷ ks) m n e w q =
           let both = none_left (bytes_of (symbols_of k)) (bytes_of (code_of ks)) (sym (bytes_of-append (symbols_of k) (code_of ks)) ∙ q) in
-          along ks (entered k) n (s.closed refl m (entered k) e (is_quiet w.0 both.0)) w.1 both.1
+          along ks (target_of k) n (s.closed refl m (target_of k) e (is_quiet w.0 both.0)) w.1 both.1

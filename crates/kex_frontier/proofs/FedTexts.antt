@@ -4,13 +4,13 @@ use Rattle.std.proofs.lemmas.List.{length-replicate}
 use Rattle.kex_code.specs.declared.symbol.Symbol.{Symbol}
 use Rattle.kex_code.specs.declared.symbol.Symbol.TheVariants.{L, R, Byte}
 use Rattle.kex_model.specs.Moves.{Move, symbol_of}
-use Rattle.kex_model.specs.Labelled.{Labelled, tip, fork, Grown, behind, joined}
+use Rattle.kex_model.specs.Labelled.{Labelled, tip, fork, Grown, with_prefix, fork_of}
 use Rattle.kex_model.specs.Survivors.{HasTree}
 use Rattle.kex_model.proofs.Shapes.{tree_agrees}
 use Rattle.kex_machine.specs.Nodes.{node_moves}
 use Rattle.kex_machine.specs.Answers.{Viable, HasParse, IsSaid, IsGreedy}
 use Rattle.kex_frontier.specs.Edges.{Edge, edges_of, is_there, root_label, bare_edges, TipsBelow, IsTreeBelow, IsKept}
-use Rattle.kex_machine.specs.Advancing.{known, stops, parts_off, is_forced, passes_on, dies, reads_on, both, accepting}
+use Rattle.kex_machine.specs.Advancing.{known, stops, parts_off, is_forced, passes_on, dies, reads_on, both, first_accepting}
 use Rattle.kex_frontier.specs.Going.{Visits, Advances, WentOn}
 use Rattle.kex_frontier.specs.declared.forest.TreeEdge.{TreeEdge}
 use Rattle.kex_frontier.specs.Views.{edges_at}
@@ -26,11 +26,11 @@ abbrev pub TipsIf : ℕ → Option (Grown Symbol ℕ) → Type 0
 TipsIf m None = Unit {0}
 TipsIf m (Some g) = TipsBelow m g.tree
 
-behind_tips : (m : ℕ) (c : List Symbol) (a : Option (Grown Symbol ℕ)) → TipsIf m a → TipsIf m (behind c a)
+behind_tips : (m : ℕ) (c : List Symbol) (a : Option (Grown Symbol ℕ)) → TipsIf m a → TipsIf m (with_prefix c a)
 behind_tips m c None h = h
 behind_tips m c (Some g) h = h
 
-joined_tips : (m : ℕ) (a b : Option (Grown Symbol ℕ)) → TipsIf m a → TipsIf m b → TipsIf m (joined a b)
+joined_tips : (m : ℕ) (a b : Option (Grown Symbol ℕ)) → TipsIf m a → TipsIf m b → TipsIf m (fork_of a b)
 joined_tips m None None h h' = tt
 joined_tips m None (Some r) h h' = h'
 joined_tips m (Some l) None h h' = h
@@ -43,7 +43,7 @@ module _ (moves : ℕ → Move ℕ) (m : ℕ) where
   visit_tips {f = f} (parts_off {n = n} {a = a} {b = b} lt e mv va vb) l =
       let p = visit_tips va (length-set f n true ∙ l) in
       let q = visit_tips vb p.0 in
-      (q.0, joined_tips m (behind (L ∷ []) a) (behind (R ∷ []) b) (behind_tips m (L ∷ []) a p.1) (behind_tips m (R ∷ []) b q.1))
+      (q.0, joined_tips m (with_prefix (L ∷ []) a) (with_prefix (R ∷ []) b) (behind_tips m (L ∷ []) a p.1) (behind_tips m (R ∷ []) b q.1))
   visit_tips {f = f} (is_forced {n = n} {x = x} {a = a} lt e mv va) l = let p = visit_tips va (length-set f n true ∙ l) in (p.0, behind_tips m (symbol_of x ∷ []) a p.1)
   visit_tips {f = f} (passes_on {n = n} lt e mv va) l = visit_tips va (length-set f n true ∙ l)
 
@@ -53,7 +53,7 @@ module _ (moves : ℕ → Move ℕ) (m : ℕ) where
   advance_tips (both {u = u} {v = v} {x = x} {y = y} va vb) l =
       let p = advance_tips va l in
       let q = advance_tips vb p.0 in
-      (q.0, joined_tips m (behind u x) (behind v y) (behind_tips m u x p.1) (behind_tips m v y q.1))
+      (q.0, joined_tips m (with_prefix u x) (with_prefix v y) (behind_tips m u x p.1) (behind_tips m v y q.1))
 
   bare_kept : (a : Option (Grown Symbol ℕ)) (ks : List Edge) → ks ≡ bare_edges a → TipsIf m a → (ks ≡ []) ⊎ IsTreeBelow m ks
   bare_kept None ks e h = inl e
@@ -121,7 +121,7 @@ module _ (f : Front) (w : List ℕ) (taken : List Symbol) (trim : IsTrim (node_m
       h
 
   -- the end
-  over_live : (t : Labelled Symbol ℕ) (new : Front) → new.machine ≡ f.machine → HasTree (node_moves f.machine.nodes) f.machine.start w (taken ++ f.untaken) t → (a : Option (Grown Symbol ℕ)) → accepting (node_moves f.machine.nodes) t ≡ a → new.untaken ≡ f.untaken ++ root_label a → IsOver (end_of (is_there a)) new w taken
+  over_live : (t : Labelled Symbol ℕ) (new : Front) → new.machine ≡ f.machine → HasTree (node_moves f.machine.nodes) f.machine.start w (taken ++ f.untaken) t → (a : Option (Grown Symbol ℕ)) → first_accepting (node_moves f.machine.nodes) t ≡ a → new.untaken ≡ f.untaken ++ root_label a → IsOver (end_of (is_there a)) new w taken
   over_live t new same has None e code = (
     subst (λ z. ¬ HasParse z w) (sym same) (none_parses f.machine trim w (taken ++ f.untaken) t has e),
     subst (λ z. IsSaid z w (taken ++ new.untaken)) (sym same) (subst (λ z. IsSaid f.machine w (taken ++ z)) (sym (code ∙ append-nil f.untaken)) (said_of_tree f.machine trim w (taken ++ f.untaken) t has)),
@@ -129,10 +129,10 @@ module _ (f : Front) (w : List ℕ) (taken : List Symbol) (trim : IsTrim (node_m
   over_live t new same has (Some s) e code =
       subst (λ z. IsGreedy z w (taken ++ new.untaken)) (sym same) (subst (λ z. IsGreedy f.machine w z) (sym (ap (λ z. taken ++ z) code ∙ sym (append_assoc taken f.untaken s.label))) (greedy_found f.machine trim w (taken ++ f.untaken) t has s e))
 
-  pub over : (there : Bool) (new : Front) → new.machine ≡ f.machine → (f.edges ≡ [] → ⊥) → ((t : Labelled Symbol ℕ) → f.edges ≡ edges_of t [] → (there ≡ is_there (accepting (node_moves f.machine.nodes) t)) × (new.untaken ≡ f.untaken ++ root_label (accepting (node_moves f.machine.nodes) t))) → IsFed f w taken → IsOver (end_of there) new w taken
+  pub over : (there : Bool) (new : Front) → new.machine ≡ f.machine → (f.edges ≡ [] → ⊥) → ((t : Labelled Symbol ℕ) → f.edges ≡ edges_of t [] → (there ≡ is_there (first_accepting (node_moves f.machine.nodes) t)) × (new.untaken ≡ f.untaken ++ root_label (first_accepting (node_moves f.machine.nodes) t))) → IsFed f w taken → IsOver (end_of there) new w taken
   over there new same some ends h =
       ⊎_elim
-      (λ l. let x = ends l.0 l.2 in subst (λ z. IsOver (end_of z) new w taken) (sym x.0) (over_live l.0 new same l.1 (accepting (node_moves f.machine.nodes) l.0) refl x.1))
+      (λ l. let x = ends l.0 l.2 in subst (λ z. IsOver (end_of z) new w taken) (sym x.0) (over_live l.0 new same l.1 (first_accepting (node_moves f.machine.nodes) l.0) refl x.1))
       (λ d. absurd (some d.2))
       h
 
@@ -154,7 +154,7 @@ code_taken old new w taken code trim same edges none is h = (
     kept : (taken ++ code) ++ new.untaken ≡ taken ++ old.untaken
     kept = ap (λ z. (taken ++ code) ++ z) none ∙ append-nil (taken ++ code) ∙ ap (λ z. taken ++ z) is
 
-pub nothing_behind : (a : Option (Grown Symbol ℕ)) (c : List Symbol) → c ≡ [] → behind c a ≡ a
+pub nothing_behind : (a : Option (Grown Symbol ℕ)) (c : List Symbol) → c ≡ [] → with_prefix c a ≡ a
 nothing_behind None c e = refl
 nothing_behind (Some g) c e = ap (λ z. Some (record { label = z ++ g.label; tree = g.tree })) e
 

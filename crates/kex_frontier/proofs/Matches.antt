@@ -2,7 +2,7 @@
 use Rattle.std.proofs.Common.{◌≡◌, ℕ, ◌+◌, ◌<◌, true, false, List, [], ◌∷◌, ◌++◌, inl, ⊎_elim, length, refl, sym, ap, ap₂, subst, ◌∙◌, append-nil, length-append, arith, true≢false}
 use Rattle.std.specs.Prelude.{Option, Some, None, IfSome, IfNone, is_some}
 use Rattle.kex_code.specs.Codes.{bytes_of}
-use Rattle.kex_model.specs.Moves.{Move, accept, Step, to_left, to_right, took, chose, went, Allows, reads, goes_left, goes_right, goes_forced, goes, entered, code_of, Walk, Waits, IsWaiting}
+use Rattle.kex_model.specs.Moves.{Move, accept, Step, to_left, to_right, took, chose, went, Allows, reads, goes_left, goes_right, goes_forced, goes, target_of, code_of, Walk, Waits, IsWaiting}
 use Rattle.kex_model.proofs.Walks.{bytes_of-append}
 use Rattle.kex_model.proofs.Derivations.{walk-append, code_of-append}
 use Rattle.kex_machine.specs.declared.MNode.{MNode}
@@ -14,7 +14,7 @@ use Rattle.kex_machine.proofs.Saying.{viable_before, longest_self, longest_later
 use Rattle.kex_frontier.specs.Rows.{has_mark, AlsoMarks, IsReachedQuietly, IsClosureOf, IsRow}
 use Rattle.kex_frontier.specs.Matchers.{Match, IsDeadAt, WasFed}
 
-step_within : (c : ℕ) (v : Move ℕ) (k : Step ℕ) → MoveBelow c v → Allows v k → entered k < c
+step_within : (c : ℕ) (v : Move ℕ) (k : Step ℕ) → MoveBelow c v → Allows v k → target_of k < c
 step_within c v k h (reads i) = h
 step_within c v k h goes_left = h.0
 step_within c v k h goes_right = h.1
@@ -23,7 +23,7 @@ step_within c v k h goes = h
 
 walk_within : (nodes : List MNode) → StaysWithin nodes → (ks : List (Step ℕ)) (s t : ℕ) → s < length nodes → Walk (node_moves nodes) s ks t → t < length nodes
 walk_within nodes within [] s t lt w = subst (λ z. z < length nodes) w lt
-walk_within nodes within (k ∷ ks) s t lt w = walk_within nodes within ks (entered k) t (step_within (length nodes) (node_moves nodes s) k (within s lt) w.0) w.1
+walk_within nodes within (k ∷ ks) s t lt w = walk_within nodes within ks (target_of k) t (step_within (length nodes) (node_moves nodes s) k (within s lt) w.0) w.1
 
 -- on the way to the end there is a place that waits, before any byte
 waits_ahead : (nodes : List MNode) (ks : List (Step ℕ)) (n e : ℕ) → Walk (node_moves nodes) n ks e → node_moves nodes e ≡ accept → (p : ℕ) × IsReachedQuietly nodes n p × Waits (node_moves nodes) p

@@ -5,7 +5,7 @@ use Rattle.kex_code.specs.declared.symbol.Symbol.{Symbol}
 use Rattle.kex_code.specs.declared.symbol.Symbol.TheVariants.{L, R}
 use Rattle.kex_code.specs.Codes.{IsAmong}
 use Rattle.kex_model.specs.Moves.{Move, accept, read, choose, forced, go, symbol_of, IsWaiting}
-use Rattle.kex_model.specs.Labelled.{tip, Grown, behind, joined}
+use Rattle.kex_model.specs.Labelled.{tip, Grown, with_prefix, fork_of}
 use Rattle.kex_model.proofs.Shapes.{among-append}
 use Rattle.kex_machine.specs.declared.MNode.{MNode}
 use Rattle.kex_machine.proofs.Sizes.{unseen, unseen-set}
@@ -27,8 +27,8 @@ module _ (moves : ℕ → Move ℕ) where
   met_new : (js : List Task) (f : List Bool) (n : ℕ) (rs : List (Option (Grown Symbol ℕ))) (g : List Bool) (out : List (Option (Grown Symbol ℕ))) (mv : Move ℕ) → moves n ≡ mv → n < length f → get_or f n false ≡ false → Runs moves (reverse (tasks_from mv) ++ js) (set f n true) (leaf_at mv n ++ rs) g out → Runs moves (Visit n ∷ js) f rs g out
   met_new js f n rs g out accept is lt e q = (Some (record { label = []; tree = tip n }), set f n true, stops lt e (subst (λ z. IsWaiting z) (sym is) tt), q)
   met_new js f n rs g out (read s t) is lt e q = (Some (record { label = []; tree = tip n }), set f n true, stops lt e (subst (λ z. IsWaiting z) (sym is) tt), q)
-  met_new js f n rs g out (choose l r) is lt e (a, h, va, (a', h', vb, q)) = (joined (behind (L ∷ []) a) (behind (R ∷ []) a'), h', parts_off lt e is va vb, q)
-  met_new js f n rs g out (forced x t) is lt e (a, h, va, q) = (behind (symbol_of x ∷ []) a, h, is_forced lt e is va, q)
+  met_new js f n rs g out (choose l r) is lt e (a, h, va, (a', h', vb, q)) = (fork_of (with_prefix (L ∷ []) a) (with_prefix (R ∷ []) a'), h', parts_off lt e is va vb, q)
+  met_new js f n rs g out (forced x t) is lt e (a, h, va, q) = (with_prefix (symbol_of x ∷ []) a, h, is_forced lt e is va, q)
   met_new js f n rs g out (go x t) is lt e (a, h, va, q) = (a, h, passes_on lt e is va, q)
 
   met_runs : (js : List Task) (f : List Bool) (n : ℕ) (rs : List (Option (Grown Symbol ℕ))) (g : List Bool) (out : List (Option (Grown Symbol ℕ))) → n < length f → Runs moves (reverse (tasks_at (get_or f n false) (moves n)) ++ js) (set f n true) (trees_at (get_or f n false) (moves n) n ++ rs) g out → Runs moves (Visit n ∷ js) f rs g out

@@ -1,8 +1,8 @@
 -- Labelled trees as lists of edges, in postorder, and trees side by side.
 use Rattle.std.specs.Prelude.{◌≡◌, ℕ, ◌<◌, ◌⊎◌, length, Bool, true, false, List, [], ◌∷◌, ◌++◌, Option, Some, None, reverse}
 use Rattle.kex_code.specs.declared.symbol.Symbol.{Symbol}
-use Rattle.kex_model.specs.Labelled.{Labelled, tip, fork, Grown, behind, joined}
-use Rattle.kex_machine.specs.Advancing.{picked}
+use Rattle.kex_model.specs.Labelled.{Labelled, tip, fork, Grown, with_prefix, fork_of}
+use Rattle.kex_machine.specs.Advancing.{left_or_right}
 
 -- the label of the edge to it, and its place if it is a tip
 pub record Edge : Type 0 where
@@ -60,11 +60,11 @@ trees_before (r ∷ rs) = rs
 -- the last tree with more in front
 abbrev pub with_front : List Symbol → List (Option (Grown Symbol ℕ)) → List (Option (Grown Symbol ℕ))
 with_front x [] = []
-with_front x (r ∷ rs) = behind x r ∷ rs
+with_front x (r ∷ rs) = with_prefix x r ∷ rs
 
 -- the last two trees as sides of a fork
 abbrev pub with_fork : List (Option (Grown Symbol ℕ)) → List (Option (Grown Symbol ℕ))
-with_fork rs = joined (last_tree (trees_before rs)) (last_tree rs) ∷ trees_before (trees_before rs)
+with_fork rs = fork_of (last_tree (trees_before rs)) (last_tree rs) ∷ trees_before (trees_before rs)
 
 -- a fork's edge, if both of its sides are there
 abbrev pub fork_if : Bool → List Edge
@@ -73,7 +73,7 @@ fork_if false = []
 
 -- of the last two trees the first that is there
 abbrev pub with_first : List (Option (Grown Symbol ℕ)) → List (Option (Grown Symbol ℕ))
-with_first rs = picked (last_tree (trees_before rs)) (last_tree rs) ∷ trees_before (trees_before rs)
+with_first rs = left_or_right (last_tree (trees_before rs)) (last_tree rs) ∷ trees_before (trees_before rs)
 
 -- the tree is a tip, if it is there
 abbrev pub IsTipIf : Option (Grown Symbol ℕ) → Type 0

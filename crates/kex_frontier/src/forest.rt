@@ -2,7 +2,7 @@
 
 ghost use Rattle.std.specs.Prelude.{◌≡◌, ℕ, List, [], ◌∷◌, ◌++◌, Some, None, Option, OnOk, IfOk, IfNone, reverse, get_or, drop, map, option_to_list, false};
 ghost use Rattle.kex_code.specs.declared.symbol.Symbol.{Symbol};
-ghost use Rattle.kex_model.specs.Labelled.{Grown, tip, behind};
+ghost use Rattle.kex_model.specs.Labelled.{Grown, tip, with_prefix};
 ghost use Rattle.kex_frontier.specs.Edges.{HasTrees, as_is, no_trees, last_tree, with_front, with_fork, with_first, IsTipIf, fork_if, is_there, root_label, bare_edges, with_label_turned};
 ghost use Rattle.kex_frontier.specs.Views.{edge_of, edges_at};
 
@@ -230,7 +230,7 @@ impl Forest {
         label: Vec<Symbol>,
         spare: &mut Spare,
     ) -> Result<(), Memory>
-        ensures { OnOk result ((a : Option (Grown Symbol ℕ)) (rs : List (Option (Grown Symbol ℕ))) → HasTrees reverse fresh.old (a ∷ []) → HasTrees as_is self.old rs → HasTrees as_is self.new (behind label.items a ∷ rs)) }
+        ensures { OnOk result ((a : Option (Grown Symbol ℕ)) (rs : List (Option (Grown Symbol ℕ))) → HasTrees reverse fresh.old (a ∷ []) → HasTrees as_is self.old rs → HasTrees as_is self.new (with_prefix label.items a ∷ rs)) }
     {
         let there = fresh.is_last_there();
         self.move_turned(fresh)?;

@@ -2,12 +2,12 @@
 
 ghost use Rattle.std.specs.Prelude.{◌≡◌, ℕ, ◌<◌, ◌++◌, ◌∷◌, [], List, Option, Some, None, OnOk, IfOk, MatchOption, IfSome, length, replicate, false};
 ghost use Rattle.kex_code.specs.declared.symbol.Symbol.{Symbol};
-ghost use Rattle.kex_model.specs.Labelled.{Labelled, Grown, tip, behind};
+ghost use Rattle.kex_model.specs.Labelled.{Labelled, Grown, tip, with_prefix};
 ghost use Rattle.kex_model.specs.Moves.{Allows, took};
 ghost use Rattle.kex_machine.specs.Nodes.{node_moves};
 ghost use Rattle.kex_frontier.specs.Edges.{HasTrees, as_is, edges_of, last_tree, IsTipIf, IsTreeBelow, is_there, root_label, bare_edges};
 ghost use Rattle.kex_frontier.specs.Views.{edges_at};
-ghost use Rattle.kex_machine.specs.Advancing.{accepting};
+ghost use Rattle.kex_machine.specs.Advancing.{first_accepting};
 ghost use Rattle.kex_frontier.specs.Going.{Advances, trees_at_end};
 ghost use Rattle.kex_machine.specs.Nodes.{StaysWithin};
 
@@ -40,7 +40,7 @@ fn advance_tip(
     requires range { StaysWithin nodes.now }
     requires below { place < length nodes.now }
     requires long { length tools.old.marks ≡ length nodes.now }
-    ensures tree { OnOk result ((a : Option (Grown Symbol ℕ)) × Advances (node_moves nodes.now) byte tools.old.marks (tip place) a tools.new.marks × ((rs : List (Option (Grown Symbol ℕ))) → HasTrees as_is grown.old rs → HasTrees as_is grown.new (behind label.items a ∷ rs))) }
+    ensures tree { OnOk result ((a : Option (Grown Symbol ℕ)) × Advances (node_moves nodes.now) byte tools.old.marks (tip place) a tools.new.marks × ((rs : List (Option (Grown Symbol ℕ))) → HasTrees as_is grown.old rs → HasTrees as_is grown.new (with_prefix label.items a ∷ rs))) }
     ensures long { OnOk result (length tools.new.marks ≡ length nodes.now) }
 {
     if let Some(next) = next_by(nodes, place, byte) {
@@ -110,7 +110,7 @@ pub fn accept(
     spare: &mut Spare,
 ) -> Result<(), Memory>
     requires { IsTreeBelow (length nodes.now) (edges_at tree.old.items) }
-    ensures { OnOk result ((t : Labelled Symbol ℕ) → edges_at tree.old.items ≡ edges_of t [] → HasTrees as_is found.new (accepting (node_moves nodes.now) t ∷ [])) }
+    ensures { OnOk result ((t : Labelled Symbol ℕ) → edges_at tree.old.items ≡ edges_of t [] → HasTrees as_is found.new (first_accepting (node_moves nodes.now) t ∷ [])) }
 {
     found.clear();
     tree.reverse();

@@ -20,7 +20,7 @@ use Rattle.kex_model.proofs.Derivations.{code_of-append, walk-append}
 use Rattle.kex_model.proofs.Shapes.{tree_agrees}
 use Rattle.kex_machine.specs.declared.MNode.{MNode}
 use Rattle.kex_machine.specs.Nodes.{Graph, HasLoop, move_of, node_moves, IsTrimmed, MoveBelow, StaysWithin}
-use Rattle.kex_machine.specs.Advancing.{itself, Visits, known, stops, parts_off, is_forced, passes_on, Advances, dies, reads_on, both, accepting}
+use Rattle.kex_machine.specs.Advancing.{itself, Visits, known, stops, parts_off, is_forced, passes_on, Advances, dies, reads_on, both, first_accepting}
 use Rattle.kex_machine.specs.Answers.{Viable, HasParse, IsGreedy, Says, Means, StageAnswers}
 use Rattle.kex_machine.proofs.Nexts.{IsTrim, ShowsFirst, ShowsTree, first_shows, next_shows}
 use Rattle.kex_machine.proofs.Ranges.{is_trim}
@@ -234,9 +234,9 @@ module _ (g : Graph) (within : StaysWithin g.nodes) (start_in : g.start < length
 
   -- the end of a text within the limit
   at_the_end : (limit : ℕ) (w : List ℕ) (c : List Symbol) (t : Labelled Symbol ℕ) → length w ≤ limit → HasTree ms g.start w c t → (a : Answer) × StageAnswers g limit w true a
-  at_the_end limit w c t short has = by (accepting ms t) refl
+  at_the_end limit w c t short has = by (first_accepting ms t) refl
     where
-      by : (o : Option (Grown Symbol ℕ)) → accepting ms t ≡ o → (a : Answer) × StageAnswers g limit w true a
+      by : (o : Option (Grown Symbol ℕ)) → first_accepting ms t ≡ o → (a : Answer) × StageAnswers g limit w true a
       by None e = let s = says w c t has in (_, cut_off short (can_go_on w c t has) (none_parses g trim w c t has e) s.1)
       by (Some x) e = let s = means w (c ++ x.label) (greedy_found g trim w c t has x e) in (_, whole short s.1)
 

@@ -5,7 +5,7 @@ use Rattle.kex_code.specs.Codes.{bytes_of, AtMost, HasNumber}
 use Rattle.kex_model.specs.Programs.{Grammar}
 use Rattle.kex_model.specs.Trees.{Tree, IsTree, kind_at, text_of, meaning, part}
 use Rattle.kex_model.specs.Moves.{Move, Step, took, chose, went, code_of, Walk}
-use Rattle.kex_model.specs.Acting.{State, appended, done_by, acted}
+use Rattle.kex_model.specs.Acting.{State, after_append, after_effect, after_steps}
 use Rattle.kex_model.specs.Places.{Place, moves, start_of, steps_of, HasEmptyLoop, at_start}
 use Rattle.kex_model.specs.Survivors.{LeadsToEnd, Reaches, Survives, IsViable, Agreed, Greedy}
 use Rattle.kex_model.specs.Alike.{Alike}
@@ -31,13 +31,13 @@ use Rattle.kex_lowering.proofs.SameShapes.{same_shapes, same_paths}
 use Rattle.kex_lowering.proofs.SameAnswers.{Serves, answers_so}
 
 -- paired steps do the same
-same_done : {S T : Type 0} (f : S → Move S) (g : T → Move T) (R : S → T → Type 0) (ks : List (Step S)) (js : List (Step T)) (c : List Symbol) (st : State) → Paired f g R ks js → acted ks c st ≡ acted js c st
+same_done : {S T : Type 0} (f : S → Move S) (g : T → Move T) (R : S → T → Type 0) (ks : List (Step S)) (js : List (Step T)) (c : List Symbol) (st : State) → Paired f g R ks js → after_steps ks c st ≡ after_steps js c st
 same_done f g R [] [] c st p = refl
-same_done f g R (went d s ∷ ks) (went e t ∷ js) c st p = ap (λ z. acted ks c (done_by z st)) p.0 ∙ same_done f g R ks js c (done_by e st) p.2
+same_done f g R (went d s ∷ ks) (went e t ∷ js) c st p = ap (λ z. after_steps ks c (after_effect z st)) p.0 ∙ same_done f g R ks js c (after_effect e st) p.2
 same_done f g R (chose x s ∷ ks) (chose y t ∷ js) [] st p = refl
 same_done f g R (chose x s ∷ ks) (chose y t ∷ js) (z ∷ c) st p = same_done f g R ks js c st p.2
 same_done f g R (took a s ∷ ks) (took b t ∷ js) [] st p = refl
-same_done f g R (took a s ∷ ks) (took b t ∷ js) (z ∷ c) st p = ap (λ q. acted ks c (appended (q ∷ []) st.out st.buffers st.registers)) p.0 ∙ same_done f g R ks js c (appended (b ∷ []) st.out st.buffers st.registers) p.2
+same_done f g R (took a s ∷ ks) (took b t ∷ js) (z ∷ c) st p = ap (λ q. after_steps ks c (after_append (q ∷ []) st.out st.buffers st.registers)) p.0 ∙ same_done f g R ks js c (after_append (b ∷ []) st.out st.buffers st.registers) p.2
 same_done f g R [] (j ∷ js) c st p = absurd p
 same_done f g R (took a s ∷ ks) [] c st p = absurd p
 same_done f g R (chose x s ∷ ks) [] c st p = absurd p
@@ -143,14 +143,14 @@ module _ (P : Grammar) (root : ℕ) (m : Graph) (R : Place → ℕ → Type 0) (
   -- what the run leaves is the tree's part
   part_left : (t : Tree) (js : List (Step ℕ)) (c : List Symbol) → Follows t js → (nodes.left_by m js c).out ≡ (part P (kind_at P root) t c (empty P)).bytes
   part_left t js c h =
-      ap (λ z. (acted js c (nodes.begun z)).out) same
-      ∙ ap (λ z. z.out) (sym (same_done f g R (steps_at t) js c (nodes.begun P.registers) h.paired))
+      ap (λ z. (after_steps js c (nodes.start_state z)).out) same
+      ∙ ap (λ z. z.out) (sym (same_done f g R (steps_at t) js c (nodes.start_state P.registers) h.paired))
       ∙ (done_all P root t c (empty P) [] h.is_tree).written
 
   registers_left : (t : Tree) (js : List (Step ℕ)) (c : List Symbol) → Follows t js → (nodes.left_by m js c).registers ≡ (part P (kind_at P root) t c (empty P)).registers
   registers_left t js c h =
-      ap (λ z. (acted js c (nodes.begun z)).registers) same
-      ∙ ap (λ z. z.registers) (sym (same_done f g R (steps_at t) js c (nodes.begun P.registers) h.paired))
+      ap (λ z. (after_steps js c (nodes.start_state z)).registers) same
+      ∙ ap (λ z. z.registers) (sym (same_done f g R (steps_at t) js c (nodes.start_state P.registers) h.paired))
       ∙ (done_all P root t c (empty P) [] h.is_tree).held
 
   same_run : (t : Tree) (js : List (Step ℕ)) → Follows t js → SameRun P root m t js

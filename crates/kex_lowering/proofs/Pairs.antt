@@ -1,6 +1,6 @@
 -- Two pairings of systems that are alike, one after the other.
 use Rattle.std.proofs.Common.{[], refl, subst, ◌∙◌}
-use Rattle.kex_model.specs.Moves.{Move, Step, took, chose, went, entered}
+use Rattle.kex_model.specs.Moves.{Move, Step, took, chose, went, target_of}
 use Rattle.kex_model.specs.Survivors.{LeadsToEnd}
 use Rattle.kex_model.specs.Alike.{SameLabel, Alike}
 use Rattle.kex_model.proofs.Transfer.{walk_ahead, walk_back}
@@ -37,12 +37,12 @@ pub alike_through : {S T U : Type 0} (f : S → Move S) (g : T → Move T) (h : 
 alike_through f g h R Q a b = record {
   ahead = λ s u k r w end.
       let x = a.ahead s r.0 k r.1 w end in
-      let y = b.ahead r.0 u x.0 r.2 x.1 (end_ahead f g R a (entered k) (entered x.0) x.3 end) in
-      (y.0, y.1, same_label k x.0 y.0 x.2 y.2, (entered x.0, x.3, y.3));
+      let y = b.ahead r.0 u x.0 r.2 x.1 (end_ahead f g R a (target_of k) (target_of x.0) x.3 end) in
+      (y.0, y.1, same_label k x.0 y.0 x.2 y.2, (target_of x.0, x.3, y.3));
   back = λ s u i r w.
       let x = b.back r.0 u i r.2 w in
       let y = a.back s r.0 x.0 r.1 x.1 in
-      (y.0, y.1, same_label y.0 x.0 i y.2 x.2, (entered x.0, y.3, x.3));
+      (y.0, y.1, same_label y.0 x.0 i y.2 x.2, (target_of x.0, y.3, x.3));
   waits = λ s u r w. b.waits r.0 u r.2 (a.waits s r.0 r.1 w);
   waits_back = λ s u r w. a.waits_back s r.0 r.1 (b.waits_back r.0 u r.2 w);
   ends = λ s u r e. b.ends r.0 u r.2 (a.ends s r.0 r.1 e);

@@ -3,13 +3,13 @@ use Rattle.std.proofs.Common.{◌≡◌, ℕ, List, [], ◌++◌, inl, inr, ⊎_
 use Rattle.kex_code.specs.declared.symbol.Symbol.{Symbol}
 use Rattle.kex_code.specs.Codes.{AtMost, IsAmong}
 use Rattle.kex_model.specs.Moves.{Move, accept, read, choose, forced, go, code_of, IsWaiting}
-use Rattle.kex_model.specs.Labelled.{Labelled, tip, fork, leaves_of, Grown, behind}
+use Rattle.kex_model.specs.Labelled.{Labelled, tip, fork, leaves_of, Grown, with_prefix}
 use Rattle.kex_model.specs.Survivors.{Item, IsParted, Survives, HasTree}
 use Rattle.kex_model.proofs.Orders.{at_most_trans}
 use Rattle.kex_model.proofs.Shapes.{among-append, among_left, among_right, behind_start, leaf_front}
 use Rattle.kex_machine.specs.Nodes.{Graph, node_moves}
 use Rattle.kex_machine.specs.Answers.{HasParse, IsGreedy}
-use Rattle.kex_machine.specs.Advancing.{picked, at_end, accepting}
+use Rattle.kex_machine.specs.Advancing.{left_or_right, at_end, first_accepting}
 use Rattle.kex_machine.proofs.Nexts.{IsTrim, reached_by}
 
 module _ (moves : ℕ → Move ℕ) where
@@ -20,22 +20,22 @@ module _ (moves : ℕ → Move ℕ) where
   end_none (forced x t) p e f = cc
   end_none (go x t) p e f = cc
 
-  behind_none : (c : List Symbol) (a : Option (Grown Symbol ℕ)) → behind c a ≡ None → a ≡ None
+  behind_none : (c : List Symbol) (a : Option (Grown Symbol ℕ)) → with_prefix c a ≡ None → a ≡ None
   behind_none c None e = refl
   behind_none c (Some g) e = cc
 
-  picked_none : (a b : Option (Grown Symbol ℕ)) → picked a b ≡ None → (a ≡ None) × (b ≡ None)
+  picked_none : (a b : Option (Grown Symbol ℕ)) → left_or_right a b ≡ None → (a ≡ None) × (b ≡ None)
   picked_none None b e = (refl, e)
   picked_none (Some g) b e = cc
 
   -- where nothing is found, no tip accepts
-  pub accepting_none : (t : Labelled Symbol ℕ) (c : List Symbol) → accepting moves t ≡ None → (x : Item ℕ) → IsAmong (leaves_of t c) x → moves x.at ≡ accept → ⊥
+  pub accepting_none : (t : Labelled Symbol ℕ) (c : List Symbol) → first_accepting moves t ≡ None → (x : Item ℕ) → IsAmong (leaves_of t c) x → moves x.at ≡ accept → ⊥
   accepting_none (tip p) c e x i acc = ⊎_elim (λ f. end_none (moves p) p e (ap (λ z. moves z.at) f ∙ acc)) (λ k. k) i
   accepting_none (fork u l v r) c e x i acc =
-      let q = picked_none (behind u (accepting moves l)) (behind v (accepting moves r)) e in
+      let q = picked_none (with_prefix u (first_accepting moves l)) (with_prefix v (first_accepting moves r)) e in
       ⊎_elim
-      (λ i. accepting_none l (c ++ u) (behind_none u (accepting moves l) q.0) x i acc)
-      (λ i. accepting_none r (c ++ v) (behind_none v (accepting moves r) q.1) x i acc)
+      (λ i. accepting_none l (c ++ u) (behind_none u (first_accepting moves l) q.0) x i acc)
+      (λ i. accepting_none r (c ++ v) (behind_none v (first_accepting moves r) q.1) x i acc)
       (among-append (leaves_of l (c ++ u)) (leaves_of r (c ++ v)) x i)
 
   -- what is found is a tip that accepts, with its code, before all others
@@ -52,7 +52,7 @@ module _ (moves : ℕ → Move ℕ) where
   found_tip (forced x t) p g e = cc
   found_tip (go x t) p g e = cc
 
-  pub accepting_found : (t : Labelled Symbol ℕ) (c : List Symbol) (g : Grown Symbol ℕ) → IsParted t → accepting moves t ≡ Some g → IsFound t c g
+  pub accepting_found : (t : Labelled Symbol ℕ) (c : List Symbol) (g : Grown Symbol ℕ) → IsParted t → first_accepting moves t ≡ Some g → IsFound t c g
   accepting_found (tip p) c g parted e =
       let q = found_tip (moves p) p g e in
       let code : c ≡ c ++ g.label = sym (append-nil c) ∙ ap (λ z. c ++ z.label) (sym q.1) in
@@ -62,9 +62,9 @@ module _ (moves : ℕ → Move ℕ) where
         leaf = inl (ap (λ z. record { at = p; code = z }) code);
         first = λ x i acc. inl (⊎_elim (λ f. sym code ∙ ap (λ z. z.code) f) (λ k. absurd k) i);
       }
-  accepting_found (fork u l v r) c g parted e = by (λ s f. accepting_found l (c ++ u) s parted.1 f) (λ s f. accepting_found r (c ++ v) s parted.3 f) (accepting moves l) refl (accepting moves r) refl
+  accepting_found (fork u l v r) c g parted e = by (λ s f. accepting_found l (c ++ u) s parted.1 f) (λ s f. accepting_found r (c ++ v) s parted.3 f) (first_accepting moves l) refl (first_accepting moves r) refl
     where
-      by : ((s : Grown Symbol ℕ) → accepting moves l ≡ Some s → IsFound l (c ++ u) s) → ((s : Grown Symbol ℕ) → accepting moves r ≡ Some s → IsFound r (c ++ v) s) → (al : Option (Grown Symbol ℕ)) → accepting moves l ≡ al → (ar : Option (Grown Symbol ℕ)) → accepting moves r ≡ ar → IsFound (fork u l v r) c g
+      by : ((s : Grown Symbol ℕ) → first_accepting moves l ≡ Some s → IsFound l (c ++ u) s) → ((s : Grown Symbol ℕ) → first_accepting moves r ≡ Some s → IsFound r (c ++ v) s) → (al : Option (Grown Symbol ℕ)) → first_accepting moves l ≡ al → (ar : Option (Grown Symbol ℕ)) → first_accepting moves r ≡ ar → IsFound (fork u l v r) c g
       by left right (Some s) el ar er =
           let is : record { label = u ++ s.label; tree = s.tree } ≡ g = (cc) in
           let h = left s el in
@@ -103,14 +103,14 @@ module _ (g : Graph) (trim : IsTrim (node_moves g.nodes) g.start) (w : List ℕ)
   ms = node_moves g.nodes
 
   -- where no tip accepts there is no parse
-  pub none_parses : accepting ms t ≡ None → ¬ HasParse g w
+  pub none_parses : first_accepting ms t ≡ None → ¬ HasParse g w
   none_parses e (ks, (e', walk, acc), q) =
       let r = reached_by ms g.start trim w e' ks walk (subst (λ z. IsWaiting z) (sym acc) tt) q in
       let y = has.lists.all e' (code_of ks, r, trim.ends e') in
       accepting_none ms t c e (record { at = e'; code = y.0 }) y.1 acc
 
   -- the code at the first tip that accepts is the greedy parse's
-  pub greedy_found : (s : Grown Symbol ℕ) → accepting ms t ≡ Some s → IsGreedy g w (c ++ s.label)
+  pub greedy_found : (s : Grown Symbol ℕ) → first_accepting ms t ≡ Some s → IsGreedy g w (c ++ s.label)
   greedy_found s e = record {
     parse = let r = survives.reached in (r.0, (found.place, r.1.walk, found.accepts), r.1.reads);
     greedy = (found.place, found.accepts, survives);

@@ -3,8 +3,8 @@ use Rattle.std.proofs.Common.{◌≡◌, ℕ, zero, suc, Bool, false, List, [], 
 use Rattle.kex_code.specs.declared.symbol.Symbol.{Symbol}
 use Rattle.kex_code.specs.declared.symbol.Symbol.TheVariants.{L, R, Byte}
 use Rattle.kex_code.specs.Codes.{bytes_of, AtMost, IsAmong}
-use Rattle.kex_model.specs.Moves.{Move, accept, Step, symbol_of, to_left, to_right, chose, went, took, Allows, reads, entered, symbols_of, code_of, Walk, Waits, IsWaiting}
-use Rattle.kex_model.specs.Labelled.{Labelled, leaves_of, Grown, leaves_if, joined, behind}
+use Rattle.kex_model.specs.Moves.{Move, accept, Step, symbol_of, to_left, to_right, chose, went, took, Allows, reads, target_of, symbols_of, code_of, Walk, Waits, IsWaiting}
+use Rattle.kex_model.specs.Labelled.{Labelled, leaves_of, Grown, leaves_if, fork_of, with_prefix}
 use Rattle.kex_model.specs.Survivors.{Item, NoReturn, StartsWith, IsParted, LeadsToEnd, Reaches, IsViable, HasTree}
 use Rattle.kex_model.proofs.Walks.{bytes_of-append}
 use Rattle.kex_model.proofs.Derivations.{code_of-append, walk-append}
@@ -21,14 +21,14 @@ abbrev pub IsPartedIf : Option (Grown Symbol ℕ) → Type 0
 IsPartedIf None = Unit {0}
 IsPartedIf (Some g) = IsParted g.tree
 
-behind_parted : (x : List Symbol) (a : Option (Grown Symbol ℕ)) → IsPartedIf a → IsPartedIf (behind x a)
+behind_parted : (x : List Symbol) (a : Option (Grown Symbol ℕ)) → IsPartedIf a → IsPartedIf (with_prefix x a)
 behind_parted x None h = h
 behind_parted x (Some g) h = h
 
 more_starts : {s : Symbol} (x y : List Symbol) → StartsWith s x → StartsWith s (x ++ y)
 more_starts x y (more, e) = (more ++ y, ap (λ z. z ++ y) e)
 
-both_parted : (x y : List Symbol) (a a' : Option (Grown Symbol ℕ)) → StartsWith L x → StartsWith R y → IsPartedIf a → IsPartedIf a' → IsPartedIf (joined (behind x a) (behind y a'))
+both_parted : (x y : List Symbol) (a a' : Option (Grown Symbol ℕ)) → StartsWith L x → StartsWith R y → IsPartedIf a → IsPartedIf a' → IsPartedIf (fork_of (with_prefix x a) (with_prefix y a'))
 both_parted x y None None p q h h' = tt
 both_parted x y (Some l) None p q h h' = h
 both_parted x y None (Some r) p q h h' = h'
@@ -59,10 +59,10 @@ module _ (moves : ℕ → Move ℕ) (start : ℕ) where
 
   -- where no walk without a byte returns, no place is entered twice without a byte in between
   module _ (none : NoCycle moves) where
-    no_way_back : (s : ℕ) (k : Step ℕ) → Allows (moves s) k → bytes_of (symbols_of k) ≡ [] → loops.Quiet moves (entered k) s → ⊥
+    no_way_back : (s : ℕ) (k : Step ℕ) → Allows (moves s) k → bytes_of (symbols_of k) ≡ [] → loops.Quiet moves (target_of k) s → ⊥
     no_way_back s k a e w = none s k w.steps (a, w.walk) (bytes_of-append (symbols_of k) (code_of w.steps) ∙ ap₂ (λ x y. x ++ y) e w.silent)
 
-    more_seen : (s : ℕ) (k : Step ℕ) (seen : List ℕ) → Allows (moves s) k → bytes_of (symbols_of k) ≡ [] → ((q : ℕ) → IsAmong seen q → loops.Quiet moves q s) → (q : ℕ) → IsAmong (entered k ∷ seen) q → loops.Quiet moves q (entered k)
+    more_seen : (s : ℕ) (k : Step ℕ) (seen : List ℕ) → Allows (moves s) k → bytes_of (symbols_of k) ≡ [] → ((q : ℕ) → IsAmong seen q → loops.Quiet moves q s) → (q : ℕ) → IsAmong (target_of k ∷ seen) q → loops.Quiet moves q (target_of k)
     more_seen s k seen a e quiet q h = ⊎_elim (λ e. record { steps = []; walk = sym e; silent = refl }) (λ i. loops.quiet_more moves q s k (quiet q i) a e) h
 
     pub no_return : (ks : List (Step ℕ)) (s t : ℕ) (seen : List ℕ) → ((q : ℕ) → IsAmong seen q → loops.Quiet moves q s) → Walk moves s ks t → NoReturn seen ks

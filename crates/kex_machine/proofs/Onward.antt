@@ -4,7 +4,7 @@ use Rattle.kex_code.specs.declared.symbol.Symbol.{Symbol}
 use Rattle.kex_code.specs.declared.symbol.Symbol.TheVariants.{R, Byte}
 use Rattle.kex_code.specs.Codes.{Begins, AtMost, IsAmong}
 use Rattle.kex_model.specs.Moves.{Move, read, Step, took, Allows, reads, code_of, Waits}
-use Rattle.kex_model.specs.Labelled.{Leaf, Labelled, fork, leaves_of, Grown, leaves_if, joined, behind}
+use Rattle.kex_model.specs.Labelled.{Leaf, Labelled, fork, leaves_of, Grown, leaves_if, fork_of, with_prefix}
 use Rattle.kex_model.specs.Survivors.{IsParted}
 use Rattle.kex_model.proofs.Shapes.{among-append, among_left, among_right, leaf_front, behind_leaves, behind_start}
 use Rattle.kex_machine.specs.Advancing.{itself, Advances, dies, reads_on, both}
@@ -44,7 +44,7 @@ module _ (moves : ℕ → Move ℕ) (b : ℕ) where
       one (reads i) = refl
 
   -- a fork of the old tree, by its sides
-  two_sides : {f g h : List Bool} {lx ly : List Symbol} {l r : Labelled Symbol ℕ} {x y : Option (Grown Symbol ℕ)} → IsParted (fork lx l ly r) → Advanced f l x g → Advanced g r y h → Advanced f (fork lx l ly r) (joined (behind lx x) (behind ly y)) h
+  two_sides : {f g h : List Bool} {lx ly : List Symbol} {l r : Labelled Symbol ℕ} {x y : Option (Grown Symbol ℕ)} → IsParted (fork lx l ly r) → Advanced f l x g → Advanced g r y h → Advanced f (fork lx l ly r) (fork_of (with_prefix lx x) (with_prefix ly y)) h
   two_sides {f = f} {g = g} {h = h} {lx = lx} {ly = ly} {l = tl} {r = tr} {x = x} {y = y} parted vl vr = record {
     closed = vr.closed;
     grows = λ m i. vr.grows m (vl.grows m i);

@@ -3,7 +3,7 @@ use Rattle.std.proofs.Common.{◌≡◌, ℕ, zero, suc, ◌+◌, ◌*◌, ◌<�
 use Rattle.kex_code.specs.declared.symbol.Symbol.{Symbol}
 use Rattle.kex_code.specs.declared.symbol.Symbol.TheVariants.{L, R}
 use Rattle.kex_model.specs.Moves.{Move, symbol_of}
-use Rattle.kex_model.specs.Labelled.{Labelled, shape_of, size_of, Grown, behind, joined}
+use Rattle.kex_model.specs.Labelled.{Labelled, shape_of, size_of, Grown, with_prefix, fork_of}
 use Rattle.kex_machine.specs.Advancing.{Visits, known, stops, parts_off, is_forced, passes_on, Advances, dies, reads_on, both, EachPlace}
 
 -- how many places weren't met
@@ -28,21 +28,21 @@ abbrev pub EachPlaceIf : {A : Type 0} → ℕ → Option (Grown A ℕ) → Type 
 EachPlaceIf m None = Unit {0}
 EachPlaceIf m (Some g) = EachPlace m (shape_of g.tree)
 
-behind_weight : {A : Type 0} (x : List A) (a : Option (Grown A ℕ)) → weight (behind x a) ≡ weight a
+behind_weight : {A : Type 0} (x : List A) (a : Option (Grown A ℕ)) → weight (with_prefix x a) ≡ weight a
 behind_weight x None = refl
 behind_weight x (Some g) = refl
 
-behind_places : {A : Type 0} (m : ℕ) (x : List A) (a : Option (Grown A ℕ)) → EachPlaceIf m a → EachPlaceIf m (behind x a)
+behind_places : {A : Type 0} (m : ℕ) (x : List A) (a : Option (Grown A ℕ)) → EachPlaceIf m a → EachPlaceIf m (with_prefix x a)
 behind_places m x None h = h
 behind_places m x (Some g) h = h
 
-both_weight : {A : Type 0} (x y : List A) (a b : Option (Grown A ℕ)) → weight (joined (behind x a) (behind y b)) ≡ weight a + weight b
+both_weight : {A : Type 0} (x y : List A) (a b : Option (Grown A ℕ)) → weight (fork_of (with_prefix x a) (with_prefix y b)) ≡ weight a + weight b
 both_weight x y None None = omega arith
 both_weight x y (Some l) None = omega arith
 both_weight x y None (Some r) = omega arith
 both_weight x y (Some l) (Some r) = omega arith
 
-both_places : {A : Type 0} (m : ℕ) (x y : List A) (a b : Option (Grown A ℕ)) → EachPlaceIf m a → EachPlaceIf m b → EachPlaceIf m (joined (behind x a) (behind y b))
+both_places : {A : Type 0} (m : ℕ) (x y : List A) (a b : Option (Grown A ℕ)) → EachPlaceIf m a → EachPlaceIf m b → EachPlaceIf m (fork_of (with_prefix x a) (with_prefix y b))
 both_places m x y None None h k = tt
 both_places m x y (Some l) None h k = h
 both_places m x y None (Some r) h k = k

@@ -11,19 +11,19 @@ use Rattle.kex_model.proofs.Agreeing.{viable_front, agreed_grows, agreed_greedy}
 use Rattle.kex_model.proofs.Effects.{same_acted}
 use Rattle.kex_model.proofs.Standing as model
 use Rattle.kex_machine.specs.Nodes.{Graph, node_moves}
-use Rattle.kex_machine.specs.Answers.{begun, Viable, IsRun, HasParse, left_by, Says, Means, StageAnswers}
+use Rattle.kex_machine.specs.Answers.{start_state, Viable, IsRun, HasParse, left_by, Says, Means, StageAnswers}
 use Rattle.kex_machine.proofs.Writing.{further_front, acted_grows}
 
 module _ (g : Graph) where
   -- two runs are followed alike, as far as both codes go
   pub same_left : (js ks : List (Step ℕ)) (c : List Symbol) → IsRun g js → IsRun g ks → Begins (code_of js) c → Begins (code_of ks) c → left_by g js c ≡ left_by g ks c
-  same_left js ks c (d, w, a) (e, v, b) p q = same_acted (node_moves g.nodes) js ks g.start d e c p.0 q.0 (begun g.registers) w v a b p.1 q.1
+  same_left js ks c (d, w, a) (e, v, b) p q = same_acted (node_moves g.nodes) js ks g.start d e c p.0 q.0 (start_state g.registers) w v a b p.1 q.1
 
   -- and with more of a code more is written
   pub more_left : (js ks : List (Step ℕ)) (c d : List Symbol) → IsRun g js → IsRun g ks → Begins (code_of js) c → Begins (code_of ks) d → Begins d c → Begins (left_by g ks d).out (left_by g js c).out
   more_left js ks c d r s p q (m, e) =
       let front : Begins (code_of ks) c = (m ++ q.0, q.1 ∙ ap (λ z. z ++ q.0) e ∙ append_assoc c m q.0) in
-      let more : Begins (left_by g ks (c ++ m)).out (left_by g ks c).out = acted_grows ks c m (begun g.registers) in
+      let more : Begins (left_by g ks (c ++ m)).out (left_by g ks c).out = acted_grows ks c m (start_state g.registers) in
       subst (λ z. Begins z.out (left_by g js c).out) (ap (λ z. left_by g ks z) (sym e)) (subst (λ z. Begins (left_by g ks (c ++ m)).out z.out) (sym (same_left js ks c r s p front)) more)
 
   said_grows : (w x s t : List ℕ) → Begins x w → Says g w s → Says g x t → Begins t s

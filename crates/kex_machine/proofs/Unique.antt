@@ -5,7 +5,7 @@ use Rattle.kex_code.specs.declared.symbol.Symbol.{Symbol}
 use Rattle.kex_code.specs.declared.symbol.Symbol.TheVariants.{L, R}
 use Rattle.kex_code.specs.Codes.{Begins, Before, IsAmong}
 use Rattle.kex_model.specs.Moves.{Move, Side, read, choose, forced, go, symbol_of, took, Allows, reads, IsWaiting}
-use Rattle.kex_model.specs.Labelled.{Labelled, tip, fork, leaves_of, Grown, behind, joined}
+use Rattle.kex_model.specs.Labelled.{Labelled, tip, fork, leaves_of, Grown, with_prefix, fork_of}
 use Rattle.kex_model.specs.Survivors.{Item, Rising, IsParted, Lists, HasTree}
 use Rattle.kex_model.proofs.Orders.{not_both, at_most_both}
 use Rattle.kex_model.proofs.Shapes.{a_leaf, leaf_front, longest_front, parted_rises, behind_start}
@@ -142,7 +142,7 @@ one_visit {put = put} {moves = moves} {f = f} {n = n} (parts_off {l = l} {r = r}
     let same : choose l r ≡ choose l' r' = sym m ∙ m' in
     let p = one_visit v (elsewhere v' refl (let q : l' ≡ l = cc in q)) in
     let q = one_visit u (elsewhere u' (sym p.1) (other_right same)) in
-    (ap₂ (λ x y. joined (behind (put L ∷ []) x) (behind (put R ∷ []) y)) p.0 q.0, q.1)
+    (ap₂ (λ x y. fork_of (with_prefix (put L ∷ []) x) (with_prefix (put R ∷ []) y)) p.0 q.0, q.1)
 one_visit (parts_off lt e m v u) (is_forced lt' e' m' v') = absurd (let bad = sym m ∙ m' in cc)
 one_visit (parts_off lt e m v u) (passes_on lt' e' m' v') = absurd (let bad = sym m ∙ m' in cc)
 one_visit (is_forced lt e m v) (known e') = clash e' e
@@ -151,7 +151,7 @@ one_visit (is_forced lt e m v) (parts_off lt' e' m' v' u') = absurd (let bad = s
 one_visit {put = put} {moves = moves} {f = f} {n = n} (is_forced {t = t} {x = x} lt e m v) (is_forced {t = t'} {x = x'} {a = a'} lt' e' m' v') =
     let same : forced x t ≡ forced x' t' = sym m ∙ m' in
     let p = one_visit v (elsewhere v' refl (let q : t' ≡ t = cc in q)) in
-    (ap₂ (λ x y. behind (put (symbol_of x) ∷ []) y) (other_side same) p.0, p.1)
+    (ap₂ (λ x y. with_prefix (put (symbol_of x) ∷ []) y) (other_side same) p.0, p.1)
 one_visit (is_forced lt e m v) (passes_on lt' e' m' v') = absurd (let bad = sym m ∙ m' in cc)
 one_visit (passes_on lt e m v) (known e') = clash e' e
 one_visit (passes_on lt e m v) (stops lt' e' w') = busy_or w' m (λ z. z)
@@ -177,8 +177,8 @@ one_advance (dies h) (reads_on {t = t} i v) = absurd (h t i)
 one_advance (reads_on {t = t} i v) (dies h) = absurd (h t i)
 one_advance {input = input} {moves = moves} {f = f} (reads_on {t = t} i v) (reads_on {t = t'} {a = a'} i' v') =
     let p = one_visit v (elsewhere v' refl (one_byte i' i)) in
-    (ap (λ z. behind (input ∷ []) z) p.0, p.1)
+    (ap (λ z. with_prefix (input ∷ []) z) p.0, p.1)
 one_advance {moves = moves} {b = b} (both {u = x} {v = z} v u) (both {y = y'} v' u') =
     let p = one_advance v v' in
     let q = one_advance u (onward_from u' (sym p.1)) in
-    (ap₂ (λ a c. joined (behind x a) (behind z c)) p.0 q.0, q.1)
+    (ap₂ (λ a c. fork_of (with_prefix x a) (with_prefix z c)) p.0 q.0, q.1)

@@ -3,22 +3,22 @@ use Rattle.std.proofs.Common.{◌≡◌, ◌≢◌, ℕ, ◌<◌, Bool, true, fa
 use Rattle.kex_code.specs.declared.symbol.Symbol.{Symbol}
 use Rattle.kex_code.specs.declared.symbol.Symbol.TheVariants.{L, R}
 use Rattle.kex_code.specs.Codes.{AtMost, bytes_of, IsAmong}
-use Rattle.kex_model.specs.Moves.{Move, choose, forced, go, Step, Side, to_left, to_right, symbol_of, chose, went, Allows, goes_left, goes_right, goes_forced, goes, entered, symbols_of, code_of, Walk, Waits, IsWaiting}
-use Rattle.kex_model.specs.Labelled.{Leaf, Grown, leaves_if, joined, behind}
+use Rattle.kex_model.specs.Moves.{Move, choose, forced, go, Step, Side, to_left, to_right, symbol_of, chose, went, Allows, goes_left, goes_right, goes_forced, goes, target_of, symbols_of, code_of, Walk, Waits, IsWaiting}
+use Rattle.kex_model.specs.Labelled.{Leaf, Grown, leaves_if, fork_of, with_prefix}
 use Rattle.kex_model.proofs.Shapes.{among-append, among_left, among_right, joined_leaves, behind_leaves}
 use Rattle.kex_model.proofs.Walks.{waits_for_byte, bytes_of-append}
 use Rattle.kex_machine.specs.Advancing.{itself, Visits, known, stops, parts_off, is_forced, passes_on}
 
-pub sides : {A S : Type 0} (x y : List A) (a b : Option (Grown A S)) (c : List A) → leaves_if (joined (behind x a) (behind y b)) c ≡ leaves_if a (c ++ x) ++ leaves_if b (c ++ y)
-sides x y a b c = joined_leaves (behind x a) (behind y b) c ∙ ap₂ (λ p q. p ++ q) (behind_leaves x a c) (behind_leaves y b c)
+pub sides : {A S : Type 0} (x y : List A) (a b : Option (Grown A S)) (c : List A) → leaves_if (fork_of (with_prefix x a) (with_prefix y b)) c ≡ leaves_if a (c ++ x) ++ leaves_if b (c ++ y)
+sides x y a b c = joined_leaves (with_prefix x a) (with_prefix y b) c ∙ ap₂ (λ p q. p ++ q) (behind_leaves x a c) (behind_leaves y b c)
 
-pub in_sides : {A S : Type 0} (x y : List A) (a b : Option (Grown A S)) (c : List A) (z : Leaf A S) → IsAmong (leaves_if (joined (behind x a) (behind y b)) c) z → IsAmong (leaves_if a (c ++ x)) z ⊎ IsAmong (leaves_if b (c ++ y)) z
+pub in_sides : {A S : Type 0} (x y : List A) (a b : Option (Grown A S)) (c : List A) (z : Leaf A S) → IsAmong (leaves_if (fork_of (with_prefix x a) (with_prefix y b)) c) z → IsAmong (leaves_if a (c ++ x)) z ⊎ IsAmong (leaves_if b (c ++ y)) z
 in_sides x y a b c z i = among-append (leaves_if a (c ++ x)) (leaves_if b (c ++ y)) z (subst (λ u. IsAmong u z) (sides x y a b c) i)
 
-pub from_left : {A S : Type 0} (x y : List A) (a b : Option (Grown A S)) (c : List A) (z : Leaf A S) → IsAmong (leaves_if a (c ++ x)) z → IsAmong (leaves_if (joined (behind x a) (behind y b)) c) z
+pub from_left : {A S : Type 0} (x y : List A) (a b : Option (Grown A S)) (c : List A) (z : Leaf A S) → IsAmong (leaves_if a (c ++ x)) z → IsAmong (leaves_if (fork_of (with_prefix x a) (with_prefix y b)) c) z
 from_left x y a b c z i = subst (λ u. IsAmong u z) (sym (sides x y a b c)) (among_left (leaves_if a (c ++ x)) (leaves_if b (c ++ y)) z i)
 
-pub from_right : {A S : Type 0} (x y : List A) (a b : Option (Grown A S)) (c : List A) (z : Leaf A S) → IsAmong (leaves_if b (c ++ y)) z → IsAmong (leaves_if (joined (behind x a) (behind y b)) c) z
+pub from_right : {A S : Type 0} (x y : List A) (a b : Option (Grown A S)) (c : List A) (z : Leaf A S) → IsAmong (leaves_if b (c ++ y)) z → IsAmong (leaves_if (fork_of (with_prefix x a) (with_prefix y b)) c) z
 from_right x y a b c z i = subst (λ u. IsAmong u z) (sym (sides x y a b c)) (among_right (leaves_if a (c ++ x)) (leaves_if b (c ++ y)) z i)
 
 abbrev pub Marked : List Bool → ℕ → Type 0
@@ -69,8 +69,8 @@ module _ (moves : ℕ → Move ℕ) where
     pub single : (c : List Symbol) (x y : Leaf Symbol ℕ) → IsAmong (leaves_if a c) x → IsAmong (leaves_if a c) y → x.at ≡ y.at → x ≡ y
 
   -- no step without a byte leads to where it is made again; all that is used of the machine's having no loop without one
-  not_back : NoCycle → (n m : ℕ) (k : Step ℕ) (ks : List (Step ℕ)) → Allows (moves n) k → bytes_of (symbols_of k) ≡ [] → Quiet (entered k) ks m → n ≡ m → ⊥
-  not_back none n m k ks here quiet q e = none n k ks (here, subst (λ z. Walk moves (entered k) ks z) (sym e) q.0) (bytes_of-append (symbols_of k) (code_of ks) ∙ ap₂ (λ u v. u ++ v) quiet q.1)
+  not_back : NoCycle → (n m : ℕ) (k : Step ℕ) (ks : List (Step ℕ)) → Allows (moves n) k → bytes_of (symbols_of k) ≡ [] → Quiet (target_of k) ks m → n ≡ m → ⊥
+  not_back none n m k ks here quiet q e = none n k ks (here, subst (λ z. Walk moves (target_of k) ks z) (sym e) q.0) (bytes_of-append (symbols_of k) (code_of ks) ∙ ap₂ (λ u v. u ++ v) quiet q.1)
 
   -- from a waiting place no step leads without a byte
   stays : (n : ℕ) (ks : List (Step ℕ)) (p : ℕ) → Waits moves n → Quiet n ks p → ks ≡ []
@@ -81,11 +81,11 @@ module _ (moves : ℕ → Move ℕ) where
   finished f n a g v ks p q w = ⊎_elim (λ h. v.grows p h) (λ r. subst (λ z. Marked g z) r.2 (v.leaf [] r.0 r.1).4) (v.all [] ks p q w)
 
   -- a step to the side, and then more
-  one_more : (n : ℕ) (k : Step ℕ) (c : List Symbol) (x : Leaf Symbol ℕ) (js : List (Step ℕ)) → Allows (moves n) k → bytes_of (symbols_of k) ≡ [] → IsLeafBy (entered k) (c ++ symbols_of k) x js → IsLeafBy n c x (k ∷ js)
+  one_more : (n : ℕ) (k : Step ℕ) (c : List Symbol) (x : Leaf Symbol ℕ) (js : List (Step ℕ)) → Allows (moves n) k → bytes_of (symbols_of k) ≡ [] → IsLeafBy (target_of k) (c ++ symbols_of k) x js → IsLeafBy n c x (k ∷ js)
   one_more n k c x js a q h = (((a, h.0.0), bytes_of-append (symbols_of k) (code_of js) ∙ ap₂ (λ u v. u ++ v) q h.0.1), h.1 ∙ append_assoc c (symbols_of k) (code_of js))
 
   -- a place from which just one step leads on, without a byte
-  one_way : NoCycle → (f g : List Bool) (n : ℕ) (k : Step ℕ) (a b : Option (Grown Symbol ℕ)) → n < length f → (Waits moves n → ⊥) → Allows (moves n) k → ((j : Step ℕ) → Allows (moves n) j → j ≡ k) → bytes_of (symbols_of k) ≡ [] → ((c : List Symbol) → leaves_if b c ≡ leaves_if a (c ++ symbols_of k)) → Ready f n → (Ready (set f n true) (entered k) → Visited (set f n true) (entered k) a g) → Visited f n b g
+  one_way : NoCycle → (f g : List Bool) (n : ℕ) (k : Step ℕ) (a b : Option (Grown Symbol ℕ)) → n < length f → (Waits moves n → ⊥) → Allows (moves n) k → ((j : Step ℕ) → Allows (moves n) j → j ≡ k) → bytes_of (symbols_of k) ≡ [] → ((c : List Symbol) → leaves_if b c ≡ leaves_if a (c ++ symbols_of k)) → Ready f n → (Ready (set f n true) (target_of k) → Visited (set f n true) (target_of k) a g) → Visited f n b g
   one_way none f g n k a b lt busy here only quiet same ready rec = record {
     grows = λ m h. v.grows m (set_marked f n m lt h);
     done = λ m h. ⊎_elim (λ i. ⊎_elim (λ e. inr (subst (λ z. Finished g z) e fin)) (λ j. inl j) (marked_set f n m i)) (λ i. inr i) (v.done m h);
@@ -98,14 +98,14 @@ module _ (moves : ℕ → Move ℕ) where
     single = λ c x y i j e. v.single (c ++ symbols_of k) x y (subst (λ u. IsAmong u x) (same c) i) (subst (λ u. IsAmong u y) (same c) j) e;
   }
     where
-      ready_next : Ready (set f n true) (entered k)
+      ready_next : Ready (set f n true) (target_of k)
       ready_next m ks h q =
           ⊎_elim
           (λ e. absurd (not_back none n m k ks here quiet q e))
           (λ i. λ js p r w. set_marked f n p lt (ready m (k ∷ ks) i ((here, q.0), bytes_of-append (symbols_of k) (code_of ks) ∙ ap₂ (λ u v. u ++ v) quiet q.1) js p r w))
           (marked_set f n m h)
 
-      v : Visited (set f n true) (entered k) a g
+      v : Visited (set f n true) (target_of k) a g
       v = rec ready_next
 
       before : {X : Type 0} (p : ℕ) → Waits moves p → Marked (set f n true) p → Marked f p ⊎ X
@@ -116,7 +116,7 @@ module _ (moves : ℕ → Move ℕ) where
       reach c (j ∷ ks) p q w =
           let e : j ≡ k = only j q.0.0 in
           ⊎_elim (λ i. before p w i) (λ r. inr (r.0, subst (λ u. IsAmong u r.0) (sym (same c)) r.1, r.2, (k ∷ r.3.0, one_more n k c r.0 r.3.0 here quiet r.3.1, subst (λ z. AtMost (code_of (k ∷ r.3.0)) (code_of (z ∷ ks))) (sym e) (at_most_behind (symbols_of k) (code_of r.3.0) (code_of ks) r.3.2))))
-          (v.all (c ++ symbols_of k) ks p (subst (λ z. Walk moves (entered z) ks p) e q.0.1, silent_end (symbols_of j) (code_of ks) q.1) w)
+          (v.all (c ++ symbols_of k) ks p (subst (λ z. Walk moves (target_of z) ks p) e q.0.1, silent_end (symbols_of j) (code_of ks) q.1) w)
         where
           silent_end : (x y : List Symbol) → bytes_of (x ++ y) ≡ [] → bytes_of y ≡ []
           silent_end x y e = back (bytes_of x) (sym (bytes_of-append x y) ∙ e)
@@ -133,7 +133,7 @@ module _ (moves : ℕ → Move ℕ) where
   Reached f n a c ks p = Marked f p ⊎ ((x : Leaf Symbol ℕ) × IsAmong (leaves_if a c) x × (x.at ≡ p) × ((js : List (Step ℕ)) × IsLeafBy n c x js × AtMost (code_of js) (code_of ks)))
 
   -- where a choice leads
-  two_ways : NoCycle → (f g h : List Bool) (n l r : ℕ) (a b : Option (Grown Symbol ℕ)) → n < length f → moves n ≡ choose l r → Ready f n → (Ready (set f n true) l → Visited (set f n true) l a g) → (Ready g r → Visited g r b h) → Visited f n (joined (behind (L ∷ []) a) (behind (R ∷ []) b)) h
+  two_ways : NoCycle → (f g h : List Bool) (n l r : ℕ) (a b : Option (Grown Symbol ℕ)) → n < length f → moves n ≡ choose l r → Ready f n → (Ready (set f n true) l → Visited (set f n true) l a g) → (Ready g r → Visited g r b h) → Visited f n (fork_of (with_prefix (L ∷ []) a) (with_prefix (R ∷ []) b)) h
   two_ways none f g h n l r a b lt mv ready left right = record {
     grows = λ m i. vr.grows m (vl.grows m (set_marked f n m lt i));
     done = λ m i. ⊎_elim (λ j. ⊎_elim (λ j. ⊎_elim (λ e. inr (subst (λ z. Finished h z) e fin)) (λ j. inl j) (marked_set f n m j)) (λ j. inr (λ ks p q w. vr.grows p (j ks p q w))) (vl.done m j)) (λ j. inr j) (vr.done m i);
@@ -196,13 +196,13 @@ module _ (moves : ℕ → Move ℕ) where
       before : {X : Type 0} (p : ℕ) → Waits moves p → Marked (set f n true) p → Marked f p ⊎ X
       before p w i = ⊎_elim (λ e. absurd (busy (subst (λ z. Waits moves z) (sym e) w))) (λ i. inl i) (marked_set f n p i)
 
-      by_left : (c : List Symbol) (ks : List (Step ℕ)) (p : ℕ) → Quiet l ks p → Waits moves p → Reached f n (joined (behind (L ∷ []) a) (behind (R ∷ []) b)) c (chose to_left l ∷ ks) p
+      by_left : (c : List Symbol) (ks : List (Step ℕ)) (p : ℕ) → Quiet l ks p → Waits moves p → Reached f n (fork_of (with_prefix (L ∷ []) a) (with_prefix (R ∷ []) b)) c (chose to_left l ∷ ks) p
       by_left c ks p q w =
           ⊎_elim (λ i. before p w i)
           (λ s. inr (s.0, from_left (L ∷ []) (R ∷ []) a b c s.0 s.1, s.2, (chose to_left l ∷ s.3.0, one_more n (chose to_left l) c s.0 s.3.0 go_left refl s.3.1, at_most_cons L (code_of s.3.0) (code_of ks) s.3.2)))
           (vl.all (c ++ L ∷ []) ks p q w)
 
-      by_right : (c : List Symbol) (ks : List (Step ℕ)) (p : ℕ) → Quiet r ks p → Waits moves p → Reached f n (joined (behind (L ∷ []) a) (behind (R ∷ []) b)) c (chose to_right r ∷ ks) p
+      by_right : (c : List Symbol) (ks : List (Step ℕ)) (p : ℕ) → Quiet r ks p → Waits moves p → Reached f n (fork_of (with_prefix (L ∷ []) a) (with_prefix (R ∷ []) b)) c (chose to_right r ∷ ks) p
       by_right c ks p q w =
           ⊎_elim
           (λ i. ⊎_elim (λ i. before p w i)
@@ -220,12 +220,12 @@ module _ (moves : ℕ → Move ℕ) where
           side k goes_left = inl refl
           side k goes_right = inr refl
 
-      reach : (c : List Symbol) (ks : List (Step ℕ)) (p : ℕ) → Quiet n ks p → Waits moves p → Reached f n (joined (behind (L ∷ []) a) (behind (R ∷ []) b)) c ks p
+      reach : (c : List Symbol) (ks : List (Step ℕ)) (p : ℕ) → Quiet n ks p → Waits moves p → Reached f n (fork_of (with_prefix (L ∷ []) a) (with_prefix (R ∷ []) b)) c ks p
       reach c [] p q w = absurd (busy (subst (λ z. Waits moves z) (sym q.0) w))
       reach c (k ∷ ks) p q w =
           ⊎_elim
-          (λ e. subst (λ z. Reached f n (joined (behind (L ∷ []) a) (behind (R ∷ []) b)) c (z ∷ ks) p) (sym e) (let t : Quiet n (chose to_left l ∷ ks) p = subst (λ z. Quiet n (z ∷ ks) p) e q in by_left c ks p (t.0.1, t.1) w))
-          (λ e. subst (λ z. Reached f n (joined (behind (L ∷ []) a) (behind (R ∷ []) b)) c (z ∷ ks) p) (sym e) (let t : Quiet n (chose to_right r ∷ ks) p = subst (λ z. Quiet n (z ∷ ks) p) e q in by_right c ks p (t.0.1, t.1) w))
+          (λ e. subst (λ z. Reached f n (fork_of (with_prefix (L ∷ []) a) (with_prefix (R ∷ []) b)) c (z ∷ ks) p) (sym e) (let t : Quiet n (chose to_left l ∷ ks) p = subst (λ z. Quiet n (z ∷ ks) p) e q in by_left c ks p (t.0.1, t.1) w))
+          (λ e. subst (λ z. Reached f n (fork_of (with_prefix (L ∷ []) a) (with_prefix (R ∷ []) b)) c (z ∷ ks) p) (sym e) (let t : Quiet n (chose to_right r ∷ ks) p = subst (λ z. Quiet n (z ∷ ks) p) e q in by_right c ks p (t.0.1, t.1) w))
           (by_step k mv q.0.0)
 
       fin : Finished h n

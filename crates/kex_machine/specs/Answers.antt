@@ -3,14 +3,14 @@ use Rattle.std.specs.Prelude.{◌≡◌, ℕ, Bool, List, [], replicate}
 use Rattle.kex_code.specs.declared.symbol.Symbol.{Symbol}
 use Rattle.kex_code.specs.Codes.{bytes_of, Begins, AtMost}
 use Rattle.kex_model.specs.Moves.{accept, Step, code_of, Walk}
-use Rattle.kex_model.specs.Acting.{State, acted}
+use Rattle.kex_model.specs.Acting.{State, after_steps}
 use Rattle.kex_model.specs.Survivors.{Agreed, Greedy, IsViable, LongestViable}
 use Rattle.kex_model.specs.Answers.{Answer, Answers}
 use Rattle.kex_machine.specs.Nodes.{Graph, node_moves}
 
 -- nothing is written, no buffer is open, and all registers are empty
-abbrev pub begun : ℕ → State
-begun registers = record { out = []; buffers = []; registers = replicate registers [] }
+abbrev pub start_state : ℕ → State
+start_state registers = record { out = []; buffers = []; registers = replicate registers [] }
 
 module _ (g : Graph) where
   abbrev pub Viable : List ℕ → Type 0
@@ -25,7 +25,7 @@ module _ (g : Graph) where
 
   -- what is left when a run was followed as far as the code goes
   abbrev pub left_by : List (Step ℕ) → List Symbol → State
-  left_by ks c = acted ks c (begun g.registers)
+  left_by ks c = after_steps ks c (start_state g.registers)
 
   -- the text that is said on w: what a run on a text that begins with w does with the symbols that are agreed
   pub record Says (w text : List ℕ) : Type 0 where

@@ -7,7 +7,7 @@ use Rattle.kex_model.specs.declared.program.Kind.TheVariants.{One, Lit, Class, C
 use Rattle.kex_code.specs.declared.symbol.Symbol.{Symbol}
 use Rattle.kex_code.specs.declared.symbol.Symbol.TheVariants.{L, R}
 use Rattle.kex_code.specs.Codes.{bytes_of}
-use Rattle.kex_model.specs.Moves.{Move, accept, read, choose, go, Effect, drop_buffer, into, Step, to_left, to_right, took, chose, went, Allows, reads, goes_left, goes_right, goes, entered, symbols_of, code_of, Walk}
+use Rattle.kex_model.specs.Moves.{Move, accept, read, choose, go, Effect, drop_buffer, into, Step, to_left, to_right, took, chose, went, Allows, reads, goes_left, goes_right, goes, target_of, symbols_of, code_of, Walk}
 use Rattle.kex_model.specs.declared.frame.Frame.TheVariants.{Pending, EndOf}
 use Rattle.kex_model.specs.declared.frame.Frame.{Frame}
 use Rattle.kex_model.specs.Places.{Place, fresh, enter, with_counts, moves_of, end_effect, moves, steps_of}
@@ -24,7 +24,7 @@ code_of-append (j ∷ js) ks = ap (λ c. symbols_of j ++ c) (code_of-append js k
 
 pub walk-append : {S : Type 0} (f : S → Move S) (js ks : List (Step S)) (s m t : S) → Walk f s js m → Walk f m ks t → Walk f s (js ++ ks) t
 walk-append f [] ks s m t wj wk = rw (wj) wk
-walk-append f (j ∷ js) ks s m t wj wk = (wj.0, walk-append f js ks (entered j) m t wj.1 wk)
+walk-append f (j ∷ js) ks s m t wj wk = (wj.0, walk-append f js ks (target_of j) m t wj.1 wk)
 
 module _ (P : Grammar) where
   -- the kind is that of node n, but for the counts of a repetition
@@ -196,7 +196,7 @@ module _ (P : Grammar) where
     pub goes_on : Walk (moves P) rest tail []
 
   -- one step, and what it leaves
-  one_step : (n : ℕ) (k : Kind) (rest : Place) (t : Tree) (j j' : Step Place) (ks : List (Step Place)) → IsTree P k t → j ≡ j' → steps_of P n k t rest ≡ j' ∷ [] → entered j' ≡ rest → Walk (moves P) (entered j) ks [] → Splits n k rest (j ∷ ks)
+  one_step : (n : ℕ) (k : Kind) (rest : Place) (t : Tree) (j j' : Step Place) (ks : List (Step Place)) → IsTree P k t → j ≡ j' → steps_of P n k t rest ≡ j' ∷ [] → target_of j' ≡ rest → Walk (moves P) (target_of j) ks [] → Splits n k rest (j ∷ ks)
   one_step n k rest t j j' ks it e steps to w = record { tree = t; tail = ks; is_tree = it; same = rw (steps, e); goes_on = rw (← to, ← e) w }
 
   -- a step into a body of the same kind of tree
@@ -234,7 +234,7 @@ module _ (P : Grammar) where
   abbrev pub Known : ℕ → Type 0
   Known f = (n : ℕ) (k : Kind) (rest : Place) (ks : List (Step Place)) → length ks ≤ f → IsVersion P n k → Walk (moves P) (fresh n k ∷ rest) ks [] → Splits n k rest ks
 
-  by_kind : (f : ℕ) → Known f → (n : ℕ) (k : Kind) (rest : Place) (j : Step Place) (ks : List (Step Place)) → length ks ≤ f → IsVersion P n k → Allows (moves_of P n k rest) j → Walk (moves P) (entered j) ks [] → Splits n k rest (j ∷ ks)
+  by_kind : (f : ℕ) → Known f → (n : ℕ) (k : Kind) (rest : Place) (j : Step Place) (ks : List (Step Place)) → length ks ≤ f → IsVersion P n k → Allows (moves_of P n k rest) j → Walk (moves P) (target_of j) ks [] → Splits n k rest (j ∷ ks)
   by_kind f known n One rest j ks le v a w = one_step n One rest leaf j _ ks one (from_go a) refl refl w
   by_kind f known n (Lit s) rest j ks le v a w = one_step n (Lit s) rest leaf j _ ks lit (from_go a) refl refl w
   by_kind f known n (Class s) rest j ks le v a w = let r = from_read a in one_step n (Class s) rest (byte r.0) j _ ks (one_byte r.1) r.2 refl refl w

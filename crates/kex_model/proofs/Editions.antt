@@ -3,7 +3,7 @@ use Rattle.std.proofs.Common.{◌≡◌, ℕ, List, [], ◌∷◌, ◌++◌, ◌
 use Rattle.kex_model.specs.Programs.{Grammar}
 use Rattle.kex_code.specs.declared.symbol.Symbol.{Symbol}
 use Rattle.kex_code.specs.Codes.{bytes_of}
-use Rattle.kex_model.specs.Moves.{Move, Step, Allows, entered, symbols_of, code_of, Walk}
+use Rattle.kex_model.specs.Moves.{Move, Step, Allows, target_of, symbols_of, code_of, Walk}
 use Rattle.kex_model.specs.Places.{Place, moves, start_of, steps_of}
 use Rattle.kex_model.specs.Trees.{Tree, Parses, IsTree, kind_at, code}
 use Rattle.kex_model.specs.Survivors.{NoReturn, IsPath}
@@ -13,7 +13,7 @@ use Rattle.kex_model.proofs.Derivations.{tree_walk, steps-code, code-bytes, walk
 -- the steps enter no place of V
 abbrev pub EntersNone : {S : Type 0} → (S → Type 0) → List (Step S) → Type 0
 EntersNone V [] = Unit {0}
-EntersNone V (k ∷ ks) = (V (entered k) → ⊥) × EntersNone V ks
+EntersNone V (k ∷ ks) = (V (target_of k) → ⊥) × EntersNone V ks
 
 silent_front : (a b : List Symbol) → bytes_of (a ++ b) ≡ [] → (bytes_of a ≡ []) × (bytes_of b ≡ [])
 silent_front a b e = go (bytes_of a) refl
@@ -25,18 +25,18 @@ silent_front a b e = go (bytes_of a) refl
         cc
 
 -- where every step without a byte from V leads into V or O, a walk without a byte that enters no place of O and ends outside V enters no place of V
-module _ {S : Type 0} (f : S → Move S) (V O : S → Type 0) (closed : (s : S) (k : Step S) → V s → Allows (f s) k → bytes_of (symbols_of k) ≡ [] → V (entered k) ⊎ O (entered k)) where
+module _ {S : Type 0} (f : S → Move S) (V O : S → Type 0) (closed : (s : S) (k : Step S) → V s → Allows (f s) k → bytes_of (symbols_of k) ≡ [] → V (target_of k) ⊎ O (target_of k)) where
   stays_in : (ks : List (Step S)) (s t : S) → V s → Walk f s ks t → bytes_of (code_of ks) ≡ [] → EntersNone O ks → V t
   stays_in [] s t v w q n = subst V w v
   stays_in (k ∷ ks) s t v w q n =
       let quiet = silent_front (symbols_of k) (code_of ks) q in
-      ⊎_elim (λ v'. stays_in ks (entered k) t v' w.1 quiet.1 n.1) (λ o. absurd (n.0 o)) (closed s k v w.0 quiet.0)
+      ⊎_elim (λ v'. stays_in ks (target_of k) t v' w.1 quiet.1 n.1) (λ o. absurd (n.0 o)) (closed s k v w.0 quiet.0)
 
   pub left_behind : (ks : List (Step S)) (s t : S) → Walk f s ks t → bytes_of (code_of ks) ≡ [] → EntersNone O ks → (V t → ⊥) → EntersNone V ks
   left_behind [] s t w q n out = tt
   left_behind (k ∷ ks) s t w q n out =
       let quiet = silent_front (symbols_of k) (code_of ks) q in
-      ((λ v. out (stays_in ks (entered k) t v w.1 quiet.1 n.1)), left_behind ks (entered k) t w.1 quiet.1 n.1 out)
+      ((λ v. out (stays_in ks (target_of k) t v w.1 quiet.1 n.1)), left_behind ks (target_of k) t w.1 quiet.1 n.1 out)
 
 -- a tree whose steps come back nowhere without a byte
 pub record IsParse (P : Grammar) (root : ℕ) (t : Tree) (w : List ℕ) : Type 0 where

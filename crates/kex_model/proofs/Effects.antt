@@ -8,18 +8,18 @@ use Rattle.kex_code.specs.declared.symbol.Symbol.TheVariants.{L, R, Byte}
 use Rattle.kex_model.proofs.Walks.{step_from_code}
 use Rattle.kex_model.proofs.Derivations.{from_accept}
 use Rattle.kex_model.specs.Moves.{Move, accept, Allows, reads, goes_left, goes_right, goes_forced, goes, code_of, Walk, symbol_of, Effect, nothing, open_buffer, drop_buffer, into, Step, to_left, to_right, took, chose, went}
-use Rattle.kex_code.specs.Registers.{Registers, put}
-use Rattle.kex_model.specs.Trees.{kind_at, root_of, less, Tree, IsTree, one, lit, one_byte, call, seq, alt_left, alt_right, needed, again, end, mute, at_register, write_register, set_register, add_register, Part, behind, go_on, then_part, muted_part, put_whole, kept_part, part}
+use Rattle.kex_code.specs.Registers.{Registers, with_content}
+use Rattle.kex_model.specs.Trees.{kind_at, root_of, less, Tree, IsTree, one, lit, one_byte, call, seq, alt_left, alt_right, needed, again, end, mute, at_register, write_register, set_register, add_register, Part, part_behind, go_on, then_part, muted_part, put_whole, kept_part, part}
 use Rattle.kex_model.specs.declared.frame.Frame.TheVariants.{Pending, EndOf}
 use Rattle.kex_model.specs.Places.{Place, enter, steps_of}
 use Rattle.kex_model.specs.Laws.{DoneBySteps}
-use Rattle.kex_model.specs.Acting.{State, appended, done_by, acted}
+use Rattle.kex_model.specs.Acting.{State, after_append, after_effect, after_steps}
 
-appended_twice : (x y out : List ℕ) (bs : List (List ℕ)) (regs regs' : Registers) → appended y (appended x out bs regs).out (appended x out bs regs).buffers regs' ≡ appended (x ++ y) out bs regs'
+appended_twice : (x y out : List ℕ) (bs : List (List ℕ)) (regs regs' : Registers) → after_append y (after_append x out bs regs).out (after_append x out bs regs).buffers regs' ≡ after_append (x ++ y) out bs regs'
 appended_twice x y out [] regs regs' = ap (λ z. record { out = z; buffers = []; registers = regs' }) (append_assoc out x y)
 appended_twice x y out (b ∷ bs) regs regs' = ap (λ z. record { out = out; buffers = z ∷ bs; registers = regs' }) (append_assoc b x y)
 
-appended_none : (out : List ℕ) (bs : List (List ℕ)) (regs : Registers) → appended [] out bs regs ≡ record { out = out; buffers = bs; registers = regs }
+appended_none : (out : List ℕ) (bs : List (List ℕ)) (regs : Registers) → after_append [] out bs regs ≡ record { out = out; buffers = bs; registers = regs }
 appended_none out [] regs = ap (λ z. record { out = z; buffers = []; registers = regs }) (append-nil out)
 appended_none out (b ∷ bs) regs = ap (λ z. record { out = out; buffers = z ∷ bs; registers = regs }) (append-nil b)
 
@@ -29,23 +29,23 @@ with_more more s = record { out = s.out; buffers = more ++ s.buffers; registers 
 
 -- the steps, and ks behind them, do what the part says: where it stopped, up to buffers that are open
 abbrev pub DoneBy : Option (List Symbol) → Part → List (Step Place) → List (Step Place) → List Symbol → List ℕ → List (List ℕ) → Registers → Type 0
-DoneBy None p js ks c out bs regs = (more : List (List ℕ)) × (acted (js ++ ks) c (record { out = out; buffers = bs; registers = regs }) ≡ with_more more (appended p.bytes out bs p.registers))
-DoneBy (Some d) p js ks c out bs regs = acted (js ++ ks) c (record { out = out; buffers = bs; registers = regs }) ≡ acted ks d (appended p.bytes out bs p.registers)
+DoneBy None p js ks c out bs regs = (more : List (List ℕ)) × (after_steps (js ++ ks) c (record { out = out; buffers = bs; registers = regs }) ≡ with_more more (after_append p.bytes out bs p.registers))
+DoneBy (Some d) p js ks c out bs regs = after_steps (js ++ ks) c (record { out = out; buffers = bs; registers = regs }) ≡ after_steps ks d (after_append p.bytes out bs p.registers)
 
 abbrev pub Does : Part → List (Step Place) → List Symbol → Registers → Type 0
 Does p js c regs = (ks : List (Step Place)) (out : List ℕ) (bs : List (List ℕ)) → DoneBy p.rest p js ks c out bs regs
 
 -- one step without a symbol
-silent : (e : Effect) (rest : Place) (p : Part) (d c : List Symbol) (regs : Registers) → p.rest ≡ Some d → d ≡ c → ((out : List ℕ) (bs : List (List ℕ)) → done_by e (record { out = out; buffers = bs; registers = regs }) ≡ appended p.bytes out bs p.registers) → Does p (went e rest ∷ []) c regs
-silent e rest p d c regs r same does ks out bs = rw (r, same) (ap (λ s. acted ks c s) (does out bs))
+silent : (e : Effect) (rest : Place) (p : Part) (d c : List Symbol) (regs : Registers) → p.rest ≡ Some d → d ≡ c → ((out : List ℕ) (bs : List (List ℕ)) → after_effect e (record { out = out; buffers = bs; registers = regs }) ≡ after_append p.bytes out bs p.registers) → Does p (went e rest ∷ []) c regs
+silent e rest p d c regs r same does ks out bs = rw (r, same) (ap (λ s. after_steps ks c s) (does out bs))
 
 -- two, one after the other
 then_does : (bytes : List ℕ) (regs' : Registers) (o : Option (List Symbol)) (f : List Symbol → Registers → Part) (is js : List (Step Place)) (c : List Symbol) (regs : Registers) → Does (record { bytes = bytes; registers = regs'; rest = o }) is c regs → ((d : List Symbol) → Does (f d regs') js d regs') → Does (go_on bytes regs' o f) (is ++ js) c regs
 then_does bytes regs' None f is js c regs first next ks out bs =
     let r = first (js ++ ks) out bs in
-    (r.0, ap (λ z. acted z c (record { out = out; buffers = bs; registers = regs })) (append_assoc is js ks) ∙ r.1)
+    (r.0, ap (λ z. after_steps z c (record { out = out; buffers = bs; registers = regs })) (append_assoc is js ks) ∙ r.1)
 then_does bytes regs' (Some d) f is js c regs first next ks out bs =
-    cases (f d regs').rest (next d ks (appended bytes out bs regs').out (appended bytes out bs regs').buffers)
+    cases (f d regs').rest (next d ks (after_append bytes out bs regs').out (after_append bytes out bs regs').buffers)
   where
     s : State
     s = record { out = out; buffers = bs; registers = regs }
@@ -53,16 +53,16 @@ then_does bytes regs' (Some d) f is js c regs first next ks out bs =
     q : Part
     q = f d regs'
 
-    same_state : (out : List ℕ) (bs : List (List ℕ)) → record { out = (appended bytes out bs regs').out; buffers = (appended bytes out bs regs').buffers; registers = regs' } ≡ appended bytes out bs regs'
+    same_state : (out : List ℕ) (bs : List (List ℕ)) → record { out = (after_append bytes out bs regs').out; buffers = (after_append bytes out bs regs').buffers; registers = regs' } ≡ after_append bytes out bs regs'
     same_state out [] = refl
     same_state out (b ∷ bs) = refl
 
-    start : acted ((is ++ js) ++ ks) c s ≡ acted (js ++ ks) d (record { out = (appended bytes out bs regs').out; buffers = (appended bytes out bs regs').buffers; registers = regs' })
-    start = ap (λ z. acted z c s) (append_assoc is js ks) ∙ first (js ++ ks) out bs ∙ ap (λ z. acted (js ++ ks) d z) (sym (same_state out bs))
+    start : after_steps ((is ++ js) ++ ks) c s ≡ after_steps (js ++ ks) d (record { out = (after_append bytes out bs regs').out; buffers = (after_append bytes out bs regs').buffers; registers = regs' })
+    start = ap (λ z. after_steps z c s) (append_assoc is js ks) ∙ first (js ++ ks) out bs ∙ ap (λ z. after_steps (js ++ ks) d z) (sym (same_state out bs))
 
-    cases : (o : Option (List Symbol)) → DoneBy o q js ks d (appended bytes out bs regs').out (appended bytes out bs regs').buffers regs' → DoneBy o (record { bytes = bytes ++ q.bytes; registers = q.registers; rest = q.rest }) (is ++ js) ks c out bs regs
+    cases : (o : Option (List Symbol)) → DoneBy o q js ks d (after_append bytes out bs regs').out (after_append bytes out bs regs').buffers regs' → DoneBy o (record { bytes = bytes ++ q.bytes; registers = q.registers; rest = q.rest }) (is ++ js) ks c out bs regs
     cases None h = (h.0, start ∙ h.1 ∙ ap (λ z. with_more h.0 z) (appended_twice bytes q.bytes out bs regs' q.registers))
-    cases (Some e) h = start ∙ h ∙ ap (λ z. acted ks e z) (appended_twice bytes q.bytes out bs regs' q.registers)
+    cases (Some e) h = start ∙ h ∙ ap (λ z. after_steps ks e z) (appended_twice bytes q.bytes out bs regs' q.registers)
 
 both_do : (p : Part) (f : List Symbol → Registers → Part) (is js : List (Step Place)) (c : List Symbol) (regs : Registers) → Does p is c regs → ((d : List Symbol) → Does (f d p.registers) js d p.registers) → Does (then_part p f) (is ++ js) c regs
 both_do p f is js c regs first next = then_does p.bytes p.registers p.rest f is js c regs first next
@@ -76,7 +76,7 @@ after_nothing rest p js c regs h = cases p.rest h
     cases (Some d) h ks out bs = h ks out bs
 
 -- behind a choice
-after_choice : (side : _) (x : Symbol) (to : Place) (js : List (Step Place)) (c : List Symbol) (regs : Registers) (f : List Symbol → Part) → ((d : List Symbol) → Does (f d) js d regs) → Does (behind (x ∷ []) c regs f) (chose side to ∷ js) c regs
+after_choice : (side : _) (x : Symbol) (to : Place) (js : List (Step Place)) (c : List Symbol) (regs : Registers) (f : List Symbol → Part) → ((d : List Symbol) → Does (f d) js d regs) → Does (part_behind (x ∷ []) c regs f) (chose side to ∷ js) c regs
 after_choice side x to js [] regs f h = λ ks out bs. ([], sym (appended_none out bs regs))
 after_choice side x to js (y ∷ c) regs f h = cases (f c).rest (h c)
   where
@@ -92,15 +92,15 @@ in_mute rest to p js c regs h = cases p.rest h
     cases None h ks out bs =
         let r = h (went drop_buffer rest ∷ ks) out ([] ∷ bs) in (
           r.0 ++ p.bytes ∷ [],
-          ap (λ z. acted z c (record { out = out; buffers = [] ∷ bs; registers = regs })) (append_assoc js (went drop_buffer rest ∷ []) ks)
+          ap (λ z. after_steps z c (record { out = out; buffers = [] ∷ bs; registers = regs })) (append_assoc js (went drop_buffer rest ∷ []) ks)
               ∙ r.1
               ∙ ap (λ z. record { out = out; buffers = z; registers = p.registers }) (sym (append_assoc r.0 (p.bytes ∷ []) bs))
               ∙ ap (λ z. with_more (r.0 ++ p.bytes ∷ []) z) (sym (appended_none out bs p.registers)),
         )
     cases (Some d) h ks out bs =
-        ap (λ z. acted z c (record { out = out; buffers = [] ∷ bs; registers = regs })) (append_assoc js (went drop_buffer rest ∷ []) ks)
+        ap (λ z. after_steps z c (record { out = out; buffers = [] ∷ bs; registers = regs })) (append_assoc js (went drop_buffer rest ∷ []) ks)
         ∙ h (went drop_buffer rest ∷ ks) out ([] ∷ bs)
-        ∙ ap (λ z. acted ks d z) (sym (appended_none out bs p.registers))
+        ∙ ap (λ z. after_steps ks d z) (sym (appended_none out bs p.registers))
 
 -- within a buffer that goes to a register at the end
 in_at : (n : ℕ) (rest to : Place) (p : Part) (js : List (Step Place)) (c : List Symbol) (regs : Registers) → Does p js c regs → Does (kept_part n p) (went open_buffer to ∷ (js ++ went (into n) rest ∷ [])) c regs
@@ -110,19 +110,19 @@ in_at n rest to p js c regs h = cases p.rest h
     cases None h ks out bs =
         let r = h (went (into n) rest ∷ ks) out ([] ∷ bs) in (
           r.0 ++ p.bytes ∷ [],
-          ap (λ z. acted z c (record { out = out; buffers = [] ∷ bs; registers = regs })) (append_assoc js (went (into n) rest ∷ []) ks)
+          ap (λ z. after_steps z c (record { out = out; buffers = [] ∷ bs; registers = regs })) (append_assoc js (went (into n) rest ∷ []) ks)
               ∙ r.1
               ∙ ap (λ z. record { out = out; buffers = z; registers = p.registers }) (sym (append_assoc r.0 (p.bytes ∷ []) bs))
               ∙ ap (λ z. with_more (r.0 ++ p.bytes ∷ []) z) (sym (appended_none out bs p.registers)),
         )
     cases (Some d) h ks out bs =
-        ap (λ z. acted z c (record { out = out; buffers = [] ∷ bs; registers = regs })) (append_assoc js (went (into n) rest ∷ []) ks)
+        ap (λ z. after_steps z c (record { out = out; buffers = [] ∷ bs; registers = regs })) (append_assoc js (went (into n) rest ∷ []) ks)
         ∙ h (went (into n) rest ∷ ks) out ([] ∷ bs)
-        ∙ ap (λ z. acted ks d z) (sym (appended_none out bs (put p.registers n p.bytes)))
+        ∙ ap (λ z. after_steps ks d z) (sym (appended_none out bs (with_content p.registers n p.bytes)))
 
 module _ (P : Grammar) where
   pub part_done : {k : Kind} {t : Tree} (n : ℕ) (rest : Place) (c : List Symbol) (regs : Registers) → IsTree P k t → Does (part P k t c regs) (steps_of P n k t rest) c regs
-  part_done n rest c regs one = λ ks out bs. ap (λ s. acted ks c s) (sym (appended_none out bs regs))
+  part_done n rest c regs one = λ ks out bs. ap (λ s. after_steps ks c s) (sym (appended_none out bs regs))
   part_done n rest c regs lit = λ ks out bs. refl
   part_done n rest [] regs (one_byte i) = λ ks out bs. ([], sym (appended_none out bs regs))
   part_done n rest (x ∷ c) regs (one_byte i) = λ ks out bs. refl
@@ -132,14 +132,14 @@ module _ (P : Grammar) where
   part_done n rest c regs (alt_right {r = r} a) = after_choice to_right R _ _ c regs _ (λ d. part_done r rest d regs a)
   part_done n rest c regs (needed {body = body} {min = min} {max = max} {a = s} {rest = t} a b) = after_nothing _ (then_part (part P (kind_at P body) s c regs) (part P (Rep body min (less max)) t)) _ c regs (both_do (part P (kind_at P body) s c regs) (part P (Rep body min (less max)) t) _ _ c regs (part_done body (Pending n min (less max) ∷ rest) c regs a) (λ d. part_done n rest d _ b))
   part_done n rest c regs (again {body = body} {max = max} {a = s} {rest = t} i a b) = after_choice to_left L _ _ c regs _ (λ d. both_do (part P (kind_at P body) s d regs) (part P (Rep body zero (less max)) t) _ _ d regs (part_done body (Pending n zero (less max) ∷ rest) d regs a) (λ e. part_done n rest e _ b))
-  part_done n rest c regs (end {max = None}) = after_choice to_right R _ [] c regs _ (λ d ks out bs. ap (λ s. acted ks d s) (sym (appended_none out bs regs)))
-  part_done n rest c regs (end {max = Some zero}) = λ ks out bs. ap (λ s. acted ks c s) (sym (appended_none out bs regs))
-  part_done n rest c regs (end {max = Some (suc m)}) = after_choice to_right R _ [] c regs _ (λ d ks out bs. ap (λ s. acted ks d s) (sym (appended_none out bs regs)))
+  part_done n rest c regs (end {max = None}) = after_choice to_right R _ [] c regs _ (λ d ks out bs. ap (λ s. after_steps ks d s) (sym (appended_none out bs regs)))
+  part_done n rest c regs (end {max = Some zero}) = λ ks out bs. ap (λ s. after_steps ks c s) (sym (appended_none out bs regs))
+  part_done n rest c regs (end {max = Some (suc m)}) = after_choice to_right R _ [] c regs _ (λ d ks out bs. ap (λ s. after_steps ks d s) (sym (appended_none out bs regs)))
   part_done n rest c regs (mute {n = m} {a = t} a) = in_mute rest (enter P m ∷ EndOf n ∷ rest) (part P (kind_at P m) t c regs) _ c regs (part_done m (EndOf n ∷ rest) c regs a)
   part_done n rest c regs (at_register {r = r} {n = m} {a = t} a) = in_at r rest (enter P m ∷ EndOf n ∷ rest) (part P (kind_at P m) t c regs) _ c regs (part_done m (EndOf n ∷ rest) c regs a)
   part_done n rest c regs write_register = λ ks out bs. refl
-  part_done n rest c regs (set_register {r = r} {parts = s}) = λ ks out bs. ap (λ s. acted ks c s) (sym (appended_none out bs _))
-  part_done n rest c regs (add_register {r = r} {parts = s}) = λ ks out bs. ap (λ s. acted ks c s) (sym (appended_none out bs _))
+  part_done n rest c regs (set_register {r = r} {parts = s}) = λ ks out bs. ap (λ s. after_steps ks c s) (sym (appended_none out bs _))
+  part_done n rest c regs (add_register {r = r} {parts = s}) = λ ks out bs. ap (λ s. after_steps ks c s) (sym (appended_none out bs _))
 
 abbrev IsLike : {S : Type 0} → Step S → Step S → Type 0
 IsLike (took a s) (took b t) = Unit {0}
@@ -158,7 +158,7 @@ unlike goes_forced goes_forced = tt
 unlike goes goes = tt
 
 -- two walks to the end whose codes begin with c do the same with c
-pub same_acted : {S : Type 0} (f : S → Move S) (js ks : List (Step S)) (s d e : S) (c u v : List Symbol) (st : State) → Walk f s js d → Walk f s ks e → f d ≡ accept → f e ≡ accept → code_of js ≡ c ++ u → code_of ks ≡ c ++ v → acted js c st ≡ acted ks c st
+pub same_acted : {S : Type 0} (f : S → Move S) (js ks : List (Step S)) (s d e : S) (c u v : List Symbol) (st : State) → Walk f s js d → Walk f s ks e → f d ≡ accept → f e ≡ accept → code_of js ≡ c ++ u → code_of ks ≡ c ++ v → after_steps js c st ≡ after_steps ks c st
 same_acted f [] [] s d e c u v st wj wk ad ae cj ck = refl
 same_acted f [] (k ∷ ks) s d e c u v st wj wk ad ae cj ck = absurd (from_accept (rw (ap f wj ∙ ad) at wk.0))
 same_acted f (j ∷ js) [] s d e c u v st wj wk ad ae cj ck = absurd (from_accept (rw (ap f wk ∙ ae) at wj.0))
@@ -168,7 +168,7 @@ same_acted f (took a t ∷ js) (took b t' ∷ ks) s d e (x ∷ c) u v st wj wk a
     let shown : Byte a ∷ code_of js ≡ Byte b ∷ code_of js = ap (λ q. Byte q ∷ code_of js) bytes in
     let both : took a t ≡ took b t' = step_from_code (code_of js) (code_of js) wj.0 wk.0 shown in
     let to : t ≡ t' = cc in
-    ap (λ z. acted js c (appended (z ∷ []) st.out st.buffers st.registers)) bytes ∙ same_acted f js ks t d e c u v _ wj.1 (rw to wk.1) ad ae (cc) (cc)
+    ap (λ z. after_steps js c (after_append (z ∷ []) st.out st.buffers st.registers)) bytes ∙ same_acted f js ks t d e c u v _ wj.1 (rw to wk.1) ad ae (cc) (cc)
 same_acted f (chose x t ∷ js) (chose y t' ∷ ks) s d e [] u v st wj wk ad ae cj ck = refl
 same_acted f (chose x t ∷ js) (chose y t' ∷ ks) s d e (z ∷ c) u v st wj wk ad ae cj ck =
     let shown : symbol_of x ∷ code_of js ≡ symbol_of y ∷ (c ++ u) = cj ∙ ap (λ q. q ∷ (c ++ u)) (let q : z ≡ symbol_of y = cc in q) in
@@ -179,7 +179,7 @@ same_acted f (went g t ∷ js) (went h t' ∷ ks) s d e c u v st wj wk ad ae cj 
     let both : went g t ≡ went h t' = step_from_code {j = went g t} {k = went h t'} [] [] wj.0 wk.0 refl in
     let same : g ≡ h = cc in
     let to : t ≡ t' = cc in
-    ap (λ z. acted js c (done_by z st)) same ∙ same_acted f js ks t d e c u v _ wj.1 (rw to wk.1) ad ae cj ck
+    ap (λ z. after_steps js c (after_effect z st)) same ∙ same_acted f js ks t d e c u v _ wj.1 (rw to wk.1) ad ae cj ck
 same_acted f (took a t ∷ js) (chose y t' ∷ ks) s d e c u v st wj wk ad ae cj ck = absurd (unlike wj.0 wk.0)
 same_acted f (took a t ∷ js) (went h t' ∷ ks) s d e c u v st wj wk ad ae cj ck = absurd (unlike wj.0 wk.0)
 same_acted f (chose x t ∷ js) (took b t' ∷ ks) s d e c u v st wj wk ad ae cj ck = absurd (unlike wj.0 wk.0)
@@ -201,10 +201,10 @@ done_all P root t c regs out it = cases p.rest (part_done P root [] c regs it []
 
     cases : (o : Option (List Symbol)) → DoneBy o p js [] c out [] regs → DoneBySteps P root t c regs out
     cases None (more, e) = record {
-      written = ap (λ z. (acted z c s).out) (sym (append-nil js)) ∙ ap (λ z. z.out) e;
-      held = ap (λ z. (acted z c s).registers) (sym (append-nil js)) ∙ ap (λ z. z.registers) e;
+      written = ap (λ z. (after_steps z c s).out) (sym (append-nil js)) ∙ ap (λ z. z.out) e;
+      held = ap (λ z. (after_steps z c s).registers) (sym (append-nil js)) ∙ ap (λ z. z.registers) e;
     }
     cases (Some d) e = record {
-      written = ap (λ z. (acted z c s).out) (sym (append-nil js)) ∙ ap (λ z. z.out) e;
-      held = ap (λ z. (acted z c s).registers) (sym (append-nil js)) ∙ ap (λ z. z.registers) e;
+      written = ap (λ z. (after_steps z c s).out) (sym (append-nil js)) ∙ ap (λ z. z.out) e;
+      held = ap (λ z. (after_steps z c s).registers) (sym (append-nil js)) ∙ ap (λ z. z.registers) e;
     }

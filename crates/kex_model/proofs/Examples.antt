@@ -8,9 +8,9 @@ use Rattle.kex_model.specs.Labelled.{Labelled, tip, fork}
 use Rattle.kex_model.specs.Trees.{Tree, IsTree, lit, one_byte, seq, alt_left, alt_right, needed, again, end, mute, at_register, write_register, set_register, add_register, leaf, byte, pair, inner, turn, done, Parses, kind_at}
 use Rattle.kex_model.specs.Places.{Place, moves, start_of}
 use Rattle.kex_model.specs.Survivors.{Agreed, HasTree}
-use Rattle.kex_model.specs.Answers.{stopped, code_at, HasParse, GreedyParse, Says, Viable, at_byte, bad_byte, too_long, cut_off, whole, still_open}
+use Rattle.kex_model.specs.Answers.{stopped_answer, code_at, HasParse, GreedyParse, Says, Viable, at_byte, bad_byte, too_long, cut_off, whole, still_open}
 use Rattle.kex_model.specs.Laws.{StageAnswers}
-use Rattle.kex_model.specs.Worked.{late, late_tree, ChoiceIsLate, twice, twice_left, twice_right, LeftIsGreedy, RegistersSwap, doubling, RegisterDoubles, MuteKeepsRegisters, RegisterIsWholeOrAsItWas, counted, counted_turn, TurnsAreCounted, muted_twice, EndsAreOfNodes, breaks, breaks_tree, TextsBreakOff, stars, LimitStops, ShapeForks, two_stages, LastStopIsReported}
+use Rattle.kex_model.specs.Worked.{late, late_tree, ChoiceIsLate, twice, twice_left, twice_right, LeftIsGreedy, RegistersSwap, doubling, RegisterDoubles, MuteKeepsRegisters, RegisterIsWholeOrAsItWas, counted_loop, counted_turn, TurnsAreCounted, muted_twice, EndsAreOfNodes, breaks, breaks_tree, TextsBreakOff, stars, LimitStops, ShapeForks, two_stages, LastStopIsReported}
 use Rattle.kex_model.proofs.Shapes.{tree_agrees}
 use Rattle.kex_model.proofs.Exploring.{each_leads, leads_to_end, a_survivor, has_tree, not_viable, of_parse, longest_good, differ}
 
@@ -172,7 +172,7 @@ left_is_greedy = record {
 
 -- counts
 
-counted_once : IsTree counted (kind_at counted 3) counted_turn
+counted_once : IsTree counted_loop (kind_at counted_loop 3) counted_turn
 counted_once = seq (mute (one_byte refl)) lit
 
 pub turns_are_counted : TurnsAreCounted
@@ -181,8 +181,8 @@ turns_are_counted = record {
   two_code = refl;
   three = record { tree = needed counted_once (needed counted_once (again tt counted_once end)); text = refl };
   three_code = refl;
-  one = λ h. of_parse counted 4 30 (120 ∷ []) (λ c. ⊥) refl (λ e. differ e refl, tt) h.0 h.1;
-  four = λ h. of_parse counted 4 30 (120 ∷ 120 ∷ 120 ∷ 120 ∷ []) (λ c. ⊥) refl tt h.0 h.1;
+  one = λ h. of_parse counted_loop 4 30 (120 ∷ []) (λ c. ⊥) refl (λ e. differ e refl, tt) h.0 h.1;
+  four = λ h. of_parse counted_loop 4 30 (120 ∷ 120 ∷ 120 ∷ 120 ∷ []) (λ c. ⊥) refl tt h.0 h.1;
   needed = refl;
 }
 
@@ -315,7 +315,7 @@ xx_says = let once : IsTree two_stages (kind_at two_stages 3) (pair (inner (byte
 xxq_dead : Viable two_stages 4 (120 ∷ 120 ∷ 113 ∷ []) → ⊥
 xxq_dead = not_viable two_stages 4 40 (120 ∷ 120 ∷ 113 ∷ []) refl
 
-first_answers : StageAnswers two_stages 4 99 (120 ∷ 120 ∷ 113 ∷ []) true (stopped yyyy 2 at_byte)
+first_answers : StageAnswers two_stages 4 99 (120 ∷ 120 ∷ 113 ∷ []) true (stopped_answer yyyy 2 at_byte)
 first_answers = bad_byte xx xxq_dead (longest_good two_stages 4 xx 113 [] xx_is_agreed.viable xxq_dead) xx_says
 
 abbrev triple_rest : Place
@@ -369,17 +369,17 @@ yy_dead = not_viable two_stages 14 40 (121 ∷ 121 ∷ []) refl
 pub last_stop_is_reported : LastStopIsReported
 last_stop_is_reported = record {
   first_stops = (
-    stopped yyyy 2 at_byte,
+    stopped_answer yyyy 2 at_byte,
     None,
     first_answers,
     (record { text = 122 ∷ []; ended = false; stop = None }, None, still_open (lit≤ tt) yyyy_is_agreed.viable yyyy_says, (refl, refl), refl),
     refl,
   );
   both_stop = (
-    stopped yyyy 2 at_byte,
+    stopped_answer yyyy 2 at_byte,
     Some (record { stage = 2; stop = record { at = 1; why = at_byte } }),
     first_answers,
-    (stopped (121 ∷ []) 1 at_byte, None, bad_byte (121 ∷ []) (not_viable two_stages 14 40 yyyy refl) (longest_good two_stages 14 (121 ∷ []) 121 (121 ∷ 121 ∷ []) y_is_agreed.viable yy_dead) y_says, (refl, refl), refl),
+    (stopped_answer (121 ∷ []) 1 at_byte, None, bad_byte (121 ∷ []) (not_viable two_stages 14 40 yyyy refl) (longest_good two_stages 14 (121 ∷ []) 121 (121 ∷ 121 ∷ []) y_is_agreed.viable yy_dead) y_says, (refl, refl), refl),
     refl,
   );
 }

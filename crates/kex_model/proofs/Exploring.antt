@@ -6,7 +6,7 @@ use Rattle.kex_model.specs.declared.frame.Frame.{Frame}
 use Rattle.kex_model.specs.declared.frame.Frame.TheVariants.{Pending, EndOf}
 use Rattle.kex_model.specs.Programs.{Grammar}
 use Rattle.kex_model.specs.Labelled.{Labelled, leaves_of}
-use Rattle.kex_model.specs.Moves.{Move, accept, read, choose, forced, go, to_left, to_right, Step, took, chose, went, Allows, reads, goes_left, goes_right, goes_forced, goes, entered, code_of, IsWaiting, Walk, Waits}
+use Rattle.kex_model.specs.Moves.{Move, accept, read, choose, forced, go, to_left, to_right, Step, took, chose, went, Allows, reads, goes_left, goes_right, goes_forced, goes, target_of, code_of, IsWaiting, Walk, Waits}
 use Rattle.kex_model.specs.Places.{Place, moves, start_of, steps_of}
 use Rattle.kex_model.specs.Trees.{Tree, Parses, kind_at, code}
 use Rattle.kex_model.specs.Answers.{Viable, Says, HasParse, Means, LongestGood}
@@ -95,7 +95,7 @@ once seen (went x t ∷ ks) e = let h = both_hold seen t (is_in seen t) (is_once
 -- where steps end
 abbrev pub end_of : Place → List (Step Place) → Place
 end_of p [] = p
-end_of p (k ∷ ks) = end_of (entered k) ks
+end_of p (k ∷ ks) = end_of (target_of k) ks
 
 -- lists of steps that were found, or none where there may be more
 abbrev pub Found : Type 0
@@ -168,7 +168,7 @@ stays next (choose l r) h = absurd h
 stays next (forced x t) h = absurd h
 stays next (go e t) h = absurd h
 
-steps_on : (next : Place → List ℕ → Found) (m : Move Place) (k : Step Place) (ks : List (Step Place)) → Allows m k → IsFound (next (entered k) (bytes_of (code_of ks))) ks → IsFound (tried next m (bytes_of (code_of (k ∷ ks)))) (k ∷ ks)
+steps_on : (next : Place → List ℕ → Found) (m : Move Place) (k : Step Place) (ks : List (Step Place)) → Allows m k → IsFound (next (target_of k) (bytes_of (code_of ks))) ks → IsFound (tried next m (bytes_of (code_of (k ∷ ks)))) (k ∷ ks)
 steps_on next m k ks (reads {set = set} {b = b} {s = t} i) h = let P : Bool → Type 0 = λ z. IsFound (read_on z (with_first (took b t) (next t (bytes_of (code_of ks))))) (took b t ∷ ks) in subst P (sym i) (found_first (took b t) (next t (bytes_of (code_of ks))) ks h)
 steps_on next m k ks (goes_left {l = l} {r = r}) h = found_left (with_first (chose to_left l) (next l (bytes_of (code_of ks)))) (with_first (chose to_right r) (next r (bytes_of (code_of ks)))) (chose to_left l ∷ ks) (found_first (chose to_left l) (next l (bytes_of (code_of ks))) ks h)
 steps_on next m k ks (goes_right {l = l} {r = r}) h = found_right (with_first (chose to_left l) (next l (bytes_of (code_of ks)))) (with_first (chose to_right r) (next r (bytes_of (code_of ks)))) (chose to_right r ∷ ks) (found_first (chose to_right r) (next r (bytes_of (code_of ks))) ks h)
@@ -180,7 +180,7 @@ steps_on next m k ks (goes {e = e} {s = t}) h = found_first (went e t) (next t (
 pub is_found : (P : Grammar) (n : ℕ) (p q : Place) (ks : List (Step Place)) → Walk (moves P) p ks q → Waits (moves P) q → IsFound (paths P n p (bytes_of (code_of ks))) ks
 is_found P zero p q ks walk waits = tt
 is_found P (suc n) p q [] walk waits = let Q : Place → Type 0 = λ z. Waits (moves P) z in stays (paths P n) (moves P p) (subst Q (sym walk) waits)
-is_found P (suc n) p q (k ∷ ks) walk waits = steps_on (paths P n) (moves P p) k ks walk.0 (is_found P n (entered k) q ks walk.1 waits)
+is_found P (suc n) p q (k ∷ ks) walk waits = steps_on (paths P n) (moves P p) k ks walk.0 (is_found P n (target_of k) q ks walk.1 waits)
 
 -- what is found are paths
 
@@ -217,7 +217,7 @@ each_joint Q (Some xs) (Some ys) g h = each_append Q xs ys g h
 -- a step, and then steps that lead on
 abbrev LeadsBy : Grammar → Move Place → List ℕ → List (Step Place) → Type 0
 LeadsBy P m w [] = IsWaiting m × (w ≡ [])
-LeadsBy P m w (k ∷ ks) = Allows m k × Walk (moves P) (entered k) ks (end_of (entered k) ks) × Waits (moves P) (end_of (entered k) ks) × (bytes_of (code_of (k ∷ ks)) ≡ w)
+LeadsBy P m w (k ∷ ks) = Allows m k × Walk (moves P) (target_of k) ks (end_of (target_of k) ks) × Waits (moves P) (end_of (target_of k) ks) × (bytes_of (code_of (k ∷ ks)) ≡ w)
 
 tried_leads : (P : Grammar) (next : Place → List ℕ → Found) (m : Move Place) (w : List ℕ) → ((p : Place) (v : List ℕ) → EachFound (Leads P p v) (next p v)) → EachFound (LeadsBy P m w) (tried next m w)
 tried_leads P next accept [] h = ((tt, refl), tt)
@@ -255,7 +255,7 @@ each_leads P (suc n) p w = each_more (LeadsBy P (moves P p) w) (Leads P p w) (tr
 -- the end of a walk
 pub walk_ends : (P : Grammar) (p q : Place) (ks : List (Step Place)) → Walk (moves P) p ks q → end_of p ks ≡ q
 walk_ends P p q [] w = w
-walk_ends P p q (k ∷ ks) w = walk_ends P (entered k) q ks w.1
+walk_ends P p q (k ∷ ks) w = walk_ends P (target_of k) q ks w.1
 
 pub path_of : (P : Grammar) (root : ℕ) (w : List ℕ) (ks : List (Step Place)) → Leads P (start_of P root) w ks → is_once (start_of P root ∷ []) ks ≡ true → IsPath (moves P) (start_of P root) w (end_of (start_of P root) ks) ks
 path_of P root w ks l e = record { walk = l.walk; waits = l.waits; once = once (start_of P root ∷ []) ks e; reads = l.reads }

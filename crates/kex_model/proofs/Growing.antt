@@ -7,7 +7,7 @@ use Rattle.kex_code.specs.declared.symbol.Symbol.{Symbol}
 use Rattle.kex_code.specs.declared.symbol.Symbol.TheVariants.{L, R, Byte}
 use Rattle.kex_code.specs.Codes.{Begins}
 use Rattle.kex_code.specs.Registers.{Registers}
-use Rattle.kex_model.specs.Trees.{kind_at, less, Tree, turn, IsTree, one, lit, one_byte, call, seq, alt_left, alt_right, needed, again, end, mute, at_register, write_register, set_register, add_register, code, Meaning, then_also, meaning, Part, behind, go_on, then_part, muted_part, put_whole, kept_part, part}
+use Rattle.kex_model.specs.Trees.{kind_at, less, Tree, turn, IsTree, one, lit, one_byte, call, seq, alt_left, alt_right, needed, again, end, mute, at_register, write_register, set_register, add_register, code, Meaning, then_also, meaning, Part, part_behind, go_on, then_part, muted_part, put_whole, kept_part, part}
 
 abbrev pub GrownBy : Option (List Symbol) → Part → Part → List Symbol → Type 0
 GrownBy None p q m = Begins q.bytes p.bytes
@@ -44,8 +44,8 @@ go_grown bytes regs (Some r) q f g m h next = rw (h.0, h.1, h.2) (cases (f r reg
 then_grown : (p q : Part) (f g : List Symbol → Registers → Part) (m : List Symbol) → Grown p q m → ((r : List Symbol) → Grown (f r p.registers) (g (r ++ m) p.registers) m) → Grown (then_part p f) (then_part q g) m
 then_grown p q f g m h next = go_grown p.bytes p.registers p.rest q f g m h next
 
-behind_grown : (x : Symbol) (c m : List Symbol) (regs : Registers) (f g : List Symbol → Part) → ((r : List Symbol) → Grown (f r) (g (r ++ m)) m) → Grown (behind (x ∷ []) c regs f) (behind (x ∷ []) (c ++ m) regs g) m
-behind_grown x [] m regs f g next = ((behind (x ∷ []) m regs g).bytes, refl)
+behind_grown : (x : Symbol) (c m : List Symbol) (regs : Registers) (f g : List Symbol → Part) → ((r : List Symbol) → Grown (f r) (g (r ++ m)) m) → Grown (part_behind (x ∷ []) c regs f) (part_behind (x ∷ []) (c ++ m) regs g) m
+behind_grown x [] m regs f g next = ((part_behind (x ∷ []) m regs g).bytes, refl)
 behind_grown x (y ∷ c) m regs f g next = next c
 
 muted_grown : (p q : Part) (m : List Symbol) → Grown p q m → Grown (muted_part p) (muted_part q) m

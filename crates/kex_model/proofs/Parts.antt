@@ -7,7 +7,7 @@ use Rattle.kex_model.specs.declared.program.Kind.TheVariants.{Rep}
 use Rattle.kex_code.specs.declared.symbol.Symbol.{Symbol}
 use Rattle.kex_code.specs.declared.symbol.Symbol.TheVariants.{L, R, Byte}
 use Rattle.kex_code.specs.Registers.{Registers}
-use Rattle.kex_model.specs.Trees.{kind_at, less, Tree, IsTree, one, lit, one_byte, call, seq, alt_left, alt_right, needed, again, end, mute, at_register, write_register, set_register, add_register, code, Part, behind, go_on, then_part, muted_part, kept_part, part}
+use Rattle.kex_model.specs.Trees.{kind_at, less, Tree, IsTree, one, lit, one_byte, call, seq, alt_left, alt_right, needed, again, end, mute, at_register, write_register, set_register, add_register, code, Part, part_behind, go_on, then_part, muted_part, kept_part, part}
 
 -- the rest of two parts, one after the other
 pub then_left : (p : Part) (next : List Symbol → Registers → Part) (d : List Symbol) → (then_part p next).rest ≡ Some d → (c : List Symbol) × (p.rest ≡ Some c) × ((next c p.registers).rest ≡ Some d)
@@ -17,7 +17,7 @@ then_left p next d h = cases p.rest refl h
     cases None e h = cc
     cases (Some c) e h = (c, e, h)
 
-pub behind_left : (m : Symbol) (r c u d : List Symbol) (regs : Registers) (next : List Symbol → Part) → m ∷ r ≡ c ++ u → (behind (m ∷ []) c regs next).rest ≡ Some d → (c' : List Symbol) × (c ≡ m ∷ c') × (r ≡ c' ++ u) × ((next c').rest ≡ Some d)
+pub behind_left : (m : Symbol) (r c u d : List Symbol) (regs : Registers) (next : List Symbol → Part) → m ∷ r ≡ c ++ u → (part_behind (m ∷ []) c regs next).rest ≡ Some d → (c' : List Symbol) × (c ≡ m ∷ c') × (r ≡ c' ++ u) × ((next c').rest ≡ Some d)
 behind_left m r [] u d regs next e h = cc
 behind_left m r (y ∷ c) u d regs next e h =
     let same : y ≡ m = cc in
@@ -86,7 +86,7 @@ same_then p q f g e h = cases p.rest refl ∙ ap (λ z. then_part z g) e
         rw (r, next)
 
 -- two parts behind marks: both stop, or the marks are one
-same_behind : (m n : Symbol) (x y c u v : List Symbol) (regs : Registers) (f g : List Symbol → Part) → m ∷ x ≡ c ++ u → n ∷ y ≡ c ++ v → ((c' : List Symbol) → m ≡ n → x ≡ c' ++ u → y ≡ c' ++ v → f c' ≡ g c') → behind (m ∷ []) c regs f ≡ behind (n ∷ []) c regs g
+same_behind : (m n : Symbol) (x y c u v : List Symbol) (regs : Registers) (f g : List Symbol → Part) → m ∷ x ≡ c ++ u → n ∷ y ≡ c ++ v → ((c' : List Symbol) → m ≡ n → x ≡ c' ++ u → y ≡ c' ++ v → f c' ≡ g c') → part_behind (m ∷ []) c regs f ≡ part_behind (n ∷ []) c regs g
 same_behind m n x y [] u v regs f g e e' h = refl
 same_behind m n x y (z ∷ c) u v regs f g e e' h = h c (cc) (cc) (cc)
 

@@ -3,8 +3,8 @@ use Rattle.std.proofs.Common.{◌≡◌, ℕ, zero, suc, Bool, true, false, List
 use Rattle.std.proofs.Math.Seq.{drop-append_seam}
 use Rattle.std.proofs.lemmas.List.{map-append}
 use Rattle.kex_code.specs.Codes.{Begins}
-use Rattle.kex_model.specs.Answers.{Answer, Report, later, Pipeline}
-use Rattle.kex_model.specs.Schedules.{StreamItem, byte, finish, bytes_in, has_end, ending, items_of, Progress, fresh, Event, WroteIf, Wrote, Turned, After, begun, given, ended, turned, Settled, LastWrote}
+use Rattle.kex_model.specs.Answers.{Answer, Report, later_report, Pipeline}
+use Rattle.kex_model.specs.Schedules.{StreamItem, byte, finish, bytes_in, has_end, end_items, items_of, Progress, fresh, Event, WroteIf, Wrote, Turned, After, begun, given, ended, turned, Settled, LastWrote}
 
 -- items after the end count for nothing
 bytes_open : (xs ys : List StreamItem) → has_end xs ≡ false → bytes_in (xs ++ ys) ≡ bytes_in xs ++ bytes_in ys
@@ -68,7 +68,7 @@ module _ {T : Type 0} (Gives : T → List ℕ → Bool → Answer → Type 0) (o
           let gb' : Gives s (bytes_in xs ++ bytes_in ys) (has_end (xs ++ ys)) b = subst (λ z. Gives s z (has_end (xs ++ ys)) b) (bytes_open xs ys e) gb in
           let more = grows s (bytes_in xs) (bytes_in ys) (has_end (xs ++ ys)) a b ga' gb' in
           let whole : out ≡ map byte a.text = ea ∙ ap (λ z. items_of a.text z) (stays_open s (bytes_in xs) a ga') ∙ append-nil (map byte a.text) in
-          (map byte more.0 ++ ending b.ended, eb ∙ ap (λ z. items_of z b.ended) more.1 ∙ ap (λ z. z ++ ending b.ended) (map-append byte a.text more.0) ∙ append_assoc (map byte a.text) (map byte more.0) (ending b.ended) ∙ ap (λ z. z ++ (map byte more.0 ++ ending b.ended)) (sym whole))
+          (map byte more.0 ++ end_items b.ended, eb ∙ ap (λ z. items_of z b.ended) more.1 ∙ ap (λ z. z ++ end_items b.ended) (map-append byte a.text more.0) ∙ append_assoc (map byte a.text) (map byte more.0) (end_items b.ended) ∙ ap (λ z. z ++ (map byte more.0 ++ end_items b.ended)) (sym whole))
 
   turned_keeps : (ss : List T) (xs ys : List Progress) (i m : ℕ) (came : List StreamItem) → Turned Gives i m came ss xs ys → InStep came ss xs → InStep came ss ys
   turned_keeps [] xs ys i m came t h = absurd t
@@ -100,6 +100,6 @@ module _ {T : Type 0} (Gives : T → List ℕ → Bool → Answer → Type 0) (o
       let a = written.0 in
       let g : Gives s w e a = subst (λ z. Gives s w z a) (ap has_end whole ∙ end_back w e) (subst (λ z. Gives s z (has_end x.taken) a) (ap bytes_in whole ∙ bytes_back w e) written.1) in
       let r = settled_answer ss xs (suc i) out a.text a.ended written.2 (subst (λ z. InStep z ss xs) (one_wrote s x.turned x.taken out h.1 wrote h.2) h.3) rest in
-      (r.0, r.1, later i a.stop r.2, (a, r.2, g, r.3, refl), (out, wrote, r.4))
+      (r.0, r.1, later_report i a.stop r.2, (a, r.2, g, r.3, refl), (out, wrote, r.4))
   settled_answer [] (x ∷ xs) i came w e is h done = absurd done
   settled_answer (s ∷ ss) [] i came w e is h done = absurd done

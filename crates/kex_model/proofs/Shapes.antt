@@ -5,7 +5,7 @@ use Rattle.kex_code.specs.declared.symbol.Symbol.{Symbol}
 use Rattle.kex_code.specs.declared.symbol.Symbol.TheVariants.{L, R}
 use Rattle.kex_code.specs.Codes.{Begins, Before, IsAmong}
 use Rattle.kex_model.specs.Moves.{Move}
-use Rattle.kex_model.specs.Labelled.{Leaf, Labelled, tip, fork, leaves_of, Grown, leaves_if, joined, behind}
+use Rattle.kex_model.specs.Labelled.{Leaf, Labelled, tip, fork, leaves_of, Grown, leaves_if, fork_of, with_prefix}
 use Rattle.kex_model.specs.Survivors.{Item, Rising, StartsWith, IsParted, Agreed, HasTree}
 use Rattle.kex_model.proofs.Orders.{two_fronts, at_most_both}
 
@@ -94,12 +94,12 @@ module _ {S : Type 0} (moves : S → Move S) (start : S) where
     longest = λ d all. longest_front t c d h.parted (λ x i. all x.at x.code (h.lists.each x i));
   }
 
-pub joined_leaves : {A S : Type 0} (a b : Option (Grown A S)) (c : List A) → leaves_if (joined a b) c ≡ leaves_if a c ++ leaves_if b c
+pub joined_leaves : {A S : Type 0} (a b : Option (Grown A S)) (c : List A) → leaves_if (fork_of a b) c ≡ leaves_if a c ++ leaves_if b c
 joined_leaves None None c = refl
 joined_leaves (Some l) None c = sym (append-nil _)
 joined_leaves None (Some r) c = refl
 joined_leaves (Some l) (Some r) c = ap (λ z. leaves_of l.tree (z ++ l.label) ++ leaves_of r.tree (z ++ r.label)) (append-nil c)
 
-pub behind_leaves : {A S : Type 0} (x : List A) (a : Option (Grown A S)) (c : List A) → leaves_if (behind x a) c ≡ leaves_if a (c ++ x)
+pub behind_leaves : {A S : Type 0} (x : List A) (a : Option (Grown A S)) (c : List A) → leaves_if (with_prefix x a) c ≡ leaves_if a (c ++ x)
 behind_leaves x None c = refl
 behind_leaves x (Some g) c = ap (λ z. leaves_of g.tree z) (sym (append_assoc c x g.label))

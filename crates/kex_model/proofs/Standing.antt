@@ -1,7 +1,7 @@
 -- An answer on open input stands.
 use Rattle.std.proofs.Common.{◌≡◌, ℕ, ◌≤◌, ◌<◌, Bool, true, false, List, [], ◌∷◌, ◌++◌, ⊎_elim, None, length, take, drop, refl, sym, ap, ap₂, subst, ◌∙◌, append_assoc, append-nil, length-append, length-take, take-append-drop, arith}
 use Rattle.kex_code.specs.Codes.{Begins}
-use Rattle.kex_model.specs.Answers.{Why, at_byte, at_end, at_limit, Answer, stopped, LongestGood, Answers, bad_byte, too_long, cut_off, whole, still_open}
+use Rattle.kex_model.specs.Answers.{Why, at_byte, at_end, at_limit, Answer, stopped_answer, LongestGood, Answers, bad_byte, too_long, cut_off, whole, still_open}
 use Rattle.kex_model.proofs.Orders.{two_fronts}
 
 pub empty_list : {A : Type 0} (xs : List A) → length xs ≡ 0 → xs ≡ []
@@ -81,8 +81,8 @@ module _ (Good : List ℕ → Type 0) (Says : List ℕ → List ℕ → Type 0) 
     abbrev pub Stays : Answer → Answer → Type 0
     Stays a b = Begins b.text a.text × ((a.stop ≡ None → ⊥) → b ≡ a)
 
-    same_stop : (s t : List ℕ) (i j : ℕ) (y : Why) → s ≡ t → i ≡ j → Stays (stopped s i y) (stopped t j y)
-    same_stop s t i j y e f = (([], sym e ∙ sym (append-nil s)), λ h. ap₂ (λ p q. stopped p q y) (sym e) (sym f))
+    same_stop : (s t : List ℕ) (i j : ℕ) (y : Why) → s ≡ t → i ≡ j → Stays (stopped_answer s i y) (stopped_answer t j y)
+    same_stop s t i j y e f = (([], sym e ∙ sym (append-nil s)), λ h. ap₂ (λ p q. stopped_answer p q y) (sym e) (sym f))
 
     pub stays : (n : ℕ) {w x : List ℕ} {e : Bool} {a b : Answer} → Begins x w → Answers Good Says Parsed Means n w false a → Answers Good Says Parsed Means n x e b → Stays a b
     stays n {w = w} {x = x} p (bad_byte {text = s} v bad lv says) (bad_byte {text = t} z bad' lz says') =
@@ -112,19 +112,19 @@ module _ (Good : List ℕ → Type 0) (Says : List ℕ → List ℕ → Type 0) 
     pub one_answer : (n : ℕ) {w : List ℕ} {e : Bool} {a b : Answer} → ((u s : List ℕ) → Means u s → Parsed u) → ((u s t : List ℕ) → Means u s → Means u t → s ≡ t) → Answers Good Says Parsed Means n w e a → Answers Good Says Parsed Means n w e b → a ≡ b
     one_answer n {w = w} parsed means (bad_byte {text = s} v bad lv h) (bad_byte {text = t} z bad' lz h') =
         let same : v ≡ z = one_longest (take n w) (take n w) v z (refl_front (take n w)) bad lv lz in
-        ap₂ (λ x y. stopped x y at_byte) (one_said z s t (subst (λ u. Says u s) same h) h') (ap length same)
+        ap₂ (λ x y. stopped_answer x y at_byte) (one_said z s t (subst (λ u. Says u s) same h) h') (ap length same)
     one_answer n {w = w} parsed means (bad_byte v bad lv h) (too_long lt good h') = absurd (bad good)
     one_answer n {w = w} parsed means (bad_byte v bad lv h) (cut_off le good none h') = absurd (bad (long_good n w w (refl_front w) le good))
     one_answer n {w = w} parsed means (bad_byte v bad lv h) (whole {text = t} le m) = absurd (bad (long_good n w w (refl_front w) le (o.good w t m)))
     one_answer n {w = w} parsed means (bad_byte v bad lv h) (still_open le good h') = absurd (bad (long_good n w w (refl_front w) le good))
     one_answer n {w = w} parsed means (too_long lt good h) (bad_byte v bad lv h') = absurd (bad good)
-    one_answer n {w = w} parsed means (too_long {text = s} lt good h) (too_long {text = t} lt' good' h') = ap (λ x. stopped x n at_limit) (one_said (take n w) s t h h')
+    one_answer n {w = w} parsed means (too_long {text = s} lt good h) (too_long {text = t} lt' good' h') = ap (λ x. stopped_answer x n at_limit) (one_said (take n w) s t h h')
     one_answer n {w = w} parsed means (too_long lt good h) (cut_off le good' none h') = absurd (omega arith)
     one_answer n {w = w} parsed means (too_long lt good h) (whole le m) = absurd (omega arith)
     one_answer n {w = w} parsed means (too_long lt good h) (still_open le good' h') = absurd (omega arith)
     one_answer n {w = w} parsed means (cut_off le good none h) (bad_byte v bad lv h') = absurd (bad (long_good n w w (refl_front w) le good))
     one_answer n {w = w} parsed means (cut_off le good none h) (too_long lt good' h') = absurd (omega arith)
-    one_answer n {w = w} parsed means (cut_off {text = s} le good none h) (cut_off {text = t} le' good' none' h') = ap (λ x. stopped x (length w) at_end) (one_said w s t h h')
+    one_answer n {w = w} parsed means (cut_off {text = s} le good none h) (cut_off {text = t} le' good' none' h') = ap (λ x. stopped_answer x (length w) at_end) (one_said w s t h h')
     one_answer n {w = w} parsed means (cut_off le good none h) (whole {text = t} le' m) = absurd (none (parsed w t m))
     one_answer n {w = w} parsed means (whole {text = s} le m) (bad_byte v bad lv h') = absurd (bad (long_good n w w (refl_front w) le (o.good w s m)))
     one_answer n {w = w} parsed means (whole le m) (too_long lt good h') = absurd (omega arith)

@@ -3,7 +3,7 @@ use Rattle.std.proofs.Common.{◌≡◌, ℕ, List, [], ◌∷◌, ◌++◌, inl
 use Rattle.kex_code.specs.declared.symbol.Symbol.{Symbol}
 use Rattle.kex_code.specs.declared.symbol.Symbol.TheVariants.{Byte}
 use Rattle.kex_code.specs.Codes.{bytes_of, IsAmong}
-use Rattle.kex_model.specs.Moves.{Move, Step, symbol_of, took, chose, went, entered, symbols_of, code_of, Walk}
+use Rattle.kex_model.specs.Moves.{Move, Step, symbol_of, took, chose, went, target_of, symbols_of, code_of, Walk}
 use Rattle.kex_model.specs.Survivors.{NoReturn, Reaches, LeadsToEnd, Survives, IsViable, Agreed}
 use Rattle.kex_model.specs.Alike.{SameLabel, Alike}
 use Rattle.kex_model.proofs.Derivations.{walk-append}
@@ -22,7 +22,7 @@ same_symbols (went e s) (chose y t) h = absurd h
 module _ {S T : Type 0} (f : S → Move S) (g : T → Move T) (R : S → T → Type 0) where
   abbrev pub Paired : List (Step S) → List (Step T) → Type 0
   Paired [] [] = Unit {0}
-  Paired (k ∷ ks) (j ∷ js) = SameLabel k j × R (entered k) (entered j) × Paired ks js
+  Paired (k ∷ ks) (j ∷ js) = SameLabel k j × R (target_of k) (target_of j) × Paired ks js
   Paired [] (j ∷ js) = ⊥
   Paired (k ∷ ks) [] = ⊥
 
@@ -36,16 +36,16 @@ module _ {S T : Type 0} (f : S → Move S) (g : T → Move T) (R : S → T → T
     pub walk_ahead : (ks : List (Step S)) (s p : S) (t : T) → Walk f s ks p → LeadsToEnd f p → R s t → (js : List (Step T)) × (q : T) × Walk g t js q × R p q × Paired ks js
     walk_ahead [] s p t w end r = ([], t, refl, subst (λ z. R z t) w r, tt)
     walk_ahead (k ∷ ks) s p t w end r =
-        let after : LeadsToEnd f (entered k) = (ks ++ end.0, end.1, walk-append f ks end.0 (entered k) p end.1 w.1 end.2, end.3) in
+        let after : LeadsToEnd f (target_of k) = (ks ++ end.0, end.1, walk-append f ks end.0 (target_of k) p end.1 w.1 end.2, end.3) in
         let x = a.ahead s t k r w.0 after in
-        let y = walk_ahead ks (entered k) p (entered x.0) w.1 end x.3 in
+        let y = walk_ahead ks (target_of k) p (target_of x.0) w.1 end x.3 in
         (x.0 ∷ y.0, y.1, (x.1, y.2), y.3, (x.2, x.3, y.4))
 
     pub walk_back : (js : List (Step T)) (s : S) (t q : T) → Walk g t js q → R s t → (ks : List (Step S)) × (p : S) × Walk f s ks p × R p q × Paired ks js
     walk_back [] s t q w r = ([], s, refl, subst (λ z. R s z) w r, tt)
     walk_back (j ∷ js) s t q w r =
         let x = a.back s t j r w.0 in
-        let y = walk_back js (entered x.0) (entered j) q w.1 x.3 in
+        let y = walk_back js (target_of x.0) (target_of j) q w.1 x.3 in
         (x.0 ∷ y.0, y.1, (x.1, y.2), y.3, (x.2, x.3, y.4))
 
     -- one list of places is as the other

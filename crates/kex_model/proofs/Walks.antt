@@ -4,7 +4,7 @@ use Rattle.std.proofs.lemmas.List.{append_cancel_left}
 use Rattle.kex_code.specs.declared.symbol.Symbol.{Symbol}
 use Rattle.kex_code.specs.declared.symbol.Symbol.TheVariants.{L, R, Byte}
 use Rattle.kex_code.specs.Codes.{bytes_of}
-use Rattle.kex_model.specs.Moves.{Move, Step, Allows, reads, goes_left, goes_right, goes_forced, goes, entered, symbols_of, code_of, Walk, Waits, IsWaiting}
+use Rattle.kex_model.specs.Moves.{Move, Step, Allows, reads, goes_left, goes_right, goes_forced, goes, target_of, symbols_of, code_of, Walk, Waits, IsWaiting}
 
 pub bytes_of-append : (c d : List Symbol) → bytes_of (c ++ d) ≡ bytes_of c ++ bytes_of d
 bytes_of-append [] d = refl
@@ -42,5 +42,5 @@ module _ {S : Type 0} (moves : S → Move S) where
   one_walk (j ∷ js) (k ∷ ks) s p q x wj wk hp hq e none =
       let shown : symbols_of j ++ (code_of js ++ x) ≡ symbols_of k ++ code_of ks = sym (e ∙ append_assoc (symbols_of j) (code_of js) x) in
       let same : j ≡ k = step_from_code (code_of js ++ x) (code_of ks) wj.0 wk.0 shown in
-      let others : js ≡ ks = one_walk js ks (entered j) p q x wj.1 (rw same wk.1) hp hq (append_cancel_left (symbols_of k) _ _ (sym (rw same at shown))) none in
+      let others : js ≡ ks = one_walk js ks (target_of j) p q x wj.1 (rw same wk.1) hp hq (append_cancel_left (symbols_of k) _ _ (sym (rw same at shown))) none in
       cc

@@ -55,8 +55,8 @@ pub record Answer : Type 0 where
   pub ended : Bool
   pub stop : Option Stop
 
-abbrev pub stopped : List ℕ → ℕ → Why → Answer
-stopped text at why = record { text = text; ended = false; stop = Some (record { at = at; why = why }) }
+abbrev pub stopped_answer : List ℕ → ℕ → Why → Answer
+stopped_answer text at why = record { text = text; ended = false; stop = Some (record { at = at; why = why }) }
 
 -- a stage by what is viable, what is said, what has a parse and what is meant, over places or nodes
 module _ (CanGoOn : List ℕ → Type 0) (Says' : List ℕ → List ℕ → Type 0) (Parsed : List ℕ → Type 0) (Means' : List ℕ → List ℕ → Type 0) where
@@ -68,9 +68,9 @@ module _ (CanGoOn : List ℕ → Type 0) (Says' : List ℕ → List ℕ → Type
 
   -- the answer on a text that is ended (true) or open, within a limit
   pub data Answers (limit : ℕ) : List ℕ → Bool → Answer → Type 0 where
-    bad_byte : {w : List ℕ} {e : Bool} {text : List ℕ} (v : List ℕ) → (CanGoOn (take limit w) → ⊥) → LongestGood (take limit w) v → Says' v text → Answers limit w e (stopped text (length v) at_byte)
-    too_long : {w : List ℕ} {e : Bool} {text : List ℕ} → limit < length w → CanGoOn (take limit w) → Says' (take limit w) text → Answers limit w e (stopped text limit at_limit)
-    cut_off : {w text : List ℕ} → length w ≤ limit → CanGoOn w → (Parsed w → ⊥) → Says' w text → Answers limit w true (stopped text (length w) at_end)
+    bad_byte : {w : List ℕ} {e : Bool} {text : List ℕ} (v : List ℕ) → (CanGoOn (take limit w) → ⊥) → LongestGood (take limit w) v → Says' v text → Answers limit w e (stopped_answer text (length v) at_byte)
+    too_long : {w : List ℕ} {e : Bool} {text : List ℕ} → limit < length w → CanGoOn (take limit w) → Says' (take limit w) text → Answers limit w e (stopped_answer text limit at_limit)
+    cut_off : {w text : List ℕ} → length w ≤ limit → CanGoOn w → (Parsed w → ⊥) → Says' w text → Answers limit w true (stopped_answer text (length w) at_end)
     whole : {w text : List ℕ} → length w ≤ limit → Means' w text → Answers limit w true (record { text = text; ended = true; stop = None })
     still_open : {w text : List ℕ} → length w ≤ limit → CanGoOn w → Says' w text → Answers limit w false (record { text = text; ended = false; stop = None })
 
@@ -79,13 +79,13 @@ pub record Report : Type 0 where
   pub stop : Stop
 
 -- the later stage's report, or else this one's
-abbrev pub later : ℕ → Option Stop → Option Report → Option Report
-later i own (Some r) = Some r
-later i None None = None
-later i (Some s) None = Some (record { stage = i; stop = s })
+abbrev pub later_report : ℕ → Option Stop → Option Report → Option Report
+later_report i own (Some r) = Some r
+later_report i None None = None
+later_report i (Some s) None = Some (record { stage = i; stop = s })
 
 module _ {T : Type 0} (Gives : T → List ℕ → Bool → Answer → Type 0) where
   -- the text and the report of stages from number i on
   abbrev pub Pipeline : ℕ → List T → List ℕ → Bool → List ℕ → Option Report → Type 0
   Pipeline i [] w e text report = (text ≡ w) × (report ≡ None)
-  Pipeline i (s ∷ ss) w e text report = (a : Answer) × (rest : Option Report) × Gives s w e a × Pipeline (suc i) ss a.text a.ended text rest × (report ≡ later i a.stop rest)
+  Pipeline i (s ∷ ss) w e text report = (a : Answer) × (rest : Option Report) × Gives s w e a × Pipeline (suc i) ss a.text a.ended text rest × (report ≡ later_report i a.stop rest)

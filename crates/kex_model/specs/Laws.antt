@@ -5,7 +5,7 @@ use Rattle.kex_code.specs.declared.symbol.Symbol.{Symbol}
 use Rattle.kex_code.specs.Codes.{Begins, IsAmong}
 use Rattle.kex_code.specs.Registers.{Registers}
 use Rattle.kex_model.specs.Trees.{Tree, IsTree, Parses, kind_at, code, meaning, part}
-use Rattle.kex_model.specs.Acting.{acted}
+use Rattle.kex_model.specs.Acting.{after_steps}
 use Rattle.kex_model.specs.Moves.{Step, code_of}
 use Rattle.kex_model.specs.Places.{Place, moves, start_of, steps_of, HasEmptyLoop}
 use Rattle.kex_model.specs.Survivors.{IsPath, Agreed}
@@ -73,8 +73,8 @@ WholePart = (P : Grammar) (n : ℕ) (t : Tree) (regs : Registers) → IsTree P (
 
 -- a tree's part is what its steps do, with buffers: what is written, and the registers
 pub record DoneBySteps (P : Grammar) (root : ℕ) (t : Tree) (c : List Symbol) (regs : Registers) (out : List ℕ) : Type 0 where
-  pub written : (acted (steps_of P root (kind_at P root) t []) c (record { out = out; buffers = []; registers = regs })).out ≡ out ++ (part P (kind_at P root) t c regs).bytes
-  pub held : (acted (steps_of P root (kind_at P root) t []) c (record { out = out; buffers = []; registers = regs })).registers ≡ (part P (kind_at P root) t c regs).registers
+  pub written : (after_steps (steps_of P root (kind_at P root) t []) c (record { out = out; buffers = []; registers = regs })).out ≡ out ++ (part P (kind_at P root) t c regs).bytes
+  pub held : (after_steps (steps_of P root (kind_at P root) t []) c (record { out = out; buffers = []; registers = regs })).registers ≡ (part P (kind_at P root) t c regs).registers
 
 abbrev pub PartBySteps : Type 0
 PartBySteps = (P : Grammar) (root : ℕ) (t : Tree) (c : List Symbol) (regs : Registers) (out : List ℕ) → IsTree P (kind_at P root) t → DoneBySteps P root t c regs out

@@ -50,10 +50,10 @@ pub data Allows {S : Type 0} : Move S → Step S → Type 0 where
   goes_forced : {x : Side} {s : S} → Allows (forced x s) (chose x s)
   goes : {e : Effect} {s : S} → Allows (go e s) (went e s)
 
-abbrev pub entered : {S : Type 0} → Step S → S
-entered (took b s) = s
-entered (chose x s) = s
-entered (went e s) = s
+abbrev pub target_of : {S : Type 0} → Step S → S
+target_of (took b s) = s
+target_of (chose x s) = s
+target_of (went e s) = s
 
 -- the symbols of a step: one, or none
 abbrev pub symbols_of : {S : Type 0} → Step S → List Symbol
@@ -84,7 +84,7 @@ module _ {S : Type 0} (moves : S → Move S) where
   -- the steps lead from s to t
   abbrev pub Walk : S → List (Step S) → S → Type 0
   Walk s [] t = s ≡ t
-  Walk s (k ∷ ks) t = Allows (moves s) k × Walk (entered k) ks t
+  Walk s (k ∷ ks) t = Allows (moves s) k × Walk (target_of k) ks t
 
   -- a place that waits for a byte or the end
   abbrev pub Waits : S → Type 0

@@ -6,7 +6,7 @@ use Rattle.kex_model.specs.declared.program.Kind.TheVariants.{One, Lit, Class, C
 use Rattle.kex_model.specs.declared.frame.Frame.{Frame}
 use Rattle.kex_model.specs.declared.frame.Frame.TheVariants.{Pending, EndOf}
 use Rattle.kex_model.specs.Programs.{Grammar}
-use Rattle.kex_model.specs.Moves.{Move, Effect, accept, read, choose, go, nothing, append, open_buffer, drop_buffer, into, write, set_to, add_to, Step, to_left, to_right, took, chose, went, Allows, entered, code_of, Walk}
+use Rattle.kex_model.specs.Moves.{Move, Effect, accept, read, choose, go, nothing, append, open_buffer, drop_buffer, into, write, set_to, add_to, Step, to_left, to_right, took, chose, went, Allows, target_of, code_of, Walk}
 use Rattle.kex_model.specs.Trees.{kind_at, root_of, less, Tree, leaf, byte, pair, chose_left, chose_right, inner, turn, done}
 
 -- what is pending, the next first
@@ -62,7 +62,7 @@ start_of P root = enter P root ∷ []
 -- a stage's places
 pub data IsPlace (P : Grammar) (root : ℕ) : Place → Type 0 where
   at_start : IsPlace P root (start_of P root)
-  by_step : {p : Place} (k : Step Place) → IsPlace P root p → Allows (moves P p) k → IsPlace P root (entered k)
+  by_step : {p : Place} (k : Step Place) → IsPlace P root p → Allows (moves P p) k → IsPlace P root (target_of k)
   by_rest : {f : Frame} {p : Place} → IsPlace P root (f ∷ p) → IsPlace P root p
 
 -- a place is reached again from itself without a byte

@@ -3,7 +3,7 @@ use Rattle.std.specs.Prelude.{◌≡◌, ℕ, zero, suc, pred, ◌==◌, Bool, f
 use Rattle.kex_code.specs.declared.symbol.Symbol.{Symbol}
 use Rattle.kex_code.specs.declared.symbol.Symbol.TheVariants.{L, R, Byte}
 use Rattle.kex_code.specs.declared.piece.Piece.{Piece}
-use Rattle.kex_code.specs.Registers.{Registers, held, put, joined}
+use Rattle.kex_code.specs.Registers.{Registers, content_of, with_content, pieces_text}
 use Rattle.kex_model.specs.declared.program.Kind.{Kind}
 use Rattle.kex_model.specs.declared.program.Kind.TheVariants.{One, Lit, Class, Call, Seq, Alt, Rep, Mute, At, Write, Set, Add}
 use Rattle.kex_model.specs.declared.program.Node.{Node}
@@ -115,11 +115,11 @@ pub record Meaning : Type 0 where
 abbrev pub then_also : Meaning → (Registers → Meaning) → Meaning
 then_also m next = record { bytes = m.bytes ++ (next m.registers).bytes; registers = (next m.registers).registers }
 
-abbrev pub muted : Meaning → Meaning
-muted m = record { bytes = []; registers = m.registers }
+abbrev pub muted_meaning : Meaning → Meaning
+muted_meaning m = record { bytes = []; registers = m.registers }
 
-abbrev pub kept_in : ℕ → Meaning → Meaning
-kept_in r m = record { bytes = []; registers = put m.registers r m.bytes }
+abbrev pub kept_meaning : ℕ → Meaning → Meaning
+kept_meaning r m = record { bytes = []; registers = with_content m.registers r m.bytes }
 
 -- the meaning of a tree of this kind
 abbrev pub meaning : Grammar → Kind → Tree → Registers → Meaning
@@ -130,11 +130,11 @@ meaning P (Seq l r) (pair a b) regs = then_also (meaning P (kind_at P l) a regs)
 meaning P (Alt l r) (chose_left a) regs = meaning P (kind_at P l) a regs
 meaning P (Alt l r) (chose_right a) regs = meaning P (kind_at P r) a regs
 meaning P (Rep body min max) (turn a rest) regs = then_also (meaning P (kind_at P body) a regs) (meaning P (Rep body (pred min) (less max)) rest)
-meaning P (Mute n) (inner a) regs = muted (meaning P (kind_at P n) a regs)
-meaning P (At r n) (inner a) regs = kept_in r (meaning P (kind_at P n) a regs)
-meaning P (Write r) leaf regs = record { bytes = held regs r; registers = regs }
-meaning P (Set r parts) leaf regs = record { bytes = []; registers = put regs r (joined parts regs) }
-meaning P (Add r parts) leaf regs = record { bytes = []; registers = put regs r (held regs r ++ joined parts regs) }
+meaning P (Mute n) (inner a) regs = muted_meaning (meaning P (kind_at P n) a regs)
+meaning P (At r n) (inner a) regs = kept_meaning r (meaning P (kind_at P n) a regs)
+meaning P (Write r) leaf regs = record { bytes = content_of regs r; registers = regs }
+meaning P (Set r parts) leaf regs = record { bytes = []; registers = with_content regs r (pieces_text parts regs) }
+meaning P (Add r parts) leaf regs = record { bytes = []; registers = with_content regs r (content_of regs r ++ pieces_text parts regs) }
 meaning P _ _ regs = record { bytes = []; registers = regs }
 
 -- what is written with a part of a code, and what of the code is left, or none where a symbol was lacking
@@ -144,10 +144,10 @@ pub record Part : Type 0 where
   pub rest : Option (List Symbol)
 
 -- goes on behind a mark, or stops where the code lacks it
-abbrev pub behind : List Symbol → List Symbol → Registers → (List Symbol → Part) → Part
-behind [] c regs next = next c
-behind (x ∷ mark) [] regs next = record { bytes = []; registers = regs; rest = None }
-behind (x ∷ mark) (y ∷ c) regs next = next c
+abbrev pub part_behind : List Symbol → List Symbol → Registers → (List Symbol → Part) → Part
+part_behind [] c regs next = next c
+part_behind (x ∷ mark) [] regs next = record { bytes = []; registers = regs; rest = None }
+part_behind (x ∷ mark) (y ∷ c) regs next = next c
 
 -- goes on with what is left of the code, if it didn't stop
 abbrev pub go_on : List ℕ → Registers → Option (List Symbol) → (List Symbol → Registers → Part) → Part
@@ -163,7 +163,7 @@ muted_part p = record { bytes = []; registers = p.registers; rest = p.rest }
 -- the register keeps what it had where the part stopped
 abbrev pub put_whole : Registers → ℕ → List ℕ → Option (List Symbol) → Registers
 put_whole regs r s None = regs
-put_whole regs r s (Some c) = put regs r s
+put_whole regs r s (Some c) = with_content regs r s
 
 abbrev pub kept_part : ℕ → Part → Part
 kept_part r p = record { bytes = []; registers = put_whole p.registers r p.bytes p.rest; rest = p.rest }
@@ -171,16 +171,16 @@ kept_part r p = record { bytes = []; registers = put_whole p.registers r p.bytes
 -- what a tree of this kind writes with a code that it begins with
 abbrev pub part : Grammar → Kind → Tree → List Symbol → Registers → Part
 part P (Lit s) leaf c regs = record { bytes = s; registers = regs; rest = Some c }
-part P (Class set) (byte b) c regs = behind (Byte b ∷ []) c regs (λ d. record { bytes = b ∷ []; registers = regs; rest = Some d })
+part P (Class set) (byte b) c regs = part_behind (Byte b ∷ []) c regs (λ d. record { bytes = b ∷ []; registers = regs; rest = Some d })
 part P (Call name) (inner a) c regs = part P (kind_at P (root_of P name)) a c regs
 part P (Seq l r) (pair a b) c regs = then_part (part P (kind_at P l) a c regs) (part P (kind_at P r) b)
-part P (Alt l r) (chose_left a) c regs = behind (L ∷ []) c regs (λ d. part P (kind_at P l) a d regs)
-part P (Alt l r) (chose_right a) c regs = behind (R ∷ []) c regs (λ d. part P (kind_at P r) a d regs)
-part P (Rep body min max) (turn a rest) c regs = behind (turn_mark min) c regs (λ d. then_part (part P (kind_at P body) a d regs) (part P (Rep body (pred min) (less max)) rest))
-part P (Rep body min max) done c regs = behind (end_mark max) c regs (λ d. record { bytes = []; registers = regs; rest = Some d })
+part P (Alt l r) (chose_left a) c regs = part_behind (L ∷ []) c regs (λ d. part P (kind_at P l) a d regs)
+part P (Alt l r) (chose_right a) c regs = part_behind (R ∷ []) c regs (λ d. part P (kind_at P r) a d regs)
+part P (Rep body min max) (turn a rest) c regs = part_behind (turn_mark min) c regs (λ d. then_part (part P (kind_at P body) a d regs) (part P (Rep body (pred min) (less max)) rest))
+part P (Rep body min max) done c regs = part_behind (end_mark max) c regs (λ d. record { bytes = []; registers = regs; rest = Some d })
 part P (Mute n) (inner a) c regs = muted_part (part P (kind_at P n) a c regs)
 part P (At r n) (inner a) c regs = kept_part r (part P (kind_at P n) a c regs)
-part P (Write r) leaf c regs = record { bytes = held regs r; registers = regs; rest = Some c }
-part P (Set r parts) leaf c regs = record { bytes = []; registers = put regs r (joined parts regs); rest = Some c }
-part P (Add r parts) leaf c regs = record { bytes = []; registers = put regs r (held regs r ++ joined parts regs); rest = Some c }
+part P (Write r) leaf c regs = record { bytes = content_of regs r; registers = regs; rest = Some c }
+part P (Set r parts) leaf c regs = record { bytes = []; registers = with_content regs r (pieces_text parts regs); rest = Some c }
+part P (Add r parts) leaf c regs = record { bytes = []; registers = with_content regs r (content_of regs r ++ pieces_text parts regs); rest = Some c }
 part P _ _ c regs = record { bytes = []; registers = regs; rest = Some c }

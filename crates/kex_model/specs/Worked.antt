@@ -12,7 +12,7 @@ use Rattle.kex_model.specs.Labelled.{place, parts}
 use Rattle.kex_model.specs.Trees.{Tree, leaf, byte, pair, chose_left, chose_right, inner, turn, done, Parses, kind_at, meaning, part}
 use Rattle.kex_model.specs.Places.{moves, start_of}
 use Rattle.kex_model.specs.Survivors.{Agreed, HasShape}
-use Rattle.kex_model.specs.Answers.{empty, code_at, HasParse, GreedyParse, Means, Says, at_byte, at_end, at_limit, stopped}
+use Rattle.kex_model.specs.Answers.{empty, code_at, HasParse, GreedyParse, Means, Says, at_byte, at_end, at_limit, stopped_answer}
 use Rattle.kex_model.specs.Laws.{StageAnswers, StagesAnswer}
 
 -- the set of these bytes
@@ -31,8 +31,8 @@ grammar named kinds = record {
 }
 
 -- what a tree means at a node, with all registers empty
-abbrev pub written : Grammar → ℕ → Tree → List ℕ
-written P root t = (meaning P (kind_at P root) t (empty P)).bytes
+abbrev pub meant_bytes : Grammar → ℕ → Tree → List ℕ
+meant_bytes P root t = (meaning P (kind_at P root) t (empty P)).bytes
 
 -- main := "1" /ac/ | "2" /ab/
 abbrev pub late : Grammar
@@ -45,7 +45,7 @@ late_tree = chose_right (pair leaf (pair (byte 97) (byte 98)))
 pub record ChoiceIsLate : Type 0 where
   pub parses : Parses late 10 late_tree (97 ∷ 98 ∷ [])
   pub code : code_at late 10 late_tree ≡ R ∷ Byte 97 ∷ Byte 98 ∷ []
-  pub means : written late 10 late_tree ≡ 50 ∷ 97 ∷ 98 ∷ []
+  pub means : meant_bytes late 10 late_tree ≡ 50 ∷ 97 ∷ 98 ∷ []
   pub agreed : Agreed (moves late) (start_of late 10) (97 ∷ []) []
   pub said : Says late 10 (97 ∷ []) []
 
@@ -78,7 +78,7 @@ swap_tree = pair (inner (turn (byte 97) (turn (byte 98) done))) (pair (inner (by
 -- `ab,12` means `12,ab`
 pub record RegistersSwap : Type 0 where
   pub parses : Parses swap 15 swap_tree (97 ∷ 98 ∷ 44 ∷ 49 ∷ 50 ∷ [])
-  pub means : written swap 15 swap_tree ≡ 49 ∷ 50 ∷ 44 ∷ 97 ∷ 98 ∷ []
+  pub means : meant_bytes swap 15 swap_tree ≡ 49 ∷ 50 ∷ 44 ∷ 97 ∷ 98 ∷ []
 
 -- main := [r <- "a"] (~/x/ [r += r])* !r
 abbrev pub doubling : Grammar
@@ -90,7 +90,7 @@ doubling_tree = let once : Tree = pair (inner (byte 120)) leaf in pair leaf (pai
 -- `xxx` doubles the register three times
 pub record RegisterDoubles : Type 0 where
   pub parses : Parses doubling 8 doubling_tree (120 ∷ 120 ∷ 120 ∷ [])
-  pub means : written doubling 8 doubling_tree ≡ replicate 8 97
+  pub means : meant_bytes doubling 8 doubling_tree ≡ replicate 8 97
 
 -- main := ~(a@/x/) !a
 abbrev pub muted_register : Grammar
@@ -102,37 +102,37 @@ muted_tree = pair (inner (inner (byte 120))) leaf
 -- `x` goes into the register though it is muted, and not to the output
 pub record MuteKeepsRegisters : Type 0 where
   pub parses : Parses muted_register 4 muted_tree (120 ∷ [])
-  pub means : written muted_register 4 muted_tree ≡ 120 ∷ []
+  pub means : meant_bytes muted_register 4 muted_tree ≡ 120 ∷ []
 
 -- main := "p" r@(/a/ "q" /b/) "s" !r
-abbrev pub kept : Grammar
-kept = grammar 0 (Lit (112 ∷ []) ∷ Class (set_of (97 ∷ [])) ∷ Lit (113 ∷ []) ∷ Class (set_of (98 ∷ [])) ∷ Seq 2 3 ∷ Seq 1 4 ∷ At 0 5 ∷ Lit (115 ∷ []) ∷ Write 0 ∷ Seq 7 8 ∷ Seq 6 9 ∷ Seq 0 10 ∷ [])
+abbrev pub kept_register : Grammar
+kept_register = grammar 0 (Lit (112 ∷ []) ∷ Class (set_of (97 ∷ [])) ∷ Lit (113 ∷ []) ∷ Class (set_of (98 ∷ [])) ∷ Seq 2 3 ∷ Seq 1 4 ∷ At 0 5 ∷ Lit (115 ∷ []) ∷ Write 0 ∷ Seq 7 8 ∷ Seq 6 9 ∷ Seq 0 10 ∷ [])
 
 abbrev pub kept_tree : Tree
 kept_tree = pair leaf (pair (inner (pair (byte 97) (pair leaf (byte 98)))) (pair leaf leaf))
 
 -- `ab` means `psaqb`; with the code of `a` alone `p` is written, and the register that was begun stays as it was
 pub record RegisterIsWholeOrAsItWas : Type 0 where
-  pub parses : Parses kept 11 kept_tree (97 ∷ 98 ∷ [])
-  pub means : written kept 11 kept_tree ≡ 112 ∷ 115 ∷ 97 ∷ 113 ∷ 98 ∷ []
-  pub begun : part kept (kind_at kept 11) kept_tree (Byte 97 ∷ []) ((122 ∷ []) ∷ [] ∷ []) ≡ record { bytes = 112 ∷ []; registers = (122 ∷ []) ∷ [] ∷ []; rest = None }
+  pub parses : Parses kept_register 11 kept_tree (97 ∷ 98 ∷ [])
+  pub means : meant_bytes kept_register 11 kept_tree ≡ 112 ∷ 115 ∷ 97 ∷ 113 ∷ 98 ∷ []
+  pub begun : part kept_register (kind_at kept_register 11) kept_tree (Byte 97 ∷ []) ((122 ∷ []) ∷ [] ∷ []) ≡ record { bytes = 112 ∷ []; registers = (122 ∷ []) ∷ [] ∷ []; rest = None }
 
 -- main := (~/x/ "y"){2,3}
-abbrev pub counted : Grammar
-counted = grammar 0 (Class (set_of (120 ∷ [])) ∷ Mute 0 ∷ Lit (121 ∷ []) ∷ Seq 1 2 ∷ Rep 3 2 (Some 3) ∷ [])
+abbrev pub counted_loop : Grammar
+counted_loop = grammar 0 (Class (set_of (120 ∷ [])) ∷ Mute 0 ∷ Lit (121 ∷ []) ∷ Seq 1 2 ∷ Rep 3 2 (Some 3) ∷ [])
 
 abbrev pub counted_turn : Tree
 counted_turn = pair (inner (byte 120)) leaf
 
 -- the two turns that are needed bear no mark, a third has L, and the end has R unless three turns stand
 pub record TurnsAreCounted : Type 0 where
-  pub two : Parses counted 4 (turn counted_turn (turn counted_turn done)) (120 ∷ 120 ∷ [])
-  pub two_code : code_at counted 4 (turn counted_turn (turn counted_turn done)) ≡ Byte 120 ∷ Byte 120 ∷ R ∷ []
-  pub three : Parses counted 4 (turn counted_turn (turn counted_turn (turn counted_turn done))) (120 ∷ 120 ∷ 120 ∷ [])
-  pub three_code : code_at counted 4 (turn counted_turn (turn counted_turn (turn counted_turn done))) ≡ Byte 120 ∷ Byte 120 ∷ L ∷ Byte 120 ∷ []
-  pub one : HasParse counted 4 (120 ∷ []) → ⊥
-  pub four : HasParse counted 4 (120 ∷ 120 ∷ 120 ∷ 120 ∷ []) → ⊥
-  pub needed : moves counted (start_of counted 4) ≡ go nothing (Pending 3 0 None ∷ Pending 4 1 (Some 2) ∷ [])
+  pub two : Parses counted_loop 4 (turn counted_turn (turn counted_turn done)) (120 ∷ 120 ∷ [])
+  pub two_code : code_at counted_loop 4 (turn counted_turn (turn counted_turn done)) ≡ Byte 120 ∷ Byte 120 ∷ R ∷ []
+  pub three : Parses counted_loop 4 (turn counted_turn (turn counted_turn (turn counted_turn done))) (120 ∷ 120 ∷ 120 ∷ [])
+  pub three_code : code_at counted_loop 4 (turn counted_turn (turn counted_turn (turn counted_turn done))) ≡ Byte 120 ∷ Byte 120 ∷ L ∷ Byte 120 ∷ []
+  pub one : HasParse counted_loop 4 (120 ∷ []) → ⊥
+  pub four : HasParse counted_loop 4 (120 ∷ 120 ∷ 120 ∷ 120 ∷ []) → ⊥
+  pub needed : moves counted_loop (start_of counted_loop 4) ≡ go nothing (Pending 3 0 None ∷ Pending 4 1 (Some 2) ∷ [])
 
 -- f := /ab/, main := ~f | ~f
 abbrev pub muted_twice : Grammar
@@ -154,8 +154,8 @@ pub record TextsBreakOff : Type 0 where
   pub agreed : Agreed (moves breaks) (start_of breaks 5) (97 ∷ 98 ∷ []) (Byte 97 ∷ L ∷ Byte 98 ∷ [])
   pub said : Says breaks 5 (97 ∷ 98 ∷ []) (97 ∷ 98 ∷ [])
   pub so_far : StageAnswers breaks 5 9 (97 ∷ 98 ∷ []) false (record { text = 97 ∷ 98 ∷ []; ended = false; stop = None })
-  pub rejected : (ended : Bool) → StageAnswers breaks 5 9 (97 ∷ 98 ∷ 120 ∷ []) ended (stopped (97 ∷ 98 ∷ []) 2 at_byte)
-  pub cut_off : StageAnswers breaks 5 9 (97 ∷ 98 ∷ []) true (stopped (97 ∷ 98 ∷ []) 2 at_end)
+  pub rejected : (ended : Bool) → StageAnswers breaks 5 9 (97 ∷ 98 ∷ 120 ∷ []) ended (stopped_answer (97 ∷ 98 ∷ []) 2 at_byte)
+  pub cut_off : StageAnswers breaks 5 9 (97 ∷ 98 ∷ []) true (stopped_answer (97 ∷ 98 ∷ []) 2 at_end)
   pub whole : StageAnswers breaks 5 9 (97 ∷ 98 ∷ 99 ∷ []) true (record { text = 97 ∷ 98 ∷ 99 ∷ []; ended = true; stop = None })
 
 -- main := /a*/
@@ -165,7 +165,7 @@ stars = grammar 0 (Class (set_of (97 ∷ [])) ∷ Rep 0 0 None ∷ [])
 -- within 3 bytes `aaa` is whole; a fourth byte is too long, whatever it is
 pub record LimitStops : Type 0 where
   pub within : StageAnswers stars 1 3 (97 ∷ 97 ∷ 97 ∷ []) true (record { text = 97 ∷ 97 ∷ 97 ∷ []; ended = true; stop = None })
-  pub past : (b : ℕ) (ended : Bool) → StageAnswers stars 1 3 (97 ∷ 97 ∷ 97 ∷ b ∷ []) ended (stopped (97 ∷ 97 ∷ 97 ∷ []) 3 at_limit)
+  pub past : (b : ℕ) (ended : Bool) → StageAnswers stars 1 3 (97 ∷ 97 ∷ 97 ∷ b ∷ []) ended (stopped_answer (97 ∷ 97 ∷ 97 ∷ []) 3 at_limit)
 
 -- of the empty text the shape forks: another turn to the left, the end to the right
 pub record ShapeForks : Type 0 where

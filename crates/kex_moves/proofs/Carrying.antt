@@ -6,10 +6,10 @@ use Rattle.kex_code.specs.declared.symbol.Symbol.{Symbol}
 use Rattle.kex_model.specs.Acting.{State}
 use Rattle.kex_machine.specs.Nodes.{Graph}
 use Rattle.kex_action.specs.declared.sheet.Sheet.{Sheet}
-use Rattle.kex_action.specs.Holdings.{Holding, Leads, Does, adding, state_of}
+use Rattle.kex_action.specs.Holdings.{Holding, Leads, Does, with_bytes, state_of}
 use Rattle.kex_action.specs.Actors.{Position, WentOn}
-use Rattle.kex_action.specs.Actions.{done}
-use Rattle.kex_action.specs.Sheets.{topped, laid, AreMarks, IsSheet, IsBlank, state_with}
+use Rattle.kex_action.specs.Actions.{after_actions}
+use Rattle.kex_action.specs.Sheets.{with_buffer, with_marked_bytes, AreMarks, IsSheet, IsBlank, state_with}
 use Rattle.kex_action.proofs.Performing.{went_on, position}
 use Rattle.kex_action.proofs.Sheeting.{laid_none, laid_adds}
 use Rattle.kex_sst.specs.Tables.{Transducer}
@@ -17,7 +17,7 @@ use Rattle.kex_moves.specs.declared.edge.Edge.{Edge}
 use Rattle.kex_moves.specs.declared.edge.Kind.TheVariants.{Opens}
 use Rattle.kex_moves.specs.declared.edges.Pair.{Pair}
 use Rattle.kex_moves.specs.Edges.{writes, is_written}
-use Rattle.kex_moves.specs.Runs.{Stop, behind, run_of}
+use Rattle.kex_moves.specs.Runs.{Stop, stop_behind, run_of}
 use Rattle.kex_moves.specs.Known.{Known, rows_of, IsRowOf, HasRowFor, IsRight, IsKnown, Grows}
 use Rattle.kex_moves.specs.Along.{Goes, Reached, with_sheet, written_with, ReachedWith, ReachedOn}
 use Rattle.kex_moves.proofs.Going.{to_stop, reached_along, reached_act, goes_none, goes_more}
@@ -30,7 +30,7 @@ abbrev pub as_position : Position → ℕ → State → Position
 as_position a n z = record { machine = a.machine; at = n; holding = record { buffers = z.buffers; registers = z.registers }; refused = a.refused; usable = true }
 
 blank_state : (s : Sheet) (out : List ℕ) (h : Holding) → IsBlank s → state_with s out h ≡ state_of out h
-blank_state s out h b = ap₂ (λ n ms. laid (take n s.bytes.items) (reverse ms) (state_of out h)) b.0 b.1 ∙ laid_none (state_of out h)
+blank_state s out h b = ap₂ (λ n ms. with_marked_bytes (take n s.bytes.items) (reverse ms) (state_of out h)) b.0 b.1 ∙ laid_none (state_of out h)
 
 -- a sheet on which nothing stands
 pub blank_position : (a : Position) (n : ℕ) (s : Sheet) (out : List ℕ) → IsBlank s → n ≡ a.at → IsTrue a.usable → with_sheet a n s out ≡ a
@@ -56,9 +56,9 @@ moved a b n m s s' x y f machine refused e d does =
 record Put (k : Known) (s s' : Sheet) (row row' at : ℕ) (piece : List ℕ) : Type 0 where
   pub bytes : List ℕ
   pub stop : record { written = bytes; row = row'; left = drop at piece } ≡ run_of (rows_of k) row piece
-  pub adds : (out : List ℕ) (h : Holding) → state_with s' out h ≡ adding bytes (state_with s out h)
+  pub adds : (out : List ℕ) (h : Holding) → state_with s' out h ≡ with_bytes bytes (state_with s out h)
 
-put_by : (k : Known) (s s' : Sheet) (row row' at : ℕ) (piece : List ℕ) → IsSheet s → s'.marks.items ≡ s.marks.items → record { written = take s'.used s'.bytes.items; row = row'; left = drop at piece } ≡ behind (take s.used s.bytes.items) (run_of (rows_of k) row piece) → Put k s s' row row' at piece
+put_by : (k : Known) (s s' : Sheet) (row row' at : ℕ) (piece : List ℕ) → IsSheet s → s'.marks.items ≡ s.marks.items → record { written = take s'.used s'.bytes.items; row = row'; left = drop at piece } ≡ stop_behind (take s.used s.bytes.items) (run_of (rows_of k) row piece) → Put k s s' row row' at piece
 put_by k s s' row row' at piece h marks e =
     let stop = run_of (rows_of k) row piece in
     let before = take s.used s.bytes.items in
@@ -66,37 +66,37 @@ put_by k s s' row row' at piece h marks e =
     record {
       bytes = stop.written;
       stop = ap₂ (λ (r : ℕ) (l : List ℕ). record { written = stop.written; row = r; left = l }) (ap (λ (z : Stop). z.row) e) (ap (λ (z : Stop). z.left) e);
-      adds = λ out hold. ap₂ (λ b ms. laid b (reverse ms) (state_of out hold)) (ap (λ (z : Stop). z.written) e) marks ∙ laid_adds before stop.written (reverse s.marks.items) (state_of out hold) (subst (λ u. AreMarks u (reverse s.marks.items)) (sym n) h.marks);
+      adds = λ out hold. ap₂ (λ b ms. with_marked_bytes b (reverse ms) (state_of out hold)) (ap (λ (z : Stop). z.written) e) marks ∙ laid_adds before stop.written (reverse s.marks.items) (state_of out hold) (subst (λ u. AreMarks u (reverse s.marks.items)) (sym n) h.marks);
     }
 
 -- along a run
-pub reached_run : (t : Transducer) (k : Known) (a : Position) (s s' : Sheet) (row row' at : ℕ) (piece out : List ℕ) → IsKnown t a.machine k → ((i : ℕ) → get_or piece i 0 < 256) → IsSheet s → s'.marks.items ≡ s.marks.items → record { written = take s'.used s'.bytes.items; row = row'; left = drop at piece } ≡ behind (take s.used s.bytes.items) (run_of (rows_of k) row piece) → ReachedOn t k k a a s s' row row' (take at piece) out out
+pub reached_run : (t : Transducer) (k : Known) (a : Position) (s s' : Sheet) (row row' at : ℕ) (piece out : List ℕ) → IsKnown t a.machine k → ((i : ℕ) → get_or piece i 0 < 256) → IsSheet s → s'.marks.items ≡ s.marks.items → record { written = take s'.used s'.bytes.items; row = row'; left = drop at piece } ≡ stop_behind (take s.used s.bytes.items) (run_of (rows_of k) row piece) → ReachedOn t k k a a s s' row row' (take at piece) out out
 reached_run t k a s s' row row' at piece out known bytes sheet marks e q n h =
     let p = put_by k s s' row row' at piece sheet marks e in
     let ran = to_stop t a.machine k row h.0 piece (record { written = p.bytes; row = row'; left = drop at piece }) known h.1 bytes p.stop in
     let m = ran.to.node in
     record {
       node = m;
-      reached = reached_along t k (with_sheet a n s out) (with_sheet a m s' out) q at row' h.0 piece p.bytes (written_with a s out) (written_with a s' out) ran h.2 h.3 refl refl (λ d does. moved a a n m s s' out out (adding p.bytes) refl refl (p.adds out a.holding) d does);
+      reached = reached_along t k (with_sheet a n s out) (with_sheet a m s' out) q at row' h.0 piece p.bytes (written_with a s out) (written_with a s' out) ran h.2 h.3 refl refl (λ d does. moved a a n m s s' out out (with_bytes p.bytes) refl refl (p.adds out a.holding) d does);
     }
 
 -- where an edge's actions are done
-pub reached_acts : (t : Transducer) (k : Known) (a b : Position) (s s' : Sheet) (row class byte : ℕ) (e : Edge) (x y : List ℕ) → slice_get t.classes byte ≡ Some class → ((p : Pair) → IsRowOf k row p → IsRight t a.machine.nodes k p class e) → is_written e.kind ≡ false → b.machine ≡ a.machine → b.refused ≡ a.refused → state_with s' y b.holding ≡ done a.machine.nodes byte (take e.adds (drop e.from k.acts)) (state_with s x a.holding) → ReachedOn t k k a b s s' row e.next (byte ∷ []) x y
+pub reached_acts : (t : Transducer) (k : Known) (a b : Position) (s s' : Sheet) (row class byte : ℕ) (e : Edge) (x y : List ℕ) → slice_get t.classes byte ≡ Some class → ((p : Pair) → IsRowOf k row p → IsRight t a.machine.nodes k p class e) → is_written e.kind ≡ false → b.machine ≡ a.machine → b.refused ≡ a.refused → state_with s' y b.holding ≡ after_actions a.machine.nodes byte (take e.adds (drop e.from k.acts)) (state_with s x a.holding) → ReachedOn t k k a b s s' row e.next (byte ∷ []) x y
 reached_acts t k a b s s' row class byte e x y is right acts machine refused did q n h =
     let r = right h.0 h.1 in
     let m = r.to.node in
     record {
       node = m;
-      reached = subst (λ z. Reached t k (with_sheet a n s x) (with_sheet b m s' y) z e.next (byte ∷ []) (written_with a s x) (written_with b s' y)) h.2 (reached_act t k (with_sheet a n s x) (with_sheet b m s' y) h.0 class byte e (written_with a s x) (written_with b s' y) is r acts h.3 machine refl (λ d does. moved a b n m s s' x y (done a.machine.nodes byte (take e.adds (drop e.from k.acts))) machine refused did d does));
+      reached = subst (λ z. Reached t k (with_sheet a n s x) (with_sheet b m s' y) z e.next (byte ∷ []) (written_with a s x) (written_with b s' y)) h.2 (reached_act t k (with_sheet a n s x) (with_sheet b m s' y) h.0 class byte e (written_with a s x) (written_with b s' y) is r acts h.3 machine refl (λ d does. moved a b n m s s' x y (after_actions a.machine.nodes byte (take e.adds (drop e.from k.acts))) machine refused did d does));
     }
 
 -- where an edge opens a buffer
-pub reached_opens : (t : Transducer) (k : Known) (a : Position) (s s' : Sheet) (row class byte : ℕ) (e : Edge) (x : List ℕ) → slice_get t.classes byte ≡ Some class → ((p : Pair) → IsRowOf k row p → IsRight t a.machine.nodes k p class e) → e.kind ≡ Opens → ((out : List ℕ) (h : Holding) → state_with s' out h ≡ topped (byte ∷ []) (state_with s out h)) → ReachedOn t k k a a s s' row e.next (byte ∷ []) x x
+pub reached_opens : (t : Transducer) (k : Known) (a : Position) (s s' : Sheet) (row class byte : ℕ) (e : Edge) (x : List ℕ) → slice_get t.classes byte ≡ Some class → ((p : Pair) → IsRowOf k row p → IsRight t a.machine.nodes k p class e) → e.kind ≡ Opens → ((out : List ℕ) (h : Holding) → state_with s' out h ≡ with_buffer (byte ∷ []) (state_with s out h)) → ReachedOn t k k a a s s' row e.next (byte ∷ []) x x
 reached_opens t k a s s' row class byte e x is right opens opened q n h =
     let z = state_with s x a.holding in
-    let acts = done a.machine.nodes byte (take e.adds (drop e.from k.acts)) z in
+    let acts = after_actions a.machine.nodes byte (take e.adds (drop e.from k.acts)) z in
     let unwritten : is_written e.kind ≡ false = ap is_written opens in
-    let made : topped (byte ∷ []) z ≡ acts = sym ((right h.0 h.1).opens opens byte z) ∙ ap (λ w. cond w (adding (writes k.text e byte) z) acts) unwritten in
+    let made : with_buffer (byte ∷ []) z ≡ acts = sym ((right h.0 h.1).opens opens byte z) ∙ ap (λ w. cond w (with_bytes (writes k.text e byte) z) acts) unwritten in
     reached_acts t k a a s s' row class byte e x x is right unwritten refl refl (opened x a.holding ∙ made) q n h
 
 -- where nothing is taken

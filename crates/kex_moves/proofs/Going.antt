@@ -10,20 +10,20 @@ use Rattle.kex_model.specs.Moves.{code_of}
 use Rattle.kex_model.specs.Acting.{State}
 use Rattle.kex_machine.specs.declared.MNode.{MNode}
 use Rattle.kex_machine.specs.Nodes.{Graph}
-use Rattle.kex_action.specs.Holdings.{Leads, Does, adding}
+use Rattle.kex_action.specs.Holdings.{Leads, Does, with_bytes}
 use Rattle.kex_action.specs.Actors.{Position, HasPerformed, BeginsRun, WentOn}
-use Rattle.kex_action.specs.Actions.{done}
+use Rattle.kex_action.specs.Actions.{after_actions}
 use Rattle.kex_action.proofs.Leading.{leads_on, stays}
 use Rattle.kex_action.proofs.Performing.{goes_from}
-use Rattle.kex_sst.specs.Parts.{meant}
+use Rattle.kex_sst.specs.Parts.{parts_code}
 use Rattle.kex_sst.specs.Tables.{Transducer}
-use Rattle.kex_sst.specs.Passes.{transition_at, next_of, stepped, passes_if}
+use Rattle.kex_sst.specs.Passes.{transition_at, next_of, next_pass, passes_if}
 use Rattle.kex_sst.proofs.Passing.{passes_more}
 use Rattle.kex_moves.specs.declared.edge.Edge.{Edge}
 use Rattle.kex_moves.specs.declared.edges.Pair.{Pair}
 use Rattle.kex_moves.specs.Edges.{writes, is_written, is_known}
 use Rattle.kex_moves.specs.Runs as runs
-use Rattle.kex_moves.specs.Runs.{Stop, by_edge, step_of, behind, on_step, run_of}
+use Rattle.kex_moves.specs.Runs.{Stop, by_edge, step_of, stop_behind, on_step, run_of}
 use Rattle.kex_moves.specs.Walks.{Takes, code_at}
 use Rattle.kex_moves.specs.Known.{Known, rows_of, IsRowOf, IsRight, IsKnown, makes}
 use Rattle.kex_moves.specs.Along.{bare, Goes, Reached, RunsOn}
@@ -54,8 +54,8 @@ stands k row b w lt h = by_edge_is (slice_get k.edges (row + get_or k.classes b 
 pub one_pass : (t : Transducer) (nodes : List MNode) (k : Known) (p : Pair) (class b : ℕ) (e : Edge) (c : List Symbol) (bs : List ℕ) → slice_get t.classes b ≡ Some class → (r : IsRight t nodes k p class e) → passes_if t (Some (bare p.state c)) (b ∷ bs) ≡ passes_if t (Some (bare r.to.state (c ++ code_at b r.by.update.out))) bs
 one_pass t nodes k p class b e c bs is r =
     let next : next_of t p.state b ≡ Some r.by = ap (transition_at t p.state) is ∙ r.goes in
-    let left : stepped (Some r.by) b (bare p.state c) ≡ Some (bare r.to.state (c ++ code_at b r.by.update.out)) = ap₂ (λ (q : ℕ) (regs : List (List Symbol)). Some (record { state = q; code = c ++ code_at b r.by.update.out; registers = regs })) (sym r.target) (ap (map (λ xs. meant [] b xs)) r.bare) in
-    ap (λ o. passes_if t (stepped o b (bare p.state c)) bs) next ∙ ap (λ o. passes_if t o bs) left
+    let left : next_pass (Some r.by) b (bare p.state c) ≡ Some (bare r.to.state (c ++ code_at b r.by.update.out)) = ap₂ (λ (q : ℕ) (regs : List (List Symbol)). Some (record { state = q; code = c ++ code_at b r.by.update.out; registers = regs })) (sym r.target) (ap (map (λ xs. parts_code [] b xs)) r.bare) in
+    ap (λ o. passes_if t (next_pass o b (bare p.state c)) bs) next ∙ ap (λ o. passes_if t o bs) left
 
 -- a run from the row of a pair
 pub record RunsTo (t : Transducer) (nodes : List MNode) (k : Known) (p : Pair) (bs : List ℕ) (stop : Stop) : Type 0 where
@@ -65,7 +65,7 @@ pub record RunsTo (t : Transducer) (nodes : List MNode) (k : Known) (p : Pair) (
   pub parts : bs ≡ gone ++ stop.left
   pub said : List Symbol
   pub passed : (c : List Symbol) → passes_if t (Some (bare p.state c)) gone ≡ Some (bare to.state (c ++ said))
-  pub does : (x : List Symbol) → Takes nodes p.node (said ++ x) → Does nodes p.node said to.node (adding stop.written)
+  pub does : (x : List Symbol) → Takes nodes p.node (said ++ x) → Does nodes p.node said to.node (with_bytes stop.written)
   pub takes : (x : List Symbol) → Takes nodes p.node (said ++ x) → Takes nodes to.node x
 
 runs_none : (t : Transducer) (nodes : List MNode) (k : Known) (p : Pair) (row : ℕ) (bs : List ℕ) → IsRowOf k row p → RunsTo t nodes k p bs (record { written = []; row = row; left = bs })
@@ -80,10 +80,10 @@ runs_none t nodes k p row bs r = record {
   takes = λ x takes. takes;
 }
 
-runs_more : (t : Transducer) (nodes : List MNode) (k : Known) (p : Pair) (class b : ℕ) (e : Edge) (bs : List ℕ) (stop : Stop) → slice_get t.classes b ≡ Some class → is_written e.kind ≡ true → (r : IsRight t nodes k p class e) → RunsTo t nodes k r.to bs stop → RunsTo t nodes k p (b ∷ bs) (behind (writes k.text e b) stop)
+runs_more : (t : Transducer) (nodes : List MNode) (k : Known) (p : Pair) (class b : ℕ) (e : Edge) (bs : List ℕ) (stop : Stop) → slice_get t.classes b ≡ Some class → is_written e.kind ≡ true → (r : IsRight t nodes k p class e) → RunsTo t nodes k r.to bs stop → RunsTo t nodes k p (b ∷ bs) (stop_behind (writes k.text e b) stop)
 runs_more t nodes k p class b e bs stop is written r q =
     let first = code_at b r.by.update.out in
-    let made = λ (s : State). ap (λ x. cond x (adding (writes k.text e b) s) (done nodes b (take e.adds (drop e.from k.acts)) s)) written in
+    let made = λ (s : State). ap (λ x. cond x (with_bytes (writes k.text e b) s) (after_actions nodes b (take e.adds (drop e.from k.acts)) s)) written in
     record {
       to = q.to;
       row = q.row;
@@ -93,10 +93,10 @@ runs_more t nodes k p class b e bs stop is written r q =
       passed = λ c. one_pass t nodes k p class b e c q.gone is r ∙ q.passed (c ++ first) ∙ ap (λ l. Some (bare q.to.state l)) (append_assoc c first q.said);
       does = λ x takes s.
           let here = subst (λ l. Takes nodes p.node l) (append_assoc first q.said x) takes in
-          let middle = adding (writes k.text e b) s in
+          let middle = with_bytes (writes k.text e b) s in
           let one = subst (λ z. Leads nodes p.node s first r.to.node z) (made s) (r.does b (q.said ++ x) here s) in
           let rest = q.does x (r.takes b (q.said ++ x) here) middle in
-          subst (λ z. Leads nodes p.node s (first ++ q.said) q.to.node z) (adding_more (writes k.text e b) stop.written s) (leads_on nodes p.node r.to.node q.to.node first q.said s middle (adding stop.written middle) one rest);
+          subst (λ z. Leads nodes p.node s (first ++ q.said) q.to.node z) (adding_more (writes k.text e b) stop.written s) (leads_on nodes p.node r.to.node q.to.node first q.said s middle (with_bytes stop.written middle) one rest);
       takes = λ x takes. q.takes x (r.takes b (q.said ++ x) (subst (λ l. Takes nodes p.node l) (append_assoc first q.said x) takes));
     }
 
@@ -105,13 +105,13 @@ runs_to t g k row p [] h r all = runs_none t g.nodes k p row [] r
 runs_to t g k row p (b ∷ bs) h r all = by (step_of (rows_of k) row b) refl (λ row p r. runs_to t g k row p bs h r (λ i d lt. all (suc i) d (omega arith)))
   where
     by : (o : Option runs.Step) → step_of (rows_of k) row b ≡ o → ((row : ℕ) (p : Pair) → IsRowOf k row p → RunsTo t g.nodes k p bs (run_of (rows_of k) row bs)) → RunsTo t g.nodes k p (b ∷ bs) (run_of (rows_of k) row (b ∷ bs))
-    by None e more = subst (λ o. RunsTo t g.nodes k p (b ∷ bs) (on_step (record { written = []; row = row; left = b ∷ bs }) (λ w. behind w.writes (run_of (rows_of k) w.row bs)) o)) (sym e) (runs_none t g.nodes k p row (b ∷ bs) r)
+    by None e more = subst (λ o. RunsTo t g.nodes k p (b ∷ bs) (on_step (record { written = []; row = row; left = b ∷ bs }) (λ w. stop_behind w.writes (run_of (rows_of k) w.row bs)) o)) (sym e) (runs_none t g.nodes k p row (b ∷ bs) r)
     by (Some w) e more =
         let f = stands k row b w (all 0 0 (omega arith)) e in
         let right = h.right r.number f.class p f.edge r.at (at_of (λ c. c < k.width) k.classes b f.class h.ordered.classes f.class_is) (ap (λ x. slice_get k.edges (x + f.class)) (sym r.begins) ∙ f.edge_is) (known_if f.edge.kind f.written) in
         let class : slice_get t.classes b ≡ Some f.class = ap (λ l. slice_get l b) (sym h.classes) ∙ f.class_is in
         let rest = runs_more t g.nodes k p f.class b f.edge bs (run_of (rows_of k) f.edge.next bs) class f.written right (more f.edge.next right.to right.row) in
-        let same : run_of (rows_of k) row (b ∷ bs) ≡ behind (writes k.text f.edge b) (run_of (rows_of k) f.edge.next bs) = ap (on_step (record { written = []; row = row; left = b ∷ bs }) (λ w. behind w.writes (run_of (rows_of k) w.row bs))) e ∙ ap (λ (x : runs.Step). behind x.writes (run_of (rows_of k) x.row bs)) f.step in
+        let same : run_of (rows_of k) row (b ∷ bs) ≡ stop_behind (writes k.text f.edge b) (run_of (rows_of k) f.edge.next bs) = ap (on_step (record { written = []; row = row; left = b ∷ bs }) (λ w. stop_behind w.writes (run_of (rows_of k) w.row bs))) e ∙ ap (λ (x : runs.Step). stop_behind x.writes (run_of (rows_of k) x.row bs)) f.step in
         subst (λ s. RunsTo t g.nodes k p (b ∷ bs) s) (sym same) rest
 
 -- what is gone before the rest
@@ -167,14 +167,14 @@ pub to_stop : (t : Transducer) (g : Graph) (k : Known) (row : ℕ) (p : Pair) (p
 to_stop t g k row p piece stop h r bytes e = subst (λ s. RunsTo t g.nodes k p piece s) (sym e) (runs_to t g k row p piece h r (All-from_get_or (λ b. b < length k.classes) piece 0 (λ i lt. omega (arith, h.ordered.bytes, bytes i))))
 
 -- the actor that has gone where a run leads and has written what it wrote
-pub reached_along : (t : Transducer) (k : Known) (old new : Position) (q at row : ℕ) (p : Pair) (piece bytes xs ys : List ℕ) (ran : RunsTo t old.machine.nodes k p piece (record { written = bytes; row = row; left = drop at piece })) → p.state ≡ q → p.node ≡ old.at → new.machine ≡ old.machine → new.at ≡ ran.to.node → ((d : List Symbol) → Does old.machine.nodes old.at d new.at (adding bytes) → WentOn old new d d xs ys) → Reached t k old new q row (take at piece) xs ys
+pub reached_along : (t : Transducer) (k : Known) (old new : Position) (q at row : ℕ) (p : Pair) (piece bytes xs ys : List ℕ) (ran : RunsTo t old.machine.nodes k p piece (record { written = bytes; row = row; left = drop at piece })) → p.state ≡ q → p.node ≡ old.at → new.machine ≡ old.machine → new.at ≡ ran.to.node → ((d : List Symbol) → Does old.machine.nodes old.at d new.at (with_bytes bytes) → WentOn old new d d xs ys) → Reached t k old new q row (take at piece) xs ys
 reached_along t k old new q at row p piece bytes xs ys ran state node machine there went = record {
   state = ran.to.state;
   row_for = (ran.to, ran.row, refl, sym there);
   goes = record {
     said = ran.said;
     passed = λ c. subst (λ l. passes_if t (Some (bare q c)) l ≡ Some (bare ran.to.state (c ++ ran.said))) (gone_is ran.gone (drop at piece) piece at ran.parts refl) (subst (λ s. passes_if t (Some (bare s c)) ran.gone ≡ Some (bare ran.to.state (c ++ ran.said))) state (ran.passed c));
-    went = λ x takes. went ran.said (λ before. subst (λ n. Leads old.machine.nodes old.at before ran.said n (adding bytes before)) (sym there) (subst (λ n. Leads old.machine.nodes n before ran.said ran.to.node (adding bytes before)) node (ran.does x (from x takes) before)));
+    went = λ x takes. went ran.said (λ before. subst (λ n. Leads old.machine.nodes old.at before ran.said n (with_bytes bytes before)) (sym there) (subst (λ n. Leads old.machine.nodes n before ran.said ran.to.node (with_bytes bytes before)) node (ran.does x (from x takes) before)));
     takes = λ x takes. subst (λ m. Takes m.nodes new.at x) (sym machine) (subst (λ n. Takes old.machine.nodes n x) (sym there) (ran.takes x (from x takes)));
   };
 }
@@ -187,7 +187,7 @@ pub right_at : (t : Transducer) (g : Graph) (k : Known) (row class : ℕ) (p : P
 right_at t g k row class p e h r lt is known = h.right r.number class p e r.at lt (ap (λ x. slice_get k.edges (x + class)) (sym r.begins) ∙ is) known
 
 -- the actor that has gone where an edge leads and has done its actions
-pub reached_act : (t : Transducer) (k : Known) (old new : Position) (p : Pair) (class b : ℕ) (e : Edge) (xs ys : List ℕ) → slice_get t.classes b ≡ Some class → (r : IsRight t old.machine.nodes k p class e) → is_written e.kind ≡ false → p.node ≡ old.at → new.machine ≡ old.machine → new.at ≡ r.to.node → ((d : List Symbol) → Does old.machine.nodes old.at d new.at (done old.machine.nodes b (take e.adds (drop e.from k.acts))) → WentOn old new d d xs ys) → Reached t k old new p.state e.next (b ∷ []) xs ys
+pub reached_act : (t : Transducer) (k : Known) (old new : Position) (p : Pair) (class b : ℕ) (e : Edge) (xs ys : List ℕ) → slice_get t.classes b ≡ Some class → (r : IsRight t old.machine.nodes k p class e) → is_written e.kind ≡ false → p.node ≡ old.at → new.machine ≡ old.machine → new.at ≡ r.to.node → ((d : List Symbol) → Does old.machine.nodes old.at d new.at (after_actions old.machine.nodes b (take e.adds (drop e.from k.acts))) → WentOn old new d d xs ys) → Reached t k old new p.state e.next (b ∷ []) xs ys
 reached_act t k old new p class b e xs ys is r acts node machine there went = record {
   state = r.to.state;
   row_for = (r.to, r.row, refl, sym there);
@@ -202,8 +202,8 @@ reached_act t k old new p class b e xs ys is r acts node machine there went = re
     code : List Symbol
     code = code_at b r.by.update.out
 
-    made : (s : State) → makes old.machine.nodes k e b s ≡ done old.machine.nodes b (take e.adds (drop e.from k.acts)) s
-    made s = ap (λ x. cond x (adding (writes k.text e b) s) (done old.machine.nodes b (take e.adds (drop e.from k.acts)) s)) acts
+    made : (s : State) → makes old.machine.nodes k e b s ≡ after_actions old.machine.nodes b (take e.adds (drop e.from k.acts)) s
+    made s = ap (λ x. cond x (with_bytes (writes k.text e b) s) (after_actions old.machine.nodes b (take e.adds (drop e.from k.acts)) s)) acts
 
     from : (x : List Symbol) → Takes old.machine.nodes old.at (code ++ x) → Takes old.machine.nodes p.node (code ++ x)
     from x takes = subst (λ n. Takes old.machine.nodes n (code ++ x)) (sym node) takes

@@ -10,8 +10,8 @@ use Rattle.kex_model.specs.Acting.{State}
 use Rattle.kex_machine.specs.declared.MNode.{MNode}
 use Rattle.kex_machine.specs.Nodes.{Graph}
 use Rattle.kex_action.specs.declared.action.Action.{Action}
-use Rattle.kex_action.specs.Holdings.{Leads, adding}
-use Rattle.kex_action.specs.Actions.{done}
+use Rattle.kex_action.specs.Holdings.{Leads, with_bytes}
+use Rattle.kex_action.specs.Actions.{after_actions}
 use Rattle.kex_byteset.specs.Classes.{class_count}
 use Rattle.kex_sst.specs.declared.parts.Part.{Part}
 use Rattle.kex_sst.specs.declared.table.Transition.{Transition}
@@ -184,13 +184,13 @@ makes_long nodes k text acts e b s h known = by (is_written e.kind) refl
   where
     by : (x : Bool) → is_written e.kind ≡ x → makes nodes k e b s ≡ makes nodes (long k text acts) e b s
     by true is =
-        let first : makes nodes k e b s ≡ adding (writes k.text e b) s = ap (λ x. cond x (adding (writes k.text e b) s) (done nodes b (take e.adds (drop e.from k.acts)) s)) is in
-        let last : makes nodes (long k text acts) e b s ≡ adding (writes (k.text ++ text) e b) s = ap (λ x. cond x (adding (writes (k.text ++ text) e b) s) (done nodes b (take e.adds (drop e.from (k.acts ++ acts))) s)) is in
-        first ∙ ap (λ l. adding l s) (writes_long k.text text e b (h.room is)) ∙ sym last
+        let first : makes nodes k e b s ≡ with_bytes (writes k.text e b) s = ap (λ x. cond x (with_bytes (writes k.text e b) s) (after_actions nodes b (take e.adds (drop e.from k.acts)) s)) is in
+        let last : makes nodes (long k text acts) e b s ≡ with_bytes (writes (k.text ++ text) e b) s = ap (λ x. cond x (with_bytes (writes (k.text ++ text) e b) s) (after_actions nodes b (take e.adds (drop e.from (k.acts ++ acts))) s)) is in
+        first ∙ ap (λ l. with_bytes l s) (writes_long k.text text e b (h.room is)) ∙ sym last
     by false is =
-        let first : makes nodes k e b s ≡ done nodes b (take e.adds (drop e.from k.acts)) s = ap (λ x. cond x (adding (writes k.text e b) s) (done nodes b (take e.adds (drop e.from k.acts)) s)) is in
-        let last : makes nodes (long k text acts) e b s ≡ done nodes b (take e.adds (drop e.from (k.acts ++ acts))) s = ap (λ x. cond x (adding (writes (k.text ++ text) e b) s) (done nodes b (take e.adds (drop e.from (k.acts ++ acts))) s)) is in
-        first ∙ ap (λ l. done nodes b l s) (acts_long k.acts acts e (h.acts (acts_unless e.kind known is))) ∙ sym last
+        let first : makes nodes k e b s ≡ after_actions nodes b (take e.adds (drop e.from k.acts)) s = ap (λ x. cond x (with_bytes (writes k.text e b) s) (after_actions nodes b (take e.adds (drop e.from k.acts)) s)) is in
+        let last : makes nodes (long k text acts) e b s ≡ after_actions nodes b (take e.adds (drop e.from (k.acts ++ acts))) s = ap (λ x. cond x (with_bytes (writes (k.text ++ text) e b) s) (after_actions nodes b (take e.adds (drop e.from (k.acts ++ acts))) s)) is in
+        first ∙ ap (λ l. after_actions nodes b l s) (acts_long k.acts acts e (h.acts (acts_unless e.kind known is))) ∙ sym last
 
 pub known_longer : (t : Transducer) (g : Graph) (old new : Known) → IsKnown t g old → Lengthens old new → IsOrdered new → IsKnown t g new
 known_longer t g old new h l o = subst (λ k. IsKnown t g k) (sym l.longer) (record {
@@ -203,7 +203,7 @@ known_longer t g old new h l o = subst (λ k. IsKnown t g k) (sym l.longer) (rec
 pub grows_longer : (old mid new : Known) → Grows old mid → Lengthens mid new → Grows old new
 grows_longer old mid new g l = subst (λ k. Grows old k) (sym l.longer) (record { width = g.width; rows = λ row p r. rows_long mid l.text l.acts row p (g.rows row p r) })
 
-pub led : (nodes : List MNode) (mid new : Known) (state node next : ℕ) (actions : List Action) (e : Edge) → IsOrdered new → HasRowFor mid next state node → Lengthens mid new → Settles nodes new next (λ b. done nodes b actions) e → IsLed nodes new state node actions e
+pub led : (nodes : List MNode) (mid new : Known) (state node next : ℕ) (actions : List Action) (e : Edge) → IsOrdered new → HasRowFor mid next state node → Lengthens mid new → Settles nodes new next (λ b. after_actions nodes b actions) e → IsLed nodes new state node actions e
 led nodes mid new state node next actions e o r l s =
     let row = λ (known : is_known e.kind ≡ true). subst (λ x. IsRowOf new x r.0) (sym (s.goes known)) (subst (λ k. IsRowOf k next r.0) (sym l.longer) (rows_long mid l.text l.acts next r.0 r.1)) in
     record {
@@ -248,8 +248,8 @@ known_put t g k new row class p e h r lt right o is = subst (λ x. IsKnown t g x
         subst (λ x. IsRight t g.nodes k p' class' x) same (subst (λ x. IsRight t g.nodes k p' x e) both.1 (subst (λ x. IsRight t g.nodes k x class e) pair (right (ap (λ (x : Edge). is_known x.kind) same ∙ known))))
 
 -- an edge that was right is right as it stands in a row
-makes_at_row : (nodes : List MNode) (k : Known) (e : Edge) (b : ℕ) (s : State) → is_written e.kind ≡ true → makes nodes k e b s ≡ adding (writes k.text e b) s
-makes_at_row nodes k e b s w = ap (λ x. cond x (adding (writes k.text e b) s) (done nodes b (take e.adds (drop e.from k.acts)) s)) w
+makes_at_row : (nodes : List MNode) (k : Known) (e : Edge) (b : ℕ) (s : State) → is_written e.kind ≡ true → makes nodes k e b s ≡ with_bytes (writes k.text e b) s
+makes_at_row nodes k e b s w = ap (λ x. cond x (with_bytes (writes k.text e b) s) (after_actions nodes b (take e.adds (drop e.from k.acts)) s)) w
 
 abbrev as_text : Edge → Edge
 as_text e = record { next = e.next; from = e.from; byte_at = e.byte_at; adds = e.adds; kind = Text }
@@ -300,7 +300,7 @@ right_led t nodes k p class by out node actions e goes bare same l h known =
       to = r.0;
       row = r.1;
       target = r.2;
-      does = λ b c takes before. subst (λ z. Leads nodes p.node before (code_at b by.update.out) r.0.node z) (h.does known b before) (subst (λ n. Leads nodes p.node before (code_at b by.update.out) n (done nodes b actions before)) (sym r.3) (learns.does b c takes before));
+      does = λ b c takes before. subst (λ z. Leads nodes p.node before (code_at b by.update.out) r.0.node z) (h.does known b before) (subst (λ n. Leads nodes p.node before (code_at b by.update.out) n (after_actions nodes b actions before)) (sym r.3) (learns.does b c takes before));
       takes = λ b c takes. subst (λ n. Takes nodes n c) (sym r.3) (learns.takes b c takes);
       opens = h.opens;
     }

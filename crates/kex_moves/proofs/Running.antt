@@ -11,7 +11,7 @@ use Rattle.kex_moves.specs.declared.edge.Edge.{Edge}
 use Rattle.kex_moves.specs.declared.edge.Kind.{Kind}
 use Rattle.kex_moves.specs.declared.edge.Kind.TheVariants.{Keep, Drop}
 use Rattle.kex_moves.specs.Edges.{writes, is_written, HasRoom, IsAtRow}
-use Rattle.kex_moves.specs.Runs.{Rows, Step, HasRow, LeadsBack, HasKind, HasRoomBelow, IsWithin, by_edge, step_of, behind, on_step, run_of}
+use Rattle.kex_moves.specs.Runs.{Rows, Step, HasRow, LeadsBack, HasKind, HasRoomBelow, IsWithin, by_edge, step_of, stop_behind, on_step, run_of}
 use Rattle.kex_moves.proofs.Knowing.{at_of}
 
 abbrev pub no_edge : Edge
@@ -35,17 +35,17 @@ pub one_step : (t : Rows) (r b : ℕ) → HasRow t.classes t.edges r → b < len
 one_step t r b row h k = read t r b row h ∙ ap (λ x. cond x (Some (record { row = (edge_at t r b).next; writes = writes t.text (edge_at t r b) b })) None) k
 
 -- where no edge is written the run is at its end
-pub stops : (t : Rows) (r : ℕ) (xs ws : List ℕ) (at : ℕ) → at < length ws → step_of t r (get_or ws at 0) ≡ None → record { written = xs; row = r; left = drop at ws } ≡ behind xs (run_of t r (drop at ws))
+pub stops : (t : Rows) (r : ℕ) (xs ws : List ℕ) (at : ℕ) → at < length ws → step_of t r (get_or ws at 0) ≡ None → record { written = xs; row = r; left = drop at ws } ≡ stop_behind xs (run_of t r (drop at ws))
 stops t r xs ws at h e =
     let f = drop_more ws at 0 h in
-    sym (ap (λ l. behind xs (run_of t r l)) f ∙ ap (λ o. behind xs (on_step (record { written = []; row = r; left = get_or ws at 0 ∷ drop (at + 1) ws }) (λ w. behind w.writes (run_of t w.row (drop (at + 1) ws))) o)) e ∙ ap₂ (λ (p q : List ℕ). record { written = p; row = r; left = q }) (append-nil xs) (sym f))
+    sym (ap (λ l. stop_behind xs (run_of t r l)) f ∙ ap (λ o. stop_behind xs (on_step (record { written = []; row = r; left = get_or ws at 0 ∷ drop (at + 1) ws }) (λ w. stop_behind w.writes (run_of t w.row (drop (at + 1) ws))) o)) e ∙ ap₂ (λ (p q : List ℕ). record { written = p; row = r; left = q }) (append-nil xs) (sym f))
 
 -- one edge more
-pub goes_on : (t : Rows) (r : ℕ) (xs ys ws : List ℕ) (at : ℕ) (w : Step) → at < length ws → step_of t r (get_or ws at 0) ≡ Some w → ys ≡ xs ++ w.writes → behind ys (run_of t w.row (drop (at + 1) ws)) ≡ behind xs (run_of t r (drop at ws))
+pub goes_on : (t : Rows) (r : ℕ) (xs ys ws : List ℕ) (at : ℕ) (w : Step) → at < length ws → step_of t r (get_or ws at 0) ≡ Some w → ys ≡ xs ++ w.writes → stop_behind ys (run_of t w.row (drop (at + 1) ws)) ≡ stop_behind xs (run_of t r (drop at ws))
 goes_on t r xs ys ws at w h e g =
     let rest = run_of t w.row (drop (at + 1) ws) in
-    let first = ap (λ l. behind xs (run_of t r l)) (drop_more ws at 0 h) ∙ ap (λ o. behind xs (on_step (record { written = []; row = r; left = get_or ws at 0 ∷ drop (at + 1) ws }) (λ w. behind w.writes (run_of t w.row (drop (at + 1) ws))) o)) e in
-    ap (λ l. behind l rest) g ∙ ap (λ (l : List ℕ). record { written = l; row = rest.row; left = rest.left }) (append_assoc xs w.writes rest.written) ∙ sym first
+    let first = ap (λ l. stop_behind xs (run_of t r l)) (drop_more ws at 0 h) ∙ ap (λ o. stop_behind xs (on_step (record { written = []; row = r; left = get_or ws at 0 ∷ drop (at + 1) ws }) (λ w. stop_behind w.writes (run_of t w.row (drop (at + 1) ws))) o)) e in
+    ap (λ l. stop_behind l rest) g ∙ ap (λ (l : List ℕ). record { written = l; row = rest.row; left = rest.left }) (append_assoc xs w.writes rest.written) ∙ sym first
 
 pub one : (xs : List ℕ) (b : ℕ) → 0 < length xs → take 1 (set xs 0 b) ≡ b ∷ []
 one [] b h = absurd (omega arith)
@@ -93,17 +93,17 @@ drops t r b back room h =
     steps_back t r b Drop [] h refl ((leads_of t r b Drop back h).drops h.kind) said
 
 -- along bytes that are kept they are written, and the row stays
-kept : (t : Rows) (r : ℕ) (xs ws : List ℕ) (n : ℕ) → LeadsBack t.classes t.edges r → HasRoomBelow (length t.text) t.edges → All (HasKind t.classes (drop r t.edges) Keep) (take n ws) → behind (xs ++ take n ws) (run_of t r (drop n ws)) ≡ behind xs (run_of t r ws)
-kept t r xs ws zero back room all = ap (λ l. behind l (run_of t r ws)) (append-nil xs)
-kept t r xs [] (suc n) back room all = ap (λ l. behind l (run_of t r [])) (append-nil xs)
+kept : (t : Rows) (r : ℕ) (xs ws : List ℕ) (n : ℕ) → LeadsBack t.classes t.edges r → HasRoomBelow (length t.text) t.edges → All (HasKind t.classes (drop r t.edges) Keep) (take n ws) → stop_behind (xs ++ take n ws) (run_of t r (drop n ws)) ≡ stop_behind xs (run_of t r ws)
+kept t r xs ws zero back room all = ap (λ l. stop_behind l (run_of t r ws)) (append-nil xs)
+kept t r xs [] (suc n) back room all = ap (λ l. stop_behind l (run_of t r [])) (append-nil xs)
 kept t r xs (b ∷ bs) (suc n) back room all =
     let ys = xs ++ b ∷ [] in
-    ap (λ l. behind l (run_of t r (drop n bs))) (sym (append_assoc xs (b ∷ []) (take n bs)))
+    ap (λ l. stop_behind l (run_of t r (drop n bs))) (sym (append_assoc xs (b ∷ []) (take n bs)))
     ∙ kept t r ys bs n back room (λ i d lt. all (suc i) d (omega arith))
     ∙ goes_on t r xs ys (b ∷ bs) 0 (record { row = r; writes = b ∷ [] }) (omega arith) (keeps t r b back room (all 0 b (omega arith))) refl
 
 -- along bytes that are dropped nothing is written, and the row stays
-dropped : (t : Rows) (r : ℕ) (xs ws : List ℕ) (n : ℕ) → LeadsBack t.classes t.edges r → HasRoomBelow (length t.text) t.edges → All (HasKind t.classes (drop r t.edges) Drop) (take n ws) → behind xs (run_of t r (drop n ws)) ≡ behind xs (run_of t r ws)
+dropped : (t : Rows) (r : ℕ) (xs ws : List ℕ) (n : ℕ) → LeadsBack t.classes t.edges r → HasRoomBelow (length t.text) t.edges → All (HasKind t.classes (drop r t.edges) Drop) (take n ws) → stop_behind xs (run_of t r (drop n ws)) ≡ stop_behind xs (run_of t r ws)
 dropped t r xs ws zero back room all = refl
 dropped t r xs [] (suc n) back room all = refl
 dropped t r xs (b ∷ bs) (suc n) back room all =
@@ -115,19 +115,19 @@ rest_is : {A : Type 0} (i : ℕ) (xs : List A) → take (length xs - i) (drop i 
 rest_is i xs = take_all (length xs - i) (drop i xs) (omega (arith, length-drop i xs))
 
 -- the same where the bytes are copied from a place of a piece to one of a buffer
-pub kept_from : (t : Rows) (r at used k n : ℕ) (xs ys ws : List ℕ) → LeadsBack t.classes t.edges r → HasRoomBelow (length t.text) t.edges → used ≤ length xs → n ≤ length ys → All (HasKind t.classes (take (length t.edges - r) (drop r t.edges)) Keep) (take n (take (length ws - at) (drop at ws))) → take n ys ≡ take n (take (length ws - at) (drop at ws)) → behind (take (used + n) (put_mid used k xs ys)) (run_of t r (drop (at + n) ws)) ≡ behind (take used xs) (run_of t r (drop at ws))
+pub kept_from : (t : Rows) (r at used k n : ℕ) (xs ys ws : List ℕ) → LeadsBack t.classes t.edges r → HasRoomBelow (length t.text) t.edges → used ≤ length xs → n ≤ length ys → All (HasKind t.classes (take (length t.edges - r) (drop r t.edges)) Keep) (take n (take (length ws - at) (drop at ws))) → take n ys ≡ take n (take (length ws - at) (drop at ws)) → stop_behind (take (used + n) (put_mid used k xs ys)) (run_of t r (drop (at + n) ws)) ≡ stop_behind (take used xs) (run_of t r (drop at ws))
 kept_from t r at used k n xs ys ws back room fits long all copied =
     let part = drop at ws in
     let same : take n ys ≡ take n part = copied ∙ ap (take n) (rest_is at ws) in
     let post = post_of used k xs in
     let last : take n (drop used (put_mid used k xs ys)) ≡ take n part = ap (take n) (drop_at (take used xs) (ys ++ post) used (length-take-le used xs fits)) ∙ take-append-le n ys post long ∙ same in
     let buffer : take (used + n) (put_mid used k xs ys) ≡ take used xs ++ take n part = take-add used n (put_mid used k xs ys) ∙ ap₂ (λ p q. p ++ q) (take-put_mid_below used k xs ys used (omega arith) fits) last in
-    ap₂ (λ l m. behind l (run_of t r m)) buffer (sym (drop-drop n at ws))
+    ap₂ (λ l m. stop_behind l (run_of t r m)) buffer (sym (drop-drop n at ws))
     ∙ kept t r (take used xs) part n back room (subst (λ l. All (HasKind t.classes l Keep) (take n part)) (rest_is r t.edges) (subst (λ l. All (HasKind t.classes (take (length t.edges - r) (drop r t.edges)) Keep) (take n l)) (rest_is at ws) all))
 
-pub dropped_from : (t : Rows) (r at n : ℕ) (xs ws : List ℕ) → LeadsBack t.classes t.edges r → HasRoomBelow (length t.text) t.edges → All (HasKind t.classes (take (length t.edges - r) (drop r t.edges)) Drop) (take n (take (length ws - at) (drop at ws))) → behind xs (run_of t r (drop (at + n) ws)) ≡ behind xs (run_of t r (drop at ws))
+pub dropped_from : (t : Rows) (r at n : ℕ) (xs ws : List ℕ) → LeadsBack t.classes t.edges r → HasRoomBelow (length t.text) t.edges → All (HasKind t.classes (take (length t.edges - r) (drop r t.edges)) Drop) (take n (take (length ws - at) (drop at ws))) → stop_behind xs (run_of t r (drop (at + n) ws)) ≡ stop_behind xs (run_of t r (drop at ws))
 dropped_from t r at n xs ws back room all =
-    ap (λ m. behind xs (run_of t r m)) (sym (drop-drop n at ws))
+    ap (λ m. stop_behind xs (run_of t r m)) (sym (drop-drop n at ws))
     ∙ dropped t r xs (drop at ws) n back room (subst (λ l. All (HasKind t.classes l Drop) (take n (drop at ws))) (rest_is r t.edges) (subst (λ l. All (HasKind t.classes (take (length t.edges - r) (drop r t.edges)) Drop) (take n l)) (rest_is at ws) all))
 
 -- one byte more of a kind

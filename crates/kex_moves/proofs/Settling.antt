@@ -3,12 +3,12 @@ use Rattle.std.proofs.Common.{Result, Ok, Err, IfOk, true, false, cond, replicat
 use Rattle.std.specs.Prelude.{◌⊎◌}
 use Rattle.std.proofs.lemmas.List.{append-nil, set-append_left, set_past, set_at, drop_at, take_all, take-append-drop, length-take-le}
 use Rattle.kex_code.specs.Registers.{Registers}
-use Rattle.kex_model.specs.Acting.{State, appended}
+use Rattle.kex_model.specs.Acting.{State, after_append}
 use Rattle.kex_machine.specs.declared.MNode.{MNode}
 use Rattle.kex_action.specs.declared.action.Action.{Action}
-use Rattle.kex_action.specs.Holdings.{adding}
-use Rattle.kex_action.specs.Actions.{done}
-use Rattle.kex_action.specs.Sheets.{topped}
+use Rattle.kex_action.specs.Holdings.{with_bytes}
+use Rattle.kex_action.specs.Actions.{after_actions}
+use Rattle.kex_action.specs.Sheets.{with_buffer}
 use Rattle.kex_moves.specs.declared.edge.Edge.{Edge}
 use Rattle.kex_moves.specs.declared.edge.Kind.{Kind}
 use Rattle.kex_moves.specs.declared.edge.Kind.TheVariants.{Keep, Drop, Text, Acts, Opens, Plain, Unknown}
@@ -17,18 +17,18 @@ use Rattle.kex_moves.specs.Known.{Known, HasPlace, Settles, Lengthens}
 use Rattle.kex_moves.proofs.Putting.{within}
 use Rattle.kex_moves.proofs.Running.{one}
 
-appended_more : (xs ys out : List ℕ) (bs : List (List ℕ)) (regs : Registers) → adding ys (appended xs out bs regs) ≡ appended (xs ++ ys) out bs regs
+appended_more : (xs ys out : List ℕ) (bs : List (List ℕ)) (regs : Registers) → with_bytes ys (after_append xs out bs regs) ≡ after_append (xs ++ ys) out bs regs
 appended_more xs ys out [] regs = ap (λ (l : List ℕ). record { out = l; buffers = []; registers = regs }) (append_assoc out xs ys)
 appended_more xs ys out (b ∷ bs) regs = ap (λ (l : List ℕ). record { out = out; buffers = l ∷ bs; registers = regs }) (append_assoc b xs ys)
 
-pub adding_more : (xs ys : List ℕ) (s : State) → adding ys (adding xs s) ≡ adding (xs ++ ys) s
+pub adding_more : (xs ys : List ℕ) (s : State) → with_bytes ys (with_bytes xs s) ≡ with_bytes (xs ++ ys) s
 adding_more xs ys s = appended_more xs ys s.out s.buffers s.registers
 
-appended_none : (out : List ℕ) (bs : List (List ℕ)) (regs : Registers) → appended [] out bs regs ≡ record { out = out; buffers = bs; registers = regs }
+appended_none : (out : List ℕ) (bs : List (List ℕ)) (regs : Registers) → after_append [] out bs regs ≡ record { out = out; buffers = bs; registers = regs }
 appended_none out [] regs = ap (λ (l : List ℕ). record { out = l; buffers = []; registers = regs }) (append-nil out)
 appended_none out (b ∷ bs) regs = ap (λ (l : List ℕ). record { out = out; buffers = l ∷ bs; registers = regs }) (append-nil b)
 
-pub adding_none : (s : State) → s ≡ adding [] s
+pub adding_none : (s : State) → s ≡ with_bytes [] s
 adding_none s = sym (appended_none s.out s.buffers s.registers)
 
 pub set_more : (xs ys : List ℕ) (p b : ℕ) → (p < length xs) ⊎ (length xs + length ys ≤ p) → set (xs ++ ys) p b ≡ set xs p b ++ ys
@@ -99,29 +99,29 @@ no_opens : (k : Kind) → is_written k ≡ true → k ≡ Opens → ⊥
 no_opens k w e = no_written k (ap has_acts e) w
 
 -- an edge that writes what is a text with the byte settles
-settles_written : (nodes : List MNode) (k : Known) (next p : ℕ) (xs : List ℕ) (e : Edge) → e.next ≡ next → is_written e.kind ≡ true → HasRoom (length k.text) e → ((b : ℕ) → writes k.text e b ≡ set xs p b) → Settles nodes k next (λ b. adding (set xs p b)) e
+settles_written : (nodes : List MNode) (k : Known) (next p : ℕ) (xs : List ℕ) (e : Edge) → e.next ≡ next → is_written e.kind ≡ true → HasRoom (length k.text) e → ((b : ℕ) → writes k.text e b ≡ set xs p b) → Settles nodes k next (λ b. with_bytes (set xs p b)) e
 settles_written nodes k next p xs e n w room h = record {
   goes = λ known. n;
   room = λ written. room;
   acts = λ acts. absurd (no_written e.kind acts w);
-  does = λ known b s. ap (λ l. adding l s) (sym (h b)) ∙ sym (ap (λ x. cond x (adding (writes k.text e b) s) (done nodes b (take e.adds (drop e.from k.acts)) s)) w);
+  does = λ known b s. ap (λ l. with_bytes l s) (sym (h b)) ∙ sym (ap (λ x. cond x (with_bytes (writes k.text e b) s) (after_actions nodes b (take e.adds (drop e.from k.acts)) s)) w);
   opens = λ opens. absurd (no_opens e.kind w opens);
 }
 
-pub settles_short : (nodes : List MNode) (k : Known) (next p : ℕ) (xs : List ℕ) (e : Edge) → 16 ≤ length k.text → HasPlace xs p → e.next ≡ next → e.from ≡ 0 → e.byte_at ≡ p → e.adds ≡ length xs → is_written e.kind ≡ true → (e.kind ≡ Text → ⊥) → (e.kind ≡ Keep → (p ≡ 0) × (length xs ≡ 1)) → (e.kind ≡ Drop → length xs ≡ 0) → Settles nodes k next (λ b. adding (set xs p b)) e
+pub settles_short : (nodes : List MNode) (k : Known) (next p : ℕ) (xs : List ℕ) (e : Edge) → 16 ≤ length k.text → HasPlace xs p → e.next ≡ next → e.from ≡ 0 → e.byte_at ≡ p → e.adds ≡ length xs → is_written e.kind ≡ true → (e.kind ≡ Text → ⊥) → (e.kind ≡ Keep → (p ≡ 0) × (length xs ≡ 1)) → (e.kind ≡ Drop → length xs ≡ 0) → Settles nodes k next (λ b. with_bytes (set xs p b)) e
 settles_short nodes k next p xs e text place n f g l w none keeps drops =
     settles_written nodes k next p xs e n w (record { text = omega arith; byte_at = omega (arith, place_small xs p place); adds = omega (arith, place.count); keeps = λ q. (g ∙ (keeps q).0, l ∙ (keeps q).1); drops = λ q. l ∙ drops q }) (λ b. short_written k.text xs p b e e.kind refl text w none keeps drops f g l)
 
-pub settles_text : (nodes : List MNode) (k : Known) (old : List ℕ) (next p : ℕ) (xs : List ℕ) (e : Edge) → k.text ≡ (old ++ xs) ++ replicate 16 0 → HasPlace xs p → e.next ≡ next → e.from ≡ length old → e.byte_at ≡ p → e.adds ≡ length xs → e.kind ≡ Text → Settles nodes k next (λ b. adding (set xs p b)) e
+pub settles_text : (nodes : List MNode) (k : Known) (old : List ℕ) (next p : ℕ) (xs : List ℕ) (e : Edge) → k.text ≡ (old ++ xs) ++ replicate 16 0 → HasPlace xs p → e.next ≡ next → e.from ≡ length old → e.byte_at ≡ p → e.adds ≡ length xs → e.kind ≡ Text → Settles nodes k next (λ b. with_bytes (set xs p b)) e
 settles_text nodes k old next p xs e is place n f g l text =
     let long : length k.text ≡ length old + length xs + 16 = ap length is ∙ omega (arith, length-append (old ++ xs) (replicate 16 0), length-append old xs) in
     settles_written nodes k next p xs e n (ap is_written text) (record { text = omega arith; byte_at = omega (arith, place_small xs p place); adds = omega (arith, place.count); keeps = λ q. cc; drops = λ q. cc }) (λ b. text_written old xs (replicate 16 0) k.text p b e is refl place.count f g l)
 
 -- an edge at which actions are done settles
-pub settles_acts : (nodes : List MNode) (k : Known) (old actions : List Action) (next : ℕ) (e : Edge) → k.acts ≡ old ++ actions → e.next ≡ next → e.from ≡ length old → e.adds ≡ length actions → has_acts e.kind ≡ true → (e.kind ≡ Opens → (b : ℕ) (s : State) → done nodes b actions s ≡ topped (b ∷ []) s) → Settles nodes k next (λ b. done nodes b actions) e
+pub settles_acts : (nodes : List MNode) (k : Known) (old actions : List Action) (next : ℕ) (e : Edge) → k.acts ≡ old ++ actions → e.next ≡ next → e.from ≡ length old → e.adds ≡ length actions → has_acts e.kind ≡ true → (e.kind ≡ Opens → (b : ℕ) (s : State) → after_actions nodes b actions s ≡ with_buffer (b ∷ []) s) → Settles nodes k next (λ b. after_actions nodes b actions) e
 settles_acts nodes k old actions next e is n f l acts opens =
     let same : take e.adds (drop e.from k.acts) ≡ actions = ap₂ (λ i m. take m (drop i k.acts)) f l ∙ ap (λ q. take (length actions) (drop (length old) q)) is ∙ ap (take (length actions)) (drop_at old actions (length old) refl) ∙ take_all (length actions) actions (omega arith) in
-    let does = λ (b : ℕ) (s : State). ap (λ q. done nodes b q s) (sym same) ∙ sym (ap (λ x. cond x (adding (writes k.text e b) s) (done nodes b (take e.adds (drop e.from k.acts)) s)) (unwritten e.kind acts)) in
+    let does = λ (b : ℕ) (s : State). ap (λ q. after_actions nodes b q s) (sym same) ∙ sym (ap (λ x. cond x (with_bytes (writes k.text e b) s) (after_actions nodes b (take e.adds (drop e.from k.acts)) s)) (unwritten e.kind acts)) in
     record {
       goes = λ known. n;
       room = λ written. absurd (no_written e.kind acts written);

@@ -7,19 +7,19 @@ use Rattle.kex_model.specs.Acting.{State}
 use Rattle.kex_machine.specs.declared.MNode.{MNode}
 use Rattle.kex_machine.specs.Nodes.{Graph}
 use Rattle.kex_action.specs.declared.sheet.Sheet.{Sheet}
-use Rattle.kex_action.specs.Holdings.{Leads, Does, adding, state_of}
+use Rattle.kex_action.specs.Holdings.{Leads, Does, with_bytes, state_of}
 use Rattle.kex_action.specs.Actors.{Position, BeginsRun, WentOn, TookAll}
-use Rattle.kex_action.specs.Actions.{done}
-use Rattle.kex_action.specs.Sheets.{laid, AreMarks, IsSheet, IsBlank, state_with}
+use Rattle.kex_action.specs.Actions.{after_actions}
+use Rattle.kex_action.specs.Sheets.{with_marked_bytes, AreMarks, IsSheet, IsBlank, state_with}
 use Rattle.kex_action.proofs.Leading.{leads_on, stays}
 use Rattle.kex_action.proofs.Performing.{begins_front}
 use Rattle.kex_action.proofs.Sheeting.{laid_adds}
 use Rattle.kex_sst.specs.declared.parts.Part.{Part}
 use Rattle.kex_sst.specs.declared.table.Transition.{Transition}
-use Rattle.kex_sst.specs.Parts.{value, meant}
+use Rattle.kex_sst.specs.Parts.{value, parts_code}
 use Rattle.kex_sst.specs.Tables.{transition_of, transition_if}
 use Rattle.kex_script.specs.declared.piece.Piece.{Piece}
-use Rattle.kex_script.specs.Pieces.{word_of, spelled}
+use Rattle.kex_script.specs.Pieces.{word_of, code_over}
 use Rattle.kex_moves.specs.declared.edge.Edge.{Edge}
 use Rattle.kex_moves.specs.declared.edge.Kind.TheVariants.{Acts}
 use Rattle.kex_moves.specs.declared.edges.Pair.{Pair}
@@ -71,8 +71,8 @@ record Trailed (words : List (List Part)) (nodes : List MNode) (k : Known) (p : 
   pub row : IsRowOf k z.row to
   pub bytes : List ℕ
   pub written : z.writes ≡ s.writes ++ bytes
-  pub does : (x : List Symbol) → Takes nodes p.node (spelled words ps ++ x) → Does nodes p.node (spelled words ps) to.node (adding bytes)
-  pub takes : (x : List Symbol) → Takes nodes p.node (spelled words ps ++ x) → Takes nodes to.node x
+  pub does : (x : List Symbol) → Takes nodes p.node (code_over words ps ++ x) → Does nodes p.node (code_over words ps) to.node (with_bytes bytes)
+  pub takes : (x : List Symbol) → Takes nodes p.node (code_over words ps ++ x) → Takes nodes to.node x
 
 trailed_none : (words : List (List Part)) (nodes : List MNode) (k : Known) (p : Pair) (s : Step) → IsRowOf k s.row p → Trailed words nodes k p [] s s
 trailed_none words nodes k p s r = record {
@@ -92,9 +92,9 @@ trailed_more words nodes k p q qs e s z written f more = record {
   written = more.written ∙ append_assoc s.writes bytes more.bytes;
   does = λ x takes before.
       let here = at x takes in
-      let middle = adding bytes before in
+      let middle = with_bytes bytes before in
       let one = subst (λ c. Leads nodes p.node before c f.right.to.node middle) f.code (subst (λ z. Leads nodes p.node before (code_at q.byte f.right.by.update.out) f.right.to.node z) (made before) (f.right.does q.byte (rest ++ x) here before)) in
-      subst (λ z. Leads nodes p.node before (first ++ rest) more.to.node z) (adding_more bytes more.bytes before) (leads_on nodes p.node f.right.to.node more.to.node first rest before middle (adding more.bytes middle) one (more.does x (f.right.takes q.byte (rest ++ x) here) middle));
+      subst (λ z. Leads nodes p.node before (first ++ rest) more.to.node z) (adding_more bytes more.bytes before) (leads_on nodes p.node f.right.to.node more.to.node first rest before middle (with_bytes more.bytes middle) one (more.does x (f.right.takes q.byte (rest ++ x) here) middle));
   takes = λ x takes. more.takes x (f.right.takes q.byte (rest ++ x) (at x takes));
 }
   where
@@ -105,10 +105,10 @@ trailed_more words nodes k p q qs e s z written f more = record {
     first = word_of words q
 
     rest : List Symbol
-    rest = spelled words qs
+    rest = code_over words qs
 
-    made : (before : State) → makes nodes k e q.byte before ≡ adding bytes before
-    made before = ap (λ x. cond x (adding bytes before) (done nodes q.byte (take e.adds (drop e.from k.acts)) before)) written
+    made : (before : State) → makes nodes k e q.byte before ≡ with_bytes bytes before
+    made before = ap (λ x. cond x (with_bytes bytes before) (after_actions nodes q.byte (take e.adds (drop e.from k.acts)) before)) written
 
     at : (x : List Symbol) → Takes nodes p.node ((first ++ rest) ++ x) → Takes nodes p.node (code_at q.byte f.right.by.update.out ++ (rest ++ x))
     at x takes = subst (λ c. Takes nodes p.node (c ++ (rest ++ x))) (sym f.code) (subst (λ l. Takes nodes p.node l) (append_assoc first rest x) takes)
@@ -121,14 +121,14 @@ trailed words g k (q ∷ qs) s z p h r trail =
     trailed_more words g.nodes k p q qs e s z trail.1.written f (trailed words g k qs (record { row = e.next; writes = s.writes ++ writes k.text e q.byte }) z f.right.to h f.right.row trail.2)
 
 -- what is spelled by one list and another
-pub spelled_more : (words : List (List Part)) (ps qs : List Piece) → spelled words (ps ++ qs) ≡ spelled words ps ++ spelled words qs
+pub spelled_more : (words : List (List Part)) (ps qs : List Piece) → code_over words (ps ++ qs) ≡ code_over words ps ++ code_over words qs
 spelled_more words [] qs = refl
-spelled_more words (p ∷ ps) qs = ap (λ l. word_of words p ++ l) (spelled_more words ps qs) ∙ sym (append_assoc (word_of words p) (spelled words ps) (spelled words qs))
+spelled_more words (p ∷ ps) qs = ap (λ l. word_of words p ++ l) (spelled_more words ps qs) ∙ sym (append_assoc (word_of words p) (code_over words ps) (code_over words qs))
 
 -- a part more of a word
-pub meant_more : (b : ℕ) (xs : List Part) (x : Part) → meant [] b (xs ++ x ∷ []) ≡ meant [] b xs ++ value [] b x
+pub meant_more : (b : ℕ) (xs : List Part) (x : Part) → parts_code [] b (xs ++ x ∷ []) ≡ parts_code [] b xs ++ value [] b x
 meant_more b [] x = append-nil (value [] b x)
-meant_more b (y ∷ xs) x = ap (λ l. value [] b y ++ l) (meant_more b xs x) ∙ sym (append_assoc (value [] b y) (meant [] b xs) (value [] b x))
+meant_more b (y ∷ xs) x = ap (λ l. value [] b y ++ l) (meant_more b xs x) ∙ sym (append_assoc (value [] b y) (parts_code [] b xs) (value [] b x))
 
 -- nothing is said
 pub performs_none : (a : Position) (x : List ℕ) → Performs a a [] x x
@@ -150,34 +150,34 @@ performs_taken : (old new : Position) (c : List Symbol) (x y : List ℕ) → ((d
 performs_taken old new c x y f = λ given code w h run. let t = takes_run old given code c w h run in f t.0 t.1
 
 -- along a trail
-pub said_trail : (words : List (List Part)) (k : Known) (a : Position) (s s' : Sheet) (row row' : ℕ) (ps : List Piece) (out : List ℕ) → IsKnown (table_of words) a.machine k → IsSheet s → s'.marks.items ≡ s.marks.items → IsTrail k.edges k.text k.width ps (record { row = row; writes = take s.used s.bytes.items }) (record { row = row'; writes = take s'.used s'.bytes.items }) → SaidOn k a a s s' row row' (spelled words ps) out out
+pub said_trail : (words : List (List Part)) (k : Known) (a : Position) (s s' : Sheet) (row row' : ℕ) (ps : List Piece) (out : List ℕ) → IsKnown (table_of words) a.machine k → IsSheet s → s'.marks.items ≡ s.marks.items → IsTrail k.edges k.text k.width ps (record { row = row; writes = take s.used s.bytes.items }) (record { row = row'; writes = take s'.used s'.bytes.items }) → SaidOn k a a s s' row row' (code_over words ps) out out
 said_trail words k a s s' row row' ps out known sheet marks trail p r =
     let before = take s.used s.bytes.items in
     let t = trailed words a.machine k ps (record { row = row; writes = before }) (record { row = row'; writes = take s'.used s'.bytes.items }) p known r trail in
     let n : length before ≡ s.used = length-take-le s.used s.bytes.items sheet.used in
-    let adds : state_with s' out a.holding ≡ adding t.bytes (state_with s out a.holding) =
-    ap₂ (λ b ms. laid b (reverse ms) (state_of out a.holding)) t.written marks ∙ laid_adds before t.bytes (reverse s.marks.items) (state_of out a.holding) (subst (λ u. AreMarks u (reverse s.marks.items)) (sym n) sheet.marks) in
+    let adds : state_with s' out a.holding ≡ with_bytes t.bytes (state_with s out a.holding) =
+    ap₂ (λ b ms. with_marked_bytes b (reverse ms) (state_of out a.holding)) t.written marks ∙ laid_adds before t.bytes (reverse s.marks.items) (state_of out a.holding) (subst (λ u. AreMarks u (reverse s.marks.items)) (sym n) sheet.marks) in
     record {
       to = t.to;
       row_of = t.row;
-      performs = performs_taken (with_sheet a p.node s out) (with_sheet a t.to.node s' out) (spelled words ps) (written_with a s out) (written_with a s' out) (λ x takes. moved a a p.node t.to.node s s' out out (adding t.bytes) refl refl adds (spelled words ps) (t.does x takes));
+      performs = performs_taken (with_sheet a p.node s out) (with_sheet a t.to.node s' out) (code_over words ps) (written_with a s out) (written_with a s' out) (λ x takes. moved a a p.node t.to.node s s' out out (with_bytes t.bytes) refl refl adds (code_over words ps) (t.does x takes));
     }
 
 -- where an edge's actions are done
-pub said_acts : (words : List (List Part)) (k : Known) (a b : Position) (s s' : Sheet) (row : ℕ) (q : Piece) (e : Edge) (x y : List ℕ) → IsKnown (table_of words) a.machine k → q.word < k.width → slice_get k.edges (row + q.word) ≡ Some e → e.kind ≡ Acts → b.machine ≡ a.machine → b.refused ≡ a.refused → state_with s' y b.holding ≡ done a.machine.nodes q.byte (take e.adds (drop e.from k.acts)) (state_with s x a.holding) → SaidOn k a b s s' row e.next (spelled words (q ∷ [])) x y
+pub said_acts : (words : List (List Part)) (k : Known) (a b : Position) (s s' : Sheet) (row : ℕ) (q : Piece) (e : Edge) (x y : List ℕ) → IsKnown (table_of words) a.machine k → q.word < k.width → slice_get k.edges (row + q.word) ≡ Some e → e.kind ≡ Acts → b.machine ≡ a.machine → b.refused ≡ a.refused → state_with s' y b.holding ≡ after_actions a.machine.nodes q.byte (take e.adds (drop e.from k.acts)) (state_with s x a.holding) → SaidOn k a b s s' row e.next (code_over words (q ∷ [])) x y
 said_acts words k a b s s' row q e x y known lt is acts machine refused did p r =
     let nodes = a.machine.nodes in
     let f = fits words a.machine k row p q e known r lt is (ap is_known acts) in
     let actions = take e.adds (drop e.from k.acts) in
     let code = code_at q.byte f.right.by.update.out in
     let whole : code ≡ word_of words q ++ [] = f.code ∙ sym (append-nil (word_of words q)) in
-    let made = λ (before : State). ap (λ v. cond v (adding (writes k.text e q.byte) before) (done nodes q.byte actions before)) (ap is_written acts) in
+    let made = λ (before : State). ap (λ v. cond v (with_bytes (writes k.text e q.byte) before) (after_actions nodes q.byte actions before)) (ap is_written acts) in
     record {
       to = f.right.to;
       row_of = f.right.row;
-      performs = performs_taken (with_sheet a p.node s x) (with_sheet b f.right.to.node s' y) (word_of words q ++ []) (written_with a s x) (written_with b s' y) (λ d takes. moved a b p.node f.right.to.node s s' x y (done nodes q.byte actions) machine refused did (word_of words q ++ []) (λ before.
+      performs = performs_taken (with_sheet a p.node s x) (with_sheet b f.right.to.node s' y) (word_of words q ++ []) (written_with a s x) (written_with b s' y) (λ d takes. moved a b p.node f.right.to.node s s' x y (after_actions nodes q.byte actions) machine refused did (word_of words q ++ []) (λ before.
           let here = subst (λ c. Takes nodes p.node (c ++ d)) (sym whole) takes in
-          subst (λ c. Leads nodes p.node before c f.right.to.node (done nodes q.byte actions before)) whole (subst (λ z. Leads nodes p.node before code f.right.to.node z) (made before) (f.right.does q.byte d here before))));
+          subst (λ c. Leads nodes p.node before c f.right.to.node (after_actions nodes q.byte actions before)) whole (subst (λ z. Leads nodes p.node before code f.right.to.node z) (made before) (f.right.does q.byte d here before))));
     }
 
 -- where nothing is taken

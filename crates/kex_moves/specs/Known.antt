@@ -5,9 +5,9 @@ use Rattle.kex_model.specs.Acting.{State}
 use Rattle.kex_machine.specs.declared.MNode.{MNode}
 use Rattle.kex_machine.specs.Nodes.{Graph}
 use Rattle.kex_action.specs.declared.action.Action.{Action}
-use Rattle.kex_action.specs.Holdings.{Does, adding}
-use Rattle.kex_action.specs.Actions.{done}
-use Rattle.kex_action.specs.Sheets.{topped}
+use Rattle.kex_action.specs.Holdings.{Does, with_bytes}
+use Rattle.kex_action.specs.Actions.{after_actions}
+use Rattle.kex_action.specs.Sheets.{with_buffer}
 use Rattle.kex_sst.specs.declared.table.Transition.{Transition}
 use Rattle.kex_sst.specs.Tables.{Transducer, transition_of}
 use Rattle.kex_moves.specs.declared.edge.Edge.{Edge}
@@ -65,11 +65,11 @@ HasRowFor k row state node = (p : Pair) × IsRowOf k row p × (p.state ≡ state
 
 -- what an edge makes of a state of the actor where the byte b is read
 abbrev pub makes : List MNode → Known → Edge → ℕ → State → State
-makes nodes k e b s = if is_written e.kind then adding (writes k.text e b) s else done nodes b (take e.adds (drop e.from k.acts)) s
+makes nodes k e b s = if is_written e.kind then with_bytes (writes k.text e b) s else after_actions nodes b (take e.adds (drop e.from k.acts)) s
 
 -- an edge that opens makes just a buffer with the byte in it
 abbrev pub IsOpening : List MNode → Known → Edge → Type 0
-IsOpening nodes k e = e.kind ≡ Opens → (b : ℕ) (s : State) → makes nodes k e b s ≡ topped (b ∷ []) s
+IsOpening nodes k e = e.kind ≡ Opens → (b : ℕ) (s : State) → makes nodes k e b s ≡ with_buffer (b ∷ []) s
 
 -- on a byte of the class the table goes from the pair's state to the edge's, with an update of `out` alone; and for each
 -- byte with which its code can be taken from the pair's node, on the way to anything, it leads to the edge's node and
@@ -124,7 +124,7 @@ pub record Grows (old new : Known) : Type 0 where
 pub record IsLed (nodes : List MNode) (k : Known) (state node : ℕ) (actions : List Action) (e : Edge) : Type 0 where
   pub edge : IsEdge k e
   pub row : is_known e.kind ≡ true → HasRowFor k e.next state node
-  pub does : is_known e.kind ≡ true → (b : ℕ) (s : State) → done nodes b actions s ≡ makes nodes k e b s
+  pub does : is_known e.kind ≡ true → (b : ℕ) (s : State) → after_actions nodes b actions s ≡ makes nodes k e b s
   pub opens : IsOpening nodes k e
 
 -- all is forgotten

@@ -30,8 +30,8 @@ pub record Stop : Type 0 where
   pub left : List ℕ
 
 -- the same behind what stood before
-abbrev pub behind : List ℕ → Stop → Stop
-behind xs s = record { written = xs ++ s.written; row = s.row; left = s.left }
+abbrev pub stop_behind : List ℕ → Stop → Stop
+stop_behind xs s = record { written = xs ++ s.written; row = s.row; left = s.left }
 
 abbrev pub on_step : Stop → (Step → Stop) → Option Step → Stop
 on_step stop more None = stop
@@ -40,11 +40,11 @@ on_step stop more (Some w) = more w
 -- a run over bytes, as far as edges are written
 abbrev pub run_of : Rows → ℕ → List ℕ → Stop
 run_of t row [] = record { written = []; row = row; left = [] }
-run_of t row (b ∷ bs) = on_step (record { written = []; row = row; left = b ∷ bs }) (λ w. behind w.writes (run_of t w.row bs)) (step_of t row b)
+run_of t row (b ∷ bs) = on_step (record { written = []; row = row; left = b ∷ bs }) (λ w. stop_behind w.writes (run_of t w.row bs)) (step_of t row b)
 
 -- a run over the bytes of a piece from number i on, behind what stood before
 abbrev pub run_from : Rows → List ℕ → List ℕ → ℕ → ℕ → Stop
-run_from t piece xs row i = behind xs (run_of t row (drop i piece))
+run_from t piece xs row i = stop_behind xs (run_of t row (drop i piece))
 
 -- there is an edge for each byte
 abbrev pub HasRow : List ℕ → List Edge → ℕ → Type 0

@@ -8,9 +8,9 @@ use Rattle.kex_machine.specs.declared.MNode.{MNode}
 use Rattle.kex_machine.specs.Nodes.{node_moves}
 use Rattle.kex_action.specs.declared.action.Action.{Action}
 use Rattle.kex_action.specs.Holdings.{Leads, Does}
-use Rattle.kex_action.specs.Actions.{done}
+use Rattle.kex_action.specs.Actions.{after_actions}
 use Rattle.kex_sst.specs.declared.parts.Part.{Part}
-use Rattle.kex_sst.specs.Parts.{meant}
+use Rattle.kex_sst.specs.Parts.{parts_code}
 use Rattle.kex_moves.specs.declared.walk.Letter.{Letter}
 use Rattle.kex_moves.specs.declared.walk.Letter.TheVariants.{L, R, Read}
 
@@ -22,7 +22,7 @@ symbol_at b Read = symbols.Byte b
 
 -- the code of parts without registers, where the byte b is read
 abbrev pub code_at : ℕ → List Part → List Symbol
-code_at b parts = meant [] b parts
+code_at b parts = parts_code [] b parts
 
 -- some steps from n have the code
 pub record Takes (nodes : List MNode) (n : ℕ) (c : List Symbol) : Type 0 where
@@ -35,10 +35,10 @@ pub record Takes (nodes : List MNode) (n : ℕ) (c : List Symbol) : Type 0 where
 pub record GoesOn (nodes : List MNode) (n : ℕ) (before : List Action) (t : ℕ) (after : List Action) : Type 0 where
   pub more : List Action
   pub noted : after ≡ before ++ more
-  pub leads : (b : ℕ) (s : State) → Leads nodes n s [] t (done nodes b more s)
+  pub leads : (b : ℕ) (s : State) → Leads nodes n s [] t (after_actions nodes b more s)
   pub takes : (c : List Symbol) → Takes nodes n c → Takes nodes t c
 
 -- for each byte with which the code can be taken from n, on the way to anything, it leads to t and does what is noted
 pub record Learns (nodes : List MNode) (n : ℕ) (parts : List Part) (t : ℕ) (actions : List Action) : Type 0 where
-  pub does : (b : ℕ) (c : List Symbol) → Takes nodes n (code_at b parts ++ c) → Does nodes n (code_at b parts) t (done nodes b actions)
+  pub does : (b : ℕ) (c : List Symbol) → Takes nodes n (code_at b parts ++ c) → Does nodes n (code_at b parts) t (after_actions nodes b actions)
   pub takes : (b : ℕ) (c : List Symbol) → Takes nodes n (code_at b parts ++ c) → Takes nodes t c

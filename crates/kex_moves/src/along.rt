@@ -3,9 +3,9 @@
 ghost use Rattle.std.specs.Prelude.{◌≡◌, ◌<◌, ◌≤◌, ◌+◌, ◌*◌, ◌-◌, ℕ, List, [], ◌∷◌, false, IsTrue, IfOk, OnOk, length, take, drop};
 ghost use Rattle.kex_sst.specs.Tables.{Transducer};
 ghost use Rattle.kex_action.specs.Holdings.{Holding, state_of};
-ghost use Rattle.kex_action.specs.Actions.{done};
+ghost use Rattle.kex_action.specs.Actions.{after_actions};
 ghost use Rattle.kex_action.specs.Actors.{Position};
-ghost use Rattle.kex_action.specs.Sheets.{IsSheet, IsBlank, IsAsLong, topped, state_with};
+ghost use Rattle.kex_action.specs.Sheets.{IsSheet, IsBlank, IsAsLong, with_buffer, state_with};
 ghost use Rattle.kex_moves.specs.declared.edge.Kind.{Kind};
 ghost use Rattle.kex_moves.specs.declared.edges.Pair.{Pair};
 ghost use Rattle.kex_moves.specs.Runs.{run_of};
@@ -59,7 +59,7 @@ pub struct Stride {
 fn open(sheet: &mut Sheet, byte: u8) -> Result<(), Memory>
     requires sheet { IsSheet sheet.old }
     requires room { sheet.old.used < length sheet.old.bytes.items }
-    ensures opened { OnOk result ((out : List ℕ) (h : Holding) → state_with sheet.new out h ≡ topped (byte ∷ []) (state_with sheet.old out h)) }
+    ensures opened { OnOk result ((out : List ℕ) (h : Holding) → state_with sheet.new out h ≡ with_buffer (byte ∷ []) (state_with sheet.old out h)) }
     ensures sheet { OnOk result (IsSheet sheet.new × IsAsLong sheet.old sheet.new) }
     ensures used { sheet.new.used ≤ sheet.old.used + 1 }
 {
@@ -102,7 +102,7 @@ fn act_rest(
     requires usable { IsTrue actor.old.usable }
     requires to { (p : Pair) × IsRowOf edges.now edge.next p × (p.node < length actor.old.machine.nodes) }
     requires sheet { IsSheet sheet.old }
-    ensures did { OnOk result (state_of out.new.items actor.new.holding ≡ done actor.old.machine.nodes byte rest.now (state_with sheet.old out.old.items actor.old.holding)) }
+    ensures did { OnOk result (state_of out.new.items actor.new.holding ≡ after_actions actor.old.machine.nodes byte rest.now (state_with sheet.old out.old.items actor.old.holding)) }
     ensures none { OnOk result (IsBlank sheet.new) }
     ensures room { IsAsLong sheet.old sheet.new }
     ensures same { (actor.new.machine ≡ actor.old.machine) × (actor.new.refused ≡ actor.old.refused) }
@@ -127,7 +127,7 @@ pub fn act(
     requires to { (p : Pair) × IsRowOf edges.now edge.next p × (p.node < length actor.old.machine.nodes) }
     requires edge { IsEdge edges.now edge × (edge.kind ≡ Kind.Acts) }
     requires sheet { IsSheet sheet.old }
-    ensures did { OnOk result (state_with sheet.new out.new.items actor.new.holding ≡ done actor.old.machine.nodes byte (take edge.adds (drop edge.from edges.now.acts)) (state_with sheet.old out.old.items actor.old.holding)) }
+    ensures did { OnOk result (state_with sheet.new out.new.items actor.new.holding ≡ after_actions actor.old.machine.nodes byte (take edge.adds (drop edge.from edges.now.acts)) (state_with sheet.old out.old.items actor.old.holding)) }
     ensures sheet { OnOk result (IsSheet sheet.new × IsAsLong sheet.old sheet.new) }
     ensures same { (actor.new.machine ≡ actor.old.machine) × (actor.new.refused ≡ actor.old.refused) }
     ensures usable { OnOk result (IsTrue actor.new.usable) }

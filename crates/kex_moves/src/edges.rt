@@ -2,12 +2,12 @@
 
 ghost use Rattle.std.specs.Prelude.{◌≡◌, ◌<◌, ◌≤◌, ◌+◌, ◌*◌, ◌-◌, ◌^◌, IsTrue, ◌++◌, ◌∷◌, List, ℕ, [], All, OnOk, IfOk, IfSome, length, take, drop, replicate, slice_get, Some, slice_set, true};
 ghost use Rattle.kex_machine.specs.declared.MNode.{MNode};
-ghost use Rattle.kex_action.specs.Holdings.{adding};
+ghost use Rattle.kex_action.specs.Holdings.{with_bytes};
 ghost use Rattle.kex_model.specs.Acting.{State};
-ghost use Rattle.kex_action.specs.Actions.{done};
-ghost use Rattle.kex_action.specs.Sheets.{topped};
+ghost use Rattle.kex_action.specs.Actions.{after_actions};
+ghost use Rattle.kex_action.specs.Sheets.{with_buffer};
 ghost use Rattle.kex_moves.specs.Edges.{is_written, has_acts, IsAtRow};
-ghost use Rattle.kex_moves.specs.Runs.{behind, run_of};
+ghost use Rattle.kex_moves.specs.Runs.{stop_behind, run_of};
 ghost use Rattle.kex_moves.specs.Trails.{IsTrail, IsOver};
 ghost use Rattle.kex_moves.specs.Known.{rows_of, IsEdge, IsOrdered, IsRowOf, HasRowFor, HasPlace, Settles, Widens, Lengthens, Forgets};
 
@@ -30,7 +30,7 @@ pub struct Pair {
 }
 
 /// No pair.
-const NONE: u32 = 4_294_967_295;
+const NO_PAIR: u32 = 4_294_967_295;
 
 /// How many edges there may be.
 const MAX_EDGES: usize = 65_536;
@@ -76,7 +76,7 @@ impl Model for Edges {
 fn head_of(heads: &mut [u32], slot: u32, number: u32) -> u32 {
     match heads.get_mut(slot as usize) {
         Some(head) => mem::replace(head, number),
-        None => NONE,
+        None => NO_PAIR,
     }
 }
 
@@ -149,7 +149,7 @@ impl Edges {
         ensures { IfOk result (λ e. e ≡ record { classes = classes; width = 2 ^ shift; shift = shift; pairs = []; edges = []; text = replicate 16 0; acts = [] }) }
     {
         let mut heads = Vec::new(alloc);
-        heads.resize(count, NONE)?;
+        heads.resize(count, NO_PAIR)?;
         let mut text = Vec::new(alloc);
         text.resize(16, 0)?;
         Ok(Edges {
@@ -275,7 +275,7 @@ impl Edges {
         requires { HasPlace bytes.now place }
         ensures ordered { IfOk result (λ e. IsOrdered self.new) }
         ensures longer { IfOk result (λ e. Lengthens self.old self.new) }
-        ensures settles { IfOk result (λ e. (nodes : List MNode) → Settles nodes self.new next (λ b. adding (slice_set bytes.now place b)) e) }
+        ensures settles { IfOk result (λ e. (nodes : List MNode) → Settles nodes self.new next (λ b. with_bytes (slice_set bytes.now place b)) e) }
     {
         let end = self.text.len();
         let kind = kind_of(place, bytes.len());
@@ -312,7 +312,7 @@ impl Edges {
     ) -> Result<Edge, Memory>
         ensures ordered { IfOk result (λ e. IsOrdered self.new) }
         ensures longer { IfOk result (λ e. Lengthens self.old self.new) }
-        ensures settles { IfOk result (λ e. (nodes : List MNode) → (IsTrue opens → (b : ℕ) (s : State) → done nodes b actions.now s ≡ topped (b ∷ []) s) → Settles nodes self.new next (λ b. done nodes b actions.now) e) }
+        ensures settles { IfOk result (λ e. (nodes : List MNode) → (IsTrue opens → (b : ℕ) (s : State) → after_actions nodes b actions.now s ≡ with_buffer (b ∷ []) s) → Settles nodes self.new next (λ b. after_actions nodes b actions.now) e) }
     {
         let (Ok(from), Ok(adds)) = (u32::try_from(self.acts.len()), u8::try_from(actions.len()))
         else {
@@ -348,7 +348,7 @@ impl Edges {
         ensures at { result.at ≤ length piece.now }
         ensures used { result.used ≤ length buffer.new }
         ensures room { result.used + 17 * (length piece.now - result.at) + 17 ≤ length buffer.new }
-        ensures ran { record { written = take result.used buffer.new; row = result.row; left = drop result.at piece.now } ≡ behind (take used buffer.old) (run_of (rows_of self.now) row piece.now) }
+        ensures ran { record { written = take result.used buffer.new; row = result.row; left = drop result.at piece.now } ≡ stop_behind (take used buffer.old) (run_of (rows_of self.now) row piece.now) }
         ensures ordered { IsOrdered self.now }
     {
         run(
@@ -397,6 +397,6 @@ impl Edges {
         self.edges.clear();
         self.text.truncate(16);
         self.acts.clear();
-        self.heads.fill(NONE);
+        self.heads.fill(NO_PAIR);
     }
 }

@@ -1,7 +1,7 @@
 // What the words of a list do at the nodes of a machine.
 
 ghost use Rattle.std.specs.Prelude.{◌≡◌, ◌≤◌, ◌^◌, IsTrue, IfOk, OnOk};
-ghost use Rattle.kex_script.specs.Pieces.{spelled};
+ghost use Rattle.kex_script.specs.Pieces.{code_over};
 ghost use Rattle.kex_moves.specs.Speech.{Performs};
 
 use crate::along::ROOM;
@@ -89,7 +89,7 @@ impl<'p> Phrases<'p> {
     ) -> Result<(), Memory>
         requires usable { IsTrue actor.old.usable }
         requires machine { actor.old.machine ≡ self.old.machine }
-        ensures performs { OnOk result (Performs actor.old actor.new (spelled self.old.words pieces.now) out.old.items out.new.items) }
+        ensures performs { OnOk result (Performs actor.old actor.new (code_over self.old.words pieces.now) out.old.items out.new.items) }
         ensures same { self.new ≡ self.old }
         ensures machine { actor.new.machine ≡ actor.old.machine }
         ensures usable { OnOk result (IsTrue actor.new.usable) }

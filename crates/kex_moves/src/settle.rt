@@ -1,11 +1,11 @@
 // What is done along a walk, as an edge.
 
 ghost use Rattle.std.specs.Prelude.{◌≡◌, ℕ, [], ◌∷◌, IfOk, IfSome, IsTrue, slice_set};
-ghost use Rattle.kex_model.specs.Acting.{State, done_by};
+ghost use Rattle.kex_model.specs.Acting.{State, after_effect};
 ghost use Rattle.kex_machine.specs.Nodes.{node_moves, effect_of};
-ghost use Rattle.kex_action.specs.Holdings.{adding};
-ghost use Rattle.kex_action.specs.Actions.{passing, done_at, done};
-ghost use Rattle.kex_action.specs.Sheets.{topped};
+ghost use Rattle.kex_action.specs.Holdings.{with_bytes};
+ghost use Rattle.kex_action.specs.Actions.{after_move, after_action, after_actions};
+ghost use Rattle.kex_action.specs.Sheets.{with_buffer};
 ghost use Rattle.kex_moves.specs.Known.{HasPlace, IsOrdered, Settles, Lengthens};
 ghost use Rattle.kex_moves.specs.Drafts.{IsDraft, Drafts, IsTurn, Keeps};
 
@@ -26,7 +26,7 @@ pub struct Draft {
 
 // What a node does, if it does anything.
 fn effect_at(machine: &Trimmed, n: u32) -> Option<&Effect>
-    ensures { IfSome result (λ e. (s : State) → passing (node_moves machine.now.nodes n) s ≡ done_by (effect_of e.now) s) }
+    ensures { IfSome result (λ e. (s : State) → after_move (node_moves machine.now.nodes n) s ≡ after_effect (effect_of e.now) s) }
 {
     match machine.nodes().get(n as usize) {
         Some(MNode::Do(effect, _)) => Some(effect),
@@ -38,7 +38,7 @@ fn effect_at(machine: &Trimmed, n: u32) -> Option<&Effect>
 fn add_byte(draft: Draft, bytes: &mut Vec<u8>) -> Result<Option<Draft>, Memory>
     requires { IsDraft bytes.old.items draft }
     ensures draft { IfOk result (λ o. IfSome o (IsDraft bytes.new.items)) }
-    ensures drafts { IfOk result (λ o. IfSome o (λ new. (b : ℕ) (s z : State) → Drafts bytes.old.items draft b s z → Drafts bytes.new.items new b s (adding (b ∷ []) z))) }
+    ensures drafts { IfOk result (λ o. IfSome o (λ new. (b : ℕ) (s z : State) → Drafts bytes.old.items draft b s z → Drafts bytes.new.items new b s (with_bytes (b ∷ []) z))) }
 {
     let at = bytes.len();
     if draft.depth > 0 {
@@ -58,7 +58,7 @@ fn add_byte(draft: Draft, bytes: &mut Vec<u8>) -> Result<Option<Draft>, Memory>
 fn add_literal(draft: Draft, literal: &[u8], bytes: &mut Vec<u8>) -> Result<Option<Draft>, Memory>
     requires { IsDraft bytes.old.items draft }
     ensures draft { IfOk result (λ o. IfSome o (IsDraft bytes.new.items)) }
-    ensures drafts { IfOk result (λ o. IfSome o (λ new. (b : ℕ) (s z : State) → Drafts bytes.old.items draft b s z → Drafts bytes.new.items new b s (adding literal.now z))) }
+    ensures drafts { IfOk result (λ o. IfSome o (λ new. (b : ℕ) (s z : State) → Drafts bytes.old.items draft b s z → Drafts bytes.new.items new b s (with_bytes literal.now z))) }
 {
     if draft.depth > 0 {
         return Ok(Some(draft));
@@ -75,7 +75,7 @@ fn add_literal(draft: Draft, literal: &[u8], bytes: &mut Vec<u8>) -> Result<Opti
 fn add_effect(draft: Draft, effect: &Effect, bytes: &mut Vec<u8>) -> Result<Option<Draft>, Memory>
     requires { IsDraft bytes.old.items draft }
     ensures draft { IfOk result (λ o. IfSome o (IsDraft bytes.new.items)) }
-    ensures drafts { IfOk result (λ o. IfSome o (λ new. (b : ℕ) (s z : State) → Drafts bytes.old.items draft b s z → Drafts bytes.new.items new b s (done_by (effect_of effect.now) z))) }
+    ensures drafts { IfOk result (λ o. IfSome o (λ new. (b : ℕ) (s z : State) → Drafts bytes.old.items draft b s z → Drafts bytes.new.items new b s (after_effect (effect_of effect.now) z))) }
 {
     match effect {
         Effect::Lit(literal) => add_literal(draft, literal.as_slice(), bytes),
@@ -100,7 +100,7 @@ fn add(
 ) -> Result<Option<Draft>, Memory>
     requires { IsDraft bytes.old.items draft }
     ensures draft { IfOk result (λ o. IfSome o (IsDraft bytes.new.items)) }
-    ensures drafts { IfOk result (λ o. IfSome o (λ new. (b : ℕ) (s z : State) → Drafts bytes.old.items draft b s z → Drafts bytes.new.items new b s (done_at machine.now.nodes b action z))) }
+    ensures drafts { IfOk result (λ o. IfSome o (λ new. (b : ℕ) (s z : State) → Drafts bytes.old.items draft b s z → Drafts bytes.new.items new b s (after_action machine.now.nodes b action z))) }
 {
     match action {
         Action::Byte => add_byte(draft, bytes),
@@ -118,7 +118,7 @@ fn text_of(
     bytes: &mut Vec<u8>,
 ) -> Result<Option<usize>, Memory>
     requires { bytes.old.items ≡ [] }
-    ensures done { IfOk result (λ o. IfSome o (λ p. (b : ℕ) (s : State) → done machine.now.nodes b actions.now s ≡ adding (slice_set bytes.new.items p b) s)) }
+    ensures done { IfOk result (λ o. IfSome o (λ p. (b : ℕ) (s : State) → after_actions machine.now.nodes b actions.now s ≡ with_bytes (slice_set bytes.new.items p b) s)) }
     ensures place { IfOk result (λ o. IfSome o (λ p. HasPlace bytes.new.items p)) }
 {
     let mut draft = Draft {
@@ -147,7 +147,7 @@ enum Turn {
 
 // What an action does to the buffers.
 fn turn_of(machine: &Trimmed, action: Action) -> Turn
-    ensures { (b : ℕ) (z : State) → IsTurn result z (done_at machine.now.nodes b action z) }
+    ensures { (b : ℕ) (z : State) → IsTurn result z (after_action machine.now.nodes b action z) }
 {
     match action {
         Action::Byte => Turn::Writes,
@@ -168,7 +168,7 @@ fn keep(
     kept: &mut Vec<Action>,
     place: Option<usize>,
 ) -> Result<Option<usize>, Memory>
-    ensures { IfOk result (λ new. (b : ℕ) (s z : State) → Keeps machine.now.nodes kept.old.items place b s z → Keeps machine.now.nodes kept.new.items new b s (done_at machine.now.nodes b action z)) }
+    ensures { IfOk result (λ new. (b : ℕ) (s z : State) → Keeps machine.now.nodes kept.old.items place b s z → Keeps machine.now.nodes kept.new.items new b s (after_action machine.now.nodes b action z)) }
 {
     let end = kept.len();
     let new = match (turn_of(machine, action), place) {
@@ -186,7 +186,7 @@ fn keep(
 
 // The actions without those that only fill a buffer that is opened and dropped among them.
 fn kept_of(alloc: Global, machine: &Trimmed, actions: &[Action]) -> Result<Vec<Action>, Memory>
-    ensures { IfOk result (λ kept. (b : ℕ) (s : State) → done machine.now.nodes b actions.now s ≡ done machine.now.nodes b kept.items s) }
+    ensures { IfOk result (λ kept. (b : ℕ) (s : State) → after_actions machine.now.nodes b actions.now s ≡ after_actions machine.now.nodes b kept.items s) }
 {
     let mut kept = Vec::new(alloc);
     let mut place = None;
@@ -198,7 +198,7 @@ fn kept_of(alloc: Global, machine: &Trimmed, actions: &[Action]) -> Result<Vec<A
 
 // Whether the actions only open a buffer and write the byte.
 fn only_open(machine: &Trimmed, actions: &[Action]) -> bool
-    ensures { IsTrue result → (b : ℕ) (s : State) → done machine.now.nodes b actions.now s ≡ topped (b ∷ []) s }
+    ensures { IsTrue result → (b : ℕ) (s : State) → after_actions machine.now.nodes b actions.now s ≡ with_buffer (b ∷ []) s }
 {
     let [Action::Node(n), Action::Byte] = actions else {
         return false;
@@ -219,7 +219,7 @@ pub fn settle(
 ) -> Result<Edge, Memory>
     ensures ordered { IfOk result (λ e. IsOrdered edges.new) }
     ensures longer { IfOk result (λ e. Lengthens edges.old edges.new) }
-    ensures settles { IfOk result (λ e. Settles machine.now.nodes edges.new next (λ b. done machine.now.nodes b actions.now) e) }
+    ensures settles { IfOk result (λ e. Settles machine.now.nodes edges.new next (λ b. after_actions machine.now.nodes b actions.now) e) }
 {
     let mut bytes = Vec::new(alloc);
     match text_of(machine, actions, &mut bytes)? {

@@ -1,7 +1,7 @@
 // A word symbol by symbol, where no edge is known.
 
 ghost use Rattle.std.specs.Prelude.{◌≡◌, ◌++◌, [], OnOk, IsTrue, take};
-ghost use Rattle.kex_sst.specs.Parts.{value, meant};
+ghost use Rattle.kex_sst.specs.Parts.{value, parts_code};
 ghost use Rattle.kex_script.specs.Pieces.{word_of};
 ghost use Rattle.kex_action.specs.Actors.{TookAll};
 

@@ -4,7 +4,7 @@ ghost use Rattle.std.specs.Prelude.{◌≡◌, ◌<◌, ◌≤◌, ◌+◌, ◌*
 ghost use Rattle.kex_sst.specs.declared.parts.Part.{Part};
 ghost use Rattle.kex_action.specs.Actors.{Position};
 ghost use Rattle.kex_action.specs.Sheets.{IsSheet, IsBlank, IsAsLong};
-ghost use Rattle.kex_script.specs.Pieces.{spelled};
+ghost use Rattle.kex_script.specs.Pieces.{code_over};
 ghost use Rattle.kex_moves.specs.declared.along.TheConstants.{ROOM};
 ghost use Rattle.kex_moves.specs.declared.edges.Pair.{Pair};
 ghost use Rattle.kex_moves.specs.Known.{IsRowOf, IsKnown};
@@ -32,7 +32,7 @@ fn along(edges: &Edges, sheet: &mut Sheet, row: usize, pieces: &[Piece]) -> Plac
     requires room { sheet.old.used + 17 * length pieces.now + 17 ≤ length sheet.old.bytes.items }
     ensures within { result.count ≤ length pieces.now }
     ensures sheet { IsSheet sheet.new × IsAsLong sheet.old sheet.new }
-    ensures said { (words : List (List Part)) (a : Position) (out : List ℕ) → IsKnown (table_of words) a.machine edges.now → SaidOn edges.now a a sheet.old sheet.new row result.row (spelled words (take result.count pieces.now)) out out }
+    ensures said { (words : List (List Part)) (a : Position) (out : List ℕ) → IsKnown (table_of words) a.machine edges.now → SaidOn edges.now a a sheet.old sheet.new row result.row (code_over words (take result.count pieces.now)) out out }
 {
     let spot = edges.follow(row, pieces, &mut sheet.bytes, sheet.used);
     sheet.used = spot.used;
@@ -57,7 +57,7 @@ fn act_next(
     requires row { (p : Pair) × IsRowOf edges.now row p }
     requires sheet { IsSheet sheet.old }
     ensures within { IfOk result (λ s. s.count ≤ 1) }
-    ensures said { IfOk result (λ s. (words : List (List Part)) → IsKnown (table_of words) actor.old.machine edges.now → SaidOn edges.now actor.old actor.new sheet.old sheet.new row s.row (spelled words (take s.count (piece ∷ []))) out.old.items out.new.items) }
+    ensures said { IfOk result (λ s. (words : List (List Part)) → IsKnown (table_of words) actor.old.machine edges.now → SaidOn edges.now actor.old actor.new sheet.old sheet.new row s.row (code_over words (take s.count (piece ∷ []))) out.old.items out.new.items) }
     ensures sheet { OnOk result (IsSheet sheet.new × IsAsLong sheet.old sheet.new) }
     ensures machine { actor.new.machine ≡ actor.old.machine }
     ensures usable { OnOk result (IsTrue actor.new.usable) }
@@ -102,7 +102,7 @@ fn go_on(
     requires sheet { IsSheet sheet.old }
     requires room { length sheet.old.bytes.items ≡ ROOM }
     ensures within { IfOk result (λ s. s.count ≤ length pieces.now) }
-    ensures said { IfOk result (λ s. (words : List (List Part)) → IsKnown (table_of words) actor.old.machine edges.now → SaidOn edges.now actor.old actor.new sheet.old sheet.new row s.row (spelled words (take s.count pieces.now)) out.old.items out.new.items) }
+    ensures said { IfOk result (λ s. (words : List (List Part)) → IsKnown (table_of words) actor.old.machine edges.now → SaidOn edges.now actor.old actor.new sheet.old sheet.new row s.row (code_over words (take s.count pieces.now)) out.old.items out.new.items) }
     ensures sheet { OnOk result (IsSheet sheet.new × IsAsLong sheet.old sheet.new) }
     ensures machine { actor.new.machine ≡ actor.old.machine }
     ensures usable { OnOk result (IsTrue actor.new.usable) }
@@ -141,7 +141,7 @@ fn tell_from(
     requires none { IsBlank sheet.old }
     ensures row { IfOk result (λ place. (p : Pair) × IsRowOf edges.now place.row p) }
     ensures within { IfOk result (λ place. place.count ≤ length pieces.now) }
-    ensures performs { IfOk result (λ place. (words : List (List Part)) → IsKnown (table_of words) actor.old.machine edges.now → Performs actor.old actor.new (spelled words (take place.count pieces.now)) out.old.items out.new.items) }
+    ensures performs { IfOk result (λ place. (words : List (List Part)) → IsKnown (table_of words) actor.old.machine edges.now → Performs actor.old actor.new (code_over words (take place.count pieces.now)) out.old.items out.new.items) }
     ensures none { OnOk result (IsBlank sheet.new) }
     ensures room { OnOk result (IsAsLong sheet.old sheet.new) }
     ensures machine { actor.new.machine ≡ actor.old.machine }
@@ -204,7 +204,7 @@ fn tell_some(
     requires none { IsBlank sheet.old }
     ensures known { OnOk result (IsKnown (table_of words.now) machine.now edges.new) }
     ensures within { IfOk result (λ count. count ≤ length pieces.now) }
-    ensures performs { IfOk result (λ count. Performs actor.old actor.new (spelled words.now (take count pieces.now)) out.old.items out.new.items) }
+    ensures performs { IfOk result (λ count. Performs actor.old actor.new (code_over words.now (take count pieces.now)) out.old.items out.new.items) }
     ensures none { OnOk result (IsBlank sheet.new) }
     ensures room { OnOk result (IsAsLong sheet.old sheet.new) }
     ensures machine { actor.new.machine ≡ actor.old.machine }
@@ -237,7 +237,7 @@ pub fn tell(
     requires room { length sheet.old.bytes.items ≡ ROOM }
     requires none { IsBlank sheet.old }
     ensures known { OnOk result (IsKnown (table_of words.now) machine.now edges.new) }
-    ensures performs { OnOk result (Performs actor.old actor.new (spelled words.now pieces.now) out.old.items out.new.items) }
+    ensures performs { OnOk result (Performs actor.old actor.new (code_over words.now pieces.now) out.old.items out.new.items) }
     ensures none { OnOk result (IsBlank sheet.new) }
     ensures room { OnOk result (IsAsLong sheet.old sheet.new) }
     ensures machine { actor.new.machine ≡ actor.old.machine }

@@ -94,7 +94,7 @@ struct Opened {
 }
 
 // No node.
-const NONE: u32 = 4_294_967_295;
+const NO_NODE: u32 = 4_294_967_295;
 
 // How many buffers are counted.
 const MOST: u32 = 16;
@@ -111,7 +111,10 @@ fn behind(opened: Opened, effect: &Effect, node: u32) -> Opened {
             by: opened.by,
             count: opened.count - 1,
         },
-        Effect::Drop | Effect::Into(_) => Opened { by: NONE, count: 0 },
+        Effect::Drop | Effect::Into(_) => Opened {
+            by: NO_NODE,
+            count: 0,
+        },
         _ => opened,
     }
 }
@@ -122,7 +125,10 @@ fn opener_of(machine: &Trimmed, from: u32) -> u32
 {
     let nodes = machine.nodes();
     let mut at = from;
-    let mut opened = Opened { by: NONE, count: 0 };
+    let mut opened = Opened {
+        by: NO_NODE,
+        count: 0,
+    };
     for _ in 0..nodes.len() {
         match &nodes[at as usize] {
             MNode::Do(effect, next) => {
@@ -133,7 +139,7 @@ fn opener_of(machine: &Trimmed, from: u32) -> u32
             _ => return opened.by,
         }
     }
-    NONE
+    NO_NODE
 }
 
 // Where the code of the parts leads from a node. An early end is before a buffer that is opened last and stays open.
@@ -154,7 +160,7 @@ fn follow(
         let Some(letter) = letter_of(*part) else {
             return Ok(None);
         };
-        let Some(rest) = go_on(machine, at, NONE, &mut actions)? else {
+        let Some(rest) = go_on(machine, at, NO_NODE, &mut actions)? else {
             return Ok(None);
         };
         let Some(next) = next_of(&machine.nodes()[rest as usize], letter) else {
@@ -165,7 +171,11 @@ fn follow(
         }
         at = next;
     }
-    let stop = if early { opener_of(machine, at) } else { NONE };
+    let stop = if early {
+        opener_of(machine, at)
+    } else {
+        NO_NODE
+    };
     let Some(to) = go_on(machine, at, stop, &mut actions)? else {
         return Ok(None);
     };

@@ -2,7 +2,7 @@
 use Rattle.std.proofs.Common.{◌≡◌, ℕ, suc, false, length, replicate, ◌+◌, ◌<◌, ◌≤◌, Bool, List, [], ◌∷◌, ◌++◌, Option, Some, None, refl, sym, ap, subst, ◌∙◌, append_assoc, append-nil, arith}
 use Rattle.kex_code.specs.declared.symbol.Symbol.TheVariants.{L, R}
 use Rattle.kex_model.specs.Moves.{Move, symbol_of}
-use Rattle.kex_model.specs.Labelled.{Labelled, tip, fork, labels_of, Shape, place, parts, size_of, Grown, behind, joined}
+use Rattle.kex_model.specs.Labelled.{Labelled, tip, fork, labels_of, Shape, place, parts, size_of, Grown, with_prefix, fork_of}
 use Rattle.kex_machine.specs.Nodes.{Graph, node_moves}
 use Rattle.kex_machine.specs.Advancing.{known, stops, parts_off, is_forced, passes_on, Advances, dies, reads_on, both}
 use Rattle.kex_sst.specs.declared.parts.Part.{Part}
@@ -25,12 +25,12 @@ olds_in-append : (xs ys : List (List Part)) → olds_in (xs ++ ys) ≡ olds_in x
 olds_in-append [] ys = refl
 olds_in-append (x ∷ xs) ys = ap (λ z. olds x ++ z) (olds_in-append xs ys) ∙ sym (append_assoc (olds x) (olds_in xs) (olds_in ys))
 
-behind_reads : (x : Part) (a : Option (Grown Part ℕ)) → olds (x ∷ []) ≡ [] → reads_in (behind (x ∷ []) a) ≡ reads_in a
+behind_reads : (x : Part) (a : Option (Grown Part ℕ)) → olds (x ∷ []) ≡ [] → reads_in (with_prefix (x ∷ []) a) ≡ reads_in a
 behind_reads x None e = refl
 behind_reads x (Some g) e = ap (λ z. z ++ olds_in (labels_of g.tree)) (olds-append (x ∷ []) g.label ∙ ap (λ z. z ++ olds g.label) e)
 
 -- what is read by two sides, of which each may be gone
-both_reads : (x y : Part) (a b : Option (Grown Part ℕ)) → (u v : List ℕ) → reads_in (behind (x ∷ []) a) ≡ u → reads_in (behind (y ∷ []) b) ≡ v → reads_in (joined (behind (x ∷ []) a) (behind (y ∷ []) b)) ≡ u ++ v
+both_reads : (x y : Part) (a b : Option (Grown Part ℕ)) → (u v : List ℕ) → reads_in (with_prefix (x ∷ []) a) ≡ u → reads_in (with_prefix (y ∷ []) b) ≡ v → reads_in (fork_of (with_prefix (x ∷ []) a) (with_prefix (y ∷ []) b)) ≡ u ++ v
 both_reads x y None None u v e f = cc
 both_reads x y (Some l) None u v e f = e ∙ sym (append-nil u) ∙ ap (λ z. u ++ z) f
 both_reads x y None (Some r) u v e f = f ∙ ap (λ z. z ++ v) e
@@ -52,7 +52,7 @@ within-append lo mid hi [] [] p q h k = tt
 within-append lo mid hi [] (y ∷ ys) p q h k = (omega (arith, k.0), k.1, k.2)
 within-append lo mid hi (x ∷ xs) ys p q h k = (h.0, omega (arith, h.1), within-append (suc x) mid hi xs ys (omega (arith, h.1)) q h.2 k)
 
-front_reads : (k hi : ℕ) (a : Option (Grown Part ℕ)) → k < hi → RiseWithin (suc k) hi (reads_in a) → RiseWithin k hi (reads_in (behind (Old k ∷ []) a))
+front_reads : (k hi : ℕ) (a : Option (Grown Part ℕ)) → k < hi → RiseWithin (suc k) hi (reads_in a) → RiseWithin k hi (reads_in (with_prefix (Old k ∷ []) a))
 front_reads k hi None lt h = tt
 front_reads k hi (Some g) lt h = (omega arith, lt, h)
 
@@ -71,7 +71,7 @@ pub record Sides (moves : ℕ → Move ℕ) (b : ℕ) (f : List Bool) (u : List 
   pub between : List Bool
   pub first : Advances (λ s. Put s) Input moves b f l left between
   pub second : Advances (λ s. Put s) Input moves b between r right h
-  pub whole : a ≡ joined (behind u left) (behind v right)
+  pub whole : a ≡ fork_of (with_prefix u left) (with_prefix v right)
 
 pub sides_of : {moves : ℕ → Move ℕ} {b : ℕ} {f h : List Bool} {u v : List Part} {l r : Labelled Part ℕ} {a : Option (Grown Part ℕ)} → Advances (λ s. Put s) Input moves b f (fork u l v r) a h → Sides moves b f u l v r a h
 sides_of (both {g = g} {x = x} {y = y} p q) = record { left = x; right = y; between = g; first = p; second = q; whole = refl }
@@ -86,8 +86,8 @@ advance_reads moves b k f g (parts l r) a w hi e =
     let more = some_nodes r in
     let p = advance_reads moves b (suc k) f t.between l t.left t.first mid (omega arith) in
     let q = advance_reads moves b (suc (k + size_of l)) t.between g r t.right t.second hi (omega arith) in
-    subst (λ z. RiseWithin k hi z) (sym (ap reads_in t.whole ∙ both_reads (Old k) (Old (k + size_of l)) t.left t.right (reads_in (behind (Old k ∷ []) t.left)) (reads_in (behind (Old (k + size_of l) ∷ []) t.right)) refl refl))
-    (within-append k (k + size_of l) hi (reads_in (behind (Old k ∷ []) t.left)) (reads_in (behind (Old (k + size_of l) ∷ []) t.right)) (omega arith) (omega arith)
+    subst (λ z. RiseWithin k hi z) (sym (ap reads_in t.whole ∙ both_reads (Old k) (Old (k + size_of l)) t.left t.right (reads_in (with_prefix (Old k ∷ []) t.left)) (reads_in (with_prefix (Old (k + size_of l) ∷ []) t.right)) refl refl))
+    (within-append k (k + size_of l) hi (reads_in (with_prefix (Old k ∷ []) t.left)) (reads_in (with_prefix (Old (k + size_of l) ∷ []) t.right)) (omega arith) (omega arith)
     (front_reads k (k + size_of l) t.left (omega arith) p)
     (front_reads (k + size_of l) hi t.right (omega arith) q))
 

@@ -3,7 +3,7 @@ use Rattle.std.proofs.Common.{ℕ, suc, ◌+◌, Bool, true, false, List, [], �
 use Rattle.kex_code.specs.declared.symbol.Symbol.{Symbol}
 use Rattle.kex_code.specs.declared.symbol.Symbol.TheVariants.{L, R}
 use Rattle.kex_model.specs.Moves.{Move, symbol_of}
-use Rattle.kex_model.specs.Labelled.{tip, labels_of, Shape, place, parts, shape_of, size_of, Grown, behind, joined}
+use Rattle.kex_model.specs.Labelled.{tip, labels_of, Shape, place, parts, shape_of, size_of, Grown, with_prefix, fork_of}
 use Rattle.kex_machine.specs.Nodes.{Graph, node_moves}
 use Rattle.kex_machine.specs.Advancing.{known, stops, parts_off, is_forced, passes_on, Advances, dies, reads_on}
 use Rattle.kex_machine.proofs.Unique.{tree_unique}
@@ -28,11 +28,11 @@ abbrev pub Holds : (List Part → Type 0) → Option (Grown Part ℕ) → Type 0
 Holds P None = Unit {0}
 Holds P (Some g) = P g.label × Each P (labels_of g.tree)
 
-behind_holds : (P : List Part → Type 0) (x : List Part) (a : Option (Grown Part ℕ)) → ((c : List Part) → P c → P (x ++ c)) → Holds P a → Holds P (behind x a)
+behind_holds : (P : List Part → Type 0) (x : List Part) (a : Option (Grown Part ℕ)) → ((c : List Part) → P c → P (x ++ c)) → Holds P a → Holds P (with_prefix x a)
 behind_holds P x None f h = tt
 behind_holds P x (Some g) f h = (f g.label h.0, h.1)
 
-joined_holds : (P : List Part → Type 0) (a b : Option (Grown Part ℕ)) → P [] → Holds P a → Holds P b → Holds P (joined a b)
+joined_holds : (P : List Part → Type 0) (a b : Option (Grown Part ℕ)) → P [] → Holds P a → Holds P b → Holds P (fork_of a b)
 joined_holds P None None e h k = tt
 joined_holds P None (Some r) e h k = k
 joined_holds P (Some l) None e h k = h
@@ -47,7 +47,7 @@ no_puts = ([], refl)
 visit_puts : {moves : ℕ → Move ℕ} {f g : List Bool} {n : ℕ} {a : Option (Grown Part ℕ)} → Explores moves f n a g → Holds ArePuts a
 visit_puts (known e) = tt
 visit_puts (stops lt e w) = (no_puts, tt)
-visit_puts (parts_off {a = a} {b = b} lt e m v u) = joined_holds ArePuts (behind (Put L ∷ []) a) (behind (Put R ∷ []) b) no_puts (behind_holds ArePuts (Put L ∷ []) a (one_put L) (visit_puts v)) (behind_holds ArePuts (Put R ∷ []) b (one_put R) (visit_puts u))
+visit_puts (parts_off {a = a} {b = b} lt e m v u) = joined_holds ArePuts (with_prefix (Put L ∷ []) a) (with_prefix (Put R ∷ []) b) no_puts (behind_holds ArePuts (Put L ∷ []) a (one_put L) (visit_puts v)) (behind_holds ArePuts (Put R ∷ []) b (one_put R) (visit_puts u))
 visit_puts (is_forced {x = x} {a = a} lt e m v) = behind_holds ArePuts (Put (symbol_of x) ∷ []) a (one_put (symbol_of x)) (visit_puts v)
 visit_puts (passes_on lt e m v) = visit_puts v
 
@@ -60,7 +60,7 @@ read_in_order c (d, e) = record { registers = []; read = true; symbols = d; whol
 old_in_order : (k : ℕ) (c : List Part) → IsInOrder c → IsInOrder (Old k ∷ c)
 old_in_order k c h = record { registers = k ∷ h.registers; read = h.read; symbols = h.symbols; whole = ap (λ z. Old k ∷ z) h.whole }
 
-read_holds : (a : Option (Grown Part ℕ)) → Holds ArePuts a → Holds IsInOrder (behind (Input ∷ []) a)
+read_holds : (a : Option (Grown Part ℕ)) → Holds ArePuts a → Holds IsInOrder (with_prefix (Input ∷ []) a)
 read_holds None h = tt
 read_holds (Some g) h = (read_in_order g.label h.0, each_more ArePuts IsInOrder puts_in_order (labels_of g.tree) h.1)
 
@@ -74,7 +74,7 @@ advance_in_order moves b k f g (parts l r) a w =
     let t = sides_of w in
     let p = advance_in_order moves b (suc k) f t.between l t.left t.first in
     let q = advance_in_order moves b (suc (k + size_of l)) t.between g r t.right t.second in
-    subst (λ z. Holds IsInOrder z) (sym t.whole) (joined_holds IsInOrder (behind (Old k ∷ []) t.left) (behind (Old (k + size_of l) ∷ []) t.right) (puts_in_order [] no_puts) (behind_holds IsInOrder (Old k ∷ []) t.left (old_in_order k) p) (behind_holds IsInOrder (Old (k + size_of l) ∷ []) t.right (old_in_order (k + size_of l)) q))
+    subst (λ z. Holds IsInOrder z) (sym t.whole) (joined_holds IsInOrder (with_prefix (Old k ∷ []) t.left) (with_prefix (Old (k + size_of l) ∷ []) t.right) (puts_in_order [] no_puts) (behind_holds IsInOrder (Old k ∷ []) t.left (old_in_order k) p) (behind_holds IsInOrder (Old (k + size_of l) ∷ []) t.right (old_in_order (k + size_of l)) q))
 
 changed : (P : List Part → Type 0) (u : Change) (a : Grown Part ℕ) → IsChange u a → Holds P (Some a) → P u.out × Each P u.regs
 changed P u a change h = (subst P (sym change.0) h.0, subst (λ z. Each P z) (sym change.1) h.1)

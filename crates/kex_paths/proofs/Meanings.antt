@@ -1,13 +1,13 @@
 -- What parts stand for: lists, and the tree of registers.
 use Rattle.std.proofs.Common.{◌≡◌, ℕ, suc, ◌+◌, List, [], ◌∷◌, ◌++◌, length, get_or, refl, sym, ap, ap₂, ◌∙◌, append_assoc, append-nil, length-append, arith}
 use Rattle.kex_code.specs.declared.symbol.Symbol.{Symbol}
-use Rattle.kex_model.specs.Labelled.{Labelled, tip, fork, labels_of, shape_of, size_of, relabelled}
+use Rattle.kex_model.specs.Labelled.{Labelled, tip, fork, labels_of, shape_of, size_of, map_labels}
 use Rattle.kex_sst.specs.declared.parts.Part.{Part}
-use Rattle.kex_sst.specs.Parts.{value, meant, numbered}
+use Rattle.kex_sst.specs.Parts.{value, parts_code, numbered_tree}
 
-pub meant-append : (regs : List (List Symbol)) (b : ℕ) (xs ys : List Part) → meant regs b (xs ++ ys) ≡ meant regs b xs ++ meant regs b ys
+pub meant-append : (regs : List (List Symbol)) (b : ℕ) (xs ys : List Part) → parts_code regs b (xs ++ ys) ≡ parts_code regs b xs ++ parts_code regs b ys
 meant-append regs b [] ys = refl
-meant-append regs b (x ∷ xs) ys = ap (λ z. value regs b x ++ z) (meant-append regs b xs ys) ∙ sym (append_assoc (value regs b x) (meant regs b xs) (meant regs b ys))
+meant-append regs b (x ∷ xs) ys = ap (λ z. value regs b x ++ z) (meant-append regs b xs ys) ∙ sym (append_assoc (value regs b x) (parts_code regs b xs) (parts_code regs b ys))
 
 get_or-at : {A : Type 0} (xs : List A) (x d : A) (ys : List A) → get_or (xs ++ x ∷ ys) (length xs) d ≡ x
 get_or-at [] x d ys = refl
@@ -19,7 +19,7 @@ labels_and_size (tip p) = refl
 labels_and_size (fork x l y r) = omega (arith, labels_and_size l, labels_and_size r, length-append (labels_of l) (y ∷ labels_of r))
 
 -- registers among which the labels stand, from number k on, make the tree again
-pub registers_within : (b : ℕ) (t : Labelled Symbol ℕ) (pre post regs : List (List Symbol)) (k : ℕ) → regs ≡ pre ++ labels_of t ++ post → k ≡ length pre → relabelled (meant regs b) (numbered k (shape_of t)) ≡ t
+pub registers_within : (b : ℕ) (t : Labelled Symbol ℕ) (pre post regs : List (List Symbol)) (k : ℕ) → regs ≡ pre ++ labels_of t ++ post → k ≡ length pre → map_labels (parts_code regs b) (numbered_tree k (shape_of t)) ≡ t
 registers_within b (tip p) pre post regs k e h = refl
 registers_within b (fork x l y r) pre post regs k e h =
     let whole : regs ≡ pre ++ x ∷ (labels_of l ++ y ∷ (labels_of r ++ post)) = e ∙ append_assoc pre (labels_of (fork x l y r)) post ∙ ap (λ z. pre ++ x ∷ z) (append_assoc (labels_of l) (y ∷ labels_of r) post) in
@@ -37,5 +37,5 @@ registers_within b (fork x l y r) pre post regs k e h =
     same u v p q e f g h = cc
 
 -- registers that hold the labels make the tree again
-pub registers_hold : (b : ℕ) (t : Labelled Symbol ℕ) → relabelled (meant (labels_of t) b) (numbered 0 (shape_of t)) ≡ t
+pub registers_hold : (b : ℕ) (t : Labelled Symbol ℕ) → map_labels (parts_code (labels_of t) b) (numbered_tree 0 (shape_of t)) ≡ t
 registers_hold b t = registers_within b t [] [] (labels_of t) 0 (sym (append-nil (labels_of t))) refl

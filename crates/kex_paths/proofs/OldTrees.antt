@@ -2,7 +2,7 @@
 use Rattle.std.proofs.Common.{◌≡◌, ℕ, zero, suc, ◌+◌, ◌-◌, ◌<◌, Bool, true, false, List, [], ◌∷◌, ◌++◌, Option, Some, None, length, get_or, set, replicate, map, reverse, refl, sym, ap, subst, ◌∙◌, append_assoc, arith}
 use Rattle.kex_code.specs.declared.symbol.Symbol.TheVariants.{L, R}
 use Rattle.kex_model.specs.Moves.{Move, accept, read, choose, forced, go, symbol_of, took, Allows, reads, IsWaiting}
-use Rattle.kex_model.specs.Labelled.{tip, Shape, place, parts, size_of, Grown, behind, joined}
+use Rattle.kex_model.specs.Labelled.{tip, Shape, place, parts, size_of, Grown, with_prefix, fork_of}
 use Rattle.kex_sst.specs.declared.parts.Part.{Part}
 use Rattle.kex_sst.specs.declared.parts.Part.TheVariants.{Put, Old, Input}
 use Rattle.kex_paths.specs.declared.walk.Token.{Token}
@@ -25,10 +25,10 @@ module _ (moves : ℕ → Move ℕ) (b : ℕ) where
   pub going_start : (m : ℕ) (j : ShapedTask) (f : List Bool) → f ≡ replicate m false → Going m (j ∷ []) 0 (tokens_left (j ∷ [])) f (task_of j ∷ []) []
   going_start m j f e = record { shaped = j ∷ []; erased = refl; reads_left = refl; runs = λ g out r. subst (λ z. Runs moves b (j ∷ []) 0 z [] g out) e r }
 
-  pub going_join : (m : ℕ) (first : List ShapedTask) (k : ℕ) (left : List Token) (f : List Bool) (stack : List Task) (rs : List (Option (Grown Part ℕ))) → Going m first k left f (Merge ∷ stack) rs → Going m first k left f stack (joined (last_tree (trees_before rs)) (last_tree rs) ∷ trees_before (trees_before rs))
+  pub going_join : (m : ℕ) (first : List ShapedTask) (k : ℕ) (left : List Token) (f : List Bool) (stack : List Task) (rs : List (Option (Grown Part ℕ))) → Going m first k left f (Merge ∷ stack) rs → Going m first k left f stack (fork_of (last_tree (trees_before rs)) (last_tree rs) ∷ trees_before (trees_before rs))
   going_join m first k left f stack rs v = by v.shaped v.erased v.reads_left v.runs
     where
-      by : (shaped : List ShapedTask) → map task_of shaped ≡ Merge ∷ stack → left ≡ tokens_left shaped → ((g : List Bool) (out : List (Option (Grown Part ℕ))) → Runs moves b shaped k f rs g out → Runs moves b first 0 (replicate m false) [] g out) → Going m first k left f stack (joined (last_tree (trees_before rs)) (last_tree rs) ∷ trees_before (trees_before rs))
+      by : (shaped : List ShapedTask) → map task_of shaped ≡ Merge ∷ stack → left ≡ tokens_left shaped → ((g : List Bool) (out : List (Option (Grown Part ℕ))) → Runs moves b shaped k f rs g out → Runs moves b first 0 (replicate m false) [] g out) → Going m first k left f stack (fork_of (last_tree (trees_before rs)) (last_tree rs) ∷ trees_before (trees_before rs))
       by [] e t r = cc
       by (tree x ∷ js) e t r = cc
       by (edge x ∷ js) e t r = cc
@@ -36,10 +36,10 @@ module _ (moves : ℕ → Move ℕ) (b : ℕ) where
       by (put_front x ∷ js) e t r = cc
       by (go_to n ∷ js) e t r = cc
 
-  pub going_front : (m : ℕ) (first : List ShapedTask) (k : ℕ) (left : List Token) (f : List Bool) (x : Part) (stack : List Task) (rs : List (Option (Grown Part ℕ))) → Going m first k left f (Front x ∷ stack) rs → Going m first k left f stack (behind (x ∷ []) (last_tree rs) ∷ trees_before rs)
+  pub going_front : (m : ℕ) (first : List ShapedTask) (k : ℕ) (left : List Token) (f : List Bool) (x : Part) (stack : List Task) (rs : List (Option (Grown Part ℕ))) → Going m first k left f (Front x ∷ stack) rs → Going m first k left f stack (with_prefix (x ∷ []) (last_tree rs) ∷ trees_before rs)
   going_front m first k left f x stack rs v = by v.shaped v.erased v.reads_left v.runs
     where
-      by : (shaped : List ShapedTask) → map task_of shaped ≡ Front x ∷ stack → left ≡ tokens_left shaped → ((g : List Bool) (out : List (Option (Grown Part ℕ))) → Runs moves b shaped k f rs g out → Runs moves b first 0 (replicate m false) [] g out) → Going m first k left f stack (behind (x ∷ []) (last_tree rs) ∷ trees_before rs)
+      by : (shaped : List ShapedTask) → map task_of shaped ≡ Front x ∷ stack → left ≡ tokens_left shaped → ((g : List Bool) (out : List (Option (Grown Part ℕ))) → Runs moves b shaped k f rs g out → Runs moves b first 0 (replicate m false) [] g out) → Going m first k left f stack (with_prefix (x ∷ []) (last_tree rs) ∷ trees_before rs)
       by [] e t r = cc
       by (tree y ∷ js) e t r = cc
       by (edge y ∷ js) e t r = cc
@@ -73,8 +73,8 @@ module _ (moves : ℕ → Move ℕ) (b : ℕ) where
       unseen : (js : List ShapedTask) (mv : Move ℕ) → moves n ≡ mv → get_or f n false ≡ false → map task_of js ≡ stack → left ≡ tokens_left js → ((g : List Bool) (out : List (Option (Grown Part ℕ))) → Runs moves b (go_to n ∷ js) k f rs g out → Runs moves b first 0 (replicate m false) [] g out) → Going m first k left (set f n true) (reverse (tasks_from mv) ++ stack) (leaf_at mv n ++ rs)
       unseen js accept is e w t r = record { shaped = js; erased = w; reads_left = t; runs = λ g out q. r g out (Some (record { label = []; tree = tip n }), set f n true, stops lt e (subst (λ z. IsWaiting z) (sym is) tt), q) }
       unseen js (read set' u) is e w t r = record { shaped = js; erased = w; reads_left = t; runs = λ g out q. r g out (Some (record { label = []; tree = tip n }), set f n true, stops lt e (subst (λ z. IsWaiting z) (sym is) tt), q) }
-      unseen js (choose x y) is e w t r = record { shaped = go_to x ∷ put_front (Put L) ∷ go_to y ∷ put_front (Put R) ∷ merge_two ∷ js; erased = ap (λ z. Visit x ∷ Front (Put L) ∷ Visit y ∷ Front (Put R) ∷ Merge ∷ z) w; reads_left = t; runs = λ g out (a, h, va, (a', h', vb, q)). r g out (joined (behind (Put L ∷ []) a) (behind (Put R ∷ []) a'), h', parts_off lt e is va vb, q) }
-      unseen js (forced x u) is e w t r = record { shaped = go_to u ∷ put_front (Put (symbol_of x)) ∷ js; erased = ap (λ z. Visit u ∷ Front (Put (symbol_of x)) ∷ z) w; reads_left = t; runs = λ g out (a, h, va, q). r g out (behind (Put (symbol_of x) ∷ []) a, h, is_forced lt e is va, q) }
+      unseen js (choose x y) is e w t r = record { shaped = go_to x ∷ put_front (Put L) ∷ go_to y ∷ put_front (Put R) ∷ merge_two ∷ js; erased = ap (λ z. Visit x ∷ Front (Put L) ∷ Visit y ∷ Front (Put R) ∷ Merge ∷ z) w; reads_left = t; runs = λ g out (a, h, va, (a', h', vb, q)). r g out (fork_of (with_prefix (Put L ∷ []) a) (with_prefix (Put R ∷ []) a'), h', parts_off lt e is va vb, q) }
+      unseen js (forced x u) is e w t r = record { shaped = go_to u ∷ put_front (Put (symbol_of x)) ∷ js; erased = ap (λ z. Visit u ∷ Front (Put (symbol_of x)) ∷ z) w; reads_left = t; runs = λ g out (a, h, va, q). r g out (with_prefix (Put (symbol_of x) ∷ []) a, h, is_forced lt e is va, q) }
       unseen js (go x u) is e w t r = record { shaped = go_to u ∷ js; erased = ap (λ z. Visit u ∷ z) w; reads_left = t; runs = λ g out (a, h, va, q). r g out (a, h, passes_on lt e is va, q) }
 
       either : (flag : Bool) → get_or f n false ≡ flag → (js : List ShapedTask) → map task_of js ≡ stack → left ≡ tokens_left js → ((g : List Bool) (out : List (Option (Grown Part ℕ))) → Runs moves b (go_to n ∷ js) k f rs g out → Runs moves b first 0 (replicate m false) [] g out) → Going m first k left (set f n true) (reverse (place_tasks flag (moves n)) ++ stack) (place_trees flag (moves n) n ++ rs)
@@ -102,7 +102,7 @@ module _ (moves : ℕ → Move ℕ) (b : ℕ) where
       at_place p (read sets u) is js w t r = either (get_or sets b false) refl
         where
           either : (flag : Bool) → get_or sets b false ≡ flag → Going m first (k + 1) left f (reverse (byte_tasks flag u) ++ stack) (byte_dead flag ++ rs)
-          either true e = record { shaped = go_to u ∷ put_front Input ∷ js; erased = ap (λ z. Visit u ∷ Front Input ∷ z) w; reads_left = t; runs = λ g out (a, h, va, q). r g out (behind (Input ∷ []) a, h, reads_on (subst (λ z. Allows z (took b u)) (sym is) (reads e)) va, q) }
+          either true e = record { shaped = go_to u ∷ put_front Input ∷ js; erased = ap (λ z. Visit u ∷ Front Input ∷ z) w; reads_left = t; runs = λ g out (a, h, va, q). r g out (with_prefix (Input ∷ []) a, h, reads_on (subst (λ z. Allows z (took b u)) (sym is) (reads e)) va, q) }
           either false e = record { shaped = js; erased = w; reads_left = t; runs = λ g out q. r g out (None, f, dies (λ y a. not_in (subst (λ z. Allows z (took b y)) is a)), q) }
             where
               not_in : {y : ℕ} → Allows (read sets u) (took b y) → ⊥
@@ -130,13 +130,13 @@ module _ (moves : ℕ → Move ℕ) (b : ℕ) where
             fit g out x y h h' (k + 1) (k + 1 - 1) (k + 1 + size_of l) (k + 1 + size_of l - 1) (k + 1 + size_of l + size_of r) (omega arith) (omega arith) (omega arith) (omega arith) (omega arith) vx vy q;
       }
         where
-          fit : (g : List Bool) (out : List (Option (Grown Part ℕ))) (x y : Option (Grown Part ℕ)) (h h' : List Bool) (k1 n1 k2 n2 k3 : ℕ) → k1 ≡ suc k → n1 ≡ k → k2 ≡ suc (k + size_of l) → n2 ≡ k + size_of l → k3 ≡ k + suc (size_of l + size_of r) → GoesOn moves b k1 f l x h → GoesOn moves b k2 h r y h' → Runs moves b js k3 h' (joined (behind (Old n1 ∷ []) x) (behind (Old n2 ∷ []) y) ∷ rs) g out → Runs moves b first 0 (replicate m false) [] g out
+          fit : (g : List Bool) (out : List (Option (Grown Part ℕ))) (x y : Option (Grown Part ℕ)) (h h' : List Bool) (k1 n1 k2 n2 k3 : ℕ) → k1 ≡ suc k → n1 ≡ k → k2 ≡ suc (k + size_of l) → n2 ≡ k + size_of l → k3 ≡ k + suc (size_of l + size_of r) → GoesOn moves b k1 f l x h → GoesOn moves b k2 h r y h' → Runs moves b js k3 h' (fork_of (with_prefix (Old n1 ∷ []) x) (with_prefix (Old n2 ∷ []) y) ∷ rs) g out → Runs moves b first 0 (replicate m false) [] g out
           fit g out x y h h' k1 n1 k2 n2 k3 e1 e2 e3 e4 e5 vx vy q =
               go_on g out (
-                joined (behind (Old k ∷ []) x) (behind (Old (k + size_of l) ∷ []) y),
+                fork_of (with_prefix (Old k ∷ []) x) (with_prefix (Old (k + size_of l) ∷ []) y),
                 h',
                 both (subst (λ z. GoesOn moves b z f l x h) e1 vx) (subst (λ z. GoesOn moves b z h r y h') e3 vy),
-                subst (λ z. Runs moves b js z h' (joined (behind (Old k ∷ []) x) (behind (Old (k + size_of l) ∷ []) y) ∷ rs) g out) e5 (subst (λ z. Runs moves b js k3 h' (joined (behind (Old k ∷ []) x) (behind (Old z ∷ []) y) ∷ rs) g out) e4 (subst (λ z. Runs moves b js k3 h' (joined (behind (Old z ∷ []) x) (behind (Old n2 ∷ []) y) ∷ rs) g out) e2 q)),
+                subst (λ z. Runs moves b js z h' (fork_of (with_prefix (Old k ∷ []) x) (with_prefix (Old (k + size_of l) ∷ []) y) ∷ rs) g out) e5 (subst (λ z. Runs moves b js k3 h' (fork_of (with_prefix (Old k ∷ []) x) (with_prefix (Old z ∷ []) y) ∷ rs) g out) e4 (subst (λ z. Runs moves b js k3 h' (fork_of (with_prefix (Old z ∷ []) x) (with_prefix (Old n2 ∷ []) y) ∷ rs) g out) e2 q)),
               )
 
       by : (shaped : List ShapedTask) → map task_of shaped ≡ OldTree ∷ stack → x ∷ left ≡ tokens_left shaped → ((g : List Bool) (out : List (Option (Grown Part ℕ))) → Runs moves b shaped k f rs g out → Runs moves b first 0 (replicate m false) [] g out) → Going m first (k + 1) left f (reverse (token_tasks moves b x) ++ stack) (token_dead moves b x ++ rs)

@@ -3,7 +3,7 @@ use Rattle.std.proofs.Common.{◌≡◌, ℕ, ◌*◌, ◌<◌, Bool, false, Lis
 use Rattle.std.specs.Prelude.{IfOk, IfSome, IsSome, MatchOption}
 use Rattle.std.proofs.lemmas.List.{map-append}
 use Rattle.kex_code.specs.declared.symbol.Symbol.{Symbol}
-use Rattle.kex_model.specs.Labelled.{Labelled, tip, fork, labels_of, Shape, shape_of, size_of, parts, relabelled, Grown}
+use Rattle.kex_model.specs.Labelled.{Labelled, tip, fork, labels_of, Shape, shape_of, size_of, parts, map_labels, Grown}
 use Rattle.kex_model.specs.Moves.{Move}
 use Rattle.kex_model.specs.Survivors.{HasTree}
 use Rattle.kex_machine.specs.Nodes.{Graph, node_moves, IsTrimmed}
@@ -14,7 +14,7 @@ use Rattle.kex_machine.proofs.Ranges.{is_trim}
 use Rattle.kex_machine.proofs.Relabelling.{relabelled_visit, alike_advance}
 use Rattle.kex_sst.specs.declared.parts.Part.{Part}
 use Rattle.kex_sst.specs.declared.parts.Part.TheVariants.{Put}
-use Rattle.kex_sst.specs.Parts.{Change, meant}
+use Rattle.kex_sst.specs.Parts.{Change, parts_code}
 use Rattle.kex_paths.specs.declared.forest.Edge.{Edge}
 use Rattle.kex_paths.specs.declared.walk.Token.{Token}
 use Rattle.kex_paths.specs.declared.walk.Task.{Task}
@@ -45,7 +45,7 @@ done_first g w edges root done off =
 
 -- there is a tree of the empty text
 pub some_first : (g : Graph) → IsTrimmed g → (edges : List Edge) (root : Option Edge) → (a : Option (Grown Part ℕ)) → IsFirst g a → LeadsTo edges root a → IsSome root
-some_first g trimmed edges root None (marks, v) h = absurd (machine.first_shows (node_moves g.nodes) g.start (is_trim g trimmed) (length g.nodes) None marks (relabelled_visit (meant [] 0) refl (meant-append [] 0) (λ s. Put s) itself (λ s. refl) (node_moves g.nodes) v))
+some_first g trimmed edges root None (marks, v) h = absurd (machine.first_shows (node_moves g.nodes) g.start (is_trim g trimmed) (length g.nodes) None marks (relabelled_visit (parts_code [] 0) refl (meant-append [] 0) (λ s. Put s) itself (λ s. refl) (node_moves g.nodes) v))
 some_first g trimmed edges None (Some a) first h = absurd h
 some_first g trimmed edges (Some x) (Some a) first h = there x
   where
@@ -93,30 +93,30 @@ pub all_bytes : (g : Graph) (b b' : ℕ) (s : Shape ℕ) (r : Option (Outline ×
 all_bytes g b b' s None same is h = alike_next g b b' s None same h
 all_bytes g b b' s (Some (t, u)) same is (a, next, shape, change) = (a, alike_next t.machine b b' s (Some a) (subst (λ z. LeadAlike (node_moves z.nodes) b b') (sym is) same) next, shape, change)
 
-shape_of-relabelled : (f : List Part → List Symbol) (t : Labelled Part ℕ) → shape_of (relabelled f t) ≡ shape_of t
+shape_of-relabelled : (f : List Part → List Symbol) (t : Labelled Part ℕ) → shape_of (map_labels f t) ≡ shape_of t
 shape_of-relabelled f (tip p) = refl
 shape_of-relabelled f (fork x l y r) = ap₂ (λ u v. parts u v) (shape_of-relabelled f l) (shape_of-relabelled f r)
 
-labels_of-relabelled : (f : List Part → List Symbol) (t : Labelled Part ℕ) → labels_of (relabelled f t) ≡ map f (labels_of t)
+labels_of-relabelled : (f : List Part → List Symbol) (t : Labelled Part ℕ) → labels_of (map_labels f t) ≡ map f (labels_of t)
 labels_of-relabelled f (tip p) = refl
 labels_of-relabelled f (fork x l y r) = ap (λ z. f x ∷ z) (ap₂ (λ u v. u ++ f y ∷ v) (labels_of-relabelled f l) (labels_of-relabelled f r) ∙ sym (map-append f (labels_of l) (y ∷ labels_of r)))
 
-shown : (t : Outline) (u : Change) (b : ℕ) (labels : List (List Symbol)) (a : Grown Part ℕ) → IsOfShape t (shape_of a.tree) → IsChange u a → Shows t u b labels (meant labels b a.label) (relabelled (meant labels b) a.tree)
+shown : (t : Outline) (u : Change) (b : ℕ) (labels : List (List Symbol)) (a : Grown Part ℕ) → IsOfShape t (shape_of a.tree) → IsChange u a → Shows t u b labels (parts_code labels b a.label) (map_labels (parts_code labels b) a.tree)
 shown t u b labels a shape change = record {
-  shape = subst (λ z. IsOfShape t z) (sym (shape_of-relabelled (meant labels b) a.tree)) shape;
-  passed = ap (λ z. meant labels b z) (sym change.0);
-  registers = labels_of-relabelled (meant labels b) a.tree ∙ ap (λ z. map (meant labels b) z) (sym change.1);
+  shape = subst (λ z. IsOfShape t z) (sym (shape_of-relabelled (parts_code labels b) a.tree)) shape;
+  passed = ap (λ z. parts_code labels b z) (sym change.0);
+  registers = labels_of-relabelled (parts_code labels b) a.tree ∙ ap (λ z. map (parts_code labels b) z) (sym change.1);
 }
 
 pub shows_first : (t : Outline) (u : Change) → IsTrimmed t.machine → Begins t u → ShowsFirst t u
-shows_first t u trimmed (a, first, shape, change) = (meant [] 0 a.label, relabelled (meant [] 0) a.tree, shown t u 0 [] a shape change, first_shows t.machine (is_trim t.machine trimmed) a first)
+shows_first t u trimmed (a, first, shape, change) = (parts_code [] 0 a.label, map_labels (parts_code [] 0) a.tree, shown t u 0 [] a shape change, first_shows t.machine (is_trim t.machine trimmed) a first)
 
 pub shows_next : (g : Graph) → IsTrimmed g → (w : List ℕ) (c : List Symbol) (old : Labelled Symbol ℕ) (b : ℕ) (r : Option (Outline × Change)) → HasTree (node_moves g.nodes) g.start w c old → IfSome r (λ n. n.0.machine ≡ g) → GoesOnTo g b (shape_of old) r → MatchOption r (¬ Viable g (w ++ b ∷ [])) (λ n. ShowsNext n.0 n.1 b w c old)
 shows_next g trimmed w c old b None has is h = next_shows g (is_trim g trimmed) w c old has b None h
 shows_next g trimmed w c old b (Some (t, u)) has is (a, next, shape, change) =
     let same : IsNext g b (shape_of old) (Some a) = subst (λ z. IsNext z b (shape_of old) (Some a)) is next in
     let tree = next_shows g (is_trim g trimmed) w c old has b (Some a) same in
-    (meant (labels_of old) b a.label, relabelled (meant (labels_of old) b) a.tree, shown t u b (labels_of old) a shape change, subst (λ z. HasTree (node_moves z.nodes) z.start (w ++ b ∷ []) (c ++ meant (labels_of old) b a.label) (relabelled (meant (labels_of old) b) a.tree)) (sym is) tree)
+    (parts_code (labels_of old) b a.label, map_labels (parts_code (labels_of old) b) a.tree, shown t u b (labels_of old) a shape change, subst (λ z. HasTree (node_moves z.nodes) z.start (w ++ b ∷ []) (c ++ parts_code (labels_of old) b a.label) (map_labels (parts_code (labels_of old) b) a.tree)) (sym is) tree)
 
 pub if_ok_both : {T E : Type 0} (P Q R : T → Type 0) (r : Result T E) → ((x : T) → P x → Q x → R x) → IfOk r P → IfOk r Q → IfOk r R
 if_ok_both P Q R (Ok x) f p q = f x p q

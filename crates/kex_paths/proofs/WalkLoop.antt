@@ -4,7 +4,7 @@ use Rattle.std.proofs.lemmas.List.{reverse-append}
 use Rattle.kex_code.specs.declared.symbol.Symbol.TheVariants.{L, R}
 use Rattle.kex_code.specs.Codes.{IsAmong}
 use Rattle.kex_model.specs.Moves.{Move, accept, read, choose, forced, go, symbol_of}
-use Rattle.kex_model.specs.Labelled.{Grown, behind, joined}
+use Rattle.kex_model.specs.Labelled.{Grown, with_prefix, fork_of}
 use Rattle.kex_model.proofs.Shapes.{among-append}
 use Rattle.kex_model.proofs.Standing.{empty_list}
 use Rattle.kex_machine.specs.declared.MNode.{MNode}
@@ -34,10 +34,10 @@ module _ (moves : ℕ → Move ℕ) (b m : ℕ) (shape : List Token) (first : Li
   pub keeps_end : (k : ℕ) (f : List Bool) (tasks : List Task) (gs : Trees) → tasks ≡ [] → Keeps k f tasks gs → (rs : List (Option (Grown Part ℕ))) × HasTrees gs rs × ((h : List Bool) × Runs moves b first 0 (replicate m false) [] h rs)
   keeps_end k f tasks gs e h = (h.0, h.1, (f, going_end moves b m first k (drop k shape) f h.0 (subst (λ z. Going moves b m first k (drop k shape) f (reverse z) h.0) e h.2)))
 
-  pub keeps_join : (k : ℕ) (f : List Bool) (tasks : List Task) (gs gs' : Trees) → ((rs : List (Option (Grown Part ℕ))) → HasTrees gs rs → HasTrees gs' (joined (last_tree (trees_before rs)) (last_tree rs) ∷ trees_before (trees_before rs))) → Keeps k f (tasks ++ Merge ∷ []) gs → Keeps k f tasks gs'
+  pub keeps_join : (k : ℕ) (f : List Bool) (tasks : List Task) (gs gs' : Trees) → ((rs : List (Option (Grown Part ℕ))) → HasTrees gs rs → HasTrees gs' (fork_of (last_tree (trees_before rs)) (last_tree rs) ∷ trees_before (trees_before rs))) → Keeps k f (tasks ++ Merge ∷ []) gs → Keeps k f tasks gs'
   keeps_join k f tasks gs gs' done h = let q = h in (_, done q.0 q.1, going_join moves b m first k (drop k shape) f (reverse tasks) q.0 (topped k (drop k shape) f tasks Merge q.0 q.2))
 
-  pub keeps_front : (k : ℕ) (f : List Bool) (tasks : List Task) (x : Part) (gs gs' : Trees) → ((rs : List (Option (Grown Part ℕ))) → HasTrees gs rs → HasTrees gs' (behind (x ∷ []) (last_tree rs) ∷ trees_before rs)) → Keeps k f (tasks ++ Front x ∷ []) gs → Keeps k f tasks gs'
+  pub keeps_front : (k : ℕ) (f : List Bool) (tasks : List Task) (x : Part) (gs gs' : Trees) → ((rs : List (Option (Grown Part ℕ))) → HasTrees gs rs → HasTrees gs' (with_prefix (x ∷ []) (last_tree rs) ∷ trees_before rs)) → Keeps k f (tasks ++ Front x ∷ []) gs → Keeps k f tasks gs'
   keeps_front k f tasks x gs gs' done h = let q = h in (_, done q.0 q.1, going_front moves b m first k (drop k shape) f x (reverse tasks) q.0 (topped k (drop k shape) f tasks (Front x) q.0 q.2))
 
   pub keeps_edge : (k : ℕ) (f : List Bool) (tasks tasks' : List Task) (gs : Trees) → tasks' ≡ tasks ++ Front (Old (k - 1)) ∷ [] → Keeps k f (tasks ++ OldEdge ∷ []) gs → Keeps k f (tasks' ++ OldTree ∷ []) gs

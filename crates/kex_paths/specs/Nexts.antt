@@ -10,7 +10,7 @@ use Rattle.kex_machine.specs.Answers.{Viable}
 use Rattle.kex_machine.specs.Advancing.{Visits, Advances}
 use Rattle.kex_sst.specs.declared.parts.Part.{Part}
 use Rattle.kex_sst.specs.declared.parts.Part.TheVariants.{Put, Input}
-use Rattle.kex_sst.specs.Parts.{Change, meant, numbered}
+use Rattle.kex_sst.specs.Parts.{Change, parts_code, numbered_tree}
 
 -- the tree of the waiting places that are reached from place n without a byte, with parts for labels
 abbrev pub Explores : (ℕ → Move ℕ) → List Bool → ℕ → Option (Grown Part ℕ) → List Bool → Type 0
@@ -18,7 +18,7 @@ Explores moves f n a g = Visits (λ s. Put s) moves f n a g
 
 -- the tree of this shape, whose labels are registers in preorder from k on, goes on with byte b
 abbrev pub GoesOn : (ℕ → Move ℕ) → ℕ → ℕ → List Bool → Shape ℕ → Option (Grown Part ℕ) → List Bool → Type 0
-GoesOn moves b k f s a g = Advances (λ s. Put s) Input moves b f (numbered k s) a g
+GoesOn moves b k f s a g = Advances (λ s. Put s) Input moves b f (numbered_tree k s) a g
 
 -- the tree of the empty text, and its label: what the survivors agree on
 abbrev pub IsFirst : Graph → Option (Grown Part ℕ) → Type 0
@@ -68,8 +68,8 @@ Follows t b s u = (a : Grown Part ℕ) × IsNext t.machine b s (Some a) × IsOfS
 -- tree has the tree's shape
 pub record Shows (t : Outline) (u : Change) (b : ℕ) (labels : List (List Symbol)) (x : List Symbol) (tree : Labelled Symbol ℕ) : Type 0 where
   pub shape : IsOfShape t (shape_of tree)
-  pub passed : x ≡ meant labels b u.out
-  pub registers : labels_of tree ≡ map (λ parts. meant labels b parts) u.regs
+  pub passed : x ≡ parts_code labels b u.out
+  pub registers : labels_of tree ≡ map (λ parts. parts_code labels b parts) u.regs
 
 -- the path tree is that of the empty text, and the update passes on what its survivors agree on
 abbrev pub ShowsFirst : Outline → Change → Type 0

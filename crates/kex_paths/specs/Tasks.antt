@@ -3,7 +3,7 @@ use Rattle.std.specs.Prelude.{◌≡◌, ℕ, ◌+◌, ◌-◌, ◌<◌, Bool, t
 use Rattle.kex_code.specs.declared.symbol.Symbol.TheVariants.{L, R}
 use Rattle.kex_code.specs.Codes.{IsAmong}
 use Rattle.kex_model.specs.Moves.{Move, accept, read, choose, forced, go, symbol_of}
-use Rattle.kex_model.specs.Labelled.{tip, Shape, place, parts, size_of, Grown, behind, joined}
+use Rattle.kex_model.specs.Labelled.{tip, Shape, place, parts, size_of, Grown, with_prefix, fork_of}
 use Rattle.kex_sst.specs.declared.parts.Part.{Part}
 use Rattle.kex_sst.specs.declared.parts.Part.TheVariants.{Put, Old, Input}
 use Rattle.kex_paths.specs.declared.walk.Token.{Token}
@@ -118,7 +118,7 @@ module _ (moves : ℕ → Move ℕ) (b : ℕ) where
   abbrev pub Runs : List ShapedTask → ℕ → List Bool → List (Option (Grown Part ℕ)) → List Bool → List (Option (Grown Part ℕ)) → Type 0
   Runs [] k f rs g out = (f ≡ g) × (rs ≡ out)
   Runs (tree s ∷ js) k f rs g out = (a : Option (Grown Part ℕ)) × (h : List Bool) × GoesOn moves b k f s a h × Runs js (k + size_of s) h (a ∷ rs) g out
-  Runs (edge s ∷ js) k f rs g out = (a : Option (Grown Part ℕ)) × (h : List Bool) × GoesOn moves b k f s a h × Runs js (k + size_of s) h (behind (Old (k - 1) ∷ []) a ∷ rs) g out
-  Runs (merge_two ∷ js) k f rs g out = Runs js k f (joined (last_tree (trees_before rs)) (last_tree rs) ∷ trees_before (trees_before rs)) g out
-  Runs (put_front x ∷ js) k f rs g out = Runs js k f (behind (x ∷ []) (last_tree rs) ∷ trees_before rs) g out
+  Runs (edge s ∷ js) k f rs g out = (a : Option (Grown Part ℕ)) × (h : List Bool) × GoesOn moves b k f s a h × Runs js (k + size_of s) h (with_prefix (Old (k - 1) ∷ []) a ∷ rs) g out
+  Runs (merge_two ∷ js) k f rs g out = Runs js k f (fork_of (last_tree (trees_before rs)) (last_tree rs) ∷ trees_before (trees_before rs)) g out
+  Runs (put_front x ∷ js) k f rs g out = Runs js k f (with_prefix (x ∷ []) (last_tree rs) ∷ trees_before rs) g out
   Runs (go_to n ∷ js) k f rs g out = (a : Option (Grown Part ℕ)) × (h : List Bool) × Explores moves f n a h × Runs js k h (a ∷ rs) g out

@@ -1,7 +1,7 @@
 // Trees side by side, of which each may be gone, with parts of an update for labels.
 
 ghost use Rattle.std.specs.Prelude.{◌≡◌, ℕ, List, [], ◌∷◌, ◌++◌, Some, Option, OnOk};
-ghost use Rattle.kex_model.specs.Labelled.{Grown, tip, behind, joined};
+ghost use Rattle.kex_model.specs.Labelled.{Grown, tip, with_prefix, fork_of};
 ghost use Rattle.kex_sst.specs.declared.parts.Part.{Part};
 ghost use Rattle.kex_paths.specs.Forests.{HasTrees, LeadsTo, last_tree, trees_before, no_trees};
 
@@ -104,7 +104,7 @@ impl Forest {
 
     // A fork of two trees, as the last tree.
     fn add_fork(&mut self, left: Edge, right: Edge) -> Result<(), Memory>
-        ensures { OnOk result ((a : Grown Part ℕ) (b : Grown Part ℕ) (rs : List (Option (Grown Part ℕ))) → LeadsTo self.old.edges (Some left) (Some a) → LeadsTo self.old.edges (Some right) (Some b) → HasTrees self.old rs → HasTrees self.new (joined (Some a) (Some b) ∷ rs)) }
+        ensures { OnOk result ((a : Grown Part ℕ) (b : Grown Part ℕ) (rs : List (Option (Grown Part ℕ))) → LeadsTo self.old.edges (Some left) (Some a) → LeadsTo self.old.edges (Some right) (Some b) → HasTrees self.old rs → HasTrees self.new (fork_of (Some a) (Some b) ∷ rs)) }
     {
         let label = Vec::new(self.alloc);
         let left_number = self.edges.len();
@@ -117,7 +117,7 @@ impl Forest {
 
     /// The last two trees as the sides of a fork; of one that is gone no fork is left.
     pub fn merge(&mut self) -> Result<(), Memory>
-        ensures { OnOk result ((rs : List (Option (Grown Part ℕ))) → HasTrees self.old rs → HasTrees self.new (joined (last_tree (trees_before rs)) (last_tree rs) ∷ trees_before (trees_before rs))) }
+        ensures { OnOk result ((rs : List (Option (Grown Part ℕ))) → HasTrees self.old rs → HasTrees self.new (fork_of (last_tree (trees_before rs)) (last_tree rs) ∷ trees_before (trees_before rs))) }
     {
         let right = self.pop_root();
         let left = self.pop_root();
@@ -130,7 +130,7 @@ impl Forest {
 
     /// A part in front of the last tree.
     pub fn put_front(&mut self, part: Part) -> Result<(), Memory>
-        ensures { OnOk result ((rs : List (Option (Grown Part ℕ))) → HasTrees self.old rs → HasTrees self.new (behind (part ∷ []) (last_tree rs) ∷ trees_before rs)) }
+        ensures { OnOk result ((rs : List (Option (Grown Part ℕ))) → HasTrees self.old rs → HasTrees self.new (with_prefix (part ∷ []) (last_tree rs) ∷ trees_before rs)) }
     {
         match self.pop_root() {
             None => self.push_root(None),

@@ -3,10 +3,10 @@ use Rattle.std.proofs.Common.{◌≡◌, ◌<◌, ℕ, zero, suc, Bool, true, fa
 use Rattle.std.proofs.Math.ListN.{set}
 use Rattle.std.proofs.lemmas.List.{map-append}
 use Rattle.kex_model.specs.Answers.{Answer}
-use Rattle.kex_model.specs.Schedules.{StreamItem, byte, finish, has_end, ending, items_of, Progress, Event, give, give_end, turn, After, begun, given, ended, turned, LastWrote}
+use Rattle.kex_model.specs.Schedules.{StreamItem, byte, finish, has_end, end_items, items_of, Progress, Event, give, give_end, turn, After, begun, given, ended, turned, LastWrote}
 use Rattle.kex_pipe.specs.Events.{bytes_given, end_given}
 use Rattle.kex_pipe.specs.Seats.{Sits}
-use Rattle.kex_pipe.specs.Waiting.{unread, waiting}
+use Rattle.kex_pipe.specs.Waiting.{unread_bytes, waiting_items}
 use Rattle.kex_pipe.specs.Standing.{Line, Stands, HasWritten, in_hand}
 use Rattle.kex_pipe.specs.declared.inbox.Inbox.{Inbox}
 use Rattle.kex_pipe.specs.declared.seat.Seat.{Seat as Seated}
@@ -33,7 +33,7 @@ given-of : (h k : List Event) (came more : List StreamItem) → came ≡ items_o
 given-of h k came more is no_end more_is =
     let shut : end_given h ≡ false = sym (end-items (bytes_given h) (end_given h)) ∙ ap has_end (sym is) ∙ no_end in
     let front : came ≡ map byte (bytes_given h) = is ∙ ap (λ z. items_of (bytes_given h) z) shut ∙ append-nil (map byte (bytes_given h)) in
-    ap₂ (λ a b. a ++ b) front more_is ∙ sym (append_assoc (map byte (bytes_given h)) (map byte (bytes_given k)) (ending (end_given k))) ∙ ap (λ z. z ++ ending (end_given k)) (sym (map-append byte (bytes_given h) (bytes_given k)))
+    ap₂ (λ a b. a ++ b) front more_is ∙ sym (append_assoc (map byte (bytes_given h)) (map byte (bytes_given k)) (end_items (end_given k))) ∙ ap (λ z. z ++ end_items (end_given k)) (sym (map-append byte (bytes_given h) (bytes_given k)))
     ∙ ap₂ items_of (sym (bytes_given-append h k)) (ap (λ z. z || end_given k) (sym shut) ∙ sym (end_given-append h k))
 
 or-not : (a : Bool) → a ≡ (a || false)
@@ -49,11 +49,11 @@ module _ {P : Type 0} (gives : P → List ℕ → Bool → Answer → Type 0) wh
 
 module _ {T : Type 0} (t : Ghosts T) where
   pub out-items : (taken w : List ℕ) (e : Bool) → items_of (taken ++ w) e ≡ map byte taken ++ items_of w e
-  out-items taken w e = ap (λ z. z ++ ending e) (map-append byte taken w) ∙ append_assoc (map byte taken) (map byte w) (ending e)
+  out-items taken w e = ap (λ z. z ++ end_items e) (map-append byte taken w) ∙ append_assoc (map byte taken) (map byte w) (end_items e)
 
   -- what the last stage has written is what was taken from the output, and what is in hand
-  pub line-wrote : (came : List StreamItem) (ps : List t.Plan) (ss : List (Seated T t)) (xs : List Progress) (b : Inbox) (taken : List ℕ) → Line t came ps ss xs b taken → (f : Bool) × LastWrote t.gives came ps xs (items_of (taken ++ unread b) f)
-  line-wrote came [] [] [] b taken h = (b.ended, out-items taken (unread b) b.ended ∙ sym h)
+  pub line-wrote : (came : List StreamItem) (ps : List t.Plan) (ss : List (Seated T t)) (xs : List Progress) (b : Inbox) (taken : List ℕ) → Line t came ps ss xs b taken → (f : Bool) × LastWrote t.gives came ps xs (items_of (taken ++ unread_bytes b) f)
+  line-wrote came [] [] [] b taken h = (b.ended, out-items taken (unread_bytes b) b.ended ∙ sym h)
   line-wrote came (p ∷ ps) (s ∷ ss) (x ∷ xs) b taken h =
       let r = line-wrote h.1 ps ss xs b taken h.3 in
       (r.0, (h.1, sits-wrote t p s.staged x h.1 h.2, r.1))
@@ -71,33 +71,33 @@ module _ {T : Type 0} (t : Ghosts T) where
       (record { came = came; seats = xs; after = after; output_ended = r.0; written = r.1; line = line; same_end = same_end; going = going; closed = closed }, q)
 
   -- more comes
-  pub line-more : (came came' : List StreamItem) (ps : List t.Plan) (ss : List (Seated T t)) (xs : List Progress) (b : Inbox) (taken : List ℕ) (s s' d : Seated T t) → 0 < length ss → s ≡ get_or ss 0 d → s'.staged ≡ s.staged → s'.outbox ≡ s.outbox → ((front : List StreamItem) → came ≡ front ++ waiting s.inbox → came' ≡ front ++ waiting s'.inbox) → Line t came ps ss xs b taken → Line t came' ps (set ss 0 s') xs b taken
+  pub line-more : (came came' : List StreamItem) (ps : List t.Plan) (ss : List (Seated T t)) (xs : List Progress) (b : Inbox) (taken : List ℕ) (s s' d : Seated T t) → 0 < length ss → s ≡ get_or ss 0 d → s'.staged ≡ s.staged → s'.outbox ≡ s.outbox → ((front : List StreamItem) → came ≡ front ++ waiting_items s.inbox → came' ≡ front ++ waiting_items s'.inbox) → Line t came ps ss xs b taken → Line t came' ps (set ss 0 s') xs b taken
   line-more came came' ps [] xs b taken s s' d some s_is staged outbox more h = absurd (omega arith)
   line-more came came' (p ∷ ps) (s0 ∷ ss) (x ∷ xs) b taken s s' d some s_is staged outbox more h =
-      (more x.taken (rw s_is h.0), h.1, subst (λ z. Sits t p z x h.1) (ap (λ z. z.staged) (sym s_is) ∙ sym staged) h.2, h.3, ap waiting (outbox ∙ ap (λ z. z.outbox) s_is) ∙ h.4)
+      (more x.taken (rw s_is h.0), h.1, subst (λ z. Sits t p z x h.1) (ap (λ z. z.staged) (sym s_is) ∙ sym staged) h.2, h.3, ap waiting_items (outbox ∙ ap (λ z. z.outbox) s_is) ∙ h.4)
   line-more came came' ps ss xs b taken s s' d some s_is staged outbox more h = absurd h
 
-  no-end-waits : (front : List StreamItem) (came : List StreamItem) (b : Inbox) → has_end came ≡ false → came ≡ front ++ waiting b → b.ended ≡ false
-  no-end-waits front came b no_end is = sym (end-items (unread b) b.ended) ∙ or-false (has_end front) (has_end (waiting b)) (sym (end-append front (waiting b)) ∙ ap has_end (sym is) ∙ no_end)
+  no-end-waits : (front : List StreamItem) (came : List StreamItem) (b : Inbox) → has_end came ≡ false → came ≡ front ++ waiting_items b → b.ended ≡ false
+  no-end-waits front came b no_end is = sym (end-items (unread_bytes b) b.ended) ∙ or-false (has_end front) (has_end (waiting_items b)) (sym (end-append front (waiting_items b)) ∙ ap has_end (sym is) ∙ no_end)
 
-  pub waits-more : (came : List StreamItem) (b b' : Inbox) (w : List ℕ) → has_end came ≡ false → unread b' ≡ unread b ++ w → b'.ended ≡ b.ended → (front : List StreamItem) → came ≡ front ++ waiting b → came ++ map byte w ≡ front ++ waiting b'
+  pub waits-more : (came : List StreamItem) (b b' : Inbox) (w : List ℕ) → has_end came ≡ false → unread_bytes b' ≡ unread_bytes b ++ w → b'.ended ≡ b.ended → (front : List StreamItem) → came ≡ front ++ waiting_items b → came ++ map byte w ≡ front ++ waiting_items b'
   waits-more came b b' w no_end bytes end front is =
       let shut = no-end-waits front came b no_end is in
-      let before : waiting b ≡ map byte (unread b) = ap (λ z. items_of (unread b) z) shut ∙ append-nil (map byte (unread b)) in
-      let after : waiting b' ≡ map byte (unread b) ++ map byte w = ap₂ items_of bytes (end ∙ shut) ∙ append-nil (map byte (unread b ++ w)) ∙ map-append byte (unread b) w in
-      ap (λ z. z ++ map byte w) (is ∙ ap (λ z. front ++ z) before) ∙ append_assoc front (map byte (unread b)) (map byte w) ∙ ap (λ z. front ++ z) (sym after)
+      let before : waiting_items b ≡ map byte (unread_bytes b) = ap (λ z. items_of (unread_bytes b) z) shut ∙ append-nil (map byte (unread_bytes b)) in
+      let after : waiting_items b' ≡ map byte (unread_bytes b) ++ map byte w = ap₂ items_of bytes (end ∙ shut) ∙ append-nil (map byte (unread_bytes b ++ w)) ∙ map-append byte (unread_bytes b) w in
+      ap (λ z. z ++ map byte w) (is ∙ ap (λ z. front ++ z) before) ∙ append_assoc front (map byte (unread_bytes b)) (map byte w) ∙ ap (λ z. front ++ z) (sym after)
 
-  pub waits-end : (came : List StreamItem) (b b' : Inbox) → has_end came ≡ false → unread b' ≡ unread b → b'.ended ≡ true → (front : List StreamItem) → came ≡ front ++ waiting b → came ++ finish ∷ [] ≡ front ++ waiting b'
+  pub waits-end : (came : List StreamItem) (b b' : Inbox) → has_end came ≡ false → unread_bytes b' ≡ unread_bytes b → b'.ended ≡ true → (front : List StreamItem) → came ≡ front ++ waiting_items b → came ++ finish ∷ [] ≡ front ++ waiting_items b'
   waits-end came b b' no_end bytes end front is =
       let shut = no-end-waits front came b no_end is in
-      let before : waiting b ≡ map byte (unread b) = ap (λ z. items_of (unread b) z) shut ∙ append-nil (map byte (unread b)) in
-      let after : waiting b' ≡ map byte (unread b) ++ finish ∷ [] = ap₂ items_of bytes end in
-      ap (λ z. z ++ finish ∷ []) (is ∙ ap (λ z. front ++ z) before) ∙ append_assoc front (map byte (unread b)) (finish ∷ []) ∙ ap (λ z. front ++ z) (sym after)
+      let before : waiting_items b ≡ map byte (unread_bytes b) = ap (λ z. items_of (unread_bytes b) z) shut ∙ append-nil (map byte (unread_bytes b)) in
+      let after : waiting_items b' ≡ map byte (unread_bytes b) ++ finish ∷ [] = ap₂ items_of bytes end in
+      ap (λ z. z ++ finish ∷ []) (is ∙ ap (λ z. front ++ z) before) ∙ append_assoc front (map byte (unread_bytes b)) (finish ∷ []) ∙ ap (λ z. front ++ z) (sym after)
 
   -- the output is taken
-  pub line-taken : (came : List StreamItem) (ps : List t.Plan) (ss : List (Seated T t)) (xs : List Progress) (b b' : Inbox) (taken out : List ℕ) → out ≡ unread b → unread b' ≡ [] → b'.ended ≡ b.ended → Line t came ps ss xs b taken → Line t came ps ss xs b' (taken ++ out)
+  pub line-taken : (came : List StreamItem) (ps : List t.Plan) (ss : List (Seated T t)) (xs : List Progress) (b b' : Inbox) (taken out : List ℕ) → out ≡ unread_bytes b → unread_bytes b' ≡ [] → b'.ended ≡ b.ended → Line t came ps ss xs b taken → Line t came ps ss xs b' (taken ++ out)
   line-taken came [] [] [] b b' taken out out_is none end h =
-      h ∙ sym (out-items taken (unread b) b.ended) ∙ ap₂ (λ z f. map byte (taken ++ z) ++ ending f) (sym out_is) (sym end) ∙ ap (λ z. map byte (taken ++ out) ++ items_of z b'.ended) (sym none)
+      h ∙ sym (out-items taken (unread_bytes b) b.ended) ∙ ap₂ (λ z f. map byte (taken ++ z) ++ end_items f) (sym out_is) (sym end) ∙ ap (λ z. map byte (taken ++ out) ++ items_of z b'.ended) (sym none)
   line-taken came (p ∷ ps) (s ∷ ss) (x ∷ xs) b b' taken out out_is none end h =
       (h.0, h.1, h.2, line-taken h.1 ps ss xs b b' taken out out_is none end h.3, h.4)
   line-taken came ps ss xs b b' taken out out_is none end h = absurd h

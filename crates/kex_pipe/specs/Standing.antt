@@ -6,7 +6,7 @@ use Rattle.kex_model.specs.Schedules.{StreamItem, byte, has_end, items_of, Progr
 use Rattle.kex_pipe.specs.Events.{bytes_given, end_given}
 use Rattle.kex_pipe.specs.Rounds.{Each, LeftBy}
 use Rattle.kex_pipe.specs.Seats.{Sits}
-use Rattle.kex_pipe.specs.Waiting.{unread, waiting}
+use Rattle.kex_pipe.specs.Waiting.{unread_bytes, waiting_items}
 use Rattle.kex_pipe.specs.declared.inbox.Inbox.{Inbox}
 use Rattle.kex_pipe.specs.declared.seat.Seat.{Seat as Seated}
 use Rattle.kex_pipe.specs.declared.pipe.Pipe.{Pipe}
@@ -15,8 +15,8 @@ use Rattle.kex_pipe.specs.declared.turn.Turn.{Ghosts}
 module _ {T : Type 0} (t : Ghosts T) where
   -- each stage sits in its seat; what came to it is what it has taken and then what waits, and nothing lies in its outbox; behind the last stage, what was taken from the output and then what is in hand
   abbrev pub Line : List StreamItem → List t.Plan → List (Seated T t) → List Progress → Inbox → List ℕ → Type 0
-  Line came [] [] [] b taken = came ≡ map byte taken ++ waiting b
-  Line came (p ∷ ps) (s ∷ ss) (x ∷ xs) b taken = (came ≡ x.taken ++ waiting s.inbox) × (out : List StreamItem) × Sits t p s.staged x out × Line out ps ss xs b taken × (waiting s.outbox ≡ [])
+  Line came [] [] [] b taken = came ≡ map byte taken ++ waiting_items b
+  Line came (p ∷ ps) (s ∷ ss) (x ∷ xs) b taken = (came ≡ x.taken ++ waiting_items s.inbox) × (out : List StreamItem) × Sits t p s.staged x out × Line out ps ss xs b taken × (waiting_items s.outbox ≡ [])
   Line came ps ss xs b taken = ⊥
 
   -- after a turn of stage i, counted from 0, of at most m items
@@ -39,7 +39,7 @@ module _ {T : Type 0} (t : Ghosts T) where
 
   -- the output that is in hand
   abbrev pub in_hand : Pipe T t → List ℕ
-  in_hand pipe = unread pipe.output
+  in_hand pipe = unread_bytes pipe.output
 
   -- the pipe of stages with these plans has come by this schedule, and this was taken from its output
   pub record Stands (ps : List t.Plan) (pipe : Pipe T t) (h : List Event) (taken : List ℕ) : Type 0 where

@@ -18,10 +18,10 @@ pub struct Inbox {
 }
 
 impl Inbox {
-    ghost use Rattle.kex_pipe.specs.Waiting.{unread, waiting};
+    ghost use Rattle.kex_pipe.specs.Waiting.{unread_bytes, waiting_items};
 
     pub fn new(alloc: Global) -> Inbox
-        ensures bytes { unread result ≡ [] }
+        ensures bytes { unread_bytes result ≡ [] }
         ensures open { result.ended ≡ false }
     {
         Inbox {
@@ -32,14 +32,14 @@ impl Inbox {
     }
 
     pub fn is_empty(&self) -> bool
-        ensures { IsTrue result ↔ ((unread self.now ≡ []) × (self.now.ended ≡ false)) }
+        ensures { IsTrue result ↔ ((unread_bytes self.now ≡ []) × (self.now.ended ≡ false)) }
     {
         !self.ended && self.bytes[self.start..].is_empty()
     }
 
     /// The bytes among the first items.
     pub fn front(&self, at_most: u64) -> &[u8]
-        ensures { result.now ≡ take at_most (unread self.now) }
+        ensures { result.now ≡ take at_most (unread_bytes self.now) }
     {
         let rest = &self.bytes[self.start..];
         let count = rest.len().min(at_most as usize);
@@ -48,21 +48,21 @@ impl Inbox {
 
     /// Whether the end is among the first items.
     pub fn reaches_end(&self, at_most: u64) -> bool
-        ensures { result ≡ (self.now.ended && nat_lt (length (unread self.now)) at_most) }
+        ensures { result ≡ (self.now.ended && nat_lt (length (unread_bytes self.now)) at_most) }
     {
         self.ended && self.bytes.len() - self.start < at_most as usize
     }
 
     /// How many items there are.
     pub fn count(&self) -> u64
-        ensures { result ≡ length (waiting self.now) }
+        ensures { result ≡ length (waiting_items self.now) }
     {
         self.byte_count() as u64 + u64::from(self.ended)
     }
 
     /// How many bytes there are.
     pub fn byte_count(&self) -> usize
-        ensures { result ≡ length (unread self.now) }
+        ensures { result ≡ length (unread_bytes self.now) }
     {
         self.bytes.len() - self.start
     }
@@ -70,9 +70,9 @@ impl Inbox {
     /// Moves all that waits there behind what waits here, where the end hasn't come or nothing waits there. After an error
     /// nothing was moved.
     pub fn append(&mut self, other: &mut Inbox) -> Result<(), Memory>
-        ensures ok { OnOk result ((self.old.ended ≡ false) ⊎ (waiting other.old ≡ []) → waiting self.new ≡ waiting self.old ++ waiting other.old) }
-        ensures none_left { OnOk result (waiting other.new ≡ []) }
-        ensures err { OnErr result (unread self.new ≡ unread self.old) }
+        ensures ok { OnOk result ((self.old.ended ≡ false) ⊎ (waiting_items other.old ≡ []) → waiting_items self.new ≡ waiting_items self.old ++ waiting_items other.old) }
+        ensures none_left { OnOk result (waiting_items other.new ≡ []) }
+        ensures err { OnErr result (unread_bytes self.new ≡ unread_bytes self.old) }
     {
         if self.is_empty() {
             swap(self, other);
@@ -86,8 +86,8 @@ impl Inbox {
 
     /// Takes the first items away.
     pub fn remove(&mut self, at_most: u64)
-        ensures bytes { unread self.new ≡ drop at_most (unread self.old) }
-        ensures end { self.new.ended ≡ (self.old.ended && not (nat_lt (length (unread self.old)) at_most)) }
+        ensures bytes { unread_bytes self.new ≡ drop at_most (unread_bytes self.old) }
+        ensures end { self.new.ended ≡ (self.old.ended && not (nat_lt (length (unread_bytes self.old)) at_most)) }
     {
         if self.bytes.len() - self.start < at_most as usize {
             self.clear();
@@ -101,7 +101,7 @@ impl Inbox {
 
     // Frees the room of what was taken.
     fn compact(&mut self)
-        ensures bytes { unread self.new ≡ unread self.old }
+        ensures bytes { unread_bytes self.new ≡ unread_bytes self.old }
         ensures same_end { self.new.ended ≡ self.old.ended }
         ensures start { self.new.start ≡ 0 }
     {
@@ -116,8 +116,8 @@ impl Inbox {
 
     /// The bytes come in the place of what `out` held, whose room is kept for more. The end stays.
     pub fn take_bytes_into(&mut self, out: &mut Vec<u8>)
-        ensures bytes { out.new.items ≡ unread self.old }
-        ensures none_left { unread self.new ≡ [] }
+        ensures bytes { out.new.items ≡ unread_bytes self.old }
+        ensures none_left { unread_bytes self.new ≡ [] }
         ensures same_end { self.new.ended ≡ self.old.ended }
     {
         self.compact();
@@ -127,8 +127,8 @@ impl Inbox {
 
     /// Adds bytes. After an error nothing was added.
     pub fn give(&mut self, bytes: &[u8]) -> Result<(), Memory>
-        ensures ok { OnOk result (unread self.new ≡ unread self.old ++ bytes.now) }
-        ensures err { OnErr result (unread self.new ≡ unread self.old) }
+        ensures ok { OnOk result (unread_bytes self.new ≡ unread_bytes self.old ++ bytes.now) }
+        ensures err { OnErr result (unread_bytes self.new ≡ unread_bytes self.old) }
         ensures same_end { self.new.ended ≡ self.old.ended }
     {
         self.bytes.extend_from_slice(bytes)?;
@@ -137,7 +137,7 @@ impl Inbox {
 
     /// The end comes.
     pub fn give_end(&mut self)
-        ensures same_bytes { unread self.new ≡ unread self.old }
+        ensures same_bytes { unread_bytes self.new ≡ unread_bytes self.old }
         ensures end { self.new.ended ≡ true }
     {
         self.ended = true;
@@ -145,7 +145,7 @@ impl Inbox {
 
     /// Drops all that waits.
     pub(crate) fn clear(&mut self)
-        ensures bytes { unread self.new ≡ [] }
+        ensures bytes { unread_bytes self.new ≡ [] }
         ensures open { self.new.ended ≡ false }
     {
         self.bytes.clear();

@@ -1,7 +1,7 @@
 // A stage in its seat, with what lies before and behind it.
 
 ghost use Rattle.std.specs.Prelude.{◌≡◌, ◌&&◌, ◌⊎◌, ℕ, Bool, true, false, IsTrue, OnOk, is_ok, drop, length};
-ghost use Rattle.kex_pipe.specs.Waiting.{waiting};
+ghost use Rattle.kex_pipe.specs.Waiting.{waiting_items};
 
 use crate::inbox::Inbox;
 use crate::staged::Staged;

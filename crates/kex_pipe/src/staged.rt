@@ -4,7 +4,7 @@ ghost use Rattle.std.specs.Prelude.{◌≡◌, ◌++◌, ℕ, List, [], Bool, Op
 ghost use Rattle.kex_model.specs.Schedules.{StreamItem};
 ghost use Rattle.kex_model.specs.Schedules as schedule;
 ghost use Rattle.kex_pipe.specs.Histories.{Fed, bytes_fed, ended_of};
-ghost use Rattle.kex_pipe.specs.Waiting.{unread, waiting, Passes};
+ghost use Rattle.kex_pipe.specs.Waiting.{unread_bytes, waiting_items, Passes};
 
 use crate::inbox::Inbox;
 use crate::turn::{Fate, Turn};
@@ -30,11 +30,11 @@ impl<T: Turn> Staged<T> {
         requires { IsTrue (T.is_usable self.old.stage) }
         ensures usable { T.is_usable self.new.stage ≡ is_ok result }
         ensures turns { OnOk result ((p : T.Plan) (x : schedule.Progress) (came out front : List StreamItem)
-            → IsWhole came → came ≡ x.taken ++ waiting inbox.old → Sits T.Turn p self.old x out → out ≡ front ++ waiting next.old
+            → IsWhole came → came ≡ x.taken ++ waiting_items inbox.old → Sits T.Turn p self.old x out → out ≡ front ++ waiting_items next.old
             → TakesTurn T.Turn p at_most came x front self.new inbox.new next.new) }
         ensures turned { OnOk result (self.new.turned ≡ true) }
-        ensures rest { OnOk result (waiting inbox.new ≡ drop at_most (waiting inbox.old)) }
-        ensures err { OnErr result (unread next.new ≡ []) }
+        ensures rest { OnOk result (waiting_items inbox.new ≡ drop at_most (waiting_items inbox.old)) }
+        ensures err { OnErr result (unread_bytes next.new ≡ []) }
     {
         if self.turned && inbox.is_empty() {
             return Ok(());
@@ -56,7 +56,7 @@ fn feed<T: Turn>(stage: &mut T, piece: &[u8], into: &mut Inbox) -> Result<(), Me
     ensures same_plan { T.plan stage.new ≡ T.plan stage.old }
     ensures passes { OnOk result ((h : Option Fed) → T.stands stage.old h → ended_of h ≡ false → into.old.ended ≡ false
         → Passes (T.gives (T.plan stage.old)) (T.stands stage.new) h (bytes_fed h ++ piece.now) false into.old into.new) }
-    ensures err { OnErr result (unread into.new ≡ []) }
+    ensures err { OnErr result (unread_bytes into.new ≡ []) }
 {
     // Only of a stage that was fed in order it is known that it appends.
     let fate = stage.feed(piece, &mut into.bytes);
@@ -77,7 +77,7 @@ fn end<T: Turn>(stage: &mut T, into: &mut Inbox) -> Result<(), Memory>
     ensures same_plan { T.plan stage.new ≡ T.plan stage.old }
     ensures passes { OnOk result ((h : Option Fed) → T.stands stage.old h → ended_of h ≡ false → into.old.ended ≡ false
         → Passes (T.gives (T.plan stage.old)) (T.stands stage.new) h (bytes_fed h) true into.old into.new) }
-    ensures err { OnErr result (unread into.new ≡ []) }
+    ensures err { OnErr result (unread_bytes into.new ≡ []) }
 {
     let fate = stage.end(&mut into.bytes);
     into.start = into.start.min(into.bytes.len());

@@ -1,6 +1,6 @@
 // The calls of an object in memory.
 ghost use Rattle.std.specs.Prelude.{◌≡◌, ◌≤◌};
-ghost use Rattle.kex_ports.specs.Calls.{none_made, is_failing, passed, failed};
+ghost use Rattle.kex_ports.specs.Calls.{none_made, is_failing, after_success, after_failure};
 
 use std::marker::Model;
 
@@ -39,13 +39,13 @@ impl Calls {
     }
 
     pub(crate) fn pass(&mut self)
-        ensures { self.new ≡ passed self.old }
+        ensures { self.new ≡ after_success self.old }
     {
         self.made = self.made.saturating_add(1);
     }
 
     pub(crate) fn fail(&mut self)
-        ensures counted { self.new ≡ failed self.old }
+        ensures counted { self.new ≡ after_failure self.old }
         ensures later { self.old.faults ≤ self.new.faults }
     {
         self.made = self.made.saturating_add(1);

@@ -1,6 +1,6 @@
 // How a sink in memory was ended.
 ghost use Rattle.std.specs.Prelude.{◌≡◌};
-ghost use Rattle.kex_ports.specs.Endings.{never_ended, written, write_failed, finished_once};
+ghost use Rattle.kex_ports.specs.Endings.{never_ended, written_ending, failed_ending, finished_ending};
 
 use std::marker::Model;
 
@@ -33,20 +33,20 @@ impl Ending {
     }
 
     pub(crate) fn write(&mut self)
-        ensures { self.new ≡ written self.old }
+        ensures { self.new ≡ written_ending self.old }
     {
         self.is_closed = false;
     }
 
     pub(crate) fn fail_to_write(&mut self)
-        ensures { self.new ≡ write_failed self.old }
+        ensures { self.new ≡ failed_ending self.old }
     {
         self.failed_writes = self.failed_writes.saturating_add(1);
         self.is_closed = false;
     }
 
     pub(crate) fn finish(&mut self)
-        ensures { self.new ≡ finished_once self.old }
+        ensures { self.new ≡ finished_ending self.old }
     {
         self.finishes = self.finishes.saturating_add(1);
         self.is_closed = true;

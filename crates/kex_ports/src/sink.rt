@@ -4,7 +4,7 @@ ghost use Rattle.std.specs.Io.KnownBytes.{Appends, Keeps};
 ghost use Rattle.kex_ports.specs.Bytes.{AppendsFront, TakesSome};
 ghost use Rattle.kex_ports.specs.Calls.{none_made};
 ghost use Rattle.kex_ports.specs.Causes.{HasCause};
-ghost use Rattle.kex_ports.specs.Endings.{Ending, IsWritten, finished, never_ended};
+ghost use Rattle.kex_ports.specs.Endings.{Ending, IsWritten, after_finish, never_ended};
 ghost use Rattle.kex_ports.specs.InMemory.{HasFinished, HasWritten};
 
 use crate::calls::Calls;
@@ -37,7 +37,7 @@ pub trait Sink {
     fn finish(&mut self) -> Result<(), Failed>
         ensures held { Keeps (held self.old) (held self.new) }
         ensures cause { HasCause (faults self.old) (faults self.new) result }
-        ensures ending { ending self.new ≡ finished (ending self.old) };
+        ensures ending { ending self.new ≡ after_finish (ending self.old) };
 }
 
 /// Output in memory, with room that was made ahead, of which a write takes at most so many bytes. The calls with these
@@ -125,7 +125,7 @@ impl Sink for MemSink {
     fn finish(&mut self) -> Result<(), Failed>
         ensures held { Keeps (Some self.old.held) (Some self.new.held) }
         ensures cause { HasCause self.old.calls.faults self.new.calls.faults result }
-        ensures ending { Some self.new.ending ≡ finished (Some self.old.ending) }
+        ensures ending { Some self.new.ending ≡ after_finish (Some self.old.ending) }
         ensures exact { HasFinished self.old self.new result }
     {
         self.ending.finish();
@@ -163,7 +163,7 @@ impl Sink for NeverFailsSink {
     fn finish(&mut self) -> Result<(), Failed>
         ensures held { Keeps None None }
         ensures cause { HasCause 0 0 result }
-        ensures ending { None ≡ finished None }
+        ensures ending { None ≡ after_finish None }
         ensures exact { IsOk result }
     {
         Ok(())

@@ -3,7 +3,7 @@ use Rattle.std.proofs.Common.{◌≡◌, ◌≤◌, ◌<◌, ◌+◌, ◌⊎◌,
 use Rattle.std.specs.Prelude.{IsTrue, Result, Ok, Err, OnOk}
 use Rattle.std.proofs.Math.ListN.{set}
 use Rattle.kex_pipe.specs.Rounds.{Each}
-use Rattle.kex_pipe.specs.Waiting.{waiting}
+use Rattle.kex_pipe.specs.Waiting.{waiting_items}
 use Rattle.kex_pipe.specs.declared.inbox.Inbox.{Inbox}
 use Rattle.kex_pipe.specs.declared.turn.Turn.{Ghosts}
 use Rattle.kex_rings.specs.declared.ring_seat.RingSeat.{RingSeat}
@@ -156,8 +156,8 @@ module _ {T : Type 0} (t : Ghosts T) where
       }
 
   -- what the last one has written
-  pub carried : (seats front : List (RingSeat T t)) (s f s' : RingSeat T t) (n : ℕ) (b b' : Inbox) → seats ≡ front ++ s ∷ [] → n + 1 ≡ length seats → f ≡ get_or seats n f → s'.from ≡ f.from → s'.to ≡ f.to → s'.seat.staged ≡ f.seat.staged → s'.seat.inbox ≡ f.seat.inbox → s'.seat.usable ≡ f.seat.usable → waiting s'.seat.outbox ≡ []
-      → ((b.ended ≡ false) ⊎ (waiting f.seat.outbox ≡ []) → waiting b' ≡ waiting b ++ waiting f.seat.outbox) → CarriedOut t front s b (set seats n s') b'
+  pub carried : (seats front : List (RingSeat T t)) (s f s' : RingSeat T t) (n : ℕ) (b b' : Inbox) → seats ≡ front ++ s ∷ [] → n + 1 ≡ length seats → f ≡ get_or seats n f → s'.from ≡ f.from → s'.to ≡ f.to → s'.seat.staged ≡ f.seat.staged → s'.seat.inbox ≡ f.seat.inbox → s'.seat.usable ≡ f.seat.usable → waiting_items s'.seat.outbox ≡ []
+      → ((b.ended ≡ false) ⊎ (waiting_items f.seat.outbox ≡ []) → waiting_items b' ≡ waiting_items b ++ waiting_items f.seat.outbox) → CarriedOut t front s b (set seats n s') b'
   carried seats front s f s' n b b' is number f_is from to staged inbox usable none moves =
       let place : length front ≡ n = omega (arith, ap length is, length-append front (s ∷ []), number) in
       let same : f ≡ s = f_is ∙ ap (λ z. get_or z n f) is ∙ get-at front s [] n f place in
@@ -170,7 +170,7 @@ module _ {T : Type 0} (t : Ghosts T) where
         same_inbox = inbox ∙ ap (λ z. z.seat.inbox) same;
         same_usable = usable ∙ ap (λ z. z.seat.usable) same;
         none_left = none;
-        moves = subst (λ z. (b.ended ≡ false) ⊎ (waiting z ≡ []) → waiting b' ≡ waiting b ++ waiting z) (ap (λ z. z.seat.outbox) same) moves;
+        moves = subst (λ z. (b.ended ≡ false) ⊎ (waiting_items z ≡ []) → waiting_items b' ≡ waiting_items b ++ waiting_items z) (ap (λ z. z.seat.outbox) same) moves;
       }
 
   -- a row that is made, and the end of the last ring

@@ -9,7 +9,7 @@ use Rattle.kex_model.specs.Schedules as schedule
 use Rattle.kex_pipe.specs.Histories.{Fed}
 use Rattle.kex_pipe.specs.Seats.{IsWhole, IsFed, written_by, Sits, TakesTurn}
 use Rattle.kex_pipe.specs.Rounds.{Takes}
-use Rattle.kex_pipe.specs.Waiting.{waiting}
+use Rattle.kex_pipe.specs.Waiting.{waiting_items}
 use Rattle.kex_pipe.specs.declared.inbox.Inbox.{Inbox}
 use Rattle.kex_pipe.specs.declared.staged.Staged.{Staged}
 use Rattle.kex_pipe.specs.declared.turn.Turn.{Ghosts}
@@ -19,7 +19,7 @@ use Rattle.kex_rings.specs.declared.item.Item.{Item}
 use Rattle.kex_rings.specs.declared.ring_seat.RingSeat.{RingSeat}
 use Rattle.kex_rings.specs.Items.{item_as, items_as}
 use Rattle.kex_rings.specs.Ends.{Giver, Taker, sent_to, free_in, taken_from, seen_in, SameGiver, SameTaker}
-use Rattle.kex_rings.specs.Looking.{fed_more, found, unsent_of, finds, unsent, FedBy, Feeds, Looks, SendsOn, FindsIn, TakesIn}
+use Rattle.kex_rings.specs.Looking.{fed_more, found_count, unsent_of, finds, unsent_items, FedBy, Feeds, Looks, SendsOn, FindsIn, TakesIn}
 use Rattle.kex_rings.specs.Passing.{Pulls}
 use Rattle.kex_rings.proofs.Wholes.{front-whole}
 use Rattle.kex_rings.proofs.Sending.{same-producer, same-consumer}
@@ -59,13 +59,13 @@ length-took (suc m) (x ∷ xs) le = ap suc (length-took m xs (omega arith))
 
 module _ {T : Type 0} (t : Ghosts T) where
   -- nothing unsent stays so
-  still-sent : (to to' : Giver) (b b' : Inbox) (more : List Item) → SameGiver to to' → waiting b ≡ items_as more ++ waiting b' → unsent_of t to b ≡ [] → unsent_of t to' b' ≡ []
+  still-sent : (to to' : Giver) (b b' : Inbox) (more : List Item) → SameGiver to to' → waiting_items b ≡ items_as more ++ waiting_items b' → unsent_of t to b ≡ [] → unsent_of t to' b' ≡ []
   still-sent None None b b' more same parts none = refl
-  still-sent (Some p) (Some q) b b' more same parts none = rest-empty (items_as more) (waiting b') (sym parts ∙ none)
+  still-sent (Some p) (Some q) b b' more same parts none = rest-empty (items_as more) (waiting_items b') (sym parts ∙ none)
   still-sent None (Some q) b b' more same parts none = absurd same
   still-sent (Some p) None b b' more same parts none = absurd same
 
-  none-unsent : (to : Giver) (b : Inbox) → waiting b ≡ [] → unsent_of t to b ≡ []
+  none-unsent : (to : Giver) (b : Inbox) → waiting_items b ≡ [] → unsent_of t to b ≡ []
   none-unsent None b none = refl
   none-unsent (Some p) b none = none
 
@@ -78,7 +78,7 @@ module _ {T : Type 0} (t : Ghosts T) where
       cases (Some f) fed wrote = fed.0
 
   -- something is unsent still: nothing was taken
-  pub only-sent : (room : ℕ) (s s' : RingSeat T t) → SendsOn t s s' → (unsent t s' ≡ [] → ⊥) → Looks t room s s' 0
+  pub only-sent : (room : ℕ) (s s' : RingSeat T t) → SendsOn t s s' → (unsent_items t s' ≡ [] → ⊥) → Looks t room s s' 0
   only-sent room s s' sends some = record {
     same_from = subst (λ z. SameTaker s.from z) (sym sends.same_from) (one-taker s.from);
     same_to = sends.same_to;
@@ -87,13 +87,13 @@ module _ {T : Type 0} (t : Ghosts T) where
     came = ap taken_from sends.same_from ∙ sym (append-nil (taken_from s.from));
     went = sends.went;
     feeds = λ p x out front whole sits out_is.
-        let now : out ≡ front ++ (items_as sends.more ++ waiting s'.seat.outbox) = out_is ∙ ap (λ z. front ++ z) sends.parts in
-        let turned : x.turned ≡ true = had-turn p s.seat.staged x out sits (λ e. some (none-unsent s'.to s'.seat.outbox (rest-empty (items_as sends.more) (waiting s'.seat.outbox) (rest-empty front (items_as sends.more ++ waiting s'.seat.outbox) (sym now ∙ e))))) in
+        let now : out ≡ front ++ (items_as sends.more ++ waiting_items s'.seat.outbox) = out_is ∙ ap (λ z. front ++ z) sends.parts in
+        let turned : x.turned ≡ true = had-turn p s.seat.staged x out sits (λ e. some (none-unsent s'.to s'.seat.outbox (rest-empty (items_as sends.more) (waiting_items s'.seat.outbox) (rest-empty front (items_as sends.more ++ waiting_items s'.seat.outbox) (sym now ∙ e))))) in
         let same : x ≡ fed_more [] x = ap₂ (λ a b. record { taken = a; turned = b }) (sym (append-nil x.taken)) turned in
         record {
           got = [];
           count_is = refl;
-          parts = append-nil (waiting s.seat.inbox) ∙ ap waiting (sym sends.same_inbox);
+          parts = append-nil (waiting_items s.seat.inbox) ∙ ap waiting_items (sym sends.same_inbox);
           out = out;
           sits = subst (λ z. Sits t p z (fed_more [] x) out) (sym sends.same_staged) (subst (λ z. Sits t p s.seat.staged z out) same sits);
           out_is = now;
@@ -113,8 +113,8 @@ module _ {T : Type 0} (t : Ghosts T) where
     popped = pulls.items;
     came = ap taken_from e' ∙ pulls.came ∙ ap (λ z. taken_from z ++ pulls.items) (sym e);
     lies = pulls.lies;
-    enough = omega (arith, pulls.count_is, length-append (waiting s.seat.inbox) (items_as pulls.items), length-map pulls.items item_as);
-    least = subst (λ z. min room (found t z s.seat.inbox) ≤ count) (sym e) pulls.least;
+    enough = omega (arith, pulls.count_is, length-append (waiting_items s.seat.inbox) (items_as pulls.items), length-map pulls.items item_as);
+    least = subst (λ z. min room (found_count t z s.seat.inbox) ≤ count) (sym e) pulls.least;
   }
 
   -- what was found was fed
@@ -125,10 +125,10 @@ module _ {T : Type 0} (t : Ghosts T) where
     popped = f.popped;
     came = ap taken_from from ∙ f.came;
     feeds = λ p x out front whole sits out_is.
-        let lot : List schedule.StreamItem = waiting s.seat.inbox ++ items_as f.popped in
-        let inbox : waiting m.seat.inbox ≡ lot = f.lies (back-whole x.taken lot whole) in
+        let lot : List schedule.StreamItem = waiting_items s.seat.inbox ++ items_as f.popped in
+        let inbox : waiting_items m.seat.inbox ≡ lot = f.lies (back-whole x.taken lot whole) in
         let came : List schedule.StreamItem = x.taken ++ lot in
-        let r = takes.turns p x came out front whole (ap (λ z. x.taken ++ z) (sym inbox)) (subst (λ z. Sits t p z x out) (sym f.same_staged) sits) (out_is ∙ ap (λ z. front ++ waiting z) (sym f.same_outbox)) in
+        let r = takes.turns p x came out front whole (ap (λ z. x.taken ++ z) (sym inbox)) (subst (λ z. Sits t p z x out) (sym f.same_staged) sits) (out_is ∙ ap (λ z. front ++ waiting_items z) (sym f.same_outbox)) in
         let seat : more_taken count came x ≡ fed_more (take count lot) x = ap (λ z. record { taken = z; turned = true }) (taken-more count came lot x refl) in
         record {
           got = take count lot;
@@ -152,17 +152,17 @@ module _ {T : Type 0} (t : Ghosts T) where
     went = ap sent_to takes.same_to ∙ sends.went;
     feeds = λ p x out front whole sits out_is.
         let before : List schedule.StreamItem = front ++ items_as sends.more in
-        let now : out ≡ before ++ waiting m.seat.outbox = out_is ∙ ap (λ z. front ++ z) sends.parts ∙ sym (append_assoc front (items_as sends.more) (waiting m.seat.outbox)) in
-        let r = takes.feeds p x out before (subst (λ z. IsWhole (x.taken ++ (waiting z ++ items_as takes.popped))) (sym sends.same_inbox) whole) (subst (λ z. Sits t p z x out) (sym sends.same_staged) sits) now in
+        let now : out ≡ before ++ waiting_items m.seat.outbox = out_is ∙ ap (λ z. front ++ z) sends.parts ∙ sym (append_assoc front (items_as sends.more) (waiting_items m.seat.outbox)) in
+        let r = takes.feeds p x out before (subst (λ z. IsWhole (x.taken ++ (waiting_items z ++ items_as takes.popped))) (sym sends.same_inbox) whole) (subst (λ z. Sits t p z x out) (sym sends.same_staged) sits) now in
         record {
           got = r.got;
           count_is = r.count_is;
-          parts = ap (λ z. waiting z ++ items_as takes.popped) (sym sends.same_inbox) ∙ r.parts;
+          parts = ap (λ z. waiting_items z ++ items_as takes.popped) (sym sends.same_inbox) ∙ r.parts;
           out = r.out;
           sits = r.sits;
-          out_is = r.out_is ∙ append_assoc front (items_as sends.more) (waiting s'.seat.outbox);
+          out_is = r.out_is ∙ append_assoc front (items_as sends.more) (waiting_items s'.seat.outbox);
         };
-    took = λ none. subst (λ z. min room z ≤ count) (ap₂ (λ a b. found t a b) sends.same_from sends.same_inbox) takes.took;
+    took = λ none. subst (λ z. min room z ≤ count) (ap₂ (λ a b. found_count t a b) sends.same_from sends.same_inbox) takes.took;
     sent_most = sends.most;
     free = subst (λ z. free_in s.to ≤ free_in z + length sends.more) (sym takes.same_to) sends.free;
   }
@@ -170,19 +170,19 @@ module _ {T : Type 0} (t : Ghosts T) where
   feeds-more : (a b c : RingSeat T t) (one two more again : List Item) (m n k : ℕ) → k ≡ m + n → Feeds t a b one more m → Feeds t b c two again n → Feeds t a c (one ++ two) (more ++ again) k
   feeds-more a b c one two more again m n k number f g = λ p x out front whole sits out_is.
       let items : items_as (one ++ two) ≡ items_as one ++ items_as two = map-append item_as one two in
-      let lot : waiting a.seat.inbox ++ items_as (one ++ two) ≡ (waiting a.seat.inbox ++ items_as one) ++ items_as two = ap (λ z. waiting a.seat.inbox ++ z) items ∙ sym (append_assoc (waiting a.seat.inbox) (items_as one) (items_as two)) in
-      let cut : x.taken ++ (waiting a.seat.inbox ++ items_as (one ++ two)) ≡ (x.taken ++ (waiting a.seat.inbox ++ items_as one)) ++ items_as two = ap (λ z. x.taken ++ z) lot ∙ sym (append_assoc x.taken (waiting a.seat.inbox ++ items_as one) (items_as two)) in
-      let first = f p x out front (front-whole (x.taken ++ (waiting a.seat.inbox ++ items_as one)) (items_as two) (subst IsWhole cut whole)) sits out_is in
-      let mid : waiting a.seat.inbox ++ items_as (one ++ two) ≡ first.got ++ (waiting b.seat.inbox ++ items_as two) = lot ∙ ap (λ z. z ++ items_as two) first.parts ∙ append_assoc first.got (waiting b.seat.inbox) (items_as two) in
-      let rest : x.taken ++ (waiting a.seat.inbox ++ items_as (one ++ two)) ≡ (x.taken ++ first.got) ++ (waiting b.seat.inbox ++ items_as two) = ap (λ z. x.taken ++ z) mid ∙ sym (append_assoc x.taken first.got (waiting b.seat.inbox ++ items_as two)) in
-      let second = g p (fed_more first.got x) first.out (front ++ items_as more) (subst IsWhole rest whole) first.sits (first.out_is ∙ sym (append_assoc front (items_as more) (waiting b.seat.outbox))) in
+      let lot : waiting_items a.seat.inbox ++ items_as (one ++ two) ≡ (waiting_items a.seat.inbox ++ items_as one) ++ items_as two = ap (λ z. waiting_items a.seat.inbox ++ z) items ∙ sym (append_assoc (waiting_items a.seat.inbox) (items_as one) (items_as two)) in
+      let cut : x.taken ++ (waiting_items a.seat.inbox ++ items_as (one ++ two)) ≡ (x.taken ++ (waiting_items a.seat.inbox ++ items_as one)) ++ items_as two = ap (λ z. x.taken ++ z) lot ∙ sym (append_assoc x.taken (waiting_items a.seat.inbox ++ items_as one) (items_as two)) in
+      let first = f p x out front (front-whole (x.taken ++ (waiting_items a.seat.inbox ++ items_as one)) (items_as two) (subst IsWhole cut whole)) sits out_is in
+      let mid : waiting_items a.seat.inbox ++ items_as (one ++ two) ≡ first.got ++ (waiting_items b.seat.inbox ++ items_as two) = lot ∙ ap (λ z. z ++ items_as two) first.parts ∙ append_assoc first.got (waiting_items b.seat.inbox) (items_as two) in
+      let rest : x.taken ++ (waiting_items a.seat.inbox ++ items_as (one ++ two)) ≡ (x.taken ++ first.got) ++ (waiting_items b.seat.inbox ++ items_as two) = ap (λ z. x.taken ++ z) mid ∙ sym (append_assoc x.taken first.got (waiting_items b.seat.inbox ++ items_as two)) in
+      let second = g p (fed_more first.got x) first.out (front ++ items_as more) (subst IsWhole rest whole) first.sits (first.out_is ∙ sym (append_assoc front (items_as more) (waiting_items b.seat.outbox))) in
       record {
         got = first.got ++ second.got;
         count_is = omega (arith, number, first.count_is, second.count_is, length-append first.got second.got);
-        parts = mid ∙ ap (λ z. first.got ++ z) second.parts ∙ sym (append_assoc first.got second.got (waiting c.seat.inbox));
+        parts = mid ∙ ap (λ z. first.got ++ z) second.parts ∙ sym (append_assoc first.got second.got (waiting_items c.seat.inbox));
         out = second.out;
         sits = subst (λ z. Sits t p c.seat.staged z second.out) (ap (λ z. record { taken = z; turned = true }) (append_assoc x.taken first.got second.got)) second.sits;
-        out_is = second.out_is ∙ append_assoc front (items_as more) (items_as again ++ waiting c.seat.outbox) ∙ ap (λ z. front ++ z) (sym (append_assoc (items_as more) (items_as again) (waiting c.seat.outbox)) ∙ ap (λ z. z ++ waiting c.seat.outbox) (sym (map-append item_as more again)));
+        out_is = second.out_is ∙ append_assoc front (items_as more) (items_as again ++ waiting_items c.seat.outbox) ∙ ap (λ z. front ++ z) (sym (append_assoc (items_as more) (items_as again) (waiting_items c.seat.outbox)) ∙ ap (λ z. z ++ waiting_items c.seat.outbox) (sym (map-append item_as more again)));
       }
 
   pub looks-more : (room : ℕ) (a b c : RingSeat T t) (m n k : ℕ) → Looks t room a b m → Looks t room b c n → k ≡ m + n → Looks t room a c k

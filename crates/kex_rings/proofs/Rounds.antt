@@ -8,7 +8,7 @@ use Rattle.rtrb.specs.declared.producer.Producer.{Producer}
 use Rattle.rtrb.specs.declared.AnyItems.{AnyItems}
 use Rattle.kex_pipe.specs.Rounds.{Each}
 use Rattle.kex_pipe.specs.Seats.{Sits}
-use Rattle.kex_pipe.specs.Waiting.{waiting}
+use Rattle.kex_pipe.specs.Waiting.{waiting_items}
 use Rattle.kex_pipe.specs.declared.inbox.Inbox.{Inbox}
 use Rattle.kex_pipe.specs.declared.seat.Seat.{Seat as Seated}
 use Rattle.kex_pipe.specs.declared.turn.Turn.{Ghosts}
@@ -16,7 +16,7 @@ use Rattle.kex_rings.specs.declared.item.Item.{Item}
 use Rattle.kex_rings.specs.declared.ring_seat.RingSeat.{RingSeat}
 use Rattle.kex_rings.specs.Items.{items_as}
 use Rattle.kex_rings.specs.Ends.{Giver, Taker, sent_to, free_in, taken_from, seen_in, SameGiver, SameTaker, IsLast, ArePaired, AreBeside}
-use Rattle.kex_rings.specs.Looking.{fed_more, Looks, EachLooks, OnlyLooked, CarriedOut, AllUsable, WorkedAll, unsent_of, unsent}
+use Rattle.kex_rings.specs.Looking.{fed_more, Looks, EachLooks, OnlyLooked, CarriedOut, AllUsable, WorkedAll, unsent_of, unsent_items}
 use Rattle.kex_rings.specs.Lines.{Joined, AllGetOn, GetOn}
 use Rattle.kex_rings.proofs.Looks.{same-taker, same-giver, one-taker, one-giver}
 use Rattle.kex_rings.proofs.Joins.{all-both, all-one, both-looks}
@@ -77,10 +77,10 @@ module _ {T : Type 0} (t : Ghosts T) where
         record {
           got = r.got;
           count_is = r.count_is;
-          parts = r.parts ∙ ap (λ z. r.got ++ waiting z.inbox) (sym o.same_seat);
+          parts = r.parts ∙ ap (λ z. r.got ++ waiting_items z.inbox) (sym o.same_seat);
           out = r.out;
           sits = subst (λ z. Sits t p z.staged (fed_more r.got x) r.out) (sym o.same_seat) r.sits;
-          out_is = r.out_is ∙ ap (λ z. front ++ (items_as l.more ++ waiting z.outbox)) (sym o.same_seat);
+          out_is = r.out_is ∙ ap (λ z. front ++ (items_as l.more ++ waiting_items z.outbox)) (sym o.same_seat);
         };
     took = l.took;
     sent_most = l.sent_most;
@@ -176,7 +176,7 @@ module _ {T : Type 0} (t : Ghosts T) where
   all-get-on room to (s ∷ ss) (s' ∷ ss') [] j work = absurd work
 
   pub get-on-out : (room : ℕ) (ss front : List (RingSeat T t)) (s s' : RingSeat T t) (cs : List ℕ) → s'.to ≡ s.to → AllGetOn t room ss (front ++ s ∷ []) cs → AllGetOn t room ss (front ++ s' ∷ []) cs
-  get-on-out room (a ∷ []) [] s s' (c ∷ []) end h = ((h.0.0, subst (λ z. min (length (unsent t a)) (room - length (sent_to a.to)) + length (sent_to a.to) ≤ length (sent_to z)) (sym end) h.0.1), tt)
+  get-on-out room (a ∷ []) [] s s' (c ∷ []) end h = ((h.0.0, subst (λ z. min (length (unsent_items t a)) (room - length (sent_to a.to)) + length (sent_to a.to) ≤ length (sent_to z)) (sym end) h.0.1), tt)
   get-on-out room (a ∷ ss) (f ∷ front) s s' (c ∷ cs) end h = (h.0, get-on-out room ss front s s' cs end h.1)
   get-on-out room [] [] s s' cs end h = absurd h
   get-on-out room [] (f ∷ front) s s' cs end h = absurd h

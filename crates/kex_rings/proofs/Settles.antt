@@ -5,7 +5,7 @@ use Rattle.std.proofs.Math.Seq.{drop-append_seam}
 use Rattle.kex_model.specs.Schedules.{StreamItem, byte, Progress, more_taken, After, Settled, Event}
 use Rattle.kex_pipe.specs.Rounds.{Each, Takes}
 use Rattle.kex_pipe.specs.Seats.{IsWhole, Sits}
-use Rattle.kex_pipe.specs.Waiting.{unread, waiting}
+use Rattle.kex_pipe.specs.Waiting.{unread_bytes, waiting_items}
 use Rattle.kex_pipe.specs.declared.inbox.Inbox.{Inbox}
 use Rattle.kex_pipe.specs.declared.seat.Seat.{Seat as Seated}
 use Rattle.kex_pipe.specs.declared.turn.Turn.{Ghosts}
@@ -29,23 +29,23 @@ take-all : {A : Type 0} (xs : List A) → take (length xs) xs ≡ xs
 take-all xs = ap (λ z. take (length xs) z) (sym (append-nil xs)) ∙ take-front xs []
 
 module _ {T : Type 0} (t : Ghosts T) where
-  pub settled-by : (s : RingSeat T t) (m s' s2 : Seated T t) (inbox c0 c1 c2 : Inbox) (n : ℕ) → (IsWhole (waiting s.seat.inbox ++ items_as (seen_in s.from)) → waiting inbox ≡ waiting s.seat.inbox ++ items_as (seen_in s.from))
-      → ((inbox.ended ≡ false) ⊎ (waiting c0 ≡ []) → waiting m.inbox ≡ waiting inbox ++ waiting c0) → waiting c1 ≡ [] → m.staged ≡ s.seat.staged → m.outbox ≡ s.seat.outbox → n ≡ length (waiting m.inbox) → Takes t n m s2
-      → ((c1.ended ≡ false) ⊎ (waiting s2.outbox ≡ []) → waiting c2 ≡ waiting c1 ++ waiting s2.outbox) → s'.staged ≡ s2.staged → s'.inbox ≡ s2.inbox → waiting s'.outbox ≡ [] → SettlesBy t s s' (waiting c0) (waiting c2)
+  pub settled-by : (s : RingSeat T t) (m s' s2 : Seated T t) (inbox c0 c1 c2 : Inbox) (n : ℕ) → (IsWhole (waiting_items s.seat.inbox ++ items_as (seen_in s.from)) → waiting_items inbox ≡ waiting_items s.seat.inbox ++ items_as (seen_in s.from))
+      → ((inbox.ended ≡ false) ⊎ (waiting_items c0 ≡ []) → waiting_items m.inbox ≡ waiting_items inbox ++ waiting_items c0) → waiting_items c1 ≡ [] → m.staged ≡ s.seat.staged → m.outbox ≡ s.seat.outbox → n ≡ length (waiting_items m.inbox) → Takes t n m s2
+      → ((c1.ended ≡ false) ⊎ (waiting_items s2.outbox ≡ []) → waiting_items c2 ≡ waiting_items c1 ++ waiting_items s2.outbox) → s'.staged ≡ s2.staged → s'.inbox ≡ s2.inbox → waiting_items s'.outbox ≡ [] → SettlesBy t s s' (waiting_items c0) (waiting_items c2)
   settled-by s m s' s2 inbox c0 c1 c2 n out_of moves carried staged outbox number takes on same_staged same_inbox none = record {
     turned = ap (λ z. z.turned) same_staged ∙ takes.turned;
-    none_before = ap waiting same_inbox ∙ takes.rest ∙ ap (λ z. drop z (waiting m.inbox)) number ∙ drop-all (waiting m.inbox);
+    none_before = ap waiting_items same_inbox ∙ takes.rest ∙ ap (λ z. drop z (waiting_items m.inbox)) number ∙ drop-all (waiting_items m.inbox);
     none_behind = none;
     takes = λ p x out front whole sits out_is.
-        let lot : List StreamItem = lies_before t s ++ waiting c0 in
+        let lot : List StreamItem = lies_before t s ++ waiting_items c0 in
         let whole_lot : IsWhole lot = back-whole x.taken lot whole in
-        let lies : waiting inbox ≡ lies_before t s = out_of (front-whole (lies_before t s) (waiting c0) whole_lot) in
-        let all : waiting m.inbox ≡ lot = moves (may-move [] inbox (waiting c0) (subst (λ z. IsWhole (z ++ waiting c0)) (sym lies) whole_lot)) ∙ ap (λ z. z ++ waiting c0) lies in
+        let lies : waiting_items inbox ≡ lies_before t s = out_of (front-whole (lies_before t s) (waiting_items c0) whole_lot) in
+        let all : waiting_items m.inbox ≡ lot = moves (may-move [] inbox (waiting_items c0) (subst (λ z. IsWhole (z ++ waiting_items c0)) (sym lies) whole_lot)) ∙ ap (λ z. z ++ waiting_items c0) lies in
         let came : List StreamItem = x.taken ++ lot in
-        let r = takes.turns p x came out front whole (ap (λ z. x.taken ++ z) (sym all)) (subst (λ z. Sits t p z x out) (sym staged) sits) (out_is ∙ ap (λ z. front ++ waiting z) (sym outbox)) in
+        let r = takes.turns p x came out front whole (ap (λ z. x.taken ++ z) (sym all)) (subst (λ z. Sits t p z x out) (sym staged) sits) (out_is ∙ ap (λ z. front ++ waiting_items z) (sym outbox)) in
         let seat : more_taken n came x ≡ fed_more lot x = ap (λ z. record { taken = z; turned = true }) (taken-more n came lot x refl ∙ ap (λ z. x.taken ++ z) (ap (λ z. take z lot) (number ∙ ap length all) ∙ take-all lot)) in
-        let none_there = no-items (unread c1) c1.ended carried in
-        let gone : waiting c2 ≡ waiting s2.outbox = on (inl none_there.1) ∙ ap (λ z. z ++ waiting s2.outbox) carried in
+        let none_there = no-items (unread_bytes c1) c1.ended carried in
+        let gone : waiting_items c2 ≡ waiting_items s2.outbox = on (inl none_there.1) ∙ ap (λ z. z ++ waiting_items s2.outbox) carried in
         (r.out, subst (λ z. Sits t p z (fed_more lot x) r.out) (sym same_staged) (subst (λ z. Sits t p s2.staged z r.out) seat r.sits), r.out_is ∙ ap (λ z. front ++ z) (sym gone));
   }
 
@@ -77,18 +77,18 @@ module _ {T : Type 0} (t : Ghosts T) where
     pub settled : Settled t.gives came ps seats
 
   settle-line : (room : ℕ) (to : Giver) (came ahead came' carried on : List StreamItem) (ps : List t.Plan) (ss : List (RingSeat T t)) (ss' : List (Seated T t)) (row : List (RingSeat T t)) (xs : List Progress) (b b' : Inbox) (taken : List ℕ) → Line t came ahead ps ss xs b taken → came' ≡ front_of t ss xs b taken ++ carried → IsWhole came' → SettlesAll t ss ss' carried on → Each (λ s r. r.seat ≡ s) ss' row → Joined t (AreBeside room) to row → sent_to to ≡ [] → AreNew t row
-      → ((b.ended ≡ false) ⊎ (on ≡ []) → waiting b' ≡ waiting b ++ on) → Ends came' ps row b' taken xs
+      → ((b.ended ≡ false) ⊎ (on ≡ []) → waiting_items b' ≡ waiting_items b ++ on) → Ends came' ps row b' taken xs
   settle-line room to came ahead came' carried on [] [] [] [] [] b b' taken h is whole work same j none made moves =
-      let all : came' ≡ map byte taken ++ (waiting b ++ on) = is ∙ ap (λ z. (map byte taken ++ waiting b) ++ z) (sym work) ∙ append_assoc (map byte taken) (waiting b) on in
+      let all : came' ≡ map byte taken ++ (waiting_items b ++ on) = is ∙ ap (λ z. (map byte taken ++ waiting_items b) ++ z) (sym work) ∙ append_assoc (map byte taken) (waiting_items b) on in
       record { seats = []; counts = []; steps = tt; line = (all ∙ ap (λ z. map byte taken ++ z) (sym (moves (may-move (map byte taken) b on (subst IsWhole all whole)))), refl); settled = tt }
   settle-line room to came ahead came' carried on (p ∷ ps) (s ∷ ss) (s' ∷ ss') (r ∷ row) (x ∷ xs) b b' taken h is whole work same j none made moves =
       let lot : List StreamItem = lies_before t s ++ carried in
       let all : came' ≡ x.taken ++ lot = is ∙ append_assoc x.taken (lies_before t s) carried in
       let by = work.1 in
-      let k = by.takes p x h.1 (front_of t ss xs b taken) (subst IsWhole all whole) h.2 (came-front t h.1 (waiting s.seat.outbox) ps ss xs b taken h.3) in
+      let k = by.takes p x h.1 (front_of t ss xs b taken) (subst IsWhole all whole) h.2 (came-front t h.1 (waiting_items s.seat.outbox) ps ss xs b taken h.3) in
       let own = made zero r (omega arith) in
-      let rest = settle-line room r.to h.1 (waiting s.seat.outbox) k.0 work.0 on ps ss ss' row xs b b' taken h.3 k.2 (sits-whole t p s'.staged (fed_more lot x) k.0 k.1) work.2 same.1 j.1 own.0 (λ n d lt. made (suc n) d (omega arith)) moves in
-      let lies : lies_before t r ++ [] ≡ [] = append-nil (lies_before t r) ∙ ap₂ (λ a z. waiting a ++ items_as z) (ap (λ z. z.inbox) same.0) (new-seen t room to r j.0 none) ∙ append-nil (waiting s'.inbox) ∙ by.none_before in
+      let rest = settle-line room r.to h.1 (waiting_items s.seat.outbox) k.0 work.0 on ps ss ss' row xs b b' taken h.3 k.2 (sits-whole t p s'.staged (fed_more lot x) k.0 k.1) work.2 same.1 j.1 own.0 (λ n d lt. made (suc n) d (omega arith)) moves in
+      let lies : lies_before t r ++ [] ≡ [] = append-nil (lies_before t r) ∙ ap₂ (λ a z. waiting_items a ++ items_as z) (ap (λ z. z.inbox) same.0) (new-seen t room to r j.0 none) ∙ append-nil (waiting_items s'.inbox) ∙ by.none_before in
       let next : came' ≡ (x.taken ++ lot) ++ [] = all ∙ sym (append-nil (x.taken ++ lot)) in
       let sits : Sits t p r.seat.staged (fed_more lot x) k.0 = subst (λ z. Sits t p z.staged (fed_more lot x) k.0) (sym same.0) k.1 in
       let wrote = sits-wrote t p s'.staged (fed_more lot x) k.0 k.1 in
@@ -96,7 +96,7 @@ module _ {T : Type 0} (t : Ghosts T) where
         seats = fed_more lot x ∷ rest.seats;
         counts = length lot ∷ rest.counts;
         steps = (fed-next (length lot) came' lot [] x next refl, k.0, wrote, rest.steps);
-        line = (next ∙ ap (λ z. (x.taken ++ lot) ++ z) (sym lies), k.0, sits, subst (λ z. Line t k.0 z ps row rest.seats b' taken) (sym (ap (λ z. waiting z.outbox) same.0 ∙ by.none_behind)) rest.line);
+        line = (next ∙ ap (λ z. (x.taken ++ lot) ++ z) (sym lies), k.0, sits, subst (λ z. Line t k.0 z ps row rest.seats b' taken) (sym (ap (λ z. waiting_items z.outbox) same.0 ∙ by.none_behind)) rest.line);
         settled = (refl, ap (λ z. drop (length (x.taken ++ lot)) z) all ∙ drop-all (x.taken ++ lot), k.0, wrote, rest.settled);
       }
   settle-line room to came ahead came' carried on [] [] (s' ∷ ss') row [] b b' taken h is whole work same j none made moves = absurd work
@@ -105,8 +105,8 @@ module _ {T : Type 0} (t : Ghosts T) where
   settle-line room to came ahead came' carried on (p ∷ ps) (s ∷ ss) (s' ∷ ss') [] (x ∷ xs) b b' taken h is whole work same j none made moves = absurd same
   settle-line room to came ahead came' carried on ps ss ss' row xs b b' taken h is whole work same j none made moves = absurd h
 
-  pub line-settles : (room : ℕ) (ss : List (RingSeat T t)) (ss' : List (Seated T t)) (row : List (RingSeat T t)) (c0 c b b' : Inbox) → waiting c0 ≡ [] → SettlesAll t ss ss' (waiting c0) (waiting c) → Each (λ s r. r.seat ≡ s) ss' row → Joined t (AreBeside room) None row → AreNew t row
-      → ((b.ended ≡ false) ⊎ (waiting c ≡ []) → waiting b' ≡ waiting b ++ waiting c) → LineSettles t ss b row b'
+  pub line-settles : (room : ℕ) (ss : List (RingSeat T t)) (ss' : List (Seated T t)) (row : List (RingSeat T t)) (c0 c b b' : Inbox) → waiting_items c0 ≡ [] → SettlesAll t ss ss' (waiting_items c0) (waiting_items c) → Each (λ s r. r.seat ≡ s) ss' row → Joined t (AreBeside room) None row → AreNew t row
+      → ((b.ended ≡ false) ⊎ (waiting_items c ≡ []) → waiting_items b' ≡ waiting_items b ++ waiting_items c) → LineSettles t ss b row b'
   line-settles room ss ss' row c0 c b b' none work same j made moves = λ ps h came xs taken whole after line.
-      let r = settle-line room None came [] came [] (waiting c) ps ss ss' row xs b b' taken line (came-front t came [] ps ss xs b taken line) whole (subst (λ z. SettlesAll t ss ss' z (waiting c)) none work) same j refl made moves in
+      let r = settle-line room None came [] came [] (waiting_items c) ps ss ss' row xs b b' taken line (came-front t came [] ps ss xs b taken line) whole (subst (λ z. SettlesAll t ss ss' z (waiting_items c)) none work) same j refl made moves in
       (r.counts, r.seats, steps-after t.gives h came ps xs r.seats r.counts after r.steps, r.line, r.settled)

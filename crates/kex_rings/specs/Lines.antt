@@ -2,12 +2,12 @@
 use Rattle.std.specs.Prelude.{◌≡◌, ◌≤◌, ◌+◌, ◌-◌, ℕ, suc, List, [], ◌∷◌, ◌++◌, map, length, min, All}
 use Rattle.kex_model.specs.Schedules.{StreamItem, byte, Progress, Event, turn, After, Settled}
 use Rattle.kex_pipe.specs.Seats.{IsWhole, Sits}
-use Rattle.kex_pipe.specs.Waiting.{waiting}
+use Rattle.kex_pipe.specs.Waiting.{waiting_items}
 use Rattle.kex_pipe.specs.declared.inbox.Inbox.{Inbox}
 use Rattle.kex_pipe.specs.declared.turn.Turn.{Ghosts}
 use Rattle.kex_rings.specs.declared.ring_seat.RingSeat.{RingSeat}
 use Rattle.kex_rings.specs.Ends.{Giver, Taker, sent_to, taken_from, IsLast}
-use Rattle.kex_rings.specs.Looking.{lies_before, finds, unsent}
+use Rattle.kex_rings.specs.Looking.{lies_before, finds, unsent_items}
 
 -- turns of these counts in the order of the stages, from the stage with this number on, counted from 0
 abbrev pub turns_from : ℕ → List ℕ → List Event
@@ -17,8 +17,8 @@ turns_from k (c ∷ cs) = turn (suc k) c ∷ turns_from (suc k) cs
 module _ {T : Type 0} (t : Ghosts T) where
   -- each stage sits in its seat; what came to it is what it has taken, then what lies before it, and then what the stage before it has not sent yet; behind the last stage, what was taken from the output and then what is in hand
   abbrev pub Line : List StreamItem → List StreamItem → List t.Plan → List (RingSeat T t) → List Progress → Inbox → List ℕ → Type 0
-  Line came ahead [] [] [] b taken = (came ≡ map byte taken ++ waiting b) × (ahead ≡ [])
-  Line came ahead (p ∷ ps) (s ∷ ss) (x ∷ xs) b taken = (came ≡ x.taken ++ (lies_before t s ++ ahead)) × (out : List StreamItem) × Sits t p s.seat.staged x out × Line out (waiting s.seat.outbox) ps ss xs b taken
+  Line came ahead [] [] [] b taken = (came ≡ map byte taken ++ waiting_items b) × (ahead ≡ [])
+  Line came ahead (p ∷ ps) (s ∷ ss) (x ∷ xs) b taken = (came ≡ x.taken ++ (lies_before t s ++ ahead)) × (out : List StreamItem) × Sits t p s.seat.staged x out × Line out (waiting_items s.seat.outbox) ps ss xs b taken
   Line came ahead ps ss xs b taken = ⊥
 
   -- in a round the stages took turns of these counts, in their order
@@ -38,7 +38,7 @@ module _ {T : Type 0} (t : Ghosts T) where
 
   -- in a round a stage with nothing unsent took all that it found, within the room; one with items unsent sent them, as far as the room goes
   abbrev pub GetOn : ℕ → RingSeat T t → RingSeat T t → ℕ → Type 0
-  GetOn room s s' count = (unsent t s ≡ [] → min room (finds t s) ≤ count) × (min (length (unsent t s)) (room - length (sent_to s.to)) + length (sent_to s.to) ≤ length (sent_to s'.to))
+  GetOn room s s' count = (unsent_items t s ≡ [] → min room (finds t s) ≤ count) × (min (length (unsent_items t s)) (room - length (sent_to s.to)) + length (sent_to s.to) ≤ length (sent_to s'.to))
 
   abbrev pub AllGetOn : ℕ → List (RingSeat T t) → List (RingSeat T t) → List ℕ → Type 0
   AllGetOn room [] [] [] = Unit {0}

@@ -4,7 +4,7 @@ use Rattle.rtrb.specs.Ring.{known_items}
 use Rattle.kex_model.specs.Schedules.{Progress}
 use Rattle.kex_model.specs.Schedules as schedule
 use Rattle.kex_pipe.specs.Seats.{IsWhole, Sits}
-use Rattle.kex_pipe.specs.Waiting.{unread, waiting}
+use Rattle.kex_pipe.specs.Waiting.{unread_bytes, waiting_items}
 use Rattle.kex_pipe.specs.declared.inbox.Inbox.{Inbox}
 use Rattle.kex_pipe.specs.declared.turn.Turn.{Ghosts}
 use Rattle.kex_rings.specs.declared.item.Item.{Item}
@@ -17,41 +17,41 @@ abbrev pub fed_more : List schedule.StreamItem → Progress → Progress
 fed_more items x = record { taken = x.taken ++ items; turned = true }
 
 abbrev pub IsEmpty : Inbox → Type 0
-IsEmpty b = (unread b ≡ []) × (b.ended ≡ false)
+IsEmpty b = (unread_bytes b ≡ []) × (b.ended ≡ false)
 
 module _ {T : Type 0} (t : Ghosts T) where
   -- what lies before the stage: in its inbox, and behind that in its ring
   abbrev pub lies_before : RingSeat T t → List schedule.StreamItem
-  lies_before s = waiting s.seat.inbox ++ items_as (seen_in s.from)
+  lies_before s = waiting_items s.seat.inbox ++ items_as (seen_in s.from)
 
   -- how much the stage finds: what lies in its ring, before the first stage what lies in its inbox
-  abbrev pub found : Taker → Inbox → ℕ
-  found None inbox = length (waiting inbox)
-  found (Some c) inbox = length (known_items c)
+  abbrev pub found_count : Taker → Inbox → ℕ
+  found_count None inbox = length (waiting_items inbox)
+  found_count (Some c) inbox = length (known_items c)
 
   -- what is not sent yet: all that the stage has written and the ring behind it didn't take. Behind the last stage there is none
   abbrev pub unsent_of : Giver → Inbox → List schedule.StreamItem
   unsent_of None outbox = []
-  unsent_of (Some p) outbox = waiting outbox
+  unsent_of (Some p) outbox = waiting_items outbox
 
   abbrev pub finds : RingSeat T t → ℕ
-  finds s = found s.from s.seat.inbox
+  finds s = found_count s.from s.seat.inbox
 
-  abbrev pub unsent : RingSeat T t → List schedule.StreamItem
-  unsent s = unsent_of s.to s.seat.outbox
+  abbrev pub unsent_items : RingSeat T t → List schedule.StreamItem
+  unsent_items s = unsent_of s.to s.seat.outbox
 
   -- a stage that sits at x was fed so many of what lay in its inbox and of what came out of its ring; what it wrote was sent or lies in its outbox, in order
   pub record FedBy (p : t.Plan) (x : Progress) (front : List schedule.StreamItem) (s s' : RingSeat T t) (popped more : List Item) (count : ℕ) : Type 0 where
     pub got : List schedule.StreamItem
     pub count_is : count ≡ length got
-    pub parts : waiting s.seat.inbox ++ items_as popped ≡ got ++ waiting s'.seat.inbox
+    pub parts : waiting_items s.seat.inbox ++ items_as popped ≡ got ++ waiting_items s'.seat.inbox
     pub out : List schedule.StreamItem
     pub sits : Sits t p s'.seat.staged (fed_more got x) out
-    pub out_is : out ≡ front ++ (items_as more ++ waiting s'.seat.outbox)
+    pub out_is : out ≡ front ++ (items_as more ++ waiting_items s'.seat.outbox)
 
   abbrev pub Feeds : RingSeat T t → RingSeat T t → List Item → List Item → ℕ → Type 0
-  Feeds s s' popped more count = (p : t.Plan) (x : Progress) (out front : List schedule.StreamItem) → IsWhole (x.taken ++ (waiting s.seat.inbox ++ items_as popped))
-      → Sits t p s.seat.staged x out → out ≡ front ++ waiting s.seat.outbox → FedBy p x front s s' popped more count
+  Feeds s s' popped more count = (p : t.Plan) (x : Progress) (out front : List schedule.StreamItem) → IsWhole (x.taken ++ (waiting_items s.seat.inbox ++ items_as popped))
+      → Sits t p s.seat.staged x out → out ≡ front ++ waiting_items s.seat.outbox → FedBy p x front s s' popped more count
 
   -- looks, in which the stage took so many items
   pub record Looks (room : ℕ) (s s' : RingSeat T t) (count : ℕ) : Type 0 where
@@ -63,9 +63,9 @@ module _ {T : Type 0} (t : Ghosts T) where
     pub went : sent_to s'.to ≡ sent_to s.to ++ more
     pub feeds : Feeds s s' popped more count
     -- with nothing unsent it took all that it found, within the room
-    pub took : unsent s ≡ [] → min room (finds s) ≤ count
+    pub took : unsent_items s ≡ [] → min room (finds s) ≤ count
     -- it sent what was unsent, as far as it knew slots to be free
-    pub sent_most : min (length (unsent s)) (free_in s.to) ≤ length more
+    pub sent_most : min (length (unsent_items s)) (free_in s.to) ≤ length more
     pub free : free_in s.to ≤ free_in s'.to + length more
 
   -- what was unsent was sent as far as the ring took it; nothing was taken
@@ -76,8 +76,8 @@ module _ {T : Type 0} (t : Ghosts T) where
     pub same_inbox : s'.seat.inbox ≡ s.seat.inbox
     pub more : List Item
     pub went : sent_to s'.to ≡ sent_to s.to ++ more
-    pub parts : waiting s.seat.outbox ≡ items_as more ++ waiting s'.seat.outbox
-    pub most : min (length (unsent s)) (free_in s.to) ≤ length more
+    pub parts : waiting_items s.seat.outbox ≡ items_as more ++ waiting_items s'.seat.outbox
+    pub most : min (length (unsent_items s)) (free_in s.to) ≤ length more
     pub free : free_in s.to ≤ free_in s'.to + length more
 
   -- what it finds lies in the inbox; so much of that is to be taken
@@ -88,8 +88,8 @@ module _ {T : Type 0} (t : Ghosts T) where
     pub same_outbox : s'.seat.outbox ≡ s.seat.outbox
     pub popped : List Item
     pub came : taken_from s'.from ≡ taken_from s.from ++ popped
-    pub lies : IsWhole (waiting s.seat.inbox ++ items_as popped) → waiting s'.seat.inbox ≡ waiting s.seat.inbox ++ items_as popped
-    pub enough : count ≤ length (waiting s.seat.inbox ++ items_as popped)
+    pub lies : IsWhole (waiting_items s.seat.inbox ++ items_as popped) → waiting_items s'.seat.inbox ≡ waiting_items s.seat.inbox ++ items_as popped
+    pub enough : count ≤ length (waiting_items s.seat.inbox ++ items_as popped)
     pub least : min room (finds s) ≤ count
 
   -- what it found was taken, within the room; nothing was sent
@@ -134,8 +134,8 @@ module _ {T : Type 0} (t : Ghosts T) where
     pub same_staged : s'.seat.staged ≡ s.seat.staged
     pub same_inbox : s'.seat.inbox ≡ s.seat.inbox
     pub same_usable : s'.seat.usable ≡ s.seat.usable
-    pub none_left : waiting s'.seat.outbox ≡ []
-    pub moves : (b.ended ≡ false) ⊎ (waiting s.seat.outbox ≡ []) → waiting b' ≡ waiting b ++ waiting s.seat.outbox
+    pub none_left : waiting_items s'.seat.outbox ≡ []
+    pub moves : (b.ended ≡ false) ⊎ (waiting_items s.seat.outbox ≡ []) → waiting_items b' ≡ waiting_items b ++ waiting_items s.seat.outbox
 
   abbrev pub AllUsable : List (RingSeat T t) → Type 0
   AllUsable ss = All (λ s. IsTrue s.seat.usable) ss

@@ -4,7 +4,7 @@ use Rattle.kex_code.specs.Codes.{Begins}
 use Rattle.kex_model.specs.Answers.{Report, Pipeline}
 use Rattle.kex_model.specs.Schedules.{StreamItem, has_end, items_of, Progress, Event, After, LastWrote, Settled}
 use Rattle.kex_pipe.specs.Events.{bytes_given, end_given}
-use Rattle.kex_pipe.specs.Waiting.{unread}
+use Rattle.kex_pipe.specs.Waiting.{unread_bytes}
 use Rattle.kex_pipe.specs.declared.turn.Turn.{Ghosts}
 use Rattle.kex_rings.specs.declared.pipe.RingPipe.{RingPipe}
 use Rattle.kex_rings.specs.Lines.{Line}
@@ -21,7 +21,7 @@ module _ {T : Type 0} (t : Ghosts T) where
 
   -- the output that is in hand
   abbrev pub in_hand : RingPipe T t → List ℕ
-  in_hand pipe = unread pipe.output
+  in_hand pipe = unread_bytes pipe.output
 
   -- the pipe of stages with these plans has come by this schedule, and this was taken from its output
   pub record Stands (ps : List t.Plan) (pipe : RingPipe T t) (h : List Event) (taken : List ℕ) : Type 0 where

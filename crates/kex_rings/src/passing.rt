@@ -3,7 +3,7 @@
 ghost use Rattle.std.specs.Prelude.{◌≡◌, ◌<◌, ◌≤◌, ◌+◌, ◌++◌, ◌∷◌, [], List, ℕ, IfOk, OnOk, length, map, take, min};
 ghost use Rattle.rtrb.specs.Ring.{sent, known_free, received, known_items, SameProducer, SameConsumer};
 ghost use Rattle.kex_pipe.specs.Seats.{IsWhole};
-ghost use Rattle.kex_pipe.specs.Waiting.{unread, waiting};
+ghost use Rattle.kex_pipe.specs.Waiting.{unread_bytes, waiting_items};
 ghost use Rattle.kex_rings.specs.declared.passing.TheConstants.{RUN};
 ghost use Rattle.kex_rings.specs.Items.{items_as, byte_of};
 ghost use Rattle.kex_rings.specs.Passing.{Sends, Pulls, ComesOut};
@@ -19,7 +19,7 @@ const RUN: usize = 64;
 // Writes the first items that wait to the run, as many as it has room for, and tells how many.
 fn offer(inbox: &Inbox, run: &mut [Item]) -> usize
     ensures within { result ≤ length run.old }
-    ensures items { items_as (take result run.new) ≡ take (length run.old) (waiting inbox.now) }
+    ensures items { items_as (take result run.new) ≡ take (length run.old) (waiting_items inbox.now) }
 {
     let room = run.len() as u64;
     let bytes = inbox.front(room);
@@ -51,7 +51,7 @@ pub(crate) fn send(unsent: &mut Inbox, ring: &mut Producer<Item>)
 // Adds the bytes of the items.
 fn give_bytes(inbox: &mut Inbox, items: &[Item]) -> Result<(), Memory>
     requires { length items.now ≤ RUN }
-    ensures bytes { OnOk result (unread inbox.new ≡ unread inbox.old ++ map byte_of items.now) }
+    ensures bytes { OnOk result (unread_bytes inbox.new ≡ unread_bytes inbox.old ++ map byte_of items.now) }
     ensures same_end { inbox.new.ended ≡ inbox.old.ended }
 {
     let mut bytes = [0; RUN];
@@ -64,7 +64,7 @@ fn give_bytes(inbox: &mut Inbox, items: &[Item]) -> Result<(), Memory>
 // Items come, where the end hasn't come.
 fn put(inbox: &mut Inbox, items: &[Item]) -> Result<(), Memory>
     requires { length items.now ≤ RUN }
-    ensures { OnOk result (IsWhole (waiting inbox.old ++ items_as items.now) → waiting inbox.new ≡ waiting inbox.old ++ items_as items.now) }
+    ensures { OnOk result (IsWhole (waiting_items inbox.old ++ items_as items.now) → waiting_items inbox.new ≡ waiting_items inbox.old ++ items_as items.now) }
 {
     let [front @ .., Item::End] = items else {
         return give_bytes(inbox, items);
@@ -104,7 +104,7 @@ pub(crate) fn pull(ring: &mut Consumer<Item>, inbox: &mut Inbox, room: u64) -> R
 
 /// Takes all that is seen in the ring.
 pub(crate) fn pull_all(ring: &mut Consumer<Item>, inbox: &mut Inbox) -> Result<(), Memory>
-    ensures { OnOk result (IsWhole (waiting inbox.old ++ items_as (known_items ring.old)) → waiting inbox.new ≡ waiting inbox.old ++ items_as (known_items ring.old)) }
+    ensures { OnOk result (IsWhole (waiting_items inbox.old ++ items_as (known_items ring.old)) → waiting_items inbox.new ≡ waiting_items inbox.old ++ items_as (known_items ring.old)) }
 {
     let all = ring.cached_slots() as u64;
     let mut count = 0;

@@ -22,13 +22,13 @@ pub struct RingSeat<T: Turn> {
 
 impl<T: Turn> RingSeat<T> {
     ghost use Rattle.kex_rings.specs.Ends.{seen_in};
-    ghost use Rattle.kex_rings.specs.Looking.{Looks, SendsOn, FindsIn, TakesIn, IsIdle, unsent};
+    ghost use Rattle.kex_rings.specs.Looking.{Looks, SendsOn, FindsIn, TakesIn, IsIdle, unsent_items};
 
     // Sends what is unsent, as far as the ring takes it, and tells whether that was all.
     fn send_on(&mut self) -> bool
         ensures usable { self.new.seat.usable ≡ self.old.seat.usable }
         ensures sends { SendsOn T.Turn self.old self.new }
-        ensures all { IsTrue result ↔ (unsent T.Turn self.new ≡ []) }
+        ensures all { IsTrue result ↔ (unsent_items T.Turn self.new ≡ []) }
     {
         let Some(ring) = &mut self.to else {
             return true;

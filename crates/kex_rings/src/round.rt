@@ -4,7 +4,7 @@ ghost use Rattle.std.specs.Prelude.{◌≡◌, ◌+◌, ◌<◌, ◌≤◌, ◌^
 ghost use Rattle.std.specs.Thread.{IsSync};
 ghost use Rattle.kex_model.specs.Schedules.{Event};
 ghost use Rattle.kex_pipe.specs.Rounds.{Each};
-ghost use Rattle.kex_pipe.specs.Waiting.{unread};
+ghost use Rattle.kex_pipe.specs.Waiting.{unread_bytes};
 ghost use Rattle.kex_rings.specs.Ends.{sent_to, free_in, taken_from, SameGiver, SameTaker, ArePaired, AreBeside};
 ghost use Rattle.kex_rings.specs.Looking.{Looks, OnlyLooked, NowBeside, CarriedOut, AllUsable, WorkedAll};
 ghost use Rattle.kex_rings.specs.Lines.{turns_from, Line, Joined, AllGetOn, LineRounds};
@@ -156,7 +156,7 @@ fn carry_out<T: Turn>(seats: &mut [RingSeat<T>], output: &mut Inbox) -> Result<(
     requires { 0 < length seats.old }
     ensures count { length seats.new ≡ length seats.old }
     ensures out { OnOk result ((front : List (RingSeat T T.Turn)) (s : RingSeat T T.Turn) → seats.old ≡ front ++ s ∷ [] → CarriedOut T.Turn front s output.old seats.new output.new) }
-    ensures hand { OnErr result (unread output.new ≡ unread output.old) }
+    ensures hand { OnErr result (unread_bytes output.new ≡ unread_bytes output.old) }
 {
     let last = seats.len() - 1;
     let seat = &mut seats[last];
@@ -184,7 +184,7 @@ fn run<R: Threads + Sync, T: Turn + Send, G: Gate + Sync>(
     ensures counts { OnOk result (length counts.new.items ≡ length seats.old) }
     ensures turns { OnOk result (LineRounds T.Turn seats.old output.old seats.new output.new counts.new.items) }
     ensures gets_on { OnOk result (AllGetOn T.Turn room seats.old seats.new counts.new.items) }
-    ensures hand { OnErr result (unread output.new ≡ unread output.old) }
+    ensures hand { OnErr result (unread_bytes output.new ≡ unread_bytes output.old) }
 {
     let task = Task {
         gate,

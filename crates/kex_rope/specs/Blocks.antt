@@ -3,9 +3,9 @@ use Rattle.std.specs.Prelude.{◌≡◌, ◌<◌, ◌≤◌, ◌⊎◌, ℕ, Lis
 use Rattle.std.specs.Global.{Vec}
 use Rattle.kex_code.specs.declared.symbol.Symbol.{Symbol}
 
-abbrev pub joined : List (Vec Symbol) → List Symbol
-joined [] = []
-joined (b ∷ bs) = b.items ++ joined bs
+abbrev pub symbols_in : List (Vec Symbol) → List Symbol
+symbols_in [] = []
+symbols_in (b ∷ bs) = b.items ++ symbols_in bs
 
 -- each block has a symbol
 abbrev pub AreFilled : List (Vec Symbol) → Type 0
@@ -14,5 +14,5 @@ AreFilled (b ∷ bs) = (0 < length b.items) × AreFilled bs
 
 -- so many symbols, in blocks of which each has one; a lone block may be empty
 pub record AreBlocks (blocks : List (Vec Symbol)) (count : ℕ) : Type 0 where
-  pub counted : count ≡ length (joined blocks)
+  pub counted : count ≡ length (symbols_in blocks)
   pub filled : (length blocks ≤ 1) ⊎ AreFilled blocks

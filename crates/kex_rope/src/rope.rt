@@ -2,7 +2,7 @@
 
 ghost use Rattle.std.specs.Prelude.{◌≡◌, ◌+◌, ◌^◌, ◌<◌, ◌≤◌, [], ◌∷◌, ◌++◌, ◌↔◌, IsTrue, length, max, OnOk, OnErr, IfOk};
 ghost use Rattle.kex_code.specs.Codes.{Begins};
-ghost use Rattle.kex_rope.specs.Blocks.{joined, AreFilled, AreBlocks};
+ghost use Rattle.kex_rope.specs.Blocks.{symbols_in, AreFilled, AreBlocks};
 
 use kex_code::code::Code;
 use kex_code::memory::Memory;
@@ -31,20 +31,20 @@ pub struct Rope {
 impl Model for Rope {
     ghost use Rattle.std.specs.Prelude.{List};
     ghost use Rattle.kex_code.specs.declared.symbol.Symbol.{Symbol};
-    ghost use Rattle.kex_rope.specs.Blocks.{joined, AreBlocks};
+    ghost use Rattle.kex_rope.specs.Blocks.{symbols_in, AreBlocks};
 
     ghost Value = { List Symbol };
 
-    ghost view = { λ r. joined r.blocks };
+    ghost view = { λ r. symbols_in r.blocks };
 
     ghost invariant = { λ r. AreBlocks r.blocks r.count };
 }
 
 // A symbol is put behind the last block, or into a new one where that is full.
 fn put(alloc: Global, blocks: &mut LinkedList<Vec<Symbol>>, symbol: Symbol) -> Result<(), Memory>
-    ensures added { OnOk result (joined blocks.new ≡ joined blocks.old ++ symbol ∷ []) }
-    ensures filled { OnOk result (AreBlocks blocks.old (length (joined blocks.old)) → AreFilled blocks.new) }
-    ensures kept { OnErr result (joined blocks.new ≡ joined blocks.old) }
+    ensures added { OnOk result (symbols_in blocks.new ≡ symbols_in blocks.old ++ symbol ∷ []) }
+    ensures filled { OnOk result (AreBlocks blocks.old (length (symbols_in blocks.old)) → AreFilled blocks.new) }
+    ensures kept { OnErr result (symbols_in blocks.new ≡ symbols_in blocks.old) }
     ensures count { OnErr result (length blocks.new ≡ length blocks.old) }
     ensures still { OnErr result (AreFilled blocks.old → AreFilled blocks.new) }
 {
@@ -63,8 +63,8 @@ fn put(alloc: Global, blocks: &mut LinkedList<Vec<Symbol>>, symbol: Symbol) -> R
 // The symbols of the first block are put behind a code, and the block goes. Tells how many they are.
 fn give_front(blocks: &mut LinkedList<Vec<Symbol>>, code: &mut Code) -> Result<usize, Memory>
     requires { 0 < length blocks.old }
-    ensures moved { OnOk result (code.new ++ joined blocks.new ≡ code.old ++ joined blocks.old) }
-    ensures count { IfOk result (λ n. n + length (joined blocks.new) ≡ length (joined blocks.old)) }
+    ensures moved { OnOk result (code.new ++ symbols_in blocks.new ≡ code.old ++ symbols_in blocks.old) }
+    ensures count { IfOk result (λ n. n + length (symbols_in blocks.new) ≡ length (symbols_in blocks.old)) }
     ensures fewer { OnOk result (length blocks.new + 1 ≡ length blocks.old) }
     ensures filled { OnOk result (AreFilled blocks.old → AreFilled blocks.new) }
     ensures kept { OnErr result ((blocks.new ≡ blocks.old) × (code.new ≡ code.old)) }
@@ -80,7 +80,7 @@ fn give_front(blocks: &mut LinkedList<Vec<Symbol>>, code: &mut Code) -> Result<u
 
 // All blocks but the first go, and the first loses its symbols.
 fn empty(blocks: &mut LinkedList<Vec<Symbol>>)
-    ensures none { joined blocks.new ≡ [] }
+    ensures none { symbols_in blocks.new ≡ [] }
     ensures few { length blocks.new ≤ 1 }
 {
     while blocks.len() > 1 {

@@ -6,9 +6,9 @@ use Rattle.kex_byteset.specs.Classes.{class_at}
 use Rattle.kex_code.specs.declared.symbol.Symbol.{Symbol}
 use Rattle.kex_sst.specs.declared.parts.Part.{Part}
 use Rattle.kex_sst.specs.declared.table.Transition.{Transition}
-use Rattle.kex_sst.specs.Parts.{IsUpdate, IsWay, meant, items_of}
+use Rattle.kex_sst.specs.Parts.{IsUpdate, IsWay, parts_code, items_of}
 use Rattle.kex_sst.specs.Tables.{Row, Transducer, IsTable, IsWayIf, transition_of}
-use Rattle.kex_sst.specs.Passes.{Pass, next_of, stepped, begun, passes_if, ending, ended_by, way_of}
+use Rattle.kex_sst.specs.Passes.{Pass, next_of, next_pass, first_pass, passes_if, whole_code, ended_by, way_of}
 use Rattle.kex_sst.proofs.Passing.{passes_more, leads_to, by_class}
 use Rattle.kex_runner.specs.Items.{items_from, items_along}
 use Rattle.kex_runner.specs.Following.{Follows, IsPlace, pass_at}
@@ -24,24 +24,24 @@ goes_none t state registers piece code = record { more = []; code = sym (append-
 
 module _ (t : Transducer) (state : ℕ) (registers : List (List Symbol)) (piece : List ℕ) (i : ℕ) (state' : ℕ) (registers' : List (List Symbol)) (before after : List Symbol) (b : ℕ) (lt : i < length piece) (is : b ≡ get_or piece i 0) where
   -- along one byte more
-  one_more : (h : Goes t state registers piece i state' registers' before after) (c : List Symbol) → passes_if t (Some (pass_at state c registers)) (take (i + 1) piece) ≡ passes_if t (stepped (next_of t state' b) b (pass_at state' (c ++ h.more) registers')) []
+  one_more : (h : Goes t state registers piece i state' registers' before after) (c : List Symbol) → passes_if t (Some (pass_at state c registers)) (take (i + 1) piece) ≡ passes_if t (next_pass (next_of t state' b) b (pass_at state' (c ++ h.more) registers')) []
   one_more h c =
       ap (λ z. passes_if t (Some (pass_at state c registers)) z) (take_more piece i 0 lt ∙ ap (λ z. take i piece ++ z ∷ []) (sym is))
       ∙ passes_more t (Some (pass_at state c registers)) (take i piece) (b ∷ [])
       ∙ ap (λ z. passes_if t z (b ∷ [])) (h.goes c)
 
-  pub goes_next : (r : Transition) (registers'' : List (List Symbol)) (after' : List Symbol) → next_of t state' b ≡ Some r → registers'' ≡ map (λ x. meant registers' b x) r.update.regs → after' ≡ after ++ meant registers' b r.update.out → Goes t state registers piece i state' registers' before after → Goes t state registers piece (i + 1) r.target registers'' before after'
+  pub goes_next : (r : Transition) (registers'' : List (List Symbol)) (after' : List Symbol) → next_of t state' b ≡ Some r → registers'' ≡ map (λ x. parts_code registers' b x) r.update.regs → after' ≡ after ++ parts_code registers' b r.update.out → Goes t state registers piece i state' registers' before after → Goes t state registers piece (i + 1) r.target registers'' before after'
   goes_next r registers'' after' n e f h = record {
-    more = h.more ++ meant registers' b r.update.out;
-    code = f ∙ ap (λ z. z ++ meant registers' b r.update.out) h.code ∙ append_assoc before h.more (meant registers' b r.update.out);
+    more = h.more ++ parts_code registers' b r.update.out;
+    code = f ∙ ap (λ z. z ++ parts_code registers' b r.update.out) h.code ∙ append_assoc before h.more (parts_code registers' b r.update.out);
     goes = λ c.
         one_more h c
-        ∙ ap (λ z. passes_if t (stepped z b (pass_at state' (c ++ h.more) registers')) []) n
-        ∙ ap₂ (λ u v. Some (pass_at r.target u v)) (append_assoc c h.more (meant registers' b r.update.out)) (sym e);
+        ∙ ap (λ z. passes_if t (next_pass z b (pass_at state' (c ++ h.more) registers')) []) n
+        ∙ ap₂ (λ u v. Some (pass_at r.target u v)) (append_assoc c h.more (parts_code registers' b r.update.out)) (sym e);
   }
 
   pub goes_nowhere : next_of t state' b ≡ None → Goes t state registers piece i state' registers' before after → (c : List Symbol) → passes_if t (Some (pass_at state c registers)) (take (i + 1) piece) ≡ None
-  goes_nowhere n h c = one_more h c ∙ ap (λ z. passes_if t (stepped z b (pass_at state' (c ++ h.more) registers')) []) n
+  goes_nowhere n h c = one_more h c ∙ ap (λ z. passes_if t (next_pass z b (pass_at state' (c ++ h.more) registers')) []) n
 
 pub next_by_class : (t : Transducer) (state b class : ℕ) → IsTable t → b < 256 → class ≡ class_at t.classes b → next_of t state b ≡ transition_of t state class
 next_by_class t state b class table lt e = (by_class t state).byte b (omega (arith, table.numbered.long, lt)) ∙ ap (λ z. transition_of t state z) (sym e)
@@ -85,10 +85,10 @@ update_at t state class registers r table h e =
     some_same : {x y : Row} → Some x ≡ Some y → x ≡ y
     some_same e = cc
 
-pub place_next : (t : Transducer) (state class : ℕ) (registers : List (List Symbol)) (r : Transition) (registers' : List (List Symbol)) (b : ℕ) → IsTable t → transition_of t state class ≡ Some r → registers' ≡ map (λ x. meant registers b x) r.update.regs → IsPlace t r.target registers'
+pub place_next : (t : Transducer) (state class : ℕ) (registers : List (List Symbol)) (r : Transition) (registers' : List (List Symbol)) (b : ℕ) → IsTable t → transition_of t state class ≡ Some r → registers' ≡ map (λ x. parts_code registers b x) r.update.regs → IsPlace t r.target registers'
 place_next t state class registers r registers' b table e f =
     let s = leads_to t table state class r e in
-    record { row = s.2.row; at = s.2.at; count = ap length f ∙ length-map r.update.regs (λ x. meant registers b x) ∙ s.2.update.count }
+    record { row = s.2.row; at = s.2.at; count = ap length f ∙ length-map r.update.regs (λ x. parts_code registers b x) ∙ s.2.update.count }
 
 pub way_at : (t : Transducer) (state : ℕ) (registers : List (List Symbol)) (s : Row) (way : List Part) → IsTable t → IsPlace t state registers → slice_get t.states state ≡ Some s → s.accepting ≡ Some way → IsWay (length registers) way
 way_at t state registers s way table h at e =
@@ -100,15 +100,15 @@ way_at t state registers s way table h at e =
     some_same : {x y : Row} → Some x ≡ Some y → x ≡ y
     some_same e = cc
 
-pub ending_none : (t : Transducer) (state : ℕ) (s : Row) → slice_get t.states state ≡ Some s → s.accepting ≡ None → (p : Pass) → p.state ≡ state → ending t p ≡ None
+pub ending_none : (t : Transducer) (state : ℕ) (s : Row) → slice_get t.states state ≡ Some s → s.accepting ≡ None → (p : Pass) → p.state ≡ state → whole_code t p ≡ None
 ending_none t state s at none p e = ap (λ z. ended_by (way_of (slice_get t.states z)) p) e ∙ ap (λ z. ended_by (way_of z) p) at ∙ ap (λ z. ended_by z p) none
 
-pub ending_some : (t : Transducer) (state : ℕ) (s : Row) (way : List Part) → slice_get t.states state ≡ Some s → s.accepting ≡ Some way → (p : Pass) → p.state ≡ state → ending t p ≡ Some (p.code ++ meant p.registers 0 way)
+pub ending_some : (t : Transducer) (state : ℕ) (s : Row) (way : List Part) → slice_get t.states state ≡ Some s → s.accepting ≡ Some way → (p : Pass) → p.state ≡ state → whole_code t p ≡ Some (p.code ++ parts_code p.registers 0 way)
 ending_some t state s way at some p e = ap (λ z. ended_by (way_of (slice_get t.states z)) p) e ∙ ap (λ z. ended_by (way_of z) p) at ∙ ap (λ z. ended_by z p) some
 
 -- the place before the first byte
-pub place_begun : (t : Transducer) → IsTable t → IsPlace t 0 (begun t.initial).registers
-place_begun t table = let h = table.begins in record { row = h.row; at = h.at; count = length-map t.initial.regs (λ x. meant [] 0 x) ∙ h.update.count }
+pub place_begun : (t : Transducer) → IsTable t → IsPlace t 0 (first_pass t.initial).registers
+place_begun t table = let h = table.begins in record { row = h.row; at = h.at; count = length-map t.initial.regs (λ x. parts_code [] 0 x) ∙ h.update.count }
 
 -- what was gone along is a front of a piece, and behind it nothing or a byte at which the table stops
 pub follows_front : (t : Transducer) (state : ℕ) (registers : List (List Symbol)) (piece : List ℕ) (good taken state' : ℕ) (registers' : List (List Symbol)) (before after : List Symbol) → taken ≤ length piece → good ≤ taken → (good < taken → (taken ≡ good + 1) × ((c : List Symbol) → passes_if t (Some (pass_at state c registers)) (take (good + 1) piece) ≡ None)) → Goes t state registers piece good state' registers' before after → Follows t state registers (take taken piece) good state' registers' before after

@@ -5,7 +5,7 @@ use Rattle.std.proofs.Math.ListN.{get_or-map}
 use Rattle.std.proofs.lemmas.List.{take_all}
 use Rattle.kex_code.specs.declared.symbol.Symbol.{Symbol}
 use Rattle.kex_sst.specs.declared.parts.Part.{Part}
-use Rattle.kex_sst.specs.Parts.{value, meant}
+use Rattle.kex_sst.specs.Parts.{value, parts_code}
 use Rattle.kex_script.specs.declared.piece.Piece.{Piece}
 use Rattle.kex_script.specs.declared.script.Tail.{Tail}
 use Rattle.kex_script.specs.Scripts.{Sheet, list_at, if_old, IsTail, IsWord}
@@ -15,9 +15,9 @@ use Rattle.kex_runner.specs.Noting.{ByteUpdate, next_registers, registers_after,
 use Rattle.kex_runner.specs.Looking.{code_of, codes_of, AreNoted, if_some, unless_empty, part_work, register_work, list_work, weight_of, old_text, old_weight, HasAsked, HasRead}
 use Rattle.kex_runner.proofs.Noting.{meant_fresh}
 
-pub meant-append : (regs : List (List Symbol)) (b : ℕ) (xs ys : List Part) → meant regs b (xs ++ ys) ≡ meant regs b xs ++ meant regs b ys
+pub meant-append : (regs : List (List Symbol)) (b : ℕ) (xs ys : List Part) → parts_code regs b (xs ++ ys) ≡ parts_code regs b xs ++ parts_code regs b ys
 meant-append regs b [] ys = refl
-meant-append regs b (x ∷ xs) ys = ap (λ z. value regs b x ++ z) (meant-append regs b xs ys) ∙ sym (append_assoc (value regs b x) (meant regs b xs) (meant regs b ys))
+meant-append regs b (x ∷ xs) ys = ap (λ z. value regs b x ++ z) (meant-append regs b xs ys) ∙ sym (append_assoc (value regs b x) (parts_code regs b xs) (parts_code regs b ys))
 
 part_work-append : (ws : List ℕ) (xs ys : List Part) → part_work ws (xs ++ ys) ≡ part_work ws xs + part_work ws ys
 part_work-append ws [] ys = omega arith
@@ -39,7 +39,7 @@ work_more ws (n ∷ ns) zero d lt = refl
 work_more ws (n ∷ ns) (suc k) d lt = work_more (map (λ xs. part_work ws xs) n.update.regs) ns k d (omega arith)
 
 -- what an old register holds, and how much is read for it
-old_means : (regs : List (List Symbol)) (b : ℕ) (o : Option ℕ) → meant regs b (if_old o) ≡ old_text regs o
+old_means : (regs : List (List Symbol)) (b : ℕ) (o : Option ℕ) → parts_code regs b (if_old o) ≡ old_text regs o
 old_means regs b None = refl
 old_means regs b (Some i) = append-nil (get_or regs i [])
 
@@ -70,7 +70,7 @@ module _ (s : Sheet) (base : List (List Symbol)) (notes : List ByteUpdate) where
 
   -- a list that is put on the stack, unless it is the empty one
   kept_code : list_at s 0 ≡ [] → (u : Unread) (k : ℕ) → u.list ≡ k → codes_of s base notes (unless_empty k u) ≡ code_of s base notes u
-  kept_code none u zero e = sym (ap (λ z. meant (registers_after base (take u.after notes)) u.byte (list_at s z)) e ∙ ap (λ z. meant (registers_after base (take u.after notes)) u.byte z) none)
+  kept_code none u zero e = sym (ap (λ z. parts_code (registers_after base (take u.after notes)) u.byte (list_at s z)) e ∙ ap (λ z. parts_code (registers_after base (take u.after notes)) u.byte z) none)
   kept_code none u (suc k) e = append-nil (code_of s base notes u)
 
   kept_weight : (u : Unread) (k : ℕ) → weight_of s notes (unless_empty k u) ≤ suc (list_work s notes u + list_work s notes u)
@@ -96,7 +96,7 @@ module _ (s : Sheet) (base : List (List Symbol)) (notes : List ByteUpdate) where
       let regs : List (List Symbol) = registers_after base (take k notes) in
       let ws : List ℕ = register_work [] (take k notes) in
       let said : get_or (registers_after base (take after notes)) i [] ≡ code_of s base notes u =
-      ap (λ z. get_or (registers_after base (take z notes)) i []) e ∙ ap (λ z. get_or z i []) (registers_more base notes k d (omega arith)) ∙ ap (λ z. get_or (next_registers z.update z.byte regs) i []) (sym at) ∙ get_or-map (λ xs. meant regs n.byte xs) n.update.regs i [] ∙ ap (λ z. meant regs n.byte z) (sym is) ∙ ap₂ (λ y z. meant (registers_after base (take y notes)) z (list_at s u.list)) (sym here) (sym byte) in
+      ap (λ z. get_or (registers_after base (take z notes)) i []) e ∙ ap (λ z. get_or z i []) (registers_more base notes k d (omega arith)) ∙ ap (λ z. get_or (next_registers z.update z.byte regs) i []) (sym at) ∙ get_or-map (λ xs. parts_code regs n.byte xs) n.update.regs i [] ∙ ap (λ z. parts_code regs n.byte z) (sym is) ∙ ap₂ (λ y z. parts_code (registers_after base (take y notes)) z (list_at s u.list)) (sym here) (sym byte) in
       let work : get_or (register_work [] (take after notes)) i 0 ≡ list_work s notes u =
       ap (λ z. get_or (register_work [] (take z notes)) i 0) e ∙ ap (λ z. get_or z i 0) (work_more [] notes k d (omega arith)) ∙ ap (λ z. get_or (map (λ xs. part_work ws xs) z.update.regs) i 0) (sym at) ∙ get_or-map (λ xs. part_work ws xs) n.update.regs i [] ∙ ap (λ z. part_work ws z) (sym is) ∙ ap (λ z. part_work (register_work [] (take z notes)) (list_at s u.list)) (sym here) in
       record {
@@ -108,7 +108,7 @@ module _ (s : Sheet) (base : List (List Symbol)) (notes : List ByteUpdate) where
 
   -- the end of the list on top is read, and the rest of it kept
   pub read_on : (u : Unread) (x : Tail) (mid new : Reading) (pending : List Unread) (old : List Piece) (next : Option Unread) → list_at s 0 ≡ [] → IsTail s.words s.lists x (list_at s u.list) → u.after ≤ length notes
-      → ((words : List (List Part)) (w : List Part) → IsWord words x.word w → spelled_back words mid.back.items ≡ meant [] u.byte w ++ spelled_back words old)
+      → ((words : List (List Part)) (w : List Part) → IsWord words x.word w → spelled_back words mid.back.items ≡ parts_code [] u.byte w ++ spelled_back words old)
       → mid.pending.items ≡ pending ++ unless_empty x.before (record { list = x.before; after = u.after; byte = u.byte })
       → HasAsked s base notes mid new next (old_text (registers_after base (take u.after notes)) x.old) (old_weight (register_work [] (take u.after notes)) x.old)
       → HasRead s base notes (pending ++ u ∷ []) (new.pending.items ++ if_some next) old new.back.items
@@ -118,11 +118,11 @@ module _ (s : Sheet) (base : List (List Symbol)) (notes : List ByteUpdate) where
       let ws : List ℕ = register_work [] (take u.after notes) in
       let rest : List Unread = unless_empty x.before r in
       let front : list_at s x.before ≡ t.front = get_or_from_slice_get s.lists x.before t.front [] t.before in
-      let word : List Symbol = meant [] u.byte t.parts in
+      let word : List Symbol = parts_code [] u.byte t.parts in
       let back : List Symbol = spelled_back s.words old in
       let whole : code_of s base notes u ≡ code_of s base notes r ++ (old_text regs x.old ++ word) =
-      ap (λ z. meant regs u.byte z) t.joined ∙ meant-append regs u.byte t.front (if_old x.old ++ t.parts)
-      ∙ ap₂ (λ y z. meant regs u.byte y ++ z) (sym front) (meant-append regs u.byte (if_old x.old) t.parts ∙ ap₂ (λ y z. y ++ z) (old_means regs u.byte x.old) (meant_fresh regs [] u.byte t.parts t.plain)) in
+      ap (λ z. parts_code regs u.byte z) t.joined ∙ meant-append regs u.byte t.front (if_old x.old ++ t.parts)
+      ∙ ap₂ (λ y z. parts_code regs u.byte y ++ z) (sym front) (meant-append regs u.byte (if_old x.old) t.parts ∙ ap₂ (λ y z. y ++ z) (old_means regs u.byte x.old) (meant_fresh regs [] u.byte t.parts t.plain)) in
       let after : new.pending.items ≡ pending ++ rest = h.pending ∙ kept in
       let work = ap (λ z. part_work ws z) t.joined ∙ part_work-append ws t.front (if_old x.old ++ t.parts) in
       let work' = part_work-append ws (if_old x.old) t.parts in
@@ -148,7 +148,7 @@ module _ (s : Sheet) (base : List (List Symbol)) (notes : List ByteUpdate) where
   pub read_empty : (u : Unread) (pending after : List Unread) (back : List Piece) → list_at s u.list ≡ [] → after ≡ pending ++ [] → HasRead s base notes (pending ++ u ∷ []) after back back
   read_empty u pending after back none e =
       let same : after ≡ pending = e ∙ append-nil pending in
-      let nothing : code_of s base notes u ≡ [] = ap (λ z. meant (registers_after base (take u.after notes)) u.byte z) none in
+      let nothing : code_of s base notes u ≡ [] = ap (λ z. parts_code (registers_after base (take u.after notes)) u.byte z) none in
       record {
         text = ap (λ z. z ++ spelled_back s.words back) (ap (λ z. codes_of s base notes z) same ∙ sym (append-nil (codes_of s base notes pending)) ∙ ap (λ z. codes_of s base notes pending ++ z) (sym (append-nil (code_of s base notes u) ∙ nothing)) ∙ sym (codes-append pending (u ∷ [])));
         noted = λ k. subst (λ z. AreNoted (length notes) z) (sym same) (noted_left (length notes) pending (u ∷ []) k);
@@ -156,5 +156,5 @@ module _ (s : Sheet) (base : List (List Symbol)) (notes : List ByteUpdate) where
       }
 
   -- one list over all notes
-  pub one_list : (u : Unread) → length notes ≤ u.after → codes_of s base notes (u ∷ []) ++ spelled_back s.words [] ≡ meant (registers_after base notes) u.byte (list_at s u.list)
-  one_list u le = append-nil (codes_of s base notes (u ∷ [])) ∙ append-nil (code_of s base notes u) ∙ ap (λ z. meant (registers_after base z) u.byte (list_at s u.list)) (take_all u.after notes le)
+  pub one_list : (u : Unread) → length notes ≤ u.after → codes_of s base notes (u ∷ []) ++ spelled_back s.words [] ≡ parts_code (registers_after base notes) u.byte (list_at s u.list)
+  one_list u le = append-nil (codes_of s base notes (u ∷ [])) ∙ append-nil (code_of s base notes u) ∙ ap (λ z. parts_code (registers_after base z) u.byte (list_at s u.list)) (take_all u.after notes le)

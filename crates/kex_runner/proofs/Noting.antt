@@ -4,7 +4,7 @@ use Rattle.std.proofs.lemmas.List.{take_more, length-map}
 use Rattle.kex_code.specs.declared.symbol.Symbol.{Symbol}
 use Rattle.kex_sst.specs.declared.parts.Part.{Part}
 use Rattle.kex_sst.specs.declared.parts.Part.TheVariants.{Put, Old, Input}
-use Rattle.kex_sst.specs.Parts.{value, meant, olds, olds_in, long_in}
+use Rattle.kex_sst.specs.Parts.{value, parts_code, olds, olds_in, long_in}
 use Rattle.kex_runner.specs.Noting.{ByteUpdate, next_registers, registers_after}
 
 -- one more note
@@ -15,13 +15,13 @@ registers_push base (m ∷ ms) n = registers_push (next_registers m.update m.byt
 -- there are as many registers as the last note gives something
 pub as_many : (base : List (List Symbol)) (notes : List ByteUpdate) (k : ℕ) (n : ByteUpdate) → k + 1 ≡ length notes → n ≡ get_or notes k n → length (registers_after base notes) ≡ length n.update.regs
 as_many base [] k n e is = absurd (omega arith)
-as_many base (m ∷ []) zero n e is = length-map m.update.regs (λ xs. meant base m.byte xs) ∙ ap (λ z. length z.update.regs) (sym is)
+as_many base (m ∷ []) zero n e is = length-map m.update.regs (λ xs. parts_code base m.byte xs) ∙ ap (λ z. length z.update.regs) (sym is)
 as_many base (m ∷ []) (suc k) n e is = absurd (omega arith)
 as_many base (m ∷ o ∷ ms) zero n e is = absurd (omega arith)
 as_many base (m ∷ o ∷ ms) (suc k) n e is = as_many (next_registers m.update m.byte base) (o ∷ ms) k n (omega arith) is
 
 -- a list of parts that reads no register is the same whatever they hold
-pub meant_fresh : (regs regs' : List (List Symbol)) (b : ℕ) (xs : List Part) → olds xs ≡ [] → meant regs b xs ≡ meant regs' b xs
+pub meant_fresh : (regs regs' : List (List Symbol)) (b : ℕ) (xs : List Part) → olds xs ≡ [] → parts_code regs b xs ≡ parts_code regs' b xs
 meant_fresh regs regs' b [] e = refl
 meant_fresh regs regs' b (Put s ∷ xs) e = ap (λ z. s ∷ z) (meant_fresh regs regs' b xs e)
 meant_fresh regs regs' b (Old i ∷ xs) e = cc
@@ -35,19 +35,19 @@ none_right : {A : Type 0} (xs ys : List A) → xs ++ ys ≡ [] → ys ≡ []
 none_right [] ys e = e
 none_right (x ∷ xs) ys e = cc
 
-pub registers_fresh : (u : List (List Part)) (b : ℕ) (regs regs' : List (List Symbol)) → olds_in u ≡ [] → map (λ xs. meant regs b xs) u ≡ map (λ xs. meant regs' b xs) u
+pub registers_fresh : (u : List (List Part)) (b : ℕ) (regs regs' : List (List Symbol)) → olds_in u ≡ [] → map (λ xs. parts_code regs b xs) u ≡ map (λ xs. parts_code regs' b xs) u
 registers_fresh [] b regs regs' e = refl
 registers_fresh (x ∷ xs) b regs regs' e = ap₂ (λ y z. y ∷ z) (meant_fresh regs regs' b x (none_left (olds x) (olds_in xs) e)) (registers_fresh xs b regs regs' (none_right (olds x) (olds_in xs) e))
 
 -- a list of parts, as far as it was read
-pub meant_more : (regs : List (List Symbol)) (b : ℕ) (parts : List Part) (k : ℕ) (d : Part) (before now : List Symbol) → k < length parts → now ≡ before ++ meant regs b (take k parts) → now ++ value regs b (get_or parts k d) ≡ before ++ meant regs b (take (k + 1) parts)
+pub meant_more : (regs : List (List Symbol)) (b : ℕ) (parts : List Part) (k : ℕ) (d : Part) (before now : List Symbol) → k < length parts → now ≡ before ++ parts_code regs b (take k parts) → now ++ value regs b (get_or parts k d) ≡ before ++ parts_code regs b (take (k + 1) parts)
 meant_more regs b parts k d before now lt e =
-    ap (λ z. z ++ value regs b (get_or parts k d)) e ∙ append_assoc before (meant regs b (take k parts)) (value regs b (get_or parts k d))
-    ∙ ap (λ z. before ++ z) (ap (λ z. meant regs b (take k parts) ++ z) (sym (append-nil (value regs b (get_or parts k d)))) ∙ sym (both (take k parts) (get_or parts k d ∷ [])) ∙ ap (λ z. meant regs b z) (sym (take_more parts k d lt)))
+    ap (λ z. z ++ value regs b (get_or parts k d)) e ∙ append_assoc before (parts_code regs b (take k parts)) (value regs b (get_or parts k d))
+    ∙ ap (λ z. before ++ z) (ap (λ z. parts_code regs b (take k parts) ++ z) (sym (append-nil (value regs b (get_or parts k d)))) ∙ sym (both (take k parts) (get_or parts k d ∷ [])) ∙ ap (λ z. parts_code regs b z) (sym (take_more parts k d lt)))
   where
-    both : (xs ys : List Part) → meant regs b (xs ++ ys) ≡ meant regs b xs ++ meant regs b ys
+    both : (xs ys : List Part) → parts_code regs b (xs ++ ys) ≡ parts_code regs b xs ++ parts_code regs b ys
     both [] ys = refl
-    both (x ∷ xs) ys = ap (λ z. value regs b x ++ z) (both xs ys) ∙ sym (append_assoc (value regs b x) (meant regs b xs) (meant regs b ys))
+    both (x ∷ xs) ys = ap (λ z. value regs b x ++ z) (both xs ys) ∙ sym (append_assoc (value regs b x) (parts_code regs b xs) (parts_code regs b ys))
 
 long_in-append : (xs ys : List (List Part)) → long_in (xs ++ ys) ≡ long_in xs + long_in ys
 long_in-append [] ys = omega arith

@@ -7,7 +7,7 @@ use Rattle.std.proofs.lemmas.Nat.{div-mul-add, div-add-mod'}
 use Rattle.std.proofs.lemmas.List.{map_push, take-take}
 use Rattle.kex_byteset.specs.Classes.{class_at, class_count}
 use Rattle.kex_code.specs.declared.symbol.Symbol.{Symbol}
-use Rattle.kex_sst.specs.Parts.{meant}
+use Rattle.kex_sst.specs.Parts.{parts_code}
 use Rattle.kex_sst.specs.Tables.{Transducer, IsTable}
 use Rattle.kex_sst.specs.Passes.{passes_if}
 use Rattle.kex_sst.proofs.Passing.{passes_more}
@@ -80,7 +80,7 @@ module _ (t : Transducer) (g : Guide) (table : IsTable t) (script : IsScriptOf g
         let regs = noted_by g.script base notes in
         let regs' = noted_by g.script base (notes ++ record { lists = q.lists; byte = b } ∷ []) in
         subst (λ z. Goes t state registers piece (i + 1) z regs' [] []) (sym (target e q h))
-        (goes_next t state registers piece i (row / g.width) regs [] [] b less is (told_by g.script e) regs' [] (next_by_class t (row / g.width) b class table byte of ∙ step.at) noted (ap (λ z. meant regs b z) (sym (step.update.silent.0 h.silent))) f)
+        (goes_next t state registers piece i (row / g.width) regs [] [] b less is (told_by g.script e) regs' [] (next_by_class t (row / g.width) b class table byte of ∙ step.at) noted (ap (λ z. parts_code regs b z) (sym (step.update.silent.0 h.silent))) f)
 
 -- a piece is followed on behind its front
 pub goes_on : (t : Transducer) (state : ℕ) (registers : List (List Symbol)) (piece rest : List ℕ) (i n : ℕ) (state' : ℕ) (registers' : List (List Symbol)) (state'' : ℕ) (registers'' : List (List Symbol)) (before after : List Symbol) → rest ≡ drop i piece → Goes t state registers piece i state' registers' before after → Follows t state' registers' (take n rest) n state'' registers'' [] [] → Goes t state registers piece (i + n) state'' registers'' before after

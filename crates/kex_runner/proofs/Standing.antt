@@ -3,9 +3,9 @@ use Rattle.std.proofs.Common.{◌≡◌, ℕ, ◌+◌, ◌<◌, ◌≤◌, Bool,
 use Rattle.std.proofs.lemmas.List.{take_all, take_more, take-append-drop, drop_more, length-take-le}
 use Rattle.kex_code.specs.declared.symbol.Symbol.{Symbol}
 use Rattle.kex_sst.specs.declared.parts.Part.{Part}
-use Rattle.kex_sst.specs.Parts.{meant}
+use Rattle.kex_sst.specs.Parts.{parts_code}
 use Rattle.kex_sst.specs.Tables.{Transducer}
-use Rattle.kex_sst.specs.Passes.{Pass, begun, passes, passes_if, ending}
+use Rattle.kex_sst.specs.Passes.{Pass, first_pass, passes, passes_if, whole_code}
 use Rattle.kex_sst.proofs.Passing.{passes_more, passes_none}
 use Rattle.kex_runner.specs.declared.answers.Fed.{Fed}
 use Rattle.kex_runner.specs.declared.answers.Fed.TheVariants.{On, Dead}
@@ -14,13 +14,13 @@ use Rattle.kex_runner.specs.Following.{Follows, pass_at}
 use Rattle.kex_runner.specs.Running.{Running, pass_of, StopsBehind, HasPassed, IsDead, IsRunOf, Feeds, HasNoEnd, Ends, answer_of}
 
 pub passes_on : (t : Transducer) (w v : List ℕ) (p : Pass) → passes t w ≡ Some p → passes t (w ++ v) ≡ passes_if t (Some p) v
-passes_on t w v p e = passes_more t (Some (begun t.initial)) w v ∙ ap (λ z. passes_if t z v) e
+passes_on t w v p e = passes_more t (Some (first_pass t.initial)) w v ∙ ap (λ z. passes_if t z v) e
 
 -- where the table has stopped it goes on no more
 pub stopped_none : {t : Transducer} {w v : List ℕ} → StopsBehind t w v → passes t w ≡ None
 stopped_none {t} {w} {v} h =
     ap (λ z. passes t z) (h.front ∙ sym (append_assoc v (h.byte ∷ []) h.rest))
-    ∙ passes_more t (Some (begun t.initial)) (v ++ h.byte ∷ []) h.rest
+    ∙ passes_more t (Some (first_pass t.initial)) (v ++ h.byte ∷ []) h.rest
     ∙ ap (λ z. passes_if t z h.rest) h.stops
     ∙ passes_none t h.rest
 
@@ -52,7 +52,7 @@ ends_dead r before after d e = record {
 }
 
 -- the end where nothing ends
-pub ends_cut : (r : Running) (before after : List Symbol) → r.dead ≡ false → after ≡ before ++ r.pending → ((p : Pass) → p.state ≡ r.state → ending r.table p ≡ None) → Ends Cut r before after
+pub ends_cut : (r : Running) (before after : List Symbol) → r.dead ≡ false → after ≡ before ++ r.pending → ((p : Pass) → p.state ≡ r.state → whole_code r.table p ≡ None) → Ends Cut r before after
 ends_cut r before after d e none = record {
   more = r.pending;
   code = e;
@@ -64,13 +64,13 @@ ends_cut r before after d e none = record {
 }
 
 -- the end where the table ends
-pub ends_parsed : (r : Running) (way : List Part) (before after : List Symbol) → r.dead ≡ false → after ≡ (before ++ r.pending) ++ meant r.registers 0 way → ((p : Pass) → p.state ≡ r.state → ending r.table p ≡ Some (p.code ++ meant p.registers 0 way)) → Ends Parsed r before after
+pub ends_parsed : (r : Running) (way : List Part) (before after : List Symbol) → r.dead ≡ false → after ≡ (before ++ r.pending) ++ parts_code r.registers 0 way → ((p : Pass) → p.state ≡ r.state → whole_code r.table p ≡ Some (p.code ++ parts_code p.registers 0 way)) → Ends Parsed r before after
 ends_parsed r way before after d e some = record {
-  more = r.pending ++ meant r.registers 0 way;
-  code = e ∙ append_assoc before r.pending (meant r.registers 0 way);
+  more = r.pending ++ parts_code r.registers 0 way;
+  code = e ∙ append_assoc before r.pending (parts_code r.registers 0 way);
   over = λ w c s.
       let x : HasPassed r w c = live_stands {r = r} d s in
-      (pass_of r c, x.passes, some (pass_of r c) refl ∙ ap (λ z. Some z) (append_assoc c r.pending (meant r.registers 0 way)));
+      (pass_of r c, x.passes, some (pass_of r c) refl ∙ ap (λ z. Some z) (append_assoc c r.pending (parts_code r.registers 0 way)));
 }
 
 -- a runner that a piece was fed to, and has refused or not
@@ -172,7 +172,7 @@ jumps r state bytes w v c d none s count e =
         count = omega (arith, l.1.count, count, length-append w v);
       },
     ))
-    (λ x. absurd (no_pass (sym (passes_more r.table (Some (begun r.table.initial)) w v ∙ ap (λ z. passes_if r.table z v) (stopped_none x.1.1) ∙ passes_none r.table v) ∙ e)))
+    (λ x. absurd (no_pass (sym (passes_more r.table (Some (first_pass r.table.initial)) w v ∙ ap (λ z. passes_if r.table z v) (stopped_none x.1.1) ∙ passes_none r.table v) ∙ e)))
     s
   where
     no_pass : {p : Pass} → None ≡ Some p → ⊥

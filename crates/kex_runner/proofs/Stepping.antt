@@ -5,11 +5,11 @@ use Rattle.kex_code.specs.declared.symbol.Symbol.{Symbol}
 use Rattle.kex_sst.specs.declared.table.Transition.{Transition}
 use Rattle.kex_sst.specs.Parts.{Change}
 use Rattle.kex_sst.specs.Tables.{Transducer, transition_of}
-use Rattle.kex_sst.specs.Passes.{begun}
+use Rattle.kex_sst.specs.Passes.{first_pass}
 use Rattle.kex_script.specs.declared.script.Entry.{Entry}
 use Rattle.kex_script.specs.Scripts.{Sheet, HasUpdate, IsEntryOf, IsScriptOf, change_at, entry_at}
 use Rattle.kex_runner.specs.declared.registers.Registers.{Registers}
-use Rattle.kex_runner.specs.Noting.{held, next_registers}
+use Rattle.kex_runner.specs.Noting.{contents, next_registers}
 use Rattle.kex_runner.specs.Following.{IsRunner, IsPlace, Follows}
 use Rattle.kex_runner.proofs.Going.{place_next}
 
@@ -54,16 +54,16 @@ no_step s t state class e h lt is stops = none (transition_of t state class) (th
     none None k = refl
     none (Some r) k = let bad : ⊥ = true_false (sym k.goes ∙ stops) in absurd bad
 
-pub runner_kept : (t : Transducer) (s : Sheet) (state : ℕ) (r r' : Registers) → IsRunner t s state r → held s r' ≡ held s r → r'.count ≡ length (held s r') → IsRunner t s state r'
+pub runner_kept : (t : Transducer) (s : Sheet) (state : ℕ) (r r' : Registers) → IsRunner t s state r → contents s r' ≡ contents s r → r'.count ≡ length (contents s r') → IsRunner t s state r'
 runner_kept t s state r r' h e n = record {
   sound = record { table = h.sound.table; place = subst (λ z. IsPlace t state z) (sym e) h.sound.place };
   script = h.script;
   counted = n;
 }
 
-pub runner_next : (t : Transducer) (s : Sheet) (state class b : ℕ) (e : Entry) (r r' : Registers) → IsRunner t s state r → IsStep s t state class e → held s r' ≡ next_registers (change_at s e.lists) b (held s r) → r'.count ≡ length (held s r') → IsRunner t s e.target r'
+pub runner_next : (t : Transducer) (s : Sheet) (state class b : ℕ) (e : Entry) (r r' : Registers) → IsRunner t s state r → IsStep s t state class e → contents s r' ≡ next_registers (change_at s e.lists) b (contents s r) → r'.count ≡ length (contents s r') → IsRunner t s e.target r'
 runner_next t s state class b e r r' h k f n = record {
-  sound = record { table = h.sound.table; place = place_next t state class (held s r) (told_by s e) (held s r') b h.sound.table k.at f };
+  sound = record { table = h.sound.table; place = place_next t state class (contents s r) (told_by s e) (contents s r') b h.sound.table k.at f };
   script = h.script;
   counted = n;
 }
@@ -72,7 +72,7 @@ runner_next t s state class b e r r' h k f n = record {
 pub begins : (s : Sheet) (t : Transducer) → IsScriptOf s t → HasUpdate s s.initial s.initial.target (change_at s s.initial.lists)
 begins s t h = own_update s s.initial 0 t.initial h.initial
 
-pub registers_begun : (s : Sheet) (t : Transducer) (registers none : List (List Symbol)) → IsScriptOf s t → none ≡ [] → registers ≡ next_registers (change_at s s.initial.lists) 0 none → registers ≡ (begun t.initial).registers
+pub registers_begun : (s : Sheet) (t : Transducer) (registers none : List (List Symbol)) → IsScriptOf s t → none ≡ [] → registers ≡ next_registers (change_at s s.initial.lists) 0 none → registers ≡ (first_pass t.initial).registers
 registers_begun s t registers none h e f = f ∙ ap₂ (λ y z. next_registers y 0 z) h.initial.update e
 
 -- what is told stands behind more

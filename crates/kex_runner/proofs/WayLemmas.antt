@@ -8,7 +8,7 @@ use Rattle.std.proofs.Math.ListN.{get_or-map}
 use Rattle.kex_code.specs.declared.symbol.Symbol.{Symbol}
 use Rattle.kex_sst.specs.declared.parts.Part.{Part}
 use Rattle.kex_sst.specs.declared.parts.Part.TheVariants.{Put, Old, Input}
-use Rattle.kex_sst.specs.Parts.{Change, value, meant}
+use Rattle.kex_sst.specs.Parts.{Change, value, parts_code}
 use Rattle.kex_script.specs.declared.piece.Piece.{Piece}
 use Rattle.kex_script.specs.Pages.{Keeps}
 use Rattle.kex_script.specs.Scripts.{Sheet, IsWord, change_at, list_at}
@@ -18,7 +18,7 @@ use Rattle.kex_runner.specs.declared.ways.Step.{Step}
 use Rattle.kex_runner.specs.declared.ways.Ways.{Ways}
 use Rattle.kex_runner.specs.declared.walking.Place.{Place}
 use Rattle.kex_runner.specs.Noting.{ByteUpdate, next_registers, registers_after, spelled_back}
-use Rattle.kex_runner.specs.Ways.{AreOlds, composed, IsWay, IsSplit, IsStart, IsStep, IsStepIf, AreKnown, HasWalked}
+use Rattle.kex_runner.specs.Ways.{AreOlds, composition, IsWay, IsSplit, IsStart, IsStep, IsStepIf, AreKnown, HasWalked}
 use Rattle.kex_runner.proofs.Noting.{meant_fresh}
 use Rattle.kex_runner.proofs.Pieces.{spelled_back_more}
 use Rattle.kex_runner.proofs.Looking.{meant-append, registers_more}
@@ -32,28 +32,28 @@ pub olds_next : (parts : List Part) (i : ℕ) (d : Part) → i < length parts �
 olds_next parts i d lt h k = subst (λ z. AreOlds z) (sym (take_more parts i d lt)) (olds_both (take i parts) (get_or parts i d ∷ []) k h)
 
 -- a way is the same whatever byte is read
-pub any_byte : (regs : List (List Symbol)) (b b' : ℕ) (way : List Part) → AreOlds way → meant regs b way ≡ meant regs b' way
+pub any_byte : (regs : List (List Symbol)) (b b' : ℕ) (way : List Part) → AreOlds way → parts_code regs b way ≡ parts_code regs b' way
 any_byte regs b b' [] h = refl
 any_byte regs b b' (Put s ∷ xs) h = absurd h.0
 any_byte regs b b' (Old i ∷ xs) h = ap (λ z. get_or regs i [] ++ z) (any_byte regs b b' xs h.1)
 any_byte regs b b' (Input ∷ xs) h = absurd h.0
 
 -- a way after an update is what it is composed to before
-pub composed_means : (u : Change) (regs : List (List Symbol)) (b b' : ℕ) (way : List Part) → AreOlds way → meant (next_registers u b regs) b' way ≡ meant regs b (composed u way)
+pub composed_means : (u : Change) (regs : List (List Symbol)) (b b' : ℕ) (way : List Part) → AreOlds way → parts_code (next_registers u b regs) b' way ≡ parts_code regs b (composition u way)
 composed_means u regs b b' [] h = refl
 composed_means u regs b b' (Put s ∷ xs) h = absurd h.0
-composed_means u regs b b' (Old i ∷ xs) h = ap₂ (λ y z. y ++ z) (get_or-map (λ ps. meant regs b ps) u.regs i []) (composed_means u regs b b' xs h.1) ∙ sym (meant-append regs b (get_or u.regs i []) (composed u xs))
+composed_means u regs b b' (Old i ∷ xs) h = ap₂ (λ y z. y ++ z) (get_or-map (λ ps. parts_code regs b ps) u.regs i []) (composed_means u regs b b' xs h.1) ∙ sym (meant-append regs b (get_or u.regs i []) (composition u xs))
 composed_means u regs b b' (Input ∷ xs) h = absurd h.0
 
-composed-append : (u : Change) (xs ys : List Part) → composed u (xs ++ ys) ≡ composed u xs ++ composed u ys
+composed-append : (u : Change) (xs ys : List Part) → composition u (xs ++ ys) ≡ composition u xs ++ composition u ys
 composed-append u [] ys = refl
 composed-append u (Put s ∷ xs) ys = ap (λ z. Put s ∷ z) (composed-append u xs ys)
-composed-append u (Old i ∷ xs) ys = ap (λ z. get_or u.regs i [] ++ z) (composed-append u xs ys) ∙ sym (append_assoc (get_or u.regs i []) (composed u xs) (composed u ys))
+composed-append u (Old i ∷ xs) ys = ap (λ z. get_or u.regs i [] ++ z) (composed-append u xs ys) ∙ sym (append_assoc (get_or u.regs i []) (composition u xs) (composition u ys))
 composed-append u (Input ∷ xs) ys = ap (λ z. Input ∷ z) (composed-append u xs ys)
 
 -- one part more is composed
-pub composed_next : (u : Change) (way : List Part) (i : ℕ) (d : Part) → i < length way → composed u (take (i + 1) way) ≡ composed u (take i way) ++ composed u (get_or way i d ∷ [])
-composed_next u way i d lt = ap (λ z. composed u z) (take_more way i d lt) ∙ composed-append u (take i way) (get_or way i d ∷ [])
+pub composed_next : (u : Change) (way : List Part) (i : ℕ) (d : Part) → i < length way → composition u (take (i + 1) way) ≡ composition u (take i way) ++ composition u (get_or way i d ∷ [])
+composed_next u way i d lt = ap (λ z. composition u z) (take_more way i d lt) ∙ composed-append u (take i way) (get_or way i d ∷ [])
 
 -- what is known stays, where ways stay
 way_kept : (ways ways' : List (List Part)) (n : ℕ) (way : List Part) → Keeps ways ways' → IsWay ways n way → IsWay ways' n way
@@ -63,7 +63,7 @@ split_kept : (words ways ways' : List (List Part)) (x : Split) (list : List Part
 split_kept words ways ways' x list k h = record { front = h.front; way = way_kept ways ways' x.way h.front k h.way; parts = h.parts; word = h.word; plain = h.plain; joined = h.joined }
 
 step_kept : (s : Sheet) (ways ways' : List (List Part)) (number lists : ℕ) (x : Split) → Keeps ways ways' → IsStep s ways number lists x → IsStep s ways' number lists x
-step_kept s ways ways' number lists x k h = record { from = h.from; way = way_kept ways ways' number h.from k h.way; split = split_kept s.words ways ways' x (composed (change_at s lists) h.from) k h.split }
+step_kept s ways ways' number lists x k h = record { from = h.from; way = way_kept ways ways' number h.from k h.way; split = split_kept s.words ways ways' x (composition (change_at s lists) h.from) k h.split }
 
 starts_kept : (s : Sheet) (ways ways' : List (List Part)) → Keeps ways ways' → (xs : List Start) → All (IsStart s ways) xs → All (IsStart s ways') xs
 starts_kept s ways ways' k xs h = All-weaker (IsStart s ways) (IsStart s ways') (λ x g some. IfSome_then x.split (g some) (λ y h. split_kept s.words ways ways' y (list_at s x.list) k h)) xs h
@@ -79,7 +79,7 @@ known_more s w w' k h f g = record { none = k 0 [] h.none; starts = f (starts_ke
 module _ (s : Sheet) (ways ways' : List (List Part)) (notes : List ByteUpdate) (from : List Part) (p p' : Place) (lists : ℕ) (x : Split) (d n : ByteUpdate) (first old new : List Piece) where
   pub walked_on : Keeps ways ways' → p.after ≡ suc p'.after → p'.way ≡ x.way → n ≡ get_or notes p'.after d → n.update ≡ change_at s lists
       → IsStep s ways' p.way lists x
-      → ((words : List (List Part)) (w : List Part) → IsWord words x.word w → spelled_back words new ≡ meant [] n.byte w ++ spelled_back words old)
+      → ((words : List (List Part)) (w : List Part) → IsWord words x.word w → spelled_back words new ≡ parts_code [] n.byte w ++ spelled_back words old)
       → HasWalked s ways notes from p first old → HasWalked s ways' notes from p' first new
   walked_on k e same at u st said h =
       let to : List Part = st.split.front in
@@ -90,19 +90,19 @@ module _ (s : Sheet) (ways ways' : List (List Part)) (notes : List ByteUpdate) (
         way = subst (λ z. IsWay ways' z to) (sym same) st.split.way;
         text = λ base.
             let regs : List (List Symbol) = registers_after base (take p'.after notes) in
-            let word : List Symbol = meant [] n.byte st.split.parts in
+            let word : List Symbol = parts_code [] n.byte st.split.parts in
             let back : List Symbol = spelled_back s.words old in
-            let there : meant (registers_after base (take p.after notes)) 0 h.to ≡ meant regs 0 to ++ word =
-            ap₂ (λ y z. meant (registers_after base (take y notes)) 0 z) e here
-            ∙ ap (λ z. meant z 0 st.from) (registers_more base notes p'.after d (omega (arith, h.after, e)))
-            ∙ ap (λ z. meant (next_registers z.update z.byte regs) 0 st.from) (sym at)
-            ∙ ap (λ z. meant (next_registers z n.byte regs) 0 st.from) u
+            let there : parts_code (registers_after base (take p.after notes)) 0 h.to ≡ parts_code regs 0 to ++ word =
+            ap₂ (λ y z. parts_code (registers_after base (take y notes)) 0 z) e here
+            ∙ ap (λ z. parts_code z 0 st.from) (registers_more base notes p'.after d (omega (arith, h.after, e)))
+            ∙ ap (λ z. parts_code (next_registers z.update z.byte regs) 0 st.from) (sym at)
+            ∙ ap (λ z. parts_code (next_registers z n.byte regs) 0 st.from) u
             ∙ composed_means (change_at s lists) regs n.byte 0 st.from st.way.each
-            ∙ ap (λ z. meant regs n.byte z) st.split.joined
+            ∙ ap (λ z. parts_code regs n.byte z) st.split.joined
             ∙ meant-append regs n.byte to st.split.parts
             ∙ ap₂ (λ y z. y ++ z) (any_byte regs n.byte 0 to st.split.way.each) (meant_fresh regs [] n.byte st.split.parts st.split.plain) in
-            ap (λ z. meant regs 0 to ++ z) (said s.words st.split.parts st.split.word)
-            ∙ sym (append_assoc (meant regs 0 to) word back)
+            ap (λ z. parts_code regs 0 to ++ z) (said s.words st.split.parts st.split.word)
+            ∙ sym (append_assoc (parts_code regs 0 to) word back)
             ∙ ap (λ z. z ++ back) (sym there)
             ∙ h.text base;
       }
@@ -116,7 +116,7 @@ walked_kept s ways ways' notes from p old new k h = record { after = h.after; to
 
 -- nothing is gone
 pub walked_none : (s : Sheet) (ways : List (List Part)) (notes : List ByteUpdate) (from : List Part) (p : Place) (back : List Piece) → p.after ≡ length notes → IsWay ways p.way from → HasWalked s ways notes from p back back
-walked_none s ways notes from p back e h = record { after = omega (arith, e); to = from; way = h; text = λ base. ap (λ z. meant (registers_after base z) 0 from ++ spelled_back s.words back) (take_all p.after notes (omega (arith, e))) }
+walked_none s ways notes from p back e h = record { after = omega (arith, e); to = from; way = h; text = λ base. ap (λ z. parts_code (registers_after base z) 0 from ++ spelled_back s.words back) (take_all p.after notes (omega (arith, e))) }
 
 -- one of the parts of a way
 olds_at : (way : List Part) (i : ℕ) (d : Part) → i < length way → AreOlds way → AreOlds (get_or way i d ∷ [])
@@ -125,22 +125,22 @@ olds_at (x ∷ xs) zero d lt h = (h.0, tt)
 olds_at (x ∷ xs) (suc i) d lt h = olds_at xs i d (omega (arith, lt)) h.1
 
 -- one part more of a way is read
-pub way_next : (regs : List (List Symbol)) (way : List Part) (k left : ℕ) (d : Part) (new old before : List Symbol) → k + 1 ≡ left → left ≤ length way → AreOlds way → (AreOlds (get_or way k d ∷ []) → new ≡ value regs 0 (get_or way k d) ++ old) → old ≡ meant regs 0 (drop left way) ++ before → new ≡ meant regs 0 (drop k way) ++ before
+pub way_next : (regs : List (List Symbol)) (way : List Part) (k left : ℕ) (d : Part) (new old before : List Symbol) → k + 1 ≡ left → left ≤ length way → AreOlds way → (AreOlds (get_or way k d ∷ []) → new ≡ value regs 0 (get_or way k d) ++ old) → old ≡ parts_code regs 0 (drop left way) ++ before → new ≡ parts_code regs 0 (drop k way) ++ before
 way_next regs way k left d new old before e le h read f =
     let lt : k < length way = omega (arith, e, le) in
     let part : Part = get_or way k d in
     read (olds_at way k d lt h)
-    ∙ ap (λ z. value regs 0 part ++ z) (f ∙ ap (λ z. meant regs 0 (drop z way) ++ before) (sym e))
-    ∙ sym (append_assoc (value regs 0 part) (meant regs 0 (drop (k + 1) way)) before)
-    ∙ ap (λ z. meant regs 0 z ++ before) (sym (drop_more way k d lt))
+    ∙ ap (λ z. value regs 0 part ++ z) (f ∙ ap (λ z. parts_code regs 0 (drop z way) ++ before) (sym e))
+    ∙ sym (append_assoc (value regs 0 part) (parts_code regs 0 (drop (k + 1) way)) before)
+    ∙ ap (λ z. parts_code regs 0 z ++ before) (sym (drop_more way k d lt))
 
 -- a piece more says its word
-pub word_said : (words : List (List Part)) (word : Option ℕ) (w : List Part) (number byte n : ℕ) (old new : List Piece) → word ≡ Some number → n ≡ number → new ≡ old ++ (record { word = n; byte = byte }) ∷ [] → IsWord words word w → spelled_back words new ≡ meant [] byte w ++ spelled_back words old
+pub word_said : (words : List (List Part)) (word : Option ℕ) (w : List Part) (number byte n : ℕ) (old new : List Piece) → word ≡ Some number → n ≡ number → new ≡ old ++ (record { word = n; byte = byte }) ∷ [] → IsWord words word w → spelled_back words new ≡ parts_code [] byte w ++ spelled_back words old
 word_said words word w number byte n old new e same more is =
     let at : IsWord words (Some number) w = subst (λ z. IsWord words z w) e is in
     ap (λ z. spelled_back words z) (more ∙ ap (λ z. old ++ (record { word = z; byte = byte }) ∷ []) same)
     ∙ spelled_back_more words old (record { word = number; byte = byte })
-    ∙ ap (λ z. meant [] byte z ++ spelled_back words old) (get_or_from_slice_get words number w [] at)
+    ∙ ap (λ z. parts_code [] byte z ++ spelled_back words old) (get_or_from_slice_get words number w [] at)
 
 -- a step that is kept, if it says what the way was
 pub step_said : (o : Option Split) (steps : List Step) (number lists : ℕ) → ((s : Sheet) (ways : List (List Part)) → All (IsStepIf s ways) steps → IfSome o (λ y. IsStep s ways number lists y)) → IfSome o (λ x. (s : Sheet) (ways : List (List Part)) → All (IsStepIf s ways) steps → IsStep s ways number lists x)
@@ -148,7 +148,7 @@ step_said None steps number lists h = tt
 step_said (Some x) steps number lists h = h
 
 -- what was found of a way before an update
-pub step_is : (s : Sheet) (words ways ways' : List (List Part)) (number lists : ℕ) (o : Option Split) (from parts : List Part) → words ≡ s.words → Keeps ways ways' → IsWay ways number from → parts ≡ composed (change_at s lists) from → IfSome o (λ x. IsSplit words ways' x parts) → IfSome o (λ x. IsStep s ways' number lists x)
+pub step_is : (s : Sheet) (words ways ways' : List (List Part)) (number lists : ℕ) (o : Option Split) (from parts : List Part) → words ≡ s.words → Keeps ways ways' → IsWay ways number from → parts ≡ composition (change_at s lists) from → IfSome o (λ x. IsSplit words ways' x parts) → IfSome o (λ x. IsStep s ways' number lists x)
 step_is s words ways ways' number lists o from parts e k h is st = IfSome_then o st (λ x st. record {
   from = from;
   way = way_kept ways ways' number from k h;
@@ -157,16 +157,16 @@ step_is s words ways ways' number lists o from parts e k h is st = IfSome_then o
 
 -- a list that is a way and a word, the way gone back and read
 pub read_whole : (s : Sheet) (base : List (List Symbol)) (notes : List ByteUpdate) (ways ways' : List (List Part)) (x : Split) (p : Place) (byte : ℕ) (list way : List Part) (none old new : List Piece) (last : List Symbol) → (st : IsSplit s.words ways x list) → HasWalked s ways' notes st.front p old new
-    → ((words : List (List Part)) (w : List Part) → IsWord words x.word w → spelled_back words old ≡ meant [] byte w ++ spelled_back words none) → none ≡ [] → way ≡ get_or ways' p.way []
-    → last ≡ meant (registers_after base (take p.after notes)) 0 way ++ spelled_back s.words new → last ≡ meant (registers_after base notes) byte list
+    → ((words : List (List Part)) (w : List Part) → IsWord words x.word w → spelled_back words old ≡ parts_code [] byte w ++ spelled_back words none) → none ≡ [] → way ≡ get_or ways' p.way []
+    → last ≡ parts_code (registers_after base (take p.after notes)) 0 way ++ spelled_back s.words new → last ≡ parts_code (registers_after base notes) byte list
 read_whole s base notes ways ways' x p byte list way none old new last st h said e is read =
     let regs : List (List Symbol) = registers_after base notes in
     let there : way ≡ h.to = is ∙ get_or_from_slice_get ways' p.way h.to [] h.way.at in
-    let word : List Symbol = meant [] byte st.parts in
+    let word : List Symbol = parts_code [] byte st.parts in
     read
-    ∙ ap (λ z. meant (registers_after base (take p.after notes)) 0 z ++ spelled_back s.words new) there
+    ∙ ap (λ z. parts_code (registers_after base (take p.after notes)) 0 z ++ spelled_back s.words new) there
     ∙ h.text base
-    ∙ ap (λ z. meant regs 0 st.front ++ z) (said s.words st.parts st.word ∙ ap (λ z. word ++ spelled_back s.words z) e ∙ append-nil word)
+    ∙ ap (λ z. parts_code regs 0 st.front ++ z) (said s.words st.parts st.word ∙ ap (λ z. word ++ spelled_back s.words z) e ∙ append-nil word)
     ∙ ap₂ (λ y z. y ++ z) (any_byte regs 0 byte st.front st.way.each) (meant_fresh [] regs byte st.parts st.plain)
     ∙ sym (meant-append regs byte st.front st.parts)
-    ∙ ap (λ z. meant regs byte z) (sym st.joined)
+    ∙ ap (λ z. parts_code regs byte z) (sym st.joined)

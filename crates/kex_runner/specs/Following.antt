@@ -4,7 +4,7 @@ use Rattle.kex_code.specs.declared.symbol.Symbol.{Symbol}
 use Rattle.kex_sst.specs.Tables.{Row, Transducer, IsTable}
 use Rattle.kex_sst.specs.Passes.{Pass, passes_if}
 use Rattle.kex_script.specs.Scripts.{Sheet, IsScriptOf}
-use Rattle.kex_runner.specs.Noting.{held}
+use Rattle.kex_runner.specs.Noting.{contents}
 use Rattle.kex_runner.specs.declared.registers.Registers.{Registers}
 
 -- a state of the table, and as many registers as it has
@@ -33,6 +33,6 @@ pub record Follows (t : Transducer) (state : ℕ) (registers : List (List Symbol
 
 -- a runner's parts: its table and place, the script of the table, and the count of its registers
 pub record IsRunner (t : Transducer) (s : Sheet) (state : ℕ) (registers : Registers) : Type 0 where
-  pub sound : IsSound t state (held s registers)
+  pub sound : IsSound t state (contents s registers)
   pub script : IsScriptOf s t
-  pub counted : registers.count ≡ length (held s registers)
+  pub counted : registers.count ≡ length (contents s registers)

@@ -3,7 +3,7 @@ use Rattle.std.specs.Prelude.{◌≡◌, ℕ, zero, suc, ◌+◌, ◌<◌, ◌�
 use Rattle.kex_code.specs.declared.symbol.Symbol.{Symbol}
 use Rattle.kex_sst.specs.declared.parts.Part.{Part}
 use Rattle.kex_sst.specs.declared.parts.Part.TheVariants.{Put, Old, Input}
-use Rattle.kex_sst.specs.Parts.{meant}
+use Rattle.kex_sst.specs.Parts.{parts_code}
 use Rattle.kex_script.specs.declared.piece.Piece.{Piece}
 use Rattle.kex_script.specs.Scripts.{Sheet, list_at}
 use Rattle.kex_runner.specs.Noting.{ByteUpdate, registers_after, spelled_back}
@@ -12,7 +12,7 @@ use Rattle.kex_runner.specs.declared.reading.Unread.{Unread}
 
 -- what an unread list stands for
 abbrev pub code_of : Sheet → List (List Symbol) → List ByteUpdate → Unread → List Symbol
-code_of s base notes u = meant (registers_after base (take u.after notes)) u.byte (list_at s u.list)
+code_of s base notes u = parts_code (registers_after base (take u.after notes)) u.byte (list_at s u.list)
 
 -- the same of some, joined
 abbrev pub codes_of : Sheet → List (List Symbol) → List ByteUpdate → List Unread → List Symbol

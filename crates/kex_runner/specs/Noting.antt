@@ -2,9 +2,9 @@
 use Rattle.std.specs.Prelude.{ℕ, List, [], ◌∷◌, map, reverse}
 use Rattle.kex_code.specs.declared.symbol.Symbol.{Symbol}
 use Rattle.kex_sst.specs.declared.parts.Part.{Part}
-use Rattle.kex_sst.specs.Parts.{Change, meant}
+use Rattle.kex_sst.specs.Parts.{Change, parts_code}
 use Rattle.kex_script.specs.declared.piece.Piece.{Piece}
-use Rattle.kex_script.specs.Pieces.{spelled}
+use Rattle.kex_script.specs.Pieces.{code_over}
 use Rattle.kex_script.specs.Scripts.{Sheet, change_at}
 use Rattle.kex_runner.specs.declared.reading.Note.{Note}
 use Rattle.kex_runner.specs.declared.registers.Registers.{Registers}
@@ -16,7 +16,7 @@ pub record ByteUpdate : Type 0 where
 
 -- the registers that an update leaves
 abbrev pub next_registers : Change → ℕ → List (List Symbol) → List (List Symbol)
-next_registers u b regs = map (λ xs. meant regs b xs) u.regs
+next_registers u b regs = map (λ xs. parts_code regs b xs) u.regs
 
 -- the registers after each of the updates
 abbrev pub registers_after : List (List Symbol) → List ByteUpdate → List (List Symbol)
@@ -25,7 +25,7 @@ registers_after base (n ∷ ns) = registers_after (next_registers n.update n.byt
 
 -- what pieces spell that stand last first
 abbrev pub spelled_back : List (List Part) → List Piece → List Symbol
-spelled_back words ps = spelled words (reverse ps)
+spelled_back words ps = code_over words (reverse ps)
 
 -- registers that are settled, each in pieces that stand last first
 abbrev pub settled_of : Sheet → List (List Piece) → List (List Symbol)
@@ -43,5 +43,5 @@ abbrev pub noted_by : Sheet → List (List Piece) → List Note → List (List S
 noted_by s base notes = registers_after (settled_of s base) (updates_of s notes)
 
 -- what the registers hold
-abbrev pub held : Sheet → Registers → List (List Symbol)
-held s r = noted_by s r.base.items r.notes.items
+abbrev pub contents : Sheet → Registers → List (List Symbol)
+contents s r = noted_by s r.base.items r.notes.items

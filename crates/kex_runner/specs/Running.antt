@@ -3,7 +3,7 @@ use Rattle.std.specs.Prelude.{◌≡◌, ℕ, ◌⊎◌, Bool, true, false, leng
 use Rattle.kex_code.specs.declared.symbol.Symbol.{Symbol}
 use Rattle.kex_sst.specs.declared.parts.Part.{Part}
 use Rattle.kex_sst.specs.Tables.{Transducer}
-use Rattle.kex_sst.specs.Passes.{Pass, passes, ending}
+use Rattle.kex_sst.specs.Passes.{Pass, passes, whole_code}
 use Rattle.kex_runner.specs.Items.{items_along}
 use Rattle.kex_runner.specs.declared.answers.Fed.{Fed}
 use Rattle.kex_runner.specs.declared.answers.Fed.TheVariants.{On, Dead}
@@ -70,7 +70,7 @@ pub record Feeds (answer : Fed) (old new : Running) (piece : List ℕ) (before a
 -- the table goes on along w to a state in which nothing ends, or doesn't go on
 abbrev pub HasNoEnd : Transducer → Option Pass → Type 0
 HasNoEnd t None = Unit {0}
-HasNoEnd t (Some p) = ending t p ≡ None
+HasNoEnd t (Some p) = whole_code t p ≡ None
 
 -- c was passed on of the longest front of w on which the table goes on
 pub record IsPassedOn (t : Transducer) (w : List ℕ) (c : List Symbol) : Type 0 where
@@ -82,7 +82,7 @@ pub record IsPassedOn (t : Transducer) (w : List ℕ) (c : List Symbol) : Type 0
 
 -- what the end was answered by, behind w, where c was passed on in all
 abbrev pub IsOver : Ended → Transducer → List ℕ → List Symbol → Type 0
-IsOver Parsed t w c = (p : Pass) × (passes t w ≡ Some p) × (ending t p ≡ Some c)
+IsOver Parsed t w c = (p : Pass) × (passes t w ≡ Some p) × (whole_code t p ≡ Some c)
 IsOver Cut t w c = HasNoEnd t (passes t w) × IsPassedOn t w c
 
 -- the end has put its code behind what was there

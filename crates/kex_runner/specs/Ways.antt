@@ -3,7 +3,7 @@ use Rattle.std.specs.Prelude.{◌≡◌, ℕ, ◌+◌, ◌<◌, ◌≤◌, List,
 use Rattle.kex_code.specs.declared.symbol.Symbol.{Symbol}
 use Rattle.kex_sst.specs.declared.parts.Part.{Part}
 use Rattle.kex_sst.specs.declared.parts.Part.TheVariants.{Put, Old, Input}
-use Rattle.kex_sst.specs.Parts.{Change, meant, olds}
+use Rattle.kex_sst.specs.Parts.{Change, parts_code, olds}
 use Rattle.kex_script.specs.declared.piece.Piece.{Piece}
 use Rattle.kex_script.specs.Scripts.{Sheet, IsWord, change_at, list_at}
 use Rattle.kex_runner.specs.Noting.{ByteUpdate, registers_after, spelled_back}
@@ -24,11 +24,11 @@ AreOlds [] = Unit {0}
 AreOlds (x ∷ xs) = IsOld x × AreOlds xs
 
 -- the parts, where an old register is what the update gives it
-abbrev pub composed : Change → List Part → List Part
-composed u [] = []
-composed u (Put s ∷ xs) = Put s ∷ composed u xs
-composed u (Old i ∷ xs) = get_or u.regs i [] ++ composed u xs
-composed u (Input ∷ xs) = Input ∷ composed u xs
+abbrev pub composition : Change → List Part → List Part
+composition u [] = []
+composition u (Put s ∷ xs) = Put s ∷ composition u xs
+composition u (Old i ∷ xs) = get_or u.regs i [] ++ composition u xs
+composition u (Input ∷ xs) = Input ∷ composition u xs
 
 -- the way of this number
 pub record IsWay (ways : List (List Part)) (number : ℕ) (way : List Part) : Type 0 where
@@ -52,7 +52,7 @@ IsStart s ways x = 0 < x.list → IfSome x.split (λ y. IsSplit s.words ways y (
 pub record IsStep (s : Sheet) (ways : List (List Part)) (number lists : ℕ) (x : Split) : Type 0 where
   pub from : List Part
   pub way : IsWay ways number from
-  pub split : IsSplit s.words ways x (composed (change_at s lists) from)
+  pub split : IsSplit s.words ways x (composition (change_at s lists) from)
 
 -- the same, if it is said
 abbrev pub IsStepIf : Sheet → List (List Part) → Step → Type 0
@@ -77,4 +77,4 @@ pub record HasWalked (s : Sheet) (ways : List (List Part)) (notes : List ByteUpd
   pub after : place.after ≤ length notes
   pub to : List Part
   pub way : IsWay ways place.way to
-  pub text : (base : List (List Symbol)) → meant (registers_after base (take place.after notes)) 0 to ++ spelled_back s.words new ≡ meant (registers_after base notes) 0 from ++ spelled_back s.words old
+  pub text : (base : List (List Symbol)) → parts_code (registers_after base (take place.after notes)) 0 to ++ spelled_back s.words new ≡ parts_code (registers_after base notes) 0 from ++ spelled_back s.words old

@@ -2,7 +2,7 @@
 
 ghost use Rattle.std.specs.Prelude.{◌≡◌, ◌<◌, ◌≤◌, [], List, ◌∷◌, ◌++◌, Some, None, OnOk, IfOk, IfNone, length, get_or};
 ghost use Rattle.kex_sst.specs.declared.parts.Part.{Part};
-ghost use Rattle.kex_sst.specs.Parts.{meant};
+ghost use Rattle.kex_sst.specs.Parts.{parts_code};
 ghost use Rattle.kex_script.specs.Scripts.{IsTail, IsWord, list_at};
 ghost use Rattle.kex_runner.specs.Noting.{noted_by, settled_of, spelled_back, updates_of};
 ghost use Rattle.kex_runner.specs.Looking.{AreNoted, HasAskedFor, HasRead, codes_of, if_some, unless_empty};
@@ -53,7 +53,7 @@ pub struct Reading {
 // A word is read, if there is one.
 #[inline(always)]
 fn say(word: Option<u32>, byte: u8, back: &mut Vec<Piece>) -> Result<(), Memory>
-    ensures { OnOk result ((words : List (List Part)) (w : List Part) → IsWord words word w → spelled_back words back.new.items ≡ meant [] byte w ++ spelled_back words back.old.items) }
+    ensures { OnOk result ((words : List (List Part)) (w : List Part) → IsWord words word w → spelled_back words back.new.items ≡ parts_code [] byte w ++ spelled_back words back.old.items) }
 {
     match word {
         None => Ok(()),
@@ -208,7 +208,7 @@ pub fn read_list(
     byte: u8,
     reading: &mut Reading,
 ) -> Result<(), Memory>
-    ensures { OnOk result (spelled_back script.now.words reading.new.back.items ≡ meant (noted_by script.now base.now notes.now) byte (list_at script.now list)) }
+    ensures { OnOk result (spelled_back script.now.words reading.new.back.items ≡ parts_code (noted_by script.now base.now notes.now) byte (list_at script.now list)) }
 {
     reading.pending.clear();
     reading.back.clear();

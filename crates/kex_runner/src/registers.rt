@@ -1,10 +1,10 @@
 // Registers, and what an update does to them.
 
 ghost use Rattle.std.specs.Prelude.{◌≡◌, ◌+◌, ◌<◌, ◌≤◌, [], ◌∷◌, ◌++◌, OnOk, OnErr, IfOk, true, false, length, get_or, map, reverse, take};
-ghost use Rattle.kex_sst.specs.Parts.{items_of, long_in, meant, value};
-ghost use Rattle.kex_script.specs.Pieces.{spelled};
+ghost use Rattle.kex_sst.specs.Parts.{items_of, long_in, parts_code, value};
+ghost use Rattle.kex_script.specs.Pieces.{code_over};
 ghost use Rattle.kex_script.specs.Scripts.{HasUpdate, Sheet, change_at};
-ghost use Rattle.kex_runner.specs.Noting.{held, next_registers, noted_by, settled_of};
+ghost use Rattle.kex_runner.specs.Noting.{contents, next_registers, noted_by, settled_of};
 ghost use Rattle.kex_runner.specs.Following.{Follows, IsRunner};
 ghost use Rattle.kex_runner.specs.Quiet.{IsGuide};
 ghost use Rattle.kex_runner.specs.Ways.{AreKnown};
@@ -142,7 +142,7 @@ pub fn count_items<L: Ledger>(update: &Update, steps: &mut Steps<L>)
 impl Registers {
     /// No registers.
     pub fn new(alloc: Global) -> Registers
-        ensures none { (script : Sheet) → held script result ≡ [] }
+        ensures none { (script : Sheet) → contents script result ≡ [] }
         ensures count { result.count ≡ 0 }
     {
         Registers {
@@ -167,7 +167,7 @@ impl Registers {
 
     /// Lets all of them go.
     pub fn clear(&mut self)
-        ensures none { (script : Sheet) → held script self.new ≡ [] }
+        ensures none { (script : Sheet) → contents script self.new ≡ [] }
         ensures count { self.new.count ≡ 0 }
     {
         self.base.clear();
@@ -178,8 +178,8 @@ impl Registers {
 
     // The registers are settled, and the notes begin anew.
     fn settle(&mut self, script: &Script) -> Result<(), Memory>
-        requires counted { self.old.count ≡ length (held script.now self.old) }
-        ensures same { held script.now self.new ≡ held script.now self.old }
+        requires counted { self.old.count ≡ length (contents script.now self.old) }
+        ensures same { contents script.now self.new ≡ contents script.now self.old }
         ensures count { self.new.count ≡ self.old.count }
     {
         self.base = settled(
@@ -198,8 +198,8 @@ impl Registers {
     // Settles the registers where the notes are many.
     #[inline(always)]
     fn make_room(&mut self, script: &Script) -> Result<(), Memory>
-        requires counted { self.old.count ≡ length (held script.now self.old) }
-        ensures same { held script.now self.new ≡ held script.now self.old }
+        requires counted { self.old.count ≡ length (contents script.now self.old) }
+        ensures same { contents script.now self.new ≡ contents script.now self.old }
         ensures count { self.new.count ≡ self.old.count }
     {
         if self.notes.len() < self.limit {
@@ -213,10 +213,10 @@ impl Registers {
     #[inline(always)]
     fn note(&mut self, script: &Script, entry: Entry, byte: u8) -> Result<(), Memory>
         requires entry { HasUpdate script.now entry entry.target (change_at script.now entry.lists) }
-        requires counted { self.old.count ≡ length (held script.now self.old) }
-        ensures registers { OnOk result (held script.now self.new ≡ next_registers (change_at script.now entry.lists) byte (held script.now self.old)) }
-        ensures kept { OnErr result (held script.now self.new ≡ held script.now self.old) }
-        ensures counted { self.new.count ≡ length (held script.now self.new) }
+        requires counted { self.old.count ≡ length (contents script.now self.old) }
+        ensures registers { OnOk result (contents script.now self.new ≡ next_registers (change_at script.now entry.lists) byte (contents script.now self.old)) }
+        ensures kept { OnErr result (contents script.now self.new ≡ contents script.now self.old) }
+        ensures counted { self.new.count ≡ length (contents script.now self.new) }
     {
         if entry.registers == 0 {
             self.clear();
@@ -247,8 +247,8 @@ impl Registers {
     ) -> Result<(), Memory>
         requires known { AreKnown script.now ways.old }
         ensures known { OnOk result (AreKnown script.now ways.new) }
-        ensures pieces { OnOk result (spelled script.now.words pieces.new.items ≡ spelled script.now.words pieces.old.items ++ meant (held script.now self.old) byte (change_at script.now lists).out) }
-        ensures same { held script.now self.new ≡ held script.now self.old }
+        ensures pieces { OnOk result (code_over script.now.words pieces.new.items ≡ code_over script.now.words pieces.old.items ++ parts_code (contents script.now self.old) byte (change_at script.now lists).out) }
+        ensures same { contents script.now self.new ≡ contents script.now self.old }
         ensures count { self.new.count ≡ self.old.count }
     {
         read_by_ways(
@@ -275,12 +275,12 @@ impl Registers {
     ) -> Result<(), Memory>
         requires known { AreKnown script.now ways.old }
         requires entry { HasUpdate script.now entry entry.target (change_at script.now entry.lists) }
-        requires counted { self.old.count ≡ length (held script.now self.old) }
+        requires counted { self.old.count ≡ length (contents script.now self.old) }
         ensures known { OnOk result (AreKnown script.now ways.new) }
-        ensures registers { OnOk result (held script.now self.new ≡ next_registers (change_at script.now entry.lists) byte (held script.now self.old)) }
-        ensures pieces { OnOk result (spelled script.now.words pieces.new.items ≡ spelled script.now.words pieces.old.items ++ meant (held script.now self.old) byte (change_at script.now entry.lists).out) }
-        ensures kept { OnErr result (held script.now self.new ≡ held script.now self.old) }
-        ensures counted { self.new.count ≡ length (held script.now self.new) }
+        ensures registers { OnOk result (contents script.now self.new ≡ next_registers (change_at script.now entry.lists) byte (contents script.now self.old)) }
+        ensures pieces { OnOk result (code_over script.now.words pieces.new.items ≡ code_over script.now.words pieces.old.items ++ parts_code (contents script.now self.old) byte (change_at script.now entry.lists).out) }
+        ensures kept { OnErr result (contents script.now self.new ≡ contents script.now self.old) }
+        ensures counted { self.new.count ≡ length (contents script.now self.new) }
     {
         if !entry.silent {
             self.pass(script, ways, entry.lists, byte, pieces)?;
@@ -301,7 +301,7 @@ impl Registers {
         requires runner { IsRunner table.now guide.now.script state.old self.old }
         requires guide { IsGuide table.now guide.now }
         ensures count { IfOk result (λ n. n ≤ length piece.now) }
-        ensures follows { IfOk result (λ n. Follows table.now state.old (held guide.now.script self.old) (take n piece.now) n state.new (held guide.now.script self.new) [] []) }
+        ensures follows { IfOk result (λ n. Follows table.now state.old (contents guide.now.script self.old) (take n piece.now) n state.new (contents guide.now.script self.new) [] []) }
         ensures runner { IsRunner table.now guide.now.script state.new self.new }
     {
         let quiets = guide.quiets.as_slice();
@@ -339,8 +339,8 @@ impl Registers {
         register: usize,
         code: &mut Code,
     ) -> Result<(), Memory>
-        ensures code { OnOk result (code.new ≡ code.old ++ get_or (held script.now self.old) register []) }
-        ensures same { held script.now self.new ≡ held script.now self.old }
+        ensures code { OnOk result (code.new ≡ code.old ++ get_or (contents script.now self.old) register []) }
+        ensures same { contents script.now self.new ≡ contents script.now self.old }
         ensures count { self.new.count ≡ self.old.count }
     {
         read_register(script, &self.base, &self.notes, register, &mut self.reading)?;
@@ -350,8 +350,8 @@ impl Registers {
 
     // What a part stands for goes to the end of a code.
     fn spell_part(&mut self, script: &Script, part: Part, code: &mut Code) -> Result<(), Memory>
-        ensures code { OnOk result (code.new ≡ code.old ++ value (held script.now self.old) 0 part) }
-        ensures same { held script.now self.new ≡ held script.now self.old }
+        ensures code { OnOk result (code.new ≡ code.old ++ value (contents script.now self.old) 0 part) }
+        ensures same { contents script.now self.new ≡ contents script.now self.old }
         ensures count { self.new.count ≡ self.old.count }
     {
         match part {
@@ -363,8 +363,8 @@ impl Registers {
 
     /// What stands on a way of registers goes to the end of a code.
     pub fn spell(&mut self, script: &Script, way: &[Part], code: &mut Code) -> Result<(), Memory>
-        ensures code { OnOk result (code.new ≡ code.old ++ meant (held script.now self.old) 0 way.now) }
-        ensures same { held script.now self.new ≡ held script.now self.old }
+        ensures code { OnOk result (code.new ≡ code.old ++ parts_code (contents script.now self.old) 0 way.now) }
+        ensures same { contents script.now self.new ≡ contents script.now self.old }
         ensures count { self.new.count ≡ self.old.count }
     {
         for part in way {

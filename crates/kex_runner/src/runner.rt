@@ -2,11 +2,11 @@
 
 ghost use Rattle.std.specs.Prelude.{◌≡◌, ℕ, ◌+◌, ◌^◌, ◌<◌, ◌≤◌, ◌++◌, [], List, IfOk, OnOk, IsTrue, IsOk, ◌↔◌, true, false, Some, length, take};
 ghost use Rattle.kex_code.specs.declared.symbol.Symbol.{Symbol};
-ghost use Rattle.kex_sst.specs.Passes.{begun, passes};
+ghost use Rattle.kex_sst.specs.Passes.{first_pass, passes};
 ghost use Rattle.kex_runner.specs.Running.{Ends, Feeds, IsRunOf, items_taken};
-ghost use Rattle.kex_script.specs.Pieces.{spelled};
+ghost use Rattle.kex_script.specs.Pieces.{code_over};
 ghost use Rattle.kex_script.specs.Scripts.{IsScriptOf};
-ghost use Rattle.kex_runner.specs.Noting.{held};
+ghost use Rattle.kex_runner.specs.Noting.{contents};
 ghost use Rattle.kex_runner.specs.Following.{Follows, IsPlace, IsRunner, pass_at};
 ghost use Rattle.kex_runner.specs.Items.{items_along};
 ghost use Rattle.kex_runner.specs.Quiet.{IsGuide};
@@ -45,8 +45,8 @@ pub struct Runner<'t> {
 }
 
 impl<'t> Model for Runner<'t> {
-    ghost use Rattle.kex_script.specs.Pieces.{spelled};
-    ghost use Rattle.kex_runner.specs.Noting.{held};
+    ghost use Rattle.kex_script.specs.Pieces.{code_over};
+    ghost use Rattle.kex_runner.specs.Noting.{contents};
     ghost use Rattle.kex_runner.specs.Running.{Running};
     ghost use Rattle.std.specs.Prelude.{IsTrue};
     ghost use Rattle.kex_runner.specs.Following.{IsRunner};
@@ -55,7 +55,7 @@ impl<'t> Model for Runner<'t> {
 
     ghost Value = { Running };
 
-    ghost view = { λ r. record { table = r.table.now; words = r.guide.script.words; state = r.state; pending = spelled r.guide.script.words r.pending.items; registers = held r.guide.script r.registers; read = r.read; dead = r.dead; ended = r.ended; usable = r.usable } };
+    ghost view = { λ r. record { table = r.table.now; words = r.guide.script.words; state = r.state; pending = code_over r.guide.script.words r.pending.items; registers = contents r.guide.script r.registers; read = r.read; dead = r.dead; ended = r.ended; usable = r.usable } };
 
     ghost invariant = { λ r. IsRunner r.table.now r.guide.script r.state r.registers × IsGuide r.table.now r.guide × (IsTrue r.usable → AreKnown r.guide.script r.ways) };
 }
@@ -74,7 +74,7 @@ fn follow<L: Ledger>(
     requires runner { IsRunner table.now script.now state.old registers.old }
     requires known { AreKnown script.now ways.old }
     ensures known { OnOk result (AreKnown script.now ways.new) }
-    ensures follows { IfOk result (λ count. Follows table.now state.old (held script.now registers.old) piece.now count state.new (held script.now registers.new) (spelled script.now.words pieces.old.items) (spelled script.now.words pieces.new.items)) }
+    ensures follows { IfOk result (λ count. Follows table.now state.old (contents script.now registers.old) piece.now count state.new (contents script.now registers.new) (code_over script.now.words pieces.old.items) (code_over script.now.words pieces.new.items)) }
     ensures steps { OnOk result (steps.new ≡ steps.old + items_along table.now state.old piece.now) }
     ensures runner { IsRunner table.now script.now state.new registers.new }
 {
@@ -120,7 +120,7 @@ fn follow_held(
     requires guide { IsGuide table.now guide.now }
     requires known { AreKnown guide.now.script ways.old }
     ensures known { OnOk result (AreKnown guide.now.script ways.new) }
-    ensures follows { IfOk result (λ t. Follows table.now state.old (held guide.now.script registers.old) (take t.taken piece.now) t.good state.new (held guide.now.script registers.new) (spelled guide.now.script.words pieces.old.items) (spelled guide.now.script.words pieces.new.items)) }
+    ensures follows { IfOk result (λ t. Follows table.now state.old (contents guide.now.script registers.old) (take t.taken piece.now) t.good state.new (contents guide.now.script registers.new) (code_over guide.now.script.words pieces.old.items) (code_over guide.now.script.words pieces.new.items)) }
     ensures taken { IfOk result (λ t. t.taken ≤ length piece.now) }
     ensures some { IfOk result (λ t. 0 < length piece.now → 0 < t.taken) }
     ensures runner { IsRunner table.now guide.now.script state.new registers.new }
@@ -163,8 +163,8 @@ fn begin(
     requires script { IsScriptOf script.now table.now }
     requires known { AreKnown script.now ways.old }
     ensures known { OnOk result (AreKnown script.now ways.new) }
-    ensures registers { IfOk result (λ made. held script.now made.0 ≡ (begun table.now.initial).registers) }
-    ensures code { IfOk result (λ made. spelled script.now.words made.1.items ≡ (begun table.now.initial).code) }
+    ensures registers { IfOk result (λ made. contents script.now made.0 ≡ (first_pass table.now.initial).registers) }
+    ensures code { IfOk result (λ made. code_over script.now.words made.1.items ≡ (first_pass table.now.initial).code) }
     ensures runner { IfOk result (λ made. IsRunner table.now script.now 0 made.0) }
 {
     let mut registers = Registers::new(alloc);
@@ -251,7 +251,7 @@ impl<'t> Runner<'t> {
         requires usable { IsTrue self.old.usable }
         requires open { self.old.ended ≡ false }
         requires room { self.old.read + length piece.now < 2 ^ 64 }
-        ensures fed { IfOk result (λ h. Feeds h.fed self.old self.new (take h.taken piece.now) [] (spelled self.old.words pieces.new.items)) }
+        ensures fed { IfOk result (λ h. Feeds h.fed self.old self.new (take h.taken piece.now) [] (code_over self.old.words pieces.new.items)) }
         ensures taken { IfOk result (λ h. h.taken ≤ length piece.now) }
         ensures some { IfOk result (λ h. 0 < length piece.now → 0 < h.taken) }
         ensures read { (self.old.read ≤ self.new.read) × (self.new.read ≤ self.old.read + length piece.now) }

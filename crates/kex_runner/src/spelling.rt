@@ -1,8 +1,8 @@
 // Pieces into codes.
 
 ghost use Rattle.std.specs.Prelude.{◌≡◌, ◌++◌, [], OnOk};
-ghost use Rattle.kex_sst.specs.Parts.{meant, value};
-ghost use Rattle.kex_script.specs.Pieces.{spelled, word_of};
+ghost use Rattle.kex_sst.specs.Parts.{parts_code, value};
+ghost use Rattle.kex_script.specs.Pieces.{code_over, word_of};
 
 use kex_code::code::Code;
 use kex_code::memory::Memory;
@@ -23,7 +23,7 @@ fn spell_part(part: Part, byte: u8, code: &mut Code) -> Result<(), Memory>
 
 // What a word stands for goes to the end of a code.
 fn spell_word(word: &[Part], byte: u8, code: &mut Code) -> Result<(), Memory>
-    ensures { OnOk result (code.new ≡ code.old ++ meant [] byte word.now) }
+    ensures { OnOk result (code.new ≡ code.old ++ parts_code [] byte word.now) }
 {
     for part in word {
         spell_part(*part, byte, code)?;
@@ -43,7 +43,7 @@ fn spell_piece(words: &[Parts], piece: Piece, code: &mut Code) -> Result<(), Mem
 
 /// What pieces stand for goes to the end of a code.
 pub fn spell(words: &[Parts], pieces: &[Piece], code: &mut Code) -> Result<(), Memory>
-    ensures { OnOk result (code.new ≡ code.old ++ spelled words.now pieces.now) }
+    ensures { OnOk result (code.new ≡ code.old ++ code_over words.now pieces.now) }
 {
     for piece in pieces {
         spell_piece(words, *piece, code)?;

@@ -2,7 +2,7 @@
 
 ghost use Rattle.std.specs.Prelude.{◌≡◌, ◌+◌, ◌≤◌, ◌<◌, ◌++◌, ◌∷◌, [], List, All, IfOk, OnOk, length, get_or, take, vec_capacity};
 ghost use Rattle.kex_sst.specs.declared.parts.Part.{Part};
-ghost use Rattle.kex_sst.specs.Parts.{meant, value};
+ghost use Rattle.kex_sst.specs.Parts.{parts_code, value};
 ghost use Rattle.kex_script.specs.declared.piece.Piece.{Piece};
 ghost use Rattle.kex_script.specs.Scripts.{IsWord, Sheet, list_at};
 ghost use Rattle.kex_runner.specs.Noting.{noted_by, registers_after, settled_of, spelled_back, updates_of};
@@ -39,7 +39,7 @@ fn push(back: &mut Vec<Piece>, piece: Piece) -> Result<(), Memory>
 // A word is read, if there is one.
 #[inline(always)]
 fn say(word: Option<u16>, byte: u8, back: &mut Vec<Piece>) -> Result<(), Memory>
-    ensures { OnOk result ((words : List (List Part)) (w : List Part) → IsWord words word w → spelled_back words back.new.items ≡ meant [] byte w ++ spelled_back words back.old.items) }
+    ensures { OnOk result ((words : List (List Part)) (w : List Part) → IsWord words word w → spelled_back words back.new.items ≡ parts_code [] byte w ++ spelled_back words back.old.items) }
 {
     match word {
         None => Ok(()),
@@ -54,7 +54,7 @@ fn say(word: Option<u16>, byte: u8, back: &mut Vec<Piece>) -> Result<(), Memory>
 #[inline(always)]
 fn say_reserved(word: Option<u16>, byte: u8, back: &mut Vec<Piece>)
     requires { length back.old.items < vec_capacity back.old }
-    ensures said { (words : List (List Part)) (w : List Part) → IsWord words word w → spelled_back words back.new.items ≡ meant [] byte w ++ spelled_back words back.old.items }
+    ensures said { (words : List (List Part)) (w : List Part) → IsWord words word w → spelled_back words back.new.items ≡ parts_code [] byte w ++ spelled_back words back.old.items }
     ensures length { length back.new.items ≤ length back.old.items + 1 }
     ensures capacity { vec_capacity back.new ≡ vec_capacity back.old }
 {
@@ -156,7 +156,7 @@ fn read_way(
 ) -> Result<(), Memory>
     requires after { after ≤ length notes.now }
     requires olds { AreOlds way.now }
-    ensures { OnOk result (spelled_back script.now.words reading.new.back.items ≡ meant (registers_after (settled_of script.now base.now) (take after (updates_of script.now notes.now))) 0 way.now ++ spelled_back script.now.words reading.old.back.items) }
+    ensures { OnOk result (spelled_back script.now.words reading.new.back.items ≡ parts_code (registers_after (settled_of script.now base.now) (take after (updates_of script.now notes.now))) 0 way.now ++ spelled_back script.now.words reading.old.back.items) }
 {
     let mut left = way.len();
     while left > 0 {
@@ -178,7 +178,7 @@ pub fn read_by_ways(
 ) -> Result<(), Memory>
     requires known { AreKnown script.now ways.old }
     ensures known { OnOk result (AreKnown script.now ways.new) }
-    ensures read { OnOk result (spelled_back script.now.words reading.new.back.items ≡ meant (noted_by script.now base.now notes.now) byte (list_at script.now list)) }
+    ensures read { OnOk result (spelled_back script.now.words reading.new.back.items ≡ parts_code (noted_by script.now base.now notes.now) byte (list_at script.now list)) }
 {
     let Some(first) = ways.start(script, list)? else {
         return read_list(script, base, notes, list, byte, reading);

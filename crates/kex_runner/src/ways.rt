@@ -5,7 +5,7 @@ ghost use Rattle.kex_sst.specs.declared.parts.Part.{Part};
 ghost use Rattle.kex_sst.specs.Parts.{olds};
 ghost use Rattle.kex_script.specs.Pages.{Keeps};
 ghost use Rattle.kex_script.specs.Scripts.{IsWord, Sheet, change_at, list_at};
-ghost use Rattle.kex_runner.specs.Ways.{AreKnown, AreOlds, HasStart, HasStep, IsSplit, IsStart, IsStep, IsStepIf, IsWay, composed};
+ghost use Rattle.kex_runner.specs.Ways.{AreKnown, AreOlds, HasStart, HasStep, IsSplit, IsStart, IsStep, IsStepIf, IsWay, composition};
 
 use kex_code::memory::Memory;
 use kex_script::interned::{Interned, are_same};
@@ -149,7 +149,7 @@ pub fn split_of(
 
 // A part is put behind parts, an old register as what an update gives it.
 fn put(script: &Script, lists: u32, part: Part, parts: &mut Vec<Part>) -> Result<(), Memory>
-    ensures { OnOk result (parts.new.items ≡ parts.old.items ++ composed (change_at script.now lists) (part ∷ [])) }
+    ensures { OnOk result (parts.new.items ≡ parts.old.items ++ composition (change_at script.now lists) (part ∷ [])) }
 {
     match part {
         Part::Old(register) => {
@@ -170,7 +170,7 @@ fn put(script: &Script, lists: u32, part: Part, parts: &mut Vec<Part>) -> Result
 
 // What a way was before an update.
 fn compose(script: &Script, lists: u32, way: &[Part], parts: &mut Vec<Part>) -> Result<(), Memory>
-    ensures { OnOk result (parts.new.items ≡ composed (change_at script.now lists) way.now) }
+    ensures { OnOk result (parts.new.items ≡ composition (change_at script.now lists) way.now) }
 {
     parts.clear();
     for part in way {

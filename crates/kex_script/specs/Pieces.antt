@@ -2,14 +2,14 @@
 use Rattle.std.specs.Prelude.{List, [], ◌∷◌, ◌++◌, get_or}
 use Rattle.kex_code.specs.declared.symbol.Symbol.{Symbol}
 use Rattle.kex_sst.specs.declared.parts.Part.{Part}
-use Rattle.kex_sst.specs.Parts.{meant}
+use Rattle.kex_sst.specs.Parts.{parts_code}
 use Rattle.kex_script.specs.declared.piece.Piece.{Piece}
 
 -- the symbols of the piece's word, with its byte where one is read; a word holds no register
 abbrev pub word_of : List (List Part) → Piece → List Symbol
-word_of words p = meant [] p.byte (get_or words p.word [])
+word_of words p = parts_code [] p.byte (get_or words p.word [])
 
 -- the symbols of the pieces, joined
-abbrev pub spelled : List (List Part) → List Piece → List Symbol
-spelled words [] = []
-spelled words (p ∷ ps) = word_of words p ++ spelled words ps
+abbrev pub code_over : List (List Part) → List Piece → List Symbol
+code_over words [] = []
+code_over words (p ∷ ps) = word_of words p ++ code_over words ps

@@ -3,7 +3,7 @@ use Rattle.std.proofs.Common.{◌≡◌, ℕ, ◌<◌, ◌≤◌, ◌+◌, ◌-�
 use Rattle.std.specs.Prelude.{IsSome, IsTrue}
 use Rattle.std.proofs.lemmas.List.{take_all}
 use Rattle.kex_code.specs.Codes.{Begins}
-use Rattle.kex_model.specs.Answers.{Answer, Answers, stopped, at_byte, at_end, at_limit, cut_off, whole, still_open}
+use Rattle.kex_model.specs.Answers.{Answer, Answers, stopped_answer, at_byte, at_end, at_limit, cut_off, whole, still_open}
 use Rattle.kex_model.proofs.Standing as model
 use Rattle.kex_machine.specs.Nodes.{Graph}
 use Rattle.kex_machine.specs.Answers.{Viable, HasParse}
@@ -51,8 +51,8 @@ module _ (g : Graph) (Says : List ℕ → List ℕ → Type 0) (Means : List ℕ
         let q : Begins (w ++ taken) next = front_of (k + 1) w taken in
         let all : Begins (w ++ piece) next = (q.0 ++ p.0, p.1 ∙ ap (λ z. z ++ p.0) q.1 ∙ append_assoc next q.0 p.0) in
         let le : length next ≤ limit = omega (arith, more, long, lt, within, is_front, length-take front piece) in
-        let at_byte_k : Gives (w ++ piece) false (stopped text (read + k) at_byte) =
-        subst (λ n. Gives (w ++ piece) false (stopped text n at_byte)) long
+        let at_byte_k : Gives (w ++ piece) false (stopped_answer text (read + k) at_byte) =
+        subst (λ n. Gives (w ++ piece) false (stopped_answer text n at_byte)) long
         (laws.byte_answer (Viable g) Says (HasParse g) Means o limit (w ++ piece) v next text false all (more_taken k w taken) more le good none says) in
         subst (λ z. Gives (w ++ piece) false (answer_of text z)) (sym is) at_byte_k
     answers None None is good says =
@@ -62,8 +62,8 @@ module _ (g : Graph) (Says : List ℕ → List ℕ → Type 0) (Means : List ℕ
         let long : length (w ++ taken) ≡ limit = omega (arith, count, within, lt, is_front, length-append w taken, length-take front piece) in
         let at : read + front ≡ limit = omega (arith, lt, within, is_front) in
         let past : limit < length (w ++ piece) = omega (arith, count, lt, at, length-append w piece) in
-        let at_limit_n : Gives (w ++ piece) false (stopped text (read + front) at_limit) =
-        subst (λ n. Gives (w ++ piece) false (stopped text n at_limit)) (sym at)
+        let at_limit_n : Gives (w ++ piece) false (stopped_answer text (read + front) at_limit) =
+        subst (λ n. Gives (w ++ piece) false (stopped_answer text n at_limit)) (sym at)
         (laws.limit_answer (Viable g) Says (HasParse g) Means o limit (w ++ piece) (w ++ taken) text false (front_of front w piece) long past good says) in
         subst (λ z. Gives (w ++ piece) false (answer_of text (Some z))) (sym is) at_limit_n
 
@@ -104,7 +104,7 @@ module _ (g : Graph) (Says : List ℕ → List ℕ → Type 0) (Means : List ℕ
 
     pub ends_cut : Viable g (bytes_fed h) → (HasParse g (bytes_fed h) → ⊥) → Says (bytes_fed h) text → Feeds Gives (λ k. StandsAs Gives Open (end_stop false read) true k × IsTrue true) h (bytes_fed h) true old new (fate_of (end_stop false read))
     ends_cut good none says =
-        let answer : Answer = stopped text (length (bytes_fed h)) at_end in
+        let answer : Answer = stopped_answer text (length (bytes_fed h)) at_end in
         let gives : Gives (bytes_fed h) true answer = cut_off (omega (arith, count, within)) good none says in
         record {
           answer = answer;

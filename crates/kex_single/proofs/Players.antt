@@ -8,7 +8,7 @@ use Rattle.kex_code.specs.Codes.{Begins}
 use Rattle.kex_code.specs.Readers.{HasRead, ReadOn, Reading}
 use Rattle.kex_code.specs.Texts.{BeginsText, IsBegun, IsCode, text_of}
 use Rattle.kex_code.proofs.Texts.{spells_begins, text_of-append}
-use Rattle.kex_model.specs.Answers.{Answer, stopped, at_end, at_limit}
+use Rattle.kex_model.specs.Answers.{Answer, stopped_answer, at_end, at_limit}
 use Rattle.kex_model.proofs.Standing.{shorter_front}
 use Rattle.kex_machine.specs.Nodes.{Graph}
 use Rattle.kex_machine.specs.Answers.{IsRun, left_by}
@@ -280,8 +280,8 @@ module _ (p : Single) (r r1 : Reading) (a a1 : Position) (size read : ℕ) (h : 
     answers text c None (Some s) writes on (lt, is) =
         let at : read + taken_front ≡ p.limit = omega (arith, lt, o.within, is_front) in
         let past : p.limit < length (bytes_fed h ++ piece) = omega (arith, o.count, lt, at, length-append (bytes_fed h) piece) in
-        let there : Gives (bytes_fed h ++ piece) false (stopped text (read + taken_front) at_limit) =
-        subst (λ n. Gives (bytes_fed h ++ piece) false (stopped text n at_limit)) (sym at) (too_long c past (subst (λ z. PlaysOn B W Writes z c None) (sym within_limit) on) writes) in
+        let there : Gives (bytes_fed h ++ piece) false (stopped_answer text (read + taken_front) at_limit) =
+        subst (λ n. Gives (bytes_fed h ++ piece) false (stopped_answer text n at_limit)) (sym at) (too_long c past (subst (λ z. PlaysOn B W Writes z c None) (sym within_limit) on) writes) in
         subst (λ z. Gives (bytes_fed h ++ piece) false (record { text = text; ended = false; stop = stop_as (Some z) })) (sym is) there
 
     opened : (size1 : ℕ) (refused bad at : Option ℕ) (stop : Option Stop) (t : Took refused bad at) → p.limit ≤ 2 ^ 48 → size1 ≡ min (size + length (text_of symbols)) (2 ^ 64 - 1) → StopsAtByte at read taken_front (length piece) stop → stop ≡ None → PlayOpen p r1 a1 size1 (read + taken_front) (bytes_fed h ++ piece) t.text
@@ -403,7 +403,7 @@ module _ (p : Single) (r : Reading) (a a1 : Position) (size read : ℕ) (h : Opt
             is_fate = refl;
           }
       by false t =
-          let answer : Answer = stopped said (length (bytes_fed h)) at_end in
+          let answer : Answer = stopped_answer said (length (bytes_fed h)) at_end in
           let gives : ActAnswers p.machine p.limit (bytes_fed h) true answer =
           cut_off o.code (omega (arith, o.count, o.within)) on
           (λ is w. let bad : false ≡ true = t.1 (o.good, same_rest (text_of o.code) r.begun [] (sym spelt ∙ is ∙ sym (append-nil (text_of o.code))), subst (λ g. IsWhole g o.code) (sym m1) w) in cc)

@@ -3,7 +3,7 @@ use Rattle.std.proofs.Common.{◌≡◌, ℕ, ◌<◌, ◌≤◌, ◌+◌, ◌-�
 use Rattle.std.specs.Prelude.{IsTrue, ◌↔◌}
 use Rattle.std.proofs.lemmas.List.{take_all}
 use Rattle.kex_code.specs.Codes.{Begins}
-use Rattle.kex_model.specs.Answers.{Answer, stopped, at_byte, at_limit, bad_byte, still_open}
+use Rattle.kex_model.specs.Answers.{Answer, stopped_answer, at_byte, at_limit, bad_byte, still_open}
 use Rattle.kex_model.proofs.Standing as model
 use Rattle.kex_machine.specs.Answers.{Viable, HasParse}
 use Rattle.kex_frontier.specs.Matchers.{Match, IsAnswer, WasFed}
@@ -41,13 +41,13 @@ module _ (p : Single) (m m1 : Match) (h : Option Fed) (read : ℕ) (piece : List
   answers : (matched : Matched) (stop : Option Stop) → IsAnswer matched m1.machine (bytes_fed h ++ taken) → StopsAtByte (dead_at matched) read front (length piece) stop → Gives (bytes_fed h ++ piece) false (answer_of stop)
   answers (Dead at) stop (none, (v, l, long)) is =
       let bad : Viable p.machine (take p.limit (bytes_fed h ++ piece)) → ⊥ = λ good. none (subst (λ g. Viable g (bytes_fed h ++ taken)) (sym same) (subst (λ z. Viable p.machine z) within_limit good)) in
-      let there : Gives (bytes_fed h ++ piece) false (stopped (text_of h) (length v) at_byte) =
+      let there : Gives (bytes_fed h ++ piece) false (stopped_answer (text_of h) (length v) at_byte) =
       bad_byte v bad (record {
         front = subst (λ z. Begins z v) (sym within_limit) l.front;
         good = subst (λ g. Viable g v) same l.viable;
         longest = λ u b good. l.longest u (subst (λ z. Begins z u) within_limit b) (subst (λ g. Viable g u) (sym same) good);
       }) o.written in
-      subst (λ z. Gives (bytes_fed h ++ piece) false (answer_of z)) (sym is) (subst (λ n. Gives (bytes_fed h ++ piece) false (stopped (text_of h) n at_byte)) long there)
+      subst (λ z. Gives (bytes_fed h ++ piece) false (answer_of z)) (sym is) (subst (λ n. Gives (bytes_fed h ++ piece) false (stopped_answer (text_of h) n at_byte)) long there)
   answers On None good is =
       let all : taken ≡ piece = take_all front piece (omega (arith, is)) in
       still_open (omega (arith, o.count, o.within, is, is_front, length-append (bytes_fed h) piece)) (subst (λ g. Viable g (bytes_fed h ++ piece)) same (subst (λ z. Viable m1.machine (bytes_fed h ++ z)) all good)) o.written
@@ -55,8 +55,8 @@ module _ (p : Single) (m m1 : Match) (h : Option Fed) (read : ℕ) (piece : List
       let long : length (bytes_fed h ++ taken) ≡ p.limit = omega (arith, o.count, o.within, lt, is_front, length-append (bytes_fed h) taken, length-take front piece) in
       let at : read + front ≡ p.limit = omega (arith, lt, o.within, is_front) in
       let past : p.limit < length (bytes_fed h ++ piece) = omega (arith, o.count, lt, at, length-append (bytes_fed h) piece) in
-      let there : Gives (bytes_fed h ++ piece) false (stopped (text_of h) (read + front) at_limit) =
-      subst (λ n. Gives (bytes_fed h ++ piece) false (stopped (text_of h) n at_limit)) (sym at)
+      let there : Gives (bytes_fed h ++ piece) false (stopped_answer (text_of h) (read + front) at_limit) =
+      subst (λ n. Gives (bytes_fed h ++ piece) false (stopped_answer (text_of h) n at_limit)) (sym at)
       (laws.limit_answer (Viable p.machine) (SaysNothing p.machine) (HasParse p.machine) (HasParseAlone p.machine) (orderly p.machine) p.limit (bytes_fed h ++ piece) (bytes_fed h ++ taken) (text_of h) false (front_of front (bytes_fed h) piece) long past (subst (λ g. Viable g (bytes_fed h ++ taken)) same good) o.written) in
       subst (λ z. Gives (bytes_fed h ++ piece) false (answer_of (Some z))) (sym is) there
 

@@ -2,7 +2,7 @@
 use Rattle.std.proofs.Common.{◌≡◌, ℕ, ◌<◌, ◌≤◌, ◌+◌, Bool, true, false, ◌&&◌, List, [], ◌∷◌, ◌++◌, None, length, refl, sym, ap, subst, ◌∙◌, append-nil, append_assoc, arith, ⊎_elim, take, drop, length-append, length-take, take-append-drop}
 use Rattle.std.specs.Prelude.{is_none, IsSome}
 use Rattle.kex_code.specs.Codes.{Begins}
-use Rattle.kex_model.specs.Answers.{Answer, Answers, stopped, at_byte, at_limit, bad_byte, too_long, cut_off, whole, still_open}
+use Rattle.kex_model.specs.Answers.{Answer, Answers, stopped_answer, at_byte, at_limit, bad_byte, too_long, cut_off, whole, still_open}
 use Rattle.kex_model.proofs.Orders.{two_fronts}
 use Rattle.kex_model.proofs.Standing as model
 use Rattle.kex_machine.proofs.Writing.{further_front}
@@ -53,7 +53,7 @@ module _ (Good : List ℕ → Type 0) (Says : List ℕ → List ℕ → Type 0) 
     stopped_more n w v e (still_open le good says) some = absurd (some refl)
 
     -- with one more byte no parse begins
-    pub byte_answer : (n : ℕ) (x v next text : List ℕ) (e : Bool) → Begins x next → Begins next v → length next ≡ length v + 1 → length next ≤ n → Good v → (Good next → ⊥) → Says v text → Gives n x e (stopped text (length v) at_byte)
+    pub byte_answer : (n : ℕ) (x v next text : List ℕ) (e : Bool) → Begins x next → Begins next v → length next ≡ length v + 1 → length next ≤ n → Good v → (Good next → ⊥) → Says v text → Gives n x e (stopped_answer text (length v) at_byte)
     byte_answer n x v next text e p q one le good bad says =
         let front : Begins (take n x) next = model.shorter_front x next (take n x) p (drop n x, sym (take-append-drop n x)) (omega (arith, length-take n x, le, ap length p.1, length-append next p.0)) in
         bad_byte v (λ h. bad (o.front next (take n x) front h)) (record {
@@ -72,7 +72,7 @@ module _ (Good : List ℕ → Type 0) (Says : List ℕ → List ℕ → Type 0) 
             by [] f = absurd (bad (subst (λ z. Good z) (sym (f ∙ append-nil u)) h))
             by (y ∷ m) f = omega (arith, ap length f, length-append u (y ∷ m), one)
 
-    pub limit_answer : (n : ℕ) (x v text : List ℕ) (e : Bool) → Begins x v → length v ≡ n → n < length x → Good v → Says v text → Gives n x e (stopped text n at_limit)
+    pub limit_answer : (n : ℕ) (x v text : List ℕ) (e : Bool) → Begins x v → length v ≡ n → n < length x → Good v → Says v text → Gives n x e (stopped_answer text n at_limit)
     limit_answer n x v text e p long lt good says =
         let is : take n x ≡ v = model.same_front x (take n x) v (drop n x, sym (take-append-drop n x)) p (omega (arith, length-take n x, lt, long)) in
         too_long lt (subst (λ z. Good z) (sym is) good) (subst (λ z. Says z text) (sym is) says)

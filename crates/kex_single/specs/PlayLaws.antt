@@ -8,7 +8,7 @@ use Rattle.kex_code.specs.declared.symbol.Symbol.TheVariants.{L, R, Byte}
 use Rattle.kex_code.specs.Codes.{Begins}
 use Rattle.kex_code.specs.Texts.{BeginsText, IsCode, text_of}
 use Rattle.kex_code.proofs.Texts.{text_behind, text_of-append}
-use Rattle.kex_model.specs.Answers.{Answer, stopped, at_byte, at_end, at_limit}
+use Rattle.kex_model.specs.Answers.{Answer, stopped_answer, at_byte, at_end, at_limit}
 use Rattle.kex_model.proofs.Orders.{two_fronts}
 use Rattle.kex_model.proofs.Standing.{empty_list, same_take, shorter_front, take_front}
 use Rattle.kex_single.specs.Plays.{HasNext, IsBadByte, LongestCode, Plays, PlaysOn, StopsIn, bad_byte, too_long, cut_off, whole, still_open}
@@ -226,11 +226,11 @@ module _ (B W : List Symbol → Type 0) (Writes : List Symbol → List ℕ → T
   abbrev pub Stays : Answer → Answer → Type 0
   Stays a b = Begins b.text a.text × ((a.stop ≡ None → ⊥) → b ≡ a)
 
-  same_stop : (s t : List ℕ) (i j : ℕ) → s ≡ t → i ≡ j → Stays (stopped s i at_byte) (stopped t j at_byte)
-  same_stop s t i j e f = (([], sym e ∙ sym (append-nil s)), λ h. ap₂ (λ p q. stopped p q at_byte) (sym e) (sym f))
+  same_stop : (s t : List ℕ) (i j : ℕ) → s ≡ t → i ≡ j → Stays (stopped_answer s i at_byte) (stopped_answer t j at_byte)
+  same_stop s t i j e f = (([], sym e ∙ sym (append-nil s)), λ h. ap₂ (λ p q. stopped_answer p q at_byte) (sym e) (sym f))
 
   -- where a text stopped within the limit, so does each longer one
-  after_bad : (n : ℕ) (w x : List ℕ) (e : Bool) (s : List ℕ) (c : List Symbol) (k : ℕ) {b : Answer} → Begins x w → On (take n w) c (Some k) → Writes c s → Gives n x e b → Stays (stopped s k at_byte) b
+  after_bad : (n : ℕ) (w x : List ℕ) (e : Bool) (s : List ℕ) (c : List Symbol) (k : ℕ) {b : Answer} → Begins x w → On (take n w) c (Some k) → Writes c s → Gives n x e b → Stays (stopped_answer s k at_byte) b
   after_bad n w x e s c k p on h (bad_byte {text = t} d j on' h') =
       let r = stop_stays (take n w) (take n x) c d k (Some j) (take_front n w x p) on on' in
       let same : k ≡ j = some_same k j (sym r.1) in
@@ -273,7 +273,7 @@ module _ (B W : List Symbol → Type 0) (Writes : List Symbol → List ℕ → T
   stays n {w = w} {x = x} p (too_long {text = s} c lt on h) (too_long {text = t} d lt' on' h') =
       let e = one_longest (take n x) c d (subst (λ z. Longest z c) (same_take n w x p lt) on.longest) on'.longest in
       let same : s ≡ t = one_text c s t h (subst (λ z. Writes z t) e h') in
-      (([], sym same ∙ sym (append-nil s)), λ some. ap (λ z. stopped z n at_limit) (sym same))
+      (([], sym same ∙ sym (append-nil s)), λ some. ap (λ z. stopped_answer z n at_limit) (sym same))
   stays n {w = w} {x = x} p (too_long c lt on h) (cut_off d le on' never h') = absurd (omega (arith, lt, le, ap length p.1, length-append w p.0))
   stays n {w = w} {x = x} p (too_long c lt on h) (whole d le on' is q h') = absurd (omega (arith, lt, le, ap length p.1, length-append w p.0))
   stays n {w = w} {x = x} p (too_long c lt on h) (still_open d le on' h') = absurd (omega (arith, lt, le, ap length p.1, length-append w p.0))
@@ -286,7 +286,7 @@ module _ (B W : List Symbol → Type 0) (Writes : List Symbol → List ℕ → T
   nothing_more : (w : List ℕ) → Begins w w
   nothing_more w = ([], sym (append-nil w))
 
-  some_stop : (s : List ℕ) (i : ℕ) → (stopped s i at_byte).stop ≡ None → ⊥
+  some_stop : (s : List ℕ) (i : ℕ) → (stopped_answer s i at_byte).stop ≡ None → ⊥
   some_stop s i e = cc
 
   -- there is one answer
@@ -294,13 +294,13 @@ module _ (B W : List Symbol → Type 0) (Writes : List Symbol → List ℕ → T
   one_answer n {w = w} {e = e} (bad_byte {text = s} c k on h) g = sym ((after_bad n w w e s c k (nothing_more w) on h g).1 (some_stop s k))
   one_answer n {w = w} {e = e} g (bad_byte {text = s} c k on h) = (after_bad n w w e s c k (nothing_more w) on h g).1 (some_stop s k)
   one_answer n {w = w} (too_long {text = s} c lt on h) (too_long {text = t} d lt' on' h') =
-      ap (λ z. stopped z n at_limit) (one_text c s t h (subst (λ z. Writes z t) (one_longest (take n w) c d on.longest on'.longest) h'))
+      ap (λ z. stopped_answer z n at_limit) (one_text c s t h (subst (λ z. Writes z t) (one_longest (take n w) c d on.longest on'.longest) h'))
   one_answer n (too_long c lt on h) (cut_off d le on' never h') = absurd (omega arith)
   one_answer n (too_long c lt on h) (whole d le on' is q h') = absurd (omega arith)
   one_answer n (too_long c lt on h) (still_open d le on' h') = absurd (omega arith)
   one_answer n (cut_off c le on never h) (too_long d lt on' h') = absurd (omega arith)
   one_answer n {w = w} (cut_off {text = s} c le on never h) (cut_off {text = t} d le' on' never' h') =
-      ap (λ z. stopped z (length w) at_end) (one_text c s t h (subst (λ z. Writes z t) (one_longest w c d on.longest on'.longest) h'))
+      ap (λ z. stopped_answer z (length w) at_end) (one_text c s t h (subst (λ z. Writes z t) (one_longest w c d on.longest on'.longest) h'))
   one_answer n {w = w} (cut_off c le on never h) (whole d le' on' is q h') =
       let same = one_longest w c d on.longest on'.longest in
       absurd (never (is ∙ ap text_of same) (subst (λ z. W z) same q))

@@ -3,7 +3,7 @@ use Rattle.std.specs.Prelude.{◌≡◌, ℕ, ◌<◌, ◌≤◌, ◌+◌, Bool,
 use Rattle.kex_code.specs.declared.symbol.Symbol.{Symbol}
 use Rattle.kex_code.specs.Codes.{Begins}
 use Rattle.kex_code.specs.Texts.{BeginsText, IsCode, text_of}
-use Rattle.kex_model.specs.Answers.{Answer, stopped, at_byte, at_end, at_limit}
+use Rattle.kex_model.specs.Answers.{Answer, stopped_answer, at_byte, at_end, at_limit}
 use Rattle.kex_model.specs.Moves.{Step, code_of}
 use Rattle.kex_machine.specs.Nodes.{Graph}
 use Rattle.kex_machine.specs.Answers.{IsRun, left_by}
@@ -40,9 +40,9 @@ module _ (BeginsParse : List Symbol → Type 0) (IsParse : List Symbol → Type 
 
   -- the answer on a text that is ended (true) or open, within a limit
   pub data Plays (limit : ℕ) : List ℕ → Bool → Answer → Type 0 where
-    bad_byte : {w : List ℕ} {e : Bool} {text : List ℕ} (c : List Symbol) (k : ℕ) → PlaysOn (take limit w) c (Some k) → Writes c text → Plays limit w e (stopped text k at_byte)
-    too_long : {w : List ℕ} {e : Bool} {text : List ℕ} (c : List Symbol) → limit < length w → PlaysOn (take limit w) c None → Writes c text → Plays limit w e (stopped text limit at_limit)
-    cut_off : {w text : List ℕ} (c : List Symbol) → length w ≤ limit → PlaysOn w c None → (w ≡ text_of c → IsParse c → ⊥) → Writes c text → Plays limit w true (stopped text (length w) at_end)
+    bad_byte : {w : List ℕ} {e : Bool} {text : List ℕ} (c : List Symbol) (k : ℕ) → PlaysOn (take limit w) c (Some k) → Writes c text → Plays limit w e (stopped_answer text k at_byte)
+    too_long : {w : List ℕ} {e : Bool} {text : List ℕ} (c : List Symbol) → limit < length w → PlaysOn (take limit w) c None → Writes c text → Plays limit w e (stopped_answer text limit at_limit)
+    cut_off : {w text : List ℕ} (c : List Symbol) → length w ≤ limit → PlaysOn w c None → (w ≡ text_of c → IsParse c → ⊥) → Writes c text → Plays limit w true (stopped_answer text (length w) at_end)
     whole : {w text : List ℕ} (c : List Symbol) → length w ≤ limit → PlaysOn w c None → w ≡ text_of c → IsParse c → Writes c text → Plays limit w true (record { text = text; ended = true; stop = None })
     still_open : {w text : List ℕ} (c : List Symbol) → length w ≤ limit → PlaysOn w c None → Writes c text → Plays limit w false (record { text = text; ended = false; stop = None })
 

@@ -4,9 +4,9 @@ use Rattle.std.specs.Prelude.{slice_get}
 use Rattle.std.proofs.lemmas.List.{length-map}
 use Rattle.std.proofs.lemmas.Option.{slice_get-get_or, slice_get_past}
 use Rattle.kex_sst.specs.declared.table.Transition.{Transition}
-use Rattle.kex_sst.specs.Parts.{Change, meant}
+use Rattle.kex_sst.specs.Parts.{Change, parts_code}
 use Rattle.kex_sst.specs.Tables.{Row, Transducer, IsTable, LeadsTo, transition_of, transition_on, transition_if}
-use Rattle.kex_sst.specs.Passes.{Pass, changed, begun, transition_at, next_of, stepped, passes_if, passes}
+use Rattle.kex_sst.specs.Passes.{Pass, pass_after, first_pass, transition_at, next_of, next_pass, passes_if, passes}
 use Rattle.kex_sst.specs.Laws.{step_if, IsPassOf, ByClass, PassesOn}
 
 pub passes_none : (t : Transducer) (w : List ℕ) → passes_if t None w ≡ None
@@ -17,22 +17,22 @@ pub passes_more : (t : Transducer) (p : Option Pass) (w v : List ℕ) → passes
 passes_more t None [] v = refl
 passes_more t None (b ∷ w) v = sym (passes_none t v)
 passes_more t (Some p) [] v = refl
-passes_more t (Some p) (b ∷ w) v = passes_more t (stepped (next_of t p.state b) b p) w v
+passes_more t (Some p) (b ∷ w) v = passes_more t (next_pass (next_of t p.state b) b p) w v
 
 pub passes_one : (t : Transducer) (p : Option Pass) (b : ℕ) → passes_if t p (b ∷ []) ≡ step_if t p b
 passes_one t None b = refl
-passes_one t (Some p) b = by (stepped (next_of t p.state b) b p)
+passes_one t (Some p) b = by (next_pass (next_of t p.state b) b p)
   where
     by : (q : Option Pass) → passes_if t q [] ≡ q
     by None = refl
     by (Some q) = refl
 
 -- an update leaves as many registers as it has lists
-changed_count : (states : List Row) (from b target : ℕ) (u : Change) (p : Pass) → LeadsTo states from target u → (row : Row) × (slice_get states target ≡ Some row) × (length (map (λ xs. meant p.registers b xs) u.regs) ≡ row.registers)
-changed_count states from b target u p h = (h.row, h.at, length-map u.regs (λ xs. meant p.registers b xs) ∙ h.update.count)
+changed_count : (states : List Row) (from b target : ℕ) (u : Change) (p : Pass) → LeadsTo states from target u → (row : Row) × (slice_get states target ≡ Some row) × (length (map (λ xs. parts_code p.registers b xs) u.regs) ≡ row.registers)
+changed_count states from b target u p h = (h.row, h.at, length-map u.regs (λ xs. parts_code p.registers b xs) ∙ h.update.count)
 
 module _ (t : Transducer) (table : IsTable t) where
-  pass_begun : IsPassOf t (begun t.initial)
+  pass_begun : IsPassOf t (first_pass t.initial)
   pass_begun = let r = changed_count t.states 0 0 0 t.initial (record { state = 0; code = []; registers = [] }) table.begins in record { row = r.0; at = r.1; count = r.2 }
 
   at_class : (o : Option Row) (class : ℕ) (r : Transition) → transition_on o class ≡ Some r → (s : Row) × (o ≡ Some s) × (slice_get s.go class ≡ Some (Some r))
@@ -58,18 +58,18 @@ module _ (t : Transducer) (table : IsTable t) where
   pass_if [] None q h e = let bad : ⊥ = cc in absurd bad
   pass_if (b ∷ w) None q h e = let bad : ⊥ = cc in absurd bad
   pass_if [] (Some p) q h e = h q e
-  pass_if (b ∷ w) (Some p) q h e = pass_if w (stepped (next_of t p.state b) b p) q (λ x f. by (next_of t p.state b) refl x f) e
+  pass_if (b ∷ w) (Some p) q h e = pass_if w (next_pass (next_of t p.state b) b p) q (λ x f. by (next_of t p.state b) refl x f) e
     where
-      by : (n : Option Transition) → next_of t p.state b ≡ n → (x : Pass) → stepped n b p ≡ Some x → IsPassOf t x
+      by : (n : Option Transition) → next_of t p.state b ≡ n → (x : Pass) → next_pass n b p ≡ Some x → IsPassOf t x
       by None is x f = let bad : ⊥ = cc in absurd bad
       by (Some r) is x f =
           let s = leads_on p.state b r is in
           let c = changed_count t.states s.0.registers b r.target r.update p s.2 in
-          let same : changed r.update b p r.target ≡ x = cc in
+          let same : pass_after r.update b p r.target ≡ x = cc in
           subst (λ z. IsPassOf t z) same (record { row = c.0; at = c.1; count = c.2 })
 
   pub pass_of : (w : List ℕ) (p : Pass) → passes t w ≡ Some p → IsPassOf t p
-  pass_of w p e = pass_if w (Some (begun t.initial)) p (λ x f. let same : begun t.initial ≡ x = cc in subst (λ z. IsPassOf t z) same pass_begun) e
+  pass_of w p e = pass_if w (Some (first_pass t.initial)) p (λ x f. let same : first_pass t.initial ≡ x = cc in subst (λ z. IsPassOf t z) same pass_begun) e
 
   pub leads_from : (w : List ℕ) (p : Pass) (b : ℕ) (r : Transition) → passes t w ≡ Some p → next_of t p.state b ≡ Some r → LeadsTo t.states (length p.registers) r.target r.update
   leads_from w p b r e is =
@@ -81,8 +81,8 @@ module _ (t : Transducer) (table : IsTable t) where
 
 pub on : (t : Transducer) (w v : List ℕ) → PassesOn t w v
 on t w v = record {
-  more = passes_more t (Some (begun t.initial)) w v;
-  byte = λ b. passes_more t (Some (begun t.initial)) w (b ∷ []) ∙ passes_one t (passes t w) b;
+  more = passes_more t (Some (first_pass t.initial)) w v;
+  byte = λ b. passes_more t (Some (first_pass t.initial)) w (b ∷ []) ∙ passes_one t (passes t w) b;
   leads = λ table p b r e is. leads_from t table w p b r e is;
   registers = λ table p e. pass_of t table w p e;
 }

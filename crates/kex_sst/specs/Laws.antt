@@ -3,11 +3,11 @@ use Rattle.std.specs.Prelude.{◌≡◌, ℕ, ◌<◌, ◌≤◌, List, [], ◌�
 use Rattle.kex_byteset.specs.Classes.{class_at}
 use Rattle.kex_sst.specs.Tables.{Row, Transducer, IsTable, LeadsTo, transition_of}
 use Rattle.kex_sst.specs.declared.table.Transition.{Transition}
-use Rattle.kex_sst.specs.Passes.{Pass, passes, passes_if, next_of, stepped}
+use Rattle.kex_sst.specs.Passes.{Pass, passes, passes_if, next_of, next_pass}
 
 abbrev pub step_if : Transducer → Option Pass → ℕ → Option Pass
 step_if t None b = None
-step_if t (Some p) b = stepped (next_of t p.state b) b p
+step_if t (Some p) b = next_pass (next_of t p.state b) b p
 
 -- a state of the table, with as many registers as it has
 pub record IsPassOf (t : Transducer) (p : Pass) : Type 0 where

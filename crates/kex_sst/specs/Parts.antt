@@ -19,9 +19,9 @@ value regs b (Old i) = get_or regs i []
 value regs b Input = Byte b ∷ []
 
 -- what the parts stand for, joined
-abbrev pub meant : List (List Symbol) → ℕ → List Part → List Symbol
-meant regs b [] = []
-meant regs b (x ∷ xs) = value regs b x ++ meant regs b xs
+abbrev pub parts_code : List (List Symbol) → ℕ → List Part → List Symbol
+parts_code regs b [] = []
+parts_code regs b (x ∷ xs) = value regs b x ++ parts_code regs b xs
 
 -- symbols as parts
 abbrev pub puts : List Symbol → List Part
@@ -29,9 +29,9 @@ puts [] = []
 puts (s ∷ c) = Put s ∷ puts c
 
 -- the tree of this shape whose labels are registers, in preorder from k on
-abbrev pub numbered : ℕ → Shape ℕ → Labelled Part ℕ
-numbered k (place p) = tip p
-numbered k (parts l r) = fork (Old k ∷ []) (numbered (suc k) l) (Old (k + size_of l) ∷ []) (numbered (suc (k + size_of l)) r)
+abbrev pub numbered_tree : ℕ → Shape ℕ → Labelled Part ℕ
+numbered_tree k (place p) = tip p
+numbered_tree k (parts l r) = fork (Old k ∷ []) (numbered_tree (suc k) l) (Old (k + size_of l) ∷ []) (numbered_tree (suc (k + size_of l)) r)
 
 -- the old registers in a list of parts
 abbrev pub olds : List Part → List ℕ

@@ -13,7 +13,7 @@ use Rattle.kex_machine.specs.Answers.{Viable, HasParse}
 use Rattle.kex_machine.proofs.Ranges.{is_trim}
 use Rattle.kex_machine.proofs.Saying.{no_parse}
 use Rattle.kex_sst.specs.Tables.{Transducer}
-use Rattle.kex_sst.specs.Passes.{Pass, begun, passes, ending}
+use Rattle.kex_sst.specs.Passes.{Pass, first_pass, passes, whole_code}
 use Rattle.kex_sst.specs.Machines.{IsTableOf}
 use Rattle.kex_runner.specs.Running.{Running, HasNoEnd, IsFed, IsRunOf, IsLive, IsDead, HasPassed, Feeds, Ends, pass_of}
 use Rattle.kex_runner.specs.declared.answers.Fed.{Fed}
@@ -37,7 +37,7 @@ module _ (g : Graph) (t : Transducer) (trimmed : IsTrimmed g) (of : IsTableOf g 
       with_parse : (v : List ℕ) → HasParse g (w ++ v) → Agrees g w p.code
       with_parse v h = at (passes t (w ++ v)) refl
         where
-          ends : (q : Pass) → passes t (w ++ v) ≡ Some q → (o : Option (List Symbol)) → ending t q ≡ o → Agrees g w p.code
+          ends : (q : Pass) → passes t (w ++ v) ≡ Some q → (o : Option (List Symbol)) → whole_code t q ≡ o → Agrees g w p.code
           ends q f None k = absurd (of.cut (w ++ v) q f k h)
           ends q f (Some d) k =
               let greedy = (of.parsed (w ++ v) q d f k).greedy in
@@ -52,7 +52,7 @@ module _ (g : Graph) (t : Transducer) (trimmed : IsTrimmed g) (of : IsTableOf g 
 
           at : (o : Option Pass) → passes t (w ++ v) ≡ o → Agrees g w p.code
           at None f = absurd (no_parse g (is_trim g trimmed) (w ++ v) (of.stops (w ++ v) f) h)
-          at (Some q) f = ends q f (ending t q) refl
+          at (Some q) f = ends q f (whole_code t q) refl
 
       by : Viable g w → Agrees g w p.code
       by (q, (c, (ks, path, is), (js, e, walk, end))) =
@@ -67,13 +67,13 @@ module _ (g : Graph) (t : Transducer) (trimmed : IsTrimmed g) (of : IsTableOf g 
   still_live r w c e s v = ⊎_elim (λ l. l.1) (λ x. absurd (of.stops w (subst (λ z. passes z w ≡ None) e (stopped_none x.1.1)) v)) s
 
   pub begins_good : Viable g []
-  begins_good = (of.goes_on [] (begun t.initial) refl).viable
+  begins_good = (of.goes_on [] (first_pass t.initial) refl).viable
 
 fed_stands : (answer : Fed) (r : Running) (w : List ℕ) (c : List Symbol) → IsFed answer r w c → IsRunOf r w c
 fed_stands On r w c h = h.1
 fed_stands Dead r w c h = h.1
 
-no_end : (t : Transducer) (o : Option Pass) (p : Pass) → o ≡ Some p → HasNoEnd t o → ending t p ≡ None
+no_end : (t : Transducer) (o : Option Pass) (p : Pass) → o ≡ Some p → HasNoEnd t o → whole_code t p ≡ None
 no_end t o p e h = subst (λ z. HasNoEnd t z) e h
 
 -- what a runner passes on along a piece is told

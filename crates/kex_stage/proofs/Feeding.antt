@@ -2,7 +2,7 @@
 use Rattle.std.proofs.Common.{◌≡◌, ℕ, ◌<◌, ◌≤◌, ◌+◌, ◌-◌, Bool, true, false, List, [], ◌++◌, Option, Some, None, length, take, drop, min, refl, sym, ap, subst, ◌∙◌, append_assoc, append-nil, arith, length-append, length-take, take-append-drop}
 use Rattle.std.specs.Prelude.{IsTrue, IsSome}
 use Rattle.kex_code.specs.Codes.{Begins}
-use Rattle.kex_model.specs.Answers.{Answer, stopped, at_byte, at_end, at_limit, cut_off, whole}
+use Rattle.kex_model.specs.Answers.{Answer, stopped_answer, at_byte, at_end, at_limit, cut_off, whole}
 use Rattle.kex_machine.specs.Answers.{Viable, Says, StageAnswers}
 use Rattle.kex_machine.proofs.Standing.{stopped_more}
 use Rattle.kex_action.specs.Actors.{Position}
@@ -66,7 +66,7 @@ module _ (p : StagePlan) (o new : Oracle) (a b : Position) (h : Option Fed) (pie
       let lv : length v ≡ read_of new = omega (arith, length-append (bytes_fed h) (take count front), length-take count front, lt, op.count, read) in
       let n : length next ≡ length v + 1 = omega (arith, length-append (bytes_fed h) (take count front), length-append (bytes_fed h) (take (count + 1) front), length-take count front, length-take (count + 1) front, lt) in
       let gives = byte_answer p.machine p.limit fed_to v next text false (begins_at (count + 1)) (more_taken (bytes_fed h) count front) n (omega (arith, n, lv, read, long, lt, op.within)) on.good (on.bad lt) on.says in
-      stops_so (record { at = read_of new; why = Byte }) (stopped text (length v) at_byte) gives refl (ap (λ i. Some (record { at = i; why = at_byte })) (sym lv))
+      stops_so (record { at = read_of new; why = Byte }) (stopped_answer text (length v) at_byte) gives refl (ap (λ i. Some (record { at = i; why = at_byte })) (sym lv))
 
   all_taken : length front ≤ count → take count front ≡ front
   all_taken le = let e : count ≡ length front = omega (arith, le, w.within) in ap (λ z. take z front) e ∙ take_all front
@@ -77,7 +77,7 @@ module _ (p : StagePlan) (o new : Oracle) (a b : Position) (h : Option Fed) (pie
       let here : read_of new ≡ p.limit = omega (arith, read, long, le, w.within, lt, op.within) in
       let lv : length v ≡ p.limit = omega (arith, length-append (bytes_fed h) (take count front), length-take count front, w.within, op.count, read, here) in
       let gives = limit_answer p.machine p.limit fed_to v text false (begins_at count) lv (omega (arith, length-append (bytes_fed h) piece, op.count, long, lt, op.within)) on.good on.says in
-      stops_so (record { at = read_of new; why = Limit }) (stopped text p.limit at_limit) gives refl (ap (λ i. Some (record { at = i; why = at_limit })) here)
+      stops_so (record { at = read_of new; why = Limit }) (stopped_answer text p.limit at_limit) gives refl (ap (λ i. Some (record { at = i; why = at_limit })) here)
 
   goes_on : length front ≤ count → length piece ≤ length front → Feeds (λ w e b. Gives p w e b) (λ k. StandsNow p new b None false k) h fed_to false before after (fate_of None)
   goes_on le all =
@@ -135,7 +135,7 @@ module _ (p : StagePlan) (o new : Oracle) (a b : Position) (h : Option Fed) (bef
   end_more false f =
       let text = text_of h ++ f.more in
       let x = f.finishes p.machine (bytes_fed h) (text_of h) op.followed op.good in
-      let answer : Answer = stopped text (length (bytes_fed h)) at_end in
+      let answer : Answer = stopped_answer text (length (bytes_fed h)) at_end in
       let gives : Gives p (bytes_fed h) true answer = cut_off (omega (arith, op.count, op.within)) op.good x.0 x.1 in
       record {
         answer = answer;

@@ -4,7 +4,7 @@ use Rattle.kex_code.specs.declared.symbol.Symbol.{Symbol}
 use Rattle.kex_code.specs.Codes.{Begins, bytes_of}
 use Rattle.kex_model.specs.Moves.{Step, code_of}
 use Rattle.kex_model.specs.Survivors.{Agreed, LongestViable}
-use Rattle.kex_model.specs.Answers.{stopped, at_byte, at_limit, bad_byte, too_long, still_open}
+use Rattle.kex_model.specs.Answers.{stopped_answer, at_byte, at_limit, bad_byte, too_long, still_open}
 use Rattle.kex_model.proofs.Orders.{two_fronts}
 use Rattle.kex_model.proofs.Standing.{shorter_front, same_front}
 use Rattle.kex_model.proofs.Walks.{bytes_of-append}
@@ -62,7 +62,7 @@ module _ (g : Graph) (limit : ℕ) where
   open_answer w text le v s = still_open le v s
 
   -- with one more byte no parse begins
-  pub byte_answer : (x v next text : List ℕ) (e : Bool) → Begins x next → Begins next v → length next ≡ length v + 1 → length next ≤ limit → Viable g v → (Viable g next → ⊥) → Says g v text → StageAnswers g limit x e (stopped text (length v) at_byte)
+  pub byte_answer : (x v next text : List ℕ) (e : Bool) → Begins x next → Begins next v → length next ≡ length v + 1 → length next ≤ limit → Viable g v → (Viable g next → ⊥) → Says g v text → StageAnswers g limit x e (stopped_answer text (length v) at_byte)
   byte_answer x v next text e p q n le good bad says =
       let front : Begins (take limit x) next = shorter_front x next (take limit x) p (drop limit x, sym (take-append-drop limit x)) (omega (arith, length-take limit x, le, ap length p.1, length-append next p.0)) in
       bad_byte v (λ h. bad (viable_front (node_moves g.nodes) g.start next front.0 (subst (λ z. Viable g z) front.1 h))) (record {
@@ -81,7 +81,7 @@ module _ (g : Graph) (limit : ℕ) where
           by [] f = absurd (bad (subst (λ z. Viable g z) (sym (f ∙ append-nil u)) h))
           by (y ∷ m) f = omega (arith, ap length f, length-append u (y ∷ m), n)
 
-  pub limit_answer : (x v text : List ℕ) (e : Bool) → Begins x v → length v ≡ limit → limit < length x → Viable g v → Says g v text → StageAnswers g limit x e (stopped text limit at_limit)
+  pub limit_answer : (x v text : List ℕ) (e : Bool) → Begins x v → length v ≡ limit → limit < length x → Viable g v → Says g v text → StageAnswers g limit x e (stopped_answer text limit at_limit)
   limit_answer x v text e p n lt good says =
       let is : take limit x ≡ v = same_front x (take limit x) v (drop limit x, sym (take-append-drop limit x)) p (omega (arith, length-take limit x, lt, n)) in
       too_long lt (subst (λ z. Viable g z) (sym is) good) (subst (λ z. Says g z text) (sym is) says)

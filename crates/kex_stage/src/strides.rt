@@ -1,7 +1,7 @@
 // How a follower goes along a piece.
 
 ghost use Rattle.std.specs.Prelude.{◌≡◌, ◌+◌, ◌^◌, ◌<◌, ◌≤◌, [], false, IfOk, OnOk, IsTrue, length, take};
-ghost use Rattle.kex_script.specs.Pieces.{spelled};
+ghost use Rattle.kex_script.specs.Pieces.{code_over};
 ghost use Rattle.kex_stage.specs.Oracles.{Tells, TellsEnd};
 ghost use Rattle.kex_stage.specs.Works.{Goes, Works};
 ghost use Rattle.kex_stage.specs.Strides.{HasGone};
@@ -37,7 +37,7 @@ impl<'p> Follower<'p> {
         requires usable { IsTrue self.old.runner.usable }
         requires open { self.old.runner.ended ≡ false }
         requires room { self.old.runner.read + length piece.now < 2 ^ 64 }
-        ensures tells { IfOk result (λ h. Tells (Oracle.Table self.old) (Oracle.Table self.new) (take h.taken piece.now) h.good [] (spelled self.old.phrases.words self.new.pieces.items)) }
+        ensures tells { IfOk result (λ h. Tells (Oracle.Table self.old) (Oracle.Table self.new) (take h.taken piece.now) h.good [] (code_over self.old.phrases.words self.new.pieces.items)) }
         ensures taken { IfOk result (λ h. h.taken ≤ length piece.now) }
         ensures some { IfOk result (λ h. 0 < length piece.now → 0 < h.taken) }
         ensures read { IfOk result (λ h. self.new.runner.read ≡ self.old.runner.read + h.good) }

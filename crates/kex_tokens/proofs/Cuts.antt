@@ -8,7 +8,7 @@ use Rattle.kex_tokens.specs.declared.token.TokenFault.{TokenFault}
 use Rattle.kex_tokens.specs.declared.token.TokenFault.TheVariants.{TextTooLong, BadToken, Memory}
 use Rattle.kex_tokens.specs.Lexemes.{Lexeme, Space, LineComment, BlockComment, Kept, Piece, IsToken, IsLexeme, IsLongest, HasNoLexeme}
 use Rattle.kex_tokens.specs.Scanning.{lexeme}
-use Rattle.kex_tokens.specs.Texts.{Covers, kept, tokens_of, AreTokens, IsBadToken, IsSpan, AreInOrder, IsRefused, most_text}
+use Rattle.kex_tokens.specs.Texts.{Covers, added_tokens, tokens_of, AreTokens, IsBadToken, IsSpan, AreInOrder, IsRefused, most_text}
 use Rattle.kex_tokens.proofs.Front.{found_longest, longest_filled, longest_found}
 
 -- ---- the loop
@@ -30,17 +30,17 @@ covers_more text from [] to p c h = (subst (λ (x : ℕ). IsLongest (drop x text
 covers_more text from (q ∷ ps) to p c h = (c.0, covers_more text (from + q.long) ps to p c.1 h)
 
 -- a piece more is a token more, or none
-pub tokens_more : (text : List ℕ) (from : ℕ) (ps : List Piece) (to : ℕ) (p : Piece) → Covers text from ps to → tokens_of from (ps ++ p ∷ []) ≡ tokens_of from ps ++ kept p.lexeme to (to + p.long)
+pub tokens_more : (text : List ℕ) (from : ℕ) (ps : List Piece) (to : ℕ) (p : Piece) → Covers text from ps to → tokens_of from (ps ++ p ∷ []) ≡ tokens_of from ps ++ added_tokens p.lexeme to (to + p.long)
 unfolding Covers tokens_of
-tokens_more text from [] to p c = ap (λ (x : ℕ). kept p.lexeme x (x + p.long) ++ []) c ∙ append-nil (kept p.lexeme to (to + p.long))
+tokens_more text from [] to p c = ap (λ (x : ℕ). added_tokens p.lexeme x (x + p.long) ++ []) c ∙ append-nil (added_tokens p.lexeme to (to + p.long))
 tokens_more text from (q ∷ ps) to p c =
-    ap (λ (ts : List Token). kept q.lexeme from (from + q.long) ++ ts) (tokens_more text (from + q.long) ps to p c.1) ∙ sym (append_assoc (kept q.lexeme from (from + q.long)) (tokens_of (from + q.long) ps) (kept p.lexeme to (to + p.long)))
+    ap (λ (ts : List Token). added_tokens q.lexeme from (from + q.long) ++ ts) (tokens_more text (from + q.long) ps to p c.1) ∙ sym (append_assoc (added_tokens q.lexeme from (from + q.long)) (tokens_of (from + q.long) ps) (added_tokens p.lexeme to (to + p.long)))
 
-pub cut_goes_on : (text : List ℕ) (at to : ℕ) (ts new : List Token) (p : Piece) → IsCutTo text at ts → IsLongest (drop at text) p → to ≡ at + p.long → to ≤ length text → new ≡ ts ++ kept p.lexeme at to → IsCutTo text to new
+pub cut_goes_on : (text : List ℕ) (at to : ℕ) (ts new : List Token) (p : Piece) → IsCutTo text at ts → IsLongest (drop at text) p → to ≡ at + p.long → to ≤ length text → new ≡ ts ++ added_tokens p.lexeme at to → IsCutTo text to new
 cut_goes_on text at to ts new p c h e i n = record {
   pieces = c.pieces ++ p ∷ [];
   covers = subst (λ (x : ℕ). Covers text 0 (c.pieces ++ p ∷ []) x) (sym e) (covers_more text 0 c.pieces at p c.covers h);
-  tokens = tokens_more text 0 c.pieces at p c.covers ∙ ap (λ (us : List Token). us ++ kept p.lexeme at (at + p.long)) c.tokens ∙ ap (λ (x : ℕ). ts ++ kept p.lexeme at x) (sym e) ∙ sym n;
+  tokens = tokens_more text 0 c.pieces at p c.covers ∙ ap (λ (us : List Token). us ++ added_tokens p.lexeme at (at + p.long)) c.tokens ∙ ap (λ (x : ℕ). ts ++ added_tokens p.lexeme at x) (sym e) ∙ sym n;
   inside = i;
 }
 
@@ -102,7 +102,7 @@ one_bad text a b h k = let same = one_cover text 0 h.0 a k.0 b h.1 k.1 (none_the
 pub long_inside : (text : List ℕ) (at : ℕ) (p : Piece) → IsLongest (drop at text) p → at + p.long ≤ length text
 long_inside text at p h = omega (arith, h.inside, longest_filled (drop at text) p h, length-drop at text)
 
-pub kept_span : (text : List ℕ) (at : ℕ) (p : Piece) → IsLongest (drop at text) p → (l : Lexeme) → p.lexeme ≡ l → All (IsSpan text) (kept l at (at + p.long))
+pub kept_span : (text : List ℕ) (at : ℕ) (p : Piece) → IsLongest (drop at text) p → (l : Lexeme) → p.lexeme ≡ l → All (IsSpan text) (added_tokens l at (at + p.long))
 unfolding IsLexeme
 kept_span text at p h Space e = All-nil (IsSpan text)
 kept_span text at p h LineComment e = All-nil (IsSpan text)
@@ -119,14 +119,14 @@ kept_span text at p h (Kept k) e =
 pub spans_of : (text : List ℕ) (from : ℕ) (ps : List Piece) (to : ℕ) → Covers text from ps to → All (IsSpan text) (tokens_of from ps)
 unfolding Covers tokens_of
 spans_of text from [] to c = All-nil (IsSpan text)
-spans_of text from (p ∷ ps) to c = All-append (IsSpan text) (kept p.lexeme from (from + p.long)) (tokens_of (from + p.long) ps) (kept_span text from p c.0 p.lexeme refl) (spans_of text (from + p.long) ps to c.1)
+spans_of text from (p ∷ ps) to c = All-append (IsSpan text) (added_tokens p.lexeme from (from + p.long)) (tokens_of (from + p.long) ps) (kept_span text from p c.0 p.lexeme refl) (spans_of text (from + p.long) ps to c.1)
 
 pub order_weaker : (a b : ℕ) (ts : List Token) → a ≤ b → AreInOrder b ts → AreInOrder a ts
 unfolding AreInOrder
 order_weaker a b [] h o = tt
 order_weaker a b (t ∷ ts) h o = (omega (arith, o.0, h), o.1)
 
-pub order_kept : (at long : ℕ) (l : Lexeme) (ts : List Token) → AreInOrder (at + long) ts → AreInOrder at (kept l at (at + long) ++ ts)
+pub order_kept : (at long : ℕ) (l : Lexeme) (ts : List Token) → AreInOrder (at + long) ts → AreInOrder at (added_tokens l at (at + long) ++ ts)
 unfolding AreInOrder
 order_kept at long Space ts o = order_weaker at (at + long) ts (omega arith) o
 order_kept at long LineComment ts o = order_weaker at (at + long) ts (omega arith) o

@@ -16,15 +16,15 @@ Covers text from [] to = from ≡ to
 Covers text from (p ∷ ps) to = IsLongest (drop from text) p × Covers text (from + p.long) ps to
 
 -- what a piece adds to the tokens; white space and comments are dropped
-abbrev pub kept : Lexeme → ℕ → ℕ → List Token
-kept (Kept kind) from to = record { kind = kind; from = from; to = to } ∷ []
-kept Space from to = []
-kept LineComment from to = []
-kept BlockComment from to = []
+abbrev pub added_tokens : Lexeme → ℕ → ℕ → List Token
+added_tokens (Kept kind) from to = record { kind = kind; from = from; to = to } ∷ []
+added_tokens Space from to = []
+added_tokens LineComment from to = []
+added_tokens BlockComment from to = []
 
 unfoldable pub tokens_of : ℕ → List Piece → List Token
 tokens_of from [] = []
-tokens_of from (p ∷ ps) = kept p.lexeme from (from + p.long) ++ tokens_of (from + p.long) ps
+tokens_of from (p ∷ ps) = added_tokens p.lexeme from (from + p.long) ++ tokens_of (from + p.long) ps
 
 -- the whole text is cut into the longest lexemes, and these are the tokens among them
 abbrev pub AreTokens : List ℕ → List Token → Type 0

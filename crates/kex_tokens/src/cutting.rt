@@ -2,7 +2,7 @@
 
 ghost use Rattle.std.specs.Prelude.{◌≡◌, ℕ, ◌<◌, ◌≤◌, ◌++◌, ◌↔◌, ◌⊎◌, List, Err, length, All, IfOk, IfErr, MatchResult};
 ghost use Rattle.kex_tokens.specs.declared.token.Token.{Token};
-ghost use Rattle.kex_tokens.specs.Texts.{AreInOrder, AreTokens, IsBadToken, IsRefused, IsSpan, kept, most_text};
+ghost use Rattle.kex_tokens.specs.Texts.{AreInOrder, AreTokens, IsBadToken, IsRefused, IsSpan, added_tokens, most_text};
 
 use crate::lexeme::{Lexeme, Piece};
 use crate::scan::longest;
@@ -11,7 +11,7 @@ use std::alloc::Global;
 
 /// Adds the token that this piece is, if it is one.
 fn keep(tokens: &mut Vec<Token>, piece: Piece, from: u32, to: u32) -> Result<(), TokenFault>
-    ensures kept { IfOk result (λ _. tokens.new.items ≡ tokens.old.items ++ kept piece.lexeme from to) }
+    ensures kept { IfOk result (λ _. tokens.new.items ≡ tokens.old.items ++ added_tokens piece.lexeme from to) }
     ensures memory { IfErr result (λ fault. fault ≡ TokenFault.Memory) }
 {
     if let Lexeme::Kept(kind) = piece.lexeme {

@@ -10,7 +10,7 @@ use Rattle.kex_model.specs.Places.{HasEmptyLoop, moves, start_of, steps_of}
 use Rattle.kex_model.specs.Survivors.{Agreed, Greedy}
 use Rattle.kex_model.proofs.Agreeing.{agreed_grows, agreed_greedy}
 use Rattle.kex_model.specs.Laws.{StageAnswers}
-use Rattle.kex_model.specs.Answers.{Answer, Stop, later, Pipeline, Viable, Says, HasParse, Means, bad_byte, too_long, cut_off, whole, still_open, code_at, empty}
+use Rattle.kex_model.specs.Answers.{Answer, Stop, later_report, Pipeline, Viable, Says, HasParse, Means, bad_byte, too_long, cut_off, whole, still_open, code_at, empty}
 use Rattle.kex_model.specs.Answers as model
 use Rattle.kex_model.specs.Trees.{kind_at, meaning, part}
 use Rattle.kex_model.proofs.Correspondence.{one_to_one}
@@ -27,7 +27,7 @@ use Rattle.kex_compile.specs.declared.refusal.CompileRefusal.TheVariants as comp
 use Rattle.kex_compile.specs.declared.limits.Limits.{Limits}
 use Rattle.kex_code.specs.Texts.{text_of}
 use Rattle.kex_code.specs.declared.symbol.Symbol.{Symbol}
-use Rattle.kex_model.specs.Acting.{State, acted}
+use Rattle.kex_model.specs.Acting.{State, after_steps}
 use Rattle.kex_model.proofs.Effects.{done_all}
 use Rattle.kex_model.proofs.Parts.{same_part}
 use Rattle.kex_machine.proofs.Writing.{acted_grows}
@@ -107,9 +107,9 @@ module _ (P : Grammar) (root : ℕ) where
       same_part P c [] [] b.0 begins.0 (empty P) is it (append-nil' (code_at P root x) ∙ b.1) (append-nil' (code_at P root y) ∙ begins.1) in
       let st : State = record { out = []; buffers = []; registers = empty P } in
       let steps = steps_of P root (kind_at P root) y [] in
-      let grown : Begins (acted steps (c ++ m) st).out (acted steps c st).out = acted_grows steps c m st in
-      let whole : t ≡ (acted steps (c ++ m) st).out = g ∙ sym (done_all P root y d (empty P) [] it).written ∙ ap (λ z. (acted steps z st).out) e in
-      let front : s ≡ (acted steps c st).out = f ∙ ap (λ z. z.bytes) same ∙ sym (done_all P root y c (empty P) [] it).written in
+      let grown : Begins (after_steps steps (c ++ m) st).out (after_steps steps c st).out = acted_grows steps c m st in
+      let whole : t ≡ (after_steps steps (c ++ m) st).out = g ∙ sym (done_all P root y d (empty P) [] it).written ∙ ap (λ z. (after_steps steps z st).out) e in
+      let front : s ≡ (after_steps steps c st).out = f ∙ ap (λ z. z.bytes) same ∙ sym (done_all P root y c (empty P) [] it).written in
       (grown.0, whole ∙ grown.1 ∙ ap (λ z. z ++ grown.0) (sym front))
 
 module _ (P : Grammar) (limit : ℕ) where
@@ -273,7 +273,7 @@ whole_of P root limit (too_long lt g s) n = cc
 whole_of P root limit (cut_off le g h s) n = cc
 whole_of P root limit (whole le m) n = (le, m, refl)
 
-none-later : (i : ℕ) (own : Option Stop) (rest : Option model.Report) → later i own rest ≡ None → (own ≡ None) × (rest ≡ None)
+none-later : (i : ℕ) (own : Option Stop) (rest : Option model.Report) → later_report i own rest ≡ None → (own ≡ None) × (rest ≡ None)
 none-later i own (Some r) e = cc
 none-later i None None e = (refl, refl)
 none-later i (Some s) None e = cc

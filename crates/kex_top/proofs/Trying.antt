@@ -6,22 +6,22 @@ use Rattle.kex_pipe.specs.declared.turn.Fate.{Fate}
 use Rattle.kex_top.specs.Answer.{Said}
 use Rattle.kex_top.specs.History.{Feeds, History, bytes_passed, text_of}
 use Rattle.kex_top.specs.Tallies.{Counts, HasWaiting, IsFed, IsTally}
-use Rattle.kex_top.specs.Trials.{capped, line_of, lines_from, next, rolled}
+use Rattle.kex_top.specs.Trials.{saturated_count, line_of, lines_from, next, rolling_sum}
 use Rattle.kex_top.specs.declared.tally.Tally.{Tally}
 
-pub rolled-append : (h : ℕ) (a b : List ℕ) → rolled h (a ++ b) ≡ rolled (rolled h a) b
+pub rolled-append : (h : ℕ) (a b : List ℕ) → rolling_sum h (a ++ b) ≡ rolling_sum (rolling_sum h a) b
 rolled-append h [] b = refl
 rolled-append h (x ∷ a) b = rolled-append ((h * 31 + x) % 2 ^ 32) a b
 
-capped-more : (n k m : ℕ) → m ≡ n + k → capped (capped n + k) ≡ capped m
+capped-more : (n k m : ℕ) → m ≡ n + k → saturated_count (saturated_count n + k) ≡ saturated_count m
 capped-more n k m is = omega (arith, is)
 
-module _ (old new : Tally) (piece out : List ℕ) (made : new.made ≡ capped (old.made + length piece)) (written : new.written ≡ capped (old.written + length out)) (roll : new.roll ≡ rolled old.roll out) where
+module _ (old new : Tally) (piece out : List ℕ) (made : new.made ≡ saturated_count (old.made + length piece)) (written : new.written ≡ saturated_count (old.written + length out)) (roll : new.roll ≡ rolling_sum old.roll out) where
   tallied : (given text : List ℕ) → IsTally old given text → IsTally new (given ++ piece) (text ++ out)
   tallied given text t = record {
-    made = made ∙ ap (λ n. capped (n + length piece)) t.made ∙ capped-more (length given) (length piece) _ (length-append given piece);
-    written = written ∙ ap (λ n. capped (n + length out)) t.written ∙ capped-more (length text) (length out) _ (length-append text out);
-    roll = roll ∙ ap (λ n. rolled n out) t.roll ∙ sym (rolled-append 0 text out);
+    made = made ∙ ap (λ n. saturated_count (n + length piece)) t.made ∙ capped-more (length given) (length piece) _ (length-append given piece);
+    written = written ∙ ap (λ n. saturated_count (n + length out)) t.written ∙ capped-more (length text) (length out) _ (length-append text out);
+    roll = roll ∙ ap (λ n. rolling_sum n out) t.roll ∙ sym (rolled-append 0 text out);
   }
 
   -- what is given out is counted

@@ -5,7 +5,7 @@ use Rattle.kex_model.specs.Schedules.{StreamItem, Progress, has_end, Event, give
 use Rattle.kex_pipe.specs.Events.{bytes_given, end_given}
 use Rattle.kex_pipe.specs.Reports.{report_as}
 use Rattle.kex_pipe.specs.Standing as by_rounds
-use Rattle.kex_pipe.specs.Waiting.{waiting}
+use Rattle.kex_pipe.specs.Waiting.{waiting_items}
 use Rattle.kex_pipe.specs.declared.inbox.Inbox.{Inbox}
 use Rattle.kex_pipe.specs.declared.seat.Seat.{Seat as Seated}
 use Rattle.kex_pipe.specs.declared.report.Rejected.{Rejected}
@@ -42,7 +42,7 @@ module _ {T : Type 0} (t : Ghosts T) where
 
   ring-plans : (came ahead : List StreamItem) (ps : List t.Plan) (ss : List (RingSeat T t)) (xs : List Progress) (b : Inbox) (taken : List ℕ) → by_rings.Line t came ahead ps ss xs b taken → map t.plan (map (λ s. s.seat.staged.stage) ss) ≡ ps
   ring-plans came ahead [] [] [] b taken h = refl
-  ring-plans came ahead (p ∷ ps) (s ∷ ss) (x ∷ xs) b taken h = ap₂ (λ q qs. q ∷ qs) h.2.same_plan (ring-plans h.1 (waiting s.seat.outbox) ps ss xs b taken h.3)
+  ring-plans came ahead (p ∷ ps) (s ∷ ss) (x ∷ xs) b taken h = ap₂ (λ q qs. q ∷ qs) h.2.same_plan (ring-plans h.1 (waiting_items s.seat.outbox) ps ss xs b taken h.3)
   ring-plans came ahead ps ss xs b taken h = absurd h
 
   pub same-plans : (ps : List t.Plan) (pipe : AnyPipe T t) (h : List Event) (taken : List ℕ) → Stands t ps pipe h taken → plans_of t pipe ≡ ps

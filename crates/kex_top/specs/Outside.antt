@@ -1,6 +1,6 @@
 -- What a call leaves of the calls to its source and its sink, by its answer.
 use Rattle.std.specs.Prelude.{◌≡◌, ◌⊎◌, ℕ, true, Option}
-use Rattle.kex_ports.specs.Endings.{Ending, counts_of, finished, finishes_of}
+use Rattle.kex_ports.specs.Endings.{Ending, counts_of, after_finish, finishes_of}
 use Rattle.kex_ports.specs.Reads.{Asks, Reads}
 use Rattle.kex_top.specs.Run.{is_whole}
 use Rattle.kex_top.specs.declared.status.Status.{Status}
@@ -9,11 +9,11 @@ use Rattle.kex_top.specs.declared.status.Status.TheVariants.{Done, Rejected, Usa
 -- Where all was written, the sink was finished once, and that was the last call to it. After a failed write it wasn't finished;
 -- or all writes were taken, and to finish it failed.
 abbrev pub Closes : Option Ending → Option Ending → Status → Type 0
-Closes before now Done = now ≡ finished before
-Closes before now (Rejected r) = now ≡ finished before
-Closes before now (TooLong r) = now ≡ finished before
-Closes before now ReadFault = now ≡ finished before
-Closes before now WriteFault = (finishes_of now ≡ finishes_of before) ⊎ (now ≡ finished before)
+Closes before now Done = now ≡ after_finish before
+Closes before now (Rejected r) = now ≡ after_finish before
+Closes before now (TooLong r) = now ≡ after_finish before
+Closes before now ReadFault = now ≡ after_finish before
+Closes before now WriteFault = (finishes_of now ≡ finishes_of before) ⊎ (now ≡ after_finish before)
 Closes before now Memory = finishes_of now ≡ finishes_of before
 Closes before now Usage = now ≡ before
 Closes before now (Refused r) = now ≡ before

@@ -4,7 +4,7 @@ use Rattle.std.specs.Prelude.{IsSome, is_none}
 use Rattle.std.proofs.lemmas.Bool.{false≢true}
 use Rattle.kex_code.specs.Codes.{Begins}
 use Rattle.kex_ports.specs.Bytes.{IsPrefix}
-use Rattle.kex_model.specs.Answers.{Answer, Report, Stop, later}
+use Rattle.kex_model.specs.Answers.{Answer, Report, Stop, later_report}
 use Rattle.kex_pipe.specs.Histories.{why_as}
 use Rattle.kex_pipe.specs.Reports.{report_as}
 use Rattle.kex_pipe.specs.declared.report.Rejected.{Rejected}
@@ -25,14 +25,14 @@ why-same End Limit e = cc
 why-same Limit Byte e = cc
 why-same Limit End e = cc
 
-abbrev rejected : ℕ → ℕ → Why → Rejected
-rejected i n y = record { stage = i; at = n; why = y }
+abbrev rejection : ℕ → ℕ → Why → Rejected
+rejection i n y = record { stage = i; at = n; why = y }
 
 some-same : (a b : Report) → Some a ≡ Some b → a ≡ b
 some-same a b e = cc
 
-rejected-same : (i j m n : ℕ) (x y : Why) → i ≡ j → m ≡ n → x ≡ y → rejected i m x ≡ rejected j n y
-rejected-same i j m n x y e f g = ap (λ k. rejected k m x) e ∙ ap (λ k. rejected j k x) f ∙ ap (λ k. rejected j n k) g
+rejected-same : (i j m n : ℕ) (x y : Why) → i ≡ j → m ≡ n → x ≡ y → rejection i m x ≡ rejection j n y
+rejected-same i j m n x y e f g = ap (λ k. rejection k m x) e ∙ ap (λ k. rejection j k x) f ∙ ap (λ k. rejection j n k) g
 
 pub report-same : (a b : Option Rejected) → report_as a ≡ report_as b → a ≡ b
 report-same None None e = refl
@@ -53,7 +53,7 @@ reported-some : (r : Option Rejected) → IsSome r → report_as r ≡ None → 
 reported-some None i e = false≢true i
 reported-some (Some r) i e = cc
 
-pub later-some : (i : ℕ) (own : Option Stop) (rest : Option Report) → IsSome own → later i own rest ≡ None → ⊥
+pub later-some : (i : ℕ) (own : Option Stop) (rest : Option Report) → IsSome own → later_report i own rest ≡ None → ⊥
 later-some i own (Some r) some e = cc
 later-some i None None some e = false≢true some
 later-some i (Some s) None some e = cc

@@ -2,14 +2,14 @@
 use Rattle.std.specs.Prelude.{◌≡◌, ◌++◌, ℕ, Bool, false, true, List, length, Some}
 use Rattle.kex_top.specs.Answer.{Said}
 use Rattle.kex_top.specs.History.{History, bytes_passed, text_of}
-use Rattle.kex_top.specs.Trials.{capped, rolled}
+use Rattle.kex_top.specs.Trials.{saturated_count, rolling_sum}
 use Rattle.kex_top.specs.declared.tally.Tally.{Tally}
 
 -- so many bytes were given, and this text was written
 pub record IsTally (tally : Tally) (given text : List ℕ) : Type 0 where
-  pub made : tally.made ≡ capped (length given)
-  pub written : tally.written ≡ capped (length text)
-  pub roll : tally.roll ≡ rolled 0 text
+  pub made : tally.made ≡ saturated_count (length given)
+  pub written : tally.written ≡ saturated_count (length text)
+  pub roll : tally.roll ≡ rolling_sum 0 text
 
 module _ (says : List ℕ → Bool → Said → Type 0) where
   -- the call brings the stages to w, and counts what is said there and wasn't yet

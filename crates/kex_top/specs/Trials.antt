@@ -38,13 +38,13 @@ abbrev pub made_lines : ℕ → List ℕ
 made_lines n = lines_from 0 n
 
 -- the rolled sum of bytes, on from one
-abbrev pub rolled : ℕ → List ℕ → ℕ
-rolled h [] = h
-rolled h (b ∷ bs) = rolled ((h * 31 + b) % 2 ^ 32) bs
+abbrev pub rolling_sum : ℕ → List ℕ → ℕ
+rolling_sum h [] = h
+rolling_sum h (b ∷ bs) = rolling_sum ((h * 31 + b) % 2 ^ 32) bs
 
 -- a count that stands still at its last value
-abbrev pub capped : ℕ → ℕ
-capped n = min n (2 ^ 64 - 1)
+abbrev pub saturated_count : ℕ → ℕ
+saturated_count n = min n (2 ^ 64 - 1)
 
 -- it turns each line round, and joins its words by a sign
 abbrev pub trial_text : List ℕ
@@ -59,9 +59,9 @@ pub record IsSummary (says : List ℕ → Bool → Said → Type 0) (lines : ℕ
   pub said : Said
   pub is_said : says (made_lines lines) true said
   pub lines_of : summary.lines ≡ lines
-  pub made : summary.made ≡ capped (length (made_lines lines))
-  pub written : summary.written ≡ capped (length said.text)
-  pub roll : summary.roll ≡ rolled 0 said.text
+  pub made : summary.made ≡ saturated_count (length (made_lines lines))
+  pub written : summary.written ≡ saturated_count (length said.text)
+  pub roll : summary.roll ≡ rolling_sum 0 said.text
 
 -- what the program says of so many lines was summed up, and the line of that was written
 pub record Tried (lines : ℕ) (Written : List ℕ → Type 0) : Type 0 where

@@ -1,6 +1,6 @@
 // What a trial counts.
 ghost use Rattle.std.specs.Prelude.{◌≡◌, ◌+◌, ◌<◌, ◌^◌, length};
-ghost use Rattle.kex_top.specs.Trials.{capped, rolled};
+ghost use Rattle.kex_top.specs.Trials.{saturated_count, rolling_sum};
 
 /// How many bytes were given and written, and the rolled sum of those that were written.
 #[derive(Clone, Copy)]
@@ -14,7 +14,7 @@ pub struct Tally {
 // The rolled sum goes on over these bytes.
 fn rolled(start: u64, bytes: &[u8]) -> u64
     requires { start < 2 ^ 32 }
-    ensures value { result ≡ rolled start bytes.now }
+    ensures value { result ≡ rolling_sum start bytes.now }
     ensures fits { result < 2 ^ 32 }
 {
     let mut sum = start;
@@ -39,9 +39,9 @@ impl Tally {
 
     /// So many bytes more were given, and these written for them. A count stands still at its last value.
     pub(crate) fn add(&self, made: usize, written: &[u8]) -> Tally
-        ensures made { result.made ≡ capped (self.now.made + made) }
-        ensures written { result.written ≡ capped (self.now.written + length written.now) }
-        ensures roll { result.roll ≡ rolled self.now.roll written.now }
+        ensures made { result.made ≡ saturated_count (self.now.made + made) }
+        ensures written { result.written ≡ saturated_count (self.now.written + length written.now) }
+        ensures roll { result.roll ≡ rolling_sum self.now.roll written.now }
     {
         Tally {
             made: self.made.saturating_add(made as u64),

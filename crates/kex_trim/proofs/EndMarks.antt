@@ -6,7 +6,7 @@ use Rattle.std.proofs.lemmas.List.{length-replicate}
 use Rattle.std.proofs.lemmas.List.Elements.{All-get_or}
 use Rattle.std.proofs.lemmas.Option.{slice_get-get_or, slice_get_cases}
 use Rattle.kex_code.specs.Codes.{IsAmong}
-use Rattle.kex_model.specs.Moves.{Move, accept, read, choose, forced, go, to_left, to_right, Step, took, chose, went, Allows, reads, goes_left, goes_right, goes_forced, goes, entered, Walk}
+use Rattle.kex_model.specs.Moves.{Move, accept, read, choose, forced, go, to_left, to_right, Step, took, chose, went, Allows, reads, goes_left, goes_right, goes_forced, goes, target_of, Walk}
 use Rattle.kex_model.specs.Survivors.{LeadsToEnd}
 use Rattle.kex_machine.specs.declared.MNode.{MNode}
 use Rattle.kex_machine.specs.declared.MNode.TheVariants.{Accept, Read, Choice, Forced, Do, Skip}
@@ -30,11 +30,11 @@ some_byte (false ∷ set) zero i = cc
 some_byte (false ∷ set) (suc b) i = some_byte set b i
 
 -- a way is a step
-pub way_step : {S : Type 0} (v : Move S) (t : S) → IsAmong (ways v) t → (k : Step S) × Allows v k × (entered k ≡ t)
+pub way_step : {S : Type 0} (v : Move S) (t : S) → IsAmong (ways v) t → (k : Step S) × Allows v k × (target_of k ≡ t)
 way_step accept t i = absurd i
 way_step (read set u) t i = by (list_any (λ b. b) set) refl i
   where
-    by : (x : Bool) → list_any (λ b. b) set ≡ x → IsAmong (if x then u ∷ [] else []) t → (k : Step _) × Allows (read set u) k × (entered k ≡ t)
+    by : (x : Bool) → list_any (λ b. b) set ≡ x → IsAmong (if x then u ∷ [] else []) t → (k : Step _) × Allows (read set u) k × (target_of k ≡ t)
     by true e (inl same) = let b = any_byte set e in (took b.0 u, reads b.1, same)
     by true e (inr i) = absurd i
     by false e i = absurd i
@@ -46,7 +46,7 @@ way_step (forced x u) t (inr i) = absurd i
 way_step (go e u) t (inl same) = (went e u, goes, same)
 way_step (go e u) t (inr i) = absurd i
 
-pub is_way : {S : Type 0} {v : Move S} {k : Step S} → Allows v k → IsAmong (ways v) (entered k)
+pub is_way : {S : Type 0} {v : Move S} {k : Step S} → Allows v k → IsAmong (ways v) (target_of k)
 is_way (reads {set = set} {b = b} {s = s} i) = subst (λ z. IsAmong (if z then s ∷ [] else []) s) (sym (some_byte set b i)) (inl refl)
 is_way goes_left = inl refl
 is_way goes_right = inr (inl refl)
@@ -318,8 +318,8 @@ module _ (nodes : List MNode) where
       back [] n e lt w a = h.accepts n lt (ap f w ∙ a)
       back (k ∷ ks) n e lt w a =
           let way = is_way w.0 in
-          let next : get_or alive (entered k) false ≡ true = back ks (entered k) e (way_below nodes range n lt (entered k) way) w.1 a in
-          ⊎_elim (λ i. absurd i) (λ all. all n way) (h.closed (entered k) next)
+          let next : get_or alive (target_of k) false ≡ true = back ks (target_of k) e (way_below nodes range n lt (target_of k) way) w.1 a in
+          ⊎_elim (λ i. absurd i) (λ all. all n way) (h.closed (target_of k) next)
 
 pub read_any : {A : Type 0} (xs : List A) (n : ℕ) (d e : A) → n < length xs → get_or xs n d ≡ get_or xs n e
 read_any [] n d e lt = absurd (omega arith)

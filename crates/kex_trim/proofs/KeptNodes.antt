@@ -4,7 +4,7 @@ use Rattle.std.specs.Prelude.{slice_get, All}
 use Rattle.std.proofs.lemmas.List.Elements.{All-get_or, All-from_get_or, All-set}
 use Rattle.std.proofs.lemmas.Option.{slice_get_within, slice_get-get_or, slice_get_cases}
 use Rattle.kex_code.specs.Codes.{bytes_of, IsAmong, HasNumber}
-use Rattle.kex_model.specs.Moves.{quiet, go, nothing, Effect, code_of, Move, accept, read, choose, forced, Side, to_left, to_right, Step, took, chose, went, Allows, reads, goes_left, goes_right, goes_forced, goes, entered, Walk, IsWaiting}
+use Rattle.kex_model.specs.Moves.{quiet, go, nothing, Effect, code_of, Move, accept, read, choose, forced, Side, to_left, to_right, Step, took, chose, went, Allows, reads, goes_left, goes_right, goes_forced, goes, target_of, Walk, IsWaiting}
 use Rattle.kex_model.specs.Survivors.{LeadsToEnd}
 use Rattle.kex_model.specs.Alike.{SameLabel, Alike}
 use Rattle.kex_model.proofs.Transfer.{walk_ahead, same_symbols}
@@ -19,7 +19,7 @@ use Rattle.kex_trim.specs.Ways.{IsAlive}
 use Rattle.kex_trim.specs.Trim.{Keeps, still_accepts, still_reads, still_chooses, only_left, only_right, still_forced, still_goes, IsTrimOf, IsNumbering, IsShrunk, choice_left, renumbered_move}
 
 module _ {S T : Type 0} (R : S → T → Type 0) (Lost : S → Type 0) where
-  kept_ahead : {m : Move S} {n : Move T} {k : Step S} → Keeps R Lost m n → Allows m k → (Lost (entered k) → ⊥) → (j : Step T) × Allows n j × SameLabel k j × R (entered k) (entered j)
+  kept_ahead : {m : Move S} {n : Move T} {k : Step S} → Keeps R Lost m n → Allows m k → (Lost (target_of k) → ⊥) → (j : Step T) × Allows n j × SameLabel k j × R (target_of k) (target_of j)
   kept_ahead still_accepts a h = elim a [ ]
   kept_ahead (still_reads {t = t} r) (reads {b = b} i) h = (took b t, reads i, refl, r)
   kept_ahead (still_chooses {t = t} r r') goes_left h = (chose to_left t, goes_left, refl, r)
@@ -31,7 +31,7 @@ module _ {S T : Type 0} (R : S → T → Type 0) (Lost : S → Type 0) where
   kept_ahead (still_forced {x = x} {t = t} r) goes_forced h = (chose x t, goes_forced, refl, r)
   kept_ahead (still_goes {e = e} {t = t} r) goes h = (went e t, goes, refl, r)
 
-  kept_back : {m : Move S} {n : Move T} {j : Step T} → Keeps R Lost m n → Allows n j → (k : Step S) × Allows m k × SameLabel k j × R (entered k) (entered j)
+  kept_back : {m : Move S} {n : Move T} {j : Step T} → Keeps R Lost m n → Allows n j → (k : Step S) × Allows m k × SameLabel k j × R (target_of k) (target_of j)
   kept_back still_accepts a = elim a [ ]
   kept_back (still_reads {s = s} r) (reads {b = b} i) = (took b s, reads i, refl, r)
   kept_back (still_chooses {s = s} r r') goes_left = (chose to_left s, goes_left, refl, r)
@@ -116,33 +116,33 @@ module _ (nodes : List MNode) (alive : List Bool) (order kept numbers : List ℕ
   choice true false l r ea eb fl fr some = only_left (numbered_at l fl ea) (lost r fr eb)
   choice false b l r ea eb fl fr some = only_right (lost l fl ea) (⊎_elim (λ h. absurd (lost l fl ea h)) (λ h. has_number r fr h) some)
 
-  by_move : (m : MNode) → LeadsBelow (length nodes) m → ((move_of (Some m) ≡ accept) ⊎ ((k : Step ℕ) × Allows (move_of (Some m)) k × LeadsToEnd f (entered k))) → Keeps (HasNumber kept) Lost (move_of (Some m)) (renumbered_move alive numbers (move_of (Some m)))
+  by_move : (m : MNode) → LeadsBelow (length nodes) m → ((move_of (Some m) ≡ accept) ⊎ ((k : Step ℕ) × Allows (move_of (Some m)) k × LeadsToEnd f (target_of k))) → Keeps (HasNumber kept) Lost (move_of (Some m)) (renumbered_move alive numbers (move_of (Some m)))
   by_move Accept b h = still_accepts
   by_move (Read set t) b (inl e) = cc
   by_move (Read set t) b (inr (k, a, e)) = still_reads (has_number t b (side a e))
     where
-      side : {k : Step ℕ} → Allows (read set t) k → LeadsToEnd f (entered k) → LeadsToEnd f t
+      side : {k : Step ℕ} → Allows (read set t) k → LeadsToEnd f (target_of k) → LeadsToEnd f t
       side (reads i) e = e
   by_move (Choice l r) b (inl e) = cc
   by_move (Choice l r) b (inr (k, a, e)) = choice (get_or alive l false) (get_or alive r false) l r refl refl b.0 b.1 (side a e)
     where
-      side : {k : Step ℕ} → Allows (choose l r) k → LeadsToEnd f (entered k) → LeadsToEnd f l ⊎ LeadsToEnd f r
+      side : {k : Step ℕ} → Allows (choose l r) k → LeadsToEnd f (target_of k) → LeadsToEnd f l ⊎ LeadsToEnd f r
       side goes_left e = inl e
       side goes_right e = inr e
   by_move (Forced x t) b (inl e) = cc
   by_move (Forced x t) b (inr (k, a, e)) = still_forced (has_number t b (side a e))
     where
-      side : {k : Step ℕ} → Allows (move_of (Some (Forced x t))) k → LeadsToEnd f (entered k) → LeadsToEnd f t
+      side : {k : Step ℕ} → Allows (move_of (Some (Forced x t))) k → LeadsToEnd f (target_of k) → LeadsToEnd f t
       side goes_forced e = e
   by_move (Do x t) b (inl e) = cc
   by_move (Do x t) b (inr (k, a, e)) = still_goes (has_number t b (side a e))
     where
-      side : {k : Step ℕ} → Allows (move_of (Some (Do x t))) k → LeadsToEnd f (entered k) → LeadsToEnd f t
+      side : {k : Step ℕ} → Allows (move_of (Some (Do x t))) k → LeadsToEnd f (target_of k) → LeadsToEnd f t
       side goes e = e
   by_move (Skip t) b (inl e) = cc
   by_move (Skip t) b (inr (k, a, e)) = still_goes (has_number t b (side a e))
     where
-      side : {k : Step ℕ} → Allows (move_of (Some (Skip t))) k → LeadsToEnd f (entered k) → LeadsToEnd f t
+      side : {k : Step ℕ} → Allows (move_of (Some (Skip t))) k → LeadsToEnd f (target_of k) → LeadsToEnd f t
       side goes e = e
 
   -- a node that is kept, by the new numbers
@@ -152,7 +152,7 @@ module _ (nodes : List MNode) (alive : List Bool) (order kept numbers : List ℕ
       let here : f s ≡ move_of (Some m) = ap (λ z. move_of z) (slice_get-get_or nodes s Accept lt) in
       subst (λ z. Keeps (HasNumber kept) Lost z (renumbered_move alive numbers z)) (sym here) (by_move m (All-get_or (LeadsBelow (length nodes)) nodes s Accept lt range) (steps here ks w))
     where
-      steps : {v : Move ℕ} → f s ≡ v → (ks : List (Step ℕ)) → Walk f s ks e → (v ≡ accept) ⊎ ((k : Step ℕ) × Allows v k × LeadsToEnd f (entered k))
+      steps : {v : Move ℕ} → f s ≡ v → (ks : List (Step ℕ)) → Walk f s ks e → (v ≡ accept) ⊎ ((k : Step ℕ) × Allows v k × LeadsToEnd f (target_of k))
       steps {v} here [] w = inl (sym here ∙ ap f w ∙ a)
       steps {v} here (k ∷ ks) w = inr (k, subst (λ z. Allows z k) here w.0, (ks, e, w.1, a))
 
@@ -340,8 +340,8 @@ module _ (g : Graph) (range : IsInRange g.start g.nodes g.registers) (alive : Li
       let k = quiet_step (node_moves made t) u i in
       let o = kept_back (HasNumber kept) (λ q. LeadsToEnd (node_moves g.nodes) q → ⊥) (keeps_at s t at) k.1 in
       let place = ord.all s (within s (num.each s t at)) in
-      let lower = ord.falls s (entered o.0) place.0 place.1 (is_quiet o.1 (ap bytes_of (same_symbols o.0 k.0 o.2) ∙ k.3)) in
-      num.rising (entered o.0) s u t lower.0 place.0 (subst (λ z. HasNumber kept (entered o.0) z) k.2 o.3) at lower.2 place.1 lower.1)
+      let lower = ord.falls s (target_of o.0) place.0 place.1 (is_quiet o.1 (ap bytes_of (same_symbols o.0 k.0 o.2) ∙ k.3)) in
+      num.rising (target_of o.0) s u t lower.0 place.0 (subst (λ z. HasNumber kept (target_of o.0) z) k.2 o.3) at lower.2 place.1 lower.1)
       (λ h. absurd (subst (λ z. IsAmong (quiet (move_of z)) u) h.1 i))
       (slice_get_cases made t).1
 

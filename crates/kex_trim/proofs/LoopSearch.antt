@@ -5,7 +5,7 @@ use Rattle.std.proofs.lemmas.List.{length-replicate}
 use Rattle.std.proofs.lemmas.Option.{slice_get_cases, slice_get_within, slice_get-get_or}
 use Rattle.kex_model.proofs.Derivations.{from_accept}
 use Rattle.kex_code.specs.Codes.{bytes_of, IsAmong, Different}
-use Rattle.kex_model.specs.Moves.{quiet, Move, accept, read, choose, forced, go, Side, to_left, to_right, symbol_of, Step, chose, went, Allows, reads, goes_left, goes_right, goes_forced, goes, entered, symbols_of, code_of, Walk}
+use Rattle.kex_model.specs.Moves.{quiet, Move, accept, read, choose, forced, go, Side, to_left, to_right, symbol_of, Step, chose, went, Allows, reads, goes_left, goes_right, goes_forced, goes, target_of, symbols_of, code_of, Walk}
 use Rattle.kex_model.proofs.Walks.{bytes_of-append}
 use Rattle.kex_model.proofs.Loops.{Quiet, quiet_more}
 use Rattle.kex_model.proofs.Counting.{among-append, among_get, different_fits}
@@ -101,7 +101,7 @@ symbol_bytes : (x : Side) → bytes_of (symbol_of x ∷ []) ≡ []
 symbol_bytes to_left = refl
 symbol_bytes to_right = refl
 
-pub quiet_step : {S : Type 0} (v : Move S) (m : S) → IsAmong (quiet v) m → (k : Step S) × Allows v k × (entered k ≡ m) × (bytes_of (symbols_of k) ≡ [])
+pub quiet_step : {S : Type 0} (v : Move S) (m : S) → IsAmong (quiet v) m → (k : Step S) × Allows v k × (target_of k ≡ m) × (bytes_of (symbols_of k) ≡ [])
 quiet_step accept m i = absurd i
 quiet_step (read set t) m i = absurd i
 quiet_step (choose l r) m (inl e) = (chose to_right r, goes_right, e, refl)
@@ -112,7 +112,7 @@ quiet_step (forced x t) m (inr i) = absurd i
 quiet_step (go f t) m (inl e) = (went f t, goes, e, refl)
 quiet_step (go f t) m (inr i) = absurd i
 
-pub is_quiet : {S : Type 0} {v : Move S} {k : Step S} → Allows v k → bytes_of (symbols_of k) ≡ [] → IsAmong (quiet v) (entered k)
+pub is_quiet : {S : Type 0} {v : Move S} {k : Step S} → Allows v k → bytes_of (symbols_of k) ≡ [] → IsAmong (quiet v) (target_of k)
 is_quiet (reads i) e = cc
 is_quiet goes_left e = inr (inl refl)
 is_quiet goes_right e = inl refl
@@ -159,14 +159,14 @@ module _ (nodes : List MNode) where
   walk_stays ns s [] n m i w e = subst (λ z. IsAmong ns z) w i
   walk_stays ns s (k ∷ ks) n m i w e =
       let both = none_left (bytes_of (symbols_of k)) (bytes_of (code_of ks)) (sym (bytes_of-append (symbols_of k) (code_of ks)) ∙ e) in
-      walk_stays ns s ks (entered k) m (stays ns s n (entered k) i (is_quiet w.0 both.0)) w.1 both.1
+      walk_stays ns s ks (target_of k) m (stays ns s n (target_of k) i (is_quiet w.0 both.0)) w.1 both.1
 
   no_loop_from : (ns : List ℕ) → Sorted ns → (n : ℕ) → IsAmong ns n → (k : Step ℕ) (ks : List (Step ℕ)) → Walk f n (k ∷ ks) n → bytes_of (code_of (k ∷ ks)) ≡ [] → ⊥
   no_loop_from [] s n i k ks w e = absurd i
   no_loop_from (x ∷ ns) s n (inl same) k ks w e =
       let both = none_left (bytes_of (symbols_of k)) (bytes_of (code_of ks)) (sym (bytes_of-append (symbols_of k) (code_of ks)) ∙ e) in
-      let next : IsAmong ns (entered k) = s.0 (entered k) (subst (λ z. Leads z (entered k)) (sym same) (is_quiet w.0 both.0)) in
-      s.1 (subst (λ z. IsAmong ns z) (sym same) (walk_stays ns s.2 ks (entered k) n next w.1 both.1))
+      let next : IsAmong ns (target_of k) = s.0 (target_of k) (subst (λ z. Leads z (target_of k)) (sym same) (is_quiet w.0 both.0)) in
+      s.1 (subst (λ z. IsAmong ns z) (sym same) (walk_stays ns s.2 ks (target_of k) n next w.1 both.1))
   no_loop_from (x ∷ ns) s n (inr i) k ks w e = no_loop_from ns s.2 n i k ks w e
 
   -- each task's node is where the node that was opened last before it leads

@@ -34,9 +34,9 @@ pub data Asked : Type 0 where
   ToTry : (lines block : ℕ) (rings : Option ℕ) → Asked
 
 -- the number where it is within the bounds
-abbrev pub bounded : ℕ → ℕ → Option ℕ → Option ℕ
-bounded low high None = None
-bounded low high (Some n) = if nat_le low n && nat_le n high then Some n else None
+abbrev pub number_within : ℕ → ℕ → Option ℕ → Option ℕ
+number_within low high None = None
+number_within low high (Some n) = if nat_le low n && nat_le n high then Some n else None
 
 -- the number that a text within the bounds spells
 abbrev pub number_of : ℕ → ℕ → Text → Option ℕ
@@ -101,7 +101,7 @@ mode_of of_mode.Act = acting
 mode_of of_mode.Test = testing
 
 -- what a command asks for
-abbrev pub asked : Command → Asked
-asked (Stream mode program limits) = ToStream (mode_of mode) program.now (reach_of limits)
-asked (Check program states) = ToCheck program.now states.most
-asked (Trial lines) = ToTry lines.count lines.block (room_of lines.rings)
+abbrev pub asked_by_command : Command → Asked
+asked_by_command (Stream mode program limits) = ToStream (mode_of mode) program.now (reach_of limits)
+asked_by_command (Check program states) = ToCheck program.now states.most
+asked_by_command (Trial lines) = ToTry lines.count lines.block (room_of lines.rings)

@@ -1,7 +1,7 @@
 // What the words of a command line ask for.
 ghost use Rattle.std.specs.Prelude.{◌≡◌, ◌≤◌, ◌^◌, IfSome, IfOk, Some, None, map, string_bytes, IsErrOf, option_map};
 ghost use Rattle.clap.specs.Words.{found_of, rows_of, first_of, subcommand_rows_of};
-ghost use Rattle.kex_words.specs.Words.{asked, asked_in, asked_of, block_in, bounded, lines_in, mode_of, number_at, program_in, reach_in, rings_in, room_of, states_in};
+ghost use Rattle.kex_words.specs.Words.{asked_by_command, asked_in, asked_of, block_in, number_within, lines_in, mode_of, number_at, program_in, reach_in, rings_in, room_of, states_in};
 ghost use Rattle.kex_words.specs.Words.Asked.{ToStream};
 ghost use Rattle.kex_words.specs.declared.asked.WordsRefusal.TheVariants.{Usage};
 
@@ -16,7 +16,7 @@ use std::alloc::Global;
 
 fn bounded(number: Option<u64>, low: u64, high: u64) -> Option<u64>
     ensures within { IfSome result (λ n. (low ≤ n) × (n ≤ high)) }
-    ensures value { result ≡ bounded low high number }
+    ensures value { result ≡ number_within low high number }
 {
     number.filter(|&number| low <= number && number <= high)
 }
@@ -88,7 +88,7 @@ fn lines(matches: &ArgMatches) -> Lines
 }
 
 fn stream<'a>(mode: Mode, matches: &ArgMatches<'a>) -> Command<'a>
-    ensures { asked result ≡ ToStream (mode_of mode) (program_in (rows_of (found_of matches.now))) (reach_in (rows_of (found_of matches.now))) }
+    ensures { asked_by_command result ≡ ToStream (mode_of mode) (program_in (rows_of (found_of matches.now))) (reach_in (rows_of (found_of matches.now))) }
 {
     Command::Stream {
         mode,
@@ -98,7 +98,7 @@ fn stream<'a>(mode: Mode, matches: &ArgMatches<'a>) -> Command<'a>
 }
 
 fn command<'a>(matches: &ArgMatches<'a>) -> Command<'a>
-    ensures { asked result ≡ asked_in (subcommand_rows_of matches.now) }
+    ensures { asked_by_command result ≡ asked_in (subcommand_rows_of matches.now) }
 {
     match matches.subcommand() {
         Some(("check", inner)) => Command::Check {
@@ -122,7 +122,7 @@ fn command<'a>(matches: &ArgMatches<'a>) -> Command<'a>
 ///
 /// Usage comes exactly where the words don't meet the form of the command; want of memory in building or reading it is Memory.
 pub fn read<'a>(alloc: Global, words: &'a [String]) -> Result<Command<'a>, WordsRefusal>
-    ensures asked { IfOk result (λ command. asked_of (map string_bytes words.entry.now) ≡ Some (asked command)) }
+    ensures asked { IfOk result (λ command. asked_of (map string_bytes words.entry.now) ≡ Some (asked_by_command command)) }
     ensures usage { IsErrOf result Usage → asked_of (map string_bytes words.entry.now) ≡ None }
 {
     let Ok(form) = form(alloc) else {

@@ -1,6 +1,6 @@
 use Rattle.std.proofs.Common.{◌≡◌, ◌++◌, take}
-use Rattle.kex_code.specs.Registers.{joined}
+use Rattle.kex_code.specs.Registers.{pieces_text}
 use Rattle.kex_action.proofs.store.join.Given as goal
 
 abbrev pub invariant-loop-piece : goal.invariant-loop-piece
-invariant-loop-piece l = l.into ≡ l.initial.into ++ joined (take l.piece-index l.pieces) l.registers
+invariant-loop-piece l = l.into ≡ l.initial.into ++ pieces_text (take l.piece-index l.pieces) l.registers

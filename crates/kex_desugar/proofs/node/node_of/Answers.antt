@@ -1,5 +1,5 @@
 use Rattle.std.proofs.Common.{◌≡◌, ℕ, [], ◌∷◌, ◌++◌, refl, subst, ap, ◌∙◌}
-use Rattle.kex_model.specs.Moves.{accept, Step, Allows, entered, to_left, to_right, chose, went, goes_left, goes_right, goes, nothing}
+use Rattle.kex_model.specs.Moves.{accept, Step, Allows, target_of, to_left, to_right, chose, went, goes_left, goes_right, goes, nothing}
 use Rattle.kex_model.specs.Places.{Place, moves}
 use Rattle.kex_model.specs.Alike.{Goes, accepts, reads_on, chooses, goes_on}
 use Rattle.kex_machine.specs.Nodes.{effect_of}
@@ -23,7 +23,7 @@ does : (c : In_ok-plan) (plan : Plan) → c.in_ok-plan.plan ≡ plan → (q : Pl
 does c plan e q = c.in_ok-plan.ensures q ∙ ap (λ z. plan_move z q) e
 
 -- where the plan leads is a place
-leads : (c : In_ok-plan) (plan : Plan) (way : Way) (root : ℕ) → c.in_ok-plan.plan ≡ plan → ((q : Place) → (k : Step Place) × Allows (plan_move plan q) k × (entered k ≡ frames way ++ q)) → IsReal c.args.program.now root c.args.spots.now.keys c.args.spot → IsOnPlace c.args.program.now root c.args.spots.now.keys way c.in-On.rest
+leads : (c : In_ok-plan) (plan : Plan) (way : Way) (root : ℕ) → c.in_ok-plan.plan ≡ plan → ((q : Place) → (k : Step Place) × Allows (plan_move plan q) k × (target_of k ≡ frames way ++ q)) → IsReal c.args.program.now root c.args.spots.now.keys c.args.spot → IsOnPlace c.args.program.now root c.args.spots.now.keys way c.in-On.rest
 leads c plan way root e step here = on_place c.args.program.now root c.args.spots.now.keys c.in-On.frame c.in-On.rest plan way (real c root here) (does c plan e) step
 
 pub returns-in_default-clause-node : goal.returns-in_default-clause-node

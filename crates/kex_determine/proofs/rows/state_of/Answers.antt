@@ -2,8 +2,8 @@ use Rattle.std.proofs.Common.{◌≡◌, ℕ, ◌^◌, ◌≤◌, List, Some, le
 use Rattle.std.specs.Prelude.{slice_get}
 use Rattle.kex_model.specs.Labelled.{Shape, size_of}
 use Rattle.kex_machine.specs.Nodes.{node_moves}
-use Rattle.kex_machine.specs.Advancing.{accepting, EachPlace}
-use Rattle.kex_sst.specs.Parts.{numbered}
+use Rattle.kex_machine.specs.Advancing.{first_accepting, EachPlace}
+use Rattle.kex_sst.specs.Parts.{numbered_tree}
 use Rattle.kex_paths.specs.Nexts.{inner_of, places_of}
 use Rattle.kex_determine.specs.Rows.{way_to}
 use Rattle.kex_determine.specs.Numbering.{IsMet, AreNumbered, AreTransitions, IsStateWith}
@@ -71,7 +71,7 @@ returns-clause-ok c = λ xs s n at.
         row_of = record {
           registers = omega (arith, long top xs s n at, size_above s);
           long = q.1.long;
-          ends = subst (λ z. c.in_ok-accepting.accepting ≡ way_to (accepting (node_moves z) (numbered 0 s))) c.nodes.ensures.same (c.in_ok-accepting.ensures s (inner top xs s n at) (places top xs s n at) (below top xs s n at));
+          ends = subst (λ z. c.in_ok-accepting.accepting ≡ way_to (first_accepting (node_moves z) (numbered_tree 0 s))) c.nodes.ensures.same (c.in_ok-accepting.ensures s (inner top xs s n at) (places top xs s n at) (below top xs s n at));
           does = λ b lt. q.1.do_on b lt (class_below c.args.partition.now c.requires.classes.refined.numbered b lt);
         };
         order = q.1.order;

@@ -1,6 +1,6 @@
 use Rattle.std.proofs.Common.{◌∙◌, ◌++◌, ◌-◌, length, take, drop, sym, ap}
 use Rattle.std.proofs.lemmas.List.{take_rest, take-append-drop}
-use Rattle.kex_action.specs.Actions.{done}
+use Rattle.kex_action.specs.Actions.{after_actions}
 use Rattle.kex_action.specs.Sheets.{state_with}
 use Rattle.kex_action.proofs.Acting.{done-append}
 use Rattle.kex_action.proofs.Sheeting.{blank_state}
@@ -18,7 +18,7 @@ returns-in_ok-act_rest-clause-did c =
     let z = state_with c.args.sheet.now out c.args.actor.now.holding in
     blank_state c.act_rest.new.sheet c.act_rest.new.out.items c.act_rest.new.actor.holding then.none
     ∙ then.did
-    ∙ ap (λ g. done g.nodes c.args.byte rest (state_with c.act_on.new.sheet out c.act_on.new.self.holding)) first.same.0
-    ∙ ap (done nodes c.args.byte rest) (first.did out)
+    ∙ ap (λ g. after_actions g.nodes c.args.byte rest (state_with c.act_on.new.sheet out c.act_on.new.self.holding)) first.same.0
+    ∙ ap (after_actions nodes c.args.byte rest) (first.did out)
     ∙ sym (done-append nodes c.args.byte (take n actions) rest z)
-    ∙ ap (λ l. done nodes c.args.byte l z) (ap (λ l. take n actions ++ l) (take_rest actions n) ∙ take-append-drop n actions ∙ c.acts_of-actions.ensures)
+    ∙ ap (λ l. after_actions nodes c.args.byte l z) (ap (λ l. take n actions ++ l) (take_rest actions n) ∙ take-append-drop n actions ∙ c.acts_of-actions.ensures)

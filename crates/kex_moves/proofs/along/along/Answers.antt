@@ -3,7 +3,7 @@ use Rattle.std.specs.Vec.{with_items}
 use Rattle.std.proofs.lemmas.List.{with_items_is}
 use Rattle.kex_action.specs.declared.sheet.Sheet.{Sheet}
 use Rattle.kex_action.proofs.Sheeting.{marks_more}
-use Rattle.kex_moves.specs.Runs.{Stop, behind, run_of}
+use Rattle.kex_moves.specs.Runs.{Stop, stop_behind, run_of}
 use Rattle.kex_moves.specs.Known.{rows_of}
 use Rattle.kex_moves.proofs.Carrying.{reached_run, longer, stop_at}
 use Rattle.kex_moves.proofs.along.along.Goals as goal
@@ -15,7 +15,7 @@ returns-clause-sheet c =
     let spot = c.run-spot.result in
     let stop = run_of (rows_of c.args.edges.now) c.args.row c.args.piece.now in
     let same = with_items_is old.bytes buffer (omega (arith, c.run-spot.auto.buffer, ap length c.deref_mut.ensures.value, old.bytes.ok.0)) in
-    let ran = ap (λ (z : Stop). z.written) c.run-spot.ensures.ran ∙ ap (λ b. (behind (take old.used b) stop).written) c.deref_mut.ensures.value in
+    let ran = ap (λ (z : Stop). z.written) c.run-spot.ensures.ran ∙ ap (λ b. (stop_behind (take old.used b) stop).written) c.deref_mut.ensures.value in
     let more = longer old.used spot.used old.bytes.items buffer stop.written c.requires.sheet.used c.run-spot.ensures.used ran in (
       record {
         used = subst (λ b. spot.used ≤ length b) (sym same) c.run-spot.ensures.used;
@@ -32,4 +32,4 @@ returns-clause-reached c = λ t a out known.
     let new : Sheet = record { bytes = with_items old.bytes buffer; used = spot.used; marks = old.marks } in
     let stop = run_of (rows_of c.args.edges.now) c.args.row c.args.piece.now in
     let same = with_items_is old.bytes buffer (omega (arith, c.run-spot.auto.buffer, ap length c.deref_mut.ensures.value, old.bytes.ok.0)) in
-    reached_run t c.args.edges.now a old new c.args.row spot.row spot.at c.args.piece.now out known (λ i. omega (arith, c.type_inv.piece i)) c.requires.sheet refl (ap (λ b. stop_at (take spot.used b) spot.row (drop spot.at c.args.piece.now)) same ∙ c.run-spot.ensures.ran ∙ ap (λ b. behind (take old.used b) stop) c.deref_mut.ensures.value)
+    reached_run t c.args.edges.now a old new c.args.row spot.row spot.at c.args.piece.now out known (λ i. omega (arith, c.type_inv.piece i)) c.requires.sheet refl (ap (λ b. stop_at (take spot.used b) spot.row (drop spot.at c.args.piece.now)) same ∙ c.run-spot.ensures.ran ∙ ap (λ b. stop_behind (take old.used b) stop) c.deref_mut.ensures.value)

@@ -3,7 +3,7 @@ use Rattle.std.specs.Vec.{with_item}
 use Rattle.std.proofs.Math.ListN.{length-set}
 use Rattle.std.proofs.lemmas.List.{take_more_set}
 use Rattle.kex_action.specs.declared.sheet.Sheet.{Sheet}
-use Rattle.kex_action.specs.Holdings.{adding}
+use Rattle.kex_action.specs.Holdings.{with_bytes}
 use Rattle.kex_action.proofs.Sheeting.{marks_more, opened, opened_sheet, wrote}
 use Rattle.kex_moves.proofs.along.open.Goals as goal
 
@@ -15,7 +15,7 @@ returns-clause-opened c = λ out h.
     let new : Sheet = record { bytes = with_item s.bytes s.used b; used = s.used + 1; marks = c.push.new.self } in
     let marks = (c.in_ok-push.ensures {u = tt}).items in
     let sheet = opened_sheet s mid c.requires.sheet marks refl refl in
-    wrote mid new (b ∷ []) out h sheet (record { used = take_more_set s.bytes.items s.used b c.requires.room; marks = refl }) ∙ ap (adding (b ∷ [])) (opened s mid out h c.requires.sheet marks refl refl)
+    wrote mid new (b ∷ []) out h sheet (record { used = take_more_set s.bytes.items s.used b c.requires.room; marks = refl }) ∙ ap (with_bytes (b ∷ [])) (opened s mid out h c.requires.sheet marks refl refl)
 
 pub returns-clause-sheet : goal.returns-clause-sheet
 returns-clause-sheet c =

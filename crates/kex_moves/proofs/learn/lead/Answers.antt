@@ -1,5 +1,5 @@
 use Rattle.std.proofs.Common.{IfSome, subst}
-use Rattle.kex_action.specs.Actions.{done}
+use Rattle.kex_action.specs.Actions.{after_actions}
 use Rattle.kex_moves.specs.Known.{HasRowFor, Settles}
 use Rattle.kex_moves.proofs.Knowing.{known_wider, known_longer, grows_wider, grows_longer, led}
 use Rattle.kex_moves.proofs.learn.lead.Goals as goal
@@ -28,4 +28,4 @@ returns-clause-led c =
     let new = c.settle.new.edges in
     let l = c.in_ok-edge.ensures {u = tt} in
     let row = subst (λ o. IfSome o (λ row. HasRowFor mid row c.args.state c.args.learnt.now.to)) c.in-Some.is (c.in_ok-row.ensures {u = tt}).row in
-    led c.args.machine.now.nodes mid new c.args.state c.args.learnt.now.to c.in-Some.row c.args.learnt.now.actions.items c.in_ok-edge.edge l.ordered row l.longer (subst (λ actions. Settles c.args.machine.now.nodes new c.in-Some.row (λ b. done c.args.machine.now.nodes b actions) c.in_ok-edge.edge) c.deref.ensures.value l.settles)
+    led c.args.machine.now.nodes mid new c.args.state c.args.learnt.now.to c.in-Some.row c.args.learnt.now.actions.items c.in_ok-edge.edge l.ordered row l.longer (subst (λ actions. Settles c.args.machine.now.nodes new c.in-Some.row (λ b. after_actions c.args.machine.now.nodes b actions) c.in_ok-edge.edge) c.deref.ensures.value l.settles)

@@ -1,5 +1,5 @@
 use Rattle.std.proofs.Common.{sym, subst, arith}
-use Rattle.kex_action.specs.Actions.{done_at}
+use Rattle.kex_action.specs.Actions.{after_action}
 use Rattle.kex_moves.specs.Drafts.{IsTurn, Keeps}
 use Rattle.kex_moves.proofs.Keeping.{keeps_more, keeps_opened, keeps_written}
 use Rattle.kex_moves.proofs.settle.keep.Goals as goal
@@ -11,7 +11,7 @@ returns c = λ b s z h.
     let old = c.args.kept.now.items in
     let new = c.push.new.self.items in
     let a = c.args.action in
-    let z' = done_at nodes b a z in
+    let z' = after_action nodes b a z in
     let pushed = (c.in_ok-push.ensures {u = tt}).items in
     let none = keeps_more nodes old new c.args.place a b s z pushed h in
     elim c.match-turn_of.branch [

@@ -2,7 +2,7 @@ use Rattle.std.proofs.Common.{◌∙◌, ◌++◌, [], get_or, take, sym, ap, ap
 use Rattle.std.proofs.lemmas.List.{take_more}
 use Rattle.kex_code.specs.declared.symbol.Symbol.TheVariants.{L}
 use Rattle.kex_sst.specs.declared.parts.Part.TheVariants.{Put}
-use Rattle.kex_sst.specs.Parts.{value, meant}
+use Rattle.kex_sst.specs.Parts.{value, parts_code}
 use Rattle.kex_moves.proofs.Speaking.{meant_more}
 use Rattle.kex_moves.proofs.spell.spell.Goals as goal
 
@@ -16,5 +16,5 @@ loop-part-preserved c =
     let old = c.args.symbols.now.items in
     c.in_ok-push_part.ensures {u = tt}
     ∙ ap (λ l. l ++ value [] b part) c.loop-part.invariant
-    ∙ append_assoc old (meant [] b front) (value [] b part)
-    ∙ ap (λ l. old ++ l) (sym (meant_more b front part) ∙ ap (meant [] b) (sym (take_more parts i (Put L) c.loop-part-test.true)))
+    ∙ append_assoc old (parts_code [] b front) (value [] b part)
+    ∙ ap (λ l. old ++ l) (sym (meant_more b front part) ∙ ap (parts_code [] b) (sym (take_more parts i (Put L) c.loop-part-test.true)))

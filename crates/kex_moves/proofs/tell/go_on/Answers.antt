@@ -1,6 +1,6 @@
 use Rattle.std.proofs.Common.{◌≡◌, ◌∙◌, ◌++◌, ◌∷◌, [], ◌≤◌, ◌<◌, length, get_or, take, sym, ap, subst, arith, length-take}
 use Rattle.std.proofs.lemmas.List.{take-take}
-use Rattle.kex_script.specs.Pieces.{spelled}
+use Rattle.kex_script.specs.Pieces.{code_over}
 use Rattle.kex_moves.specs.Known.{IsKnown}
 use Rattle.kex_moves.specs.Speech.{table_of, SaidOn}
 use Rattle.kex_moves.proofs.Going.{one_more}
@@ -28,8 +28,8 @@ returns-then-count-pieces-clause-said c = λ words known.
     let few : count ≤ 4096 = omega (arith, c.along-place.ensures.within, c.part_of.ensures.few) in
     let same : take count part ≡ take count c.args.pieces.now = ap (take count) c.part_of.ensures.front ∙ take-take count 4096 c.args.pieces.now few in
     let along = c.along-place.ensures.said words mid x1 (subst (λ m. IsKnown (table_of words) m k) (sym made.machine) known) in
-    let run = said_from k old mid mid c.args.sheet.now c.make_room.new.sheet c.along-place.new.sheet c.args.row c.along-place.result.row (spelled words (take count part)) x0 x1 x1 made.same along in
-    subst (λ l. SaidOn k old mid c.args.sheet.now c.along-place.new.sheet c.args.row c.along-place.result.row (spelled words l) x0 x1) same run
+    let run = said_from k old mid mid c.args.sheet.now c.make_room.new.sheet c.along-place.new.sheet c.args.row c.along-place.result.row (code_over words (take count part)) x0 x1 x1 made.same along in
+    subst (λ l. SaidOn k old mid c.args.sheet.now c.along-place.new.sheet c.args.row c.along-place.result.row (code_over words l) x0 x1) same run
 
 pub returns-clause-said : goal.returns-clause-said
 returns-clause-said c = λ words known.
@@ -52,9 +52,9 @@ returns-clause-said c = λ words known.
     let same : take count part ≡ take count pieces = ap (take count) c.part_of.ensures.front ∙ take-take count 4096 pieces few in
     let within : length part ≤ length pieces = omega (arith, ap length c.part_of.ensures.front, length-take 4096 pieces) in
     let lt : count < length pieces = omega (arith, within, c.along-place.ensures.within, c.if-count-pieces.false) in
-    let run = said_from k old mid mid c.args.sheet.now c.make_room.new.sheet c.along-place.new.sheet c.args.row c.along-place.result.row (spelled words (take count part)) x0 x1 x1 made.same (c.along-place.ensures.said words mid x1 here) in
-    let all = said_more k old mid new c.args.sheet.now c.along-place.new.sheet c.act_next.new.sheet c.args.row c.along-place.result.row c.in_ok-last.last.row (spelled words (take count part)) (spelled words next) x0 x1 y made.machine run (last.said words here) in
-    let whole = sym (spelled_more words (take count part) next) ∙ ap (spelled words) (ap (λ l. l ++ next) same ∙ one_more pieces no_piece count one lt last.within) in
+    let run = said_from k old mid mid c.args.sheet.now c.make_room.new.sheet c.along-place.new.sheet c.args.row c.along-place.result.row (code_over words (take count part)) x0 x1 x1 made.same (c.along-place.ensures.said words mid x1 here) in
+    let all = said_more k old mid new c.args.sheet.now c.along-place.new.sheet c.act_next.new.sheet c.args.row c.along-place.result.row c.in_ok-last.last.row (code_over words (take count part)) (code_over words next) x0 x1 y made.machine run (last.said words here) in
+    let whole = sym (spelled_more words (take count part) next) ∙ ap (code_over words) (ap (λ l. l ++ next) same ∙ one_more pieces no_piece count one lt last.within) in
     subst (λ d. SaidOn k old new c.args.sheet.now c.act_next.new.sheet c.args.row c.in_ok-last.last.row d x0 y) whole all
 
 pub bounds-pieces-count : goal.bounds-pieces-count

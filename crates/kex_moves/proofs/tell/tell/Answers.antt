@@ -1,6 +1,6 @@
 use Rattle.std.proofs.Common.{◌≡◌, ◌∙◌, ◌++◌, ◌∷◌, [], ◌+◌, ◌-◌, length, get_or, take, drop, refl, sym, ap, subst, arith, append-nil, length-take, length-drop}
 use Rattle.std.proofs.lemmas.List.{take_more, take_all}
-use Rattle.kex_script.specs.Pieces.{word_of, spelled}
+use Rattle.kex_script.specs.Pieces.{word_of, code_over}
 use Rattle.kex_moves.specs.Speech.{Performs}
 use Rattle.kex_moves.proofs.Going.{part_more}
 use Rattle.kex_moves.proofs.Trailing.{no_piece}
@@ -17,8 +17,8 @@ pieces-preserved c =
     let old = c.pieces.invariant in
     let e = c.in_ok-at.ensures {u = tt} in
     let count = c.in_ok-at.field-0 in
-    let whole = sym (spelled_more words (take at pieces) (take count part)) ∙ ap (spelled words) (part_more pieces part at n count refl e.within) in
-    let all = performs_more c.args.actor.now c.pieces.actor c.tell_some.new.actor (spelled words (take at pieces)) (spelled words (take count part)) c.args.out.now.items c.pieces.out.items c.tell_some.new.out.items (old.machine ∙ sym c.requires.machine) old.performs e.performs in
+    let whole = sym (spelled_more words (take at pieces) (take count part)) ∙ ap (code_over words) (part_more pieces part at n count refl e.within) in
+    let all = performs_more c.args.actor.now c.pieces.actor c.tell_some.new.actor (code_over words (take at pieces)) (code_over words (take count part)) c.args.out.now.items c.pieces.out.items c.tell_some.new.out.items (old.machine ∙ sym c.requires.machine) old.performs e.performs in
     record {
       at = omega (arith, e.within, length-take n (drop at pieces), length-drop at pieces, old.at);
       machine = e.machine ∙ old.machine;
@@ -44,15 +44,15 @@ pieces-preserved-then-at-pieces c =
     let next = get_or pieces here no_piece in
     let y = c.tell_some.new.out.items in
     let z = c.take_word.new.out.items in
-    let some = performs_more c.args.actor.now c.pieces.actor c.tell_some.new.actor (spelled words (take at pieces)) (spelled words (take count part)) c.args.out.now.items c.pieces.out.items y (old.machine ∙ sym c.requires.machine) old.performs e.performs in
+    let some = performs_more c.args.actor.now c.pieces.actor c.tell_some.new.actor (code_over words (take at pieces)) (code_over words (take count part)) c.args.out.now.items c.pieces.out.items y (old.machine ∙ sym c.requires.machine) old.performs e.performs in
     let one = performs_took c.tell_some.new.actor c.take_word.new.actor (word_of words next) y z took.took in
     let machine = e.machine ∙ old.machine ∙ sym c.requires.machine in
-    let all = performs_more c.args.actor.now c.tell_some.new.actor c.take_word.new.actor (spelled words (take at pieces) ++ spelled words (take count part)) (word_of words next) c.args.out.now.items y z machine some one in
-    let front = sym (spelled_more words (take at pieces) (take count part)) ∙ ap (spelled words) (part_more pieces part at n count refl e.within) in
+    let all = performs_more c.args.actor.now c.tell_some.new.actor c.take_word.new.actor (code_over words (take at pieces) ++ code_over words (take count part)) (word_of words next) c.args.out.now.items y z machine some one in
+    let front = sym (spelled_more words (take at pieces) (take count part)) ∙ ap (code_over words) (part_more pieces part at n count refl e.within) in
     let whole = ap (λ l. l ++ word_of words next) front
-    ∙ ap (λ l. spelled words (take here pieces) ++ l) (sym (append-nil (word_of words next)))
+    ∙ ap (λ l. code_over words (take here pieces) ++ l) (sym (append-nil (word_of words next)))
     ∙ sym (spelled_more words (take here pieces) (next ∷ []))
-    ∙ ap (spelled words) (sym (take_more pieces here no_piece c.if-at-pieces.true)) in
+    ∙ ap (code_over words) (sym (take_more pieces here no_piece c.if-at-pieces.true)) in
     record {
       at = omega (arith, c.if-at-pieces.true);
       machine = took.machine ∙ e.machine ∙ old.machine;
@@ -67,4 +67,4 @@ pub returns-clause-performs : goal.returns-clause-performs
 returns-clause-performs c =
     let pieces = c.args.pieces.now in
     let all : take c.pieces.at pieces ≡ pieces = take_all c.pieces.at pieces (omega (arith, c.pieces-test.false)) in
-    subst (λ ps. Performs c.args.actor.now c.pieces.actor (spelled c.args.words.now ps) c.args.out.now.items c.pieces.out.items) all c.pieces.invariant.performs
+    subst (λ ps. Performs c.args.actor.now c.pieces.actor (code_over c.args.words.now ps) c.args.out.now.items c.pieces.out.items) all c.pieces.invariant.performs

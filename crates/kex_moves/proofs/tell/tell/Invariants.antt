@@ -1,6 +1,6 @@
 use Rattle.std.proofs.Common.{◌≡◌, ◌≤◌, ◌-◌, IsTrue, length, take}
 use Rattle.kex_action.specs.Sheets.{IsBlank}
-use Rattle.kex_script.specs.Pieces.{spelled}
+use Rattle.kex_script.specs.Pieces.{code_over}
 use Rattle.kex_moves.specs.Known.{IsKnown}
 use Rattle.kex_moves.specs.Speech.{table_of, Performs}
 use Rattle.kex_moves.proofs.tell.tell.Given as goal
@@ -13,7 +13,7 @@ invariant-pieces l = record {
   known : IsKnown (table_of l.words) l.machine l.edges;
   blank : IsBlank l.sheet;
   room : length l.sheet.bytes.items ≡ 86033;
-  performs : Performs l.fn.actor l.actor (spelled l.words (take l.at l.pieces)) l.fn.out.items l.out.items;
+  performs : Performs l.fn.actor l.actor (code_over l.words (take l.at l.pieces)) l.fn.out.items l.out.items;
 }
 
 abbrev pub decreases-pieces : goal.decreases-pieces

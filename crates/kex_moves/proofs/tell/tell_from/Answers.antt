@@ -1,5 +1,5 @@
 use Rattle.std.proofs.Common.{◌∙◌, ◌-◌, ◌<◌, length, take, drop, refl, sym, ap, subst, arith, length-take, length-drop}
-use Rattle.kex_script.specs.Pieces.{spelled}
+use Rattle.kex_script.specs.Pieces.{code_over}
 use Rattle.kex_moves.specs.Known.{IsKnown}
 use Rattle.kex_moves.specs.Speech.{table_of, SaidOn}
 use Rattle.kex_moves.proofs.Knowing.{pair_known}
@@ -39,8 +39,8 @@ rounds-preserved c =
       room = e.sheet.1 ∙ old.room;
       said = λ words known.
           let next = e.said words (subst (λ m. IsKnown (table_of words) m k) (sym old.machine) known) in
-          let all = said_more k c.args.actor.now c.rounds.actor c.go_on.new.actor c.args.sheet.now c.rounds.sheet c.go_on.new.sheet c.args.from c.rounds.row gone.row (spelled words (take at pieces)) (spelled words (take gone.count part)) c.args.out.now.items c.rounds.out.items c.go_on.new.out.items old.machine (old.said words known) next in
-          let whole = sym (spelled_more words (take at pieces) (take gone.count part)) ∙ ap (spelled words) (part_more pieces part at n gone.count refl e.within) in
+          let all = said_more k c.args.actor.now c.rounds.actor c.go_on.new.actor c.args.sheet.now c.rounds.sheet c.go_on.new.sheet c.args.from c.rounds.row gone.row (code_over words (take at pieces)) (code_over words (take gone.count part)) c.args.out.now.items c.rounds.out.items c.go_on.new.out.items old.machine (old.said words known) next in
+          let whole = sym (spelled_more words (take at pieces) (take gone.count part)) ∙ ap (code_over words) (part_more pieces part at n gone.count refl e.within) in
           subst (λ d. SaidOn k c.args.actor.now c.go_on.new.actor c.args.sheet.now c.go_on.new.sheet c.args.from gone.row d c.args.out.now.items c.go_on.new.out.items) whole all;
     }
 
@@ -54,4 +54,4 @@ pub returns-clause-row : goal.returns-clause-row
 returns-clause-row c = let r = c.rounds.invariant.said c.requires.known.0 c.requires.known.1 c.requires.row.0 c.requires.row.1 in (r.to, r.row_of)
 
 pub returns-clause-performs : goal.returns-clause-performs
-returns-clause-performs c = λ words known. told c.args.edges.now c.args.actor.now c.rounds.actor c.arrive.new.actor c.args.sheet.now c.rounds.sheet c.args.from c.rounds.row c.in_ok-_state._state (spelled words (take c.rounds.at c.args.pieces.now)) c.args.out.now.items c.rounds.out.items c.arrive.new.out.items c.requires.none c.requires.usable (c.rounds.invariant.said words known) (c.in_ok-_state.ensures {u = tt}).arrives c.requires.row.0 c.requires.row.1 c.requires.row.2
+returns-clause-performs c = λ words known. told c.args.edges.now c.args.actor.now c.rounds.actor c.arrive.new.actor c.args.sheet.now c.rounds.sheet c.args.from c.rounds.row c.in_ok-_state._state (code_over words (take c.rounds.at c.args.pieces.now)) c.args.out.now.items c.rounds.out.items c.arrive.new.out.items c.requires.none c.requires.usable (c.rounds.invariant.said words known) (c.in_ok-_state.ensures {u = tt}).arrives c.requires.row.0 c.requires.row.1 c.requires.row.2

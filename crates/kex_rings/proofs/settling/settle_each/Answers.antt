@@ -1,6 +1,6 @@
 use Rattle.std.proofs.Common.{rules, ◌≡◌, ◌<◌, ◌++◌, ◌∷◌, ◌∙◌, [], length, refl, sym, ap, subst, append_assoc, arith}
 use Rattle.std.specs.Prelude.{IsTrue}
-use Rattle.kex_pipe.specs.Waiting.{waiting}
+use Rattle.kex_pipe.specs.Waiting.{waiting_items}
 use Rattle.kex_pipe.proofs.Stops.{of-next, no-more}
 use Rattle.kex_rings.specs.Settling.{SettlesAll, AllSeatsUsable}
 use Rattle.kex_rings.proofs.Joins.{all-both, all-one}
@@ -13,7 +13,7 @@ loop-seat-init g c =
     record {
       seats = search rules;
       usable = λ k d lt. absurd (omega (arith, lt, ap length none));
-      settles = subst (λ z. SettlesAll g.T.Turn [] z (waiting c.args.carried.now) (waiting c.args.carried.now)) (sym none) refl;
+      settles = subst (λ z. SettlesAll g.T.Turn [] z (waiting_items c.args.carried.now) (waiting_items c.args.carried.now)) (sym none) refl;
     }
 
 pub settle_one-requires : goal.settle_one-requires
@@ -30,12 +30,12 @@ loop-seat-preserved g c =
     record {
       seats = l.invariant.seats ∙ ap (λ z. l.yielded ++ z) c.in-Some.ensures.steps.0 ∙ sym (append_assoc l.yielded (seat ∷ []) c.next.new.self.rest.items);
       usable = subst (λ z. AllSeatsUsable t z) (sym items) (all-both (λ s. IsTrue s.usable) l.settled.items _ l.invariant.usable (all-one (λ s. IsTrue s.usable) _ c.in_ok-after.ensures.usable));
-      settles = subst (λ z. SettlesAll t (l.yielded ++ seat ∷ []) z (waiting c.args.carried.now) (waiting c.settle_one.new.carried)) (sym items)
-          (settles-more t l.yielded l.settled.items seat c.in_ok-after.after (waiting c.args.carried.now) (waiting l.carried) (waiting c.settle_one.new.carried) l.invariant.settles c.in_ok-after.ensures.settles);
+      settles = subst (λ z. SettlesAll t (l.yielded ++ seat ∷ []) z (waiting_items c.args.carried.now) (waiting_items c.settle_one.new.carried)) (sym items)
+          (settles-more t l.yielded l.settled.items seat c.in_ok-after.after (waiting_items c.args.carried.now) (waiting_items l.carried) (waiting_items c.settle_one.new.carried) l.invariant.settles c.in_ok-after.ensures.settles);
     }
 
 pub returns-clause-settles : goal.returns-clause-settles
 returns-clause-settles g c =
     let l = c.loop-seat in
     let all = no-more c.args.seats.items l.yielded l.seat-iterator.rest.items l.invariant.seats (omega (arith, c.in-None.ensures.steps.0, l.seat-iterator.rest.ok.0)) in
-    subst (λ z. SettlesAll g.T.Turn z l.settled.items (waiting c.args.carried.now) (waiting l.carried)) (sym all) l.invariant.settles
+    subst (λ z. SettlesAll g.T.Turn z l.settled.items (waiting_items c.args.carried.now) (waiting_items l.carried)) (sym all) l.invariant.settles

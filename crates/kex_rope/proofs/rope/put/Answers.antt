@@ -4,7 +4,7 @@ use Rattle.std.specs.Prelude.{Result, OnErr, ◌⊎◌}
 use Rattle.std.specs.Global.{Vec}
 use Rattle.kex_code.specs.declared.symbol.Symbol.{Symbol}
 use Rattle.kex_code.specs.declared.memory.Memory.{Memory}
-use Rattle.kex_rope.specs.Blocks.{joined, AreFilled, AreBlocks}
+use Rattle.kex_rope.specs.Blocks.{symbols_in, AreFilled, AreBlocks}
 use Rattle.kex_rope.proofs.Blocking.{joined-set_last, joined-push, block_within, filled_blocks, filled-append, filled-set}
 use Rattle.kex_rope.proofs.rope.put.Goals as goal
 use Rattle.kex_rope.proofs.rope.put.Goals.{in-Some+else-len-lt-BLOCK, in_default}
@@ -33,7 +33,7 @@ on_err (Err e) p = p
 pub returns-in_err-push-clause-kept : goal.returns-in_err-push-clause-kept
 returns-in_err-push-clause-kept c =
     let some : 0 < length c.args.blocks.now = c.in-Some.ensures.variant.0 refl in
-    let same = joined-set_last c.args.blocks.now (length c.args.blocks.now - 1) c.push.new.self c.in-Some.last.now [] (omega arith) (c.in_err-push.ensures.items ∙ ap (λ z. z.items) c.in-Some.ensures.value ∙ sym (append-nil _)) ∙ append-nil (joined c.args.blocks.now) in
+    let same = joined-set_last c.args.blocks.now (length c.args.blocks.now - 1) c.push.new.self c.in-Some.last.now [] (omega arith) (c.in_err-push.ensures.items ∙ ap (λ z. z.items) c.in-Some.ensures.value ∙ sym (append-nil _)) ∙ append-nil (symbols_in c.args.blocks.now) in
     on_err c.from_residual.result same
 
 pub returns-in_err-push-clause-still : goal.returns-in_err-push-clause-still
@@ -60,14 +60,14 @@ same_blocks c =
 
 pub returns-clause-added : goal.returns-clause-added
 returns-clause-added c =
-    ap joined c.in_ok-push_back.ensures.items ∙ joined-push c.match-back_mut.blocks c.push-2.new.self c.args.symbol (c.in_ok-push-2.ensures.items ∙ ap (λ z. z ++ c.args.symbol ∷ []) c.in_ok-block.ensures.items) ∙ ap (λ z. joined z ++ c.args.symbol ∷ []) (same_blocks c)
+    ap symbols_in c.in_ok-push_back.ensures.items ∙ joined-push c.match-back_mut.blocks c.push-2.new.self c.args.symbol (c.in_ok-push-2.ensures.items ∙ ap (λ z. z ++ c.args.symbol ∷ []) c.in_ok-block.ensures.items) ∙ ap (λ z. symbols_in z ++ c.args.symbol ∷ []) (same_blocks c)
 
 none_there : (n : ℕ) → (0 < n → false ≡ true) → n ≡ 0
 none_there zero h = refl
 none_there (suc n) h = let e : false ≡ true = h (omega arith) in absurd (cc)
 
 -- where there is a last block, it is full
-full_blocks : (c : goal.In_ok-push_back) → AreBlocks c.args.blocks.now (length (joined c.args.blocks.now)) → AreFilled c.args.blocks.now
+full_blocks : (c : goal.In_ok-push_back) → AreBlocks c.args.blocks.now (length (symbols_in c.args.blocks.now)) → AreFilled c.args.blocks.now
 full_blocks c h =
     elim c.match-back_mut.branch [
       | in-Some+else-len-lt-BLOCK w ↦

@@ -4,7 +4,7 @@ use Rattle.std.specs.List.{range_with_len}
 use Rattle.std.proofs.lemmas.List.{with_items_is}
 use Rattle.kex_pipe.specs.Rounds.{Each, Works, LeftBy, Worked, those}
 use Rattle.kex_pipe.specs.Standing.{Own, is_spent}
-use Rattle.kex_pipe.specs.Waiting.{unread}
+use Rattle.kex_pipe.specs.Waiting.{unread_bytes}
 use Rattle.kex_pipe.specs.declared.pipe.PipeFault.{PipeFault}
 use Rattle.kex_pipe.proofs.Lines.{on-ok}
 use Rattle.kex_rounds.specs.Working.{AllUsable}
@@ -93,7 +93,7 @@ returns-in-Err-clause-hand g c =
     let items = with_items_is c.begin_round-seats.result c.work_all-worked.new.seats (omega (arith, c.work_all-worked.auto.seats, c.as_mut_slice.ensures.len)) in
     let failed : is_ok c.work_all-worked.result ≡ false = ap is_ok c.in-Err.is in
     let fault = c.end_round-ended.ensures.spent.1 (inr (λ all. c.work_all-worked.ensures.spent failed (subst (λ z. AllUsable t z) items all))) in
-    on-err-is c.end_round-ended.result PipeFault.Spent fault c.end_round-ended.ensures.hand ∙ ap unread c.begin_round-seats.ensures.opens.same_output
+    on-err-is c.end_round-ended.result PipeFault.Spent fault c.end_round-ended.ensures.hand ∙ ap unread_bytes c.begin_round-seats.ensures.opens.same_output
 
 pub returns-in-Err-clause-spent : goal.returns-in-Err-clause-spent
 returns-in-Err-clause-spent g c = (

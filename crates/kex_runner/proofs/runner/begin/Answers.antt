@@ -1,9 +1,9 @@
 use Rattle.std.proofs.Common.{◌≡◌, ◌++◌, sym, ap, ap₂, subst, ◌∙◌}
-use Rattle.kex_sst.specs.Parts.{meant}
-use Rattle.kex_sst.specs.Passes.{begun}
-use Rattle.kex_script.specs.Pieces.{spelled}
+use Rattle.kex_sst.specs.Parts.{parts_code}
+use Rattle.kex_sst.specs.Passes.{first_pass}
+use Rattle.kex_script.specs.Pieces.{code_over}
 use Rattle.kex_script.specs.Scripts.{HasUpdate, change_at}
-use Rattle.kex_runner.specs.Noting.{held, next_registers}
+use Rattle.kex_runner.specs.Noting.{contents, next_registers}
 use Rattle.kex_runner.specs.Following.{IsPlace}
 use Rattle.kex_runner.proofs.Going.{place_begun}
 use Rattle.kex_runner.proofs.Stepping.{begins, registers_begun}
@@ -15,11 +15,11 @@ take-requires-clause-entry c =
     let s = c.args.script.now in
     subst (λ z. HasUpdate s z z.target (change_at s z.lists)) (sym c.initial.ensures) (begins s c.args.table.now c.requires.script)
 
-begun_registers : (c : In_ok-take) → held c.args.script.now c.take.new.self ≡ (begun c.args.table.now.initial).registers
+begun_registers : (c : In_ok-take) → contents c.args.script.now c.take.new.self ≡ (first_pass c.args.table.now.initial).registers
 begun_registers c =
     let s = c.args.script.now in
-    let none = held s c.new-registers.result in
-    registers_begun s c.args.table.now (held s c.take.new.self) none c.requires.script (c.new-registers.ensures.none s) (c.in_ok-take.ensures.registers ∙ ap (λ z. next_registers (change_at s z.lists) 0 none) c.initial.ensures)
+    let none = contents s c.new-registers.result in
+    registers_begun s c.args.table.now (contents s c.take.new.self) none c.requires.script (c.new-registers.ensures.none s) (c.in_ok-take.ensures.registers ∙ ap (λ z. next_registers (change_at s z.lists) 0 none) c.initial.ensures)
 
 pub returns-clause-registers : goal.returns-clause-registers
 returns-clause-registers c = begun_registers (goal.at.returns-clause-registers c).In_ok-take
@@ -27,10 +27,10 @@ returns-clause-registers c = begun_registers (goal.at.returns-clause-registers c
 pub returns-clause-code : goal.returns-clause-code
 returns-clause-code c =
     let s = c.args.script.now in
-    let none = held s c.new-registers.result in
-    c.in_ok-take.ensures.pieces ∙ ap (λ z. spelled s.words z ++ meant none 0 (change_at s c.initial.result.lists).out) c.new-pieces.ensures.items
-    ∙ ap (λ z. meant none 0 (change_at s z.lists).out) c.initial.ensures
-    ∙ ap₂ (λ y z. meant y 0 z.out) (c.new-registers.ensures.none s) c.requires.script.initial.update
+    let none = contents s c.new-registers.result in
+    c.in_ok-take.ensures.pieces ∙ ap (λ z. code_over s.words z ++ parts_code none 0 (change_at s c.initial.result.lists).out) c.new-pieces.ensures.items
+    ∙ ap (λ z. parts_code none 0 (change_at s z.lists).out) c.initial.ensures
+    ∙ ap₂ (λ y z. parts_code y 0 z.out) (c.new-registers.ensures.none s) c.requires.script.initial.update
 
 pub returns-clause-runner : goal.returns-clause-runner
 returns-clause-runner c =

@@ -2,8 +2,8 @@ use Rattle.std.proofs.Common.{◌≡◌, ◌<◌, Some, get_or, refl, ap, subst,
 use Rattle.kex_byteset.specs.Classes.{class_at, class_count}
 use Rattle.kex_sst.specs.declared.table.Transition.{Transition}
 use Rattle.kex_sst.specs.Parts.{items_of}
-use Rattle.kex_script.specs.Pieces.{spelled}
-use Rattle.kex_runner.specs.Noting.{held}
+use Rattle.kex_script.specs.Pieces.{code_over}
+use Rattle.kex_runner.specs.Noting.{contents}
 use Rattle.kex_runner.proofs.Going.{goes_next, goes_nowhere, next_by_class, items_next, items_stop}
 use Rattle.kex_runner.proofs.Stepping.{told_by, step_at, runner_next}
 use Rattle.kex_runner.proofs.runner.follow.Goals as goal
@@ -21,7 +21,7 @@ returns-in_default-clause-follows g c =
       more = c.loop-i.invariant.goes.more;
       code = c.loop-i.invariant.goes.code;
       goes = c.loop-i.invariant.goes.goes;
-      stops = λ d lt. goes_nowhere t c.args.state.now (held s c.args.registers.now) c.args.piece.now c.loop-i.i c.loop-i.state (held s c.loop-i.registers) (spelled s.words c.args.pieces.now.items) (spelled s.words c.loop-i.pieces.items) b c.loop-i-test.true refl (by ∙ c.in_default.ensures) c.loop-i.invariant.goes d;
+      stops = λ d lt. goes_nowhere t c.args.state.now (contents s c.args.registers.now) c.args.piece.now c.loop-i.i c.loop-i.state (contents s c.loop-i.registers) (code_over s.words c.args.pieces.now.items) (code_over s.words c.loop-i.pieces.items) b c.loop-i-test.true refl (by ∙ c.in_default.ensures) c.loop-i.invariant.goes d;
     }
 
 pub returns-in_default-clause-steps : goal.returns-in_default-clause-steps
@@ -61,7 +61,7 @@ loop-i-preserved g c =
     let items = items_next t c.loop-i.state c.args.piece.now c.loop-i.i b (told_by s e) c.loop-i-test.true refl (by ∙ k.at) in
     let told = ap (λ (z : Transition). items_of z.update) (same (sym c.in-Some.ensures ∙ k.at)) in
     record {
-      goes = goes_next t c.args.state.now (held s c.args.registers.now) c.args.piece.now c.loop-i.i c.loop-i.state (held s c.loop-i.registers) (spelled s.words c.args.pieces.now.items) (spelled s.words c.loop-i.pieces.items) b c.loop-i-test.true refl (told_by s e) (held s c.take.new.self) (spelled s.words c.take.new.pieces.items) (by ∙ k.at) c.in_ok-take.ensures.registers c.in_ok-take.ensures.pieces c.loop-i.invariant.goes;
+      goes = goes_next t c.args.state.now (contents s c.args.registers.now) c.args.piece.now c.loop-i.i c.loop-i.state (contents s c.loop-i.registers) (code_over s.words c.args.pieces.now.items) (code_over s.words c.loop-i.pieces.items) b c.loop-i-test.true refl (told_by s e) (contents s c.take.new.self) (code_over s.words c.take.new.pieces.items) (by ∙ k.at) c.in_ok-take.ensures.registers c.in_ok-take.ensures.pieces c.loop-i.invariant.goes;
       known = c.in_ok-take.ensures.known;
       runner = runner_next t s c.loop-i.state class b e c.loop-i.registers c.take.new.self c.loop-i.invariant.runner k c.in_ok-take.ensures.registers c.take.ensures.counted;
       steps = omega (arith, items, told, c.count_items.ensures, c.loop-i.invariant.steps);

@@ -1,6 +1,6 @@
 use Rattle.std.proofs.Common.{◌≡◌, ◌+◌, drop}
-use Rattle.kex_script.specs.Pieces.{spelled}
-use Rattle.kex_runner.specs.Noting.{held}
+use Rattle.kex_script.specs.Pieces.{code_over}
+use Rattle.kex_runner.specs.Noting.{contents}
 use Rattle.kex_runner.specs.Items.{items_along}
 use Rattle.kex_runner.specs.Ways.{AreKnown}
 use Rattle.kex_runner.specs.Following.{IsRunner}
@@ -9,7 +9,7 @@ use Rattle.kex_runner.proofs.runner.follow.Given as goal
 
 abbrev pub invariant-loop-i : goal.invariant-loop-i
 invariant-loop-i g l = record {
-  goes : Goes l.table l.initial.state (held l.script l.initial.registers) l.piece l.i l.state (held l.script l.registers) (spelled l.script.words l.initial.pieces.items) (spelled l.script.words l.pieces.items);
+  goes : Goes l.table l.initial.state (contents l.script l.initial.registers) l.piece l.i l.state (contents l.script l.registers) (code_over l.script.words l.initial.pieces.items) (code_over l.script.words l.pieces.items);
   known : AreKnown l.script l.ways;
   runner : IsRunner l.table l.script l.state l.registers;
   steps : l.steps + items_along l.table l.state (drop l.i l.piece) ≡ l.initial.steps + items_along l.table l.initial.state l.piece;

@@ -1,6 +1,6 @@
 use Rattle.std.proofs.Common.{◌≤◌, ◌-◌, length}
-use Rattle.kex_script.specs.Pieces.{spelled}
-use Rattle.kex_runner.specs.Noting.{held}
+use Rattle.kex_script.specs.Pieces.{code_over}
+use Rattle.kex_runner.specs.Noting.{contents}
 use Rattle.kex_runner.specs.Ways.{AreKnown}
 use Rattle.kex_runner.specs.Following.{IsRunner}
 use Rattle.kex_runner.proofs.Going.{Goes}
@@ -9,7 +9,7 @@ use Rattle.kex_runner.proofs.runner.follow_held.Given as goal
 abbrev pub invariant-bytes : goal.invariant-bytes
 invariant-bytes l = record {
   at : l.at ≤ length l.piece;
-  goes : Goes l.table l.initial.state (held l.guide.script l.initial.registers) l.piece l.at l.state (held l.guide.script l.registers) (spelled l.guide.script.words l.initial.pieces.items) (spelled l.guide.script.words l.pieces.items);
+  goes : Goes l.table l.initial.state (contents l.guide.script l.initial.registers) l.piece l.at l.state (contents l.guide.script l.registers) (code_over l.guide.script.words l.initial.pieces.items) (code_over l.guide.script.words l.pieces.items);
   known : AreKnown l.guide.script l.ways;
   runner : IsRunner l.table l.guide.script l.state l.registers;
 }

@@ -1,7 +1,7 @@
 use Rattle.std.proofs.Common.{◌≡◌, ◌∙◌, ◌<◌, length, true, sym, ap, subst}
 use Rattle.kex_model.specs.Acting.{State}
 use Rattle.kex_action.specs.Holdings.{state_of, Does, Leads}
-use Rattle.kex_action.specs.Actions.{done}
+use Rattle.kex_action.specs.Actions.{after_actions}
 use Rattle.kex_action.specs.Actors.{WentOn}
 use Rattle.kex_action.proofs.Acting.{length-done}
 use Rattle.kex_action.proofs.Performing.{went_on, position}
@@ -13,7 +13,7 @@ invariant_of-self-2 c =
     let before = c.args.out.now.items in
     let g = a.machine.now in
     let fits = c.self.invariant.fits (ap (λ q. q.usable) c.self.view_is ∙ c.requires.usable) in
-    let did : state_of c.act_all.new.out.items c.act_all.new.store ≡ done g.nodes c.args.byte c.args.actions.now (state_of before a.store) = c.in_ok-act_all.ensures {u = tt} in
+    let did : state_of c.act_all.new.out.items c.act_all.new.store ≡ after_actions g.nodes c.args.byte c.args.actions.now (state_of before a.store) = c.in_ok-act_all.ensures {u = tt} in
     record {
       trimmed = c.self.invariant.trimmed;
       in_range = c.self.invariant.in_range;
@@ -28,6 +28,6 @@ returns-clause-ok c = λ d does.
     let a = c.self.inside in
     let before = c.args.out.now.items in
     let after = c.act_all.new.out.items in
-    let here = subst (λ q. Does q.machine.nodes q.at d c.args.node (done q.machine.nodes c.args.byte c.args.actions.now)) (sym c.self.view_is) does in
+    let here = subst (λ q. Does q.machine.nodes q.at d c.args.node (after_actions q.machine.nodes c.args.byte c.args.actions.now)) (sym c.self.view_is) does in
     let leads = subst (λ z. Leads a.machine.now.nodes a.at (state_of before a.store) d c.args.node z) (sym (c.in_ok-act_all.ensures {u = tt})) (here (state_of before a.store)) in
     subst (λ q. WentOn q (position a.machine.now c.args.node c.act_all.new.store a.refused true) d d before after) c.self.view_is (went_on a.machine.now a.at c.args.node a.store c.act_all.new.store a.refused a.usable true d before after leads)

@@ -1,9 +1,9 @@
 use Rattle.std.proofs.Common.{◌≡◌, ◌∙◌, ◌<◌, ◌≤◌, length, take, reverse, ap, sym, subst, arith}
 use Rattle.std.proofs.lemmas.List.{take_all, length-take-le}
 use Rattle.kex_model.specs.Moves.{open_buffer}
-use Rattle.kex_model.specs.Acting.{done_by}
+use Rattle.kex_model.specs.Acting.{after_effect}
 use Rattle.kex_action.specs.Holdings.{state_of}
-use Rattle.kex_action.specs.Sheets.{laid}
+use Rattle.kex_action.specs.Sheets.{with_marked_bytes}
 use Rattle.kex_action.proofs.Storing.{on_ok}
 use Rattle.kex_action.proofs.Sheeting.{handed, next_mark, NextMark, laid_opens, last_of, last_within}
 use Rattle.kex_action.proofs.store.Store.hand_on.Goals as goal
@@ -43,9 +43,9 @@ loop-i-preserved c =
     record {
       from = sym (ap last_of mark.more);
       state = ap (state_of c.write.new.out.items) (c.in_ok-open.ensures {u = tt})
-          ∙ ap (done_by open_buffer) wrote
+          ∙ ap (after_effect open_buffer) wrote
           ∙ sym (laid_opens (take to bytes) ds to s (sym (length-take-le to bytes within)))
-          ∙ sym (ap (λ l. laid (take to bytes) l s) mark.more);
+          ∙ sym (ap (λ l. with_marked_bytes (take to bytes) l s) mark.more);
     }
 
 pub returns : goal.returns
@@ -56,4 +56,4 @@ returns c =
     let s = state_of c.args.out.now.items c.args.self.now in
     let all : take c.loop-i.i ms ≡ ms = take_all c.loop-i.i ms (omega (arith, c.loop-i-test.false, c.len-i-end.ensures ∙ c.args.sheet.now.marks.ok.0)) in
     let within : used ≤ length bytes = omega (arith, c.requires.used, ap length c.as_slice-bytes.ensures.value) in
-    on_ok c.write-2.result c.write-2.ensures.ok (λ e. handed bytes (reverse ms) c.loop-i.from used s (state_of c.loop-i.out.items c.loop-i.self) (state_of c.write-2.new.out.items c.write-2.new.self) (c.loop-i.invariant.from ∙ ap (λ l. last_of (reverse l)) all) c.requires.marks within (c.loop-i.invariant.state ∙ ap (λ l. laid (take c.loop-i.from bytes) (reverse l) s) all) e ∙ ap (λ b. laid (take used b) (reverse ms) s) c.as_slice-bytes.ensures.value)
+    on_ok c.write-2.result c.write-2.ensures.ok (λ e. handed bytes (reverse ms) c.loop-i.from used s (state_of c.loop-i.out.items c.loop-i.self) (state_of c.write-2.new.out.items c.write-2.new.self) (c.loop-i.invariant.from ∙ ap (λ l. last_of (reverse l)) all) c.requires.marks within (c.loop-i.invariant.state ∙ ap (λ l. with_marked_bytes (take c.loop-i.from bytes) (reverse l) s) all) e ∙ ap (λ b. with_marked_bytes (take used b) (reverse ms) s) c.as_slice-bytes.ensures.value)

@@ -5,7 +5,7 @@ use Rattle.std.specs.Vec.{with_items}
 use Rattle.std.proofs.lemmas.List.{with_items_is}
 use Rattle.kex_code.specs.Codes.{Begins}
 use Rattle.kex_pipe.specs.Events.{bytes_given, end_given}
-use Rattle.kex_pipe.specs.Waiting.{unread}
+use Rattle.kex_pipe.specs.Waiting.{unread_bytes}
 use Rattle.kex_pipe.specs.Seats.{IsWhole}
 use Rattle.kex_pipe.specs.Rounds.{LeftBy, turn_of}
 use Rattle.kex_pipe.specs.Standing.{Line}
@@ -53,7 +53,7 @@ invariant_of-self-in-Err g c =
 pub returns-then-self-clause-begins : goal.returns-then-self-clause-begins
 returns-then-self-clause-begins g c = λ before ps h taken began s text report answer.
     let t = g.met.T.Turn in
-    subst (λ z. Begins text (taken ++ unread z)) (sym began.same_output) (stands-begins g.T.Turn t.one t.grows t.ends ps before h taken s text report answer)
+    subst (λ z. Begins text (taken ++ unread_bytes z)) (sym began.same_output) (stands-begins g.T.Turn t.one t.grows t.ends ps before h taken s text report answer)
 
 pub returns-then-self-clause-spent : goal.returns-then-self-clause-spent
 returns-then-self-clause-spent g c = (
@@ -91,10 +91,10 @@ returns-in-Ok-clause-settles g c = λ before ps h taken order k s began works pe
 pub returns-in-Err-clause-begins : goal.returns-in-Err-clause-begins
 returns-in-Err-clause-begins g c = λ before ps h taken began s text report answer.
     let t = g.met.T.Turn in
-    subst (λ z. Begins text (taken ++ z)) (ap unread (sym began.same_output) ∙ sym c.in-Err.ensures.hand) (stands-begins g.T.Turn t.one t.grows t.ends ps before h taken s text report answer)
+    subst (λ z. Begins text (taken ++ z)) (ap unread_bytes (sym began.same_output) ∙ sym c.in-Err.ensures.hand) (stands-begins g.T.Turn t.one t.grows t.ends ps before h taken s text report answer)
 
 pub returns-then-self-clause-written : goal.returns-then-self-clause-written
-returns-then-self-clause-written g c = λ before ps h taken began s. has-written g.T.Turn ps before _ h taken (ap unread began.same_output) s
+returns-then-self-clause-written g c = λ before ps h taken began s. has-written g.T.Turn ps before _ h taken (ap unread_bytes began.same_output) s
 
 pub returns-in-Err-clause-written : goal.returns-in-Err-clause-written
-returns-in-Err-clause-written g c = λ before ps h taken began s. has-written g.T.Turn ps before _ h taken (c.in-Err.ensures.hand ∙ ap unread began.same_output) s
+returns-in-Err-clause-written g c = λ before ps h taken began s. has-written g.T.Turn ps before _ h taken (c.in-Err.ensures.hand ∙ ap unread_bytes began.same_output) s

@@ -1,6 +1,6 @@
 use Rattle.std.proofs.Common.{rules, ◌≡◌, [], ◌++◌, ◌||◌, ◌∙◌, inl, false, map, refl, sym, ap, append-nil, arith}
 use Rattle.kex_model.specs.Schedules.{byte, has_end, given}
-use Rattle.kex_pipe.specs.Waiting.{unread}
+use Rattle.kex_pipe.specs.Waiting.{unread_bytes}
 use Rattle.kex_pipe.proofs.Items.{end-append, end-items}
 use Rattle.kex_pipe.proofs.Schedule.{standing, has-written, line-more, waits-more}
 use Rattle.kex_pipe.proofs.Begins.{stands-begins}
@@ -12,7 +12,7 @@ returns-in-Ok-clause-stands g c = λ ps h taken s.
     let first = c.index_mut.result.now in
     let bytes = c.args.bytes.now in
     let no_end : has_end s.came ≡ false = sym s.same_end ∙ c.requires.unended in
-    let added : unread c.give.new.self ≡ unread first.inbox ++ bytes = search rules in
+    let added : unread_bytes c.give.new.self ≡ unread_bytes first.inbox ++ bytes = search rules in
     let same_end : has_end (s.came ++ map byte bytes) ≡ has_end s.came =
     end-append s.came (map byte bytes) ∙ ap (λ z. z || has_end (map byte bytes)) no_end ∙ ap has_end (sym (append-nil (map byte bytes))) ∙ end-items bytes false ∙ sym no_end in
     standing g.T.Turn ps _ _ taken _ s.seats (given bytes s.after no_end)

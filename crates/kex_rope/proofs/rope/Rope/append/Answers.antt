@@ -1,6 +1,6 @@
 use Rattle.std.proofs.Common.{◌≡◌, [], ◌++◌, refl, cond, inr, length, ap, ap₂, subst, ◌∙◌, sym, arith, length-append}
 use Rattle.std.specs.Prelude.{IsOk}
-use Rattle.kex_rope.specs.Blocks.{joined, AreBlocks, AreFilled}
+use Rattle.kex_rope.specs.Blocks.{symbols_in, AreBlocks, AreFilled}
 use Rattle.kex_rope.proofs.Blocking.{joined-append, filled-append, filled_blocks, filled_count}
 use Rattle.kex_rope.proofs.rope.Rope.append.Goals as goal
 
@@ -19,14 +19,14 @@ joins c = c.append.ensures.items ∙ ap (λ b. cond b (c.self.inside.blocks ++ c
 pub invariant_of-self-2 : goal.invariant_of-self-2
 invariant_of-self-2 c =
     let all = joins c in
-    let both = ap joined all ∙ joined-append c.self.inside.blocks c.other.inside.blocks in
+    let both = ap symbols_in all ∙ joined-append c.self.inside.blocks c.other.inside.blocks in
     record {
-      counted = omega (arith, ap length both, length-append (joined c.self.inside.blocks) (joined c.other.inside.blocks), c.self.invariant.counted, c.other.invariant.counted);
+      counted = omega (arith, ap length both, length-append (symbols_in c.self.inside.blocks) (symbols_in c.other.inside.blocks), c.self.invariant.counted, c.other.invariant.counted);
       filled = inr (subst AreFilled (sym all) (filled-append c.self.inside.blocks c.other.inside.blocks (filled_self c) (filled_other c)));
     }
 
 pub returns-clause-joined : goal.returns-clause-joined
-returns-clause-joined c = ap joined (joins c) ∙ joined-append c.self.inside.blocks c.other.inside.blocks ∙ ap₂ (λ x y. x ++ y) c.self.view_is c.other.view_is
+returns-clause-joined c = ap symbols_in (joins c) ∙ joined-append c.self.inside.blocks c.other.inside.blocks ∙ ap₂ (λ x y. x ++ y) c.self.view_is c.other.view_is
 
 none_left : (c : goal.After-other-1) → c.append.new.other ≡ []
 none_left c = c.append.ensures.other_items ∙ ap (λ b. cond b [] c.other.inside.blocks) (fits c)
@@ -35,4 +35,4 @@ pub invariant_of-other-2 : goal.invariant_of-other-2
 invariant_of-other-2 c = subst (λ z. AreBlocks z 0) (sym (none_left c)) (record { counted = refl; filled = inr tt })
 
 pub returns-clause-empty : goal.returns-clause-empty
-returns-clause-empty c = ap joined (none_left c)
+returns-clause-empty c = ap symbols_in (none_left c)

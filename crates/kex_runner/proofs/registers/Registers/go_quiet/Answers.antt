@@ -8,7 +8,7 @@ use Rattle.kex_sst.specs.Tables.{Row}
 use Rattle.kex_script.specs.Scripts.{entry_at}
 use Rattle.kex_runner.specs.declared.quiet.Quiet.{Quiet}
 use Rattle.kex_runner.specs.declared.reading.Note.{Note}
-use Rattle.kex_runner.specs.Noting.{held, noted_by}
+use Rattle.kex_runner.specs.Noting.{contents, noted_by}
 use Rattle.kex_runner.specs.Following.{IsPlace}
 use Rattle.kex_runner.proofs.Going.{Goes, goes_none, place_in_range}
 use Rattle.kex_runner.proofs.Quieting.{told, whole_next, place_quiet, goes_quiet}
@@ -38,7 +38,7 @@ quiet-init c =
     let g = c.args.guide.now in
     let w = g.width in
     let state = c.args.state.now in
-    let regs = held g.script c.args.self.now in
+    let regs = contents g.script c.args.self.now in
     let same : c.replace-notes.result.items ≡ c.args.self.now.notes.items = ap (λ v. v.items) c.replace-notes.ensures.value ∙ c.try_reserve.ensures.items in
     let back : state ≡ state * w / w = sym (mul-div_cancel state c.requires.guide.some) in
     let holds : regs ≡ noted_by g.script c.args.self.now.base.items c.replace-notes.result.items = ap (λ z. noted_by g.script c.args.self.now.base.items z) (sym same) in
@@ -81,7 +81,7 @@ quiet-preserved c =
       whole = whole_next t g table script guide (entry_at g.script (row / g.width) class) q h;
       room = omega (arith, c.quiet.invariant.room, c.push_reserved.ensures.len, c.push_reserved.ensures.capacity, c.quiet-test.true);
       place = subst (λ z. IsPlace t (q.row / g.width) (noted_by g.script base z)) (sym pushed) (place_quiet t g table script guide base notes row class b q h few c.quiet.invariant.place);
-      goes = subst (λ z. Goes t c.args.state.now (held g.script c.args.self.now) c.args.piece.now (c.quiet.count + 1) (q.row / g.width) (noted_by g.script base z) [] []) (sym pushed) (goes_quiet t g table script guide base notes row class b q h few c.args.state.now (held g.script c.args.self.now) c.args.piece.now c.quiet.count long refl (c.type_inv.piece c.quiet.count).fits (c.class_of.ensures.class ∙ ap (λ z. class_at z b) c.partition-partition.ensures.same) c.quiet.invariant.goes);
+      goes = subst (λ z. Goes t c.args.state.now (contents g.script c.args.self.now) c.args.piece.now (c.quiet.count + 1) (q.row / g.width) (noted_by g.script base z) [] []) (sym pushed) (goes_quiet t g table script guide base notes row class b q h few c.args.state.now (contents g.script c.args.self.now) c.args.piece.now c.quiet.count long refl (c.type_inv.piece c.quiet.count).fits (c.class_of.ensures.class ∙ ap (λ z. class_at z b) c.partition-partition.ensures.same) c.quiet.invariant.goes);
     }
 
 pub overflow_cast-state : goal.overflow_cast-state

@@ -1,8 +1,8 @@
 use Rattle.std.proofs.Common.{◌≡◌, ◌+◌, ◌++◌, [], true, nat_lt, length, refl, sym, ap, ap₂, ◌∙◌, subst}
 use Rattle.std.proofs.lemmas.Bool.{ltb-true, ltb-false}
-use Rattle.kex_script.specs.Pieces.{spelled}
+use Rattle.kex_script.specs.Pieces.{code_over}
 use Rattle.kex_runner.specs.declared.answers.Fed.TheVariants.{Dead}
-use Rattle.kex_runner.specs.Noting.{held}
+use Rattle.kex_runner.specs.Noting.{contents}
 use Rattle.kex_runner.specs.Running.{Running, Feeds, answer_of}
 use Rattle.kex_runner.specs.Following.{Follows}
 use Rattle.kex_runner.proofs.Standing.{feeds, feeds_after, none_pending}
@@ -12,25 +12,25 @@ use Rattle.kex_runner.proofs.runner.Runner.feed.Goals as goal
 pub returns-then-self-clause-fed : goal.returns-then-self-clause-fed
 returns-then-self-clause-fed g c =
     let script = c.self.inside.guide.script in
-    let r : Running = record { table = c.self.inside.table.now; words = script.words; state = c.self.inside.state; pending = spelled script.words c.self.inside.pending.items; registers = held script c.self.inside.registers; read = c.self.inside.read; dead = c.self.inside.dead; ended = c.self.inside.ended; usable = c.self.inside.usable } in
+    let r : Running = record { table = c.self.inside.table.now; words = script.words; state = c.self.inside.state; pending = code_over script.words c.self.inside.pending.items; registers = contents script c.self.inside.registers; read = c.self.inside.read; dead = c.self.inside.dead; ended = c.self.inside.ended; usable = c.self.inside.usable } in
     let n : Running = record r { pending = []; usable = true } in
-    let told : c.spell.new.code ≡ c.args.code.now ++ r.pending = c.in_ok-spell.ensures ∙ ap₂ (λ y z. c.args.code.now ++ spelled y z) c.words.ensures c.deref.ensures.value in
-    none_pending Dead c.args.self.now n c.args.piece.now c.args.code.now c.spell.new.code (spelled script.words c.clear.new.self.items) (ap (λ z. spelled script.words z) c.clear.ensures.items)
+    let told : c.spell.new.code ≡ c.args.code.now ++ r.pending = c.in_ok-spell.ensures ∙ ap₂ (λ y z. c.args.code.now ++ code_over y z) c.words.ensures c.deref.ensures.value in
+    none_pending Dead c.args.self.now n c.args.piece.now c.args.code.now c.spell.new.code (code_over script.words c.clear.new.self.items) (ap (λ z. code_over script.words z) c.clear.ensures.items)
     (subst (λ z. Feeds Dead z n c.args.piece.now c.args.code.now c.spell.new.code) c.self.view_is (feeds_after r c.args.piece.now c.args.code.now c.spell.new.code c.if-self.true told))
 
 pub returns-clause-fed : goal.returns-clause-fed
 returns-clause-fed g c =
     let script = c.self.inside.guide.script in
-    let r : Running = record { table = c.self.inside.table.now; words = script.words; state = c.self.inside.state; pending = spelled script.words c.self.inside.pending.items; registers = held script c.self.inside.registers; read = c.self.inside.read; dead = c.self.inside.dead; ended = c.self.inside.ended; usable = c.self.inside.usable } in
+    let r : Running = record { table = c.self.inside.table.now; words = script.words; state = c.self.inside.state; pending = code_over script.words c.self.inside.pending.items; registers = contents script c.self.inside.registers; read = c.self.inside.read; dead = c.self.inside.dead; ended = c.self.inside.ended; usable = c.self.inside.usable } in
     let count = c.in_ok-count.count in
     let piece = c.args.piece.now in
     let dead = nat_lt count (length piece) in
-    let n : Running = record r { state = c.follow.new.state; pending = []; registers = held script c.follow.new.registers; read = c.self.inside.read + count; dead = dead; usable = true } in
-    let told : c.spell-2.new.code ≡ c.args.code.now ++ spelled script.words c.follow.new.pieces.items = c.in_ok-spell-2.ensures ∙ ap₂ (λ y z. c.args.code.now ++ spelled y z) c.words-2.ensures c.deref-2.ensures.value in
+    let n : Running = record r { state = c.follow.new.state; pending = []; registers = contents script c.follow.new.registers; read = c.self.inside.read + count; dead = dead; usable = true } in
+    let told : c.spell-2.new.code ≡ c.args.code.now ++ code_over script.words c.follow.new.pieces.items = c.in_ok-spell-2.ensures ∙ ap₂ (λ y z. c.args.code.now ++ code_over y z) c.words-2.ensures c.deref-2.ensures.value in
     let f : Follows r.table r.state r.registers piece count n.state n.registers (c.args.code.now ++ r.pending) c.spell-2.new.code =
-    subst (λ z. Follows r.table r.state r.registers piece count n.state n.registers (c.args.code.now ++ r.pending) z) (sym told) (follows_behind r.table r.state r.registers piece count n.state n.registers c.args.code.now r.pending (spelled script.words c.follow.new.pieces.items) c.in_ok-count.ensures.follows) in
-    subst (λ z. Feeds z c.args.self.now (record n { pending = spelled script.words c.clear-2.new.self.items }) piece c.args.code.now c.spell-2.new.code) (sym c.answer_of.ensures)
-    (none_pending (answer_of dead) c.args.self.now n piece c.args.code.now c.spell-2.new.code (spelled script.words c.clear-2.new.self.items) (ap (λ z. spelled script.words z) c.clear-2.ensures.items)
+    subst (λ z. Follows r.table r.state r.registers piece count n.state n.registers (c.args.code.now ++ r.pending) z) (sym told) (follows_behind r.table r.state r.registers piece count n.state n.registers c.args.code.now r.pending (code_over script.words c.follow.new.pieces.items) c.in_ok-count.ensures.follows) in
+    subst (λ z. Feeds z c.args.self.now (record n { pending = code_over script.words c.clear-2.new.self.items }) piece c.args.code.now c.spell-2.new.code) (sym c.answer_of.ensures)
+    (none_pending (answer_of dead) c.args.self.now n piece c.args.code.now c.spell-2.new.code (code_over script.words c.clear-2.new.self.items) (ap (λ z. code_over script.words z) c.clear-2.ensures.items)
     (subst (λ z. Feeds (answer_of dead) z n piece c.args.code.now c.spell-2.new.code) c.self.view_is
     (feeds r piece count n.state n.registers c.args.code.now (c.args.code.now ++ r.pending) c.spell-2.new.code dead c.if-self.false refl f
     (λ e. ltb-true count (length piece) e)

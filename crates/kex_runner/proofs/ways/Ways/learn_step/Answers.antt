@@ -4,7 +4,7 @@ use Rattle.std.proofs.lemmas.List.Elements.{All-set}
 use Rattle.std.proofs.lemmas.Option.{get_or_from_slice_get}
 use Rattle.kex_script.specs.Scripts.{change_at}
 use Rattle.kex_runner.specs.declared.ways.Step.{Step}
-use Rattle.kex_runner.specs.Ways.{IsStep, IsStepIf, composed}
+use Rattle.kex_runner.specs.Ways.{IsStep, IsStepIf, composition}
 use Rattle.kex_runner.proofs.WayLemmas.{known_more, step_is}
 use Rattle.kex_runner.proofs.ways.Ways.learn_step.Goals as goal
 use Rattle.kex_runner.proofs.ways.Ways.learn_step.Goals.{In_ok-split}
@@ -17,7 +17,7 @@ found c =
     let from = c.requires.way.0 in
     let u = change_at s c.args.lists in
     step_is s c.words.result.now ways c.split_of.new.ways c.args.way c.args.lists c.in_ok-split.split from c.deref.result.now c.words.ensures c.in_ok-split.ensures.kept c.requires.way.1
-    (c.deref.ensures.value ∙ c.in_ok-compose.ensures ∙ ap (λ z. composed u z) (c.list.ensures ∙ ap (λ z. get_or ways z []) c.from.ensures ∙ get_or_from_slice_get ways c.args.way from [] c.requires.way.1.at))
+    (c.deref.ensures.value ∙ c.in_ok-compose.ensures ∙ ap (λ z. composition u z) (c.list.ensures ∙ ap (λ z. get_or ways z []) c.from.ensures ∙ get_or_from_slice_get ways c.args.way from [] c.requires.way.1.at))
     c.in_ok-split.ensures.split
 
 pub returns-then-place-len-clause-known : goal.returns-then-place-len-clause-known
