@@ -1,3 +1,3 @@
-mod Refining
+mod Partitions
 pub mod Flags
 pub mod Words

@@ -1,3 +1,3 @@
 pub mod Texts
-pub mod Reading
+pub mod CodeReaders
 pub mod Prefixes

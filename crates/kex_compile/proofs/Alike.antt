@@ -6,7 +6,7 @@ use Rattle.kex_code.specs.Codes.{Different}
 use Rattle.kex_model.specs.Programs.{Grammar}
 use Rattle.kex_model.specs.declared.program.Definition.{Definition as Root}
 use Rattle.kex_model.specs.declared.program.Start.{Start}
-use Rattle.kex_model.proofs.Counting.{among_get, among-append}
+use Rattle.kex_model.proofs.DistinctItems.{among_get, among-append}
 use Rattle.kex_model.proofs.Tables.{some_same}
 use Rattle.kex_tokens.specs.declared.token.Token.{Token}
 use Rattle.kex_tokens.specs.Texts.{AreTokens}

@@ -8,7 +8,7 @@ use Rattle.kex_code.specs.Codes.{IsAmong}
 use Rattle.kex_model.specs.declared.program.Kind.{Kind}
 use Rattle.kex_model.specs.declared.program.Kind.TheVariants.{One, Lit, Class, Call, Seq, Alt, Rep, Mute, At, Write, Set, Add}
 use Rattle.kex_model.specs.declared.program.Node.{Node}
-use Rattle.kex_model.proofs.Counting.{among-append}
+use Rattle.kex_model.proofs.DistinctItems.{among-append}
 use Rattle.kex_model.proofs.Tables.{some_same}
 
 -- pieces with the same bytes, and registers that G pairs

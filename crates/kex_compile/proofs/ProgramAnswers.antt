@@ -6,7 +6,7 @@ use Rattle.kex_model.specs.Trees.{Tree, Parses, kind_at}
 use Rattle.kex_model.specs.Places.{HasEmptyLoop}
 use Rattle.kex_model.specs.Answers.{code_at, HasParse, Means, Says, Viable, Answer, Report, Pipeline}
 use Rattle.kex_model.specs.Laws.{StageAnswers, StagesAnswer}
-use Rattle.kex_model.proofs.Counting.{among_get}
+use Rattle.kex_model.proofs.DistinctItems.{among_get}
 use Rattle.kex_rules.specs.Rules.{IsRuled}
 use Rattle.kex_reader.specs.Spelling.{Spells}
 use Rattle.kex_lowering.proofs.SameAnswers.{Serves, answers_so}

@@ -12,7 +12,7 @@ use Rattle.kex_model.specs.Programs.{Grammar}
 use Rattle.kex_model.specs.declared.program.Kind.{Kind}
 use Rattle.kex_model.specs.Trees.{kind_at, root_of, Tree, IsTree, one, lit, one_byte, call, seq, alt_left, alt_right, needed, again, end, mute, at_register, write_register, set_register, add_register, code, meaning, end_mark, Part, part_behind, go_on, then_part, put_whole, kept_part, part}
 use Rattle.kex_model.specs.Answers.{empty}
-use Rattle.kex_model.proofs.Growing.{part_whole}
+use Rattle.kex_model.proofs.PartialMeanings.{part_whole}
 use Rattle.kex_rules.specs.Rules.{IsDefined, IsUse}
 use Rattle.kex_compile.proofs.NodePairs as kinds
 use Rattle.kex_compile.proofs.NodePairs.{SameKind, SameParts}

@@ -3,7 +3,7 @@ use Rattle.std.proofs.Common.{◌≡◌, ◌+◌, ◌≤◌, ℕ, suc, arith, Li
 use Rattle.kex_code.specs.Codes.{Different, IsAmong}
 use Rattle.kex_model.specs.Moves.{Move}
 use Rattle.kex_model.specs.States.{AllDifferent, HasMoreStates, HasStates}
-use Rattle.kex_model.proofs.Counting.{different_fits}
+use Rattle.kex_model.proofs.DistinctItems.{different_fits}
 use Rattle.kex_model.specs.Programs.{Grammar}
 use Rattle.kex_machine.specs.Nodes.{Graph, node_moves}
 use Rattle.kex_sst.specs.Tables.{Transducer}

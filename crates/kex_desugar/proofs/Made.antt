@@ -20,7 +20,7 @@ use Rattle.kex_model.proofs.Tables.{some_same, get_more, get_pushed}
 use Rattle.kex_desugar.proofs.PlaceNumbers.{names_more, one_place, one_at, one_number}
 use Rattle.kex_desugar.proofs.SpotWays.{at_later}
 use Rattle.kex_desugar.proofs.Registers.{IsWithin, moves_within}
-use Rattle.kex_model.proofs.Counting.{among_get, different_fits}
+use Rattle.kex_model.proofs.DistinctItems.{among_get, different_fits}
 
 pub get_later : {A : Type 0} (xs ys : List A) → Begins ys xs → (i : ℕ) (x : A) → slice_get xs i ≡ Some x → slice_get ys i ≡ Some x
 get_later xs ys (more, e) i x g = subst (λ z. slice_get z i ≡ Some x) (sym e) (get_more xs more i x g)

@@ -10,7 +10,7 @@ use Rattle.kex_model.specs.Programs.{Grammar, IsGrammar, HasNames}
 use Rattle.kex_model.specs.Moves.{Move, accept, read, choose, forced, go}
 use Rattle.kex_model.specs.Trees.{kind_at}
 use Rattle.kex_model.specs.Places.{Place, moves, moves_of, with_counts, end_effect}
-use Rattle.kex_model.proofs.Counting.{among_get}
+use Rattle.kex_model.proofs.DistinctItems.{among_get}
 use Rattle.kex_machine.specs.Nodes.{UsesRegisters}
 
 -- what a move does uses only registers below the count

@@ -15,10 +15,10 @@ use Rattle.kex_machine.specs.Nodes.{Graph, node_moves, HasClasses}
 use Rattle.kex_machine.specs.Answers.{Viable, HasParse, IsGreedy}
 use Rattle.kex_machine.specs.Advancing.{Advances, dies, both, first_accepting, map_labels_if}
 use Rattle.kex_machine.proofs.Nexts.{IsTrim}
-use Rattle.kex_machine.proofs.Saying.{viable_before}
-use Rattle.kex_machine.proofs.Ending.{greedy_found, none_parses}
+use Rattle.kex_machine.proofs.LongestFronts.{viable_before}
+use Rattle.kex_machine.proofs.AcceptingTips.{greedy_found, none_parses}
 use Rattle.kex_machine.proofs.Classes.{byte_read}
-use Rattle.kex_machine.proofs.Relabelling.{relabelled-accepting}
+use Rattle.kex_machine.proofs.Labels.{relabelled-accepting}
 use Rattle.kex_machine.proofs.Unique.{tree_unique}
 use Rattle.kex_sst.specs.declared.parts.Part.{Part}
 use Rattle.kex_sst.specs.declared.parts.Part.TheVariants.{Put, Input}
@@ -27,7 +27,7 @@ use Rattle.kex_sst.specs.Parts.{parts_code, numbered_tree}
 use Rattle.kex_sst.specs.Tables.{Transducer, transition_if, transition_on}
 use Rattle.kex_sst.specs.Passes.{Pass, first_pass, next_of, next_pass, passes_if, passes, way_of, ended_by, whole_code}
 use Rattle.kex_sst.specs.Machines.{IsTableOf}
-use Rattle.kex_sst.proofs.Passing.{by_class}
+use Rattle.kex_sst.proofs.Passes.{by_class}
 use Rattle.kex_paths.specs.Nexts.{IsNext}
 use Rattle.kex_paths.proofs.Meanings.{meant-append, registers_hold}
 use Rattle.kex_paths.proofs.NextTrees.{first_shows, next_shows}

@@ -18,8 +18,8 @@ use Rattle.kex_frontier.specs.declared.frontier.Fed.TheVariants.{Dead}
 use Rattle.kex_frontier.specs.declared.frontier.Ended.TheVariants.{Cut}
 use Rattle.kex_frontier.specs.Frontiers.{Front, IsFed, IsFedBy, IsOver, answer_of, end_of}
 use Rattle.kex_machine.proofs.Nexts.{IsTrim, next_shows, first_shows}
-use Rattle.kex_machine.proofs.Saying.{viable_before, said_of_tree, said_later, no_parse}
-use Rattle.kex_machine.proofs.Ending.{none_parses, greedy_found}
+use Rattle.kex_machine.proofs.LongestFronts.{viable_before, said_of_tree, said_later, no_parse}
+use Rattle.kex_machine.proofs.AcceptingTips.{none_parses, greedy_found}
 
 -- the tree's tips, if it is there, are below the count
 abbrev pub TipsIf : ℕ → Option (Grown Symbol ℕ) → Type 0

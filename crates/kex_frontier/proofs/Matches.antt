@@ -9,8 +9,8 @@ use Rattle.kex_machine.specs.declared.MNode.{MNode}
 use Rattle.kex_machine.specs.Nodes.{Graph, node_moves, MoveBelow, StaysWithin}
 use Rattle.kex_machine.specs.Answers.{Viable, HasParse}
 use Rattle.kex_machine.proofs.Nexts.{IsTrim, reached_by}
-use Rattle.kex_machine.proofs.Cutting.{cut}
-use Rattle.kex_machine.proofs.Saying.{viable_before, longest_self, longest_later}
+use Rattle.kex_machine.proofs.CutWalks.{cut}
+use Rattle.kex_machine.proofs.LongestFronts.{viable_before, longest_self, longest_later}
 use Rattle.kex_frontier.specs.Rows.{has_mark, AlsoMarks, IsReachedQuietly, IsClosureOf, IsRow}
 use Rattle.kex_frontier.specs.Matchers.{Match, IsDeadAt, WasFed}
 

@@ -8,7 +8,7 @@ use Rattle.kex_model.proofs.Walks.{bytes_of-append}
 use Rattle.kex_model.proofs.Derivations.{walk-append, code_of-append}
 use Rattle.kex_machine.specs.declared.MNode.{MNode}
 use Rattle.kex_machine.specs.Nodes.{Graph, node_moves}
-use Rattle.kex_machine.proofs.Cutting.{cut}
+use Rattle.kex_machine.proofs.CutWalks.{cut}
 use Rattle.kex_frontier.specs.Rows.{has_mark, IsHighestBelow, AlsoMarks, byte_ways, IsClosureOf, IsRow}
 use Rattle.kex_frontier.proofs.Closures.{past_last}
 

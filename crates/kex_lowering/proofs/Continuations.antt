@@ -7,7 +7,7 @@ use Rattle.kex_model.specs.Moves.{Move, took, Allows, reads, code_of, IsWaiting}
 use Rattle.kex_model.specs.Answers.{Answer, bad_byte, too_long, still_open}
 use Rattle.kex_machine.specs.Nodes.{Graph, HasLoop, node_moves}
 use Rattle.kex_machine.specs.Answers.{Viable, HasParse}
-use Rattle.kex_machine.proofs.Cutting.{cut}
+use Rattle.kex_machine.proofs.CutWalks.{cut}
 use Rattle.kex_machine.proofs.Nexts.{IsTrim, reached_by}
 use Rattle.kex_machine.proofs.Ranges.{is_trim}
 use Rattle.kex_lowering.specs.Existence.{ViableTextsGoOn}

@@ -24,8 +24,8 @@ use Rattle.kex_machine.specs.Advancing.{itself, Visits, known, stops, parts_off,
 use Rattle.kex_machine.specs.Answers.{Viable, HasParse, IsGreedy, Says, Means, StageAnswers}
 use Rattle.kex_machine.proofs.Nexts.{IsTrim, ShowsFirst, ShowsTree, first_shows, next_shows}
 use Rattle.kex_machine.proofs.Ranges.{is_trim}
-use Rattle.kex_machine.proofs.Saying.{longest_self, longest_later, viable_before}
-use Rattle.kex_machine.proofs.Ending.{none_parses, greedy_found}
+use Rattle.kex_machine.proofs.LongestFronts.{longest_self, longest_later, viable_before}
+use Rattle.kex_machine.proofs.AcceptingTips.{none_parses, greedy_found}
 use Rattle.kex_machine.proofs.Sizes.{unseen, unseen-set, visit_fits, advance_fits}
 use Rattle.kex_trim.specs.Trim.{IsTrimOf, Keeps, still_accepts, still_reads, still_chooses, only_left, only_right, still_forced, still_goes}
 use Rattle.kex_trim.proofs.KeptNodes.{alike_kept}

@@ -13,9 +13,9 @@ use Rattle.kex_model.specs.Answers.{empty, code_at}
 use Rattle.kex_model.specs.Answers as places
 use Rattle.kex_model.proofs.Derivations.{itself, tree_walk, steps-code, code-bytes, same_tree, walk_tree}
 use Rattle.kex_model.proofs.Effects.{done_all}
-use Rattle.kex_model.proofs.Growing.{part_whole}
+use Rattle.kex_model.proofs.PartialMeanings.{part_whole}
 use Rattle.kex_model.proofs.Loops.{no_return}
-use Rattle.kex_model.proofs.Saying.{survivor_of, end_is_empty, parse_of_survivor}
+use Rattle.kex_model.proofs.SaidTexts.{survivor_of, end_is_empty, parse_of_survivor}
 use Rattle.kex_model.proofs.Tables.{some_same}
 use Rattle.kex_model.proofs.Transfer.{Paired, paired_code, walk_ahead, walk_back, survives_ahead, survives_back, viable_ahead, agreed_ahead}
 use Rattle.kex_machine.specs.Nodes.{Graph, HasLoop, node_moves}

@@ -10,10 +10,10 @@ use Rattle.kex_model.proofs.Walks.{bytes_of-append}
 use Rattle.kex_model.proofs.Derivations.{code_of-append, walk-append}
 use Rattle.kex_model.proofs.Orders.{at_most_trans, at_most_more}
 use Rattle.kex_model.proofs.Shapes.{parted_rises}
-use Rattle.kex_machine.proofs.Cutting.{cut}
+use Rattle.kex_machine.proofs.CutWalks.{cut}
 use Rattle.kex_model.proofs.Loops as loops
 use Rattle.kex_machine.specs.Advancing.{itself, Visits, known, stops, parts_off, is_forced, passes_on, Advances, dies, reads_on, both}
-use Rattle.kex_machine.proofs.Visiting.{Marked, Quiet, NoCycle, Visited, visited}
+use Rattle.kex_machine.proofs.Visits.{Marked, Quiet, NoCycle, Visited, visited}
 use Rattle.kex_machine.proofs.Onward.{Advanced, advanced, leaf_code}
 
 -- where there is a tree, its edges begin with L and R

@@ -8,7 +8,7 @@ use Rattle.kex_model.specs.Labelled.{Leaf, Labelled, fork, leaves_of, Grown, lea
 use Rattle.kex_model.specs.Survivors.{IsParted}
 use Rattle.kex_model.proofs.Shapes.{among-append, among_left, among_right, leaf_front, behind_leaves, behind_start}
 use Rattle.kex_machine.specs.Advancing.{itself, Advances, dies, reads_on, both}
-use Rattle.kex_machine.proofs.Visiting.{in_sides, from_left, from_right, Marked, at_most_behind, Quiet, NoCycle, Finished, IsLeafBy, Visited, visited}
+use Rattle.kex_machine.proofs.Visits.{in_sides, from_left, from_right, Marked, at_most_behind, Quiet, NoCycle, Finished, IsLeafBy, Visited, visited}
 
 front_if : (a : Option (Grown Symbol ℕ)) (c : List Symbol) (x : Leaf Symbol ℕ) → IsAmong (leaves_if a c) x → Begins x.code c
 front_if None c x i = absurd i

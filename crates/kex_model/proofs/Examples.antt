@@ -12,7 +12,7 @@ use Rattle.kex_model.specs.Answers.{stopped_answer, code_at, HasParse, GreedyPar
 use Rattle.kex_model.specs.Laws.{StageAnswers}
 use Rattle.kex_model.specs.Worked.{late, late_tree, ChoiceIsLate, twice, twice_left, twice_right, LeftIsGreedy, RegistersSwap, doubling, RegisterDoubles, MuteKeepsRegisters, RegisterIsWholeOrAsItWas, counted_loop, counted_turn, TurnsAreCounted, muted_twice, EndsAreOfNodes, breaks, breaks_tree, TextsBreakOff, stars, LimitStops, ShapeForks, two_stages, LastStopIsReported}
 use Rattle.kex_model.proofs.Shapes.{tree_agrees}
-use Rattle.kex_model.proofs.Exploring.{each_leads, leads_to_end, a_survivor, has_tree, not_viable, of_parse, longest_good, differ}
+use Rattle.kex_model.proofs.AllPaths.{each_leads, leads_to_end, a_survivor, has_tree, not_viable, of_parse, longest_good, differ}
 
 -- two alternatives that begin alike
 

@@ -8,8 +8,8 @@ use Rattle.kex_model.specs.Answers.{Viable, Says, HasParse, Means, empty, code_a
 use Rattle.kex_model.specs.Laws.{StageAnswers}
 use Rattle.kex_model.proofs.Orders.{at_most_both}
 use Rattle.kex_model.proofs.Correspondence.{one_to_one}
-use Rattle.kex_model.proofs.Saying.{grows, means_good}
-use Rattle.kex_model.proofs.Standing.{Orderly, stays, one_answer}
+use Rattle.kex_model.proofs.SaidTexts.{grows, means_good}
+use Rattle.kex_model.proofs.OpenAnswers.{Orderly, stays, one_answer}
 use Rattle.kex_model.proofs.Pipelines.{pipelines_stand}
 
 pub orderly : (P : Grammar) (root : ℕ) → ¬ HasEmptyLoop P root → Orderly (Viable P root) (Says P root) (HasParse P root) (Means P root)

@@ -1,12 +1,12 @@
-mod Drafting
-mod Going
-mod Keeping
-mod Knowing
-mod Learning
-mod Putting
-mod Running
-mod Settling
-mod Speaking
-mod Trailing
-mod Widening
-pub mod Carrying
+mod DraftSteps
+mod EdgeRuns
+mod KeptActions
+mod KnownEdges
+mod ByteWalks
+mod BufferWrites
+mod Runs
+mod PlacedTexts
+mod PieceRuns
+mod Trails
+mod AddedRows
+pub mod SheetRuns

@@ -7,7 +7,7 @@ use Rattle.kex_model.specs.Survivors.{HasTree}
 use Rattle.kex_machine.specs.Nodes.{Graph, node_moves}
 use Rattle.kex_machine.specs.Answers.{Viable}
 use Rattle.kex_machine.specs.Advancing.{itself, Advances, map_labels_if}
-use Rattle.kex_machine.proofs.Relabelling.{relabelled_visit, relabelled_advance}
+use Rattle.kex_machine.proofs.Labels.{relabelled_visit, relabelled_advance}
 use Rattle.kex_machine.proofs.Nexts as machine
 use Rattle.kex_sst.specs.declared.parts.Part.{Part}
 use Rattle.kex_sst.specs.declared.parts.Part.TheVariants.{Put, Input}

@@ -5,7 +5,7 @@ use Rattle.std.proofs.lemmas.List.{reverse-append, map-append}
 use Rattle.std.proofs.lemmas.Option.{slice_get_within}
 use Rattle.kex_model.specs.Labelled.{Labelled, labels_of, Shape, place, parts, shape_of, size_of, Grown}
 use Rattle.kex_model.proofs.Shapes.{among-append}
-use Rattle.kex_model.proofs.Standing.{empty_list}
+use Rattle.kex_model.proofs.OpenAnswers.{empty_list}
 use Rattle.kex_machine.specs.Advancing.{EachPlace}
 use Rattle.kex_sst.specs.declared.parts.Part.{Part}
 use Rattle.kex_paths.specs.declared.forest.Edge.{Edge}

@@ -11,7 +11,7 @@ use Rattle.kex_machine.specs.Answers.{Viable}
 use Rattle.kex_machine.specs.Advancing.{itself, EachPlace, LeadAlike}
 use Rattle.kex_machine.proofs.Nexts as machine
 use Rattle.kex_machine.proofs.Ranges.{is_trim}
-use Rattle.kex_machine.proofs.Relabelling.{relabelled_visit, alike_advance}
+use Rattle.kex_machine.proofs.Labels.{relabelled_visit, alike_advance}
 use Rattle.kex_sst.specs.declared.parts.Part.{Part}
 use Rattle.kex_sst.specs.declared.parts.Part.TheVariants.{Put}
 use Rattle.kex_sst.specs.Parts.{Change, parts_code}

@@ -6,7 +6,7 @@ use Rattle.kex_code.specs.Codes.{IsAmong}
 use Rattle.kex_model.specs.Moves.{Move, accept, read, choose, forced, go, symbol_of}
 use Rattle.kex_model.specs.Labelled.{Grown, with_prefix, fork_of}
 use Rattle.kex_model.proofs.Shapes.{among-append}
-use Rattle.kex_model.proofs.Standing.{empty_list}
+use Rattle.kex_model.proofs.OpenAnswers.{empty_list}
 use Rattle.kex_machine.specs.declared.MNode.{MNode}
 use Rattle.kex_machine.specs.Nodes.{node_moves, MoveBelow, StaysWithin}
 use Rattle.kex_machine.proofs.Sizes.{unseen, unseen-set}

@@ -1,8 +1,8 @@
 pub mod Wholes
-pub mod Pulling
-pub mod Sending
+pub mod TakenItems
+pub mod SentItems
 pub mod Looks
-pub mod Steps
+pub mod StageTurns
 pub mod Line
 pub mod Joins
 pub mod Standings

@@ -17,7 +17,7 @@ use Rattle.kex_rings.specs.Ends.{Giver, sent_to, taken_from, seen_in, IsLast, Ar
 use Rattle.kex_rings.specs.Looking.{fed_more, lies_before, Looks, EachLooks, CarriedOut}
 use Rattle.kex_rings.specs.Lines.{turns_from, Line, Joined, LineRounds}
 use Rattle.kex_rings.proofs.Wholes.{front-whole}
-use Rattle.kex_rings.proofs.Steps.{Steps, steps-after, fed-next}
+use Rattle.kex_rings.proofs.StageTurns.{Steps, steps-after, fed-next}
 
 pub same-rest : {A : Type 0} (front xs ys : List A) → front ++ xs ≡ front ++ ys → xs ≡ ys
 same-rest front xs ys e = sym (drop-append_seam front xs) ∙ ap (λ z. drop (length front) z) e ∙ drop-append_seam front ys

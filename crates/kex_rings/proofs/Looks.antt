@@ -22,7 +22,7 @@ use Rattle.kex_rings.specs.Ends.{Giver, Taker, sent_to, free_in, taken_from, see
 use Rattle.kex_rings.specs.Looking.{fed_more, found_count, unsent_of, finds, unsent_items, FedBy, Feeds, Looks, SendsOn, FindsIn, TakesIn}
 use Rattle.kex_rings.specs.Passing.{Pulls}
 use Rattle.kex_rings.proofs.Wholes.{front-whole}
-use Rattle.kex_rings.proofs.Sending.{same-producer, same-consumer}
+use Rattle.kex_rings.proofs.SentItems.{same-producer, same-consumer}
 
 -- the back of a whole list is whole
 pub back-whole : (xs ys : List schedule.StreamItem) → IsWhole (xs ++ ys) → IsWhole ys

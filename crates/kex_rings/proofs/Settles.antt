@@ -22,7 +22,7 @@ use Rattle.kex_rings.specs.Settling.{SettlesBy, SettlesAll, AllSeatsUsable}
 use Rattle.kex_rings.proofs.Wholes.{front-whole}
 use Rattle.kex_rings.proofs.Looks.{back-whole}
 use Rattle.kex_rings.proofs.Line.{may-move, front_of, came-front}
-use Rattle.kex_rings.proofs.Steps.{Steps, steps-after, fed-next}
+use Rattle.kex_rings.proofs.StageTurns.{Steps, steps-after, fed-next}
 use Rattle.kex_rings.proofs.Standings.{new-seen}
 
 take-all : {A : Type 0} (xs : List A) → take (length xs) xs ≡ xs

@@ -11,7 +11,7 @@ use Rattle.kex_code.specs.Codes.{IsAmong, HasNumber}
 use Rattle.kex_model.specs.declared.program.Definition.{Definition}
 use Rattle.kex_model.specs.declared.program.Start.{Start}
 use Rattle.kex_model.specs.Programs.{Grammar, IsGrammar}
-use Rattle.kex_model.proofs.Counting.{among_get, among-append}
+use Rattle.kex_model.proofs.DistinctItems.{among_get, among-append}
 use Rattle.kex_model.proofs.Tables.{some_same, get_more, get_last, get_pushed}
 use Rattle.kex_rules.specs.Rules.{IsDefined, IsTwice, CallsAt, StartsAt, IsUse, IsUnknown, IsNotTail, IsRuled, IsLowest, Nowhere}
 use Rattle.kex_rules.specs.Tables.{first_root, HasRoots, IsLeast, lower, CallsUnknown, StartsUnknown}

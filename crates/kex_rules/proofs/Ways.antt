@@ -9,7 +9,7 @@ use Rattle.kex_model.specs.declared.program.Kind.TheVariants.{One, Lit, Class, C
 use Rattle.kex_model.specs.declared.program.Node.{Node}
 use Rattle.kex_model.specs.declared.program.Definition.{Definition}
 use Rattle.kex_model.specs.Programs.{Grammar, IsGrammar, HasBelow, HasNames}
-use Rattle.kex_model.proofs.Counting.{among_get}
+use Rattle.kex_model.proofs.DistinctItems.{among_get}
 use Rattle.kex_model.proofs.Tables.{some_same}
 use Rattle.kex_rules.specs.declared.graph.Ways.{Ways}
 use Rattle.kex_rules.specs.declared.graph.Ways.TheVariants.{NoWay as NoWays, One as OneWay, Two as TwoWays}

@@ -1,8 +1,8 @@
-pub mod Looking
+pub mod LookUps
 pub mod WayLemmas
-pub mod Noting
+pub mod Notes
 pub mod Pieces
-pub mod Going
-pub mod Stepping
-pub mod Quieting
-pub mod Standing
+pub mod ByteSteps
+pub mod ScriptSteps
+pub mod QuietUpdates
+pub mod FedRunners

@@ -19,9 +19,9 @@ use Rattle.kex_runner.specs.declared.ways.Ways.{Ways}
 use Rattle.kex_runner.specs.declared.walking.Place.{Place}
 use Rattle.kex_runner.specs.Noting.{ByteUpdate, next_registers, registers_after, spelled_back}
 use Rattle.kex_runner.specs.Ways.{AreOlds, composition, IsWay, IsSplit, IsStart, IsStep, IsStepIf, AreKnown, HasWalked}
-use Rattle.kex_runner.proofs.Noting.{meant_fresh}
+use Rattle.kex_runner.proofs.Notes.{meant_fresh}
 use Rattle.kex_runner.proofs.Pieces.{spelled_back_more}
-use Rattle.kex_runner.proofs.Looking.{meant-append, registers_more}
+use Rattle.kex_runner.proofs.LookUps.{meant-append, registers_more}
 
 olds_both : (xs ys : List Part) → AreOlds xs → AreOlds ys → AreOlds (xs ++ ys)
 olds_both [] ys h k = k

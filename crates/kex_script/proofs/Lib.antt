@@ -1,4 +1,4 @@
 pub mod Olds
-pub mod Growing
-pub mod Reading
+pub mod Pages
+pub mod ScriptReads
 pub mod Segments

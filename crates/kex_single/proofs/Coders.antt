@@ -8,7 +8,7 @@ use Rattle.kex_code.specs.Texts.{text_of as code_text}
 use Rattle.kex_code.proofs.Texts.{text_of-append}
 use Rattle.kex_model.specs.Labelled.{Leaf, Labelled, tip, fork, leaves_of}
 use Rattle.kex_model.specs.Survivors.{Agreed, LongestViable}
-use Rattle.kex_model.proofs.Standing.{same_front}
+use Rattle.kex_model.proofs.OpenAnswers.{same_front}
 use Rattle.kex_machine.specs.Nodes.{Graph, node_moves}
 use Rattle.kex_machine.specs.Answers.{Viable, HasParse, IsSaid, IsGreedy}
 use Rattle.kex_frontier.specs.Frontiers.{Front, IsFed, IsOver}

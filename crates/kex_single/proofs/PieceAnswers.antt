@@ -4,7 +4,7 @@ use Rattle.std.specs.Prelude.{IsSome, IsTrue}
 use Rattle.std.proofs.lemmas.List.{take_all}
 use Rattle.kex_code.specs.Codes.{Begins}
 use Rattle.kex_model.specs.Answers.{Answer, Answers, stopped_answer, at_byte, at_end, at_limit, cut_off, whole, still_open}
-use Rattle.kex_model.proofs.Standing as model
+use Rattle.kex_model.proofs.OpenAnswers as model
 use Rattle.kex_machine.specs.Nodes.{Graph}
 use Rattle.kex_machine.specs.Answers.{Viable, HasParse}
 use Rattle.kex_pipe.specs.Histories.{Fed, Feeds, IsFateOf, bytes_fed, ended_of, text_of, stop_as}

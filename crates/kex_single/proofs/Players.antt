@@ -9,7 +9,7 @@ use Rattle.kex_code.specs.Readers.{HasRead, ReadOn, Reading}
 use Rattle.kex_code.specs.Texts.{BeginsText, IsBegun, IsCode, text_of}
 use Rattle.kex_code.proofs.Texts.{spells_begins, text_of-append}
 use Rattle.kex_model.specs.Answers.{Answer, stopped_answer, at_end, at_limit}
-use Rattle.kex_model.proofs.Standing.{shorter_front}
+use Rattle.kex_model.proofs.OpenAnswers.{shorter_front}
 use Rattle.kex_machine.specs.Nodes.{Graph}
 use Rattle.kex_machine.specs.Answers.{IsRun, left_by}
 use Rattle.kex_action.specs.Actors.{BeginsRun, HasPerformed, IsSettled, IsWhole, Position, TookAll}

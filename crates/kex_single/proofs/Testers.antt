@@ -4,7 +4,7 @@ use Rattle.std.specs.Prelude.{IsTrue, ◌↔◌}
 use Rattle.std.proofs.lemmas.List.{take_all}
 use Rattle.kex_code.specs.Codes.{Begins}
 use Rattle.kex_model.specs.Answers.{Answer, stopped_answer, at_byte, at_limit, bad_byte, still_open}
-use Rattle.kex_model.proofs.Standing as model
+use Rattle.kex_model.proofs.OpenAnswers as model
 use Rattle.kex_machine.specs.Answers.{Viable, HasParse}
 use Rattle.kex_frontier.specs.Matchers.{Match, IsAnswer, WasFed}
 use Rattle.kex_frontier.specs.declared.matcher.Matched.{Matched}

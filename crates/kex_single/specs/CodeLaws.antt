@@ -7,12 +7,12 @@ use Rattle.kex_code.specs.Texts.{text_of}
 use Rattle.kex_code.proofs.Texts.{text_of-append}
 use Rattle.kex_model.specs.Answers.{Answer}
 use Rattle.kex_model.specs.Survivors.{Agreed, Greedy}
-use Rattle.kex_model.proofs.Agreeing.{agreed_grows, agreed_greedy}
+use Rattle.kex_model.proofs.AgreedFronts.{agreed_grows, agreed_greedy}
 use Rattle.kex_model.proofs.Orders.{at_most_both}
-use Rattle.kex_model.proofs.Standing as model
+use Rattle.kex_model.proofs.OpenAnswers as model
 use Rattle.kex_machine.specs.Nodes.{Graph, node_moves}
 use Rattle.kex_machine.specs.Answers.{Viable, HasParse}
-use Rattle.kex_machine.proofs.Standing as nodes
+use Rattle.kex_machine.proofs.NodeAnswers as nodes
 use Rattle.kex_single.specs.Singles.{CodeAnswers, MeansCode, SaysCode}
 use Rattle.kex_single.specs.Laws as laws
 

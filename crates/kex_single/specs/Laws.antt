@@ -4,8 +4,8 @@ use Rattle.std.specs.Prelude.{is_none, IsSome}
 use Rattle.kex_code.specs.Codes.{Begins}
 use Rattle.kex_model.specs.Answers.{Answer, Answers, stopped_answer, at_byte, at_limit, bad_byte, too_long, cut_off, whole, still_open}
 use Rattle.kex_model.proofs.Orders.{two_fronts}
-use Rattle.kex_model.proofs.Standing as model
-use Rattle.kex_machine.proofs.Writing.{further_front}
+use Rattle.kex_model.proofs.OpenAnswers as model
+use Rattle.kex_machine.proofs.Outputs.{further_front}
 
 module _ (Good : List ℕ → Type 0) (Says : List ℕ → List ℕ → Type 0) (Parsed : List ℕ → Type 0) (Means : List ℕ → List ℕ → Type 0) where
   abbrev Gives : ℕ → List ℕ → Bool → Answer → Type 0

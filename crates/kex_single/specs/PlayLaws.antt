@@ -10,7 +10,7 @@ use Rattle.kex_code.specs.Texts.{BeginsText, IsCode, text_of}
 use Rattle.kex_code.proofs.Texts.{text_behind, text_of-append}
 use Rattle.kex_model.specs.Answers.{Answer, stopped_answer, at_byte, at_end, at_limit}
 use Rattle.kex_model.proofs.Orders.{two_fronts}
-use Rattle.kex_model.proofs.Standing.{empty_list, same_take, shorter_front, take_front}
+use Rattle.kex_model.proofs.OpenAnswers.{empty_list, same_take, shorter_front, take_front}
 use Rattle.kex_single.specs.Plays.{HasNext, IsBadByte, LongestCode, Plays, PlaysOn, StopsIn, bad_byte, too_long, cut_off, whole, still_open}
 
 -- ---- codes by their texts

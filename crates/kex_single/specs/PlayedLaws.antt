@@ -5,7 +5,7 @@ use Rattle.kex_code.specs.declared.symbol.Symbol.{Symbol}
 use Rattle.kex_code.specs.Codes.{Begins}
 use Rattle.kex_model.specs.Answers.{Answer}
 use Rattle.kex_machine.specs.Nodes.{Graph}
-use Rattle.kex_machine.proofs.Standing.{more_left}
+use Rattle.kex_machine.proofs.NodeAnswers.{more_left}
 use Rattle.kex_action.specs.Actors.{BeginsRun, IsWhole}
 use Rattle.kex_single.specs.Plays.{ActAnswers, WritesRun}
 use Rattle.kex_single.specs.PlayLaws as laws

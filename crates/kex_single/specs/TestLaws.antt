@@ -3,10 +3,10 @@ use Rattle.std.proofs.Common.{◌≡◌, ℕ, ◌<◌, Bool, false, ◌&&◌, Li
 use Rattle.std.specs.Prelude.{is_none, IsSome}
 use Rattle.kex_code.specs.Codes.{Begins}
 use Rattle.kex_model.specs.Answers.{Answer}
-use Rattle.kex_model.proofs.Standing as model
+use Rattle.kex_model.proofs.OpenAnswers as model
 use Rattle.kex_machine.specs.Nodes.{Graph}
 use Rattle.kex_machine.specs.Answers.{Viable, HasParse}
-use Rattle.kex_machine.proofs.Standing as nodes
+use Rattle.kex_machine.proofs.NodeAnswers as nodes
 use Rattle.kex_single.specs.Singles.{TestAnswers, SaysNothing, HasParseAlone}
 use Rattle.kex_single.specs.Laws as laws
 

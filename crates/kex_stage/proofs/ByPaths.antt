@@ -12,7 +12,7 @@ use Rattle.kex_frontier.specs.declared.frontier.Ended.{Ended}
 use Rattle.kex_frontier.specs.declared.frontier.Ended.TheVariants.{Parsed, Cut}
 use Rattle.kex_stage.specs.declared.oracle.Oracle.TheVariants.{Paths}
 use Rattle.kex_stage.specs.Oracles.{HasSurvivor, Tells, TellsEnd, ReadsOn, Reads, is_parsed}
-use Rattle.kex_stage.proofs.Telling.{whole_front, said_before, agrees, take_all, more_taken}
+use Rattle.kex_stage.proofs.OracleAnswers.{whole_front, said_before, agrees, take_all, more_taken}
 
 -- a tree has a leaf
 leaf_in : {A S : Type 0} (t : Labelled A S) (c : List A) → (x : Leaf A S) × IsAmong (leaves_of t c) x

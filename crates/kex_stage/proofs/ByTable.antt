@@ -4,14 +4,14 @@ use Rattle.kex_code.specs.declared.symbol.Symbol.{Symbol}
 use Rattle.kex_code.specs.Codes.{Begins, bytes_of}
 use Rattle.kex_model.specs.Moves.{code_of}
 use Rattle.kex_model.specs.Survivors.{Agreed}
-use Rattle.kex_model.proofs.Standing.{same_front}
+use Rattle.kex_model.proofs.OpenAnswers.{same_front}
 use Rattle.kex_model.proofs.Walks.{bytes_of-append}
-use Rattle.kex_model.proofs.Agreeing.{agreed_greedy}
+use Rattle.kex_model.proofs.AgreedFronts.{agreed_greedy}
 use Rattle.kex_model.proofs.Derivations.{walk-append, code_of-append}
 use Rattle.kex_machine.specs.Nodes.{Graph, node_moves, IsTrimmed}
 use Rattle.kex_machine.specs.Answers.{Viable, HasParse}
 use Rattle.kex_machine.proofs.Ranges.{is_trim}
-use Rattle.kex_machine.proofs.Saying.{no_parse}
+use Rattle.kex_machine.proofs.LongestFronts.{no_parse}
 use Rattle.kex_sst.specs.Tables.{Transducer}
 use Rattle.kex_sst.specs.Passes.{Pass, first_pass, passes, whole_code}
 use Rattle.kex_sst.specs.Machines.{IsTableOf}
@@ -19,12 +19,12 @@ use Rattle.kex_runner.specs.Running.{Running, HasNoEnd, IsFed, IsRunOf, IsLive, 
 use Rattle.kex_runner.specs.declared.answers.Fed.{Fed}
 use Rattle.kex_runner.specs.declared.answers.Fed.TheVariants.{On, Dead}
 use Rattle.kex_runner.specs.declared.answers.Ended.TheVariants.{Parsed, Cut}
-use Rattle.kex_runner.proofs.Standing.{stopped_none}
+use Rattle.kex_runner.proofs.FedRunners.{stopped_none}
 use Rattle.kex_stage.specs.declared.follower.Follower.{Follower}
 use Rattle.kex_stage.specs.declared.oracle.Oracle.{Oracle}
 use Rattle.kex_stage.specs.declared.oracle.Oracle.TheVariants.{Table}
 use Rattle.kex_stage.specs.Oracles.{Hears, Agrees, HearsOn, Tells, TellsEnd}
-use Rattle.kex_stage.proofs.Telling.{take_all}
+use Rattle.kex_stage.proofs.OracleAnswers.{take_all}
 
 module _ (g : Graph) (t : Transducer) (trimmed : IsTrimmed g) (of : IsTableOf g t) where
   -- a text that can go on goes on to one with a parse, whose greedy code begins with what is passed on

@@ -1,7 +1,7 @@
-pub mod Telling
+pub mod OracleAnswers
 pub mod ByPaths
 pub mod ByTable
-pub mod Working
-pub mod Following
-pub mod Stepping
-pub mod Feeding
+pub mod ActorOutputs
+pub mod Followers
+pub mod PerformedSteps
+pub mod FedStages

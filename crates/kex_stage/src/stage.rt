@@ -1,7 +1,7 @@
 // A stage.
 
 ghost use Rattle.std.specs.Prelude.{◌≡◌, ◌≤◌, true, false, IfOk, IsTrue, Some, None, min, take, length};
-ghost use Rattle.kex_machine.proofs.Standing.{one_answer, grows, stays, ends};
+ghost use Rattle.kex_machine.proofs.NodeAnswers.{one_answer, grows, stays, ends};
 ghost use Rattle.kex_stage.specs.Oracles.{IsReady, learnt_of, read_of};
 ghost use Rattle.kex_stage.specs.Stages.{Gives, StagePlan, IsStageOf, end_stop, fate_of, stop_after};
 

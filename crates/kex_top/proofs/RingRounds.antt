@@ -7,9 +7,9 @@ use Rattle.kex_pipe.specs.declared.turn.Turn.{Ghosts}
 use Rattle.kex_rings.specs.Lines.{turns_from}
 use Rattle.kex_rings.specs.Standing.{Stands, WorksOff}
 use Rattle.kex_rings.specs.declared.pipe.RingPipe.{RingPipe}
-use Rattle.kex_rings.proofs.Steps.{same-bytes, same-end}
+use Rattle.kex_rings.proofs.StageTurns.{same-bytes, same-end}
 use Rattle.kex_top.specs.Piped.{IsGiven, IsWorkedOff}
-use Rattle.kex_top.proofs.Working.{bytes-more, end-open}
+use Rattle.kex_top.proofs.PipeAnswers.{bytes-more, end-open}
 
 module _ {T : Type 0} (t : Ghosts T) (ps : List t.Plan) (h : List Event) (taken : List ℕ) where
   -- the pipe stands for a schedule that gave these bytes more

@@ -1,7 +1,7 @@
 // The stages of a program, fed piece by piece.
 ghost use Rattle.std.specs.Prelude.{◌≡◌, ◌<◌, ◌++◌, List, ℕ, Some, IsSome, OnOk, IfOk, false, true, length, take};
 ghost use Rattle.std.proofs.Common.{ap};
-ghost use Rattle.kex_machine.proofs.Standing.{past_limit};
+ghost use Rattle.kex_machine.proofs.NodeAnswers.{past_limit};
 ghost use Rattle.kex_model.specs.Answers.{Answer};
 ghost use Rattle.kex_top.specs.Fronts.{IsFront};
 ghost use Rattle.kex_top.specs.History.{Fed, History, bytes_passed, is_ended, IsFateOf, Feeds};

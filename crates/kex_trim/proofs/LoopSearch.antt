@@ -8,7 +8,7 @@ use Rattle.kex_code.specs.Codes.{bytes_of, IsAmong, Different}
 use Rattle.kex_model.specs.Moves.{quiet, Move, accept, read, choose, forced, go, Side, to_left, to_right, symbol_of, Step, chose, went, Allows, reads, goes_left, goes_right, goes_forced, goes, target_of, symbols_of, code_of, Walk}
 use Rattle.kex_model.proofs.Walks.{bytes_of-append}
 use Rattle.kex_model.proofs.Loops.{Quiet, quiet_more}
-use Rattle.kex_model.proofs.Counting.{among-append, among_get, different_fits}
+use Rattle.kex_model.proofs.DistinctItems.{among-append, among_get, different_fits}
 use Rattle.kex_model.proofs.Tables.{some_same, get_more}
 use Rattle.kex_machine.specs.declared.MNode.{MNode}
 use Rattle.kex_machine.specs.Nodes.{node_moves, move_of}

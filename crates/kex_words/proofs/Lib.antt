@@ -1,4 +1,4 @@
 pub mod Numbers
-pub mod Matched
+pub mod ClapAnswers
 pub mod Subcommands
-pub mod Telling
+pub mod Writes

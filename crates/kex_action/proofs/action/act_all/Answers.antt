@@ -3,7 +3,7 @@ use Rattle.kex_model.specs.Acting.{State}
 use Rattle.kex_action.specs.Holdings.{state_of}
 use Rattle.kex_action.specs.Actions.{after_action}
 use Rattle.kex_action.specs.declared.action.Action.TheVariants.{Byte}
-use Rattle.kex_action.proofs.Acting.{done-more, length-done_at}
+use Rattle.kex_action.proofs.Actions.{done-more, length-done_at}
 use Rattle.kex_action.proofs.action.act_all.Goals as goal
 
 pub loop-action-preserved : goal.loop-action-preserved

@@ -1,7 +1,7 @@
 use Rattle.std.proofs.Common.{◌≡◌, ◌∙◌, ◌∷◌, [], ℕ, List, Bool, IsTrue, sym, ap}
 use Rattle.kex_action.specs.Actions.{after_action}
 use Rattle.kex_action.specs.Sheets.{state_with}
-use Rattle.kex_action.proofs.Sheeting.{wrote, if_ok}
+use Rattle.kex_action.proofs.Sheets.{wrote, if_ok}
 use Rattle.kex_machine.specs.Nodes.{effect_of}
 use Rattle.kex_model.specs.Acting.{after_effect}
 use Rattle.kex_action.proofs.action.act_at.Goals as goal

@@ -1,7 +1,7 @@
 use Rattle.std.proofs.Common.{◌∙◌, ◌∷◌, [], get_or}
 use Rattle.kex_action.specs.declared.action.Action.TheVariants.{Byte}
 use Rattle.kex_action.specs.Sheets.{state_with}
-use Rattle.kex_action.proofs.Sheeting.{done_more, kept_count}
+use Rattle.kex_action.proofs.Sheets.{done_more, kept_count}
 use Rattle.kex_action.proofs.action.act_on.Goals as goal
 
 pub loop-count-preserved : goal.loop-count-preserved

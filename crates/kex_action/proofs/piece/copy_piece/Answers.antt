@@ -1,5 +1,5 @@
 use Rattle.std.proofs.Common.{◌+◌, ◌-◌, ◌++◌, ◌∙◌, ap, take, arith}
-use Rattle.kex_action.proofs.Copying.{over, copied_front}
+use Rattle.kex_action.proofs.Copies.{over, copied_front}
 use Rattle.kex_action.proofs.piece.copy_piece.Goals as goal
 
 pub returns-clause-copied : goal.returns-clause-copied

@@ -1,5 +1,5 @@
 use Rattle.std.proofs.Common.{◌∙◌}
-use Rattle.kex_action.proofs.Storing.{innermost, on_ok}
+use Rattle.kex_action.proofs.Buffers.{innermost, on_ok}
 use Rattle.kex_action.proofs.store.append_to.Goals as goal
 
 pub returns-clause-ok : goal.returns-clause-ok

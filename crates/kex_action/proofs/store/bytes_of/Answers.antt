@@ -1,6 +1,6 @@
 use Rattle.std.proofs.Common.{◌∙◌, sym, ap, inl, [], ◌∷◌, get_or, append-nil}
 use Rattle.kex_code.specs.Registers.{pieces_text}
-use Rattle.kex_action.proofs.Storing.{get_or-any}
+use Rattle.kex_action.proofs.Buffers.{get_or-any}
 use Rattle.kex_action.proofs.store.bytes_of.Goals as goal
 
 pub bounds-registers-r : goal.bounds-registers-r

@@ -1,7 +1,7 @@
 use Rattle.std.proofs.Common.{◌∙◌, ◌++◌, ⊎_elim, sym, ap, ap₂, subst, take, append_assoc, add-one}
 use Rattle.kex_code.specs.Codes.{IsAmong}
 use Rattle.kex_code.specs.Registers.{pieces_text}
-use Rattle.kex_action.proofs.Storing.{among_at, joined-more}
+use Rattle.kex_action.proofs.Buffers.{among_at, joined-more}
 use Rattle.kex_action.proofs.store.join.Goals as goal
 
 pub bytes_of-requires : goal.bytes_of-requires

@@ -7,8 +7,8 @@ use Rattle.kex_model.specs.Moves.{Allows}
 use Rattle.kex_model.proofs.Tables.{some_same}
 use Rattle.kex_machine.specs.Nodes.{node_moves}
 use Rattle.kex_action.specs.Holdings.{step_by, state_of, Leads}
-use Rattle.kex_action.proofs.Storing.{on_err}
-use Rattle.kex_action.proofs.Leading.{front_of, front_wider, front_behind, begins_take, leads_on, take-more}
+use Rattle.kex_action.proofs.Buffers.{on_err}
+use Rattle.kex_action.proofs.NodeSteps.{front_of, front_wider, front_behind, begins_take, leads_on, take-more}
 use Rattle.kex_action.proofs.walk.follow.Goals as goal
 
 pub returns-in_err-at-clause-err : goal.returns-in_err-at-clause-err

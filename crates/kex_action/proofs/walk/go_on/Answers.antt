@@ -1,9 +1,9 @@
 use Rattle.std.proofs.Common.{◌≡◌, Some, IfSome, IfNone, ◌∙◌, ◌<◌, ◌≤◌, refl, ap, sym, subst, length, arith, []}
 use Rattle.kex_machine.specs.Nodes.{IsInRange, move_of}
 use Rattle.kex_action.specs.Holdings.{Rests, Passes, state_of}
-use Rattle.kex_action.proofs.Storing.{on_err}
-use Rattle.kex_action.proofs.Leading.{going_none, going_more, fits_passed, front_of, move_at}
-use Rattle.kex_action.proofs.Looping.{walk_short}
+use Rattle.kex_action.proofs.Buffers.{on_err}
+use Rattle.kex_action.proofs.NodeSteps.{going_none, going_more, fits_passed, front_of, move_at}
+use Rattle.kex_action.proofs.QuietWalks.{walk_short}
 use Rattle.kex_action.proofs.walk.go_on.Goals as goal
 
 pub loop-init : goal.loop-init

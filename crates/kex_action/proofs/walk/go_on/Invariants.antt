@@ -1,5 +1,5 @@
 use Rattle.kex_action.specs.Holdings.{state_of, Fits}
-use Rattle.kex_action.proofs.Leading.{Going}
+use Rattle.kex_action.proofs.NodeSteps.{Going}
 use Rattle.kex_action.proofs.walk.go_on.Given as goal
 
 abbrev pub invariant-loop : goal.invariant-loop

@@ -2,8 +2,8 @@ use Rattle.std.proofs.Common.{◌≡◌, ◌∙◌, ◌<◌, ◌≤◌, ap, sym,
 use Rattle.kex_model.specs.Moves.{went}
 use Rattle.kex_machine.specs.Nodes.{IsInRange}
 use Rattle.kex_action.specs.Holdings.{IsPassed}
-use Rattle.kex_action.proofs.Leading.{walks_none, walks_more, move_at}
-use Rattle.kex_action.proofs.Looping.{walk_short, entered_in}
+use Rattle.kex_action.proofs.NodeSteps.{walks_none, walks_more, move_at}
+use Rattle.kex_action.proofs.QuietWalks.{walk_short, entered_in}
 use Rattle.kex_action.proofs.walk.rest_of.Goals as goal
 
 pub loop-init : goal.loop-init

@@ -1,5 +1,5 @@
 use Rattle.std.proofs.Common.{◌<◌, length}
-use Rattle.kex_action.proofs.Leading.{Walks}
+use Rattle.kex_action.proofs.NodeSteps.{Walks}
 use Rattle.kex_action.proofs.walk.rest_of.Given as goal
 
 abbrev pub invariant-loop : goal.invariant-loop

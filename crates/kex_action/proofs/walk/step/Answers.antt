@@ -2,7 +2,7 @@ use Rattle.std.proofs.Common.{◌∙◌, ap, sym, subst}
 use Rattle.kex_model.specs.Moves.{Allows, append}
 use Rattle.kex_machine.specs.Nodes.{IsInRange}
 use Rattle.kex_action.specs.Holdings.{state_of, step_by}
-use Rattle.kex_action.proofs.Leading.{move_at, by_symbol, did_byte, did_choice, fits_after, count_after}
+use Rattle.kex_action.proofs.NodeSteps.{move_at, by_symbol, did_byte, did_choice, fits_after, count_after}
 use Rattle.kex_action.proofs.walk.step.Goals as goal
 
 pub returns-in_ok-write-clause-some : goal.returns-in_ok-write-clause-some

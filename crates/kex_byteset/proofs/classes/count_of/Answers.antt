@@ -2,7 +2,7 @@ use Rattle.std.proofs.Common.{◌≡◌, ◌+◌, take, max, arith, ap, sym, ◌
 use Rattle.std.proofs.lemmas.List.{take_all}
 use Rattle.std.proofs.Math.Nat.{max-eq_left, max-eq_right}
 use Rattle.kex_byteset.specs.Classes.{class_count}
-use Rattle.kex_byteset.proofs.Refining.{count_more, below_count}
+use Rattle.kex_byteset.proofs.Partitions.{count_more, below_count}
 use Rattle.kex_byteset.proofs.classes.count_of.Goals as goal
 use Rattle.kex_byteset.proofs.classes.count_of.Goals.{then-count-past, else-count-past}
 

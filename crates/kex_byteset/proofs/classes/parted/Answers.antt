@@ -1,5 +1,5 @@
 use Rattle.std.proofs.Common.{◌≡◌, true, false, arith, sym, subst, ◌∙◌}
-use Rattle.kex_byteset.proofs.Refining.{IsBegun, begun_none, no_numbers, next_byte, numbered, refined}
+use Rattle.kex_byteset.proofs.Partitions.{IsBegun, begun_none, no_numbers, next_byte, numbered, refined}
 use Rattle.kex_byteset.proofs.classes.parted.Goals as goal
 use Rattle.kex_byteset.proofs.classes.parted.Goals.{then-has, else-has}
 

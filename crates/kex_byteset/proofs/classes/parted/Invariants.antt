@@ -1,5 +1,5 @@
 use Rattle.std.proofs.Common.{true, false}
-use Rattle.kex_byteset.proofs.Refining.{IsBegun, AreNumbers}
+use Rattle.kex_byteset.proofs.Partitions.{IsBegun, AreNumbers}
 use Rattle.kex_byteset.proofs.classes.parted.Given as goal
 
 abbrev pub invariant-loop-byte : goal.invariant-loop-byte

@@ -1,5 +1,5 @@
 use Rattle.std.proofs.Common.{◌≡◌, ℕ, zero, suc, ◌<◌, true, false, vec_len, [], ◌∷◌, ◌++◌, Some, map, refl, ap, sym, ◌∙◌, arith}
-use Rattle.kex_model.proofs.Standing.{empty_list}
+use Rattle.kex_model.proofs.OpenAnswers.{empty_list}
 use Rattle.kex_sst.specs.declared.parts.Part.TheVariants.{Old}
 use Rattle.kex_determine.proofs.FirstLeaves.{leaf_of, found, none_left, next_side, into_fork, not_past, on_as}
 use Rattle.kex_determine.proofs.ends.way_to_end.Goals as goal

@@ -1,7 +1,7 @@
 use Rattle.std.proofs.Common.{◌++◌, refl}
-use Rattle.kex_model.proofs.Agreeing.{agreed_grows, agreed_greedy}
+use Rattle.kex_model.proofs.AgreedFronts.{agreed_grows, agreed_greedy}
 use Rattle.kex_machine.specs.Nodes.{node_moves}
-use Rattle.kex_machine.proofs.Standing.{orderly}
+use Rattle.kex_machine.proofs.NodeAnswers.{orderly}
 use Rattle.kex_machine.proofs.laws.answers_grow.Goals as goal
 
 pub returns : goal.returns

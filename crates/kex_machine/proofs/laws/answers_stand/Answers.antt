@@ -1,4 +1,4 @@
-use Rattle.kex_machine.proofs.Standing.{one_answer, grows, stays, ends, past_limit}
+use Rattle.kex_machine.proofs.NodeAnswers.{one_answer, grows, stays, ends, past_limit}
 use Rattle.kex_machine.proofs.laws.answers_stand.Goals as goal
 
 pub returns : goal.returns

@@ -1,4 +1,4 @@
-use Rattle.kex_machine.proofs.Standing.{same_left}
+use Rattle.kex_machine.proofs.NodeAnswers.{same_left}
 use Rattle.kex_machine.proofs.laws.one_left.Goals as goal
 
 pub returns : goal.returns

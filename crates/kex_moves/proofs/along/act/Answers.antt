@@ -2,8 +2,8 @@ use Rattle.std.proofs.Common.{◌∙◌, ◌++◌, ◌-◌, length, take, drop, 
 use Rattle.std.proofs.lemmas.List.{take_rest, take-append-drop}
 use Rattle.kex_action.specs.Actions.{after_actions}
 use Rattle.kex_action.specs.Sheets.{state_with}
-use Rattle.kex_action.proofs.Acting.{done-append}
-use Rattle.kex_action.proofs.Sheeting.{blank_state}
+use Rattle.kex_action.proofs.Actions.{done-append}
+use Rattle.kex_action.proofs.Sheets.{blank_state}
 use Rattle.kex_moves.proofs.along.act.Goals as goal
 
 pub returns-in_ok-act_rest-clause-did : goal.returns-in_ok-act_rest-clause-did

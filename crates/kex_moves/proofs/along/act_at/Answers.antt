@@ -1,9 +1,9 @@
 use Rattle.std.proofs.Common.{◌≡◌, ◌<◌, ◌∙◌, Some, refl, sym, ap, length}
 use Rattle.std.specs.Prelude.{slice_get}
 use Rattle.kex_moves.specs.Edges.{is_written, is_known}
-use Rattle.kex_moves.proofs.Knowing.{pair_known}
-use Rattle.kex_moves.proofs.Going.{right_at}
-use Rattle.kex_moves.proofs.Carrying.{reached_opens, reached_acts, reached_none, same_grows}
+use Rattle.kex_moves.proofs.KnownEdges.{pair_known}
+use Rattle.kex_moves.proofs.EdgeRuns.{right_at}
+use Rattle.kex_moves.proofs.SheetRuns.{reached_opens, reached_acts, reached_none, same_grows}
 use Rattle.kex_moves.proofs.along.act_at.Goals as goal
 
 pub act-requires-clause-to : goal.act-requires-clause-to

@@ -1,7 +1,7 @@
 use Rattle.std.proofs.Common.{◌<◌, ◌∷◌, [], length, get_or, take, subst, arith}
 use Rattle.kex_moves.specs.Along.{ReachedOn}
-use Rattle.kex_moves.proofs.Going.{one_more}
-use Rattle.kex_moves.proofs.Carrying.{reached_on, row_reached}
+use Rattle.kex_moves.proofs.EdgeRuns.{one_more}
+use Rattle.kex_moves.proofs.SheetRuns.{reached_on, row_reached}
 use Rattle.kex_moves.proofs.along.act_next.Goals as goal
 
 pub act_at-requires-clause-row : goal.act_at-requires-clause-row

@@ -2,10 +2,10 @@ use Rattle.std.proofs.Common.{◌∙◌, ◌≤◌, length, take, drop, reverse,
 use Rattle.std.specs.Vec.{with_items}
 use Rattle.std.proofs.lemmas.List.{with_items_is}
 use Rattle.kex_action.specs.declared.sheet.Sheet.{Sheet}
-use Rattle.kex_action.proofs.Sheeting.{marks_more}
+use Rattle.kex_action.proofs.Sheets.{marks_more}
 use Rattle.kex_moves.specs.Runs.{Stop, stop_behind, run_of}
 use Rattle.kex_moves.specs.Known.{rows_of}
-use Rattle.kex_moves.proofs.Carrying.{reached_run, longer, stop_at}
+use Rattle.kex_moves.proofs.SheetRuns.{reached_run, longer, stop_at}
 use Rattle.kex_moves.proofs.along.along.Goals as goal
 
 pub returns-clause-sheet : goal.returns-clause-sheet

@@ -1,5 +1,5 @@
 use Rattle.std.proofs.Common.{◌<◌, length, refl, sym, ap, subst}
-use Rattle.kex_moves.proofs.Carrying.{handed_on}
+use Rattle.kex_moves.proofs.SheetRuns.{handed_on}
 use Rattle.kex_moves.proofs.along.arrive.Goals as goal
 
 pub hand_on-requires-clause-node : goal.hand_on-requires-clause-node

@@ -2,7 +2,7 @@ use Rattle.std.proofs.Common.{◌<◌, length, sym, ap}
 use Rattle.std.proofs.lemmas.Bool.{eqb-false}
 use Rattle.kex_moves.specs.Edges.{is_written}
 use Rattle.kex_moves.specs.Known.{rows_of}
-use Rattle.kex_moves.proofs.Running.{some_left, stays_at}
+use Rattle.kex_moves.proofs.Runs.{some_left, stays_at}
 use Rattle.kex_moves.proofs.along.ends_at.Goals as goal
 
 pub returns-in-Plain : goal.returns-in-Plain

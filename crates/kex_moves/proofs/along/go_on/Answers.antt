@@ -2,8 +2,8 @@ use Rattle.std.proofs.Common.{◌≡◌, ◌<◌, ◌≤◌, [], length, take, r
 use Rattle.std.proofs.lemmas.List.{take-take, append-nil}
 use Rattle.kex_moves.specs.Known.{IsKnown}
 use Rattle.kex_moves.specs.Along.{ReachedOn}
-use Rattle.kex_moves.proofs.Knowing.{pair_known}
-use Rattle.kex_moves.proofs.Carrying.{reached_from, reached_on, reached_none}
+use Rattle.kex_moves.proofs.KnownEdges.{pair_known}
+use Rattle.kex_moves.proofs.SheetRuns.{reached_from, reached_on, reached_none}
 use Rattle.kex_moves.proofs.along.go_on.Goals as goal
 
 pub make_room-requires-clause-row : goal.make_room-requires-clause-row

@@ -1,4 +1,4 @@
-use Rattle.kex_moves.proofs.Carrying.{same_grows}
+use Rattle.kex_moves.proofs.SheetRuns.{same_grows}
 use Rattle.kex_moves.proofs.along.learn_at.Goals as goal
 
 pub returns-in-Plain-clause-rows : goal.returns-in-Plain-clause-rows

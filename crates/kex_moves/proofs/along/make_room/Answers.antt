@@ -1,5 +1,5 @@
 use Rattle.std.proofs.Common.{arith}
-use Rattle.kex_moves.proofs.Carrying.{cleared, blank_sheet}
+use Rattle.kex_moves.proofs.SheetRuns.{cleared, blank_sheet}
 use Rattle.kex_moves.proofs.along.make_room.Goals as goal
 
 pub returns-clause-same : goal.returns-clause-same

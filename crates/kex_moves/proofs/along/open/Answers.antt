@@ -4,7 +4,7 @@ use Rattle.std.proofs.Math.ListN.{length-set}
 use Rattle.std.proofs.lemmas.List.{take_more_set}
 use Rattle.kex_action.specs.declared.sheet.Sheet.{Sheet}
 use Rattle.kex_action.specs.Holdings.{with_bytes}
-use Rattle.kex_action.proofs.Sheeting.{marks_more, opened, opened_sheet, wrote}
+use Rattle.kex_action.proofs.Sheets.{marks_more, opened, opened_sheet, wrote}
 use Rattle.kex_moves.proofs.along.open.Goals as goal
 
 pub returns-clause-opened : goal.returns-clause-opened

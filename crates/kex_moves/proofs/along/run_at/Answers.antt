@@ -2,7 +2,7 @@ use Rattle.std.proofs.Common.{ℕ, IfSome, take, subst}
 use Rattle.kex_moves.specs.declared.along.Ran.{Ran}
 use Rattle.kex_moves.specs.Known.{HasRowFor}
 use Rattle.kex_moves.specs.Along.{Goes}
-use Rattle.kex_moves.proofs.Settling.{map_ok}
+use Rattle.kex_moves.proofs.PlacedTexts.{map_ok}
 use Rattle.kex_moves.proofs.along.run_at.Goals as goal
 
 pub run_from-requires-clause-row : goal.run_from-requires-clause-row

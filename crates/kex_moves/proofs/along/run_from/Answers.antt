@@ -1,8 +1,8 @@
 use Rattle.std.proofs.Common.{◌∙◌, ◌-◌, ◌<◌, length, take, drop, refl, sym, subst, arith, length-take, length-drop}
 use Rattle.kex_moves.specs.Along.{ReachedOn}
-use Rattle.kex_moves.proofs.Knowing.{pair_known}
-use Rattle.kex_moves.proofs.Going.{part_more}
-use Rattle.kex_moves.proofs.Carrying.{reached_none, same_grows, reached_on, arrived, blank_sheet}
+use Rattle.kex_moves.proofs.KnownEdges.{pair_known}
+use Rattle.kex_moves.proofs.EdgeRuns.{part_more}
+use Rattle.kex_moves.proofs.SheetRuns.{reached_none, same_grows, reached_on, arrived, blank_sheet}
 use Rattle.kex_moves.proofs.along.run_from.Goals as goal
 
 pub rounds-init : goal.rounds-init

@@ -5,8 +5,8 @@ use Rattle.kex_moves.specs.declared.edge.Edge.{Edge}
 use Rattle.kex_moves.specs.Edges.{is_written, HasRoom}
 use Rattle.kex_moves.specs.Runs.{Step}
 use Rattle.kex_moves.specs.Trails.{IsTrail}
-use Rattle.kex_moves.proofs.Running.{no_edge}
-use Rattle.kex_moves.proofs.Trailing.{no_piece, trail_more, edge_read, over_unwritten}
+use Rattle.kex_moves.proofs.Runs.{no_edge}
+use Rattle.kex_moves.proofs.Trails.{no_piece, trail_more, edge_read, over_unwritten}
 use Rattle.kex_moves.proofs.follow.follow.Goals as goal
 
 pub loop-at-preserved : goal.loop-at-preserved

@@ -7,8 +7,8 @@ use Rattle.kex_moves.specs.declared.edge.Edge.{Edge}
 use Rattle.kex_moves.specs.Edges.{is_known}
 use Rattle.kex_moves.specs.Walks.{Learns}
 use Rattle.kex_moves.specs.Known.{IsRight, IsLed}
-use Rattle.kex_moves.proofs.Settling.{map_ok}
-use Rattle.kex_moves.proofs.Knowing.{none_left, right_led, map_some}
+use Rattle.kex_moves.proofs.PlacedTexts.{map_ok}
+use Rattle.kex_moves.proofs.KnownEdges.{none_left, right_led, map_some}
 use Rattle.kex_moves.proofs.learn.edge_of.Goals as goal
 
 pub returns-clause-right : goal.returns-clause-right

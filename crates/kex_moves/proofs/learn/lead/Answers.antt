@@ -1,7 +1,7 @@
 use Rattle.std.proofs.Common.{IfSome, subst}
 use Rattle.kex_action.specs.Actions.{after_actions}
 use Rattle.kex_moves.specs.Known.{HasRowFor, Settles}
-use Rattle.kex_moves.proofs.Knowing.{known_wider, known_longer, grows_wider, grows_longer, led}
+use Rattle.kex_moves.proofs.KnownEdges.{known_wider, known_longer, grows_wider, grows_longer, led}
 use Rattle.kex_moves.proofs.learn.lead.Goals as goal
 
 pub returns-in_default-clause-known : goal.returns-in_default-clause-known

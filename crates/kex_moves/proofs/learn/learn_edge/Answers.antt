@@ -2,7 +2,7 @@ use Rattle.std.proofs.Common.{◌≡◌, ◌∙◌, ap, sym, subst, IfSome, true
 use Rattle.std.specs.Prelude.{slice_get}
 use Rattle.kex_moves.specs.Edges.{is_known}
 use Rattle.kex_moves.specs.Known.{IsRight, IsRowOf}
-use Rattle.kex_moves.proofs.Knowing.{class_below, pair_known, known_put, right_at_row}
+use Rattle.kex_moves.proofs.KnownEdges.{class_below, pair_known, known_put, right_at_row}
 use Rattle.kex_moves.proofs.learn.learn_edge.Goals as goal
 
 pub edge_of-requires-clause-class : goal.edge_of-requires-clause-class

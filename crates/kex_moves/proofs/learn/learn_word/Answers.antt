@@ -2,7 +2,7 @@ use Rattle.std.proofs.Common.{IfSome, sym, subst, true, ◌≡◌, arith}
 use Rattle.kex_moves.specs.Edges.{is_known}
 use Rattle.kex_moves.specs.Known.{IsRight, IsRowOf}
 use Rattle.kex_moves.specs.Speech.{table_of}
-use Rattle.kex_moves.proofs.Knowing.{pair_known, known_put, right_at_row}
+use Rattle.kex_moves.proofs.KnownEdges.{pair_known, known_put, right_at_row}
 use Rattle.kex_moves.proofs.learn.learn_word.Goals as goal
 
 pub word_edge-requires-clause-pair : goal.word_edge-requires-clause-pair

@@ -1,5 +1,5 @@
 use Rattle.std.proofs.Common.{◌<◌, length, ap, arith}
-use Rattle.kex_moves.proofs.Knowing.{known_wider}
+use Rattle.kex_moves.proofs.KnownEdges.{known_wider}
 use Rattle.kex_moves.proofs.learn.row_for.Goals as goal
 
 pub returns-else-is_none-clause-known : goal.returns-else-is_none-clause-known

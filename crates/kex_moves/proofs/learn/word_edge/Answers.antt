@@ -9,9 +9,9 @@ use Rattle.kex_moves.specs.Edges.{is_known}
 use Rattle.kex_moves.specs.Walks.{Learns}
 use Rattle.kex_moves.specs.Known.{IsRight, IsLed, IsKnown}
 use Rattle.kex_moves.specs.Speech.{table_of}
-use Rattle.kex_moves.proofs.Settling.{map_ok}
-use Rattle.kex_moves.proofs.Knowing.{right_led, map_some}
-use Rattle.kex_moves.proofs.Speaking.{by_word}
+use Rattle.kex_moves.proofs.PlacedTexts.{map_ok}
+use Rattle.kex_moves.proofs.KnownEdges.{right_led, map_some}
+use Rattle.kex_moves.proofs.PieceRuns.{by_word}
 use Rattle.kex_moves.proofs.learn.word_edge.Goals as goal
 
 pub returns-clause-known : goal.returns-clause-known

@@ -1,5 +1,5 @@
 use Rattle.std.proofs.Common.{◌+◌, ◌-◌, ◌∙◌, ap, take, set, ◌++◌, arith}
-use Rattle.kex_moves.proofs.Putting.{over_text, copied}
+use Rattle.kex_moves.proofs.BufferWrites.{over_text, copied}
 use Rattle.kex_moves.proofs.put.put.Goals as goal
 
 pub returns-clause-written : goal.returns-clause-written

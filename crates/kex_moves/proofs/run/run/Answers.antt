@@ -2,7 +2,7 @@ use Rattle.std.proofs.Common.{◌≡◌, ◌∙◌, ◌+◌, ◌-◌, ◌<◌, �
 use Rattle.std.proofs.lemmas.Grind.{common_steps}
 use Rattle.kex_moves.specs.Edges.{is_written}
 use Rattle.kex_moves.specs.Runs.{Rows}
-use Rattle.kex_moves.proofs.Running.{edge_at, row_at, room_at, no_step, one_step, stops, goes_on, kept_from, dropped_from}
+use Rattle.kex_moves.proofs.Runs.{edge_at, row_at, room_at, no_step, one_step, stops, goes_on, kept_from, dropped_from}
 use Rattle.kex_moves.proofs.run.run.Goals as goal
 
 pub loop-at-preserved-then-is_keep : goal.loop-at-preserved-then-is_keep

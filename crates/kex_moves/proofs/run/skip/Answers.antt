@@ -1,6 +1,6 @@
 use Rattle.std.proofs.Common.{◌<◌, length, get_or, arith}
 use Rattle.kex_moves.specs.declared.edge.Kind.TheVariants.{Drop}
-use Rattle.kex_moves.proofs.Running.{one_kind}
+use Rattle.kex_moves.proofs.Runs.{one_kind}
 use Rattle.kex_moves.proofs.run.skip.Goals as goal
 
 pub loop-count-preserved : goal.loop-count-preserved

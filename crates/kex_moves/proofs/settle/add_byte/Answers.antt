@@ -1,6 +1,6 @@
 use Rattle.std.proofs.Common.{◌∙◌, ◌∷◌, [], set, sym, ap, arith}
-use Rattle.kex_moves.proofs.Settling.{byte_text}
-use Rattle.kex_moves.proofs.Drafting.{drafts_hidden, drafts_written}
+use Rattle.kex_moves.proofs.PlacedTexts.{byte_text}
+use Rattle.kex_moves.proofs.DraftSteps.{drafts_hidden, drafts_written}
 use Rattle.kex_moves.proofs.settle.add_byte.Goals as goal
 
 pub returns-then-draft-gt0-clause-drafts : goal.returns-then-draft-gt0-clause-drafts

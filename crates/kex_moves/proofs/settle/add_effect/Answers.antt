@@ -2,7 +2,7 @@ use Rattle.std.proofs.Common.{◌+◌, ◌-◌, refl, subst, sym}
 use Rattle.kex_model.specs.Acting.{after_effect}
 use Rattle.kex_machine.specs.Nodes.{effect_of}
 use Rattle.kex_moves.specs.Drafts.{Drafts}
-use Rattle.kex_moves.proofs.Drafting.{draft, drafts_opened, drafts_dropped}
+use Rattle.kex_moves.proofs.DraftSteps.{draft, drafts_opened, drafts_dropped}
 use Rattle.kex_moves.proofs.settle.add_effect.Goals as goal
 
 pub returns-in-Open-clause-drafts : goal.returns-in-Open-clause-drafts

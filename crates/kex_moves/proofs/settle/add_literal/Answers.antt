@@ -1,6 +1,6 @@
 use Rattle.std.proofs.Common.{◌∙◌, set, sym, ap, arith}
-use Rattle.kex_moves.proofs.Settling.{set_more, more_room}
-use Rattle.kex_moves.proofs.Drafting.{drafts_hidden, drafts_more}
+use Rattle.kex_moves.proofs.PlacedTexts.{set_more, more_room}
+use Rattle.kex_moves.proofs.DraftSteps.{drafts_hidden, drafts_more}
 use Rattle.kex_moves.proofs.settle.add_literal.Goals as goal
 
 pub returns-then-draft-gt0-clause-drafts : goal.returns-then-draft-gt0-clause-drafts

@@ -1,7 +1,7 @@
 use Rattle.std.proofs.Common.{sym, subst, arith}
 use Rattle.kex_action.specs.Actions.{after_action}
 use Rattle.kex_moves.specs.Drafts.{IsTurn, Keeps}
-use Rattle.kex_moves.proofs.Keeping.{keeps_more, keeps_opened, keeps_written}
+use Rattle.kex_moves.proofs.KeptActions.{keeps_more, keeps_opened, keeps_written}
 use Rattle.kex_moves.proofs.settle.keep.Goals as goal
 use Rattle.kex_moves.proofs.settle.keep.Goals.{in-Opens-default, in-Writes-Some, in_default, in_default-2, in_default-3}
 

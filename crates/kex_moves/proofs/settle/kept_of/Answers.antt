@@ -1,7 +1,7 @@
 use Rattle.std.proofs.Common.{take, sym, subst}
 use Rattle.kex_action.specs.declared.action.Action.TheVariants.{Byte}
 use Rattle.kex_action.specs.Actions.{after_actions}
-use Rattle.kex_action.proofs.Acting.{done-more}
+use Rattle.kex_action.proofs.Actions.{done-more}
 use Rattle.kex_moves.specs.Drafts.{Keeps}
 use Rattle.kex_moves.proofs.settle.kept_of.Goals as goal
 

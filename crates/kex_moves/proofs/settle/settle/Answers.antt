@@ -6,7 +6,7 @@ use Rattle.kex_action.specs.Actions.{after_actions}
 use Rattle.kex_action.specs.Sheets.{with_buffer}
 use Rattle.kex_moves.specs.declared.edge.Edge.{Edge}
 use Rattle.kex_moves.specs.Known.{Settles}
-use Rattle.kex_moves.proofs.Settling.{settles_same, map_ok}
+use Rattle.kex_moves.proofs.PlacedTexts.{settles_same, map_ok}
 use Rattle.kex_moves.proofs.settle.settle.Goals as goal
 
 pub returns-in-Some-clause-settles : goal.returns-in-Some-clause-settles

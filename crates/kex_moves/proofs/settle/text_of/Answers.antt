@@ -2,7 +2,7 @@ use Rattle.std.proofs.Common.{ℕ, IfSome, take, get_or, sym, subst}
 use Rattle.kex_model.specs.Acting.{State}
 use Rattle.kex_action.specs.declared.action.Action.TheVariants.{Byte}
 use Rattle.kex_action.specs.Actions.{after_action, after_actions}
-use Rattle.kex_action.proofs.Acting.{done-more}
+use Rattle.kex_action.proofs.Actions.{done-more}
 use Rattle.kex_moves.specs.Drafts.{IsDraft, Drafts}
 use Rattle.kex_moves.proofs.settle.text_of.Goals as goal
 

@@ -3,7 +3,7 @@ use Rattle.std.proofs.lemmas.List.{take_more}
 use Rattle.kex_code.specs.declared.symbol.Symbol.TheVariants.{L}
 use Rattle.kex_sst.specs.declared.parts.Part.TheVariants.{Put}
 use Rattle.kex_sst.specs.Parts.{value, parts_code}
-use Rattle.kex_moves.proofs.Speaking.{meant_more}
+use Rattle.kex_moves.proofs.PieceRuns.{meant_more}
 use Rattle.kex_moves.proofs.spell.spell.Goals as goal
 
 pub loop-part-preserved : goal.loop-part-preserved

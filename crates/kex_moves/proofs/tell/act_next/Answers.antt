@@ -1,9 +1,9 @@
 use Rattle.std.proofs.Common.{◌<◌, ap, refl, arith}
 use Rattle.kex_moves.specs.Edges.{is_known}
 use Rattle.kex_moves.specs.Speech.{table_of}
-use Rattle.kex_moves.proofs.Knowing.{pair_known}
-use Rattle.kex_moves.proofs.Going.{right_at}
-use Rattle.kex_moves.proofs.Speaking.{said_acts, said_none}
+use Rattle.kex_moves.proofs.KnownEdges.{pair_known}
+use Rattle.kex_moves.proofs.EdgeRuns.{right_at}
+use Rattle.kex_moves.proofs.PieceRuns.{said_acts, said_none}
 use Rattle.kex_moves.proofs.tell.act_next.Goals as goal
 
 pub act-requires-clause-to : goal.act-requires-clause-to

@@ -2,12 +2,12 @@ use Rattle.std.proofs.Common.{◌∙◌, ◌≤◌, length, take, reverse, ap, r
 use Rattle.std.specs.Vec.{with_items}
 use Rattle.std.proofs.lemmas.List.{with_items_is}
 use Rattle.kex_action.specs.declared.sheet.Sheet.{Sheet}
-use Rattle.kex_action.proofs.Sheeting.{marks_more}
+use Rattle.kex_action.proofs.Sheets.{marks_more}
 use Rattle.kex_moves.specs.Runs.{Step}
 use Rattle.kex_moves.specs.Trails.{IsTrail}
-use Rattle.kex_moves.proofs.Trailing.{trail_writes}
-use Rattle.kex_moves.proofs.Carrying.{longer}
-use Rattle.kex_moves.proofs.Speaking.{said_trail}
+use Rattle.kex_moves.proofs.Trails.{trail_writes}
+use Rattle.kex_moves.proofs.SheetRuns.{longer}
+use Rattle.kex_moves.proofs.PieceRuns.{said_trail}
 use Rattle.kex_moves.proofs.tell.along.Goals as goal
 
 pub returns-clause-sheet : goal.returns-clause-sheet

@@ -3,9 +3,9 @@ use Rattle.std.proofs.lemmas.List.{take-take}
 use Rattle.kex_script.specs.Pieces.{code_over}
 use Rattle.kex_moves.specs.Known.{IsKnown}
 use Rattle.kex_moves.specs.Speech.{table_of, SaidOn}
-use Rattle.kex_moves.proofs.Going.{one_more}
-use Rattle.kex_moves.proofs.Trailing.{no_piece}
-use Rattle.kex_moves.proofs.Speaking.{spelled_more, said_from, said_more}
+use Rattle.kex_moves.proofs.EdgeRuns.{one_more}
+use Rattle.kex_moves.proofs.Trails.{no_piece}
+use Rattle.kex_moves.proofs.PieceRuns.{spelled_more, said_from, said_more}
 use Rattle.kex_moves.proofs.tell.go_on.Goals as goal
 
 pub act_next-requires-clause-row : goal.act_next-requires-clause-row

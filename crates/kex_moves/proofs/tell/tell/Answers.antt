@@ -2,9 +2,9 @@ use Rattle.std.proofs.Common.{◌≡◌, ◌∙◌, ◌++◌, ◌∷◌, [], ◌
 use Rattle.std.proofs.lemmas.List.{take_more, take_all}
 use Rattle.kex_script.specs.Pieces.{word_of, code_over}
 use Rattle.kex_moves.specs.Speech.{Performs}
-use Rattle.kex_moves.proofs.Going.{part_more}
-use Rattle.kex_moves.proofs.Trailing.{no_piece}
-use Rattle.kex_moves.proofs.Speaking.{spelled_more, performs_more, performs_took}
+use Rattle.kex_moves.proofs.EdgeRuns.{part_more}
+use Rattle.kex_moves.proofs.Trails.{no_piece}
+use Rattle.kex_moves.proofs.PieceRuns.{spelled_more, performs_more, performs_took}
 use Rattle.kex_moves.proofs.tell.tell.Goals as goal
 
 pub pieces-preserved : goal.pieces-preserved

@@ -2,10 +2,10 @@ use Rattle.std.proofs.Common.{◌∙◌, ◌-◌, ◌<◌, length, take, drop, r
 use Rattle.kex_script.specs.Pieces.{code_over}
 use Rattle.kex_moves.specs.Known.{IsKnown}
 use Rattle.kex_moves.specs.Speech.{table_of, SaidOn}
-use Rattle.kex_moves.proofs.Knowing.{pair_known}
-use Rattle.kex_moves.proofs.Going.{part_more}
-use Rattle.kex_moves.proofs.Carrying.{blank_sheet}
-use Rattle.kex_moves.proofs.Speaking.{spelled_more, said_none, said_more, told}
+use Rattle.kex_moves.proofs.KnownEdges.{pair_known}
+use Rattle.kex_moves.proofs.EdgeRuns.{part_more}
+use Rattle.kex_moves.proofs.SheetRuns.{blank_sheet}
+use Rattle.kex_moves.proofs.PieceRuns.{spelled_more, said_none, said_more, told}
 use Rattle.kex_moves.proofs.tell.tell_from.Goals as goal
 
 pub rounds-init : goal.rounds-init

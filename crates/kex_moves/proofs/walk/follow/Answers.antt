@@ -3,11 +3,11 @@ use Rattle.std.proofs.lemmas.List.{append-nil}
 use Rattle.kex_model.specs.Moves.{Allows}
 use Rattle.kex_machine.specs.Nodes.{node_moves}
 use Rattle.kex_action.specs.Holdings.{Rests, step_by}
-use Rattle.kex_action.proofs.Leading.{move_at}
+use Rattle.kex_action.proofs.NodeSteps.{move_at}
 use Rattle.kex_code.specs.declared.symbol.Symbol.TheVariants.{L}
 use Rattle.kex_sst.specs.declared.parts.Part.TheVariants.{Put}
 use Rattle.kex_moves.specs.Walks.{symbol_at, GoesOn}
-use Rattle.kex_moves.proofs.Learning.{Follows, own, own_none, follows_on, follows_more, below_at, learnt}
+use Rattle.kex_moves.proofs.ByteWalks.{Follows, own, own_none, follows_on, follows_more, below_at, learnt}
 use Rattle.kex_moves.proofs.walk.follow.Goals as goal
 use Rattle.kex_moves.proofs.walk.follow.Goals.{in-Read+in_ok-push, in_default-letter}
 

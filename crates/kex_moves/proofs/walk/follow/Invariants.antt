@@ -1,5 +1,5 @@
 use Rattle.std.proofs.Common.{◌<◌, length}
-use Rattle.kex_moves.proofs.Learning.{Follows}
+use Rattle.kex_moves.proofs.ByteWalks.{Follows}
 use Rattle.kex_moves.proofs.walk.follow.Given as goal
 
 abbrev pub invariant-loop-part : goal.invariant-loop-part

@@ -1,8 +1,8 @@
 use Rattle.std.proofs.Common.{◌∙◌, Some, ap}
 use Rattle.kex_machine.specs.Nodes.{move_of, effect_of}
 use Rattle.kex_model.specs.Moves.{nothing}
-use Rattle.kex_action.proofs.Leading.{move_at}
-use Rattle.kex_moves.proofs.Learning.{going_done, going_skipped, goes_to}
+use Rattle.kex_action.proofs.NodeSteps.{move_at}
+use Rattle.kex_moves.proofs.ByteWalks.{going_done, going_skipped, goes_to}
 use Rattle.kex_moves.proofs.walk.go_on.Goals as goal
 use Rattle.kex_moves.proofs.walk.go_on.Goals.{in-Do+in_ok-push-in-Do, in-Skip}
 

@@ -2,7 +2,7 @@ use Rattle.std.proofs.Common.{◌≡◌, ℕ, suc, ◌<◌, ◌-◌, ◌*◌, []
 use Rattle.std.proofs.lemmas.List.{length-replicate}
 use Rattle.kex_code.specs.Codes.{IsAmong}
 use Rattle.kex_model.proofs.Shapes.{among_left, among_right}
-use Rattle.kex_model.proofs.Standing.{empty_list}
+use Rattle.kex_model.proofs.OpenAnswers.{empty_list}
 use Rattle.kex_machine.specs.Nodes.{node_moves}
 use Rattle.kex_machine.proofs.Sizes.{unseen}
 use Rattle.kex_sst.specs.declared.parts.Part.TheVariants.{Old}

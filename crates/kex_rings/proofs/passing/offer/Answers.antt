@@ -1,5 +1,5 @@
 use Rattle.std.proofs.Common.{length, sym, ◌∙◌, arith}
-use Rattle.kex_rings.proofs.Sending.{open-offer, ended-offer}
+use Rattle.kex_rings.proofs.SentItems.{open-offer, ended-offer}
 use Rattle.kex_rings.proofs.passing.offer.Goals as goal
 
 pub returns-clause-items : goal.returns-clause-items

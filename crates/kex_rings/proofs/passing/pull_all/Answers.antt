@@ -1,5 +1,5 @@
 use Rattle.std.proofs.Common.{arith}
-use Rattle.kex_rings.proofs.Pulling.{more-out, all-out}
+use Rattle.kex_rings.proofs.TakenItems.{more-out, all-out}
 use Rattle.kex_rings.proofs.passing.pull_all.Goals as goal
 
 pub runs-preserved : goal.runs-preserved

@@ -2,7 +2,7 @@ use Rattle.std.proofs.Common.{◌≡◌, ◌-◌, length, get_or, arith}
 use Rattle.std.proofs.lemmas.Bool.{ltb-true, ltb-false}
 use Rattle.kex_rings.specs.declared.item.Item.TheVariants.{Byte, End}
 use Rattle.kex_rings.proofs.Wholes.{put-ended, put-none, put-bytes}
-use Rattle.kex_rings.proofs.Sending.{on-ok}
+use Rattle.kex_rings.proofs.SentItems.{on-ok}
 use Rattle.kex_rings.proofs.passing.put.Goals as goal
 use Rattle.kex_rings.proofs.passing.put.Goals.{in_default-via-then-items-lt1, in_default-via-else-items-lt1+in-Byte-1}
 

@@ -1,5 +1,5 @@
 use Rattle.std.proofs.Common.{inr, length, take, rules}
-use Rattle.kex_rings.proofs.Sending.{more-sent, all-sent, run-cut}
+use Rattle.kex_rings.proofs.SentItems.{more-sent, all-sent, run-cut}
 use Rattle.kex_rings.proofs.passing.send.Goals as goal
 
 pub runs-preserved : goal.runs-preserved

@@ -5,7 +5,7 @@ use Rattle.std.specs.Global.{Vec}
 use Rattle.kex_code.specs.declared.symbol.Symbol.{Symbol}
 use Rattle.kex_code.specs.declared.memory.Memory.{Memory}
 use Rattle.kex_rope.specs.Blocks.{symbols_in, AreFilled, AreBlocks}
-use Rattle.kex_rope.proofs.Blocking.{joined-set_last, joined-push, block_within, filled_blocks, filled-append, filled-set}
+use Rattle.kex_rope.proofs.Blocks.{joined-set_last, joined-push, block_within, filled_blocks, filled-append, filled-set}
 use Rattle.kex_rope.proofs.rope.put.Goals as goal
 use Rattle.kex_rope.proofs.rope.put.Goals.{in-Some+else-len-lt-BLOCK, in_default}
 

@@ -3,7 +3,7 @@ use Rattle.std.specs.Prelude.{slice_get}
 use Rattle.kex_script.specs.Scripts.{entry_at}
 use Rattle.kex_runner.specs.declared.quiet.Quiet.{Quiet}
 use Rattle.kex_runner.specs.Quiet.{IsQuietIf}
-use Rattle.kex_runner.proofs.Quieting.{push_each}
+use Rattle.kex_runner.proofs.QuietUpdates.{push_each}
 use Rattle.kex_runner.proofs.quiet.quiets_of.Goals as goal
 
 pub loop-i-preserved : goal.loop-i-preserved

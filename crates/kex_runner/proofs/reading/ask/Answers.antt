@@ -6,7 +6,7 @@ use Rattle.kex_runner.specs.declared.reading.Note.{Note}
 use Rattle.kex_runner.specs.declared.reading.Reading.{Reading}
 use Rattle.kex_runner.specs.Noting.{settled_of, spelled_back, update_of, updates_of}
 use Rattle.kex_runner.proofs.Pieces.{spelled_back-append}
-use Rattle.kex_runner.proofs.Looking.{asked_settled, asked_before}
+use Rattle.kex_runner.proofs.LookUps.{asked_settled, asked_before}
 use Rattle.kex_runner.proofs.reading.ask.Goals as goal
 
 pub returns-in_ok-extend_from_slice : goal.returns-in_ok-extend_from_slice

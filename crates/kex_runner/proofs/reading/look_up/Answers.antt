@@ -2,7 +2,7 @@ use Rattle.std.proofs.Common.{◌++◌, ◌∷◌, [], length, sym, ap, ap₂, s
 use Rattle.std.proofs.lemmas.List.{length-map}
 use Rattle.kex_runner.specs.Noting.{settled_of, spelled_back, update_of, updates_of}
 use Rattle.kex_runner.specs.Looking.{AreNoted, codes_of, if_some, weight_of}
-use Rattle.kex_runner.proofs.Looking.{noted_right}
+use Rattle.kex_runner.proofs.LookUps.{noted_right}
 use Rattle.kex_runner.proofs.reading.look_up.Goals as goal
 use Rattle.kex_runner.proofs.reading.look_up.Goals.{In-Some}
 

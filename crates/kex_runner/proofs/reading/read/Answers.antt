@@ -1,5 +1,5 @@
 use Rattle.kex_runner.specs.Noting.{settled_of, updates_of}
-use Rattle.kex_runner.proofs.Looking.{read_empty}
+use Rattle.kex_runner.proofs.LookUps.{read_empty}
 use Rattle.kex_runner.proofs.reading.read.Goals as goal
 
 pub returns-in-None-clause-read : goal.returns-in-None-clause-read

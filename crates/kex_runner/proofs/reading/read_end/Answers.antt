@@ -3,7 +3,7 @@ use Rattle.std.proofs.lemmas.List.{length-map}
 use Rattle.std.proofs.lemmas.Result.{IfOk-weaker}
 use Rattle.kex_runner.specs.declared.reading.Reading.{Reading}
 use Rattle.kex_runner.specs.Noting.{settled_of, update_of, updates_of}
-use Rattle.kex_runner.proofs.Looking.{read_on}
+use Rattle.kex_runner.proofs.LookUps.{read_on}
 use Rattle.kex_runner.proofs.reading.read_end.Goals as goal
 
 pub returns : goal.returns

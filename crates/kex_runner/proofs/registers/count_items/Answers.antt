@@ -1,6 +1,6 @@
 use Rattle.std.proofs.Common.{[], ◌∙◌, arith}
 use Rattle.std.proofs.lemmas.List.{get_or_read}
-use Rattle.kex_runner.proofs.Noting.{long_more}
+use Rattle.kex_runner.proofs.Notes.{long_more}
 use Rattle.kex_runner.proofs.registers.count_items.Goals as goal
 
 pub loop-list-preserved : goal.loop-list-preserved

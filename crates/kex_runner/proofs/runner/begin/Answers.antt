@@ -5,8 +5,8 @@ use Rattle.kex_script.specs.Pieces.{code_over}
 use Rattle.kex_script.specs.Scripts.{HasUpdate, change_at}
 use Rattle.kex_runner.specs.Noting.{contents, next_registers}
 use Rattle.kex_runner.specs.Following.{IsPlace}
-use Rattle.kex_runner.proofs.Going.{place_begun}
-use Rattle.kex_runner.proofs.Stepping.{begins, registers_begun}
+use Rattle.kex_runner.proofs.ByteSteps.{place_begun}
+use Rattle.kex_runner.proofs.ScriptSteps.{begins, registers_begun}
 use Rattle.kex_runner.proofs.runner.begin.Goals as goal
 use Rattle.kex_runner.proofs.runner.begin.Goals.{In_ok-take}
 

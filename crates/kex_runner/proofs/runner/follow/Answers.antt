@@ -4,8 +4,8 @@ use Rattle.kex_sst.specs.declared.table.Transition.{Transition}
 use Rattle.kex_sst.specs.Parts.{items_of}
 use Rattle.kex_script.specs.Pieces.{code_over}
 use Rattle.kex_runner.specs.Noting.{contents}
-use Rattle.kex_runner.proofs.Going.{goes_next, goes_nowhere, next_by_class, items_next, items_stop}
-use Rattle.kex_runner.proofs.Stepping.{told_by, step_at, runner_next}
+use Rattle.kex_runner.proofs.ByteSteps.{goes_next, goes_nowhere, next_by_class, items_next, items_stop}
+use Rattle.kex_runner.proofs.ScriptSteps.{told_by, step_at, runner_next}
 use Rattle.kex_runner.proofs.runner.follow.Goals as goal
 
 pub returns-in_default-clause-follows : goal.returns-in_default-clause-follows

@@ -4,7 +4,7 @@ use Rattle.kex_runner.specs.Noting.{contents}
 use Rattle.kex_runner.specs.Items.{items_along}
 use Rattle.kex_runner.specs.Ways.{AreKnown}
 use Rattle.kex_runner.specs.Following.{IsRunner}
-use Rattle.kex_runner.proofs.Going.{Goes}
+use Rattle.kex_runner.proofs.ByteSteps.{Goes}
 use Rattle.kex_runner.proofs.runner.follow.Given as goal
 
 abbrev pub invariant-loop-i : goal.invariant-loop-i

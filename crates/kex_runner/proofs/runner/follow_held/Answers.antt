@@ -3,9 +3,9 @@ use Rattle.std.proofs.lemmas.List.{take_rest}
 use Rattle.kex_byteset.specs.Classes.{class_at, class_count}
 use Rattle.kex_script.specs.Pieces.{code_over}
 use Rattle.kex_runner.specs.Noting.{contents}
-use Rattle.kex_runner.proofs.Going.{follows_front, goes_next, goes_nowhere, next_by_class}
-use Rattle.kex_runner.proofs.Quieting.{goes_on}
-use Rattle.kex_runner.proofs.Stepping.{told_by, step_of, no_step, runner_next}
+use Rattle.kex_runner.proofs.ByteSteps.{follows_front, goes_next, goes_nowhere, next_by_class}
+use Rattle.kex_runner.proofs.QuietUpdates.{goes_on}
+use Rattle.kex_runner.proofs.ScriptSteps.{told_by, step_of, no_step, runner_next}
 use Rattle.kex_runner.proofs.runner.follow_held.Goals as goal
 
 pub returns-then-not-entry-clause-follows : goal.returns-then-not-entry-clause-follows

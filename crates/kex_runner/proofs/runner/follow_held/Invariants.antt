@@ -3,7 +3,7 @@ use Rattle.kex_script.specs.Pieces.{code_over}
 use Rattle.kex_runner.specs.Noting.{contents}
 use Rattle.kex_runner.specs.Ways.{AreKnown}
 use Rattle.kex_runner.specs.Following.{IsRunner}
-use Rattle.kex_runner.proofs.Going.{Goes}
+use Rattle.kex_runner.proofs.ByteSteps.{Goes}
 use Rattle.kex_runner.proofs.runner.follow_held.Given as goal
 
 abbrev pub invariant-bytes : goal.invariant-bytes

@@ -1,7 +1,7 @@
 use Rattle.std.proofs.Common.{[], ◌∙◌}
 use Rattle.kex_code.specs.declared.symbol.Symbol.TheVariants.{L}
 use Rattle.kex_sst.specs.declared.parts.Part.TheVariants.{Put}
-use Rattle.kex_runner.proofs.Noting.{meant_more}
+use Rattle.kex_runner.proofs.Notes.{meant_more}
 use Rattle.kex_runner.proofs.spelling.spell_word.Goals as goal
 
 pub loop-part-preserved : goal.loop-part-preserved

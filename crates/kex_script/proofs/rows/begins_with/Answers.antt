@@ -2,7 +2,7 @@ use Rattle.std.proofs.Common.{length, take, subst}
 use Rattle.std.proofs.lemmas.Bool.Decides.{Decides-eqb}
 use Rattle.std.proofs.lemmas.Slice.Eq.{slice_eq-Decides}
 use Rattle.kex_script.specs.Pages.{Keeps}
-use Rattle.kex_script.proofs.Growing.{keeps_front}
+use Rattle.kex_script.proofs.Pages.{keeps_front}
 use Rattle.kex_script.proofs.rows.begins_with.Goals as goal
 
 pub returns : goal.returns

@@ -1,4 +1,4 @@
-use Rattle.kex_sst.proofs.Passing.{by_class}
+use Rattle.kex_sst.proofs.Passes.{by_class}
 use Rattle.kex_sst.proofs.laws.by_class.Goals as goal
 
 pub returns : goal.returns

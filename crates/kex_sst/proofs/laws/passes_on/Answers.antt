@@ -1,4 +1,4 @@
-use Rattle.kex_sst.proofs.Passing.{on}
+use Rattle.kex_sst.proofs.Passes.{on}
 use Rattle.kex_sst.proofs.laws.passes_on.Goals as goal
 
 pub returns : goal.returns

@@ -2,8 +2,8 @@ use Rattle.std.proofs.Common.{◌∙◌, refl, ap, subst}
 use Rattle.kex_compile.specs.Compiled.{IsCompiled, IsRefused}
 use Rattle.kex_compile.specs.declared.limits.Limits.{Limits}
 use Rattle.kex_top.specs.Kex.{IsStatusOf}
-use Rattle.kex_top.proofs.Calling.{one-machine, served, refused_by, some-machine}
-use Rattle.kex_top.proofs.Closing.{reads-nothing, refused-closes}
+use Rattle.kex_top.proofs.CallAnswers.{one-machine, served, refused_by, some-machine}
+use Rattle.kex_top.proofs.PortCalls.{reads-nothing, refused-closes}
 use Rattle.kex_top.proofs.call.answer_stream.Goals as goal
 
 pub returns-in-Ok-compile-clause-answers : goal.returns-in-Ok-compile-clause-answers

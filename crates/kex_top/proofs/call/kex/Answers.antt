@@ -1,4 +1,4 @@
-use Rattle.kex_top.proofs.Completing.{check_completes, completes, done-as-told, trial_completes}
+use Rattle.kex_top.proofs.CompleteRuns.{check_completes, completes, done-as-told, trial_completes}
 use Rattle.kex_top.proofs.call.kex.Goals as goal
 
 pub returns-clause-complete : goal.returns-clause-complete

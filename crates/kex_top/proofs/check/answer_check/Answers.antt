@@ -1,8 +1,8 @@
 use Rattle.std.proofs.Common.{refl, subst}
 use Rattle.kex_compile.specs.Compiled.{IsCompiled, IsRefused}
 use Rattle.kex_top.specs.Kex.{IsStatusOf}
-use Rattle.kex_top.proofs.Calling.{checked, check_refused}
-use Rattle.kex_top.proofs.Closing.{refused-closes}
+use Rattle.kex_top.proofs.CallAnswers.{checked, check_refused}
+use Rattle.kex_top.proofs.PortCalls.{refused-closes}
 use Rattle.kex_top.proofs.check.answer_check.Goals as goal
 
 pub returns-in-Ok-compile-clause-checks : goal.returns-in-Ok-compile-clause-checks

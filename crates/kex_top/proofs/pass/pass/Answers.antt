@@ -5,7 +5,7 @@ use Rattle.kex_ports.proofs.Known.{appends-same, front-same}
 use Rattle.kex_top.specs.History.{Feeds, History, IsSaid, bytes_passed}
 use Rattle.kex_top.specs.Piped.{PipeSays, PipeStands, plans_of}
 use Rattle.kex_top.specs.PipelineLaws.{says_grows}
-use Rattle.kex_top.proofs.Passing.{Passing, all-passed, failed, front-passed, said-open, wanted, what-is-left}
+use Rattle.kex_top.proofs.BlockFronts.{Passing, all-passed, failed, front-passed, said-open, wanted, what-is-left}
 use Rattle.kex_top.proofs.pass.pass.Goals as goal
 
 pub returns-in-Err-clause-trouble : goal.returns-in-Err-clause-trouble

@@ -2,7 +2,7 @@ use Rattle.std.proofs.Common.{◌≡◌, ◌++◌, length, false}
 use Rattle.kex_ports.specs.Endings.{counts_of}
 use Rattle.kex_top.specs.History.{History, bytes_passed, is_ended}
 use Rattle.kex_top.specs.Piped.{PipeStands, plans_of}
-use Rattle.kex_top.proofs.Passing.{Passing}
+use Rattle.kex_top.proofs.BlockFronts.{Passing}
 use Rattle.kex_top.proofs.pass.pass.Given as goal
 
 abbrev pub decreases-fronts : goal.decreases-fronts

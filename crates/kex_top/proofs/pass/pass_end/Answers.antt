@@ -1,7 +1,7 @@
 use Rattle.std.proofs.Common.{[]}
 use Rattle.kex_ports.proofs.Known.{append-nil, appends-nothing}
 use Rattle.kex_top.specs.History.{bytes_passed, text_of}
-use Rattle.kex_top.proofs.Passing.{said-open}
+use Rattle.kex_top.proofs.BlockFronts.{said-open}
 use Rattle.kex_top.proofs.pass.pass_end.Goals as goal
 
 pub returns-in-Err-clause-trouble : goal.returns-in-Err-clause-trouble

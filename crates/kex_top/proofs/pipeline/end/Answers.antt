@@ -2,7 +2,7 @@ use Rattle.std.proofs.Common.{◌∷◌, [], ◌++◌, true, refl, ◌∙◌}
 use Rattle.kex_model.specs.Schedules.{give_end}
 use Rattle.kex_top.specs.History.{bytes_passed, text_of}
 use Rattle.kex_top.specs.Piped.{plans_of}
-use Rattle.kex_top.proofs.Working.{not-in-round, standing, still-open, same-plans, said-all, bytes-same, end-now}
+use Rattle.kex_top.proofs.PipeAnswers.{not-in-round, standing, still-open, same-plans, said-all, bytes-same, end-now}
 use Rattle.kex_top.proofs.pipeline.end.Goals as goal
 
 pub give_end-requires-clause-unended : goal.give_end-requires-clause-unended

@@ -2,8 +2,8 @@ use Rattle.std.proofs.Common.{◌∷◌, [], ◌++◌, ℕ, List, false, refl, s
 use Rattle.kex_model.specs.Schedules.{give}
 use Rattle.kex_top.specs.History.{bytes_passed, text_of}
 use Rattle.kex_top.specs.Piped.{Stands, plans_of}
-use Rattle.kex_top.proofs.Working.{not-in-round, standing, still-open, same-plans, said-all, bytes-more, end-open}
-use Rattle.kex_top.proofs.Rounding.{off-of}
+use Rattle.kex_top.proofs.PipeAnswers.{not-in-round, standing, still-open, same-plans, said-all, bytes-more, end-open}
+use Rattle.kex_top.proofs.StageRounds.{off-of}
 use Rattle.kex_top.proofs.pipeline.feed.Goals as goal
 
 pub give_front-requires-clause-unended : goal.give_front-requires-clause-unended

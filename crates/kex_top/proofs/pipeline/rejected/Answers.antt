@@ -1,5 +1,5 @@
 use Rattle.kex_top.specs.Piped.{plans_of}
-use Rattle.kex_top.proofs.Working.{rejected-is}
+use Rattle.kex_top.proofs.PipeAnswers.{rejected-is}
 use Rattle.kex_top.proofs.pipeline.rejected.Goals as goal
 
 pub returns : goal.returns

@@ -3,7 +3,7 @@ use Rattle.std.specs.List.{range_with_len}
 use Rattle.std.proofs.lemmas.List.Sorted.{IsPermutation-refl}
 use Rattle.kex_model.specs.Schedules.{give}
 use Rattle.kex_pipe.specs.Standing.{stage_count}
-use Rattle.kex_top.proofs.Rounding.{none-given, part-given, front-more}
+use Rattle.kex_top.proofs.StageRounds.{none-given, part-given, front-more}
 use Rattle.kex_top.proofs.rounds.give_front.Goals as goal
 
 pub parts-init : goal.parts-init

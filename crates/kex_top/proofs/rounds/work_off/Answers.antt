@@ -2,7 +2,7 @@ use Rattle.std.proofs.Common.{rules, ◌≡◌, ◌≤◌, ◌+◌, ◌∙◌, s
 use Rattle.std.specs.List.{range_with_len}
 use Rattle.std.proofs.lemmas.List.Sorted.{IsPermutation-refl}
 use Rattle.kex_pipe.specs.Standing.{stage_count}
-use Rattle.kex_top.proofs.Rounding.{Rounding, one-round, all-rounds, settled-off}
+use Rattle.kex_top.proofs.StageRounds.{Rounding, one-round, all-rounds, settled-off}
 use Rattle.kex_top.proofs.rounds.work_off.Goals as goal
 
 pub rounds-preserved : goal.rounds-preserved

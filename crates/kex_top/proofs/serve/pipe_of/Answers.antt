@@ -5,7 +5,7 @@ use Rattle.kex_stage.specs.Stages.{StagePlan}
 use Rattle.kex_stage.specs.contracts.stage.StageTurn.TheImpl.{ghosts}
 use Rattle.kex_top.specs.Piped.{Stands, plans_of}
 use Rattle.kex_top.specs.Pipelines.{AllAnswer}
-use Rattle.kex_top.proofs.Existing.{always-says}
+use Rattle.kex_top.proofs.AnswerExistence.{always-says}
 use Rattle.kex_top.proofs.serve.pipe_of.Goals as goal
 
 pub returns-clause-plans : goal.returns-clause-plans

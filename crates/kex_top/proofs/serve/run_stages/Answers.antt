@@ -6,7 +6,7 @@ use Rattle.kex_top.specs.Piped.{stages_of}
 use Rattle.kex_top.specs.Pipelines.{NodesSay, first_limit, stage_plans}
 use Rattle.kex_top.specs.Run.{Ran}
 use Rattle.kex_stage.specs.contracts.stage.StageTurn.TheImpl.{ghosts}
-use Rattle.kex_top.proofs.Calling.{first-limit, first-of}
+use Rattle.kex_top.proofs.CallAnswers.{first-limit, first-of}
 use Rattle.kex_top.proofs.serve.run_stages.Goals as goal
 
 pub run-requires-clause-limit : goal.run-requires-clause-limit

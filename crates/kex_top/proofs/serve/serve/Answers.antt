@@ -1,6 +1,6 @@
 use Rattle.std.proofs.Common.{ap}
 use Rattle.kex_words.specs.Words.{mode_of}
-use Rattle.kex_top.proofs.Calling.{ran_by}
+use Rattle.kex_top.proofs.CallAnswers.{ran_by}
 use Rattle.kex_top.proofs.serve.serve.Goals as goal
 
 pub returns-in-Run-clause-ran : goal.returns-in-Run-clause-ran

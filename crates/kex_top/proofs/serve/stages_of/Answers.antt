@@ -8,8 +8,8 @@ use Rattle.kex_stage.specs.Stages.{StagePlan}
 use Rattle.kex_stage.specs.declared.stage.Stage.{Stage}
 use Rattle.kex_stage.specs.contracts.stage.StageTurn.TheImpl.{ghosts}
 use Rattle.kex_top.specs.Pipelines.{AlwaysAnswers, stage_plans}
-use Rattle.kex_top.proofs.Existing.{machine-answers, one-more}
-use Rattle.kex_top.proofs.Working.{unfed-more}
+use Rattle.kex_top.proofs.AnswerExistence.{machine-answers, one-more}
+use Rattle.kex_top.proofs.PipeAnswers.{unfed-more}
 use Rattle.kex_top.proofs.serve.stages_of.Goals as goal
 
 abbrev plan_at : ℕ → Graph → StagePlan

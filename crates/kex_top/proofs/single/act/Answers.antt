@@ -3,7 +3,7 @@ use Rattle.kex_single.specs.Plays.{ActAnswers}
 use Rattle.kex_single.specs.Singles.{Single}
 use Rattle.kex_single.specs.contracts.player.PlayerTurn.TheImpl.{ghosts}
 use Rattle.kex_words.specs.Words.Mode.{acting}
-use Rattle.kex_top.proofs.Calling.{ran_single}
+use Rattle.kex_top.proofs.CallAnswers.{ran_single}
 use Rattle.kex_top.proofs.single.act.Goals as goal
 
 pub returns-clause-ran : goal.returns-clause-ran

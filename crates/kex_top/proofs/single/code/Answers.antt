@@ -3,8 +3,8 @@ use Rattle.kex_top.specs.Pipelines.{AlwaysAnswers}
 use Rattle.kex_single.specs.Singles.{CodeAnswers, Single}
 use Rattle.kex_single.specs.contracts.coder.CoderTurn.TheImpl.{ghosts}
 use Rattle.kex_words.specs.Words.Mode.{coding}
-use Rattle.kex_top.proofs.Calling.{ran_single}
-use Rattle.kex_top.proofs.Existing.{code-answers}
+use Rattle.kex_top.proofs.CallAnswers.{ran_single}
+use Rattle.kex_top.proofs.AnswerExistence.{code-answers}
 use Rattle.kex_top.proofs.single.code.Goals as goal
 
 pub run_one-requires-clause-answers : goal.run_one-requires-clause-answers

@@ -3,7 +3,7 @@ use Rattle.kex_ports.specs.Reads.{last_given}
 use Rattle.kex_words.specs.Gains.{change}
 use Rattle.kex_top.specs.Piped.{plans_of}
 use Rattle.kex_top.specs.Pipelines.{AlwaysAnswers, AlwaysSays, StagesSay}
-use Rattle.kex_top.proofs.Existing.{always-says, one-more}
+use Rattle.kex_top.proofs.AnswerExistence.{always-says, one-more}
 use Rattle.kex_top.specs.Run.{Ran}
 use Rattle.kex_top.proofs.single.run_one.Goals as goal
 

@@ -4,8 +4,8 @@ use Rattle.kex_single.specs.Singles.{Single, TestAnswers}
 use Rattle.kex_single.specs.contracts.tester.TesterTurn.TheImpl.{ghosts}
 use Rattle.kex_words.specs.Gains.{change}
 use Rattle.kex_words.specs.Words.Mode.{testing}
-use Rattle.kex_top.proofs.Calling.{ran_single}
-use Rattle.kex_top.proofs.Testing.{test-left}
+use Rattle.kex_top.proofs.CallAnswers.{ran_single}
+use Rattle.kex_top.proofs.SilentTests.{test-left}
 use Rattle.kex_top.proofs.single.test.Goals as goal
 
 pub returns-clause-ran : goal.returns-clause-ran

@@ -4,7 +4,7 @@ use Rattle.kex_words.specs.Gains.{change}
 use Rattle.kex_top.specs.Run.{Pumped, is_whole}
 use Rattle.kex_top.specs.Piped.{PipeSays, plans_of}
 use Rattle.kex_top.specs.PipelineLaws.{says_grows}
-use Rattle.kex_top.proofs.Running.{closed, close-fails, none-ran}
+use Rattle.kex_top.proofs.WholeRuns.{closed, close-fails, none-ran}
 use Rattle.kex_top.proofs.stream.run.Goals as goal
 
 pub returns-clause-ran : goal.returns-clause-ran

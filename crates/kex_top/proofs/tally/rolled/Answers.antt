@@ -2,7 +2,7 @@ use Rattle.std.proofs.Common.{◌≡◌, ◌<◌, ◌+◌, ◌*◌, ◌%◌, ◌
 use Rattle.std.specs.Prelude.{slice_index_or}
 use Rattle.std.proofs.lemmas.List.{take_more}
 use Rattle.kex_top.specs.Trials.{rolling_sum}
-use Rattle.kex_top.proofs.Trying.{rolled-append}
+use Rattle.kex_top.proofs.TrialCounts.{rolled-append}
 use Rattle.kex_top.proofs.tally.rolled.Goals as goal
 
 pub bytes-preserved : goal.bytes-preserved

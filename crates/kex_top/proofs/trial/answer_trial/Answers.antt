@@ -2,7 +2,7 @@ use Rattle.std.proofs.Common.{◌≡◌, refl, subst}
 use Rattle.kex_compile.specs.Compiled.{IsCompiled, IsRefused}
 use Rattle.kex_top.specs.Kex.{IsStatusOf}
 use Rattle.kex_top.specs.Trials.{trial_text}
-use Rattle.kex_top.proofs.Calling.{some-machine, tried, trial_refused}
+use Rattle.kex_top.proofs.CallAnswers.{some-machine, tried, trial_refused}
 use Rattle.kex_top.proofs.trial.answer_trial.Goals as goal
 
 pub returns-in-Err-clause-tries : goal.returns-in-Err-clause-tries

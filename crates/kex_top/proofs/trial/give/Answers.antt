@@ -3,7 +3,7 @@ use Rattle.std.proofs.lemmas.List.{take_all}
 use Rattle.kex_top.specs.History.{Feeds, bytes_passed}
 use Rattle.kex_top.specs.Trials.{saturated_count, rolling_sum}
 use Rattle.kex_top.specs.Piped.{PipeSays, PipeStands, plans_of}
-use Rattle.kex_top.proofs.Trying.{counts}
+use Rattle.kex_top.proofs.TrialCounts.{counts}
 use Rattle.kex_top.proofs.trial.give.Goals as goal
 
 pub returns-clause-counts : goal.returns-clause-counts

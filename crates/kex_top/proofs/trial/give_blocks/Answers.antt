@@ -5,7 +5,7 @@ use Rattle.kex_top.specs.Answer.{Said}
 use Rattle.kex_top.specs.History.{History}
 use Rattle.kex_top.specs.Tallies.{Counts}
 use Rattle.kex_top.specs.Piped.{PipeSays, PipeStands, plans_of}
-use Rattle.kex_top.proofs.Trying.{fed-more}
+use Rattle.kex_top.proofs.TrialCounts.{fed-more}
 use Rattle.kex_top.proofs.trial.give_blocks.Goals as goal
 
 pub give-requires-after_bounds : goal.give-requires-after_bounds

@@ -6,7 +6,7 @@ use Rattle.kex_top.specs.History.{History}
 use Rattle.kex_top.specs.Tallies.{HasWaiting, IsTally}
 use Rattle.kex_top.specs.Trials.{line_of, lines_from, made_lines}
 use Rattle.kex_top.specs.Piped.{PipeSays, PipeStands, plans_of}
-use Rattle.kex_top.proofs.Trying.{lines-more, waits-more}
+use Rattle.kex_top.proofs.TrialCounts.{lines-more, waits-more}
 use Rattle.kex_top.proofs.trial.give_lines.Goals as goal
 
 pub give_blocks-requires-clause-fed : goal.give_blocks-requires-clause-fed

@@ -3,7 +3,7 @@ use Rattle.std.proofs.lemmas.List.{at_drop_more}
 use Rattle.std.specs.List.{concat}
 use Rattle.kex_words.specs.Parts.{bytes_of}
 use Rattle.kex_ports.proofs.Endings.{same-finishes, unfinished-at}
-use Rattle.kex_words.proofs.Telling.{fails-after, whole-then}
+use Rattle.kex_words.proofs.Writes.{fails-after, whole-then}
 use Rattle.kex_words.proofs.parts.write_parts.Goals as goal
 
 pub returns-in_err-write_part-clause-tells : goal.returns-in_err-write_part-clause-tells

@@ -1,7 +1,7 @@
 use Rattle.std.proofs.Common.{◌∙◌, ap, sym, map, string_bytes}
 use Rattle.std.specs.Prelude.{Some}
 use Rattle.kex_words.specs.Words.{Asked}
-use Rattle.kex_words.proofs.Matched.{asked-at, refused-at}
+use Rattle.kex_words.proofs.ClapAnswers.{asked-at, refused-at}
 use Rattle.kex_words.proofs.reading.read.Goals as goal
 
 pub returns-in-Ok-try_get_matches_from-clause-asked : goal.returns-in-Ok-try_get_matches_from-clause-asked

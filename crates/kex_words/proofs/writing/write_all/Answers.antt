@@ -2,7 +2,7 @@ use Rattle.std.proofs.Common.{◌≡◌, ◌++◌, ◌≤◌, ◌∙◌, [], Lis
 use Rattle.std.proofs.lemmas.Grind.{common_steps}
 use Rattle.kex_ports.proofs.Endings.{failed-on, unfinished-at, written-on}
 use Rattle.kex_ports.proofs.Known.{appends-then, front-then, front-same}
-use Rattle.kex_words.proofs.Telling.{on-err}
+use Rattle.kex_words.proofs.Writes.{on-err}
 use Rattle.kex_words.proofs.writing.write_all.Goals as goal
 
 -- Of no bytes none are left.

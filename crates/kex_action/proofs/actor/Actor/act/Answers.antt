@@ -3,8 +3,8 @@ use Rattle.kex_model.specs.Acting.{State}
 use Rattle.kex_action.specs.Holdings.{state_of, Does, Leads}
 use Rattle.kex_action.specs.Actions.{after_actions}
 use Rattle.kex_action.specs.Actors.{WentOn}
-use Rattle.kex_action.proofs.Acting.{length-done}
-use Rattle.kex_action.proofs.Performing.{went_on, position}
+use Rattle.kex_action.proofs.Actions.{length-done}
+use Rattle.kex_action.proofs.ActorRuns.{went_on, position}
 use Rattle.kex_action.proofs.actor.Actor.act.Goals as goal
 
 pub invariant_of-self-2 : goal.invariant_of-self-2

@@ -1,5 +1,5 @@
 use Rattle.std.proofs.Common.{◌∙◌, ap, [], take}
-use Rattle.kex_action.proofs.Sheeting.{kept_count}
+use Rattle.kex_action.proofs.Sheets.{kept_count}
 use Rattle.kex_action.proofs.actor.Actor.act_on.Goals as goal
 
 pub invariant_of-self-2 : goal.invariant_of-self-2

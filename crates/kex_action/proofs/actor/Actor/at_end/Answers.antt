@@ -1,7 +1,7 @@
 use Rattle.std.proofs.Common.{◌∙◌, Bool, true, false, IsTrue, refl, ap, sym, subst}
 use Rattle.kex_action.specs.Actors.{HasPerformed, IsWhole}
-use Rattle.kex_action.proofs.Leading.{move_at}
-use Rattle.kex_action.proofs.Performing.{ends_there, ends_elsewhere}
+use Rattle.kex_action.proofs.NodeSteps.{move_at}
+use Rattle.kex_action.proofs.ActorRuns.{ends_there, ends_elsewhere}
 use Rattle.kex_action.proofs.actor.Actor.at_end.Goals as goal
 
 sure : (b : Bool) → ((IsTrue b → ⊥) → ⊥) → IsTrue b

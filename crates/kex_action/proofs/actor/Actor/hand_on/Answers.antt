@@ -1,5 +1,5 @@
 use Rattle.std.proofs.Common.{◌∙◌, ◌<◌, ap, sym, subst, length}
-use Rattle.kex_action.proofs.Sheeting.{handed_count}
+use Rattle.kex_action.proofs.Sheets.{handed_count}
 use Rattle.kex_action.proofs.actor.Actor.hand_on.Goals as goal
 
 pub invariant_of-self-2 : goal.invariant_of-self-2

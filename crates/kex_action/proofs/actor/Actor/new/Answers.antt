@@ -2,7 +2,7 @@ use Rattle.std.proofs.Common.{◌∙◌, ◌<◌, ap, sym, subst, [], replicate,
 use Rattle.std.proofs.lemmas.List.{length-replicate}
 use Rattle.kex_machine.specs.Nodes.{IsInRange}
 use Rattle.kex_action.specs.Actors.{HasPerformed}
-use Rattle.kex_action.proofs.Performing.{begins_performed, position}
+use Rattle.kex_action.proofs.ActorRuns.{begins_performed, position}
 use Rattle.kex_action.proofs.actor.Actor.new.Goals as goal
 
 pub invariant_of-result : goal.invariant_of-result

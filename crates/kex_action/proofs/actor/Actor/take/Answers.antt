@@ -1,8 +1,8 @@
 use Rattle.std.proofs.Common.{true, subst}
 use Rattle.kex_action.specs.Holdings.{WritesFront, Followed, state_of}
 use Rattle.kex_action.specs.Actors.{WroteFront, StoppedAt, TookAll}
-use Rattle.kex_action.proofs.Performing.{took_all, stopped_at, wrote_front, position}
-use Rattle.kex_action.proofs.Faulting.{if_err, after_memory}
+use Rattle.kex_action.proofs.ActorRuns.{took_all, stopped_at, wrote_front, position}
+use Rattle.kex_action.proofs.Faults.{if_err, after_memory}
 use Rattle.kex_action.proofs.actor.Actor.take.Goals as goal
 
 pub returns-in_err-walked-clause-err : goal.returns-in_err-walked-clause-err

@@ -1,6 +1,6 @@
 use Rattle.std.proofs.Common.{◌+◌, reverse, arith}
 use Rattle.std.proofs.lemmas.Grind.{common_steps}
-use Rattle.kex_action.proofs.Sheeting.{marks_more}
+use Rattle.kex_action.proofs.Sheets.{marks_more}
 use Rattle.kex_action.proofs.sheet.Sheet.write_buffer.Goals as goal
 
 pub returns-then-len-used-ge-PIECE-clause-sheet : goal.returns-then-len-used-ge-PIECE-clause-sheet

@@ -1,6 +1,6 @@
 use Rattle.std.proofs.Common.{◌+◌, length, reverse, arith}
 use Rattle.std.proofs.lemmas.Grind.{common_steps}
-use Rattle.kex_action.proofs.Sheeting.{marks_more}
+use Rattle.kex_action.proofs.Sheets.{marks_more}
 use Rattle.kex_action.proofs.sheet.Sheet.write_many.Goals as goal
 
 pub returns-clause-sheet : goal.returns-clause-sheet

@@ -4,8 +4,8 @@ use Rattle.kex_model.specs.Moves.{open_buffer}
 use Rattle.kex_model.specs.Acting.{after_effect}
 use Rattle.kex_action.specs.Holdings.{state_of}
 use Rattle.kex_action.specs.Sheets.{with_marked_bytes}
-use Rattle.kex_action.proofs.Storing.{on_ok}
-use Rattle.kex_action.proofs.Sheeting.{handed, next_mark, NextMark, laid_opens, last_of, last_within}
+use Rattle.kex_action.proofs.Buffers.{on_ok}
+use Rattle.kex_action.proofs.Sheets.{handed, next_mark, NextMark, laid_opens, last_of, last_within}
 use Rattle.kex_action.proofs.store.Store.hand_on.Goals as goal
 
 pub prove-unreachable-requires : goal.prove-unreachable-requires

@@ -1,7 +1,7 @@
 use Rattle.std.proofs.Common.{◌≡◌, take, reverse}
 use Rattle.kex_action.specs.Holdings.{state_of}
 use Rattle.kex_action.specs.Sheets.{with_marked_bytes}
-use Rattle.kex_action.proofs.Sheeting.{last_of}
+use Rattle.kex_action.proofs.Sheets.{last_of}
 use Rattle.kex_action.proofs.store.Store.hand_on.Given as goal
 
 abbrev pub invariant-loop-i : goal.invariant-loop-i

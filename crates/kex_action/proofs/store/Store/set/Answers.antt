@@ -1,4 +1,4 @@
-use Rattle.kex_action.proofs.Storing.{pieces_rest}
+use Rattle.kex_action.proofs.Buffers.{pieces_rest}
 use Rattle.kex_action.proofs.store.Store.set.Goals as goal
 
 pub add-requires-clause-pieces_in : goal.add-requires-clause-pieces_in

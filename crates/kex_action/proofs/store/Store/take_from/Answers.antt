@@ -4,7 +4,7 @@ use Rattle.kex_model.specs.Moves.{into}
 use Rattle.kex_model.specs.Acting.{after_effect}
 use Rattle.kex_action.specs.Holdings.{Holding}
 use Rattle.kex_action.specs.Sheets.{state_with}
-use Rattle.kex_action.proofs.Sheeting.{taken}
+use Rattle.kex_action.proofs.Sheets.{taken}
 use Rattle.kex_action.proofs.store.Store.take_from.Goals as goal
 
 pub returns-clause-did : goal.returns-clause-did

@@ -1,5 +1,5 @@
 use Rattle.std.proofs.Common.{arith, sym}
-use Rattle.kex_byteset.proofs.Refining.{below_count}
+use Rattle.kex_byteset.proofs.Partitions.{below_count}
 use Rattle.kex_byteset.proofs.classes.Partition.class_of.Goals as goal
 
 pub returns-clause-below : goal.returns-clause-below

@@ -1,4 +1,4 @@
-use Rattle.kex_byteset.proofs.Refining.{one_class}
+use Rattle.kex_byteset.proofs.Partitions.{one_class}
 use Rattle.kex_byteset.proofs.classes.Partition.new.Goals as goal
 
 pub invariant_of-result : goal.invariant_of-result

@@ -2,7 +2,7 @@ use Rattle.std.proofs.Common.{◌≡◌, ◌∷◌, ◌+◌, [], take, drop, get
 use Rattle.std.specs.Prelude.{Result, Ok, Err, IfErr, IsErrAnd}
 use Rattle.std.proofs.lemmas.List.{take_more}
 use Rattle.kex_code.specs.Readers.{FaultLeaves, ReadOn}
-use Rattle.kex_code.proofs.Reading.{read_both, read_no_more, read_nothing, fault_behind, parted}
+use Rattle.kex_code.proofs.CodeReaders.{read_both, read_no_more, read_nothing, fault_behind, parted}
 use Rattle.kex_code.proofs.reader.CodeReader.feed.Goals as goal
 
 if_err : {A B : Type 0} (r : Result A B) (b : B) (Q : B → Type 0) → IsErrAnd r (λ e. e ≡ b) → Q b → IfErr r Q

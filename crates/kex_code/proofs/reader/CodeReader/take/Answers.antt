@@ -3,7 +3,7 @@ use Rattle.std.specs.Prelude.{Result, Ok, Err, OnOk}
 use Rattle.std.specs.Result.{is_err}
 use Rattle.kex_code.specs.Begun.{text_begun}
 use Rattle.kex_code.specs.Readers.{Reading, FaultLeaves}
-use Rattle.kex_code.proofs.Reading.{opened, completed, broken}
+use Rattle.kex_code.proofs.CodeReaders.{opened, completed, broken}
 use Rattle.kex_code.proofs.reader.CodeReader.take.Goals as goal
 use Rattle.kex_code.proofs.reader.CodeReader.take.Goals.{in-Open, in-Whole+else-is_err}
 

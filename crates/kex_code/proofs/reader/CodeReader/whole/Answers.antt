@@ -1,7 +1,7 @@
 use Rattle.std.proofs.Common.{◌≡◌, [], true, sym, ap, ◌∙◌, true≢false, arith}
 use Rattle.kex_code.specs.Begun.{text_begun}
 use Rattle.kex_code.proofs.Texts.{nothing_begun}
-use Rattle.kex_code.proofs.Reading.{whole_text}
+use Rattle.kex_code.proofs.CodeReaders.{whole_text}
 use Rattle.kex_code.proofs.reader.CodeReader.whole.Goals as goal
 
 pub returns-in_default : goal.returns-in_default

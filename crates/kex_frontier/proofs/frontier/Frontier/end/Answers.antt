@@ -1,5 +1,5 @@
 use Rattle.std.proofs.Common.{◌≡◌, ◌∷◌, [], true, refl, ap, sym, subst, ◌∙◌, arith}
-use Rattle.kex_model.proofs.Standing.{empty_list}
+use Rattle.kex_model.proofs.OpenAnswers.{empty_list}
 use Rattle.kex_machine.specs.Nodes.{node_moves}
 use Rattle.kex_frontier.specs.Edges.{HasTrees, as_is}
 use Rattle.kex_machine.specs.Advancing.{first_accepting}

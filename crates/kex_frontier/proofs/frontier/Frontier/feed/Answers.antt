@@ -1,5 +1,5 @@
 use Rattle.std.proofs.Common.{◌≡◌, ◌∷◌, [], ◌++◌, true, length, refl, ap, sym, subst, ◌∙◌, arith}
-use Rattle.kex_model.proofs.Standing.{empty_list}
+use Rattle.kex_model.proofs.OpenAnswers.{empty_list}
 use Rattle.kex_machine.specs.Nodes.{node_moves, IsTrimmed}
 use Rattle.kex_frontier.specs.Edges.{IsKept, IsTreeBelow}
 use Rattle.kex_frontier.specs.Views.{edges_at}

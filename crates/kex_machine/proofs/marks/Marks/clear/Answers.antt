@@ -1,6 +1,6 @@
 use Rattle.std.proofs.Common.{◌==◌, map, length, replicate, false, ap, sym, ◌∙◌}
 use Rattle.std.proofs.lemmas.List.{length-map}
-use Rattle.kex_machine.proofs.Marking.{none_first, none_later}
+use Rattle.kex_machine.proofs.Stamps.{none_first, none_later}
 use Rattle.kex_machine.proofs.marks.Marks.clear.Goals as goal
 
 pub returns-then-self : goal.returns-then-self

@@ -1,6 +1,6 @@
 use Rattle.std.proofs.Common.{◌==◌, set, ap₂, ◌∙◌}
 use Rattle.std.proofs.lemmas.List.{map-set}
-use Rattle.kex_machine.proofs.Marking.{same_on}
+use Rattle.kex_machine.proofs.Stamps.{same_on}
 use Rattle.kex_machine.proofs.marks.Marks.mark.Goals as goal
 
 pub returns-clause-marked : goal.returns-clause-marked

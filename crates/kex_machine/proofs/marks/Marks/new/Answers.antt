@@ -1,5 +1,5 @@
 use Rattle.std.proofs.Common.{◌==◌, map, ap, ◌∙◌}
-use Rattle.kex_machine.proofs.Marking.{none_first}
+use Rattle.kex_machine.proofs.Stamps.{none_first}
 use Rattle.kex_machine.proofs.marks.Marks.new.Goals as goal
 
 pub returns : goal.returns

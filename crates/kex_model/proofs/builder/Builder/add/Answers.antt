@@ -1,6 +1,6 @@
 use Rattle.std.proofs.Common.{length, subst, sym}
 use Rattle.kex_model.specs.Programs.{HasBelow, IsInOrder}
-use Rattle.kex_model.proofs.Making.{order_more}
+use Rattle.kex_model.proofs.ChildOrder.{order_more}
 use Rattle.kex_model.proofs.builder.Builder.add.Goals as goal
 
 -- src/builder.rt:41:5

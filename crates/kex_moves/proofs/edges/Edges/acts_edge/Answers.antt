@@ -1,6 +1,6 @@
 use Rattle.std.proofs.Common.{refl, subst, arith}
 use Rattle.kex_moves.specs.Known.{Known, Lengthens}
-use Rattle.kex_moves.proofs.Settling.{lengthens_acts, settles_acts}
+use Rattle.kex_moves.proofs.PlacedTexts.{lengthens_acts, settles_acts}
 use Rattle.kex_moves.proofs.edges.Edges.acts_edge.Goals as goal
 
 pub returns-clause-longer : goal.returns-clause-longer

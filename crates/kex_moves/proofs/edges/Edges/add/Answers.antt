@@ -1,7 +1,7 @@
 use Rattle.std.proofs.Common.{◌++◌, ◌∷◌, [], refl, sym, subst, arith}
 use Rattle.kex_moves.specs.declared.edges.Pair.{Pair}
 use Rattle.kex_moves.specs.Known.{Known, IsOrdered}
-use Rattle.kex_moves.proofs.Widening.{widens_none, ordered_wider, last_row}
+use Rattle.kex_moves.proofs.AddedRows.{widens_none, ordered_wider, last_row}
 use Rattle.kex_moves.proofs.edges.Edges.add.Goals as goal
 
 pub returns-then-row-self-gt-MAX_EDGES-clause-wider : goal.returns-then-row-self-gt-MAX_EDGES-clause-wider

@@ -3,7 +3,7 @@ use Rattle.std.specs.Prelude.{slice_get}
 use Rattle.std.proofs.lemmas.Option.{slice_get-get_or}
 use Rattle.std.proofs.lemmas.List.Elements.{All-get_or}
 use Rattle.kex_moves.specs.Known.{Known, IsEdge, IsRowOf}
-use Rattle.kex_moves.proofs.Knowing.{index_in}
+use Rattle.kex_moves.proofs.KnownEdges.{index_in}
 use Rattle.kex_moves.proofs.edges.Edges.edge_at.Goals as goal
 
 abbrev known : goal.After-self → Known

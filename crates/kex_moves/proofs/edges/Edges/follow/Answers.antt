@@ -1,6 +1,6 @@
 use Rattle.std.proofs.Common.{◌+◌, ◌≤◌, length, sym, subst}
 use Rattle.kex_moves.specs.Known.{Known, IsRowOf}
-use Rattle.kex_moves.proofs.Knowing.{row_fits}
+use Rattle.kex_moves.proofs.KnownEdges.{row_fits}
 use Rattle.kex_moves.proofs.edges.Edges.follow.Goals as goal
 
 pub follow-requires-clause-row : goal.follow-requires-clause-row

@@ -1,6 +1,6 @@
 use Rattle.std.proofs.Common.{◌∙◌, ◌<◌, ◌/◌, ◌^◌, length, subst, sym, arith}
 use Rattle.kex_moves.specs.Known.{Known, IsRowOf}
-use Rattle.kex_moves.proofs.Widening.{number_in, pair_of_row}
+use Rattle.kex_moves.proofs.AddedRows.{number_in, pair_of_row}
 use Rattle.kex_moves.proofs.edges.Edges.pair_at.Goals as goal
 
 pub overflow_shr-row : goal.overflow_shr-row

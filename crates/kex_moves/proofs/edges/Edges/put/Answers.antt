@@ -6,7 +6,7 @@ use Rattle.std.proofs.lemmas.Nat.{same_from_place}
 use Rattle.kex_moves.specs.declared.edges.Pair.{Pair}
 use Rattle.kex_moves.specs.Edges.{IsAtRow}
 use Rattle.kex_moves.specs.Known.{Known, IsEdge, IsOrdered, IsRowOf}
-use Rattle.kex_moves.proofs.Knowing.{slice_get-set}
+use Rattle.kex_moves.proofs.KnownEdges.{slice_get-set}
 use Rattle.kex_moves.proofs.edges.Edges.put.Goals as goal
 
 -- with another edge at a place

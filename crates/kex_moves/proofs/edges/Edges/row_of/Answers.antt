@@ -1,4 +1,4 @@
-use Rattle.kex_moves.proofs.Widening.{widens_none}
+use Rattle.kex_moves.proofs.AddedRows.{widens_none}
 use Rattle.kex_moves.proofs.edges.Edges.row_of.Goals as goal
 
 pub returns-in-Some-clause-wider : goal.returns-in-Some-clause-wider

@@ -1,7 +1,7 @@
 use Rattle.std.proofs.Common.{subst, sym}
 use Rattle.kex_moves.specs.Known.{Known, IsRowOf}
 use Rattle.kex_moves.specs.Runs.{HasRow, LeadsBack, IsWithin}
-use Rattle.kex_moves.proofs.Knowing.{row_in, back_in, rows_within}
+use Rattle.kex_moves.proofs.KnownEdges.{row_in, back_in, rows_within}
 use Rattle.kex_moves.proofs.edges.Edges.run.Goals as goal
 
 pub run-requires-clause-row : goal.run-requires-clause-row

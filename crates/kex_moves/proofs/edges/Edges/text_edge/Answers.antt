@@ -1,6 +1,6 @@
 use Rattle.std.proofs.Common.{◌∙◌, ◌++◌, length, replicate, refl, ap, subst, append_assoc, arith}
 use Rattle.kex_moves.specs.Known.{Known, IsOrdered, Lengthens}
-use Rattle.kex_moves.proofs.Settling.{lengthens_none, lengthens_text, settles_short, settles_text}
+use Rattle.kex_moves.proofs.PlacedTexts.{lengthens_none, lengthens_text, settles_short, settles_text}
 use Rattle.kex_moves.proofs.edges.Edges.text_edge.Goals as goal
 
 pub returns-in_default : goal.returns-in_default

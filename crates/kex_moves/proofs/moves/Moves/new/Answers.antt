@@ -1,6 +1,6 @@
 use Rattle.std.proofs.Common.{◌≡◌, ◌∙◌, ◌<◌, ◌^◌, All, ap, sym, subst, arith}
 use Rattle.kex_byteset.specs.Classes.{class_count}
-use Rattle.kex_moves.proofs.Knowing.{classes_below}
+use Rattle.kex_moves.proofs.KnownEdges.{classes_below}
 use Rattle.kex_moves.proofs.moves.Moves.new.Goals as goal
 
 pub new-requires-clause-classes : goal.new-requires-clause-classes

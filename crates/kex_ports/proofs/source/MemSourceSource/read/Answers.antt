@@ -1,5 +1,5 @@
 use Rattle.std.proofs.Common.{rules}
-use Rattle.kex_ports.proofs.Reading.{consumed, at-end}
+use Rattle.kex_ports.proofs.FrontReads.{consumed, at-end}
 use Rattle.kex_ports.proofs.source.MemSourceSource.read.Goals as goal
 
 pub returns-clause-bytes : goal.returns-clause-bytes

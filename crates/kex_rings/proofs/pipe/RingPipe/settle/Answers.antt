@@ -4,7 +4,7 @@ use Rattle.kex_model.specs.Schedules.{Settled}
 use Rattle.kex_pipe.specs.Events.{bytes_given, end_given}
 use Rattle.kex_pipe.proofs.Schedule.{came-given}
 use Rattle.kex_rings.specs.Lines.{Line, turns_from}
-use Rattle.kex_rings.proofs.Steps.{same-bytes, same-end}
+use Rattle.kex_rings.proofs.StageTurns.{same-bytes, same-end}
 use Rattle.kex_rings.proofs.Standings.{standing-and, has-written, stands-begins, whole-given}
 use Rattle.kex_rings.proofs.pipe.RingPipe.settle.Goals as goal
 

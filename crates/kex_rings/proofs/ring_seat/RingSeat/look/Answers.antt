@@ -2,7 +2,7 @@ use Rattle.std.proofs.Common.{rules, ◌≡◌, ◌∙◌, true, false, [], sym}
 use Rattle.std.specs.Prelude.{IfOk}
 use Rattle.kex_rings.specs.Looking.{Looks, TakesIn}
 use Rattle.kex_rings.proofs.Looks.{only-sent, sent-and-taken}
-use Rattle.kex_rings.proofs.Sending.{if-ok}
+use Rattle.kex_rings.proofs.SentItems.{if-ok}
 use Rattle.kex_rings.proofs.ring_seat.RingSeat.look.Goals as goal
 
 pub returns-then-not-send_on-clause-looks : goal.returns-then-not-send_on-clause-looks

@@ -1,7 +1,7 @@
 use Rattle.std.proofs.Common.{◌≡◌, [], ◌++◌, refl, cond, inr, length, ap, ap₂, subst, ◌∙◌, sym, arith, length-append}
 use Rattle.std.specs.Prelude.{IsOk}
 use Rattle.kex_rope.specs.Blocks.{symbols_in, AreBlocks, AreFilled}
-use Rattle.kex_rope.proofs.Blocking.{joined-append, filled-append, filled_blocks, filled_count}
+use Rattle.kex_rope.proofs.Blocks.{joined-append, filled-append, filled_blocks, filled_count}
 use Rattle.kex_rope.proofs.rope.Rope.append.Goals as goal
 
 filled_self : (c : goal.After-other-1) → AreFilled c.self.inside.blocks

@@ -10,8 +10,8 @@ use Rattle.kex_runner.specs.declared.quiet.Quiet.{Quiet}
 use Rattle.kex_runner.specs.declared.reading.Note.{Note}
 use Rattle.kex_runner.specs.Noting.{contents, noted_by}
 use Rattle.kex_runner.specs.Following.{IsPlace}
-use Rattle.kex_runner.proofs.Going.{Goes, goes_none, place_in_range}
-use Rattle.kex_runner.proofs.Quieting.{told, whole_next, place_quiet, goes_quiet}
+use Rattle.kex_runner.proofs.ByteSteps.{Goes, goes_none, place_in_range}
+use Rattle.kex_runner.proofs.QuietUpdates.{told, whole_next, place_quiet, goes_quiet}
 use Rattle.kex_runner.proofs.registers.Registers.go_quiet.Goals as goal
 
 pub overflow_mul-row : goal.overflow_mul-row

@@ -2,7 +2,7 @@ use Rattle.std.proofs.Common.{◌≡◌, ◌+◌, ◌-◌, ◌*◌, ◌/◌, ◌
 use Rattle.std.specs.Vec.{vec_capacity, vec_len}
 use Rattle.kex_runner.specs.Noting.{contents, noted_by}
 use Rattle.kex_runner.specs.Following.{IsPlace}
-use Rattle.kex_runner.proofs.Going.{Goes}
+use Rattle.kex_runner.proofs.ByteSteps.{Goes}
 use Rattle.kex_runner.proofs.registers.Registers.go_quiet.Given as goal
 
 abbrev pub invariant-quiet : goal.invariant-quiet

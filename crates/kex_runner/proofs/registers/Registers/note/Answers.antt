@@ -4,7 +4,7 @@ use Rattle.kex_sst.specs.Parts.{parts_code}
 use Rattle.kex_script.specs.Scripts.{change_at}
 use Rattle.kex_runner.specs.declared.reading.Note.{Note}
 use Rattle.kex_runner.specs.Noting.{contents, next_registers, registers_after, settled_of, update_of, updates_of}
-use Rattle.kex_runner.proofs.Noting.{registers_push, registers_fresh}
+use Rattle.kex_runner.proofs.Notes.{registers_push, registers_fresh}
 use Rattle.kex_runner.proofs.registers.Registers.note.Goals as goal
 use Rattle.kex_runner.proofs.registers.Registers.note.Goals.{In_ok-push}
 

@@ -3,7 +3,7 @@ use Rattle.kex_code.specs.declared.symbol.Symbol.TheVariants.{L}
 use Rattle.kex_sst.specs.declared.parts.Part.TheVariants.{Put}
 use Rattle.kex_sst.specs.Parts.{value}
 use Rattle.kex_runner.specs.Noting.{contents}
-use Rattle.kex_runner.proofs.Noting.{meant_more}
+use Rattle.kex_runner.proofs.Notes.{meant_more}
 use Rattle.kex_runner.proofs.registers.Registers.spell.Goals as goal
 
 pub loop-part-preserved : goal.loop-part-preserved

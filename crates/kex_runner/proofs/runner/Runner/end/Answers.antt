@@ -7,8 +7,8 @@ use Rattle.kex_runner.specs.declared.answers.Ended.TheVariants.{Parsed, Cut}
 use Rattle.kex_script.specs.Pieces.{code_over}
 use Rattle.kex_runner.specs.Noting.{contents}
 use Rattle.kex_runner.specs.Running.{Ends}
-use Rattle.kex_runner.proofs.Going.{place_in_range, ending_none, ending_some}
-use Rattle.kex_runner.proofs.Standing.{ends_dead, ends_cut, ends_parsed}
+use Rattle.kex_runner.proofs.ByteSteps.{place_in_range, ending_none, ending_some}
+use Rattle.kex_runner.proofs.FedRunners.{ends_dead, ends_cut, ends_parsed}
 use Rattle.kex_runner.proofs.runner.Runner.end.Goals as goal
 
 pub returns-then-self-clause-over : goal.returns-then-self-clause-over

@@ -5,8 +5,8 @@ use Rattle.kex_runner.specs.declared.answers.Fed.TheVariants.{Dead}
 use Rattle.kex_runner.specs.Noting.{contents}
 use Rattle.kex_runner.specs.Running.{Running, Feeds, answer_of}
 use Rattle.kex_runner.specs.Following.{Follows}
-use Rattle.kex_runner.proofs.Standing.{feeds, feeds_after, none_pending}
-use Rattle.kex_runner.proofs.Stepping.{follows_behind}
+use Rattle.kex_runner.proofs.FedRunners.{feeds, feeds_after, none_pending}
+use Rattle.kex_runner.proofs.ScriptSteps.{follows_behind}
 use Rattle.kex_runner.proofs.runner.Runner.feed.Goals as goal
 
 pub returns-then-self-clause-fed : goal.returns-then-self-clause-fed

@@ -3,7 +3,7 @@ use Rattle.std.specs.Prelude.{slice_get}
 use Rattle.std.proofs.lemmas.Bool.{eqb-true, ltb-true, ltb-false}
 use Rattle.std.proofs.lemmas.Option.{slice_get_read}
 use Rattle.kex_sst.specs.Tables.{Row}
-use Rattle.kex_runner.proofs.Going.{place_in_range}
+use Rattle.kex_runner.proofs.ByteSteps.{place_in_range}
 use Rattle.kex_runner.proofs.runner.Runner.is_bare.Goals as goal
 
 false_true : false ≡ true → ⊥

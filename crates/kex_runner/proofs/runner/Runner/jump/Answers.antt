@@ -4,7 +4,7 @@ use Rattle.kex_script.specs.Pieces.{code_over}
 use Rattle.kex_runner.specs.Noting.{contents}
 use Rattle.kex_runner.specs.Following.{pass_at}
 use Rattle.kex_runner.specs.Running.{Running, IsRunOf}
-use Rattle.kex_runner.proofs.Standing.{jumps}
+use Rattle.kex_runner.proofs.FedRunners.{jumps}
 use Rattle.kex_runner.proofs.runner.Runner.jump.Goals as goal
 
 pub returns-clause-stands : goal.returns-clause-stands

@@ -1,6 +1,6 @@
 use Rattle.std.proofs.Common.{◌≡◌, suc, ◌+◌, [], get_or, sym, ap, subst, ◌∙◌, arith}
 use Rattle.kex_script.specs.Scripts.{Sheet, list_at}
-use Rattle.kex_script.proofs.Reading.{given_at, given_past, empty_list}
+use Rattle.kex_script.proofs.ScriptReads.{given_at, given_past, empty_list}
 use Rattle.kex_script.proofs.script.Script.given.Goals as goal
 
 pub returns-then-register-number_at : goal.returns-then-register-number_at

@@ -5,8 +5,8 @@ use Rattle.kex_sst.specs.declared.table.Transition.{Transition}
 use Rattle.kex_sst.specs.Tables.{Row, IsTable}
 use Rattle.kex_script.specs.Scripts.{Sheet, IsEntryOf, no_entry}
 use Rattle.kex_script.specs.Pages.{Pages, HasRow, AreEntries}
-use Rattle.kex_script.proofs.Growing.{has_kept}
-use Rattle.kex_script.proofs.Reading.{has_update, entry_there, flat_at}
+use Rattle.kex_script.proofs.Pages.{has_kept}
+use Rattle.kex_script.proofs.ScriptReads.{has_update, entry_there, flat_at}
 use Rattle.kex_script.proofs.script.Script.new.Goals as goal
 
 pub returns : goal.returns

@@ -4,7 +4,7 @@ use Rattle.std.proofs.lemmas.Bool.{ltb-true, ltb-false}
 use Rattle.std.proofs.lemmas.Option.{slice_get_read}
 use Rattle.std.proofs.lemmas.List.{get_or_past}
 use Rattle.kex_script.specs.Scripts.{Sheet, list_at, AreTails}
-use Rattle.kex_script.proofs.Reading.{empty_list}
+use Rattle.kex_script.proofs.ScriptReads.{empty_list}
 use Rattle.kex_script.proofs.script.Script.tail.Goals as goal
 
 pub returns-then-list-eq0-clause-tail : goal.returns-then-list-eq0-clause-tail

@@ -3,7 +3,7 @@ use Rattle.std.proofs.lemmas.List.{take_more, flat_map_more}
 use Rattle.kex_sst.specs.declared.table.Transition.{Transition}
 use Rattle.kex_sst.specs.Tables.{Row}
 use Rattle.kex_script.specs.Pages.{AreEntries}
-use Rattle.kex_script.proofs.Growing.{grows_on}
+use Rattle.kex_script.proofs.Pages.{grows_on}
 use Rattle.kex_script.proofs.writer.Writer.entries.Goals as goal
 
 pub loop-state-preserved : goal.loop-state-preserved

@@ -2,7 +2,7 @@ use Rattle.std.proofs.Common.{◌++◌, ◌∷◌, [], sym, ap, subst, ◌∙◌
 use Rattle.kex_script.specs.declared.script.Tail.{Tail}
 use Rattle.kex_script.specs.Scripts.{AreTails, IsTail}
 use Rattle.kex_script.specs.Pages.{Pages, Keeps, IsJoined}
-use Rattle.kex_script.proofs.Growing.{keeps_same, keeps_more, tails_more}
+use Rattle.kex_script.proofs.Pages.{keeps_same, keeps_more, tails_more}
 use Rattle.kex_script.proofs.writer.Writer.join.Goals as goal
 
 pub returns-clause-sound : goal.returns-clause-sound

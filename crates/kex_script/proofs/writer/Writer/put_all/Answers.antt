@@ -1,6 +1,6 @@
 use Rattle.std.proofs.Common.{[], ◌∙◌, arith}
 use Rattle.std.proofs.lemmas.List.{get_or_read}
-use Rattle.kex_script.proofs.Growing.{lists_next, grows_on}
+use Rattle.kex_script.proofs.Pages.{lists_next, grows_on}
 use Rattle.kex_script.proofs.writer.Writer.put_all.Goals as goal
 
 pub loop-list-preserved : goal.loop-list-preserved

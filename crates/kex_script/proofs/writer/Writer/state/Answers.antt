@@ -1,4 +1,4 @@
-use Rattle.kex_script.proofs.Growing.{entries_next, grows_on}
+use Rattle.kex_script.proofs.Pages.{entries_next, grows_on}
 use Rattle.kex_script.proofs.writer.Writer.state.Goals as goal
 
 pub loop-transition-preserved : goal.loop-transition-preserved

@@ -2,7 +2,7 @@ use Rattle.std.proofs.Common.{◌≡◌, ◌++◌, ◌∷◌, [], length, drop, 
 use Rattle.std.proofs.lemmas.Result.{IfOk-weaker, on_ok_weaker}
 use Rattle.kex_sst.specs.Parts.{Change}
 use Rattle.kex_script.specs.Pages.{Pages, Keeps, Grows, IsListAt, AreListsAt, IsRow}
-use Rattle.kex_script.proofs.Growing.{keeps_same, keeps_more, kept_in_front, grows_on, the_row, row_moved}
+use Rattle.kex_script.proofs.Pages.{keeps_same, keeps_more, kept_in_front, grows_on, the_row, row_moved}
 use Rattle.kex_script.proofs.writer.Writer.update.Goals as goal
 
 the_place : (c : goal.After-share) → c.in-Ok.at ≡ length c.args.self.now.rows

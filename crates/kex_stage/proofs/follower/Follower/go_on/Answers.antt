@@ -3,7 +3,7 @@ use Rattle.std.proofs.lemmas.List.{length-take-le, take_all, take_rest}
 use Rattle.kex_stage.specs.declared.oracle.Oracle.TheVariants.{Table}
 use Rattle.kex_stage.specs.Works.{Goes, Works}
 use Rattle.kex_stage.specs.Strides.{HasGone}
-use Rattle.kex_stage.proofs.Following.{cut_at, goes_more, none_refused, rests, settles, taken_both, works_more}
+use Rattle.kex_stage.proofs.Followers.{cut_at, goes_more, none_refused, rests, settles, taken_both, works_more}
 use Rattle.kex_stage.proofs.follower.Follower.go_on.Goals as goal
 
 pub strides-init : goal.strides-init

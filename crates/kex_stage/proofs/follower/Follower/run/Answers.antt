@@ -2,7 +2,7 @@ use Rattle.std.proofs.Common.{take, ap, subst}
 use Rattle.std.proofs.lemmas.List.{length-take-le}
 use Rattle.kex_moves.specs.Along.{RunsOn}
 use Rattle.kex_stage.specs.declared.oracle.Oracle.TheVariants.{Table}
-use Rattle.kex_stage.proofs.Following.{goes_nowhere, none_held, runs_go}
+use Rattle.kex_stage.proofs.Followers.{goes_nowhere, none_held, runs_go}
 use Rattle.kex_stage.proofs.follower.Follower.run.Goals as goal
 
 pub returns-then-holds_registers-clause-goes : goal.returns-then-holds_registers-clause-goes

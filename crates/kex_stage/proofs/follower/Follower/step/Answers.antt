@@ -3,7 +3,7 @@ use Rattle.kex_code.specs.declared.symbol.Symbol.{Symbol}
 use Rattle.kex_script.specs.Pieces.{code_over}
 use Rattle.kex_moves.specs.Speech.{Performs}
 use Rattle.kex_stage.specs.declared.oracle.Oracle.TheVariants.{Table}
-use Rattle.kex_stage.proofs.Stepping.{steps_on, steps_out}
+use Rattle.kex_stage.proofs.PerformedSteps.{steps_on, steps_out}
 use Rattle.kex_stage.proofs.follower.Follower.step.Goals as goal
 
 pub returns-in_ok-speak-clause-gone : goal.returns-in_ok-speak-clause-gone

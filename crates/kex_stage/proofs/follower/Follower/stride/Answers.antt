@@ -1,7 +1,7 @@
 use Rattle.std.proofs.Common.{◌-◌, ◌++◌, List, ℕ, length, take, drop, sym, ap, ◌∙◌, take-append-drop}
 use Rattle.std.proofs.lemmas.List.{take_rest}
 use Rattle.kex_stage.specs.declared.oracle.Oracle.TheVariants.{Table}
-use Rattle.kex_stage.proofs.Following.{strides}
+use Rattle.kex_stage.proofs.Followers.{strides}
 use Rattle.kex_stage.proofs.follower.Follower.stride.Goals as goal
 
 pub returns-clause-gone : goal.returns-clause-gone

@@ -1,4 +1,4 @@
-use Rattle.kex_stage.proofs.Working.{finishes}
+use Rattle.kex_stage.proofs.ActorOutputs.{finishes}
 use Rattle.kex_stage.proofs.oracle.Oracle.finish.Goals as goal
 
 pub returns-clause-finishes : goal.returns-clause-finishes

@@ -1,5 +1,5 @@
 use Rattle.kex_stage.specs.declared.oracle.Oracle.TheVariants.{Paths}
-use Rattle.kex_stage.proofs.Working.{works}
+use Rattle.kex_stage.proofs.ActorOutputs.{works}
 use Rattle.kex_stage.proofs.paths.Paths.go_on.Goals as goal
 
 pub returns-clause-works : goal.returns-clause-works

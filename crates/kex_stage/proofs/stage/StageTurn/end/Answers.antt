@@ -7,7 +7,7 @@ use Rattle.kex_pipe.specs.declared.turn.Fate.TheVariants.{Stopped}
 use Rattle.kex_pipe.specs.declared.turn.Stop.{Stop}
 use Rattle.kex_stage.specs.Oracles.{read_of}
 use Rattle.kex_stage.specs.Stages.{StagePlan, Gives, IsStageOf, fate_of, end_stop}
-use Rattle.kex_stage.proofs.Feeding.{open_of, end_more, stopped_on}
+use Rattle.kex_stage.proofs.FedStages.{open_of, end_more, stopped_on}
 use Rattle.kex_stage.proofs.stage.StageTurn.end.Goals as goal
 
 pub returns-clause-feeds : goal.returns-clause-feeds

@@ -1,6 +1,6 @@
 use Rattle.std.proofs.Common.{[], map}
 use Rattle.kex_top.specs.declared.any_pipe.AnyPipe.TheVariants.{Rounds, Rings}
-use Rattle.kex_top.proofs.Working.{same-plans}
+use Rattle.kex_top.proofs.PipeAnswers.{same-plans}
 use Rattle.kex_top.proofs.any_pipe.AnyPipe.new.Goals as goal
 
 pub returns-in_ok-new-in-None-clause-plans : goal.returns-in_ok-new-in-None-clause-plans

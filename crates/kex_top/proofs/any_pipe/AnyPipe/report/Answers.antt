@@ -1,4 +1,4 @@
-use Rattle.kex_top.proofs.Working.{settled-here}
+use Rattle.kex_top.proofs.PipeAnswers.{settled-here}
 use Rattle.kex_top.proofs.any_pipe.AnyPipe.report.Goals as goal
 
 pub returns-in-Rounds : goal.returns-in-Rounds

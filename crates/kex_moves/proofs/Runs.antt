@@ -1,0 +1,165 @@
+-- A run, byte by byte.
+use Rattle.std.proofs.Common.{◌≡◌, ℕ, zero, suc, ◌+◌, ◌-◌, ◌<◌, ◌≤◌, All, subst, true, false, cond, List, [], ◌∷◌, ◌++◌, Some, None, length, take, drop, set, get_or, refl, ap, ap₂, ◌∙◌, sym, arith, append_assoc, length-take, length-drop}
+use Rattle.std.proofs.Math.Seq.{take-add}
+use Rattle.std.proofs.lemmas.List.{drop_more, take_more, append-nil, take_all, drop_at, drop-drop, take-append-le, length-take-le}
+use Rattle.std.proofs.lemmas.Slice.{take-put_mid_below}
+use borrow.Rule.Slice.PartMut.{put_mid, post_of}
+use Rattle.std.proofs.lemmas.List.Elements.{All-append, All-get_or}
+use Rattle.std.specs.Prelude.{slice_get}
+use Rattle.std.proofs.lemmas.Option.{slice_get-get_or, get_or_from_slice_get}
+use Rattle.kex_moves.specs.declared.edge.Edge.{Edge}
+use Rattle.kex_moves.specs.declared.edge.Kind.{Kind}
+use Rattle.kex_moves.specs.declared.edge.Kind.TheVariants.{Keep, Drop}
+use Rattle.kex_moves.specs.Edges.{writes, is_written, HasRoom, IsAtRow}
+use Rattle.kex_moves.specs.Runs.{Rows, Step, HasRow, LeadsBack, HasKind, HasRoomBelow, IsWithin, by_edge, step_of, stop_behind, on_step, run_of}
+use Rattle.kex_moves.proofs.KnownEdges.{at_of}
+
+abbrev pub no_edge : Edge
+no_edge = record { next = 0; from = 0; byte_at = 0; adds = 0; kind = Keep }
+
+-- the edge that the loop reads
+abbrev pub edge_at : Rows → ℕ → ℕ → Edge
+edge_at t r b = get_or t.edges (r + get_or t.classes b 0) no_edge
+
+-- the edge of a byte is one of the edges
+pub edge_in : (t : Rows) (r b : ℕ) → HasRow t.classes t.edges r → b < length t.classes → r + get_or t.classes b 0 < length t.edges
+edge_in t r b row h = All-get_or (λ c. r + c < length t.edges) t.classes b 0 h row
+
+read : (t : Rows) (r b : ℕ) → HasRow t.classes t.edges r → b < length t.classes → step_of t r b ≡ by_edge t.text b (Some (edge_at t r b))
+read t r b row h = ap (by_edge t.text b) (slice_get-get_or t.edges (r + get_or t.classes b 0) no_edge (edge_in t r b row h))
+
+pub no_step : (t : Rows) (r b : ℕ) → HasRow t.classes t.edges r → b < length t.classes → is_written (edge_at t r b).kind ≡ false → step_of t r b ≡ None
+no_step t r b row h k = read t r b row h ∙ ap (λ x. cond x (Some (record { row = (edge_at t r b).next; writes = writes t.text (edge_at t r b) b })) None) k
+
+pub one_step : (t : Rows) (r b : ℕ) → HasRow t.classes t.edges r → b < length t.classes → is_written (edge_at t r b).kind ≡ true → step_of t r b ≡ Some (record { row = (edge_at t r b).next; writes = writes t.text (edge_at t r b) b })
+one_step t r b row h k = read t r b row h ∙ ap (λ x. cond x (Some (record { row = (edge_at t r b).next; writes = writes t.text (edge_at t r b) b })) None) k
+
+-- where no edge is written the run is at its end
+pub stops : (t : Rows) (r : ℕ) (xs ws : List ℕ) (at : ℕ) → at < length ws → step_of t r (get_or ws at 0) ≡ None → record { written = xs; row = r; left = drop at ws } ≡ stop_behind xs (run_of t r (drop at ws))
+stops t r xs ws at h e =
+    let f = drop_more ws at 0 h in
+    sym (ap (λ l. stop_behind xs (run_of t r l)) f ∙ ap (λ o. stop_behind xs (on_step (record { written = []; row = r; left = get_or ws at 0 ∷ drop (at + 1) ws }) (λ w. stop_behind w.writes (run_of t w.row (drop (at + 1) ws))) o)) e ∙ ap₂ (λ (p q : List ℕ). record { written = p; row = r; left = q }) (append-nil xs) (sym f))
+
+-- one edge more
+pub goes_on : (t : Rows) (r : ℕ) (xs ys ws : List ℕ) (at : ℕ) (w : Step) → at < length ws → step_of t r (get_or ws at 0) ≡ Some w → ys ≡ xs ++ w.writes → stop_behind ys (run_of t w.row (drop (at + 1) ws)) ≡ stop_behind xs (run_of t r (drop at ws))
+goes_on t r xs ys ws at w h e g =
+    let rest = run_of t w.row (drop (at + 1) ws) in
+    let first = ap (λ l. stop_behind xs (run_of t r l)) (drop_more ws at 0 h) ∙ ap (λ o. stop_behind xs (on_step (record { written = []; row = r; left = get_or ws at 0 ∷ drop (at + 1) ws }) (λ w. stop_behind w.writes (run_of t w.row (drop (at + 1) ws))) o)) e in
+    ap (λ l. stop_behind l rest) g ∙ ap (λ (l : List ℕ). record { written = l; row = rest.row; left = rest.left }) (append_assoc xs w.writes rest.written) ∙ sym first
+
+pub one : (xs : List ℕ) (b : ℕ) → 0 < length xs → take 1 (set xs 0 b) ≡ b ∷ []
+one [] b h = absurd (omega arith)
+one (x ∷ xs) b h = refl
+
+pub room_at : (t : Rows) (r b : ℕ) → HasRow t.classes t.edges r → b < length t.classes → HasRoomBelow (length t.text) t.edges → is_written (edge_at t r b).kind ≡ true → HasRoom (length t.text) (edge_at t r b)
+room_at t r b row h room = All-get_or (λ (e : Edge). is_written e.kind ≡ true → HasRoom (length t.text) e) t.edges (r + get_or t.classes b 0) no_edge (edge_in t r b row h) room
+
+-- a byte's edge in a row
+in_row : (t : Rows) (r b : ℕ) (k : Kind) → (h : HasKind t.classes (drop r t.edges) k b) → slice_get t.edges (r + h.class) ≡ Some h.edge
+in_row t r b k h = sym (slice_get-drop r t.edges h.class) ∙ h.at
+  where
+    slice_get-drop : (r : ℕ) (es : List Edge) (i : ℕ) → slice_get (drop r es) i ≡ slice_get es (r + i)
+    slice_get-drop zero es i = let same : i ≡ 0 + i = omega arith in ap (slice_get es) same
+    slice_get-drop (suc r) [] i = refl
+    slice_get-drop (suc r) (e ∷ es) i = let same : suc (r + i) ≡ suc r + i = omega arith in slice_get-drop r es i ∙ ap (slice_get (e ∷ es)) same
+
+room_of : (t : Rows) (r b : ℕ) (k : Kind) → HasRoomBelow (length t.text) t.edges → is_written k ≡ true → (h : HasKind t.classes (drop r t.edges) k b) → HasRoom (length t.text) h.edge
+room_of t r b k room w h = at_of (λ (e : Edge). is_written e.kind ≡ true → HasRoom (length t.text) e) t.edges (r + h.class) h.edge room (in_row t r b k h) (ap is_written h.kind ∙ w)
+
+leads_of : (t : Rows) (r b : ℕ) (k : Kind) → LeadsBack t.classes t.edges r → (h : HasKind t.classes (drop r t.edges) k b) → IsAtRow r h.edge
+leads_of t r b k back h = at_of (λ c. (e : Edge) → slice_get t.edges (r + c) ≡ Some e → IsAtRow r e) t.classes b h.class back h.of h.edge (in_row t r b k h)
+
+steps_back : (t : Rows) (r b : ℕ) (k : Kind) (w : List ℕ) → (h : HasKind t.classes (drop r t.edges) k b) → is_written k ≡ true → h.edge.next ≡ r → writes t.text h.edge b ≡ w → step_of t r b ≡ Some (record { row = r; writes = w })
+steps_back t r b k w h written next said =
+    let e = h.edge in
+    ap (λ c. by_edge t.text b (slice_get t.edges (r + c))) (get_or_from_slice_get t.classes b h.class 0 h.of)
+    ∙ ap (by_edge t.text b) (in_row t r b k h)
+    ∙ ap (λ x. cond x (Some (record { row = e.next; writes = writes t.text e b })) None) (ap is_written h.kind ∙ written)
+    ∙ ap₂ (λ (i : ℕ) (x : List ℕ). Some (record { row = i; writes = x })) next said
+
+-- an edge that keeps writes the byte alone
+keeps : (t : Rows) (r b : ℕ) → LeadsBack t.classes t.edges r → HasRoomBelow (length t.text) t.edges → HasKind t.classes (drop r t.edges) Keep b → step_of t r b ≡ Some (record { row = r; writes = b ∷ [] })
+keeps t r b back room h =
+    let e = h.edge in
+    let fits = room_of t r b Keep room refl h in
+    let said : writes t.text e b ≡ b ∷ [] = ap₂ (λ i m. take m (set (take 16 (drop e.from t.text)) i b)) (fits.keeps h.kind).0 (fits.keeps h.kind).1 ∙ one (take 16 (drop e.from t.text)) b (omega (arith, fits.text, length-take 16 (drop e.from t.text), length-drop e.from t.text)) in
+    steps_back t r b Keep (b ∷ []) h refl ((leads_of t r b Keep back h).keeps h.kind) said
+
+-- an edge that drops writes nothing
+drops : (t : Rows) (r b : ℕ) → LeadsBack t.classes t.edges r → HasRoomBelow (length t.text) t.edges → HasKind t.classes (drop r t.edges) Drop b → step_of t r b ≡ Some (record { row = r; writes = [] })
+drops t r b back room h =
+    let e = h.edge in
+    let said : writes t.text e b ≡ [] = ap (λ m. take m (set (take 16 (drop e.from t.text)) e.byte_at b)) ((room_of t r b Drop room refl h).drops h.kind) in
+    steps_back t r b Drop [] h refl ((leads_of t r b Drop back h).drops h.kind) said
+
+-- along bytes that are kept they are written, and the row stays
+kept : (t : Rows) (r : ℕ) (xs ws : List ℕ) (n : ℕ) → LeadsBack t.classes t.edges r → HasRoomBelow (length t.text) t.edges → All (HasKind t.classes (drop r t.edges) Keep) (take n ws) → stop_behind (xs ++ take n ws) (run_of t r (drop n ws)) ≡ stop_behind xs (run_of t r ws)
+kept t r xs ws zero back room all = ap (λ l. stop_behind l (run_of t r ws)) (append-nil xs)
+kept t r xs [] (suc n) back room all = ap (λ l. stop_behind l (run_of t r [])) (append-nil xs)
+kept t r xs (b ∷ bs) (suc n) back room all =
+    let ys = xs ++ b ∷ [] in
+    ap (λ l. stop_behind l (run_of t r (drop n bs))) (sym (append_assoc xs (b ∷ []) (take n bs)))
+    ∙ kept t r ys bs n back room (λ i d lt. all (suc i) d (omega arith))
+    ∙ goes_on t r xs ys (b ∷ bs) 0 (record { row = r; writes = b ∷ [] }) (omega arith) (keeps t r b back room (all 0 b (omega arith))) refl
+
+-- along bytes that are dropped nothing is written, and the row stays
+dropped : (t : Rows) (r : ℕ) (xs ws : List ℕ) (n : ℕ) → LeadsBack t.classes t.edges r → HasRoomBelow (length t.text) t.edges → All (HasKind t.classes (drop r t.edges) Drop) (take n ws) → stop_behind xs (run_of t r (drop n ws)) ≡ stop_behind xs (run_of t r ws)
+dropped t r xs ws zero back room all = refl
+dropped t r xs [] (suc n) back room all = refl
+dropped t r xs (b ∷ bs) (suc n) back room all =
+    dropped t r xs bs n back room (λ i d lt. all (suc i) d (omega arith))
+    ∙ goes_on t r xs xs (b ∷ bs) 0 (record { row = r; writes = [] }) (omega arith) (drops t r b back room (all 0 b (omega arith))) (sym (append-nil xs))
+
+-- the rest of a list, as a slice of it
+rest_is : {A : Type 0} (i : ℕ) (xs : List A) → take (length xs - i) (drop i xs) ≡ drop i xs
+rest_is i xs = take_all (length xs - i) (drop i xs) (omega (arith, length-drop i xs))
+
+-- the same where the bytes are copied from a place of a piece to one of a buffer
+pub kept_from : (t : Rows) (r at used k n : ℕ) (xs ys ws : List ℕ) → LeadsBack t.classes t.edges r → HasRoomBelow (length t.text) t.edges → used ≤ length xs → n ≤ length ys → All (HasKind t.classes (take (length t.edges - r) (drop r t.edges)) Keep) (take n (take (length ws - at) (drop at ws))) → take n ys ≡ take n (take (length ws - at) (drop at ws)) → stop_behind (take (used + n) (put_mid used k xs ys)) (run_of t r (drop (at + n) ws)) ≡ stop_behind (take used xs) (run_of t r (drop at ws))
+kept_from t r at used k n xs ys ws back room fits long all copied =
+    let part = drop at ws in
+    let same : take n ys ≡ take n part = copied ∙ ap (take n) (rest_is at ws) in
+    let post = post_of used k xs in
+    let last : take n (drop used (put_mid used k xs ys)) ≡ take n part = ap (take n) (drop_at (take used xs) (ys ++ post) used (length-take-le used xs fits)) ∙ take-append-le n ys post long ∙ same in
+    let buffer : take (used + n) (put_mid used k xs ys) ≡ take used xs ++ take n part = take-add used n (put_mid used k xs ys) ∙ ap₂ (λ p q. p ++ q) (take-put_mid_below used k xs ys used (omega arith) fits) last in
+    ap₂ (λ l m. stop_behind l (run_of t r m)) buffer (sym (drop-drop n at ws))
+    ∙ kept t r (take used xs) part n back room (subst (λ l. All (HasKind t.classes l Keep) (take n part)) (rest_is r t.edges) (subst (λ l. All (HasKind t.classes (take (length t.edges - r) (drop r t.edges)) Keep) (take n l)) (rest_is at ws) all))
+
+pub dropped_from : (t : Rows) (r at n : ℕ) (xs ws : List ℕ) → LeadsBack t.classes t.edges r → HasRoomBelow (length t.text) t.edges → All (HasKind t.classes (take (length t.edges - r) (drop r t.edges)) Drop) (take n (take (length ws - at) (drop at ws))) → stop_behind xs (run_of t r (drop (at + n) ws)) ≡ stop_behind xs (run_of t r (drop at ws))
+dropped_from t r at n xs ws back room all =
+    ap (λ m. stop_behind xs (run_of t r m)) (sym (drop-drop n at ws))
+    ∙ dropped t r xs (drop at ws) n back room (subst (λ l. All (HasKind t.classes l Drop) (take n (drop at ws))) (rest_is r t.edges) (subst (λ l. All (HasKind t.classes (take (length t.edges - r) (drop r t.edges)) Drop) (take n l)) (rest_is at ws) all))
+
+-- one byte more of a kind
+pub one_kind : (classes ws : List ℕ) (es : List Edge) (k : Kind) (at : ℕ) → at < length ws → get_or ws at 0 < length classes → All (λ c. c < length es) classes → (get_or es (get_or classes (get_or ws at 0) 0) no_edge).kind ≡ k → All (HasKind classes es k) (take at ws) → All (HasKind classes es k) (take (at + 1) ws)
+one_kind classes ws es k at lt byte row is before =
+    let b = get_or ws at 0 in
+    let c = get_or classes b 0 in
+    let e = get_or es c no_edge in
+    let here : HasKind classes es k b = record {
+      class = c;
+      edge = e;
+      of = slice_get-get_or classes b 0 byte;
+      at = slice_get-get_or es c no_edge (All-get_or (λ c. c < length es) classes b 0 byte row);
+      kind = is;
+    } in
+    subst (λ l. All (HasKind classes es k) l) (sym (take_more ws at 0 lt)) (All-append (HasKind classes es k) (take at ws) (b ∷ []) before (one_of b here))
+  where
+    one_of : (b : ℕ) → HasKind classes es k b → All (HasKind classes es k) (b ∷ [])
+    one_of b h zero d l = h
+    one_of b h (suc i) d l = absurd (omega arith)
+
+-- an edge that is written leads to a row
+pub row_at : (t : Rows) (r b : ℕ) → HasRow t.classes t.edges r → b < length t.classes → IsWithin t → is_written (edge_at t r b).kind ≡ true → HasRow t.classes t.edges (edge_at t r b).next × LeadsBack t.classes t.edges (edge_at t r b).next
+row_at t r b row h within k = All-get_or (λ (e : Edge). is_written e.kind ≡ true → HasRow t.classes t.edges e.next × LeadsBack t.classes t.edges e.next) t.edges (r + get_or t.classes b 0) no_edge (edge_in t r b row h) within.next k
+
+pub some_left : (n : ℕ) → (n ≡ 0 → ⊥) → 0 < n
+some_left zero none = absurd (none refl)
+some_left (suc n) none = omega arith
+
+-- nothing is taken where no edge is written
+pub stays_at : (t : Rows) (row class : ℕ) (e : Edge) (piece : List ℕ) → 0 < length piece → slice_get t.classes (get_or piece 0 0) ≡ Some class → slice_get t.edges (row + class) ≡ Some e → is_written e.kind ≡ false → run_of t row piece ≡ record { written = []; row = row; left = piece }
+stays_at t row class e piece some is edge none =
+    let b = get_or piece 0 0 in
+    let step : step_of t row b ≡ None = ap (λ c. by_edge t.text b (slice_get t.edges (row + c))) (get_or_from_slice_get t.classes b class 0 is) ∙ ap (by_edge t.text b) edge ∙ ap (λ x. cond x (Some (record { row = e.next; writes = writes t.text e b })) None) none in
+    sym (stops t row [] piece 0 some step)

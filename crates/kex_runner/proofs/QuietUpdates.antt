@@ -1,0 +1,98 @@
+-- A table that goes on by quiet updates.
+use Rattle.std.proofs.Common.{◌≡◌, ℕ, zero, suc, ◌+◌, ◌*◌, ◌/◌, ◌%◌, ◌<◌, List, [], ◌∷◌, ◌++◌, Some, length, get_or, take, drop, refl, sym, ap, subst, ◌∙◌, append-nil, arith}
+use Rattle.std.specs.Prelude.{slice_get}
+use Rattle.std.proofs.Math.Nat.{mul-div_cancel}
+use Rattle.std.proofs.Math.Seq.{take-add}
+use Rattle.std.proofs.lemmas.Nat.{div-mul-add, div-add-mod'}
+use Rattle.std.proofs.lemmas.List.{map_push, take-take}
+use Rattle.kex_byteset.specs.Classes.{class_at, class_count}
+use Rattle.kex_code.specs.declared.symbol.Symbol.{Symbol}
+use Rattle.kex_sst.specs.Parts.{parts_code}
+use Rattle.kex_sst.specs.Tables.{Transducer, IsTable}
+use Rattle.kex_sst.specs.Passes.{passes_if}
+use Rattle.kex_sst.proofs.Passes.{passes_more}
+use Rattle.kex_script.specs.declared.piece.Piece.{Piece}
+use Rattle.kex_script.specs.declared.script.Entry.{Entry}
+use Rattle.kex_script.specs.Scripts.{IsScriptOf, change_at, entry_at}
+use Rattle.kex_runner.specs.declared.quiet.Quiet.{Quiet}
+use Rattle.kex_runner.specs.declared.quiet.Guide.{Guide}
+use Rattle.kex_runner.specs.declared.reading.Note.{Note}
+use Rattle.kex_runner.specs.Noting.{next_registers, noted_by, registers_after, settled_of, update_of, updates_of}
+use Rattle.kex_runner.specs.Following.{Follows, IsPlace, pass_at}
+use Rattle.kex_runner.specs.Quiet.{IsGuide, IsQuiet}
+use Rattle.kex_runner.proofs.Notes.{registers_push}
+use Rattle.kex_runner.proofs.ByteSteps.{Goes, goes_next, next_by_class, place_next}
+use Rattle.kex_runner.proofs.ScriptSteps.{IsStep, told_by, step_of}
+
+some_same : {A : Type 0} {x y : A} → Some x ≡ Some y → x ≡ y
+some_same e = cc
+
+-- what is so at each place of a list, and of one more, is so at each place of both
+pub push_each : {A : Type 0} (P : ℕ → A → Type 0) (xs : List A) (x : A) → ((k : ℕ) (y : A) → slice_get xs k ≡ Some y → P k y) → P (length xs) x → (k : ℕ) (y : A) → slice_get (xs ++ x ∷ []) k ≡ Some y → P k y
+push_each P [] x h p zero y e = subst (λ z. P 0 z) (some_same e) p
+push_each P [] x h p (suc k) y e = let bad : ⊥ = cc in absurd bad
+push_each P (z ∷ zs) x h p zero y e = h zero y e
+push_each P (z ∷ zs) x h p (suc k) y e = push_each (λ i. P (suc i)) zs x (λ i w g. h (suc i) w g) p k y e
+
+-- one note more
+pub noted_more : (g : Guide) (base : List (List Piece)) (notes : List Note) (n : Note) → noted_by g.script base (notes ++ n ∷ []) ≡ next_registers (change_at g.script n.lists) n.byte (noted_by g.script base notes)
+noted_more g base notes n =
+    ap (λ z. registers_after (settled_of g.script base) z) (map_push (λ m. update_of g.script m) notes n)
+    ∙ registers_push (settled_of g.script base) (updates_of g.script notes) (update_of g.script n)
+
+module _ (t : Transducer) (g : Guide) (table : IsTable t) (script : IsScriptOf g.script t) (guide : IsGuide t g) where
+  -- what is told at a place of the row of a state
+  pub told : (row class : ℕ) (q : Quiet) → row ≡ row / g.width * g.width → class < g.width → slice_get g.quiets.items (row + class) ≡ Some q → (q.row ≡ 4294967295 → ⊥) → IsQuiet (entry_at g.script (row / g.width) class) g.width (length g.quiets.items) q
+  told row class q whole lt at some =
+      let w = g.width in
+      let k = row + class in
+      let count = length g.quiets.items in
+      let state : k / w ≡ row / w = ap (λ z. (z + class) / w) whole ∙ div-mul-add (row / w) w class lt in
+      let rest : k % w ≡ class =
+      let d = div-add-mod' k w in
+      let p = ap (λ z. z * w) state in
+      omega (arith, d, p, whole) in
+      subst (λ y. IsQuiet (entry_at g.script y class) w count q) state (subst (λ z. IsQuiet (entry_at g.script (k / w) z) w count q) rest (guide.quiet k q at some))
+
+  -- where the row begins of the target
+  pub target : (e : Entry) (q : Quiet) → IsQuiet e g.width (length g.quiets.items) q → q.row / g.width ≡ e.target
+  target e q h = ap (λ z. z / g.width) h.row ∙ mul-div_cancel e.target guide.some
+
+  pub whole_next : (e : Entry) (q : Quiet) → IsQuiet e g.width (length g.quiets.items) q → q.row ≡ q.row / g.width * g.width
+  whole_next e q h = h.row ∙ ap (λ z. z * g.width) (sym (target e q h))
+
+  module _ (base : List (List Piece)) (notes : List Note) (row class b : ℕ) (q : Quiet) (h : IsQuiet (entry_at g.script (row / g.width) class) g.width (length g.quiets.items) q) (lt : class < class_count t.classes) where
+    step : IsStep g.script t (row / g.width) class (entry_at g.script (row / g.width) class)
+    step = step_of g.script t (row / g.width) class (entry_at g.script (row / g.width) class) script lt refl h.goes
+
+    noted : noted_by g.script base (notes ++ record { lists = q.lists; byte = b } ∷ []) ≡ next_registers (change_at g.script (entry_at g.script (row / g.width) class).lists) b (noted_by g.script base notes)
+    noted = noted_more g base notes (record { lists = q.lists; byte = b }) ∙ ap (λ z. next_registers (change_at g.script z) b (noted_by g.script base notes)) h.lists
+
+    pub place_quiet : IsPlace t (row / g.width) (noted_by g.script base notes) → IsPlace t (q.row / g.width) (noted_by g.script base (notes ++ record { lists = q.lists; byte = b } ∷ []))
+    place_quiet p =
+        let e = entry_at g.script (row / g.width) class in
+        subst (λ z. IsPlace t z (noted_by g.script base (notes ++ record { lists = q.lists; byte = b } ∷ []))) (sym (target e q h))
+        (place_next t (row / g.width) class (noted_by g.script base notes) (told_by g.script e) (noted_by g.script base (notes ++ record { lists = q.lists; byte = b } ∷ [])) b table step.at noted)
+
+    pub goes_quiet : (state : ℕ) (registers : List (List Symbol)) (piece : List ℕ) (i : ℕ) → i < length piece → b ≡ get_or piece i 0 → b < 256 → class ≡ class_at t.classes b → Goes t state registers piece i (row / g.width) (noted_by g.script base notes) [] [] → Goes t state registers piece (i + 1) (q.row / g.width) (noted_by g.script base (notes ++ record { lists = q.lists; byte = b } ∷ [])) [] []
+    goes_quiet state registers piece i less is byte of f =
+        let e = entry_at g.script (row / g.width) class in
+        let regs = noted_by g.script base notes in
+        let regs' = noted_by g.script base (notes ++ record { lists = q.lists; byte = b } ∷ []) in
+        subst (λ z. Goes t state registers piece (i + 1) z regs' [] []) (sym (target e q h))
+        (goes_next t state registers piece i (row / g.width) regs [] [] b less is (told_by g.script e) regs' [] (next_by_class t (row / g.width) b class table byte of ∙ step.at) noted (ap (λ z. parts_code regs b z) (sym (step.update.silent.0 h.silent))) f)
+
+-- a piece is followed on behind its front
+pub goes_on : (t : Transducer) (state : ℕ) (registers : List (List Symbol)) (piece rest : List ℕ) (i n : ℕ) (state' : ℕ) (registers' : List (List Symbol)) (state'' : ℕ) (registers'' : List (List Symbol)) (before after : List Symbol) → rest ≡ drop i piece → Goes t state registers piece i state' registers' before after → Follows t state' registers' (take n rest) n state'' registers'' [] [] → Goes t state registers piece (i + n) state'' registers'' before after
+goes_on t state registers piece rest i n state' registers' state'' registers'' before after behind h f = record {
+  more = h.more;
+  code = h.code;
+  goes = λ c.
+      let nothing : f.more ≡ [] = sym f.code in
+      ap (λ z. passes_if t (Some (pass_at state c registers)) z) (take-add i n piece ∙ ap (λ z. take i piece ++ take n z) (sym behind))
+      ∙ passes_more t (Some (pass_at state c registers)) (take i piece) (take n rest)
+      ∙ ap (λ z. passes_if t z (take n rest)) (h.goes c)
+      ∙ ap (λ z. passes_if t (Some (pass_at state' (c ++ h.more) registers')) z) (sym (take-take n n rest (omega arith)))
+      ∙ f.goes (c ++ h.more)
+      ∙ ap (λ z. Some (pass_at state'' z registers'')) (ap (λ z. (c ++ h.more) ++ z) nothing ∙ append-nil (c ++ h.more));
+}

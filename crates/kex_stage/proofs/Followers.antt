@@ -1,0 +1,201 @@
+-- An oracle and an actor that go on in several steps.
+use Rattle.std.proofs.Common.{◌≡◌, ℕ, zero, suc, ◌<◌, ◌≤◌, ◌+◌, ◌-◌, Bool, true, false, List, [], ◌∷◌, ◌++◌, Some, length, take, drop, refl, sym, ap, ap₂, subst, ◌∙◌, append_assoc, append-nil, arith, length-append, take-append-drop}
+use Rattle.std.proofs.lemmas.List.{length-take-le, take_rest}
+use Rattle.kex_code.specs.declared.symbol.Symbol.{Symbol}
+use Rattle.kex_machine.specs.Answers.{Viable, Says}
+use Rattle.kex_action.specs.Actors.{Position, HasPerformed, BeginsRun, TookAll}
+use Rattle.kex_sst.specs.Machines.{IsTableOf}
+use Rattle.kex_sst.specs.Passes.{passes}
+use Rattle.kex_moves.specs.Along.{RunsOn, bare}
+use Rattle.kex_runner.specs.Running.{IsRunOf}
+use Rattle.kex_runner.specs.Following.{pass_at}
+use Rattle.kex_stage.specs.declared.follower.Follower.{Follower}
+use Rattle.kex_stage.specs.declared.oracle.Oracle.{Oracle}
+use Rattle.kex_stage.specs.declared.oracle.Oracle.TheVariants.{Table}
+use Rattle.kex_stage.specs.Oracles.{Agrees}
+use Rattle.kex_stage.specs.Works.{Followed, Works, Goes}
+use Rattle.kex_stage.specs.Strides.{HasGone}
+use Rattle.kex_stage.proofs.OracleAnswers.{says, take_all}
+use Rattle.kex_stage.proofs.ByTable.{still_live, table_agrees, table_told}
+
+-- nothing is done
+pub goes_nowhere : (o : Oracle) (a : Position) (out : List ℕ) → Goes o o a a [] out out
+goes_nowhere o a out = record {
+  goes = λ g w text f v. record {
+    more = [];
+    written = sym (append-nil out);
+    followed = subst (λ z. Followed g o a z (text ++ [])) (sym (append-nil w)) (subst (λ z. Followed g o a w z) (sym (append-nil text)) f);
+    good = subst (λ z. Viable g z) (sym (append-nil w)) v;
+  };
+}
+
+pub goes_more : (o m n : Oracle) (a b c : Position) (p q x y z : List ℕ) → Goes o m a b p x y → Goes m n b c q y z → Goes o n a c (p ++ q) x z
+goes_more o m n a b c p q x y z first then = record {
+  goes = λ g w text f v.
+      let h = first.goes g w text f v in
+      let k = then.goes g (w ++ p) (text ++ h.more) h.followed h.good in
+      record {
+        more = h.more ++ k.more;
+        written = k.written ∙ ap (λ u. u ++ k.more) h.written ∙ append_assoc x h.more k.more;
+        followed = subst (λ u. Followed g n c u (text ++ (h.more ++ k.more))) (append_assoc w p q) (subst (λ u. Followed g n c ((w ++ p) ++ q) u) (append_assoc text h.more k.more) k.followed);
+        good = subst (λ u. Viable g u) (append_assoc w p q) k.good;
+      };
+}
+
+-- all of a piece was good
+pub goes_all : (o n : Oracle) (a b : Position) (p : List ℕ) (count : ℕ) (x y : List ℕ) → count ≡ length p → Works o n a b p count x y → Goes o n a b p x y
+goes_all o n a b p count x y all h = record {
+  goes = λ g w text f v.
+      let k = h.works g w text f v in
+      record { more = k.more; written = k.written; followed = k.followed all; good = subst (λ z. Viable g (w ++ z)) (ap (λ z. take z p) all ∙ take_all p) k.good };
+}
+
+take_past : (p q : List ℕ) (k : ℕ) → take (length p + k) (p ++ q) ≡ p ++ take k q
+take_past [] q k = let e : 0 + k ≡ k = omega arith in ap (λ z. take z q) e
+take_past (b ∷ p) q k = let e : suc (length p) + k ≡ suc (length p + k) = omega arith in ap (λ z. take z (b ∷ (p ++ q))) e ∙ ap (λ z. b ∷ z) (take_past p q k)
+
+take_front : (p q : List ℕ) (k : ℕ) → k ≤ length p → take k (p ++ q) ≡ take k p
+take_front [] q zero le = refl
+take_front [] q (suc k) le = absurd (omega arith)
+take_front (b ∷ p) q zero le = refl
+take_front (b ∷ p) q (suc k) le = ap (λ z. b ∷ z) (take_front p q k (omega arith))
+
+-- and of the next a byte is refused
+pub works_more : (o m n : Oracle) (a b c : Position) (p q : List ℕ) (count : ℕ) (x y z : List ℕ) → Goes o m a b p x y → Works m n b c q count y z → count < length q → Works o n a c (p ++ q) (length p + count) x z
+works_more o m n a b c p q count x y z first then lt = record {
+  within = omega (arith, length-append p q, then.within);
+  works = λ g w text f v.
+      let h = first.goes g w text f v in
+      let k = then.works g (w ++ p) (text ++ h.more) h.followed h.good in
+      let at : (i : ℕ) → (w ++ p) ++ take i q ≡ w ++ take (length p + i) (p ++ q) = λ i. append_assoc w p (take i q) ∙ ap (λ u. w ++ u) (sym (take_past p q i)) in
+      let next : length p + (count + 1) ≡ (length p + count) + 1 = omega arith in
+      record {
+        more = h.more ++ k.more;
+        written = k.written ∙ ap (λ u. u ++ k.more) h.written ∙ append_assoc x h.more k.more;
+        followed = λ e. absurd (omega (arith, e, length-append p q, lt));
+        good = subst (λ u. Viable g u) (at count) k.good;
+        bad = λ _. subst (λ u. ¬ Viable g u) (at (count + 1) ∙ ap (λ i. w ++ take i (p ++ q)) next) (k.bad lt);
+        says = subst (λ u. Says g u (text ++ (h.more ++ k.more))) (at count) (subst (λ u. Says g ((w ++ p) ++ take count q) u) (append_assoc text h.more k.more) k.says);
+      };
+}
+
+-- what stands behind a byte that is refused doesn't matter
+pub works_longer : (o n : Oracle) (a b : Position) (p rest : List ℕ) (count : ℕ) (x y : List ℕ) → count < length p → Works o n a b p count x y → Works o n a b (p ++ rest) count x y
+works_longer o n a b p rest count x y lt h = record {
+  within = omega (arith, length-append p rest, lt);
+  works = λ g w text f v.
+      let k = h.works g w text f v in
+      record {
+        more = k.more;
+        written = k.written;
+        followed = λ e. absurd (omega (arith, e, length-append p rest, lt));
+        good = subst (λ u. Viable g (w ++ u)) (sym (take_front p rest count (omega (arith, lt)))) k.good;
+        bad = λ _. subst (λ u. ¬ Viable g (w ++ u)) (sym (take_front p rest (count + 1) (omega (arith, lt)))) (k.bad lt);
+        says = subst (λ u. Says g (w ++ u) (text ++ k.more)) (sym (take_front p rest count (omega (arith, lt)))) k.says;
+      };
+}
+
+-- at the end the actor does what needs no symbol
+pub settles : (o : Oracle) (f : Follower) (a b c : Position) (p x y z : List ℕ) → f.runner.pending ≡ [] → Goes o (Table f) a b p x y → TookAll b c [] y z → c.machine ≡ b.machine → Works o (Table f) a c p (length p) x z
+settles o f a b c p x y z none first took mc = record {
+  within = omega arith;
+  works = λ g w text fol v.
+      let h = first.goes g w text fol v in
+      let d = h.followed in
+      let done : HasPerformed c d.code d.code ((text ++ h.more) ++ took.went.more) = subst (λ u. HasPerformed c u u ((text ++ h.more) ++ took.went.more)) (append-nil d.code) (took.went.performed d.code d.code (text ++ h.more) d.performed) in
+      let told = table_told f g (w ++ p) d.code none d.hears h.good in
+      let said = says g c (mc ∙ d.machine) took.settled d.code ((text ++ h.more) ++ took.went.more) done (w ++ p) told in
+      record {
+        more = h.more ++ took.went.more;
+        written = took.went.written ∙ ap (λ u. u ++ took.went.more) h.written ∙ append_assoc x h.more took.went.more;
+        followed = λ e. record { code = d.code; hears = d.hears; performed = subst (λ u. HasPerformed c d.code d.code u) (append_assoc text h.more took.went.more) done; machine = mc ∙ d.machine };
+        good = subst (λ u. Viable g (w ++ u)) (sym (take_all p)) h.good;
+        bad = λ lt. absurd (omega (arith, lt));
+        says = subst (λ u. Says g (w ++ u) (text ++ (h.more ++ took.went.more))) (sym (take_all p)) (subst (λ u. Says g (w ++ p) u) (append_assoc text h.more took.went.more) said);
+      };
+}
+
+-- table and actor run on at once
+pub runs_go : (f new : Follower) (a b : Position) (q count : ℕ) (bs before after : List ℕ) → f.runner.pending ≡ [] → f.runner.registers ≡ [] → new.moves ≡ f.moves → new.runner.table ≡ f.runner.table → b.machine ≡ a.machine → length bs ≡ count → RunsOn f.moves.table a b f.runner.state q bs before after → ((w v : List ℕ) (c d : List Symbol) → IsRunOf f.runner w c → length v ≡ count → passes f.runner.table (w ++ v) ≡ Some (pass_at q (c ++ d) []) → IsRunOf new.runner (w ++ v) (c ++ d)) → Goes (Table f) (Table new) a b bs before after
+runs_go f new a b q count bs before after none no_registers moves table mb long r stands = record {
+  goes = λ g w text fol v.
+      let h = fol.hears in
+      let live = still_live g f.runner.table h.0 h.1 f.runner w fol.code refl h.3 v in
+      let here : passes f.runner.table w ≡ Some (bare f.runner.state fol.code) = live.passes ∙ ap₂ (λ c rs. Some (pass_at f.runner.state c rs)) (ap (λ z. fol.code ++ z) none ∙ append-nil fol.code) no_registers in
+      let there : passes f.runner.table (w ++ bs) ≡ Some (bare q (fol.code ++ r.said)) = subst (λ t. passes t (w ++ bs) ≡ Some (bare q (fol.code ++ r.said))) h.2 (r.passed w fol.code (subst (λ t. passes t w ≡ Some (bare f.runner.state fol.code)) (sym h.2) here)) in
+      let ag : Agrees g (w ++ bs) (fol.code ++ r.said) = table_agrees g f.runner.table h.0 h.1 (w ++ bs) (bare q (fol.code ++ r.said)) there in
+      let begins : BeginsRun a.machine (fol.code ++ r.said) = subst (λ m. BeginsRun m (fol.code ++ r.said)) (sym fol.machine) (ag.run, ag.runs, ag.begins) in
+      let went = r.went fol.code fol.code text fol.performed begins in
+      record {
+        more = went.more;
+        written = went.written;
+        followed = record {
+          code = fol.code ++ r.said;
+          hears = (h.0, subst (λ t. IsTableOf g t) (sym table) h.1, ap (λ z. z.table) moves ∙ h.2 ∙ sym table, stands w bs fol.code r.said h.3 long there);
+          performed = went.performed fol.code fol.code text fol.performed;
+          machine = mb ∙ fol.machine;
+        };
+        good = ag.agreed.viable;
+      };
+}
+
+-- a part is run, and a part read behind it
+pub strides : (refused : Bool) (o m n : Oracle) (a b c : Position) (piece next rest : List ℕ) (ran count : ℕ) (x y z : List ℕ) → piece ≡ take ran piece ++ (next ++ rest) → ran ≤ length piece → count ≤ length next → Goes o m a b (take ran piece) x y → HasGone refused m n b c next count y z → HasGone refused o n a c piece (ran + count) x z
+strides true o m n a b c piece next rest ran count x y z is le within first then =
+    let lt : count < length next = then.0 in
+    let long : length (take ran piece) ≡ ran = length-take-le ran piece le in
+    let all : (take ran piece ++ next) ++ rest ≡ piece = append_assoc (take ran piece) next rest ∙ sym is in
+    let done = works_longer o n a c (take ran piece ++ next) rest (length (take ran piece) + count) x z (omega (arith, length-append (take ran piece) next, lt)) (works_more o m n a b c (take ran piece) next count x y z first then.1 lt) in (
+      omega (arith, ap length is, length-append (take ran piece) (next ++ rest), length-append next rest, long, lt),
+      subst (λ k. Works o n a c piece (k + count) x z) long (subst (λ p. Works o n a c p (length (take ran piece) + count) x z) all done),
+    )
+strides false o m n a b c piece next rest ran count x y z is le within first then =
+    let long : length (take ran piece) ≡ ran = length-take-le ran piece le in
+    let both : take ran piece ++ take count next ≡ take (ran + count) piece =
+    ap (λ u. take ran piece ++ u) (sym (take_front next rest count within))
+    ∙ sym (take_past (take ran piece) (next ++ rest) count)
+    ∙ ap (λ i. take (i + count) (take ran piece ++ (next ++ rest))) long
+    ∙ ap (λ u. take (ran + count) u) (sym is) in
+    subst (λ p. Goes o n a c p x z) both (goes_more o m n a b c (take ran piece) (take count next) x y z first then)
+
+-- the front of a piece is read: all of it is good, or a byte of it is refused
+pub fronts : (refused : Bool) (o n : Oracle) (a b : Position) (piece : List ℕ) (taken count : ℕ) (x y : List ℕ) → taken ≤ length piece → HasGone refused o n a b (take taken piece) count x y → count ≤ taken → HasGone refused o n a b piece count x y
+fronts true o n a b piece taken count x y le h within =
+    let long = length-take-le taken piece le in
+    (omega (arith, h.0, long, le), subst (λ p. Works o n a b p count x y) (take-append-drop taken piece) (works_longer o n a b (take taken piece) (drop taken piece) count x y h.0 h.1))
+fronts false o n a b piece taken count x y le h within =
+    let long = length-take-le taken piece le in
+    subst (λ p. Goes o n a b p x y) (sym (take_front (take taken piece) (drop taken piece) count (omega (arith, long, within))) ∙ ap (λ p. take count p) (take-append-drop taken piece)) h
+
+-- the actor does what needs no symbol
+pub rests : (o : Oracle) (a b : Position) (x y : List ℕ) → TookAll a b [] x y → b.machine ≡ a.machine → Goes o o a b [] x y
+rests o a b x y took mb = record {
+  goes = λ g w text f v.
+      let done : HasPerformed b f.code f.code (text ++ took.went.more) = subst (λ u. HasPerformed b u u (text ++ took.went.more)) (append-nil f.code) (took.went.performed f.code f.code text f.performed) in
+      record {
+        more = took.went.more;
+        written = took.went.written;
+        followed = subst (λ z. Followed g o b z (text ++ took.went.more)) (sym (append-nil w)) (record { code = f.code; hears = f.hears; performed = done; machine = mb ∙ f.machine });
+        good = subst (λ z. Viable g z) (sym (append-nil w)) v;
+      };
+}
+
+-- of no bytes none is refused
+pub none_refused : (refused : Bool) (o n : Oracle) (a b : Position) (count : ℕ) (x y : List ℕ) → count ≤ 0 → HasGone refused o n a b [] count x y → Goes o n a b [] x y
+none_refused true o n a b count x y le h = absurd (omega (arith, h.0))
+none_refused false o n a b zero x y le h = h
+none_refused false o n a b (suc k) x y le h = absurd (omega arith)
+
+-- a piece in two, as the code cuts it
+pub cut_at : (piece : List ℕ) (at : ℕ) → take at piece ++ take (length piece - at) (drop at piece) ≡ piece
+cut_at piece at = ap (λ u. take at piece ++ u) (take_rest piece at) ∙ take-append-drop at piece
+
+pub taken_both : (piece : List ℕ) (at count : ℕ) → at ≤ length piece → take at piece ++ take count (take (length piece - at) (drop at piece)) ≡ take (at + count) piece
+taken_both piece at count le =
+    sym (take_past (take at piece) (take (length piece - at) (drop at piece)) count)
+    ∙ ap (λ i. take (i + count) (take at piece ++ take (length piece - at) (drop at piece))) (length-take-le at piece le)
+    ∙ ap (λ u. take (at + count) u) (cut_at piece at)
+
+pub none_held : (b : Bool) (registers : List (List Symbol)) → b ≡ false → (0 < length registers → b ≡ true) → registers ≡ []
+none_held b [] e h = refl
+none_held b (x ∷ xs) e h = let bad : false ≡ true = sym e ∙ h (omega arith) in absurd (cc)

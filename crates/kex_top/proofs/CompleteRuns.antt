@@ -1,0 +1,305 @@
+-- A good run is done, or wants memory; and what is done is what the program means.
+use Rattle.std.proofs.Common.{◌≡◌, ◌++◌, ◌≤◌, ◌<◌, ℕ, suc, List, [], ◌∷◌, Bool, true, false, refl, sym, ◌∙◌, ap, subst, append_assoc, append-nil as append-nil', arith, inl, inr, length, map}
+use Rattle.std.specs.Prelude.{◌⊎◌, Option, Some, None}
+use Rattle.std.specs.Io.KnownBytes.{Appends, Consumes, IsAtEnd}
+use Rattle.kex_code.specs.Codes.{Begins, IsAmong}
+use Rattle.kex_ports.specs.Shelf.{ShelfText, untold, absent, present, IsTold, IsPast}
+use Rattle.kex_ports.proofs.Known.{append-nil}
+use Rattle.kex_model.specs.Programs.{Grammar}
+use Rattle.kex_model.specs.Places.{HasEmptyLoop, moves, start_of, steps_of}
+use Rattle.kex_model.specs.Survivors.{Agreed, Greedy}
+use Rattle.kex_model.proofs.AgreedFronts.{agreed_grows, agreed_greedy}
+use Rattle.kex_model.specs.Laws.{StageAnswers}
+use Rattle.kex_model.specs.Answers.{Answer, Stop, later_report, Pipeline, Viable, Says, HasParse, Means, bad_byte, too_long, cut_off, whole, still_open, code_at, empty}
+use Rattle.kex_model.specs.Answers as model
+use Rattle.kex_model.specs.Trees.{kind_at, meaning, part}
+use Rattle.kex_model.proofs.Correspondence.{one_to_one}
+use Rattle.kex_model.proofs.Orders.{at_most_both}
+use Rattle.kex_model.proofs.SaidTexts.{grows, means_good}
+use Rattle.kex_model.proofs.OpenAnswers.{Orderly, stays, one_answer}
+use Rattle.kex_pipe.specs.Reports.{report_as}
+use Rattle.kex_model.proofs.Pipelines.{one_answer as one_pipeline, pipelines_stand}
+use Rattle.kex_reader.specs.Spelling.{Spells}
+use Rattle.kex_compile.specs.Stages.{CanRun, roots_of}
+use Rattle.kex_compile.specs.Compiled.{Accepts, IsRefused}
+use Rattle.kex_compile.specs.declared.refusal.CompileRefusal.{CompileRefusal}
+use Rattle.kex_compile.specs.declared.refusal.CompileRefusal.TheVariants as compile
+use Rattle.kex_compile.specs.declared.limits.Limits.{Limits}
+use Rattle.kex_code.specs.Texts.{text_of}
+use Rattle.kex_code.specs.declared.symbol.Symbol.{Symbol}
+use Rattle.kex_model.specs.Acting.{State, after_steps}
+use Rattle.kex_model.proofs.Effects.{done_all}
+use Rattle.kex_model.proofs.Parts.{same_part}
+use Rattle.kex_machine.proofs.Outputs.{acted_grows}
+use Rattle.kex_single.specs.PlayLaws as plays
+use Rattle.kex_single.specs.CodeLaws.{text_grows}
+use Rattle.kex_single.specs.TestLaws.{both_nothing}
+use Rattle.kex_words.specs.Words.{Mode}
+use Rattle.kex_words.specs.Words.Mode.{running, coding, acting, testing}
+use Rattle.kex_words.specs.Gains.{Change}
+use Rattle.kex_words.specs.declared.refusals.Refusal.{Refusal}
+use Rattle.kex_top.specs.Answer.{Said}
+use Rattle.kex_top.specs.Modes.{BeginsParse, HasParseAlone, IsParse, WritesPart, MeansCode, SaysBy, SaysCode, SaysNothing, StageGives, limits_of, limits_to_check}
+use Rattle.kex_top.specs.Pipelines.{MeansInTurn}
+use Rattle.kex_top.specs.Run.{WritesAll}
+use Rattle.kex_top.specs.Trials.{KeepsRules, Tries, trial_text, usual_states}
+use Rattle.kex_top.specs.Kex.{CallAnswers, Broke, Checks, Headline, IsGood, IsSound, IsQuiet, IsRefusalOf, IsRefusedFor, Runs, ShelfAnswers, ShelfChange, most_text}
+use Rattle.kex_pipe.specs.declared.report.Rejected.{Rejected as Report}
+use Rattle.kex_top.specs.declared.status.Status.{Status}
+use Rattle.kex_top.specs.declared.status.Status.TheVariants.{Done, Rejected, Usage, Refused, ReadFault, WriteFault, ShelfFault, Memory, TooLong}
+
+orderly : (P : Grammar) (root : ℕ) → ¬ HasEmptyLoop P root → Orderly (Viable P root) (Says P root) (HasParse P root) (Means P root)
+orderly P root none = record {
+  front = λ w x p g. (grows P root w p.0 none).viable (subst (λ z. Viable P root z) p.1 g);
+  said = λ w x s t p h h'. (grows P root w p.0 none).said s t h (subst (λ z. Says P root z t) p.1 h');
+  meant = λ w x s t p h h'. (grows P root w p.0 none).meant s t h (subst (λ z. Means P root z t) p.1 h');
+  good = λ w s h. means_good P root w s none h;
+}
+
+orderly_code : (P : Grammar) (root : ℕ) → ¬ HasEmptyLoop P root → Orderly (Viable P root) (SaysCode P root) (HasParse P root) (MeansCode P root)
+orderly_code P root none = record {
+  front = (orderly P root none).front;
+  said = λ w x s t p h k. text_grows h.0 k.0 s t
+      (agreed_grows (moves P) (start_of P root) w p.0 h.0 k.0 h.1 (subst (λ z. Agreed (moves P) (start_of P root) z k.0) p.1 k.1)) h.2 k.2;
+  meant = λ w x s t p h k. text_grows h.0 k.0 s t
+      (agreed_greedy (moves P) (start_of P root) w p.0 h.0 k.0 h.1 (subst (λ z. Greedy (moves P) (start_of P root) z k.0) p.1 k.1.greedy)) h.2 k.2;
+  good = λ w s m. let k = m.1.greedy in (k.0, (m.0, k.2.reached, k.2.alive));
+}
+
+orderly_test : (P : Grammar) (root : ℕ) → ¬ HasEmptyLoop P root → Orderly (Viable P root) (SaysNothing P root) (HasParse P root) (HasParseAlone P root)
+orderly_test P root none = record {
+  front = (orderly P root none).front;
+  said = λ w x s t p h k. both_nothing s t h k;
+  meant = λ w x s t p h k. both_nothing s t h k.2;
+  good = λ w s m. m.0;
+}
+
+some_none : (r : Report) → report_as (Some r) ≡ None → ⊥
+some_none r e = cc
+
+no_report : (r : Option Report) → r ≡ None → report_as r ≡ None
+no_report r e = ap report_as e
+
+-- a stage's root that has no loop
+abbrev Sound : Grammar → Type 0
+Sound P = (root : ℕ) × ¬ HasEmptyLoop P root
+
+one_meaning : (P : Grammar) (x : Sound P) (w s t : List ℕ) → Means P x.0 w s → Means P x.0 w t → s ≡ t
+one_meaning P x w s t (a, h, e) (b, k, f) =
+    let codes = at_most_both (code_at P x.0 a) (code_at P x.0 b) (h.least b k.parses) (k.least a h.parses) in
+    let same : a ≡ b = (one_to_one P x.0 w x.1).one_tree a b h.parses k.parses codes in
+    e ∙ ap (λ z. (meaning P (kind_at P x.0) z (empty P)).bytes) same ∙ sym f
+
+one_code : (P : Grammar) (root : ℕ) (w s t : List ℕ) → MeansCode P root w s → MeansCode P root w t → s ≡ t
+one_code P root w s t h k =
+    let same : h.0 ≡ k.0 = at_most_both h.0 k.0 (h.1.least k.0 k.1.greedy) (k.1.least h.0 h.1.greedy) in
+    h.2 ∙ ap text_of same ∙ sym k.2
+
+-- what a part begins, and what more of a code adds
+module _ (P : Grammar) (root : ℕ) where
+  begins_front : (c d : List Symbol) → Begins d c → BeginsParse P root d → BeginsParse P root c
+  begins_front c d (m, e) (t, is, q) = (t, is, (m ++ q.0, q.1 ∙ ap (λ z. z ++ q.0) e ∙ append_assoc c m q.0))
+
+  more_part : (c d : List Symbol) (s t : List ℕ) → Begins d c → WritesPart P root c s → WritesPart P root d t → Begins t s
+  more_part c d s t (m, e) (x, is, b, f) (y, it, q, g) =
+      let begins : Begins (code_at P root y) c = (m ++ q.0, q.1 ∙ ap (λ z. z ++ q.0) e ∙ append_assoc c m q.0) in
+      let same : part P (kind_at P root) x c (empty P) ≡ part P (kind_at P root) y c (empty P) =
+      same_part P c [] [] b.0 begins.0 (empty P) is it (append-nil' (code_at P root x) ∙ b.1) (append-nil' (code_at P root y) ∙ begins.1) in
+      let st : State = record { out = []; buffers = []; registers = empty P } in
+      let steps = steps_of P root (kind_at P root) y [] in
+      let grown : Begins (after_steps steps (c ++ m) st).out (after_steps steps c st).out = acted_grows steps c m st in
+      let whole : t ≡ (after_steps steps (c ++ m) st).out = g ∙ sym (done_all P root y d (empty P) [] it).written ∙ ap (λ z. (after_steps steps z st).out) e in
+      let front : s ≡ (after_steps steps c st).out = f ∙ ap (λ z. z.bytes) same ∙ sym (done_all P root y c (empty P) [] it).written in
+      (grown.0, whole ∙ grown.1 ∙ ap (λ z. z ++ grown.0) (sym front))
+
+module _ (P : Grammar) (limit : ℕ) where
+  one : (mode : Mode) (x : Sound P) (w : List ℕ) (e : Bool) (a b : Answer) → StageGives mode P limit x.0 w e a → StageGives mode P limit x.0 w e b → a ≡ b
+  one (running n) x w e a b h k = one_answer (Viable P x.0) (Says P x.0) (HasParse P x.0) (Means P x.0) (orderly P x.0 x.1) limit (λ u s m. (m.0, m.1.parses)) (one_meaning P x) h k
+  one coding x w e a b h k = one_answer (Viable P x.0) (SaysCode P x.0) (HasParse P x.0) (MeansCode P x.0) (orderly_code P x.0 x.1) limit (λ u s m. m.1.parse) (one_code P x.0) h k
+  one acting x w e a b h k = plays.one_answer (BeginsParse P x.0) (IsParse P x.0) (WritesPart P x.0) (begins_front P x.0) (more_part P x.0) limit h k
+  one testing x w e a b h k = one_answer (Viable P x.0) (SaysNothing P x.0) (HasParse P x.0) (HasParseAlone P x.0) (orderly_test P x.0 x.1) limit (λ u s m. m.1) (λ u s t m m'. m.2 ∙ sym m'.2) h k
+
+  stands : (mode : Mode) (x : Sound P) (w v : List ℕ) (e : Bool) (a b : Answer) → StageGives mode P limit x.0 w false a → StageGives mode P limit x.0 (w ++ v) e b → Begins b.text a.text × ((a.stop ≡ None → ⊥) → b ≡ a)
+  stands (running n) x w v e a b h k = stays (Viable P x.0) (Says P x.0) (HasParse P x.0) (Means P x.0) (orderly P x.0 x.1) limit (v, refl) h k
+  stands coding x w v e a b h k = stays (Viable P x.0) (SaysCode P x.0) (HasParse P x.0) (MeansCode P x.0) (orderly_code P x.0 x.1) limit (v, refl) h k
+  stands acting x w v e a b h k = plays.stays (BeginsParse P x.0) (IsParse P x.0) (WritesPart P x.0) (begins_front P x.0) (more_part P x.0) limit (v, refl) h k
+  stands testing x w v e a b h k = stays (Viable P x.0) (SaysNothing P x.0) (HasParse P x.0) (HasParseAlone P x.0) (orderly_test P x.0 x.1) limit (v, refl) h k
+
+  -- open input isn't handed on ended
+  answer_open : {G : List ℕ → Type 0} {S : List ℕ → List ℕ → Type 0} {Q : List ℕ → Type 0} {M : List ℕ → List ℕ → Type 0} {w : List ℕ} {a : Answer} → model.Answers G S Q M limit w false a → a.ended ≡ false
+  answer_open (bad_byte v bad l s) = refl
+  answer_open (too_long lt g s) = refl
+  answer_open (still_open le g s) = refl
+
+  stays_open : (mode : Mode) (x : Sound P) (w : List ℕ) (a : Answer) → StageGives mode P limit x.0 w false a → a.ended ≡ false
+  stays_open (running n) x w a h = answer_open h
+  stays_open coding x w a h = answer_open h
+  stays_open acting x w a h = plays.ends (BeginsParse P x.0) (IsParse P x.0) (WritesPart P x.0) (begins_front P x.0) (more_part P x.0) limit h
+  stays_open testing x w a h = answer_open h
+
+  -- the roots of stages as sound ones
+  as_sound : (rs : List ℕ) → ((r : ℕ) → IsAmong rs r → CanRun P r) → (xs : List (Sound P)) × (map (λ x. x.0) xs ≡ rs)
+  as_sound [] h = ([], refl)
+  as_sound (r ∷ rs) h = let x = as_sound rs (λ q i. h q (inr i)) in ((r, (h r (inl refl)).no_loop) ∷ x.0, ap (λ z. r ∷ z) x.1)
+
+  module _ (mode : Mode) where
+    abbrev Gives : Sound P → List ℕ → Bool → Answer → Type 0
+    Gives x w e a = StageGives mode P limit x.0 w e a
+
+    sounds : (i : ℕ) (xs : List (Sound P)) (w : List ℕ) (e : Bool) (text : List ℕ) (r : Option model.Report) → Pipeline (λ root v d a. StageGives mode P limit root v d a) i (map (λ x. x.0) xs) w e text r → Pipeline Gives i xs w e text r
+    sounds i [] w e text r h = h
+    sounds i (x ∷ xs) w e text r (a, rest, g, o, is) = (a, rest, g, sounds (suc i) xs a.text a.ended text rest o, is)
+
+    -- what parses whole isn't rejected, also not before its end
+    unrejected : ((r : ℕ) → IsAmong (roots_of P) r → CanRun P r) → (w rest input : List ℕ) (e : Bool) (said done : Said) (r : Report) → input ≡ w ++ rest → (e ≡ true → rest ≡ []) → SaysBy mode P limit w e said → said.report ≡ Some r → SaysBy mode P limit input true done → done.report ≡ None → ⊥
+    unrejected run w rest input e said done r is end h rep k none =
+        let xs = as_sound (roots_of P) run in
+        let h' = sounds 1 xs.0 w e said.text (report_as said.report) (rw xs.1 h) in
+        let k' = sounds 1 xs.0 input true done.text (report_as done.report) (rw xs.1 k) in
+        cases e (λ y. end y) h' k'
+      where
+        cases : (e : Bool) → (e ≡ true → rest ≡ []) → Pipeline Gives 1 (as_sound (roots_of P) run).0 w e said.text (report_as said.report) → Pipeline Gives 1 (as_sound (roots_of P) run).0 input true done.text (report_as done.report) → ⊥
+        cases true end h k =
+            let all : input ≡ w = is ∙ ap (λ (s : List ℕ). w ++ s) (end refl) ∙ sym (append-nil w) in
+            let xs = (as_sound (roots_of P) run).0 in
+            let k' : Pipeline Gives 1 xs w true done.text (report_as done.report) = subst (λ z. Pipeline Gives 1 xs z true done.text (report_as done.report)) all k in
+            let same = (one_pipeline Gives (one mode) xs 1 w done.text said.text true (report_as done.report) (report_as said.report) k' h).1 in
+            some_none r (sym (ap report_as rep) ∙ same ∙ ap report_as none)
+        cases false end h k =
+            let xs = (as_sound (roots_of P) run).0 in
+            let k' : Pipeline Gives 1 xs (w ++ rest) true done.text (report_as done.report) = subst (λ z. Pipeline Gives 1 xs z true done.text (report_as done.report)) is k in
+            let x = pipelines_stand Gives (one mode) (λ y u v d a b g g'. (stands mode y u v d a b g g').0) (λ y u v d a b g g' some. (stands mode y u v d a b g g').1 some) (stays_open mode) xs 1 w rest said.text done.text true (report_as said.report) (report_as done.report) h k' in
+            let same = (x.1 (λ n. some_none r (sym (ap report_as rep) ∙ n))).1 in
+            some_none r (sym (ap report_as rep) ∙ sym same ∙ ap report_as none)
+
+unrejected_by : (P : Grammar) (mode : Mode) (limit : ℕ) → ((r : ℕ) → IsAmong (roots_of P) r → CanRun P r) → (old new : Option (List ℕ)) (w input : List ℕ) (e : Bool) (said done : Said) (r : Report) → old ≡ Some input → Consumes old new w → (e ≡ true → IsAtEnd new) → SaysBy mode P limit w e said → said.report ≡ Some r → SaysBy mode P limit input true done → done.report ≡ None → ⊥
+unrejected_by P mode limit run None new w input e said done r is read end h rep k n = cc
+unrejected_by P mode limit run (Some xs) None w input e said done r is read end h rep k n = read
+unrejected_by P mode limit run (Some xs) (Some ys) w input e said done r is read end h rep k n =
+    let same : input ≡ xs = cc in
+    unrejected P limit mode run w ys input e said done r (same ∙ read) end h rep k n
+
+told-same : (told : ShelfText) (text other : List ℕ) → told ≡ present text → IsTold told other → other ≡ text
+told-same untold text other is t = cc
+told-same absent text other is t = cc
+told-same (present x) text other is t = cc
+
+unbroken : (told : ShelfText) (text : List ℕ) (s : ShelfChange) → told ≡ present text → IsQuiet s.breaks_before s.breaks_now → Broke told s → ⊥
+unbroken told text s is quiet broke =
+    let P : ShelfText → Type 0 = λ t. Broke t s in
+    let b = subst P is broke in
+    let rose = b.1 in omega arith
+
+shown_memory : (text : List ℕ) (r : Refusal) (rule : CompileRefusal) → rule ≡ compile.Memory → IsRefusalOf text rule r → ⊥
+shown_memory text r rule e i = subst (λ z. IsRefusalOf text z r) e i
+
+unrefused : (limits : Limits) (told : ShelfText) (text : List ℕ) (r : Refusal) → told ≡ present text → length text ≤ most_text → ((rule : CompileRefusal) → IsRefused limits text rule → rule ≡ compile.Memory) → IsRefusedFor limits told r → ⊥
+unrefused limits told text r is short good (inl past) =
+    let P : ShelfText → Type 0 = λ t. IsPast t most_text in
+    let long : most_text < length text = subst P is past.0 in omega arith
+unrefused limits told text r is short good (inr b) =
+    let same : b.text ≡ text = told-same told text b.text is b.is_told in
+    shown_memory b.text r b.rule (good b.rule (subst (λ t. IsRefused limits t b.rule) same b.is_refused)) b.is_shown
+
+ran-good : (mode : Mode) (limit block : ℕ) (told : ShelfText) (shelf : ShelfChange) (source sink : Change) (s : Status) (r : Report) → IsGood mode limit told shelf source sink → (p : Runs mode limit block told source sink s) → WritesAll (SaysBy mode p.program limit) p.ran.w p.ran.e (Some r) sink → ⊥
+ran-good mode limit block told shelf source sink s r g p all =
+    let same : p.text ≡ g.text = told-same told g.text p.text g.is_told p.is_told in
+    let goes = by p.text same p.program p.accepts.spells in
+    unrejected_by p.program mode limit p.accepts.stages source.old source.new p.ran.w g.input p.ran.e all.said goes.0 r g.rest p.ran.read p.ran.ended all.is_said all.reports goes.1 goes.2
+  where
+    by : (text : List ℕ) → text ≡ g.text → (P : Grammar) → Spells text P → (said : Said) × SaysBy mode P limit g.input true said × (said.report ≡ None)
+    by text e = subst (λ t. (P : Grammar) → Spells t P → (said : Said) × SaysBy mode P limit g.input true said × (said.report ≡ None)) (sym e) g.parses
+
+pub completes : (mode : Mode) (limit block : ℕ) (told : ShelfText) (shelf : ShelfChange) (source sink : Change) (s : Status) → IsGood mode limit told shelf source sink → ShelfAnswers told shelf s → CallAnswers mode limit block told source sink s → (s ≡ Done) ⊎ (s ≡ Memory)
+completes mode limit block told shelf source sink Done g h a = inl refl
+completes mode limit block told shelf source sink Memory g h a = inr refl
+completes mode limit block told shelf source sink Usage g h a = absurd a
+completes mode limit block told shelf source sink ShelfFault g h a = absurd (unbroken told g.text shelf g.is_told g.on_shelf h.1)
+completes mode limit block told shelf source sink (Refused k) g h a = absurd (unrefused (limits_of mode) told g.text k g.is_told g.short g.unbroken a.1)
+completes mode limit block told shelf source sink (Rejected r) g h a = absurd (ran-good mode limit block told shelf source sink (Rejected r) r g a a.ran.ends.1)
+completes mode limit block told shelf source sink (TooLong r) g h a = absurd (ran-good mode limit block told shelf source sink (TooLong r) r g a a.ran.ends.1)
+completes mode limit block told shelf source sink ReadFault g h a =
+    let rose = a.ran.ends.2.1 in let quiet = g.readable in absurd (omega arith)
+completes mode limit block told shelf source sink WriteFault g h a =
+    let rose = a.ran.ends.2.1 in let quiet = g.writable in absurd (omega arith)
+
+pub check_completes : (asked : ℕ) (told : ShelfText) (shelf : ShelfChange) (source sink : Change) (s : Status) → IsSound asked told shelf sink → ShelfAnswers told shelf s → Checks asked told source sink s → (s ≡ Done) ⊎ (s ≡ Memory)
+check_completes asked told shelf source sink Done g h a = inl refl
+check_completes asked told shelf source sink Memory g h a = inr refl
+check_completes asked told shelf source sink ShelfFault g h a = absurd (unbroken told g.text shelf g.is_told g.on_shelf h.1)
+check_completes asked told shelf source sink (Refused k) g h a = absurd (unrefused (limits_to_check asked) told g.text k g.is_told g.short g.unbroken a.1)
+check_completes asked told shelf source sink WriteFault g h a =
+    let rose = a.1.written.1.1 in let quiet = g.writable in absurd (omega arith)
+check_completes asked told shelf source sink Usage g h a = absurd a
+check_completes asked told shelf source sink (Rejected r) g h a = absurd a
+check_completes asked told shelf source sink (TooLong r) g h a = absurd a
+check_completes asked told shelf source sink ReadFault g h a = absurd a
+
+pub trial_completes : (lines : ℕ) (sink : Change) (s : Status) → KeepsRules sink → Tries lines sink s → (s ≡ Done) ⊎ (s ≡ Memory)
+trial_completes lines sink Done g a = inl refl
+trial_completes lines sink Memory g a = inr refl
+trial_completes lines sink (Refused k) g a = absurd (shown_memory a.1.text k a.1.rule (g.unbroken a.1.rule (subst (λ t. IsRefused (limits_to_check usual_states) t a.1.rule) (told-same (present trial_text) trial_text a.1.text refl a.1.is_told) a.1.is_refused)) a.1.is_shown)
+trial_completes lines sink WriteFault g a =
+    let rose = a.written.1.1 in let quiet = g.writable in absurd (omega arith)
+trial_completes lines sink Usage g a = absurd a
+trial_completes lines sink (Rejected r) g a = absurd a
+trial_completes lines sink (TooLong r) g a = absurd a
+trial_completes lines sink ReadFault g a = absurd a
+trial_completes lines sink ShelfFault g a = absurd a
+
+-- ---- Done, with all told
+
+at-end : (new : Option (List ℕ)) (old input w : List ℕ) → old ≡ input → Consumes (Some old) new w → IsAtEnd new → (new ≡ Some []) × (w ≡ input)
+at-end None old input w same read end = absurd read
+at-end (Some rest) old input w same read end =
+    let all : old ≡ w = read ∙ ap (λ (s : List ℕ). w ++ s) end ∙ sym (append-nil w) in
+    (ap (λ (s : List ℕ). Some s) end, sym all ∙ same)
+
+holds-all : (old new : Option (List ℕ)) (before x : List ℕ) → old ≡ Some before → Appends old new x → new ≡ Some (before ++ x)
+holds-all None new before x is p = cc
+holds-all (Some h) None before x is p = absurd p
+holds-all (Some h) (Some y) before x is p =
+    let same : h ≡ before = cc in
+    ap (λ (s : List ℕ). Some s) (p ∙ ap (λ (s : List ℕ). s ++ x) same)
+
+reads-all : (old new : Option (List ℕ)) (input w : List ℕ) → old ≡ Some input → Consumes old new w → IsAtEnd new → (new ≡ Some []) × (w ≡ input)
+reads-all None new input w is read end = cc
+reads-all (Some xs) new input w is read end = let same : xs ≡ input = cc in at-end new xs input w same read end
+
+-- an ended answer without a stop is the meaning
+whole_of : (P : Grammar) (root limit : ℕ) {w : List ℕ} {a : Answer} → StageAnswers P root limit w true a → a.stop ≡ None → (length w ≤ limit) × Means P root w a.text × (a.ended ≡ true)
+whole_of P root limit (bad_byte v bad l s) n = cc
+whole_of P root limit (too_long lt g s) n = cc
+whole_of P root limit (cut_off le g h s) n = cc
+whole_of P root limit (whole le m) n = (le, m, refl)
+
+none-later : (i : ℕ) (own : Option Stop) (rest : Option model.Report) → later_report i own rest ≡ None → (own ≡ None) × (rest ≡ None)
+none-later i own (Some r) e = cc
+none-later i None None e = (refl, refl)
+none-later i (Some s) None e = cc
+
+-- without a report each stage has meant what the next reads
+all-meant : (P : Grammar) (limit i : ℕ) (rs w text : List ℕ) (r : Option model.Report) → Pipeline (λ root v d a. StageAnswers P root limit v d a) i rs w true text r → r ≡ None → MeansInTurn P limit rs w text
+all-meant P limit i [] w text r h none = h.0
+all-meant P limit i (root ∷ rs) w text r (a, rest, gives, others, is) none =
+    let n = none-later i a.stop rest (sym is ∙ none) in
+    let m = whole_of P root limit gives n.0 in
+    (m.0, a.text, m.1, all-meant P limit (suc i) rs a.text text rest (subst (λ z. Pipeline (λ root v d b. StageAnswers P root limit v d b) (suc i) rs a.text z text rest) m.2 others) n.1)
+
+pub done-as-told : (states limit block : ℕ) (told : ShelfText) (source sink : Change) (s : Status) (text input before : List ℕ) → told ≡ present text → source.old ≡ Some input → sink.old ≡ Some before → s ≡ Done → CallAnswers (running states) limit block told source sink s → Headline states text limit input before source.new sink.new
+done-as-told states limit block told source sink s text input before is rest held done answers =
+    let p : Runs (running states) limit block told source sink Done = subst (λ x. CallAnswers (running states) limit block told source sink x) done answers in
+    let same : p.text ≡ text = told-same told text p.text is p.is_told in
+    by p same
+  where
+    by : (p : Runs (running states) limit block told source sink Done) → p.text ≡ text → Headline states text limit input before source.new sink.new
+    by p same =
+        let ended : p.ran.e ≡ true = p.ran.ends.0 in
+        let all = reads-all source.old source.new input p.ran.w rest p.ran.read (p.ran.ended ended) in
+        let x = p.ran.ends.1 in
+        let answer : SaysBy (running states) p.program limit p.ran.w true x.said = subst (λ e. SaysBy (running states) p.program limit p.ran.w e x.said) ended x.is_said in
+        let m = all-meant p.program limit 1 (roots_of p.program) p.ran.w x.said.text (report_as x.said.report) answer (no_report x.said.report x.reports) in
+        moved p.text same p.program p.accepts x.said.text (subst (λ z. MeansInTurn p.program limit (roots_of p.program) z x.said.text) all.1 m) (holds-all sink.old sink.new before x.said.text held x.appended) all.0
+      where
+        moved : (t : List ℕ) → t ≡ text → (P : Grammar) → Accepts (limits_of (running states)) t P → (meant : List ℕ) → MeansInTurn P limit (roots_of P) input meant → sink.new ≡ Some (before ++ meant) → source.new ≡ Some [] → Headline states text limit input before source.new sink.new
+        moved t e P x meant m w r = record { program = P; accepts = subst (λ z. Accepts (limits_of (running states)) z P) e x; meant = meant; means = m; written = w; read = r }
