@@ -21,7 +21,7 @@ struct Guess {
 impl Guess {
     // No state was met.
     fn new(alloc: Global, longest: usize, count: usize) -> Result<Guess, Memory> {
-        let mut states = Vec::new(alloc);
+        let mut states = Vec::with_capacity(alloc, count)?;
         for _ in 0..count {
             states.push(None)?;
         }
@@ -87,7 +87,7 @@ pub(crate) fn given_by(
     from: &[Option<Choices>],
     longest: usize,
 ) -> Result<Vec<Option<Choices>>, Memory> {
-    let mut given = Vec::new(alloc);
+    let mut given = Vec::with_capacity(alloc, update.regs().len())?;
     for parts in update.regs() {
         let mut choices = Choices::new(alloc);
         if spelled(parts.as_slice(), from, &mut choices)? && choices.len() <= longest {

@@ -80,7 +80,7 @@ fn count(constant: &Option<Choices>) -> usize
 fn numbers(alloc: Global, constants: &[Option<Choices>]) -> Result<Vec<usize>, Memory>
     ensures { IfOk result (λ v. AreNumbers constants.now v.items) }
 {
-    let mut numbers = Vec::new(alloc);
+    let mut numbers = Vec::with_capacity(alloc, constants.len() + 1)?;
     let mut next: usize = 0;
     for constant in constants {
         numbers.push(next)?;

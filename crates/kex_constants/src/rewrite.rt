@@ -13,6 +13,7 @@ use kex_code::symbol::Symbol;
 use kex_machine::Bit;
 use kex_sst::parts::{Part, Parts, Update};
 use kex_sst::table::{State, Table, Transition};
+use kex_sst::updates::Updates;
 use std::alloc::Global;
 
 fn symbol_at(side: Bit) -> Symbol
@@ -78,15 +79,21 @@ fn put_list(
 }
 
 // An update between the registers that are kept.
-fn clear(alloc: Global, update: &Update, from: &Known, to: &Known) -> Result<Update, Memory>
+fn clear(
+    alloc: Global,
+    update: &Update,
+    from: &Known,
+    to: &Known,
+    updates: &mut Updates,
+) -> Result<Update, Memory>
     ensures { IfOk result (λ u. u ≡ cleared_change from.now update.now to.now) }
 {
     let out = replace(alloc, update.out(), from)?;
-    let mut regs = Vec::new(alloc);
+    let mut regs = Vec::with_capacity(alloc, update.regs().len())?;
     for (register, parts) in update.regs().iter().enumerate() {
         put_list(alloc, parts, register, from, to, &mut regs)?;
     }
-    Ok(Update::new(out, regs))
+    updates.share(Update::new(out, regs))
 }
 
 fn clear_transition(
@@ -94,6 +101,7 @@ fn clear_transition(
     transition: &Option<Transition>,
     from: &Known,
     constants: &Constants,
+    updates: &mut Updates,
 ) -> Result<Option<Transition>, Memory>
     ensures { IfOk result (λ r. r ≡ cleared_transition constants.now from.now transition.now) }
 {
@@ -101,7 +109,7 @@ fn clear_transition(
         None => Ok(None),
         Some(Transition { target, update }) => {
             let to = constants.known(*target as usize);
-            let update = clear(alloc, update, from, to)?;
+            let update = clear(alloc, update, from, to, updates)?;
             Ok(Some(Transition {
                 target: *target,
                 update,
@@ -115,12 +123,13 @@ fn clear_transitions(
     go: &[Option<Transition>],
     from: &Known,
     constants: &Constants,
+    updates: &mut Updates,
 ) -> Result<Vec<Option<Transition>>, Memory>
     ensures { IfOk result (λ v. v.items ≡ map (λ r. cleared_transition constants.now from.now r) go.now) }
 {
     let mut cleared = Vec::with_capacity(alloc, go.len())?;
     for transition in go {
-        cleared.push(clear_transition(alloc, transition, from, constants)?)?;
+        cleared.push(clear_transition(alloc, transition, from, constants, updates)?)?;
     }
     Ok(cleared)
 }
@@ -140,12 +149,13 @@ fn clear_state(
     state: &State,
     known: &Known,
     constants: &Constants,
+    updates: &mut Updates,
 ) -> Result<State, Memory>
     ensures { IfOk result (λ s. s ≡ cleared_state constants.now known.now state.now) }
 {
     let registers = known.number(state.registers());
     let accepting = clear_way(alloc, state, known)?;
-    let go = clear_transitions(alloc, state.go(), known, constants)?;
+    let go = clear_transitions(alloc, state.go(), known, constants, updates)?;
     Ok(State::new(registers, accepting, go))
 }
 
@@ -153,12 +163,13 @@ fn clear_states(
     alloc: Global,
     states: &[State],
     constants: &Constants,
+    updates: &mut Updates,
 ) -> Result<Vec<State>, Memory>
     ensures { IfOk result (λ v. v.items ≡ cleared_states constants.now 0 states.now) }
 {
-    let mut cleared = Vec::new(alloc);
+    let mut cleared = Vec::with_capacity(alloc, states.len())?;
     for (number, state) in states.iter().enumerate() {
-        cleared.push(clear_state(alloc, state, constants.known(number), constants)?)?;
+        cleared.push(clear_state(alloc, state, constants.known(number), constants, updates)?)?;
     }
     Ok(cleared)
 }
@@ -172,7 +183,14 @@ pub fn without_constants(
     ensures { IfOk result (λ t. t ≡ cleared_table constants.now table.now) }
 {
     let none = Known::new(alloc, Vec::new(alloc))?;
-    let initial = clear(alloc, table.initial(), &none, constants.known(0))?;
-    let states = clear_states(alloc, table.states(), constants)?;
+    let mut updates = Updates::new(alloc);
+    let initial = clear(
+        alloc,
+        table.initial(),
+        &none,
+        constants.known(0),
+        &mut updates,
+    )?;
+    let states = clear_states(alloc, table.states(), constants, &mut updates)?;
     Ok(Table::new(table.partition().copy(), initial, states))
 }

@@ -12,14 +12,16 @@ use kex_code::memory::Memory;
 use kex_paths::tree::PathTree;
 use kex_sst::parts::Update;
 use kex_sst::table::Transition;
+use kex_sst::updates::Updates;
 use std::alloc::Global;
 
-/// The path trees of the states that were met, and their keys, by number; and how many there may be.
+/// The path trees of the states that were met, and their keys, by number; how many there may be; and the updates of transitions.
 #[derive(Drop)]
 pub struct States<'m> {
     pub keys: IndexSet<Vec<u32>>,
     pub trees: Vec<PathTree<'m>>,
     pub most: u32,
+    updates: Updates,
 }
 
 // The number of a key: its own, or the next.
@@ -42,6 +44,7 @@ impl<'m> States<'m> {
             keys: IndexSet::new(alloc),
             trees: Vec::new(alloc),
             most,
+            updates: Updates::new(alloc),
         }
     }
 
@@ -85,6 +88,7 @@ impl<'m> States<'m> {
         match next {
             None => Ok(None),
             Some((tree, update)) => {
+                let update = self.updates.share(update)?;
                 let target = self.enter(alloc, tree)?;
                 Ok(Some(Transition { target, update }))
             }

@@ -8,9 +8,9 @@ ghost use Rattle.kex_script.specs.Scripts.{IsWord, Sheet, change_at, list_at};
 ghost use Rattle.kex_runner.specs.Ways.{AreKnown, AreOlds, HasStart, HasStep, IsSplit, IsStart, IsStep, IsStepIf, IsWay, composition};
 
 use kex_code::memory::Memory;
-use kex_script::interned::{Interned, are_same};
+use kex_script::interned::Interned;
 use kex_script::script::Script;
-use kex_sst::parts::{Part, Parts};
+use kex_sst::parts::{Part, Parts, are_same};
 use std::alloc::Global;
 
 // So many ways are kept at most.

@@ -1,12 +1,11 @@
 // Lists of parts by number.
 
-ghost use Rattle.std.specs.Prelude.{◌≡◌, ◌∷◌, ◌++◌, length, [], Some, true, IfOk, OnOk, IfSome, get_or, slice_get};
+ghost use Rattle.std.specs.Prelude.{◌≡◌, ◌∷◌, ◌++◌, length, [], Some, IfOk, OnOk, IfSome, get_or, slice_get};
 ghost use Rattle.kex_script.specs.Pages.{Keeps};
 
 use indexmap::IndexMap;
 use kex_code::memory::Memory;
-use kex_code::symbol::Symbol;
-use kex_sst::parts::{Part, Parts};
+use kex_sst::parts::{Part, Parts, are_same, sum_of};
 use std::alloc::Global;
 use std::marker::Model;
 
@@ -25,33 +24,6 @@ impl Model for Interned {
     ghost Value = { List (List Part) };
 
     ghost view = { λ i. i.all.items };
-}
-
-// A number for a part.
-fn code_of(part: Part) -> u64 {
-    match part {
-        Part::Input => 1,
-        Part::Put(Symbol::L) => 2,
-        Part::Put(Symbol::R) => 3,
-        Part::Put(Symbol::Byte(byte)) => 4 + u64::from(byte),
-        Part::Old(register) => 512 + u64::from(register),
-    }
-}
-
-// A sum of parts in their order.
-fn sum_of(parts: &[Part]) -> u64 {
-    let mut sum: u64 = 0xcbf2_9ce4_8422_2325;
-    for part in parts {
-        sum = (sum ^ code_of(*part)).wrapping_mul(0x0000_0100_0000_01b3);
-    }
-    sum
-}
-
-/// Whether two lists of parts are the same.
-pub fn are_same(left: &[Part], right: &[Part]) -> bool
-    ensures { result ≡ true → left.now ≡ right.now }
-{
-    left == right
 }
 
 // The same parts in a list of their own.

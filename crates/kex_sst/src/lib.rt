@@ -5,7 +5,9 @@
 #![tactic(auto)]
 
 pub mod laws;
+mod lists;
 pub mod parts;
 pub mod table;
 #[cfg(test)]
 mod tests;
+pub mod updates;

@@ -1,7 +1,8 @@
 // Updates: what is passed on, and what each new register is given.
 
-ghost use Rattle.std.specs.Prelude.{◌≡◌, ◌++◌, ◌∷◌, [], OnOk, OnErr, IfOk};
+ghost use Rattle.std.specs.Prelude.{◌≡◌, ◌++◌, ◌∷◌, [], true, OnOk, OnErr, IfOk};
 
+use crate::lists::{Lists, are_same_lists};
 use kex_code::memory::Memory;
 use kex_code::symbol::Symbol;
 use smallvec::SmallVec;
@@ -67,19 +68,47 @@ impl Parts {
     }
 }
 
-/// What a transition passes on, and what it gives to each of the registers of its target.
+// A number for a part.
+fn code_of(part: Part) -> u64 {
+    match part {
+        Part::Input => 1,
+        Part::Put(Symbol::L) => 2,
+        Part::Put(Symbol::R) => 3,
+        Part::Put(Symbol::Byte(byte)) => 4 + u64::from(byte),
+        Part::Old(register) => 512 + u64::from(register),
+    }
+}
+
+/// A sum of parts in their order, by which equal lists are found.
+pub fn sum_of(parts: &[Part]) -> u64 {
+    let mut sum: u64 = 0xcbf2_9ce4_8422_2325;
+    for part in parts {
+        sum = (sum ^ code_of(*part)).wrapping_mul(0x0000_0100_0000_01b3);
+    }
+    sum
+}
+
+/// Whether two lists of parts are the same.
+pub fn are_same(left: &[Part], right: &[Part]) -> bool
+    ensures { result ≡ true → left.now ≡ right.now }
+{
+    left == right
+}
+
+/// What a transition passes on, and what it gives to each of the registers of its target. Copies may share the lists of registers.
 #[derive(Drop)]
 pub struct Update {
     out: Parts,
-    regs: Vec<Parts>,
+    regs: Lists,
 }
 
 impl Model for Update {
     ghost use Rattle.kex_sst.specs.Parts.{Change};
+    ghost use Rattle.kex_sst.specs.Shared.{lists_of};
 
     ghost Value = { Change };
 
-    ghost view = { λ u. record { out = u.out; regs = u.regs.items } };
+    ghost view = { λ u. record { out = u.out; regs = lists_of u.regs } };
 }
 
 impl Update {
@@ -87,7 +116,10 @@ impl Update {
     pub fn new(out: Parts, regs: Vec<Parts>) -> Update
         ensures { result ≡ record { out = out; regs = regs.items } }
     {
-        Update { out, regs }
+        Update {
+            out,
+            regs: Lists::Alone(regs),
+        }
     }
 
     /// What is passed on.
@@ -101,7 +133,25 @@ impl Update {
     pub fn regs(&self) -> &[Parts]
         ensures { result.now ≡ self.now.regs }
     {
-        &self.regs
+        self.regs.as_slice()
+    }
+
+    /// Whether another update has the same lists.
+    pub(crate) fn is_same(&self, other: &Update) -> bool
+        ensures { result ≡ true → self.now ≡ other.now }
+    {
+        are_same(self.out.as_slice(), other.out.as_slice())
+            && are_same_lists(self.regs.as_slice(), other.regs.as_slice())
+    }
+
+    /// The same update, whose lists copies share.
+    pub(crate) fn counted(self) -> Update
+        ensures { result ≡ self }
+    {
+        Update {
+            out: self.out,
+            regs: self.regs.counted(),
+        }
     }
 
     /// The same update again.
@@ -109,11 +159,7 @@ impl Update {
         ensures { IfOk result (λ u. u ≡ self.now) }
     {
         let out = self.out.copy(alloc)?;
-        let mut regs = Vec::new(alloc);
-        for parts in &self.regs {
-            let parts = parts.copy(alloc)?;
-            regs.push(parts)?;
-        }
+        let regs = self.regs.copy(alloc)?;
         Ok(Update { out, regs })
     }
 }

@@ -5,7 +5,7 @@ use Rattle.kex_constants.proofs.RegisterNumbers.{number_zero, number_next, one_m
 use Rattle.kex_constants.proofs.known.numbers.Goals as goal
 
 pub loop-constant-init : goal.loop-constant-init
-loop-constant-init c = record { next = number_zero c.args.constants.now; few = omega arith; long = ap length c.new-numbers.ensures.items; each = λ i lt. absurd (omega arith) }
+loop-constant-init c = record { next = number_zero c.args.constants.now; few = omega arith; long = ap length c.in_ok-numbers.ensures.items; each = λ i lt. absurd (omega arith) }
 
 pub loop-constant-preserved : goal.loop-constant-preserved
 loop-constant-preserved c =

@@ -5,7 +5,7 @@ use Rattle.kex_constants.proofs.Lists.{kept_none, kept_more}
 use Rattle.kex_constants.proofs.rewrite.clear.Goals as goal
 
 pub loop-register-init : goal.loop-register-init
-loop-register-init c = c.new-regs.ensures.items ∙ ap (λ z. map (λ x. cleared_parts c.args.from.now x) z) (kept_none c.args.to.now)
+loop-register-init c = c.in_ok-regs.ensures.items ∙ ap (λ z. map (λ x. cleared_parts c.args.from.now x) z) (kept_none c.args.to.now)
 
 pub loop-register-preserved : goal.loop-register-preserved
 loop-register-preserved c =

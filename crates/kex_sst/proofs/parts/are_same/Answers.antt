@@ -6,7 +6,7 @@ use Rattle.kex_code.specs.declared.symbol.Symbol.TheVariants.{L, R, Byte}
 use Rattle.kex_sst.specs.declared.parts.Part.{Part}
 use Rattle.kex_sst.specs.declared.parts.Part.TheVariants.{Put, Old, Input}
 use Rattle.kex_sst.specs.contracts.parts.PartPartialEq.TheImpl as derived
-use Rattle.kex_script.proofs.interned.are_same.Goals as goal
+use Rattle.kex_sst.proofs.parts.are_same.Goals as goal
 
 parts_decide : (a b : Part) → Decides (derived.eq-value.it a b) (a ≡ b)
 parts_decide (Put L) (Put L) = (λ e. refl, λ e. refl)
