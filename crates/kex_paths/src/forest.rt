@@ -7,6 +7,7 @@ ghost use Rattle.kex_paths.specs.Forests.{HasTrees, LeadsTo, last_tree, trees_be
 
 use kex_code::memory::Memory;
 use kex_sst::parts::Part;
+use smallvec::SmallVec;
 use std::alloc::Global;
 use std::marker::Model;
 
@@ -20,7 +21,7 @@ pub enum TreeNode {
 /// An edge, with what it leads to. Its label is turned: what is put in front stands at its end.
 #[derive(Drop)]
 pub struct Edge {
-    pub label: Vec<Part>,
+    pub label: SmallVec<Part, 4>,
     pub node: TreeNode,
 }
 
@@ -97,7 +98,7 @@ impl Forest {
     pub fn add_tip(&mut self, place: u32) -> Result<(), Memory>
         ensures { OnOk result ((rs : List (Option (Grown Part ℕ))) → HasTrees self.old rs → HasTrees self.new (Some (record { label = []; tree = tip place }) ∷ rs)) }
     {
-        let label = Vec::new(self.alloc);
+        let label = SmallVec::new(self.alloc);
         let node = TreeNode::Tip(place);
         self.push_root(Some(Edge { label, node }))
     }
@@ -106,7 +107,7 @@ impl Forest {
     fn add_fork(&mut self, left: Edge, right: Edge) -> Result<(), Memory>
         ensures { OnOk result ((a : Grown Part ℕ) (b : Grown Part ℕ) (rs : List (Option (Grown Part ℕ))) → LeadsTo self.old.edges (Some left) (Some a) → LeadsTo self.old.edges (Some right) (Some b) → HasTrees self.old rs → HasTrees self.new (fork_of (Some a) (Some b) ∷ rs)) }
     {
-        let label = Vec::new(self.alloc);
+        let label = SmallVec::new(self.alloc);
         let left_number = self.edges.len();
         self.edges.push(left)?;
         let right_number = self.edges.len();

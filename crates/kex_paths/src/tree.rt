@@ -64,9 +64,9 @@ impl<'m> PathTree<'m> {
         ensures key { IfOk result (λ key. (s : Shape ℕ) → IsOfShape self.now s → key.items ≡ key_of s) }
         ensures equal { IfOk result (λ key. (s : Shape ℕ) (t : Shape ℕ) → IsOfShape self.now s → (key.items ≡ key_of t) ↔ (s ≡ t)) }
     {
-        let mut tokens = Vec::new(alloc);
+        let mut tokens = Vec::with_capacity(alloc, self.shape.len())?;
         read_tokens(&self.shape, &self.leaves, &mut tokens)?;
-        let mut key = Vec::new(alloc);
+        let mut key = Vec::with_capacity(alloc, tokens.len())?;
         for token in &tokens {
             key.push(number_of(*token))?;
         }
@@ -161,18 +161,18 @@ pub fn gather<'m>(
     ensures machine { IfOk result (λ r. r.0.machine ≡ machine.now) }
     ensures tree { IfOk result (λ r. (a : Grown Part ℕ) → LeadsTo edges.now (Some root.now) (Some a) → IsOfShape r.0 (shape_of a.tree) × IsChange r.1 a) }
 {
-    let mut shape = Vec::new(alloc);
-    let mut leaves = Vec::new(alloc);
+    let mut shape = Vec::with_capacity(alloc, edges.len() + 1)?;
+    let mut leaves = Vec::with_capacity(alloc, edges.len() / 2 + 1)?;
     let mut regs = Vec::with_capacity(alloc, edges.len())?;
     let mut pending = Vec::new(alloc);
     add_node(root.node, &mut shape, &mut leaves, &mut pending)?;
     while let Some(number) = pending.pop() {
         let edge = edge_at(edges, number);
-        let label = parts_of(alloc, &edge.label)?;
+        let label = parts_of(alloc, edge.label.as_slice())?;
         regs.push(label)?;
         add_node(edge.node, &mut shape, &mut leaves, &mut pending)?;
     }
-    let out = parts_of(alloc, &root.label)?;
+    let out = parts_of(alloc, root.label.as_slice())?;
     let tree = PathTree {
         machine,
         shape,

@@ -9,8 +9,8 @@ use Rattle.kex_paths.proofs.tree.gather.Goals.{In-Some}
 
 pub loop-number-init : goal.loop-number-init
 loop-number-init c = λ a h.
-    let shape : c.add_node.new.shape.items ≡ is_inner c.args.root.now.node ∷ [] = c.in_ok-add_node.ensures.shape ∙ ap (λ z. z ++ is_inner c.args.root.now.node ∷ []) c.new-shape.ensures.items in
-    let leaves : c.add_node.new.leaves.items ≡ tip_in c.args.root.now.node = c.in_ok-add_node.ensures.leaves ∙ ap (λ z. z ++ tip_in c.args.root.now.node) c.new-leaves.ensures.items in
+    let shape : c.add_node.new.shape.items ≡ is_inner c.args.root.now.node ∷ [] = c.in_ok-add_node.ensures.shape ∙ ap (λ z. z ++ is_inner c.args.root.now.node ∷ []) c.in_ok-shape.ensures.items in
+    let leaves : c.add_node.new.leaves.items ≡ tip_in c.args.root.now.node = c.in_ok-add_node.ensures.leaves ∙ ap (λ z. z ++ tip_in c.args.root.now.node) c.in_ok-leaves.ensures.items in
     let pending : c.add_node.new.pending.items ≡ edges_from c.args.root.now.node = c.in_ok-add_node.ensures.pending ∙ ap (λ z. z ++ edges_from c.args.root.now.node) c.new-pending.ensures.items in
     spelled_as c.args.edges.now a (is_inner c.args.root.now.node ∷ []) c.add_node.new.shape.items (tip_in c.args.root.now.node) c.add_node.new.leaves.items [] c.in_ok-regs.regs.items (edges_from c.args.root.now.node) c.add_node.new.pending.items shape leaves c.in_ok-regs.ensures.items pending (spelled_start c.args.edges.now c.args.root.now a h)
 
@@ -35,7 +35,7 @@ pub loop-number-preserved : goal.loop-number-preserved
 loop-number-preserved c = λ a h.
     let top = (goal.at.loop-number-preserved c).In-Some in
     let x = c.edge_at-edge.result.now in
-    let regs : c.push.new.self.items ≡ c.loop-number.regs.items ++ reverse x.label.items ∷ [] = c.in_ok-push.ensures.items ∙ ap (λ z. c.loop-number.regs.items ++ z ∷ []) (c.in_ok-label.ensures ∙ ap reverse c.deref.ensures.value) in
+    let regs : c.push.new.self.items ≡ c.loop-number.regs.items ++ reverse x.label.items ∷ [] = c.in_ok-push.ensures.items ∙ ap (λ z. c.loop-number.regs.items ++ z ∷ []) (c.in_ok-label.ensures ∙ ap reverse c.as_slice.ensures) in
     spelled_as c.args.edges.now a (c.loop-number.shape.items ++ is_inner x.node ∷ []) c.add_node-in-Some.new.shape.items (c.loop-number.leaves.items ++ tip_in x.node) c.add_node-in-Some.new.leaves.items (c.loop-number.regs.items ++ reverse x.label.items ∷ []) c.push.new.self.items (c.pop.new.self.items ++ edges_from x.node) c.add_node-in-Some.new.pending.items
     c.in_ok-add_node-2.ensures.shape c.in_ok-add_node-2.ensures.leaves regs c.in_ok-add_node-2.ensures.pending
     (spelled_more c.args.edges.now a c.loop-number.shape.items c.loop-number.leaves.items c.loop-number.regs.items c.pop.new.self.items c.in-Some.number x c.edge_at-edge.ensures (spelled top a h))
