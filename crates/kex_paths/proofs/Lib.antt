@@ -9,3 +9,4 @@ pub mod Preorders
 pub mod Samples
 pub mod TaskSteps
 pub mod InOrder
+pub mod LastEdges

@@ -133,12 +133,13 @@ impl Forest {
     pub fn put_front(&mut self, part: Part) -> Result<(), Memory>
         ensures { OnOk result ((rs : List (Option (Grown Part ℕ))) → HasTrees self.old rs → HasTrees self.new (with_prefix (part ∷ []) (last_tree rs) ∷ trees_before rs)) }
     {
-        match self.pop_root() {
-            None => self.push_root(None),
-            Some(mut root) => {
-                root.label.push(part)?;
-                self.push_root(Some(root))
-            }
+        let count = self.roots.len();
+        if count == 0 {
+            return self.push_root(None);
         }
+        if let Some(root) = &mut self.roots[count - 1] {
+            root.label.push(part)?;
+        }
+        Ok(())
     }
 }
