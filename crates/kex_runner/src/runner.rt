@@ -105,8 +105,8 @@ struct Taken {
     good: usize,
 }
 
-// Follows the table along a piece, up to a byte behind which there are no registers, or one at which it stops. What is passed on is
-// put behind pieces.
+// Follows the table along a piece, up to a byte at which it stops, or one behind the first that leads from no registers to none: what
+// is learnt goes over those faster. What is passed on is put behind pieces.
 fn follow_held(
     table: &Table,
     guide: &Guide,
@@ -140,12 +140,13 @@ fn follow_held(
                 good: at,
             });
         }
+        let bare = registers.len() == 0 && entry.registers == 0;
+        if bare && at > 0 {
+            break;
+        }
         registers.take(script, ways, entry, piece[at], pieces)?;
         *state = entry.target;
         at += 1;
-        if entry.registers == 0 {
-            break;
-        }
     }
     Ok(Taken {
         taken: at,
@@ -243,8 +244,8 @@ impl<'t> Runner<'t> {
         Ok(answer_of(self.dead))
     }
 
-    /// Takes bytes as `feed` does, and counts no steps: as many as there are up to the first behind which there are no registers, or
-    /// at which the table stops. What was in `pieces` goes, and what the bytes let it pass on is left there, in words.
+    /// Takes some bytes of a piece as `feed` does, at least one if there is one, and counts no steps. The last may be one at which the
+    /// table stops. What was in `pieces` goes, and what the bytes let it pass on is left there, in words.
     ///
     /// After `Memory` the pieces may be a part of that, and the runner is only dropped.
     pub fn hold(&mut self, piece: &[u8], pieces: &mut Vec<Piece>) -> Result<Held, Memory>

@@ -32,7 +32,7 @@ struct Heard {
 }
 
 impl<'p> Follower<'p> {
-    // What the table passes on along the front of a piece is put into the pieces, up to a byte behind which there are no registers.
+    // What the table passes on along the front of a piece is put into the pieces.
     fn hear(&mut self, piece: &[u8]) -> Result<Heard, Memory>
         requires usable { IsTrue self.old.runner.usable }
         requires open { self.old.runner.ended ≡ false }
@@ -138,7 +138,7 @@ impl<'p> Follower<'p> {
         Ok(ran.count)
     }
 
-    // Reads some of a piece: what is learnt, and then by the runner up to a byte behind which there are no registers.
+    // Reads some of a piece: by what is learnt, and then by the runner as far as it goes at once.
     fn stride(
         &mut self,
         actor: &mut Actor<'p>,
