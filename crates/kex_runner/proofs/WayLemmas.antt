@@ -17,10 +17,10 @@ use Rattle.kex_runner.specs.declared.ways.Start.{Start}
 use Rattle.kex_runner.specs.declared.ways.Step.{Step}
 use Rattle.kex_runner.specs.declared.ways.Ways.{Ways}
 use Rattle.kex_runner.specs.declared.walking.Place.{Place}
-use Rattle.kex_runner.specs.Noting.{ByteUpdate, next_registers, registers_after, spelled_back}
+use Rattle.kex_script.specs.Pieces.{code_over}
+use Rattle.kex_runner.specs.Noting.{ByteUpdate, next_registers, registers_after}
 use Rattle.kex_runner.specs.Ways.{AreOlds, composition, IsWay, IsSplit, IsStart, IsStep, IsStepIf, AreKnown, HasWalked}
 use Rattle.kex_runner.proofs.Notes.{meant_fresh}
-use Rattle.kex_runner.proofs.Pieces.{spelled_back_more}
 use Rattle.kex_runner.proofs.LookUps.{meant-append, registers_more}
 
 olds_both : (xs ys : List Part) → AreOlds xs → AreOlds ys → AreOlds (xs ++ ys)
@@ -79,7 +79,7 @@ known_more s w w' k h f g = record { none = k 0 [] h.none; starts = f (starts_ke
 module _ (s : Sheet) (ways ways' : List (List Part)) (notes : List ByteUpdate) (from : List Part) (p p' : Place) (lists : ℕ) (x : Split) (d n : ByteUpdate) (first old new : List Piece) where
   pub walked_on : Keeps ways ways' → p.after ≡ suc p'.after → p'.way ≡ x.way → n ≡ get_or notes p'.after d → n.update ≡ change_at s lists
       → IsStep s ways' p.way lists x
-      → ((words : List (List Part)) (w : List Part) → IsWord words x.word w → spelled_back words new ≡ parts_code [] n.byte w ++ spelled_back words old)
+      → ((words : List (List Part)) (w : List Part) → IsWord words x.word w → code_over words new ≡ parts_code [] n.byte w ++ code_over words old)
       → HasWalked s ways notes from p first old → HasWalked s ways' notes from p' first new
   walked_on k e same at u st said h =
       let to : List Part = st.split.front in
@@ -91,7 +91,7 @@ module _ (s : Sheet) (ways ways' : List (List Part)) (notes : List ByteUpdate) (
         text = λ base.
             let regs : List (List Symbol) = registers_after base (take p'.after notes) in
             let word : List Symbol = parts_code [] n.byte st.split.parts in
-            let back : List Symbol = spelled_back s.words old in
+            let back : List Symbol = code_over s.words old in
             let there : parts_code (registers_after base (take p.after notes)) 0 h.to ≡ parts_code regs 0 to ++ word =
             ap₂ (λ y z. parts_code (registers_after base (take y notes)) 0 z) e here
             ∙ ap (λ z. parts_code z 0 st.from) (registers_more base notes p'.after d (omega (arith, h.after, e)))
@@ -116,7 +116,7 @@ walked_kept s ways ways' notes from p old new k h = record { after = h.after; to
 
 -- nothing is gone
 pub walked_none : (s : Sheet) (ways : List (List Part)) (notes : List ByteUpdate) (from : List Part) (p : Place) (back : List Piece) → p.after ≡ length notes → IsWay ways p.way from → HasWalked s ways notes from p back back
-walked_none s ways notes from p back e h = record { after = omega (arith, e); to = from; way = h; text = λ base. ap (λ z. parts_code (registers_after base z) 0 from ++ spelled_back s.words back) (take_all p.after notes (omega (arith, e))) }
+walked_none s ways notes from p back e h = record { after = omega (arith, e); to = from; way = h; text = λ base. ap (λ z. parts_code (registers_after base z) 0 from ++ code_over s.words back) (take_all p.after notes (omega (arith, e))) }
 
 -- one of the parts of a way
 olds_at : (way : List Part) (i : ℕ) (d : Part) → i < length way → AreOlds way → AreOlds (get_or way i d ∷ [])
@@ -135,12 +135,11 @@ way_next regs way k left d new old before e le h read f =
     ∙ ap (λ z. parts_code regs 0 z ++ before) (sym (drop_more way k d lt))
 
 -- a piece more says its word
-pub word_said : (words : List (List Part)) (word : Option ℕ) (w : List Part) (number byte n : ℕ) (old new : List Piece) → word ≡ Some number → n ≡ number → new ≡ old ++ (record { word = n; byte = byte }) ∷ [] → IsWord words word w → spelled_back words new ≡ parts_code [] byte w ++ spelled_back words old
+pub word_said : (words : List (List Part)) (word : Option ℕ) (w : List Part) (number byte n : ℕ) (old new : List Piece) → word ≡ Some number → n ≡ number → new ≡ (record { word = n; byte = byte }) ∷ old → IsWord words word w → code_over words new ≡ parts_code [] byte w ++ code_over words old
 word_said words word w number byte n old new e same more is =
     let at : IsWord words (Some number) w = subst (λ z. IsWord words z w) e is in
-    ap (λ z. spelled_back words z) (more ∙ ap (λ z. old ++ (record { word = z; byte = byte }) ∷ []) same)
-    ∙ spelled_back_more words old (record { word = number; byte = byte })
-    ∙ ap (λ z. parts_code [] byte z ++ spelled_back words old) (get_or_from_slice_get words number w [] at)
+    ap (λ z. code_over words z) (more ∙ ap (λ z. (record { word = z; byte = byte }) ∷ old) same)
+    ∙ ap (λ z. parts_code [] byte z ++ code_over words old) (get_or_from_slice_get words number w [] at)
 
 -- a step that is kept, if it says what the way was
 pub step_said : (o : Option Split) (steps : List Step) (number lists : ℕ) → ((s : Sheet) (ways : List (List Part)) → All (IsStepIf s ways) steps → IfSome o (λ y. IsStep s ways number lists y)) → IfSome o (λ x. (s : Sheet) (ways : List (List Part)) → All (IsStepIf s ways) steps → IsStep s ways number lists x)
@@ -155,18 +154,22 @@ step_is s words ways ways' number lists o from parts e k h is st = IfSome_then o
   split = subst (λ z. IsSplit s.words ways' x z) is (subst (λ z. IsSplit z ways' x parts) e st);
 })
 
--- a list that is a way and a word, the way gone back and read
-pub read_whole : (s : Sheet) (base : List (List Symbol)) (notes : List ByteUpdate) (ways ways' : List (List Part)) (x : Split) (p : Place) (byte : ℕ) (list way : List Part) (none old new : List Piece) (last : List Symbol) → (st : IsSplit s.words ways x list) → HasWalked s ways' notes st.front p old new
-    → ((words : List (List Part)) (w : List Part) → IsWord words x.word w → spelled_back words old ≡ parts_code [] byte w ++ spelled_back words none) → none ≡ [] → way ≡ get_or ways' p.way []
-    → last ≡ parts_code (registers_after base (take p.after notes)) 0 way ++ spelled_back s.words new → last ≡ parts_code (registers_after base notes) byte list
-read_whole s base notes ways ways' x p byte list way none old new last st h said e is read =
+-- a list that is a way and a word, the way gone back
+pub read_whole : (s : Sheet) (base : List (List Symbol)) (notes : List ByteUpdate) (ways ways' : List (List Part)) (x : Split) (p : Place) (byte : ℕ) (list way : List Part) (none old new : List Piece) → (st : IsSplit s.words ways x list) → HasWalked s ways' notes st.front p old new
+    → ((words : List (List Part)) (w : List Part) → IsWord words x.word w → code_over words old ≡ parts_code [] byte w ++ code_over words none) → none ≡ [] → way ≡ get_or ways' p.way []
+    → parts_code (registers_after base (take p.after notes)) 0 way ++ code_over s.words new ≡ parts_code (registers_after base notes) byte list
+read_whole s base notes ways ways' x p byte list way none old new st h said e is =
     let regs : List (List Symbol) = registers_after base notes in
     let there : way ≡ h.to = is ∙ get_or_from_slice_get ways' p.way h.to [] h.way.at in
     let word : List Symbol = parts_code [] byte st.parts in
-    read
-    ∙ ap (λ z. parts_code (registers_after base (take p.after notes)) 0 z ++ spelled_back s.words new) there
+    ap (λ z. parts_code (registers_after base (take p.after notes)) 0 z ++ code_over s.words new) there
     ∙ h.text base
-    ∙ ap (λ z. parts_code regs 0 st.front ++ z) (said s.words st.parts st.word ∙ ap (λ z. word ++ spelled_back s.words z) e ∙ append-nil word)
+    ∙ ap (λ z. parts_code regs 0 st.front ++ z) (said s.words st.parts st.word ∙ ap (λ z. word ++ code_over s.words z) e ∙ append-nil word)
     ∙ ap₂ (λ y z. y ++ z) (any_byte regs 0 byte st.front st.way.each) (meant_fresh [] regs byte st.parts st.plain)
     ∙ sym (meant-append regs byte st.front st.parts)
     ∙ ap (λ z. parts_code regs byte z) (sym st.joined)
+
+-- a way of no parts stands for nothing
+pub no_way : (regs : List (List Symbol)) (byte : ℕ) (way : List Part) (rest : List Symbol) → length way ≡ 0 → parts_code regs byte way ++ rest ≡ rest
+no_way regs byte [] rest e = refl
+no_way regs byte (x ∷ xs) rest e = absurd (omega (arith, e))

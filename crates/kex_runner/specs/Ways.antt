@@ -6,7 +6,8 @@ use Rattle.kex_sst.specs.declared.parts.Part.TheVariants.{Put, Old, Input}
 use Rattle.kex_sst.specs.Parts.{Change, parts_code, olds}
 use Rattle.kex_script.specs.declared.piece.Piece.{Piece}
 use Rattle.kex_script.specs.Scripts.{Sheet, IsWord, change_at, list_at}
-use Rattle.kex_runner.specs.Noting.{ByteUpdate, registers_after, spelled_back}
+use Rattle.kex_script.specs.Pieces.{code_over}
+use Rattle.kex_runner.specs.Noting.{ByteUpdate, registers_after}
 use Rattle.kex_runner.specs.declared.ways.Split.{Split}
 use Rattle.kex_runner.specs.declared.ways.Start.{Start}
 use Rattle.kex_runner.specs.declared.ways.Step.{Step}
@@ -72,9 +73,9 @@ pub record AreKnown (s : Sheet) (w : Ways) : Type 0 where
   pub starts : All (IsStart s w.lists) w.starts.items
   pub steps : All (IsStepIf s w.lists) w.steps.items
 
--- a way over all notes is another one over some of them, and then what was read
+-- a way over all notes, and what stood behind it, are another one over some of them, and pieces
 pub record HasWalked (s : Sheet) (ways : List (List Part)) (notes : List ByteUpdate) (from : List Part) (place : Place) (old new : List Piece) : Type 0 where
   pub after : place.after ≤ length notes
   pub to : List Part
   pub way : IsWay ways place.way to
-  pub text : (base : List (List Symbol)) → parts_code (registers_after base (take place.after notes)) 0 to ++ spelled_back s.words new ≡ parts_code (registers_after base notes) 0 from ++ spelled_back s.words old
+  pub text : (base : List (List Symbol)) → parts_code (registers_after base (take place.after notes)) 0 to ++ code_over s.words new ≡ parts_code (registers_after base notes) 0 from ++ code_over s.words old

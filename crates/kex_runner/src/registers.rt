@@ -12,7 +12,7 @@ ghost use Rattle.kex_runner.specs.Ways.{AreKnown};
 use crate::quiet::{Guide, NOWHERE};
 use crate::reading::{Note, Reading, Settled, read_register};
 use crate::spelling::spell;
-use crate::walking::read_by_ways;
+use crate::walking::pass_list;
 use crate::ways::Ways;
 use kex_code::code::Code;
 use kex_code::memory::Memory;
@@ -42,6 +42,8 @@ pub struct Registers {
     count: usize,
     limit: usize,
     reading: Reading,
+    // Room for what is said.
+    room: Vec<Piece>,
 }
 
 // The pieces of a register, as they were read.
@@ -106,19 +108,6 @@ fn cut(last: Note, base: &mut Vec<Settled>, notes: &mut Vec<Note>)
     notes.truncate(1);
 }
 
-// What was read is put behind pieces, in its order. Where there are none it isn't copied.
-fn hand_on(back: &mut Vec<Piece>, pieces: &mut Vec<Piece>) -> Result<(), Memory>
-    ensures { OnOk result (pieces.new.items ≡ pieces.old.items ++ reverse back.old.items) }
-{
-    back.reverse();
-    if pieces.is_empty() {
-        mem::swap(back, pieces);
-        return Ok(());
-    }
-    pieces.extend_from_slice(back)?;
-    Ok(())
-}
-
 // Each part is a step.
 fn count_parts<L: Ledger>(parts: &[Part], steps: &mut Steps<L>)
     ensures { steps.new ≡ steps.old + length parts.now }
@@ -155,6 +144,7 @@ impl Registers {
                 pending: Vec::new(alloc),
                 back: Vec::new(alloc),
             },
+            room: Vec::new(alloc),
         }
     }
 
@@ -251,7 +241,7 @@ impl Registers {
         ensures same { contents script.now self.new ≡ contents script.now self.old }
         ensures count { self.new.count ≡ self.old.count }
     {
-        read_by_ways(
+        pass_list(
             script,
             ways,
             &self.base,
@@ -259,8 +249,9 @@ impl Registers {
             script.passed(lists),
             byte,
             &mut self.reading,
-        )?;
-        hand_on(&mut self.reading.back, pieces)
+            &mut self.room,
+            pieces,
+        )
     }
 
     /// Does an update: what it passes on is put behind pieces. Its registers are only noted.

@@ -1,12 +1,13 @@
 // Looking up by ways: back through the notes, a step for each.
 
-ghost use Rattle.std.specs.Prelude.{◌≡◌, ◌+◌, ◌≤◌, ◌<◌, ◌++◌, ◌∷◌, [], List, All, IfOk, OnOk, length, get_or, take, vec_capacity};
+ghost use Rattle.std.specs.Prelude.{◌≡◌, ◌+◌, ◌≤◌, ◌<◌, ◌++◌, ◌∷◌, [], List, All, IfOk, OnOk, length, get_or, take, drop, reverse};
 ghost use Rattle.kex_sst.specs.declared.parts.Part.{Part};
 ghost use Rattle.kex_sst.specs.Parts.{parts_code, value};
 ghost use Rattle.kex_script.specs.declared.piece.Piece.{Piece};
+ghost use Rattle.kex_script.specs.Pieces.{code_over};
 ghost use Rattle.kex_script.specs.Scripts.{IsWord, Sheet, list_at};
 ghost use Rattle.kex_runner.specs.Noting.{noted_by, registers_after, settled_of, spelled_back, updates_of};
-ghost use Rattle.kex_runner.specs.Ways.{AreKnown, AreOlds, HasWalked, IsStepIf, IsWay};
+ghost use Rattle.kex_runner.specs.Ways.{AreKnown, AreOlds, HasWalked, IsSplit, IsStepIf, IsWay};
 
 use crate::reading::{Note, Reading, Settled, ask, look_up, read_list};
 use crate::ways::{Split, Step, Ways, known_step};
@@ -14,62 +15,47 @@ use kex_code::memory::Memory;
 use kex_script::piece::Piece;
 use kex_script::script::Script;
 use kex_sst::parts::Part;
+use std::mem;
 
-// A way over what the registers were after so many notes.
+/// A way over what the registers were after so many notes, and where the pieces begin that stand behind it.
 #[derive(Clone, Copy)]
 pub struct Place {
     pub way: u16,
     pub last: u16,
     pub after: usize,
+    pub start: usize,
 }
 
-// A piece is put behind others.
-// There is room mostly: what makes room is apart.
+// A word is put before the pieces that begin at a place, if there is one. Tells where they begin then.
 #[inline(always)]
-fn push(back: &mut Vec<Piece>, piece: Piece) -> Result<(), Memory>
-    ensures { OnOk result (back.new.items ≡ back.old.items ++ piece ∷ []) }
-{
-    if back.len() == back.capacity() {
-        back.try_reserve(1)?;
-    }
-    back.push_reserved(piece);
-    Ok(())
-}
-
-// A word is read, if there is one.
-#[inline(always)]
-fn say(word: Option<u16>, byte: u8, back: &mut Vec<Piece>) -> Result<(), Memory>
-    ensures { OnOk result ((words : List (List Part)) (w : List Part) → IsWord words word w → spelled_back words back.new.items ≡ parts_code [] byte w ++ spelled_back words back.old.items) }
+fn say(word: Option<u16>, byte: u8, room: &mut [Piece], start: usize) -> usize
+    requires some { 0 < start }
+    requires within { start ≤ length room.old }
+    ensures said { (words : List (List Part)) (w : List Part) → IsWord words word w → code_over words (drop result room.new) ≡ parts_code [] byte w ++ code_over words (drop start room.old) }
+    ensures before { result ≤ start }
+    ensures one { start ≤ result + 1 }
+    ensures length { length room.new ≡ length room.old }
 {
     match word {
-        None => Ok(()),
+        None => start,
         Some(word) => {
+            let first = start - 1;
             let word = u32::from(word);
-            push(back, Piece { word, byte })
+            room[first] = Piece { word, byte };
+            first
         }
     }
 }
 
-// A word is read, if there is one, where there is room for it.
-#[inline(always)]
-fn say_reserved(word: Option<u16>, byte: u8, back: &mut Vec<Piece>)
-    requires { length back.old.items < vec_capacity back.old }
-    ensures said { (words : List (List Part)) (w : List Part) → IsWord words word w → spelled_back words back.new.items ≡ parts_code [] byte w ++ spelled_back words back.old.items }
-    ensures length { length back.new.items ≤ length back.old.items + 1 }
-    ensures capacity { vec_capacity back.new ≡ vec_capacity back.old }
-{
-    if let Some(word) = word {
-        let word = u32::from(word);
-        back.push_reserved(Piece { word, byte });
-    }
-}
-
-// Goes back along notes, as far as it is known what the way was. What is said has room.
+// Goes back along notes, as far as it is known what the way was. What is said is put before the pieces that are there.
 #[inline(never)]
-fn walk_known(steps: &[Step], notes: &[Note], first: Place, back: &mut Vec<Piece>) -> Place
+fn walk_known(steps: &[Step], notes: &[Note], first: Place, room: &mut [Piece]) -> Place
     requires after { first.after ≤ length notes.now }
-    requires room { length back.old.items + first.after ≤ vec_capacity back.old }
-    ensures { (s : Sheet) (ways : List (List Part)) (from : List Part) (none : List Piece) → All (IsStepIf s ways) steps.now → HasWalked s ways (updates_of s notes.now) from first none back.old.items → HasWalked s ways (updates_of s notes.now) from result none back.new.items }
+    requires room { first.after ≤ first.start }
+    requires within { first.start ≤ length room.old }
+    ensures room { result.after ≤ result.start }
+    ensures within { result.start ≤ length room.new }
+    ensures walked { (s : Sheet) (ways : List (List Part)) (way : List Part) (x : List Piece) → All (IsStepIf s ways) steps.now → HasWalked s ways (updates_of s notes.now) way first x (drop first.start room.old) → HasWalked s ways (updates_of s notes.now) way result x (drop result.start room.new) }
 {
     let mut place = first;
     'notes: while place.after > 0 && place.way != 0 {
@@ -77,46 +63,46 @@ fn walk_known(steps: &[Step], notes: &[Note], first: Place, back: &mut Vec<Piece
         let Some(split) = known_step(steps, place.way, place.last, note.lists) else {
             return place;
         };
-        say_reserved(split.word, note.byte, back);
+        let start = say(split.word, note.byte, room, place.start);
         place = Place {
             way: split.way,
             last: split.last,
             after: place.after - 1,
+            start,
         };
     }
     place
 }
 
-// Goes back along notes from a way, as far as what it was is a way.
+// Goes back along all notes, as far as what the way was is a way.
 fn walk(
     script: &Script,
     ways: &mut Ways,
     notes: &[Note],
-    first: Split,
-    back: &mut Vec<Piece>,
+    first: Place,
+    room: &mut [Piece],
 ) -> Result<Place, Memory>
     requires known { AreKnown script.now ways.old }
     requires way { (from : List Part) × IsWay ways.old.lists first.way from }
+    requires all { first.after ≡ length notes.now }
+    requires room { first.after ≤ first.start }
+    requires within { first.start ≤ length room.old }
     ensures known { OnOk result (AreKnown script.now ways.new) }
-    ensures walked { IfOk result (λ p. (from : List Part) → IsWay ways.old.lists first.way from → HasWalked script.now ways.new.lists (updates_of script.now notes.now) from p back.old.items back.new.items) }
+    ensures within { IfOk result (λ p. p.start ≤ length room.new) }
+    ensures walked { IfOk result (λ p. (from : List Part) → IsWay ways.old.lists first.way from → HasWalked script.now ways.new.lists (updates_of script.now notes.now) from p (drop first.start room.old) (drop p.start room.new)) }
 {
-    let last = Place {
-        way: first.way,
-        last: first.last,
-        after: notes.len(),
-    };
-    back.try_reserve(notes.len())?;
-    let mut place = walk_known(ways.steps(), notes, last, back);
+    let mut place = walk_known(ways.steps(), notes, first, room);
     'notes: while place.after > 0 && place.way != 0 {
         let note = notes[place.after - 1];
         let Some(split) = ways.step(script, place.way, place.last, note.lists)? else {
             return Ok(place);
         };
-        say(split.word, note.byte, back)?;
+        let start = say(split.word, note.byte, room, place.start);
         place = Place {
             way: split.way,
             last: split.last,
             after: place.after - 1,
+            start,
         };
     }
     Ok(place)
@@ -166,8 +152,108 @@ fn read_way(
     Ok(())
 }
 
-/// Reads a list as `read_list` does, by ways where it is one.
-pub fn read_by_ways(
+// What was read is put behind pieces, in its order. Where there are none it isn't copied.
+fn hand_on(back: &mut Vec<Piece>, pieces: &mut Vec<Piece>) -> Result<(), Memory>
+    ensures { OnOk result (pieces.new.items ≡ pieces.old.items ++ reverse back.old.items) }
+{
+    back.reverse();
+    if pieces.is_empty() {
+        mem::swap(back, pieces);
+        return Ok(());
+    }
+    pieces.extend_from_slice(back)?;
+    Ok(())
+}
+
+// Puts behind pieces what a list stands for, which is read from its end.
+#[inline(never)]
+fn pass_read(
+    script: &Script,
+    base: &[Settled],
+    notes: &[Note],
+    list: u32,
+    byte: u8,
+    reading: &mut Reading,
+    pieces: &mut Vec<Piece>,
+) -> Result<(), Memory>
+    ensures { OnOk result (code_over script.now.words pieces.new.items ≡ code_over script.now.words pieces.old.items ++ parts_code (noted_by script.now base.now notes.now) byte (list_at script.now list)) }
+{
+    read_list(script, base, notes, list, byte, reading)?;
+    hand_on(&mut reading.back, pieces)
+}
+
+// Puts behind pieces what a way stands for after so many notes, and then what was said.
+#[inline(never)]
+fn pass_way(
+    script: &Script,
+    base: &[Settled],
+    notes: &[Note],
+    after: usize,
+    way: &[Part],
+    said: &[Piece],
+    reading: &mut Reading,
+    pieces: &mut Vec<Piece>,
+) -> Result<(), Memory>
+    requires after { after ≤ length notes.now }
+    requires olds { AreOlds way.now }
+    ensures { OnOk result (code_over script.now.words pieces.new.items ≡ code_over script.now.words pieces.old.items ++ (parts_code (registers_after (settled_of script.now base.now) (take after (updates_of script.now notes.now))) 0 way.now ++ code_over script.now.words said.now)) }
+{
+    reading.back.clear();
+    reading.back.extend_from_slice(said)?;
+    reading.back.reverse();
+    read_way(script, base, notes, after, way, reading)?;
+    hand_on(&mut reading.back, pieces)
+}
+
+// Puts behind pieces what a way and a word stand for.
+fn pass_split(
+    script: &Script,
+    ways: &mut Ways,
+    base: &[Settled],
+    notes: &[Note],
+    split: Split,
+    byte: u8,
+    reading: &mut Reading,
+    room: &mut [Piece],
+    pieces: &mut Vec<Piece>,
+) -> Result<(), Memory>
+    requires known { AreKnown script.now ways.old }
+    requires split { (list : List Part) × IsSplit script.now.words ways.old.lists split list }
+    requires room { length notes.now < length room.old }
+    ensures known { OnOk result (AreKnown script.now ways.new) }
+    ensures passed { OnOk result ((list : List Part) → IsSplit script.now.words ways.old.lists split list → code_over script.now.words pieces.new.items ≡ code_over script.now.words pieces.old.items ++ parts_code (noted_by script.now base.now notes.now) byte list) }
+{
+    let end = room.len();
+    let start = say(split.word, byte, room, end);
+    let first = Place {
+        way: split.way,
+        last: split.last,
+        after: notes.len(),
+        start,
+    };
+    let place = walk(script, ways, notes, first, room)?;
+    let said = &room[place.start..];
+    if place.way == 0 {
+        pieces.extend_from_slice(said)?;
+        return Ok(());
+    }
+    let way = ways.way(place.way);
+    pass_way(script, base, notes, place.after, way, said, reading, pieces)
+}
+
+// There is room for so many pieces.
+#[inline(always)]
+fn make_room(room: &mut Vec<Piece>, count: usize) -> Result<(), Memory>
+    ensures { OnOk result (count ≤ length room.new.items) }
+{
+    if room.len() < count {
+        room.resize(count, Piece { word: 0, byte: 0 })?;
+    }
+    Ok(())
+}
+
+/// Puts behind pieces what a list stands for, by ways where it is one.
+pub fn pass_list(
     script: &Script,
     ways: &mut Ways,
     base: &[Settled],
@@ -175,23 +261,18 @@ pub fn read_by_ways(
     list: u32,
     byte: u8,
     reading: &mut Reading,
+    room: &mut Vec<Piece>,
+    pieces: &mut Vec<Piece>,
 ) -> Result<(), Memory>
     requires known { AreKnown script.now ways.old }
     ensures known { OnOk result (AreKnown script.now ways.new) }
-    ensures read { OnOk result (spelled_back script.now.words reading.new.back.items ≡ parts_code (noted_by script.now base.now notes.now) byte (list_at script.now list)) }
+    ensures passed { OnOk result (code_over script.now.words pieces.new.items ≡ code_over script.now.words pieces.old.items ++ parts_code (noted_by script.now base.now notes.now) byte (list_at script.now list)) }
 {
-    let Some(first) = ways.start(script, list)? else {
-        return read_list(script, base, notes, list, byte, reading);
+    let Some(split) = ways.start(script, list)? else {
+        return pass_read(script, base, notes, list, byte, reading, pieces);
     };
-    reading.back.clear();
-    say(first.word, byte, &mut reading.back)?;
-    let place = walk(script, ways, notes, first, &mut reading.back)?;
-    read_way(
-        script,
-        base,
-        notes,
-        place.after,
-        ways.way(place.way),
-        reading,
+    make_room(room, notes.len() + 1)?;
+    pass_split(
+        script, ways, base, notes, split, byte, reading, room, pieces,
     )
 }

@@ -37,8 +37,8 @@ pub struct Start {
 /// What a way was before an update, if that is a way and a word. Way 0 is none.
 #[derive(Clone, Copy, Debug, PartialEq, Eq)]
 pub struct Step {
-    pub from: u16,
     pub lists: u32,
+    pub from: u16,
     pub split: Option<Split>,
 }
 

@@ -1,11 +1,11 @@
-use Rattle.std.proofs.Common.{◌-◌, All, length, get_or, refl, sym, subst, arith}
+use Rattle.std.proofs.Common.{◌-◌, ◌∙◌, All, get_or, drop, refl, sym, subst, arith}
 use Rattle.std.specs.Prelude.{IfSome}
 use Rattle.std.proofs.Math.ListN.{get_or-map}
 use Rattle.std.proofs.lemmas.List.{length-map}
 use Rattle.kex_runner.specs.declared.reading.Note.{Note}
 use Rattle.kex_runner.specs.declared.walking.Place.{Place}
 use Rattle.kex_runner.specs.Noting.{update_of, updates_of}
-use Rattle.kex_runner.specs.Ways.{HasWalked, IsStep, IsStepIf}
+use Rattle.kex_runner.specs.Ways.{IsStep, IsStepIf}
 use Rattle.kex_runner.proofs.WayLemmas.{walked_none, walked_on}
 use Rattle.kex_runner.proofs.walking.walk.Goals as goal
 
@@ -18,22 +18,26 @@ notes-preserved c =
     let none : Note = record { lists = 0; byte = 0 } in
     let note : Note = get_or notes k none in
     let split = c.in-Some.split in
-    let next : Place = record { way = split.way; last = split.last; after = k } in
+    let start = c.say-start.result in
+    let next : Place = record { way = split.way; last = split.last; after = k; start = start } in
     let ways' = c.step.new.self.lists in
     let step : IsStep s ways' p.way note.lists split = subst (λ z. IfSome z (λ x. IsStep s ways' p.way note.lists x)) c.in-Some.is c.in_ok-split.ensures.step in
     record {
       known = c.in_ok-split.ensures.known;
-      walked = λ from h. walked_on s c.notes.ways.lists ways' (updates_of s notes) from p next note.lists split (update_of s none) (update_of s note) c.args.back.now.items c.notes.back.items c.say.new.back.items c.in_ok-split.ensures.kept (omega (arith, c.notes-test.true)) refl (sym (get_or-map (λ n. update_of s n) notes k none)) refl step c.in_ok-say.ensures (c.notes.invariant.walked from h);
+      room = omega (arith, c.notes.invariant.room, c.say-start.ensures.one);
+      within = omega (arith, c.notes.invariant.within, c.say-start.ensures.before, c.say-start.ensures.length);
+      walked = λ from h. walked_on s c.notes.ways.lists ways' (updates_of s notes) from p next note.lists split (update_of s none) (update_of s note) (drop c.args.first.start c.args.room.now) (drop p.start c.notes.room) (drop start c.say-start.new.room) c.in_ok-split.ensures.kept (omega (arith, c.notes-test.true)) refl (sym (get_or-map (λ n. update_of s n) notes k none)) refl step c.say-start.ensures.said (c.notes.invariant.walked from h);
     }
 
 pub notes-init : goal.notes-init
 notes-init c =
     let s = c.args.script.now in
     let ways = c.args.ways.now.lists in
-    let back = c.args.back.now.items in
+    let behind = drop c.args.first.start c.args.room.now in
     let notes = updates_of s c.args.notes.now in
-    let first : Place = record { way = c.args.first.way; last = c.args.first.last; after = length c.args.notes.now } in
     record {
       known = c.requires.known;
-      walked = λ from is. c.walk_known-place.ensures s ways from back (subst (λ z. All (IsStepIf s ways) z) (sym c.steps.ensures) c.requires.known.steps) (subst (λ z. HasWalked s ways notes from first back z) (sym c.in_ok-try_reserve.ensures.items) (walked_none s ways notes from first back (sym (length-map c.args.notes.now (λ n. update_of s n))) is));
+      room = c.walk_known-place.ensures.room;
+      within = c.walk_known-place.ensures.within;
+      walked = λ from is. c.walk_known-place.ensures.walked s ways from behind (subst (λ z. All (IsStepIf s ways) z) (sym c.steps.ensures) c.requires.known.steps) (walked_none s ways notes from c.args.first behind (c.requires.all ∙ sym (length-map c.args.notes.now (λ n. update_of s n))) is);
     }

@@ -1,4 +1,4 @@
-use Rattle.std.proofs.Common.{◌-◌, List, All, get_or, refl, sym, subst, arith}
+use Rattle.std.proofs.Common.{◌-◌, List, All, get_or, drop, refl, sym, subst, arith}
 use Rattle.std.specs.Prelude.{IfSome}
 use Rattle.std.proofs.Math.ListN.{get_or-map}
 use Rattle.kex_sst.specs.declared.parts.Part.{Part}
@@ -18,11 +18,13 @@ notes-preserved c =
     let none : Note = record { lists = 0; byte = 0 } in
     let note : Note = get_or notes k none in
     let split = c.in-Some.split in
-    let next : Place = record { way = split.way; last = split.last; after = k } in
+    let start = c.say-start.result in
+    let next : Place = record { way = split.way; last = split.last; after = k; start = start } in
     record {
       after = omega (arith, c.notes.invariant.after);
-      room = omega (arith, c.notes.invariant.room, c.say_reserved.ensures.length, c.say_reserved.ensures.capacity, c.notes-test.true);
-      walked = λ s ways from start known h.
+      room = omega (arith, c.notes.invariant.room, c.say-start.ensures.one);
+      within = omega (arith, c.notes.invariant.within, c.say-start.ensures.before, c.say-start.ensures.length);
+      walked = λ s ways from behind known h.
           let step : IsStep s ways p.way note.lists split = subst (λ z. IfSome z (λ x. (s : Sheet) (ways : List (List Part)) → All (IsStepIf s ways) c.args.steps.now → IsStep s ways p.way note.lists x)) c.in-Some.is c.known_step.ensures s ways known in
-          walked_on s ways ways (updates_of s notes) from p next note.lists split (update_of s none) (update_of s note) start c.notes.back.items c.say_reserved.new.back.items (λ k x e. e) (omega (arith, c.notes-test.true)) refl (sym (get_or-map (λ n. update_of s n) notes k none)) refl step c.say_reserved.ensures.said (c.notes.invariant.walked s ways from start known h);
+          walked_on s ways ways (updates_of s notes) from p next note.lists split (update_of s none) (update_of s note) behind (drop p.start c.notes.room) (drop start c.say-start.new.room) (λ k x e. e) (omega (arith, c.notes-test.true)) refl (sym (get_or-map (λ n. update_of s n) notes k none)) refl step c.say-start.ensures.said (c.notes.invariant.walked s ways from behind known h);
     }

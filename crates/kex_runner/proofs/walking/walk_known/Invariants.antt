@@ -1,4 +1,4 @@
-use Rattle.std.proofs.Common.{◌+◌, ◌≤◌, List, All, length, vec_capacity}
+use Rattle.std.proofs.Common.{◌≤◌, List, All, length, drop}
 use Rattle.kex_sst.specs.declared.parts.Part.{Part}
 use Rattle.kex_script.specs.declared.piece.Piece.{Piece}
 use Rattle.kex_script.specs.Scripts.{Sheet}
@@ -9,8 +9,9 @@ use Rattle.kex_runner.proofs.walking.walk_known.Given as goal
 abbrev pub invariant-notes : goal.invariant-notes
 invariant-notes l = record {
   after : l.place.after ≤ length l.notes;
-  room : length l.back.items + l.place.after ≤ vec_capacity l.back;
-  walked : (s : Sheet) (ways : List (List Part)) (from : List Part) (none : List Piece) → All (IsStepIf s ways) l.steps → HasWalked s ways (updates_of s l.notes) from l.fn.first none l.initial.back.items → HasWalked s ways (updates_of s l.notes) from l.place none l.back.items;
+  room : l.place.after ≤ l.place.start;
+  within : l.place.start ≤ length l.room;
+  walked : (s : Sheet) (ways : List (List Part)) (from : List Part) (none : List Piece) → All (IsStepIf s ways) l.steps → HasWalked s ways (updates_of s l.notes) from l.fn.first none (drop l.fn.first.start l.initial.room) → HasWalked s ways (updates_of s l.notes) from l.place none (drop l.place.start l.room);
 }
 
 abbrev pub decreases-notes : goal.decreases-notes
