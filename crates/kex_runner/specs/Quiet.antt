@@ -1,5 +1,5 @@
 -- Quiet updates: those that pass nothing on. They are told by places, a row for each state and in it a place for each class.
-use Rattle.std.specs.Prelude.{◌≡◌, ℕ, ◌+◌, ◌*◌, ◌/◌, ◌%◌, ◌<◌, ◌≤◌, true, List, Some, length, slice_get}
+use Rattle.std.specs.Prelude.{◌≡◌, ℕ, ◌+◌, ◌*◌, ◌/◌, ◌%◌, ◌^◌, ◌<◌, ◌≤◌, true, List, Some, length, slice_get}
 use Rattle.kex_byteset.specs.Classes.{class_count}
 use Rattle.kex_sst.specs.Tables.{Transducer}
 use Rattle.kex_script.specs.declared.script.Entry.{Entry}
@@ -23,9 +23,11 @@ IsQuietIf e width count q = (q.row ≡ 4294967295 → ⊥) → IsQuiet e width c
 abbrev pub AreQuiet : Sheet → ℕ → ℕ → List Quiet → Type 0
 AreQuiet s width count qs = (k : ℕ) (q : Quiet) → slice_get qs k ≡ Some q → IsQuietIf (entry_at s (k / width) (k % width)) width count q
 
--- the rows are as wide as a table has classes
+-- the rows are as wide as a power of two, and have a place for each class of a table
 pub record IsGuide (t : Transducer) (g : Guide) : Type 0 where
-  pub width : g.width ≡ class_count t.classes
+  pub width : g.width ≡ 2 ^ g.shift
+  pub few : g.shift ≤ 8
+  pub wide : class_count t.classes ≤ g.width
   pub some : 0 < g.width
   pub narrow : g.width ≤ 256
   pub quiet : AreQuiet g.script g.width (length g.quiets.items) g.quiets.items

@@ -1,6 +1,6 @@
 // Quiet updates: those that pass nothing on and leave registers.
 
-ghost use Rattle.std.specs.Prelude.{◌≡◌, ◌<◌, ◌≤◌, ◌^◌, IfOk, length};
+ghost use Rattle.std.specs.Prelude.{◌≡◌, ◌<◌, ◌≤◌, ◌^◌, ◌/◌, IfOk, length};
 ghost use Rattle.kex_script.specs.Scripts.{IsScriptOf};
 ghost use Rattle.kex_runner.specs.Quiet.{AreQuiet, IsGuide, IsQuietIf};
 
@@ -19,11 +19,13 @@ pub struct Quiet {
     pub lists: u32,
 }
 
-/// A script, and its quiet updates: of each state a row, by class.
+/// A script, and its quiet updates: of each state a row, by class. A row is 2 to the power of `shift` wide, so that the state of a row is
+/// found by a shift.
 #[derive(Drop)]
 pub struct Guide {
     pub script: Script,
     pub quiets: Vec<Quiet>,
+    pub shift: u32,
     pub width: usize,
 }
 
@@ -66,6 +68,19 @@ fn quiets_of(
     Ok(all)
 }
 
+// The least width of rows for so many classes, as a power of two.
+fn shift_of(count: u16) -> u32
+    requires { count ≤ 256 }
+    ensures within { result ≤ 8 }
+    ensures enough { count ≤ 2 ^ result }
+{
+    let mut shift = 0;
+    while shift < 8 && (1_u16 << shift) < count {
+        shift += 1;
+    }
+    shift
+}
+
 impl Guide {
     /// The script of a table, with its quiet updates.
     pub fn new(alloc: Global, table: &Table) -> Result<Guide, Memory>
@@ -73,7 +88,8 @@ impl Guide {
         ensures guide { IfOk result (λ g. IsGuide table.now g) }
     {
         let script = Script::new(alloc, table)?;
-        let width = usize::from(table.partition().classes());
+        let shift = shift_of(table.partition().classes());
+        let width = 1 << shift;
         let count = table
             .states()
             .len()
@@ -83,7 +99,18 @@ impl Guide {
         Ok(Guide {
             script,
             quiets,
+            shift,
             width,
         })
+    }
+
+    /// The state whose row begins at a place, or the one in whose row it is.
+    #[inline(always)]
+    pub fn state_of(&self, row: usize) -> usize
+        requires width { self.now.width ≡ 2 ^ self.now.shift }
+        requires narrow { self.now.shift ≤ 8 }
+        ensures { result ≡ row / self.now.width }
+    {
+        row >> self.shift
     }
 }

@@ -317,7 +317,7 @@ impl Registers {
             count += 1;
         }
         self.notes = notes;
-        let now = row / guide.width;
+        let now = guide.state_of(row);
         *state = now as u32;
         self.count = table.states()[now].registers() as usize;
         Ok(count)

@@ -25,7 +25,7 @@ returns-then-place-eq0-clause-passed c = λ list split.
     let said : List Piece = drop p.start c.walk.new.room in
     let none : List Piece = drop (length c.args.room.now) c.args.room.now in
     let walked = c.in_ok-place.ensures.walked split.front split.way in
-    let nothing = drop_of_length-le c.args.room.now (omega arith) in
+    let nothing : none ≡ [] = drop_of_length-le c.args.room.now (omega arith) in
     let whole = read_whole s base notes ways ways' c.args.split p c.args.byte list way none (drop c.say-start.result room) said split walked c.say-start.ensures.said nothing refl in
     let bare : way ≡ [] = ap (λ z. get_or ways' z []) (omega (arith, c.if-place-eq0.true)) ∙ get_or_from_slice_get ways' 0 [] [] c.in_ok-place.ensures.known.none in
     ap (λ z. code_over s.words z) (c.in_ok-extend_from_slice.ensures.items ∙ ap (λ z. old ++ z) (take_rest c.walk.new.room p.start))
@@ -53,6 +53,6 @@ returns-clause-passed c =
     let none : List Piece = drop (length c.args.room.now) c.args.room.now in
     on_ok_weaker c.pass_way.result (λ e list split.
     let walked = c.in_ok-place.ensures.walked split.front split.way in
-    let nothing = drop_of_length-le c.args.room.now (omega arith) in
+    let nothing : none ≡ [] = drop_of_length-le c.args.room.now (omega arith) in
     e ∙ ap (λ z. old ++ z) (ap (λ z. parts_code (registers_after base (take p.after notes)) 0 way ++ code_over s.words z) (take_rest c.walk.new.room p.start)
     ∙ read_whole s base notes ways ways' c.args.split p c.args.byte list way none (drop c.say-start.result room) said split walked c.say-start.ensures.said nothing c.way-way.ensures)) c.pass_way.ensures

@@ -67,7 +67,7 @@ quiet-preserved c =
     let all : List Quiet = c.as_slice-quiets.result.now in
     let q : Quiet = get_or all (row + c.from.result) none in
     let few : class < class_count t.classes = subst (λ z. class < class_count z) c.partition-partition.ensures.same c.class_of.ensures.below in
-    let lt : class < g.width = omega (arith, few, guide.width) in
+    let lt : class < g.width = omega (arith, few, guide.wide) in
     let same = c.as_slice-quiets.ensures.value in
     let inside : row + c.from.result < length all = omega (arith, lt, c.quiet.invariant.within, c.from.ensures, ap length same) in
     let at : slice_get g.quiets.items (row + class) ≡ Some q = subst (λ z. slice_get z (row + class) ≡ Some q) same (subst (λ z. slice_get all (row + z) ≡ Some q) c.from.ensures (slice_get-get_or all (row + c.from.result) none inside)) in
@@ -102,8 +102,8 @@ bounds-states-now c =
 pub returns-clause-runner : goal.returns-clause-runner
 returns-clause-runner c =
     let t = c.args.table.now in
-    let p = c.quiet.invariant.place in
-    let state = c.quiet.row / c.args.guide.now.width in
+    let state = c.state_of-now.result in
+    let p = subst (λ z. IsPlace t z (noted_by c.args.guide.now.script c.args.self.now.base.items c.quiet.notes.items)) (sym c.state_of-now.ensures) c.quiet.invariant.place in
     let s = c.index-states-now.result in
     let at : slice_get t.states state ≡ Some s = slice_get_read t.states (length t.states) state s refl (place_in_range p) (subst (λ z. s ≡ get_or z state s) c.states.ensures.same c.index-states-now.is) in
     record {
