@@ -108,6 +108,7 @@ impl<T: Turn + Drop> RingPipe<T> {
         ensures spends { is_spent T.Turn self.new ≡ is_err result }
         ensures ended { is_ended T.Turn self.new ≡ is_ended T.Turn self.old }
         ensures count { stage_count T.Turn self.new ≡ stage_count T.Turn self.old }
+        ensures room { self.new.room ≡ self.old.room }
     {
         if self.spent {
             return Err(PipeFault::Spent);
@@ -132,6 +133,7 @@ impl<T: Turn + Drop> RingPipe<T> {
         ensures spends { is_spent T.Turn self.new ≡ is_err result }
         ensures ended { OnOk result (IsTrue (is_ended T.Turn self.new)) }
         ensures count { stage_count T.Turn self.new ≡ stage_count T.Turn self.old }
+        ensures room { self.new.room ≡ self.old.room }
     {
         if self.spent {
             return Err(PipeFault::Spent);
@@ -180,6 +182,7 @@ impl<T: Turn + Drop> RingPipe<T> {
         ensures spent { is_spent T.Turn self.new ≡ is_spent T.Turn self.old }
         ensures ended { is_ended T.Turn self.new ≡ is_ended T.Turn self.old }
         ensures count { stage_count T.Turn self.new ≡ stage_count T.Turn self.old }
+        ensures room { self.new.room ≡ self.old.room }
     {
         self.output.take_bytes_into(out);
     }
@@ -194,6 +197,7 @@ impl<T: Turn + Drop> RingPipe<T> {
         ensures spent { is_spent T.Turn self.new ≡ is_spent T.Turn self.old }
         ensures ended { is_ended T.Turn self.new ≡ is_ended T.Turn self.old }
         ensures count { stage_count T.Turn self.new ≡ stage_count T.Turn self.old }
+        ensures room { self.new.room ≡ self.old.room }
     {
         let mut out = Vec::new(self.alloc);
         self.take_output_into(&mut out);
@@ -213,6 +217,7 @@ impl<T: Turn + Drop> RingPipe<T> {
         ensures spends { is_spent T.Turn self.new ≡ is_err result }
         ensures ended { is_ended T.Turn self.new ≡ is_ended T.Turn self.old }
         ensures count { OnOk result (stage_count T.Turn self.new ≡ stage_count T.Turn self.old) }
+        ensures room { self.new.room ≡ self.old.room }
     {
         if self.spent {
             return Err(PipeFault::Spent);

@@ -220,6 +220,7 @@ pub fn ring_round<R: Threads + Sync, T: Turn + Drop + Send, G: Gate + Sync>(
     ensures unchanged { result ≡ Err PipeFault.Spent → pipe.new ≡ pipe.old }
     ensures spends { is_spent T.Turn pipe.new ≡ is_err result }
     ensures ended { is_ended T.Turn pipe.new ≡ is_ended T.Turn pipe.old }
+    ensures room { pipe.new.room ≡ pipe.old.room }
 {
     if pipe.spent {
         return Err(PipeFault::Spent);
