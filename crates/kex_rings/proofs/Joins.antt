@@ -1,6 +1,6 @@
 -- Stages that are joined, one after another.
 use Rattle.std.proofs.Common.{◌≡◌, ◌≤◌, ◌<◌, ◌+◌, ◌⊎◌, false, true, ℕ, zero, suc, List, [], ◌∷◌, ◌++◌, Some, None, length, get_or, refl, sym, ap, ap₂, subst, ◌∙◌, append_assoc, length-append, arith}
-use Rattle.std.specs.Prelude.{IsTrue, Result, Ok, Err, OnOk}
+use Rattle.std.specs.Prelude.{IsTrue, Result, Ok, Err, OnOk, IsSome, All}
 use Rattle.std.proofs.Math.ListN.{set}
 use Rattle.kex_pipe.specs.Rounds.{Each}
 use Rattle.kex_pipe.specs.Waiting.{waiting_items}
@@ -9,7 +9,7 @@ use Rattle.kex_pipe.specs.declared.turn.Turn.{Ghosts}
 use Rattle.kex_rings.specs.declared.ring_seat.RingSeat.{RingSeat}
 use Rattle.kex_rings.specs.Ends.{Giver, Taker, sent_to, free_in, taken_from, seen_in, SameGiver, SameTaker, IsLast, ArePaired, AreBeside}
 use Rattle.kex_rings.specs.Looking.{OnlyLooked, NowBeside, CarriedOut, Looks, EachLooks, AllUsable}
-use Rattle.kex_rings.specs.Lines.{Joined}
+use Rattle.kex_rings.specs.Lines.{Joined, HaveRings}
 use Rattle.kex_rings.proofs.Looks.{same-taker, same-giver, one-taker, one-giver}
 
 pub set-at : {A : Type 0} (front : List A) (a : A) (back : List A) (n : ℕ) (x : A) → length front ≡ n → set (front ++ a ∷ back) n x ≡ front ++ x ∷ back
@@ -179,6 +179,12 @@ module _ {T : Type 0} (t : Ghosts T) where
     pub joined : JoinedTo (AreBeside room) None row last
     pub here : AreBeside room last from
     pub end : left ≡ 0 → IsLast last
+
+  -- a stage more behind stages that have rings
+  pub rings-more : (ss : List (RingSeat T t)) (s : RingSeat T t) → All (λ z. IsSome z.to) ss → HaveRings t (ss ++ s ∷ [])
+  rings-more [] s all = tt
+  rings-more (a ∷ []) s all = (all zero a (omega arith), tt)
+  rings-more (a ∷ b ∷ ss) s all = (all zero a (omega arith), rings-more (b ∷ ss) s (λ k d lt. all (suc k) d (omega (arith, lt))))
 
   -- rows side by side
   pub both-looks : (room : ℕ) (fs fs' bs bs' : List (RingSeat T t)) (cs ds : List ℕ) → EachLooks t room fs fs' cs → EachLooks t room bs bs' ds → EachLooks t room (fs ++ bs) (fs' ++ bs') (cs ++ ds)

@@ -1,5 +1,5 @@
 -- Looks, one after another.
-use Rattle.std.proofs.Common.{◌≡◌, ◌≤◌, ◌+◌, ◌++◌, ℕ, zero, suc, true, false, Bool, [], ◌∷◌, List, Option, Some, None, length, map, take, drop, refl, sym, ap, ap₂, subst, ◌∙◌, append_assoc, append-nil, length-append, take-append-drop, arith, min, Global}
+use Rattle.std.proofs.Common.{◌≡◌, ◌≤◌, ◌<◌, ◌+◌, ◌++◌, ℕ, zero, suc, true, false, Bool, [], ◌∷◌, List, Option, Some, None, length, map, take, drop, refl, sym, ap, ap₂, subst, ◌∙◌, append_assoc, append-nil, length-append, take-append-drop, arith, min, Global}
 use Rattle.std.proofs.Math.Seq.{drop-append_seam}
 use Rattle.std.proofs.lemmas.List.{map-append, length-map}
 use Rattle.rtrb.specs.declared.consumer.Consumer.{Consumer}
@@ -65,6 +65,27 @@ module _ {T : Type 0} (t : Ghosts T) where
   still-sent None (Some q) b b' more same parts none = absurd same
   still-sent (Some p) None b b' more same parts none = absurd same
 
+  -- the rest of what was unsent is unsent
+  unsent-rest : (to to' : Giver) (b b' : Inbox) (more : List Item) → SameGiver to to' → waiting_items b ≡ items_as more ++ waiting_items b' → length more < length (unsent_of t to b) → unsent_of t to b ≡ items_as more ++ unsent_of t to' b'
+  unsent-rest None None b b' more same parts some = absurd (omega arith)
+  unsent-rest (Some p) (Some q) b b' more same parts some = parts
+  unsent-rest None (Some q) b b' more same parts some = absurd same
+  unsent-rest (Some p) None b b' more same parts some = absurd same
+
+  -- all that was unsent was sent
+  sent-all : (to to' : Giver) (b b' : Inbox) (more : List Item) → SameGiver to to' → waiting_items b ≡ items_as more ++ waiting_items b' → unsent_of t to' b' ≡ [] → length (unsent_of t to b) ≤ length more
+  sent-all None None b b' more same parts none = omega arith
+  sent-all (Some p) (Some q) b b' more same parts none = omega (arith, ap length parts, ap length none, length-append (items_as more) (waiting_items b'), length-map more item_as)
+  sent-all None (Some q) b b' more same parts none = absurd same
+  sent-all (Some p) None b b' more same parts none = absurd same
+
+  -- the ends of one ring tell the same of an outbox
+  pub unsent-same : (to to' : Giver) (b : Inbox) → SameGiver to to' → unsent_of t to b ≡ unsent_of t to' b
+  unsent-same None None b same = refl
+  unsent-same (Some p) (Some q) b same = refl
+  unsent-same None (Some q) b same = absurd same
+  unsent-same (Some p) None b same = absurd same
+
   none-unsent : (to : Giver) (b : Inbox) → waiting_items b ≡ [] → unsent_of t to b ≡ []
   none-unsent None b none = refl
   none-unsent (Some p) b none = none
@@ -100,6 +121,7 @@ module _ {T : Type 0} (t : Ghosts T) where
         };
     took = λ none. absurd (some (still-sent s.to s'.to s.seat.outbox s'.seat.outbox sends.more sends.same_to sends.parts none));
     sent_most = sends.most;
+    held = λ some_left. (refl, unsent-rest s.to s'.to s.seat.outbox s'.seat.outbox sends.more sends.same_to sends.parts some_left);
     free = sends.free;
   }
 
@@ -142,8 +164,8 @@ module _ {T : Type 0} (t : Ghosts T) where
   }
 
   -- all was sent, and what was found was taken
-  pub sent-and-taken : (room : ℕ) (s m s' : RingSeat T t) (count : ℕ) → SendsOn t s m → TakesIn t room m s' count → Looks t room s s' count
-  sent-and-taken room s m s' count sends takes = record {
+  pub sent-and-taken : (room : ℕ) (s m s' : RingSeat T t) (count : ℕ) → SendsOn t s m → unsent_items t m ≡ [] → TakesIn t room m s' count → Looks t room s s' count
+  sent-and-taken room s m s' count sends all takes = record {
     same_from = subst (λ z. SameTaker z s'.from) sends.same_from takes.same_from;
     same_to = subst (λ z. SameGiver s.to z) (sym takes.same_to) sends.same_to;
     popped = takes.popped;
@@ -164,6 +186,7 @@ module _ {T : Type 0} (t : Ghosts T) where
         };
     took = λ none. subst (λ z. min room z ≤ count) (ap₂ (λ a b. found_count t a b) sends.same_from sends.same_inbox) takes.took;
     sent_most = sends.most;
+    held = λ some_left. let none_left = sent-all s.to m.to s.seat.outbox m.seat.outbox sends.more sends.same_to sends.parts all in absurd (omega (arith, some_left, none_left));
     free = subst (λ z. free_in s.to ≤ free_in z + length sends.more) (sym takes.same_to) sends.free;
   }
 
@@ -185,6 +208,16 @@ module _ {T : Type 0} (t : Ghosts T) where
         out_is = second.out_is ∙ append_assoc front (items_as more) (items_as again ++ waiting_items c.seat.outbox) ∙ ap (λ z. front ++ z) (sym (append_assoc (items_as more) (items_as again) (waiting_items c.seat.outbox)) ∙ ap (λ z. z ++ waiting_items c.seat.outbox) (sym (map-append item_as more again)));
       }
 
+  -- what is unsent still after looks, and after more of them
+  abbrev Held : List schedule.StreamItem → List schedule.StreamItem → List Item → ℕ → Type 0
+  Held before after more count = length more < length before → (count ≡ 0) × (before ≡ items_as more ++ after)
+
+  held-more : (a b c : List schedule.StreamItem) (more again : List Item) (m n k : ℕ) → k ≡ m + n → Held a b more m → Held b c again n → Held a c (more ++ again) k
+  held-more a b c more again m n k number f g = λ some_left.
+      let first = f (omega (arith, some_left, length-append more again)) in
+      let second = g (omega (arith, some_left, length-append more again, ap length first.1, length-append (items_as more) b, length-map more item_as)) in
+      (omega (arith, number, first.0, second.0), first.1 ∙ ap (λ z. items_as more ++ z) second.1 ∙ sym (append_assoc (items_as more) (items_as again) c) ∙ ap (λ z. z ++ c) (sym (map-append item_as more again)))
+
   pub looks-more : (room : ℕ) (a b c : RingSeat T t) (m n k : ℕ) → Looks t room a b m → Looks t room b c n → k ≡ m + n → Looks t room a c k
   looks-more room a b c m n k f g number = record {
     same_from = same-taker a.from b.from c.from f.same_from g.same_from;
@@ -196,5 +229,6 @@ module _ {T : Type 0} (t : Ghosts T) where
     feeds = feeds-more a b c f.popped g.popped f.more g.more m n k number f.feeds g.feeds;
     took = λ none. let e = f.took none in omega (arith, e, number);
     sent_most = let e = f.sent_most in omega (arith, e, length-append f.more g.more);
+    held = held-more (unsent_items t a) (unsent_items t b) (unsent_items t c) f.more g.more m n k number f.held g.held;
     free = let e = f.free in let d = g.free in omega (arith, e, d, length-append f.more g.more);
   }

@@ -1,6 +1,6 @@
 -- What a round keeps, and how far it gets.
 use Rattle.std.proofs.Common.{◌≡◌, ◌≤◌, ◌<◌, ◌+◌, ◌-◌, ℕ, zero, suc, Bool, true, false, List, [], ◌∷◌, ◌++◌, Some, None, length, map, take, get_or, min, refl, sym, ap, subst, ◌∙◌, length-append, arith, Global}
-use Rattle.std.specs.Prelude.{IsTrue, IsErr, Result, Ok, Err, OnOk, is_ok}
+use Rattle.std.specs.Prelude.{IsTrue, IsErr, Result, Ok, Err, OnOk, IsSome, is_ok}
 use Rattle.std.proofs.Math.ListN.{set}
 use Rattle.std.proofs.lemmas.List.{map-append}
 use Rattle.rtrb.specs.Ring.{sent, known_free, producer_capacity}
@@ -17,8 +17,8 @@ use Rattle.kex_rings.specs.declared.ring_seat.RingSeat.{RingSeat}
 use Rattle.kex_rings.specs.Items.{items_as}
 use Rattle.kex_rings.specs.Ends.{Giver, Taker, sent_to, free_in, taken_from, seen_in, SameGiver, SameTaker, IsLast, ArePaired, AreBeside}
 use Rattle.kex_rings.specs.Looking.{fed_more, Looks, EachLooks, OnlyLooked, CarriedOut, AllUsable, WorkedAll, unsent_of, unsent_items}
-use Rattle.kex_rings.specs.Lines.{Joined, AllGetOn, GetOn}
-use Rattle.kex_rings.proofs.Looks.{same-taker, same-giver, one-taker, one-giver}
+use Rattle.kex_rings.specs.Lines.{Joined, HaveRings, AllGetOn, GetOn}
+use Rattle.kex_rings.proofs.Looks.{same-taker, same-giver, one-taker, one-giver, unsent-same}
 use Rattle.kex_rings.proofs.Joins.{all-both, all-one, both-looks}
 
 pub same-pair : (room : ℕ) (to to' : Giver) (from from' : Taker) → SameGiver to to' → SameTaker from from' → ArePaired room to from → ArePaired room to' from'
@@ -63,6 +63,27 @@ module _ {T : Type 0} (t : Ghosts T) where
   joined-kept room to to' (s ∷ ss) [] cs a j work = absurd work
   joined-kept room to to' (s ∷ ss) (s' ∷ ss') [] a j work = absurd work
 
+  same-ring : (to to' : Giver) → SameGiver to to' → IsSome to → IsSome to'
+  same-ring (Some p) (Some q) a h = refl
+  same-ring None None a h = h
+  same-ring None (Some q) a h = absurd a
+  same-ring (Some p) None a h = absurd a
+
+  pub rings-kept : (room : ℕ) (ss ss' : List (RingSeat T t)) (cs : List ℕ) → EachLooks t room ss ss' cs → HaveRings t ss → HaveRings t ss'
+  rings-kept room [] [] cs work h = tt
+  rings-kept room (s ∷ []) (s' ∷ []) cs work h = tt
+  rings-kept room (s ∷ n ∷ ss) (s' ∷ n' ∷ ss') (c ∷ cs) work h = (same-ring s.to s'.to work.0.same_to h.0, rings-kept room (n ∷ ss) (n' ∷ ss') cs work.1 h.1)
+  rings-kept room [] (s' ∷ ss') cs work h = absurd work
+  rings-kept room (s ∷ ss) [] cs work h = absurd work
+  rings-kept room (s ∷ ss) (s' ∷ ss') [] work h = absurd work
+  rings-kept room (s ∷ []) (s' ∷ n' ∷ ss') (c ∷ cs) work h = absurd work.1
+  rings-kept room (s ∷ n ∷ ss) (s' ∷ []) (c ∷ cs) work h = absurd work.1
+
+  pub rings-out : (front : List (RingSeat T t)) (s s' : RingSeat T t) → HaveRings t (front ++ s ∷ []) → HaveRings t (front ++ s' ∷ [])
+  rings-out [] s s' h = tt
+  rings-out (a ∷ []) s s' h = h
+  rings-out (a ∷ b ∷ front) s s' h = (h.0, rings-out (b ∷ front) s s' h.1)
+
   -- looks, and then a look with both ends in one hand
   pub looks-looked : (room : ℕ) (s m s' : RingSeat T t) (c : ℕ) → Looks t room s m c → OnlyLooked t m s' → Looks t room s s' c
   looks-looked room s m s' c l o = record {
@@ -84,6 +105,9 @@ module _ {T : Type 0} (t : Ghosts T) where
         };
     took = l.took;
     sent_most = l.sent_most;
+    held = λ some_left.
+        let rest = l.held some_left in
+        (rest.0, rest.1 ∙ ap (λ z. items_as l.more ++ z) (unsent-same t m.to s'.to m.seat.outbox o.same_to ∙ ap (λ z. unsent_of t s'.to z.outbox) (sym o.same_seat)));
     free = let x = l.free in let y = o.free in omega (arith, x, y);
   }
 
@@ -169,14 +193,15 @@ module _ {T : Type 0} (t : Ghosts T) where
   all-get-on room to [] [] [] j work = tt
   all-get-on room to (s ∷ ss) (s' ∷ ss') (c ∷ cs) j work =
       let l = work.0 in
-      ((l.took, goes-on room s.to s.seat.outbox (sent_to s'.to) l.more (has-room room s.to ss j.1) l.went l.sent_most), all-get-on room s.to ss ss' cs j.1 work.1)
+      ((l.took, goes-on room s.to s.seat.outbox (sent_to s'.to) l.more (has-room room s.to ss j.1) l.went l.sent_most, λ some_left. (l.held (omega (arith, some_left, ap length l.went, length-append (sent_to s.to) l.more))).0), all-get-on room s.to ss ss' cs j.1 work.1)
   all-get-on room to [] (s' ∷ ss') cs j work = absurd work
   all-get-on room to [] [] (c ∷ cs) j work = absurd work
   all-get-on room to (s ∷ ss) [] cs j work = absurd work
   all-get-on room to (s ∷ ss) (s' ∷ ss') [] j work = absurd work
 
   pub get-on-out : (room : ℕ) (ss front : List (RingSeat T t)) (s s' : RingSeat T t) (cs : List ℕ) → s'.to ≡ s.to → AllGetOn t room ss (front ++ s ∷ []) cs → AllGetOn t room ss (front ++ s' ∷ []) cs
-  get-on-out room (a ∷ []) [] s s' (c ∷ []) end h = ((h.0.0, subst (λ z. min (length (unsent_items t a)) (room - length (sent_to a.to)) + length (sent_to a.to) ≤ length (sent_to z)) (sym end) h.0.1), tt)
+  get-on-out room (a ∷ []) [] s s' (c ∷ []) end h =
+      ((h.0.0, subst (λ z. min (length (unsent_items t a)) (room - length (sent_to a.to)) + length (sent_to a.to) ≤ length (sent_to z)) (sym end) h.0.1, subst (λ z. length (sent_to z) < length (sent_to a.to) + length (unsent_items t a) → c ≡ 0) (sym end) h.0.2), tt)
   get-on-out room (a ∷ ss) (f ∷ front) s s' (c ∷ cs) end h = (h.0, get-on-out room ss front s s' cs end h.1)
   get-on-out room [] [] s s' cs end h = absurd h
   get-on-out room [] (f ∷ front) s s' cs end h = absurd h

@@ -1,5 +1,5 @@
 -- Stages joined by rings, in a line.
-use Rattle.std.specs.Prelude.{◌≡◌, ◌≤◌, ◌+◌, ◌-◌, ℕ, suc, List, [], ◌∷◌, ◌++◌, map, length, min, All}
+use Rattle.std.specs.Prelude.{◌≡◌, ◌≤◌, ◌<◌, ◌+◌, ◌-◌, ℕ, suc, List, [], ◌∷◌, ◌++◌, map, length, min, All, IsSome}
 use Rattle.kex_model.specs.Schedules.{StreamItem, byte, Progress, Event, turn, After, Settled}
 use Rattle.kex_pipe.specs.Seats.{IsWhole, Sits}
 use Rattle.kex_pipe.specs.Waiting.{waiting_items}
@@ -36,9 +36,16 @@ module _ {T : Type 0} (t : Ghosts T) where
   Joined R to [] = IsLast to
   Joined R to (s ∷ ss) = R to s.from × Joined R s.to ss
 
-  -- in a round a stage with nothing unsent took all that it found, within the room; one with items unsent sent them, as far as the room goes
+  -- each stage but the last has a ring behind it
+  abbrev pub HaveRings : List (RingSeat T t) → Type 0
+  HaveRings [] = Unit {0}
+  HaveRings (s ∷ []) = Unit {0}
+  HaveRings (s ∷ n ∷ ss) = IsSome s.to × HaveRings (n ∷ ss)
+
+  -- in a round a stage with nothing unsent took all that it found, within the room; one with items unsent sent them, as far as the room goes; one that could not send all that was unsent took nothing
   abbrev pub GetOn : ℕ → RingSeat T t → RingSeat T t → ℕ → Type 0
   GetOn room s s' count = (unsent_items t s ≡ [] → min room (finds t s) ≤ count) × (min (length (unsent_items t s)) (room - length (sent_to s.to)) + length (sent_to s.to) ≤ length (sent_to s'.to))
+      × (length (sent_to s'.to) < length (sent_to s.to) + length (unsent_items t s) → count ≡ 0)
 
   abbrev pub AllGetOn : ℕ → List (RingSeat T t) → List (RingSeat T t) → List ℕ → Type 0
   AllGetOn room [] [] [] = Unit {0}

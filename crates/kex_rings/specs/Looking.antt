@@ -1,5 +1,5 @@
 -- What a stage between two rings does.
-use Rattle.std.specs.Prelude.{◌≡◌, ◌≤◌, ◌+◌, ◌++◌, ◌⊎◌, [], ◌∷◌, true, false, Bool, List, ℕ, Some, None, length, map, min, All, IsTrue}
+use Rattle.std.specs.Prelude.{◌≡◌, ◌≤◌, ◌<◌, ◌+◌, ◌++◌, ◌⊎◌, [], ◌∷◌, true, false, Bool, List, ℕ, Some, None, length, map, min, All, IsTrue}
 use Rattle.rtrb.specs.Ring.{known_items}
 use Rattle.kex_model.specs.Schedules.{Progress}
 use Rattle.kex_model.specs.Schedules as schedule
@@ -66,6 +66,8 @@ module _ {T : Type 0} (t : Ghosts T) where
     pub took : unsent_items s ≡ [] → min room (finds s) ≤ count
     -- it sent what was unsent, as far as it knew slots to be free
     pub sent_most : min (length (unsent_items s)) (free_in s.to) ≤ length more
+    -- if it did not send all that was unsent, it took nothing, and the rest of that is all that is unsent now
+    pub held : length more < length (unsent_items s) → (count ≡ 0) × (unsent_items s ≡ items_as more ++ unsent_items s')
     pub free : free_in s.to ≤ free_in s'.to + length more
 
   -- what was unsent was sent as far as the ring took it; nothing was taken

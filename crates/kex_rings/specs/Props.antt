@@ -1,4 +1,4 @@
--- That two ends are those of one ring has one proof at most.
+-- That two ends are those of one ring has one proof at most, and that stages have rings.
 use mathlib.Core.Path.{◌≡◌, refl, sym, ap, ◌∙◌}
 use mathlib.Core.Logic.{◌⊎◌, inl, inr}
 use mathlib.Core.HLevel.{collapsible→set, prop→set, Unit-prop, ×_prop}
@@ -13,7 +13,7 @@ use Rattle.kex_rings.specs.declared.item.Item.{Item}
 use Rattle.kex_rings.specs.declared.item.Item.TheVariants.{Byte, End}
 use Rattle.kex_rings.specs.declared.ring_seat.RingSeat.{RingSeat}
 use Rattle.kex_rings.specs.Ends.{Giver, Taker, IsLast, ArePaired, AreBeside}
-use Rattle.kex_rings.specs.Lines.{Joined}
+use Rattle.kex_rings.specs.Lines.{Joined, HaveRings}
 
 retract-set : {A B : Type 0} (to : A → B) (from : B → A) → ((x : A) → from (to x) ≡ x) → IsSet B → IsSet A
 retract-set to from back set = collapsible→set (λ x y p. sym (back x) ∙ ap from (ap to p) ∙ back y)
@@ -39,6 +39,14 @@ module _ {T : Type 0} (t : Ghosts T) where
   joined-prop : (room : ℕ) (to : Giver) (ss : List (RingSeat T t)) → IsProp (Joined t (AreBeside room) to ss)
   joined-prop room to [] = last-prop to
   joined-prop room to (s ∷ ss) = ×_prop (beside-prop room to s.from) (joined-prop room s.to ss)
+
+  row-prop : (ss : List (RingSeat T t)) → IsProp (HaveRings t ss)
+  row-prop [] = Unit-prop
+  row-prop (s ∷ []) = Unit-prop
+  row-prop (s ∷ n ∷ ss) = ×_prop (Prim.hlevel props) (row-prop (n ∷ ss))
+
+  pub rings-prop : (spent : Bool) (ss : List (RingSeat T t)) → IsProp (spent ≡ false → HaveRings t ss)
+  rings-prop spent ss = Prim.hlevel (props, row-prop)
 
   pub prop : (spent : Bool) (room : ℕ) (ss : List (RingSeat T t)) → IsProp (spent ≡ false → Joined t (AreBeside room) None ss)
   prop spent room ss = Prim.hlevel (props, joined-prop)

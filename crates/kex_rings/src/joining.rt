@@ -1,9 +1,9 @@
 // Seats that are joined by new rings.
 
-ghost use Rattle.std.specs.Prelude.{◌≡◌, [], false, None, IfOk};
+ghost use Rattle.std.specs.Prelude.{◌≡◌, [], false, None, IfOk, IsSome, IsTrue};
 ghost use Rattle.kex_pipe.specs.Rounds.{Each};
 ghost use Rattle.kex_rings.specs.Ends.{AreBeside, sent_to, taken_from};
-ghost use Rattle.kex_rings.specs.Lines.{Joined, AreNew};
+ghost use Rattle.kex_rings.specs.Lines.{Joined, AreNew, HaveRings};
 
 use crate::item::Item;
 use crate::ring_seat::RingSeat;
@@ -23,6 +23,7 @@ fn new_ring(
     ensures beside { IfOk result (λ r. AreBeside room r.0 r.1) }
     ensures new { IfOk result (λ r. (sent_to r.0 ≡ []) × (taken_from r.1 ≡ [])) }
     ensures none { IfOk result (λ r. wanted ≡ false → r.0 ≡ None) }
+    ensures some { IfOk result (λ r. IsTrue wanted → IsSome r.0) }
 {
     if !wanted {
         return Ok((None, None));
@@ -40,6 +41,7 @@ pub(crate) fn join_all<T: Turn + Drop>(
     ensures joined { IfOk result (λ row. Joined T.Turn (AreBeside room) None row.items) }
     ensures same { IfOk result (λ row. Each (λ s r. r.seat ≡ s) seats.items row.items) }
     ensures new { IfOk result (λ row. AreNew T.Turn row.items) }
+    ensures rings { IfOk result (λ row. HaveRings T.Turn row.items) }
 {
     let mut left = seats.len();
     let mut row = Vec::new(alloc);

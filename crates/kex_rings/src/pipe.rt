@@ -5,8 +5,8 @@ ghost use Rattle.kex_model.specs.Answers.{Pipeline};
 ghost use Rattle.kex_model.specs.Schedules.{Event, give, give_end, Settled};
 ghost use Rattle.kex_rings.specs.Ends.{AreBeside};
 ghost use Rattle.kex_rings.specs.Looking.{AllUsable};
-ghost use Rattle.kex_rings.specs.Lines.{Joined};
-ghost use Rattle.kex_rings.specs.Props.{prop};
+ghost use Rattle.kex_rings.specs.Lines.{Joined, HaveRings};
+ghost use Rattle.kex_rings.specs.Props.{prop, rings-prop};
 
 use crate::joining::join_all;
 use crate::ring_seat::RingSeat;
@@ -37,6 +37,7 @@ pub struct RingPipe<T: Turn> {
     ghost few: { vec_len seats < 2 ^ 32 },
     ghost all_usable: { spent ≡ false → All (λ s. IsTrue s.seat.usable) seats.items },
     ghost joined: { spent ≡ false → Joined T.Turn (AreBeside room) None seats.items } by { prop T.Turn spent room seats.items },
+    ghost rings: { spent ≡ false → HaveRings T.Turn seats.items } by { rings-prop T.Turn spent seats.items },
 }
 
 impl<T: Turn + Drop> RingPipe<T> {
@@ -55,6 +56,7 @@ impl<T: Turn + Drop> RingPipe<T> {
         ensures stands { IfOk result (λ pipe. Stands T.Turn (map T.plan stages.items) pipe [] []) }
         ensures count { IfOk result (λ pipe. stage_count T.Turn pipe ≡ vec_len stages) }
         ensures room { IfOk result (λ pipe. pipe.room ≡ room) }
+        ensures rings { IfOk result (λ pipe. HaveRings T.Turn pipe.seats.items) }
         ensures open { IfOk result (λ pipe. is_ended T.Turn pipe ≡ false) }
         ensures going { IfOk result (λ pipe. is_spent T.Turn pipe ≡ false) }
     {
@@ -209,6 +211,7 @@ impl<T: Turn + Drop> RingPipe<T> {
     pub fn settle(&mut self) -> Result<(), PipeFault>
         ensures works { OnOk result ((ps : List T.Plan) (h : List Event) (taken : List ℕ) → Stands T.Turn ps self.old h taken → WorksOff T.Turn ps self.new h taken) }
         ensures new { OnOk result (AreNew T.Turn self.new.seats.items) }
+        ensures rings { OnOk result (HaveRings T.Turn self.new.seats.items) }
         ensures begins { OnErr result ((ps : List T.Plan) (h : List Event) (taken : List ℕ) → Stands T.Turn ps self.old h taken → BeginsAnswer T.Turn ps self.new h taken) }
         ensures written { OnErr result ((ps : List T.Plan) (h : List Event) (taken : List ℕ) → Stands T.Turn ps self.old h taken → HasWritten T.Turn ps self.new h taken) }
         ensures hand { OnErr result (in_hand T.Turn self.new ≡ in_hand T.Turn self.old) }

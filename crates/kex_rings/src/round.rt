@@ -7,7 +7,7 @@ ghost use Rattle.kex_pipe.specs.Rounds.{Each};
 ghost use Rattle.kex_pipe.specs.Waiting.{unread_bytes};
 ghost use Rattle.kex_rings.specs.Ends.{sent_to, free_in, taken_from, SameGiver, SameTaker, ArePaired, AreBeside};
 ghost use Rattle.kex_rings.specs.Looking.{Looks, OnlyLooked, NowBeside, CarriedOut, AllUsable, WorkedAll};
-ghost use Rattle.kex_rings.specs.Lines.{turns_from, Line, Joined, AllGetOn, LineRounds};
+ghost use Rattle.kex_rings.specs.Lines.{turns_from, Line, Joined, HaveRings, AllGetOn, LineRounds};
 ghost use Rattle.kex_rings.specs.Standing.{Stands, BeginsAnswer, HasWritten, in_hand, is_ended, is_spent, stage_count};
 
 use crate::item::Item;
@@ -178,8 +178,10 @@ fn run<R: Threads + Sync, T: Turn + Send, G: Gate + Sync>(
     requires looks { 0 < looks }
     requires usable { AllUsable T.Turn seats.old }
     requires joined { Joined T.Turn (AreBeside room) None seats.old }
+    requires rings { HaveRings T.Turn seats.old }
     ensures usable { OnOk result (AllUsable T.Turn seats.new) }
     ensures joined { OnOk result (Joined T.Turn (AreBeside room) None seats.new) }
+    ensures rings { OnOk result (HaveRings T.Turn seats.new) }
     ensures count { OnOk result (length seats.new ≡ length seats.old) }
     ensures counts { OnOk result (length counts.new.items ≡ length seats.old) }
     ensures turns { OnOk result (LineRounds T.Turn seats.old output.old seats.new output.new counts.new.items) }
@@ -211,7 +213,7 @@ pub fn ring_round<R: Threads + Sync, T: Turn + Drop + Send, G: Gate + Sync>(
     ensures stands { OnOk result ((ps : List T.Plan) (h : List Event) (taken : List ℕ) → Stands T.Turn ps pipe.old h taken → Stands T.Turn ps pipe.new (h ++ turns_from 0 counts.new.items) taken) }
     ensures counts { OnOk result (vec_len counts.new ≡ stage_count T.Turn pipe.old) }
     // With nothing unsent a stage took at least all that lay in its ring when the round began, or as much as there is room for; what
-    // was unsent it sent, as far as the room goes since its ring was made.
+    // was unsent it sent, as far as the room goes since its ring was made. A stage that could not send all that was unsent took nothing.
     ensures gets_on { OnOk result (AllGetOn T.Turn pipe.old.room pipe.old.seats.items pipe.new.seats.items counts.new.items) }
     ensures begins { OnErr result ((ps : List T.Plan) (h : List Event) (taken : List ℕ) → Stands T.Turn ps pipe.old h taken → BeginsAnswer T.Turn ps pipe.new h taken) }
     ensures written { OnErr result ((ps : List T.Plan) (h : List Event) (taken : List ℕ) → Stands T.Turn ps pipe.old h taken → HasWritten T.Turn ps pipe.new h taken) }

@@ -7,7 +7,7 @@ ghost use Rattle.kex_rings.specs.Ends.{AreBeside, seen_in};
 ghost use Rattle.kex_rings.specs.Items.{items_as};
 ghost use Rattle.kex_rings.specs.Looking.{AllUsable};
 ghost use Rattle.kex_rings.specs.Settling.{SettlesBy, SettlesAll, AllSeatsUsable};
-ghost use Rattle.kex_rings.specs.Lines.{Joined, AreNew, LineSettles};
+ghost use Rattle.kex_rings.specs.Lines.{Joined, AreNew, HaveRings, LineSettles};
 
 use crate::item::Item;
 use crate::joining::join_all;
@@ -80,6 +80,7 @@ pub(crate) fn settle_all<T: Turn + Drop>(
     ensures usable { IfOk result (λ row. AllUsable T.Turn row.items) }
     ensures joined { IfOk result (λ row. Joined T.Turn (AreBeside room) None row.items) }
     ensures new { IfOk result (λ row. AreNew T.Turn row.items) }
+    ensures rings { IfOk result (λ row. HaveRings T.Turn row.items) }
     ensures count { IfOk result (λ row. length row.items ≡ length seats.items) }
     ensures settles { IfOk result (λ row. LineSettles T.Turn seats.items output.old row.items output.new) }
     ensures hand { OnErr result (unread_bytes output.new ≡ unread_bytes output.old) }

@@ -1,10 +1,11 @@
 use Rattle.std.proofs.Common.{rules, ◌≡◌, ◌<◌, ◌-◌, ◌++◌, ◌∷◌, ◌∙◌, [], false, None, nat_lt, length, refl, sym, ap, subst, append_assoc, arith}
-use Rattle.std.proofs.lemmas.Bool.{le-ltb}
+use Rattle.std.specs.Prelude.{All, IsSome}
+use Rattle.std.proofs.lemmas.Bool.{le-ltb, lt-ltb}
 use Rattle.kex_pipe.specs.Rounds.{Each}
 use Rattle.kex_pipe.proofs.Stops.{each-more, no-more}
 use Rattle.kex_rings.specs.Ends.{sent_to, taken_from, IsLast, AreBeside}
-use Rattle.kex_rings.specs.Lines.{AreNew}
-use Rattle.kex_rings.proofs.Joins.{JoinedTo, Row, joined-more, joined-end, all-both, all-one}
+use Rattle.kex_rings.specs.Lines.{AreNew, HaveRings}
+use Rattle.kex_rings.proofs.Joins.{JoinedTo, Row, joined-more, joined-end, rings-more, all-both, all-one}
 use Rattle.kex_rings.proofs.joining.join_all.Goals as goal
 
 pub loop-seat-init : goal.loop-seat-init
@@ -16,6 +17,8 @@ loop-seat-init g c =
       left = search rules;
       joined = subst (λ z. Row g.T.Turn c.args.room z None c.len-left.result) (sym none) (record { last = None; joined = refl; here = (tt, refl); end = λ e. tt });
       new = λ k d lt. absurd (omega (arith, lt, ap length none));
+      rings = subst (λ z. HaveRings g.T.Turn z) (sym none) tt;
+      all_rings = λ more k d lt. absurd (omega (arith, lt, ap length none));
       from_new = refl;
     }
 
@@ -28,6 +31,7 @@ loop-seat-preserved g c =
     let items = c.in_ok-push.ensures.items in
     let R = AreBeside c.args.room in
     let from = sym c.replace.ensures.value in
+    let had = l.invariant.all_rings (omega (arith, l.invariant.left, ap length c.in-Some.ensures.steps.0)) in
     record {
       seats = l.invariant.seats ∙ ap (λ z. l.yielded ++ z) c.in-Some.ensures.steps.0 ∙ sym (append_assoc l.yielded (seat ∷ []) c.next.new.self.rest.items);
       same = subst (λ z. Each (λ s r. r.seat ≡ s) (l.yielded ++ seat ∷ []) z) (sym items) (each-more (λ s r. r.seat ≡ s) l.yielded l.row.items seat _ l.invariant.same refl);
@@ -39,6 +43,8 @@ loop-seat-preserved g c =
         end = λ none. subst IsLast (sym (c.in_ok-to.ensures.none (le-ltb 0 (l.left - 1) (omega (arith, none))))) tt;
       };
       new = subst (λ z. AreNew t z) (sym items) (all-both (λ s. (sent_to s.to ≡ []) × (taken_from s.from ≡ [])) l.row.items _ l.invariant.new (all-one (λ s. (sent_to s.to ≡ []) × (taken_from s.from ≡ [])) _ (c.in_ok-to.ensures.new.0, ap taken_from (sym from) ∙ l.invariant.from_new)));
+      rings = subst (λ z. HaveRings t z) (sym items) (rings-more t l.row.items _ had);
+      all_rings = λ more. subst (λ z. All (λ s. IsSome s.to) z) (sym items) (all-both (λ s. IsSome s.to) l.row.items _ had (all-one (λ s. IsSome s.to) _ (c.in_ok-to.ensures.some (lt-ltb 0 (l.left - 1) more))));
       from_new = ap taken_from c.replace.ensures.after ∙ c.in_ok-to.ensures.new.1;
     }
 
@@ -47,6 +53,9 @@ returns-clause-joined g c =
     let l = c.loop-seat in
     let r = l.invariant.joined in
     joined-end g.T.Turn (AreBeside c.args.room) None r.last l.row.items r.joined (r.end (omega (arith, l.invariant.left, c.in-None.ensures.steps.0, l.seat-iterator.rest.ok.0)))
+
+pub returns-clause-rings : goal.returns-clause-rings
+returns-clause-rings g c = c.loop-seat.invariant.rings
 
 pub returns-clause-same : goal.returns-clause-same
 returns-clause-same g c =

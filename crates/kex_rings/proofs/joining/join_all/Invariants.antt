@@ -1,7 +1,8 @@
-use Rattle.std.proofs.Common.{◌≡◌, ◌++◌, [], length}
+use Rattle.std.proofs.Common.{◌≡◌, ◌<◌, ◌++◌, [], length}
+use Rattle.std.specs.Prelude.{All, IsSome}
 use Rattle.kex_pipe.specs.Rounds.{Each}
 use Rattle.kex_rings.specs.Ends.{taken_from}
-use Rattle.kex_rings.specs.Lines.{AreNew}
+use Rattle.kex_rings.specs.Lines.{AreNew, HaveRings}
 use Rattle.kex_rings.proofs.Joins.{Row}
 use Rattle.kex_rings.proofs.joining.join_all.Given as goal
 
@@ -12,5 +13,7 @@ invariant-loop-seat g l = record {
   left : l.left ≡ length l.seat-iterator.rest.items;
   joined : Row g.T.Turn l.room l.row.items l.from l.left;
   new : AreNew g.T.Turn l.row.items;
+  rings : HaveRings g.T.Turn l.row.items;
+  all_rings : 0 < l.left → All (λ s. IsSome s.to) l.row.items;
   from_new : taken_from l.from ≡ [];
 }

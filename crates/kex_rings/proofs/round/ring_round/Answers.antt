@@ -5,7 +5,7 @@ use Rattle.kex_code.specs.Codes.{Begins}
 use Rattle.kex_pipe.proofs.Schedule.{came-given}
 use Rattle.kex_rings.specs.Ends.{AreBeside}
 use Rattle.kex_rings.specs.Looking.{AllUsable}
-use Rattle.kex_rings.specs.Lines.{Line, Joined, turns_from, AllGetOn}
+use Rattle.kex_rings.specs.Lines.{Line, Joined, HaveRings, turns_from, AllGetOn}
 use Rattle.kex_rings.proofs.Standings.{standing, has-written, whole-given}
 use Rattle.kex_rings.proofs.round.ring_round.Goals as goal
 
@@ -19,6 +19,7 @@ invariant_of-pipe g c =
       few = pipe.few;
       all_usable = λ going. subst (λ z. AllUsable t z) (sym seats) c.in-Ok.ensures.usable;
       joined = λ going. subst (λ z. Joined t (AreBeside pipe.room) None z) (sym seats) c.in-Ok.ensures.joined;
+      rings = λ going. subst (λ z. HaveRings t z) (sym seats) c.in-Ok.ensures.rings;
     }
 
 pub returns-in-Ok-clause-stands : goal.returns-in-Ok-clause-stands

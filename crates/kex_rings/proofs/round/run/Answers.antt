@@ -3,9 +3,9 @@ use Rattle.std.specs.Prelude.{is_ok}
 use Rattle.kex_pipe.proofs.Lines.{on-ok}
 use Rattle.kex_rings.specs.Ends.{AreBeside}
 use Rattle.kex_rings.specs.Looking.{EachLooks, AllUsable}
-use Rattle.kex_rings.specs.Lines.{Joined, AllGetOn}
+use Rattle.kex_rings.specs.Lines.{Joined, HaveRings, AllGetOn}
 use Rattle.kex_rings.proofs.Line.{line-rounds}
-use Rattle.kex_rings.proofs.Rounds.{Ended, ended-by, joined-pairs, joined-kept, each-looked, usable-looked, looks-length, joined-out, usable-out, all-get-on, get-on-out}
+use Rattle.kex_rings.proofs.Rounds.{Ended, ended-by, joined-pairs, joined-kept, rings-kept, rings-out, each-looked, usable-looked, looks-length, joined-out, usable-out, all-get-on, get-on-out}
 use Rattle.kex_rings.proofs.round.run.Goals as goal
 
 pub look_beside_all-requires-clause-paired : goal.look_beside_all-requires-clause-paired
@@ -86,3 +86,19 @@ returns-clause-gets_on g c = on-ok c.carry_out.result (λ out.
     let o = out ended.front ended.last ended.is in
     let looks : EachLooks t room old mid cs = subst (λ z. EachLooks t room old mid z) (sym c.in_ok-gather.ensures) (each-looked t room old w mid (map (λ s. s.took) w) work.0 c.look_beside_all.ensures.looked) in
     subst (λ z. AllGetOn t room old z cs) (sym o.is) (get-on-out t room old ended.front ended.last o.s' cs o.same_to (subst (λ z. AllGetOn t room old z cs) ended.is (all-get-on t room None old mid cs c.requires.joined looks)))) c.carry_out.ensures.out
+
+pub returns-clause-rings : goal.returns-clause-rings
+returns-clause-rings g c = on-ok c.carry_out.result (λ out.
+    let t = g.T.Turn in
+    let room = c.args.room in
+    let old = c.args.seats.now in
+    let w = c.work_all.new.seats in
+    let mid = c.look_beside_all.new.seats in
+    let cs = c.gather.new.counts.items in
+    let done : is_ok c.work_all.result ≡ true = ap is_ok c.in_ok-work_all.was in
+    let work : EachLooks g.T.Turn c.args.room c.args.seats.now c.work_all.new.seats (map (λ s. s.took) c.work_all.new.seats) × AllUsable g.T.Turn c.work_all.new.seats = (c.work_all.ensures.looks done, c.work_all.ensures.usable done) in
+    let sizes = looks-length t room old w (map (λ s. s.took) w) work.0 in
+    let ended = ended-by mid (omega (arith, c.requires.some, sizes.0, c.look_beside_all.ensures.count)) in
+    let o = out ended.front ended.last ended.is in
+    let looks : EachLooks t room old mid cs = subst (λ z. EachLooks t room old mid z) (sym c.in_ok-gather.ensures) (each-looked t room old w mid (map (λ s. s.took) w) work.0 c.look_beside_all.ensures.looked) in
+    subst (λ z. HaveRings t z) (sym o.is) (rings-out t ended.front ended.last o.s' (subst (λ z. HaveRings t z) ended.is (rings-kept t room old mid cs looks c.requires.rings)))) c.carry_out.ensures.out

@@ -38,6 +38,7 @@ invariant_of-result g c =
       few = omega (arith, c.in_ok-row.row.ok.0, long, same, ap length all, c.args.stages.ok.0, c.if-len.false, c.len.ensures);
       all_usable = λ going. row-usable t l.seats.items c.in_ok-row.row.items row.same (all-usable t l.yielded l.seats.items l.invariant.seats);
       joined = λ going. row.joined;
+      rings = λ going. row.rings;
     }
 
 pub returns-clause-count : goal.returns-clause-count

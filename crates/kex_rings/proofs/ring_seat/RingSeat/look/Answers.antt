@@ -10,4 +10,4 @@ returns-then-not-send_on-clause-looks g c = only-sent g.T.Turn c.args.room c.arg
 
 pub returns-clause-looks : goal.returns-clause-looks
 returns-clause-looks g c = if-ok c.take_in.result (λ count. TakesIn g.T.Turn c.args.room c.send_on.new.self c.take_in.new.self count) (λ count. Looks g.T.Turn c.args.room c.args.self.now c.take_in.new.self count)
-    (λ count takes. sent-and-taken g.T.Turn c.args.room c.args.self.now c.send_on.new.self c.take_in.new.self count c.send_on.ensures.sends takes) c.take_in.ensures.takes
+    (λ count takes. sent-and-taken g.T.Turn c.args.room c.args.self.now c.send_on.new.self c.take_in.new.self count c.send_on.ensures.sends (c.send_on.ensures.all.0 (search rules)) takes) c.take_in.ensures.takes
