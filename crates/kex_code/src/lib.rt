@@ -9,7 +9,7 @@ pub mod memory;
 pub mod piece;
 pub mod prefix;
 pub mod reader;
-mod shared;
+pub mod shared;
 pub mod symbol;
 #[cfg(test)]
 mod tests;

@@ -6,16 +6,17 @@ ghost use Rattle.kex_code.specs.Shared.{items_of};
 use crate::memory::Memory;
 use std::sync::Arc;
 
-/// A list that stays as it is. Each copy is one more owner of it. Where there was no memory for the count of owners it
-/// has one alone, and no copy can be made.
+/// A list that stays as it is. Where its owners are counted, each copy is one more of them; alone, it has one owner and
+/// `copy` fails.
 #[derive(Drop)]
-pub(crate) enum Shared<T> {
+pub enum Shared<T> {
     Counted(Arc<Vec<T>>),
     Alone(Vec<T>),
 }
 
 impl<T: Drop> Shared<T> {
-    pub(crate) fn new(items: Vec<T>) -> Shared<T>
+    /// The items, with their owners counted if there is memory for the count.
+    pub fn new(items: Vec<T>) -> Shared<T>
         ensures { items_of result ≡ items.items }
     {
         match Arc::new(*items.allocator(), items) {
@@ -24,7 +25,18 @@ impl<T: Drop> Shared<T> {
         }
     }
 
-    pub(crate) fn as_slice(&self) -> &[T]
+    /// The same items, with their owners counted from now on if there is memory for the count.
+    pub fn counted(self) -> Shared<T>
+        ensures { items_of result ≡ items_of self }
+    {
+        match self {
+            Shared::Counted(items) => Shared::Counted(items),
+            Shared::Alone(items) => Shared::new(items),
+        }
+    }
+
+    /// The items, in their order.
+    pub fn as_slice(&self) -> &[T]
         ensures { result.now ≡ items_of self.now }
     {
         match self {
@@ -33,7 +45,8 @@ impl<T: Drop> Shared<T> {
         }
     }
 
-    pub(crate) fn copy(&self) -> Result<Shared<T>, Memory>
+    /// One more owner of the same items. Fails where they are alone, or no more owners can be counted.
+    pub fn copy(&self) -> Result<Shared<T>, Memory>
         ensures { IfOk result (λ s. items_of s ≡ items_of self.now) }
     {
         match self {

@@ -4,4 +4,3 @@ pub mod Passes
 pub mod Laws
 pub mod Machines
 pub mod Worked
-pub mod Shared

@@ -2,8 +2,9 @@
 
 ghost use Rattle.std.specs.Prelude.{◌≡◌, ◌++◌, ◌∷◌, [], true, OnOk, OnErr, IfOk};
 
-use crate::lists::{Lists, are_same_lists};
+use crate::lists::{are_same_lists, copy_lists};
 use kex_code::memory::Memory;
+use kex_code::shared::Shared;
 use kex_code::symbol::Symbol;
 use smallvec::SmallVec;
 use std::alloc::Global;
@@ -99,16 +100,16 @@ pub fn are_same(left: &[Part], right: &[Part]) -> bool
 #[derive(Drop)]
 pub struct Update {
     out: Parts,
-    regs: Lists,
+    regs: Shared<Parts>,
 }
 
 impl Model for Update {
     ghost use Rattle.kex_sst.specs.Parts.{Change};
-    ghost use Rattle.kex_sst.specs.Shared.{lists_of};
+    ghost use Rattle.kex_code.specs.Shared.{items_of};
 
     ghost Value = { Change };
 
-    ghost view = { λ u. record { out = u.out; regs = lists_of u.regs } };
+    ghost view = { λ u. record { out = u.out; regs = items_of u.regs } };
 }
 
 impl Update {
@@ -118,7 +119,7 @@ impl Update {
     {
         Update {
             out,
-            regs: Lists::Alone(regs),
+            regs: Shared::Alone(regs),
         }
     }
 
@@ -159,7 +160,7 @@ impl Update {
         ensures { IfOk result (λ u. u ≡ self.now) }
     {
         let out = self.out.copy(alloc)?;
-        let regs = self.regs.copy(alloc)?;
+        let regs = copy_lists(alloc, &self.regs)?;
         Ok(Update { out, regs })
     }
 }
