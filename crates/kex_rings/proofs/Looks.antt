@@ -1,5 +1,5 @@
 -- Looks, one after another.
-use Rattle.std.proofs.Common.{◌≡◌, ◌≤◌, ◌<◌, ◌+◌, ◌++◌, ℕ, zero, suc, true, false, Bool, [], ◌∷◌, List, Option, Some, None, length, map, take, drop, refl, sym, ap, ap₂, subst, ◌∙◌, append_assoc, append-nil, length-append, take-append-drop, arith, min, Global}
+use Rattle.std.proofs.Common.{◌≡◌, ◌≤◌, ◌<◌, ◌+◌, ◌++◌, ℕ, zero, suc, true, [], ◌∷◌, List, Option, Some, None, length, take, drop, refl, sym, ap, ap₂, subst, ◌∙◌, append_assoc, append-nil, length-append, take-append-drop, arith, min, Global}
 use Rattle.std.proofs.Math.Seq.{drop-append_seam}
 use Rattle.std.proofs.lemmas.List.{map-append, length-map}
 use Rattle.rtrb.specs.declared.consumer.Consumer.{Consumer}
@@ -7,7 +7,7 @@ use Rattle.rtrb.specs.declared.AnyItems.{AnyItems}
 use Rattle.kex_model.specs.Schedules.{Progress, more_taken}
 use Rattle.kex_model.specs.Schedules as schedule
 use Rattle.kex_pipe.specs.Histories.{Fed}
-use Rattle.kex_pipe.specs.Seats.{IsWhole, IsFed, written_by, Sits, TakesTurn}
+use Rattle.kex_pipe.specs.Seats.{IsWhole, IsFed, written_by, Sits}
 use Rattle.kex_pipe.specs.Rounds.{Takes}
 use Rattle.kex_pipe.specs.Waiting.{waiting_items}
 use Rattle.kex_pipe.specs.declared.inbox.Inbox.{Inbox}
@@ -18,8 +18,8 @@ use Rattle.kex_pipe.proofs.SeatTurns.{taken-more}
 use Rattle.kex_rings.specs.declared.item.Item.{Item}
 use Rattle.kex_rings.specs.declared.ring_seat.RingSeat.{RingSeat}
 use Rattle.kex_rings.specs.Items.{item_as, items_as}
-use Rattle.kex_rings.specs.Ends.{Giver, Taker, sent_to, free_in, taken_from, seen_in, SameGiver, SameTaker}
-use Rattle.kex_rings.specs.Looking.{fed_more, found_count, unsent_of, finds, unsent_items, FedBy, Feeds, Looks, SendsOn, FindsIn, TakesIn}
+use Rattle.kex_rings.specs.Ends.{Giver, Taker, sent_to, free_in, taken_from, SameGiver, SameTaker}
+use Rattle.kex_rings.specs.Looking.{fed_more, found_count, unsent_of, unsent_items, Feeds, IsHeld, Looks, SendsOn, FindsIn, TakesIn}
 use Rattle.kex_rings.specs.Passing.{Pulls}
 use Rattle.kex_rings.proofs.Wholes.{front-whole}
 use Rattle.kex_rings.proofs.SentItems.{same-producer, same-consumer}
@@ -121,7 +121,7 @@ module _ {T : Type 0} (t : Ghosts T) where
         };
     took = λ none. absurd (some (still-sent s.to s'.to s.seat.outbox s'.seat.outbox sends.more sends.same_to sends.parts none));
     sent_most = sends.most;
-    held = λ some_left. (refl, unsent-rest s.to s'.to s.seat.outbox s'.seat.outbox sends.more sends.same_to sends.parts some_left);
+    held = λ some_left. record { none_popped = refl; none_taken = refl; rest = unsent-rest s.to s'.to s.seat.outbox s'.seat.outbox sends.more sends.same_to sends.parts some_left };
     free = sends.free;
   }
 
@@ -209,14 +209,18 @@ module _ {T : Type 0} (t : Ghosts T) where
       }
 
   -- what is unsent still after looks, and after more of them
-  abbrev Held : List schedule.StreamItem → List schedule.StreamItem → List Item → ℕ → Type 0
-  Held before after more count = length more < length before → (count ≡ 0) × (before ≡ items_as more ++ after)
+  abbrev IsHeldIf : List schedule.StreamItem → List schedule.StreamItem → List Item → List Item → ℕ → Type 0
+  IsHeldIf before after popped more count = length more < length before → IsHeld before after popped more count
 
-  held-more : (a b c : List schedule.StreamItem) (more again : List Item) (m n k : ℕ) → k ≡ m + n → Held a b more m → Held b c again n → Held a c (more ++ again) k
-  held-more a b c more again m n k number f g = λ some_left.
+  held-more : (a b c : List schedule.StreamItem) (one two more again : List Item) (m n k : ℕ) → k ≡ m + n → IsHeldIf a b one more m → IsHeldIf b c two again n → IsHeldIf a c (one ++ two) (more ++ again) k
+  held-more a b c one two more again m n k number f g = λ some_left.
       let first = f (omega (arith, some_left, length-append more again)) in
-      let second = g (omega (arith, some_left, length-append more again, ap length first.1, length-append (items_as more) b, length-map more item_as)) in
-      (omega (arith, number, first.0, second.0), first.1 ∙ ap (λ z. items_as more ++ z) second.1 ∙ sym (append_assoc (items_as more) (items_as again) c) ∙ ap (λ z. z ++ c) (sym (map-append item_as more again)))
+      let second = g (omega (arith, some_left, length-append more again, ap length first.rest, length-append (items_as more) b, length-map more item_as)) in
+      record {
+        none_popped = ap₂ (λ x y. x ++ y) first.none_popped second.none_popped;
+        none_taken = omega (arith, number, first.none_taken, second.none_taken);
+        rest = first.rest ∙ ap (λ z. items_as more ++ z) second.rest ∙ sym (append_assoc (items_as more) (items_as again) c) ∙ ap (λ z. z ++ c) (sym (map-append item_as more again));
+      }
 
   pub looks-more : (room : ℕ) (a b c : RingSeat T t) (m n k : ℕ) → Looks t room a b m → Looks t room b c n → k ≡ m + n → Looks t room a c k
   looks-more room a b c m n k f g number = record {
@@ -229,6 +233,6 @@ module _ {T : Type 0} (t : Ghosts T) where
     feeds = feeds-more a b c f.popped g.popped f.more g.more m n k number f.feeds g.feeds;
     took = λ none. let e = f.took none in omega (arith, e, number);
     sent_most = let e = f.sent_most in omega (arith, e, length-append f.more g.more);
-    held = held-more (unsent_items t a) (unsent_items t b) (unsent_items t c) f.more g.more m n k number f.held g.held;
+    held = held-more (unsent_items t a) (unsent_items t b) (unsent_items t c) f.popped g.popped f.more g.more m n k number f.held g.held;
     free = let e = f.free in let d = g.free in omega (arith, e, d, length-append f.more g.more);
   }

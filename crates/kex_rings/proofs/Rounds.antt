@@ -1,5 +1,5 @@
 -- What a round keeps, and how far it gets.
-use Rattle.std.proofs.Common.{◌≡◌, ◌≤◌, ◌<◌, ◌+◌, ◌-◌, ℕ, zero, suc, Bool, true, false, List, [], ◌∷◌, ◌++◌, Some, None, length, map, take, get_or, min, refl, sym, ap, subst, ◌∙◌, length-append, arith, Global}
+use Rattle.std.proofs.Common.{◌≡◌, ◌≤◌, ◌<◌, ◌+◌, ◌-◌, ℕ, zero, suc, Bool, true, List, [], ◌∷◌, ◌++◌, Some, None, length, map, take, get_or, min, refl, sym, ap, subst, ◌∙◌, append-nil, length-append, arith, Global}
 use Rattle.std.specs.Prelude.{IsTrue, IsErr, Result, Ok, Err, OnOk, IsSome, is_ok}
 use Rattle.std.proofs.Math.ListN.{set}
 use Rattle.std.proofs.lemmas.List.{map-append}
@@ -10,14 +10,13 @@ use Rattle.kex_pipe.specs.Rounds.{Each}
 use Rattle.kex_pipe.specs.Seats.{Sits}
 use Rattle.kex_pipe.specs.Waiting.{waiting_items}
 use Rattle.kex_pipe.specs.declared.inbox.Inbox.{Inbox}
-use Rattle.kex_pipe.specs.declared.seat.Seat.{Seat as Seated}
 use Rattle.kex_pipe.specs.declared.turn.Turn.{Ghosts}
 use Rattle.kex_rings.specs.declared.item.Item.{Item}
 use Rattle.kex_rings.specs.declared.ring_seat.RingSeat.{RingSeat}
 use Rattle.kex_rings.specs.Items.{items_as}
-use Rattle.kex_rings.specs.Ends.{Giver, Taker, sent_to, free_in, taken_from, seen_in, SameGiver, SameTaker, IsLast, ArePaired, AreBeside}
-use Rattle.kex_rings.specs.Looking.{fed_more, Looks, EachLooks, OnlyLooked, CarriedOut, AllUsable, WorkedAll, unsent_of, unsent_items}
-use Rattle.kex_rings.specs.Lines.{Joined, HaveRings, AllGetOn, GetOn}
+use Rattle.kex_rings.specs.Ends.{Giver, Taker, sent_to, free_in, taken_from, SameGiver, SameTaker, IsLast, ArePaired, AreBeside}
+use Rattle.kex_rings.specs.Looking.{fed_more, Looks, EachLooks, OnlyLooked, AllUsable, WorkedAll, unsent_of, unsent_items}
+use Rattle.kex_rings.specs.Lines.{Joined, HaveRings, AllGetOn}
 use Rattle.kex_rings.proofs.Looks.{same-taker, same-giver, one-taker, one-giver, unsent-same}
 use Rattle.kex_rings.proofs.Joins.{all-both, all-one, both-looks}
 
@@ -107,7 +106,11 @@ module _ {T : Type 0} (t : Ghosts T) where
     sent_most = l.sent_most;
     held = λ some_left.
         let rest = l.held some_left in
-        (rest.0, rest.1 ∙ ap (λ z. items_as l.more ++ z) (unsent-same t m.to s'.to m.seat.outbox o.same_to ∙ ap (λ z. unsent_of t s'.to z.outbox) (sym o.same_seat)));
+        record {
+          none_popped = rest.none_popped;
+          none_taken = rest.none_taken;
+          rest = rest.rest ∙ ap (λ z. items_as l.more ++ z) (unsent-same t m.to s'.to m.seat.outbox o.same_to ∙ ap (λ z. unsent_of t s'.to z.outbox) (sym o.same_seat));
+        };
     free = let x = l.free in let y = o.free in omega (arith, x, y);
   }
 
@@ -192,23 +195,39 @@ module _ {T : Type 0} (t : Ghosts T) where
   pub all-get-on : (room : ℕ) (to : Giver) (ss ss' : List (RingSeat T t)) (cs : List ℕ) → Joined t (AreBeside room) to ss → EachLooks t room ss ss' cs → AllGetOn t room ss ss' cs
   all-get-on room to [] [] [] j work = tt
   all-get-on room to (s ∷ ss) (s' ∷ ss') (c ∷ cs) j work =
-      let l = work.0 in
-      ((l.took, goes-on room s.to s.seat.outbox (sent_to s'.to) l.more (has-room room s.to ss j.1) l.went l.sent_most, λ some_left. (l.held (omega (arith, some_left, ap length l.went, length-append (sent_to s.to) l.more))).0), all-get-on room s.to ss ss' cs j.1 work.1)
+      let l = work.0 in (
+        record {
+          took = l.took;
+          sent = goes-on room s.to s.seat.outbox (sent_to s'.to) l.more (has-room room s.to ss j.1) l.went l.sent_most;
+          held = λ some_left.
+              let none = l.held (omega (arith, some_left, ap length l.went, length-append (sent_to s.to) l.more)) in
+              (none.none_taken, l.came ∙ ap (λ z. taken_from s.from ++ z) none.none_popped ∙ append-nil (taken_from s.from));
+        },
+        all-get-on room s.to ss ss' cs j.1 work.1,
+      )
   all-get-on room to [] (s' ∷ ss') cs j work = absurd work
   all-get-on room to [] [] (c ∷ cs) j work = absurd work
   all-get-on room to (s ∷ ss) [] cs j work = absurd work
   all-get-on room to (s ∷ ss) (s' ∷ ss') [] j work = absurd work
 
-  pub get-on-out : (room : ℕ) (ss front : List (RingSeat T t)) (s s' : RingSeat T t) (cs : List ℕ) → s'.to ≡ s.to → AllGetOn t room ss (front ++ s ∷ []) cs → AllGetOn t room ss (front ++ s' ∷ []) cs
-  get-on-out room (a ∷ []) [] s s' (c ∷ []) end h =
-      ((h.0.0, subst (λ z. min (length (unsent_items t a)) (room - length (sent_to a.to)) + length (sent_to a.to) ≤ length (sent_to z)) (sym end) h.0.1, subst (λ z. length (sent_to z) < length (sent_to a.to) + length (unsent_items t a) → c ≡ 0) (sym end) h.0.2), tt)
-  get-on-out room (a ∷ ss) (f ∷ front) s s' (c ∷ cs) end h = (h.0, get-on-out room ss front s s' cs end h.1)
-  get-on-out room [] [] s s' cs end h = absurd h
-  get-on-out room [] (f ∷ front) s s' cs end h = absurd h
-  get-on-out room (a ∷ ss) [] s s' [] end h = absurd h
-  get-on-out room (a ∷ ss) (f ∷ front) s s' [] end h = absurd h
-  get-on-out room (a ∷ b ∷ ss) [] s s' (c ∷ cs) end h = absurd h.1
-  get-on-out room (a ∷ []) [] s s' (c ∷ d ∷ cs) end h = absurd h.1
+  pub get-on-out : (room : ℕ) (ss front : List (RingSeat T t)) (s s' : RingSeat T t) (cs : List ℕ) → s'.to ≡ s.to → s'.from ≡ s.from → AllGetOn t room ss (front ++ s ∷ []) cs → AllGetOn t room ss (front ++ s' ∷ []) cs
+  get-on-out room (a ∷ []) [] s s' (c ∷ []) end front_end h = (
+    record {
+      took = h.0.took;
+      sent = subst (λ z. min (length (unsent_items t a)) (room - length (sent_to a.to)) + length (sent_to a.to) ≤ length (sent_to z)) (sym end) h.0.sent;
+      held = λ some_left.
+          let none = h.0.held (subst (λ z. length (sent_to z) < length (sent_to a.to) + length (unsent_items t a)) end some_left) in
+          (none.0, ap taken_from front_end ∙ none.1);
+    },
+    tt,
+  )
+  get-on-out room (a ∷ ss) (f ∷ front) s s' (c ∷ cs) end front_end h = (h.0, get-on-out room ss front s s' cs end front_end h.1)
+  get-on-out room [] [] s s' cs end front_end h = absurd h
+  get-on-out room [] (f ∷ front) s s' cs end front_end h = absurd h
+  get-on-out room (a ∷ ss) [] s s' [] end front_end h = absurd h
+  get-on-out room (a ∷ ss) (f ∷ front) s s' [] end front_end h = absurd h
+  get-on-out room (a ∷ b ∷ ss) [] s s' (c ∷ cs) end front_end h = absurd h.1
+  get-on-out room (a ∷ []) [] s s' (c ∷ d ∷ cs) end front_end h = absurd h.1
 
   pub took-more : (ss : List (RingSeat T t)) (i : ℕ) (d : RingSeat T t) → i < length ss → map (λ s. s.took) (take (suc i) ss) ≡ map (λ s. s.took) (take i ss) ++ (get_or ss i d).took ∷ []
   took-more [] i d lt = absurd (omega arith)

@@ -42,14 +42,18 @@ module _ {T : Type 0} (t : Ghosts T) where
   HaveRings (s ∷ []) = Unit {0}
   HaveRings (s ∷ n ∷ ss) = IsSome s.to × HaveRings (n ∷ ss)
 
-  -- in a round a stage with nothing unsent took all that it found, within the room; one with items unsent sent them, as far as the room goes; one that could not send all that was unsent took nothing
-  abbrev pub GetOn : ℕ → RingSeat T t → RingSeat T t → ℕ → Type 0
-  GetOn room s s' count = (unsent_items t s ≡ [] → min room (finds t s) ≤ count) × (min (length (unsent_items t s)) (room - length (sent_to s.to)) + length (sent_to s.to) ≤ length (sent_to s'.to))
-      × (length (sent_to s'.to) < length (sent_to s.to) + length (unsent_items t s) → count ≡ 0)
+  -- how far a stage gets in a round
+  pub record GetsOn (room : ℕ) (s s' : RingSeat T t) (count : ℕ) : Type 0 where
+    -- with nothing unsent it took all that it found, within the room
+    pub took : unsent_items t s ≡ [] → min room (finds t s) ≤ count
+    -- it sent what was unsent, as far as the room goes
+    pub sent : min (length (unsent_items t s)) (room - length (sent_to s.to)) + length (sent_to s.to) ≤ length (sent_to s'.to)
+    -- unless it sent all that was unsent it took nothing, not even out of its ring
+    pub held : length (sent_to s'.to) < length (sent_to s.to) + length (unsent_items t s) → (count ≡ 0) × (taken_from s'.from ≡ taken_from s.from)
 
   abbrev pub AllGetOn : ℕ → List (RingSeat T t) → List (RingSeat T t) → List ℕ → Type 0
   AllGetOn room [] [] [] = Unit {0}
-  AllGetOn room (s ∷ ss) (s' ∷ ss') (c ∷ cs) = GetOn room s s' c × AllGetOn room ss ss' cs
+  AllGetOn room (s ∷ ss) (s' ∷ ss') (c ∷ cs) = GetsOn room s s' c × AllGetOn room ss ss' cs
   AllGetOn room ss ss' cs = ⊥
 
   -- nothing has passed through the rings yet

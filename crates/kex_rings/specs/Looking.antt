@@ -19,6 +19,12 @@ fed_more items x = record { taken = x.taken ++ items; turned = true }
 abbrev pub IsEmpty : Inbox → Type 0
 IsEmpty b = (unread_bytes b ≡ []) × (b.ended ≡ false)
 
+-- the stage took nothing, not even out of its ring, and what is unsent now is the rest of what was
+pub record IsHeld (before after : List schedule.StreamItem) (popped more : List Item) (count : ℕ) : Type 0 where
+  pub none_popped : popped ≡ []
+  pub none_taken : count ≡ 0
+  pub rest : before ≡ items_as more ++ after
+
 module _ {T : Type 0} (t : Ghosts T) where
   -- what lies before the stage: in its inbox, and behind that in its ring
   abbrev pub lies_before : RingSeat T t → List schedule.StreamItem
@@ -66,8 +72,8 @@ module _ {T : Type 0} (t : Ghosts T) where
     pub took : unsent_items s ≡ [] → min room (finds s) ≤ count
     -- it sent what was unsent, as far as it knew slots to be free
     pub sent_most : min (length (unsent_items s)) (free_in s.to) ≤ length more
-    -- if it did not send all that was unsent, it took nothing, and the rest of that is all that is unsent now
-    pub held : length more < length (unsent_items s) → (count ≡ 0) × (unsent_items s ≡ items_as more ++ unsent_items s')
+    -- unless it sent all that was unsent
+    pub held : length more < length (unsent_items s) → IsHeld (unsent_items s) (unsent_items s') popped more count
     pub free : free_in s.to ≤ free_in s'.to + length more
 
   -- what was unsent was sent as far as the ring took it; nothing was taken

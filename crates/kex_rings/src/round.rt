@@ -213,7 +213,8 @@ pub fn ring_round<R: Threads + Sync, T: Turn + Drop + Send, G: Gate + Sync>(
     ensures stands { OnOk result ((ps : List T.Plan) (h : List Event) (taken : List ℕ) → Stands T.Turn ps pipe.old h taken → Stands T.Turn ps pipe.new (h ++ turns_from 0 counts.new.items) taken) }
     ensures counts { OnOk result (vec_len counts.new ≡ stage_count T.Turn pipe.old) }
     // With nothing unsent a stage took at least all that lay in its ring when the round began, or as much as there is room for; what
-    // was unsent it sent, as far as the room goes since its ring was made. A stage that could not send all that was unsent took nothing.
+    // was unsent it sent, as far as the room goes since its ring was made. A stage that could not send all that was unsent took nothing,
+    // not even out of its ring.
     ensures gets_on { OnOk result (AllGetOn T.Turn pipe.old.room pipe.old.seats.items pipe.new.seats.items counts.new.items) }
     ensures begins { OnErr result ((ps : List T.Plan) (h : List Event) (taken : List ℕ) → Stands T.Turn ps pipe.old h taken → BeginsAnswer T.Turn ps pipe.new h taken) }
     ensures written { OnErr result ((ps : List T.Plan) (h : List Event) (taken : List ℕ) → Stands T.Turn ps pipe.old h taken → HasWritten T.Turn ps pipe.new h taken) }

@@ -1,11 +1,11 @@
-use Rattle.std.proofs.Common.{◌≡◌, ◌<◌, ◌∙◌, true, None, map, length, sym, ap, subst, arith}
+use Rattle.std.proofs.Common.{◌≡◌, ◌∙◌, true, None, map, length, sym, ap, subst, arith}
 use Rattle.std.specs.Prelude.{is_ok}
 use Rattle.kex_pipe.proofs.Lines.{on-ok}
 use Rattle.kex_rings.specs.Ends.{AreBeside}
 use Rattle.kex_rings.specs.Looking.{EachLooks, AllUsable}
 use Rattle.kex_rings.specs.Lines.{Joined, HaveRings, AllGetOn}
 use Rattle.kex_rings.proofs.Line.{line-rounds}
-use Rattle.kex_rings.proofs.Rounds.{Ended, ended-by, joined-pairs, joined-kept, rings-kept, rings-out, each-looked, usable-looked, looks-length, joined-out, usable-out, all-get-on, get-on-out}
+use Rattle.kex_rings.proofs.Rounds.{ended-by, joined-pairs, joined-kept, rings-kept, rings-out, each-looked, usable-looked, looks-length, joined-out, usable-out, all-get-on, get-on-out}
 use Rattle.kex_rings.proofs.round.run.Goals as goal
 
 pub look_beside_all-requires-clause-paired : goal.look_beside_all-requires-clause-paired
@@ -85,7 +85,7 @@ returns-clause-gets_on g c = on-ok c.carry_out.result (λ out.
     let ended = ended-by mid (omega (arith, c.requires.some, sizes.0, c.look_beside_all.ensures.count)) in
     let o = out ended.front ended.last ended.is in
     let looks : EachLooks t room old mid cs = subst (λ z. EachLooks t room old mid z) (sym c.in_ok-gather.ensures) (each-looked t room old w mid (map (λ s. s.took) w) work.0 c.look_beside_all.ensures.looked) in
-    subst (λ z. AllGetOn t room old z cs) (sym o.is) (get-on-out t room old ended.front ended.last o.s' cs o.same_to (subst (λ z. AllGetOn t room old z cs) ended.is (all-get-on t room None old mid cs c.requires.joined looks)))) c.carry_out.ensures.out
+    subst (λ z. AllGetOn t room old z cs) (sym o.is) (get-on-out t room old ended.front ended.last o.s' cs o.same_to o.same_from (subst (λ z. AllGetOn t room old z cs) ended.is (all-get-on t room None old mid cs c.requires.joined looks)))) c.carry_out.ensures.out
 
 pub returns-clause-rings : goal.returns-clause-rings
 returns-clause-rings g c = on-ok c.carry_out.result (λ out.
