@@ -4,7 +4,7 @@ use Rattle.kex_code.specs.declared.symbol.Symbol.{Symbol}
 use Rattle.kex_code.specs.declared.symbol.Symbol.TheVariants.{Byte}
 use Rattle.kex_model.specs.Moves.{Move}
 use Rattle.kex_model.specs.Labelled.{Labelled, Grown}
-use Rattle.kex_machine.specs.Advancing.{itself, at_end, first_accepting}
+use Rattle.kex_machine.specs.Advancing.{itself, at_end}
 use Rattle.kex_machine.specs.Advancing as advancing
 use Rattle.kex_frontier.specs.Edges.{Edge, with_first, is_there, root_label, bare_edges}
 

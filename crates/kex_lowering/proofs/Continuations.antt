@@ -1,8 +1,6 @@
 -- A text is viable exactly where some text that begins with it has a parse.
 use Rattle.std.proofs.Common.{ℕ, false, List, [], ◌∷◌, ◌++◌, length, sym, subst, append-nil, arith}
 use Rattle.std.proofs.lemmas.List.{take_all}
-use Rattle.kex_model.specs.Programs.{Grammar}
-use Rattle.kex_model.specs.Places.{HasEmptyLoop}
 use Rattle.kex_model.specs.Moves.{Move, took, Allows, reads, code_of, IsWaiting}
 use Rattle.kex_model.specs.Answers.{Answer, bad_byte, too_long, still_open}
 use Rattle.kex_machine.specs.Nodes.{Graph, HasLoop, node_moves}
@@ -11,7 +9,7 @@ use Rattle.kex_machine.proofs.CutWalks.{cut}
 use Rattle.kex_machine.proofs.Nexts.{IsTrim, reached_by}
 use Rattle.kex_machine.proofs.Ranges.{is_trim}
 use Rattle.kex_lowering.specs.Existence.{ViableTextsGoOn}
-use Rattle.kex_lowering.specs.Stages.{Carries, IsKeptOf}
+use Rattle.kex_lowering.specs.Stages.{Carries}
 use Rattle.kex_lowering.proofs.Loops.{loop_of_nodes}
 use Rattle.kex_lowering.proofs.PairedNodes.{carries}
 use Rattle.kex_lowering.proofs.Existence.{left_trimmed, stage_answers}

@@ -2,7 +2,7 @@
 use Rattle.std.proofs.Common.{◌≡◌, ℕ, true, false, refl, sym, ap, ◌∙◌}
 use Rattle.std.specs.Prelude.{Option, Some, None, option_map, Result, Ok, Err, IsErr}
 use Rattle.kex_ports.specs.Calls.{next_count}
-use Rattle.kex_ports.specs.Endings.{Ending, written_ending, failed_ending, after_finish, finished_ending, counts_of, finishes_of, IsUnfinished}
+use Rattle.kex_ports.specs.Endings.{Ending, written_ending, failed_ending, after_finish, counts_of, finishes_of, IsUnfinished}
 
 pub counts-written : (e : Option Ending) → counts_of (option_map written_ending e) ≡ counts_of e
 counts-written None = refl

@@ -1,6 +1,6 @@
 -- What reads asked for, over several reads.
 use Rattle.std.proofs.Common.{◌≡◌, ◌≤◌, ℕ, refl, sym, ap, ap₂, ◌∙◌, subst, arith, inl, inr, min, max}
-use Rattle.std.specs.Prelude.{◌⊎◌, Option, Some, None, option_map}
+use Rattle.std.specs.Prelude.{Option, Some, None, option_map}
 use Rattle.kex_ports.specs.Reads.{Reads, after_asking, bounds_of, bounds_with, last_given, Asks}
 
 bounds-after : (room given : ℕ) (r : Option Reads) → bounds_of (option_map (after_asking room given) r) ≡ option_map (bounds_with room) (bounds_of r)

@@ -1,5 +1,5 @@
 -- What the reads of a source asked for, and what the last one gave.
-use Rattle.std.specs.Prelude.{◌≡◌, ◌⊎◌, ◌-◌, ◌^◌, ℕ, List, Option, Some, None, Result, Ok, Err, min, max, option_map}
+use Rattle.std.specs.Prelude.{◌≡◌, ◌⊎◌, ◌-◌, ◌^◌, ℕ, Option, Some, None, Result, Ok, Err, min, max, option_map}
 
 -- The least and the most bytes that a read asked for, and how many the last read gave.
 pub record Reads : Type 0 where

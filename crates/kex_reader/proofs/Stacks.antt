@@ -8,7 +8,7 @@ use Rattle.kex_reader.specs.declared.stack.Prefix.{Prefix}
 use Rattle.kex_reader.specs.declared.stack.Prefix.TheVariants as prefixes
 use Rattle.kex_reader.specs.declared.stack.Part.{Part as Shown}
 use Rattle.kex_reader.specs.declared.stack.Store.{Store}
-use Rattle.kex_reader.specs.Syntax.{Word, Term, Last, Or, Seq, Only, Then, Pre, Mute, Into, term, seq, pre, atom}
+use Rattle.kex_reader.specs.Syntax.{Term, Last, Or, Seq, Only, Then, Pre, Mute, Into, seq, pre}
 use Rattle.kex_reader.specs.Reading.{Entry, Mark, Ended, Done, Muted, Storing, entries, entry, with_pre, take_more, take_seq, take_branches, term_of, take_term}
 use Rattle.kex_reader.specs.Shown.{Made, IsNode, ShowsTerm, ShowsSeq, ShowsPre}
 use Rattle.kex_reader.specs.Stands.{Keeps, ConstructsShow, SeqTaken, TermTaken, construct_of, prefixed_kind, prefix_at, HasRegisterBelow, open_constructs, depth}

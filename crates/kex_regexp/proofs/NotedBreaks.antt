@@ -10,9 +10,9 @@ use Rattle.kex_regexp.specs.declared.counts.CountOutcome.TheVariants as outcomes
 use Rattle.kex_regexp.specs.declared.sets.SetSoFar.{SetSoFar}
 use Rattle.kex_regexp.specs.declared.wait.Wait.{Wait}
 use Rattle.kex_regexp.specs.declared.wait.Wait.TheVariants as waits
-use Rattle.kex_regexp.specs.Grammar.{is_plain, is_digit, is_end, Postfix, Star, Plus, Quest, Exactly, AtLeast, AtMost, Within, End, Member, Item, Plain, Escaped, Dot, Set, Group, Regex, Last, Or, Branch, Empty, Then, Piece, Once, Turns, item}
-use Rattle.kex_regexp.specs.Breaks.{Break, BadCount, BadSet, OverLimit, break_if, is_bad_count, is_bad_set, regex_breaks, piece_breaks}
-use Rattle.kex_regexp.specs.Machine.{Part, Escaping, Begun, EscapeStep, EscapeOn, EscapeRead, EscapeWrong, escape_step, AtStart, Between, HasEnd, HasDash, InFirst, InLast, Counting, Opened, Low, LowComma, LowHigh, OnlyComma, High, CountStep, CountOn, CountRead, CountWrong, count_step, SetStep, SetOn, SetRead, SetWrong, set_step, Entry, Mark, Ended, Read, Mode, Ready, After, InEscape, InSet, InCount, State, entries, entry, bytes_read, take_pieces, take_branches, take_regex, goes, after_group, end_branch, begin_piece, after_item, on_escape, on_set, on_count, step_in, step, whole_regex, finish, finish_in}
+use Rattle.kex_regexp.specs.Grammar.{is_plain, Member, Item, Set, Regex, Last, Or, Branch, Empty, Then, Once, item}
+use Rattle.kex_regexp.specs.Breaks.{Break, BadCount, BadSet, OverLimit, break_if, is_bad_set, regex_breaks, piece_breaks}
+use Rattle.kex_regexp.specs.Machine.{Part, EscapeStep, EscapeOn, EscapeRead, EscapeWrong, escape_step, CountStep, CountOn, CountRead, CountWrong, count_step, SetStep, SetOn, SetRead, SetWrong, set_step, Entry, Mark, Ended, Read, Mode, Ready, After, InEscape, InSet, InCount, State, entries, entry, bytes_read, take_pieces, take_branches, take_regex, after_group, end_branch, begin_piece, after_item, on_escape, on_set, on_count, step_in, step, whole_regex, finish, finish_in}
 use Rattle.kex_regexp.specs.Holding.{HasMembers, IsSetIn, ShowsCountStep, ShowsMode, ShowsState}
 use Rattle.kex_regexp.specs.Outcomes.{are_bad_turns, count_outcome}
 use Rattle.kex_regexp.specs.Notes.{lesser, least_from, marks, mode_breaks, state_breaks, entries_breaks, entry_breaks, nesting_breaks, set_breaks, count_breaks, byte_breaks, is_after, is_bad_set_so_far, count_break, nesting_break, byte_break, next_depth, depth_after, lesser_of}

@@ -7,7 +7,7 @@ use Rattle.kex_model.specs.declared.program.Node.{Node}
 use Rattle.kex_regexp.specs.declared.constructs.Construct.{Construct}
 use Rattle.kex_regexp.specs.declared.constructs.Construct.TheVariants as constructs
 use Rattle.kex_regexp.specs.declared.constructs.Placed.{Placed}
-use Rattle.kex_regexp.specs.Grammar.{Regex, Last, Or, Branch, Empty, Then, Piece, Once, Turns, Item, Plain, Escaped, Dot, Set, Group, Postfix, regex, branch, piece, item}
+use Rattle.kex_regexp.specs.Grammar.{Regex, Last, Or, Branch, Empty, Then, Piece, Once, Turns, Item, Plain, Escaped, Dot, Set, Group, Postfix, branch, piece}
 use Rattle.kex_regexp.specs.Breaks.{is_bad_count}
 use Rattle.kex_regexp.specs.Shown.{IsNode, Adds}
 use Rattle.kex_regexp.specs.Machine.{Entry, Mark, Ended, Read, entries, entry, take_pieces, take_branches, take_regex}

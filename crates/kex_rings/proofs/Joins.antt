@@ -1,14 +1,14 @@
 -- Stages that are joined, one after another.
-use Rattle.std.proofs.Common.{◌≡◌, ◌≤◌, ◌<◌, ◌+◌, ◌⊎◌, false, true, ℕ, zero, suc, List, [], ◌∷◌, ◌++◌, Some, None, length, get_or, refl, sym, ap, ap₂, subst, ◌∙◌, append_assoc, length-append, arith}
-use Rattle.std.specs.Prelude.{IsTrue, Result, Ok, Err, OnOk, IsSome, All}
+use Rattle.std.proofs.Common.{◌≡◌, ◌≤◌, ◌<◌, ◌+◌, ◌⊎◌, false, ℕ, zero, suc, List, [], ◌∷◌, ◌++◌, Some, None, length, get_or, refl, sym, ap, ap₂, subst, ◌∙◌, append_assoc, length-append, arith}
+use Rattle.std.specs.Prelude.{Result, Ok, Err, OnOk, IsSome, All}
 use Rattle.std.proofs.Math.ListN.{set}
 use Rattle.kex_pipe.specs.Rounds.{Each}
 use Rattle.kex_pipe.specs.Waiting.{waiting_items}
 use Rattle.kex_pipe.specs.declared.inbox.Inbox.{Inbox}
 use Rattle.kex_pipe.specs.declared.turn.Turn.{Ghosts}
 use Rattle.kex_rings.specs.declared.ring_seat.RingSeat.{RingSeat}
-use Rattle.kex_rings.specs.Ends.{Giver, Taker, sent_to, free_in, taken_from, seen_in, SameGiver, SameTaker, IsLast, ArePaired, AreBeside}
-use Rattle.kex_rings.specs.Looking.{OnlyLooked, NowBeside, CarriedOut, Looks, EachLooks, AllUsable}
+use Rattle.kex_rings.specs.Ends.{Giver, Taker, sent_to, free_in, taken_from, SameGiver, SameTaker, IsLast, ArePaired, AreBeside}
+use Rattle.kex_rings.specs.Looking.{OnlyLooked, NowBeside, CarriedOut, EachLooks}
 use Rattle.kex_rings.specs.Lines.{Joined, HaveRings}
 use Rattle.kex_rings.proofs.Looks.{same-taker, same-giver, one-taker, one-giver}
 

@@ -1,8 +1,8 @@
 -- A round with rings is its turns, in the order of the stages.
-use Rattle.std.proofs.Common.{◌≡◌, ◌<◌, ◌+◌, ◌⊎◌, inl, inr, ℕ, zero, suc, Bool, true, false, List, [], ◌∷◌, ◌++◌, Some, None, length, map, take, drop, refl, sym, ap, ap₂, subst, ◌∙◌, append_assoc, append-nil, arith}
+use Rattle.std.proofs.Common.{◌≡◌, ◌+◌, ◌⊎◌, inl, inr, ℕ, false, List, [], ◌∷◌, ◌++◌, Some, None, length, map, drop, refl, sym, ap, ap₂, subst, ◌∙◌, append_assoc, append-nil}
 use Rattle.std.proofs.Math.Seq.{drop-append_seam}
 use Rattle.std.proofs.lemmas.List.{map-append}
-use Rattle.kex_model.specs.Schedules.{StreamItem, byte, has_end, Progress, Event, After}
+use Rattle.kex_model.specs.Schedules.{StreamItem, byte, has_end, Progress}
 use Rattle.kex_pipe.specs.Seats.{IsWhole, Sits}
 use Rattle.kex_pipe.specs.Waiting.{unread_bytes, waiting_items}
 use Rattle.kex_pipe.specs.declared.inbox.Inbox.{Inbox}
@@ -15,7 +15,7 @@ use Rattle.kex_rings.specs.declared.ring_seat.RingSeat.{RingSeat}
 use Rattle.kex_rings.specs.Items.{item_as, items_as}
 use Rattle.kex_rings.specs.Ends.{Giver, sent_to, taken_from, seen_in, IsLast, AreBeside}
 use Rattle.kex_rings.specs.Looking.{fed_more, lies_before, Looks, EachLooks, CarriedOut}
-use Rattle.kex_rings.specs.Lines.{turns_from, Line, Joined, LineRounds}
+use Rattle.kex_rings.specs.Lines.{Line, Joined, LineRounds}
 use Rattle.kex_rings.proofs.Wholes.{front-whole}
 use Rattle.kex_rings.proofs.StageTurns.{Steps, steps-after, fed-next}
 

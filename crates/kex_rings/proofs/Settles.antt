@@ -1,8 +1,7 @@
 -- What waits is worked off, stage after stage.
-use Rattle.std.proofs.Common.{◌≡◌, ◌<◌, ◌+◌, ◌⊎◌, inl, inr, ℕ, zero, suc, Bool, true, false, List, [], ◌∷◌, ◌++◌, None, length, map, take, drop, get_or, refl, sym, ap, ap₂, subst, ◌∙◌, append_assoc, append-nil, length-append, arith}
+use Rattle.std.proofs.Common.{◌≡◌, ◌+◌, ◌⊎◌, inl, ℕ, zero, suc, true, false, List, [], ◌∷◌, ◌++◌, None, length, map, take, drop, refl, sym, ap, ap₂, subst, ◌∙◌, append_assoc, append-nil, arith}
 use Rattle.std.specs.Prelude.{IsTrue}
-use Rattle.std.proofs.Math.Seq.{drop-append_seam}
-use Rattle.kex_model.specs.Schedules.{StreamItem, byte, Progress, more_taken, After, Settled, Event}
+use Rattle.kex_model.specs.Schedules.{StreamItem, byte, Progress, more_taken, Settled}
 use Rattle.kex_pipe.specs.Rounds.{Each, Takes}
 use Rattle.kex_pipe.specs.Seats.{IsWhole, Sits}
 use Rattle.kex_pipe.specs.Waiting.{unread_bytes, waiting_items}
@@ -17,7 +16,7 @@ use Rattle.kex_rings.specs.declared.ring_seat.RingSeat.{RingSeat}
 use Rattle.kex_rings.specs.Items.{items_as}
 use Rattle.kex_rings.specs.Ends.{Giver, sent_to, seen_in, AreBeside}
 use Rattle.kex_rings.specs.Looking.{fed_more, lies_before, AllUsable}
-use Rattle.kex_rings.specs.Lines.{Line, Joined, AreNew, LineSettles, turns_from}
+use Rattle.kex_rings.specs.Lines.{Line, Joined, AreNew, LineSettles}
 use Rattle.kex_rings.specs.Settling.{SettlesBy, SettlesAll, AllSeatsUsable}
 use Rattle.kex_rings.proofs.Wholes.{front-whole}
 use Rattle.kex_rings.proofs.Looks.{back-whole}

@@ -1,5 +1,5 @@
 -- What a pipe with rings stands for, and that its text is the pipeline's.
-use Rattle.std.proofs.Common.{◌≡◌, ◌<◌, ◌+◌, ◌&&◌, ℕ, zero, suc, Bool, true, false, List, [], ◌∷◌, ◌++◌, Option, Some, None, length, map, take, drop, get_or, refl, sym, ap, ap₂, subst, ◌∙◌, append_assoc, append-nil, arith}
+use Rattle.std.proofs.Common.{◌≡◌, ◌<◌, ◌+◌, ◌&&◌, ℕ, zero, suc, Bool, true, false, List, [], ◌∷◌, ◌++◌, Option, Some, None, length, map, take, get_or, refl, sym, ap, ap₂, subst, ◌∙◌, append_assoc, append-nil, arith}
 use Rattle.std.specs.Prelude.{is_none}
 use Rattle.std.proofs.Math.ListN.{set}
 use Rattle.std.proofs.lemmas.List.{map-append}
@@ -23,7 +23,7 @@ use Rattle.kex_pipe.proofs.Begins.{bytes-front, sits-begins, one-wrote}
 use Rattle.kex_pipe.proofs.Stops.{later-latest, latest-later, sits-stop, IsNew}
 use Rattle.kex_rings.specs.declared.ring_seat.RingSeat.{RingSeat}
 use Rattle.kex_rings.specs.declared.pipe.RingPipe.{RingPipe}
-use Rattle.kex_rings.specs.Items.{item_as, items_as}
+use Rattle.kex_rings.specs.Items.{items_as}
 use Rattle.kex_rings.specs.Ends.{Giver, sent_to, taken_from, seen_in, AreBeside}
 use Rattle.kex_rings.specs.Looking.{lies_before, IsIdle}
 use Rattle.kex_rings.specs.Lines.{Line, Joined, AreNew}

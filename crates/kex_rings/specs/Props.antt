@@ -7,7 +7,6 @@ use mathlib.Core.List.{is_set as List-set}
 use native.Mathlib.Nat.{ℕ_set}
 use Rattle.std.proofs.Common.{ℕ, Bool, false, List, [], ◌∷◌, Some, None}
 use Rattle.std.proofs.Props.{props}
-use Rattle.rtrb.specs.Ring.{IsPair}
 use Rattle.kex_pipe.specs.declared.turn.Turn.{Ghosts}
 use Rattle.kex_rings.specs.declared.item.Item.{Item}
 use Rattle.kex_rings.specs.declared.item.Item.TheVariants.{Byte, End}

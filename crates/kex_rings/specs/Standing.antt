@@ -1,5 +1,5 @@
 -- The schedules that a pipe with rings stands for.
-use Rattle.std.specs.Prelude.{◌≡◌, ℕ, Bool, true, false, List, [], ◌++◌, Option, vec_len}
+use Rattle.std.specs.Prelude.{◌≡◌, ℕ, Bool, false, List, [], ◌++◌, Option, vec_len}
 use Rattle.kex_code.specs.Codes.{Begins}
 use Rattle.kex_model.specs.Answers.{Report, Pipeline}
 use Rattle.kex_model.specs.Schedules.{StreamItem, has_end, items_of, Progress, Event, After, LastWrote, Settled}

@@ -2,7 +2,7 @@
 use Rattle.std.proofs.Common.{◌≡◌, ◌<◌, ◌∙◌, ◌∷◌, [], ◌++◌, ℕ, List, Bool, length, inl, inr, refl, sym, ap, subst}
 use Rattle.std.specs.Prelude.{Option, Some, None}
 use Rattle.kex_code.specs.Codes.{IsAmong, bytes_of}
-use Rattle.kex_model.specs.Answers.{Answer, LongestGood, Pipeline, Report, at_byte, at_end, at_limit, bad_byte, cut_off, still_open, too_long, whole}
+use Rattle.kex_model.specs.Answers.{Answer, Pipeline, Report, at_byte, at_end, at_limit, bad_byte, cut_off, still_open, too_long, whole}
 use Rattle.kex_model.specs.Answers as model
 use Rattle.kex_machine.specs.Nodes.{Graph, IsInRange, IsTrimmed}
 use Rattle.kex_machine.specs.Answers.{HasParse, Means, Says, StageAnswers}

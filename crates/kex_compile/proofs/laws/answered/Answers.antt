@@ -1,4 +1,4 @@
-use Rattle.std.specs.Prelude.{◌≡◌, ℕ, suc, Bool, List, [], ◌∷◌}
+use Rattle.std.specs.Prelude.{ℕ, suc, Bool, List, [], ◌∷◌}
 use Rattle.std.proofs.Common.{⊎_elim, subst}
 use Rattle.kex_code.specs.Codes.{IsAmong}
 use Rattle.kex_model.specs.Programs.{Grammar}
@@ -7,7 +7,6 @@ use Rattle.kex_model.specs.Laws.{StageAnswers}
 use Rattle.kex_machine.specs.Nodes.{Graph}
 use Rattle.kex_lowering.proofs.Existence.{pipeline_answers, stage_answers}
 use Rattle.kex_compile.specs.Stages.{AreStages, roots_of}
-use Rattle.kex_compile.specs.Compiled.{HasAnswers}
 use Rattle.kex_compile.proofs.laws.answered.Goals as goal
 
 -- each stage that has a machine has answers

@@ -4,7 +4,7 @@ use Rattle.kex_reader.specs.Reading.{entries, with_pre}
 use Rattle.kex_reader.proofs.Drafts.{atom_within, atom_more}
 use Rattle.kex_reader.proofs.Stacks.{constructs_more}
 use Rattle.kex_reader.proofs.Steps.{to, memory_exit, ready, once_shows}
-use Rattle.kex_reader.specs.Stands.{ShowsMode, ShowsCountStep}
+use Rattle.kex_reader.specs.Stands.{ShowsCountStep}
 use Rattle.kex_reader.proofs.LeastBreak.{never_none}
 use Rattle.kex_reader.proofs.Modes.{count_on, count_wrong, count_read, count_bad, read_is, read_count, bad_turns}
 use Rattle.kex_reader.proofs.MoreChecks.{on_from, moved, good_count, bad_count, read_asks, on_moved}

@@ -1,7 +1,6 @@
 use Rattle.std.proofs.Common.{refl, subst, inl, inr}
 use Rattle.kex_reader.proofs.Steps.{memory_exit}
 use Rattle.kex_reader.specs.Syntax.{word}
-use Rattle.kex_reader.specs.Stands.{ShowsMode, ShowsCountStep}
 use Rattle.kex_reader.proofs.Modes.{first_wrong, first_on, next_wrong, next_on}
 use Rattle.kex_reader.specs.declared.inside.Wait.TheVariants.{Assigning}
 use Rattle.kex_reader.specs.Stands.{IsHeld}

@@ -5,7 +5,6 @@ use Rattle.kex_reader.specs.Reading.{entries}
 use Rattle.kex_reader.proofs.Stacks.{constructs_more}
 use Rattle.kex_reader.proofs.Steps.{to, memory_exit, wrong, call_shows, named_kind, named_other, named_at, named_define, storing_steps, on_keeps}
 use Rattle.kex_reader.specs.Syntax.{word}
-use Rattle.kex_reader.specs.Stands.{ShowsMode, ShowsCountStep}
 use Rattle.kex_reader.proofs.Modes.{call_place}
 use Rattle.kex_reader.proofs.MoreChecks.{on_apply, on_from, moved, named_at_asks, named_after}
 use Rattle.kex_reader.proofs.Stacks.{depth_is}

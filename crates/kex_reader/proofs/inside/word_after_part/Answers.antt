@@ -1,9 +1,7 @@
 use Rattle.std.proofs.Common.{◌+◌, length, sym, subst, inl, inr}
-use Rattle.kex_reader.specs.Syntax.{Once, Call, One, Lit, Match, Write, ZeroOrMore, OneOrMore, Optional, Turns, between, atom}
 use Rattle.kex_reader.specs.Reading.{entries}
 use Rattle.kex_reader.proofs.Steps.{to, atom_steps}
 use Rattle.kex_reader.specs.Syntax.{word}
-use Rattle.kex_reader.specs.Stands.{ShowsMode, ShowsCountStep}
 use Rattle.kex_reader.proofs.Modes.{assigned_leaf, next_close, assigned_in, assigned_at, assign_of}
 use Rattle.kex_reader.specs.Uses.{InKind}
 use Rattle.kex_reader.proofs.Uses.{in_assigned, step_from}

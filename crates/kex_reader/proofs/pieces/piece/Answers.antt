@@ -1,6 +1,5 @@
 use Rattle.std.proofs.Common.{Some, sym, subst}
-use Rattle.kex_reader.specs.Syntax.{Once, Call, One, Lit, Match, Write, ZeroOrMore, OneOrMore, Optional, Turns, between, atom}
-use Rattle.kex_reader.specs.Shown.{IsNode}
+use Rattle.kex_reader.specs.Syntax.{Lit}
 use Rattle.kex_tokens.specs.Lexemes.{IsToken}
 use Rattle.kex_reader.proofs.Uses.{held_as, register_piece, unchanged}
 use Rattle.kex_reader.proofs.pieces.piece.Goals as goal

@@ -1,4 +1,4 @@
-use Rattle.std.proofs.Common.{rules, ◌≡◌, ◌++◌, true, sym, ap, subst}
+use Rattle.std.proofs.Common.{◌≡◌, ◌++◌, true, sym, ap, subst}
 use Rattle.std.specs.Prelude.{is_ok}
 use Rattle.kex_rings.specs.Looking.{WorkedAll}
 use Rattle.kex_rings.proofs.Rounds.{both-worked, not-worked, one-worked}

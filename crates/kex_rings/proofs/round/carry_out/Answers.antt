@@ -1,4 +1,4 @@
-use Rattle.std.proofs.Common.{◌≡◌, ◌-◌, refl, length, arith}
+use Rattle.std.proofs.Common.{◌-◌, refl, length, arith}
 use Rattle.kex_pipe.proofs.Transfers.{on-ok₂}
 use Rattle.kex_rings.proofs.Joins.{carried, got-again}
 use Rattle.kex_rings.proofs.round.carry_out.Goals as goal

@@ -1,4 +1,4 @@
-use Rattle.std.proofs.Common.{◌≡◌, ◌<◌, ◌++◌, ◌∷◌, ◌∙◌, [], map, take, length, get_or, sym, ap, add-one, arith}
+use Rattle.std.proofs.Common.{◌++◌, ◌∷◌, ◌∙◌, [], map, take, sym, ap, add-one, arith}
 use Rattle.kex_rings.proofs.Rounds.{took-more, took-all}
 use Rattle.kex_rings.proofs.round.gather.Goals as goal
 

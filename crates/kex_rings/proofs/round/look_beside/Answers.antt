@@ -1,4 +1,4 @@
-use Rattle.std.proofs.Common.{◌≡◌, ◌++◌, ◌∷◌, ◌∙◌, [], refl, sym, length, append_assoc, length-append, arith}
+use Rattle.std.proofs.Common.{◌++◌, ◌∷◌, ◌∙◌, [], sym, append_assoc, length-append, arith}
 use Rattle.kex_rings.proofs.Joins.{same-cut}
 use Rattle.kex_rings.proofs.round.look_beside.Goals as goal
 

@@ -1,4 +1,4 @@
-use Rattle.std.proofs.Common.{◌≡◌, ◌<◌, ◌+◌, ◌∙◌, refl, sym, subst, length, arith}
+use Rattle.std.proofs.Common.{◌<◌, ◌+◌, ◌∙◌, refl, sym, subst, length, arith}
 use Rattle.kex_pipe.specs.Rounds.{Each}
 use Rattle.kex_rings.specs.Looking.{OnlyLooked}
 use Rattle.kex_rings.proofs.Joins.{looked-all, looked-two, split-first, next-of, split-next, split-last}

@@ -1,4 +1,4 @@
-use Rattle.std.proofs.Common.{◌≡◌, ◌∙◌, [], ◌++◌, None, sym, ap, ap₂, subst, length, arith}
+use Rattle.std.proofs.Common.{[], ◌++◌, None, sym, subst, arith}
 use Rattle.std.specs.Vec.{with_items}
 use Rattle.std.proofs.lemmas.List.{with_items_is}
 use Rattle.kex_code.specs.Codes.{Begins}

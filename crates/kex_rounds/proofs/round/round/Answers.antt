@@ -1,9 +1,8 @@
-use Rattle.std.proofs.Common.{rules, ◌≡◌, ◌≢◌, ◌∙◌, ◌⊎◌, inl, inr, Bool, true, false, refl, sym, ap, subst, length, arith}
-use Rattle.std.specs.Prelude.{Result, Ok, Err, OnOk, OnErr, IsPermutation, IsTrue, All, is_ok, is_err}
+use Rattle.std.proofs.Common.{◌≡◌, ◌∙◌, inl, inr, true, false, sym, ap, subst, arith}
+use Rattle.std.specs.Prelude.{IsPermutation, All, is_ok, is_err}
 use Rattle.std.specs.List.{range_with_len}
 use Rattle.std.proofs.lemmas.List.{with_items_is}
-use Rattle.kex_pipe.specs.Rounds.{Each, Works, LeftBy, Worked, those}
-use Rattle.kex_pipe.specs.Standing.{Own, is_spent}
+use Rattle.kex_pipe.specs.Rounds.{Each, Works, LeftBy, Worked}
 use Rattle.kex_pipe.specs.Waiting.{unread_bytes}
 use Rattle.kex_pipe.specs.declared.pipe.PipeFault.{PipeFault}
 use Rattle.kex_pipe.proofs.Lines.{on-ok}

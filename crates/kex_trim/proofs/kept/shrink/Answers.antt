@@ -6,7 +6,7 @@ use Rattle.kex_trim.specs.Trim.{renumbered_move}
 use Rattle.kex_trim.proofs.KeptNumbers.{past}
 use Rattle.kex_trim.proofs.KeptNodes.{Shrinking, shrinking_more, shrinking_end}
 use Rattle.kex_trim.proofs.kept.shrink.Goals as goal
-use Rattle.kex_trim.proofs.kept.shrink.Goals.{After-index, After-loop-t}
+use Rattle.kex_trim.proofs.kept.shrink.Goals.{After-index}
 
 -- the old number of the node that is next
 next : (c : After-index) → HasNumber c.args.numbering.now.kept.items c.index.result.now c.loop-t.t

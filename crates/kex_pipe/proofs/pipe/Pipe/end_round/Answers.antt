@@ -1,7 +1,6 @@
-use Rattle.std.proofs.Common.{rules, ◌≡◌, ◌∙◌, ◌++◌, [], true, false, inl, inr, suc, map, refl, sym, ap, subst, append-nil, length, arith}
+use Rattle.std.proofs.Common.{rules, ◌∙◌, ◌++◌, true, false, inl, inr, suc, map, refl, sym, ap, subst, arith}
 use Rattle.std.specs.Prelude.{IsPermutation}
 use Rattle.std.specs.List.{range_with_len}
-use Rattle.std.specs.Vec.{with_items}
 use Rattle.std.proofs.lemmas.List.{with_items_is}
 use Rattle.kex_code.specs.Codes.{Begins}
 use Rattle.kex_pipe.specs.Events.{bytes_given, end_given}
@@ -10,7 +9,6 @@ use Rattle.kex_pipe.specs.Seats.{IsWhole}
 use Rattle.kex_pipe.specs.Rounds.{LeftBy, turn_of}
 use Rattle.kex_pipe.specs.Standing.{Line}
 use Rattle.kex_pipe.specs.Settling.{SettledTo}
-use Rattle.kex_pipe.proofs.Lines.{queue-line}
 use Rattle.kex_pipe.proofs.Schedule.{standing, standing-and, has-written, came-given}
 use Rattle.kex_pipe.proofs.Begins.{stands-begins}
 use Rattle.kex_pipe.proofs.Stops.{each-length}

@@ -1,4 +1,4 @@
-use Rattle.std.proofs.Common.{◌≡◌, [], ◌++◌, ◌∙◌, sym, ap, append-nil}
+use Rattle.std.proofs.Common.{◌++◌, ◌∙◌, sym, ap, append-nil}
 use Rattle.kex_pipe.proofs.Schedule.{standing, written-taken, line-taken}
 use Rattle.kex_pipe.proofs.pipe.Pipe.take_output_into.Goals as goal
 

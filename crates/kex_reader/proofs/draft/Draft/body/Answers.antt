@@ -5,7 +5,7 @@ use Rattle.kex_reader.proofs.Drafts.{begins_same, body_within, keeping, Keeps-tr
 use Rattle.std.proofs.lemmas.Option.{slice_get_within}
 use Rattle.kex_regexp.specs.declared.breaks.Break.{Break}
 use Rattle.kex_regexp.specs.Bodies.{IsRefusal}
-use Rattle.kex_reader.specs.Checks.{Check, Matched}
+use Rattle.kex_reader.specs.Checks.{Matched}
 use Rattle.kex_reader.proofs.LeastBreak.{never_none, noted_more, noted_same}
 use Rattle.kex_reader.proofs.BodyBreaks.{broken_is, first_breaks, no_breaks}
 use Rattle.kex_reader.specs.Stands.{LosesNone}

@@ -1,4 +1,4 @@
-use Rattle.std.proofs.Common.{rules, ◌≡◌, [], ◌++◌, ◌||◌, ◌∙◌, inl, false, map, refl, sym, ap, append-nil, arith}
+use Rattle.std.proofs.Common.{rules, ◌≡◌, ◌++◌, ◌||◌, ◌∙◌, false, map, refl, sym, ap, append-nil, arith}
 use Rattle.kex_model.specs.Schedules.{byte, has_end, given}
 use Rattle.kex_pipe.specs.Waiting.{unread_bytes}
 use Rattle.kex_pipe.proofs.Items.{end-append, end-items}

@@ -1,5 +1,4 @@
-use Rattle.std.proofs.Common.{◌≡◌, ◌<◌, ◌++◌, ◌∷◌, [], ◌∙◌, ℕ, false, map, length, get_or, refl, sym, ap, ap₂, subst, append_assoc, length-append, arith, None}
-use Rattle.std.specs.Prelude.{IsTrue}
+use Rattle.std.proofs.Common.{◌≡◌, ◌++◌, ◌∷◌, [], ◌∙◌, false, map, length, refl, sym, ap, ap₂, subst, append_assoc, arith, None}
 use Rattle.kex_model.specs.Schedules.{fresh, begun, items_of}
 use Rattle.kex_pipe.specs.Rounds.{Each}
 use Rattle.kex_pipe.proofs.Stops.{IsNew, all-usable, each-more, each-length, of-next, no-more}

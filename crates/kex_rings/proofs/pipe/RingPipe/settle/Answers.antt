@@ -1,7 +1,6 @@
-use Rattle.std.proofs.Common.{◌≡◌, ◌∙◌, [], ◌++◌, sym, ap, subst, length, arith}
+use Rattle.std.proofs.Common.{[], ◌++◌, sym, subst}
 use Rattle.kex_code.specs.Codes.{Begins}
 use Rattle.kex_model.specs.Schedules.{Settled}
-use Rattle.kex_pipe.specs.Events.{bytes_given, end_given}
 use Rattle.kex_pipe.proofs.Schedule.{came-given}
 use Rattle.kex_rings.specs.Lines.{Line, turns_from}
 use Rattle.kex_rings.proofs.StageTurns.{same-bytes, same-end}

@@ -1,4 +1,4 @@
-use Rattle.std.proofs.Common.{◌≡◌, [], ◌++◌, ◌∙◌, sym, ap, append-nil}
+use Rattle.std.proofs.Common.{[], ◌++◌, ◌∙◌, sym, ap, append-nil}
 use Rattle.kex_rings.proofs.Standings.{standing, written-taken, line-taken}
 use Rattle.kex_rings.proofs.pipe.RingPipe.take_output_into.Goals as goal
 

@@ -1,6 +1,5 @@
 use Rattle.std.proofs.Common.{refl}
 use Rattle.kex_rings.specs.Passing.{Pulls}
-use Rattle.kex_rings.specs.Looking.{FindsIn}
 use Rattle.kex_rings.proofs.SentItems.{if-ok}
 use Rattle.kex_rings.proofs.Looks.{found-some}
 use Rattle.kex_rings.proofs.ring_seat.RingSeat.find.Goals as goal

@@ -1,5 +1,4 @@
-use Rattle.std.proofs.Common.{rules, ◌≡◌, ◌∙◌, true, false, [], sym}
-use Rattle.std.specs.Prelude.{IfOk}
+use Rattle.std.proofs.Common.{rules}
 use Rattle.kex_rings.specs.Looking.{Looks, TakesIn}
 use Rattle.kex_rings.proofs.Looks.{only-sent, sent-and-taken}
 use Rattle.kex_rings.proofs.SentItems.{if-ok}
