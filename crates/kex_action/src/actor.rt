@@ -127,7 +127,8 @@ impl<'m> Actor<'m> {
         Ok(())
     }
 
-    /// Does on a sheet what the actions say, where this byte is read. Tells how many were done: the rest can't be done there.
+    /// Does on a sheet what the actions say, where this byte is read, from the first on. Tells how many were done; how many those are isn't
+    /// promised.
     #[inline(always)]
     pub fn act_on(
         &mut self,
