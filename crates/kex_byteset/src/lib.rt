@@ -9,8 +9,6 @@ ghost use Rattle.std.specs.List.{list_any};
 ghost use Rattle.kex_byteset.specs.Sets.{HasExactly, has};
 
 mod classes;
-#[cfg(test)]
-mod tests;
 
 pub use classes::Partition;
 use std::marker::Model;

@@ -11,6 +11,4 @@ pub mod prefix;
 pub mod reader;
 pub mod shared;
 pub mod symbol;
-#[cfg(test)]
-mod tests;
 pub mod text;

@@ -10,15 +10,11 @@ ghost use Rattle.kex_compile.specs.Compiled.{IsCompiled, IsRefused};
 pub mod compiled;
 mod firsts;
 pub mod laws;
-#[cfg(test)]
-mod learnt;
 pub mod limits;
 mod lowered;
 pub mod refusal;
 pub mod stages;
 mod tables;
-#[cfg(test)]
-mod tests;
 
 use crate::compiled::Compiled;
 use crate::limits::Limits;

@@ -4,4 +4,3 @@ mod ClearedRuns
 mod Certificates
 mod ClearedTables
 mod Machines
-mod Worked

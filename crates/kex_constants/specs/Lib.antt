@@ -1,4 +1,3 @@
 pub mod Known
 pub mod Clearing
 pub mod Alike
-pub mod Worked

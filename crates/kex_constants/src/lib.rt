@@ -9,8 +9,6 @@ mod choices;
 mod guess;
 mod known;
 mod rewrite;
-#[cfg(test)]
-mod tests;
 
 ghost use Rattle.std.specs.Prelude.{IfOk};
 ghost use Rattle.kex_machine.specs.Nodes.{Graph};

@@ -12,8 +12,6 @@ mod plan;
 pub mod refusal;
 mod roots;
 mod spot;
-#[cfg(test)]
-mod tests;
 
 use crate::node::node_of;
 use crate::plan::entered;

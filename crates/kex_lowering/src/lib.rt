@@ -10,8 +10,6 @@ ghost use Rattle.kex_lowering.specs.Stages.{Carries, HasPlaces, IsKeptOf, IsWhy}
 
 pub mod laws;
 pub mod refusal;
-#[cfg(test)]
-mod tests;
 
 use crate::refusal::StageRefusal;
 use kex_desugar::desugar;

@@ -17,6 +17,4 @@ mod run;
 mod settle;
 mod spell;
 mod tell;
-#[cfg(test)]
-mod tests;
 mod walk;

@@ -7,8 +7,6 @@
 mod advance;
 mod forest;
 pub mod laws;
-#[cfg(test)]
-mod tests;
 pub mod tree;
 mod walk;
 pub mod workspace;

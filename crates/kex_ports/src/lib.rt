@@ -13,8 +13,6 @@ mod shelf;
 mod sink;
 mod source;
 mod steps;
-#[cfg(test)]
-mod tests;
 
 pub use fault::Failed;
 pub use gate::{Gate, MeetGate, OpenGate};

@@ -15,8 +15,6 @@ mod reader;
 mod refusal;
 mod stack;
 mod terms;
-#[cfg(test)]
-mod tests;
 mod text;
 mod word;
 

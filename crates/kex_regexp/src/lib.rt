@@ -16,8 +16,6 @@ pub mod laws;
 mod notes;
 mod sets;
 mod steps;
-#[cfg(test)]
-mod tests;
 mod wait;
 
 pub use body::regex;

@@ -11,5 +11,3 @@ pub mod pipe;
 pub mod ring_seat;
 pub mod round;
 mod settling;
-#[cfg(test)]
-mod tests;

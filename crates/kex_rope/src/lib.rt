@@ -4,5 +4,3 @@
 #![tactic(auto)]
 
 pub mod rope;
-#[cfg(test)]
-mod tests;

@@ -12,8 +12,6 @@ mod graph;
 mod names;
 pub mod refusal;
 mod tail;
-#[cfg(test)]
-mod tests;
 mod within;
 
 use crate::components::components;

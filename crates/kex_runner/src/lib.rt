@@ -11,8 +11,6 @@ mod reading;
 mod registers;
 pub mod runner;
 mod spelling;
-#[cfg(test)]
-mod tests;
 mod walking;
 mod ways;
 

@@ -8,6 +8,4 @@ pub mod laws;
 mod lists;
 pub mod parts;
 pub mod table;
-#[cfg(test)]
-mod tests;
 pub mod updates;

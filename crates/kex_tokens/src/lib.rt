@@ -14,8 +14,6 @@ mod runs;
 mod scan;
 mod signs;
 mod slashes;
-#[cfg(test)]
-mod tests;
 pub mod token;
 mod values;
 

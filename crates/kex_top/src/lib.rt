@@ -18,8 +18,6 @@ mod single;
 mod status;
 mod stream;
 mod tally;
-#[cfg(test)]
-mod tests;
 mod trial;
 
 pub use call::kex;

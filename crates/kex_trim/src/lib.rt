@@ -12,8 +12,6 @@ ghost use Rattle.kex_trim.specs.declared.TrimRefusal.TheVariants.{Memory};
 mod alive;
 mod kept;
 mod order;
-#[cfg(test)]
-mod tests;
 
 use crate::alive::alive_nodes;
 use crate::kept::{number, shrink};

@@ -12,8 +12,6 @@ mod notes;
 mod parts;
 mod reading;
 mod refusals;
-#[cfg(test)]
-mod tests;
 mod writing;
 
 pub use asked::{Command, Limits, Lines, Mode, Rings, States, WordsRefusal};

@@ -1,0 +1,61 @@
+//! The other commands, and each kind of status and note.
+use crate::call::row_holds;
+use std::test::Fail;
+
+const BLOCKS: [&str; 3] = ["--block=1", "--block=7", "--block=65536"];
+
+// Where two places are left that part by no symbol, nothing is agreed on; and a begun symbol is none yet.
+const ON_INPUT: &str = r#"
+code p # main := "1" /ac/ | "2" /ab/ # ab # 1'61'62 # 0
+code p # main := /a*/ # aa # 0'610'611 # 0
+code p # main := 1 #  #  # 0
+code p # main := /ab*c/ # abx # '610'62 # 1 rejected: stage 1 at byte 2
+code p # main := ~f | ~f f := /ab/ # a #  # 1 rejected: stage 1 at byte 1 (end)
+code p # start: a >> a a := /x/ # xxx #  # 3 refused: K14 OneStage
+act p # main := "1" /ac/ | "2" /ab/ # 1'61'62 # 2ab # 0
+act p # main := "1" /ac/ | "2" /ab/ # 1'61'63 # 2a # 1 rejected: stage 1 at byte 4
+act p # main := "1" /ac/ | "2" /ab/ # 1'6g # 2 # 1 rejected: stage 1 at byte 3
+act p # main := "1" /ac/ | "2" /ab/ # 1'61 # 2a # 1 rejected: stage 1 at byte 4 (end)
+act p # main := "1" /ac/ | "2" /ab/ # 1'7 # 2 # 1 rejected: stage 1 at byte 3 (end)
+test p # main := /ab*c/ # abbc #  # 0
+test p # main := /ab*c/ # abx #  # 1 rejected: stage 1 at byte 2
+test p # main := /ab*c/ # ab #  # 1 rejected: stage 1 at byte 2 (end)
+trial 0 #  #  # lines 0 in 0 out 0 roll 0$ # 0
+trial 1 #  #  # lines 1 in 9 out 9 roll 393038870$ # 0
+trial 2 #  #  # lines 2 in 18 out 18 roll 1142616778$ # 0
+trial 0 --rings=1 #  #  # lines 0 in 0 out 0 roll 0$ # 0
+trial 1 --rings=2 #  #  # lines 1 in 9 out 9 roll 393038870$ # 0
+trial 2 --rings=1 #  #  # lines 2 in 18 out 18 roll 1142616778$ # 0
+"#;
+
+#[test]
+fn commands_on_an_input(rt: HostRuntime) -> Result<(), Fail> {
+    for row in ON_INPUT.trim().lines() {
+        for block in &BLOCKS {
+            assert!(&rt; row_holds(&rt, rt.alloc(), row, block)?, "{block} {row}");
+        }
+    }
+    Ok(())
+}
+
+// Counts, refusals with each kind of place, words out of form, and a name that isn't on the shelf.
+const WITHOUT_INPUT: &str = r#"
+check p # start: a >> b a := (~/x/ "yy")* b := (~/yyy/ "z")* # a # stages 2 places 18 states 4$ # 0
+check p --states 4 # main := /a{3}/ # a # stages 1 places 8 states 4$ # 0
+check p --states 3 # main := /a{3}/ # a #  # 3 refused: K15 TooManyStates in stage 1
+run p --states 3 # main := /a{3}/ # a #  # 3 refused: K15 TooManyStates in stage 1
+run p # main := /a/ main /b/ | 1 # a #  # 3 refused: K10 NotTail at line 1 column 13
+run p # start: a >> b a := /a/ a b := (/b*/)* # a #  # 3 refused: K12 EmptyLoop in stage 2
+check p # start: b >> a a := /a/ a b := /b*/ # a #  # 3 refused: K13 NoText in stage 2
+run p #  # a #  # 3 refused: K09 NoStart
+run # main := /a*/ # a #  # 2 usage: kex run|check|code|act|test PROGRAM [--states N] [--max-input N] [--block N] [--rings N] | kex trial N [--block N] [--rings N]
+run q # main := /a*/ # a #  # 6 shelf fault
+"#;
+
+#[test]
+fn commands_without_an_input(rt: HostRuntime) -> Result<(), Fail> {
+    for row in WITHOUT_INPUT.trim().lines() {
+        assert!(&rt; row_holds(&rt, rt.alloc(), row, "--")?, "{row}");
+    }
+    Ok(())
+}

@@ -1,0 +1,90 @@
+//! Long inputs, blocks and pieces, where memory is ample.
+use crate::call::{Case, Failing, NONE, PLAIN, around, holds};
+use std::test::Fail;
+
+// A piece of more than a mebibyte into a second stage, and a fault of reading behind a block and a part of one.
+#[test]
+fn blocks_and_pieces_are_long(rt: HostRuntime) -> Result<(), Fail> {
+    let alloc = rt.alloc();
+    let few = around(alloc, b"", b"a", 70_000, b"")?;
+    let many = around(alloc, b"", b"yyyyyyyyyyyyyyyyy", 70_000, b"")?;
+    let piece = Case {
+        program: b"start: a >> b a := (~/a/ \"yyyyyyyyyyyyyyyyy\")* b := /y*/",
+        input: &few,
+        held: &many,
+        ..PLAIN
+    };
+    assert!(&rt; holds(&rt, alloc, &piece)?);
+    let fault = Case {
+        input: &few,
+        held: &few,
+        answer: "4 read fault",
+        failing: Failing { read: 3, ..NONE },
+        ..PLAIN
+    };
+    assert!(&rt; holds(&rt, alloc, &fault)?);
+    Ok(())
+}
+
+// What one stage says is written before the next part of a block is given, where there are 65,536 bytes of it. The second write fails.
+#[test]
+fn parts_are_written(rt: HostRuntime) -> Result<(), Fail> {
+    let alloc = rt.alloc();
+    let input = around(alloc, b"", b"a", 20_000, b"")?;
+    let part = around(alloc, b"", b"yyyyyyyyyyyyyyyy", 4_096, b"")?;
+    let fails = Case {
+        input: &input,
+        answer: "5 write fault",
+        failing: Failing { write: 2, ..NONE },
+        ..PLAIN
+    };
+    let run = Case {
+        program: b"main := (~/a/ \"yyyyyyyyyyyyyyyy\")*",
+        held: &part,
+        ..fails
+    };
+    assert!(&rt; holds(&rt, alloc, &run)?);
+    let part = around(alloc, b"", b"0'61", 16_384, b"")?;
+    let code = Case {
+        words: "kex code p",
+        held: &part,
+        ..fails
+    };
+    assert!(&rt; holds(&rt, alloc, &code)?);
+    Ok(())
+}
+
+// Some blocks of lines through two stages and registers.
+#[test]
+fn lines_are_many(rt: HostRuntime) -> Result<(), Fail> {
+    let alloc = rt.alloc();
+    let input = around(alloc, b"", b"ab,12\n", 12_000, b"")?;
+    let held = around(alloc, b"", b"> 12,ab\n", 12_000, b"")?;
+    let case = Case {
+        program: b"start: swap >> mark \
+            swap := (x@/[a-z]*/ ~/,/ y@/[0-9]*/ !y \",\" !x /\\n/)* \
+            mark := (\"> \" /[^\\n]*\\n/)*",
+        input: &input,
+        held: &held,
+        ..PLAIN
+    };
+    assert!(&rt; holds(&rt, alloc, &case)?);
+    Ok(())
+}
+
+// More than rounds of rings with room for one item take, so that the rest is settled.
+#[test]
+fn the_rest_is_settled(rt: HostRuntime) -> Result<(), Fail> {
+    let alloc = rt.alloc();
+    let input = around(alloc, b"", b"xxx", 1_000, b"")?;
+    let held = around(alloc, b"", b"zz", 1_000, b"")?;
+    let case = Case {
+        words: "kex run p --rings 1",
+        program: b"start: a >> b a := (~/x/ \"yy\")* b := (~/yyy/ \"z\")*",
+        input: &input,
+        held: &held,
+        ..PLAIN
+    };
+    assert!(&rt; holds(&rt, alloc, &case)?);
+    Ok(())
+}

@@ -1,0 +1,103 @@
+//! What runs read and write, with blocks of several lengths, and where rings join the stages; on inputs that have a parse and on some that
+//! have none.
+use crate::call::{Case, PLAIN, holds, row_holds};
+use std::test::Fail;
+
+const BLOCKS: [&str; 3] = ["--block=65536", "--block=1", "--block=3"];
+
+const RINGS: [&str; 3] = ["--rings=1", "--rings=2", "--rings=4096"];
+
+// Programs of one stage: terms of each kind, inputs with a parse and then inputs without one.
+const ONE_STAGE: &str = r#"
+run p # main := 1 #  #  # 0
+run p # main := /a*b/ "!" # aab # aab! # 0
+run p # main := ("x" /a/ | "y" /ab/) /b?/ # ab # xab # 0
+run p # main := "1" /.c/ | "2" /.d/ # bd # 2bd # 0
+run p # main := "1" /ac/ | "2" /ab/ # ab # 2ab # 0
+run p # main := /a/ "x" | /a/ "y" # a # ax # 0
+run p # main := /a*/ "x" | /a*/ "y" # aa # aax # 0
+run p # main := ("x" | /a/ "y") // end # a # ay # 0
+run p # main := "<" /[ab]*/ ">" /b*/ # abb # <abb> # 0
+run p # main := "<" /a*/ ">" /b/ # aab # <aa>b # 0
+run p # main := /[b-d]{2}\x2e/ # bd. # bd. # 0
+run p # main := /a/ main | 1 # aaa # aaa # 0
+run p # main := /a/ foo foo := /b/ main | "." # aba # aba. # 0
+run p # main := (a@/[a-z]+/ ~/,/ b@/[0-9]+/ !b "," !a /\n/)* # ab,12$ # 12,ab$ # 0
+run p # main := ~(a@/x/) !a # x # x # 0
+run p # main := "p" r@(/a/ "q" /b/) "s" !r # ab # psaqb # 0
+run p # main := [r <- "a"] [r <- r "-" r] !r #  # a-a # 0
+run p # main := [r <- "a"] (~/x/ [r += r])* !r # xxx # aaaaaaaa # 0
+run p # main := (~/x/ "y"){2,3} # x # y # 1 rejected: stage 1 at byte 1 (end)
+run p # main := (~/x/ "y"){2,3} # xxxx # yyy # 1 rejected: stage 1 at byte 3
+run p # main := "hi" /a/ #  # hi # 1 rejected: stage 1 at byte 0 (end)
+run p # main := /ab*c/ # abx # ab # 1 rejected: stage 1 at byte 2
+run p # main := /ab*c/ # ab # ab # 1 rejected: stage 1 at byte 2 (end)
+run p # main := /a*/ "x" | /a*/ "y" # aab #  # 1 rejected: stage 1 at byte 2
+run p # main := /a/ foo foo := /b/ main | "." # ab # ab # 1 rejected: stage 1 at byte 2 (end)
+run p # main := /a/ dead | /ab/ dead := /x/ dead # ax # a # 1 rejected: stage 1 at byte 1
+run p # main := "p" r@(/a/ "q" /b/) "s" !r # a # p # 1 rejected: stage 1 at byte 1 (end)
+run p --max-input 3 # main := /a*/ # aaa # aaa # 0
+run p --max-input 3 # main := /a*/ # aaaa # aaa # 8 too long: stage 1 at byte 3
+run p --max-input 3 # main := /a*/ # aaaq # aaa # 8 too long: stage 1 at byte 3
+run p --max-input 0 # main := /a*/ #  #  # 0
+run p --max-input 0 # main := /a*/ # a #  # 8 too long: stage 1 at byte 0
+"#;
+
+#[test]
+fn stages_read_and_write(rt: HostRuntime) -> Result<(), Fail> {
+    for row in ONE_STAGE.trim().lines() {
+        for block in &BLOCKS {
+            assert!(&rt; row_holds(&rt, rt.alloc(), row, block)?, "{block} {row}");
+        }
+    }
+    Ok(())
+}
+
+// The input of a second stage breaks off, and what is agreed on is written; the last stage that rejects is told; an input that breaks off
+// isn't ended, even where it has a parse; and each stage has the limit.
+const PIPELINES: &str = r#"
+run p # main := /ab*c/ # abx # ab # 1 rejected: stage 1 at byte 2
+run p # start: a >> b a := (~/x/ "yy")* b := (~/yyy/ "z")* # xxx # zz # 0
+run p # start: a >> b a := (~/x/ "yy")* b := (~/yyy/ "z")* # xx # z # 1 rejected: stage 2 at byte 4 (end)
+run p # start: a >> b a := (~/x/ "yy")* b := (~/yyy/ "z")* # xxq # z # 1 rejected: stage 1 at byte 2
+run p # start: a >> b a := (~/x/ "yy")* b := /y/ # xxq # y # 1 rejected: stage 2 at byte 1
+run p # start: a >> b a := (~/x/ "yy")* b := /y*/ "!" # xxq # yyyy # 1 rejected: stage 1 at byte 2
+run p # start: s >> t s := ~/a/ "b" /* one */ t := /b/ "c" # a # bc # 0
+run p --max-input 3 # start: a >> b a := (~/x/ "yy")* b := /y*/ # xx # yyy # 8 too long: stage 2 at byte 3
+"#;
+
+#[test]
+fn each_stage_reads_what_the_one_before_wrote(rt: HostRuntime) -> Result<(), Fail> {
+    for row in PIPELINES.trim().lines() {
+        for block in &BLOCKS {
+            assert!(&rt; row_holds(&rt, rt.alloc(), row, block)?, "{block} {row}");
+        }
+    }
+    Ok(())
+}
+
+#[test]
+fn rings_change_nothing(rt: HostRuntime) -> Result<(), Fail> {
+    for row in PIPELINES.trim().lines() {
+        for block in &BLOCKS {
+            for room in &RINGS {
+                let options = format!(in rt.alloc(); "{room} {block}")?;
+                let holds = row_holds(&rt, rt.alloc(), row, options.as_str())?;
+                assert!(&rt; holds, "{options} {row}");
+            }
+        }
+    }
+    Ok(())
+}
+
+#[test]
+fn bytes_that_are_no_text(rt: HostRuntime) -> Result<(), Fail> {
+    let case = Case {
+        program: b"main := \"\\x00\\xff\" /[^a]/",
+        input: b"\xfe",
+        held: b"\x00\xff\xfe",
+        ..PLAIN
+    };
+    assert!(&rt; holds(&rt, rt.alloc(), &case)?);
+    Ok(())
+}

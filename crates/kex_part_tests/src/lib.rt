@@ -1,0 +1,44 @@
+//! Tests of the crates below the program, through their public calls.
+//!
+//! They stand in a crate of their own, which has nothing else: a crate with tests is proved twice. Only what no clause says is
+//! tested: that calls answer with ample memory, what a worked example comes to, and what is found, learnt and met.
+//!
+//! A module tests the crate of its name. Its rows are lines of text, so that another row costs no proof.
+#![tactic(auto)]
+
+#[cfg(test)]
+mod code;
+#[cfg(test)]
+mod compile;
+#[cfg(test)]
+mod constants;
+#[cfg(test)]
+mod copier;
+#[cfg(test)]
+mod made;
+#[cfg(test)]
+mod moves;
+#[cfg(test)]
+mod paths;
+#[cfg(test)]
+mod pipe;
+#[cfg(test)]
+mod ports;
+#[cfg(test)]
+mod reader;
+#[cfg(test)]
+mod regexp;
+#[cfg(test)]
+mod rings;
+#[cfg(test)]
+mod rope;
+#[cfg(test)]
+mod rounds;
+#[cfg(test)]
+mod rules;
+#[cfg(test)]
+mod stage;
+#[cfg(test)]
+mod tokens;
+#[cfg(test)]
+mod words;

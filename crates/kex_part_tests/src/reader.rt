@@ -1,0 +1,53 @@
+//! What texts are read as, and why they are refused. Offsets count from 0.
+use kex_reader::{place, read};
+use std::test::Fail;
+
+const TEXTS: &str = r#"
+main := 1 => read
+start: a >> b a := (~x@"k" "yy")* b := ([r <- "a" x] | !r [r += r]){2,3} a // end => read
+start := /[a-z]+(b|c)?/ start | 1 => read
+main := 1 main := 1 => read
+main := "a => bad token at byte 8
+main := /a => bad token at byte 8
+main := "\q" => bad token at byte 8
+main := | 1 => unexpected token at byte 8
+main := => unexpected token at byte 7
+main := 2 => unexpected token at byte 8
+main := /a/** => unexpected token at byte 12
+main := (1 => unexpected token at byte 10
+main := ~ := 1 => unexpected token at byte 10
+other: a => unexpected token at byte 5
+main := [r <- ] => unexpected token at byte 14
+main := 1{,} => unexpected token at byte 11
+main := /a(/ => bad regex at byte 11
+main := /a**/ => bad regex at byte 11
+main := /^a/ => bad regex at byte 9
+main := /a{1001}/ => bad count at byte 10
+main := foo /a{3,2}/ => bad count at byte 14
+main := 1{1001} /[z-a]/ "b"{00007,7} => bad count at byte 9
+main := /[z-a]/ => bad set at byte 9
+main := /[^\x00-\xff]/ => bad set at byte 9
+main := /[z-a]/ /a{3,2}/ /^/ => bad regex at byte 26
+main := /[z-a]/ /a{3,2}/ => bad count at byte 18
+main := "x"{4,3} "y"{1001 => unexpected token at byte 25
+"#;
+
+#[test]
+fn texts_and_their_refusals(rt: HostRuntime) -> Result<(), Fail> {
+    for row in TEXTS.trim().lines() {
+        let (text, want) = row.split_once(" => ").ok_or("no answer")?;
+        let got = match read(rt.alloc(), text.as_bytes()) {
+            Ok(_) => String::from_str(rt.alloc(), "read")?,
+            Err(refusal) => format!(in rt.alloc(); "{refusal}")?,
+        };
+        assert_eq!(rt; got.as_str(), want, "{text}");
+    }
+    Ok(())
+}
+
+#[test]
+fn lines_and_columns(rt: HostRuntime) {
+    for (at, want) in [(0, (1, 1)), (2, (1, 3)), (4, (2, 2)), (7, (4, 1))] {
+        assert!(rt; place(b"ab\ncd\n\ne", at) == want, "{at}");
+    }
+}

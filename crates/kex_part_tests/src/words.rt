@@ -1,0 +1,75 @@
+//! Words and what they ask for. Notes and the lines of `check` and `trial` are seen through the call `kex`.
+use kex_words::read;
+use std::alloc::{AllocError, Global};
+use std::test::Fail;
+
+fn words_of(alloc: Global, line: &str) -> Result<Vec<String>, AllocError> {
+    let mut words = Vec::new(alloc);
+    for word in line.split(' ') {
+        words.push(String::from_str(alloc, word)?)?;
+    }
+    Ok(words)
+}
+
+const LINES: &str = r#"
+kex run p => Stream { mode: Run(States { most: 4096 }), program: "p", limits: Limits { max_input: 281474976710656, block: 65536, rings: None } }
+kex run --block 1 p --max-input 3 => Stream { mode: Run(States { most: 4096 }), program: "p", limits: Limits { max_input: 3, block: 1, rings: None } }
+kex run --block=+1 --max-input=003 -- -p => Stream { mode: Run(States { most: 4096 }), program: "-p", limits: Limits { max_input: 3, block: 1, rings: None } }
+kex run  => Stream { mode: Run(States { most: 4096 }), program: "", limits: Limits { max_input: 281474976710656, block: 65536, rings: None } }
+kex run --rings 4096 p --max-input 3 => Stream { mode: Run(States { most: 4096 }), program: "p", limits: Limits { max_input: 3, block: 65536, rings: Some(Rings { room: 4096 }) } }
+kex code p => Stream { mode: Code, program: "p", limits: Limits { max_input: 281474976710656, block: 65536, rings: None } }
+kex act p --max-input 3 --block 1 => Stream { mode: Act, program: "p", limits: Limits { max_input: 3, block: 1, rings: None } }
+kex test -- run => Stream { mode: Test, program: "run", limits: Limits { max_input: 281474976710656, block: 65536, rings: None } }
+kex check p => Check { program: "p", states: States { most: 4096 } }
+kex trial 2 => Trial(Lines { count: 2, block: 65536, rings: None })
+kex trial 2 --rings 1 => Trial(Lines { count: 2, block: 65536, rings: Some(Rings { room: 1 }) })
+kex => Usage
+kex  => Usage
+kex p => Usage
+kex -- run p => Usage
+kex --block 3 run p => Usage
+kex walk p => Usage
+kex ru p => Usage
+kex code => Usage
+kex trial 1000001 => Usage
+kex help => Usage
+kex -h => Usage
+kex --version => Usage
+kex run p --help => Usage
+kex run => Usage
+kex run p q => Usage
+kex run -- p --block 3 => Usage
+kex run -p => Usage
+kex code p --states 1 => Usage
+kex run p --bloc 3 => Usage
+kex check p --block 1 => Usage
+kex trial 1 --states 1 => Usage
+kex run p --block 2 --block 2 => Usage
+kex run p --block => Usage
+kex run p --block= => Usage
+kex run p --block 0 => Usage
+kex run p --block 1048577 => Usage
+kex run p --max-input -1 => Usage
+kex run p --max-input 281474976710657 => Usage
+kex run p --max-input 18446744073709551616 => Usage
+kex run p --block two => Usage
+kex run p --rings 0 => Usage
+kex run p --rings 1048577 => Usage
+kex trial 1 --rings 0 => Usage
+kex code p --rings 1 => Usage
+"#;
+
+#[test]
+fn words_are_read(rt: HostRuntime) -> Result<(), Fail> {
+    for row in LINES.trim().lines() {
+        let (line, want) = row.split_once(" => ").ok_or("no answer")?;
+        let words = words_of(rt.alloc(), line)?;
+        let got = match read(rt.alloc(), words.as_slice()) {
+            Ok(command) => format!(in rt.alloc(); "{command:?}")?,
+            Err(refusal) => format!(in rt.alloc(); "{refusal:?}")?,
+        };
+        assert_eq!(rt; got.as_str(), want, "at {line}");
+    }
+    assert!(rt; read(rt.alloc(), &[]).is_err());
+    Ok(())
+}
