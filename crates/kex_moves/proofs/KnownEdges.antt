@@ -89,6 +89,10 @@ behind_of P (z ∷ xs) ys (suc i) x h all e = behind_of P xs ys i x (omega arith
 pub at_of : {A : Type 0} (P : A → Type 0) (xs : List A) (i : ℕ) (x : A) → All P xs → slice_get xs i ≡ Some x → P x
 at_of P xs i x all e = subst P (get_or_from_slice_get xs i x x e) (All-get_or P xs i x (slice_get_within xs i x e) all)
 
+-- the class of a byte is within a row
+pub class_within : (k : Known) (b class : ℕ) → IsOrdered k → slice_get k.classes b ≡ Some class → class < k.width
+class_within k b class h is = at_of (λ c. c < k.width) k.classes b class h.classes is
+
 some_front : {A : Type 0} (xs ys : List A) (i : ℕ) (x : A) → slice_get xs i ≡ Some x → slice_get (xs ++ ys) i ≡ Some x
 some_front xs ys i x e = front_of xs ys i (slice_get_within xs i x e) ∙ e
 

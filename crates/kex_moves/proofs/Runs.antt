@@ -1,5 +1,5 @@
 -- A run, byte by byte.
-use Rattle.std.proofs.Common.{◌≡◌, ℕ, zero, suc, ◌+◌, ◌-◌, ◌<◌, ◌≤◌, All, subst, true, false, cond, List, [], ◌∷◌, ◌++◌, Some, None, length, take, drop, set, get_or, refl, ap, ap₂, ◌∙◌, sym, arith, append_assoc, length-take, length-drop}
+use Rattle.std.proofs.Common.{◌≡◌, ℕ, zero, suc, ◌+◌, ◌-◌, ◌<◌, ◌≤◌, All, subst, Bool, true, false, IsTrue, cond, List, [], ◌∷◌, ◌++◌, Some, None, length, take, drop, set, get_or, refl, ap, ap₂, ◌∙◌, sym, arith, append_assoc, length-take, length-drop}
 use Rattle.std.proofs.Math.Seq.{take-add}
 use Rattle.std.proofs.lemmas.List.{drop_more, take_more, append-nil, take_all, drop_at, drop-drop, take-append-le, length-take-le}
 use Rattle.std.proofs.lemmas.Slice.{take-put_mid_below}
@@ -9,9 +9,9 @@ use Rattle.std.specs.Prelude.{slice_get}
 use Rattle.std.proofs.lemmas.Option.{slice_get-get_or, get_or_from_slice_get}
 use Rattle.kex_moves.specs.declared.edge.Edge.{Edge}
 use Rattle.kex_moves.specs.declared.edge.Kind.{Kind}
-use Rattle.kex_moves.specs.declared.edge.Kind.TheVariants.{Keep, Drop}
+use Rattle.kex_moves.specs.declared.edge.Kind.TheVariants.{Keep, Drop, Text, Acts, Opens, Plain, Unknown}
 use Rattle.kex_moves.specs.Edges.{writes, is_written, HasRoom, IsAtRow}
-use Rattle.kex_moves.specs.Runs.{Rows, Step, HasRow, LeadsBack, HasKind, HasRoomBelow, IsWithin, by_edge, step_of, stop_behind, on_step, run_of}
+use Rattle.kex_moves.specs.Runs.{Rows, Step, HasRow, LeadsBack, HasKind, HasRoomBelow, IsWithin, StopsAt, by_edge, step_of, stop_behind, on_step, run_of}
 use Rattle.kex_moves.proofs.KnownEdges.{at_of}
 
 abbrev pub no_edge : Edge
@@ -54,14 +54,14 @@ one (x ∷ xs) b h = refl
 pub room_at : (t : Rows) (r b : ℕ) → HasRow t.classes t.edges r → b < length t.classes → HasRoomBelow (length t.text) t.edges → is_written (edge_at t r b).kind ≡ true → HasRoom (length t.text) (edge_at t r b)
 room_at t r b row h room = All-get_or (λ (e : Edge). is_written e.kind ≡ true → HasRoom (length t.text) e) t.edges (r + get_or t.classes b 0) no_edge (edge_in t r b row h) room
 
+slice_get-drop : (r : ℕ) (es : List Edge) (i : ℕ) → slice_get (drop r es) i ≡ slice_get es (r + i)
+slice_get-drop zero es i = let same : i ≡ 0 + i = omega arith in ap (slice_get es) same
+slice_get-drop (suc r) [] i = refl
+slice_get-drop (suc r) (e ∷ es) i = let same : suc (r + i) ≡ suc r + i = omega arith in slice_get-drop r es i ∙ ap (slice_get (e ∷ es)) same
+
 -- a byte's edge in a row
 in_row : (t : Rows) (r b : ℕ) (k : Kind) → (h : HasKind t.classes (drop r t.edges) k b) → slice_get t.edges (r + h.class) ≡ Some h.edge
 in_row t r b k h = sym (slice_get-drop r t.edges h.class) ∙ h.at
-  where
-    slice_get-drop : (r : ℕ) (es : List Edge) (i : ℕ) → slice_get (drop r es) i ≡ slice_get es (r + i)
-    slice_get-drop zero es i = let same : i ≡ 0 + i = omega arith in ap (slice_get es) same
-    slice_get-drop (suc r) [] i = refl
-    slice_get-drop (suc r) (e ∷ es) i = let same : suc (r + i) ≡ suc r + i = omega arith in slice_get-drop r es i ∙ ap (slice_get (e ∷ es)) same
 
 room_of : (t : Rows) (r b : ℕ) (k : Kind) → HasRoomBelow (length t.text) t.edges → is_written k ≡ true → (h : HasKind t.classes (drop r t.edges) k b) → HasRoom (length t.text) h.edge
 room_of t r b k room w h = at_of (λ (e : Edge). is_written e.kind ≡ true → HasRoom (length t.text) e) t.edges (r + h.class) h.edge room (in_row t r b k h) (ap is_written h.kind ∙ w)
@@ -130,6 +130,42 @@ dropped_from t r at n xs ws back room all =
     ap (λ m. stop_behind xs (run_of t r m)) (sym (drop-drop n at ws))
     ∙ dropped t r xs (drop at ws) n back room (subst (λ l. All (HasKind t.classes l Drop) (take n (drop at ws))) (rest_is r t.edges) (subst (λ l. All (HasKind t.classes (take (length t.edges - r) (drop r t.edges)) Drop) (take n l)) (rest_is at ws) all))
 
+one_of : (P : ℕ → Type 0) (b : ℕ) → P b → All P (b ∷ [])
+one_of P b h zero d l = h
+one_of P b h (suc i) d l = absurd (omega arith)
+
+-- the byte that is next is of the kind of its edge
+pub first_kind : (t : Rows) (r at : ℕ) (k : Kind) (ws : List ℕ) → HasRow t.classes t.edges r → at < length ws → get_or ws at 0 < length t.classes → (edge_at t r (get_or ws at 0)).kind ≡ k → All (HasKind t.classes (take (length t.edges - r) (drop r t.edges)) k) (take 1 (take (length ws - at) (drop at ws)))
+first_kind t r at k ws row lt byte is =
+    let b = get_or ws at 0 in
+    let c = get_or t.classes b 0 in
+    let here : HasKind t.classes (drop r t.edges) k b = record {
+      class = c;
+      edge = edge_at t r b;
+      of = slice_get-get_or t.classes b 0 byte;
+      at = slice_get-drop r t.edges c ∙ slice_get-get_or t.edges (r + c) no_edge (edge_in t r b row byte);
+      kind = is;
+    } in
+    let one : take 1 (take (length ws - at) (drop at ws)) ≡ b ∷ [] = ap (take 1) (rest_is at ws ∙ drop_more ws at 0 lt) in
+    subst (λ l. All (HasKind t.classes l k) (take 1 (take (length ws - at) (drop at ws)))) (sym (rest_is r t.edges)) (subst (λ l. All (HasKind t.classes (drop r t.edges) k) l) (sym one) (one_of (HasKind t.classes (drop r t.edges) k) b here))
+
+-- the edge of the byte that is next
+pub stops_at : (t : Rows) (r at : ℕ) (ws : List ℕ) → HasRow t.classes t.edges r → at < length ws → get_or ws at 0 < length t.classes → StopsAt t.classes t.edges r at ws (edge_at t r (get_or ws at 0))
+stops_at t r at ws row lt byte =
+    let b = get_or ws at 0 in
+    let c = get_or t.classes b 0 in
+    (lt, record { class = c; of = slice_get-get_or t.classes b 0 byte; at = slice_get-get_or t.edges (r + c) no_edge (edge_in t r b row byte) })
+
+-- an edge that neither keeps nor drops nor has a text isn't written
+pub not_written : (k : Kind) (text keep drop : Bool) → (k ≡ Text → IsTrue text) → (k ≡ Keep → IsTrue keep) → (k ≡ Drop → IsTrue drop) → text ≡ false → keep ≡ false → drop ≡ false → is_written k ≡ false
+not_written Keep text keep drop t k d no_text no_keep no_drop = let bad : true ≡ false = sym (k refl) ∙ no_keep in cc
+not_written Drop text keep drop t k d no_text no_keep no_drop = let bad : true ≡ false = sym (d refl) ∙ no_drop in cc
+not_written Text text keep drop t k d no_text no_keep no_drop = let bad : true ≡ false = sym (t refl) ∙ no_text in cc
+not_written Acts text keep drop t k d no_text no_keep no_drop = refl
+not_written Opens text keep drop t k d no_text no_keep no_drop = refl
+not_written Plain text keep drop t k d no_text no_keep no_drop = refl
+not_written Unknown text keep drop t k d no_text no_keep no_drop = refl
+
 -- one byte more of a kind
 pub one_kind : (classes ws : List ℕ) (es : List Edge) (k : Kind) (at : ℕ) → at < length ws → get_or ws at 0 < length classes → All (λ c. c < length es) classes → (get_or es (get_or classes (get_or ws at 0) 0) no_edge).kind ≡ k → All (HasKind classes es k) (take at ws) → All (HasKind classes es k) (take (at + 1) ws)
 one_kind classes ws es k at lt byte row is before =
@@ -143,11 +179,7 @@ one_kind classes ws es k at lt byte row is before =
       at = slice_get-get_or es c no_edge (All-get_or (λ c. c < length es) classes b 0 byte row);
       kind = is;
     } in
-    subst (λ l. All (HasKind classes es k) l) (sym (take_more ws at 0 lt)) (All-append (HasKind classes es k) (take at ws) (b ∷ []) before (one_of b here))
-  where
-    one_of : (b : ℕ) → HasKind classes es k b → All (HasKind classes es k) (b ∷ [])
-    one_of b h zero d l = h
-    one_of b h (suc i) d l = absurd (omega arith)
+    subst (λ l. All (HasKind classes es k) l) (sym (take_more ws at 0 lt)) (All-append (HasKind classes es k) (take at ws) (b ∷ []) before (one_of (HasKind classes es k) b here))
 
 -- an edge that is written leads to a row
 pub row_at : (t : Rows) (r b : ℕ) → HasRow t.classes t.edges r → b < length t.classes → IsWithin t → is_written (edge_at t r b).kind ≡ true → HasRow t.classes t.edges (edge_at t r b).next × LeadsBack t.classes t.edges (edge_at t r b).next

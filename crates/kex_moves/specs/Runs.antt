@@ -1,5 +1,5 @@
 -- What the edges along a piece write, up to the first byte whose edge isn't written.
-use Rattle.std.specs.Prelude.{◌≡◌, ◌<◌, ◌+◌, ℕ, List, [], ◌∷◌, ◌++◌, Option, Some, None, All, true, drop, length, if◌then◌else◌, slice_get, slice_index}
+use Rattle.std.specs.Prelude.{◌≡◌, ◌<◌, ◌+◌, ℕ, List, [], ◌∷◌, ◌++◌, Option, Some, None, All, true, drop, get_or, length, if◌then◌else◌, slice_get, slice_index}
 use Rattle.kex_moves.specs.declared.edge.Edge.{Edge}
 use Rattle.kex_moves.specs.declared.edge.Kind.{Kind}
 use Rattle.kex_moves.specs.Edges.{writes, is_written, HasRoom, IsAtRow}
@@ -61,6 +61,16 @@ pub record HasKind (classes : List ℕ) (edges : List Edge) (k : Kind) (b : ℕ)
   pub of : slice_get classes b ≡ Some class
   pub at : slice_get edges class ≡ Some edge
   pub kind : edge.kind ≡ k
+
+-- the edge of a row at a byte
+pub record IsEdgeAt (classes : List ℕ) (edges : List Edge) (row b : ℕ) (e : Edge) : Type 0 where
+  pub class : ℕ
+  pub of : slice_get classes b ≡ Some class
+  pub at : slice_get edges (row + class) ≡ Some e
+
+-- a byte of the piece is next, and that is its edge
+abbrev pub StopsAt : List ℕ → List Edge → ℕ → ℕ → List ℕ → Edge → Type 0
+StopsAt classes edges row at piece e = (at < length piece) × IsEdgeAt classes edges row (get_or piece at 0) e
 
 -- what edges write lies within so many bytes of text
 abbrev pub HasRoomBelow : ℕ → List Edge → Type 0

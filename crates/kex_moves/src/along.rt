@@ -1,6 +1,6 @@
 // A run along edges with the actor, in which new edges are learnt.
 
-ghost use Rattle.std.specs.Prelude.{◌≡◌, ◌<◌, ◌≤◌, ◌+◌, ◌*◌, ◌-◌, ℕ, List, [], ◌∷◌, false, IsTrue, IfOk, OnOk, length, take, drop};
+ghost use Rattle.std.specs.Prelude.{◌≡◌, ◌<◌, ◌≤◌, ◌+◌, ◌*◌, ◌-◌, ℕ, List, [], ◌∷◌, false, IsTrue, IfOk, IfSome, OnOk, length, take, drop};
 ghost use Rattle.kex_sst.specs.Tables.{Transducer};
 ghost use Rattle.kex_action.specs.Holdings.{Holding, state_of};
 ghost use Rattle.kex_action.specs.Actions.{after_actions};
@@ -8,13 +8,14 @@ ghost use Rattle.kex_action.specs.Actors.{Position};
 ghost use Rattle.kex_action.specs.Sheets.{IsSheet, IsBlank, IsAsLong, with_buffer, state_with};
 ghost use Rattle.kex_moves.specs.declared.edge.Kind.{Kind};
 ghost use Rattle.kex_moves.specs.declared.edges.Pair.{Pair};
-ghost use Rattle.kex_moves.specs.Runs.{run_of};
+ghost use Rattle.kex_moves.specs.Runs.{IsEdgeAt, StopsAt, run_of};
 ghost use Rattle.kex_moves.specs.Known.{rows_of, IsEdge, IsRowOf, HasRowFor, IsKnown, Grows};
 ghost use Rattle.kex_moves.specs.Along.{ReachedOn, Goes, with_sheet, written_with};
 
 use crate::edge::{Edge, Kind};
 use crate::edges::Edges;
 use crate::learn::{learn_edge, row_for};
+use crate::run::Halt;
 use kex_action::action::Action;
 use kex_action::actor::Actor;
 use kex_action::sheet::Sheet;
@@ -72,21 +73,19 @@ fn open(sheet: &mut Sheet, byte: u8) -> Result<(), Memory>
 
 // Goes along edges while they are written, on a sheet.
 #[inline(always)]
-fn along(edges: &Edges, sheet: &mut Sheet, row: usize, piece: &[u8]) -> Place
+fn along(edges: &Edges, sheet: &mut Sheet, row: usize, piece: &[u8]) -> Halt
     requires row { (p : Pair) × IsRowOf edges.now row p }
     requires sheet { IsSheet sheet.old }
     requires room { sheet.old.used + 17 * length piece.now + 17 ≤ length sheet.old.bytes.items }
-    ensures within { result.count ≤ length piece.now }
+    ensures within { result.at ≤ length piece.now }
+    ensures edge { IfSome result.edge (λ e. StopsAt edges.now.classes edges.now.edges result.row result.at piece.now e × IsEdge edges.now e) }
     ensures sheet { IsSheet sheet.new × (length sheet.new.bytes.items ≡ length sheet.old.bytes.items) }
-    ensures room { sheet.new.used + 17 * (length piece.now - result.count) + 17 ≤ length sheet.old.bytes.items }
-    ensures reached { (t : Transducer) (a : Position) (out : List ℕ) → IsKnown t a.machine edges.now → ReachedOn t edges.now edges.now a a sheet.old sheet.new row result.row (take result.count piece.now) out out }
+    ensures room { sheet.new.used + 17 * (length piece.now - result.at) + 17 ≤ length sheet.old.bytes.items }
+    ensures reached { (t : Transducer) (a : Position) (out : List ℕ) → IsKnown t a.machine edges.now → ReachedOn t edges.now edges.now a a sheet.old sheet.new row result.row (take result.at piece.now) out out }
 {
-    let spot = edges.run(row, piece, &mut sheet.bytes, sheet.used);
-    sheet.used = spot.used;
-    Place {
-        count: spot.at,
-        row: spot.row,
-    }
+    let halt = edges.run(row, piece, &mut sheet.bytes, sheet.used);
+    sheet.used = halt.used;
+    halt
 }
 
 // Does the rest of an edge's actions that can't be done on a sheet.
@@ -140,10 +139,11 @@ pub fn act(
     Ok(())
 }
 
-// Takes a byte whose edge opens a buffer or has actions. It stops at another one, and where much stands on the sheet.
+// Takes a byte with its edge, if that opens a buffer or has actions. It stops at another one, and where much stands on the sheet.
 #[inline(always)]
 fn act_at(
     edges: &Edges,
+    edge: Edge,
     row: usize,
     byte: u8,
     actor: &mut Actor,
@@ -153,16 +153,17 @@ fn act_at(
     requires usable { IsTrue actor.old.usable }
     requires known { (t : Transducer) × IsKnown t actor.old.machine edges.now }
     requires row { (p : Pair) × IsRowOf edges.now row p }
+    requires edge { IsEdgeAt edges.now.classes edges.now.edges row byte edge × IsEdge edges.now edge }
     requires sheet { IsSheet sheet.old }
     requires room { sheet.old.used < length sheet.old.bytes.items }
     ensures within { IfOk result (λ s. s.count ≤ 1) }
+    ensures some { IfOk result (λ s. s.stops ≡ false → 0 < s.count) }
     ensures reached { IfOk result (λ s. (t : Transducer) → IsKnown t actor.old.machine edges.now → ReachedOn t edges.now edges.now actor.old actor.new sheet.old sheet.new row s.row (take s.count (byte ∷ [])) out.old.items out.new.items) }
     ensures few { IfOk result (λ s. s.stops ≡ false → sheet.new.used ≤ MOST) }
     ensures sheet { OnOk result (IsSheet sheet.new × IsAsLong sheet.old sheet.new) }
     ensures machine { actor.new.machine ≡ actor.old.machine }
     ensures usable { OnOk result (IsTrue actor.new.usable) }
 {
-    let edge = edges.edge_at(row, edges.class_of(byte));
     match edge.kind {
         Kind::Opens => {
             open(sheet, byte)?;
@@ -204,22 +205,23 @@ fn act_next(
     requires sheet { IsSheet sheet.old }
     requires room { sheet.old.used + 17 * length piece.now + 17 ≤ length sheet.old.bytes.items }
     ensures within { IfOk result (λ s. s.count ≤ length piece.now) }
+    ensures some { IfOk result (λ s. s.stops ≡ false → 0 < s.count) }
     ensures reached { IfOk result (λ s. (t : Transducer) → IsKnown t actor.old.machine edges.now → ReachedOn t edges.now edges.now actor.old actor.new sheet.old sheet.new row s.row (take s.count piece.now) out.old.items out.new.items) }
     ensures few { IfOk result (λ s. s.stops ≡ false → sheet.new.used ≤ MOST) }
     ensures sheet { OnOk result (IsSheet sheet.new × IsAsLong sheet.old sheet.new) }
     ensures machine { actor.new.machine ≡ actor.old.machine }
     ensures usable { OnOk result (IsTrue actor.new.usable) }
 {
-    let place = along(edges, sheet, row, piece);
-    let count = place.count;
-    if count == piece.len() {
+    let gone = along(edges, sheet, row, piece);
+    let count = gone.at;
+    let Some(edge) = gone.edge else {
         return Ok(Stride {
             count,
-            row: place.row,
+            row: gone.row,
             stops: true,
         });
-    }
-    let last = act_at(edges, place.row, piece[count], actor, sheet, out)?;
+    };
+    let last = act_at(edges, edge, gone.row, piece[count], actor, sheet, out)?;
     Ok(Stride {
         count: count + last.count,
         row: last.row,
@@ -258,7 +260,7 @@ fn along_acting(
         let gone = act_next(edges, row, &part[at..], actor, sheet, out)?;
         at += gone.count;
         row = gone.row;
-        left = rounds_left(gone.stops, left);
+        left = bytes_left(gone.stops, part.len() - at);
     }
     Ok(Place { count: at, row })
 }
@@ -387,6 +389,14 @@ fn go_on(
         row: place.row,
         stops,
     })
+}
+
+// How many bytes are left, or none where a stride stops.
+#[inline(always)]
+fn bytes_left(stops: bool, count: usize) -> usize
+    ensures { 0 < result → (stops ≡ false) × (result ≡ count) }
+{
+    if stops { 0 } else { count }
 }
 
 /// How many rounds are left.

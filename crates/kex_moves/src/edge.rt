@@ -48,6 +48,13 @@ impl Kind {
     }
 
     #[inline(always)]
+    pub fn is_text(self) -> bool
+        ensures { IsTrue result ↔ (self ≡ Kind.Text) }
+    {
+        matches!(self, Kind::Text)
+    }
+
+    #[inline(always)]
     pub fn is_keep(self) -> bool
         ensures { IsTrue result ↔ (self ≡ Kind.Keep) }
     {

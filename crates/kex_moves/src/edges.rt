@@ -7,13 +7,13 @@ ghost use Rattle.kex_model.specs.Acting.{State};
 ghost use Rattle.kex_action.specs.Actions.{after_actions};
 ghost use Rattle.kex_action.specs.Sheets.{with_buffer};
 ghost use Rattle.kex_moves.specs.Edges.{is_written, has_acts, IsAtRow};
-ghost use Rattle.kex_moves.specs.Runs.{stop_behind, run_of};
+ghost use Rattle.kex_moves.specs.Runs.{StopsAt, stop_behind, run_of};
 ghost use Rattle.kex_moves.specs.Trails.{IsTrail, IsOver};
 ghost use Rattle.kex_moves.specs.Known.{rows_of, IsEdge, IsOrdered, IsRowOf, HasRowFor, HasPlace, Settles, Widens, Lengthens, Forgets};
 
 use crate::edge::{Edge, Kind};
 use crate::follow::follow;
-use crate::run::{Spot, run};
+use crate::run::{Halt, Spot, run};
 use kex_action::action::Action;
 use kex_code::memory::Memory;
 use kex_script::piece::Piece;
@@ -342,12 +342,13 @@ impl Edges {
 
     /// Goes along edges from a row while they are written, behind what is used of a buffer.
     #[inline(always)]
-    pub fn run(&self, row: usize, piece: &[u8], buffer: &mut [u8], used: usize) -> Spot
+    pub fn run(&self, row: usize, piece: &[u8], buffer: &mut [u8], used: usize) -> Halt
         requires row { (p : Pair) × IsRowOf self.now row p }
         requires room { used + 17 * length piece.now + 17 ≤ length buffer.old }
         ensures at { result.at ≤ length piece.now }
         ensures used { result.used ≤ length buffer.new }
         ensures room { result.used + 17 * (length piece.now - result.at) + 17 ≤ length buffer.new }
+        ensures edge { IfSome result.edge (λ e. StopsAt self.now.classes self.now.edges result.row result.at piece.now e × IsEdge self.now e) }
         ensures ran { record { written = take result.used buffer.new; row = result.row; left = drop result.at piece.now } ≡ stop_behind (take used buffer.old) (run_of (rows_of self.now) row piece.now) }
         ensures ordered { IsOrdered self.now }
     {

@@ -1,8 +1,8 @@
 // The hot loop: functions over slices and numbers by value, so that all that changes is in locals.
 
-ghost use Rattle.std.specs.Prelude.{◌≡◌, ℕ, ◌+◌, ◌*◌, ◌-◌, ◌<◌, ◌≤◌, List, All, length, take, drop};
+ghost use Rattle.std.specs.Prelude.{◌≡◌, ℕ, ◌+◌, ◌*◌, ◌-◌, ◌<◌, ◌≤◌, List, All, IfSome, length, take, drop};
 ghost use Rattle.kex_moves.specs.declared.edge.Kind.{Kind};
-ghost use Rattle.kex_moves.specs.Runs.{HasRow, LeadsBack, HasKind, IsWithin, run_from};
+ghost use Rattle.kex_moves.specs.Runs.{HasRow, LeadsBack, HasKind, IsWithin, StopsAt, run_from};
 
 use crate::edge::Edge;
 use crate::put::put;
@@ -15,16 +15,20 @@ pub struct Spot {
     pub used: usize,
 }
 
-// Copies bytes as long as the edges of a row keep them. Tells how many.
+// Copies bytes as long as the edges of a row keep them, as that of the first does. Tells how many.
 #[inline(always)]
 fn keep(classes: &[u8; 256], edges: &[Edge], piece: &[u8], to: &mut [u8]) -> usize
     requires row { All (λ c. c < length edges.now) classes.now }
+    requires some { 0 < length piece.now }
+    requires first { All (HasKind classes.now edges.now Kind.Keep) (take 1 piece.now) }
     requires room { length piece.now ≤ length to.old }
+    ensures some { 0 < result }
     ensures within { result ≤ length piece.now }
     ensures kept { All (HasKind classes.now edges.now Kind.Keep) (take result piece.now) }
     ensures copied { take result to.new ≡ take result piece.now }
 {
-    let mut count = 0;
+    to[0] = piece[0];
+    let mut count = 1;
     while count < piece.len() {
         let byte = piece[count];
         if !edges[classes[byte as usize] as usize].kind.is_keep() {
@@ -36,14 +40,17 @@ fn keep(classes: &[u8; 256], edges: &[Edge], piece: &[u8], to: &mut [u8]) -> usi
     count
 }
 
-// Passes over bytes as long as the edges of a row drop them. Tells how many.
+// Passes over bytes as long as the edges of a row drop them, as that of the first does. Tells how many.
 #[inline(always)]
 fn skip(classes: &[u8; 256], edges: &[Edge], piece: &[u8]) -> usize
     requires row { All (λ c. c < length edges.now) classes.now }
+    requires some { 0 < length piece.now }
+    requires first { All (HasKind classes.now edges.now Kind.Drop) (take 1 piece.now) }
+    ensures some { 0 < result }
     ensures within { result ≤ length piece.now }
     ensures dropped { All (HasKind classes.now edges.now Kind.Drop) (take result piece.now) }
 {
-    let mut count = 0;
+    let mut count = 1;
     while count < piece.len() {
         let byte = piece[count];
         if !edges[classes[byte as usize] as usize].kind.is_drop() {
@@ -52,6 +59,15 @@ fn skip(classes: &[u8; 256], edges: &[Edge], piece: &[u8]) -> usize
         count += 1;
     }
     count
+}
+
+/// The same where a run has stopped, with the edge of the byte that is next, if there is one.
+#[derive(Clone, Copy)]
+pub struct Halt {
+    pub at: usize,
+    pub row: usize,
+    pub used: usize,
+    pub edge: Option<Edge>,
 }
 
 /// Goes along edges while they are written.
@@ -63,13 +79,14 @@ pub fn run(
     piece: &[u8],
     buffer: &mut [u8],
     from: Spot,
-) -> Spot
+) -> Halt
     requires rows { IsWithin (record { classes = classes.now; edges = edges.now; text = text.now }) }
     requires row { HasRow classes.now edges.now from.row }
     requires back { LeadsBack classes.now edges.now from.row }
     requires at { from.at ≤ length piece.now }
     requires room { from.used + 17 * (length piece.now - from.at) + 17 ≤ length buffer.old }
     ensures at { result.at ≤ length piece.now }
+    ensures edge { IfSome result.edge (StopsAt classes.now edges.now result.row result.at piece.now) }
     ensures row { HasRow classes.now edges.now result.row }
     ensures used { result.used ≤ length buffer.new }
     ensures room { result.used + 17 * (length piece.now - result.at) + 17 ≤ length buffer.new }
@@ -81,20 +98,30 @@ pub fn run(
     while at < piece.len() {
         let byte = piece[at];
         let e = edges[row + classes[byte as usize] as usize];
-        if !e.kind.is_written() {
-            break;
-        }
-        put(buffer, used, byte, text, e);
-        used += e.adds as usize;
-        at += 1;
-        row = e.next;
-        if e.kind.is_keep() {
+        if e.kind.is_text() {
+            put(buffer, used, byte, text, e);
+            used += e.adds as usize;
+            at += 1;
+            row = e.next;
+        } else if e.kind.is_keep() {
             let count = keep(classes, &edges[row..], &piece[at..], &mut buffer[used..]);
             at += count;
             used += count;
         } else if e.kind.is_drop() {
             at += skip(classes, &edges[row..], &piece[at..]);
+        } else {
+            return Halt {
+                at,
+                row,
+                used,
+                edge: Some(e),
+            };
         }
     }
-    Spot { at, row, used }
+    Halt {
+        at,
+        row,
+        used,
+        edge: None,
+    }
 }

@@ -11,25 +11,25 @@ use Rattle.kex_moves.proofs.along.along.Goals as goal
 pub returns-clause-sheet : goal.returns-clause-sheet
 returns-clause-sheet c =
     let old = c.args.sheet.now in
-    let buffer = c.run-spot.new.buffer in
-    let spot = c.run-spot.result in
+    let buffer = c.run-halt.new.buffer in
+    let spot = c.run-halt.result in
     let stop = run_of (rows_of c.args.edges.now) c.args.row c.args.piece.now in
-    let same = with_items_is old.bytes buffer (omega (arith, c.run-spot.auto.buffer, ap length c.deref_mut.ensures.value, old.bytes.ok.0)) in
-    let ran = ap (λ (z : Stop). z.written) c.run-spot.ensures.ran ∙ ap (λ b. (stop_behind (take old.used b) stop).written) c.deref_mut.ensures.value in
-    let more = longer old.used spot.used old.bytes.items buffer stop.written c.requires.sheet.used c.run-spot.ensures.used ran in (
+    let same = with_items_is old.bytes buffer (omega (arith, c.run-halt.auto.buffer, ap length c.deref_mut.ensures.value, old.bytes.ok.0)) in
+    let ran = ap (λ (z : Stop). z.written) c.run-halt.ensures.ran ∙ ap (λ b. (stop_behind (take old.used b) stop).written) c.deref_mut.ensures.value in
+    let more = longer old.used spot.used old.bytes.items buffer stop.written c.requires.sheet.used c.run-halt.ensures.used ran in (
       record {
-        used = subst (λ b. spot.used ≤ length b) (sym same) c.run-spot.ensures.used;
+        used = subst (λ b. spot.used ≤ length b) (sym same) c.run-halt.ensures.used;
         marks = marks_more old.used spot.used (reverse old.marks.items) more c.requires.sheet.marks;
       },
-      ap length same ∙ c.run-spot.auto.buffer ∙ ap length c.deref_mut.ensures.value,
+      ap length same ∙ c.run-halt.auto.buffer ∙ ap length c.deref_mut.ensures.value,
     )
 
 pub returns-clause-reached : goal.returns-clause-reached
 returns-clause-reached c = λ t a out known.
     let old = c.args.sheet.now in
-    let buffer = c.run-spot.new.buffer in
-    let spot = c.run-spot.result in
+    let buffer = c.run-halt.new.buffer in
+    let spot = c.run-halt.result in
     let new : Sheet = record { bytes = with_items old.bytes buffer; used = spot.used; marks = old.marks } in
     let stop = run_of (rows_of c.args.edges.now) c.args.row c.args.piece.now in
-    let same = with_items_is old.bytes buffer (omega (arith, c.run-spot.auto.buffer, ap length c.deref_mut.ensures.value, old.bytes.ok.0)) in
-    reached_run t c.args.edges.now a old new c.args.row spot.row spot.at c.args.piece.now out known (λ i. omega (arith, c.type_inv.piece i)) c.requires.sheet refl (ap (λ b. stop_at (take spot.used b) spot.row (drop spot.at c.args.piece.now)) same ∙ c.run-spot.ensures.ran ∙ ap (λ b. stop_behind (take old.used b) stop) c.deref_mut.ensures.value)
+    let same = with_items_is old.bytes buffer (omega (arith, c.run-halt.auto.buffer, ap length c.deref_mut.ensures.value, old.bytes.ok.0)) in
+    reached_run t c.args.edges.now a old new c.args.row spot.row spot.at c.args.piece.now out known (λ i. omega (arith, c.type_inv.piece i)) c.requires.sheet refl (ap (λ b. stop_at (take spot.used b) spot.row (drop spot.at c.args.piece.now)) same ∙ c.run-halt.ensures.ran ∙ ap (λ b. stop_behind (take old.used b) stop) c.deref_mut.ensures.value)

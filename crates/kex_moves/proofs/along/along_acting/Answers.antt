@@ -1,4 +1,4 @@
-use Rattle.std.proofs.Common.{◌∙◌, ◌-◌, length, take, drop, refl, sym, subst, arith, length-take, length-drop}
+use Rattle.std.proofs.Common.{◌≡◌, ◌∙◌, ◌+◌, ◌-◌, ◌<◌, ℕ, zero, suc, Bool, false, length, take, drop, refl, sym, subst, arith, length-take, length-drop}
 use Rattle.kex_moves.specs.Known.{IsKnown}
 use Rattle.kex_moves.specs.Along.{ReachedOn}
 use Rattle.kex_moves.proofs.EdgeRuns.{part_more}
@@ -12,6 +12,7 @@ rounds-init c = record {
   machine = refl;
   sheet = c.requires.sheet;
   room = c.requires.room;
+  left = λ some. omega arith;
   few = λ some. c.requires.few;
   reached = λ t known. reached_none t c.args.edges.now c.args.edges.now c.args.actor.now c.args.sheet.now c.args.from c.args.out.now.items (same_grows c.args.edges.now);
 }
@@ -30,6 +31,17 @@ act_next-requires-clause-room c =
     let part = c.args.part.now in
     let at = c.rounds.at in
     omega (arith, c.rounds.invariant.few c.rounds-test.true, c.rounds.invariant.room, c.requires.part, length-take (length part - at) (drop at part), length-drop at part)
+
+smaller : (new left n at count : ℕ) (stops : Bool) → (0 < new → (stops ≡ false) × (new ≡ n - (at + count))) → (stops ≡ false → 0 < count) → 0 < left → (0 < left → left ≡ n - at) → new < left
+smaller zero left n at count stops goes takes some is = omega arith
+smaller (suc m) left n at count stops goes takes some is =
+    let g = goes (omega arith) in
+    omega (arith, g.1, takes g.0, is some)
+
+pub rounds-smaller : goal.rounds-smaller
+rounds-smaller c =
+    let e = c.in_ok-gone.ensures {u = tt} in
+    smaller c.bytes_left-left.result c.rounds.left (length c.args.part.now) c.rounds.at c.in_ok-gone.gone.count c.in_ok-gone.gone.stops c.bytes_left-left.ensures e.some c.rounds-test.true c.rounds.invariant.left
 
 pub rounds-preserved : goal.rounds-preserved
 rounds-preserved c =
@@ -52,6 +64,7 @@ rounds-preserved c =
       machine = e.machine ∙ c.rounds.invariant.machine;
       sheet = e.sheet.0;
       room = e.sheet.1 ∙ c.rounds.invariant.room;
-      few = λ some. e.few (c.rounds_left-left.ensures.goes_on some);
+      left = λ some. (c.bytes_left-left.ensures some).1;
+      few = λ some. e.few (c.bytes_left-left.ensures some).0;
       reached = λ t known. subst (λ l. ReachedOn t k k a b old new c.args.from gone.row l x y) (part_more whole part at n gone.count refl e.within) (reached_on t k k k a c.rounds.actor b old c.rounds.sheet new c.args.from c.rounds.row gone.row (take at whole) (take gone.count part) x c.rounds.out.items y (c.rounds.invariant.reached t known) (e.reached t (subst (λ m. IsKnown t m k) (sym c.rounds.invariant.machine) known)));
     }

@@ -1,4 +1,4 @@
-use Rattle.std.proofs.Common.{◌≡◌, ◌<◌, ◌≤◌, IsTrue, length, take}
+use Rattle.std.proofs.Common.{◌≡◌, ◌<◌, ◌≤◌, ◌-◌, IsTrue, length, take}
 use Rattle.kex_sst.specs.Tables.{Transducer}
 use Rattle.kex_action.specs.Sheets.{IsSheet}
 use Rattle.kex_moves.specs.Known.{IsKnown}
@@ -12,6 +12,7 @@ invariant-rounds l = record {
   machine : l.actor.machine ≡ l.fn.actor.machine;
   sheet : IsSheet l.sheet;
   room : length l.sheet.bytes.items ≡ 86033;
+  left : 0 < l.left → l.left ≡ length l.part - l.at;
   few : 0 < l.left → l.sheet.used ≤ 16384;
   reached : (t : Transducer) → IsKnown t l.fn.actor.machine l.edges → ReachedOn t l.edges l.edges l.fn.actor l.actor l.fn.sheet l.sheet l.fn.from l.row (take l.at l.part) l.fn.out.items l.out.items;
 }

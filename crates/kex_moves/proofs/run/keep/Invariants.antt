@@ -1,10 +1,11 @@
-use Rattle.std.proofs.Common.{length, ◌-◌, ◌≡◌, ◌≤◌, All, take}
+use Rattle.std.proofs.Common.{length, ◌-◌, ◌≡◌, ◌<◌, ◌≤◌, All, take}
 use Rattle.kex_moves.specs.declared.edge.Kind.TheVariants.{Keep}
 use Rattle.kex_moves.specs.Runs.{HasKind}
 use Rattle.kex_moves.proofs.run.keep.Given as goal
 
 abbrev pub invariant-loop-count : goal.invariant-loop-count
 invariant-loop-count l = record {
+  some : 0 < l.count;
   within : l.count ≤ length l.piece;
   kept : All (HasKind l.classes l.edges Keep) (take l.count l.piece);
   copied : take l.count l.to ≡ take l.count l.piece;

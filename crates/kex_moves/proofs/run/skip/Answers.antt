@@ -9,6 +9,7 @@ loop-count-preserved c =
     let count = c.loop-count.count in
     let byte : get_or piece count 0 < length c.args.classes.now = omega (arith, c.told-classes, c.type_inv.piece count) in
     record {
+      some = omega (arith, c.loop-count.invariant.some);
       within = omega arith;
       dropped = one_kind c.args.classes.now piece c.args.edges.now Drop count c.loop-count-test.true byte c.requires.row (c.is_drop.ensures.0 c.if-not-is_drop.false) c.loop-count.invariant.dropped;
     }
