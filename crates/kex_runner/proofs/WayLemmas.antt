@@ -19,7 +19,7 @@ use Rattle.kex_runner.specs.declared.ways.Ways.{Ways}
 use Rattle.kex_runner.specs.declared.walking.Place.{Place}
 use Rattle.kex_script.specs.Pieces.{code_over}
 use Rattle.kex_runner.specs.Noting.{ByteUpdate, next_registers, registers_after}
-use Rattle.kex_runner.specs.Ways.{AreOlds, composition, IsWay, IsSplit, IsStart, IsStep, IsStepIf, AreKnown, HasWalked}
+use Rattle.kex_runner.specs.Ways.{AreOlds, composition, split_in, IsWay, IsSplit, IsStart, IsStep, IsStepIf, AreKnown, HasWalked}
 use Rattle.kex_runner.proofs.Notes.{meant_fresh}
 use Rattle.kex_runner.proofs.LookUps.{meant-append, registers_more}
 
@@ -69,7 +69,7 @@ starts_kept : (s : Sheet) (ways ways' : List (List Part)) → Keeps ways ways' �
 starts_kept s ways ways' k xs h = All-weaker (IsStart s ways) (IsStart s ways') (λ x g some. IfSome_then x.split (g some) (λ y h. split_kept s.words ways ways' y (list_at s x.list) k h)) xs h
 
 steps_kept : (s : Sheet) (ways ways' : List (List Part)) → Keeps ways ways' → (xs : List Step) → All (IsStepIf s ways) xs → All (IsStepIf s ways') xs
-steps_kept s ways ways' k xs h = All-weaker (IsStepIf s ways) (IsStepIf s ways') (λ x g some. IfSome_then x.split (g some) (λ y st. step_kept s ways ways' x.from x.lists y k st)) xs h
+steps_kept s ways ways' k xs h = All-weaker (IsStepIf s ways) (IsStepIf s ways') (λ x g. IfSome_then (split_in x) g (λ y st. step_kept s ways ways' x.from x.lists y k st)) xs h
 
 -- more ways, and starts and steps that are so
 pub known_more : (s : Sheet) (w w' : Ways) → Keeps w.lists w'.lists → AreKnown s w → (All (IsStart s w'.lists) w.starts.items → All (IsStart s w'.lists) w'.starts.items) → (All (IsStepIf s w'.lists) w.steps.items → All (IsStepIf s w'.lists) w'.steps.items) → AreKnown s w'
@@ -153,6 +153,11 @@ step_is s words ways ways' number lists o from parts e k h is st = IfSome_then o
   way = way_kept ways ways' number from k h;
   split = subst (λ z. IsSplit s.words ways' x z) is (subst (λ z. IsSplit z ways' x parts) e st);
 })
+
+-- a step that holds it
+pub step_if : (s : Sheet) (ways : List (List Part)) (number lists : ℕ) (o : Option Split) (x : Step) → x.from ≡ number → x.lists ≡ lists → split_in x ≡ o → IfSome o (λ y. IsStep s ways number lists y) → IsStepIf s ways x
+step_if s ways number lists o x from to is h =
+    subst (λ z. IfSome z (λ y. IsStep s ways x.from x.lists y)) (sym is) (subst (λ z. IfSome o (λ y. IsStep s ways x.from z y)) (sym to) (subst (λ z. IfSome o (λ y. IsStep s ways z lists y)) (sym from) h))
 
 -- a list that is a way and a word, the way gone back
 pub read_whole : (s : Sheet) (base : List (List Symbol)) (notes : List ByteUpdate) (ways ways' : List (List Part)) (x : Split) (p : Place) (byte : ℕ) (list way : List Part) (none old new : List Piece) → (st : IsSplit s.words ways x list) → HasWalked s ways' notes st.front p old new

@@ -1,5 +1,5 @@
 -- Ways: old registers one behind the other, and what they were before an update.
-use Rattle.std.specs.Prelude.{◌≡◌, ℕ, ◌+◌, ◌<◌, ◌≤◌, List, [], ◌∷◌, ◌++◌, Option, Some, All, IfSome, get_or, slice_get, length, take}
+use Rattle.std.specs.Prelude.{◌≡◌, ℕ, ◌+◌, ◌<◌, ◌≤◌, List, [], ◌∷◌, ◌++◌, Option, Some, None, All, IfSome, get_or, slice_get, length, take}
 use Rattle.kex_code.specs.declared.symbol.Symbol.{Symbol}
 use Rattle.kex_sst.specs.declared.parts.Part.{Part}
 use Rattle.kex_sst.specs.declared.parts.Part.TheVariants.{Put, Old, Input}
@@ -11,6 +11,8 @@ use Rattle.kex_runner.specs.Noting.{ByteUpdate, registers_after}
 use Rattle.kex_runner.specs.declared.ways.Split.{Split}
 use Rattle.kex_runner.specs.declared.ways.Start.{Start}
 use Rattle.kex_runner.specs.declared.ways.Step.{Step}
+use Rattle.kex_runner.specs.declared.ways.Form.{Form}
+use Rattle.kex_runner.specs.declared.ways.Form.TheVariants.{Said, Mute, Other}
 use Rattle.kex_runner.specs.declared.ways.Ways.{Ways}
 use Rattle.kex_runner.specs.declared.walking.Place.{Place}
 
@@ -49,6 +51,15 @@ pub record IsSplit (words ways : List (List Part)) (x : Split) (list : List Part
 abbrev pub IsStart : Sheet → List (List Part) → Start → Type 0
 IsStart s ways x = 0 < x.list → IfSome x.split (λ y. IsSplit s.words ways y (list_at s x.list))
 
+abbrev pub split_by : Step → Form → Option Split
+split_by x Said = Some (record { way = x.way; last = x.last; word = Some x.word })
+split_by x Mute = Some (record { way = x.way; last = x.last; word = None })
+split_by x Other = None
+
+-- the way and the word of a step, if it has them
+abbrev pub split_in : Step → Option Split
+split_in x = split_by x x.form
+
 -- what a way was before an update
 pub record IsStep (s : Sheet) (ways : List (List Part)) (number lists : ℕ) (x : Split) : Type 0 where
   pub from : List Part
@@ -57,7 +68,7 @@ pub record IsStep (s : Sheet) (ways : List (List Part)) (number lists : ℕ) (x 
 
 -- the same, if it is said
 abbrev pub IsStepIf : Sheet → List (List Part) → Step → Type 0
-IsStepIf s ways x = 0 < x.from → IfSome x.split (λ y. IsStep s ways x.from x.lists y)
+IsStepIf s ways x = IfSome (split_in x) (λ y. IsStep s ways x.from x.lists y)
 
 -- this is kept of a list, where it has a place
 abbrev pub HasStart : List Start → ℕ → Option Split → Type 0
@@ -65,7 +76,7 @@ HasStart starts list x = list < length starts → slice_get starts list ≡ Some
 
 -- this is kept of a way with that last register before an update, where it has a place
 abbrev pub HasStep : List Step → ℕ → ℕ → ℕ → Option Split → Type 0
-HasStep steps way last lists x = lists + last < length steps → slice_get steps (lists + last) ≡ Some (record { from = way; lists = lists; split = x })
+HasStep steps way last lists x = lists + last < length steps → (step : Step) × (slice_get steps (lists + last) ≡ Some step) × (step.from ≡ way) × (step.lists ≡ lists) × (split_in step ≡ x)
 
 -- what is known of ways is so, over a script
 pub record AreKnown (s : Sheet) (w : Ways) : Type 0 where

@@ -41,7 +41,8 @@ fn say(word: Option<u16>, byte: u8, room: &mut [Piece], start: usize) -> usize
         Some(word) => {
             let first = start - 1;
             let word = u32::from(word);
-            room[first] = Piece { word, byte };
+            room[first].word = word;
+            room[first].byte = byte;
             first
         }
     }
@@ -58,7 +59,7 @@ fn walk_known(steps: &[Step], notes: &[Note], first: Place, room: &mut [Piece]) 
     ensures walked { (s : Sheet) (ways : List (List Part)) (way : List Part) (x : List Piece) → All (IsStepIf s ways) steps.now → HasWalked s ways (updates_of s notes.now) way first x (drop first.start room.old) → HasWalked s ways (updates_of s notes.now) way result x (drop result.start room.new) }
 {
     let mut place = first;
-    'notes: while place.after > 0 && place.way != 0 {
+    'notes: while place.after > 0 {
         let note = notes[place.after - 1];
         let Some(split) = known_step(steps, place.way, place.last, note.lists) else {
             return place;

@@ -5,7 +5,7 @@ ghost use Rattle.kex_sst.specs.declared.parts.Part.{Part};
 ghost use Rattle.kex_sst.specs.Parts.{olds};
 ghost use Rattle.kex_script.specs.Pages.{Keeps};
 ghost use Rattle.kex_script.specs.Scripts.{IsWord, Sheet, change_at, list_at};
-ghost use Rattle.kex_runner.specs.Ways.{AreKnown, AreOlds, HasStart, HasStep, IsSplit, IsStart, IsStep, IsStepIf, IsWay, composition};
+ghost use Rattle.kex_runner.specs.Ways.{AreKnown, AreOlds, HasStart, HasStep, IsSplit, IsStart, IsStep, IsStepIf, IsWay, composition, split_in};
 
 use kex_code::memory::Memory;
 use kex_script::interned::Interned;
@@ -34,12 +34,24 @@ pub struct Start {
     pub split: Option<Split>,
 }
 
-/// What a way was before an update, if that is a way and a word. Way 0 is none.
+/// What parts are: a way and a word, a way alone, or something else.
+#[derive(Clone, Copy, Debug, PartialEq, Eq)]
+pub enum Form {
+    Said,
+    Mute,
+    Other,
+}
+
+/// What a way was before an update: its form, and the way and the word, as far as the form has them. Plain numbers, since one is read for
+/// each note.
 #[derive(Clone, Copy, Debug, PartialEq, Eq)]
 pub struct Step {
     pub lists: u32,
     pub from: u16,
-    pub split: Option<Split>,
+    pub way: u16,
+    pub last: u16,
+    pub word: u16,
+    pub form: Form,
 }
 
 /// Ways by number, of which the first is empty, and what is known of them. Nothing rests on what is known: it may be let go at any time.
@@ -187,12 +199,65 @@ fn place_of(last: u16, lists: u32) -> usize
     lists as usize + usize::from(last)
 }
 
+impl Step {
+    ghost use Rattle.std.specs.Prelude.{◌≡◌};
+    ghost use Rattle.kex_runner.specs.Ways.{split_in};
+
+    // What a way was before an update.
+    fn new(from: u16, lists: u32, split: Option<Split>) -> Step
+        ensures { (result.from ≡ from) × (result.lists ≡ lists) × (split_in result ≡ split) }
+    {
+        let (split, word, form) = match split {
+            None => (
+                Split {
+                    way: 0,
+                    last: 0,
+                    word: None,
+                },
+                0,
+                Form::Other,
+            ),
+            Some(split) => match split.word {
+                None => (split, 0, Form::Mute),
+                Some(word) => (split, word, Form::Said),
+            },
+        };
+        Step {
+            lists,
+            from,
+            way: split.way,
+            last: split.last,
+            word,
+            form,
+        }
+    }
+
+    // The same as a way and a word, if it is that.
+    #[inline(always)]
+    fn split(self) -> Option<Split>
+        ensures { result ≡ split_in self }
+    {
+        match self.form {
+            Form::Other => None,
+            Form::Mute => Some(Split {
+                way: self.way,
+                last: self.last,
+                word: None,
+            }),
+            Form::Said => Some(Split {
+                way: self.way,
+                last: self.last,
+                word: Some(self.word),
+            }),
+        }
+    }
+}
+
 // The step of a way before an update, if it is kept.
 #[inline(always)]
 fn kept(steps: &[Step], way: u16, last: u16, lists: u32) -> Option<Step>
-    requires { 0 < way }
-    ensures step { IfSome result (λ x. (s : Sheet) (ways : List (List Part)) → All (IsStepIf s ways) steps.now → IfSome x.split (λ y. IsStep s ways way lists y)) }
-    ensures kept { IfSome result (λ x. HasStep steps.now way last lists x.split) }
+    ensures step { IfSome result (λ x. (s : Sheet) (ways : List (List Part)) → All (IsStepIf s ways) steps.now → IfSome (split_in x) (λ y. IsStep s ways way lists y)) }
+    ensures kept { IfSome result (λ x. HasStep steps.now way last lists (split_in x)) }
 {
     let step = *steps.get(place_of(last, lists))?;
     if step.from == way && step.lists == lists {
@@ -205,10 +270,9 @@ fn kept(steps: &[Step], way: u16, last: u16, lists: u32) -> Option<Step>
 /// What a way was before an update, as a way and a word, if that is known.
 #[inline(always)]
 pub fn known_step(steps: &[Step], way: u16, last: u16, lists: u32) -> Option<Split>
-    requires { 0 < way }
     ensures { IfSome result (λ x. (s : Sheet) (ways : List (List Part)) → All (IsStepIf s ways) steps.now → IsStep s ways way lists x) }
 {
-    kept(steps, way, last, lists)?.split
+    kept(steps, way, last, lists)?.split()
 }
 
 impl Ways {
@@ -223,11 +287,7 @@ impl Ways {
             list: 0,
             split: None,
         };
-        let step = Step {
-            from: 0,
-            lists: 0,
-            split: None,
-        };
+        let step = Step::new(0, 0, None);
         let far = script.rows() > NEAR;
         Ok(Ways {
             lists,
@@ -326,11 +386,7 @@ impl Ways {
         let split = split_of(script.words(), &mut self.lists, &self.parts)?;
         let place = place_of(last, lists);
         if place < self.steps.len() {
-            self.steps[place] = Step {
-                from: way,
-                lists,
-                split,
-            };
+            self.steps[place] = Step::new(way, lists, split);
         }
         Ok(split)
     }
@@ -352,7 +408,7 @@ impl Ways {
         ensures learnt { IfOk result (λ o. HasStep self.new.steps.items way last lists o) }
     {
         match kept(&self.steps, way, last, lists) {
-            Some(step) => Ok(step.split),
+            Some(step) => Ok(step.split()),
             None => self.learn_step(script, way, last, lists),
         }
     }

@@ -3,9 +3,8 @@ use Rattle.std.specs.Prelude.{IfSome}
 use Rattle.std.proofs.lemmas.List.Elements.{All-set}
 use Rattle.std.proofs.lemmas.Option.{get_or_from_slice_get}
 use Rattle.kex_script.specs.Scripts.{change_at}
-use Rattle.kex_runner.specs.declared.ways.Step.{Step}
 use Rattle.kex_runner.specs.Ways.{IsStep, IsStepIf, composition}
-use Rattle.kex_runner.proofs.WayLemmas.{known_more, step_is}
+use Rattle.kex_runner.proofs.WayLemmas.{known_more, step_if, step_is}
 use Rattle.kex_runner.proofs.ways.Ways.learn_step.Goals as goal
 use Rattle.kex_runner.proofs.ways.Ways.learn_step.Goals.{In_ok-split}
 
@@ -24,8 +23,8 @@ pub returns-then-place-len-clause-known : goal.returns-then-place-len-clause-kno
 returns-then-place-len-clause-known c =
     let s = c.args.script.now in
     let ways = c.split_of.new.ways in
-    let new : Step = record { from = c.args.way; lists = c.args.lists; split = c.in_ok-split.split } in
-    known_more s c.args.self.now _ c.in_ok-split.ensures.kept c.requires.known (λ h. h) (λ h. All-set (IsStepIf s ways) c.args.self.now.steps.items c.place_of-place.result new (λ some. found (goal.at.returns-then-place-len-clause-known c).In_ok-split) h)
+    let made = c.new.ensures in
+    known_more s c.args.self.now _ c.in_ok-split.ensures.kept c.requires.known (λ h. h) (λ h. All-set (IsStepIf s ways) c.args.self.now.steps.items c.place_of-place.result c.new.result (step_if s ways c.args.way c.args.lists c.in_ok-split.split c.new.result made.0 made.1 made.2 (found (goal.at.returns-then-place-len-clause-known c).In_ok-split)) h)
 
 pub returns-then-place-len-clause-step : goal.returns-then-place-len-clause-step
 returns-then-place-len-clause-step c = found (goal.at.returns-then-place-len-clause-step c).In_ok-split
