@@ -35,15 +35,18 @@ pub(crate) struct Case<'a> {
     pub failing: Failing,
 }
 
-pub(crate) const PLAIN: Case<'static> = Case {
-    words: "kex run p",
-    program: b"main := /a*/",
-    input: b"",
-    held: b"",
-    answer: "0",
-    most: 2_000_000,
-    failing: NONE,
-};
+/// A run of a program on no input, for as long as the case that differs from it lives.
+pub(crate) fn plain<'a>() -> Case<'a> {
+    Case {
+        words: "kex run p",
+        program: b"main := /a*/",
+        input: b"",
+        held: b"",
+        answer: "0",
+        most: 2_000_000,
+        failing: NONE,
+    }
+}
 
 pub(crate) fn words_of(alloc: Global, line: &str) -> Result<Vec<String>, AllocError> {
     let mut words = Vec::new(alloc);
@@ -112,7 +115,7 @@ pub(crate) fn row_holds<R: Threads + Sync>(
         input: input.as_slice(),
         held: held.as_slice(),
         answer: parts.next().ok_or("no answer")?,
-        ..PLAIN
+        ..plain()
     };
     holds(rt, alloc, &case)
 }

@@ -1,6 +1,6 @@
 //! Ports of which a call fails: each read and each write of a run in turn, up to one past the last. A read gives a byte, and a write takes
 //! one.
-use crate::call::{Case, Failing, NONE, PLAIN, holds};
+use crate::call::{Case, Failing, NONE, holds, plain};
 use std::alloc::Global;
 use std::test::Fail;
 use std::thread::Threads;
@@ -25,14 +25,14 @@ test # main := /ab*c/ # ac # ,,, #  # 0
 fn each_holds<R: Threads + Sync>(
     rt: &R,
     alloc: Global,
-    plain: Case<'_>,
+    usual: Case<'_>,
     texts: &str,
     reads: bool,
 ) -> Result<bool, Fail> {
     let last = texts.split(',').count() as u64;
-    let mut call = 0;
+    let mut call = 0_u64;
     for held in texts.split(',') {
-        call += 1;
+        call = call.saturating_add(1);
         let failing = if reads {
             Failing { read: call, ..NONE }
         } else {
@@ -42,7 +42,7 @@ fn each_holds<R: Threads + Sync>(
             }
         };
         let answer = match (call < last, reads) {
-            (false, _) => plain.answer,
+            (false, _) => usual.answer,
             (true, true) => "4 read fault",
             (true, false) => "5 write fault",
         };
@@ -50,7 +50,7 @@ fn each_holds<R: Threads + Sync>(
             held: held.as_bytes(),
             answer,
             failing,
-            ..plain
+            ..usual
         };
         if !holds(rt, alloc, &case)? {
             return Ok(false);
@@ -72,17 +72,17 @@ fn row_holds<R: Threads + Sync>(
     let input = parts.next().ok_or("no input")?;
     let by_read = parts.next().ok_or("no reads")?;
     let by_write = parts.next().ok_or("no writes")?;
-    let plain = Case {
+    let usual = Case {
         words: words.as_str(),
         program: program.as_bytes(),
         input: input.as_bytes(),
         answer: parts.next().ok_or("no answer")?,
         most: 1,
-        ..PLAIN
+        ..plain()
     };
     Ok(
-        each_holds(rt, alloc, plain, by_read, true)?
-            && each_holds(rt, alloc, plain, by_write, false)?,
+        each_holds(rt, alloc, usual, by_read, true)?
+            && each_holds(rt, alloc, usual, by_write, false)?,
     )
 }
 
@@ -109,7 +109,7 @@ fn other_calls_fail(rt: HostRuntime) -> Result<(), Fail> {
             write: 4,
             ..NONE
         },
-        ..PLAIN
+        ..plain()
     };
     assert!(&rt; holds(&rt, rt.alloc(), &both)?);
     let untold = Case {
@@ -118,7 +118,7 @@ fn other_calls_fail(rt: HostRuntime) -> Result<(), Fail> {
         held: b"ab",
         answer: "1",
         failing: Failing { note: 1, ..NONE },
-        ..PLAIN
+        ..plain()
     };
     assert!(&rt; holds(&rt, rt.alloc(), &untold)?);
     Ok(())
@@ -129,9 +129,9 @@ fn other_calls_fail(rt: HostRuntime) -> Result<(), Fail> {
 fn each_write_of_a_check_fails(rt: HostRuntime) -> Result<(), Fail> {
     let alloc = rt.alloc();
     let mut held = Vec::new(alloc);
-    let mut call = 0;
+    let mut call = 0_u64;
     for part in ["stages ", "1", " places ", "3", " states ", "1", "\n", ""] {
-        call += 1;
+        call = call.saturating_add(1);
         let case = Case {
             words: "kex check p",
             held: held.as_slice(),
@@ -141,7 +141,7 @@ fn each_write_of_a_check_fails(rt: HostRuntime) -> Result<(), Fail> {
                 write: call,
                 ..NONE
             },
-            ..PLAIN
+            ..plain()
         };
         assert!(&rt; holds(&rt, alloc, &case)?, "write {call}");
         held.extend_from_slice(part.as_bytes())?;
@@ -163,7 +163,7 @@ fn the_shelf_fails(rt: HostRuntime) -> Result<(), Fail> {
             input: b"aaa",
             answer: "6 shelf fault",
             failing: Failing { take: 1, ..NONE },
-            ..PLAIN
+            ..plain()
         };
         assert!(&rt; holds(&rt, rt.alloc(), &case)?, "{words}");
     }

@@ -1,5 +1,5 @@
 //! Gates that see stages work at once, and count how often one works.
-use crate::call::{PLAIN, words_of};
+use crate::call::{plain, words_of};
 use kex_ports::{Gate, MeetGate, MemShelf, MemSink, MemSource, NeverFailsSink};
 use kex_top::{Status, kex};
 use std::alloc::Global;
@@ -84,7 +84,7 @@ fn a_stage_works_as_often_as_its_ring_wants(rt: HostRuntime) -> Result<(), Fail>
         let gate = CountGate {
             entries: AtomicU32::new(0),
         };
-        let (status, _) = call(&rt, rt.alloc(), words, PLAIN.program, bytes, &gate)?;
+        let (status, _) = call(&rt, rt.alloc(), words, plain().program, bytes, &gate)?;
         assert!(&rt; status == Status::Done, "{words} {bytes}");
         let counted = gate.entries.load(Ordering::SeqCst);
         assert!(&rt; counted == count, "{words} {bytes}: {counted}");

@@ -1,5 +1,5 @@
 //! Long inputs, blocks and pieces, where memory is ample.
-use crate::call::{Case, Failing, NONE, PLAIN, around, holds};
+use crate::call::{Case, Failing, NONE, around, holds, plain};
 use std::test::Fail;
 
 // A piece of more than a mebibyte into a second stage, and a fault of reading behind a block and a part of one.
@@ -12,7 +12,7 @@ fn blocks_and_pieces_are_long(rt: HostRuntime) -> Result<(), Fail> {
         program: b"start: a >> b a := (~/a/ \"yyyyyyyyyyyyyyyyy\")* b := /y*/",
         input: &few,
         held: &many,
-        ..PLAIN
+        ..plain()
     };
     assert!(&rt; holds(&rt, alloc, &piece)?);
     let fault = Case {
@@ -20,7 +20,7 @@ fn blocks_and_pieces_are_long(rt: HostRuntime) -> Result<(), Fail> {
         held: &few,
         answer: "4 read fault",
         failing: Failing { read: 3, ..NONE },
-        ..PLAIN
+        ..plain()
     };
     assert!(&rt; holds(&rt, alloc, &fault)?);
     Ok(())
@@ -36,7 +36,7 @@ fn parts_are_written(rt: HostRuntime) -> Result<(), Fail> {
         input: &input,
         answer: "5 write fault",
         failing: Failing { write: 2, ..NONE },
-        ..PLAIN
+        ..plain()
     };
     let run = Case {
         program: b"main := (~/a/ \"yyyyyyyyyyyyyyyy\")*",
@@ -66,7 +66,7 @@ fn lines_are_many(rt: HostRuntime) -> Result<(), Fail> {
             mark := (\"> \" /[^\\n]*\\n/)*",
         input: &input,
         held: &held,
-        ..PLAIN
+        ..plain()
     };
     assert!(&rt; holds(&rt, alloc, &case)?);
     Ok(())
@@ -83,7 +83,7 @@ fn the_rest_is_settled(rt: HostRuntime) -> Result<(), Fail> {
         program: b"start: a >> b a := (~/x/ \"yy\")* b := (~/yyy/ \"z\")*",
         input: &input,
         held: &held,
-        ..PLAIN
+        ..plain()
     };
     assert!(&rt; holds(&rt, alloc, &case)?);
     Ok(())

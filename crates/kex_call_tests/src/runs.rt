@@ -1,6 +1,6 @@
 //! What runs read and write, with blocks of several lengths, and where rings join the stages; on inputs that have a parse and on some that
 //! have none.
-use crate::call::{Case, PLAIN, holds, row_holds};
+use crate::call::{Case, holds, plain, row_holds};
 use std::test::Fail;
 
 const BLOCKS: [&str; 3] = ["--block=65536", "--block=1", "--block=3"];
@@ -96,7 +96,7 @@ fn bytes_that_are_no_text(rt: HostRuntime) -> Result<(), Fail> {
         program: b"main := \"\\x00\\xff\" /[^a]/",
         input: b"\xfe",
         held: b"\x00\xff\xfe",
-        ..PLAIN
+        ..plain()
     };
     assert!(&rt; holds(&rt, rt.alloc(), &case)?);
     Ok(())

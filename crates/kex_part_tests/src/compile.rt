@@ -5,9 +5,13 @@ use kex_compile::limits::Limits;
 use std::alloc::{AllocError, Global};
 use std::test::Fail;
 
-// How many stages, places and states there are, or why there are none. Offsets count from 0.
+// How many stages, places and states there are, or why there are none, where no more than 65,536 states are allowed. Offsets count from 0.
 fn answer(alloc: Global, text: &str, limits: &Limits) -> Result<String, AllocError> {
-    match compile(alloc, text.as_bytes(), limits) {
+    let limits = Limits {
+        states: limits.states.min(65_536),
+        ..*limits
+    };
+    match compile(alloc, text.as_bytes(), &limits) {
         Ok(made) => {
             let (stages, places, states) = (made.stages().len(), made.places(), made.states());
             format!(in alloc; "{stages} {places} {states}")

@@ -3,6 +3,7 @@ use crate::made::ANY;
 use kex_compile::compile;
 use kex_constants::clear_table;
 use kex_sst::table::Table;
+use kex_stage::plan::Plan;
 use std::alloc::{AllocError, Global};
 use std::test::Fail;
 
@@ -27,19 +28,26 @@ const TABLES: &str = r#"
 16 main := "1" /a*b/ | "2" /a*c/ => has 6 0, then 2 0
 "#;
 
+// How many registers the states of a program's table have, before and after.
+fn cleared(alloc: Global, text: &str, longest: usize) -> Result<String, Fail> {
+    let compiled = compile(alloc, text.as_bytes(), &ANY)?;
+    let table = compiled
+        .stages()
+        .first()
+        .and_then(Plan::table)
+        .ok_or("no table")?;
+    let before = registers(alloc, table)?;
+    let after = registers(alloc, &clear_table(alloc, table, longest)?)?;
+    let counts = format!(in alloc; "has{before}, then{after}")?;
+    Ok(counts)
+}
+
 #[test]
 fn registers_go_where_constants_are_short_enough(rt: HostRuntime) -> Result<(), Fail> {
-    let alloc = rt.alloc();
     for row in TABLES.trim().lines() {
         let (longest, rest) = row.split_once(' ').ok_or("no number")?;
         let (text, want) = rest.split_once(" => ").ok_or("no registers")?;
-        let compiled = compile(alloc, text.as_bytes(), &ANY)?;
-        let plan = compiled.stages().first().ok_or("no plan")?;
-        let table = plan.table().ok_or("no table")?;
-        let cleared = clear_table(alloc, table, longest.parse::<u16>()? as usize)?;
-        let before = registers(alloc, table)?;
-        let after = registers(alloc, &cleared)?;
-        let got = format!(in alloc; "has{before}, then{after}")?;
+        let got = cleared(rt.alloc(), text, usize::from(longest.parse::<u16>()?))?;
         assert_eq!(rt; got.as_str(), want, "{text}");
     }
     Ok(())

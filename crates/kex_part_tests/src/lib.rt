@@ -37,8 +37,6 @@ mod rounds;
 #[cfg(test)]
 mod rules;
 #[cfg(test)]
-mod stage;
-#[cfg(test)]
 mod tokens;
 #[cfg(test)]
 mod words;

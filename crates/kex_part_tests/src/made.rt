@@ -6,6 +6,3 @@ pub(crate) const ANY: Limits = Limits {
     one_stage: false,
     tables: true,
 };
-
-/// The most bytes that a stage takes.
-pub(crate) const MOST: u64 = 1_000_000;

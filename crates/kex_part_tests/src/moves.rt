@@ -9,21 +9,32 @@ use kex_moves::moves::Moves;
 use kex_moves::phrases::Phrases;
 use kex_script::piece::Piece;
 use kex_sst::parts::{Part, Parts};
+use kex_sst::table::Table;
 use kex_tokens::number_value;
 use std::alloc::Global;
 use std::test::Fail;
 
-// How many bytes one run takes, and what it writes.
-fn run(alloc: Global, text: &str, piece: &[u8]) -> Result<(usize, Vec<u8>), Fail> {
-    let compiled = compile(alloc, text.as_bytes(), &ANY)?;
-    let plan = compiled.stages().first().ok_or("no stage")?;
-    let table = clear_table(alloc, plan.table().ok_or("no table")?, LONGEST)?;
-    let mut moves = Moves::new(alloc, &table, plan.machine())?;
-    let mut actor = Actor::new(alloc, plan.machine())?;
+// How many bytes one run takes along a table, and what it writes.
+fn run_along<'p>(
+    alloc: Global,
+    table: &'p Table,
+    machine: &'p Trimmed,
+    piece: &[u8],
+) -> Result<(usize, Vec<u8>), Fail> {
+    let mut moves = Moves::new(alloc, table, machine)?;
+    let mut actor = Actor::new(alloc, machine)?;
     let mut out = Vec::new(alloc);
     actor.take(&[], &mut out)?;
     let ran = moves.run(0, &mut actor, piece, &mut out)?;
     Ok((ran.count, out))
+}
+
+// The same along the table of a program.
+fn run(alloc: Global, text: &str, piece: &[u8]) -> Result<(usize, Vec<u8>), Fail> {
+    let compiled = compile(alloc, text.as_bytes(), &ANY)?;
+    let plan = compiled.stages().first().ok_or("no stage")?;
+    let table = clear_table(alloc, plan.table().ok_or("no table")?, LONGEST)?;
+    run_along(alloc, &table, plan.machine(), piece)
 }
 
 // Bytes alone and nothing in runs, a text with the byte in it, and registers of the program.
@@ -132,14 +143,8 @@ fn pieces_are_performed_at_all_cuttings(rt: HostRuntime) -> Result<(), Fail> {
     Ok(())
 }
 
-#[test]
-fn a_sheet_that_is_full_is_handed_on(rt: HostRuntime) -> Result<(), Fail> {
-    let alloc = rt.alloc();
-    let compiled = compile(alloc, PROGRAM, &ANY)?;
-    let machine = compiled.stages().first().ok_or("no stage")?.machine();
-    let words = words(alloc)?;
-    let mut phrases = Phrases::new(alloc, &words, machine)?;
-    let mut actor = Actor::new(alloc, machine)?;
+// Many pieces of the first word, and what is written for them.
+fn many_pieces(alloc: Global) -> Result<(Vec<Piece>, Vec<u8>), Fail> {
     let mut all = Vec::new(alloc);
     let mut want = b"(".to_vec(alloc)?;
     for number in 0..20_000_u32 {
@@ -147,8 +152,17 @@ fn a_sheet_that_is_full_is_handed_on(rt: HostRuntime) -> Result<(), Fail> {
         all.push(Piece { word: 0, byte })?;
         want.extend_from_slice(&[b'<', byte, b'>'])?;
     }
-    let mut out = Vec::new(alloc);
-    phrases.say(&mut actor, &all, &mut out)?;
+    Ok((all, want))
+}
+
+#[test]
+fn a_sheet_that_is_full_is_handed_on(rt: HostRuntime) -> Result<(), Fail> {
+    let alloc = rt.alloc();
+    let compiled = compile(alloc, PROGRAM, &ANY)?;
+    let machine = compiled.stages().first().ok_or("no stage")?.machine();
+    let words = words(alloc)?;
+    let (all, want) = many_pieces(alloc)?;
+    let out = performed(alloc, machine, &words, &all, 0)?;
     assert!(rt; out == want);
     Ok(())
 }

@@ -18,7 +18,6 @@ fn has_come(next: Option<(PathTree<'_>, Update)>, shape: &[bool], out: &[Part]) 
 fn trees_go_on_by_classes(rt: HostRuntime) -> Result<(), Fail> {
     let compiled = compile(rt.alloc(), b"main := /(a|b)*a/", &ANY)?;
     let machine = compiled.stages().first().ok_or("no stage")?.machine();
-    let mut workspace = Workspace::new(rt.alloc(), machine)?;
     let (start, _) = PathTree::start(rt.alloc(), machine)?;
     let small: &[bool] = &[true, true, false, false, false];
     let large: &[bool] = &[true, true, true, false, false, false, false];
@@ -29,13 +28,25 @@ fn trees_go_on_by_classes(rt: HostRuntime) -> Result<(), Fail> {
         (0, &[], &[]),
         (1, large, &[]),
         (2, small, &[Part::Old(0), Part::Old(2), Part::Input]),
-        (1, large, &[]),
+        (3, &[], &[]),
     ];
     for (class, shape, out) in rows {
-        let next = start.advance_with(&mut workspace, class)?;
+        let next = start.advance(rt.alloc(), class)?;
         assert!(rt; has_come(next, shape, out), "class {class}");
     }
-    let alone = start.advance(rt.alloc(), 3)?;
-    assert!(rt; has_come(alone, &[], &[]), "class 3");
+    Ok(())
+}
+
+#[test]
+fn a_workspace_is_used_again(rt: HostRuntime) -> Result<(), Fail> {
+    let compiled = compile(rt.alloc(), b"main := /(a|b)*a/", &ANY)?;
+    let machine = compiled.stages().first().ok_or("no stage")?.machine();
+    let mut workspace = Workspace::new(rt.alloc(), machine)?;
+    let (start, _) = PathTree::start(rt.alloc(), machine)?;
+    let large: &[bool] = &[true, true, true, false, false, false, false];
+    let first = start.advance_with(&mut workspace, 1)?;
+    assert!(rt; has_come(first, large, &[]));
+    let again = start.advance_with(&mut workspace, 1)?;
+    assert!(rt; has_come(again, large, &[]));
     Ok(())
 }

@@ -1,24 +1,15 @@
 //! Rounds over rings: stages that work at once, and one that wants memory.
 use crate::copier::{copy, failing};
-use crate::made::{ANY, MOST};
-use kex_compile::compile;
 use kex_pipe::pipe::PipeFault;
 use kex_ports::{MeetGate, OpenGate};
 use kex_rings::pipe::RingPipe;
 use kex_rings::round::ring_round;
-use kex_stage::stage::Stage;
 use std::test::Fail;
 
 #[test]
 fn two_stages_meet(rt: HostRuntime) -> Result<(), Fail> {
     let alloc = rt.alloc();
-    let compiled = compile(alloc, b"main := /[a-z]*/", &ANY)?;
-    let plan = compiled.stages().first().ok_or("no stage")?;
-    let stages = vec![in alloc;
-        Stage::new(alloc, plan, MOST)?,
-        Stage::new(alloc, plan, MOST)?,
-    ]?;
-    let mut pipe = RingPipe::new(alloc, stages, 4)?;
+    let mut pipe = RingPipe::new(alloc, vec![in alloc; copy(), copy()]?, 4)?;
     pipe.give(b"ab")?;
     let gate = MeetGate::default();
     let mut counts = Vec::new(alloc);

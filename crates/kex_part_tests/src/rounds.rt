@@ -1,26 +1,15 @@
 //! Rounds: stages that work at once, and one that wants memory.
 use crate::copier::{copy, failing};
-use crate::made::{ANY, MOST};
-use kex_compile::compile;
 use kex_pipe::pipe::{Pipe, PipeFault};
 use kex_ports::{Gate, MeetGate, OpenGate};
 use kex_rounds::round::round;
-use kex_stage::stage::Stage;
 use std::sync::atomic::{AtomicU32, Ordering};
 use std::test::Fail;
 
 #[test]
 fn any_two_stages_meet(rt: HostRuntime) -> Result<(), Fail> {
     let alloc = rt.alloc();
-    let compiled = compile(alloc, b"main := /[a-z]*/", &ANY)?;
-    let plan = compiled.stages().first().ok_or("no stage")?;
-    let stages = vec![in alloc;
-        Stage::new(alloc, plan, MOST)?,
-        Stage::new(alloc, plan, MOST)?,
-        Stage::new(alloc, plan, MOST)?,
-        Stage::new(alloc, plan, MOST)?,
-    ]?;
-    let mut pipe = Pipe::new(alloc, stages)?;
+    let mut pipe = Pipe::new(alloc, vec![in alloc; copy(), copy(), copy(), copy()]?)?;
     let first = MeetGate::new(1, 2);
     round(&rt, &mut pipe, &first)?;
     let second = MeetGate::new(3, 4);
