@@ -6,8 +6,9 @@ ghost use Rattle.kex_pipe.specs.Copying.{copy_answer, Copies, copied-grows, copi
 use kex_code::memory::Memory;
 use kex_pipe::turn::{Fate, Stop, Turn};
 
+/// Copies what it reads, and wants memory once it has answered so many calls.
 #[derive(Drop)]
-pub(crate) struct Copier {
+pub struct Copier {
     usable: bool,
     calls: u32,
 }
@@ -58,7 +59,7 @@ impl Turn for Copier {
 }
 
 /// Wants memory at the call after so many.
-pub(crate) fn failing(calls: u32) -> Copier
+pub fn failing(calls: u32) -> Copier
     ensures { result.usable ≡ true }
 {
     Copier {
@@ -67,7 +68,8 @@ pub(crate) fn failing(calls: u32) -> Copier
     }
 }
 
-pub(crate) fn copy() -> Copier
+/// Never wants memory by itself.
+pub fn copy() -> Copier
     ensures { result.usable ≡ true }
 {
     failing(u32::MAX)

@@ -1,6 +1,6 @@
 //! Tests of the crates below the program, through their public calls.
 //!
-//! They stand in a crate of their own, which has nothing else: a crate with tests is proved twice. Only what no clause says is
+//! They stand in a crate of their own, which has nothing else but a light stage for them: a crate with tests is proved twice. Only what no clause says is
 //! tested: that calls answer with ample memory, what a worked example comes to, and what is found, learnt and met.
 //!
 //! A module tests the crate of its name. Its rows are lines of text, so that another row costs no proof.
@@ -12,8 +12,7 @@ mod code;
 mod compile;
 #[cfg(test)]
 mod constants;
-#[cfg(test)]
-mod copier;
+pub mod copier;
 #[cfg(test)]
 mod made;
 #[cfg(test)]
