@@ -119,20 +119,3 @@ pub(crate) fn row_holds<R: Threads + Sync>(
     };
     holds(rt, alloc, &case)
 }
-
-/// A front, so many times a middle, and an end.
-pub(crate) fn around(
-    alloc: Global,
-    front: &[u8],
-    middle: &[u8],
-    times: usize,
-    end: &[u8],
-) -> Result<Vec<u8>, AllocError> {
-    let mut text = Vec::new(alloc);
-    text.extend_from_slice(front)?;
-    for _ in 0..times {
-        text.extend_from_slice(middle)?;
-    }
-    text.extend_from_slice(end)?;
-    Ok(text)
-}

@@ -1,5 +1,6 @@
 //! Long inputs, blocks and pieces, where memory is ample.
-use crate::call::{Case, Failing, NONE, around, holds, plain};
+use crate::call::{Case, Failing, NONE, holds, plain};
+use crate::long::around;
 use std::test::Fail;
 
 // A piece of more than a mebibyte into a second stage, and a fault of reading behind a block and a part of one.
