@@ -1,3 +1,4 @@
 pub mod Known
 pub mod Clearing
 pub mod Alike
+pub mod States

@@ -87,8 +87,8 @@ fn is_given(
     }
 }
 
-// Whether an update gives each new register its constant, where the old ones hold theirs.
-fn gives(
+/// Whether an update gives each new register its constant, where the old ones hold theirs.
+pub fn gives(
     update: &Update,
     from: &[Option<Choices>],
     to: &[Option<Choices>],
@@ -164,5 +164,5 @@ pub fn checked(alloc: Global, table: &Table, guess: Constants) -> Result<Constan
     if are_constant(alloc, table, &guess)? {
         return Ok(guess);
     }
-    Constants::new(alloc)
+    Constants::new(alloc, Vec::new(alloc))
 }

@@ -1,6 +1,6 @@
 // Lists of choices.
 
-ghost use Rattle.std.specs.Prelude.{◌≡◌, ◌++◌, ◌∷◌, [], ◌↔◌, IsTrue, OnOk};
+ghost use Rattle.std.specs.Prelude.{◌≡◌, ◌++◌, ◌∷◌, [], ◌↔◌, IsTrue, IfOk, OnOk};
 
 use kex_code::memory::Memory;
 use kex_machine::Bit;
@@ -65,6 +65,15 @@ impl Choices {
         ensures { self.new ≡ [] }
     {
         self.sides.clear();
+    }
+
+    /// The same choices again, with no more room than they take.
+    pub fn copy(&self, alloc: Global) -> Result<Choices, Memory>
+        ensures { IfOk result (λ c. c ≡ self.now) }
+    {
+        let mut sides = Vec::with_capacity(alloc, self.sides.len())?;
+        sides.extend_from_slice(&self.sides)?;
+        Ok(Choices { sides })
     }
 
     /// Whether these are the same choices.

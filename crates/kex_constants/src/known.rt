@@ -1,12 +1,14 @@
 // What registers are known to hold, by state and register.
 
-ghost use Rattle.std.specs.Prelude.{◌≡◌, ◌++◌, ◌∷◌, [], Some, None, IfOk, OnOk, IfSome, IfNone, get_or};
+ghost use Rattle.std.specs.Prelude.{◌≡◌, [], Some, None, IfOk, IfSome, IfNone, get_or, map};
 ghost use Rattle.kex_constants.specs.Known.{AreNumbers, number, one_if_kept};
+ghost use Rattle.kex_constants.specs.States.{constants_of};
 
 use crate::choices::Choices;
 use kex_code::memory::Memory;
 use std::alloc::Global;
 use std::marker::Model;
+use std::rc::Rc;
 
 /// What the registers of a state are known to hold, and which numbers the others have without them.
 #[derive(Drop)]
@@ -90,52 +92,41 @@ fn numbers(alloc: Global, constants: &[Option<Choices>]) -> Result<Vec<usize>, M
     Ok(numbers)
 }
 
-/// What is known of each state's registers.
+/// What is known of each state's registers; of a state without a list nothing is. States may share a list.
 #[derive(Drop)]
 pub struct Constants {
-    states: Vec<Known>,
+    states: Vec<Option<Rc<Known>>>,
     nothing: Known,
 }
 
 impl Model for Constants {
-    ghost use Rattle.std.specs.Prelude.{List, ◌≡◌, []};
+    ghost use Rattle.std.specs.Prelude.{List, ◌≡◌, [], map};
     ghost use Rattle.kex_constants.specs.Known.{Constants};
+    ghost use Rattle.kex_constants.specs.States.{constants_of};
 
     ghost Value = { List Constants };
 
-    ghost view = { λ c. c.states.items };
+    ghost view = { λ c. map constants_of c.states.items };
 
     ghost invariant = { λ c. c.nothing ≡ [] };
 }
 
 impl Constants {
-    /// Nothing is known of any state.
-    pub fn new(alloc: Global) -> Result<Constants, Memory>
-        ensures { IfOk result (λ c. c ≡ []) }
+    /// What is known of each state, by its number.
+    pub fn new(alloc: Global, states: Vec<Option<Rc<Known>>>) -> Result<Constants, Memory>
+        ensures { IfOk result (λ c. c ≡ map constants_of states.items) }
     {
         let nothing = Known::new(alloc, Vec::new(alloc))?;
-        Ok(Constants {
-            states: Vec::new(alloc),
-            nothing,
-        })
-    }
-
-    /// Adds what is known of the next state.
-    pub fn push(&mut self, known: Known) -> Result<(), Memory>
-        ensures { OnOk result (self.new ≡ self.old ++ known ∷ []) }
-    {
-        self.states.push(known)?;
-        Ok(())
+        Ok(Constants { states, nothing })
     }
 
     /// What is known of a state: nothing past the last.
     pub fn known(&self, state: usize) -> &Known
         ensures { result.now ≡ get_or self.now state [] }
     {
-        if state < self.states.len() {
-            &self.states[state]
-        } else {
-            &self.nothing
+        match self.states.get(state) {
+            Some(Some(known)) => known,
+            _ => &self.nothing,
         }
     }
 }

@@ -9,6 +9,7 @@ mod choices;
 mod guess;
 mod known;
 mod rewrite;
+mod shared;
 
 ghost use Rattle.std.specs.Prelude.{IfOk};
 ghost use Rattle.kex_machine.specs.Nodes.{Graph};
