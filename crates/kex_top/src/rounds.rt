@@ -1,5 +1,5 @@
 // A program's stages take what they are given, round by round.
-ghost use Rattle.std.specs.Prelude.{◌≡◌, List, ℕ, IfOk, OnOk, false, take};
+ghost use Rattle.std.specs.Prelude.{◌≡◌, ◌<◌, ◌≤◌, List, ℕ, IfOk, OnOk, false, take};
 ghost use Rattle.kex_model.specs.Schedules.{Event};
 ghost use Rattle.kex_pipe.specs.Standing.{Stands, is_ended, is_in_round};
 ghost use Rattle.kex_top.specs.Fronts.{IsFront};
@@ -12,9 +12,6 @@ use kex_ports::Gate;
 use kex_rounds::round::round;
 use std::thread::Threads;
 
-/// The most bytes that are given at once.
-const PART: usize = 4096;
-
 /// So many bytes of output are worth a write before the block is worked off.
 const ENOUGH: usize = 65_536;
 
@@ -25,6 +22,15 @@ pub(crate) enum Pace {
     Parts,
     /// When a block is worked off.
     Blocks,
+}
+
+// The most bytes that are given at once to so many stages. What a single one says of them is held, so they are few; of several each
+// takes a thread for them, so they are more.
+fn part_for(stages: u32) -> usize
+    ensures some { 0 < result }
+    ensures few { result ≤ 65536 }
+{
+    if stages > 1 { 16_384 } else { 4_096 }
 }
 
 /// Gives bytes in parts, with a round after each: a stage works on one part while the next works on what came of the part before.
@@ -42,9 +48,10 @@ pub(crate) fn give_front<R: Threads + Sync, T: Turn + Drop + Send, G: Gate + Syn
     ensures given { IfOk result (λ count. (ps : List T.Plan) (h : List Event) (taken : List ℕ) → Stands T.Turn ps pipe.old h taken → IsGiven (λ k. Stands T.Turn ps pipe.new k taken) (take count bytes.now) h) }
     ensures closed { is_in_round T.Turn pipe.new ≡ false }
 {
+    let part = part_for(pipe.count());
     let mut given = 0;
     'parts: while given < bytes.len() {
-        let end = bytes.len().min(given + PART);
+        let end = bytes.len().min(given + part);
         let Ok(()) = pipe.give(&bytes[given..end]) else {
             return Err(Memory);
         };
