@@ -116,7 +116,7 @@ fn transition_gives(
         None => Ok(true),
         Some(transition) => {
             let to = constants.known(transition.target as usize);
-            gives(&transition.update, from, to.constants(), spare)
+            gives(transition.update.get(), from, to.constants(), spare)
         }
     }
 }

@@ -99,7 +99,7 @@ impl Guess {
         let known = Rc::clone(known)?;
         for transition in go {
             if let Some(Transition { target, update }) = transition {
-                self.meet(*target as usize, update, known.constants())?;
+                self.meet(*target as usize, update.get(), known.constants())?;
             }
         }
         Ok(())

@@ -79,13 +79,7 @@ fn put_list(
 }
 
 // An update between the registers that are kept.
-fn clear(
-    alloc: Global,
-    update: &Update,
-    from: &Known,
-    to: &Known,
-    updates: &mut Updates,
-) -> Result<Update, Memory>
+fn clear(alloc: Global, update: &Update, from: &Known, to: &Known) -> Result<Update, Memory>
     ensures { IfOk result (λ u. u ≡ cleared_change from.now update.now to.now) }
 {
     let out = replace(alloc, update.out(), from)?;
@@ -93,7 +87,7 @@ fn clear(
     for (register, parts) in update.regs().iter().enumerate() {
         put_list(alloc, parts, register, from, to, &mut regs)?;
     }
-    updates.share(Update::new(out, regs))
+    Ok(Update::new(out, regs))
 }
 
 fn clear_transition(
@@ -109,10 +103,10 @@ fn clear_transition(
         None => Ok(None),
         Some(Transition { target, update }) => {
             let to = constants.known(*target as usize);
-            let update = clear(alloc, update, from, to, updates)?;
+            let update = clear(alloc, update.get(), from, to)?;
             Ok(Some(Transition {
                 target: *target,
-                update,
+                update: updates.share(update)?,
             }))
         }
     }
@@ -184,13 +178,7 @@ pub fn without_constants(
 {
     let none = Known::new(alloc, Vec::new(alloc))?;
     let mut updates = Updates::new(alloc);
-    let initial = clear(
-        alloc,
-        table.initial(),
-        &none,
-        constants.known(0),
-        &mut updates,
-    )?;
+    let initial = clear(alloc, table.initial(), &none, constants.known(0))?;
     let states = clear_states(alloc, table.states(), constants, &mut updates)?;
     Ok(Table::new(table.partition().copy(), initial, states))
 }

@@ -269,7 +269,7 @@ impl Writer {
     {
         match transition {
             None => Ok(Entry::none()),
-            Some(transition) => self.transition(transition.target, &transition.update),
+            Some(transition) => self.transition(transition.target, transition.update.get()),
         }
     }
 

@@ -5,7 +5,7 @@
 #![tactic(auto)]
 
 pub mod laws;
-mod lists;
 pub mod parts;
+pub mod shared;
 pub mod table;
 pub mod updates;

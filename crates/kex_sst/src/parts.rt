@@ -2,9 +2,7 @@
 
 ghost use Rattle.std.specs.Prelude.{◌≡◌, ◌++◌, ◌∷◌, [], true, OnOk, OnErr, IfOk};
 
-use crate::lists::{are_same_lists, copy_lists};
 use kex_code::memory::Memory;
-use kex_code::shared::Shared;
 use kex_code::symbol::Symbol;
 use smallvec::SmallVec;
 use std::alloc::Global;
@@ -96,20 +94,34 @@ pub fn are_same(left: &[Part], right: &[Part]) -> bool
     left == right
 }
 
-/// What a transition passes on, and what it gives to each of the registers of its target. Copies may share the lists of registers.
+// Whether the lists are the same, each at its place.
+fn are_same_lists(left: &[Parts], right: &[Parts]) -> bool
+    ensures { result ≡ true → left.now ≡ right.now }
+{
+    if left.len() != right.len() {
+        return false;
+    }
+    for i in 0..left.len() {
+        if !are_same(left[i].as_slice(), right[i].as_slice()) {
+            return false;
+        }
+    }
+    true
+}
+
+/// What a transition passes on, and what it gives to each of the registers of its target.
 #[derive(Drop)]
 pub struct Update {
     out: Parts,
-    regs: Shared<Parts>,
+    regs: Vec<Parts>,
 }
 
 impl Model for Update {
     ghost use Rattle.kex_sst.specs.Parts.{Change};
-    ghost use Rattle.kex_code.specs.Shared.{items_of};
 
     ghost Value = { Change };
 
-    ghost view = { λ u. record { out = u.out; regs = items_of u.regs } };
+    ghost view = { λ u. record { out = u.out; regs = u.regs.items } };
 }
 
 impl Update {
@@ -117,10 +129,7 @@ impl Update {
     pub fn new(out: Parts, regs: Vec<Parts>) -> Update
         ensures { result ≡ record { out = out; regs = regs.items } }
     {
-        Update {
-            out,
-            regs: Shared::Alone(regs),
-        }
+        Update { out, regs }
     }
 
     /// What is passed on.
@@ -134,7 +143,7 @@ impl Update {
     pub fn regs(&self) -> &[Parts]
         ensures { result.now ≡ self.now.regs }
     {
-        self.regs.as_slice()
+        &self.regs
     }
 
     /// Whether another update has the same lists.
@@ -142,25 +151,6 @@ impl Update {
         ensures { result ≡ true → self.now ≡ other.now }
     {
         are_same(self.out.as_slice(), other.out.as_slice())
-            && are_same_lists(self.regs.as_slice(), other.regs.as_slice())
-    }
-
-    /// The same update, whose lists copies share.
-    pub(crate) fn counted(self) -> Update
-        ensures { result ≡ self }
-    {
-        Update {
-            out: self.out,
-            regs: self.regs.counted(),
-        }
-    }
-
-    /// The same update again.
-    pub fn copy(&self, alloc: Global) -> Result<Update, Memory>
-        ensures { IfOk result (λ u. u ≡ self.now) }
-    {
-        let out = self.out.copy(alloc)?;
-        let regs = copy_lists(alloc, &self.regs)?;
-        Ok(Update { out, regs })
+            && are_same_lists(&self.regs, &other.regs)
     }
 }

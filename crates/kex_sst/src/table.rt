@@ -5,6 +5,7 @@ ghost use Rattle.kex_byteset.specs.Classes.{class_count};
 ghost use Rattle.kex_sst.specs.Tables.{IsTable, Row, transition_of};
 
 use crate::parts::{Parts, Update};
+use crate::shared::SharedUpdate;
 use kex_byteset::Partition;
 use std::marker::Model;
 
@@ -12,7 +13,7 @@ use std::marker::Model;
 #[derive(Drop)]
 pub struct Transition {
     pub target: u32,
-    pub update: Update,
+    pub update: SharedUpdate,
 }
 
 /// A state: how many registers it has, those on the way to the leaf at which a text may end, if there is one, and for each
@@ -130,7 +131,7 @@ impl Table {
         let state = &self.states[state as usize];
         match &state.go[usize::from(class)] {
             None => None,
-            Some(transition) => Some((transition.target, &transition.update)),
+            Some(transition) => Some((transition.target, transition.update.get())),
         }
     }
 }

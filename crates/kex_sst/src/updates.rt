@@ -1,8 +1,9 @@
-// Updates that were met, so that equal ones share their lists.
+// Updates that were met, so that equal ones are shared.
 
 ghost use Rattle.std.specs.Prelude.{◌≡◌, IfOk};
 
 use crate::parts::{Update, sum_of};
+use crate::shared::SharedUpdate;
 use indexmap::IndexMap;
 use kex_code::memory::Memory;
 use std::alloc::Global;
@@ -11,7 +12,7 @@ use std::alloc::Global;
 #[derive(Drop)]
 pub struct Updates {
     alloc: Global,
-    met: IndexMap<u64, Update>,
+    met: IndexMap<u64, SharedUpdate>,
 }
 
 // A sum of an update's parts in their order.
@@ -32,19 +33,19 @@ impl Updates {
         }
     }
 
-    /// The same update; it shares its lists with an equal one that was met before.
-    pub fn share(&mut self, update: Update) -> Result<Update, Memory>
-        ensures { IfOk result (λ u. u ≡ update) }
+    /// The same update: an equal one that was met before, if there is one.
+    pub fn share(&mut self, update: Update) -> Result<SharedUpdate, Memory>
+        ensures { IfOk result (λ s. s ≡ update) }
     {
         let sum = sum_of_lists(&update);
         if let Some(met) = self.met.get(&sum) {
-            if met.is_same(&update) {
-                return met.copy(self.alloc);
+            if met.get().is_same(&update) {
+                return met.copy();
             }
-            return Ok(update);
+            return SharedUpdate::new(self.alloc, update);
         }
-        let update = update.counted();
-        self.met.insert(sum, update.copy(self.alloc)?)?;
-        Ok(update)
+        let shared = SharedUpdate::new(self.alloc, update)?;
+        self.met.insert(sum, shared.copy()?)?;
+        Ok(shared)
     }
 }

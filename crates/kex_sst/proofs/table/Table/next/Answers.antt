@@ -27,4 +27,4 @@ pub returns-in-None : goal.returns-in-None
 returns-in-None c = transition_is c.before.before c.index.result.now c.index.ensures ∙ c.in-None.is
 
 pub returns-in-Some : goal.returns-in-Some
-returns-in-Some c = transition_is c.before.before c.index.result.now c.index.ensures ∙ c.in-Some.is
+returns-in-Some c = transition_is c.before.before.before c.index.result.now c.index.ensures ∙ c.in-Some.is ∙ ap (λ u. Some (record { target = c.in-Some.transition.target; update = u })) (sym c.get.ensures)

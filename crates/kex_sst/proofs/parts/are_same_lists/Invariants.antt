@@ -1,5 +1,5 @@
 use Rattle.std.proofs.Common.{◌≡◌, take}
-use Rattle.kex_sst.proofs.lists.are_same_lists.Given as goal
+use Rattle.kex_sst.proofs.parts.are_same_lists.Given as goal
 
 abbrev pub invariant-loop-i : goal.invariant-loop-i
 invariant-loop-i l = take l.i l.left ≡ take l.i l.right

@@ -1,6 +1,6 @@
 use Rattle.std.proofs.Common.{◌<◌, [], length, sym, refl, ◌∙◌, arith}
 use Rattle.std.proofs.lemmas.List.{get_or_read, take_more_same, take_all}
-use Rattle.kex_sst.proofs.lists.are_same_lists.Goals as goal
+use Rattle.kex_sst.proofs.parts.are_same_lists.Goals as goal
 
 pub loop-i-init : goal.loop-i-init
 loop-i-init c = refl
