@@ -111,7 +111,7 @@ dropped t r xs (b ∷ bs) (suc n) back room all =
     ∙ goes_on t r xs xs (b ∷ bs) 0 (record { row = r; writes = [] }) (omega arith) (drops t r b back room (all 0 b (omega arith))) (sym (append-nil xs))
 
 -- the rest of a list, as a slice of it
-rest_is : {A : Type 0} (i : ℕ) (xs : List A) → take (length xs - i) (drop i xs) ≡ drop i xs
+pub rest_is : {A : Type 0} (i : ℕ) (xs : List A) → take (length xs - i) (drop i xs) ≡ drop i xs
 rest_is i xs = take_all (length xs - i) (drop i xs) (omega (arith, length-drop i xs))
 
 -- the same where the bytes are copied from a place of a piece to one of a buffer

@@ -1,6 +1,6 @@
 // The rows of edges that are learnt, one for each pair of a state and a node.
 
-ghost use Rattle.std.specs.Prelude.{◌≡◌, ◌<◌, ◌≤◌, ◌+◌, ◌*◌, ◌-◌, ◌^◌, IsTrue, ◌++◌, ◌∷◌, List, ℕ, [], All, OnOk, IfOk, IfSome, length, take, drop, replicate, slice_get, Some, slice_set, true};
+ghost use Rattle.std.specs.Prelude.{◌≡◌, ◌<◌, ◌≤◌, ◌+◌, ◌*◌, ◌-◌, ◌^◌, IsTrue, ◌++◌, ◌∷◌, List, ℕ, [], All, OnOk, IfOk, IfSome, IsNone, length, take, drop, replicate, slice_get, Some, slice_set, true};
 ghost use Rattle.kex_machine.specs.declared.MNode.{MNode};
 ghost use Rattle.kex_action.specs.Holdings.{with_bytes};
 ghost use Rattle.kex_model.specs.Acting.{State};
@@ -349,6 +349,7 @@ impl Edges {
         ensures used { result.used ≤ length buffer.new }
         ensures room { result.used + 17 * (length piece.now - result.at) + 17 ≤ length buffer.new }
         ensures edge { IfSome result.edge (λ e. StopsAt self.now.classes self.now.edges result.row result.at piece.now e × IsEdge self.now e) }
+        ensures told { IsNone result.edge → result.at ≡ length piece.now }
         ensures ran { record { written = take result.used buffer.new; row = result.row; left = drop result.at piece.now } ≡ stop_behind (take used buffer.old) (run_of (rows_of self.now) row piece.now) }
         ensures ordered { IsOrdered self.now }
     {

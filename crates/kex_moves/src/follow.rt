@@ -1,13 +1,48 @@
 // The hot loop over pieces: from row to row by the numbers of their words, with all that changes in locals.
 
-ghost use Rattle.std.specs.Prelude.{◌+◌, ◌*◌, ◌-◌, ◌≤◌, length, take, drop};
+ghost use Rattle.std.specs.Prelude.{◌≡◌, ◌≢◌, ℕ, ◌+◌, ◌*◌, ◌-◌, ◌≤◌, List, IfSome, length, take, drop, slice_get};
+ghost use Rattle.kex_moves.specs.declared.edge.Edge.{Edge};
+ghost use Rattle.kex_moves.specs.Edges.{HasRoom};
 ghost use Rattle.kex_moves.specs.Runs.{HasRoomBelow};
-ghost use Rattle.kex_moves.specs.Trails.{LeadsBelow, IsTrail, IsOver};
+ghost use Rattle.kex_moves.specs.Trails.{LeadsBelow, IsStep, IsTrail, IsOver};
 
 use crate::edge::Edge;
 use crate::put::put;
 use crate::run::Spot;
 use kex_script::piece::Piece;
+
+// Writes an edge that leads back to its own row again for each piece with the word of the one before, up to another word: the
+// edge is the same, so nothing is looked up. Tells how many pieces.
+#[inline(always)]
+fn stay(
+    e: Edge,
+    text: &[u8],
+    before: Piece,
+    pieces: &[Piece],
+    buffer: &mut [u8],
+    used: usize,
+) -> usize
+    requires edge { HasRoom (length text.now) e }
+    requires room { used + 17 * length pieces.now + 17 ≤ length buffer.old }
+    ensures count { result ≤ length pieces.now }
+    ensures room { used + result * e.adds + 17 * (length pieces.now - result) + 17 ≤ length buffer.old }
+    ensures len { length buffer.new ≡ length buffer.old }
+    ensures trail { (edges : List Edge) (width : ℕ) → IsStep edges width e.next before e → IsTrail edges text.now width (take result pieces.now) (record { row = e.next; writes = take used buffer.old }) (record { row = e.next; writes = take (used + result * e.adds) buffer.new }) }
+    ensures other { IfSome (slice_get pieces.now result) (λ p. p.word ≢ before.word) }
+{
+    let mut count = 0;
+    let mut used = used;
+    while count < pieces.len() {
+        let next = pieces[count];
+        if next.word != before.word {
+            break;
+        }
+        put(buffer, used, next.byte, text, e);
+        used += e.adds as usize;
+        count += 1;
+    }
+    count
+}
 
 /// Goes along edges while they are written. A row has so many edges as its width.
 // Not inlined: within a long caller what the loop reads for each piece would stand in memory.
@@ -44,8 +79,14 @@ pub fn follow(
         }
         put(buffer, used, piece.byte, text, e);
         used += e.adds as usize;
-        row = e.next;
         at += 1;
+        if e.next == row {
+            let count = stay(e, text, piece, &pieces[at..], buffer, used);
+            at += count;
+            used += count * e.adds as usize;
+        } else {
+            row = e.next;
+        }
     }
     Spot { at, row, used }
 }

@@ -1,6 +1,6 @@
 // The hot loop: functions over slices and numbers by value, so that all that changes is in locals.
 
-ghost use Rattle.std.specs.Prelude.{◌≡◌, ℕ, ◌+◌, ◌*◌, ◌-◌, ◌<◌, ◌≤◌, List, All, IfSome, length, take, drop};
+ghost use Rattle.std.specs.Prelude.{◌≡◌, ℕ, ◌+◌, ◌*◌, ◌-◌, ◌<◌, ◌≤◌, List, All, IfSome, IsNone, length, take, drop};
 ghost use Rattle.kex_moves.specs.declared.edge.Kind.{Kind};
 ghost use Rattle.kex_moves.specs.Runs.{HasRow, LeadsBack, HasKind, IsWithin, StopsAt, run_from};
 
@@ -87,6 +87,7 @@ pub fn run(
     requires room { from.used + 17 * (length piece.now - from.at) + 17 ≤ length buffer.old }
     ensures at { result.at ≤ length piece.now }
     ensures edge { IfSome result.edge (StopsAt classes.now edges.now result.row result.at piece.now) }
+    ensures told { IsNone result.edge → result.at ≡ length piece.now }
     ensures row { HasRow classes.now edges.now result.row }
     ensures used { result.used ≤ length buffer.new }
     ensures room { result.used + 17 * (length piece.now - result.at) + 17 ≤ length buffer.new }
