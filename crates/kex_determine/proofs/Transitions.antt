@@ -1,5 +1,5 @@
 -- The transitions of a state, one class after another.
-use Rattle.std.proofs.Common.{◌≡◌, ℕ, zero, suc, ◌+◌, ◌<◌, ◌≤◌, max, List, [], ◌∷◌, ◌++◌, inl, inr, ⊎_elim, Option, Some, None, length, get_or, Result, Ok, Err, refl, sym, ap, subst, ◌∙◌, length-append, arith}
+use Rattle.std.proofs.Common.{◌≡◌, ℕ, zero, suc, ◌+◌, ◌<◌, ◌≤◌, max, List, [], ◌∷◌, ◌++◌, inl, inr, ⊎_elim, Option, Some, None, length, get_or, Result, Ok, Err, refl, sym, ap, subst, ◌∙◌, append-nil, length-append, arith}
 use Rattle.std.specs.Prelude.{slice_get}
 use Rattle.std.specs.Global.{Vec}
 use Rattle.std.proofs.Math.Nat.{max-eq_right, le-max_left, le-max_right}
@@ -8,15 +8,17 @@ use Rattle.std.proofs.lemmas.Option.{slice_get_read}
 use Rattle.std.proofs.lemmas.Bool.{cases_lt, cases_eq}
 use Rattle.kex_byteset.specs.Classes.{class_at, class_count, IsNumbered}
 use Rattle.kex_code.specs.Codes.{Begins}
-use Rattle.kex_model.specs.Labelled.{Shape, shape_of}
+use Rattle.kex_model.specs.Labelled.{Shape, shape_of, Grown}
 use Rattle.kex_model.proofs.Orders.{begins_trans}
 use Rattle.kex_model.proofs.Tables.{get_more, get_last, some_same}
 use Rattle.kex_machine.specs.Nodes.{Graph, HasClasses}
+use Rattle.kex_sst.specs.declared.parts.Part.{Part}
 use Rattle.kex_sst.specs.declared.table.Transition.{Transition}
 use Rattle.kex_sst.specs.Parts.{Change}
 use Rattle.kex_sst.specs.Tables.{transition_if}
 use Rattle.std.specs.Prelude.{IfSome, MatchOption}
 use Rattle.kex_paths.specs.Nexts.{Outline, IsOfShape, IsNext, Follows, HasClass}
+use Rattle.kex_paths.specs.Alikes.{GoesOnAlike}
 use Rattle.kex_determine.specs.Determined.{targets_of, MeetsInOrder}
 use Rattle.kex_determine.specs.Rows.{DoesOn, IsFound, by_byte}
 use Rattle.kex_determine.specs.Numbering.{NextIs, IsMet, IsMetIf, AreNumbered, HasTarget, IsFollowed, AreTransitionsTo, Refuses}
@@ -93,21 +95,52 @@ module _ (g : Graph) where
   front_of (x ∷ go) r zero lt = refl
   front_of (x ∷ go) r (suc k) lt = front_of go r k (omega arith)
 
-  pub one_more : (classes : List ℕ) (keys keys' : List (Vec ℕ)) (trees trees' : List Outline) (xs ys zs : List (Shape ℕ)) (s : Shape ℕ) (n : ℕ) (next : Option (Outline × Change)) (go : List (Option Transition)) (r : Option Transition)
-      → AreTransitionsTo n g classes keys trees xs ys s go → IsFollowed g keys' trees' ys next zs r → ((b : ℕ) → b < 256 → class_at classes b ≡ n → NextIs g b s next) → AreTransitionsTo (n + 1) g classes keys' trees' xs zs s (go ++ r ∷ [])
-  one_more classes keys keys' trees trees' xs ys zs s n next go r t f is = record {
-    numbered = f.numbered;
-    begins = begins_trans xs ys zs f.begins t.begins;
+  -- by what its transition does
+  one_with : (classes : List ℕ) (keys keys' : List (Vec ℕ)) (trees trees' : List Outline) (xs ys zs : List (Shape ℕ)) (s : Shape ℕ) (n : ℕ) (go : List (Option Transition)) (r : Option Transition)
+      → AreTransitionsTo n g classes keys trees xs ys s go → AreNumbered g keys' trees' zs → Begins zs ys → ((b : ℕ) → b < 256 → class_at classes b ≡ n → DoesOn g zs s b r) → MeetsInOrder (length ys) (targets_of (r ∷ [])) (length zs) → AreTransitionsTo (n + 1) g classes keys' trees' xs zs s (go ++ r ∷ [])
+  one_with classes keys keys' trees trees' xs ys zs s n go r t numbered begins does order = record {
+    numbered = numbered;
+    begins = begins_trans xs ys zs begins t.begins;
     long = omega (arith, length-append go (r ∷ []), t.long);
     do_on = λ b lt below. ⊎_elim
-        (λ h. subst (λ z. DoesOn g zs s b (transition_if z)) (sym (front_of go r (class_at classes b) (omega (arith, h, t.long)))) (does_later ys zs s b (transition_if (slice_get go (class_at classes b))) f.begins (t.do_on b lt h)))
+        (λ h. subst (λ z. DoesOn g zs s b (transition_if z)) (sym (front_of go r (class_at classes b) (omega (arith, h, t.long)))) (does_later ys zs s b (transition_if (slice_get go (class_at classes b))) begins (t.do_on b lt h)))
         (λ h.
         let e : class_at classes b ≡ n = omega (arith, below, h) in
         let here : slice_get (go ++ r ∷ []) (class_at classes b) ≡ Some r = ap (λ z. slice_get (go ++ r ∷ []) z) (e ∙ sym t.long) ∙ get_last go r in
-        subst (λ z. DoesOn g zs s b (transition_if z)) (sym here) (does_on b s zs next r (is b lt e) f.target))
+        subst (λ z. DoesOn g zs s b (transition_if z)) (sym here) (does b lt e))
         (cases_lt (class_at classes b) n);
-    order = subst (λ z. MeetsInOrder (length xs) z (length zs)) (sym (targets_append go (r ∷ []))) (meets_append (length xs) (length ys) (length zs) (targets_of go) (targets_of (r ∷ [])) t.order f.order);
+    order = subst (λ z. MeetsInOrder (length xs) z (length zs)) (sym (targets_append go (r ∷ []))) (meets_append (length xs) (length ys) (length zs) (targets_of go) (targets_of (r ∷ [])) t.order order);
   }
+
+  pub one_more : (classes : List ℕ) (keys keys' : List (Vec ℕ)) (trees trees' : List Outline) (xs ys zs : List (Shape ℕ)) (s : Shape ℕ) (n : ℕ) (next : Option (Outline × Change)) (go : List (Option Transition)) (r : Option Transition)
+      → AreTransitionsTo n g classes keys trees xs ys s go → IsFollowed g keys' trees' ys next zs r → ((b : ℕ) → b < 256 → class_at classes b ≡ n → NextIs g b s next) → AreTransitionsTo (n + 1) g classes keys' trees' xs zs s (go ++ r ∷ [])
+  one_more classes keys keys' trees trees' xs ys zs s n next go r t f is = one_with classes keys keys' trees trees' xs ys zs s n go r t f.numbered f.begins (λ b lt e. does_on b s zs next r (is b lt e) f.target) f.order
+
+  does_alike : (ys : List (Shape ℕ)) (s : Shape ℕ) (b c : ℕ) (r : Option Transition) → ((a : Option (Grown Part ℕ)) → IsNext g b s a → IsNext g c s a) → DoesOn g ys s b r → DoesOn g ys s c r
+  does_alike ys s b c None f d = f None d
+  does_alike ys s b c (Some r) f (a, next, change, at) = (a, f (Some a) next, change, at)
+
+  none_new : (ys : List (Shape ℕ)) (s : Shape ℕ) (b : ℕ) (r : Option Transition) → DoesOn g ys s b r → MeetsInOrder (length ys) (targets_of (r ∷ [])) (length ys)
+  none_new ys s b None d = refl
+  none_new ys s b (Some r) (a, next, change, at) = inl (get_within ys r.target (shape_of a.tree) at, refl)
+
+  -- the transition of an earlier class with which the tree goes on alike
+  pub one_again : (classes : List ℕ) → HasClasses g.nodes classes → (tree : Outline) (keys : List (Vec ℕ)) (trees : List Outline) (xs ys : List (Shape ℕ)) (s : Shape ℕ) → IsMet g tree s → (n : ℕ) → n < class_count classes → (go : List (Option Transition)) (k : ℕ) (r : Option Transition)
+      → k < n → slice_get go k ≡ Some r → GoesOnAlike tree k n → AreTransitionsTo n g classes keys trees xs ys s go → AreTransitionsTo (n + 1) g classes keys trees xs ys s (go ++ r ∷ [])
+  one_again classes classed tree keys trees xs ys s met n lt go k r before here alike t =
+      one_with classes keys keys trees trees xs ys ys s n go r t t.numbered ([], sym (append-nil ys)) (λ b less e. does_alike ys s m.0 b r (over b less e) does) (none_new ys s m.0 r does)
+    where
+      m : (b : ℕ) × (b < 256) × (class_at classes b ≡ k)
+      m = class_met classes classed.refined.numbered k (omega (arith, before, lt))
+
+      does : DoesOn g ys s m.0 r
+      does = subst (λ z. DoesOn g ys s m.0 (transition_if z)) (ap (λ z. slice_get go z) m.2 ∙ here) (t.do_on m.0 m.1 (omega (arith, m.2, before)))
+
+      has : HasClasses tree.machine.nodes classes
+      has = subst (λ z. HasClasses z.nodes classes) (sym met.machine) classed
+
+      over : (b : ℕ) → b < 256 → class_at classes b ≡ n → (a : Option (Grown Part ℕ)) → IsNext g m.0 s a → IsNext g b s a
+      over b less e a next = subst (λ z. IsNext z b s a) met.machine (alike s m.0 b a met.shape (classes, has, m.1, m.2) (classes, has, less, e) (subst (λ z. IsNext z m.0 s a) (sym met.machine) next))
 
   -- the tree with a state's number has its shape
   pub tree_at : (keys : List (Vec ℕ)) (trees : List Outline) (ys : List (Shape ℕ)) (i : ℕ) (s : Shape ℕ) (now : Outline) → AreNumbered g keys trees ys → slice_get ys i ≡ Some s → now ≡ get_or trees i now → IsMet g now s
@@ -128,6 +161,13 @@ module _ (g : Graph) where
   -- and it is of a shape that is found
   pub next_met : (classes : List ℕ) → HasClasses g.nodes classes → (s : Shape ℕ) → IsFound g s → (class : ℕ) → class < class_count classes → (next : Option (Outline × Change)) → ((b : ℕ) → b < 256 → class_at classes b ≡ class → NextIs g b s next) → IsMetIf g next
   next_met classes classed s f class lt next h = let r = class_met classes classed.refined.numbered class lt in met_if r.0 s next f (h r.0 r.1 r.2)
+
+pub transitions_as : (n : ℕ) (g g' : Graph) (classes : List ℕ) (keys keys' : List (Vec ℕ)) (trees trees' : List Outline) (xs ys : List (Shape ℕ)) (s : Shape ℕ) (go go' : List (Option Transition)) → g' ≡ g → keys' ≡ keys → trees' ≡ trees → go' ≡ go → AreTransitionsTo n g classes keys trees xs ys s go → AreTransitionsTo n g' classes keys' trees' xs ys s go'
+transitions_as n g g' classes keys keys' trees trees' xs ys s go go' e f h k t =
+    subst (λ z. AreTransitionsTo n z classes keys' trees' xs ys s go') (sym e)
+    (subst (λ z. AreTransitionsTo n g classes z trees' xs ys s go') (sym f)
+    (subst (λ z. AreTransitionsTo n g classes keys z xs ys s go') (sym h)
+    (subst (λ z. AreTransitionsTo n g classes keys trees xs ys s z) (sym k) t)))
 
 pub err_as : {A E : Type 0} (P : E → Type 0) (r : Result A E) (x : E) → IsErrAnd r (λ y. y ≡ x) → P x → IfErr r P
 err_as P (Ok a) x h k = tt

@@ -1,8 +1,9 @@
 // The rows of states: what each does on each class of bytes.
 
-ghost use Rattle.std.specs.Prelude.{◌≡◌, ℕ, ◌<◌, ◌≤◌, List, [], Some, OnOk, IfOk, IfErr, length, slice_get};
+ghost use Rattle.std.specs.Prelude.{◌≡◌, ℕ, ◌<◌, ◌≤◌, List, [], Some, Contains, OnOk, IfOk, IfErr, IfSome, length, slice_get};
 ghost use Rattle.kex_model.specs.Labelled.{Shape};
 ghost use Rattle.kex_machine.specs.Nodes.{HasClasses};
+ghost use Rattle.kex_paths.specs.Alikes.{GoesOnAlike};
 ghost use Rattle.kex_determine.specs.Filling.{IsFilled};
 ghost use Rattle.kex_determine.specs.Numbering.{AreNumbered, AreTransitions, HasMoreFound, IsStateWith, Refuses, WhereNumbered};
 
@@ -10,12 +11,47 @@ use crate::ends::way_to_end;
 use crate::refusal::DetRefusal;
 use crate::states::States;
 use kex_byteset::Partition;
+use kex_code::memory::Memory;
 use kex_machine::Trimmed;
+use kex_paths::tree::PathTree;
 use kex_paths::workspace::Workspace;
 use kex_sst::table::{State, Transition};
 use std::alloc::Global;
 
-// The transitions of state `at`, by class, with the states that are met on the way.
+// The same transition again.
+fn copy_of(transition: &Option<Transition>) -> Result<Option<Transition>, Memory>
+    ensures { IfOk result (λ t. t ≡ transition.now) }
+{
+    let Some(Transition { target, update }) = transition else {
+        return Ok(None);
+    };
+    let update = update.copy()?;
+    Ok(Some(Transition {
+        target: *target,
+        update,
+    }))
+}
+
+// The first of these classes with which a tree goes on as it does with another, if there is one.
+fn alike_among<'m>(
+    tree: &PathTree<'m>,
+    workspace: &Workspace<'m>,
+    classes: &[u8],
+    class: u8,
+) -> Option<u8>
+    requires { workspace.now ≡ tree.now.machine }
+    ensures { IfSome result (λ earlier. Contains classes.now earlier × GoesOnAlike tree.now earlier class) }
+{
+    for earlier in classes {
+        if tree.goes_on_alike(workspace, *earlier, class) {
+            return Some(*earlier);
+        }
+    }
+    None
+}
+
+// The transitions of state `at`, by class, with the states that are met on the way. Classes that lead on alike have the
+// same transition, which is walked once.
 fn transitions_of<'m>(
     alloc: Global,
     at: usize,
@@ -34,9 +70,18 @@ fn transitions_of<'m>(
     ensures err { IfErr result (Refuses states.old.most (WhereNumbered workspace.old states.old.keys.keys states.old.trees.items at (λ xs s. HasMoreFound workspace.old states.old.most))) }
 {
     let mut go = Vec::with_capacity(alloc, usize::from(partition.classes()))?;
+    // The classes that were walked.
+    let mut walked = Vec::new(alloc);
     for class in 0..partition.classes() {
-        let next = states.trees[at].advance_with(workspace, class as u8)?;
-        let transition = states.follow(alloc, next)?;
+        let tree = &states.trees[at];
+        let transition = match alike_among(tree, workspace, &walked, class as u8) {
+            Some(earlier) => copy_of(&go[usize::from(earlier)])?,
+            None => {
+                walked.push(class as u8)?;
+                let next = tree.advance_with(workspace, class as u8)?;
+                states.follow(alloc, next)?
+            }
+        };
         go.push(transition)?;
     }
     Ok(go)

@@ -10,3 +10,4 @@ pub mod Samples
 pub mod TaskSteps
 pub mod InOrder
 pub mod LastEdges
+pub mod Alikes

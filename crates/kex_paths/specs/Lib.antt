@@ -1,4 +1,5 @@
 pub mod Nexts
+pub mod Alikes
 pub mod Forests
 pub mod Tasks
 pub mod Spellings

@@ -1,16 +1,19 @@
 // Path trees, and how one is made of what a walk leaves.
 
-ghost use Rattle.std.specs.Prelude.{◌≡◌, ℕ, ◌*◌, ◌<◌, ◌≤◌, ◌^◌, ◌↔◌, ◌∷◌, ◌++◌, [], List, Some, OnOk, IfOk, length, reverse, slice_get};
+ghost use Rattle.std.specs.Prelude.{◌≡◌, ℕ, ◌*◌, ◌<◌, ◌≤◌, ◌^◌, ◌↔◌, ◌∷◌, ◌++◌, [], List, Some, IsTrue, OnOk, IfOk, length, reverse, slice_get};
 ghost use Rattle.kex_model.specs.Labelled.{Grown, Shape, shape_of, size_of};
+ghost use Rattle.kex_machine.specs.Nodes.{node_moves};
 ghost use Rattle.kex_machine.specs.Advancing.{EachPlace};
 ghost use Rattle.kex_sst.specs.declared.parts.Part.{Part};
 ghost use Rattle.kex_paths.specs.Forests.{LeadsTo};
-ghost use Rattle.kex_paths.specs.Nexts.{Outline, IsOfShape, IsChange};
+ghost use Rattle.kex_paths.specs.Nexts.{Outline, IsOfShape, IsChange, HasClass};
+ghost use Rattle.kex_paths.specs.Alikes.{LeadAlikeFrom, GoesOnAlike};
 ghost use Rattle.kex_paths.specs.Spellings.{IsSound, key_of, number_of, is_inner, tip_in, edges_from};
 ghost use Rattle.kex_paths.specs.Tasks.{tokens_from, IsTipBelow};
 
 use crate::forest::{Edge, TreeNode};
-use crate::walk::Token;
+use crate::walk::{Token, leads_alike};
+use crate::workspace::Workspace;
 use kex_code::memory::Memory;
 use kex_machine::Trimmed;
 use kex_sst::parts::{Part, Parts, Update};
@@ -57,6 +60,28 @@ impl<'m> PathTree<'m> {
         ensures { result.now ≡ self.now.leaves }
     {
         &self.leaves
+    }
+
+    /// Whether the tree goes on alike with two classes: their bytes lead to the same places from each of its leaves. Not
+    /// where one of them has no byte.
+    pub fn goes_on_alike(&self, workspace: &Workspace<'m>, class: u8, other: u8) -> bool
+        requires { workspace.now ≡ self.now.machine }
+        ensures alike { (b c : ℕ) → HasClass self.now.machine class b → HasClass self.now.machine other c → IsTrue result ↔ LeadAlikeFrom (node_moves self.now.machine.nodes) b c self.now.leaves }
+        ensures next { IsTrue result → GoesOnAlike self.now class other }
+    {
+        let Some(byte) = workspace.sample(class) else {
+            return false;
+        };
+        let Some(twin) = workspace.sample(other) else {
+            return false;
+        };
+        let nodes = self.machine.nodes();
+        for place in &self.leaves {
+            if !leads_alike(nodes, *place, byte, twin) {
+                return false;
+            }
+        }
+        true
     }
 
     /// Numbers that are equal for two trees of a machine exactly if their shapes are.

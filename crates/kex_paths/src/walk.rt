@@ -1,10 +1,11 @@
 // The walk over an old tree and, past the byte, over the places that are reached.
 
-ghost use Rattle.std.specs.Prelude.{◌≡◌, ℕ, ◌<◌, ◌≤◌, ◌^◌, ◌++◌, ◌∷◌, [], List, Bool, Option, Some, OnOk, IfOk, length, get_or, set, replicate, true, false};
+ghost use Rattle.std.specs.Prelude.{◌≡◌, ℕ, ◌<◌, ◌≤◌, ◌^◌, ◌↔◌, ◌++◌, ◌∷◌, [], List, Bool, Option, Some, IsTrue, OnOk, IfOk, length, get_or, set, replicate, true, false};
 ghost use Rattle.kex_model.specs.Labelled.{Grown};
 ghost use Rattle.kex_model.specs.Moves.{symbol_of};
 ghost use Rattle.kex_machine.specs.Nodes.{node_moves, move_of, side_of, StaysWithin};
 ghost use Rattle.kex_sst.specs.declared.parts.Part.{Part};
+ghost use Rattle.kex_paths.specs.Alikes.{LeadAlikeAt};
 ghost use Rattle.kex_paths.specs.Forests.{HasTrees, last_tree};
 ghost use Rattle.kex_paths.specs.Tasks.{ShapedTask, task_of, tokens_left, Runs, tasks_from, leaf_at, IsTipBelow, token_tasks, token_dead, read_tasks, read_dead, place_tasks, place_trees, EachTip, IsTaskBelow};
 
@@ -147,6 +148,17 @@ fn read(
         }
     }
     forest.add_none()
+}
+
+/// Whether two bytes lead to the same places from a place.
+pub fn leads_alike(nodes: &[MNode], place: u32, byte: u8, other: u8) -> bool
+    requires { place < length nodes.now }
+    ensures { IsTrue result ↔ LeadAlikeAt (node_moves nodes.now) byte other place }
+{
+    if let MNode::Read(set, _) = node_at(nodes, place) {
+        return set.has(byte) == set.has(other);
+    }
+    true
 }
 
 // A node of the old tree: the sides of a fork are to be walked, each with the edge to it.

@@ -1,5 +1,5 @@
-use Rattle.std.proofs.Common.{◌≡◌, ℕ, ◌≤◌, List, Some, length}
-use Rattle.std.specs.Prelude.{slice_get}
+use Rattle.std.proofs.Common.{◌≡◌, ℕ, ◌<◌, ◌≤◌, List, Some, length}
+use Rattle.std.specs.Prelude.{All, slice_get}
 use Rattle.kex_model.specs.Labelled.{Shape}
 use Rattle.kex_determine.specs.Numbering.{AreNumbered, AreTransitionsTo}
 use Rattle.kex_determine.proofs.rows.transitions_of.Given as goal
@@ -10,4 +10,5 @@ invariant-loop-class l = record {
   workspace : l.workspace ≡ l.initial.workspace;
   most : l.states.most ≡ l.initial.states.most;
   within : length l.states.trees.items ≤ l.states.most;
+  earlier : All (λ k. k < l.class) l.walked.items;
 }
