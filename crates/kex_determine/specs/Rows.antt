@@ -9,7 +9,8 @@ use Rattle.kex_sst.specs.declared.parts.Part.{Part}
 use Rattle.kex_sst.specs.declared.table.Transition.{Transition}
 use Rattle.kex_sst.specs.Parts.{numbered_tree}
 use Rattle.kex_sst.specs.Tables.{Row, Transducer, transition_if}
-use Rattle.kex_paths.specs.Nexts.{IsFirst, IsNext, IsChange}
+use Rattle.kex_paths.specs.Nexts.{Outline, HasClass, IsFirst, IsNext, IsChange}
+use Rattle.kex_paths.specs.Alikes.{LeadAlikeFrom}
 
 -- what a state of this shape does on a byte
 abbrev pub DoesOn : Graph → List (Shape ℕ) → Shape ℕ → ℕ → Option Transition → Type 0
@@ -45,3 +46,7 @@ pub record AreRows (g : Graph) (t : Transducer) (shapes : List (Shape ℕ)) : Ty
 pub data IsFound (g : Graph) : Shape ℕ → Type 0 where
   at_first : (a : Grown Part ℕ) → IsFirst g (Some a) → IsFound g (shape_of a.tree)
   by_byte : {s : Shape ℕ} (b : ℕ) (a : Grown Part ℕ) → IsFound g s → IsNext g b s (Some a) → IsFound g (shape_of a.tree)
+
+-- from some leaf of the tree the bytes of the two classes lead to other places
+abbrev pub LeadsApart : Outline → ℕ → ℕ → Type 0
+LeadsApart tree class other = (b c : ℕ) → HasClass tree.machine class b → HasClass tree.machine other c → LeadAlikeFrom (node_moves tree.machine.nodes) b c tree.leaves → ⊥

@@ -1,10 +1,11 @@
 // The rows of states: what each does on each class of bytes.
 
-ghost use Rattle.std.specs.Prelude.{◌≡◌, ℕ, ◌<◌, ◌≤◌, List, [], Some, Contains, OnOk, IfOk, IfErr, IfSome, length, slice_get};
+ghost use Rattle.std.specs.Prelude.{◌≡◌, ℕ, ◌<◌, ◌≤◌, List, [], Some, All, Contains, OnOk, IfOk, IfErr, IfSome, IfNone, length, slice_get};
 ghost use Rattle.kex_model.specs.Labelled.{Shape};
 ghost use Rattle.kex_machine.specs.Nodes.{HasClasses};
 ghost use Rattle.kex_paths.specs.Alikes.{GoesOnAlike};
 ghost use Rattle.kex_determine.specs.Filling.{IsFilled};
+ghost use Rattle.kex_determine.specs.Rows.{LeadsApart};
 ghost use Rattle.kex_determine.specs.Numbering.{AreNumbered, AreTransitions, HasMoreFound, IsStateWith, Refuses, WhereNumbered};
 
 use crate::ends::way_to_end;
@@ -40,7 +41,8 @@ fn alike_among<'m>(
     class: u8,
 ) -> Option<u8>
     requires { workspace.now ≡ tree.now.machine }
-    ensures { IfSome result (λ earlier. Contains classes.now earlier × GoesOnAlike tree.now earlier class) }
+    ensures some { IfSome result (λ earlier. Contains classes.now earlier × GoesOnAlike tree.now earlier class) }
+    ensures none { IfNone result (All (λ earlier. LeadsApart tree.now earlier class) classes.now) }
 {
     for earlier in classes {
         if tree.goes_on_alike(workspace, *earlier, class) {

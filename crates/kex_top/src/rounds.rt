@@ -29,6 +29,8 @@ pub(crate) enum Pace {
 fn part_for(stages: u32) -> usize
     ensures some { 0 < result }
     ensures few { result ≤ 65536 }
+    ensures one { stages ≤ 1 → result ≡ 4096 }
+    ensures several { 1 < stages → result ≡ 16384 }
 {
     if stages > 1 { 16_384 } else { 4_096 }
 }

@@ -49,12 +49,12 @@ loop-class-preserved c =
     let top = (goal.at.loop-class-preserved c).After-alike_among in
     elim c.match-alike_among.branch [
       | in-Some+in_ok-transition-in-Some w ↦ (
-          let before : w.in-Some.earlier < c.loop-class.class = All-contains (λ k. k < c.loop-class.class) c.loop-class.walked.items w.in-Some.earlier c.loop-class.invariant.earlier (subst (λ z. Contains z w.in-Some.earlier) c.deref.ensures.value w.in-Some.ensures.0) in
+          let before : w.in-Some.earlier < c.loop-class.class = All-contains (λ k. k < c.loop-class.class) c.loop-class.walked.items w.in-Some.earlier c.loop-class.invariant.earlier (subst (λ z. Contains z w.in-Some.earlier) c.deref.ensures.value w.in-Some.ensures.some.0) in
           record {
             so_far = λ xs s n at.
                 let q = so_far top xs s n at in
                 let here : slice_get c.loop-class.go.items w.in-Some.earlier ≡ Some w.index.result.now = slice_get_read c.loop-class.go.items _ w.in-Some.earlier w.index.result.now refl (omega (arith, before, q.1.long)) (w.index.ensures ∙ ap (λ k. get_or c.loop-class.go.items k w.index.result.now) w.from-in-Some.ensures) in
-                let r = one_again c.args.workspace.now c.args.partition.now c.requires.classes c.index-tree.result.now c.loop-class.states.keys.keys c.loop-class.states.trees.items xs q.0 s (met top xs s n at) c.loop-class.class (within top xs s n at) c.loop-class.go.items w.in-Some.earlier w.index.result.now before here w.in-Some.ensures.1 q.1 in
+                let r = one_again c.args.workspace.now c.args.partition.now c.requires.classes c.index-tree.result.now c.loop-class.states.keys.keys c.loop-class.states.trees.items xs q.0 s (met top xs s n at) c.loop-class.class (within top xs s n at) c.loop-class.go.items w.in-Some.earlier w.index.result.now before here w.in-Some.ensures.some.1 q.1 in
                 (q.0, transitions_as (c.loop-class.class + 1) _ _ c.args.partition.now _ _ _ _ xs q.0 s _ _ (w.workspace-is ∙ c.loop-class.invariant.workspace) (ap (λ z. z.keys.keys) w.states-is) (ap (λ z. z.trees.items) w.states-is) (c.in_ok-push.ensures.items ∙ ap (λ z. c.loop-class.go.items ++ z ∷ []) (w.transition-is ∙ w.in_ok-transition-in-Some.ensures)) r);
             workspace = w.workspace-is ∙ c.loop-class.invariant.workspace;
             most = ap (λ z. z.most) w.states-is ∙ c.loop-class.invariant.most;
