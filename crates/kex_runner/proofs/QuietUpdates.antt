@@ -1,10 +1,10 @@
 -- A table that goes on by quiet updates.
-use Rattle.std.proofs.Common.{◌≡◌, ℕ, zero, suc, ◌+◌, ◌*◌, ◌/◌, ◌%◌, ◌<◌, List, [], ◌∷◌, ◌++◌, Some, length, get_or, take, drop, refl, sym, ap, subst, ◌∙◌, append-nil, arith}
-use Rattle.std.specs.Prelude.{slice_get}
+use Rattle.std.proofs.Common.{◌≡◌, ℕ, zero, suc, ◌+◌, ◌-◌, ◌*◌, ◌/◌, ◌%◌, ◌<◌, ◌≤◌, true, Bool, List, [], ◌∷◌, ◌++◌, Some, length, get_or, take, drop, refl, sym, ap, subst, ◌∙◌, append-nil, append_assoc, arith}
+use Rattle.std.specs.Prelude.{All, slice_get}
 use Rattle.std.proofs.Math.Nat.{mul-div_cancel}
 use Rattle.std.proofs.Math.Seq.{take-add}
 use Rattle.std.proofs.lemmas.Nat.{div-mul-add, div-add-mod'}
-use Rattle.std.proofs.lemmas.List.{map_push, take-take}
+use Rattle.std.proofs.lemmas.List.{map_push, take_more, take-take, get_or-take, get_or-drop, length-take}
 use Rattle.kex_byteset.specs.Classes.{class_at, class_count}
 use Rattle.kex_code.specs.declared.symbol.Symbol.{Symbol}
 use Rattle.kex_sst.specs.Parts.{parts_code}
@@ -19,7 +19,7 @@ use Rattle.kex_runner.specs.declared.quiet.Guide.{Guide}
 use Rattle.kex_runner.specs.declared.reading.Note.{Note}
 use Rattle.kex_runner.specs.Noting.{next_registers, noted_by, registers_after, settled_of, update_of, updates_of}
 use Rattle.kex_runner.specs.Following.{Follows, IsPlace, pass_at}
-use Rattle.kex_runner.specs.Quiet.{IsGuide, IsQuiet}
+use Rattle.kex_runner.specs.Quiet.{IsGuide, IsQuiet, staying}
 use Rattle.kex_runner.proofs.Notes.{registers_push}
 use Rattle.kex_runner.proofs.ByteSteps.{Goes, goes_next, next_by_class, place_next}
 use Rattle.kex_runner.proofs.ScriptSteps.{IsStep, told_by, step_of}
@@ -39,6 +39,14 @@ pub noted_more : (g : Guide) (base : List (List Piece)) (notes : List Note) (n :
 noted_more g base notes n =
     ap (λ z. registers_after (settled_of g.script base) z) (map_push (λ m. update_of g.script m) notes n)
     ∙ registers_push (settled_of g.script base) (updates_of g.script notes) (update_of g.script n)
+
+-- the class of each byte of a front
+pub class_each : (classes rest : List ℕ) (class n : ℕ) → n ≤ length rest → All (λ b. class_at classes b ≡ class) (take n rest) → (k : ℕ) → k < n → class ≡ class_at classes (get_or rest k 0)
+class_each classes rest class n le h k lt = sym (ap (λ z. class_at classes z) (sym (get_or-take n rest k 0 lt)) ∙ h k 0 (omega (arith, lt, le, length-take n rest)))
+
+-- a byte of the middle of a piece
+pub byte_within : (piece : List ℕ) (from to k : ℕ) → k < length (take (to - from) (drop from piece)) → get_or (take (to - from) (drop from piece)) k 0 ≡ get_or piece (from + k) 0
+byte_within piece from to k lt = get_or-take (to - from) (drop from piece) k 0 (omega (arith, lt, length-take (to - from) (drop from piece))) ∙ get_or-drop from piece k 0
 
 module _ (t : Transducer) (g : Guide) (table : IsTable t) (script : IsScriptOf g.script t) (guide : IsGuide t g) where
   -- what is told at a place of the row of a state
@@ -61,26 +69,65 @@ module _ (t : Transducer) (g : Guide) (table : IsTable t) (script : IsScriptOf g
   pub whole_next : (e : Entry) (q : Quiet) → IsQuiet e g.width (length g.quiets.items) q → q.row ≡ q.row / g.width * g.width
   whole_next e q h = h.row ∙ ap (λ z. z * g.width) (sym (target e q h))
 
-  module _ (base : List (List Piece)) (notes : List Note) (row class b : ℕ) (q : Quiet) (h : IsQuiet (entry_at g.script (row / g.width) class) g.width (length g.quiets.items) q) (lt : class < class_count t.classes) where
+  module _ (base : List (List Piece)) (notes : List Note) (row class b : ℕ) (stays : Bool) (q : Quiet) (h : IsQuiet (entry_at g.script (row / g.width) class) g.width (length g.quiets.items) q) (lt : class < class_count t.classes) where
     step : IsStep g.script t (row / g.width) class (entry_at g.script (row / g.width) class)
     step = step_of g.script t (row / g.width) class (entry_at g.script (row / g.width) class) script lt refl h.goes
 
-    noted : noted_by g.script base (notes ++ record { lists = q.lists; byte = b } ∷ []) ≡ next_registers (change_at g.script (entry_at g.script (row / g.width) class).lists) b (noted_by g.script base notes)
-    noted = noted_more g base notes (record { lists = q.lists; byte = b }) ∙ ap (λ z. next_registers (change_at g.script z) b (noted_by g.script base notes)) h.lists
+    noted : noted_by g.script base (notes ++ record { lists = q.lists; byte = b; stays = stays } ∷ []) ≡ next_registers (change_at g.script (entry_at g.script (row / g.width) class).lists) b (noted_by g.script base notes)
+    noted = noted_more g base notes (record { lists = q.lists; byte = b; stays = stays }) ∙ ap (λ z. next_registers (change_at g.script z) b (noted_by g.script base notes)) h.lists
 
-    pub place_quiet : IsPlace t (row / g.width) (noted_by g.script base notes) → IsPlace t (q.row / g.width) (noted_by g.script base (notes ++ record { lists = q.lists; byte = b } ∷ []))
+    pub place_quiet : IsPlace t (row / g.width) (noted_by g.script base notes) → IsPlace t (q.row / g.width) (noted_by g.script base (notes ++ record { lists = q.lists; byte = b; stays = stays } ∷ []))
     place_quiet p =
         let e = entry_at g.script (row / g.width) class in
-        subst (λ z. IsPlace t z (noted_by g.script base (notes ++ record { lists = q.lists; byte = b } ∷ []))) (sym (target e q h))
-        (place_next t (row / g.width) class (noted_by g.script base notes) (told_by g.script e) (noted_by g.script base (notes ++ record { lists = q.lists; byte = b } ∷ [])) b table step.at noted)
+        subst (λ z. IsPlace t z (noted_by g.script base (notes ++ record { lists = q.lists; byte = b; stays = stays } ∷ []))) (sym (target e q h))
+        (place_next t (row / g.width) class (noted_by g.script base notes) (told_by g.script e) (noted_by g.script base (notes ++ record { lists = q.lists; byte = b; stays = stays } ∷ [])) b table step.at noted)
 
-    pub goes_quiet : (state : ℕ) (registers : List (List Symbol)) (piece : List ℕ) (i : ℕ) → i < length piece → b ≡ get_or piece i 0 → b < 256 → class ≡ class_at t.classes b → Goes t state registers piece i (row / g.width) (noted_by g.script base notes) [] [] → Goes t state registers piece (i + 1) (q.row / g.width) (noted_by g.script base (notes ++ record { lists = q.lists; byte = b } ∷ [])) [] []
+    pub goes_quiet : (state : ℕ) (registers : List (List Symbol)) (piece : List ℕ) (i : ℕ) → i < length piece → b ≡ get_or piece i 0 → b < 256 → class ≡ class_at t.classes b → Goes t state registers piece i (row / g.width) (noted_by g.script base notes) [] [] → Goes t state registers piece (i + 1) (q.row / g.width) (noted_by g.script base (notes ++ record { lists = q.lists; byte = b; stays = stays } ∷ [])) [] []
     goes_quiet state registers piece i less is byte of f =
         let e = entry_at g.script (row / g.width) class in
         let regs = noted_by g.script base notes in
-        let regs' = noted_by g.script base (notes ++ record { lists = q.lists; byte = b } ∷ []) in
+        let regs' = noted_by g.script base (notes ++ record { lists = q.lists; byte = b; stays = stays } ∷ []) in
         subst (λ z. Goes t state registers piece (i + 1) z regs' [] []) (sym (target e q h))
         (goes_next t state registers piece i (row / g.width) regs [] [] b less is (told_by g.script e) regs' [] (next_by_class t (row / g.width) b class table byte of ∙ step.at) noted (ap (λ z. parts_code regs b z) (sym (step.update.silent.0 h.silent))) f)
+
+  -- a state stays along bytes of a class
+  module _ (base : List (List Piece)) (notes : List Note) (row class : ℕ) (q : Quiet) (h : IsQuiet (entry_at g.script (row / g.width) class) g.width (length g.quiets.items) q) (lt : class < class_count t.classes) (same : q.row ≡ row) where
+    -- what the registers are then
+    abbrev pub after : List ℕ → List (List Symbol)
+    after bytes = noted_by g.script base (notes ++ staying q.lists bytes)
+
+    after_more : (rest : List ℕ) (n : ℕ) → n < length rest → noted_by g.script base ((notes ++ staying q.lists (take n rest)) ++ record { lists = q.lists; byte = get_or rest n 0; stays = true } ∷ []) ≡ after (take (n + 1) rest)
+    after_more rest n less =
+        ap (λ z. noted_by g.script base z)
+        (append_assoc notes (staying q.lists (take n rest)) (record { lists = q.lists; byte = get_or rest n 0; stays = true } ∷ [])
+        ∙ ap (λ z. notes ++ z) (sym (ap (λ z. staying q.lists z) (take_more rest n 0 less) ∙ map_push (λ x. record { lists = q.lists; byte = x; stays = true }) (take n rest) (get_or rest n 0))))
+
+    after_none : noted_by g.script base notes ≡ after []
+    after_none = ap (λ z. noted_by g.script base z) (sym (append-nil notes))
+
+    module _ (state : ℕ) (registers : List (List Symbol)) (piece rest : List ℕ) (i : ℕ) (fits : i + length rest ≤ length piece) (at : (k : ℕ) → k < length rest → get_or rest k 0 ≡ get_or piece (i + k) 0) (bytes : (k : ℕ) → k < length rest → get_or rest k 0 < 256) where
+      pub stays_on : (n : ℕ) → n ≤ length rest → ((k : ℕ) → k < n → class ≡ class_at t.classes (get_or rest k 0)) → IsPlace t (row / g.width) (noted_by g.script base notes) → Goes t state registers piece i (row / g.width) (noted_by g.script base notes) [] []
+          → IsPlace t (row / g.width) (after (take n rest)) × Goes t state registers piece (i + n) (row / g.width) (after (take n rest)) [] []
+      stays_on zero few of p f = (
+        subst (λ z. IsPlace t (row / g.width) z) after_none p,
+        subst (λ z. Goes t state registers piece z (row / g.width) (after []) [] []) (omega arith) (subst (λ z. Goes t state registers piece i (row / g.width) z [] []) after_none f),
+      )
+      stays_on (suc n) few of p f =
+          let so_far = stays_on n (omega (arith, few)) (λ k less. of k (omega (arith, less))) p f in
+          let less : n < length rest = omega (arith, few) in
+          let b = get_or rest n 0 in
+          let ns = notes ++ staying q.lists (take n rest) in
+          let on : n + 1 ≡ suc n = omega arith in
+          let there : noted_by g.script base (ns ++ record { lists = q.lists; byte = b; stays = true } ∷ []) ≡ after (take (suc n) rest) = after_more rest n less ∙ ap (λ z. after (take z rest)) on in
+          let back : q.row / g.width ≡ row / g.width = ap (λ z. z / g.width) same in
+          let placed = place_quiet base ns row class b true q h lt so_far.0 in
+          let gone = goes_quiet base ns row class b true q h lt state registers piece (i + n) (omega (arith, fits, less)) (at n less) (bytes n less) (of n (omega arith)) so_far.1 in
+          let next : i + n + 1 ≡ i + suc n = omega arith in (
+            subst (λ z. IsPlace t z (after (take (suc n) rest))) back (subst (λ z. IsPlace t (q.row / g.width) z) there placed),
+            subst (λ z. Goes t state registers piece z (row / g.width) (after (take (suc n) rest)) [] []) next
+                (subst (λ z. Goes t state registers piece (i + n + 1) z (after (take (suc n) rest)) [] []) back
+                (subst (λ z. Goes t state registers piece (i + n + 1) (q.row / g.width) z [] []) there gone)),
+          )
 
 -- a piece is followed on behind its front
 pub goes_on : (t : Transducer) (state : ℕ) (registers : List (List Symbol)) (piece rest : List ℕ) (i n : ℕ) (state' : ℕ) (registers' : List (List Symbol)) (state'' : ℕ) (registers'' : List (List Symbol)) (before after : List Symbol) → rest ≡ drop i piece → Goes t state registers piece i state' registers' before after → Follows t state' registers' (take n rest) n state'' registers'' [] [] → Goes t state registers piece (i + n) state'' registers'' before after

@@ -1,6 +1,6 @@
 -- Ways: their parts, one by one, and what they stand for.
 use Rattle.std.proofs.Common.{◌≡◌, ℕ, zero, suc, ◌+◌, ◌<◌, ◌≤◌, List, [], ◌∷◌, ◌++◌, Option, Some, None, length, get_or, take, drop, refl, sym, ap, ap₂, subst, ◌∙◌, append_assoc, append-nil, arith}
-use Rattle.std.specs.Prelude.{All, IfSome}
+use Rattle.std.specs.Prelude.{All, IfSome, slice_get}
 use Rattle.std.proofs.lemmas.List.{take_more, take_all, drop_more}
 use Rattle.std.proofs.lemmas.List.Elements.{All-weaker}
 use Rattle.std.proofs.lemmas.Option.{get_or_from_slice_get, IfSome_then}
@@ -159,22 +159,25 @@ pub step_if : (s : Sheet) (ways : List (List Part)) (number lists : ℕ) (o : Op
 step_if s ways number lists o x from to is h =
     subst (λ z. IfSome z (λ y. IsStep s ways x.from x.lists y)) (sym is) (subst (λ z. IfSome o (λ y. IsStep s ways x.from z y)) (sym to) (subst (λ z. IfSome o (λ y. IsStep s ways z lists y)) (sym from) h))
 
--- a list that is a way and a word, the way gone back
-pub read_whole : (s : Sheet) (base : List (List Symbol)) (notes : List ByteUpdate) (ways ways' : List (List Part)) (x : Split) (p : Place) (byte : ℕ) (list way : List Part) (none old new : List Piece) → (st : IsSplit s.words ways x list) → HasWalked s ways' notes st.front p old new
-    → ((words : List (List Part)) (w : List Part) → IsWord words x.word w → code_over words old ≡ parts_code [] byte w ++ code_over words none) → none ≡ [] → way ≡ get_or ways' p.way []
-    → parts_code (registers_after base (take p.after notes)) 0 way ++ code_over s.words new ≡ parts_code (registers_after base notes) byte list
-read_whole s base notes ways ways' x p byte list way none old new st h said e is =
-    let regs : List (List Symbol) = registers_after base notes in
-    let there : way ≡ h.to = is ∙ get_or_from_slice_get ways' p.way h.to [] h.way.at in
+-- a list that is a way and a word
+pub split_means : (s : Sheet) (regs : List (List Symbol)) (ways : List (List Part)) (x : Split) (byte : ℕ) (list : List Part) (none behind : List Piece) → (st : IsSplit s.words ways x list)
+    → ((words : List (List Part)) (w : List Part) → IsWord words x.word w → code_over words behind ≡ parts_code [] byte w ++ code_over words none) → none ≡ []
+    → parts_code regs 0 st.front ++ code_over s.words behind ≡ parts_code regs byte list
+split_means s regs ways x byte list none behind st said e =
     let word : List Symbol = parts_code [] byte st.parts in
-    ap (λ z. parts_code (registers_after base (take p.after notes)) 0 z ++ code_over s.words new) there
-    ∙ h.text base
-    ∙ ap (λ z. parts_code regs 0 st.front ++ z) (said s.words st.parts st.word ∙ ap (λ z. word ++ code_over s.words z) e ∙ append-nil word)
+    ap (λ z. parts_code regs 0 st.front ++ z) (said s.words st.parts st.word ∙ ap (λ z. word ++ code_over s.words z) e ∙ append-nil word)
     ∙ ap₂ (λ y z. y ++ z) (any_byte regs 0 byte st.front st.way.each) (meant_fresh [] regs byte st.parts st.plain)
     ∙ sym (meant-append regs byte st.front st.parts)
     ∙ ap (λ z. parts_code regs byte z) (sym st.joined)
 
--- a way of no parts stands for nothing
-pub no_way : (regs : List (List Symbol)) (byte : ℕ) (way : List Part) (rest : List Symbol) → length way ≡ 0 → parts_code regs byte way ++ rest ≡ rest
-no_way regs byte [] rest e = refl
-no_way regs byte (x ∷ xs) rest e = absurd (omega (arith, e))
+-- a way that was gone back, where it is read at its place
+pub way_means : (s : Sheet) (base : List (List Symbol)) (notes : List ByteUpdate) (ways : List (List Part)) (p : Place) (from way : List Part) (old new : List Piece) → HasWalked s ways notes from p old new → way ≡ get_or ways p.way []
+    → parts_code (registers_after base (take p.after notes)) 0 way ++ code_over s.words new ≡ parts_code (registers_after base notes) 0 from ++ code_over s.words old
+way_means s base notes ways p from way old new h is =
+    ap (λ z. parts_code (registers_after base (take p.after notes)) 0 z ++ code_over s.words new) (is ∙ get_or_from_slice_get ways p.way h.to [] h.way.at)
+    ∙ h.text base
+
+-- a way that was gone back until nothing was left of it
+pub whole_means : (s : Sheet) (base : List (List Symbol)) (notes : List ByteUpdate) (ways : List (List Part)) (p : Place) (from : List Part) (old new : List Piece) → slice_get ways 0 ≡ Some [] → p.way ≡ 0 → HasWalked s ways notes from p old new
+    → code_over s.words new ≡ parts_code (registers_after base notes) 0 from ++ code_over s.words old
+whole_means s base notes ways p from old new none e h = way_means s base notes ways p from [] old new h (sym (ap (λ z. get_or ways z []) e ∙ get_or_from_slice_get ways 0 [] [] none))

@@ -1,11 +1,12 @@
 -- Quiet updates: those that pass nothing on. They are told by places, a row for each state and in it a place for each class.
-use Rattle.std.specs.Prelude.{◌≡◌, ℕ, ◌+◌, ◌*◌, ◌/◌, ◌%◌, ◌^◌, ◌<◌, ◌≤◌, true, List, Some, length, slice_get}
+use Rattle.std.specs.Prelude.{◌≡◌, ℕ, ◌+◌, ◌*◌, ◌/◌, ◌%◌, ◌^◌, ◌<◌, ◌≤◌, true, List, Some, length, map, slice_get}
 use Rattle.kex_byteset.specs.Classes.{class_count}
 use Rattle.kex_sst.specs.Tables.{Transducer}
 use Rattle.kex_script.specs.declared.script.Entry.{Entry}
 use Rattle.kex_script.specs.Scripts.{Sheet, entry_at}
 use Rattle.kex_runner.specs.declared.quiet.Quiet.{Quiet}
 use Rattle.kex_runner.specs.declared.quiet.Guide.{Guide}
+use Rattle.kex_runner.specs.declared.reading.Note.{Note}
 
 -- an entry is quiet, and this tells its lists, and where the row of its target begins, within so many places
 pub record IsQuiet (e : Entry) (width count : ℕ) (q : Quiet) : Type 0 where
@@ -31,3 +32,7 @@ pub record IsGuide (t : Transducer) (g : Guide) : Type 0 where
   pub some : 0 < g.width
   pub narrow : g.width ≤ 256
   pub quiet : AreQuiet g.script g.width (length g.quiets.items) g.quiets.items
+
+-- an update that stays at its state, noted for each of some bytes
+abbrev pub staying : ℕ → List ℕ → List Note
+staying lists bytes = map (λ b. record { lists = lists; byte = b; stays = true }) bytes

@@ -12,11 +12,13 @@ use kex_script::piece::Piece;
 use kex_script::script::{Script, Tail};
 use std::marker::Model;
 
-/// The update that was done, by the place of its lists in the script, and the byte that was read.
+/// The update that was done, by the place of its lists in the script, and the byte that was read. Where it led from a state to itself
+/// the note may say that it stays: notes of the same update may be before it then.
 #[derive(Clone, Copy)]
 pub struct Note {
     pub lists: u32,
     pub byte: u8,
+    pub stays: bool,
 }
 
 /// A list that is still to be read, over what the registers were after so many notes.

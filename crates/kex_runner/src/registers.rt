@@ -1,12 +1,14 @@
 // Registers, and what an update does to them.
 
-ghost use Rattle.std.specs.Prelude.{◌≡◌, ◌+◌, ◌<◌, ◌≤◌, [], ◌∷◌, ◌++◌, OnOk, OnErr, IfOk, true, false, length, get_or, map, reverse, take};
+ghost use Rattle.std.specs.Prelude.{◌≡◌, ◌≢◌, ◌+◌, ◌-◌, ◌<◌, ◌≤◌, [], ◌∷◌, ◌++◌, OnOk, OnErr, IfOk, IfSome, All, true, false, length, get_or, map, reverse, slice_get, take};
+ghost use Rattle.std.specs.Vec.{vec_capacity, vec_len};
+ghost use Rattle.kex_byteset.specs.Classes.{class_at};
 ghost use Rattle.kex_sst.specs.Parts.{items_of, long_in, parts_code, value};
 ghost use Rattle.kex_script.specs.Pieces.{code_over};
 ghost use Rattle.kex_script.specs.Scripts.{HasUpdate, Sheet, change_at};
 ghost use Rattle.kex_runner.specs.Noting.{contents, next_registers, noted_by, settled_of};
 ghost use Rattle.kex_runner.specs.Following.{Follows, IsRunner};
-ghost use Rattle.kex_runner.specs.Quiet.{IsGuide};
+ghost use Rattle.kex_runner.specs.Quiet.{IsGuide, staying};
 ghost use Rattle.kex_runner.specs.Ways.{AreKnown};
 
 use crate::quiet::{Guide, NOWHERE};
@@ -14,6 +16,7 @@ use crate::reading::{Note, Reading, Settled, read_register};
 use crate::spelling::spell;
 use crate::walking::pass_list;
 use crate::ways::Ways;
+use kex_byteset::Partition;
 use kex_code::code::Code;
 use kex_code::memory::Memory;
 use kex_code::symbol::Symbol;
@@ -95,6 +98,32 @@ fn push(notes: &mut Vec<Note>, note: Note) -> Result<(), Memory>
     }
     notes.push_reserved(note);
     Ok(())
+}
+
+// Notes an update for each byte of a class, up to one of another. Tells how many.
+#[inline(always)]
+fn stay(partition: &Partition, class: u8, lists: u32, piece: &[u8], notes: &mut Vec<Note>) -> usize
+    requires room { vec_len notes.old + length piece.now ≤ vec_capacity notes.old }
+    ensures count { result ≤ length piece.now }
+    ensures class { All (λ b. class_at partition.now b ≡ class) (take result piece.now) }
+    ensures other { IfSome (slice_get piece.now result) (λ b. class_at partition.now b ≢ class) }
+    ensures notes { notes.new.items ≡ notes.old.items ++ staying lists (take result piece.now) }
+    ensures room { vec_len notes.new + (length piece.now - result) ≤ vec_capacity notes.new }
+{
+    let mut count = 0;
+    while count < piece.len() {
+        let byte = piece[count];
+        if partition.class_of(byte) != class {
+            break;
+        }
+        notes.push_reserved(Note {
+            lists,
+            byte,
+            stays: true,
+        });
+        count += 1;
+    }
+    count
 }
 
 // Only the last note is kept, and no register before it.
@@ -216,6 +245,7 @@ impl Registers {
         let note = Note {
             lists: entry.lists,
             byte,
+            stays: false,
         };
         push(&mut self.notes, note)?;
         self.count = entry.registers as usize;
@@ -307,14 +337,24 @@ impl Registers {
         let mut count = 0;
         'quiet: while count < room {
             let byte = piece[count];
-            let quiet = quiets[row + usize::from(partition.class_of(byte))];
+            let class = partition.class_of(byte);
+            let quiet = quiets[row + usize::from(class)];
             if quiet.row == NOWHERE {
                 break;
             }
             let lists = quiet.lists;
-            notes.push_reserved(Note { lists, byte });
-            row = quiet.row as usize;
+            notes.push_reserved(Note {
+                lists,
+                byte,
+                stays: false,
+            });
             count += 1;
+            let next = quiet.row as usize;
+            if next == row {
+                count += stay(partition, class, lists, &piece[count..room], &mut notes);
+            } else {
+                row = next;
+            }
         }
         self.notes = notes;
         let now = guide.state_of(row);

@@ -7,7 +7,7 @@ ghost use Rattle.kex_script.specs.declared.piece.Piece.{Piece};
 ghost use Rattle.kex_script.specs.Pieces.{code_over};
 ghost use Rattle.kex_script.specs.Scripts.{IsWord, Sheet, list_at};
 ghost use Rattle.kex_runner.specs.Noting.{noted_by, registers_after, settled_of, spelled_back, updates_of};
-ghost use Rattle.kex_runner.specs.Ways.{AreKnown, AreOlds, HasWalked, IsSplit, IsStepIf, IsWay};
+ghost use Rattle.kex_runner.specs.Ways.{AreKnown, AreOlds, HasWalked, IsSplit, IsStep, IsStepIf, IsWay};
 
 use crate::reading::{Note, Reading, Settled, ask, look_up, read_list};
 use crate::ways::{Split, Step, Ways, known_step};
@@ -21,7 +21,7 @@ use std::mem;
 #[derive(Clone, Copy)]
 pub struct Place {
     pub way: u16,
-    pub last: u16,
+    pub last: u32,
     pub after: usize,
     pub start: usize,
 }
@@ -48,6 +48,34 @@ fn say(word: Option<u16>, byte: u8, room: &mut [Piece], start: usize) -> usize
     }
 }
 
+// Goes back along notes of one update, before which a way stays the same, up to another.
+#[inline(always)]
+fn stay(split: Split, lists: u32, notes: &[Note], first: Place, room: &mut [Piece]) -> Place
+    requires after { first.after ≤ length notes.now }
+    requires room { first.after ≤ first.start }
+    requires within { first.start ≤ length room.old }
+    ensures after { result.after ≤ first.after }
+    ensures room { result.after ≤ result.start }
+    ensures within { result.start ≤ length room.new }
+    ensures walked { (s : Sheet) (ways : List (List Part)) (way : List Part) (x : List Piece) → split.way ≡ first.way → IsStep s ways first.way lists split
+        → HasWalked s ways (updates_of s notes.now) way first x (drop first.start room.old) → HasWalked s ways (updates_of s notes.now) way result x (drop result.start room.new) }
+{
+    let mut place = first;
+    'notes: while place.after > 0 {
+        let note = notes[place.after - 1];
+        if note.lists != lists {
+            break;
+        }
+        let start = say(split.word, note.byte, room, place.start);
+        place = Place {
+            after: place.after - 1,
+            start,
+            ..place
+        };
+    }
+    place
+}
+
 // Goes back along notes, as far as it is known what the way was. What is said is put before the pieces that are there.
 #[inline(never)]
 fn walk_known(steps: &[Step], notes: &[Note], first: Place, room: &mut [Piece]) -> Place
@@ -65,17 +93,21 @@ fn walk_known(steps: &[Step], notes: &[Note], first: Place, room: &mut [Piece]) 
             return place;
         };
         let start = say(split.word, note.byte, room, place.start);
+        let stays = note.stays && split.way == place.way;
         place = Place {
             way: split.way,
             last: split.last,
             after: place.after - 1,
             start,
         };
+        if stays {
+            place = stay(split, note.lists, notes, place, room);
+        }
     }
     place
 }
 
-// Goes back along all notes, as far as what the way was is a way.
+// Goes back along notes, as far as what the way was is a way, and learns what it was.
 fn walk(
     script: &Script,
     ways: &mut Ways,
@@ -84,15 +116,17 @@ fn walk(
     room: &mut [Piece],
 ) -> Result<Place, Memory>
     requires known { AreKnown script.now ways.old }
-    requires way { (from : List Part) × IsWay ways.old.lists first.way from }
-    requires all { first.after ≡ length notes.now }
+    requires way { (to : List Part) × IsWay ways.old.lists first.way to }
+    requires after { first.after ≤ length notes.now }
     requires room { first.after ≤ first.start }
     requires within { first.start ≤ length room.old }
     ensures known { OnOk result (AreKnown script.now ways.new) }
+    ensures way { IfOk result (λ p. (to : List Part) × IsWay ways.new.lists p.way to) }
+    ensures after { IfOk result (λ p. p.after ≤ length notes.now) }
     ensures within { IfOk result (λ p. p.start ≤ length room.new) }
-    ensures walked { IfOk result (λ p. (from : List Part) → IsWay ways.old.lists first.way from → HasWalked script.now ways.new.lists (updates_of script.now notes.now) from p (drop first.start room.old) (drop p.start room.new)) }
+    ensures walked { IfOk result (λ p. (from : List Part) (x : List Piece) → HasWalked script.now ways.old.lists (updates_of script.now notes.now) from first x (drop first.start room.old) → HasWalked script.now ways.new.lists (updates_of script.now notes.now) from p x (drop p.start room.new)) }
 {
-    let mut place = walk_known(ways.steps(), notes, first, room);
+    let mut place = first;
     'notes: while place.after > 0 && place.way != 0 {
         let note = notes[place.after - 1];
         let Some(split) = ways.step(script, place.way, place.last, note.lists)? else {
@@ -206,6 +240,37 @@ fn pass_way(
     hand_on(&mut reading.back, pieces)
 }
 
+// Puts behind pieces what a way and the pieces behind it stand for.
+#[inline(never)]
+fn pass_rest(
+    script: &Script,
+    ways: &mut Ways,
+    base: &[Settled],
+    notes: &[Note],
+    first: Place,
+    reading: &mut Reading,
+    room: &mut [Piece],
+    pieces: &mut Vec<Piece>,
+) -> Result<(), Memory>
+    requires known { AreKnown script.now ways.old }
+    requires way { (to : List Part) × IsWay ways.old.lists first.way to }
+    requires after { first.after ≤ length notes.now }
+    requires room { first.after ≤ first.start }
+    requires within { first.start ≤ length room.old }
+    ensures known { OnOk result (AreKnown script.now ways.new) }
+    ensures passed { OnOk result ((from : List Part) (x : List Piece) → HasWalked script.now ways.old.lists (updates_of script.now notes.now) from first x (drop first.start room.old)
+        → code_over script.now.words pieces.new.items ≡ code_over script.now.words pieces.old.items ++ (parts_code (noted_by script.now base.now notes.now) 0 from ++ code_over script.now.words x)) }
+{
+    let place = walk(script, ways, notes, first, room)?;
+    let said = &room[place.start..];
+    if place.way == 0 {
+        pieces.extend_from_slice(said)?;
+        return Ok(());
+    }
+    let way = ways.way(place.way);
+    pass_way(script, base, notes, place.after, way, said, reading, pieces)
+}
+
 // Puts behind pieces what a way and a word stand for.
 fn pass_split(
     script: &Script,
@@ -232,14 +297,21 @@ fn pass_split(
         after: notes.len(),
         start,
     };
-    let place = walk(script, ways, notes, first, room)?;
-    let said = &room[place.start..];
+    let place = walk_known(ways.steps(), notes, first, room);
     if place.way == 0 {
-        pieces.extend_from_slice(said)?;
+        pieces.extend_from_slice(&room[place.start..])?;
         return Ok(());
     }
-    let way = ways.way(place.way);
-    pass_way(script, base, notes, place.after, way, said, reading, pieces)
+    pass_rest(script, ways, base, notes, place, reading, room, pieces)
+}
+
+// Makes room for so many pieces.
+#[inline(never)]
+fn grow(room: &mut Vec<Piece>, count: usize) -> Result<(), Memory>
+    ensures { OnOk result (count ≤ length room.new.items) }
+{
+    room.resize(count, Piece { word: 0, byte: 0 })?;
+    Ok(())
 }
 
 // There is room for so many pieces.
@@ -248,7 +320,7 @@ fn make_room(room: &mut Vec<Piece>, count: usize) -> Result<(), Memory>
     ensures { OnOk result (count ≤ length room.new.items) }
 {
     if room.len() < count {
-        room.resize(count, Piece { word: 0, byte: 0 })?;
+        grow(room, count)?;
     }
     Ok(())
 }

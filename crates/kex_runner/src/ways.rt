@@ -23,7 +23,7 @@ const NEAR: usize = 1 << 16;
 #[derive(Clone, Copy, Debug, PartialEq, Eq)]
 pub struct Split {
     pub way: u16,
-    pub last: u16,
+    pub last: u32,
     pub word: Option<u16>,
 }
 
@@ -47,9 +47,9 @@ pub enum Form {
 #[derive(Clone, Copy, Debug, PartialEq, Eq)]
 pub struct Step {
     pub lists: u32,
+    pub last: u32,
     pub from: u16,
     pub way: u16,
-    pub last: u16,
     pub word: u16,
     pub form: Form,
 }
@@ -127,10 +127,10 @@ fn short(number: usize) -> Option<u16>
     }
 }
 
-// The last register of a way, or 0 where it is none or its number long.
-fn last_of(way: &[Part]) -> u16 {
+// The last register of a way, or 0 where it has none.
+fn last_of(way: &[Part]) -> u32 {
     match way.last() {
-        Some(Part::Old(register)) => short(*register as usize).unwrap_or(0),
+        Some(Part::Old(register)) => *register,
         _ => 0,
     }
 }
@@ -193,10 +193,10 @@ fn compose(script: &Script, lists: u32, way: &[Part], parts: &mut Vec<Part>) -> 
 
 // Where the step of a way with this last register is kept: each way of a state has its own.
 #[inline(always)]
-fn place_of(last: u16, lists: u32) -> usize
+fn place_of(last: u32, lists: u32) -> usize
     ensures { result ≡ lists + last }
 {
-    lists as usize + usize::from(last)
+    lists as usize + last as usize
 }
 
 impl Step {
@@ -224,9 +224,9 @@ impl Step {
         };
         Step {
             lists,
+            last: split.last,
             from,
             way: split.way,
-            last: split.last,
             word,
             form,
         }
@@ -255,7 +255,7 @@ impl Step {
 
 // The step of a way before an update, if it is kept.
 #[inline(always)]
-fn kept(steps: &[Step], way: u16, last: u16, lists: u32) -> Option<Step>
+fn kept(steps: &[Step], way: u16, last: u32, lists: u32) -> Option<Step>
     ensures step { IfSome result (λ x. (s : Sheet) (ways : List (List Part)) → All (IsStepIf s ways) steps.now → IfSome (split_in x) (λ y. IsStep s ways way lists y)) }
     ensures kept { IfSome result (λ x. HasStep steps.now way last lists (split_in x)) }
 {
@@ -269,7 +269,7 @@ fn kept(steps: &[Step], way: u16, last: u16, lists: u32) -> Option<Step>
 
 /// What a way was before an update, as a way and a word, if that is known.
 #[inline(always)]
-pub fn known_step(steps: &[Step], way: u16, last: u16, lists: u32) -> Option<Split>
+pub fn known_step(steps: &[Step], way: u16, last: u32, lists: u32) -> Option<Split>
     ensures { IfSome result (λ x. (s : Sheet) (ways : List (List Part)) → All (IsStepIf s ways) steps.now → IsStep s ways way lists x) }
 {
     kept(steps, way, last, lists)?.split()
@@ -328,6 +328,7 @@ impl Ways {
     }
 
     // A list as a way and a word, if it is that.
+    #[inline(never)]
     fn learn_start(&mut self, script: &Script, list: u32) -> Result<Option<Split>, Memory>
         requires known { AreKnown script.now self.old }
         ensures known { OnOk result (AreKnown script.now self.new) }
@@ -367,7 +368,7 @@ impl Ways {
         &mut self,
         script: &Script,
         way: u16,
-        last: u16,
+        last: u32,
         lists: u32,
     ) -> Result<Option<Split>, Memory>
         requires known { AreKnown script.now self.old }
@@ -396,7 +397,7 @@ impl Ways {
         &mut self,
         script: &Script,
         way: u16,
-        last: u16,
+        last: u32,
         lists: u32,
     ) -> Result<Option<Split>, Memory>
         requires known { AreKnown script.now self.old }

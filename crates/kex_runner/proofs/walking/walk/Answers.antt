@@ -1,12 +1,11 @@
-use Rattle.std.proofs.Common.{◌-◌, ◌∙◌, All, get_or, drop, refl, sym, subst, arith}
+use Rattle.std.proofs.Common.{false, ◌-◌, get_or, drop, refl, sym, subst, arith}
 use Rattle.std.specs.Prelude.{IfSome}
 use Rattle.std.proofs.Math.ListN.{get_or-map}
-use Rattle.std.proofs.lemmas.List.{length-map}
 use Rattle.kex_runner.specs.declared.reading.Note.{Note}
 use Rattle.kex_runner.specs.declared.walking.Place.{Place}
 use Rattle.kex_runner.specs.Noting.{update_of, updates_of}
-use Rattle.kex_runner.specs.Ways.{IsStep, IsStepIf}
-use Rattle.kex_runner.proofs.WayLemmas.{walked_none, walked_on}
+use Rattle.kex_runner.specs.Ways.{IsStep}
+use Rattle.kex_runner.proofs.WayLemmas.{walked_on}
 use Rattle.kex_runner.proofs.walking.walk.Goals as goal
 
 pub notes-preserved : goal.notes-preserved
@@ -15,7 +14,7 @@ notes-preserved c =
     let notes = c.args.notes.now in
     let p = c.notes.place in
     let k = p.after - 1 in
-    let none : Note = record { lists = 0; byte = 0 } in
+    let none : Note = record { lists = 0; byte = 0; stays = false } in
     let note : Note = get_or notes k none in
     let split = c.in-Some.split in
     let start = c.say-start.result in
@@ -24,20 +23,9 @@ notes-preserved c =
     let step : IsStep s ways' p.way note.lists split = subst (λ z. IfSome z (λ x. IsStep s ways' p.way note.lists x)) c.in-Some.is c.in_ok-split.ensures.step in
     record {
       known = c.in_ok-split.ensures.known;
+      way = (step.split.front, step.split.way);
+      after = omega (arith, c.notes.invariant.after);
       room = omega (arith, c.notes.invariant.room, c.say-start.ensures.one);
       within = omega (arith, c.notes.invariant.within, c.say-start.ensures.before, c.say-start.ensures.length);
-      walked = λ from h. walked_on s c.notes.ways.lists ways' (updates_of s notes) from p next note.lists split (update_of s none) (update_of s note) (drop c.args.first.start c.args.room.now) (drop p.start c.notes.room) (drop start c.say-start.new.room) c.in_ok-split.ensures.kept (omega (arith, c.notes-test.true)) refl (sym (get_or-map (λ n. update_of s n) notes k none)) refl step c.say-start.ensures.said (c.notes.invariant.walked from h);
-    }
-
-pub notes-init : goal.notes-init
-notes-init c =
-    let s = c.args.script.now in
-    let ways = c.args.ways.now.lists in
-    let behind = drop c.args.first.start c.args.room.now in
-    let notes = updates_of s c.args.notes.now in
-    record {
-      known = c.requires.known;
-      room = c.walk_known-place.ensures.room;
-      within = c.walk_known-place.ensures.within;
-      walked = λ from is. c.walk_known-place.ensures.walked s ways from behind (subst (λ z. All (IsStepIf s ways) z) (sym c.steps.ensures) c.requires.known.steps) (walked_none s ways notes from c.args.first behind (c.requires.all ∙ sym (length-map c.args.notes.now (λ n. update_of s n))) is);
+      walked = λ from x h. walked_on s c.notes.ways.lists ways' (updates_of s notes) from p next note.lists split (update_of s none) (update_of s note) x (drop p.start c.notes.room) (drop start c.say-start.new.room) c.in_ok-split.ensures.kept (omega (arith, c.notes-test.true)) refl (sym (get_or-map (λ n. update_of s n) notes k none)) refl step c.say-start.ensures.said (c.notes.invariant.walked from x h);
     }
