@@ -1,9 +1,10 @@
 -- A table that goes on by quiet updates.
-use Rattle.std.proofs.Common.{◌≡◌, ℕ, zero, suc, ◌+◌, ◌-◌, ◌*◌, ◌/◌, ◌%◌, ◌<◌, ◌≤◌, true, Bool, List, [], ◌∷◌, ◌++◌, Some, length, get_or, take, drop, refl, sym, ap, subst, ◌∙◌, append-nil, append_assoc, arith}
+use Rattle.std.proofs.Common.{◌≡◌, ◌≢◌, ℕ, zero, suc, ◌+◌, ◌-◌, ◌*◌, ◌/◌, ◌%◌, ◌<◌, ◌≤◌, true, Bool, List, [], ◌∷◌, ◌++◌, Some, length, get_or, take, drop, refl, sym, ap, subst, ◌∙◌, append-nil, append_assoc, arith}
 use Rattle.std.specs.Prelude.{All, slice_get}
 use Rattle.std.proofs.Math.Nat.{mul-div_cancel}
 use Rattle.std.proofs.Math.Seq.{take-add}
 use Rattle.std.proofs.lemmas.Nat.{div-mul-add, div-add-mod'}
+use Rattle.std.proofs.lemmas.Option.{slice_get-get_or}
 use Rattle.std.proofs.lemmas.List.{map_push, take_more, take-take, get_or-take, get_or-drop, length-take}
 use Rattle.kex_byteset.specs.Classes.{class_at, class_count}
 use Rattle.kex_code.specs.declared.symbol.Symbol.{Symbol}
@@ -19,7 +20,7 @@ use Rattle.kex_runner.specs.declared.quiet.Guide.{Guide}
 use Rattle.kex_runner.specs.declared.reading.Note.{Note}
 use Rattle.kex_runner.specs.Noting.{next_registers, noted_by, registers_after, settled_of, update_of, updates_of}
 use Rattle.kex_runner.specs.Following.{Follows, IsPlace, pass_at}
-use Rattle.kex_runner.specs.Quiet.{IsGuide, IsQuiet, staying}
+use Rattle.kex_runner.specs.Quiet.{IsGuide, IsQuiet, StaysAt, quiet_at, staying}
 use Rattle.kex_runner.proofs.Notes.{registers_push}
 use Rattle.kex_runner.proofs.ByteSteps.{Goes, goes_next, next_by_class, place_next}
 use Rattle.kex_runner.proofs.ScriptSteps.{IsStep, told_by, step_of}
@@ -40,9 +41,9 @@ noted_more g base notes n =
     ap (λ z. registers_after (settled_of g.script base) z) (map_push (λ m. update_of g.script m) notes n)
     ∙ registers_push (settled_of g.script base) (updates_of g.script notes) (update_of g.script n)
 
--- the class of each byte of a front
-pub class_each : (classes rest : List ℕ) (class n : ℕ) → n ≤ length rest → All (λ b. class_at classes b ≡ class) (take n rest) → (k : ℕ) → k < n → class ≡ class_at classes (get_or rest k 0)
-class_each classes rest class n le h k lt = sym (ap (λ z. class_at classes z) (sym (get_or-take n rest k 0 lt)) ∙ h k 0 (omega (arith, lt, le, length-take n rest)))
+-- each byte of a front is one at which a row is not left
+pub stays_each : (qs : List Quiet) (classes rest : List ℕ) (row n : ℕ) → n ≤ length rest → All (StaysAt qs classes row) (take n rest) → (k : ℕ) → k < n → StaysAt qs classes row (get_or rest k 0)
+stays_each qs classes rest row n le h k lt = subst (λ z. StaysAt qs classes row z) (get_or-take n rest k 0 lt) (h k 0 (omega (arith, lt, le, length-take n rest)))
 
 -- a byte of the middle of a piece
 pub byte_within : (piece : List ℕ) (from to k : ℕ) → k < length (take (to - from) (drop from piece)) → get_or (take (to - from) (drop from piece)) k 0 ≡ get_or piece (from + k) 0
@@ -90,23 +91,34 @@ module _ (t : Transducer) (g : Guide) (table : IsTable t) (script : IsScriptOf g
         subst (λ z. Goes t state registers piece (i + 1) z regs' [] []) (sym (target e q h))
         (goes_next t state registers piece i (row / g.width) regs [] [] b less is (told_by g.script e) regs' [] (next_by_class t (row / g.width) b class table byte of ∙ step.at) noted (ap (λ z. parts_code regs b z) (sym (step.update.silent.0 h.silent))) f)
 
-  -- a state stays along bytes of a class
-  module _ (base : List (List Piece)) (notes : List Note) (row class : ℕ) (q : Quiet) (h : IsQuiet (entry_at g.script (row / g.width) class) g.width (length g.quiets.items) q) (lt : class < class_count t.classes) (same : q.row ≡ row) where
+  -- a state stays along bytes at which its row is not left
+  module _ (base : List (List Piece)) (notes : List Note) (row : ℕ) (whole : row ≡ row / g.width * g.width) (some : row ≢ 4294967295) (inside : row + g.width ≤ length g.quiets.items) where
     -- what the registers are then
     abbrev pub after : List ℕ → List (List Symbol)
-    after bytes = noted_by g.script base (notes ++ staying q.lists bytes)
+    after bytes = noted_by g.script base (notes ++ staying g.quiets.items t.classes row bytes)
 
-    after_more : (rest : List ℕ) (n : ℕ) → n < length rest → noted_by g.script base ((notes ++ staying q.lists (take n rest)) ++ record { lists = q.lists; byte = get_or rest n 0; stays = true } ∷ []) ≡ after (take (n + 1) rest)
+    abbrev quiet : ℕ → Quiet
+    quiet b = quiet_at g.quiets.items t.classes row b
+
+    after_more : (rest : List ℕ) (n : ℕ) → n < length rest → noted_by g.script base ((notes ++ staying g.quiets.items t.classes row (take n rest)) ++ record { lists = (quiet (get_or rest n 0)).lists; byte = get_or rest n 0; stays = true } ∷ []) ≡ after (take (n + 1) rest)
     after_more rest n less =
+        let run : List ℕ → List Note = λ bytes. staying g.quiets.items t.classes row bytes in
+        let b = get_or rest n 0 in
+        let note : Note = record { lists = (quiet b).lists; byte = b; stays = true } in
         ap (λ z. noted_by g.script base z)
-        (append_assoc notes (staying q.lists (take n rest)) (record { lists = q.lists; byte = get_or rest n 0; stays = true } ∷ [])
-        ∙ ap (λ z. notes ++ z) (sym (ap (λ z. staying q.lists z) (take_more rest n 0 less) ∙ map_push (λ x. record { lists = q.lists; byte = x; stays = true }) (take n rest) (get_or rest n 0))))
+        (append_assoc notes (run (take n rest)) (note ∷ [])
+        ∙ ap (λ z. notes ++ z) (sym (ap run (take_more rest n 0 less) ∙ map_push (λ x. record { lists = (quiet x).lists; byte = x; stays = true }) (take n rest) b)))
 
     after_none : noted_by g.script base notes ≡ after []
     after_none = ap (λ z. noted_by g.script base z) (sym (append-nil notes))
 
+    told_of : (b : ℕ) → StaysAt g.quiets.items t.classes row b → IsQuiet (entry_at g.script (row / g.width) (class_at t.classes b)) g.width (length g.quiets.items) (quiet b)
+    told_of b stays =
+        let lt : class_at t.classes b < g.width = omega (arith, stays.0, guide.wide) in
+        told row (class_at t.classes b) (quiet b) whole lt (slice_get-get_or g.quiets.items (row + class_at t.classes b) (record { row = 0; lists = 0 }) (omega (arith, lt, inside))) (λ e. some (sym stays.1 ∙ e))
+
     module _ (state : ℕ) (registers : List (List Symbol)) (piece rest : List ℕ) (i : ℕ) (fits : i + length rest ≤ length piece) (at : (k : ℕ) → k < length rest → get_or rest k 0 ≡ get_or piece (i + k) 0) (bytes : (k : ℕ) → k < length rest → get_or rest k 0 < 256) where
-      pub stays_on : (n : ℕ) → n ≤ length rest → ((k : ℕ) → k < n → class ≡ class_at t.classes (get_or rest k 0)) → IsPlace t (row / g.width) (noted_by g.script base notes) → Goes t state registers piece i (row / g.width) (noted_by g.script base notes) [] []
+      pub stays_on : (n : ℕ) → n ≤ length rest → ((k : ℕ) → k < n → StaysAt g.quiets.items t.classes row (get_or rest k 0)) → IsPlace t (row / g.width) (noted_by g.script base notes) → Goes t state registers piece i (row / g.width) (noted_by g.script base notes) [] []
           → IsPlace t (row / g.width) (after (take n rest)) × Goes t state registers piece (i + n) (row / g.width) (after (take n rest)) [] []
       stays_on zero few of p f = (
         subst (λ z. IsPlace t (row / g.width) z) after_none p,
@@ -116,12 +128,16 @@ module _ (t : Transducer) (g : Guide) (table : IsTable t) (script : IsScriptOf g
           let so_far = stays_on n (omega (arith, few)) (λ k less. of k (omega (arith, less))) p f in
           let less : n < length rest = omega (arith, few) in
           let b = get_or rest n 0 in
-          let ns = notes ++ staying q.lists (take n rest) in
+          let stays = of n (omega arith) in
+          let q = quiet b in
+          let class = class_at t.classes b in
+          let h = told_of b stays in
+          let ns = notes ++ staying g.quiets.items t.classes row (take n rest) in
           let on : n + 1 ≡ suc n = omega arith in
           let there : noted_by g.script base (ns ++ record { lists = q.lists; byte = b; stays = true } ∷ []) ≡ after (take (suc n) rest) = after_more rest n less ∙ ap (λ z. after (take z rest)) on in
-          let back : q.row / g.width ≡ row / g.width = ap (λ z. z / g.width) same in
-          let placed = place_quiet base ns row class b true q h lt so_far.0 in
-          let gone = goes_quiet base ns row class b true q h lt state registers piece (i + n) (omega (arith, fits, less)) (at n less) (bytes n less) (of n (omega arith)) so_far.1 in
+          let back : q.row / g.width ≡ row / g.width = ap (λ z. z / g.width) stays.1 in
+          let placed = place_quiet base ns row class b true q h stays.0 so_far.0 in
+          let gone = goes_quiet base ns row class b true q h stays.0 state registers piece (i + n) (omega (arith, fits, less)) (at n less) (bytes n less) refl so_far.1 in
           let next : i + n + 1 ≡ i + suc n = omega arith in (
             subst (λ z. IsPlace t z (after (take (suc n) rest))) back (subst (λ z. IsPlace t (q.row / g.width) z) there placed),
             subst (λ z. Goes t state registers piece z (row / g.width) (after (take (suc n) rest)) [] []) next

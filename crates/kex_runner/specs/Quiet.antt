@@ -1,6 +1,6 @@
 -- Quiet updates: those that pass nothing on. They are told by places, a row for each state and in it a place for each class.
-use Rattle.std.specs.Prelude.{◌≡◌, ℕ, ◌+◌, ◌*◌, ◌/◌, ◌%◌, ◌^◌, ◌<◌, ◌≤◌, true, List, Some, length, map, slice_get}
-use Rattle.kex_byteset.specs.Classes.{class_count}
+use Rattle.std.specs.Prelude.{◌≡◌, ℕ, ◌+◌, ◌*◌, ◌/◌, ◌%◌, ◌^◌, ◌<◌, ◌≤◌, true, List, Some, get_or, length, map, slice_get}
+use Rattle.kex_byteset.specs.Classes.{class_at, class_count}
 use Rattle.kex_sst.specs.Tables.{Transducer}
 use Rattle.kex_script.specs.declared.script.Entry.{Entry}
 use Rattle.kex_script.specs.Scripts.{Sheet, entry_at}
@@ -33,6 +33,14 @@ pub record IsGuide (t : Transducer) (g : Guide) : Type 0 where
   pub narrow : g.width ≤ 256
   pub quiet : AreQuiet g.script g.width (length g.quiets.items) g.quiets.items
 
--- an update that stays at its state, noted for each of some bytes
-abbrev pub staying : ℕ → List ℕ → List Note
-staying lists bytes = map (λ b. record { lists = lists; byte = b; stays = true }) bytes
+-- what is told for a byte in a row
+abbrev pub quiet_at : List Quiet → List ℕ → ℕ → ℕ → Quiet
+quiet_at qs classes row b = get_or qs (row + class_at classes b) (record { row = 0; lists = 0 })
+
+-- it leads back to the row
+abbrev pub StaysAt : List Quiet → List ℕ → ℕ → ℕ → Type 0
+StaysAt qs classes row b = (class_at classes b < class_count classes) × ((quiet_at qs classes row b).row ≡ row)
+
+-- the updates that a row tells for some bytes, noted as such that stay
+abbrev pub staying : List Quiet → List ℕ → ℕ → List ℕ → List Note
+staying qs classes row bytes = map (λ b. record { lists = (quiet_at qs classes row b).lists; byte = b; stays = true }) bytes

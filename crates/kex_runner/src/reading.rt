@@ -12,8 +12,8 @@ use kex_script::piece::Piece;
 use kex_script::script::{Script, Tail};
 use std::marker::Model;
 
-/// The update that was done, by the place of its lists in the script, and the byte that was read. Where it led from a state to itself
-/// the note may say that it stays: notes of the same update may be before it then.
+/// The update that was done, by the place of its lists in the script, and the byte that was read. Where the state stays a note
+/// may say so: notes of the same update may stand before it then. Nothing rests on what it says.
 #[derive(Clone, Copy)]
 pub struct Note {
     pub lists: u32,

@@ -2,16 +2,16 @@
 
 ghost use Rattle.std.specs.Prelude.{◌≡◌, ◌≢◌, ◌+◌, ◌-◌, ◌<◌, ◌≤◌, [], ◌∷◌, ◌++◌, OnOk, OnErr, IfOk, IfSome, All, true, false, length, get_or, map, reverse, slice_get, take};
 ghost use Rattle.std.specs.Vec.{vec_capacity, vec_len};
-ghost use Rattle.kex_byteset.specs.Classes.{class_at};
+ghost use Rattle.kex_byteset.specs.Classes.{class_count};
 ghost use Rattle.kex_sst.specs.Parts.{items_of, long_in, parts_code, value};
 ghost use Rattle.kex_script.specs.Pieces.{code_over};
 ghost use Rattle.kex_script.specs.Scripts.{HasUpdate, Sheet, change_at};
 ghost use Rattle.kex_runner.specs.Noting.{contents, next_registers, noted_by, settled_of};
 ghost use Rattle.kex_runner.specs.Following.{Follows, IsRunner};
-ghost use Rattle.kex_runner.specs.Quiet.{IsGuide, staying};
+ghost use Rattle.kex_runner.specs.Quiet.{IsGuide, StaysAt, quiet_at, staying};
 ghost use Rattle.kex_runner.specs.Ways.{AreKnown};
 
-use crate::quiet::{Guide, NOWHERE};
+use crate::quiet::{Guide, NOWHERE, Quiet};
 use crate::reading::{Note, Reading, Settled, read_register};
 use crate::spelling::spell;
 use crate::walking::pass_list;
@@ -100,24 +100,32 @@ fn push(notes: &mut Vec<Note>, note: Note) -> Result<(), Memory>
     Ok(())
 }
 
-// Notes an update for each byte of a class, up to one of another. Tells how many.
+// Notes the updates of a row for each byte at which it is not left, up to one at which it is. Tells how many.
 #[inline(always)]
-fn stay(partition: &Partition, class: u8, lists: u32, piece: &[u8], notes: &mut Vec<Note>) -> usize
+fn stay(
+    quiets: &[Quiet],
+    partition: &Partition,
+    row: usize,
+    piece: &[u8],
+    notes: &mut Vec<Note>,
+) -> usize
+    requires row { row + class_count partition.now ≤ length quiets.now }
     requires room { vec_len notes.old + length piece.now ≤ vec_capacity notes.old }
     ensures count { result ≤ length piece.now }
-    ensures class { All (λ b. class_at partition.now b ≡ class) (take result piece.now) }
-    ensures other { IfSome (slice_get piece.now result) (λ b. class_at partition.now b ≢ class) }
-    ensures notes { notes.new.items ≡ notes.old.items ++ staying lists (take result piece.now) }
+    ensures stays { All (StaysAt quiets.now partition.now row) (take result piece.now) }
+    ensures other { IfSome (slice_get piece.now result) (λ b. (quiet_at quiets.now partition.now row b).row ≢ row) }
+    ensures notes { notes.new.items ≡ notes.old.items ++ staying quiets.now partition.now row (take result piece.now) }
     ensures room { vec_len notes.new + (length piece.now - result) ≤ vec_capacity notes.new }
 {
     let mut count = 0;
     while count < piece.len() {
         let byte = piece[count];
-        if partition.class_of(byte) != class {
+        let told = quiets[row + usize::from(partition.class_of(byte))];
+        if told.row as usize != row {
             break;
         }
         notes.push_reserved(Note {
-            lists,
+            lists: told.lists,
             byte,
             stays: true,
         });
@@ -337,21 +345,19 @@ impl Registers {
         let mut count = 0;
         'quiet: while count < room {
             let byte = piece[count];
-            let class = partition.class_of(byte);
-            let quiet = quiets[row + usize::from(class)];
+            let quiet = quiets[row + usize::from(partition.class_of(byte))];
             if quiet.row == NOWHERE {
                 break;
             }
-            let lists = quiet.lists;
             notes.push_reserved(Note {
-                lists,
+                lists: quiet.lists,
                 byte,
                 stays: false,
             });
             count += 1;
             let next = quiet.row as usize;
             if next == row {
-                count += stay(partition, class, lists, &piece[count..room], &mut notes);
+                count += stay(quiets, partition, row, &piece[count..room], &mut notes);
             } else {
                 row = next;
             }

@@ -1,6 +1,6 @@
 // Looking up by ways: back through the notes, a step for each.
 
-ghost use Rattle.std.specs.Prelude.{◌≡◌, ◌+◌, ◌≤◌, ◌<◌, ◌++◌, ◌∷◌, [], List, All, IfOk, OnOk, length, get_or, take, drop, reverse};
+ghost use Rattle.std.specs.Prelude.{◌≡◌, ◌≢◌, ◌+◌, ◌-◌, ◌≤◌, ◌<◌, ◌++◌, ◌∷◌, [], List, All, IfOk, IfSome, OnOk, length, get_or, slice_get, take, drop, reverse};
 ghost use Rattle.kex_sst.specs.declared.parts.Part.{Part};
 ghost use Rattle.kex_sst.specs.Parts.{parts_code, value};
 ghost use Rattle.kex_script.specs.declared.piece.Piece.{Piece};
@@ -55,6 +55,7 @@ fn stay(split: Split, lists: u32, notes: &[Note], first: Place, room: &mut [Piec
     requires room { first.after ≤ first.start }
     requires within { first.start ≤ length room.old }
     ensures after { result.after ≤ first.after }
+    ensures other { 0 < result.after → IfSome (slice_get notes.now (result.after - 1)) (λ n. n.lists ≢ lists) }
     ensures room { result.after ≤ result.start }
     ensures within { result.start ≤ length room.new }
     ensures walked { (s : Sheet) (ways : List (List Part)) (way : List Part) (x : List Piece) → split.way ≡ first.way → IsStep s ways first.way lists split

@@ -1,14 +1,13 @@
 use Rattle.std.proofs.Common.{◌≡◌, ◌+◌, ◌-◌, ◌≤◌, ◌++◌, All, length, take}
 use Rattle.std.specs.Vec.{vec_capacity, vec_len}
-use Rattle.kex_byteset.specs.Classes.{class_at}
-use Rattle.kex_runner.specs.Quiet.{staying}
+use Rattle.kex_runner.specs.Quiet.{StaysAt, staying}
 use Rattle.kex_runner.proofs.registers.stay.Given as goal
 
 abbrev pub invariant-loop-count : goal.invariant-loop-count
 invariant-loop-count l = record {
   count : l.count ≤ length l.piece;
-  class : All (λ b. class_at l.partition b ≡ l.class) (take l.count l.piece);
-  notes : l.notes.items ≡ l.initial.notes.items ++ staying l.lists (take l.count l.piece);
+  stays : All (StaysAt l.quiets l.partition l.row) (take l.count l.piece);
+  notes : l.notes.items ≡ l.initial.notes.items ++ staying l.quiets l.partition l.row (take l.count l.piece);
   room : vec_len l.notes + (length l.piece - l.count) ≤ vec_capacity l.notes;
 }
 

@@ -1,5 +1,6 @@
-use Rattle.std.proofs.Common.{◌-◌, ◌∙◌, false, get_or, drop, refl, sym, subst, arith}
+use Rattle.std.proofs.Common.{◌≢◌, ◌-◌, ◌<◌, ◌∙◌, false, IfSome, get_or, drop, length, refl, sym, subst, arith}
 use Rattle.std.proofs.Math.ListN.{get_or-map}
+use Rattle.std.proofs.lemmas.Option.{slice_get-get_or}
 use Rattle.kex_runner.specs.declared.reading.Note.{Note}
 use Rattle.kex_runner.specs.declared.walking.Place.{Place}
 use Rattle.kex_runner.specs.Noting.{update_of, updates_of}
@@ -26,3 +27,10 @@ notes-preserved c =
           let here : IsStep s ways p.way note.lists split = subst (λ z. IsStep s ways z note.lists split) (sym c.notes.invariant.way) (subst (λ z. IsStep s ways c.args.first.way z split) (sym c.if-note-lists.false) step) in
           walked_on s ways ways (updates_of s notes) from p next note.lists split (update_of s none) (update_of s note) behind (drop p.start c.notes.room) (drop start c.say-start.new.room) (λ k x e. e) (omega (arith, c.notes-test.true)) (c.notes.invariant.way ∙ sym same) (sym (get_or-map (λ n. update_of s n) notes k none)) refl here c.say-start.ensures.said (c.notes.invariant.walked s ways from behind same step h);
     }
+
+pub returns-then-note-lists-clause-other : goal.returns-then-note-lists-clause-other
+returns-then-note-lists-clause-other c some =
+    let notes = c.args.notes.now in
+    let k = c.notes.place.after - 1 in
+    let within : k < length notes = omega (arith, c.notes.invariant.after, c.requires.after, some) in
+    subst (λ o. IfSome o (λ (n : Note). n.lists ≢ c.args.lists)) (sym (slice_get-get_or notes k (record { lists = 0; byte = 0; stays = false }) within)) c.if-note-lists.true

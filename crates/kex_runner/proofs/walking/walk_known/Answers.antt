@@ -40,7 +40,7 @@ notes-preserved-then-stays c =
     let split = c.in-Some.split in
     let start = c.say-start.result in
     let next : Place = record { way = split.way; last = split.last; after = k; start = start } in
-    let same : split.way ≡ p.way = elim c.if-note.branch [ then-note w ↦ omega (arith, w.stays-is, c.if-stays.true) | else-note w ↦ absurd (true≢false (sym c.if-stays.true ∙ w.stays-is ∙ w.if-note.false)) ] in
+    let same : split.way ≡ p.way = elim c.if-note.branch [ then-note w ↦ omega arith | else-note w ↦ absurd (true≢false (sym c.if-stays.true ∙ w.stays-is ∙ w.if-note.false)) ] in
     record {
       after = omega (arith, c.stay-place.ensures.after, c.notes.invariant.after);
       room = c.stay-place.ensures.room;

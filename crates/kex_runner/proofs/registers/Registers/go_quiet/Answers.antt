@@ -1,4 +1,4 @@
-use Rattle.std.proofs.Common.{◌≡◌, ℕ, ◌+◌, ◌-◌, ◌*◌, ◌/◌, ◌<◌, ◌≤◌, false, All, drop, take, List, [], Some, length, get_or, refl, sym, ap, subst, ◌∙◌, arith}
+use Rattle.std.proofs.Common.{◌≡◌, ℕ, ◌+◌, ◌-◌, ◌*◌, ◌/◌, ◌<◌, ◌≤◌, ◌++◌, false, All, drop, take, List, [], Some, length, get_or, refl, sym, ap, ap₂, subst, ◌∙◌, arith}
 use Rattle.std.specs.Prelude.{slice_get}
 use Rattle.std.specs.Vec.{vec_capacity, vec_len}
 use Rattle.std.proofs.Math.Nat.{mul-div_cancel, mul-le-mul}
@@ -10,9 +10,9 @@ use Rattle.kex_script.specs.Scripts.{entry_at}
 use Rattle.kex_runner.specs.declared.quiet.Quiet.{Quiet}
 use Rattle.kex_runner.specs.Noting.{contents, noted_by}
 use Rattle.kex_runner.specs.Following.{IsPlace}
-use Rattle.kex_runner.specs.Quiet.{IsQuiet}
+use Rattle.kex_runner.specs.Quiet.{IsQuiet, StaysAt, staying}
 use Rattle.kex_runner.proofs.ByteSteps.{Goes, goes_none, place_in_range}
-use Rattle.kex_runner.proofs.QuietUpdates.{told, whole_next, place_quiet, goes_quiet, stays_on, class_each, byte_within}
+use Rattle.kex_runner.proofs.QuietUpdates.{told, whole_next, place_quiet, goes_quiet, stays_on, stays_each, byte_within}
 use Rattle.kex_runner.proofs.registers.Registers.go_quiet.Goals as goal
 use Rattle.kex_runner.proofs.registers.Registers.go_quiet.Goals.{After-push_reserved}
 
@@ -55,7 +55,7 @@ quiet-init c =
 
 module _ (c : After-push_reserved) where
   abbrev class : ℕ
-  class = c.class_of-class.result
+  class = c.class_of.result
 
   abbrev all : List Quiet
   all = c.as_slice-quiets.result.now
@@ -67,7 +67,7 @@ module _ (c : After-push_reserved) where
   quiet = get_or all (c.quiet.row + c.from.result) none
 
   few : class < class_count c.args.table.now.classes
-  few = subst (λ z. class < class_count z) c.partition-partition.ensures.same c.class_of-class.ensures.below
+  few = subst (λ z. class < class_count z) c.partition-partition.ensures.same c.class_of.ensures.below
 
   told_there : IsQuiet (entry_at c.args.guide.now.script (c.quiet.row / c.args.guide.now.width) class) c.args.guide.now.width (length c.args.guide.now.quiets.items) quiet
   told_there =
@@ -93,7 +93,7 @@ module _ (c : After-push_reserved) where
       let b = get_or c.args.piece.now c.quiet.count 0 in
       let long : c.quiet.count < length c.args.piece.now = omega (arith, c.quiet-test.true, c.min-room.ensures) in
       subst (λ z. Goes t c.args.state.now (contents g.script c.args.self.now) c.args.piece.now (c.quiet.count + 1) (quiet.row / g.width) (noted_by g.script c.args.self.now.base.items z) [] []) (sym c.push_reserved.ensures.items)
-      (goes_quiet t g c.requires.runner.sound.table c.requires.runner.script c.requires.guide c.args.self.now.base.items c.quiet.notes.items c.quiet.row class b false quiet told_there few c.args.state.now (contents g.script c.args.self.now) c.args.piece.now c.quiet.count long refl (c.type_inv.piece c.quiet.count).fits (c.class_of-class.ensures.class ∙ ap (λ z. class_at z b) c.partition-partition.ensures.same) c.quiet.invariant.goes)
+      (goes_quiet t g c.requires.runner.sound.table c.requires.runner.script c.requires.guide c.args.self.now.base.items c.quiet.notes.items c.quiet.row class b false quiet told_there few c.args.state.now (contents g.script c.args.self.now) c.args.piece.now c.quiet.count long refl (c.type_inv.piece c.quiet.count).fits (c.class_of.ensures.class ∙ ap (λ z. class_at z b) c.partition-partition.ensures.same) c.quiet.invariant.goes)
 
 pub quiet-preserved : goal.quiet-preserved
 quiet-preserved c =
@@ -108,6 +108,10 @@ quiet-preserved c =
       place = placed top;
       goes = gone top;
     }
+
+pub stay-count-requires-clause-row : goal.stay-count-requires-clause-row
+stay-count-requires-clause-row c =
+    omega (arith, c.quiet.invariant.within, c.requires.guide.wide, ap length c.as_slice-quiets.ensures.value, ap class_count c.partition-partition.ensures.same)
 
 pub quiet-preserved-then-next-row : goal.quiet-preserved-then-next-row
 quiet-preserved-then-next-row c =
@@ -125,20 +129,24 @@ quiet-preserved-then-next-row c =
     let back : q.row / w ≡ row / w = ap (λ z. z / w) same in
     let notes = c.push_reserved.new.self.items in
     let regs = contents g.script c.args.self.now in
+    let n = c.stay-count.result in
     let long : length rest ≡ to - from = omega (arith, length-take (to - from) (drop from c.args.piece.now), length-drop from c.args.piece.now, c.min-room.ensures) in
     let fits : from + length rest ≤ length c.args.piece.now = omega (arith, long, c.min-room.ensures, c.quiet-test.true) in
     let at = byte_within c.args.piece.now from to in
     let few_more = c.stay-count.ensures.count in
-    let each = class_each t.classes rest (class top) c.stay-count.result few_more (subst (λ z. All (λ b. class_at z b ≡ class top) (take c.stay-count.result rest)) c.partition-partition.ensures.same c.stay-count.ensures.class) in
-    let all = stays_on t g c.requires.runner.sound.table c.requires.runner.script c.requires.guide base notes row (class top) q (told_there top) (few top) same c.args.state.now regs c.args.piece.now rest from fits at (λ k lt. subst (λ z. z < 256) (sym (at k lt)) (c.type_inv.piece (from + k)).fits) c.stay-count.result few_more each
+    let quiets = c.as_slice-quiets.ensures.value in
+    let classes = c.partition-partition.ensures.same in
+    let stays = subst (λ z. All (StaysAt z t.classes row) (take n rest)) quiets (subst (λ z. All (StaysAt c.as_slice-quiets.result.now z row) (take n rest)) classes c.stay-count.ensures.stays) in
+    let noted : c.stay-count.new.notes.items ≡ notes ++ staying g.quiets.items t.classes row (take n rest) = c.stay-count.ensures.notes ∙ ap₂ (λ x y. notes ++ staying x y row (take n rest)) quiets classes in
+    let all = stays_on t g c.requires.runner.sound.table c.requires.runner.script c.requires.guide base notes row c.quiet.invariant.whole (λ e. c.if-quiet.false (same ∙ e)) c.quiet.invariant.within c.args.state.now regs c.args.piece.now rest from fits at (λ k lt. subst (λ z. z < 256) (sym (at k lt)) (c.type_inv.piece (from + k)).fits) n few_more (stays_each g.quiets.items t.classes rest row n few_more stays)
     (subst (λ z. IsPlace t z (noted_by g.script base notes)) back (placed top)) (subst (λ z. Goes t c.args.state.now regs c.args.piece.now from z (noted_by g.script base notes) [] []) back (gone top)) in
     record {
       count = omega (arith, few_more, long, c.quiet-test.true);
       within = c.quiet.invariant.within;
       whole = c.quiet.invariant.whole;
       room = omega (arith, c.stay-count.ensures.room, long, few_more, c.quiet-test.true);
-      place = subst (λ z. IsPlace t (row / w) (noted_by g.script base z)) (sym c.stay-count.ensures.notes) all.0;
-      goes = subst (λ z. Goes t c.args.state.now regs c.args.piece.now (from + c.stay-count.result) (row / w) (noted_by g.script base z) [] []) (sym c.stay-count.ensures.notes) all.1;
+      place = subst (λ z. IsPlace t (row / w) (noted_by g.script base z)) (sym noted) all.0;
+      goes = subst (λ z. Goes t c.args.state.now regs c.args.piece.now (from + n) (row / w) (noted_by g.script base z) [] []) (sym noted) all.1;
     }
 
 pub overflow_cast-state : goal.overflow_cast-state
