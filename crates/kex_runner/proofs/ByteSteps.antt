@@ -122,3 +122,13 @@ follows_front t state registers piece good taken state' registers' before after 
       let here : good + 1 ≤ taken = omega (arith, s.0) in
       ap (λ z. passes_if t (Some (pass_at state c registers)) z) (take-take (good + 1) taken piece here) ∙ s.1 c;
 }
+
+-- along no bytes a table stays where it is
+pub follows_none : (t : Transducer) (state : ℕ) (registers : List (List Symbol)) (piece : List ℕ) (n state' : ℕ) (registers' : List (List Symbol)) → n ≡ 0 → Follows t state registers (take n piece) n state' registers' [] [] → (state' ≡ state) × (registers' ≡ registers)
+follows_none t state registers piece n state' registers' none f =
+    let here : Some (pass_at state [] registers) ≡ Some (pass_at state' ([] ++ f.more) registers') = sym (ap (λ z. passes_if t (Some (pass_at state [] registers)) (take z (take n piece))) none) ∙ f.goes [] in
+    let same : pass_at state [] registers ≡ pass_at state' ([] ++ f.more) registers' = some_same here in
+    (ap (λ (p : Pass). p.state) (sym same), ap (λ (p : Pass). p.registers) (sym same))
+  where
+    some_same : {x y : Pass} → Some x ≡ Some y → x ≡ y
+    some_same e = cc

@@ -35,8 +35,9 @@ const LEAST: usize = 4096;
 /// The registers of a state. Updates are noted, and not done: a register is looked up where it is passed on, from the last note
 /// back to where the notes begin. There each has its pieces.
 ///
-/// When there are many notes each register is looked up and its pieces kept, and the notes begin anew. Many is 4,096, or twice the
-/// pieces that the registers held when this was last done, if that is more.
+/// When there are many notes each register is looked up and its pieces kept, and the notes begin anew, if that halves what is kept: text
+/// that several registers hold is kept once by notes. Many is 4,096, or twice the pieces or the notes that there were when this was
+/// last tried, if that is more.
 #[derive(Drop)]
 pub struct Registers {
     alloc: Global,
@@ -58,24 +59,31 @@ fn settled_pieces(alloc: Global, back: &[Piece]) -> Result<Settled, Memory>
     Ok(Settled { pieces })
 }
 
-// The first so many registers, each looked up.
+// The first so many registers, each looked up. None where they come to more pieces than so many.
 fn settled(
     alloc: Global,
     script: &Script,
     base: &[Settled],
     notes: &[Note],
     count: usize,
+    most: usize,
     reading: &mut Reading,
-) -> Result<Vec<Settled>, Memory>
+) -> Result<Option<Vec<Settled>>, Memory>
     requires { count ≡ length (noted_by script.now base.now notes.now) }
-    ensures { IfOk result (λ all. settled_of script.now all.items ≡ noted_by script.now base.now notes.now) }
+    ensures { IfOk result (λ o. IfSome o (λ all. settled_of script.now all.items ≡ noted_by script.now base.now notes.now)) }
 {
     let mut all = Vec::new(alloc);
+    let mut left = most;
     for i in 0..count {
         read_register(script, base, notes, i, reading)?;
+        let pieces = reading.back.len();
+        if pieces > left {
+            return Ok(None);
+        }
+        left -= pieces;
         all.push(settled_pieces(alloc, &reading.back)?)?;
     }
-    Ok(all)
+    Ok(Some(all))
 }
 
 // How many pieces settled registers have, or the most that the number can say.
@@ -203,20 +211,29 @@ impl Registers {
         self.limit = LEAST;
     }
 
-    // The registers are settled, and the notes begin anew.
+    // The registers are settled, and the notes begin anew, if that halves what is kept.
     fn settle(&mut self, script: &Script) -> Result<(), Memory>
         requires counted { self.old.count ≡ length (contents script.now self.old) }
         ensures same { contents script.now self.new ≡ contents script.now self.old }
         ensures count { self.new.count ≡ self.old.count }
     {
-        self.base = settled(
+        let kept = pieces_in(&self.base).saturating_add(self.notes.len());
+        let settled = settled(
             self.alloc,
             script,
             &self.base,
             &self.notes,
             self.count,
+            kept / 2,
             &mut self.reading,
         )?;
+        let Some(base) = settled else {
+            // What was read in vain goes: it may be long.
+            self.reading.back = Vec::new(self.alloc);
+            self.limit = self.notes.len().saturating_mul(2).max(LEAST);
+            return Ok(());
+        };
+        self.base = base;
         self.notes.clear();
         self.limit = pieces_in(&self.base).saturating_mul(2).max(LEAST);
         Ok(())
@@ -317,10 +334,10 @@ impl Registers {
         self.note(script, entry, byte)
     }
 
-    /// Goes along the front of a piece while updates are quiet and there is room for notes. Tells how many bytes that is.
+    // Goes along the front of a piece while updates are quiet and there is room for notes. Tells how many bytes that is.
     // Not inlined: within a long caller what the loop reads for each byte would stand in memory.
     #[inline(never)]
-    pub fn go_quiet(
+    fn go_quiet(
         &mut self,
         table: &Table,
         guide: &Guide,
@@ -367,6 +384,29 @@ impl Registers {
         *state = now as u32;
         self.count = table.states()[now].registers() as usize;
         Ok(count)
+    }
+
+    /// Goes along the front of a piece while updates are quiet and there is room for notes, if the entry of its first byte passes
+    /// nothing on; if not, along none, so that what is passed on doesn't pay for a run. Tells how many bytes that is.
+    #[inline(always)]
+    pub fn go_on_quietly(
+        &mut self,
+        table: &Table,
+        guide: &Guide,
+        entry: Entry,
+        state: &mut u32,
+        piece: &[u8],
+    ) -> Result<usize, Memory>
+        requires runner { IsRunner table.now guide.now.script state.old self.old }
+        requires guide { IsGuide table.now guide.now }
+        ensures count { IfOk result (λ n. n ≤ length piece.now) }
+        ensures follows { IfOk result (λ n. Follows table.now state.old (contents guide.now.script self.old) (take n piece.now) n state.new (contents guide.now.script self.new) [] []) }
+        ensures runner { IsRunner table.now guide.now.script state.new self.new }
+    {
+        if !entry.silent {
+            return Ok(0);
+        }
+        self.go_quiet(table, guide, state, piece)
     }
 
     // What a register holds goes to the end of a code.

@@ -91,6 +91,19 @@ fn follow<L: Ledger>(
     Ok(piece.len())
 }
 
+// What was pending is put into pieces, and those that were there go. There is seldom some: only then are the two exchanged, since what
+// was written in halves is slow to copy whole.
+#[inline(always)]
+fn hand_over(pending: &mut Vec<Piece>, pieces: &mut Vec<Piece>)
+    ensures pieces { pieces.new.items ≡ pending.old.items }
+    ensures none { pending.new.items ≡ [] }
+{
+    pieces.clear();
+    if !pending.is_empty() {
+        mem::swap(pieces, pending);
+    }
+}
+
 /// So many bytes of a piece were taken, and what they leave.
 #[derive(Clone, Copy, Debug, PartialEq, Eq)]
 pub struct Held {
@@ -128,10 +141,6 @@ fn follow_held(
     let script = &guide.script;
     let mut at = 0;
     'bytes: while at < piece.len() {
-        at += registers.go_quiet(table, guide, state, &piece[at..])?;
-        if at == piece.len() {
-            break;
-        }
         let class = table.partition().class_of(piece[at]);
         let entry = script.entry(*state, class);
         if !entry.goes {
@@ -144,9 +153,13 @@ fn follow_held(
         if bare && at > 0 {
             break;
         }
-        registers.take(script, ways, entry, piece[at], pieces)?;
-        *state = entry.target;
-        at += 1;
+        let count = registers.go_on_quietly(table, guide, entry, state, &piece[at..])?;
+        at += count;
+        if count == 0 {
+            registers.take(script, ways, entry, piece[at], pieces)?;
+            *state = entry.target;
+            at += 1;
+        }
     }
     Ok(Taken {
         taken: at,
@@ -263,8 +276,7 @@ impl<'t> Runner<'t> {
         ensures usable { IsTrue self.new.usable ↔ IsOk result }
     {
         self.usable = false;
-        pieces.clear();
-        mem::swap(pieces, &mut self.pending);
+        hand_over(&mut self.pending, pieces);
         if self.dead {
             self.usable = true;
             return Ok(Held {

@@ -1,4 +1,4 @@
-use Rattle.std.proofs.Common.{◌≡◌, ◌+◌, [], true, nat_lt, length, take, sym, ap, ◌∙◌, subst, arith}
+use Rattle.std.proofs.Common.{◌≡◌, ◌+◌, [], true, nat_lt, length, take, sym, ap, subst, arith}
 use Rattle.std.proofs.lemmas.Bool.{ltb-true, ltb-false}
 use Rattle.std.proofs.lemmas.List.{length-take-le}
 use Rattle.kex_script.specs.Pieces.{code_over}
@@ -14,9 +14,9 @@ returns-then-self-clause-fed c =
     let r : Running = record { table = c.self.inside.table.now; words = script.words; state = c.self.inside.state; pending = code_over script.words c.self.inside.pending.items; registers = contents script c.self.inside.registers; read = c.self.inside.read; dead = c.self.inside.dead; ended = c.self.inside.ended; usable = c.self.inside.usable } in
     let n : Running = record r { pending = []; usable = true } in
     let piece = take (length c.args.piece.now) c.args.piece.now in
-    let pieces = c.swap.new.x.items in
-    let told : code_over script.words pieces ≡ r.pending = ap (λ v. code_over script.words v.items) c.swap.ensures.x_after in
-    none_pending Dead c.args.self.now n piece [] (code_over c.args.self.now.words pieces) (code_over script.words c.swap.new.y.items) (ap (λ v. code_over script.words v.items) c.swap.ensures.y_after ∙ ap (λ z. code_over script.words z) c.clear.ensures.items)
+    let pieces = c.hand_over.new.pieces.items in
+    let told : code_over script.words pieces ≡ r.pending = ap (λ z. code_over script.words z) c.hand_over.ensures.pieces in
+    none_pending Dead c.args.self.now n piece [] (code_over c.args.self.now.words pieces) (code_over script.words c.hand_over.new.pending.items) (ap (λ z. code_over script.words z) c.hand_over.ensures.none)
     (subst (λ (z : Running). Feeds Dead z n piece [] (code_over z.words pieces)) c.self.view_is (feeds_after r piece [] (code_over script.words pieces) c.if-self.true told))
 
 pub returns-clause-fed : goal.returns-clause-fed
@@ -29,11 +29,11 @@ returns-clause-fed c =
     let long : length piece ≡ taken = length-take-le taken c.args.piece.now c.in_ok-taken.ensures.taken in
     let dead = nat_lt good taken in
     let n : Running = record r { state = c.follow_held.new.state; pending = []; registers = contents script c.follow_held.new.registers; read = c.self.inside.read + good; dead = dead; usable = true } in
-    let before = c.swap.new.x.items in
+    let before = c.hand_over.new.pieces.items in
     let pieces = c.follow_held.new.pieces.items in
-    let told : code_over script.words before ≡ r.pending = ap (λ v. code_over script.words v.items) c.swap.ensures.x_after in
-    subst (λ z. Feeds z c.args.self.now (record n { pending = code_over script.words c.swap.new.y.items }) piece [] (code_over c.args.self.now.words pieces)) (sym c.answer_of.ensures)
-    (none_pending (answer_of dead) c.args.self.now n piece [] (code_over c.args.self.now.words pieces) (code_over script.words c.swap.new.y.items) (ap (λ v. code_over script.words v.items) c.swap.ensures.y_after ∙ ap (λ z. code_over script.words z) c.clear.ensures.items)
+    let told : code_over script.words before ≡ r.pending = ap (λ z. code_over script.words z) c.hand_over.ensures.pieces in
+    subst (λ z. Feeds z c.args.self.now (record n { pending = code_over script.words c.hand_over.new.pending.items }) piece [] (code_over c.args.self.now.words pieces)) (sym c.answer_of.ensures)
+    (none_pending (answer_of dead) c.args.self.now n piece [] (code_over c.args.self.now.words pieces) (code_over script.words c.hand_over.new.pending.items) (ap (λ z. code_over script.words z) c.hand_over.ensures.none)
     (subst (λ (z : Running). Feeds (answer_of dead) z n piece [] (code_over z.words pieces)) c.self.view_is
     (feeds r piece good n.state n.registers [] (code_over script.words before) (code_over script.words pieces) dead c.if-self.false told c.in_ok-taken.ensures.follows
     (λ e. omega (arith, long, ltb-true good taken e))
