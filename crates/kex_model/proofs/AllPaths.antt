@@ -8,8 +8,8 @@ use Rattle.kex_model.specs.Programs.{Grammar}
 use Rattle.kex_model.specs.Labelled.{Labelled, leaves_of}
 use Rattle.kex_model.specs.Moves.{Move, accept, read, choose, forced, go, to_left, to_right, Step, took, chose, went, Allows, reads, goes_left, goes_right, goes_forced, goes, target_of, code_of, IsWaiting, Walk, Waits}
 use Rattle.kex_model.specs.Places.{Place, moves, start_of, steps_of}
-use Rattle.kex_model.specs.Trees.{Tree, Parses, kind_at, code}
-use Rattle.kex_model.specs.Answers.{Viable, Says, HasParse, Means, LongestGood}
+use Rattle.kex_model.specs.Trees.{Tree, kind_at, code}
+use Rattle.kex_model.specs.Answers.{IsParse, Viable, Says, HasParse, Means, LongestGood}
 use Rattle.kex_model.proofs.Derivations.{itself, tree_walk, steps-code, code-bytes}
 use Rattle.kex_model.proofs.OpenAnswers.{shorter_front}
 use Rattle.kex_model.proofs.AgreedFronts.{viable_front}
@@ -312,8 +312,9 @@ module _ (P : Grammar) (root n : ℕ) (w : List ℕ) where
   }
 
   -- what holds of the codes of the paths found to the end holds of the codes of all parses
-  pub of_parse : (Q : List Symbol → Type 0) → IsTrue (is_some found) → EachFound (λ ks. end_of (start_of P root) ks ≡ [] → Q (code_of ks)) found → (s : Tree) → Parses P root s w → Q (code P (kind_at P root) s)
-  of_parse Q t h s p =
+  pub of_parse : (Q : List Symbol → Type 0) → IsTrue (is_some found) → EachFound (λ ks. end_of (start_of P root) ks ≡ [] → Q (code_of ks)) found → (s : Tree) → IsParse P root s w → Q (code P (kind_at P root) s)
+  of_parse Q t h s x =
+      let p = x.derives in
       let ks : List (Step Place) = steps_of P root (kind_at P root) s [] in
       let walk : Walk (moves P) (start_of P root) ks [] = tree_walk P root [] (itself P root) p.tree in
       let codes : code_of ks ≡ code P (kind_at P root) s = steps-code P root [] p.tree in

@@ -6,13 +6,14 @@ use Rattle.kex_code.specs.Codes.{Before}
 use Rattle.kex_model.specs.declared.frame.Frame.TheVariants.{Pending, EndOf}
 use Rattle.kex_model.specs.Labelled.{Labelled, tip, fork}
 use Rattle.kex_model.specs.Trees.{Tree, IsTree, lit, one_byte, seq, alt_left, alt_right, needed, again, end, mute, at_register, write_register, set_register, add_register, leaf, byte, pair, inner, turn, done, Parses, kind_at}
-use Rattle.kex_model.specs.Places.{Place, moves, start_of}
+use Rattle.kex_model.specs.Places.{Place, moves, start_of, steps_of}
 use Rattle.kex_model.specs.Survivors.{Agreed, HasTree}
 use Rattle.kex_model.specs.Answers.{stopped_answer, code_at, HasParse, GreedyParse, Says, Viable, at_byte, bad_byte, too_long, cut_off, whole, still_open}
 use Rattle.kex_model.specs.Laws.{StageAnswers}
 use Rattle.kex_model.specs.Worked.{late, late_tree, ChoiceIsLate, twice, twice_left, twice_right, LeftIsGreedy, RegistersSwap, doubling, RegisterDoubles, MuteKeepsRegisters, RegisterIsWholeOrAsItWas, counted_loop, counted_turn, TurnsAreCounted, muted_twice, EndsAreOfNodes, breaks, breaks_tree, TextsBreakOff, stars, LimitStops, ShapeForks, two_stages, LastStopIsReported}
 use Rattle.kex_model.proofs.Shapes.{tree_agrees}
-use Rattle.kex_model.proofs.AllPaths.{each_leads, leads_to_end, a_survivor, has_tree, not_viable, of_parse, longest_good, differ}
+use Rattle.kex_model.proofs.AllPaths.{each_leads, leads_to_end, a_survivor, has_tree, not_viable, of_parse, longest_good, differ, once}
+use Rattle.kex_model.proofs.Correspondence.{parse_once}
 
 -- two alternatives that begin alike
 
@@ -118,7 +119,7 @@ breaks_dead = not_viable breaks 5 30 (97 ∷ 98 ∷ 120 ∷ []) refl
 
 breaks_greedy : GreedyParse breaks 5 (97 ∷ 98 ∷ 99 ∷ []) breaks_tree
 breaks_greedy = record {
-  parses = breaks_parses;
+  parses = parse_once breaks 5 (97 ∷ 98 ∷ 99 ∷ []) breaks_tree breaks_parses (once (start_of breaks 5 ∷ []) (steps_of breaks 5 (kind_at breaks 5) breaks_tree []) refl);
   least = λ s p. of_parse breaks 5 30 (97 ∷ 98 ∷ 99 ∷ []) (λ c. (code_at breaks 5 breaks_tree ≡ c) ⊎ Before (code_at breaks 5 breaks_tree) c) refl (λ e. inl refl, tt) s p;
 }
 
@@ -156,7 +157,7 @@ twice_parses = record { tree = alt_left (seq (one_byte refl) lit); text = refl }
 
 twice_greedy : GreedyParse twice 6 (97 ∷ []) twice_left
 twice_greedy = record {
-  parses = twice_parses;
+  parses = parse_once twice 6 (97 ∷ []) twice_left twice_parses (once (start_of twice 6 ∷ []) (steps_of twice 6 (kind_at twice 6) twice_left []) refl);
   least = λ s p. of_parse twice 6 30 (97 ∷ []) (λ c. (code_at twice 6 twice_left ≡ c) ⊎ Before (code_at twice 6 twice_left) c) refl (λ e. inl refl, (λ e. inr twice_before, tt)) s p;
 }
 
@@ -258,7 +259,7 @@ three_parses = record { tree = again tt (one_byte refl) (again tt (one_byte refl
 
 three_greedy : GreedyParse stars 1 three three_tree
 three_greedy = record {
-  parses = three_parses;
+  parses = parse_once stars 1 three three_tree three_parses (once (start_of stars 1 ∷ []) (steps_of stars 1 (kind_at stars 1) three_tree []) refl);
   least = λ s p. of_parse stars 1 30 three (λ c. (code_at stars 1 three_tree ≡ c) ⊎ Before (code_at stars 1 three_tree) c) refl (λ e. absurd (differ e refl), (λ e. inl refl, tt)) s p;
 }
 

@@ -1,7 +1,6 @@
 pub mod Walks
 pub mod Parts
 pub mod Derivations
-pub mod Loops
 pub mod Orders
 pub mod AgreedFronts
 pub mod PartialMeanings
@@ -12,7 +11,7 @@ pub mod Effects
 pub mod Transfer
 pub mod Shapes
 pub mod SettledPipelines
-pub mod Editions
+pub mod LeftBehind
 pub mod Likeness
 pub mod Tables
 pub mod DistinctItems

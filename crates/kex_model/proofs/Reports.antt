@@ -1,8 +1,7 @@
 -- A stage's answers are in order, so that a pipeline's stand.
-use Rattle.std.proofs.Common.{◌≡◌, ℕ, suc, Bool, false, List, [], ◌∷◌, ◌++◌, inl, inr, Option, None, refl, sym, ap, subst, ◌∙◌}
-use Rattle.kex_code.specs.Codes.{Begins, IsAmong}
+use Rattle.std.proofs.Common.{◌≡◌, ℕ, Bool, false, List, ◌++◌, Option, None, refl, sym, ap, subst, ◌∙◌}
+use Rattle.kex_code.specs.Codes.{Begins}
 use Rattle.kex_model.specs.Programs.{Grammar}
-use Rattle.kex_model.specs.Places.{HasEmptyLoop}
 use Rattle.kex_model.specs.Trees.{Tree, meaning, kind_at}
 use Rattle.kex_model.specs.Answers.{Viable, Says, HasParse, Means, empty, code_at, Answer, bad_byte, too_long, cut_off, whole, still_open, Report, Pipeline}
 use Rattle.kex_model.specs.Laws.{StageAnswers}
@@ -12,25 +11,25 @@ use Rattle.kex_model.proofs.SaidTexts.{grows, means_good}
 use Rattle.kex_model.proofs.OpenAnswers.{Orderly, stays, one_answer}
 use Rattle.kex_model.proofs.Pipelines.{pipelines_stand}
 
-pub orderly : (P : Grammar) (root : ℕ) → ¬ HasEmptyLoop P root → Orderly (Viable P root) (Says P root) (HasParse P root) (Means P root)
-orderly P root none = record {
-  front = λ w x p g. (grows P root w p.0 none).viable (subst (λ z. Viable P root z) p.1 g);
-  said = λ w x s t p h h'. (grows P root w p.0 none).said s t h (subst (λ z. Says P root z t) p.1 h');
-  meant = λ w x s t p h h'. (grows P root w p.0 none).meant s t h (subst (λ z. Means P root z t) p.1 h');
-  good = λ w s h. means_good P root w s none h;
+pub orderly : (P : Grammar) (root : ℕ) → Orderly (Viable P root) (Says P root) (HasParse P root) (Means P root)
+orderly P root = record {
+  front = λ w x p g. (grows P root w p.0).viable (subst (λ z. Viable P root z) p.1 g);
+  said = λ w x s t p h h'. (grows P root w p.0).said s t h (subst (λ z. Says P root z t) p.1 h');
+  meant = λ w x s t p h h'. (grows P root w p.0).meant s t h (subst (λ z. Means P root z t) p.1 h');
+  good = λ w s h. means_good P root w s h;
 }
 
 -- a text has one meaning
-one_meaning : (P : Grammar) (root : ℕ) (w s t : List ℕ) → ¬ HasEmptyLoop P root → Means P root w s → Means P root w t → s ≡ t
-one_meaning P root w s t none h k =
+one_meaning : (P : Grammar) (root : ℕ) (w s t : List ℕ) → Means P root w s → Means P root w t → s ≡ t
+one_meaning P root w s t h k =
     let codes : code_at P root h.0 ≡ code_at P root k.0 = at_most_both (code_at P root h.0) (code_at P root k.0) (h.1.least k.0 k.1.parses) (k.1.least h.0 h.1.parses) in
-    let trees : h.0 ≡ k.0 = (one_to_one P root w none).one_tree h.0 k.0 h.1.parses k.1.parses codes in
+    let trees : h.0 ≡ k.0 = (one_to_one P root w).one_tree h.0 k.0 h.1.parses.derives k.1.parses.derives codes in
     h.2 ∙ ap (λ (z : Tree). (meaning P (kind_at P root) z (empty P)).bytes) trees ∙ sym k.2
 
-pub one_stage_answer : (P : Grammar) (root limit : ℕ) (w : List ℕ) (e : Bool) (a b : Answer) → ¬ HasEmptyLoop P root → StageAnswers P root limit w e a → StageAnswers P root limit w e b → a ≡ b
-one_stage_answer P root limit w e a b none h k =
-    one_answer (Viable P root) (Says P root) (HasParse P root) (Means P root) (orderly P root none) limit
-    (λ u s m. (m.0, m.1.parses)) (λ u s t x y. one_meaning P root u s t none x y) h k
+pub one_stage_answer : (P : Grammar) (root limit : ℕ) (w : List ℕ) (e : Bool) (a b : Answer) → StageAnswers P root limit w e a → StageAnswers P root limit w e b → a ≡ b
+one_stage_answer P root limit w e a b h k =
+    one_answer (Viable P root) (Says P root) (HasParse P root) (Means P root) (orderly P root) limit
+    (λ u s m. (m.0, m.1.parses)) (λ u s t x y. one_meaning P root u s t x y) h k
 
 stays_open : (P : Grammar) (root limit : ℕ) (w : List ℕ) (f : Bool) (a : Answer) → f ≡ false → StageAnswers P root limit w f a → a.ended ≡ false
 stays_open P root limit w f a e (bad_byte v bad lv says) = refl
@@ -39,19 +38,11 @@ stays_open P root limit w f a e (cut_off le good none says) = refl
 stays_open P root limit w f a e (whole le means) = e
 stays_open P root limit w f a e (still_open le good says) = refl
 
--- an answer of a stage without empty loops
-abbrev Sound : Grammar → ℕ → ℕ → List ℕ → Bool → Answer → Type 0
-Sound P limit root w e a = (¬ HasEmptyLoop P root) × StageAnswers P root limit w e a
-
-sound_stages : (P : Grammar) (limit i : ℕ) (roots w : List ℕ) (e : Bool) (s : List ℕ) (r : Option Report) → ((root : ℕ) → IsAmong roots root → ¬ HasEmptyLoop P root) → Pipeline (λ root v f a. StageAnswers P root limit v f a) i roots w e s r → Pipeline (Sound P limit) i roots w e s r
-sound_stages P limit i [] w e s r none h = h
-sound_stages P limit i (p ∷ ps) w e s r none (a, rest, ga, ha, ea) = (a, rest, (none p (inl refl), ga), sound_stages P limit (suc i) ps a.text a.ended s rest (λ q m. none q (inr m)) ha, ea)
-
-pub stages_stand : (P : Grammar) (limit i : ℕ) (roots w v s t : List ℕ) (e : Bool) (r q : Option Report) → ((root : ℕ) → IsAmong roots root → ¬ HasEmptyLoop P root) → Pipeline (λ root x f a. StageAnswers P root limit x f a) i roots w false s r → Pipeline (λ root x f a. StageAnswers P root limit x f a) i roots (w ++ v) e t q → Begins t s × ((r ≡ None → ⊥) → (t ≡ s) × (q ≡ r))
-stages_stand P limit i roots w v s t e r q none h k =
-    pipelines_stand (Sound P limit)
-    (λ p x f a b ga gb. one_stage_answer P p limit x f a b ga.0 ga.1 gb.1)
-    (λ p x y f a b ga gb. (stays (Viable P p) (Says P p) (HasParse P p) (Means P p) (orderly P p ga.0) limit (y, refl) ga.1 gb.1).0)
-    (λ p x y f a b ga gb. (stays (Viable P p) (Says P p) (HasParse P p) (Means P p) (orderly P p ga.0) limit (y, refl) ga.1 gb.1).1)
-    (λ p x a ga. stays_open P p limit x false a refl ga.1)
-    roots i w v s t e r q (sound_stages P limit i roots w false s r none h) (sound_stages P limit i roots (w ++ v) e t q none k)
+pub stages_stand : (P : Grammar) (limit i : ℕ) (roots w v s t : List ℕ) (e : Bool) (r q : Option Report) → Pipeline (λ root x f a. StageAnswers P root limit x f a) i roots w false s r → Pipeline (λ root x f a. StageAnswers P root limit x f a) i roots (w ++ v) e t q → Begins t s × ((r ≡ None → ⊥) → (t ≡ s) × (q ≡ r))
+stages_stand P limit i roots w v s t e r q h k =
+    pipelines_stand (λ root x f a. StageAnswers P root limit x f a)
+    (λ p x f a b ga gb. one_stage_answer P p limit x f a b ga gb)
+    (λ p x y f a b ga gb. (stays (Viable P p) (Says P p) (HasParse P p) (Means P p) (orderly P p) limit (y, refl) ga gb).0)
+    (λ p x y f a b ga gb. (stays (Viable P p) (Says P p) (HasParse P p) (Means P p) (orderly P p) limit (y, refl) ga gb).1)
+    (λ p x a ga. stays_open P p limit x false a refl ga)
+    roots i w v s t e r q h k

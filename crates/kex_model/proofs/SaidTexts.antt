@@ -11,7 +11,7 @@ use Rattle.kex_model.specs.Programs.{Grammar}
 use Rattle.kex_code.specs.declared.symbol.Symbol.{Symbol}
 use Rattle.kex_code.specs.Codes.{Begins, Before}
 use Rattle.kex_model.specs.Trees.{Tree, IsTree, kind_at, code, Part, meaning, part}
-use Rattle.kex_model.specs.Places.{moves, start_of, HasEmptyLoop}
+use Rattle.kex_model.specs.Places.{moves, start_of}
 use Rattle.kex_model.specs.Survivors.{IsViable, Greedy}
 use Rattle.kex_model.specs.Answers.{empty, code_at, GreedyParse, Means}
 use Rattle.kex_model.specs.Laws.{Grows}
@@ -33,36 +33,36 @@ module _ (P : Grammar) (root : ℕ) where
       let grown : Begins (part P k t (c ++ more.0) (empty P)).bytes (part P k t c (empty P)).bytes = grown_bytes (part P k t c (empty P)).rest (part P k t c (empty P)) (part P k t (c ++ more.0) (empty P)) more.0 (part_grows P c more.0 (empty P) ht) in
       rw (more.1, same) grown
 
-  pub survivor_of : (w : List ℕ) (t : Tree) → ¬ HasEmptyLoop P root → GreedyParse P root w t → Greedy (moves P) (start_of P root) w (code_at P root t)
-  survivor_of w t none g =
-      let both = one_to_one P root w none in
-      let path = both.path_of_tree t g.parses in (
+  pub survivor_of : (w : List ℕ) (t : Tree) → GreedyParse P root w t → Greedy (moves P) (start_of P root) w (code_at P root t)
+  survivor_of w t g =
+      let both = one_to_one P root w in
+      let path = both.path_of_parse t g.parses in (
         [],
         refl,
         record {
           reached = path;
           alive = ([], [], refl, refl);
-          least = λ d r. let s = both.tree_of_path r.0 r.1 in subst (λ z. (code_at P root t ≡ z) ⊎ Before (code_at P root t) z) (s.2 ∙ r.2) (g.least s.0 s.1);
+          least = λ d r. let s = both.parse_of_path r.0 r.1 in subst (λ z. (code_at P root t ≡ z) ⊎ Before (code_at P root t) z) (s.2 ∙ r.2) (g.least s.0 s.1);
         },
       )
 
-  pub grows : (w v : List ℕ) → ¬ HasEmptyLoop P root → Grows P root w v
-  grows w v none = record {
+  pub grows : (w v : List ℕ) → Grows P root w v
+  grows w v = record {
     viable = viable_front (moves P) (start_of P root) w v;
     agreed = agreed_grows (moves P) (start_of P root) w v;
-    greedy = λ c t hc g. agreed_greedy (moves P) (start_of P root) w v c (code_at P root t) hc (survivor_of (w ++ v) t none g);
+    greedy = λ c t hc g. agreed_greedy (moves P) (start_of P root) w v c (code_at P root t) hc (survivor_of (w ++ v) t g);
     said = λ x y hx hy. let m = more_written hx.tree hy.tree hx.agreed hy.agreed hx.parses.tree hy.parses.tree hx.begins hy.begins (agreed_grows (moves P) (start_of P root) w v hx.agreed hy.agreed hx.is_agreed hy.is_agreed) in (m.0, hy.said ∙ m.1 ∙ ap (λ z. z ++ m.0) (sym hx.said));
     meant = λ x y hx hy.
         let t = hy.0 in
         let k = kind_at P root in
         let whole : Begins (code_at P root t) (code_at P root t) = ([], sym (append-nil (code_at P root t))) in
-        let m = more_written hx.tree t hx.agreed (code_at P root t) hx.parses.tree hy.1.parses.tree hx.begins whole (agreed_greedy (moves P) (start_of P root) w v hx.agreed (code_at P root t) hx.is_agreed (survivor_of (w ++ v) t none hy.1)) in
-        let all : (part P k t (code P k t) (empty P)).bytes ≡ (meaning P k t (empty P)).bytes = ap (λ z. (part P k t z (empty P)).bytes) (sym (append-nil (code P k t))) ∙ ap (λ z. z.bytes) (part_whole P [] (empty P) hy.1.parses.tree) in
+        let m = more_written hx.tree t hx.agreed (code_at P root t) hx.parses.tree hy.1.parses.derives.tree hx.begins whole (agreed_greedy (moves P) (start_of P root) w v hx.agreed (code_at P root t) hx.is_agreed (survivor_of (w ++ v) t hy.1)) in
+        let all : (part P k t (code P k t) (empty P)).bytes ≡ (meaning P k t (empty P)).bytes = ap (λ z. (part P k t z (empty P)).bytes) (sym (append-nil (code P k t))) ∙ ap (λ z. z.bytes) (part_whole P [] (empty P) hy.1.parses.derives.tree) in
         (m.0, hy.2 ∙ sym all ∙ m.1 ∙ ap (λ z. z ++ m.0) (sym hx.said));
   }
 
-  pub means_good : (w s : List ℕ) → ¬ HasEmptyLoop P root → Means P root w s → IsViable (moves P) (start_of P root) w
-  means_good w s none h = let g = survivor_of w h.0 none h.1 in (g.0, (code_at P root h.0, g.2.reached, g.2.alive))
+  pub means_good : (w s : List ℕ) → Means P root w s → IsViable (moves P) (start_of P root) w
+  means_good w s h = let g = survivor_of w h.0 h.1 in (g.0, (code_at P root h.0, g.2.reached, g.2.alive))
 
   never_accepts : (n : ℕ) (k : Kind) (rest : Place) → moves_of P n k rest ≡ accept → ⊥
   never_accepts n One rest e = cc
@@ -88,16 +88,16 @@ module _ (P : Grammar) (root : ℕ) where
   end_is_empty (EndOf n ∷ rest) e = cc
 
   -- the least path to the end is that of the greedy parse
-  pub parse_of_survivor : (w : List ℕ) (c : List Symbol) → ¬ HasEmptyLoop P root → Greedy (moves P) (start_of P root) w c → (t : Tree) × GreedyParse P root w t × (code_at P root t ≡ c)
-  parse_of_survivor w c none (p, acc, s) =
-      let both = one_to_one P root w none in
+  pub parse_of_survivor : (w : List ℕ) (c : List Symbol) → Greedy (moves P) (start_of P root) w c → (t : Tree) × GreedyParse P root w t × (code_at P root t ≡ c)
+  parse_of_survivor w c (p, acc, s) =
+      let both = one_to_one P root w in
       let at_end : Survives (moves P) (start_of P root) w [] c = subst (λ z. Survives (moves P) (start_of P root) w z c) (end_is_empty p acc) s in
-      let t = both.tree_of_path at_end.reached.0 at_end.reached.1 in
+      let t = both.parse_of_path at_end.reached.0 at_end.reached.1 in
       let same : code_at P root t.0 ≡ c = t.2 ∙ at_end.reached.2 in (
         t.0,
         record {
           parses = t.1;
-          least = λ u h. let x = both.path_of_tree u h in subst (λ z. (z ≡ code_at P root u) ⊎ Before z (code_at P root u)) (sym same) (at_end.least (code_at P root u) x);
+          least = λ u h. let x = both.path_of_parse u h in subst (λ z. (z ≡ code_at P root u) ⊎ Before z (code_at P root u)) (sym same) (at_end.least (code_at P root u) x);
         },
         same,
       )

@@ -5,8 +5,8 @@ use Rattle.kex_code.specs.declared.symbol.Symbol.{Symbol}
 use Rattle.kex_code.specs.Codes.{Begins, Before}
 use Rattle.kex_code.specs.Registers.{Registers}
 use Rattle.kex_model.specs.Trees.{Tree, Parses, kind_at, code, meaning, part}
-use Rattle.kex_model.specs.Places.{moves, start_of}
-use Rattle.kex_model.specs.Survivors.{Agreed, IsViable}
+use Rattle.kex_model.specs.Places.{moves, start_of, steps_of}
+use Rattle.kex_model.specs.Survivors.{Agreed, IsPath, IsViable}
 
 -- where a stage's registers begin
 abbrev pub empty : Grammar → Registers
@@ -16,19 +16,24 @@ module _ (P : Grammar) (root : ℕ) where
   abbrev pub code_at : Tree → List Symbol
   code_at t = code P (kind_at P root) t
 
+  -- t is a parse of w: a tree of w whose steps form a path, so they enter no place twice without a byte in between
+  pub record IsParse (t : Tree) (w : List ℕ) : Type 0 where
+    pub derives : Parses P root t w
+    pub path : IsPath (moves P) (start_of P root) w [] (steps_of P root (kind_at P root) t [])
+
   abbrev pub HasParse : List ℕ → Type 0
-  HasParse w = (t : Tree) × Parses P root t w
+  HasParse w = (t : Tree) × IsParse t w
 
   -- t is the greedy parse of w
   pub record GreedyParse (w : List ℕ) (t : Tree) : Type 0 where
-    pub parses : Parses P root t w
-    pub least : (s : Tree) → Parses P root s w → (code_at t ≡ code_at s) ⊎ Before (code_at t) (code_at s)
+    pub parses : IsParse t w
+    pub least : (s : Tree) → IsParse s w → (code_at t ≡ code_at s) ⊎ Before (code_at t) (code_at s)
 
   -- the text that w means
   abbrev pub Means : List ℕ → List ℕ → Type 0
   Means w text = (t : Tree) × GreedyParse w t × (text ≡ (meaning P (kind_at P root) t (empty P)).bytes)
 
-  -- the text that is said on w
+  -- the text that is said on w: what any tree of a text that begins with w does with the symbols that are agreed
   pub record Says (w text : List ℕ) : Type 0 where
     pub agreed : List Symbol
     pub is_agreed : Agreed (moves P) (start_of P root) w agreed

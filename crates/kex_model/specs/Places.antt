@@ -1,12 +1,11 @@
 -- Places: what is still to be done, and the moves from there.
-use Rattle.std.specs.Prelude.{◌≡◌, ℕ, zero, suc, List, [], ◌∷◌, ◌++◌, Option, Some, None}
-use Rattle.kex_code.specs.Codes.{bytes_of}
+use Rattle.std.specs.Prelude.{ℕ, zero, suc, List, [], ◌∷◌, ◌++◌, Option, Some, None}
 use Rattle.kex_model.specs.declared.program.Kind.{Kind}
 use Rattle.kex_model.specs.declared.program.Kind.TheVariants.{One, Lit, Class, Call, Seq, Alt, Rep, Mute, At, Write, Set, Add}
 use Rattle.kex_model.specs.declared.frame.Frame.{Frame}
 use Rattle.kex_model.specs.declared.frame.Frame.TheVariants.{Pending, EndOf}
 use Rattle.kex_model.specs.Programs.{Grammar}
-use Rattle.kex_model.specs.Moves.{Move, Effect, accept, read, choose, go, nothing, append, open_buffer, drop_buffer, into, write, set_to, add_to, Step, to_left, to_right, took, chose, went, Allows, target_of, code_of, Walk}
+use Rattle.kex_model.specs.Moves.{Move, Effect, accept, read, choose, go, nothing, append, open_buffer, drop_buffer, into, write, set_to, add_to, Step, to_left, to_right, took, chose, went, Allows, target_of}
 use Rattle.kex_model.specs.Trees.{kind_at, root_of, less, Tree, leaf, byte, pair, chose_left, chose_right, inner, turn, done}
 
 -- what is pending, the next first
@@ -64,10 +63,6 @@ pub data IsPlace (P : Grammar) (root : ℕ) : Place → Type 0 where
   at_start : IsPlace P root (start_of P root)
   by_step : {p : Place} (k : Step Place) → IsPlace P root p → Allows (moves P p) k → IsPlace P root (target_of k)
   by_rest : {f : Frame} {p : Place} → IsPlace P root (f ∷ p) → IsPlace P root p
-
--- a place is reached again from itself without a byte
-abbrev pub HasEmptyLoop : Grammar → ℕ → Type 0
-HasEmptyLoop P root = (p : Place) × (k : Step Place) × (ks : List (Step Place)) × IsPlace P root p × Walk (moves P) p (k ∷ ks) p × (bytes_of (code_of (k ∷ ks)) ≡ [])
 
 -- the steps of a tree of node n of this kind, up to the place behind it
 abbrev pub steps_of : Grammar → ℕ → Kind → Tree → Place → List (Step Place)
