@@ -2,7 +2,7 @@
 use Rattle.std.proofs.Common.{◌≡◌, ℕ, List, [], ◌++◌, inl, inr, ⊎_elim, Option, Some, None, refl, sym, ap, subst, ◌∙◌, append_assoc, append-nil}
 use Rattle.kex_code.specs.declared.symbol.Symbol.{Symbol}
 use Rattle.kex_code.specs.Codes.{AtMost, IsAmong}
-use Rattle.kex_model.specs.Moves.{Move, accept, read, choose, forced, go, code_of, IsWaiting}
+use Rattle.kex_model.specs.Moves.{Move, accept, read, choose, forced, go, IsWaiting}
 use Rattle.kex_model.specs.Labelled.{Labelled, tip, fork, leaves_of, Grown, with_prefix}
 use Rattle.kex_model.specs.Survivors.{Item, IsParted, Survives, HasTree}
 use Rattle.kex_model.proofs.Orders.{at_most_trans}
@@ -106,7 +106,7 @@ module _ (g : Graph) (trim : IsTrim (node_moves g.nodes) g.start) (w : List ℕ)
   pub none_parses : first_accepting ms t ≡ None → ¬ HasParse g w
   none_parses e (ks, (e', walk, acc), q) =
       let r = reached_by ms g.start trim w e' ks walk (subst (λ z. IsWaiting z) (sym acc) tt) q in
-      let y = has.lists.all e' (code_of ks, r, trim.ends e') in
+      let y = has.lists.all e' (r.0, r.1, trim.ends e') in
       accepting_none ms t c e (record { at = e'; code = y.0 }) y.1 acc
 
   -- the code at the first tip that accepts is the greedy parse's

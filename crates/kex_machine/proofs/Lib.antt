@@ -4,6 +4,7 @@ pub mod CutWalks
 pub mod Visits
 pub mod Onward
 pub mod Nexts
+pub mod MuteLoops
 pub mod Ranges
 pub mod LongestFronts
 pub mod AcceptingTips

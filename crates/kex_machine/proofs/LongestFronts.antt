@@ -3,7 +3,7 @@ use Rattle.std.proofs.Common.{◌≡◌, ℕ, List, [], ◌∷◌, ◌++◌, ◌
 use Rattle.std.proofs.lemmas.List.{append_cancel_left}
 use Rattle.kex_code.specs.declared.symbol.Symbol.{Symbol}
 use Rattle.kex_code.specs.Codes.{Begins}
-use Rattle.kex_model.specs.Moves.{Move, took, Allows, reads, code_of, IsWaiting}
+use Rattle.kex_model.specs.Moves.{Move, took, Allows, reads, IsWaiting}
 use Rattle.kex_model.specs.Labelled.{Labelled}
 use Rattle.kex_model.specs.Survivors.{IsViable, LongestViable, HasTree}
 use Rattle.kex_model.proofs.Orders.{two_fronts}
@@ -49,7 +49,8 @@ module _ (g : Graph) (trim : IsTrim (node_moves g.nodes) g.start) where
   pub viable_before : (w : List ℕ) (b : ℕ) → Viable g (w ++ b ∷ []) → Viable g w
   viable_before w b (p, (c, (ks, path, e), end)) =
       let r = cut ms ks g.start p w b [] path.walk path.reads in
-      (r.at, (code_of r.front, reached_by ms g.start trim w r.at r.front r.first (byte_waits r.byte) r.front_bytes, trim.ends r.at))
+      let q = reached_by ms g.start trim w r.at r.front r.first (byte_waits r.byte) r.front_bytes in
+      (r.at, (q.0, q.1, trim.ends r.at))
 
   pub said_of_tree : (w : List ℕ) (c : List Symbol) (t : Labelled Symbol ℕ) → HasTree ms g.start w c t → IsSaid g w c
   said_of_tree w c t h = let a = tree_agrees ms g.start w c t h in record { of = w; longest = longest_self ms g.start w a.viable; agreed = a }
@@ -59,4 +60,4 @@ module _ (g : Graph) (trim : IsTrim (node_moves g.nodes) g.start) where
 
   -- a text that isn't viable has no parse
   pub no_parse : (w : List ℕ) → ¬ Viable g w → ¬ HasParse g w
-  no_parse w dead (ks, (e, walk, acc), q) = dead (e, (code_of ks, reached_by ms g.start trim w e ks walk (subst (λ z. IsWaiting z) (sym acc) tt) q, trim.ends e))
+  no_parse w dead (ks, (e, walk, acc), q) = let r = reached_by ms g.start trim w e ks walk (subst (λ z. IsWaiting z) (sym acc) tt) q in dead (e, (r.0, r.1, trim.ends e))

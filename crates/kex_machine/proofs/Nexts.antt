@@ -1,19 +1,20 @@
 -- The tree that goes on is that of the longer text.
 use Rattle.std.proofs.Common.{◌≡◌, ℕ, zero, suc, Bool, false, List, [], ◌∷◌, ◌++◌, ⊎_elim, Option, Some, None, replicate, refl, sym, ap, ap₂, subst, ◌∙◌}
+use Rattle.std.proofs.lemmas.Bool.{cases_eq}
 use Rattle.kex_code.specs.declared.symbol.Symbol.{Symbol}
 use Rattle.kex_code.specs.declared.symbol.Symbol.TheVariants.{L, R, Byte}
 use Rattle.kex_code.specs.Codes.{bytes_of, AtMost, IsAmong}
-use Rattle.kex_model.specs.Moves.{Move, accept, Step, symbol_of, to_left, to_right, chose, went, took, Allows, reads, target_of, symbols_of, code_of, Walk, Waits, IsWaiting}
+use Rattle.kex_model.specs.Moves.{Move, accept, Step, symbol_of, to_left, to_right, chose, went, took, Allows, reads, code_of, Walk, Waits, IsWaiting}
 use Rattle.kex_model.specs.Labelled.{Labelled, leaves_of, Grown, leaves_if, fork_of, with_prefix}
-use Rattle.kex_model.specs.Survivors.{Item, NoReturn, StartsWith, IsParted, LeadsToEnd, Reaches, IsViable, HasTree}
+use Rattle.kex_model.specs.Survivors.{Item, StartsWith, IsParted, LeadsToEnd, IsPath, Reaches, IsViable, HasTree}
 use Rattle.kex_model.proofs.Walks.{bytes_of-append}
 use Rattle.kex_model.proofs.Derivations.{code_of-append, walk-append}
 use Rattle.kex_model.proofs.Orders.{at_most_trans, at_most_more}
 use Rattle.kex_model.proofs.Shapes.{parted_rises}
-use Rattle.kex_machine.proofs.CutWalks.{cut}
-use Rattle.kex_model.proofs.Loops as loops
+use Rattle.kex_model.proofs.AgreedFronts.{cut_walk, once_joined, byte_waits}
+use Rattle.kex_model.proofs.LeftBehind.{shorten}
 use Rattle.kex_machine.specs.Advancing.{itself, Visits, known, stops, parts_off, is_forced, passes_on, Advances, dies, reads_on, both}
-use Rattle.kex_machine.proofs.Visits.{Marked, Quiet, NoCycle, Visited, visited}
+use Rattle.kex_machine.proofs.Visits.{Marked, Quiet, Visited, visited}
 use Rattle.kex_machine.proofs.Onward.{Advanced, advanced, leaf_code}
 
 -- where there is a tree, its edges begin with L and R
@@ -52,46 +53,29 @@ none_marked (suc m) zero e = cc
 none_marked (suc m) (suc n) e = none_marked m n e
 
 module _ (moves : ℕ → Move ℕ) (start : ℕ) where
-  -- each node leads to the end, and no walk without a byte returns
+  -- each node leads to the end
   pub record IsTrim : Type 0 where
     pub ends : (p : ℕ) → LeadsToEnd moves p
-    pub no_cycle : NoCycle moves
-
-  -- where no walk without a byte returns, no place is entered twice without a byte in between
-  module _ (none : NoCycle moves) where
-    no_way_back : (s : ℕ) (k : Step ℕ) → Allows (moves s) k → bytes_of (symbols_of k) ≡ [] → loops.Quiet moves (target_of k) s → ⊥
-    no_way_back s k a e w = none s k w.steps (a, w.walk) (bytes_of-append (symbols_of k) (code_of w.steps) ∙ ap₂ (λ x y. x ++ y) e w.silent)
-
-    more_seen : (s : ℕ) (k : Step ℕ) (seen : List ℕ) → Allows (moves s) k → bytes_of (symbols_of k) ≡ [] → ((q : ℕ) → IsAmong seen q → loops.Quiet moves q s) → (q : ℕ) → IsAmong (target_of k ∷ seen) q → loops.Quiet moves q (target_of k)
-    more_seen s k seen a e quiet q h = ⊎_elim (λ e. record { steps = []; walk = sym e; silent = refl }) (λ i. loops.quiet_more moves q s k (quiet q i) a e) h
-
-    pub no_return : (ks : List (Step ℕ)) (s t : ℕ) (seen : List ℕ) → ((q : ℕ) → IsAmong seen q → loops.Quiet moves q s) → Walk moves s ks t → NoReturn seen ks
-    no_return [] s t seen quiet w = tt
-    no_return (took b u ∷ ks) s t seen quiet w = no_return ks u t (u ∷ []) (λ q h. ⊎_elim (λ e. record { steps = []; walk = sym e; silent = refl }) (λ i. absurd i) h) w.1
-    no_return (chose to_left u ∷ ks) s t seen quiet w = ((λ h. no_way_back s (chose to_left u) w.0 refl (quiet u h)), no_return ks u t (u ∷ seen) (more_seen s (chose to_left u) seen w.0 refl quiet) w.1)
-    no_return (chose to_right u ∷ ks) s t seen quiet w = ((λ h. no_way_back s (chose to_right u) w.0 refl (quiet u h)), no_return ks u t (u ∷ seen) (more_seen s (chose to_right u) seen w.0 refl quiet) w.1)
-    no_return (went e u ∷ ks) s t seen quiet w = ((λ h. no_way_back s (went e u) w.0 refl (quiet u h)), no_return ks u t (u ∷ seen) (more_seen s (went e u) seen w.0 refl quiet) w.1)
-
-    pub once : (ks : List (Step ℕ)) (p : ℕ) → Walk moves start ks p → NoReturn (start ∷ []) ks
-    once ks p w = no_return ks start p (start ∷ []) (λ q h. ⊎_elim (λ e. record { steps = []; walk = sym e; silent = refl }) (λ i. absurd i) h) w
 
 module _ (moves : ℕ → Move ℕ) (start : ℕ) (trim : IsTrim moves start) where
-  -- a walk reaches
-  pub reached_by : (w : List ℕ) (p : ℕ) (ks : List (Step ℕ)) → Walk moves start ks p → Waits moves p → bytes_of (code_of ks) ≡ w → Reaches moves start w p (code_of ks)
-  reached_by w p ks walk waits e = (ks, record { walk = walk; waits = waits; once = once moves start trim.no_cycle ks p walk; reads = e }, refl)
+  -- what a walk reaches, a path reaches
+  pub reached_by : (w : List ℕ) (p : ℕ) (ks : List (Step ℕ)) → Walk moves start ks p → Waits moves p → bytes_of (code_of ks) ≡ w → (c : List Symbol) × Reaches moves start w p c
+  reached_by w p ks walk waits e =
+      let s = shorten cases_eq moves ks start p walk in
+      (code_of s.steps, (s.steps, record { walk = s.walk; waits = waits; once = s.once; reads = s.reads ∙ e }, refl))
 
   -- a tree is that of a text if its leaves are reached, and each place that is reached stands there with a code that is at most that
-  shows : (w : List ℕ) (c : List Symbol) (t : Labelled Symbol ℕ) → ((x : Item ℕ) → IsAmong (leaves_of t c) x → Reaches moves start w x.at x.code) → ((ks : List (Step ℕ)) (p : ℕ) → Walk moves start ks p → Waits moves p → bytes_of (code_of ks) ≡ w → (x : Item ℕ) × IsAmong (leaves_of t c) x × (x.at ≡ p) × AtMost x.code (code_of ks)) → ((x y : Item ℕ) → IsAmong (leaves_of t c) x → IsAmong (leaves_of t c) y → x.at ≡ y.at → x ≡ y) → IsParted t → HasTree moves start w c t
+  shows : (w : List ℕ) (c : List Symbol) (t : Labelled Symbol ℕ) → ((x : Item ℕ) → IsAmong (leaves_of t c) x → Reaches moves start w x.at x.code) → ((ks : List (Step ℕ)) (p : ℕ) → IsPath moves start w p ks → (x : Item ℕ) × IsAmong (leaves_of t c) x × (x.at ≡ p) × AtMost x.code (code_of ks)) → ((x y : Item ℕ) → IsAmong (leaves_of t c) x → IsAmong (leaves_of t c) y → x.at ≡ y.at → x ≡ y) → IsParted t → HasTree moves start w c t
   shows w c t each all single parted = record {
     lists = record {
       each = λ x i. record {
         reached = each x i;
         alive = trim.ends x.at;
         least = λ d (ks, path, e).
-            let y = all ks x.at path.walk path.waits path.reads in
+            let y = all ks x.at path in
             subst (λ z. AtMost z d) (ap (λ z. z.code) (single y.0 x y.1 i y.2)) (subst (λ z. AtMost y.0.code z) e y.3);
       };
-      all = λ p s. let r = s.1 in let y = all r.0 p r.1.walk r.1.waits r.1.reads in (y.0.code, subst (λ z. IsAmong (leaves_of t c) (record { at = z; code = y.0.code })) y.2 y.1);
+      all = λ p s. let r = s.1 in let y = all r.0 p r.1 in (y.0.code, subst (λ z. IsAmong (leaves_of t c) (record { at = z; code = y.0.code })) y.2 y.1);
       ordered = parted_rises t c parted;
     };
     parted = parted;
@@ -99,17 +83,14 @@ module _ (moves : ℕ → Move ℕ) (start : ℕ) (trim : IsTrim moves start) wh
 
   module _ (w : List ℕ) (c : List Symbol) (t : Labelled Symbol ℕ) (has : HasTree moves start w c t) (b : ℕ) (a : Option (Grown Symbol ℕ)) (m : ℕ) (g : List Bool) (v : Advances itself (Byte b) moves b (replicate m false) t a g) where
     adv : Advanced moves b (replicate m false) t a g
-    adv = advanced moves b trim.no_cycle v has.parted (λ n i. absurd (none_marked m n i))
-
-    byte_waits : {n : Move ℕ} {u : ℕ} → Allows n (took b u) → IsWaiting n
-    byte_waits (reads h) = tt
+    adv = advanced moves b v has.parted (λ n k i. absurd (none_marked m n i))
 
     -- each waiting place that is reached stands at a leaf
-    reach : (ks : List (Step ℕ)) (p : ℕ) → Walk moves start ks p → Waits moves p → bytes_of (code_of ks) ≡ w ++ b ∷ [] → (x : Item ℕ) × IsAmong (leaves_if a c) x × (x.at ≡ p) × AtMost x.code (code_of ks)
-    reach ks p walk waits e =
-        let r = cut moves ks start p w b [] walk e in
-        let q = byte_waits r.byte in
-        let here = reached_by w r.at r.front r.first q r.front_bytes in
+    reach : (ks : List (Step ℕ)) (p : ℕ) → IsPath moves start (w ++ b ∷ []) p ks → (x : Item ℕ) × IsAmong (leaves_if a c) x × (x.at ≡ p) × AtMost x.code (code_of ks)
+    reach ks p path =
+        let r = cut_walk moves ks (start ∷ []) start p w b [] path.walk path.once path.reads in
+        let front : IsPath moves start w r.at r.front = record { walk = r.first; waits = byte_waits moves r.byte; once = r.front_once; reads = r.front_bytes } in
+        let here : Reaches moves start w r.at (code_of r.front) = (r.front, front, refl) in
         let y = has.lists.all r.at (code_of r.front, here, trim.ends r.at) in
         let o : Item ℕ = record { at = r.at; code = y.0 } in
         let least : AtMost y.0 (code_of r.front) = (has.lists.each o y.1).least (code_of r.front) here in
@@ -122,7 +103,7 @@ module _ (moves : ℕ → Move ℕ) (start : ℕ) (trim : IsTrim moves start) wh
           x.2,
           subst (λ z. AtMost x.0.code z) (sym whole) (at_most_trans x.0.code (y.0 ++ Byte b ∷ code_of r.back) (code_of r.front ++ Byte b ∷ code_of r.back) x.3 (at_most_more y.0 (code_of r.front) (Byte b ∷ code_of r.back) least)),
         ))
-        (adv.all c o y.1 r.to r.byte r.back p (r.last, r.back_bytes) waits)
+        (adv.all c o y.1 r.to r.byte r.back p r.back_once (r.last, r.back_bytes) path.waits)
 
     -- each leaf is reached
     real : (x : Item ℕ) → IsAmong (leaves_if a c) x → Reaches moves start (w ++ b ∷ []) x.at x.code
@@ -135,7 +116,7 @@ module _ (moves : ℕ → Move ℕ) (start : ℕ) (trim : IsTrim moves start) wh
         let walk : Walk moves start ks x.at = walk-append moves s.0 (took b from.to ∷ from.steps) start e.at x.at s.1.walk (from.byte, from.by.0.0) in
         let code : code_of ks ≡ x.code = code_of-append s.0 (took b from.to ∷ from.steps) ∙ ap (λ z. z ++ Byte b ∷ code_of from.steps) s.2 ∙ sym (leaf_code moves b e x from.steps from.by.1) in
         let text : bytes_of (code_of ks) ≡ w ++ b ∷ [] = ap bytes_of (code_of-append s.0 (took b from.to ∷ from.steps)) ∙ bytes_of-append (code_of s.0) (Byte b ∷ code_of from.steps) ∙ ap₂ (λ u v. u ++ b ∷ v) s.1.reads from.by.0.1 in
-        subst (λ z. Reaches moves start (w ++ b ∷ []) x.at z) code (reached_by (w ++ b ∷ []) x.at ks walk l.3 text)
+        (ks, record { walk = walk; waits = l.3; once = once_joined moves s.0 (start ∷ []) b from.to from.steps s.1.once from.once; reads = text }, code)
 
   -- a tree, or none where the text isn't viable
   abbrev pub ShowsTree : List ℕ → List Symbol → Option (Grown Symbol ℕ) → Type 0
@@ -143,7 +124,7 @@ module _ (moves : ℕ → Move ℕ) (start : ℕ) (trim : IsTrim moves start) wh
   ShowsTree w c (Some g) = HasTree moves start w (c ++ g.label) g.tree
 
   pub next_shows : (w : List ℕ) (c : List Symbol) (t : Labelled Symbol ℕ) → HasTree moves start w c t → (b m : ℕ) (a : Option (Grown Symbol ℕ)) (g : List Bool) → Advances itself (Byte b) moves b (replicate m false) t a g → ShowsTree (w ++ b ∷ []) c a
-  next_shows w c t has b m None g v = λ (p, s). let r = s.1 in (reach w c t has b None m g v r.0 p r.1.walk r.1.waits r.1.reads).1
+  next_shows w c t has b m None g v = λ (p, s). let r = s.1 in (reach w c t has b None m g v r.0 p r.1).1
   next_shows w c t has b m (Some s) g v =
       shows (w ++ b ∷ []) (c ++ s.label) s.tree (real w c t has b (Some s) m g v) (reach w c t has b (Some s) m g v) ((adv w c t has b (Some s) m g v).single c) (advances_parted v has.parted)
 
@@ -159,8 +140,8 @@ module _ (moves : ℕ → Move ℕ) (start : ℕ) (trim : IsTrim moves start) wh
   first_wait (went f t ∷ ks) s e w h = let r = first_wait ks t e w.1 h in (went f t ∷ r.0, r.1, ((w.0, r.2.0), r.2.1), r.3)
 
   -- what the empty text reaches
-  first_all : (m : ℕ) (a : Option (Grown Symbol ℕ)) (g : List Bool) → Visits itself moves (replicate m false) start a g → Visited moves (replicate m false) start a g
-  first_all m a g v = visited moves trim.no_cycle v (λ n ks i q. absurd (none_marked m n i))
+  first_all : (m : ℕ) (a : Option (Grown Symbol ℕ)) (g : List Bool) → Visits itself moves (replicate m false) start a g → Visited moves [] (replicate m false) start a g
+  first_all m a g v = visited moves [] v (λ n k i. absurd (none_marked m n i)) (λ n i. absurd i)
 
   abbrev pub ShowsFirst : Option (Grown Symbol ℕ) → Type 0
   ShowsFirst None = ⊥
@@ -171,12 +152,13 @@ module _ (moves : ℕ → Move ℕ) (start : ℕ) (trim : IsTrim moves start) wh
   first_shows m None g v =
       let e = trim.ends start in
       let r = first_wait e.0 start e.1 e.2 e.3 in
-      ⊎_elim (λ i. none_marked m r.1 i) (λ x. x.1) ((first_all m None g v).all [] r.0 r.1 r.2 r.3)
+      let s = shorten cases_eq moves r.0 start r.1 r.2.0 in
+      ⊎_elim (λ i. none_marked m r.1 i) (λ x. x.1) ((first_all m None g v).all [] s.steps r.1 (λ i. i) s.once (s.walk, s.reads ∙ r.2.1) r.3)
   first_shows m (Some s) g v =
       shows [] s.label s.tree
       (λ x i.
       let r = (first_all m (Some s) g v).leaf [] x i in
-      subst (λ z. Reaches moves start [] x.at z) (sym r.1.1) (reached_by [] x.at r.0 r.1.0.0 r.2 r.1.0.1))
-      (λ ks p walk waits e. ⊎_elim (λ i. absurd (none_marked m p i)) (λ x. (x.0, x.1, x.2, subst (λ z. AtMost z (code_of ks)) (sym x.3.1.1) x.3.2)) ((first_all m (Some s) g v).all [] ks p (walk, e) waits))
+      (r.0, record { walk = r.1.0.0; waits = r.2; once = r.6; reads = r.1.0.1 }, sym r.1.1))
+      (λ ks p path. ⊎_elim (λ i. absurd (none_marked m p i)) (λ x. (x.0, x.1, x.2, subst (λ z. AtMost z (code_of ks)) (sym x.3.1.1) x.3.2)) ((first_all m (Some s) g v).all [] ks p (λ i. i) path.once (path.walk, path.reads) path.waits))
       ((first_all m (Some s) g v).single [])
       (visits_parted v)

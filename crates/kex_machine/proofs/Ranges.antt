@@ -1,5 +1,5 @@
 -- The nodes of a machine lead to nodes, and those of a trimmed one to the end.
-use Rattle.std.proofs.Common.{◌≡◌, ℕ, [], Option, Some, None, length, get_or, refl, sym, ap, subst, ◌∙◌}
+use Rattle.std.proofs.Common.{◌≡◌, ℕ, [], Option, Some, None, length, get_or, ◌<◌, refl, sym, ap, subst, ◌∙◌}
 use Rattle.std.specs.Prelude.{slice_get}
 use Rattle.std.proofs.lemmas.List.Elements.{All-get_or}
 use Rattle.std.proofs.lemmas.Option.{slice_get-get_or, slice_get_within}
@@ -8,6 +8,7 @@ use Rattle.kex_machine.specs.declared.MNode.{MNode}
 use Rattle.kex_machine.specs.declared.MNode.TheVariants.{Accept, Read, Choice, Forced, Do, Skip}
 use Rattle.kex_machine.specs.Nodes.{Graph, move_of, node_moves, IsBelow, IsInRange, IsTrimmed, MoveBelow, StaysWithin}
 use Rattle.kex_machine.proofs.Nexts.{IsTrim}
+use Rattle.kex_machine.proofs.MuteLoops.{no_mute_loop}
 
 -- each node of a machine leads to nodes
 pub stays_within : (g : Graph) → IsInRange g.start g.nodes g.registers → StaysWithin g.nodes
@@ -28,9 +29,16 @@ stays_within g range n lt = cases (get_or g.nodes n Accept) refl
     cases (Skip t) e = subst (λ z. MoveBelow (length g.nodes) z) (sym (here (Skip t) e)) (fits (Skip t) e)
 
 -- the numbers behind the last node lead to the end too
-pub is_trim : (g : Graph) → IsTrimmed g → IsTrim (node_moves g.nodes) g.start
-is_trim g trimmed = record { ends = λ p. by p (slice_get g.nodes p) refl; no_cycle = λ n k ks w q. trimmed.no_loop (n, k, ks, w, q) }
+all_end : (g : Graph) → ((n : ℕ) → n < length g.nodes → LeadsToEnd (node_moves g.nodes) n) → (p : ℕ) → LeadsToEnd (node_moves g.nodes) p
+all_end g ends p = by p (slice_get g.nodes p) refl
   where
     by : (p : ℕ) (o : Option MNode) → slice_get g.nodes p ≡ o → LeadsToEnd (node_moves g.nodes) p
     by p None e = ([], p, refl, ap move_of e)
-    by p (Some x) e = trimmed.ends p (slice_get_within g.nodes p x e)
+    by p (Some x) e = ends p (slice_get_within g.nodes p x e)
+
+pub is_trim : (g : Graph) → IsTrimmed g → IsTrim (node_moves g.nodes) g.start
+is_trim g trimmed = record { ends = all_end g trimmed.ends }
+
+-- what leads to the end from each node is trimmed
+pub trimmed_by_ends : (g : Graph) → ((n : ℕ) → n < length g.nodes → LeadsToEnd (node_moves g.nodes) n) → IsTrimmed g
+trimmed_by_ends g ends = record { ends = ends; no_mute_loop = λ (n, k, ks, w, q). no_mute_loop (node_moves g.nodes) (all_end g ends) n k ks w q }

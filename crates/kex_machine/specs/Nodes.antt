@@ -1,7 +1,6 @@
 -- A machine's nodes, as what there is to do at a number.
 use Rattle.std.specs.Prelude.{◌≡◌, ℕ, Bool, List, [], ◌∷◌, Option, Some, None, slice_get, ◌<◌, All, length}
 use Rattle.kex_byteset.specs.Classes.{IsRefinedBy}
-use Rattle.kex_code.specs.Codes.{bytes_of}
 use Rattle.kex_model.specs.Programs.{HasPieces}
 use Rattle.kex_model.specs.Moves.{Move, accept, read, choose, forced, go, Side, to_left, to_right, nothing, append, open_buffer, drop_buffer, into, write, set_to, add_to, Step, code_of, Walk}
 use Rattle.kex_model.specs.Survivors.{LeadsToEnd}
@@ -83,14 +82,14 @@ pub record Graph : Type 0 where
   pub stage : ℕ
   pub registers : ℕ
 
--- some node is reached again from itself without a byte
-abbrev pub HasLoop : List MNode → Type 0
-HasLoop nodes = (n : ℕ) × (k : Step ℕ) × (ks : List (Step ℕ)) × Walk (node_moves nodes) n (k ∷ ks) n × (bytes_of (code_of (k ∷ ks)) ≡ [])
+-- some node is reached again from itself without a symbol
+abbrev pub HasMuteLoop : List MNode → Type 0
+HasMuteLoop nodes = (n : ℕ) × (k : Step ℕ) × (ks : List (Step ℕ)) × Walk (node_moves nodes) n (k ∷ ks) n × (code_of (k ∷ ks) ≡ [])
 
--- the end is reached from every node, and no node again from itself without a byte
+-- the end is reached from every node, and every loop without a byte has a choice or a forced side in it
 pub record IsTrimmed (g : Graph) : Type 0 where
   pub ends : (n : ℕ) → n < length g.nodes → LeadsToEnd (node_moves g.nodes) n
-  pub no_loop : HasLoop g.nodes → ⊥
+  pub no_mute_loop : HasMuteLoop g.nodes → ⊥
 
 -- the sets of bytes that nodes read, in the order of the nodes
 abbrev pub sets_of : List MNode → List (List Bool)

@@ -1,7 +1,7 @@
 //! Machines: a stage's places as numbered nodes.
 //!
 //! Stands on byte sets, codes and the model's moves. A `Machine` keeps that all its numbers are in range; a `Trimmed`
-//! keeps that the end is reached from every node and that no loop goes without a byte.
+//! keeps that the end is reached from every node and that every loop without a byte makes a choice.
 #![tactic(auto)]
 
 pub mod laws;
@@ -115,8 +115,8 @@ impl Machine {
     }
 }
 
-/// A machine with no loop without a byte, from whose every node the end is reached, and the classes of the bytes that no
-/// node tells apart.
+/// A machine from whose every node the end is reached, so that every loop without a byte makes a choice, and the classes of the
+/// bytes that no node tells apart.
 #[derive(Drop)]
 pub struct Trimmed {
     machine: Machine,

@@ -26,7 +26,7 @@ module _ {S : Type 0} (moves : S → Move S) where
     pub front_once : NoReturn seen front
     pub back_once : NoReturn (to ∷ []) back
 
-  cut_walk : (ks : List (Step S)) (seen : List S) (s t : S) (w : List ℕ) (b : ℕ) (v : List ℕ) → Walk moves s ks t → NoReturn seen ks → bytes_of (code_of ks) ≡ w ++ b ∷ v → Cut seen s t ks w b v
+  pub cut_walk : (ks : List (Step S)) (seen : List S) (s t : S) (w : List ℕ) (b : ℕ) (v : List ℕ) → Walk moves s ks t → NoReturn seen ks → bytes_of (code_of ks) ≡ w ++ b ∷ v → Cut seen s t ks w b v
   cut_walk [] seen s t [] b v walk once e = cc
   cut_walk [] seen s t (x ∷ w) b v walk once e = cc
   cut_walk (took x u ∷ ks) seen s t [] b v walk once e =
@@ -48,13 +48,13 @@ module _ {S : Type 0} (moves : S → Move S) where
       record { front = went f u ∷ r.front; at = r.at; to = r.to; back = r.back; same = ap (λ z. went f u ∷ z) r.same; first = (walk.0, r.first); byte = r.byte; last = r.last; front_bytes = r.front_bytes; back_bytes = r.back_bytes; front_once = (once.0, r.front_once); back_once = r.back_once }
 
   -- two walks joined by a byte
-  once_joined : (js : List (Step S)) (seen : List S) (b : ℕ) (to : S) (ks : List (Step S)) → NoReturn seen js → NoReturn (to ∷ []) ks → NoReturn seen (js ++ took b to ∷ ks)
+  pub once_joined : (js : List (Step S)) (seen : List S) (b : ℕ) (to : S) (ks : List (Step S)) → NoReturn seen js → NoReturn (to ∷ []) ks → NoReturn seen (js ++ took b to ∷ ks)
   once_joined [] seen b to ks first last = last
   once_joined (took x u ∷ js) seen b to ks first last = once_joined js (u ∷ []) b to ks first last
   once_joined (chose x u ∷ js) seen b to ks first last = (first.0, once_joined js (u ∷ seen) b to ks first.1 last)
   once_joined (went x u ∷ js) seen b to ks first last = (first.0, once_joined js (u ∷ seen) b to ks first.1 last)
 
-  byte_waits : {m : Move S} {b : ℕ} {t : S} → Allows m (took b t) → IsWaiting m
+  pub byte_waits : {m : Move S} {b : ℕ} {t : S} → Allows m (took b t) → IsWaiting m
   byte_waits (reads h) = tt
 
   joined_code : (js : List (Step S)) (b : ℕ) (to : S) (ks : List (Step S)) → code_of (js ++ took b to ∷ ks) ≡ code_of js ++ (Byte b ∷ code_of ks)
