@@ -13,7 +13,7 @@ use Rattle.kex_machine.specs.declared.MNode.TheVariants.{Accept, Read, Choice, F
 use Rattle.kex_trim.specs.Ways.{LeadsBelow}
 use Rattle.kex_machine.specs.Nodes.{node_moves, move_of}
 use Rattle.kex_trim.specs.Ways.{ways, Adds, IsReverse, unmarked_count, Marks, IsAlive}
-use Rattle.kex_trim.proofs.LoopSearch.{among-cases, among_left, among_right}
+use Rattle.kex_model.proofs.Shapes.{among-append as among-cases, among_left, among_right}
 
 pub same_or_not : (a b : ℕ) → (a ≡ b) ⊎ (b ≢ a)
 same_or_not a b = grind arith

@@ -12,9 +12,8 @@ use Rattle.kex_model.proofs.Tables.{some_same, get_more, get_last}
 use Rattle.kex_machine.specs.declared.MNode.{MNode}
 use Rattle.kex_machine.specs.declared.MNode.TheVariants.{Accept, Read, Choice, Forced, Do, Skip}
 use Rattle.kex_trim.specs.Ways.{LeadsBelow}
-use Rattle.kex_machine.specs.Nodes.{Graph, HasLoop, IsBelow, IsInRange, IsTrimmed, UsesRegisters, effect_of, node_moves, move_of}
-use Rattle.kex_trim.specs.Loops.{IsOrder}
-use Rattle.kex_trim.proofs.LoopSearch.{quiet_step, is_quiet}
+use Rattle.kex_machine.specs.Nodes.{Graph, IsBelow, IsInRange, IsTrimmed, UsesRegisters, effect_of, node_moves, move_of}
+use Rattle.kex_machine.proofs.Ranges.{trimmed_by_ends}
 use Rattle.kex_trim.specs.Ways.{IsAlive}
 use Rattle.kex_trim.specs.Trim.{Keeps, still_accepts, still_reads, still_chooses, only_left, only_right, still_forced, still_goes, IsTrimOf, IsNumbering, IsShrunk, choice_left, renumbered_move}
 
@@ -94,7 +93,7 @@ alike_kept f g R keeps one one_back = record {
 pub alike_trim : (g h : Graph) → IsTrimOf g h → (k : List ℕ) × Alike (node_moves g.nodes) (node_moves h.nodes) (HasNumber k)
 alike_trim g h t = (t.kept, alike_kept (node_moves g.nodes) (node_moves h.nodes) (HasNumber t.kept) t.keeps t.once (λ s s' n p q. some_same s s' (sym p ∙ q)))
 
-module _ (nodes : List MNode) (alive : List Bool) (order kept numbers : List ℕ) (is : IsAlive nodes alive) (ord : IsOrder nodes order) (num : IsNumbering alive order kept numbers) where
+module _ (nodes : List MNode) (alive : List Bool) (kept numbers : List ℕ) (is : IsAlive nodes alive) (num : IsNumbering alive kept numbers) where
   abbrev f : ℕ → Move ℕ
   f n = node_moves nodes n
 
@@ -102,7 +101,7 @@ module _ (nodes : List MNode) (alive : List Bool) (order kept numbers : List ℕ
   Lost q = LeadsToEnd f q → ⊥
 
   numbered_at : (s : ℕ) → s < length nodes → get_or alive s false ≡ true → HasNumber kept s (get_or numbers s 0)
-  numbered_at s lt e = let j = ord.all s lt in num.all s j.0 j.1 e
+  numbered_at s lt e = num.all s e
 
   -- what leads to the end has a number
   has_number : (s : ℕ) → s < length nodes → LeadsToEnd f s → HasNumber kept s (get_or numbers s 0)
@@ -183,8 +182,8 @@ moves_at_end made m u e = ap (λ z. move_of (slice_get (made ++ m ∷ []) z)) e 
 moves_before : (made : List MNode) (m : MNode) (u : ℕ) → u < length made → node_moves (made ++ m ∷ []) u ≡ node_moves made u
 moves_before made m u lt = let g = slice_get-get_or made u Accept lt in ap (λ z. move_of z) (get_more made (m ∷ []) u (get_or made u Accept) g ∙ sym g)
 
-pub shrinking_more : (nodes rest made : List MNode) (alive : List Bool) (order kept numbers : List ℕ) (t s : ℕ) (node new : MNode) → Shrinking nodes rest made alive kept numbers t → IsNumbering alive order kept numbers → HasNumber kept s t → move_of (Some node) ≡ node_moves rest s → move_of (Some new) ≡ renumbered_move alive numbers (move_of (Some node)) → Shrinking nodes (set rest s Accept) (made ++ new ∷ []) alive kept numbers (t + 1)
-shrinking_more nodes rest made alive order kept numbers t s node new h num at is made_is = record {
+pub shrinking_more : (nodes rest made : List MNode) (alive : List Bool) (kept numbers : List ℕ) (t s : ℕ) (node new : MNode) → Shrinking nodes rest made alive kept numbers t → IsNumbering alive kept numbers → HasNumber kept s t → move_of (Some node) ≡ node_moves rest s → move_of (Some new) ≡ renumbered_move alive numbers (move_of (Some node)) → Shrinking nodes (set rest s Accept) (made ++ new ∷ []) alive kept numbers (t + 1)
+shrinking_more nodes rest made alive kept numbers t s node new h num at is made_is = record {
   long = length-set rest s Accept ∙ h.long;
   below = All-set (LeadsBelow (length nodes)) rest s Accept tt h.below;
   same = λ s' u g le. moves_set_other rest s s' Accept (λ e. let same : u ≡ t = sym (num.once s' u g) ∙ ap (λ z. get_or numbers z 0) e ∙ num.once s t at in absurd (omega arith)) ∙ h.same s' u g (omega arith);
@@ -210,43 +209,8 @@ leads_of n r (Skip t) b = b
 pub leads_below : (ms : List MNode) (r : ℕ) → All (IsBelow (length ms) r) ms → All (LeadsBelow (length ms)) ms
 leads_below ms r h = λ k d lt. leads_of (length ms) r (get_or ms k d) (h k d lt)
 
--- where numbers fall along steps without a byte there is no loop of such steps
-falling_walk : (nodes : List MNode) → ((n m : ℕ) → IsAmong (quiet (node_moves nodes n)) m → m < n) → (n m : ℕ) (ks : List (Step ℕ)) → Walk (node_moves nodes) n ks m → bytes_of (code_of ks) ≡ [] → m ≤ n
-falling_walk nodes falls n m [] w e = omega (arith, w)
-falling_walk nodes falls n m (took b t ∷ ks) w e = let bad : b ∷ bytes_of (code_of ks) ≡ [] = e in cc
-falling_walk nodes falls n m (chose to_left t ∷ ks) w e =
-    let lt : t < n = falls n t (is_quiet w.0 refl) in
-    let le : m ≤ t = falling_walk nodes falls t m ks w.1 e in
-    omega arith
-falling_walk nodes falls n m (chose to_right t ∷ ks) w e =
-    let lt : t < n = falls n t (is_quiet w.0 refl) in
-    let le : m ≤ t = falling_walk nodes falls t m ks w.1 e in
-    omega arith
-falling_walk nodes falls n m (went x t ∷ ks) w e =
-    let lt : t < n = falls n t (is_quiet w.0 refl) in
-    let le : m ≤ t = falling_walk nodes falls t m ks w.1 e in
-    omega arith
-
-no_loop_falling : (nodes : List MNode) → ((n m : ℕ) → IsAmong (quiet (node_moves nodes n)) m → m < n) → HasLoop nodes → ⊥
-no_loop_falling nodes falls (n, k, ks, w, e) = by k w e
-  where
-    by : (k : Step ℕ) → Walk (node_moves nodes) n (k ∷ ks) n → bytes_of (code_of (k ∷ ks)) ≡ [] → ⊥
-    by (took b t) w e = let bad : b ∷ bytes_of (code_of ks) ≡ [] = e in cc
-    by (chose to_left t) w e =
-        let lt : t < n = falls n t (is_quiet w.0 refl) in
-        let le : n ≤ t = falling_walk nodes falls t n ks w.1 e in
-        omega arith
-    by (chose to_right t) w e =
-        let lt : t < n = falls n t (is_quiet w.0 refl) in
-        let le : n ≤ t = falling_walk nodes falls t n ks w.1 e in
-        omega arith
-    by (went x t) w e =
-        let lt : t < n = falls n t (is_quiet w.0 refl) in
-        let le : n ≤ t = falling_walk nodes falls t n ks w.1 e in
-        omega arith
-
 -- the machine that is made
-module _ (g : Graph) (range : IsInRange g.start g.nodes g.registers) (alive : List Bool) (order kept numbers : List ℕ) (made : List MNode) (is : IsAlive g.nodes alive) (ord : IsOrder g.nodes order) (num : IsNumbering alive order kept numbers) (shrunk : IsShrunk g.nodes made alive kept numbers) (starts : get_or alive g.start false ≡ true) where
+module _ (g : Graph) (range : IsInRange g.start g.nodes g.registers) (alive : List Bool) (kept numbers : List ℕ) (made : List MNode) (is : IsAlive g.nodes alive) (num : IsNumbering alive kept numbers) (shrunk : IsShrunk g.nodes made alive kept numbers) (starts : get_or alive g.start false ≡ true) where
   abbrev new : Graph
   new = record { start = get_or numbers g.start 0; nodes = made; stage = g.stage; registers = g.registers }
 
@@ -259,12 +223,12 @@ module _ (g : Graph) (range : IsInRange g.start g.nodes g.registers) (alive : Li
       in_flags (x ∷ alive) (suc s) e = let l : s < length alive = in_flags alive s e in omega arith
 
   at_number : (s : ℕ) → get_or alive s false ≡ true → HasNumber kept s (get_or numbers s 0)
-  at_number s e = let j = ord.all s (within s e) in num.all s j.0 j.1 e
+  at_number s e = num.all s e
 
   keeps_at : (s t : ℕ) → HasNumber kept s t → Keeps (HasNumber kept) (λ q. LeadsToEnd (node_moves g.nodes) q → ⊥) (node_moves g.nodes s) (node_moves made t)
   keeps_at s t h =
       let a = num.each s t h in
-      subst (λ z. Keeps (HasNumber kept) (λ q. LeadsToEnd (node_moves g.nodes) q → ⊥) (node_moves g.nodes s) z) (sym (shrunk.each s t h)) (kept_node g.nodes alive order kept numbers is ord num (leads_below g.nodes g.registers range.below) s (within s a) (is.ends s a))
+      subst (λ z. Keeps (HasNumber kept) (λ q. LeadsToEnd (node_moves g.nodes) q → ⊥) (node_moves g.nodes s) z) (sym (shrunk.each s t h)) (kept_node g.nodes alive kept numbers is num (leads_below g.nodes g.registers range.below) s (within s a) (is.ends s a))
 
   pub is_trim : IsTrimOf g new
   is_trim = record {
@@ -319,7 +283,7 @@ module _ (g : Graph) (range : IsInRange g.start g.nodes g.registers) (alive : Li
   in_range = record {
     start_in = subst (λ z. get_or numbers g.start 0 < z) (sym shrunk.count) (slice_get_within kept (get_or numbers g.start 0) g.start (at_number g.start starts));
     below = subst (λ z. All (IsBelow z g.registers) made) (sym shrunk.count) (All-from_get_or (IsBelow (length kept) g.registers) made Accept below_at);
-    count = omega (arith, shrunk.count, num.few, ord.count, range.count);
+    count = omega (arith, shrunk.count, num.few, is.long, range.count);
   }
     where
       below_at : (t : ℕ) → t < length made → IsBelow (length kept) g.registers (get_or made t Accept)
@@ -330,32 +294,14 @@ module _ (g : Graph) (range : IsInRange g.start g.nodes g.registers) (alive : Li
           let k = subst (λ z. Keeps (HasNumber kept) (λ q. LeadsToEnd (node_moves g.nodes) q → ⊥) (node_moves g.nodes s) (move_of z)) (slice_get-get_or made t Accept lt) (keeps_at s t at) in
           all_below (get_or made t Accept) s (within s (num.each s t at)) k (below_by (get_or made t Accept) k)
 
-  -- along a step without a byte numbers fall
-  falls : (t u : ℕ) → IsAmong (quiet (node_moves made t)) u → u < t
-  falls t u i = ⊎_elim
-      (λ h.
-      let fits : t < length kept = let l : t < length made = h.1 in omega (arith, shrunk.count) in
+  pub is_trimmed : IsTrimmed new
+  is_trimmed = trimmed_by_ends new (λ t lt.
+      let fits : t < length kept = omega (arith, shrunk.count) in
       let s = get_or kept t 0 in
       let at : HasNumber kept s t = slice_get-get_or kept t 0 fits in
-      let k = quiet_step (node_moves made t) u i in
-      let o = kept_back (HasNumber kept) (λ q. LeadsToEnd (node_moves g.nodes) q → ⊥) (keeps_at s t at) k.1 in
-      let place = ord.all s (within s (num.each s t at)) in
-      let lower = ord.falls s (target_of o.0) place.0 place.1 (is_quiet o.1 (ap bytes_of (same_symbols o.0 k.0 o.2) ∙ k.3)) in
-      num.rising (target_of o.0) s u t lower.0 place.0 (subst (λ z. HasNumber kept (target_of o.0) z) k.2 o.3) at lower.2 place.1 lower.1)
-      (λ h. absurd (subst (λ z. IsAmong (quiet (move_of z)) u) h.1 i))
-      (slice_get_cases made t).1
-
-  pub is_trimmed : IsTrimmed new
-  is_trimmed = record {
-    ends = λ t lt.
-        let fits : t < length kept = omega (arith, shrunk.count) in
-        let s = get_or kept t 0 in
-        let at : HasNumber kept s t = slice_get-get_or kept t 0 fits in
-        let e = is.ends s (num.each s t at) in
-        let x = walk_ahead (node_moves g.nodes) (node_moves made) (HasNumber kept) like e.0 s e.1 t e.2 ([], e.1, refl, e.3) at in
-        (x.0, x.1, x.2, like.ends e.1 x.1 x.3 e.3);
-    no_loop = no_loop_falling made falls;
-  }
+      let e = is.ends s (num.each s t at) in
+      let x = walk_ahead (node_moves g.nodes) (node_moves made) (HasNumber kept) like e.0 s e.1 t e.2 ([], e.1, refl, e.3) at in
+      (x.0, x.1, x.2, like.ends e.1 x.1 x.3 e.3))
     where
       like : Alike (node_moves g.nodes) (node_moves made) (HasNumber kept)
       like = alike_kept (node_moves g.nodes) (node_moves made) (HasNumber kept) keeps_at (λ s t t' h h'. sym (num.once s t h) ∙ num.once s t' h') (λ s s' n p q. some_same s s' (sym p ∙ q))

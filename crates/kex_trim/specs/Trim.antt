@@ -6,8 +6,7 @@ use Rattle.kex_model.specs.Survivors.{LeadsToEnd}
 use Rattle.kex_machine.specs.declared.MNode.{MNode}
 use Rattle.kex_machine.specs.Nodes.{Graph, node_moves}
 use Rattle.kex_trim.specs.declared.TrimRefusal.{TrimRefusal}
-use Rattle.kex_trim.specs.declared.TrimRefusal.TheVariants.{EmptyLoop, NoText, Memory}
-use Rattle.kex_machine.specs.Nodes.{HasLoop}
+use Rattle.kex_trim.specs.declared.TrimRefusal.TheVariants.{NoText, Memory}
 
 -- the same, but that a choice with a lost side has only the other side left; R pairs what is kept
 pub data Keeps {S T : Type 0} (R : S → T → Type 0) (Lost : S → Type 0) : Move S → Move T → Type 0 where
@@ -33,18 +32,16 @@ pub record IsTrimOf (g h : Graph) : Type 0 where
 
 -- why the machine is refused
 abbrev pub IsCause : Graph → TrimRefusal → Type 0
-IsCause g EmptyLoop = HasLoop g.nodes
-IsCause g NoText = (HasLoop g.nodes → ⊥) × (LeadsToEnd (node_moves g.nodes) g.start → ⊥)
+IsCause g NoText = LeadsToEnd (node_moves g.nodes) g.start → ⊥
 IsCause g Memory = Unit {0}
 
--- those that are alive have numbers, in an order
-pub record IsNumbering (alive : List Bool) (order kept numbers : List ℕ) : Type 0 where
+-- those that are alive have numbers
+pub record IsNumbering (alive : List Bool) (kept numbers : List ℕ) : Type 0 where
   pub long : length numbers ≡ length alive
-  pub few : length kept ≤ length order
+  pub few : length kept ≤ length alive
   pub each : (s t : ℕ) → HasNumber kept s t → get_or alive s false ≡ true
-  pub all : (s j : ℕ) → HasNumber order s j → get_or alive s false ≡ true → HasNumber kept s (get_or numbers s 0)
+  pub all : (s : ℕ) → get_or alive s false ≡ true → HasNumber kept s (get_or numbers s 0)
   pub once : (s t : ℕ) → HasNumber kept s t → get_or numbers s 0 ≡ t
-  pub rising : (s s' t t' j j' : ℕ) → HasNumber kept s t → HasNumber kept s' t' → HasNumber order s j → HasNumber order s' j' → j < j' → t < t'
 
 abbrev pub NumbersOne : Bool → ℕ → List ℕ → List ℕ → List ℕ → List ℕ → Type 0
 NumbersOne true s kept numbers kept' numbers' = (kept' ≡ kept ++ s ∷ []) × (numbers' ≡ slice_set numbers s (length kept))

@@ -1,7 +1,6 @@
 // The nodes that are kept, and their new numbers.
 
-ghost use Rattle.std.specs.Prelude.{◌≡◌, ℕ, ◌<◌, All, length, Some, IfOk, OnOk, slice_set};
-ghost use Rattle.kex_code.specs.Codes.{HasNumber};
+ghost use Rattle.std.specs.Prelude.{◌≡◌, ◌<◌, All, length, Some, IfOk, OnOk, slice_set};
 ghost use Rattle.kex_machine.specs.Nodes.{move_of, node_moves};
 ghost use Rattle.kex_machine.specs.declared.MNode.TheVariants.{Accept};
 ghost use Rattle.kex_trim.specs.Trim.{IsNumbering, IsShrunk, NumbersOne, renumbered_move};
@@ -30,21 +29,18 @@ fn number_one(alive: bool, s: u32, numbering: &mut Numbering) -> Result<(), Allo
     Ok(())
 }
 
-// The nodes that are alive get numbers, in the order given.
-pub(crate) fn number(alloc: Global, alive: &[bool], order: &[u32]) -> Result<Numbering, AllocError>
-    requires few { length order.now < 4294967296 }
-    requires inside { (n i : ℕ) → HasNumber order.now n i → n < length alive.now }
-    requires before { (n i j : ℕ) → HasNumber order.now n i → HasNumber order.now n j → i < j → ⊥ }
-    ensures { IfOk result (λ n. IsNumbering alive.now order.now n.kept.items n.numbers.items) }
+// The nodes that are alive get numbers, in their order.
+pub(crate) fn number(alloc: Global, alive: &[bool]) -> Result<Numbering, AllocError>
+    requires few { length alive.now < 4294967296 }
+    ensures { IfOk result (λ n. IsNumbering alive.now n.kept.items n.numbers.items) }
 {
     let numbers = vec![in alloc; 0; alive.len()]?;
     let mut numbering = Numbering {
         kept: Vec::new(alloc),
         numbers,
     };
-    for i in 0..order.len() {
-        let s = order[i];
-        number_one(alive[s as usize], s, &mut numbering)?;
+    for s in 0..alive.len() {
+        number_one(alive[s], s as u32, &mut numbering)?;
     }
     Ok(numbering)
 }
@@ -88,12 +84,11 @@ pub(crate) fn shrink(
     alloc: Global,
     nodes: Vec<MNode>,
     alive: &[bool],
-    order: &[u32],
     numbering: &Numbering,
 ) -> Result<Vec<MNode>, AllocError>
     requires below { All (LeadsBelow (length nodes.items)) nodes.items }
     requires long { length alive.now ≡ length nodes.items }
-    requires numbering { IsNumbering alive.now order.now numbering.now.kept.items numbering.now.numbers.items }
+    requires numbering { IsNumbering alive.now numbering.now.kept.items numbering.now.numbers.items }
     ensures { IfOk result (λ made. IsShrunk nodes.items made.items alive.now numbering.now.kept.items numbering.now.numbers.items) }
 {
     let mut rest = nodes;

@@ -23,7 +23,7 @@ loop-t-preserved c =
     let kept = c.args.numbering.now.kept.items in
     let numbers = c.args.numbering.now.numbers.items in
     rw (c.in_ok-push.ensures.items, c.take_node-node.ensures.left)
-    (shrinking_more c.args.nodes.items c.loop-t.rest.items c.loop-t.made.items c.args.alive.now c.args.order.now kept numbers c.loop-t.t s c.take_node-node.result c.shrunk.result c.loop-t.invariant c.requires.numbering (next (goal.at.loop-t-preserved c).After-index) c.take_node-node.ensures.node
+    (shrinking_more c.args.nodes.items c.loop-t.rest.items c.loop-t.made.items c.args.alive.now kept numbers c.loop-t.t s c.take_node-node.result c.shrunk.result c.loop-t.invariant c.requires.numbering (next (goal.at.loop-t-preserved c).After-index) c.take_node-node.ensures.node
     (subst (λ z. move_of (Some c.shrunk.result) ≡ renumbered_move c.args.alive.now z (move_of (Some c.take_node-node.result))) c.deref.ensures.value c.shrunk.ensures))
 
 pub returns : goal.returns
