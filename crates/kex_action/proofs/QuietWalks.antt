@@ -1,15 +1,15 @@
--- A walk without a symbol in a machine without loops has fewer steps than the machine has nodes.
+-- A walk without a symbol in a trimmed machine has fewer steps than the machine has nodes.
 use Rattle.std.proofs.Common.{◌≡◌, ℕ, zero, suc, ◌<◌, ◌≤◌, List, [], ◌∷◌, ◌++◌, Option, Some, None, All, length, map, get_or, inl, inr, ⊎_elim, refl, sym, ap, ap₂, subst, arith, ◌⊎◌}
 use Rattle.std.proofs.lemmas.List.Elements.{All-get_or}
 use Rattle.std.proofs.lemmas.Option.{slice_get_cases}
 use Rattle.std.specs.Prelude.{slice_get, IfSome}
-use Rattle.kex_code.specs.Codes.{bytes_of, IsAmong, Different}
+use Rattle.kex_code.specs.Codes.{IsAmong, Different}
 use Rattle.kex_model.specs.Moves.{Move, forced, Side, Allows, goes_forced, code_of, symbols_of, target_of, Walk, Step, chose}
 use Rattle.kex_model.proofs.Derivations.{from_accept, from_read, from_choose, from_go}
 use Rattle.kex_model.proofs.DistinctItems.{different_fits}
 use Rattle.kex_machine.specs.declared.MNode.{MNode}
 use Rattle.kex_machine.specs.declared.MNode.TheVariants.{Accept, Read, Choice, Forced, Do, Skip}
-use Rattle.kex_machine.specs.Nodes.{Graph, node_moves, move_of, IsBelow, IsInRange, IsTrimmed, HasLoop}
+use Rattle.kex_machine.specs.Nodes.{Graph, node_moves, move_of, IsBelow, IsInRange, IsTrimmed, HasMuteLoop}
 use Rattle.kex_action.proofs.WalkEffects.{parts_none}
 
 -- all numbers below n
@@ -73,11 +73,11 @@ cut f (k ∷ ks) s t x w c (inr h) =
     let r = cut f ks (target_of k) t x w.1 p.1 h in
     record { first = k; others = r.first ∷ r.others; walk = (w.0, r.walk); silent = ap₂ (λ a b. a ++ b) p.0 r.silent }
 
-different : (nodes : List MNode) (ks : List (Step ℕ)) (s t : ℕ) → (HasLoop nodes → ⊥) → Walk (node_moves nodes) s ks t → code_of ks ≡ [] → Different (s ∷ map target_of ks)
+different : (nodes : List MNode) (ks : List (Step ℕ)) (s t : ℕ) → (HasMuteLoop nodes → ⊥) → Walk (node_moves nodes) s ks t → code_of ks ≡ [] → Different (s ∷ map target_of ks)
 different nodes [] s t none w c = ((λ h. absurd h), tt)
 different nodes (k ∷ ks) s t none w c =
     let p = parts_none (symbols_of k) (code_of ks) c in
-    ((λ h. let r = cut (node_moves nodes) (k ∷ ks) s t s w c h in none (s, r.first, r.others, r.walk, ap bytes_of r.silent)), different nodes ks (target_of k) t none w.1 p.1)
+    ((λ h. let r = cut (node_moves nodes) (k ∷ ks) s t s w c h in none (s, r.first, r.others, r.walk, r.silent)), different nodes ks (target_of k) t none w.1 p.1)
 
 length-places : (ks : List (Step ℕ)) → length (map target_of ks) ≡ length ks
 length-places [] = refl
@@ -90,7 +90,7 @@ all_below g (k ∷ ks) s t x range h w (inr i) = all_below g ks (target_of k) t 
 
 pub walk_short : (g : Graph) (ks : List (Step ℕ)) (s t : ℕ) → IsTrimmed g → IsInRange g.start g.nodes g.registers → s < length g.nodes → Walk (node_moves g.nodes) s ks t → code_of ks ≡ [] → length ks < length g.nodes
 walk_short g ks s t trim range h w c =
-    let fits : length (s ∷ map target_of ks) ≤ length (below (length g.nodes)) = different_fits (s ∷ map target_of ks) (below (length g.nodes)) (different g.nodes ks s t trim.no_loop w c) (λ x i. is_below (length g.nodes) x (all_below g ks s t x range h w i)) in
+    let fits : length (s ∷ map target_of ks) ≤ length (below (length g.nodes)) = different_fits (s ∷ map target_of ks) (below (length g.nodes)) (different g.nodes ks s t trim.no_mute_loop w c) (λ x i. is_below (length g.nodes) x (all_below g ks s t x range h w i)) in
     let n : length (below (length g.nodes)) ≡ length g.nodes = length-below (length g.nodes) in
     let m : length (map target_of ks) ≡ length ks = length-places ks in
     omega arith

@@ -45,7 +45,8 @@ module _ (g : Graph) (trim : IsTrim (node_moves g.nodes) g.start) where
       let (ks, walk, e) = r.real n h in
       let (ls, end, on, acc) = trim.ends n in
       let (p, (js, q, s), waits) = waits_ahead g.nodes ls n end on acc in
-      (p, (code_of (ks ++ js), reached_by ms g.start trim w p (ks ++ js) (walk-append ms ks js g.start n p walk q) waits (ap bytes_of (code_of-append ks js) ∙ bytes_of-append (code_of ks) (code_of js) ∙ ap₂ (λ x y. x ++ y) e s ∙ append-nil w), trim.ends p))
+      let r = reached_by ms g.start trim w p (ks ++ js) (walk-append ms ks js g.start n p walk q) waits (ap bytes_of (code_of-append ks js) ∙ bytes_of-append (code_of ks) (code_of js) ∙ ap₂ (λ x y. x ++ y) e s ∙ append-nil w) in
+      (p, (r.0, r.1, trim.ends p))
 
   pub mark_by_viable : (w : List ℕ) (row : List ℕ) → IsRow g w row → Viable g w → (n : ℕ) × (has_mark row n ≡ true) × ((within : StaysWithin g.nodes) → g.start < length g.nodes → n < length g.nodes)
   mark_by_viable w row r (p, (c, (ks, path, e), end)) = (p, r.all p ks path.walk path.reads, λ within lt. walk_within g.nodes within ks g.start p lt path.walk)

@@ -7,15 +7,14 @@ use Rattle.kex_machine.specs.Nodes.{Graph, node_moves}
 use Rattle.kex_desugar.specs.Machines.{HasMore, IsMachineOf}
 use Rattle.kex_trim.specs.Trim.{IsCause}
 use Rattle.kex_trim.specs.declared.TrimRefusal.{TrimRefusal}
-use Rattle.kex_trim.specs.declared.TrimRefusal.TheVariants.{EmptyLoop, NoText, Memory}
+use Rattle.kex_trim.specs.declared.TrimRefusal.TheVariants.{NoText, Memory}
 use Rattle.kex_lowering.specs.Refusals.{of_trim}
 use Rattle.kex_lowering.specs.Stages.{IsWhy}
-use Rattle.kex_lowering.proofs.Loops.{Numbered, alike, loop_of_nodes, loop_of_places}
+use Rattle.kex_lowering.proofs.PlaceNumbers.{Numbered, alike}
 use Rattle.kex_lowering.proofs.Pairs.{end_ahead}
 
 pub why : (P : Grammar) (root max : ℕ) (m : Graph) (e : TrimRefusal) → IsMachineOf P root m → (HasMore P root max → ⊥) → IsCause m e → IsWhy P root max (of_trim e)
-why P root max m EmptyLoop is fits h = (fits, loop_of_nodes P root m is h)
-why P root max m NoText is fits h = (fits, (λ l. h.0 (loop_of_places P root m is l)), (λ l. h.1 (end_ahead (λ p. moves P p) (λ n. node_moves m.nodes n) (Numbered P root m is) (alike P root m is) (start_of P root) m.start is.start l)))
+why P root max m NoText is fits h = (fits, (λ l. h (end_ahead (λ p. moves P p) (λ n. node_moves m.nodes n) (Numbered P root m is) (alike P root m is) (start_of P root) m.start is.start l)))
 why P root max m Memory is fits h = tt
 
 pub if_err : {A B : Type 0} (r : Result A B) (b : B) (Q : B → Type 0) → IsErrAnd r (λ e. e ≡ b) → Q b → IfErr r Q

@@ -7,23 +7,21 @@ use Rattle.kex_code.specs.declared.symbol.Symbol.{Symbol}
 use Rattle.kex_code.specs.declared.symbol.Symbol.TheVariants.{Byte}
 use Rattle.kex_code.specs.Codes.{Begins, bytes_of, HasNumber, IsAmong}
 use Rattle.kex_model.specs.Programs.{Grammar}
-use Rattle.kex_model.specs.Places.{HasEmptyLoop}
 use Rattle.kex_model.specs.Moves.{Move, accept, read, choose, forced, go, Step, took, Allows, reads, code_of, IsWaiting, Walk}
 use Rattle.kex_model.specs.Labelled.{Labelled, tip, fork, Grown, leaves_of}
 use Rattle.kex_model.specs.Survivors.{Agreed, IsPath, LeadsToEnd, LongestViable, HasTree, Survives}
 use Rattle.kex_model.specs.Answers.{Answer, LongestGood, Pipeline, Report, bad_byte, too_long, cut_off, whole, still_open}
 use Rattle.kex_model.specs.Alike.{Alike}
 use Rattle.kex_model.proofs.Tables.{some_same}
-use Rattle.kex_model.proofs.Transfer.{Paired, paired_code, walk_back}
 use Rattle.kex_model.proofs.Walks.{bytes_of-append}
 use Rattle.kex_model.proofs.Derivations.{code_of-append, walk-append}
 use Rattle.kex_model.proofs.Shapes.{tree_agrees}
 use Rattle.kex_machine.specs.declared.MNode.{MNode}
-use Rattle.kex_machine.specs.Nodes.{Graph, HasLoop, move_of, node_moves, IsTrimmed, MoveBelow, StaysWithin}
+use Rattle.kex_machine.specs.Nodes.{Graph, move_of, node_moves, IsTrimmed, MoveBelow, StaysWithin}
 use Rattle.kex_machine.specs.Advancing.{itself, Visits, known, stops, parts_off, is_forced, passes_on, Advances, dies, reads_on, both, first_accepting}
 use Rattle.kex_machine.specs.Answers.{Viable, HasParse, IsGreedy, Says, Means, StageAnswers}
 use Rattle.kex_machine.proofs.Nexts.{IsTrim, ShowsFirst, ShowsTree, first_shows, next_shows}
-use Rattle.kex_machine.proofs.Ranges.{is_trim}
+use Rattle.kex_machine.proofs.Ranges.{is_trim, trimmed_by_ends}
 use Rattle.kex_machine.proofs.LongestFronts.{longest_self, longest_later, viable_before}
 use Rattle.kex_machine.proofs.AcceptingTips.{none_parses, greedy_found}
 use Rattle.kex_machine.proofs.Sizes.{unseen, unseen-set, visit_fits, advance_fits}
@@ -31,7 +29,6 @@ use Rattle.kex_trim.specs.Trim.{IsTrimOf, Keeps, still_accepts, still_reads, sti
 use Rattle.kex_trim.proofs.KeptNodes.{alike_kept}
 use Rattle.kex_lowering.specs.Existence.{HasAnswers}
 use Rattle.kex_lowering.specs.Stages.{IsKeptOf}
-use Rattle.kex_lowering.proofs.Loops.{loop_of_nodes}
 use Rattle.kex_lowering.proofs.Pairs.{end_ahead}
 use Rattle.kex_lowering.proofs.PairedNodes.{carries}
 use Rattle.kex_model.specs.Laws as stages
@@ -256,7 +253,7 @@ module _ (g : Graph) (within : StaysWithin g.nodes) (start_in : g.start < length
           (lt_or_le limit (length w))
 
 -- what is left of a stage's machine leads to what is left, and is trimmed
-module _ (g h : Graph) (trim : IsTrimOf g h) (none : HasLoop g.nodes → ⊥) where
+module _ (g h : Graph) (trim : IsTrimOf g h) where
   abbrev Kept : ℕ → ℕ → Type 0
   Kept s t = HasNumber trim.kept s t
 
@@ -284,34 +281,14 @@ module _ (g h : Graph) (trim : IsTrimOf g h) (none : HasLoop g.nodes → ⊥) wh
   pub left_start : h.start < length h.nodes
   left_start = kept_in g.start h.start trim.start
 
-  from_none : {k : Step ℕ} → Allows accept k → ⊥
-  from_none a = elim a [ ]
-
   pub left_trimmed : IsTrimmed h
-  left_trimmed = record {
-    ends = λ t lt. end_ahead (node_moves g.nodes) (node_moves h.nodes) Kept alike (get_or trim.kept t 0) t (at_node t lt) (trim.each (get_or trim.kept t 0) t (at_node t lt)).0;
-    no_loop = λ (t, k, ks, w, e). by t k ks w e (slice_get h.nodes t) refl;
-  }
-    where
-      found : (s : ℕ) (js : List (Step ℕ)) (k : Step ℕ) (ks : List (Step ℕ)) → Walk (node_moves g.nodes) s js s → Paired (node_moves g.nodes) (node_moves h.nodes) Kept js (k ∷ ks) → bytes_of (code_of (k ∷ ks)) ≡ [] → HasLoop g.nodes
-      found s [] k ks w q e = absurd q
-      found s (j ∷ js) k ks w q e = (s, j, js, w, ap bytes_of (paired_code (node_moves g.nodes) (node_moves h.nodes) Kept (j ∷ js) (k ∷ ks) q) ∙ e)
-
-      by : (t : ℕ) (k : Step ℕ) (ks : List (Step ℕ)) → Walk (node_moves h.nodes) t (k ∷ ks) t → bytes_of (code_of (k ∷ ks)) ≡ [] → (o : Option MNode) → slice_get h.nodes t ≡ o → ⊥
-      by t k ks w e None h' = from_none (subst (λ z. Allows z k) (ap move_of h') w.0)
-      by t k ks w e (Some x) h' =
-          let lt = slice_get_within h.nodes t x h' in
-          let s = get_or trim.kept t 0 in
-          let r = at_node t lt in
-          let back = walk_back (node_moves g.nodes) (node_moves h.nodes) Kept alike (k ∷ ks) s t t w r in
-          none (found s back.0 k ks (subst (λ z. Walk (node_moves g.nodes) s back.0 z) (some_same back.1 s (sym back.3 ∙ r)) back.2) back.4 e)
+  left_trimmed = trimmed_by_ends h (λ t lt. end_ahead (node_moves g.nodes) (node_moves h.nodes) Kept alike (get_or trim.kept t 0) t (at_node t lt) (trim.each (get_or trim.kept t 0) t (at_node t lt)).0)
 
 -- a stage has answers where a machine of it has them
-pub stage_answers : (P : Grammar) (root : ℕ) (m : Graph) → IsKeptOf P root m → (HasEmptyLoop P root → ⊥) → (limit : ℕ) (w : List ℕ) (e : Bool) → (a : Answer) × stages.StageAnswers P root limit w e a
-stage_answers P root m kept none limit w e =
-    let no_loop : HasLoop kept.whole.nodes → ⊥ = λ h. none (loop_of_nodes P root kept.whole kept.of_places h) in
-    let a = has_answers m (left_within kept.whole m kept.trimmed no_loop) (left_start kept.whole m kept.trimmed no_loop) (left_trimmed kept.whole m kept.trimmed no_loop) limit w e in
-    (a.0, ((carries P root kept.whole m kept.of_places kept.trimmed no_loop).answers limit w e a.0).1 a.1)
+pub stage_answers : (P : Grammar) (root : ℕ) (m : Graph) → IsKeptOf P root m → (limit : ℕ) (w : List ℕ) (e : Bool) → (a : Answer) × stages.StageAnswers P root limit w e a
+stage_answers P root m kept limit w e =
+    let a = has_answers m (left_within kept.whole m kept.trimmed) (left_start kept.whole m kept.trimmed) (left_trimmed kept.whole m kept.trimmed) limit w e in
+    (a.0, ((carries P root kept.whole m kept.of_places kept.trimmed).answers limit w e a.0).1 a.1)
 
 -- a pipeline has an answer where each of its stages has one
 pub pipeline_answers : {T : Type 0} (Gives : T → List ℕ → Bool → Answer → Type 0) (ss : List T) → ((s : T) → IsAmong ss s → (w : List ℕ) (e : Bool) → (a : Answer) × Gives s w e a) → (i : ℕ) (w : List ℕ) (e : Bool) → (text : List ℕ) × (report : Option Report) × Pipeline Gives i ss w e text report

@@ -6,7 +6,7 @@ use Rattle.kex_model.specs.Programs.{Grammar}
 use Rattle.kex_model.specs.Trees.{Tree, IsTree, kind_at, text_of, meaning, part}
 use Rattle.kex_model.specs.Moves.{Move, Step, took, chose, went, code_of, Walk}
 use Rattle.kex_model.specs.Acting.{State, after_append, after_effect, after_steps}
-use Rattle.kex_model.specs.Places.{Place, moves, start_of, steps_of, HasEmptyLoop, at_start}
+use Rattle.kex_model.specs.Places.{Place, moves, start_of, steps_of}
 use Rattle.kex_model.specs.Survivors.{LeadsToEnd, Reaches, Survives, IsViable, Agreed, Greedy}
 use Rattle.kex_model.specs.Alike.{Alike}
 use Rattle.kex_model.specs.Answers.{empty, code_at}
@@ -14,11 +14,11 @@ use Rattle.kex_model.specs.Answers as places
 use Rattle.kex_model.proofs.Derivations.{itself, tree_walk, steps-code, code-bytes, same_tree, walk_tree}
 use Rattle.kex_model.proofs.Effects.{done_all}
 use Rattle.kex_model.proofs.PartialMeanings.{part_whole}
-use Rattle.kex_model.proofs.Loops.{no_return}
+use Rattle.kex_model.proofs.Correspondence.{from_tree}
 use Rattle.kex_model.proofs.SaidTexts.{survivor_of, end_is_empty, parse_of_survivor}
 use Rattle.kex_model.proofs.Tables.{some_same}
-use Rattle.kex_model.proofs.Transfer.{Paired, paired_code, walk_ahead, walk_back, survives_ahead, survives_back, viable_ahead, agreed_ahead}
-use Rattle.kex_machine.specs.Nodes.{Graph, HasLoop, node_moves}
+use Rattle.kex_model.proofs.Transfer.{Paired, paired_code, walk_ahead, walk_back, reach_back, survives_ahead, survives_back, viable_ahead, agreed_ahead}
+use Rattle.kex_machine.specs.Nodes.{Graph, node_moves}
 use Rattle.kex_machine.specs.Answers as nodes
 use Rattle.kex_desugar.specs.Machines.{IsMachineOf}
 use Rattle.kex_trim.specs.Trim.{IsTrimOf}
@@ -26,7 +26,7 @@ use Rattle.kex_trim.proofs.KeptNodes.{alike_kept}
 use Rattle.kex_lowering.specs.Stages.{Carries, SameRun}
 use Rattle.kex_lowering.specs.Shapes.{SameShapes, MachineAnswersAsPlaces, WasPlaceOf}
 use Rattle.kex_lowering.proofs.Pairs.{Through, alike_through, end_back}
-use Rattle.kex_lowering.proofs.Loops.{Numbered, alike, alike_back, loop_of_places}
+use Rattle.kex_lowering.proofs.PlaceNumbers.{Numbered, alike, alike_back}
 use Rattle.kex_lowering.proofs.SameShapes.{same_shapes, same_paths}
 use Rattle.kex_lowering.proofs.SameAnswers.{Serves, answers_so}
 
@@ -49,7 +49,7 @@ same_done f g R (chose x s ∷ ks) (went e t ∷ js) c st p = absurd p.0
 same_done f g R (went d s ∷ ks) (took b t ∷ js) c st p = absurd p.0
 same_done f g R (went d s ∷ ks) (chose y t ∷ js) c st p = absurd p.0
 
-module _ (P : Grammar) (root : ℕ) (m : Graph) (R : Place → ℕ → Type 0) (a : Alike (λ p. moves P p) (λ n. node_moves m.nodes n) R) (start : R (start_of P root) m.start) (none : HasEmptyLoop P root → ⊥) (same : m.registers ≡ P.registers) where
+module _ (P : Grammar) (root : ℕ) (m : Graph) (R : Place → ℕ → Type 0) (a : Alike (λ p. moves P p) (λ n. node_moves m.nodes n) R) (start : R (start_of P root) m.start) (same : m.registers ≡ P.registers) where
   abbrev f : Place → Move Place
   f p = moves P p
 
@@ -62,22 +62,7 @@ module _ (P : Grammar) (root : ℕ) (m : Graph) (R : Place → ℕ → Type 0) (
   -- survivors, and what they agree on
 
   path_back : (w : List ℕ) (n : ℕ) (c : List Symbol) → Reaches g m.start w n c → (p : Place) × R p n × Reaches f s₀ w p c
-  path_back w n c (js, h, e) =
-      let x = walk_back f g R a js s₀ m.start n h.walk start in
-      let codes : code_of x.0 ≡ code_of js = paired_code f g R x.0 js x.4 in (
-        x.1,
-        x.3,
-        (
-          x.0,
-          record {
-            walk = x.2;
-            waits = a.waits_back x.1 n x.3 h.waits;
-            once = no_return P root none x.0 s₀ x.1 (s₀ ∷ []) at_start (λ q i. ⊎_elim (λ e. record { steps = []; walk = sym e; silent = refl }) (λ j. absurd j) i) x.2;
-            reads = ap bytes_of codes ∙ h.reads;
-          },
-          codes ∙ e,
-        ),
-      )
+  path_back w n c r = reach_back f g R a s₀ m.start start w n c r
 
   to_node : (w : List ℕ) (p : Place) (c : List Symbol) → Survives f s₀ w p c → (n : ℕ) × R p n × Survives g m.start w n c
   to_node w p c s = survives_ahead f g R a s₀ m.start start w p c s
@@ -190,30 +175,30 @@ module _ (P : Grammar) (root : ℕ) (m : Graph) (R : Place → ℕ → Type 0) (
       }
 
   parsed_on : (w : List ℕ) → places.HasParse P root w → nodes.HasParse m w
-  parsed_on w (t, h) = let x = run_of_tree t h.tree in (x.0, x.1.runs, text_read t x.0 x.1 ∙ h.text)
+  parsed_on w (t, h) = let x = run_of_tree t h.derives.tree in (x.0, x.1.runs, text_read t x.0 x.1 ∙ h.derives.text)
 
   parsed_back : (w : List ℕ) → nodes.HasParse m w → places.HasParse P root w
-  parsed_back w (js, runs, e) = let x = tree_of_run js runs in (x.0, record { tree = x.1.is_tree; text = sym (text_read x.0 js x.1) ∙ e })
+  parsed_back w (js, runs, e) = let x = tree_of_run js runs in from_tree P root w x.0 (record { tree = x.1.is_tree; text = sym (text_read x.0 js x.1) ∙ e })
 
   means_on : (w text : List ℕ) → places.Means P root w text → nodes.Means m w text
   means_on w text (t, parse, e) =
-      let x = run_of_tree t parse.parses.tree in record {
+      let x = run_of_tree t parse.parses.derives.tree in record {
         greedy = code_at P root t;
-        is_greedy = greedy_on w (code_at P root t) (survivor_of P root w t none parse);
-        least = λ d h. least_at_end w (code_at P root t) d (survivor_of P root w t none parse) (greedy_back w d h);
+        is_greedy = greedy_on w (code_at P root t) (survivor_of P root w t parse);
+        least = λ d h. least_at_end w (code_at P root t) d (survivor_of P root w t parse) (greedy_back w d h);
         run = x.0;
         runs = x.1.runs;
         codes = codes_of t x.0 x.1;
-        meant = e ∙ sym (whole_part t parse.parses.tree) ∙ sym (part_left t x.0 (code_at P root t) x.1);
+        meant = e ∙ sym (whole_part t parse.parses.derives.tree) ∙ sym (part_left t x.0 (code_at P root t) x.1);
       }
 
   means_back : (w text : List ℕ) → nodes.Means m w text → places.Means P root w text
   means_back w text h =
-      let parse = parse_of_survivor P root w h.greedy none (greedy_back w h.greedy h.is_greedy) in
+      let parse = parse_of_survivor P root w h.greedy (greedy_back w h.greedy h.is_greedy) in
       let x = tree_of_run h.run h.runs in
       let code_is : code_at P root x.0 ≡ code_at P root parse.0 = sym (codes_of x.0 h.run x.1) ∙ h.codes ∙ sym parse.2 in
-      let tree_is : x.0 ≡ parse.0 = (same_tree P [] [] x.1.is_tree parse.1.parses.tree (append-nil (code_at P root x.0) ∙ code_is ∙ sym (append-nil (code_at P root parse.0)))).0 in
-      (parse.0, parse.1, h.meant ∙ part_left x.0 h.run h.greedy x.1 ∙ ap₂ (λ t c. (part P (kind_at P root) t c (empty P)).bytes) tree_is (sym parse.2) ∙ whole_part parse.0 parse.1.parses.tree)
+      let tree_is : x.0 ≡ parse.0 = (same_tree P [] [] x.1.is_tree parse.1.parses.derives.tree (append-nil (code_at P root x.0) ∙ code_is ∙ sym (append-nil (code_at P root parse.0)))).0 in
+      (parse.0, parse.1, h.meant ∙ part_left x.0 h.run h.greedy x.1 ∙ ap₂ (λ t c. (part P (kind_at P root) t c (empty P)).bytes) tree_is (sym parse.2) ∙ whole_part parse.0 parse.1.parses.derives.tree)
 
   -- the answers
 
@@ -225,7 +210,6 @@ module _ (P : Grammar) (root : ℕ) (m : Graph) (R : Place → ℕ → Type 0) (
 
   pub carried : LeadsToEnd f s₀ → Carries P root m
   carried some = record {
-    no_loop = none;
     some_text = some;
     survivors = λ w. record { to_node = λ p c s. let x = to_node w p c s in (x.0, x.2); to_place = λ n c s. let x = to_place w n c s in (x.0, x.2) };
     viable = λ w. (viable_on w, viable_back w);
@@ -263,8 +247,8 @@ module _ (P : Grammar) (root : ℕ) (m t : Graph) (is : IsMachineOf P root m) (t
   pairs_alike : Alike placed left Pairs
   pairs_alike = alike_through placed numbered left (Numbered P root m is) Kept (alike P root m is) (alike_kept numbered left Kept trim.keeps trim.once (λ s s' n p q. some_same s s' (sym p ∙ q)))
 
-  pub carries : (HasLoop m.nodes → ⊥) → Carries P root t
-  carries none = carried P root t Pairs pairs_alike (m.start, is.start, trim.start) (λ h. none (loop_of_places P root m is h)) (trim.registers ∙ is.registers) (end_back placed numbered (Numbered P root m is) (alike P root m is) (start_of P root) m.start is.start (trim.each m.start t.start trim.start).0)
+  pub carries : Carries P root t
+  carries = carried P root t Pairs pairs_alike (m.start, is.start, trim.start) (trim.registers ∙ is.registers) (end_back placed numbered (Numbered P root m is) (alike P root m is) (start_of P root) m.start is.start (trim.each m.start t.start trim.start).0)
 
   pub shaped : SameShapes P root t (λ p n. WasPlaceOf is trim p n)
   shaped = same_shapes P root t Pairs pairs_alike (m.start, is.start, trim.start)
@@ -274,5 +258,5 @@ pub machine_answers : (P : Grammar) (root : ℕ) (m : Graph) (is : IsMachineOf P
 machine_answers P root m is = record {
   paths = same_paths P root m (Numbered P root m is) (alike P root m is) is.start (alike_back P root m is);
   shapes = same_shapes P root m (Numbered P root m is) (alike P root m is) is.start;
-  carries = λ none some. carried P root m (Numbered P root m is) (alike P root m is) is.start (λ h. none (loop_of_places P root m is h)) is.registers some;
+  carries = λ some. carried P root m (Numbered P root m is) (alike P root m is) is.start is.registers some;
 }

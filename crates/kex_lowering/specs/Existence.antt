@@ -1,7 +1,6 @@
 -- That there is an answer, and what a viable text is.
 use Rattle.std.specs.Prelude.{ℕ, ◌<◌, ◌++◌, ◌↔◌, Bool, List, length}
 use Rattle.kex_model.specs.Programs.{Grammar}
-use Rattle.kex_model.specs.Places.{HasEmptyLoop}
 use Rattle.kex_model.specs.Answers.{Answer, HasParse, Viable}
 use Rattle.kex_machine.specs.Nodes.{Graph, IsTrimmed, StaysWithin}
 use Rattle.kex_lowering.specs.Stages.{IsKeptOf}
@@ -16,10 +15,10 @@ HasAnswers g = (limit : ℕ) (w : List ℕ) (e : Bool) → (a : Answer) × nodes
 abbrev pub MachinesHaveAnswers : Type 0
 MachinesHaveAnswers = (g : Graph) → StaysWithin g.nodes → g.start < length g.nodes → IsTrimmed g → HasAnswers g
 
--- and each stage without an empty loop that has a machine
+-- and each stage that has a machine
 abbrev pub StagesHaveAnswers : Type 0
-StagesHaveAnswers = (P : Grammar) (root : ℕ) (m : Graph) → IsKeptOf P root m → (HasEmptyLoop P root → ⊥) → (limit : ℕ) (w : List ℕ) (e : Bool) → (a : Answer) × stages.StageAnswers P root limit w e a
+StagesHaveAnswers = (P : Grammar) (root : ℕ) (m : Graph) → IsKeptOf P root m → (limit : ℕ) (w : List ℕ) (e : Bool) → (a : Answer) × stages.StageAnswers P root limit w e a
 
 -- a text is viable exactly where some text that begins with it has a parse
 abbrev pub ViableTextsGoOn : Type 0
-ViableTextsGoOn = (P : Grammar) (root : ℕ) (m : Graph) → IsKeptOf P root m → (HasEmptyLoop P root → ⊥) → (w : List ℕ) → Viable P root w ↔ ((v : List ℕ) × HasParse P root (w ++ v))
+ViableTextsGoOn = (P : Grammar) (root : ℕ) (m : Graph) → IsKeptOf P root m → (w : List ℕ) → Viable P root w ↔ ((v : List ℕ) × HasParse P root (w ++ v))

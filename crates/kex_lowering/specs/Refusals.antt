@@ -2,7 +2,7 @@
 use Rattle.kex_desugar.specs.declared.refusal.DesugarRefusal.{DesugarRefusal}
 use Rattle.kex_trim.specs.declared.TrimRefusal.{TrimRefusal}
 use Rattle.kex_lowering.specs.declared.refusal.StageRefusal.{StageRefusal}
-use Rattle.kex_lowering.specs.declared.refusal.StageRefusal.TheVariants.{TooManyPlaces, EmptyLoop, NoText, Memory}
+use Rattle.kex_lowering.specs.declared.refusal.StageRefusal.TheVariants.{TooManyPlaces, NoText, Memory}
 use Rattle.kex_desugar.specs.declared.refusal.DesugarRefusal.TheVariants as desugar
 use Rattle.kex_trim.specs.declared.TrimRefusal.TheVariants as trim
 
@@ -11,6 +11,5 @@ of_desugar desugar.TooManyPlaces = TooManyPlaces
 of_desugar desugar.Memory = Memory
 
 abbrev pub of_trim : TrimRefusal → StageRefusal
-of_trim trim.EmptyLoop = EmptyLoop
 of_trim trim.NoText = NoText
 of_trim trim.Memory = Memory

@@ -7,7 +7,7 @@ use Rattle.kex_model.specs.Labelled.{Shape, place, parts}
 use Rattle.kex_model.specs.Places.{Place, moves, start_of}
 use Rattle.kex_model.specs.Survivors.{LeadsToEnd, Reaches, HasShape}
 use Rattle.kex_model.specs.States.{HasMoreStates, HasStates}
-use Rattle.kex_machine.specs.Nodes.{Graph, HasLoop, node_moves}
+use Rattle.kex_machine.specs.Nodes.{Graph, node_moves}
 use Rattle.kex_desugar.specs.Machines.{IsMachineOf}
 use Rattle.kex_trim.specs.Trim.{IsTrimOf}
 use Rattle.kex_lowering.specs.Stages.{Carries, IsKeptOf}
@@ -45,7 +45,7 @@ WasPlaceOf is trimmed p n = (before : ℕ) × HasNumber is.places p before × Ha
 pub record MachineAnswersAsPlaces (P : Grammar) (root : ℕ) (m : Graph) (is : IsMachineOf P root m) : Type 0 where
   pub paths : SamePaths P root m (λ p n. IsPlaceOf is p n)
   pub shapes : SameShapes P root m (λ p n. IsPlaceOf is p n)
-  pub carries : (HasLoop m.nodes → ⊥) → LeadsToEnd (moves P) (start_of P root) → Carries P root m
+  pub carries : LeadsToEnd (moves P) (start_of P root) → Carries P root m
 
 abbrev pub MachinesAnswerAsPlaces : Type 0
 MachinesAnswerAsPlaces = (P : Grammar) (root : ℕ) (m : Graph) (is : IsMachineOf P root m) → MachineAnswersAsPlaces P root m is

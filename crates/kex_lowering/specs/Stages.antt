@@ -3,16 +3,16 @@ use Rattle.std.specs.Prelude.{◌≡◌, ◌↔◌, ℕ, Bool, List, length}
 use Rattle.kex_code.specs.Codes.{HasNumber}
 use Rattle.kex_code.specs.declared.symbol.Symbol.{Symbol}
 use Rattle.kex_model.specs.Programs.{Grammar}
-use Rattle.kex_model.specs.Places.{Place, IsPlace, moves, start_of, HasEmptyLoop}
+use Rattle.kex_model.specs.Places.{Place, IsPlace, moves, start_of}
 use Rattle.kex_model.specs.Survivors.{LeadsToEnd, Survives, Agreed, Greedy, IsViable}
 use Rattle.kex_model.specs.Moves.{Step, code_of}
 use Rattle.kex_model.specs.Trees.{Tree, IsTree, kind_at, part}
 use Rattle.kex_model.specs.Answers.{Answer}
-use Rattle.kex_machine.specs.Nodes.{Graph, HasLoop, node_moves}
+use Rattle.kex_machine.specs.Nodes.{Graph, node_moves}
 use Rattle.kex_desugar.specs.Machines.{HasMore, IsMachineOf}
 use Rattle.kex_trim.specs.Trim.{IsTrimOf}
 use Rattle.kex_lowering.specs.declared.refusal.StageRefusal.{StageRefusal}
-use Rattle.kex_lowering.specs.declared.refusal.StageRefusal.TheVariants.{TooManyPlaces, EmptyLoop, NoText, Memory}
+use Rattle.kex_lowering.specs.declared.refusal.StageRefusal.TheVariants.{TooManyPlaces, NoText, Memory}
 use Rattle.kex_model.specs.Answers as places
 use Rattle.kex_model.specs.Laws as stages
 use Rattle.kex_machine.specs.Answers as nodes
@@ -31,7 +31,6 @@ module _ (P : Grammar) (root : ℕ) (m : Graph) where
 
   -- the machine answers as the stage does
   pub record Carries : Type 0 where
-    pub no_loop : HasEmptyLoop P root → ⊥
     pub some_text : LeadsToEnd (moves P) (start_of P root)
     pub survivors : (w : List ℕ) → SameSurvivors w
     pub viable : (w : List ℕ) → IsViable (moves P) (start_of P root) w ↔ IsViable (node_moves m.nodes) m.start w
@@ -54,7 +53,7 @@ pub record IsKeptOf (P : Grammar) (root : ℕ) (kept : Graph) : Type 0 where
 
 -- what a stage's machine leaves when it is trimmed answers as the stage does
 abbrev pub NodesAnswerAsPlaces : Type 0
-NodesAnswerAsPlaces = (P : Grammar) (root : ℕ) (m t : Graph) → IsMachineOf P root m → IsTrimOf m t → (HasLoop m.nodes → ⊥) → Carries P root t
+NodesAnswerAsPlaces = (P : Grammar) (root : ℕ) (m t : Graph) → IsMachineOf P root m → IsTrimOf m t → Carries P root t
 
 -- the stage has just so many places: each stands once in a list of this length, and nothing else does
 pub record HasPlaces (P : Grammar) (root count : ℕ) : Type 0 where
@@ -67,6 +66,5 @@ pub record HasPlaces (P : Grammar) (root count : ℕ) : Type 0 where
 -- why a stage has no machine: no cause of a lower number is there
 abbrev pub IsWhy : Grammar → ℕ → ℕ → StageRefusal → Type 0
 IsWhy P root max TooManyPlaces = HasMore P root max
-IsWhy P root max EmptyLoop = (HasMore P root max → ⊥) × HasEmptyLoop P root
-IsWhy P root max NoText = (HasMore P root max → ⊥) × (HasEmptyLoop P root → ⊥) × (LeadsToEnd (moves P) (start_of P root) → ⊥)
+IsWhy P root max NoText = (HasMore P root max → ⊥) × (LeadsToEnd (moves P) (start_of P root) → ⊥)
 IsWhy P root max Memory = Unit {0}

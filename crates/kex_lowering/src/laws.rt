@@ -10,8 +10,7 @@ pub fn nodes_answer_as_places()
     ensures { NodesAnswerAsPlaces }
 {}
 
-/// The same holds of the machine before it is trimmed, where no loop goes without a byte; and all its paths and shapes are
-/// those of the places.
+/// The same holds of the machine before it is trimmed; and all its paths and shapes are those of the places.
 pub fn machines_answer_as_places()
     ensures { MachinesAnswerAsPlaces }
 {}

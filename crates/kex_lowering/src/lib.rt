@@ -25,10 +25,9 @@ pub struct StageMachine {
     pub places: u32,
 }
 
-/// The machine of a stage that begins at node `root`, without loops that read nothing and without dead ends.
+/// The machine of a stage that begins at node `root`, without dead ends.
 ///
-/// It is refused for its places before it is for a loop, and for a loop before it is for want of a text. The time is
-/// linear in the count of places.
+/// It is refused for its places before it is for want of a text. The time is linear in the count of places.
 pub fn stage_machine(
     alloc: Global,
     program: &Program,

@@ -12,9 +12,6 @@ use thiserror::Error;
 pub enum StageRefusal {
     #[error("the stage has too many places")]
     TooManyPlaces,
-    /// Some place is reached again from itself without a byte.
-    #[error("a loop reads nothing")]
-    EmptyLoop,
     /// The empty place isn't reached from the start.
     #[error("no text has a parse")]
     NoText,
@@ -38,7 +35,6 @@ impl From<TrimRefusal> for StageRefusal {
 
     fn from(why: TrimRefusal) -> StageRefusal {
         match why {
-            TrimRefusal::EmptyLoop => StageRefusal::EmptyLoop,
             TrimRefusal::NoText => StageRefusal::NoText,
             TrimRefusal::Memory => StageRefusal::Memory,
         }

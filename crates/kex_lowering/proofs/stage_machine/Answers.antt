@@ -11,7 +11,7 @@ returns-in_err-trimmed-clause-refused c =
     if_err c.from_residual-in_err-trimmed.result (of_trim e) (λ x. IsWhy c.args.program.now c.args.root c.args.max_places x) c.from_residual-in_err-trimmed.ensures.1 (why c.args.program.now c.args.root c.args.max_places c.in_ok-machine.machine e made.machine made.fits c.in_err-trimmed.ensures.refused)
 
 pub returns-clause-carries : goal.returns-clause-carries
-returns-clause-carries c = carries c.args.program.now c.args.root c.in_ok-machine.machine c.in_ok-trimmed.trimmed c.in_ok-machine.ensures.machine c.in_ok-trimmed.ensures.trimmed c.in_ok-trimmed.ensures.no_loop
+returns-clause-carries c = carries c.args.program.now c.args.root c.in_ok-machine.machine c.in_ok-trimmed.trimmed c.in_ok-machine.ensures.machine c.in_ok-trimmed.ensures.trimmed
 
 pub returns-clause-kept : goal.returns-clause-kept
 returns-clause-kept c = record { whole = c.in_ok-machine.machine; of_places = c.in_ok-machine.ensures.machine; trimmed = c.in_ok-trimmed.ensures.trimmed }
