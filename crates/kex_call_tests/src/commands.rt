@@ -45,7 +45,6 @@ check p --states 4 # main := /a{3}/ # a # stages 1 places 8 states 4$ # 0
 check p --states 3 # main := /a{3}/ # a #  # 3 refused: K15 TooManyStates in stage 1
 run p --states 3 # main := /a{3}/ # a #  # 3 refused: K15 TooManyStates in stage 1
 run p # main := /a/ main /b/ | 1 # a #  # 3 refused: K10 NotTail at line 1 column 13
-run p # start: a >> b a := /a/ a b := (/b*/)* # a #  # 3 refused: K12 EmptyLoop in stage 2
 check p # start: b >> a a := /a/ a b := /b*/ # a #  # 3 refused: K13 NoText in stage 2
 run p #  # a #  # 3 refused: K09 NoStart
 run # main := /a*/ # a #  # 2 usage: kex run|check|code|act|test PROGRAM [--states N] [--max-input N] [--block N] [--rings N] | kex trial N [--block N] [--rings N]

@@ -9,7 +9,7 @@ use Rattle.kex_model.specs.declared.program.Start.{Start}
 use Rattle.kex_machine.specs.Nodes.{Graph}
 use Rattle.kex_lowering.specs.Stages.{HasPlaces, IsWhy}
 use Rattle.kex_lowering.specs.declared.refusal.StageRefusal.{StageRefusal}
-use Rattle.kex_lowering.specs.declared.refusal.StageRefusal.TheVariants.{TooManyPlaces, EmptyLoop, NoText, Memory}
+use Rattle.kex_lowering.specs.declared.refusal.StageRefusal.TheVariants.{TooManyPlaces, NoText, Memory}
 use Rattle.kex_compile.specs.declared.firsts.Firsts.{Firsts}
 use Rattle.kex_compile.specs.declared.limits.Limits.{Limits}
 use Rattle.kex_compile.specs.Stages.{AreFirsts, AreMachines, AreStages, CanRun, HaveInAll, IsFirst, IsFirstIn, IsStageRefused, IsStage, IsUnplanned, Machines, first_of, least, least_of, most_places, with_first, roots_of}
@@ -55,17 +55,10 @@ module _ (P : Grammar) where
   pub refused-more : (xs : List ℕ) (f : Firsts) (x n : ℕ) (e : StageRefusal) → n ≡ suc (length xs) → (e ≡ Memory → ⊥) → IsWhy P x most_places e → AreFirsts P xs f → AreFirsts P (xs ++ x ∷ []) (with_first e n f)
   refused-more xs f x n TooManyPlaces number some q h = record {
     too_many_places = first-now (IsStageRefused P TooManyPlaces) xs f.too_many_places x n number q h.too_many_places;
-    empty_loop = first-then (IsStageRefused P EmptyLoop) xs f.empty_loop x (λ k. k.0 q) h.empty_loop;
     no_text = first-then (IsStageRefused P NoText) xs f.no_text x (λ k. k.0 q) h.no_text;
-  }
-  refused-more xs f x n EmptyLoop number some q h = record {
-    too_many_places = first-then (IsStageRefused P TooManyPlaces) xs f.too_many_places x q.0 h.too_many_places;
-    empty_loop = first-now (IsStageRefused P EmptyLoop) xs f.empty_loop x n number q h.empty_loop;
-    no_text = first-then (IsStageRefused P NoText) xs f.no_text x (λ k. k.1 q.1) h.no_text;
   }
   refused-more xs f x n NoText number some q h = record {
     too_many_places = first-then (IsStageRefused P TooManyPlaces) xs f.too_many_places x q.0 h.too_many_places;
-    empty_loop = first-then (IsStageRefused P EmptyLoop) xs f.empty_loop x (λ k. q.1 k.1) h.empty_loop;
     no_text = first-now (IsStageRefused P NoText) xs f.no_text x n number q h.no_text;
   }
   refused-more xs f x n Memory number some q h = absurd (some refl)
@@ -74,8 +67,7 @@ module _ (P : Grammar) where
   pub planned-more : (xs : List ℕ) (f : Firsts) (x : ℕ) → CanRun P x → AreFirsts P xs f → AreFirsts P (xs ++ x ∷ []) f
   planned-more xs f x q h = record {
     too_many_places = first-then (IsStageRefused P TooManyPlaces) xs f.too_many_places x q.few h.too_many_places;
-    empty_loop = first-then (IsStageRefused P EmptyLoop) xs f.empty_loop x (λ k. q.no_loop k.1) h.empty_loop;
-    no_text = first-then (IsStageRefused P NoText) xs f.no_text x (λ k. k.2 q.some_text) h.no_text;
+    no_text = first-then (IsStageRefused P NoText) xs f.no_text x (λ k. k.1 q.some_text) h.no_text;
   }
 
   pub stages-more : (i : ℕ) (xs : List ℕ) (ms : List Graph) (x : ℕ) (m : Graph) → IsStage P x (i + length xs) m → AreStages P i xs ms → AreStages P i (xs ++ x ∷ []) (ms ++ m ∷ [])
@@ -104,25 +96,18 @@ pub record Gathered (P : Grammar) (xs : List Start) (f : Firsts) (c : Machines) 
   pub stages : least f ≡ None → AreStages P 1 (map (root P) xs) c.machines
   pub places : least f ≡ None → HaveInAll P (map (root P) xs) c.places
 
-too-many-noted : (a b c : Option ℕ) (n : ℕ) → least_of (first_of a n) b c ≡ None → ⊥
-too-many-noted None b c n e = cc
-too-many-noted (Some m) b c n e = cc
+too-many-noted : (a c : Option ℕ) (n : ℕ) → least_of (first_of a n) c ≡ None → ⊥
+too-many-noted None c n e = cc
+too-many-noted (Some m) c n e = cc
 
-loop-noted : (a b c : Option ℕ) (n : ℕ) → least_of a (first_of b n) c ≡ None → ⊥
-loop-noted None None c n e = cc
-loop-noted None (Some m) c n e = cc
-loop-noted (Some k) b c n e = cc
-
-text-noted : (a b c : Option ℕ) (n : ℕ) → least_of a b (first_of c n) ≡ None → ⊥
-text-noted None None None n e = cc
-text-noted None None (Some m) n e = cc
-text-noted None (Some m) c n e = cc
-text-noted (Some k) b c n e = cc
+text-noted : (a c : Option ℕ) (n : ℕ) → least_of a (first_of c n) ≡ None → ⊥
+text-noted None None n e = cc
+text-noted None (Some m) n e = cc
+text-noted (Some k) c n e = cc
 
 some-noted : (e : StageRefusal) (n : ℕ) (f : Firsts) → (e ≡ Memory → ⊥) → least (with_first e n f) ≡ None → ⊥
-some-noted TooManyPlaces n f some none = too-many-noted f.too_many_places f.empty_loop f.no_text n none
-some-noted EmptyLoop n f some none = loop-noted f.too_many_places f.empty_loop f.no_text n none
-some-noted NoText n f some none = text-noted f.too_many_places f.empty_loop f.no_text n none
+some-noted TooManyPlaces n f some none = too-many-noted f.too_many_places f.no_text n none
+some-noted NoText n f some none = text-noted f.too_many_places f.no_text n none
 some-noted Memory n f some none = absurd (some refl)
 
 module _ (P : Grammar) (all : List Start) (i : ℕ) (d : Start) (lt : i < length all) where
@@ -149,11 +134,10 @@ module _ (P : Grammar) (all : List Start) (i : ℕ) (d : Start) (lt : i < length
 some-same : (a b : PlanRefusal) → Some a ≡ Some b → a ≡ b
 some-same a b e = cc
 
-unplanned : (limits : Limits) (P : Grammar) (a b c : Option ℕ) (e : PlanRefusal) → IsFirstIn (IsStageRefused P TooManyPlaces) (roots_of P) a → IsFirstIn (IsStageRefused P EmptyLoop) (roots_of P) b → IsFirstIn (IsStageRefused P NoText) (roots_of P) c → least_of a b c ≡ Some e → IsUnplanned limits P e
-unplanned limits P (Some n) b c e h k l is = subst (λ z. IsUnplanned limits P z) (some-same (plan.TooManyPlaces n) e is) h
-unplanned limits P None (Some n) c e h k l is = subst (λ z. IsUnplanned limits P z) (some-same (plan.EmptyLoop n) e is) (h, k)
-unplanned limits P None None (Some n) e h k l is = subst (λ z. IsUnplanned limits P z) (some-same (plan.NoText n) e is) (h, k, l)
-unplanned limits P None None None e h k l is = cc
+unplanned : (limits : Limits) (P : Grammar) (a c : Option ℕ) (e : PlanRefusal) → IsFirstIn (IsStageRefused P TooManyPlaces) (roots_of P) a → IsFirstIn (IsStageRefused P NoText) (roots_of P) c → least_of a c ≡ Some e → IsUnplanned limits P e
+unplanned limits P (Some n) c e h l is = subst (λ z. IsUnplanned limits P z) (some-same (plan.TooManyPlaces n) e is) h
+unplanned limits P None (Some n) e h l is = subst (λ z. IsUnplanned limits P z) (some-same (plan.NoText n) e is) (h, l)
+unplanned limits P None None e h l is = cc
 
 -- with all stages gathered
 module _ (P : Grammar) (i : ℕ) (past : length P.stages ≤ i) (f : Firsts) (c : Machines) (g : Gathered P (take i P.stages) f c) where
@@ -163,7 +147,7 @@ module _ (P : Grammar) (i : ℕ) (past : length P.stages ≤ i) (f : Firsts) (c 
   pub all-refused : (limits : Limits) (e : PlanRefusal) → least f ≡ Some e → IsUnplanned limits P e
   all-refused limits e is =
       let firsts = subst (λ z. AreFirsts P z f) all_of g.firsts in
-      unplanned limits P f.too_many_places f.empty_loop f.no_text e firsts.too_many_places firsts.empty_loop firsts.no_text is
+      unplanned limits P f.too_many_places f.no_text e firsts.too_many_places firsts.no_text is
 
   pub all-planned : least f ≡ None → AreMachines P c
   all-planned none = record {

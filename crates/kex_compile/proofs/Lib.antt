@@ -5,6 +5,7 @@ pub mod BodyPairs
 pub mod Terms
 pub mod Alike
 pub mod SameRules
+pub mod Mates
 pub mod PlacePairs
 pub mod StagePairs
 pub mod OneCause

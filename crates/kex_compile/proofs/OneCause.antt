@@ -15,7 +15,7 @@ use Rattle.kex_compile.specs.Compiled.{Accepts, IsRefused, of_read, of_rule, of_
 use Rattle.kex_compile.specs.declared.refusal.PlanRefusal.{PlanRefusal}
 use Rattle.kex_compile.specs.declared.refusal.PlanRefusal.TheVariants as plan
 use Rattle.kex_compile.specs.declared.refusal.CompileRefusal.{CompileRefusal}
-use Rattle.kex_compile.specs.declared.refusal.CompileRefusal.TheVariants.{TextTooLong, BadToken, Unexpected, BadRegex, BadCount, BadSet, OverLimit, TwiceDefined, Unknown, NoStart, NotTail, TooManyPlaces, EmptyLoop, NoText, OneStage, TooManyStates, Memory}
+use Rattle.kex_compile.specs.declared.refusal.CompileRefusal.TheVariants.{TextTooLong, BadToken, Unexpected, BadRegex, BadCount, BadSet, OverLimit, TwiceDefined, Unknown, NoStart, NotTail, TooManyPlaces, NoText, OneStage, TooManyStates, Memory}
 use Rattle.kex_compile.proofs.Terms.{SameName}
 use Rattle.kex_compile.proofs.Alike.{Alike, SameStages}
 use Rattle.kex_compile.proofs.SameRules.{begins_on, none_on, not_tail_on, twice_on, unknown_on}
@@ -38,8 +38,7 @@ not_ruled P Q rule.Memory a b r n c = n refl
 
 not_planned : (limits : Limits) (P Q : Grammar) (e : PlanRefusal) → Alike Q P → Alike P Q → Known P → Known Q → AllRun P → KeepsToOneStage limits P → KeepsToStates limits P → (e ≡ plan.Memory → ⊥) → IsUnplanned limits Q e → ⊥
 not_planned limits P Q (plan.TooManyPlaces k) a b known known' run one few n u = let f = refused_on Q P a b known' known why.TooManyPlaces k u in (run f.0 f.1).few f.2
-not_planned limits P Q (plan.EmptyLoop k) a b known known' run one few n u = let f = refused_on Q P a b known' known why.EmptyLoop k u.1 in (run f.0 f.1).no_loop f.2.1
-not_planned limits P Q (plan.NoText k) a b known known' run one few n u = let f = refused_on Q P a b known' known why.NoText k u.2 in f.2.2 (run f.0 f.1).some_text
+not_planned limits P Q (plan.NoText k) a b known known' run one few n u = let f = refused_on Q P a b known' known why.NoText k u.1 in f.2.1 (run f.0 f.1).some_text
 not_planned limits P Q plan.OneStage a b known known' run one few n u =
     let le : length P.stages ≤ 1 = one u.1 in
     let more : 1 < length Q.stages = u.2 in
@@ -83,8 +82,7 @@ one_rule P Q a b (rule.NotTail i) (rule.NotTail j) n m h k = ap rule.NotTail (on
 -- a stage that can run isn't refused
 runs : (P : Grammar) (root : ℕ) (e : StageRefusal) → (e ≡ why.Memory → ⊥) → CanRun P root → IsStageRefused P e root → ⊥
 runs P root why.TooManyPlaces n r h = r.few h
-runs P root why.EmptyLoop n r h = r.no_loop h.1
-runs P root why.NoText n r h = h.2 r.some_text
+runs P root why.NoText n r h = h.1 r.some_text
 runs P root why.Memory n r h = n refl
 
 module _ (limits : Limits) (P Q : Grammar) (a : Alike P Q) (b : Alike Q P) (known : Known P) (known' : Known Q) where
@@ -102,33 +100,23 @@ module _ (limits : Limits) (P Q : Grammar) (a : Alike P Q) (b : Alike Q P) (know
   one_plan : (d e : PlanRefusal) → (d ≡ plan.Memory → ⊥) → (e ≡ plan.Memory → ⊥) → IsUnplanned limits P d → IsUnplanned limits Q e → d ≡ e
   one_plan plan.Memory e n m h k = absurd (n refl)
   one_plan (plan.TooManyPlaces i) plan.Memory n m h k = absurd (m refl)
-  one_plan (plan.EmptyLoop i) plan.Memory n m h k = absurd (m refl)
   one_plan (plan.NoText i) plan.Memory n m h k = absurd (m refl)
   one_plan plan.OneStage plan.Memory n m h k = absurd (m refl)
   one_plan (plan.TooManyStates i) plan.Memory n m h k = absurd (m refl)
   one_plan (plan.TooManyPlaces i) (plan.TooManyPlaces j) n m h k = ap plan.TooManyPlaces (one_stage P Q a b known known' why.TooManyPlaces i j h k)
-  one_plan (plan.TooManyPlaces i) (plan.EmptyLoop j) n m h k = let f = refused_on P Q a b known known' why.TooManyPlaces i h in absurd (k.0 f.0 f.1 f.2)
   one_plan (plan.TooManyPlaces i) (plan.NoText j) n m h k = let f = refused_on P Q a b known known' why.TooManyPlaces i h in absurd (k.0 f.0 f.1 f.2)
   one_plan (plan.TooManyPlaces i) plan.OneStage n m h k = absurd (refused_here why.TooManyPlaces i (λ q. cc) h k.0)
   one_plan (plan.TooManyPlaces i) (plan.TooManyStates j) n m h k = absurd (refused_here why.TooManyPlaces i (λ q. cc) h k.0)
-  one_plan (plan.EmptyLoop i) (plan.TooManyPlaces j) n m h k = let f = refused_on Q P b a known' known why.TooManyPlaces j k in absurd (h.0 f.0 f.1 f.2)
-  one_plan (plan.EmptyLoop i) (plan.EmptyLoop j) n m h k = ap plan.EmptyLoop (one_stage P Q a b known known' why.EmptyLoop i j h.1 k.1)
-  one_plan (plan.EmptyLoop i) (plan.NoText j) n m h k = let f = refused_on P Q a b known known' why.EmptyLoop i h.1 in absurd (k.1 f.0 f.1 f.2)
-  one_plan (plan.EmptyLoop i) plan.OneStage n m h k = absurd (refused_here why.EmptyLoop i (λ q. cc) h.1 k.0)
-  one_plan (plan.EmptyLoop i) (plan.TooManyStates j) n m h k = absurd (refused_here why.EmptyLoop i (λ q. cc) h.1 k.0)
   one_plan (plan.NoText i) (plan.TooManyPlaces j) n m h k = let f = refused_on Q P b a known' known why.TooManyPlaces j k in absurd (h.0 f.0 f.1 f.2)
-  one_plan (plan.NoText i) (plan.EmptyLoop j) n m h k = let f = refused_on Q P b a known' known why.EmptyLoop j k.1 in absurd (h.1 f.0 f.1 f.2)
-  one_plan (plan.NoText i) (plan.NoText j) n m h k = ap plan.NoText (one_stage P Q a b known known' why.NoText i j h.2 k.2)
-  one_plan (plan.NoText i) plan.OneStage n m h k = absurd (refused_here why.NoText i (λ q. cc) h.2 k.0)
-  one_plan (plan.NoText i) (plan.TooManyStates j) n m h k = absurd (refused_here why.NoText i (λ q. cc) h.2 k.0)
+  one_plan (plan.NoText i) (plan.NoText j) n m h k = ap plan.NoText (one_stage P Q a b known known' why.NoText i j h.1 k.1)
+  one_plan (plan.NoText i) plan.OneStage n m h k = absurd (refused_here why.NoText i (λ q. cc) h.1 k.0)
+  one_plan (plan.NoText i) (plan.TooManyStates j) n m h k = absurd (refused_here why.NoText i (λ q. cc) h.1 k.0)
   one_plan plan.OneStage (plan.TooManyPlaces j) n m h k = absurd (refused_there why.TooManyPlaces j (λ q. cc) k h.0)
-  one_plan plan.OneStage (plan.EmptyLoop j) n m h k = absurd (refused_there why.EmptyLoop j (λ q. cc) k.1 h.0)
-  one_plan plan.OneStage (plan.NoText j) n m h k = absurd (refused_there why.NoText j (λ q. cc) k.2 h.0)
+  one_plan plan.OneStage (plan.NoText j) n m h k = absurd (refused_there why.NoText j (λ q. cc) k.1 h.0)
   one_plan plan.OneStage plan.OneStage n m h k = refl
   one_plan plan.OneStage (plan.TooManyStates j) n m h k = absurd (one_too_many (SameName P.names Q.names) P.stages Q.stages a.stages h.1 h.2 k.1)
   one_plan (plan.TooManyStates i) (plan.TooManyPlaces j) n m h k = absurd (refused_there why.TooManyPlaces j (λ q. cc) k h.0)
-  one_plan (plan.TooManyStates i) (plan.EmptyLoop j) n m h k = absurd (refused_there why.EmptyLoop j (λ q. cc) k.1 h.0)
-  one_plan (plan.TooManyStates i) (plan.NoText j) n m h k = absurd (refused_there why.NoText j (λ q. cc) k.2 h.0)
+  one_plan (plan.TooManyStates i) (plan.NoText j) n m h k = absurd (refused_there why.NoText j (λ q. cc) k.1 h.0)
   one_plan (plan.TooManyStates i) plan.OneStage n m h k = absurd (one_too_many (SameName Q.names P.names) Q.stages P.stages b.stages k.1 k.2 h.1)
   one_plan (plan.TooManyStates i) (plan.TooManyStates j) n m h k = ap plan.TooManyStates (one_states P Q limits a b known known' h.0 k.0 i j h.3 k.3)
 
@@ -153,7 +141,6 @@ cause limits text (Unknown at) n h = unruled h.0 (rule.Unknown at) (λ q. cc) h.
 cause limits text NoStart n h = unruled h.0 rule.NoStart (λ q. cc) h.1 h.2
 cause limits text (NotTail at) n h = unruled h.0 (rule.NotTail at) (λ q. cc) h.1 h.2
 cause limits text (TooManyPlaces k) n h = unplanned h.0 (plan.TooManyPlaces k) (λ q. cc) h.1 h.2 h.3
-cause limits text (EmptyLoop k) n h = unplanned h.0 (plan.EmptyLoop k) (λ q. cc) h.1 h.2 h.3
 cause limits text (NoText k) n h = unplanned h.0 (plan.NoText k) (λ q. cc) h.1 h.2 h.3
 cause limits text OneStage n h = unplanned h.0 plan.OneStage (λ q. cc) h.1 h.2 h.3
 cause limits text (TooManyStates k) n h = unplanned h.0 (plan.TooManyStates k) (λ q. cc) h.1 h.2 h.3

@@ -10,7 +10,7 @@ use Rattle.kex_model.specs.declared.frame.Frame.{Frame}
 use Rattle.kex_model.specs.declared.frame.Frame.TheVariants.{Pending, EndOf}
 use Rattle.kex_model.specs.Trees.{kind_at, root_of}
 use Rattle.kex_model.specs.Moves.{Move, Effect, accept, read, choose, go, Step, took, chose, went, to_left, to_right, Allows, reads, goes_left, goes_right, goes, target_of, symbols_of, code_of, IsWaiting, Walk}
-use Rattle.kex_model.specs.Places.{Place, fresh, enter, with_counts, moves_of, moves, start_of, IsPlace, at_start, by_step, by_rest, HasEmptyLoop}
+use Rattle.kex_model.specs.Places.{Place, fresh, enter, with_counts, moves_of, moves, start_of, IsPlace, at_start, by_step, by_rest}
 use Rattle.kex_model.specs.Survivors.{LeadsToEnd}
 use Rattle.kex_desugar.specs.Machines.{HasMore}
 use Rattle.kex_rules.specs.Rules.{IsDefined, IsUse, IsWithin, elsewhere, as_last, as_other, last_parts, other_parts}
@@ -18,6 +18,7 @@ use Rattle.kex_rules.proofs.Tails.{kind_is}
 use Rattle.kex_compile.proofs.NodePairs.{Joins, SameKind, one, lit, class, call, seq, alt, rep, mute, at_register, write_register, set_register, add_register, one_first, one_second}
 use Rattle.kex_compile.proofs.Terms.{SameName}
 use Rattle.kex_compile.proofs.Alike.{Alike}
+use Rattle.kex_compile.proofs.Mates.{Mates}
 use Rattle.kex_compile.proofs.SameRules.{G, kinds_on, roots_on, root_within}
 
 -- ---- places by their nodes
@@ -169,19 +170,19 @@ module _ (P Q : Grammar) (a : Alike P Q) (known : (name at : ℕ) → IsUse P na
   moves_on (pending {n = n} {m = m} {need = need} {left = left} h s) = kind_moves n m need left h (partners_on n m h) s
   moves_on (ends h s) = goes_on s
 
-  pub walk_on : (ks : List (Step Place)) (p t q : Place) → Walk (moves P) p ks t → SamePlace Partners p q → (js : List (Step Place)) × (u : Place) × Walk (moves Q) q js u × SamePlace Partners t u × (code_of ks ≡ code_of js)
-  walk_on [] p t q w s = ([], q, refl, subst (λ z. SamePlace Partners z q) w s, refl)
+  pub walk_on : (ks : List (Step Place)) (p t q : Place) → Walk (moves P) p ks t → SamePlace Partners p q → (js : List (Step Place)) × (u : Place) × Walk (moves Q) q js u × SamePlace Partners t u × (code_of ks ≡ code_of js) × Mates (SamePlace Partners) ks js
+  walk_on [] p t q w s = ([], q, refl, subst (λ z. SamePlace Partners z q) w s, refl, tt)
   walk_on (k ∷ ks) p t q (al, w) s =
       let x = step_on Partners (moves_on s) al in
       let y = walk_on ks (target_of k) t (target_of x.0) w x.3 in
-      (x.0 ∷ y.0, y.1, (x.1, y.2), y.3, ap (λ z. z ++ code_of ks) x.2 ∙ ap (λ z. symbols_of x.0 ++ z) y.4)
+      (x.0 ∷ y.0, y.1, (x.1, y.2), y.3, ap (λ z. z ++ code_of ks) x.2 ∙ ap (λ z. symbols_of x.0 ++ z) y.4, (x.2, x.3, y.5))
 
-  pub walk_back : (js : List (Step Place)) (p q u : Place) → Walk (moves Q) q js u → SamePlace Partners p q → (ks : List (Step Place)) × (t : Place) × Walk (moves P) p ks t × SamePlace Partners t u × (code_of ks ≡ code_of js)
-  walk_back [] p q u w s = ([], p, refl, subst (λ z. SamePlace Partners p z) w s, refl)
+  pub walk_back : (js : List (Step Place)) (p q u : Place) → Walk (moves Q) q js u → SamePlace Partners p q → (ks : List (Step Place)) × (t : Place) × Walk (moves P) p ks t × SamePlace Partners t u × (code_of ks ≡ code_of js) × Mates (SamePlace Partners) ks js
+  walk_back [] p q u w s = ([], p, refl, subst (λ z. SamePlace Partners p z) w s, refl, tt)
   walk_back (j ∷ js) p q u (al, w) s =
       let x = step_back Partners (moves_on s) al in
       let y = walk_back js (target_of x.0) (target_of j) u w x.3 in
-      (x.0 ∷ y.0, y.1, (x.1, y.2), y.3, ap (λ z. z ++ code_of y.0) x.2 ∙ ap (λ z. symbols_of j ++ z) y.4)
+      (x.0 ∷ y.0, y.1, (x.1, y.2), y.3, ap (λ z. z ++ code_of y.0) x.2 ∙ ap (λ z. symbols_of j ++ z) y.4, (x.2, x.3, y.5))
 
   module _ (root root' : ℕ) (same : Partners root root') where
     pub place_on : {p : Place} → IsPlace P root p → (q : Place) × SamePlace Partners p q × IsPlace Q root' q
@@ -200,15 +201,6 @@ module _ (P Q : Grammar) (a : Alike P Q) (known : (name at : ℕ) → IsUse P na
 
     pub one_partner_back : (n n' m : ℕ) → Partners n m → Partners n' m → n ≡ n'
     one_partner_back n n' m h k = one_first P.nodes Q.nodes (SameName P.names Q.names) (G P Q a) a.low a.high a.pairs a.match a.rising n n' m h.0 k.0
-
-    pub loop_on : HasEmptyLoop P root → HasEmptyLoop Q root'
-    loop_on (p, k, ks, is, (al, w), none) =
-        let x = place_on is in
-        let y = step_on Partners (moves_on x.1) al in
-        let z = walk_on ks (target_of k) p (target_of y.0) w y.3 in
-        let back : z.1 ≡ x.0 = place_forth Partners one_partner z.3 x.1 in
-        let codes = ap (λ c. c ++ code_of ks) y.2 ∙ ap (λ c. symbols_of y.0 ++ c) z.4 in
-        (x.0, y.0, z.0, x.2, (y.1, subst (λ u. Walk (moves Q) (target_of y.0) z.0 u) back z.2), ap bytes_of (sym codes) ∙ none)
 
     pub end_ahead : LeadsToEnd (moves P) (start_of P root) → LeadsToEnd (moves Q) (start_of Q root')
     end_ahead (ks, e, w, done) =

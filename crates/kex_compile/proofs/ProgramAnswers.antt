@@ -3,10 +3,14 @@ use Rattle.std.proofs.Common.{◌≡◌, ◌↔◌, ◌≤◌, ℕ, suc, Bool, L
 use Rattle.kex_code.specs.Codes.{Before, IsAmong, HasNumber}
 use Rattle.kex_model.specs.Programs.{Grammar}
 use Rattle.kex_model.specs.Trees.{Tree, Parses, kind_at}
-use Rattle.kex_model.specs.Places.{HasEmptyLoop}
-use Rattle.kex_model.specs.Answers.{code_at, HasParse, Means, Says, Viable, Answer, Report, Pipeline}
+use Rattle.kex_model.specs.Moves.{code_of}
+use Rattle.kex_model.specs.Places.{Place, moves, start_of, steps_of}
+use Rattle.kex_model.specs.Survivors.{IsPath}
+use Rattle.kex_model.specs.Answers.{code_at, IsParse, HasParse, Means, Says, Viable, Answer, Report, Pipeline}
 use Rattle.kex_model.specs.Laws.{StageAnswers, StagesAnswer}
 use Rattle.kex_model.proofs.DistinctItems.{among_get}
+use Rattle.kex_model.proofs.Derivations.{steps-code}
+use Rattle.kex_model.proofs.Correspondence.{one_to_one, to_parse}
 use Rattle.kex_rules.specs.Rules.{IsRuled}
 use Rattle.kex_reader.specs.Spelling.{Spells}
 use Rattle.kex_lowering.proofs.SameAnswers.{Serves, answers_so}
@@ -16,10 +20,10 @@ use Rattle.kex_compile.specs.Compiled.{Accepts, AnswersAlike, MeansAlike}
 use Rattle.kex_compile.proofs.Terms.{SameName}
 use Rattle.kex_compile.proofs.Alike.{Alike, name_back}
 use Rattle.kex_compile.proofs.SameRules.{defined_on, not_tail_on, once_back, stage_on as start_on, use_on}
-use Rattle.kex_compile.proofs.PlacePairs.{Partners, partners_on, end_ahead, loop_on, more_on}
+use Rattle.kex_compile.proofs.PlacePairs.{SamePlace, empty, Partners, partners_on, end_ahead, more_on}
 use Rattle.kex_compile.proofs.StagePairs.{Known, Pairwise, pair_on, pair_at, Both, roots, same_count}
 use Rattle.kex_compile.proofs.PlaceCounts.{as_many_in_all}
-use Rattle.kex_compile.proofs.SurvivorPairs.{agreed_on, viable_back, viable_on}
+use Rattle.kex_compile.proofs.SurvivorPairs.{agreed_on, reach_on, viable_back, viable_on}
 use Rattle.kex_compile.proofs.States.{all_states, states_there}
 use Rattle.kex_compile.proofs.SameMeanings.{Same, same_empty, tree_on, code_on, part_on, meaning_on}
 
@@ -35,13 +39,27 @@ module _ (P Q : Grammar) (a : Alike P Q) (known : Known P) (root root' : ℕ) (s
   codes_on : (t : Tree) (w : List ℕ) → Parses P root t w → code_at P root t ≡ code_at Q root' t
   codes_on t w h = code_on P Q a known same_kind h.tree
 
+  empty_on : {S : ℕ → ℕ → Type 0} {q : Place} → SamePlace S [] q → q ≡ []
+  empty_on empty = refl
+
+  -- a parse in one is a parse in the other: its steps are paired with those of the only tree of its code
+  parse_on : (t : Tree) (w : List ℕ) → IsParse P root t w → IsParse Q root' t w
+  parse_on t w h =
+      let steps = steps_of P root (kind_at P root) t [] in
+      let r = reach_on P Q a known root root' same w [] (code_of steps) (steps, h.path, refl) in
+      let path : IsPath (moves Q) (start_of Q root') w [] r.2.0 = subst (λ z. IsPath (moves Q) (start_of Q root') w z r.2.0) (empty_on r.1) r.2.1 in
+      let s = to_parse Q root' w r.2.0 path in
+      let codes : code_at Q root' s.0 ≡ code_at Q root' t = s.2 ∙ r.2.2 ∙ steps-code P root [] h.derives.tree ∙ codes_on t w h.derives in
+      let one : s.0 ≡ t = (one_to_one Q root' w).one_tree s.0 t s.1.derives (parses_on t w h.derives) codes in
+      subst (λ z. IsParse Q root' z w) one s.1
+
 -- ---- answers
 
-module _ (P Q : Grammar) (a : Alike P Q) (known : Known P) (root root' : ℕ) (same : Partners P Q a known root root') (none : HasEmptyLoop P root → ⊥) (none' : HasEmptyLoop Q root' → ⊥) where
+module _ (P Q : Grammar) (a : Alike P Q) (known : Known P) (root root' : ℕ) (same : Partners P Q a known root root') where
   says_on : (w text : List ℕ) → Says P root w text → Says Q root' w text
   says_on w text h = record {
     agreed = h.agreed;
-    is_agreed = agreed_on P Q a known root root' same none none' w h.agreed h.is_agreed;
+    is_agreed = agreed_on P Q a known root root' same w h.agreed h.is_agreed;
     tree = h.tree;
     more = h.more;
     parses = parses_on P Q a known root root' same h.tree _ h.parses;
@@ -49,35 +67,33 @@ module _ (P Q : Grammar) (a : Alike P Q) (known : Known P) (root root' : ℕ) (s
     said = h.said ∙ (part_on P Q a known (same_kind P Q a known root root' same) h.parses.tree h.agreed _ _ (same_empty P Q a)).bytes;
   }
 
-  module _ (parses_back : (t : Tree) (w : List ℕ) → Parses Q root' t w → Parses P root t w) where
+  module _ (parses_back : (t : Tree) (w : List ℕ) → IsParse Q root' t w → IsParse P root t w) where
     means_on : (w text : List ℕ) → Means P root w text → Means Q root' w text
     means_on w text (t, g, e) = (
       t,
       record {
-        parses = parses_on P Q a known root root' same t w g.parses;
+        parses = parse_on P Q a known root root' same t w g.parses;
         least = λ s h.
             let k = parses_back s w h in
-            subst (λ z. (z ≡ code_at Q root' s) ⊎ Before z (code_at Q root' s)) (codes_on P Q a known root root' same t w g.parses) (subst (λ z. (code_at P root t ≡ z) ⊎ Before (code_at P root t) z) (codes_on P Q a known root root' same s w k) (g.least s k));
+            subst (λ z. (z ≡ code_at Q root' s) ⊎ Before z (code_at Q root' s)) (codes_on P Q a known root root' same t w g.parses.derives) (subst (λ z. (code_at P root t ≡ z) ⊎ Before (code_at P root t) z) (codes_on P Q a known root root' same s w k.derives) (g.least s k));
       },
-      e ∙ meaning_on P Q a known (same_kind P Q a known root root' same) g.parses.tree,
+      e ∙ meaning_on P Q a known (same_kind P Q a known root root' same) g.parses.derives.tree,
     )
 
     serves : Serves (Viable P root) (Viable Q root') (Says P root) (Says Q root') (HasParse P root) (HasParse Q root') (Means P root) (Means Q root')
-    serves = record { good = viable_on P Q a known root root' same none none'; good_back = viable_back P Q a known root root' same none none'; says = says_on; parsed_back = λ w h. (h.0, parses_back h.0 w h.1); means = means_on }
+    serves = record { good = viable_on P Q a known root root' same; good_back = viable_back P Q a known root root' same; says = says_on; parsed_back = λ w h. (h.0, parses_back h.0 w h.1); means = means_on }
 
     stage_on : (limit : ℕ) (w : List ℕ) (e : Bool) (x : Answer) → StageAnswers P root limit w e x → StageAnswers Q root' limit w e x
     stage_on limit w e x h = answers_so (Viable P root) (Viable Q root') (Says P root) (Says Q root') (HasParse P root) (HasParse Q root') (Means P root) (Means Q root') serves limit h
 
 -- ---- programs
 
--- two alike programs in which each name that is used is defined, and no stage has a loop that reads nothing
+-- two alike programs in which each name that is used is defined
 record BothRun (P Q : Grammar) : Type 0 where
   to : Alike P Q
   fro : Alike Q P
   known : Known P
   known' : Known Q
-  no_loop : (r : ℕ) → IsAmong (roots_of P) r → HasEmptyLoop P r → ⊥
-  no_loop' : (r : ℕ) → IsAmong (roots_of Q) r → HasEmptyLoop Q r → ⊥
 
 module _ (P Q : Grammar) (h : BothRun P Q) where
   -- the roots of a stage
@@ -88,10 +104,10 @@ module _ (P Q : Grammar) (h : BothRun P Q) where
   all_roots = roots P Q h.to h.fro h.known h.known'
 
   one_means : (r q : ℕ) → Roots r q → IsAmong (roots_of P) r → IsAmong (roots_of Q) q → (w text : List ℕ) → Means P r w text → Means Q q w text
-  one_means r q p i j w text m = means_on P Q h.to h.known r q p.0 (h.no_loop r i) (h.no_loop' q j) (λ t v k. parses_on Q P h.fro h.known' q r p.1 t v k) w text m
+  one_means r q p i j w text m = means_on P Q h.to h.known r q p.0 (λ t v k. parse_on Q P h.fro h.known' q r p.1 t v k) w text m
 
   one_answers : (r q : ℕ) → Roots r q → IsAmong (roots_of P) r → IsAmong (roots_of Q) q → (limit : ℕ) (w : List ℕ) (e : Bool) (x : Answer) → StageAnswers P r limit w e x → StageAnswers Q q limit w e x
-  one_answers r q p i j limit w e x m = stage_on P Q h.to h.known r q p.0 (h.no_loop r i) (h.no_loop' q j) (λ t v k. parses_on Q P h.fro h.known' q r p.1 t v k) limit w e x m
+  one_answers r q p i j limit w e x m = stage_on P Q h.to h.known r q p.0 (λ t v k. parse_on Q P h.fro h.known' q r p.1 t v k) limit w e x m
 
   stages_mean : (i r q : ℕ) (w text : List ℕ) → HasNumber (roots_of P) r i → HasNumber (roots_of Q) q i → Means P r w text → Means Q q w text
   stages_mean i r q w text k l m = one_means r q (pair_at Roots (roots_of P) (roots_of Q) all_roots i r q k l) (among_get (roots_of P) i r k) (among_get (roots_of Q) i q l) w text m
@@ -131,7 +147,6 @@ ruled_on P Q a b r = record {
 can_run_on : (P Q : Grammar) (a : Alike P Q) (b : Alike Q P) (known : Known P) (known' : Known Q) (r q : ℕ) → Both P Q a b known known' r q → CanRun P r → CanRun Q q
 can_run_on P Q a b known known' r q p h = record {
   few = λ m. h.few (more_on Q P b known' q r p.1 most_places m);
-  no_loop = λ l. h.no_loop (loop_on Q P b known' q r p.1 l);
   some_text = end_ahead P Q a known r q p.0 h.some_text;
 }
 
@@ -164,8 +179,6 @@ module _ (limits : Limits) (text : List ℕ) (alike : (P Q : Grammar) → Spells
     fro = alike Q P k.spells h.spells;
     known = h.ruled.known;
     known' = k.ruled.known;
-    no_loop = λ r i. (h.stages r i).no_loop;
-    no_loop' = λ q i. (k.stages q i).no_loop;
   }
 
   as_many : (P Q : Grammar) (total : ℕ) → BothRun P Q → HaveInAll P (roots_of P) total → HaveInAll Q (roots_of Q) total

@@ -7,11 +7,11 @@ use Rattle.kex_model.specs.Trees.{root_of}
 use Rattle.kex_model.proofs.Tables.{some_same}
 use Rattle.kex_rules.specs.Rules.{IsDefined, IsUse}
 use Rattle.kex_lowering.specs.declared.refusal.StageRefusal.{StageRefusal}
-use Rattle.kex_lowering.specs.declared.refusal.StageRefusal.TheVariants.{TooManyPlaces, EmptyLoop, NoText, Memory}
+use Rattle.kex_lowering.specs.declared.refusal.StageRefusal.TheVariants.{TooManyPlaces, NoText, Memory}
 use Rattle.kex_compile.specs.Stages.{IsFirst, IsStageRefused, NoneIs, most_places, roots_of}
 use Rattle.kex_compile.proofs.Terms.{SameName}
 use Rattle.kex_compile.proofs.Alike.{Alike, SameStages, name_back}
-use Rattle.kex_compile.proofs.PlacePairs.{Partners, end_ahead, loop_on, more_on, root_on}
+use Rattle.kex_compile.proofs.PlacePairs.{Partners, end_ahead, more_on, root_on}
 
 -- ---- lists in pairs
 
@@ -105,8 +105,7 @@ module _ (P Q : Grammar) (a : Alike P Q) (b : Alike Q P) (known : Known P) (know
 
   why_on : (e : StageRefusal) (r r' : ℕ) → Both r r' → IsStageRefused P e r → IsStageRefused Q e r'
   why_on TooManyPlaces r r' x h = more_on P Q a known r r' x.0 most_places h
-  why_on EmptyLoop r r' x h = ((λ m. h.0 (more_on Q P b known' r' r x.1 most_places m)), loop_on P Q a known r r' x.0 h.1)
-  why_on NoText r r' x h = ((λ m. h.0 (more_on Q P b known' r' r x.1 most_places m)), (λ l. h.1 (loop_on Q P b known' r' r x.1 l)), (λ l. h.2 (end_ahead Q P b known' r' r x.1 l)))
+  why_on NoText r r' x h = ((λ m. h.0 (more_on Q P b known' r' r x.1 most_places m)), (λ l. h.1 (end_ahead Q P b known' r' r x.1 l)))
   why_on Memory r r' x h = tt
 
   -- a stage that is refused has a partner that is

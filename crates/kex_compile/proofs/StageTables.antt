@@ -12,7 +12,7 @@ use Rattle.kex_lowering.proofs.States.{same_states}
 use Rattle.kex_compile.specs.declared.limits.Limits.{Limits}
 use Rattle.kex_compile.specs.Stages.{AllRun, AreStages, AreTabled, HasMoreNodes, HasTooManyStates, HaveNodeStates, HaveStatesInAll, IsFirst, HasTable, IsStage, IsUnplanned, IsUntabled, IsUntabledAs, KeepsToOneStage, NodeStates, roots_of}
 use Rattle.kex_compile.specs.declared.refusal.PlanRefusal.{PlanRefusal}
-use Rattle.kex_compile.specs.declared.refusal.PlanRefusal.TheVariants.{TooManyPlaces, EmptyLoop, NoText, OneStage, TooManyStates, Memory}
+use Rattle.kex_compile.specs.declared.refusal.PlanRefusal.TheVariants.{TooManyPlaces, NoText, OneStage, TooManyStates, Memory}
 
 different_of : {A : Type 0} (xs : List A) → AllDifferent xs → Different xs
 different_of [] d = tt
@@ -51,7 +51,6 @@ module _ (limits : Limits) where
   )
   untabled total stage ms front m rest Memory split number none h = tt
   untabled total stage ms front m rest (TooManyPlaces n) split number none h = absurd h
-  untabled total stage ms front m rest (EmptyLoop n) split number none h = absurd h
   untabled total stage ms front m rest (NoText n) split number none h = absurd h
   untabled total stage ms front m rest OneStage split number none h = absurd h
 
@@ -131,6 +130,5 @@ module _ (limits : Limits) (P : Grammar) where
   unplanned_by ms (TooManyStates n) run one s (on, first) = (run, one, on, first_of_stages n 1 (roots_of P) ms s first)
   unplanned_by ms Memory run one s h = tt
   unplanned_by ms (TooManyPlaces n) run one s h = absurd h
-  unplanned_by ms (EmptyLoop n) run one s h = absurd h
   unplanned_by ms (NoText n) run one s h = absurd h
   unplanned_by ms OneStage run one s h = absurd h

@@ -3,7 +3,7 @@ use Rattle.std.proofs.Common.{◌≡◌, ℕ, List, [], ◌∷◌}
 use Rattle.kex_code.specs.Codes.{IsAmong}
 use Rattle.kex_model.specs.Programs.{Grammar}
 use Rattle.kex_model.specs.Labelled.{Shape}
-use Rattle.kex_model.specs.Places.{Place, moves, start_of, HasEmptyLoop}
+use Rattle.kex_model.specs.Places.{Place, moves, start_of}
 use Rattle.kex_model.specs.Survivors.{HasShape}
 use Rattle.kex_model.specs.States.{HasMoreStates, HasStates}
 use Rattle.kex_lowering.specs.Shapes.{SameShape}
@@ -16,7 +16,7 @@ use Rattle.kex_compile.proofs.PlacePairs.{SamePlace, Partners, one_partner, one_
 use Rattle.kex_compile.proofs.StagePairs.{Known, Pairwise, Both, first_among, first_of, pair_on, pairs_within, roots, same_first}
 use Rattle.kex_compile.proofs.SurvivorPairs.{alive_on, alive_there, reach_on, survives_back, survives_on}
 
-module _ (P Q : Grammar) (a : Alike P Q) (known : Known P) (root root' : ℕ) (same : Partners P Q a known root root') (none : HasEmptyLoop P root → ⊥) (none' : HasEmptyLoop Q root' → ⊥) where
+module _ (P Q : Grammar) (a : Alike P Q) (known : Known P) (root root' : ℕ) (same : Partners P Q a known root root') where
   abbrev Here : Place → Place → Type 0
   Here = SamePlace (Partners P Q a known)
 
@@ -28,15 +28,15 @@ module _ (P Q : Grammar) (a : Alike P Q) (known : Known P) (root root' : ℕ) (s
 
   shape_ahead : (w : List ℕ) (s : Shape Place) → HasShape (moves P) (start_of P root) w s → (u : Shape Place) × SameShape Here s u × HasShape (moves Q) (start_of Q root') w u
   shape_ahead w s h = shape_on (moves P) (moves Q) (start_of P root) (start_of Q root') w Here
-      (λ p c k. survives_on P Q a known root root' same none none' w p c k)
-      (λ q k. alive_there P Q a known root root' same none none' w q k)
+      (λ p c k. survives_on P Q a known root root' same w p c k)
+      (λ q k. alive_there P Q a known root root' same w q k)
       one s h
 
   shape_behind : (w : List ℕ) (u : Shape Place) → HasShape (moves Q) (start_of Q root') w u → (s : Shape Place) × SameShape Here s u × HasShape (moves P) (start_of P root) w s
   shape_behind w u h =
       let x = shape_on (moves Q) (moves P) (start_of Q root') (start_of P root) w (λ q p. Here p q)
-      (λ q c k. survives_back P Q a known root root' same none none' w q c k)
-      (λ p k. let x = reach_on P Q a known root root' same none none' w p k.0 k.1 in (x.0, x.1, (k.0, x.2, alive_on P Q a known root root' same none none' p x.0 x.1 k.2)))
+      (λ q c k. survives_back P Q a known root root' same w q c k)
+      (λ p k. let x = reach_on P Q a known root root' same w p k.0 k.1 in (x.0, x.1, (k.0, x.2, alive_on P Q a known root root' same p x.0 x.1 k.2)))
       (λ q p p' i j. one_back p p' q i j)
       u h in
       (x.0, turned_shape Here x.0 u x.1, x.2)
@@ -56,7 +56,7 @@ module _ (P Q : Grammar) (limits : Limits) (a : Alike P Q) (b : Alike Q P) (know
   Staged r q = Roots r q × IsAmong (roots_of P) r × IsAmong (roots_of Q) q
 
   states_on_stage : (r q : ℕ) → Roots r q → IsAmong (roots_of P) r → IsAmong (roots_of Q) q → HasTooManyStates limits P r → HasTooManyStates limits Q q
-  states_on_stage r q x i j h = more_states P Q a known r q x.0 (run r i).no_loop (run' q j).no_loop limits.states h
+  states_on_stage r q x i j h = more_states P Q a known r q x.0 limits.states h
 
   -- a stage with too many states has a partner with too many
   pub states_first_on : (n : ℕ) → IsFirst (HasTooManyStates limits P) (roots_of P) n → (q : ℕ) × IsAmong (roots_of Q) q × HasTooManyStates limits Q q
@@ -68,10 +68,10 @@ module _ (P Q : Grammar) (limits : Limits) (a : Alike P Q) (b : Alike Q P) (know
   pub states_there : (q : ℕ) → IsAmong (roots_of Q) q → HasTooManyStates limits Q q → (r : ℕ) × IsAmong (roots_of P) r × HasTooManyStates limits P r
   states_there q i h =
       let x = pair_on (Both Q P b a known' known) (roots_of Q) (roots_of P) (roots Q P b a known' known) q i in
-      (x.0, x.1, more_states Q P b known' q x.0 x.2.0 (run' q i).no_loop (run x.0 x.1).no_loop limits.states h)
+      (x.0, x.1, more_states Q P b known' q x.0 x.2.0 limits.states h)
 
   back_on_stage : (r q : ℕ) → Staged r q → HasTooManyStates limits Q q → HasTooManyStates limits P r
-  back_on_stage r q x h = more_states Q P b known' q r x.0.1 (run' q x.2).no_loop (run r x.1).no_loop limits.states h
+  back_on_stage r q x h = more_states Q P b known' q r x.0.1 limits.states h
 
   all_staged : Pairwise Staged (roots_of P) (roots_of Q)
   all_staged = pairs_within Roots (roots_of P) (roots_of Q) (roots_of P) (roots_of Q) (λ r i. i) (λ q i. i) (roots P Q a b known known')
@@ -89,7 +89,7 @@ module _ (P Q : Grammar) (limits : Limits) (a : Alike P Q) (b : Alike Q P) (know
   states_in_all [] (q ∷ qs) total p h = absurd p
   states_in_all (r ∷ rs) [] total p h = absurd p
   states_in_all (r ∷ rs) (q ∷ qs) total p (own, rest, x, y, e) =
-      (own, rest, as_many_states P Q a known r q p.0.0.0 (run r p.0.1).no_loop (run' q p.0.2).no_loop own x, states_in_all rs qs rest p.1 y, e)
+      (own, rest, as_many_states P Q a known r q p.0.0.0 own x, states_in_all rs qs rest p.1 y, e)
 
   pub all_states : (total : ℕ) → HaveStatesInAll P (roots_of P) total → HaveStatesInAll Q (roots_of Q) total
   all_states total h = states_in_all (roots_of P) (roots_of Q) total all_staged h

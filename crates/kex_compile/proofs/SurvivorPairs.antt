@@ -1,22 +1,17 @@
 -- The survivors of a stage in two alike programs: they correspond one to one, with the same codes.
-use Rattle.std.proofs.Common.{ℕ, List, [], ◌∷◌, ⊎_elim, refl, sym, ap, ◌∙◌, subst}
+use Rattle.std.proofs.Common.{◌≡◌, ℕ, List, [], ◌∷◌, refl, sym, ap, ◌∙◌, subst}
 use Rattle.kex_code.specs.declared.symbol.Symbol.{Symbol}
 use Rattle.kex_code.specs.Codes.{bytes_of}
 use Rattle.kex_model.specs.Programs.{Grammar}
-use Rattle.kex_model.specs.Moves.{Step, Walk}
-use Rattle.kex_model.specs.Places.{Place, moves, start_of, at_start, HasEmptyLoop}
-use Rattle.kex_model.specs.Survivors.{NoReturn, LeadsToEnd, Reaches, IsAlive, Survives, Agreed}
+use Rattle.kex_model.specs.Places.{Place, moves, start_of}
+use Rattle.kex_model.specs.Survivors.{LeadsToEnd, Reaches, IsAlive, Survives, Agreed}
 use Rattle.kex_model.specs.Answers.{Viable}
-use Rattle.kex_model.proofs.Loops.{no_return}
 use Rattle.kex_compile.proofs.Alike.{Alike}
 use Rattle.kex_compile.proofs.PlacePairs.{SamePlace, empty, Partners, enter_on, moves_on, walk_on, walk_back, waits_on, waits_back, end_on, end_back, place_back, place_forth, one_partner, one_partner_back}
 use Rattle.kex_compile.proofs.StagePairs.{Known}
+use Rattle.kex_compile.proofs.Mates.{once_on, cover_more, cover_none, turned}
 
--- where no place is reached again without a byte no walk returns
-once : (P : Grammar) (root : ℕ) → (HasEmptyLoop P root → ⊥) → (ks : List (Step Place)) (t : Place) → Walk (moves P) (start_of P root) ks t → NoReturn (start_of P root ∷ []) ks
-once P root none ks t w = no_return P root none ks (start_of P root) t (start_of P root ∷ []) at_start (λ q i. ⊎_elim (λ e. record { steps = []; walk = sym e; silent = refl }) (λ j. absurd j) i) w
-
-module _ (P Q : Grammar) (a : Alike P Q) (known : Known P) (root root' : ℕ) (same : Partners P Q a known root root') (none : HasEmptyLoop P root → ⊥) (none' : HasEmptyLoop Q root' → ⊥) where
+module _ (P Q : Grammar) (a : Alike P Q) (known : Known P) (root root' : ℕ) (same : Partners P Q a known root root') where
   abbrev from : Place
   from = start_of P root
 
@@ -29,15 +24,24 @@ module _ (P Q : Grammar) (a : Alike P Q) (known : Known P) (root root' : ℕ) (s
   begin : SameHere from from'
   begin = enter_on P Q a known root root' same empty
 
+  abbrev SameThere : Place → Place → Type 0
+  SameThere q p = SameHere p q
+
+  one_back : (p p' q : Place) → SameHere p q → SameHere p' q → p ≡ p'
+  one_back p p' q h k = place_back (Partners P Q a known) (one_partner_back P Q a known root root' same) h k
+
+  one_forth : (q q' p : Place) → SameThere q p → SameThere q' p → q ≡ q'
+  one_forth q q' p h k = place_forth (Partners P Q a known) (one_partner P Q a known root root' same) h k
+
   pub reach_on : (w : List ℕ) (p : Place) (c : List Symbol) → Reaches (moves P) from w p c → (q : Place) × SameHere p q × Reaches (moves Q) from' w q c
   reach_on w p c (ks, h, e) =
       let x = walk_on P Q a known ks from p from' h.walk begin in
-      (x.1, x.3, (x.0, record { walk = x.2; waits = waits_on (Partners P Q a known) (moves_on P Q a known x.3) h.waits; once = once Q root' none' x.0 x.1 x.2; reads = ap bytes_of (sym x.4) ∙ h.reads }, sym x.4 ∙ e))
+      (x.1, x.3, (x.0, record { walk = x.2; waits = waits_on (Partners P Q a known) (moves_on P Q a known x.3) h.waits; once = once_on SameHere one_back ks x.0 (from ∷ []) (from' ∷ []) x.5 (cover_more SameHere [] [] from from' begin (cover_none SameHere)) h.once; reads = ap bytes_of (sym x.4) ∙ h.reads }, sym x.4 ∙ e))
 
   pub reach_back : (w : List ℕ) (q : Place) (c : List Symbol) → Reaches (moves Q) from' w q c → (p : Place) × SameHere p q × Reaches (moves P) from w p c
   reach_back w q c (js, h, e) =
       let x = walk_back P Q a known js from from' q h.walk begin in
-      (x.1, x.3, (x.0, record { walk = x.2; waits = waits_back (Partners P Q a known) (moves_on P Q a known x.3) h.waits; once = once P root none x.0 x.1 x.2; reads = ap bytes_of x.4 ∙ h.reads }, x.4 ∙ e))
+      (x.1, x.3, (x.0, record { walk = x.2; waits = waits_back (Partners P Q a known) (moves_on P Q a known x.3) h.waits; once = once_on SameThere one_forth js x.0 (from' ∷ []) (from ∷ []) (turned SameHere x.0 js x.5) (cover_more SameThere [] [] from' from begin (cover_none SameThere)) h.once; reads = ap bytes_of x.4 ∙ h.reads }, x.4 ∙ e))
 
   pub alive_on : (p q : Place) → SameHere p q → LeadsToEnd (moves P) p → LeadsToEnd (moves Q) q
   alive_on p q s (ks, e, w, acc) =

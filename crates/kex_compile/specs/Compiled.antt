@@ -15,7 +15,7 @@ use Rattle.kex_compile.specs.declared.limits.Limits.{Limits}
 use Rattle.kex_compile.specs.declared.refusal.PlanRefusal.{PlanRefusal}
 use Rattle.kex_compile.specs.declared.refusal.PlanRefusal.TheVariants as plan
 use Rattle.kex_compile.specs.declared.refusal.CompileRefusal.{CompileRefusal}
-use Rattle.kex_compile.specs.declared.refusal.CompileRefusal.TheVariants.{TextTooLong, BadToken, Unexpected, BadRegex, BadCount, BadSet, OverLimit, TwiceDefined, Unknown, NoStart, NotTail, TooManyPlaces, EmptyLoop, NoText, OneStage, TooManyStates, Memory}
+use Rattle.kex_compile.specs.declared.refusal.CompileRefusal.TheVariants.{TextTooLong, BadToken, Unexpected, BadRegex, BadCount, BadSet, OverLimit, TwiceDefined, Unknown, NoStart, NotTail, TooManyPlaces, NoText, OneStage, TooManyStates, Memory}
 
 -- the text spells the program, which keeps the rules and what a command asks, and each of whose stages can run
 pub record Accepts (limits : Limits) (text : List ℕ) (P : Grammar) : Type 0 where
@@ -53,7 +53,6 @@ IsRefused limits text (Unknown at) = BreaksRule text (rule.Unknown at)
 IsRefused limits text NoStart = BreaksRule text rule.NoStart
 IsRefused limits text (NotTail at) = BreaksRule text (rule.NotTail at)
 IsRefused limits text (TooManyPlaces n) = HasNoPlans limits text (plan.TooManyPlaces n)
-IsRefused limits text (EmptyLoop n) = HasNoPlans limits text (plan.EmptyLoop n)
 IsRefused limits text (NoText n) = HasNoPlans limits text (plan.NoText n)
 IsRefused limits text OneStage = HasNoPlans limits text plan.OneStage
 IsRefused limits text (TooManyStates n) = HasNoPlans limits text (plan.TooManyStates n)
@@ -78,7 +77,6 @@ of_rule rule.Memory = Memory
 
 abbrev pub of_plan : PlanRefusal → CompileRefusal
 of_plan (plan.TooManyPlaces n) = TooManyPlaces n
-of_plan (plan.EmptyLoop n) = EmptyLoop n
 of_plan (plan.NoText n) = NoText n
 of_plan plan.OneStage = OneStage
 of_plan (plan.TooManyStates n) = TooManyStates n

@@ -3,7 +3,7 @@ use Rattle.std.specs.Prelude.{◌≡◌, ◌+◌, ◌<◌, ◌≤◌, ◌∷◌,
 use Rattle.kex_code.specs.Codes.{IsAmong}
 use Rattle.kex_model.specs.Programs.{Grammar}
 use Rattle.kex_model.specs.Trees.{root_of}
-use Rattle.kex_model.specs.Places.{moves, start_of, HasEmptyLoop}
+use Rattle.kex_model.specs.Places.{moves, start_of}
 use Rattle.kex_model.specs.Survivors.{LeadsToEnd}
 use Rattle.kex_model.specs.States.{HasMoreStates, HasStates}
 use Rattle.kex_machine.specs.Nodes.{Graph, node_moves}
@@ -18,7 +18,7 @@ use Rattle.kex_lowering.specs.declared.refusal.StageRefusal.TheVariants as why
 use Rattle.kex_compile.specs.declared.firsts.Firsts.{Firsts}
 use Rattle.kex_compile.specs.declared.limits.Limits.{Limits}
 use Rattle.kex_compile.specs.declared.refusal.PlanRefusal.{PlanRefusal}
-use Rattle.kex_compile.specs.declared.refusal.PlanRefusal.TheVariants.{TooManyPlaces, EmptyLoop, NoText, OneStage, TooManyStates, Memory}
+use Rattle.kex_compile.specs.declared.refusal.PlanRefusal.TheVariants.{TooManyPlaces, NoText, OneStage, TooManyStates, Memory}
 
 abbrev pub most_places : ℕ
 most_places = 65536
@@ -27,10 +27,9 @@ most_places = 65536
 abbrev pub roots_of : Grammar → List ℕ
 roots_of P = map (λ s. root_of P s.name) P.stages
 
--- the stage has no more places than are allowed, no loop that reads nothing, and some text
+-- the stage has no more places than are allowed, and some text
 pub record CanRun (P : Grammar) (root : ℕ) : Type 0 where
   pub few : HasMore P root most_places → ⊥
-  pub no_loop : HasEmptyLoop P root → ⊥
   pub some_text : LeadsToEnd (moves P) (start_of P root)
 
 -- each stage can run
@@ -130,8 +129,7 @@ IsStageRefused P e root = IsWhy P root most_places e
 -- no stage is refused by a rule that comes before, and this stage is the first that is by this one, or there is one too many
 abbrev pub IsUnplanned : Limits → Grammar → PlanRefusal → Type 0
 IsUnplanned limits P (TooManyPlaces n) = IsFirst (IsStageRefused P why.TooManyPlaces) (roots_of P) n
-IsUnplanned limits P (EmptyLoop n) = NoneIs (IsStageRefused P why.TooManyPlaces) (roots_of P) × IsFirst (IsStageRefused P why.EmptyLoop) (roots_of P) n
-IsUnplanned limits P (NoText n) = NoneIs (IsStageRefused P why.TooManyPlaces) (roots_of P) × NoneIs (IsStageRefused P why.EmptyLoop) (roots_of P) × IsFirst (IsStageRefused P why.NoText) (roots_of P) n
+IsUnplanned limits P (NoText n) = NoneIs (IsStageRefused P why.TooManyPlaces) (roots_of P) × IsFirst (IsStageRefused P why.NoText) (roots_of P) n
 IsUnplanned limits P OneStage = AllRun P × (limits.one_stage ≡ true) × (1 < length P.stages)
 IsUnplanned limits P (TooManyStates n) = AllRun P × KeepsToOneStage limits P × (limits.tables ≡ true) × IsFirst (HasTooManyStates limits P) (roots_of P) n
 IsUnplanned limits P Memory = Unit {0}
@@ -146,7 +144,6 @@ IsFirstIn Q xs (Some n) = IsFirst Q xs n
 -- of these stages the firsts that are refused
 pub record AreFirsts (P : Grammar) (roots : List ℕ) (f : Firsts) : Type 0 where
   pub too_many_places : IsFirstIn (IsStageRefused P why.TooManyPlaces) roots f.too_many_places
-  pub empty_loop : IsFirstIn (IsStageRefused P why.EmptyLoop) roots f.empty_loop
   pub no_text : IsFirstIn (IsStageRefused P why.NoText) roots f.no_text
 
 abbrev pub first_of : Option ℕ → ℕ → Option ℕ
@@ -155,19 +152,17 @@ first_of (Some m) n = Some m
 
 abbrev pub with_first : StageRefusal → ℕ → Firsts → Firsts
 with_first why.TooManyPlaces n f = record f { too_many_places = first_of f.too_many_places n }
-with_first why.EmptyLoop n f = record f { empty_loop = first_of f.empty_loop n }
 with_first why.NoText n f = record f { no_text = first_of f.no_text n }
 with_first why.Memory n f = f
 
 -- the rule of the lowest number of which there is a first
-abbrev pub least_of : Option ℕ → Option ℕ → Option ℕ → Option PlanRefusal
-least_of (Some n) b c = Some (TooManyPlaces n)
-least_of None (Some n) c = Some (EmptyLoop n)
-least_of None None (Some n) = Some (NoText n)
-least_of None None None = None
+abbrev pub least_of : Option ℕ → Option ℕ → Option PlanRefusal
+least_of (Some n) c = Some (TooManyPlaces n)
+least_of None (Some n) = Some (NoText n)
+least_of None None = None
 
 abbrev pub least : Firsts → Option PlanRefusal
-least f = least_of f.too_many_places f.empty_loop f.no_text
+least f = least_of f.too_many_places f.no_text
 
 -- ---- states of machines
 

@@ -11,17 +11,15 @@ use kex_lowering::refusal::StageRefusal;
 #[derive(Clone, Copy, Debug, PartialEq, Eq)]
 pub(crate) struct Firsts {
     pub(crate) too_many_places: Option<u32>,
-    pub(crate) empty_loop: Option<u32>,
     pub(crate) no_text: Option<u32>,
 }
 
 impl Firsts {
     pub(crate) fn new() -> Firsts
-        ensures { result ≡ record { too_many_places = None; empty_loop = None; no_text = None } }
+        ensures { result ≡ record { too_many_places = None; no_text = None } }
     {
         Firsts {
             too_many_places: None,
-            empty_loop: None,
             no_text: None,
         }
     }
@@ -34,10 +32,6 @@ impl Firsts {
         match why {
             StageRefusal::TooManyPlaces => {
                 self.too_many_places = first_of(self.too_many_places, stage);
-                Ok(())
-            }
-            StageRefusal::EmptyLoop => {
-                self.empty_loop = first_of(self.empty_loop, stage);
                 Ok(())
             }
             StageRefusal::NoText => {
@@ -54,9 +48,6 @@ impl Firsts {
     {
         if let Some(stage) = self.too_many_places {
             return Some(PlanRefusal::TooManyPlaces(stage));
-        }
-        if let Some(stage) = self.empty_loop {
-            return Some(PlanRefusal::EmptyLoop(stage));
         }
         self.no_text.map(PlanRefusal::NoText)
     }

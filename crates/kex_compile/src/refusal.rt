@@ -14,9 +14,6 @@ pub enum PlanRefusal {
     /// The stage has more than 65,536 places.
     #[error("stage {0} has too many places")]
     TooManyPlaces(u32),
-    /// Some place of the stage is reached again from itself without a byte.
-    #[error("a loop of stage {0} reads nothing")]
-    EmptyLoop(u32),
     /// No text has a parse by the stage.
     #[error("no text has a parse by stage {0}")]
     NoText(u32),
@@ -78,9 +75,6 @@ pub enum CompileRefusal {
     /// The stage has more than 65,536 places.
     #[error("stage {0} has too many places")]
     TooManyPlaces(u32),
-    /// Some place of the stage is reached again from itself without a byte.
-    #[error("a loop of stage {0} reads nothing")]
-    EmptyLoop(u32),
     /// No text has a parse by the stage.
     #[error("no text has a parse by stage {0}")]
     NoText(u32),
@@ -131,7 +125,6 @@ impl From<PlanRefusal> for CompileRefusal {
     fn from(why: PlanRefusal) -> CompileRefusal {
         match why {
             PlanRefusal::TooManyPlaces(stage) => CompileRefusal::TooManyPlaces(stage),
-            PlanRefusal::EmptyLoop(stage) => CompileRefusal::EmptyLoop(stage),
             PlanRefusal::NoText(stage) => CompileRefusal::NoText(stage),
             PlanRefusal::OneStage => CompileRefusal::OneStage,
             PlanRefusal::TooManyStates(stage) => CompileRefusal::TooManyStates(stage),

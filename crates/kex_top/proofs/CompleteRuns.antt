@@ -6,7 +6,7 @@ use Rattle.kex_code.specs.Codes.{Begins, IsAmong}
 use Rattle.kex_ports.specs.Shelf.{ShelfText, untold, absent, present, IsTold, IsPast}
 use Rattle.kex_ports.proofs.Known.{append-nil}
 use Rattle.kex_model.specs.Programs.{Grammar}
-use Rattle.kex_model.specs.Places.{HasEmptyLoop, moves, start_of, steps_of}
+use Rattle.kex_model.specs.Places.{moves, start_of, steps_of}
 use Rattle.kex_model.specs.Survivors.{Agreed, Greedy}
 use Rattle.kex_model.proofs.AgreedFronts.{agreed_grows, agreed_greedy}
 use Rattle.kex_model.specs.Laws.{StageAnswers}
@@ -48,17 +48,17 @@ use Rattle.kex_pipe.specs.declared.report.Rejected.{Rejected as Report}
 use Rattle.kex_top.specs.declared.status.Status.{Status}
 use Rattle.kex_top.specs.declared.status.Status.TheVariants.{Done, Rejected, Usage, Refused, ReadFault, WriteFault, ShelfFault, Memory, TooLong}
 
-orderly : (P : Grammar) (root : ℕ) → ¬ HasEmptyLoop P root → Orderly (Viable P root) (Says P root) (HasParse P root) (Means P root)
-orderly P root none = record {
-  front = λ w x p g. (grows P root w p.0 none).viable (subst (λ z. Viable P root z) p.1 g);
-  said = λ w x s t p h h'. (grows P root w p.0 none).said s t h (subst (λ z. Says P root z t) p.1 h');
-  meant = λ w x s t p h h'. (grows P root w p.0 none).meant s t h (subst (λ z. Means P root z t) p.1 h');
-  good = λ w s h. means_good P root w s none h;
+orderly : (P : Grammar) (root : ℕ) → Orderly (Viable P root) (Says P root) (HasParse P root) (Means P root)
+orderly P root = record {
+  front = λ w x p g. (grows P root w p.0).viable (subst (λ z. Viable P root z) p.1 g);
+  said = λ w x s t p h h'. (grows P root w p.0).said s t h (subst (λ z. Says P root z t) p.1 h');
+  meant = λ w x s t p h h'. (grows P root w p.0).meant s t h (subst (λ z. Means P root z t) p.1 h');
+  good = λ w s h. means_good P root w s h;
 }
 
-orderly_code : (P : Grammar) (root : ℕ) → ¬ HasEmptyLoop P root → Orderly (Viable P root) (SaysCode P root) (HasParse P root) (MeansCode P root)
-orderly_code P root none = record {
-  front = (orderly P root none).front;
+orderly_code : (P : Grammar) (root : ℕ) → Orderly (Viable P root) (SaysCode P root) (HasParse P root) (MeansCode P root)
+orderly_code P root = record {
+  front = (orderly P root).front;
   said = λ w x s t p h k. text_grows h.0 k.0 s t
       (agreed_grows (moves P) (start_of P root) w p.0 h.0 k.0 h.1 (subst (λ z. Agreed (moves P) (start_of P root) z k.0) p.1 k.1)) h.2 k.2;
   meant = λ w x s t p h k. text_grows h.0 k.0 s t
@@ -66,9 +66,9 @@ orderly_code P root none = record {
   good = λ w s m. let k = m.1.greedy in (k.0, (m.0, k.2.reached, k.2.alive));
 }
 
-orderly_test : (P : Grammar) (root : ℕ) → ¬ HasEmptyLoop P root → Orderly (Viable P root) (SaysNothing P root) (HasParse P root) (HasParseAlone P root)
-orderly_test P root none = record {
-  front = (orderly P root none).front;
+orderly_test : (P : Grammar) (root : ℕ) → Orderly (Viable P root) (SaysNothing P root) (HasParse P root) (HasParseAlone P root)
+orderly_test P root = record {
+  front = (orderly P root).front;
   said = λ w x s t p h k. both_nothing s t h k;
   meant = λ w x s t p h k. both_nothing s t h k.2;
   good = λ w s m. m.0;
@@ -80,15 +80,11 @@ some_none r e = cc
 no_report : (r : Option Report) → r ≡ None → report_as r ≡ None
 no_report r e = ap report_as e
 
--- a stage's root that has no loop
-abbrev Sound : Grammar → Type 0
-Sound P = (root : ℕ) × ¬ HasEmptyLoop P root
-
-one_meaning : (P : Grammar) (x : Sound P) (w s t : List ℕ) → Means P x.0 w s → Means P x.0 w t → s ≡ t
+one_meaning : (P : Grammar) (x : ℕ) (w s t : List ℕ) → Means P x w s → Means P x w t → s ≡ t
 one_meaning P x w s t (a, h, e) (b, k, f) =
-    let codes = at_most_both (code_at P x.0 a) (code_at P x.0 b) (h.least b k.parses) (k.least a h.parses) in
-    let same : a ≡ b = (one_to_one P x.0 w x.1).one_tree a b h.parses k.parses codes in
-    e ∙ ap (λ z. (meaning P (kind_at P x.0) z (empty P)).bytes) same ∙ sym f
+    let codes = at_most_both (code_at P x a) (code_at P x b) (h.least b k.parses) (k.least a h.parses) in
+    let same : a ≡ b = (one_to_one P x w).one_tree a b h.parses.derives k.parses.derives codes in
+    e ∙ ap (λ z. (meaning P (kind_at P x) z (empty P)).bytes) same ∙ sym f
 
 one_code : (P : Grammar) (root : ℕ) (w s t : List ℕ) → MeansCode P root w s → MeansCode P root w t → s ≡ t
 one_code P root w s t h k =
@@ -113,17 +109,17 @@ module _ (P : Grammar) (root : ℕ) where
       (grown.0, whole ∙ grown.1 ∙ ap (λ z. z ++ grown.0) (sym front))
 
 module _ (P : Grammar) (limit : ℕ) where
-  one : (mode : Mode) (x : Sound P) (w : List ℕ) (e : Bool) (a b : Answer) → StageGives mode P limit x.0 w e a → StageGives mode P limit x.0 w e b → a ≡ b
-  one (running n) x w e a b h k = one_answer (Viable P x.0) (Says P x.0) (HasParse P x.0) (Means P x.0) (orderly P x.0 x.1) limit (λ u s m. (m.0, m.1.parses)) (one_meaning P x) h k
-  one coding x w e a b h k = one_answer (Viable P x.0) (SaysCode P x.0) (HasParse P x.0) (MeansCode P x.0) (orderly_code P x.0 x.1) limit (λ u s m. m.1.parse) (one_code P x.0) h k
-  one acting x w e a b h k = plays.one_answer (BeginsParse P x.0) (IsParse P x.0) (WritesPart P x.0) (begins_front P x.0) (more_part P x.0) limit h k
-  one testing x w e a b h k = one_answer (Viable P x.0) (SaysNothing P x.0) (HasParse P x.0) (HasParseAlone P x.0) (orderly_test P x.0 x.1) limit (λ u s m. m.1) (λ u s t m m'. m.2 ∙ sym m'.2) h k
+  one : (mode : Mode) (x : ℕ) (w : List ℕ) (e : Bool) (a b : Answer) → StageGives mode P limit x w e a → StageGives mode P limit x w e b → a ≡ b
+  one (running n) x w e a b h k = one_answer (Viable P x) (Says P x) (HasParse P x) (Means P x) (orderly P x) limit (λ u s m. (m.0, m.1.parses)) (one_meaning P x) h k
+  one coding x w e a b h k = one_answer (Viable P x) (SaysCode P x) (HasParse P x) (MeansCode P x) (orderly_code P x) limit (λ u s m. m.1.parse) (one_code P x) h k
+  one acting x w e a b h k = plays.one_answer (BeginsParse P x) (IsParse P x) (WritesPart P x) (begins_front P x) (more_part P x) limit h k
+  one testing x w e a b h k = one_answer (Viable P x) (SaysNothing P x) (HasParse P x) (HasParseAlone P x) (orderly_test P x) limit (λ u s m. m.1) (λ u s t m m'. m.2 ∙ sym m'.2) h k
 
-  stands : (mode : Mode) (x : Sound P) (w v : List ℕ) (e : Bool) (a b : Answer) → StageGives mode P limit x.0 w false a → StageGives mode P limit x.0 (w ++ v) e b → Begins b.text a.text × ((a.stop ≡ None → ⊥) → b ≡ a)
-  stands (running n) x w v e a b h k = stays (Viable P x.0) (Says P x.0) (HasParse P x.0) (Means P x.0) (orderly P x.0 x.1) limit (v, refl) h k
-  stands coding x w v e a b h k = stays (Viable P x.0) (SaysCode P x.0) (HasParse P x.0) (MeansCode P x.0) (orderly_code P x.0 x.1) limit (v, refl) h k
-  stands acting x w v e a b h k = plays.stays (BeginsParse P x.0) (IsParse P x.0) (WritesPart P x.0) (begins_front P x.0) (more_part P x.0) limit (v, refl) h k
-  stands testing x w v e a b h k = stays (Viable P x.0) (SaysNothing P x.0) (HasParse P x.0) (HasParseAlone P x.0) (orderly_test P x.0 x.1) limit (v, refl) h k
+  stands : (mode : Mode) (x : ℕ) (w v : List ℕ) (e : Bool) (a b : Answer) → StageGives mode P limit x w false a → StageGives mode P limit x (w ++ v) e b → Begins b.text a.text × ((a.stop ≡ None → ⊥) → b ≡ a)
+  stands (running n) x w v e a b h k = stays (Viable P x) (Says P x) (HasParse P x) (Means P x) (orderly P x) limit (v, refl) h k
+  stands coding x w v e a b h k = stays (Viable P x) (SaysCode P x) (HasParse P x) (MeansCode P x) (orderly_code P x) limit (v, refl) h k
+  stands acting x w v e a b h k = plays.stays (BeginsParse P x) (IsParse P x) (WritesPart P x) (begins_front P x) (more_part P x) limit (v, refl) h k
+  stands testing x w v e a b h k = stays (Viable P x) (SaysNothing P x) (HasParse P x) (HasParseAlone P x) (orderly_test P x) limit (v, refl) h k
 
   -- open input isn't handed on ended
   answer_open : {G : List ℕ → Type 0} {S : List ℕ → List ℕ → Type 0} {Q : List ℕ → Type 0} {M : List ℕ → List ℕ → Type 0} {w : List ℕ} {a : Answer} → model.Answers G S Q M limit w false a → a.ended ≡ false
@@ -131,44 +127,29 @@ module _ (P : Grammar) (limit : ℕ) where
   answer_open (too_long lt g s) = refl
   answer_open (still_open le g s) = refl
 
-  stays_open : (mode : Mode) (x : Sound P) (w : List ℕ) (a : Answer) → StageGives mode P limit x.0 w false a → a.ended ≡ false
+  stays_open : (mode : Mode) (x : ℕ) (w : List ℕ) (a : Answer) → StageGives mode P limit x w false a → a.ended ≡ false
   stays_open (running n) x w a h = answer_open h
   stays_open coding x w a h = answer_open h
-  stays_open acting x w a h = plays.ends (BeginsParse P x.0) (IsParse P x.0) (WritesPart P x.0) (begins_front P x.0) (more_part P x.0) limit h
+  stays_open acting x w a h = plays.ends (BeginsParse P x) (IsParse P x) (WritesPart P x) (begins_front P x) (more_part P x) limit h
   stays_open testing x w a h = answer_open h
 
-  -- the roots of stages as sound ones
-  as_sound : (rs : List ℕ) → ((r : ℕ) → IsAmong rs r → CanRun P r) → (xs : List (Sound P)) × (map (λ x. x.0) xs ≡ rs)
-  as_sound [] h = ([], refl)
-  as_sound (r ∷ rs) h = let x = as_sound rs (λ q i. h q (inr i)) in ((r, (h r (inl refl)).no_loop) ∷ x.0, ap (λ z. r ∷ z) x.1)
-
   module _ (mode : Mode) where
-    abbrev Gives : Sound P → List ℕ → Bool → Answer → Type 0
-    Gives x w e a = StageGives mode P limit x.0 w e a
-
-    sounds : (i : ℕ) (xs : List (Sound P)) (w : List ℕ) (e : Bool) (text : List ℕ) (r : Option model.Report) → Pipeline (λ root v d a. StageGives mode P limit root v d a) i (map (λ x. x.0) xs) w e text r → Pipeline Gives i xs w e text r
-    sounds i [] w e text r h = h
-    sounds i (x ∷ xs) w e text r (a, rest, g, o, is) = (a, rest, g, sounds (suc i) xs a.text a.ended text rest o, is)
+    abbrev Gives : ℕ → List ℕ → Bool → Answer → Type 0
+    Gives x w e a = StageGives mode P limit x w e a
 
     -- what parses whole isn't rejected, also not before its end
-    unrejected : ((r : ℕ) → IsAmong (roots_of P) r → CanRun P r) → (w rest input : List ℕ) (e : Bool) (said done : Said) (r : Report) → input ≡ w ++ rest → (e ≡ true → rest ≡ []) → SaysBy mode P limit w e said → said.report ≡ Some r → SaysBy mode P limit input true done → done.report ≡ None → ⊥
-    unrejected run w rest input e said done r is end h rep k none =
-        let xs = as_sound (roots_of P) run in
-        let h' = sounds 1 xs.0 w e said.text (report_as said.report) (rw xs.1 h) in
-        let k' = sounds 1 xs.0 input true done.text (report_as done.report) (rw xs.1 k) in
-        cases e (λ y. end y) h' k'
+    unrejected : (w rest input : List ℕ) (e : Bool) (said done : Said) (r : Report) → input ≡ w ++ rest → (e ≡ true → rest ≡ []) → SaysBy mode P limit w e said → said.report ≡ Some r → SaysBy mode P limit input true done → done.report ≡ None → ⊥
+    unrejected w rest input e said done r is end h rep k none = cases e (λ y. end y) h k
       where
-        cases : (e : Bool) → (e ≡ true → rest ≡ []) → Pipeline Gives 1 (as_sound (roots_of P) run).0 w e said.text (report_as said.report) → Pipeline Gives 1 (as_sound (roots_of P) run).0 input true done.text (report_as done.report) → ⊥
+        cases : (e : Bool) → (e ≡ true → rest ≡ []) → Pipeline Gives 1 (roots_of P) w e said.text (report_as said.report) → Pipeline Gives 1 (roots_of P) input true done.text (report_as done.report) → ⊥
         cases true end h k =
             let all : input ≡ w = is ∙ ap (λ (s : List ℕ). w ++ s) (end refl) ∙ sym (append-nil w) in
-            let xs = (as_sound (roots_of P) run).0 in
-            let k' : Pipeline Gives 1 xs w true done.text (report_as done.report) = subst (λ z. Pipeline Gives 1 xs z true done.text (report_as done.report)) all k in
-            let same = (one_pipeline Gives (one mode) xs 1 w done.text said.text true (report_as done.report) (report_as said.report) k' h).1 in
+            let k' : Pipeline Gives 1 (roots_of P) w true done.text (report_as done.report) = subst (λ z. Pipeline Gives 1 (roots_of P) z true done.text (report_as done.report)) all k in
+            let same = (one_pipeline Gives (one mode) (roots_of P) 1 w done.text said.text true (report_as done.report) (report_as said.report) k' h).1 in
             some_none r (sym (ap report_as rep) ∙ same ∙ ap report_as none)
         cases false end h k =
-            let xs = (as_sound (roots_of P) run).0 in
-            let k' : Pipeline Gives 1 xs (w ++ rest) true done.text (report_as done.report) = subst (λ z. Pipeline Gives 1 xs z true done.text (report_as done.report)) is k in
-            let x = pipelines_stand Gives (one mode) (λ y u v d a b g g'. (stands mode y u v d a b g g').0) (λ y u v d a b g g' some. (stands mode y u v d a b g g').1 some) (stays_open mode) xs 1 w rest said.text done.text true (report_as said.report) (report_as done.report) h k' in
+            let k' : Pipeline Gives 1 (roots_of P) (w ++ rest) true done.text (report_as done.report) = subst (λ z. Pipeline Gives 1 (roots_of P) z true done.text (report_as done.report)) is k in
+            let x = pipelines_stand Gives (one mode) (λ y u v d a b g g'. (stands mode y u v d a b g g').0) (λ y u v d a b g g' some. (stands mode y u v d a b g g').1 some) (stays_open mode) (roots_of P) 1 w rest said.text done.text true (report_as said.report) (report_as done.report) h k' in
             let same = (x.1 (λ n. some_none r (sym (ap report_as rep) ∙ n))).1 in
             some_none r (sym (ap report_as rep) ∙ sym same ∙ ap report_as none)
 
@@ -177,7 +158,7 @@ unrejected_by P mode limit run None new w input e said done r is read end h rep 
 unrejected_by P mode limit run (Some xs) None w input e said done r is read end h rep k n = read
 unrejected_by P mode limit run (Some xs) (Some ys) w input e said done r is read end h rep k n =
     let same : input ≡ xs = cc in
-    unrejected P limit mode run w ys input e said done r (same ∙ read) end h rep k n
+    unrejected P limit mode w ys input e said done r (same ∙ read) end h rep k n
 
 told-same : (told : ShelfText) (text other : List ℕ) → told ≡ present text → IsTold told other → other ≡ text
 told-same untold text other is t = cc

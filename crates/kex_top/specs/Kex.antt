@@ -17,7 +17,7 @@ use Rattle.kex_words.specs.Lines.{counts_line}
 use Rattle.kex_words.specs.declared.refusals.Place.TheVariants.{At, Nowhere, Stage}
 use Rattle.kex_words.specs.declared.refusals.Refusal.{Refusal}
 use Rattle.kex_words.specs.declared.refusals.Rule.{Rule}
-use Rattle.kex_words.specs.declared.refusals.Rule.TheVariants.{TextTooLong, BadToken, Unexpected, BadRegex, BadCount, BadSet, OverLimit, TwiceDefined, Unknown, NoStart, NotTail, TooManyPlaces, EmptyLoop, NoText, OneStage, TooManyStates}
+use Rattle.kex_words.specs.declared.refusals.Rule.TheVariants.{TextTooLong, BadToken, Unexpected, BadRegex, BadCount, BadSet, OverLimit, TwiceDefined, Unknown, NoStart, NotTail, TooManyPlaces, NoText, OneStage, TooManyStates}
 use Rattle.kex_top.specs.Answer.{Said}
 use Rattle.kex_compile.specs.Stages.{HaveInAll, HaveStatesInAll, roots_of}
 use Rattle.kex_top.specs.Modes.{SaysBy, limits_of, limits_to_check}
@@ -105,7 +105,6 @@ IsRefusalOf text (compile.Unknown at) r = r ≡ broken_at Unknown text at
 IsRefusalOf text compile.NoStart r = r ≡ broken NoStart
 IsRefusalOf text (compile.NotTail at) r = r ≡ broken_at NotTail text at
 IsRefusalOf text (compile.TooManyPlaces n) r = r ≡ broken_in TooManyPlaces n
-IsRefusalOf text (compile.EmptyLoop n) r = r ≡ broken_in EmptyLoop n
 IsRefusalOf text (compile.NoText n) r = r ≡ broken_in NoText n
 IsRefusalOf text compile.OneStage r = r ≡ broken OneStage
 IsRefusalOf text (compile.TooManyStates n) r = r ≡ broken_in TooManyStates n

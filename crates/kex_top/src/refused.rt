@@ -63,7 +63,6 @@ pub(crate) fn refused(text: &[u8], refusal: CompileRefusal) -> Status
         CompileRefusal::NoStart => Status::Refused(NO_START),
         CompileRefusal::NotTail(at) => broken_at(Rule::NotTail, text, at),
         CompileRefusal::TooManyPlaces(stage) => broken_in(Rule::TooManyPlaces, stage),
-        CompileRefusal::EmptyLoop(stage) => broken_in(Rule::EmptyLoop, stage),
         CompileRefusal::NoText(stage) => broken_in(Rule::NoText, stage),
         CompileRefusal::OneStage => Status::Refused(ONE_STAGE),
         CompileRefusal::TooManyStates(stage) => broken_in(Rule::TooManyStates, stage),

@@ -35,7 +35,6 @@ unruled limits text P rule.Memory s h = tt
 
 unplanned : (limits : Limits) (text : List ℕ) (P : Grammar) (e : PlanRefusal) → Spells text P → IsRuled P → IsUnplanned limits P e → IsRefused limits text (of_plan e)
 unplanned limits text P (plan.TooManyPlaces n) s r h = (P, s, r, h)
-unplanned limits text P (plan.EmptyLoop n) s r h = (P, s, r, h)
 unplanned limits text P (plan.NoText n) s r h = (P, s, r, h)
 unplanned limits text P plan.OneStage s r h = (P, s, r, h)
 unplanned limits text P (plan.TooManyStates n) s r h = (P, s, r, h)

@@ -15,7 +15,7 @@ each P limit i [] ms h r k w e = absurd k
 each P limit i (x ∷ rs) [] h r k w e = absurd h
 each P limit i (x ∷ rs) (m ∷ ms) h r k w e =
     ⊎_elim
-    (λ same. let a = stage_answers P x m h.0.kept h.0.carries.no_loop limit w e in (a.0, subst (λ z. StageAnswers P z limit w e a.0) same a.1))
+    (λ same. let a = stage_answers P x m h.0.kept limit w e in (a.0, subst (λ z. StageAnswers P z limit w e a.0) same a.1))
     (λ later. each P limit (suc i) rs ms h.1 r later w e)
     k
 

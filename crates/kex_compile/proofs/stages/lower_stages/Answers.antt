@@ -21,7 +21,7 @@ stages-preserved c =
           let m = w.in-Ok.made.machine in
           let own = w.in-Ok.made.places in
           let is : IsStage P (root_of P start.name) (i + 1) m = subst (λ r. IsStage P r (i + 1) m) root (record {
-            can_run = record { few = w.in-Ok.ensures.fits; no_loop = w.in-Ok.ensures.carries.no_loop; some_text = w.in-Ok.ensures.carries.some_text };
+            can_run = record { few = w.in-Ok.ensures.fits; some_text = w.in-Ok.ensures.carries.some_text };
             carries = w.in-Ok.ensures.carries;
             kept = w.in-Ok.ensures.kept;
             numbered = w.in-Ok.ensures.stage;
