@@ -2,10 +2,10 @@
 use Rattle.std.proofs.Common.{◌≡◌, ℕ, suc, ◌+◌, ◌-◌, ◌*◌, ◌/◌, ◌%◌, ◌^◌, ◌<◌, ◌≤◌, ◌==◌, true, false, List, [], ◌∷◌, ◌⊎◌, inl, inr, ⊎_elim, length, set, get_or, sym, ap, subst, ◌∙◌, arith, w64, bit_or, bit_and, get_or-set_same, get_or-set_other, length-set}
 use Rattle.std.proofs.Math.Nat.{div-eq_of_lt, div-lt_iff_lt-mul, mod-lt, pow-le-pow_right, pow-succ'}
 use Rattle.std.proofs.lemmas.Nat.{leading_top, pow_pos, one_shl, and_mask}
-use Rattle.std.proofs.lemmas.Nat.Bits.{bit_at-zero, bit_at_and, bit_at_ones, bit_at-lt, bit_at_set_same, bit_at_set_other}
+use Rattle.std.proofs.lemmas.Nat.Bits.{bit_at-zero, bit_at_and, bit_at_ones, bit_at-lt, bit_at_set_same, bit_at_set_other, bit_at_clear_same, bit_at_clear_other}
 use Rattle.std.proofs.lemmas.Bool.{cases_eq}
-use Rattle.std.specs.Int.{bit_at}
-use Rattle.kex_frontier.specs.Rows.{has_mark, IsTop, IsHighestBelow, AlsoMarks}
+use Rattle.std.specs.Int.{bit_at, bit_not}
+use Rattle.kex_frontier.specs.Rows.{has_mark, IsTop, IsHighestBelow, AlsoMarks, Unmarks}
 use lib.Count.{count_leading_zeros}
 
 -- a number below a power has no bit from there on
@@ -121,3 +121,28 @@ marks_one row place w room here = record {
         in_word e =
             let other : n % 64 ≡ place % 64 → ⊥ = λ r. ne (omega arith) in
             ap (λ k. bit_at (get_or new k 0) (n % 64) == 1) e ∙ ap (λ z. bit_at z (n % 64) == 1) here_too ∙ ap (λ z. z == 1) (bit_at_set_other w64 w (place % 64) (omega arith) (n % 64) other) ∙ ap (λ z. bit_at z (n % 64) == 1) here ∙ ap (λ k. bit_at (get_or row k 0) (n % 64) == 1) (sym e)
+
+-- the bit of a place is taken away
+pub unmarks_one : (row : List ℕ) (place w : ℕ) → place / 64 < length row → w ≡ get_or row (place / 64) 0 → Unmarks place row (set row (place / 64) (bit_and w (bit_not w64 (1 * 2 ^ (place % 64) % 2 ^ 64))))
+unmarks_one row place w room here = record {
+  room = length-set row (place / 64) without;
+  gone = ap (λ z. bit_at z (place % 64) == 1) here_too ∙ ap (λ z. z == 1) (bit_at_clear_same w64 w (place % 64) (omega arith));
+  others = others;
+}
+  where
+    without : ℕ
+    without = bit_and w (bit_not w64 (1 * 2 ^ (place % 64) % 2 ^ 64))
+
+    new : List ℕ
+    new = set row (place / 64) without
+
+    here_too : get_or new (place / 64) 0 ≡ without
+    here_too = get_or-set_same row (place / 64) without 0 room
+
+    others : (n : ℕ) → (n ≡ place → ⊥) → has_mark new n ≡ has_mark row n
+    others n ne = ⊎_elim (λ e. in_word e) (λ o. ap (λ z. bit_at z (n % 64) == 1) (get_or-set_other row (place / 64) (n / 64) without 0 o)) (cases_eq (n / 64) (place / 64))
+      where
+        in_word : n / 64 ≡ place / 64 → has_mark new n ≡ has_mark row n
+        in_word e =
+            let other : n % 64 ≡ place % 64 → ⊥ = λ r. ne (omega arith) in
+            ap (λ k. bit_at (get_or new k 0) (n % 64) == 1) e ∙ ap (λ z. bit_at z (n % 64) == 1) here_too ∙ ap (λ z. z == 1) (bit_at_clear_other w64 w (place % 64) (omega arith) (n % 64) (omega arith) other) ∙ ap (λ z. bit_at z (n % 64) == 1) here ∙ ap (λ k. bit_at (get_or row k 0) (n % 64) == 1) (sym e)

@@ -1,4 +1,4 @@
--- Passes over a row spread its marks along all steps without a byte.
+-- The marks of a row are spread along all steps without a byte, going through each place once.
 use Rattle.std.proofs.Common.{◌≡◌, ℕ, zero, suc, ◌+◌, ◌<◌, ◌≤◌, Bool, true, false, List, [], ◌∷◌, ◌++◌, ◌⊎◌, inl, inr, ⊎_elim, length, refl, sym, ap, ap₂, subst, ◌∙◌, arith, true≢false}
 use Rattle.std.proofs.lemmas.Option.{slice_get_past}
 use Rattle.std.proofs.lemmas.Bool.{cases_eq}
@@ -8,7 +8,7 @@ use Rattle.kex_model.proofs.Walks.{bytes_of-append}
 use Rattle.kex_model.proofs.Derivations.{walk-append, code_of-append}
 use Rattle.kex_machine.specs.declared.MNode.{MNode}
 use Rattle.kex_machine.specs.Nodes.{node_moves, move_of, MoveBelow, StaysWithin}
-use Rattle.kex_frontier.specs.Rows.{has_mark, IsHighestBelow, AlsoMarks, MarksNews, IsReachedQuietly, Spread, IsClosureOf}
+use Rattle.kex_frontier.specs.Rows.{has_mark, IsHighestBelow, AlsoMarks, Unmarks, Opens, IsReachedQuietly, IsClosureOf}
 
 pub marked_or_not : (b : Bool) → (b ≡ true) ⊎ (b ≡ false)
 marked_or_not true = inl refl
@@ -38,24 +38,53 @@ also_both ms ns old mid new h k = record {
   only = λ n e. ⊎_elim (λ m. ⊎_elim (λ o. inl o) (λ i. inr (among_front ms ns n i)) (h.only n m)) (λ i. inr (among_back ms ns n i)) (k.only n e);
 }
 
-pub news_none : (from : ℕ) (old : List ℕ) → MarksNews [] from old old false
-news_none from old = record { marked = record { room = refl; kept = λ n e. e; added = λ n i. absurd i; only = λ n e. inl e }; fresh = λ e. cc; stale = λ _ n le e. e }
-
-pub news_one : (place from : ℕ) (old new : List ℕ) (known news : Bool) → AlsoMarks (place ∷ []) old new → known ≡ has_mark old place → (news ≡ true → known ≡ false) → (news ≡ false → from ≤ place → known ≡ true) → MarksNews (place ∷ []) from old new news
-news_one place from old new known news k is fresh stale = record {
-  marked = k;
-  fresh = λ e. (place, inl refl, sym is ∙ fresh e);
-  stale = λ e n le m. ⊎_elim (λ o. o) (λ i. ⊎_elim (λ at. subst (λ z. has_mark old z ≡ true) at (sym is ∙ stale e (subst (λ z. from ≤ z) (sym at) le))) (λ z. absurd z) i) (k.only n m);
+pub opens_none : (end : ℕ) (old fresh : List ℕ) → Opens [] end old fresh old fresh end
+opens_none end old fresh = record {
+  marked = record { room = refl; kept = λ n e. e; added = λ n i. absurd i; only = λ n e. inl e };
+  room = refl;
+  opened = λ n e. inl e;
+  kept = λ n e. e;
+  only = λ n e. inl e;
+  rises = omega arith;
+  above = λ n le e. e;
 }
 
-pub news_both : (ms ns : List ℕ) (from : ℕ) (old mid new : List ℕ) (a b c : Bool) → MarksNews ms from old mid a → MarksNews ns from mid new b → (c ≡ true → (a ≡ true) ⊎ (b ≡ true)) → (c ≡ false → (a ≡ false) × (b ≡ false)) → MarksNews (ms ++ ns) from old new c
-news_both ms ns from old mid new a b c h k some none = record {
+-- a place that was marked
+pub opens_known : (place end : ℕ) (old fresh new : List ℕ) → AlsoMarks (place ∷ []) old new → has_mark old place ≡ true → Opens (place ∷ []) end old fresh new fresh end
+opens_known place end old fresh new k known = record {
+  marked = k;
+  room = refl;
+  opened = λ n e. ⊎_elim (λ o. inl o) (λ i. ⊎_elim (λ at. inl (subst (λ z. has_mark old z ≡ true) at known)) (λ z. absurd z) i) (k.only n e);
+  kept = λ n e. e;
+  only = λ n e. inl e;
+  rises = omega arith;
+  above = λ n le e. e;
+}
+
+-- and one that wasn't
+pub opens_one : (place end : ℕ) (old fresh new fresh' : List ℕ) (end' : ℕ) → AlsoMarks (place ∷ []) old new → has_mark old place ≡ false → AlsoMarks (place ∷ []) fresh fresh' → end ≤ end' → place < end' → Opens (place ∷ []) end old fresh new fresh' end'
+opens_one place end old fresh new fresh' end' k unknown o le past = record {
+  marked = k;
+  room = o.room;
+  opened = λ n e. ⊎_elim (λ h. inl h) (λ i. inr (o.added n i)) (k.only n e);
+  kept = o.kept;
+  only = λ n e. ⊎_elim (λ h. inl h) (λ i. ⊎_elim (λ at. inr (subst (λ z. has_mark old z ≡ false) at unknown, inl at)) (λ z. absurd z) i) (o.only n e);
+  rises = le;
+  above = λ n far e. ⊎_elim (λ h. h) (λ i. ⊎_elim (λ at. let q : place ≡ n = at in absurd (omega (arith, past, far))) (λ z. absurd z) i) (o.only n e);
+}
+
+pub opens_both : (ms ns : List ℕ) (a b c : ℕ) (old fresh mid fresh' new fresh'' : List ℕ) → Opens ms a old fresh mid fresh' b → Opens ns b mid fresh' new fresh'' c → Opens (ms ++ ns) a old fresh new fresh'' c
+opens_both ms ns a b c old fresh mid fresh' new fresh'' h k = record {
   marked = also_both ms ns old mid new h.marked k.marked;
-  fresh = λ e. ⊎_elim
-      (λ f. let r = h.fresh f in (r.0, among_front ms ns r.0 r.1, r.2))
-      (λ f. let r = k.fresh f in (r.0, among_back ms ns r.0 r.1, ⊎_elim (λ o. absurd (true≢false (sym (h.marked.kept r.0 o) ∙ r.2))) (λ o. o) (marked_or_not (has_mark old r.0))))
-      (some e);
-  stale = λ e n le m. h.stale (none e).0 n le (k.stale (none e).1 n le m);
+  room = k.room ∙ h.room;
+  opened = λ n e. ⊎_elim (λ m. ⊎_elim (λ o. inl o) (λ o. inr (k.kept n o)) (h.opened n m)) (λ o. inr o) (k.opened n e);
+  kept = λ n e. k.kept n (h.kept n e);
+  only = λ n e. ⊎_elim
+      (λ m. ⊎_elim (λ o. inl o) (λ o. inr (o.0, among_front ms ns n o.1)) (h.only n m))
+      (λ m. inr (⊎_elim (λ o. absurd (true≢false (sym (h.marked.kept n o) ∙ m.0))) (λ o. o) (marked_or_not (has_mark old n)), among_back ms ns n m.1))
+      (k.only n e);
+  rises = omega (arith, h.rises, k.rises);
+  above = λ n le e. h.above n (omega (arith, le, k.rises)) (k.above n le e);
 }
 
 -- ---- steps without a byte
@@ -100,38 +129,49 @@ none_left (x ∷ xs) ys e = cc
 split : (a b : ℕ) → (a ≤ b) ⊎ (b < a)
 split a b = grind arith
 
--- a place counts if it isn't marked
-abbrev pub weight : Bool → ℕ
-weight true = 0
-weight false = 1
+-- a place counts twice if it isn't marked, and once if it is and is fresh
+abbrev pub weight : Bool → Bool → ℕ
+weight false y = 2
+weight true true = 1
+weight true false = 0
 
--- how many of the first places are not marked
-abbrev pub unmarked : List ℕ → ℕ → ℕ
-unmarked row zero = 0
-unmarked row (suc n) = weight (has_mark row n) + unmarked row n
+-- what is left to be done at the first places
+abbrev pub left_over : List ℕ → List ℕ → ℕ → ℕ
+left_over row fresh zero = 0
+left_over row fresh (suc n) = weight (has_mark row n) (has_mark fresh n) + left_over row fresh n
 
-lighter : (b c : Bool) → (b ≡ true → c ≡ true) → weight c ≤ weight b
-lighter true true h = omega arith
-lighter true false h = let e : false ≡ true = h refl in cc
-lighter false true h = omega arith
-lighter false false h = omega arith
+lighter : (a b c d : Bool) → (a ≡ true → c ≡ true) → (d ≡ true → (b ≡ true) ⊎ (a ≡ false)) → weight c d ≤ weight a b
+lighter false b false d h k = omega arith
+lighter false b true true h k = omega arith
+lighter false b true false h k = omega arith
+lighter true b false d h k = let e : false ≡ true = h refl in cc
+lighter true true true true h k = omega arith
+lighter true true true false h k = omega arith
+lighter true false true false h k = omega arith
+lighter true false true true h k = ⊎_elim (λ e. let bad : false ≡ true = e in cc) (λ e. let bad : true ≡ false = e in cc) (k refl)
 
-unmarked_less : (old new : List ℕ) → ((n : ℕ) → has_mark old n ≡ true → has_mark new n ≡ true) → (n : ℕ) → unmarked new n ≤ unmarked old n
-unmarked_less old new kept zero = omega arith
-unmarked_less old new kept (suc n) = omega (arith, lighter (has_mark old n) (has_mark new n) (kept n), unmarked_less old new kept n)
+-- rows that have gone on
+pub record GoesOn (row fresh row' fresh' : List ℕ) : Type 0 where
+  pub kept : (n : ℕ) → has_mark row n ≡ true → has_mark row' n ≡ true
+  pub only : (n : ℕ) → has_mark fresh' n ≡ true → (has_mark fresh n ≡ true) ⊎ (has_mark row n ≡ false)
 
-pub unmarked_fewer : (old new : List ℕ) → ((n : ℕ) → has_mark old n ≡ true → has_mark new n ≡ true) → (n k : ℕ) → k < n → has_mark old k ≡ false → has_mark new k ≡ true → unmarked new n < unmarked old n
-unmarked_fewer old new kept zero k lt e f = absurd (omega arith)
-unmarked_fewer old new kept (suc n) k lt e f = ⊎_elim (λ same. here same) (λ lt. omega (arith, lighter (has_mark old n) (has_mark new n) (kept n), unmarked_fewer old new kept n k lt e f)) (last k n lt)
+less_over : (row fresh row' fresh' : List ℕ) → GoesOn row fresh row' fresh' → (n : ℕ) → left_over row' fresh' n ≤ left_over row fresh n
+less_over row fresh row' fresh' g zero = omega arith
+less_over row fresh row' fresh' g (suc n) = omega (arith, lighter (has_mark row n) (has_mark fresh n) (has_mark row' n) (has_mark fresh' n) (g.kept n) (g.only n), less_over row fresh row' fresh' g n)
+
+-- where a place that was fresh isn't any more, less is left
+pub fewer_over : (row fresh row' fresh' : List ℕ) → GoesOn row fresh row' fresh' → (n k : ℕ) → k < n → has_mark row k ≡ true → has_mark fresh k ≡ true → has_mark fresh' k ≡ false → left_over row' fresh' n < left_over row fresh n
+fewer_over row fresh row' fresh' g zero k lt a b c = absurd (omega arith)
+fewer_over row fresh row' fresh' g (suc n) k lt a b c = ⊎_elim (λ same. here same) (λ lt. omega (arith, lighter (has_mark row n) (has_mark fresh n) (has_mark row' n) (has_mark fresh' n) (g.kept n) (g.only n), fewer_over row fresh row' fresh' g n k lt a b c)) (last k n lt)
   where
     last : (k n : ℕ) → k < suc n → (k ≡ n) ⊎ (k < n)
     last k n lt = grind arith
 
-    here : k ≡ n → unmarked new (suc n) < unmarked old (suc n)
+    here : k ≡ n → left_over row' fresh' (suc n) < left_over row fresh (suc n)
     here same =
-        let a : weight (has_mark old n) ≡ 1 = ap weight (ap (λ z. has_mark old z) (sym same) ∙ e) in
-        let b : weight (has_mark new n) ≡ 0 = ap weight (ap (λ z. has_mark new z) (sym same) ∙ f) in
-        omega (arith, a, b, unmarked_less old new kept n)
+        let was : weight (has_mark row n) (has_mark fresh n) ≡ 1 = ap₂ weight (ap (λ z. has_mark row z) (sym same) ∙ a) (ap (λ z. has_mark fresh z) (sym same) ∙ b) in
+        let is : weight (has_mark row' n) (has_mark fresh' n) ≡ 0 = ap₂ weight (g.kept n (ap (λ z. has_mark row z) (sym same) ∙ a)) (ap (λ z. has_mark fresh' z) (sym same) ∙ c) in
+        omega (arith, was, is, less_over row fresh row' fresh' g n)
 
 module _ (nodes : List MNode) where
   abbrev f : ℕ → Move ℕ
@@ -147,83 +187,103 @@ module _ (nodes : List MNode) where
   reached_both : (m p n : ℕ) → IsReachedQuietly nodes m p → IsReachedQuietly nodes p n → IsReachedQuietly nodes m n
   reached_both m p n (js, v, d) (ks, w, e) = (js ++ ks, walk-append f js ks m p n v w, ap bytes_of (code_of-append js ks) ∙ bytes_of-append (code_of js) (code_of ks) ∙ ap₂ (λ x y. x ++ y) d e)
 
-  -- the places from `left` on are passed
-  pub record Passing (old row : List ℕ) (left : ℕ) (again : Bool) : Type 0 where
+  -- the marks are spread, but from the places that are fresh; from the end on none is
+  pub record Going (old row fresh : List ℕ) (end : ℕ) : Type 0 where
+    pub within : end ≤ length nodes
     pub room : length row ≡ length old
+    pub fresh_room : length fresh ≡ length old
     pub kept : (n : ℕ) → has_mark old n ≡ true → has_mark row n ≡ true
     pub real : (n : ℕ) → has_mark row n ≡ true → (m : ℕ) × (has_mark old m ≡ true) × IsReachedQuietly nodes m n
-    pub closed : again ≡ false → (n m : ℕ) → left ≤ n → has_mark row n ≡ true → IsAmong (quiet (f n)) m → has_mark row m ≡ true
-    pub more : again ≡ true → (n : ℕ) × (n < length nodes) × (has_mark old n ≡ false) × (has_mark row n ≡ true)
+    pub inside : (n : ℕ) → has_mark fresh n ≡ true → has_mark row n ≡ true
+    pub closed : (n m : ℕ) → has_mark row n ≡ true → has_mark fresh n ≡ false → IsAmong (quiet (f n)) m → has_mark row m ≡ true
+    pub above : (n : ℕ) → end ≤ n → n < length nodes → has_mark fresh n ≡ false
 
-  pub pass_starts : (row : List ℕ) → Passing row row (length nodes) false
-  pass_starts row = record {
+  pub going_starts : (row fresh : List ℕ) → fresh ≡ row → Going row row fresh (length nodes)
+  going_starts row fresh same = record {
+    within = omega arith;
     room = refl;
+    fresh_room = ap length same;
     kept = λ n e. e;
     real = λ n e. (n, e, ([], refl, refl));
-    closed = λ _ n m le e i. absurd (subst (λ z. IsAmong (quiet z) m) (past_last n le) i);
-    more = λ e. cc;
+    inside = λ n e. subst (λ z. has_mark z n ≡ true) same e;
+    closed = λ n m e g i. absurd (true≢false (sym e ∙ sym (ap (λ z. has_mark z n) same) ∙ g));
+    above = λ n le lt. absurd (omega (arith, le, lt));
   }
 
-  pub pass_on : StaysWithin nodes → (old row new : List ℕ) (left n : ℕ) (again news later : Bool) → Passing old row left again → IsHighestBelow row left n → n < length nodes → MarksNews (quiet (f n)) n row new news → (later ≡ true → (again ≡ true) ⊎ (news ≡ true)) → (later ≡ false → (again ≡ false) × (news ≡ false)) → Passing old new n later
-  pass_on within old row new left n again news later s top lt k some none = record {
-    room = k.marked.room ∙ s.room;
-    kept = λ m e. k.marked.kept m (s.kept m e);
-    real = λ m e. ⊎_elim (λ o. s.real m o) (λ i. let r = s.real n top.marked in let st = quiet_step (f n) m i in (r.0, r.1, subst (λ z. IsReachedQuietly nodes r.0 z) st.2 (reached_on r.0 n st.0 r.2 st.1 st.3))) (k.marked.only m e);
-    closed = λ e q m le h i.
-        let was : has_mark row q ≡ true = k.stale (none e).1 q le h in
-        ⊎_elim
-        (λ at. k.marked.added m (subst (λ z. IsAmong (quiet (f z)) m) at i))
+  pub going_on : (old row fresh less new fresh' : List ℕ) (end n end' : ℕ) → Going old row fresh end → IsHighestBelow fresh end n → Unmarks n fresh less → Opens (quiet (f n)) n row less new fresh' end' → end' ≤ length nodes → Going old new fresh' end'
+  going_on old row fresh less new fresh' end n end' s top u o le = record {
+    within = le;
+    room = o.marked.room ∙ s.room;
+    fresh_room = o.room ∙ u.room ∙ s.fresh_room;
+    kept = λ m e. o.marked.kept m (s.kept m e);
+    real = λ m e. ⊎_elim (λ h. s.real m h) (λ i. let r = s.real n marked in let st = quiet_step (f n) m i in (r.0, r.1, subst (λ z. IsReachedQuietly nodes r.0 z) st.2 (reached_on r.0 n st.0 r.2 st.1 st.3))) (o.marked.only m e);
+    inside = λ m e. ⊎_elim (λ h. o.marked.kept m (s.inside m (was m h))) (λ h. o.marked.added m h.1) (o.only m e);
+    closed = λ q m e g i. ⊎_elim
+        (λ at. o.marked.added m (subst (λ z. IsAmong (quiet (f z)) m) at i))
         (λ ne. ⊎_elim
-        (λ far. k.marked.kept m (s.closed (none e).0 q m far was i))
-        (λ near. absurd (true≢false (sym was ∙ top.highest q (above n q le ne) near)))
-        (split left q))
+        (λ h. o.marked.kept m (s.closed q m h (⊎_elim (λ x. absurd (true≢false (sym (o.kept q (u.others q ne ∙ x)) ∙ g))) (λ x. x) (marked_or_not (has_mark fresh q))) i))
+        (λ h. absurd (true≢false (sym h ∙ g)))
+        (o.opened q e))
         (cases_eq q n);
-    more = λ e. ⊎_elim
-        (λ a. let r = s.more a in (r.0, r.1, r.2, k.marked.kept r.0 r.3))
-        (λ b. let r = k.fresh b in (r.0, way_below (length nodes) (f n) r.0 (within n lt) r.1, ⊎_elim (λ o. absurd (true≢false (sym (s.kept r.0 o) ∙ r.2))) (λ o. o) (marked_or_not (has_mark old r.0)), k.marked.added r.0 r.1))
-        (some e);
+    above = λ q far lt. ⊎_elim (λ e. absurd (high q far lt e)) (λ e. e) (marked_or_not (has_mark fresh' q));
   }
     where
-      above : (n q : ℕ) → n ≤ q → (q ≡ n → ⊥) → n < q
-      above n q le ne = grind arith
+      marked : has_mark row n ≡ true
+      marked = s.inside n top.marked
 
-  pub pass_ends : (old row : List ℕ) (left : ℕ) (again : Bool) → Passing old row left again → ((n : ℕ) → n < left → has_mark row n ≡ false) → Spread nodes old row again
-  pass_ends old row left again s none = record {
+      was : (m : ℕ) → has_mark less m ≡ true → has_mark fresh m ≡ true
+      was m h = ⊎_elim (λ at. absurd (true≢false (sym h ∙ ap (λ z. has_mark less z) at ∙ u.gone))) (λ ne. sym (u.others m ne) ∙ h) (cases_eq m n)
+
+      past : (a b : ℕ) → (a ≤ b) ⊎ (b < a)
+      past a b = grind arith
+
+      high : (q : ℕ) → end' ≤ q → q < length nodes → has_mark fresh' q ≡ true → ⊥
+      high q far lt e =
+          let h : has_mark less q ≡ true = o.above q far e in
+          ⊎_elim
+          (λ at. true≢false (sym h ∙ ap (λ z. has_mark less z) at ∙ u.gone))
+          (λ ne. ⊎_elim
+          (λ above. true≢false (sym (was q h) ∙ s.above q above lt))
+          (λ below. true≢false (sym (was q h) ∙ top.highest q (let r : n ≤ end' = o.rises in beyond q n (omega (arith, far, r)) ne) below))
+          (past end q))
+          (cases_eq q n)
+        where
+          beyond : (q n : ℕ) → n ≤ q → (q ≡ n → ⊥) → n < q
+          beyond q n le ne = grind arith
+
+  pub going_less : (old row fresh less new fresh' : List ℕ) (end n end' : ℕ) → Going old row fresh end → IsHighestBelow fresh end n → Unmarks n fresh less → Opens (quiet (f n)) n row less new fresh' end' → left_over new fresh' (length nodes) < left_over row fresh (length nodes)
+  going_less old row fresh less new fresh' end n end' s top u o =
+      fewer_over row fresh new fresh' (record {
+        kept = o.marked.kept;
+        only = λ m e. ⊎_elim (λ h. inl (was m h)) (λ h. inr h.0) (o.only m e);
+      }) (length nodes) n (let w : end ≤ length nodes = s.within in omega (arith, top.below, w)) marked top.marked
+      (⊎_elim (λ e. absurd (⊎_elim (λ h. true≢false (sym h ∙ u.gone)) (λ h. true≢false (sym marked ∙ h.0)) (o.only n e))) (λ e. e) (marked_or_not (has_mark fresh' n)))
+    where
+      marked : has_mark row n ≡ true
+      marked = s.inside n top.marked
+
+      was : (m : ℕ) → has_mark less m ≡ true → has_mark fresh m ≡ true
+      was m h = ⊎_elim (λ at. absurd (true≢false (sym h ∙ ap (λ z. has_mark less z) at ∙ u.gone))) (λ ne. sym (u.others m ne) ∙ h) (cases_eq m n)
+
+  pub going_ends : (old row fresh : List ℕ) (end : ℕ) → Going old row fresh end → ((n : ℕ) → n < end → has_mark fresh n ≡ false) → IsClosureOf nodes old row
+  going_ends old row fresh end s none = record {
     room = s.room;
-    kept = s.kept;
     real = s.real;
-    closed = λ e n m h i. ⊎_elim (λ le. s.closed e n m le h i) (λ lt. absurd (true≢false (sym h ∙ none n lt))) (split left n);
-    more = s.more;
-  }
-
-  -- the marks are spread, maybe not along all steps
-  pub record Closing (old row : List ℕ) : Type 0 where
-    pub room : length row ≡ length old
-    pub kept : (n : ℕ) → has_mark old n ≡ true → has_mark row n ≡ true
-    pub real : (n : ℕ) → has_mark row n ≡ true → (m : ℕ) × (has_mark old m ≡ true) × IsReachedQuietly nodes m n
-
-  pub close_starts : (row : List ℕ) → Closing row row
-  close_starts row = record { room = refl; kept = λ n e. e; real = λ n e. (n, e, ([], refl, refl)) }
-
-  pub close_on : (old row new : List ℕ) (again : Bool) → Closing old row → Spread nodes row new again → Closing old new
-  close_on old row new again h s = record {
-    room = s.room ∙ h.room;
-    kept = λ n e. s.kept n (h.kept n e);
-    real = λ n e. let r = s.real n e in let q = h.real r.0 r.1 in (q.0, q.1, reached_both q.0 r.0 n q.2 r.2);
-  }
-
-  pub close_ends : (old row new : List ℕ) → Closing old row → Spread nodes row new false → IsClosureOf nodes old new
-  close_ends old row new h s = record {
-    room = c.room;
-    real = c.real;
-    all = λ m n e (ks, w, q). along ks m n (c.kept m e) w q;
+    all = λ m n e (ks, w, q). along ks m n (s.kept m e) w q;
   }
     where
-      c : Closing old new
-      c = close_on old row new false h s
+      past : (a b : ℕ) → (a ≤ b) ⊎ (b < a)
+      past a b = grind arith
 
-      along : (ks : List (Step ℕ)) (m n : ℕ) → has_mark new m ≡ true → Walk f m ks n → bytes_of (code_of ks) ≡ [] → has_mark new n ≡ true
-      along [] m n e w q = subst (λ z. has_mark new z ≡ true) w e
+      closed : (n m : ℕ) → has_mark row n ≡ true → IsAmong (quiet (f n)) m → has_mark row m ≡ true
+      closed n m e i =
+          ⊎_elim
+          (λ le. absurd (subst (λ z. IsAmong (quiet z) m) (past_last n le) i))
+          (λ lt. s.closed n m e (⊎_elim (λ far. s.above n far lt) (λ near. none n near) (past end n)) i)
+          (past (length nodes) n)
+
+      along : (ks : List (Step ℕ)) (m n : ℕ) → has_mark row m ≡ true → Walk f m ks n → bytes_of (code_of ks) ≡ [] → has_mark row n ≡ true
+      along [] m n e w q = subst (λ z. has_mark row z ≡ true) w e
       along (k ∷ ks) m n e w q =
           let both = none_left (bytes_of (symbols_of k)) (bytes_of (code_of ks)) (sym (bytes_of-append (symbols_of k) (code_of ks)) ∙ q) in
-          along ks (target_of k) n (s.closed refl m (target_of k) e (is_quiet w.0 both.0)) w.1 both.1
+          along ks (target_of k) n (closed m (target_of k) e (is_quiet w.0 both.0)) w.1 both.1

@@ -2,7 +2,7 @@
 use Rattle.std.specs.Prelude.{◌≡◌, ℕ, ◌<◌, ◌≤◌, ◌/◌, ◌%◌, ◌==◌, Bool, true, false, List, [], ◌∷◌, ◌⊎◌, if◌then◌else◌, get_or, length}
 use Rattle.std.specs.Int.{bit_at}
 use Rattle.kex_code.specs.Codes.{bytes_of, IsAmong}
-use Rattle.kex_model.specs.Moves.{quiet, Move, accept, read, choose, forced, go, Step, code_of, Walk}
+use Rattle.kex_model.specs.Moves.{Move, accept, read, choose, forced, go, Step, code_of, Walk}
 use Rattle.kex_machine.specs.declared.MNode.{MNode}
 use Rattle.kex_machine.specs.Nodes.{Graph, node_moves}
 
@@ -29,11 +29,21 @@ pub record AlsoMarks (ms : List ℕ) (old new : List ℕ) : Type 0 where
   pub added : (n : ℕ) → IsAmong ms n → has_mark new n ≡ true
   pub only : (n : ℕ) → has_mark new n ≡ true → (has_mark old n ≡ true) ⊎ IsAmong ms n
 
--- those among ms were marked too; `news` says whether one at or above `from` was not marked before
-pub record MarksNews (ms : List ℕ) (from : ℕ) (old new : List ℕ) (news : Bool) : Type 0 where
+-- the mark of one place was taken away
+pub record Unmarks (place : ℕ) (old new : List ℕ) : Type 0 where
+  pub room : length new ≡ length old
+  pub gone : has_mark new place ≡ false
+  pub others : (n : ℕ) → (n ≡ place → ⊥) → has_mark new n ≡ has_mark old n
+
+-- those among ms were marked in a row, and in another row those of them that were not marked before; at or above `end'` nothing was
+pub record Opens (ms : List ℕ) (end : ℕ) (old fresh new fresh' : List ℕ) (end' : ℕ) : Type 0 where
   pub marked : AlsoMarks ms old new
-  pub fresh : news ≡ true → (n : ℕ) × IsAmong ms n × (has_mark old n ≡ false)
-  pub stale : news ≡ false → (n : ℕ) → from ≤ n → has_mark new n ≡ true → has_mark old n ≡ true
+  pub room : length fresh' ≡ length fresh
+  pub opened : (n : ℕ) → has_mark new n ≡ true → (has_mark old n ≡ true) ⊎ (has_mark fresh' n ≡ true)
+  pub kept : (n : ℕ) → has_mark fresh n ≡ true → has_mark fresh' n ≡ true
+  pub only : (n : ℕ) → has_mark fresh' n ≡ true → (has_mark fresh n ≡ true) ⊎ ((has_mark old n ≡ false) × IsAmong ms n)
+  pub rises : end ≤ end'
+  pub above : (n : ℕ) → end' ≤ n → has_mark fresh' n ≡ true → has_mark fresh n ≡ true
 
 -- where a move leads by a byte
 abbrev pub byte_ways : {S : Type 0} → Move S → ℕ → List S
@@ -46,14 +56,6 @@ byte_ways (go e t) b = []
 -- n is reached from m without a byte
 abbrev pub IsReachedQuietly : List MNode → ℕ → ℕ → Type 0
 IsReachedQuietly nodes m n = (ks : List (Step ℕ)) × Walk (node_moves nodes) m ks n × (bytes_of (code_of ks) ≡ [])
-
--- one pass has spread the marks along steps without a byte; unless it is to be done again, along all of them
-pub record Spread (nodes : List MNode) (old new : List ℕ) (again : Bool) : Type 0 where
-  pub room : length new ≡ length old
-  pub kept : (n : ℕ) → has_mark old n ≡ true → has_mark new n ≡ true
-  pub real : (n : ℕ) → has_mark new n ≡ true → (m : ℕ) × (has_mark old m ≡ true) × IsReachedQuietly nodes m n
-  pub closed : again ≡ false → (n m : ℕ) → has_mark new n ≡ true → IsAmong (quiet (node_moves nodes n)) m → has_mark new m ≡ true
-  pub more : again ≡ true → (n : ℕ) × (n < length nodes) × (has_mark old n ≡ false) × (has_mark new n ≡ true)
 
 -- what is reached without a byte from the places that were marked is marked
 pub record IsClosureOf (nodes : List MNode) (old new : List ℕ) : Type 0 where

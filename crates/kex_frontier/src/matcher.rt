@@ -5,7 +5,7 @@ ghost use Rattle.kex_code.specs.Codes.{IsAmong};
 ghost use Rattle.kex_model.specs.Moves.{accept, quiet};
 ghost use Rattle.kex_machine.specs.Nodes.{Graph, StaysWithin, MoveBelow, move_of, node_moves};
 ghost use Rattle.kex_machine.specs.Answers.{HasParse};
-ghost use Rattle.kex_frontier.specs.Rows.{AlsoMarks, MarksNews, byte_ways, has_mark, IsClosureOf, IsRow, Spread};
+ghost use Rattle.kex_frontier.specs.Rows.{AlsoMarks, Opens, byte_ways, has_mark, IsClosureOf, IsRow};
 ghost use Rattle.kex_frontier.specs.Matchers.{IsAnswer, WasFed};
 
 use crate::row::Row;
@@ -32,59 +32,62 @@ fn node_at(nodes: &[MNode], n: usize) -> &MNode
     &nodes[n]
 }
 
-// Marks a place. Tells whether that is news at or above `from`.
-fn mark_way(row: &mut Row, place: u32, from: usize) -> bool
-    requires { place / 64 < length row.old }
-    ensures { MarksNews (place ∷ []) from row.old row.new result }
+// Marks a place; one that wasn't marked is fresh too. Gives the end, or what is past the place if that is more.
+fn mark_way(row: &mut Row, fresh: &mut Row, place: u32, end: usize, count: usize) -> usize
+    requires row { count / 64 < length row.old }
+    requires fresh { count / 64 < length fresh.old }
+    requires within { place < count }
+    requires end { end ≤ count }
+    ensures opens { Opens (place ∷ []) end row.old fresh.old row.new fresh.new result }
+    ensures within { result ≤ count }
 {
-    let known = row.mark(place as usize);
-    !known && from <= place as usize
+    if row.mark(place as usize) {
+        return end;
+    }
+    fresh.mark(place as usize);
+    if end <= place as usize {
+        return place as usize + 1;
+    }
+    end
 }
 
-// Marks where a node leads without a byte. Tells whether some of it is news at or above `from`.
-fn mark_ways(row: &mut Row, node: &MNode, from: usize, count: usize) -> bool
-    requires room { count / 64 < length row.old }
+// Marks where a node leads without a byte, and what of that wasn't marked is fresh. No place from the end on that is given is fresh
+// by that.
+fn mark_ways(row: &mut Row, fresh: &mut Row, node: &MNode, end: usize, count: usize) -> usize
+    requires row { count / 64 < length row.old }
+    requires fresh { count / 64 < length fresh.old }
     requires within { MoveBelow count (move_of (Some node.now)) }
-    ensures { MarksNews (quiet (move_of (Some node.now))) from row.old row.new result }
+    requires end { end ≤ count }
+    ensures opens { Opens (quiet (move_of (Some node.now))) end row.old fresh.old row.new fresh.new result }
+    ensures within { result ≤ count }
 {
     match node {
-        MNode::Accept | MNode::Read(_, _) => false,
+        MNode::Accept | MNode::Read(_, _) => end,
         MNode::Choice(left, right) => {
-            let right = mark_way(row, *right, from);
-            let left = mark_way(row, *left, from);
-            left || right
+            let middle = mark_way(row, fresh, *right, end, count);
+            mark_way(row, fresh, *left, middle, count)
         }
         MNode::Forced(_, next) | MNode::Do(_, next) | MNode::Skip(next) => {
-            mark_way(row, *next, from)
+            mark_way(row, fresh, *next, end, count)
         }
     }
 }
 
-// Spreads the marks along the steps without a byte, in one pass from the highest place down. Tells whether a place that
-// was passed was marked, so that it is to be done again: never where such steps lead to lower places.
-fn sweep(nodes: &[MNode], row: &mut Row) -> bool
-    requires room { length nodes.now / 64 < length row.old }
+// Marks what is reached without a byte from the places that are marked. Each of these is gone through once, whatever loops there
+// are: those that still have to be stand in the second row, which is only room.
+fn close(nodes: &[MNode], row: &mut Row, fresh: &mut Row)
+    requires row { length nodes.now / 64 < length row.old }
+    requires fresh { length fresh.old ≡ length row.old }
     requires within { StaysWithin nodes.now }
-    ensures { Spread nodes.now row.old row.new result }
+    ensures closure { IsClosureOf nodes.now row.old row.new }
+    ensures room { length fresh.new ≡ length fresh.old }
 {
-    let mut again = false;
-    let mut left = nodes.len();
-    'places: while let Some(n) = row.highest_below(left) {
-        if mark_ways(row, node_at(nodes, n), n, nodes.len()) {
-            again = true;
-        }
-        left = n;
+    fresh.copy_from(row);
+    let mut end = nodes.len();
+    'places: while let Some(n) = fresh.highest_below(end) {
+        fresh.unmark(n);
+        end = mark_ways(row, fresh, node_at(nodes, n), n, nodes.len());
     }
-    again
-}
-
-// Marks what is reached without a byte from the places that are marked.
-fn close(nodes: &[MNode], row: &mut Row)
-    requires room { length nodes.now / 64 < length row.old }
-    requires within { StaysWithin nodes.now }
-    ensures { IsClosureOf nodes.now row.old row.new }
-{
-    'passes: while sweep(nodes, row) {}
 }
 
 // Marks where a node leads by a byte.
@@ -100,13 +103,14 @@ fn enter(row: &mut Row, node: &MNode, byte: u8, count: usize)
     }
 }
 
-// The places that are reached with one byte more.
-fn step(nodes: &[MNode], byte: u8, now: &Row, next: &mut Row)
-    requires now { length nodes.now / 64 < length now.now }
-    requires next { length nodes.now / 64 < length next.old }
+// The places that are reached with one byte more. The row of those before is only room then.
+fn step(nodes: &[MNode], byte: u8, now: &mut Row, next: &mut Row)
+    requires now { length nodes.now / 64 < length now.old }
+    requires next { length next.old ≡ length now.old }
     requires within { StaysWithin nodes.now }
-    ensures room { length next.new ≡ length next.old }
-    ensures row { (g : Graph) (w : List ℕ) → g.nodes ≡ nodes.now → g.start < length nodes.now → IsRow g w now.now → IsRow g (w ++ byte ∷ []) next.new }
+    ensures now { length now.new ≡ length now.old }
+    ensures next { length next.new ≡ length next.old }
+    ensures row { (g : Graph) (w : List ℕ) → g.nodes ≡ nodes.now → g.start < length nodes.now → IsRow g w now.old → IsRow g (w ++ byte ∷ []) next.new }
 {
     next.clear();
     let mut left = nodes.len();
@@ -114,7 +118,7 @@ fn step(nodes: &[MNode], byte: u8, now: &Row, next: &mut Row)
         enter(next, node_at(nodes, n), byte, nodes.len());
         left = n;
     }
-    close(nodes, next);
+    close(nodes, next, now);
 }
 
 // Whether a marked place is the end.
@@ -146,14 +150,14 @@ pub struct Matcher<'m> {
 }
 
 impl<'m> Model for Matcher<'m> {
-    ghost use Rattle.std.specs.Prelude.{◌<◌, ◌/◌, length};
+    ghost use Rattle.std.specs.Prelude.{◌≡◌, ◌<◌, ◌/◌, length};
     ghost use Rattle.kex_frontier.specs.Matchers.{Match};
 
     ghost Value = { Match };
 
     ghost view = { λ m. record { machine = m.machine.now; row = m.row; good = m.good; dead = m.dead } };
 
-    ghost invariant = { λ m. (length m.machine.now.nodes / 64 < length m.row) × (length m.machine.now.nodes / 64 < length m.spare) };
+    ghost invariant = { λ m. (length m.machine.now.nodes / 64 < length m.row) × (length m.spare ≡ length m.row) };
 }
 
 impl<'m> Matcher<'m> {
@@ -165,9 +169,9 @@ impl<'m> Matcher<'m> {
     {
         let nodes = machine.nodes();
         let mut row = Row::new(alloc, nodes.len())?;
-        let spare = Row::new(alloc, nodes.len())?;
+        let mut spare = Row::new(alloc, nodes.len())?;
         row.mark(machine.start() as usize);
-        close(nodes, &mut row);
+        close(nodes, &mut row, &mut spare);
         Ok(Matcher {
             machine,
             row,
@@ -188,7 +192,7 @@ impl<'m> Matcher<'m> {
         if self.dead {
             return;
         }
-        step(nodes, byte, &self.row, &mut self.spare);
+        step(nodes, byte, &mut self.row, &mut self.spare);
         mem::swap(&mut self.row, &mut self.spare);
         if self.row.highest_below(nodes.len()).is_none() {
             self.dead = true;

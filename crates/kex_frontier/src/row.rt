@@ -1,7 +1,7 @@
 // Rows of bits, one a place.
 
-ghost use Rattle.std.specs.Prelude.{◌≡◌, ℕ, ◌<◌, ◌*◌, ◌/◌, ◌∷◌, [], length, IfOk, IfSome, IfNone, false};
-ghost use Rattle.kex_frontier.specs.Rows.{AlsoMarks, has_mark, IsHighestBelow, IsTop};
+ghost use Rattle.std.specs.Prelude.{◌≡◌, ℕ, ◌<◌, ◌+◌, ◌*◌, ◌/◌, ◌∷◌, [], length, IfOk, IfSome, IfNone, false};
+ghost use Rattle.kex_frontier.specs.Rows.{AlsoMarks, Unmarks, has_mark, IsHighestBelow, IsTop};
 
 use kex_code::memory::Memory;
 use std::alloc::Global;
@@ -32,7 +32,7 @@ fn top_of(word: u64) -> usize
 impl Row {
     /// A row with room for this many places and at least one more, none of them marked.
     pub fn new(alloc: Global, count: usize) -> Result<Row, Memory>
-        ensures room { IfOk result (λ r. count / 64 < length r) }
+        ensures room { IfOk result (λ r. length r ≡ count / 64 + 1) }
         ensures none { IfOk result (λ r. (n : ℕ) → has_mark r n ≡ false) }
     {
         let words = vec![in alloc; 0; count / 64 + 1]?;
@@ -56,6 +56,22 @@ impl Row {
         let known = self.words[place / 64] >> (place % 64) & 1 == 1;
         self.words[place / 64] |= 1 << (place % 64);
         known
+    }
+
+    /// Takes a place's mark away.
+    pub fn unmark(&mut self, place: usize)
+        requires { place / 64 < length self.old }
+        ensures { Unmarks place self.old self.new }
+    {
+        self.words[place / 64] &= !(1 << (place % 64));
+    }
+
+    /// The same marks as those of another row.
+    pub fn copy_from(&mut self, other: &Row)
+        requires { length self.old ≡ length other.now }
+        ensures { self.new ≡ other.now }
+    {
+        self.words.copy_from_slice(&other.words);
     }
 
     /// The highest place below `end` that is marked.

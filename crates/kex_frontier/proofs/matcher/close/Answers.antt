@@ -1,15 +1,26 @@
-use Rattle.std.proofs.Common.{length, subst}
-use Rattle.kex_frontier.specs.Rows.{Spread}
-use Rattle.kex_frontier.proofs.Closures.{close_on, close_ends, unmarked_fewer}
+use Rattle.std.proofs.Common.{subst, sym}
+use Rattle.kex_model.specs.Moves.{quiet}
+use Rattle.kex_machine.specs.Nodes.{node_moves}
+use Rattle.kex_frontier.specs.Rows.{IsHighestBelow, Opens}
+use Rattle.kex_frontier.proofs.Closures.{going_on, going_less, going_ends}
 use Rattle.kex_frontier.proofs.matcher.close.Goals as goal
+use Rattle.kex_frontier.proofs.matcher.close.Goals.{After-mark_ways-end}
 
-pub passes-smaller : goal.passes-smaller
-passes-smaller c =
-    let (n, below, old, new) = c.sweep.ensures.more c.passes-test.true in
-    unmarked_fewer c.passes.row c.sweep.new.row c.sweep.ensures.kept (length c.args.nodes.now) n below old new
+top : (c : After-mark_ways-end) → IsHighestBelow c.places.fresh c.places.end c.in-Some.n
+top c = (c.in-Some.ensures {u = tt}).some
 
-pub passes-preserved : goal.passes-preserved
-passes-preserved c = close_on c.args.nodes.now c.args.row.now c.passes.row c.sweep.new.row c.sweep.result c.passes.invariant c.sweep.ensures
+opened : (c : After-mark_ways-end) → Opens (quiet (node_moves c.args.nodes.now c.in-Some.n)) c.in-Some.n c.places.row c.unmark.new.self c.mark_ways-end.new.row c.mark_ways-end.new.fresh c.mark_ways-end.result
+opened c = subst (λ z. Opens (quiet z) c.in-Some.n c.places.row c.unmark.new.self c.mark_ways-end.new.row c.mark_ways-end.new.fresh c.mark_ways-end.result) (sym c.node_at.ensures) c.mark_ways-end.ensures.opens
 
-pub returns : goal.returns
-returns c = close_ends c.args.nodes.now c.args.row.now c.passes.row c.sweep.new.row c.passes.invariant (subst (λ z. Spread c.args.nodes.now c.passes.row c.sweep.new.row z) c.passes-test.false c.sweep.ensures)
+pub places-smaller : goal.places-smaller
+places-smaller c =
+    let at = (goal.at.places-smaller c).After-mark_ways-end in
+    going_less c.args.nodes.now c.args.row.now c.places.row c.places.fresh c.unmark.new.self c.mark_ways-end.new.row c.mark_ways-end.new.fresh c.places.end c.in-Some.n c.mark_ways-end.result c.places.invariant (top at) c.unmark.ensures (opened at)
+
+pub places-preserved : goal.places-preserved
+places-preserved c =
+    let at = (goal.at.places-preserved c).After-mark_ways-end in
+    going_on c.args.nodes.now c.args.row.now c.places.row c.places.fresh c.unmark.new.self c.mark_ways-end.new.row c.mark_ways-end.new.fresh c.places.end c.in-Some.n c.mark_ways-end.result c.places.invariant (top at) c.unmark.ensures (opened at) c.mark_ways-end.ensures.within
+
+pub returns-clause-closure : goal.returns-clause-closure
+returns-clause-closure c = going_ends c.args.nodes.now c.args.row.now c.places.row c.places.fresh c.places.end c.places.invariant (c.in_default.ensures {u = tt}).none

@@ -1,9 +1,9 @@
 use Rattle.std.proofs.Common.{length}
-use Rattle.kex_frontier.proofs.Closures.{Closing, unmarked}
+use Rattle.kex_frontier.proofs.Closures.{Going, left_over}
 use Rattle.kex_frontier.proofs.matcher.close.Given as goal
 
-abbrev pub invariant-passes : goal.invariant-passes
-invariant-passes l = Closing l.nodes l.fn.row l.row
+abbrev pub invariant-places : goal.invariant-places
+invariant-places l = Going l.nodes l.fn.row l.row l.fresh l.end
 
-abbrev pub decreases-passes : goal.decreases-passes
-decreases-passes l = unmarked l.row (length l.nodes)
+abbrev pub decreases-places : goal.decreases-places
+decreases-places l = left_over l.row l.fresh (length l.nodes)

@@ -17,4 +17,4 @@ returns-clause-row c = λ g w same start row.
     row_more g c.args.byte w c.args.now.now c.clear.new.self c.places.next c.close.new.row c.places.left row
     (subst (λ z. Entering z c.args.byte c.args.now.now c.clear.new.self c.places.next c.places.left) (sym same) c.places.invariant.so_far)
     (c.in_default.ensures {u = tt}).none
-    (subst (λ z. IsClosureOf z c.places.next c.close.new.row) (sym same) c.close.ensures)
+    (subst (λ z. IsClosureOf z c.places.next c.close.new.row) (sym same) c.close.ensures.closure)

@@ -11,5 +11,5 @@ returns-clause-begins c =
     let m : Match = record { machine = g; row = c.close.new.row; good = 0; dead = false } in
     let row = row_starts g c.in_ok-row.row c.mark.new.self c.close.new.row (c.in_ok-row.ensures {u = tt}).none
     (subst (λ z. AlsoMarks (z ∷ []) c.in_ok-row.row c.mark.new.self) c.start.ensures c.mark.ensures.marked)
-    (subst (λ z. IsClosureOf z c.mark.new.self c.close.new.row) c.nodes-nodes.ensures.same c.close.ensures) in
+    (subst (λ z. IsClosureOf z c.mark.new.self c.close.new.row) c.nodes-nodes.ensures.same c.close.ensures.closure) in
     fed_nothing m (is_trim g c.nodes-nodes.ensures.trimmed) row refl refl
