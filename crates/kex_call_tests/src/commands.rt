@@ -17,6 +17,12 @@ act p # main := "1" /ac/ | "2" /ab/ # 1'61'63 # 2a # 1 rejected: stage 1 at byte
 act p # main := "1" /ac/ | "2" /ab/ # 1'6g # 2 # 1 rejected: stage 1 at byte 3
 act p # main := "1" /ac/ | "2" /ab/ # 1'61 # 2a # 1 rejected: stage 1 at byte 4 (end)
 act p # main := "1" /ac/ | "2" /ab/ # 1'7 # 2 # 1 rejected: stage 1 at byte 3 (end)
+code p # main := (/a?/ (1 | /b/))* # ab # 00'611'621 # 0
+code p # main := (/a*/)* # aa # 00'610'6111 # 0
+act p # main := ("x" | /a/)* # 001 # x # 0
+act p # main := (/a*/)* # 01011 #  # 0
+test p # main := ((1 | 1)* /a?/)* # aa #  # 0
+test p # main := ((1 | 1)* /a?/)* # ab #  # 1 rejected: stage 1 at byte 1
 test p # main := /ab*c/ # abbc #  # 0
 test p # main := /ab*c/ # abx #  # 1 rejected: stage 1 at byte 2
 test p # main := /ab*c/ # ab #  # 1 rejected: stage 1 at byte 2 (end)
@@ -45,6 +51,8 @@ check p --states 4 # main := /a{3}/ # a # stages 1 places 8 states 4$ # 0
 check p --states 3 # main := /a{3}/ # a #  # 3 refused: K15 TooManyStates in stage 1
 run p --states 3 # main := /a{3}/ # a #  # 3 refused: K15 TooManyStates in stage 1
 run p # main := /a/ main /b/ | 1 # a #  # 3 refused: K10 NotTail at line 1 column 13
+run p # main := main # a #  # 3 refused: K13 NoText in stage 1
+check p # main := (/a*/)* # a # stages 1 places 4 states 1$ # 0
 check p # start: b >> a a := /a/ a b := /b*/ # a #  # 3 refused: K13 NoText in stage 2
 run p #  # a #  # 3 refused: K09 NoStart
 run # main := /a*/ # a #  # 2 usage: kex run|check|code|act|test PROGRAM [--states N] [--max-input N] [--block N] [--rings N] | kex trial N [--block N] [--rings N]

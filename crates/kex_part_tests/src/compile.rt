@@ -40,10 +40,8 @@ main := /a/ main /b/ | 1 => the call at byte 12 comes back outside tail position
 main := (/a/ main)? 1 => the call at byte 13 comes back outside tail position
 main := /(a{200}){200}/ => stage 1 has too many places
 main := foo foo := /(a{216}){151}/ => stage 1 has too many places
-main := (/a*/)* => a loop of stage 1 reads nothing
-main := main => a loop of stage 1 reads nothing
+main := main => no text has a parse by stage 1
 main := /a/ main => no text has a parse by stage 1
-start: a >> b a := /a/ a b := (/b*/)* => a loop of stage 2 reads nothing
 "#;
 
 #[test]
