@@ -1,4 +1,4 @@
--- A stage's answer over a machine's nodes: a parse is a run to the end, and it means what its steps do.
+-- A stage's answer over a machine's nodes: a tree is a run to the end, and it means what its steps do. A text that has a run has a parse.
 use Rattle.std.specs.Prelude.{◌≡◌, ℕ, Bool, List, [], replicate}
 use Rattle.kex_code.specs.declared.symbol.Symbol.{Symbol}
 use Rattle.kex_code.specs.Codes.{bytes_of, Begins, AtMost}

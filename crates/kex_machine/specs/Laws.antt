@@ -2,15 +2,19 @@
 use Rattle.std.specs.Prelude.{◌≡◌, ℕ, ◌<◌, Bool, false, List, ◌++◌, None, IsSome, is_none, ◌&&◌, length}
 use Rattle.kex_code.specs.declared.symbol.Symbol.{Symbol}
 use Rattle.kex_code.specs.Codes.{Begins}
-use Rattle.kex_model.specs.Moves.{Step, code_of}
-use Rattle.kex_model.specs.Survivors.{IsPath, Agreed, Greedy}
+use Rattle.kex_model.specs.Moves.{accept, Step, code_of}
+use Rattle.kex_model.specs.Survivors.{IsPath, Reaches, Agreed, Greedy}
 use Rattle.kex_model.specs.Answers.{Answer}
 use Rattle.kex_machine.specs.Nodes.{Graph, node_moves}
-use Rattle.kex_machine.specs.Answers.{IsRun, left_by, Viable, Says, Means, StageAnswers}
+use Rattle.kex_machine.specs.Answers.{IsRun, HasParse, left_by, Viable, Says, Means, StageAnswers}
 
 -- of two paths on one text neither code is a proper prefix of the other, and equal codes are of equal paths
 abbrev pub OnePath : Graph → Type 0
 OnePath g = (w : List ℕ) (p q : ℕ) (js ks : List (Step ℕ)) → IsPath (node_moves g.nodes) g.start w p js → IsPath (node_moves g.nodes) g.start w q ks → Begins (code_of ks) (code_of js) → js ≡ ks
+
+-- a text that has a run to the end has a path to it, which is then a parse
+abbrev pub RunsHavePaths : Graph → Type 0
+RunsHavePaths g = (w : List ℕ) → HasParse g w → (e : ℕ) × (c : List Symbol) × (node_moves g.nodes e ≡ accept) × Reaches (node_moves g.nodes) g.start w e c
 
 -- all runs whose codes begin with c leave the same when they are followed so far
 abbrev pub OneLeft : Graph → Type 0

@@ -2,11 +2,16 @@
 
 ghost use Rattle.std.specs.Prelude.{ℕ, List};
 ghost use Rattle.kex_machine.specs.Nodes.{Graph};
-ghost use Rattle.kex_machine.specs.Laws.{AnswersStand, Grows, OneLeft, OnePath};
+ghost use Rattle.kex_machine.specs.Laws.{AnswersStand, Grows, OneLeft, OnePath, RunsHavePaths};
 
 /// Of two paths on one text neither code is a proper prefix of the other, and equal codes are of equal paths.
 pub fn one_path()
     ensures { (g : Graph) → OnePath g }
+{}
+
+/// A text that has a run to the end has a path to it.
+pub fn runs_have_paths()
+    ensures { (g : Graph) → RunsHavePaths g }
 {}
 
 /// What a run leaves with a list of symbols doesn't depend on the run.

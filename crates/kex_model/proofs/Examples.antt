@@ -10,7 +10,7 @@ use Rattle.kex_model.specs.Places.{Place, moves, start_of, steps_of}
 use Rattle.kex_model.specs.Survivors.{Agreed, HasTree}
 use Rattle.kex_model.specs.Answers.{stopped_answer, code_at, HasParse, GreedyParse, Says, Viable, at_byte, bad_byte, too_long, cut_off, whole, still_open}
 use Rattle.kex_model.specs.Laws.{StageAnswers}
-use Rattle.kex_model.specs.Worked.{late, late_tree, ChoiceIsLate, twice, twice_left, twice_right, LeftIsGreedy, RegistersSwap, doubling, RegisterDoubles, MuteKeepsRegisters, RegisterIsWholeOrAsItWas, counted_loop, counted_turn, TurnsAreCounted, muted_twice, EndsAreOfNodes, breaks, breaks_tree, TextsBreakOff, stars, LimitStops, ShapeForks, two_stages, LastStopIsReported}
+use Rattle.kex_model.specs.Worked.{late, late_tree, ChoiceIsLate, twice, twice_left, twice_right, LeftIsGreedy, RegistersSwap, doubling, RegisterDoubles, MuteKeepsRegisters, RegisterIsWholeOrAsItWas, counted_loop, counted_turn, TurnsAreCounted, muted_twice, EndsAreOfNodes, breaks, breaks_tree, TextsBreakOff, stars, LimitStops, ShapeForks, two_stages, LastStopIsReported, loops, EmptyTurnsAreNoParses}
 use Rattle.kex_model.proofs.Shapes.{tree_agrees}
 use Rattle.kex_model.proofs.AllPaths.{each_leads, leads_to_end, a_survivor, has_tree, not_viable, of_parse, longest_good, differ, once}
 use Rattle.kex_model.proofs.Correspondence.{parse_once}
@@ -383,4 +383,17 @@ last_stop_is_reported = record {
     (stopped_answer (121 ∷ []) 1 at_byte, None, bad_byte (121 ∷ []) (not_viable two_stages 14 40 yyyy refl) (longest_good two_stages 14 (121 ∷ []) 121 (121 ∷ 121 ∷ []) y_is_agreed.viable yy_dead) y_says, (refl, refl), refl),
     refl,
   );
+}
+
+-- a loop that reads nothing
+
+pub empty_turns_are_no_parses : EmptyTurnsAreNoParses
+empty_turns_are_no_parses = record {
+  tree = record { tree = again tt (alt_left lit) end; text = refl };
+  code = refl;
+  written = refl;
+  no_parse = λ h. h.path.once.1.1.0 (inr (inr (inl refl)));
+  parse = parse_once loops 3 [] done (record { tree = end; text = refl }) (once (start_of loops 3 ∷ []) (steps_of loops 3 (kind_at loops 3) done []) refl);
+  parse_code = refl;
+  nothing = refl;
 }

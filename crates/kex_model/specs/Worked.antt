@@ -12,7 +12,7 @@ use Rattle.kex_model.specs.Labelled.{place, parts}
 use Rattle.kex_model.specs.Trees.{Tree, leaf, byte, pair, chose_left, chose_right, inner, turn, done, Parses, kind_at, meaning, part}
 use Rattle.kex_model.specs.Places.{moves, start_of}
 use Rattle.kex_model.specs.Survivors.{Agreed, HasShape}
-use Rattle.kex_model.specs.Answers.{empty, code_at, HasParse, GreedyParse, Means, Says, at_byte, at_end, at_limit, stopped_answer}
+use Rattle.kex_model.specs.Answers.{empty, code_at, IsParse, HasParse, GreedyParse, Means, Says, at_byte, at_end, at_limit, stopped_answer}
 use Rattle.kex_model.specs.Laws.{StageAnswers, StagesAnswer}
 
 -- the set of these bytes
@@ -180,3 +180,20 @@ two_stages = grammar 0 (Class (set_of (120 ∷ [])) ∷ Mute 0 ∷ Lit (121 ∷ 
 pub record LastStopIsReported : Type 0 where
   pub first_stops : StagesAnswer two_stages 99 (4 ∷ 13 ∷ []) (120 ∷ 120 ∷ 113 ∷ []) true (122 ∷ []) (Some (record { stage = 1; stop = record { at = 2; why = at_byte } }))
   pub both_stop : StagesAnswer two_stages 99 (4 ∷ 14 ∷ []) (120 ∷ 120 ∷ 113 ∷ []) true (121 ∷ []) (Some (record { stage = 2; stop = record { at = 1; why = at_byte } }))
+
+-- main := ("x" | /a/)*
+abbrev pub loops : Grammar
+loops = grammar 0 (Lit (120 ∷ []) ∷ Class (set_of (97 ∷ [])) ∷ Alt 0 1 ∷ Rep 2 0 None ∷ [])
+
+abbrev pub empty_turn : Tree
+empty_turn = turn (chose_left leaf) done
+
+-- a turn that reads nothing comes back to where it began: it has a code and a meaning, and is no parse; the parse of the empty text has no turn, and writes nothing
+pub record EmptyTurnsAreNoParses : Type 0 where
+  pub tree : Parses loops 3 empty_turn []
+  pub code : code_at loops 3 empty_turn ≡ L ∷ L ∷ R ∷ []
+  pub written : meant_bytes loops 3 empty_turn ≡ 120 ∷ []
+  pub no_parse : IsParse loops 3 empty_turn [] → ⊥
+  pub parse : IsParse loops 3 done []
+  pub parse_code : code_at loops 3 done ≡ R ∷ []
+  pub nothing : meant_bytes loops 3 done ≡ []

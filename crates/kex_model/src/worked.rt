@@ -1,6 +1,6 @@
 // Worked examples of the definitions. Each function's contract is one.
 
-ghost use Rattle.kex_model.specs.Worked.{ChoiceIsLate, EndsAreOfNodes, LastStopIsReported, LeftIsGreedy, LimitStops, MuteKeepsRegisters, RegisterDoubles, RegisterIsWholeOrAsItWas, RegistersSwap, ShapeForks, TextsBreakOff, TurnsAreCounted};
+ghost use Rattle.kex_model.specs.Worked.{ChoiceIsLate, EmptyTurnsAreNoParses, EndsAreOfNodes, LastStopIsReported, LeftIsGreedy, LimitStops, MuteKeepsRegisters, RegisterDoubles, RegisterIsWholeOrAsItWas, RegistersSwap, ShapeForks, TextsBreakOff, TurnsAreCounted};
 
 /// A choice between parses is made where the texts part, and nothing is said before.
 pub fn choice_is_late()
@@ -28,6 +28,11 @@ pub fn turns_are_counted()
 /// The ends of two groups of one body are two places.
 pub fn ends_are_of_nodes()
     ensures { EndsAreOfNodes }
+{}
+
+/// A turn that reads nothing belongs to trees and to no parse.
+pub fn empty_turns_are_no_parses()
+    ensures { EmptyTurnsAreNoParses }
 {}
 
 /// A text that is open, rejected, cut off or whole.
