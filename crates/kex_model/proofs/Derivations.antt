@@ -1,5 +1,5 @@
 -- Trees and walks: each is read off the other.
-use Rattle.std.proofs.Common.{◌≡◌, ℕ, zero, suc, ◌≤◌, Bool, false, List, [], ◌∷◌, ◌++◌, ◌⊎◌, inl, inr, ⊎_elim, length, Option, Some, None, IsTrue, get_or, refl, sym, ap, ap₂, ◌∙◌, append_assoc, append-nil, length-append, arith}
+use Rattle.std.proofs.Common.{◌≡◌, ℕ, zero, suc, ◌≤◌, Bool, true, false, List, [], ◌∷◌, ◌++◌, ◌⊎◌, inl, inr, ⊎_elim, length, Option, Some, None, IsTrue, get_or, refl, sym, ap, ap₂, ◌∙◌, append_assoc, append-nil, length-append, arith}
 use Rattle.std.proofs.lemmas.List.{append_cancel_left}
 use Rattle.kex_model.specs.Programs.{Grammar}
 use Rattle.kex_model.specs.declared.program.Kind.{Kind}
@@ -7,7 +7,7 @@ use Rattle.kex_model.specs.declared.program.Kind.TheVariants.{One, Lit, Class, C
 use Rattle.kex_code.specs.declared.symbol.Symbol.{Symbol}
 use Rattle.kex_code.specs.declared.symbol.Symbol.TheVariants.{L, R}
 use Rattle.kex_code.specs.Codes.{bytes_of}
-use Rattle.kex_model.specs.Moves.{Move, accept, read, choose, go, Effect, drop_buffer, into, Step, to_left, to_right, took, chose, went, Allows, reads, goes_left, goes_right, goes, target_of, symbols_of, code_of, Walk}
+use Rattle.kex_model.specs.Moves.{Move, accept, read, choose, go, Effect, drop_buffer, into, Step, Side, to_left, to_right, symbol_of, turn_side, end_side, turn_or_end, took, chose, went, Allows, reads, goes_left, goes_right, goes, target_of, symbols_of, code_of, Walk}
 use Rattle.kex_model.specs.declared.frame.Frame.TheVariants.{Pending, EndOf}
 use Rattle.kex_model.specs.declared.frame.Frame.{Frame}
 use Rattle.kex_model.specs.Places.{Place, fresh, enter, with_counts, moves_of, end_effect, moves, steps_of}
@@ -17,6 +17,26 @@ use Rattle.kex_model.proofs.Walks.{bytes_of-append}
 -- by plain variables, since `cc` reads all that a term computes to
 pub tails : {A : Type 0} (x y : A) (xs ys : List A) → x ∷ xs ≡ y ∷ ys → xs ≡ ys
 tails x y xs ys e = cc
+
+heads : {A : Type 0} (x y : A) (xs ys : List A) → x ∷ xs ≡ y ∷ ys → x ≡ y
+heads x y xs ys e = cc
+
+-- a repetition's turn and its end lie on different sides
+pub sides_differ : (lazy : Bool) → symbol_of (turn_side lazy) ≡ symbol_of (end_side lazy) → ⊥
+sides_differ false e = cc
+sides_differ true e = cc
+
+turns : {S : Type 0} (lazy : Bool) (t e : S) → Allows (turn_or_end lazy t e) (chose (turn_side lazy) t)
+turns false t e = goes_left
+turns true t e = goes_right
+
+ends : {S : Type 0} (lazy : Bool) (t e : S) → Allows (turn_or_end lazy t e) (chose (end_side lazy) e)
+ends false t e = goes_right
+ends true t e = goes_left
+
+no_byte : (x : Side) (c : List Symbol) → bytes_of (symbol_of x ∷ c) ≡ bytes_of c
+no_byte to_left c = refl
+no_byte to_right c = refl
 
 pub code_of-append : {S : Type 0} (js ks : List (Step S)) → code_of (js ++ ks) ≡ code_of js ++ code_of ks
 code_of-append [] ks = refl
@@ -38,7 +58,7 @@ module _ (P : Grammar) where
   moves_fresh n (Call s) rest v = ap (λ k. moves_of P n k rest) (v 0 None)
   moves_fresh n (Seq l r) rest v = ap (λ k. moves_of P n k rest) (v 0 None)
   moves_fresh n (Alt l r) rest v = ap (λ k. moves_of P n k rest) (v 0 None)
-  moves_fresh n (Rep body min max) rest v = ap (λ k. moves_of P n k rest) (v min max)
+  moves_fresh n (Rep body min max lazy) rest v = ap (λ k. moves_of P n k rest) (v min max)
   moves_fresh n (Mute s) rest v = ap (λ k. moves_of P n k rest) (v 0 None)
   moves_fresh n (At r s) rest v = ap (λ k. moves_of P n k rest) (v 0 None)
   moves_fresh n (Write s) rest v = ap (λ k. moves_of P n k rest) (v 0 None)
@@ -48,8 +68,8 @@ module _ (P : Grammar) where
   pub itself : (n : ℕ) → IsVersion n (kind_at P n)
   itself n = λ need left. refl
 
-  counted : (n body min : ℕ) (max : Option ℕ) → IsVersion n (Rep body min max) → (need : ℕ) (left : Option ℕ) → IsVersion n (Rep body need left)
-  counted n body min max v need left = v
+  counted : (n body min : ℕ) (max : Option ℕ) (lazy : Bool) → IsVersion n (Rep body min max lazy) → (need : ℕ) (left : Option ℕ) → IsVersion n (Rep body need left lazy)
+  counted n body min max lazy v need left = v
 
   -- the first step from a node that is begun
   first : (n : ℕ) (k : Kind) (rest : Place) (j : Step Place) → IsVersion n k → Allows (moves_of P n k rest) j → Allows (moves P (fresh n k ∷ rest)) j
@@ -66,7 +86,7 @@ module _ (P : Grammar) where
       same_end (Call s) = refl
       same_end (Seq l r) = refl
       same_end (Alt l r) = refl
-      same_end (Rep body min max) = refl
+      same_end (Rep body min max lazy) = refl
       same_end (Mute s) = refl
       same_end (At r s) = refl
       same_end (Write s) = refl
@@ -85,13 +105,13 @@ module _ (P : Grammar) where
   tree_walk n rest v (seq {l = l} {r = r} a b) = (first n (Seq l r) rest _ v goes, walk-append (moves P) _ _ _ (enter P r ∷ rest) _ (tree_walk l (enter P r ∷ rest) (itself l) a) (tree_walk r rest (itself r) b))
   tree_walk n rest v (alt_left {l = l} {r = r} a) = (first n (Alt l r) rest _ v goes_left, tree_walk l rest (itself l) a)
   tree_walk n rest v (alt_right {l = l} {r = r} a) = (first n (Alt l r) rest _ v goes_right, tree_walk r rest (itself r) a)
-  tree_walk n rest v (needed {body = body} {min = min} {max = max} a b) = (first n (Rep body (suc min) max) rest _ v goes, walk-append (moves P) _ _ _ (Pending n min (less max) ∷ rest) _ (tree_walk body (Pending n min (less max) ∷ rest) (itself body) a) (tree_walk n rest (counted n body (suc min) max v min (less max)) b))
-  tree_walk n rest v (again {body = body} {max = None} i a b) = (first n (Rep body zero None) rest _ v goes_left, walk-append (moves P) _ _ _ (Pending n zero None ∷ rest) _ (tree_walk body (Pending n zero None ∷ rest) (itself body) a) (tree_walk n rest (counted n body zero None v zero None) b))
-  tree_walk n rest v (again {max = Some zero} i a b) = elim i [ ]
-  tree_walk n rest v (again {body = body} {max = Some (suc m)} i a b) = (first n (Rep body zero (Some (suc m))) rest _ v goes_left, walk-append (moves P) _ _ _ (Pending n zero (less (Some (suc m))) ∷ rest) _ (tree_walk body (Pending n zero (less (Some (suc m))) ∷ rest) (itself body) a) (tree_walk n rest (counted n body zero (Some (suc m)) v zero (less (Some (suc m)))) b))
-  tree_walk n rest v (end {body = body} {max = None}) = (first n (Rep body zero None) rest _ v goes_right, refl)
-  tree_walk n rest v (end {body = body} {max = Some zero}) = (first n (Rep body zero (Some zero)) rest _ v goes, refl)
-  tree_walk n rest v (end {body = body} {max = Some (suc m)}) = (first n (Rep body zero (Some (suc m))) rest _ v goes_right, refl)
+  tree_walk n rest v (needed {body = body} {min = min} {max = max} {lazy = lazy} a b) = (first n (Rep body (suc min) max lazy) rest _ v goes, walk-append (moves P) _ _ _ (Pending n min (less max) ∷ rest) _ (tree_walk body (Pending n min (less max) ∷ rest) (itself body) a) (tree_walk n rest (counted n body (suc min) max lazy v min (less max)) b))
+  tree_walk n rest v (again {body = body} {max = None} {lazy = lazy} i a b) = (first n (Rep body zero None lazy) rest _ v (turns lazy _ _), walk-append (moves P) _ _ _ (Pending n zero None ∷ rest) _ (tree_walk body (Pending n zero None ∷ rest) (itself body) a) (tree_walk n rest (counted n body zero None lazy v zero None) b))
+  tree_walk n rest v (again {max = Some zero} {lazy = lazy} i a b) = elim i [ ]
+  tree_walk n rest v (again {body = body} {max = Some (suc m)} {lazy = lazy} i a b) = (first n (Rep body zero (Some (suc m)) lazy) rest _ v (turns lazy _ _), walk-append (moves P) _ _ _ (Pending n zero (less (Some (suc m))) ∷ rest) _ (tree_walk body (Pending n zero (less (Some (suc m))) ∷ rest) (itself body) a) (tree_walk n rest (counted n body zero (Some (suc m)) lazy v zero (less (Some (suc m)))) b))
+  tree_walk n rest v (end {body = body} {max = None} {lazy = lazy}) = (first n (Rep body zero None lazy) rest _ v (ends lazy _ _), refl)
+  tree_walk n rest v (end {body = body} {max = Some zero} {lazy = lazy}) = (first n (Rep body zero (Some zero) lazy) rest _ v goes, refl)
+  tree_walk n rest v (end {body = body} {max = Some (suc m)} {lazy = lazy}) = (first n (Rep body zero (Some (suc m)) lazy) rest _ v (ends lazy _ _), refl)
   tree_walk n rest v (mute {n = m} a) = (first n (Mute m) rest _ v goes, walk-append (moves P) _ _ _ (EndOf n ∷ rest) _ (tree_walk m (EndOf n ∷ rest) (itself m) a) (end_step n (Mute m) rest v goes, refl))
   tree_walk n rest v (at_register {r = r} {n = m} a) = (first n (At r m) rest _ v goes, walk-append (moves P) _ _ _ (EndOf n ∷ rest) _ (tree_walk m (EndOf n ∷ rest) (itself m) a) (end_step n (At r m) rest v goes, refl))
   tree_walk n rest v (write_register {r = r}) = (first n (Write r) rest _ v goes, refl)
@@ -107,11 +127,11 @@ module _ (P : Grammar) where
   steps-code n rest (seq {l = l} {r = r} a b) = rw code_of-append (ap₂ (λ x y. x ++ y) (steps-code l (enter P r ∷ rest) a) (steps-code r rest b))
   steps-code n rest (alt_left {l = l} a) = ap (λ x. L ∷ x) (steps-code l rest a)
   steps-code n rest (alt_right {r = r} a) = ap (λ x. R ∷ x) (steps-code r rest a)
-  steps-code n rest (needed {body = body} {min = min} {max = max} a b) = rw code_of-append (ap₂ (λ x y. x ++ y) (steps-code body (Pending n min (less max) ∷ rest) a) (steps-code n rest b))
-  steps-code n rest (again {body = body} {max = max} i a b) = ap (λ x. L ∷ x) (rw code_of-append (ap₂ (λ x y. x ++ y) (steps-code body (Pending n zero (less max) ∷ rest) a) (steps-code n rest b)))
-  steps-code n rest (end {max = None}) = refl
-  steps-code n rest (end {max = Some zero}) = refl
-  steps-code n rest (end {max = Some (suc m)}) = refl
+  steps-code n rest (needed {body = body} {min = min} {max = max} {lazy = lazy} a b) = rw code_of-append (ap₂ (λ x y. x ++ y) (steps-code body (Pending n min (less max) ∷ rest) a) (steps-code n rest b))
+  steps-code n rest (again {body = body} {max = max} {lazy = lazy} i a b) = ap (λ x. symbol_of (turn_side lazy) ∷ x) (rw code_of-append (ap₂ (λ x y. x ++ y) (steps-code body (Pending n zero (less max) ∷ rest) a) (steps-code n rest b)))
+  steps-code n rest (end {max = None} {lazy = lazy}) = refl
+  steps-code n rest (end {max = Some zero} {lazy = lazy}) = refl
+  steps-code n rest (end {max = Some (suc m)} {lazy = lazy}) = refl
   steps-code n rest (mute {n = m} a) = rw (code_of-append, append-nil) (steps-code m (EndOf n ∷ rest) a)
   steps-code n rest (at_register {r = r} {n = m} a) = rw (code_of-append, append-nil) (steps-code m (EndOf n ∷ rest) a)
   steps-code n rest write_register = refl
@@ -127,11 +147,11 @@ module _ (P : Grammar) where
   code-bytes (seq a b) = rw bytes_of-append (ap₂ (λ x y. x ++ y) (code-bytes a) (code-bytes b))
   code-bytes (alt_left a) = code-bytes a
   code-bytes (alt_right a) = code-bytes a
-  code-bytes (needed {body = n} {min = min} {max = max} {a = s} {rest = t} a b) = bytes_of-append (code P (kind_at P n) s) (code P (Rep n min (less max)) t) ∙ ap₂ (λ x y. x ++ y) (code-bytes a) (code-bytes b)
-  code-bytes (again {body = n} {max = max} {a = s} {rest = t} i a b) = bytes_of-append (code P (kind_at P n) s) (code P (Rep n zero (less max)) t) ∙ ap₂ (λ x y. x ++ y) (code-bytes a) (code-bytes b)
-  code-bytes (end {max = None}) = refl
-  code-bytes (end {max = Some zero}) = refl
-  code-bytes (end {max = Some (suc m)}) = refl
+  code-bytes (needed {body = n} {min = min} {max = max} {lazy = lazy} {a = s} {rest = t} a b) = bytes_of-append (code P (kind_at P n) s) (code P (Rep n min (less max) lazy) t) ∙ ap₂ (λ x y. x ++ y) (code-bytes a) (code-bytes b)
+  code-bytes (again {body = n} {max = max} {lazy = lazy} {a = s} {rest = t} i a b) = no_byte (turn_side lazy) _ ∙ bytes_of-append (code P (kind_at P n) s) (code P (Rep n zero (less max) lazy) t) ∙ ap₂ (λ x y. x ++ y) (code-bytes a) (code-bytes b)
+  code-bytes (end {max = None} {lazy = lazy}) = no_byte (end_side lazy) []
+  code-bytes (end {max = Some zero} {lazy = lazy}) = refl
+  code-bytes (end {max = Some (suc m)} {lazy = lazy}) = no_byte (end_side lazy) []
   code-bytes (mute a) = code-bytes a
   code-bytes (at_register a) = code-bytes a
   code-bytes write_register = refl
@@ -152,20 +172,20 @@ module _ (P : Grammar) where
   same_tree x y (alt_left a) (alt_right b) e = cc
   same_tree x y (alt_right a) (alt_left b) e = cc
   same_tree x y (alt_right a) (alt_right b) e = let q = same_tree x y a b (cc) in (ap chose_right q.0, q.1)
-  same_tree x y (needed {body = n} {min = min} {max = max} {a = a} {rest = b} ta tb) (needed {a = a'} {rest = b'} ta' tb') e =
-      let q = same_tree (code P (Rep n min (less max)) b ++ x) (code P (Rep n min (less max)) b' ++ y) ta ta' (sym (append_assoc _ _ x) ∙ e ∙ append_assoc _ _ y) in
+  same_tree x y (needed {body = n} {min = min} {max = max} {lazy = lazy} {a = a} {rest = b} ta tb) (needed {a = a'} {rest = b'} ta' tb') e =
+      let q = same_tree (code P (Rep n min (less max) lazy) b ++ x) (code P (Rep n min (less max) lazy) b' ++ y) ta ta' (sym (append_assoc _ _ x) ∙ e ∙ append_assoc _ _ y) in
       let q' = same_tree x y tb tb' q.1 in (ap₂ turn q.0 q'.0, q'.1)
-  same_tree x y (again {body = n} {max = max} {a = a} {rest = b} i ta tb) (again {a = a'} {rest = b'} i' ta' tb') e =
-      let e' : (code P (kind_at P n) a ++ code P (Rep n zero (less max)) b) ++ x ≡ (code P (kind_at P n) a' ++ code P (Rep n zero (less max)) b') ++ y = tails L L _ _ e in
-      let q = same_tree (code P (Rep n zero (less max)) b ++ x) (code P (Rep n zero (less max)) b' ++ y) ta ta' (sym (append_assoc _ _ x) ∙ e' ∙ append_assoc _ _ y) in
+  same_tree x y (again {body = n} {max = max} {lazy = lazy} {a = a} {rest = b} i ta tb) (again {a = a'} {rest = b'} i' ta' tb') e =
+      let e' : (code P (kind_at P n) a ++ code P (Rep n zero (less max) lazy) b) ++ x ≡ (code P (kind_at P n) a' ++ code P (Rep n zero (less max) lazy) b') ++ y = tails (symbol_of (turn_side lazy)) (symbol_of (turn_side lazy)) _ _ e in
+      let q = same_tree (code P (Rep n zero (less max) lazy) b ++ x) (code P (Rep n zero (less max) lazy) b' ++ y) ta ta' (sym (append_assoc _ _ x) ∙ e' ∙ append_assoc _ _ y) in
       let q' = same_tree x y tb tb' q.1 in (ap₂ turn q.0 q'.0, q'.1)
-  same_tree x y (again {max = None} i ta tb) end e = cc
-  same_tree x y (again {max = Some zero} i ta tb) end e = elim i [ ]
-  same_tree x y (again {max = Some (suc m)} i ta tb) end e = cc
-  same_tree x y (end {max = None}) (again i ta tb) e = cc
-  same_tree x y (end {max = Some zero}) (again i ta tb) e = elim i [ ]
-  same_tree x y (end {max = Some (suc m)}) (again i ta tb) e = cc
-  same_tree x y (end {max = max}) end e = (refl, append_cancel_left (end_mark max) x y e)
+  same_tree x y (again {max = None} {lazy = lazy} i ta tb) end e = absurd (sides_differ lazy (heads _ _ _ _ e))
+  same_tree x y (again {max = Some zero} {lazy = lazy} i ta tb) end e = elim i [ ]
+  same_tree x y (again {max = Some (suc m)} {lazy = lazy} i ta tb) end e = absurd (sides_differ lazy (heads _ _ _ _ e))
+  same_tree x y (end {max = None} {lazy = lazy}) (again i ta tb) e = absurd (sides_differ lazy (sym (heads _ _ _ _ e)))
+  same_tree x y (end {max = Some zero} {lazy = lazy}) (again i ta tb) e = elim i [ ]
+  same_tree x y (end {max = Some (suc m)} {lazy = lazy}) (again i ta tb) e = absurd (sides_differ lazy (sym (heads _ _ _ _ e)))
+  same_tree x y (end {max = max} {lazy = lazy}) end e = (refl, append_cancel_left (end_mark lazy max) x y e)
   same_tree x y (mute a) (mute b) e = let q = same_tree x y a b e in (ap inner q.0, q.1)
   same_tree x y (at_register a) (at_register b) e = let q = same_tree x y a b e in (ap inner q.0, q.1)
   same_tree x y write_register write_register e = (refl, e)
@@ -179,6 +199,13 @@ from_go goes = refl
 pub from_choose : {S : Type 0} {l r : S} {k : Step S} → Allows (choose l r) k → (k ≡ chose to_left l) ⊎ (k ≡ chose to_right r)
 from_choose goes_left = inl refl
 from_choose goes_right = inr refl
+
+-- a turn or the end
+pub from_turn : {S : Type 0} (lazy : Bool) {t e : S} {k : Step S} → Allows (turn_or_end lazy t e) k → (k ≡ chose (turn_side lazy) t) ⊎ (k ≡ chose (end_side lazy) e)
+from_turn false goes_left = inl refl
+from_turn false goes_right = inr refl
+from_turn true goes_left = inr refl
+from_turn true goes_right = inl refl
 
 pub from_read : {S : Type 0} {set : List Bool} {s : S} {k : Step S} → Allows (read set s) k → (b : ℕ) × IsTrue (get_or set b false) × (k ≡ took b s)
 from_read (reads {b = b} i) = (b, i, refl)
@@ -249,27 +276,27 @@ module _ (P : Grammar) where
       (λ e. into_one n (Alt l r) rest l chose_left j _ ks (λ t. alt_left) (λ t. refl) e (known l (kind_at P l) rest ks le (itself P l) (rw e at w)))
       (λ e. into_one n (Alt l r) rest r chose_right j _ ks (λ t. alt_right) (λ t. refl) e (known r (kind_at P r) rest ks le (itself P r) (rw e at w)))
       (from_choose a)
-  by_kind f known n (Rep body (suc min) max) rest j ks le v a w =
-      let kb = Rep body min (less max) in
+  by_kind f known n (Rep body (suc min) max lazy) rest j ks le v a w =
+      let kb = Rep body min (less max) lazy in
       let s : Splits body (kind_at P body) (Pending n min (less max) ∷ rest) ks = known body (kind_at P body) (Pending n min (less max) ∷ rest) ks le (itself P body) (rw (from_go a) at w) in
-      into_two n (Rep body (suc min) max) rest body n (kind_at P body) kb turn j _ ks (λ x y. needed) (λ x y. refl) (from_go a) s (known n kb rest s.tail (tail_fits _ _ _ ks f le s) (counted P n body (suc min) max v min (less max)) s.goes_on)
-  by_kind f known n (Rep body zero None) rest j ks le v a w =
+      into_two n (Rep body (suc min) max lazy) rest body n (kind_at P body) kb turn j _ ks (λ x y. needed) (λ x y. refl) (from_go a) s (known n kb rest s.tail (tail_fits _ _ _ ks f le s) (counted P n body (suc min) max lazy v min (less max)) s.goes_on)
+  by_kind f known n (Rep body zero None lazy) rest j ks le v a w =
       ⊎_elim
       (λ e.
-      let kb = Rep body zero None in
+      let kb = Rep body zero None lazy in
       let s : Splits body (kind_at P body) (Pending n zero None ∷ rest) ks = known body (kind_at P body) (Pending n zero None ∷ rest) ks le (itself P body) (rw e at w) in
-      into_two n (Rep body zero None) rest body n (kind_at P body) kb turn j _ ks (λ x y. again tt) (λ x y. refl) e s (known n kb rest s.tail (tail_fits _ _ _ ks f le s) (counted P n body zero None v zero None) s.goes_on))
-      (λ e. one_step n (Rep body zero None) rest done j _ ks end e refl refl w)
-      (from_choose a)
-  by_kind f known n (Rep body zero (Some zero)) rest j ks le v a w = one_step n (Rep body zero (Some zero)) rest done j _ ks end (from_go a) refl refl w
-  by_kind f known n (Rep body zero (Some (suc m))) rest j ks le v a w =
+      into_two n (Rep body zero None lazy) rest body n (kind_at P body) kb turn j _ ks (λ x y. again tt) (λ x y. refl) e s (known n kb rest s.tail (tail_fits _ _ _ ks f le s) (counted P n body zero None lazy v zero None) s.goes_on))
+      (λ e. one_step n (Rep body zero None lazy) rest done j _ ks end e refl refl w)
+      (from_turn lazy a)
+  by_kind f known n (Rep body zero (Some zero) lazy) rest j ks le v a w = one_step n (Rep body zero (Some zero) lazy) rest done j _ ks end (from_go a) refl refl w
+  by_kind f known n (Rep body zero (Some (suc m)) lazy) rest j ks le v a w =
       ⊎_elim
       (λ e.
-      let kb = Rep body zero (less (Some (suc m))) in
+      let kb = Rep body zero (less (Some (suc m))) lazy in
       let s : Splits body (kind_at P body) (Pending n zero (less (Some (suc m))) ∷ rest) ks = known body (kind_at P body) (Pending n zero (less (Some (suc m))) ∷ rest) ks le (itself P body) (rw e at w) in
-      into_two n (Rep body zero (Some (suc m))) rest body n (kind_at P body) kb turn j _ ks (λ x y. again tt) (λ x y. refl) e s (known n kb rest s.tail (tail_fits _ _ _ ks f le s) (counted P n body zero (Some (suc m)) v zero (less (Some (suc m)))) s.goes_on))
-      (λ e. one_step n (Rep body zero (Some (suc m))) rest done j _ ks end e refl refl w)
-      (from_choose a)
+      into_two n (Rep body zero (Some (suc m)) lazy) rest body n (kind_at P body) kb turn j _ ks (λ x y. again tt) (λ x y. refl) e s (known n kb rest s.tail (tail_fits _ _ _ ks f le s) (counted P n body zero (Some (suc m)) lazy v zero (less (Some (suc m)))) s.goes_on))
+      (λ e. one_step n (Rep body zero (Some (suc m)) lazy) rest done j _ ks end e refl refl w)
+      (from_turn lazy a)
   by_kind f known n (Mute m) rest j ks le v a w =
       into_frame n (Mute m) rest m (EndOf n) drop_buffer inner j _ ks (ap (λ e. go e rest) (ends_as P n (Mute m) v)) (λ t. mute) (λ t. refl) (from_go a) (known m (kind_at P m) (EndOf n ∷ rest) ks le (itself P m) (rw (from_go a) at w))
   by_kind f known n (At r m) rest j ks le v a w =

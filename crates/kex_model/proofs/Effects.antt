@@ -7,7 +7,7 @@ use Rattle.kex_code.specs.declared.symbol.Symbol.{Symbol}
 use Rattle.kex_code.specs.declared.symbol.Symbol.TheVariants.{L, R, Byte}
 use Rattle.kex_model.proofs.Walks.{step_from_code}
 use Rattle.kex_model.proofs.Derivations.{from_accept}
-use Rattle.kex_model.specs.Moves.{Move, accept, Allows, reads, goes_left, goes_right, goes_forced, goes, code_of, Walk, symbol_of, Effect, nothing, open_buffer, drop_buffer, into, Step, to_left, to_right, took, chose, went}
+use Rattle.kex_model.specs.Moves.{Move, accept, Allows, reads, goes_left, goes_right, goes_forced, goes, code_of, Walk, symbol_of, turn_side, end_side, Effect, nothing, open_buffer, drop_buffer, into, Step, to_left, to_right, took, chose, went}
 use Rattle.kex_code.specs.Registers.{Registers, with_content}
 use Rattle.kex_model.specs.Trees.{kind_at, root_of, less, Tree, IsTree, one, lit, one_byte, call, seq, alt_left, alt_right, needed, again, end, mute, at_register, write_register, set_register, add_register, Part, part_behind, go_on, then_part, muted_part, put_whole, kept_part, part}
 use Rattle.kex_model.specs.declared.frame.Frame.TheVariants.{Pending, EndOf}
@@ -130,11 +130,11 @@ module _ (P : Grammar) where
   part_done n rest c regs (seq {l = l} {r = r} {a = s} {b = t} a b) = after_nothing _ (then_part (part P (kind_at P l) s c regs) (part P (kind_at P r) t)) _ c regs (both_do (part P (kind_at P l) s c regs) (part P (kind_at P r) t) _ _ c regs (part_done l (enter P r ∷ rest) c regs a) (λ d. part_done r rest d _ b))
   part_done n rest c regs (alt_left {l = l} a) = after_choice to_left L _ _ c regs _ (λ d. part_done l rest d regs a)
   part_done n rest c regs (alt_right {r = r} a) = after_choice to_right R _ _ c regs _ (λ d. part_done r rest d regs a)
-  part_done n rest c regs (needed {body = body} {min = min} {max = max} {a = s} {rest = t} a b) = after_nothing _ (then_part (part P (kind_at P body) s c regs) (part P (Rep body min (less max)) t)) _ c regs (both_do (part P (kind_at P body) s c regs) (part P (Rep body min (less max)) t) _ _ c regs (part_done body (Pending n min (less max) ∷ rest) c regs a) (λ d. part_done n rest d _ b))
-  part_done n rest c regs (again {body = body} {max = max} {a = s} {rest = t} i a b) = after_choice to_left L _ _ c regs _ (λ d. both_do (part P (kind_at P body) s d regs) (part P (Rep body zero (less max)) t) _ _ d regs (part_done body (Pending n zero (less max) ∷ rest) d regs a) (λ e. part_done n rest e _ b))
-  part_done n rest c regs (end {max = None}) = after_choice to_right R _ [] c regs _ (λ d ks out bs. ap (λ s. after_steps ks d s) (sym (appended_none out bs regs)))
-  part_done n rest c regs (end {max = Some zero}) = λ ks out bs. ap (λ s. after_steps ks c s) (sym (appended_none out bs regs))
-  part_done n rest c regs (end {max = Some (suc m)}) = after_choice to_right R _ [] c regs _ (λ d ks out bs. ap (λ s. after_steps ks d s) (sym (appended_none out bs regs)))
+  part_done n rest c regs (needed {body = body} {min = min} {max = max} {lazy = lazy} {a = s} {rest = t} a b) = after_nothing _ (then_part (part P (kind_at P body) s c regs) (part P (Rep body min (less max) lazy) t)) _ c regs (both_do (part P (kind_at P body) s c regs) (part P (Rep body min (less max) lazy) t) _ _ c regs (part_done body (Pending n min (less max) ∷ rest) c regs a) (λ d. part_done n rest d _ b))
+  part_done n rest c regs (again {body = body} {max = max} {lazy = lazy} {a = s} {rest = t} i a b) = after_choice (turn_side lazy) (symbol_of (turn_side lazy)) _ _ c regs _ (λ d. both_do (part P (kind_at P body) s d regs) (part P (Rep body zero (less max) lazy) t) _ _ d regs (part_done body (Pending n zero (less max) ∷ rest) d regs a) (λ e. part_done n rest e _ b))
+  part_done n rest c regs (end {max = None} {lazy = lazy}) = after_choice (end_side lazy) (symbol_of (end_side lazy)) _ [] c regs _ (λ d ks out bs. ap (λ s. after_steps ks d s) (sym (appended_none out bs regs)))
+  part_done n rest c regs (end {max = Some zero} {lazy = lazy}) = λ ks out bs. ap (λ s. after_steps ks c s) (sym (appended_none out bs regs))
+  part_done n rest c regs (end {max = Some (suc m)} {lazy = lazy}) = after_choice (end_side lazy) (symbol_of (end_side lazy)) _ [] c regs _ (λ d ks out bs. ap (λ s. after_steps ks d s) (sym (appended_none out bs regs)))
   part_done n rest c regs (mute {n = m} {a = t} a) = in_mute rest (enter P m ∷ EndOf n ∷ rest) (part P (kind_at P m) t c regs) _ c regs (part_done m (EndOf n ∷ rest) c regs a)
   part_done n rest c regs (at_register {r = r} {n = m} {a = t} a) = in_at r rest (enter P m ∷ EndOf n ∷ rest) (part P (kind_at P m) t c regs) _ c regs (part_done m (EndOf n ∷ rest) c regs a)
   part_done n rest c regs write_register = λ ks out bs. refl

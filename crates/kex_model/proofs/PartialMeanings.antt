@@ -1,5 +1,6 @@
 -- A part grows with the code, up to the meaning.
 use Rattle.std.proofs.Common.{◌≡◌, ℕ, zero, suc, List, [], ◌∷◌, ◌++◌, Option, Some, None, refl, sym, ap, ◌∙◌, append_assoc, append-nil}
+use Rattle.kex_model.specs.Moves.{symbol_of, turn_side}
 use Rattle.kex_model.specs.Programs.{Grammar}
 use Rattle.kex_model.specs.declared.program.Kind.{Kind}
 use Rattle.kex_model.specs.declared.program.Kind.TheVariants.{Rep}
@@ -71,11 +72,11 @@ module _ (P : Grammar) where
   part_grows c m regs (seq {l = l} {r = r} {a = s} {b = t} a b) = then_grown (part P (kind_at P l) s c regs) (part P (kind_at P l) s (c ++ m) regs) _ _ m (part_grows c m regs a) (λ d. part_grows d m _ b)
   part_grows c m regs (alt_left a) = behind_grown L c m regs _ _ (λ d. part_grows d m regs a)
   part_grows c m regs (alt_right a) = behind_grown R c m regs _ _ (λ d. part_grows d m regs a)
-  part_grows c m regs (needed {body = n} {a = s} a b) = then_grown (part P (kind_at P n) s c regs) (part P (kind_at P n) s (c ++ m) regs) _ _ m (part_grows c m regs a) (λ d. part_grows d m _ b)
-  part_grows c m regs (again {body = n} {a = s} i a b) = behind_grown L c m regs _ _ (λ d. then_grown (part P (kind_at P n) s d regs) (part P (kind_at P n) s (d ++ m) regs) _ _ m (part_grows d m regs a) (λ e. part_grows e m _ b))
-  part_grows c m regs (end {max = None}) = behind_grown R c m regs _ _ (λ d. (refl, refl, refl))
-  part_grows c m regs (end {max = Some zero}) = (refl, refl, refl)
-  part_grows c m regs (end {max = Some (suc n)}) = behind_grown R c m regs _ _ (λ d. (refl, refl, refl))
+  part_grows c m regs (needed {body = n} {lazy = lazy} {a = s} a b) = then_grown (part P (kind_at P n) s c regs) (part P (kind_at P n) s (c ++ m) regs) _ _ m (part_grows c m regs a) (λ d. part_grows d m _ b)
+  part_grows c m regs (again {body = n} {lazy = lazy} {a = s} i a b) = behind_grown L c m regs _ _ (λ d. then_grown (part P (kind_at P n) s d regs) (part P (kind_at P n) s (d ++ m) regs) _ _ m (part_grows d m regs a) (λ e. part_grows e m _ b))
+  part_grows c m regs (end {max = None} {lazy = lazy}) = behind_grown R c m regs _ _ (λ d. (refl, refl, refl))
+  part_grows c m regs (end {max = Some zero} {lazy = lazy}) = (refl, refl, refl)
+  part_grows c m regs (end {max = Some (suc n)} {lazy = lazy}) = behind_grown R c m regs _ _ (λ d. (refl, refl, refl))
   part_grows c m regs (mute {n = n} {a = s} a) = muted_grown (part P (kind_at P n) s c regs) (part P (kind_at P n) s (c ++ m) regs) m (part_grows c m regs a)
   part_grows c m regs (at_register {r = r} {n = n} {a = s} a) = kept_grown r (part P (kind_at P n) s c regs) (part P (kind_at P n) s (c ++ m) regs) m (part_grows c m regs a)
   part_grows c m regs write_register = (refl, refl, refl)
@@ -97,17 +98,17 @@ module _ (P : Grammar) where
   part_whole m regs (seq {l = l} {r = r} {a = s} {b = t} a b) = rw append_assoc (then_finished (part P (kind_at P l) s (code P (kind_at P l) s ++ (code P (kind_at P r) t ++ m)) regs) (part P (kind_at P r) t) (meaning P (kind_at P l) s regs) (meaning P (kind_at P r) t) (code P (kind_at P r) t ++ m) m (part_whole (code P (kind_at P r) t ++ m) regs a) (part_whole m _ b))
   part_whole m regs (alt_left a) = part_whole m regs a
   part_whole m regs (alt_right a) = part_whole m regs a
-  part_whole m regs (needed {body = n} {min = min} {max = max} {a = s} {rest = t} a b) =
-      let d = code P (Rep n min (less max)) t ++ m in
-      ap (λ z. part P (Rep n (suc min) max) (turn s t) z regs) (append_assoc (code P (kind_at P n) s) (code P (Rep n min (less max)) t) m)
-      ∙ then_finished (part P (kind_at P n) s (code P (kind_at P n) s ++ d) regs) (part P (Rep n min (less max)) t) (meaning P (kind_at P n) s regs) (meaning P (Rep n min (less max)) t) d m (part_whole d regs a) (part_whole m _ b)
-  part_whole m regs (again {body = n} {max = max} {a = s} {rest = t} i a b) =
-      let d = code P (Rep n zero (less max)) t ++ m in
-      ap (λ z. part P (Rep n zero max) (turn s t) (L ∷ z) regs) (append_assoc (code P (kind_at P n) s) (code P (Rep n zero (less max)) t) m)
-      ∙ then_finished (part P (kind_at P n) s (code P (kind_at P n) s ++ d) regs) (part P (Rep n zero (less max)) t) (meaning P (kind_at P n) s regs) (meaning P (Rep n zero (less max)) t) d m (part_whole d regs a) (part_whole m _ b)
-  part_whole m regs (end {max = None}) = refl
-  part_whole m regs (end {max = Some zero}) = refl
-  part_whole m regs (end {max = Some (suc n)}) = refl
+  part_whole m regs (needed {body = n} {min = min} {max = max} {lazy = lazy} {a = s} {rest = t} a b) =
+      let d = code P (Rep n min (less max) lazy) t ++ m in
+      ap (λ z. part P (Rep n (suc min) max lazy) (turn s t) z regs) (append_assoc (code P (kind_at P n) s) (code P (Rep n min (less max) lazy) t) m)
+      ∙ then_finished (part P (kind_at P n) s (code P (kind_at P n) s ++ d) regs) (part P (Rep n min (less max) lazy) t) (meaning P (kind_at P n) s regs) (meaning P (Rep n min (less max) lazy) t) d m (part_whole d regs a) (part_whole m _ b)
+  part_whole m regs (again {body = n} {max = max} {lazy = lazy} {a = s} {rest = t} i a b) =
+      let d = code P (Rep n zero (less max) lazy) t ++ m in
+      ap (λ z. part P (Rep n zero max lazy) (turn s t) (symbol_of (turn_side lazy) ∷ z) regs) (append_assoc (code P (kind_at P n) s) (code P (Rep n zero (less max) lazy) t) m)
+      ∙ then_finished (part P (kind_at P n) s (code P (kind_at P n) s ++ d) regs) (part P (Rep n zero (less max) lazy) t) (meaning P (kind_at P n) s regs) (meaning P (Rep n zero (less max) lazy) t) d m (part_whole d regs a) (part_whole m _ b)
+  part_whole m regs (end {max = None} {lazy = lazy}) = refl
+  part_whole m regs (end {max = Some zero} {lazy = lazy}) = refl
+  part_whole m regs (end {max = Some (suc n)} {lazy = lazy}) = refl
   part_whole m regs (mute a) = ap muted_part (part_whole m regs a)
   part_whole m regs (at_register {r = r} a) = ap (kept_part r) (part_whole m regs a)
   part_whole m regs write_register = refl

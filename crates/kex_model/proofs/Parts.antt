@@ -1,6 +1,8 @@
 -- A part of a tree depends on the code alone.
 use Rattle.std.proofs.Common.{◌≡◌, zero, suc, List, [], ◌∷◌, ◌++◌, Option, Some, None, refl, sym, ap, ◌∙◌, append_assoc}
 use Rattle.std.proofs.lemmas.List.{append_cancel_left}
+use Rattle.kex_model.specs.Moves.{symbol_of, turn_side, end_side}
+use Rattle.kex_model.proofs.Derivations.{sides_differ}
 use Rattle.kex_model.specs.Programs.{Grammar}
 use Rattle.kex_model.specs.declared.program.Kind.{Kind}
 use Rattle.kex_model.specs.declared.program.Kind.TheVariants.{Rep}
@@ -54,19 +56,19 @@ module _ (P : Grammar) where
   left_over c x u d regs (alt_right {r = n} {a = a} ta) e h =
       let r = behind_left R (code P (kind_at P n) a ++ x) c u d regs _ e h in
       r.1 ∙ ap (λ z. R ∷ z) (left_over r.0 x u d regs ta r.2 r.3)
-  left_over c x u d regs (needed {body = n} {min = min} {max = max} {a = a} {rest = b} ta tb) e h =
-      two_left (code P (kind_at P n) a) (code P (Rep n min (less max)) b) (part P (kind_at P n) a c regs) (part P (Rep n min (less max)) b) c x u d (λ d'. left_over c (code P (Rep n min (less max)) b ++ x) u d' regs ta) (λ c' d'. left_over c' x u d' _ tb) e h
-  left_over c x u d regs (again {body = n} {max = max} {a = a} {rest = b} i ta tb) e h =
-      let cb = code P (Rep n zero (less max)) b in
-      let r = behind_left L ((code P (kind_at P n) a ++ cb) ++ x) c u d regs _ e h in
-      r.1 ∙ ap (λ z. L ∷ z) (two_left (code P (kind_at P n) a) cb (part P (kind_at P n) a r.0 regs) (part P (Rep n zero (less max)) b) r.0 x u d (λ d'. left_over r.0 (cb ++ x) u d' regs ta) (λ c' d'. left_over c' x u d' _ tb) r.2 r.3)
-  left_over c x u d regs (end {max = None}) e h =
-      let r = behind_left R x c u d regs _ e h in
+  left_over c x u d regs (needed {body = n} {min = min} {max = max} {lazy = lazy} {a = a} {rest = b} ta tb) e h =
+      two_left (code P (kind_at P n) a) (code P (Rep n min (less max) lazy) b) (part P (kind_at P n) a c regs) (part P (Rep n min (less max) lazy) b) c x u d (λ d'. left_over c (code P (Rep n min (less max) lazy) b ++ x) u d' regs ta) (λ c' d'. left_over c' x u d' _ tb) e h
+  left_over c x u d regs (again {body = n} {max = max} {lazy = lazy} {a = a} {rest = b} i ta tb) e h =
+      let cb = code P (Rep n zero (less max) lazy) b in
+      let r = behind_left (symbol_of (turn_side lazy)) ((code P (kind_at P n) a ++ cb) ++ x) c u d regs _ e h in
+      r.1 ∙ ap (λ z. symbol_of (turn_side lazy) ∷ z) (two_left (code P (kind_at P n) a) cb (part P (kind_at P n) a r.0 regs) (part P (Rep n zero (less max) lazy) b) r.0 x u d (λ d'. left_over r.0 (cb ++ x) u d' regs ta) (λ c' d'. left_over c' x u d' _ tb) r.2 r.3)
+  left_over c x u d regs (end {max = None} {lazy = lazy}) e h =
+      let r = behind_left (symbol_of (end_side lazy)) x c u d regs _ e h in
       let same : r.0 ≡ d = cc in
       rw (r.1, same)
-  left_over c x u d regs (end {max = Some zero}) e h = cc
-  left_over c x u d regs (end {max = Some (suc n)}) e h =
-      let r = behind_left R x c u d regs _ e h in
+  left_over c x u d regs (end {max = Some zero} {lazy = lazy}) e h = cc
+  left_over c x u d regs (end {max = Some (suc n)} {lazy = lazy}) e h =
+      let r = behind_left (symbol_of (end_side lazy)) x c u d regs _ e h in
       let same : r.0 ≡ d = cc in
       rw (r.1, same)
   left_over c x u d regs (mute a) e h = left_over c x u d regs a e h
@@ -114,24 +116,24 @@ module _ (P : Grammar) where
       same_behind R L (code P (kind_at P r) a ++ x) (code P (kind_at P l) b ++ y) c u v regs _ _ e e' (λ d same f g. cc)
   same_part c x y u v regs (alt_right {r = r} {a = a} ta) (alt_right {a = b} tb) e e' =
       same_behind R R (code P (kind_at P r) a ++ x) (code P (kind_at P r) b ++ y) c u v regs _ _ e e' (λ d same f g. same_part d x y u v regs ta tb f g)
-  same_part c x y u v regs (needed {body = n} {min = min} {max = max} {a = a} {rest = b} ta tb) (needed {a = a'} {rest = b'} ta' tb') e e' =
-      let ca = code P (kind_at P n) a in let cb = code P (Rep n min (less max)) b in
-      let da = code P (kind_at P n) a' in let db = code P (Rep n min (less max)) b' in
-      two_same ca cb da db (part P (kind_at P n) a c regs) (part P (kind_at P n) a' c regs) (part P (Rep n min (less max)) b) (part P (Rep n min (less max)) b') c x y u v (same_part c (cb ++ x) (db ++ y) u v regs ta ta' (sym (append_assoc ca cb x) ∙ e) (sym (append_assoc da db y) ∙ e')) (λ d'. left_over P c (cb ++ x) u d' regs ta) (λ d'. left_over P c (db ++ y) v d' regs ta') (λ c' f g. same_part c' x y u v _ tb tb' f g) e e'
-  same_part c x y u v regs (again {body = n} {max = max} {a = a} {rest = b} i ta tb) (again {a = a'} {rest = b'} i' ta' tb') e e' =
-      let ca = code P (kind_at P n) a in let cb = code P (Rep n zero (less max)) b in
-      let da = code P (kind_at P n) a' in let db = code P (Rep n zero (less max)) b' in
-      same_behind L L ((ca ++ cb) ++ x) ((da ++ db) ++ y) c u v regs _ _ e e' (λ d same f g. two_same ca cb da db (part P (kind_at P n) a d regs) (part P (kind_at P n) a' d regs) (part P (Rep n zero (less max)) b) (part P (Rep n zero (less max)) b') d x y u v (same_part d (cb ++ x) (db ++ y) u v regs ta ta' (sym (append_assoc ca cb x) ∙ f) (sym (append_assoc da db y) ∙ g)) (λ d'. left_over P d (cb ++ x) u d' regs ta) (λ d'. left_over P d (db ++ y) v d' regs ta') (λ c' f g. same_part c' x y u v _ tb tb' f g) f g)
-  same_part c x y u v regs (again {body = n} {max = None} {a = a} {rest = b} i ta tb) end e e' =
-      same_behind L R ((code P (kind_at P n) a ++ code P (Rep n zero None) b) ++ x) y c u v regs _ _ e e' (λ d same f g. cc)
-  same_part c x y u v regs (again {max = Some zero} i ta tb) end e e' = elim i [ ]
-  same_part c x y u v regs (again {body = n} {max = Some (suc m)} {a = a} {rest = b} i ta tb) end e e' =
-      same_behind L R ((code P (kind_at P n) a ++ code P (Rep n zero (less (Some (suc m)))) b) ++ x) y c u v regs _ _ e e' (λ d same f g. cc)
-  same_part c x y u v regs (end {max = None}) (again {body = n} {a = a} {rest = b} i ta tb) e e' =
-      same_behind R L x ((code P (kind_at P n) a ++ code P (Rep n zero None) b) ++ y) c u v regs _ _ e e' (λ d same f g. cc)
-  same_part c x y u v regs (end {max = Some zero}) (again i ta tb) e e' = elim i [ ]
-  same_part c x y u v regs (end {max = Some (suc m)}) (again {body = n} {a = a} {rest = b} i ta tb) e e' =
-      same_behind R L x ((code P (kind_at P n) a ++ code P (Rep n zero (less (Some (suc m)))) b) ++ y) c u v regs _ _ e e' (λ d same f g. cc)
+  same_part c x y u v regs (needed {body = n} {min = min} {max = max} {lazy = lazy} {a = a} {rest = b} ta tb) (needed {a = a'} {rest = b'} ta' tb') e e' =
+      let ca = code P (kind_at P n) a in let cb = code P (Rep n min (less max) lazy) b in
+      let da = code P (kind_at P n) a' in let db = code P (Rep n min (less max) lazy) b' in
+      two_same ca cb da db (part P (kind_at P n) a c regs) (part P (kind_at P n) a' c regs) (part P (Rep n min (less max) lazy) b) (part P (Rep n min (less max) lazy) b') c x y u v (same_part c (cb ++ x) (db ++ y) u v regs ta ta' (sym (append_assoc ca cb x) ∙ e) (sym (append_assoc da db y) ∙ e')) (λ d'. left_over P c (cb ++ x) u d' regs ta) (λ d'. left_over P c (db ++ y) v d' regs ta') (λ c' f g. same_part c' x y u v _ tb tb' f g) e e'
+  same_part c x y u v regs (again {body = n} {max = max} {lazy = lazy} {a = a} {rest = b} i ta tb) (again {a = a'} {rest = b'} i' ta' tb') e e' =
+      let ca = code P (kind_at P n) a in let cb = code P (Rep n zero (less max) lazy) b in
+      let da = code P (kind_at P n) a' in let db = code P (Rep n zero (less max) lazy) b' in
+      same_behind (symbol_of (turn_side lazy)) (symbol_of (turn_side lazy)) ((ca ++ cb) ++ x) ((da ++ db) ++ y) c u v regs _ _ e e' (λ d same f g. two_same ca cb da db (part P (kind_at P n) a d regs) (part P (kind_at P n) a' d regs) (part P (Rep n zero (less max) lazy) b) (part P (Rep n zero (less max) lazy) b') d x y u v (same_part d (cb ++ x) (db ++ y) u v regs ta ta' (sym (append_assoc ca cb x) ∙ f) (sym (append_assoc da db y) ∙ g)) (λ d'. left_over P d (cb ++ x) u d' regs ta) (λ d'. left_over P d (db ++ y) v d' regs ta') (λ c' f g. same_part c' x y u v _ tb tb' f g) f g)
+  same_part c x y u v regs (again {body = n} {max = None} {lazy = lazy} {a = a} {rest = b} i ta tb) end e e' =
+      same_behind (symbol_of (turn_side lazy)) (symbol_of (end_side lazy)) ((code P (kind_at P n) a ++ code P (Rep n zero None lazy) b) ++ x) y c u v regs _ _ e e' (λ d same f g. absurd (sides_differ lazy same))
+  same_part c x y u v regs (again {max = Some zero} {lazy = lazy} i ta tb) end e e' = elim i [ ]
+  same_part c x y u v regs (again {body = n} {max = Some (suc m)} {lazy = lazy} {a = a} {rest = b} i ta tb) end e e' =
+      same_behind (symbol_of (turn_side lazy)) (symbol_of (end_side lazy)) ((code P (kind_at P n) a ++ code P (Rep n zero (less (Some (suc m))) lazy) b) ++ x) y c u v regs _ _ e e' (λ d same f g. absurd (sides_differ lazy same))
+  same_part c x y u v regs (end {max = None} {lazy = lazy}) (again {body = n} {a = a} {rest = b} i ta tb) e e' =
+      same_behind (symbol_of (end_side lazy)) (symbol_of (turn_side lazy)) x ((code P (kind_at P n) a ++ code P (Rep n zero None lazy) b) ++ y) c u v regs _ _ e e' (λ d same f g. absurd (sides_differ lazy (sym same)))
+  same_part c x y u v regs (end {max = Some zero} {lazy = lazy}) (again i ta tb) e e' = elim i [ ]
+  same_part c x y u v regs (end {max = Some (suc m)} {lazy = lazy}) (again {body = n} {a = a} {rest = b} i ta tb) e e' =
+      same_behind (symbol_of (end_side lazy)) (symbol_of (turn_side lazy)) x ((code P (kind_at P n) a ++ code P (Rep n zero (less (Some (suc m))) lazy) b) ++ y) c u v regs _ _ e e' (λ d same f g. absurd (sides_differ lazy (sym same)))
   same_part c x y u v regs end end e e' = refl
   same_part c x y u v regs (mute a) (mute b) e e' = ap muted_part (same_part c x y u v regs a b e e')
   same_part c x y u v regs (at_register {r = r} a) (at_register b) e e' = ap (kept_part r) (same_part c x y u v regs a b e e')

@@ -1,5 +1,5 @@
 -- What is said grows.
-use Rattle.std.proofs.Common.{zero, suc, ◌∷◌}
+use Rattle.std.proofs.Common.{zero, suc, true, false, ◌∷◌}
 use Rattle.kex_model.specs.declared.program.Kind.{Kind}
 use Rattle.kex_model.specs.declared.program.Kind.TheVariants.{One, Lit, Class, Call, Seq, Alt, Rep, Mute, At, Write, Set, Add}
 use Rattle.kex_model.specs.Moves.{accept}
@@ -71,10 +71,12 @@ module _ (P : Grammar) (root : ℕ) where
   never_accepts n (Call f) rest e = cc
   never_accepts n (Seq l r) rest e = cc
   never_accepts n (Alt l r) rest e = cc
-  never_accepts n (Rep body (suc min) max) rest e = cc
-  never_accepts n (Rep body zero None) rest e = cc
-  never_accepts n (Rep body zero (Some zero)) rest e = cc
-  never_accepts n (Rep body zero (Some (suc m))) rest e = cc
+  never_accepts n (Rep body (suc min) max lazy) rest e = cc
+  never_accepts n (Rep body zero None false) rest e = cc
+  never_accepts n (Rep body zero None true) rest e = cc
+  never_accepts n (Rep body zero (Some zero) lazy) rest e = cc
+  never_accepts n (Rep body zero (Some (suc m)) false) rest e = cc
+  never_accepts n (Rep body zero (Some (suc m)) true) rest e = cc
   never_accepts n (Mute t) rest e = cc
   never_accepts n (At r t) rest e = cc
   never_accepts n (Write r) rest e = cc

@@ -1,5 +1,5 @@
 -- What a place may do next, and walks: lists of steps.
-use Rattle.std.specs.Prelude.{◌≡◌, ℕ, Bool, false, List, [], ◌∷◌, ◌++◌, get_or, IsTrue}
+use Rattle.std.specs.Prelude.{◌≡◌, ℕ, Bool, true, false, List, [], ◌∷◌, ◌++◌, get_or, IsTrue}
 use Rattle.kex_code.specs.declared.symbol.Symbol.{Symbol}
 use Rattle.kex_code.specs.declared.symbol.Symbol.TheVariants.{L, R, Byte}
 use Rattle.kex_code.specs.declared.piece.Piece.{Piece}
@@ -24,6 +24,15 @@ abbrev pub symbol_of : Side → Symbol
 symbol_of to_left = L
 symbol_of to_right = R
 
+-- the sides of another turn and of the end: a repetition that is lazy prefers the end
+abbrev pub turn_side : Bool → Side
+turn_side false = to_left
+turn_side true = to_right
+
+abbrev pub end_side : Bool → Side
+end_side false = to_right
+end_side true = to_left
+
 -- what there is to do at a place, over places of a type S
 pub data Move (S : Type 0) : Type 0 where
   accept : Move S
@@ -35,6 +44,11 @@ pub data Move (S : Type 0) : Type 0 where
   forced : Side → S → Move S
   -- go on, with an effect
   go : Effect → S → Move S
+
+-- another turn or the end, by which is preferred
+abbrev pub turn_or_end : {S : Type 0} → Bool → S → S → Move S
+turn_or_end false turn end = choose turn end
+turn_or_end true turn end = choose end turn
 
 -- a step that was made, with the place that it enters
 pub data Step (S : Type 0) : Type 0 where

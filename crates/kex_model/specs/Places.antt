@@ -5,7 +5,7 @@ use Rattle.kex_model.specs.declared.program.Kind.TheVariants.{One, Lit, Class, C
 use Rattle.kex_model.specs.declared.frame.Frame.{Frame}
 use Rattle.kex_model.specs.declared.frame.Frame.TheVariants.{Pending, EndOf}
 use Rattle.kex_model.specs.Programs.{Grammar}
-use Rattle.kex_model.specs.Moves.{Move, Effect, accept, read, choose, go, nothing, append, open_buffer, drop_buffer, into, write, set_to, add_to, Step, to_left, to_right, took, chose, went, Allows, target_of}
+use Rattle.kex_model.specs.Moves.{Move, Effect, accept, read, choose, go, nothing, append, open_buffer, drop_buffer, into, write, set_to, add_to, turn_side, end_side, turn_or_end, Step, to_left, to_right, took, chose, went, Allows, target_of}
 use Rattle.kex_model.specs.Trees.{kind_at, root_of, less, Tree, leaf, byte, pair, chose_left, chose_right, inner, turn, done}
 
 -- what is pending, the next first
@@ -13,7 +13,7 @@ abbrev pub Place : Type 0
 Place = List Frame
 
 abbrev pub fresh : ℕ → Kind → Frame
-fresh n (Rep body min max) = Pending n min max
+fresh n (Rep body min max lazy) = Pending n min max
 fresh n _ = Pending n 0 None
 
 -- the frame of a node that is begun
@@ -22,7 +22,7 @@ enter P n = fresh n (kind_at P n)
 
 -- a repetition with what is needed and left now
 abbrev pub with_counts : Kind → ℕ → Option ℕ → Kind
-with_counts (Rep body min max) need left = Rep body need left
+with_counts (Rep body min max lazy) need left = Rep body need left lazy
 with_counts k need left = k
 
 -- what there is to do at a place with node n of this kind on top
@@ -33,9 +33,9 @@ moves_of P n (Class s) rest = read s rest
 moves_of P n (Call name) rest = go nothing (enter P (root_of P name) ∷ rest)
 moves_of P n (Seq l r) rest = go nothing (enter P l ∷ enter P r ∷ rest)
 moves_of P n (Alt l r) rest = choose (enter P l ∷ rest) (enter P r ∷ rest)
-moves_of P n (Rep body (suc need) left) rest = go nothing (enter P body ∷ Pending n need (less left) ∷ rest)
-moves_of P n (Rep body zero (Some zero)) rest = go nothing rest
-moves_of P n (Rep body zero left) rest = choose (enter P body ∷ Pending n zero (less left) ∷ rest) rest
+moves_of P n (Rep body (suc need) left lazy) rest = go nothing (enter P body ∷ Pending n need (less left) ∷ rest)
+moves_of P n (Rep body zero (Some zero) lazy) rest = go nothing rest
+moves_of P n (Rep body zero left lazy) rest = turn_or_end lazy (enter P body ∷ Pending n zero (less left) ∷ rest) rest
 moves_of P n (Mute t) rest = go open_buffer (enter P t ∷ EndOf n ∷ rest)
 moves_of P n (At r t) rest = go open_buffer (enter P t ∷ EndOf n ∷ rest)
 moves_of P n (Write r) rest = go (write r) rest
@@ -73,11 +73,11 @@ steps_of P n (Call name) (inner a) rest = went nothing (enter P (root_of P name)
 steps_of P n (Seq l r) (pair a b) rest = went nothing (enter P l ∷ enter P r ∷ rest) ∷ (steps_of P l (kind_at P l) a (enter P r ∷ rest) ++ steps_of P r (kind_at P r) b rest)
 steps_of P n (Alt l r) (chose_left a) rest = chose to_left (enter P l ∷ rest) ∷ steps_of P l (kind_at P l) a rest
 steps_of P n (Alt l r) (chose_right a) rest = chose to_right (enter P r ∷ rest) ∷ steps_of P r (kind_at P r) a rest
-steps_of P n (Rep body (suc min) max) (turn a b) rest = went nothing (enter P body ∷ Pending n min (less max) ∷ rest) ∷ (steps_of P body (kind_at P body) a (Pending n min (less max) ∷ rest) ++ steps_of P n (Rep body min (less max)) b rest)
-steps_of P n (Rep body zero max) (turn a b) rest = chose to_left (enter P body ∷ Pending n zero (less max) ∷ rest) ∷ (steps_of P body (kind_at P body) a (Pending n zero (less max) ∷ rest) ++ steps_of P n (Rep body zero (less max)) b rest)
-steps_of P n (Rep body min None) done rest = chose to_right rest ∷ []
-steps_of P n (Rep body min (Some zero)) done rest = went nothing rest ∷ []
-steps_of P n (Rep body min (Some (suc m))) done rest = chose to_right rest ∷ []
+steps_of P n (Rep body (suc min) max lazy) (turn a b) rest = went nothing (enter P body ∷ Pending n min (less max) ∷ rest) ∷ (steps_of P body (kind_at P body) a (Pending n min (less max) ∷ rest) ++ steps_of P n (Rep body min (less max) lazy) b rest)
+steps_of P n (Rep body zero max lazy) (turn a b) rest = chose (turn_side lazy) (enter P body ∷ Pending n zero (less max) ∷ rest) ∷ (steps_of P body (kind_at P body) a (Pending n zero (less max) ∷ rest) ++ steps_of P n (Rep body zero (less max) lazy) b rest)
+steps_of P n (Rep body min None lazy) done rest = chose (end_side lazy) rest ∷ []
+steps_of P n (Rep body min (Some zero) lazy) done rest = went nothing rest ∷ []
+steps_of P n (Rep body min (Some (suc m)) lazy) done rest = chose (end_side lazy) rest ∷ []
 steps_of P n (Mute t) (inner a) rest = went open_buffer (enter P t ∷ EndOf n ∷ rest) ∷ (steps_of P t (kind_at P t) a (EndOf n ∷ rest) ++ went drop_buffer rest ∷ [])
 steps_of P n (At r t) (inner a) rest = went open_buffer (enter P t ∷ EndOf n ∷ rest) ∷ (steps_of P t (kind_at P t) a (EndOf n ∷ rest) ++ went (into r) rest ∷ [])
 steps_of P n (Write r) leaf rest = went (write r) rest ∷ []

@@ -25,7 +25,7 @@ IsCount min (Some max) = min ≤ max
 abbrev pub HasBelow : ℕ → Kind → Type 0
 HasBelow n (Seq l r) = (l < n) × (r < n)
 HasBelow n (Alt l r) = (l < n) × (r < n)
-HasBelow n (Rep body min max) = (body < n) × IsCount min max
+HasBelow n (Rep body min max lazy) = (body < n) × IsCount min max
 HasBelow n (Mute t) = t < n
 HasBelow n (At r t) = t < n
 HasBelow n _ = Unit {0}

@@ -9,6 +9,7 @@ use Rattle.kex_model.specs.declared.program.Kind.TheVariants.{One, Lit, Class, C
 use Rattle.kex_model.specs.declared.program.Node.{Node}
 use Rattle.kex_model.specs.declared.program.Definition.{Definition}
 use Rattle.kex_model.specs.Programs.{Grammar}
+use Rattle.kex_model.specs.Moves.{symbol_of, turn_side, end_side}
 
 abbrev kind_of : Option Node → Kind
 kind_of None = One
@@ -58,9 +59,9 @@ pub data IsTree (P : Grammar) : Kind → Tree → Type 0 where
   alt_left : {l r : ℕ} {a : Tree} → IsTree P (kind_at P l) a → IsTree P (Alt l r) (chose_left a)
   alt_right : {l r : ℕ} {a : Tree} → IsTree P (kind_at P r) a → IsTree P (Alt l r) (chose_right a)
   -- a turn that is needed, one that isn't, and the end, with min and max as what is still needed and left
-  needed : {body min : ℕ} {max : Option ℕ} {a rest : Tree} → IsTree P (kind_at P body) a → IsTree P (Rep body min (less max)) rest → IsTree P (Rep body (suc min) max) (turn a rest)
-  again : {body : ℕ} {max : Option ℕ} {a rest : Tree} → IsLeft max → IsTree P (kind_at P body) a → IsTree P (Rep body zero (less max)) rest → IsTree P (Rep body zero max) (turn a rest)
-  end : {body : ℕ} {max : Option ℕ} → IsTree P (Rep body zero max) done
+  needed : {body min : ℕ} {max : Option ℕ} {lazy : Bool} {a rest : Tree} → IsTree P (kind_at P body) a → IsTree P (Rep body min (less max) lazy) rest → IsTree P (Rep body (suc min) max lazy) (turn a rest)
+  again : {body : ℕ} {max : Option ℕ} {lazy : Bool} {a rest : Tree} → IsLeft max → IsTree P (kind_at P body) a → IsTree P (Rep body zero (less max) lazy) rest → IsTree P (Rep body zero max lazy) (turn a rest)
+  end : {body : ℕ} {max : Option ℕ} {lazy : Bool} → IsTree P (Rep body zero max lazy) done
   mute : {n : ℕ} {a : Tree} → IsTree P (kind_at P n) a → IsTree P (Mute n) (inner a)
   at_register : {r n : ℕ} {a : Tree} → IsTree P (kind_at P n) a → IsTree P (At r n) (inner a)
   write_register : {r : ℕ} → IsTree P (Write r) leaf
@@ -84,15 +85,15 @@ pub record Parses (P : Grammar) (n : ℕ) (t : Tree) (w : List ℕ) : Type 0 whe
   pub text : text_of t ≡ w
 
 -- the mark before a turn: none while turns are needed
-abbrev pub turn_mark : ℕ → List Symbol
-turn_mark zero = L ∷ []
-turn_mark (suc n) = []
+abbrev pub turn_mark : Bool → ℕ → List Symbol
+turn_mark lazy zero = symbol_of (turn_side lazy) ∷ []
+turn_mark lazy (suc n) = []
 
 -- the mark of the end: none where no turn is left
-abbrev pub end_mark : Option ℕ → List Symbol
-end_mark None = R ∷ []
-end_mark (Some zero) = []
-end_mark (Some (suc n)) = R ∷ []
+abbrev pub end_mark : Bool → Option ℕ → List Symbol
+end_mark lazy None = symbol_of (end_side lazy) ∷ []
+end_mark lazy (Some zero) = []
+end_mark lazy (Some (suc n)) = symbol_of (end_side lazy) ∷ []
 
 -- the code of a tree of this kind
 abbrev pub code : Grammar → Kind → Tree → List Symbol
@@ -101,8 +102,8 @@ code P (Call name) (inner a) = code P (kind_at P (root_of P name)) a
 code P (Seq l r) (pair a b) = code P (kind_at P l) a ++ code P (kind_at P r) b
 code P (Alt l r) (chose_left a) = L ∷ code P (kind_at P l) a
 code P (Alt l r) (chose_right a) = R ∷ code P (kind_at P r) a
-code P (Rep body min max) (turn a rest) = turn_mark min ++ (code P (kind_at P body) a ++ code P (Rep body (pred min) (less max)) rest)
-code P (Rep body min max) done = end_mark max
+code P (Rep body min max lazy) (turn a rest) = turn_mark lazy min ++ (code P (kind_at P body) a ++ code P (Rep body (pred min) (less max) lazy) rest)
+code P (Rep body min max lazy) done = end_mark lazy max
 code P (Mute n) (inner a) = code P (kind_at P n) a
 code P (At r n) (inner a) = code P (kind_at P n) a
 code P _ _ = []
@@ -129,7 +130,7 @@ meaning P (Call name) (inner a) regs = meaning P (kind_at P (root_of P name)) a 
 meaning P (Seq l r) (pair a b) regs = then_also (meaning P (kind_at P l) a regs) (meaning P (kind_at P r) b)
 meaning P (Alt l r) (chose_left a) regs = meaning P (kind_at P l) a regs
 meaning P (Alt l r) (chose_right a) regs = meaning P (kind_at P r) a regs
-meaning P (Rep body min max) (turn a rest) regs = then_also (meaning P (kind_at P body) a regs) (meaning P (Rep body (pred min) (less max)) rest)
+meaning P (Rep body min max lazy) (turn a rest) regs = then_also (meaning P (kind_at P body) a regs) (meaning P (Rep body (pred min) (less max) lazy) rest)
 meaning P (Mute n) (inner a) regs = muted_meaning (meaning P (kind_at P n) a regs)
 meaning P (At r n) (inner a) regs = kept_meaning r (meaning P (kind_at P n) a regs)
 meaning P (Write r) leaf regs = record { bytes = content_of regs r; registers = regs }
@@ -176,8 +177,8 @@ part P (Call name) (inner a) c regs = part P (kind_at P (root_of P name)) a c re
 part P (Seq l r) (pair a b) c regs = then_part (part P (kind_at P l) a c regs) (part P (kind_at P r) b)
 part P (Alt l r) (chose_left a) c regs = part_behind (L ∷ []) c regs (λ d. part P (kind_at P l) a d regs)
 part P (Alt l r) (chose_right a) c regs = part_behind (R ∷ []) c regs (λ d. part P (kind_at P r) a d regs)
-part P (Rep body min max) (turn a rest) c regs = part_behind (turn_mark min) c regs (λ d. then_part (part P (kind_at P body) a d regs) (part P (Rep body (pred min) (less max)) rest))
-part P (Rep body min max) done c regs = part_behind (end_mark max) c regs (λ d. record { bytes = []; registers = regs; rest = Some d })
+part P (Rep body min max lazy) (turn a rest) c regs = part_behind (turn_mark lazy min) c regs (λ d. then_part (part P (kind_at P body) a d regs) (part P (Rep body (pred min) (less max) lazy) rest))
+part P (Rep body min max lazy) done c regs = part_behind (end_mark lazy max) c regs (λ d. record { bytes = []; registers = regs; rest = Some d })
 part P (Mute n) (inner a) c regs = muted_part (part P (kind_at P n) a c regs)
 part P (At r n) (inner a) c regs = kept_part r (part P (kind_at P n) a c regs)
 part P (Write r) leaf c regs = record { bytes = content_of regs r; registers = regs; rest = Some c }

@@ -70,7 +70,7 @@ pub record LeftIsGreedy : Type 0 where
 
 -- main := a@/[ab]+/ ~/,/ b@/[12]+/ !b "," !a
 abbrev pub swap : Grammar
-swap = grammar 0 (Class (set_of (97 ∷ 98 ∷ [])) ∷ Rep 0 1 None ∷ At 0 1 ∷ Class (set_of (44 ∷ [])) ∷ Mute 3 ∷ Class (set_of (49 ∷ 50 ∷ [])) ∷ Rep 5 1 None ∷ At 1 6 ∷ Write 1 ∷ Lit (44 ∷ []) ∷ Write 0 ∷ Seq 9 10 ∷ Seq 8 11 ∷ Seq 7 12 ∷ Seq 4 13 ∷ Seq 2 14 ∷ [])
+swap = grammar 0 (Class (set_of (97 ∷ 98 ∷ [])) ∷ Rep 0 1 None false ∷ At 0 1 ∷ Class (set_of (44 ∷ [])) ∷ Mute 3 ∷ Class (set_of (49 ∷ 50 ∷ [])) ∷ Rep 5 1 None false ∷ At 1 6 ∷ Write 1 ∷ Lit (44 ∷ []) ∷ Write 0 ∷ Seq 9 10 ∷ Seq 8 11 ∷ Seq 7 12 ∷ Seq 4 13 ∷ Seq 2 14 ∷ [])
 
 abbrev pub swap_tree : Tree
 swap_tree = pair (inner (turn (byte 97) (turn (byte 98) done))) (pair (inner (byte 44)) (pair (inner (turn (byte 49) (turn (byte 50) done))) (pair leaf (pair leaf leaf))))
@@ -82,7 +82,7 @@ pub record RegistersSwap : Type 0 where
 
 -- main := [r <- "a"] (~/x/ [r += r])* !r
 abbrev pub doubling : Grammar
-doubling = grammar 0 (Set 0 (Said (97 ∷ []) ∷ []) ∷ Class (set_of (120 ∷ [])) ∷ Mute 1 ∷ Add 0 (Register 0 ∷ []) ∷ Seq 2 3 ∷ Rep 4 0 None ∷ Write 0 ∷ Seq 5 6 ∷ Seq 0 7 ∷ [])
+doubling = grammar 0 (Set 0 (Said (97 ∷ []) ∷ []) ∷ Class (set_of (120 ∷ [])) ∷ Mute 1 ∷ Add 0 (Register 0 ∷ []) ∷ Seq 2 3 ∷ Rep 4 0 None false ∷ Write 0 ∷ Seq 5 6 ∷ Seq 0 7 ∷ [])
 
 abbrev pub doubling_tree : Tree
 doubling_tree = let once : Tree = pair (inner (byte 120)) leaf in pair leaf (pair (turn once (turn once (turn once done))) leaf)
@@ -119,7 +119,7 @@ pub record RegisterIsWholeOrAsItWas : Type 0 where
 
 -- main := (~/x/ "y"){2,3}
 abbrev pub counted_loop : Grammar
-counted_loop = grammar 0 (Class (set_of (120 ∷ [])) ∷ Mute 0 ∷ Lit (121 ∷ []) ∷ Seq 1 2 ∷ Rep 3 2 (Some 3) ∷ [])
+counted_loop = grammar 0 (Class (set_of (120 ∷ [])) ∷ Mute 0 ∷ Lit (121 ∷ []) ∷ Seq 1 2 ∷ Rep 3 2 (Some 3) false ∷ [])
 
 abbrev pub counted_turn : Tree
 counted_turn = pair (inner (byte 120)) leaf
@@ -144,7 +144,7 @@ EndsAreOfNodes = Agreed (moves muted_twice) (start_of muted_twice 7) (97 ∷ [])
 
 -- main := /ab*c/
 abbrev pub breaks : Grammar
-breaks = grammar 0 (Class (set_of (97 ∷ [])) ∷ Class (set_of (98 ∷ [])) ∷ Rep 1 0 None ∷ Class (set_of (99 ∷ [])) ∷ Seq 2 3 ∷ Seq 0 4 ∷ [])
+breaks = grammar 0 (Class (set_of (97 ∷ [])) ∷ Class (set_of (98 ∷ [])) ∷ Rep 1 0 None false ∷ Class (set_of (99 ∷ [])) ∷ Seq 2 3 ∷ Seq 0 4 ∷ [])
 
 abbrev pub breaks_tree : Tree
 breaks_tree = pair (byte 97) (pair (turn (byte 98) done) (byte 99))
@@ -160,7 +160,7 @@ pub record TextsBreakOff : Type 0 where
 
 -- main := /a*/
 abbrev pub stars : Grammar
-stars = grammar 0 (Class (set_of (97 ∷ [])) ∷ Rep 0 0 None ∷ [])
+stars = grammar 0 (Class (set_of (97 ∷ [])) ∷ Rep 0 0 None false ∷ [])
 
 -- within 3 bytes `aaa` is whole; a fourth byte is too long, whatever it is
 pub record LimitStops : Type 0 where
@@ -174,7 +174,7 @@ pub record ShapeForks : Type 0 where
 
 -- start: a >> b, a := (~/x/ "yy")*, b := (~/yyy/ "z")*; and the end of it with b := /y/
 abbrev pub two_stages : Grammar
-two_stages = grammar 0 (Class (set_of (120 ∷ [])) ∷ Mute 0 ∷ Lit (121 ∷ 121 ∷ []) ∷ Seq 1 2 ∷ Rep 3 0 None ∷ Class (set_of (121 ∷ [])) ∷ Class (set_of (121 ∷ [])) ∷ Class (set_of (121 ∷ [])) ∷ Seq 6 7 ∷ Seq 5 8 ∷ Mute 9 ∷ Lit (122 ∷ []) ∷ Seq 10 11 ∷ Rep 12 0 None ∷ Class (set_of (121 ∷ [])) ∷ [])
+two_stages = grammar 0 (Class (set_of (120 ∷ [])) ∷ Mute 0 ∷ Lit (121 ∷ 121 ∷ []) ∷ Seq 1 2 ∷ Rep 3 0 None false ∷ Class (set_of (121 ∷ [])) ∷ Class (set_of (121 ∷ [])) ∷ Class (set_of (121 ∷ [])) ∷ Seq 6 7 ∷ Seq 5 8 ∷ Mute 9 ∷ Lit (122 ∷ []) ∷ Seq 10 11 ∷ Rep 12 0 None false ∷ Class (set_of (121 ∷ [])) ∷ [])
 
 -- on `xxq` stage 1 stops at byte 2, and stage 2 works off `yyyy` as open input; where stage 2 stops too, it is the one that is reported
 pub record LastStopIsReported : Type 0 where
@@ -183,7 +183,7 @@ pub record LastStopIsReported : Type 0 where
 
 -- main := ("x" | /a/)*
 abbrev pub loops : Grammar
-loops = grammar 0 (Lit (120 ∷ []) ∷ Class (set_of (97 ∷ [])) ∷ Alt 0 1 ∷ Rep 2 0 None ∷ [])
+loops = grammar 0 (Lit (120 ∷ []) ∷ Class (set_of (97 ∷ [])) ∷ Alt 0 1 ∷ Rep 2 0 None false ∷ [])
 
 abbrev pub empty_turn : Tree
 empty_turn = turn (chose_left leaf) done
@@ -197,3 +197,14 @@ pub record EmptyTurnsAreNoParses : Type 0 where
   pub parse : IsParse loops 3 done []
   pub parse_code : code_at loops 3 done ≡ R ∷ []
   pub nothing : meant_bytes loops 3 done ≡ []
+
+-- main := /a*?/
+abbrev pub lazy_stars : Grammar
+lazy_stars = grammar 0 (Class (set_of (97 ∷ [])) ∷ Rep 0 0 None true ∷ [])
+
+-- a lazy repetition has the end to its left, with the code L, and another turn to its right
+pub record LazyPrefersTheEnd : Type 0 where
+  pub first : moves lazy_stars (start_of lazy_stars 1) ≡ choose [] (Pending 0 0 None ∷ Pending 1 0 None ∷ [])
+  pub none : code_at lazy_stars 1 done ≡ L ∷ []
+  pub one : code_at lazy_stars 1 (turn (byte 97) done) ≡ R ∷ Byte 97 ∷ L ∷ []
+  pub tree : Parses lazy_stars 1 (turn (byte 97) done) (97 ∷ [])

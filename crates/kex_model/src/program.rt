@@ -20,6 +20,7 @@ pub enum Kind {
         body: u32,
         min: u32,
         max: Option<u32>,
+        lazy: bool,
     },
     Mute(u32),
     At(u32, u32),

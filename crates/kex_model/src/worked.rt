@@ -1,6 +1,6 @@
 // Worked examples of the definitions. Each function's contract is one.
 
-ghost use Rattle.kex_model.specs.Worked.{ChoiceIsLate, EmptyTurnsAreNoParses, EndsAreOfNodes, LastStopIsReported, LeftIsGreedy, LimitStops, MuteKeepsRegisters, RegisterDoubles, RegisterIsWholeOrAsItWas, RegistersSwap, ShapeForks, TextsBreakOff, TurnsAreCounted};
+ghost use Rattle.kex_model.specs.Worked.{ChoiceIsLate, EmptyTurnsAreNoParses, EndsAreOfNodes, LastStopIsReported, LazyPrefersTheEnd, LeftIsGreedy, LimitStops, MuteKeepsRegisters, RegisterDoubles, RegisterIsWholeOrAsItWas, RegistersSwap, ShapeForks, TextsBreakOff, TurnsAreCounted};
 
 /// A choice between parses is made where the texts part, and nothing is said before.
 pub fn choice_is_late()
@@ -23,6 +23,11 @@ pub fn registers_are_kept()
 /// What a repetition needs and has left.
 pub fn turns_are_counted()
     ensures { TurnsAreCounted }
+{}
+
+/// A lazy repetition prefers its end.
+pub fn lazy_prefers_the_end()
+    ensures { LazyPrefersTheEnd }
 {}
 
 /// The ends of two groups of one body are two places.
