@@ -10,7 +10,7 @@ use Rattle.kex_model.specs.Places.{Place, moves, start_of, steps_of}
 use Rattle.kex_model.specs.Survivors.{Agreed, HasTree}
 use Rattle.kex_model.specs.Answers.{stopped_answer, code_at, HasParse, GreedyParse, Says, Viable, at_byte, bad_byte, too_long, cut_off, whole, still_open}
 use Rattle.kex_model.specs.Laws.{StageAnswers}
-use Rattle.kex_model.specs.Worked.{late, late_tree, ChoiceIsLate, twice, twice_left, twice_right, LeftIsGreedy, RegistersSwap, doubling, RegisterDoubles, MuteKeepsRegisters, RegisterIsWholeOrAsItWas, counted_loop, counted_turn, TurnsAreCounted, muted_twice, EndsAreOfNodes, breaks, breaks_tree, TextsBreakOff, stars, LimitStops, ShapeForks, two_stages, LastStopIsReported, loops, EmptyTurnsAreNoParses, LazyPrefersTheEnd}
+use Rattle.kex_model.specs.Worked.{late, late_tree, ChoiceIsLate, twice, twice_left, twice_right, LeftIsGreedy, RegistersSwap, doubling, RegisterDoubles, MuteKeepsRegisters, RegisterIsWholeOrAsItWas, counted_loop, counted_turn, TurnsAreCounted, muted_twice, EndsAreOfNodes, breaks, breaks_tree, TextsBreakOff, stars, LimitStops, ShapeForks, two_stages, LastStopIsReported, loops, byte_turn, EmptyTurnsAreNoParses, LazyPrefersTheEnd}
 use Rattle.kex_model.proofs.Shapes.{tree_agrees}
 use Rattle.kex_model.proofs.AllPaths.{each_leads, leads_to_end, a_survivor, has_tree, not_viable, of_parse, longest_good, differ, once}
 use Rattle.kex_model.proofs.Correspondence.{parse_once}
@@ -396,6 +396,11 @@ empty_turns_are_no_parses = record {
   parse = parse_once loops 3 [] done (record { tree = end; text = refl }) (once (start_of loops 3 ∷ []) (steps_of loops 3 (kind_at loops 3) done []) refl);
   parse_code = refl;
   nothing = refl;
+  after_byte =
+      parse_once loops 3 (97 ∷ []) byte_turn (record { tree = again tt (alt_right (one_byte refl)) end; text = refl })
+      (once (start_of loops 3 ∷ []) (steps_of loops 3 (kind_at loops 3) byte_turn []) refl);
+  after_byte_code = refl;
+  after_byte_written = refl;
 }
 
 -- laziness

@@ -18,5 +18,6 @@ pub mod DistinctItems
 pub mod ChildOrder
 pub mod AllPaths
 pub mod Examples
+pub mod PlaceExamples
 pub mod Pipelines
 pub mod Reports

@@ -2,15 +2,15 @@
 use Rattle.std.specs.Prelude.{◌≡◌, ℕ, Bool, true, false, List, [], ◌∷◌, Some, None, map, replicate, slice_set}
 use Rattle.kex_code.specs.declared.symbol.Symbol.TheVariants.{L, R, Byte}
 use Rattle.kex_code.specs.declared.piece.Piece.TheVariants.{Lit as Said, Register}
-use Rattle.kex_code.specs.Codes.{Before}
+use Rattle.kex_code.specs.Codes.{Before, IsAmong}
 use Rattle.kex_model.specs.declared.program.Kind.{Kind}
 use Rattle.kex_model.specs.declared.program.Kind.TheVariants.{Lit, Class, Call, Seq, Alt, Rep, Mute, At, Write, Set, Add}
 use Rattle.kex_model.specs.declared.frame.Frame.TheVariants.{Pending}
 use Rattle.kex_model.specs.Programs.{Grammar}
-use Rattle.kex_model.specs.Moves.{choose, go, nothing}
+use Rattle.kex_model.specs.Moves.{Step, Walk, choose, go, nothing}
 use Rattle.kex_model.specs.Labelled.{place, parts}
 use Rattle.kex_model.specs.Trees.{Tree, leaf, byte, pair, chose_left, chose_right, inner, turn, done, Parses, kind_at, meaning, part}
-use Rattle.kex_model.specs.Places.{moves, start_of}
+use Rattle.kex_model.specs.Places.{Place, IsPlace, moves, start_of}
 use Rattle.kex_model.specs.Survivors.{Agreed, HasShape}
 use Rattle.kex_model.specs.Answers.{empty, code_at, IsParse, HasParse, GreedyParse, Means, Says, at_byte, at_end, at_limit, stopped_answer}
 use Rattle.kex_model.specs.Laws.{StageAnswers, StagesAnswer}
@@ -172,6 +172,31 @@ pub record ShapeForks : Type 0 where
   pub first : moves stars (start_of stars 1) ≡ choose (Pending 0 0 None ∷ Pending 1 0 None ∷ []) []
   pub shape : HasShape (moves stars) (start_of stars 1) [] (parts (place (Pending 0 0 None ∷ Pending 1 0 None ∷ [])) (place []))
 
+-- the places of `/a*/`: the repetition, a byte of another turn before it, and the end
+abbrev pub star_places : List Place
+star_places =
+    (Pending 1 0 None ∷ [])
+    ∷ (Pending 0 0 None ∷ Pending 1 0 None ∷ [])
+    ∷ []
+    ∷ []
+
+-- main := f /b/, f := /a/ f
+abbrev pub endless : Grammar
+endless =
+    grammar 2
+    (Class (set_of (97 ∷ [])) ∷ Call 0 ∷ Seq 0 1 ∷ Call 0 ∷ Class (set_of (98 ∷ [])) ∷ Seq 3 4 ∷ [])
+
+abbrev pub behind_endless : Place
+behind_endless = Pending 4 0 None ∷ []
+
+-- a stage's places are those that steps reach, and the rest of each: what follows a call that never
+-- ends is a place that no walk reaches
+pub record PlacesAreClosed : Type 0 where
+  pub three : (p : Place) → IsPlace stars 1 p → IsAmong star_places p
+  pub each : (p : Place) → IsAmong star_places p → IsPlace stars 1 p
+  pub rest : IsPlace endless 5 behind_endless
+  pub unreached : (ks : List (Step Place)) → ¬ Walk (moves endless) (start_of endless 5) ks behind_endless
+
 -- start: a >> b, a := (~/x/ "yy")*, b := (~/yyy/ "z")*; and the end of it with b := /y/
 abbrev pub two_stages : Grammar
 two_stages = grammar 0 (Class (set_of (120 ∷ [])) ∷ Mute 0 ∷ Lit (121 ∷ 121 ∷ []) ∷ Seq 1 2 ∷ Rep 3 0 None false ∷ Class (set_of (121 ∷ [])) ∷ Class (set_of (121 ∷ [])) ∷ Class (set_of (121 ∷ [])) ∷ Seq 6 7 ∷ Seq 5 8 ∷ Mute 9 ∷ Lit (122 ∷ []) ∷ Seq 10 11 ∷ Rep 12 0 None false ∷ Class (set_of (121 ∷ [])) ∷ [])
@@ -188,7 +213,12 @@ loops = grammar 0 (Lit (120 ∷ []) ∷ Class (set_of (97 ∷ [])) ∷ Alt 0 1 �
 abbrev pub empty_turn : Tree
 empty_turn = turn (chose_left leaf) done
 
--- a turn that reads nothing comes back to where it began: it has a code and a meaning, and is no parse; the parse of the empty text has no turn, and writes nothing
+abbrev pub byte_turn : Tree
+byte_turn = turn (chose_right (byte 97)) done
+
+-- a turn that reads nothing comes back to where it began: it has a code and a meaning, and is no
+-- parse; the parse of the empty text has no turn, and writes nothing; a turn that comes back after a
+-- byte is taken
 pub record EmptyTurnsAreNoParses : Type 0 where
   pub tree : Parses loops 3 empty_turn []
   pub code : code_at loops 3 empty_turn ≡ L ∷ L ∷ R ∷ []
@@ -197,6 +227,9 @@ pub record EmptyTurnsAreNoParses : Type 0 where
   pub parse : IsParse loops 3 done []
   pub parse_code : code_at loops 3 done ≡ R ∷ []
   pub nothing : meant_bytes loops 3 done ≡ []
+  pub after_byte : IsParse loops 3 byte_turn (97 ∷ [])
+  pub after_byte_code : code_at loops 3 byte_turn ≡ L ∷ R ∷ Byte 97 ∷ R ∷ []
+  pub after_byte_written : meant_bytes loops 3 byte_turn ≡ 97 ∷ []
 
 -- main := /a*?/
 abbrev pub lazy_stars : Grammar

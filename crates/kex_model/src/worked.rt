@@ -1,6 +1,6 @@
 // Worked examples of the definitions. Each function's contract is one.
 
-ghost use Rattle.kex_model.specs.Worked.{ChoiceIsLate, EmptyTurnsAreNoParses, EndsAreOfNodes, LastStopIsReported, LazyPrefersTheEnd, LeftIsGreedy, LimitStops, MuteKeepsRegisters, RegisterDoubles, RegisterIsWholeOrAsItWas, RegistersSwap, ShapeForks, TextsBreakOff, TurnsAreCounted};
+ghost use Rattle.kex_model.specs.Worked.{ChoiceIsLate, EmptyTurnsAreNoParses, EndsAreOfNodes, LastStopIsReported, LazyPrefersTheEnd, LeftIsGreedy, LimitStops, MuteKeepsRegisters, PlacesAreClosed, RegisterDoubles, RegisterIsWholeOrAsItWas, RegistersSwap, ShapeForks, TextsBreakOff, TurnsAreCounted};
 
 /// A choice between parses is made where the texts part, and nothing is said before.
 pub fn choice_is_late()
@@ -33,6 +33,11 @@ pub fn lazy_prefers_the_end()
 /// The ends of two groups of one body are two places.
 pub fn ends_are_of_nodes()
     ensures { EndsAreOfNodes }
+{}
+
+/// Places are closed under steps and rests.
+pub fn places_are_closed()
+    ensures { PlacesAreClosed }
 {}
 
 /// A turn that reads nothing belongs to trees and to no parse.
