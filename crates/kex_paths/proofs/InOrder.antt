@@ -1,5 +1,5 @@
 -- The lists of an update have old registers first, then the byte that is read, and then symbols.
-use Rattle.std.proofs.Common.{ℕ, suc, ◌+◌, Bool, true, false, List, [], ◌∷◌, ◌++◌, Option, Some, None, length, replicate, refl, sym, ap, subst, ◌∙◌}
+use Rattle.std.proofs.Common.{◌≡◌, ◌≢◌, ℕ, suc, ◌+◌, Bool, true, false, List, [], ◌∷◌, ◌++◌, Option, Some, None, length, replicate, refl, sym, ap, subst, ◌∙◌}
 use Rattle.kex_code.specs.declared.symbol.Symbol.{Symbol}
 use Rattle.kex_code.specs.declared.symbol.Symbol.TheVariants.{L, R}
 use Rattle.kex_model.specs.Moves.{Move, symbol_of}
@@ -52,29 +52,71 @@ visit_puts (is_forced {x = x} {a = a} lt e m v) = behind_holds ArePuts (Put (sym
 visit_puts (passes_on lt e m v) = visit_puts v
 
 puts_in_order : (c : List Part) → ArePuts c → IsInOrder c
-puts_in_order c (d, e) = record { registers = []; read = false; symbols = d; whole = e }
+puts_in_order c (d, e) = record { registers = []; read = false; symbols = d; whole = e; between = λ r s. absurd (r refl) }
 
-read_in_order : (c : List Part) → ArePuts c → IsInOrder (Input ∷ c)
-read_in_order c (d, e) = record { registers = []; read = true; symbols = d; whole = ap (λ z. Input ∷ z) e }
+-- the label of a whole tree: symbols stand in it only behind the byte, so old registers may go before them
+pub record IsRootLabel (c : List Part) : Type 0 where
+  pub order : IsInOrder c
+  pub read_first : order.symbols ≢ [] → order.read ≡ true
 
-old_in_order : (k : ℕ) (c : List Part) → IsInOrder c → IsInOrder (Old k ∷ c)
-old_in_order k c h = record { registers = k ∷ h.registers; read = h.read; symbols = h.symbols; whole = ap (λ z. Old k ∷ z) h.whole }
+root_order : (c : List Part) → IsRootLabel c → IsInOrder c
+root_order c h = h.order
 
-read_holds : (a : Option (Grown Part ℕ)) → Holds ArePuts a → Holds IsInOrder (with_prefix (Input ∷ []) a)
-read_holds None h = tt
-read_holds (Some g) h = (read_in_order g.label h.0, each_more ArePuts IsInOrder puts_in_order (labels_of g.tree) h.1)
+none_is_root : IsRootLabel []
+none_is_root = record {
+  order = record { registers = []; read = false; symbols = []; whole = refl; between = λ r s. absurd (r refl) };
+  read_first = λ s. absurd (s refl);
+}
 
-tip_in_order : {moves : ℕ → Move ℕ} {b p : ℕ} {f g : List Bool} {a : Option (Grown Part ℕ)} → Advances (λ s. Put s) Input moves b f (tip p) a g → Holds IsInOrder a
+read_is_root : (c : List Part) → ArePuts c → IsRootLabel (Input ∷ c)
+read_is_root c (d, e) = record {
+  order = record { registers = []; read = true; symbols = d; whole = ap (λ z. Input ∷ z) e; between = λ r s. refl };
+  read_first = λ s. refl;
+}
+
+old_is_root : (k : ℕ) (c : List Part) → IsRootLabel c → IsRootLabel (Old k ∷ c)
+old_is_root k c h = record {
+  order = record {
+    registers = k ∷ h.order.registers;
+    read = h.order.read;
+    symbols = h.order.symbols;
+    whole = ap (λ z. Old k ∷ z) h.order.whole;
+    between = λ r s. h.read_first s;
+  };
+  read_first = h.read_first;
+}
+
+-- a tree's root label, and the labels of its edges
+abbrev AreInOrder : Option (Grown Part ℕ) → Type 0
+AreInOrder None = Unit {0}
+AreInOrder (Some g) = IsRootLabel g.label × Each IsInOrder (labels_of g.tree)
+
+read_orders : (a : Option (Grown Part ℕ)) → Holds ArePuts a → AreInOrder (with_prefix (Input ∷ []) a)
+read_orders None h = tt
+read_orders (Some g) h = (read_is_root g.label h.0, each_more ArePuts IsInOrder puts_in_order (labels_of g.tree) h.1)
+
+old_orders : (k : ℕ) (a : Option (Grown Part ℕ)) → AreInOrder a → AreInOrder (with_prefix (Old k ∷ []) a)
+old_orders k None h = tt
+old_orders k (Some g) h = (old_is_root k g.label h.0, h.1)
+
+joined_orders : (a b : Option (Grown Part ℕ)) → AreInOrder a → AreInOrder b → AreInOrder (fork_of a b)
+joined_orders None None h k = tt
+joined_orders None (Some r) h k = k
+joined_orders (Some l) None h k = h
+joined_orders (Some l) (Some r) h k =
+    (none_is_root, (root_order l.label h.0, each-append IsInOrder (labels_of l.tree) (r.label ∷ labels_of r.tree) h.1 (root_order r.label k.0, k.1)))
+
+tip_in_order : {moves : ℕ → Move ℕ} {b p : ℕ} {f g : List Bool} {a : Option (Grown Part ℕ)} → Advances (λ s. Put s) Input moves b f (tip p) a g → AreInOrder a
 tip_in_order (dies h) = tt
-tip_in_order (reads_on {a = a} h v) = read_holds a (visit_puts v)
+tip_in_order (reads_on {a = a} h v) = read_orders a (visit_puts v)
 
-advance_in_order : (moves : ℕ → Move ℕ) (b k : ℕ) (f g : List Bool) (s : Shape ℕ) (a : Option (Grown Part ℕ)) → GoesOn moves b k f s a g → Holds IsInOrder a
+advance_in_order : (moves : ℕ → Move ℕ) (b k : ℕ) (f g : List Bool) (s : Shape ℕ) (a : Option (Grown Part ℕ)) → GoesOn moves b k f s a g → AreInOrder a
 advance_in_order moves b k f g (place p) a v = tip_in_order v
 advance_in_order moves b k f g (parts l r) a w =
     let t = sides_of w in
     let p = advance_in_order moves b (suc k) f t.between l t.left t.first in
     let q = advance_in_order moves b (suc (k + size_of l)) t.between g r t.right t.second in
-    subst (λ z. Holds IsInOrder z) (sym t.whole) (joined_holds IsInOrder (with_prefix (Old k ∷ []) t.left) (with_prefix (Old (k + size_of l) ∷ []) t.right) (puts_in_order [] no_puts) (behind_holds IsInOrder (Old k ∷ []) t.left (old_in_order k) p) (behind_holds IsInOrder (Old (k + size_of l) ∷ []) t.right (old_in_order (k + size_of l)) q))
+    subst AreInOrder (sym t.whole) (joined_orders (with_prefix (Old k ∷ []) t.left) (with_prefix (Old (k + size_of l) ∷ []) t.right) (old_orders k t.left p) (old_orders (k + size_of l) t.right q))
 
 changed : (P : List Part → Type 0) (u : Change) (a : Grown Part ℕ) → IsChange u a → Holds P (Some a) → P u.out × Each P u.regs
 changed P u a change h = (subst P (sym change.0) h.0, subst (λ z. Each P z) (sym change.1) h.1)
@@ -82,7 +124,7 @@ changed P u a change h = (subst P (sym change.0) h.0, subst (λ z. Each P z) (sy
 pub determines : (g : Graph) (b : ℕ) (s : Shape ℕ) → Determines g b s
 determines g b s = record {
   one = one_next g b s;
-  in_order = λ u a next change. changed IsInOrder u a change (advance_in_order (node_moves g.nodes) b 0 (replicate (length g.nodes) false) next.0 s (Some a) next.1);
+  in_order = λ u a next change. let h = advance_in_order (node_moves g.nodes) b 0 (replicate (length g.nodes) false) next.0 s (Some a) next.1 in changed IsInOrder u a change (root_order a.label h.0, h.1);
   rises = next_reads g b s;
 }
 

@@ -1,5 +1,5 @@
 -- Laws of how path trees go on.
-use Rattle.std.specs.Prelude.{◌≡◌, ℕ, suc, Bool, true, false, List, [], ◌∷◌, ◌++◌, Option, Some}
+use Rattle.std.specs.Prelude.{◌≡◌, ◌≢◌, ℕ, suc, Bool, true, false, List, [], ◌∷◌, ◌++◌, Option, Some}
 use Rattle.kex_code.specs.declared.symbol.Symbol.{Symbol}
 use Rattle.kex_model.specs.Labelled.{Shape, size_of, Grown}
 use Rattle.kex_model.specs.Survivors.{HasShape}
@@ -17,12 +17,14 @@ abbrev pub byte_if : Bool → List Part
 byte_if true = Input ∷ []
 byte_if false = []
 
--- old registers, each whole, then the byte that is read if it lies there, and then symbols
+-- old registers, each whole, then the byte that is read if it lies there, and then symbols: behind
+-- old registers only where the byte lies between
 pub record IsInOrder (xs : List Part) : Type 0 where
   pub registers : List ℕ
   pub read : Bool
   pub symbols : List Symbol
   pub whole : xs ≡ old_parts registers ++ (byte_if read ++ puts symbols)
+  pub between : registers ≢ [] → symbols ≢ [] → read ≡ true
 
 abbrev pub ArePuts : List Part → Type 0
 ArePuts xs = (c : List Symbol) × (xs ≡ puts c)
