@@ -1,8 +1,6 @@
 // Constants in place of their registers.
 
 ghost use Rattle.std.specs.Prelude.{◌≡◌, ◌++◌, IfOk, OnOk, map, get_or, None};
-ghost use Rattle.kex_model.specs.Moves.{symbol_of};
-ghost use Rattle.kex_machine.specs.Nodes.{side_of};
 ghost use Rattle.kex_constants.specs.Known.{item_if_kept};
 ghost use Rattle.kex_constants.specs.Clearing.{puts, parts_for, cleared_parts, cleared_change, cleared_transition, cleared_way, cleared_state, cleared_states, cleared_table};
 
@@ -16,20 +14,11 @@ use kex_sst::table::{State, Table, Transition};
 use kex_sst::updates::Updates;
 use std::alloc::Global;
 
-fn symbol_at(side: Bit) -> Symbol
-    ensures { result ≡ symbol_of (side_of side) }
-{
-    match side {
-        Bit::L => Symbol::L,
-        Bit::R => Symbol::R,
-    }
-}
-
 fn put_choices(choices: &[Bit], into: &mut Parts) -> Result<(), Memory>
     ensures { OnOk result (into.new ≡ into.old ++ puts choices.now) }
 {
     for side in choices {
-        into.push(Part::Put(symbol_at(*side)))?;
+        into.push(Part::Put(Symbol::from(*side)))?;
     }
     Ok(())
 }

@@ -12,17 +12,17 @@ ghost use Rattle.kex_frontier.specs.Going.{Advances, trees_at_end};
 ghost use Rattle.kex_machine.specs.Nodes.{StaysWithin};
 
 use crate::forest::{Forest, Spare, TreeEdge};
-use crate::visit::{Tools, node_at, walk};
+use crate::visit::{Tools, walk};
 use kex_code::memory::Memory;
 use kex_code::symbol::Symbol;
-use kex_machine::MNode;
+use kex_machine::{MNode, node_at};
 
 // Where a byte leads from a place, if it leads on.
 fn next_by(nodes: &[MNode], place: u32, byte: u8) -> Option<u32>
     requires { place < length nodes.now }
     ensures { MatchOption result ((t : ℕ) → Allows (node_moves nodes.now place) (took byte t) → ⊥) (λ t. Allows (node_moves nodes.now place) (took byte t)) }
 {
-    match node_at(nodes, place) {
+    match node_at(nodes, place as usize) {
         MNode::Read(set, next) => { if set.has(byte) { Some(*next) } else { None } }
         _ => None,
     }
@@ -95,7 +95,7 @@ fn end_edge(
 {
     match at {
         None => found.choose(),
-        Some(place) => match node_at(nodes, place) {
+        Some(place) => match node_at(nodes, place as usize) {
             MNode::Accept => found.add_tip(place, spare),
             _ => found.add_none(),
         },

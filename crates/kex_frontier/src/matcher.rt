@@ -10,7 +10,7 @@ ghost use Rattle.kex_frontier.specs.Matchers.{IsAnswer, WasFed};
 
 use crate::row::Row;
 use kex_code::memory::Memory;
-use kex_machine::{MNode, Trimmed};
+use kex_machine::{MNode, Trimmed, node_at};
 use std::alloc::Global;
 use std::marker::Model;
 use std::mem;
@@ -22,14 +22,6 @@ pub enum Matched {
     On,
     /// No such text has; the longest front of which one has is this many bytes long.
     Dead(u64),
-}
-
-// A node, and what there is to do there.
-fn node_at(nodes: &[MNode], n: usize) -> &MNode
-    requires { n < length nodes.now }
-    ensures { node_moves nodes.now n ≡ move_of (Some result.now) }
-{
-    &nodes[n]
 }
 
 // Marks a place; one that wasn't marked is fresh too. Gives the end, or what is past the place if that is more.
@@ -203,7 +195,8 @@ impl<'m> Matcher<'m> {
 
     /// Takes a piece of the text. `Dead` exactly where no parse begins with all bytes, and then for good.
     ///
-    /// A byte costs time in the words of a row, and in the places that are marked.
+    /// A byte costs time in the words of a row, and in the places that are marked. Where a step without a byte leads to a higher
+    /// place, the words between are looked through again.
     pub fn feed(&mut self, piece: &[u8]) -> Matched
         requires { self.old.good + length piece.now < 2 ^ 64 }
         ensures fed { (w : List ℕ) → WasFed self.old w → WasFed self.new (w ++ piece.now) × IsAnswer result self.new.machine (w ++ piece.now) }

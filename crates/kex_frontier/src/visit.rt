@@ -3,8 +3,7 @@
 ghost use Rattle.std.specs.Prelude.{◌≡◌, ℕ, ◌<◌, ◌++◌, ◌∷◌, [], List, Option, Some, IfOk, OnOk, replicate, reverse, length, get_or, set, false, true};
 ghost use Rattle.kex_code.specs.declared.symbol.Symbol.{Symbol};
 ghost use Rattle.kex_model.specs.Labelled.{Grown};
-ghost use Rattle.kex_model.specs.Moves.{symbol_of};
-ghost use Rattle.kex_machine.specs.Nodes.{node_moves, move_of, side_of, StaysWithin};
+ghost use Rattle.kex_machine.specs.Nodes.{node_moves, StaysWithin};
 ghost use Rattle.kex_frontier.specs.Edges.{HasTrees};
 ghost use Rattle.kex_frontier.specs.Going.{Visits};
 ghost use Rattle.kex_frontier.specs.Tasks.{tasks_from, leaf_at, tasks_at, trees_at};
@@ -13,7 +12,7 @@ use crate::forest::{Forest, Spare};
 use kex_code::memory::Memory;
 use kex_code::symbol::Symbol;
 use kex_machine::marks::Marks;
-use kex_machine::{Bit, MNode};
+use kex_machine::{MNode, node_at};
 use std::alloc::Global;
 
 /// What is still to be done: a place is to be visited, a symbol put in front of the last tree, the last two trees merged.
@@ -48,23 +47,6 @@ impl Tools {
     }
 }
 
-/// A node, and what there is to do there.
-pub fn node_at(nodes: &[MNode], n: u32) -> &MNode
-    requires { n < length nodes.now }
-    ensures { node_moves nodes.now n ≡ move_of (Some result.now) }
-{
-    &nodes[n as usize]
-}
-
-fn symbol_at(side: Bit) -> Symbol
-    ensures { result ≡ symbol_of (side_of side) }
-{
-    match side {
-        Bit::L => Symbol::L,
-        Bit::R => Symbol::R,
-    }
-}
-
 // A place that wasn't met: where it leads without a byte is to be visited, or it is a tree.
 fn enter(
     nodes: &[MNode],
@@ -77,7 +59,7 @@ fn enter(
     ensures tasks { OnOk result (tasks.new.items ≡ tasks.old.items ++ tasks_from (node_moves nodes.now n)) }
     ensures trees { OnOk result ((rs : List (Option (Grown Symbol ℕ))) → HasTrees reverse fresh.old rs → HasTrees reverse fresh.new (leaf_at (node_moves nodes.now n) n ++ rs)) }
 {
-    match node_at(nodes, n) {
+    match node_at(nodes, n as usize) {
         MNode::Accept => fresh.add_tip(n, spare),
         MNode::Read(_, _) => fresh.add_tip(n, spare),
         MNode::Choice(l, r) => {
@@ -89,7 +71,7 @@ fn enter(
             Ok(())
         }
         MNode::Forced(side, next) => {
-            tasks.push(Task::Front(symbol_at(*side)))?;
+            tasks.push(Task::Front(Symbol::from(*side)))?;
             tasks.push(Task::Visit(*next))?;
             Ok(())
         }

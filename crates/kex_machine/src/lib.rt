@@ -7,11 +7,13 @@
 pub mod laws;
 pub mod marks;
 
-ghost use Rattle.std.specs.Prelude.{◌≡◌, ℕ, [], ◌∷◌, ◌++◌, List};
-ghost use Rattle.kex_machine.specs.Nodes.{Graph, IsInRange, IsTrimmed, HasClasses};
+ghost use Rattle.std.specs.Prelude.{◌≡◌, ℕ, ◌<◌, [], ◌∷◌, ◌++◌, List, Some, length};
+ghost use Rattle.kex_model.specs.Moves.{symbol_of};
+ghost use Rattle.kex_machine.specs.Nodes.{Graph, IsInRange, IsTrimmed, HasClasses, side_of, move_of, node_moves};
 
 use kex_byteset::{ByteSet, Partition};
 use kex_code::piece::{Bytes, Pieces};
+use kex_code::symbol::Symbol;
 use std::marker::Model;
 
 /// What a step does to the output, the open buffers and the registers.
@@ -33,6 +35,17 @@ pub enum Bit {
     R,
 }
 
+impl From<Bit> for Symbol {
+    ghost from_gives = { λ side s. s ≡ symbol_of (side_of side) };
+
+    fn from(side: Bit) -> Symbol {
+        match side {
+            Bit::L => Symbol::L,
+            Bit::R => Symbol::R,
+        }
+    }
+}
+
 /// A machine's node, with the numbers of those where it leads. `Forced` gives the symbol of a choice that trimming has
 /// left one side of.
 #[derive(Drop)]
@@ -43,6 +56,14 @@ pub enum MNode {
     Forced(Bit, u32),
     Do(Effect, u32),
     Skip(u32),
+}
+
+/// The node of a number.
+pub fn node_at(nodes: &[MNode], n: usize) -> &MNode
+    requires { n < length nodes.now }
+    ensures { node_moves nodes.now n ≡ move_of (Some result.now) }
+{
+    &nodes[n]
 }
 
 /// Nodes by number, and the one to start from.

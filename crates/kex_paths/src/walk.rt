@@ -2,8 +2,7 @@
 
 ghost use Rattle.std.specs.Prelude.{◌≡◌, ℕ, ◌<◌, ◌≤◌, ◌^◌, ◌↔◌, ◌++◌, ◌∷◌, [], List, Bool, Option, Some, IsTrue, OnOk, IfOk, length, get_or, set, replicate, true, false};
 ghost use Rattle.kex_model.specs.Labelled.{Grown};
-ghost use Rattle.kex_model.specs.Moves.{symbol_of};
-ghost use Rattle.kex_machine.specs.Nodes.{node_moves, move_of, side_of, StaysWithin};
+ghost use Rattle.kex_machine.specs.Nodes.{node_moves, StaysWithin};
 ghost use Rattle.kex_sst.specs.declared.parts.Part.{Part};
 ghost use Rattle.kex_paths.specs.Alikes.{LeadAlikeAt};
 ghost use Rattle.kex_paths.specs.Forests.{HasTrees, last_tree};
@@ -13,7 +12,7 @@ use crate::forest::Forest;
 use kex_code::memory::Memory;
 use kex_code::symbol::Symbol;
 use kex_machine::marks::Marks;
-use kex_machine::{Bit, MNode};
+use kex_machine::{MNode, node_at};
 use kex_sst::parts::Part;
 use std::alloc::Global;
 
@@ -57,30 +56,13 @@ impl Tools {
     }
 }
 
-// A node, and what there is to do there.
-fn node_at(nodes: &[MNode], n: u32) -> &MNode
-    requires { n < length nodes.now }
-    ensures { node_moves nodes.now n ≡ move_of (Some result.now) }
-{
-    &nodes[n as usize]
-}
-
-fn symbol_at(side: Bit) -> Symbol
-    ensures { result ≡ symbol_of (side_of side) }
-{
-    match side {
-        Bit::L => Symbol::L,
-        Bit::R => Symbol::R,
-    }
-}
-
 // A place that wasn't met: where it leads without a byte is to be visited, or it is a tree.
 fn enter(nodes: &[MNode], n: u32, forest: &mut Forest, tasks: &mut Vec<Task>) -> Result<(), Memory>
     requires { n < length nodes.now }
     ensures tasks { OnOk result (tasks.new.items ≡ tasks.old.items ++ tasks_from (node_moves nodes.now n)) }
     ensures trees { OnOk result ((rs : List (Option (Grown Part ℕ))) → HasTrees forest.old rs → HasTrees forest.new (leaf_at (node_moves nodes.now n) n ++ rs)) }
 {
-    match node_at(nodes, n) {
+    match node_at(nodes, n as usize) {
         MNode::Accept => forest.add_tip(n),
         MNode::Read(_, _) => forest.add_tip(n),
         MNode::Choice(l, r) => {
@@ -92,7 +74,7 @@ fn enter(nodes: &[MNode], n: u32, forest: &mut Forest, tasks: &mut Vec<Task>) ->
             Ok(())
         }
         MNode::Forced(side, next) => {
-            tasks.push(Task::Front(Part::Put(symbol_at(*side))))?;
+            tasks.push(Task::Front(Part::Put(Symbol::from(*side))))?;
             tasks.push(Task::Visit(*next))?;
             Ok(())
         }
@@ -140,7 +122,7 @@ fn read(
     ensures tasks { OnOk result (tasks.new.items ≡ tasks.old.items ++ read_tasks (node_moves nodes.now place) byte) }
     ensures trees { OnOk result ((rs : List (Option (Grown Part ℕ))) → HasTrees forest.old rs → HasTrees forest.new (read_dead (node_moves nodes.now place) byte ++ rs)) }
 {
-    if let MNode::Read(set, next) = node_at(nodes, place) {
+    if let MNode::Read(set, next) = node_at(nodes, place as usize) {
         if set.has(byte) {
             tasks.push(Task::Front(Part::Input))?;
             tasks.push(Task::Visit(*next))?;
@@ -155,7 +137,7 @@ pub fn leads_alike(nodes: &[MNode], place: u32, byte: u8, other: u8) -> bool
     requires { place < length nodes.now }
     ensures { IsTrue result ↔ LeadAlikeAt (node_moves nodes.now) byte other place }
 {
-    if let MNode::Read(set, _) = node_at(nodes, place) {
+    if let MNode::Read(set, _) = node_at(nodes, place as usize) {
         return set.has(byte) == set.has(other);
     }
     true

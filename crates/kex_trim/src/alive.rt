@@ -4,8 +4,7 @@ ghost use Rattle.std.specs.Prelude.{◌≡◌, ◌<◌, ◌++◌, ◌∷◌, [],
 ghost use Rattle.kex_machine.specs.Nodes.{move_of};
 ghost use Rattle.kex_trim.specs.Ways.{Adds, EachUnder, IsAlive, IsReverse, LeadsBelow, Marks, listed_ways, ways};
 
-use crate::node_at;
-use kex_machine::MNode;
+use kex_machine::{MNode, node_at};
 use std::alloc::{AllocError, Global};
 use std::marker::Model;
 
@@ -113,7 +112,7 @@ fn sources_of(alloc: Global, nodes: &[MNode]) -> Result<Vec<Sources>, AllocError
 {
     let mut into = no_sources(alloc, nodes.len())?;
     for n in 0..nodes.len() {
-        let found = ways_of(node_at(nodes, n as u32));
+        let found = ways_of(node_at(nodes, n));
         add_ways(&mut into, found, n as u32)?;
     }
     Ok(into)
@@ -152,7 +151,7 @@ pub(crate) fn alive_nodes(alloc: Global, nodes: &[MNode]) -> Result<Vec<bool>, A
     let mut alive = vec![in alloc; false; nodes.len()]?;
     let mut stack = Vec::new(alloc);
     for n in 0..nodes.len() {
-        if let MNode::Accept = node_at(nodes, n as u32) {
+        if let MNode::Accept = node_at(nodes, n) {
             reach_one(&mut alive, &mut stack, n as u32)?;
         }
     }

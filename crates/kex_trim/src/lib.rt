@@ -4,8 +4,7 @@
 //! same codes and effects.
 #![tactic(auto)]
 
-ghost use Rattle.std.specs.Prelude.{◌≡◌, ◌<◌, length, Some, IfOk, IfErr};
-ghost use Rattle.kex_machine.specs.Nodes.{move_of, node_moves};
+ghost use Rattle.std.specs.Prelude.{◌≡◌, IfOk, IfErr};
 ghost use Rattle.kex_trim.specs.Trim.{IsCause, IsTrimOf};
 ghost use Rattle.kex_trim.specs.declared.TrimRefusal.TheVariants.{Memory};
 
@@ -14,7 +13,7 @@ mod kept;
 
 use crate::alive::alive_nodes;
 use crate::kept::{number, shrink};
-use kex_machine::{MNode, Machine, Trimmed};
+use kex_machine::{Machine, Trimmed};
 use std::alloc::{AllocError, Global};
 use thiserror::Error;
 
@@ -35,14 +34,6 @@ impl From<AllocError> for TrimRefusal {
     fn from(_: AllocError) -> TrimRefusal {
         TrimRefusal::Memory
     }
-}
-
-// A node, and what there is to do there.
-pub(crate) fn node_at(nodes: &[MNode], n: u32) -> &MNode
-    requires { n < length nodes.now }
-    ensures { node_moves nodes.now n ≡ move_of (Some result.now) }
-{
-    &nodes[n as usize]
 }
 
 /// The machine without dead ends.

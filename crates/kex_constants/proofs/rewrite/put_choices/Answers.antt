@@ -10,7 +10,7 @@ use Rattle.kex_constants.proofs.rewrite.put_choices.Goals as goal
 pub loop-side-preserved : goal.loop-side-preserved
 loop-side-preserved c =
     c.in_ok-push.ensures.added
-    ∙ ap (λ z. c.loop-side.into ++ Put z ∷ []) c.symbol_at.ensures
+    ∙ ap (λ z. c.loop-side.into ++ Put z ∷ []) c.from.ensures
     ∙ ap (λ z. z ++ Put (symbol_of (side_of (get_or c.args.choices.now c.loop-side.side-index L))) ∷ []) c.loop-side.invariant
     ∙ append_assoc c.args.into.now (puts (take c.loop-side.side-index c.args.choices.now)) (Put (symbol_of (side_of (get_or c.args.choices.now c.loop-side.side-index L))) ∷ [])
     ∙ ap (λ z. c.args.into.now ++ z) (sym (puts_more c.args.choices.now c.loop-side.side-index c.loop-side-test.true))
