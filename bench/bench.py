@@ -1,5 +1,5 @@
 #!/usr/bin/env python3
-"""Runs programs of examples/ over generated input, beside whichever of mawk, gawk, perl, sed and ragel are installed.
+"""Runs programs of examples/ and tests/ over generated input, beside other tools that are installed.
 
   bench/bench.py --kex crates/kex/out/kex            a table: MB/s of processor time, peak memory, and time a byte at 1, 4 and 16 MiB
   bench/bench.py --kex crates/kex/out/kex --check    64 KiB of each: only whether all outputs agree
@@ -17,7 +17,7 @@ import sys
 import tempfile
 
 HERE = os.path.dirname(os.path.abspath(__file__))
-EXAMPLES = os.path.join(HERE, "..", "examples")
+FOLDERS = [os.path.join(HERE, "..", it) for it in ("examples", "tests")]
 MIB = 1 << 20
 LAUNCH = None  # the built launch.c
 WORDS = "time year people way day man thing woman life child world school state family student group country problem hand part".split()
@@ -65,6 +65,14 @@ def many_states(r):
 
 
 WORKLOADS = {f.__name__: f for f in (csv_swap, syslog_tsv, csv_json, thousands, fastq_fasta, two_stages, many_states)}
+
+
+def program(name):
+    """The file of the program of this name."""
+    files = [os.path.join(folder, name + ".kex") for folder in FOLDERS]
+    return next(it for it in files if os.path.exists(it))
+
+
 TOOLS = {
     "mawk": (".awk", ["mawk", "-f"]),
     "gawk": (".awk", ["gawk", "-b", "-f"]),
@@ -138,7 +146,7 @@ def check(folder, kex, name, wanted):
     """Whether kex and the peers that are here write the same."""
     source = make_input(folder, name, 64 << 10)
     target = os.path.join(folder, "out")
-    status, _, _ = run(kex + [os.path.join(EXAMPLES, name + ".kex")], source, target)
+    status, _, _ = run(kex + [program(name)], source, target)
     ours = digest(target)
     good = status == 0
     if not good:
@@ -155,7 +163,7 @@ def measure(folder, kex, name, wanted, size, runs):
     source = make_input(folder, name, size)
     target = os.path.join(folder, "out")
     length = os.path.getsize(source)
-    command = kex + [os.path.join(EXAMPLES, name + ".kex")]
+    command = kex + [program(name)]
     status, seconds, peak = best(command, source, target, runs)
     ours = digest(target)
     cells = {"kex": length / 1e6 / seconds if status == 0 else None}
