@@ -25,7 +25,7 @@ pub data SameKind (R N G : ℕ → ℕ → Type 0) : Kind → Kind → Type 0 wh
   call : {k l : ℕ} → N k l → SameKind R N G (Call k) (Call l)
   seq : {l r l' r' : ℕ} → R l l' → R r r' → SameKind R N G (Seq l r) (Seq l' r')
   alt : {l r l' r' : ℕ} → R l l' → R r r' → SameKind R N G (Alt l r) (Alt l' r')
-  rep : {n n' min : ℕ} {max : Option ℕ} → R n n' → SameKind R N G (Rep n min max) (Rep n' min max)
+  rep : {n n' min : ℕ} {max : Option ℕ} {lazy : Bool} → R n n' → SameKind R N G (Rep n min max lazy) (Rep n' min max lazy)
   mute : {n n' : ℕ} → R n n' → SameKind R N G (Mute n) (Mute n')
   at_register : {r r' n n' : ℕ} → G r r' → R n n' → SameKind R N G (At r n) (At r' n')
   write_register : {r r' : ℕ} → G r r' → SameKind R N G (Write r) (Write r')
@@ -52,7 +52,7 @@ same_more f (add_register g p) = add_register g p
 abbrev pub rank : Kind → ℕ
 rank (Alt l r) = 0
 rank (Seq l r) = 1
-rank (Rep n min max) = 2
+rank (Rep n min max lazy) = 2
 rank (Mute n) = 2
 rank (At r n) = 2
 rank _ = 3

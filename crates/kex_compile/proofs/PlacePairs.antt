@@ -1,5 +1,5 @@
 -- The places of a stage in two alike programs: they correspond one to one, and what one leads to without a byte or to the end the other does.
-use Rattle.std.proofs.Common.{◌≡◌, ℕ, zero, suc, Bool, List, [], ◌∷◌, ◌++◌, inl, inr, ⊎_elim, Option, Some, None, length, refl, sym, ap, ◌∙◌, subst}
+use Rattle.std.proofs.Common.{◌≡◌, ℕ, zero, suc, Bool, true, false, List, [], ◌∷◌, ◌++◌, inl, inr, ⊎_elim, Option, Some, None, length, refl, sym, ap, ◌∙◌, subst}
 use Rattle.std.specs.Prelude.{IsTrue}
 use Rattle.kex_byteset.specs.Sets.{has}
 use Rattle.kex_code.specs.Codes.{IsAmong, Different, bytes_of}
@@ -156,9 +156,11 @@ module _ (P Q : Grammar) (a : Alike P Q) (known : (name at : ℕ) → IsUse P na
   kind_moves n m need left h (seq e f) s = goes_on (enter_on _ _ e (enter_on _ _ f s))
   kind_moves n m need left h (alt e f) s = chooses (enter_on _ _ e s) (enter_on _ _ f s)
   kind_moves n m (suc need) left h (rep e) s = goes_on (enter_on _ _ e (pending h s))
-  kind_moves n m zero None h (rep e) s = chooses (enter_on _ _ e (pending h s)) s
+  kind_moves n m zero None h (rep {lazy = false} e) s = chooses (enter_on _ _ e (pending h s)) s
+  kind_moves n m zero None h (rep {lazy = true} e) s = chooses s (enter_on _ _ e (pending h s))
   kind_moves n m zero (Some zero) h (rep e) s = goes_on s
-  kind_moves n m zero (Some (suc left)) h (rep e) s = chooses (enter_on _ _ e (pending h s)) s
+  kind_moves n m zero (Some (suc left)) h (rep {lazy = false} e) s = chooses (enter_on _ _ e (pending h s)) s
+  kind_moves n m zero (Some (suc left)) h (rep {lazy = true} e) s = chooses s (enter_on _ _ e (pending h s))
   kind_moves n m need left h (mute e) s = goes_on (enter_on _ _ e (ends h s))
   kind_moves n m need left h (at_register g e) s = goes_on (enter_on _ _ e (ends h s))
   kind_moves n m need left h (write_register g) s = goes_on s

@@ -10,7 +10,7 @@ use Rattle.kex_code.specs.declared.piece.Piece.{Piece}
 use Rattle.kex_code.specs.Registers.{Registers, content_of, with_content, pieces_text}
 use Rattle.kex_model.specs.Programs.{Grammar}
 use Rattle.kex_model.specs.declared.program.Kind.{Kind}
-use Rattle.kex_model.specs.Trees.{kind_at, root_of, Tree, IsTree, one, lit, one_byte, call, seq, alt_left, alt_right, needed, again, end, mute, at_register, write_register, set_register, add_register, code, meaning, end_mark, Part, part_behind, go_on, then_part, put_whole, kept_part, part}
+use Rattle.kex_model.specs.Trees.{kind_at, root_of, Tree, IsTree, one, lit, one_byte, call, seq, alt_left, alt_right, needed, again, end, mute, at_register, write_register, set_register, add_register, code, meaning, turn_mark, end_mark, Part, part_behind, go_on, then_part, put_whole, kept_part, part}
 use Rattle.kex_model.specs.Answers.{empty}
 use Rattle.kex_model.proofs.PartialMeanings.{part_whole}
 use Rattle.kex_rules.specs.Rules.{IsDefined, IsUse}
@@ -145,7 +145,7 @@ module _ (P Q : Grammar) (a : Alike P Q) (known : (name at : ℕ) → IsUse P na
   code_on (kinds.alt e f) (alt_left s) = ap (λ z. L ∷ z) (code_on (below _ _ e) s)
   code_on (kinds.alt e f) (alt_right s) = ap (λ z. R ∷ z) (code_on (below _ _ f) s)
   code_on (kinds.rep e) (needed s t) = ap₂ (λ x y. x ++ y) (code_on (below _ _ e) s) (code_on (kinds.rep e) t)
-  code_on (kinds.rep e) (again i s t) = ap₂ (λ x y. L ∷ (x ++ y)) (code_on (below _ _ e) s) (code_on (kinds.rep e) t)
+  code_on (kinds.rep {lazy = lazy} e) (again i s t) = ap₂ (λ x y. turn_mark lazy zero ++ (x ++ y)) (code_on (below _ _ e) s) (code_on (kinds.rep e) t)
   code_on (kinds.rep e) end = refl
   code_on (kinds.mute e) (mute s) = code_on (below _ _ e) s
   code_on (kinds.at_register g e) (at_register s) = code_on (below _ _ e) s
@@ -162,8 +162,8 @@ module _ (P Q : Grammar) (a : Alike P Q) (known : (name at : ℕ) → IsUse P na
   part_on (kinds.alt e f) (alt_left s) c regs regs' h = behind_on P Q a (L ∷ []) c regs regs' _ _ h (λ d. part_on (below _ _ e) s d regs regs' h)
   part_on (kinds.alt e f) (alt_right s) c regs regs' h = behind_on P Q a (R ∷ []) c regs regs' _ _ h (λ d. part_on (below _ _ f) s d regs regs' h)
   part_on (kinds.rep e) (needed s t) c regs regs' h = then_on P Q a _ _ _ _ (part_on (below _ _ e) s c regs regs' h) (part_on (kinds.rep e) t)
-  part_on (kinds.rep e) (again i s t) c regs regs' h = behind_on P Q a (L ∷ []) c regs regs' _ _ h (λ d. then_on P Q a _ _ _ _ (part_on (below _ _ e) s d regs regs' h) (part_on (kinds.rep e) t))
-  part_on (kinds.rep e) (end {max = max}) c regs regs' h = behind_on P Q a (end_mark max) c regs regs' _ _ h (λ d. record { bytes = refl; registers = h; rest = refl })
+  part_on (kinds.rep {lazy = lazy} e) (again i s t) c regs regs' h = behind_on P Q a (turn_mark lazy zero) c regs regs' _ _ h (λ d. then_on P Q a _ _ _ _ (part_on (below _ _ e) s d regs regs' h) (part_on (kinds.rep e) t))
+  part_on (kinds.rep {lazy = lazy} e) (end {max = max}) c regs regs' h = behind_on P Q a (end_mark lazy max) c regs regs' _ _ h (λ d. record { bytes = refl; registers = h; rest = refl })
   part_on (kinds.mute e) (mute s) c regs regs' h = let x = part_on (below _ _ e) s c regs regs' h in record { bytes = refl; registers = x.registers; rest = x.rest }
   part_on (kinds.at_register g e) (at_register s) c regs regs' h = kept_on P Q a _ _ _ _ g (part_on (below _ _ e) s c regs regs' h)
   part_on (kinds.write_register {r = r} {r' = r'} g) write_register c regs regs' h = record { bytes = h.same r r' g; registers = h; rest = refl }

@@ -119,7 +119,7 @@ module _ (one_body : (bytes : List ℕ) (r q : Body) → Spells r bytes → Spel
         let more = rises at (i + length (atom a)) (postfix p) (spaced_rest at i (atom a) (postfix p) sp) in
         let rest = atom_of a m m' i x x' (spaced_front at i (atom a) (postfix p) sp) in
         within made.nodes made'.nodes N G n n' (4 * at i + 2) _ (4 * at (i + length (atom a))) _ (omega arith) (omega (arith, to, more))
-        (on_top made.nodes made'.nodes N G n n' (record { kind = kinds.Rep m (low p) (high p); at = at i }) (record { kind = kinds.Rep m' (low p) (high p); at = at i }) (4 * at i + 2) (4 * at i + 3) _ rest.pairs (e whole) (e' whole') refl (rep rest.top) (omega arith) (omega arith) rest.match rest.rising)
+        (on_top made.nodes made'.nodes N G n n' (record { kind = kinds.Rep m (low p) (high p) false; at = at i }) (record { kind = kinds.Rep m' (low p) (high p) false; at = at i }) (4 * at i + 2) (4 * at i + 3) _ rest.pairs (e whole) (e' whole') refl (rep rest.top) (omega arith) (omega arith) rest.match rest.rising)
 
     atom_of : (a : Atom) (n n' i : ℕ) → ShowsAtom a made at n i → ShowsAtom a made' at n' i → Spaced at i (atom a) → Both n n' (4 * at i + 3) (4 * at (i + length (atom a)))
     atom_of One n n' i e e' sp = leaf n n' i _ _ _ e e' one refl (omega arith) sp

@@ -1,5 +1,5 @@
 -- The registers of what a place does are below the program's count.
-use Rattle.std.proofs.Common.{◌≡◌, ℕ, zero, suc, [], ◌∷◌, ⊎_elim, Option, Some, None, length, refl, sym, subst}
+use Rattle.std.proofs.Common.{◌≡◌, ℕ, zero, suc, true, false, [], ◌∷◌, ⊎_elim, Option, Some, None, length, refl, sym, subst}
 use Rattle.std.specs.Prelude.{slice_get}
 use Rattle.std.proofs.lemmas.Option.{slice_get_cases}
 use Rattle.kex_model.specs.declared.program.Kind.{Kind}
@@ -42,10 +42,12 @@ module _ (P : Grammar) (ok : IsGrammar P) where
   of_kind n (Call name) need left rest h = tt
   of_kind n (Seq l r) need left rest h = tt
   of_kind n (Alt l r) need left rest h = tt
-  of_kind n (Rep body min max) (suc need) left rest h = tt
-  of_kind n (Rep body min max) zero None rest h = tt
-  of_kind n (Rep body min max) zero (Some zero) rest h = tt
-  of_kind n (Rep body min max) zero (Some (suc m)) rest h = tt
+  of_kind n (Rep body min max lazy) (suc need) left rest h = tt
+  of_kind n (Rep body min max false) zero None rest h = tt
+  of_kind n (Rep body min max true) zero None rest h = tt
+  of_kind n (Rep body min max lazy) zero (Some zero) rest h = tt
+  of_kind n (Rep body min max false) zero (Some (suc m)) rest h = tt
+  of_kind n (Rep body min max true) zero (Some (suc m)) rest h = tt
   of_kind n (Mute t) need left rest h = tt
   of_kind n (At r t) need left rest h = tt
   of_kind n (Write r) need left rest h = h
@@ -59,7 +61,7 @@ module _ (P : Grammar) (ok : IsGrammar P) where
   of_end (Call name) h = tt
   of_end (Seq l r) h = tt
   of_end (Alt l r) h = tt
-  of_end (Rep body min max) h = tt
+  of_end (Rep body min max lazy) h = tt
   of_end (Mute t) h = tt
   of_end (At r t) h = h
   of_end (Write r) h = tt

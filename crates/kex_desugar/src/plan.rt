@@ -71,8 +71,15 @@ fn one_less(left: Option<u32>) -> Option<u32>
 }
 
 // The plan of a repetition's node, with the turns that are needed and left.
-fn rep_plan(program: &Program, node: u32, body: u32, need: u32, left: Option<u32>) -> Plan
-    ensures { (q : Place) → moves_of program.now node (Rep body need left) q ≡ plan_move result q }
+fn rep_plan(
+    program: &Program,
+    node: u32,
+    body: u32,
+    need: u32,
+    left: Option<u32>,
+    lazy: bool,
+) -> Plan
+    ensures { (q : Place) → moves_of program.now node (Rep body need left lazy) q ≡ plan_move result q }
 {
     let turn = entered(program, body);
     let again = Frame::Pending {
@@ -85,6 +92,7 @@ fn rep_plan(program: &Program, node: u32, body: u32, need: u32, left: Option<u32
     }
     match left {
         Some(0) => Plan::Pass(Way::Rest),
+        _ if lazy => Plan::Fork(Way::Rest, Way::Both(turn, again)),
         _ => Plan::Fork(Way::Both(turn, again), Way::Rest),
     }
 }
@@ -111,7 +119,7 @@ fn kind_plan(
             Way::Under(entered(program, *l)),
             Way::Under(entered(program, *r)),
         ),
-        Kind::Rep { body, .. } => rep_plan(program, node, *body, need, left),
+        Kind::Rep { body, lazy, .. } => rep_plan(program, node, *body, need, left, *lazy),
         Kind::Mute(body) | Kind::At(_, body) => Plan::Act(
             Effect::Open,
             Way::Both(entered(program, *body), Frame::EndOf(node)),

@@ -70,7 +70,7 @@ names_more a b r s (kinds.Lit x) l m h = tt
 names_more a b r s (kinds.Class x) l m h = tt
 names_more a b r s (kinds.Seq x y) l m h = tt
 names_more a b r s (kinds.Alt x y) l m h = tt
-names_more a b r s (kinds.Rep x y z) l m h = tt
+names_more a b r s (kinds.Rep x y z w) l m h = tt
 names_more a b r s (kinds.Mute x) l m h = tt
 
 pub all_named : (a b r s : ℕ) (nodes : List Node) → a ≤ b → r ≤ s → ((n : Node) → IsAmong nodes n → HasNames a r n.kind) → (n : Node) → IsAmong nodes n → HasNames b s n.kind
@@ -86,7 +86,7 @@ of_bodies a r (kinds.Class x) h = tt
 of_bodies a r (kinds.Call x) h = absurd h
 of_bodies a r (kinds.Seq x y) h = tt
 of_bodies a r (kinds.Alt x y) h = tt
-of_bodies a r (kinds.Rep x y z) h = tt
+of_bodies a r (kinds.Rep x y z w) h = tt
 of_bodies a r (kinds.Mute x) h = absurd h
 of_bodies a r (kinds.At x y) h = absurd h
 of_bodies a r (kinds.Write x) h = absurd h

@@ -260,9 +260,9 @@ pub once_shows : (made : Made) (at : ℕ → ℕ) (n i : ℕ) (x : Atom) → Sho
 unfolding ShowsPre
 once_shows made at n i x h = h
 
-pub turns_show : (made : Made) (at : ℕ → ℕ) (n m i a l : ℕ) (h : Option ℕ) (x : Atom) (p : Postfix) → n < length made.nodes → a ≡ at i → l ≡ low p → h ≡ high p → IsNode made n (nodes.Rep m l h) a → ShowsAtom x made at m i → ShowsPre (Turns x p) made at n i
+pub turns_show : (made : Made) (at : ℕ → ℕ) (n m i a l : ℕ) (h : Option ℕ) (x : Atom) (p : Postfix) → n < length made.nodes → a ≡ at i → l ≡ low p → h ≡ high p → IsNode made n (nodes.Rep m l h false) a → ShowsAtom x made at m i → ShowsPre (Turns x p) made at n i
 unfolding ShowsPre
-turns_show made at n m i a l h x p k e f g d s = (k, m, λ _. subst (λ (y : ℕ). IsNode made n (nodes.Rep m (low p) (high p)) y) e (subst (λ (y : Option ℕ). IsNode made n (nodes.Rep m (low p) y) a) g (subst (λ (y : ℕ). IsNode made n (nodes.Rep m y h) a) f d)), s)
+turns_show made at n m i a l h x p k e f g d s = (k, m, λ _. subst (λ (y : ℕ). IsNode made n (nodes.Rep m (low p) (high p) false) y) e (subst (λ (y : Option ℕ). IsNode made n (nodes.Rep m (low p) y false) a) g (subst (λ (y : ℕ). IsNode made n (nodes.Rep m y h false) a) f d)), s)
 
 -- where atoms end
 pub put_ends : (x : Atom) (es : List Entry) → length (entries (with_pre (Once x) es)) ≡ length (entries es) + length (atom x)

@@ -116,8 +116,8 @@ pub in_alt : (l r : ℕ) (x : Numbered) → (x ≡ NodeNumber l) ⊎ (x ≡ Node
 in_alt l r x (inl e) = subst (λ (y : Numbered). InKind (kinds.Alt l r) y) (sym e) (inl refl)
 in_alt l r x (inr e) = subst (λ (y : Numbered). InKind (kinds.Alt l r) y) (sym e) (inr refl)
 
-pub in_rep : (n low : ℕ) (high : Option ℕ) (x : Numbered) → x ≡ NodeNumber n → InKind (kinds.Rep n low high) x
-in_rep n low high x e = subst (λ (y : Numbered). InKind (kinds.Rep n low high) y) (sym e) refl
+pub in_rep : (n low : ℕ) (high : Option ℕ) (lazy : Bool) (x : Numbered) → x ≡ NodeNumber n → InKind (kinds.Rep n low high lazy) x
+in_rep n low high lazy x e = subst (λ (y : Numbered). InKind (kinds.Rep n low high lazy) y) (sym e) refl
 
 pub in_call : (n : ℕ) (x : Numbered) → x ≡ NameNumber n → InKind (kinds.Call n) x
 in_call n x e = subst (λ (y : Numbered). InKind (kinds.Call n) y) (sym e) refl

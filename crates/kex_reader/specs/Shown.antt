@@ -79,7 +79,7 @@ unfoldable mutual
   ShowsPre (Mute p) made at n i = (m : ℕ) × IsNode made n (kinds.Mute m) (at i) × ShowsPre p made at m (i + 1)
   ShowsPre (Into r p) made at n i = (k : ℕ) × (m : ℕ) × IsNode made n (kinds.At k m) (at i) × IsRegister made k r × ShowsPre p made at m (i + 2)
   ShowsPre (Once a) made at n i = ShowsAtom a made at n i
-  ShowsPre (Turns a p) made at n i = (n < length made.nodes) × (m : ℕ) × (made.broken ≡ None → IsNode made n (kinds.Rep m (low p) (high p)) (at i)) × ShowsAtom a made at m i
+  ShowsPre (Turns a p) made at n i = (n < length made.nodes) × (m : ℕ) × (made.broken ≡ None → IsNode made n (kinds.Rep m (low p) (high p) false) (at i)) × ShowsAtom a made at m i
 
   pub ShowsAtom : Atom → Made → (ℕ → ℕ) → ℕ → ℕ → Type 0
   ShowsAtom One made at n i = IsNode made n kinds.One (at i)

@@ -118,7 +118,7 @@ TermTaken made at base fs _ _ = ⊥
 abbrev pub IsLeaf : Kind → Type 0
 IsLeaf (kinds.Seq l r) = ⊥
 IsLeaf (kinds.Alt l r) = ⊥
-IsLeaf (kinds.Rep body min max) = ⊥
+IsLeaf (kinds.Rep body min max lazy) = ⊥
 IsLeaf (kinds.Mute t) = ⊥
 IsLeaf (kinds.At r t) = ⊥
 IsLeaf _ = Unit {0}

@@ -287,6 +287,7 @@ fn turns<'t>(
             body: item.node,
             min: bounds.low,
             max: bounds.high,
+            lazy: false,
         },
         item.at,
     )?;

@@ -64,10 +64,10 @@ by_bad false A B f g = g refl
 pub bad_stands_alone : (nodes : List Node) (p : Postfix) (n at l : ℕ) (h : Option ℕ) → are_bad_turns l h ≡ true → l ≡ capped_count (low p) → h ≡ capped_bound (high p) → IsTurns p nodes n n at
 bad_stands_alone nodes p n at l h bad lo hi = by_bad (is_bad_count p) _ _ (λ _. refl) (λ e. absurd (cc (bad_turns l h p lo hi)))
 
-pub good_turns : (nodes : List Node) (p : Postfix) (n m at l : ℕ) (h : Option ℕ) → are_bad_turns l h ≡ false → IsNode nodes n (kinds.Rep m l h) at → l ≡ capped_count (low p) → h ≡ capped_bound (high p) → IsTurns p nodes n m at
+pub good_turns : (nodes : List Node) (p : Postfix) (n m at l : ℕ) (h : Option ℕ) → are_bad_turns l h ≡ false → IsNode nodes n (kinds.Rep m l h false) at → l ≡ capped_count (low p) → h ≡ capped_bound (high p) → IsTurns p nodes n m at
 good_turns nodes p n m at l h good is lo hi = by_bad (is_bad_count p) _ _ (λ e. absurd (cc (bad_turns l h p lo hi))) (λ e.
     let u = uncapped_turns p e in
-    subst (λ (x : ℕ). IsNode nodes n (kinds.Rep m x (high p)) at) (lo ∙ u.0) (subst (λ (x : Option ℕ). IsNode nodes n (kinds.Rep m l x) at) (hi ∙ u.1) is))
+    subst (λ (x : ℕ). IsNode nodes n (kinds.Rep m x (high p) false) at) (lo ∙ u.0) (subst (λ (x : Option ℕ). IsNode nodes n (kinds.Rep m l x false) at) (hi ∙ u.1) is))
 
 -- ---- what the builder asks
 

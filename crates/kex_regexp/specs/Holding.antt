@@ -33,7 +33,7 @@ use Rattle.kex_regexp.specs.Values.{end_byte, escaped_byte, has_backward, high, 
 
 -- item l with this postfix is node n
 abbrev pub IsTurns : Postfix → List Node → ℕ → ℕ → ℕ → Type 0
-IsTurns p nodes n l at = MatchBool (is_bad_count p) (n ≡ l) (IsNode nodes n (kinds.Rep l (low p) (high p)) at)
+IsTurns p nodes n l at = MatchBool (is_bad_count p) (n ≡ l) (IsNode nodes n (kinds.Rep l (low p) (high p) false) at)
 
 unfoldable mutual
   pub HoldsRegex : Regex → List Node → ℕ → ℕ → Type 0

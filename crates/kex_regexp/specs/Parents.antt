@@ -8,7 +8,7 @@ use Rattle.kex_model.specs.declared.program.Node.{Node}
 abbrev pub HasChild : Kind → ℕ → Type 0
 HasChild (kinds.Seq l r) n = (n ≡ l) ⊎ (n ≡ r)
 HasChild (kinds.Alt l r) n = (n ≡ l) ⊎ (n ≡ r)
-HasChild (kinds.Rep body min max) n = n ≡ body
+HasChild (kinds.Rep body min max lazy) n = n ≡ body
 HasChild (kinds.Mute t) n = n ≡ t
 HasChild (kinds.At r t) n = n ≡ t
 HasChild _ n = ⊥

@@ -1,5 +1,5 @@
 -- Which node of a list shows a tree that stands at an offset, whatever the nodes' numbers.
-use Rattle.std.specs.Prelude.{◌≡◌, ℕ, ◌+◌, Bool, true, List, ◌++◌, length, Some, slice_get, ◌==◌}
+use Rattle.std.specs.Prelude.{◌≡◌, ℕ, ◌+◌, Bool, true, false, List, ◌++◌, length, Some, slice_get, ◌==◌}
 use Rattle.kex_byteset.specs.Sets.{HasExactly}
 use Rattle.kex_code.specs.Codes.{IsAmong}
 use Rattle.kex_model.specs.declared.program.Kind.{Kind}
@@ -29,7 +29,7 @@ unfoldable mutual
 
   pub ShowsPiece : Piece → List Node → ℕ → ℕ → Type 0
   ShowsPiece (Once i) nodes n at = ShowsItem i nodes n at
-  ShowsPiece (Turns i p) nodes n at = (l : ℕ) × IsNode nodes n (kinds.Rep l (low p) (high p)) at × ShowsItem i nodes l at
+  ShowsPiece (Turns i p) nodes n at = (l : ℕ) × IsNode nodes n (kinds.Rep l (low p) (high p) false) at × ShowsItem i nodes l at
 
   -- a group is its content
   pub ShowsItem : Item → List Node → ℕ → ℕ → Type 0
@@ -45,7 +45,7 @@ IsOfBodies kinds.One = Unit {0}
 IsOfBodies (kinds.Class s) = Unit {0}
 IsOfBodies (kinds.Seq l r) = Unit {0}
 IsOfBodies (kinds.Alt l r) = Unit {0}
-IsOfBodies (kinds.Rep body min max) = Unit {0}
+IsOfBodies (kinds.Rep body min max lazy) = Unit {0}
 IsOfBodies _ = ⊥
 
 -- the old nodes stay, and those behind them are of kinds that bodies have

@@ -134,6 +134,7 @@ fn repeated(into: &mut Builder, item: Placed, low: u32, high: Option<u32>) -> Re
             body: item.node,
             min: low,
             max: high,
+            lazy: false,
         },
         at: item.at,
     })?;

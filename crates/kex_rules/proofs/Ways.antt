@@ -39,8 +39,8 @@ kind_below nodes names registers u w (Seq l r) lt b n (inr (inr i)) = absurd i
 kind_below nodes names registers u w (Alt l r) lt b n (inl e) = let m : l < u = b.0 in let q : l ≡ w = e in omega arith
 kind_below nodes names registers u w (Alt l r) lt b n (inr (inl e)) = let m : r < u = b.1 in let q : r ≡ w = e in omega arith
 kind_below nodes names registers u w (Alt l r) lt b n (inr (inr i)) = absurd i
-kind_below nodes names registers u w (Rep body min max) lt b n (inl e) = let m : body < u = b.0 in let q : body ≡ w = e in omega arith
-kind_below nodes names registers u w (Rep body min max) lt b n (inr i) = absurd i
+kind_below nodes names registers u w (Rep body min max lazy) lt b n (inl e) = let m : body < u = b.0 in let q : body ≡ w = e in omega arith
+kind_below nodes names registers u w (Rep body min max lazy) lt b n (inr i) = absurd i
 kind_below nodes names registers u w (Mute t) lt b n (inl e) = let m : t < u = b in let q : t ≡ w = e in omega arith
 kind_below nodes names registers u w (Mute t) lt b n (inr i) = absurd i
 kind_below nodes names registers u w (At r t) lt b n (inl e) = let m : t < u = b in let q : t ≡ w = e in omega arith

@@ -21,7 +21,7 @@ abbrev pub kind_ways : ℕ → Kind → List ℕ
 kind_ways nodes (Call name) = (nodes + name) ∷ []
 kind_ways nodes (Seq l r) = l ∷ r ∷ []
 kind_ways nodes (Alt l r) = l ∷ r ∷ []
-kind_ways nodes (Rep body min max) = body ∷ []
+kind_ways nodes (Rep body min max lazy) = body ∷ []
 kind_ways nodes (Mute t) = t ∷ []
 kind_ways nodes (At r t) = t ∷ []
 kind_ways nodes _ = []

@@ -41,7 +41,7 @@ last_parts _ = []
 -- its other parts
 abbrev pub other_parts : Kind → List ℕ
 other_parts (Seq l r) = l ∷ []
-other_parts (Rep body min max) = body ∷ []
+other_parts (Rep body min max lazy) = body ∷ []
 other_parts (Mute t) = t ∷ []
 other_parts (At r t) = t ∷ []
 other_parts _ = []

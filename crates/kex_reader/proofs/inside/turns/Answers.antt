@@ -44,5 +44,5 @@ returns-clause-step c = λ at base es a h e s p l k.
 
 pub returns-clause-held : goal.returns-clause-held
 returns-clause-held c = none_lost _ _ _ _ _ _ c.in_ok-put.ensures.keeps
-    (beside _ _ _ _ (InConstructs c.args.stack.now) _ (λ x. (x ≡ NodeNumber c.in_ok-node.node) ⊎ InConstructs c.args.stack.now x) (λ x h. elim h [ inl i ↦ inr i | inr e ↦ inl (in_rep _ _ _ x e) ]) (λ x e. inl e) (λ x i. inr i) c.in_ok-node.ensures.held)
+    (beside _ _ _ _ (InConstructs c.args.stack.now) _ (λ x. (x ≡ NodeNumber c.in_ok-node.node) ⊎ InConstructs c.args.stack.now x) (λ x h. elim h [ inl i ↦ inr i | inr e ↦ inl (in_rep _ _ _ _ x e) ]) (λ x e. inl e) (λ x i. inr i) c.in_ok-node.ensures.held)
     (held_as _ _ _ _ _ _ (λ x h. h) (λ x i. inl i) c.in_ok-put.ensures.held)
