@@ -8,9 +8,10 @@ use indexmap::IndexMap;
 use kex_code::memory::Memory;
 use kex_machine::Bit;
 use std::alloc::Global;
+use std::hash::{FoldHasher, Hasher};
 use std::rc::{Rc, Weak};
 
-/// Lists of constants that were met, by a sum of their choices. Each is kept as long as a state has it. Of two with one sum only the
+/// Lists of constants that were met, by a hash of their choices. Each is kept as long as a state has it. Of two with one hash only the
 /// one that was met last is found again.
 #[derive(Drop)]
 pub struct SharedLists {
@@ -18,33 +19,27 @@ pub struct SharedLists {
     met: IndexMap<u64, Weak<Known>>,
 }
 
-const OFFSET: u64 = 0xcbf2_9ce4_8422_2325;
-
-const PRIME: u64 = 0x0000_0100_0000_01b3;
-
-// A sum of what is known of a register.
-fn sum_of(constant: &Option<Choices>) -> u64 {
+// Hashes what is known of a register.
+fn hash_constant(constant: &Option<Choices>, hasher: &mut FoldHasher) {
     let Some(choices) = constant else {
-        return 0;
+        return hasher.write_u8(0);
     };
-    let mut sum = OFFSET;
+    hasher.write_u8(1);
     for side in choices.as_slice() {
-        let code = match side {
-            Bit::L => 1,
-            Bit::R => 2,
-        };
-        sum = (sum ^ code).wrapping_mul(PRIME);
+        hasher.write_u8(match side {
+            Bit::L => 2,
+            Bit::R => 3,
+        });
     }
-    sum
 }
 
-// A sum of constants in the order of their registers.
-fn sum_of_list(constants: &[Option<Choices>]) -> u64 {
-    let mut sum = OFFSET;
+// A hash of constants in the order of their registers.
+fn hash_of(constants: &[Option<Choices>]) -> u64 {
+    let mut hasher = FoldHasher::default();
     for constant in constants {
-        sum = (sum ^ sum_of(constant)).wrapping_mul(PRIME);
+        hash_constant(constant, &mut hasher);
     }
-    sum
+    hasher.finish()
 }
 
 /// Whether the same is known of two registers.
@@ -83,10 +78,10 @@ impl SharedLists {
     }
 
     // The list of these constants, if it is found.
-    fn find(&self, sum: u64, constants: &[Option<Choices>]) -> Option<Rc<Known>>
+    fn find(&self, hash: u64, constants: &[Option<Choices>]) -> Option<Rc<Known>>
         ensures { IfSome result (λ k. k.value ≡ constants.now) }
     {
-        let known = self.met.get(&sum)?.upgrade()?;
+        let known = self.met.get(&hash)?.upgrade()?;
         if are_same(known.constants(), constants) {
             Some(known)
         } else {
@@ -98,12 +93,12 @@ impl SharedLists {
     pub fn share(&mut self, constants: Vec<Option<Choices>>) -> Result<Rc<Known>, Memory>
         ensures { IfOk result (λ k. k.value ≡ constants.items) }
     {
-        let sum = sum_of_list(&constants);
-        if let Some(known) = self.find(sum, &constants) {
+        let hash = hash_of(&constants);
+        if let Some(known) = self.find(hash, &constants) {
             return Ok(known);
         }
         let known = Rc::new(self.alloc, Known::new(self.alloc, constants)?)?;
-        self.met.insert(sum, Rc::downgrade(&known)?)?;
+        self.met.insert(hash, Rc::downgrade(&known)?)?;
         Ok(known)
     }
 }

@@ -6,6 +6,7 @@ use kex_code::memory::Memory;
 use kex_code::symbol::Symbol;
 use smallvec::SmallVec;
 use std::alloc::Global;
+use std::hash::{FoldHasher, Hasher};
 use std::marker::Model;
 
 /// A part of what an update gives: a symbol, what an old register holds, or the byte that is read.
@@ -78,13 +79,12 @@ fn code_of(part: Part) -> u64 {
     }
 }
 
-/// A sum of parts in their order, by which equal lists are found.
-pub fn sum_of(parts: &[Part]) -> u64 {
-    let mut sum: u64 = 0xcbf2_9ce4_8422_2325;
+/// Hashes parts in their order: equal lists are found by their hash, and then compared.
+pub fn hash_parts(parts: &[Part], hasher: &mut FoldHasher) {
+    hasher.write_u64(parts.len() as u64);
     for part in parts {
-        sum = (sum ^ code_of(*part)).wrapping_mul(0x0000_0100_0000_01b3);
+        hasher.write_u64(code_of(*part));
     }
-    sum
 }
 
 /// Whether two lists of parts are the same.

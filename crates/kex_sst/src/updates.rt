@@ -2,26 +2,28 @@
 
 ghost use Rattle.std.specs.Prelude.{◌≡◌, IfOk};
 
-use crate::parts::{Update, sum_of};
+use crate::parts::{Update, hash_parts};
 use crate::shared::SharedUpdate;
 use indexmap::IndexMap;
 use kex_code::memory::Memory;
 use std::alloc::Global;
+use std::hash::{FoldHasher, Hasher};
 
-/// Updates that were met, by a sum of their parts. Where two have one sum, the second isn't kept.
+/// Updates that were met, by a hash of their parts. Where two have one hash, the second isn't kept.
 #[derive(Drop)]
 pub struct Updates {
     alloc: Global,
     met: IndexMap<u64, SharedUpdate>,
 }
 
-// A sum of an update's parts in their order.
-fn sum_of_lists(update: &Update) -> u64 {
-    let mut sum = sum_of(update.out().as_slice());
+// A hash of an update's parts in their order.
+fn hash_of(update: &Update) -> u64 {
+    let mut hasher = FoldHasher::default();
+    hash_parts(update.out().as_slice(), &mut hasher);
     for parts in update.regs() {
-        sum = (sum ^ sum_of(parts.as_slice())).wrapping_mul(0x0000_0100_0000_01b3);
+        hash_parts(parts.as_slice(), &mut hasher);
     }
-    sum
+    hasher.finish()
 }
 
 impl Updates {
@@ -37,15 +39,15 @@ impl Updates {
     pub fn share(&mut self, update: Update) -> Result<SharedUpdate, Memory>
         ensures { IfOk result (λ s. s ≡ update) }
     {
-        let sum = sum_of_lists(&update);
-        if let Some(met) = self.met.get(&sum) {
+        let hash = hash_of(&update);
+        if let Some(met) = self.met.get(&hash) {
             if met.get().is_same(&update) {
                 return met.copy();
             }
             return SharedUpdate::new(self.alloc, update);
         }
         let shared = SharedUpdate::new(self.alloc, update)?;
-        self.met.insert(sum, shared.copy()?)?;
+        self.met.insert(hash, shared.copy()?)?;
         Ok(shared)
     }
 }
