@@ -1,8 +1,8 @@
 -- A good run is done, or wants memory; and what is done is what the program means.
-use Rattle.std.proofs.Common.{◌≡◌, ◌++◌, ◌≤◌, ◌<◌, ℕ, suc, List, [], ◌∷◌, Bool, true, false, refl, sym, ◌∙◌, ap, subst, append_assoc, append-nil as append-nil', arith, inl, inr, length, map}
+use Rattle.std.proofs.Common.{◌≡◌, ◌++◌, ◌≤◌, ◌<◌, ℕ, suc, List, [], ◌∷◌, Bool, true, false, refl, sym, ◌∙◌, ap, subst, append_assoc, append-nil as append-nil', arith, inl, inr, length}
 use Rattle.std.specs.Prelude.{◌⊎◌, Option, Some, None}
 use Rattle.std.specs.Io.KnownBytes.{Appends, Consumes, IsAtEnd}
-use Rattle.kex_code.specs.Codes.{Begins, IsAmong}
+use Rattle.kex_code.specs.Codes.{Begins}
 use Rattle.kex_ports.specs.Shelf.{ShelfText, untold, absent, present, IsTold, IsPast}
 use Rattle.kex_ports.proofs.Known.{append-nil}
 use Rattle.kex_model.specs.Programs.{Grammar}
@@ -20,7 +20,7 @@ use Rattle.kex_model.proofs.OpenAnswers.{Orderly, stays, one_answer}
 use Rattle.kex_pipe.specs.Reports.{report_as}
 use Rattle.kex_model.proofs.Pipelines.{one_answer as one_pipeline, pipelines_stand}
 use Rattle.kex_reader.specs.Spelling.{Spells}
-use Rattle.kex_compile.specs.Stages.{CanRun, roots_of}
+use Rattle.kex_compile.specs.Stages.{roots_of}
 use Rattle.kex_compile.specs.Compiled.{Accepts, IsRefused}
 use Rattle.kex_compile.specs.declared.refusal.CompileRefusal.{CompileRefusal}
 use Rattle.kex_compile.specs.declared.refusal.CompileRefusal.TheVariants as compile
@@ -153,10 +153,10 @@ module _ (P : Grammar) (limit : ℕ) where
             let same = (x.1 (λ n. some_none r (sym (ap report_as rep) ∙ n))).1 in
             some_none r (sym (ap report_as rep) ∙ sym same ∙ ap report_as none)
 
-unrejected_by : (P : Grammar) (mode : Mode) (limit : ℕ) → ((r : ℕ) → IsAmong (roots_of P) r → CanRun P r) → (old new : Option (List ℕ)) (w input : List ℕ) (e : Bool) (said done : Said) (r : Report) → old ≡ Some input → Consumes old new w → (e ≡ true → IsAtEnd new) → SaysBy mode P limit w e said → said.report ≡ Some r → SaysBy mode P limit input true done → done.report ≡ None → ⊥
-unrejected_by P mode limit run None new w input e said done r is read end h rep k n = cc
-unrejected_by P mode limit run (Some xs) None w input e said done r is read end h rep k n = read
-unrejected_by P mode limit run (Some xs) (Some ys) w input e said done r is read end h rep k n =
+unrejected_by : (P : Grammar) (mode : Mode) (limit : ℕ) (old new : Option (List ℕ)) (w input : List ℕ) (e : Bool) (said done : Said) (r : Report) → old ≡ Some input → Consumes old new w → (e ≡ true → IsAtEnd new) → SaysBy mode P limit w e said → said.report ≡ Some r → SaysBy mode P limit input true done → done.report ≡ None → ⊥
+unrejected_by P mode limit None new w input e said done r is read end h rep k n = cc
+unrejected_by P mode limit (Some xs) None w input e said done r is read end h rep k n = read
+unrejected_by P mode limit (Some xs) (Some ys) w input e said done r is read end h rep k n =
     let same : input ≡ xs = cc in
     unrejected P limit mode w ys input e said done r (same ∙ read) end h rep k n
 
@@ -186,7 +186,7 @@ ran-good : (mode : Mode) (limit block : ℕ) (told : ShelfText) (shelf : ShelfCh
 ran-good mode limit block told shelf source sink s r g p all =
     let same : p.text ≡ g.text = told-same told g.text p.text g.is_told p.is_told in
     let goes = by p.text same p.program p.accepts.spells in
-    unrejected_by p.program mode limit p.accepts.stages source.old source.new p.ran.w g.input p.ran.e all.said goes.0 r g.rest p.ran.read p.ran.ended all.is_said all.reports goes.1 goes.2
+    unrejected_by p.program mode limit source.old source.new p.ran.w g.input p.ran.e all.said goes.0 r g.rest p.ran.read p.ran.ended all.is_said all.reports goes.1 goes.2
   where
     by : (text : List ℕ) → text ≡ g.text → (P : Grammar) → Spells text P → (said : Said) × SaysBy mode P limit g.input true said × (said.report ≡ None)
     by text e = subst (λ t. (P : Grammar) → Spells t P → (said : Said) × SaysBy mode P limit g.input true said × (said.report ≡ None)) (sym e) g.parses
