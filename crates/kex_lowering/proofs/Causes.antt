@@ -10,7 +10,7 @@ use Rattle.kex_trim.specs.declared.TrimRefusal.{TrimRefusal}
 use Rattle.kex_trim.specs.declared.TrimRefusal.TheVariants.{NoText, Memory}
 use Rattle.kex_lowering.specs.Refusals.{of_trim}
 use Rattle.kex_lowering.specs.Stages.{IsWhy}
-use Rattle.kex_lowering.proofs.PlaceNumbers.{Numbered, alike}
+use Rattle.kex_lowering.proofs.PlaceNodes.{Numbered, alike}
 use Rattle.kex_lowering.proofs.Pairs.{end_ahead}
 
 pub why : (P : Grammar) (root max : ℕ) (m : Graph) (e : TrimRefusal) → IsMachineOf P root m → (HasMore P root max → ⊥) → IsCause m e → IsWhy P root max (of_trim e)

@@ -1,5 +1,5 @@
 pub mod Pairs
-pub mod PlaceNumbers
+pub mod PlaceNodes
 pub mod SameAnswers
 pub mod PairedNodes
 pub mod Causes

@@ -26,7 +26,7 @@ use Rattle.kex_trim.proofs.KeptNodes.{alike_kept}
 use Rattle.kex_lowering.specs.Stages.{Carries, SameRun}
 use Rattle.kex_lowering.specs.Shapes.{SameShapes, MachineAnswersAsPlaces, WasPlaceOf}
 use Rattle.kex_lowering.proofs.Pairs.{Through, alike_through, end_back}
-use Rattle.kex_lowering.proofs.PlaceNumbers.{Numbered, alike, alike_back}
+use Rattle.kex_lowering.proofs.PlaceNodes.{Numbered, alike, alike_back}
 use Rattle.kex_lowering.proofs.SameShapes.{same_shapes, same_paths}
 use Rattle.kex_lowering.proofs.SameAnswers.{Serves, answers_so}
 

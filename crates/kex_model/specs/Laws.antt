@@ -81,13 +81,13 @@ abbrev pub PartBySteps : Type 0
 PartBySteps = (P : Grammar) (root : ℕ) (t : Tree) (c : List Symbol) (regs : Registers) (out : List ℕ) → IsTree P (kind_at P root) t → DoneBySteps P root t c regs out
 
 -- the places that steps enter
-abbrev pub entered : {S : Type 0} → List (Step S) → List S
-entered [] = []
-entered (k ∷ ks) = target_of k ∷ entered ks
+abbrev pub entered_places : {S : Type 0} → List (Step S) → List S
+entered_places [] = []
+entered_places (k ∷ ks) = target_of k ∷ entered_places ks
 
 -- the steps enter none of these places
 abbrev pub EntersNone : {S : Type 0} → List S → List (Step S) → Type 0
-EntersNone {S} places ks = (p : S) → IsAmong places p → ¬ IsAmong (entered ks) p
+EntersNone {S} places ks = (p : S) → IsAmong places p → ¬ IsAmong (entered_places ks) p
 
 -- no step without a byte from a place that was left behind leads elsewhere than to those and to the open ones
 abbrev pub LeadsWithin : Grammar → List Place → List Place → Type 0
