@@ -25,16 +25,6 @@ impl<T: Drop> Shared<T> {
         }
     }
 
-    /// The same items, with their owners counted from now on if there is memory for the count.
-    pub fn counted(self) -> Shared<T>
-        ensures { items_of result ≡ items_of self }
-    {
-        match self {
-            Shared::Counted(items) => Shared::Counted(items),
-            Shared::Alone(items) => Shared::new(items),
-        }
-    }
-
     /// The items, in their order.
     pub fn as_slice(&self) -> &[T]
         ensures { result.now ≡ items_of self.now }
