@@ -3,7 +3,7 @@ use Rattle.std.proofs.Common.{◌≡◌, ℕ, ◌<◌, ◌≤◌, ◌+◌, ◌*�
 use Rattle.std.proofs.lemmas.List.{get_or_past}
 use Rattle.kex_byteset.specs.Sets.{has, HasExactly}
 use Rattle.kex_model.specs.declared.program.Node.{Node}
-use Rattle.kex_regexp.specs.Grammar.{Regex, Last, Or, Branch, Empty, Then, Piece, Once, Turns, Item, Plain, Escaped, Dot, Set, Group, Escape, Newline, Tab, Return, Hex, Punctuation, escape, regex, branch, piece, item, postfix}
+use Rattle.kex_regexp.specs.Grammar.{Regex, Last, Or, Branch, Empty, Then, Piece, Once, Turns, Item, Plain, Escaped, Dot, Set, Group, Escape, Newline, Tab, Return, Hex, Punctuation, escape, regex, branch, piece, item, postfix, lazy_mark}
 use Rattle.kex_regexp.specs.Shown.{IsClass, ShowsRegex, ShowsBranch, ShowsPiece, ShowsItem}
 use Rattle.kex_compile.proofs.NodePairs.{one, class, seq, alt, rep, Together, on_top, alone, beside, within}
 
@@ -46,8 +46,9 @@ module _ (nodes nodes' : List Node) (N G : ℕ → ℕ → Type 0) where
 
     piece_of : (p : Piece) (n n' at : ℕ) → ShowsPiece p nodes n at → ShowsPiece p nodes' n' at → Together nodes nodes' N G n n' (4 * at + 2) (4 * (at + length (piece p)))
     piece_of (Once i) n n' at h k = within nodes nodes' N G n n' _ _ _ _ (omega arith) (omega arith) (item_of i n n' at h k)
-    piece_of (Turns i p) n n' at (l, e, x) (l', e', x') =
-        let rest = within nodes nodes' N G l l' (4 * at + 3) (4 * at + 3) (4 * (at + length (item i))) (4 * (at + length (item i ++ postfix p))) (omega arith) (omega (arith, length-append (item i) (postfix p))) (item_of i l l' at x x') in
+    piece_of (Turns i p lazy) n n' at (l, e, x) (l', e', x') =
+        let signs = postfix p ++ lazy_mark lazy in
+        let rest = within nodes nodes' N G l l' (4 * at + 3) (4 * at + 3) (4 * (at + length (item i))) (4 * (at + length (item i ++ signs))) (omega arith) (omega (arith, length-append (item i) signs)) (item_of i l l' at x x') in
         on_top nodes nodes' N G n n' _ _ (4 * at + 2) (4 * at + 3) _ rest.pairs e e' refl (rep rest.top) (omega arith) (omega arith) rest.match rest.rising
 
     item_of : (i : Item) (n n' at : ℕ) → ShowsItem i nodes n at → ShowsItem i nodes' n' at → Together nodes nodes' N G n n' (4 * at + 3) (4 * (at + length (item i)))

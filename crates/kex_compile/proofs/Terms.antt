@@ -8,8 +8,9 @@ use Rattle.kex_model.specs.declared.program.Kind.TheVariants as kinds
 use Rattle.kex_regexp.specs.Bodies.{Spells}
 use Rattle.kex_regexp.specs.Grammar.{regex, Regex as Body}
 use Rattle.kex_regexp.specs.Shown.{ShowsRegex}
-use Rattle.kex_reader.specs.Syntax.{Part, Text, Held, Word, Name, Regex, Tilde, At, Bar, OpenParen, CloseParen, Term, Last, Or, Seq, Only, Then, Pre, Mute, Into, Once, Turns, Atom, One, Call, Lit, Match, Write, Assign, Group, term, seq, pre, atom, postfix}
-use Rattle.kex_reader.specs.Shown.{Made, IsNode, assignment_kind, low, high, ShowsPart, ShowsParts, ShowsTerm, ShowsSeq, ShowsPre, ShowsAtom}
+use Rattle.kex_regexp.specs.Postfixes.{low, high}
+use Rattle.kex_reader.specs.Syntax.{Part, Text, Held, Word, Name, Regex, Tilde, At, Bar, OpenParen, CloseParen, Term, Last, Or, Seq, Only, Then, Pre, Mute, Into, Once, Turns, Atom, One, Call, Lit, Match, Write, Assign, Group, term, seq, pre, atom, postfix, lazy_mark}
+use Rattle.kex_reader.specs.Shown.{Made, IsNode, assignment_kind, ShowsPart, ShowsParts, ShowsTerm, ShowsSeq, ShowsPre, ShowsAtom}
 use Rattle.kex_compile.proofs.NodePairs.{Joins, SameKind, SameParts, no_more, text, register, one, lit, call, seq as in_seq, alt, rep, mute, at_register, write_register, set_register, add_register, Together, on_top, alone, beside, within, rank}
 use Rattle.kex_compile.proofs.BodyPairs.{regex_of}
 use Rattle.kex_compile.proofs.WordOffsets.{Spaced, width, spaced_front, spaced_rest, spaced_next, spaced_width, width_some, rises}
@@ -113,13 +114,14 @@ module _ (one_body : (bytes : List ℕ) (r q : Body) → Spells r bytes → Spel
         within made.nodes made'.nodes N G n n' (4 * at i + 2) _ (4 * at (i + 2 + length (pre p))) _ (omega arith) (omega (arith, to))
         (on_top made.nodes made'.nodes N G n n' (record { kind = kinds.At k m; at = at i }) (record { kind = kinds.At k' m'; at = at i }) (4 * at i + 2) (4 * at (i + 2) + 2) _ rest.pairs e e' refl (at_register (r, g, g') rest.top) (omega arith) (omega (arith, a, b, some, next)) rest.match rest.rising)
     pre_of (Once a) n n' i h k sp = within made.nodes made'.nodes N G n n' (4 * at i + 3) _ _ _ (omega arith) (omega arith) (atom_of a n n' i h k sp)
-    pre_of (Turns a p) n n' i (l, m, e, x) (l', m', e', x') sp =
-        let long = length-append (atom a) (postfix p) in
-        let to : at (i + length (atom a) + length (postfix p)) ≡ at (i + length (atom a ++ postfix p)) = ap at (omega (arith, long)) in
-        let more = rises at (i + length (atom a)) (postfix p) (spaced_rest at i (atom a) (postfix p) sp) in
-        let rest = atom_of a m m' i x x' (spaced_front at i (atom a) (postfix p) sp) in
+    pre_of (Turns a p lazy) n n' i (l, m, e, x) (l', m', e', x') sp =
+        let signs = postfix p ++ lazy_mark lazy in
+        let long = length-append (atom a) signs in
+        let to : at (i + length (atom a) + length signs) ≡ at (i + length (atom a ++ signs)) = ap at (omega (arith, long)) in
+        let more = rises at (i + length (atom a)) signs (spaced_rest at i (atom a) signs sp) in
+        let rest = atom_of a m m' i x x' (spaced_front at i (atom a) signs sp) in
         within made.nodes made'.nodes N G n n' (4 * at i + 2) _ (4 * at (i + length (atom a))) _ (omega arith) (omega (arith, to, more))
-        (on_top made.nodes made'.nodes N G n n' (record { kind = kinds.Rep m (low p) (high p) false; at = at i }) (record { kind = kinds.Rep m' (low p) (high p) false; at = at i }) (4 * at i + 2) (4 * at i + 3) _ rest.pairs (e whole) (e' whole') refl (rep rest.top) (omega arith) (omega arith) rest.match rest.rising)
+        (on_top made.nodes made'.nodes N G n n' (record { kind = kinds.Rep m (low p) (high p) lazy; at = at i }) (record { kind = kinds.Rep m' (low p) (high p) lazy; at = at i }) (4 * at i + 2) (4 * at i + 3) _ rest.pairs (e whole) (e' whole') refl (rep rest.top) (omega arith) (omega arith) rest.match rest.rising)
 
     atom_of : (a : Atom) (n n' i : ℕ) → ShowsAtom a made at n i → ShowsAtom a made' at n' i → Spaced at i (atom a) → Both n n' (4 * at i + 3) (4 * at (i + length (atom a)))
     atom_of One n n' i e e' sp = leaf n n' i _ _ _ e e' one refl (omega arith) sp

@@ -1,8 +1,8 @@
 -- Whatever the grammar spells the machine takes, and then holds the tree that was spelled.
 use Rattle.std.proofs.Common.{◌≡◌, ℕ, Bool, true, false, List, [], ◌∷◌, ◌++◌, Option, Some, None, refl, sym, ap, ◌∙◌, subst, append_assoc}
 use Rattle.std.proofs.lemmas.List.{append-nil}
-use Rattle.kex_reader.specs.Syntax.{Word, Name, Number, Literal, Regex, Define, Bar, Tilde, At, Star, Plus, Question, OpenBrace, CloseBrace, Comma, Bang, OpenBracket, CloseBracket, OpenParen, CloseParen, Part, Text, Held, Postfix, ZeroOrMore, OneOrMore, Optional, Exactly, AtLeast, AtMost, Between, Term, Last, Or, Seq, Only, Then, Pre, Mute, Into, Once, Turns, Atom, One, Call, Lit, Match, Write, Assign, Group, Definition, Header, NoStart, Stages, Program, part, parts, sign, postfix, term, seq, pre, atom, definitions, stages, header, program}
-use Rattle.kex_reader.specs.Reading.{Entry, Mark, Ended, Done, Muted, Storing, Opened, Low, LowComma, LowHigh, OnlyComma, High, Mode, Need, Ready, After, Named, Writing, Bracket, BracketName, Assigning, Assigned, InCount, State, Begin, StageRead, Within, with_pre, take_more, take_seq, take_branches, term_of, take_term, on_bar, after_group, on_close, on_number, begin_pre, after_atom, next_head, on_head, after_name, on_name, on_sign, first_part, next_part, count_step, on_count, step_in, lift, on_define, step_within, first_name, head_read, stage_read, name_then, step, next, state_after, program_of_whole, program_of_term, finish_within, finish}
+use Rattle.kex_reader.specs.Syntax.{Word, Name, Number, Literal, Regex, Define, Bar, Tilde, At, Star, Plus, Question, OpenBrace, CloseBrace, Comma, Bang, OpenBracket, CloseBracket, OpenParen, CloseParen, Part, Text, Held, Postfix, ZeroOrMore, OneOrMore, Optional, Exactly, AtLeast, AtMost, FromTo, Term, Last, Or, Seq, Only, Then, Pre, Mute, Into, Once, Turns, Atom, One, Call, Lit, Match, Write, Assign, Group, Definition, Header, NoStart, Stages, Program, part, parts, sign, postfix, lazy_mark, term, seq, pre, atom, definitions, stages, header, program}
+use Rattle.kex_reader.specs.Reading.{Entry, Mark, Ended, Done, Muted, Storing, Opened, Low, LowComma, LowHigh, OnlyComma, High, Mode, Need, Ready, After, Turned, Named, Writing, Bracket, BracketName, Assigning, Assigned, InCount, State, Begin, StageRead, Within, with_pre, take_more, take_seq, take_branches, term_of, take_term, on_bar, after_group, on_close, on_number, begin_pre, after_atom, after_turns, next_head, on_head, after_name, on_name, on_sign, first_part, next_part, count_step, on_count, step_in, lift, on_define, step_within, first_name, head_read, stage_read, name_then, step, next, state_after, program_of_whole, program_of_term, finish_within, finish}
 
 -- ---- runs
 
@@ -101,6 +101,7 @@ term_back (Or s t) es h = term_back t (Ended s ∷ es) tt
 unfoldable pub Settles : Mode → List Entry → List Entry → Type 0
 Settles Ready es fs = es ≡ fs
 Settles (After a) es fs = with_pre (Once a) es ≡ fs
+Settles (Turned a p) es fs = with_pre (Turns a p false) es ≡ fs
 Settles (Named free n) es fs = with_pre (Once (Call n)) es ≡ fs
 Settles _ es fs = ⊥
 
@@ -142,6 +143,11 @@ module _ (h : Header) (ds : List Definition) (name : List ℕ) where
   after_begins a es OpenBrace n = absurd n
   after_begins a es t n = refl
 
+  pub turned_begins : (a : Atom) (p : Postfix) (es : List Entry) (t : Word) → IsBeginner t → after_turns a p es t ≡ begin_pre true (with_pre (Turns a p false) es) t
+  unfolding after_turns IsBeginner
+  turned_begins a p es Question n = absurd n
+  turned_begins a p es t n = refl
+
   pub named_begins : (k : List ℕ) (es : List Entry) (t : Word) → IsBeginner t → after_name k es t ≡ begin_pre true (with_pre (Once (Call k)) es) t
   unfolding after_name IsBeginner
   named_begins k es At n = absurd n
@@ -161,6 +167,7 @@ module _ (h : Header) (ds : List Definition) (name : List ℕ) where
   begins free Need es fs t r n = ap (λ (x : List Entry). lift h ds name (begin_pre false x t)) r.0 ∙ ap (λ (x : Bool). lift h ds name (begin_pre x fs t)) (sym r.1)
   begins free Ready es fs t r n = ap (λ (x : List Entry). lift h ds name (begin_pre true x t)) r.0 ∙ ap (λ (x : Bool). lift h ds name (begin_pre x fs t)) (sym r.1)
   begins free (After a) es fs t r n = ap (lift h ds name) (after_begins a es t n) ∙ ap (λ (x : List Entry). lift h ds name (begin_pre true x t)) r.0 ∙ ap (λ (x : Bool). lift h ds name (begin_pre x fs t)) (sym r.1)
+  begins free (Turned a p) es fs t r n = ap (lift h ds name) (turned_begins a p es t n) ∙ ap (λ (x : List Entry). lift h ds name (begin_pre true x t)) r.0 ∙ ap (λ (x : Bool). lift h ds name (begin_pre x fs t)) (sym r.1)
   begins free (Named k j) es fs t r n = named_lifted k j es t n ∙ ap (lift h ds name) (named_begins j es t n) ∙ ap (λ (x : List Entry). lift h ds name (begin_pre true x t)) r.0 ∙ ap (λ (x : Bool). lift h ds name (begin_pre x fs t)) (sym r.1)
   begins free _ es fs t r n = absurd r.0
 
@@ -190,6 +197,7 @@ module _ (h : Header) (ds : List Definition) (name : List ℕ) where
   free_may Need es fs r = absurd r
   free_may Ready es fs r = (r, refl)
   free_may (After a) es fs r = (r, refl)
+  free_may (Turned a p) es fs r = (r, refl)
   free_may (Named free n) es fs r = (r, refl)
   free_may _ es fs r = absurd r
 
@@ -218,6 +226,7 @@ module _ (h : Header) (ds : List Definition) (name : List ℕ) where
   unfolding Settles finish_within
   finish_settles Ready es fs r = ap (λ (x : List Entry). program_of_term h ds name (take_term x)) r
   finish_settles (After a) es fs r = ap (λ (x : List Entry). program_of_term h ds name (take_term x)) r
+  finish_settles (Turned a p) es fs r = ap (λ (x : List Entry). program_of_term h ds name (take_term x)) r
   finish_settles (Named free n) es fs r = ap (λ (x : List Entry). program_of_term h ds name (take_term x)) r
   finish_settles _ es fs r = absurd r
 
@@ -236,7 +245,7 @@ module _ (h : Header) (ds : List Definition) (name : List ℕ) where
       (then_reads _ (at (Assigned append r p ps) es) _ (parts ps) (CloseBracket ∷ []) (parts_read append r p [] ps es)
       (one_word _ _ CloseBracket refl))))
 
-  pub postfix_reads : (a : Atom) (p : Postfix) (m : Mode) (es : List Entry) → Holds a m → state_after (at m es) (postfix p) ≡ at Ready (with_pre (Turns a p) es)
+  pub postfix_reads : (a : Atom) (p : Postfix) (m : Mode) (es : List Entry) → Holds a m → state_after (at m es) (postfix p) ≡ at (Turned a p) es
   unfolding postfix IsPostfixSign after_atom next step step_within step_in lift count_step on_count
   postfix_reads a ZeroOrMore m es k = one_word _ _ Star (signed a m es Star k tt)
   postfix_reads a OneOrMore m es k = one_word _ _ Plus (signed a m es Plus k tt)
@@ -252,11 +261,15 @@ module _ (h : Header) (ds : List Definition) (name : List ℕ) where
       word_then _ (at (InCount a Opened) es) _ OpenBrace _ (signed a m es OpenBrace k tt)
       (word_then _ (at (InCount a OnlyComma) es) _ Comma _ refl
       (word_then _ (at (InCount a (High n)) es) _ (Number n) _ refl (one_word _ _ CloseBrace refl)))
-  postfix_reads a (Between n j) m es k =
+  postfix_reads a (FromTo n j) m es k =
       word_then _ (at (InCount a Opened) es) _ OpenBrace _ (signed a m es OpenBrace k tt)
       (word_then _ (at (InCount a (Low n)) es) _ (Number n) _ refl
       (word_then _ (at (InCount a (LowComma n)) es) _ Comma _ refl
       (word_then _ (at (InCount a (LowHigh n j)) es) _ (Number j) _ refl (one_word _ _ CloseBrace refl))))
+
+  pub lazy_step : (a : Atom) (p : Postfix) (es : List Entry) → next (at (Turned a p) es) Question ≡ at Ready (with_pre (Turns a p true) es)
+  unfolding next step step_within step_in lift after_turns
+  lazy_step a p es = refl
 
   pub bar_step : (m : Mode) (es : List Entry) (s : Seq) (fs : List Entry) → Settles m es (seq_onto s fs) → IsFloor fs → next (at m es) Bar ≡ at Need (Ended s ∷ fs)
   unfolding IsBeginner begin_pre on_bar lift
@@ -267,7 +280,7 @@ module _ (h : Header) (ds : List Definition) (name : List ℕ) where
   close_step m es t fs r = begins true m es (term_onto t (Mark ∷ fs)) CloseParen (free_may m es (term_onto t (Mark ∷ fs)) r) tt ∙ ap (λ (x : Option (Term × List Entry)). lift h ds name (on_close x)) (term_back t (Mark ∷ fs) tt)
 
   mutual
-    unfolding term seq pre atom term_onto seq_onto with_pre Settled AtomRead Settles MayBegin IsBase IsFloor Holds begin_pre on_number IsBeginner next step step_within step_in lift after_name on_name
+    unfolding term seq pre lazy_mark atom term_onto seq_onto with_pre Settled AtomRead Settles MayBegin IsBase IsFloor Holds begin_pre on_number IsBeginner next step step_within step_in lift after_name on_name
 
     pub term_reads : (t : Term) (free : Bool) (m : Mode) (es fs : List Entry) → MayBegin free m es fs → IsFloor fs → Settled (term_onto t fs) (state_after (at m es) (term t))
     term_reads (Last s) free m es fs r k = seq_reads s free m es fs r (floor_base fs k)
@@ -296,9 +309,12 @@ module _ (h : Header) (ds : List Definition) (name : List ℕ) where
     pre_reads (Once a) free m es fs r =
         let b = atom_reads a free m es fs r in
         (b.0, fs, held_settles a b.0 fs b.1, b.2)
-    pre_reads (Turns a p) free m es fs r =
+    pre_reads (Turns a p false) free m es fs r =
         let b = atom_reads a free m es fs r in
-        (Ready, with_pre (Turns a p) fs, refl, then_reads _ (at b.0 fs) _ (atom a) (postfix p) b.2 (postfix_reads a p b.0 fs b.1))
+        (Turned a p, fs, refl, then_reads _ (at b.0 fs) _ (atom a) (postfix p ++ []) b.2 (ap (state_after (at b.0 fs)) (append-nil (postfix p)) ∙ postfix_reads a p b.0 fs b.1))
+    pre_reads (Turns a p true) free m es fs r =
+        let b = atom_reads a free m es fs r in
+        (Ready, with_pre (Turns a p true) fs, refl, then_reads _ (at b.0 fs) _ (atom a) (postfix p ++ Question ∷ []) b.2 (then_reads _ (at (Turned a p) fs) _ (postfix p) (Question ∷ []) (postfix_reads a p b.0 fs b.1) (one_word _ _ Question (lazy_step a p fs))))
 
     pub atom_reads : (a : Atom) (free : Bool) (m : Mode) (es fs : List Entry) → MayBegin free m es fs → AtomRead a fs (state_after (at m es) (atom a))
     atom_reads One free m es fs r = (After One, refl, one_word _ _ (Number (49 ∷ [])) (begins free m es fs (Number (49 ∷ [])) r tt))

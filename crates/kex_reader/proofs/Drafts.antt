@@ -120,7 +120,7 @@ mutual
 
   pub piece_more : (p : Item') (a b : List Node) (n at : ℕ) → ((k : ℕ) (v : Node) → slice_get a k ≡ Some v → slice_get b k ≡ Some v) → ShowsPiece p a n at → ShowsPiece p b n at
   piece_more (OnceItem i) a b n at k h = item_more i a b n at k h
-  piece_more (TurnsItem i p) a b n at k h = (h.0, k n _ h.1, item_more i a b h.0 at k h.2)
+  piece_more (TurnsItem i p l) a b n at k h = (h.0, k n _ h.1, item_more i a b h.0 at k h.2)
 
   pub item_more : (i : Item) (a b : List Node) (n at : ℕ) → ((k : ℕ) (v : Node) → slice_get a k ≡ Some v → slice_get b k ≡ Some v) → ShowsItem i a n at → ShowsItem i b n at
   item_more (Plain c) a b n at k h = (h.0, h.1, k n _ h.2)
@@ -143,7 +143,7 @@ mutual
 
   pub piece_within : (p : Item') (nodes : List Node) (n at : ℕ) → ShowsPiece p nodes n at → n < length nodes
   piece_within (OnceItem i) nodes n at h = item_within i nodes n at h
-  piece_within (TurnsItem i p) nodes n at h = slice_get_within nodes n _ h.1
+  piece_within (TurnsItem i p l) nodes n at h = slice_get_within nodes n _ h.1
 
   pub item_within : (i : Item) (nodes : List Node) (n at : ℕ) → ShowsItem i nodes n at → n < length nodes
   item_within (Plain c) nodes n at h = slice_get_within nodes n _ h.2
@@ -183,7 +183,7 @@ mutual
   pre_more (Mute p) a b at n i k h = (h.0, k.nodes n _ h.1, pre_more p a b at h.0 (i + 1) k h.2)
   pre_more (Into r p) a b at n i k h = (h.0, h.1, k.nodes n _ h.2, k.registers h.0 r h.3, pre_more p a b at h.1 (i + 2) k h.4)
   pre_more (Once x) a b at n i k h = atom_more x a b at n i k h
-  pre_more (Turns x p) a b at n i k h = (omega (arith, h.0, k.long), h.1, λ e. k.nodes n _ (h.2 (k.broken e)), atom_more x a b at h.1 i k h.3)
+  pre_more (Turns x p l) a b at n i k h = (omega (arith, h.0, k.long), h.1, λ e. k.nodes n _ (h.2 (k.broken e)), atom_more x a b at h.1 i k h.3)
 
   pub atom_more : (x : Atom) (a b : Made) (at : ℕ → ℕ) (n i : ℕ) → Keeps a b → ShowsAtom x a at n i → ShowsAtom x b at n i
   atom_more One a b at n i k h = k.nodes n _ h
@@ -209,7 +209,7 @@ mutual
   pre_within (Mute p) a at n i h = slice_get_within a.nodes n _ h.1
   pre_within (Into r p) a at n i h = slice_get_within a.nodes n _ h.2
   pre_within (Once x) a at n i h = atom_within x a at n i h
-  pre_within (Turns x p) a at n i h = h.0
+  pre_within (Turns x p l) a at n i h = h.0
 
   pub atom_within : (x : Atom) (a : Made) (at : ℕ → ℕ) (n i : ℕ) → ShowsAtom x a at n i → n < length a.nodes
   atom_within One a at n i h = slice_get_within a.nodes n _ h

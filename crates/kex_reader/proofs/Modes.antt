@@ -12,25 +12,28 @@ use Rattle.kex_tokens.specs.declared.token.Kind.TheVariants as kinds
 use Rattle.kex_reader.specs.declared.stack.Construct.{Construct}
 use Rattle.kex_reader.specs.declared.stack.Part.{Part as Shown}
 use Rattle.kex_regexp.specs.declared.counts.Count.{Count}
-use Rattle.kex_reader.specs.declared.counts.CountStep.TheVariants as steps
-use Rattle.kex_reader.specs.declared.counts.Bounds.{Bounds}
+use Rattle.kex_regexp.specs.declared.counts.CountOutcome.TheVariants as outcomes
+use Rattle.kex_regexp.specs.declared.counts.Bounds.{Bounds}
+use Rattle.kex_regexp.specs.Holding.{HoldsBounds, ShowsCount, ShowsCountStep}
+use Rattle.kex_regexp.specs.Outcomes.{are_bad}
+use Rattle.kex_regexp.specs.Postfixes.{is_bad_count}
+use Rattle.kex_regexp.proofs.CappedCounts.{bad_bounds}
 use Rattle.kex_reader.specs.declared.pieces.Assignment.{Assignment}
 use Rattle.kex_reader.specs.declared.word.Name.{Name as Named'}
 use Rattle.kex_reader.specs.declared.inside.Wait.{Wait}
 use Rattle.kex_reader.specs.declared.inside.Wait.TheVariants as waits
 use Rattle.kex_reader.specs.declared.inside.StepFault.{StepFault}
 use Rattle.kex_reader.specs.declared.inside.StepFault.TheVariants as faults
-use Rattle.kex_reader.specs.Syntax.{Word, Name, Literal, word, Part, Text, Held, Postfix, ZeroOrMore, OneOrMore, Optional, Exactly, AtLeast, AtMost, Between, Turns, Atom, Write, Assign, Call, atom}
-use Rattle.kex_reader.specs.Reading.{Entry, Mode, Need, Ready, After, Named, Writing, Bracket, BracketName, Assigning, Assigned, InCount, Inside, Counting, CountStep, CountOn, CountRead, CountWrong, with_pre, goes, begin_pre, after_atom, after_name, on_name, on_sign, first_part, next_part, count_step, on_count, step_in, inside, mode, entries}
-use Rattle.kex_reader.specs.Checks.{is_bad_count}
-use Rattle.kex_reader.specs.Shown.{Made, IsNode, IsRegister, ShowsPre, ShowsAtom, ShowsPart, ShowsParts, assignment_kind, low, high}
-use Rattle.kex_reader.specs.Stands.{Keeps, NotesLeast, count_asks, ConstructsShow, IsLeaf, PieceShows, part_of, ShowsMode, ShowsCount, ShowsCountStep, SomeAtom, SomeConstructs, SomeInside, SomeName, Steps}
-use Rattle.kex_reader.proofs.Drafts.{parts_more}
+use Rattle.kex_reader.specs.Syntax.{Word, Name, Literal, word, Part, Text, Held, Postfix, Turns, Atom, Write, Assign, Call, atom, postfix}
+use Rattle.kex_reader.specs.Reading.{Entry, Mode, Need, Ready, After, Turned, Named, Writing, Bracket, BracketName, Assigning, Assigned, InCount, Inside, Counting, CountStep, CountOn, CountRead, CountWrong, with_pre, goes, begin_pre, after_atom, after_turns, after_name, on_name, on_sign, first_part, next_part, count_step, on_count, step_in, inside, mode, entries}
+use Rattle.kex_reader.specs.Shown.{Made, IsNode, IsRegister, ShowsPre, ShowsAtom, ShowsPart, ShowsParts, assignment_kind}
+use Rattle.kex_reader.specs.Stands.{Keeps, NotesLeast, count_asks, ConstructsShow, HoldsTurns, IsLeaf, PieceShows, part_of, ShowsMode, SomeAtom, SomeConstructs, SomeInside, SomeName, SomeTurned, Steps}
+use Rattle.kex_reader.proofs.Drafts.{atom_within, parts_more}
 use Rattle.kex_reader.proofs.Stacks.{constructs_more}
 use Rattle.kex_reader.proofs.MoreChecks.{same}
-use Rattle.kex_reader.specs.Checks.{Check}
+use Rattle.kex_reader.specs.Checks.{Check, postfix_checks}
 use Rattle.kex_regexp.specs.declared.breaks.Break.{Break}
-use Rattle.kex_reader.proofs.Steps.{to, wrong, stood, write_shows}
+use Rattle.kex_reader.proofs.Steps.{to, turned, wrong, stood, write_shows}
 
 -- ---- nodes
 
@@ -70,16 +73,6 @@ pub assigned_leaf : (append : Bool) (k : ℕ) (qs : List Piece) → IsLeaf (assi
 assigned_leaf true k qs = tt
 assigned_leaf false k qs = tt
 
-pub counts_in : (p : Postfix) → is_bad_count p ≡ false → IsCount (low p) (high p)
-unfolding low high
-counts_in ZeroOrMore e = tt
-counts_in OneOrMore e = tt
-counts_in Optional e = omega arith
-counts_in (Exactly n) e = omega arith
-counts_in (AtLeast n) e = tt
-counts_in (AtMost m) e = omega arith
-counts_in (Between n m) e = grind (arith, e)
-
 -- ---- modes
 
 pub mode_need : (made : Made) (at : ℕ → ℕ) (i : ℕ) (m : Mode) → ShowsMode made at i waits.Need m → m ≡ Need
@@ -96,6 +89,11 @@ pub mode_after : (made : Made) (at : ℕ → ℕ) (i : ℕ) (part : Shown) (m : 
 unfolding ShowsMode
 mode_after made at i part (After a) s = (a, refl, s.0, s.1)
 mode_after made at i part _ s = absurd s
+
+pub mode_turned : (made : Made) (at : ℕ → ℕ) (i : ℕ) (part : Shown) (b : Bounds) (m : Mode) → ShowsMode made at i (waits.Turned part b) m → (a : Atom) × (p : Postfix) × (m ≡ Turned a p) × (part.at ≡ at i) × ShowsAtom a made at part.node i × HoldsTurns made b p
+unfolding ShowsMode
+mode_turned made at i part b (Turned a p) s = (a, p, refl, s.0, s.1, s.2)
+mode_turned made at i part b _ s = absurd s
 
 pub mode_named : (made : Made) (at : ℕ → ℕ) (i : ℕ) (f : Bool) (n : Named') (m : Mode) → ShowsMode made at i (waits.Named f n) m → (m ≡ Named f n.bytes.now) × (n.at ≡ at i)
 unfolding ShowsMode
@@ -218,43 +216,35 @@ assigned_at made at i x append r p ps m = m.0
 
 -- ---- counts
 
-pub count_on : (made : Made) (at : ℕ → ℕ) (base : ℕ) (fs : List Construct) (es : List Entry) (a : Atom) (item : Shown) (brace : ℕ) (c : Count) (t : CountStep) → ConstructsShow made at base fs es → item.at ≡ at (base + length (entries es)) → brace ≡ at (base + length (entries es) + length (atom a)) → ShowsAtom a made at item.node (base + length (entries es)) → ShowsCountStep (steps.On c) t → Steps made at base fs (Ok (waits.InCount item c brace)) (on_count a es t)
+pub count_on : (made : Made) (at : ℕ → ℕ) (base : ℕ) (fs : List Construct) (es : List Entry) (a : Atom) (item : Shown) (brace : ℕ) (c : Count) (t : CountStep) → ConstructsShow made at base fs es → item.at ≡ at (base + length (entries es)) → brace ≡ at (base + length (entries es) + length (atom a)) → ShowsAtom a made at item.node (base + length (entries es)) → ShowsCountStep (outcomes.On c) t → Steps made at base fs (Ok (waits.InCount item c brace)) (on_count a es t)
 unfolding ShowsCountStep on_count ShowsMode
 count_on made at base fs es a item brace c (CountOn d) h e b s k = stood made at base fs (waits.InCount item c brace) (InCount a d) es h (e, s, k, b)
 count_on made at base fs es a item brace c (CountRead p) h e b s k = absurd k
 count_on made at base fs es a item brace c CountWrong h e b s k = absurd k
 
-pub count_wrong : (made : Made) (at : ℕ → ℕ) (base : ℕ) (fs : List Construct) (es : List Entry) (a : Atom) (t : CountStep) → ShowsCountStep steps.Wrong t → Steps made at base fs (Err faults.Wrong) (on_count a es t)
+pub count_wrong : (made : Made) (at : ℕ → ℕ) (base : ℕ) (fs : List Construct) (es : List Entry) (a : Atom) (t : CountStep) → ShowsCountStep outcomes.Wrong t → Steps made at base fs (Err faults.Wrong) (on_count a es t)
 unfolding ShowsCountStep on_count
 count_wrong made at base fs es a (CountOn d) k = absurd k
 count_wrong made at base fs es a (CountRead p) k = absurd k
 count_wrong made at base fs es a CountWrong k = wrong made at base fs
 
-pub count_read : (b : Bounds) (t : CountStep) → ShowsCountStep (steps.Read b) t → (p : Postfix) × (t ≡ CountRead p) × (b.low ≡ low p) × (b.high ≡ high p) × (is_bad_count p ≡ false)
-unfolding ShowsCountStep
-count_read b (CountOn d) k = absurd k
-count_read b (CountRead p) k = (p, refl, k.0, k.1, k.2)
-count_read b CountWrong k = absurd k
+-- a count that is read, once it has been noted
+pub count_read : (made : Made) (at : ℕ → ℕ) (base : ℕ) (fs : List Construct) (es : List Entry) (a : Atom) (item : Shown) (b : Bounds) (t : CountStep) → ConstructsShow made at base fs es → item.at ≡ at (base + length (entries es)) → ShowsAtom a made at item.node (base + length (entries es)) → ((p : Postfix) → HoldsBounds b p → HoldsTurns made b p) → ShowsCountStep (outcomes.Read b) t → Steps made at base fs (Ok (waits.Turned item b)) (on_count a es t)
+unfolding ShowsCountStep on_count
+count_read made at base fs es a item b (CountOn d) h e s f k = absurd k
+count_read made at base fs es a item b (CountRead p) h e s f k = turned made at base fs es item b a p h e s (f p k)
+count_read made at base fs es a item b CountWrong h e s f k = absurd k
 
-pub count_bad : (t : CountStep) → ShowsCountStep steps.Bad t → (p : Postfix) × (t ≡ CountRead p) × (is_bad_count p ≡ true)
-unfolding ShowsCountStep
-count_bad (CountOn d) k = absurd k
-count_bad (CountRead p) k = (p, refl, k)
-count_bad CountWrong k = absurd k
+pub count_notes : (b : Bounds) (t : CountStep) (cs : List Check) (o : Option Break) (from : ℕ) → ShowsCountStep (outcomes.Read b) t → ((p : Postfix) → HoldsBounds b p → NotesLeast (cs ++ postfix_checks p from) o) → NotesLeast (cs ++ count_asks from t) o
+unfolding ShowsCountStep count_asks
+count_notes b (CountOn d) cs o from k f = absurd k
+count_notes b (CountRead p) cs o from k f = f p k
+count_notes b CountWrong cs o from k f = absurd k
 
-pub read_is : (a : Atom) (es : List Entry) (t : CountStep) (p : Postfix) → t ≡ CountRead p → on_count a es t ≡ goes Ready (with_pre (Turns a p) es)
-unfolding on_count
-read_is a es t p e = ap (on_count a es) e
-
-pub read_count : (b : Bounds) (t : CountStep) → ShowsCountStep (steps.Read b) t → IsCount b.low b.high
-read_count b t k =
-    let r = count_read b t k in
-    subst (λ (h : Option ℕ). IsCount b.low h) (sym r.3) (subst (λ (l : ℕ). IsCount l (high r.0)) (sym r.2) (counts_in r.0 r.4))
-
--- a count that is bad, once that is noted
-pub bad_turns : (made : Made) (at : ℕ → ℕ) (n i : ℕ) (a : Atom) (p : Postfix) → n < length made.nodes → (made.broken ≡ None → ⊥) → ShowsAtom a made at n i → ShowsPre (Turns a p) made at n i
+-- an atom that stands alone, where its count is bad
+pub bad_pre : (made : Made) (at : ℕ → ℕ) (n i : ℕ) (b : Bounds) (a : Atom) (p : Postfix) (lazy : Bool) → are_bad b ≡ true → HoldsTurns made b p → ShowsAtom a made at n i → ShowsPre (Turns a p lazy) made at n i
 unfolding ShowsPre
-bad_turns made at n i a p l never s = (l, n, λ e. absurd (never e), s)
+bad_pre made at n i b a p lazy bad h s = (atom_within a made at n i s, n, λ e. absurd (h.1 (sym (bad_bounds b p h.0) ∙ bad) e), s)
 
 -- ---- places
 
@@ -288,6 +278,10 @@ in_ready es w = refl
 pub in_after : (a : Atom) (es : List Entry) (w : Word) → step_in (After a) es w ≡ after_atom a es w
 unfolding step_in
 in_after a es w = refl
+
+pub in_turned : (a : Atom) (p : Postfix) (es : List Entry) (w : Word) → step_in (Turned a p) es w ≡ after_turns a p es w
+unfolding step_in
+in_turned a p es w = refl
 
 pub in_named : (f : Bool) (n : List ℕ) (es : List Entry) (w : Word) → step_in (Named f n) es w ≡ after_name n es w
 unfolding step_in
@@ -329,6 +323,10 @@ pub after_long : (a : Atom) → length (mode (After a)) ≡ length (atom a)
 unfolding mode
 after_long a = refl
 
+pub turned_long : (a : Atom) (p : Postfix) → length (mode (Turned a p)) ≡ length (atom a ++ postfix p)
+unfolding mode
+turned_long a p = refl
+
 pub named_long : (f : Bool) (n : List ℕ) → length (mode (Named f n)) ≡ 1
 unfolding mode
 named_long f n = refl
@@ -346,15 +344,10 @@ some_atom made fs wait part e s =
     let m = mode_after made s.0 (s.1 + length (entries s.2.entries)) part s.2.mode (subst (λ (w : Wait). ShowsMode made s.0 (s.1 + length (entries s.2.entries)) w s.2.mode) e s.3.mode) in
     (s.0, s.1, s.2.entries, m.0, s.3.below, m.2, m.3)
 
-pub some_count : (made : Made) (fs : List Construct) (wait : Wait) (part : Shown) (c : Count) (brace : ℕ) → wait ≡ waits.InCount part c brace → SomeInside made fs wait → SomeAtom made fs part
-some_count made fs wait part c brace e s =
-    let m = mode_count made s.0 (s.1 + length (entries s.2.entries)) part c brace s.2.mode (subst (λ (w : Wait). ShowsMode made s.0 (s.1 + length (entries s.2.entries)) w s.2.mode) e s.3.mode) in
-    (s.0, s.1, s.2.entries, m.0, s.3.below, m.3, m.4)
-
-pub some_counting : (made : Made) (fs : List Construct) (wait : Wait) (part : Shown) (c : Count) (brace : ℕ) → wait ≡ waits.InCount part c brace → SomeInside made fs wait → (d : Counting) × ShowsCount c d
-some_counting made fs wait part c brace e s =
-    let m = mode_count made s.0 (s.1 + length (entries s.2.entries)) part c brace s.2.mode (subst (λ (w : Wait). ShowsMode made s.0 (s.1 + length (entries s.2.entries)) w s.2.mode) e s.3.mode) in
-    (m.1, m.5)
+pub some_turned : (made : Made) (fs : List Construct) (wait : Wait) (part : Shown) (b : Bounds) → wait ≡ waits.Turned part b → SomeInside made fs wait → SomeTurned made fs part b
+some_turned made fs wait part b e s =
+    let m = mode_turned made s.0 (s.1 + length (entries s.2.entries)) part b s.2.mode (subst (λ (w : Wait). ShowsMode made s.0 (s.1 + length (entries s.2.entries)) w s.2.mode) e s.3.mode) in
+    (s.0, s.1, s.2.entries, m.0, m.1, s.3.below, m.3, m.4, m.5)
 
 pub some_assigned : (made : Made) (fs : List Construct) (wait : Wait) (x : Assignment) → wait ≡ waits.Assigned x → SomeInside made fs wait → (place : ℕ → ℕ) × (i : ℕ) × (append : Bool) × (r : List ℕ) × (p : Part) × (ps : List Part) × ShowsMode made place i (waits.Assigned x) (Assigned append r p ps)
 some_assigned made fs wait x e s =
@@ -380,7 +373,7 @@ some_name made fs wait f n e s =
     let m = mode_named made s.0 (s.1 + length (entries s.2.entries)) f n s.2.mode (subst (λ (w : Wait). ShowsMode made s.0 (s.1 + length (entries s.2.entries)) w s.2.mode) e s.3.mode) in
     (s.0, s.1, s.2.entries, s.3.below, m.1)
 
-pub count_on_notes : (from : ℕ) (t : CountStep) (c : Count) → ShowsCountStep (steps.On c) t → (cs : List Check) (o : Option Break) → NotesLeast cs o → NotesLeast (cs ++ count_asks from t) o
+pub count_on_notes : (from : ℕ) (t : CountStep) (c : Count) → ShowsCountStep (outcomes.On c) t → (cs : List Check) (o : Option Break) → NotesLeast cs o → NotesLeast (cs ++ count_asks from t) o
 unfolding ShowsCountStep count_asks
 count_on_notes from (CountOn d) c k cs o n = same cs o n
 count_on_notes from (CountRead p) c k cs o n = absurd k

@@ -7,10 +7,11 @@ use Rattle.kex_regexp.specs.declared.breaks.Break.TheVariants.{BadCount}
 use Rattle.kex_regexp.specs.Notes.{lesser_of}
 use Rattle.kex_tokens.specs.declared.token.Kind.{Kind}
 use Rattle.kex_tokens.specs.declared.token.Kind.TheVariants as kinds
-use Rattle.kex_reader.specs.Syntax.{between, word, Word, Postfix, ZeroOrMore, OneOrMore, Optional, Exactly, AtLeast, AtMost, Between, Atom, Once, Call, atom}
-use Rattle.kex_reader.specs.Reading.{Entry, Counting, CountStep, CountOn, CountRead, Mode, Need, Ready, After, Named, InCount, Inside, count_step, with_pre}
-use Rattle.kex_reader.specs.Checks.{Check, Nested, Counted, Matched, is_bad_count, postfix_checks}
-use Rattle.kex_reader.specs.Stands.{NotesLeast, depth, begin_asks, after_asks, named_asks, count_asks, asks}
+use Rattle.kex_reader.specs.Syntax.{between, word, Word, Postfix, ZeroOrMore, OneOrMore, Optional, Exactly, AtLeast, AtMost, FromTo, Atom, Once, Call, atom, postfix}
+use Rattle.kex_reader.specs.Reading.{Entry, Counting, Mode, Need, Ready, After, Turned, Named, InCount, Inside, count_step, with_pre}
+use Rattle.kex_reader.specs.Checks.{Check, Nested, Counted, Matched, postfix_checks}
+use Rattle.kex_regexp.specs.Postfixes.{is_bad_count}
+use Rattle.kex_reader.specs.Stands.{NotesLeast, depth, begin_asks, after_asks, turned_asks, named_asks, count_asks, asks}
 use Rattle.kex_reader.proofs.LeastBreak.{noted_one, noted_same}
 
 pub same : (cs : List Check) (o : Option Break) → NotesLeast cs o → NotesLeast (cs ++ []) o
@@ -111,7 +112,7 @@ good_count (Exactly m) cs o brace e n = noted_same o cs (Counted brace (Exactly 
     apart false f g = cc
 good_count (AtLeast m) cs o brace e n = noted_same o cs (Counted brace (AtLeast m)) n (λ b h. cc)
 good_count (AtMost m) cs o brace e n = noted_same o cs (Counted brace (AtMost m)) n (λ b h. cc)
-good_count (Between m k) cs o brace e n = noted_same o cs (Counted brace (Between m k)) n (λ b h. cc)
+good_count (FromTo m k) cs o brace e n = noted_same o cs (Counted brace (FromTo m k)) n (λ b h. cc)
 
 pub bad_count : (p : Postfix) (cs : List Check) (o : Option Break) (brace : ℕ) → is_bad_count p ≡ true → NotesLeast cs o → NotesLeast (cs ++ postfix_checks p brace) (lesser_of o (Some (BadCount brace)))
 unfolding postfix_checks
@@ -121,15 +122,11 @@ bad_count Optional cs o brace e n = absurd cc
 bad_count (Exactly m) cs o brace e n = noted_one o (BadCount brace) cs (Counted brace (Exactly m)) n (e, refl) (λ other h. h.1)
 bad_count (AtLeast m) cs o brace e n = noted_one o (BadCount brace) cs (Counted brace (AtLeast m)) n (e, refl) (λ other h. h.1)
 bad_count (AtMost m) cs o brace e n = noted_one o (BadCount brace) cs (Counted brace (AtMost m)) n (e, refl) (λ other h. h.1)
-bad_count (Between m k) cs o brace e n = noted_one o (BadCount brace) cs (Counted brace (Between m k)) n (e, refl) (λ other h. h.1)
+bad_count (FromTo m k) cs o brace e n = noted_one o (BadCount brace) cs (Counted brace (FromTo m k)) n (e, refl) (λ other h. h.1)
 
-pub on_asks : (brace : ℕ) (c : Counting) → [] ≡ count_asks brace (CountOn c)
-unfolding count_asks
-on_asks brace c = refl
-
-pub read_asks : (brace at' : ℕ) (t : CountStep) (p : Postfix) → t ≡ CountRead p → brace ≡ at' → postfix_checks p brace ≡ count_asks at' t
-unfolding count_asks
-read_asks brace at' t p e f = ap (λ (x : ℕ). postfix_checks p x) f ∙ sym (ap (λ (x : CountStep). count_asks at' x) e)
+-- the count of this postfix is noted at its brace
+pub count_noted : (p : Postfix) (cs : List Check) (o : Option Break) (brace from : ℕ) → brace ≡ from → is_bad_count p ≡ true → NotesLeast cs o → NotesLeast (cs ++ postfix_checks p from) (lesser_of o (Some (BadCount brace)))
+count_noted p cs o brace from e bad n = subst (λ (x : ℕ). NotesLeast (cs ++ postfix_checks p x) (lesser_of o (Some (BadCount brace)))) e (bad_count p cs o brace bad n)
 
 pub on_moved : {A B : Type 0} (r : Result A B) (cs : List Check) (o p : Option Break) → OnOk r (p ≡ o) → NotesLeast cs o → OnOk r (NotesLeast cs p)
 on_moved (Ok a) cs o p e n = moved cs o p e n
@@ -158,6 +155,10 @@ module _ (at : ℕ → ℕ) (k : ℕ) (i : Inside) (w : Word) where
   unfolding asks
   mode_after_asks a e = sym (ap (λ (m : Mode). asks at k m i.entries w) e)
 
+  pub mode_turned_asks : (a : Atom) (p : Postfix) → i.mode ≡ Turned a p → turned_asks at (k + length (atom a ++ postfix p)) a p i.entries w ≡ asks at k i.mode i.entries w
+  unfolding asks
+  mode_turned_asks a p e = sym (ap (λ (m : Mode). asks at k m i.entries w) e)
+
   pub mode_named_asks : (f : Bool) (n : List ℕ) → i.mode ≡ Named f n → named_asks at k n i.entries w ≡ asks at k i.mode i.entries w
   unfolding asks
   mode_named_asks f n e = sym (ap (λ (m : Mode). asks at k m i.entries w) e)
@@ -170,6 +171,7 @@ abbrev pub IsQuietMode : Mode → Type 0
 IsQuietMode Need = ⊥
 IsQuietMode Ready = ⊥
 IsQuietMode (After a) = ⊥
+IsQuietMode (Turned a p) = ⊥
 IsQuietMode (Named f n) = ⊥
 IsQuietMode (InCount a c) = ⊥
 IsQuietMode _ = Unit {0}
@@ -179,6 +181,7 @@ unfolding asks
 quiet_asks at k es Need w q = absurd q
 quiet_asks at k es Ready w q = absurd q
 quiet_asks at k es (After a) w q = absurd q
+quiet_asks at k es (Turned a p) w q = absurd q
 quiet_asks at k es (Named f n) w q = absurd q
 quiet_asks at k es (InCount a c) w q = absurd q
 quiet_asks at k es _ w q = refl

@@ -11,12 +11,13 @@ use Rattle.kex_reader.specs.declared.inside.Wait.{Wait}
 use Rattle.kex_reader.specs.declared.inside.Wait.TheVariants as waits
 use Rattle.kex_reader.specs.declared.inside.StepFault.{StepFault}
 use Rattle.kex_reader.specs.declared.inside.StepFault.TheVariants as faults
+use Rattle.kex_regexp.specs.declared.counts.Bounds.{Bounds}
 use Rattle.kex_reader.specs.declared.reader.Head.{Head}
 use Rattle.kex_reader.specs.declared.reader.Phase.{Phase}
 use Rattle.kex_reader.specs.declared.reader.Phase.TheVariants as phases
 use Rattle.kex_reader.specs.declared.word.Name.{Name as Named'}
-use Rattle.kex_reader.specs.Syntax.{Word, Name, Define, Colon, Pipe, word, Definition, Header, NoStart, Stages, Program, Term, Once, Call, start, header, definitions, stages, term}
-use Rattle.kex_reader.specs.Reading.{Entry, Mark, Ended, Done, Muted, Storing, Mode, Need, Ready, After, Named, Inside, State, Begin, FirstName, StartLine, StageRead, StageNext, HeadRead, Within, before, take_term, with_pre, lift, on_head, next_head, on_define, step_in, step_within, first_name, head_read, stage_read, name_then, step, words_read, entries, program_of_whole, program_of_term, finish_within, finish}
+use Rattle.kex_reader.specs.Syntax.{Word, Name, Define, Colon, Pipe, word, Definition, Header, NoStart, Stages, Program, Term, Once, Turns, Postfix, Call, start, header, definitions, stages, term}
+use Rattle.kex_reader.specs.Reading.{Entry, Mark, Ended, Done, Muted, Storing, Mode, Need, Ready, After, Turned, Named, Inside, State, Begin, FirstName, StartLine, StageRead, StageNext, HeadRead, Within, before, take_term, with_pre, lift, on_head, next_head, on_define, step_in, step_within, first_name, head_read, stage_read, name_then, step, words_read, entries, program_of_whole, program_of_term, finish_within, finish}
 use Rattle.kex_reader.specs.Shown.{Made, IsName, ShowsTerm, ShowsDefinitions, ShowsStages}
 use Rattle.kex_reader.specs.Stands.{Keeps, ConstructsShow, SomeInside, ShowsInside, Steps, TermTaken, ShowsMode}
 use Rattle.kex_reader.specs.Holding.{ShowsHead, ShowsState, SomeState, StateSteps, whole_term, Ends, Finishes}
@@ -183,10 +184,11 @@ definitions_long (d ∷ ds) name t = omega (arith, definitions_long ds name t, l
 -- ---- a word that is Define
 
 pub define_none : (h : Header) (ds : List Definition) (name : List ℕ) (m : Mode) (es : List Entry) → ((n : List ℕ) → m ≡ Named true n → ⊥) → step_within h ds name m es Define ≡ None
-unfolding step_within on_define step_in lift Rattle.kex_reader.specs.Reading.begin_pre Rattle.kex_reader.specs.Reading.after_atom Rattle.kex_reader.specs.Reading.on_name Rattle.kex_reader.specs.Reading.on_sign Rattle.kex_reader.specs.Reading.first_part Rattle.kex_reader.specs.Reading.next_part Rattle.kex_reader.specs.Reading.on_count Rattle.kex_reader.specs.Reading.count_step
+unfolding step_within on_define step_in lift Rattle.kex_reader.specs.Reading.begin_pre Rattle.kex_reader.specs.Reading.after_atom Rattle.kex_reader.specs.Reading.after_turns Rattle.kex_reader.specs.Reading.on_name Rattle.kex_reader.specs.Reading.on_sign Rattle.kex_reader.specs.Reading.first_part Rattle.kex_reader.specs.Reading.next_part Rattle.kex_reader.specs.Reading.on_count Rattle.kex_reader.specs.Reading.count_step
 define_none h ds name Need es n = refl
 define_none h ds name Ready es n = refl
 define_none h ds name (After a) es n = refl
+define_none h ds name (Turned a p) es n = refl
 define_none h ds name (Named true k) es n = absurd (n k refl)
 define_none h ds name (Named false k) es n = refl
 define_none h ds name Rattle.kex_reader.specs.Reading.Writing es n = refl
@@ -446,24 +448,29 @@ pub finish_after : (h : Header) (done : List Definition) (name : List ℕ) (m : 
 unfolding finish_within
 finish_after h done name m a es e = ap (λ (x : Mode). finish_within h done name x es) e ∙ ended_is h done name (take_term (with_pre (Once a) es))
 
+pub finish_turned : (h : Header) (done : List Definition) (name : List ℕ) (m : Mode) (a : Rattle.kex_reader.specs.Syntax.Atom) (p : Postfix) (es : List Entry) → m ≡ Turned a p → finish_within h done name m es ≡ with_end h done name (whole_term (take_term (with_pre (Turns a p false) es)))
+unfolding finish_within
+finish_turned h done name m a p es e = ap (λ (x : Mode). finish_within h done name x es) e ∙ ended_is h done name (take_term (with_pre (Turns a p false) es))
+
 pub finish_named : (h : Header) (done : List Definition) (name : List ℕ) (m : Mode) (f : Bool) (n : List ℕ) (es : List Entry) → m ≡ Named f n → finish_within h done name m es ≡ with_end h done name (whole_term (take_term (with_pre (Once (Call n)) es)))
 unfolding finish_within
 finish_named h done name m f n es e = ap (λ (x : Mode). finish_within h done name x es) e ∙ ended_is h done name (take_term (with_pre (Once (Call n)) es))
 
 -- the waiting of modes in which a definition can't end
-pub finish_other : (a : Made) (at : ℕ → ℕ) (i : ℕ) (w : Wait) (m : Mode) (h : Header) (done : List Definition) (name : List ℕ) (es : List Entry) → (w ≡ waits.Ready → ⊥) → ((p : Rattle.kex_reader.specs.declared.stack.Part.Part) → w ≡ waits.After p → ⊥) → ((f : Bool) (n : Named') → w ≡ waits.Named f n → ⊥) → ShowsMode a at i w m → finish_within h done name m es ≡ None
+pub finish_other : (a : Made) (at : ℕ → ℕ) (i : ℕ) (w : Wait) (m : Mode) (h : Header) (done : List Definition) (name : List ℕ) (es : List Entry) → (w ≡ waits.Ready → ⊥) → ((p : Rattle.kex_reader.specs.declared.stack.Part.Part) → w ≡ waits.After p → ⊥) → ((p : Rattle.kex_reader.specs.declared.stack.Part.Part) (b : Bounds) → w ≡ waits.Turned p b → ⊥) → ((f : Bool) (n : Named') → w ≡ waits.Named f n → ⊥) → ShowsMode a at i w m → finish_within h done name m es ≡ None
 unfolding ShowsMode finish_within
-finish_other a at i waits.Ready m h done name es n1 n2 n3 k = absurd (n1 refl)
-finish_other a at i (waits.After p) m h done name es n1 n2 n3 k = absurd (n2 p refl)
-finish_other a at i (waits.Named f n) m h done name es n1 n2 n3 k = absurd (n3 f n refl)
-finish_other a at i waits.Need Need h done name es n1 n2 n3 k = refl
-finish_other a at i (waits.Writing x) Rattle.kex_reader.specs.Reading.Writing h done name es n1 n2 n3 k = refl
-finish_other a at i (waits.Bracket x) Rattle.kex_reader.specs.Reading.Bracket h done name es n1 n2 n3 k = refl
-finish_other a at i (waits.BracketName x y) (Rattle.kex_reader.specs.Reading.BracketName r) h done name es n1 n2 n3 k = refl
-finish_other a at i (waits.Assigning x) (Rattle.kex_reader.specs.Reading.Assigning b r) h done name es n1 n2 n3 k = refl
-finish_other a at i (waits.Assigned x) (Rattle.kex_reader.specs.Reading.Assigned b r p ps) h done name es n1 n2 n3 k = refl
-finish_other a at i (waits.InCount p c b) (Rattle.kex_reader.specs.Reading.InCount x d) h done name es n1 n2 n3 k = refl
-finish_other a at i w m h done name es n1 n2 n3 k = absurd k
+finish_other a at i waits.Ready m h done name es n1 n2 n4 n3 k = absurd (n1 refl)
+finish_other a at i (waits.After p) m h done name es n1 n2 n4 n3 k = absurd (n2 p refl)
+finish_other a at i (waits.Turned p b) m h done name es n1 n2 n4 n3 k = absurd (n4 p b refl)
+finish_other a at i (waits.Named f n) m h done name es n1 n2 n4 n3 k = absurd (n3 f n refl)
+finish_other a at i waits.Need Need h done name es n1 n2 n4 n3 k = refl
+finish_other a at i (waits.Writing x) Rattle.kex_reader.specs.Reading.Writing h done name es n1 n2 n4 n3 k = refl
+finish_other a at i (waits.Bracket x) Rattle.kex_reader.specs.Reading.Bracket h done name es n1 n2 n4 n3 k = refl
+finish_other a at i (waits.BracketName x y) (Rattle.kex_reader.specs.Reading.BracketName r) h done name es n1 n2 n4 n3 k = refl
+finish_other a at i (waits.Assigning x) (Rattle.kex_reader.specs.Reading.Assigning b r) h done name es n1 n2 n4 n3 k = refl
+finish_other a at i (waits.Assigned x) (Rattle.kex_reader.specs.Reading.Assigned b r p ps) h done name es n1 n2 n4 n3 k = refl
+finish_other a at i (waits.InCount p c b) (Rattle.kex_reader.specs.Reading.InCount x d) h done name es n1 n2 n4 n3 k = refl
+finish_other a at i w m h done name es n1 n2 n4 n3 k = absurd k
 
 -- a wait for another mode than a name that may be a head
 pub not_head : (a : Made) (at : ℕ → ℕ) (i : ℕ) (w : Wait) (m : Mode) → ((f : Bool) (n : Named') → w ≡ waits.Named f n → ⊥) → ShowsMode a at i w m → (n : List ℕ) → m ≡ Named true n → ⊥

@@ -2,12 +2,12 @@
 use Rattle.std.proofs.Common.{◌≡◌, ℕ, suc, ◌+◌, ◌*◌, Bool, true, false, List, [], ◌∷◌, ◌++◌, length, Option, Some, None, refl, sym, ap, ◌∙◌, subst, append_assoc, length-append, arith}
 use Rattle.std.specs.Prelude.{bytes_eq, codes}
 use Rattle.std.proofs.lemmas.List.{append-nil}
-use Rattle.kex_reader.specs.Syntax.{Word, Name, Number, Literal, Regex, Define, Colon, Pipe, Bar, Tilde, At, Star, Plus, PlusEquals, Question, OpenBrace, Bang, OpenBracket, CloseBracket, Arrow, OpenParen, CloseParen, Postfix, ZeroOrMore, OneOrMore, Optional, Term, Last, Or, Seq, Only, Then, Pre, Mute, Into, Once, Turns, Atom, Call, Write, Part, Definition, Header, Program, start, term, seq, pre, atom, header, definitions}
-use Rattle.kex_reader.specs.Reading.{Entry, Mark, Ended, Done, Muted, Storing, CountStep, CountOn, CountRead, CountWrong, Mode, Need, Ready, After, Named, Writing, Bracket, BracketName, Assigning, Assigned, InCount, Inside, State, Begin, FirstName, StartLine, StageRead, StageNext, HeadRead, Within, before, with_pre, take_more, take_seq, take_branches, term_of, take_term, goes, on_bar, after_group, on_close, on_number, begin_pre, after_atom, after_name, on_name, on_sign, first_part, next_part, count_step, on_count, step_in, lift, next_head, on_head, on_define, step_within, first_name, head_read, stage_read, name_then, step, program_of_whole, program_of_term, finish_within, finish, entries, entry}
+use Rattle.kex_reader.specs.Syntax.{Word, Name, Number, Literal, Regex, Define, Colon, Pipe, Bar, Tilde, At, Star, Plus, PlusEquals, Question, OpenBrace, Bang, OpenBracket, CloseBracket, Arrow, OpenParen, CloseParen, Postfix, ZeroOrMore, OneOrMore, Optional, Term, Last, Or, Seq, Only, Then, Pre, Mute, Into, Once, Turns, Atom, Call, Write, Part, Definition, Header, Program, start, postfix, term, seq, pre, atom, header, definitions}
+use Rattle.kex_reader.specs.Reading.{Entry, Mark, Ended, Done, Muted, Storing, CountStep, CountOn, CountRead, CountWrong, Mode, Need, Ready, After, Turned, Named, Writing, Bracket, BracketName, Assigning, Assigned, InCount, Inside, State, Begin, FirstName, StartLine, StageRead, StageNext, HeadRead, Within, before, with_pre, take_more, take_seq, take_branches, term_of, take_term, goes, on_bar, after_group, on_close, on_number, begin_pre, after_atom, after_turns, after_name, on_name, on_sign, first_part, next_part, count_step, on_count, step_in, lift, next_head, on_head, on_define, step_within, first_name, head_read, stage_read, name_then, step, program_of_whole, program_of_term, finish_within, finish, entries, entry}
 use Rattle.kex_reader.specs.Checks.{Check, Nested, Staged, postfix_checks, term_checks, seq_checks, pre_checks, atom_checks, definition_checks, stage_checks, header_checks, program_checks}
-use Rattle.kex_reader.specs.Stands.{depth, begin_asks, after_asks, named_asks, count_asks, asks}
+use Rattle.kex_reader.specs.Stands.{depth, begin_asks, after_asks, turned_asks, named_asks, count_asks, asks}
 use Rattle.kex_reader.specs.Asked.{entry_checks, entries_checks, mode_checks, inside_checks, state_checks, name_asks, state_asks}
-use Rattle.kex_reader.proofs.Sound.{by_test, put_is}
+use Rattle.kex_reader.proofs.Sound.{by_test, eager_is, put_is}
 
 module _ (at : ℕ → ℕ) (base : ℕ) where
   -- ---- folding
@@ -151,10 +151,10 @@ module _ (at : ℕ → ℕ) (base : ℕ) where
   unfolding mode_checks
   put_asked p es cs e = asks_of Ready (with_pre p es) cs (append-nil (entries_checks at base (with_pre p es)) ∙ put_checks p es ∙ e)
 
-  pub turns_asked : (a : Atom) (p : Postfix) (es : List Entry) (ds : List Check) → postfix_checks p (at (base + length (entries es) + length (atom a))) ≡ ds → Asks ((entries_checks at base es ++ atom_checks a at (base + length (entries es)) (depth es)) ++ ds) (goes Ready (with_pre (Turns a p) es))
-  unfolding pre_checks
+  pub turns_asked : (a : Atom) (p : Postfix) (es : List Entry) (ds : List Check) → postfix_checks p (at (base + length (entries es) + length (atom a))) ≡ ds → Asks ((entries_checks at base es ++ atom_checks a at (base + length (entries es)) (depth es)) ++ ds) (goes (Turned a p) es)
+  unfolding mode_checks
   turns_asked a p es ds e =
-      put_asked (Turns a p) es _ (sym (append_assoc (entries_checks at base es) (atom_checks a at (base + length (entries es)) (depth es)) (postfix_checks p (at (base + length (entries es) + length (atom a)))))
+      asks_of (Turned a p) es _ (sym (append_assoc (entries_checks at base es) (atom_checks a at (base + length (entries es)) (depth es)) (postfix_checks p (at (base + length (entries es) + length (atom a)))))
       ∙ ap (λ (x : List Check). (entries_checks at base es ++ atom_checks a at (base + length (entries es)) (depth es)) ++ x) e)
 
   put_long : (a : Atom) (es : List Entry) → base + length (entries (with_pre (Once a) es)) ≡ base + length (entries es) + length (atom a)
@@ -164,6 +164,18 @@ module _ (at : ℕ → ℕ) (base : ℕ) where
   pub once_asked : (a : Atom) (es : List Entry) (w : Word) → Asks ((entries_checks at base es ++ atom_checks a at (base + length (entries es)) (depth es)) ++ begin_asks at (base + length (entries es) + length (atom a)) (with_pre (Once a) es) w) (begin_pre true (with_pre (Once a) es) w)
   unfolding pre_checks
   once_asked a es w = to_asks _ _ _ (ap (λ (x : List Check). x ++ begin_asks at (base + length (entries (with_pre (Once a) es))) (with_pre (Once a) es) w) (put_checks (Once a) es) ∙ ap (λ (k : ℕ). (entries_checks at base es ++ atom_checks a at (base + length (entries es)) (depth es)) ++ begin_asks at k (with_pre (Once a) es) w) (put_long a es)) (begin_asked true (with_pre (Once a) es) w)
+
+  eager_long : (a : Atom) (p : Postfix) (es : List Entry) → base + length (entries (with_pre (Turns a p false) es)) ≡ base + length (entries es) + length (atom a ++ postfix p)
+  eager_long a p es = omega (arith, ap (λ (w : List Word). length w) (eager_is a p es), length-append (entries es) (atom a ++ postfix p))
+
+  pub eager_asked : (a : Atom) (p : Postfix) (es : List Entry) (w : Word) → Asks ((entries_checks at base es ++ mode_checks (Turned a p) at (base + length (entries es)) (depth es)) ++ turned_asks at (base + length (entries es) + length (atom a ++ postfix p)) a p es w) (begin_pre true (with_pre (Turns a p false) es) w)
+  unfolding pre_checks mode_checks
+  eager_asked a p es w = to_asks _ _ _ (ap (λ (x : List Check). x ++ begin_asks at (base + length (entries (with_pre (Turns a p false) es))) (with_pre (Turns a p false) es) w) (put_checks (Turns a p false) es) ∙ ap (λ (k : ℕ). (entries_checks at base es ++ (atom_checks a at (base + length (entries es)) (depth es) ++ postfix_checks p (at (base + length (entries es) + length (atom a))))) ++ begin_asks at k (with_pre (Turns a p false) es) w) (eager_long a p es)) (begin_asked true (with_pre (Turns a p false) es) w)
+
+  pub turned_asked : (a : Atom) (p : Postfix) (es : List Entry) (w : Word) → Asks ((entries_checks at base es ++ mode_checks (Turned a p) at (base + length (entries es)) (depth es)) ++ turned_asks at (base + length (entries es) + length (atom a ++ postfix p)) a p es w) (after_turns a p es w)
+  unfolding after_turns mode_checks begin_asks pre_checks
+  turned_asked a p es Question = put_asked (Turns a p true) es _ (sym (append-nil _))
+  turned_asked a p es w = eager_asked a p es w
 
   pub after_asked : (a : Atom) (es : List Entry) (w : Word) → Asks ((entries_checks at base es ++ atom_checks a at (base + length (entries es)) (depth es)) ++ after_asks at (base + length (entries es) + length (atom a)) a es w) (after_atom a es w)
   unfolding after_atom after_asks postfix_checks Asks inside_checks mode_checks
@@ -228,6 +240,7 @@ module _ (at : ℕ → ℕ) (base : ℕ) where
   step_asked Need es w = to_asks _ _ _ (ap (λ (x : List Check). x ++ begin_asks at (base + length (entries es)) es w) (sym (append-nil (entries_checks at base es)))) (begin_asked false es w)
   step_asked Ready es w = to_asks _ _ _ (ap (λ (x : List Check). x ++ begin_asks at (base + length (entries es)) es w) (sym (append-nil (entries_checks at base es)))) (begin_asked true es w)
   step_asked (After a) es w = after_asked a es w
+  step_asked (Turned a p) es w = turned_asked a p es w
   step_asked (Named free n) es w = named_asked n es w
   step_asked Writing es w = on_name_asked _ _ w (write_asked es)
   step_asked Bracket es w = on_name_asked _ _ w (bracket_asked es)
@@ -333,10 +346,15 @@ module _ (at : ℕ → ℕ) where
   unfolding pre_checks
   end_once h ds name a es = subst (λ (x : List Check). FinishAsked (front h ds ++ x) (program_of_term h ds name (take_term (with_pre (Once a) es)))) (put_checks at (length (before h ds name)) (Once a) es) (end_asked h ds name (with_pre (Once a) es) (take_term (with_pre (Once a) es)) (term_asked at (length (before h ds name)) (with_pre (Once a) es)))
 
+  end_turned : (h : Header) (ds : List Definition) (name : List ℕ) (a : Atom) (p : Postfix) (es : List Entry) → FinishAsked (front h ds ++ (entries_checks at (length (before h ds name)) es ++ (atom_checks a at (length (before h ds name) + length (entries es)) (depth es) ++ postfix_checks p (at (length (before h ds name) + length (entries es) + length (atom a)))))) (program_of_term h ds name (take_term (with_pre (Turns a p false) es)))
+  unfolding pre_checks
+  end_turned h ds name a p es = subst (λ (x : List Check). FinishAsked (front h ds ++ x) (program_of_term h ds name (take_term (with_pre (Turns a p false) es)))) (put_checks at (length (before h ds name)) (Turns a p false) es) (end_asked h ds name (with_pre (Turns a p false) es) (take_term (with_pre (Turns a p false) es)) (term_asked at (length (before h ds name)) (with_pre (Turns a p false) es)))
+
   finished : (h : Header) (ds : List Definition) (name : List ℕ) (m : Mode) (es : List Entry) → FinishAsked (front h ds ++ (entries_checks at (length (before h ds name)) es ++ mode_checks m at (length (before h ds name) + length (entries es)) (depth es))) (finish_within h ds name m es)
   unfolding finish_within mode_checks FinishAsked atom_checks
   finished h ds name Ready es = subst (λ (x : List Check). FinishAsked (front h ds ++ x) (program_of_term h ds name (take_term es))) (sym (append-nil (entries_checks at (length (before h ds name)) es))) (end_asked h ds name es (take_term es) (term_asked at (length (before h ds name)) es))
   finished h ds name (After a) es = end_once h ds name a es
+  finished h ds name (Turned a p) es = end_turned h ds name a p es
   finished h ds name (Named free n) es = end_once h ds name (Call n) es
   finished h ds name _ es = tt
 

@@ -3,8 +3,8 @@ use Rattle.std.proofs.Common.{◌≡◌, ℕ, Bool, true, false, cond, List, [],
 use Rattle.std.specs.Prelude.{bytes_eq, codes}
 use Rattle.std.proofs.lemmas.List.{append-nil}
 use Rattle.std.proofs.lemmas.Slice.Eq.{bytes_eq-Decides}
-use Rattle.kex_reader.specs.Syntax.{Word, Name, Number, Literal, Regex, Define, Colon, Pipe, Bar, Tilde, At, Star, Plus, PlusEquals, Question, OpenBrace, CloseBrace, Comma, Bang, OpenBracket, CloseBracket, Arrow, OpenParen, CloseParen, Part, Text, Held, Postfix, ZeroOrMore, OneOrMore, Optional, Exactly, AtLeast, AtMost, Between, Term, Last, Or, Seq, Only, Then, Pre, Mute, Into, Once, Turns, Atom, One, Call, Lit, Match, Write, Assign, Group, Definition, Header, Program, start, part, parts, sign, postfix, term, seq, pre, atom, definitions, stages, header, program}
-use Rattle.kex_reader.specs.Reading.{Entry, Mark, Ended, Done, Muted, Storing, Counting, Opened, Low, LowComma, LowHigh, OnlyComma, High, Mode, Need, Ready, After, Named, Writing, Bracket, BracketName, Assigning, Assigned, InCount, Inside, State, Begin, FirstName, StartLine, StageRead, StageNext, HeadRead, Within, with_pre, take_more, take_seq, take_branches, term_of, take_term, goes, on_bar, after_group, on_close, on_number, begin_pre, after_atom, next_head, on_head, after_name, on_name, on_sign, first_part, next_part, count_step, on_count, after_count, step_in, lift, on_define, step_within, first_name, head_read, stage_read, name_then, step, next, state_after, program_of_whole, program_of_term, finish_within, finish, entry, entries, counting, mode, inside, before, words_read}
+use Rattle.kex_reader.specs.Syntax.{Word, Name, Number, Literal, Regex, Define, Colon, Pipe, Bar, Tilde, At, Star, Plus, PlusEquals, Question, OpenBrace, CloseBrace, Comma, Bang, OpenBracket, CloseBracket, Arrow, OpenParen, CloseParen, Part, Text, Held, Postfix, ZeroOrMore, OneOrMore, Optional, Exactly, AtLeast, AtMost, FromTo, Term, Last, Or, Seq, Only, Then, Pre, Mute, Into, Once, Turns, Atom, One, Call, Lit, Match, Write, Assign, Group, Definition, Header, Program, start, part, parts, sign, postfix, lazy_mark, term, seq, pre, atom, definitions, stages, header, program}
+use Rattle.kex_reader.specs.Reading.{Entry, Mark, Ended, Done, Muted, Storing, Counting, Opened, Low, LowComma, LowHigh, OnlyComma, High, Mode, Need, Ready, After, Turned, Named, Writing, Bracket, BracketName, Assigning, Assigned, InCount, Inside, State, Begin, FirstName, StartLine, StageRead, StageNext, HeadRead, Within, with_pre, take_more, take_seq, take_branches, term_of, take_term, goes, on_bar, after_group, on_close, on_number, begin_pre, after_atom, after_turns, next_head, on_head, after_name, on_name, on_sign, first_part, next_part, count_step, on_count, after_count, step_in, lift, on_define, step_within, first_name, head_read, stage_read, name_then, step, next, state_after, program_of_whole, program_of_term, finish_within, finish, entry, entries, counting, mode, inside, before, words_read}
 
 pub same_bytes : (a b : List ℕ) → bytes_eq a b ≡ true → a ≡ b
 same_bytes a b e = (bytes_eq-Decides a b).0 e
@@ -141,9 +141,22 @@ pub put_goes : (p : Pre) (es : List Entry) (w : List Word) → entries es ++ pre
 unfolding mode
 put_goes p es w e = went Ready (with_pre p es) w (append-nil (entries (with_pre p es)) ∙ put_is p es ∙ e)
 
-pub sign_goes : (a : Atom) (p : Postfix) (es : List Entry) (v : List Word) → postfix p ≡ v → GoesIn (entries es ++ (atom a ++ v)) (goes Ready (with_pre (Turns a p) es))
-unfolding pre
-sign_goes a p es v e = put_goes (Turns a p) es _ (ap (λ (w : List Word). entries es ++ (atom a ++ w)) e)
+pub sign_goes : (a : Atom) (p : Postfix) (es : List Entry) (v : List Word) → postfix p ≡ v → GoesIn (entries es ++ (atom a ++ v)) (goes (Turned a p) es)
+unfolding mode
+sign_goes a p es v e = went (Turned a p) es _ (ap (λ (w : List Word). entries es ++ (atom a ++ w)) e)
+
+-- a pre with a postfix that isn't lazy
+pub eager_is : (a : Atom) (p : Postfix) (es : List Entry) → entries (with_pre (Turns a p false) es) ≡ entries es ++ (atom a ++ postfix p)
+unfolding pre lazy_mark
+eager_is a p es = put_is (Turns a p false) es ∙ ap (λ (w : List Word). entries es ++ (atom a ++ w)) (append-nil (postfix p))
+
+pub eager_begins : (a : Atom) (p : Postfix) (es : List Entry) (t : Word) → GoesIn ((entries es ++ (atom a ++ postfix p)) ++ t ∷ []) (begin_pre true (with_pre (Turns a p false) es) t)
+eager_begins a p es t = subst (λ (w : List Word). GoesIn (w ++ t ∷ []) (begin_pre true (with_pre (Turns a p false) es) t)) (eager_is a p es) (begin_goes true (with_pre (Turns a p false) es) t)
+
+pub turned_goes : (a : Atom) (p : Postfix) (es : List Entry) (t : Word) → GoesIn ((entries es ++ (atom a ++ postfix p)) ++ t ∷ []) (after_turns a p es t)
+unfolding after_turns pre lazy_mark
+turned_goes a p es Question = put_goes (Turns a p true) es _ (ap (λ (w : List Word). entries es ++ w) (sym (append_assoc (atom a) (postfix p) (Question ∷ []))) ∙ sym (append_assoc (entries es) (atom a ++ postfix p) (Question ∷ [])))
+turned_goes a p es t = eager_begins a p es t
 
 pub once_begins : (a : Atom) (es : List Entry) (t : Word) → GoesIn (entries es ++ (atom a ++ t ∷ [])) (begin_pre true (with_pre (Once a) es) t)
 unfolding pre
@@ -190,7 +203,7 @@ counted_goes a (Low n) es Comma = went (InCount a (LowComma n)) es _ refl
 counted_goes a (Low n) es CloseBrace = sign_goes a (Exactly n) es _ refl
 counted_goes a (LowComma n) es (Number m) = went (InCount a (LowHigh n m)) es _ refl
 counted_goes a (LowComma n) es CloseBrace = sign_goes a (AtLeast n) es _ refl
-counted_goes a (LowHigh n m) es CloseBrace = sign_goes a (Between n m) es _ refl
+counted_goes a (LowHigh n m) es CloseBrace = sign_goes a (FromTo n m) es _ refl
 counted_goes a OnlyComma es (Number m) = went (InCount a (High m)) es _ refl
 counted_goes a (High m) es CloseBrace = sign_goes a (AtMost m) es _ refl
 counted_goes a _ es _ = tt
@@ -211,6 +224,7 @@ unfolding step_in mode
 in_goes Need es t = begin_goes false es t
 in_goes Ready es t = begin_goes true es t
 in_goes (After a) es t = after_goes a es t
+in_goes (Turned a p) es t = subst (λ (w : List Word). GoesIn w (after_turns a p es t)) (append_assoc (entries es) (atom a ++ postfix p) (t ∷ [])) (turned_goes a p es t)
 in_goes (Named free n) es t = named_goes n es t
 in_goes Writing es t = write_goes es t
 in_goes Bracket es t = bracket_goes es t
@@ -326,10 +340,14 @@ pub ended_after : (h : Header) (ds : List Definition) (name : List ℕ) (a : Ato
 unfolding pre
 ended_after h ds name a es = subst (λ (w : List Word). Finishes (before h ds name ++ w) (program_of_term h ds name (take_term (with_pre (Once a) es)))) (put_is (Once a) es) (ended_is h ds name (with_pre (Once a) es) (take_term (with_pre (Once a) es)) (term_taken (with_pre (Once a) es)))
 
+pub ended_turned : (h : Header) (ds : List Definition) (name : List ℕ) (a : Atom) (p : Postfix) (es : List Entry) → Finishes (before h ds name ++ (entries es ++ (atom a ++ postfix p))) (program_of_term h ds name (take_term (with_pre (Turns a p false) es)))
+ended_turned h ds name a p es = subst (λ (w : List Word). Finishes (before h ds name ++ w) (program_of_term h ds name (take_term (with_pre (Turns a p false) es)))) (eager_is a p es) (ended_is h ds name (with_pre (Turns a p false) es) (take_term (with_pre (Turns a p false) es)) (term_taken (with_pre (Turns a p false) es)))
+
 pub finish_within_is : (h : Header) (ds : List Definition) (name : List ℕ) (m : Mode) (es : List Entry) → Finishes (before h ds name ++ (entries es ++ mode m)) (finish_within h ds name m es)
 unfolding finish_within mode Finishes atom
 finish_within_is h ds name Ready es = subst (λ (w : List Word). Finishes (before h ds name ++ w) (program_of_term h ds name (take_term es))) (sym (append-nil (entries es))) (ended_is h ds name es (take_term es) (term_taken es))
 finish_within_is h ds name (After a) es = ended_after h ds name a es
+finish_within_is h ds name (Turned a p) es = ended_turned h ds name a p es
 finish_within_is h ds name (Named free n) es = ended_after h ds name (Call n) es
 finish_within_is h ds name _ es = tt
 

@@ -12,17 +12,22 @@ use Rattle.kex_reader.specs.declared.stack.Construct.{Construct}
 use Rattle.kex_reader.specs.declared.stack.Construct.TheVariants as constructs
 use Rattle.kex_reader.specs.declared.stack.Part.{Part as Shown}
 use Rattle.kex_regexp.specs.declared.counts.Count.TheVariants as counts
+use Rattle.kex_regexp.specs.declared.counts.Bounds.{Bounds}
+use Rattle.kex_regexp.specs.Holding.{HoldsBounds, ShowsCount}
+use Rattle.kex_regexp.specs.Outcomes.{are_bad}
+use Rattle.kex_regexp.specs.Postfixes.{high, low}
+use Rattle.kex_regexp.proofs.CappedCounts.{good_bounds}
 use Rattle.kex_reader.specs.declared.inside.Wait.{Wait}
 use Rattle.kex_reader.specs.declared.inside.Wait.TheVariants as waits
 use Rattle.kex_reader.specs.declared.inside.StepFault.{StepFault}
 use Rattle.kex_reader.specs.declared.inside.StepFault.TheVariants as faults
 use Rattle.kex_reader.specs.declared.word.Name.{Name as Named'}
-use Rattle.kex_reader.specs.Syntax.{Word, Name, Number, Literal, Regex, Define, Bar, Tilde, At, Star, Plus, Question, OpenBrace, Bang, OpenBracket, OpenParen, CloseParen, word, Postfix, ZeroOrMore, OneOrMore, Optional, Term, Seq, Once, Turns, Atom, One, Call, Lit, Match, Write, Group, pre, atom}
-use Rattle.kex_reader.specs.Reading.{Entry, Mark, Ended, Done, Muted, Storing, Opened, Mode, Need, Ready, After, Named, Writing, Bracket, BracketName, Assigning, InCount, Inside, with_pre, take_seq, take_term, goes, on_bar, after_group, on_close, on_number, begin_pre, after_atom, after_name, on_name, on_sign, entries, entry}
-use Rattle.kex_reader.specs.Shown.{Made, IsNode, IsName, IsRegister, ShowsTerm, ShowsPre, ShowsAtom, low, high}
-use Rattle.kex_reader.specs.Stands.{Keeps, ConstructsShow, SeqTaken, TermTaken, ShowsMode, ShowsCount, Steps}
+use Rattle.kex_reader.specs.Syntax.{Word, Name, Number, Literal, Regex, Define, Bar, Tilde, At, Star, Plus, Question, OpenBrace, Bang, OpenBracket, OpenParen, CloseParen, word, Postfix, ZeroOrMore, OneOrMore, Optional, Term, Seq, Once, Turns, Atom, One, Call, Lit, Match, Write, Group, pre, atom, postfix}
+use Rattle.kex_reader.specs.Reading.{Entry, Mark, Ended, Done, Muted, Storing, Opened, Mode, Need, Ready, After, Turned, Named, Writing, Bracket, BracketName, Assigning, InCount, Inside, with_pre, take_seq, take_term, goes, on_bar, after_group, on_close, on_number, begin_pre, after_atom, after_turns, after_name, on_name, on_sign, entries, entry}
+use Rattle.kex_reader.specs.Shown.{Made, IsNode, IsName, IsRegister, ShowsTerm, ShowsPre, ShowsAtom}
+use Rattle.kex_reader.specs.Stands.{HoldsTurns, Keeps, ConstructsShow, SeqTaken, TermTaken, ShowsMode, Steps}
 use Rattle.kex_reader.proofs.Drafts.{Keeps-trans}
-use Rattle.kex_reader.proofs.Sound.{put_is}
+use Rattle.kex_reader.proofs.Sound.{eager_is, put_is}
 use Rattle.kex_reader.proofs.Stacks.{constructs_more}
 
 -- ---- outcomes
@@ -75,6 +80,14 @@ module _ (made : Made) (at : ℕ → ℕ) (base : ℕ) (fs : List Construct) whe
   pub bracket_name : (es : List Entry) (a k : ℕ) (r : List ℕ) → ConstructsShow made at base fs es → a ≡ at (base + length (entries es)) → IsRegister made k r → Steps made at base fs (Ok (waits.BracketName a k)) (goes (BracketName r) es)
   unfolding ShowsMode
   bracket_name es a k r h e s = stood (waits.BracketName a k) (BracketName r) es h (e, s)
+
+  pub turned : (es : List Entry) (part : Shown) (b : Bounds) (x : Atom) (p : Postfix) → ConstructsShow made at base fs es → part.at ≡ at (base + length (entries es)) → ShowsAtom x made at part.node (base + length (entries es)) → HoldsTurns made b p → Steps made at base fs (Ok (waits.Turned part b)) (goes (Turned x p) es)
+  unfolding ShowsMode
+  turned es part b x p h e s t = stood (waits.Turned part b) (Turned x p) es h (e, s, t)
+
+  -- an atom begins to take so many turns
+  pub begins_turns : (es : List Entry) (w : Wait) (part : Shown) (b : Bounds) (x : Atom) (p : Postfix) → w ≡ waits.Turned part b → ConstructsShow made at base fs es → part.at ≡ at (base + length (entries es)) → ShowsAtom x made at part.node (base + length (entries es)) → HoldsTurns made b p → Steps made at base fs (Ok w) (goes (Turned x p) es)
+  begins_turns es w part b x p q h e s t = subst (λ (v : Wait). Steps made at base fs (Ok v) (goes (Turned x p) es)) (sym q) (turned es part b x p h e s t)
 
   pub count_opens : (es : List Entry) (x : Atom) (part : Shown) (brace : ℕ) → ConstructsShow made at base fs es → part.at ≡ at (base + length (entries es)) → ShowsAtom x made at part.node (base + length (entries es)) → brace ≡ at (base + length (entries es) + length (atom x)) → Steps made at base fs (Ok (waits.InCount part counts.Opened brace)) (goes (InCount x Opened) es)
   unfolding ShowsMode ShowsCount
@@ -240,15 +253,15 @@ module _ (x : Atom) (es : List Entry) (b : List ℕ) where
   after_other kinds.OpenBrace n1 n2 n3 n4 = absurd (n4 refl)
   after_other _ n1 n2 n3 n4 = refl
 
-pub after_star : (x : Atom) (es : List Entry) → after_atom x es Star ≡ goes Ready (with_pre (Turns x ZeroOrMore) es)
+pub after_star : (x : Atom) (es : List Entry) → after_atom x es Star ≡ goes (Turned x ZeroOrMore) es
 unfolding after_atom
 after_star x es = refl
 
-pub after_plus : (x : Atom) (es : List Entry) → after_atom x es Plus ≡ goes Ready (with_pre (Turns x OneOrMore) es)
+pub after_plus : (x : Atom) (es : List Entry) → after_atom x es Plus ≡ goes (Turned x OneOrMore) es
 unfolding after_atom
 after_plus x es = refl
 
-pub after_question : (x : Atom) (es : List Entry) → after_atom x es Question ≡ goes Ready (with_pre (Turns x Optional) es)
+pub after_question : (x : Atom) (es : List Entry) → after_atom x es Question ≡ goes (Turned x Optional) es
 unfolding after_atom
 after_question x es = refl
 
@@ -256,13 +269,31 @@ pub after_brace : (x : Atom) (es : List Entry) → after_atom x es OpenBrace ≡
 unfolding after_atom
 after_brace x es = refl
 
+module _ (a : Atom) (p : Postfix) (es : List Entry) (b : List ℕ) where
+  pub turned_lazy : (k : Kind) → k ≡ kinds.Question → after_turns a p es (word k b) ≡ goes Ready (with_pre (Turns a p true) es)
+  unfolding after_turns
+  turned_lazy k e = ap (λ (x : Kind). after_turns a p es (word x b)) e
+
+  pub turned_other : (k : Kind) → (k ≡ kinds.Question → ⊥) → after_turns a p es (word k b) ≡ begin_pre true (with_pre (Turns a p false) es) (word k b)
+  unfolding after_turns
+  turned_other kinds.Question n = absurd (n refl)
+  turned_other _ n = refl
+
+pub turns_index : (base : ℕ) (x : Atom) (p : Postfix) (es : List Entry) → base + length (entries (with_pre (Turns x p false) es)) ≡ base + length (entries es) + length (atom x ++ postfix p)
+turns_index base x p es = omega (arith, ap (λ (w : List Word). length w) (eager_is x p es), length-append (entries es) (atom x ++ postfix p))
+
+pub turns_place : (at : ℕ → ℕ) (base a : ℕ) (x : Atom) (p : Postfix) (es : List Entry) → a ≡ at (base + length (entries es) + length (atom x ++ postfix p)) → a ≡ at (base + length (entries (with_pre (Turns x p false) es)))
+turns_place at base a x p es e = e ∙ ap at (sym (turns_index base x p es))
+
 pub once_shows : (made : Made) (at : ℕ → ℕ) (n i : ℕ) (x : Atom) → ShowsAtom x made at n i → ShowsPre (Once x) made at n i
 unfolding ShowsPre
 once_shows made at n i x h = h
 
-pub turns_show : (made : Made) (at : ℕ → ℕ) (n m i a l : ℕ) (h : Option ℕ) (x : Atom) (p : Postfix) → n < length made.nodes → a ≡ at i → l ≡ low p → h ≡ high p → IsNode made n (nodes.Rep m l h false) a → ShowsAtom x made at m i → ShowsPre (Turns x p) made at n i
+pub turns_show : (made : Made) (at : ℕ → ℕ) (n m i a : ℕ) (b : Bounds) (x : Atom) (p : Postfix) (lazy : Bool) → n < length made.nodes → a ≡ at i → are_bad b ≡ false → HoldsBounds b p → IsNode made n (nodes.Rep m b.low b.high lazy) a → ShowsAtom x made at m i → ShowsPre (Turns x p lazy) made at n i
 unfolding ShowsPre
-turns_show made at n m i a l h x p k e f g d s = (k, m, λ _. subst (λ (y : ℕ). IsNode made n (nodes.Rep m (low p) (high p) false) y) e (subst (λ (y : Option ℕ). IsNode made n (nodes.Rep m (low p) y false) a) g (subst (λ (y : ℕ). IsNode made n (nodes.Rep m y h false) a) f d)), s)
+turns_show made at n m i a b x p lazy k e good h d s =
+    let u = good_bounds b p good h in
+    (k, m, λ _. subst (λ (y : ℕ). IsNode made n (nodes.Rep m (low p) (high p) lazy) y) e (subst (λ (y : Option ℕ). IsNode made n (nodes.Rep m (low p) y lazy) a) u.1 (subst (λ (y : ℕ). IsNode made n (nodes.Rep m y b.high lazy) a) u.0 d)), s)
 
 -- where atoms end
 pub put_ends : (x : Atom) (es : List Entry) → length (entries (with_pre (Once x) es)) ≡ length (entries es) + length (atom x)
@@ -383,29 +414,17 @@ match_of made at i from b (Err f) e h = tt
 
 -- ---- signs as counts
 
-pub star_low : 0 ≡ low ZeroOrMore
-unfolding low
-star_low = refl
+pub star_turns : (made : Made) → HoldsTurns made (record { low = 0; high = None }) ZeroOrMore
+unfolding low high
+star_turns made = ((refl, refl), λ e _. cc)
 
-pub star_high : None ≡ high ZeroOrMore
-unfolding high
-star_high = refl
+pub plus_turns : (made : Made) → HoldsTurns made (record { low = 1; high = None }) OneOrMore
+unfolding low high
+plus_turns made = ((refl, refl), λ e _. cc)
 
-pub plus_low : 1 ≡ low OneOrMore
-unfolding low
-plus_low = refl
-
-pub plus_high : None ≡ high OneOrMore
-unfolding high
-plus_high = refl
-
-pub optional_low : 0 ≡ low Optional
-unfolding low
-optional_low = refl
-
-pub optional_high : Some 1 ≡ high Optional
-unfolding high
-optional_high = refl
+pub optional_turns : (made : Made) → HoldsTurns made (record { low = 0; high = Some 1 }) Optional
+unfolding low high
+optional_turns made = ((refl, refl), λ e _. cc)
 
 pub put_index : (base : ℕ) (x : Atom) (es : List Entry) → base + length (entries (with_pre (Once x) es)) ≡ base + length (entries es) + length (atom x)
 put_index base x es = omega (arith, put_ends x es)

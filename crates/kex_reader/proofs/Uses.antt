@@ -13,6 +13,7 @@ use Rattle.kex_model.specs.declared.program.Start.{Start}
 use Rattle.kex_model.proofs.Shapes.{among_left, among_right}
 use Rattle.kex_model.proofs.Tables.{get_last}
 use Rattle.kex_regexp.specs.Parents.{NoneLost as NodesKept}
+use Rattle.kex_regexp.specs.declared.counts.Bounds.{Bounds}
 use Rattle.kex_reader.specs.declared.inside.StepFault.{StepFault}
 use Rattle.kex_reader.specs.declared.inside.Wait.{Wait}
 use Rattle.kex_reader.specs.declared.inside.Wait.TheVariants as waits
@@ -188,6 +189,10 @@ waiting w v a b fs gs r e h = subst (λ (x : Wait). StepLosesNone a b fs x gs r)
 pub sign_read : (r : Result Wait StepFault) (a : Made) (fs : List Construct) (at k : ℕ) → IfOk r (λ w. (x : Numbered) → x ≡ RegisterNumber k → InWait w x) → StepLosesNone a a fs (waits.BracketName at k) fs r
 sign_read (Ok w) a fs at k h = unchanged a _ _ (λ x i. elim i [ inl j ↦ inl j | inr e ↦ inr (h x e) ])
 sign_read (Err e) a fs at k h = tt
+
+-- an atom begins to take turns
+pub turned_held : (w : Wait) (a : Made) (fs : List Construct) (part : Shown) (b : Bounds) → w ≡ waits.Turned part b → LosesNone a a (IsHeld fs (waits.After part)) (IsHeld fs w)
+turned_held w a fs part b e = subst (λ (v : Wait). LosesNone a a (IsHeld fs (waits.After part)) (IsHeld fs v)) (sym e) (unchanged a _ _ (λ x h. h))
 
 -- ---- definitions and stages
 

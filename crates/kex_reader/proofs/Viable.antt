@@ -1,8 +1,8 @@
 -- What has been read can be completed; what was refused can't.
 use Rattle.std.proofs.Common.{◌≡◌, ℕ, false, List, [], ◌∷◌, ◌++◌, Option, Some, None, refl, sym, ap, ◌∙◌, subst, append_assoc}
 use Rattle.std.proofs.lemmas.List.{append-nil}
-use Rattle.kex_reader.specs.Syntax.{Word, Name, Number, Define, Colon, Pipe, Bar, Tilde, At, OpenBrace, CloseBrace, Comma, CloseBracket, Arrow, OpenParen, CloseParen, Held, Exactly, AtLeast, AtMost, Between, Term, Last, Or, Seq, Only, Then, Pre, Mute, Into, Once, Turns, Atom, One, Call, Write, Assign, Group, Definition, Header, NoStart, Stages, Program, start, part, parts, sign, postfix, term, seq, pre, atom, definitions, stages, header, program}
-use Rattle.kex_reader.specs.Reading.{Entry, Mark, Ended, Done, Muted, Storing, Counting, Opened, Low, LowComma, LowHigh, OnlyComma, High, Mode, Need, Ready, After, Named, Writing, Bracket, BracketName, Assigning, Assigned, InCount, State, Begin, FirstName, StartLine, StageRead, StageNext, HeadRead, Within, state_after, finish, entry, entries, counting, mode, inside, before, words_read}
+use Rattle.kex_reader.specs.Syntax.{Word, Name, Number, Define, Colon, Pipe, Bar, Tilde, At, OpenBrace, CloseBrace, Comma, CloseBracket, Arrow, OpenParen, CloseParen, Held, Postfix, Exactly, AtLeast, AtMost, FromTo, Term, Last, Or, Seq, Only, Then, Pre, Mute, Into, Once, Turns, Atom, One, Call, Write, Assign, Group, Definition, Header, NoStart, Stages, Program, start, part, parts, sign, postfix, lazy_mark, term, seq, pre, atom, definitions, stages, header, program}
+use Rattle.kex_reader.specs.Reading.{Entry, Mark, Ended, Done, Muted, Storing, Counting, Opened, Low, LowComma, LowHigh, OnlyComma, High, Mode, Need, Ready, After, Turned, Named, Writing, Bracket, BracketName, Assigning, Assigned, InCount, State, Begin, FirstName, StartLine, StageRead, StageNext, HeadRead, Within, state_after, finish, entry, entries, counting, mode, inside, before, words_read}
 use Rattle.kex_reader.specs.Programs.{IsProgram, BeginsProgram}
 use Rattle.kex_reader.proofs.Sound.{Goes, reads_goes, finish_is, Finishes, definitions-append, stages-append}
 use Rattle.kex_reader.proofs.Complete.{Gives, program_reads, reads-append, reads_none}
@@ -103,20 +103,25 @@ plug (Mark ∷ es) t =
 
 -- ---- each mode
 
+pub turns_for : (a : Atom) (p : Postfix) (v more : List Word) → postfix p ≡ v ++ more → PreFor (atom a ++ v)
+unfolding pre lazy_mark
+turns_for a p v more e = record { more = more; tree = Turns a p false; same = ap (λ (w : List Word). atom a ++ w) (append-nil (postfix p) ∙ e) ∙ sym (append_assoc (atom a) v more) }
+
 pub counted_pre : (a : Atom) (c : Counting) → PreFor (atom a ++ OpenBrace ∷ counting c)
-unfolding counting pre postfix
-counted_pre a Opened = record { more = Number [] ∷ CloseBrace ∷ []; tree = Turns a (Exactly []); same = sym (append_assoc (atom a) (OpenBrace ∷ []) (Number [] ∷ CloseBrace ∷ [])) }
-counted_pre a (Low n) = record { more = CloseBrace ∷ []; tree = Turns a (Exactly n); same = sym (append_assoc (atom a) (OpenBrace ∷ Number n ∷ []) (CloseBrace ∷ [])) }
-counted_pre a (LowComma n) = record { more = CloseBrace ∷ []; tree = Turns a (AtLeast n); same = sym (append_assoc (atom a) (OpenBrace ∷ Number n ∷ Comma ∷ []) (CloseBrace ∷ [])) }
-counted_pre a (LowHigh n m) = record { more = CloseBrace ∷ []; tree = Turns a (Between n m); same = sym (append_assoc (atom a) (OpenBrace ∷ Number n ∷ Comma ∷ Number m ∷ []) (CloseBrace ∷ [])) }
-counted_pre a OnlyComma = record { more = Number [] ∷ CloseBrace ∷ []; tree = Turns a (AtMost []); same = sym (append_assoc (atom a) (OpenBrace ∷ Comma ∷ []) (Number [] ∷ CloseBrace ∷ [])) }
-counted_pre a (High m) = record { more = CloseBrace ∷ []; tree = Turns a (AtMost m); same = sym (append_assoc (atom a) (OpenBrace ∷ Comma ∷ Number m ∷ []) (CloseBrace ∷ [])) }
+unfolding counting postfix
+counted_pre a Opened = turns_for a (Exactly []) (OpenBrace ∷ []) (Number [] ∷ CloseBrace ∷ []) refl
+counted_pre a (Low n) = turns_for a (Exactly n) (OpenBrace ∷ Number n ∷ []) (CloseBrace ∷ []) refl
+counted_pre a (LowComma n) = turns_for a (AtLeast n) (OpenBrace ∷ Number n ∷ Comma ∷ []) (CloseBrace ∷ []) refl
+counted_pre a (LowHigh n m) = turns_for a (FromTo n m) (OpenBrace ∷ Number n ∷ Comma ∷ Number m ∷ []) (CloseBrace ∷ []) refl
+counted_pre a OnlyComma = turns_for a (AtMost []) (OpenBrace ∷ Comma ∷ []) (Number [] ∷ CloseBrace ∷ []) refl
+counted_pre a (High m) = turns_for a (AtMost m) (OpenBrace ∷ Comma ∷ Number m ∷ []) (CloseBrace ∷ []) refl
 
 pub mode_pre : (m : Mode) → PreFor (mode m)
 unfolding mode pre atom sign part parts
 mode_pre Need = record { more = Number (49 ∷ []) ∷ []; tree = Once One; same = refl }
 mode_pre Ready = record { more = Number (49 ∷ []) ∷ []; tree = Once One; same = refl }
 mode_pre (After a) = record { more = []; tree = Once a; same = sym (append-nil (atom a)) }
+mode_pre (Turned a p) = turns_for a p (postfix p) [] (sym (append-nil (postfix p)))
 mode_pre (Named free n) = record { more = []; tree = Once (Call n); same = refl }
 mode_pre Writing = record { more = Name [] ∷ []; tree = Once (Write []); same = refl }
 mode_pre Bracket = record { more = Name [] ∷ Arrow ∷ Name [] ∷ CloseBracket ∷ []; tree = Once (Assign false [] (Held []) []); same = refl }

@@ -1,8 +1,8 @@
 -- The checks of what has been read, and those that one word more asks.
 use Rattle.std.specs.Prelude.{ℕ, suc, ◌+◌, ◌*◌, List, [], ◌∷◌, ◌++◌, length}
-use Rattle.kex_reader.specs.Syntax.{Word, Name, header}
-use Rattle.kex_reader.specs.Reading.{Entry, Mark, Ended, Done, Muted, Storing, Mode, After, InCount, Inside, State, StartLine, StageRead, StageNext, HeadRead, Within, before, entries}
-use Rattle.kex_reader.specs.Checks.{Check, Nested, Staged, seq_checks, pre_checks, atom_checks, stage_checks, header_checks, definition_checks}
+use Rattle.kex_reader.specs.Syntax.{Word, Name, atom, header}
+use Rattle.kex_reader.specs.Reading.{Entry, Mark, Ended, Done, Muted, Storing, Mode, After, Turned, InCount, Inside, State, StartLine, StageRead, StageNext, HeadRead, Within, before, entries}
+use Rattle.kex_reader.specs.Checks.{Check, Nested, Staged, postfix_checks, seq_checks, pre_checks, atom_checks, stage_checks, header_checks, definition_checks}
 use Rattle.kex_reader.specs.Stands.{asks, depth}
 
 unfoldable pub entry_checks : Entry → (ℕ → ℕ) → ℕ → ℕ → List Check
@@ -18,6 +18,7 @@ entries_checks at base (e ∷ es) = entries_checks at base es ++ entry_checks e 
 
 unfoldable pub mode_checks : Mode → (ℕ → ℕ) → ℕ → ℕ → List Check
 mode_checks (After a) at i d = atom_checks a at i d
+mode_checks (Turned a p) at i d = atom_checks a at i d ++ postfix_checks p (at (i + length (atom a)))
 mode_checks (InCount a c) at i d = atom_checks a at i d
 mode_checks _ at i d = []
 

@@ -1,12 +1,12 @@
 -- The limits of a program: the places where its tree asks one, and when it is broken there.
-use Rattle.std.specs.Prelude.{◌≡◌, ℕ, suc, ◌+◌, ◌||◌, Bool, true, false, List, [], ◌∷◌, ◌++◌, length, nat_lt}
+use Rattle.std.specs.Prelude.{◌≡◌, ℕ, suc, ◌+◌, Bool, true, false, List, [], ◌∷◌, ◌++◌, length}
 use Rattle.kex_code.specs.Codes.{IsAmong}
-use Rattle.kex_tokens.specs.Values.{number_of}
 use Rattle.kex_regexp.specs.declared.breaks.Break.{Break}
 use Rattle.kex_regexp.specs.declared.breaks.Break.TheVariants.{BadRegex, BadCount, OverLimit}
 use Rattle.kex_regexp.specs.Breaks.{comes_before}
 use Rattle.kex_regexp.specs.Bodies.{IsFirstWrong, BreaksFirst}
-use Rattle.kex_reader.specs.Syntax.{Postfix, ZeroOrMore, OneOrMore, Optional, Exactly, AtLeast, AtMost, Between, Term, Last, Or, Seq, Only, Then, Pre, Mute, Into, Once, Turns, Atom, One, Call, Lit, Match, Write, Assign, Group, Definition, Header, NoStart, Stages, Program, term, seq, pre, atom, header}
+use Rattle.kex_regexp.specs.Postfixes.{is_bad_count}
+use Rattle.kex_reader.specs.Syntax.{Postfix, ZeroOrMore, OneOrMore, Optional, Term, Last, Or, Seq, Only, Then, Pre, Mute, Into, Once, Turns, Atom, One, Call, Lit, Match, Write, Assign, Group, Definition, Header, NoStart, Stages, Program, term, seq, pre, atom, header}
 
 -- a mark or prefix under so many others, a count, a body under so many, a stage by its number from 1; each with its offset
 pub data Check : Type 0 where
@@ -14,16 +14,6 @@ pub data Check : Type 0 where
   Counted : (at : ℕ) → (postfix : Postfix) → Check
   Matched : (at depth : ℕ) → (body : List ℕ) → Check
   Staged : (at number : ℕ) → Check
-
--- a count above 1,000, or one that is below the count before it
-abbrev pub is_bad_count : Postfix → Bool
-is_bad_count ZeroOrMore = false
-is_bad_count OneOrMore = false
-is_bad_count Optional = false
-is_bad_count (Exactly n) = nat_lt 1000 (number_of n)
-is_bad_count (AtLeast n) = nat_lt 1000 (number_of n)
-is_bad_count (AtMost m) = nat_lt 1000 (number_of m)
-is_bad_count (Between n m) = nat_lt 1000 (number_of n) || nat_lt 1000 (number_of m) || nat_lt (number_of m) (number_of n)
 
 -- what a body is refused for
 abbrev pub BodyBreaks : List ℕ → ℕ → ℕ → Break → Type 0
@@ -67,7 +57,7 @@ unfoldable mutual
   pre_checks (Mute p) at i depth = Nested (at i) depth ∷ pre_checks p at (i + 1) (suc depth)
   pre_checks (Into r p) at i depth = Nested (at i) depth ∷ pre_checks p at (i + 2) (suc depth)
   pre_checks (Once a) at i depth = atom_checks a at i depth
-  pre_checks (Turns a p) at i depth = atom_checks a at i depth ++ postfix_checks p (at (i + length (atom a)))
+  pre_checks (Turns a p lazy) at i depth = atom_checks a at i depth ++ postfix_checks p (at (i + length (atom a)))
 
   pub atom_checks : Atom → (ℕ → ℕ) → ℕ → ℕ → List Check
   atom_checks One at i depth = []

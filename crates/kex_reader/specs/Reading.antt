@@ -1,6 +1,8 @@
 -- The reader of programs as a machine over words: what has been read so far, and what one word more makes of it.
 use Rattle.std.specs.Prelude.{ℕ, Bool, true, false, List, [], ◌∷◌, ◌++◌, Option, Some, None, bytes_eq, codes, if◌then◌else◌}
-use Rattle.kex_reader.specs.Syntax.{Word, Name, Number, Literal, Regex, Define, Colon, Pipe, Bar, Tilde, At, Star, Plus, PlusEquals, Question, OpenBrace, CloseBrace, Comma, Bang, OpenBracket, CloseBracket, Arrow, OpenParen, CloseParen, Part, Text, Held, Postfix, ZeroOrMore, OneOrMore, Optional, Exactly, AtLeast, AtMost, Between, Term, Last, Or, Seq, Only, Then, Pre, Mute, Into, Once, Turns, Atom, One, Call, Lit, Match, Write, Assign, Group, Definition, Header, NoStart, Stages, Program, start, part, parts, sign, seq, pre, atom, definitions, stages, header}
+use Rattle.kex_reader.specs.Syntax.{Word, Name, Number, Literal, Regex, Define, Colon, Pipe, Bar, Tilde, At, Star, Plus, PlusEquals, Question, OpenBrace, CloseBrace, Comma, Bang, OpenBracket, CloseBracket, Arrow, OpenParen, CloseParen, Part, Text, Held, Postfix, ZeroOrMore, OneOrMore, Optional, Term, Last, Or, Seq, Only, Then, Pre, Mute, Into, Once, Turns, Atom, One, Call, Lit, Match, Write, Assign, Group, Definition, Header, NoStart, Stages, Program, start, part, parts, sign, signs, postfix, seq, pre, atom, definitions, stages, header}
+use Rattle.kex_regexp.specs.Postfixes.{CountSign, Digits, CommaSign, CloseSign, NoSign, count_by, counted}
+pub use Rattle.kex_regexp.specs.Postfixes.{Counting, Opened, Low, LowComma, LowHigh, OnlyComma, High, CountStep, CountOn, CountRead, CountWrong}
 
 -- what stands open in a definition, the newest first: parentheses, what a bar has ended, what has ended behind it, prefixes
 pub data Entry : Type 0 where
@@ -10,24 +12,12 @@ pub data Entry : Type 0 where
   Muted : Entry
   Storing : (register : List ℕ) → Entry
 
-pub data Counting : Type 0 where
-  Opened : Counting
-  Low : (n : List ℕ) → Counting
-  LowComma : (n : List ℕ) → Counting
-  LowHigh : (n m : List ℕ) → Counting
-  OnlyComma : Counting
-  High : (m : List ℕ) → Counting
-
-pub data CountStep : Type 0 where
-  CountOn : Counting → CountStep
-  CountRead : Postfix → CountStep
-  CountWrong : CountStep
-
--- a pre has to come, or one has ended, an atom, a name that may be a call, a register or a head, or something is half read
+-- a pre has to come, or one has ended, an atom, one with a postfix, a name that may be a call, a register or a head, or something is half read
 pub data Mode : Type 0 where
   Need : Mode
   Ready : Mode
   After : (atom : Atom) → Mode
+  Turned : (atom : Atom) → (postfix : Postfix) → Mode
   Named : (free : Bool) → (name : List ℕ) → Mode
   Writing : Mode
   Bracket : Mode
@@ -134,11 +124,16 @@ begin_pre true es CloseParen = on_close (take_term es)
 begin_pre free es _ = None
 
 unfoldable pub after_atom : Atom → List Entry → Word → Option Inside
-after_atom a es Star = goes Ready (with_pre (Turns a ZeroOrMore) es)
-after_atom a es Plus = goes Ready (with_pre (Turns a OneOrMore) es)
-after_atom a es Question = goes Ready (with_pre (Turns a Optional) es)
+after_atom a es Star = goes (Turned a ZeroOrMore) es
+after_atom a es Plus = goes (Turned a OneOrMore) es
+after_atom a es Question = goes (Turned a Optional) es
 after_atom a es OpenBrace = goes (InCount a Opened) es
 after_atom a es w = begin_pre true (with_pre (Once a) es) w
+
+-- behind a postfix: what makes it lazy, or what follows the pre
+unfoldable pub after_turns : Atom → Postfix → List Entry → Word → Option Inside
+after_turns a p es Question = goes Ready (with_pre (Turns a p true) es)
+after_turns a p es w = begin_pre true (with_pre (Turns a p false) es) w
 
 unfoldable pub after_name : List ℕ → List Entry → Word → Option Inside
 after_name n es At = goes Need (Storing n ∷ es)
@@ -165,21 +160,18 @@ next_part append r p ps es (Name n) = goes (Assigned append r p (ps ++ Held n �
 next_part append r p ps es CloseBracket = goes (After (Assign append r p ps)) es
 next_part append r p ps es _ = None
 
+abbrev pub count_sign : Word → CountSign
+count_sign (Number digits) = Digits digits
+count_sign Comma = CommaSign
+count_sign CloseBrace = CloseSign
+count_sign _ = NoSign
+
 unfoldable pub count_step : Counting → Word → CountStep
-count_step Opened (Number n) = CountOn (Low n)
-count_step Opened Comma = CountOn OnlyComma
-count_step (Low n) Comma = CountOn (LowComma n)
-count_step (Low n) CloseBrace = CountRead (Exactly n)
-count_step (LowComma n) (Number m) = CountOn (LowHigh n m)
-count_step (LowComma n) CloseBrace = CountRead (AtLeast n)
-count_step (LowHigh n m) CloseBrace = CountRead (Between n m)
-count_step OnlyComma (Number m) = CountOn (High m)
-count_step (High m) CloseBrace = CountRead (AtMost m)
-count_step _ _ = CountWrong
+count_step c w = count_by false c (count_sign w)
 
 unfoldable pub on_count : Atom → List Entry → CountStep → Option Inside
 on_count a es (CountOn c) = goes (InCount a c) es
-on_count a es (CountRead p) = goes Ready (with_pre (Turns a p) es)
+on_count a es (CountRead p) = goes (Turned a p) es
 on_count a es CountWrong = None
 
 abbrev pub after_count : Atom → Counting → List Entry → Word → Option Inside
@@ -189,6 +181,7 @@ unfoldable pub step_in : Mode → List Entry → Word → Option Inside
 step_in Need es w = begin_pre false es w
 step_in Ready es w = begin_pre true es w
 step_in (After a) es w = after_atom a es w
+step_in (Turned a p) es w = after_turns a p es w
 step_in (Named free n) es w = after_name n es w
 step_in Writing es w = on_name (λ n. goes (After (Write n)) es) w
 step_in Bracket es w = on_name (λ n. goes (BracketName n) es) w
@@ -268,6 +261,7 @@ program_of_term h ds name (Some t) = program_of_whole h ds name t.0 t.1
 unfoldable pub finish_within : Header → List Definition → List ℕ → Mode → List Entry → Option Program
 finish_within h ds name Ready es = program_of_term h ds name (take_term es)
 finish_within h ds name (After a) es = program_of_term h ds name (take_term (with_pre (Once a) es))
+finish_within h ds name (Turned a p) es = program_of_term h ds name (take_term (with_pre (Turns a p false) es))
 finish_within h ds name (Named free n) es = program_of_term h ds name (take_term (with_pre (Once (Call n)) es))
 finish_within h ds name _ es = None
 
@@ -291,17 +285,13 @@ entries [] = []
 entries (e ∷ es) = entries es ++ entry e
 
 unfoldable pub counting : Counting → List Word
-counting Opened = []
-counting (Low n) = Number n ∷ []
-counting (LowComma n) = Number n ∷ Comma ∷ []
-counting (LowHigh n m) = Number n ∷ Comma ∷ Number m ∷ []
-counting OnlyComma = Comma ∷ []
-counting (High m) = Comma ∷ Number m ∷ []
+counting c = counted signs c
 
 unfoldable pub mode : Mode → List Word
 mode Need = []
 mode Ready = []
 mode (After a) = atom a
+mode (Turned a p) = atom a ++ postfix p
 mode (Named free n) = Name n ∷ []
 mode Writing = Bang ∷ []
 mode Bracket = OpenBracket ∷ []

@@ -7,12 +7,13 @@ use Rattle.kex_model.specs.declared.program.Kind.TheVariants as kinds
 use Rattle.kex_model.specs.declared.program.Node.{Node}
 use Rattle.kex_model.specs.declared.program.Definition.{Definition as Root}
 use Rattle.kex_model.specs.declared.program.Start.{Start}
-use Rattle.kex_tokens.specs.Values.{StandsFor, number_of}
+use Rattle.kex_tokens.specs.Values.{StandsFor}
 use Rattle.kex_regexp.specs.declared.breaks.Break.{Break}
 use Rattle.kex_regexp.specs.Bodies.{Spells}
 use Rattle.kex_regexp.specs.Grammar.{Regex as Body}
+use Rattle.kex_regexp.specs.Postfixes.{low, high}
 use Rattle.kex_regexp.specs.Shown.{ShowsRegex}
-use Rattle.kex_reader.specs.Syntax.{Part, Text, Held, Postfix, ZeroOrMore, OneOrMore, Optional, Exactly, AtLeast, AtMost, Between, Term, Last, Or, Seq, Only, Then, Pre, Mute, Into, Once, Turns, Atom, One, Call, Lit, Match, Write, Assign, Group, Definition, term, seq, pre}
+use Rattle.kex_reader.specs.Syntax.{Part, Text, Held, Term, Last, Or, Seq, Only, Then, Pre, Mute, Into, Once, Turns, Atom, One, Call, Lit, Match, Write, Assign, Group, Definition, term, seq, pre}
 
 -- what is made of a text: nodes, names and registers by their numbers, and the least limit that was broken
 pub record Made : Type 0 where
@@ -30,25 +31,6 @@ IsName made k name = slice_get made.names k ≡ Some name
 
 abbrev pub IsRegister : Made → ℕ → List ℕ → Type 0
 IsRegister made k register = slice_get made.registers k ≡ Some register
-
--- from so many turns on, up to so many
-unfoldable pub low : Postfix → ℕ
-low ZeroOrMore = 0
-low OneOrMore = 1
-low Optional = 0
-low (Exactly n) = number_of n
-low (AtLeast n) = number_of n
-low (AtMost m) = 0
-low (Between n m) = number_of n
-
-unfoldable pub high : Postfix → Option ℕ
-high ZeroOrMore = None
-high OneOrMore = None
-high Optional = Some 1
-high (Exactly n) = Some (number_of n)
-high (AtLeast n) = None
-high (AtMost m) = Some (number_of m)
-high (Between n m) = Some (number_of m)
 
 unfoldable pub ShowsPart : Part → Made → Piece → Type 0
 ShowsPart (Text s) made (pieces.Lit bytes) = StandsFor s bytes
@@ -79,7 +61,7 @@ unfoldable mutual
   ShowsPre (Mute p) made at n i = (m : ℕ) × IsNode made n (kinds.Mute m) (at i) × ShowsPre p made at m (i + 1)
   ShowsPre (Into r p) made at n i = (k : ℕ) × (m : ℕ) × IsNode made n (kinds.At k m) (at i) × IsRegister made k r × ShowsPre p made at m (i + 2)
   ShowsPre (Once a) made at n i = ShowsAtom a made at n i
-  ShowsPre (Turns a p) made at n i = (n < length made.nodes) × (m : ℕ) × (made.broken ≡ None → IsNode made n (kinds.Rep m (low p) (high p) false) (at i)) × ShowsAtom a made at m i
+  ShowsPre (Turns a p lazy) made at n i = (n < length made.nodes) × (m : ℕ) × (made.broken ≡ None → IsNode made n (kinds.Rep m (low p) (high p) lazy) (at i)) × ShowsAtom a made at m i
 
   pub ShowsAtom : Atom → Made → (ℕ → ℕ) → ℕ → ℕ → Type 0
   ShowsAtom One made at n i = IsNode made n kinds.One (at i)

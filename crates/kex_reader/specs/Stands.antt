@@ -13,22 +13,20 @@ use Rattle.kex_reader.specs.declared.stack.Construct.TheVariants as constructs
 use Rattle.kex_reader.specs.declared.stack.Prefix.{Prefix}
 use Rattle.kex_reader.specs.declared.stack.Prefix.TheVariants as prefixes
 use Rattle.kex_reader.specs.declared.stack.Part.{Part as Shown}
-use Rattle.kex_regexp.specs.declared.counts.Count.{Count}
-use Rattle.kex_regexp.specs.declared.counts.Count.TheVariants as counts
-use Rattle.kex_regexp.specs.Holding.{capped_count}
-use Rattle.kex_reader.specs.declared.counts.CountStep.{CountStep as HeldStep}
-use Rattle.kex_reader.specs.declared.counts.CountStep.TheVariants as steps
+use Rattle.kex_regexp.specs.declared.counts.Bounds.{Bounds}
+use Rattle.kex_regexp.specs.Holding.{HoldsBounds, ShowsCount, capped_count}
+use Rattle.kex_regexp.specs.Postfixes.{Postfix, is_bad_count}
 use Rattle.kex_reader.specs.declared.word.Word.{Word as WordHeld}
 use Rattle.kex_reader.specs.declared.pieces.Assignment.{Assignment}
 use Rattle.kex_reader.specs.declared.inside.Wait.{Wait}
 use Rattle.kex_reader.specs.declared.inside.Wait.TheVariants as waits
 use Rattle.kex_reader.specs.declared.inside.StepFault.{StepFault}
 use Rattle.kex_reader.specs.declared.inside.StepFault.TheVariants as faults
-use Rattle.kex_reader.specs.Syntax.{Word, word, Name, Literal, Text, Held, Tilde, At, Star, Plus, Question, OpenBrace, OpenParen, Regex, Define, Part, Term, Seq, Pre, Atom, Once, Call, atom}
-use Rattle.kex_reader.specs.Reading.{Entry, Mark, Ended, Done, Muted, Storing, Counting, Opened, Low, LowComma, LowHigh, OnlyComma, High, CountStep, CountOn, CountRead, CountWrong, Mode, Need, Ready, After, Named, Writing, Bracket, BracketName, Assigning, Assigned, InCount, Inside, inside, first_part, next_part, with_pre, entries, count_step}
-use Rattle.kex_reader.specs.Checks.{Check, Nested, Matched, SomeBreaks, IsLeastBreak, is_bad_count, postfix_checks}
+use Rattle.kex_reader.specs.Syntax.{Word, word, Name, Literal, Text, Held, Tilde, At, Star, Plus, Question, OpenBrace, OpenParen, Regex, Define, Part, Term, Seq, Pre, Atom, Once, Turns, Call, atom, postfix}
+use Rattle.kex_reader.specs.Reading.{Entry, Mark, Ended, Done, Muted, Storing, CountStep, CountOn, CountRead, CountWrong, Mode, Need, Ready, After, Turned, Named, Writing, Bracket, BracketName, Assigning, Assigned, InCount, Inside, inside, first_part, next_part, with_pre, entries, count_step}
+use Rattle.kex_reader.specs.Checks.{Check, Nested, Matched, SomeBreaks, IsLeastBreak, postfix_checks}
 use Rattle.kex_reader.specs.Uses.{Numbered, NodeNumber, RegisterNumber, IsBelow, InNodes}
-use Rattle.kex_reader.specs.Shown.{Made, IsRegister, ShowsTerm, ShowsSeq, ShowsPre, ShowsAtom, ShowsPart, ShowsParts, low, high}
+use Rattle.kex_reader.specs.Shown.{Made, IsRegister, ShowsTerm, ShowsSeq, ShowsPre, ShowsAtom, ShowsPart, ShowsParts}
 
 -- what was made stays: nodes, names and registers keep their numbers, and what is broken stays broken
 pub record Keeps (old new : Made) : Type 0 where
@@ -142,21 +140,9 @@ PieceShows _ made _ = ⊥
 abbrev pub HoldsNumber : ℕ → List ℕ → Type 0
 HoldsNumber v digits = v ≡ capped_count (number_of digits)
 
-unfoldable pub ShowsCount : Count → Counting → Type 0
-ShowsCount counts.Opened Opened = Unit {0}
-ShowsCount (counts.Low v) (Low n) = HoldsNumber v n
-ShowsCount (counts.LowComma v) (LowComma n) = HoldsNumber v n
-ShowsCount (counts.LowHigh v w) (LowHigh n m) = HoldsNumber v n × HoldsNumber w m
-ShowsCount counts.OnlyComma OnlyComma = Unit {0}
-ShowsCount (counts.High w) (High m) = HoldsNumber w m
-ShowsCount _ _ = ⊥
-
-unfoldable pub ShowsCountStep : HeldStep → CountStep → Type 0
-ShowsCountStep (steps.On c) (CountOn d) = ShowsCount c d
-ShowsCountStep (steps.Read b) (CountRead p) = (b.low ≡ low p) × (b.high ≡ high p) × (is_bad_count p ≡ false)
-ShowsCountStep steps.Bad (CountRead p) = is_bad_count p ≡ true
-ShowsCountStep steps.Wrong CountWrong = Unit {0}
-ShowsCountStep _ _ = ⊥
+-- such a count has been noted where it is bad
+abbrev pub HoldsTurns : Made → Bounds → Postfix → Type 0
+HoldsTurns made b p = HoldsBounds b p × (is_bad_count p ≡ true → made.broken ≡ None → ⊥)
 
 -- ---- what is waited for
 
@@ -165,6 +151,7 @@ unfoldable pub ShowsMode : Made → (ℕ → ℕ) → ℕ → Wait → Mode → 
 ShowsMode made at i waits.Need Need = Unit {0}
 ShowsMode made at i waits.Ready Ready = Unit {0}
 ShowsMode made at i (waits.After part) (After a) = (part.at ≡ at i) × ShowsAtom a made at part.node i
+ShowsMode made at i (waits.Turned part b) (Turned a p) = (part.at ≡ at i) × ShowsAtom a made at part.node i × HoldsTurns made b p
 ShowsMode made at i (waits.Named f n) (Named free name) = (f ≡ free) × (n.bytes.now ≡ name) × (n.at ≡ at i)
 ShowsMode made at i (waits.Writing a) Writing = a ≡ at i
 ShowsMode made at i (waits.Bracket a) Bracket = a ≡ at i
@@ -194,6 +181,9 @@ SomeConstructs made fs = (at : ℕ → ℕ) × (base : ℕ) × (es : List Entry)
 abbrev pub SomeAtom : Made → List Construct → Shown → Type 0
 SomeAtom made fs part = (at : ℕ → ℕ) × (base : ℕ) × (es : List Entry) × (a : Atom) × ConstructsShow made at base fs es × (part.at ≡ at (base + length (entries es))) × ShowsAtom a made at part.node (base + length (entries es))
 
+abbrev pub SomeTurned : Made → List Construct → Shown → Bounds → Type 0
+SomeTurned made fs part b = (at : ℕ → ℕ) × (base : ℕ) × (es : List Entry) × (a : Atom) × (p : Postfix) × ConstructsShow made at base fs es × (part.at ≡ at (base + length (entries es))) × ShowsAtom a made at part.node (base + length (entries es)) × HoldsTurns made b p
+
 abbrev pub SomePre : Made → List Construct → Shown → Type 0
 SomePre made fs part = (at : ℕ → ℕ) × (base : ℕ) × (es : List Entry) × (p : Pre) × ConstructsShow made at base fs es × (part.at ≡ at (base + length (entries es))) × ShowsPre p made at part.node (base + length (entries es))
 
@@ -218,6 +208,10 @@ after_asks at i a es Question = []
 after_asks at i a es OpenBrace = []
 after_asks at i a es w = begin_asks at i (with_pre (Once a) es) w
 
+-- behind a postfix: what makes it lazy asks nothing
+abbrev pub turned_asks : (ℕ → ℕ) → ℕ → Atom → Postfix → List Entry → Word → List Check
+turned_asks at i a p es w = begin_asks at i (with_pre (Turns a p false) es) w
+
 unfoldable pub named_asks : (ℕ → ℕ) → ℕ → List ℕ → List Entry → Word → List Check
 named_asks at i n es At = Nested (at i) (depth es) ∷ []
 named_asks at i n es Define = []
@@ -232,6 +226,7 @@ unfoldable pub asks : (ℕ → ℕ) → ℕ → Mode → List Entry → Word →
 asks at i Need es w = begin_asks at i es w
 asks at i Ready es w = begin_asks at i es w
 asks at i (After a) es w = after_asks at (i + length (atom a)) a es w
+asks at i (Turned a p) es w = turned_asks at (i + length (atom a ++ postfix p)) a p es w
 asks at i (Named free n) es w = named_asks at i n es w
 asks at i (InCount a c) es w = count_asks (at (i + length (atom a))) (count_step c w)
 asks at i _ es w = []
@@ -277,6 +272,7 @@ InAssignment y x = (x ≡ RegisterNumber y.register) ⊎ InPieces y.pieces.items
 
 abbrev pub InWait : Wait → Numbered → Type 0
 InWait (waits.After p) x = x ≡ NodeNumber p.node
+InWait (waits.Turned p b) x = x ≡ NodeNumber p.node
 InWait (waits.InCount p c brace) x = x ≡ NodeNumber p.node
 InWait (waits.BracketName a r) x = x ≡ RegisterNumber r
 InWait (waits.Assigning y) x = InAssignment y x
@@ -307,6 +303,14 @@ BehindAny made place Says = (at : ℕ → ℕ) (base : ℕ) (fs : List Construct
 -- where the constructs show entries, behind which stands an atom with this node
 abbrev pub OnAtom : Made → List Construct → Shown → ((ℕ → ℕ) → ℕ → List Entry → Atom → Type 0) → Type 0
 OnAtom made fs part Says = (at : ℕ → ℕ) (base : ℕ) (es : List Entry) (a : Atom) → ConstructsShow made at base fs es → part.at ≡ at (base + length (entries es)) → ShowsAtom a made at part.node (base + length (entries es)) → Says at base es a
+
+-- and where the atom has this postfix
+abbrev pub OnTurned : Made → List Construct → Shown → Bounds → ((ℕ → ℕ) → ℕ → List Entry → Atom → Postfix → Type 0) → Type 0
+OnTurned made fs part b Says = (at : ℕ → ℕ) (base : ℕ) (es : List Entry) (a : Atom) (p : Postfix) → ConstructsShow made at base fs es → part.at ≡ at (base + length (entries es)) → ShowsAtom a made at part.node (base + length (entries es)) → HoldsTurns made b p → Says at base es a p
+
+-- the offset is that of the word behind the atom and its postfix
+abbrev pub IsBehindTurns : (ℕ → ℕ) → ℕ → List Entry → Atom → Postfix → ℕ → Type 0
+IsBehindTurns at base es a p place = place ≡ at (base + length (entries es) + length (atom a ++ postfix p))
 
 -- the offset is that of the word behind the atom
 abbrev pub IsBehindAtom : (ℕ → ℕ) → ℕ → List Entry → Atom → ℕ → Type 0

@@ -2,6 +2,8 @@
 use Rattle.std.specs.Prelude.{ℕ, ◌-◌, Bool, true, false, List, [], ◌∷◌, ◌++◌, drop, take, length, codes}
 use Rattle.kex_tokens.specs.declared.token.Kind.{Kind}
 use Rattle.kex_tokens.specs.declared.token.Kind.TheVariants as kinds
+use Rattle.kex_regexp.specs.Postfixes.{Signs, spelled, lazy_sign}
+pub use Rattle.kex_regexp.specs.Postfixes.{Postfix, ZeroOrMore, OneOrMore, Optional, Exactly, AtLeast, AtMost, FromTo}
 
 -- a token without its place: names, numbers and literals as they stand in the text, a regex without its slashes
 pub data Word : Type 0 where
@@ -63,15 +65,6 @@ pub data Part : Type 0 where
   Text : (spelling : List ℕ) → Part
   Held : (register : List ℕ) → Part
 
-pub data Postfix : Type 0 where
-  ZeroOrMore : Postfix
-  OneOrMore : Postfix
-  Optional : Postfix
-  Exactly : (n : List ℕ) → Postfix
-  AtLeast : (n : List ℕ) → Postfix
-  AtMost : (m : List ℕ) → Postfix
-  Between : (n m : List ℕ) → Postfix
-
 mutual
   -- term = seq { "|" seq }
   pub data Term : Type 0 where
@@ -83,12 +76,12 @@ mutual
     Only : (pre : Pre) → Seq
     Then : (pre : Pre) → (rest : Seq) → Seq
 
-  -- pre = "~" pre | NAME "@" pre | atom [ postfix ]
+  -- pre = "~" pre | NAME "@" pre | atom [ postfix [ "?" ] ]
   pub data Pre : Type 0 where
     Mute : (pre : Pre) → Pre
     Into : (register : List ℕ) → (pre : Pre) → Pre
     Once : (atom : Atom) → Pre
-    Turns : (atom : Atom) → (postfix : Postfix) → Pre
+    Turns : (atom : Atom) → (postfix : Postfix) → (lazy : Bool) → Pre
 
   -- atom = "1" | NAME | LITERAL | REGEX | "!" NAME | "[" NAME ( "<-" | "+=" ) part { part } "]" | "(" term ")"
   pub data Atom : Type 0 where
@@ -131,14 +124,15 @@ unfoldable pub sign : Bool → Word
 sign false = Arrow
 sign true = PlusEquals
 
+-- a number is one word
+abbrev pub signs : Signs Word
+signs = record { star = Star; plus = Plus; question = Question; open_brace = OpenBrace; comma = Comma; close_brace = CloseBrace; number = λ digits. Number digits ∷ [] }
+
 unfoldable pub postfix : Postfix → List Word
-postfix ZeroOrMore = Star ∷ []
-postfix OneOrMore = Plus ∷ []
-postfix Optional = Question ∷ []
-postfix (Exactly n) = OpenBrace ∷ Number n ∷ CloseBrace ∷ []
-postfix (AtLeast n) = OpenBrace ∷ Number n ∷ Comma ∷ CloseBrace ∷ []
-postfix (AtMost m) = OpenBrace ∷ Comma ∷ Number m ∷ CloseBrace ∷ []
-postfix (Between n m) = OpenBrace ∷ Number n ∷ Comma ∷ Number m ∷ CloseBrace ∷ []
+postfix p = spelled signs p
+
+unfoldable pub lazy_mark : Bool → List Word
+lazy_mark lazy = lazy_sign signs lazy
 
 unfoldable mutual
   pub term : Term → List Word
@@ -153,7 +147,7 @@ unfoldable mutual
   pre (Mute p) = Tilde ∷ pre p
   pre (Into r p) = Name r ∷ At ∷ pre p
   pre (Once a) = atom a
-  pre (Turns a p) = atom a ++ postfix p
+  pre (Turns a p lazy) = atom a ++ (postfix p ++ lazy_mark lazy)
 
   pub atom : Atom → List Word
   atom One = Number (codes "1") ∷ []

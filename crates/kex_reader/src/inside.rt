@@ -1,22 +1,23 @@
 // One word more, inside a definition.
 
 ghost use Rattle.std.specs.Prelude.{◌≡◌, ℕ, ◌+◌, ◌<◌, ◌≤◌, ◌^◌, ◌++◌, ◌∷◌, ◌⊎◌, [], Bool, false, true, List, Some, None, length, IfOk, IfErr, OnOk};
-ghost use Rattle.kex_model.specs.Programs.{HasNames, IsCount};
+ghost use Rattle.kex_model.specs.Programs.{HasNames};
 ghost use Rattle.kex_regexp.specs.Bodies.{Spells as BodySpells};
 ghost use Rattle.kex_regexp.specs.Grammar.{Regex};
+ghost use Rattle.kex_regexp.specs.Holding.{HoldsBounds, ShowsCountStep};
 ghost use Rattle.kex_regexp.specs.Shown.{ShowsRegex};
 ghost use Rattle.kex_tokens.specs.Lexemes.{IsToken};
 ghost use Rattle.kex_tokens.specs.Values.{StandsFor};
-ghost use Rattle.kex_reader.specs.Checks.{Check, Matched, Nested};
-ghost use Rattle.kex_reader.specs.Reading.{After, Assigned, Assigning, BracketName, CountStep as SpecCountStep, Entry, Inside, Ready, after_atom, begin_pre, entries, first_part};
+ghost use Rattle.kex_reader.specs.Checks.{Check, Matched, Nested, postfix_checks};
+ghost use Rattle.kex_reader.specs.Reading.{After, Assigned, Assigning, BracketName, CountStep, Entry, Inside, Ready, after_atom, after_turns, begin_pre, entries, first_part};
 ghost use Rattle.kex_reader.specs.Reading.{goes, after_name, next_part, on_bar, on_close, on_count, on_name, on_sign, with_pre, inside, step_in as spec_step_in, take_seq, take_term};
-ghost use Rattle.kex_reader.specs.Shown.{Made, IsName, IsNode, IsRegister, ShowsAtom, ShowsParts, high as high_of, low as low_of};
-ghost use Rattle.kex_reader.specs.Stands.{Behind, BehindAny, FirstPart, ConstructsShow, InConstructs, InPlace, InWait, IsBehindAtom, IsHeld, IsLeaf, Keeps, LosesNone, NextPart, NotesLeast, NotesMore};
-ghost use Rattle.kex_reader.specs.Stands.{OnAtom, ShowsCountStep, ShowsMode, SomeAtom, SomeConstructs, SomeInside, SomeName, StepLosesNone, Steps, after_asks, asks, begin_asks, count_asks, named_asks, open_constructs, word_of};
+ghost use Rattle.kex_reader.specs.Shown.{Made, IsName, IsNode, IsRegister, ShowsAtom, ShowsParts};
+ghost use Rattle.kex_reader.specs.Stands.{Behind, BehindAny, FirstPart, ConstructsShow, InConstructs, HoldsTurns, InPlace, InWait, IsBehindAtom, IsBehindTurns, IsHeld, IsLeaf, Keeps, LosesNone, NextPart, NotesLeast, NotesMore};
+ghost use Rattle.kex_reader.specs.Stands.{OnAtom, OnTurned, ShowsMode, SomeAtom, SomeConstructs, SomeInside, SomeName, SomeTurned, StepLosesNone, Steps, after_asks, asks, begin_asks, count_asks, named_asks, open_constructs, turned_asks, word_of};
 ghost use Rattle.kex_reader.specs.Uses.{InKind, NodeNumber, Numbered, RegisterNumber};
-ghost use Rattle.kex_reader.specs.Syntax.{Atom, Part as SpecPart, Postfix, Turns, Write as SpecWrite, atom, between, word as grammar_word};
+ghost use Rattle.kex_reader.specs.Syntax.{Atom, Part as SpecPart, Postfix, Turns, Write as SpecWrite, atom, between, postfix, word as grammar_word};
 
-use crate::counts::{Bounds, CountStep, count_step, held_number};
+use crate::counts::{count_step, held_number};
 use crate::draft::Draft;
 use crate::pieces::{Assignment, piece};
 use crate::stack::{Construct, Part, Stack, Store};
@@ -26,7 +27,7 @@ use kex_code::memory::Memory;
 use kex_code::piece::Bytes;
 use kex_model::program::Kind as NodeKind;
 use kex_regexp::breaks::Break;
-use kex_regexp::counts::Count;
+use kex_regexp::counts::{Bounds, Count, CountOutcome};
 use kex_tokens::literal_bytes;
 use kex_tokens::token::Kind;
 use std::alloc::{AllocError, AllocFailed, Global};
@@ -34,13 +35,14 @@ use std::alloc::{AllocError, AllocFailed, Global};
 /// How deep parentheses and prefixes may nest.
 const DEEPEST: usize = 200;
 
-/// What the next word belongs to: a member has to come or may, an atom may have a postfix, a name may be a call, a register or
-/// a head, and the rest is half read.
+/// What the next word belongs to: a member has to come or may, an atom may have a postfix, a postfix may be lazy, a name may
+/// be a call, a register or a head, and the rest is half read.
 #[derive(Drop)]
 pub(crate) enum Wait<'t> {
     Need,
     Ready,
     After(Part),
+    Turned(Part, Bounds),
     Named(bool, Name<'t>),
     Writing(u32),
     Bracket(u32),
@@ -268,31 +270,42 @@ fn begin<'t>(
     }
 }
 
-// A member with a postfix.
-fn turns<'t>(
+// Ends a member with a postfix. Where the count is bad its atom stands alone, and the text is refused in the end.
+pub(crate) fn end_turns(
     stack: &mut Stack,
-    draft: &mut Draft<'t>,
+    draft: &mut Draft,
     item: Part,
     bounds: Bounds,
-) -> Result<Wait<'t>, StepFault>
-    requires atom { SomeAtom draft.old stack.old item }
-    requires count { (p : Postfix) × (bounds.low ≡ low_of p) × (bounds.high ≡ high_of p) × IsCount bounds.low bounds.high }
-    ensures held { StepLosesNone draft.old draft.new stack.old (Wait.After item) stack.new result }
+    lazy: bool,
+) -> Result<(), Memory>
+    requires { SomeTurned draft.old stack.old item bounds }
+    ensures held { OnOk result (LosesNone draft.old draft.new (IsHeld stack.old (Wait.Turned item bounds)) (InConstructs stack.new)) }
     ensures keeps { OnOk result (Keeps draft.old draft.new) }
     ensures broken { OnOk result (draft.new.broken ≡ draft.old.broken) }
-    ensures step { OnAtom draft.old stack.old item (λ at base es a. (p : Postfix) → bounds.low ≡ low_of p → bounds.high ≡ high_of p → Steps draft.new at base stack.new result (goes Ready (with_pre (Turns a p) es))) }
+    ensures put { OnOk result (OnTurned draft.old stack.old item bounds (λ at base es a p. ConstructsShow draft.new at base stack.new (with_pre (Turns a p lazy) es))) }
 {
+    if bounds.are_bad() {
+        put(stack, draft, item)?;
+        return Ok(());
+    }
     let node = draft.add(
         NodeKind::Rep {
             body: item.node,
             min: bounds.low,
             max: bounds.high,
-            lazy: false,
+            lazy,
         },
         item.at,
     )?;
     put(stack, draft, Part { node, at: item.at })?;
-    Ok(Wait::Ready)
+    Ok(())
+}
+
+// An atom that takes so many turns, from `low` on, up to `high`.
+fn turned<'t>(item: Part, low: u32, high: Option<u32>) -> Wait<'t>
+    ensures { result ≡ Wait.Turned item (record { low = low; high = high }) }
+{
+    Wait::Turned(item, Bounds { low, high })
 }
 
 // A word behind an atom.
@@ -312,20 +325,41 @@ fn word_after_atom<'t>(
     ensures notes { OnAtom draft.old stack.old item (λ at base es a. IsBehindAtom at base es a word.entry.at → NotesMore draft.old.broken draft.new.broken result (after_asks at (base + length (entries es) + length (atom a)) a es (word_of word.entry))) }
 {
     match word.kind {
-        Kind::Star => turns(stack, draft, item, Bounds { low: 0, high: None }),
-        Kind::Plus => turns(stack, draft, item, Bounds { low: 1, high: None }),
-        Kind::Question => turns(
-            stack,
-            draft,
-            item,
-            Bounds {
-                low: 0,
-                high: Some(1),
-            },
-        ),
+        Kind::Star => Ok(turned(item, 0, None)),
+        Kind::Plus => Ok(turned(item, 1, None)),
+        Kind::Question => Ok(turned(item, 0, Some(1))),
         Kind::OpenBrace => Ok(Wait::InCount(item, Count::Opened, word.at)),
         _ => {
             put(stack, draft, item)?;
+            begin(alloc, stack, draft, true, word)
+        }
+    }
+}
+
+// A word behind a postfix: what makes it lazy, or what follows the member.
+fn word_after_turns<'t>(
+    alloc: Global,
+    stack: &mut Stack,
+    draft: &mut Draft<'t>,
+    item: Part,
+    bounds: Bounds,
+    word: Word<'t>,
+) -> Result<Wait<'t>, StepFault>
+    requires turned { SomeTurned draft.old stack.old item bounds }
+    requires token { IsToken word.kind word.spelling.now }
+    requires place { word.at + length word.spelling.now < 2 ^ 32 }
+    ensures held { StepLosesNone draft.old draft.new stack.old (Wait.Turned item bounds) stack.new result }
+    ensures keeps { OnOk result (Keeps draft.old draft.new) }
+    ensures step { OnTurned draft.old stack.old item bounds (λ at base es a p. IsBehindTurns at base es a p word.entry.at → Steps draft.new at base stack.new result (after_turns a p es (word_of word.entry))) }
+    ensures notes { OnTurned draft.old stack.old item bounds (λ at base es a p. IsBehindTurns at base es a p word.entry.at → NotesMore draft.old.broken draft.new.broken result (turned_asks at (base + length (entries es) + length (atom a ++ postfix p)) a p es (word_of word.entry))) }
+{
+    match word.kind {
+        Kind::Question => {
+            end_turns(stack, draft, item, bounds, true)?;
+            Ok(Wait::Ready)
+        }
+        _ => {
+            end_turns(stack, draft, item, bounds, false)?;
             begin(alloc, stack, draft, true, word)
         }
     }
@@ -473,30 +507,38 @@ fn word_after_part<'t>(
     }
 }
 
+// Notes the limit of counts where it is broken.
+fn note_count(draft: &mut Draft, bounds: Bounds, brace: u32)
+    ensures held { LosesNone draft.old draft.new (λ x. ⊥) (λ x. ⊥) }
+    ensures keeps { Keeps draft.old draft.new }
+    ensures noted { (p : Postfix) → HoldsBounds bounds p → HoldsTurns draft.new bounds p }
+    ensures notes { (p : Postfix) (from : ℕ) → brace ≡ from → HoldsBounds bounds p → (cs : List Check) → NotesLeast cs draft.old.broken → NotesLeast (cs ++ postfix_checks p from) draft.new.broken }
+{
+    if !bounds.are_bad() {
+        return;
+    }
+    draft.note(Break::BadCount { at: brace });
+}
+
 // A word behind what is read of a count.
 fn go_on_counting<'t>(
-    stack: &mut Stack,
     draft: &mut Draft<'t>,
     item: Part,
     brace: u32,
-    step: CountStep,
+    outcome: CountOutcome,
 ) -> Result<Wait<'t>, StepFault>
-    requires atom { SomeAtom draft.old stack.old item }
-    requires count { (t : SpecCountStep) × ShowsCountStep step t }
-    ensures held { StepLosesNone draft.old draft.new stack.old (Wait.After item) stack.new result }
+    ensures held { (fs : List Construct) → StepLosesNone draft.old draft.new fs (Wait.After item) fs result }
     ensures keeps { OnOk result (Keeps draft.old draft.new) }
-    ensures step { OnAtom draft.old stack.old item (λ at base es a. (t : SpecCountStep) → IsBehindAtom at base es a brace → ShowsCountStep step t → Steps draft.new at base stack.new result (on_count a es t)) }
-    ensures notes { (t : SpecCountStep) (from : ℕ) → brace ≡ from → ShowsCountStep step t → (cs : List Check) → NotesLeast cs draft.old.broken → OnOk result (NotesLeast (cs ++ count_asks from t) draft.new.broken) }
+    ensures step { (fs : List Construct) → OnAtom draft.old fs item (λ at base es a. (t : CountStep) → IsBehindAtom at base es a brace → ShowsCountStep outcome t → Steps draft.new at base fs result (on_count a es t)) }
+    ensures notes { (t : CountStep) (from : ℕ) → brace ≡ from → ShowsCountStep outcome t → (cs : List Check) → NotesLeast cs draft.old.broken → OnOk result (NotesLeast (cs ++ count_asks from t) draft.new.broken) }
 {
-    match step {
-        CountStep::On(count) => Ok(Wait::InCount(item, count, brace)),
-        CountStep::Read(bounds) => turns(stack, draft, item, bounds),
-        CountStep::Bad => {
-            draft.note(Break::BadCount { at: brace });
-            put(stack, draft, item)?;
-            Ok(Wait::Ready)
+    match outcome {
+        CountOutcome::On(count) => Ok(Wait::InCount(item, count, brace)),
+        CountOutcome::Read(bounds) => {
+            note_count(draft, bounds, brace);
+            Ok(Wait::Turned(item, bounds))
         }
-        CountStep::Wrong => Err(StepFault::Wrong),
+        CountOutcome::Wrong => Err(StepFault::Wrong),
     }
 }
 
@@ -520,6 +562,7 @@ pub(crate) fn step_in<'t>(
         Wait::Need => begin(alloc, stack, draft, false, word),
         Wait::Ready => begin(alloc, stack, draft, true, word),
         Wait::After(item) => word_after_atom(alloc, stack, draft, item, word),
+        Wait::Turned(item, bounds) => word_after_turns(alloc, stack, draft, item, bounds, word),
         Wait::Named(_, name) => word_after_name(alloc, stack, draft, name, word),
         Wait::Writing(at) => write(draft, at, word),
         Wait::Bracket(at) => bracket(draft, at, word),
@@ -527,7 +570,6 @@ pub(crate) fn step_in<'t>(
         Wait::Assigning(assignment) => part(alloc, draft, assignment, word),
         Wait::Assigned(assignment) => word_after_part(alloc, draft, assignment, word),
         Wait::InCount(item, count, brace) => go_on_counting(
-            stack,
             draft,
             item,
             brace,

@@ -1,6 +1,6 @@
 // A whole program, a word at a time.
 
-ghost use Rattle.std.specs.Prelude.{◌≡◌, ℕ, ◌+◌, ◌<◌, ◌^◌, ◌++◌, ◌∷◌, ◌⊎◌, [], List, length, None, IfOk, IfErr, OnOk};
+ghost use Rattle.std.specs.Prelude.{◌≡◌, ℕ, ◌+◌, ◌<◌, ◌^◌, ◌++◌, ◌∷◌, ◌⊎◌, [], false, List, length, None, IfOk, IfErr, OnOk};
 ghost use Rattle.kex_tokens.specs.Lexemes.{IsToken};
 ghost use Rattle.kex_reader.specs.Holding.{EndLosesNone, FinishLosesNone, InPhase, InState, IsBehindState, ReaderEnds, ReaderFinishes, ReaderLosesNone, ReaderShows, ReaderSteps, WithinDefinition, whole_term};
 ghost use Rattle.kex_reader.specs.Reading.{Entry, Inside, State, entries, with_pre, Within, finish as spec_finish, finish_within as spec_finish_within, first_name, FirstName, words_read, step as spec_step, step_within, take_term};
@@ -8,16 +8,17 @@ ghost use Rattle.kex_reader.specs.Shown.{IsName, ShowsAtom};
 ghost use Rattle.kex_reader.specs.Asked.{state_asks};
 ghost use Rattle.kex_reader.specs.Uses.{InStages, NodeNumber};
 ghost use Rattle.kex_reader.specs.Checks.{Check, Staged};
-ghost use Rattle.kex_reader.specs.Stands.{Behind, ConstructsShow, InConstructs, Keeps, LosesNone, NotesLeast, NotesMore, OnAtom, SomeAtom, SomeConstructs, SomeInside, SomeName, word_of};
-ghost use Rattle.kex_reader.specs.Syntax.{Atom, Call, Definition as SpecDefinition, Define, Once, Header, word as grammar_word};
+ghost use Rattle.kex_reader.specs.Stands.{Behind, ConstructsShow, InConstructs, Keeps, LosesNone, NotesLeast, NotesMore, OnAtom, OnTurned, SomeAtom, SomeConstructs, SomeInside, SomeName, SomeTurned, word_of};
+ghost use Rattle.kex_reader.specs.Syntax.{Atom, Call, Definition as SpecDefinition, Define, Once, Turns, Header, word as grammar_word};
 
 use crate::draft::Draft;
-use crate::inside::{StepFault, Wait, call, step_in};
+use crate::inside::{StepFault, Wait, call, end_turns, step_in};
 use crate::stack::{Part, Stack};
 use crate::terms::{close_term, put};
 use crate::word::{Name, Word};
 use kex_model::program::{Definition, Start};
 use kex_regexp::breaks::Break;
+use kex_regexp::counts::Bounds;
 use kex_tokens::token::Kind;
 use std::alloc::Global;
 
@@ -239,6 +240,7 @@ impl<'t> Reader<'t> {
         match wait {
             Wait::Ready => return self.end(head),
             Wait::After(item) => return self.end_with(head, item),
+            Wait::Turned(item, bounds) => return self.end_turned(head, item, bounds),
             Wait::Named(_, name) => return self.end_call(head, name),
             _ => {}
         }
@@ -256,6 +258,19 @@ impl<'t> Reader<'t> {
     {
         let item = call(&mut self.draft, name)?;
         self.end_with(head, item)
+    }
+
+    // The last definition ends with this atom and its postfix.
+    fn end_turned(&mut self, head: Head, item: Part, bounds: Bounds) -> Result<(), StepFault>
+        requires { SomeTurned self.old.draft self.old.stack item bounds }
+        ensures held { OnOk result (EndLosesNone self.old self.new head (λ x. (x ≡ NodeNumber item.node) ⊎ InConstructs self.old.stack x)) }
+        ensures keeps { OnOk result (Keeps self.old.draft self.new.draft) }
+        ensures stages { OnOk result (self.new.stages.items ≡ self.old.stages.items) }
+        ensures ends { OnTurned self.old.draft self.old.stack item bounds (λ at base es a p. ReaderEnds self.old self.new at base head result (whole_term (take_term (with_pre (Turns a p false) es)))) }
+        ensures broken { OnOk result (self.new.draft.broken ≡ self.old.draft.broken) }
+    {
+        end_turns(&mut self.stack, &mut self.draft, item, bounds, false)?;
+        self.end(head)
     }
 
     // The last definition ends with this atom.

@@ -61,7 +61,7 @@ mutual
 
   pub ShowsPiece-more : (p : Piece) (a b : List Node) (n at : ℕ) → Adds a b → ShowsPiece p a n at → ShowsPiece p b n at
   ShowsPiece-more (Once i) a b n at k h = ShowsItem-more i a b n at k h
-  ShowsPiece-more (Turns i p) a b n at k h = (h.0, stays a b k n _ h.1, ShowsItem-more i a b h.0 at k h.2)
+  ShowsPiece-more (Turns i p lazy) a b n at k h = (h.0, stays a b k n _ h.1, ShowsItem-more i a b h.0 at k h.2)
 
   pub ShowsItem-more : (i : Item) (a b : List Node) (n at : ℕ) → Adds a b → ShowsItem i a n at → ShowsItem i b n at
   ShowsItem-more (Plain c) a b n at k h = (h.0, h.1, stays a b k n _ h.2)

@@ -1,5 +1,5 @@
 -- From the machine to bodies.
-use Rattle.std.proofs.Common.{◌≡◌, Bool, ℕ, ◌+◌, ◌<◌, ◌≤◌, List, [], ◌∷◌, length, get_or, take, Option, Some, None, Result, Ok, Err, refl, sym, ap, ◌∙◌, subst, arith, add-one}
+use Rattle.std.proofs.Common.{◌≡◌, Bool, false, ℕ, ◌+◌, ◌<◌, ◌≤◌, List, [], ◌∷◌, length, get_or, take, Option, Some, None, Result, Ok, Err, refl, sym, ap, ◌∙◌, subst, arith, add-one}
 use Rattle.std.specs.Prelude.{reverse, IsErrAnd}
 use Rattle.std.proofs.Math.Seq.{take-suc}
 use Rattle.std.proofs.lemmas.List.{take_all, length-take-le, length-reverse}
@@ -12,9 +12,9 @@ use Rattle.kex_regexp.specs.declared.wait.Wait.{Wait}
 use Rattle.kex_regexp.specs.declared.wait.Wait.TheVariants as waits
 use Rattle.kex_regexp.specs.declared.wait.StepFault.{StepFault}
 use Rattle.kex_regexp.specs.declared.wait.StepFault.TheVariants as faults
-use Rattle.kex_regexp.specs.Grammar.{Regex, Item, Once, Member}
+use Rattle.kex_regexp.specs.Grammar.{Regex, Item, Once, Postfix, Turns, Member}
 use Rattle.kex_regexp.specs.Bodies.{Spells, IsFirstWrong}
-use Rattle.kex_regexp.specs.Machine.{Entry, Mark, Ended, Read, Mode, Ready, After, InEscape, InSet, InCount, State, entries, bytes_read, take_regex, step, next, state_after, start, whole_regex, finish, finish_in, step_in, Escaping, Counting, Part as SpecPart}
+use Rattle.kex_regexp.specs.Machine.{Entry, Mark, Ended, Read, Mode, Ready, After, Turned, InEscape, InSet, InCount, State, entries, bytes_read, take_regex, step, next, state_after, start, whole_regex, finish, finish_in, step_in, Escaping, Counting, Part as SpecPart}
 use Rattle.kex_regexp.specs.Holding.{IsSetAfter, IsSetIn, HoldsRegex, ConstructsShow, RegexOn, ShowsState, Steps, Ends, ShowsMode}
 use Rattle.kex_regexp.proofs.Sound.{Goes, reads_sound, start_sound}
 use Rattle.kex_regexp.proofs.Complete.{reads-append}
@@ -144,6 +144,10 @@ finish_ready s e = finish_mode s Ready e
 pub finish_after : (s : State) (i : Item) → s.mode ≡ After i → finish s ≡ whole_regex (take_regex (Read (Once i) ∷ s.entries))
 unfolding finish_in
 finish_after s i e = finish_mode s (After i) e
+
+pub finish_turned : (s : State) (i : Item) (p : Postfix) → s.mode ≡ Turned i p → finish s ≡ whole_regex (take_regex (Read (Turns i p false) ∷ s.entries))
+unfolding finish_in
+finish_turned s i p e = finish_mode s (Turned i p) e
 
 pub finish_escape : (s : State) (x : Escaping) → s.mode ≡ InEscape x → finish s ≡ None
 unfolding finish_in

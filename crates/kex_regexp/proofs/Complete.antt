@@ -3,8 +3,9 @@ use Rattle.std.proofs.Common.{◌≡◌, ℕ, Bool, true, false, cond, List, [],
 use Rattle.std.specs.Prelude.{◌==◌}
 use Rattle.std.proofs.lemmas.Bool.{ne_eqb, false≢true}
 use Rattle.std.proofs.lemmas.List.{append-nil}
-use Rattle.kex_regexp.specs.Grammar.{is_plain, is_among, is_punctuation, is_digit, is_hex, is_end, Escape, Newline, Tab, Return, Hex, Punctuation, End, Itself, EscapedEnd, Member, Single, Range, Postfix, Star, Plus, Quest, Exactly, AtLeast, AtMost, Within, Regex, Last, Or, Branch, Empty, Then, Piece, Once, Turns, Item, Plain, Escaped, Dot, Set, Group, escape, end_of, member, members, caret, postfix, regex, branch, piece, item, IsEscape, IsEnd, IsMember, AreMembers, begins_with_caret, IsSet, AreDigits, IsNumber, IsPostfix, IsRegex, IsBranch, IsPiece, IsItem}
-use Rattle.kex_regexp.specs.Machine.{Escaping, Begun, HexBegun, HexOne, EscapeStep, EscapeOn, EscapeRead, escape_step, Part, AtStart, Between, HasEnd, HasDash, InFirst, InLast, SetStep, SetOn, SetRead, begin_member, between_step, in_first, in_last, set_step, Counting, Opened, Low, LowComma, LowHigh, OnlyComma, High, CountOn, CountRead, count_step, Entry, Mark, Ended, Read, Mode, Ready, After, InEscape, InSet, InCount, State, take_pieces, take_branches, take_regex, goes, after_group, end_branch, begin_piece, after_item, on_escape, on_set, on_count, step_in, step, next, state_after}
+use Rattle.kex_regexp.specs.Grammar.{is_plain, is_among, is_punctuation, is_digit, is_hex, is_end, Escape, Newline, Tab, Return, Hex, Punctuation, End, Itself, EscapedEnd, Member, Single, Range, Postfix, ZeroOrMore, OneOrMore, Optional, Exactly, AtLeast, AtMost, FromTo, Regex, Last, Or, Branch, Empty, Then, Piece, Once, Turns, Item, Plain, Escaped, Dot, Set, Group, escape, end_of, member, members, caret, postfix, lazy_mark, regex, branch, piece, item, IsEscape, IsEnd, IsMember, AreMembers, begins_with_caret, IsSet, AreDigits, IsNumber, IsPostfix, IsRegex, IsBranch, IsPiece, IsItem}
+use Rattle.kex_regexp.specs.Postfixes.{Digits, count_by}
+use Rattle.kex_regexp.specs.Machine.{Escaping, Begun, HexBegun, HexOne, EscapeStep, EscapeOn, EscapeRead, escape_step, Part, AtStart, Between, HasEnd, HasDash, InFirst, InLast, SetStep, SetOn, SetRead, begin_member, between_step, in_first, in_last, set_step, Counting, Opened, Low, LowComma, LowHigh, OnlyComma, High, CountOn, CountRead, count_sign, count_step, Entry, Mark, Ended, Read, Mode, Ready, After, Turned, InEscape, InSet, InCount, State, take_pieces, take_branches, take_regex, goes, after_group, end_branch, begin_piece, after_item, after_turns, on_escape, on_set, on_count, step_in, step, next, state_after}
 
 -- ---- tests
 
@@ -280,7 +281,7 @@ pub count_moves : (i : Item) (es : List Entry) (c d : Counting) (b : ℕ) → co
 unfolding in_count next step step_in on_count
 count_moves i es c d b e = ap (on_count i es) e
 
-pub count_ends : (i : Item) (es : List Entry) (c : Counting) (b : ℕ) (p : Postfix) → count_step c b ≡ CountRead p → state_after (in_count i es c) (b ∷ []) ≡ goes Ready (Read (Turns i p) ∷ es)
+pub count_ends : (i : Item) (es : List Entry) (c : Counting) (b : ℕ) (p : Postfix) → count_step c b ≡ CountRead p → state_after (in_count i es c) (b ∷ []) ≡ goes (Turned i p) es
 unfolding in_count next step step_in on_count
 count_ends i es c b p e = one_byte _ _ b (ap (on_count i es) e)
 
@@ -298,64 +299,69 @@ unfolding IsNumber
 number_reads i es c mk f st [] h = absurd h
 number_reads i es c mk f st (d ∷ ds) h = byte_then _ (in_count i es (mk (d ∷ []))) _ d ds (count_moves i es c (mk (d ∷ [])) d (f d h.0)) (digits_read i es mk st (d ∷ []) ds h.1)
 
+-- a digit is one to a count
+pub digit_sign : (b : ℕ) → is_digit b ≡ true → count_sign b ≡ Digits (b ∷ [])
+unfolding count_sign
+digit_sign b h = cond_yes (is_digit b) _ _ h
+
 pub low_first : (b : ℕ) → is_digit b ≡ true → count_step Opened b ≡ CountOn (Low (b ∷ []))
 unfolding count_step
-low_first b h = cond_yes (is_digit b) _ _ h
+low_first b h = ap (count_by true Opened) (digit_sign b h)
 
 pub low_more : (n : List ℕ) (b : ℕ) → is_digit b ≡ true → count_step (Low n) b ≡ CountOn (Low (n ++ b ∷ []))
 unfolding count_step
-low_more n b h = cond_yes (is_digit b) _ _ h
+low_more n b h = ap (count_by true (Low n)) (digit_sign b h)
 
 pub high_first : (b : ℕ) → is_digit b ≡ true → count_step OnlyComma b ≡ CountOn (High (b ∷ []))
 unfolding count_step
-high_first b h = cond_yes (is_digit b) _ _ h
+high_first b h = ap (count_by true OnlyComma) (digit_sign b h)
 
 pub high_more : (n : List ℕ) (b : ℕ) → is_digit b ≡ true → count_step (High n) b ≡ CountOn (High (n ++ b ∷ []))
 unfolding count_step
-high_more n b h = cond_yes (is_digit b) _ _ h
+high_more n b h = ap (count_by true (High n)) (digit_sign b h)
 
 pub within_first : (n : List ℕ) (b : ℕ) → is_digit b ≡ true → count_step (LowComma n) b ≡ CountOn (LowHigh n (b ∷ []))
 unfolding count_step
-within_first n b h = cond_yes (is_digit b) _ _ h
+within_first n b h = ap (count_by true (LowComma n)) (digit_sign b h)
 
 pub within_more : (n m : List ℕ) (b : ℕ) → is_digit b ≡ true → count_step (LowHigh n m) b ≡ CountOn (LowHigh n (m ++ b ∷ []))
 unfolding count_step
-within_more n m b h = cond_yes (is_digit b) _ _ h
+within_more n m b h = ap (count_by true (LowHigh n m)) (digit_sign b h)
 
 -- the steps on the two signs, none of which is a digit
 pub low_comma : (n : List ℕ) → count_step (Low n) 44 ≡ CountOn (LowComma n)
-unfolding count_step is_digit
+unfolding count_step count_sign is_digit
 low_comma n = refl
 
 pub low_ends : (n : List ℕ) → count_step (Low n) 125 ≡ CountRead (Exactly n)
-unfolding count_step is_digit
+unfolding count_step count_sign is_digit
 low_ends n = refl
 
 pub low_comma_ends : (n : List ℕ) → count_step (LowComma n) 125 ≡ CountRead (AtLeast n)
-unfolding count_step is_digit
+unfolding count_step count_sign is_digit
 low_comma_ends n = refl
 
-pub within_ends : (n m : List ℕ) → count_step (LowHigh n m) 125 ≡ CountRead (Within n m)
-unfolding count_step is_digit
+pub within_ends : (n m : List ℕ) → count_step (LowHigh n m) 125 ≡ CountRead (FromTo n m)
+unfolding count_step count_sign is_digit
 within_ends n m = refl
 
 pub only_comma : count_step Opened 44 ≡ CountOn OnlyComma
-unfolding count_step is_digit
+unfolding count_step count_sign is_digit
 only_comma = refl
 
 pub high_ends : (m : List ℕ) → count_step (High m) 125 ≡ CountRead (AtMost m)
-unfolding count_step is_digit
+unfolding count_step count_sign is_digit
 high_ends m = refl
 
 pub after_sign : (i : Item) (es : List Entry) (b : ℕ) (o : Option State) → after_item i es b ≡ o → next (goes (After i) es) b ≡ o
 unfolding next step step_in
 after_sign i es b o e = e
 
-pub postfix_reads : (i : Item) (es : List Entry) (p : Postfix) → IsPostfix p → state_after (goes (After i) es) (postfix p) ≡ goes Ready (Read (Turns i p) ∷ es)
+pub postfix_reads : (i : Item) (es : List Entry) (p : Postfix) → IsPostfix p → state_after (goes (After i) es) (postfix p) ≡ goes (Turned i p) es
 unfolding postfix IsPostfix after_item in_count
-postfix_reads i es Star h = one_byte _ _ 42 (after_sign i es 42 _ refl)
-postfix_reads i es Plus h = one_byte _ _ 43 (after_sign i es 43 _ refl)
-postfix_reads i es Quest h = one_byte _ _ 63 (after_sign i es 63 _ refl)
+postfix_reads i es ZeroOrMore h = one_byte _ _ 42 (after_sign i es 42 _ refl)
+postfix_reads i es OneOrMore h = one_byte _ _ 43 (after_sign i es 43 _ refl)
+postfix_reads i es Optional h = one_byte _ _ 63 (after_sign i es 63 _ refl)
 postfix_reads i es (Exactly n) h =
     byte_then _ (in_count i es Opened) _ 123 (n ++ 125 ∷ []) (after_sign i es 123 _ refl)
     (then_reads _ (in_count i es (Low n)) _ n (125 ∷ []) (number_reads i es Opened Low low_first low_more n h) (count_ends i es (Low n) 125 (Exactly n) (low_ends n)))
@@ -367,11 +373,11 @@ postfix_reads i es (AtMost m) h =
     byte_then _ (in_count i es Opened) _ 123 (44 ∷ m ++ 125 ∷ []) (after_sign i es 123 _ refl)
     (byte_then _ (in_count i es OnlyComma) _ 44 (m ++ 125 ∷ []) (count_moves i es Opened OnlyComma 44 only_comma)
     (then_reads _ (in_count i es (High m)) _ m (125 ∷ []) (number_reads i es OnlyComma High high_first high_more m h) (count_ends i es (High m) 125 (AtMost m) (high_ends m))))
-postfix_reads i es (Within n m) h =
+postfix_reads i es (FromTo n m) h =
     byte_then _ (in_count i es Opened) _ 123 (n ++ (44 ∷ m ++ 125 ∷ [])) (after_sign i es 123 _ refl)
     (then_reads _ (in_count i es (Low n)) _ n (44 ∷ m ++ 125 ∷ []) (number_reads i es Opened Low low_first low_more n h.0)
     (byte_then _ (in_count i es (LowComma n)) _ 44 (m ++ 125 ∷ []) (count_moves i es (Low n) (LowComma n) 44 (low_comma n))
-    (then_reads _ (in_count i es (LowHigh n m)) _ m (125 ∷ []) (number_reads i es (LowComma n) (LowHigh n) (within_first n) (within_more n) m h.1) (count_ends i es (LowHigh n m) 125 (Within n m) (within_ends n m)))))
+    (then_reads _ (in_count i es (LowHigh n m)) _ m (125 ∷ []) (number_reads i es (LowComma n) (LowHigh n) (within_first n) (within_more n) m h.1) (count_ends i es (LowHigh n m) 125 (FromTo n m) (within_ends n m)))))
 
 -- ---- the whole
 
@@ -379,6 +385,7 @@ postfix_reads i es (Within n m) h =
 unfoldable pub MayBegin : Mode → List Entry → List Entry → Type 0
 MayBegin Ready es fs = es ≡ fs
 MayBegin (After i) es fs = Read (Once i) ∷ es ≡ fs
+MayBegin (Turned i p) es fs = Read (Turns i p false) ∷ es ≡ fs
 MayBegin (InEscape e) es fs = ⊥
 MayBegin (InSet negated ms p) es fs = ⊥
 MayBegin (InCount i c) es fs = ⊥
@@ -395,7 +402,7 @@ pub is_sign : ℕ → Bool
 is_sign b = is_among b (42 ∷ 43 ∷ 63 ∷ 123 ∷ [])
 
 pub begins : (m : Mode) (es fs : List Entry) (b : ℕ) → MayBegin m es fs → is_sign b ≡ false → next (goes m es) b ≡ begin_piece fs b
-unfolding MayBegin next step step_in after_item is_sign
+unfolding MayBegin next step step_in after_item after_turns is_sign
 begins Ready es fs b r n = ap (λ (x : List Entry). begin_piece x b) r
 begins (After i) es fs b r n =
     let a = not_among b 42 (43 ∷ 63 ∷ 123 ∷ []) n in
@@ -403,6 +410,11 @@ begins (After i) es fs b r n =
     let d = not_among b 63 (123 ∷ []) c.1 in
     let e = not_among b 123 [] d.1 in
     cond_no (b == 42) _ _ a.0 ∙ cond_no (b == 43) _ _ c.0 ∙ cond_no (b == 63) _ _ d.0 ∙ cond_no (b == 123) _ _ e.0 ∙ ap (λ (x : List Entry). begin_piece x b) r
+begins (Turned i p) es fs b r n =
+    let a = not_among b 42 (43 ∷ 63 ∷ 123 ∷ []) n in
+    let c = not_among b 43 (63 ∷ 123 ∷ []) a.1 in
+    let d = not_among b 63 (123 ∷ []) c.1 in
+    cond_no (b == 63) _ _ d.0 ∙ ap (λ (x : List Entry). begin_piece x b) r
 begins (InEscape e) es fs b r n = absurd r
 begins (InSet negated ms p) es fs b r n = absurd r
 begins (InCount i c) es fs b r n = absurd r
@@ -516,8 +528,12 @@ pub item_escape : (es : List Entry) (x : Escape) → IsEscape x → state_after 
 unfolding on_escape next step step_in
 item_escape es x h = escape_reads (on_escape es) (λ e b. refl) x h
 
+pub lazy_step : (i : Item) (p : Postfix) (es : List Entry) → next (goes (Turned i p) es) 63 ≡ goes Ready (Read (Turns i p true) ∷ es)
+unfolding next step step_in after_turns
+lazy_step i p es = refl
+
 mutual
-  unfolding IsRegex regex regex_onto Begins IsBranch branch pieces_onto IsPiece piece IsItem item IsBase state_after MayBegin
+  unfolding IsRegex regex regex_onto Begins IsBranch branch pieces_onto IsPiece piece lazy_mark IsItem item IsBase state_after MayBegin
 
   pub regex_reads : (r : Regex) → IsRegex r → (m : Mode) (es fs : List Entry) → MayBegin m es fs → IsBase fs → Begins (regex_onto r fs) (state_after (goes m es) (regex r))
   regex_reads (Last b) h m es fs r base = branch_reads b h m es fs r
@@ -535,7 +551,8 @@ mutual
 
   pub piece_reads : (p : Piece) → IsPiece p → (m : Mode) (es fs : List Entry) → MayBegin m es fs → Begins (Read p ∷ fs) (state_after (goes m es) (piece p))
   piece_reads (Once i) h m es fs r = (After i, fs, refl, item_reads i h m es fs r)
-  piece_reads (Turns i p) h m es fs r = (Ready, Read (Turns i p) ∷ fs, refl, then_reads _ (goes (After i) fs) _ (item i) (postfix p) (item_reads i h.0 m es fs r) (postfix_reads i fs p h.1))
+  piece_reads (Turns i p false) h m es fs r = (Turned i p, fs, refl, then_reads _ (goes (After i) fs) _ (item i) (postfix p ++ []) (item_reads i h.0 m es fs r) (ap (state_after (goes (After i) fs)) (append-nil (postfix p)) ∙ postfix_reads i fs p h.1))
+  piece_reads (Turns i p true) h m es fs r = (Ready, Read (Turns i p true) ∷ fs, refl, then_reads _ (goes (After i) fs) _ (item i) (postfix p ++ 63 ∷ []) (item_reads i h.0 m es fs r) (then_reads _ (goes (Turned i p) fs) _ (postfix p) (63 ∷ []) (postfix_reads i fs p h.1) (one_byte _ _ 63 (lazy_step i p fs))))
 
   pub item_reads : (i : Item) → IsItem i → (m : Mode) (es fs : List Entry) → MayBegin m es fs → state_after (goes m es) (item i) ≡ goes (After i) fs
   item_reads (Plain b) h m es fs r = one_byte _ _ b (begins m es fs b r (plain_no_sign b h) ∙ begin_byte fs b h)

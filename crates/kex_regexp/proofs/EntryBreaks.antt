@@ -3,9 +3,10 @@ use Rattle.std.proofs.Common.{Option, Some, None, ◌≡◌, ℕ, suc, ◌+◌, 
 use Rattle.std.specs.Prelude.{◌==◌}
 use Rattle.std.proofs.lemmas.List.{append-nil}
 use Rattle.std.proofs.lemmas.Bool.{eqb-true}
-use Rattle.kex_regexp.specs.Grammar.{is_plain, Postfix, Star, Plus, Quest, Plain, Escaped, Dot, Set, Regex, Last, Or, Branch, Empty, Then, Once, Turns, Item, Group, branch, piece, item}
-use Rattle.kex_regexp.specs.Breaks.{Break, BadCount, OverLimit, break_if, regex_breaks, branch_breaks, piece_breaks, item_breaks, is_bad_count}
-use Rattle.kex_regexp.specs.Machine.{Entry, Mark, Ended, Read, entries, entry, take_pieces, take_branches, take_regex, Begun, EscapeStep, EscapeOn, EscapeRead, EscapeWrong, escape_step, AtStart, SetStep, SetOn, SetRead, SetWrong, set_step, Opened, CountStep, CountOn, CountRead, CountWrong, count_step, Mode, Ready, After, InEscape, InSet, InCount, State, goes, after_group, end_branch, begin_piece, after_item, on_escape, on_set, on_count, step_in}
+use Rattle.kex_regexp.specs.Grammar.{is_plain, Postfix, ZeroOrMore, OneOrMore, Optional, Plain, Escaped, Dot, Set, Regex, Last, Or, Branch, Empty, Then, Once, Turns, Item, Group, branch, piece, item, postfix, lazy_mark}
+use Rattle.kex_regexp.specs.Breaks.{Break, BadCount, OverLimit, break_if, regex_breaks, branch_breaks, piece_breaks, item_breaks}
+use Rattle.kex_regexp.specs.Postfixes.{is_bad_count}
+use Rattle.kex_regexp.specs.Machine.{Entry, Mark, Ended, Read, entries, entry, take_pieces, take_branches, take_regex, Begun, EscapeStep, EscapeOn, EscapeRead, EscapeWrong, escape_step, AtStart, SetStep, SetOn, SetRead, SetWrong, set_step, Opened, CountStep, CountOn, CountRead, CountWrong, count_step, Mode, Ready, After, Turned, InEscape, InSet, InCount, State, goes, after_group, end_branch, begin_piece, after_item, after_turns, on_escape, on_set, on_count, step_in}
 use Rattle.kex_regexp.specs.Notes.{marks, entry_breaks, entries_breaks, mode_breaks, state_breaks, nesting_breaks, set_breaks, count_breaks, byte_breaks}
 use Rattle.kex_regexp.proofs.Sound.{by_test}
 use Rattle.kex_regexp.proofs.Complete.{apart, cond_yes, cond_no}
@@ -124,11 +125,15 @@ module _ (base depth : ℕ) where
       by_test P (b == 124) _ _ (λ e. bar_breaks (take_pieces es Empty) _ (same _ E at d b 124 e refl (pieces_alone es))) (λ _.
       by_test P (b == 41) _ _ (λ e. close_breaks (take_regex es).0 (take_regex es).1 _ (same _ E at d b 41 e refl (regex_break base depth es))) (λ _. tt)))))))
 
-  pub turns_break : (i : Item) (p : Postfix) (es : List Entry) (w : List Break) → entries_breaks base depth es ++ (item_breaks i (place es) (level es) ++ break_if (is_bad_count p) (BadCount (place es + length (item i)))) ≡ w → BreaksGo w (goes Ready (Read (Turns i p) ∷ es))
-  unfolding mode_breaks entries_breaks entry_breaks piece_breaks place level
-  turns_break i p es w e = goes_on Ready (Read (Turns i p) ∷ es) w (append-nil _ ∙ e)
+  pub turns_break : (i : Item) (p : Postfix) (es : List Entry) (w : List Break) → entries_breaks base depth es ++ (item_breaks i (place es) (level es) ++ break_if (is_bad_count p) (BadCount (place es + length (item i)))) ≡ w → BreaksGo w (goes (Turned i p) es)
+  unfolding mode_breaks
+  turns_break i p es w e = goes_on (Turned i p) es w e
 
-  pub sign_breaks : (i : Item) (p : Postfix) (n : ℕ) (es : List Entry) (b at d : ℕ) → is_bad_count p ≡ false → (b == n) ≡ true → (n == 40) ≡ false → BreaksGo ((entries_breaks base depth es ++ item_breaks i (place es) (level es)) ++ nesting_breaks at d b) (goes Ready (Read (Turns i p) ∷ es))
+  lazy_breaks : (i : Item) (p : Postfix) (es : List Entry) (w : List Break) → entries_breaks base depth (Read (Turns i p true) ∷ es) ≡ w → BreaksGo w (goes Ready (Read (Turns i p true) ∷ es))
+  unfolding mode_breaks
+  lazy_breaks i p es w e = goes_on Ready (Read (Turns i p true) ∷ es) w (append-nil _ ∙ e)
+
+  pub sign_breaks : (i : Item) (p : Postfix) (n : ℕ) (es : List Entry) (b at d : ℕ) → is_bad_count p ≡ false → (b == n) ≡ true → (n == 40) ≡ false → BreaksGo ((entries_breaks base depth es ++ item_breaks i (place es) (level es)) ++ nesting_breaks at d b) (goes (Turned i p) es)
   sign_breaks i p n es b at d good e k =
       turns_break i p es _ (same _ _ at d b n e k (ap (λ (x : Bool). entries_breaks base depth es ++ (item_breaks i (place es) (level es) ++ break_if x (BadCount (place es + length (item i))))) good ∙ ap (λ (w : List Break). entries_breaks base depth es ++ w) (append-nil (item_breaks i (place es) (level es)))))
 
@@ -143,11 +148,31 @@ module _ (base depth : ℕ) where
   after_breaks i es b =
       let at = place es + length (item i) in
       let P = BreaksGo ((entries_breaks base depth es ++ item_breaks i (place es) (level es)) ++ nesting_breaks at (level es) b) in
-      by_test P (b == 42) _ _ (λ e. sign_breaks i Star 42 es b at (level es) refl e refl) (λ _.
-      by_test P (b == 43) _ _ (λ e. sign_breaks i Plus 43 es b at (level es) refl e refl) (λ _.
-      by_test P (b == 63) _ _ (λ e. sign_breaks i Quest 63 es b at (level es) refl e refl) (λ _.
+      by_test P (b == 42) _ _ (λ e. sign_breaks i ZeroOrMore 42 es b at (level es) refl e refl) (λ _.
+      by_test P (b == 43) _ _ (λ e. sign_breaks i OneOrMore 43 es b at (level es) refl e refl) (λ _.
+      by_test P (b == 63) _ _ (λ e. sign_breaks i Optional 63 es b at (level es) refl e refl) (λ _.
       by_test P (b == 123) _ _ (λ e. goes_on (InCount i Opened) es _ (same _ _ at (level es) b 123 e refl refl)) (λ _.
       once_breaks i es b))))
+
+  -- a piece with a postfix breaks what its item and its count do, lazy or not
+  pub piece_break : (i : Item) (p : Postfix) (lazy : Bool) (es : List Entry) → entries_breaks base depth (Read (Turns i p lazy) ∷ es) ≡ entries_breaks base depth es ++ mode_breaks (Turned i p) (place es) (level es)
+  unfolding place level entries_breaks entry_breaks piece_breaks mode_breaks
+  piece_break i p lazy es = refl
+
+  pub eager_breaks : (i : Item) (p : Postfix) (es : List Entry) (b : ℕ) → BreaksGo ((entries_breaks base depth es ++ mode_breaks (Turned i p) (place es) (level es)) ++ nesting_breaks (place es + length (item i ++ postfix p)) (level es) b) (begin_piece (Read (Turns i p false) ∷ es) b)
+  unfolding place level entries entry piece lazy_mark marks
+  eager_breaks i p es b =
+      let e : base + length (entries es ++ (item i ++ (postfix p ++ []))) ≡ base + length (entries es) + length (item i ++ postfix p) = omega (arith, length-append (entries es) (item i ++ (postfix p ++ [])), length-append (item i) (postfix p ++ []), length-append (item i) (postfix p), length-append (postfix p) []) in
+      subst (λ (n : ℕ). BreaksGo ((entries_breaks base depth es ++ mode_breaks (Turned i p) (base + length (entries es)) (depth + marks es)) ++ nesting_breaks n (depth + marks es) b) (begin_piece (Read (Turns i p false) ∷ es) b)) e
+      (subst (λ (w : List Break). BreaksGo (w ++ nesting_breaks (base + length (entries es ++ (item i ++ (postfix p ++ [])))) (depth + marks es) b) (begin_piece (Read (Turns i p false) ∷ es) b)) (piece_break i p false es) (begin_breaks (Read (Turns i p false) ∷ es) b))
+
+  pub turned_breaks : (i : Item) (p : Postfix) (es : List Entry) (b : ℕ) → BreaksGo ((entries_breaks base depth es ++ mode_breaks (Turned i p) (place es) (level es)) ++ nesting_breaks (place es + length (item i ++ postfix p)) (level es) b) (after_turns i p es b)
+  unfolding after_turns
+  turned_breaks i p es b =
+      let at = place es + length (item i ++ postfix p) in
+      by_test (BreaksGo ((entries_breaks base depth es ++ mode_breaks (Turned i p) (place es) (level es)) ++ nesting_breaks at (level es) b)) (b == 63) _ _
+      (λ e. lazy_breaks i p es _ (same _ _ at (level es) b 63 e refl (piece_break i p true es)))
+      (λ _. eager_breaks i p es b)
 
   pub escape_breaks : (es : List Entry) (t : EscapeStep) → BreaksGo (entries_breaks base depth es) (on_escape es t)
   unfolding on_escape BreaksGo mode_breaks item_breaks
@@ -172,6 +197,7 @@ module _ (base depth : ℕ) where
   unfolding step_in mode_breaks byte_breaks
   step_breaks Ready es b = subst (λ (w : List Break). BreaksGo (w ++ nesting_breaks (place es) (level es) b) (begin_piece es b)) (sym (append-nil (entries_breaks base depth es))) (begin_breaks es b)
   step_breaks (After i) es b = after_breaks i es b
+  step_breaks (Turned i p) es b = turned_breaks i p es b
   step_breaks (InEscape e) es b = subst (λ (w : List Break). BreaksGo w (on_escape es (escape_step e b))) (sym (append-nil _ ∙ append-nil (entries_breaks base depth es))) (escape_breaks es (escape_step e b))
   step_breaks (InSet n ms p) es b = subst (λ (w : List Break). BreaksGo (w ++ set_breaks (place es) (set_step n ms p b)) (on_set es (set_step n ms p b))) (sym (append-nil (entries_breaks base depth es))) (set_breaks_go es (set_step n ms p b))
   step_breaks (InCount i c) es b = count_breaks_go i es (count_step c b)

@@ -3,7 +3,8 @@ use Rattle.std.proofs.Common.{◌≡◌, ℕ, ◌+◌, Bool, true, false, List, 
 use Rattle.std.specs.Prelude.{MatchBool, ◌==◌}
 use Rattle.kex_model.specs.declared.program.Node.{Node}
 use Rattle.kex_regexp.specs.Grammar.{Regex, Last, Or, Branch, Empty, Then, Piece, Once, Turns, Item, Plain, Escaped, Dot, Set, Group, branch, piece, item}
-use Rattle.kex_regexp.specs.Breaks.{Break, BadCount, OverLimit, break_if, is_bad_count, regex_breaks, branch_breaks, piece_breaks, item_breaks}
+use Rattle.kex_regexp.specs.Breaks.{Break, BadCount, OverLimit, break_if, regex_breaks, branch_breaks, piece_breaks, item_breaks}
+use Rattle.kex_regexp.specs.Postfixes.{is_bad_count}
 use Rattle.kex_regexp.specs.Shown.{ShowsRegex, ShowsBranch, ShowsPiece, ShowsItem}
 use Rattle.kex_regexp.specs.Holding.{HoldsRegex, HoldsBranch, HoldsPiece, HoldsItem}
 
@@ -35,7 +36,7 @@ mutual
 
   pub exact_piece : (p : Piece) (nodes : List Node) (n at depth : ℕ) → HoldsPiece p nodes n at → piece_breaks p at depth ≡ [] → ShowsPiece p nodes n at
   exact_piece (Once i) nodes n at depth h e = exact_item i nodes n at depth h e
-  exact_piece (Turns i p) nodes n at depth h e =
+  exact_piece (Turns i p lazy) nodes n at depth h e =
       let brace = BadCount (at + length (item i)) in
       (h.0, unless_bad (is_bad_count p) brace _ _ (right_none (item_breaks i at depth) (break_if (is_bad_count p) brace) e) h.1, exact_item i nodes h.0 at depth h.2 (left_none (item_breaks i at depth) (break_if (is_bad_count p) brace) e))
 

@@ -5,8 +5,9 @@ use Rattle.std.proofs.lemmas.Bool.Decides.{nat_tests}
 use Rattle.kex_code.specs.Codes.{IsAmong}
 use Rattle.kex_model.proofs.Shapes.{among-append}
 use Rattle.kex_regexp.specs.Grammar.{Regex, Last, Or, Branch, Empty, Then, Piece, Once, Turns, Item, Plain, Escaped, Dot, Set, Group, branch, piece, item}
-use Rattle.kex_regexp.specs.Breaks.{Break, BadRegex, BadCount, BadSet, OverLimit, IsLeast, comes_before, is_bad_count, is_bad_set, offset, rank, break_if, regex_breaks, branch_breaks, piece_breaks, item_breaks}
+use Rattle.kex_regexp.specs.Breaks.{Break, BadRegex, BadCount, BadSet, OverLimit, IsLeast, comes_before, is_bad_set, offset, rank, break_if, regex_breaks, branch_breaks, piece_breaks, item_breaks}
 use Rattle.kex_regexp.specs.Notes.{least_from}
+use Rattle.kex_regexp.specs.Postfixes.{is_bad_count}
 
 -- ---- an order of pairs of numbers
 
@@ -111,7 +112,7 @@ mutual
 
   pub piece_rules : (p : Piece) (at depth : ℕ) → AreRules (piece_breaks p at depth)
   piece_rules (Once i) at depth = item_rules i at depth
-  piece_rules (Turns i p) at depth = rules-append (item_breaks i at depth) (break_if (is_bad_count p) (BadCount (at + length (item i)))) (item_rules i at depth) (rules_break_if (is_bad_count p) (BadCount (at + length (item i))) tt)
+  piece_rules (Turns i p lazy) at depth = rules-append (item_breaks i at depth) (break_if (is_bad_count p) (BadCount (at + length (item i)))) (item_rules i at depth) (rules_break_if (is_bad_count p) (BadCount (at + length (item i))) tt)
 
   pub item_rules : (i : Item) (at depth : ℕ) → AreRules (item_breaks i at depth)
   item_rules (Plain b) at depth = λ c i. absurd i

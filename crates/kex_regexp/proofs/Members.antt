@@ -16,10 +16,10 @@ use Rattle.kex_regexp.specs.declared.sets.SetSoFar.{SetSoFar}
 use Rattle.kex_regexp.specs.declared.sets.Span.{Span}
 use Rattle.kex_regexp.specs.declared.wait.Wait.{Wait}
 use Rattle.kex_regexp.specs.declared.wait.Wait.TheVariants as waits
-use Rattle.kex_regexp.specs.Grammar.{is_end, is_plain, Regex, Item, Once, End, Itself, EscapedEnd, Member, Single, Range}
+use Rattle.kex_regexp.specs.Grammar.{is_end, is_plain, Regex, Item, Once, Turns, Postfix, End, Itself, EscapedEnd, Member, Single, Range}
 use Rattle.kex_regexp.specs.Values.{any_below, end_byte, membership, has_backward, in_member, in_members, in_set, is_backward}
 use Rattle.kex_regexp.specs.Breaks.{is_bad_set}
-use Rattle.kex_regexp.specs.Machine.{ended_members, last_members, begin_member, between_step, in_first, in_last, set_step, escape_step, on_escape, on_set, on_count, count_step, begin_piece, after_item, end_branch, after_group, take_regex, step_in, Entry, Mark, Ended, Read, EscapeStep, EscapeOn, EscapeRead, EscapeWrong, CountStep, CountOn, CountRead, CountWrong, SetStep, SetOn, SetRead, SetWrong, Escaping, Part, AtStart, Between, HasEnd, HasDash, InFirst, InLast, Mode, Ready, After, InEscape, InSet, InCount}
+use Rattle.kex_regexp.specs.Machine.{ended_members, last_members, begin_member, between_step, in_first, in_last, set_step, escape_step, on_escape, on_set, on_count, count_step, begin_piece, after_item, after_turns, end_branch, after_group, take_regex, step_in, Entry, Mark, Ended, Read, EscapeStep, EscapeOn, EscapeRead, EscapeWrong, CountStep, CountOn, CountRead, CountWrong, SetStep, SetOn, SetRead, SetWrong, Escaping, Part, AtStart, Between, HasEnd, HasDash, InFirst, InLast, Mode, Ready, After, Turned, InEscape, InSet, InCount}
 use Rattle.kex_regexp.specs.Holding.{HasMembers, IsSetAfter, IsSetIn, ShowsEscape, ShowsMode, ShowsPart}
 use Rattle.kex_regexp.specs.Outcomes.{ended_span, escape_outcome, last_span}
 use Rattle.kex_regexp.specs.Notes.{is_bad_set_so_far}
@@ -243,6 +243,10 @@ item_after set i es b h =
     by_test P (b == 63) _ _ (λ _. tt) (λ _.
     by_test P (b == 123) _ _ (λ _. tt) (λ _. begin_after set (Read (Once i) ∷ es) b h))))
 
+pub turns_after : (set : SetSoFar) (i : Item) (p : Postfix) (es : List Entry) (b : ℕ) → ((b == 91) ≡ true → HasMembers set []) → IsSetAfter set (after_turns i p es b)
+unfolding after_turns IsSetIn
+turns_after set i p es b h = by_test (IsSetAfter set) (b == 63) _ _ (λ _. tt) (λ _. begin_after set (Read (Turns i p false) ∷ es) b h)
+
 pub escape_after : (set : SetSoFar) (es : List Entry) (t : EscapeStep) → IsSetAfter set (on_escape es t)
 unfolding on_escape IsSetIn
 escape_after set es (EscapeOn e) = tt
@@ -263,6 +267,7 @@ pub without_set : (set : SetSoFar) (nodes : List Node) (at : ℕ) (w : Wait) (m 
 unfolding IsNotInSet ShowsMode step_in
 without_set set nodes at waits.Ready Ready es b n s h = begin_after set es b h
 without_set set nodes at (waits.After part) (After i) es b n s h = item_after set i es b h
+without_set set nodes at (waits.Turned r) (Turned i p) es b n s h = turns_after set i p es b h
 without_set set nodes at (waits.InEscape e from) (InEscape f) es b n s h = escape_after set es (escape_step f b)
 without_set set nodes at (waits.InSet k e p from) m es b n s h = absurd n
 without_set set nodes at (waits.InCount part c brace) (InCount i d) es b n s h = count_after_set set i es (count_step d b)
@@ -311,6 +316,7 @@ pub not_in_set : (w : Wait) → ((n e : Bool) (p : SetPart) (from : ℕ) → w �
 unfolding IsNotInSet
 not_in_set waits.Ready h = tt
 not_in_set (waits.After part) h = tt
+not_in_set (waits.Turned r) h = tt
 not_in_set (waits.InEscape e from) h = tt
 not_in_set (waits.InSet n e p from) h = h n e p from refl
 not_in_set (waits.InCount part c brace) h = tt

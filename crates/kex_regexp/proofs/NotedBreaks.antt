@@ -10,18 +10,18 @@ use Rattle.kex_regexp.specs.declared.counts.CountOutcome.TheVariants as outcomes
 use Rattle.kex_regexp.specs.declared.sets.SetSoFar.{SetSoFar}
 use Rattle.kex_regexp.specs.declared.wait.Wait.{Wait}
 use Rattle.kex_regexp.specs.declared.wait.Wait.TheVariants as waits
-use Rattle.kex_regexp.specs.Grammar.{is_plain, Member, Item, Set, Regex, Last, Or, Branch, Empty, Then, Once, item}
+use Rattle.kex_regexp.specs.Grammar.{is_plain, Member, Item, Set, Postfix, Regex, Last, Or, Branch, Empty, Then, Once, Turns, item, postfix}
 use Rattle.kex_regexp.specs.Breaks.{Break, BadCount, BadSet, OverLimit, break_if, is_bad_set, regex_breaks, piece_breaks}
-use Rattle.kex_regexp.specs.Machine.{Part, EscapeStep, EscapeOn, EscapeRead, EscapeWrong, escape_step, CountStep, CountOn, CountRead, CountWrong, count_step, SetStep, SetOn, SetRead, SetWrong, set_step, Entry, Mark, Ended, Read, Mode, Ready, After, InEscape, InSet, InCount, State, entries, entry, bytes_read, take_pieces, take_branches, take_regex, after_group, end_branch, begin_piece, after_item, on_escape, on_set, on_count, step_in, step, whole_regex, finish, finish_in}
+use Rattle.kex_regexp.specs.Machine.{Part, EscapeStep, EscapeOn, EscapeRead, EscapeWrong, escape_step, CountStep, CountOn, CountRead, CountWrong, count_step, SetStep, SetOn, SetRead, SetWrong, set_step, Entry, Mark, Ended, Read, Mode, Ready, After, Turned, InEscape, InSet, InCount, State, entries, entry, bytes_read, take_pieces, take_branches, take_regex, after_group, end_branch, begin_piece, after_item, after_turns, on_escape, on_set, on_count, step_in, step, whole_regex, finish, finish_in}
 use Rattle.kex_regexp.specs.Holding.{HasMembers, IsSetIn, ShowsCountStep, ShowsMode, ShowsState}
-use Rattle.kex_regexp.specs.Outcomes.{are_bad_turns, count_outcome}
+use Rattle.kex_regexp.specs.Outcomes.{are_bad, count_outcome}
 use Rattle.kex_regexp.specs.Notes.{lesser, least_from, marks, mode_breaks, state_breaks, entries_breaks, entry_breaks, nesting_breaks, set_breaks, count_breaks, byte_breaks, is_after, is_bad_set_so_far, count_break, nesting_break, byte_break, next_depth, depth_after, lesser_of}
 use Rattle.kex_regexp.proofs.Sound.{by_test}
 use Rattle.kex_regexp.proofs.Complete.{apart, cond_yes, cond_no}
-use Rattle.kex_regexp.proofs.CappedCounts.{bad_turns}
+use Rattle.kex_regexp.proofs.CappedCounts.{bad_bounds}
 use Rattle.kex_regexp.proofs.Members.{NegatedIs, bad_set, step_negated}
 use Rattle.kex_regexp.proofs.Refinement.{count_refines}
-use Rattle.kex_regexp.proofs.ShownSteps.{ready_place, after_place}
+use Rattle.kex_regexp.proofs.ShownSteps.{ready_place, after_place, turned_place}
 use Rattle.kex_regexp.proofs.EntryBreaks.{with_regex, regex_break, place, level, BreaksGo, step_breaks}
 
 abbrev pub listed : Option Break → List Break
@@ -37,7 +37,7 @@ listed_break_if false b = refl
 pub count_notes : (at : ℕ) (o : CountOutcome) (t : CountStep) → ShowsCountStep o t → listed (count_break o at) ≡ count_breaks at t
 unfolding ShowsCountStep count_break count_breaks
 count_notes at (outcomes.On c) (CountOn d) s = refl
-count_notes at (outcomes.Read l h) (CountRead p) s = listed_break_if (are_bad_turns l h) (BadCount at) ∙ ap (λ (t : Bool). break_if t (BadCount at)) (bad_turns l h p s.0 s.1)
+count_notes at (outcomes.Read b) (CountRead p) s = listed_break_if (are_bad b) (BadCount at) ∙ ap (λ (t : Bool). break_if t (BadCount at)) (bad_bounds b p s)
 count_notes at outcomes.Wrong CountWrong s = refl
 count_notes at _ _ s = absurd s
 
@@ -48,6 +48,7 @@ pub waits_behind : (nodes : List Node) (at : ℕ) (w : Wait) (i : Item) → Show
 unfolding ShowsMode
 waits_behind nodes at waits.Ready i s = absurd s
 waits_behind nodes at (waits.After part) i s = refl
+waits_behind nodes at (waits.Turned r) i s = absurd s
 waits_behind nodes at (waits.InEscape e from) i s = absurd s
 waits_behind nodes at (waits.InSet n e p from) i s = absurd s
 waits_behind nodes at (waits.InCount part c brace) i s = absurd s
@@ -56,6 +57,7 @@ pub waits_within : (nodes : List Node) (at : ℕ) (w : Wait) (n : Bool) (ms : Li
 unfolding ShowsMode
 waits_within nodes at waits.Ready n ms q s = absurd s
 waits_within nodes at (waits.After part) n ms q s = absurd s
+waits_within nodes at (waits.Turned r) n ms q s = absurd s
 waits_within nodes at (waits.InEscape e from) n ms q s = refl
 waits_within nodes at (waits.InSet k e p from) n ms q s = refl
 waits_within nodes at (waits.InCount part c brace) n ms q s = refl
@@ -84,17 +86,18 @@ open_notes at d b = listed_break_if ((b == 40) && (d == 200)) (OverLimit at) ∙
 
 -- ---- whatever is waited for
 
-pub notes_are : (nodes more : List Node) (at here place d b : ℕ) (w next : Wait) (set : SetSoFar) (m : Mode) (es : List Entry) (t : State) → step_in m es b ≡ Some t → ShowsMode nodes at w m → ShowsMode more here next t.mode → IsSetIn set t.mode → (m ≡ Ready → place ≡ at) → ((i : Item) → m ≡ After i → place ≡ at + length (item i)) → listed (byte_break w next set d place b) ≡ byte_breaks at d m b
+pub notes_are : (nodes more : List Node) (at here place d b : ℕ) (w next : Wait) (set : SetSoFar) (m : Mode) (es : List Entry) (t : State) → step_in m es b ≡ Some t → ShowsMode nodes at w m → ShowsMode more here next t.mode → IsSetIn set t.mode → (m ≡ Ready → place ≡ at) → ((i : Item) → m ≡ After i → place ≡ at + length (item i)) → ((i : Item) (p : Postfix) → m ≡ Turned i p → place ≡ at + length (item i ++ postfix p)) → listed (byte_break w next set d place b) ≡ byte_breaks at d m b
 unfolding ShowsMode byte_break byte_breaks step_in
-notes_are nodes more at here place d b waits.Ready next set Ready es t e s sh i r f = open_notes place d b ∙ ap (λ (k : ℕ). nesting_breaks k d b) (r refl)
-notes_are nodes more at here place d b (waits.After part) next set (After j) es t e s sh i r f = open_notes place d b ∙ ap (λ (k : ℕ). nesting_breaks k d b) (f j refl)
-notes_are nodes more at here place d b (waits.InEscape x from) next set (InEscape g) es t e s sh i r f = refl
-notes_are nodes more at here place d b (waits.InSet n x p from) next set (InSet k ms q) es t e s sh i r f =
+notes_are nodes more at here place d b waits.Ready next set Ready es t e s sh i r f g = open_notes place d b ∙ ap (λ (k : ℕ). nesting_breaks k d b) (r refl)
+notes_are nodes more at here place d b (waits.After part) next set (After j) es t e s sh i r f g = open_notes place d b ∙ ap (λ (k : ℕ). nesting_breaks k d b) (f j refl)
+notes_are nodes more at here place d b (waits.Turned x) next set (Turned j p) es t e s sh i r f g = open_notes place d b ∙ ap (λ (k : ℕ). nesting_breaks k d b) (g j p refl)
+notes_are nodes more at here place d b (waits.InEscape x from) next set (InEscape y) es t e s sh i r f g = refl
+notes_are nodes more at here place d b (waits.InSet n x p from) next set (InSet k ms q) es t e s sh i r f g =
     ap (λ (y : ℕ). listed (cond (is_after next && is_bad_set_so_far set n) (Some (BadSet y)) None)) s.3
     ∙ set_notes more here at next set n es (set_step k ms q b) t e (subst (λ (y : Bool). NegatedIs y (set_step k ms q b)) (sym s.0) (step_negated k ms q b)) sh i
-notes_are nodes more at here place d b (waits.InCount part c brace) next set (InCount j x) es t e s sh i r f =
+notes_are nodes more at here place d b (waits.InCount part c brace) next set (InCount j x) es t e s sh i r f g =
     count_notes brace (count_outcome c b) (count_step x b) (count_refines c x b s.2) ∙ ap (λ (y : ℕ). count_breaks y (count_step x b)) s.3
-notes_are nodes more at here place d b _ next set _ es t e s sh i r f = absurd s
+notes_are nodes more at here place d b _ next set _ es t e s sh i r f g = absurd s
 
 -- ---- depth
 
@@ -167,6 +170,10 @@ after_depth d0 d i es b h =
     by_test P (b == 63) _ _ (λ e. no_paren d b 63 e refl refl ∙ h) (λ _.
     by_test P (b == 123) _ _ (λ e. no_paren d b 123 e refl refl ∙ h) (λ _. begin_depth d0 d (Read (Once i) ∷ es) b h))))
 
+pub turns_depth : (d0 d : ℕ) (i : Item) (p : Postfix) (es : List Entry) (b : ℕ) → d ≡ d0 + marks es → DepthGoes d0 (depth_after d b) (after_turns i p es b)
+unfolding after_turns DepthGoes marks
+turns_depth d0 d i p es b h = by_test (DepthGoes d0 (depth_after d b)) (b == 63) _ _ (λ e. no_paren d b 63 e refl refl ∙ h) (λ _. begin_depth d0 d (Read (Turns i p false) ∷ es) b h)
+
 pub escape_depth : (d0 d : ℕ) (es : List Entry) (t : EscapeStep) → d ≡ d0 + marks es → DepthGoes d0 d (on_escape es t)
 unfolding on_escape DepthGoes
 escape_depth d0 d es (EscapeOn e) h = h
@@ -189,6 +196,7 @@ pub depths_go : (nodes : List Node) (at d0 d b : ℕ) (w : Wait) (m : Mode) (es 
 unfolding ShowsMode next_depth step_in depth_after
 depths_go nodes at d0 d b waits.Ready Ready es s h = begin_depth d0 d es b h
 depths_go nodes at d0 d b (waits.After part) (After i) es s h = after_depth d0 d i es b h
+depths_go nodes at d0 d b (waits.Turned r) (Turned i p) es s h = turns_depth d0 d i p es b h
 depths_go nodes at d0 d b (waits.InEscape e from) (InEscape g) es s h = escape_depth d0 d es (escape_step g b) h
 depths_go nodes at d0 d b (waits.InSet n e p from) (InSet k ms q) es s h = set_depth d0 d es (set_step k ms q b) h
 depths_go nodes at d0 d b (waits.InCount part c brace) (InCount i e) es s h = count_depth d0 d i es (count_step e b) h
@@ -245,7 +253,7 @@ pub turn_least : (nodes more : List Node) (at d0 nested place b : ℕ) (fs gs : 
 unfolding step state_breaks
 turn_least nodes more at d0 nested place b fs gs w next set s t least new st e st' i p h l n =
     let here = at + length (entries s.entries) in
-    let notes : listed (byte_break w next set nested place b) ≡ byte_breaks here nested s.mode b = notes_are nodes more here (at + length (entries t.entries)) place nested b w next set s.mode s.entries t e st.mode st'.mode i (λ m. ready_place s at place m p) (λ j m. after_place s at place here j m refl p) in
+    let notes : listed (byte_break w next set nested place b) ≡ byte_breaks here nested s.mode b = notes_are nodes more here (at + length (entries t.entries)) place nested b w next set s.mode s.entries t e st.mode st'.mode i (λ m. ready_place s at place m p) (λ j m. after_place s at place here j m refl p) (λ j q m. turned_place s at place here j q m refl p) in
     let level : byte_breaks here nested s.mode b ≡ byte_breaks here (d0 + marks s.entries) s.mode b = ap (λ (x : ℕ). byte_breaks here x s.mode b) h in
     let went = went_breaks at d0 _ (step s b) t e (step_breaks_here at d0 s b) in
     least_listed least new ∙ ap (λ (x : Option Break). least_from least (listed x)) n ∙ ap (least_from least) (notes ∙ level)
@@ -274,6 +282,7 @@ pub finish_breaks : (base depth : ℕ) (m : Mode) (es : List Entry) (r : Regex) 
 unfolding finish_in mode_breaks entries_breaks entry_breaks piece_breaks
 finish_breaks base depth Ready es r e = append-nil (entries_breaks base depth es) ∙ sym (regex_break base depth es) ∙ whole_breaks base depth (take_regex es).0 (take_regex es).1 r e
 finish_breaks base depth (After i) es r e = sym (regex_break base depth (Read (Once i) ∷ es)) ∙ whole_breaks base depth (take_regex (Read (Once i) ∷ es)).0 (take_regex (Read (Once i) ∷ es)).1 r e
+finish_breaks base depth (Turned i p) es r e = sym (regex_break base depth (Read (Turns i p false) ∷ es)) ∙ whole_breaks base depth (take_regex (Read (Turns i p false) ∷ es)).0 (take_regex (Read (Turns i p false) ∷ es)).1 r e
 finish_breaks base depth (InEscape x) es r e = absurd cc
 finish_breaks base depth (InSet n ms p) es r e = absurd cc
 finish_breaks base depth (InCount i c) es r e = absurd cc

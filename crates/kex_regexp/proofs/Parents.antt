@@ -6,7 +6,11 @@ use Rattle.kex_code.specs.Codes.{IsAmong}
 use Rattle.kex_model.specs.declared.program.Node.{Node}
 use Rattle.kex_model.proofs.Shapes.{among-append, among_left, among_right}
 use Rattle.kex_regexp.specs.declared.constructs.Construct.{Construct}
+use Rattle.kex_regexp.specs.declared.constructs.Placed.{Placed}
+use Rattle.kex_regexp.specs.declared.counts.Bounds.{Bounds}
+use Rattle.kex_regexp.specs.declared.wait.Repetition.{Repetition}
 use Rattle.kex_regexp.specs.declared.wait.Wait.{Wait}
+use Rattle.kex_regexp.specs.declared.wait.Wait.TheVariants as waits
 use Rattle.kex_regexp.specs.declared.wait.StepFault.{StepFault}
 use Rattle.kex_regexp.specs.declared.fault.RegexFault.{RegexFault}
 use Rattle.kex_regexp.specs.declared.breaks.Break.{Break}
@@ -85,12 +89,25 @@ pub later : (r : Result Wait StepFault) (a b : List Node) (fs gs hs : List Const
 later (Ok next) a b fs gs hs v w f h = held_as a b _ _ _ _ f (λ n i. i) h
 later (Err e) a b fs gs hs v w f h = tt
 
+-- an item begins to take turns
+pub turned_held : (a : List Node) (fs : List Construct) (item : Placed) (r : Repetition) (b : Bounds) → r ≡ record { item = item; bounds = b } → NoneLost a a (IsHeld fs (waits.After item)) (IsHeld fs (waits.Turned r))
+turned_held a fs item r b e = subst (λ (x : Repetition). NoneLost a a (IsHeld fs (waits.After item)) (IsHeld fs (waits.Turned x))) (sym e) (none_added a _ _ (λ n h. h))
+
+-- a piece is ended, and then the step is made
+pub piece_then : (r : Result Wait StepFault) (a b c : List Node) (fs gs hs : List Construct) (w : Wait) → Adds b c → NoneLost a b (IsHeld fs w) (InConstructs gs) → LosesNone b c gs waits.Ready hs r → LosesNone a c fs w hs r
+piece_then (Ok next) a b c fs gs hs w k f g = none_lost a b c _ (InConstructs gs) _ k f (held_as b c _ _ _ _ (λ n i. inl i) (λ n i. i) g)
+piece_then (Err e) a b c fs gs hs w k f g = tt
+
 pub waiting : (w v : Wait) (a b : List Node) (fs gs : List Construct) (r : Result Wait StepFault) → w ≡ v → LosesNone a b fs v gs r → LosesNone a b fs w gs r
 waiting w v a b fs gs r e h = subst (λ (x : Wait). LosesNone a b fs x gs r) (sym e) h
 
 pub ended_as : (r : Result ℕ StepFault) (a b : List Node) (fs gs : List Construct) (w : Wait) {v : Wait} → w ≡ v → ((n : ℕ) → IsHeld fs v n → InConstructs gs n) → IfOk r (λ m. NoneLost a b (InConstructs gs) (λ n. n ≡ m)) → IfOk r (λ m. NoneLost a b (IsHeld fs w) (λ n. n ≡ m))
 ended_as (Ok m) a b fs gs w e f h = held_as a b _ _ _ _ (λ n i. f n (subst (λ (x : Wait). IsHeld fs x n) e i)) (λ n i. i) h
 ended_as (Err z) a b fs gs w e f h = tt
+
+pub ended_then : (r : Result ℕ StepFault) (a b c : List Node) (fs gs : List Construct) (w v : Wait) → w ≡ v → Adds b c → NoneLost a b (IsHeld fs v) (InConstructs gs) → IfOk r (λ m. NoneLost b c (InConstructs gs) (λ n. n ≡ m)) → IfOk r (λ m. NoneLost a c (IsHeld fs w) (λ n. n ≡ m))
+ended_then (Ok m) a b c fs gs w v e k f g = subst (λ (x : Wait). NoneLost a c (IsHeld fs x) (λ n. n ≡ m)) (sym e) (none_lost a b c _ (InConstructs gs) _ k f g)
+ended_then (Err z) a b c fs gs w v e k f g = tt
 
 pub unless_lost : (r : Result ℕ RegexFault) (least : Option Break) (node : ℕ) (a b : List Node) (B : ℕ → Type 0) → IfOk r (λ n. (n ≡ node) × (least ≡ None)) → NoneLost a b B (λ n. n ≡ node) → IfOk r (λ m. NoneLost a b B (λ n. n ≡ m))
 unless_lost (Ok m) least node a b B e h = subst (λ (x : ℕ). NoneLost a b B (λ n. n ≡ x)) (sym e.0) h

@@ -9,8 +9,11 @@ use Rattle.kex_regexp.specs.declared.sets.SetPart.TheVariants as parts
 use Rattle.kex_regexp.specs.declared.counts.Count.{Count}
 use Rattle.kex_regexp.specs.declared.counts.Count.TheVariants as counts
 use Rattle.kex_regexp.specs.Grammar.{is_digit, is_end, is_hex, is_punctuation, End, Itself, EscapedEnd, Member, Single, Range}
-use Rattle.kex_regexp.specs.Values.{escaped_byte, end_byte, number, number_from, low, high}
-use Rattle.kex_regexp.specs.Machine.{Escaping, Begun, HexBegun, HexOne, EscapeStep, EscapeOn, EscapeRead, EscapeWrong, escape_step, Part, AtStart, Between, HasEnd, HasDash, InFirst, InLast, begin_member, between_step, in_first, in_last, set_step, Counting, Opened, Low, LowComma, LowHigh, OnlyComma, High, count_step}
+use Rattle.kex_tokens.specs.Values.{number_of, number_behind}
+use Rattle.kex_regexp.specs.declared.counts.CountOutcome.{CountOutcome}
+use Rattle.kex_regexp.specs.Postfixes.{CountSign, Digits, CommaSign, CloseSign, NoSign, count_by, low, high}
+use Rattle.kex_regexp.specs.Values.{escaped_byte, end_byte}
+use Rattle.kex_regexp.specs.Machine.{Escaping, Begun, HexBegun, HexOne, EscapeStep, EscapeOn, EscapeRead, EscapeWrong, escape_step, Part, AtStart, Between, HasEnd, HasDash, InFirst, InLast, begin_member, between_step, in_first, in_last, set_step, Counting, Opened, Low, LowComma, LowHigh, OnlyComma, High, CountStep, count_sign, count_step}
 use Rattle.kex_regexp.specs.Holding.{is_empty, capped_count, ShowsEscape, ShowsPart, ShowsSet, ShowsCount, ShowsCountStep}
 use Rattle.kex_regexp.specs.Outcomes.{escape_outcome, begin_outcome, between_outcome, first_outcome, last_outcome, set_outcome, capped_number, count_outcome}
 
@@ -79,33 +82,39 @@ set_refines n e _ ms _ b h s = absurd s
 
 -- ---- counts
 
-pub number_from-more : (v : ℕ) (ds : List ℕ) (d : ℕ) → number_from v (ds ++ d ∷ []) ≡ 10 * number_from v ds + (d - 48)
-unfolding number_from
-number_from-more v [] d = refl
-number_from-more v (e ∷ ds) d = number_from-more (10 * v + (e - 48)) ds d
+pub number_behind-more : (v : ℕ) (ds : List ℕ) (d : ℕ) → number_behind v (ds ++ d ∷ []) ≡ 10 * number_behind v ds + (d - 48)
+unfolding number_behind
+number_behind-more v [] d = refl
+number_behind-more v (e ∷ ds) d = number_behind-more (10 * v + (e - 48)) ds d
 
 pub held_arith : (v x y d : ℕ) → v ≡ min x 1001 → y ≡ 10 * x + d → min (10 * min v 1001 + d) 1001 ≡ min y 1001
 held_arith v x y d e f = omega arith
 
-pub held_more : (v : ℕ) (ds : List ℕ) (d : ℕ) → v ≡ capped_count (number ds) → capped_number v d ≡ capped_count (number (ds ++ d ∷ []))
-unfolding capped_number number
-held_more v ds d e = held_arith v (number_from 0 ds) (number_from 0 (ds ++ d ∷ [])) (d - 48) e (number_from-more 0 ds d)
+pub held_more : (v : ℕ) (ds : List ℕ) (d : ℕ) → v ≡ capped_count (number_of ds) → capped_number v d ≡ capped_count (number_of (ds ++ d ∷ []))
+unfolding capped_number
+held_more v ds d e = held_arith v (number_of ds) (number_of (ds ++ d ∷ [])) (d - 48) e (number_behind-more 0 ds d)
 
-pub held_first_digit : (d : ℕ) → capped_number 0 d ≡ capped_count (number (d ∷ []))
-unfolding number number_from
+pub held_first_digit : (d : ℕ) → capped_number 0 d ≡ capped_count (number_of (d ∷ []))
+unfolding number_behind
 held_first_digit d = held_more 0 [] d refl
+
+-- what a byte makes of what the code holds shows what it makes of a count, whatever it is to one
+pub by_signs : (f : CountSign → CountStep) (b : ℕ) (d c e n : CountOutcome) → ShowsCountStep d (f (Digits (b ∷ []))) → ShowsCountStep c (f CommaSign) → ShowsCountStep e (f CloseSign) → ShowsCountStep n (f NoSign) → ShowsCountStep (cond (is_digit b) d (cond (b == 44) c (cond (b == 125) e n))) (f (count_sign b))
+unfolding count_sign
+by_signs f b d c e n sd sc se sn = go (is_digit b) (b == 44) (b == 125)
+  where
+    go : (x y z : Bool) → ShowsCountStep (cond x d (cond y c (cond z e n))) (f (cond x (Digits (b ∷ [])) (cond y CommaSign (cond z CloseSign NoSign))))
+    go true y z = sd
+    go false true z = sc
+    go false false true = se
+    go false false false = sn
 
 pub count_refines : (x : Count) (c : Counting) (b : ℕ) → ShowsCount x c → ShowsCountStep (count_outcome x b) (count_step c b)
 unfolding count_outcome count_step ShowsCount ShowsCountStep low high
-count_refines counts.Opened Opened b s =
-    by_both ShowsCountStep (is_digit b) _ _ _ _ (held_first_digit b) (by_both ShowsCountStep (b == 44) _ _ _ _ tt tt)
-count_refines (counts.Low v) (Low n) b s =
-    by_both ShowsCountStep (is_digit b) _ _ _ _ (held_more v n b s) (by_both ShowsCountStep (b == 44) _ _ _ _ s (by_both ShowsCountStep (b == 125) _ _ _ _ (s, ap Some s) tt))
-count_refines (counts.LowComma v) (LowComma n) b s =
-    by_both ShowsCountStep (is_digit b) _ _ _ _ (s, held_first_digit b) (by_both ShowsCountStep (b == 125) _ _ _ _ (s, refl) tt)
-count_refines (counts.LowHigh v w) (LowHigh n m) b s =
-    by_both ShowsCountStep (is_digit b) _ _ _ _ (s.0, held_more w m b s.1) (by_both ShowsCountStep (b == 125) _ _ _ _ (s.0, ap Some s.1) tt)
-count_refines counts.OnlyComma OnlyComma b s = by_both ShowsCountStep (is_digit b) _ _ _ _ (held_first_digit b) tt
-count_refines (counts.High w) (High m) b s =
-    by_both ShowsCountStep (is_digit b) _ _ _ _ (held_more w m b s) (by_both ShowsCountStep (b == 125) _ _ _ _ (refl, ap Some s) tt)
+count_refines counts.Opened Opened b s = by_signs (count_by true Opened) b _ _ _ _ (held_first_digit b) tt tt tt
+count_refines (counts.Low v) (Low n) b s = by_signs (count_by true (Low n)) b _ _ _ _ (held_more v n b s) s (s, ap Some s) tt
+count_refines (counts.LowComma v) (LowComma n) b s = by_signs (count_by true (LowComma n)) b _ _ _ _ (s, held_first_digit b) tt (s, refl) tt
+count_refines (counts.LowHigh v w) (LowHigh n m) b s = by_signs (count_by true (LowHigh n m)) b _ _ _ _ (s.0, held_more w m b s.1) tt (s.0, ap Some s.1) tt
+count_refines counts.OnlyComma OnlyComma b s = by_signs (count_by true OnlyComma) b _ _ _ _ (held_first_digit b) tt tt tt
+count_refines (counts.High w) (High m) b s = by_signs (count_by true (High m)) b _ _ _ _ (held_more w m b s) tt (refl, ap Some s) tt
 count_refines _ _ b s = absurd s

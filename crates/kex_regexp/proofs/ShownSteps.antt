@@ -17,16 +17,19 @@ use Rattle.kex_regexp.specs.declared.sets.SetPart.{SetPart}
 use Rattle.kex_regexp.specs.declared.sets.SetPart.TheVariants as parts
 use Rattle.kex_regexp.specs.declared.sets.SetOutcome.TheVariants as sets
 use Rattle.kex_regexp.specs.declared.sets.SetSoFar.{SetSoFar}
+use Rattle.kex_regexp.specs.declared.counts.Bounds.{Bounds}
 use Rattle.kex_regexp.specs.declared.counts.Count.{Count}
 use Rattle.kex_regexp.specs.declared.counts.Count.TheVariants as counts
 use Rattle.kex_regexp.specs.declared.counts.CountOutcome.TheVariants as outcomes
+use Rattle.kex_regexp.specs.declared.wait.Repetition.{Repetition}
 use Rattle.kex_regexp.specs.declared.wait.StepFault.{StepFault}
 use Rattle.kex_regexp.specs.declared.wait.StepFault.TheVariants as faults
-use Rattle.kex_regexp.specs.Grammar.{is_plain, Member, Postfix, Star, Plus, Quest, Regex, Branch, Empty, Once, Turns, Item, Plain, Escape, Escaped, Dot, Set, Group, piece, item}
-use Rattle.kex_regexp.specs.Values.{escaped_byte, membership, high, in_set, low}
+use Rattle.kex_regexp.specs.Grammar.{is_plain, Member, Postfix, ZeroOrMore, OneOrMore, Optional, Regex, Branch, Empty, Once, Turns, Item, Plain, Escape, Escaped, Dot, Set, Group, piece, item, postfix, lazy_mark}
+use Rattle.kex_regexp.specs.Postfixes.{high, low}
+use Rattle.kex_regexp.specs.Values.{escaped_byte, membership, in_set}
 use Rattle.kex_regexp.specs.Shown.{IsNode, Adds}
-use Rattle.kex_regexp.specs.Machine.{Part, Escaping, Begun, EscapeStep, EscapeOn, EscapeRead, EscapeWrong, SetStep, SetOn, SetRead, SetWrong, AtStart, Counting, Opened, CountStep, CountOn, CountRead, CountWrong, Entry, Mark, Ended, Read, Mode, Ready, After, InEscape, InSet, InCount, State, entries, entry, take_pieces, take_regex, goes, after_group, end_branch, begin_piece, after_item, on_escape, on_set, on_count, step_in, step, bytes_read, mode, escape_step, set_step, count_step}
-use Rattle.kex_regexp.specs.Holding.{HasMembers, IsSetAfter, IsSetIn, IsTurns, HoldsRegex, HoldsPiece, HoldsItem, ConstructsShow, BranchOn, RegexOn, Steps, ShowsMode, ShowsEscape, ShowsPart, ShowsSet, ShowsCount, ShowsCountStep, is_empty, capped_count, capped_bound}
+use Rattle.kex_regexp.specs.Machine.{Part, Escaping, Begun, EscapeStep, EscapeOn, EscapeRead, EscapeWrong, SetStep, SetOn, SetRead, SetWrong, AtStart, Counting, Opened, CountStep, CountOn, CountRead, CountWrong, Entry, Mark, Ended, Read, Mode, Ready, After, Turned, InEscape, InSet, InCount, State, entries, entry, take_pieces, take_regex, goes, after_group, end_branch, begin_piece, after_item, after_turns, on_escape, on_set, on_count, step_in, step, bytes_read, mode, escape_step, set_step, count_step}
+use Rattle.kex_regexp.specs.Holding.{HasMembers, HoldsBounds, IsSetAfter, IsSetIn, IsTurns, HoldsRegex, HoldsPiece, HoldsItem, ConstructsShow, BranchOn, RegexOn, Steps, ShowsMode, ShowsEscape, ShowsPart, ShowsSet, ShowsCount, ShowsCountStep, is_empty, capped_count, capped_bound}
 use Rattle.kex_regexp.proofs.Complete.{cond_no}
 use Rattle.kex_regexp.proofs.Stacks.{HoldsItem-more, ConstructsShow-more, reverse_push}
 
@@ -105,11 +108,11 @@ unclosed_steps nodes base old gs part t r none_on = subst (λ (x : Option State)
 
 -- ---- pieces with a postfix
 
-pub turns_steps : (nodes more : List Node) (base : ℕ) (fs gs : List Construct) (es : List Entry) (i : Item) (p : Postfix) (part : Placed) (n : ℕ) → ConstructsShow nodes base (reverse fs) es → part.at ≡ base + length (entries es) → HoldsItem i nodes part.node part.at → Adds nodes more → IsTurns p more n part.node part.at → gs ≡ fs ++ constructs.Piece n part.at ∷ [] → Steps more base gs (Ok waits.Ready) (goes Ready (Read (Turns i p) ∷ es))
+pub turns_shows : (nodes more : List Node) (base : ℕ) (fs gs : List Construct) (es : List Entry) (i : Item) (p : Postfix) (lazy : Bool) (r : Repetition) (n : ℕ) → ConstructsShow nodes base (reverse fs) es → r.item.at ≡ base + length (entries es) → HoldsItem i nodes r.item.node r.item.at → Adds nodes more → IsTurns p lazy more n r.item.node r.item.at → gs ≡ fs ++ constructs.Piece n r.item.at ∷ [] → ConstructsShow more base (reverse gs) (Read (Turns i p lazy) ∷ es)
 unfolding ConstructsShow HoldsPiece
-turns_steps nodes more base fs gs es i p part n below at shows k turns ge =
-    ready_steps more base gs (Read (Turns i p) ∷ es) (push_shows more base fs gs (constructs.Piece n part.at) (Read (Turns i p) ∷ es) ge
-    (at, (part.node, turns, HoldsItem-more i nodes more part.node part.at k shows), ConstructsShow-more nodes more base (reverse fs) es k below))
+turns_shows nodes more base fs gs es i p lazy r n below at shows k turns ge =
+    push_shows more base fs gs (constructs.Piece n r.item.at) (Read (Turns i p lazy) ∷ es) ge
+    (at, (r.item.node, turns, HoldsItem-more i nodes more r.item.node r.item.at k shows), ConstructsShow-more nodes more base (reverse fs) es k below)
 
 -- a leaf
 pub leaf_steps : (nodes more : List Node) (base : ℕ) (fs : List Construct) (es : List Entry) (i : Item) (s : List Bool) (at : ℕ) (r : Result Wait StepFault) → Adds nodes more → ConstructsShow nodes base (reverse fs) es → at ≡ base + length (entries es) → IfOk r (λ w. (n : ℕ) × (w ≡ waits.After (record { node = n; at = at })) × IsNode more n (kinds.Class s) at) → IfErr r (λ e. e ≡ faults.Memory) → ((n : ℕ) → IsNode more n (kinds.Class s) at → HoldsItem i more n at) → Steps more base fs r (goes (After i) es)
@@ -178,11 +181,20 @@ count_on_steps nodes base fs es i part c brace (CountOn d) h a q x s = record { 
 count_on_steps nodes base fs es i part c brace (CountRead p) h a q x s = absurd s
 count_on_steps nodes base fs es i part c brace CountWrong h a q x s = absurd s
 
-pub count_read_steps : (more : List Node) (base : ℕ) (gs : List Construct) (es : List Entry) (i : Item) (l : ℕ) (h : Option ℕ) (t : CountStep) (r : Result Wait StepFault) → ShowsCountStep (outcomes.Read l h) t → ((p : Postfix) → l ≡ capped_count (low p) → h ≡ capped_bound (high p) → Steps more base gs r (goes Ready (Read (Turns i p) ∷ es))) → Steps more base gs r (on_count i es t)
+-- an item with its postfix
+pub turned_steps : (nodes : List Node) (base : ℕ) (fs : List Construct) (es : List Entry) (i : Item) (p : Postfix) (r : Repetition) → ConstructsShow nodes base (reverse fs) es → r.item.at ≡ base + length (entries es) → HoldsItem i nodes r.item.node r.item.at → HoldsBounds r.bounds p → Steps nodes base fs (Ok (waits.Turned r)) (goes (Turned i p) es)
+unfolding Steps ShowsMode
+turned_steps nodes base fs es i p r h a x t = record { below = h; mode = (a, subst (λ (y : ℕ). HoldsItem i nodes r.item.node y) a x, t) }
+
+-- the item begins to take so many turns
+pub begins_turns : (nodes : List Node) (base : ℕ) (fs : List Construct) (es : List Entry) (i : Item) (p : Postfix) (r : Repetition) (item : Placed) (b : Bounds) → r ≡ record { item = item; bounds = b } → ConstructsShow nodes base (reverse fs) es → item.at ≡ base + length (entries es) → HoldsItem i nodes item.node item.at → HoldsBounds b p → Steps nodes base fs (Ok (waits.Turned r)) (goes (Turned i p) es)
+begins_turns nodes base fs es i p r item b e below a x t = subst (λ (y : Repetition). Steps nodes base fs (Ok (waits.Turned y)) (goes (Turned i p) es)) (sym e) (turned_steps nodes base fs es i p (record { item = item; bounds = b }) below a x t)
+
+pub count_read_steps : (nodes : List Node) (base : ℕ) (fs : List Construct) (es : List Entry) (i : Item) (r : Repetition) (t : CountStep) → ConstructsShow nodes base (reverse fs) es → r.item.at ≡ base + length (entries es) → HoldsItem i nodes r.item.node r.item.at → ShowsCountStep (outcomes.Read r.bounds) t → Steps nodes base fs (Ok (waits.Turned r)) (on_count i es t)
 unfolding on_count ShowsCountStep
-count_read_steps more base gs es i l h (CountOn d) r s f = absurd s
-count_read_steps more base gs es i l h (CountRead p) r s f = f p s.0 s.1
-count_read_steps more base gs es i l h CountWrong r s f = absurd s
+count_read_steps nodes base fs es i r (CountOn d) h a x s = absurd s
+count_read_steps nodes base fs es i r (CountRead p) h a x s = turned_steps nodes base fs es i p r h a x s
+count_read_steps nodes base fs es i r CountWrong h a x s = absurd s
 
 pub count_wrong_steps : (nodes : List Node) (base : ℕ) (fs : List Construct) (es : List Entry) (i : Item) (t : CountStep) → ShowsCountStep outcomes.Wrong t → Steps nodes base fs (Err faults.Wrong) (on_count i es t)
 unfolding on_count ShowsCountStep
@@ -233,15 +245,15 @@ count_begins_steps nodes base fs es i part at h a q x = record { below = h; mode
 pub behind_is : (i : Item) (es : List Entry) (b n : ℕ) (o : Option State) → b ≡ n → after_item i es n ≡ o → after_item i es b ≡ o
 behind_is i es b n o e f = ap (after_item i es) e ∙ f
 
-pub behind_star : (i : Item) (es : List Entry) → after_item i es 42 ≡ goes Ready (Read (Turns i Star) ∷ es)
+pub behind_star : (i : Item) (es : List Entry) → after_item i es 42 ≡ goes (Turned i ZeroOrMore) es
 unfolding after_item
 behind_star i es = refl
 
-pub behind_plus : (i : Item) (es : List Entry) → after_item i es 43 ≡ goes Ready (Read (Turns i Plus) ∷ es)
+pub behind_plus : (i : Item) (es : List Entry) → after_item i es 43 ≡ goes (Turned i OneOrMore) es
 unfolding after_item
 behind_plus i es = refl
 
-pub behind_quest : (i : Item) (es : List Entry) → after_item i es 63 ≡ goes Ready (Read (Turns i Quest) ∷ es)
+pub behind_quest : (i : Item) (es : List Entry) → after_item i es 63 ≡ goes (Turned i Optional) es
 unfolding after_item
 behind_quest i es = refl
 
@@ -253,29 +265,31 @@ pub behind_other : (i : Item) (es : List Entry) (b : ℕ) → (b ≡ 42 → ⊥)
 unfolding after_item
 behind_other i es b n1 n2 n3 n4 = cond_no (b == 42) _ _ (ne_eqb b 42 n1) ∙ cond_no (b == 43) _ _ (ne_eqb b 43 n2) ∙ cond_no (b == 63) _ _ (ne_eqb b 63 n3) ∙ cond_no (b == 123) _ _ (ne_eqb b 123 n4)
 
-pub star_low : 0 ≡ capped_count (low Star)
-unfolding low
-star_low = refl
+pub star_bounds : HoldsBounds (record { low = 0; high = None }) ZeroOrMore
+unfolding low high
+star_bounds = (refl, refl)
 
-pub star_high : None ≡ capped_bound (high Star)
-unfolding high
-star_high = refl
+pub plus_bounds : HoldsBounds (record { low = 1; high = None }) OneOrMore
+unfolding low high
+plus_bounds = (refl, refl)
 
-pub plus_low : 1 ≡ capped_count (low Plus)
-unfolding low
-plus_low = refl
+pub quest_bounds : HoldsBounds (record { low = 0; high = Some 1 }) Optional
+unfolding low high
+quest_bounds = (refl, refl)
 
-pub plus_high : None ≡ capped_bound (high Plus)
-unfolding high
-plus_high = refl
+-- ---- behind a postfix
 
-pub quest_low : 0 ≡ capped_count (low Quest)
-unfolding low
-quest_low = refl
+pub turned_lazy : (i : Item) (p : Postfix) (es : List Entry) (b : ℕ) → b ≡ 63 → after_turns i p es b ≡ goes Ready (Read (Turns i p true) ∷ es)
+unfolding after_turns
+turned_lazy i p es b e = ap (after_turns i p es) e
 
-pub quest_high : Some 1 ≡ capped_bound (high Quest)
-unfolding high
-quest_high = refl
+pub turned_other : (i : Item) (p : Postfix) (es : List Entry) (b : ℕ) → (b ≡ 63 → ⊥) → after_turns i p es b ≡ begin_piece (Read (Turns i p false) ∷ es) b
+unfolding after_turns
+turned_other i p es b n = cond_no (b == 63) _ _ (ne_eqb b 63 n)
+
+pub eager_ends : (base at from : ℕ) (es : List Entry) (i : Item) (p : Postfix) → from ≡ base + length (entries es) → at ≡ from + length (item i ++ postfix p) → at ≡ base + length (entries (Read (Turns i p false) ∷ es))
+unfolding entries entry piece lazy_mark
+eager_ends base at from es i p a b = omega (arith, a, b, length-append (entries es) (item i ++ (postfix p ++ [])), length-append (item i) (postfix p ++ []), length-append (item i) (postfix p), length-append (postfix p) [])
 
 -- the item becomes a piece
 pub once_shows : (nodes : List Node) (base : ℕ) (fs gs : List Construct) (es : List Entry) (i : Item) (part : Placed) → ConstructsShow nodes base (reverse fs) es → part.at ≡ base + length (entries es) → HoldsItem i nodes part.node part.at → gs ≡ fs ++ constructs.Piece part.node part.at ∷ [] → ConstructsShow nodes base (reverse gs) (Read (Once i) ∷ es)
@@ -292,6 +306,7 @@ pub mode_ready : (nodes : List Node) (at : ℕ) (m : Mode) → ShowsMode nodes a
 unfolding ShowsMode
 mode_ready nodes at Ready s = refl
 mode_ready nodes at (After i) s = absurd s
+mode_ready nodes at (Turned i p) s = absurd s
 mode_ready nodes at (InEscape e) s = absurd s
 mode_ready nodes at (InSet n ms p) s = absurd s
 mode_ready nodes at (InCount i c) s = absurd s
@@ -306,14 +321,33 @@ pub mode_after : (nodes : List Node) (at : ℕ) (part : Placed) (m : Mode) → S
 unfolding ShowsMode
 mode_after nodes at part Ready s = absurd s
 mode_after nodes at part (After i) s = record { tree = i; is = refl; place = s.0; shows = subst (λ (x : ℕ). HoldsItem i nodes part.node x) (sym s.0) s.1 }
+mode_after nodes at part (Turned i p) s = absurd s
 mode_after nodes at part (InEscape e) s = absurd s
 mode_after nodes at part (InSet n ms p) s = absurd s
 mode_after nodes at part (InCount i c) s = absurd s
+
+pub record IsTurned (nodes : List Node) (at : ℕ) (r : Repetition) (m : Mode) : Type 0 where
+  pub tree : Item
+  pub postfix : Postfix
+  pub is : m ≡ Turned tree postfix
+  pub place : r.item.at ≡ at
+  pub shows : HoldsItem tree nodes r.item.node r.item.at
+  pub turns : HoldsBounds r.bounds postfix
+
+pub mode_turned : (nodes : List Node) (at : ℕ) (r : Repetition) (m : Mode) → ShowsMode nodes at (waits.Turned r) m → IsTurned nodes at r m
+unfolding ShowsMode
+mode_turned nodes at r Ready s = absurd s
+mode_turned nodes at r (After i) s = absurd s
+mode_turned nodes at r (Turned i p) s = record { tree = i; postfix = p; is = refl; place = s.0; shows = subst (λ (x : ℕ). HoldsItem i nodes r.item.node x) (sym s.0) s.1; turns = s.2 }
+mode_turned nodes at r (InEscape e) s = absurd s
+mode_turned nodes at r (InSet n ms p) s = absurd s
+mode_turned nodes at r (InCount i c) s = absurd s
 
 pub mode_escape : (nodes : List Node) (at : ℕ) (e : Escaping) (from : ℕ) (m : Mode) → ShowsMode nodes at (waits.InEscape e from) m → (m ≡ InEscape e) × (from ≡ at)
 unfolding ShowsMode
 mode_escape nodes at e from Ready s = absurd s
 mode_escape nodes at e from (After i) s = absurd s
+mode_escape nodes at e from (Turned i p) s = absurd s
 mode_escape nodes at e from (InEscape f) s = (ap InEscape (sym s.0), s.1)
 mode_escape nodes at e from (InSet n ms p) s = absurd s
 mode_escape nodes at e from (InCount i c) s = absurd s
@@ -329,6 +363,7 @@ pub mode_set : (nodes : List Node) (at : ℕ) (n e : Bool) (p : SetPart) (from :
 unfolding ShowsMode
 mode_set nodes at n e p from Ready s = absurd s
 mode_set nodes at n e p from (After i) s = absurd s
+mode_set nodes at n e p from (Turned i q) s = absurd s
 mode_set nodes at n e p from (InEscape f) s = absurd s
 mode_set nodes at n e p from (InSet k ms q) s = (record { members = ms; part = q; is = ap (λ (x : Bool). InSet x ms q) (sym s.0); empty = s.1; shows = s.2 }, s.3)
 mode_set nodes at n e p from (InCount i c) s = absurd s
@@ -346,6 +381,7 @@ pub mode_count : (nodes : List Node) (at : ℕ) (part : Placed) (c : Count) (bra
 unfolding ShowsMode
 mode_count nodes at part c brace Ready s = absurd s
 mode_count nodes at part c brace (After i) s = absurd s
+mode_count nodes at part c brace (Turned i p) s = absurd s
 mode_count nodes at part c brace (InEscape f) s = absurd s
 mode_count nodes at part c brace (InSet k ms q) s = absurd s
 mode_count nodes at part c brace (InCount i d) s = record { tree = i; counting = d; is = refl; place = s.0; shows = subst (λ (x : ℕ). HoldsItem i nodes part.node x) (sym s.0) s.1; count = s.2; opened = omega (arith, s.3, s.0) }
@@ -366,6 +402,10 @@ pub after_place : (s : State) (base at from : ℕ) (i : Item) → s.mode ≡ Aft
 unfolding mode
 after_place s base at from i e f a = omega (arith, a, f, spelled_mode s (After i) e)
 
+pub turned_place : (s : State) (base at from : ℕ) (i : Item) (p : Postfix) → s.mode ≡ Turned i p → from ≡ base + length (entries s.entries) → at ≡ base + length (bytes_read s) → at ≡ from + length (item i ++ postfix p)
+unfolding mode
+turned_place s base at from i p e f a = omega (arith, a, f, spelled_mode s (Turned i p) e)
+
 pub step_ready : (s : State) (b : ℕ) → s.mode ≡ Ready → step s b ≡ begin_piece s.entries b
 unfolding step_in
 step_ready s b e = step_mode s b Ready e
@@ -373,6 +413,10 @@ step_ready s b e = step_mode s b Ready e
 pub step_after : (s : State) (b : ℕ) (i : Item) → s.mode ≡ After i → step s b ≡ after_item i s.entries b
 unfolding step_in
 step_after s b i e = step_mode s b (After i) e
+
+pub step_turned : (s : State) (b : ℕ) (i : Item) (p : Postfix) → s.mode ≡ Turned i p → step s b ≡ after_turns i p s.entries b
+unfolding step_in
+step_turned s b i p e = step_mode s b (Turned i p) e
 
 pub step_escape : (s : State) (b : ℕ) (x : Escaping) → s.mode ≡ InEscape x → step s b ≡ on_escape s.entries (escape_step x b)
 unfolding step_in

@@ -3,8 +3,9 @@ use Rattle.std.proofs.Common.{◌≡◌, ℕ, Bool, true, false, cond, List, [],
 use Rattle.std.specs.Prelude.{◌==◌}
 use Rattle.std.proofs.lemmas.Bool.{eqb-true, eqb-false, ne_eqb, false≢true}
 use Rattle.std.proofs.lemmas.List.{append-nil}
-use Rattle.kex_regexp.specs.Grammar.{is_plain, is_punctuation, is_digit, is_hex, is_end, Escape, End, Itself, EscapedEnd, Member, Single, Range, Postfix, Star, Plus, Quest, Regex, Last, Or, Branch, Empty, Then, Once, Turns, Item, Plain, Escaped, Dot, Set, Group, escape, end_of, member, members, caret, postfix, regex, branch, piece, item, IsEscape, IsEnd, IsMember, AreMembers, begins_with_caret, IsSet, AreDigits, IsNumber, IsPostfix, IsRegex, IsBranch, IsPiece, IsItem}
-use Rattle.kex_regexp.specs.Machine.{entry, entries, escaping, part, set_so_far, counting, mode, bytes_read, Escaping, Begun, HexBegun, HexOne, EscapeStep, EscapeOn, EscapeRead, EscapeWrong, escape_step, Part, AtStart, Between, HasEnd, HasDash, InFirst, InLast, SetStep, SetOn, SetRead, SetWrong, begin_member, between_step, in_first, in_last, set_step, Counting, Opened, Low, LowComma, LowHigh, OnlyComma, High, CountStep, CountOn, CountRead, CountWrong, count_step, Entry, Mark, Ended, Read, Mode, Ready, After, InEscape, InSet, InCount, State, take_pieces, take_branches, take_regex, goes, after_group, end_branch, begin_piece, after_item, on_escape, on_set, on_count, step_in, step, next, state_after, whole_regex, finish_in, start}
+use Rattle.kex_regexp.specs.Grammar.{is_plain, is_punctuation, is_digit, is_hex, is_end, Escape, End, Itself, EscapedEnd, Member, Single, Range, Postfix, ZeroOrMore, OneOrMore, Optional, Regex, Last, Or, Branch, Empty, Then, Once, Turns, Item, Plain, Escaped, Dot, Set, Group, escape, end_of, member, members, caret, postfix, lazy_mark, regex, branch, piece, item, IsEscape, IsEnd, IsMember, AreMembers, begins_with_caret, IsSet, AreDigits, IsNumber, IsPostfix, IsRegex, IsBranch, IsPiece, IsItem}
+use Rattle.kex_regexp.specs.Postfixes.{CountSign, Digits, CommaSign, CloseSign, NoSign, count_by}
+use Rattle.kex_regexp.specs.Machine.{entry, entries, escaping, part, set_so_far, counting, mode, bytes_read, Escaping, Begun, HexBegun, HexOne, EscapeStep, EscapeOn, EscapeRead, EscapeWrong, escape_step, Part, AtStart, Between, HasEnd, HasDash, InFirst, InLast, SetStep, SetOn, SetRead, SetWrong, begin_member, between_step, in_first, in_last, set_step, Counting, Opened, Low, LowComma, LowHigh, OnlyComma, High, CountStep, CountOn, CountRead, CountWrong, count_sign, count_step, Entry, Mark, Ended, Read, Mode, Ready, After, Turned, InEscape, InSet, InCount, State, take_pieces, take_branches, take_regex, goes, after_group, end_branch, begin_piece, after_item, after_turns, on_escape, on_set, on_count, step_in, step, next, state_after, whole_regex, finish_in, start}
 
 -- a choice by a test has what both sides have
 pub by_test : {A : Type 0} (P : A → Type 0) (b : Bool) (x y : A) → (b ≡ true → P x) → (b ≡ false → P y) → P (cond b x y)
@@ -267,32 +268,32 @@ pub digit_alone : (b : ℕ) → is_digit b ≡ true → IsNumber (b ∷ [])
 unfolding IsNumber AreDigits
 digit_alone b e = (e, tt)
 
+-- what a byte is to a count
+pub by_sign : (P : CountSign → Type 0) (b : ℕ) → (is_digit b ≡ true → P (Digits (b ∷ []))) → ((b == 44) ≡ true → P CommaSign) → ((b == 125) ≡ true → P CloseSign) → P NoSign → P (count_sign b)
+unfolding count_sign
+by_sign P b d c e n = by_test P (is_digit b) _ _ d (λ _. by_test P (b == 44) _ _ c (λ _. by_test P (b == 125) _ _ e (λ _. n)))
+
 pub count_sound : (c : Counting) (b : ℕ) → IsCounting c → CountGoes ((123 ∷ counting c) ++ b ∷ []) (count_step c b)
 unfolding count_step counting IsCounting CountGoes IsPostfix postfix
 count_sound Opened b good =
-    let P = CountGoes (123 ∷ b ∷ []) in
-    by_test P (is_digit b) _ _ (λ e. (digit_alone b e, refl)) (λ n.
-    by_test P (b == 44) _ _ (λ e. (tt, ap (λ (c : ℕ). 123 ∷ c ∷ []) (is_code b 44 e))) (λ m. tt))
+    by_sign (λ s. CountGoes (123 ∷ b ∷ []) (count_by true Opened s)) b (λ e. (digit_alone b e, refl)) (λ e. (tt, ap (λ (c : ℕ). 123 ∷ c ∷ []) (is_code b 44 e))) (λ _. tt) tt
 count_sound (Low n) b good =
-    let P = CountGoes (123 ∷ n ++ b ∷ []) in
-    by_test P (is_digit b) _ _ (λ e. (IsNumber-more n b good e, refl)) (λ _.
-    by_test P (b == 44) _ _ (λ e. (good, ap (λ (c : ℕ). 123 ∷ n ++ c ∷ []) (is_code b 44 e))) (λ _.
-    by_test P (b == 125) _ _ (λ e. (good, ap (λ (c : ℕ). 123 ∷ n ++ c ∷ []) (is_code b 125 e))) (λ _. tt)))
+    by_sign (λ s. CountGoes (123 ∷ n ++ b ∷ []) (count_by true (Low n) s)) b
+    (λ e. (IsNumber-more n b good e, refl))
+    (λ e. (good, ap (λ (c : ℕ). 123 ∷ n ++ c ∷ []) (is_code b 44 e)))
+    (λ e. (good, ap (λ (c : ℕ). 123 ∷ n ++ c ∷ []) (is_code b 125 e))) tt
 count_sound (LowComma n) b good =
-    let P = CountGoes (123 ∷ (n ++ 44 ∷ []) ++ b ∷ []) in
     let more : (c : ℕ) → c ≡ b → 123 ∷ n ++ 44 ∷ c ∷ [] ≡ 123 ∷ (n ++ 44 ∷ []) ++ b ∷ [] = λ c e. ap (λ (x : ℕ). 123 ∷ n ++ 44 ∷ x ∷ []) e ∙ ap (λ (w : List ℕ). 123 ∷ w) (sym (append_assoc n (44 ∷ []) (b ∷ []))) in
-    by_test P (is_digit b) _ _ (λ e. ((good, digit_alone b e), more b refl)) (λ _.
-    by_test P (b == 125) _ _ (λ e. (good, more 125 (is_code b 125 e))) (λ _. tt))
+    by_sign (λ s. CountGoes (123 ∷ (n ++ 44 ∷ []) ++ b ∷ []) (count_by true (LowComma n) s)) b
+    (λ e. ((good, digit_alone b e), more b refl)) (λ _. tt) (λ e. (good, more 125 (is_code b 125 e))) tt
 count_sound (LowHigh n m) b good =
-    let P = CountGoes (123 ∷ (n ++ 44 ∷ m) ++ b ∷ []) in
     let more : (c : ℕ) → c ≡ b → 123 ∷ n ++ (44 ∷ m ++ c ∷ []) ≡ 123 ∷ (n ++ 44 ∷ m) ++ b ∷ [] = λ c e. ap (λ (x : ℕ). 123 ∷ n ++ (44 ∷ m ++ x ∷ [])) e ∙ ap (λ (w : List ℕ). 123 ∷ w) (sym (append_assoc n (44 ∷ m) (b ∷ []))) in
-    by_test P (is_digit b) _ _ (λ e. ((good.0, IsNumber-more m b good.1 e), more b refl)) (λ _.
-    by_test P (b == 125) _ _ (λ e. (good, more 125 (is_code b 125 e))) (λ _. tt))
-count_sound OnlyComma b good = by_test (CountGoes (123 ∷ 44 ∷ b ∷ [])) (is_digit b) _ _ (λ e. (digit_alone b e, refl)) (λ _. tt)
+    by_sign (λ s. CountGoes (123 ∷ (n ++ 44 ∷ m) ++ b ∷ []) (count_by true (LowHigh n m) s)) b
+    (λ e. ((good.0, IsNumber-more m b good.1 e), more b refl)) (λ _. tt) (λ e. (good, more 125 (is_code b 125 e))) tt
+count_sound OnlyComma b good = by_sign (λ s. CountGoes (123 ∷ 44 ∷ b ∷ []) (count_by true OnlyComma s)) b (λ e. (digit_alone b e, refl)) (λ _. tt) (λ _. tt) tt
 count_sound (High m) b good =
-    let P = CountGoes (123 ∷ 44 ∷ m ++ b ∷ []) in
-    by_test P (is_digit b) _ _ (λ e. (IsNumber-more m b good e, refl)) (λ _.
-    by_test P (b == 125) _ _ (λ e. (good, ap (λ (c : ℕ). 123 ∷ 44 ∷ m ++ c ∷ []) (is_code b 125 e))) (λ _. tt))
+    by_sign (λ s. CountGoes (123 ∷ 44 ∷ m ++ b ∷ []) (count_by true (High m) s)) b
+    (λ e. (IsNumber-more m b good e, refl)) (λ _. tt) (λ e. (good, ap (λ (c : ℕ). 123 ∷ 44 ∷ m ++ c ∷ []) (is_code b 125 e))) tt
 
 -- ---- what stands open
 
@@ -308,6 +309,7 @@ AreEntries (e ∷ es) = IsEntry e × AreEntries es
 unfoldable pub IsMode : Mode → Type 0
 IsMode Ready = Unit {0}
 IsMode (After i) = IsItem i
+IsMode (Turned i p) = IsItem i × IsPostfix p
 IsMode (InEscape e) = IsEscaping e
 IsMode (InSet negated ms p) = IsPart negated ms p
 IsMode (InCount i c) = IsItem i × IsCounting c
@@ -396,14 +398,14 @@ piece_sound es b h =
     by_test P (b == 124) _ _ (λ e. bar_sound (take_pieces es Empty) (entries es) b p.good p.rest (p.same ∙ append-nil (entries es)) e) (λ _.
     by_test P (b == 41) _ _ (λ e. close_sound (take_regex es).0 (take_regex es).1 (entries es) b r.good r.rest r.same e) (λ _. tt)))))))
 
-pub turns_read : (i : Item) (p : Postfix) (es : List Entry) (w : List ℕ) → AreEntries es → IsItem i → IsPostfix p → entries es ++ (item i ++ postfix p) ≡ w → Goes w (goes Ready (Read (Turns i p) ∷ es))
-unfolding mode IsMode entries entry AreEntries IsEntry piece IsPiece IsItem
-turns_read i p es w h k q e = went Ready (Read (Turns i p) ∷ es) w ((k, q), h) tt (append-nil (entries es ++ (item i ++ postfix p)) ∙ e)
+pub turns_read : (i : Item) (p : Postfix) (es : List Entry) (w : List ℕ) → AreEntries es → IsItem i → IsPostfix p → entries es ++ (item i ++ postfix p) ≡ w → Goes w (goes (Turned i p) es)
+unfolding mode IsMode
+turns_read i p es w h k q e = went (Turned i p) es w h (k, q) e
 
 pub behind_item : (es : List Entry) (i : Item) (v u : List ℕ) (b : ℕ) → u ≡ v ++ b ∷ [] → entries es ++ (item i ++ u) ≡ (entries es ++ (item i ++ v)) ++ b ∷ []
 behind_item es i v u b e = ap (λ (x : List ℕ). entries es ++ (item i ++ x)) e ∙ ap (λ (x : List ℕ). entries es ++ x) (sym (append_assoc (item i) v (b ∷ []))) ∙ sym (append_assoc (entries es) (item i ++ v) (b ∷ []))
 
-pub sign_read : (i : Item) (p : Postfix) (n : ℕ) (es : List Entry) (b : ℕ) → AreEntries es → IsItem i → IsPostfix p → postfix p ≡ n ∷ [] → (b == n) ≡ true → Goes ((entries es ++ item i) ++ b ∷ []) (goes Ready (Read (Turns i p) ∷ es))
+pub sign_read : (i : Item) (p : Postfix) (n : ℕ) (es : List Entry) (b : ℕ) → AreEntries es → IsItem i → IsPostfix p → postfix p ≡ n ∷ [] → (b == n) ≡ true → Goes ((entries es ++ item i) ++ b ∷ []) (goes (Turned i p) es)
 sign_read i p n es b h k q e c =
     turns_read i p es _ h k q (ap (λ (u : List ℕ). entries es ++ (item i ++ u)) (e ∙ ap (λ (x : ℕ). x ∷ []) (is_code b n c)) ∙ sym (append_assoc (entries es) (item i) (b ∷ [])))
 
@@ -415,11 +417,23 @@ pub after_sound : (i : Item) (es : List Entry) (b : ℕ) → AreEntries es → I
 unfolding after_item mode IsMode counting IsCounting IsPostfix postfix AreEntries IsEntry IsPiece IsItem
 after_sound i es b h k =
     let P = Goes ((entries es ++ item i) ++ b ∷ []) in
-    by_test P (b == 42) _ _ (λ e. sign_read i Star 42 es b h k tt refl e) (λ _.
-    by_test P (b == 43) _ _ (λ e. sign_read i Plus 43 es b h k tt refl e) (λ _.
-    by_test P (b == 63) _ _ (λ e. sign_read i Quest 63 es b h k tt refl e) (λ _.
+    by_test P (b == 42) _ _ (λ e. sign_read i ZeroOrMore 42 es b h k tt refl e) (λ _.
+    by_test P (b == 43) _ _ (λ e. sign_read i OneOrMore 43 es b h k tt refl e) (λ _.
+    by_test P (b == 63) _ _ (λ e. sign_read i Optional 63 es b h k tt refl e) (λ _.
     by_test P (b == 123) _ _ (λ e. went (InCount i Opened) es _ h (k, tt) (ap (λ (x : ℕ). entries es ++ (item i ++ x ∷ [])) (is_code b 123 e) ∙ sym (append_assoc (entries es) (item i) (b ∷ [])))) (λ _.
     subst (λ (w : List ℕ). Goes (w ++ b ∷ []) (begin_piece (Read (Once i) ∷ es) b)) (once_in es i) (piece_sound (Read (Once i) ∷ es) b (k, h))))))
+
+-- a piece with a postfix that isn't lazy
+pub eager_in : (es : List Entry) (i : Item) (p : Postfix) → entries (Read (Turns i p false) ∷ es) ≡ entries es ++ (item i ++ postfix p)
+unfolding entries entry piece lazy_mark
+eager_in es i p = ap (λ (u : List ℕ). entries es ++ (item i ++ u)) (append-nil (postfix p))
+
+pub turned_sound : (i : Item) (p : Postfix) (es : List Entry) (b : ℕ) → AreEntries es → IsItem i → IsPostfix p → Goes ((entries es ++ (item i ++ postfix p)) ++ b ∷ []) (after_turns i p es b)
+unfolding after_turns mode IsMode entries entry piece lazy_mark AreEntries IsEntry IsPiece IsItem
+turned_sound i p es b h k q =
+    by_test (Goes ((entries es ++ (item i ++ postfix p)) ++ b ∷ [])) (b == 63) _ _
+    (λ e. went Ready (Read (Turns i p true) ∷ es) _ ((k, q), h) tt (append-nil (entries es ++ (item i ++ (postfix p ++ 63 ∷ []))) ∙ behind_item es i (postfix p) (postfix p ++ 63 ∷ []) b (ap (λ (x : ℕ). postfix p ++ x ∷ []) (is_code b 63 e))))
+    (λ _. subst (λ (w : List ℕ). Goes (w ++ b ∷ []) (begin_piece (Read (Turns i p false) ∷ es) b)) (eager_in es i p) (piece_sound (Read (Turns i p false) ∷ es) b ((k, q), h)))
 
 pub escape_on : (es : List Entry) (v : List ℕ) (b : ℕ) (t : EscapeStep) → AreEntries es → EscapeGoes (v ++ b ∷ []) t → Goes ((entries es ++ v) ++ b ∷ []) (on_escape es t)
 unfolding on_escape EscapeGoes mode IsMode item IsItem Goes
@@ -443,6 +457,7 @@ pub step_sound_in : (m : Mode) (es : List Entry) (b : ℕ) → AreEntries es →
 unfolding step_in mode IsMode
 step_sound_in Ready es b h k = subst (λ (w : List ℕ). Goes (w ++ b ∷ []) (begin_piece es b)) (sym (append-nil (entries es))) (piece_sound es b h)
 step_sound_in (After i) es b h k = after_sound i es b h k
+step_sound_in (Turned i p) es b h k = turned_sound i p es b h k.0 k.1
 step_sound_in (InEscape e) es b h k = escape_on es (escaping e) b (escape_step e b) h (escape_sound e b k)
 step_sound_in (InSet negated ms p) es b h k = set_on es (set_so_far negated ms p) b (set_step negated ms p b) h (set_sound negated ms p b k)
 step_sound_in (InCount i c) es b h k = count_on i es (123 ∷ counting c) b (count_step c b) h k.0 (count_sound c b k.1)
@@ -482,6 +497,7 @@ pub finish_sound_in : (m : Mode) (es : List Entry) → AreEntries es → IsMode 
 unfolding finish_in mode IsMode Finishes AreEntries IsEntry IsPiece IsItem
 finish_sound_in Ready es h k = subst (λ (w : List ℕ). Finishes w (whole_regex (take_regex es))) (sym (append-nil (entries es))) (taken_sound es h)
 finish_sound_in (After i) es h k = subst (λ (w : List ℕ). Finishes w (whole_regex (take_regex (Read (Once i) ∷ es)))) (once_in es i) (taken_sound (Read (Once i) ∷ es) (k, h))
+finish_sound_in (Turned i p) es h k = subst (λ (w : List ℕ). Finishes w (whole_regex (take_regex (Read (Turns i p false) ∷ es)))) (eager_in es i p) (taken_sound (Read (Turns i p false) ∷ es) (k, h))
 finish_sound_in (InEscape e) es h k = tt
 finish_sound_in (InSet negated ms p) es h k = tt
 finish_sound_in (InCount i c) es h k = tt

@@ -8,7 +8,7 @@ use Rattle.kex_regexp.specs.declared.constructs.Construct.{Construct}
 use Rattle.kex_regexp.specs.declared.constructs.Construct.TheVariants as constructs
 use Rattle.kex_regexp.specs.declared.constructs.Placed.{Placed}
 use Rattle.kex_regexp.specs.Grammar.{Regex, Last, Or, Branch, Empty, Then, Piece, Once, Turns, Item, Plain, Escaped, Dot, Set, Group, Postfix, branch, piece}
-use Rattle.kex_regexp.specs.Breaks.{is_bad_count}
+use Rattle.kex_regexp.specs.Postfixes.{is_bad_count}
 use Rattle.kex_regexp.specs.Shown.{IsNode, Adds}
 use Rattle.kex_regexp.specs.Machine.{Entry, Mark, Ended, Read, entries, entry, take_pieces, take_branches, take_regex}
 use Rattle.kex_regexp.proofs.Additions.{stays, Adds-to, added}
@@ -19,8 +19,8 @@ turns_more true A B C f h = h
 turns_more false A B C f h = f h
 
 -- an item with its postfix
-pub turns-more : (p : Postfix) (a b : List Node) (n l at : ℕ) → Adds a b → IsTurns p a n l at → IsTurns p b n l at
-turns-more p a b n l at k h = turns_more (is_bad_count p) _ _ _ (stays a b k n _) h
+pub turns-more : (p : Postfix) (lazy : Bool) (a b : List Node) (n l at : ℕ) → Adds a b → IsTurns p lazy a n l at → IsTurns p lazy b n l at
+turns-more p lazy a b n l at k h = turns_more (is_bad_count p) _ _ _ (stays a b k n _) h
 
 mutual
   unfolding HoldsRegex HoldsBranch HoldsPiece HoldsItem
@@ -36,7 +36,7 @@ mutual
 
   pub HoldsPiece-more : (p : Piece) (a b : List Node) (n at : ℕ) → Adds a b → HoldsPiece p a n at → HoldsPiece p b n at
   HoldsPiece-more (Once i) a b n at k h = HoldsItem-more i a b n at k h
-  HoldsPiece-more (Turns i p) a b n at k h = (h.0, turns-more p a b n h.0 at k h.1, HoldsItem-more i a b h.0 at k h.2)
+  HoldsPiece-more (Turns i p lazy) a b n at k h = (h.0, turns-more p lazy a b n h.0 at k h.1, HoldsItem-more i a b h.0 at k h.2)
 
   pub HoldsItem-more : (i : Item) (a b : List Node) (n at : ℕ) → Adds a b → HoldsItem i a n at → HoldsItem i b n at
   HoldsItem-more (Plain c) a b n at k h = (h.0, h.1, stays a b k n _ h.2)

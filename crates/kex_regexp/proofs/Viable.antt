@@ -2,9 +2,9 @@
 use Rattle.std.proofs.Common.{◌≡◌, ℕ, Bool, true, false, List, [], ◌∷◌, ◌++◌, Option, Some, None, refl, sym, ap, ◌∙◌, subst, append_assoc}
 use Rattle.std.proofs.lemmas.List.{append-nil}
 use Rattle.std.proofs.lemmas.Bool.{false≢true}
-use Rattle.kex_regexp.specs.Grammar.{is_digit, is_hex, is_end, Escape, Newline, Hex, End, Itself, EscapedEnd, Member, Single, Range, Postfix, Exactly, AtLeast, AtMost, Within, Regex, Last, Or, Branch, Empty, Then, Piece, Once, Turns, Item, Escaped, Set, Group, escape, end_of, member, members, caret, postfix, regex, branch, piece, item, IsEscape, IsEnd, IsMember, AreMembers, begins_with_caret, IsSet, AreDigits, IsNumber, IsPostfix, IsRegex, IsBranch, IsPiece, IsItem}
+use Rattle.kex_regexp.specs.Grammar.{is_digit, is_hex, is_end, Escape, Newline, Hex, End, Itself, EscapedEnd, Member, Single, Range, Postfix, Exactly, AtLeast, AtMost, FromTo, Regex, Last, Or, Branch, Empty, Then, Piece, Once, Turns, Item, Escaped, Set, Group, escape, end_of, member, members, caret, postfix, lazy_mark, regex, branch, piece, item, IsEscape, IsEnd, IsMember, AreMembers, begins_with_caret, IsSet, AreDigits, IsNumber, IsPostfix, IsRegex, IsBranch, IsPiece, IsItem}
 use Rattle.kex_regexp.specs.Bodies.{Spells, IsBody, BeginsBody}
-use Rattle.kex_regexp.specs.Machine.{entry, entries, escaping, part, set_so_far, counting, mode, bytes_read, Escaping, Begun, HexBegun, HexOne, Part, AtStart, Between, HasEnd, HasDash, InFirst, InLast, Counting, Opened, Low, LowComma, LowHigh, OnlyComma, High, Entry, Mark, Ended, Read, Mode, Ready, After, InEscape, InSet, InCount, State, take_branches, take_regex, state_after, whole_regex, finish_in, finish, start}
+use Rattle.kex_regexp.specs.Machine.{entry, entries, escaping, part, set_so_far, counting, mode, bytes_read, Escaping, Begun, HexBegun, HexOne, Part, AtStart, Between, HasEnd, HasDash, InFirst, InLast, Counting, Opened, Low, LowComma, LowHigh, OnlyComma, High, Entry, Mark, Ended, Read, Mode, Ready, After, Turned, InEscape, InSet, InCount, State, take_branches, take_regex, state_after, whole_regex, finish_in, finish, start}
 use Rattle.kex_regexp.proofs.Sound.{IsEscaping, Fine, IsNone, IsPart, members-append, Fine-first, Fine-range, IsCounting, IsEntry, AreEntries, IsMode, IsState, Goes, reads_sound, start_sound, finish_sound_in, Finishes, no_caret}
 use Rattle.kex_regexp.proofs.Complete.{MayBegin, regex_onto, IsBase, regex_taken, Begins, regex_reads, reads-append, reads_none}
 
@@ -207,25 +207,28 @@ unfolding counting IsCounting postfix IsPostfix
 count_front Opened h = record { more = 49 ∷ 125 ∷ []; tree = Exactly (49 ∷ []); well = one_number; same = refl }
 count_front (Low n) h = record { more = 125 ∷ []; tree = Exactly n; well = h; same = refl }
 count_front (LowComma n) h = record { more = 125 ∷ []; tree = AtLeast n; well = h; same = ap (λ (w : List ℕ). 123 ∷ w) (sym (append_assoc n (44 ∷ []) (125 ∷ []))) }
-count_front (LowHigh n m) h = record { more = 125 ∷ []; tree = Within n m; well = h; same = ap (λ (w : List ℕ). 123 ∷ w) (sym (append_assoc n (44 ∷ m) (125 ∷ []))) }
+count_front (LowHigh n m) h = record { more = 125 ∷ []; tree = FromTo n m; well = h; same = ap (λ (w : List ℕ). 123 ∷ w) (sym (append_assoc n (44 ∷ m) (125 ∷ []))) }
 count_front OnlyComma h = record { more = 49 ∷ 125 ∷ []; tree = AtMost (49 ∷ []); well = one_number; same = refl }
 count_front (High m) h = record { more = 125 ∷ []; tree = AtMost m; well = h; same = refl }
 
-pub turns_well : (i : Item) (p : Postfix) → IsItem i → IsPostfix p → IsRegex (Last (Then (Turns i p) Empty))
+pub turns_well : (i : Item) (p : Postfix) → IsItem i → IsPostfix p → IsRegex (Last (Then (Turns i p false) Empty))
 unfolding IsRegex IsBranch IsPiece
 turns_well i p h k = ((h, k), tt)
 
-pub turns_is : (i : Item) (p : Postfix) → regex (Last (Then (Turns i p) Empty)) ≡ item i ++ postfix p
-unfolding regex branch piece
-turns_is i p = append-nil (item i ++ postfix p)
+pub turns_is : (i : Item) (p : Postfix) → regex (Last (Then (Turns i p false) Empty)) ≡ item i ++ postfix p
+unfolding regex branch piece lazy_mark
+turns_is i p = append-nil (item i ++ (postfix p ++ [])) ∙ ap (λ (w : List ℕ). item i ++ w) (append-nil (postfix p))
 
 pub regroup4 : (a b c d e : List ℕ) → (a ++ (b ++ (c ++ d))) ++ e ≡ (a ++ (b ++ c)) ++ (d ++ e)
 regroup4 a b c d e = simp append_assoc
 
 pub piece_front : (es : List Entry) → AreEntries es → (i : Item) → IsItem i → (w : List ℕ) → PostfixFor w → Completes (entries es ++ (item i ++ w))
 piece_front es h i k w x =
-    let c = plug es h (Last (Then (Turns i x.tree) Empty)) (turns_well i x.tree k x.well) in
+    let c = plug es h (Last (Then (Turns i x.tree false) Empty)) (turns_well i x.tree k x.well) in
     record { more = x.more ++ c.more; tree = c.tree; well = c.well; same = c.same ∙ ap (λ (v : List ℕ). (entries es ++ v) ++ c.more) (turns_is i x.tree ∙ ap (λ (v : List ℕ). item i ++ v) x.same) ∙ regroup4 (entries es) (item i) w x.more c.more }
+
+pub postfix_front : (p : Postfix) → IsPostfix p → PostfixFor (postfix p)
+postfix_front p h = record { more = []; tree = p; well = h; same = sym (append-nil (postfix p)) }
 
 pub item_front : (i : Item) → IsItem i → ItemFor (item i)
 item_front i h = record { more = []; tree = i; well = h; same = sym (append-nil (item i)) }
@@ -246,6 +249,7 @@ pub mode_completes : (m : Mode) (es : List Entry) → AreEntries es → IsMode m
 unfolding mode IsMode
 mode_completes Ready es h k = subst (λ (w : List ℕ). Completes (entries es ++ w)) empty_is (plug es h (Last Empty) empty_well)
 mode_completes (After i) es h k = plug_item es h (item i) (item_front i k)
+mode_completes (Turned i p) es h k = piece_front es h i k.0 (postfix p) (postfix_front p k.1)
 mode_completes (InEscape e) es h k = plug_item es h (escaping e) (escape_front e k)
 mode_completes (InSet negated ms p) es h k = plug_item es h (set_so_far negated ms p) (set_front negated ms p k)
 mode_completes (InCount i c) es h k = piece_front es h i k.0 (123 ∷ counting c) (count_front c k.1)
@@ -278,6 +282,7 @@ pub ends : (m : Mode) (es : List Entry) (r : Regex) → MayBegin m es (regex_ont
 unfolding MayBegin finish finish_in IsBase take_branches whole_regex
 ends Ready es r q = ap (λ (x : List Entry). whole_regex (take_regex x)) q ∙ ap whole_regex (regex_taken r [] tt)
 ends (After i) es r q = ap (λ (x : List Entry). whole_regex (take_regex x)) q ∙ ap whole_regex (regex_taken r [] tt)
+ends (Turned i p) es r q = ap (λ (x : List Entry). whole_regex (take_regex x)) q ∙ ap whole_regex (regex_taken r [] tt)
 ends (InEscape e) es r q = absurd q
 ends (InSet negated ms p) es r q = absurd q
 ends (InCount i c) es r q = absurd q

@@ -3,18 +3,9 @@ use Rattle.std.specs.Prelude.{◌≡◌, ℕ, ◌+◌, Bool, true, false, not, �
 use Rattle.kex_code.specs.Codes.{IsAmong}
 pub use Rattle.kex_regexp.specs.declared.breaks.Break.{Break}
 pub use Rattle.kex_regexp.specs.declared.breaks.Break.TheVariants.{BadRegex, BadCount, BadSet, OverLimit}
-use Rattle.kex_regexp.specs.Grammar.{Member, Postfix, Star, Plus, Quest, Exactly, AtLeast, AtMost, Within, Regex, Last, Or, Branch, Empty, Then, Piece, Once, Turns, Item, Plain, Escaped, Dot, Set, Group, branch, piece, item}
-use Rattle.kex_regexp.specs.Values.{number, in_set, has_backward, any_below}
-
--- a count above 1000, or one that is below the count before it
-abbrev pub is_bad_count : Postfix → Bool
-is_bad_count Star = false
-is_bad_count Plus = false
-is_bad_count Quest = false
-is_bad_count (Exactly n) = nat_lt 1000 (number n)
-is_bad_count (AtLeast n) = nat_lt 1000 (number n)
-is_bad_count (AtMost m) = nat_lt 1000 (number m)
-is_bad_count (Within n m) = nat_lt 1000 (number n) || nat_lt 1000 (number m) || nat_lt (number m) (number n)
+use Rattle.kex_regexp.specs.Grammar.{Member, Regex, Last, Or, Branch, Empty, Then, Piece, Once, Turns, Item, Plain, Escaped, Dot, Set, Group, branch, piece, item}
+use Rattle.kex_regexp.specs.Postfixes.{is_bad_count}
+use Rattle.kex_regexp.specs.Values.{in_set, has_backward, any_below}
 
 -- a range whose first byte is above its last, or no byte at all
 abbrev pub is_bad_set : Bool → List Member → Bool
@@ -37,7 +28,7 @@ unfoldable mutual
 
   pub piece_breaks : Piece → ℕ → ℕ → List Break
   piece_breaks (Once i) at depth = item_breaks i at depth
-  piece_breaks (Turns i p) at depth = item_breaks i at depth ++ break_if (is_bad_count p) (BadCount (at + length (item i)))
+  piece_breaks (Turns i p lazy) at depth = item_breaks i at depth ++ break_if (is_bad_count p) (BadCount (at + length (item i)))
 
   pub item_breaks : Item → ℕ → ℕ → List Break
   item_breaks (Plain b) at depth = []

@@ -1,6 +1,8 @@
 -- The grammar of regex bodies, as trees, one constructor for each alternative of a rule, and what each tree spells.
 use Rattle.std.specs.Char.{is_ascii_digit, is_ascii_hexdigit, is_ascii_punctuation}
 use Rattle.kex_tokens.specs.Bytes as byte
+use Rattle.kex_regexp.specs.Postfixes.{Signs, spelled, lazy_sign}
+pub use Rattle.kex_regexp.specs.Postfixes.{Postfix, ZeroOrMore, OneOrMore, Optional, Exactly, AtLeast, AtMost, FromTo}
 use Rattle.std.specs.Prelude.{◌≡◌, ℕ, Bool, true, false, List, [], ◌∷◌, ◌++◌, ◌==◌, if◌then◌else◌}
 
 -- ---- which bytes are what
@@ -48,17 +50,7 @@ pub data Member : Type 0 where
   Single : (end : End) → Member
   Range : (first last : End) → Member
 
--- the digits of a count
-pub data Postfix : Type 0 where
-  Star : Postfix
-  Plus : Postfix
-  Quest : Postfix
-  Exactly : (n : List ℕ) → Postfix
-  AtLeast : (n : List ℕ) → Postfix
-  AtMost : (m : List ℕ) → Postfix
-  Within : (n m : List ℕ) → Postfix
-
--- ---- regex = branch { "|" branch }, branch = { piece }, piece = item [ postfix ]
+-- ---- regex = branch { "|" branch }, branch = { piece }, piece = item [ postfix [ "?" ] ]
 
 mutual
   pub data Regex : Type 0 where
@@ -71,7 +63,7 @@ mutual
 
   pub data Piece : Type 0 where
     Once : (item : Item) → Piece
-    Turns : (item : Item) → (postfix : Postfix) → Piece
+    Turns : (item : Item) → (postfix : Postfix) → (lazy : Bool) → Piece
 
   pub data Item : Type 0 where
     Plain : (byte : ℕ) → Item
@@ -105,14 +97,15 @@ unfoldable pub caret : Bool → List ℕ
 caret true = byte.caret ∷ []
 caret false = []
 
+-- a number is its digits
+abbrev pub signs : Signs ℕ
+signs = record { star = byte.asterisk; plus = byte.plus; question = byte.question; open_brace = byte.open_brace; comma = byte.comma; close_brace = byte.close_brace; number = λ digits. digits }
+
 unfoldable pub postfix : Postfix → List ℕ
-postfix Star = byte.asterisk ∷ []
-postfix Plus = byte.plus ∷ []
-postfix Quest = byte.question ∷ []
-postfix (Exactly n) = byte.open_brace ∷ n ++ byte.close_brace ∷ []
-postfix (AtLeast n) = byte.open_brace ∷ n ++ byte.comma ∷ byte.close_brace ∷ []
-postfix (AtMost m) = byte.open_brace ∷ byte.comma ∷ m ++ byte.close_brace ∷ []
-postfix (Within n m) = byte.open_brace ∷ n ++ (byte.comma ∷ m ++ byte.close_brace ∷ [])
+postfix p = spelled signs p
+
+unfoldable pub lazy_mark : Bool → List ℕ
+lazy_mark lazy = lazy_sign signs lazy
 
 unfoldable mutual
   pub regex : Regex → List ℕ
@@ -125,7 +118,7 @@ unfoldable mutual
 
   pub piece : Piece → List ℕ
   piece (Once i) = item i
-  piece (Turns i p) = item i ++ postfix p
+  piece (Turns i p lazy) = item i ++ (postfix p ++ lazy_mark lazy)
 
   pub item : Item → List ℕ
   item (Plain b) = b ∷ []
@@ -176,13 +169,13 @@ IsNumber [] = ⊥
 IsNumber (d ∷ ds) = (is_digit d ≡ true) × AreDigits ds
 
 unfoldable pub IsPostfix : Postfix → Type 0
-IsPostfix Star = Unit {0}
-IsPostfix Plus = Unit {0}
-IsPostfix Quest = Unit {0}
+IsPostfix ZeroOrMore = Unit {0}
+IsPostfix OneOrMore = Unit {0}
+IsPostfix Optional = Unit {0}
 IsPostfix (Exactly n) = IsNumber n
 IsPostfix (AtLeast n) = IsNumber n
 IsPostfix (AtMost m) = IsNumber m
-IsPostfix (Within n m) = IsNumber n × IsNumber m
+IsPostfix (FromTo n m) = IsNumber n × IsNumber m
 
 unfoldable mutual
   pub IsRegex : Regex → Type 0
@@ -195,7 +188,7 @@ unfoldable mutual
 
   pub IsPiece : Piece → Type 0
   IsPiece (Once i) = IsItem i
-  IsPiece (Turns i p) = IsItem i × IsPostfix p
+  IsPiece (Turns i p lazy) = IsItem i × IsPostfix p
 
   pub IsItem : Item → Type 0
   IsItem (Plain b) = is_plain b ≡ true

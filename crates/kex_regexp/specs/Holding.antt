@@ -1,9 +1,10 @@
 -- What the reader holds while it reads: nodes, constructs, a set, a count, each against what the machine holds.
-use Rattle.std.specs.Prelude.{◌≡◌, ℕ, ◌+◌, Bool, true, false, List, [], ◌∷◌, length, reverse, Option, Some, None, Result, Ok, Err, IfOk, MatchBool, min, ◌==◌, ◌⊎◌}
+use Rattle.std.specs.Prelude.{◌≡◌, ℕ, ◌+◌, Bool, true, false, List, [], ◌∷◌, ◌++◌, length, reverse, Option, Some, None, Result, Ok, Err, IfOk, MatchBool, min, ◌==◌, ◌⊎◌}
 use Rattle.kex_byteset.specs.Sets.{HasExactly}
 use Rattle.kex_code.specs.Codes.{IsAmong}
 use Rattle.kex_model.specs.declared.program.Kind.TheVariants as kinds
 use Rattle.kex_model.specs.declared.program.Node.{Node}
+use Rattle.kex_regexp.specs.declared.counts.Bounds.{Bounds}
 use Rattle.kex_regexp.specs.declared.counts.Count.{Count}
 use Rattle.kex_regexp.specs.declared.counts.Count.TheVariants as counts
 use Rattle.kex_regexp.specs.declared.counts.CountOutcome.{CountOutcome}
@@ -18,22 +19,24 @@ use Rattle.kex_regexp.specs.declared.sets.SetOutcome.TheVariants as sets
 use Rattle.kex_regexp.specs.declared.sets.SetPart.{SetPart}
 use Rattle.kex_regexp.specs.declared.sets.SetPart.TheVariants as parts
 use Rattle.kex_regexp.specs.declared.sets.SetSoFar.{SetSoFar}
+use Rattle.kex_regexp.specs.declared.wait.Repetition.{Repetition}
 use Rattle.kex_regexp.specs.declared.wait.StepFault.{StepFault}
 use Rattle.kex_regexp.specs.declared.wait.StepFault.TheVariants as faults
 use Rattle.kex_regexp.specs.declared.wait.Wait.{Wait}
 use Rattle.kex_regexp.specs.declared.wait.Wait.TheVariants as waits
-use Rattle.kex_regexp.specs.Breaks.{is_bad_count}
-use Rattle.kex_regexp.specs.Grammar.{item, is_hex, Member, Postfix, Regex, Last, Or, Branch, Empty, Then, Piece, Once, Turns, Item, Plain, Escaped, Dot, Set, Group, branch, piece}
-use Rattle.kex_regexp.specs.Machine.{Escaping, Begun, HexBegun, HexOne, EscapeStep, EscapeOn, EscapeRead, EscapeWrong, Part, AtStart, Between, HasEnd, HasDash, InFirst, InLast, SetStep, SetOn, SetRead, SetWrong, Counting, Opened, Low, LowComma, LowHigh, OnlyComma, High, CountStep, CountOn, CountRead, CountWrong, Entry, Mark, Ended, Read, Mode, Ready, After, InEscape, InSet, InCount, State, entries, bytes_read}
+use Rattle.kex_regexp.specs.Grammar.{item, is_hex, Member, Regex, Last, Or, Branch, Empty, Then, Piece, Once, Turns, Item, Plain, Escaped, Dot, Set, Group, branch, piece, postfix}
+use Rattle.kex_regexp.specs.Machine.{Escaping, Begun, HexBegun, HexOne, EscapeStep, EscapeOn, EscapeRead, EscapeWrong, Part, AtStart, Between, HasEnd, HasDash, InFirst, InLast, SetStep, SetOn, SetRead, SetWrong, Counting, Opened, Low, LowComma, LowHigh, OnlyComma, High, CountStep, CountOn, CountRead, CountWrong, Entry, Mark, Ended, Read, Mode, Ready, After, Turned, InEscape, InSet, InCount, State, entries, bytes_read}
 use Rattle.kex_regexp.specs.Parents.{NoneLost}
+use Rattle.kex_regexp.specs.Postfixes.{Postfix, high, is_bad_count, low}
 use Rattle.kex_regexp.specs.Shown.{IsNode, IsClass}
-use Rattle.kex_regexp.specs.Values.{end_byte, escaped_byte, has_backward, high, in_members, in_set, low, number}
+use Rattle.kex_regexp.specs.Values.{end_byte, escaped_byte, has_backward, in_members, in_set}
+use Rattle.kex_tokens.specs.Values.{number_of}
 
 -- ---- nodes: as in ShowsRegex, but where a count is bad its item stands alone
 
--- item l with this postfix is node n
-abbrev pub IsTurns : Postfix → List Node → ℕ → ℕ → ℕ → Type 0
-IsTurns p nodes n l at = MatchBool (is_bad_count p) (n ≡ l) (IsNode nodes n (kinds.Rep l (low p) (high p) false) at)
+-- item l with this postfix, which is lazy or not, is node n
+abbrev pub IsTurns : Postfix → Bool → List Node → ℕ → ℕ → ℕ → Type 0
+IsTurns p lazy nodes n l at = MatchBool (is_bad_count p) (n ≡ l) (IsNode nodes n (kinds.Rep l (low p) (high p) lazy) at)
 
 unfoldable mutual
   pub HoldsRegex : Regex → List Node → ℕ → ℕ → Type 0
@@ -47,7 +50,7 @@ unfoldable mutual
 
   pub HoldsPiece : Piece → List Node → ℕ → ℕ → Type 0
   HoldsPiece (Once i) nodes n at = HoldsItem i nodes n at
-  HoldsPiece (Turns i p) nodes n at = (l : ℕ) × IsTurns p nodes n l at × HoldsItem i nodes l at
+  HoldsPiece (Turns i p lazy) nodes n at = (l : ℕ) × IsTurns p lazy nodes n l at × HoldsItem i nodes l at
 
   pub HoldsItem : Item → List Node → ℕ → ℕ → Type 0
   HoldsItem (Plain byte) nodes n at = IsClass nodes n (λ b. b == byte) at
@@ -141,18 +144,22 @@ abbrev pub capped_bound : Option ℕ → Option ℕ
 capped_bound None = None
 capped_bound (Some n) = Some (capped_count n)
 
+-- these are the least and the greatest number of turns
+abbrev pub HoldsBounds : Bounds → Postfix → Type 0
+HoldsBounds b p = (b.low ≡ capped_count (low p)) × (b.high ≡ capped_bound (high p))
+
 unfoldable pub ShowsCount : Count → Counting → Type 0
 ShowsCount counts.Opened Opened = Unit {0}
-ShowsCount (counts.Low v) (Low n) = v ≡ capped_count (number n)
-ShowsCount (counts.LowComma v) (LowComma n) = v ≡ capped_count (number n)
-ShowsCount (counts.LowHigh v w) (LowHigh n m) = (v ≡ capped_count (number n)) × (w ≡ capped_count (number m))
+ShowsCount (counts.Low v) (Low n) = v ≡ capped_count (number_of n)
+ShowsCount (counts.LowComma v) (LowComma n) = v ≡ capped_count (number_of n)
+ShowsCount (counts.LowHigh v w) (LowHigh n m) = (v ≡ capped_count (number_of n)) × (w ≡ capped_count (number_of m))
 ShowsCount counts.OnlyComma OnlyComma = Unit {0}
-ShowsCount (counts.High w) (High m) = w ≡ capped_count (number m)
+ShowsCount (counts.High w) (High m) = w ≡ capped_count (number_of m)
 ShowsCount _ _ = ⊥
 
 unfoldable pub ShowsCountStep : CountOutcome → CountStep → Type 0
 ShowsCountStep (outcomes.On c) (CountOn d) = ShowsCount c d
-ShowsCountStep (outcomes.Read l h) (CountRead p) = (l ≡ capped_count (low p)) × (h ≡ capped_bound (high p))
+ShowsCountStep (outcomes.Read b) (CountRead p) = HoldsBounds b p
 ShowsCountStep outcomes.Wrong CountWrong = Unit {0}
 ShowsCountStep _ _ = ⊥
 
@@ -162,6 +169,7 @@ ShowsCountStep _ _ = ⊥
 unfoldable pub ShowsMode : List Node → ℕ → Wait → Mode → Type 0
 ShowsMode nodes at waits.Ready Ready = Unit {0}
 ShowsMode nodes at (waits.After part) (After i) = (part.at ≡ at) × HoldsItem i nodes part.node at
+ShowsMode nodes at (waits.Turned r) (Turned i p) = (r.item.at ≡ at) × HoldsItem i nodes r.item.node at × HoldsBounds r.bounds p
 ShowsMode nodes at (waits.InEscape e from) (InEscape f) = (e ≡ f) × (from ≡ at)
 ShowsMode nodes at (waits.InSet negated empty p from) (InSet n ms q) = (negated ≡ n) × (empty ≡ is_empty ms) × ShowsPart p q × (from ≡ at)
 ShowsMode nodes at (waits.InCount part c brace) (InCount i d) = (part.at ≡ at) × HoldsItem i nodes part.node at × ShowsCount c d × (brace ≡ at + length (item i))
@@ -202,11 +210,18 @@ SomeState nodes fs wait at = (base : ℕ) × (s : State) × ShowsState nodes bas
 abbrev pub SomeBehind : List Node → List Construct → Placed → ℕ → Type 0
 SomeBehind nodes fs part at = (base : ℕ) × (es : List Entry) × (i : Item) × ConstructsShow nodes base (reverse fs) es × (part.at ≡ base + length (entries es)) × (at ≡ part.at + length (item i)) × HoldsItem i nodes part.node part.at
 
+abbrev pub SomeTurned : List Node → List Construct → Repetition → ℕ → Type 0
+SomeTurned nodes fs r at = (base : ℕ) × (es : List Entry) × (i : Item) × (p : Postfix) × ConstructsShow nodes base (reverse fs) es × (r.item.at ≡ base + length (entries es)) × (at ≡ r.item.at + length (item i ++ postfix p)) × HoldsItem i nodes r.item.node r.item.at × HoldsBounds r.bounds p
+
 -- ---- what clauses say
 
 -- where the constructs show entries, behind which stands an item with this node
 abbrev pub OnItem : List Node → List Construct → Placed → (ℕ → List Entry → Item → Type 0) → Type 0
 OnItem nodes constructs placed Says = (base : ℕ) (es : List Entry) (i : Item) → ConstructsShow nodes base (reverse constructs) es → placed.at ≡ base + length (entries es) → HoldsItem i nodes placed.node placed.at → Says base es i
+
+-- and where the item has this postfix
+abbrev pub OnTurned : List Node → List Construct → Repetition → (ℕ → List Entry → Item → Postfix → Type 0) → Type 0
+OnTurned nodes constructs r Says = (base : ℕ) (es : List Entry) (i : Item) (p : Postfix) → ConstructsShow nodes base (reverse constructs) es → r.item.at ≡ base + length (entries es) → HoldsItem i nodes r.item.node r.item.at → HoldsBounds r.bounds p → Says base es i p
 
 -- ---- nodes that are held: they have no parent yet
 
@@ -220,6 +235,7 @@ InConstructs fs n = (f : Construct) × IsAmong fs f × InConstruct f n
 
 abbrev pub InWait : Wait → ℕ → Type 0
 InWait (waits.After item) n = n ≡ item.node
+InWait (waits.Turned r) n = n ≡ r.item.node
 InWait (waits.InCount item count brace) n = n ≡ item.node
 InWait _ n = ⊥
 

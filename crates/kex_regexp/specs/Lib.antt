@@ -4,6 +4,7 @@ pub mod Breaks
 pub mod Bodies
 pub mod Shown
 pub mod Parents
+pub mod Postfixes
 pub mod Machine
 pub mod Holding
 pub mod Outcomes

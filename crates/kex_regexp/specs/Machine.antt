@@ -3,7 +3,9 @@ use Rattle.kex_tokens.specs.Bytes as byte
 use Rattle.std.specs.Prelude.{ℕ, Bool, true, false, List, [], ◌∷◌, ◌++◌, Option, Some, None, ◌==◌, if◌then◌else◌}
 pub use Rattle.kex_regexp.specs.declared.escapes.Escaping.{Escaping}
 pub use Rattle.kex_regexp.specs.declared.escapes.Escaping.TheVariants.{Begun, HexBegun, HexOne}
-use Rattle.kex_regexp.specs.Grammar.{is_plain, is_punctuation, is_digit, is_hex, is_end, Escape, Newline, Tab, Return, Hex, Punctuation, End, Itself, EscapedEnd, Member, Single, Range, Postfix, Star, Plus, Quest, Exactly, AtLeast, AtMost, Within, Regex, Last, Or, Branch, Empty, Then, Piece, Once, Turns, Item, Plain, Escaped, Dot, Set, Group, branch, piece, item, caret, members, end_of}
+use Rattle.kex_regexp.specs.Grammar.{is_plain, is_punctuation, is_digit, is_hex, is_end, Escape, Newline, Tab, Return, Hex, Punctuation, End, Itself, EscapedEnd, Member, Single, Range, Regex, Last, Or, Branch, Empty, Then, Piece, Once, Turns, Item, Plain, Escaped, Dot, Set, Group, branch, piece, item, caret, members, end_of, signs, postfix}
+use Rattle.kex_regexp.specs.Postfixes.{Postfix, ZeroOrMore, OneOrMore, Optional, CountSign, Digits, CommaSign, CloseSign, NoSign, count_by, counted}
+pub use Rattle.kex_regexp.specs.Postfixes.{Counting, Opened, Low, LowComma, LowHigh, OnlyComma, High, CountStep, CountOn, CountRead, CountWrong}
 
 -- ---- an escape
 
@@ -78,26 +80,11 @@ ended_members (InLast first e) b = last_members first (escape_step e b)
 
 -- ---- a count in braces
 
-pub data Counting : Type 0 where
-  Opened : Counting
-  Low : (n : List ℕ) → Counting
-  LowComma : (n : List ℕ) → Counting
-  LowHigh : (n m : List ℕ) → Counting
-  OnlyComma : Counting
-  High : (m : List ℕ) → Counting
-
-pub data CountStep : Type 0 where
-  CountOn : Counting → CountStep
-  CountRead : Postfix → CountStep
-  CountWrong : CountStep
+unfoldable pub count_sign : ℕ → CountSign
+count_sign b = if is_digit b then Digits (b ∷ []) else if b == byte.comma then CommaSign else if b == byte.close_brace then CloseSign else NoSign
 
 unfoldable pub count_step : Counting → ℕ → CountStep
-count_step Opened b = if is_digit b then CountOn (Low (b ∷ [])) else if b == byte.comma then CountOn OnlyComma else CountWrong
-count_step (Low n) b = if is_digit b then CountOn (Low (n ++ b ∷ [])) else if b == byte.comma then CountOn (LowComma n) else if b == byte.close_brace then CountRead (Exactly n) else CountWrong
-count_step (LowComma n) b = if is_digit b then CountOn (LowHigh n (b ∷ [])) else if b == byte.close_brace then CountRead (AtLeast n) else CountWrong
-count_step (LowHigh n m) b = if is_digit b then CountOn (LowHigh n (m ++ b ∷ [])) else if b == byte.close_brace then CountRead (Within n m) else CountWrong
-count_step OnlyComma b = if is_digit b then CountOn (High (b ∷ [])) else CountWrong
-count_step (High m) b = if is_digit b then CountOn (High (m ++ b ∷ [])) else if b == byte.close_brace then CountRead (AtMost m) else CountWrong
+count_step c b = count_by true c (count_sign b)
 
 -- ---- the whole
 
@@ -111,6 +98,7 @@ pub data Entry : Type 0 where
 pub data Mode : Type 0 where
   Ready : Mode
   After : (item : Item) → Mode
+  Turned : (item : Item) → (postfix : Postfix) → Mode
   InEscape : Escaping → Mode
   InSet : (negated : Bool) → (ms : List Member) → Part → Mode
   InCount : (item : Item) → Counting → Mode
@@ -162,11 +150,15 @@ begin_piece es b =
 
 unfoldable pub after_item : Item → List Entry → ℕ → Option State
 after_item i es b =
-    if b == byte.asterisk then goes Ready (Read (Turns i Star) ∷ es)
-    else if b == byte.plus then goes Ready (Read (Turns i Plus) ∷ es)
-    else if b == byte.question then goes Ready (Read (Turns i Quest) ∷ es)
+    if b == byte.asterisk then goes (Turned i ZeroOrMore) es
+    else if b == byte.plus then goes (Turned i OneOrMore) es
+    else if b == byte.question then goes (Turned i Optional) es
     else if b == byte.open_brace then goes (InCount i Opened) es
     else begin_piece (Read (Once i) ∷ es) b
+
+-- behind a postfix: what makes it lazy, or what follows the piece
+unfoldable pub after_turns : Item → Postfix → List Entry → ℕ → Option State
+after_turns i p es b = if b == byte.question then goes Ready (Read (Turns i p true) ∷ es) else begin_piece (Read (Turns i p false) ∷ es) b
 
 unfoldable pub on_escape : List Entry → EscapeStep → Option State
 on_escape es (EscapeOn e) = goes (InEscape e) es
@@ -180,12 +172,13 @@ on_set es SetWrong = None
 
 unfoldable pub on_count : Item → List Entry → CountStep → Option State
 on_count i es (CountOn c) = goes (InCount i c) es
-on_count i es (CountRead p) = goes Ready (Read (Turns i p) ∷ es)
+on_count i es (CountRead p) = goes (Turned i p) es
 on_count i es CountWrong = None
 
 unfoldable pub step_in : Mode → List Entry → ℕ → Option State
 step_in Ready es b = begin_piece es b
 step_in (After i) es b = after_item i es b
+step_in (Turned i p) es b = after_turns i p es b
 step_in (InEscape e) es b = on_escape es (escape_step e b)
 step_in (InSet negated ms part) es b = on_set es (set_step negated ms part b)
 step_in (InCount i c) es b = on_count i es (count_step c b)
@@ -212,6 +205,7 @@ whole_regex (r, Read p ∷ es) = None
 unfoldable pub finish_in : Mode → List Entry → Option Regex
 finish_in Ready es = whole_regex (take_regex es)
 finish_in (After i) es = whole_regex (take_regex (Read (Once i) ∷ es))
+finish_in (Turned i p) es = whole_regex (take_regex (Read (Turns i p false) ∷ es))
 finish_in (InEscape e) es = None
 finish_in (InSet negated ms part) es = None
 finish_in (InCount i c) es = None
@@ -252,16 +246,12 @@ unfoldable pub set_so_far : Bool → List Member → Part → List ℕ
 set_so_far negated ms p = byte.open_bracket ∷ caret negated ++ (members ms ++ part p)
 
 unfoldable pub counting : Counting → List ℕ
-counting Opened = []
-counting (Low n) = n
-counting (LowComma n) = n ++ byte.comma ∷ []
-counting (LowHigh n m) = n ++ byte.comma ∷ m
-counting OnlyComma = byte.comma ∷ []
-counting (High m) = byte.comma ∷ m
+counting c = counted signs c
 
 unfoldable pub mode : Mode → List ℕ
 mode Ready = []
 mode (After i) = item i
+mode (Turned i p) = item i ++ postfix p
 mode (InEscape e) = escaping e
 mode (InSet negated ms p) = set_so_far negated ms p
 mode (InCount i c) = item i ++ byte.open_brace ∷ counting c

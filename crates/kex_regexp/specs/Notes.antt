@@ -7,11 +7,12 @@ use Rattle.kex_regexp.specs.declared.counts.CountOutcome.TheVariants as outcomes
 use Rattle.kex_regexp.specs.declared.sets.SetSoFar.{SetSoFar}
 use Rattle.kex_regexp.specs.declared.wait.Wait.{Wait}
 use Rattle.kex_regexp.specs.declared.wait.Wait.TheVariants as waits
-use Rattle.kex_regexp.specs.Breaks.{Break, BadCount, BadSet, OverLimit, break_if, is_bad_count, is_bad_set, branch_breaks, piece_breaks, item_breaks, comes_before}
-use Rattle.kex_regexp.specs.Grammar.{item}
-use Rattle.kex_regexp.specs.Outcomes.{are_bad_turns, count_outcome}
+use Rattle.kex_regexp.specs.Breaks.{Break, BadCount, BadSet, OverLimit, break_if, is_bad_set, branch_breaks, piece_breaks, item_breaks, comes_before}
+use Rattle.kex_regexp.specs.Grammar.{item, postfix}
+use Rattle.kex_regexp.specs.Postfixes.{is_bad_count}
+use Rattle.kex_regexp.specs.Outcomes.{are_bad, count_outcome}
 use Rattle.kex_regexp.specs.Values.{any_below, membership}
-use Rattle.kex_regexp.specs.Machine.{Entry, Mark, Ended, Read, Mode, Ready, After, InEscape, InSet, InCount, State, SetStep, SetOn, SetRead, SetWrong, set_step, CountStep, CountOn, CountRead, CountWrong, count_step, entries}
+use Rattle.kex_regexp.specs.Machine.{Entry, Mark, Ended, Read, Mode, Ready, After, Turned, InEscape, InSet, InCount, State, SetStep, SetOn, SetRead, SetWrong, set_step, CountStep, CountOn, CountRead, CountWrong, count_step, entries}
 
 -- ---- the least
 
@@ -43,6 +44,7 @@ entries_breaks base depth (e ∷ es) = entries_breaks base depth es ++ entry_bre
 unfoldable pub mode_breaks : Mode → ℕ → ℕ → List Break
 mode_breaks Ready at depth = []
 mode_breaks (After i) at depth = item_breaks i at depth
+mode_breaks (Turned i p) at depth = item_breaks i at depth ++ break_if (is_bad_count p) (BadCount (at + length (item i)))
 mode_breaks (InEscape e) at depth = []
 mode_breaks (InSet negated ms p) at depth = []
 mode_breaks (InCount i c) at depth = item_breaks i at depth
@@ -68,6 +70,7 @@ count_breaks at CountWrong = []
 unfoldable pub byte_breaks : ℕ → ℕ → Mode → ℕ → List Break
 byte_breaks at depth Ready b = nesting_breaks at depth b
 byte_breaks at depth (After i) b = nesting_breaks (at + length (item i)) depth b
+byte_breaks at depth (Turned i p) b = nesting_breaks (at + length (item i ++ postfix p)) depth b
 byte_breaks at depth (InEscape e) b = []
 byte_breaks at depth (InSet negated ms p) b = set_breaks at (set_step negated ms p b)
 byte_breaks at depth (InCount i c) b = count_breaks (at + length (item i)) (count_step c b)
@@ -86,12 +89,13 @@ nesting_break depth at b = if (b == byte.open_paren) && (depth == 200) then Some
 
 unfoldable pub count_break : CountOutcome → ℕ → Option Break
 count_break (outcomes.On c) brace = None
-count_break (outcomes.Read l h) brace = if are_bad_turns l h then Some (BadCount brace) else None
+count_break (outcomes.Read b) brace = if are_bad b then Some (BadCount brace) else None
 count_break outcomes.Wrong brace = None
 
 unfoldable pub byte_break : Wait → Wait → SetSoFar → ℕ → ℕ → ℕ → Option Break
 byte_break waits.Ready next set depth at b = nesting_break depth at b
 byte_break (waits.After part) next set depth at b = nesting_break depth at b
+byte_break (waits.Turned r) next set depth at b = nesting_break depth at b
 byte_break (waits.InEscape e from) next set depth at b = None
 byte_break (waits.InSet negated empty part from) next set depth at b = if is_after next && is_bad_set_so_far set negated then Some (BadSet from) else None
 byte_break (waits.InCount part count brace) next set depth at b = count_break (count_outcome count b) brace
@@ -102,6 +106,7 @@ depth_after depth b = if b == byte.open_paren then depth + 1 else if b == byte.c
 unfoldable pub next_depth : Wait → ℕ → ℕ → ℕ
 next_depth waits.Ready depth b = depth_after depth b
 next_depth (waits.After part) depth b = depth_after depth b
+next_depth (waits.Turned r) depth b = depth_after depth b
 next_depth _ depth b = depth
 
 unfoldable pub lesser_of : Option Break → Option Break → Option Break

@@ -8,6 +8,7 @@ use Rattle.kex_regexp.specs.declared.sets.SetPart.TheVariants as parts
 use Rattle.kex_regexp.specs.declared.sets.SetOutcome.{SetOutcome}
 use Rattle.kex_regexp.specs.declared.sets.SetOutcome.TheVariants as sets
 use Rattle.kex_regexp.specs.declared.sets.Span.{Span}
+use Rattle.kex_regexp.specs.declared.counts.Bounds.{Bounds}
 use Rattle.kex_regexp.specs.declared.counts.Count.{Count}
 use Rattle.kex_regexp.specs.declared.counts.Count.TheVariants as counts
 use Rattle.kex_regexp.specs.declared.counts.CountOutcome.{CountOutcome}
@@ -68,14 +69,17 @@ ended_span (parts.InLast first e) b = last_span first (escape_outcome e b)
 unfoldable pub capped_number : ℕ → ℕ → ℕ
 capped_number v d = min (10 * min v 1001 + (d - byte.digit_0)) 1001
 
+-- by a digit, a comma, the brace that closes, or another byte
+abbrev pub outcome_by : ℕ → CountOutcome → CountOutcome → CountOutcome → CountOutcome
+outcome_by b digit comma close = if is_digit b then digit else if b == byte.comma then comma else if b == byte.close_brace then close else outcomes.Wrong
+
 unfoldable pub count_outcome : Count → ℕ → CountOutcome
-count_outcome counts.Opened b = if is_digit b then outcomes.On (counts.Low (capped_number 0 b)) else if b == byte.comma then outcomes.On counts.OnlyComma else outcomes.Wrong
-count_outcome (counts.Low v) b =
-    if is_digit b then outcomes.On (counts.Low (capped_number v b)) else if b == byte.comma then outcomes.On (counts.LowComma v) else if b == byte.close_brace then outcomes.Read v (Some v) else outcomes.Wrong
-count_outcome (counts.LowComma v) b = if is_digit b then outcomes.On (counts.LowHigh v (capped_number 0 b)) else if b == byte.close_brace then outcomes.Read v None else outcomes.Wrong
-count_outcome (counts.LowHigh v w) b = if is_digit b then outcomes.On (counts.LowHigh v (capped_number w b)) else if b == byte.close_brace then outcomes.Read v (Some w) else outcomes.Wrong
-count_outcome counts.OnlyComma b = if is_digit b then outcomes.On (counts.High (capped_number 0 b)) else outcomes.Wrong
-count_outcome (counts.High w) b = if is_digit b then outcomes.On (counts.High (capped_number w b)) else if b == byte.close_brace then outcomes.Read 0 (Some w) else outcomes.Wrong
+count_outcome counts.Opened b = outcome_by b (outcomes.On (counts.Low (capped_number 0 b))) (outcomes.On counts.OnlyComma) outcomes.Wrong
+count_outcome (counts.Low v) b = outcome_by b (outcomes.On (counts.Low (capped_number v b))) (outcomes.On (counts.LowComma v)) (outcomes.Read (record { low = v; high = Some v }))
+count_outcome (counts.LowComma v) b = outcome_by b (outcomes.On (counts.LowHigh v (capped_number 0 b))) outcomes.Wrong (outcomes.Read (record { low = v; high = None }))
+count_outcome (counts.LowHigh v w) b = outcome_by b (outcomes.On (counts.LowHigh v (capped_number w b))) outcomes.Wrong (outcomes.Read (record { low = v; high = Some w }))
+count_outcome counts.OnlyComma b = outcome_by b (outcomes.On (counts.High (capped_number 0 b))) outcomes.Wrong outcomes.Wrong
+count_outcome (counts.High w) b = outcome_by b (outcomes.On (counts.High (capped_number w b))) outcomes.Wrong (outcomes.Read (record { low = 0; high = Some w }))
 
 -- the same by a whole number, where numbers are no bytes
 unfoldable pub number_outcome : Count → ℕ → CountOutcome
@@ -84,6 +88,10 @@ number_outcome (counts.LowComma v) n = outcomes.On (counts.LowHigh v n)
 number_outcome counts.OnlyComma n = outcomes.On (counts.High n)
 number_outcome _ n = outcomes.Wrong
 
-unfoldable pub are_bad_turns : ℕ → Option ℕ → Bool
+abbrev pub are_bad_turns : ℕ → Option ℕ → Bool
 are_bad_turns low None = nat_lt 1000 low
 are_bad_turns low (Some high) = nat_lt 1000 low || nat_lt 1000 high || nat_lt high low
+
+-- a count above 1,000, or one that is below the count before it
+unfoldable pub are_bad : Bounds → Bool
+are_bad bounds = are_bad_turns bounds.low bounds.high

@@ -6,7 +6,8 @@ use Rattle.kex_model.specs.declared.program.Kind.{Kind}
 use Rattle.kex_model.specs.declared.program.Kind.TheVariants as kinds
 use Rattle.kex_model.specs.declared.program.Node.{Node}
 use Rattle.kex_regexp.specs.Grammar.{Regex, Last, Or, Branch, Empty, Then, Piece, Once, Turns, Item, Plain, Escaped, Dot, Set, Group, branch, piece}
-use Rattle.kex_regexp.specs.Values.{escaped_byte, in_set, low, high}
+use Rattle.kex_regexp.specs.Postfixes.{low, high}
+use Rattle.kex_regexp.specs.Values.{escaped_byte, in_set}
 
 -- node n is of this kind and at this offset
 abbrev pub IsNode : List Node → ℕ → Kind → ℕ → Type 0
@@ -29,7 +30,7 @@ unfoldable mutual
 
   pub ShowsPiece : Piece → List Node → ℕ → ℕ → Type 0
   ShowsPiece (Once i) nodes n at = ShowsItem i nodes n at
-  ShowsPiece (Turns i p) nodes n at = (l : ℕ) × IsNode nodes n (kinds.Rep l (low p) (high p) false) at × ShowsItem i nodes l at
+  ShowsPiece (Turns i p lazy) nodes n at = (l : ℕ) × IsNode nodes n (kinds.Rep l (low p) (high p) lazy) at × ShowsItem i nodes l at
 
   -- a group is its content
   pub ShowsItem : Item → List Node → ℕ → ℕ → Type 0

@@ -1,7 +1,7 @@
--- What escapes, sets and counts stand for.
+-- What escapes and sets stand for.
 use Rattle.kex_tokens.specs.Bytes as byte
-use Rattle.std.specs.Prelude.{ℕ, zero, suc, ◌+◌, ◌*◌, ◌-◌, Bool, true, false, not, ◌&&◌, ◌||◌, List, [], ◌∷◌, Option, Some, None, nat_le, nat_lt, ◌==◌, if◌then◌else◌}
-use Rattle.kex_regexp.specs.Grammar.{End, Itself, EscapedEnd, Escape, Newline, Tab, Return, Hex, Punctuation, Member, Single, Range, Postfix, Star, Plus, Quest, Exactly, AtLeast, AtMost, Within}
+use Rattle.std.specs.Prelude.{ℕ, zero, suc, ◌+◌, ◌*◌, ◌-◌, Bool, true, false, not, ◌&&◌, ◌||◌, List, [], ◌∷◌, nat_le, nat_lt, ◌==◌, if◌then◌else◌}
+use Rattle.kex_regexp.specs.Grammar.{End, Itself, EscapedEnd, Escape, Newline, Tab, Return, Hex, Punctuation, Member, Single, Range}
 
 -- ---- bytes
 
@@ -51,33 +51,3 @@ has_backward (m ∷ ms) = is_backward m || has_backward ms
 unfoldable pub any_below : ℕ → (ℕ → Bool) → Bool
 any_below zero test = false
 any_below (suc n) test = any_below n test || test n
-
--- ---- counts
-
--- the value of decimal digits, behind digits of value v
-unfoldable pub number_from : ℕ → List ℕ → ℕ
-number_from v [] = v
-number_from v (d ∷ ds) = number_from (10 * v + (d - byte.digit_0)) ds
-
-unfoldable pub number : List ℕ → ℕ
-number ds = number_from 0 ds
-
--- the least number of turns
-unfoldable pub low : Postfix → ℕ
-low Star = 0
-low Plus = 1
-low Quest = 0
-low (Exactly n) = number n
-low (AtLeast n) = number n
-low (AtMost m) = 0
-low (Within n m) = number n
-
--- the greatest number of turns, if there is one
-unfoldable pub high : Postfix → Option ℕ
-high Star = None
-high Plus = None
-high Quest = Some 1
-high (Exactly n) = Some (number n)
-high (AtLeast n) = None
-high (AtMost m) = Some (number m)
-high (Within n m) = Some (number m)

@@ -14,7 +14,7 @@ use crate::constructs::{Construct, close_regex};
 use crate::fault::RegexFault;
 use crate::notes::{deeper, noted};
 use crate::sets::SetSoFar;
-use crate::steps::{push, step};
+use crate::steps::{end_turns, push, step};
 use crate::wait::{StepFault, Wait};
 use kex_model::builder::Builder;
 use std::alloc::Global;
@@ -56,6 +56,10 @@ fn finish(
                 at: item.at,
             };
             push(constructs, piece)?;
+            end(constructs, into, at)
+        }
+        Wait::Turned(turns) => {
+            end_turns(constructs, into, turns, false)?;
             end(constructs, into, at)
         }
         Wait::InEscape { .. } => Err(StepFault::Wrong),

@@ -2,7 +2,7 @@
 
 ghost use Rattle.std.specs.Prelude.{◌≡◌, ◌≤◌};
 ghost use Rattle.kex_tokens.specs.Bytes.{close_brace, comma};
-ghost use Rattle.kex_regexp.specs.Outcomes.{are_bad_turns, capped_number, count_outcome, number_outcome};
+ghost use Rattle.kex_regexp.specs.Outcomes.{are_bad, capped_number, count_outcome, number_outcome};
 
 /// The greatest count that is allowed.
 pub const MAX_COUNT: u32 = 1000;
@@ -18,11 +18,18 @@ pub enum Count {
     High(u32),
 }
 
+/// How many turns: from so many on, up to so many.
+#[derive(Clone, Copy, Drop)]
+pub struct Bounds {
+    pub low: u32,
+    pub high: Option<u32>,
+}
+
 /// What comes of a count by what follows.
 #[derive(Clone, Copy, Drop)]
 pub enum CountOutcome {
     On(Count),
-    Read { low: u32, high: Option<u32> },
+    Read(Bounds),
     Wrong,
 }
 
@@ -94,7 +101,7 @@ pub fn at_brace(count: Count) -> CountOutcome
         Count::LowHigh { low, high } => (low, Some(high)),
         Count::High(high) => (0, Some(high)),
     };
-    CountOutcome::Read { low, high }
+    CountOutcome::Read(Bounds { low, high })
 }
 
 /// One more byte of a count.
@@ -112,13 +119,16 @@ pub fn in_count(count: Count, byte: u8) -> CountOutcome
     }
 }
 
-/// Whether counts of turns break the rule of counts.
-#[tactic(auto, unfolding(crate::specs::Outcomes::are_bad_turns))]
-pub fn is_bad_count(low: u32, high: Option<u32>) -> bool
-    ensures { result ≡ are_bad_turns low high }
-{
-    match high {
-        None => low > MAX_COUNT,
-        Some(high) => low > MAX_COUNT || high > MAX_COUNT || high < low,
+impl Bounds {
+    /// Whether they break the rule of counts.
+    #[tactic(auto, unfolding(crate::specs::Outcomes::are_bad))]
+    pub fn are_bad(self) -> bool
+        ensures { result ≡ are_bad self }
+    {
+        let low = self.low;
+        match self.high {
+            None => low > MAX_COUNT,
+            Some(high) => low > MAX_COUNT || high > MAX_COUNT || high < low,
+        }
     }
 }

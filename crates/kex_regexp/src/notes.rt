@@ -4,7 +4,7 @@ ghost use Rattle.std.specs.Prelude.{◌≡◌, ◌+◌, ◌<◌, ◌^◌};
 ghost use Rattle.kex_regexp.specs.Notes.{depth_after, next_depth, count_break, byte_break, nesting_break};
 
 use crate::breaks::Break;
-use crate::counts::{CountOutcome, in_count, is_bad_count};
+use crate::counts::{CountOutcome, in_count};
 use crate::sets::SetSoFar;
 use crate::wait::Wait;
 
@@ -30,8 +30,8 @@ fn ends_count(outcome: CountOutcome, brace: u32) -> Option<Break>
 {
     match outcome {
         CountOutcome::On(_) => None,
-        CountOutcome::Read { low, high } => {
-            if is_bad_count(low, high) {
+        CountOutcome::Read(bounds) => {
+            if bounds.are_bad() {
                 Some(Break::BadCount { at: brace })
             } else {
                 None
@@ -49,6 +49,7 @@ pub fn noted(wait: Wait, next: Wait, set: &SetSoFar, depth: u64, at: u32, byte: 
     match wait {
         Wait::Ready => opens(depth, at, byte),
         Wait::After(_) => opens(depth, at, byte),
+        Wait::Turned(_) => opens(depth, at, byte),
         Wait::InEscape { .. } => None,
         Wait::InSet { negated, from, .. } => {
             if matches!(next, Wait::After(_)) && set.is_bad(negated) {
@@ -85,6 +86,7 @@ pub fn deeper(wait: Wait, depth: u64, byte: u8) -> u64
     match wait {
         Wait::Ready => beside(depth, byte),
         Wait::After(_) => beside(depth, byte),
+        Wait::Turned(_) => beside(depth, byte),
         _ => depth,
     }
 }

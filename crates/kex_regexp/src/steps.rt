@@ -1,19 +1,18 @@
 // One byte more.
 
 ghost use Rattle.std.specs.Prelude.{◌≡◌, ℕ, ◌+◌, ◌<◌, List, [], ◌∷◌, ◌++◌, length, reverse, OnOk, IfOk, IfErr};
-ghost use Rattle.kex_regexp.specs.Grammar.{Item, Postfix, Empty, Turns, item as spelled_item};
-ghost use Rattle.kex_regexp.specs.Holding.{ConstructsShow, HoldsItem, IsSetAfter, LosesNone, IsTurns, OnItem, ShowsCountStep, ShowsEscape, ShowsSet, SomeBehind, SomeConstructs, SomeItem, SomeState, ShowsState, Steps, capped_count, capped_bound};
-ghost use Rattle.kex_regexp.specs.Machine.{EscapeStep, SetStep, CountStep, Entry, Read, Ready, State, entries, bytes_read, goes, take_pieces, take_regex, begin_piece, after_item, end_branch, after_group as close_parenthesis, on_escape as spec_on_escape, on_set as spec_on_set, on_count as spec_on_count, step as spec_step};
+ghost use Rattle.kex_regexp.specs.Grammar.{Item, Postfix, Empty, Turns, item as spelled_item, postfix};
+ghost use Rattle.kex_regexp.specs.Holding.{ConstructsShow, HoldsBounds, HoldsItem, InConstructs, IsHeld, IsSetAfter, LosesNone, IsTurns, OnItem, OnTurned, ShowsCountStep, ShowsEscape, ShowsSet, SomeBehind, SomeConstructs, SomeState, SomeTurned, ShowsState, Steps};
+ghost use Rattle.kex_regexp.specs.Machine.{EscapeStep, SetStep, CountStep, Entry, Read, Ready, State, entries, bytes_read, goes, take_pieces, take_regex, begin_piece, after_item, after_turns, end_branch, after_group as close_parenthesis, on_escape as spec_on_escape, on_set as spec_on_set, on_count as spec_on_count, step as spec_step};
 ghost use Rattle.kex_regexp.specs.Parents.{NoneLost};
 ghost use Rattle.kex_regexp.specs.Shown.{Adds, IsNode};
-ghost use Rattle.kex_regexp.specs.Values.{low as low_of, high as high_of};
 
 use crate::bytes::is_plain;
 use crate::constructs::{Construct, Placed, close_branch, close_regex, take_mark};
-use crate::counts::{Count, CountOutcome, in_count, is_bad_count};
+use crate::counts::{Count, CountOutcome, in_count};
 use crate::escapes::{EscapeOutcome, Escaping, escape};
 use crate::sets::{SetOutcome, SetPart, SetSoFar, in_set};
-use crate::wait::{StepFault, Wait};
+use crate::wait::{Repetition, StepFault, Wait};
 use kex_byteset::ByteSet;
 use kex_code::memory::Memory;
 use kex_model::builder::Builder;
@@ -120,45 +119,47 @@ fn begin(
 
 /// The node of an item that takes so many turns; the item itself, where the count is bad.
 #[tactic(auto, using(crate::proofs::Additions::adding))]
-fn repeated(into: &mut Builder, item: Placed, low: u32, high: Option<u32>) -> Result<u32, Memory>
-    requires { item.node < length into.old }
+fn repeated(into: &mut Builder, turns: Repetition, lazy: bool) -> Result<u32, Memory>
+    requires { turns.item.node < length into.old }
     ensures adds { Adds into.old into.new }
-    ensures nodes { IfOk result (λ m. NoneLost into.old into.new (λ n. n ≡ item.node) (λ n. n ≡ m)) }
-    ensures turns { IfOk result (λ n. (p : Postfix) → low ≡ capped_count (low_of p) → high ≡ capped_bound (high_of p) → IsTurns p into.new n item.node item.at) }
+    ensures nodes { IfOk result (λ m. NoneLost into.old into.new (λ n. n ≡ turns.item.node) (λ n. n ≡ m)) }
+    ensures turns { IfOk result (λ n. (p : Postfix) → HoldsBounds turns.bounds p → IsTurns p lazy into.new n turns.item.node turns.item.at) }
 {
-    if is_bad_count(low, high) {
-        return Ok(item.node);
+    if turns.bounds.are_bad() {
+        return Ok(turns.item.node);
     }
     let node = into.add(Node {
         kind: Kind::Rep {
-            body: item.node,
-            min: low,
-            max: high,
-            lazy: false,
+            body: turns.item.node,
+            min: turns.bounds.low,
+            max: turns.bounds.high,
+            lazy,
         },
-        at: item.at,
+        at: turns.item.at,
     })?;
     Ok(node)
 }
 
-/// A piece with a postfix. Where the count is bad the body is refused in the end, and the item stands alone until then.
+/// Ends a piece with a postfix. Where the count is bad the body is refused in the end, and the item stands alone until then.
 #[tactic(auto, using(crate::proofs::Additions::adding))]
-fn turns(
+pub fn end_turns(
     constructs: &mut Vec<Construct>,
     into: &mut Builder,
-    item: Placed,
-    low: u32,
-    high: Option<u32>,
-) -> Result<Wait, StepFault>
-    requires { SomeItem into.old constructs.old.items item }
+    turns: Repetition,
+    lazy: bool,
+) -> Result<(), Memory>
+    requires { (at : ℕ) × SomeTurned into.old constructs.old.items turns at }
     ensures adds { Adds into.old into.new }
-    ensures nodes { LosesNone into.old into.new constructs.old.items (Wait.After item) constructs.new.items result }
-    ensures step { OnItem into.old constructs.old.items item (λ base es i. (p : Postfix) → low ≡ capped_count (low_of p) → high ≡ capped_bound (high_of p) → Steps into.new base constructs.new.items result (goes Ready (Read (Turns i p) ∷ es))) }
+    ensures nodes { OnOk result (NoneLost into.old into.new (IsHeld constructs.old.items (Wait.Turned turns)) (InConstructs constructs.new.items)) }
+    ensures shows { OnOk result (OnTurned into.old constructs.old.items turns (λ base es i p. ConstructsShow into.new base (reverse constructs.new.items) (Read (Turns i p lazy) ∷ es))) }
 {
-    let node = repeated(into, item, low, high)?;
-    let piece = Construct::Piece { node, at: item.at };
+    let node = repeated(into, turns, lazy)?;
+    let piece = Construct::Piece {
+        node,
+        at: turns.item.at,
+    };
     push(constructs, piece)?;
-    Ok(Wait::Ready)
+    Ok(())
 }
 
 /// A byte behind an item.
@@ -176,11 +177,11 @@ fn byte_after_item(
     ensures step { OnItem into.old constructs.old.items item (λ base es i. at ≡ item.at + length (spelled_item i) → Steps into.new base constructs.new.items result (after_item i es byte)) }
 {
     if byte == b'*' {
-        turns(constructs, into, item, 0, None)
+        Ok(Wait::Turned(item.turns(0, None)))
     } else if byte == b'+' {
-        turns(constructs, into, item, 1, None)
+        Ok(Wait::Turned(item.turns(1, None)))
     } else if byte == b'?' {
-        turns(constructs, into, item, 0, Some(1))
+        Ok(Wait::Turned(item.turns(0, Some(1))))
     } else if byte == b'{' {
         Ok(Wait::InCount {
             item,
@@ -195,6 +196,28 @@ fn byte_after_item(
         push(constructs, piece)?;
         begin(constructs, into, at, byte)
     }
+}
+
+/// A byte behind a postfix: the sign that makes it lazy, or what follows the piece.
+#[tactic(auto, using(crate::proofs::Additions::adding))]
+fn byte_after_turns(
+    constructs: &mut Vec<Construct>,
+    into: &mut Builder,
+    turns: Repetition,
+    at: u32,
+    byte: u8,
+) -> Result<Wait, StepFault>
+    requires { SomeTurned into.old constructs.old.items turns at }
+    ensures adds { Adds into.old into.new }
+    ensures nodes { LosesNone into.old into.new constructs.old.items (Wait.Turned turns) constructs.new.items result }
+    ensures step { OnTurned into.old constructs.old.items turns (λ base es i p. at ≡ turns.item.at + length (spelled_item i ++ postfix p) → Steps into.new base constructs.new.items result (after_turns i p es byte)) }
+{
+    if byte == b'?' {
+        end_turns(constructs, into, turns, true)?;
+        return Ok(Wait::Ready);
+    }
+    end_turns(constructs, into, turns, false)?;
+    begin(constructs, into, at, byte)
 }
 
 /// What comes of a set by a byte.
@@ -240,22 +263,13 @@ fn on_escape(outcome: EscapeOutcome, into: &mut Builder, from: u32) -> Result<Wa
 }
 
 /// What comes of a count by a byte.
-#[tactic(auto, using(crate::proofs::Additions::adding))]
-fn on_count(
-    outcome: CountOutcome,
-    constructs: &mut Vec<Construct>,
-    into: &mut Builder,
-    item: Placed,
-    brace: u32,
-) -> Result<Wait, StepFault>
-    requires { SomeItem into.old constructs.old.items item }
-    ensures adds { Adds into.old into.new }
-    ensures nodes { LosesNone into.old into.new constructs.old.items (Wait.After item) constructs.new.items result }
-    ensures step { OnItem into.old constructs.old.items item (λ base es i. (t : CountStep) → brace ≡ item.at + length (spelled_item i) → ShowsCountStep outcome t → Steps into.new base constructs.new.items result (spec_on_count i es t)) }
+fn on_count(outcome: CountOutcome, item: Placed, brace: u32) -> Result<Wait, StepFault>
+    ensures nodes { (nodes : List Node) (fs : List Construct) → LosesNone nodes nodes fs (Wait.After item) fs result }
+    ensures step { (nodes : List Node) (fs : List Construct) → OnItem nodes fs item (λ base es i. (t : CountStep) → brace ≡ item.at + length (spelled_item i) → ShowsCountStep outcome t → Steps nodes base fs result (spec_on_count i es t)) }
 {
     match outcome {
         CountOutcome::On(count) => Ok(Wait::InCount { item, count, brace }),
-        CountOutcome::Read { low, high } => turns(constructs, into, item, low, high),
+        CountOutcome::Read(bounds) => Ok(Wait::Turned(Repetition { item, bounds })),
         CountOutcome::Wrong => Err(StepFault::Wrong),
     }
 }
@@ -278,6 +292,7 @@ pub fn step(
     match wait {
         Wait::Ready => begin(constructs, into, at, byte),
         Wait::After(item) => byte_after_item(constructs, into, item, at, byte),
+        Wait::Turned(turns) => byte_after_turns(constructs, into, turns, at, byte),
         Wait::InEscape { escaping, from } => on_escape(escape(escaping, byte), into, from),
         Wait::InSet {
             negated,
@@ -285,12 +300,6 @@ pub fn step(
             part,
             from,
         } => on_set(in_set(negated, empty, part, byte), set, into, from),
-        Wait::InCount { item, count, brace } => on_count(
-            in_count(count, byte),
-            constructs,
-            into,
-            item,
-            brace,
-        ),
+        Wait::InCount { item, count, brace } => on_count(in_count(count, byte), item, brace),
     }
 }

@@ -1,10 +1,31 @@
 // What the next byte belongs to.
 
+ghost use Rattle.std.specs.Prelude.{◌≡◌};
+
 use crate::constructs::Placed;
-use crate::counts::Count;
+use crate::counts::{Bounds, Count};
 use crate::escapes::Escaping;
 use crate::sets::SetPart;
 use kex_code::memory::Memory;
+
+/// An item that takes so many turns.
+#[derive(Clone, Copy, Drop)]
+pub struct Repetition {
+    pub item: Placed,
+    pub bounds: Bounds,
+}
+
+impl Placed {
+    /// Takes this item so many turns.
+    pub fn turns(self, low: u32, high: Option<u32>) -> Repetition
+        ensures { result ≡ record { item = self; bounds = record { low = low; high = high } } }
+    {
+        Repetition {
+            item: self,
+            bounds: Bounds { low, high },
+        }
+    }
+}
 
 /// What the next byte belongs to.
 #[derive(Clone, Copy, Drop)]
@@ -13,6 +34,8 @@ pub enum Wait {
     Ready,
     /// An item has ended, and a postfix may follow it.
     After(Placed),
+    /// A postfix has ended, and the sign that makes it lazy may follow it.
+    Turned(Repetition),
     InEscape {
         escaping: Escaping,
         from: u32,

@@ -1,14 +1,15 @@
-use Rattle.std.proofs.Common.{◌+◌, [], length, sym, ◌∙◌, subst}
-use Rattle.kex_reader.specs.Syntax.{atom}
+use Rattle.std.proofs.Common.{◌+◌, ◌++◌, [], length, sym, ◌∙◌, subst}
+use Rattle.kex_reader.specs.Syntax.{atom, postfix}
 use Rattle.kex_reader.specs.Reading.{entries, After}
 use Rattle.kex_reader.proofs.Steps.{to}
 use Rattle.kex_reader.specs.declared.inside.Wait.TheVariants as waits
-use Rattle.kex_reader.specs.Reading.{Assigned, Need, Ready, Named, Writing, Bracket, BracketName, Assigning, InCount, count_step}
+use Rattle.kex_reader.specs.Reading.{Assigned, Need, Ready, Turned, Named, Writing, Bracket, BracketName, Assigning, InCount, count_step}
 use Rattle.kex_reader.specs.Syntax.{word}
-use Rattle.kex_reader.specs.Stands.{ShowsMode, ShowsCountStep}
+use Rattle.kex_regexp.specs.Holding.{ShowsCountStep}
+use Rattle.kex_reader.specs.Stands.{ShowsMode}
 use Rattle.kex_reader.proofs.CountValues.{count_refines}
-use Rattle.kex_reader.proofs.Modes.{mode_need, mode_ready, mode_after, mode_named, mode_writing, mode_bracket, mode_bracket_name, mode_assigning, mode_assigned, mode_count, step_of, word_place, word_here, in_need, in_ready, in_after, in_named, in_writing, in_bracket, in_bracket_name, in_assigning, in_assigned, in_count, need_long, ready_long, after_long, named_long, some_named, some_atom, some_count, some_counting, some_assigned, some_name}
-use Rattle.kex_reader.proofs.MoreChecks.{on_same, on_from, on_refl, need_asks, ready_asks, mode_after_asks, mode_named_asks, mode_count_asks, quiet_mode}
+use Rattle.kex_reader.proofs.Modes.{mode_need, mode_ready, mode_after, mode_turned, mode_named, mode_writing, mode_bracket, mode_bracket_name, mode_assigning, mode_assigned, mode_count, step_of, word_place, word_here, in_need, in_ready, in_after, in_turned, in_named, in_writing, in_bracket, in_bracket_name, in_assigning, in_assigned, in_count, need_long, ready_long, after_long, turned_long, named_long, some_named, some_atom, some_turned, some_assigned, some_name}
+use Rattle.kex_reader.proofs.MoreChecks.{on_same, on_from, on_refl, need_asks, ready_asks, mode_after_asks, mode_turned_asks, mode_named_asks, mode_count_asks, quiet_mode}
 use Rattle.kex_reader.proofs.Uses.{sign_read, waiting}
 use Rattle.kex_reader.proofs.inside.step_in.Goals as goal
 
@@ -26,6 +27,11 @@ pub returns-in-After-clause-step : goal.returns-in-After-clause-step
 returns-in-After-clause-step c = λ at base i st p.
     let m = mode_after c.args.draft.now at (base + length (entries i.entries)) c.in-After.item i.mode (subst (λ w. ShowsMode c.args.draft.now at (base + length (entries i.entries)) w i.mode) (c.in-After.is) st.mode) in
     to _ at base _ _ _ _ (step_of i (After m.0) (word c.args.word.kind c.args.word.spelling.now) m.1 ∙ in_after m.0 i.entries (word c.args.word.kind c.args.word.spelling.now)) (c.word_after_atom.ensures.step at base i.entries m.0 st.below m.2 m.3 (word_place at base c.args.word.at i (After m.0) (length (atom m.0)) m.1 (after_long m.0) p))
+
+pub returns-in-Turned-clause-step : goal.returns-in-Turned-clause-step
+returns-in-Turned-clause-step c = λ at base i st p.
+    let m = mode_turned c.args.draft.now at (base + length (entries i.entries)) c.in-Turned.item c.in-Turned.bounds i.mode (subst (λ w. ShowsMode c.args.draft.now at (base + length (entries i.entries)) w i.mode) (c.in-Turned.is) st.mode) in
+    to _ at base _ _ _ _ (step_of i (Turned m.0 m.1) (word c.args.word.kind c.args.word.spelling.now) m.2 ∙ in_turned m.0 m.1 i.entries (word c.args.word.kind c.args.word.spelling.now)) (c.word_after_turns.ensures.step at base i.entries m.0 m.1 st.below m.3 m.4 m.5 (word_place at base c.args.word.at i (Turned m.0 m.1) (length (atom m.0 ++ postfix m.1)) m.2 (turned_long m.0 m.1) p))
 
 pub returns-in-Named-clause-step : goal.returns-in-Named-clause-step
 returns-in-Named-clause-step c = λ at base i st p.
@@ -62,7 +68,7 @@ returns-in-Assigned-clause-step c = λ at base i st p.
 pub returns-in-InCount-clause-step : goal.returns-in-InCount-clause-step
 returns-in-InCount-clause-step c = λ at base i st p.
     let m = mode_count c.args.draft.now at (base + length (entries i.entries)) c.in-InCount.item c.in-InCount.count c.in-InCount.brace i.mode (subst (λ w. ShowsMode c.args.draft.now at (base + length (entries i.entries)) w i.mode) (c.in-InCount.is) st.mode) in
-    to _ at base _ _ _ _ (step_of i (InCount m.0 m.1) (word c.args.word.kind c.args.word.spelling.now) m.2 ∙ in_count m.0 m.1 i.entries (word c.args.word.kind c.args.word.spelling.now)) (c.go_on_counting.ensures.step at base i.entries m.0 st.below m.3 m.4 (count_step m.1 (word c.args.word.kind c.args.word.spelling.now)) m.6
+    to _ at base _ _ _ _ (step_of i (InCount m.0 m.1) (word c.args.word.kind c.args.word.spelling.now) m.2 ∙ in_count m.0 m.1 i.entries (word c.args.word.kind c.args.word.spelling.now)) (c.go_on_counting.ensures.step c.args.stack.now at base i.entries m.0 st.below m.3 m.4 (count_step m.1 (word c.args.word.kind c.args.word.spelling.now)) m.6
     (subst (λ x. ShowsCountStep x (count_step m.1 (word c.args.word.kind c.args.word.spelling.now))) (sym c.count_step.ensures) (count_refines c.in-InCount.count m.1 c.args.word.kind c.args.word.spelling.now c.held_number.result c.held_number.ensures m.5)))
 
 pub begin-requires-clause-constructs : goal.begin-requires-clause-constructs
@@ -80,13 +86,8 @@ word_after_name-requires-clause-constructs c = some_name c.args.draft.now c.args
 pub word_after_part-requires-clause-some : goal.word_after_part-requires-clause-some
 word_after_part-requires-clause-some c = some_assigned c.args.draft.now c.args.stack.now c.args.wait c.in-Assigned.assignment c.in-Assigned.is c.requires.inside
 
-pub go_on_counting-requires-clause-atom : goal.go_on_counting-requires-clause-atom
-go_on_counting-requires-clause-atom c = some_count c.args.draft.now c.args.stack.now c.args.wait c.in-InCount.item c.in-InCount.count c.in-InCount.brace c.in-InCount.is c.requires.inside
-
-pub go_on_counting-requires-clause-count : goal.go_on_counting-requires-clause-count
-go_on_counting-requires-clause-count c =
-    let d = some_counting c.args.draft.now c.args.stack.now c.args.wait c.in-InCount.item c.in-InCount.count c.in-InCount.brace c.in-InCount.is c.requires.inside in
-    (count_step d.0 (word c.args.word.kind c.args.word.spelling.now), subst (λ x. ShowsCountStep x (count_step d.0 (word c.args.word.kind c.args.word.spelling.now))) (sym c.count_step.ensures) (count_refines c.in-InCount.count d.0 c.args.word.kind c.args.word.spelling.now c.held_number.result c.held_number.ensures d.1))
+pub word_after_turns-requires-clause-turned : goal.word_after_turns-requires-clause-turned
+word_after_turns-requires-clause-turned c = some_turned c.args.draft.now c.args.stack.now c.args.wait c.in-Turned.item c.in-Turned.bounds c.in-Turned.is c.requires.inside
 
 pub returns-in-Need-clause-notes : goal.returns-in-Need-clause-notes
 returns-in-Need-clause-notes c = λ at base i st p cs n.
@@ -102,6 +103,11 @@ pub returns-in-After-clause-notes : goal.returns-in-After-clause-notes
 returns-in-After-clause-notes c = λ at base i st p cs n.
     let m = mode_after c.args.draft.now at (base + length (entries i.entries)) c.in-After.item i.mode (subst (λ w. ShowsMode c.args.draft.now at (base + length (entries i.entries)) w i.mode) (c.in-After.is) st.mode) in
     on_from c.word_after_atom.result cs _ _ c.word_after_atom.new.draft.broken (mode_after_asks at (base + length (entries i.entries)) i (word c.args.word.kind c.args.word.spelling.now) m.0 m.1) (c.word_after_atom.ensures.notes at base i.entries m.0 st.below m.2 m.3 (word_place at base c.args.word.at i (After m.0) (length (atom m.0)) m.1 (after_long m.0) p) cs n)
+
+pub returns-in-Turned-clause-notes : goal.returns-in-Turned-clause-notes
+returns-in-Turned-clause-notes c = λ at base i st p cs n.
+    let m = mode_turned c.args.draft.now at (base + length (entries i.entries)) c.in-Turned.item c.in-Turned.bounds i.mode (subst (λ w. ShowsMode c.args.draft.now at (base + length (entries i.entries)) w i.mode) (c.in-Turned.is) st.mode) in
+    on_from c.word_after_turns.result cs _ _ c.word_after_turns.new.draft.broken (mode_turned_asks at (base + length (entries i.entries)) i (word c.args.word.kind c.args.word.spelling.now) m.0 m.1 m.2) (c.word_after_turns.ensures.notes at base i.entries m.0 m.1 st.below m.3 m.4 m.5 (word_place at base c.args.word.at i (Turned m.0 m.1) (length (atom m.0 ++ postfix m.1)) m.2 (turned_long m.0 m.1) p) cs n)
 
 pub returns-in-Named-clause-notes : goal.returns-in-Named-clause-notes
 returns-in-Named-clause-notes c = λ at base i st p cs n.
@@ -148,6 +154,9 @@ returns-in-Ready-clause-held c = waiting c.args.wait _ _ _ _ _ _ c.in-Ready.is c
 pub returns-in-After-clause-held : goal.returns-in-After-clause-held
 returns-in-After-clause-held c = waiting c.args.wait _ _ _ _ _ _ c.in-After.is c.word_after_atom.ensures.held
 
+pub returns-in-Turned-clause-held : goal.returns-in-Turned-clause-held
+returns-in-Turned-clause-held c = waiting c.args.wait _ _ _ _ _ _ c.in-Turned.is c.word_after_turns.ensures.held
+
 pub returns-in-Named-clause-held : goal.returns-in-Named-clause-held
 returns-in-Named-clause-held c = waiting c.args.wait _ _ _ _ _ _ c.in-Named.is c.word_after_name.ensures.held
 
@@ -164,7 +173,7 @@ pub returns-in-Assigned-clause-held : goal.returns-in-Assigned-clause-held
 returns-in-Assigned-clause-held c = waiting c.args.wait _ _ _ _ _ _ c.in-Assigned.is (c.word_after_part.ensures.held c.args.stack.now)
 
 pub returns-in-InCount-clause-held : goal.returns-in-InCount-clause-held
-returns-in-InCount-clause-held c = waiting c.args.wait _ _ _ _ _ _ c.in-InCount.is c.go_on_counting.ensures.held
+returns-in-InCount-clause-held c = waiting c.args.wait _ _ _ _ _ _ c.in-InCount.is (c.go_on_counting.ensures.held c.args.stack.now)
 
 pub returns-in-BracketName-clause-held : goal.returns-in-BracketName-clause-held
 returns-in-BracketName-clause-held c = waiting c.args.wait _ _ _ _ _ _ c.in-BracketName.is (sign_read c.sign.result c.args.draft.now c.args.stack.now c.in-BracketName.at c.in-BracketName.register c.sign.ensures.held)

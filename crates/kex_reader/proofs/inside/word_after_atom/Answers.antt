@@ -2,22 +2,22 @@ use Rattle.std.proofs.Common.{◌+◌, [], ◌++◌, length, ap, ◌∙◌, subs
 use Rattle.kex_tokens.specs.declared.token.Kind.TheVariants as kinds
 use Rattle.kex_reader.specs.Syntax.{Once, ZeroOrMore, OneOrMore, Optional, atom}
 use Rattle.kex_reader.specs.Reading.{entries, with_pre}
-use Rattle.kex_reader.proofs.Steps.{to, memory_exit, count_opens, after_kind, after_other, after_star, after_plus, after_question, after_brace, once_shows, put_place, on_keeps, star_low, star_high, plus_low, plus_high, optional_low, optional_high}
+use Rattle.kex_reader.proofs.Steps.{to, memory_exit, count_opens, after_kind, after_other, after_star, after_plus, after_question, after_brace, once_shows, put_place, on_keeps, begins_turns, star_turns, plus_turns, optional_turns}
 use Rattle.kex_reader.proofs.MoreChecks.{same, on_same, on_from, moved, after_quiet, after_begins}
 use Rattle.kex_reader.specs.Syntax.{word}
-use Rattle.kex_reader.specs.Stands.{begin_asks}
+use Rattle.kex_reader.specs.Stands.{NotesLeast, begin_asks}
 use Rattle.kex_reader.proofs.Steps.{put_index}
-use Rattle.kex_reader.proofs.Uses.{held_as, step_then, unchanged}
+use Rattle.kex_reader.proofs.Uses.{held_as, step_then, turned_held, unchanged}
 use Rattle.kex_reader.proofs.inside.word_after_atom.Goals as goal
 
 pub returns-in-Star-clause-step : goal.returns-in-Star-clause-step
-returns-in-Star-clause-step c = λ at base es a h e s p. to _ at base _ _ _ _ (after_kind a es c.args.word.spelling.now c.args.word.kind kinds.Star _ c.in-Star.is (after_star a es)) (c.turns.ensures.step at base es a h e s ZeroOrMore star_low star_high)
+returns-in-Star-clause-step c = λ at base es a h e s p. to _ at base _ _ _ _ (after_kind a es c.args.word.spelling.now c.args.word.kind kinds.Star _ c.in-Star.is (after_star a es)) (begins_turns c.args.draft.now at base c.args.stack.now es c.turned.result c.args.item _ a ZeroOrMore c.turned.ensures h e s (star_turns c.args.draft.now))
 
 pub returns-in-Plus-clause-step : goal.returns-in-Plus-clause-step
-returns-in-Plus-clause-step c = λ at base es a h e s p. to _ at base _ _ _ _ (after_kind a es c.args.word.spelling.now c.args.word.kind kinds.Plus _ c.in-Plus.is (after_plus a es)) (c.turns-in-Plus.ensures.step at base es a h e s OneOrMore plus_low plus_high)
+returns-in-Plus-clause-step c = λ at base es a h e s p. to _ at base _ _ _ _ (after_kind a es c.args.word.spelling.now c.args.word.kind kinds.Plus _ c.in-Plus.is (after_plus a es)) (begins_turns c.args.draft.now at base c.args.stack.now es c.turned-in-Plus.result c.args.item _ a OneOrMore c.turned-in-Plus.ensures h e s (plus_turns c.args.draft.now))
 
 pub returns-in-Question-clause-step : goal.returns-in-Question-clause-step
-returns-in-Question-clause-step c = λ at base es a h e s p. to _ at base _ _ _ _ (after_kind a es c.args.word.spelling.now c.args.word.kind kinds.Question _ c.in-Question.is (after_question a es)) (c.turns-in-Question.ensures.step at base es a h e s Optional optional_low optional_high)
+returns-in-Question-clause-step c = λ at base es a h e s p. to _ at base _ _ _ _ (after_kind a es c.args.word.spelling.now c.args.word.kind kinds.Question _ c.in-Question.is (after_question a es)) (begins_turns c.args.draft.now at base c.args.stack.now es c.turned-in-Question.result c.args.item _ a Optional c.turned-in-Question.ensures h e s (optional_turns c.args.draft.now))
 
 pub returns-in-OpenBrace-clause-step : goal.returns-in-OpenBrace-clause-step
 returns-in-OpenBrace-clause-step c = λ at base es a h e s p. to _ at base _ _ _ _ (after_kind a es c.args.word.spelling.now c.args.word.kind kinds.OpenBrace _ c.in-OpenBrace.is (after_brace a es)) (count_opens c.args.draft.now at base c.args.stack.now es a c.args.item _ h e s p)
@@ -43,35 +43,26 @@ put-requires c = let r = c.requires.atom in (r.0, r.1, r.2, Once r.3, r.4, r.5, 
 pub begin-requires-clause-constructs : goal.begin-requires-clause-constructs
 begin-requires-clause-constructs c = let r = c.requires.atom in (r.0, r.1, with_pre (Once r.3) r.2, c.in_ok-put-in_default.ensures.put r.0 r.1 r.2 (Once r.3) r.4 r.5 (once_shows c.args.draft.now r.0 c.args.item.node (r.1 + length (entries r.2)) r.3 r.6))
 
-pub turns-requires-clause-count : goal.turns-requires-clause-count
-turns-requires-clause-count c = (ZeroOrMore, star_low, star_high, tt)
-
-pub turns-requires-in-Plus-clause-count : goal.turns-requires-in-Plus-clause-count
-turns-requires-in-Plus-clause-count c = (OneOrMore, plus_low, plus_high, tt)
-
-pub turns-requires-in-Question-clause-count : goal.turns-requires-in-Question-clause-count
-turns-requires-in-Question-clause-count c = (Optional, optional_low, optional_high, omega arith)
-
 pub returns-in-Star-clause-notes : goal.returns-in-Star-clause-notes
-returns-in-Star-clause-notes c = λ at base es a h e s p cs n. on_from c.turns.result cs [] _ c.turns.new.draft.broken (after_quiet at (base + length (entries es) + length (atom a)) a es c.args.word.spelling.now c.args.word.kind kinds.Star c.in-Star.is tt) (on_same c.turns.result cs c.args.draft.now.broken c.turns.new.draft.broken c.turns.ensures.broken n)
+returns-in-Star-clause-notes c = λ at base es a h e s p cs n. subst (λ x. NotesLeast (cs ++ x) c.args.draft.now.broken) (after_quiet at (base + length (entries es) + length (atom a)) a es c.args.word.spelling.now c.args.word.kind kinds.Star c.in-Star.is tt) (same cs c.args.draft.now.broken n)
 
 pub returns-in-Plus-clause-notes : goal.returns-in-Plus-clause-notes
-returns-in-Plus-clause-notes c = λ at base es a h e s p cs n. on_from c.turns-in-Plus.result cs [] _ c.turns-in-Plus.new.draft.broken (after_quiet at (base + length (entries es) + length (atom a)) a es c.args.word.spelling.now c.args.word.kind kinds.Plus c.in-Plus.is tt) (on_same c.turns-in-Plus.result cs c.args.draft.now.broken c.turns-in-Plus.new.draft.broken c.turns-in-Plus.ensures.broken n)
+returns-in-Plus-clause-notes c = λ at base es a h e s p cs n. subst (λ x. NotesLeast (cs ++ x) c.args.draft.now.broken) (after_quiet at (base + length (entries es) + length (atom a)) a es c.args.word.spelling.now c.args.word.kind kinds.Plus c.in-Plus.is tt) (same cs c.args.draft.now.broken n)
 
 pub returns-in-Question-clause-notes : goal.returns-in-Question-clause-notes
-returns-in-Question-clause-notes c = λ at base es a h e s p cs n. on_from c.turns-in-Question.result cs [] _ c.turns-in-Question.new.draft.broken (after_quiet at (base + length (entries es) + length (atom a)) a es c.args.word.spelling.now c.args.word.kind kinds.Question c.in-Question.is tt) (on_same c.turns-in-Question.result cs c.args.draft.now.broken c.turns-in-Question.new.draft.broken c.turns-in-Question.ensures.broken n)
+returns-in-Question-clause-notes c = λ at base es a h e s p cs n. subst (λ x. NotesLeast (cs ++ x) c.args.draft.now.broken) (after_quiet at (base + length (entries es) + length (atom a)) a es c.args.word.spelling.now c.args.word.kind kinds.Question c.in-Question.is tt) (same cs c.args.draft.now.broken n)
 
 pub returns-in-OpenBrace-clause-notes : goal.returns-in-OpenBrace-clause-notes
-returns-in-OpenBrace-clause-notes c = λ at base es a h e s p cs n. subst (λ x. Rattle.kex_reader.specs.Stands.NotesLeast (cs ++ x) c.args.draft.now.broken) (after_quiet at (base + length (entries es) + length (atom a)) a es c.args.word.spelling.now c.args.word.kind kinds.OpenBrace c.in-OpenBrace.is tt) (same cs c.args.draft.now.broken n)
+returns-in-OpenBrace-clause-notes c = λ at base es a h e s p cs n. subst (λ x. NotesLeast (cs ++ x) c.args.draft.now.broken) (after_quiet at (base + length (entries es) + length (atom a)) a es c.args.word.spelling.now c.args.word.kind kinds.OpenBrace c.in-OpenBrace.is tt) (same cs c.args.draft.now.broken n)
 
 pub returns-in-Star-clause-held : goal.returns-in-Star-clause-held
-returns-in-Star-clause-held c = c.turns.ensures.held
+returns-in-Star-clause-held c = turned_held c.turned.result c.args.draft.now c.args.stack.now c.args.item _ c.turned.ensures
 
 pub returns-in-Plus-clause-held : goal.returns-in-Plus-clause-held
-returns-in-Plus-clause-held c = c.turns-in-Plus.ensures.held
+returns-in-Plus-clause-held c = turned_held c.turned-in-Plus.result c.args.draft.now c.args.stack.now c.args.item _ c.turned-in-Plus.ensures
 
 pub returns-in-Question-clause-held : goal.returns-in-Question-clause-held
-returns-in-Question-clause-held c = c.turns-in-Question.ensures.held
+returns-in-Question-clause-held c = turned_held c.turned-in-Question.result c.args.draft.now c.args.stack.now c.args.item _ c.turned-in-Question.ensures
 
 pub returns-in-OpenBrace-clause-held : goal.returns-in-OpenBrace-clause-held
 returns-in-OpenBrace-clause-held c = unchanged _ _ _ (λ x h. h)

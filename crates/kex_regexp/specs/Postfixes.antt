@@ -1,0 +1,118 @@
+-- Postfixes, of bodies and of programs: their trees, what they stand for, how an alphabet spells them, and the machine that
+-- reads a count in braces.
+use Rattle.kex_tokens.specs.Values.{number_of}
+use Rattle.std.specs.Prelude.{ℕ, Bool, true, false, ◌||◌, List, [], ◌∷◌, ◌++◌, Option, Some, None, nat_lt}
+
+-- counts as their digits
+pub data Postfix : Type 0 where
+  ZeroOrMore : Postfix
+  OneOrMore : Postfix
+  Optional : Postfix
+  Exactly : (n : List ℕ) → Postfix
+  AtLeast : (n : List ℕ) → Postfix
+  AtMost : (m : List ℕ) → Postfix
+  FromTo : (n m : List ℕ) → Postfix
+
+-- ---- what they stand for
+
+-- the least number of turns
+unfoldable pub low : Postfix → ℕ
+low ZeroOrMore = 0
+low OneOrMore = 1
+low Optional = 0
+low (Exactly n) = number_of n
+low (AtLeast n) = number_of n
+low (AtMost m) = 0
+low (FromTo n m) = number_of n
+
+-- the greatest number of turns, if there is one
+unfoldable pub high : Postfix → Option ℕ
+high ZeroOrMore = None
+high OneOrMore = None
+high Optional = Some 1
+high (Exactly n) = Some (number_of n)
+high (AtLeast n) = None
+high (AtMost m) = Some (number_of m)
+high (FromTo n m) = Some (number_of m)
+
+-- a count above 1,000, or one that is below the count before it
+abbrev pub is_bad_count : Postfix → Bool
+is_bad_count ZeroOrMore = false
+is_bad_count OneOrMore = false
+is_bad_count Optional = false
+is_bad_count (Exactly n) = nat_lt 1000 (number_of n)
+is_bad_count (AtLeast n) = nat_lt 1000 (number_of n)
+is_bad_count (AtMost m) = nat_lt 1000 (number_of m)
+is_bad_count (FromTo n m) = nat_lt 1000 (number_of n) || nat_lt 1000 (number_of m) || nat_lt (number_of m) (number_of n)
+
+-- ---- spelling
+
+-- the signs of an alphabet, and how it writes digits
+pub record Signs (A : Type 0) : Type 0 where
+  pub star : A
+  pub plus : A
+  pub question : A
+  pub open_brace : A
+  pub comma : A
+  pub close_brace : A
+  pub number : List ℕ → List A
+
+abbrev pub spelled : {A : Type 0} → Signs A → Postfix → List A
+spelled s ZeroOrMore = s.star ∷ []
+spelled s OneOrMore = s.plus ∷ []
+spelled s Optional = s.question ∷ []
+spelled s (Exactly n) = s.open_brace ∷ s.number n ++ s.close_brace ∷ []
+spelled s (AtLeast n) = s.open_brace ∷ s.number n ++ s.comma ∷ s.close_brace ∷ []
+spelled s (AtMost m) = s.open_brace ∷ s.comma ∷ s.number m ++ s.close_brace ∷ []
+spelled s (FromTo n m) = s.open_brace ∷ s.number n ++ (s.comma ∷ s.number m ++ s.close_brace ∷ [])
+
+-- what makes a postfix lazy: one more sign
+abbrev pub lazy_sign : {A : Type 0} → Signs A → Bool → List A
+lazy_sign s false = []
+lazy_sign s true = s.question ∷ []
+
+-- ---- a count, behind its brace
+
+pub data Counting : Type 0 where
+  Opened : Counting
+  Low : (n : List ℕ) → Counting
+  LowComma : (n : List ℕ) → Counting
+  LowHigh : (n m : List ℕ) → Counting
+  OnlyComma : Counting
+  High : (m : List ℕ) → Counting
+
+abbrev pub counted : {A : Type 0} → Signs A → Counting → List A
+counted s Opened = []
+counted s (Low n) = s.number n
+counted s (LowComma n) = s.number n ++ s.comma ∷ []
+counted s (LowHigh n m) = s.number n ++ s.comma ∷ s.number m
+counted s OnlyComma = s.comma ∷ []
+counted s (High m) = s.comma ∷ s.number m
+
+-- what one letter more is to a count
+pub data CountSign : Type 0 where
+  Digits : (digits : List ℕ) → CountSign
+  CommaSign : CountSign
+  CloseSign : CountSign
+  NoSign : CountSign
+
+pub data CountStep : Type 0 where
+  CountOn : Counting → CountStep
+  CountRead : Postfix → CountStep
+  CountWrong : CountStep
+
+-- one letter more. In some alphabets a number comes by and by, and digits go on with it; in others it comes whole
+abbrev pub count_by : (by_digits : Bool) → Counting → CountSign → CountStep
+count_by digits Opened (Digits d) = CountOn (Low d)
+count_by digits Opened CommaSign = CountOn OnlyComma
+count_by true (Low n) (Digits d) = CountOn (Low (n ++ d))
+count_by digits (Low n) CommaSign = CountOn (LowComma n)
+count_by digits (Low n) CloseSign = CountRead (Exactly n)
+count_by digits (LowComma n) (Digits d) = CountOn (LowHigh n d)
+count_by digits (LowComma n) CloseSign = CountRead (AtLeast n)
+count_by true (LowHigh n m) (Digits d) = CountOn (LowHigh n (m ++ d))
+count_by digits (LowHigh n m) CloseSign = CountRead (FromTo n m)
+count_by digits OnlyComma (Digits d) = CountOn (High d)
+count_by true (High m) (Digits d) = CountOn (High (m ++ d))
+count_by digits (High m) CloseSign = CountRead (AtMost m)
+count_by _ _ _ = CountWrong
