@@ -18,6 +18,8 @@ act p # main := "1" /ac/ | "2" /ab/ # 1'6g # 2 # 1 rejected: stage 1 at byte 3
 act p # main := "1" /ac/ | "2" /ab/ # 1'61 # 2a # 1 rejected: stage 1 at byte 4 (end)
 act p # main := "1" /ac/ | "2" /ab/ # 1'7 # 2 # 1 rejected: stage 1 at byte 3 (end)
 code p # main := (/a?/ (1 | /b/))* # ab # 00'611'621 # 0
+code p # main := "<" /[ab]*?/ ">" /b*/ # abb # 1'6100'620'621 # 0
+code p # main := /a??/ "x" /a?/ # a # 00'61 # 0
 code p # main := (/a*/)* # aa # 00'610'6111 # 0
 act p # main := ("x" | /a/)* # 001 # x # 0
 act p # main := (/a*/)* # 01011 #  # 0
@@ -52,6 +54,8 @@ check p --states 3 # main := /a{3}/ # a #  # 3 refused: K15 TooManyStates in sta
 run p --states 3 # main := /a{3}/ # a #  # 3 refused: K15 TooManyStates in stage 1
 run p # main := /a/ main /b/ | 1 # a #  # 3 refused: K10 NotTail at line 1 column 13
 run p # main := main # a #  # 3 refused: K13 NoText in stage 1
+run p # main := /a/*?? # a #  # 3 refused: K02 Unexpected at line 1 column 14
+run p # main := /a*??/ # a #  # 3 refused: K03 BadRegex at line 1 column 13
 check p # main := (/a*/)* # a # stages 1 places 4 states 1$ # 0
 check p # start: b >> a a := /a/ a b := /b*/ # a #  # 3 refused: K13 NoText in stage 2
 run p #  # a #  # 3 refused: K09 NoStart

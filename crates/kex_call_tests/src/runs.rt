@@ -19,6 +19,10 @@ run p # main := /a*/ "x" | /a*/ "y" # aa # aax # 0
 run p # main := ("x" | /a/ "y") // end # a # ay # 0
 run p # main := "<" /[ab]*/ ">" /b*/ # abb # <abb> # 0
 run p # main := "<" /a*/ ">" /b/ # aab # <aa>b # 0
+run p # main := "<" /[ab]*?/ ">" /b*/ # abb # <a>bb # 0
+run p # main := /a??/ "x" /a?/ # a # xa # 0
+run p # main := ("<" /a/ ">")*? /a*/ # aa # aa # 0
+run p # main := ("<" /a/ ">"){1,2}? /a*/ # aa # <a>a # 0
 run p # main := /[b-d]{2}\x2e/ # bd. # bd. # 0
 run p # main := /a/ main | 1 # aaa # aaa # 0
 run p # main := /a/ foo foo := /b/ main | "." # aba # aba. # 0

@@ -7,6 +7,7 @@ main := 1 => read
 start: a >> b a := (~x@"k" "yy")* b := ([r <- "a" x] | !r [r += r]){2,3} a // end => read
 start := /[a-z]+(b|c)?/ start | 1 => read
 main := 1 main := 1 => read
+main := /a/*? "x"+? 1? ? (/b/){2}? a{1,}? a{,3}? ~r@a{2,3}? => read
 main := "a => bad token at byte 8
 main := /a => bad token at byte 8
 main := "\q" => bad token at byte 8
@@ -14,6 +15,8 @@ main := | 1 => unexpected token at byte 8
 main := => unexpected token at byte 7
 main := 2 => unexpected token at byte 8
 main := /a/** => unexpected token at byte 12
+main := /a/*?? => unexpected token at byte 13
+main := /a/{2}?* => unexpected token at byte 15
 main := (1 => unexpected token at byte 10
 main := ~ := 1 => unexpected token at byte 10
 other: a => unexpected token at byte 5
@@ -21,8 +24,11 @@ main := [r <- ] => unexpected token at byte 14
 main := 1{,} => unexpected token at byte 11
 main := /a(/ => bad regex at byte 11
 main := /a**/ => bad regex at byte 11
+main := /a*??/ => bad regex at byte 12
 main := /^a/ => bad regex at byte 9
 main := /a{1001}/ => bad count at byte 10
+main := /a{1001}?b/ => bad count at byte 10
+main := 1{1001}? /[z-a]/ => bad count at byte 9
 main := foo /a{3,2}/ => bad count at byte 14
 main := 1{1001} /[z-a]/ "b"{00007,7} => bad count at byte 9
 main := /[z-a]/ => bad set at byte 9
@@ -30,6 +36,7 @@ main := /[^\x00-\xff]/ => bad set at byte 9
 main := /[z-a]/ /a{3,2}/ /^/ => bad regex at byte 26
 main := /[z-a]/ /a{3,2}/ => bad count at byte 18
 main := "x"{4,3} "y"{1001 => unexpected token at byte 25
+main := "x"{4,3}? "y"{1001 => unexpected token at byte 26
 "#;
 
 #[test]
