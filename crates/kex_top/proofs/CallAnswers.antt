@@ -2,9 +2,11 @@
 use Rattle.std.proofs.lemmas.List.{length-map}
 use Rattle.kex_model.specs.Trees.{root_of}
 use Rattle.kex_pipe.specs.Reports.{report_as}
-use Rattle.std.proofs.Common.{◌≡◌, ◌<◌, ℕ, suc, arith, List, [], ◌∷◌, Bool, true, false, refl, sym, ◌∙◌, subst, ap, inl, inr, ⊎_elim, length, get_or, map}
-use Rattle.std.specs.Prelude.{◌⊎◌, ◌↔◌, Option, Some, None}
-use Rattle.kex_ports.specs.Shelf.{ShelfText, IsTold}
+use Rattle.std.proofs.Common.{◌≡◌, ◌<◌, ℕ, suc, arith, List, [], ◌∷◌, Bool, true, false, refl, sym, ◌∙◌, subst, ap, inl, inr, ⊎_elim, length, map}
+use Rattle.std.specs.Prelude.{◌↔◌, Option, Some, None, IsSome}
+use Rattle.kex_ports.specs.Named.{Texts}
+use Rattle.kex_ports.specs.Reads.{Reads, last_given}
+use Rattle.kex_ports.specs.Shelf.{ShelfText, IsTold, told_of}
 use Rattle.kex_machine.specs.Nodes.{Graph}
 use Rattle.kex_code.specs.Codes.{IsAmong}
 use Rattle.kex_model.specs.Answers.{Answer, Pipeline, bad_byte, too_long, cut_off, whole, still_open}
@@ -15,7 +17,8 @@ use Rattle.kex_action.specs.Actors.{BeginsRun, IsWhole}
 use Rattle.kex_single.specs.Plays as plays
 use Rattle.kex_single.specs.Singles as single
 use Rattle.kex_lowering.specs.Stages.{Carries}
-use Rattle.kex_words.specs.Words.{Mode}
+use Rattle.kex_words.specs.Words.{Asked, Mode, Reach}
+use Rattle.kex_words.specs.Words.Asked.{ToCheck, ToStream, ToTry}
 use Rattle.kex_words.specs.Words.Mode.{running, coding, acting, testing}
 use Rattle.kex_model.specs.Programs.{Grammar}
 use Rattle.kex_stage.specs.Stages.{StagePlan, Gives}
@@ -23,16 +26,22 @@ use Rattle.kex_compile.specs.Stages.{AreStages, Plans, roots_of}
 use Rattle.kex_compile.specs.Compiled.{IsCompiled, IsRefused}
 use Rattle.kex_compile.specs.declared.limits.Limits.{Limits}
 use Rattle.kex_compile.specs.declared.refusal.CompileRefusal.{CompileRefusal}
-use Rattle.kex_words.specs.Gains.{Change, GainsFront, GainsWhole}
+use Rattle.kex_words.specs.Gains.{Change}
+use Rattle.kex_words.specs.declared.refusals.Refusal.{Refusal}
 use Rattle.kex_words.specs.Form.{most_input}
 use Rattle.kex_words.specs.Lines.{counts_line, trial_line}
 use Rattle.kex_words.specs.declared.counts.Summary.{Summary}
-use Rattle.kex_top.specs.Trials.{IsSummary, Tried, Tries, made_lines, trial_text, usual_states}
+use Rattle.kex_top.specs.Commands.{Counted, Performs, TellsLine, calls_of, limits_for, told_text}
+use Rattle.kex_top.specs.Refusals.{HasNone, HasPlans, IsStartOf}
+use Rattle.kex_top.specs.Starts.{status_of}
+use Rattle.kex_top.specs.Trials.{IsSummary, made_lines, trial_text, usual_states}
+use Rattle.kex_top.specs.declared.start.StartError.{StartError}
+use Rattle.kex_top.specs.declared.start.StartError.TheVariants as start
 use Rattle.kex_top.specs.Answer.{Said}
-use Rattle.kex_top.specs.Pipelines.{NodesSay, StagesSay, first_limit, stage_plans}
+use Rattle.kex_top.specs.Pipelines.{Answered, NodesSay, StagesSay, first_limit, stage_plans}
 use Rattle.kex_top.specs.Run.{IsLeft, Left, Ran, EndsAs, WritesAll}
-use Rattle.kex_top.specs.Kex.{Runs, CallAnswers, Checks, Counted, IsStatusOf, TellsLine}
-use Rattle.kex_top.specs.Modes.{BeginsParse, HasParseAlone, IsParse, WritesPart, MachineGives, MachinesSay, MeansCode, SaysCode, SaysNothing, StageGives, limits_of, limits_to_check}
+use Rattle.kex_top.specs.Kex.{CommandAnswers, Works}
+use Rattle.kex_top.specs.Modes.{BeginsParse, HasParseAlone, IsParse, WritesPart, MachineGives, MachinesSay, MeansCode, SaysCode, SaysNothing, SaysBy, StageGives, limits_of, limits_to_check}
 use Rattle.kex_pipe.specs.declared.report.Rejected.{Rejected as Report}
 use Rattle.kex_top.specs.declared.status.Status.{Status}
 use Rattle.kex_top.specs.declared.status.Status.TheVariants.{Done, Rejected, Usage, Refused, ReadFault, WriteFault, ShelfFault, Memory, TooLong}
@@ -217,11 +226,6 @@ one-machine limits text plans p asked =
     let few = p.accepts.one_stage asked in
     omega arith
 
-pub the-machine : (ms : List Graph) (d : Graph) → length ms ≡ 1 → ms ≡ get_or ms 0 d ∷ []
-the-machine [] d one = absurd (omega arith)
-the-machine (m ∷ []) d one = refl
-the-machine (m ∷ k ∷ ms) d one = absurd (omega arith)
-
 pub first-limit : (limit : ℕ) (ms : List Graph) → 0 < length ms → first_limit (λ p. p.limit) (stage_plans limit ms) ≡ limit
 first-limit limit [] lt = absurd (omega arith)
 first-limit limit (m ∷ ms) lt = refl
@@ -231,128 +235,118 @@ first-of plan limit [] = refl
 first-of plan limit (s ∷ ss) = refl
 
 module _ (mode : Mode) (limit : ℕ) (ms : List Graph) (block : ℕ) (source sink : Change) (s : Status) where
-  pub ran_by : (states : ℕ) → mode ≡ running states → 0 < length ms → (Left source sink × (s ≡ Memory)) ⊎ Ran (NodesSay (stage_plans limit ms)) block source sink s → (Left source sink × (s ≡ Memory)) ⊎ Ran (MachinesSay mode limit ms) block source sink s
-  ran_by states is some (inl x) = inl x
-  ran_by states is some (inr r) = inr (subst (λ m. Ran (MachinesSay m limit ms) block source sink s) (sym is) (run_by_machines states limit ms block source sink s some r))
-
-  pub one_by : (to : Mode) (d m : Graph) → mode ≡ to → length ms ≡ 1 → m ≡ get_or ms 0 d → (Left source sink × (s ≡ Memory)) ⊎ Ran (MachinesSay to limit (m ∷ [])) block source sink s → (Left source sink × (s ≡ Memory)) ⊎ Ran (MachinesSay mode limit ms) block source sink s
-  one_by to d m is one same (inl x) = inl x
-  one_by to d m is one same (inr r) =
-      inr (subst (λ z. Ran (MachinesSay mode limit z) block source sink s) (ap (λ z. z ∷ []) same ∙ sym (the-machine ms d one)) (subst (λ z. Ran (MachinesSay z limit (m ∷ [])) block source sink s) (sym is) r))
+  pub ran_by : (states : ℕ) → mode ≡ running states → 0 < length ms → Ran (NodesSay (stage_plans limit ms)) block source sink s → Ran (MachinesSay mode limit ms) block source sink s
+  ran_by states is some r = subst (λ m. Ran (MachinesSay m limit ms) block source sink s) (sym is) (run_by_machines states limit ms block source sink s some r)
 
 -- one stage by itself
-module _ {A : Type 0} (F : A → List ℕ → Bool → Answer → Type 0) (x : A) (mode : Mode) (limit : ℕ) (m : Graph) (block : ℕ) (source sink : Change) (s : Status) where
-  pub ran_single : ((w : List ℕ) (e : Bool) (a : Answer) → F x w e a → MachineGives mode limit m w e a) → ((w : List ℕ) (e : Bool) (a : Answer) → MachineGives mode limit m w e a → F x w e a) → (Left source sink × (s ≡ Memory)) ⊎ Ran (StagesSay (λ p w e a. F p w e a) (x ∷ [])) block source sink s → (Left source sink × (s ≡ Memory)) ⊎ Ran (MachinesSay mode limit (m ∷ [])) block source sink s
-  ran_single to from (inl z) = inl z
-  ran_single to from (inr r) =
-      inr (
+module _ {A : Type 0} (F : A → List ℕ → Bool → Answer → Type 0) (x : A) (mode : Mode) (limit : ℕ) (m : Graph) (block : ℕ) (source sink : Change) where
+  pub ran_single : ((w : List ℕ) (e : Bool) (a : Answer) → F x w e a → MachineGives mode limit m w e a) → ((w : List ℕ) (e : Bool) (a : Answer) → MachineGives mode limit m w e a → F x w e a) → (s : Status) → Ran (StagesSay (λ p w e a. F p w e a) (x ∷ [])) block source sink s → Ran (MachinesSay mode limit (m ∷ [])) block source sink s
+  ran_single to from s r =
       ran_alike (StagesSay (λ p w e a. F p w e a) (x ∷ [])) (MachinesSay mode limit (m ∷ []))
       (λ w e said h. (h.0, let (a, rest, gives, others, is) = h.1 in (a, rest, to w e a gives, others, is)))
       (λ w e said h. (h.0, let (a, rest, gives, others, is) = h.1 in (a, rest, from w e a gives, others, is)))
       block source sink s r
-      )
 
-pub runs_by : (mode : Mode) (limit block : ℕ) (told : ShelfText) (text : List ℕ) (plans : Plans) (source sink : Change) (s : Status) → IsTold told text → IsCompiled (limits_of mode) text plans → Ran (MachinesSay mode limit plans.stages) block source sink s → Runs mode limit block told source sink s
-runs_by mode limit block told text plans source sink s is_told p r = record {
-  text = text;
-  is_told = is_told;
-  program = p.program;
-  accepts = p.accepts;
-  ran = ran_alike _ _
-      (λ w e said h. carried p.program mode limit 1 1 (roots_of p.program) plans.stages w e said.text (report_as said.report) p.plans_of.stages h.1)
-      (λ w e said h. (some-machine (limits_of mode) text plans p, carried-back p.program mode limit 1 1 (roots_of p.program) plans.stages w e said.text (report_as said.report) p.plans_of.stages h))
-      block source sink s r;
-}
+-- ---- a command that doesn't begin
 
--- a run's status is none that comes before a run
-pub answers_by : (mode : Mode) (limit block : ℕ) (told : ShelfText) (source sink : Change) (s : Status) → Runs mode limit block told source sink s → CallAnswers mode limit block told source sink s
-answers_by mode limit block told source sink Done r = r
-answers_by mode limit block told source sink (Rejected x) r = r
-answers_by mode limit block told source sink (TooLong x) r = r
-answers_by mode limit block told source sink ReadFault r = r
-answers_by mode limit block told source sink WriteFault r = r
-answers_by mode limit block told source sink Memory r = inr r
-answers_by mode limit block told source sink Usage r = r.ran.ends
-answers_by mode limit block told source sink (Refused x) r = absurd r.ran.ends
-answers_by mode limit block told source sink ShelfFault r = absurd r.ran.ends
+-- a text that has no plans
+pub unplanned : (limits : Limits) (told : ShelfText) (text : List ℕ) (why : StartError) → IsTold told text → ((rule : CompileRefusal) × IsRefused limits text rule × IsStartOf text rule why) → HasNone limits told why
+unplanned limits told text start.Memory t x = tt
+unplanned limits told text (start.Refused r) t (rule, refused, shown) = inr (record { text = text; is_told = t; rule = rule; is_refused = refused; is_shown = shown })
+unplanned limits told text start.Usage t x = x.2
+unplanned limits told text start.Shelf t x = absurd x.2
 
-pub served : (mode : Mode) (limit block : ℕ) (told : ShelfText) (text : List ℕ) (plans : Plans) (source sink : Change) (s : Status) → IsTold told text → IsCompiled (limits_of mode) text plans → (Left source sink × (s ≡ Memory)) ⊎ Ran (MachinesSay mode limit plans.stages) block source sink s → CallAnswers mode limit block told source sink s
-served mode limit block told text plans source sink s t p (inl x) = subst (λ z. CallAnswers mode limit block told source sink z) (sym x.1) (inl x.0)
-served mode limit block told text plans source sink s t p (inr r) = answers_by mode limit block told source sink s (runs_by mode limit block told text plans source sink s t p r)
+pub unbegun : (asked : Asked) (texts : Option Texts) (reads : Option Reads) (source sink : Change) (why : StartError) → HasNone (limits_for asked) (told_text texts asked) why → (why ≡ start.Shelf → IsSome (calls_of (Some asked)).takes) → Left source sink → CommandAnswers asked texts reads source sink (status_of why)
+unbegun asked texts reads source sink start.Usage h t l = h
+unbegun asked texts reads source sink start.Shelf h t l = (t refl, l)
+unbegun asked texts reads source sink (start.Refused r) h t l = (l, h)
+unbegun asked texts reads source sink start.Memory h t l = inl l
 
-pub refused_by : (mode : Mode) (limit block : ℕ) (told : ShelfText) (text : List ℕ) (rule : CompileRefusal) (source sink : Change) (s : Status) → IsTold told text → IsRefused (limits_of mode) text rule → Left source sink → IsStatusOf text rule s → CallAnswers mode limit block told source sink s
-refused_by mode limit block told text rule source sink Memory t h l i = inl l
-refused_by mode limit block told text rule source sink (Refused r) t h l i = (l, inr (record { text = text; is_told = t; rule = rule; is_refused = h; is_shown = i }))
-refused_by mode limit block told text rule source sink Done t h l i = absurd i
-refused_by mode limit block told text rule source sink (Rejected x) t h l i = absurd i
-refused_by mode limit block told text rule source sink (TooLong x) t h l i = absurd i
-refused_by mode limit block told text rule source sink ReadFault t h l i = absurd i
-refused_by mode limit block told text rule source sink WriteFault t h l i = absurd i
-refused_by mode limit block told text rule source sink Usage t h l i = absurd i
-refused_by mode limit block told text rule source sink ShelfFault t h l i = absurd i
+-- ---- a command that has begun: by its program it answers none of what is answered before
 
--- ---- a check
+not_usage : (asked : Asked) (P : Grammar) (reads : Option Reads) (source sink : Change) → Performs asked P reads source sink Usage → ⊥
+not_usage (ToStream mode name reach) P reads source sink h = h.ends
+not_usage (ToCheck name states) P reads source sink h = h.1.told
+not_usage (ToTry lines block rings) P reads source sink h = h.1.told
 
-pub check_refused : (asked : ℕ) (told : ShelfText) (text : List ℕ) (rule : CompileRefusal) (source sink : Change) (s : Status) → IsTold told text → IsRefused (limits_to_check asked) text rule → Left source sink → IsStatusOf text rule s → Checks asked told source sink s
-check_refused asked told text rule source sink Memory t h l i = l
-check_refused asked told text rule source sink (Refused r) t h l i = (l, inr (record { text = text; is_told = t; rule = rule; is_refused = h; is_shown = i }))
-check_refused asked told text rule source sink Done t h l i = absurd i
-check_refused asked told text rule source sink (Rejected x) t h l i = absurd i
-check_refused asked told text rule source sink (TooLong x) t h l i = absurd i
-check_refused asked told text rule source sink ReadFault t h l i = absurd i
-check_refused asked told text rule source sink WriteFault t h l i = absurd i
-check_refused asked told text rule source sink Usage t h l i = absurd i
-check_refused asked told text rule source sink ShelfFault t h l i = absurd i
+not_refused : (asked : Asked) (P : Grammar) (reads : Option Reads) (source sink : Change) (r : Refusal) → Performs asked P reads source sink (Refused r) → ⊥
+not_refused (ToStream mode name reach) P reads source sink r h = h.ends
+not_refused (ToCheck name states) P reads source sink r h = h.1.told
+not_refused (ToTry lines block rings) P reads source sink r h = h.1.told
+
+not_shelf : (asked : Asked) (P : Grammar) (reads : Option Reads) (source sink : Change) → Performs asked P reads source sink ShelfFault → ⊥
+not_shelf (ToStream mode name reach) P reads source sink h = h.ends
+not_shelf (ToCheck name states) P reads source sink h = h.1.told
+not_shelf (ToTry lines block rings) P reads source sink h = h.1.told
+
+begun : (asked : Asked) (texts : Option Texts) (reads : Option Reads) (source sink : Change) (s : Status) → Works asked texts reads source sink s → CommandAnswers asked texts reads source sink s
+begun asked texts reads source sink Done w = w
+begun asked texts reads source sink (Rejected x) w = w
+begun asked texts reads source sink (TooLong x) w = w
+begun asked texts reads source sink ReadFault w = w
+begun asked texts reads source sink WriteFault w = w
+begun asked texts reads source sink Memory w = inr w
+begun asked texts reads source sink Usage w = not_usage asked w.program reads source sink w.performs
+begun asked texts reads source sink (Refused x) w = absurd (not_refused asked w.program reads source sink x w.performs)
+begun asked texts reads source sink ShelfFault w = absurd (not_shelf asked w.program reads source sink w.performs)
+
+pub served : (mode : Mode) (name : List ℕ) (reach : Reach) (texts : Option Texts) (reads : Option Reads) (plans : Plans) (source sink : Change) (s : Status) → HasPlans (limits_of mode) (told_of texts name) plans → Ran (MachinesSay mode reach.max_input plans.stages) (last_given reach.block reads) source sink s → CommandAnswers (ToStream mode name reach) texts reads source sink s
+served mode name reach texts reads plans source sink s h r =
+    let p = h.compiled in
+    let limit = reach.max_input in
+    begun (ToStream mode name reach) texts reads source sink s (
+    record {
+      text = h.text;
+      is_told = h.is_told;
+      program = p.program;
+      accepts = p.accepts;
+      performs = ran_alike (MachinesSay mode limit plans.stages) (SaysBy mode p.program limit)
+          (λ w e said k. carried p.program mode limit 1 1 (roots_of p.program) plans.stages w e said.text (report_as said.report) p.plans_of.stages k.1)
+          (λ w e said k. (some-machine (limits_of mode) h.text plans p, carried-back p.program mode limit 1 1 (roots_of p.program) plans.stages w e said.text (report_as said.report) p.plans_of.stages k))
+          (last_given reach.block reads) source sink s r;
+    }
+    )
 
 -- the counts of the plans are those of the program
-counted : (asked : ℕ) (told : ShelfText) (text : List ℕ) (plans : Plans) (Q : List ℕ → Type 0) → IsTold told text → IsCompiled (limits_to_check asked) text plans → Q (counts_line (record { stages = length plans.stages; places = plans.places; states = plans.states })) → Counted asked told Q
-counted asked told text plans Q t p q =
+counted : (limits : Limits) (text : List ℕ) (plans : Plans) (p : IsCompiled limits text plans) (Q : List ℕ → Type 0) → limits.tables ≡ true → Q (counts_line (record { stages = length plans.stages; places = plans.places; states = plans.states })) → Counted p.program Q
+counted limits text plans p Q asked q =
     let n = as-many p.program 1 (roots_of p.program) plans.stages p.plans_of.stages in
     let m = length-map p.program.stages (λ s. root_of p.program s.name) in
     let same : length plans.stages ≡ length p.program.stages = n ∙ m in
     record {
-      text = text;
-      is_told = t;
-      program = p.program;
-      accepts = p.accepts;
       places = plans.places;
       states = plans.states;
       in_all = p.plans_of.places;
-      states_in_all = p.plans_of.states refl;
-      written = subst (λ k. Q (counts_line (record { stages = k; places = plans.places; states = plans.states }))) same q;
+      states_in_all = p.plans_of.states asked;
+      told = subst (λ k. Q (counts_line (record { stages = k; places = plans.places; states = plans.states }))) same q;
     }
 
-pub checked : (asked : ℕ) (told : ShelfText) (text : List ℕ) (plans : Plans) (source sink : Change) (s : Status) → IsTold told text → IsCompiled (limits_to_check asked) text plans → IsLeft source → TellsLine (counts_line (record { stages = length plans.stages; places = plans.places; states = plans.states })) sink s → Checks asked told source sink s
-checked asked told text plans source sink Done t p l q = (l, counted asked told text plans (λ line. GainsWhole sink line) t p q)
-checked asked told text plans source sink WriteFault t p l q = (l, counted asked told text plans (λ line. GainsFront sink line) t p q)
-checked asked told text plans source sink (Rejected x) t p l q = absurd q
-checked asked told text plans source sink (TooLong x) t p l q = absurd q
-checked asked told text plans source sink ReadFault t p l q = absurd q
-checked asked told text plans source sink Usage t p l q = absurd q
-checked asked told text plans source sink (Refused r) t p l q = absurd q
-checked asked told text plans source sink ShelfFault t p l q = absurd q
-checked asked told text plans source sink Memory t p l q = absurd q
+pub checked : (name : List ℕ) (states : ℕ) (texts : Option Texts) (reads : Option Reads) (plans : Plans) (source sink : Change) (s : Status) → HasPlans (limits_to_check states) (told_of texts name) plans → IsLeft source → TellsLine (counts_line (record { stages = length plans.stages; places = plans.places; states = plans.states })) sink s → CommandAnswers (ToCheck name states) texts reads source sink s
+checked name states texts reads plans source sink s h l q =
+    begun (ToCheck name states) texts reads source sink s (
+    record {
+      text = h.text;
+      is_told = h.is_told;
+      program = h.compiled.program;
+      accepts = h.compiled.accepts;
+      performs = (l, counted (limits_to_check states) h.text plans h.compiled (λ line. TellsLine line sink s) refl q);
+    }
+    )
 
--- ---- a trial
-
-pub trial_refused : (lines : ℕ) (rule : CompileRefusal) (sink : Change) (s : Status) → IsRefused (limits_to_check usual_states) trial_text rule → IsLeft sink → IsStatusOf trial_text rule s → Tries lines sink s
-trial_refused lines rule sink Memory h l i = l
-trial_refused lines rule sink (Refused r) h l i = (l, record { text = trial_text; is_told = refl; rule = rule; is_refused = h; is_shown = i })
-trial_refused lines rule sink Done h l i = absurd i
-trial_refused lines rule sink (Rejected x) h l i = absurd i
-trial_refused lines rule sink (TooLong x) h l i = absurd i
-trial_refused lines rule sink ReadFault h l i = absurd i
-trial_refused lines rule sink WriteFault h l i = absurd i
-trial_refused lines rule sink Usage h l i = absurd i
-trial_refused lines rule sink ShelfFault h l i = absurd i
-
-module _ (lines : ℕ) (plans : Plans) (p : IsCompiled (limits_to_check usual_states) trial_text plans) (summary : Summary) (sums : IsSummary (NodesSay (stage_plans most_input plans.stages)) lines summary) (sink : Change) where
-  summed : (Q : List ℕ → Type 0) → Q (trial_line summary) → Tried lines Q
-  summed Q q = record {
-    program = p.program;
-    accepts = p.accepts;
-    summary = summary;
-    sums = record {
+pub tried : (lines block : ℕ) (rings : Option ℕ) (texts : Option Texts) (reads : Option Reads) (plans : Plans) (summary : Summary) (source sink : Change) (s : Status) → IsCompiled (limits_to_check usual_states) trial_text plans → IsSummary (NodesSay (stage_plans most_input plans.stages)) lines summary → IsLeft source → TellsLine (trial_line summary) sink s → CommandAnswers (ToTry lines block rings) texts reads source sink s
+tried lines block rings texts reads plans summary source sink s p sums l q =
+    begun (ToTry lines block rings) texts reads source sink s (
+    record {
+      text = trial_text;
+      is_told = refl;
+      program = p.program;
+      accepts = p.accepts;
+      performs = (l, record { summary = summary; sums = summed; told = q });
+    }
+    )
+  where
+    summed : IsSummary (Answered p.program most_input) lines summary
+    summed = record {
       said = sums.said;
       is_said = carried p.program (running 4096) most_input 1 1 (roots_of p.program) plans.stages (made_lines lines) true sums.said.text (report_as sums.said.report) p.plans_of.stages
           (by_machines 4096 most_input 1 plans.stages (made_lines lines) true sums.said.text (report_as sums.said.report) sums.is_said.1);
@@ -360,17 +354,4 @@ module _ (lines : ℕ) (plans : Plans) (p : IsCompiled (limits_to_check usual_st
       made = sums.made;
       written = sums.written;
       roll = sums.roll;
-    };
-    written = q;
-  }
-
-  pub tried : (s : Status) → TellsLine (trial_line summary) sink s → Tries lines sink s
-  tried Done q = summed (λ line. GainsWhole sink line) q
-  tried WriteFault q = summed (λ line. GainsFront sink line) q
-  tried (Rejected x) q = absurd q
-  tried (TooLong x) q = absurd q
-  tried ReadFault q = absurd q
-  tried Usage q = absurd q
-  tried (Refused r) q = absurd q
-  tried ShelfFault q = absurd q
-  tried Memory q = absurd q
+    }

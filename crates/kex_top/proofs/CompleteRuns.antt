@@ -1,9 +1,13 @@
 -- A good run is done, or wants memory; and what is done is what the program means.
 use Rattle.std.proofs.Common.{◌≡◌, ◌++◌, ◌≤◌, ◌<◌, ℕ, suc, List, [], ◌∷◌, Bool, true, false, refl, sym, ◌∙◌, ap, subst, append_assoc, append-nil as append-nil', arith, inl, inr, length}
-use Rattle.std.specs.Prelude.{◌⊎◌, Option, Some, None}
+use Rattle.std.specs.Prelude.{◌⊎◌, Option, Some, None, IsSome}
 use Rattle.std.specs.Io.KnownBytes.{Appends, Consumes, IsAtEnd}
 use Rattle.kex_code.specs.Codes.{Begins}
-use Rattle.kex_ports.specs.Shelf.{ShelfText, untold, absent, present, IsTold, IsPast}
+use Rattle.std.proofs.lemmas.Bool.{false≢true}
+use Rattle.kex_ports.specs.Named.{Texts}
+use Rattle.kex_ports.specs.Reads.{Reads, last_given}
+use Rattle.kex_ports.specs.Shelf.{ShelfText, untold, absent, present, IsTold, IsPast, told_of}
+use Rattle.kex_tokens.specs.Texts.{most_text}
 use Rattle.kex_ports.proofs.Known.{append-nil}
 use Rattle.kex_model.specs.Programs.{Grammar}
 use Rattle.kex_model.specs.Places.{moves, start_of, steps_of}
@@ -34,16 +38,19 @@ use Rattle.kex_machine.proofs.Outputs.{acted_grows}
 use Rattle.kex_single.specs.PlayLaws as plays
 use Rattle.kex_single.specs.CodeLaws.{text_grows}
 use Rattle.kex_single.specs.TestLaws.{both_nothing}
-use Rattle.kex_words.specs.Words.{Mode}
+use Rattle.kex_words.specs.Words.{Asked, Mode, Reach}
+use Rattle.kex_words.specs.Words.Asked.{ToCheck, ToStream, ToTry}
 use Rattle.kex_words.specs.Words.Mode.{running, coding, acting, testing}
 use Rattle.kex_words.specs.Gains.{Change}
 use Rattle.kex_words.specs.declared.refusals.Refusal.{Refusal}
 use Rattle.kex_top.specs.Answer.{Said}
-use Rattle.kex_top.specs.Modes.{BeginsParse, HasParseAlone, IsParse, WritesPart, MeansCode, SaysBy, SaysCode, SaysNothing, StageGives, limits_of, limits_to_check}
+use Rattle.kex_top.specs.Modes.{BeginsParse, HasParseAlone, IsParse, WritesPart, MeansCode, SaysBy, SaysCode, SaysNothing, StageGives, limits_of}
 use Rattle.kex_top.specs.Pipelines.{MeansInTurn}
-use Rattle.kex_top.specs.Run.{WritesAll}
-use Rattle.kex_top.specs.Trials.{KeepsRules, Tries, trial_text, usual_states}
-use Rattle.kex_top.specs.Kex.{CallAnswers, Broke, Checks, Headline, IsGood, IsSound, IsQuiet, IsRefusalOf, IsRefusedFor, Runs, ShelfAnswers, ShelfChange, most_text}
+use Rattle.kex_top.specs.Run.{Ran, WritesAll}
+use Rattle.kex_top.specs.Commands.{Parses, calls_of, limits_for, told_text}
+use Rattle.kex_top.specs.Refusals.{IsRefusalOf, IsRefusedFor}
+use Rattle.kex_top.specs.Shelves.{Broke, ShelfChange, ShelfServes}
+use Rattle.kex_top.specs.Kex.{CallAnswers, CommandAnswers, Headline, IsComplete, IsQuiet, IsSound, Works}
 use Rattle.kex_pipe.specs.declared.report.Rejected.{Rejected as Report}
 use Rattle.kex_top.specs.declared.status.Status.{Status}
 use Rattle.kex_top.specs.declared.status.Status.TheVariants.{Done, Rejected, Usage, Refused, ReadFault, WriteFault, ShelfFault, Memory, TooLong}
@@ -182,51 +189,62 @@ unrefused limits told text r is short good (inr b) =
     let same : b.text ≡ text = told-same told text b.text is b.is_told in
     shown_memory b.text r b.rule (good b.rule (subst (λ t. IsRefused limits t b.rule) same b.is_refused)) b.is_shown
 
-ran-good : (mode : Mode) (limit block : ℕ) (told : ShelfText) (shelf : ShelfChange) (source sink : Change) (s : Status) (r : Report) → IsGood mode limit told shelf source sink → (p : Runs mode limit block told source sink s) → WritesAll (SaysBy mode p.program limit) p.ran.w p.ran.e (Some r) sink → ⊥
-ran-good mode limit block told shelf source sink s r g p all =
-    let same : p.text ≡ g.text = told-same told g.text p.text g.is_told p.is_told in
-    let goes = by p.text same p.program p.accepts.spells in
-    unrejected_by p.program mode limit source.old source.new p.ran.w g.input p.ran.e all.said goes.0 r g.rest p.ran.read p.ran.ended all.is_said all.reports goes.1 goes.2
-  where
-    by : (text : List ℕ) → text ≡ g.text → (P : Grammar) → Spells text P → (said : Said) × SaysBy mode P limit g.input true said × (said.report ≡ None)
-    by text e = subst (λ t. (P : Grammar) → Spells t P → (said : Said) × SaysBy mode P limit g.input true said × (said.report ≡ None)) (sym e) g.parses
+-- a run on an input that is good has no report
+ran-good : (mode : Mode) (limit last : ℕ) (text other : List ℕ) (P : Grammar) (source sink : Change) (s : Status) (r : Report) → other ≡ text → Spells other P → Parses mode limit text source → (ran : Ran (SaysBy mode P limit) last source sink s) → WritesAll (SaysBy mode P limit) ran.w ran.e (Some r) sink → ⊥
+ran-good mode limit last text other P source sink s r same spells g ran all =
+    let goes = g.parses P (subst (λ t. Spells t P) same spells) in
+    unrejected_by P mode limit source.old source.new ran.w g.input ran.e all.said goes.0 r g.rest ran.read ran.ended all.is_said all.reports goes.1 goes.2
 
-pub completes : (mode : Mode) (limit block : ℕ) (told : ShelfText) (shelf : ShelfChange) (source sink : Change) (s : Status) → IsGood mode limit told shelf source sink → ShelfAnswers told shelf s → CallAnswers mode limit block told source sink s → (s ≡ Done) ⊎ (s ≡ Memory)
-completes mode limit block told shelf source sink Done g h a = inl refl
-completes mode limit block told shelf source sink Memory g h a = inr refl
-completes mode limit block told shelf source sink Usage g h a = absurd a
-completes mode limit block told shelf source sink ShelfFault g h a = absurd (unbroken told g.text shelf g.is_told g.on_shelf h.1)
-completes mode limit block told shelf source sink (Refused k) g h a = absurd (unrefused (limits_of mode) told g.text k g.is_told g.short g.unbroken a.1)
-completes mode limit block told shelf source sink (Rejected r) g h a = absurd (ran-good mode limit block told shelf source sink (Rejected r) r g a a.ran.ends.1)
-completes mode limit block told shelf source sink (TooLong r) g h a = absurd (ran-good mode limit block told shelf source sink (TooLong r) r g a a.ran.ends.1)
-completes mode limit block told shelf source sink ReadFault g h a =
-    let rose = a.ran.ends.2.1 in let quiet = g.readable in absurd (omega arith)
-completes mode limit block told shelf source sink WriteFault g h a =
-    let rose = a.ran.ends.2.1 in let quiet = g.writable in absurd (omega arith)
+module _ (texts : Option Texts) (shelf : ShelfChange) (reads : Option Reads) (source sink : Change) where
+  -- what is sound doesn't fail at the shelf
+  unfailed : (asked : Asked) → IsSound asked texts shelf source sink → IsSome (calls_of (Some asked)).takes → ShelfServes (calls_of (Some asked)).takes texts shelf ShelfFault → ⊥
+  unfailed (ToStream mode name reach) g takes h = unbroken (told_of texts name) g.text shelf g.is_told (g.on_shelf takes) h.2
+  unfailed (ToCheck name states) g takes h = unbroken (told_of texts name) g.text shelf g.is_told (g.on_shelf takes) h.2
+  unfailed (ToTry lines block rings) g takes h = false≢true takes
 
-pub check_completes : (asked : ℕ) (told : ShelfText) (shelf : ShelfChange) (source sink : Change) (s : Status) → IsSound asked told shelf sink → ShelfAnswers told shelf s → Checks asked told source sink s → (s ≡ Done) ⊎ (s ≡ Memory)
-check_completes asked told shelf source sink Done g h a = inl refl
-check_completes asked told shelf source sink Memory g h a = inr refl
-check_completes asked told shelf source sink ShelfFault g h a = absurd (unbroken told g.text shelf g.is_told g.on_shelf h.1)
-check_completes asked told shelf source sink (Refused k) g h a = absurd (unrefused (limits_to_check asked) told g.text k g.is_told g.short g.unbroken a.1)
-check_completes asked told shelf source sink WriteFault g h a =
-    let rose = a.1.written.1.1 in let quiet = g.writable in absurd (omega arith)
-check_completes asked told shelf source sink Usage g h a = absurd a
-check_completes asked told shelf source sink (Rejected r) g h a = absurd a
-check_completes asked told shelf source sink (TooLong r) g h a = absurd a
-check_completes asked told shelf source sink ReadFault g h a = absurd a
+  -- isn't rejected
+  unrejected_as : (asked : Asked) (r : Report) → IsSound asked texts shelf source sink → Works asked texts reads source sink (Rejected r) → ⊥
+  unrejected_as (ToStream mode name reach) r g w =
+      ran-good mode reach.max_input (last_given reach.block reads) g.text w.text w.program source sink (Rejected r) r (told-same (told_of texts name) g.text w.text g.is_told w.is_told) w.accepts.spells g.input_is_good w.performs w.performs.ends.1
+  unrejected_as (ToCheck name states) r g w = w.performs.1.told
+  unrejected_as (ToTry lines block rings) r g w = w.performs.1.told
 
-pub trial_completes : (lines : ℕ) (sink : Change) (s : Status) → KeepsRules sink → Tries lines sink s → (s ≡ Done) ⊎ (s ≡ Memory)
-trial_completes lines sink Done g a = inl refl
-trial_completes lines sink Memory g a = inr refl
-trial_completes lines sink (Refused k) g a = absurd (shown_memory a.1.text k a.1.rule (g.unbroken a.1.rule (subst (λ t. IsRefused (limits_to_check usual_states) t a.1.rule) (told-same (present trial_text) trial_text a.1.text refl a.1.is_told) a.1.is_refused)) a.1.is_shown)
-trial_completes lines sink WriteFault g a =
-    let rose = a.written.1.1 in let quiet = g.writable in absurd (omega arith)
-trial_completes lines sink Usage g a = absurd a
-trial_completes lines sink (Rejected r) g a = absurd a
-trial_completes lines sink (TooLong r) g a = absurd a
-trial_completes lines sink ReadFault g a = absurd a
-trial_completes lines sink ShelfFault g a = absurd a
+  -- isn't too long
+  unlimited : (asked : Asked) (r : Report) → IsSound asked texts shelf source sink → Works asked texts reads source sink (TooLong r) → ⊥
+  unlimited (ToStream mode name reach) r g w =
+      ran-good mode reach.max_input (last_given reach.block reads) g.text w.text w.program source sink (TooLong r) r (told-same (told_of texts name) g.text w.text g.is_told w.is_told) w.accepts.spells g.input_is_good w.performs w.performs.ends.1
+  unlimited (ToCheck name states) r g w = w.performs.1.told
+  unlimited (ToTry lines block rings) r g w = w.performs.1.told
+
+  -- and fails at neither source nor sink
+  unstopped : (asked : Asked) → IsSound asked texts shelf source sink → Works asked texts reads source sink ReadFault → ⊥
+  unstopped (ToStream mode name reach) g w =
+      let rose = w.performs.ends.2.1 in let quiet = g.readable refl in omega arith
+  unstopped (ToCheck name states) g w = w.performs.1.told
+  unstopped (ToTry lines block rings) g w = w.performs.1.told
+
+  unspoilt : (asked : Asked) → IsSound asked texts shelf source sink → Works asked texts reads source sink WriteFault → ⊥
+  unspoilt (ToStream mode name reach) g w =
+      let rose = w.performs.ends.2.1 in let quiet = g.writable in omega arith
+  unspoilt (ToCheck name states) g w =
+      let rose = w.performs.1.told.1.1 in let quiet = g.writable in omega arith
+  unspoilt (ToTry lines block rings) g w =
+      let rose = w.performs.1.told.1.1 in let quiet = g.writable in omega arith
+
+  sound : (asked : Asked) (s : Status) → IsSound asked texts shelf source sink → ShelfServes (calls_of (Some asked)).takes texts shelf s → CommandAnswers asked texts reads source sink s → (s ≡ Done) ⊎ (s ≡ Memory)
+  sound asked Done g h a = inl refl
+  sound asked Memory g h a = inr refl
+  sound asked Usage g h a = absurd a
+  sound asked ShelfFault g h a = absurd (unfailed asked g a.0 h)
+  sound asked (Refused k) g h a = absurd (unrefused (limits_for asked) (told_text texts asked) g.text k g.is_told g.short g.unbroken a.1)
+  sound asked (Rejected r) g h a = absurd (unrejected_as asked r g a)
+  sound asked (TooLong r) g h a = absurd (unlimited asked r g a)
+  sound asked ReadFault g h a = absurd (unstopped asked g a)
+  sound asked WriteFault g h a = absurd (unspoilt asked g a)
+
+  pub completes : (a : Option Asked) (s : Status) → ShelfServes (calls_of a).takes texts shelf s → CallAnswers a texts reads source sink s → IsComplete a texts shelf source sink → (s ≡ Done) ⊎ (s ≡ Memory)
+  completes None s h x none = absurd none
+  completes (Some asked) s h x g = sound asked s g h x
 
 -- ---- Done, with all told
 
@@ -267,20 +285,20 @@ all-meant P limit i (root ∷ rs) w text r (a, rest, gives, others, is) none =
     let m = whole_of P root limit gives n.0 in
     (m.0, a.text, m.1, all-meant P limit (suc i) rs a.text text rest (subst (λ z. Pipeline (λ root v d b. StageAnswers P root limit v d b) (suc i) rs a.text z text rest) m.2 others) n.1)
 
-pub done-as-told : (states limit block : ℕ) (told : ShelfText) (source sink : Change) (s : Status) (text input before : List ℕ) → told ≡ present text → source.old ≡ Some input → sink.old ≡ Some before → s ≡ Done → CallAnswers (running states) limit block told source sink s → Headline states text limit input before source.new sink.new
-done-as-told states limit block told source sink s text input before is rest held done answers =
-    let p : Runs (running states) limit block told source sink Done = subst (λ x. CallAnswers (running states) limit block told source sink x) done answers in
-    let same : p.text ≡ text = told-same told text p.text is p.is_told in
-    by p same
+pub done-as-told : (states : ℕ) (name : List ℕ) (reach : Reach) (a : Option Asked) (texts : Option Texts) (reads : Option Reads) (source sink : Change) (s : Status) (text input before : List ℕ) → a ≡ Some (ToStream (running states) name reach) → told_of texts name ≡ present text → source.old ≡ Some input → sink.old ≡ Some before → s ≡ Done → CallAnswers a texts reads source sink s → Headline states text reach.max_input input before source.new sink.new
+done-as-told states name reach a texts reads source sink s text input before command is rest held done answers =
+    by (subst (λ x. CallAnswers (Some (ToStream (running states) name reach)) texts reads source sink x) done (subst (λ x. CallAnswers x texts reads source sink s) command answers))
   where
-    by : (p : Runs (running states) limit block told source sink Done) → p.text ≡ text → Headline states text limit input before source.new sink.new
-    by p same =
-        let ended : p.ran.e ≡ true = p.ran.ends.0 in
-        let all = reads-all source.old source.new input p.ran.w rest p.ran.read (p.ran.ended ended) in
-        let x = p.ran.ends.1 in
-        let answer : SaysBy (running states) p.program limit p.ran.w true x.said = subst (λ e. SaysBy (running states) p.program limit p.ran.w e x.said) ended x.is_said in
-        let m = all-meant p.program limit 1 (roots_of p.program) p.ran.w x.said.text (report_as x.said.report) answer (no_report x.said.report x.reports) in
-        moved p.text same p.program p.accepts x.said.text (subst (λ z. MeansInTurn p.program limit (roots_of p.program) z x.said.text) all.1 m) (holds-all sink.old sink.new before x.said.text held x.appended) all.0
+    by : Works (ToStream (running states) name reach) texts reads source sink Done → Headline states text reach.max_input input before source.new sink.new
+    by w =
+        let limit = reach.max_input in
+        let ran = w.performs in
+        let ended : ran.e ≡ true = ran.ends.0 in
+        let all = reads-all source.old source.new input ran.w rest ran.read (ran.ended ended) in
+        let x = ran.ends.1 in
+        let answer : SaysBy (running states) w.program limit ran.w true x.said = subst (λ e. SaysBy (running states) w.program limit ran.w e x.said) ended x.is_said in
+        let m = all-meant w.program limit 1 (roots_of w.program) ran.w x.said.text (report_as x.said.report) answer (no_report x.said.report x.reports) in
+        moved w.text (told-same (told_of texts name) text w.text is w.is_told) w.program w.accepts x.said.text (subst (λ z. MeansInTurn w.program limit (roots_of w.program) z x.said.text) all.1 m) (holds-all sink.old sink.new before x.said.text held x.appended) all.0
       where
-        moved : (t : List ℕ) → t ≡ text → (P : Grammar) → Accepts (limits_of (running states)) t P → (meant : List ℕ) → MeansInTurn P limit (roots_of P) input meant → sink.new ≡ Some (before ++ meant) → source.new ≡ Some [] → Headline states text limit input before source.new sink.new
+        moved : (t : List ℕ) → t ≡ text → (P : Grammar) → Accepts (limits_of (running states)) t P → (meant : List ℕ) → MeansInTurn P reach.max_input (roots_of P) input meant → sink.new ≡ Some (before ++ meant) → source.new ≡ Some [] → Headline states text reach.max_input input before source.new sink.new
         moved t e P x meant m w r = record { program = P; accepts = subst (λ z. Accepts (limits_of (running states)) z P) e x; meant = meant; means = m; written = w; read = r }

@@ -4,7 +4,7 @@ use Rattle.std.specs.Prelude.{◌⊎◌, Option, Some, None, IsSome, Err}
 use Rattle.std.specs.Io.KnownBytes.{Appends, Consumes, IsAtEnd, Keeps}
 use Rattle.kex_ports.specs.Causes.{Rose}
 use Rattle.kex_ports.specs.Bytes.{IsPrefix}
-use Rattle.kex_ports.proofs.Known.{append-nil, appends-nothing, appends-then, appends-same, appends-kept, consumes-nothing, prefix-whole}
+use Rattle.kex_ports.proofs.Known.{append-nil, appends-nothing, appends-then, appends-same, appends-kept, prefix-whole}
 use Rattle.kex_top.specs.Answer.{Said}
 use Rattle.kex_top.specs.History.{History, Fed, IsSaid, bytes_passed, text_of, Writes, WritesEarly, WritesFront, WritesUpTo}
 use Rattle.kex_words.specs.Gains.{Change, change}
@@ -14,7 +14,7 @@ use Rattle.kex_pipe.specs.declared.turn.Why.{Why}
 use Rattle.kex_pipe.specs.declared.turn.Why.TheVariants.{Byte, End, Limit}
 use Rattle.kex_pipe.specs.declared.report.Rejected.{Rejected as Report}
 use Rattle.kex_top.specs.declared.status.Status.{Status}
-use Rattle.kex_top.specs.declared.status.Status.TheVariants.{Done, Rejected, TooLong, ReadFault, WriteFault, Memory}
+use Rattle.kex_top.specs.declared.status.Status.TheVariants.{Done, Rejected, TooLong, ReadFault, WriteFault}
 use Rattle.kex_top.specs.declared.pass.Trouble.{Trouble}
 use Rattle.kex_top.specs.declared.pass.Trouble.TheVariants as trouble
 
@@ -125,16 +125,6 @@ module _ {Plan : Type 0} (says : Plan → List ℕ → Bool → Said → Type 0)
         by_trouble : (t : Trouble) → WritesUpTo (says p') (Some f) w e mid sink.new t → TroubleCause {T = Fate} sink.before sink.now (Err t) → EndsAs (says p) n w e source sink (status_after t)
         by_trouble trouble.Memory y c = (wanted grows y, a, c)
         by_trouble trouble.Write y c = (failed y, omega (arith, a), c)
-
--- Want of memory before anything was read.
-pub none-ran : (says : List ℕ → Bool → Said → Type 0) (n : ℕ) (rest held : Option (List ℕ)) (faults count : ℕ) → Ran says n (change rest rest faults faults) (change held held count count) Memory
-none-ran says n rest held faults count = record {
-  w = [];
-  e = false;
-  read = consumes-nothing rest;
-  ended = λ end. let bad : false ≡ true = end in cc;
-  ends = (record { added = []; appended = appends-nothing held; from = inl refl; front = λ said h. record { rest = said.text; joined = refl } }, refl, refl);
-}
 
 -- The first piece, of nothing, is in trouble.
 module _ (says : List ℕ → Bool → Said → Type 0) (n : ℕ) (source sink : Change) (s : Status) where

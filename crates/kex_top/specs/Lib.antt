@@ -4,10 +4,14 @@ pub mod Fronts
 pub mod Run
 pub mod Outside
 pub mod Status
+pub mod Starts
+pub mod Shelves
 pub mod Pipelines
 pub mod PipelineLaws
 pub mod Piped
 pub mod Modes
-pub mod Kex
+pub mod Refusals
 pub mod Trials
+pub mod Commands
+pub mod Kex
 pub mod Tallies

@@ -1,21 +1,7 @@
 -- The lines that a trial makes, the program that it runs them through, and what it sums up.
 use Rattle.std.specs.Prelude.{◌≡◌, ◌+◌, ◌*◌, ◌/◌, ◌%◌, ◌-◌, ◌^◌, ℕ, zero, suc, Bool, true, List, [], ◌∷◌, ◌++◌, codes, decimal, length, min}
-use Rattle.kex_model.specs.Programs.{Grammar}
-use Rattle.kex_compile.specs.Compiled.{Accepts, IsRefused}
-use Rattle.kex_compile.specs.declared.refusal.CompileRefusal.{CompileRefusal}
-use Rattle.kex_compile.specs.declared.refusal.CompileRefusal.TheVariants as compile
-use Rattle.kex_words.specs.Form.{most_input}
-use Rattle.kex_words.specs.Gains.{Change, GainsFront, GainsWhole}
-use Rattle.kex_words.specs.Lines.{trial_line}
 use Rattle.kex_words.specs.declared.counts.Summary.{Summary}
 use Rattle.kex_top.specs.Answer.{Said}
-use Rattle.kex_ports.specs.Shelf.{present}
-use Rattle.kex_top.specs.Kex.{Breaks, IsQuiet}
-use Rattle.kex_top.specs.Modes.{limits_to_check}
-use Rattle.kex_top.specs.Pipelines.{Answered}
-use Rattle.kex_top.specs.Run.{IsLeft}
-use Rattle.kex_top.specs.declared.status.Status.{Status}
-use Rattle.kex_top.specs.declared.status.Status.TheVariants.{Done, Refused, WriteFault, Memory}
 
 -- the state after this one
 abbrev pub next : ℕ → ℕ
@@ -62,24 +48,3 @@ pub record IsSummary (says : List ℕ → Bool → Said → Type 0) (lines : ℕ
   pub made : summary.made ≡ saturated_count (length (made_lines lines))
   pub written : summary.written ≡ saturated_count (length said.text)
   pub roll : summary.roll ≡ rolling_sum 0 said.text
-
--- what the program says of so many lines was summed up, and the line of that was written
-pub record Tried (lines : ℕ) (Written : List ℕ → Type 0) : Type 0 where
-  pub program : Grammar
-  pub accepts : Accepts (limits_to_check usual_states) trial_text program
-  pub summary : Summary
-  pub sums : IsSummary (Answered program most_input) lines summary
-  pub written : Written (trial_line summary)
-
--- what each answer to a trial of so many lines says
-abbrev pub Tries : ℕ → Change → Status → Type 0
-Tries lines sink (Refused r) = IsLeft sink × Breaks (limits_to_check usual_states) (present trial_text) r
-Tries lines sink Memory = IsLeft sink
-Tries lines sink Done = Tried lines (GainsWhole sink)
-Tries lines sink WriteFault = Tried lines (GainsFront sink)
-Tries lines sink _ = ⊥
-
--- the program breaks no rule, and no count rose that a trial raises
-pub record KeepsRules (sink : Change) : Type 0 where
-  pub unbroken : (rule : CompileRefusal) → IsRefused (limits_to_check usual_states) trial_text rule → rule ≡ compile.Memory
-  pub writable : IsQuiet sink.before sink.now

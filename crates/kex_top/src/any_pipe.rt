@@ -92,7 +92,7 @@ pub(crate) fn give_front<R: Threads + Sync, T: Turn + Drop + Send, G: Gate + Syn
     gate: &G,
     pace: Pace,
     bytes: &[u8],
-) -> Result<usize, Memory>
+) -> Result<usize, PipeFault>
     requires unended { is_ended T.Turn pipe.old ≡ false }
     requires closed { is_in_round T.Turn pipe.old ≡ false }
     ensures front { IfOk result (λ count. IsFront pace bytes.now count) }
@@ -110,7 +110,7 @@ pub(crate) fn work_off<R: Threads + Sync, T: Turn + Drop + Send, G: Gate + Sync>
     rt: &R,
     pipe: &mut AnyPipe<T>,
     gate: &G,
-) -> Result<(), Memory>
+) -> Result<(), PipeFault>
     requires closed { is_in_round T.Turn pipe.old ≡ false }
     ensures works { OnOk result ((ps : List T.Plan) (h : List Event) (taken : List ℕ) → Stands T.Turn ps pipe.old h taken → IsWorkedOff T.gives ps (λ k. Stands T.Turn ps pipe.new k taken) h) }
     ensures closed { is_in_round T.Turn pipe.new ≡ false }

@@ -1,25 +1,33 @@
 // The command that checks a program.
-ghost use Rattle.std.specs.Prelude.{◌≡◌, length};
+ghost use Rattle.std.specs.Prelude.{◌≡◌, Option, length};
+ghost use Rattle.kex_ports.specs.Reads.{Reads};
 ghost use Rattle.kex_ports.specs.Shelf.{told_of};
 ghost use Rattle.kex_words.specs.Gains.{Change, change_of};
 ghost use Rattle.kex_words.specs.Lines.{counts_line};
-ghost use Rattle.kex_top.specs.Kex.{Checks, ShelfAnswers, TellsLine, shelf_change_of};
+ghost use Rattle.kex_words.specs.Words.Asked.{ToCheck};
+ghost use Rattle.kex_top.specs.Commands.{TellsLine};
+ghost use Rattle.kex_top.specs.Kex.{CommandAnswers};
 ghost use Rattle.kex_top.specs.Outside.{Closes};
 ghost use Rattle.kex_top.specs.Run.{IsLeft};
+ghost use Rattle.kex_top.specs.Shelves.{ShelfAnswers, shelf_change_of};
+ghost use Rattle.kex_top.specs.Starts.{status_of_answer};
 
-use crate::call::MOST_TEXT;
 use crate::limits::limits_to_check;
-use crate::refused::{TOO_LONG, refused};
+use crate::program::plans_of;
+use crate::start::StartError;
 use crate::status::Status;
-use kex_compile::compile;
 use kex_compile::compiled::Compiled;
-use kex_ports::{Failed, Shelf, ShelfAnswer, Sink};
+use kex_ports::{Failed, Shelf, Sink};
 use kex_words::{Counts, States, write_counts};
 use std::alloc::Global;
 
 // Writes how many stages, places and states there are, and closes the output.
 fn tell_counts<K: Sink>(compiled: &Compiled, output: &mut K) -> Status
-    ensures told { TellsLine (counts_line (record { stages = length compiled.now.stages; places = compiled.now.places; states = compiled.now.states }))
+    ensures told { TellsLine (counts_line (record {
+      stages = length compiled.now.stages;
+      places = compiled.now.places;
+      states = compiled.now.states;
+    }))
         (change_of K.held K.faults output.old output.new) result }
     ensures closes { Closes (K.ending output.old) (K.ending output.new) result }
 {
@@ -28,11 +36,11 @@ fn tell_counts<K: Sink>(compiled: &Compiled, output: &mut K) -> Status
         places: compiled.places(),
         states: compiled.states(),
     };
-    let Ok(()) = write_counts(output, counts) else {
-        return Status::WriteFault;
-    };
-    match output.finish() {
-        Ok(()) => Status::Done,
+    match write_counts(output, counts) {
+        Ok(()) => match output.finish() {
+            Ok(()) => Status::Done,
+            Err(Failed) => Status::WriteFault,
+        },
         Err(Failed) => Status::WriteFault,
     }
 }
@@ -44,23 +52,16 @@ pub(crate) fn answer_check<H: Shelf, K: Sink>(
     states: States,
     shelf: &mut H,
     output: &mut K,
-) -> Status
+) -> Result<Status, StartError>
     ensures texts { H.texts shelf.new ≡ H.texts shelf.old }
     ensures shelf { ShelfAnswers (told_of (H.texts shelf.old) program.now)
-        (shelf_change_of H.faults H.breaks shelf.old shelf.new) result }
-    ensures checks { (source : Change) → IsLeft source → Checks states.most (told_of (H.texts shelf.old) program.now) source
-        (change_of K.held K.faults output.old output.new) result }
-    ensures closes { Closes (K.ending output.old) (K.ending output.new) result }
+        (shelf_change_of H.faults H.breaks shelf.old shelf.new) (status_of_answer result) }
+    ensures answers { (reads : Option Reads) (source : Change) → IsLeft source
+        → CommandAnswers (ToCheck program.now states.most) (H.texts shelf.old) reads source
+        (change_of K.held K.faults output.old output.new) (status_of_answer result) }
+    ensures closes { Closes (K.ending output.old) (K.ending output.new) (status_of_answer result) }
 {
-    let text = match shelf.take(alloc, program, MOST_TEXT) {
-        Ok(text) => text,
-        Err(ShelfAnswer::Failed) => return Status::ShelfFault,
-        Err(ShelfAnswer::TooLong) => return Status::Refused(TOO_LONG),
-        Err(ShelfAnswer::Memory) => return Status::Memory,
-    };
     let asked = limits_to_check(states.most);
-    match compile(alloc, &text, &asked) {
-        Ok(compiled) => tell_counts(&compiled, output),
-        Err(refusal) => refused(&text, refusal),
-    }
+    let plans = plans_of(alloc, shelf, program, &asked)?;
+    Ok(tell_counts(&plans, output))
 }

@@ -5,20 +5,38 @@ ghost use Rattle.kex_top.specs.History.{History, bytes_passed, is_ended, Writes,
 ghost use Rattle.kex_top.specs.Piped.{PipeSays, PipeStands, plans_of};
 ghost use Rattle.kex_top.specs.Pipelines.{AlwaysSays};
 ghost use Rattle.kex_top.specs.Run.{TroubleCause};
+ghost use Rattle.kex_top.specs.declared.pass.Trouble.TheVariants as trouble;
 
 use crate::any_pipe::AnyPipe;
 use crate::pipeline::{Limited, end, feed};
 use crate::rounds::Pace;
-use kex_code::memory::Memory;
+use kex_pipe::pipe::PipeFault;
 use kex_pipe::turn::Fate;
 use kex_ports::{Failed, Gate, Sink};
 use kex_words::write_all;
 use std::thread::Threads;
 
-#[derive(Clone, Copy, Debug, PartialEq, Eq)]
+#[derive(Clone, Copy, Debug, PartialEq, Eq, Drop)]
 pub(crate) enum Trouble {
     Memory,
     Write,
+}
+
+// A pipe that stands for what was fed isn't spent, so it wants memory.
+impl From<PipeFault> for Trouble {
+    ghost from_gives = { λ _ e. e ≡ trouble.Memory };
+
+    fn from(_: PipeFault) -> Trouble {
+        Trouble::Memory
+    }
+}
+
+impl From<Failed> for Trouble {
+    ghost from_gives = { λ _ e. e ≡ trouble.Write };
+
+    fn from(_: Failed) -> Trouble {
+        Trouble::Write
+    }
 }
 
 /// Feeds a block front by front, and writes what is said after each.
@@ -45,13 +63,8 @@ pub(crate) fn pass<R: Threads + Sync, T: Limited + Drop + Send, G: Gate + Sync, 
 {
     let mut rest = block;
     'fronts: loop {
-        let front = match feed(rt, gate, pipe, pace, rest, out) {
-            Ok(front) => front,
-            Err(Memory) => return Err(Trouble::Memory),
-        };
-        let Ok(()) = write_all(output, out) else {
-            return Err(Trouble::Write);
-        };
+        let front = feed(rt, gate, pipe, pace, rest, out)?;
+        write_all(output, out)?;
         if front.count == rest.len() {
             return Ok(front.fate);
         }
@@ -76,12 +89,7 @@ pub(crate) fn pass_end<R: Threads + Sync, T: Limited + Drop + Send, G: Gate + Sy
     ensures cause { TroubleCause (K.faults output.old) (K.faults output.new) result }
     ensures unfinished { IsUnfinished (K.ending output.old) (K.ending output.new) result }
 {
-    let fate = match end(rt, gate, pipe, out) {
-        Ok(fate) => fate,
-        Err(Memory) => return Err(Trouble::Memory),
-    };
-    match write_all(output, out) {
-        Ok(()) => Ok(fate),
-        Err(Failed) => Err(Trouble::Write),
-    }
+    let fate = end(rt, gate, pipe, out)?;
+    write_all(output, out)?;
+    Ok(fate)
 }

@@ -9,7 +9,7 @@ ghost use Rattle.kex_top.specs.Piped.{PipeSays, PipeStands, plans_of};
 
 use crate::any_pipe::{AnyPipe, give_front, work_off};
 use crate::rounds::Pace;
-use kex_code::memory::Memory;
+use kex_pipe::pipe::PipeFault;
 use kex_pipe::report::Rejected;
 use kex_pipe::turn::{Fate, Turn};
 use kex_ports::Gate;
@@ -52,7 +52,7 @@ pub(crate) struct Front {
 
 /// Feeds a front of the piece, and puts into `out`, in place of what it held, what the stages say now of the bytes and haven't said yet.
 ///
-/// Once a call has answered that memory was wanted, the pipe may only be dropped.
+/// Once a call has answered Err, the pipe may only be dropped.
 pub(crate) fn feed<R: Threads + Sync, T: Limited + Drop + Send, G: Gate + Sync>(
     rt: &R,
     gate: &G,
@@ -60,7 +60,7 @@ pub(crate) fn feed<R: Threads + Sync, T: Limited + Drop + Send, G: Gate + Sync>(
     pace: Pace,
     piece: &[u8],
     out: &mut Vec<u8>,
-) -> Result<Front, Memory>
+) -> Result<Front, PipeFault>
     requires { (h : History) × PipeStands T.Turn pipe.old h × (is_ended h ≡ false) }
     ensures same { OnOk result (plans_of T.Turn pipe.new ≡ plans_of T.Turn pipe.old) }
     ensures front { IfOk result (λ front. IsFront pace piece.now front.count) }
@@ -82,15 +82,13 @@ pub(crate) fn end<R: Threads + Sync, T: Limited + Drop + Send, G: Gate + Sync>(
     gate: &G,
     pipe: &mut AnyPipe<T>,
     out: &mut Vec<u8>,
-) -> Result<Fate, Memory>
+) -> Result<Fate, PipeFault>
     requires { (h : History) × PipeStands T.Turn pipe.old h × (is_ended h ≡ false) }
     ensures same { OnOk result (plans_of T.Turn pipe.new ≡ plans_of T.Turn pipe.old) }
     ensures feeds { IfOk result (λ fate. (h : History) → PipeStands T.Turn pipe.old h → is_ended h ≡ false
         → Feeds (PipeSays T.Turn (plans_of T.Turn pipe.old)) (PipeStands T.Turn pipe.new) h (bytes_passed h) true out.new.items fate) }
 {
-    let Ok(()) = pipe.give_end() else {
-        return Err(Memory);
-    };
+    pipe.give_end()?;
     work_off(rt, pipe, gate)?;
     pipe.take_output_into(out);
     Ok(fate_of(pipe.report()))

@@ -1,57 +1,53 @@
 // The refusal of a program, as it is told.
 ghost use Rattle.std.specs.Prelude.{◌≡◌, ◌≤◌, length};
-ghost use Rattle.kex_top.specs.Kex.{IsStatusOf, broken_at, broken_in};
-ghost use Rattle.kex_top.specs.declared.status.Status.TheVariants.{Refused};
+ghost use Rattle.kex_tokens.specs.Texts.{most_text};
+ghost use Rattle.kex_top.specs.Refusals.{IsStartOf, broken, broken_at, broken_in};
+ghost use Rattle.kex_top.specs.declared.start.StartError.TheVariants.{Refused};
 
-use crate::status::Status;
+use crate::start::StartError;
 use kex_compile::refusal::CompileRefusal;
 use kex_reader::place;
 use kex_words::{Place, Refusal, Rule};
 
-pub(crate) const TOO_LONG: Refusal = Refusal {
-    rule: Rule::TextTooLong,
-    place: Place::Nowhere,
-};
-
-const ONE_STAGE: Refusal = Refusal {
-    rule: Rule::OneStage,
-    place: Place::Nowhere,
-};
-
-const NO_START: Refusal = Refusal {
-    rule: Rule::NoStart,
-    place: Place::Nowhere,
-};
+// The whole text breaks the rule.
+fn broken(rule: Rule) -> StartError
+    ensures { result ≡ Refused (broken rule) }
+{
+    StartError::Refused(Refusal {
+        rule,
+        place: Place::Nowhere,
+    })
+}
 
 // The rule is broken at an offset of the text.
-fn broken_at(rule: Rule, text: &[u8], at: u32) -> Status
-    requires { length text.now ≤ 1048576 }
+fn broken_at(rule: Rule, text: &[u8], at: u32) -> StartError
+    requires { length text.now ≤ most_text }
     ensures { result ≡ Refused (broken_at rule text.now at) }
 {
     let (line, column) = place(text, at);
-    Status::Refused(Refusal {
+    StartError::Refused(Refusal {
         rule,
         place: Place::At { line, column },
     })
 }
 
 // The rule is broken by a stage.
-fn broken_in(rule: Rule, stage: u32) -> Status
+fn broken_in(rule: Rule, stage: u32) -> StartError
     ensures { result ≡ Refused (broken_in rule stage) }
 {
-    Status::Refused(Refusal {
+    StartError::Refused(Refusal {
         rule,
         place: Place::Stage(stage),
     })
 }
 
-/// The status of a text that has no plans.
-pub(crate) fn refused(text: &[u8], refusal: CompileRefusal) -> Status
-    requires { length text.now ≤ 1048576 }
-    ensures { IsStatusOf text.now refusal result }
+/// Why a command doesn't begin with a text that has no plans.
+pub(crate) fn refused(text: &[u8], refusal: CompileRefusal) -> StartError
+    requires { length text.now ≤ most_text }
+    ensures { IsStartOf text.now refusal result }
 {
     match refusal {
-        CompileRefusal::TextTooLong => Status::Refused(TOO_LONG),
+        CompileRefusal::TextTooLong => broken(Rule::TextTooLong),
         CompileRefusal::BadToken(at) => broken_at(Rule::BadToken, text, at),
         CompileRefusal::Unexpected(at) => broken_at(Rule::Unexpected, text, at),
         CompileRefusal::BadRegex(at) => broken_at(Rule::BadRegex, text, at),
@@ -60,12 +56,12 @@ pub(crate) fn refused(text: &[u8], refusal: CompileRefusal) -> Status
         CompileRefusal::OverLimit(at) => broken_at(Rule::OverLimit, text, at),
         CompileRefusal::TwiceDefined(at) => broken_at(Rule::TwiceDefined, text, at),
         CompileRefusal::Unknown(at) => broken_at(Rule::Unknown, text, at),
-        CompileRefusal::NoStart => Status::Refused(NO_START),
+        CompileRefusal::NoStart => broken(Rule::NoStart),
         CompileRefusal::NotTail(at) => broken_at(Rule::NotTail, text, at),
         CompileRefusal::TooManyPlaces(stage) => broken_in(Rule::TooManyPlaces, stage),
         CompileRefusal::NoText(stage) => broken_in(Rule::NoText, stage),
-        CompileRefusal::OneStage => Status::Refused(ONE_STAGE),
+        CompileRefusal::OneStage => broken(Rule::OneStage),
         CompileRefusal::TooManyStates(stage) => broken_in(Rule::TooManyStates, stage),
-        CompileRefusal::Memory => Status::Memory,
+        CompileRefusal::Memory => StartError::Memory,
     }
 }

@@ -4,7 +4,7 @@ ghost use Rattle.kex_model.specs.Schedules.{Event};
 ghost use Rattle.kex_rings.specs.Standing.{Stands, is_ended};
 ghost use Rattle.kex_top.specs.Piped.{IsGiven, IsWorkedOff};
 
-use kex_code::memory::Memory;
+use kex_pipe::pipe::PipeFault;
 use kex_pipe::turn::Turn;
 use kex_ports::Gate;
 use kex_rings::pipe::RingPipe;
@@ -21,15 +21,13 @@ const LOOKS: u32 = 16;
 pub(crate) fn give_all<T: Turn + Drop>(
     pipe: &mut RingPipe<T>,
     bytes: &[u8],
-) -> Result<usize, Memory>
+) -> Result<usize, PipeFault>
     requires unended { is_ended T.Turn pipe.old ≡ false }
     ensures count { IfOk result (λ count. count ≡ length bytes.now) }
     ensures given { IfOk result (λ count. (ps : List T.Plan) (h : List Event) (taken : List ℕ) → Stands T.Turn ps pipe.old h taken → IsGiven (λ k. Stands T.Turn ps pipe.new k taken) (take count bytes.now) h) }
 {
-    match pipe.give(bytes) {
-        Ok(()) => Ok(bytes.len()),
-        Err(_) => Err(Memory),
-    }
+    pipe.give(bytes)?;
+    Ok(bytes.len())
 }
 
 /// Makes some rounds, as long as something waits, and settles the rest.
@@ -38,19 +36,14 @@ pub(crate) fn work_off<R: Threads + Sync, T: Turn + Drop + Send, G: Gate + Sync>
     pipe: &mut RingPipe<T>,
     gate: &G,
     counts: &mut Vec<u64>,
-) -> Result<(), Memory>
+) -> Result<(), PipeFault>
     ensures { OnOk result ((ps : List T.Plan) (h : List Event) (taken : List ℕ) → Stands T.Turn ps pipe.old h taken → IsWorkedOff T.gives ps (λ k. Stands T.Turn ps pipe.new k taken) h) }
 {
     'rounds: for _round in 0..ROUNDS {
         if pipe.settled() {
             break;
         }
-        let Ok(()) = ring_round(rt, pipe, gate, LOOKS, counts) else {
-            return Err(Memory);
-        };
+        ring_round(rt, pipe, gate, LOOKS, counts)?;
     }
-    match pipe.settle() {
-        Ok(()) => Ok(()),
-        Err(_) => Err(Memory),
-    }
+    pipe.settle()
 }

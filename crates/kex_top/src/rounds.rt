@@ -5,8 +5,7 @@ ghost use Rattle.kex_pipe.specs.Standing.{Stands, is_ended, is_in_round};
 ghost use Rattle.kex_top.specs.Fronts.{IsFront};
 ghost use Rattle.kex_top.specs.Piped.{IsGiven, IsWorkedOff};
 
-use kex_code::memory::Memory;
-use kex_pipe::pipe::Pipe;
+use kex_pipe::pipe::{Pipe, PipeFault};
 use kex_pipe::turn::Turn;
 use kex_ports::Gate;
 use kex_rounds::round::round;
@@ -43,7 +42,7 @@ pub(crate) fn give_front<R: Threads + Sync, T: Turn + Drop + Send, G: Gate + Syn
     gate: &G,
     pace: Pace,
     bytes: &[u8],
-) -> Result<usize, Memory>
+) -> Result<usize, PipeFault>
     requires unended { is_ended T.Turn pipe.old ≡ false }
     requires closed { is_in_round T.Turn pipe.old ≡ false }
     ensures front { IfOk result (λ count. IsFront pace bytes.now count) }
@@ -54,12 +53,8 @@ pub(crate) fn give_front<R: Threads + Sync, T: Turn + Drop + Send, G: Gate + Syn
     let mut given = 0;
     'parts: while given < bytes.len() {
         let end = bytes.len().min(given + part);
-        let Ok(()) = pipe.give(&bytes[given..end]) else {
-            return Err(Memory);
-        };
-        let Ok(()) = round(rt, pipe, gate) else {
-            return Err(Memory);
-        };
+        pipe.give(&bytes[given..end])?;
+        round(rt, pipe, gate)?;
         given = end;
         if pace == Pace::Parts && pipe.output_length() >= ENOUGH && pipe.settled() {
             return Ok(given);
@@ -73,7 +68,7 @@ pub(crate) fn work_off<R: Threads + Sync, T: Turn + Drop + Send, G: Gate + Sync>
     rt: &R,
     pipe: &mut Pipe<T>,
     gate: &G,
-) -> Result<(), Memory>
+) -> Result<(), PipeFault>
     requires closed { is_in_round T.Turn pipe.old ≡ false }
     ensures works { OnOk result ((ps : List T.Plan) (h : List Event) (taken : List ℕ) → Stands T.Turn ps pipe.old h taken → IsWorkedOff T.gives ps (λ k. Stands T.Turn ps pipe.new k taken) h) }
     ensures closed { is_in_round T.Turn pipe.new ≡ false }
@@ -83,9 +78,7 @@ pub(crate) fn work_off<R: Threads + Sync, T: Turn + Drop + Send, G: Gate + Sync>
         if pipe.settled() {
             return Ok(());
         }
-        let Ok(()) = round(rt, pipe, gate) else {
-            return Err(Memory);
-        };
+        round(rt, pipe, gate)?;
     }
     Ok(())
 }

@@ -1,26 +1,34 @@
-// A program's stages over a source into a sink.
-ghost use Rattle.std.specs.Prelude.{◌≡◌, ◌⊎◌, ◌<◌, ◌∷◌, [], All, IfOk, None, true, length, map, vec_len};
+// The commands on an input.
+ghost use Rattle.std.specs.Prelude.{◌≡◌, ◌<◌, ◌∷◌, [], All, IfOk, None, OnErr, true, false, length, map, vec_len};
 ghost use Rattle.kex_ports.specs.Reads.{last_given};
+ghost use Rattle.kex_ports.specs.Shelf.{told_of};
 ghost use Rattle.kex_stage.specs.Plans.{machine_of};
 ghost use Rattle.kex_words.specs.Gains.{change_of};
-ghost use Rattle.kex_words.specs.Words.{mode_of};
-ghost use Rattle.kex_words.specs.declared.asked.Mode.TheVariants as of_mode;
+ghost use Rattle.kex_words.specs.Words.{mode_of, reach_of};
+ghost use Rattle.kex_words.specs.Words.Asked.{ToStream};
+ghost use Rattle.kex_top.specs.Commands.{is_writing};
+ghost use Rattle.kex_top.specs.Kex.{CommandAnswers};
 ghost use Rattle.kex_top.specs.Modes.{MachinesSay, limits_of};
 ghost use Rattle.kex_top.specs.Outside.{Closes, ReadsBlocks};
 ghost use Rattle.kex_top.specs.Piped.{PipeSays, PipeStands, plans_of};
 ghost use Rattle.kex_top.specs.Pipelines.{AllAnswer, AlwaysSays, NodesSay, StagesSay, stage_plans};
-ghost use Rattle.kex_top.specs.Run.{Left, Ran};
+ghost use Rattle.kex_top.specs.Run.{Ran};
+ghost use Rattle.kex_top.specs.Shelves.{ShelfAnswers, shelf_change_of};
+ghost use Rattle.kex_top.specs.Starts.{status_of_answer};
 
 use crate::any_pipe::AnyPipe;
+use crate::limits::limits_of;
 use crate::pipeline::Limited;
+use crate::program::plans_of;
 use crate::rounds::Pace;
 use crate::single::{act, code, test};
+use crate::start::StartError;
 use crate::status::Status;
 use crate::stream::run;
 use kex_code::memory::Memory;
 use kex_compile::compiled::Compiled;
 use kex_pipe::turn::Turn;
-use kex_ports::{Gate, Sink, Source};
+use kex_ports::{Gate, Shelf, Sink, Source};
 use kex_stage::plan::Plan;
 use kex_stage::stage::Stage;
 use kex_words::{Limits, Mode, Rings};
@@ -47,7 +55,7 @@ pub(crate) fn stages_of<'p>(
     Ok(stages)
 }
 
-// The pipe of these stages.
+/// The pipe of the stages with these plans.
 pub(crate) fn pipe_of<'p>(
     alloc: Global,
     plans: &'p [Plan],
@@ -73,19 +81,18 @@ fn run_stages<R: Threads + Sync, G: Gate + Sync, S: Source, K: Sink>(
     limits: Limits,
     input: &mut S,
     output: &mut K,
-) -> Status
+) -> Result<Status, Memory>
     requires { 0 < length compiled.now.stages }
-    ensures ran { (Left (change_of S.rest S.faults input.old input.new)
-        (change_of K.held K.faults output.old output.new) × (result ≡ Status.Memory))
-        ⊎ Ran (NodesSay (stage_plans limits.max_input compiled.now.stages)) (last_given limits.block (S.reads input.new))
+    ensures ran { IfOk result (λ status. Ran (NodesSay (stage_plans limits.max_input compiled.now.stages))
+        (last_given limits.block (S.reads input.new))
         (change_of S.rest S.faults input.old input.new)
-        (change_of K.held K.faults output.old output.new) result }
-    ensures blocks { ReadsBlocks limits.block (S.reads input.old) (S.reads input.new) result }
-    ensures closes { Closes (K.ending output.old) (K.ending output.new) result }
+        (change_of K.held K.faults output.old output.new) status) }
+    ensures blocks { IfOk result (λ status.
+        ReadsBlocks limits.block (S.reads input.old) (S.reads input.new) status) }
+    ensures closes { IfOk result (λ status. Closes (K.ending output.old) (K.ending output.new) status) }
+    ensures left { OnErr result ((input.new ≡ input.old) × (output.new ≡ output.old)) }
 {
-    let Ok(mut pipe) = pipe_of(alloc, compiled.stages(), limits.max_input, limits.rings) else {
-        return Status::Memory;
-    };
+    let mut pipe = pipe_of(alloc, compiled.stages(), limits.max_input, limits.rings)?;
     run(
         rt,
         gate,
@@ -98,8 +105,8 @@ fn run_stages<R: Threads + Sync, G: Gate + Sync, S: Source, K: Sink>(
     )
 }
 
-/// Writes for the input what is asked for. A test doesn't call the output.
-pub(crate) fn serve<R: Threads + Sync, G: Gate + Sync, S: Source, K: Sink>(
+// Writes for the input what is asked for. A test doesn't call the output.
+fn serve<R: Threads + Sync, G: Gate + Sync, S: Source, K: Sink>(
     rt: &R,
     gate: &G,
     alloc: Global,
@@ -108,17 +115,19 @@ pub(crate) fn serve<R: Threads + Sync, G: Gate + Sync, S: Source, K: Sink>(
     limits: Limits,
     input: &mut S,
     output: &mut K,
-) -> Status
+) -> Result<Status, Memory>
     requires some { 0 < length compiled.now.stages }
     requires one { (limits_of (mode_of mode)).one_stage ≡ true → length compiled.now.stages ≡ 1 }
-    ensures ran { (Left (change_of S.rest S.faults input.old input.new)
-        (change_of K.held K.faults output.old output.new) × (result ≡ Status.Memory))
-        ⊎ Ran (MachinesSay (mode_of mode) limits.max_input compiled.now.stages) (last_given limits.block (S.reads input.new))
+    ensures ran { IfOk result (λ status. Ran (MachinesSay (mode_of mode) limits.max_input compiled.now.stages)
+        (last_given limits.block (S.reads input.new))
         (change_of S.rest S.faults input.old input.new)
-        (change_of K.held K.faults output.old output.new) result }
-    ensures blocks { ReadsBlocks limits.block (S.reads input.old) (S.reads input.new) result }
-    ensures closes { (mode ≡ of_mode.Test → ⊥) → Closes (K.ending output.old) (K.ending output.new) result }
-    ensures untouched { mode ≡ of_mode.Test → output.new ≡ output.old }
+        (change_of K.held K.faults output.old output.new) status) }
+    ensures blocks { IfOk result (λ status.
+        ReadsBlocks limits.block (S.reads input.old) (S.reads input.new) status) }
+    ensures closes { IfOk result (λ status. is_writing (mode_of mode) ≡ true
+        → Closes (K.ending output.old) (K.ending output.new) status) }
+    ensures left { OnErr result ((input.new ≡ input.old) × (output.new ≡ output.old)) }
+    ensures untouched { is_writing (mode_of mode) ≡ false → output.new ≡ output.old }
 {
     match mode {
         Mode::Run(_) => run_stages(rt, gate, alloc, compiled, limits, input, output),
@@ -149,4 +158,34 @@ pub(crate) fn serve<R: Threads + Sync, G: Gate + Sync, S: Source, K: Sink>(
             input,
         ),
     }
+}
+
+/// Answers a command on the input.
+pub(crate) fn answer_stream<R: Threads + Sync, G: Gate + Sync, H: Shelf, S: Source, K: Sink>(
+    rt: &R,
+    gate: &G,
+    alloc: Global,
+    mode: Mode,
+    program: &str,
+    limits: Limits,
+    shelf: &mut H,
+    input: &mut S,
+    output: &mut K,
+) -> Result<Status, StartError>
+    ensures texts { H.texts shelf.new ≡ H.texts shelf.old }
+    ensures shelf { ShelfAnswers (told_of (H.texts shelf.old) program.now)
+        (shelf_change_of H.faults H.breaks shelf.old shelf.new) (status_of_answer result) }
+    ensures answers { CommandAnswers (ToStream (mode_of mode) program.now (reach_of limits))
+        (H.texts shelf.old) (S.reads input.new) (change_of S.rest S.faults input.old input.new)
+        (change_of K.held K.faults output.old output.new) (status_of_answer result) }
+    ensures reads { ReadsBlocks limits.block (S.reads input.old) (S.reads input.new)
+        (status_of_answer result) }
+    ensures closes { is_writing (mode_of mode) ≡ true
+        → Closes (K.ending output.old) (K.ending output.new) (status_of_answer result) }
+    ensures untouched { is_writing (mode_of mode) ≡ false → output.new ≡ output.old }
+{
+    let asked = limits_of(mode);
+    let plans = plans_of(alloc, shelf, program, &asked)?;
+    let status = serve(rt, gate, alloc, mode, &plans, limits, input, output)?;
+    Ok(status)
 }

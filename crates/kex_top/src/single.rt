@@ -1,5 +1,5 @@
 // The commands on a program of one stage.
-ghost use Rattle.std.specs.Prelude.{◌≡◌, ◌⊎◌, ◌∷◌, [], None};
+ghost use Rattle.std.specs.Prelude.{◌≡◌, ◌∷◌, [], IfOk, None, OnErr};
 ghost use Rattle.kex_top.specs.Pipelines.{AlwaysAnswers};
 ghost use Rattle.std.proofs.Common.{ap};
 ghost use Rattle.kex_ports.specs.Reads.{last_given};
@@ -11,13 +11,14 @@ ghost use Rattle.kex_words.specs.Words.Mode.{acting, coding, testing};
 ghost use Rattle.kex_top.specs.Modes.{MachinesSay};
 ghost use Rattle.kex_top.specs.Outside.{Closes, ReadsBlocks};
 ghost use Rattle.kex_top.specs.Pipelines.{StagesSay};
-ghost use Rattle.kex_top.specs.Run.{IsLeft, Left, Ran};
+ghost use Rattle.kex_top.specs.Run.{IsLeft, Ran};
 
 use crate::any_pipe::AnyPipe;
 use crate::pipeline::Limited;
 use crate::rounds::Pace;
 use crate::status::Status;
 use crate::stream::run;
+use kex_code::memory::Memory;
 use kex_machine::Trimmed;
 use kex_pipe::turn::Turn;
 use kex_ports::{Gate, NeverFailsSink, Sink, Source};
@@ -60,25 +61,22 @@ fn run_one<R: Threads + Sync, T: Limited + Drop + Send, G: Gate + Sync, S: Sourc
     limits: Limits,
     input: &mut S,
     output: &mut K,
-) -> Status
+) -> Result<Status, Memory>
     requires fresh { T.stands stage None }
     requires limit { T.limit stage ≡ limits.max_input }
     requires answers { pace ≡ Pace.Parts → AlwaysAnswers T.gives (T.plan stage) }
-    ensures ran { (Left (change_of S.rest S.faults input.old input.new)
-        (change_of K.held K.faults output.old output.new) × (result ≡ Status.Memory))
-        ⊎ Ran (StagesSay (λ p w e a. T.gives p w e a) (T.plan stage ∷ [])) (last_given limits.block (S.reads input.new))
+    ensures ran { IfOk result (λ status. Ran (StagesSay (λ p w e a. T.gives p w e a) (T.plan stage ∷ []))
+        (last_given limits.block (S.reads input.new))
         (change_of S.rest S.faults input.old input.new)
-        (change_of K.held K.faults output.old output.new) result }
-    ensures blocks { ReadsBlocks limits.block (S.reads input.old) (S.reads input.new) result }
-    ensures closes { Closes (K.ending output.old) (K.ending output.new) result }
+        (change_of K.held K.faults output.old output.new) status) }
+    ensures blocks { IfOk result (λ status.
+        ReadsBlocks limits.block (S.reads input.old) (S.reads input.new) status) }
+    ensures closes { IfOk result (λ status. Closes (K.ending output.old) (K.ending output.new) status) }
+    ensures left { OnErr result ((input.new ≡ input.old) × (output.new ≡ output.old)) }
 {
     let mut stages = Vec::new(alloc);
-    let Ok(()) = stages.push(stage) else {
-        return Status::Memory;
-    };
-    let Ok(mut pipe) = AnyPipe::new(alloc, stages, None) else {
-        return Status::Memory;
-    };
+    stages.push(stage)?;
+    let mut pipe = AnyPipe::new(alloc, stages, None)?;
     run(rt, gate, alloc, &mut pipe, pace, limits, input, output)
 }
 
@@ -91,19 +89,18 @@ pub(crate) fn code<R: Threads + Sync, G: Gate + Sync, S: Source, K: Sink>(
     limits: Limits,
     input: &mut S,
     output: &mut K,
-) -> Status
-    ensures ran { (Left (change_of S.rest S.faults input.old input.new)
-        (change_of K.held K.faults output.old output.new) × (result ≡ Status.Memory))
-        ⊎ Ran (MachinesSay coding limits.max_input (machine.now ∷ [])) (last_given limits.block (S.reads input.new))
+) -> Result<Status, Memory>
+    ensures ran { IfOk result (λ status. Ran (MachinesSay coding limits.max_input (machine.now ∷ []))
+        (last_given limits.block (S.reads input.new))
         (change_of S.rest S.faults input.old input.new)
-        (change_of K.held K.faults output.old output.new) result }
-    ensures blocks { ReadsBlocks limits.block (S.reads input.old) (S.reads input.new) result }
-    ensures closes { Closes (K.ending output.old) (K.ending output.new) result }
+        (change_of K.held K.faults output.old output.new) status) }
+    ensures blocks { IfOk result (λ status.
+        ReadsBlocks limits.block (S.reads input.old) (S.reads input.new) status) }
+    ensures closes { IfOk result (λ status. Closes (K.ending output.old) (K.ending output.new) status) }
+    ensures left { OnErr result ((input.new ≡ input.old) × (output.new ≡ output.old)) }
 {
     let _nodes = machine.nodes();
-    let Ok(coder) = Coder::new(alloc, machine, limits.max_input) else {
-        return Status::Memory;
-    };
+    let coder = Coder::new(alloc, machine, limits.max_input)?;
     run_one(rt, gate, alloc, coder, Pace::Parts, limits, input, output)
 }
 
@@ -116,18 +113,17 @@ pub(crate) fn act<R: Threads + Sync, G: Gate + Sync, S: Source, K: Sink>(
     limits: Limits,
     input: &mut S,
     output: &mut K,
-) -> Status
-    ensures ran { (Left (change_of S.rest S.faults input.old input.new)
-        (change_of K.held K.faults output.old output.new) × (result ≡ Status.Memory))
-        ⊎ Ran (MachinesSay acting limits.max_input (machine.now ∷ [])) (last_given limits.block (S.reads input.new))
+) -> Result<Status, Memory>
+    ensures ran { IfOk result (λ status. Ran (MachinesSay acting limits.max_input (machine.now ∷ []))
+        (last_given limits.block (S.reads input.new))
         (change_of S.rest S.faults input.old input.new)
-        (change_of K.held K.faults output.old output.new) result }
-    ensures blocks { ReadsBlocks limits.block (S.reads input.old) (S.reads input.new) result }
-    ensures closes { Closes (K.ending output.old) (K.ending output.new) result }
+        (change_of K.held K.faults output.old output.new) status) }
+    ensures blocks { IfOk result (λ status.
+        ReadsBlocks limits.block (S.reads input.old) (S.reads input.new) status) }
+    ensures closes { IfOk result (λ status. Closes (K.ending output.old) (K.ending output.new) status) }
+    ensures left { OnErr result ((input.new ≡ input.old) × (output.new ≡ output.old)) }
 {
-    let Ok(player) = Player::new(alloc, machine, limits.max_input) else {
-        return Status::Memory;
-    };
+    let player = Player::new(alloc, machine, limits.max_input)?;
     run_one(rt, gate, alloc, player, Pace::Blocks, limits, input, output)
 }
 
@@ -139,15 +135,16 @@ pub(crate) fn test<R: Threads + Sync, G: Gate + Sync, S: Source>(
     machine: &Trimmed,
     limits: Limits,
     input: &mut S,
-) -> Status
-    ensures ran { (sink : Change) → IsLeft sink → (Left (change_of S.rest S.faults input.old input.new) sink × (result ≡ Status.Memory))
-        ⊎ Ran (MachinesSay testing limits.max_input (machine.now ∷ [])) (last_given limits.block (S.reads input.new))
-        (change_of S.rest S.faults input.old input.new) sink result }
-    ensures blocks { ReadsBlocks limits.block (S.reads input.old) (S.reads input.new) result }
+) -> Result<Status, Memory>
+    ensures ran { (sink : Change) → IsLeft sink → IfOk result (λ status.
+        Ran (MachinesSay testing limits.max_input (machine.now ∷ []))
+        (last_given limits.block (S.reads input.new))
+        (change_of S.rest S.faults input.old input.new) sink status) }
+    ensures blocks { IfOk result (λ status.
+        ReadsBlocks limits.block (S.reads input.old) (S.reads input.new) status) }
+    ensures left { OnErr result (input.new ≡ input.old) }
 {
-    let Ok(tester) = Tester::new(alloc, machine, limits.max_input) else {
-        return Status::Memory;
-    };
+    let tester = Tester::new(alloc, machine, limits.max_input)?;
     run_one(
         rt,
         gate,

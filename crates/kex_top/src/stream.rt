@@ -1,5 +1,5 @@
 // The loop from a source through the stages into a sink.
-ghost use Rattle.std.specs.Prelude.{◌≡◌, ◌<◌, ◌≤◌, ◌^◌, ℕ, None, length};
+ghost use Rattle.std.specs.Prelude.{◌≡◌, ◌<◌, ◌≤◌, ◌^◌, ℕ, IfOk, None, OnErr, length};
 ghost use Rattle.kex_ports.specs.Reads.{Asks, last_given};
 ghost use Rattle.kex_words.specs.Gains.{change_of};
 ghost use Rattle.kex_top.specs.Outside.{Closes, IsOpen, ReadsBlocks};
@@ -12,6 +12,7 @@ use crate::pass::{Trouble, pass, pass_end};
 use crate::pipeline::{Limited, rejected};
 use crate::rounds::Pace;
 use crate::status::Status;
+use kex_code::memory::Memory;
 use kex_pipe::report::Rejected;
 use kex_pipe::turn::{Fate, Why};
 use kex_ports::{Failed, Gate, Sink, Source};
@@ -96,7 +97,7 @@ fn is_whole(status: Status) -> bool
     }
 }
 
-/// Runs new stages over a source into a sink, by blocks, within the limits.
+/// Runs new stages over a source into a sink, by blocks, within the limits. Err says that there was no memory for a block.
 pub(crate) fn run<R: Threads + Sync, T: Limited + Drop + Send, G: Gate + Sync, S: Source, K: Sink>(
     rt: &R,
     gate: &G,
@@ -106,19 +107,20 @@ pub(crate) fn run<R: Threads + Sync, T: Limited + Drop + Send, G: Gate + Sync, S
     limits: Limits,
     input: &mut S,
     output: &mut K,
-) -> Status
+) -> Result<Status, Memory>
     requires fresh { PipeStands T.Turn pipe.old None }
     requires says { pace ≡ Pace.Parts → AlwaysSays (PipeSays T.Turn (plans_of T.Turn pipe.old)) }
     requires limit { limit_of T.Turn T.limit pipe.old ≡ limits.max_input }
-    ensures ran { Ran (PipeSays T.Turn (plans_of T.Turn pipe.old)) (last_given limits.block (S.reads input.new))
+    ensures ran { IfOk result (λ status. Ran (PipeSays T.Turn (plans_of T.Turn pipe.old))
+        (last_given limits.block (S.reads input.new))
         (change_of S.rest S.faults input.old input.new)
-        (change_of K.held K.faults output.old output.new) result }
-    ensures blocks { ReadsBlocks limits.block (S.reads input.old) (S.reads input.new) result }
-    ensures closes { Closes (K.ending output.old) (K.ending output.new) result }
+        (change_of K.held K.faults output.old output.new) status) }
+    ensures blocks { IfOk result (λ status.
+        ReadsBlocks limits.block (S.reads input.old) (S.reads input.new) status) }
+    ensures closes { IfOk result (λ status. Closes (K.ending output.old) (K.ending output.new) status) }
+    ensures left { OnErr result ((input.new ≡ input.old) × (output.new ≡ output.old)) }
 {
-    let Ok(mut buffer) = vec![in alloc; 0u8; limits.block as usize] else {
-        return Status::Memory;
-    };
+    let mut buffer = vec![in alloc; 0u8; limits.block as usize]?;
     let mut out = Vec::new(alloc);
     let status = pump(
         rt,
@@ -132,10 +134,10 @@ pub(crate) fn run<R: Threads + Sync, T: Limited + Drop + Send, G: Gate + Sync, S
         limits.max_input,
     );
     if !is_whole(status) {
-        return status;
+        return Ok(status);
     }
     match output.finish() {
-        Ok(()) => status,
-        Err(Failed) => Status::WriteFault,
+        Ok(()) => Ok(status),
+        Err(Failed) => Ok(Status::WriteFault),
     }
 }

@@ -1,28 +1,35 @@
 // The trial: a program of its own on lines of its own.
-ghost use Rattle.std.specs.Prelude.{◌≡◌, ◌≤◌, ◌<◌, ◌+◌, ◌^◌, ◌++◌, [], List, ℕ, None, true, false, IfOk, OnOk, drop, length};
-ghost use Rattle.kex_words.specs.Gains.{change_of};
-ghost use Rattle.kex_top.specs.History.{History, bytes_passed, is_ended};
-ghost use Rattle.kex_top.specs.Outside.{Closes};
+ghost use Rattle.std.specs.Prelude.{◌≡◌, ◌≤◌, ◌<◌, ◌+◌, ◌^◌, ◌++◌, [], List, ℕ, Option, None, true, false, IfOk, OnOk, drop, length};
+ghost use Rattle.kex_ports.specs.Named.{Texts};
+ghost use Rattle.kex_ports.specs.Reads.{Reads};
 ghost use Rattle.kex_words.specs.Form.{most_input};
+ghost use Rattle.kex_words.specs.Gains.{Change, change_of};
 ghost use Rattle.kex_words.specs.Lines.{trial_line};
-ghost use Rattle.kex_top.specs.Kex.{TellsLine};
+ghost use Rattle.kex_words.specs.Words.{room_of};
+ghost use Rattle.kex_words.specs.Words.Asked.{ToTry};
+ghost use Rattle.kex_top.specs.Commands.{TellsLine};
+ghost use Rattle.kex_top.specs.History.{History, bytes_passed, is_ended};
+ghost use Rattle.kex_top.specs.Kex.{CommandAnswers};
+ghost use Rattle.kex_top.specs.Outside.{Closes};
 ghost use Rattle.kex_top.specs.Piped.{PipeSays, PipeStands, plans_of};
 ghost use Rattle.kex_top.specs.Pipelines.{NodesSay, stage_plans};
+ghost use Rattle.kex_top.specs.Run.{IsLeft};
+ghost use Rattle.kex_top.specs.Starts.{status_of_answer};
 ghost use Rattle.kex_top.specs.Tallies.{Counts, HasWaiting, SumsUp};
-ghost use Rattle.kex_top.specs.Trials.{IsSummary, Tries, made_lines};
+ghost use Rattle.kex_top.specs.Trials.{IsSummary, made_lines};
 
 use crate::any_pipe::AnyPipe;
 use crate::limits::limits_to_check;
 use crate::lines::{next, push_line};
 use crate::pipeline::{Limited, end, feed};
-use crate::refused::refused;
+use crate::program::plans_of_text;
 use crate::rounds::Pace;
 use crate::serve::pipe_of;
+use crate::start::StartError;
 use crate::status::Status;
 use crate::tally::Tally;
-use kex_code::memory::Memory;
-use kex_compile::compile;
 use kex_compile::compiled::Compiled;
+use kex_pipe::pipe::PipeFault;
 use kex_ports::{Failed, Gate, Sink};
 use kex_words::{Lines, Summary, write_summary};
 use std::alloc::Global;
@@ -43,7 +50,7 @@ fn give<R: Threads + Sync, T: Limited + Drop + Send, G: Gate + Sync>(
     piece: &[u8],
     out: &mut Vec<u8>,
     tally: Tally,
-) -> Result<Tally, Memory>
+) -> Result<Tally, PipeFault>
     requires { (h : History) × PipeStands T.Turn pipe.old h × (is_ended h ≡ false) }
     ensures same { OnOk result (plans_of T.Turn pipe.new ≡ plans_of T.Turn pipe.old) }
     ensures counts { IfOk result (λ more. (h : History) → PipeStands T.Turn pipe.old h → is_ended h ≡ false
@@ -60,7 +67,7 @@ fn give_end<R: Threads + Sync, T: Limited + Drop + Send, G: Gate + Sync>(
     pipe: &mut AnyPipe<T>,
     out: &mut Vec<u8>,
     tally: Tally,
-) -> Result<Tally, Memory>
+) -> Result<Tally, PipeFault>
     requires { (h : History) × PipeStands T.Turn pipe.old h × (is_ended h ≡ false) }
     ensures same { OnOk result (plans_of T.Turn pipe.new ≡ plans_of T.Turn pipe.old) }
     ensures counts { IfOk result (λ more. (h : History) → PipeStands T.Turn pipe.old h → is_ended h ≡ false
@@ -87,7 +94,7 @@ fn give_blocks<R: Threads + Sync, T: Limited + Drop + Send, G: Gate + Sync>(
     block: usize,
     out: &mut Vec<u8>,
     tally: Tally,
-) -> Result<Tally, Memory>
+) -> Result<Tally, PipeFault>
     requires block { 0 < block }
     requires fed { (all : List ℕ) × HasWaiting (PipeSays T.Turn (plans_of T.Turn pipe.old)) (PipeStands T.Turn pipe.old) all waiting.old.items tally }
     ensures same { OnOk result (plans_of T.Turn pipe.new ≡ plans_of T.Turn pipe.old) }
@@ -109,7 +116,7 @@ fn give_lines<R: Threads + Sync, T: Limited + Drop + Send, G: Gate + Sync>(
     alloc: Global,
     pipe: &mut AnyPipe<T>,
     lines: Lines,
-) -> Result<Tally, Memory>
+) -> Result<Tally, PipeFault>
     requires { PipeStands T.Turn pipe.old None }
     ensures { IfOk result (λ tally. SumsUp (PipeSays T.Turn (plans_of T.Turn pipe.old)) (made_lines lines.count) tally) }
 {
@@ -141,7 +148,7 @@ fn sum_up<R: Threads + Sync, G: Gate + Sync>(
     alloc: Global,
     compiled: &Compiled,
     lines: Lines,
-) -> Result<Summary, Memory>
+) -> Result<Summary, PipeFault>
     requires { 0 < length compiled.now.stages }
     ensures { IfOk result (λ summary. IsSummary (NodesSay (stage_plans most_input compiled.now.stages)) lines.count summary) }
 {
@@ -157,14 +164,15 @@ fn sum_up<R: Threads + Sync, G: Gate + Sync>(
 
 // Writes the line, and finishes the output.
 fn tell_summary<K: Sink>(summary: Summary, output: &mut K) -> Status
-    ensures told { TellsLine (trial_line summary) (change_of K.held K.faults output.old output.new) result }
+    ensures told { TellsLine (trial_line summary)
+        (change_of K.held K.faults output.old output.new) result }
     ensures closes { Closes (K.ending output.old) (K.ending output.new) result }
 {
-    let Ok(()) = write_summary(output, summary) else {
-        return Status::WriteFault;
-    };
-    match output.finish() {
-        Ok(()) => Status::Done,
+    match write_summary(output, summary) {
+        Ok(()) => match output.finish() {
+            Ok(()) => Status::Done,
+            Err(Failed) => Status::WriteFault,
+        },
         Err(Failed) => Status::WriteFault,
     }
 }
@@ -176,18 +184,14 @@ pub(crate) fn answer_trial<R: Threads + Sync, G: Gate + Sync, K: Sink>(
     alloc: Global,
     lines: Lines,
     output: &mut K,
-) -> Status
-    ensures tries { Tries lines.count (change_of K.held K.faults output.old output.new) result }
-    ensures closes { Closes (K.ending output.old) (K.ending output.new) result }
+) -> Result<Status, StartError>
+    ensures answers { (texts : Option Texts) (reads : Option Reads) (source : Change) → IsLeft source
+        → CommandAnswers (ToTry lines.count lines.block (room_of lines.rings)) texts reads source
+        (change_of K.held K.faults output.old output.new) (status_of_answer result) }
+    ensures closes { Closes (K.ending output.old) (K.ending output.new) (status_of_answer result) }
 {
-    let text = TEXT.as_bytes();
     let asked = limits_to_check(STATES);
-    let compiled = match compile(alloc, text, &asked) {
-        Ok(compiled) => compiled,
-        Err(refusal) => return refused(text, refusal),
-    };
-    match sum_up(rt, gate, alloc, &compiled, lines) {
-        Ok(summary) => tell_summary(summary, output),
-        Err(Memory) => Status::Memory,
-    }
+    let plans = plans_of_text(alloc, TEXT.as_bytes(), &asked)?;
+    let summary = sum_up(rt, gate, alloc, &plans, lines)?;
+    Ok(tell_summary(summary, output))
 }

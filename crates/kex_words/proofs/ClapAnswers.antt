@@ -26,11 +26,11 @@ full-if k (x ∷ xs) h = search rules
 
 asked-by : (words : List Text) (m : ArgMatches) → fault_of kex_app words ≡ []
     → HasMatchesOf kex_app words m
-    → asked_of words ≡ Some (asked_in (subcommand_rows_of m))
+    → asked_of words ≡ asked_in (subcommand_rows_of m)
 unfolding asked_of
 asked-by words m none has =
     rw (empty-if (fault_of kex_app words) none)
-    (ap (λ (sub : Option (Text × List Row)). Some (asked_in sub)) (sym (has is-simple).1))
+    (ap (λ (sub : Option (Text × List Row)). asked_in sub) (sym (has is-simple).1))
 
 refused-by : (words : List Text) (k : ErrorKind) → IsAmong k (fault_of kex_app words) → asked_of words ≡ None
 unfolding asked_of
@@ -39,7 +39,7 @@ refused-by words k among = rw (full-if k (fault_of kex_app words) among) refl
 -- Matches of the form say what the words ask for.
 pub asked-at : (a : App) (words : List Text) (m : ArgMatches) → a ≡ kex_app
     → (is_simple_and_free a ≡ true → fault_of a words ≡ []) → HasMatchesOf a words m
-    → asked_of words ≡ Some (asked_in (subcommand_rows_of m))
+    → asked_of words ≡ asked_in (subcommand_rows_of m)
 asked-at a words m is none has =
     let F : App → Type 0 = λ x. is_simple_and_free x ≡ true → fault_of x words ≡ [] in
     let H : App → Type 0 = λ x. HasMatchesOf x words m in

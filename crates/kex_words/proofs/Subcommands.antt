@@ -10,7 +10,7 @@ use Rattle.clap.specs.Faults.{check_fault, defaults_fault, level_fault, settle_f
 use Rattle.clap.specs.Takes.{is_given}
 use Rattle.clap.specs.Walk.{Held, Names, answers_to, finished, is_empty, settled, stop_after, walk, walk_from}
 use Rattle.kex_words.specs.Form.{kex_app}
-use Rattle.kex_words.specs.Words.{Asked, asked_in, asked_of}
+use Rattle.kex_words.specs.Words.{Asked, asked_by, asked_in, asked_of, is_in_form}
 use Rattle.kex_words.specs.Subcommands.{AsksBySubcommand, IsOneOf, subcommands}
 
 -- Where neither of two steps has a fault, the second has none.
@@ -71,23 +71,37 @@ empty-of : (ks : Kinds) → is_empty ks ≡ true → ks ≡ []
 empty-of [] e = refl
 empty-of (k ∷ ks) e = search rules
 
--- Words that ask for something have no fault, and their subcommand asks for it.
-asked-empty : (words : List Text) (what : Asked) → asked_of words ≡ Some what
-    → (fault_of kex_app words ≡ []) × (asked_in (subcommand_of kex_app words) ≡ what)
+-- What words in form ask for is what their subcommand asks for.
+in-form : (words : List Text) → is_in_form words ≡ true → asked_of words ≡ asked_in (subcommand_of kex_app words)
 unfolding asked_of
-asked-empty words what e = go (is_empty (fault_of kex_app words)) refl where
-  go : (b : Bool) → is_empty (fault_of kex_app words) ≡ b
-      → (fault_of kex_app words ≡ []) × (asked_in (subcommand_of kex_app words) ≡ what)
-  go true is =
-      let at : asked_of words ≡ Some (asked_in (subcommand_of kex_app words)) = rw is refl in
-      (empty-of _ is, ap (λ o. unwrap_or o what) (sym at ∙ e))
-  go false is =
-      let at : asked_of words ≡ None = rw is refl in
-      let bad : None ≡ Some what = sym at ∙ e in cc
+in-form words is = rw is refl
+
+out-of-form : (words : List Text) → is_in_form words ≡ false → asked_of words ≡ None
+unfolding asked_of
+out-of-form words is = rw is refl
+
+-- Words that ask for something are in form.
+asked-in-form : (words : List Text) (what : Asked) → asked_of words ≡ Some what → is_in_form words ≡ true
+asked-in-form words what e = go (is_in_form words) refl where
+  go : (b : Bool) → is_in_form words ≡ b → is_in_form words ≡ true
+  go true is = is
+  go false is = let bad : None ≡ Some what = sym (out-of-form words is) ∙ e in cc
+
+-- Words in form name a subcommand.
+pub named-in-form : (words : List Text) → is_in_form words ≡ true
+    → (name : Text) × (rows : List Row) × IsOneOf subcommands name × (subcommand_of kex_app words ≡ Some (name, rows))
+named-in-form words is =
+    let has = has-subcommand _ _ _ _ _ _ refl (empty-of (fault_of kex_app words) is) in
+    entered-name (stop_after (built kex_app).top.rules (names_of (built kex_app)) (argument_words kex_app words)) has
 
 pub asks-by : (words : List Text) (what : Asked) → asked_of words ≡ Some what → AsksBySubcommand words what
 asks-by words what e =
-    let a = asked-empty words what e in
-    let has = has-subcommand _ _ _ _ _ _ refl a.0 in
-    let n = entered-name (stop_after (built kex_app).top.rules (names_of (built kex_app)) (argument_words kex_app words)) has in
-    record { name = n.0; rows = n.1; known = n.2; named = n.3; asks = sym a.1 ∙ ap asked_in n.3 }
+    let is = asked-in-form words what e in
+    let n = named-in-form words is in
+    let same : Some what ≡ Some (asked_by n.0 n.1) = sym e ∙ in-form words is ∙ ap asked_in n.3 in
+    record { name = n.0; rows = n.1; known = n.2; named = n.3; asks = ap (λ o. unwrap_or o what) same }
+
+pub asks-in-form : (words : List Text) → is_in_form words ≡ true → (what : Asked) × (asked_of words ≡ Some what)
+asks-in-form words is =
+    let n = named-in-form words is in
+    (asked_by n.0 n.1, in-form words is ∙ ap asked_in n.3)

@@ -1,6 +1,7 @@
 -- The line that a call leaves in the notes, and the lines of a check and of a trial.
 use Rattle.std.specs.Prelude.{ℕ, List, [], ◌∷◌, Bool, codes, decimal, if◌then◌else◌}
 use Rattle.std.specs.List.{concat}
+use Rattle.kex_words.specs.declared.notes.TheConstants.{USAGE}
 use Rattle.kex_words.specs.declared.counts.Counts.{Counts}
 use Rattle.kex_words.specs.declared.counts.Summary.{Summary}
 use Rattle.kex_words.specs.declared.notes.Note.{Note}
@@ -48,8 +49,9 @@ placed_line (Stage stage) title =
 abbrev pub refused_line : Refusal → List ℕ
 refused_line refusal = placed_line refusal.place (title_of refusal.rule)
 
+-- the line of words that are out of form, as `src/notes.rt` has it
 abbrev pub usage_line : List ℕ
-usage_line = codes "usage: kex run|check|code|act|test PROGRAM [--states N] [--max-input N] [--block N] [--rings N] | kex trial N [--block N] [--rings N]\n"
+usage_line = USAGE.now
 
 abbrev pub line_of : Note → List ℕ
 line_of Nothing = []

@@ -1,8 +1,8 @@
 -- Words in form name a subcommand, and ask for what it does.
-use Rattle.std.specs.Prelude.{◌≡◌, ◌⊎◌, List, [], ◌∷◌, Some, codes}
+use Rattle.std.specs.Prelude.{◌≡◌, ◌⊎◌, List, [], ◌∷◌, Some, true, codes}
 use Rattle.clap.specs.Words.{Row, Text, subcommand_of}
 use Rattle.kex_words.specs.Form.{kex_app}
-use Rattle.kex_words.specs.Words.{Asked, asked_by, asked_of}
+use Rattle.kex_words.specs.Words.{Asked, asked_by, asked_of, is_in_form}
 
 -- the words name this subcommand, and these are the matches of its arguments
 abbrev pub Names : List Text → Text → List Row → Type 0
@@ -25,3 +25,7 @@ pub record AsksBySubcommand (words : List Text) (what : Asked) : Type 0 where
 
 abbrev pub AskBySubcommand : Type 0
 AskBySubcommand = (words : List Text) (what : Asked) → asked_of words ≡ Some what → AsksBySubcommand words what
+
+-- words in form ask for something
+abbrev pub AskInForm : Type 0
+AskInForm = (words : List Text) → is_in_form words ≡ true → (what : Asked) × (asked_of words ≡ Some what)

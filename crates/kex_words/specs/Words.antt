@@ -1,5 +1,5 @@
 -- What the words of a command line ask for.
-use Rattle.std.specs.Prelude.{[], nat_le, ◌&&◌, ℕ, List, Option, Some, None, codes, option_and_then, unwrap_or, if◌then◌else◌}
+use Rattle.std.specs.Prelude.{[], nat_le, ◌&&◌, ℕ, Bool, List, Option, Some, None, codes, option_and_then, unwrap_or, if◌then◌else◌}
 use Rattle.std.specs.Str.{bytes_eq}
 use Rattle.std.specs.Str.Parse.{digits_value, without_leading_plus}
 use Rattle.clap.specs.Words.{Row, Text, first_of, one_of, subcommand_of, fault_of}
@@ -79,13 +79,17 @@ asked_by name rows =
     else ToStream (running (states_in rows)) (program_in rows) (reach_in rows)
 
 -- the same, where there is a subcommand; words in form have one
-abbrev pub asked_in : Option (Text × List Row) → Asked
-asked_in None = ToTry 0 65536 None
-asked_in (Some sub) = asked_by sub.0 sub.1
+abbrev pub asked_in : Option (Text × List Row) → Option Asked
+asked_in None = None
+asked_in (Some sub) = Some (asked_by sub.0 sub.1)
+
+-- the words meet the form of the command
+abbrev pub is_in_form : List Text → Bool
+is_in_form words = is_empty (fault_of kex_app words)
 
 -- what the words ask for, where they are in form, and else nothing
 unfoldable pub asked_of : List Text → Option Asked
-asked_of words = if is_empty (fault_of kex_app words) then Some (asked_in (subcommand_of kex_app words)) else None
+asked_of words = if is_in_form words then asked_in (subcommand_of kex_app words) else None
 
 abbrev pub room_of : Option Rings → Option ℕ
 room_of None = None

@@ -1,6 +1,8 @@
 // What a command line asks for.
-ghost use Rattle.std.specs.Prelude.{◌≤◌, ◌^◌};
+ghost use Rattle.std.specs.Prelude.{◌≡◌, ◌≤◌, ◌^◌};
+ghost use Rattle.kex_words.specs.declared.asked.WordsRefusal.TheVariants as refusal;
 
+use std::alloc::AllocError;
 use thiserror::Error;
 
 pub(crate) const MOST_INPUT: u64 = 281_474_976_710_656;
@@ -98,4 +100,12 @@ pub enum WordsRefusal {
     Usage,
     #[error("out of memory")]
     Memory,
+}
+
+impl From<AllocError> for WordsRefusal {
+    ghost from_gives = { λ _ e. e ≡ refusal.Memory };
+
+    fn from(_: AllocError) -> WordsRefusal {
+        WordsRefusal::Memory
+    }
 }

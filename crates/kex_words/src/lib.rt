@@ -16,7 +16,7 @@ mod writing;
 
 pub use asked::{Command, Limits, Lines, Mode, Rings, States, WordsRefusal};
 pub use counts::{Counts, Summary, write_counts, write_summary};
-pub use known::{asks_by_subcommand, reads_known_words};
+pub use known::{asks_by_subcommand, asks_in_form, reads_known_words};
 pub use notes::{Note, tell};
 pub use reading::read;
 pub use refusals::{Place, Refusal, Rule};

@@ -9,6 +9,7 @@ use crate::parts::{Part, write_parts, write_text};
 use crate::refusals::{Place, Refusal};
 use kex_ports::{Failed, Sink};
 
+/// The line of words that are out of form. The manual and the guide show it, and are compared with what the program writes.
 const USAGE: &str =
     "usage: kex run|check|code|act|test PROGRAM [--states N] [--max-input N] [--block N] [--rings N] | kex trial N [--block N] [--rings N]\n";
 

@@ -97,24 +97,21 @@ fn stream<'a>(mode: Mode, matches: &ArgMatches<'a>) -> Command<'a>
     }
 }
 
-fn command<'a>(matches: &ArgMatches<'a>) -> Command<'a>
-    ensures { asked_by_command result ≡ asked_in (subcommand_rows_of matches.now) }
+// What the subcommand asks for, if there is one.
+fn command<'a>(matches: &ArgMatches<'a>) -> Option<Command<'a>>
+    ensures { option_map asked_by_command result ≡ asked_in (subcommand_rows_of matches.now) }
 {
     match matches.subcommand() {
-        Some(("check", inner)) => Command::Check {
+        Some(("check", inner)) => Some(Command::Check {
             program: program(inner),
             states: states(inner),
-        },
-        Some(("code", inner)) => stream(Mode::Code, inner),
-        Some(("act", inner)) => stream(Mode::Act, inner),
-        Some(("test", inner)) => stream(Mode::Test, inner),
-        Some(("trial", inner)) => Command::Trial(lines(inner)),
-        Some((_, inner)) => stream(Mode::Run(states(inner)), inner),
-        None => Command::Trial(Lines {
-            count: 0,
-            block: USUAL_BLOCK as u32,
-            rings: None,
         }),
+        Some(("code", inner)) => Some(stream(Mode::Code, inner)),
+        Some(("act", inner)) => Some(stream(Mode::Act, inner)),
+        Some(("test", inner)) => Some(stream(Mode::Test, inner)),
+        Some(("trial", inner)) => Some(Command::Trial(lines(inner))),
+        Some((_, inner)) => Some(stream(Mode::Run(states(inner)), inner)),
+        None => None,
     }
 }
 
@@ -125,11 +122,8 @@ pub fn read<'a>(alloc: Global, words: &'a [String]) -> Result<Command<'a>, Words
     ensures asked { IfOk result (λ command. asked_of (map string_bytes words.entry.now) ≡ Some (asked_by_command command)) }
     ensures usage { IsErrOf result Usage → asked_of (map string_bytes words.entry.now) ≡ None }
 {
-    let Ok(form) = form(alloc) else {
-        return Err(WordsRefusal::Memory);
-    };
-    match form.try_get_matches_from(words) {
-        Ok(matches) => Ok(command(&matches)),
+    match form(alloc)?.try_get_matches_from(words) {
+        Ok(matches) => command(&matches).ok_or(WordsRefusal::Usage),
         Err(error) => match error.kind() {
             ErrorKind::OutOfMemory => Err(WordsRefusal::Memory),
             _ => Err(WordsRefusal::Usage),

@@ -16,7 +16,7 @@ returns-clause-same g c =
     let text = text_of c.requires.0 in
     let x = standing g.T.Turn c.args.pipe.now c.requires.0 c.requires.1 in
     let ps = plans_of g.T.Turn c.args.pipe.now in
-    let w = c.in_ok-work_off.ensures.works ps (x.events ++ give_end ∷ []) text (c.in-Ok.ensures.stands ps x.events text x.stands) in
+    let w = c.in_ok-work_off.ensures.works ps (x.events ++ give_end ∷ []) text (c.in_ok-give_end.ensures.stands ps x.events text x.stands) in
     same-plans g.T.Turn ps c.take_output_into.new.self w.events (text ++ c.take_output_into.new.out.items) (c.take_output_into.ensures.stands ps w.events text w.stands_for)
 
 pub returns-clause-feeds : goal.returns-clause-feeds
@@ -24,7 +24,7 @@ returns-clause-feeds g c = λ h s e.
     let x = standing g.T.Turn c.args.pipe.now h s in
     let ps = plans_of g.T.Turn c.args.pipe.now in
     let given = x.events ++ give_end ∷ [] in
-    let w = c.in_ok-work_off.ensures.works ps given (text_of h) (c.in-Ok.ensures.stands ps x.events (text_of h) x.stands) in
+    let w = c.in_ok-work_off.ensures.works ps given (text_of h) (c.in_ok-give_end.ensures.stands ps x.events (text_of h) x.stands) in
     said-all g.T.Turn ps c.work_off.new.pipe c.take_output_into.new.self given (text_of h) c.take_output_into.new.out.items c.report.result
     h (bytes_passed h) true c.fate_of.result x.some refl (bytes-same x.events ∙ x.bytes) (end-now x.events)
     w (λ k st. c.take_output_into.ensures.stands ps k (text_of h) st) c.take_output_into.ensures.none_left (λ k text st done. c.report.ensures.settled ps k text st done) c.fate_of.ensures

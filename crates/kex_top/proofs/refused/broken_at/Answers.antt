@@ -1,7 +1,7 @@
 use Rattle.std.proofs.Common.{◌≡◌, ℕ, take, length-take, ap, ◌∙◌, arith}
 use Rattle.kex_words.specs.declared.refusals.Place.TheVariants.{At}
-use Rattle.kex_top.specs.Kex.{column_at, line_at}
-use Rattle.kex_top.specs.declared.status.Status.TheVariants.{Refused}
+use Rattle.kex_top.specs.Refusals.{column_at, line_at}
+use Rattle.kex_top.specs.declared.start.StartError.TheVariants.{Refused}
 use Rattle.kex_top.proofs.LineColumns.{few-behind, few-feeds}
 use Rattle.kex_top.proofs.refused.broken_at.Goals as goal
 

@@ -30,7 +30,7 @@ parts-preserved g c =
       within = within;
       given = λ ps h taken s.
           part-given t (take l.given bytes) part (take end bytes) c.give.new.self.seats.items order ps h taken l.pipe c.round.new.pipe (front-more bytes l.given end past)
-          (λ k st. c.in-Ok-round.ensures.stands ps (k ++ give part ∷ []) taken order (c.in-Ok.ensures.stands ps k taken st) (IsPermutation-refl order))
+          (λ k st. c.in_ok-round.ensures.stands ps (k ++ give part ∷ []) taken order (c.in_ok-give.ensures.stands ps k taken st) (IsPermutation-refl order))
           (l.invariant.given ps h taken s);
       unended = c.round.ensures.ended ∙ c.give.ensures.ended ∙ l.invariant.unended;
       closed = c.round.ensures.closed;
@@ -46,5 +46,5 @@ returns-then-settled-clause-given g c = λ ps h taken s.
     let part : List ℕ = take (end - l.given) (drop l.given bytes) in
     let past : l.given ≤ end = omega (arith, c.min-end.ensures, l.invariant.within) in
     part-given t (take l.given bytes) part (take end bytes) c.give.new.self.seats.items order ps h taken l.pipe c.round.new.pipe (front-more bytes l.given end past)
-    (λ k st. c.in-Ok-round.ensures.stands ps (k ++ give part ∷ []) taken order (c.in-Ok.ensures.stands ps k taken st) (IsPermutation-refl order))
+    (λ k st. c.in_ok-round.ensures.stands ps (k ++ give part ∷ []) taken order (c.in_ok-give.ensures.stands ps k taken st) (IsPermutation-refl order))
     (l.invariant.given ps h taken s)

@@ -1,4 +1,5 @@
-use Rattle.std.proofs.Common.{ℕ, List, subst, ap, inr, ◌∙◌}
+use Rattle.std.proofs.Common.{ℕ, List, subst, ap, ◌∙◌}
+use Rattle.std.specs.Prelude.{IfOk}
 use Rattle.kex_ports.specs.Reads.{last_given}
 use Rattle.kex_words.specs.Gains.{change}
 use Rattle.kex_stage.specs.Stages.{StagePlan}
@@ -13,12 +14,12 @@ pub run-requires-clause-limit : goal.run-requires-clause-limit
 run-requires-clause-limit g c = λ κs bounds.
     let max = c.args.limits.max_input in
     let limit : StagePlan → ℕ = λ p. p.limit in
-    first-of ghosts.plan limit (stages_of ghosts c.in-Ok.pipe) ∙ ap (λ (ps : List StagePlan). first_limit limit ps) (c.in-Ok.ensures.plans ∙ ap (λ z. stage_plans max z) c.stages.ensures.same) ∙ first-limit max c.args.compiled.now.stages c.requires
+    first-of ghosts.plan limit (stages_of ghosts c.in_ok-pipe.pipe) ∙ ap (λ (ps : List StagePlan). first_limit limit ps) (c.in_ok-pipe.ensures.plans ∙ ap (λ z. stage_plans max z) c.stages.ensures.same) ∙ first-limit max c.args.compiled.now.stages c.requires
 
 pub returns-clause-ran : goal.returns-clause-ran
 returns-clause-ran g c =
-    let P : List StagePlan → Type 0 = λ ps. Ran (NodesSay ps) (last_given c.args.limits.block (g.S.Source.reads c.run.new.input))
+    let P : List StagePlan → Type 0 = λ ps. IfOk c.run.result (λ status. Ran (NodesSay ps) (last_given c.args.limits.block (g.S.Source.reads c.run.new.input))
     (change (g.S.Source.rest c.args.input.now) (g.S.Source.rest c.run.new.input) (g.S.Source.faults c.args.input.now) (g.S.Source.faults c.run.new.input))
     (change (g.K.Sink.held c.args.output.now) (g.K.Sink.held c.run.new.output) (g.K.Sink.faults c.args.output.now) (g.K.Sink.faults c.run.new.output))
-    c.run.result in
-    inr (subst P (c.in-Ok.ensures.plans ∙ ap (λ z. stage_plans c.args.limits.max_input z) c.stages.ensures.same) c.run.ensures.ran)
+    status) in
+    subst P (c.in_ok-pipe.ensures.plans ∙ ap (λ z. stage_plans c.args.limits.max_input z) c.stages.ensures.same) c.run.ensures.ran

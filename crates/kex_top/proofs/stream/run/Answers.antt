@@ -4,7 +4,7 @@ use Rattle.kex_words.specs.Gains.{change}
 use Rattle.kex_top.specs.Run.{Pumped, is_whole}
 use Rattle.kex_top.specs.Piped.{PipeSays, plans_of}
 use Rattle.kex_top.specs.PipelineLaws.{says_grows}
-use Rattle.kex_top.proofs.WholeRuns.{closed, close-fails, none-ran}
+use Rattle.kex_top.proofs.WholeRuns.{closed, close-fails}
 use Rattle.kex_top.proofs.stream.run.Goals as goal
 
 pub returns-clause-ran : goal.returns-clause-ran
@@ -19,8 +19,8 @@ returns-clause-ran g c =
     close-fails (PipeSays g.T.Turn) (plans_of g.T.Turn c.args.pipe.now) (says_grows g.T.Turn.gives laws.one laws.grows laws.stays laws.ends) _ _ _ _ _ _ _ _ _
     whole (subst P len c.pump-status.ensures.pumped) c.finish.ensures.held c.in-Err.ensures.cause.later c.in-Err.ensures.cause.failed
 
-pub returns-in-Ok-finish-clause-ran : goal.returns-in-Ok-finish-clause-ran
-returns-in-Ok-finish-clause-ran g c =
+pub returns-in-Ok-clause-ran : goal.returns-in-Ok-clause-ran
+returns-in-Ok-clause-ran g c =
     let P : ℕ → Type 0 = λ n. Pumped (PipeSays g.T.Turn (plans_of g.T.Turn c.args.pipe.now)) (last_given n (g.S.Source.reads c.pump-status.new.input))
     (change (g.S.Source.rest c.args.input.now) (g.S.Source.rest c.pump-status.new.input) (g.S.Source.faults c.args.input.now) (g.S.Source.faults c.pump-status.new.input))
     (change (g.K.Sink.held c.args.output.now) (g.K.Sink.held c.pump-status.new.output) (g.K.Sink.faults c.args.output.now) (g.K.Sink.faults c.pump-status.new.output))
@@ -29,7 +29,4 @@ returns-in-Ok-finish-clause-ran g c =
     let whole : is_whole c.pump-status.result ≡ true = cc in
     let pumped = subst P len c.pump-status.ensures.pumped in
     closed (PipeSays g.T.Turn (plans_of g.T.Turn c.args.pipe.now)) _ _ _ _ _ _ _ _ _
-    whole pumped.0 c.finish.ensures.held c.in-Ok-finish.ensures.cause.kept
-
-pub returns-in_default-clause-ran : goal.returns-in_default-clause-ran
-returns-in_default-clause-ran g c = none-ran (PipeSays g.T.Turn (plans_of g.T.Turn c.args.pipe.now)) _ _ _ _ _
+    whole pumped.0 c.finish.ensures.held c.in-Ok.ensures.cause.kept

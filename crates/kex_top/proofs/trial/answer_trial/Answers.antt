@@ -1,23 +1,38 @@
-use Rattle.std.proofs.Common.{◌≡◌, refl, subst}
+use Rattle.std.proofs.Common.{◌≡◌, refl, subst, inl}
+use Rattle.std.proofs.lemmas.Result.{err_from_is_err_and}
 use Rattle.kex_compile.specs.Compiled.{IsCompiled, IsRefused}
-use Rattle.kex_top.specs.Kex.{IsStatusOf}
-use Rattle.kex_top.specs.Trials.{trial_text}
-use Rattle.kex_top.proofs.CallAnswers.{some-machine, tried, trial_refused}
+use Rattle.kex_compile.specs.declared.refusal.CompileRefusal.{CompileRefusal}
+use Rattle.kex_words.specs.Words.{room_of}
+use Rattle.kex_words.specs.Words.Asked.{ToTry}
+use Rattle.kex_ports.specs.Shelf.{present}
+use Rattle.kex_top.specs.Modes.{limits_to_check}
+use Rattle.kex_top.specs.Refusals.{IsStartOf}
+use Rattle.kex_top.specs.Trials.{trial_text, usual_states}
+use Rattle.kex_top.proofs.CallAnswers.{some-machine, tried, unbegun, unplanned}
 use Rattle.kex_top.proofs.trial.answer_trial.Goals as goal
 
-pub returns-in-Err-clause-tries : goal.returns-in-Err-clause-tries
-returns-in-Err-clause-tries g c =
-    let text : c.as_bytes-text.result.now ≡ trial_text = c.as_bytes-text.ensures.value in
-    trial_refused c.args.lines.count c.in-Err.refusal _ _
-    (subst (λ l. IsRefused l trial_text c.in-Err.refusal) c.limits_to_check-asked.ensures (subst (λ t. IsRefused c.limits_to_check-asked.result t c.in-Err.refusal) text c.in-Err.ensures.refused))
-    (refl, refl) (subst (λ t. IsStatusOf t c.in-Err.refusal c.refused.result) text c.refused.ensures)
-
 pub sum_up-requires-after_bounds : goal.sum_up-requires-after_bounds
-sum_up-requires-after_bounds g c = λ κs bounds. some-machine c.limits_to_check-asked.result c.as_bytes-text.result.now c.in-Ok.compiled c.in-Ok.ensures.plans
+sum_up-requires-after_bounds g c = λ κs bounds. some-machine c.limits_to_check-asked.result c.as_bytes.result.now c.in_ok-plans.plans c.in_ok-plans.ensures.plans
 
-pub returns-in-Ok-sum_up-clause-tries : goal.returns-in-Ok-sum_up-clause-tries
-returns-in-Ok-sum_up-clause-tries g c =
-    let text : c.as_bytes-text.result.now ≡ trial_text = c.as_bytes-text.ensures.value in
-    tried c.args.lines.count c.in-Ok.compiled
-    (subst (λ l. IsCompiled l trial_text c.in-Ok.compiled) c.limits_to_check-asked.ensures (subst (λ t. IsCompiled c.limits_to_check-asked.result t c.in-Ok.compiled) text c.in-Ok.ensures.plans))
-    c.in-Ok-sum_up.summary c.in-Ok-sum_up.ensures _ _ c.tell_summary.ensures.told
+pub returns-in_err-plans-clause-answers : goal.returns-in_err-plans-clause-answers
+returns-in_err-plans-clause-answers g c = λ texts reads source left.
+    let e = c.in_err-plans.field-0.0 in
+    let text : c.as_bytes.result.now ≡ trial_text = c.as_bytes.ensures.value in
+    let p = err_from_is_err_and c.from_residual.result c.from_residual.ensures.1 in
+    let x = c.in_err-plans.ensures.none in
+    rw (p.1, p.2) (unbegun (ToTry c.args.lines.count c.args.lines.block (room_of c.args.lines.rings)) texts reads source _ e
+    (unplanned (limits_to_check usual_states) (present trial_text) trial_text e refl
+    (subst (λ l. (rule : CompileRefusal) × IsRefused l trial_text rule × IsStartOf trial_text rule e) c.limits_to_check-asked.ensures (subst (λ t. (rule : CompileRefusal) × IsRefused c.limits_to_check-asked.result t rule × IsStartOf t rule e) text x)))
+    (λ is. absurd (subst (λ w. IsStartOf c.as_bytes.result.now x.0 w) is x.2)) (left, (refl, refl)))
+
+pub returns-in_err-summary-clause-answers : goal.returns-in_err-summary-clause-answers
+returns-in_err-summary-clause-answers g c = λ texts reads source left.
+    let p = err_from_is_err_and c.from_residual-in_err-summary.result c.from_residual-in_err-summary.ensures.1 in
+    rw (p.1, p.2) (inl (left, (refl, refl)))
+
+pub returns-clause-answers : goal.returns-clause-answers
+returns-clause-answers g c = λ texts reads source left.
+    let text : c.as_bytes.result.now ≡ trial_text = c.as_bytes.ensures.value in
+    tried c.args.lines.count c.args.lines.block (room_of c.args.lines.rings) texts reads c.in_ok-plans.plans c.in_ok-summary.summary source _ _
+    (subst (λ l. IsCompiled l trial_text c.in_ok-plans.plans) c.limits_to_check-asked.ensures (subst (λ t. IsCompiled c.limits_to_check-asked.result t c.in_ok-plans.plans) text c.in_ok-plans.ensures.plans))
+    c.in_ok-summary.ensures left c.tell_summary.ensures.told

@@ -1,0 +1,88 @@
+// Why a command doesn't begin.
+ghost use Rattle.std.specs.Prelude.{◌≡◌};
+ghost use Rattle.kex_top.specs.Starts.{of_shelf, of_words, status_of, status_of_answer};
+ghost use Rattle.kex_top.specs.declared.start.StartError.TheVariants as start;
+
+use crate::status::Status;
+use kex_code::memory::Memory;
+use kex_pipe::pipe::PipeFault;
+use kex_ports::ShelfAnswer;
+use kex_words::{Place, Refusal, Rule, WordsRefusal};
+
+/// Why a command doesn't begin. Nothing is read or written then.
+#[derive(Clone, Copy, Debug, PartialEq, Eq, Drop)]
+pub(crate) enum StartError {
+    /// The words are out of form.
+    Usage,
+    /// The shelf failed.
+    Shelf,
+    /// The program breaks a rule.
+    Refused(Refusal),
+    Memory,
+}
+
+impl From<WordsRefusal> for StartError {
+    ghost from_gives = { λ why e. e ≡ of_words why };
+
+    fn from(why: WordsRefusal) -> StartError {
+        match why {
+            WordsRefusal::Usage => StartError::Usage,
+            WordsRefusal::Memory => StartError::Memory,
+        }
+    }
+}
+
+impl From<ShelfAnswer> for StartError {
+    ghost from_gives = { λ why e. e ≡ of_shelf why };
+
+    fn from(why: ShelfAnswer) -> StartError {
+        match why {
+            ShelfAnswer::Failed => StartError::Shelf,
+            ShelfAnswer::TooLong => StartError::Refused(Refusal {
+                rule: Rule::TextTooLong,
+                place: Place::Nowhere,
+            }),
+            ShelfAnswer::Memory => StartError::Memory,
+        }
+    }
+}
+
+impl From<Memory> for StartError {
+    ghost from_gives = { λ _ e. e ≡ start.Memory };
+
+    fn from(_: Memory) -> StartError {
+        StartError::Memory
+    }
+}
+
+// A pipe that stands for what was fed isn't spent, so it wants memory.
+impl From<PipeFault> for StartError {
+    ghost from_gives = { λ _ e. e ≡ start.Memory };
+
+    fn from(_: PipeFault) -> StartError {
+        StartError::Memory
+    }
+}
+
+impl StartError {
+    fn status(self) -> Status
+        ensures { result ≡ status_of self }
+    {
+        match self {
+            StartError::Usage => Status::Usage,
+            StartError::Shelf => Status::ShelfFault,
+            StartError::Refused(refusal) => Status::Refused(refusal),
+            StartError::Memory => Status::Memory,
+        }
+    }
+}
+
+/// The status of a command that has ended, or hasn't begun.
+pub(crate) fn status_of(answer: Result<Status, StartError>) -> Status
+    ensures { result ≡ status_of_answer answer }
+{
+    match answer {
+        Ok(status) => status,
+        Err(why) => why.status(),
+    }
+}
