@@ -1,11 +1,14 @@
--- The laws of a stage's answers, whatever it says.
-use Rattle.std.proofs.Common.{◌≡◌, ℕ, ◌<◌, ◌≤◌, ◌+◌, Bool, true, false, ◌&&◌, List, [], ◌∷◌, ◌++◌, None, length, refl, sym, ap, subst, ◌∙◌, append-nil, append_assoc, arith, ⊎_elim, take, drop, length-append, length-take, take-append-drop}
+-- What is answered by what is viable, said, parsed and meant: one answer, which grows, and whose stop stands.
+use Rattle.std.proofs.Common.{◌≡◌, ℕ, ◌<◌, ◌≤◌, ◌+◌, Bool, true, false, ◌&&◌, List, [], ◌∷◌, ◌++◌, Some, None, length, refl, sym, ap, subst, ◌∙◌, append-nil, append_assoc, arith, ⊎_elim, take, length-append}
 use Rattle.std.specs.Prelude.{is_none, IsSome}
 use Rattle.kex_code.specs.Codes.{Begins}
-use Rattle.kex_model.specs.Answers.{Answer, Answers, stopped_answer, at_byte, at_limit, bad_byte, too_long, cut_off, whole, still_open}
+use Rattle.kex_model.specs.Answers.{Answer, Answers, stopped_answer, at_byte, bad_byte, too_long, cut_off, whole, still_open}
 use Rattle.kex_model.proofs.Orders.{two_fronts}
 use Rattle.kex_model.proofs.OpenAnswers as model
-use Rattle.kex_machine.proofs.Outputs.{further_front}
+use Rattle.kex_pipe.specs.Working.{Answering, SaysViable, ClosesParsed}
+
+further_front : {A : Type 0} (xs ys zs : List A) → Begins ys xs → Begins zs ys → Begins zs xs
+further_front xs ys zs p q = (p.0 ++ q.0, q.1 ∙ ap (λ z. z ++ q.0) p.1 ∙ append_assoc xs p.0 q.0)
 
 module _ (Good : List ℕ → Type 0) (Says : List ℕ → List ℕ → Type 0) (Parsed : List ℕ → Type 0) (Means : List ℕ → List ℕ → Type 0) where
   abbrev Gives : ℕ → List ℕ → Bool → Answer → Type 0
@@ -29,12 +32,6 @@ module _ (Good : List ℕ → Type 0) (Says : List ℕ → List ℕ → Type 0) 
   past_limit n (still_open le good says) lt = absurd (omega (arith, le, lt))
 
   module _ (o : model.Orderly Good Says Parsed Means) where
-    pub grows : (n : ℕ) (w v : List ℕ) {e : Bool} {a b : Answer} → Gives n w false a → Gives n (w ++ v) e b → Begins b.text a.text
-    grows n w v h k = (model.stays Good Says Parsed Means o n (v, refl) h k).0
-
-    pub stays : (n : ℕ) (w v : List ℕ) {e : Bool} {a b : Answer} → Gives n w false a → Gives n (w ++ v) e b → (a.stop ≡ None → ⊥) → b ≡ a
-    stays n w v h k = (model.stays Good Says Parsed Means o n (v, refl) h k).1
-
     -- what has stopped stays so, whatever comes
     pub stopped_more : (n : ℕ) (w v : List ℕ) (e : Bool) {a : Answer} → Gives n w false a → (a.stop ≡ None → ⊥) → Gives n (w ++ v) e a
     stopped_more n w v e (bad_byte u bad l says) some =
@@ -52,18 +49,25 @@ module _ (Good : List ℕ → Type 0) (Says : List ℕ → List ℕ → Type 0) 
         too_long (omega (arith, lt, length-append w v)) (subst (λ z. Good z) same good) (subst (λ z. Says z text) same says)
     stopped_more n w v e (still_open le good says) some = absurd (some refl)
 
-    -- with one more byte no parse begins
-    pub byte_answer : (n : ℕ) (x v next text : List ℕ) (e : Bool) → Begins x next → Begins next v → length next ≡ length v + 1 → length next ≤ n → Good v → (Good next → ⊥) → Says v text → Gives n x e (stopped_answer text (length v) at_byte)
-    byte_answer n x v next text e p q one le good bad says =
-        let front : Begins (take n x) next = model.shorter_front x next (take n x) p (drop n x, sym (take-append-drop n x)) (omega (arith, length-take n x, le, ap length p.1, length-append next p.0)) in
-        bad_byte v (λ h. bad (o.front next (take n x) front h)) (record {
-          front = (q.0 ++ front.0, front.1 ∙ ap (λ z. z ++ front.0) q.1 ∙ append_assoc v q.0 front.0);
+    -- with one more byte it can't go on
+    pub refuses : (w v next text : List ℕ) (at : ℕ) → Begins w next → Begins next v → length next ≡ length v + 1 → at ≡ length v
+        → Good v → (Good next → ⊥) → Says v text → SaysViable Good Says Parsed Means w (Some at) text
+    refuses w v next text at p q one is good bad says = (
+      λ h. bad (o.front next w p h),
+      (
+        v,
+        record {
+          front = further_front v next w q p;
           good = good;
           longest = λ u b h. ⊎_elim
               (λ r. absurd (bad (o.front next u r h)))
               (λ r. shorter u r h)
-              (two_fronts u next b.0 front.0 (sym b.1 ∙ front.1));
-        }) says
+              (two_fronts u next b.0 p.0 (sym b.1 ∙ p.1));
+        },
+        says,
+        is,
+      ),
+    )
       where
         shorter : (u : List ℕ) → Begins next u → Good u → length u ≤ length v
         shorter u (m, f) h = by m f
@@ -72,7 +76,21 @@ module _ (Good : List ℕ → Type 0) (Says : List ℕ → List ℕ → Type 0) 
             by [] f = absurd (bad (subst (λ z. Good z) (sym (f ∙ append-nil u)) h))
             by (y ∷ m) f = omega (arith, ap length f, length-append u (y ∷ m), one)
 
-    pub limit_answer : (n : ℕ) (x v text : List ℕ) (e : Bool) → Begins x v → length v ≡ n → n < length x → Good v → Says v text → Gives n x e (stopped_answer text n at_limit)
-    limit_answer n x v text e p long lt good says =
-        let is : take n x ≡ v = model.same_front x (take n x) v (drop n x, sym (take-append-drop n x)) p (omega (arith, length-take n x, lt, long)) in
-        too_long lt (subst (λ z. Good z) (sym is) good) (subst (λ z. Says z text) (sym is) says)
+    -- the laws, where what is meant has a parse, and is one text
+    pub answering : ((u s : List ℕ) → Means u s → Parsed u) → ((u s t : List ℕ) → Means u s → Means u t → s ≡ t)
+        → Answering (SaysViable Good Says Parsed Means) (ClosesParsed Good Says Parsed Means) (λ n w e a. Answers Good Says Parsed Means n w e a)
+    answering parsed means = record {
+      stops_at = λ n w e at text s.
+          let (bad, (v, l, said, is)) = s in
+          subst (λ k. Gives n w e (stopped_answer text k at_byte)) (sym is) (bad_byte v bad l said);
+      too_long = λ n w e text lt s. too_long lt s.0 s.1;
+      cut_off = λ n w text le c. cut_off le c.0 c.1 c.2;
+      whole = λ n w text le c. whole le c;
+      still_open = λ n w text le s. still_open le s.0 s.1;
+      stopped = λ n w v e a g some. stopped_more n w v e g some;
+      one = λ n w e a b g h. model.one_answer Good Says Parsed Means o n parsed means g h;
+      grows = λ n w v e a b g h. (model.stays Good Says Parsed Means o n (v, refl) g h).0;
+      stays = λ n w v e a b g h. (model.stays Good Says Parsed Means o n (v, refl) g h).1;
+      ends = λ n w e a g. ends n g;
+      past = λ n w e a g lt. past_limit n g lt;
+    }
