@@ -1,26 +1,22 @@
--- A coder that takes a piece, or the end.
-use Rattle.std.proofs.Common.{◌≡◌, ℕ, ◌≤◌, ◌+◌, ◌-◌, true, false, List, [], ◌∷◌, ◌++◌, Option, Some, None, length, min, take, refl, sym, ap, subst, ◌∙◌, append-nil, arith, length-append, length-take, inl, inr}
-use Rattle.std.specs.Prelude.{IsTrue}
-use Rattle.std.proofs.lemmas.List.{take_all}
+-- A worker that writes the code, by a piece, or the end.
+use Rattle.std.proofs.Common.{◌≡◌, ℕ, ◌≤◌, ◌+◌, Bool, List, [], ◌∷◌, ◌++◌, Option, Some, None, length, take, drop, refl, sym, ap, subst, ◌∙◌, append_assoc, append-nil, arith, length-append, length-take, take-append-drop, inl, inr}
 use Rattle.kex_code.specs.declared.symbol.Symbol.{Symbol}
 use Rattle.kex_code.specs.Codes.{Begins, IsAmong}
 use Rattle.kex_code.specs.Texts.{text_of as code_text}
 use Rattle.kex_code.proofs.Texts.{text_of-append}
 use Rattle.kex_model.specs.Labelled.{Leaf, Labelled, tip, fork, leaves_of}
 use Rattle.kex_model.specs.Survivors.{Agreed, LongestViable}
-use Rattle.kex_model.proofs.OpenAnswers.{same_front}
+use Rattle.kex_model.proofs.OpenAnswers.{same_front, shorter_front}
 use Rattle.kex_machine.specs.Nodes.{Graph, node_moves}
 use Rattle.kex_machine.specs.Answers.{Viable, HasParse, IsSaid, IsGreedy}
 use Rattle.kex_frontier.specs.Frontiers.{Front, IsFed, IsOver}
 use Rattle.kex_frontier.specs.declared.frontier.Ended.{Ended}
 use Rattle.kex_frontier.specs.declared.frontier.Ended.TheVariants.{Parsed, Cut}
-use Rattle.kex_pipe.specs.Histories.{Fed, Feeds, bytes_fed, text_of}
-use Rattle.kex_pipe.specs.declared.turn.Stop.{Stop}
-use Rattle.kex_single.specs.Singles.{CodeAnswers, MeansCode, SaysCode, Single}
-use Rattle.kex_pipe.specs.declared.turn.Why.TheVariants.{Byte}
-use Rattle.kex_single.specs.Standing.{CodeOpen, StandsAs, StopsAt, GoesOn, good_of, given_of, fate_of, end_stop, is_parsed}
+use Rattle.kex_pipe.specs.Working.{CameToEnd, ClosesParsed, ReadMore, SaysViable}
+use Rattle.kex_pipe.proofs.ViableAnswers.{refuses}
+use Rattle.kex_single.specs.Singles.{MeansCode, SaysCode}
+use Rattle.kex_single.specs.Standing.{CodeFollows, GoesOn, given_of, is_parsed, place_of}
 use Rattle.kex_single.specs.CodeLaws.{orderly}
-use Rattle.kex_single.proofs.PieceAnswers.{feeds, ends_parsed, ends_cut, more_taken}
 
 -- the longest front that can go on of a text that can is the text
 whole_front : (g : Graph) (w of : List ℕ) → LongestViable (node_moves g.nodes) g.start w of → Viable g w → of ≡ w
@@ -62,58 +58,77 @@ begins_good f g e (inr (dead, h, k)) = absurd (dead (subst (λ z. Viable f.machi
     empty [] b = refl
     empty (x ∷ of) b = let bad : [] ≡ x ∷ (of ++ b.0) = b.1 in cc
 
-module _ (p : Single) (f f1 f2 : Front) (h : Option Fed) (read : ℕ) (old new : List ℕ) (o : CodeOpen p f read (bytes_fed h) (text_of h)) (m : f1.machine ≡ p.machine) (appended : new ≡ old ++ code_text f1.untaken) where
+front_of : (k : ℕ) (w xs : List ℕ) → Begins (w ++ xs) (w ++ take k xs)
+front_of k w xs = (drop k xs, ap (λ z. w ++ z) (sym (take-append-drop k xs)) ∙ sym (append_assoc w (take k xs) (drop k xs)))
+
+more_taken : (k : ℕ) (w xs : List ℕ) → Begins (w ++ take (k + 1) xs) (w ++ take k xs)
+more_taken k w xs =
+    shorter_front (w ++ xs) (w ++ take k xs) (w ++ take (k + 1) xs) (front_of k w xs) (front_of (k + 1) w xs)
+    (omega (arith, length-append w (take k xs), length-append w (take (k + 1) xs), length-take k xs, length-take (k + 1) xs))
+
+module _ (g : Graph) where
+  abbrev pub SaysIts : List ℕ → Option ℕ → List ℕ → Type 0
+  SaysIts w at text = SaysViable (Viable g) (SaysCode g) (HasParse g) (MeansCode g) w at text
+
+  abbrev pub ClosesIts : List ℕ → Bool → List ℕ → Type 0
+  ClosesIts w parsed text = ClosesParsed (Viable g) (SaysCode g) (HasParse g) (MeansCode g) w parsed text
+
+module _ (f f1 f2 : Front) (g : Graph) (read : ℕ) (w begun old new : List ℕ) (o : CodeFollows f read w begun) (m1 : f1.machine ≡ g) (appended : new ≡ old ++ code_text f1.untaken) where
   abbrev code : List Symbol
   code = o.code ++ f1.untaken
 
   abbrev text : List ℕ
-  text = text_of h ++ code_text f1.untaken
+  text = begun ++ code_text f1.untaken
 
   text_is : text ≡ code_text code
   text_is = ap (λ z. z ++ code_text f1.untaken) o.written ∙ sym (text_of-append o.code f1.untaken)
 
-  module _ (piece : List ℕ) (front : ℕ) (is_front : front ≡ min (p.limit - read) (length piece)) (said : (w : List ℕ) (c : List Symbol) → IsFed f1 w c → IsFed f2 w (c ++ f1.untaken) × IsSaid f1.machine w (c ++ f1.untaken)) where
-    abbrev taken : List ℕ
-    taken = take front piece
-
-    says : (bad : Option ℕ) → GoesOn p.machine (bytes_fed h) taken bad → IsFed f1 (given_of (bytes_fed h) taken bad) o.code → SaysCode p.machine (good_of (bytes_fed h) taken bad) text
+  module _ (m2 : f2.machine ≡ g) (piece : List ℕ) (said : (w : List ℕ) (c : List Symbol) → IsFed f1 w c → IsFed f2 w (c ++ f1.untaken) × IsSaid f1.machine w (c ++ f1.untaken)) where
+    says : (bad : Option ℕ) → GoesOn g w piece bad → IsFed f1 (given_of w piece bad) o.code → SaysIts g (w ++ piece) (place_of bad read) text
     says None good fed =
-        let w = bytes_fed h ++ taken in
-        let s = subst (λ z. IsSaid z w code) m (said w o.code fed).1 in
-        (code, subst (λ z. Agreed (node_moves p.machine.nodes) p.machine.start z code) (whole_front p.machine w s.of s.longest good) s.agreed, text_is)
+        let s = subst (λ z. IsSaid z (w ++ piece) code) m1 (said (w ++ piece) o.code fed).1 in
+        (good, (code, subst (λ z. Agreed (node_moves g.nodes) g.start z code) (whole_front g (w ++ piece) s.of s.longest good) s.agreed, text_is))
     says (Some k) (lt, good, none) fed =
-        let v = bytes_fed h ++ take k taken in
-        let next = bytes_fed h ++ take (k + 1) taken in
-        let s = subst (λ z. IsSaid z next code) m (said next o.code fed).1 in
-        let one : length next ≡ length v + 1 = omega (arith, lt, length-append (bytes_fed h) (take k taken), length-append (bytes_fed h) (take (k + 1) taken), length-take k taken, length-take (k + 1) taken) in
-        (code, said_before p.machine v next code (more_taken k (bytes_fed h) taken) one good none s, text_is)
+        let v = w ++ take k piece in
+        let next = w ++ take (k + 1) piece in
+        let s = subst (λ z. IsSaid z next code) m1 (said next o.code fed).1 in
+        let one : length next ≡ length v + 1 = omega (arith, lt, length-append w (take k piece), length-append w (take (k + 1) piece), length-take k piece, length-take (k + 1) piece) in
+        let at : read + k ≡ length v = omega (arith, o.count, lt, length-append w (take k piece), length-take k piece) in
+        refuses (Viable g) (SaysCode g) (HasParse g) (MeansCode g) (orderly g) (w ++ piece) v next text (read + k) (front_of (k + 1) w piece) (more_taken k w piece) one at good none
+        (code, said_before g v next code (more_taken k w piece) one good none s, text_is)
 
-    opens : (bad : Option ℕ) (stop : Option Stop) → StopsAt bad read front (length piece) stop → GoesOn p.machine (bytes_fed h) taken bad → IsFed f1 (given_of (bytes_fed h) taken bad) o.code → stop ≡ None → CodeOpen p f2 (read + front) (bytes_fed h ++ piece) text
-    opens (Some k) stop is goes fed none = let bad : Some (record { at = read + k; why = Byte }) ≡ None = sym is ∙ none in cc
-    opens None (Some s) is goes fed none = let bad : Some s ≡ None = none in cc
-    opens None None is good fed none =
-        let all : taken ≡ piece = take_all front piece (omega (arith, is)) in
-        record {
-          code = code;
-          fed = subst (λ z. IsFed f2 (bytes_fed h ++ z) code) all (said (bytes_fed h ++ taken) o.code fed).0;
-          written = text_is;
-          count = omega (arith, o.count, is, length-append (bytes_fed h) piece);
-          within = omega (arith, o.within, is_front);
-          good = subst (λ z. Viable p.machine (bytes_fed h ++ z)) all good;
-        }
+    follows : (bad : Option ℕ) → GoesOn g w piece bad → IsFed f1 (given_of w piece bad) o.code → place_of bad read ≡ None → CodeFollows f2 (read + length piece) (w ++ piece) text
+    follows (Some k) goes fed e = let no : Some (read + k) ≡ None = e in cc
+    follows None good fed e = record {
+      code = code;
+      fed = (said (w ++ piece) o.code fed).0;
+      written = text_is;
+      count = omega (arith, o.count, length-append w piece);
+      good = subst (λ z. Viable z (w ++ piece)) (sym m2) good;
+    }
 
-    pub code_feeds : (bad : Option ℕ) (stop : Option Stop) → StopsAt bad read front (length piece) stop → GoesOn p.machine (bytes_fed h) taken bad → IsFed f1 (given_of (bytes_fed h) taken bad) o.code
-        → Feeds (λ w e a. CodeAnswers p.machine p.limit w e a) (λ k. StandsAs (λ w e a. CodeAnswers p.machine p.limit w e a) (λ w t. CodeOpen p f2 (read + front) w t) stop false k × IsTrue true) h (bytes_fed h ++ piece) false old new (fate_of stop)
-    code_feeds bad stop is goes fed =
-        feeds p.machine (SaysCode p.machine) (MeansCode p.machine) (orderly p.machine) p.limit (bytes_fed h) piece text read front o.count o.within is_front
-        h refl (λ w t. CodeOpen p f2 (read + front) w t) (code_text f1.untaken) old new refl appended bad stop is goes (says bad goes fed) (opens bad stop is goes fed)
+    pub code_reads : (bad at : Option ℕ) → at ≡ place_of bad read → GoesOn g w piece bad → IsFed f1 (given_of w piece bad) o.code
+        → ReadMore (λ u a t. SaysIts g u a t) (λ u t. CodeFollows f2 (read + length piece) u t) w begun piece at old new
+    code_reads bad at e goes fed =
+        subst (λ (z : Option ℕ). ReadMore (λ u a t. SaysIts g u a t) (λ u t. CodeFollows f2 (read + length piece) u t) w begun piece z old new) (sym e) (record {
+          more = code_text f1.untaken;
+          written = appended;
+          says = says bad goes fed;
+          follows = follows bad goes fed;
+        })
 
-  pub code_ends : (answer : Ended) → IsOver answer f1 (bytes_fed h) o.code
-      → Feeds (λ w e a. CodeAnswers p.machine p.limit w e a) (λ k. StandsAs (λ w e a. CodeAnswers p.machine p.limit w e a) (λ w t. CodeOpen p f2 read w t) (end_stop (is_parsed answer) read) true k × IsTrue true) h (bytes_fed h) true old new (fate_of (end_stop (is_parsed answer) read))
-  code_ends Parsed over =
-      ends_parsed p.machine (SaysCode p.machine) (MeansCode p.machine) (orderly p.machine) p.limit h read text (code_text f1.untaken) old new (λ w t. CodeOpen p f2 read w t) o.count o.within refl appended
-      (code, subst (λ z. IsGreedy z (bytes_fed h) code) m over, text_is)
-  code_ends Cut over =
-      let s = subst (λ z. IsSaid z (bytes_fed h) code) m over.1 in
-      ends_cut p.machine (SaysCode p.machine) (MeansCode p.machine) (orderly p.machine) p.limit h read text (code_text f1.untaken) old new (λ w t. CodeOpen p f2 read w t) o.count o.within refl appended
-      o.good (subst (λ z. HasParse z (bytes_fed h) → ⊥) m over.0) (code, subst (λ z. Agreed (node_moves p.machine.nodes) p.machine.start z code) (whole_front p.machine (bytes_fed h) s.of s.longest o.good) s.agreed, text_is)
+  pub code_ends : (answer : Ended) (parsed : Bool) → parsed ≡ is_parsed answer → f.machine ≡ g → IsOver answer f1 w o.code → CameToEnd (λ u b t. ClosesIts g u b t) w begun parsed old new
+  code_ends Parsed parsed e m over =
+      subst (λ (z : Bool). CameToEnd (λ u b t. ClosesIts g u b t) w begun z old new) (sym e) (record {
+        more = code_text f1.untaken;
+        written = appended;
+        closes = (code, subst (λ z. IsGreedy z w code) m1 over, text_is);
+      })
+  code_ends Cut parsed e m over =
+      let s = subst (λ z. IsSaid z w code) m1 over.1 in
+      let good : Viable g w = subst (λ z. Viable z w) m o.good in
+      subst (λ (z : Bool). CameToEnd (λ u b t. ClosesIts g u b t) w begun z old new) (sym e) (record {
+        more = code_text f1.untaken;
+        written = appended;
+        closes = (good, subst (λ z. HasParse z w → ⊥) m1 over.0, (code, subst (λ z. Agreed (node_moves g.nodes) g.start z code) (whole_front g w s.of s.longest good) s.agreed, text_is));
+      })

@@ -1,4 +1,3 @@
-pub mod PieceAnswers
 pub mod Coders
 pub mod Testers
 pub mod Players

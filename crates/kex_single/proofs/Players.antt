@@ -1,6 +1,6 @@
--- A player that takes a piece, or the end.
+-- A worker that writes what a code means, by a piece, or the end.
 use Rattle.std.proofs.Common.{◌≡◌, ℕ, zero, suc, ◌<◌, ◌≤◌, ◌+◌, ◌-◌, ◌^◌, Bool, true, false, List, [], ◌∷◌, ◌++◌, Option, Some, None, length, min, take, drop, refl, sym, ap, subst, ◌∙◌, append_assoc, append-nil, arith, inl, inr, get_or, length-append, length-take, take-append-drop, take-suc}
-use Rattle.std.specs.Prelude.{IfSome, IsSome, IsTrue, ◌↔◌}
+use Rattle.std.specs.Prelude.{IfSome, IsTrue, ◌↔◌}
 use Rattle.std.proofs.lemmas.List.{take_all}
 use Rattle.kex_code.specs.declared.symbol.Symbol.{Symbol}
 use Rattle.kex_code.specs.declared.symbol.Symbol.TheVariants.{L, R, Byte}
@@ -8,21 +8,15 @@ use Rattle.kex_code.specs.Codes.{Begins}
 use Rattle.kex_code.specs.Readers.{HasRead, ReadOn, Reading}
 use Rattle.kex_code.specs.Texts.{BeginsText, IsBegun, IsCode, text_of}
 use Rattle.kex_code.proofs.Texts.{spells_begins, text_of-append}
-use Rattle.kex_model.specs.Answers.{Answer, stopped_answer, at_end, at_limit}
 use Rattle.kex_model.proofs.OpenAnswers.{shorter_front}
 use Rattle.kex_machine.specs.Nodes.{Graph}
 use Rattle.kex_machine.specs.Answers.{IsRun, left_by}
 use Rattle.kex_action.specs.Actors.{BeginsRun, HasPerformed, IsSettled, IsWhole, Position, TookAll}
-use Rattle.kex_pipe.specs.Histories.{Fed, Feeds, IsFateOf, bytes_fed, ended_of, text_of as said_of, stop_as}
-use Rattle.kex_pipe.specs.declared.turn.Stop.{Stop}
-use Rattle.kex_pipe.specs.declared.turn.Why.TheVariants.{Byte as AtByte}
-use Rattle.kex_single.specs.Plays.{ActAnswers, HasNext, IsBadByte, LongestCode, PlaysOn, StopsIn, WritesRun, bad_byte, too_long, cut_off, whole, still_open}
-use Rattle.kex_single.specs.PlayLaws.{code_behind, further, longer_code, stopped_more}
-use Rattle.kex_single.specs.PlayedLaws.{front, more}
-use Rattle.kex_single.specs.Playing.{BadAt, IsWholeOf, PlayOpen, Refuses, TakesText}
-use Rattle.kex_single.specs.Singles.{Single}
-use Rattle.kex_single.specs.Standing.{StandsAs, StopsAtByte, end_stop, fate_of}
-use Rattle.kex_single.proofs.Testers.{taken_within}
+use Rattle.kex_pipe.specs.Working.{CameToEnd, ReadMore}
+use Rattle.kex_single.specs.Plays.{ClosesPlayed, HasNext, IsBadByte, LongestCode, PlaysOn, SaysPlayed, StopsIn, WritesRun}
+use Rattle.kex_single.specs.PlayLaws.{code_behind, further, longer_code}
+use Rattle.kex_single.specs.PlayedLaws.{front}
+use Rattle.kex_single.specs.Playing.{BadAt, IsWholeOf, PlayFollows, Refuses, TakesText}
 
 code_front : (c d : List Symbol) → IsCode (c ++ d) → IsCode c
 code_front [] d h = tt
@@ -78,27 +72,24 @@ longest_by g u c code p begins none = record {
             let split : d ≡ (c ++ x ∷ []) ++ m = e ∙ sym (append_assoc c (x ∷ []) m) in
             none (x, code_front (c ++ x ∷ []) m (subst (λ z. IsCode z) split k), further (text_of d) u (text_of (c ++ x ∷ [])) q (text_of m, ap (λ z. text_of z) split ∙ text_of-append (c ++ x ∷ []) m))
 
-module _ (p : Single) (r r1 : Reading) (a a1 : Position) (size read : ℕ) (h : Option Fed) (o : PlayOpen p r a size read (bytes_fed h) (said_of h)) (m1 : a1.machine ≡ p.machine) (m : a.machine ≡ p.machine) (old new : List ℕ) where
+module _ (g : Graph) (r r1 : Reading) (a a1 : Position) (size : ℕ) (w said : List ℕ) (o : PlayFollows g r a size w said) (m1 : a1.machine ≡ g) (m : a.machine ≡ g) (old new : List ℕ) where
   abbrev B : List Symbol → Type 0
-  B = BeginsRun p.machine
+  B = BeginsRun g
 
   abbrev W : List Symbol → Type 0
-  W = IsWhole p.machine
+  W = IsWhole g
 
   abbrev Writes : List Symbol → List ℕ → Type 0
-  Writes = WritesRun p.machine
-
-  abbrev Gives : List ℕ → Bool → Answer → Type 0
-  Gives w e x = ActAnswers p.machine p.limit w e x
+  Writes = WritesRun g
 
   writes_as : (given c : List Symbol) (text : List ℕ) → IsSettled a1 → HasPerformed a1 given c text → B c → Writes c text
   writes_as given c text settled done (ks, run, b) =
       let left = done.left settled ks (subst (λ g. IsRun g ks) (sym m1) run) b in
       (ks, run, b, subst (λ g. text ≡ (left_by g ks c).out) m1 (sym (ap (λ z. z.out) left)))
 
-  module _ (piece : List ℕ) (taken_front : ℕ) (is_front : taken_front ≡ min (p.limit - read) (length piece)) (symbols : List Symbol) (spelt : HasRead r1 (bytes_fed h ++ take taken_front piece) (o.code ++ symbols)) where
+  module _ (piece : List ℕ) (symbols : List Symbol) (spelt : HasRead r1 (w ++ piece) (o.code ++ symbols)) where
     abbrev u : List ℕ
-    u = bytes_fed h ++ take taken_front piece
+    u = w ++ piece
 
     all_code : IsCode (o.code ++ symbols)
     all_code = spelt.spells.code
@@ -123,12 +114,12 @@ module _ (p : Single) (r r1 : Reading) (a a1 : Position) (size read : ℕ) (h : 
         within : (e : List ℕ) (x : Symbol) → IsCode ((o.code ++ symbols) ++ x ∷ []) → (next : Begins u e) → e ≡ text_of ((o.code ++ symbols) ++ x ∷ []) → length e < length (take (suc r1.good) u) → ⊥
         within e x code next is lt =
             let good_front : Begins (take r1.good u) e = shorter_front u e (take r1.good u) next (drop r1.good u, sym (take-append-drop r1.good u)) (omega (arith, lt, length-take r1.good u, length-take (suc r1.good) u)) in
-            no_next p.machine (take r1.good u) (o.code ++ symbols) r1.begun spelt.spells.text spelt.spells.front (x, code, subst (λ z. Begins (take r1.good u) z) is good_front)
+            no_next g (take r1.good u) (o.code ++ symbols) r1.begun spelt.spells.text spelt.spells.front (x, code, subst (λ z. Begins (take r1.good u) z) is good_front)
 
         by : (b : Bool) → r1.bad ≡ b → HasNext u (o.code ++ symbols) → ⊥
         by false ok next =
             let all : take r1.good u ≡ u = take_all r1.good u (omega (arith, spelt.all ok)) in
-            no_next p.machine u (o.code ++ symbols) r1.begun (sym all ∙ spelt.spells.text) spelt.spells.front next
+            no_next g u (o.code ++ symbols) r1.begun (sym all ∙ spelt.spells.text) spelt.spells.front next
         by true bad (x, code, next) =
             let e : List ℕ = text_of ((o.code ++ symbols) ++ x ∷ []) in
             spelt.none bad (
@@ -146,7 +137,7 @@ module _ (p : Single) (r r1 : Reading) (a a1 : Position) (size read : ℕ) (h : 
         by [] e = subst (λ z. B (o.code ++ z)) (sym e) (subst (λ z. B z) (sym (append-nil o.code)) o.begins)
         by (x ∷ s) e =
             let lt : length s < length symbols = omega (arith, ap (λ (z : List Symbol). length z) e) in
-            let some = took.good o.code o.code (said_of h) o.performed (length s) lt in
+            let some = took.good o.code o.code (said) o.performed (length s) lt in
             let all : take (suc (length s)) symbols ≡ symbols = take_all (suc (length s)) symbols (omega (arith, ap (λ (z : List Symbol). length z) e)) in
             subst (λ g. BeginsRun g (o.code ++ symbols)) m (subst (λ z. BeginsRun a.machine (o.code ++ z)) all some)
 
@@ -155,7 +146,7 @@ module _ (p : Single) (r r1 : Reading) (a a1 : Position) (size read : ℕ) (h : 
       pub code : List Symbol
       pub text : List ℕ
       pub added : List ℕ
-      pub whole_text : text ≡ said_of h ++ added
+      pub whole_text : text ≡ said ++ added
       pub appended : new ≡ old ++ added
       pub writes : Writes code text
       pub on : PlaysOn B W Writes u code at
@@ -167,12 +158,12 @@ module _ (p : Single) (r r1 : Reading) (a a1 : Position) (size read : ℕ) (h : 
     took : (refused bad at : Option ℕ) → size + length (text_of symbols) ≤ 2 ^ 64 - 1 → Refuses refused a a1 symbols old new → ((i : ℕ) → bad ≡ Some i → (r1.bad ≡ true) × (r1.good ≡ i)) → (bad ≡ None → r1.bad ≡ false) → BadAt refused bad size symbols at → Took refused bad at
     took (Some i) bad at fits s is_bad is_good place =
         let c = o.code ++ take i symbols in
-        let text = said_of h ++ s.went.more in
+        let text = said ++ s.went.more in
         let begins : B c = subst (λ g. BeginsRun g c) m (first i s.least) in
         let next_front = some_front (suc i) in
         let next_code = some_code (suc i) in
-        let refused : BeginsRun p.machine (o.code ++ take (suc i) symbols) → ⊥ =
-        λ b. s.bad o.code o.code (said_of h) o.performed (subst (λ g. BeginsRun g (o.code ++ take (suc i) symbols)) (sym m) b) in
+        let refused : BeginsRun g (o.code ++ take (suc i) symbols) → ⊥ =
+        λ b. s.bad o.code o.code (said) o.performed (subst (λ g. BeginsRun g (o.code ++ take (suc i) symbols)) (sym m) b) in
         let one_more : length (o.code ++ take (suc i) symbols) ≡ length c + 1 =
         omega (arith, s.within, length-append o.code (take i symbols), length-append o.code (take (suc i) symbols), length-take i symbols, length-take (suc i) symbols) in
         let longest : LongestCode B W Writes u c = record {
@@ -180,7 +171,7 @@ module _ (p : Single) (r r1 : Reading) (a a1 : Position) (size read : ℕ) (h : 
           front = some_front i;
           begins = begins;
           longest = λ d k q b. less (length d) (length c)
-              (λ lt. refused (front p.machine (o.code ++ take (suc i) symbols) d (longer_code u (o.code ++ take (suc i) symbols) d next_code k next_front q (omega (arith, lt, one_more))) b));
+              (λ lt. refused (front g (o.code ++ take (suc i) symbols) d (longer_code u (o.code ++ take (suc i) symbols) d next_code k next_front q (omega (arith, lt, one_more))) b));
         } in
         let next : HasNext u c = by_next i s.within next_front next_code in
         let at_is : at ≡ Some (length (text_of c)) = place ∙ ap (λ n. Some n) (placed i) in
@@ -190,7 +181,7 @@ module _ (p : Single) (r r1 : Reading) (a a1 : Position) (size read : ℕ) (h : 
           added = s.went.more;
           whole_text = refl;
           appended = s.went.written;
-          writes = writes_as (o.code ++ symbols) c text s.settled (s.went.performed o.code o.code (said_of h) o.performed) begins;
+          writes = writes_as (o.code ++ symbols) c text s.settled (s.went.performed o.code o.code (said) o.performed) begins;
           on = subst (λ z. PlaysOn B W Writes u c z) (sym at_is) (record { longest = longest; stops = inl (next, refl) });
           opens = λ none. absurd (some_none (length (text_of c)) (sym at_is ∙ none));
         }
@@ -200,7 +191,7 @@ module _ (p : Single) (r r1 : Reading) (a a1 : Position) (size read : ℕ) (h : 
 
         first : (i : ℕ) → ((g c : List Symbol) (out : List ℕ) → HasPerformed a g c out → (j : ℕ) → j < i → BeginsRun a.machine (g ++ take (suc j) symbols)) → BeginsRun a.machine (o.code ++ take i symbols)
         first zero least = subst (λ z. BeginsRun a.machine z) (sym (append-nil o.code)) (subst (λ g. BeginsRun g o.code) (sym m) o.begins)
-        first (suc j) least = least o.code o.code (said_of h) o.performed j (omega arith)
+        first (suc j) least = least o.code o.code (said) o.performed j (omega arith)
 
         by_next : (i : ℕ) → i < length symbols → Begins u (text_of (o.code ++ take (suc i) symbols)) → IsCode (o.code ++ take (suc i) symbols) → HasNext u (o.code ++ take i symbols)
         by_next i lt q k =
@@ -217,10 +208,10 @@ module _ (p : Single) (r r1 : Reading) (a a1 : Position) (size read : ℕ) (h : 
             omega (arith, fits, whole, all, o.long)
     took None bad at fits s is_bad is_good place =
         let c = o.code ++ symbols in
-        let text = said_of h ++ s.went.more in
+        let text = said ++ s.went.more in
         let begins : B c = all_begins new s in
-        let done = s.went.performed o.code o.code (said_of h) o.performed in
-        let longest = longest_by p.machine u c all_code all_front begins none_next in
+        let done = s.went.performed o.code o.code (said) o.performed in
+        let longest = longest_by g u c all_code all_front begins none_next in
         record {
           code = c;
           text = text;
@@ -257,64 +248,34 @@ module _ (p : Single) (r r1 : Reading) (a a1 : Position) (size read : ℕ) (h : 
                 subst (λ z. BeginsText z) (all ∙ sym all') (spells_begins (take r1.good u) (o.code ++ symbols) r1.begun spelt.spells)
 
     -- the text of the symbols is short
-    fits_of : p.limit ≤ 2 ^ 48 → size + length (text_of symbols) ≤ 2 ^ 64 - 1
-    fits_of most =
+    fits_of : r.good + length piece < 2 ^ 64 → size + length (text_of symbols) ≤ 2 ^ 64 - 1
+    fits_of room =
         let short : length (text_of (o.code ++ symbols)) ≤ length u = omega (arith, ap (λ (z : List ℕ). length z) all_front.1, length-append (text_of (o.code ++ symbols)) all_front.0) in
         let long : length (text_of (o.code ++ symbols)) ≡ length (text_of o.code) + length (text_of symbols) = ap (λ (z : List ℕ). length z) (text_of-append o.code symbols) ∙ length-append (text_of o.code) (text_of symbols) in
-        omega (arith, most, short, long, o.long, o.count, o.within, is_front, length-append (bytes_fed h) (take taken_front piece), length-take taken_front piece)
+        omega (arith, room, short, long, o.long, o.spelt.all o.good, length-append w piece)
 
-    within_limit : take p.limit (bytes_fed h ++ piece) ≡ u
-    within_limit = taken_within p.limit read taken_front (bytes_fed h) piece o.count o.within is_front
-
-    fated : (stop : Option Stop) → IsFateOf (stop_as stop) (fate_of stop)
-    fated None = refl
-    fated (Some s) = refl
-
-    answers : (text : List ℕ) (c : List Symbol) (at : Option ℕ) (stop : Option Stop) → Writes c text → PlaysOn B W Writes u c at → StopsAtByte at read taken_front (length piece) stop → Gives (bytes_fed h ++ piece) false (record { text = text; ended = false; stop = stop_as stop })
-    answers text c (Some k) stop writes on is =
-        subst (λ z. Gives (bytes_fed h ++ piece) false (record { text = text; ended = false; stop = stop_as z })) (sym is)
-        (bad_byte c k (subst (λ z. PlaysOn B W Writes z c (Some k)) (sym within_limit) on) writes)
-    answers text c None None writes on is =
-        let all : u ≡ bytes_fed h ++ piece = ap (λ z. bytes_fed h ++ z) (take_all taken_front piece (omega (arith, is))) in
-        still_open c (omega (arith, o.count, o.within, is, is_front, length-append (bytes_fed h) piece)) (subst (λ z. PlaysOn B W Writes z c None) all on) writes
-    answers text c None (Some s) writes on (lt, is) =
-        let at : read + taken_front ≡ p.limit = omega (arith, lt, o.within, is_front) in
-        let past : p.limit < length (bytes_fed h ++ piece) = omega (arith, o.count, lt, at, length-append (bytes_fed h) piece) in
-        let there : Gives (bytes_fed h ++ piece) false (stopped_answer text (read + taken_front) at_limit) =
-        subst (λ n. Gives (bytes_fed h ++ piece) false (stopped_answer text n at_limit)) (sym at) (too_long c past (subst (λ z. PlaysOn B W Writes z c None) (sym within_limit) on) writes) in
-        subst (λ z. Gives (bytes_fed h ++ piece) false (record { text = text; ended = false; stop = stop_as (Some z) })) (sym is) there
-
-    opened : (size1 : ℕ) (refused bad at : Option ℕ) (stop : Option Stop) (t : Took refused bad at) → p.limit ≤ 2 ^ 48 → size1 ≡ min (size + length (text_of symbols)) (2 ^ 64 - 1) → StopsAtByte at read taken_front (length piece) stop → stop ≡ None → PlayOpen p r1 a1 size1 (read + taken_front) (bytes_fed h ++ piece) t.text
-    opened size1 refused bad (Some k) stop t most size_is is none = let no : Some (record { at = k; why = AtByte }) ≡ None = sym is ∙ none in cc
-    opened size1 refused bad None (Some s) t most size_is is none = let no : Some s ≡ None = none in cc
-    opened size1 refused bad None None t most size_is is none =
-        let x = t.opens refl in
-        let all : u ≡ bytes_fed h ++ piece = ap (λ z. bytes_fed h ++ z) (take_all taken_front piece (omega (arith, is))) in
+    follows : (size1 : ℕ) (refused bad at : Option ℕ) (t : Took refused bad at) → r.good + length piece < 2 ^ 64 → size1 ≡ min (size + length (text_of symbols)) (2 ^ 64 - 1) → at ≡ None → PlayFollows g r1 a1 size1 (w ++ piece) t.text
+    follows size1 refused bad at t room size_is none =
+        let x = t.opens none in
         let long : length (text_of (o.code ++ symbols)) ≡ length (text_of o.code) + length (text_of symbols) = ap (λ (z : List ℕ). length z) (text_of-append o.code symbols) ∙ length-append (text_of o.code) (text_of symbols) in
         record {
           code = o.code ++ symbols;
-          spelt = subst (λ z. HasRead r1 z (o.code ++ symbols)) all spelt;
+          spelt = spelt;
           good = x.1;
           performed = x.2;
           begins = x.3;
-          long = omega (arith, size_is, long, o.long, fits_of most);
-          count = omega (arith, o.count, is, length-append (bytes_fed h) piece);
-          within = omega (arith, o.within, is_front);
+          long = omega (arith, size_is, long, o.long, fits_of room);
         }
 
-    pub act_feeds : (size1 : ℕ) (refused bad at : Option ℕ) (stop : Option Stop) → p.limit ≤ 2 ^ 48 → size1 ≡ min (size + length (text_of symbols)) (2 ^ 64 - 1) → Refuses refused a a1 symbols old new → ((i : ℕ) → bad ≡ Some i → (r1.bad ≡ true) × (r1.good ≡ i)) → (bad ≡ None → r1.bad ≡ false) → BadAt refused bad size symbols at → StopsAtByte at read taken_front (length piece) stop
-        → Feeds Gives (λ k. StandsAs Gives (λ w t. PlayOpen p r1 a1 size1 (read + taken_front) w t) stop false k × IsTrue true) h (bytes_fed h ++ piece) false old new (fate_of stop)
-    act_feeds size1 refused bad at stop most size_is refuses is_bad is_good place is =
-        let t = took refused bad at (fits_of most) refuses is_bad is_good place in
-        let gives = answers t.text t.code at stop t.writes t.on is in
+    pub play_reads : (size1 : ℕ) (refused bad at : Option ℕ) → r.good + length piece < 2 ^ 64 → size1 ≡ min (size + length (text_of symbols)) (2 ^ 64 - 1) → Refuses refused a a1 symbols old new → ((i : ℕ) → bad ≡ Some i → (r1.bad ≡ true) × (r1.good ≡ i)) → (bad ≡ None → r1.bad ≡ false) → BadAt refused bad size symbols at
+        → ReadMore (λ u b t. SaysPlayed (BeginsRun g) (IsWhole g) (WritesRun g) u b t) (λ u t. PlayFollows g r1 a1 size1 u t) w said piece at old new
+    play_reads size1 refused bad at room size_is refuses is_bad is_good place =
+        let t = took refused bad at (fits_of room) refuses is_bad is_good place in
         record {
-          answer = record { text = t.text; ended = false; stop = stop_as stop };
-          gives = gives;
-          stands = ((gives, refl, refl, λ e n. opened size1 refused bad at stop t most size_is is n), refl);
-          added = t.added;
-          whole = t.whole_text;
-          appended = t.appended;
-          is_fate = fated stop;
+          more = t.added;
+          written = t.appended;
+          says = subst (λ z. SaysPlayed B W Writes u at z) t.whole_text (t.code, t.on, t.writes);
+          follows = λ none. subst (λ z. PlayFollows g r1 a1 size1 u z) t.whole_text (follows size1 refused bad at t room size_is none);
         }
 
 pub text_read : (bad : Option ℕ) (r r1 : Reading) (piece : List ℕ) (before after : List Symbol) → TakesText bad r r1 piece before after → ReadOn r r1 piece before after
@@ -339,81 +300,44 @@ pub took_nothing : (refused : Option ℕ) (a a1 : Position) (old new : List ℕ)
 took_nothing None a a1 old new t within = t
 took_nothing (Some i) a a1 old new t within = absurd (omega arith)
 
--- a player that has stopped drops what comes
-module _ (g : Graph) (limit : ℕ) where
-  pub act_stopped : (Open : List ℕ → List ℕ → Type 0) (s : Stop) (over : Bool) (h : Option Fed) (w : List ℕ) (e : Bool) (out : List ℕ) → StandsAs (λ w e x. ActAnswers g limit w e x) Open (Some s) over h → ended_of h ≡ false → Begins w (bytes_fed h) → Feeds (λ w e x. ActAnswers g limit w e x) (λ k. StandsAs (λ w e x. ActAnswers g limit w e x) Open (Some s) e k × IsTrue true) h w e out out (fate_of (Some s))
-  act_stopped Open s over None w e out h n b = let bad : Some s ≡ None = h.1 in cc
-  act_stopped Open s over (Some k) w e out h n b =
-      let open_ = subst (λ z. ActAnswers g limit k.bytes z k.answer) n h.0 in
-      let some : k.answer.stop ≡ None → ⊥ = λ none. let bad : stop_as (Some s) ≡ None = h.1 ∙ none in cc in
-      let gives : ActAnswers g limit w e k.answer = subst (λ z. ActAnswers g limit z e k.answer) (sym b.1) (stopped_more (BeginsRun g) (IsWhole g) (WritesRun g) (front g) (more g) limit k.bytes b.0 e open_ some) in
-      record {
-        answer = k.answer;
-        gives = gives;
-        stands = ((gives, h.1, refl, λ x m. let bad : Some s ≡ None = m in cc), refl);
-        added = [];
-        whole = sym (append-nil k.answer.text);
-        appended = sym (append-nil out);
-        is_fate = subst (λ z. IsSome z) h.1 refl;
-      }
-
 -- the end
-module _ (p : Single) (r : Reading) (a a1 : Position) (size read : ℕ) (h : Option Fed) (o : PlayOpen p r a size read (bytes_fed h) (said_of h)) (m1 : a1.machine ≡ p.machine) (m : a.machine ≡ p.machine) (old new : List ℕ) (took : TookAll a a1 [] old new) (is_whole : Bool) (tells : IsWholeOf r a1 is_whole) where
+module _ (g : Graph) (r : Reading) (a a1 : Position) (size : ℕ) (w begun : List ℕ) (o : PlayFollows g r a size w begun) (m1 : a1.machine ≡ g) (old new : List ℕ) (took : TookAll a a1 [] old new) (is_whole : Bool) (tells : IsWholeOf r a1 is_whole) where
   abbrev said : List ℕ
-  said = said_of h ++ took.went.more
+  said = begun ++ took.went.more
 
   done : HasPerformed a1 o.code o.code said
   done =
-      let d = took.went.performed o.code o.code (said_of h) o.performed in
+      let d = took.went.performed o.code o.code begun o.performed in
       subst (λ z. HasPerformed a1 z z said) (append-nil o.code) d
 
-  writes : WritesRun p.machine o.code said
+  writes : WritesRun g o.code said
   writes =
       let (ks, run, b) = o.begins in
       let left = done.left took.settled ks (subst (λ g. IsRun g ks) (sym m1) run) b in
       (ks, run, b, subst (λ g. said ≡ (left_by g ks o.code).out) m1 (sym (ap (λ z. z.out) left)))
 
-  spelt : bytes_fed h ≡ text_of o.code ++ r.begun
-  spelt = sym (take_all r.good (bytes_fed h) (omega (arith, o.spelt.all o.good))) ∙ o.spelt.spells.text
+  spelt : w ≡ text_of o.code ++ r.begun
+  spelt = sym (take_all r.good w (omega (arith, o.spelt.all o.good))) ∙ o.spelt.spells.text
 
-  on : PlaysOn (BeginsRun p.machine) (IsWhole p.machine) (WritesRun p.machine) (bytes_fed h) o.code None
+  on : PlaysOn (BeginsRun g) (IsWhole g) (WritesRun g) w o.code None
   on =
-      let none = no_next p.machine (bytes_fed h) o.code r.begun spelt o.spelt.spells.front in
+      let none = no_next g w o.code r.begun spelt o.spelt.spells.front in
       record {
-        longest = longest_by p.machine (bytes_fed h) o.code o.spelt.spells.code (r.begun, spelt) o.begins none;
-        stops = (none, subst (λ z. BeginsText z) (take_all r.good (bytes_fed h) (omega (arith, o.spelt.all o.good))) (spells_begins (take r.good (bytes_fed h)) o.code r.begun o.spelt.spells));
+        longest = longest_by g w o.code o.spelt.spells.code (r.begun, spelt) o.begins none;
+        stops = (none, subst (λ z. BeginsText z) (take_all r.good w (omega (arith, o.spelt.all o.good))) (spells_begins (take r.good w) o.code r.begun o.spelt.spells));
       }
 
-  pub act_ends : Feeds (λ w e x. ActAnswers p.machine p.limit w e x) (λ k. StandsAs (λ w e x. ActAnswers p.machine p.limit w e x) (λ w t. PlayOpen p r a1 size read w t) (end_stop is_whole read) true k × IsTrue true) h (bytes_fed h) true old new (fate_of (end_stop is_whole read))
-  act_ends = by is_whole (tells o.code said done)
+  pub play_ends : CameToEnd (λ u b t. ClosesPlayed (BeginsRun g) (IsWhole g) (WritesRun g) u b t) w begun is_whole old new
+  play_ends = record { more = took.went.more; written = took.went.written; closes = by is_whole (tells o.code said done) }
     where
-      by : (b : Bool) → (IsTrue b ↔ ((r.bad ≡ false) × (r.begun ≡ []) × IsWhole a1.machine o.code))
-          → Feeds (λ w e x. ActAnswers p.machine p.limit w e x) (λ k. StandsAs (λ w e x. ActAnswers p.machine p.limit w e x) (λ w t. PlayOpen p r a1 size read w t) (end_stop b read) true k × IsTrue true) h (bytes_fed h) true old new (fate_of (end_stop b read))
+      by : (b : Bool) → (IsTrue b ↔ ((r.bad ≡ false) × (r.begun ≡ []) × IsWhole a1.machine o.code)) → ClosesPlayed (BeginsRun g) (IsWhole g) (WritesRun g) w b said
       by true t =
           let x = t.0 refl in
-          let answer : Answer = record { text = said; ended = true; stop = None } in
-          let gives : ActAnswers p.machine p.limit (bytes_fed h) true answer = whole o.code (omega (arith, o.count, o.within)) on (spelt ∙ ap (λ z. text_of o.code ++ z) x.1 ∙ append-nil (text_of o.code)) (subst (λ g. IsWhole g o.code) m1 x.2) writes in
-          record {
-            answer = answer;
-            gives = gives;
-            stands = ((gives, refl, refl, λ e n. let bad : true ≡ false = e in cc), refl);
-            added = took.went.more;
-            whole = refl;
-            appended = took.went.written;
-            is_fate = refl;
-          }
-      by false t =
-          let answer : Answer = stopped_answer said (length (bytes_fed h)) at_end in
-          let gives : ActAnswers p.machine p.limit (bytes_fed h) true answer =
-          cut_off o.code (omega (arith, o.count, o.within)) on
-          (λ is w. let bad : false ≡ true = t.1 (o.good, same_rest (text_of o.code) r.begun [] (sym spelt ∙ is ∙ sym (append-nil (text_of o.code))), subst (λ g. IsWhole g o.code) (sym m1) w) in cc)
-          writes in
-          record {
-            answer = answer;
-            gives = gives;
-            stands = ((gives, ap (λ i. Some (record { at = i; why = at_end })) o.count, refl, λ e n. let bad : true ≡ false = e in cc), refl);
-            added = took.went.more;
-            whole = refl;
-            appended = took.went.written;
-            is_fate = refl;
-          }
+          (o.code, on, spelt ∙ ap (λ z. text_of o.code ++ z) x.1 ∙ append-nil (text_of o.code), subst (λ g. IsWhole g o.code) m1 x.2, writes)
+      by false t = (
+        o.code,
+        on,
+        λ is whole.
+            let bad : false ≡ true = t.1 (o.good, same_rest (text_of o.code) r.begun [] (sym spelt ∙ is ∙ sym (append-nil (text_of o.code))), subst (λ g. IsWhole g o.code) (sym m1) whole) in cc,
+        writes,
+      )

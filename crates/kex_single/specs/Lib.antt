@@ -1,6 +1,5 @@
 pub mod Singles
 pub mod Standing
-pub mod Laws
 pub mod CodeLaws
 pub mod TestLaws
 pub mod Plays

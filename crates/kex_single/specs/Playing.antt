@@ -1,21 +1,19 @@
 -- What a player stands for, and what it takes of a text.
-use Rattle.std.specs.Prelude.{◌≡◌, ◌↔◌, ◌+◌, ◌-◌, ◌^◌, ◌≤◌, ℕ, Bool, true, false, IsTrue, List, [], Option, Some, None, length, min, take}
+use Rattle.std.specs.Prelude.{◌≡◌, ◌↔◌, ◌+◌, ◌-◌, ◌^◌, ℕ, Bool, true, false, IsTrue, List, [], Option, Some, None, length, min, take}
 use Rattle.kex_code.specs.declared.symbol.Symbol.{Symbol}
 use Rattle.kex_code.specs.Readers.{HasRead, ReadOn, Reading}
 use Rattle.kex_code.specs.Texts.{text_of}
 use Rattle.kex_action.specs.Actors.{BeginsRun, HasPerformed, IsWhole, Position, StoppedAt, TookAll}
-use Rattle.kex_single.specs.Singles.{Single}
+use Rattle.kex_machine.specs.Nodes.{Graph}
 
 -- the text was read, its whole symbols were performed, and this was written
-pub record PlayOpen (p : Single) (r : Reading) (a : Position) (size read : ℕ) (w text : List ℕ) : Type 0 where
+pub record PlayFollows (g : Graph) (r : Reading) (a : Position) (size : ℕ) (w text : List ℕ) : Type 0 where
   pub code : List Symbol
   pub spelt : HasRead r w code
   pub good : r.bad ≡ false
   pub performed : HasPerformed a code code text
-  pub begins : BeginsRun p.machine code
+  pub begins : BeginsRun g code
   pub long : size ≡ length (text_of code)
-  pub count : read ≡ length w
-  pub within : read ≤ p.limit
 
 -- a piece more of the text, up to the byte of this number where one is bad
 abbrev pub TakesText : Option ℕ → Reading → Reading → List ℕ → List Symbol → List Symbol → Type 0

@@ -38,6 +38,15 @@ module _ (BeginsParse : List Symbol → Type 0) (IsParse : List Symbol → Type 
     pub longest : LongestCode u c
     pub stops : StopsIn u c stop
 
+  -- on u this text is written, and u stops at this byte, or nowhere
+  abbrev pub SaysPlayed : List ℕ → Option ℕ → List ℕ → Type 0
+  SaysPlayed u at text = (c : List Symbol) × PlaysOn u c at × Writes c text
+
+  -- at the end of u this text is written, and u is the text of a parse's whole code (true), or none
+  abbrev pub ClosesPlayed : List ℕ → Bool → List ℕ → Type 0
+  ClosesPlayed u true text = (c : List Symbol) × PlaysOn u c None × (u ≡ text_of c) × IsParse c × Writes c text
+  ClosesPlayed u false text = (c : List Symbol) × PlaysOn u c None × (u ≡ text_of c → IsParse c → ⊥) × Writes c text
+
   -- the answer on a text that is ended (true) or open, within a limit
   pub data Plays (limit : ℕ) : List ℕ → Bool → Answer → Type 0 where
     bad_byte : {w : List ℕ} {e : Bool} {text : List ℕ} (c : List Symbol) (k : ℕ) → PlaysOn (take limit w) c (Some k) → Writes c text → Plays limit w e (stopped_answer text k at_byte)

@@ -6,11 +6,11 @@ use Rattle.kex_model.specs.Answers.{Answer, Answers}
 use Rattle.kex_model.specs.Survivors.{Agreed}
 use Rattle.kex_machine.specs.Nodes.{Graph, node_moves}
 use Rattle.kex_machine.specs.Answers.{Viable, HasParse, IsGreedy}
+use Rattle.kex_pipe.specs.Working.{BoundedPlan}
 
 -- a machine, and the most bytes that it takes
-pub record Single : Type 0 where
-  pub machine : Graph
-  pub limit : ℕ
+abbrev pub Single : Type 0
+Single = BoundedPlan Graph
 
 module _ (g : Graph) where
   -- the text of what the survivors of w agree on

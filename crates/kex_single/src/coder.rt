@@ -1,21 +1,23 @@
 // The code of a stage's input.
 
-ghost use Rattle.std.specs.Prelude.{◌≡◌, ◌≤◌, ◌<◌, ◌+◌, ◌^◌, ◌++◌, [], ℕ, List, true, false, IfOk, IfSome, OnOk, IsTrue, IsOk, ◌↔◌, Some, None, Option, length};
+ghost use Rattle.std.specs.Prelude.{◌≡◌, ◌≤◌, ◌<◌, ◌+◌, ◌^◌, ◌++◌, ◌&&◌, not, [], ℕ, List, true, false, IfOk, IfSome, OnOk, IsTrue, IsOk, ◌↔◌, Some, None, Option, length};
 ghost use Rattle.kex_code.specs.declared.symbol.Symbol.{Symbol};
 ghost use Rattle.kex_code.specs.Texts.{text_of};
-ghost use Rattle.kex_machine.specs.Answers.{Viable, IsSaid};
+ghost use Rattle.kex_machine.specs.Answers.{HasParse, IsSaid, Viable};
 ghost use Rattle.kex_frontier.specs.Frontiers.{IsFed, IsOver};
 ghost use Rattle.kex_frontier.specs.declared.frontier.Ended.{Ended};
-ghost use Rattle.kex_single.specs.Singles.{CodeAnswers};
-ghost use Rattle.kex_single.specs.Standing.{CodeOpen, GoesOn, StandsAs, given_of, is_parsed};
-ghost use Rattle.kex_single.specs.CodeLaws.{one, grows, stays, ends};
+ghost use Rattle.kex_pipe.specs.Working.{ClosesParsed, SaysViable};
+ghost use Rattle.kex_single.specs.Singles.{CodeAnswers, MeansCode, SaysCode};
+ghost use Rattle.kex_single.specs.Standing.{CodeFollows, GoesOn, given_of, is_parsed, place_of};
+ghost use Rattle.kex_single.specs.CodeLaws.{answering};
 
-use crate::stops::{end_stop, fate_of, stop_of};
 use kex_code::memory::Memory;
 use kex_code::text::write_text;
 use kex_frontier::frontier::{Ended, Fed, Frontier};
 use kex_machine::Trimmed;
+use kex_pipe::bounded::Bounded;
 use kex_pipe::turn::{Fate, Stop, Turn};
+use kex_pipe::worker::Worker;
 use std::alloc::Global;
 
 // Feeds the oracle, up to the number of the byte with which no parse begins.
@@ -63,38 +65,89 @@ fn is_parsed(ended: Ended) -> bool
     }
 }
 
+// The number of a byte in all bytes, of that in the piece behind so many.
+fn place_of(bad: Option<usize>, before: u64, length: usize) -> Option<u64>
+    requires fits { before + length < 2 ^ 64 }
+    requires within { IfSome bad (λ k. k < length) }
+    ensures { result ≡ place_of bad before }
+{
+    match bad {
+        Some(k) => Some(before + k as u64),
+        None => None,
+    }
+}
+
+/// Writes the text of the code: what the surviving paths agree on as soon as it is agreed, and at the end the rest of the
+/// greedy code.
+#[derive(Drop)]
+pub struct CodeWorker<'m> {
+    oracle: Frontier<'m>,
+    count: u64,
+}
+
+impl<'m> Worker for CodeWorker<'m> {
+    ghost use Rattle.kex_machine.specs.Nodes.{Graph};
+
+    type Basis = &'m Trimmed;
+
+    ghost Machine = { Graph };
+
+    ghost machine_in = { λ machine. machine.now };
+
+    ghost machine = { λ s. s.oracle.machine };
+
+    ghost says = { λ g w at text. SaysViable (Viable g) (SaysCode g) (HasParse g) (MeansCode g) w at text };
+
+    ghost closes = { λ g w parsed text. ClosesParsed (Viable g) (SaysCode g) (HasParse g) (MeansCode g) w parsed text };
+
+    ghost gives = { λ g n w e a. CodeAnswers g n w e a };
+
+    ghost follows = { λ s w text. CodeFollows s.oracle s.count w text };
+
+    ghost is_ready = { λ s. s.oracle.usable && not s.oracle.ended };
+
+    ghost counted = { λ s. s.count };
+
+    ghost may_want = { true };
+
+    ghost answers = { λ g. answering g };
+
+    fn start(alloc: Global, basis: &'m Trimmed) -> Result<CodeWorker<'m>, Memory> {
+        let oracle = Frontier::new(alloc, basis)?;
+        Ok(CodeWorker { oracle, count: 0 })
+    }
+
+    fn go_on(&mut self, piece: &[u8], out: &mut Vec<u8>) -> Result<Option<u64>, Memory> {
+        let bad = read(&mut self.oracle, piece)?;
+        write_agreed(&mut self.oracle, out)?;
+        let at = place_of(bad, self.count, piece.len());
+        self.count += piece.len() as u64;
+        Ok(at)
+    }
+
+    fn finish(&mut self, out: &mut Vec<u8>) -> Result<bool, Memory> {
+        let ended = self.oracle.end()?;
+        write_agreed(&mut self.oracle, out)?;
+        Ok(is_parsed(ended))
+    }
+}
+
 /// The code of one stage's input: what the surviving paths agree on goes out as soon as it is agreed, and at the end the rest of
 /// the greedy code.
 #[derive(Drop)]
 pub struct Coder<'m> {
-    oracle: Frontier<'m>,
-    limit: u64,
-    count: u64,
-    stop: Option<Stop>,
-    over: bool,
-    usable: bool,
-    ghost within: { count ≤ limit },
-    ghost most: { limit ≤ 2 ^ 48 },
-    ghost usable_parts: { usable ≡ true → stop ≡ None → over ≡ false → (IsTrue oracle.usable) × (oracle.ended ≡ false) },
+    within: Bounded<CodeWorker<'m>>,
 }
 
 impl<'m> Coder<'m> {
     /// A coder that has read nothing, and takes at most so many bytes.
     pub fn new(alloc: Global, machine: &'m Trimmed, max_input: u64) -> Result<Coder<'m>, Memory>
-        requires { max_input ≤ 2 ^ 48 }
         ensures plan { IfOk result (λ s. ⟦<Coder<'m> as Turn>⟧.plan s ≡ record { machine = machine.now; limit = max_input }) }
         ensures stands { IfOk result (λ s. ⟦<Coder<'m> as Turn>⟧.stands s None) }
         ensures usable { IfOk result (λ s. IsTrue (⟦<Coder<'m> as Turn>⟧.is_usable s)) }
     {
-        let oracle = Frontier::new(alloc, machine)?;
-        Ok(Coder {
-            oracle,
-            limit: max_input,
-            count: 0,
-            stop: None,
-            over: false,
-            usable: true,
-        })
+        let within = Bounded::new(alloc, machine, max_input)?;
+        Ok(Coder { within })
     }
 }
 
@@ -103,63 +156,37 @@ impl<'m> Turn for Coder<'m> {
 
     ghost Plan = { Single };
 
-    ghost plan = { λ s. record { machine = s.oracle.machine; limit = s.limit } };
+    ghost plan = { λ s. ⟦<Bounded<CodeWorker<'m>> as Turn>⟧.plan s.within };
 
     ghost gives = { λ p w e a. CodeAnswers p.machine p.limit w e a };
 
-    ghost stands = { λ s h. StandsAs (λ w e a. CodeAnswers s.oracle.machine s.limit w e a)
-        (λ w text. CodeOpen (record { machine = s.oracle.machine; limit = s.limit }) s.oracle s.count w text) s.stop s.over h × IsTrue s.usable };
+    ghost stands = { λ s h. ⟦<Bounded<CodeWorker<'m>> as Turn>⟧.stands s.within h };
 
-    ghost is_usable = { λ s. s.usable };
+    ghost is_usable = { λ s. ⟦<Bounded<CodeWorker<'m>> as Turn>⟧.is_usable s.within };
 
     ghost stands_usable = { λ s h x. x.1 };
 
-    ghost one = { λ p w e a b h k. one p.machine p.limit w e a b h k };
+    ghost one = { λ p w e a b h k. (answering p.machine).one p.limit w e a b h k };
 
-    ghost grows = { λ p w v e a b h k. grows p.machine p.limit w v e a b h k };
+    ghost grows = { λ p w v e a b h k. (answering p.machine).grows p.limit w v e a b h k };
 
-    ghost stays = { λ p w v e a b h k some. stays p.machine p.limit w v e a b h k some };
+    ghost stays = { λ p w v e a b h k some. (answering p.machine).stays p.limit w v e a b h k some };
 
-    ghost ends = { λ p w e a h. ends p.machine p.limit w e a h };
+    ghost ends = { λ p w e a h. (answering p.machine).ends p.limit w e a h };
 
     fn usable(&self) -> bool {
-        self.usable
+        self.within.usable()
     }
 
     fn feed(&mut self, piece: &[u8], out: &mut Vec<u8>) -> Result<Fate, Memory> {
-        if self.over {
-            return Ok(fate_of(self.stop));
-        }
-        if let Some(_) = self.stop {
-            return Ok(Fate::Stopped);
-        }
-        self.usable = false;
-        let front = (self.limit - self.count).min(piece.len() as u64) as usize;
-        let bad = read(&mut self.oracle, &piece[..front])?;
-        write_agreed(&mut self.oracle, out)?;
-        self.stop = stop_of(bad, self.count, front, piece.len());
-        self.count += front as u64;
-        self.usable = true;
-        Ok(fate_of(self.stop))
+        self.within.feed(piece, out)
     }
 
     fn end(&mut self, out: &mut Vec<u8>) -> Result<Fate, Memory> {
-        if self.over {
-            return Ok(fate_of(self.stop));
-        }
-        self.over = true;
-        if let Some(_) = self.stop {
-            return Ok(Fate::Stopped);
-        }
-        self.usable = false;
-        let ended = self.oracle.end()?;
-        write_agreed(&mut self.oracle, out)?;
-        self.stop = end_stop(is_parsed(ended), self.count);
-        self.usable = true;
-        Ok(fate_of(self.stop))
+        self.within.end(out)
     }
 
     fn stop(&self) -> Option<Stop> {
-        self.stop
+        self.within.stop()
     }
 }

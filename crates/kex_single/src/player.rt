@@ -1,14 +1,13 @@
 // What the text of a code means.
 
-ghost use Rattle.std.specs.Prelude.{◌≡◌, ◌≤◌, ◌<◌, ◌+◌, ◌-◌, ◌^◌, ◌++◌, ◌∷◌, [], ℕ, List, true, false, IfOk, IfSome, OnOk, IsTrue, IsOk, ◌↔◌, min, take, None, length};
+ghost use Rattle.std.specs.Prelude.{◌≡◌, ◌≤◌, ◌<◌, ◌+◌, ◌-◌, ◌^◌, ◌++◌, ◌∷◌, ◌&&◌, [], ℕ, List, true, IfOk, IfSome, OnOk, IsTrue, IsOk, ◌↔◌, min, take, None, length};
 ghost use Rattle.kex_code.specs.declared.symbol.Symbol.{Symbol};
 ghost use Rattle.kex_code.specs.Texts.{text_of};
-ghost use Rattle.kex_single.specs.Plays.{ActAnswers};
-ghost use Rattle.kex_single.specs.PlayedLaws.{one, grows, stays, ends};
-ghost use Rattle.kex_single.specs.Playing.{BadAt, IsWholeOf, PlayOpen, Refuses, TakesText};
-ghost use Rattle.kex_single.specs.Standing.{StandsAs};
+ghost use Rattle.kex_action.specs.Actors.{BeginsRun, IsWhole};
+ghost use Rattle.kex_single.specs.Plays.{ActAnswers, ClosesPlayed, SaysPlayed, WritesRun};
+ghost use Rattle.kex_single.specs.PlayedLaws.{answering};
+ghost use Rattle.kex_single.specs.Playing.{BadAt, IsWholeOf, PlayFollows, Refuses, TakesText};
 
-use crate::stops::{end_stop, fate_of, stop_at};
 use kex_action::actor::Actor;
 use kex_action::fault::ActFault;
 use kex_code::code::Code;
@@ -16,7 +15,9 @@ use kex_code::memory::Memory;
 use kex_code::reader::{CodeError, CodeReader};
 use kex_code::symbol::Symbol;
 use kex_machine::Trimmed;
+use kex_pipe::bounded::Bounded;
 use kex_pipe::turn::{Fate, Stop, Turn};
+use kex_pipe::worker::Worker;
 use std::alloc::Global;
 
 // How many bytes the text of a symbol has.
@@ -81,51 +82,19 @@ fn bad_at(refused: Option<u64>, bad: Option<u64>, size: u64, symbols: &[Symbol])
     }
 }
 
-/// What the text of a code means in one stage: what it says of the symbols that are whole goes out as soon as they are.
+/// Writes what the text of a code means: what it says of the symbols that are whole goes out as soon as they are.
 ///
-/// It stops at the first byte of the next whole symbol with which the code begins no parse's; or else at the byte with which the
-/// text begins no code's; or else past its limit; or else at the end, where the code isn't a parse's whole code.
+/// It is stopped at the first byte of the next whole symbol with which the code begins no parse's; or else at the byte with
+/// which the text begins no code's.
 #[derive(Drop)]
-pub struct Player<'m> {
+pub struct PlayWorker<'m> {
     alloc: Global,
     reader: CodeReader,
     actor: Actor<'m>,
     size: u64,
-    limit: u64,
-    count: u64,
-    stop: Option<Stop>,
-    over: bool,
-    usable: bool,
-    ghost few: { reader.good ≤ count },
-    ghost within: { count ≤ limit },
-    ghost most: { limit ≤ 2 ^ 48 },
-    ghost usable_parts: { usable ≡ true → (IsTrue reader.usable) × (IsTrue actor.usable) },
 }
 
-impl<'m> Player<'m> {
-    /// A player that has read nothing, and takes at most so many bytes of text.
-    pub fn new(alloc: Global, machine: &'m Trimmed, max_input: u64) -> Result<Player<'m>, Memory>
-        requires { max_input ≤ 2 ^ 48 }
-        ensures plan { IfOk result (λ s. ⟦<Player<'m> as Turn>⟧.plan s ≡ record { machine = machine.now; limit = max_input }) }
-        ensures stands { IfOk result (λ s. ⟦<Player<'m> as Turn>⟧.stands s None) }
-        ensures usable { IfOk result (λ s. IsTrue (⟦<Player<'m> as Turn>⟧.is_usable s)) }
-    {
-        let nodes = machine.nodes();
-        prove!((machine.start() as usize) < nodes.len());
-        let actor = Actor::new(alloc, machine)?;
-        Ok(Player {
-            alloc,
-            reader: CodeReader::new(),
-            actor,
-            size: 0,
-            limit: max_input,
-            count: 0,
-            stop: None,
-            over: false,
-            usable: true,
-        })
-    }
-
+impl<'m> PlayWorker<'m> {
     // Whether the text is that of a parse's whole code.
     fn is_whole(&self) -> bool
         requires reader { IsTrue self.now.reader.usable }
@@ -136,71 +105,114 @@ impl<'m> Player<'m> {
     }
 }
 
+impl<'m> Worker for PlayWorker<'m> {
+    ghost use Rattle.kex_machine.specs.Nodes.{Graph};
+
+    type Basis = &'m Trimmed;
+
+    ghost Machine = { Graph };
+
+    ghost machine_in = { λ machine. machine.now };
+
+    ghost machine = { λ s. s.actor.machine };
+
+    ghost says = { λ g u at text. SaysPlayed (BeginsRun g) (IsWhole g) (WritesRun g) u at text };
+
+    ghost closes = { λ g u parsed text. ClosesPlayed (BeginsRun g) (IsWhole g) (WritesRun g) u parsed text };
+
+    ghost gives = { λ g n w e a. ActAnswers g n w e a };
+
+    ghost follows = { λ s w text. PlayFollows s.actor.machine s.reader s.actor s.size w text };
+
+    ghost is_ready = { λ s. s.reader.usable && s.actor.usable };
+
+    ghost counted = { λ s. s.reader.good };
+
+    ghost may_want = { true };
+
+    ghost answers = { λ g. answering g };
+
+    fn start(alloc: Global, basis: &'m Trimmed) -> Result<PlayWorker<'m>, Memory> {
+        let nodes = basis.nodes();
+        prove!((basis.start() as usize) < nodes.len());
+        let actor = Actor::new(alloc, basis)?;
+        Ok(PlayWorker {
+            alloc,
+            reader: CodeReader::new(),
+            actor,
+            size: 0,
+        })
+    }
+
+    fn go_on(&mut self, piece: &[u8], out: &mut Vec<u8>) -> Result<Option<u64>, Memory> {
+        let mut code = Code::new(self.alloc);
+        let bad = read(&mut self.reader, piece, &mut code)?;
+        let refused = perform(&mut self.actor, code.as_slice(), out)?;
+        let at = bad_at(refused, bad, self.size, code.as_slice());
+        self.size = size_on(self.size, code.as_slice());
+        Ok(at)
+    }
+
+    fn finish(&mut self, out: &mut Vec<u8>) -> Result<bool, Memory> {
+        perform(&mut self.actor, &[], out)?;
+        Ok(self.is_whole())
+    }
+}
+
+/// What the text of a code means in one stage: what it says of the symbols that are whole goes out as soon as they are.
+#[derive(Drop)]
+pub struct Player<'m> {
+    within: Bounded<PlayWorker<'m>>,
+}
+
+impl<'m> Player<'m> {
+    /// A player that has read nothing, and takes at most so many bytes of text.
+    pub fn new(alloc: Global, machine: &'m Trimmed, max_input: u64) -> Result<Player<'m>, Memory>
+        ensures plan { IfOk result (λ s. ⟦<Player<'m> as Turn>⟧.plan s ≡ record { machine = machine.now; limit = max_input }) }
+        ensures stands { IfOk result (λ s. ⟦<Player<'m> as Turn>⟧.stands s None) }
+        ensures usable { IfOk result (λ s. IsTrue (⟦<Player<'m> as Turn>⟧.is_usable s)) }
+    {
+        let within = Bounded::new(alloc, machine, max_input)?;
+        Ok(Player { within })
+    }
+}
+
 impl<'m> Turn for Player<'m> {
     ghost use Rattle.kex_single.specs.Singles.{Single};
 
     ghost Plan = { Single };
 
-    ghost plan = { λ s. record { machine = s.actor.machine; limit = s.limit } };
+    ghost plan = { λ s. ⟦<Bounded<PlayWorker<'m>> as Turn>⟧.plan s.within };
 
     ghost gives = { λ p w e a. ActAnswers p.machine p.limit w e a };
 
-    ghost stands = { λ s h. StandsAs (λ w e a. ActAnswers s.actor.machine s.limit w e a)
-        (λ w text. PlayOpen (record { machine = s.actor.machine; limit = s.limit }) s.reader s.actor s.size s.count w text) s.stop s.over h × IsTrue s.usable };
+    ghost stands = { λ s h. ⟦<Bounded<PlayWorker<'m>> as Turn>⟧.stands s.within h };
 
-    ghost is_usable = { λ s. s.usable };
+    ghost is_usable = { λ s. ⟦<Bounded<PlayWorker<'m>> as Turn>⟧.is_usable s.within };
 
     ghost stands_usable = { λ s h x. x.1 };
 
-    ghost one = { λ p w e a b h k. one p.machine p.limit w e a b h k };
+    ghost one = { λ p w e a b h k. (answering p.machine).one p.limit w e a b h k };
 
-    ghost grows = { λ p w v e a b h k. grows p.machine p.limit w v e a b h k };
+    ghost grows = { λ p w v e a b h k. (answering p.machine).grows p.limit w v e a b h k };
 
-    ghost stays = { λ p w v e a b h k some. stays p.machine p.limit w v e a b h k some };
+    ghost stays = { λ p w v e a b h k some. (answering p.machine).stays p.limit w v e a b h k some };
 
-    ghost ends = { λ p w e a h. ends p.machine p.limit w e a h };
+    ghost ends = { λ p w e a h. (answering p.machine).ends p.limit w e a h };
 
     fn usable(&self) -> bool {
-        self.usable
+        self.within.usable()
     }
 
     fn feed(&mut self, piece: &[u8], out: &mut Vec<u8>) -> Result<Fate, Memory> {
-        if self.over {
-            return Ok(fate_of(self.stop));
-        }
-        if let Some(_) = self.stop {
-            return Ok(Fate::Stopped);
-        }
-        self.usable = false;
-        let front = (self.limit - self.count).min(piece.len() as u64) as usize;
-        let mut code = Code::new(self.alloc);
-        let before = self.count;
-        self.count += front as u64;
-        let bad = read(&mut self.reader, &piece[..front], &mut code)?;
-        let refused = perform(&mut self.actor, code.as_slice(), out)?;
-        let at = bad_at(refused, bad, self.size, code.as_slice());
-        self.stop = stop_at(at, before, front, piece.len());
-        self.size = size_on(self.size, code.as_slice());
-        self.usable = true;
-        Ok(fate_of(self.stop))
+        self.within.feed(piece, out)
     }
 
     fn end(&mut self, out: &mut Vec<u8>) -> Result<Fate, Memory> {
-        if self.over {
-            return Ok(fate_of(self.stop));
-        }
-        self.over = true;
-        if let Some(_) = self.stop {
-            return Ok(Fate::Stopped);
-        }
-        self.usable = false;
-        perform(&mut self.actor, &[], out)?;
-        self.usable = true;
-        self.stop = end_stop(self.is_whole(), self.count);
-        Ok(fate_of(self.stop))
+        self.within.end(out)
     }
 
     fn stop(&self) -> Option<Stop> {
-        self.stop
+        self.within.stop()
     }
 }

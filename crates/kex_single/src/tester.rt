@@ -1,15 +1,19 @@
 // Whether a stage's input has a parse.
 
-ghost use Rattle.std.specs.Prelude.{◌≡◌, ◌≤◌, ◌^◌, [], true, IfOk, IsTrue, None};
-ghost use Rattle.kex_single.specs.Singles.{TestAnswers};
-ghost use Rattle.kex_single.specs.Standing.{StandsAs, TestOpen, dead_at};
-ghost use Rattle.kex_single.specs.TestLaws.{one, grows, stays, ends};
+ghost use Rattle.std.specs.Prelude.{◌≡◌, [], true, false, None, IfOk, IsTrue};
+ghost use Rattle.kex_machine.specs.Answers.{HasParse, Viable};
+ghost use Rattle.kex_frontier.specs.Matchers.{WasFed};
+ghost use Rattle.kex_pipe.specs.Working.{ClosesParsed, SaysViable};
+ghost use Rattle.kex_single.specs.Singles.{HasParseAlone, SaysNothing, TestAnswers};
+ghost use Rattle.kex_single.specs.Standing.{dead_at};
+ghost use Rattle.kex_single.specs.TestLaws.{answering};
 
-use crate::stops::{end_stop, fate_of, stop_at};
 use kex_code::memory::Memory;
 use kex_frontier::matcher::{Matched, Matcher};
 use kex_machine::Trimmed;
+use kex_pipe::bounded::Bounded;
 use kex_pipe::turn::{Fate, Stop, Turn};
+use kex_pipe::worker::Worker;
 use std::alloc::Global;
 
 // The number of the first byte with which no parse begins.
@@ -22,35 +26,68 @@ fn dead_at(matched: Matched) -> Option<u64>
     }
 }
 
+/// Tells whether the bytes have a parse. It writes nothing, and takes no memory once it is made.
+#[derive(Drop)]
+pub struct TestWorker<'m> {
+    matcher: Matcher<'m>,
+}
+
+impl<'m> Worker for TestWorker<'m> {
+    ghost use Rattle.kex_machine.specs.Nodes.{Graph};
+
+    type Basis = &'m Trimmed;
+
+    ghost Machine = { Graph };
+
+    ghost machine_in = { λ machine. machine.now };
+
+    ghost machine = { λ s. s.matcher.machine };
+
+    ghost says = { λ g w at text. SaysViable (Viable g) (SaysNothing g) (HasParse g) (HasParseAlone g) w at text };
+
+    ghost closes = { λ g w parsed text. ClosesParsed (Viable g) (SaysNothing g) (HasParse g) (HasParseAlone g) w parsed text };
+
+    ghost gives = { λ g n w e a. TestAnswers g n w e a };
+
+    ghost follows = { λ s w text. WasFed s.matcher w × Viable s.matcher.machine w × (text ≡ []) };
+
+    ghost is_ready = { λ s. true };
+
+    ghost counted = { λ s. s.matcher.good };
+
+    ghost may_want = { false };
+
+    ghost answers = { λ g. answering g };
+
+    fn start(alloc: Global, basis: &'m Trimmed) -> Result<TestWorker<'m>, Memory> {
+        let matcher = Matcher::new(alloc, basis)?;
+        Ok(TestWorker { matcher })
+    }
+
+    fn go_on(&mut self, piece: &[u8], _out: &mut Vec<u8>) -> Result<Option<u64>, Memory> {
+        Ok(dead_at(self.matcher.feed(piece)))
+    }
+
+    fn finish(&mut self, _out: &mut Vec<u8>) -> Result<bool, Memory> {
+        Ok(self.matcher.end())
+    }
+}
+
 /// Whether one stage's input has a parse. It writes nothing, and takes no memory once it is made.
 #[derive(Drop)]
 pub struct Tester<'m> {
-    matcher: Matcher<'m>,
-    limit: u64,
-    count: u64,
-    stop: Option<Stop>,
-    over: bool,
-    ghost few: { matcher.good ≤ count },
-    ghost within: { count ≤ limit },
-    ghost most: { limit ≤ 2 ^ 48 },
+    within: Bounded<TestWorker<'m>>,
 }
 
 impl<'m> Tester<'m> {
     /// A tester that has read nothing, and takes at most so many bytes.
     pub fn new(alloc: Global, machine: &'m Trimmed, max_input: u64) -> Result<Tester<'m>, Memory>
-        requires { max_input ≤ 2 ^ 48 }
         ensures plan { IfOk result (λ s. ⟦<Tester<'m> as Turn>⟧.plan s ≡ record { machine = machine.now; limit = max_input }) }
         ensures stands { IfOk result (λ s. ⟦<Tester<'m> as Turn>⟧.stands s None) }
         ensures usable { IfOk result (λ s. IsTrue (⟦<Tester<'m> as Turn>⟧.is_usable s)) }
     {
-        let matcher = Matcher::new(alloc, machine)?;
-        Ok(Tester {
-            matcher,
-            limit: max_input,
-            count: 0,
-            stop: None,
-            over: false,
-        })
+        let within = Bounded::new(alloc, machine, max_input)?;
+        Ok(Tester { within })
     }
 }
 
@@ -59,56 +96,37 @@ impl<'m> Turn for Tester<'m> {
 
     ghost Plan = { Single };
 
-    ghost plan = { λ s. record { machine = s.matcher.machine; limit = s.limit } };
+    ghost plan = { λ s. ⟦<Bounded<TestWorker<'m>> as Turn>⟧.plan s.within };
 
     ghost gives = { λ p w e a. TestAnswers p.machine p.limit w e a };
 
-    ghost stands = { λ s h. StandsAs (λ w e a. TestAnswers s.matcher.machine s.limit w e a)
-        (λ w text. TestOpen (record { machine = s.matcher.machine; limit = s.limit }) s.matcher s.count w text) s.stop s.over h × IsTrue true };
+    ghost stands = { λ s h. ⟦<Bounded<TestWorker<'m>> as Turn>⟧.stands s.within h };
 
-    ghost is_usable = { λ s. true };
+    ghost is_usable = { λ s. ⟦<Bounded<TestWorker<'m>> as Turn>⟧.is_usable s.within };
 
     ghost stands_usable = { λ s h x. x.1 };
 
-    ghost one = { λ p w e a b h k. one p.machine p.limit w e a b h k };
+    ghost one = { λ p w e a b h k. (answering p.machine).one p.limit w e a b h k };
 
-    ghost grows = { λ p w v e a b h k. grows p.machine p.limit w v e a b h k };
+    ghost grows = { λ p w v e a b h k. (answering p.machine).grows p.limit w v e a b h k };
 
-    ghost stays = { λ p w v e a b h k some. stays p.machine p.limit w v e a b h k some };
+    ghost stays = { λ p w v e a b h k some. (answering p.machine).stays p.limit w v e a b h k some };
 
-    ghost ends = { λ p w e a h. ends p.machine p.limit w e a h };
+    ghost ends = { λ p w e a h. (answering p.machine).ends p.limit w e a h };
 
     fn usable(&self) -> bool {
-        true
+        self.within.usable()
     }
 
-    fn feed(&mut self, piece: &[u8], _out: &mut Vec<u8>) -> Result<Fate, Memory> {
-        if self.over {
-            return Ok(fate_of(self.stop));
-        }
-        if let Some(_) = self.stop {
-            return Ok(Fate::Stopped);
-        }
-        let front = (self.limit - self.count).min(piece.len() as u64) as usize;
-        let bad = dead_at(self.matcher.feed(&piece[..front]));
-        self.stop = stop_at(bad, self.count, front, piece.len());
-        self.count += front as u64;
-        Ok(fate_of(self.stop))
+    fn feed(&mut self, piece: &[u8], out: &mut Vec<u8>) -> Result<Fate, Memory> {
+        self.within.feed(piece, out)
     }
 
-    fn end(&mut self, _out: &mut Vec<u8>) -> Result<Fate, Memory> {
-        if self.over {
-            return Ok(fate_of(self.stop));
-        }
-        self.over = true;
-        if let Some(_) = self.stop {
-            return Ok(Fate::Stopped);
-        }
-        self.stop = end_stop(self.matcher.end(), self.count);
-        Ok(fate_of(self.stop))
+    fn end(&mut self, out: &mut Vec<u8>) -> Result<Fate, Memory> {
+        self.within.end(out)
     }
 
     fn stop(&self) -> Option<Stop> {
-        self.stop
+        self.within.stop()
     }
 }

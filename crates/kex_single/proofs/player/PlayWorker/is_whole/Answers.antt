@@ -1,4 +1,4 @@
-use Rattle.kex_single.proofs.player.Player.is_whole.Goals as goal
+use Rattle.kex_single.proofs.player.PlayWorker.is_whole.Goals as goal
 
 pub returns-then-whole : goal.returns-then-whole
 returns-then-whole c = λ code out done.
