@@ -1,17 +1,14 @@
 -- What an oracle and an actor say is what the stage answers.
-use Rattle.std.proofs.Common.{◌≡◌, ℕ, ◌<◌, ◌≤◌, ◌+◌, Bool, false, List, [], ◌∷◌, ◌++◌, None, length, take, drop, refl, sym, ap, subst, ◌∙◌, append_assoc, append-nil, arith, ⊎_elim, length-append, take-append-drop, length-take}
+use Rattle.std.proofs.Common.{◌≡◌, ℕ, ◌≤◌, ◌+◌, List, [], ◌∷◌, ◌++◌, length, take, drop, refl, sym, ap, subst, ◌∙◌, append_assoc, append-nil, arith, length-append, take-append-drop, length-take}
 use Rattle.kex_code.specs.declared.symbol.Symbol.{Symbol}
 use Rattle.kex_code.specs.Codes.{Begins, bytes_of}
 use Rattle.kex_model.specs.Moves.{Step, code_of}
 use Rattle.kex_model.specs.Survivors.{Agreed, LongestViable}
-use Rattle.kex_model.specs.Answers.{stopped_answer, at_byte, at_limit, bad_byte, too_long, still_open}
-use Rattle.kex_model.proofs.Orders.{two_fronts}
 use Rattle.kex_model.proofs.OpenAnswers.{shorter_front, same_front}
 use Rattle.kex_model.proofs.Walks.{bytes_of-append}
-use Rattle.kex_model.proofs.AgreedFronts.{viable_front}
 use Rattle.kex_model.proofs.Derivations.{walk-append, code_of-append}
 use Rattle.kex_machine.specs.Nodes.{Graph, node_moves}
-use Rattle.kex_machine.specs.Answers.{Viable, IsRun, left_by, Says, Means, StageAnswers, IsSaid, IsGreedy}
+use Rattle.kex_machine.specs.Answers.{Viable, IsRun, left_by, Says, Means, IsSaid, IsGreedy}
 use Rattle.kex_action.specs.Actors.{Position, HasPerformed, IsSettled}
 use Rattle.kex_stage.specs.Oracles.{Agrees, HasSurvivor}
 
@@ -56,35 +53,6 @@ module _ (g : Graph) (a : Position) (same : a.machine ≡ g) (settled : IsSettle
         codes = path.2;
         meant = left_out path.0 run ([], path.2 ∙ sym (append-nil c));
       }
-
-module _ (g : Graph) (limit : ℕ) where
-  pub open_answer : (w text : List ℕ) → length w ≤ limit → Viable g w → Says g w text → StageAnswers g limit w false (record { text = text; ended = false; stop = None })
-  open_answer w text le v s = still_open le v s
-
-  -- with one more byte no parse begins
-  pub byte_answer : (x v next text : List ℕ) (e : Bool) → Begins x next → Begins next v → length next ≡ length v + 1 → length next ≤ limit → Viable g v → (Viable g next → ⊥) → Says g v text → StageAnswers g limit x e (stopped_answer text (length v) at_byte)
-  byte_answer x v next text e p q n le good bad says =
-      let front : Begins (take limit x) next = shorter_front x next (take limit x) p (drop limit x, sym (take-append-drop limit x)) (omega (arith, length-take limit x, le, ap length p.1, length-append next p.0)) in
-      bad_byte v (λ h. bad (viable_front (node_moves g.nodes) g.start next front.0 (subst (λ z. Viable g z) front.1 h))) (record {
-        front = (q.0 ++ front.0, front.1 ∙ ap (λ z. z ++ front.0) q.1 ∙ append_assoc v q.0 front.0);
-        good = good;
-        longest = λ u b h. ⊎_elim
-            (λ r. absurd (bad (viable_front (node_moves g.nodes) g.start next r.0 (subst (λ z. Viable g z) r.1 h))))
-            (λ r. shorter u r h)
-            (two_fronts u next b.0 front.0 (sym b.1 ∙ front.1));
-      }) says
-    where
-      shorter : (u : List ℕ) → Begins next u → Viable g u → length u ≤ length v
-      shorter u (m, f) h = by m f
-        where
-          by : (m : List ℕ) → next ≡ u ++ m → length u ≤ length v
-          by [] f = absurd (bad (subst (λ z. Viable g z) (sym (f ∙ append-nil u)) h))
-          by (y ∷ m) f = omega (arith, ap length f, length-append u (y ∷ m), n)
-
-  pub limit_answer : (x v text : List ℕ) (e : Bool) → Begins x v → length v ≡ limit → limit < length x → Viable g v → Says g v text → StageAnswers g limit x e (stopped_answer text limit at_limit)
-  limit_answer x v text e p n lt good says =
-      let is : take limit x ≡ v = same_front x (take limit x) v (drop limit x, sym (take-append-drop limit x)) p (omega (arith, length-take limit x, lt, n)) in
-      too_long lt (subst (λ z. Viable g z) (sym is) good) (subst (λ z. Says g z text) (sym is) says)
 
 -- what is said where a byte was refused is what was agreed before it
 pub said_before : (g : Graph) (v next : List ℕ) (c : List Symbol) → Begins next v → length next ≡ length v + 1 → Viable g v → (Viable g next → ⊥) → IsSaid g next c → Agreed (node_moves g.nodes) g.start v c

@@ -1,32 +1,94 @@
 // A stage.
 
-ghost use Rattle.std.specs.Prelude.{◌≡◌, ◌≤◌, true, false, IfOk, IsTrue, Some, None, min, take, length};
-ghost use Rattle.kex_machine.proofs.NodeAnswers.{one_answer, grows, stays, ends};
-ghost use Rattle.kex_stage.specs.Oracles.{IsReady, learnt_of, read_of};
-ghost use Rattle.kex_stage.specs.Stages.{Gives, StagePlan, IsStageOf, end_stop, fate_of, stop_after};
+ghost use Rattle.std.specs.Prelude.{◌≡◌, ◌&&◌, not, true, IfOk, IsTrue, None};
+ghost use Rattle.kex_machine.specs.Answers.{HasParse, Means, Says, Viable};
+ghost use Rattle.kex_pipe.specs.Working.{ClosesParsed, SaysViable};
+ghost use Rattle.kex_stage.specs.Oracles.{ended_of, learnt_of, read_of, usable_of};
+ghost use Rattle.kex_stage.specs.StageLaws.{answering};
+ghost use Rattle.kex_stage.specs.Stages.{Gives, StageFollows, refused_at};
 
 use crate::oracle::Oracle;
 use crate::plan::Plan;
 use kex_action::actor::Actor;
 use kex_code::code::Code;
 use kex_code::memory::Memory;
-use kex_pipe::turn::{Fate, Stop, Turn, Why};
+use kex_pipe::bounded::Bounded;
+use kex_pipe::turn::{Fate, Stop, Turn};
+use kex_pipe::worker::Worker;
 use std::alloc::Global;
+
+/// Works over the plan that it borrows: bytes come in pieces, and what the surviving paths agree on goes out as soon as it is
+/// agreed.
+#[derive(Drop)]
+pub struct StageWorker<'p> {
+    oracle: Oracle<'p>,
+    actor: Actor<'p>,
+    code: Code,
+    ghost one_machine: { learnt_of oracle actor.machine ≡ actor.machine },
+}
+
+impl<'p> Worker for StageWorker<'p> {
+    ghost use Rattle.kex_machine.specs.Nodes.{Graph};
+
+    type Basis = &'p Plan;
+
+    ghost Machine = { Graph };
+
+    ghost machine_in = { λ plan. plan.now.machine };
+
+    ghost machine = { λ s. s.actor.machine };
+
+    ghost says = { λ g w at text. SaysViable (Viable g) (Says g) (HasParse g) (Means g) w at text };
+
+    ghost closes = { λ g w parsed text. ClosesParsed (Viable g) (Says g) (HasParse g) (Means g) w parsed text };
+
+    ghost gives = { λ g n w e a. Gives (record { machine = g; limit = n }) w e a };
+
+    ghost follows = { λ s w text. StageFollows s.oracle s.actor w text };
+
+    ghost is_ready = { λ s. usable_of s.oracle && not (ended_of s.oracle) && s.actor.usable };
+
+    ghost counted = { λ s. read_of s.oracle };
+
+    ghost may_want = { true };
+
+    ghost answers = { λ g. answering g };
+
+    fn start(alloc: Global, basis: &'p Plan) -> Result<StageWorker<'p>, Memory> {
+        let oracle = Oracle::new(alloc, basis)?;
+        let actor = Actor::new(alloc, basis.machine())?;
+        Ok(StageWorker {
+            oracle,
+            actor,
+            code: Code::new(alloc),
+        })
+    }
+
+    fn go_on(&mut self, piece: &[u8], out: &mut Vec<u8>) -> Result<Option<u64>, Memory> {
+        let count = self
+            .oracle
+            .go_on(&mut self.actor, piece, &mut self.code, out)?;
+        Ok(refused_at(count < piece.len(), self.oracle.read()))
+    }
+
+    fn finish(&mut self, out: &mut Vec<u8>) -> Result<bool, Memory> {
+        let parsed = self.oracle.finish(&mut self.actor, &mut self.code, out)?;
+        Ok(parsed)
+    }
+}
+
+// The number of the byte behind the good ones, where that was refused.
+fn refused_at(refused: bool, good: u64) -> Option<u64>
+    ensures { result ≡ refused_at refused good }
+{
+    if refused { Some(good) } else { None }
+}
 
 /// One stage of a pipeline, over the plan that it borrows: bytes come in pieces, and what the surviving paths agree on goes
 /// out as soon as it is agreed.
 #[derive(Drop)]
 pub struct Stage<'p> {
-    oracle: Oracle<'p>,
-    actor: Actor<'p>,
-    code: Code,
-    limit: u64,
-    stop: Option<Stop>,
-    over: bool,
-    usable: bool,
-    ghost one_machine: { learnt_of oracle actor.machine ≡ actor.machine },
-    ghost within: { read_of oracle ≤ limit },
-    ghost usable_parts: { usable ≡ true → stop ≡ None → over ≡ false → IsReady oracle × IsTrue actor.usable },
+    within: Bounded<StageWorker<'p>>,
 }
 
 impl<'p> Stage<'p> {
@@ -36,132 +98,47 @@ impl<'p> Stage<'p> {
         ensures stands { IfOk result (λ s. ⟦<Stage<'p> as Turn>⟧.stands s None) }
         ensures usable { IfOk result (λ s. IsTrue (⟦<Stage<'p> as Turn>⟧.is_usable s)) }
     {
-        let oracle = Oracle::new(alloc, plan)?;
-        let actor = Actor::new(alloc, plan.machine())?;
-        Ok(Stage {
-            oracle,
-            actor,
-            code: Code::new(alloc),
-            limit: max_input,
-            stop: None,
-            over: false,
-            usable: true,
-        })
+        let within = Bounded::new(alloc, plan, max_input)?;
+        Ok(Stage { within })
     }
 }
 
 impl<'p> Turn for Stage<'p> {
+    ghost use Rattle.kex_stage.specs.Stages.{StagePlan};
+
     ghost Plan = { StagePlan };
 
-    ghost plan = { λ s. record { machine = s.actor.machine; limit = s.limit } };
+    ghost plan = { λ s. ⟦<Bounded<StageWorker<'p>> as Turn>⟧.plan s.within };
 
     ghost gives = { λ p w e a. Gives p w e a };
 
-    ghost stands = { λ s h. IsStageOf (record { machine = s.actor.machine; limit = s.limit }) s.oracle s.actor s.stop s.over h × IsTrue s.usable };
+    ghost stands = { λ s h. ⟦<Bounded<StageWorker<'p>> as Turn>⟧.stands s.within h };
 
-    ghost is_usable = { λ s. s.usable };
+    ghost is_usable = { λ s. ⟦<Bounded<StageWorker<'p>> as Turn>⟧.is_usable s.within };
 
     ghost stands_usable = { λ s h x. x.1 };
 
-    ghost one = { λ p w e a b h k. one_answer p.machine p.limit h k };
+    ghost one = { λ p w e a b h k. (answering p.machine).one p.limit w e a b h k };
 
-    ghost grows = { λ p w v e a b h k. grows p.machine p.limit w v h k };
+    ghost grows = { λ p w v e a b h k. (answering p.machine).grows p.limit w v e a b h k };
 
-    ghost stays = { λ p w v e a b h k some. stays p.machine p.limit w v h k some };
+    ghost stays = { λ p w v e a b h k some. (answering p.machine).stays p.limit w v e a b h k some };
 
-    ghost ends = { λ p w e a h. ends p.machine p.limit h };
+    ghost ends = { λ p w e a h. (answering p.machine).ends p.limit w e a h };
 
     fn usable(&self) -> bool {
-        self.usable
+        self.within.usable()
     }
 
     fn feed(&mut self, piece: &[u8], out: &mut Vec<u8>) -> Result<Fate, Memory> {
-        if self.over {
-            return Ok(fate_of(self.stop));
-        }
-        if let Some(_) = self.stop {
-            return Ok(Fate::Stopped);
-        }
-        self.usable = false;
-        let front = front_of(piece, self.limit - self.oracle.read());
-        let count = self
-            .oracle
-            .go_on(&mut self.actor, front, &mut self.code, out)?;
-        let stop = stop_after(
-            self.oracle.read(),
-            count < front.len(),
-            front.len() < piece.len(),
-        );
-        self.stop = stop;
-        self.usable = true;
-        Ok(fate_of(stop))
+        self.within.feed(piece, out)
     }
 
     fn end(&mut self, out: &mut Vec<u8>) -> Result<Fate, Memory> {
-        if self.over {
-            return Ok(fate_of(self.stop));
-        }
-        self.over = true;
-        if let Some(_) = self.stop {
-            return Ok(Fate::Stopped);
-        }
-        self.usable = false;
-        let parsed = self.oracle.finish(&mut self.actor, &mut self.code, out)?;
-        let stop = end_stop(parsed, self.oracle.read());
-        self.stop = stop;
-        self.usable = true;
-        Ok(fate_of(stop))
+        self.within.end(out)
     }
 
     fn stop(&self) -> Option<Stop> {
-        self.stop
-    }
-}
-
-// The front of a piece that there is room for.
-fn front_of(piece: &[u8], room: u64) -> &[u8]
-    ensures { result.now ≡ take (min room (length piece.now)) piece.now }
-{
-    if room < piece.len() as u64 {
-        &piece[..room as usize]
-    } else {
-        piece
-    }
-}
-
-// A stop says that the stage has stopped.
-fn fate_of(stop: Option<Stop>) -> Fate
-    ensures { result ≡ fate_of stop }
-{
-    match stop {
-        None => Fate::On,
-        Some(_) => Fate::Stopped,
-    }
-}
-
-// Where a stage stops behind so many good bytes: at one that was refused, or where a piece goes past the limit.
-fn stop_after(at: u64, refused: bool, past: bool) -> Option<Stop>
-    ensures { result ≡ stop_after at refused past }
-{
-    if refused {
-        Some(Stop { at, why: Why::Byte })
-    } else if past {
-        Some(Stop {
-            at,
-            why: Why::Limit,
-        })
-    } else {
-        None
-    }
-}
-
-// Where a stage stops at the end of its input.
-fn end_stop(parsed: bool, at: u64) -> Option<Stop>
-    ensures { result ≡ end_stop parsed at }
-{
-    if parsed {
-        None
-    } else {
-        Some(Stop { at, why: Why::End })
+        self.within.stop()
     }
 }
