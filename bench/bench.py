@@ -1,5 +1,6 @@
 #!/usr/bin/env python3
-"""Runs programs of examples/ and tests/ over generated input, beside other tools that are installed.
+"""Runs programs of examples/ and tests/, and two with many states that are made here, over generated input, beside other
+tools that are installed.
 
   bench/bench.py --kex crates/kex/out/kex            a table: MB/s of processor time, peak memory, and time a byte at 1, 4 and 16 MiB
   bench/bench.py --kex crates/kex/out/kex --check    64 KiB of each: only whether all outputs agree
@@ -12,6 +13,7 @@ import hashlib
 import os
 import random
 import shutil
+import string
 import subprocess
 import sys
 import tempfile
@@ -64,12 +66,29 @@ def many_states(r):
     return "".join(r.choices("ab", k=r.randint(0, 100))) + "\n"
 
 
+KEYS = ["".join(random.Random(number).choices(string.ascii_letters + string.digits, k=12)) for number in range(400)]
+
+
+def records(count):
+    """A program for records with one of so many keys, and such a record. It has some ten states for each key, and holds nothing back in them."""
+    cases = "\n  | ".join('~/%s/ "%d"' % (key, number) for number, key in enumerate(KEYS[:count]))
+    program = "main := (key /=[0-9]*\\n/)*\nkey := %s\n" % cases
+    return program, lambda r: "%s=%d\n" % (r.choice(KEYS[:count]), r.randrange(1000))
+
+
+MADE = {"settled_1100": records(108), "settled_4000": records(400)}
 WORKLOADS = {f.__name__: f for f in (csv_swap, syslog_tsv, csv_json, thousands, fastq_fasta, two_stages, many_states)}
+WORKLOADS.update((name, record) for name, (_, record) in MADE.items())
 
 
-def program(name):
-    """The file of the program of this name."""
-    files = [os.path.join(folder, name + ".kex") for folder in FOLDERS]
+def program(name, folder):
+    """The file of the program of this name; one that is made here is written into the folder."""
+    if name in MADE:
+        path = os.path.join(folder, name + ".kex")
+        with open(path, "w") as out:
+            out.write(MADE[name][0])
+        return path
+    files = [os.path.join(it, name + ".kex") for it in FOLDERS]
     return next(it for it in files if os.path.exists(it))
 
 
@@ -146,7 +165,7 @@ def check(folder, kex, name, wanted):
     """Whether kex and the peers that are here write the same."""
     source = make_input(folder, name, 64 << 10)
     target = os.path.join(folder, "out")
-    status, _, _ = run(kex + [program(name)], source, target)
+    status, _, _ = run(kex + [program(name, folder)], source, target)
     ours = digest(target)
     good = status == 0
     if not good:
@@ -163,7 +182,7 @@ def measure(folder, kex, name, wanted, size, runs):
     source = make_input(folder, name, size)
     target = os.path.join(folder, "out")
     length = os.path.getsize(source)
-    command = kex + [program(name)]
+    command = kex + [program(name, folder)]
     status, seconds, peak = best(command, source, target, runs)
     ours = digest(target)
     cells = {"kex": length / 1e6 / seconds if status == 0 else None}

@@ -217,6 +217,27 @@ led nodes mid new state node next actions e o r l s =
       opens = s.opens;
     }
 
+-- an edge that says nothing leads nowhere
+pub led_silent : (nodes : List MNode) (k : Known) (state node : ℕ) (actions : List Action) (e : Edge) → is_known e.kind ≡ false → IsLed nodes k state node actions e
+led_silent nodes k state node actions e silent = record {
+  edge = record { next = λ known. absurd (never known); begins = λ known. absurd (never known); room = λ written. absurd (never (known_if e.kind written)); acts = λ acts. absurd (never (known_acts e.kind acts)) };
+  row = λ known. absurd (never known);
+  does = λ known. absurd (never known);
+  opens = λ is. absurd (never (ap is_known is));
+}
+  where
+    never : is_known e.kind ≡ true → ⊥
+    never known = let clash : true ≡ false = sym known ∙ silent in cc
+
+    known_acts : (k : Kind) → has_acts k ≡ true → is_known k ≡ true
+    known_acts Keep h = cc
+    known_acts Drop h = cc
+    known_acts Text h = cc
+    known_acts Acts h = refl
+    known_acts Opens h = refl
+    known_acts Plain h = cc
+    known_acts Unknown h = cc
+
 -- an edge that is put
 pub slice_get-set : (xs : List Edge) (i j : ℕ) (x y : Edge) → slice_get (set xs i x) j ≡ Some y → (((i ≡ j) × (x ≡ y)) ⊎ (slice_get xs j ≡ Some y))
 slice_get-set [] i j x y e = inr e
@@ -284,13 +305,17 @@ right_at_row t nodes k p class e x (inr h) right known =
 pub grows_put : (old mid new : Known) (i : ℕ) (e : Edge) → Grows old mid → new ≡ with_edges mid (set mid.edges i e) → Grows old new
 grows_put old mid new i e g is = subst (λ k. Grows old k) (sym is) (record { width = g.width; rows = λ row p r. rows_put mid (set mid.edges i e) row p (g.rows row p r) })
 
-pub known_forgotten : (t : Transducer) (g : Graph) (old new : Known) → old.classes ≡ t.classes → Forgets old new → IsKnown t g new
-known_forgotten t g old new h f = record {
-  ordered = f.ordered;
-  classes = f.classes ∙ h;
-  pairs = subst (λ l. All (IsPairOf t g) l) (sym f.pairs) (λ i d l. absurd (omega arith));
-  right = λ number class p e at lt is known. let none : None ≡ Some p = sym (ap (λ l. slice_get l number) f.pairs) ∙ at in cc;
+-- where there is no row all is right
+pub known_none : (t : Transducer) (g : Graph) (k : Known) → IsOrdered k → k.classes ≡ t.classes → k.pairs ≡ [] → IsKnown t g k
+known_none t g k ordered classes none = record {
+  ordered = ordered;
+  classes = classes;
+  pairs = subst (λ l. All (IsPairOf t g) l) (sym none) (λ i d l. absurd (omega arith));
+  right = λ number class p e at lt is known. let clash : None ≡ Some p = sym (ap (λ l. slice_get l number) none) ∙ at in cc;
 }
+
+pub known_forgotten : (t : Transducer) (g : Graph) (old new : Known) → old.classes ≡ t.classes → Forgets old new → IsKnown t g new
+known_forgotten t g old new h f = known_none t g new f.ordered (f.classes ∙ h) f.pairs
 
 -- an edge that is led by what was learnt of the update's code is right
 pub right_led : (t : Transducer) (nodes : List MNode) (k : Known) (p : Pair) (class : ℕ) (by : Transition) (out : List Part) (node : ℕ) (actions : List Action) (e : Edge) → transition_of t p.state class ≡ Some by → by.update.regs ≡ [] → out ≡ by.update.out → Learns nodes p.node out node actions → IsLed nodes k by.target node actions e → is_known e.kind ≡ true → IsRight t nodes k p class e
@@ -308,10 +333,6 @@ right_led t nodes k p class by out node actions e goes bare same l h known =
       takes = λ b c takes. subst (λ n. Takes nodes n c) (sym r.3) (learns.takes b c takes);
       opens = h.opens;
     }
-
-pub map_some : {A : Type 0} (P Q : A → Type 0) (o : Option A) → ((a : A) → P a → Q a) → IfSome o P → IfSome o Q
-map_some P Q None f h = tt
-map_some P Q (Some a) f h = f a h
 
 -- the class of a byte is one of them
 pub class_below : (classes : List ℕ) (b c : ℕ) → slice_get classes b ≡ Some c → c < class_count classes

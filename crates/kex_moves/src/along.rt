@@ -282,8 +282,8 @@ fn learn_at(
 {
     match edges.edge_at(row, edges.class_of(byte)).kind {
         Kind::Unknown => {
-            let learnt = learn_edge(alloc, table, machine, edges, row, byte)?;
-            Ok(!learnt)
+            learn_edge(alloc, table, machine, edges, row, byte)?;
+            Ok(false)
         }
         Kind::Plain => Ok(true),
         _ => Ok(false),

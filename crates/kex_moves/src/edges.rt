@@ -32,14 +32,25 @@ pub struct Pair {
 /// No pair.
 const NO_PAIR: u32 = 4_294_967_295;
 
-/// How many edges there may be.
-const MAX_EDGES: usize = 65_536;
+/// How many edges there may be. With pairs, texts and actions they take less than 64 MiB.
+const MOST_EDGES: usize = 2_097_152;
 
-/// How long the texts together may be.
-const MAX_TEXT: usize = 262_144;
+/// How many pairs there may be.
+const MOST_PAIRS: usize = 524_288;
 
-/// How many pairs of one state are looked at.
-const LOOKS: u32 = 8;
+/// How long the texts together may be before one more is added, which takes 32 bytes at most.
+const MOST_TEXT: usize = 8_388_576;
+
+/// How many actions there may be before those of one more edge are added, which are 255 at most.
+const MOST_ACTS: usize = 1_048_321;
+
+/// How many pairs of one state or node are looked at, and there are.
+const LOOKS: u32 = 64;
+
+/// How many calls there are in which nothing more can be learnt, for each edge that was learnt, before
+/// all is forgotten. So what it costs to learn all again is shared by many bytes, also where there is
+/// never room for what is met in turn.
+const PATIENCE: usize = 8;
 
 /// By which number of a pair it is looked for.
 #[derive(Clone, Copy, Debug, PartialEq, Eq)]
@@ -48,7 +59,9 @@ pub enum By {
     Node,
 }
 
-/// What is learnt: pairs, and for each a row of edges by class. All is forgotten when there is too much of it.
+/// What is learnt: pairs, and for each a row of edges by class. It grows with what is met, up to a bound
+/// of memory. Once that is reached what is known is kept, and no more is learnt; all is forgotten when
+/// that has lasted long.
 #[derive(Drop)]
 pub struct Edges {
     classes: [u8; 256],
@@ -60,6 +73,8 @@ pub struct Edges {
     edges: Vec<Edge>,
     text: Vec<u8>,
     acts: Vec<Action>,
+    learnt: usize,
+    refused: usize,
 }
 
 impl Model for Edges {
@@ -87,13 +102,23 @@ fn push_row(
     pair: Pair,
     width: usize,
 ) -> Result<(), Memory>
-    requires { length edges.old.items + width ≤ 65536 }
+    requires { length edges.old.items + width ≤ MOST_EDGES }
     ensures pairs { OnOk result (pairs.new.items ≡ pairs.old.items ++ pair ∷ []) }
     ensures edges { OnOk result ((more : List Edge) × (edges.new.items ≡ edges.old.items ++ more) × (length more ≡ width) × All (λ (e : Edge). e.kind ≡ Kind.Unknown) more) }
 {
     pairs.push(pair)?;
     edges.resize(edges.len() + width, Edge::unknown())?;
     Ok(())
+}
+
+// The place behind so many things, if there may be one more.
+fn place_behind(count: usize, most: usize) -> Option<u32>
+    ensures { IfSome result (λ place. place ≡ count) }
+{
+    if count > most {
+        return None;
+    }
+    u32::try_from(count).ok()
 }
 
 // What kind of edge writes so many bytes, of which the one read stands at a place.
@@ -162,6 +187,8 @@ impl Edges {
             edges: Vec::new(alloc),
             text,
             acts: Vec::new(alloc),
+            learnt: 0,
+            refused: 0,
         })
     }
 
@@ -196,6 +223,29 @@ impl Edges {
         None
     }
 
+    // Whether there may be one more row.
+    fn has_room(&self) -> bool
+        ensures { IsTrue result → (length self.now.edges + self.now.width ≤ MOST_EDGES) × (length self.now.pairs < MOST_PAIRS) }
+    {
+        self.pairs.len() < MOST_PAIRS && self.edges.len() <= MOST_EDGES - self.width
+    }
+
+    // Whether as many pairs as are looked at are found where that of a state and a node would be.
+    fn is_crowded(&self, state: u32, node: u32) -> bool {
+        let slot = self.slot_of(state, node);
+        let Some(head) = self.heads.get(slot as usize) else {
+            return true;
+        };
+        let mut number = *head;
+        for _ in 0..LOOKS {
+            let Some(pair) = self.pairs.get(number as usize) else {
+                return false;
+            };
+            number = pair.earlier;
+        }
+        true
+    }
+
     /// Adds a row of which nothing is learnt. `None` where there are too many.
     pub fn add(&mut self, state: u32, node: u32) -> Result<Option<usize>, Memory>
         ensures ordered { IfOk result (λ o. IsOrdered self.new) }
@@ -204,7 +254,7 @@ impl Edges {
     {
         let row = self.edges.len();
         let number = self.pairs.len();
-        if row + self.width > MAX_EDGES || number >= MAX_EDGES || self.text.len() > MAX_TEXT {
+        if !self.has_room() || self.is_crowded(state, node) {
             return Ok(None);
         }
         let slot = self.slot_of(state, node);
@@ -290,7 +340,7 @@ impl Edges {
                 kind,
             });
         };
-        let Ok(from) = u32::try_from(end) else {
+        let Some(from) = place_behind(end, MOST_TEXT) else {
             return Ok(Edge::plain());
         };
         append_text(&mut self.text, bytes)?;
@@ -314,8 +364,10 @@ impl Edges {
         ensures longer { IfOk result (λ e. Lengthens self.old self.new) }
         ensures settles { IfOk result (λ e. (nodes : List MNode) → (IsTrue opens → (b : ℕ) (s : State) → after_actions nodes b actions.now s ≡ with_buffer (b ∷ []) s) → Settles nodes self.new next (λ b. after_actions nodes b actions.now) e) }
     {
-        let (Ok(from), Ok(adds)) = (u32::try_from(self.acts.len()), u8::try_from(actions.len()))
-        else {
+        let Some(from) = place_behind(self.acts.len(), MOST_ACTS) else {
+            return Ok(Edge::plain());
+        };
+        let Ok(adds) = u8::try_from(actions.len()) else {
             return Ok(Edge::plain());
         };
         self.acts.extend_from_slice(actions)?;
@@ -338,6 +390,7 @@ impl Edges {
         ensures put { self.new ≡ record self.old { edges = slice_set self.old.edges (row + class) edge } }
     {
         self.edges[row + class as usize] = edge;
+        self.learnt = self.learnt.saturating_add(1);
     }
 
     /// Goes along edges from a row while they are written, behind what is used of a buffer.
@@ -391,10 +444,28 @@ impl Edges {
         )
     }
 
+    // Whether something that is met may find no room.
+    fn is_full(&self) -> bool {
+        !self.has_room() || self.text.len() > MOST_TEXT || self.acts.len() > MOST_ACTS
+    }
+
+    /// Whether it is time to forget, at a call: nothing more can be learnt, and there were many such calls.
+    pub fn is_worn(&mut self) -> bool
+        ensures { self.new ≡ self.old }
+    {
+        if !self.is_full() {
+            return false;
+        }
+        self.refused = self.refused.saturating_add(1);
+        self.refused / PATIENCE > self.learnt
+    }
+
     /// Forgets all.
     pub fn forget(&mut self)
         ensures { Forgets self.old self.new }
     {
+        self.learnt = 0;
+        self.refused = 0;
         self.pairs.clear();
         self.edges.clear();
         self.text.truncate(16);

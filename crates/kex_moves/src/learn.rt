@@ -2,6 +2,7 @@
 
 ghost use Rattle.std.specs.Prelude.{◌≡◌, ◌<◌, true, IfOk, IfSome, OnOk, length};
 ghost use Rattle.kex_byteset.specs.Classes.{class_count};
+ghost use Rattle.kex_machine.specs.Nodes.{Graph};
 ghost use Rattle.kex_sst.specs.Tables.{Transducer};
 ghost use Rattle.kex_moves.specs.declared.edges.Pair.{Pair};
 ghost use Rattle.kex_moves.specs.Edges.{is_known};
@@ -18,7 +19,7 @@ use kex_sst::parts::Parts;
 use kex_sst::table::Table;
 use std::alloc::Global;
 
-// An edge to the row of a state and the node to which a walk led, for what is done along the walk. `None` where there
+// An edge to the row of a state and the node to which a walk led, for what is done along the walk. A plain one where there
 // is no room for the row.
 fn lead(
     alloc: Global,
@@ -26,20 +27,20 @@ fn lead(
     edges: &mut Edges,
     state: u32,
     learnt: &Learnt,
-) -> Result<Option<Edge>, Memory>
+) -> Result<Edge, Memory>
     requires { learnt.now.to < length machine.now.nodes }
-    ensures known { IfOk result (λ o. (t : Transducer) → state < length t.states → IsKnown t machine.now edges.old → IsKnown t machine.now edges.new) }
-    ensures grows { IfOk result (λ o. Grows edges.old edges.new) }
-    ensures led { IfOk result (λ o. IfSome o (IsLed machine.now.nodes edges.new state learnt.now.to learnt.now.actions.items)) }
+    ensures known { IfOk result (λ e. (t : Transducer) → state < length t.states → IsKnown t machine.now edges.old → IsKnown t machine.now edges.new) }
+    ensures grows { IfOk result (λ e. Grows edges.old edges.new) }
+    ensures led { IfOk result (IsLed machine.now.nodes edges.new state learnt.now.to learnt.now.actions.items) }
 {
     let Some(row) = edges.row_of(state, learnt.to)? else {
-        return Ok(None);
+        return Ok(Edge::plain());
     };
     let edge = settle(alloc, machine, edges, &learnt.actions, row)?;
-    Ok(Some(edge))
+    Ok(edge)
 }
 
-// The edge of a pair at a class of bytes. `None` where there is no room for the row to which it leads.
+// The edge of a pair at a class of bytes.
 fn edge_of(
     alloc: Global,
     table: &Table,
@@ -47,28 +48,28 @@ fn edge_of(
     edges: &mut Edges,
     pair: Pair,
     class: u8,
-) -> Result<Option<Edge>, Memory>
+) -> Result<Edge, Memory>
     requires class { class < class_count table.now.classes }
     requires pair { IsPairOf table.now machine.now pair }
     requires known { IsKnown table.now machine.now edges.old }
-    ensures known { IfOk result (λ o. IsKnown table.now machine.now edges.new) }
-    ensures grows { IfOk result (λ o. Grows edges.old edges.new) }
-    ensures edge { IfOk result (λ o. IfSome o (IsEdge edges.new)) }
-    ensures right { IfOk result (λ o. IfSome o (λ e. is_known e.kind ≡ true → IsRight table.now machine.now.nodes edges.new pair class e)) }
+    ensures known { IfOk result (λ e. IsKnown table.now machine.now edges.new) }
+    ensures grows { IfOk result (λ e. Grows edges.old edges.new) }
+    ensures edge { IfOk result (IsEdge edges.new) }
+    ensures right { IfOk result (λ e. is_known e.kind ≡ true → IsRight table.now machine.now.nodes edges.new pair class e) }
 {
     let Some((target, update)) = table.next(pair.state, class) else {
-        return Ok(Some(Edge::plain()));
+        return Ok(Edge::plain());
     };
     if !update.regs().is_empty() || target as usize >= table.states().len() {
-        return Ok(Some(Edge::plain()));
+        return Ok(Edge::plain());
     }
     let Some(learnt) = learn(alloc, machine, pair.node, update.out().as_slice())? else {
-        return Ok(Some(Edge::plain()));
+        return Ok(Edge::plain());
     };
     lead(alloc, machine, edges, target, &learnt)
 }
 
-/// Learns the edge of a row at a byte. False where there is no room for the row to which it leads.
+/// Learns the edge of a row at a byte.
 pub fn learn_edge(
     alloc: Global,
     table: &Table,
@@ -76,22 +77,20 @@ pub fn learn_edge(
     edges: &mut Edges,
     row: usize,
     byte: u8,
-) -> Result<bool, Memory>
+) -> Result<(), Memory>
     requires row { (p : Pair) × IsRowOf edges.old row p }
     requires known { IsKnown table.now machine.now edges.old }
-    ensures known { IfOk result (λ b. IsKnown table.now machine.now edges.new) }
-    ensures rows { IfOk result (λ b. Grows edges.old edges.new) }
+    ensures known { OnOk result (IsKnown table.now machine.now edges.new) }
+    ensures rows { OnOk result (Grows edges.old edges.new) }
 {
     let pair = edges.pair_at(row);
     let class = edges.class_of(byte);
-    let Some(edge) = edge_of(alloc, table, machine, edges, pair, class)? else {
-        return Ok(false);
-    };
+    let edge = edge_of(alloc, table, machine, edges, pair, class)?;
     edges.put(row, class, edge.at_row(row));
-    Ok(true)
+    Ok(())
 }
 
-// The edge of a pair at a word. `None` where there is no room for the row to which it leads.
+// The edge of a pair at a word.
 fn word_edge(
     alloc: Global,
     words: &[Parts],
@@ -99,24 +98,24 @@ fn word_edge(
     edges: &mut Edges,
     pair: Pair,
     word: u8,
-) -> Result<Option<Edge>, Memory>
+) -> Result<Edge, Memory>
     requires pair { IsPairOf (table_of words.now) machine.now pair }
     requires known { IsKnown (table_of words.now) machine.now edges.old }
-    ensures known { IfOk result (λ o. IsKnown (table_of words.now) machine.now edges.new) }
-    ensures grows { IfOk result (λ o. Grows edges.old edges.new) }
-    ensures edge { IfOk result (λ o. IfSome o (IsEdge edges.new)) }
-    ensures right { IfOk result (λ o. IfSome o (λ e. is_known e.kind ≡ true → IsRight (table_of words.now) machine.now.nodes edges.new pair word e)) }
+    ensures known { IfOk result (λ e. IsKnown (table_of words.now) machine.now edges.new) }
+    ensures grows { IfOk result (λ e. Grows edges.old edges.new) }
+    ensures edge { IfOk result (IsEdge edges.new) }
+    ensures right { IfOk result (λ e. is_known e.kind ≡ true → IsRight (table_of words.now) machine.now.nodes edges.new pair word e) }
 {
     let Some(parts) = words.get(word as usize) else {
-        return Ok(Some(Edge::plain()));
+        return Ok(Edge::plain());
     };
     let Some(learnt) = learn(alloc, machine, pair.node, parts.as_slice())? else {
-        return Ok(Some(Edge::plain()));
+        return Ok(Edge::plain());
     };
     lead(alloc, machine, edges, 0, &learnt)
 }
 
-/// Learns the edge of a row at a word, if there is room for the row to which it leads.
+/// Learns the edge of a row at a word.
 pub fn learn_word(
     alloc: Global,
     words: &[Parts],
@@ -131,14 +130,21 @@ pub fn learn_word(
     ensures known { OnOk result (IsKnown (table_of words.now) machine.now edges.new) }
 {
     let pair = edges.pair_at(row);
-    if let Some(edge) = word_edge(alloc, words, machine, edges, pair, word)? {
-        edges.put(row, word, edge.at_row(row));
-    }
+    let edge = word_edge(alloc, words, machine, edges, pair, word)?;
+    edges.put(row, word, edge.at_row(row));
     Ok(())
 }
 
-/// The row of a state and a node. `None` where there is no such state or node, and where there is no room for the row: all
-/// is forgotten then.
+// Forgets all where it is time to.
+fn renew(edges: &mut Edges)
+    ensures { (t : Transducer) (g : Graph) → IsKnown t g edges.old → IsKnown t g edges.new }
+{
+    if edges.is_worn() {
+        edges.forget();
+    }
+}
+
+/// The row of a state and a node. `None` where there is no such state or node, and where there is no room for the row.
 pub fn row_for(
     machine: &Trimmed,
     edges: &mut Edges,
@@ -149,6 +155,7 @@ pub fn row_for(
     ensures known { IfOk result (λ o. (t : Transducer) → length t.states ≡ states → IsKnown t machine.now edges.old → IsKnown t machine.now edges.new) }
     ensures row { IfOk result (λ o. IfSome o (λ row. HasRowFor edges.new row state node)) }
 {
+    renew(edges);
     if let Some(row) = edges.find(state, node) {
         return Ok(Some(row));
     }
@@ -156,8 +163,5 @@ pub fn row_for(
         return Ok(None);
     }
     let row = edges.add(state, node)?;
-    if row.is_none() {
-        edges.forget();
-    }
     Ok(row)
 }

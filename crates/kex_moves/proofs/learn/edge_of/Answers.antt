@@ -1,4 +1,4 @@
-use Rattle.std.proofs.Common.{◌≡◌, ◌∙◌, true, [], length, Some, Option, sym, subst}
+use Rattle.std.proofs.Common.{◌≡◌, ◌∙◌, true, [], length, Some, sym, subst}
 use Rattle.std.specs.Prelude.{IfSome}
 use Rattle.std.proofs.lemmas.Bool.{eqb-true}
 use Rattle.kex_sst.specs.declared.table.Transition.{Transition}
@@ -8,7 +8,7 @@ use Rattle.kex_moves.specs.Edges.{is_known}
 use Rattle.kex_moves.specs.Walks.{Learns}
 use Rattle.kex_moves.specs.Known.{IsRight, IsLed}
 use Rattle.kex_moves.proofs.PlacedTexts.{map_ok}
-use Rattle.kex_moves.proofs.KnownEdges.{none_left, right_led, map_some}
+use Rattle.kex_moves.proofs.KnownEdges.{none_left, right_led}
 use Rattle.kex_moves.proofs.learn.edge_of.Goals as goal
 
 pub returns-clause-right : goal.returns-clause-right
@@ -25,4 +25,4 @@ returns-clause-right c =
     let bare : by.update.regs ≡ [] = sym c.regs.ensures ∙ none_left c.regs.result.now (eqb-true (length c.regs.result.now) 0 (sym c.if-not-is_empty.ensures)) in
     let same : c.as_slice.result.now ≡ by.update.out = c.as_slice.ensures ∙ c.out.ensures in
     let learns : Learns nodes p.node c.as_slice.result.now l.to l.actions.items = subst (λ o. IfSome o (λ l. Learns nodes p.node c.as_slice.result.now l.to l.actions.items)) c.in-Some-2.is (c.in_ok-learnt.ensures {u = tt}).learns in
-    map_ok (λ (o : Option Edge). IfSome o led) (λ (o : Option Edge). IfSome o right) c.lead.result (λ o h. map_some led right o (λ e q known. right_led t nodes k p c.args.class by c.as_slice.result.now l.to l.actions.items e goes bare same learns q known) h) c.lead.ensures.led
+    map_ok led right c.lead.result (λ e q known. right_led t nodes k p c.args.class by c.as_slice.result.now l.to l.actions.items e goes bare same learns q known) c.lead.ensures.led

@@ -1,7 +1,7 @@
 use Rattle.std.proofs.Common.{IfSome, subst}
 use Rattle.kex_action.specs.Actions.{after_actions}
 use Rattle.kex_moves.specs.Known.{HasRowFor, Settles}
-use Rattle.kex_moves.proofs.KnownEdges.{known_wider, known_longer, grows_wider, grows_longer, led}
+use Rattle.kex_moves.proofs.KnownEdges.{known_wider, known_longer, grows_wider, grows_longer, led, led_silent}
 use Rattle.kex_moves.proofs.learn.lead.Goals as goal
 
 pub returns-in_default-clause-known : goal.returns-in_default-clause-known
@@ -11,6 +11,9 @@ returns-in_default-clause-known c = λ t state known.
 
 pub returns-in_default-clause-grows : goal.returns-in_default-clause-grows
 returns-in_default-clause-grows c = grows_wider c.args.edges.now c.row_of.new.self c.args.state c.args.learnt.now.to (c.in_ok-row.ensures {u = tt}).wider
+
+pub returns-in_default-clause-led : goal.returns-in_default-clause-led
+returns-in_default-clause-led c = led_silent c.args.machine.now.nodes c.row_of.new.self c.args.state c.args.learnt.now.to c.args.learnt.now.actions.items c.plain.result c.plain.ensures
 
 pub returns-clause-known : goal.returns-clause-known
 returns-clause-known c = λ t state known.

@@ -18,9 +18,8 @@ returns-clause-known c =
     let mid = c.edge_of.new.edges in
     let p = c.pair_at-pair.result in
     let class = c.class_of-class.result in
-    let e = c.in-Some.edge in
+    let e = c.in_ok-edge.edge in
     let stands = c.at_row.ensures.same in
     let o = c.in_ok-edge.ensures {u = tt} in
     let row = o.grows.rows c.args.row p (subst (λ q. IsRowOf c.args.edges.now c.args.row q) (sym (c.pair_at-pair.ensures c.requires.row.0 c.requires.row.1)) c.requires.row.1) in
-    let right = subst (λ o. IfSome o (λ e. is_known e.kind ≡ true → IsRight t g.nodes mid p class e)) c.in-Some.is o.right in
-    known_put t g mid c.put.new.self c.args.row class p c.at_row.result o.known row (omega (arith, o.grows.width, c.class_of-class.ensures.within)) (right_at_row t g.nodes mid p class e c.at_row.result stands right) c.put.ensures.ordered c.put.ensures.put
+    known_put t g mid c.put.new.self c.args.row class p c.at_row.result o.known row (omega (arith, o.grows.width, c.class_of-class.ensures.within)) (right_at_row t g.nodes mid p class e c.at_row.result stands o.right) c.put.ensures.ordered c.put.ensures.put

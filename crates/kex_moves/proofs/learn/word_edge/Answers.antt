@@ -1,4 +1,4 @@
-use Rattle.std.proofs.Common.{◌≡◌, ◌∙◌, ◌<◌, true, [], length, Some, Option, refl, sym, ap, subst, arith}
+use Rattle.std.proofs.Common.{◌≡◌, ◌∙◌, ◌<◌, true, [], length, Some, refl, sym, ap, subst, arith}
 use Rattle.std.specs.Prelude.{slice_get, IfSome}
 use Rattle.std.proofs.lemmas.Bool.{ltb-true}
 use Rattle.std.proofs.lemmas.Option.{slice_get_read}
@@ -10,7 +10,7 @@ use Rattle.kex_moves.specs.Walks.{Learns}
 use Rattle.kex_moves.specs.Known.{IsRight, IsLed, IsKnown}
 use Rattle.kex_moves.specs.Speech.{table_of}
 use Rattle.kex_moves.proofs.PlacedTexts.{map_ok}
-use Rattle.kex_moves.proofs.KnownEdges.{right_led, map_some}
+use Rattle.kex_moves.proofs.KnownEdges.{right_led}
 use Rattle.kex_moves.proofs.PieceRuns.{by_word}
 use Rattle.kex_moves.proofs.learn.word_edge.Goals as goal
 
@@ -18,7 +18,7 @@ pub returns-clause-known : goal.returns-clause-known
 returns-clause-known c =
     let t = table_of c.args.words.now in
     let g = c.args.machine.now in
-    map_ok (λ (o : Option Edge). (t : Transducer) → 0 < length t.states → IsKnown t g c.args.edges.now → IsKnown t g c.lead.new.edges) (λ (o : Option Edge). IsKnown t g c.lead.new.edges) c.lead.result (λ o f. f t (omega arith) c.requires.known) c.lead.ensures.known
+    map_ok (λ (e : Edge). (t : Transducer) → 0 < length t.states → IsKnown t g c.args.edges.now → IsKnown t g c.lead.new.edges) (λ (e : Edge). IsKnown t g c.lead.new.edges) c.lead.result (λ e f. f t (omega arith) c.requires.known) c.lead.ensures.known
 
 pub returns-clause-right : goal.returns-clause-right
 returns-clause-right c =
@@ -37,4 +37,4 @@ returns-clause-right c =
     let first : p.state ≡ 0 = omega (arith, c.requires.pair.state) in
     let goes : transition_of t p.state c.args.word ≡ Some by = ap (λ s. transition_of t s c.args.word) first ∙ by_word words c.args.word word read in
     let learns : Learns nodes p.node c.as_slice.result.now l.to l.actions.items = subst (λ o. IfSome o (λ l. Learns nodes p.node c.as_slice.result.now l.to l.actions.items)) c.in-Some-2.is (c.in_ok-learnt.ensures {u = tt}).learns in
-    map_ok (λ (o : Option Edge). IfSome o led) (λ (o : Option Edge). IfSome o right) c.lead.result (λ o h. map_some led right o (λ e q known. right_led t nodes k p c.args.word by c.as_slice.result.now l.to l.actions.items e goes refl c.as_slice.ensures learns q known) h) c.lead.ensures.led
+    map_ok led right c.lead.result (λ e q known. right_led t nodes k p c.args.word by c.as_slice.result.now l.to l.actions.items e goes refl c.as_slice.ensures learns q known) c.lead.ensures.led

@@ -4,8 +4,8 @@ use Rattle.kex_moves.specs.Known.{Known, IsOrdered}
 use Rattle.kex_moves.proofs.AddedRows.{widens_none, ordered_wider, last_row}
 use Rattle.kex_moves.proofs.edges.Edges.add.Goals as goal
 
-pub returns-then-row-self-gt-MAX_EDGES-clause-wider : goal.returns-then-row-self-gt-MAX_EDGES-clause-wider
-returns-then-row-self-gt-MAX_EDGES-clause-wider c = widens_none c.args.self.now c.args.state c.args.node
+pub returns-then-not-has_room-clause-wider : goal.returns-then-not-has_room-clause-wider
+returns-then-not-has_room-clause-wider c = widens_none c.args.self.now c.args.state c.args.node
 
 pub invariant_of-self : goal.invariant_of-self
 invariant_of-self c =
