@@ -1,8 +1,24 @@
 //! Runs a table over bytes, and passes on its code as the bytes come.
 //!
-//! Stands on tables and their scripts. A `Runner` keeps neither its bytes nor its code: `StandsFor` relates it to the bytes that it was fed
-//! and the code that it has passed on; the clauses of `Runner::feed` and `Runner::end` carry this on. Its registers are the updates
-//! since they were last settled, and are looked up backwards, in words, where one of them is passed on.
+//! Stands on tables and their scripts. A `Runner` keeps neither its bytes nor its code: `IsRunOf`
+//! says which bytes it was fed, and which code it has passed on. `Runner::feed`, `hold` and `end`
+//! carry this on, and `jump` past bytes whose code was passed on elsewhere.
+//!
+//! Registers aren't written while bytes come. An update is noted with its byte, and a register is
+//! looked up backwards through the notes when it is passed on:
+//!
+//! ```text
+//! base | I | A a | A a | A a | A a |  then b passes on `0 R ·`
+//!        ◄─────── looked up ───────   L, L a, L a, L a, L a, R b
+//! ```
+//!
+//! Here `main := "1 " /a*b/ | "2 " /a*c/` is fed `aaaab`. I gives register 0 the symbol L and
+//! register 1 the symbol R. A puts `L ·` behind both, `·` being the byte; it passes nothing on
+//! and is noted four times. On b what register 0 holds is passed on, and then `R ·`: from the
+//! last note on, the way `0` is before A the same way and the word `L ·`, and before I the word
+//! `L` alone. So the pieces are `L`, four times `L ·` with a, and `R ·` with b: the code
+//! `LLaLaLaLaRb`. README.md has this byte by byte, and what notes, ways and settled registers
+//! are.
 #![tactic(auto)]
 
 mod answers;
