@@ -5,11 +5,12 @@ ghost use Rattle.kex_script.specs.Pages.{Keeps};
 
 use indexmap::IndexMap;
 use kex_code::memory::Memory;
-use kex_sst::parts::{Part, Parts, are_same, sum_of};
+use kex_sst::parts::{Part, Parts, are_same, hash_parts};
 use std::alloc::Global;
+use std::hash::{FoldHasher, Hasher};
 use std::marker::Model;
 
-/// Lists of parts by number. Equal ones are found by a sum of their parts; where two lists have one sum, the second isn't found again.
+/// Lists of parts by number. Equal ones are found by a hash of their parts; where two lists have one hash, the second isn't found again.
 #[derive(Drop)]
 pub struct Interned {
     alloc: Global,
@@ -37,6 +38,12 @@ fn parts_of(alloc: Global, all: &[Part]) -> Result<Parts, Memory>
     Ok(parts)
 }
 
+fn hash_of(parts: &[Part]) -> u64 {
+    let mut hasher = FoldHasher::default();
+    hash_parts(parts, &mut hasher);
+    hasher.finish()
+}
+
 impl Interned {
     /// No lists.
     pub fn new(alloc: Global) -> Interned
@@ -53,7 +60,7 @@ impl Interned {
     pub fn find(&self, parts: &[Part]) -> Option<u32>
         ensures { IfSome result (λ n. slice_get self.now n ≡ Some parts.now) }
     {
-        let number = *self.numbers.get(&sum_of(parts))?;
+        let number = *self.numbers.get(&hash_of(parts))?;
         let list = self.all.get(number as usize)?;
         if are_same(list.as_slice(), parts) {
             Some(number)
@@ -70,7 +77,7 @@ impl Interned {
         let Ok(number) = u32::try_from(self.all.len()) else {
             return Err(Memory);
         };
-        self.numbers.insert(sum_of(parts), number)?;
+        self.numbers.insert(hash_of(parts), number)?;
         self.all.push(parts_of(self.alloc, parts)?)?;
         Ok(number)
     }

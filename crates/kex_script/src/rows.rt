@@ -6,10 +6,11 @@ ghost use Rattle.kex_script.specs.Pages.{Keeps};
 use indexmap::IndexMap;
 use kex_code::memory::Memory;
 use std::alloc::Global;
+use std::hash::{FoldHasher, Hasher};
 use std::marker::Model;
 
-/// Rows of numbers, one behind the other, each known by its place. Equal ones are found by a sum of their numbers; where two rows have
-/// one sum, the first isn't found again.
+/// Rows of numbers, one behind the other, each known by its place. Equal ones are found by a hash of their numbers; where two rows have
+/// one hash, the first isn't found again.
 #[derive(Drop)]
 pub struct Rows {
     numbers: Vec<u32>,
@@ -24,13 +25,13 @@ impl Model for Rows {
     ghost view = { λ r. r.numbers.items };
 }
 
-// A sum of numbers in their order.
-fn sum_of(row: &[u32]) -> u64 {
-    let mut sum: u64 = 0xcbf2_9ce4_8422_2325;
+// A hash of numbers in their order.
+fn hash_of(row: &[u32]) -> u64 {
+    let mut hasher = FoldHasher::default();
     for number in row {
-        sum = (sum ^ u64::from(*number)).wrapping_mul(0x0000_0100_0000_01b3);
+        hasher.write_u32(*number);
     }
-    sum
+    hasher.finish()
 }
 
 // Whether a row stands at the front of numbers.
@@ -75,7 +76,7 @@ impl Rows {
         ensures { IfSome result (λ place. Keeps (drop at self.now) (drop place (take at self.now))) }
     {
         let row = &self.numbers[at..];
-        let place = *self.places.get(&sum_of(row))?;
+        let place = *self.places.get(&hash_of(row))?;
         let before = self.numbers[..at].get(place as usize..)?;
         if begins_with(before, row) {
             Some(place)
@@ -97,7 +98,7 @@ impl Rows {
             }
             None => {
                 self.places
-                    .insert(sum_of(&self.numbers[at as usize..]), at)?;
+                    .insert(hash_of(&self.numbers[at as usize..]), at)?;
                 Ok(at)
             }
         }
