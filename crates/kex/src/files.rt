@@ -5,22 +5,24 @@ ghost use Rattle.std.specs.Io.KnownBytes.{Consumes, IsAtEnd};
 ghost use Rattle.kex.specs.Opened.{IsWholeText};
 ghost use Rattle.kex_ports.specs.declared.shelf.ShelfAnswer.TheVariants.{Failed, TooLong, Memory};
 
+use crate::ready::read_once;
 use kex_ports::{Shelf, ShelfAnswer};
 use std::alloc::Global;
 use std::fs;
 use std::io::{Error, ErrorKind, Read};
 use std::rt::Files;
+use std::time::Clock;
 
 const BLOCK: usize = 4096;
 
 /// Files as a shelf, by their paths. No text is told, and each fault counts as one at a name that has a text.
 #[derive(Drop)]
-pub struct FileShelf<R: Files + Drop> {
+pub struct FileShelf<R: Files + Clock + Drop> {
     files: R,
     faults: u64,
 }
 
-impl<R: Files + Drop> FileShelf<R> {
+impl<R: Files + Clock + Drop> FileShelf<R> {
     pub fn new(files: R) -> Self
         ensures { ⟦<FileShelf<R> as Shelf>⟧.faults result ≡ 0 }
     {
@@ -40,7 +42,12 @@ fn answer(error: Error) -> ShelfAnswer
 }
 
 // Reads to the end, and no more than a byte past the limit.
-fn read_within<F: Read>(alloc: Global, file: &mut F, limit: usize) -> Result<Vec<u8>, ShelfAnswer>
+fn read_within<F: Read, C: Clock>(
+    clock: &C,
+    alloc: Global,
+    file: &mut F,
+    limit: usize,
+) -> Result<Vec<u8>, ShelfAnswer>
     ensures within { IfOk result (λ text. length text.items ≤ limit) }
     ensures read { IfOk result (λ text. Consumes (F.remaining file.old) (F.remaining file.new) text.items) }
     ensures end { IfOk result (λ text. IsAtEnd (F.remaining file.new)) }
@@ -50,7 +57,7 @@ fn read_within<F: Read>(alloc: Global, file: &mut F, limit: usize) -> Result<Vec
     let mut block = [0; BLOCK];
     while text.len() <= limit {
         let room = (limit - text.len()).min(BLOCK - 1) + 1;
-        let count = match file.read(&mut block[..room]) {
+        let count = match read_once(clock, file, &mut block[..room]) {
             Ok(count) => count,
             Err(error) => return Err(answer(error)),
         };
@@ -64,7 +71,7 @@ fn read_within<F: Read>(alloc: Global, file: &mut F, limit: usize) -> Result<Vec
     Err(ShelfAnswer::TooLong)
 }
 
-fn take_within<R: Files>(
+fn take_within<R: Files + Clock>(
     files: &R,
     alloc: Global,
     name: &str,
@@ -74,12 +81,12 @@ fn take_within<R: Files>(
     ensures whole { IfOk result (λ text. IsWholeText R.File.remaining text.items) }
 {
     match fs::open(files, name) {
-        Ok(mut file) => read_within(alloc, &mut file, limit),
+        Ok(mut file) => read_within(files, alloc, &mut file, limit),
         Err(error) => Err(answer(error)),
     }
 }
 
-impl<R: Files + Drop> Shelf for FileShelf<R> {
+impl<R: Files + Clock + Drop> Shelf for FileShelf<R> {
     ghost texts = { λ _. None };
 
     ghost faults = { λ s. s.faults };

@@ -7,6 +7,7 @@
 mod files;
 mod input;
 mod output;
+mod ready;
 
 use files::FileShelf;
 use input::Input;
@@ -38,7 +39,7 @@ fn words<R: Env + AllocGlobal>(rt: &R) -> Result<Vec<String>, (Status, Note)> {
 
 fn main(rt: HostRuntime) -> ExitCode {
     let alloc = rt.alloc();
-    let mut notes = Output::new(rt.stderr());
+    let mut notes = Output::new(rt.stderr(), &rt);
     let words = match words(&rt) {
         Ok(words) => words,
         Err((status, note)) => {
@@ -47,8 +48,8 @@ fn main(rt: HostRuntime) -> ExitCode {
         }
     };
     let mut shelf = FileShelf::new(&rt);
-    let mut input = Input::new(rt.stdin());
-    let mut output = Output::new(rt.stdout());
+    let mut input = Input::new(rt.stdin(), &rt);
+    let mut output = Output::new(rt.stdout(), &rt);
     let status = kex(
         &rt,
         alloc,

@@ -1,26 +1,33 @@
 // Output over a writer.
 ghost use Rattle.std.specs.Prelude.{◌≡◌, None};
 
+use crate::ready::{flush_once, write_once};
 use kex_ports::{Failed, Sink};
 use std::io::Write;
+use std::time::Clock;
 
 /// A writer as a sink, which tells what the writer tells of its bytes: standard output and standard error tell none.
 #[derive(Drop)]
-pub struct Output<W: Write + Drop> {
+pub struct Output<W: Write + Drop, C: Clock + Drop> {
     writer: W,
+    clock: C,
     faults: u64,
 }
 
-impl<W: Write + Drop> Output<W> {
-    pub fn new(writer: W) -> Self
-        ensures held { ⟦<Output<W> as Sink>⟧.held result ≡ W.contents writer }
-        ensures faults { ⟦<Output<W> as Sink>⟧.faults result ≡ 0 }
+impl<W: Write + Drop, C: Clock + Drop> Output<W, C> {
+    pub fn new(writer: W, clock: C) -> Self
+        ensures held { ⟦<Output<W, C> as Sink>⟧.held result ≡ W.contents writer }
+        ensures faults { ⟦<Output<W, C> as Sink>⟧.faults result ≡ 0 }
     {
-        Output { writer, faults: 0 }
+        Output {
+            writer,
+            clock,
+            faults: 0,
+        }
     }
 }
 
-impl<W: Write + Drop> Sink for Output<W> {
+impl<W: Write + Drop, C: Clock + Drop> Sink for Output<W, C> {
     ghost held = { λ s. W.contents s.writer };
 
     ghost faults = { λ s. s.faults };
@@ -28,7 +35,7 @@ impl<W: Write + Drop> Sink for Output<W> {
     ghost ending = { λ _. None };
 
     fn write(&mut self, bytes: &[u8]) -> Result<usize, Failed> {
-        match self.writer.write(bytes) {
+        match write_once(&self.clock, &mut self.writer, bytes) {
             Ok(count) if count > 0 || bytes.is_empty() => Ok(count),
             _ => {
                 self.faults = self.faults.saturating_add(1);
@@ -38,7 +45,7 @@ impl<W: Write + Drop> Sink for Output<W> {
     }
 
     fn finish(&mut self) -> Result<(), Failed> {
-        match self.writer.flush() {
+        match flush_once(&self.clock, &mut self.writer) {
             Ok(()) => Ok(()),
             Err(_) => {
                 self.faults = self.faults.saturating_add(1);

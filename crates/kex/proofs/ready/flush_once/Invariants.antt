@@ -1,0 +1,6 @@
+-- What calls that came to nothing leave.
+use Rattle.std.specs.Io.KnownBytes.{Keeps}
+use Rattle.kex.proofs.ready.flush_once.Given as goal
+
+abbrev pub invariant-loop-try : goal.invariant-loop-try
+invariant-loop-try g l = Keeps (g.W.Write.contents l.initial.writer) (g.W.Write.contents l.writer)
