@@ -30,8 +30,9 @@ pub(crate) struct Case<'a> {
     pub input: &'a [u8],
     pub held: &'a [u8],
     pub answer: &'a str,
-    /// The most bytes that one call reads or writes.
-    pub most: usize,
+    /// The most bytes that one call reads, and that one writes.
+    pub given: usize,
+    pub taken: usize,
     pub failing: Failing,
 }
 
@@ -43,7 +44,8 @@ pub(crate) fn plain<'a>() -> Case<'a> {
         input: b"",
         held: b"",
         answer: "0",
-        most: 2_000_000,
+        given: 2_000_000,
+        taken: 2_000_000,
         failing: NONE,
     }
 }
@@ -63,15 +65,15 @@ pub(crate) fn holds<R: Threads + Sync>(
     case: &Case<'_>,
 ) -> Result<bool, Fail> {
     let words = words_of(alloc, case.words)?;
-    let most = case.most.max(1);
+    let (given, taken) = (case.given.max(1), case.taken.max(1));
     let mut shelf = MemShelf::new(alloc, vec![in alloc; case.failing.take]?);
     shelf.put("p", case.program)?;
     let mut input = MemSource::new(
         case.input.to_vec(alloc)?,
-        most,
+        given,
         vec![in alloc; case.failing.read]?,
     );
-    let mut output = MemSink::new(alloc, 2_000_000, most, vec![in alloc; case.failing.write]?)?;
+    let mut output = MemSink::new(alloc, 2_000_000, taken, vec![in alloc; case.failing.write]?)?;
     let mut notes = MemSink::new(alloc, 256, 256, vec![in alloc; case.failing.note]?)?;
     let status = kex(
         rt,

@@ -21,8 +21,14 @@ code p # main := (/a?/ (1 | /b/))* # ab # 00'611'621 # 0
 code p # main := "<" /[ab]*?/ ">" /b*/ # abb # 1'6100'620'621 # 0
 code p # main := /a??/ "x" /a?/ # a # 00'61 # 0
 code p # main := (/a*/)* # aa # 00'610'6111 # 0
+code p # main := (/a*/)* # ab # 00'61 # 1 rejected: stage 1 at byte 1
+code p # main := ("x")+ #  # 1 # 0
 act p # main := ("x" | /a/)* # 001 # x # 0
 act p # main := (/a*/)* # 01011 #  # 0
+act p # main := (/a*/)* # 0101 #  # 1 rejected: stage 1 at byte 4 (end)
+act p # main := ("x")+ # 001 # xxx # 0
+act p --max-input 4 # main := "1" /ac/ | "2" /ab/ # 1'61'62 # 2a # 8 too long: stage 1 at byte 4
+act p --max-input 0 # main := "1" /ac/ | "2" /ab/ # 1'61'62 #  # 8 too long: stage 1 at byte 0
 test p # main := ((1 | 1)* /a?/)* # aa #  # 0
 test p # main := ((1 | 1)* /a?/)* # ab #  # 1 rejected: stage 1 at byte 1
 test p # main := /ab*c/ # abbc #  # 0
@@ -57,6 +63,11 @@ run p # main := main # a #  # 3 refused: K13 NoText in stage 1
 run p # main := /a/*?? # a #  # 3 refused: K02 Unexpected at line 1 column 14
 run p # main := /a*??/ # a #  # 3 refused: K03 BadRegex at line 1 column 13
 check p # main := (/a*/)* # a # stages 1 places 4 states 1$ # 0
+check p # main := ("x")+ # a # stages 1 places 4 states 1$ # 0
+run p # start: a >> b a := (/b*/)* b := /a/ b # a #  # 3 refused: K13 NoText in stage 2
+run p --states 1024 # main := /(a|b)*a(a|b){10}/ # a #  # 3 refused: K15 TooManyStates in stage 1
+run p --states 2047 # main := /(a|b)*a(a|b){10}/ # a #  # 3 refused: K15 TooManyStates in stage 1
+check p --states 2048 # main := /(a|b)*a(a|b){10}/ # a # stages 1 places 49 states 2048$ # 0
 check p # start: b >> a a := /a/ a b := /b*/ # a #  # 3 refused: K13 NoText in stage 2
 run p #  # a #  # 3 refused: K09 NoStart
 run # main := /a*/ # a #  # 2 usage: kex run|check|code|act|test PROGRAM [--states N] [--max-input N] [--block N] [--rings N] | kex trial N [--block N] [--rings N]

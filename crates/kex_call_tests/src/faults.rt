@@ -77,7 +77,8 @@ fn row_holds<R: Threads + Sync>(
         program: program.as_bytes(),
         input: input.as_bytes(),
         answer: parts.next().ok_or("no answer")?,
-        most: 1,
+        given: 1,
+        taken: 1,
         ..plain()
     };
     Ok(
@@ -96,14 +97,16 @@ fn each_call_fails(rt: HostRuntime) -> Result<(), Fail> {
     Ok(())
 }
 
-// A fault of writing is told before one of reading, and one of the notes changes no status.
+// A fault of writing is told before one of reading; a sink that takes two bytes a write holds two when its second write fails; and one of
+// the notes changes no status.
 #[test]
 fn other_calls_fail(rt: HostRuntime) -> Result<(), Fail> {
     let both = Case {
         input: b"aaa",
         held: b"aaa",
         answer: "5 write fault",
-        most: 1,
+        given: 1,
+        taken: 1,
         failing: Failing {
             read: 4,
             write: 4,
@@ -112,6 +115,20 @@ fn other_calls_fail(rt: HostRuntime) -> Result<(), Fail> {
         ..plain()
     };
     assert!(&rt; holds(&rt, rt.alloc(), &both)?);
+    let halves = Case {
+        held: b"aa",
+        taken: 2,
+        failing: Failing { write: 2, ..NONE },
+        ..both
+    };
+    assert!(&rt; holds(&rt, rt.alloc(), &Case { given: 3, ..halves })?);
+    let whole = Case {
+        held: b"aaa",
+        answer: "0",
+        failing: NONE,
+        ..halves
+    };
+    assert!(&rt; holds(&rt, rt.alloc(), &whole)?);
     let untold = Case {
         program: b"main := /ab*c/",
         input: b"abx",

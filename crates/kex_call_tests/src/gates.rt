@@ -91,3 +91,25 @@ fn a_stage_works_as_often_as_its_ring_wants(rt: HostRuntime) -> Result<(), Fail>
     }
     Ok(())
 }
+
+// A trial of one line, which has nine bytes, through two stages. Work begins once before the first byte, once for each block and once at
+// the end, and again where the first stage has written: it writes at the end of the line.
+#[test]
+fn a_trial_goes_by_blocks(rt: HostRuntime) -> Result<(), Fail> {
+    let rows = [
+        ("kex trial 1", 10),
+        ("kex trial 1 --block=9", 10),
+        ("kex trial 1 --block=3", 14),
+        ("kex trial 1 --block=1", 26),
+    ];
+    for (words, count) in rows {
+        let gate = CountGate {
+            entries: AtomicU32::new(0),
+        };
+        let (status, _) = call(&rt, rt.alloc(), words, b"", 0, &gate)?;
+        assert!(&rt; status == Status::Done, "{words}");
+        let counted = gate.entries.load(Ordering::SeqCst);
+        assert!(&rt; counted == count, "{words}: {counted}");
+    }
+    Ok(())
+}

@@ -1,6 +1,7 @@
 //! Long inputs, blocks and pieces, where memory is ample.
 use crate::call::{Case, Failing, NONE, holds, plain};
 use crate::long::around;
+use std::alloc::Global;
 use std::test::Fail;
 
 // A piece of more than a mebibyte into a second stage, and a fault of reading behind a block and a part of one.
@@ -87,5 +88,48 @@ fn the_rest_is_settled(rt: HostRuntime) -> Result<(), Fail> {
         ..plain()
     };
     assert!(&rt; holds(&rt, alloc, &case)?);
+    Ok(())
+}
+
+// Words, a program, what is given and what is held, each of these by its front, its middle, how often that stands there, and its end. There
+// are more than 65,536 bytes that are undecided, in a register, or in a code, and more edges of states are met.
+const MANY: &str = r#"
+run p # main := "1" /a*b/ | "2" /a*c/ # ,a,70000,c # 2,a,70000,c
+run p # main := r@/a*/ /b/ !r # ,a,70000,b # b,a,70000,
+code p # main := /a*/ # ,a,70000, # ,0'61,70000,1
+act p # main := /a*/ # ,0'61,70000,1 # ,a,70000,
+test p # main := /a*/ # ,a,70000, # ,,0,
+run p --states=65536 # main := /((ab){100}){100}/ # ,ab,10000, # ,ab,10000,
+"#;
+
+// A text by its four parts.
+fn text_of(alloc: Global, row: &str) -> Result<Vec<u8>, Fail> {
+    let mut parts = row.split(',');
+    let front = parts.next().ok_or("no front")?.as_bytes();
+    let middle = parts.next().ok_or("no middle")?.as_bytes();
+    let times = parts.next().ok_or("no number")?.parse::<u32>()?;
+    let end = parts.next().ok_or("no end")?.as_bytes();
+    let text = around(alloc, front, middle, times as usize, end)?;
+    Ok(text)
+}
+
+#[test]
+fn there_is_memory_for_more_than_65_536(rt: HostRuntime) -> Result<(), Fail> {
+    let alloc = rt.alloc();
+    for row in MANY.trim().lines() {
+        let mut parts = row.split(" # ");
+        let words = format!(in alloc; "kex {}", parts.next().ok_or("no words")?)?;
+        let program = parts.next().ok_or("no program")?;
+        let input = text_of(alloc, parts.next().ok_or("no input")?)?;
+        let held = text_of(alloc, parts.next().ok_or("no output")?)?;
+        let case = Case {
+            words: words.as_str(),
+            program: program.as_bytes(),
+            input: &input,
+            held: &held,
+            ..plain()
+        };
+        assert!(&rt; holds(&rt, alloc, &case)?, "{row}");
+    }
     Ok(())
 }

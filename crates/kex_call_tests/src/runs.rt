@@ -31,6 +31,13 @@ run p # main := ~(a@/x/) !a # x # x # 0
 run p # main := "p" r@(/a/ "q" /b/) "s" !r # ab # psaqb # 0
 run p # main := [r <- "a"] [r <- r "-" r] !r #  # a-a # 0
 run p # main := [r <- "a"] (~/x/ [r += r])* !r # xxx # aaaaaaaa # 0
+run p # main := (/a?/ (1 | /b/))* # ab # ab # 0
+run p # main := ("x" | /a/)* #  #  # 0
+run p # main := ("x" | /a/)* # aa # aa # 0
+run p # main := ("x")+ #  # x # 0
+run p # main := "x" main | 1 #  #  # 0
+run p # main := [r <- "-"] [r += "a"]* !r #  # - # 0
+run p # main := (/a*/)* # aab # aa # 1 rejected: stage 1 at byte 2
 run p # main := (~/x/ "y"){2,3} # x # y # 1 rejected: stage 1 at byte 1 (end)
 run p # main := (~/x/ "y"){2,3} # xxxx # yyy # 1 rejected: stage 1 at byte 3
 run p # main := "hi" /a/ #  # hi # 1 rejected: stage 1 at byte 0 (end)

@@ -28,6 +28,7 @@ main := /a{1000}/ => 1 2002 1001
 main := /a{1001}/ => bad count at byte 10
 start: a >> b a := (~/x/ "yy")* b := (~/yyy/ "z")* => 2 18 4
 start: a >> b a := /x*/ b := /y/ => 2 5 3
+start: a >> b a := (/b*/)* b := /a/ b => no text has a parse by stage 2
 main := "a => bad token at byte 8
 main := => unexpected token at byte 7
 main := /a(/ => bad regex at byte 11
@@ -40,7 +41,11 @@ main := /a/ main /b/ | 1 => the call at byte 12 comes back outside tail position
 main := (/a/ main)? 1 => the call at byte 13 comes back outside tail position
 main := /(a{200}){200}/ => stage 1 has too many places
 main := foo foo := /(a{216}){151}/ => stage 1 has too many places
+main := (/a*/)* => 1 4 1
+main := ("x" | /a/)* => 1 5 1
+main := "x" main | 1 => 1 6 1
 main := main => no text has a parse by stage 1
+main := "x" main => no text has a parse by stage 1
 main := /a/ main => no text has a parse by stage 1
 "#;
 

@@ -1,6 +1,6 @@
 //! Tests of the crates below the program, through their public calls.
 //!
-//! They stand in a crate of their own, which has nothing else but a light stage for them: a crate with tests is proved twice. Only what no clause says is
+//! They stand in a crate of their own, which has nothing else but two stages for them: a crate with tests is proved twice. Only what no clause says is
 //! tested: that calls answer with ample memory, what a worked example comes to, and what is found, learnt and met.
 //!
 //! A module tests the crate of its name. Its rows are lines of text, so that another row costs no proof.
@@ -16,6 +16,8 @@ pub mod copier;
 #[cfg(test)]
 mod made;
 #[cfg(test)]
+mod many;
+#[cfg(test)]
 mod moves;
 #[cfg(test)]
 mod paths;
@@ -25,6 +27,7 @@ mod pipe;
 mod ports;
 #[cfg(test)]
 mod reader;
+pub mod refusing;
 #[cfg(test)]
 mod regexp;
 #[cfg(test)]

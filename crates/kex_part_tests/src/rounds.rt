@@ -1,9 +1,10 @@
-//! Rounds: stages that work at once, and one that wants memory.
+//! Rounds: stages that work at once or one after another, and one that wants memory.
 use crate::copier::{copy, failing};
+use crate::refusing::{Watch, refusing_after};
 use kex_pipe::pipe::{Pipe, PipeFault};
 use kex_ports::{Gate, MeetGate, OpenGate};
 use kex_rounds::round::round;
-use std::sync::atomic::{AtomicU32, Ordering};
+use std::sync::atomic::Ordering;
 use std::test::Fail;
 
 #[test]
@@ -21,18 +22,38 @@ fn any_two_stages_meet(rt: HostRuntime) -> Result<(), Fail> {
     Ok(())
 }
 
-// Counts the stages that have left.
-#[derive(Drop)]
-struct CountGate {
-    left: AtomicU32,
+// Turns one after another end too, and the stage that comes first sees no other.
+#[test]
+fn turns_one_after_another(rt: HostRuntime) -> Result<(), Fail> {
+    let alloc = rt.alloc();
+    let mut pipe = Pipe::new(alloc, vec![in alloc; copy(), copy()]?)?;
+    pipe.give(b"ab")?;
+    let gate = MeetGate::default();
+    gate.enter(1);
+    pipe.turn(1, 9)?;
+    gate.leave(1);
+    gate.enter(2);
+    pipe.turn(2, 9)?;
+    gate.leave(2);
+    assert_eq!(rt; pipe.take_output().as_slice(), b"ab".as_slice());
+    assert!(rt; gate.saw(2) && !gate.saw(1));
+    Ok(())
 }
 
-impl Gate for CountGate {
-    fn enter(&self, _stage: u32) {}
-
-    fn leave(&self, _stage: u32) {
-        self.left.fetch_add(1, Ordering::SeqCst);
-    }
+// A stage enters the gate before its work, and leaves it.
+#[test]
+fn work_is_done_inside_the_gate(rt: HostRuntime) -> Result<(), Fail> {
+    let alloc = rt.alloc();
+    let watch = Watch::new();
+    let stages = vec![in alloc; refusing_after(copy(), &watch, 1_000)]?;
+    let mut pipe = Pipe::new(alloc, stages)?;
+    pipe.give(b"ab")?;
+    round(&rt, &mut pipe, &watch)?;
+    assert_eq!(rt; watch.inside.load(Ordering::SeqCst), 1);
+    assert_eq!(rt; watch.outside.load(Ordering::SeqCst), 0);
+    assert_eq!(rt; watch.entered.load(Ordering::SeqCst), 1);
+    assert_eq!(rt; watch.left.load(Ordering::SeqCst), 1);
+    Ok(())
 }
 
 // The stages beside the one that wants memory end their work.
@@ -42,9 +63,7 @@ fn memory_in_a_round(rt: HostRuntime) -> Result<(), Fail> {
     let mut pipe = Pipe::new(alloc, vec![in alloc; copy(), failing(1), copy()]?)?;
     pipe.give(b"ab")?;
     round(&rt, &mut pipe, &OpenGate)?;
-    let gate = CountGate {
-        left: AtomicU32::new(0),
-    };
+    let gate = Watch::new();
     assert!(rt; matches!(round(&rt, &mut pipe, &gate), Err(PipeFault::Memory)));
     assert_eq!(rt; gate.left.load(Ordering::SeqCst), 3);
     assert!(rt; !pipe.settled());

@@ -11,6 +11,14 @@ fn words_of(alloc: Global, line: &str) -> Result<Vec<String>, AllocError> {
     Ok(words)
 }
 
+// What words ask for, or why they ask for nothing.
+fn answer(alloc: Global, words: &[String]) -> Result<String, AllocError> {
+    match read(alloc, words) {
+        Ok(command) => format!(in alloc; "{command:?}"),
+        Err(refusal) => format!(in alloc; "{refusal:?}"),
+    }
+}
+
 const LINES: &str = r#"
 kex run p => Stream { mode: Run(States { most: 4096 }), program: "p", limits: Limits { max_input: 281474976710656, block: 65536, rings: None } }
 kex run --block 1 p --max-input 3 => Stream { mode: Run(States { most: 4096 }), program: "p", limits: Limits { max_input: 3, block: 1, rings: None } }
@@ -64,12 +72,9 @@ fn words_are_read(rt: HostRuntime) -> Result<(), Fail> {
     for row in LINES.trim().lines() {
         let (line, want) = row.split_once(" => ").ok_or("no answer")?;
         let words = words_of(rt.alloc(), line)?;
-        let got = match read(rt.alloc(), words.as_slice()) {
-            Ok(command) => format!(in rt.alloc(); "{command:?}")?,
-            Err(refusal) => format!(in rt.alloc(); "{refusal:?}")?,
-        };
+        let got = answer(rt.alloc(), words.as_slice())?;
         assert_eq!(rt; got.as_str(), want, "at {line}");
     }
-    assert!(rt; read(rt.alloc(), &[]).is_err());
+    assert_eq!(rt; answer(rt.alloc(), &[])?.as_str(), "Usage");
     Ok(())
 }
