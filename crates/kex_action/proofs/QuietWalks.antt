@@ -9,7 +9,7 @@ use Rattle.kex_model.proofs.Derivations.{from_accept, from_read, from_choose, fr
 use Rattle.kex_model.proofs.DistinctItems.{different_fits}
 use Rattle.kex_machine.specs.declared.MNode.{MNode}
 use Rattle.kex_machine.specs.declared.MNode.TheVariants.{Accept, Read, Choice, Forced, Do, Skip}
-use Rattle.kex_machine.specs.Nodes.{Graph, node_moves, move_of, IsBelow, IsInRange, IsTrimmed, HasMuteLoop}
+use Rattle.kex_machine.specs.Nodes.{Graph, node_moves, move_of, IsBelow, IsMachineInRange, IsTrimmed, HasMuteLoop}
 use Rattle.kex_action.proofs.WalkEffects.{parts_none}
 
 -- all numbers below n
@@ -49,10 +49,10 @@ entered_by (Some (Do e m)) n r k h a = subst (λ q. target_of q < n) (sym (from_
 entered_by (Some (Skip m)) n r k h a = subst (λ q. target_of q < n) (sym (from_go a)) h
 
 -- steps lead to nodes
-pub entered_in : (g : Graph) (s : ℕ) (k : Step ℕ) → IsInRange g.start g.nodes g.registers → Allows (node_moves g.nodes s) k → target_of k < length g.nodes
+pub entered_in : (g : Graph) (s : ℕ) (k : Step ℕ) → IsMachineInRange g.start g.nodes g.registers → Allows (node_moves g.nodes s) k → target_of k < length g.nodes
 entered_in g s k range a = entered_by (slice_get g.nodes s) (length g.nodes) g.registers k (some_in (IsBelow (length g.nodes) g.registers) g.nodes s range.below) a
 
-pub walked_in : (g : Graph) (ks : List (Step ℕ)) (s t : ℕ) → IsInRange g.start g.nodes g.registers → s < length g.nodes → Walk (node_moves g.nodes) s ks t → t < length g.nodes
+pub walked_in : (g : Graph) (ks : List (Step ℕ)) (s t : ℕ) → IsMachineInRange g.start g.nodes g.registers → s < length g.nodes → Walk (node_moves g.nodes) s ks t → t < length g.nodes
 walked_in g [] s t range h w = subst (λ q. q < length g.nodes) w h
 walked_in g (k ∷ ks) s t range h w = walked_in g ks (target_of k) t range (entered_in g s k range w.0) w.1
 
@@ -83,12 +83,12 @@ length-places : (ks : List (Step ℕ)) → length (map target_of ks) ≡ length 
 length-places [] = refl
 length-places (k ∷ ks) = ap suc (length-places ks)
 
-all_below : (g : Graph) (ks : List (Step ℕ)) (s t x : ℕ) → IsInRange g.start g.nodes g.registers → s < length g.nodes → Walk (node_moves g.nodes) s ks t → IsAmong (s ∷ map target_of ks) x → x < length g.nodes
+all_below : (g : Graph) (ks : List (Step ℕ)) (s t x : ℕ) → IsMachineInRange g.start g.nodes g.registers → s < length g.nodes → Walk (node_moves g.nodes) s ks t → IsAmong (s ∷ map target_of ks) x → x < length g.nodes
 all_below g ks s t x range h w (inl e) = subst (λ q. q < length g.nodes) e h
 all_below g [] s t x range h w (inr i) = absurd i
 all_below g (k ∷ ks) s t x range h w (inr i) = all_below g ks (target_of k) t x range (entered_in g s k range w.0) w.1 i
 
-pub walk_short : (g : Graph) (ks : List (Step ℕ)) (s t : ℕ) → IsTrimmed g → IsInRange g.start g.nodes g.registers → s < length g.nodes → Walk (node_moves g.nodes) s ks t → code_of ks ≡ [] → length ks < length g.nodes
+pub walk_short : (g : Graph) (ks : List (Step ℕ)) (s t : ℕ) → IsTrimmed g → IsMachineInRange g.start g.nodes g.registers → s < length g.nodes → Walk (node_moves g.nodes) s ks t → code_of ks ≡ [] → length ks < length g.nodes
 walk_short g ks s t trim range h w c =
     let fits : length (s ∷ map target_of ks) ≤ length (below (length g.nodes)) = different_fits (s ∷ map target_of ks) (below (length g.nodes)) (different g.nodes ks s t trim.no_mute_loop w c) (λ x i. is_below (length g.nodes) x (all_below g ks s t x range h w i)) in
     let n : length (below (length g.nodes)) ≡ length g.nodes = length-below (length g.nodes) in

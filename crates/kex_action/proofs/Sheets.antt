@@ -5,49 +5,49 @@ use Rattle.std.proofs.lemmas.List.{take_more, take-append-drop, take-append-le, 
 use Rattle.kex_code.specs.Registers.{Registers, content_of, with_content, pieces_text}
 use Rattle.kex_code.specs.declared.piece.Piece.{Piece}
 use Rattle.kex_model.specs.Moves.{open_buffer, drop_buffer, into, write, set_to, add_to}
-use Rattle.kex_model.specs.Acting.{State, after_effect}
+use Rattle.kex_model.specs.Acting.{ActingState, after_effect}
 use Rattle.kex_machine.specs.declared.MNode.{MNode}
 use Rattle.kex_action.specs.declared.action.Action.{Action}
 use Rattle.kex_action.specs.Actions.{after_action, after_actions}
 use Rattle.kex_action.proofs.Actions.{done-more, length-done}
 use Rattle.kex_action.specs.declared.sheet.Sheet.{Sheet}
 use Rattle.kex_action.specs.Holdings.{Holding, with_bytes, state_of}
-use Rattle.kex_action.specs.Sheets.{with_buffer, with_marked_bytes, AreMarks, IsSheet, IsBlank, IsSame, Writes, Closes, state_with}
+use Rattle.kex_action.specs.Sheets.{with_buffer, with_marked_bytes, AreMarks, IsSheet, IsBlank, IsSame, Writes, ClosesBuffer, state_with}
 
 -- the same state with other registers
-abbrev pub with_registers : Registers → State → State
+abbrev pub with_registers : Registers → ActingState → ActingState
 with_registers regs s = record { out = s.out; buffers = s.buffers; registers = regs }
 
-adds_twice : (xs ys out : List ℕ) (bs : List (List ℕ)) (regs : Registers) → let s : State = record { out = out; buffers = bs; registers = regs } in with_bytes (xs ++ ys) s ≡ with_bytes ys (with_bytes xs s)
+adds_twice : (xs ys out : List ℕ) (bs : List (List ℕ)) (regs : Registers) → let s : ActingState = record { out = out; buffers = bs; registers = regs } in with_bytes (xs ++ ys) s ≡ with_bytes ys (with_bytes xs s)
 adds_twice xs ys out [] regs = ap (λ (l : List ℕ). record { out = l; buffers = []; registers = regs }) (sym (append_assoc out xs ys))
 adds_twice xs ys out (b ∷ bs) regs = ap (λ (l : List ℕ). record { out = out; buffers = l ∷ bs; registers = regs }) (sym (append_assoc b xs ys))
 
-adds_none : (out : List ℕ) (bs : List (List ℕ)) (regs : Registers) → let s : State = record { out = out; buffers = bs; registers = regs } in with_bytes [] s ≡ s
+adds_none : (out : List ℕ) (bs : List (List ℕ)) (regs : Registers) → let s : ActingState = record { out = out; buffers = bs; registers = regs } in with_bytes [] s ≡ s
 adds_none out [] regs = ap (λ (l : List ℕ). record { out = l; buffers = []; registers = regs }) (append-nil out)
 adds_none out (b ∷ bs) regs = ap (λ (l : List ℕ). record { out = out; buffers = l ∷ bs; registers = regs }) (append-nil b)
 
-adds_with : (xs out : List ℕ) (bs : List (List ℕ)) (regs more : Registers) → let s : State = record { out = out; buffers = bs; registers = regs } in with_bytes xs (with_registers more s) ≡ with_registers more (with_bytes xs s)
+adds_with : (xs out : List ℕ) (bs : List (List ℕ)) (regs more : Registers) → let s : ActingState = record { out = out; buffers = bs; registers = regs } in with_bytes xs (with_registers more s) ≡ with_registers more (with_bytes xs s)
 adds_with xs out [] regs more = refl
 adds_with xs out (b ∷ bs) regs more = refl
 
-adds_registers : (xs out : List ℕ) (bs : List (List ℕ)) (regs : Registers) → let s : State = record { out = out; buffers = bs; registers = regs } in (with_bytes xs s).registers ≡ regs
+adds_registers : (xs out : List ℕ) (bs : List (List ℕ)) (regs : Registers) → let s : ActingState = record { out = out; buffers = bs; registers = regs } in (with_bytes xs s).registers ≡ regs
 adds_registers xs out [] regs = refl
 adds_registers xs out (b ∷ bs) regs = refl
 
 -- nothing stands on it
-pub laid_none : (s : State) → with_marked_bytes [] [] s ≡ s
+pub laid_none : (s : ActingState) → with_marked_bytes [] [] s ≡ s
 laid_none s = adds_none s.out s.buffers s.registers
 
 -- bytes more
-pub laid_adds : (bytes more ms : List ℕ) (s : State) → AreMarks (length bytes) ms → with_marked_bytes (bytes ++ more) ms s ≡ with_bytes more (with_marked_bytes bytes ms s)
+pub laid_adds : (bytes more ms : List ℕ) (s : ActingState) → AreMarks (length bytes) ms → with_marked_bytes (bytes ++ more) ms s ≡ with_bytes more (with_marked_bytes bytes ms s)
 laid_adds bytes more [] s h = adds_twice bytes more s.out s.buffers s.registers
 laid_adds bytes more (m ∷ ms) s h = ap₂ (λ x y. with_buffer x (with_marked_bytes y ms s)) (drop-append-le m bytes more h.0) (take-append-le m bytes more h.0)
 
-pub laid_registers : (bytes ms : List ℕ) (s : State) → (with_marked_bytes bytes ms s).registers ≡ s.registers
+pub laid_registers : (bytes ms : List ℕ) (s : ActingState) → (with_marked_bytes bytes ms s).registers ≡ s.registers
 laid_registers bytes [] s = adds_registers bytes s.out s.buffers s.registers
 laid_registers bytes (m ∷ ms) s = laid_registers (take m bytes) ms s
 
-pub laid_with : (bytes ms : List ℕ) (regs : Registers) (s : State) → with_marked_bytes bytes ms (with_registers regs s) ≡ with_registers regs (with_marked_bytes bytes ms s)
+pub laid_with : (bytes ms : List ℕ) (regs : Registers) (s : ActingState) → with_marked_bytes bytes ms (with_registers regs s) ≡ with_registers regs (with_marked_bytes bytes ms s)
 laid_with bytes [] regs s = adds_with bytes s.out s.buffers s.registers regs
 laid_with bytes (m ∷ ms) regs s = ap (with_buffer (drop m bytes)) (laid_with (take m bytes) ms regs s)
 
@@ -58,22 +58,22 @@ drop_all (x ∷ xs) zero e = absurd (omega arith)
 drop_all (x ∷ xs) (suc n) e = drop_all xs n (omega arith)
 
 -- a buffer is opened at the end
-pub laid_opens : (bytes ms : List ℕ) (m : ℕ) (s : State) → m ≡ length bytes → with_marked_bytes bytes (m ∷ ms) s ≡ after_effect open_buffer (with_marked_bytes bytes ms s)
+pub laid_opens : (bytes ms : List ℕ) (m : ℕ) (s : ActingState) → m ≡ length bytes → with_marked_bytes bytes (m ∷ ms) s ≡ after_effect open_buffer (with_marked_bytes bytes ms s)
 laid_opens bytes ms m s e = ap₂ (λ x y. with_buffer x (with_marked_bytes y ms s)) (drop_all bytes m e) (ap (λ n. take n bytes) e ∙ take-length bytes)
 
 -- a register takes the innermost
-pub laid_into : (bytes ms : List ℕ) (m r : ℕ) (s : State) → with_marked_bytes (take m bytes) ms (with_registers (with_content s.registers r (drop m bytes)) s) ≡ after_effect (into r) (with_marked_bytes bytes (m ∷ ms) s)
+pub laid_into : (bytes ms : List ℕ) (m r : ℕ) (s : ActingState) → with_marked_bytes (take m bytes) ms (with_registers (with_content s.registers r (drop m bytes)) s) ≡ after_effect (into r) (with_marked_bytes bytes (m ∷ ms) s)
 laid_into bytes ms m r s =
     let z = with_marked_bytes (take m bytes) ms s in
     laid_with (take m bytes) ms (with_content s.registers r (drop m bytes)) s ∙ ap (λ regs. with_registers (with_content regs r (drop m bytes)) z) (sym (laid_registers (take m bytes) ms s))
 
-pub laid_writes : (bytes ms : List ℕ) (r : ℕ) (s : State) → AreMarks (length bytes) ms → with_marked_bytes (bytes ++ content_of s.registers r) ms s ≡ after_effect (write r) (with_marked_bytes bytes ms s)
+pub laid_writes : (bytes ms : List ℕ) (r : ℕ) (s : ActingState) → AreMarks (length bytes) ms → with_marked_bytes (bytes ++ content_of s.registers r) ms s ≡ after_effect (write r) (with_marked_bytes bytes ms s)
 laid_writes bytes ms r s h = laid_adds bytes (content_of s.registers r) ms s h ∙ ap (λ regs. with_bytes (content_of regs r) (with_marked_bytes bytes ms s)) (sym (laid_registers bytes ms s))
 
-pub laid_sets : (bytes ms : List ℕ) (r : ℕ) (parts : List Piece) (s : State) → with_marked_bytes bytes ms (with_registers (with_content s.registers r (pieces_text parts s.registers)) s) ≡ after_effect (set_to r parts) (with_marked_bytes bytes ms s)
+pub laid_sets : (bytes ms : List ℕ) (r : ℕ) (parts : List Piece) (s : ActingState) → with_marked_bytes bytes ms (with_registers (with_content s.registers r (pieces_text parts s.registers)) s) ≡ after_effect (set_to r parts) (with_marked_bytes bytes ms s)
 laid_sets bytes ms r parts s = laid_with bytes ms (with_content s.registers r (pieces_text parts s.registers)) s ∙ ap (λ regs. with_registers (with_content regs r (pieces_text parts regs)) (with_marked_bytes bytes ms s)) (sym (laid_registers bytes ms s))
 
-pub laid_joins : (bytes ms : List ℕ) (r : ℕ) (parts : List Piece) (s : State) → with_marked_bytes bytes ms (with_registers (with_content s.registers r (content_of s.registers r ++ pieces_text parts s.registers)) s) ≡ after_effect (add_to r parts) (with_marked_bytes bytes ms s)
+pub laid_joins : (bytes ms : List ℕ) (r : ℕ) (parts : List Piece) (s : ActingState) → with_marked_bytes bytes ms (with_registers (with_content s.registers r (content_of s.registers r ++ pieces_text parts s.registers)) s) ≡ after_effect (add_to r parts) (with_marked_bytes bytes ms s)
 laid_joins bytes ms r parts s = laid_with bytes ms (with_content s.registers r (content_of s.registers r ++ pieces_text parts s.registers)) s ∙ ap (λ regs. with_registers (with_content regs r (content_of regs r ++ pieces_text parts regs)) (with_marked_bytes bytes ms s)) (sym (laid_registers bytes ms s))
 
 -- among more bytes
@@ -117,7 +117,7 @@ next_mark used ms i d a h =
     record { within = omega (arith, r.1, r.2.0); marks = r.2.1; behind = last_within m (reverse (take i ms)) r.2.1; more = more }
 
 -- what stands up to a place is handed on
-pub handed : (bytes ds : List ℕ) (from to : ℕ) (s z z' : State) → from ≡ last_of ds → AreMarks to ds → to ≤ length bytes → z ≡ with_marked_bytes (take from bytes) ds s → z' ≡ with_bytes (take (to - from) (drop from bytes)) z → z' ≡ with_marked_bytes (take to bytes) ds s
+pub handed : (bytes ds : List ℕ) (from to : ℕ) (s z z' : ActingState) → from ≡ last_of ds → AreMarks to ds → to ≤ length bytes → z ≡ with_marked_bytes (take from bytes) ds s → z' ≡ with_bytes (take (to - from) (drop from bytes)) z → z' ≡ with_marked_bytes (take to bytes) ds s
 handed bytes ds from to s z z' e a h was is =
     let le : from ≤ to = omega (arith, e, last_within to ds a) in
     let n : length (take from bytes) ≡ from = length-take-le from bytes (omega (arith, le, h)) in
@@ -148,16 +148,16 @@ opened s s' out h sheet marks bytes used =
     ∙ laid_opens (take s.used s.bytes.items) (reverse s.marks.items) s.used z (sym (length-take-le s.used s.bytes.items sheet.used))
 
 -- what stood before the innermost buffer, and the buffer
-closed : (s s' : Sheet) (z : State) → Closes s s' → with_marked_bytes (take s.used s.bytes.items) (reverse s.marks.items) z ≡ with_marked_bytes (take s.used s.bytes.items) (s'.used ∷ reverse s'.marks.items) z
+closed : (s s' : Sheet) (z : ActingState) → ClosesBuffer s s' → with_marked_bytes (take s.used s.bytes.items) (reverse s.marks.items) z ≡ with_marked_bytes (take s.used s.bytes.items) (s'.used ∷ reverse s'.marks.items) z
 closed s s' z c = ap (λ ms. with_marked_bytes (take s.used s.bytes.items) ms z) (ap reverse c.marks ∙ reversed s'.marks.items s'.used)
 
-front : (s s' : Sheet) → Closes s s' → take s'.used s'.bytes.items ≡ take s'.used (take s.used s.bytes.items)
+front : (s s' : Sheet) → ClosesBuffer s s' → take s'.used s'.bytes.items ≡ take s'.used (take s.used s.bytes.items)
 front s s' c = ap (take s'.used) c.kept ∙ sym (take-take s'.used s.used s.bytes.items c.within)
 
-pub dropped : (s s' : Sheet) (out : List ℕ) (h : Holding) → Closes s s' → state_with s' out h ≡ after_effect drop_buffer (state_with s out h)
+pub dropped : (s s' : Sheet) (out : List ℕ) (h : Holding) → ClosesBuffer s s' → state_with s' out h ≡ after_effect drop_buffer (state_with s out h)
 dropped s s' out h c = ap (λ b. with_marked_bytes b (reverse s'.marks.items) (state_of out h)) (front s s' c) ∙ sym (ap (after_effect drop_buffer) (closed s s' (state_of out h) c))
 
-pub taken : (s s' : Sheet) (bytes out : List ℕ) (r : ℕ) (h : Holding) → Closes s s' → bytes ≡ take (s.used - s'.used) (drop s'.used s'.bytes.items) → state_with s' out (record { buffers = h.buffers; registers = with_content h.registers r bytes }) ≡ after_effect (into r) (state_with s out h)
+pub taken : (s s' : Sheet) (bytes out : List ℕ) (r : ℕ) (h : Holding) → ClosesBuffer s s' → bytes ≡ take (s.used - s'.used) (drop s'.used s'.bytes.items) → state_with s' out (record { buffers = h.buffers; registers = with_content h.registers r bytes }) ≡ after_effect (into r) (state_with s out h)
 taken s s' bytes out r h c e =
     let z = state_of out h in
     let all = take s.used s.bytes.items in
@@ -190,7 +190,7 @@ pub handed_count : (s : Sheet) (h h' : Holding) (out out' : List ℕ) → state_
 handed_count s h h' out out' e = ap (λ z. length z.registers) e ∙ ap length (laid_registers (take s.used s.bytes.items) (reverse s.marks.items) (state_of out h))
 
 -- one action more
-pub done_more : (nodes : List MNode) (b : ℕ) (xs : List Action) (i : ℕ) (d : Action) (s z z' : State) → i < length xs → z ≡ after_actions nodes b (take i xs) s → z' ≡ after_action nodes b (get_or xs i d) z → z' ≡ after_actions nodes b (take (i + 1) xs) s
+pub done_more : (nodes : List MNode) (b : ℕ) (xs : List Action) (i : ℕ) (d : Action) (s z z' : ActingState) → i < length xs → z ≡ after_actions nodes b (take i xs) s → z' ≡ after_action nodes b (get_or xs i d) z → z' ≡ after_actions nodes b (take (i + 1) xs) s
 done_more nodes b xs i d s z z' h was is = is ∙ ap (after_action nodes b (get_or xs i d)) was ∙ sym (done-more nodes b xs i d s h)
 
 pub if_ok : {T E : Type 0} (P Q : T → Type 0) (r : Result T E) → ((x : T) → P x → Q x) → IfOk r P → IfOk r Q

@@ -5,7 +5,7 @@ use Rattle.kex_code.specs.Codes.{Begins}
 use Rattle.kex_model.specs.Moves.{Step, code_of}
 use Rattle.kex_machine.specs.Nodes.{Graph, node_moves}
 use Rattle.kex_machine.specs.Answers.{start_state, IsRun, left_by}
-use Rattle.kex_action.specs.Holdings.{Holding, state_of, Rests, Leads}
+use Rattle.kex_action.specs.Holdings.{Holding, state_of, Rests, LeadsByCode}
 
 -- an actor: its machine, the node where it stands, what it holds, whether it was given what is no code, and whether
 -- no call has answered want of memory
@@ -25,12 +25,12 @@ abbrev pub BeginsRun : Graph → List Symbol → Type 0
 BeginsRun g c = (ks : List (Step ℕ)) × IsRun g ks × Begins (code_of ks) c
 
 -- c is a run's whole code
-abbrev pub IsWhole : Graph → List Symbol → Type 0
-IsWhole g c = (ks : List (Step ℕ)) × IsRun g ks × (code_of ks ≡ c)
+abbrev pub IsWholeCode : Graph → List Symbol → Type 0
+IsWholeCode g c = (ks : List (Step ℕ)) × IsRun g ks × (code_of ks ≡ c)
 
 -- of all symbols that were given the actor has performed c, and out are all bytes that were written
 pub record HasPerformed (a : Position) (given c : List Symbol) (out : List ℕ) : Type 0 where
-  pub came : Leads a.machine.nodes a.machine.start (start_state a.machine.registers) c a.at (state_of out a.holding)
+  pub came : LeadsByCode a.machine.nodes a.machine.start (start_state a.machine.registers) c a.at (state_of out a.holding)
   -- out and the registers are what every run leaves whose code begins with c
   pub left : IsSettled a → (ks : List (Step ℕ)) → IsRun a.machine ks → Begins (code_of ks) c → left_by a.machine ks c ≡ state_of out a.holding
   pub all : a.refused ≡ false → given ≡ c

@@ -5,17 +5,17 @@ use Rattle.kex_code.specs.declared.symbol.Symbol.TheVariants.{L, R, Byte}
 use Rattle.kex_code.specs.Codes.{Begins}
 use Rattle.kex_code.specs.Registers.{Registers, with_content}
 use Rattle.kex_model.specs.Moves.{Move, accept, read, choose, forced, go, to_left, to_right, Effect, Step, took, chose, went, Allows, code_of, Walk}
-use Rattle.kex_model.specs.Acting.{State, after_append, after_effect, after_steps}
+use Rattle.kex_model.specs.Acting.{ActingState, after_append, after_effect, after_steps}
 use Rattle.kex_machine.specs.declared.MNode.{MNode}
 use Rattle.kex_machine.specs.declared.MNode.TheVariants.{Do}
-use Rattle.kex_machine.specs.Nodes.{Graph, node_moves, HasRegisters, IsInRange, IsTrimmed}
+use Rattle.kex_machine.specs.Nodes.{Graph, node_moves, HasRegisters, IsMachineInRange, IsTrimmed}
 
 -- the open buffers, the innermost first, and the registers
 pub record Holding : Type 0 where
   pub buffers : List (List ℕ)
   pub registers : Registers
 
-abbrev pub state_of : List ℕ → Holding → State
+abbrev pub state_of : List ℕ → Holding → ActingState
 state_of out h = record { out = out; buffers = h.buffers; registers = h.registers }
 
 -- what comes next is a symbol, or the end
@@ -27,22 +27,22 @@ Rests (forced x n) = Unit {0}
 Rests (go e n) = ⊥
 
 -- steps with the code c lead from s to t, and make of one state the other
-pub record Leads (nodes : List MNode) (s : ℕ) (before : State) (c : List Symbol) (t : ℕ) (after : State) : Type 0 where
+pub record LeadsByCode (nodes : List MNode) (s : ℕ) (before : ActingState) (c : List Symbol) (t : ℕ) (after : ActingState) : Type 0 where
   pub steps : List (Step ℕ)
   pub walk : Walk (node_moves nodes) s steps t
   pub codes : code_of steps ≡ c
   pub did : after_steps steps c before ≡ after
 
 -- bytes are written
-abbrev pub with_bytes : List ℕ → State → State
+abbrev pub with_bytes : List ℕ → ActingState → ActingState
 with_bytes bytes s = after_append bytes s.out s.buffers s.registers
 
 -- steps with the code c lead from s to t, and make f of every state
-abbrev pub Does : List MNode → ℕ → List Symbol → ℕ → (State → State) → Type 0
-Does nodes s c t f = (before : State) → Leads nodes s before c t (f before)
+abbrev pub Does : List MNode → ℕ → List Symbol → ℕ → (ActingState → ActingState) → Type 0
+Does nodes s c t f = (before : ActingState) → LeadsByCode nodes s before c t (f before)
 
 -- some steps, whose code c begins with, write so much
-pub record WritesFront (nodes : List MNode) (s : ℕ) (before : State) (c : List Symbol) (out : List ℕ) : Type 0 where
+pub record WritesFront (nodes : List MNode) (s : ℕ) (before : ActingState) (c : List Symbol) (out : List ℕ) : Type 0 where
   pub steps : List (Step ℕ)
   pub to : ℕ
   pub walk : Walk (node_moves nodes) s steps to
@@ -65,9 +65,9 @@ pub record Fits (g : Graph) (n : ℕ) (h : Holding) : Type 0 where
   pub count : length h.registers ≡ g.registers
 
 -- the machine is trimmed and in range, and what can be used of the actor fits it
-pub record IsSound (g : Graph) (n : ℕ) (h : Holding) (usable : Bool) : Type 0 where
+pub record IsActorSound (g : Graph) (n : ℕ) (h : Holding) (usable : Bool) : Type 0 where
   pub trimmed : IsTrimmed g
-  pub in_range : IsInRange g.start g.nodes g.registers
+  pub in_range : IsMachineInRange g.start g.nodes g.registers
   pub fits : IsTrue usable → Fits g n h
 
 -- the step that gives the symbol and enters t
@@ -77,15 +77,15 @@ step_by R t = chose to_right t
 step_by (Byte b) t = took b t
 
 -- from n the symbols were followed as far as there are steps for them, to t, and then all was done that needs none
-pub record Followed (g : Graph) (n : ℕ) (before : State) (symbols : List Symbol) (count t : ℕ) (out : List ℕ) (h : Holding) : Type 0 where
-  pub leads : Leads g.nodes n before (take count symbols) t (state_of out h)
+pub record FollowedCode (g : Graph) (n : ℕ) (before : ActingState) (symbols : List Symbol) (count t : ℕ) (out : List ℕ) (h : Holding) : Type 0 where
+  pub leads : LeadsByCode g.nodes n before (take count symbols) t (state_of out h)
   pub rests : Rests (node_moves g.nodes t)
   pub fits : Fits g t h
   pub within : count ≤ length symbols
   pub none : (y : Symbol) (s : ℕ) → slice_get symbols count ≡ Some y → Allows (node_moves g.nodes t) (step_by y s) → ⊥
 
 -- steps without a symbol lead from s to t
-pub record Reaches (nodes : List MNode) (s t : ℕ) : Type 0 where
+pub record ReachesSilently (nodes : List MNode) (s t : ℕ) : Type 0 where
   pub steps : List (Step ℕ)
   pub walk : Walk (node_moves nodes) s steps t
   pub codes : code_of steps ≡ []
@@ -96,7 +96,7 @@ CanAct registers (Do e n) = HasRegisters registers e
 CanAct registers _ = Unit {0}
 
 -- a step without a symbol leads to t, and makes of one state the other
-pub record Passes (m : Move ℕ) (before : State) (t : ℕ) (after : State) : Type 0 where
+pub record PassesMove (m : Move ℕ) (before : ActingState) (t : ℕ) (after : ActingState) : Type 0 where
   pub effect : Effect
   pub allowed : Allows m (went effect t)
   pub did : after_effect effect before ≡ after

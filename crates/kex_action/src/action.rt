@@ -1,7 +1,7 @@
 // What is done along a walk, for every byte at once.
 
 ghost use Rattle.std.specs.Prelude.{◌≡◌, ◌≤◌, false, IfOk, IfSome, IsTrue, OnOk, List, ℕ, length, take};
-ghost use Rattle.kex_model.specs.Acting.{State, after_effect};
+ghost use Rattle.kex_model.specs.Acting.{ActingState, after_effect};
 ghost use Rattle.kex_machine.specs.Nodes.{node_moves, effect_of, HasRegisters};
 ghost use Rattle.kex_action.specs.Holdings.{state_of};
 ghost use Rattle.kex_action.specs.Actions.{after_move, after_action, after_actions};
@@ -60,7 +60,7 @@ pub fn act_all(
 // What a node does, if it does anything.
 #[inline(always)]
 fn effect_at(machine: &Trimmed, n: u32) -> Option<&Effect>
-    ensures did { IfSome result (λ e. (s : State) → after_move (node_moves machine.now.nodes n) s ≡ after_effect (effect_of e.now) s) }
+    ensures did { IfSome result (λ e. (s : ActingState) → after_move (node_moves machine.now.nodes n) s ≡ after_effect (effect_of e.now) s) }
     ensures registers { IfSome result (λ e. HasRegisters machine.now.registers e.now) }
 {
     match machine.nodes().get(n as usize) {

@@ -5,8 +5,8 @@ ghost use Rattle.kex_code.specs.Registers.{content_of};
 ghost use Rattle.kex_code.specs.declared.symbol.Symbol.{Symbol};
 ghost use Rattle.kex_action.specs.Holdings.{Does, state_of};
 ghost use Rattle.kex_action.specs.Actions.{after_actions};
-ghost use Rattle.kex_action.specs.Actors.{HasPerformed, TookAll, WentOn, IsWhole};
-ghost use Rattle.kex_action.specs.Faults.{After};
+ghost use Rattle.kex_action.specs.Actors.{HasPerformed, TookAll, WentOn, IsWholeCode};
+ghost use Rattle.kex_action.specs.Faults.{AfterFault};
 ghost use Rattle.kex_action.specs.Sheets.{IsSheet, IsAsLong, IsBlank, state_with};
 
 use crate::action::{Action, act_all, act_on};
@@ -42,14 +42,14 @@ pub struct Actor<'m> {
 }
 
 impl<'m> Model for Actor<'m> {
-    ghost use Rattle.kex_action.specs.Holdings.{IsSound};
+    ghost use Rattle.kex_action.specs.Holdings.{IsActorSound};
     ghost use Rattle.kex_action.specs.Actors.{Position};
 
     ghost Value = { Position };
 
     ghost view = { λ a. record { machine = a.machine.now; at = a.at; holding = a.store; refused = a.refused; usable = a.usable } };
 
-    ghost invariant = { λ a. IsSound a.machine.now a.at a.store a.usable };
+    ghost invariant = { λ a. IsActorSound a.machine.now a.at a.store a.usable };
 }
 
 impl<'m> Actor<'m> {
@@ -78,7 +78,7 @@ impl<'m> Actor<'m> {
     pub fn take(&mut self, symbols: &[Symbol], out: &mut Vec<u8>) -> Result<(), ActFault>
         requires { IsTrue self.old.usable }
         ensures ok { OnOk result (TookAll self.old self.new symbols.now out.old.items out.new.items) }
-        ensures err { IfErr result (λ fault. After fault self.old self.new symbols.now out.old.items out.new.items) }
+        ensures err { IfErr result (λ fault. AfterFault fault self.old self.new symbols.now out.old.items out.new.items) }
         ensures machine { self.new.machine ≡ self.old.machine }
         ensures usable { IsTrue self.new.usable ↔ (¬ (result ≡ Err ActFault.Memory)) }
     {
@@ -173,7 +173,7 @@ impl<'m> Actor<'m> {
     /// Whether what was performed is a parse's whole code.
     pub fn at_end(&self) -> bool
         requires { IsTrue self.now.usable }
-        ensures { (given c : List Symbol) (out : List ℕ) → HasPerformed self.now given c out → (IsTrue result ↔ IsWhole self.now.machine c) }
+        ensures { (given c : List Symbol) (out : List ℕ) → HasPerformed self.now given c out → (IsTrue result ↔ IsWholeCode self.now.machine c) }
     {
         let end = rest_of(self.machine, self.at);
         is_end(&self.machine.machine().nodes()[end as usize])

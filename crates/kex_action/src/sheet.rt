@@ -1,7 +1,7 @@
 // What an actor has written and not handed on yet.
 
 ghost use Rattle.std.specs.Prelude.{◌≡◌, ◌++◌, [], ◌∷◌, IfOk, OnOk, IfSome, IfNone, IsTrue, false, length};
-ghost use Rattle.kex_action.specs.Sheets.{IsSheet, IsAsLong, IsBlank, IsSame, Writes, Closes};
+ghost use Rattle.kex_action.specs.Sheets.{IsSheet, IsAsLong, IsBlank, IsSame, Writes, ClosesBuffer};
 
 use crate::buffer::Buffer;
 use crate::piece::{PIECE, copy_piece};
@@ -130,7 +130,7 @@ impl Sheet {
     #[inline(always)]
     pub(crate) fn close(&mut self) -> Option<usize>
         requires { IsSheet self.old }
-        ensures some { IfSome result (λ end. (end ≡ self.old.used) × Closes self.old self.new) }
+        ensures some { IfSome result (λ end. (end ≡ self.old.used) × ClosesBuffer self.old self.new) }
         ensures none { IfNone result (IsSame self.old self.new) }
         ensures sheet { IsSheet self.new }
     {

@@ -3,7 +3,7 @@
 ghost use Rattle.std.specs.Prelude.{◌≡◌, ◌<◌, [], ◌∷◌, ℕ, IfOk, OnErr, IfSome, IfNone, IsTrue, ◌↔◌, length};
 ghost use Rattle.kex_model.specs.Moves.{Allows, accept, symbol_of};
 ghost use Rattle.kex_machine.specs.Nodes.{node_moves, move_of, side_of};
-ghost use Rattle.kex_action.specs.Holdings.{state_of, step_by, Rests, Fits, Leads, WritesFront, Followed, Reaches, CanAct, Passes, IsPassed};
+ghost use Rattle.kex_action.specs.Holdings.{state_of, step_by, Rests, Fits, LeadsByCode, WritesFront, FollowedCode, ReachesSilently, CanAct, PassesMove, IsPassed};
 
 use crate::store::Store;
 use kex_code::memory::Memory;
@@ -41,7 +41,7 @@ fn next_of(node: &MNode, symbol: Symbol) -> Option<u32>
 // Does what a node does without a symbol, and tells where it leads.
 fn pass(node: &MNode, store: &mut Store, out: &mut Vec<u8>) -> Result<Option<u32>, Memory>
     requires { CanAct (length store.old.registers) node.now }
-    ensures some { IfOk result (λ o. IfSome o (λ t. Passes (move_of (Some node.now)) (state_of out.old.items store.old) t (state_of out.new.items store.new))) }
+    ensures some { IfOk result (λ o. IfSome o (λ t. PassesMove (move_of (Some node.now)) (state_of out.old.items store.old) t (state_of out.new.items store.new))) }
     ensures none { IfOk result (λ o. IfNone o (Rests (move_of (Some node.now)))) }
     ensures same { IfOk result (λ o. IfNone o (state_of out.new.items store.new ≡ state_of out.old.items store.old)) }
     ensures err { OnErr result (out.new.items ≡ out.old.items) }
@@ -71,7 +71,7 @@ fn passed(node: &MNode) -> Option<u32>
 // Goes on until a symbol or the end comes next.
 fn go_on(machine: &Trimmed, from: u32, store: &mut Store, out: &mut Vec<u8>) -> Result<u32, Memory>
     requires { Fits machine.now from store.old }
-    ensures leads { IfOk result (λ t. Leads machine.now.nodes from (state_of out.old.items store.old) [] t (state_of out.new.items store.new)) }
+    ensures leads { IfOk result (λ t. LeadsByCode machine.now.nodes from (state_of out.old.items store.old) [] t (state_of out.new.items store.new)) }
     ensures rests { IfOk result (λ t. Rests (node_moves machine.now.nodes t)) }
     ensures fits { IfOk result (λ t. Fits machine.now t store.new) }
     ensures err { OnErr result (WritesFront machine.now.nodes from (state_of out.old.items store.old) [] out.new.items) }
@@ -97,7 +97,7 @@ fn step(
     out: &mut Vec<u8>,
 ) -> Result<Option<u32>, Memory>
     requires { Fits machine.now from store.old }
-    ensures some { IfOk result (λ o. IfSome o (λ t. Leads machine.now.nodes from (state_of out.old.items store.old) (symbol ∷ []) t (state_of out.new.items store.new))) }
+    ensures some { IfOk result (λ o. IfSome o (λ t. LeadsByCode machine.now.nodes from (state_of out.old.items store.old) (symbol ∷ []) t (state_of out.new.items store.new))) }
     ensures fits { IfOk result (λ o. IfSome o (λ t. Fits machine.now t store.new)) }
     ensures none { IfOk result (λ o. IfNone o ((t : ℕ) → Allows (node_moves machine.now.nodes from) (step_by symbol t) → ⊥)) }
     ensures same { IfOk result (λ o. IfNone o (state_of out.new.items store.new ≡ state_of out.old.items store.old)) }
@@ -122,7 +122,7 @@ pub fn follow(
     out: &mut Vec<u8>,
 ) -> Result<Walked, Memory>
     requires { Fits machine.now from store.old }
-    ensures ok { IfOk result (λ w. Followed machine.now from (state_of out.old.items store.old) symbols.now w.count w.at out.new.items store.new) }
+    ensures ok { IfOk result (λ w. FollowedCode machine.now from (state_of out.old.items store.old) symbols.now w.count w.at out.new.items store.new) }
     ensures err { OnErr result (WritesFront machine.now.nodes from (state_of out.old.items store.old) symbols.now out.new.items) }
 {
     let mut at = go_on(machine, from, store, out)?;
@@ -141,7 +141,7 @@ pub fn follow(
 // The node to which a walk without a symbol leads.
 pub fn rest_of(machine: &Trimmed, from: u32) -> u32
     requires { from < length machine.now.nodes }
-    ensures leads { Reaches machine.now.nodes from result }
+    ensures leads { ReachesSilently machine.now.nodes from result }
     ensures rests { Rests (node_moves machine.now.nodes result) }
     ensures within { result < length machine.now.nodes }
 {

@@ -6,7 +6,7 @@ use Rattle.std.proofs.lemmas.Bool.{cases_eq}
 use Rattle.std.proofs.lemmas.List.{length-set, get_or-set_same, get_or-set_other, length-replicate, get_or-replicate, length-append, get_or_append_left, take_more}
 use Rattle.std.proofs.lemmas.List.Elements.{All-append, All-cons, All-nil, All-get_or, All-from_get_or}
 use Rattle.kex_byteset.specs.Sets.{has}
-use Rattle.kex_byteset.specs.Classes.{class_at, class_count, AreAlike, IsNumbered, IsRefinedBy, number_of, number_or, count_with}
+use Rattle.kex_byteset.specs.Classes.{class_at, class_count, AreAlike, IsNumbered, IsRefinedBy, new_number, number_or, count_with}
 
 -- the first n bytes have their new classes, of which there are so many
 pub record IsBegun (old : List ℕ) (s : List Bool) (new : List ℕ) (n count : ℕ) : Type 0 where
@@ -21,8 +21,8 @@ pub record IsBegun (old : List ℕ) (s : List Bool) (new : List ℕ) (n count : 
 -- the numbers that were given to old classes, of the first n bytes that are in the set (or aren't)
 pub record AreNumbers (old : List ℕ) (s : List Bool) (new : List ℕ) (n : ℕ) (v : Bool) (numbers : List (Option ℕ)) : Type 0 where
   pub long : length numbers ≡ 256
-  pub some : (c m : ℕ) → number_of numbers c ≡ Some m → (i : ℕ) × (i < n) × (class_at old i ≡ c) × (has s i ≡ v) × (class_at new i ≡ m)
-  pub none : (c : ℕ) → c < 256 → number_of numbers c ≡ None → (i : ℕ) → i < n → class_at old i ≡ c → has s i ≡ v → ⊥
+  pub some : (c m : ℕ) → new_number numbers c ≡ Some m → (i : ℕ) × (i < n) × (class_at old i ≡ c) × (has s i ≡ v) × (class_at new i ≡ m)
+  pub none : (c : ℕ) → c < 256 → new_number numbers c ≡ None → (i : ℕ) → i < n → class_at old i ≡ c → has s i ≡ v → ⊥
 
 under : (i n : ℕ) → i < n + 1 → (i < n) ⊎ (i ≡ n)
 under i n h = grind arith
@@ -98,13 +98,13 @@ module _ (old : List ℕ) (s : List Bool) (new : List ℕ) (n m : ℕ) (long : l
     ];
   }
     where
-      at_own : (c : ℕ) → c ≡ class_at old n → number_of (added numbers) c ≡ Some m
-      at_own c q = ap (number_of (added numbers)) q ∙ get_or-set_same numbers (class_at old n) (Some m) None (omega (arith, lt, t.long))
+      at_own : (c : ℕ) → c ≡ class_at old n → new_number (added numbers) c ≡ Some m
+      at_own c q = ap (new_number (added numbers)) q ∙ get_or-set_same numbers (class_at old n) (Some m) None (omega (arith, lt, t.long))
 
-      own : (c k : ℕ) → c ≡ class_at old n → number_of (added numbers) c ≡ Some k → m ≡ k
+      own : (c k : ℕ) → c ≡ class_at old n → new_number (added numbers) c ≡ Some k → m ≡ k
       own c k q e = let p : Some m ≡ Some k = sym (at_own c q) ∙ e in cc
 
-      some_here : (c : ℕ) → c ≡ class_at old n → number_of (added numbers) c ≡ None → ⊥
+      some_here : (c : ℕ) → c ≡ class_at old n → new_number (added numbers) c ≡ None → ⊥
       some_here c q e = let p : Some m ≡ None = sym (at_own c q) ∙ e in cc
 
   pub other_numbers : (v : Bool) (numbers : List (Option ℕ)) → (has s n ≡ v → ⊥) → AreNumbers old s new n v numbers → AreNumbers old s more (n + 1) v numbers
@@ -138,20 +138,20 @@ module _ (old : List ℕ) (s : List Bool) (new : List ℕ) (n count : ℕ) (b : 
   }
 
   -- the byte's number is that of its old class, or the next
-  pub numbered_on : (numbers : List (Option ℕ)) → class_at old n < 256 → AreNumbers old s new n (has s n) numbers → IsBegun old s (set new n (number_or count (number_of numbers (class_at old n)))) (n + 1) (count_with count (number_of numbers (class_at old n)))
-  numbered_on numbers lt t = by (number_of numbers (class_at old n)) refl
+  pub numbered_on : (numbers : List (Option ℕ)) → class_at old n < 256 → AreNumbers old s new n (has s n) numbers → IsBegun old s (set new n (number_or count (new_number numbers (class_at old n)))) (n + 1) (count_with count (new_number numbers (class_at old n)))
+  numbered_on numbers lt t = by (new_number numbers (class_at old n)) refl
     where
-      by : (x : Option ℕ) → number_of numbers (class_at old n) ≡ x → IsBegun old s (set new n (number_or count x)) (n + 1) (count_with count x)
+      by : (x : Option ℕ) → new_number numbers (class_at old n) ≡ x → IsBegun old s (set new n (number_or count x)) (n + 1) (count_with count x)
       by None e = goes_on old s new n count b.long in_range count (count + 1) b (fresh (λ i li ec hi. t.none (class_at old n) lt e i li ec hi))
       by (Some m) e = let r = t.some (class_at old n) m e in goes_on old s new n m b.long in_range count count b (found m r.0 r.1 r.2 r.3 r.4)
 
   -- and a number that was given is below the count
-  pub given_below : (numbers : List (Option ℕ)) → AreNumbers old s new n (has s n) numbers → (m : ℕ) → number_of numbers (class_at old n) ≡ Some m → m < count
+  pub given_below : (numbers : List (Option ℕ)) → AreNumbers old s new n (has s n) numbers → (m : ℕ) → new_number numbers (class_at old n) ≡ Some m → m < count
   given_below numbers t m e = let r = t.some (class_at old n) m e in omega (arith, b.below r.0 r.1, r.4)
 
   -- the byte has its number, from the table of the bytes that are in the set as it is, or aren't
   pub next_byte : (numbers others now_numbers : List (Option ℕ)) (v w : Bool) (m now : ℕ) → has s n ≡ v → (v ≡ w → ⊥) → class_at old n < 256 → AreNumbers old s new n v numbers → AreNumbers old s new n w others
-      → m ≡ number_or count (number_of numbers (class_at old n)) → now_numbers ≡ set numbers (class_at old n) (Some m) → now ≡ count_with count (number_of numbers (class_at old n))
+      → m ≡ number_or count (new_number numbers (class_at old n)) → now_numbers ≡ set numbers (class_at old n) (Some m) → now ≡ count_with count (new_number numbers (class_at old n))
       → IsBegun old s (set new n m) (n + 1) now × AreNumbers old s (set new n m) (n + 1) v now_numbers × AreNumbers old s (set new n m) (n + 1) w others
   next_byte numbers others now_numbers v w m now e differs lt t u is puts counts =
       let own = subst (λ x. AreNumbers old s new n x numbers) (sym e) t in (
@@ -180,12 +180,12 @@ no_numbers old s new v = record {
   none = λ c cl e i lt ec hi. omega arith;
 }
   where
-    none_in : (k c : ℕ) → number_of (replicate k None) c ≡ None
+    none_in : (k c : ℕ) → new_number (replicate k None) c ≡ None
     none_in zero c = refl
     none_in (suc k) zero = refl
     none_in (suc k) (suc c) = none_in k c
 
-    none_at : (c : ℕ) → number_of (replicate 256 None) c ≡ None
+    none_at : (c : ℕ) → new_number (replicate 256 None) c ≡ None
     none_at c = none_in 256 c
 
     no_some : (m : ℕ) → Some m ≡ None → ⊥

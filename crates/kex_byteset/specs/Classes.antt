@@ -25,8 +25,8 @@ pub record IsRefinedBy (classes : List ℕ) (sets : List (List Bool)) : Type 0 w
   pub alike : (a b : ℕ) → a < 256 → b < 256 → (class_at classes a ≡ class_at classes b) ↔ AreAlike sets a b
 
 -- the number that was given to an old class, if one was
-abbrev pub number_of : List (Option ℕ) → ℕ → Option ℕ
-number_of numbers class = get_or numbers class None
+abbrev pub new_number : List (Option ℕ) → ℕ → Option ℕ
+new_number numbers class = get_or numbers class None
 
 abbrev pub number_or : ℕ → Option ℕ → ℕ
 number_or next None = next

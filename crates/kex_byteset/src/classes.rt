@@ -1,7 +1,7 @@
 //! The classes of bytes that sets do not tell apart.
 
 ghost use Rattle.std.specs.Prelude.{◌≡◌, ℕ, ◌<◌, ◌≤◌, Bool, List, [], ◌∷◌, ◌++◌, length, set};
-ghost use Rattle.kex_byteset.specs.Classes.{class_at, class_count, IsNumbered, IsRefinedBy, number_of, number_or, count_with};
+ghost use Rattle.kex_byteset.specs.Classes.{class_at, class_count, IsNumbered, IsRefinedBy, new_number, number_or, count_with};
 
 use crate::ByteSet;
 use std::marker::Model;
@@ -105,9 +105,9 @@ fn count_of(classes: &[u8; 256]) -> u16
 // The number that an old class has, or the next one, which it then has.
 fn number_in(numbers: &mut [Option<u8>; 256], class: u8, count: &mut u16) -> u8
     requires { count.old < 256 }
-    ensures number { result ≡ number_or count.old (number_of numbers.old class) }
+    ensures number { result ≡ number_or count.old (new_number numbers.old class) }
     ensures numbers { numbers.new ≡ set numbers.old class (Some result) }
-    ensures count { count.new ≡ count_with count.old (number_of numbers.old class) }
+    ensures count { count.new ≡ count_with count.old (new_number numbers.old class) }
 {
     let known = numbers[usize::from(class)];
     let number = match known {

@@ -57,11 +57,11 @@ fn stages_meet(rt: HostRuntime) -> Result<(), Fail> {
 
 // Counts how often stages begin their work.
 #[derive(Drop)]
-struct CountGate {
+struct EntryGate {
     entries: AtomicU32,
 }
 
-impl Gate for CountGate {
+impl Gate for EntryGate {
     fn enter(&self, _stage: u32) {
         self.entries.fetch_add(1, Ordering::SeqCst);
     }
@@ -81,7 +81,7 @@ fn a_stage_works_as_often_as_its_ring_wants(rt: HostRuntime) -> Result<(), Fail>
         ("kex run p --rings=4096", 2_000, 3),
     ];
     for (words, bytes, count) in rows {
-        let gate = CountGate {
+        let gate = EntryGate {
             entries: AtomicU32::new(0),
         };
         let (status, _) = call(&rt, rt.alloc(), words, plain().program, bytes, &gate)?;
@@ -103,7 +103,7 @@ fn a_trial_goes_by_blocks(rt: HostRuntime) -> Result<(), Fail> {
         ("kex trial 1 --block=1", 26),
     ];
     for (words, count) in rows {
-        let gate = CountGate {
+        let gate = EntryGate {
             entries: AtomicU32::new(0),
         };
         let (status, _) = call(&rt, rt.alloc(), words, b"", 0, &gate)?;

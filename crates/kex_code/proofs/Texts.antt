@@ -5,14 +5,14 @@ use Rattle.kex_code.specs.declared.symbol.Symbol.{Symbol}
 use Rattle.kex_code.specs.declared.symbol.Symbol.TheVariants.{L, R, Byte}
 use Rattle.kex_code.specs.declared.reader.Begun.{Begun}
 use Rattle.kex_code.specs.declared.reader.Begun.TheVariants.{Nothing, Quote, Digit}
-use Rattle.kex_code.specs.Texts.{quote, text_of, IsCode, BeginsText, IsBegun, Spells}
+use Rattle.kex_code.specs.Texts.{apostrophe, text_of, IsCode, BeginsText, IsBegun, SpellsCode}
 use Rattle.kex_code.specs.Begun.{text_begun, IsPart}
 
 pub text_of-append : (c d : List Symbol) → text_of (c ++ d) ≡ text_of c ++ text_of d
 text_of-append [] d = refl
 text_of-append (L ∷ c) d = ap (λ z. digit_char 0 ∷ z) (text_of-append c d)
 text_of-append (R ∷ c) d = ap (λ z. digit_char 1 ∷ z) (text_of-append c d)
-text_of-append (Byte b ∷ c) d = ap (λ z. quote ∷ digit_char (b / 16) ∷ digit_char (b % 16) ∷ z) (text_of-append c d)
+text_of-append (Byte b ∷ c) d = ap (λ z. apostrophe ∷ digit_char (b / 16) ∷ digit_char (b % 16) ∷ z) (text_of-append c d)
 
 pub IsCode-append : (c d : List Symbol) → IsCode c → IsCode d → IsCode (c ++ d)
 IsCode-append [] d h k = k
@@ -47,7 +47,7 @@ begins_behind c s (d, k, (more, e)) =
     let r = text_behind c d (s ++ more) k (e ∙ append_assoc (text_of c) s more) in
     (r.0, r.1, (more, r.2))
 
-pub spells_begins : (w : List ℕ) (c : List Symbol) (s : List ℕ) → Spells w c s → BeginsText w
+pub spells_begins : (w : List ℕ) (c : List Symbol) (s : List ℕ) → SpellsCode w c s → BeginsText w
 spells_begins w c s h =
     let (x, next, more, k, e) = h.front in (
       c ++ x ∷ [],
@@ -65,7 +65,7 @@ high_of v lt = omega arith
 pub is_begun : (p : Begun) → IsPart p → IsBegun (text_begun p)
 is_begun Nothing h = (L, digit_char 0, [], tt, refl)
 is_begun Quote h = (Byte 0, digit_char 0, digit_char 0 ∷ [], (omega arith, tt), refl)
-is_begun (Digit v) h = (Byte (16 * v), digit_char (16 * v % 16), [], (omega arith, tt), ap (λ z. quote ∷ digit_char z ∷ digit_char (16 * v % 16) ∷ []) (high_of v h))
+is_begun (Digit v) h = (Byte (16 * v), digit_char (16 * v % 16), [], (omega arith, tt), ap (λ z. apostrophe ∷ digit_char z ∷ digit_char (16 * v % 16) ∷ []) (high_of v h))
 
 -- a code's text that is what is begun is empty
 pub none_begun : (p : Begun) (d : List Symbol) → text_of d ≡ text_begun p → text_begun p ≡ []
@@ -91,13 +91,13 @@ no_first b zero one mark (R ∷ d, k, (more, e)) = one (sym (ap (λ z. get_or z 
 no_first b zero one mark (Byte a ∷ d, k, (more, e)) = mark (sym (ap (λ z. get_or z 0 0) e))
 
 -- a byte that is no digit
-pub no_digit : (b : ℕ) → ((v : ℕ) → v < 16 → b ≡ digit_char v → ⊥) → BeginsText (quote ∷ b ∷ []) → ⊥
+pub no_digit : (b : ℕ) → ((v : ℕ) → v < 16 → b ≡ digit_char v → ⊥) → BeginsText (apostrophe ∷ b ∷ []) → ⊥
 no_digit b none ([], k, (more, e)) = cc
 no_digit b none (L ∷ d, k, (more, e)) = clash 48 39 _ _ (λ h. omega arith) e
 no_digit b none (R ∷ d, k, (more, e)) = clash 49 39 _ _ (λ h. omega arith) e
 no_digit b none (Byte a ∷ d, k, (more, e)) = let lt : a < 256 = k.0 in none (a / 16) (omega arith) (sym (ap (λ z. get_or z 1 0) e))
 
-pub no_second_digit : (v b : ℕ) → ((v : ℕ) → v < 16 → b ≡ digit_char v → ⊥) → BeginsText (quote ∷ digit_char v ∷ b ∷ []) → ⊥
+pub no_second_digit : (v b : ℕ) → ((v : ℕ) → v < 16 → b ≡ digit_char v → ⊥) → BeginsText (apostrophe ∷ digit_char v ∷ b ∷ []) → ⊥
 no_second_digit v b none ([], k, (more, e)) = cc
 no_second_digit v b none (L ∷ d, k, (more, e)) = clash 48 39 _ _ (λ h. omega arith) e
 no_second_digit v b none (R ∷ d, k, (more, e)) = clash 49 39 _ _ (λ h. omega arith) e

@@ -14,11 +14,11 @@ pub struct Bytes {
 
 impl Model for Bytes {
     ghost use Rattle.std.specs.Prelude.{ℕ, List};
-    ghost use Rattle.kex_code.specs.Shared.{items_of};
+    ghost use Rattle.kex_code.specs.Shared.{shared_items};
 
     ghost Value = { List ℕ };
 
-    ghost view = { λ b. items_of b.all };
+    ghost view = { λ b. shared_items b.all };
 }
 
 /// A part of what a register is given: bytes, or what a register holds.
@@ -36,12 +36,12 @@ pub struct Pieces {
 
 impl Model for Pieces {
     ghost use Rattle.std.specs.Prelude.{List};
-    ghost use Rattle.kex_code.specs.Shared.{items_of};
+    ghost use Rattle.kex_code.specs.Shared.{shared_items};
     ghost use Rattle.kex_code.specs.declared.piece.Piece.{Piece};
 
     ghost Value = { List Piece };
 
-    ghost view = { λ p. items_of p.all };
+    ghost view = { λ p. shared_items p.all };
 }
 
 impl Bytes {

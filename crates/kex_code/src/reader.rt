@@ -4,8 +4,8 @@ ghost use Rattle.std.specs.Prelude.{◌≡◌, ◌<◌, ◌≤◌, ◌+◌, ◌^
 ghost use Rattle.std.specs.Char.{digit_char};
 ghost use Rattle.kex_code.specs.declared.symbol.Symbol.{Symbol};
 ghost use Rattle.kex_code.specs.Texts.{IsText};
-ghost use Rattle.kex_code.specs.Begun.{IsPart, Steps};
-ghost use Rattle.kex_code.specs.Readers.{FaultLeaves, HasRead, ReadOn};
+ghost use Rattle.kex_code.specs.Begun.{IsPart, StepsTo};
+ghost use Rattle.kex_code.specs.Readers.{FaultLeaves, ReaderHasRead, ReadOn};
 
 use crate::code::Code;
 use crate::memory::Memory;
@@ -53,7 +53,7 @@ pub enum Begun {
 
 // What a byte makes of it.
 #[derive(Clone, Copy)]
-pub enum Step {
+pub enum ReaderStep {
     Open(Begun),
     Whole(Symbol),
     Wrong,
@@ -71,31 +71,31 @@ fn value_of(digit: u8) -> Option<u8>
     }
 }
 
-fn step_by(begun: Begun, byte: u8) -> Step
+fn step_by(begun: Begun, byte: u8) -> ReaderStep
     requires { IsPart begun }
-    ensures { Steps begun byte result }
+    ensures { StepsTo begun byte result }
 {
     match begun {
         Begun::Nothing => match byte {
-            b'0' => Step::Whole(Symbol::L),
-            b'1' => Step::Whole(Symbol::R),
-            b'\'' => Step::Open(Begun::Quote),
-            _ => Step::Wrong,
+            b'0' => ReaderStep::Whole(Symbol::L),
+            b'1' => ReaderStep::Whole(Symbol::R),
+            b'\'' => ReaderStep::Open(Begun::Quote),
+            _ => ReaderStep::Wrong,
         },
         Begun::Quote => match value_of(byte) {
-            Some(value) => Step::Open(Begun::Digit(value)),
-            None => Step::Wrong,
+            Some(value) => ReaderStep::Open(Begun::Digit(value)),
+            None => ReaderStep::Wrong,
         },
         Begun::Digit(high) => match value_of(byte) {
-            Some(low) => Step::Whole(Symbol::Byte(16 * high + low)),
-            None => Step::Wrong,
+            Some(low) => ReaderStep::Whole(Symbol::Byte(16 * high + low)),
+            None => ReaderStep::Wrong,
         },
     }
 }
 
 /// Reads codes from their text, which comes in pieces.
 ///
-/// It stores no history: `HasRead` relates it to the bytes that it was fed and the symbols that it has given, in the
+/// It stores no history: `ReaderHasRead` relates it to the bytes that it was fed and the symbols that it has given, in the
 /// clauses of `CodeReader::new`, `CodeReader::feed` and `CodeReader::whole`. Once a call has answered `Memory` it may
 /// only be dropped.
 #[derive(Drop)]
@@ -108,9 +108,9 @@ pub struct CodeReader {
 
 impl Model for CodeReader {
     ghost use Rattle.kex_code.specs.Begun.{IsPart, text_begun};
-    ghost use Rattle.kex_code.specs.Readers.{Reading};
+    ghost use Rattle.kex_code.specs.Readers.{CodeReading};
 
-    ghost Value = { Reading };
+    ghost Value = { CodeReading };
 
     ghost view = { λ r. record { begun = text_begun r.begun; good = r.good; bad = r.bad; usable = r.usable } };
 
@@ -120,7 +120,7 @@ impl Model for CodeReader {
 impl CodeReader {
     /// A reader that was fed nothing.
     pub fn new() -> CodeReader
-        ensures begins { HasRead result [] [] }
+        ensures begins { ReaderHasRead result [] [] }
         ensures usable { result ≡ record { begun = []; good = 0; bad = false; usable = true } }
     {
         CodeReader {
@@ -148,15 +148,15 @@ impl CodeReader {
         ensures usable { IsTrue self.new.usable ↔ (¬ (result ≡ Err CodeError.Memory)) }
     {
         match step_by(self.begun, byte) {
-            Step::Open(begun) => self.begun = begun,
-            Step::Whole(symbol) => {
+            ReaderStep::Open(begun) => self.begun = begun,
+            ReaderStep::Whole(symbol) => {
                 self.begun = Begun::Nothing;
                 if out.push(symbol).is_err() {
                     self.usable = false;
                     return Err(CodeError::Memory);
                 }
             }
-            Step::Wrong => {
+            ReaderStep::Wrong => {
                 self.bad = true;
                 return Err(self.fault());
             }
@@ -190,7 +190,7 @@ impl CodeReader {
     pub fn whole(&self) -> bool
         requires { IsTrue self.now.usable }
         ensures state { IsTrue result ↔ ((self.now.bad ≡ false) × (self.now.begun ≡ [])) }
-        ensures text { (w : List ℕ) (c : List Symbol) → HasRead self.now w c → (IsTrue result ↔ IsText w) }
+        ensures text { (w : List ℕ) (c : List Symbol) → ReaderHasRead self.now w c → (IsTrue result ↔ IsText w) }
     {
         !self.bad && matches!(self.begun, Begun::Nothing)
     }

@@ -1,7 +1,7 @@
 // Lists that copies share.
 
 ghost use Rattle.std.specs.Prelude.{◌≡◌, IfOk};
-ghost use Rattle.kex_code.specs.Shared.{items_of};
+ghost use Rattle.kex_code.specs.Shared.{shared_items};
 
 use crate::memory::Memory;
 use std::sync::Arc;
@@ -17,7 +17,7 @@ pub enum Shared<T> {
 impl<T: Drop> Shared<T> {
     /// The items, with their owners counted if there is memory for the count.
     pub fn new(items: Vec<T>) -> Shared<T>
-        ensures { items_of result ≡ items.items }
+        ensures { shared_items result ≡ items.items }
     {
         match Arc::new(*items.allocator(), items) {
             Ok(items) => Shared::Counted(items),
@@ -27,7 +27,7 @@ impl<T: Drop> Shared<T> {
 
     /// The items, in their order.
     pub fn as_slice(&self) -> &[T]
-        ensures { result.now ≡ items_of self.now }
+        ensures { result.now ≡ shared_items self.now }
     {
         match self {
             Shared::Counted(items) => items.as_slice(),
@@ -37,7 +37,7 @@ impl<T: Drop> Shared<T> {
 
     /// One more owner of the same items. Fails where they are alone, or no more owners can be counted.
     pub fn copy(&self) -> Result<Shared<T>, Memory>
-        ensures { IfOk result (λ s. items_of s ≡ items_of self.now) }
+        ensures { IfOk result (λ s. shared_items s ≡ shared_items self.now) }
     {
         match self {
             Shared::Counted(items) => Ok(Shared::Counted(Arc::try_clone(items)?)),

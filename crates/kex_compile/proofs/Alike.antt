@@ -11,7 +11,7 @@ use Rattle.kex_model.proofs.Tables.{some_same}
 use Rattle.kex_tokens.specs.declared.token.Token.{Token}
 use Rattle.kex_tokens.specs.Texts.{AreTokens}
 use Rattle.kex_tokens.specs.Values.{StandsFor}
-use Rattle.kex_regexp.specs.Bodies.{Spells as SpellsBody}
+use Rattle.kex_regexp.specs.Bodies.{SpellsRegex as SpellsBody}
 use Rattle.kex_regexp.specs.Grammar.{Regex as Body}
 use Rattle.kex_reader.specs.Syntax.{Name, Define, Definition, Header, NoStart, Stages, Program, term, definitions, header, program}
 use Rattle.kex_reader.specs.Shown.{Made, ShowsDefinitions, ShowsStages}

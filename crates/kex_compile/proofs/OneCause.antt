@@ -4,7 +4,7 @@ use Rattle.kex_model.specs.Programs.{Grammar}
 use Rattle.kex_reader.specs.Spelling.{Spells, IsRefusedAs}
 use Rattle.kex_reader.specs.declared.refusal.ReadRefusal.{ReadRefusal}
 use Rattle.kex_reader.specs.declared.refusal.ReadRefusal.TheVariants as read
-use Rattle.kex_rules.specs.Rules.{IsTwice, IsUnknown, IsNotTail, IsRuled, IsLowest, IsCause}
+use Rattle.kex_rules.specs.Rules.{IsTwice, IsUnknown, IsNotTail, IsRuled, IsLowest, IsRuleCause}
 use Rattle.kex_rules.specs.declared.refusal.RuleRefusal.{RuleRefusal}
 use Rattle.kex_rules.specs.declared.refusal.RuleRefusal.TheVariants as rule
 use Rattle.kex_lowering.specs.declared.refusal.StageRefusal.{StageRefusal}
@@ -25,7 +25,7 @@ use Rattle.kex_model.specs.declared.program.Start.{Start}
 
 -- ---- one program that keeps the rules, and one that doesn't
 
-not_ruled : (P Q : Grammar) (e : RuleRefusal) → Alike Q P → Alike P Q → IsRuled P → (e ≡ rule.Memory → ⊥) → IsCause Q e → ⊥
+not_ruled : (P Q : Grammar) (e : RuleRefusal) → Alike Q P → Alike P Q → IsRuled P → (e ≡ rule.Memory → ⊥) → IsRuleCause Q e → ⊥
 not_ruled P Q (rule.TwiceDefined at) a b r n c =
     let t = twice_on Q P a at c.breaks in
     let lt : t.0 < t.1 = t.4 in
@@ -56,7 +56,7 @@ less_or_not i j = grind arith
 one_lowest : (A B : ℕ → Type 0) (i j : ℕ) → ((k : ℕ) → A k → B k) → ((k : ℕ) → B k → A k) → IsLowest A i → IsLowest B j → i ≡ j
 one_lowest A B i j f g h k = ⊎_elim (λ l. absurd (k.lowest i l (f i h.breaks))) (λ c. ⊎_elim (λ l. absurd (h.lowest j l (g j k.breaks))) (λ e. e) c) (less_or_not i j)
 
-one_rule : (P Q : Grammar) → Alike P Q → Alike Q P → (d e : RuleRefusal) → (d ≡ rule.Memory → ⊥) → (e ≡ rule.Memory → ⊥) → IsCause P d → IsCause Q e → d ≡ e
+one_rule : (P Q : Grammar) → Alike P Q → Alike Q P → (d e : RuleRefusal) → (d ≡ rule.Memory → ⊥) → (e ≡ rule.Memory → ⊥) → IsRuleCause P d → IsRuleCause Q e → d ≡ e
 one_rule P Q a b rule.Memory e n m h k = absurd (n refl)
 one_rule P Q a b (rule.TwiceDefined i) rule.Memory n m h k = absurd (m refl)
 one_rule P Q a b (rule.Unknown i) rule.Memory n m h k = absurd (m refl)
@@ -125,7 +125,7 @@ module _ (limits : Limits) (P Q : Grammar) (a : Alike P Q) (b : Alike Q P) (know
 -- a cause other than want of memory, by the pass that finds it
 data Cause (limits : Limits) (text : List ℕ) : CompileRefusal → Type 0 where
   unread : (e : ReadRefusal) → (e ≡ read.Memory → ⊥) → IsRefusedAs text e → Cause limits text (of_read e)
-  unruled : (P : Grammar) (e : RuleRefusal) → (e ≡ rule.Memory → ⊥) → Spells text P → IsCause P e → Cause limits text (of_rule e)
+  unruled : (P : Grammar) (e : RuleRefusal) → (e ≡ rule.Memory → ⊥) → Spells text P → IsRuleCause P e → Cause limits text (of_rule e)
   unplanned : (P : Grammar) (e : PlanRefusal) → (e ≡ plan.Memory → ⊥) → Spells text P → IsRuled P → IsUnplanned limits P e → Cause limits text (of_plan e)
 
 cause : (limits : Limits) (text : List ℕ) (e : CompileRefusal) → (e ≡ Memory → ⊥) → IsRefused limits text e → Cause limits text e

@@ -10,7 +10,7 @@ use Rattle.kex_code.specs.declared.piece.Piece.{Piece}
 use Rattle.kex_code.specs.Registers.{Registers, content_of, with_content, pieces_text}
 use Rattle.kex_model.specs.Programs.{Grammar}
 use Rattle.kex_model.specs.declared.program.Kind.{Kind}
-use Rattle.kex_model.specs.Trees.{kind_at, root_of, Tree, IsTree, one, lit, one_byte, call, seq, alt_left, alt_right, needed, again, end, mute, at_register, write_register, set_register, add_register, code, meaning, turn_mark, end_mark, Part, part_behind, go_on, then_part, put_whole, kept_part, part}
+use Rattle.kex_model.specs.Trees.{kind_at, root_of, Tree, IsTree, one, lit, one_byte, call, seq, alt_left, alt_right, needed, again, end, mute, at_register, write_register, set_register, add_register, code, meaning, turn_mark, end_mark, PartMeaning, part_behind, go_on, then_part, put_whole, kept_part, part_meaning}
 use Rattle.kex_model.specs.Answers.{empty}
 use Rattle.kex_model.proofs.PartialMeanings.{part_whole}
 use Rattle.kex_rules.specs.Rules.{IsDefined, IsUse}
@@ -72,34 +72,34 @@ module _ (P Q : Grammar) (a : Alike P Q) where
   -- ---- parts
 
   -- parts that write the same, with the same of the code left
-  pub record SamePart (p p' : Part) : Type 0 where
+  pub record SamePart (p p' : PartMeaning) : Type 0 where
     pub bytes : p.bytes ≡ p'.bytes
     pub registers : SameRegisters p.registers p'.registers
     pub rest : p.rest ≡ p'.rest
 
-  behind_on : (mark c : List Symbol) (regs regs' : Registers) (next next' : List Symbol → Part) → SameRegisters regs regs' → ((d : List Symbol) → SamePart (next d) (next' d)) → SamePart (part_behind mark c regs next) (part_behind mark c regs' next')
+  behind_on : (mark c : List Symbol) (regs regs' : Registers) (next next' : List Symbol → PartMeaning) → SameRegisters regs regs' → ((d : List Symbol) → SamePart (next d) (next' d)) → SamePart (part_behind mark c regs next) (part_behind mark c regs' next')
   behind_on [] c regs regs' next next' h f = f c
   behind_on (x ∷ mark) [] regs regs' next next' h f = record { bytes = refl; registers = h; rest = refl }
   behind_on (x ∷ mark) (y ∷ c) regs regs' next next' h f = f c
 
   -- what goes on alike on alike registers
-  abbrev GoesOn : (List Symbol → Registers → Part) → (List Symbol → Registers → Part) → Type 0
+  abbrev GoesOn : (List Symbol → Registers → PartMeaning) → (List Symbol → Registers → PartMeaning) → Type 0
   GoesOn next next' = (c : List Symbol) (regs regs' : Registers) → SameRegisters regs regs' → SamePart (next c regs) (next' c regs')
 
-  going_on : (bytes bytes' : List ℕ) (regs regs' : Registers) (rest : Option (List Symbol)) (next next' : List Symbol → Registers → Part) → bytes ≡ bytes' → SameRegisters regs regs' → GoesOn next next' → SamePart (go_on bytes regs rest next) (go_on bytes' regs' rest next')
+  going_on : (bytes bytes' : List ℕ) (regs regs' : Registers) (rest : Option (List Symbol)) (next next' : List Symbol → Registers → PartMeaning) → bytes ≡ bytes' → SameRegisters regs regs' → GoesOn next next' → SamePart (go_on bytes regs rest next) (go_on bytes' regs' rest next')
   going_on bytes bytes' regs regs' None next next' e h f = record { bytes = e; registers = h; rest = refl }
   going_on bytes bytes' regs regs' (Some c) next next' e h f =
       let x = f c regs regs' h in
       record { bytes = ap₂ (λ y z. y ++ z) e x.bytes; registers = x.registers; rest = x.rest }
 
-  then_on : (p p' : Part) (next next' : List Symbol → Registers → Part) → SamePart p p' → GoesOn next next' → SamePart (then_part p next) (then_part p' next')
+  then_on : (p p' : PartMeaning) (next next' : List Symbol → Registers → PartMeaning) → SamePart p p' → GoesOn next next' → SamePart (then_part p next) (then_part p' next')
   then_on p p' next next' s f = subst (λ z. SamePart (go_on p.bytes p.registers p.rest next) (go_on p'.bytes p'.registers z next')) s.rest (going_on p.bytes p'.bytes p.registers p'.registers p.rest next next' s.bytes s.registers f)
 
   put_whole_on : (regs regs' : Registers) (r r' : ℕ) (bytes bytes' : List ℕ) (rest : Option (List Symbol)) → SameRegisters regs regs' → G P Q a r r' → bytes ≡ bytes' → SameRegisters (put_whole regs r bytes rest) (put_whole regs' r' bytes' rest)
   put_whole_on regs regs' r r' bytes bytes' None h g e = h
   put_whole_on regs regs' r r' bytes bytes' (Some c) h g e = put_on regs regs' r r' bytes bytes' h g e
 
-  kept_on : (r r' : ℕ) (p p' : Part) → G P Q a r r' → SamePart p p' → SamePart (kept_part r p) (kept_part r' p')
+  kept_on : (r r' : ℕ) (p p' : PartMeaning) → G P Q a r r' → SamePart p p' → SamePart (kept_part r p) (kept_part r' p')
   kept_on r r' p p' g s = record {
     bytes = refl;
     registers = subst (λ z. SameRegisters (put_whole p.registers r p.bytes p.rest) (put_whole p'.registers r' p'.bytes z)) s.rest (put_whole_on p.registers p'.registers r r' p.bytes p'.bytes p.rest s.registers g s.bytes);
@@ -153,7 +153,7 @@ module _ (P Q : Grammar) (a : Alike P Q) (known : (name at : ℕ) → IsUse P na
   code_on (kinds.set_register g p) set_register = refl
   code_on (kinds.add_register g p) add_register = refl
 
-  pub part_on : {k l : Kind} {t : Tree} → Same k l → IsTree P k t → (c : List Symbol) (regs regs' : Registers) → SameRegisters P Q a regs regs' → SamePart P Q a (part P k t c regs) (part Q l t c regs')
+  pub part_on : {k l : Kind} {t : Tree} → Same k l → IsTree P k t → (c : List Symbol) (regs regs' : Registers) → SameRegisters P Q a regs regs' → SamePart P Q a (part_meaning P k t c regs) (part_meaning Q l t c regs')
   part_on kinds.one one c regs regs' h = record { bytes = refl; registers = h; rest = refl }
   part_on kinds.lit lit c regs regs' h = record { bytes = refl; registers = h; rest = refl }
   part_on (kinds.class e) (one_byte {b = b} i) c regs regs' h = behind_on P Q a (Byte b ∷ []) c regs regs' _ _ h (λ d. record { bytes = refl; registers = h; rest = refl })
@@ -170,11 +170,11 @@ module _ (P Q : Grammar) (a : Alike P Q) (known : (name at : ℕ) → IsUse P na
   part_on (kinds.set_register {r = r} {r' = r'} g p) set_register c regs regs' h = record { bytes = refl; registers = put_on P Q a regs regs' r r' _ _ h g (joined_on P Q a regs regs' h p); rest = refl }
   part_on (kinds.add_register {r = r} {r' = r'} g p) add_register c regs regs' h = record { bytes = refl; registers = put_on P Q a regs regs' r r' _ _ h g (ap₂ (λ x y. x ++ y) (h.same r r' g) (joined_on P Q a regs regs' h p)); rest = refl }
 
-whole_part : (P : Grammar) (k : Kind) (t : Tree) → IsTree P k t → (part P k t (code P k t) (empty P)).bytes ≡ (meaning P k t (empty P)).bytes
-whole_part P k t it = ap (λ z. (part P k t z (empty P)).bytes) (sym (append-nil (code P k t))) ∙ ap (λ z. z.bytes) (part_whole P [] (empty P) it)
+whole_part : (P : Grammar) (k : Kind) (t : Tree) → IsTree P k t → (part_meaning P k t (code P k t) (empty P)).bytes ≡ (meaning P k t (empty P)).bytes
+whole_part P k t it = ap (λ z. (part_meaning P k t z (empty P)).bytes) (sym (append-nil (code P k t))) ∙ ap (λ z. z.bytes) (part_whole P [] (empty P) it)
 
 -- a tree means the same in both
 pub meaning_on : (P Q : Grammar) (a : Alike P Q) (known : (name at : ℕ) → IsUse P name at → IsDefined P.definitions name) {k l : Kind} {t : Tree} → Same P Q a known k l → IsTree P k t → (meaning P k t (empty P)).bytes ≡ (meaning Q l t (empty Q)).bytes
 meaning_on P Q a known {k = k} {l = l} {t = t} s it =
     let both = part_on P Q a known s it (code P k t) (empty P) (empty Q) (same_empty P Q a) in
-    sym (whole_part P k t it) ∙ both.bytes ∙ ap (λ z. (part Q l t z (empty Q)).bytes) (code_on P Q a known s it) ∙ whole_part Q l t (tree_on P Q a known s it)
+    sym (whole_part P k t it) ∙ both.bytes ∙ ap (λ z. (part_meaning Q l t z (empty Q)).bytes) (code_on P Q a known s it) ∙ whole_part Q l t (tree_on P Q a known s it)

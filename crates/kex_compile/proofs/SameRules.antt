@@ -12,7 +12,7 @@ use Rattle.kex_model.specs.declared.program.Definition.{Definition}
 use Rattle.kex_model.specs.declared.program.Start.{Start}
 use Rattle.kex_model.specs.Trees.{kind_at, root_of}
 use Rattle.kex_model.proofs.Tables.{some_same}
-use Rattle.kex_rules.specs.Rules.{IsDefined, IsTwice, IsCall, Position, in_tail, last_parts, other_parts, Stands, at_root, as_last, as_other, IsWithin, IsUse, IsUnknown, Reaches, itself, by_call, IsNotTail}
+use Rattle.kex_rules.specs.Rules.{IsDefined, IsTwice, IsCall, TermPosition, in_tail, last_parts, other_parts, StandsIn, at_root, as_last, as_other, IsWithin, IsUse, IsUnknown, ReachesByCalls, itself, by_call, IsNotTail}
 use Rattle.kex_rules.proofs.Tails.{kind_is}
 use Rattle.kex_rules.proofs.Ways.{find_among}
 use Rattle.kex_compile.proofs.NodePairs.{Joins, SameKind, one, lit, class, call, seq, alt, rep, mute, at_register, write_register, set_register, add_register}
@@ -177,7 +177,7 @@ module _ (P Q : Grammar) (a : Alike P Q) where
   pub root_within : (name name' : ℕ) → N name name' → IsDefined P.definitions name → IsWithin P (root_of P name)
   root_within name name' n h =
       let f = first_on R N G forth back name name' n P.definitions Q.definitions a.definitions h in
-      (f.0, in_tail, find_among (λ x. x.name == name) P.definitions f.0 f.2, subst (λ z. Stands P f.0.root in_tail z) (sym (root_is P name f.0 f.2)) at_root)
+      (f.0, in_tail, find_among (λ x. x.name == name) P.definitions f.0 f.2, subst (λ z. StandsIn P f.0.root in_tail z) (sym (root_is P name f.0 f.2)) at_root)
 
   pub twice_on : (at : ℕ) → IsTwice P.definitions at → IsTwice Q.definitions at
   twice_on at (i, j, d, e, lt, hd, he, same, is) =
@@ -194,7 +194,7 @@ module _ (P Q : Grammar) (a : Alike P Q) where
 
   -- ---- calls
 
-  pub stands_on : (root root' : ℕ) → R root root' → {p : Position} {n : ℕ} → Stands P root p n → (n' : ℕ) × R n n' × Stands Q root' p n'
+  pub stands_on : (root root' : ℕ) → R root root' → {p : TermPosition} {n : ℕ} → StandsIn P root p n → (n' : ℕ) × R n n' × StandsIn Q root' p n'
   stands_on root root' r at_root = (root', r, at_root)
   stands_on root root' r (as_last {n = n} {m = m} s i) =
       let x = stands_on root root' r s in
@@ -225,7 +225,7 @@ module _ (P Q : Grammar) (a : Alike P Q) where
   pub unknown_on : (at : ℕ) → IsUnknown P at → IsUnknown Q at
   unknown_on at (name, used, none) = let u = use_on name at used in (u.0, u.2, (λ d. none (defined_back name u.0 u.1 d)))
 
-  reaches_on : {name target : ℕ} (name' : ℕ) → N name name' → Reaches P name target → (target' : ℕ) × N target target' × Reaches Q name' target'
+  reaches_on : {name target : ℕ} (name' : ℕ) → N name name' → ReachesByCalls P name target → (target' : ℕ) × N target target' × ReachesByCalls Q name' target'
   reaches_on name' n itself = (name', n, itself)
   reaches_on name' n (by_call {caller = caller} {callee = callee} (d, p, m, s, kind) r) =
       let x = stands_on (root_of P caller) (root_of Q name') (roots_on caller name' n d) s in
@@ -241,7 +241,7 @@ module _ (P Q : Grammar) (a : Alike P Q) where
       let x = stands_on (root_of P caller) (root_of Q name') (roots_on caller name' same d) s in
       let y = is_call_on n x.0 callee at x.1 c in
       let z = reaches_on y.0 y.1 r in
-      (name', y.0, x.0, defined_on caller name' same d, x.2, y.2, subst (λ t. Reaches Q y.0 t) {x = z.0} (forth caller z.0 name' z.1 same) z.2)
+      (name', y.0, x.0, defined_on caller name' same d, x.2, y.2, subst (λ t. ReachesByCalls Q y.0 t) {x = z.0} (forth caller z.0 name' z.1 same) z.2)
 
   pub none_on : P.stages ≡ [] → Q.stages ≡ []
   none_on e = no_stages N P.stages Q.stages a.stages e

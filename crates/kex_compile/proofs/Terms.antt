@@ -5,11 +5,11 @@ use Rattle.kex_code.specs.declared.piece.Piece.{Piece}
 use Rattle.kex_code.specs.declared.piece.Piece.TheVariants as pieces
 use Rattle.kex_model.specs.declared.program.Kind.{Kind}
 use Rattle.kex_model.specs.declared.program.Kind.TheVariants as kinds
-use Rattle.kex_regexp.specs.Bodies.{Spells}
+use Rattle.kex_regexp.specs.Bodies.{SpellsRegex}
 use Rattle.kex_regexp.specs.Grammar.{regex, Regex as Body}
 use Rattle.kex_regexp.specs.Shown.{ShowsRegex}
 use Rattle.kex_regexp.specs.Postfixes.{low, high}
-use Rattle.kex_reader.specs.Syntax.{Part, Text, Held, Word, Name, Regex, Tilde, At, Bar, OpenParen, CloseParen, Term, Last, Or, Seq, Only, Then, Pre, Mute, Into, Once, Turns, Atom, One, Call, Lit, Match, Write, Assign, Group, term, seq, pre, atom, postfix, lazy_mark}
+use Rattle.kex_reader.specs.Syntax.{RegisterPart, Text, Held, Word, Name, Regex, Tilde, At, Bar, OpenParen, CloseParen, Term, Last, Or, Seq, Only, Then, Pre, Mute, Into, Once, Turns, Atom, One, Call, Lit, Match, Write, Assign, Group, term, seq, pre, atom, postfix, lazy_mark}
 use Rattle.kex_reader.specs.Shown.{Made, IsNode, assignment_kind, ShowsPart, ShowsParts, ShowsTerm, ShowsSeq, ShowsPre, ShowsAtom}
 use Rattle.kex_compile.proofs.NodePairs.{Joins, SameKind, SameParts, no_more, text, register, one, lit, call, seq as in_seq, alt, rep, mute, at_register, write_register, set_register, add_register, Together, on_top, alone, beside, within, rank}
 use Rattle.kex_compile.proofs.BodyPairs.{regex_of}
@@ -20,7 +20,7 @@ use Rattle.kex_tokens.specs.Values.{StandsFor}
 abbrev pub SameName : List (List ℕ) → List (List ℕ) → ℕ → ℕ → Type 0
 SameName names names' k k' = (name : List ℕ) × (slice_get names k ≡ Some name) × (slice_get names' k' ≡ Some name)
 
-module _ (one_body : (bytes : List ℕ) (r q : Body) → Spells r bytes → Spells q bytes → r ≡ q) (one_literal : (spelling a b : List ℕ) → StandsFor spelling a → StandsFor spelling b → a ≡ b) (made made' : Made) (whole : made.broken ≡ None) (whole' : made'.broken ≡ None) (at : ℕ → ℕ) where
+module _ (one_body : (bytes : List ℕ) (r q : Body) → SpellsRegex r bytes → SpellsRegex q bytes → r ≡ q) (one_literal : (spelling a b : List ℕ) → StandsFor spelling a → StandsFor spelling b → a ≡ b) (made made' : Made) (whole : made.broken ≡ None) (whole' : made'.broken ≡ None) (at : ℕ → ℕ) where
   abbrev N : ℕ → ℕ → Type 0
   N = SameName made.names made'.names
 
@@ -41,7 +41,7 @@ module _ (one_body : (bytes : List ℕ) (r q : Body) → Spells r bytes → Spel
   assigned_same false k k' qs qs' g p = set_register g p
   assigned_same true k k' qs qs' g p = add_register g p
 
-  parts_of : (ps : List Part) (qs qs' : List Piece) → ShowsParts ps made qs → ShowsParts ps made' qs' → SameParts G qs qs'
+  parts_of : (ps : List RegisterPart) (qs qs' : List Piece) → ShowsParts ps made qs → ShowsParts ps made' qs' → SameParts G qs qs'
   unfolding ShowsParts ShowsPart
   parts_of [] [] [] h k = no_more
   parts_of [] [] (q ∷ qs) h k = absurd k
@@ -59,7 +59,7 @@ module _ (one_body : (bytes : List ℕ) (r q : Body) → Spells r bytes → Spel
   assigned_rank false k qs = refl
   assigned_rank true k qs = refl
 
-  body : (n n' i : ℕ) (b : List ℕ) (r q : Body) → Spells r b → Spells q b → ShowsRegex r made.nodes n (at i + 1) → ShowsRegex q made'.nodes n' (at i + 1) → at i + width (Regex b) ≤ at (i + 1) → Both n n' (4 * at i + 3) (4 * at (i + 1))
+  body : (n n' i : ℕ) (b : List ℕ) (r q : Body) → SpellsRegex r b → SpellsRegex q b → ShowsRegex r made.nodes n (at i + 1) → ShowsRegex q made'.nodes n' (at i + 1) → at i + width (Regex b) ≤ at (i + 1) → Both n n' (4 * at i + 3) (4 * at (i + 1))
   unfolding width
   body n n' i b r q s t h k l =
       let e : q ≡ r = one_body b q r t s in

@@ -3,8 +3,8 @@ use Rattle.std.proofs.Common.{◌≡◌, ℕ, zero, suc, ◌≤◌, ◌+◌, ◌
 use Rattle.std.specs.Prelude.{All}
 use Rattle.std.specs.List.{slice_range}
 use Rattle.std.proofs.lemmas.List.Elements.{All-head, All-tail}
-use Rattle.kex_tokens.specs.declared.token.Kind.{Kind}
-use Rattle.kex_tokens.specs.declared.token.Kind.TheVariants as kinds
+use Rattle.kex_tokens.specs.declared.token.TokenKind.{TokenKind}
+use Rattle.kex_tokens.specs.declared.token.TokenKind.TheVariants as kinds
 use Rattle.kex_tokens.specs.declared.token.Token.{Token}
 use Rattle.kex_tokens.specs.Lexemes.{IsToken}
 use Rattle.kex_tokens.specs.Texts.{AreTokens, IsSpan, AreInOrder}
@@ -70,7 +70,7 @@ take_short zero xs = omega arith
 take_short (suc n) [] = omega arith
 take_short (suc n) (x ∷ xs) = let h : length (take n xs) ≤ n = take_short n xs in omega arith
 
-room : (long : ℕ) (bytes : List ℕ) (k : Kind) → 1 ≤ long → length bytes ≤ long → IsToken k bytes → width (word k bytes) ≤ long
+room : (long : ℕ) (bytes : List ℕ) (k : TokenKind) → 1 ≤ long → length bytes ≤ long → IsToken k bytes → width (word k bytes) ≤ long
 unfolding width IsToken
 room long bytes kinds.Regex l f h =
     let w = h.1 in

@@ -7,7 +7,7 @@ use Rattle.kex_model.specs.Laws.{StagesAnswer}
 use Rattle.kex_reader.specs.Spelling.{Spells, IsRefusedAs}
 use Rattle.kex_reader.specs.declared.refusal.ReadRefusal.{ReadRefusal}
 use Rattle.kex_reader.specs.declared.refusal.ReadRefusal.TheVariants as read
-use Rattle.kex_rules.specs.Rules.{IsRuled, IsCause}
+use Rattle.kex_rules.specs.Rules.{IsRuled, IsRuleCause}
 use Rattle.kex_rules.specs.declared.refusal.RuleRefusal.{RuleRefusal}
 use Rattle.kex_rules.specs.declared.refusal.RuleRefusal.TheVariants as rule
 use Rattle.kex_compile.specs.Stages.{AllRun, KeepsToOneStage, KeepsToStates, Plans, ArePlans, IsUnplanned, roots_of}
@@ -33,7 +33,7 @@ pub record IsCompiled (limits : Limits) (text : List ℕ) (plans : Plans) : Type
 
 -- the text spells a program that breaks this rule, and none before it
 abbrev pub BreaksRule : List ℕ → RuleRefusal → Type 0
-BreaksRule text e = (P : Grammar) × Spells text P × IsCause P e
+BreaksRule text e = (P : Grammar) × Spells text P × IsRuleCause P e
 
 -- the text spells a program that keeps the rules, and whose stages are refused so
 abbrev pub HasNoPlans : Limits → List ℕ → PlanRefusal → Type 0

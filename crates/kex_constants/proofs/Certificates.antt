@@ -7,7 +7,7 @@ use Rattle.kex_sst.specs.declared.table.Transition.{Transition}
 use Rattle.kex_sst.specs.Tables.{Row, Transducer, transition_if, transition_on}
 use Rattle.kex_sst.specs.Passes.{Pass, first_pass, transition_at, next_of, next_pass, passes_if}
 use Rattle.kex_constants.specs.Known.{Constants, Hold}
-use Rattle.kex_constants.specs.Clearing.{Gives, GivesIf, HoldAfter, HoldAlways}
+use Rattle.kex_constants.specs.Clearing.{GivesConstants, GivesIf, HoldAfter, HoldAlways}
 
 -- all transitions of a state, if it is there
 abbrev pub StateGives : List Constants → Constants → Option Row → Type 0
@@ -48,7 +48,7 @@ module _ (t : Transducer) (css : List Constants) where
   hold_from g [] (Some p) h = h
   hold_from g (b ∷ w) (Some p) h = hold_from g w (next_pass (next_of t p.state b) b p) (hold_step p b (next_of t p.state b) (gives_at g p.state (slice_get t.classes b)) h)
 
-  pub hold_always : Gives [] t.initial (get_or css 0 []) → ((i : ℕ) → StateGives css (get_or css i []) (slice_get t.states i)) → HoldAlways t css
+  pub hold_always : GivesConstants [] t.initial (get_or css 0 []) → ((i : ℕ) → StateGives css (get_or css i []) (slice_get t.states i)) → HoldAlways t css
   hold_always first g w = hold_from g w (Some (first_pass t.initial)) (first [] 0 (λ i c e. absurd (none_there i c e)))
 
 hold_nothing : (p : Option Pass) → HoldAfter [] p

@@ -9,13 +9,13 @@ use Rattle.kex_sst.specs.declared.table.Transition.{Transition}
 use Rattle.kex_sst.specs.Parts.{value, parts_code, Change}
 use Rattle.kex_sst.specs.Tables.{Row, Transducer, transition_if, transition_on}
 use Rattle.kex_sst.specs.Passes.{Pass, pass_after, first_pass, transition_at, next_of, next_pass, passes_if, passes, way_of, ended_by}
-use Rattle.kex_constants.specs.Known.{Constants, Hold, kept_items, number}
+use Rattle.kex_constants.specs.Known.{Constants, Hold, kept_items, kept_number}
 use Rattle.kex_constants.specs.Clearing.{constant_or_register, parts_for, cleared_parts, cleared_change, cleared_transition, cleared_way, cleared_state, cleared_states, cleared_table, HoldAfter, HoldAlways}
-use Rattle.kex_constants.specs.Alike.{AreAlike, PassAlike}
-use Rattle.kex_constants.proofs.Lists.{meant-append, meant-puts}
+use Rattle.kex_constants.specs.Alike.{PassesAreAlike, PassAlike}
+use Rattle.kex_constants.proofs.Lists.{parts_code-append, parts_code-puts_bits}
 
 -- a register that is kept holds what it held
-kept_get : (cs : Constants) (regs : List (List Symbol)) (i : ℕ) → get_or cs i None ≡ None → get_or (kept_items cs regs) (number cs i) [] ≡ get_or regs i []
+kept_get : (cs : Constants) (regs : List (List Symbol)) (i : ℕ) → get_or cs i None ≡ None → get_or (kept_items cs regs) (kept_number cs i) [] ≡ get_or regs i []
 kept_get [] regs i e = refl
 kept_get (c ∷ cs) [] i e = refl
 kept_get (Some v ∷ cs) (x ∷ xs) zero e = cc
@@ -36,12 +36,12 @@ module _ (cs : Constants) (regs : List (List Symbol)) (b : ℕ) (h : Hold cs reg
   instead_meant (Old i) = by (get_or cs i None) refl
     where
       by : (c : Option (List Bit)) → get_or cs i None ≡ c → parts_code (kept_items cs regs) b (constant_or_register cs i c) ≡ get_or regs i []
-      by None e = append-nil (get_or (kept_items cs regs) (number cs i) []) ∙ kept_get cs regs i e
-      by (Some v) e = meant-puts (kept_items cs regs) b v ∙ sym (h i v e)
+      by None e = append-nil (get_or (kept_items cs regs) (kept_number cs i) []) ∙ kept_get cs regs i e
+      by (Some v) e = parts_code-puts_bits (kept_items cs regs) b v ∙ sym (h i v e)
 
   pub replaced_meant : (xs : List Part) → parts_code (kept_items cs regs) b (cleared_parts cs xs) ≡ parts_code regs b xs
   replaced_meant [] = refl
-  replaced_meant (x ∷ xs) = meant-append (kept_items cs regs) b (parts_for cs x) (cleared_parts cs xs) ∙ ap₂ (λ u v. u ++ v) (instead_meant x) (replaced_meant xs)
+  replaced_meant (x ∷ xs) = parts_code-append (kept_items cs regs) b (parts_for cs x) (cleared_parts cs xs) ∙ ap₂ (λ u v. u ++ v) (instead_meant x) (replaced_meant xs)
 
   replaced_map : (xs : List (List Part)) → map (λ x. parts_code (kept_items cs regs) b x) (map (λ x. cleared_parts cs x) xs) ≡ map (λ x. parts_code regs b x) xs
   replaced_map [] = refl
@@ -117,7 +117,7 @@ module _ (css : List Constants) (t : Transducer) where
   like_from w None (Some q) h l = absurd l
   like_from w (Some p) None h l = absurd l
 
-  ends_alike : (p q : Option Pass) → HoldAfter css p → Like css p q → AreAlike t (cleared_table css t) p q
+  ends_alike : (p q : Option Pass) → HoldAfter css p → Like css p q → PassesAreAlike t (cleared_table css t) p q
   ends_alike None None h l = tt
   ends_alike (Some p) (Some q) h (state, code, regs) = (
     state,

@@ -14,9 +14,9 @@ use Rattle.kex_sst.specs.declared.parts.Part.{Part}
 use Rattle.kex_sst.specs.declared.parts.Part.TheVariants.{Put, Old, Input}
 use Rattle.kex_sst.specs.declared.table.Transition.{Transition}
 use Rattle.kex_sst.specs.Parts.{Change, olds, olds_in, reads_of, IsChoice, PutsChoice, IsKept, IsPut, EachPart, IsUpdate}
-use Rattle.kex_sst.specs.Tables.{Row, Transducer, IsWayIf, LeadsTo, IsState, IsTable}
-use Rattle.kex_constants.specs.Known.{Constants, kept_items, number}
-use Rattle.kex_constants.specs.Clearing.{puts, constant_or_register, parts_for, cleared_parts, cleared_change, cleared_transition, cleared_way, cleared_state, cleared_states, cleared_table}
+use Rattle.kex_sst.specs.Tables.{Row, Transducer, IsWayIf, LeadsTo, IsTableState, IsTable}
+use Rattle.kex_constants.specs.Known.{Constants, kept_items, kept_number}
+use Rattle.kex_constants.specs.Clearing.{puts_bits, constant_or_register, parts_for, cleared_parts, cleared_change, cleared_transition, cleared_way, cleared_state, cleared_states, cleared_table}
 use Rattle.kex_model.proofs.Shapes.{among-append}
 use Rattle.kex_constants.proofs.ClearedRuns.{cleared_state_if, state_at}
 
@@ -57,7 +57,7 @@ kept_reads (None ∷ cs) (x ∷ xs) = of_both (olds_in (kept_items cs xs)) (olds
 
 -- the new number of a register that is kept, alone
 abbrev renumbered : Constants → ℕ → Option (List Bit) → List ℕ
-renumbered cs i None = number cs i ∷ []
+renumbered cs i None = kept_number cs i ∷ []
 renumbered cs i (Some v) = []
 
 abbrev all_renumbered : Constants → List ℕ → List ℕ
@@ -70,14 +70,14 @@ olds-append (Old i ∷ xs) ys = ap (λ z. i ∷ z) (olds-append xs ys)
 olds-append (Put s ∷ xs) ys = olds-append xs ys
 olds-append (Input ∷ xs) ys = olds-append xs ys
 
-olds-puts : (c : List Bit) → olds (puts c) ≡ []
+olds-puts : (c : List Bit) → olds (puts_bits c) ≡ []
 olds-puts [] = refl
 olds-puts (x ∷ c) = olds-puts c
 
 module _ (cs : Constants) where
-  renumbered-append : (xs ys : List ℕ) → all_renumbered cs (xs ++ ys) ≡ all_renumbered cs xs ++ all_renumbered cs ys
-  renumbered-append [] ys = refl
-  renumbered-append (x ∷ xs) ys = ap (λ z. renumbered cs x (get_or cs x None) ++ z) (renumbered-append xs ys) ∙ sym (append_assoc (renumbered cs x (get_or cs x None)) (all_renumbered cs xs) (all_renumbered cs ys))
+  all_renumbered-append : (xs ys : List ℕ) → all_renumbered cs (xs ++ ys) ≡ all_renumbered cs xs ++ all_renumbered cs ys
+  all_renumbered-append [] ys = refl
+  all_renumbered-append (x ∷ xs) ys = ap (λ z. renumbered cs x (get_or cs x None) ++ z) (all_renumbered-append xs ys) ∙ sym (append_assoc (renumbered cs x (get_or cs x None)) (all_renumbered cs xs) (all_renumbered cs ys))
 
   replaced_olds : (xs : List Part) → olds (cleared_parts cs xs) ≡ all_renumbered cs (olds xs)
   replaced_olds [] = refl
@@ -91,9 +91,9 @@ module _ (cs : Constants) where
 
   replaced_reads : (xs : List (List Part)) → olds_in (map (λ x. cleared_parts cs x) xs) ≡ all_renumbered cs (olds_in xs)
   replaced_reads [] = refl
-  replaced_reads (x ∷ xs) = ap₂ (λ u v. u ++ v) (replaced_olds x) (replaced_reads xs) ∙ sym (renumbered-append (olds x) (olds_in xs))
+  replaced_reads (x ∷ xs) = ap₂ (λ u v. u ++ v) (replaced_olds x) (replaced_reads xs) ∙ sym (all_renumbered-append (olds x) (olds_in xs))
 
-number_up : (cs : Constants) (i j : ℕ) → i ≤ j → number cs i ≤ number cs j
+number_up : (cs : Constants) (i j : ℕ) → i ≤ j → kept_number cs i ≤ kept_number cs j
 number_up [] i j le = le
 number_up (c ∷ cs) zero j le = omega arith
 number_up (Some v ∷ cs) (suc i) zero le = absurd (omega arith)
@@ -102,7 +102,7 @@ number_up (Some v ∷ cs) (suc i) (suc j) le = number_up cs i j (omega arith)
 number_up (None ∷ cs) (suc i) (suc j) le = let h = number_up cs i j (omega arith) in omega (arith, h)
 
 -- a register that is kept has a smaller number than those behind it
-number_rises : (cs : Constants) (i j : ℕ) → get_or cs i None ≡ None → i < j → number cs i < number cs j
+number_rises : (cs : Constants) (i j : ℕ) → get_or cs i None ≡ None → i < j → kept_number cs i < kept_number cs j
 number_rises [] i j e lt = lt
 number_rises (c ∷ cs) i zero e lt = absurd (omega arith)
 number_rises (Some v ∷ cs) zero (suc j) e lt = cc
@@ -110,15 +110,15 @@ number_rises (None ∷ cs) zero (suc j) e lt = omega arith
 number_rises (Some v ∷ cs) (suc i) (suc j) e lt = number_rises cs i j e (omega arith)
 number_rises (None ∷ cs) (suc i) (suc j) e lt = let h = number_rises cs i j e (omega arith) in omega (arith, h)
 
-number_one : (cs : Constants) (i j : ℕ) → get_or cs i None ≡ None → get_or cs j None ≡ None → number cs i ≡ number cs j → i ≡ j
+number_one : (cs : Constants) (i j : ℕ) → get_or cs i None ≡ None → get_or cs j None ≡ None → kept_number cs i ≡ kept_number cs j → i ≡ j
 number_one cs i j e f same = ⊎_elim (λ lt. let up = number_rises cs i j e lt in absurd (omega (arith, up))) (λ le. ⊎_elim (λ lt. let up = number_rises cs j i f lt in absurd (omega (arith, up))) (λ ge. omega arith) (cases_lt j i)) (cases_lt i j)
 
-renumbered_among : (cs : Constants) (is : List ℕ) (j : ℕ) → IsAmong (all_renumbered cs is) j → (i : ℕ) × IsAmong is i × (get_or cs i None ≡ None) × (number cs i ≡ j)
+renumbered_among : (cs : Constants) (is : List ℕ) (j : ℕ) → IsAmong (all_renumbered cs is) j → (i : ℕ) × IsAmong is i × (get_or cs i None ≡ None) × (kept_number cs i ≡ j)
 renumbered_among cs [] j k = absurd k
 renumbered_among cs (i ∷ is) j k = by (get_or cs i None) refl k (λ l. let r = renumbered_among cs is j l in (r.0, inr r.1, r.2, r.3))
   where
     Found : Type 0
-    Found = (n : ℕ) × IsAmong (i ∷ is) n × (get_or cs n None ≡ None) × (number cs n ≡ j)
+    Found = (n : ℕ) × IsAmong (i ∷ is) n × (get_or cs n None ≡ None) × (kept_number cs n ≡ j)
 
     by : (c : Option (List Bit)) → get_or cs i None ≡ c → IsAmong (renumbered cs i c ++ all_renumbered cs is) j → (IsAmong (all_renumbered cs is) j → Found) → Found
     by None e k rest = ⊎_elim (λ f. (i, inl refl, e, f)) (λ l. rest l) k
@@ -129,17 +129,17 @@ different_kept cs [] d = tt
 different_kept cs (i ∷ is) d = by (get_or cs i None) refl (different_kept cs is d.1)
   where
     by : (c : Option (List Bit)) → get_or cs i None ≡ c → Different (all_renumbered cs is) → Different (renumbered cs i c ++ all_renumbered cs is)
-    by None e rest = ((λ k. let r = renumbered_among cs is (number cs i) k in d.0 (subst (λ z. IsAmong is z) (number_one cs r.0 i r.2 e r.3) r.1)), rest)
+    by None e rest = ((λ k. let r = renumbered_among cs is (kept_number cs i) k in d.0 (subst (λ z. IsAmong is z) (number_one cs r.0 i r.2 e r.3) r.1)), rest)
     by (Some v) e rest = rest
 
-within_kept : (cs : Constants) (is : List ℕ) (n : ℕ) → ((i : ℕ) → IsAmong is i → i < n) → (j : ℕ) → IsAmong (all_renumbered cs is) j → j < number cs n
+within_kept : (cs : Constants) (is : List ℕ) (n : ℕ) → ((i : ℕ) → IsAmong is i → i < n) → (j : ℕ) → IsAmong (all_renumbered cs is) j → j < kept_number cs n
 within_kept cs is n below j k =
     let r = renumbered_among cs is j k in
     let lt = number_rises cs r.0 n r.2 (below r.0 r.1) in
     omega (arith, lt, r.3)
 
 -- how many registers are left
-kept_length : {A : Type 0} (cs : Constants) (xs : List A) → length (kept_items cs xs) ≡ number cs (length xs)
+kept_length : {A : Type 0} (cs : Constants) (xs : List A) → length (kept_items cs xs) ≡ kept_number cs (length xs)
 kept_length [] xs = refl
 kept_length (c ∷ cs) [] = refl
 kept_length (Some v ∷ cs) (x ∷ xs) = kept_length cs xs
@@ -147,7 +147,7 @@ kept_length (None ∷ cs) (x ∷ xs) = ap suc (kept_length cs xs)
 
 -- what is true of the sides of choices, and of one register if of another, is true of all parts still
 module _ (P : Part → Type 0) (sides : (x : Bit) → P (Put (symbol_of (side_of x)))) (old : (i j : ℕ) → P (Old i) → P (Old j)) where
-  puts_each : (c : List Bit) (x : Part) → IsAmong (puts c) x → P x
+  puts_each : (c : List Bit) (x : Part) → IsAmong (puts_bits c) x → P x
   puts_each [] x i = absurd i
   puts_each (y ∷ c) x i = ⊎_elim (λ e. subst (λ z. P z) e (sides y)) (λ j. puts_each c x j) i
 
@@ -160,7 +160,7 @@ module _ (P : Part → Type 0) (sides : (x : Bit) → P (Put (symbol_of (side_of
   instead_each cs (Old n) h x i = by (get_or cs n None) i
     where
       by : (c : Option (List Bit)) → IsAmong (constant_or_register cs n c) x → P x
-      by None i = one_each (Old (number cs n)) x (old n (number cs n) h) i
+      by None i = one_each (Old (kept_number cs n)) x (old n (kept_number cs n) h) i
       by (Some c) i = puts_each c x i
 
   replaced_each : (cs : Constants) (ys : List Part) → ((y : Part) → IsAmong ys y → P y) → (x : Part) → IsAmong (cleared_parts cs ys) x → P x
@@ -178,7 +178,7 @@ module _ (P : Part → Type 0) (sides : (x : Bit) → P (Put (symbol_of (side_of
   cleared_each cs ds u h = record { out = replaced_each cs u.out h.out; regs = lists_each cs ds u.regs h.regs }
 
 cleared_reads : (cs ds : Constants) (u : Change) → all_renumbered cs (olds u.out ++ olds_in (kept_items ds u.regs)) ≡ reads_of (cleared_change cs u ds)
-cleared_reads cs ds u = renumbered-append cs (olds u.out) (olds_in (kept_items ds u.regs)) ∙ ap₂ (λ x y. x ++ y) (sym (replaced_olds cs u.out)) (sym (replaced_reads cs (kept_items ds u.regs)))
+cleared_reads cs ds u = all_renumbered-append cs (olds u.out) (olds_in (kept_items ds u.regs)) ∙ ap₂ (λ x y. x ++ y) (sym (replaced_olds cs u.out)) (sym (replaced_reads cs (kept_items ds u.regs)))
 
 some_reads : (ds : Constants) (u : Change) → IsOf (olds u.out ++ olds_in (kept_items ds u.regs)) (reads_of u)
 some_reads ds u = of_both (olds_in (kept_items ds u.regs)) (olds_in u.regs) (of_self (olds u.out)) (kept_reads ds u.regs)
@@ -187,15 +187,15 @@ side_choice : (x : Bit) → IsChoice (symbol_of (side_of x))
 side_choice L = tt
 side_choice R = tt
 
-cleared_update : (cs ds : Constants) (u : Change) (n m : ℕ) → IsUpdate n m u → IsUpdate (number cs n) (number ds m) (cleared_change cs u ds)
+cleared_update : (cs ds : Constants) (u : Change) (n m : ℕ) → IsUpdate n m u → IsUpdate (kept_number cs n) (kept_number ds m) (cleared_change cs u ds)
 cleared_update cs ds u n m h = record {
-  count = length-map (kept_items ds u.regs) (λ x. cleared_parts cs x) ∙ kept_length ds u.regs ∙ ap (λ z. number ds z) h.count;
+  count = length-map (kept_items ds u.regs) (λ x. cleared_parts cs x) ∙ kept_length ds u.regs ∙ ap (λ z. kept_number ds z) h.count;
   once = subst (λ z. Different z) (cleared_reads cs ds u) (different_kept cs (olds u.out ++ olds_in (kept_items ds u.regs)) (of_different (some_reads ds u) h.once));
   within = λ j k. within_kept cs (olds u.out ++ olds_in (kept_items ds u.regs)) n (λ i l. h.within i (of_among (some_reads ds u) i l)) j (subst (λ z. IsAmong z j) (sym (cleared_reads cs ds u)) k);
   choices = cleared_each PutsChoice side_choice (λ i j h. tt) cs ds u h.choices;
 }
 
-cleared_ends : (cs : Constants) (way : Option (List Part)) (n : ℕ) → IsWayIf n way → IsWayIf (number cs n) (cleared_way cs way)
+cleared_ends : (cs : Constants) (way : Option (List Part)) (n : ℕ) → IsWayIf n way → IsWayIf (kept_number cs n) (cleared_way cs way)
 cleared_ends cs None n h = tt
 cleared_ends cs (Some way) n h = record {
   once = subst (λ z. Different z) (sym (replaced_olds cs way)) (different_kept cs (olds way) h.once);
@@ -203,7 +203,7 @@ cleared_ends cs (Some way) n h = record {
   kept = replaced_each IsKept side_choice (λ i j h. tt) cs way h.kept;
 }
 
-leads_cleared : (css : List Constants) (ss : List Row) (cs : Constants) (from target : ℕ) (u : Change) → LeadsTo ss from target u → LeadsTo (cleared_states css 0 ss) (number cs from) target (cleared_change cs u (get_or css target []))
+leads_cleared : (css : List Constants) (ss : List Row) (cs : Constants) (from target : ℕ) (u : Change) → LeadsTo ss from target u → LeadsTo (cleared_states css 0 ss) (kept_number cs from) target (cleared_change cs u (get_or css target []))
 leads_cleared css ss cs from target u h = record {
   row = cleared_state css (get_or css target []) h.row;
   at = state_at css ss target ∙ ap (λ z. cleared_state_if css (get_or css target []) z) h.at;
@@ -217,14 +217,14 @@ of_transition css cs (None ∷ go) zero r e = absurd cc
 of_transition css cs (Some q ∷ go) zero r e = (q, refl, same_Some (cleared_transition css cs (Some q)) (Some r) e)
 of_transition css cs (q ∷ go) (suc k) r e = of_transition css cs go k r e
 
-cleared_state_is : (css : List Constants) (cs : Constants) (classes : List ℕ) (ss : List Row) (s : Row) → IsState classes ss s → IsState classes (cleared_states css 0 ss) (cleared_state css cs s)
+cleared_state_is : (css : List Constants) (cs : Constants) (classes : List ℕ) (ss : List Row) (s : Row) → IsTableState classes ss s → IsTableState classes (cleared_states css 0 ss) (cleared_state css cs s)
 cleared_state_is css cs classes ss s h = record {
   long = length-map s.go (λ r. cleared_transition css cs r) ∙ h.long;
   ends = cleared_ends cs s.accepting s.registers h.ends;
   goes = λ k r e.
       let q = of_transition css cs s.go k r e in
       let same = same_Some (record { target = q.0.target; update = cleared_change cs q.0.update (get_or css q.0.target []) }) r q.2 in
-      subst (λ (z : Transition). LeadsTo (cleared_states css 0 ss) (number cs s.registers) z.target z.update) same (leads_cleared css ss cs s.registers q.0.target q.0.update (h.goes k q.0 q.1));
+      subst (λ (z : Transition). LeadsTo (cleared_states css 0 ss) (kept_number cs s.registers) z.target z.update) same (leads_cleared css ss cs s.registers q.0.target q.0.update (h.goes k q.0 q.1));
 }
 
 states_count : (css : List Constants) (i : ℕ) (ss : List Row) → length (cleared_states css i ss) ≡ length ss
@@ -241,6 +241,6 @@ cleared_is_table css t h = record {
   few = subst (λ z. z < 4294967296) (sym (states_count css 0 t.states)) h.few;
 }
   where
-    by : (i : ℕ) (o : Option Row) (s : Row) → slice_get t.states i ≡ o → cleared_state_if css (get_or css i []) o ≡ Some s → IsState t.classes (cleared_states css 0 t.states) s
+    by : (i : ℕ) (o : Option Row) (s : Row) → slice_get t.states i ≡ o → cleared_state_if css (get_or css i []) o ≡ Some s → IsTableState t.classes (cleared_states css 0 t.states) s
     by i None s f e = absurd cc
-    by i (Some r) s f e = subst (λ z. IsState t.classes (cleared_states css 0 t.states) z) (same_Some (cleared_state css (get_or css i []) r) s e) (cleared_state_is css (get_or css i []) t.classes t.states r (h.states i r f))
+    by i (Some r) s f e = subst (λ z. IsTableState t.classes (cleared_states css 0 t.states) z) (same_Some (cleared_state css (get_or css i []) r) s e) (cleared_state_is css (get_or css i []) t.classes t.states r (h.states i r f))

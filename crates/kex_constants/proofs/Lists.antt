@@ -14,22 +14,22 @@ use Rattle.kex_sst.specs.declared.table.Transition.{Transition}
 use Rattle.kex_sst.specs.Parts.{value, parts_code}
 use Rattle.kex_sst.specs.Tables.{Row, transition_if}
 use Rattle.kex_constants.specs.Known.{Constants, symbols, kept_items, item_if_kept}
-use Rattle.kex_constants.specs.Clearing.{puts, parts_for, cleared_parts, cleared_state, cleared_states}
+use Rattle.kex_constants.specs.Clearing.{puts_bits, parts_for, cleared_parts, cleared_state, cleared_states}
 
 pub symbols-append : (c d : List Bit) → symbols (c ++ d) ≡ symbols c ++ symbols d
 symbols-append [] d = refl
 symbols-append (x ∷ c) d = ap (λ z. symbol_of (side_of x) ∷ z) (symbols-append c d)
 
-pub meant-append : (regs : List (List Symbol)) (b : ℕ) (xs ys : List Part) → parts_code regs b (xs ++ ys) ≡ parts_code regs b xs ++ parts_code regs b ys
-meant-append regs b [] ys = refl
-meant-append regs b (x ∷ xs) ys = ap (λ z. value regs b x ++ z) (meant-append regs b xs ys) ∙ sym (append_assoc (value regs b x) (parts_code regs b xs) (parts_code regs b ys))
+pub parts_code-append : (regs : List (List Symbol)) (b : ℕ) (xs ys : List Part) → parts_code regs b (xs ++ ys) ≡ parts_code regs b xs ++ parts_code regs b ys
+parts_code-append regs b [] ys = refl
+parts_code-append regs b (x ∷ xs) ys = ap (λ z. value regs b x ++ z) (parts_code-append regs b xs ys) ∙ sym (append_assoc (value regs b x) (parts_code regs b xs) (parts_code regs b ys))
 
-pub meant-puts : (regs : List (List Symbol)) (b : ℕ) (c : List Bit) → parts_code regs b (puts c) ≡ symbols c
-meant-puts regs b [] = refl
-meant-puts regs b (x ∷ c) = ap (λ z. symbol_of (side_of x) ∷ z) (meant-puts regs b c)
+pub parts_code-puts_bits : (regs : List (List Symbol)) (b : ℕ) (c : List Bit) → parts_code regs b (puts_bits c) ≡ symbols c
+parts_code-puts_bits regs b [] = refl
+parts_code-puts_bits regs b (x ∷ c) = ap (λ z. symbol_of (side_of x) ∷ z) (parts_code-puts_bits regs b c)
 
 pub meant_more : (regs : List (List Symbol)) (b : ℕ) (xs : List Part) (i : ℕ) → i < length xs → parts_code regs b (take (i + 1) xs) ≡ parts_code regs b (take i xs) ++ value regs b (get_or xs i (Put symbol.L))
-meant_more regs b xs i lt = ap (λ z. parts_code regs b z) (take_more xs i (Put symbol.L) lt) ∙ meant-append regs b (take i xs) (get_or xs i (Put symbol.L) ∷ []) ∙ ap (λ z. parts_code regs b (take i xs) ++ z) (append-nil (value regs b (get_or xs i (Put symbol.L))))
+meant_more regs b xs i lt = ap (λ z. parts_code regs b z) (take_more xs i (Put symbol.L) lt) ∙ parts_code-append regs b (take i xs) (get_or xs i (Put symbol.L) ∷ []) ∙ ap (λ z. parts_code regs b (take i xs) ++ z) (append-nil (value regs b (get_or xs i (Put symbol.L))))
 
 pub given_at : (lists : List (List Part)) (i : ℕ) (x : List Part) (regs : List (List Symbol)) (b : ℕ) → i < length lists → x ≡ get_or lists i x → get_or (map (λ y. parts_code regs b y) lists) i [] ≡ parts_code regs b x
 given_at [] i x regs b lt e = absurd (omega arith)
@@ -42,19 +42,19 @@ each_read P [] none each k = none
 each_read P (r ∷ go) none each zero = each 0 (omega arith)
 each_read P (r ∷ go) none each (suc k) = each_read P go none (λ j lt. each (suc j) (omega arith)) k
 
-puts-append : (c d : List Bit) → puts (c ++ d) ≡ puts c ++ puts d
-puts-append [] d = refl
-puts-append (x ∷ c) d = ap (λ z. Put (symbol_of (side_of x)) ∷ z) (puts-append c d)
+puts_bits-append : (c d : List Bit) → puts_bits (c ++ d) ≡ puts_bits c ++ puts_bits d
+puts_bits-append [] d = refl
+puts_bits-append (x ∷ c) d = ap (λ z. Put (symbol_of (side_of x)) ∷ z) (puts_bits-append c d)
 
-pub puts_more : (c : List Bit) (i : ℕ) → i < length c → puts (take (i + 1) c) ≡ puts (take i c) ++ Put (symbol_of (side_of (get_or c i L))) ∷ []
-puts_more c i lt = ap puts (take_more c i L lt) ∙ puts-append (take i c) (get_or c i L ∷ [])
+pub puts_more : (c : List Bit) (i : ℕ) → i < length c → puts_bits (take (i + 1) c) ≡ puts_bits (take i c) ++ Put (symbol_of (side_of (get_or c i L))) ∷ []
+puts_more c i lt = ap puts_bits (take_more c i L lt) ∙ puts_bits-append (take i c) (get_or c i L ∷ [])
 
-pub replaced-append : (cs : Constants) (xs ys : List Part) → cleared_parts cs (xs ++ ys) ≡ cleared_parts cs xs ++ cleared_parts cs ys
-replaced-append cs [] ys = refl
-replaced-append cs (x ∷ xs) ys = ap (λ z. parts_for cs x ++ z) (replaced-append cs xs ys) ∙ sym (append_assoc (parts_for cs x) (cleared_parts cs xs) (cleared_parts cs ys))
+pub cleared_parts-append : (cs : Constants) (xs ys : List Part) → cleared_parts cs (xs ++ ys) ≡ cleared_parts cs xs ++ cleared_parts cs ys
+cleared_parts-append cs [] ys = refl
+cleared_parts-append cs (x ∷ xs) ys = ap (λ z. parts_for cs x ++ z) (cleared_parts-append cs xs ys) ∙ sym (append_assoc (parts_for cs x) (cleared_parts cs xs) (cleared_parts cs ys))
 
 pub replaced_more : (cs : Constants) (xs : List Part) (i : ℕ) → i < length xs → cleared_parts cs (take (i + 1) xs) ≡ cleared_parts cs (take i xs) ++ parts_for cs (get_or xs i (Put symbol.L))
-replaced_more cs xs i lt = ap (λ z. cleared_parts cs z) (take_more xs i (Put symbol.L) lt) ∙ replaced-append cs (take i xs) (get_or xs i (Put symbol.L) ∷ []) ∙ ap (λ z. cleared_parts cs (take i xs) ++ z) (append-nil (parts_for cs (get_or xs i (Put symbol.L))))
+replaced_more cs xs i lt = ap (λ z. cleared_parts cs z) (take_more xs i (Put symbol.L) lt) ∙ cleared_parts-append cs (take i xs) (get_or xs i (Put symbol.L) ∷ []) ∙ ap (λ z. cleared_parts cs (take i xs) ++ z) (append-nil (parts_for cs (get_or xs i (Put symbol.L))))
 
 pub kept_none : {A : Type 0} (cs : Constants) → [] ≡ kept_items {A = A} cs []
 kept_none [] = refl

@@ -5,22 +5,22 @@ use Rattle.kex_machine.specs.Nodes.{Graph, node_moves}
 use Rattle.kex_sst.specs.Tables.{Transducer}
 use Rattle.kex_sst.specs.Passes.{Pass, passes, whole_code}
 use Rattle.kex_sst.specs.Machines.{IsTableOf}
-use Rattle.kex_constants.specs.Alike.{AreAlike, PassAlike}
+use Rattle.kex_constants.specs.Alike.{PassesAreAlike, PassAlike}
 
 module _ (g : Graph) (t u : Transducer) where
   -- the pass of the other table
-  other : (p : Option Pass) (q : Pass) → AreAlike t u p (Some q) → (o : Pass) × (p ≡ Some o) × (q.code ≡ o.code) × (whole_code u q ≡ whole_code t o)
+  other : (p : Option Pass) (q : Pass) → PassesAreAlike t u p (Some q) → (o : Pass) × (p ≡ Some o) × (q.code ≡ o.code) × (whole_code u q ≡ whole_code t o)
   other None q a = absurd a
   other (Some p) q (state, code, ends) = (p, refl, code, ends)
 
-  none : (p : Option Pass) → AreAlike t u p None → p ≡ None
+  none : (p : Option Pass) → PassesAreAlike t u p None → p ≡ None
   none None a = refl
   none (Some p) a = absurd a
 
   pub same_machine : PassAlike t u → IsTableOf g t → IsTableOf g u
   same_machine alike h = record {
-    goes_on = λ w q e. let o = other (passes t w) q (subst (λ z. AreAlike t u (passes t w) z) e (alike w)) in subst (λ z. Agreed (node_moves g.nodes) g.start w z) (sym o.2) (h.goes_on w o.0 o.1);
-    stops = λ w e. h.stops w (none (passes t w) (subst (λ z. AreAlike t u (passes t w) z) e (alike w)));
-    parsed = λ w q c e f. let o = other (passes t w) q (subst (λ z. AreAlike t u (passes t w) z) e (alike w)) in h.parsed w o.0 c o.1 (sym o.3 ∙ f);
-    cut = λ w q e f. let o = other (passes t w) q (subst (λ z. AreAlike t u (passes t w) z) e (alike w)) in h.cut w o.0 o.1 (sym o.3 ∙ f);
+    goes_on = λ w q e. let o = other (passes t w) q (subst (λ z. PassesAreAlike t u (passes t w) z) e (alike w)) in subst (λ z. Agreed (node_moves g.nodes) g.start w z) (sym o.2) (h.goes_on w o.0 o.1);
+    stops = λ w e. h.stops w (none (passes t w) (subst (λ z. PassesAreAlike t u (passes t w) z) e (alike w)));
+    parsed = λ w q c e f. let o = other (passes t w) q (subst (λ z. PassesAreAlike t u (passes t w) z) e (alike w)) in h.parsed w o.0 c o.1 (sym o.3 ∙ f);
+    cut = λ w q e f. let o = other (passes t w) q (subst (λ z. PassesAreAlike t u (passes t w) z) e (alike w)) in h.cut w o.0 o.1 (sym o.3 ∙ f);
   }

@@ -4,12 +4,12 @@ use Rattle.kex_sst.specs.Tables.{Transducer}
 use Rattle.kex_sst.specs.Passes.{Pass, passes, whole_code}
 
 -- both or neither went on; then they are at the same state, passed on the same, and end alike
-abbrev pub AreAlike : Transducer → Transducer → Option Pass → Option Pass → Type 0
-AreAlike t u None None = Unit {0}
-AreAlike t u None (Some q) = ⊥
-AreAlike t u (Some p) None = ⊥
-AreAlike t u (Some p) (Some q) = (q.state ≡ p.state) × (q.code ≡ p.code) × (whole_code u q ≡ whole_code t p)
+abbrev pub PassesAreAlike : Transducer → Transducer → Option Pass → Option Pass → Type 0
+PassesAreAlike t u None None = Unit {0}
+PassesAreAlike t u None (Some q) = ⊥
+PassesAreAlike t u (Some p) None = ⊥
+PassesAreAlike t u (Some p) (Some q) = (q.state ≡ p.state) × (q.code ≡ p.code) × (whole_code u q ≡ whole_code t p)
 
 -- they are so after every text
 abbrev pub PassAlike : Transducer → Transducer → Type 0
-PassAlike t u = (w : List ℕ) → AreAlike t u (passes t w) (passes u w)
+PassAlike t u = (w : List ℕ) → PassesAreAlike t u (passes t w) (passes u w)

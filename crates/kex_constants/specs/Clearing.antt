@@ -10,17 +10,17 @@ use Rattle.kex_sst.specs.declared.table.Transition.{Transition}
 use Rattle.kex_sst.specs.Parts.{Change, parts_code}
 use Rattle.kex_sst.specs.Tables.{Row, Transducer}
 use Rattle.kex_sst.specs.Passes.{Pass, passes}
-use Rattle.kex_constants.specs.Known.{Constants, Hold, kept_items, number}
+use Rattle.kex_constants.specs.Known.{Constants, Hold, kept_items, kept_number}
 
 -- each choice as a part
-abbrev pub puts : List Bit → List Part
-puts [] = []
-puts (x ∷ xs) = Put (symbol_of (side_of x)) ∷ puts xs
+abbrev pub puts_bits : List Bit → List Part
+puts_bits [] = []
+puts_bits (x ∷ xs) = Put (symbol_of (side_of x)) ∷ puts_bits xs
 
 -- a constant, or else the register by its new number
 abbrev pub constant_or_register : Constants → ℕ → Option (List Bit) → List Part
-constant_or_register cs i None = Old (number cs i) ∷ []
-constant_or_register cs i (Some c) = puts c
+constant_or_register cs i None = Old (kept_number cs i) ∷ []
+constant_or_register cs i (Some c) = puts_bits c
 
 abbrev pub parts_for : Constants → Part → List Part
 parts_for cs (Put s) = Put s ∷ []
@@ -45,7 +45,7 @@ cleared_way cs None = None
 cleared_way cs (Some way) = Some (cleared_parts cs way)
 
 abbrev pub cleared_state : List Constants → Constants → Row → Row
-cleared_state css cs s = record { registers = number cs s.registers; accepting = cleared_way cs s.accepting; go = map (λ r. cleared_transition css cs r) s.go }
+cleared_state css cs s = record { registers = kept_number cs s.registers; accepting = cleared_way cs s.accepting; go = map (λ r. cleared_transition css cs r) s.go }
 
 -- the states from number i on
 abbrev pub cleared_states : List Constants → ℕ → List Row → List Row
@@ -56,12 +56,12 @@ abbrev pub cleared_table : List Constants → Transducer → Transducer
 cleared_table css t = record { classes = t.classes; initial = cleared_change [] t.initial (get_or css 0 []); states = cleared_states css 0 t.states }
 
 -- where the old registers hold their constants, the new ones are given theirs
-abbrev pub Gives : Constants → Change → Constants → Type 0
-Gives cs u ds = (regs : List (List Symbol)) (b : ℕ) → Hold cs regs → Hold ds (map (λ x. parts_code regs b x) u.regs)
+abbrev pub GivesConstants : Constants → Change → Constants → Type 0
+GivesConstants cs u ds = (regs : List (List Symbol)) (b : ℕ) → Hold cs regs → Hold ds (map (λ x. parts_code regs b x) u.regs)
 
 abbrev pub GivesIf : List Constants → Constants → Option Transition → Type 0
 GivesIf css cs None = Unit {0}
-GivesIf css cs (Some r) = Gives cs r.update (get_or css r.target [])
+GivesIf css cs (Some r) = GivesConstants cs r.update (get_or css r.target [])
 
 abbrev pub HoldAfter : List Constants → Option Pass → Type 0
 HoldAfter css None = Unit {0}

@@ -31,11 +31,11 @@ item_if_kept None x = x ∷ []
 item_if_kept (Some c) x = []
 
 -- the number of a register among those that are kept
-abbrev pub number : Constants → ℕ → ℕ
-number [] i = i
-number (c ∷ cs) zero = 0
-number (Some c ∷ cs) (suc i) = number cs i
-number (None ∷ cs) (suc i) = suc (number cs i)
+abbrev pub kept_number : Constants → ℕ → ℕ
+kept_number [] i = i
+kept_number (c ∷ cs) zero = 0
+kept_number (Some c ∷ cs) (suc i) = kept_number cs i
+kept_number (None ∷ cs) (suc i) = suc (kept_number cs i)
 
 abbrev pub one_if_kept : Option (List Bit) → ℕ
 one_if_kept None = 1
@@ -44,4 +44,4 @@ one_if_kept (Some c) = 0
 -- the new numbers of all these registers, and of the next that there would be
 pub record AreNumbers (cs : Constants) (ns : List ℕ) : Type 0 where
   pub count : length ns ≡ suc (length cs)
-  pub each : (i : ℕ) → i < length ns → get_or ns i 0 ≡ number cs i
+  pub each : (i : ℕ) → i < length ns → get_or ns i 0 ≡ kept_number cs i

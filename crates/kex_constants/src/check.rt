@@ -8,7 +8,7 @@ ghost use Rattle.kex_model.specs.Moves.{symbol_of};
 ghost use Rattle.kex_sst.specs.Parts.{value, parts_code};
 ghost use Rattle.kex_sst.specs.Tables.{transition_if};
 ghost use Rattle.kex_constants.specs.Known.{Hold, symbols};
-ghost use Rattle.kex_constants.specs.Clearing.{Gives, GivesIf, HoldAlways};
+ghost use Rattle.kex_constants.specs.Clearing.{GivesConstants, GivesIf, HoldAlways};
 
 use crate::choices::Choices;
 use crate::known::{Constants, constant_of};
@@ -94,7 +94,7 @@ pub fn gives(
     to: &[Option<Choices>],
     spare: &mut Choices,
 ) -> Result<bool, Memory>
-    ensures { IfOk result (λ yes. IsTrue yes → Gives from.now update.now to.now) }
+    ensures { IfOk result (λ yes. IsTrue yes → GivesConstants from.now update.now to.now) }
 {
     for (register, constant) in to.iter().enumerate() {
         if !is_given(update.regs(), register, from, constant, spare)? {

@@ -1,7 +1,7 @@
 // What registers are known to hold, by state and register.
 
 ghost use Rattle.std.specs.Prelude.{◌≡◌, [], Some, None, IfOk, IfSome, IfNone, get_or, map};
-ghost use Rattle.kex_constants.specs.Known.{AreNumbers, number, one_if_kept};
+ghost use Rattle.kex_constants.specs.Known.{AreNumbers, kept_number, one_if_kept};
 ghost use Rattle.kex_constants.specs.States.{constants_of};
 
 use crate::choices::Choices;
@@ -45,7 +45,7 @@ impl Known {
 
     /// The number of a register among those without a constant.
     pub fn number(&self, register: u32) -> u32
-        ensures { result ≡ number self.now register }
+        ensures { result ≡ kept_number self.now register }
     {
         let at = register as usize;
         let past = self.constants.len();

@@ -2,7 +2,7 @@
 
 ghost use Rattle.std.specs.Prelude.{◌≡◌, ◌++◌, IfOk, OnOk, map, get_or, None};
 ghost use Rattle.kex_constants.specs.Known.{item_if_kept};
-ghost use Rattle.kex_constants.specs.Clearing.{puts, parts_for, cleared_parts, cleared_change, cleared_transition, cleared_way, cleared_state, cleared_states, cleared_table};
+ghost use Rattle.kex_constants.specs.Clearing.{puts_bits, parts_for, cleared_parts, cleared_change, cleared_transition, cleared_way, cleared_state, cleared_states, cleared_table};
 
 use crate::choices::Choices;
 use crate::known::{Constants, Known, constant_of};
@@ -15,7 +15,7 @@ use kex_sst::updates::Updates;
 use std::alloc::Global;
 
 fn put_choices(choices: &[Bit], into: &mut Parts) -> Result<(), Memory>
-    ensures { OnOk result (into.new ≡ into.old ++ puts choices.now) }
+    ensures { OnOk result (into.new ≡ into.old ++ puts_bits choices.now) }
 {
     for side in choices {
         into.push(Part::Put(Symbol::from(*side)))?;

@@ -9,13 +9,13 @@ use Rattle.kex_model.specs.Moves.{Move, target_of}
 use Rattle.kex_model.specs.Places.{Place, IsPlace, at_start, by_step, by_rest, enter, moves, start_of}
 use Rattle.kex_model.specs.Alike.{Goes, reads_on, chooses, forces, goes_on}
 use Rattle.kex_model.proofs.Likeness.{goes_more, step_ahead}
-use Rattle.kex_machine.specs.Nodes.{IsBelow, IsInRange, move_of, node_moves}
+use Rattle.kex_machine.specs.Nodes.{IsBelow, IsMachineInRange, move_of, node_moves}
 use Rattle.kex_machine.specs.declared.MNode.{MNode}
 use Rattle.kex_machine.specs.declared.MNode.TheVariants.{Accept, Read, Choice, Forced, Do, Skip}
 use Rattle.kex_desugar.specs.declared.spot.Spot.{Spot}
 use Rattle.kex_desugar.specs.declared.spot.Spot.TheVariants.{Empty, On}
 use Rattle.kex_desugar.specs.Machines.{HasMore, IsMachineOf}
-use Rattle.kex_desugar.specs.Spots.{Names, IsAt, IsReal, NodeOf, Real}
+use Rattle.kex_desugar.specs.Spots.{SpotIsPlace, IsAt, IsReal, NodeOf, Real}
 use Rattle.kex_model.proofs.Tables.{some_same, get_more, get_pushed}
 use Rattle.kex_desugar.proofs.PlaceNumbers.{names_more, one_place, one_at, one_number}
 use Rattle.kex_desugar.proofs.SpotWays.{at_later}
@@ -31,8 +31,8 @@ at_within spots p i (s, at, h) = slice_get_within spots i s at
 module _ (P : Grammar) (root : ℕ) where
   node_later : (xs ys : List Spot) (s : Spot) (m : MNode) → IsReal P root xs s → Begins ys xs → NodeOf P xs s m → NodeOf P ys s m
   node_later xs ys s m (p0, h0, is) (more, e) node p h =
-      let new : Names ys s p0 = subst (λ z. Names z s p0) (sym e) (names_more xs more s p0 h0) in
-      goes_more (IsAt xs) (IsAt ys) (λ q i at. at_later xs ys (more, e) q i at) (node p (subst (λ z. Names xs s z) (one_place ys s p0 p new h) h0))
+      let new : SpotIsPlace ys s p0 = subst (λ z. SpotIsPlace z s p0) (sym e) (names_more xs more s p0 h0) in
+      goes_more (IsAt xs) (IsAt ys) (λ q i at. at_later xs ys (more, e) q i at) (node p (subst (λ z. SpotIsPlace xs s z) (one_place ys s p0 p new h) h0))
 
   -- the first nodes are those of the first spots
   pub record Made (max : ℕ) (spots : List Spot) (nodes : List MNode) (start bottom : ℕ) : Type 0 where
@@ -172,7 +172,7 @@ module _ (P : Grammar) (root : ℕ) where
         (λ h. let past : length spots ≤ i = h.0 in let l : length nodes ≡ length spots = same_length in absurd (omega arith))
         (slice_get_cases spots i).1
 
-    pub in_range : IsGrammar P → max < 4294967296 → IsInRange start nodes P.registers
+    pub in_range : IsGrammar P → max < 4294967296 → IsMachineInRange start nodes P.registers
     in_range ok small = record {
       count = let w : length spots ≤ max = made.within in let l : length nodes ≡ length spots = same_length in omega arith;
       start_in = subst (λ z. start < z) (sym same_length) (at_within spots (start_of P root) start starts);

@@ -9,7 +9,7 @@ use Rattle.kex_model.specs.Places.{Place, IsPlace}
 use Rattle.kex_desugar.specs.declared.spot.Spot.{Spot}
 use Rattle.kex_desugar.specs.declared.spot.Spot.TheVariants.{Empty, On}
 use Rattle.kex_desugar.specs.Machines.{HasMore}
-use Rattle.kex_desugar.specs.Spots.{Names, IsAt, IsReal, Real}
+use Rattle.kex_desugar.specs.Spots.{SpotIsPlace, IsAt, IsReal, Real}
 use Rattle.kex_model.proofs.Tables.{some_same, get_more, get_pushed}
 
 pub on_same : (f g : Frame) (r s : ℕ) → On f r ≡ On g s → (f ≡ g) × (r ≡ s)
@@ -18,7 +18,7 @@ on_same f g r s e = ((cc), (cc))
 pub not_empty : (f : Frame) (r : ℕ) → Empty ≡ On f r → ⊥
 not_empty f r e = cc
 
-pub names_more : (xs ys : List Spot) (s : Spot) (p : Place) → Names xs s p → Names (xs ++ ys) s p
+pub names_more : (xs ys : List Spot) (s : Spot) (p : Place) → SpotIsPlace xs s p → SpotIsPlace (xs ++ ys) s p
 names_more xs ys s [] h = h
 names_more xs ys s (f ∷ p) (r, t, e, g, h) = (r, t, e, get_more xs ys r t g, names_more xs ys t p h)
 
@@ -26,20 +26,20 @@ pub at_more : (xs ys : List Spot) (i : ℕ) (p : Place) → IsAt xs p i → IsAt
 at_more xs ys i p (s, g, h) = (s, get_more xs ys i s g, names_more xs ys s p h)
 
 -- a spot stands for one place
-pub one_place : (xs : List Spot) (s : Spot) (p q : Place) → Names xs s p → Names xs s q → p ≡ q
+pub one_place : (xs : List Spot) (s : Spot) (p q : Place) → SpotIsPlace xs s p → SpotIsPlace xs s q → p ≡ q
 one_place xs s [] [] h k = refl
 one_place xs s [] (g ∷ q) h k = absurd (not_empty g k.0 (sym h ∙ k.2))
 one_place xs s (f ∷ p) [] h k = absurd (not_empty f h.0 (sym k ∙ h.2))
 one_place xs s (f ∷ p) (g ∷ q) (r, t, e, at, h) (r', t', e', at', k) =
     let both : (f ≡ g) × (r ≡ r') = on_same f g r r' (sym e ∙ e') in
     let under : t ≡ t' = some_same t t' (sym at ∙ ap (λ z. slice_get xs z) both.1 ∙ at') in
-    ap₂ (λ x y. x ∷ y) both.0 (one_place xs t p q h (subst (λ z. Names xs z q) (sym under) k))
+    ap₂ (λ x y. x ∷ y) both.0 (one_place xs t p q h (subst (λ z. SpotIsPlace xs z q) (sym under) k))
 
 abbrev pub Once : List Spot → Type 0
 Once xs = (i j : ℕ) (s : Spot) → slice_get xs i ≡ Some s → slice_get xs j ≡ Some s → i ≡ j
 
 -- a place has one spot
-pub one_spot : (xs : List Spot) → Once xs → (p : Place) (s s' : Spot) → Names xs s p → Names xs s' p → s ≡ s'
+pub one_spot : (xs : List Spot) → Once xs → (p : Place) (s s' : Spot) → SpotIsPlace xs s p → SpotIsPlace xs s' p → s ≡ s'
 one_spot xs once [] s s' h k = h ∙ sym k
 one_spot xs once (f ∷ p) s s' (r, t, e, at, h) (r', t', e', at', k) =
     let under : t ≡ t' = one_spot xs once p t t' h k in
@@ -47,7 +47,7 @@ one_spot xs once (f ∷ p) s s' (r, t, e, at, h) (r', t', e', at', k) =
     e ∙ ap (λ z. On f z) same ∙ sym e'
 
 pub one_at : (xs : List Spot) (i : ℕ) (p q : Place) → IsAt xs p i → IsAt xs q i → p ≡ q
-one_at xs i p q (s, at, h) (s', at', k) = one_place xs s p q h (subst (λ z. Names xs z q) (some_same s' s (sym at' ∙ at)) k)
+one_at xs i p q (s, at, h) (s', at', k) = one_place xs s p q h (subst (λ z. SpotIsPlace xs z q) (some_same s' s (sym at' ∙ at)) k)
 
 pub one_number : (xs : List Spot) → Once xs → (p : Place) (i j : ℕ) → IsAt xs p i → IsAt xs p j → i ≡ j
 one_number xs once p i j (s, at, h) (s', at', k) = once i j s at (at' ∙ ap (λ z. Some z) (sym (one_spot xs once p s s' h k)))

@@ -13,7 +13,7 @@ use Rattle.kex_desugar.specs.declared.spot.Spot.{Spot}
 use Rattle.kex_desugar.specs.declared.spot.Spot.TheVariants.{On}
 use Rattle.kex_desugar.specs.declared.plan.Way.{Way}
 use Rattle.kex_desugar.specs.declared.plan.Way.TheVariants.{Both}
-use Rattle.kex_desugar.specs.declared.plan.Plan.{Plan}
+use Rattle.kex_desugar.specs.declared.plan.NodePlan.{NodePlan}
 use Rattle.kex_desugar.specs.Plans.{frames, plan_move}
 use Rattle.kex_desugar.specs.Spots.{IsAt, IsReal, IsOnPlace, NodeOf}
 use Rattle.kex_desugar.proofs.PlaceNumbers.{on_same, not_empty, at_more, one_at}
@@ -56,7 +56,7 @@ module _ (P : Grammar) (root : ℕ) where
       (q, (t, ap (λ z. slice_get xs z) (sym both.1) ∙ at, h), subst (λ z. IsPlace P root (z ∷ q)) both.0 is)
 
   -- where a plan leads is a place
-  pub on_place : (xs : List Spot) (f : Frame) (r : ℕ) (plan : Plan) (w : Way) → IsReal P root xs (On f r) → ((q : Place) → moves P (f ∷ q) ≡ plan_move plan q) → ((q : Place) → (k : Step Place) × Allows (plan_move plan q) k × (target_of k ≡ frames w ++ q)) → IsOnPlace P root xs w r
+  pub on_place : (xs : List Spot) (f : Frame) (r : ℕ) (plan : NodePlan) (w : Way) → IsReal P root xs (On f r) → ((q : Place) → moves P (f ∷ q) ≡ plan_move plan q) → ((q : Place) → (k : Step Place) × Allows (plan_move plan q) k × (target_of k ≡ frames w ++ q)) → IsOnPlace P root xs w r
   on_place xs f r plan w real is step =
       let u = under xs f r real in
       let s = step u.0 in
@@ -78,7 +78,7 @@ module _ (P : Grammar) (root : ℕ) where
       let u = under xs f r real in
       subst (λ z. IsAt xs z r) (one_at ys r u.0 q (at_later xs ys b u.0 r u.1) h) u.1
 
-  pub node_by_plan : (ys : List Spot) (f : Frame) (r : ℕ) (plan : Plan) (m : MNode) → ((q : Place) → moves P (f ∷ q) ≡ plan_move plan q) → ((q : Place) → IsAt ys q r → Goes (IsAt ys) (plan_move plan q) (move_of (Some m))) → NodeOf P ys (On f r) m
+  pub node_by_plan : (ys : List Spot) (f : Frame) (r : ℕ) (plan : NodePlan) (m : MNode) → ((q : Place) → moves P (f ∷ q) ≡ plan_move plan q) → ((q : Place) → IsAt ys q r → Goes (IsAt ys) (plan_move plan q) (move_of (Some m))) → NodeOf P ys (On f r) m
   node_by_plan ys f r plan m is goes [] h = absurd (not_empty f r (sym h))
   node_by_plan ys f r plan m is goes (g ∷ q) (r', t, e, at, h) =
       let both : (f ≡ g) × (r ≡ r') = on_same f g r r' e in

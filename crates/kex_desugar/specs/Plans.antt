@@ -11,8 +11,8 @@ use Rattle.kex_model.specs.Places.{Place}
 use Rattle.kex_machine.specs.Nodes.{effect_of}
 use Rattle.kex_desugar.specs.declared.plan.Way.{Way}
 use Rattle.kex_desugar.specs.declared.plan.Way.TheVariants.{Rest, Under, Both}
-use Rattle.kex_desugar.specs.declared.plan.Plan.{Plan}
-use Rattle.kex_desugar.specs.declared.plan.Plan.TheVariants.{Take, Fork, Act, Pass}
+use Rattle.kex_desugar.specs.declared.plan.NodePlan.{NodePlan}
+use Rattle.kex_desugar.specs.declared.plan.NodePlan.TheVariants.{Take, Fork, Act, Pass}
 
 -- the frames that are put on the rest, the upper first
 abbrev pub frames : Way → List Frame
@@ -21,7 +21,7 @@ frames (Under f) = f ∷ []
 frames (Both f g) = f ∷ g ∷ []
 
 -- what a plan says there is to do, on top of q
-abbrev pub plan_move : Plan → Place → Move Place
+abbrev pub plan_move : NodePlan → Place → Move Place
 plan_move (Take set) q = read set q
 plan_move (Fork l r) q = choose (frames l ++ q) (frames r ++ q)
 plan_move (Act e w) q = go (effect_of e) (frames w ++ q)
@@ -37,5 +37,5 @@ or_zero None = 0
 or_zero (Some r) = r
 
 -- the map has the roots of the definitions' names
-abbrev pub HasRoots : {S : Type 0} → Grammar → IndexMap ℕ ℕ S → Type 0
-HasRoots P m = (name : ℕ) → or_zero (get nat_eq m name) ≡ root_of P name
+abbrev pub MapHasRoots : {S : Type 0} → Grammar → IndexMap ℕ ℕ S → Type 0
+MapHasRoots P m = (name : ℕ) → or_zero (get nat_eq m name) ≡ root_of P name

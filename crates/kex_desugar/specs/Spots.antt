@@ -11,17 +11,17 @@ use Rattle.kex_desugar.specs.declared.plan.Way.{Way}
 use Rattle.kex_desugar.specs.Plans.{frames}
 
 -- the spot stands for the place
-abbrev pub Names : List Spot → Spot → Place → Type 0
-Names spots s [] = s ≡ Empty
-Names spots s (f ∷ p) = (r : ℕ) × (t : Spot) × (s ≡ On f r) × (slice_get spots r ≡ Some t) × Names spots t p
+abbrev pub SpotIsPlace : List Spot → Spot → Place → Type 0
+SpotIsPlace spots s [] = s ≡ Empty
+SpotIsPlace spots s (f ∷ p) = (r : ℕ) × (t : Spot) × (s ≡ On f r) × (slice_get spots r ≡ Some t) × SpotIsPlace spots t p
 
 -- the spot of number i stands for the place
 abbrev pub IsAt : List Spot → Place → ℕ → Type 0
-IsAt spots p i = (s : Spot) × (slice_get spots i ≡ Some s) × Names spots s p
+IsAt spots p i = (s : Spot) × (slice_get spots i ≡ Some s) × SpotIsPlace spots s p
 
 -- the spot stands for a place of the stage
 abbrev pub IsReal : Grammar → ℕ → List Spot → Spot → Type 0
-IsReal P root spots s = (p : Place) × Names spots s p × IsPlace P root p
+IsReal P root spots s = (p : Place) × SpotIsPlace spots s p × IsPlace P root p
 
 -- each spot is real, and none stands twice
 pub record Real (P : Grammar) (root : ℕ) (spots : List Spot) : Type 0 where
@@ -34,4 +34,4 @@ IsOnPlace P root spots w rest = (q : Place) × IsAt spots q rest × IsPlace P ro
 
 -- the node goes as the place of the spot does
 abbrev pub NodeOf : Grammar → List Spot → Spot → MNode → Type 0
-NodeOf P spots s m = (p : Place) → Names spots s p → Goes (IsAt spots) (moves P p) (move_of (Some m))
+NodeOf P spots s m = (p : Place) → SpotIsPlace spots s p → Goes (IsAt spots) (moves P p) (move_of (Some m))

@@ -3,10 +3,10 @@
 ghost use Rattle.std.specs.Prelude.{◌≡◌, ℕ, ◌≤◌, length, IfOk, OnOk, IfErr};
 ghost use Rattle.kex_code.specs.Codes.{Begins};
 ghost use Rattle.kex_desugar.specs.Machines.{HasMore, IsTooMany};
-ghost use Rattle.kex_desugar.specs.Plans.{HasRoots};
+ghost use Rattle.kex_desugar.specs.Plans.{MapHasRoots};
 ghost use Rattle.kex_desugar.specs.Spots.{IsReal, NodeOf, Real};
 
-use crate::plan::{Plan, frame_plan};
+use crate::plan::{NodePlan, frame_plan};
 use crate::refusal::DesugarRefusal;
 use crate::spot::{Spot, reach};
 use indexmap::{IndexMap, IndexSet};
@@ -21,7 +21,7 @@ pub(crate) fn node_of(
     spots: &mut IndexSet<Spot>,
     spot: Spot,
 ) -> Result<MNode, DesugarRefusal>
-    requires roots { HasRoots program.now roots.now }
+    requires roots { MapHasRoots program.now roots.now }
     requires within { length spots.old.keys ≤ max }
     ensures node { IfOk result (λ m. (root : ℕ) → IsReal program.now root spots.old.keys spot → NodeOf program.now spots.new.keys spot m) }
     ensures grown { OnOk result (Begins spots.new.keys spots.old.keys) }
@@ -34,16 +34,16 @@ pub(crate) fn node_of(
     };
     let plan = frame_plan(program, roots, frame)?;
     match plan {
-        Plan::Take(set) => Ok(MNode::Read(set, rest)),
-        Plan::Act(effect, way) => {
+        NodePlan::Take(set) => Ok(MNode::Read(set, rest)),
+        NodePlan::Act(effect, way) => {
             let next = reach(max, spots, way, rest)?;
             Ok(MNode::Do(effect, next))
         }
-        Plan::Pass(way) => {
+        NodePlan::Pass(way) => {
             let next = reach(max, spots, way, rest)?;
             Ok(MNode::Skip(next))
         }
-        Plan::Fork(left, right) => {
+        NodePlan::Fork(left, right) => {
             let left = reach(max, spots, left, rest)?;
             let right = reach(max, spots, right, rest)?;
             Ok(MNode::Choice(left, right))

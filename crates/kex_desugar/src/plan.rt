@@ -5,7 +5,7 @@ ghost use Rattle.kex_model.specs.Moves.{go};
 ghost use Rattle.kex_model.specs.declared.program.Kind.TheVariants.{Rep};
 ghost use Rattle.kex_model.specs.Trees.{kind_at, less};
 ghost use Rattle.kex_model.specs.Places.{Place, enter, with_counts, moves_of, moves, end_effect};
-ghost use Rattle.kex_desugar.specs.Plans.{HasRoots, kind_or, plan_move};
+ghost use Rattle.kex_desugar.specs.Plans.{MapHasRoots, kind_or, plan_move};
 
 use crate::roots::root_by_name;
 use indexmap::IndexMap;
@@ -25,7 +25,7 @@ pub enum Way {
 
 // What a place does, by what it puts on its rest.
 #[derive(Drop)]
-pub enum Plan {
+pub enum NodePlan {
     Take(ByteSet),
     Fork(Way, Way),
     Act(Effect, Way),
@@ -78,7 +78,7 @@ fn rep_plan(
     need: u32,
     left: Option<u32>,
     lazy: bool,
-) -> Plan
+) -> NodePlan
     ensures { (q : Place) → moves_of program.now node (Rep body need left lazy) q ≡ plan_move result q }
 {
     let turn = entered(program, body);
@@ -88,12 +88,12 @@ fn rep_plan(
         left: one_less(left),
     };
     if need > 0 {
-        return Plan::Pass(Way::Both(turn, again));
+        return NodePlan::Pass(Way::Both(turn, again));
     }
     match left {
-        Some(0) => Plan::Pass(Way::Rest),
-        _ if lazy => Plan::Fork(Way::Rest, Way::Both(turn, again)),
-        _ => Plan::Fork(Way::Both(turn, again), Way::Rest),
+        Some(0) => NodePlan::Pass(Way::Rest),
+        _ if lazy => NodePlan::Fork(Way::Rest, Way::Both(turn, again)),
+        _ => NodePlan::Fork(Way::Both(turn, again), Way::Rest),
     }
 }
 
@@ -105,40 +105,43 @@ fn kind_plan(
     node: u32,
     need: u32,
     left: Option<u32>,
-) -> Result<Plan, Memory>
-    requires { HasRoots program.now roots.now }
+) -> Result<NodePlan, Memory>
+    requires { MapHasRoots program.now roots.now }
     ensures { IfOk result (λ plan. (q : Place) → moves_of program.now node (with_counts kind.now need left) q ≡ plan_move plan q) }
 {
     let plan = match kind {
-        Kind::One => Plan::Pass(Way::Rest),
-        Kind::Lit(bytes) => Plan::Act(Effect::Lit(bytes.copy()?), Way::Rest),
-        Kind::Class(set) => Plan::Take(set.copy()),
-        Kind::Call(name) => Plan::Pass(Way::Under(entered(program, root_by_name(roots, *name)))),
-        Kind::Seq(l, r) => Plan::Pass(Way::Both(entered(program, *l), entered(program, *r))),
-        Kind::Alt(l, r) => Plan::Fork(
+        Kind::One => NodePlan::Pass(Way::Rest),
+        Kind::Lit(bytes) => NodePlan::Act(Effect::Lit(bytes.copy()?), Way::Rest),
+        Kind::Class(set) => NodePlan::Take(set.copy()),
+        Kind::Call(name) => NodePlan::Pass(Way::Under(entered(
+            program,
+            root_by_name(roots, *name),
+        ))),
+        Kind::Seq(l, r) => NodePlan::Pass(Way::Both(entered(program, *l), entered(program, *r))),
+        Kind::Alt(l, r) => NodePlan::Fork(
             Way::Under(entered(program, *l)),
             Way::Under(entered(program, *r)),
         ),
         Kind::Rep { body, lazy, .. } => rep_plan(program, node, *body, need, left, *lazy),
-        Kind::Mute(body) | Kind::At(_, body) => Plan::Act(
+        Kind::Mute(body) | Kind::At(_, body) => NodePlan::Act(
             Effect::Open,
             Way::Both(entered(program, *body), Frame::EndOf(node)),
         ),
-        Kind::Write(r) => Plan::Act(Effect::Write(*r), Way::Rest),
-        Kind::Set(r, parts) => Plan::Act(Effect::Set(*r, parts.copy()?), Way::Rest),
-        Kind::Add(r, parts) => Plan::Act(Effect::Add(*r, parts.copy()?), Way::Rest),
+        Kind::Write(r) => NodePlan::Act(Effect::Write(*r), Way::Rest),
+        Kind::Set(r, parts) => NodePlan::Act(Effect::Set(*r, parts.copy()?), Way::Rest),
+        Kind::Add(r, parts) => NodePlan::Act(Effect::Add(*r, parts.copy()?), Way::Rest),
     };
     Ok(plan)
 }
 
 // The plan of the end of a node.
-fn end_plan(program: &Program, n: u32) -> Plan
+fn end_plan(program: &Program, n: u32) -> NodePlan
     ensures { (q : Place) → go (end_effect (kind_at program.now n)) q ≡ plan_move result q }
 {
     match kind_of(program, n) {
-        Some(Kind::Mute(_)) => Plan::Act(Effect::Drop, Way::Rest),
-        Some(Kind::At(r, _)) => Plan::Act(Effect::Into(*r), Way::Rest),
-        _ => Plan::Pass(Way::Rest),
+        Some(Kind::Mute(_)) => NodePlan::Act(Effect::Drop, Way::Rest),
+        Some(Kind::At(r, _)) => NodePlan::Act(Effect::Into(*r), Way::Rest),
+        _ => NodePlan::Pass(Way::Rest),
     }
 }
 
@@ -147,14 +150,14 @@ pub(crate) fn frame_plan(
     program: &Program,
     roots: &IndexMap<u32, u32>,
     frame: Frame,
-) -> Result<Plan, Memory>
-    requires { HasRoots program.now roots.now }
+) -> Result<NodePlan, Memory>
+    requires { MapHasRoots program.now roots.now }
     ensures { IfOk result (λ plan. (q : Place) → moves program.now (frame ∷ q) ≡ plan_move plan q) }
 {
     match frame {
         Frame::EndOf(n) => Ok(end_plan(program, n)),
         Frame::Pending { node, need, left } => match kind_of(program, node) {
-            None => Ok(Plan::Pass(Way::Rest)),
+            None => Ok(NodePlan::Pass(Way::Rest)),
             Some(kind) => kind_plan(program, roots, kind, node, need, left),
         },
     }

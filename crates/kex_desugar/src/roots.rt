@@ -3,7 +3,7 @@
 ghost use Rattle.std.specs.Prelude.{◌≡◌, IfOk, IfErr, nat_eq};
 ghost use Rattle.indexmap.specs.IndexMap.{get};
 ghost use Rattle.kex_desugar.specs.Machines.{IsTooMany};
-ghost use Rattle.kex_desugar.specs.Plans.{HasRoots, or_zero};
+ghost use Rattle.kex_desugar.specs.Plans.{MapHasRoots, or_zero};
 
 use crate::refusal::DesugarRefusal;
 use indexmap::IndexMap;
@@ -15,7 +15,7 @@ pub(crate) fn roots_by_name(
     alloc: Global,
     program: &Program,
 ) -> Result<IndexMap<u32, u32>, DesugarRefusal>
-    ensures roots { IfOk result (λ m. HasRoots program.now m) }
+    ensures roots { IfOk result (λ m. MapHasRoots program.now m) }
     ensures refused { IfErr result (λ e. IsTooMany e → ⊥) }
 {
     let mut roots = IndexMap::new(alloc);

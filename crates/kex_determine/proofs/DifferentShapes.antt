@@ -4,7 +4,7 @@ use Rattle.kex_model.specs.Labelled.{Shape, place, parts, size_of}
 use Rattle.kex_machine.specs.Nodes.{Graph}
 use Rattle.kex_machine.specs.Advancing.{EachPlace}
 use Rattle.kex_paths.specs.Nexts.{Outline, IsOfShape, inner_of, places_of}
-use Rattle.kex_paths.specs.Spellings.{key_of, IsSound}
+use Rattle.kex_paths.specs.Spellings.{key_of, IsTreeSound}
 
 less_one : (p q : ℕ) → suc p ≡ suc q → p ≡ q
 less_one p q e = omega arith
@@ -56,7 +56,7 @@ size_above (place p) = omega arith
 size_above (parts l r) = omega arith
 
 -- the places of a tree are nodes, and its nodes fit 32 bits
-pub sound_as : (g : Graph) (tree : Outline) (s : Shape ℕ) → tree.machine ≡ g → IsOfShape tree s → IsSound tree.machine tree.shape tree.leaves → EachPlace (length g.nodes) s × (size_of s ≤ 2 ^ 32)
+pub sound_as : (g : Graph) (tree : Outline) (s : Shape ℕ) → tree.machine ≡ g → IsOfShape tree s → IsTreeSound tree.machine tree.shape tree.leaves → EachPlace (length g.nodes) s × (size_of s ≤ 2 ^ 32)
 sound_as g tree s same shape sound =
     let one = shape_same tree sound.shape s (sound.inner_is, sound.places_are) shape in
     (subst (λ z. EachPlace (length z.nodes) s) same (subst (λ z. EachPlace (length tree.machine.nodes) z) one sound.in_range), omega (arith, ap size_of one, sound.small, sound.few))

@@ -11,7 +11,7 @@ use Rattle.kex_sst.specs.declared.parts.Part.TheVariants.{Old}
 use Rattle.kex_sst.specs.Parts.{numbered_tree}
 use Rattle.kex_paths.specs.Nexts.{inner_of, places_of}
 use Rattle.kex_determine.specs.Rows.{is_accepting, way_to}
-use Rattle.kex_determine.specs.Ways.{Side, inner_in, places_in, EachSide, AreForks, either, onward, from_sides, from_here, IsOnWay}
+use Rattle.kex_determine.specs.Ways.{RightSide, inner_in_sides, places_in_sides, EachSide, AreForks, either, onward, from_sides, from_here, IsOnWay}
 
 head_of : {A : Type 0} (xs : List A) (k : ℕ) (d : A) → k < length xs → drop k xs ≡ get_or xs k d ∷ drop (k + 1) xs
 head_of xs k d lt = let e : suc k ≡ k + 1 = omega arith in drop-cons xs k d lt ∙ ap (λ n. get_or xs k d ∷ drop n xs) e
@@ -23,18 +23,18 @@ longer (z ∷ xs) zero x ys e = omega arith
 longer (z ∷ xs) (suc k) x ys e = let h = longer xs k x ys e in omega arith
 
 -- what a leaf says: it is this place, and the next node is the first side's
-pub record AtLeaf (m : ℕ) (shape : List Bool) (leaves : List ℕ) (here : Shape ℕ) (sides : List Side) (k leaf : ℕ) : Type 0 where
+pub record AtLeaf (m : ℕ) (shape : List Bool) (leaves : List ℕ) (here : Shape ℕ) (sides : List RightSide) (k leaf : ℕ) : Type 0 where
   pub spot : ℕ
   pub is : here ≡ place spot
-  pub inner : drop (k + 1) shape ≡ inner_in sides
-  pub places : drop (leaf + 1) leaves ≡ places_in sides
+  pub inner : drop (k + 1) shape ≡ inner_in_sides sides
+  pub places : drop (leaf + 1) leaves ≡ places_in_sides sides
   pub within : leaf < length leaves
   pub read_there : get_or leaves leaf 0 ≡ spot
   pub fits : spot < m
 
-pub at_leaf : (m : ℕ) (shape : List Bool) (leaves : List ℕ) (here : Shape ℕ) (sides : List Side) (k leaf : ℕ) → k < length shape → get_or shape k false ≡ false → drop k shape ≡ inner_of here ++ inner_in sides → drop leaf leaves ≡ places_of here ++ places_in sides → EachPlace m here → AtLeaf m shape leaves here sides k leaf
+pub at_leaf : (m : ℕ) (shape : List Bool) (leaves : List ℕ) (here : Shape ℕ) (sides : List RightSide) (k leaf : ℕ) → k < length shape → get_or shape k false ≡ false → drop k shape ≡ inner_of here ++ inner_in_sides sides → drop leaf leaves ≡ places_of here ++ places_in_sides sides → EachPlace m here → AtLeaf m shape leaves here sides k leaf
 at_leaf m shape leaves (place p) sides k leaf lt e inner places below =
-    let within : leaf < length leaves = longer leaves leaf p (places_in sides) places in
+    let within : leaf < length leaves = longer leaves leaf p (places_in_sides sides) places in
     let a = sym (head_of shape k false lt) ∙ inner in
     let b = sym (head_of leaves leaf 0 within) ∙ places in
     record { spot = p; is = refl; inner = cc; places = cc; within = within; read_there = cc; fits = below }
@@ -43,15 +43,15 @@ at_leaf m shape leaves (parts l r) sides k leaf lt e inner places below = let a 
     clash : true ≡ false → ⊥
     clash e = cc
 
-pub at_fork : (m : ℕ) (shape : List Bool) (here : Shape ℕ) (sides : List Side) (k : ℕ) → k < length shape → get_or shape k false ≡ true → drop k shape ≡ inner_of here ++ inner_in sides → (l r : Shape ℕ) × (here ≡ parts l r) × (drop (k + 1) shape ≡ inner_of l ++ (inner_of r ++ inner_in sides))
+pub at_fork : (m : ℕ) (shape : List Bool) (here : Shape ℕ) (sides : List RightSide) (k : ℕ) → k < length shape → get_or shape k false ≡ true → drop k shape ≡ inner_of here ++ inner_in_sides sides → (l r : Shape ℕ) × (here ≡ parts l r) × (drop (k + 1) shape ≡ inner_of l ++ (inner_of r ++ inner_in_sides sides))
 at_fork m shape (place p) sides k lt e inner = let a = sym (head_of shape k false lt) ∙ inner in let bad : true ≡ false = cc in absurd (clash bad)
   where
     clash : true ≡ false → ⊥
     clash e = cc
 at_fork m shape (parts l r) sides k lt e inner =
-    let a : get_or shape k false ∷ drop (k + 1) shape ≡ true ∷ ((inner_of l ++ inner_of r) ++ inner_in sides) = sym (head_of shape k false lt) ∙ inner in
-    let b : drop (k + 1) shape ≡ (inner_of l ++ inner_of r) ++ inner_in sides = cc in
-    (l, r, refl, b ∙ append_assoc (inner_of l) (inner_of r) (inner_in sides))
+    let a : get_or shape k false ∷ drop (k + 1) shape ≡ true ∷ ((inner_of l ++ inner_of r) ++ inner_in_sides sides) = sym (head_of shape k false lt) ∙ inner in
+    let b : drop (k + 1) shape ≡ (inner_of l ++ inner_of r) ++ inner_in_sides sides = cc in
+    (l, r, refl, b ∙ append_assoc (inner_of l) (inner_of r) (inner_in_sides sides))
 
 ends_there : (m : Move ℕ) → is_accepting m ≡ true → (p : ℕ) → at_end {A = Part} m p ≡ Some (record { label = []; tree = tip p })
 ends_there accept e p = refl
@@ -83,7 +83,7 @@ onward_none : (a : Option (Grown Part ℕ)) → way_to a ≡ onward [] a
 onward_none None = refl
 onward_none (Some a) = refl
 
-forks_more : (way x : List ℕ) (forks : List ℕ) (sides : List Side) → AreForks way forks sides → AreForks (way ++ x) forks sides
+forks_more : (way x : List ℕ) (forks : List ℕ) (sides : List RightSide) → AreForks way forks sides → AreForks (way ++ x) forks sides
 forks_more way x forks [] h = h
 forks_more way x forks (s ∷ rest) (more, e, (tail, f), deeper) = (more, e, (tail ++ x, ap (λ z. z ++ x) f ∙ append_assoc s.before tail x), deeper)
 
@@ -120,7 +120,7 @@ module _ (moves : ℕ → Move ℕ) (m : ℕ) (shape : List Bool) (leaves : List
   pub none_left : (k leaf : ℕ) (way : List ℕ) (o : On k leaf way []) → AtLeaf m shape leaves o.here o.sides k leaf → is_accepting (moves (get_or leaves leaf 0)) ≡ false → whole ≡ None
   none_left k leaf way o h acc = past k leaf way [] o h acc ∙ by o.sides o.forked
     where
-      by : (sides : List Side) → AreForks way [] sides → from_sides moves (k + 1) sides ≡ None
+      by : (sides : List RightSide) → AreForks way [] sides → from_sides moves (k + 1) sides ≡ None
       by [] f = refl
       by (x ∷ rest) (more, e, front, f) = absurd (no_more more e)
         where
@@ -132,7 +132,7 @@ module _ (moves : ℕ → Move ℕ) (m : ℕ) (shape : List Bool) (leaves : List
   pub next_side : (k leaf : ℕ) (way forks more : List ℕ) (count : ℕ) → forks ≡ more ++ count ∷ [] → (o : On k leaf way forks) → AtLeaf m shape leaves o.here o.sides k leaf → is_accepting (moves (get_or leaves leaf 0)) ≡ false → On (k + 1) (leaf + 1) (take count way ++ k ∷ []) more
   next_side k leaf way forks more count e o h acc = by o.sides o.forked o.each h.inner h.places (past k leaf way forks o h acc)
     where
-      by : (sides : List Side) → AreForks way forks sides → EachSide m sides → drop (k + 1) shape ≡ inner_in sides → drop (leaf + 1) leaves ≡ places_in sides → whole ≡ from_sides moves (k + 1) sides → On (k + 1) (leaf + 1) (take count way ++ k ∷ []) more
+      by : (sides : List RightSide) → AreForks way forks sides → EachSide m sides → drop (k + 1) shape ≡ inner_in_sides sides → drop (leaf + 1) leaves ≡ places_in_sides sides → whole ≡ from_sides moves (k + 1) sides → On (k + 1) (leaf + 1) (take count way ++ k ∷ []) more
       by [] f each inner places answer = absurd (some_fork more (sym f ∙ e))
         where
           some_fork : (more : List ℕ) → [] ≡ more ++ count ∷ [] → ⊥
@@ -167,7 +167,7 @@ module _ (moves : ℕ → Move ℕ) (m : ℕ) (shape : List Bool) (leaves : List
       let f = at_fork m shape o.here o.sides k lt e o.inner in
       by f.0 f.1 f.2 f.3
     where
-      by : (l r : Shape ℕ) → o.here ≡ parts l r → drop (k + 1) shape ≡ inner_of l ++ (inner_of r ++ inner_in o.sides) → On (k + 1) leaf (way ++ k ∷ []) (forks ++ length way ∷ [])
+      by : (l r : Shape ℕ) → o.here ≡ parts l r → drop (k + 1) shape ≡ inner_of l ++ (inner_of r ++ inner_in_sides o.sides) → On (k + 1) leaf (way ++ k ∷ []) (forks ++ length way ∷ [])
       by l r is inner =
           let below : EachPlace m l × EachPlace m r = subst (λ z. EachPlace m z) is o.below in
           let la = first_accepting moves (numbered_tree (k + 1) l) in
@@ -180,7 +180,7 @@ module _ (moves : ℕ → Move ℕ) (m : ℕ) (shape : List Bool) (leaves : List
             here = l;
             sides = record { before = way; shape = r } ∷ o.sides;
             inner = inner;
-            places = o.places ∙ ap (λ s. places_of s ++ places_in o.sides) is ∙ append_assoc (places_of l) (places_of r) (places_in o.sides);
+            places = o.places ∙ ap (λ s. places_of s ++ places_in_sides o.sides) is ∙ append_assoc (places_of l) (places_of r) (places_in_sides o.sides);
             below = below.0;
             each = (below.1, o.each);
             forked = (forks, refl, (k ∷ [], refl), o.forked);
@@ -196,9 +196,9 @@ module _ (moves : ℕ → Move ℕ) (m : ℕ) (shape : List Bool) (leaves : List
   pub not_past : (k leaf : ℕ) (way forks : List ℕ) → On k leaf way forks → k < length shape
   not_past k leaf way forks o = by o.here o.inner
     where
-      by : (s : Shape ℕ) → drop k shape ≡ inner_of s ++ inner_in o.sides → k < length shape
-      by (place p) e = longer shape k false (inner_in o.sides) e
-      by (parts l r) e = longer shape k true ((inner_of l ++ inner_of r) ++ inner_in o.sides) e
+      by : (s : Shape ℕ) → drop k shape ≡ inner_of s ++ inner_in_sides o.sides → k < length shape
+      by (place p) e = longer shape k false (inner_in_sides o.sides) e
+      by (parts l r) e = longer shape k true ((inner_of l ++ inner_of r) ++ inner_in_sides o.sides) e
 
   pub on_as : (k leaf leaf' : ℕ) (way way' forks forks' : List ℕ) → leaf' ≡ leaf → way' ≡ way → forks' ≡ forks → On k leaf way forks → On k leaf' way' forks'
   on_as k leaf leaf' way way' forks forks' e f h o = rw (e, f, h) o

@@ -12,13 +12,13 @@ use Rattle.kex_model.specs.Survivors.{HasTree}
 use Rattle.kex_model.specs.States.{AllDifferent, IsState}
 use Rattle.kex_model.proofs.Shapes.{tree_agrees}
 use Rattle.kex_machine.specs.Nodes.{Graph, node_moves, HasClasses}
-use Rattle.kex_machine.specs.Answers.{Viable, HasParse, IsGreedy}
+use Rattle.kex_machine.specs.Answers.{IsViableFor, HasRun, IsGreedy}
 use Rattle.kex_machine.specs.Advancing.{Advances, dies, both, first_accepting, map_labels_if}
 use Rattle.kex_machine.proofs.Nexts.{IsTrim}
 use Rattle.kex_machine.proofs.LongestFronts.{viable_before}
 use Rattle.kex_machine.proofs.AcceptingTips.{greedy_found, none_parses}
 use Rattle.kex_machine.proofs.Classes.{byte_read}
-use Rattle.kex_machine.proofs.Labels.{relabelled-accepting}
+use Rattle.kex_machine.proofs.Labels.{map_labels-first_accepting}
 use Rattle.kex_machine.proofs.Unique.{tree_unique}
 use Rattle.kex_sst.specs.declared.parts.Part.{Part}
 use Rattle.kex_sst.specs.declared.parts.Part.TheVariants.{Put, Input}
@@ -29,7 +29,7 @@ use Rattle.kex_sst.specs.Passes.{Pass, first_pass, next_of, next_pass, passes_if
 use Rattle.kex_sst.specs.Machines.{IsTableOf}
 use Rattle.kex_sst.proofs.Passes.{by_class}
 use Rattle.kex_paths.specs.Nexts.{IsNext}
-use Rattle.kex_paths.proofs.Meanings.{meant-append, registers_hold}
+use Rattle.kex_paths.proofs.Meanings.{parts_code-append, registers_hold}
 use Rattle.kex_paths.proofs.NextTrees.{first_shows, next_shows}
 use Rattle.kex_determine.specs.Determined.{ShowsText}
 use Rattle.kex_determine.specs.Rows.{DoesOn, way_to, AreRows, IsFound, at_first, by_byte}
@@ -79,7 +79,7 @@ module _ (g : Graph) (trim : IsTrim (node_moves g.nodes) g.start) where
         (by_class t i).byte b (omega (arith, lt, classed.refined.numbered.long)) ∙ ap (λ o. transition_on o (class_at t.classes b)) r.1 in
         subst (λ z. DoesOn g shapes s b z) (sym is) (r.2.does b lt)
 
-    no_next : (w : List ℕ) (p : Pass) (b : ℕ) (tree : Labelled Symbol ℕ) → HasTree ms g.start w p.code tree → 256 ≤ b → ¬ Viable g (w ++ b ∷ [])
+    no_next : (w : List ℕ) (p : Pass) (b : ℕ) (tree : Labelled Symbol ℕ) → HasTree ms g.start w p.code tree → 256 ≤ b → ¬ IsViableFor g (w ++ b ∷ [])
     no_next w p b tree has past = next_shows g trim w p.code tree has b None (replicate (length g.nodes) false, beyond ms b 0 (replicate (length g.nodes) false) (shape_of tree) (λ q u way. omega (arith, byte_read g.nodes t.classes classed q b u way, past)))
 
     shows_step : (w : List ℕ) (b : ℕ) (p : Pass) → Shows w (Some p) → Shows (w ++ b ∷ []) (next_pass (next_of t p.state b) b p)
@@ -98,12 +98,12 @@ module _ (g : Graph) (trim : IsTrim (node_moves g.nodes) g.start) where
               target ∙ ap (λ z. Some z) (sym (relabelled_shape (parts_code (labels_of tree) b) a.tree)),
             )
 
-    viable_front : (w v : List ℕ) → Viable g (w ++ v) → Viable g w
-    viable_front w [] h = subst (λ z. Viable g z) (append-nil w) h
-    viable_front w (b ∷ v) h = viable_before g trim w b (viable_front (w ++ b ∷ []) v (subst (λ z. Viable g z) (sym (append_assoc w (b ∷ []) v)) h))
+    viable_front : (w v : List ℕ) → IsViableFor g (w ++ v) → IsViableFor g w
+    viable_front w [] h = subst (λ z. IsViableFor g z) (append-nil w) h
+    viable_front w (b ∷ v) h = viable_before g trim w b (viable_front (w ++ b ∷ []) v (subst (λ z. IsViableFor g z) (sym (append_assoc w (b ∷ []) v)) h))
 
     shows_all : (w v : List ℕ) (p : Option Pass) → Shows w p → Shows (w ++ v) (passes_if t p v)
-    shows_all w [] None h = subst (λ z. Viable g z → ⊥) (sym (append-nil w)) h
+    shows_all w [] None h = subst (λ z. IsViableFor g z → ⊥) (sym (append-nil w)) h
     shows_all w (b ∷ v) None h = λ viable. h (viable_front w (b ∷ v) viable)
     shows_all w [] (Some p) h = subst (λ z. Shows z (Some p)) (sym (append-nil w)) h
     shows_all w (b ∷ v) (Some p) h = subst (λ z. Shows z (passes_if t (next_pass (next_of t p.state b) b p) v)) (append_assoc w (b ∷ []) v) (shows_all (w ++ b ∷ []) v (next_pass (next_of t p.state b) b p) (shows_step w b p h))
@@ -128,9 +128,9 @@ module _ (g : Graph) (trim : IsTrim (node_moves g.nodes) g.start) where
       hold xs = parts_code p.registers 0 xs
 
       found_there : map_labels_if hold (first_accepting ms (numbered_tree 0 (shape_of tree))) ≡ first_accepting ms tree
-      found_there = relabelled-accepting hold refl (meant-append p.registers 0) ms (numbered_tree 0 (shape_of tree)) ∙ ap (first_accepting ms) (subst (λ z. map_labels (λ xs. parts_code z 0 xs) (numbered_tree 0 (shape_of tree)) ≡ tree) (sym regs) (registers_hold 0 tree))
+      found_there = map_labels-first_accepting hold refl (parts_code-append p.registers 0) ms (numbered_tree 0 (shape_of tree)) ∙ ap (first_accepting ms) (subst (λ z. map_labels (λ xs. parts_code z 0 xs) (numbered_tree 0 (shape_of tree)) ≡ tree) (sym regs) (registers_hold 0 tree))
 
-      ends_by : (a : Option (Grown Part ℕ)) → first_accepting ms (numbered_tree 0 (shape_of tree)) ≡ a → ((c : List Symbol) → ended_by (way_to a) p ≡ Some c → IsGreedy g w c) × (ended_by (way_to a) p ≡ None → ¬ HasParse g w)
+      ends_by : (a : Option (Grown Part ℕ)) → first_accepting ms (numbered_tree 0 (shape_of tree)) ≡ a → ((c : List Symbol) → ended_by (way_to a) p ≡ Some c → IsGreedy g w c) × (ended_by (way_to a) p ≡ None → ¬ HasRun g w)
       ends_by None e = ((λ c f. let bad : ⊥ = cc in absurd bad), (λ _. none_parses g trim w p.code tree has (sym found_there ∙ ap (map_labels_if hold) e)))
       ends_by (Some a) e = (
         (λ c f. subst (λ z. IsGreedy g w z) (same f) (greedy_found g trim w p.code tree has (record { label = hold a.label; tree = map_labels hold a.tree }) (sym found_there ∙ ap (map_labels_if hold) e))),
@@ -140,11 +140,11 @@ module _ (g : Graph) (trim : IsTrim (node_moves g.nodes) g.start) where
           same : {c : List Symbol} → Some (p.code ++ hold a.label) ≡ Some c → p.code ++ hold a.label ≡ c
           same f = cc
 
-    ends : (w : List ℕ) (p : Pass) → Shows w (Some p) → ((c : List Symbol) → whole_code t p ≡ Some c → IsGreedy g w c) × (whole_code t p ≡ None → ¬ HasParse g w)
+    ends : (w : List ℕ) (p : Pass) → Shows w (Some p) → ((c : List Symbol) → whole_code t p ≡ Some c → IsGreedy g w c) × (whole_code t p ≡ None → ¬ HasRun g w)
     ends w p (tree, has, regs, at) =
         let r = table.rows p.state (shape_of tree) at in
-        subst (λ o. ((c : List Symbol) → ended_by (way_of o) p ≡ Some c → IsGreedy g w c) × (ended_by (way_of o) p ≡ None → ¬ HasParse g w)) (sym r.1)
-        (subst (λ o. ((c : List Symbol) → ended_by o p ≡ Some c → IsGreedy g w c) × (ended_by o p ≡ None → ¬ HasParse g w)) (sym r.2.ends) (ends_by w p tree has regs (first_accepting ms (numbered_tree 0 (shape_of tree))) refl))
+        subst (λ o. ((c : List Symbol) → ended_by (way_of o) p ≡ Some c → IsGreedy g w c) × (ended_by (way_of o) p ≡ None → ¬ HasRun g w)) (sym r.1)
+        (subst (λ o. ((c : List Symbol) → ended_by o p ≡ Some c → IsGreedy g w c) × (ended_by o p ≡ None → ¬ HasRun g w)) (sym r.2.ends) (ends_by w p tree has regs (first_accepting ms (numbered_tree 0 (shape_of tree))) refl))
 
     passed : (w : List ℕ) (p : Pass) → passes t w ≡ Some p → Shows w (Some p)
     passed w p e = subst (λ z. Shows w z) e (shows w)

@@ -14,7 +14,7 @@ use Rattle.kex_sst.specs.declared.parts.Part.{Part}
 use Rattle.kex_sst.specs.Parts.{Change}
 use Rattle.kex_sst.specs.Tables.{Row, Transducer, transition_if}
 use Rattle.kex_sst.specs.Machines.{IsTableOf}
-use Rattle.kex_paths.specs.Nexts.{Outline, IsFirst, IsChange, Begins as BeginsWith}
+use Rattle.kex_paths.specs.Nexts.{Outline, IsFirstTree, IsChange, BeginsTree as BeginsWith}
 use Rattle.kex_paths.proofs.Sizes.{one_first}
 use Rattle.kex_determine.specs.Determined.{targets_of, targets_in, MeetsInOrder, IsDetermined}
 use Rattle.kex_determine.specs.Rows.{IsRowOf, AreRows, IsFound, at_first}
@@ -47,7 +47,7 @@ module _ (g : Graph) where
 
   -- the tree of the empty text is met first
   pub first_met : (tree : Outline) (u : Change) → tree.machine ≡ g → (b : BeginsWith tree u) → IsMet g tree (shape_of b.0.tree)
-  first_met tree u same (a, first, shape, change) = record { machine = same; shape = shape; found = at_first a (subst (λ z. IsFirst z (Some a)) same first) }
+  first_met tree u same (a, first, shape, change) = record { machine = same; shape = shape; found = at_first a (subst (λ z. IsFirstTree z (Some a)) same first) }
 
   pub first_filled : (classes : List ℕ) (keys : List (Vec ℕ)) (trees : List Outline) (tree : Outline) (u : Change) (i : ℕ) (ys : List (Shape ℕ)) → tree.machine ≡ g → (b : BeginsWith tree u) → IsWith g keys trees [] (shape_of b.0.tree) i ys → IsFilled g classes keys trees []
   first_filled classes keys trees tree u i ys same (a, first, shape, change) w = ⊎_elim
@@ -55,7 +55,7 @@ module _ (g : Graph) where
       (λ e. record {
         shapes = ys;
         numbered = w.numbered;
-        first = (a, subst (λ z. IsFirst z (Some a)) same first, ap (λ z. slice_get z 0) e.0);
+        first = (a, subst (λ z. IsFirstTree z (Some a)) same first, ap (λ z. slice_get z 0) e.0);
         within = omega arith;
         each = λ j s lt at. absurd (none_below j lt);
         order = sym (ap length e.0);
@@ -102,7 +102,7 @@ module _ (g : Graph) where
   next_state classes keys trees rows f lt = some_at f.shapes (length rows) (omega (arith, lt, f.numbered.count))
 
   -- all rows
-  pub all_rows : (classes : List ℕ) (u : Change) (keys : List (Vec ℕ)) (trees : List Outline) (rows : List Row) (f : IsFilled g classes keys trees rows) → length trees ≤ length rows → (a : Grown Part ℕ) → IsFirst g (Some a) → IsChange u a → AreRows g (record { classes = classes; initial = u; states = rows }) f.shapes
+  pub all_rows : (classes : List ℕ) (u : Change) (keys : List (Vec ℕ)) (trees : List Outline) (rows : List Row) (f : IsFilled g classes keys trees rows) → length trees ≤ length rows → (a : Grown Part ℕ) → IsFirstTree g (Some a) → IsChange u a → AreRows g (record { classes = classes; initial = u; states = rows }) f.shapes
   all_rows classes u keys trees rows f le a first change = record {
     count = omega (arith, le, f.within, f.numbered.count);
     begins = let b = f.first in let same = some_same b.0 a (one_first g (Some b.0) (Some a) b.1 first) in (a, first, change, subst (λ z. slice_get f.shapes 0 ≡ Some (shape_of z.tree)) same b.2);
@@ -118,7 +118,7 @@ module _ (g : Graph) where
         found_in (y ∷ ys) x i h = ⊎_elim (λ e. subst (λ z. IsFound g z) e (h 0 y refl)) (λ k. found_in ys x k (λ j z e. h (suc j) z e)) i
 
     -- what the filled table is
-    module _ (classes : List ℕ) (classed : HasClasses g.nodes classes) (u : Change) (keys : List (Vec ℕ)) (trees : List Outline) (rows : List Row) (f : IsFilled g classes keys trees rows) (le : length trees ≤ length rows) (a : Grown Part ℕ) (first : IsFirst g (Some a)) (change : IsChange u a) where
+    module _ (classes : List ℕ) (classed : HasClasses g.nodes classes) (u : Change) (keys : List (Vec ℕ)) (trees : List Outline) (rows : List Row) (f : IsFilled g classes keys trees rows) (le : length trees ≤ length rows) (a : Grown Part ℕ) (first : IsFirstTree g (Some a)) (change : IsChange u a) where
       abbrev table : Transducer
       table = record { classes = classes; initial = u; states = rows }
 

@@ -14,7 +14,7 @@ use Rattle.kex_sst.specs.declared.parts.Part.{Part}
 use Rattle.kex_sst.specs.declared.parts.Part.TheVariants.{Put, Old, Input}
 use Rattle.kex_sst.specs.declared.table.Transition.{Transition}
 use Rattle.kex_sst.specs.Parts.{Change, numbered_tree, olds, reads_of, PutsChoice, IsPut, IsKept, EachPart}
-use Rattle.kex_sst.specs.Tables.{Row, Transducer, transition_if, IsWayIf, LeadsTo, IsState, IsTable}
+use Rattle.kex_sst.specs.Tables.{Row, Transducer, transition_if, IsWayIf, LeadsTo, IsTableState, IsTable}
 use Rattle.kex_paths.specs.Nexts.{IsChange, RiseWithin}
 use Rattle.kex_paths.proofs.Copyless.{next_reads, first_reads}
 use Rattle.kex_paths.proofs.Meanings.{labels_and_size}
@@ -178,12 +178,12 @@ module _ (g : Graph) (t : Transducer) (shapes : List (Shape ℕ)) (classed : Has
       let d = subst (λ z. DoesOn g shapes s b.0 z) here (h.does b.0 b.1) in
       leads row.registers r.target r.update d.0 d.2 d.3 (next_reads g b.0 s r.update d.0 d.1 d.2 row.registers h.registers) (each_part PutsChoice r.update d.0 d.2 (advances_each PutsChoice choice_side tt d.1.1 (numbered_each PutsChoice (λ i. tt) 0 s)))
 
-  state : (i : ℕ) (row : Row) → slice_get t.states i ≡ Some row → IsState t.classes t.states row
+  state : (i : ℕ) (row : Row) → slice_get t.states i ≡ Some row → IsTableState t.classes t.states row
   state i row at =
       let s = some_at shapes i (omega (arith, get_within t.states i row at, table.count)) in
       let r = table.rows i s.0 s.1 in
       let same = some_same r.0 row (sym r.1 ∙ at) in
-      subst (λ z. IsState t.classes t.states z) same (record {
+      subst (λ z. IsTableState t.classes t.states z) same (record {
         long = r.2.long;
         ends = subst (IsWayIf r.0.registers) (sym r.2.ends) (way_if (node_moves g.nodes) s.0 r.0.registers r.2.registers);
         goes = goes s.0 r.0 r.2;

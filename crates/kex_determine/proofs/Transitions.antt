@@ -17,7 +17,7 @@ use Rattle.kex_sst.specs.declared.table.Transition.{Transition}
 use Rattle.kex_sst.specs.Parts.{Change}
 use Rattle.kex_sst.specs.Tables.{transition_if}
 use Rattle.std.specs.Prelude.{IfSome, MatchOption}
-use Rattle.kex_paths.specs.Nexts.{Outline, IsOfShape, IsNext, Follows, HasClass}
+use Rattle.kex_paths.specs.Nexts.{Outline, IsOfShape, IsNext, FollowsTree, HasClass}
 use Rattle.kex_paths.specs.Alikes.{GoesOnAlike}
 use Rattle.kex_determine.specs.Determined.{targets_of, MeetsInOrder}
 use Rattle.kex_determine.specs.Rows.{DoesOn, IsFound, by_byte}
@@ -151,10 +151,10 @@ module _ (g : Graph) where
 
   -- what comes next on each byte of a class
   pub next_on : (classes : List ℕ) → HasClasses g.nodes classes → (tree : Outline) (s : Shape ℕ) → IsMet g tree s → (class : ℕ) (next : Option (Outline × Change)) → IfSome next (λ n. n.0.machine ≡ tree.machine)
-      → ((u : Shape ℕ) (b : ℕ) → IsOfShape tree u → HasClass tree.machine class b → MatchOption next (IsNext tree.machine b u None) (λ n. Follows n.0 b u n.1)) → (b : ℕ) → b < 256 → class_at classes b ≡ class → NextIs g b s next
+      → ((u : Shape ℕ) (b : ℕ) → IsOfShape tree u → HasClass tree.machine class b → MatchOption next (IsNext tree.machine b u None) (λ n. FollowsTree n.0 b u n.1)) → (b : ℕ) → b < 256 → class_at classes b ≡ class → NextIs g b s next
   next_on classes classed tree s met class next same h b lt e = by next same (h s b met.shape (classes, subst (λ z. HasClasses z.nodes classes) (sym met.machine) classed, lt, e))
     where
-      by : (next : Option (Outline × Change)) → IfSome next (λ n. n.0.machine ≡ tree.machine) → MatchOption next (IsNext tree.machine b s None) (λ n. Follows n.0 b s n.1) → NextIs g b s next
+      by : (next : Option (Outline × Change)) → IfSome next (λ n. n.0.machine ≡ tree.machine) → MatchOption next (IsNext tree.machine b s None) (λ n. FollowsTree n.0 b s n.1) → NextIs g b s next
       by None same h = subst (λ z. IsNext z b s None) met.machine h
       by (Some n) same h = (same ∙ met.machine, h)
 

@@ -6,7 +6,7 @@ use Rattle.kex_model.specs.Labelled.{Labelled, labels_of, Shape, shape_of}
 use Rattle.kex_model.specs.Survivors.{HasTree}
 use Rattle.kex_model.specs.States.{AllDifferent, IsState}
 use Rattle.kex_machine.specs.Nodes.{Graph, node_moves, HasClasses}
-use Rattle.kex_machine.specs.Answers.{Viable}
+use Rattle.kex_machine.specs.Answers.{IsViableFor}
 use Rattle.kex_sst.specs.declared.table.Transition.{Transition}
 use Rattle.kex_sst.specs.Tables.{Row, Transducer}
 use Rattle.kex_sst.specs.Passes.{Pass, passes}
@@ -15,7 +15,7 @@ use Rattle.kex_determine.specs.Rows.{AreRows}
 -- the state has the shape of the tree of w, what was passed on is agreed, and the registers hold the labels; none where w
 -- isn't viable
 abbrev pub ShowsText : Graph → List (Shape ℕ) → List ℕ → Option Pass → Type 0
-ShowsText g shapes w None = ¬ Viable g w
+ShowsText g shapes w None = ¬ IsViableFor g w
 ShowsText g shapes w (Some p) = (tree : Labelled Symbol ℕ) × HasTree (node_moves g.nodes) g.start w p.code tree × (p.registers ≡ labels_of tree) × (slice_get shapes p.state ≡ Some (shape_of tree))
 
 -- where the transitions of a state lead, in the order of classes

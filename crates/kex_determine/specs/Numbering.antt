@@ -9,7 +9,7 @@ use Rattle.kex_machine.specs.Nodes.{Graph}
 use Rattle.kex_sst.specs.declared.table.Transition.{Transition}
 use Rattle.kex_sst.specs.Parts.{Change}
 use Rattle.kex_sst.specs.Tables.{Row, transition_if}
-use Rattle.kex_paths.specs.Nexts.{Outline, IsOfShape, IsNext, Follows}
+use Rattle.kex_paths.specs.Nexts.{Outline, IsOfShape, IsNext, FollowsTree}
 use Rattle.kex_paths.specs.Spellings.{key_of}
 use Rattle.kex_determine.specs.declared.refusal.DetRefusal.{DetRefusal}
 use Rattle.kex_determine.specs.declared.refusal.DetRefusal.TheVariants.{TooManyStates, Memory}
@@ -57,7 +57,7 @@ Refuses most P Memory = Unit {0}
 -- what comes next with byte b, from a tree of shape s
 abbrev pub NextIs : Graph → ℕ → Shape ℕ → Option (Outline × Change) → Type 0
 NextIs g b s None = IsNext g b s None
-NextIs g b s (Some n) = (n.0.machine ≡ g) × Follows n.0 b s n.1
+NextIs g b s (Some n) = (n.0.machine ≡ g) × FollowsTree n.0 b s n.1
 
 abbrev pub IsMetIf : Graph → Option (Outline × Change) → Type 0
 IsMetIf g None = Unit {0}

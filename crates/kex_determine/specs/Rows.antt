@@ -9,7 +9,7 @@ use Rattle.kex_sst.specs.declared.parts.Part.{Part}
 use Rattle.kex_sst.specs.declared.table.Transition.{Transition}
 use Rattle.kex_sst.specs.Parts.{numbered_tree}
 use Rattle.kex_sst.specs.Tables.{Row, Transducer, transition_if}
-use Rattle.kex_paths.specs.Nexts.{Outline, HasClass, IsFirst, IsNext, IsChange}
+use Rattle.kex_paths.specs.Nexts.{Outline, HasClass, IsFirstTree, IsNext, IsChange}
 use Rattle.kex_paths.specs.Alikes.{LeadAlikeFrom}
 
 -- what a state of this shape does on a byte
@@ -39,12 +39,12 @@ pub record IsRowOf (g : Graph) (classes : List ℕ) (shapes : List (Shape ℕ)) 
 -- the states have these shapes, in the order of their numbers, and the first is that of the empty text
 pub record AreRows (g : Graph) (t : Transducer) (shapes : List (Shape ℕ)) : Type 0 where
   pub count : length t.states ≡ length shapes
-  pub begins : (a : Grown Part ℕ) × IsFirst g (Some a) × IsChange t.initial a × (slice_get shapes 0 ≡ Some (shape_of a.tree))
+  pub begins : (a : Grown Part ℕ) × IsFirstTree g (Some a) × IsChange t.initial a × (slice_get shapes 0 ≡ Some (shape_of a.tree))
   pub rows : (i : ℕ) (s : Shape ℕ) → slice_get shapes i ≡ Some s → (r : Row) × (slice_get t.states i ≡ Some r) × IsRowOf g t.classes shapes s r
 
 -- a shape that is come to from the first by bytes
 pub data IsFound (g : Graph) : Shape ℕ → Type 0 where
-  at_first : (a : Grown Part ℕ) → IsFirst g (Some a) → IsFound g (shape_of a.tree)
+  at_first : (a : Grown Part ℕ) → IsFirstTree g (Some a) → IsFound g (shape_of a.tree)
   by_byte : {s : Shape ℕ} (b : ℕ) (a : Grown Part ℕ) → IsFound g s → IsNext g b s (Some a) → IsFound g (shape_of a.tree)
 
 -- from some leaf of the tree the bytes of the two classes lead to other places

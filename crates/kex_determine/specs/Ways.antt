@@ -10,24 +10,24 @@ use Rattle.kex_sst.specs.Parts.{numbered_tree}
 use Rattle.kex_paths.specs.Nexts.{inner_of, places_of}
 
 -- the right side of a fork that is still to come, and the way to the fork
-pub record Side : Type 0 where
+pub record RightSide : Type 0 where
   pub before : List ℕ
   pub shape : Shape ℕ
 
-abbrev pub inner_in : List Side → List Bool
-inner_in [] = []
-inner_in (x ∷ rest) = inner_of x.shape ++ inner_in rest
+abbrev pub inner_in_sides : List RightSide → List Bool
+inner_in_sides [] = []
+inner_in_sides (x ∷ rest) = inner_of x.shape ++ inner_in_sides rest
 
-abbrev pub places_in : List Side → List ℕ
-places_in [] = []
-places_in (x ∷ rest) = places_of x.shape ++ places_in rest
+abbrev pub places_in_sides : List RightSide → List ℕ
+places_in_sides [] = []
+places_in_sides (x ∷ rest) = places_of x.shape ++ places_in_sides rest
 
-abbrev pub EachSide : ℕ → List Side → Type 0
+abbrev pub EachSide : ℕ → List RightSide → Type 0
 EachSide m [] = Unit {0}
 EachSide m (x ∷ rest) = EachPlace m x.shape × EachSide m rest
 
 -- the forks by how long the way to each is, the last the deepest; each lies on the way
-abbrev pub AreForks : List ℕ → List ℕ → List Side → Type 0
+abbrev pub AreForks : List ℕ → List ℕ → List RightSide → Type 0
 AreForks way forks [] = forks ≡ []
 AreForks way forks (x ∷ rest) = (more : List ℕ) × (forks ≡ more ++ length x.before ∷ []) × Begins way x.before × AreForks x.before more rest
 
@@ -42,19 +42,19 @@ onward way (Some a) = Some (map (λ i. Old i) way ++ a.label)
 
 module _ (moves : ℕ → Move ℕ) where
   -- the first way to the end, from node k on
-  abbrev pub from_sides : ℕ → List Side → Option (List Part)
+  abbrev pub from_sides : ℕ → List RightSide → Option (List Part)
   from_sides k [] = None
   from_sides k (x ∷ rest) = either (onward (x.before ++ (k - 1) ∷ []) (first_accepting moves (numbered_tree k x.shape))) (from_sides (k + size_of x.shape) rest)
 
-  abbrev pub from_here : ℕ → List ℕ → Shape ℕ → List Side → Option (List Part)
+  abbrev pub from_here : ℕ → List ℕ → Shape ℕ → List RightSide → Option (List Part)
   from_here k way s rest = either (onward way (first_accepting moves (numbered_tree k s))) (from_sides (k + size_of s) rest)
 
 -- at node k, behind so many leaves: what is still to come has the whole tree's way to the end
 pub record IsOnWay (moves : ℕ → Move ℕ) (m : ℕ) (shape : List Bool) (leaves : List ℕ) (whole : Option (List Part)) (k leaf : ℕ) (way forks : List ℕ) : Type 0 where
   pub here : Shape ℕ
-  pub sides : List Side
-  pub inner : drop k shape ≡ inner_of here ++ inner_in sides
-  pub places : drop leaf leaves ≡ places_of here ++ places_in sides
+  pub sides : List RightSide
+  pub inner : drop k shape ≡ inner_of here ++ inner_in_sides sides
+  pub places : drop leaf leaves ≡ places_of here ++ places_in_sides sides
   pub below : EachPlace m here
   pub each : EachSide m sides
   pub forked : AreForks way forks sides

@@ -8,10 +8,10 @@ use Rattle.kex_model.specs.Moves.{Move, accept, read, choose, forced, go}
 use Rattle.kex_model.specs.Labelled.{Labelled, tip, fork, Grown, with_prefix, fork_of}
 use Rattle.kex_model.proofs.Shapes.{among-append}
 use Rattle.kex_frontier.specs.declared.forest.TreeEdge.{TreeEdge}
-use Rattle.kex_frontier.specs.Edges.{Edge, Trees, as_is, edges_of, HasTrees, last_tree, with_front, with_fork, IsTipIf, TipsBelow, IsTreeBelow}
+use Rattle.kex_frontier.specs.Edges.{Edge, CodeTrees, as_is, edges_of, HasCodeTrees, last_code_tree, with_front, with_fork, IsTipIf, TipsBelow, IsTreeBelow}
 use Rattle.kex_frontier.specs.Views.{edge_of, edges_at}
 use Rattle.kex_machine.specs.Advancing.{both, left_or_right, at_end, first_accepting}
-use Rattle.kex_frontier.specs.Going.{Advances, trees_at_end}
+use Rattle.kex_frontier.specs.Going.{AdvancesCodes, trees_at_end}
 
 pub behind_two : (c d : List Symbol) (a : Option (Grown Symbol ℕ)) → with_prefix c (with_prefix d a) ≡ with_prefix (c ++ d) a
 behind_two c d None = refl
@@ -79,22 +79,22 @@ module _ (moves : ℕ → Move ℕ) (b : ℕ) (f0 : List Bool) where
   -- the trees go on one after another, and are behind their labels
   abbrev pub Steps : List (Grown Symbol ℕ) → List (Option (Grown Symbol ℕ)) → List Bool → Type 0
   Steps [] [] f = f0 ≡ f
-  Steps (t ∷ ts) (r ∷ rs) f = (g : List Bool) × (a : Option (Grown Symbol ℕ)) × Steps ts rs g × Advances moves b g t.tree a f × (r ≡ with_prefix t.label a)
+  Steps (t ∷ ts) (r ∷ rs) f = (g : List Bool) × (a : Option (Grown Symbol ℕ)) × Steps ts rs g × AdvancesCodes moves b g t.tree a f × (r ≡ with_prefix t.label a)
   Steps [] (r ∷ rs) f = ⊥
   Steps (t ∷ ts) [] f = ⊥
 
   -- with the edges that are left the trees that were made make the whole tree, and the forest has what they go on with
-  pub record Grows (t : Labelled Symbol ℕ) (f : List Bool) (left : List Edge) (forest : Trees) : Type 0 where
+  pub record Grows (t : Labelled Symbol ℕ) (f : List Bool) (left : List Edge) (forest : CodeTrees) : Type 0 where
     pub trees : List (Grown Symbol ℕ)
     pub results : List (Option (Grown Symbol ℕ))
     pub makes : made (Some trees) left ≡ Some (whole t ∷ [])
-    pub has : HasTrees as_is forest results
+    pub has : HasCodeTrees as_is forest results
     pub steps : Steps trees results f
 
-  pub grows_start : (t : Labelled Symbol ℕ) (all ts : List TreeEdge) (forest : Trees) → all ≡ reverse ts → HasTrees as_is forest [] → edges_at ts ≡ edges_of t [] → Grows t f0 (left_of all) forest
+  pub grows_start : (t : Labelled Symbol ℕ) (all ts : List TreeEdge) (forest : CodeTrees) → all ≡ reverse ts → HasCodeTrees as_is forest [] → edges_at ts ≡ edges_of t [] → Grows t f0 (left_of all) forest
   grows_start t all ts forest e has is = record { trees = []; results = []; makes = made_whole t (left_of all) (left_start all ts e ∙ is); has = has; steps = refl }
 
-  pub grows_tip : (t : Labelled Symbol ℕ) (f f' : List Bool) (all rest : List TreeEdge) (x : TreeEdge) (p : ℕ) (old new : Trees) → all ≡ rest ++ x ∷ [] → x.at ≡ Some p → (a : Option (Grown Symbol ℕ)) × Advances moves b f (tip p) a f' × ((rs : List (Option (Grown Symbol ℕ))) → HasTrees as_is old rs → HasTrees as_is new (with_prefix x.label.items a ∷ rs)) → Grows t f (left_of all) old → Grows t f' (left_of rest) new
+  pub grows_tip : (t : Labelled Symbol ℕ) (f f' : List Bool) (all rest : List TreeEdge) (x : TreeEdge) (p : ℕ) (old new : CodeTrees) → all ≡ rest ++ x ∷ [] → x.at ≡ Some p → (a : Option (Grown Symbol ℕ)) × AdvancesCodes moves b f (tip p) a f' × ((rs : List (Option (Grown Symbol ℕ))) → HasCodeTrees as_is old rs → HasCodeTrees as_is new (with_prefix x.label.items a ∷ rs)) → Grows t f (left_of all) old → Grows t f' (left_of rest) new
   grows_tip t f f' all rest x p old new e at (a, adv, done) h = record {
     trees = record { label = x.label.items; tree = tip p } ∷ h.trees;
     results = with_prefix x.label.items a ∷ h.results;
@@ -103,10 +103,10 @@ module _ (moves : ℕ → Move ℕ) (b : ℕ) (f0 : List Bool) where
     steps = (f, a, h.steps, adv, refl);
   }
 
-  pub grows_fork : (t : Labelled Symbol ℕ) (f : List Bool) (all rest : List TreeEdge) (x : TreeEdge) (old new : Trees) → all ≡ rest ++ x ∷ [] → x.at ≡ None → ((rs : List (Option (Grown Symbol ℕ))) → HasTrees as_is old rs → HasTrees as_is new (with_front x.label.items (with_fork rs))) → Grows t f (left_of all) old → Grows t f (left_of rest) new
+  pub grows_fork : (t : Labelled Symbol ℕ) (f : List Bool) (all rest : List TreeEdge) (x : TreeEdge) (old new : CodeTrees) → all ≡ rest ++ x ∷ [] → x.at ≡ None → ((rs : List (Option (Grown Symbol ℕ))) → HasCodeTrees as_is old rs → HasCodeTrees as_is new (with_front x.label.items (with_fork rs))) → Grows t f (left_of all) old → Grows t f (left_of rest) new
   grows_fork t f all rest x old new e at done h = by h.trees h.results (ap (λ z. made (stacked x.label.items z h.trees) (left_of rest)) (sym at) ∙ ap (λ z. made (Some h.trees) z) (sym (left_pop all rest x e)) ∙ h.makes) h.has h.steps
     where
-      by : (ts : List (Grown Symbol ℕ)) (rs : List (Option (Grown Symbol ℕ))) → made (stacked x.label.items None ts) (left_of rest) ≡ Some (whole t ∷ []) → HasTrees as_is old rs → Steps ts rs f → Grows t f (left_of rest) new
+      by : (ts : List (Grown Symbol ℕ)) (rs : List (Option (Grown Symbol ℕ))) → made (stacked x.label.items None ts) (left_of rest) ≡ Some (whole t ∷ []) → HasCodeTrees as_is old rs → Steps ts rs f → Grows t f (left_of rest) new
       by [] rs m has s = cc
       by (r ∷ []) rs m has s = cc
       by (r ∷ l ∷ ts) [] m has s = absurd s
@@ -119,7 +119,7 @@ module _ (moves : ℕ → Move ℕ) (b : ℕ) (f0 : List Bool) where
         steps = (g', fork_of (with_prefix l.label a') (with_prefix r.label a), s, both adv' adv, ap (λ z. with_prefix x.label.items (fork_of z r')) is' ∙ ap (λ z. with_prefix x.label.items (fork_of (with_prefix l.label a') z)) is);
       }
 
-  pub grows_end : (t : Labelled Symbol ℕ) (f : List Bool) (all : List TreeEdge) (forest : Trees) → all ≡ [] → Grows t f (left_of all) forest → (a : Option (Grown Symbol ℕ)) × Advances moves b f0 t a f × HasTrees as_is forest (a ∷ [])
+  pub grows_end : (t : Labelled Symbol ℕ) (f : List Bool) (all : List TreeEdge) (forest : CodeTrees) → all ≡ [] → Grows t f (left_of all) forest → (a : Option (Grown Symbol ℕ)) × AdvancesCodes moves b f0 t a f × HasCodeTrees as_is forest (a ∷ [])
   grows_end t f all forest e h = by h.trees h.results (ap (λ z. made (Some h.trees) (left_of z)) (sym e) ∙ h.makes) h.has h.steps
     where
       as_it_is : (a : Option (Grown Symbol ℕ)) → with_prefix [] a ≡ a
@@ -129,12 +129,12 @@ module _ (moves : ℕ → Move ℕ) (b : ℕ) (f0 : List Bool) where
       one : (ts : List (Grown Symbol ℕ)) → Some ts ≡ Some (whole t ∷ []) → ts ≡ whole t ∷ []
       one ts e = cc
 
-      of_one : (rs : List (Option (Grown Symbol ℕ))) → HasTrees as_is forest rs → Steps (whole t ∷ []) rs f → (a : Option (Grown Symbol ℕ)) × Advances moves b f0 t a f × HasTrees as_is forest (a ∷ [])
+      of_one : (rs : List (Option (Grown Symbol ℕ))) → HasCodeTrees as_is forest rs → Steps (whole t ∷ []) rs f → (a : Option (Grown Symbol ℕ)) × AdvancesCodes moves b f0 t a f × HasCodeTrees as_is forest (a ∷ [])
       of_one [] has s = absurd s
-      of_one (r ∷ []) has (g, a, s, adv, is) = (a, subst (λ z. Advances moves b z t a f) (sym s) adv, subst (λ z. HasTrees as_is forest (z ∷ [])) (is ∙ as_it_is a) has)
+      of_one (r ∷ []) has (g, a, s, adv, is) = (a, subst (λ z. AdvancesCodes moves b z t a f) (sym s) adv, subst (λ z. HasCodeTrees as_is forest (z ∷ [])) (is ∙ as_it_is a) has)
       of_one (r ∷ r' ∷ rs) has (g, a, s, adv, is) = absurd s
 
-      by : (ts : List (Grown Symbol ℕ)) (rs : List (Option (Grown Symbol ℕ))) → Some ts ≡ Some (whole t ∷ []) → HasTrees as_is forest rs → Steps ts rs f → (a : Option (Grown Symbol ℕ)) × Advances moves b f0 t a f × HasTrees as_is forest (a ∷ [])
+      by : (ts : List (Grown Symbol ℕ)) (rs : List (Option (Grown Symbol ℕ))) → Some ts ≡ Some (whole t ∷ []) → HasCodeTrees as_is forest rs → Steps ts rs f → (a : Option (Grown Symbol ℕ)) × AdvancesCodes moves b f0 t a f × HasCodeTrees as_is forest (a ∷ [])
       by ts rs m has s = of_one rs has (subst (λ z. Steps z rs f) (one ts m) s)
 
 module _ (moves : ℕ → Move ℕ) where
@@ -161,29 +161,29 @@ module _ (moves : ℕ → Move ℕ) where
   accepting_tip (tip p) = end_tip (moves p) p
   accepting_tip (fork x l y r) = picked_tip (with_prefix x (first_accepting moves l)) (with_prefix y (first_accepting moves r)) (behind_tip x (first_accepting moves l) (accepting_tip l)) (behind_tip y (first_accepting moves r) (accepting_tip r))
 
-  pub record Ends (t : Labelled Symbol ℕ) (left : List Edge) (forest : Trees) : Type 0 where
+  pub record Ends (t : Labelled Symbol ℕ) (left : List Edge) (forest : CodeTrees) : Type 0 where
     pub trees : List (Grown Symbol ℕ)
     pub makes : made (Some trees) left ≡ Some (whole t ∷ [])
-    pub has : HasTrees as_is forest (map found_in trees)
+    pub has : HasCodeTrees as_is forest (map found_in trees)
 
-  pub ends_start : (t : Labelled Symbol ℕ) (all ts : List TreeEdge) (forest : Trees) → all ≡ reverse ts → HasTrees as_is forest [] → edges_at ts ≡ edges_of t [] → Ends t (left_of all) forest
+  pub ends_start : (t : Labelled Symbol ℕ) (all ts : List TreeEdge) (forest : CodeTrees) → all ≡ reverse ts → HasCodeTrees as_is forest [] → edges_at ts ≡ edges_of t [] → Ends t (left_of all) forest
   ends_start t all ts forest e has is = record { trees = []; makes = made_whole t (left_of all) (left_start all ts e ∙ is); has = has }
 
-  pub ends_edge : (t : Labelled Symbol ℕ) (all rest : List TreeEdge) (x : TreeEdge) (old mid new : Trees) → all ≡ rest ++ x ∷ [] → ((rs : List (Option (Grown Symbol ℕ))) → IsTipIf (last_tree rs) → HasTrees as_is old rs → HasTrees as_is mid (trees_at_end moves x.at rs)) → ((rs : List (Option (Grown Symbol ℕ))) → HasTrees as_is mid rs → HasTrees as_is new (with_front x.label.items rs)) → Ends t (left_of all) old → Ends t (left_of rest) new
+  pub ends_edge : (t : Labelled Symbol ℕ) (all rest : List TreeEdge) (x : TreeEdge) (old mid new : CodeTrees) → all ≡ rest ++ x ∷ [] → ((rs : List (Option (Grown Symbol ℕ))) → IsTipIf (last_code_tree rs) → HasCodeTrees as_is old rs → HasCodeTrees as_is mid (trees_at_end moves x.at rs)) → ((rs : List (Option (Grown Symbol ℕ))) → HasCodeTrees as_is mid rs → HasCodeTrees as_is new (with_front x.label.items rs)) → Ends t (left_of all) old → Ends t (left_of rest) new
   ends_edge t all rest x old mid new e done done' h = by x.at h.trees (ap (λ z. made (Some h.trees) z) (sym (left_pop all rest x e)) ∙ h.makes) h.has done
     where
-      first_tip : (ts : List (Grown Symbol ℕ)) → IsTipIf (last_tree (map found_in ts))
+      first_tip : (ts : List (Grown Symbol ℕ)) → IsTipIf (last_code_tree (map found_in ts))
       first_tip [] = tt
       first_tip (t ∷ ts) = behind_tip t.label (first_accepting moves t.tree) (accepting_tip t.tree)
 
-      by : (at : Option ℕ) (ts : List (Grown Symbol ℕ)) → made (stacked x.label.items at ts) (left_of rest) ≡ Some (whole t ∷ []) → HasTrees as_is old (map found_in ts) → ((rs : List (Option (Grown Symbol ℕ))) → IsTipIf (last_tree rs) → HasTrees as_is old rs → HasTrees as_is mid (trees_at_end moves at rs)) → Ends t (left_of rest) new
+      by : (at : Option ℕ) (ts : List (Grown Symbol ℕ)) → made (stacked x.label.items at ts) (left_of rest) ≡ Some (whole t ∷ []) → HasCodeTrees as_is old (map found_in ts) → ((rs : List (Option (Grown Symbol ℕ))) → IsTipIf (last_code_tree rs) → HasCodeTrees as_is old rs → HasCodeTrees as_is mid (trees_at_end moves at rs)) → Ends t (left_of rest) new
       by (Some p) ts m has done = record { trees = record { label = x.label.items; tree = tip p } ∷ ts; makes = m; has = done' (at_end (moves p) p ∷ map found_in ts) (done (map found_in ts) (first_tip ts) has) }
       by None [] m has done = cc
       by None (r ∷ []) m has done = cc
       by None (r ∷ l ∷ ts) m has done = record { trees = record { label = x.label.items; tree = fork l.label l.tree r.label r.tree } ∷ ts; makes = m; has = done' (left_or_right (found_in l) (found_in r) ∷ map found_in ts) (done (found_in r ∷ found_in l ∷ map found_in ts) (first_tip (r ∷ ts)) has) }
 
-  pub ends_end : (t : Labelled Symbol ℕ) (all : List TreeEdge) (forest : Trees) → all ≡ [] → Ends t (left_of all) forest → HasTrees as_is forest (first_accepting moves t ∷ [])
-  ends_end t all forest e h = subst (λ z. HasTrees as_is forest z) (ap (λ z. map found_in z) (one h.trees (ap (λ z. made (Some h.trees) (left_of z)) (sym e) ∙ h.makes)) ∙ ap (λ z. z ∷ []) (as_it_is (first_accepting moves t))) h.has
+  pub ends_end : (t : Labelled Symbol ℕ) (all : List TreeEdge) (forest : CodeTrees) → all ≡ [] → Ends t (left_of all) forest → HasCodeTrees as_is forest (first_accepting moves t ∷ [])
+  ends_end t all forest e h = subst (λ z. HasCodeTrees as_is forest z) (ap (λ z. map found_in z) (one h.trees (ap (λ z. made (Some h.trees) (left_of z)) (sym e) ∙ h.makes)) ∙ ap (λ z. z ∷ []) (as_it_is (first_accepting moves t))) h.has
     where
       as_it_is : (a : Option (Grown Symbol ℕ)) → with_prefix [] a ≡ a
       as_it_is None = refl

@@ -8,15 +8,15 @@ use Rattle.kex_model.specs.Labelled.{Labelled, tip, fork, Grown, with_prefix, fo
 use Rattle.kex_model.specs.Survivors.{HasTree}
 use Rattle.kex_model.proofs.Shapes.{tree_agrees}
 use Rattle.kex_machine.specs.Nodes.{node_moves}
-use Rattle.kex_machine.specs.Answers.{Viable, HasParse, IsSaid, IsGreedy}
-use Rattle.kex_frontier.specs.Edges.{Edge, edges_of, is_there, root_label, bare_edges, TipsBelow, IsTreeBelow, IsKept}
+use Rattle.kex_machine.specs.Answers.{IsViableFor, HasRun, IsSaid, IsGreedy}
+use Rattle.kex_frontier.specs.Edges.{Edge, edges_of, is_there, root_label, bare_edges, TipsBelow, IsTreeBelow, IsKeptTree}
 use Rattle.kex_machine.specs.Advancing.{known, stops, parts_off, is_forced, passes_on, dies, reads_on, both, first_accepting}
-use Rattle.kex_frontier.specs.Going.{Visits, Advances, WentOn}
+use Rattle.kex_frontier.specs.Going.{VisitsCodes, AdvancesCodes, TreeWentOn}
 use Rattle.kex_frontier.specs.declared.forest.TreeEdge.{TreeEdge}
 use Rattle.kex_frontier.specs.Views.{edges_at}
 use Rattle.kex_frontier.specs.declared.frontier.Fed.TheVariants.{Dead}
 use Rattle.kex_frontier.specs.declared.frontier.Ended.TheVariants.{Cut}
-use Rattle.kex_frontier.specs.Frontiers.{Front, IsFed, IsFedBy, IsOver, answer_of, end_of}
+use Rattle.kex_frontier.specs.Frontiers.{Front, IsFed, IsFedBy, IsOver, answer_of, end_answer}
 use Rattle.kex_machine.proofs.Nexts.{IsTrim, next_shows, first_shows}
 use Rattle.kex_machine.proofs.LongestFronts.{viable_before, said_of_tree, said_later, no_parse}
 use Rattle.kex_machine.proofs.AcceptingTips.{none_parses, greedy_found}
@@ -37,7 +37,7 @@ joined_tips m (Some l) None h h' = h
 joined_tips m (Some l) (Some r) h h' = (h, h')
 
 module _ (moves : ℕ → Move ℕ) (m : ℕ) where
-  visit_tips : {f g : List Bool} {n : ℕ} {a : Option (Grown Symbol ℕ)} → Visits moves f n a g → length f ≡ m → (length g ≡ m) × TipsIf m a
+  visit_tips : {f g : List Bool} {n : ℕ} {a : Option (Grown Symbol ℕ)} → VisitsCodes moves f n a g → length f ≡ m → (length g ≡ m) × TipsIf m a
   visit_tips (known e) l = (l, tt)
   visit_tips {f = f} (stops {n = n} lt e w) l = (length-set f n true ∙ l, subst (λ z. n < z) l lt)
   visit_tips {f = f} (parts_off {n = n} {a = a} {b = b} lt e mv va vb) l =
@@ -47,7 +47,7 @@ module _ (moves : ℕ → Move ℕ) (m : ℕ) where
   visit_tips {f = f} (is_forced {n = n} {x = x} {a = a} lt e mv va) l = let p = visit_tips va (length-set f n true ∙ l) in (p.0, behind_tips m (symbol_of x ∷ []) a p.1)
   visit_tips {f = f} (passes_on {n = n} lt e mv va) l = visit_tips va (length-set f n true ∙ l)
 
-  advance_tips : {b : ℕ} {f g : List Bool} {t : Labelled Symbol ℕ} {a : Option (Grown Symbol ℕ)} → Advances moves b f t a g → length f ≡ m → (length g ≡ m) × TipsIf m a
+  advance_tips : {b : ℕ} {f g : List Bool} {t : Labelled Symbol ℕ} {a : Option (Grown Symbol ℕ)} → AdvancesCodes moves b f t a g → length f ≡ m → (length g ≡ m) × TipsIf m a
   advance_tips (dies h) l = (l, tt)
   advance_tips {b = b} (reads_on {a = a} h v) l = let p = visit_tips v l in (p.0, behind_tips m (Byte b ∷ []) a p.1)
   advance_tips (both {u = u} {v = v} {x = x} {y = y} va vb) l =
@@ -59,10 +59,10 @@ module _ (moves : ℕ → Move ℕ) (m : ℕ) where
   bare_kept None ks e h = inl e
   bare_kept (Some g) ks e h = inr (g.tree, e, h)
 
-  pub went_kept : (b : ℕ) (t : Labelled Symbol ℕ) (there : Bool) (before after : List Symbol) (ks : List Edge) (marks : List Bool) → length marks ≡ m → WentOn moves b m t there before after ks → IsKept m ks marks
+  pub went_kept : (b : ℕ) (t : Labelled Symbol ℕ) (there : Bool) (before after : List Symbol) (ks : List Edge) (marks : List Bool) → length marks ≡ m → TreeWentOn moves b m t there before after ks → IsKeptTree m ks marks
   went_kept b t there before after ks marks l w = record { long = l; tree = bare_kept w.grown ks w.has (advance_tips w.advances (length-replicate m false)).1 }
 
-  pub first_kept : (start : ℕ) (a : Option (Grown Symbol ℕ)) (g : List Bool) (ks : List Edge) (marks : List Bool) → Visits moves (replicate m false) start a g → length marks ≡ m → ks ≡ bare_edges a → IsKept m ks marks
+  pub first_kept : (start : ℕ) (a : Option (Grown Symbol ℕ)) (g : List Bool) (ks : List Edge) (marks : List Bool) → VisitsCodes moves (replicate m false) start a g → length marks ≡ m → ks ≡ bare_edges a → IsKeptTree m ks marks
   first_kept start a g ks marks v l e = record { long = l; tree = bare_kept a ks e (visit_tips v (length-replicate m false)).1 }
 
 no_edges : (t : Labelled Symbol ℕ) (c : List Symbol) → edges_of t c ≡ [] → ⊥
@@ -73,7 +73,7 @@ no_edges (fork x l y r) c e = none (edges_of l x ++ edges_of r y) e
     none [] e = cc
     none (k ∷ ks) e = cc
 
-pub kept_tree : (m : ℕ) (ks : List Edge) (marks : List Bool) → IsKept m ks marks → (ks ≡ [] → ⊥) → IsTreeBelow m ks
+pub kept_tree : (m : ℕ) (ks : List Edge) (marks : List Bool) → IsKeptTree m ks marks → (ks ≡ [] → ⊥) → IsTreeBelow m ks
 kept_tree m ks marks h some = ⊎_elim (λ e. absurd (some e)) (λ t. t) h.tree
 
 -- what is agreed is said of a text that a frontier was fed
@@ -82,19 +82,19 @@ said_of_fed f w taken trim h = ⊎_elim (λ l. said_of_tree f.machine trim w (ta
 
 module _ (f : Front) (w : List ℕ) (taken : List Symbol) (trim : IsTrim (node_moves f.machine.nodes) f.machine.start) where
   -- with a byte a live frontier has the tree of the longer text, or is dead
-  went_live : (b m : ℕ) (t : Labelled Symbol ℕ) (new : Front) → new.machine ≡ f.machine → HasTree (node_moves f.machine.nodes) f.machine.start w (taken ++ f.untaken) t → (a : Option (Grown Symbol ℕ)) (g : List Bool) → Advances (node_moves f.machine.nodes) b (replicate m false) t a g → new.untaken ≡ f.untaken ++ root_label a → new.edges ≡ bare_edges a → IsFedBy (answer_of (is_there a)) new (w ++ b ∷ []) taken
+  went_live : (b m : ℕ) (t : Labelled Symbol ℕ) (new : Front) → new.machine ≡ f.machine → HasTree (node_moves f.machine.nodes) f.machine.start w (taken ++ f.untaken) t → (a : Option (Grown Symbol ℕ)) (g : List Bool) → AdvancesCodes (node_moves f.machine.nodes) b (replicate m false) t a g → new.untaken ≡ f.untaken ++ root_label a → new.edges ≡ bare_edges a → IsFedBy (answer_of (is_there a)) new (w ++ b ∷ []) taken
   went_live b m t new same has None g v code edges =
-      let dead : ¬ Viable f.machine (w ++ b ∷ []) = next_shows (node_moves f.machine.nodes) f.machine.start trim w (taken ++ f.untaken) t has b m None g v in
+      let dead : ¬ IsViableFor f.machine (w ++ b ∷ []) = next_shows (node_moves f.machine.nodes) f.machine.start trim w (taken ++ f.untaken) t has b m None g v in
       let said : IsSaid f.machine (w ++ b ∷ []) (taken ++ f.untaken) = said_later f.machine trim w b (taken ++ f.untaken) (said_of_tree f.machine trim w (taken ++ f.untaken) t has) dead in
       let kept : taken ++ new.untaken ≡ taken ++ f.untaken = ap (λ z. taken ++ z) (code ∙ append-nil f.untaken) in
-      (subst (λ z. ¬ Viable z (w ++ b ∷ [])) (sym same) dead, inr (subst (λ z. ¬ Viable z (w ++ b ∷ [])) (sym same) dead, subst (λ z. IsSaid z (w ++ b ∷ []) (taken ++ new.untaken)) (sym same) (subst (λ z. IsSaid f.machine (w ++ b ∷ []) z) (sym kept) said), edges))
+      (subst (λ z. ¬ IsViableFor z (w ++ b ∷ [])) (sym same) dead, inr (subst (λ z. ¬ IsViableFor z (w ++ b ∷ [])) (sym same) dead, subst (λ z. IsSaid z (w ++ b ∷ []) (taken ++ new.untaken)) (sym same) (subst (λ z. IsSaid f.machine (w ++ b ∷ []) z) (sym kept) said), edges))
   went_live b m t new same has (Some s) g v code edges =
       let tree : HasTree (node_moves f.machine.nodes) f.machine.start (w ++ b ∷ []) ((taken ++ f.untaken) ++ s.label) s.tree = next_shows (node_moves f.machine.nodes) f.machine.start trim w (taken ++ f.untaken) t has b m (Some s) g v in
       let kept : taken ++ new.untaken ≡ (taken ++ f.untaken) ++ s.label = ap (λ z. taken ++ z) code ∙ sym (append_assoc taken f.untaken s.label) in
       let here : HasTree (node_moves new.machine.nodes) new.machine.start (w ++ b ∷ []) (taken ++ new.untaken) s.tree = subst (λ z. HasTree (node_moves z.nodes) z.start (w ++ b ∷ []) (taken ++ new.untaken) s.tree) (sym same) (subst (λ z. HasTree (node_moves f.machine.nodes) f.machine.start (w ++ b ∷ []) z s.tree) (sym kept) tree) in
       ((tree_agrees (node_moves new.machine.nodes) new.machine.start (w ++ b ∷ []) (taken ++ new.untaken) s.tree here).viable, inl (s.tree, here, edges))
 
-  pub fed : (b m : ℕ) (there : Bool) (new : Front) → new.machine ≡ f.machine → (f.edges ≡ [] → ⊥) → ((t : Labelled Symbol ℕ) → f.edges ≡ edges_of t [] → WentOn (node_moves f.machine.nodes) b m t there f.untaken new.untaken new.edges) → IsFed f w taken → IsFedBy (answer_of there) new (w ++ b ∷ []) taken
+  pub fed : (b m : ℕ) (there : Bool) (new : Front) → new.machine ≡ f.machine → (f.edges ≡ [] → ⊥) → ((t : Labelled Symbol ℕ) → f.edges ≡ edges_of t [] → TreeWentOn (node_moves f.machine.nodes) b m t there f.untaken new.untaken new.edges) → IsFed f w taken → IsFedBy (answer_of there) new (w ++ b ∷ []) taken
   fed b m there new same some went h =
       ⊎_elim
       (λ l. let x = went l.0 l.2 in subst (λ z. IsFedBy (answer_of z) new (w ++ b ∷ []) taken) (sym x.tells) (went_live b m l.0 new same l.1 x.grown x.marks x.advances x.code x.has))
@@ -106,7 +106,7 @@ module _ (f : Front) (w : List ℕ) (taken : List Symbol) (trim : IsTrim (node_m
       ⊎_elim
       (λ l. absurd (no_edges l.0 [] (sym l.2 ∙ none)))
       (λ d.
-      let dead : ¬ Viable f.machine (w ++ b ∷ []) = λ v. d.0 (viable_before f.machine trim w b v) in
+      let dead : ¬ IsViableFor f.machine (w ++ b ∷ []) = λ v. d.0 (viable_before f.machine trim w b v) in
       (dead, inr (dead, said_later f.machine trim w b (taken ++ f.untaken) d.1 dead, none)))
       h
 
@@ -115,29 +115,29 @@ module _ (f : Front) (w : List ℕ) (taken : List Symbol) (trim : IsTrim (node_m
       ⊎_elim
       (λ l. absurd (no_edges l.0 [] (sym l.2 ∙ none)))
       (λ d. (
-        subst (λ z. ¬ HasParse z w) (sym same) (no_parse f.machine trim w d.0),
+        subst (λ z. ¬ HasRun z w) (sym same) (no_parse f.machine trim w d.0),
         subst (λ z. IsSaid z w (taken ++ new.untaken)) (sym same) (subst (λ z. IsSaid f.machine w (taken ++ z)) (sym code) d.1),
       ))
       h
 
   -- the end
-  over_live : (t : Labelled Symbol ℕ) (new : Front) → new.machine ≡ f.machine → HasTree (node_moves f.machine.nodes) f.machine.start w (taken ++ f.untaken) t → (a : Option (Grown Symbol ℕ)) → first_accepting (node_moves f.machine.nodes) t ≡ a → new.untaken ≡ f.untaken ++ root_label a → IsOver (end_of (is_there a)) new w taken
+  over_live : (t : Labelled Symbol ℕ) (new : Front) → new.machine ≡ f.machine → HasTree (node_moves f.machine.nodes) f.machine.start w (taken ++ f.untaken) t → (a : Option (Grown Symbol ℕ)) → first_accepting (node_moves f.machine.nodes) t ≡ a → new.untaken ≡ f.untaken ++ root_label a → IsOver (end_answer (is_there a)) new w taken
   over_live t new same has None e code = (
-    subst (λ z. ¬ HasParse z w) (sym same) (none_parses f.machine trim w (taken ++ f.untaken) t has e),
+    subst (λ z. ¬ HasRun z w) (sym same) (none_parses f.machine trim w (taken ++ f.untaken) t has e),
     subst (λ z. IsSaid z w (taken ++ new.untaken)) (sym same) (subst (λ z. IsSaid f.machine w (taken ++ z)) (sym (code ∙ append-nil f.untaken)) (said_of_tree f.machine trim w (taken ++ f.untaken) t has)),
   )
   over_live t new same has (Some s) e code =
       subst (λ z. IsGreedy z w (taken ++ new.untaken)) (sym same) (subst (λ z. IsGreedy f.machine w z) (sym (ap (λ z. taken ++ z) code ∙ sym (append_assoc taken f.untaken s.label))) (greedy_found f.machine trim w (taken ++ f.untaken) t has s e))
 
-  pub over : (there : Bool) (new : Front) → new.machine ≡ f.machine → (f.edges ≡ [] → ⊥) → ((t : Labelled Symbol ℕ) → f.edges ≡ edges_of t [] → (there ≡ is_there (first_accepting (node_moves f.machine.nodes) t)) × (new.untaken ≡ f.untaken ++ root_label (first_accepting (node_moves f.machine.nodes) t))) → IsFed f w taken → IsOver (end_of there) new w taken
+  pub over : (there : Bool) (new : Front) → new.machine ≡ f.machine → (f.edges ≡ [] → ⊥) → ((t : Labelled Symbol ℕ) → f.edges ≡ edges_of t [] → (there ≡ is_there (first_accepting (node_moves f.machine.nodes) t)) × (new.untaken ≡ f.untaken ++ root_label (first_accepting (node_moves f.machine.nodes) t))) → IsFed f w taken → IsOver (end_answer there) new w taken
   over there new same some ends h =
       ⊎_elim
-      (λ l. let x = ends l.0 l.2 in subst (λ z. IsOver (end_of z) new w taken) (sym x.0) (over_live l.0 new same l.1 (first_accepting (node_moves f.machine.nodes) l.0) refl x.1))
+      (λ l. let x = ends l.0 l.2 in subst (λ z. IsOver (end_answer z) new w taken) (sym x.0) (over_live l.0 new same l.1 (first_accepting (node_moves f.machine.nodes) l.0) refl x.1))
       (λ d. absurd (some d.2))
       h
 
 -- the frontier of the empty text
-pub begins : (f : Front) (m : ℕ) (a : Option (Grown Symbol ℕ)) (g : List Bool) → IsTrim (node_moves f.machine.nodes) f.machine.start → Visits (node_moves f.machine.nodes) (replicate m false) f.machine.start a g → f.untaken ≡ root_label a → f.edges ≡ bare_edges a → IsFed f [] []
+pub begins : (f : Front) (m : ℕ) (a : Option (Grown Symbol ℕ)) (g : List Bool) → IsTrim (node_moves f.machine.nodes) f.machine.start → VisitsCodes (node_moves f.machine.nodes) (replicate m false) f.machine.start a g → f.untaken ≡ root_label a → f.edges ≡ bare_edges a → IsFed f [] []
 begins f m None g trim v code edges = absurd (first_shows (node_moves f.machine.nodes) f.machine.start trim m None g v)
 begins f m (Some s) g trim v code edges = inl (s.tree, subst (λ z. HasTree (node_moves f.machine.nodes) f.machine.start [] z s.tree) (sym code) (first_shows (node_moves f.machine.nodes) f.machine.start trim m (Some s) g v), edges)
 
@@ -146,7 +146,7 @@ pub code_taken : (old new : Front) (w : List ℕ) (taken code : List Symbol) →
 code_taken old new w taken code trim same edges none is h = (
   ⊎_elim
       (λ l. inl (l.0, subst (λ z. HasTree (node_moves z.nodes) z.start w ((taken ++ code) ++ new.untaken) l.0) (sym same) (subst (λ z. HasTree (node_moves old.machine.nodes) old.machine.start w z l.0) (sym kept) l.1), edges ∙ l.2))
-      (λ d. inr (subst (λ z. ¬ Viable z w) (sym same) d.0, subst (λ z. IsSaid z w ((taken ++ code) ++ new.untaken)) (sym same) (subst (λ z. IsSaid old.machine w z) (sym kept) d.1), edges ∙ d.2))
+      (λ d. inr (subst (λ z. ¬ IsViableFor z w) (sym same) d.0, subst (λ z. IsSaid z w ((taken ++ code) ++ new.untaken)) (sym same) (subst (λ z. IsSaid old.machine w z) (sym kept) d.1), edges ∙ d.2))
       h,
   subst (λ z. IsSaid old.machine w (taken ++ z)) (sym is) (said_of_fed old w taken trim h),
 )

@@ -7,11 +7,11 @@ use Rattle.kex_model.proofs.Walks.{bytes_of-append}
 use Rattle.kex_model.proofs.Derivations.{walk-append, code_of-append}
 use Rattle.kex_machine.specs.declared.MNode.{MNode}
 use Rattle.kex_machine.specs.Nodes.{Graph, node_moves, MoveBelow, StaysWithin}
-use Rattle.kex_machine.specs.Answers.{Viable, HasParse}
+use Rattle.kex_machine.specs.Answers.{IsViableFor, HasRun}
 use Rattle.kex_machine.proofs.Nexts.{IsTrim, reached_by}
 use Rattle.kex_machine.proofs.CutWalks.{cut}
 use Rattle.kex_machine.proofs.LongestFronts.{viable_before, longest_self, longest_later}
-use Rattle.kex_frontier.specs.Rows.{has_mark, AlsoMarks, IsReachedQuietly, IsClosureOf, IsRow}
+use Rattle.kex_frontier.specs.Rows.{has_mark, AlsoMarks, IsReachedQuietly, IsClosureOf, IsMarkRow}
 use Rattle.kex_frontier.specs.Matchers.{Match, IsDeadAt, WasFed}
 
 step_within : (c : ℕ) (v : Move ℕ) (k : Step ℕ) → MoveBelow c v → Allows v k → target_of k < c
@@ -40,7 +40,7 @@ module _ (g : Graph) (trim : IsTrim (node_moves g.nodes) g.start) where
   abbrev ms : ℕ → Move ℕ
   ms = node_moves g.nodes
 
-  pub viable_by_mark : (w : List ℕ) (row : List ℕ) (n : ℕ) → IsRow g w row → has_mark row n ≡ true → Viable g w
+  pub viable_by_mark : (w : List ℕ) (row : List ℕ) (n : ℕ) → IsMarkRow g w row → has_mark row n ≡ true → IsViableFor g w
   viable_by_mark w row n r h =
       let (ks, walk, e) = r.real n h in
       let (ls, end, on, acc) = trim.ends n in
@@ -48,7 +48,7 @@ module _ (g : Graph) (trim : IsTrim (node_moves g.nodes) g.start) where
       let r = reached_by ms g.start trim w p (ks ++ js) (walk-append ms ks js g.start n p walk q) waits (ap bytes_of (code_of-append ks js) ∙ bytes_of-append (code_of ks) (code_of js) ∙ ap₂ (λ x y. x ++ y) e s ∙ append-nil w) in
       (p, (r.0, r.1, trim.ends p))
 
-  pub mark_by_viable : (w : List ℕ) (row : List ℕ) → IsRow g w row → Viable g w → (n : ℕ) × (has_mark row n ≡ true) × ((within : StaysWithin g.nodes) → g.start < length g.nodes → n < length g.nodes)
+  pub mark_by_viable : (w : List ℕ) (row : List ℕ) → IsMarkRow g w row → IsViableFor g w → (n : ℕ) × (has_mark row n ≡ true) × ((within : StaysWithin g.nodes) → g.start < length g.nodes → n < length g.nodes)
   mark_by_viable w row r (p, (c, (ks, path, e), end)) = (p, r.all p ks path.walk path.reads, λ within lt. walk_within g.nodes within ks g.start p lt path.walk)
 
 -- ---- a matcher that was fed w is fed a byte
@@ -70,28 +70,28 @@ module _ (m n : Match) (w : List ℕ) (b : ℕ) (same : n.machine ≡ m.machine)
         };
         good = λ live. cc;
         dead = λ _.
-            let gone : ¬ Viable m.machine v = λ h. old.0 (viable_before m.machine trim w b h) in
+            let gone : ¬ IsViableFor m.machine v = λ h. old.0 (viable_before m.machine trim w b h) in
             (gone, (old.1.0, longest_later does m.machine.start w old.1.0 b old.1.1 gone, old.1.2));
       })
 
-  pub fed_on : m.dead ≡ false → IsRow m.machine v n.row → n.dead ≡ false → n.good ≡ m.good + 1 → (p : ℕ) → has_mark n.row p ≡ true → WasFed n v
+  pub fed_on : m.dead ≡ false → IsMarkRow m.machine v n.row → n.dead ≡ false → n.good ≡ m.good + 1 → (p : ℕ) → has_mark n.row p ≡ true → WasFed n v
   fed_on live r e good p h = record {
-    row = subst (λ z. IsRow z v n.row) (sym same) r;
-    good = λ _. (subst (λ z. Viable z v) (sym same) (viable_by_mark m.machine trim v n.row p r h), (let long : length v ≡ length w + 1 = length-append w (b ∷ []) in let was : m.good ≡ length w = (fed.good live).1 in omega arith));
+    row = subst (λ z. IsMarkRow z v n.row) (sym same) r;
+    good = λ _. (subst (λ z. IsViableFor z v) (sym same) (viable_by_mark m.machine trim v n.row p r h), (let long : length v ≡ length w + 1 = length-append w (b ∷ []) in let was : m.good ≡ length w = (fed.good live).1 in omega arith));
     dead = λ d. cc;
   }
 
-  pub fed_dies : m.dead ≡ false → IsRow m.machine v n.row → StaysWithin m.machine.nodes → m.machine.start < length m.machine.nodes → n.dead ≡ true → n.good ≡ m.good → ((p : ℕ) → p < length m.machine.nodes → has_mark n.row p ≡ false) → WasFed n v
+  pub fed_dies : m.dead ≡ false → IsMarkRow m.machine v n.row → StaysWithin m.machine.nodes → m.machine.start < length m.machine.nodes → n.dead ≡ true → n.good ≡ m.good → ((p : ℕ) → p < length m.machine.nodes → has_mark n.row p ≡ false) → WasFed n v
   fed_dies live r within start e good none =
-      let gone : ¬ Viable m.machine v = λ h. let (p, marked, lt) = mark_by_viable m.machine trim v n.row r h in true≢false (sym marked ∙ none p (lt within start)) in
+      let gone : ¬ IsViableFor m.machine v = λ h. let (p, marked, lt) = mark_by_viable m.machine trim v n.row r h in true≢false (sym marked ∙ none p (lt within start)) in
       record {
-        row = subst (λ z. IsRow z v n.row) (sym same) r;
+        row = subst (λ z. IsMarkRow z v n.row) (sym same) r;
         good = λ live. cc;
         dead = λ _. subst (λ z. IsDeadAt z v n.good) (sym same) (gone, (w, longest_later does m.machine.start w w b (longest_self does m.machine.start w (fed.good live).0) gone, sym (good ∙ (fed.good live).1)));
       }
 
 -- the row of the empty text
-pub row_starts : (g : Graph) (first marked new : List ℕ) → ((n : ℕ) → has_mark first n ≡ false) → AlsoMarks (g.start ∷ []) first marked → IsClosureOf g.nodes marked new → IsRow g [] new
+pub row_starts : (g : Graph) (first marked new : List ℕ) → ((n : ℕ) → has_mark first n ≡ false) → AlsoMarks (g.start ∷ []) first marked → IsClosureOf g.nodes marked new → IsMarkRow g [] new
 row_starts g first marked new none k s = record {
   real = λ n h.
       let r = s.real n h in
@@ -100,7 +100,7 @@ row_starts g first marked new none k s = record {
   all = λ n ks walk e. s.all g.start n (k.added g.start (inl refl)) (ks, walk, e);
 }
 
-pub fed_nothing : (m : Match) → IsTrim (node_moves m.machine.nodes) m.machine.start → IsRow m.machine [] m.row → m.good ≡ 0 → m.dead ≡ false → WasFed m []
+pub fed_nothing : (m : Match) → IsTrim (node_moves m.machine.nodes) m.machine.start → IsMarkRow m.machine [] m.row → m.good ≡ 0 → m.dead ≡ false → WasFed m []
 fed_nothing m trim r good live = record {
   row = r;
   good = λ _. (viable_by_mark m.machine trim [] m.row m.machine.start r (r.all m.machine.start [] refl refl), good);
@@ -109,10 +109,10 @@ fed_nothing m trim r good live = record {
 
 -- ---- the end
 
-pub parse_by_mark : (g : Graph) (w : List ℕ) (row : List ℕ) (n : ℕ) → IsRow g w row → has_mark row n ≡ true → node_moves g.nodes n ≡ accept → HasParse g w
+pub parse_by_mark : (g : Graph) (w : List ℕ) (row : List ℕ) (n : ℕ) → IsMarkRow g w row → has_mark row n ≡ true → node_moves g.nodes n ≡ accept → HasRun g w
 parse_by_mark g w row n r h acc = let (ks, walk, e) = r.real n h in (ks, (n, walk, acc), e)
 
-pub mark_by_parse : (g : Graph) (w : List ℕ) (row : List ℕ) → StaysWithin g.nodes → g.start < length g.nodes → IsRow g w row → HasParse g w → (n : ℕ) × (n < length g.nodes) × (has_mark row n ≡ true) × (node_moves g.nodes n ≡ accept)
+pub mark_by_parse : (g : Graph) (w : List ℕ) (row : List ℕ) → StaysWithin g.nodes → g.start < length g.nodes → IsMarkRow g w row → HasRun g w → (n : ℕ) × (n < length g.nodes) × (has_mark row n ≡ true) × (node_moves g.nodes n ≡ accept)
 mark_by_parse g w row within start r (ks, (e, walk, acc), q) = (e, walk_within g.nodes within ks g.start e start walk, r.all e ks walk q, acc)
 
 pub some_of : {X : Type 0} {P : X → Type 0} (r : Option X) → is_some r ≡ true → IfSome r P → (x : X) × P x

@@ -9,7 +9,7 @@ use Rattle.kex_model.proofs.Derivations.{walk-append, code_of-append}
 use Rattle.kex_machine.specs.declared.MNode.{MNode}
 use Rattle.kex_machine.specs.Nodes.{Graph, node_moves}
 use Rattle.kex_machine.proofs.CutWalks.{cut}
-use Rattle.kex_frontier.specs.Rows.{has_mark, IsHighestBelow, AlsoMarks, byte_ways, IsClosureOf, IsRow}
+use Rattle.kex_frontier.specs.Rows.{has_mark, IsHighestBelow, AlsoMarks, byte_ways, IsClosureOf, IsMarkRow}
 use Rattle.kex_frontier.proofs.Closures.{past_last}
 
 byte_step : {S : Type 0} (v : Move S) (b : ℕ) (t : S) → IsAmong (byte_ways v b) t → Allows v (took b t)
@@ -61,7 +61,7 @@ module _ (nodes : List MNode) where
       above : (n q : ℕ) → n ≤ q → (q ≡ n → ⊥) → n < q
       above n q le ne = grind arith
 
-pub row_more : (g : Graph) (b : ℕ) (w : List ℕ) (now first next new : List ℕ) (left : ℕ) → IsRow g w now → Entering g.nodes b now first next left → ((n : ℕ) → n < left → has_mark now n ≡ false) → IsClosureOf g.nodes next new → IsRow g (w ++ b ∷ []) new
+pub row_more : (g : Graph) (b : ℕ) (w : List ℕ) (now first next new : List ℕ) (left : ℕ) → IsMarkRow g w now → Entering g.nodes b now first next left → ((n : ℕ) → n < left → has_mark now n ≡ false) → IsClosureOf g.nodes next new → IsMarkRow g (w ++ b ∷ []) new
 row_more g b w now first next new left r h none s = record {
   real = λ q e.
       let x = s.real q e in

@@ -29,7 +29,7 @@ is_there None = false
 is_there (Some g) = true
 
 -- trees side by side: all their edges, and which of the trees are there, the last first
-pub record Trees : Type 0 where
+pub record CodeTrees : Type 0 where
   pub edges : List Edge
   pub there : List Bool
 
@@ -43,19 +43,19 @@ there_flags [] = []
 there_flags (r ∷ rs) = is_there r ∷ there_flags rs
 
 -- the forest has these trees, the last first, with each label turned by h
-abbrev pub HasTrees : (List Symbol → List Symbol) → Trees → List (Option (Grown Symbol ℕ)) → Type 0
-HasTrees h f rs = (f.edges ≡ edges_in h rs) × (f.there ≡ there_flags rs)
+abbrev pub HasCodeTrees : (List Symbol → List Symbol) → CodeTrees → List (Option (Grown Symbol ℕ)) → Type 0
+HasCodeTrees h f rs = (f.edges ≡ edges_in h rs) × (f.there ≡ there_flags rs)
 
-abbrev pub no_trees : Trees
-no_trees = record { edges = []; there = [] }
+abbrev pub no_code_trees : CodeTrees
+no_code_trees = record { edges = []; there = [] }
 
-abbrev pub last_tree : List (Option (Grown Symbol ℕ)) → Option (Grown Symbol ℕ)
-last_tree [] = None
-last_tree (r ∷ rs) = r
+abbrev pub last_code_tree : List (Option (Grown Symbol ℕ)) → Option (Grown Symbol ℕ)
+last_code_tree [] = None
+last_code_tree (r ∷ rs) = r
 
-abbrev pub trees_before : List (Option (Grown Symbol ℕ)) → List (Option (Grown Symbol ℕ))
-trees_before [] = []
-trees_before (r ∷ rs) = rs
+abbrev pub code_trees_before : List (Option (Grown Symbol ℕ)) → List (Option (Grown Symbol ℕ))
+code_trees_before [] = []
+code_trees_before (r ∷ rs) = rs
 
 -- the last tree with more in front
 abbrev pub with_front : List Symbol → List (Option (Grown Symbol ℕ)) → List (Option (Grown Symbol ℕ))
@@ -64,7 +64,7 @@ with_front x (r ∷ rs) = with_prefix x r ∷ rs
 
 -- the last two trees as sides of a fork
 abbrev pub with_fork : List (Option (Grown Symbol ℕ)) → List (Option (Grown Symbol ℕ))
-with_fork rs = fork_of (last_tree (trees_before rs)) (last_tree rs) ∷ trees_before (trees_before rs)
+with_fork rs = fork_of (last_code_tree (code_trees_before rs)) (last_code_tree rs) ∷ code_trees_before (code_trees_before rs)
 
 -- a fork's edge, if both of its sides are there
 abbrev pub fork_if : Bool → List Edge
@@ -72,8 +72,8 @@ fork_if true = record { label = []; at = None } ∷ []
 fork_if false = []
 
 -- of the last two trees the first that is there
-abbrev pub with_first : List (Option (Grown Symbol ℕ)) → List (Option (Grown Symbol ℕ))
-with_first rs = left_or_right (last_tree (trees_before rs)) (last_tree rs) ∷ trees_before (trees_before rs)
+abbrev pub with_first_tree : List (Option (Grown Symbol ℕ)) → List (Option (Grown Symbol ℕ))
+with_first_tree rs = left_or_right (last_code_tree (code_trees_before rs)) (last_code_tree rs) ∷ code_trees_before (code_trees_before rs)
 
 -- the tree is a tip, if it is there
 abbrev pub IsTipIf : Option (Grown Symbol ℕ) → Type 0
@@ -102,6 +102,6 @@ abbrev pub IsTreeBelow : ℕ → List Edge → Type 0
 IsTreeBelow m ks = (t : Labelled Symbol ℕ) × (ks ≡ edges_of t []) × TipsBelow m t
 
 -- marks for as many places, and no edges or those of a tree of such places
-pub record IsKept (m : ℕ) (ks : List Edge) (marks : List Bool) : Type 0 where
+pub record IsKeptTree (m : ℕ) (ks : List Edge) (marks : List Bool) : Type 0 where
   pub long : length marks ≡ m
   pub tree : (ks ≡ []) ⊎ IsTreeBelow m ks

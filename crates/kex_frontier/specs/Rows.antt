@@ -64,6 +64,6 @@ pub record IsClosureOf (nodes : List MNode) (old new : List ℕ) : Type 0 where
   pub all : (m n : ℕ) → has_mark old m ≡ true → IsReachedQuietly nodes m n → has_mark new n ≡ true
 
 -- the marks are those of the places that are reached on w
-pub record IsRow (g : Graph) (w : List ℕ) (row : List ℕ) : Type 0 where
+pub record IsMarkRow (g : Graph) (w : List ℕ) (row : List ℕ) : Type 0 where
   pub real : (n : ℕ) → has_mark row n ≡ true → (ks : List (Step ℕ)) × Walk (node_moves g.nodes) g.start ks n × (bytes_of (code_of ks) ≡ w)
   pub all : (n : ℕ) (ks : List (Step ℕ)) → Walk (node_moves g.nodes) g.start ks n → bytes_of (code_of ks) ≡ w → has_mark row n ≡ true

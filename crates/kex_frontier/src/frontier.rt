@@ -6,13 +6,13 @@ ghost use Rattle.kex_model.specs.Labelled.{Labelled};
 ghost use Rattle.kex_machine.specs.Nodes.{node_moves, StaysWithin};
 ghost use Rattle.kex_frontier.specs.Edges.{edges_of, IsTreeBelow};
 ghost use Rattle.kex_frontier.specs.Views.{edges_at};
-ghost use Rattle.kex_frontier.specs.Going.{WentOn};
+ghost use Rattle.kex_frontier.specs.Going.{TreeWentOn};
 ghost use Rattle.kex_machine.specs.Answers.{IsSaid};
-ghost use Rattle.kex_frontier.specs.Frontiers.{IsFed, IsFedBy, IsOver, answer_of, end_of};
+ghost use Rattle.kex_frontier.specs.Frontiers.{IsFed, IsFedBy, IsOver, answer_of, end_answer};
 
-use crate::forest::{Forest, TreeEdge};
+use crate::forest::{CodeForest, TreeEdge};
 use crate::grow::{accept, advance};
-use crate::visit::{Tools, walk};
+use crate::visit::{VisitTools, walk};
 use kex_code::code::Code;
 use kex_code::memory::Memory;
 use kex_machine::{MNode, Trimmed};
@@ -40,8 +40,8 @@ pub struct Frontier<'m> {
     alloc: Global,
     machine: &'m Trimmed,
     tree: Vec<TreeEdge>,
-    grown: Forest,
-    tools: Tools,
+    grown: CodeForest,
+    tools: VisitTools,
     untaken: Code,
     ended: bool,
     usable: bool,
@@ -49,13 +49,13 @@ pub struct Frontier<'m> {
 
 impl<'m> Model for Frontier<'m> {
     ghost use Rattle.kex_frontier.specs.Views.{edges_at};
-    ghost use Rattle.kex_frontier.specs.Frontiers.{Front, IsSound};
+    ghost use Rattle.kex_frontier.specs.Frontiers.{Front, IsFrontierSound};
 
     ghost Value = { Front };
 
     ghost view = { λ f. record { machine = f.machine.now; untaken = f.untaken; edges = edges_at f.tree.items; ended = f.ended; usable = f.usable } };
 
-    ghost invariant = { λ f. IsSound f.machine.now (edges_at f.tree.items) f.tools.marks f.usable };
+    ghost invariant = { λ f. IsFrontierSound f.machine.now (edges_at f.tree.items) f.tools.marks f.usable };
 }
 
 fn answer_of(on: bool) -> Fed
@@ -65,7 +65,7 @@ fn answer_of(on: bool) -> Fed
 }
 
 fn end_of(parsed: bool) -> Ended
-    ensures { result ≡ end_of parsed }
+    ensures { result ≡ end_answer parsed }
 {
     if parsed { Ended::Parsed } else { Ended::Cut }
 }
@@ -75,14 +75,14 @@ fn go_on(
     nodes: &[MNode],
     tree: &mut Vec<TreeEdge>,
     byte: u8,
-    grown: &mut Forest,
-    tools: &mut Tools,
+    grown: &mut CodeForest,
+    tools: &mut VisitTools,
     code: &mut Code,
 ) -> Result<bool, Memory>
     requires range { StaysWithin nodes.now }
     requires tree { IsTreeBelow (length nodes.now) (edges_at tree.old.items) }
     requires long { length tools.old.marks ≡ length nodes.now }
-    ensures went { IfOk result (λ there. (t : Labelled Symbol ℕ) → edges_at tree.old.items ≡ edges_of t [] → WentOn (node_moves nodes.now) byte (length nodes.now) t there code.old code.new (edges_at tree.new.items)) }
+    ensures went { IfOk result (λ there. (t : Labelled Symbol ℕ) → edges_at tree.old.items ≡ edges_of t [] → TreeWentOn (node_moves nodes.now) byte (length nodes.now) t there code.old code.new (edges_at tree.new.items)) }
     ensures long { OnOk result (length tools.new.marks ≡ length nodes.now) }
 {
     tools.marks.clear();
@@ -99,8 +99,8 @@ impl<'m> Frontier<'m> {
     {
         let nodes = machine.machine().nodes();
         let start = machine.machine().start();
-        let mut tools = Tools::new(alloc, nodes.len())?;
-        let mut grown = Forest::new(alloc);
+        let mut tools = VisitTools::new(alloc, nodes.len())?;
+        let mut grown = CodeForest::new(alloc);
         let mut tree = Vec::new(alloc);
         let mut untaken = Code::new(alloc);
         walk(nodes, start, &mut tools)?;

@@ -5,14 +5,14 @@ ghost use Rattle.kex_code.specs.declared.symbol.Symbol.{Symbol};
 ghost use Rattle.kex_model.specs.Labelled.{Labelled, Grown, tip, with_prefix};
 ghost use Rattle.kex_model.specs.Moves.{Allows, took};
 ghost use Rattle.kex_machine.specs.Nodes.{node_moves};
-ghost use Rattle.kex_frontier.specs.Edges.{HasTrees, as_is, edges_of, last_tree, IsTipIf, IsTreeBelow, is_there, root_label, bare_edges};
+ghost use Rattle.kex_frontier.specs.Edges.{HasCodeTrees, as_is, edges_of, last_code_tree, IsTipIf, IsTreeBelow, is_there, root_label, bare_edges};
 ghost use Rattle.kex_frontier.specs.Views.{edges_at};
 ghost use Rattle.kex_machine.specs.Advancing.{first_accepting};
-ghost use Rattle.kex_frontier.specs.Going.{Advances, trees_at_end};
+ghost use Rattle.kex_frontier.specs.Going.{AdvancesCodes, trees_at_end};
 ghost use Rattle.kex_machine.specs.Nodes.{StaysWithin};
 
-use crate::forest::{Forest, Spare, TreeEdge};
-use crate::visit::{Tools, walk};
+use crate::forest::{CodeForest, Spare, TreeEdge};
+use crate::visit::{VisitTools, walk};
 use kex_code::memory::Memory;
 use kex_code::symbol::Symbol;
 use kex_machine::{MNode, node_at};
@@ -34,13 +34,13 @@ fn advance_tip(
     place: u32,
     label: Vec<Symbol>,
     byte: u8,
-    grown: &mut Forest,
-    tools: &mut Tools,
+    grown: &mut CodeForest,
+    tools: &mut VisitTools,
 ) -> Result<(), Memory>
     requires range { StaysWithin nodes.now }
     requires below { place < length nodes.now }
     requires long { length tools.old.marks ≡ length nodes.now }
-    ensures tree { OnOk result ((a : Option (Grown Symbol ℕ)) × Advances (node_moves nodes.now) byte tools.old.marks (tip place) a tools.new.marks × ((rs : List (Option (Grown Symbol ℕ))) → HasTrees as_is grown.old rs → HasTrees as_is grown.new (with_prefix label.items a ∷ rs))) }
+    ensures tree { OnOk result ((a : Option (Grown Symbol ℕ)) × AdvancesCodes (node_moves nodes.now) byte tools.old.marks (tip place) a tools.new.marks × ((rs : List (Option (Grown Symbol ℕ))) → HasCodeTrees as_is grown.old rs → HasCodeTrees as_is grown.new (with_prefix label.items a ∷ rs))) }
     ensures long { OnOk result (length tools.new.marks ≡ length nodes.now) }
 {
     if let Some(next) = next_by(nodes, place, byte) {
@@ -60,13 +60,13 @@ pub fn advance(
     nodes: &[MNode],
     tree: &mut Vec<TreeEdge>,
     byte: u8,
-    grown: &mut Forest,
-    tools: &mut Tools,
+    grown: &mut CodeForest,
+    tools: &mut VisitTools,
 ) -> Result<(), Memory>
     requires range { StaysWithin nodes.now }
     requires tree { IsTreeBelow (length nodes.now) (edges_at tree.old.items) }
     requires long { length tools.old.marks ≡ length nodes.now }
-    ensures tree { OnOk result ((t : Labelled Symbol ℕ) → edges_at tree.old.items ≡ edges_of t [] → (a : Option (Grown Symbol ℕ)) × Advances (node_moves nodes.now) byte tools.old.marks t a tools.new.marks × HasTrees as_is grown.new (a ∷ [])) }
+    ensures tree { OnOk result ((t : Labelled Symbol ℕ) → edges_at tree.old.items ≡ edges_of t [] → (a : Option (Grown Symbol ℕ)) × AdvancesCodes (node_moves nodes.now) byte tools.old.marks t a tools.new.marks × HasCodeTrees as_is grown.new (a ∷ [])) }
     ensures long { OnOk result (length tools.new.marks ≡ length nodes.now) }
 {
     grown.clear();
@@ -87,11 +87,11 @@ pub fn advance(
 fn end_edge(
     nodes: &[MNode],
     at: Option<u32>,
-    found: &mut Forest,
+    found: &mut CodeForest,
     spare: &mut Spare,
 ) -> Result<(), Memory>
     requires { IfSome at (λ place. place < length nodes.now) }
-    ensures { OnOk result ((rs : List (Option (Grown Symbol ℕ))) → IsTipIf (last_tree rs) → HasTrees as_is found.old rs → HasTrees as_is found.new (trees_at_end (node_moves nodes.now) at rs)) }
+    ensures { OnOk result ((rs : List (Option (Grown Symbol ℕ))) → IsTipIf (last_code_tree rs) → HasCodeTrees as_is found.old rs → HasCodeTrees as_is found.new (trees_at_end (node_moves nodes.now) at rs)) }
 {
     match at {
         None => found.choose(),
@@ -106,11 +106,11 @@ fn end_edge(
 pub fn accept(
     nodes: &[MNode],
     tree: &mut Vec<TreeEdge>,
-    found: &mut Forest,
+    found: &mut CodeForest,
     spare: &mut Spare,
 ) -> Result<(), Memory>
     requires { IsTreeBelow (length nodes.now) (edges_at tree.old.items) }
-    ensures { OnOk result ((t : Labelled Symbol ℕ) → edges_at tree.old.items ≡ edges_of t [] → HasTrees as_is found.new (first_accepting (node_moves nodes.now) t ∷ [])) }
+    ensures { OnOk result ((t : Labelled Symbol ℕ) → edges_at tree.old.items ≡ edges_of t [] → HasCodeTrees as_is found.new (first_accepting (node_moves nodes.now) t ∷ [])) }
 {
     found.clear();
     tree.reverse();

@@ -4,8 +4,8 @@ ghost use Rattle.std.specs.Prelude.{◌≡◌, ℕ, ◌<◌, ◌≤◌, ◌+◌,
 ghost use Rattle.kex_code.specs.Codes.{IsAmong};
 ghost use Rattle.kex_model.specs.Moves.{accept, quiet};
 ghost use Rattle.kex_machine.specs.Nodes.{Graph, StaysWithin, MoveBelow, move_of, node_moves};
-ghost use Rattle.kex_machine.specs.Answers.{HasParse};
-ghost use Rattle.kex_frontier.specs.Rows.{AlsoMarks, Opens, byte_ways, has_mark, IsClosureOf, IsRow};
+ghost use Rattle.kex_machine.specs.Answers.{HasRun};
+ghost use Rattle.kex_frontier.specs.Rows.{AlsoMarks, Opens, byte_ways, has_mark, IsClosureOf, IsMarkRow};
 ghost use Rattle.kex_frontier.specs.Matchers.{IsAnswer, WasFed};
 
 use crate::row::Row;
@@ -102,7 +102,7 @@ fn step(nodes: &[MNode], byte: u8, now: &mut Row, next: &mut Row)
     requires within { StaysWithin nodes.now }
     ensures now { length now.new ≡ length now.old }
     ensures next { length next.new ≡ length next.old }
-    ensures row { (g : Graph) (w : List ℕ) → g.nodes ≡ nodes.now → g.start < length nodes.now → IsRow g w now.old → IsRow g (w ++ byte ∷ []) next.new }
+    ensures row { (g : Graph) (w : List ℕ) → g.nodes ≡ nodes.now → g.start < length nodes.now → IsMarkRow g w now.old → IsMarkRow g (w ++ byte ∷ []) next.new }
 {
     next.clear();
     let mut left = nodes.len();
@@ -215,7 +215,7 @@ impl<'m> Matcher<'m> {
 
     /// Whether the bytes have a parse.
     pub fn end(&self) -> bool
-        ensures { (w : List ℕ) → WasFed self.now w → (IsTrue result ↔ HasParse self.now.machine w) }
+        ensures { (w : List ℕ) → WasFed self.now w → (IsTrue result ↔ HasRun self.now.machine w) }
     {
         accepts(self.machine.nodes(), &self.row)
     }

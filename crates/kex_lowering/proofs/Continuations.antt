@@ -4,7 +4,7 @@ use Rattle.std.proofs.lemmas.List.{take_all}
 use Rattle.kex_model.specs.Moves.{Move, took, Allows, reads, IsWaiting}
 use Rattle.kex_model.specs.Answers.{Answer, bad_byte, too_long, still_open}
 use Rattle.kex_machine.specs.Nodes.{Graph, node_moves}
-use Rattle.kex_machine.specs.Answers.{Viable, HasParse}
+use Rattle.kex_machine.specs.Answers.{IsViableFor, HasRun}
 use Rattle.kex_machine.proofs.CutWalks.{cut}
 use Rattle.kex_machine.proofs.Nexts.{IsTrim, reached_by}
 use Rattle.kex_machine.proofs.Ranges.{is_trim}
@@ -23,12 +23,12 @@ module _ (g : Graph) (trim : IsTrim (node_moves g.nodes) g.start) where
   byte_waits : {n : Move ℕ} {b u : ℕ} → Allows n (took b u) → IsWaiting n
   byte_waits (reads h) = tt
 
-  parse_viable : (w : List ℕ) → HasParse g w → Viable g w
+  parse_viable : (w : List ℕ) → HasRun g w → IsViableFor g w
   parse_viable w (ks, (e, walk, acc), q) = let r = reached_by ms g.start trim w e ks walk (subst (λ z. IsWaiting z) (sym acc) tt) q in (e, (r.0, r.1, trim.ends e))
 
   -- a text is viable that begins one with a parse
-  pub front_viable : (w v : List ℕ) → HasParse g (w ++ v) → Viable g w
-  front_viable w [] h = subst (λ z. Viable g z) (append-nil w) (parse_viable (w ++ []) h)
+  pub front_viable : (w v : List ℕ) → HasRun g (w ++ v) → IsViableFor g w
+  front_viable w [] h = subst (λ z. IsViableFor g z) (append-nil w) (parse_viable (w ++ []) h)
   front_viable w (b ∷ v) (ks, (e, walk, acc), q) =
       let r = cut ms ks g.start e w b v walk q in
       let q = reached_by ms g.start trim w r.at r.front r.first (byte_waits r.byte) r.front_bytes in

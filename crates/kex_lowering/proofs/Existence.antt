@@ -19,15 +19,15 @@ use Rattle.kex_model.proofs.Shapes.{tree_agrees}
 use Rattle.kex_machine.specs.declared.MNode.{MNode}
 use Rattle.kex_machine.specs.Nodes.{Graph, move_of, node_moves, IsTrimmed, MoveBelow, StaysWithin}
 use Rattle.kex_machine.specs.Advancing.{itself, Visits, known, stops, parts_off, is_forced, passes_on, Advances, dies, reads_on, both, first_accepting}
-use Rattle.kex_machine.specs.Answers.{Viable, HasParse, IsGreedy, Says, Means, StageAnswers}
+use Rattle.kex_machine.specs.Answers.{IsViableFor, HasRun, IsGreedy, SaysByRun, MeansByRun, MachineAnswers}
 use Rattle.kex_machine.proofs.Nexts.{IsTrim, ShowsFirst, ShowsTree, first_shows, next_shows}
 use Rattle.kex_machine.proofs.Ranges.{is_trim, trimmed_by_ends}
 use Rattle.kex_machine.proofs.LongestFronts.{longest_self, longest_later, viable_before}
 use Rattle.kex_machine.proofs.AcceptingTips.{none_parses, greedy_found}
 use Rattle.kex_machine.proofs.Sizes.{unseen, unseen-set, visit_fits, advance_fits}
-use Rattle.kex_trim.specs.Trim.{IsTrimOf, Keeps, still_accepts, still_reads, still_chooses, only_left, only_right, still_forced, still_goes}
+use Rattle.kex_trim.specs.Trim.{IsTrimOf, KeepsMove, still_accepts, still_reads, still_chooses, only_left, only_right, still_forced, still_goes}
 use Rattle.kex_trim.proofs.KeptNodes.{alike_kept}
-use Rattle.kex_lowering.specs.Existence.{HasAnswers}
+use Rattle.kex_lowering.specs.Existence.{MachineHasAnswers}
 use Rattle.kex_lowering.specs.Stages.{IsKeptOf}
 use Rattle.kex_lowering.proofs.Pairs.{end_ahead}
 use Rattle.kex_lowering.proofs.PairedNodes.{carries}
@@ -133,7 +133,7 @@ module _ (g : Graph) (within : StaysWithin g.nodes) (start_in : g.start < length
   -- a text has a tree, or it isn't viable and its longest viable front has one
   data Treed (w : List ℕ) : Type 0 where
     viable : (c : List Symbol) (t : Labelled Symbol ℕ) → HasTree ms g.start w c t → Treed w
-    dead : (v : List ℕ) (c : List Symbol) (t : Labelled Symbol ℕ) → ¬ Viable g w → LongestViable ms g.start w v → HasTree ms g.start v c t → Treed w
+    dead : (v : List ℕ) (c : List Symbol) (t : Labelled Symbol ℕ) → ¬ IsViableFor g w → LongestViable ms g.start w v → HasTree ms g.start v c t → Treed w
 
   first : Treed []
   first = by on.0 (first_shows ms g.start trim (length g.nodes) on.0 on.1 on.2)
@@ -148,7 +148,7 @@ module _ (g : Graph) (within : StaysWithin g.nodes) (start_in : g.start < length
   -- with a byte more
   next : (w : List ℕ) (b : ℕ) → Treed w → Treed (w ++ b ∷ [])
   next w b (dead v c t none longest has) =
-      let gone : ¬ Viable g (w ++ b ∷ []) = λ h. none (viable_before g trim w b h) in
+      let gone : ¬ IsViableFor g (w ++ b ∷ []) = λ h. none (viable_before g trim w b h) in
       dead v c t gone (longest_later ms g.start w v b longest gone) has
   next w b (viable c t has) = by on.0 (next_shows ms g.start trim w c t has b (length g.nodes) on.0 on.1 on.2)
     where
@@ -175,7 +175,7 @@ module _ (g : Graph) (within : StaysWithin g.nodes) (start_in : g.start < length
   treed w = more [] w first
 
   -- a text that has a tree says something: some run goes on from its first survivor
-  says : (w : List ℕ) (c : List Symbol) (t : Labelled Symbol ℕ) → HasTree ms g.start w c t → (text : List ℕ) × Says g w text
+  says : (w : List ℕ) (c : List Symbol) (t : Labelled Symbol ℕ) → HasTree ms g.start w c t → (text : List ℕ) × SaysByRun g w text
   says w c t has = (
     _,
     record {
@@ -217,34 +217,34 @@ module _ (g : Graph) (within : StaysWithin g.nodes) (start_in : g.start < length
       code = code_of-append front last.0
 
   -- a text that has a greedy code means something: what its path does
-  means : (w : List ℕ) (c : List Symbol) → IsGreedy g w c → (text : List ℕ) × Means g w text
+  means : (w : List ℕ) (c : List Symbol) → IsGreedy g w c → (text : List ℕ) × MeansByRun g w text
   means w c h =
       let s = h.greedy.2 in
       let r = s.reached in
       (_, record { greedy = c; is_greedy = h.greedy; least = h.least; run = r.0; runs = (h.greedy.0, r.1.walk, h.greedy.1); codes = r.2; meant = refl })
 
-  good : (w v : List ℕ) → LongestViable ms g.start w v → LongestGood (Viable g) (Says g) (HasParse g) (Means g) w v
+  good : (w v : List ℕ) → LongestViable ms g.start w v → LongestGood (IsViableFor g) (SaysByRun g) (HasRun g) (MeansByRun g) w v
   good w v h = record { front = h.front; good = h.viable; longest = h.longest }
 
-  can_go_on : (w : List ℕ) (c : List Symbol) (t : Labelled Symbol ℕ) → HasTree ms g.start w c t → Viable g w
+  can_go_on : (w : List ℕ) (c : List Symbol) (t : Labelled Symbol ℕ) → HasTree ms g.start w c t → IsViableFor g w
   can_go_on w c t h = (tree_agrees ms g.start w c t h).viable
 
   -- the end of a text within the limit
-  at_the_end : (limit : ℕ) (w : List ℕ) (c : List Symbol) (t : Labelled Symbol ℕ) → length w ≤ limit → HasTree ms g.start w c t → (a : Answer) × StageAnswers g limit w true a
+  at_the_end : (limit : ℕ) (w : List ℕ) (c : List Symbol) (t : Labelled Symbol ℕ) → length w ≤ limit → HasTree ms g.start w c t → (a : Answer) × MachineAnswers g limit w true a
   at_the_end limit w c t short has = by (first_accepting ms t) refl
     where
-      by : (o : Option (Grown Symbol ℕ)) → first_accepting ms t ≡ o → (a : Answer) × StageAnswers g limit w true a
+      by : (o : Option (Grown Symbol ℕ)) → first_accepting ms t ≡ o → (a : Answer) × MachineAnswers g limit w true a
       by None e = let s = says w c t has in (_, cut_off short (can_go_on w c t has) (none_parses g trim w c t has e) s.1)
       by (Some x) e = let s = means w (c ++ x.label) (greedy_found g trim w c t has x e) in (_, whole short s.1)
 
-  within_limit : (limit : ℕ) (w : List ℕ) (e : Bool) → length w ≤ limit → (c : List Symbol) (t : Labelled Symbol ℕ) → HasTree ms g.start w c t → (a : Answer) × StageAnswers g limit w e a
+  within_limit : (limit : ℕ) (w : List ℕ) (e : Bool) → length w ≤ limit → (c : List Symbol) (t : Labelled Symbol ℕ) → HasTree ms g.start w c t → (a : Answer) × MachineAnswers g limit w e a
   within_limit limit w true short c t has = at_the_end limit w c t short has
   within_limit limit w false short c t has = let s = says w c t has in (_, still_open short (can_go_on w c t has) s.1)
 
-  pub has_answers : HasAnswers g
+  pub has_answers : MachineHasAnswers g
   has_answers limit w e = by (treed (take limit w))
     where
-      by : Treed (take limit w) → (a : Answer) × StageAnswers g limit w e a
+      by : Treed (take limit w) → (a : Answer) × MachineAnswers g limit w e a
       by (dead v c t gone longest has) = let s = says v c t has in (_, bad_byte v gone (good (take limit w) v longest) s.1)
       by (viable c t has) =
           ⊎_elim
@@ -266,7 +266,7 @@ module _ (g h : Graph) (trim : IsTrimOf g h) where
   at_node : (t : ℕ) → t < length h.nodes → Kept (get_or trim.kept t 0) t
   at_node t lt = slice_get-get_or trim.kept t 0 (omega (arith, lt, trim.count))
 
-  move_in : {v w : Move ℕ} → Keeps Kept (λ q. LeadsToEnd (node_moves g.nodes) q → ⊥) v w → MoveBelow (length h.nodes) w
+  move_in : {v w : Move ℕ} → KeepsMove Kept (λ q. LeadsToEnd (node_moves g.nodes) q → ⊥) v w → MoveBelow (length h.nodes) w
   move_in still_accepts = tt
   move_in (still_reads {s = s} {t = t} r) = kept_in s t r
   move_in (still_chooses {s = s} {s' = s'} {t = t} {t' = t'} r r') = (kept_in s t r, kept_in s' t' r')

@@ -3,9 +3,9 @@ use Rattle.std.proofs.Common.{◌≡◌, ℕ, List, [], ◌∷◌, ◌++◌, len
 use Rattle.kex_code.specs.declared.symbol.Symbol.{Symbol}
 use Rattle.kex_code.specs.Codes.{bytes_of, AtMost, HasNumber}
 use Rattle.kex_model.specs.Programs.{Grammar}
-use Rattle.kex_model.specs.Trees.{Tree, IsTree, kind_at, text_of, meaning, part}
+use Rattle.kex_model.specs.Trees.{Tree, IsTree, kind_at, yield_of, meaning, part_meaning}
 use Rattle.kex_model.specs.Moves.{Move, Step, took, chose, went, code_of, Walk}
-use Rattle.kex_model.specs.Acting.{State, after_append, after_effect, after_steps}
+use Rattle.kex_model.specs.Acting.{ActingState, after_append, after_effect, after_steps}
 use Rattle.kex_model.specs.Places.{Place, moves, start_of, steps_of}
 use Rattle.kex_model.specs.Survivors.{LeadsToEnd, Reaches, Survives, IsViable, Agreed, Greedy}
 use Rattle.kex_model.specs.Alike.{Alike}
@@ -31,7 +31,7 @@ use Rattle.kex_lowering.proofs.SameShapes.{same_shapes, same_paths}
 use Rattle.kex_lowering.proofs.SameAnswers.{Serves, answers_so}
 
 -- paired steps do the same
-same_done : {S T : Type 0} (f : S → Move S) (g : T → Move T) (R : S → T → Type 0) (ks : List (Step S)) (js : List (Step T)) (c : List Symbol) (st : State) → Paired f g R ks js → after_steps ks c st ≡ after_steps js c st
+same_done : {S T : Type 0} (f : S → Move S) (g : T → Move T) (R : S → T → Type 0) (ks : List (Step S)) (js : List (Step T)) (c : List Symbol) (st : ActingState) → Paired f g R ks js → after_steps ks c st ≡ after_steps js c st
 same_done f g R [] [] c st p = refl
 same_done f g R (went d s ∷ ks) (went e t ∷ js) c st p = ap (λ z. after_steps ks c (after_effect z st)) p.0 ∙ same_done f g R ks js c (after_effect e st) p.2
 same_done f g R (chose x s ∷ ks) (chose y t ∷ js) [] st p = refl
@@ -122,17 +122,17 @@ module _ (P : Grammar) (root : ℕ) (m : Graph) (R : Place → ℕ → Type 0) (
   codes_of : (t : Tree) (js : List (Step ℕ)) → Follows t js → code_of js ≡ code_at P root t
   codes_of t js h = sym (paired_code f g R (steps_at t) js h.paired) ∙ steps-code P root [] h.is_tree
 
-  text_read : (t : Tree) (js : List (Step ℕ)) → Follows t js → bytes_of (code_of js) ≡ text_of t
+  text_read : (t : Tree) (js : List (Step ℕ)) → Follows t js → bytes_of (code_of js) ≡ yield_of t
   text_read t js h = ap bytes_of (codes_of t js h) ∙ code-bytes P h.is_tree
 
   -- what the run leaves is the tree's part
-  part_left : (t : Tree) (js : List (Step ℕ)) (c : List Symbol) → Follows t js → (nodes.left_by m js c).out ≡ (part P (kind_at P root) t c (empty P)).bytes
+  part_left : (t : Tree) (js : List (Step ℕ)) (c : List Symbol) → Follows t js → (nodes.left_by m js c).out ≡ (part_meaning P (kind_at P root) t c (empty P)).bytes
   part_left t js c h =
       ap (λ z. (after_steps js c (nodes.start_state z)).out) same
       ∙ ap (λ z. z.out) (sym (same_done f g R (steps_at t) js c (nodes.start_state P.registers) h.paired))
       ∙ (done_all P root t c (empty P) [] h.is_tree).written
 
-  registers_left : (t : Tree) (js : List (Step ℕ)) (c : List Symbol) → Follows t js → (nodes.left_by m js c).registers ≡ (part P (kind_at P root) t c (empty P)).registers
+  registers_left : (t : Tree) (js : List (Step ℕ)) (c : List Symbol) → Follows t js → (nodes.left_by m js c).registers ≡ (part_meaning P (kind_at P root) t c (empty P)).registers
   registers_left t js c h =
       ap (λ z. (after_steps js c (nodes.start_state z)).registers) same
       ∙ ap (λ z. z.registers) (sym (same_done f g R (steps_at t) js c (nodes.start_state P.registers) h.paired))
@@ -141,8 +141,8 @@ module _ (P : Grammar) (root : ℕ) (m : Graph) (R : Place → ℕ → Type 0) (
   same_run : (t : Tree) (js : List (Step ℕ)) → Follows t js → SameRun P root m t js
   same_run t js h = record { codes = codes_of t js h; written = λ c. part_left t js c h; registers = λ c. registers_left t js c h }
 
-  whole_part : (t : Tree) → IsTree P (kind_at P root) t → (part P (kind_at P root) t (code_at P root t) (empty P)).bytes ≡ (meaning P (kind_at P root) t (empty P)).bytes
-  whole_part t it = ap (λ z. (part P (kind_at P root) t z (empty P)).bytes) (sym (append-nil (code_at P root t))) ∙ ap (λ z. z.bytes) (part_whole P [] (empty P) it)
+  whole_part : (t : Tree) → IsTree P (kind_at P root) t → (part_meaning P (kind_at P root) t (code_at P root t) (empty P)).bytes ≡ (meaning P (kind_at P root) t (empty P)).bytes
+  whole_part t it = ap (λ z. (part_meaning P (kind_at P root) t z (empty P)).bytes) (sym (append-nil (code_at P root t))) ∙ ap (λ z. z.bytes) (part_whole P [] (empty P) it)
 
   -- all paths to the end lead to the empty place, so the least of one is the least of all
   least_at_end : (w : List ℕ) (c d : List Symbol) → Greedy f s₀ w c → Greedy f s₀ w d → AtMost c d
@@ -150,7 +150,7 @@ module _ (P : Grammar) (root : ℕ) (m : Graph) (R : Place → ℕ → Type 0) (
 
   -- what is said, parsed and meant
 
-  says_on : (w text : List ℕ) → places.Says P root w text → nodes.Says m w text
+  says_on : (w text : List ℕ) → places.Says P root w text → nodes.SaysByRun m w text
   says_on w text h =
       let x = run_of_tree h.tree h.parses.tree in record {
         agreed = h.agreed;
@@ -162,7 +162,7 @@ module _ (P : Grammar) (root : ℕ) (m : Graph) (R : Place → ℕ → Type 0) (
         said = h.said ∙ sym (part_left h.tree x.0 h.agreed x.1);
       }
 
-  says_back : (w text : List ℕ) → nodes.Says m w text → places.Says P root w text
+  says_back : (w text : List ℕ) → nodes.SaysByRun m w text → places.Says P root w text
   says_back w text h =
       let x = tree_of_run h.run h.runs in record {
         agreed = h.agreed;
@@ -174,13 +174,13 @@ module _ (P : Grammar) (root : ℕ) (m : Graph) (R : Place → ℕ → Type 0) (
         said = h.said ∙ part_left x.0 h.run h.agreed x.1;
       }
 
-  parsed_on : (w : List ℕ) → places.HasParse P root w → nodes.HasParse m w
+  parsed_on : (w : List ℕ) → places.HasParse P root w → nodes.HasRun m w
   parsed_on w (t, h) = let x = run_of_tree t h.derives.tree in (x.0, x.1.runs, text_read t x.0 x.1 ∙ h.derives.text)
 
-  parsed_back : (w : List ℕ) → nodes.HasParse m w → places.HasParse P root w
+  parsed_back : (w : List ℕ) → nodes.HasRun m w → places.HasParse P root w
   parsed_back w (js, runs, e) = let x = tree_of_run js runs in from_tree P root w x.0 (record { tree = x.1.is_tree; text = sym (text_read x.0 js x.1) ∙ e })
 
-  means_on : (w text : List ℕ) → places.Means P root w text → nodes.Means m w text
+  means_on : (w text : List ℕ) → places.Means P root w text → nodes.MeansByRun m w text
   means_on w text (t, parse, e) =
       let x = run_of_tree t parse.parses.derives.tree in record {
         greedy = code_at P root t;
@@ -192,20 +192,20 @@ module _ (P : Grammar) (root : ℕ) (m : Graph) (R : Place → ℕ → Type 0) (
         meant = e ∙ sym (whole_part t parse.parses.derives.tree) ∙ sym (part_left t x.0 (code_at P root t) x.1);
       }
 
-  means_back : (w text : List ℕ) → nodes.Means m w text → places.Means P root w text
+  means_back : (w text : List ℕ) → nodes.MeansByRun m w text → places.Means P root w text
   means_back w text h =
       let parse = parse_of_survivor P root w h.greedy (greedy_back w h.greedy h.is_greedy) in
       let x = tree_of_run h.run h.runs in
       let code_is : code_at P root x.0 ≡ code_at P root parse.0 = sym (codes_of x.0 h.run x.1) ∙ h.codes ∙ sym parse.2 in
       let tree_is : x.0 ≡ parse.0 = (same_tree P [] [] x.1.is_tree parse.1.parses.derives.tree (append-nil (code_at P root x.0) ∙ code_is ∙ sym (append-nil (code_at P root parse.0)))).0 in
-      (parse.0, parse.1, h.meant ∙ part_left x.0 h.run h.greedy x.1 ∙ ap₂ (λ t c. (part P (kind_at P root) t c (empty P)).bytes) tree_is (sym parse.2) ∙ whole_part parse.0 parse.1.parses.derives.tree)
+      (parse.0, parse.1, h.meant ∙ part_left x.0 h.run h.greedy x.1 ∙ ap₂ (λ t c. (part_meaning P (kind_at P root) t c (empty P)).bytes) tree_is (sym parse.2) ∙ whole_part parse.0 parse.1.parses.derives.tree)
 
   -- the answers
 
-  on_nodes : Serves (places.Viable P root) (nodes.Viable m) (places.Says P root) (nodes.Says m) (places.HasParse P root) (nodes.HasParse m) (places.Means P root) (nodes.Means m)
+  on_nodes : Serves (places.Viable P root) (nodes.IsViableFor m) (places.Says P root) (nodes.SaysByRun m) (places.HasParse P root) (nodes.HasRun m) (places.Means P root) (nodes.MeansByRun m)
   on_nodes = record { good = viable_on; good_back = viable_back; says = says_on; parsed_back = parsed_back; means = means_on }
 
-  on_places : Serves (nodes.Viable m) (places.Viable P root) (nodes.Says m) (places.Says P root) (nodes.HasParse m) (places.HasParse P root) (nodes.Means m) (places.Means P root)
+  on_places : Serves (nodes.IsViableFor m) (places.Viable P root) (nodes.SaysByRun m) (places.Says P root) (nodes.HasRun m) (places.HasParse P root) (nodes.MeansByRun m) (places.Means P root)
   on_places = record { good = viable_back; good_back = viable_on; says = says_back; parsed_back = parsed_on; means = means_back }
 
   pub carried : LeadsToEnd f s₀ → Carries P root m
@@ -219,8 +219,8 @@ module _ (P : Grammar) (root : ℕ) (m : Graph) (R : Place → ℕ → Type 0) (
     says = λ w text. (says_on w text, says_back w text);
     means = λ w text. (means_on w text, means_back w text);
     answers = λ limit w e a. (
-      (λ h. answers_so (places.Viable P root) (nodes.Viable m) (places.Says P root) (nodes.Says m) (places.HasParse P root) (nodes.HasParse m) (places.Means P root) (nodes.Means m) on_nodes limit h),
-      (λ h. answers_so (nodes.Viable m) (places.Viable P root) (nodes.Says m) (places.Says P root) (nodes.HasParse m) (places.HasParse P root) (nodes.Means m) (places.Means P root) on_places limit h),
+      (λ h. answers_so (places.Viable P root) (nodes.IsViableFor m) (places.Says P root) (nodes.SaysByRun m) (places.HasParse P root) (nodes.HasRun m) (places.Means P root) (nodes.MeansByRun m) on_nodes limit h),
+      (λ h. answers_so (nodes.IsViableFor m) (places.Viable P root) (nodes.SaysByRun m) (places.Says P root) (nodes.HasRun m) (places.HasParse P root) (nodes.MeansByRun m) (places.Means P root) on_places limit h),
     );
     registers = same;
     runs = λ t it. let x = run_of_tree t it in (x.0, x.1.runs, same_run t x.0 x.1);

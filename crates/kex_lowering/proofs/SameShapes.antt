@@ -7,7 +7,7 @@ use Rattle.kex_model.specs.Programs.{Grammar}
 use Rattle.kex_model.specs.Labelled.{Labelled, tip, fork, leaves_of, Shape, place, parts, shape_of}
 use Rattle.kex_model.specs.Moves.{Move}
 use Rattle.kex_model.specs.Places.{Place, moves, start_of}
-use Rattle.kex_model.specs.Survivors.{Item, Rising, IsParted, StartsWith, IsAlive, Survives, HasShape}
+use Rattle.kex_model.specs.Survivors.{CodedPlace, Rising, IsParted, StartsWith, IsAlive, Survives, HasShape}
 use Rattle.kex_model.specs.Alike.{Alike}
 use Rattle.kex_model.proofs.Shapes.{among_left, among_right}
 use Rattle.kex_model.proofs.Transfer.{reach_ahead, reach_back, end_ahead, end_back, survives_ahead, survives_back}
@@ -22,20 +22,20 @@ module _ {S T : Type 0} (R : S → T → Type 0) where
   SameTree (tip p) (fork x l y r) = ⊥
   SameTree (fork x l y r) (tip q) = ⊥
 
-  abbrev SameItems : List (Item S) → List (Item T) → Type 0
+  abbrev SameItems : List (CodedPlace S) → List (CodedPlace T) → Type 0
   SameItems [] [] = Unit {0}
   SameItems (x ∷ xs) (y ∷ ys) = R x.at y.at × (x.code ≡ y.code) × SameItems xs ys
   SameItems [] (y ∷ ys) = ⊥
   SameItems (x ∷ xs) [] = ⊥
 
-  paired_tree : (t : Labelled Symbol S) (c : List Symbol) → ((x : Item S) → IsAmong (leaves_of t c) x → (q : T) × R x.at q) → (u : Labelled Symbol T) × SameTree t u
+  paired_tree : (t : Labelled Symbol S) (c : List Symbol) → ((x : CodedPlace S) → IsAmong (leaves_of t c) x → (q : T) × R x.at q) → (u : Labelled Symbol T) × SameTree t u
   paired_tree (tip p) c h = let x = h (record { at = p; code = c }) (inl refl) in (tip x.0, x.1)
   paired_tree (fork x l y r) c h =
       let a = paired_tree l (c ++ x) (λ z i. h z (among_left (leaves_of l (c ++ x)) (leaves_of r (c ++ y)) z i)) in
       let b = paired_tree r (c ++ y) (λ z i. h z (among_right (leaves_of l (c ++ x)) (leaves_of r (c ++ y)) z i)) in
       (fork x a.0 y b.0, (refl, a.1, refl, b.1))
 
-  items-append : (xs : List (Item S)) (ys : List (Item T)) (xs' : List (Item S)) (ys' : List (Item T)) → SameItems xs ys → SameItems xs' ys' → SameItems (xs ++ xs') (ys ++ ys')
+  items-append : (xs : List (CodedPlace S)) (ys : List (CodedPlace T)) (xs' : List (CodedPlace S)) (ys' : List (CodedPlace T)) → SameItems xs ys → SameItems xs' ys' → SameItems (xs ++ xs') (ys ++ ys')
   items-append [] [] xs' ys' h k = k
   items-append (x ∷ xs) (y ∷ ys) xs' ys' h k = (h.0, h.1, items-append xs ys xs' ys' h.2 k)
   items-append [] (y ∷ ys) xs' ys' h k = absurd h
@@ -50,7 +50,7 @@ module _ {S T : Type 0} (R : S → T → Type 0) where
   same_leaves (tip p) (fork x l y r) c h = absurd h
   same_leaves (fork x l y r) (tip q) c h = absurd h
 
-  item_ahead : (xs : List (Item S)) (ys : List (Item T)) → SameItems xs ys → (x : Item S) → IsAmong xs x → (y : Item T) × IsAmong ys y × R x.at y.at × (x.code ≡ y.code)
+  item_ahead : (xs : List (CodedPlace S)) (ys : List (CodedPlace T)) → SameItems xs ys → (x : CodedPlace S) → IsAmong xs x → (y : CodedPlace T) × IsAmong ys y × R x.at y.at × (x.code ≡ y.code)
   item_ahead (x ∷ xs) (y ∷ ys) h z i = ⊎_elim
       (λ e. (y, inl refl, subst (λ v. R v.at y.at) e h.0, subst (λ v. v.code ≡ y.code) e h.1))
       (λ j. let k = item_ahead xs ys h.2 z j in (k.0, inr k.1, k.2, k.3))
@@ -58,7 +58,7 @@ module _ {S T : Type 0} (R : S → T → Type 0) where
   item_ahead [] ys h z i = absurd i
   item_ahead (x ∷ xs) [] h z i = absurd h
 
-  item_back : (xs : List (Item S)) (ys : List (Item T)) → SameItems xs ys → (y : Item T) → IsAmong ys y → (x : Item S) × IsAmong xs x × R x.at y.at × (x.code ≡ y.code)
+  item_back : (xs : List (CodedPlace S)) (ys : List (CodedPlace T)) → SameItems xs ys → (y : CodedPlace T) → IsAmong ys y → (x : CodedPlace S) × IsAmong xs x × R x.at y.at × (x.code ≡ y.code)
   item_back (x ∷ xs) (y ∷ ys) h z i = ⊎_elim
       (λ e. (x, inl refl, subst (λ v. R x.at v.at) e h.0, subst (λ v. x.code ≡ v.code) e h.1))
       (λ j. let k = item_back xs ys h.2 z j in (k.0, inr k.1, k.2, k.3))
@@ -66,7 +66,7 @@ module _ {S T : Type 0} (R : S → T → Type 0) where
   item_back xs [] h z i = absurd i
   item_back [] (y ∷ ys) h z i = absurd h
 
-  rising : (xs : List (Item S)) (ys : List (Item T)) → SameItems xs ys → Rising xs → Rising ys
+  rising : (xs : List (CodedPlace S)) (ys : List (CodedPlace T)) → SameItems xs ys → Rising xs → Rising ys
   rising [] [] h k = tt
   rising (x ∷ xs) (y ∷ ys) h k = ((λ z i. let b = item_back xs ys h.2 z i in subst (λ c. Before c z.code) h.1 (subst (λ c. Before x.code c) b.3 (k.0 b.0 b.1))), rising xs ys h.2 k.1)
   rising [] (y ∷ ys) h k = absurd h

@@ -8,12 +8,12 @@ use Rattle.kex_machine.specs.Answers as nodes
 use Rattle.kex_model.specs.Laws as stages
 
 -- on each text, open or ended, the machine has an answer
-abbrev pub HasAnswers : Graph → Type 0
-HasAnswers g = (limit : ℕ) (w : List ℕ) (e : Bool) → (a : Answer) × nodes.StageAnswers g limit w e a
+abbrev pub MachineHasAnswers : Graph → Type 0
+MachineHasAnswers g = (limit : ℕ) (w : List ℕ) (e : Bool) → (a : Answer) × nodes.MachineAnswers g limit w e a
 
 -- so has each whose nodes lead to nodes, and all of them to the end
 abbrev pub MachinesHaveAnswers : Type 0
-MachinesHaveAnswers = (g : Graph) → StaysWithin g.nodes → g.start < length g.nodes → IsTrimmed g → HasAnswers g
+MachinesHaveAnswers = (g : Graph) → StaysWithin g.nodes → g.start < length g.nodes → IsTrimmed g → MachineHasAnswers g
 
 -- and each stage that has a machine
 abbrev pub StagesHaveAnswers : Type 0

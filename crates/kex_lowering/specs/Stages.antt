@@ -6,7 +6,7 @@ use Rattle.kex_model.specs.Programs.{Grammar}
 use Rattle.kex_model.specs.Places.{Place, IsPlace, moves, start_of}
 use Rattle.kex_model.specs.Survivors.{LeadsToEnd, Survives, Agreed, Greedy, IsViable}
 use Rattle.kex_model.specs.Moves.{Step, code_of}
-use Rattle.kex_model.specs.Trees.{Tree, IsTree, kind_at, part}
+use Rattle.kex_model.specs.Trees.{Tree, IsTree, kind_at, part_meaning}
 use Rattle.kex_model.specs.Answers.{Answer}
 use Rattle.kex_machine.specs.Nodes.{Graph, node_moves}
 use Rattle.kex_desugar.specs.Machines.{HasMore, IsMachineOf}
@@ -26,8 +26,8 @@ module _ (P : Grammar) (root : ℕ) (m : Graph) where
   -- the tree and the run have one code; with any front of it they write the same, and leave the same registers
   pub record SameRun (t : Tree) (ks : List (Step ℕ)) : Type 0 where
     pub codes : code_of ks ≡ places.code_at P root t
-    pub written : (c : List Symbol) → (nodes.left_by m ks c).out ≡ (part P (kind_at P root) t c (places.empty P)).bytes
-    pub registers : (c : List Symbol) → (nodes.left_by m ks c).registers ≡ (part P (kind_at P root) t c (places.empty P)).registers
+    pub written : (c : List Symbol) → (nodes.left_by m ks c).out ≡ (part_meaning P (kind_at P root) t c (places.empty P)).bytes
+    pub registers : (c : List Symbol) → (nodes.left_by m ks c).registers ≡ (part_meaning P (kind_at P root) t c (places.empty P)).registers
 
   -- the machine answers as the stage does
   pub record Carries : Type 0 where
@@ -36,10 +36,10 @@ module _ (P : Grammar) (root : ℕ) (m : Graph) where
     pub viable : (w : List ℕ) → IsViable (moves P) (start_of P root) w ↔ IsViable (node_moves m.nodes) m.start w
     pub agreed : (w : List ℕ) (c : List Symbol) → Agreed (moves P) (start_of P root) w c ↔ Agreed (node_moves m.nodes) m.start w c
     pub greedy : (w : List ℕ) (c : List Symbol) → Greedy (moves P) (start_of P root) w c ↔ Greedy (node_moves m.nodes) m.start w c
-    pub parsed : (w : List ℕ) → places.HasParse P root w ↔ nodes.HasParse m w
-    pub says : (w text : List ℕ) → places.Says P root w text ↔ nodes.Says m w text
-    pub means : (w text : List ℕ) → places.Means P root w text ↔ nodes.Means m w text
-    pub answers : (limit : ℕ) (w : List ℕ) (e : Bool) (a : Answer) → stages.StageAnswers P root limit w e a ↔ nodes.StageAnswers m limit w e a
+    pub parsed : (w : List ℕ) → places.HasParse P root w ↔ nodes.HasRun m w
+    pub says : (w text : List ℕ) → places.Says P root w text ↔ nodes.SaysByRun m w text
+    pub means : (w text : List ℕ) → places.Means P root w text ↔ nodes.MeansByRun m w text
+    pub answers : (limit : ℕ) (w : List ℕ) (e : Bool) (a : Answer) → stages.StageAnswers P root limit w e a ↔ nodes.MachineAnswers m limit w e a
     pub registers : m.registers ≡ P.registers
     pub runs : (t : Tree) → IsTree P (kind_at P root) t → (ks : List (Step ℕ)) × nodes.IsRun m ks × SameRun t ks
     pub trees : (ks : List (Step ℕ)) → nodes.IsRun m ks → (t : Tree) × IsTree P (kind_at P root) t × SameRun t ks

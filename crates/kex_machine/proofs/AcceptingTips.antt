@@ -4,11 +4,11 @@ use Rattle.kex_code.specs.declared.symbol.Symbol.{Symbol}
 use Rattle.kex_code.specs.Codes.{AtMost, IsAmong}
 use Rattle.kex_model.specs.Moves.{Move, accept, read, choose, forced, go, IsWaiting}
 use Rattle.kex_model.specs.Labelled.{Labelled, tip, fork, leaves_of, Grown, with_prefix}
-use Rattle.kex_model.specs.Survivors.{Item, IsParted, Survives, HasTree}
+use Rattle.kex_model.specs.Survivors.{CodedPlace, IsParted, Survives, HasTree}
 use Rattle.kex_model.proofs.Orders.{at_most_trans}
 use Rattle.kex_model.proofs.Shapes.{among-append, among_left, among_right, behind_start, leaf_front}
 use Rattle.kex_machine.specs.Nodes.{Graph, node_moves}
-use Rattle.kex_machine.specs.Answers.{HasParse, IsGreedy}
+use Rattle.kex_machine.specs.Answers.{HasRun, IsGreedy}
 use Rattle.kex_machine.specs.Advancing.{left_or_right, at_end, first_accepting}
 use Rattle.kex_machine.proofs.Nexts.{IsTrim, reached_by}
 
@@ -29,7 +29,7 @@ module _ (moves : ℕ → Move ℕ) where
   picked_none (Some g) b e = cc
 
   -- where nothing is found, no tip accepts
-  pub accepting_none : (t : Labelled Symbol ℕ) (c : List Symbol) → first_accepting moves t ≡ None → (x : Item ℕ) → IsAmong (leaves_of t c) x → moves x.at ≡ accept → ⊥
+  pub accepting_none : (t : Labelled Symbol ℕ) (c : List Symbol) → first_accepting moves t ≡ None → (x : CodedPlace ℕ) → IsAmong (leaves_of t c) x → moves x.at ≡ accept → ⊥
   accepting_none (tip p) c e x i acc = ⊎_elim (λ f. end_none (moves p) p e (ap (λ z. moves z.at) f ∙ acc)) (λ k. k) i
   accepting_none (fork u l v r) c e x i acc =
       let q = picked_none (with_prefix u (first_accepting moves l)) (with_prefix v (first_accepting moves r)) e in
@@ -43,7 +43,7 @@ module _ (moves : ℕ → Move ℕ) where
     pub place : ℕ
     pub accepts : moves place ≡ accept
     pub leaf : IsAmong (leaves_of t c) (record { at = place; code = c ++ g.label })
-    pub first : (x : Item ℕ) → IsAmong (leaves_of t c) x → moves x.at ≡ accept → AtMost (c ++ g.label) x.code
+    pub first : (x : CodedPlace ℕ) → IsAmong (leaves_of t c) x → moves x.at ≡ accept → AtMost (c ++ g.label) x.code
 
   found_tip : (m : Move ℕ) (p : ℕ) (g : Grown Symbol ℕ) → at_end {A = Symbol} m p ≡ Some g → (m ≡ accept) × (g ≡ record { label = []; tree = tip p })
   found_tip accept p g e = (refl, (cc))
@@ -103,7 +103,7 @@ module _ (g : Graph) (trim : IsTrim (node_moves g.nodes) g.start) (w : List ℕ)
   ms = node_moves g.nodes
 
   -- where no tip accepts there is no parse
-  pub none_parses : first_accepting ms t ≡ None → ¬ HasParse g w
+  pub none_parses : first_accepting ms t ≡ None → ¬ HasRun g w
   none_parses e (ks, (e', walk, acc), q) =
       let r = reached_by ms g.start trim w e' ks walk (subst (λ z. IsWaiting z) (sym acc) tt) q in
       let y = has.lists.all e' (r.0, r.1, trim.ends e') in

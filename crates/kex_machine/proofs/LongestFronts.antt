@@ -9,7 +9,7 @@ use Rattle.kex_model.specs.Survivors.{IsViable, LongestViable, HasTree}
 use Rattle.kex_model.proofs.Orders.{two_fronts}
 use Rattle.kex_model.proofs.Shapes.{tree_agrees}
 use Rattle.kex_machine.specs.Nodes.{Graph, node_moves}
-use Rattle.kex_machine.specs.Answers.{Viable, HasParse, IsSaid}
+use Rattle.kex_machine.specs.Answers.{IsViableFor, HasRun, IsSaid}
 use Rattle.kex_machine.proofs.CutWalks.{cut}
 use Rattle.kex_machine.proofs.Nexts.{IsTrim, reached_by}
 
@@ -46,7 +46,7 @@ module _ (g : Graph) (trim : IsTrim (node_moves g.nodes) g.start) where
   byte_waits (reads h) = tt
 
   -- what can go on by a byte can go on before it
-  pub viable_before : (w : List ℕ) (b : ℕ) → Viable g (w ++ b ∷ []) → Viable g w
+  pub viable_before : (w : List ℕ) (b : ℕ) → IsViableFor g (w ++ b ∷ []) → IsViableFor g w
   viable_before w b (p, (c, (ks, path, e), end)) =
       let r = cut ms ks g.start p w b [] path.walk path.reads in
       let q = reached_by ms g.start trim w r.at r.front r.first (byte_waits r.byte) r.front_bytes in
@@ -55,9 +55,9 @@ module _ (g : Graph) (trim : IsTrim (node_moves g.nodes) g.start) where
   pub said_of_tree : (w : List ℕ) (c : List Symbol) (t : Labelled Symbol ℕ) → HasTree ms g.start w c t → IsSaid g w c
   said_of_tree w c t h = let a = tree_agrees ms g.start w c t h in record { of = w; longest = longest_self ms g.start w a.viable; agreed = a }
 
-  pub said_later : (w : List ℕ) (b : ℕ) (c : List Symbol) → IsSaid g w c → ¬ Viable g (w ++ b ∷ []) → IsSaid g (w ++ b ∷ []) c
+  pub said_later : (w : List ℕ) (b : ℕ) (c : List Symbol) → IsSaid g w c → ¬ IsViableFor g (w ++ b ∷ []) → IsSaid g (w ++ b ∷ []) c
   said_later w b c h dead = record { of = h.of; longest = longest_later ms g.start w h.of b h.longest dead; agreed = h.agreed }
 
   -- a text that isn't viable has no parse
-  pub no_parse : (w : List ℕ) → ¬ Viable g w → ¬ HasParse g w
+  pub no_parse : (w : List ℕ) → ¬ IsViableFor g w → ¬ HasRun g w
   no_parse w dead (ks, (e, walk, acc), q) = let r = reached_by ms g.start trim w e ks walk (subst (λ z. IsWaiting z) (sym acc) tt) q in dead (e, (r.0, r.1, trim.ends e))

@@ -6,7 +6,7 @@ use Rattle.kex_code.specs.declared.symbol.Symbol.TheVariants.{L, R, Byte}
 use Rattle.kex_code.specs.Codes.{bytes_of, AtMost, IsAmong}
 use Rattle.kex_model.specs.Moves.{Move, accept, Step, symbol_of, to_left, to_right, chose, went, took, Allows, reads, code_of, Walk, Waits, IsWaiting}
 use Rattle.kex_model.specs.Labelled.{Labelled, leaves_of, Grown, leaves_if, fork_of, with_prefix}
-use Rattle.kex_model.specs.Survivors.{Item, StartsWith, IsParted, LeadsToEnd, IsPath, Reaches, IsViable, HasTree}
+use Rattle.kex_model.specs.Survivors.{CodedPlace, StartsWith, IsParted, LeadsToEnd, IsPath, Reaches, IsViable, HasTree}
 use Rattle.kex_model.proofs.Walks.{bytes_of-append}
 use Rattle.kex_model.proofs.Derivations.{code_of-append, walk-append}
 use Rattle.kex_model.proofs.Orders.{at_most_trans, at_most_more}
@@ -65,7 +65,7 @@ module _ (moves : ℕ → Move ℕ) (start : ℕ) (trim : IsTrim moves start) wh
       (code_of s.steps, (s.steps, record { walk = s.walk; waits = waits; once = s.once; reads = s.reads ∙ e }, refl))
 
   -- a tree is that of a text if its leaves are reached, and each place that is reached stands there with a code that is at most that
-  shows : (w : List ℕ) (c : List Symbol) (t : Labelled Symbol ℕ) → ((x : Item ℕ) → IsAmong (leaves_of t c) x → Reaches moves start w x.at x.code) → ((ks : List (Step ℕ)) (p : ℕ) → IsPath moves start w p ks → (x : Item ℕ) × IsAmong (leaves_of t c) x × (x.at ≡ p) × AtMost x.code (code_of ks)) → ((x y : Item ℕ) → IsAmong (leaves_of t c) x → IsAmong (leaves_of t c) y → x.at ≡ y.at → x ≡ y) → IsParted t → HasTree moves start w c t
+  shows : (w : List ℕ) (c : List Symbol) (t : Labelled Symbol ℕ) → ((x : CodedPlace ℕ) → IsAmong (leaves_of t c) x → Reaches moves start w x.at x.code) → ((ks : List (Step ℕ)) (p : ℕ) → IsPath moves start w p ks → (x : CodedPlace ℕ) × IsAmong (leaves_of t c) x × (x.at ≡ p) × AtMost x.code (code_of ks)) → ((x y : CodedPlace ℕ) → IsAmong (leaves_of t c) x → IsAmong (leaves_of t c) y → x.at ≡ y.at → x ≡ y) → IsParted t → HasTree moves start w c t
   shows w c t each all single parted = record {
     lists = record {
       each = λ x i. record {
@@ -86,13 +86,13 @@ module _ (moves : ℕ → Move ℕ) (start : ℕ) (trim : IsTrim moves start) wh
     adv = advanced moves b v has.parted (λ n k i. absurd (none_marked m n i))
 
     -- each waiting place that is reached stands at a leaf
-    reach : (ks : List (Step ℕ)) (p : ℕ) → IsPath moves start (w ++ b ∷ []) p ks → (x : Item ℕ) × IsAmong (leaves_if a c) x × (x.at ≡ p) × AtMost x.code (code_of ks)
+    reach : (ks : List (Step ℕ)) (p : ℕ) → IsPath moves start (w ++ b ∷ []) p ks → (x : CodedPlace ℕ) × IsAmong (leaves_if a c) x × (x.at ≡ p) × AtMost x.code (code_of ks)
     reach ks p path =
         let r = cut_walk moves ks (start ∷ []) start p w b [] path.walk path.once path.reads in
         let front : IsPath moves start w r.at r.front = record { walk = r.first; waits = byte_waits moves r.byte; once = r.front_once; reads = r.front_bytes } in
         let here : Reaches moves start w r.at (code_of r.front) = (r.front, front, refl) in
         let y = has.lists.all r.at (code_of r.front, here, trim.ends r.at) in
-        let o : Item ℕ = record { at = r.at; code = y.0 } in
+        let o : CodedPlace ℕ = record { at = r.at; code = y.0 } in
         let least : AtMost y.0 (code_of r.front) = (has.lists.each o y.1).least (code_of r.front) here in
         let whole : code_of ks ≡ code_of r.front ++ Byte b ∷ code_of r.back = ap code_of r.same ∙ code_of-append r.front (took b r.to ∷ r.back) in
         ⊎_elim
@@ -106,7 +106,7 @@ module _ (moves : ℕ → Move ℕ) (start : ℕ) (trim : IsTrim moves start) wh
         (adv.all c o y.1 r.to r.byte r.back p r.back_once (r.last, r.back_bytes) path.waits)
 
     -- each leaf is reached
-    real : (x : Item ℕ) → IsAmong (leaves_if a c) x → Reaches moves start (w ++ b ∷ []) x.at x.code
+    real : (x : CodedPlace ℕ) → IsAmong (leaves_if a c) x → Reaches moves start (w ++ b ∷ []) x.at x.code
     real x i =
         let l = adv.leaf c x i in
         let e = l.0 in

@@ -11,7 +11,7 @@ use Rattle.kex_model.proofs.AgreedFronts.{viable_front, agreed_grows, agreed_gre
 use Rattle.kex_model.proofs.Effects.{same_acted}
 use Rattle.kex_model.proofs.OpenAnswers as model
 use Rattle.kex_machine.specs.Nodes.{Graph, node_moves}
-use Rattle.kex_machine.specs.Answers.{start_state, Viable, IsRun, HasParse, left_by, Says, Means, StageAnswers}
+use Rattle.kex_machine.specs.Answers.{start_state, IsViableFor, IsRun, HasRun, left_by, SaysByRun, MeansByRun, MachineAnswers}
 use Rattle.kex_machine.proofs.Outputs.{further_front, acted_grows}
 
 module _ (g : Graph) where
@@ -26,48 +26,48 @@ module _ (g : Graph) where
       let more : Begins (left_by g ks (c ++ m)).out (left_by g ks c).out = acted_grows ks c m (start_state g.registers) in
       subst (λ z. Begins z.out (left_by g js c).out) (ap (λ z. left_by g ks z) (sym e)) (subst (λ z. Begins (left_by g ks (c ++ m)).out z.out) (sym (same_left js ks c r s p front)) more)
 
-  said_grows : (w x s t : List ℕ) → Begins x w → Says g w s → Says g x t → Begins t s
+  said_grows : (w x s t : List ℕ) → Begins x w → SaysByRun g w s → SaysByRun g x t → Begins t s
   said_grows w x s t p h k =
       let d = agreed_grows (node_moves g.nodes) g.start w p.0 h.agreed k.agreed h.is_agreed (subst (λ z. Agreed (node_moves g.nodes) g.start z k.agreed) p.1 k.is_agreed) in
       let m = more_left h.run k.run h.agreed k.agreed h.runs k.runs h.begins k.begins d in
       (m.0, k.said ∙ m.1 ∙ ap (λ z. z ++ m.0) (sym h.said))
 
-  meant_grows : (w x s t : List ℕ) → Begins x w → Says g w s → Means g x t → Begins t s
+  meant_grows : (w x s t : List ℕ) → Begins x w → SaysByRun g w s → MeansByRun g x t → Begins t s
   meant_grows w x s t p h k =
       let d = agreed_greedy (node_moves g.nodes) g.start w p.0 h.agreed k.greedy h.is_agreed (subst (λ z. Greedy (node_moves g.nodes) g.start z k.greedy) p.1 k.is_greedy) in
       let m = more_left h.run k.run h.agreed k.greedy h.runs k.runs h.begins ([], k.codes ∙ sym (append-nil k.greedy)) d in
       (m.0, k.meant ∙ m.1 ∙ ap (λ z. z ++ m.0) (sym h.said))
 
-  pub orderly : model.Orderly (Viable g) (Says g) (HasParse g) (Means g)
+  pub orderly : model.Orderly (IsViableFor g) (SaysByRun g) (HasRun g) (MeansByRun g)
   orderly = record {
-    front = λ w x p v. viable_front (node_moves g.nodes) g.start w p.0 (subst (λ z. Viable g z) p.1 v);
+    front = λ w x p v. viable_front (node_moves g.nodes) g.start w p.0 (subst (λ z. IsViableFor g z) p.1 v);
     said = said_grows;
     meant = meant_grows;
     good = λ w s m. let k = m.is_greedy in (k.0, (m.greedy, k.2.reached, k.2.alive));
   }
 
-  parsed : (w s : List ℕ) → Means g w s → HasParse g w
+  parsed : (w s : List ℕ) → MeansByRun g w s → HasRun g w
   parsed w s m =
       let k = m.is_greedy in
       let r = k.2.reached in
       (m.run, m.runs, ap (λ z. bytes_of z) (m.codes ∙ sym r.2) ∙ r.1.reads)
 
-  one_meaning : (w s t : List ℕ) → Means g w s → Means g w t → s ≡ t
+  one_meaning : (w s t : List ℕ) → MeansByRun g w s → MeansByRun g w t → s ≡ t
   one_meaning w s t h k =
       let code : h.greedy ≡ k.greedy = at_most_both h.greedy k.greedy (h.least k.greedy k.is_greedy) (k.least h.greedy h.is_greedy) in
       let left = same_left h.run k.run h.greedy h.runs k.runs ([], h.codes ∙ sym (append-nil h.greedy)) ([], k.codes ∙ sym code ∙ sym (append-nil h.greedy)) in
       h.meant ∙ ap (λ z. z.out) left ∙ ap (λ z. (left_by g k.run z).out) code ∙ sym k.meant
 
-  pub one_answer : (n : ℕ) {w : List ℕ} {e : Bool} {a b : Answer} → StageAnswers g n w e a → StageAnswers g n w e b → a ≡ b
-  one_answer n h k = model.one_answer (Viable g) (Says g) (HasParse g) (Means g) orderly n parsed one_meaning h k
+  pub one_answer : (n : ℕ) {w : List ℕ} {e : Bool} {a b : Answer} → MachineAnswers g n w e a → MachineAnswers g n w e b → a ≡ b
+  one_answer n h k = model.one_answer (IsViableFor g) (SaysByRun g) (HasRun g) (MeansByRun g) orderly n parsed one_meaning h k
 
-  pub grows : (n : ℕ) (w v : List ℕ) {e : Bool} {a b : Answer} → StageAnswers g n w false a → StageAnswers g n (w ++ v) e b → Begins b.text a.text
-  grows n w v h k = (model.stays (Viable g) (Says g) (HasParse g) (Means g) orderly n (v, refl) h k).0
+  pub grows : (n : ℕ) (w v : List ℕ) {e : Bool} {a b : Answer} → MachineAnswers g n w false a → MachineAnswers g n (w ++ v) e b → Begins b.text a.text
+  grows n w v h k = (model.stays (IsViableFor g) (SaysByRun g) (HasRun g) (MeansByRun g) orderly n (v, refl) h k).0
 
-  pub stays : (n : ℕ) (w v : List ℕ) {e : Bool} {a b : Answer} → StageAnswers g n w false a → StageAnswers g n (w ++ v) e b → (a.stop ≡ None → ⊥) → b ≡ a
-  stays n w v h k = (model.stays (Viable g) (Says g) (HasParse g) (Means g) orderly n (v, refl) h k).1
+  pub stays : (n : ℕ) (w v : List ℕ) {e : Bool} {a b : Answer} → MachineAnswers g n w false a → MachineAnswers g n (w ++ v) e b → (a.stop ≡ None → ⊥) → b ≡ a
+  stays n w v h k = (model.stays (IsViableFor g) (SaysByRun g) (HasRun g) (MeansByRun g) orderly n (v, refl) h k).1
 
-  pub ends : (n : ℕ) {w : List ℕ} {e : Bool} {a : Answer} → StageAnswers g n w e a → a.ended ≡ (e && is_none a.stop)
+  pub ends : (n : ℕ) {w : List ℕ} {e : Bool} {a : Answer} → MachineAnswers g n w e a → a.ended ≡ (e && is_none a.stop)
   ends n {e = false} (bad_byte v bad l says) = refl
   ends n {e = true} (bad_byte v bad l says) = refl
   ends n {e = false} (too_long lt good says) = refl
@@ -76,7 +76,7 @@ module _ (g : Graph) where
   ends n (whole le means) = refl
   ends n (still_open le good says) = refl
 
-  pub past_limit : (n : ℕ) {w : List ℕ} {e : Bool} {a : Answer} → StageAnswers g n w e a → n < length w → IsSome a.stop
+  pub past_limit : (n : ℕ) {w : List ℕ} {e : Bool} {a : Answer} → MachineAnswers g n w e a → n < length w → IsSome a.stop
   past_limit n (bad_byte v bad l says) lt = refl
   past_limit n (too_long l good says) lt = refl
   past_limit n (cut_off le good none says) lt = refl
@@ -84,7 +84,7 @@ module _ (g : Graph) where
   past_limit n (still_open le good says) lt = absurd (omega (arith, le, lt))
 
   -- what has stopped stays so, whatever comes
-  pub stopped_more : (n : ℕ) (w v : List ℕ) (e : Bool) {a : Answer} → StageAnswers g n w false a → (a.stop ≡ None → ⊥) → StageAnswers g n (w ++ v) e a
+  pub stopped_more : (n : ℕ) (w v : List ℕ) (e : Bool) {a : Answer} → MachineAnswers g n w false a → (a.stop ≡ None → ⊥) → MachineAnswers g n (w ++ v) e a
   stopped_more n w v e (bad_byte u bad l says) some =
       let front : Begins (take n (w ++ v)) (take n w) = model.take_front n w (w ++ v) (v, refl) in
       bad_byte u (λ good. bad (orderly.front (take n w) (take n (w ++ v)) front good)) (record {
@@ -97,5 +97,5 @@ module _ (g : Graph) where
       }) says
   stopped_more n w v e (too_long {text = text} lt good says) some =
       let same : take n w ≡ take n (w ++ v) = model.same_take n w (w ++ v) (v, refl) lt in
-      too_long (omega (arith, lt, length-append w v)) (subst (λ z. Viable g z) same good) (subst (λ z. Says g z text) same says)
+      too_long (omega (arith, lt, length-append w v)) (subst (λ z. IsViableFor g z) same good) (subst (λ z. SaysByRun g z text) same says)
   stopped_more n w v e (still_open le good says) some = absurd (some refl)

@@ -6,12 +6,12 @@ use Rattle.std.proofs.lemmas.Option.{slice_get-get_or, slice_get_within}
 use Rattle.kex_model.specs.Survivors.{LeadsToEnd}
 use Rattle.kex_machine.specs.declared.MNode.{MNode}
 use Rattle.kex_machine.specs.declared.MNode.TheVariants.{Accept, Read, Choice, Forced, Do, Skip}
-use Rattle.kex_machine.specs.Nodes.{Graph, move_of, node_moves, IsBelow, IsInRange, IsTrimmed, MoveBelow, StaysWithin}
+use Rattle.kex_machine.specs.Nodes.{Graph, move_of, node_moves, IsBelow, IsMachineInRange, IsTrimmed, MoveBelow, StaysWithin}
 use Rattle.kex_machine.proofs.Nexts.{IsTrim}
 use Rattle.kex_machine.proofs.MuteLoops.{no_mute_loop}
 
 -- each node of a machine leads to nodes
-pub stays_within : (g : Graph) → IsInRange g.start g.nodes g.registers → StaysWithin g.nodes
+pub stays_within : (g : Graph) → IsMachineInRange g.start g.nodes g.registers → StaysWithin g.nodes
 stays_within g range n lt = cases (get_or g.nodes n Accept) refl
   where
     here : (m : MNode) → get_or g.nodes n Accept ≡ m → node_moves g.nodes n ≡ move_of (Some m)

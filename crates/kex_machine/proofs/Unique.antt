@@ -6,7 +6,7 @@ use Rattle.kex_code.specs.declared.symbol.Symbol.TheVariants.{L, R}
 use Rattle.kex_code.specs.Codes.{Begins, Before, IsAmong}
 use Rattle.kex_model.specs.Moves.{Move, Side, read, choose, forced, go, symbol_of, took, Allows, reads, IsWaiting}
 use Rattle.kex_model.specs.Labelled.{Labelled, tip, fork, leaves_of, Grown, with_prefix, fork_of}
-use Rattle.kex_model.specs.Survivors.{Item, Rising, IsParted, Lists, HasTree}
+use Rattle.kex_model.specs.Survivors.{CodedPlace, Rising, IsParted, Lists, HasTree}
 use Rattle.kex_model.proofs.Orders.{not_both, at_most_both}
 use Rattle.kex_model.proofs.Shapes.{a_leaf, leaf_front, longest_front, parted_rises, behind_start}
 use Rattle.kex_machine.specs.Advancing.{Visits, known, stops, parts_off, is_forced, passes_on, Advances, dies, reads_on, both}
@@ -15,7 +15,7 @@ not_itself : (c : List Symbol) → Before c c → ⊥
 not_itself c h = not_both c c h h
 
 -- two rising lists with the same members are one
-one_list : {S : Type 0} (xs ys : List (Item S)) → Rising xs → Rising ys → ((x : Item S) → IsAmong xs x → IsAmong ys x) → ((x : Item S) → IsAmong ys x → IsAmong xs x) → xs ≡ ys
+one_list : {S : Type 0} (xs ys : List (CodedPlace S)) → Rising xs → Rising ys → ((x : CodedPlace S) → IsAmong xs x → IsAmong ys x) → ((x : CodedPlace S) → IsAmong ys x → IsAmong xs x) → xs ≡ ys
 one_list [] [] h h' f g = refl
 one_list [] (y ∷ ys) h h' f g = absurd (g y (inl refl))
 one_list (x ∷ xs) [] h h' f g = absurd (f x (inl refl))
@@ -24,14 +24,14 @@ one_list {S = S} (x ∷ xs) (y ∷ ys) h h' f g = ap₂ (λ a b. a ∷ b) same (
     same : x ≡ y
     same = ⊎_elim (λ e. sym e) (λ i. ⊎_elim (λ e. e) (λ j. absurd (not_both x.code y.code (h.0 y j) (h'.0 x i))) (g y (inl refl))) (f x (inl refl))
 
-    down : (z : Item S) → IsAmong xs z → IsAmong ys z
+    down : (z : CodedPlace S) → IsAmong xs z → IsAmong ys z
     down z i = ⊎_elim (λ e. absurd (not_itself x.code (subst (λ u. Before x.code u.code) (sym (same ∙ e)) (h.0 z i)))) (λ j. j) (f z (inr i))
 
-    up : (z : Item S) → IsAmong ys z → IsAmong xs z
+    up : (z : CodedPlace S) → IsAmong ys z → IsAmong xs z
     up z i = ⊎_elim (λ e. absurd (not_itself y.code (subst (λ u. Before y.code u.code) (sym (sym same ∙ e)) (h'.0 z i)))) (λ j. j) (g z (inr i))
 
 -- the first that lie to the left and the others to the right
-split : {S : Type 0} (c : List Symbol) (xs ys us vs : List (Item S)) → ((x : Item S) → IsAmong xs x → (m : List Symbol) × (x.code ≡ c ++ L ∷ m)) → ((x : Item S) → IsAmong ys x → (m : List Symbol) × (x.code ≡ c ++ R ∷ m)) → ((x : Item S) → IsAmong us x → (m : List Symbol) × (x.code ≡ c ++ L ∷ m)) → ((x : Item S) → IsAmong vs x → (m : List Symbol) × (x.code ≡ c ++ R ∷ m)) → xs ++ ys ≡ us ++ vs → (xs ≡ us) × (ys ≡ vs)
+split : {S : Type 0} (c : List Symbol) (xs ys us vs : List (CodedPlace S)) → ((x : CodedPlace S) → IsAmong xs x → (m : List Symbol) × (x.code ≡ c ++ L ∷ m)) → ((x : CodedPlace S) → IsAmong ys x → (m : List Symbol) × (x.code ≡ c ++ R ∷ m)) → ((x : CodedPlace S) → IsAmong us x → (m : List Symbol) × (x.code ≡ c ++ L ∷ m)) → ((x : CodedPlace S) → IsAmong vs x → (m : List Symbol) × (x.code ≡ c ++ R ∷ m)) → xs ++ ys ≡ us ++ vs → (xs ≡ us) × (ys ≡ vs)
 split c [] ys [] vs hx hy hu hv e = (refl, e)
 split c [] [] (u ∷ us) vs hx hy hu hv e = cc
 split c [] (y ∷ ys) (u ∷ us) vs hx hy hu hv e =
@@ -64,13 +64,13 @@ one_front c d (m, e) (n, f) = back m n e f (append_cancel_left c (n ++ m) [] (sy
     back m (x ∷ n) e f g = cc
 
 module _ {S : Type 0} where
-  single_leaf : (l : Labelled Symbol S) (r : Labelled Symbol S) (c a b : List Symbol) (x : Item S) → leaves_of l (c ++ a) ++ leaves_of r (c ++ b) ≡ x ∷ [] → ⊥
+  single_leaf : (l : Labelled Symbol S) (r : Labelled Symbol S) (c a b : List Symbol) (x : CodedPlace S) → leaves_of l (c ++ a) ++ leaves_of r (c ++ b) ≡ x ∷ [] → ⊥
   single_leaf l r c a b x e = two (leaves_of l (c ++ a)) (leaves_of r (c ++ b)) (some l (c ++ a)) (some r (c ++ b)) e
     where
       some : (t : Labelled Symbol S) (c : List Symbol) → leaves_of t c ≡ [] → ⊥
       some t c e = let y = a_leaf t c in subst (λ z. IsAmong z y.0) e y.1
 
-      two : (xs ys : List (Item S)) → (xs ≡ [] → ⊥) → (ys ≡ [] → ⊥) → xs ++ ys ≡ x ∷ [] → ⊥
+      two : (xs ys : List (CodedPlace S)) → (xs ≡ [] → ⊥) → (ys ≡ [] → ⊥) → xs ++ ys ≡ x ∷ [] → ⊥
       two [] ys p q e = p refl
       two (z ∷ []) [] p q e = q refl
       two (z ∷ []) (y ∷ ys) p q e = cc
@@ -79,8 +79,8 @@ module _ {S : Type 0} where
   -- a parted tree is determined by its leaves
   pub one_tree : (t u : Labelled Symbol S) (c d : List Symbol) → IsParted t → IsParted u → leaves_of t c ≡ leaves_of u d → (t ≡ u) × (c ≡ d)
   one_tree (tip p) (tip q) c d h h' e =
-      let x : Item S = record { at = p; code = c } in
-      let y : Item S = record { at = q; code = d } in
+      let x : CodedPlace S = record { at = p; code = c } in
+      let y : CodedPlace S = record { at = q; code = d } in
       let same : x ≡ y = cc in
       (ap (λ z. tip z.at) same, ap (λ z. z.code) same)
   one_tree (tip p) (fork a l b r) c d h h' e = absurd (single_leaf l r d a b (record { at = p; code = c }) (sym e))
@@ -101,7 +101,7 @@ module _ {S : Type 0} (moves : S → Move S) (start : S) where
   pub tree_unique : (w : List ℕ) (c d : List Symbol) (t u : Labelled Symbol S) → HasTree moves start w c t → HasTree moves start w d u → (t ≡ u) × (c ≡ d)
   tree_unique w c d t u h k = one_tree t u c d h.parted k.parted (one_list (leaves_of t c) (leaves_of u d) (parted_rises t c h.parted) (parted_rises u d k.parted) (λ x i. across (leaves_of t c) (leaves_of u d) h.lists k.lists x i) (λ x i. across (leaves_of u d) (leaves_of t c) k.lists h.lists x i))
     where
-      across : (xs ys : List (Item S)) → Lists moves start w xs → Lists moves start w ys → (x : Item S) → IsAmong xs x → IsAmong ys x
+      across : (xs ys : List (CodedPlace S)) → Lists moves start w xs → Lists moves start w ys → (x : CodedPlace S) → IsAmong xs x → IsAmong ys x
       across xs ys p q x i =
           let s = p.each x i in
           let y = q.all x.at (x.code, s.reached, s.alive) in

@@ -3,32 +3,32 @@ use Rattle.std.specs.Prelude.{◌≡◌, ℕ, Bool, List, [], replicate}
 use Rattle.kex_code.specs.declared.symbol.Symbol.{Symbol}
 use Rattle.kex_code.specs.Codes.{bytes_of, Begins, AtMost}
 use Rattle.kex_model.specs.Moves.{accept, Step, code_of, Walk}
-use Rattle.kex_model.specs.Acting.{State, after_steps}
+use Rattle.kex_model.specs.Acting.{ActingState, after_steps}
 use Rattle.kex_model.specs.Survivors.{Agreed, Greedy, IsViable, LongestViable}
 use Rattle.kex_model.specs.Answers.{Answer, Answers}
 use Rattle.kex_machine.specs.Nodes.{Graph, node_moves}
 
 -- nothing is written, no buffer is open, and all registers are empty
-abbrev pub start_state : ℕ → State
+abbrev pub start_state : ℕ → ActingState
 start_state registers = record { out = []; buffers = []; registers = replicate registers [] }
 
 module _ (g : Graph) where
-  abbrev pub Viable : List ℕ → Type 0
-  Viable w = IsViable (node_moves g.nodes) g.start w
+  abbrev pub IsViableFor : List ℕ → Type 0
+  IsViableFor w = IsViable (node_moves g.nodes) g.start w
 
   -- the steps lead from the start to the end
   abbrev pub IsRun : List (Step ℕ) → Type 0
   IsRun ks = (e : ℕ) × Walk (node_moves g.nodes) g.start ks e × (node_moves g.nodes e ≡ accept)
 
-  abbrev pub HasParse : List ℕ → Type 0
-  HasParse w = (ks : List (Step ℕ)) × IsRun ks × (bytes_of (code_of ks) ≡ w)
+  abbrev pub HasRun : List ℕ → Type 0
+  HasRun w = (ks : List (Step ℕ)) × IsRun ks × (bytes_of (code_of ks) ≡ w)
 
   -- what is left when a run was followed as far as the code goes
-  abbrev pub left_by : List (Step ℕ) → List Symbol → State
+  abbrev pub left_by : List (Step ℕ) → List Symbol → ActingState
   left_by ks c = after_steps ks c (start_state g.registers)
 
   -- the text that is said on w: what a run on a text that begins with w does with the symbols that are agreed
-  pub record Says (w text : List ℕ) : Type 0 where
+  pub record SaysByRun (w text : List ℕ) : Type 0 where
     pub agreed : List Symbol
     pub is_agreed : Agreed (node_moves g.nodes) g.start w agreed
     pub run : List (Step ℕ)
@@ -38,7 +38,7 @@ module _ (g : Graph) where
     pub said : text ≡ (left_by run agreed).out
 
   -- the text that w means
-  pub record Means (w text : List ℕ) : Type 0 where
+  pub record MeansByRun (w text : List ℕ) : Type 0 where
     pub greedy : List Symbol
     pub is_greedy : Greedy (node_moves g.nodes) g.start w greedy
     pub least : (d : List Symbol) → Greedy (node_moves g.nodes) g.start w d → AtMost greedy d
@@ -48,8 +48,8 @@ module _ (g : Graph) where
     pub meant : text ≡ (left_by run greedy).out
 
   -- the stage's answer on w, open or (true) ended, within a limit
-  abbrev pub StageAnswers : ℕ → List ℕ → Bool → Answer → Type 0
-  StageAnswers limit w e a = Answers Viable Says HasParse Means limit w e a
+  abbrev pub MachineAnswers : ℕ → List ℕ → Bool → Answer → Type 0
+  MachineAnswers limit w e a = Answers IsViableFor SaysByRun HasRun MeansByRun limit w e a
 
 -- c is agreed of the longest front of w that is viable: of w itself where w is viable
 pub record IsSaid (g : Graph) (w : List ℕ) (c : List Symbol) : Type 0 where
@@ -59,6 +59,6 @@ pub record IsSaid (g : Graph) (w : List ℕ) (c : List Symbol) : Type 0 where
 
 -- c is the code of the greedy parse of w: of the paths to the end the least
 pub record IsGreedy (g : Graph) (w : List ℕ) (c : List Symbol) : Type 0 where
-  pub parse : HasParse g w
+  pub parse : HasRun g w
   pub greedy : Greedy (node_moves g.nodes) g.start w c
   pub least : (d : List Symbol) → Greedy (node_moves g.nodes) g.start w d → AtMost c d

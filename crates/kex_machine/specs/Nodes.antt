@@ -59,7 +59,7 @@ IsBelow count registers (Do e n) = (n < count) × HasRegisters registers e
 IsBelow count registers (Skip n) = n < count
 
 -- all numbers are of nodes and of registers
-pub record IsInRange (start : ℕ) (ms : List MNode) (registers : ℕ) : Type 0 where
+pub record IsMachineInRange (start : ℕ) (ms : List MNode) (registers : ℕ) : Type 0 where
   pub start_in : start < length ms
   pub below : All (IsBelow (length ms) registers) ms
   pub count : length ms < 4294967296

@@ -2,11 +2,11 @@
 
 ghost use Rattle.std.specs.Prelude.{ℕ, List};
 ghost use Rattle.kex_machine.specs.Nodes.{Graph};
-ghost use Rattle.kex_machine.specs.Laws.{AnswersStand, Grows, OneLeft, OnePath, RunsHavePaths};
+ghost use Rattle.kex_machine.specs.Laws.{MachineAnswersStand, RunsGrow, OneLeft, OneRunPath, RunsHavePaths};
 
 /// Of two paths on one text neither code is a proper prefix of the other, and equal codes are of equal paths.
 pub fn one_path()
-    ensures { (g : Graph) → OnePath g }
+    ensures { (g : Graph) → OneRunPath g }
 {}
 
 /// A text that has a run to the end has a path to it.
@@ -21,10 +21,10 @@ pub fn one_left()
 
 /// What is agreed and what is said grow with the text, up to the greedy code and the meaning.
 pub fn answers_grow()
-    ensures { (g : Graph) (w v : List ℕ) → Grows g w v }
+    ensures { (g : Graph) (w v : List ℕ) → RunsGrow g w v }
 {}
 
 /// A stage's answers over nodes: one on each text, with a text that grows and a stop that stands.
 pub fn answers_stand()
-    ensures { (g : Graph) (limit : ℕ) → AnswersStand g limit }
+    ensures { (g : Graph) (limit : ℕ) → MachineAnswersStand g limit }
 {}

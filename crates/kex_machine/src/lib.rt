@@ -9,7 +9,7 @@ pub mod marks;
 
 ghost use Rattle.std.specs.Prelude.{◌≡◌, ℕ, ◌<◌, [], ◌∷◌, ◌++◌, List, Some, length};
 ghost use Rattle.kex_model.specs.Moves.{symbol_of};
-ghost use Rattle.kex_machine.specs.Nodes.{Graph, IsInRange, IsTrimmed, HasClasses, side_of, move_of, node_moves};
+ghost use Rattle.kex_machine.specs.Nodes.{Graph, IsMachineInRange, IsTrimmed, HasClasses, side_of, move_of, node_moves};
 
 use kex_byteset::{ByteSet, Partition};
 use kex_code::piece::{Bytes, Pieces};
@@ -76,19 +76,19 @@ pub struct Machine {
 }
 
 impl Model for Machine {
-    ghost use Rattle.kex_machine.specs.Nodes.{Graph, IsInRange};
+    ghost use Rattle.kex_machine.specs.Nodes.{Graph, IsMachineInRange};
 
     ghost Value = { Graph };
 
     ghost view = { λ m. record { start = m.start; nodes = m.nodes.items; stage = m.stage; registers = m.registers } };
 
-    ghost invariant = { λ m. IsInRange m.start m.nodes.items m.registers };
+    ghost invariant = { λ m. IsMachineInRange m.start m.nodes.items m.registers };
 }
 
 impl Machine {
     /// The machine of these nodes.
     pub fn new(start: u32, nodes: Vec<MNode>, stage: u32, registers: u32) -> Machine
-        requires { IsInRange start nodes.items registers }
+        requires { IsMachineInRange start nodes.items registers }
         ensures { result ≡ record { start = start; nodes = nodes.items; stage = stage; registers = registers } }
     {
         Machine {
@@ -109,7 +109,7 @@ impl Machine {
     /// The nodes, by their numbers.
     pub fn nodes(&self) -> &[MNode]
         ensures same { result.now ≡ self.now.nodes }
-        ensures in_range { IsInRange self.now.start self.now.nodes self.now.registers }
+        ensures in_range { IsMachineInRange self.now.start self.now.nodes self.now.registers }
     {
         &self.nodes
     }
@@ -202,7 +202,7 @@ impl Trimmed {
     /// The nodes, by their numbers.
     pub fn nodes(&self) -> &[MNode]
         ensures same { result.now ≡ self.now.nodes }
-        ensures in_range { IsInRange self.now.start self.now.nodes self.now.registers }
+        ensures in_range { IsMachineInRange self.now.start self.now.nodes self.now.registers }
         ensures trimmed { IsTrimmed self.now }
     {
         self.machine.nodes()

@@ -14,7 +14,7 @@ use Rattle.kex_model.proofs.Derivations.{itself, tree_walk, steps-code, code-byt
 use Rattle.kex_model.proofs.OpenAnswers.{shorter_front}
 use Rattle.kex_model.proofs.AgreedFronts.{viable_front}
 use Rattle.kex_model.proofs.Shapes.{among_left, among_right, parted_rises}
-use Rattle.kex_model.specs.Survivors.{NoReturn, Item, IsParted, LeadsToEnd, IsPath, Reaches, IsViable, Survives, HasTree}
+use Rattle.kex_model.specs.Survivors.{NoReturn, CodedPlace, IsParted, LeadsToEnd, IsPath, Reaches, IsViable, Survives, HasTree}
 
 -- places are compared
 
@@ -297,7 +297,7 @@ module _ (P : Grammar) (root n : ℕ) (w : List ℕ) where
     least = λ d r. of_reached (λ q c. end_of (start_of P root) ks ≡ q → (code_of ks ≡ c) ⊎ Before (code_of ks) c) t h (end_of (start_of P root) ks) d r refl;
   }
 
-  abbrev pub IsLeaf : List (Item Place) → List (Step Place) → Type 0
+  abbrev pub IsLeaf : List (CodedPlace Place) → List (Step Place) → Type 0
   IsLeaf xs ks = (c : List Symbol) × IsAmong xs (record { at = end_of (start_of P root) ks; code = c })
 
   -- the tree of the survivors

@@ -11,7 +11,7 @@ use Rattle.kex_model.specs.Moves.{Move, accept, read, choose, go, Effect, drop_b
 use Rattle.kex_model.specs.declared.frame.Frame.TheVariants.{Pending, EndOf}
 use Rattle.kex_model.specs.declared.frame.Frame.{Frame}
 use Rattle.kex_model.specs.Places.{Place, fresh, enter, with_counts, moves_of, end_effect, moves, steps_of}
-use Rattle.kex_model.specs.Trees.{kind_at, root_of, less, Tree, leaf, byte, pair, chose_left, chose_right, inner, turn, done, IsTree, one, lit, one_byte, call, seq, alt_left, alt_right, needed, again, end, mute, at_register, write_register, set_register, add_register, text_of, end_mark, code}
+use Rattle.kex_model.specs.Trees.{kind_at, root_of, less, Tree, leaf, byte, pair, chose_left, chose_right, inner, turn, done, IsTree, one, lit, one_byte, call, seq, alt_left, alt_right, needed, again, end, mute, at_register, write_register, set_register, add_register, yield_of, end_mark, code}
 use Rattle.kex_model.proofs.Walks.{bytes_of-append}
 
 -- by plain variables, since `cc` reads all that a term computes to
@@ -139,7 +139,7 @@ module _ (P : Grammar) where
   steps-code n rest add_register = refl
 
   -- a tree's code has the bytes of its text
-  pub code-bytes : {k : Kind} {t : Tree} → IsTree P k t → bytes_of (code P k t) ≡ text_of t
+  pub code-bytes : {k : Kind} {t : Tree} → IsTree P k t → bytes_of (code P k t) ≡ yield_of t
   code-bytes one = refl
   code-bytes lit = refl
   code-bytes (one_byte i) = refl

@@ -9,11 +9,11 @@ use Rattle.kex_model.proofs.Walks.{step_from_code}
 use Rattle.kex_model.proofs.Derivations.{from_accept}
 use Rattle.kex_model.specs.Moves.{Move, accept, Allows, reads, goes_left, goes_right, goes_forced, goes, code_of, Walk, symbol_of, turn_side, end_side, Effect, nothing, open_buffer, drop_buffer, into, Step, to_left, to_right, took, chose, went}
 use Rattle.kex_code.specs.Registers.{Registers, with_content}
-use Rattle.kex_model.specs.Trees.{kind_at, root_of, less, Tree, IsTree, one, lit, one_byte, call, seq, alt_left, alt_right, needed, again, end, mute, at_register, write_register, set_register, add_register, Part, part_behind, go_on, then_part, muted_part, put_whole, kept_part, part}
+use Rattle.kex_model.specs.Trees.{kind_at, root_of, less, Tree, IsTree, one, lit, one_byte, call, seq, alt_left, alt_right, needed, again, end, mute, at_register, write_register, set_register, add_register, PartMeaning, part_behind, go_on, then_part, muted_part, put_whole, kept_part, part_meaning}
 use Rattle.kex_model.specs.declared.frame.Frame.TheVariants.{Pending, EndOf}
 use Rattle.kex_model.specs.Places.{Place, enter, steps_of}
 use Rattle.kex_model.specs.Laws.{DoneBySteps}
-use Rattle.kex_model.specs.Acting.{State, after_append, after_effect, after_steps}
+use Rattle.kex_model.specs.Acting.{ActingState, after_append, after_effect, after_steps}
 
 appended_twice : (x y out : List ℕ) (bs : List (List ℕ)) (regs regs' : Registers) → after_append y (after_append x out bs regs).out (after_append x out bs regs).buffers regs' ≡ after_append (x ++ y) out bs regs'
 appended_twice x y out [] regs regs' = ap (λ z. record { out = z; buffers = []; registers = regs' }) (append_assoc out x y)
@@ -24,33 +24,33 @@ appended_none out [] regs = ap (λ z. record { out = z; buffers = []; registers 
 appended_none out (b ∷ bs) regs = ap (λ z. record { out = out; buffers = z ∷ bs; registers = regs }) (append-nil b)
 
 -- more buffers were opened
-abbrev with_more : List (List ℕ) → State → State
+abbrev with_more : List (List ℕ) → ActingState → ActingState
 with_more more s = record { out = s.out; buffers = more ++ s.buffers; registers = s.registers }
 
 -- the steps, and ks behind them, do what the part says: where it stopped, up to buffers that are open
-abbrev pub DoneBy : Option (List Symbol) → Part → List (Step Place) → List (Step Place) → List Symbol → List ℕ → List (List ℕ) → Registers → Type 0
+abbrev pub DoneBy : Option (List Symbol) → PartMeaning → List (Step Place) → List (Step Place) → List Symbol → List ℕ → List (List ℕ) → Registers → Type 0
 DoneBy None p js ks c out bs regs = (more : List (List ℕ)) × (after_steps (js ++ ks) c (record { out = out; buffers = bs; registers = regs }) ≡ with_more more (after_append p.bytes out bs p.registers))
 DoneBy (Some d) p js ks c out bs regs = after_steps (js ++ ks) c (record { out = out; buffers = bs; registers = regs }) ≡ after_steps ks d (after_append p.bytes out bs p.registers)
 
-abbrev pub Does : Part → List (Step Place) → List Symbol → Registers → Type 0
+abbrev pub Does : PartMeaning → List (Step Place) → List Symbol → Registers → Type 0
 Does p js c regs = (ks : List (Step Place)) (out : List ℕ) (bs : List (List ℕ)) → DoneBy p.rest p js ks c out bs regs
 
 -- one step without a symbol
-silent : (e : Effect) (rest : Place) (p : Part) (d c : List Symbol) (regs : Registers) → p.rest ≡ Some d → d ≡ c → ((out : List ℕ) (bs : List (List ℕ)) → after_effect e (record { out = out; buffers = bs; registers = regs }) ≡ after_append p.bytes out bs p.registers) → Does p (went e rest ∷ []) c regs
+silent : (e : Effect) (rest : Place) (p : PartMeaning) (d c : List Symbol) (regs : Registers) → p.rest ≡ Some d → d ≡ c → ((out : List ℕ) (bs : List (List ℕ)) → after_effect e (record { out = out; buffers = bs; registers = regs }) ≡ after_append p.bytes out bs p.registers) → Does p (went e rest ∷ []) c regs
 silent e rest p d c regs r same does ks out bs = rw (r, same) (ap (λ s. after_steps ks c s) (does out bs))
 
 -- two, one after the other
-then_does : (bytes : List ℕ) (regs' : Registers) (o : Option (List Symbol)) (f : List Symbol → Registers → Part) (is js : List (Step Place)) (c : List Symbol) (regs : Registers) → Does (record { bytes = bytes; registers = regs'; rest = o }) is c regs → ((d : List Symbol) → Does (f d regs') js d regs') → Does (go_on bytes regs' o f) (is ++ js) c regs
+then_does : (bytes : List ℕ) (regs' : Registers) (o : Option (List Symbol)) (f : List Symbol → Registers → PartMeaning) (is js : List (Step Place)) (c : List Symbol) (regs : Registers) → Does (record { bytes = bytes; registers = regs'; rest = o }) is c regs → ((d : List Symbol) → Does (f d regs') js d regs') → Does (go_on bytes regs' o f) (is ++ js) c regs
 then_does bytes regs' None f is js c regs first next ks out bs =
     let r = first (js ++ ks) out bs in
     (r.0, ap (λ z. after_steps z c (record { out = out; buffers = bs; registers = regs })) (append_assoc is js ks) ∙ r.1)
 then_does bytes regs' (Some d) f is js c regs first next ks out bs =
     cases (f d regs').rest (next d ks (after_append bytes out bs regs').out (after_append bytes out bs regs').buffers)
   where
-    s : State
+    s : ActingState
     s = record { out = out; buffers = bs; registers = regs }
 
-    q : Part
+    q : PartMeaning
     q = f d regs'
 
     same_state : (out : List ℕ) (bs : List (List ℕ)) → record { out = (after_append bytes out bs regs').out; buffers = (after_append bytes out bs regs').buffers; registers = regs' } ≡ after_append bytes out bs regs'
@@ -64,11 +64,11 @@ then_does bytes regs' (Some d) f is js c regs first next ks out bs =
     cases None h = (h.0, start ∙ h.1 ∙ ap (λ z. with_more h.0 z) (appended_twice bytes q.bytes out bs regs' q.registers))
     cases (Some e) h = start ∙ h ∙ ap (λ z. after_steps ks e z) (appended_twice bytes q.bytes out bs regs' q.registers)
 
-both_do : (p : Part) (f : List Symbol → Registers → Part) (is js : List (Step Place)) (c : List Symbol) (regs : Registers) → Does p is c regs → ((d : List Symbol) → Does (f d p.registers) js d p.registers) → Does (then_part p f) (is ++ js) c regs
+both_do : (p : PartMeaning) (f : List Symbol → Registers → PartMeaning) (is js : List (Step Place)) (c : List Symbol) (regs : Registers) → Does p is c regs → ((d : List Symbol) → Does (f d p.registers) js d p.registers) → Does (then_part p f) (is ++ js) c regs
 both_do p f is js c regs first next = then_does p.bytes p.registers p.rest f is js c regs first next
 
 -- behind a step that does nothing
-after_nothing : (rest : Place) (p : Part) (js : List (Step Place)) (c : List Symbol) (regs : Registers) → Does p js c regs → Does p (went nothing rest ∷ js) c regs
+after_nothing : (rest : Place) (p : PartMeaning) (js : List (Step Place)) (c : List Symbol) (regs : Registers) → Does p js c regs → Does p (went nothing rest ∷ js) c regs
 after_nothing rest p js c regs h = cases p.rest h
   where
     cases : (o : Option (List Symbol)) → ((ks : List (Step Place)) (out : List ℕ) (bs : List (List ℕ)) → DoneBy o p js ks c out bs regs) → (ks : List (Step Place)) (out : List ℕ) (bs : List (List ℕ)) → DoneBy o p (went nothing rest ∷ js) ks c out bs regs
@@ -76,7 +76,7 @@ after_nothing rest p js c regs h = cases p.rest h
     cases (Some d) h ks out bs = h ks out bs
 
 -- behind a choice
-after_choice : (side : _) (x : Symbol) (to : Place) (js : List (Step Place)) (c : List Symbol) (regs : Registers) (f : List Symbol → Part) → ((d : List Symbol) → Does (f d) js d regs) → Does (part_behind (x ∷ []) c regs f) (chose side to ∷ js) c regs
+after_choice : (side : _) (x : Symbol) (to : Place) (js : List (Step Place)) (c : List Symbol) (regs : Registers) (f : List Symbol → PartMeaning) → ((d : List Symbol) → Does (f d) js d regs) → Does (part_behind (x ∷ []) c regs f) (chose side to ∷ js) c regs
 after_choice side x to js [] regs f h = λ ks out bs. ([], sym (appended_none out bs regs))
 after_choice side x to js (y ∷ c) regs f h = cases (f c).rest (h c)
   where
@@ -85,7 +85,7 @@ after_choice side x to js (y ∷ c) regs f h = cases (f c).rest (h c)
     cases (Some d) h ks out bs = h ks out bs
 
 -- within a buffer that is dropped at the end
-in_mute : (rest to : Place) (p : Part) (js : List (Step Place)) (c : List Symbol) (regs : Registers) → Does p js c regs → Does (muted_part p) (went open_buffer to ∷ (js ++ went drop_buffer rest ∷ [])) c regs
+in_mute : (rest to : Place) (p : PartMeaning) (js : List (Step Place)) (c : List Symbol) (regs : Registers) → Does p js c regs → Does (muted_part p) (went open_buffer to ∷ (js ++ went drop_buffer rest ∷ [])) c regs
 in_mute rest to p js c regs h = cases p.rest h
   where
     cases : (o : Option (List Symbol)) → ((ks : List (Step Place)) (out : List ℕ) (bs : List (List ℕ)) → DoneBy o p js ks c out bs regs) → (ks : List (Step Place)) (out : List ℕ) (bs : List (List ℕ)) → DoneBy o (record { bytes = []; registers = p.registers; rest = p.rest }) (went open_buffer to ∷ (js ++ went drop_buffer rest ∷ [])) ks c out bs regs
@@ -103,7 +103,7 @@ in_mute rest to p js c regs h = cases p.rest h
         ∙ ap (λ z. after_steps ks d z) (sym (appended_none out bs p.registers))
 
 -- within a buffer that goes to a register at the end
-in_at : (n : ℕ) (rest to : Place) (p : Part) (js : List (Step Place)) (c : List Symbol) (regs : Registers) → Does p js c regs → Does (kept_part n p) (went open_buffer to ∷ (js ++ went (into n) rest ∷ [])) c regs
+in_at : (n : ℕ) (rest to : Place) (p : PartMeaning) (js : List (Step Place)) (c : List Symbol) (regs : Registers) → Does p js c regs → Does (kept_part n p) (went open_buffer to ∷ (js ++ went (into n) rest ∷ [])) c regs
 in_at n rest to p js c regs h = cases p.rest h
   where
     cases : (o : Option (List Symbol)) → ((ks : List (Step Place)) (out : List ℕ) (bs : List (List ℕ)) → DoneBy o p js ks c out bs regs) → (ks : List (Step Place)) (out : List ℕ) (bs : List (List ℕ)) → DoneBy o (record { bytes = []; registers = put_whole p.registers n p.bytes o; rest = o }) (went open_buffer to ∷ (js ++ went (into n) rest ∷ [])) ks c out bs regs
@@ -121,22 +121,22 @@ in_at n rest to p js c regs h = cases p.rest h
         ∙ ap (λ z. after_steps ks d z) (sym (appended_none out bs (with_content p.registers n p.bytes)))
 
 module _ (P : Grammar) where
-  pub part_done : {k : Kind} {t : Tree} (n : ℕ) (rest : Place) (c : List Symbol) (regs : Registers) → IsTree P k t → Does (part P k t c regs) (steps_of P n k t rest) c regs
+  pub part_done : {k : Kind} {t : Tree} (n : ℕ) (rest : Place) (c : List Symbol) (regs : Registers) → IsTree P k t → Does (part_meaning P k t c regs) (steps_of P n k t rest) c regs
   part_done n rest c regs one = λ ks out bs. ap (λ s. after_steps ks c s) (sym (appended_none out bs regs))
   part_done n rest c regs lit = λ ks out bs. refl
   part_done n rest [] regs (one_byte i) = λ ks out bs. ([], sym (appended_none out bs regs))
   part_done n rest (x ∷ c) regs (one_byte i) = λ ks out bs. refl
-  part_done n rest c regs (call {name = f} {a = t} a) = after_nothing _ (part P (kind_at P (root_of P f)) t c regs) _ c regs (part_done (root_of P f) rest c regs a)
-  part_done n rest c regs (seq {l = l} {r = r} {a = s} {b = t} a b) = after_nothing _ (then_part (part P (kind_at P l) s c regs) (part P (kind_at P r) t)) _ c regs (both_do (part P (kind_at P l) s c regs) (part P (kind_at P r) t) _ _ c regs (part_done l (enter P r ∷ rest) c regs a) (λ d. part_done r rest d _ b))
+  part_done n rest c regs (call {name = f} {a = t} a) = after_nothing _ (part_meaning P (kind_at P (root_of P f)) t c regs) _ c regs (part_done (root_of P f) rest c regs a)
+  part_done n rest c regs (seq {l = l} {r = r} {a = s} {b = t} a b) = after_nothing _ (then_part (part_meaning P (kind_at P l) s c regs) (part_meaning P (kind_at P r) t)) _ c regs (both_do (part_meaning P (kind_at P l) s c regs) (part_meaning P (kind_at P r) t) _ _ c regs (part_done l (enter P r ∷ rest) c regs a) (λ d. part_done r rest d _ b))
   part_done n rest c regs (alt_left {l = l} a) = after_choice to_left L _ _ c regs _ (λ d. part_done l rest d regs a)
   part_done n rest c regs (alt_right {r = r} a) = after_choice to_right R _ _ c regs _ (λ d. part_done r rest d regs a)
-  part_done n rest c regs (needed {body = body} {min = min} {max = max} {lazy = lazy} {a = s} {rest = t} a b) = after_nothing _ (then_part (part P (kind_at P body) s c regs) (part P (Rep body min (less max) lazy) t)) _ c regs (both_do (part P (kind_at P body) s c regs) (part P (Rep body min (less max) lazy) t) _ _ c regs (part_done body (Pending n min (less max) ∷ rest) c regs a) (λ d. part_done n rest d _ b))
-  part_done n rest c regs (again {body = body} {max = max} {lazy = lazy} {a = s} {rest = t} i a b) = after_choice (turn_side lazy) (symbol_of (turn_side lazy)) _ _ c regs _ (λ d. both_do (part P (kind_at P body) s d regs) (part P (Rep body zero (less max) lazy) t) _ _ d regs (part_done body (Pending n zero (less max) ∷ rest) d regs a) (λ e. part_done n rest e _ b))
+  part_done n rest c regs (needed {body = body} {min = min} {max = max} {lazy = lazy} {a = s} {rest = t} a b) = after_nothing _ (then_part (part_meaning P (kind_at P body) s c regs) (part_meaning P (Rep body min (less max) lazy) t)) _ c regs (both_do (part_meaning P (kind_at P body) s c regs) (part_meaning P (Rep body min (less max) lazy) t) _ _ c regs (part_done body (Pending n min (less max) ∷ rest) c regs a) (λ d. part_done n rest d _ b))
+  part_done n rest c regs (again {body = body} {max = max} {lazy = lazy} {a = s} {rest = t} i a b) = after_choice (turn_side lazy) (symbol_of (turn_side lazy)) _ _ c regs _ (λ d. both_do (part_meaning P (kind_at P body) s d regs) (part_meaning P (Rep body zero (less max) lazy) t) _ _ d regs (part_done body (Pending n zero (less max) ∷ rest) d regs a) (λ e. part_done n rest e _ b))
   part_done n rest c regs (end {max = None} {lazy = lazy}) = after_choice (end_side lazy) (symbol_of (end_side lazy)) _ [] c regs _ (λ d ks out bs. ap (λ s. after_steps ks d s) (sym (appended_none out bs regs)))
   part_done n rest c regs (end {max = Some zero} {lazy = lazy}) = λ ks out bs. ap (λ s. after_steps ks c s) (sym (appended_none out bs regs))
   part_done n rest c regs (end {max = Some (suc m)} {lazy = lazy}) = after_choice (end_side lazy) (symbol_of (end_side lazy)) _ [] c regs _ (λ d ks out bs. ap (λ s. after_steps ks d s) (sym (appended_none out bs regs)))
-  part_done n rest c regs (mute {n = m} {a = t} a) = in_mute rest (enter P m ∷ EndOf n ∷ rest) (part P (kind_at P m) t c regs) _ c regs (part_done m (EndOf n ∷ rest) c regs a)
-  part_done n rest c regs (at_register {r = r} {n = m} {a = t} a) = in_at r rest (enter P m ∷ EndOf n ∷ rest) (part P (kind_at P m) t c regs) _ c regs (part_done m (EndOf n ∷ rest) c regs a)
+  part_done n rest c regs (mute {n = m} {a = t} a) = in_mute rest (enter P m ∷ EndOf n ∷ rest) (part_meaning P (kind_at P m) t c regs) _ c regs (part_done m (EndOf n ∷ rest) c regs a)
+  part_done n rest c regs (at_register {r = r} {n = m} {a = t} a) = in_at r rest (enter P m ∷ EndOf n ∷ rest) (part_meaning P (kind_at P m) t c regs) _ c regs (part_done m (EndOf n ∷ rest) c regs a)
   part_done n rest c regs write_register = λ ks out bs. refl
   part_done n rest c regs (set_register {r = r} {parts = s}) = λ ks out bs. ap (λ s. after_steps ks c s) (sym (appended_none out bs _))
   part_done n rest c regs (add_register {r = r} {parts = s}) = λ ks out bs. ap (λ s. after_steps ks c s) (sym (appended_none out bs _))
@@ -158,7 +158,7 @@ unlike goes_forced goes_forced = tt
 unlike goes goes = tt
 
 -- two walks to the end whose codes begin with c do the same with c
-pub same_acted : {S : Type 0} (f : S → Move S) (js ks : List (Step S)) (s d e : S) (c u v : List Symbol) (st : State) → Walk f s js d → Walk f s ks e → f d ≡ accept → f e ≡ accept → code_of js ≡ c ++ u → code_of ks ≡ c ++ v → after_steps js c st ≡ after_steps ks c st
+pub same_acted : {S : Type 0} (f : S → Move S) (js ks : List (Step S)) (s d e : S) (c u v : List Symbol) (st : ActingState) → Walk f s js d → Walk f s ks e → f d ≡ accept → f e ≡ accept → code_of js ≡ c ++ u → code_of ks ≡ c ++ v → after_steps js c st ≡ after_steps ks c st
 same_acted f [] [] s d e c u v st wj wk ad ae cj ck = refl
 same_acted f [] (k ∷ ks) s d e c u v st wj wk ad ae cj ck = absurd (from_accept (rw (ap f wj ∙ ad) at wk.0))
 same_acted f (j ∷ js) [] s d e c u v st wj wk ad ae cj ck = absurd (from_accept (rw (ap f wk ∙ ae) at wj.0))
@@ -190,13 +190,13 @@ same_acted f (went g t ∷ js) (chose y t' ∷ ks) s d e c u v st wj wk ad ae cj
 pub done_all : (P : Grammar) (root : ℕ) (t : Tree) (c : List Symbol) (regs : Registers) (out : List ℕ) → IsTree P (kind_at P root) t → DoneBySteps P root t c regs out
 done_all P root t c regs out it = cases p.rest (part_done P root [] c regs it [] out [])
   where
-    p : Part
-    p = part P (kind_at P root) t c regs
+    p : PartMeaning
+    p = part_meaning P (kind_at P root) t c regs
 
     js : List (Step Place)
     js = steps_of P root (kind_at P root) t []
 
-    s : State
+    s : ActingState
     s = record { out = out; buffers = []; registers = regs }
 
     cases : (o : Option (List Symbol)) → DoneBy o p js [] c out [] regs → DoneBySteps P root t c regs out

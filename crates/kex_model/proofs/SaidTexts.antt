@@ -10,7 +10,7 @@ use Rattle.std.proofs.Common.{◌≡◌, ℕ, List, [], ◌++◌, ◌⊎◌, Opt
 use Rattle.kex_model.specs.Programs.{Grammar}
 use Rattle.kex_code.specs.declared.symbol.Symbol.{Symbol}
 use Rattle.kex_code.specs.Codes.{Begins, Before}
-use Rattle.kex_model.specs.Trees.{Tree, IsTree, kind_at, code, Part, meaning, part}
+use Rattle.kex_model.specs.Trees.{Tree, IsTree, kind_at, code, PartMeaning, meaning, part_meaning}
 use Rattle.kex_model.specs.Places.{moves, start_of}
 use Rattle.kex_model.specs.Survivors.{IsViable, Greedy}
 use Rattle.kex_model.specs.Answers.{empty, code_at, GreedyParse, Means}
@@ -20,17 +20,17 @@ use Rattle.kex_model.proofs.Parts.{same_part}
 use Rattle.kex_model.proofs.PartialMeanings.{GrownBy, part_grows, part_whole}
 use Rattle.kex_model.proofs.Correspondence.{one_to_one}
 
-grown_bytes : (o : Option (List Symbol)) (p q : Part) (m : List Symbol) → GrownBy o p q m → Begins q.bytes p.bytes
+grown_bytes : (o : Option (List Symbol)) (p q : PartMeaning) (m : List Symbol) → GrownBy o p q m → Begins q.bytes p.bytes
 grown_bytes None p q m h = h
 grown_bytes (Some r) p q m h = ([], h.0 ∙ sym (append-nil p.bytes))
 
 module _ (P : Grammar) (root : ℕ) where
   -- more of the code, also of another tree that begins so, writes more
-  pub more_written : (s t : Tree) (c d : List Symbol) → IsTree P (kind_at P root) s → IsTree P (kind_at P root) t → Begins (code_at P root s) c → Begins (code_at P root t) d → Begins d c → Begins (part P (kind_at P root) t d (empty P)).bytes (part P (kind_at P root) s c (empty P)).bytes
+  pub more_written : (s t : Tree) (c d : List Symbol) → IsTree P (kind_at P root) s → IsTree P (kind_at P root) t → Begins (code_at P root s) c → Begins (code_at P root t) d → Begins d c → Begins (part_meaning P (kind_at P root) t d (empty P)).bytes (part_meaning P (kind_at P root) s c (empty P)).bytes
   more_written s t c d hs ht bs bt more =
       let k = kind_at P root in
-      let same : part P k s c (empty P) ≡ part P k t c (empty P) = same_part P c [] [] bs.0 (more.0 ++ bt.0) (empty P) hs ht (append-nil (code P k s) ∙ bs.1) (append-nil (code P k t) ∙ bt.1 ∙ ap (λ z. z ++ bt.0) more.1 ∙ append_assoc c more.0 bt.0) in
-      let grown : Begins (part P k t (c ++ more.0) (empty P)).bytes (part P k t c (empty P)).bytes = grown_bytes (part P k t c (empty P)).rest (part P k t c (empty P)) (part P k t (c ++ more.0) (empty P)) more.0 (part_grows P c more.0 (empty P) ht) in
+      let same : part_meaning P k s c (empty P) ≡ part_meaning P k t c (empty P) = same_part P c [] [] bs.0 (more.0 ++ bt.0) (empty P) hs ht (append-nil (code P k s) ∙ bs.1) (append-nil (code P k t) ∙ bt.1 ∙ ap (λ z. z ++ bt.0) more.1 ∙ append_assoc c more.0 bt.0) in
+      let grown : Begins (part_meaning P k t (c ++ more.0) (empty P)).bytes (part_meaning P k t c (empty P)).bytes = grown_bytes (part_meaning P k t c (empty P)).rest (part_meaning P k t c (empty P)) (part_meaning P k t (c ++ more.0) (empty P)) more.0 (part_grows P c more.0 (empty P) ht) in
       rw (more.1, same) grown
 
   pub survivor_of : (w : List ℕ) (t : Tree) → GreedyParse P root w t → Greedy (moves P) (start_of P root) w (code_at P root t)
@@ -57,7 +57,7 @@ module _ (P : Grammar) (root : ℕ) where
         let k = kind_at P root in
         let whole : Begins (code_at P root t) (code_at P root t) = ([], sym (append-nil (code_at P root t))) in
         let m = more_written hx.tree t hx.agreed (code_at P root t) hx.parses.tree hy.1.parses.derives.tree hx.begins whole (agreed_greedy (moves P) (start_of P root) w v hx.agreed (code_at P root t) hx.is_agreed (survivor_of (w ++ v) t hy.1)) in
-        let all : (part P k t (code P k t) (empty P)).bytes ≡ (meaning P k t (empty P)).bytes = ap (λ z. (part P k t z (empty P)).bytes) (sym (append-nil (code P k t))) ∙ ap (λ z. z.bytes) (part_whole P [] (empty P) hy.1.parses.derives.tree) in
+        let all : (part_meaning P k t (code P k t) (empty P)).bytes ≡ (meaning P k t (empty P)).bytes = ap (λ z. (part_meaning P k t z (empty P)).bytes) (sym (append-nil (code P k t))) ∙ ap (λ z. z.bytes) (part_whole P [] (empty P) hy.1.parses.derives.tree) in
         (m.0, hy.2 ∙ sym all ∙ m.1 ∙ ap (λ z. z ++ m.0) (sym hx.said));
   }
 

@@ -6,7 +6,7 @@ use Rattle.kex_code.specs.declared.symbol.Symbol.TheVariants.{L, R}
 use Rattle.kex_code.specs.Codes.{Begins, Before, IsAmong}
 use Rattle.kex_model.specs.Moves.{Move}
 use Rattle.kex_model.specs.Labelled.{Leaf, Labelled, tip, fork, leaves_of, Grown, leaves_if, fork_of, with_prefix}
-use Rattle.kex_model.specs.Survivors.{Item, Rising, StartsWith, IsParted, Agreed, HasTree}
+use Rattle.kex_model.specs.Survivors.{CodedPlace, Rising, StartsWith, IsParted, Agreed, HasTree}
 use Rattle.kex_model.proofs.Orders.{two_fronts, at_most_both}
 
 pub among-append : {A : Type 0} (xs ys : List A) (z : A) → IsAmong (xs ++ ys) z → IsAmong xs z ⊎ IsAmong ys z
@@ -43,7 +43,7 @@ a_leaf (fork a l b r) c = let y = a_leaf l (c ++ a) in (y.0, among_left (leaves_
 pub behind_start : {s : Symbol} (c x d : List Symbol) → StartsWith s x → Begins d (c ++ x) → (m : List Symbol) × (d ≡ c ++ s ∷ m)
 behind_start {s = s} c x d (more, e) (m, f) = (more ++ m, f ∙ append_assoc c x m ∙ ap (λ z. c ++ (z ++ m)) e)
 
-pub rising-append : {S : Type 0} (xs ys : List (Item S)) → Rising xs → Rising ys → ((x y : Item S) → IsAmong xs x → IsAmong ys y → Before x.code y.code) → Rising (xs ++ ys)
+pub rising-append : {S : Type 0} (xs ys : List (CodedPlace S)) → Rising xs → Rising ys → ((x y : CodedPlace S) → IsAmong xs x → IsAmong ys y → Before x.code y.code) → Rising (xs ++ ys)
 rising-append [] ys h h' b = h'
 rising-append (x ∷ xs) ys h h' b = ((λ y i. ⊎_elim (λ j. h.0 y j) (λ j. b x y (inl refl) j) (among-append xs ys y i)), rising-append xs ys h.1 h' (λ x y i j. b x y (inr i) j))
 
@@ -71,7 +71,7 @@ common_front c d x y p q = ⊎_elim (λ r. r) (λ r. over r.0 r.1) (two_fronts c
         cc
 
 -- what begins all leaves of a parted tree begins its own code
-pub longest_front : {S : Type 0} (t : Labelled Symbol S) (c d : List Symbol) → IsParted t → ((x : Item S) → IsAmong (leaves_of t c) x → Begins x.code d) → Begins c d
+pub longest_front : {S : Type 0} (t : Labelled Symbol S) (c d : List Symbol) → IsParted t → ((x : CodedPlace S) → IsAmong (leaves_of t c) x → Begins x.code d) → Begins c d
 longest_front (tip p) c d h all = all (record { at = p; code = c }) (inl refl)
 longest_front (fork a l b r) c d h all =
     let x = a_leaf l (c ++ a) in

@@ -5,25 +5,25 @@ use Rattle.kex_model.specs.Moves.{Effect, nothing, append, open_buffer, drop_buf
 use Rattle.kex_code.specs.Registers.{Registers, content_of, with_content, pieces_text}
 
 -- the output, the open buffers, the innermost first, and the registers
-pub record State : Type 0 where
+pub record ActingState : Type 0 where
   pub out : List ℕ
   pub buffers : List (List ℕ)
   pub registers : Registers
 
 -- bytes go to the innermost open buffer, or to the output where none is open
-abbrev pub after_append : List ℕ → List ℕ → List (List ℕ) → Registers → State
+abbrev pub after_append : List ℕ → List ℕ → List (List ℕ) → Registers → ActingState
 after_append s out [] regs = record { out = out ++ s; buffers = []; registers = regs }
 after_append s out (b ∷ bs) regs = record { out = out; buffers = (b ++ s) ∷ bs; registers = regs }
 
-abbrev pub after_drop : List ℕ → List (List ℕ) → Registers → State
+abbrev pub after_drop : List ℕ → List (List ℕ) → Registers → ActingState
 after_drop out [] regs = record { out = out; buffers = []; registers = regs }
 after_drop out (b ∷ bs) regs = record { out = out; buffers = bs; registers = regs }
 
-abbrev pub after_into : ℕ → List ℕ → List (List ℕ) → Registers → State
+abbrev pub after_into : ℕ → List ℕ → List (List ℕ) → Registers → ActingState
 after_into r out [] regs = record { out = out; buffers = []; registers = regs }
 after_into r out (b ∷ bs) regs = record { out = out; buffers = bs; registers = with_content regs r b }
 
-abbrev pub after_effect : Effect → State → State
+abbrev pub after_effect : Effect → ActingState → ActingState
 after_effect nothing s = s
 after_effect (append bytes) s = after_append bytes s.out s.buffers s.registers
 after_effect open_buffer s = record { out = s.out; buffers = [] ∷ s.buffers; registers = s.registers }
@@ -34,7 +34,7 @@ after_effect (set_to r parts) s = record { out = s.out; buffers = s.buffers; reg
 after_effect (add_to r parts) s = record { out = s.out; buffers = s.buffers; registers = with_content s.registers r (content_of s.registers r ++ pieces_text parts s.registers) }
 
 -- the steps with a code that they begin with, up to the first symbol that it lacks
-abbrev pub after_steps : {S : Type 0} → List (Step S) → List Symbol → State → State
+abbrev pub after_steps : {S : Type 0} → List (Step S) → List Symbol → ActingState → ActingState
 after_steps [] c s = s
 after_steps (went e t ∷ ks) c s = after_steps ks c (after_effect e s)
 after_steps (chose x t ∷ ks) [] s = s

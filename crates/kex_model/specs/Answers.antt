@@ -4,7 +4,7 @@ use Rattle.kex_model.specs.Programs.{Grammar}
 use Rattle.kex_code.specs.declared.symbol.Symbol.{Symbol}
 use Rattle.kex_code.specs.Codes.{Begins, Before}
 use Rattle.kex_code.specs.Registers.{Registers}
-use Rattle.kex_model.specs.Trees.{Tree, Parses, kind_at, code, meaning, part}
+use Rattle.kex_model.specs.Trees.{Tree, Parses, kind_at, code, meaning, part_meaning}
 use Rattle.kex_model.specs.Places.{moves, start_of, steps_of}
 use Rattle.kex_model.specs.Survivors.{Agreed, IsPath, IsViable}
 
@@ -41,7 +41,7 @@ module _ (P : Grammar) (root : ℕ) where
     pub more : List ℕ
     pub parses : Parses P root tree (w ++ more)
     pub begins : Begins (code_at tree) agreed
-    pub said : text ≡ (part P (kind_at P root) tree agreed (empty P)).bytes
+    pub said : text ≡ (part_meaning P (kind_at P root) tree agreed (empty P)).bytes
 
   abbrev pub Viable : List ℕ → Type 0
   Viable w = IsViable (moves P) (start_of P root) w

@@ -4,7 +4,7 @@ use Rattle.kex_model.specs.Programs.{Grammar}
 use Rattle.kex_code.specs.declared.symbol.Symbol.{Symbol}
 use Rattle.kex_code.specs.Codes.{bytes_of, Begins, IsAmong}
 use Rattle.kex_code.specs.Registers.{Registers}
-use Rattle.kex_model.specs.Trees.{Tree, IsTree, Parses, kind_at, code, meaning, part}
+use Rattle.kex_model.specs.Trees.{Tree, IsTree, Parses, kind_at, code, meaning, part_meaning}
 use Rattle.kex_model.specs.Acting.{after_steps}
 use Rattle.kex_model.specs.Moves.{Step, Allows, target_of, symbols_of, code_of, Walk}
 use Rattle.kex_model.specs.Places.{Place, moves, start_of, steps_of}
@@ -17,7 +17,7 @@ OnePath = (P : Grammar) (root : ℕ) (w : List ℕ) (p q : Place) (js ks : List 
 
 -- every tree whose code begins with c gives the same part
 abbrev pub OnePart : Type 0
-OnePart = (P : Grammar) (n : ℕ) (s t : Tree) (c : List Symbol) (regs : Registers) → IsTree P (kind_at P n) s → IsTree P (kind_at P n) t → Begins (code P (kind_at P n) s) c → Begins (code P (kind_at P n) t) c → part P (kind_at P n) s c regs ≡ part P (kind_at P n) t c regs
+OnePart = (P : Grammar) (n : ℕ) (s t : Tree) (c : List Symbol) (regs : Registers) → IsTree P (kind_at P n) s → IsTree P (kind_at P n) t → Begins (code P (kind_at P n) s) c → Begins (code P (kind_at P n) t) c → part_meaning P (kind_at P n) s c regs ≡ part_meaning P (kind_at P n) t c regs
 
 -- the parses of a text and the paths on it to the empty place correspond one to one, with equal codes; a text that has a tree has a parse
 pub record OneToOne (P : Grammar) (root : ℕ) (w : List ℕ) : Type 0 where
@@ -42,7 +42,7 @@ abbrev pub AnswersGrow : Type 0
 AnswersGrow = (P : Grammar) (root : ℕ) (w v : List ℕ) → Grows P root w v
 
 -- the text on open input is a front of that on every continuation, and a stop stands, with the same text
-pub record Stands (P : Grammar) (root limit : ℕ) (w v : List ℕ) (e : Bool) (a b : Answer) : Type 0 where
+pub record AnswerStands (P : Grammar) (root limit : ℕ) (w v : List ℕ) (e : Bool) (a b : Answer) : Type 0 where
   pub text : Begins b.text a.text
   pub stop : (a.stop ≡ None → ⊥) → b ≡ a
 
@@ -50,7 +50,7 @@ abbrev pub StageAnswers : Grammar → ℕ → ℕ → List ℕ → Bool → Answ
 StageAnswers P root limit w e a = Answers (Viable P root) (Says P root) (HasParse P root) (Means P root) limit w e a
 
 abbrev pub AnswersStand : Type 0
-AnswersStand = (P : Grammar) (root limit : ℕ) (w v : List ℕ) (e : Bool) (a b : Answer) → StageAnswers P root limit w false a → StageAnswers P root limit (w ++ v) e b → Stands P root limit w v e a b
+AnswersStand = (P : Grammar) (root limit : ℕ) (w v : List ℕ) (e : Bool) (a b : Answer) → StageAnswers P root limit w false a → StageAnswers P root limit (w ++ v) e b → AnswerStands P root limit w v e a b
 
 -- a stage has at most one answer
 abbrev pub OneAnswer : Type 0
@@ -70,12 +70,12 @@ ReportsStand = (P : Grammar) (limit : ℕ) (roots w v s t : List ℕ) (e : Bool)
 
 -- with its whole code a tree's part is its meaning
 abbrev pub WholePart : Type 0
-WholePart = (P : Grammar) (n : ℕ) (t : Tree) (regs : Registers) → IsTree P (kind_at P n) t → part P (kind_at P n) t (code P (kind_at P n) t) regs ≡ record { bytes = (meaning P (kind_at P n) t regs).bytes; registers = (meaning P (kind_at P n) t regs).registers; rest = Some [] }
+WholePart = (P : Grammar) (n : ℕ) (t : Tree) (regs : Registers) → IsTree P (kind_at P n) t → part_meaning P (kind_at P n) t (code P (kind_at P n) t) regs ≡ record { bytes = (meaning P (kind_at P n) t regs).bytes; registers = (meaning P (kind_at P n) t regs).registers; rest = Some [] }
 
 -- a tree's part is what its steps do, with buffers: what is written, and the registers
 pub record DoneBySteps (P : Grammar) (root : ℕ) (t : Tree) (c : List Symbol) (regs : Registers) (out : List ℕ) : Type 0 where
-  pub written : (after_steps (steps_of P root (kind_at P root) t []) c (record { out = out; buffers = []; registers = regs })).out ≡ out ++ (part P (kind_at P root) t c regs).bytes
-  pub held : (after_steps (steps_of P root (kind_at P root) t []) c (record { out = out; buffers = []; registers = regs })).registers ≡ (part P (kind_at P root) t c regs).registers
+  pub written : (after_steps (steps_of P root (kind_at P root) t []) c (record { out = out; buffers = []; registers = regs })).out ≡ out ++ (part_meaning P (kind_at P root) t c regs).bytes
+  pub held : (after_steps (steps_of P root (kind_at P root) t []) c (record { out = out; buffers = []; registers = regs })).registers ≡ (part_meaning P (kind_at P root) t c regs).registers
 
 abbrev pub PartBySteps : Type 0
 PartBySteps = (P : Grammar) (root : ℕ) (t : Tree) (c : List Symbol) (regs : Registers) (out : List ℕ) → IsTree P (kind_at P root) t → DoneBySteps P root t c regs out

@@ -14,13 +14,13 @@ NoReturn seen (chose x t ∷ ks) = (¬ IsAmong seen t) × NoReturn (t ∷ seen) 
 NoReturn seen (went e t ∷ ks) = (¬ IsAmong seen t) × NoReturn (t ∷ seen) ks
 
 -- a place with a code
-abbrev pub Item : Type 0 → Type 0
-Item S = Leaf Symbol S
+abbrev pub CodedPlace : Type 0 → Type 0
+CodedPlace S = Leaf Symbol S
 
 -- each comes before those that follow it
-abbrev pub Rising : {S : Type 0} → List (Item S) → Type 0
+abbrev pub Rising : {S : Type 0} → List (CodedPlace S) → Type 0
 Rising [] = Unit {0}
-Rising {S} (x ∷ xs) = ((y : Item S) → IsAmong xs y → Before x.code y.code) × Rising xs
+Rising {S} (x ∷ xs) = ((y : CodedPlace S) → IsAmong xs y → Before x.code y.code) × Rising xs
 
 abbrev pub StartsWith : Symbol → List Symbol → Type 0
 StartsWith s x = (more : List Symbol) × (x ≡ s ∷ more)
@@ -77,8 +77,8 @@ module _ {S : Type 0} (moves : S → Move S) (start : S) where
     pub longest : (u : List ℕ) → Begins w u → IsViable u → length u ≤ length v
 
   -- xs are the survivors of w, each once, in the order of their codes
-  pub record Lists (w : List ℕ) (xs : List (Item S)) : Type 0 where
-    pub each : (x : Item S) → IsAmong xs x → Survives w x.at x.code
+  pub record Lists (w : List ℕ) (xs : List (CodedPlace S)) : Type 0 where
+    pub each : (x : CodedPlace S) → IsAmong xs x → Survives w x.at x.code
     pub all : (p : S) → IsAlive w p → (c : List Symbol) × IsAmong xs (record { at = p; code = c })
     pub ordered : Rising xs
 

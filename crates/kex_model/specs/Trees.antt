@@ -69,20 +69,20 @@ pub data IsTree (P : Grammar) : Kind → Tree → Type 0 where
   add_register : {r : ℕ} {parts : List Piece} → IsTree P (Add r parts) leaf
 
 -- the text that a tree derives
-abbrev pub text_of : Tree → List ℕ
-text_of leaf = []
-text_of (byte b) = b ∷ []
-text_of (pair a b) = text_of a ++ text_of b
-text_of (chose_left a) = text_of a
-text_of (chose_right a) = text_of a
-text_of (inner a) = text_of a
-text_of (turn a rest) = text_of a ++ text_of rest
-text_of done = []
+abbrev pub yield_of : Tree → List ℕ
+yield_of leaf = []
+yield_of (byte b) = b ∷ []
+yield_of (pair a b) = yield_of a ++ yield_of b
+yield_of (chose_left a) = yield_of a
+yield_of (chose_right a) = yield_of a
+yield_of (inner a) = yield_of a
+yield_of (turn a rest) = yield_of a ++ yield_of rest
+yield_of done = []
 
 -- the tree derives the text from the node
 pub record Parses (P : Grammar) (n : ℕ) (t : Tree) (w : List ℕ) : Type 0 where
   pub tree : IsTree P (kind_at P n) t
-  pub text : text_of t ≡ w
+  pub text : yield_of t ≡ w
 
 -- the mark before a turn: none while turns are needed
 abbrev pub turn_mark : Bool → ℕ → List Symbol
@@ -139,26 +139,26 @@ meaning P (Add r parts) leaf regs = record { bytes = []; registers = with_conten
 meaning P _ _ regs = record { bytes = []; registers = regs }
 
 -- what is written with a part of a code, and what of the code is left, or none where a symbol was lacking
-pub record Part : Type 0 where
+pub record PartMeaning : Type 0 where
   pub bytes : List ℕ
   pub registers : Registers
   pub rest : Option (List Symbol)
 
 -- goes on behind a mark, or stops where the code lacks it
-abbrev pub part_behind : List Symbol → List Symbol → Registers → (List Symbol → Part) → Part
+abbrev pub part_behind : List Symbol → List Symbol → Registers → (List Symbol → PartMeaning) → PartMeaning
 part_behind [] c regs next = next c
 part_behind (x ∷ mark) [] regs next = record { bytes = []; registers = regs; rest = None }
 part_behind (x ∷ mark) (y ∷ c) regs next = next c
 
 -- goes on with what is left of the code, if it didn't stop
-abbrev pub go_on : List ℕ → Registers → Option (List Symbol) → (List Symbol → Registers → Part) → Part
+abbrev pub go_on : List ℕ → Registers → Option (List Symbol) → (List Symbol → Registers → PartMeaning) → PartMeaning
 go_on bytes regs None next = record { bytes = bytes; registers = regs; rest = None }
 go_on bytes regs (Some c) next = record { bytes = bytes ++ (next c regs).bytes; registers = (next c regs).registers; rest = (next c regs).rest }
 
-abbrev pub then_part : Part → (List Symbol → Registers → Part) → Part
+abbrev pub then_part : PartMeaning → (List Symbol → Registers → PartMeaning) → PartMeaning
 then_part p next = go_on p.bytes p.registers p.rest next
 
-abbrev pub muted_part : Part → Part
+abbrev pub muted_part : PartMeaning → PartMeaning
 muted_part p = record { bytes = []; registers = p.registers; rest = p.rest }
 
 -- the register keeps what it had where the part stopped
@@ -166,22 +166,22 @@ abbrev pub put_whole : Registers → ℕ → List ℕ → Option (List Symbol) �
 put_whole regs r s None = regs
 put_whole regs r s (Some c) = with_content regs r s
 
-abbrev pub kept_part : ℕ → Part → Part
+abbrev pub kept_part : ℕ → PartMeaning → PartMeaning
 kept_part r p = record { bytes = []; registers = put_whole p.registers r p.bytes p.rest; rest = p.rest }
 
 -- what a tree of this kind writes with a code that it begins with
-abbrev pub part : Grammar → Kind → Tree → List Symbol → Registers → Part
-part P (Lit s) leaf c regs = record { bytes = s; registers = regs; rest = Some c }
-part P (Class set) (byte b) c regs = part_behind (Byte b ∷ []) c regs (λ d. record { bytes = b ∷ []; registers = regs; rest = Some d })
-part P (Call name) (inner a) c regs = part P (kind_at P (root_of P name)) a c regs
-part P (Seq l r) (pair a b) c regs = then_part (part P (kind_at P l) a c regs) (part P (kind_at P r) b)
-part P (Alt l r) (chose_left a) c regs = part_behind (L ∷ []) c regs (λ d. part P (kind_at P l) a d regs)
-part P (Alt l r) (chose_right a) c regs = part_behind (R ∷ []) c regs (λ d. part P (kind_at P r) a d regs)
-part P (Rep body min max lazy) (turn a rest) c regs = part_behind (turn_mark lazy min) c regs (λ d. then_part (part P (kind_at P body) a d regs) (part P (Rep body (pred min) (less max) lazy) rest))
-part P (Rep body min max lazy) done c regs = part_behind (end_mark lazy max) c regs (λ d. record { bytes = []; registers = regs; rest = Some d })
-part P (Mute n) (inner a) c regs = muted_part (part P (kind_at P n) a c regs)
-part P (At r n) (inner a) c regs = kept_part r (part P (kind_at P n) a c regs)
-part P (Write r) leaf c regs = record { bytes = content_of regs r; registers = regs; rest = Some c }
-part P (Set r parts) leaf c regs = record { bytes = []; registers = with_content regs r (pieces_text parts regs); rest = Some c }
-part P (Add r parts) leaf c regs = record { bytes = []; registers = with_content regs r (content_of regs r ++ pieces_text parts regs); rest = Some c }
-part P _ _ c regs = record { bytes = []; registers = regs; rest = Some c }
+abbrev pub part_meaning : Grammar → Kind → Tree → List Symbol → Registers → PartMeaning
+part_meaning P (Lit s) leaf c regs = record { bytes = s; registers = regs; rest = Some c }
+part_meaning P (Class set) (byte b) c regs = part_behind (Byte b ∷ []) c regs (λ d. record { bytes = b ∷ []; registers = regs; rest = Some d })
+part_meaning P (Call name) (inner a) c regs = part_meaning P (kind_at P (root_of P name)) a c regs
+part_meaning P (Seq l r) (pair a b) c regs = then_part (part_meaning P (kind_at P l) a c regs) (part_meaning P (kind_at P r) b)
+part_meaning P (Alt l r) (chose_left a) c regs = part_behind (L ∷ []) c regs (λ d. part_meaning P (kind_at P l) a d regs)
+part_meaning P (Alt l r) (chose_right a) c regs = part_behind (R ∷ []) c regs (λ d. part_meaning P (kind_at P r) a d regs)
+part_meaning P (Rep body min max lazy) (turn a rest) c regs = part_behind (turn_mark lazy min) c regs (λ d. then_part (part_meaning P (kind_at P body) a d regs) (part_meaning P (Rep body (pred min) (less max) lazy) rest))
+part_meaning P (Rep body min max lazy) done c regs = part_behind (end_mark lazy max) c regs (λ d. record { bytes = []; registers = regs; rest = Some d })
+part_meaning P (Mute n) (inner a) c regs = muted_part (part_meaning P (kind_at P n) a c regs)
+part_meaning P (At r n) (inner a) c regs = kept_part r (part_meaning P (kind_at P n) a c regs)
+part_meaning P (Write r) leaf c regs = record { bytes = content_of regs r; registers = regs; rest = Some c }
+part_meaning P (Set r parts) leaf c regs = record { bytes = []; registers = with_content regs r (pieces_text parts regs); rest = Some c }
+part_meaning P (Add r parts) leaf c regs = record { bytes = []; registers = with_content regs r (content_of regs r ++ pieces_text parts regs); rest = Some c }
+part_meaning P _ _ c regs = record { bytes = []; registers = regs; rest = Some c }

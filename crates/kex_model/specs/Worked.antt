@@ -9,7 +9,7 @@ use Rattle.kex_model.specs.declared.frame.Frame.TheVariants.{Pending}
 use Rattle.kex_model.specs.Programs.{Grammar}
 use Rattle.kex_model.specs.Moves.{Step, Walk, choose, go, nothing}
 use Rattle.kex_model.specs.Labelled.{place, parts}
-use Rattle.kex_model.specs.Trees.{Tree, leaf, byte, pair, chose_left, chose_right, inner, turn, done, Parses, kind_at, meaning, part}
+use Rattle.kex_model.specs.Trees.{Tree, leaf, byte, pair, chose_left, chose_right, inner, turn, done, Parses, kind_at, meaning, part_meaning}
 use Rattle.kex_model.specs.Places.{Place, IsPlace, moves, start_of}
 use Rattle.kex_model.specs.Survivors.{Agreed, HasShape}
 use Rattle.kex_model.specs.Answers.{empty, code_at, IsParse, HasParse, GreedyParse, Means, Says, at_byte, at_end, at_limit, stopped_answer}
@@ -115,7 +115,7 @@ kept_tree = pair leaf (pair (inner (pair (byte 97) (pair leaf (byte 98)))) (pair
 pub record RegisterIsWholeOrAsItWas : Type 0 where
   pub parses : Parses kept_register 11 kept_tree (97 ∷ 98 ∷ [])
   pub means : meant_bytes kept_register 11 kept_tree ≡ 112 ∷ 115 ∷ 97 ∷ 113 ∷ 98 ∷ []
-  pub begun : part kept_register (kind_at kept_register 11) kept_tree (Byte 97 ∷ []) ((122 ∷ []) ∷ [] ∷ []) ≡ record { bytes = 112 ∷ []; registers = (122 ∷ []) ∷ [] ∷ []; rest = None }
+  pub begun : part_meaning kept_register (kind_at kept_register 11) kept_tree (Byte 97 ∷ []) ((122 ∷ []) ∷ [] ∷ []) ≡ record { bytes = 112 ∷ []; registers = (122 ∷ []) ∷ [] ∷ []; rest = None }
 
 -- main := (~/x/ "y"){2,3}
 abbrev pub counted_loop : Grammar

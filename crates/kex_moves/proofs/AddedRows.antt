@@ -6,11 +6,11 @@ use Rattle.std.proofs.lemmas.List.Elements.{All-append, All-nil}
 use Rattle.std.proofs.lemmas.Option.{slice_get_within, get_or_from_slice_get}
 use Rattle.std.proofs.lemmas.Nat.{div-mul-add, pow_pos}
 use Rattle.kex_moves.specs.declared.edge.Edge.{Edge}
-use Rattle.kex_moves.specs.declared.edge.Kind.TheVariants.{Keep, Drop, Unknown}
+use Rattle.kex_moves.specs.declared.edge.EdgeKind.TheVariants.{Keep, Drop, Unknown}
 use Rattle.kex_moves.specs.declared.edges.Pair.{Pair}
 use Rattle.kex_moves.specs.Edges.{IsAtRow}
 use Rattle.kex_moves.proofs.KnownEdges.{front_of, behind_of, parts_of}
-use Rattle.kex_moves.specs.Known.{Known, IsEdge, IsOrdered, IsRowOf, Widens}
+use Rattle.kex_moves.specs.Known.{Known, IsEdge, IsOrdered, IsPairRow, Widens}
 
 pub widens_none : (k : Known) (state node : ℕ) → Widens k k state node
 widens_none k state node = record {
@@ -57,7 +57,7 @@ slice_get-last [] x = refl
 slice_get-last (z ∷ xs) x = slice_get-last xs x
 
 -- the row that was added last
-pub last_row : (k k' : Known) (p : Pair) (row : ℕ) → IsOrdered k → k'.pairs ≡ k.pairs ++ p ∷ [] → k'.width ≡ k.width → row ≡ length k.edges → IsRowOf k' row p
+pub last_row : (k k' : Known) (p : Pair) (row : ℕ) → IsOrdered k → k'.pairs ≡ k.pairs ++ p ∷ [] → k'.width ≡ k.width → row ≡ length k.edges → IsPairRow k' row p
 last_row k k' p row h e f g = record {
   number = length k.pairs;
   at = ap (λ l. slice_get l (length k.pairs)) e ∙ slice_get-last k.pairs p;
@@ -65,7 +65,7 @@ last_row k k' p row h e f g = record {
 }
 
 -- a row says its pair
-pub number_of_row : (k : Known) (row : ℕ) (p : Pair) → IsOrdered k → (h : IsRowOf k row p) → row / 2 ^ k.shift ≡ h.number
+pub number_of_row : (k : Known) (row : ℕ) (p : Pair) → IsOrdered k → (h : IsPairRow k row p) → row / 2 ^ k.shift ≡ h.number
 number_of_row k row p o h =
     let some : 0 < k.width = omega (arith, o.width, pow_pos k.shift) in
     ap₂ (λ r w. r / w) (h.begins ∙ more) (sym o.width) ∙ div-mul-add h.number k.width 0 some
@@ -73,8 +73,8 @@ number_of_row k row p o h =
     more : h.number * k.width ≡ h.number * k.width + 0
     more = omega arith
 
-pub pair_of_row : (k : Known) (row : ℕ) (p d : Pair) → IsOrdered k → IsRowOf k row p → get_or k.pairs (row / 2 ^ k.shift) d ≡ p
+pub pair_of_row : (k : Known) (row : ℕ) (p d : Pair) → IsOrdered k → IsPairRow k row p → get_or k.pairs (row / 2 ^ k.shift) d ≡ p
 pair_of_row k row p d o h = ap (λ i. get_or k.pairs i d) (number_of_row k row p o h) ∙ get_or_from_slice_get k.pairs h.number p d h.at
 
-pub number_in : (k : Known) (row : ℕ) (p : Pair) → IsOrdered k → IsRowOf k row p → row / 2 ^ k.shift < length k.pairs
+pub number_in : (k : Known) (row : ℕ) (p : Pair) → IsOrdered k → IsPairRow k row p → row / 2 ^ k.shift < length k.pairs
 number_in k row p o h = omega (arith, number_of_row k row p o h, slice_get_within k.pairs h.number p h.at)

@@ -6,28 +6,28 @@ use Rattle.std.proofs.lemmas.List.Elements.{All-append, All-get_or, All-from_get
 use Rattle.std.proofs.lemmas.Option.{slice_get_within, slice_get-get_or, get_or_from_slice_get}
 use Rattle.std.proofs.lemmas.Nat.{same_from_place}
 use Rattle.std.proofs.Math.Nat.{mul-le-mul_right, le-max_left, le-max_right}
-use Rattle.kex_model.specs.Acting.{State}
+use Rattle.kex_model.specs.Acting.{ActingState}
 use Rattle.kex_machine.specs.declared.MNode.{MNode}
 use Rattle.kex_machine.specs.Nodes.{Graph}
 use Rattle.kex_action.specs.declared.action.Action.{Action}
-use Rattle.kex_action.specs.Holdings.{Leads, with_bytes}
+use Rattle.kex_action.specs.Holdings.{LeadsByCode, with_bytes}
 use Rattle.kex_action.specs.Actions.{after_actions}
 use Rattle.kex_byteset.specs.Classes.{class_count}
 use Rattle.kex_sst.specs.declared.parts.Part.{Part}
 use Rattle.kex_sst.specs.declared.table.Transition.{Transition}
 use Rattle.kex_sst.specs.Tables.{Transducer, transition_of}
 use Rattle.kex_moves.specs.declared.edge.Edge.{Edge}
-use Rattle.kex_moves.specs.declared.edge.Kind.{Kind}
-use Rattle.kex_moves.specs.declared.edge.Kind.TheVariants.{Keep, Drop, Text, Acts, Opens, Plain, Unknown}
+use Rattle.kex_moves.specs.declared.edge.EdgeKind.{EdgeKind}
+use Rattle.kex_moves.specs.declared.edge.EdgeKind.TheVariants.{Keep, Drop, Text, Acts, Opens, Plain, Unknown}
 use Rattle.kex_moves.specs.declared.edges.Pair.{Pair}
 use Rattle.kex_moves.specs.Edges.{writes, is_written, is_known, has_acts, HasRoom, IsAtRow}
-use Rattle.kex_moves.specs.Runs.{HasRow, LeadsBack, HasRoomBelow, IsWithin}
-use Rattle.kex_moves.specs.Trails.{LeadsBelow}
-use Rattle.kex_moves.specs.Walks.{code_at, Takes, Learns}
-use Rattle.kex_moves.specs.Known.{Known, rows_of, IsEdge, IsOrdered, IsRowOf, HasRowFor, IsRight, AreRight, IsPairOf, IsKnown, IsLed, Grows, Widens, Lengthens, Forgets, Settles, makes}
+use Rattle.kex_moves.specs.Runs.{HasEdgeRow, LeadsBack, HasRoomBelow, AreEdgesWithin}
+use Rattle.kex_moves.specs.Trails.{EdgesLeadBelow}
+use Rattle.kex_moves.specs.Walks.{code_with_byte, TakesCode, Learns}
+use Rattle.kex_moves.specs.Known.{Known, rows_of, IsEdge, IsOrdered, IsPairRow, HasRowFor, IsRight, AreRight, IsPairOf, IsKnown, IsLed, KnownGrows, Widens, Lengthens, Forgets, Settles, makes}
 
 -- the edge of a row at a class is one of the edges
-pub index_in : (k : Known) (row : ℕ) (p : Pair) (class : ℕ) → IsOrdered k → IsRowOf k row p → class < k.width → row + class < length k.edges
+pub index_in : (k : Known) (row : ℕ) (p : Pair) (class : ℕ) → IsOrdered k → IsPairRow k row p → class < k.width → row + class < length k.edges
 index_in k row p class o r h =
     let n : r.number < length k.pairs = slice_get_within k.pairs r.number p r.at in
     let all : suc r.number * k.width ≤ length k.pairs * k.width = mul-le-mul_right k.width n in
@@ -35,23 +35,23 @@ index_in k row p class o r h =
     omega (arith, o.rows, r.begins, all, one, h)
 
 -- the row of a pair is within
-pub row_fits : (k : Known) (row : ℕ) (p : Pair) → IsOrdered k → IsRowOf k row p → row + k.width ≤ length k.edges
+pub row_fits : (k : Known) (row : ℕ) (p : Pair) → IsOrdered k → IsPairRow k row p → row + k.width ≤ length k.edges
 row_fits k row p o r =
     let n : r.number < length k.pairs = slice_get_within k.pairs r.number p r.at in
     let all : suc r.number * k.width ≤ length k.pairs * k.width = mul-le-mul_right k.width n in
     let one : suc r.number * k.width ≡ r.number * k.width + k.width = omega arith in
     omega (arith, o.rows, r.begins, all, one)
 
-has_row : (k : Known) (row : ℕ) → IsOrdered k → row + k.width ≤ length k.edges → HasRow k.classes k.edges row
+has_row : (k : Known) (row : ℕ) → IsOrdered k → row + k.width ≤ length k.edges → HasEdgeRow k.classes k.edges row
 has_row k row o h = λ i d lt. omega (arith, o.classes i d lt)
 
-pub row_in : (k : Known) (row : ℕ) (p : Pair) → IsOrdered k → IsRowOf k row p → HasRow k.classes k.edges row
+pub row_in : (k : Known) (row : ℕ) (p : Pair) → IsOrdered k → IsPairRow k row p → HasEdgeRow k.classes k.edges row
 row_in k row p o r = has_row k row o (row_fits k row p o r)
 
 pub back_in : (k : Known) (row : ℕ) (number : ℕ) → IsOrdered k → row ≡ number * k.width → LeadsBack k.classes k.edges row
 back_in k row number o begins = λ i d lt e at. subst (λ r. IsAtRow r e) (sym begins) (o.back number (get_or k.classes i d) e (o.classes i d lt) (ap (λ r. slice_get k.edges (r + get_or k.classes i d)) (sym begins) ∙ at))
 
-pub known_if : (k : Kind) → is_written k ≡ true → is_known k ≡ true
+pub known_if : (k : EdgeKind) → is_written k ≡ true → is_known k ≡ true
 known_if Keep h = refl
 known_if Drop h = refl
 known_if Text h = refl
@@ -64,10 +64,10 @@ known_if Unknown h = cc
 pub rooms_below : (k : Known) → IsOrdered k → HasRoomBelow (length k.text) k.edges
 rooms_below k o = λ i d lt written. (o.edges i d lt).room written
 
-pub leads_below : (k : Known) → IsOrdered k → LeadsBelow k.width k.edges
+pub leads_below : (k : Known) → IsOrdered k → EdgesLeadBelow k.width k.edges
 leads_below k o = λ i d lt written. (o.edges i d lt).next (known_if (get_or k.edges i d).kind written)
 
-pub rows_within : (k : Known) → IsOrdered k → IsWithin (rows_of k)
+pub rows_within : (k : Known) → IsOrdered k → AreEdgesWithin (rows_of k)
 rows_within k o = record {
   next = λ i d lt written.
       let e = get_or k.edges i d in
@@ -103,7 +103,7 @@ parts_of (suc i) zero = inr (omega arith)
 parts_of (suc i) (suc n) = ⊎_elim (λ h. inl (omega arith)) (λ h. inr (omega arith)) (parts_of i n)
 
 -- an edge is as right with other rows and edges behind the old ones, where what it makes is the same
-right_moved : (t : Transducer) (nodes : List MNode) (k k' : Known) (p : Pair) (class : ℕ) (e : Edge) → ((row : ℕ) (q : Pair) → IsRowOf k row q → IsRowOf k' row q) → ((b : ℕ) (s : State) → makes nodes k e b s ≡ makes nodes k' e b s) → IsRight t nodes k p class e → IsRight t nodes k' p class e
+right_moved : (t : Transducer) (nodes : List MNode) (k k' : Known) (p : Pair) (class : ℕ) (e : Edge) → ((row : ℕ) (q : Pair) → IsPairRow k row q → IsPairRow k' row q) → ((b : ℕ) (s : ActingState) → makes nodes k e b s ≡ makes nodes k' e b s) → IsRight t nodes k p class e → IsRight t nodes k' p class e
 right_moved t nodes k k' p class e rows same r = record {
   by = r.by;
   goes = r.goes;
@@ -111,7 +111,7 @@ right_moved t nodes k k' p class e rows same r = record {
   to = r.to;
   row = rows e.next r.to r.row;
   target = r.target;
-  does = λ b c takes before. subst (λ z. Leads nodes p.node before (code_at b r.by.update.out) r.to.node z) (same b before) (r.does b c takes before);
+  does = λ b c takes before. subst (λ z. LeadsByCode nodes p.node before (code_with_byte b r.by.update.out) r.to.node z) (same b before) (r.does b c takes before);
   takes = r.takes;
   opens = λ is b s. sym (same b s) ∙ r.opens is b s;
 }
@@ -120,7 +120,7 @@ right_moved t nodes k k' p class e rows same r = record {
 abbrev wide : Known → List Pair → List Edge → Known
 wide k pairs edges = record { classes = k.classes; width = k.width; shift = k.shift; pairs = k.pairs ++ pairs; edges = k.edges ++ edges; text = k.text; acts = k.acts }
 
-rows_wide : (k : Known) (pairs : List Pair) (edges : List Edge) (row : ℕ) (p : Pair) → IsRowOf k row p → IsRowOf (wide k pairs edges) row p
+rows_wide : (k : Known) (pairs : List Pair) (edges : List Edge) (row : ℕ) (p : Pair) → IsPairRow k row p → IsPairRow (wide k pairs edges) row p
 rows_wide k pairs edges row p r = record { number = r.number; at = some_front k.pairs pairs r.number p r.at; begins = r.begins }
 
 right_wide : (t : Transducer) (nodes : List MNode) (k : Known) (pairs : List Pair) (edges : List Edge) → IsOrdered k → All (λ (e : Edge). e.kind ≡ Unknown) edges → AreRight t nodes k → AreRight t nodes (wide k pairs edges)
@@ -155,14 +155,14 @@ known_wider t g old new state node h w o s n = subst (λ k. IsKnown t g k) (sym 
       node = subst (λ x. x < length g.nodes) (sym e.1) n;
     }
 
-pub grows_wider : (old new : Known) (state node : ℕ) → Widens old new state node → Grows old new
-grows_wider old new state node w = subst (λ k. Grows old k) (sym w.wider) (record { width = refl; rows = rows_wide old w.pairs w.edges })
+pub grows_wider : (old new : Known) (state node : ℕ) → Widens old new state node → KnownGrows old new
+grows_wider old new state node w = subst (λ k. KnownGrows old k) (sym w.wider) (record { width = refl; rows = rows_wide old w.pairs w.edges })
 
 -- texts and actions that are added
 abbrev long : Known → List ℕ → List Action → Known
 long k text acts = record { classes = k.classes; width = k.width; shift = k.shift; pairs = k.pairs; edges = k.edges; text = k.text ++ text; acts = k.acts ++ acts }
 
-rows_long : (k : Known) (text : List ℕ) (acts : List Action) (row : ℕ) (p : Pair) → IsRowOf k row p → IsRowOf (long k text acts) row p
+rows_long : (k : Known) (text : List ℕ) (acts : List Action) (row : ℕ) (p : Pair) → IsPairRow k row p → IsPairRow (long k text acts) row p
 rows_long k text acts row p r = record { number = r.number; at = r.at; begins = r.begins }
 
 writes_long : (text more : List ℕ) (e : Edge) (b : ℕ) → HasRoom (length text) e → writes text e b ≡ writes (text ++ more) e b
@@ -174,7 +174,7 @@ acts_long : (acts more : List Action) (e : Edge) → e.from + e.adds ≤ length 
 acts_long acts more e h = sym (ap (take e.adds) (drop-append-le e.from acts more (omega arith)) ∙ take-append-le e.adds (drop e.from acts) more (omega (arith, length-drop e.from acts)))
 
 -- what is known is written, or actions
-acts_unless : (k : Kind) → is_known k ≡ true → is_written k ≡ false → has_acts k ≡ true
+acts_unless : (k : EdgeKind) → is_known k ≡ true → is_written k ≡ false → has_acts k ≡ true
 acts_unless Keep h w = cc
 acts_unless Drop h w = cc
 acts_unless Text h w = cc
@@ -183,7 +183,7 @@ acts_unless Opens h w = refl
 acts_unless Plain h w = cc
 acts_unless Unknown h w = cc
 
-makes_long : (nodes : List MNode) (k : Known) (text : List ℕ) (acts : List Action) (e : Edge) (b : ℕ) (s : State) → IsEdge k e → is_known e.kind ≡ true → makes nodes k e b s ≡ makes nodes (long k text acts) e b s
+makes_long : (nodes : List MNode) (k : Known) (text : List ℕ) (acts : List Action) (e : Edge) (b : ℕ) (s : ActingState) → IsEdge k e → is_known e.kind ≡ true → makes nodes k e b s ≡ makes nodes (long k text acts) e b s
 makes_long nodes k text acts e b s h known = by (is_written e.kind) refl
   where
     by : (x : Bool) → is_written e.kind ≡ x → makes nodes k e b s ≡ makes nodes (long k text acts) e b s
@@ -204,12 +204,12 @@ known_longer t g old new h l o = subst (λ k. IsKnown t g k) (sym l.longer) (rec
   right = λ number class p e at lt is known. right_moved t g.nodes old (long old l.text l.acts) p class e (rows_long old l.text l.acts) (λ b s. makes_long g.nodes old l.text l.acts e b s (at_of (IsEdge old) old.edges (number * old.width + class) e h.ordered.edges is) known) (h.right number class p e at lt is known);
 })
 
-pub grows_longer : (old mid new : Known) → Grows old mid → Lengthens mid new → Grows old new
-grows_longer old mid new g l = subst (λ k. Grows old k) (sym l.longer) (record { width = g.width; rows = λ row p r. rows_long mid l.text l.acts row p (g.rows row p r) })
+pub grows_longer : (old mid new : Known) → KnownGrows old mid → Lengthens mid new → KnownGrows old new
+grows_longer old mid new g l = subst (λ k. KnownGrows old k) (sym l.longer) (record { width = g.width; rows = λ row p r. rows_long mid l.text l.acts row p (g.rows row p r) })
 
 pub led : (nodes : List MNode) (mid new : Known) (state node next : ℕ) (actions : List Action) (e : Edge) → IsOrdered new → HasRowFor mid next state node → Lengthens mid new → Settles nodes new next (λ b. after_actions nodes b actions) e → IsLed nodes new state node actions e
 led nodes mid new state node next actions e o r l s =
-    let row = λ (known : is_known e.kind ≡ true). subst (λ x. IsRowOf new x r.0) (sym (s.goes known)) (subst (λ k. IsRowOf k next r.0) (sym l.longer) (rows_long mid l.text l.acts next r.0 r.1)) in
+    let row = λ (known : is_known e.kind ≡ true). subst (λ x. IsPairRow new x r.0) (sym (s.goes known)) (subst (λ k. IsPairRow k next r.0) (sym l.longer) (rows_long mid l.text l.acts next r.0 r.1)) in
     record {
       edge = record { next = λ known. row_fits new e.next r.0 o (row known); begins = λ known. ((row known).number, (row known).begins); room = s.room; acts = s.acts };
       row = λ known. (r.0, row known, r.2, r.3);
@@ -229,7 +229,7 @@ led_silent nodes k state node actions e silent = record {
     never : is_known e.kind ≡ true → ⊥
     never known = let clash : true ≡ false = sym known ∙ silent in cc
 
-    known_acts : (k : Kind) → has_acts k ≡ true → is_known k ≡ true
+    known_acts : (k : EdgeKind) → has_acts k ≡ true → is_known k ≡ true
     known_acts Keep h = cc
     known_acts Drop h = cc
     known_acts Text h = cc
@@ -249,13 +249,13 @@ slice_get-set (z ∷ xs) (suc i) (suc j) x y e = elim (slice_get-set xs i j x y 
 abbrev with_edges : Known → List Edge → Known
 with_edges k edges = record { classes = k.classes; width = k.width; shift = k.shift; pairs = k.pairs; edges = edges; text = k.text; acts = k.acts }
 
-rows_put : (k : Known) (edges : List Edge) (row : ℕ) (p : Pair) → IsRowOf k row p → IsRowOf (with_edges k edges) row p
+rows_put : (k : Known) (edges : List Edge) (row : ℕ) (p : Pair) → IsPairRow k row p → IsPairRow (with_edges k edges) row p
 rows_put k edges row p r = record { number = r.number; at = r.at; begins = r.begins }
 
 some_same : {A : Type 0} (x y : A) (o : Option A) → o ≡ Some x → o ≡ Some y → x ≡ y
 some_same x y o e f = let g : Some x ≡ Some y = sym e ∙ f in cc
 
-pub known_put : (t : Transducer) (g : Graph) (k new : Known) (row class : ℕ) (p : Pair) (e : Edge) → IsKnown t g k → IsRowOf k row p → class < k.width → (is_known e.kind ≡ true → IsRight t g.nodes k p class e) → IsOrdered new → new ≡ with_edges k (set k.edges (row + class) e) → IsKnown t g new
+pub known_put : (t : Transducer) (g : Graph) (k new : Known) (row class : ℕ) (p : Pair) (e : Edge) → IsKnown t g k → IsPairRow k row p → class < k.width → (is_known e.kind ≡ true → IsRight t g.nodes k p class e) → IsOrdered new → new ≡ with_edges k (set k.edges (row + class) e) → IsKnown t g new
 known_put t g k new row class p e h r lt right o is = subst (λ x. IsKnown t g x) (sym is) (record {
   ordered = subst (λ x. IsOrdered x) is o;
   classes = h.classes;
@@ -273,7 +273,7 @@ known_put t g k new row class p e h r lt right o is = subst (λ x. IsKnown t g x
         subst (λ x. IsRight t g.nodes k p' class' x) same (subst (λ x. IsRight t g.nodes k p' x e) both.1 (subst (λ x. IsRight t g.nodes k x class e) pair (right (ap (λ (x : Edge). is_known x.kind) same ∙ known))))
 
 -- an edge that was right is right as it stands in a row
-makes_at_row : (nodes : List MNode) (k : Known) (e : Edge) (b : ℕ) (s : State) → is_written e.kind ≡ true → makes nodes k e b s ≡ with_bytes (writes k.text e b) s
+makes_at_row : (nodes : List MNode) (k : Known) (e : Edge) (b : ℕ) (s : ActingState) → is_written e.kind ≡ true → makes nodes k e b s ≡ with_bytes (writes k.text e b) s
 makes_at_row nodes k e b s w = ap (λ x. cond x (with_bytes (writes k.text e b) s) (after_actions nodes b (take e.adds (drop e.from k.acts)) s)) w
 
 abbrev as_text : Edge → Edge
@@ -297,13 +297,13 @@ right_at_row t nodes k p class e x (inr h) right known =
       to = r.to;
       row = r.row;
       target = r.target;
-      does = λ b c takes before. subst (λ z. Leads nodes p.node before (code_at b r.by.update.out) r.to.node z) (makes_at_row nodes k e b before h.0) (r.does b c takes before);
+      does = λ b c takes before. subst (λ z. LeadsByCode nodes p.node before (code_with_byte b r.by.update.out) r.to.node z) (makes_at_row nodes k e b before h.0) (r.does b c takes before);
       takes = r.takes;
       opens = λ q. cc;
     })
 
-pub grows_put : (old mid new : Known) (i : ℕ) (e : Edge) → Grows old mid → new ≡ with_edges mid (set mid.edges i e) → Grows old new
-grows_put old mid new i e g is = subst (λ k. Grows old k) (sym is) (record { width = g.width; rows = λ row p r. rows_put mid (set mid.edges i e) row p (g.rows row p r) })
+pub grows_put : (old mid new : Known) (i : ℕ) (e : Edge) → KnownGrows old mid → new ≡ with_edges mid (set mid.edges i e) → KnownGrows old new
+grows_put old mid new i e g is = subst (λ k. KnownGrows old k) (sym is) (record { width = g.width; rows = λ row p r. rows_put mid (set mid.edges i e) row p (g.rows row p r) })
 
 -- where there is no row all is right
 pub known_none : (t : Transducer) (g : Graph) (k : Known) → IsOrdered k → k.classes ≡ t.classes → k.pairs ≡ [] → IsKnown t g k
@@ -329,8 +329,8 @@ right_led t nodes k p class by out node actions e goes bare same l h known =
       to = r.0;
       row = r.1;
       target = r.2;
-      does = λ b c takes before. subst (λ z. Leads nodes p.node before (code_at b by.update.out) r.0.node z) (h.does known b before) (subst (λ n. Leads nodes p.node before (code_at b by.update.out) n (after_actions nodes b actions before)) (sym r.3) (learns.does b c takes before));
-      takes = λ b c takes. subst (λ n. Takes nodes n c) (sym r.3) (learns.takes b c takes);
+      does = λ b c takes before. subst (λ z. LeadsByCode nodes p.node before (code_with_byte b by.update.out) r.0.node z) (h.does known b before) (subst (λ n. LeadsByCode nodes p.node before (code_with_byte b by.update.out) n (after_actions nodes b actions before)) (sym r.3) (learns.does b c takes before));
+      takes = λ b c takes. subst (λ n. TakesCode nodes n c) (sym r.3) (learns.takes b c takes);
       opens = h.opens;
     }
 
@@ -340,7 +340,7 @@ class_below [] b c e = cc
 class_below (x ∷ xs) zero c e = let same : x ≡ c = cc in omega (arith, same, le-max_left (suc x) (class_count xs))
 class_below (x ∷ xs) (suc b) c e = omega (arith, class_below xs b c e, le-max_right (suc x) (class_count xs))
 
-pub pair_known : (t : Transducer) (g : Graph) (k : Known) (row : ℕ) (p q : Pair) → IsKnown t g k → IsRowOf k row p → q ≡ p → IsPairOf t g q
+pub pair_known : (t : Transducer) (g : Graph) (k : Known) (row : ℕ) (p q : Pair) → IsKnown t g k → IsPairRow k row p → q ≡ p → IsPairOf t g q
 pair_known t g k row p q h r e = subst (λ x. IsPairOf t g x) (sym e) (at_of (IsPairOf t g) k.pairs r.number p h.pairs r.at)
 
 pub none_left : {A : Type 0} (xs : List A) → length xs ≡ 0 → xs ≡ []

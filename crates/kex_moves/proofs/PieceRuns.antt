@@ -3,11 +3,11 @@ use Rattle.std.proofs.Common.{◌≡◌, ℕ, zero, suc, ◌<◌, ◌+◌, true,
 use Rattle.std.specs.Prelude.{slice_get}
 use Rattle.std.proofs.lemmas.List.{length-take-le}
 use Rattle.kex_code.specs.declared.symbol.Symbol.{Symbol}
-use Rattle.kex_model.specs.Acting.{State}
+use Rattle.kex_model.specs.Acting.{ActingState}
 use Rattle.kex_machine.specs.declared.MNode.{MNode}
 use Rattle.kex_machine.specs.Nodes.{Graph}
 use Rattle.kex_action.specs.declared.sheet.Sheet.{Sheet}
-use Rattle.kex_action.specs.Holdings.{Leads, Does, with_bytes, state_of}
+use Rattle.kex_action.specs.Holdings.{LeadsByCode, Does, with_bytes, state_of}
 use Rattle.kex_action.specs.Actors.{Position, BeginsRun, WentOn, TookAll}
 use Rattle.kex_action.specs.Actions.{after_actions}
 use Rattle.kex_action.specs.Sheets.{with_marked_bytes, AreMarks, IsSheet, IsBlank, state_with}
@@ -18,25 +18,25 @@ use Rattle.kex_sst.specs.declared.parts.Part.{Part}
 use Rattle.kex_sst.specs.declared.table.Transition.{Transition}
 use Rattle.kex_sst.specs.Parts.{value, parts_code}
 use Rattle.kex_sst.specs.Tables.{transition_of, transition_if}
-use Rattle.kex_script.specs.declared.piece.Piece.{Piece}
-use Rattle.kex_script.specs.Pieces.{word_of, code_over}
+use Rattle.kex_script.specs.declared.piece.ByteWord.{ByteWord}
+use Rattle.kex_script.specs.Pieces.{word_code, code_over}
 use Rattle.kex_moves.specs.declared.edge.Edge.{Edge}
-use Rattle.kex_moves.specs.declared.edge.Kind.TheVariants.{Acts}
+use Rattle.kex_moves.specs.declared.edge.EdgeKind.TheVariants.{Acts}
 use Rattle.kex_moves.specs.declared.edges.Pair.{Pair}
 use Rattle.kex_moves.specs.Edges.{writes, is_written, is_known}
-use Rattle.kex_moves.specs.Runs.{Step}
-use Rattle.kex_moves.specs.Walks.{Takes, code_at}
-use Rattle.kex_moves.specs.Known.{Known, IsRowOf, IsRight, IsKnown, makes}
+use Rattle.kex_moves.specs.Runs.{RunStep}
+use Rattle.kex_moves.specs.Walks.{TakesCode, code_with_byte}
+use Rattle.kex_moves.specs.Known.{Known, IsPairRow, IsRight, IsKnown, makes}
 use Rattle.kex_moves.specs.Along.{with_sheet, written_with}
 use Rattle.kex_moves.specs.Trails.{IsTrail}
-use Rattle.kex_moves.specs.Speech.{says_word, table_of, Performs, SaidWith, SaidOn}
+use Rattle.kex_moves.specs.Speech.{says_word, words_table, Performs, SaidWith, SaidOn}
 use Rattle.kex_moves.proofs.KnownEdges.{known_if, pair_known}
 use Rattle.kex_moves.proofs.PlacedTexts.{adding_more, adding_none}
 use Rattle.kex_moves.proofs.EdgeRuns.{right_at, went_none, went_more, takes_run}
 use Rattle.kex_moves.proofs.SheetRuns.{moved, blank_position, blank_written}
 
 -- a word's transition
-pub by_word : (words : List (List Part)) (class : ℕ) (w : List Part) → slice_get words class ≡ Some w → transition_of (table_of words) 0 class ≡ says_word w
+pub by_word : (words : List (List Part)) (class : ℕ) (w : List Part) → slice_get words class ≡ Some w → transition_of (words_table words) 0 class ≡ says_word w
 by_word words class w e = at words class e
   where
     at : (ws : List (List Part)) (i : ℕ) → slice_get ws i ≡ Some w → transition_if (slice_get (map says_word ws) i) ≡ says_word w
@@ -45,7 +45,7 @@ by_word words class w e = at words class e
     at (x ∷ ws) (suc i) e = at ws i e
 
 -- says the word
-says : (words : List (List Part)) (class : ℕ) (by : Transition) → transition_of (table_of words) 0 class ≡ Some by → by.update.out ≡ get_or words class []
+says : (words : List (List Part)) (class : ℕ) (by : Transition) → transition_of (words_table words) 0 class ≡ Some by → by.update.out ≡ get_or words class []
 says words class by e = at words class e
   where
     at : (ws : List (List Part)) (i : ℕ) → transition_if (slice_get (map says_word ws) i) ≡ Some by → by.update.out ≡ get_or ws i []
@@ -54,37 +54,37 @@ says words class by e = at words class e
     at (x ∷ ws) (suc i) e = at ws i e
 
 -- the edge of a row at a piece is right, and is that of its word
-record Fits (words : List (List Part)) (nodes : List MNode) (k : Known) (p : Pair) (q : Piece) (e : Edge) : Type 0 where
-  pub right : IsRight (table_of words) nodes k p q.word e
-  pub code : code_at q.byte right.by.update.out ≡ word_of words q
+record Fits (words : List (List Part)) (nodes : List MNode) (k : Known) (p : Pair) (q : ByteWord) (e : Edge) : Type 0 where
+  pub right : IsRight (words_table words) nodes k p q.word e
+  pub code : code_with_byte q.byte right.by.update.out ≡ word_code words q
 
-fits : (words : List (List Part)) (g : Graph) (k : Known) (row : ℕ) (p : Pair) (q : Piece) (e : Edge) → IsKnown (table_of words) g k → IsRowOf k row p → q.word < k.width → slice_get k.edges (row + q.word) ≡ Some e → is_known e.kind ≡ true → Fits words g.nodes k p q e
+fits : (words : List (List Part)) (g : Graph) (k : Known) (row : ℕ) (p : Pair) (q : ByteWord) (e : Edge) → IsKnown (words_table words) g k → IsPairRow k row p → q.word < k.width → slice_get k.edges (row + q.word) ≡ Some e → is_known e.kind ≡ true → Fits words g.nodes k p q e
 fits words g k row p q e h r lt is known =
-    let right = right_at (table_of words) g k row q.word p e h r lt is known in
-    let state : p.state < 1 = (pair_known (table_of words) g k row p p h r refl).state in
+    let right = right_at (words_table words) g k row q.word p e h r lt is known in
+    let state : p.state < 1 = (pair_known (words_table words) g k row p p h r refl).state in
     let first : p.state ≡ 0 = omega arith in
-    record { right = right; code = ap (code_at q.byte) (says words q.word right.by (ap (λ s. transition_of (table_of words) s q.word) (sym first) ∙ right.goes)) }
+    record { right = right; code = ap (code_with_byte q.byte) (says words q.word right.by (ap (λ s. transition_of (words_table words) s q.word) (sym first) ∙ right.goes)) }
 
 -- what a trail does, from the row of a pair
-record Trailed (words : List (List Part)) (nodes : List MNode) (k : Known) (p : Pair) (ps : List Piece) (s z : Step) : Type 0 where
+record Trailed (words : List (List Part)) (nodes : List MNode) (k : Known) (p : Pair) (ps : List ByteWord) (s z : RunStep) : Type 0 where
   pub to : Pair
-  pub row : IsRowOf k z.row to
+  pub row : IsPairRow k z.row to
   pub bytes : List ℕ
   pub written : z.writes ≡ s.writes ++ bytes
-  pub does : (x : List Symbol) → Takes nodes p.node (code_over words ps ++ x) → Does nodes p.node (code_over words ps) to.node (with_bytes bytes)
-  pub takes : (x : List Symbol) → Takes nodes p.node (code_over words ps ++ x) → Takes nodes to.node x
+  pub does : (x : List Symbol) → TakesCode nodes p.node (code_over words ps ++ x) → Does nodes p.node (code_over words ps) to.node (with_bytes bytes)
+  pub takes : (x : List Symbol) → TakesCode nodes p.node (code_over words ps ++ x) → TakesCode nodes to.node x
 
-trailed_none : (words : List (List Part)) (nodes : List MNode) (k : Known) (p : Pair) (s : Step) → IsRowOf k s.row p → Trailed words nodes k p [] s s
+trailed_none : (words : List (List Part)) (nodes : List MNode) (k : Known) (p : Pair) (s : RunStep) → IsPairRow k s.row p → Trailed words nodes k p [] s s
 trailed_none words nodes k p s r = record {
   to = p;
   row = r;
   bytes = [];
   written = sym (append-nil s.writes);
-  does = λ x takes before. subst (λ z. Leads nodes p.node before [] p.node z) (adding_none before) (stays nodes p.node before);
+  does = λ x takes before. subst (λ z. LeadsByCode nodes p.node before [] p.node z) (adding_none before) (stays nodes p.node before);
   takes = λ x takes. takes;
 }
 
-trailed_more : (words : List (List Part)) (nodes : List MNode) (k : Known) (p : Pair) (q : Piece) (qs : List Piece) (e : Edge) (s z : Step) → is_written e.kind ≡ true → (f : Fits words nodes k p q e) → Trailed words nodes k f.right.to qs (record { row = e.next; writes = s.writes ++ writes k.text e q.byte }) z → Trailed words nodes k p (q ∷ qs) s z
+trailed_more : (words : List (List Part)) (nodes : List MNode) (k : Known) (p : Pair) (q : ByteWord) (qs : List ByteWord) (e : Edge) (s z : RunStep) → is_written e.kind ≡ true → (f : Fits words nodes k p q e) → Trailed words nodes k f.right.to qs (record { row = e.next; writes = s.writes ++ writes k.text e q.byte }) z → Trailed words nodes k p (q ∷ qs) s z
 trailed_more words nodes k p q qs e s z written f more = record {
   to = more.to;
   row = more.row;
@@ -93,8 +93,8 @@ trailed_more words nodes k p q qs e s z written f more = record {
   does = λ x takes before.
       let here = at x takes in
       let middle = with_bytes bytes before in
-      let one = subst (λ c. Leads nodes p.node before c f.right.to.node middle) f.code (subst (λ z. Leads nodes p.node before (code_at q.byte f.right.by.update.out) f.right.to.node z) (made before) (f.right.does q.byte (rest ++ x) here before)) in
-      subst (λ z. Leads nodes p.node before (first ++ rest) more.to.node z) (adding_more bytes more.bytes before) (leads_on nodes p.node f.right.to.node more.to.node first rest before middle (with_bytes more.bytes middle) one (more.does x (f.right.takes q.byte (rest ++ x) here) middle));
+      let one = subst (λ c. LeadsByCode nodes p.node before c f.right.to.node middle) f.code (subst (λ z. LeadsByCode nodes p.node before (code_with_byte q.byte f.right.by.update.out) f.right.to.node z) (made before) (f.right.does q.byte (rest ++ x) here before)) in
+      subst (λ z. LeadsByCode nodes p.node before (first ++ rest) more.to.node z) (adding_more bytes more.bytes before) (leads_on nodes p.node f.right.to.node more.to.node first rest before middle (with_bytes more.bytes middle) one (more.does x (f.right.takes q.byte (rest ++ x) here) middle));
   takes = λ x takes. more.takes x (f.right.takes q.byte (rest ++ x) (at x takes));
 }
   where
@@ -102,28 +102,28 @@ trailed_more words nodes k p q qs e s z written f more = record {
     bytes = writes k.text e q.byte
 
     first : List Symbol
-    first = word_of words q
+    first = word_code words q
 
     rest : List Symbol
     rest = code_over words qs
 
-    made : (before : State) → makes nodes k e q.byte before ≡ with_bytes bytes before
+    made : (before : ActingState) → makes nodes k e q.byte before ≡ with_bytes bytes before
     made before = ap (λ x. cond x (with_bytes bytes before) (after_actions nodes q.byte (take e.adds (drop e.from k.acts)) before)) written
 
-    at : (x : List Symbol) → Takes nodes p.node ((first ++ rest) ++ x) → Takes nodes p.node (code_at q.byte f.right.by.update.out ++ (rest ++ x))
-    at x takes = subst (λ c. Takes nodes p.node (c ++ (rest ++ x))) (sym f.code) (subst (λ l. Takes nodes p.node l) (append_assoc first rest x) takes)
+    at : (x : List Symbol) → TakesCode nodes p.node ((first ++ rest) ++ x) → TakesCode nodes p.node (code_with_byte q.byte f.right.by.update.out ++ (rest ++ x))
+    at x takes = subst (λ c. TakesCode nodes p.node (c ++ (rest ++ x))) (sym f.code) (subst (λ l. TakesCode nodes p.node l) (append_assoc first rest x) takes)
 
-trailed : (words : List (List Part)) (g : Graph) (k : Known) (ps : List Piece) (s z : Step) (p : Pair) → IsKnown (table_of words) g k → IsRowOf k s.row p → IsTrail k.edges k.text k.width ps s z → Trailed words g.nodes k p ps s z
-trailed words g k [] s z p h r same = subst (λ (y : Step). Trailed words g.nodes k p [] s y) (sym same) (trailed_none words g.nodes k p s r)
+trailed : (words : List (List Part)) (g : Graph) (k : Known) (ps : List ByteWord) (s z : RunStep) (p : Pair) → IsKnown (words_table words) g k → IsPairRow k s.row p → IsTrail k.edges k.text k.width ps s z → Trailed words g.nodes k p ps s z
+trailed words g k [] s z p h r same = subst (λ (y : RunStep). Trailed words g.nodes k p [] s y) (sym same) (trailed_none words g.nodes k p s r)
 trailed words g k (q ∷ qs) s z p h r trail =
     let e = trail.0 in
     let f = fits words g k s.row p q e h r trail.1.within trail.1.edge (known_if e.kind trail.1.written) in
     trailed_more words g.nodes k p q qs e s z trail.1.written f (trailed words g k qs (record { row = e.next; writes = s.writes ++ writes k.text e q.byte }) z f.right.to h f.right.row trail.2)
 
 -- what is spelled by one list and another
-pub spelled_more : (words : List (List Part)) (ps qs : List Piece) → code_over words (ps ++ qs) ≡ code_over words ps ++ code_over words qs
+pub spelled_more : (words : List (List Part)) (ps qs : List ByteWord) → code_over words (ps ++ qs) ≡ code_over words ps ++ code_over words qs
 spelled_more words [] qs = refl
-spelled_more words (p ∷ ps) qs = ap (λ l. word_of words p ++ l) (spelled_more words ps qs) ∙ sym (append_assoc (word_of words p) (code_over words ps) (code_over words qs))
+spelled_more words (p ∷ ps) qs = ap (λ l. word_code words p ++ l) (spelled_more words ps qs) ∙ sym (append_assoc (word_code words p) (code_over words ps) (code_over words qs))
 
 -- a part more of a word
 pub meant_more : (b : ℕ) (xs : List Part) (x : Part) → parts_code [] b (xs ++ x ∷ []) ≡ parts_code [] b xs ++ value [] b x
@@ -146,11 +146,11 @@ pub performs_took : (old new : Position) (c : List Symbol) (x y : List ℕ) → 
 performs_took old new c x y t = λ given code w h run. t.went
 
 -- where it can be taken from here, on the way to anything
-performs_taken : (old new : Position) (c : List Symbol) (x y : List ℕ) → ((d : List Symbol) → Takes old.machine.nodes old.at (c ++ d) → WentOn old new c c x y) → Performs old new c x y
+performs_taken : (old new : Position) (c : List Symbol) (x y : List ℕ) → ((d : List Symbol) → TakesCode old.machine.nodes old.at (c ++ d) → WentOn old new c c x y) → Performs old new c x y
 performs_taken old new c x y f = λ given code w h run. let t = takes_run old given code c w h run in f t.0 t.1
 
 -- along a trail
-pub said_trail : (words : List (List Part)) (k : Known) (a : Position) (s s' : Sheet) (row row' : ℕ) (ps : List Piece) (out : List ℕ) → IsKnown (table_of words) a.machine k → IsSheet s → s'.marks.items ≡ s.marks.items → IsTrail k.edges k.text k.width ps (record { row = row; writes = take s.used s.bytes.items }) (record { row = row'; writes = take s'.used s'.bytes.items }) → SaidOn k a a s s' row row' (code_over words ps) out out
+pub said_trail : (words : List (List Part)) (k : Known) (a : Position) (s s' : Sheet) (row row' : ℕ) (ps : List ByteWord) (out : List ℕ) → IsKnown (words_table words) a.machine k → IsSheet s → s'.marks.items ≡ s.marks.items → IsTrail k.edges k.text k.width ps (record { row = row; writes = take s.used s.bytes.items }) (record { row = row'; writes = take s'.used s'.bytes.items }) → SaidOn k a a s s' row row' (code_over words ps) out out
 said_trail words k a s s' row row' ps out known sheet marks trail p r =
     let before = take s.used s.bytes.items in
     let t = trailed words a.machine k ps (record { row = row; writes = before }) (record { row = row'; writes = take s'.used s'.bytes.items }) p known r trail in
@@ -164,20 +164,20 @@ said_trail words k a s s' row row' ps out known sheet marks trail p r =
     }
 
 -- where an edge's actions are done
-pub said_acts : (words : List (List Part)) (k : Known) (a b : Position) (s s' : Sheet) (row : ℕ) (q : Piece) (e : Edge) (x y : List ℕ) → IsKnown (table_of words) a.machine k → q.word < k.width → slice_get k.edges (row + q.word) ≡ Some e → e.kind ≡ Acts → b.machine ≡ a.machine → b.refused ≡ a.refused → state_with s' y b.holding ≡ after_actions a.machine.nodes q.byte (take e.adds (drop e.from k.acts)) (state_with s x a.holding) → SaidOn k a b s s' row e.next (code_over words (q ∷ [])) x y
+pub said_acts : (words : List (List Part)) (k : Known) (a b : Position) (s s' : Sheet) (row : ℕ) (q : ByteWord) (e : Edge) (x y : List ℕ) → IsKnown (words_table words) a.machine k → q.word < k.width → slice_get k.edges (row + q.word) ≡ Some e → e.kind ≡ Acts → b.machine ≡ a.machine → b.refused ≡ a.refused → state_with s' y b.holding ≡ after_actions a.machine.nodes q.byte (take e.adds (drop e.from k.acts)) (state_with s x a.holding) → SaidOn k a b s s' row e.next (code_over words (q ∷ [])) x y
 said_acts words k a b s s' row q e x y known lt is acts machine refused did p r =
     let nodes = a.machine.nodes in
     let f = fits words a.machine k row p q e known r lt is (ap is_known acts) in
     let actions = take e.adds (drop e.from k.acts) in
-    let code = code_at q.byte f.right.by.update.out in
-    let whole : code ≡ word_of words q ++ [] = f.code ∙ sym (append-nil (word_of words q)) in
-    let made = λ (before : State). ap (λ v. cond v (with_bytes (writes k.text e q.byte) before) (after_actions nodes q.byte actions before)) (ap is_written acts) in
+    let code = code_with_byte q.byte f.right.by.update.out in
+    let whole : code ≡ word_code words q ++ [] = f.code ∙ sym (append-nil (word_code words q)) in
+    let made = λ (before : ActingState). ap (λ v. cond v (with_bytes (writes k.text e q.byte) before) (after_actions nodes q.byte actions before)) (ap is_written acts) in
     record {
       to = f.right.to;
       row_of = f.right.row;
-      performs = performs_taken (with_sheet a p.node s x) (with_sheet b f.right.to.node s' y) (word_of words q ++ []) (written_with a s x) (written_with b s' y) (λ d takes. moved a b p.node f.right.to.node s s' x y (after_actions nodes q.byte actions) machine refused did (word_of words q ++ []) (λ before.
-          let here = subst (λ c. Takes nodes p.node (c ++ d)) (sym whole) takes in
-          subst (λ c. Leads nodes p.node before c f.right.to.node (after_actions nodes q.byte actions before)) whole (subst (λ z. Leads nodes p.node before code f.right.to.node z) (made before) (f.right.does q.byte d here before))));
+      performs = performs_taken (with_sheet a p.node s x) (with_sheet b f.right.to.node s' y) (word_code words q ++ []) (written_with a s x) (written_with b s' y) (λ d takes. moved a b p.node f.right.to.node s s' x y (after_actions nodes q.byte actions) machine refused did (word_code words q ++ []) (λ before.
+          let here = subst (λ c. TakesCode nodes p.node (c ++ d)) (sym whole) takes in
+          subst (λ c. LeadsByCode nodes p.node before c f.right.to.node (after_actions nodes q.byte actions before)) whole (subst (λ z. LeadsByCode nodes p.node before code f.right.to.node z) (made before) (f.right.does q.byte d here before))));
     }
 
 -- where nothing is taken
@@ -196,13 +196,13 @@ said_more k a b d s s' s'' row row' row'' u v x y z machine f g p r =
     }
 
 -- from what is the same with its sheet
-pub said_from : (k : Known) (a a' b : Position) (s s' s'' : Sheet) (row row' : ℕ) (c : List Symbol) (x x' y : List ℕ) → ((p : Pair) → IsRowOf k row p → (with_sheet a' p.node s' x' ≡ with_sheet a p.node s x) × (written_with a' s' x' ≡ written_with a s x)) → SaidOn k a' b s' s'' row row' c x' y → SaidOn k a b s s'' row row' c x y
+pub said_from : (k : Known) (a a' b : Position) (s s' s'' : Sheet) (row row' : ℕ) (c : List Symbol) (x x' y : List ℕ) → ((p : Pair) → IsPairRow k row p → (with_sheet a' p.node s' x' ≡ with_sheet a p.node s x) × (written_with a' s' x' ≡ written_with a s x)) → SaidOn k a' b s' s'' row row' c x' y → SaidOn k a b s s'' row row' c x y
 said_from k a a' b s s' s'' row row' c x x' y same f p r =
     let e = same p r in
     subst (λ u. SaidWith k u b s'' row' c (written_with a s x) y) e.0 (subst (λ u. SaidWith k (with_sheet a' p.node s' x') b s'' row' c u y) e.1 (f p r))
 
 -- at its end all is handed on
-pub told : (k : Known) (a b b' : Position) (s s' : Sheet) (row row' state : ℕ) (c : List Symbol) (x y y' : List ℕ) → IsBlank s → IsTrue a.usable → SaidOn k a b s s' row row' c x y → ((p : Pair) → IsRowOf k row' p → (state ≡ p.state) × (b' ≡ with_sheet b p.node s' y) × (y' ≡ written_with b s' y)) → (q : Pair) → IsRowOf k row q → q.node ≡ a.at → Performs a b' c x y'
+pub told : (k : Known) (a b b' : Position) (s s' : Sheet) (row row' state : ℕ) (c : List Symbol) (x y y' : List ℕ) → IsBlank s → IsTrue a.usable → SaidOn k a b s s' row row' c x y → ((p : Pair) → IsPairRow k row' p → (state ≡ p.state) × (b' ≡ with_sheet b p.node s' y) × (y' ≡ written_with b s' y)) → (q : Pair) → IsPairRow k row q → q.node ≡ a.at → Performs a b' c x y'
 told k a b b' s s' row row' state c x y y' blank usable f there q h node =
     let r = f q h in
     let all = there r.to r.row_of in

@@ -3,15 +3,15 @@ use Rattle.std.proofs.Common.{Result, Ok, Err, IfOk, true, false, cond, replicat
 use Rattle.std.specs.Prelude.{◌⊎◌}
 use Rattle.std.proofs.lemmas.List.{append-nil, set-append_left, set_past, set_at, drop_at, take_all, take-append-drop, length-take-le}
 use Rattle.kex_code.specs.Registers.{Registers}
-use Rattle.kex_model.specs.Acting.{State, after_append}
+use Rattle.kex_model.specs.Acting.{ActingState, after_append}
 use Rattle.kex_machine.specs.declared.MNode.{MNode}
 use Rattle.kex_action.specs.declared.action.Action.{Action}
 use Rattle.kex_action.specs.Holdings.{with_bytes}
 use Rattle.kex_action.specs.Actions.{after_actions}
 use Rattle.kex_action.specs.Sheets.{with_buffer}
 use Rattle.kex_moves.specs.declared.edge.Edge.{Edge}
-use Rattle.kex_moves.specs.declared.edge.Kind.{Kind}
-use Rattle.kex_moves.specs.declared.edge.Kind.TheVariants.{Keep, Drop, Text, Acts, Opens, Plain, Unknown}
+use Rattle.kex_moves.specs.declared.edge.EdgeKind.{EdgeKind}
+use Rattle.kex_moves.specs.declared.edge.EdgeKind.TheVariants.{Keep, Drop, Text, Acts, Opens, Plain, Unknown}
 use Rattle.kex_moves.specs.Edges.{writes, is_written, is_known, has_acts, HasRoom}
 use Rattle.kex_moves.specs.Known.{Known, HasPlace, Settles, Lengthens}
 use Rattle.kex_moves.proofs.BufferWrites.{within}
@@ -21,14 +21,14 @@ appended_more : (xs ys out : List ℕ) (bs : List (List ℕ)) (regs : Registers)
 appended_more xs ys out [] regs = ap (λ (l : List ℕ). record { out = l; buffers = []; registers = regs }) (append_assoc out xs ys)
 appended_more xs ys out (b ∷ bs) regs = ap (λ (l : List ℕ). record { out = out; buffers = l ∷ bs; registers = regs }) (append_assoc b xs ys)
 
-pub adding_more : (xs ys : List ℕ) (s : State) → with_bytes ys (with_bytes xs s) ≡ with_bytes (xs ++ ys) s
+pub adding_more : (xs ys : List ℕ) (s : ActingState) → with_bytes ys (with_bytes xs s) ≡ with_bytes (xs ++ ys) s
 adding_more xs ys s = appended_more xs ys s.out s.buffers s.registers
 
 appended_none : (out : List ℕ) (bs : List (List ℕ)) (regs : Registers) → after_append [] out bs regs ≡ record { out = out; buffers = bs; registers = regs }
 appended_none out [] regs = ap (λ (l : List ℕ). record { out = l; buffers = []; registers = regs }) (append-nil out)
 appended_none out (b ∷ bs) regs = ap (λ (l : List ℕ). record { out = out; buffers = l ∷ bs; registers = regs }) (append-nil b)
 
-pub adding_none : (s : State) → s ≡ with_bytes [] s
+pub adding_none : (s : ActingState) → s ≡ with_bytes [] s
 adding_none s = sym (appended_none s.out s.buffers s.registers)
 
 pub set_more : (xs ys : List ℕ) (p b : ℕ) → (p < length xs) ⊎ (length xs + length ys ≤ p) → set (xs ++ ys) p b ≡ set xs p b ++ ys
@@ -68,7 +68,7 @@ one_byte (x ∷ []) b h = refl
 one_byte (x ∷ y ∷ xs) b h = absurd (omega arith)
 
 -- of the byte alone, or of nothing, any text is one
-short_written : (text xs : List ℕ) (p b : ℕ) (e : Edge) (k : Kind) → e.kind ≡ k → 16 ≤ length text → is_written k ≡ true → (k ≡ Text → ⊥) → (k ≡ Keep → (p ≡ 0) × (length xs ≡ 1)) → (k ≡ Drop → length xs ≡ 0) → e.from ≡ 0 → e.byte_at ≡ p → e.adds ≡ length xs → writes text e b ≡ set xs p b
+short_written : (text xs : List ℕ) (p b : ℕ) (e : Edge) (k : EdgeKind) → e.kind ≡ k → 16 ≤ length text → is_written k ≡ true → (k ≡ Text → ⊥) → (k ≡ Keep → (p ≡ 0) × (length xs ≡ 1)) → (k ≡ Drop → length xs ≡ 0) → e.from ≡ 0 → e.byte_at ≡ p → e.adds ≡ length xs → writes text e b ≡ set xs p b
 short_written text xs p b e Keep is room w none keeps drops f g l =
     let h = keeps refl in
     ap₂ (λ i n. take n (set (take 16 (drop e.from text)) i b)) (g ∙ h.0) (l ∙ h.1) ∙ ap (λ q. take 1 (set (take 16 (drop q text)) 0 b)) f ∙ one (take 16 text) b (omega (arith, length-take-le 16 text room)) ∙ sym (ap (λ q. set xs q b) h.0 ∙ one_byte xs b h.1)
@@ -83,7 +83,7 @@ pub place_small : (xs : List ℕ) (p : ℕ) → HasPlace xs p → p ≤ 16
 place_small xs p h = elim h.place [ inl a ↦ omega (arith, h.count) | inr a ↦ omega arith ]
 
 -- what is written has no actions
-unwritten : (k : Kind) → has_acts k ≡ true → is_written k ≡ false
+unwritten : (k : EdgeKind) → has_acts k ≡ true → is_written k ≡ false
 unwritten Keep h = cc
 unwritten Drop h = cc
 unwritten Text h = cc
@@ -92,10 +92,10 @@ unwritten Opens h = refl
 unwritten Plain h = cc
 unwritten Unknown h = cc
 
-no_written : (k : Kind) → has_acts k ≡ true → is_written k ≡ true → ⊥
+no_written : (k : EdgeKind) → has_acts k ≡ true → is_written k ≡ true → ⊥
 no_written k h w = let f : false ≡ true = sym (unwritten k h) ∙ w in cc
 
-no_opens : (k : Kind) → is_written k ≡ true → k ≡ Opens → ⊥
+no_opens : (k : EdgeKind) → is_written k ≡ true → k ≡ Opens → ⊥
 no_opens k w e = no_written k (ap has_acts e) w
 
 -- an edge that writes what is a text with the byte settles
@@ -118,10 +118,10 @@ settles_text nodes k old next p xs e is place n f g l text =
     settles_written nodes k next p xs e n (ap is_written text) (record { text = omega arith; byte_at = omega (arith, place_small xs p place); adds = omega (arith, place.count); keeps = λ q. cc; drops = λ q. cc }) (λ b. text_written old xs (replicate 16 0) k.text p b e is refl place.count f g l)
 
 -- an edge at which actions are done settles
-pub settles_acts : (nodes : List MNode) (k : Known) (old actions : List Action) (next : ℕ) (e : Edge) → k.acts ≡ old ++ actions → e.next ≡ next → e.from ≡ length old → e.adds ≡ length actions → has_acts e.kind ≡ true → (e.kind ≡ Opens → (b : ℕ) (s : State) → after_actions nodes b actions s ≡ with_buffer (b ∷ []) s) → Settles nodes k next (λ b. after_actions nodes b actions) e
+pub settles_acts : (nodes : List MNode) (k : Known) (old actions : List Action) (next : ℕ) (e : Edge) → k.acts ≡ old ++ actions → e.next ≡ next → e.from ≡ length old → e.adds ≡ length actions → has_acts e.kind ≡ true → (e.kind ≡ Opens → (b : ℕ) (s : ActingState) → after_actions nodes b actions s ≡ with_buffer (b ∷ []) s) → Settles nodes k next (λ b. after_actions nodes b actions) e
 settles_acts nodes k old actions next e is n f l acts opens =
     let same : take e.adds (drop e.from k.acts) ≡ actions = ap₂ (λ i m. take m (drop i k.acts)) f l ∙ ap (λ q. take (length actions) (drop (length old) q)) is ∙ ap (take (length actions)) (drop_at old actions (length old) refl) ∙ take_all (length actions) actions (omega arith) in
-    let does = λ (b : ℕ) (s : State). ap (λ q. after_actions nodes b q s) (sym same) ∙ sym (ap (λ x. cond x (with_bytes (writes k.text e b) s) (after_actions nodes b (take e.adds (drop e.from k.acts)) s)) (unwritten e.kind acts)) in
+    let does = λ (b : ℕ) (s : ActingState). ap (λ q. after_actions nodes b q s) (sym same) ∙ sym (ap (λ x. cond x (with_bytes (writes k.text e b) s) (after_actions nodes b (take e.adds (drop e.from k.acts)) s)) (unwritten e.kind acts)) in
     record {
       goes = λ known. n;
       room = λ written. absurd (no_written e.kind acts written);
@@ -130,10 +130,10 @@ settles_acts nodes k old actions next e is n f l acts opens =
       opens = λ q b s. sym (does b s) ∙ opens q b s;
     }
 
-pub settles_plain : (nodes : List MNode) (k : Known) (next : ℕ) (f : ℕ → State → State) (e : Edge) → is_known e.kind ≡ false → Settles nodes k next f e
+pub settles_plain : (nodes : List MNode) (k : Known) (next : ℕ) (f : ℕ → ActingState → ActingState) (e : Edge) → is_known e.kind ≡ false → Settles nodes k next f e
 settles_plain nodes k next f e h = by e.kind refl h
   where
-    by : (x : Kind) → e.kind ≡ x → is_known x ≡ false → Settles nodes k next f e
+    by : (x : EdgeKind) → e.kind ≡ x → is_known x ≡ false → Settles nodes k next f e
     by Keep is h = cc
     by Drop is h = cc
     by Text is h = cc
@@ -152,7 +152,7 @@ pub lengthens_acts : (k : Known) (acts more : List Action) → acts ≡ k.acts +
 lengthens_acts k acts more e = record { text = []; acts = more; longer = ap₂ (λ (t : List ℕ) (a : List Action). record { classes = k.classes; width = k.width; shift = k.shift; pairs = k.pairs; edges = k.edges; text = t; acts = a }) (sym (append-nil k.text)) e }
 
 -- an edge that settles what is the same settles
-pub settles_same : (nodes : List MNode) (k : Known) (next : ℕ) (f g : ℕ → State → State) (e : Edge) → ((b : ℕ) (s : State) → g b s ≡ f b s) → Settles nodes k next f e → Settles nodes k next g e
+pub settles_same : (nodes : List MNode) (k : Known) (next : ℕ) (f g : ℕ → ActingState → ActingState) (e : Edge) → ((b : ℕ) (s : ActingState) → g b s ≡ f b s) → Settles nodes k next f e → Settles nodes k next g e
 settles_same nodes k next f g e same h = record { goes = h.goes; room = h.room; acts = h.acts; does = λ known b s. same b s ∙ h.does known b s; opens = h.opens }
 
 pub map_ok : {A E : Type 0} (P Q : A → Type 0) (r : Result A E) → ((a : A) → P a → Q a) → IfOk r P → IfOk r Q

@@ -8,10 +8,10 @@ use Rattle.std.proofs.lemmas.List.Elements.{All-append, All-get_or}
 use Rattle.std.specs.Prelude.{slice_get}
 use Rattle.std.proofs.lemmas.Option.{slice_get-get_or, get_or_from_slice_get}
 use Rattle.kex_moves.specs.declared.edge.Edge.{Edge}
-use Rattle.kex_moves.specs.declared.edge.Kind.{Kind}
-use Rattle.kex_moves.specs.declared.edge.Kind.TheVariants.{Keep, Drop, Text, Acts, Opens, Plain, Unknown}
+use Rattle.kex_moves.specs.declared.edge.EdgeKind.{EdgeKind}
+use Rattle.kex_moves.specs.declared.edge.EdgeKind.TheVariants.{Keep, Drop, Text, Acts, Opens, Plain, Unknown}
 use Rattle.kex_moves.specs.Edges.{writes, is_written, HasRoom, IsAtRow}
-use Rattle.kex_moves.specs.Runs.{Rows, Step, HasRow, LeadsBack, HasKind, HasRoomBelow, IsWithin, StopsAt, by_edge, step_of, stop_behind, on_step, run_of}
+use Rattle.kex_moves.specs.Runs.{Rows, RunStep, HasEdgeRow, LeadsBack, HasKind, HasRoomBelow, AreEdgesWithin, StopsAt, by_edge, edge_step, stop_behind, on_step, run_of}
 use Rattle.kex_moves.proofs.KnownEdges.{at_of}
 
 abbrev pub no_edge : Edge
@@ -22,26 +22,26 @@ abbrev pub edge_at : Rows → ℕ → ℕ → Edge
 edge_at t r b = get_or t.edges (r + get_or t.classes b 0) no_edge
 
 -- the edge of a byte is one of the edges
-pub edge_in : (t : Rows) (r b : ℕ) → HasRow t.classes t.edges r → b < length t.classes → r + get_or t.classes b 0 < length t.edges
+pub edge_in : (t : Rows) (r b : ℕ) → HasEdgeRow t.classes t.edges r → b < length t.classes → r + get_or t.classes b 0 < length t.edges
 edge_in t r b row h = All-get_or (λ c. r + c < length t.edges) t.classes b 0 h row
 
-read : (t : Rows) (r b : ℕ) → HasRow t.classes t.edges r → b < length t.classes → step_of t r b ≡ by_edge t.text b (Some (edge_at t r b))
+read : (t : Rows) (r b : ℕ) → HasEdgeRow t.classes t.edges r → b < length t.classes → edge_step t r b ≡ by_edge t.text b (Some (edge_at t r b))
 read t r b row h = ap (by_edge t.text b) (slice_get-get_or t.edges (r + get_or t.classes b 0) no_edge (edge_in t r b row h))
 
-pub no_step : (t : Rows) (r b : ℕ) → HasRow t.classes t.edges r → b < length t.classes → is_written (edge_at t r b).kind ≡ false → step_of t r b ≡ None
+pub no_step : (t : Rows) (r b : ℕ) → HasEdgeRow t.classes t.edges r → b < length t.classes → is_written (edge_at t r b).kind ≡ false → edge_step t r b ≡ None
 no_step t r b row h k = read t r b row h ∙ ap (λ x. cond x (Some (record { row = (edge_at t r b).next; writes = writes t.text (edge_at t r b) b })) None) k
 
-pub one_step : (t : Rows) (r b : ℕ) → HasRow t.classes t.edges r → b < length t.classes → is_written (edge_at t r b).kind ≡ true → step_of t r b ≡ Some (record { row = (edge_at t r b).next; writes = writes t.text (edge_at t r b) b })
+pub one_step : (t : Rows) (r b : ℕ) → HasEdgeRow t.classes t.edges r → b < length t.classes → is_written (edge_at t r b).kind ≡ true → edge_step t r b ≡ Some (record { row = (edge_at t r b).next; writes = writes t.text (edge_at t r b) b })
 one_step t r b row h k = read t r b row h ∙ ap (λ x. cond x (Some (record { row = (edge_at t r b).next; writes = writes t.text (edge_at t r b) b })) None) k
 
 -- where no edge is written the run is at its end
-pub stops : (t : Rows) (r : ℕ) (xs ws : List ℕ) (at : ℕ) → at < length ws → step_of t r (get_or ws at 0) ≡ None → record { written = xs; row = r; left = drop at ws } ≡ stop_behind xs (run_of t r (drop at ws))
+pub stops : (t : Rows) (r : ℕ) (xs ws : List ℕ) (at : ℕ) → at < length ws → edge_step t r (get_or ws at 0) ≡ None → record { written = xs; row = r; left = drop at ws } ≡ stop_behind xs (run_of t r (drop at ws))
 stops t r xs ws at h e =
     let f = drop_more ws at 0 h in
     sym (ap (λ l. stop_behind xs (run_of t r l)) f ∙ ap (λ o. stop_behind xs (on_step (record { written = []; row = r; left = get_or ws at 0 ∷ drop (at + 1) ws }) (λ w. stop_behind w.writes (run_of t w.row (drop (at + 1) ws))) o)) e ∙ ap₂ (λ (p q : List ℕ). record { written = p; row = r; left = q }) (append-nil xs) (sym f))
 
 -- one edge more
-pub goes_on : (t : Rows) (r : ℕ) (xs ys ws : List ℕ) (at : ℕ) (w : Step) → at < length ws → step_of t r (get_or ws at 0) ≡ Some w → ys ≡ xs ++ w.writes → stop_behind ys (run_of t w.row (drop (at + 1) ws)) ≡ stop_behind xs (run_of t r (drop at ws))
+pub goes_on : (t : Rows) (r : ℕ) (xs ys ws : List ℕ) (at : ℕ) (w : RunStep) → at < length ws → edge_step t r (get_or ws at 0) ≡ Some w → ys ≡ xs ++ w.writes → stop_behind ys (run_of t w.row (drop (at + 1) ws)) ≡ stop_behind xs (run_of t r (drop at ws))
 goes_on t r xs ys ws at w h e g =
     let rest = run_of t w.row (drop (at + 1) ws) in
     let first = ap (λ l. stop_behind xs (run_of t r l)) (drop_more ws at 0 h) ∙ ap (λ o. stop_behind xs (on_step (record { written = []; row = r; left = get_or ws at 0 ∷ drop (at + 1) ws }) (λ w. stop_behind w.writes (run_of t w.row (drop (at + 1) ws))) o)) e in
@@ -51,7 +51,7 @@ pub one : (xs : List ℕ) (b : ℕ) → 0 < length xs → take 1 (set xs 0 b) �
 one [] b h = absurd (omega arith)
 one (x ∷ xs) b h = refl
 
-pub room_at : (t : Rows) (r b : ℕ) → HasRow t.classes t.edges r → b < length t.classes → HasRoomBelow (length t.text) t.edges → is_written (edge_at t r b).kind ≡ true → HasRoom (length t.text) (edge_at t r b)
+pub room_at : (t : Rows) (r b : ℕ) → HasEdgeRow t.classes t.edges r → b < length t.classes → HasRoomBelow (length t.text) t.edges → is_written (edge_at t r b).kind ≡ true → HasRoom (length t.text) (edge_at t r b)
 room_at t r b row h room = All-get_or (λ (e : Edge). is_written e.kind ≡ true → HasRoom (length t.text) e) t.edges (r + get_or t.classes b 0) no_edge (edge_in t r b row h) room
 
 slice_get-drop : (r : ℕ) (es : List Edge) (i : ℕ) → slice_get (drop r es) i ≡ slice_get es (r + i)
@@ -60,16 +60,16 @@ slice_get-drop (suc r) [] i = refl
 slice_get-drop (suc r) (e ∷ es) i = let same : suc (r + i) ≡ suc r + i = omega arith in slice_get-drop r es i ∙ ap (slice_get (e ∷ es)) same
 
 -- a byte's edge in a row
-in_row : (t : Rows) (r b : ℕ) (k : Kind) → (h : HasKind t.classes (drop r t.edges) k b) → slice_get t.edges (r + h.class) ≡ Some h.edge
+in_row : (t : Rows) (r b : ℕ) (k : EdgeKind) → (h : HasKind t.classes (drop r t.edges) k b) → slice_get t.edges (r + h.class) ≡ Some h.edge
 in_row t r b k h = sym (slice_get-drop r t.edges h.class) ∙ h.at
 
-room_of : (t : Rows) (r b : ℕ) (k : Kind) → HasRoomBelow (length t.text) t.edges → is_written k ≡ true → (h : HasKind t.classes (drop r t.edges) k b) → HasRoom (length t.text) h.edge
+room_of : (t : Rows) (r b : ℕ) (k : EdgeKind) → HasRoomBelow (length t.text) t.edges → is_written k ≡ true → (h : HasKind t.classes (drop r t.edges) k b) → HasRoom (length t.text) h.edge
 room_of t r b k room w h = at_of (λ (e : Edge). is_written e.kind ≡ true → HasRoom (length t.text) e) t.edges (r + h.class) h.edge room (in_row t r b k h) (ap is_written h.kind ∙ w)
 
-leads_of : (t : Rows) (r b : ℕ) (k : Kind) → LeadsBack t.classes t.edges r → (h : HasKind t.classes (drop r t.edges) k b) → IsAtRow r h.edge
+leads_of : (t : Rows) (r b : ℕ) (k : EdgeKind) → LeadsBack t.classes t.edges r → (h : HasKind t.classes (drop r t.edges) k b) → IsAtRow r h.edge
 leads_of t r b k back h = at_of (λ c. (e : Edge) → slice_get t.edges (r + c) ≡ Some e → IsAtRow r e) t.classes b h.class back h.of h.edge (in_row t r b k h)
 
-steps_back : (t : Rows) (r b : ℕ) (k : Kind) (w : List ℕ) → (h : HasKind t.classes (drop r t.edges) k b) → is_written k ≡ true → h.edge.next ≡ r → writes t.text h.edge b ≡ w → step_of t r b ≡ Some (record { row = r; writes = w })
+steps_back : (t : Rows) (r b : ℕ) (k : EdgeKind) (w : List ℕ) → (h : HasKind t.classes (drop r t.edges) k b) → is_written k ≡ true → h.edge.next ≡ r → writes t.text h.edge b ≡ w → edge_step t r b ≡ Some (record { row = r; writes = w })
 steps_back t r b k w h written next said =
     let e = h.edge in
     ap (λ c. by_edge t.text b (slice_get t.edges (r + c))) (get_or_from_slice_get t.classes b h.class 0 h.of)
@@ -78,7 +78,7 @@ steps_back t r b k w h written next said =
     ∙ ap₂ (λ (i : ℕ) (x : List ℕ). Some (record { row = i; writes = x })) next said
 
 -- an edge that keeps writes the byte alone
-keeps : (t : Rows) (r b : ℕ) → LeadsBack t.classes t.edges r → HasRoomBelow (length t.text) t.edges → HasKind t.classes (drop r t.edges) Keep b → step_of t r b ≡ Some (record { row = r; writes = b ∷ [] })
+keeps : (t : Rows) (r b : ℕ) → LeadsBack t.classes t.edges r → HasRoomBelow (length t.text) t.edges → HasKind t.classes (drop r t.edges) Keep b → edge_step t r b ≡ Some (record { row = r; writes = b ∷ [] })
 keeps t r b back room h =
     let e = h.edge in
     let fits = room_of t r b Keep room refl h in
@@ -86,7 +86,7 @@ keeps t r b back room h =
     steps_back t r b Keep (b ∷ []) h refl ((leads_of t r b Keep back h).keeps h.kind) said
 
 -- an edge that drops writes nothing
-drops : (t : Rows) (r b : ℕ) → LeadsBack t.classes t.edges r → HasRoomBelow (length t.text) t.edges → HasKind t.classes (drop r t.edges) Drop b → step_of t r b ≡ Some (record { row = r; writes = [] })
+drops : (t : Rows) (r b : ℕ) → LeadsBack t.classes t.edges r → HasRoomBelow (length t.text) t.edges → HasKind t.classes (drop r t.edges) Drop b → edge_step t r b ≡ Some (record { row = r; writes = [] })
 drops t r b back room h =
     let e = h.edge in
     let said : writes t.text e b ≡ [] = ap (λ m. take m (set (take 16 (drop e.from t.text)) e.byte_at b)) ((room_of t r b Drop room refl h).drops h.kind) in
@@ -135,7 +135,7 @@ one_of P b h zero d l = h
 one_of P b h (suc i) d l = absurd (omega arith)
 
 -- the byte that is next is of the kind of its edge
-pub first_kind : (t : Rows) (r at : ℕ) (k : Kind) (ws : List ℕ) → HasRow t.classes t.edges r → at < length ws → get_or ws at 0 < length t.classes → (edge_at t r (get_or ws at 0)).kind ≡ k → All (HasKind t.classes (take (length t.edges - r) (drop r t.edges)) k) (take 1 (take (length ws - at) (drop at ws)))
+pub first_kind : (t : Rows) (r at : ℕ) (k : EdgeKind) (ws : List ℕ) → HasEdgeRow t.classes t.edges r → at < length ws → get_or ws at 0 < length t.classes → (edge_at t r (get_or ws at 0)).kind ≡ k → All (HasKind t.classes (take (length t.edges - r) (drop r t.edges)) k) (take 1 (take (length ws - at) (drop at ws)))
 first_kind t r at k ws row lt byte is =
     let b = get_or ws at 0 in
     let c = get_or t.classes b 0 in
@@ -150,14 +150,14 @@ first_kind t r at k ws row lt byte is =
     subst (λ l. All (HasKind t.classes l k) (take 1 (take (length ws - at) (drop at ws)))) (sym (rest_is r t.edges)) (subst (λ l. All (HasKind t.classes (drop r t.edges) k) l) (sym one) (one_of (HasKind t.classes (drop r t.edges) k) b here))
 
 -- the edge of the byte that is next
-pub stops_at : (t : Rows) (r at : ℕ) (ws : List ℕ) → HasRow t.classes t.edges r → at < length ws → get_or ws at 0 < length t.classes → StopsAt t.classes t.edges r at ws (edge_at t r (get_or ws at 0))
+pub stops_at : (t : Rows) (r at : ℕ) (ws : List ℕ) → HasEdgeRow t.classes t.edges r → at < length ws → get_or ws at 0 < length t.classes → StopsAt t.classes t.edges r at ws (edge_at t r (get_or ws at 0))
 stops_at t r at ws row lt byte =
     let b = get_or ws at 0 in
     let c = get_or t.classes b 0 in
     (lt, record { class = c; of = slice_get-get_or t.classes b 0 byte; at = slice_get-get_or t.edges (r + c) no_edge (edge_in t r b row byte) })
 
 -- an edge that neither keeps nor drops nor has a text isn't written
-pub not_written : (k : Kind) (text keep drop : Bool) → (k ≡ Text → IsTrue text) → (k ≡ Keep → IsTrue keep) → (k ≡ Drop → IsTrue drop) → text ≡ false → keep ≡ false → drop ≡ false → is_written k ≡ false
+pub not_written : (k : EdgeKind) (text keep drop : Bool) → (k ≡ Text → IsTrue text) → (k ≡ Keep → IsTrue keep) → (k ≡ Drop → IsTrue drop) → text ≡ false → keep ≡ false → drop ≡ false → is_written k ≡ false
 not_written Keep text keep drop t k d no_text no_keep no_drop = let bad : true ≡ false = sym (k refl) ∙ no_keep in cc
 not_written Drop text keep drop t k d no_text no_keep no_drop = let bad : true ≡ false = sym (d refl) ∙ no_drop in cc
 not_written Text text keep drop t k d no_text no_keep no_drop = let bad : true ≡ false = sym (t refl) ∙ no_text in cc
@@ -167,7 +167,7 @@ not_written Plain text keep drop t k d no_text no_keep no_drop = refl
 not_written Unknown text keep drop t k d no_text no_keep no_drop = refl
 
 -- one byte more of a kind
-pub one_kind : (classes ws : List ℕ) (es : List Edge) (k : Kind) (at : ℕ) → at < length ws → get_or ws at 0 < length classes → All (λ c. c < length es) classes → (get_or es (get_or classes (get_or ws at 0) 0) no_edge).kind ≡ k → All (HasKind classes es k) (take at ws) → All (HasKind classes es k) (take (at + 1) ws)
+pub one_kind : (classes ws : List ℕ) (es : List Edge) (k : EdgeKind) (at : ℕ) → at < length ws → get_or ws at 0 < length classes → All (λ c. c < length es) classes → (get_or es (get_or classes (get_or ws at 0) 0) no_edge).kind ≡ k → All (HasKind classes es k) (take at ws) → All (HasKind classes es k) (take (at + 1) ws)
 one_kind classes ws es k at lt byte row is before =
     let b = get_or ws at 0 in
     let c = get_or classes b 0 in
@@ -182,8 +182,8 @@ one_kind classes ws es k at lt byte row is before =
     subst (λ l. All (HasKind classes es k) l) (sym (take_more ws at 0 lt)) (All-append (HasKind classes es k) (take at ws) (b ∷ []) before (one_of (HasKind classes es k) b here))
 
 -- an edge that is written leads to a row
-pub row_at : (t : Rows) (r b : ℕ) → HasRow t.classes t.edges r → b < length t.classes → IsWithin t → is_written (edge_at t r b).kind ≡ true → HasRow t.classes t.edges (edge_at t r b).next × LeadsBack t.classes t.edges (edge_at t r b).next
-row_at t r b row h within k = All-get_or (λ (e : Edge). is_written e.kind ≡ true → HasRow t.classes t.edges e.next × LeadsBack t.classes t.edges e.next) t.edges (r + get_or t.classes b 0) no_edge (edge_in t r b row h) within.next k
+pub row_at : (t : Rows) (r b : ℕ) → HasEdgeRow t.classes t.edges r → b < length t.classes → AreEdgesWithin t → is_written (edge_at t r b).kind ≡ true → HasEdgeRow t.classes t.edges (edge_at t r b).next × LeadsBack t.classes t.edges (edge_at t r b).next
+row_at t r b row h within k = All-get_or (λ (e : Edge). is_written e.kind ≡ true → HasEdgeRow t.classes t.edges e.next × LeadsBack t.classes t.edges e.next) t.edges (r + get_or t.classes b 0) no_edge (edge_in t r b row h) within.next k
 
 pub some_left : (n : ℕ) → (n ≡ 0 → ⊥) → 0 < n
 some_left zero none = absurd (none refl)
@@ -193,5 +193,5 @@ some_left (suc n) none = omega arith
 pub stays_at : (t : Rows) (row class : ℕ) (e : Edge) (piece : List ℕ) → 0 < length piece → slice_get t.classes (get_or piece 0 0) ≡ Some class → slice_get t.edges (row + class) ≡ Some e → is_written e.kind ≡ false → run_of t row piece ≡ record { written = []; row = row; left = piece }
 stays_at t row class e piece some is edge none =
     let b = get_or piece 0 0 in
-    let step : step_of t row b ≡ None = ap (λ c. by_edge t.text b (slice_get t.edges (row + c))) (get_or_from_slice_get t.classes b class 0 is) ∙ ap (by_edge t.text b) edge ∙ ap (λ x. cond x (Some (record { row = e.next; writes = writes t.text e b })) None) none in
+    let step : edge_step t row b ≡ None = ap (λ c. by_edge t.text b (slice_get t.edges (row + c))) (get_or_from_slice_get t.classes b class 0 is) ∙ ap (by_edge t.text b) edge ∙ ap (λ x. cond x (Some (record { row = e.next; writes = writes t.text e b })) None) none in
     sym (stops t row [] piece 0 some step)

@@ -3,10 +3,10 @@ use Rattle.std.proofs.Common.{◌≡◌, ℕ, ◌<◌, ◌≤◌, true, false, c
 use Rattle.std.specs.Prelude.{slice_get, Some}
 use Rattle.std.proofs.lemmas.List.{length-take-le}
 use Rattle.kex_code.specs.declared.symbol.Symbol.{Symbol}
-use Rattle.kex_model.specs.Acting.{State}
+use Rattle.kex_model.specs.Acting.{ActingState}
 use Rattle.kex_machine.specs.Nodes.{Graph}
 use Rattle.kex_action.specs.declared.sheet.Sheet.{Sheet}
-use Rattle.kex_action.specs.Holdings.{Holding, Leads, Does, with_bytes, state_of}
+use Rattle.kex_action.specs.Holdings.{Holding, LeadsByCode, Does, with_bytes, state_of}
 use Rattle.kex_action.specs.Actors.{Position, WentOn}
 use Rattle.kex_action.specs.Actions.{after_actions}
 use Rattle.kex_action.specs.Sheets.{with_buffer, with_marked_bytes, AreMarks, IsSheet, IsBlank, state_with}
@@ -14,19 +14,19 @@ use Rattle.kex_action.proofs.ActorRuns.{went_on, position}
 use Rattle.kex_action.proofs.Sheets.{laid_none, laid_adds}
 use Rattle.kex_sst.specs.Tables.{Transducer}
 use Rattle.kex_moves.specs.declared.edge.Edge.{Edge}
-use Rattle.kex_moves.specs.declared.edge.Kind.TheVariants.{Opens}
+use Rattle.kex_moves.specs.declared.edge.EdgeKind.TheVariants.{Opens}
 use Rattle.kex_moves.specs.declared.edges.Pair.{Pair}
 use Rattle.kex_moves.specs.Edges.{writes, is_written}
-use Rattle.kex_moves.specs.Runs.{Stop, stop_behind, run_of}
-use Rattle.kex_moves.specs.Known.{Known, rows_of, IsRowOf, HasRowFor, IsRight, IsKnown, Grows}
-use Rattle.kex_moves.specs.Along.{Goes, Reached, with_sheet, written_with, ReachedWith, ReachedOn}
+use Rattle.kex_moves.specs.Runs.{RunStop, stop_behind, run_of}
+use Rattle.kex_moves.specs.Known.{Known, rows_of, IsPairRow, HasRowFor, IsRight, IsKnown, KnownGrows}
+use Rattle.kex_moves.specs.Along.{GoesAlong, Reached, with_sheet, written_with, ReachedWith, ReachedOn}
 use Rattle.kex_moves.proofs.EdgeRuns.{to_stop, reached_along, reached_act, goes_none, goes_more}
 
-abbrev pub stop_at : List ℕ → ℕ → List ℕ → Stop
+abbrev pub stop_at : List ℕ → ℕ → List ℕ → RunStop
 stop_at written row left = record { written = written; row = row; left = left }
 
 -- a state as the actor at a node, once it is handed on
-abbrev pub as_position : Position → ℕ → State → Position
+abbrev pub as_position : Position → ℕ → ActingState → Position
 as_position a n z = record { machine = a.machine; at = n; holding = record { buffers = z.buffers; registers = z.registers }; refused = a.refused; usable = true }
 
 blank_state : (s : Sheet) (out : List ℕ) (h : Holding) → IsBlank s → state_with s out h ≡ state_of out h
@@ -42,13 +42,13 @@ pub blank_written : (a : Position) (s : Sheet) (out : List ℕ) → IsBlank s �
 blank_written a s out b = ap (λ z. z.out) (blank_state s out a.holding b)
 
 -- one more is handed on of what can be handed on
-pub moved : (a b : Position) (n m : ℕ) (s s' : Sheet) (x y : List ℕ) (f : State → State) → b.machine ≡ a.machine → b.refused ≡ a.refused → state_with s' y b.holding ≡ f (state_with s x a.holding) → (d : List Symbol) → Does a.machine.nodes n d m f → WentOn (with_sheet a n s x) (with_sheet b m s' y) d d (written_with a s x) (written_with b s' y)
+pub moved : (a b : Position) (n m : ℕ) (s s' : Sheet) (x y : List ℕ) (f : ActingState → ActingState) → b.machine ≡ a.machine → b.refused ≡ a.refused → state_with s' y b.holding ≡ f (state_with s x a.holding) → (d : List Symbol) → Does a.machine.nodes n d m f → WentOn (with_sheet a n s x) (with_sheet b m s' y) d d (written_with a s x) (written_with b s' y)
 moved a b n m s s' x y f machine refused e d does =
     let z = state_with s x a.holding in
     let z' = state_with s' y b.holding in
     let h : Holding = record { buffers = z.buffers; registers = z.registers } in
     let h' : Holding = record { buffers = z'.buffers; registers = z'.registers } in
-    let leads : Leads a.machine.nodes n z d m z' = subst (λ q. Leads a.machine.nodes n z d m q) (sym e) (does z) in
+    let leads : LeadsByCode a.machine.nodes n z d m z' = subst (λ q. LeadsByCode a.machine.nodes n z d m q) (sym e) (does z) in
     let went = went_on a.machine n m h h' a.refused true true d z.out z'.out leads in
     subst (λ r. WentOn (position a.machine n h a.refused true) (position b.machine m h' r true) d d z.out z'.out) (sym refused) (subst (λ g. WentOn (position a.machine n h a.refused true) (position g m h' a.refused true) d d z.out z'.out) (sym machine) went)
 
@@ -65,8 +65,8 @@ put_by k s s' row row' at piece h marks e =
     let n : length before ≡ s.used = length-take-le s.used s.bytes.items h.used in
     record {
       bytes = stop.written;
-      stop = ap₂ (λ (r : ℕ) (l : List ℕ). record { written = stop.written; row = r; left = l }) (ap (λ (z : Stop). z.row) e) (ap (λ (z : Stop). z.left) e);
-      adds = λ out hold. ap₂ (λ b ms. with_marked_bytes b (reverse ms) (state_of out hold)) (ap (λ (z : Stop). z.written) e) marks ∙ laid_adds before stop.written (reverse s.marks.items) (state_of out hold) (subst (λ u. AreMarks u (reverse s.marks.items)) (sym n) h.marks);
+      stop = ap₂ (λ (r : ℕ) (l : List ℕ). record { written = stop.written; row = r; left = l }) (ap (λ (z : RunStop). z.row) e) (ap (λ (z : RunStop). z.left) e);
+      adds = λ out hold. ap₂ (λ b ms. with_marked_bytes b (reverse ms) (state_of out hold)) (ap (λ (z : RunStop). z.written) e) marks ∙ laid_adds before stop.written (reverse s.marks.items) (state_of out hold) (subst (λ u. AreMarks u (reverse s.marks.items)) (sym n) h.marks);
     }
 
 -- along a run
@@ -81,7 +81,7 @@ reached_run t k a s s' row row' at piece out known bytes sheet marks e q n h =
     }
 
 -- where an edge's actions are done
-pub reached_acts : (t : Transducer) (k : Known) (a b : Position) (s s' : Sheet) (row class byte : ℕ) (e : Edge) (x y : List ℕ) → slice_get t.classes byte ≡ Some class → ((p : Pair) → IsRowOf k row p → IsRight t a.machine.nodes k p class e) → is_written e.kind ≡ false → b.machine ≡ a.machine → b.refused ≡ a.refused → state_with s' y b.holding ≡ after_actions a.machine.nodes byte (take e.adds (drop e.from k.acts)) (state_with s x a.holding) → ReachedOn t k k a b s s' row e.next (byte ∷ []) x y
+pub reached_acts : (t : Transducer) (k : Known) (a b : Position) (s s' : Sheet) (row class byte : ℕ) (e : Edge) (x y : List ℕ) → slice_get t.classes byte ≡ Some class → ((p : Pair) → IsPairRow k row p → IsRight t a.machine.nodes k p class e) → is_written e.kind ≡ false → b.machine ≡ a.machine → b.refused ≡ a.refused → state_with s' y b.holding ≡ after_actions a.machine.nodes byte (take e.adds (drop e.from k.acts)) (state_with s x a.holding) → ReachedOn t k k a b s s' row e.next (byte ∷ []) x y
 reached_acts t k a b s s' row class byte e x y is right acts machine refused did q n h =
     let r = right h.0 h.1 in
     let m = r.to.node in
@@ -91,7 +91,7 @@ reached_acts t k a b s s' row class byte e x y is right acts machine refused did
     }
 
 -- where an edge opens a buffer
-pub reached_opens : (t : Transducer) (k : Known) (a : Position) (s s' : Sheet) (row class byte : ℕ) (e : Edge) (x : List ℕ) → slice_get t.classes byte ≡ Some class → ((p : Pair) → IsRowOf k row p → IsRight t a.machine.nodes k p class e) → e.kind ≡ Opens → ((out : List ℕ) (h : Holding) → state_with s' out h ≡ with_buffer (byte ∷ []) (state_with s out h)) → ReachedOn t k k a a s s' row e.next (byte ∷ []) x x
+pub reached_opens : (t : Transducer) (k : Known) (a : Position) (s s' : Sheet) (row class byte : ℕ) (e : Edge) (x : List ℕ) → slice_get t.classes byte ≡ Some class → ((p : Pair) → IsPairRow k row p → IsRight t a.machine.nodes k p class e) → e.kind ≡ Opens → ((out : List ℕ) (h : Holding) → state_with s' out h ≡ with_buffer (byte ∷ []) (state_with s out h)) → ReachedOn t k k a a s s' row e.next (byte ∷ []) x x
 reached_opens t k a s s' row class byte e x is right opens opened q n h =
     let z = state_with s x a.holding in
     let acts = after_actions a.machine.nodes byte (take e.adds (drop e.from k.acts)) z in
@@ -100,13 +100,13 @@ reached_opens t k a s s' row class byte e x is right opens opened q n h =
     reached_acts t k a a s s' row class byte e x x is right unwritten refl refl (opened x a.holding ∙ made) q n h
 
 -- where nothing is taken
-pub reached_none : (t : Transducer) (k k' : Known) (a : Position) (s : Sheet) (row : ℕ) (x : List ℕ) → Grows k k' → ReachedOn t k k' a a s s row row [] x x
+pub reached_none : (t : Transducer) (k k' : Known) (a : Position) (s : Sheet) (row : ℕ) (x : List ℕ) → KnownGrows k k' → ReachedOn t k k' a a s s row row [] x x
 reached_none t k k' a s row x grows q n h = record {
   node = n;
   reached = record { state = q; row_for = (h.0, grows.rows row h.0 h.1, h.2, h.3); goes = goes_none t (with_sheet a n s x) q (written_with a s x) };
 }
 
-pub same_grows : (k : Known) → Grows k k
+pub same_grows : (k : Known) → KnownGrows k k
 same_grows k = record { width = refl; rows = λ row p r. r }
 
 -- one and then another
@@ -124,27 +124,27 @@ reached_on t k k' k'' a b c s s' s'' row row' row'' us vs x y z f g q n h =
     }
 
 -- what is reached is a row
-pub row_reached : (t : Transducer) (g : Graph) (k : Known) (s s' : Sheet) (row row' : ℕ) (bs : List ℕ) → IsKnown t g k → (p : Pair) × IsRowOf k row p → ((t : Transducer) (a : Position) (out : List ℕ) → IsKnown t a.machine k → ReachedOn t k k a a s s' row row' bs out out) → (p : Pair) × IsRowOf k row' p
+pub row_reached : (t : Transducer) (g : Graph) (k : Known) (s s' : Sheet) (row row' : ℕ) (bs : List ℕ) → IsKnown t g k → (p : Pair) × IsPairRow k row p → ((t : Transducer) (a : Position) (out : List ℕ) → IsKnown t a.machine k → ReachedOn t k k a a s s' row row' bs out out) → (p : Pair) × IsPairRow k row' p
 row_reached t g k s s' row row' bs known from reached =
     let a : Position = record { machine = g; at = 0; holding = record { buffers = []; registers = [] }; refused = false; usable = true } in
     let r = reached t a [] known from.0.state from.0.node (from.0, from.1, refl, refl) in
     (r.reached.row_for.0, r.reached.row_for.1)
 
 -- at its end all is handed on
-pub arrived : (t : Transducer) (k k' : Known) (a b b' : Position) (s s' : Sheet) (row row' state : ℕ) (bs x y y' : List ℕ) → IsBlank s → IsTrue a.usable → ReachedOn t k k' a b s s' row row' bs x y → ((p : Pair) → IsRowOf k' row' p → (state ≡ p.state) × (b' ≡ with_sheet b p.node s' y) × (y' ≡ written_with b s' y)) → (q : ℕ) → HasRowFor k row q a.at → Goes t a b' q state bs x y'
+pub arrived : (t : Transducer) (k k' : Known) (a b b' : Position) (s s' : Sheet) (row row' state : ℕ) (bs x y y' : List ℕ) → IsBlank s → IsTrue a.usable → ReachedOn t k k' a b s s' row row' bs x y → ((p : Pair) → IsPairRow k' row' p → (state ≡ p.state) × (b' ≡ with_sheet b p.node s' y) × (y' ≡ written_with b s' y)) → (q : ℕ) → HasRowFor k row q a.at → GoesAlong t a b' q state bs x y'
 arrived t k k' a b b' s s' row row' state bs x y y' blank usable f there q h =
     let r = f q a.at h in
     let p = r.reached.row_for.0 in
     let all = there p r.reached.row_for.1 in
     let node : p.node ≡ r.node = r.reached.row_for.3 in
-    let one = subst (λ u. Goes t u (with_sheet b r.node s' y) q r.reached.state bs (written_with a s x) (written_with b s' y)) (blank_position a a.at s x blank refl usable) r.reached.goes in
-    let two = subst (λ u. Goes t a (with_sheet b r.node s' y) q r.reached.state bs u (written_with b s' y)) (blank_written a s x blank) one in
-    let three = subst (λ u. Goes t a u q r.reached.state bs x (written_with b s' y)) (sym (all.1 ∙ ap (λ m. with_sheet b m s' y) node)) two in
-    let four = subst (λ u. Goes t a b' q r.reached.state bs x u) (sym all.2) three in
-    subst (λ u. Goes t a b' q u bs x y') (sym (all.0 ∙ r.reached.row_for.2)) four
+    let one = subst (λ u. GoesAlong t u (with_sheet b r.node s' y) q r.reached.state bs (written_with a s x) (written_with b s' y)) (blank_position a a.at s x blank refl usable) r.reached.goes in
+    let two = subst (λ u. GoesAlong t a (with_sheet b r.node s' y) q r.reached.state bs u (written_with b s' y)) (blank_written a s x blank) one in
+    let three = subst (λ u. GoesAlong t a u q r.reached.state bs x (written_with b s' y)) (sym (all.1 ∙ ap (λ m. with_sheet b m s' y) node)) two in
+    let four = subst (λ u. GoesAlong t a b' q r.reached.state bs x u) (sym all.2) three in
+    subst (λ u. GoesAlong t a b' q u bs x y') (sym (all.0 ∙ r.reached.row_for.2)) four
 
 -- from what is the same with its sheet
-pub reached_from : (t : Transducer) (k k' : Known) (a a' b : Position) (s s' s'' : Sheet) (row row' : ℕ) (bs x x' y : List ℕ) → ((p : Pair) → IsRowOf k row p → (with_sheet a' p.node s' x' ≡ with_sheet a p.node s x) × (written_with a' s' x' ≡ written_with a s x)) → ReachedOn t k k' a' b s' s'' row row' bs x' y → ReachedOn t k k' a b s s'' row row' bs x y
+pub reached_from : (t : Transducer) (k k' : Known) (a a' b : Position) (s s' s'' : Sheet) (row row' : ℕ) (bs x x' y : List ℕ) → ((p : Pair) → IsPairRow k row p → (with_sheet a' p.node s' x' ≡ with_sheet a p.node s x) × (written_with a' s' x' ≡ written_with a s x)) → ReachedOn t k k' a' b s' s'' row row' bs x' y → ReachedOn t k k' a b s s'' row row' bs x y
 reached_from t k k' a a' b s s' s'' row row' bs x x' y same f q n h =
     let e = same h.0 h.1 in
     let from : with_sheet a' n s' x' ≡ with_sheet a n s x = subst (λ m. with_sheet a' m s' x' ≡ with_sheet a m s x) h.3 e.0 in

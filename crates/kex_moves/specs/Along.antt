@@ -7,7 +7,7 @@ use Rattle.kex_action.specs.Sheets.{state_with}
 use Rattle.kex_action.specs.Actors.{Position, HasPerformed, BeginsRun, WentOn}
 use Rattle.kex_sst.specs.Tables.{Transducer}
 use Rattle.kex_sst.specs.Passes.{Pass, passes, passes_if}
-use Rattle.kex_moves.specs.Walks.{Takes}
+use Rattle.kex_moves.specs.Walks.{TakesCode}
 use Rattle.kex_moves.specs.Known.{Known, HasRowFor}
 
 -- at a state without registers
@@ -16,17 +16,17 @@ bare q c = record { state = q; code = c; registers = [] }
 
 -- along the bytes the table goes from q to r and says a code, and where that can be taken, on the way to anything, the
 -- actor has performed it
-pub record Goes (t : Transducer) (old new : Position) (q r : ℕ) (bs before after : List ℕ) : Type 0 where
+pub record GoesAlong (t : Transducer) (old new : Position) (q r : ℕ) (bs before after : List ℕ) : Type 0 where
   pub said : List Symbol
   pub passed : (c : List Symbol) → passes_if t (Some (bare q c)) bs ≡ Some (bare r (c ++ said))
-  pub went : (x : List Symbol) → Takes old.machine.nodes old.at (said ++ x) → WentOn old new said said before after
-  pub takes : (x : List Symbol) → Takes old.machine.nodes old.at (said ++ x) → Takes new.machine.nodes new.at x
+  pub went : (x : List Symbol) → TakesCode old.machine.nodes old.at (said ++ x) → WentOn old new said said before after
+  pub takes : (x : List Symbol) → TakesCode old.machine.nodes old.at (said ++ x) → TakesCode new.machine.nodes new.at x
 
 -- the same, to the row of a state and of the node where the actor stands
 pub record Reached (t : Transducer) (k : Known) (old new : Position) (q row : ℕ) (bs before after : List ℕ) : Type 0 where
   pub state : ℕ
   pub row_for : HasRowFor k row state new.at
-  pub goes : Goes t old new q state bs before after
+  pub goes : GoesAlong t old new q state bs before after
 
 -- the actor, as if what stands on the sheet were handed on at a node
 abbrev pub with_sheet : Position → ℕ → Sheet → List ℕ → Position

@@ -1,14 +1,14 @@
 -- What an edge writes.
 use Rattle.std.specs.Prelude.{◌≡◌, ◌≤◌, ◌+◌, ℕ, Bool, true, false, List, take, drop, slice_set}
 use Rattle.kex_moves.specs.declared.edge.Edge.{Edge}
-use Rattle.kex_moves.specs.declared.edge.Kind.{Kind}
-use Rattle.kex_moves.specs.declared.edge.Kind.TheVariants.{Keep, Drop, Text, Acts, Opens, Plain, Unknown}
+use Rattle.kex_moves.specs.declared.edge.EdgeKind.{EdgeKind}
+use Rattle.kex_moves.specs.declared.edge.EdgeKind.TheVariants.{Keep, Drop, Text, Acts, Opens, Plain, Unknown}
 
 -- as much of the text as counts, with the byte over the one at its place
 abbrev pub writes : List ℕ → Edge → ℕ → List ℕ
 writes text e b = take e.adds (slice_set (take 16 (drop e.from text)) e.byte_at b)
 
-abbrev pub is_written : Kind → Bool
+abbrev pub is_written : EdgeKind → Bool
 is_written Keep = true
 is_written Drop = true
 is_written Text = true
@@ -18,7 +18,7 @@ is_written Plain = false
 is_written Unknown = false
 
 -- it says where the byte leads and what is done
-abbrev pub is_known : Kind → Bool
+abbrev pub is_known : EdgeKind → Bool
 is_known Keep = true
 is_known Drop = true
 is_known Text = true
@@ -28,7 +28,7 @@ is_known Plain = false
 is_known Unknown = false
 
 -- actions are done
-abbrev pub has_acts : Kind → Bool
+abbrev pub has_acts : EdgeKind → Bool
 has_acts Keep = false
 has_acts Drop = false
 has_acts Text = false

@@ -1,7 +1,7 @@
 -- What is learnt of a table and a machine, and when it is right.
 use Rattle.std.specs.Prelude.{◌≡◌, ◌<◌, ◌≤◌, ◌+◌, ◌*◌, ◌^◌, ◌⊎◌, ℕ, List, [], ◌∷◌, ◌++◌, Some, All, true, length, if◌then◌else◌, take, drop, slice_get}
 use Rattle.kex_code.specs.declared.symbol.Symbol.{Symbol}
-use Rattle.kex_model.specs.Acting.{State}
+use Rattle.kex_model.specs.Acting.{ActingState}
 use Rattle.kex_machine.specs.declared.MNode.{MNode}
 use Rattle.kex_machine.specs.Nodes.{Graph}
 use Rattle.kex_action.specs.declared.action.Action.{Action}
@@ -11,11 +11,11 @@ use Rattle.kex_action.specs.Sheets.{with_buffer}
 use Rattle.kex_sst.specs.declared.table.Transition.{Transition}
 use Rattle.kex_sst.specs.Tables.{Transducer, transition_of}
 use Rattle.kex_moves.specs.declared.edge.Edge.{Edge}
-use Rattle.kex_moves.specs.declared.edge.Kind.TheVariants.{Opens, Unknown}
+use Rattle.kex_moves.specs.declared.edge.EdgeKind.TheVariants.{Opens, Unknown}
 use Rattle.kex_moves.specs.declared.edges.Pair.{Pair}
 use Rattle.kex_moves.specs.Edges.{writes, is_written, is_known, has_acts, HasRoom, IsAtRow}
 use Rattle.kex_moves.specs.Runs.{Rows}
-use Rattle.kex_moves.specs.Walks.{Takes, code_at}
+use Rattle.kex_moves.specs.Walks.{TakesCode, code_with_byte}
 
 -- the class of each byte, how long a row is (2 to the power of `shift`), the pairs of a state and a node, for each of them a row of edges by
 -- class, and the texts and actions of the edges
@@ -54,22 +54,22 @@ pub record IsOrdered (k : Known) : Type 0 where
   pub back : LeadBack k
 
 -- the row is that of the pair
-pub record IsRowOf (k : Known) (row : ℕ) (p : Pair) : Type 0 where
+pub record IsPairRow (k : Known) (row : ℕ) (p : Pair) : Type 0 where
   pub number : ℕ
   pub at : slice_get k.pairs number ≡ Some p
   pub begins : row ≡ number * k.width
 
 -- the row of a state and a node
 abbrev pub HasRowFor : Known → ℕ → ℕ → ℕ → Type 0
-HasRowFor k row state node = (p : Pair) × IsRowOf k row p × (p.state ≡ state) × (p.node ≡ node)
+HasRowFor k row state node = (p : Pair) × IsPairRow k row p × (p.state ≡ state) × (p.node ≡ node)
 
 -- what an edge makes of a state of the actor where the byte b is read
-abbrev pub makes : List MNode → Known → Edge → ℕ → State → State
+abbrev pub makes : List MNode → Known → Edge → ℕ → ActingState → ActingState
 makes nodes k e b s = if is_written e.kind then with_bytes (writes k.text e b) s else after_actions nodes b (take e.adds (drop e.from k.acts)) s
 
 -- an edge that opens makes just a buffer with the byte in it
 abbrev pub IsOpening : List MNode → Known → Edge → Type 0
-IsOpening nodes k e = e.kind ≡ Opens → (b : ℕ) (s : State) → makes nodes k e b s ≡ with_buffer (b ∷ []) s
+IsOpening nodes k e = e.kind ≡ Opens → (b : ℕ) (s : ActingState) → makes nodes k e b s ≡ with_buffer (b ∷ []) s
 
 -- on a byte of the class the table goes from the pair's state to the edge's, with an update of `out` alone; and for each
 -- byte with which its code can be taken from the pair's node, on the way to anything, it leads to the edge's node and
@@ -79,10 +79,10 @@ pub record IsRight (t : Transducer) (nodes : List MNode) (k : Known) (p : Pair) 
   pub goes : transition_of t p.state class ≡ Some by
   pub bare : by.update.regs ≡ []
   pub to : Pair
-  pub row : IsRowOf k e.next to
+  pub row : IsPairRow k e.next to
   pub target : to.state ≡ by.target
-  pub does : (b : ℕ) (c : List Symbol) → Takes nodes p.node (code_at b by.update.out ++ c) → Does nodes p.node (code_at b by.update.out) to.node (makes nodes k e b)
-  pub takes : (b : ℕ) (c : List Symbol) → Takes nodes p.node (code_at b by.update.out ++ c) → Takes nodes to.node c
+  pub does : (b : ℕ) (c : List Symbol) → TakesCode nodes p.node (code_with_byte b by.update.out ++ c) → Does nodes p.node (code_with_byte b by.update.out) to.node (makes nodes k e b)
+  pub takes : (b : ℕ) (c : List Symbol) → TakesCode nodes p.node (code_with_byte b by.update.out ++ c) → TakesCode nodes to.node c
   pub opens : IsOpening nodes k e
 
 -- each edge is right, or says nothing
@@ -116,15 +116,15 @@ pub record Lengthens (old new : Known) : Type 0 where
   pub longer : new ≡ record { classes = old.classes; width = old.width; shift = old.shift; pairs = old.pairs; edges = old.edges; text = old.text ++ text; acts = old.acts ++ acts }
 
 -- what was learnt of a row stays, and rows stay those of their pairs
-pub record Grows (old new : Known) : Type 0 where
+pub record KnownGrows (old new : Known) : Type 0 where
   pub width : new.width ≡ old.width
-  pub rows : (row : ℕ) (p : Pair) → IsRowOf old row p → IsRowOf new row p
+  pub rows : (row : ℕ) (p : Pair) → IsPairRow old row p → IsPairRow new row p
 
 -- the edge, if it says anything, leads to the row of a state and a node, and does what the actions do
 pub record IsLed (nodes : List MNode) (k : Known) (state node : ℕ) (actions : List Action) (e : Edge) : Type 0 where
   pub edge : IsEdge k e
   pub row : is_known e.kind ≡ true → HasRowFor k e.next state node
-  pub does : is_known e.kind ≡ true → (b : ℕ) (s : State) → after_actions nodes b actions s ≡ makes nodes k e b s
+  pub does : is_known e.kind ≡ true → (b : ℕ) (s : ActingState) → after_actions nodes b actions s ≡ makes nodes k e b s
   pub opens : IsOpening nodes k e
 
 -- all is forgotten
@@ -140,9 +140,9 @@ pub record HasPlace (bytes : List ℕ) (p : ℕ) : Type 0 where
   pub place : (p < length bytes) ⊎ (p ≡ 16)
 
 -- if the edge says anything, it leads to `next`, and makes f of a state
-pub record Settles (nodes : List MNode) (k : Known) (next : ℕ) (f : ℕ → State → State) (e : Edge) : Type 0 where
+pub record Settles (nodes : List MNode) (k : Known) (next : ℕ) (f : ℕ → ActingState → ActingState) (e : Edge) : Type 0 where
   pub goes : is_known e.kind ≡ true → e.next ≡ next
   pub room : is_written e.kind ≡ true → HasRoom (length k.text) e
   pub acts : has_acts e.kind ≡ true → e.from + e.adds ≤ length k.acts
-  pub does : is_known e.kind ≡ true → (b : ℕ) (s : State) → f b s ≡ makes nodes k e b s
+  pub does : is_known e.kind ≡ true → (b : ℕ) (s : ActingState) → f b s ≡ makes nodes k e b s
   pub opens : IsOpening nodes k e

@@ -1,7 +1,7 @@
 -- What the edges along a piece write, up to the first byte whose edge isn't written.
 use Rattle.std.specs.Prelude.{◌≡◌, ◌<◌, ◌+◌, ℕ, List, [], ◌∷◌, ◌++◌, Option, Some, None, All, true, drop, get_or, length, if◌then◌else◌, slice_get, slice_index}
 use Rattle.kex_moves.specs.declared.edge.Edge.{Edge}
-use Rattle.kex_moves.specs.declared.edge.Kind.{Kind}
+use Rattle.kex_moves.specs.declared.edge.EdgeKind.{EdgeKind}
 use Rattle.kex_moves.specs.Edges.{writes, is_written, HasRoom, IsAtRow}
 
 -- a byte's class, the edges of each row by class, and the texts of the edges
@@ -11,51 +11,51 @@ pub record Rows : Type 0 where
   pub text : List ℕ
 
 -- where a byte leads, and what is written for it
-pub record Step : Type 0 where
+pub record RunStep : Type 0 where
   pub row : ℕ
   pub writes : List ℕ
 
-abbrev pub by_edge : List ℕ → ℕ → Option Edge → Option Step
+abbrev pub by_edge : List ℕ → ℕ → Option Edge → Option RunStep
 by_edge text b None = None
 by_edge text b (Some e) = if is_written e.kind then Some (record { row = e.next; writes = writes text e b }) else None
 
 -- the edge that is written at a byte, if it is one
-abbrev pub step_of : Rows → ℕ → ℕ → Option Step
-step_of t row b = by_edge t.text b (slice_get t.edges (row + slice_index t.classes b))
+abbrev pub edge_step : Rows → ℕ → ℕ → Option RunStep
+edge_step t row b = by_edge t.text b (slice_get t.edges (row + slice_index t.classes b))
 
 -- what was written, where the run stopped, and the bytes that are left
-pub record Stop : Type 0 where
+pub record RunStop : Type 0 where
   pub written : List ℕ
   pub row : ℕ
   pub left : List ℕ
 
 -- the same behind what stood before
-abbrev pub stop_behind : List ℕ → Stop → Stop
+abbrev pub stop_behind : List ℕ → RunStop → RunStop
 stop_behind xs s = record { written = xs ++ s.written; row = s.row; left = s.left }
 
-abbrev pub on_step : Stop → (Step → Stop) → Option Step → Stop
+abbrev pub on_step : RunStop → (RunStep → RunStop) → Option RunStep → RunStop
 on_step stop more None = stop
 on_step stop more (Some w) = more w
 
 -- a run over bytes, as far as edges are written
-abbrev pub run_of : Rows → ℕ → List ℕ → Stop
+abbrev pub run_of : Rows → ℕ → List ℕ → RunStop
 run_of t row [] = record { written = []; row = row; left = [] }
-run_of t row (b ∷ bs) = on_step (record { written = []; row = row; left = b ∷ bs }) (λ w. stop_behind w.writes (run_of t w.row bs)) (step_of t row b)
+run_of t row (b ∷ bs) = on_step (record { written = []; row = row; left = b ∷ bs }) (λ w. stop_behind w.writes (run_of t w.row bs)) (edge_step t row b)
 
 -- a run over the bytes of a piece from number i on, behind what stood before
-abbrev pub run_from : Rows → List ℕ → List ℕ → ℕ → ℕ → Stop
+abbrev pub run_from : Rows → List ℕ → List ℕ → ℕ → ℕ → RunStop
 run_from t piece xs row i = stop_behind xs (run_of t row (drop i piece))
 
 -- there is an edge for each byte
-abbrev pub HasRow : List ℕ → List Edge → ℕ → Type 0
-HasRow classes edges row = All (λ c. row + c < length edges) classes
+abbrev pub HasEdgeRow : List ℕ → List Edge → ℕ → Type 0
+HasEdgeRow classes edges row = All (λ c. row + c < length edges) classes
 
 -- those that keep or drop lead back to the row
 abbrev pub LeadsBack : List ℕ → List Edge → ℕ → Type 0
 LeadsBack classes edges row = All (λ c. (e : Edge) → slice_get edges (row + c) ≡ Some e → IsAtRow row e) classes
 
 -- among the edges of a row that of the byte is of the kind
-pub record HasKind (classes : List ℕ) (edges : List Edge) (k : Kind) (b : ℕ) : Type 0 where
+pub record HasKind (classes : List ℕ) (edges : List Edge) (k : EdgeKind) (b : ℕ) : Type 0 where
   pub class : ℕ
   pub edge : Edge
   pub of : slice_get classes b ≡ Some class
@@ -77,6 +77,6 @@ abbrev pub HasRoomBelow : ℕ → List Edge → Type 0
 HasRoomBelow n edges = All (λ (e : Edge). is_written e.kind ≡ true → HasRoom n e) edges
 
 -- where edges lead there is a row, and what they write lies within the text
-pub record IsWithin (t : Rows) : Type 0 where
-  pub next : All (λ (e : Edge). is_written e.kind ≡ true → HasRow t.classes t.edges e.next × LeadsBack t.classes t.edges e.next) t.edges
+pub record AreEdgesWithin (t : Rows) : Type 0 where
+  pub next : All (λ (e : Edge). is_written e.kind ≡ true → HasEdgeRow t.classes t.edges e.next × LeadsBack t.classes t.edges e.next) t.edges
   pub room : HasRoomBelow (length t.text) t.edges

@@ -1,26 +1,26 @@
 -- What edges write along pieces: from row to row by the numbers of their words.
 use Rattle.std.specs.Prelude.{◌≡◌, ◌<◌, ◌≤◌, ◌+◌, ℕ, List, [], ◌∷◌, ◌++◌, Some, All, true, slice_get, length}
-use Rattle.kex_script.specs.declared.piece.Piece.{Piece}
+use Rattle.kex_script.specs.declared.piece.ByteWord.{ByteWord}
 use Rattle.kex_moves.specs.declared.edge.Edge.{Edge}
 use Rattle.kex_moves.specs.Edges.{writes, is_written}
-use Rattle.kex_moves.specs.Runs.{Step}
+use Rattle.kex_moves.specs.Runs.{RunStep}
 
 -- in the row there is an edge for the piece's word, and it is written
-pub record IsStep (edges : List Edge) (width row : ℕ) (p : Piece) (e : Edge) : Type 0 where
+pub record IsWrittenEdge (edges : List Edge) (width row : ℕ) (p : ByteWord) (e : Edge) : Type 0 where
   pub within : p.word < width
   pub edge : slice_get edges (row + p.word) ≡ Some e
   pub written : is_written e.kind ≡ true
 
 -- along the pieces edges are written from one row to another, behind what stood before
-abbrev pub IsTrail : List Edge → List ℕ → ℕ → List Piece → Step → Step → Type 0
+abbrev pub IsTrail : List Edge → List ℕ → ℕ → List ByteWord → RunStep → RunStep → Type 0
 IsTrail edges text width [] s z = z ≡ s
-IsTrail edges text width (p ∷ ps) s z = (e : Edge) × IsStep edges width s.row p e × IsTrail edges text width ps (record { row = e.next; writes = s.writes ++ writes text e p.byte }) z
+IsTrail edges text width (p ∷ ps) s z = (e : Edge) × IsWrittenEdge edges width s.row p e × IsTrail edges text width ps (record { row = e.next; writes = s.writes ++ writes text e p.byte }) z
 
 -- no edge is written for the first of the pieces, if there is one
-abbrev pub IsOver : List Edge → ℕ → ℕ → List Piece → Type 0
-IsOver edges width row [] = Unit {0}
-IsOver edges width row (p ∷ ps) = (e : Edge) → ¬ IsStep edges width row p e
+abbrev pub IsTrailOver : List Edge → ℕ → ℕ → List ByteWord → Type 0
+IsTrailOver edges width row [] = Unit {0}
+IsTrailOver edges width row (p ∷ ps) = (e : Edge) → ¬ IsWrittenEdge edges width row p e
 
 -- where edges lead there is a row
-abbrev pub LeadsBelow : ℕ → List Edge → Type 0
-LeadsBelow width edges = All (λ (e : Edge). is_written e.kind ≡ true → e.next + width ≤ length edges) edges
+abbrev pub EdgesLeadBelow : ℕ → List Edge → Type 0
+EdgesLeadBelow width edges = All (λ (e : Edge). is_written e.kind ≡ true → e.next + width ≤ length edges) edges

@@ -6,13 +6,13 @@ ghost use Rattle.kex_action.specs.Holdings.{Holding, state_of};
 ghost use Rattle.kex_action.specs.Actions.{after_actions};
 ghost use Rattle.kex_action.specs.Actors.{Position};
 ghost use Rattle.kex_action.specs.Sheets.{IsSheet, IsBlank, IsAsLong, with_buffer, state_with};
-ghost use Rattle.kex_moves.specs.declared.edge.Kind.{Kind};
+ghost use Rattle.kex_moves.specs.declared.edge.EdgeKind.{EdgeKind};
 ghost use Rattle.kex_moves.specs.declared.edges.Pair.{Pair};
 ghost use Rattle.kex_moves.specs.Runs.{IsEdgeAt, StopsAt, run_of};
-ghost use Rattle.kex_moves.specs.Known.{rows_of, IsEdge, IsRowOf, HasRowFor, IsKnown, Grows};
-ghost use Rattle.kex_moves.specs.Along.{ReachedOn, Goes, with_sheet, written_with};
+ghost use Rattle.kex_moves.specs.Known.{rows_of, IsEdge, IsPairRow, HasRowFor, IsKnown, KnownGrows};
+ghost use Rattle.kex_moves.specs.Along.{ReachedOn, GoesAlong, with_sheet, written_with};
 
-use crate::edge::{Edge, Kind};
+use crate::edge::{Edge, EdgeKind};
 use crate::edges::Edges;
 use crate::learn::{learn_edge, row_for};
 use crate::run::Halt;
@@ -42,14 +42,14 @@ pub struct Ran {
 
 /// How many bytes or pieces were taken, and the row to which they lead.
 #[derive(Clone, Copy)]
-pub struct Place {
+pub struct RowPoint {
     pub count: usize,
     pub row: usize,
 }
 
 /// The same, and whether no more can be taken from there.
 #[derive(Clone, Copy)]
-pub struct Stride {
+pub struct RowStride {
     pub count: usize,
     pub row: usize,
     pub stops: bool,
@@ -74,7 +74,7 @@ fn open(sheet: &mut Sheet, byte: u8) -> Result<(), Memory>
 // Goes along edges while they are written, on a sheet.
 #[inline(always)]
 fn along(edges: &Edges, sheet: &mut Sheet, row: usize, piece: &[u8]) -> Halt
-    requires row { (p : Pair) × IsRowOf edges.now row p }
+    requires row { (p : Pair) × IsPairRow edges.now row p }
     requires sheet { IsSheet sheet.old }
     requires room { sheet.old.used + 17 * length piece.now + 17 ≤ length sheet.old.bytes.items }
     ensures within { result.at ≤ length piece.now }
@@ -99,7 +99,7 @@ fn act_rest(
     out: &mut Vec<u8>,
 ) -> Result<(), Memory>
     requires usable { IsTrue actor.old.usable }
-    requires to { (p : Pair) × IsRowOf edges.now edge.next p × (p.node < length actor.old.machine.nodes) }
+    requires to { (p : Pair) × IsPairRow edges.now edge.next p × (p.node < length actor.old.machine.nodes) }
     requires sheet { IsSheet sheet.old }
     ensures did { OnOk result (state_of out.new.items actor.new.holding ≡ after_actions actor.old.machine.nodes byte rest.now (state_with sheet.old out.old.items actor.old.holding)) }
     ensures none { OnOk result (IsBlank sheet.new) }
@@ -123,8 +123,8 @@ pub fn act(
     out: &mut Vec<u8>,
 ) -> Result<(), Memory>
     requires usable { IsTrue actor.old.usable }
-    requires to { (p : Pair) × IsRowOf edges.now edge.next p × (p.node < length actor.old.machine.nodes) }
-    requires edge { IsEdge edges.now edge × (edge.kind ≡ Kind.Acts) }
+    requires to { (p : Pair) × IsPairRow edges.now edge.next p × (p.node < length actor.old.machine.nodes) }
+    requires edge { IsEdge edges.now edge × (edge.kind ≡ EdgeKind.Acts) }
     requires sheet { IsSheet sheet.old }
     ensures did { OnOk result (state_with sheet.new out.new.items actor.new.holding ≡ after_actions actor.old.machine.nodes byte (take edge.adds (drop edge.from edges.now.acts)) (state_with sheet.old out.old.items actor.old.holding)) }
     ensures sheet { OnOk result (IsSheet sheet.new × IsAsLong sheet.old sheet.new) }
@@ -149,10 +149,10 @@ fn act_at(
     actor: &mut Actor,
     sheet: &mut Sheet,
     out: &mut Vec<u8>,
-) -> Result<Stride, Memory>
+) -> Result<RowStride, Memory>
     requires usable { IsTrue actor.old.usable }
     requires known { (t : Transducer) × IsKnown t actor.old.machine edges.now }
-    requires row { (p : Pair) × IsRowOf edges.now row p }
+    requires row { (p : Pair) × IsPairRow edges.now row p }
     requires edge { IsEdgeAt edges.now.classes edges.now.edges row byte edge × IsEdge edges.now edge }
     requires sheet { IsSheet sheet.old }
     requires room { sheet.old.used < length sheet.old.bytes.items }
@@ -165,23 +165,23 @@ fn act_at(
     ensures usable { OnOk result (IsTrue actor.new.usable) }
 {
     match edge.kind {
-        Kind::Opens => {
+        EdgeKind::Opens => {
             open(sheet, byte)?;
-            Ok(Stride {
+            Ok(RowStride {
                 count: 1,
                 row: edge.next,
                 stops: sheet.used > MOST,
             })
         }
-        Kind::Acts => {
+        EdgeKind::Acts => {
             act(edges, edge, byte, actor, sheet, out)?;
-            Ok(Stride {
+            Ok(RowStride {
                 count: 1,
                 row: edge.next,
                 stops: sheet.used > MOST,
             })
         }
-        _ => Ok(Stride {
+        _ => Ok(RowStride {
             count: 0,
             row,
             stops: true,
@@ -198,10 +198,10 @@ fn act_next(
     actor: &mut Actor,
     sheet: &mut Sheet,
     out: &mut Vec<u8>,
-) -> Result<Stride, Memory>
+) -> Result<RowStride, Memory>
     requires usable { IsTrue actor.old.usable }
     requires known { (t : Transducer) × IsKnown t actor.old.machine edges.now }
-    requires row { (p : Pair) × IsRowOf edges.now row p }
+    requires row { (p : Pair) × IsPairRow edges.now row p }
     requires sheet { IsSheet sheet.old }
     requires room { sheet.old.used + 17 * length piece.now + 17 ≤ length sheet.old.bytes.items }
     ensures within { IfOk result (λ s. s.count ≤ length piece.now) }
@@ -215,14 +215,14 @@ fn act_next(
     let gone = along(edges, sheet, row, piece);
     let count = gone.at;
     let Some(edge) = gone.edge else {
-        return Ok(Stride {
+        return Ok(RowStride {
             count,
             row: gone.row,
             stops: true,
         });
     };
     let last = act_at(edges, edge, gone.row, piece[count], actor, sheet, out)?;
-    Ok(Stride {
+    Ok(RowStride {
         count: count + last.count,
         row: last.row,
         stops: last.stops,
@@ -239,10 +239,10 @@ fn along_acting(
     actor: &mut Actor,
     sheet: &mut Sheet,
     out: &mut Vec<u8>,
-) -> Result<Place, Memory>
+) -> Result<RowPoint, Memory>
     requires usable { IsTrue actor.old.usable }
     requires known { (t : Transducer) × IsKnown t actor.old.machine edges.now }
-    requires row { (p : Pair) × IsRowOf edges.now from p }
+    requires row { (p : Pair) × IsPairRow edges.now from p }
     requires part { length part.now ≤ PART }
     requires sheet { IsSheet sheet.old }
     requires few { sheet.old.used ≤ MOST }
@@ -262,7 +262,7 @@ fn along_acting(
         row = gone.row;
         left = bytes_left(gone.stops, part.len() - at);
     }
-    Ok(Place { count: at, row })
+    Ok(RowPoint { count: at, row })
 }
 
 // Learns the edge of a byte if it isn't learnt. Tells whether no edge can be gone along there.
@@ -275,17 +275,17 @@ fn learn_at(
     row: usize,
     byte: u8,
 ) -> Result<bool, Memory>
-    requires row { (p : Pair) × IsRowOf edges.old row p }
+    requires row { (p : Pair) × IsPairRow edges.old row p }
     requires known { IsKnown table.now machine.now edges.old }
     ensures known { IfOk result (λ b. IsKnown table.now machine.now edges.new) }
-    ensures rows { IfOk result (λ b. Grows edges.old edges.new) }
+    ensures rows { IfOk result (λ b. KnownGrows edges.old edges.new) }
 {
     match edges.edge_at(row, edges.class_of(byte)).kind {
-        Kind::Unknown => {
+        EdgeKind::Unknown => {
             learn_edge(alloc, table, machine, edges, row, byte)?;
             Ok(false)
         }
-        Kind::Plain => Ok(true),
+        EdgeKind::Plain => Ok(true),
         _ => Ok(false),
     }
 }
@@ -299,9 +299,9 @@ pub fn arrive(
     out: &mut Vec<u8>,
 ) -> Result<u32, Memory>
     requires usable { IsTrue actor.old.usable }
-    requires row { (p : Pair) × IsRowOf edges.now row p × (p.node < length actor.old.machine.nodes) }
+    requires row { (p : Pair) × IsPairRow edges.now row p × (p.node < length actor.old.machine.nodes) }
     requires sheet { IsSheet sheet.old }
-    ensures arrives { IfOk result (λ s. (p : Pair) → IsRowOf edges.now row p → (s ≡ p.state) × (actor.new ≡ with_sheet actor.old p.node sheet.old out.old.items) × (out.new.items ≡ written_with actor.old sheet.old out.old.items)) }
+    ensures arrives { IfOk result (λ s. (p : Pair) → IsPairRow edges.now row p → (s ≡ p.state) × (actor.new ≡ with_sheet actor.old p.node sheet.old out.old.items) × (out.new.items ≡ written_with actor.old sheet.old out.old.items)) }
     ensures none { OnOk result (IsBlank sheet.new) }
     ensures room { IsAsLong sheet.old sheet.new }
     ensures machine { actor.new.machine ≡ actor.old.machine }
@@ -321,9 +321,9 @@ pub fn make_room(
     out: &mut Vec<u8>,
 ) -> Result<(), Memory>
     requires usable { IsTrue actor.old.usable }
-    requires row { (p : Pair) × IsRowOf edges.now row p × (p.node < length actor.old.machine.nodes) }
+    requires row { (p : Pair) × IsPairRow edges.now row p × (p.node < length actor.old.machine.nodes) }
     requires sheet { IsSheet sheet.old }
-    ensures same { OnOk result ((p : Pair) → IsRowOf edges.now row p → (with_sheet actor.new p.node sheet.new out.new.items ≡ with_sheet actor.old p.node sheet.old out.old.items) × (written_with actor.new sheet.new out.new.items ≡ written_with actor.old sheet.old out.old.items)) }
+    ensures same { OnOk result ((p : Pair) → IsPairRow edges.now row p → (with_sheet actor.new p.node sheet.new out.new.items ≡ with_sheet actor.old p.node sheet.old out.old.items) × (written_with actor.new sheet.new out.new.items ≡ written_with actor.old sheet.old out.old.items)) }
     ensures sheet { OnOk result (IsSheet sheet.new × IsAsLong sheet.old sheet.new × (sheet.new.used ≤ MOST)) }
     ensures machine { actor.new.machine ≡ actor.old.machine }
     ensures usable { OnOk result (IsTrue actor.new.usable) }
@@ -358,7 +358,7 @@ fn go_on(
     actor: &mut Actor,
     piece: &[u8],
     out: &mut Vec<u8>,
-) -> Result<Stride, Memory>
+) -> Result<RowStride, Memory>
     requires usable { IsTrue actor.old.usable }
     requires machine { actor.old.machine ≡ machine.now }
     requires known { IsKnown table.now machine.now edges.old }
@@ -377,14 +377,14 @@ fn go_on(
     let place = along_acting(edges, row, part, actor, sheet, out)?;
     let count = place.count;
     if count == piece.len() {
-        return Ok(Stride {
+        return Ok(RowStride {
             count,
             row: place.row,
             stops: true,
         });
     }
     let stops = learn_at(alloc, table, machine, edges, place.row, piece[count])?;
-    Ok(Stride {
+    Ok(RowStride {
         count,
         row: place.row,
         stops,
@@ -428,7 +428,7 @@ fn run_from(
     requires none { IsBlank sheet.old }
     ensures known { IfOk result (λ ran. IsKnown table.now machine.now edges.new) }
     ensures within { IfOk result (λ ran. ran.count ≤ length piece.now) }
-    ensures goes { IfOk result (λ ran. (q : ℕ) → HasRowFor edges.old from q actor.old.at → Goes table.now actor.old actor.new q ran.state (take ran.count piece.now) out.old.items out.new.items) }
+    ensures goes { IfOk result (λ ran. (q : ℕ) → HasRowFor edges.old from q actor.old.at → GoesAlong table.now actor.old actor.new q ran.state (take ran.count piece.now) out.old.items out.new.items) }
     ensures none { OnOk result (IsBlank sheet.new) }
     ensures room { OnOk result (IsAsLong sheet.old sheet.new) }
     ensures machine { actor.new.machine ≡ actor.old.machine }
@@ -450,14 +450,14 @@ fn run_from(
 
 // Whether a piece is empty, or a plain step is to be taken at its first byte.
 fn ends_at(edges: &Edges, row: usize, piece: &[u8]) -> bool
-    requires { (p : Pair) × IsRowOf edges.now row p }
+    requires { (p : Pair) × IsPairRow edges.now row p }
     ensures { IsTrue result → run_of (rows_of edges.now) row piece.now ≡ record { written = []; row = row; left = piece.now } }
 {
     if piece.is_empty() {
         return true;
     }
     match edges.edge_at(row, edges.class_of(piece[0])).kind {
-        Kind::Plain => true,
+        EdgeKind::Plain => true,
         _ => false,
     }
 }
@@ -482,7 +482,7 @@ pub fn run_at(
     requires none { IsBlank sheet.old }
     ensures known { IfOk result (λ ran. IsKnown table.now machine.now edges.new) }
     ensures within { IfOk result (λ ran. ran.count ≤ length piece.now) }
-    ensures goes { IfOk result (λ ran. Goes table.now actor.old actor.new state ran.state (take ran.count piece.now) out.old.items out.new.items) }
+    ensures goes { IfOk result (λ ran. GoesAlong table.now actor.old actor.new state ran.state (take ran.count piece.now) out.old.items out.new.items) }
     ensures none { OnOk result (IsBlank sheet.new) }
     ensures room { OnOk result (IsAsLong sheet.old sheet.new) }
     ensures machine { actor.new.machine ≡ actor.old.machine }

@@ -3,7 +3,7 @@
 /// What kind of edge it is. In a row the first two are kinds of edges that lead back to it, so that the kind alone says that
 /// the row stays.
 #[derive(Clone, Copy, Debug, PartialEq, Eq)]
-pub enum Kind {
+pub enum EdgeKind {
     /// The byte alone is written, and the row stays.
     Keep,
     /// Nothing is written, and the row stays.
@@ -29,10 +29,10 @@ pub struct Edge {
     pub from: u32,
     pub byte_at: u8,
     pub adds: u8,
-    pub kind: Kind,
+    pub kind: EdgeKind,
 }
 
-impl Kind {
+impl EdgeKind {
     ghost use Rattle.std.specs.Prelude.{◌≡◌, IsTrue, ◌↔◌};
     ghost use Rattle.kex_moves.specs.Edges.{is_written};
 
@@ -42,8 +42,8 @@ impl Kind {
         ensures { result ≡ is_written self }
     {
         match self {
-            Kind::Keep | Kind::Drop | Kind::Text => true,
-            Kind::Acts | Kind::Opens | Kind::Plain | Kind::Unknown => false,
+            EdgeKind::Keep | EdgeKind::Drop | EdgeKind::Text => true,
+            EdgeKind::Acts | EdgeKind::Opens | EdgeKind::Plain | EdgeKind::Unknown => false,
         }
     }
 
@@ -51,21 +51,21 @@ impl Kind {
     pub fn is_text(self) -> bool
         ensures { IsTrue result ↔ (self ≡ Kind.Text) }
     {
-        matches!(self, Kind::Text)
+        matches!(self, EdgeKind::Text)
     }
 
     #[inline(always)]
     pub fn is_keep(self) -> bool
-        ensures { IsTrue result ↔ (self ≡ Kind.Keep) }
+        ensures { IsTrue result ↔ (self ≡ EdgeKind.Keep) }
     {
-        matches!(self, Kind::Keep)
+        matches!(self, EdgeKind::Keep)
     }
 
     #[inline(always)]
     pub fn is_drop(self) -> bool
-        ensures { IsTrue result ↔ (self ≡ Kind.Drop) }
+        ensures { IsTrue result ↔ (self ≡ EdgeKind.Drop) }
     {
-        matches!(self, Kind::Drop)
+        matches!(self, EdgeKind::Drop)
     }
 }
 
@@ -74,7 +74,7 @@ impl Edge {
     ghost use Rattle.kex_moves.specs.Edges.{is_written, is_known, IsAtRow};
 
     // An edge of a kind that says nothing.
-    fn silent(kind: Kind) -> Edge
+    fn silent(kind: EdgeKind) -> Edge
         ensures { result ≡ record { next = 0; from = 0; byte_at = 0; adds = 0; kind = kind } }
     {
         Edge {
@@ -88,28 +88,28 @@ impl Edge {
 
     // Nothing is learnt yet.
     pub fn unknown() -> Edge
-        ensures { result.kind ≡ Kind.Unknown }
+        ensures { result.kind ≡ EdgeKind.Unknown }
     {
-        Edge::silent(Kind::Unknown)
+        Edge::silent(EdgeKind::Unknown)
     }
 
     // A plain step is to be taken.
     pub fn plain() -> Edge
         ensures { is_known result.kind ≡ false }
     {
-        Edge::silent(Kind::Plain)
+        Edge::silent(EdgeKind::Plain)
     }
 
     // The edge as it stands in a row: it keeps or drops only where it leads back to the row.
     pub fn at_row(self, row: usize) -> Edge
         ensures at { IsAtRow row result }
-        ensures same { (result ≡ self) ⊎ ((is_written self.kind ≡ true) × (result ≡ record self { kind = Kind.Text })) }
+        ensures same { (result ≡ self) ⊎ ((is_written self.kind ≡ true) × (result ≡ record self { kind = EdgeKind.Text })) }
     {
         if self.next == row || !self.kind.is_written() {
             return self;
         }
         Edge {
-            kind: Kind::Text,
+            kind: EdgeKind::Text,
             ..self
         }
     }

@@ -3,20 +3,20 @@
 ghost use Rattle.std.specs.Prelude.{◌≡◌, ◌<◌, ◌≤◌, ◌+◌, ◌*◌, ◌-◌, ◌^◌, IsTrue, ◌++◌, ◌∷◌, List, ℕ, [], All, OnOk, IfOk, IfSome, IsNone, length, take, drop, replicate, slice_get, Some, slice_set, true};
 ghost use Rattle.kex_machine.specs.declared.MNode.{MNode};
 ghost use Rattle.kex_action.specs.Holdings.{with_bytes};
-ghost use Rattle.kex_model.specs.Acting.{State};
+ghost use Rattle.kex_model.specs.Acting.{ActingState};
 ghost use Rattle.kex_action.specs.Actions.{after_actions};
 ghost use Rattle.kex_action.specs.Sheets.{with_buffer};
 ghost use Rattle.kex_moves.specs.Edges.{is_written, has_acts, IsAtRow};
 ghost use Rattle.kex_moves.specs.Runs.{StopsAt, stop_behind, run_of};
-ghost use Rattle.kex_moves.specs.Trails.{IsTrail, IsOver};
-ghost use Rattle.kex_moves.specs.Known.{rows_of, IsEdge, IsOrdered, IsRowOf, HasRowFor, HasPlace, Settles, Widens, Lengthens, Forgets};
+ghost use Rattle.kex_moves.specs.Trails.{IsTrail, IsTrailOver};
+ghost use Rattle.kex_moves.specs.Known.{rows_of, IsEdge, IsOrdered, IsPairRow, HasRowFor, HasPlace, Settles, Widens, Lengthens, Forgets};
 
-use crate::edge::{Edge, Kind};
+use crate::edge::{Edge, EdgeKind};
 use crate::follow::follow;
-use crate::run::{Halt, Spot, run};
+use crate::run::{Halt, SheetPoint, run};
 use kex_action::action::Action;
 use kex_code::memory::Memory;
-use kex_script::piece::Piece;
+use kex_script::piece::ByteWord;
 use std::alloc::Global;
 use std::marker::Model;
 use std::mem;
@@ -104,7 +104,7 @@ fn push_row(
 ) -> Result<(), Memory>
     requires { length edges.old.items + width ≤ MOST_EDGES }
     ensures pairs { OnOk result (pairs.new.items ≡ pairs.old.items ++ pair ∷ []) }
-    ensures edges { OnOk result ((more : List Edge) × (edges.new.items ≡ edges.old.items ++ more) × (length more ≡ width) × All (λ (e : Edge). e.kind ≡ Kind.Unknown) more) }
+    ensures edges { OnOk result ((more : List Edge) × (edges.new.items ≡ edges.old.items ++ more) × (length more ≡ width) × All (λ (e : Edge). e.kind ≡ EdgeKind.Unknown) more) }
 {
     pairs.push(pair)?;
     edges.resize(edges.len() + width, Edge::unknown())?;
@@ -122,30 +122,30 @@ fn place_behind(count: usize, most: usize) -> Option<u32>
 }
 
 // What kind of edge writes so many bytes, of which the one read stands at a place.
-fn kind_of(place: usize, count: usize) -> Kind
+fn kind_of(place: usize, count: usize) -> EdgeKind
     ensures written { is_written result ≡ true }
-    ensures keeps { result ≡ Kind.Keep → (place ≡ 0) × (count ≡ 1) }
-    ensures drops { result ≡ Kind.Drop → count ≡ 0 }
+    ensures keeps { result ≡ EdgeKind.Keep → (place ≡ 0) × (count ≡ 1) }
+    ensures drops { result ≡ EdgeKind.Drop → count ≡ 0 }
 {
     if place == 0 && count == 1 {
-        return Kind::Keep;
+        return EdgeKind::Keep;
     }
     if count == 0 {
-        return Kind::Drop;
+        return EdgeKind::Drop;
     }
-    Kind::Text
+    EdgeKind::Text
 }
 
 // The kind of an edge with actions. Those that open a buffer and write the byte alone have a kind of their own where
 // edges are those of bytes.
-fn kind_of_acts(opens: bool, bytes: bool) -> Kind
+fn kind_of_acts(opens: bool, bytes: bool) -> EdgeKind
     ensures acts { has_acts result ≡ true }
-    ensures opens { result ≡ Kind.Opens → IsTrue opens }
+    ensures opens { result ≡ EdgeKind.Opens → IsTrue opens }
 {
     if opens && bytes {
-        Kind::Opens
+        EdgeKind::Opens
     } else {
-        Kind::Acts
+        EdgeKind::Acts
     }
 }
 
@@ -287,15 +287,15 @@ impl Edges {
 
     /// The pair of a row.
     pub fn pair_at(&self, row: usize) -> Pair
-        requires { (p : Pair) × IsRowOf self.now row p }
-        ensures { (p : Pair) → IsRowOf self.now row p → result ≡ p }
+        requires { (p : Pair) × IsPairRow self.now row p }
+        ensures { (p : Pair) → IsPairRow self.now row p → result ≡ p }
     {
         self.pairs[row >> self.shift]
     }
 
     /// The edge of a row at a class.
     pub fn edge_at(&self, row: usize, class: u8) -> Edge
-        requires row { (p : Pair) × IsRowOf self.now row p }
+        requires row { (p : Pair) × IsPairRow self.now row p }
         requires class { class < self.now.width }
         ensures edge { slice_get self.now.edges (row + class) ≡ Some result }
         ensures ordered { IsEdge self.now result }
@@ -331,7 +331,7 @@ impl Edges {
         let kind = kind_of(place, bytes.len());
         let byte_at = place as u8;
         let adds = bytes.len() as u8;
-        let Kind::Text = kind else {
+        let EdgeKind::Text = kind else {
             return Ok(Edge {
                 next,
                 from: 0,
@@ -362,7 +362,7 @@ impl Edges {
     ) -> Result<Edge, Memory>
         ensures ordered { IfOk result (λ e. IsOrdered self.new) }
         ensures longer { IfOk result (λ e. Lengthens self.old self.new) }
-        ensures settles { IfOk result (λ e. (nodes : List MNode) → (IsTrue opens → (b : ℕ) (s : State) → after_actions nodes b actions.now s ≡ with_buffer (b ∷ []) s) → Settles nodes self.new next (λ b. after_actions nodes b actions.now) e) }
+        ensures settles { IfOk result (λ e. (nodes : List MNode) → (IsTrue opens → (b : ℕ) (s : ActingState) → after_actions nodes b actions.now s ≡ with_buffer (b ∷ []) s) → Settles nodes self.new next (λ b. after_actions nodes b actions.now) e) }
     {
         let Some(from) = place_behind(self.acts.len(), MOST_ACTS) else {
             return Ok(Edge::plain());
@@ -382,7 +382,7 @@ impl Edges {
 
     /// Learns the edge of a row at a class.
     pub fn put(&mut self, row: usize, class: u8, edge: Edge)
-        requires row { (p : Pair) × IsRowOf self.old row p }
+        requires row { (p : Pair) × IsPairRow self.old row p }
         requires class { class < self.old.width }
         requires edge { IsEdge self.old edge }
         requires at { IsAtRow row edge }
@@ -396,7 +396,7 @@ impl Edges {
     /// Goes along edges from a row while they are written, behind what is used of a buffer.
     #[inline(always)]
     pub fn run(&self, row: usize, piece: &[u8], buffer: &mut [u8], used: usize) -> Halt
-        requires row { (p : Pair) × IsRowOf self.now row p }
+        requires row { (p : Pair) × IsPairRow self.now row p }
         requires room { used + 17 * length piece.now + 17 ≤ length buffer.old }
         ensures at { result.at ≤ length piece.now }
         ensures used { result.used ≤ length buffer.new }
@@ -412,7 +412,7 @@ impl Edges {
             &self.text,
             piece,
             buffer,
-            Spot { at: 0, row, used },
+            SheetPoint { at: 0, row, used },
         )
     }
 
@@ -424,13 +424,19 @@ impl Edges {
     }
 
     /// Goes along edges from a row by the words of pieces while they are written, behind what is used of a buffer.
-    pub fn follow(&self, row: usize, pieces: &[Piece], buffer: &mut [u8], used: usize) -> Spot
-        requires row { (p : Pair) × IsRowOf self.now row p }
+    pub fn follow(
+        &self,
+        row: usize,
+        pieces: &[ByteWord],
+        buffer: &mut [u8],
+        used: usize,
+    ) -> SheetPoint
+        requires row { (p : Pair) × IsPairRow self.now row p }
         requires room { used + 17 * length pieces.now + 17 ≤ length buffer.old }
         ensures at { result.at ≤ length pieces.now }
         ensures used { result.used ≤ length buffer.new }
         ensures trail { IsTrail self.now.edges self.now.text self.now.width (take result.at pieces.now) (record { row = row; writes = take used buffer.old }) (record { row = result.row; writes = take result.used buffer.new }) }
-        ensures stops { IsOver self.now.edges self.now.width result.row (drop result.at pieces.now) }
+        ensures stops { IsTrailOver self.now.edges self.now.width result.row (drop result.at pieces.now) }
         ensures ordered { IsOrdered self.now }
     {
         follow(

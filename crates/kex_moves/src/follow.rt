@@ -4,12 +4,12 @@ ghost use Rattle.std.specs.Prelude.{◌≡◌, ◌≢◌, ℕ, ◌+◌, ◌*◌,
 ghost use Rattle.kex_moves.specs.declared.edge.Edge.{Edge};
 ghost use Rattle.kex_moves.specs.Edges.{HasRoom};
 ghost use Rattle.kex_moves.specs.Runs.{HasRoomBelow};
-ghost use Rattle.kex_moves.specs.Trails.{LeadsBelow, IsStep, IsTrail, IsOver};
+ghost use Rattle.kex_moves.specs.Trails.{EdgesLeadBelow, IsWrittenEdge, IsTrail, IsTrailOver};
 
 use crate::edge::Edge;
 use crate::put::put;
-use crate::run::Spot;
-use kex_script::piece::Piece;
+use crate::run::SheetPoint;
+use kex_script::piece::ByteWord;
 
 // Writes an edge that leads back to its own row again for each piece with the word of the one before, up to another word: the
 // edge is the same, so nothing is looked up. Tells how many pieces.
@@ -17,8 +17,8 @@ use kex_script::piece::Piece;
 fn stay(
     e: Edge,
     text: &[u8],
-    before: Piece,
-    pieces: &[Piece],
+    before: ByteWord,
+    pieces: &[ByteWord],
     buffer: &mut [u8],
     used: usize,
 ) -> usize
@@ -27,7 +27,7 @@ fn stay(
     ensures count { result ≤ length pieces.now }
     ensures room { used + result * e.adds + 17 * (length pieces.now - result) + 17 ≤ length buffer.old }
     ensures len { length buffer.new ≡ length buffer.old }
-    ensures trail { (edges : List Edge) (width : ℕ) → IsStep edges width e.next before e → IsTrail edges text.now width (take result pieces.now) (record { row = e.next; writes = take used buffer.old }) (record { row = e.next; writes = take (used + result * e.adds) buffer.new }) }
+    ensures trail { (edges : List Edge) (width : ℕ) → IsWrittenEdge edges width e.next before e → IsTrail edges text.now width (take result pieces.now) (record { row = e.next; writes = take used buffer.old }) (record { row = e.next; writes = take (used + result * e.adds) buffer.new }) }
     ensures other { IfSome (slice_get pieces.now result) (λ p. p.word ≢ before.word) }
 {
     let mut count = 0;
@@ -51,19 +51,19 @@ pub fn follow(
     edges: &[Edge],
     width: usize,
     text: &[u8],
-    pieces: &[Piece],
+    pieces: &[ByteWord],
     buffer: &mut [u8],
     row: usize,
     used: usize,
-) -> Spot
-    requires next { LeadsBelow width edges.now }
+) -> SheetPoint
+    requires next { EdgesLeadBelow width edges.now }
     requires text { HasRoomBelow (length text.now) edges.now }
     requires row { row + width ≤ length edges.now }
     requires room { used + 17 * length pieces.now + 17 ≤ length buffer.old }
     ensures at { result.at ≤ length pieces.now }
     ensures used { result.used ≤ length buffer.new }
     ensures trail { IsTrail edges.now text.now width (take result.at pieces.now) (record { row = row; writes = take used buffer.old }) (record { row = result.row; writes = take result.used buffer.new }) }
-    ensures stops { IsOver edges.now width result.row (drop result.at pieces.now) }
+    ensures stops { IsTrailOver edges.now width result.row (drop result.at pieces.now) }
 {
     let mut at = 0;
     let mut row = row;
@@ -88,5 +88,5 @@ pub fn follow(
             row = e.next;
         }
     }
-    Spot { at, row, used }
+    SheetPoint { at, row, used }
 }

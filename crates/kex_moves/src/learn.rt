@@ -6,8 +6,8 @@ ghost use Rattle.kex_machine.specs.Nodes.{Graph};
 ghost use Rattle.kex_sst.specs.Tables.{Transducer};
 ghost use Rattle.kex_moves.specs.declared.edges.Pair.{Pair};
 ghost use Rattle.kex_moves.specs.Edges.{is_known};
-ghost use Rattle.kex_moves.specs.Known.{IsEdge, IsRight, IsRowOf, HasRowFor, IsPairOf, IsKnown, IsLed, Grows};
-ghost use Rattle.kex_moves.specs.Speech.{table_of};
+ghost use Rattle.kex_moves.specs.Known.{IsEdge, IsRight, IsPairRow, HasRowFor, IsPairOf, IsKnown, IsLed, KnownGrows};
+ghost use Rattle.kex_moves.specs.Speech.{words_table};
 
 use crate::edge::Edge;
 use crate::edges::{Edges, Pair};
@@ -30,7 +30,7 @@ fn lead(
 ) -> Result<Edge, Memory>
     requires { learnt.now.to < length machine.now.nodes }
     ensures known { IfOk result (λ e. (t : Transducer) → state < length t.states → IsKnown t machine.now edges.old → IsKnown t machine.now edges.new) }
-    ensures grows { IfOk result (λ e. Grows edges.old edges.new) }
+    ensures grows { IfOk result (λ e. KnownGrows edges.old edges.new) }
     ensures led { IfOk result (IsLed machine.now.nodes edges.new state learnt.now.to learnt.now.actions.items) }
 {
     let Some(row) = edges.row_of(state, learnt.to)? else {
@@ -53,7 +53,7 @@ fn edge_of(
     requires pair { IsPairOf table.now machine.now pair }
     requires known { IsKnown table.now machine.now edges.old }
     ensures known { IfOk result (λ e. IsKnown table.now machine.now edges.new) }
-    ensures grows { IfOk result (λ e. Grows edges.old edges.new) }
+    ensures grows { IfOk result (λ e. KnownGrows edges.old edges.new) }
     ensures edge { IfOk result (IsEdge edges.new) }
     ensures right { IfOk result (λ e. is_known e.kind ≡ true → IsRight table.now machine.now.nodes edges.new pair class e) }
 {
@@ -78,10 +78,10 @@ pub fn learn_edge(
     row: usize,
     byte: u8,
 ) -> Result<(), Memory>
-    requires row { (p : Pair) × IsRowOf edges.old row p }
+    requires row { (p : Pair) × IsPairRow edges.old row p }
     requires known { IsKnown table.now machine.now edges.old }
     ensures known { OnOk result (IsKnown table.now machine.now edges.new) }
-    ensures rows { OnOk result (Grows edges.old edges.new) }
+    ensures rows { OnOk result (KnownGrows edges.old edges.new) }
 {
     let pair = edges.pair_at(row);
     let class = edges.class_of(byte);
@@ -99,12 +99,12 @@ fn word_edge(
     pair: Pair,
     word: u8,
 ) -> Result<Edge, Memory>
-    requires pair { IsPairOf (table_of words.now) machine.now pair }
-    requires known { IsKnown (table_of words.now) machine.now edges.old }
-    ensures known { IfOk result (λ e. IsKnown (table_of words.now) machine.now edges.new) }
-    ensures grows { IfOk result (λ e. Grows edges.old edges.new) }
+    requires pair { IsPairOf (words_table words.now) machine.now pair }
+    requires known { IsKnown (words_table words.now) machine.now edges.old }
+    ensures known { IfOk result (λ e. IsKnown (words_table words.now) machine.now edges.new) }
+    ensures grows { IfOk result (λ e. KnownGrows edges.old edges.new) }
     ensures edge { IfOk result (IsEdge edges.new) }
-    ensures right { IfOk result (λ e. is_known e.kind ≡ true → IsRight (table_of words.now) machine.now.nodes edges.new pair word e) }
+    ensures right { IfOk result (λ e. is_known e.kind ≡ true → IsRight (words_table words.now) machine.now.nodes edges.new pair word e) }
 {
     let Some(parts) = words.get(word as usize) else {
         return Ok(Edge::plain());
@@ -124,10 +124,10 @@ pub fn learn_word(
     row: usize,
     word: u8,
 ) -> Result<(), Memory>
-    requires row { (p : Pair) × IsRowOf edges.old row p }
+    requires row { (p : Pair) × IsPairRow edges.old row p }
     requires word { word < edges.old.width }
-    requires known { IsKnown (table_of words.now) machine.now edges.old }
-    ensures known { OnOk result (IsKnown (table_of words.now) machine.now edges.new) }
+    requires known { IsKnown (words_table words.now) machine.now edges.old }
+    ensures known { OnOk result (IsKnown (words_table words.now) machine.now edges.new) }
 {
     let pair = edges.pair_at(row);
     let edge = word_edge(alloc, words, machine, edges, pair, word)?;

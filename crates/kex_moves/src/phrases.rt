@@ -13,7 +13,7 @@ use kex_action::sheet::Sheet;
 use kex_code::memory::Memory;
 use kex_code::symbol::Symbol;
 use kex_machine::Trimmed;
-use kex_script::piece::Piece;
+use kex_script::piece::ByteWord;
 use kex_sst::parts::Parts;
 use std::alloc::Global;
 use std::marker::Model;
@@ -40,14 +40,14 @@ impl<'p> Model for Phrases<'p> {
     ghost use Rattle.std.specs.Prelude.{◌≡◌, IsTrue, length};
     ghost use Rattle.kex_moves.specs.Known.{IsKnown};
     ghost use Rattle.kex_action.specs.Sheets.{IsBlank};
-    ghost use Rattle.kex_moves.specs.Speech.{Speech, table_of};
+    ghost use Rattle.kex_moves.specs.Speech.{Speech, words_table};
     ghost use Rattle.kex_moves.specs.declared.along.TheConstants.{ROOM};
 
     ghost Value = { Speech };
 
     ghost view = { λ p. record { words = p.words.items; machine = p.machine.now } };
 
-    ghost invariant = { λ p. IsTrue p.usable → IsKnown (table_of p.words.items) p.machine.now p.edges × IsBlank p.sheet × (length p.sheet.bytes.items ≡ ROOM) };
+    ghost invariant = { λ p. IsTrue p.usable → IsKnown (words_table p.words.items) p.machine.now p.edges × IsBlank p.sheet × (length p.sheet.bytes.items ≡ ROOM) };
 }
 
 // The same words again.
@@ -84,7 +84,7 @@ impl<'p> Phrases<'p> {
     pub fn say(
         &mut self,
         actor: &mut Actor<'p>,
-        pieces: &[Piece],
+        pieces: &[ByteWord],
         out: &mut Vec<u8>,
     ) -> Result<(), Memory>
         requires usable { IsTrue actor.old.usable }

@@ -1,15 +1,15 @@
 // The hot loop: functions over slices and numbers by value, so that all that changes is in locals.
 
 ghost use Rattle.std.specs.Prelude.{◌≡◌, ℕ, ◌+◌, ◌*◌, ◌-◌, ◌<◌, ◌≤◌, List, All, IfSome, IsNone, length, take, drop};
-ghost use Rattle.kex_moves.specs.declared.edge.Kind.{Kind};
-ghost use Rattle.kex_moves.specs.Runs.{HasRow, LeadsBack, HasKind, IsWithin, StopsAt, run_from};
+ghost use Rattle.kex_moves.specs.declared.edge.EdgeKind.{EdgeKind};
+ghost use Rattle.kex_moves.specs.Runs.{HasEdgeRow, LeadsBack, HasKind, AreEdgesWithin, StopsAt, run_from};
 
 use crate::edge::Edge;
 use crate::put::put;
 
 /// How far a run has come: in the piece, in the rows, and in the buffer.
 #[derive(Clone, Copy)]
-pub struct Spot {
+pub struct SheetPoint {
     pub at: usize,
     pub row: usize,
     pub used: usize,
@@ -20,11 +20,11 @@ pub struct Spot {
 fn keep(classes: &[u8; 256], edges: &[Edge], piece: &[u8], to: &mut [u8]) -> usize
     requires row { All (λ c. c < length edges.now) classes.now }
     requires some { 0 < length piece.now }
-    requires first { All (HasKind classes.now edges.now Kind.Keep) (take 1 piece.now) }
+    requires first { All (HasKind classes.now edges.now EdgeKind.Keep) (take 1 piece.now) }
     requires room { length piece.now ≤ length to.old }
     ensures some { 0 < result }
     ensures within { result ≤ length piece.now }
-    ensures kept { All (HasKind classes.now edges.now Kind.Keep) (take result piece.now) }
+    ensures kept { All (HasKind classes.now edges.now EdgeKind.Keep) (take result piece.now) }
     ensures copied { take result to.new ≡ take result piece.now }
 {
     to[0] = piece[0];
@@ -45,10 +45,10 @@ fn keep(classes: &[u8; 256], edges: &[Edge], piece: &[u8], to: &mut [u8]) -> usi
 fn skip(classes: &[u8; 256], edges: &[Edge], piece: &[u8]) -> usize
     requires row { All (λ c. c < length edges.now) classes.now }
     requires some { 0 < length piece.now }
-    requires first { All (HasKind classes.now edges.now Kind.Drop) (take 1 piece.now) }
+    requires first { All (HasKind classes.now edges.now EdgeKind.Drop) (take 1 piece.now) }
     ensures some { 0 < result }
     ensures within { result ≤ length piece.now }
-    ensures dropped { All (HasKind classes.now edges.now Kind.Drop) (take result piece.now) }
+    ensures dropped { All (HasKind classes.now edges.now EdgeKind.Drop) (take result piece.now) }
 {
     let mut count = 1;
     while count < piece.len() {
@@ -78,17 +78,17 @@ pub fn run(
     text: &[u8],
     piece: &[u8],
     buffer: &mut [u8],
-    from: Spot,
+    from: SheetPoint,
 ) -> Halt
-    requires rows { IsWithin (record { classes = classes.now; edges = edges.now; text = text.now }) }
-    requires row { HasRow classes.now edges.now from.row }
+    requires rows { AreEdgesWithin (record { classes = classes.now; edges = edges.now; text = text.now }) }
+    requires row { HasEdgeRow classes.now edges.now from.row }
     requires back { LeadsBack classes.now edges.now from.row }
     requires at { from.at ≤ length piece.now }
     requires room { from.used + 17 * (length piece.now - from.at) + 17 ≤ length buffer.old }
     ensures at { result.at ≤ length piece.now }
     ensures edge { IfSome result.edge (StopsAt classes.now edges.now result.row result.at piece.now) }
     ensures told { IsNone result.edge → result.at ≡ length piece.now }
-    ensures row { HasRow classes.now edges.now result.row }
+    ensures row { HasEdgeRow classes.now edges.now result.row }
     ensures used { result.used ≤ length buffer.new }
     ensures room { result.used + 17 * (length piece.now - result.at) + 17 ≤ length buffer.new }
     ensures ran { record { written = take result.used buffer.new; row = result.row; left = drop result.at piece.now } ≡ run_from (record { classes = classes.now; edges = edges.now; text = text.now }) piece.now (take from.used buffer.old) from.row from.at }

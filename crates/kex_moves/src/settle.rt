@@ -1,13 +1,13 @@
 // What is done along a walk, as an edge.
 
 ghost use Rattle.std.specs.Prelude.{◌≡◌, ℕ, [], ◌∷◌, IfOk, IfSome, IsTrue, slice_set};
-ghost use Rattle.kex_model.specs.Acting.{State, after_effect};
+ghost use Rattle.kex_model.specs.Acting.{ActingState, after_effect};
 ghost use Rattle.kex_machine.specs.Nodes.{node_moves, effect_of};
 ghost use Rattle.kex_action.specs.Holdings.{with_bytes};
 ghost use Rattle.kex_action.specs.Actions.{after_move, after_action, after_actions};
 ghost use Rattle.kex_action.specs.Sheets.{with_buffer};
 ghost use Rattle.kex_moves.specs.Known.{HasPlace, IsOrdered, Settles, Lengthens};
-ghost use Rattle.kex_moves.specs.Drafts.{IsDraft, Drafts, IsTurn, Keeps};
+ghost use Rattle.kex_moves.specs.Drafts.{IsDraft, Drafts, IsTurn, KeepsActions};
 
 use crate::edge::Edge;
 use crate::edges::Edges;
@@ -19,14 +19,14 @@ use std::alloc::Global;
 /// Of a text of at most 16 bytes the place of the byte read, 16 where it has none, and how many buffers were opened
 /// behind it that nothing is kept of.
 #[derive(Clone, Copy, Debug, PartialEq, Eq)]
-pub struct Draft {
+pub struct EdgeDraft {
     pub place: usize,
     pub depth: usize,
 }
 
 // What a node does, if it does anything.
 fn effect_at(machine: &Trimmed, n: u32) -> Option<&Effect>
-    ensures { IfSome result (λ e. (s : State) → after_move (node_moves machine.now.nodes n) s ≡ after_effect (effect_of e.now) s) }
+    ensures { IfSome result (λ e. (s : ActingState) → after_move (node_moves machine.now.nodes n) s ≡ after_effect (effect_of e.now) s) }
 {
     match machine.nodes().get(n as usize) {
         Some(MNode::Do(effect, _)) => Some(effect),
@@ -35,10 +35,10 @@ fn effect_at(machine: &Trimmed, n: u32) -> Option<&Effect>
 }
 
 // Adds a byte that is read.
-fn add_byte(draft: Draft, bytes: &mut Vec<u8>) -> Result<Option<Draft>, Memory>
+fn add_byte(draft: EdgeDraft, bytes: &mut Vec<u8>) -> Result<Option<EdgeDraft>, Memory>
     requires { IsDraft bytes.old.items draft }
     ensures draft { IfOk result (λ o. IfSome o (IsDraft bytes.new.items)) }
-    ensures drafts { IfOk result (λ o. IfSome o (λ new. (b : ℕ) (s z : State) → Drafts bytes.old.items draft b s z → Drafts bytes.new.items new b s (with_bytes (b ∷ []) z))) }
+    ensures drafts { IfOk result (λ o. IfSome o (λ new. (b : ℕ) (s z : ActingState) → Drafts bytes.old.items draft b s z → Drafts bytes.new.items new b s (with_bytes (b ∷ []) z))) }
 {
     let at = bytes.len();
     if draft.depth > 0 {
@@ -48,17 +48,21 @@ fn add_byte(draft: Draft, bytes: &mut Vec<u8>) -> Result<Option<Draft>, Memory>
         return Ok(None);
     }
     bytes.push(0)?;
-    Ok(Some(Draft {
+    Ok(Some(EdgeDraft {
         place: at,
         depth: 0,
     }))
 }
 
 // Adds a literal.
-fn add_literal(draft: Draft, literal: &[u8], bytes: &mut Vec<u8>) -> Result<Option<Draft>, Memory>
+fn add_literal(
+    draft: EdgeDraft,
+    literal: &[u8],
+    bytes: &mut Vec<u8>,
+) -> Result<Option<EdgeDraft>, Memory>
     requires { IsDraft bytes.old.items draft }
     ensures draft { IfOk result (λ o. IfSome o (IsDraft bytes.new.items)) }
-    ensures drafts { IfOk result (λ o. IfSome o (λ new. (b : ℕ) (s z : State) → Drafts bytes.old.items draft b s z → Drafts bytes.new.items new b s (with_bytes literal.now z))) }
+    ensures drafts { IfOk result (λ o. IfSome o (λ new. (b : ℕ) (s z : ActingState) → Drafts bytes.old.items draft b s z → Drafts bytes.new.items new b s (with_bytes literal.now z))) }
 {
     if draft.depth > 0 {
         return Ok(Some(draft));
@@ -72,18 +76,22 @@ fn add_literal(draft: Draft, literal: &[u8], bytes: &mut Vec<u8>) -> Result<Opti
 
 // Adds an effect. `None` where that can't be said by a text: what a buffer takes that is open here is written nowhere
 // if it is dropped here.
-fn add_effect(draft: Draft, effect: &Effect, bytes: &mut Vec<u8>) -> Result<Option<Draft>, Memory>
+fn add_effect(
+    draft: EdgeDraft,
+    effect: &Effect,
+    bytes: &mut Vec<u8>,
+) -> Result<Option<EdgeDraft>, Memory>
     requires { IsDraft bytes.old.items draft }
     ensures draft { IfOk result (λ o. IfSome o (IsDraft bytes.new.items)) }
-    ensures drafts { IfOk result (λ o. IfSome o (λ new. (b : ℕ) (s z : State) → Drafts bytes.old.items draft b s z → Drafts bytes.new.items new b s (after_effect (effect_of effect.now) z))) }
+    ensures drafts { IfOk result (λ o. IfSome o (λ new. (b : ℕ) (s z : ActingState) → Drafts bytes.old.items draft b s z → Drafts bytes.new.items new b s (after_effect (effect_of effect.now) z))) }
 {
     match effect {
         Effect::Lit(literal) => add_literal(draft, literal.as_slice(), bytes),
-        Effect::Open if draft.depth < 16 => Ok(Some(Draft {
+        Effect::Open if draft.depth < 16 => Ok(Some(EdgeDraft {
             place: draft.place,
             depth: draft.depth + 1,
         })),
-        Effect::Drop if draft.depth > 0 => Ok(Some(Draft {
+        Effect::Drop if draft.depth > 0 => Ok(Some(EdgeDraft {
             place: draft.place,
             depth: draft.depth - 1,
         })),
@@ -95,12 +103,12 @@ fn add_effect(draft: Draft, effect: &Effect, bytes: &mut Vec<u8>) -> Result<Opti
 fn add(
     machine: &Trimmed,
     action: Action,
-    draft: Draft,
+    draft: EdgeDraft,
     bytes: &mut Vec<u8>,
-) -> Result<Option<Draft>, Memory>
+) -> Result<Option<EdgeDraft>, Memory>
     requires { IsDraft bytes.old.items draft }
     ensures draft { IfOk result (λ o. IfSome o (IsDraft bytes.new.items)) }
-    ensures drafts { IfOk result (λ o. IfSome o (λ new. (b : ℕ) (s z : State) → Drafts bytes.old.items draft b s z → Drafts bytes.new.items new b s (after_action machine.now.nodes b action z))) }
+    ensures drafts { IfOk result (λ o. IfSome o (λ new. (b : ℕ) (s z : ActingState) → Drafts bytes.old.items draft b s z → Drafts bytes.new.items new b s (after_action machine.now.nodes b action z))) }
 {
     match action {
         Action::Byte => add_byte(draft, bytes),
@@ -118,10 +126,10 @@ fn text_of(
     bytes: &mut Vec<u8>,
 ) -> Result<Option<usize>, Memory>
     requires { bytes.old.items ≡ [] }
-    ensures done { IfOk result (λ o. IfSome o (λ p. (b : ℕ) (s : State) → after_actions machine.now.nodes b actions.now s ≡ with_bytes (slice_set bytes.new.items p b) s)) }
+    ensures done { IfOk result (λ o. IfSome o (λ p. (b : ℕ) (s : ActingState) → after_actions machine.now.nodes b actions.now s ≡ with_bytes (slice_set bytes.new.items p b) s)) }
     ensures place { IfOk result (λ o. IfSome o (λ p. HasPlace bytes.new.items p)) }
 {
-    let mut draft = Draft {
+    let mut draft = EdgeDraft {
         place: 16,
         depth: 0,
     };
@@ -138,7 +146,7 @@ fn text_of(
 }
 // What an action does to the buffers.
 #[derive(Clone, Copy, Debug, PartialEq, Eq)]
-enum Turn {
+enum NodeAct {
     Writes,
     Opens,
     Drops,
@@ -146,16 +154,16 @@ enum Turn {
 }
 
 // What an action does to the buffers.
-fn turn_of(machine: &Trimmed, action: Action) -> Turn
-    ensures { (b : ℕ) (z : State) → IsTurn result z (after_action machine.now.nodes b action z) }
+fn act_of(machine: &Trimmed, action: Action) -> NodeAct
+    ensures { (b : ℕ) (z : ActingState) → IsTurn result z (after_action machine.now.nodes b action z) }
 {
     match action {
-        Action::Byte => Turn::Writes,
+        Action::Byte => NodeAct::Writes,
         Action::Node(n) => match effect_at(machine, n) {
-            Some(Effect::Lit(_)) => Turn::Writes,
-            Some(Effect::Open) => Turn::Opens,
-            Some(Effect::Drop) => Turn::Drops,
-            _ => Turn::Other,
+            Some(Effect::Lit(_)) => NodeAct::Writes,
+            Some(Effect::Open) => NodeAct::Opens,
+            Some(Effect::Drop) => NodeAct::Drops,
+            _ => NodeAct::Other,
         },
     }
 }
@@ -168,16 +176,16 @@ fn keep(
     kept: &mut Vec<Action>,
     place: Option<usize>,
 ) -> Result<Option<usize>, Memory>
-    ensures { IfOk result (λ new. (b : ℕ) (s z : State) → Keeps machine.now.nodes kept.old.items place b s z → Keeps machine.now.nodes kept.new.items new b s (after_action machine.now.nodes b action z)) }
+    ensures { IfOk result (λ new. (b : ℕ) (s z : ActingState) → KeepsActions machine.now.nodes kept.old.items place b s z → KeepsActions machine.now.nodes kept.new.items new b s (after_action machine.now.nodes b action z)) }
 {
     let end = kept.len();
-    let new = match (turn_of(machine, action), place) {
-        (Turn::Drops, Some(at)) => {
+    let new = match (act_of(machine, action), place) {
+        (NodeAct::Drops, Some(at)) => {
             kept.truncate(at);
             return Ok(None);
         }
-        (Turn::Opens, _) => Some(end),
-        (Turn::Writes, Some(at)) => Some(at),
+        (NodeAct::Opens, _) => Some(end),
+        (NodeAct::Writes, Some(at)) => Some(at),
         _ => None,
     };
     kept.push(action)?;
@@ -186,7 +194,7 @@ fn keep(
 
 // The actions without those that only fill a buffer that is opened and dropped among them.
 fn kept_of(alloc: Global, machine: &Trimmed, actions: &[Action]) -> Result<Vec<Action>, Memory>
-    ensures { IfOk result (λ kept. (b : ℕ) (s : State) → after_actions machine.now.nodes b actions.now s ≡ after_actions machine.now.nodes b kept.items s) }
+    ensures { IfOk result (λ kept. (b : ℕ) (s : ActingState) → after_actions machine.now.nodes b actions.now s ≡ after_actions machine.now.nodes b kept.items s) }
 {
     let mut kept = Vec::new(alloc);
     let mut place = None;
@@ -198,7 +206,7 @@ fn kept_of(alloc: Global, machine: &Trimmed, actions: &[Action]) -> Result<Vec<A
 
 // Whether the actions only open a buffer and write the byte.
 fn only_open(machine: &Trimmed, actions: &[Action]) -> bool
-    ensures { IsTrue result → (b : ℕ) (s : State) → after_actions machine.now.nodes b actions.now s ≡ with_buffer (b ∷ []) s }
+    ensures { IsTrue result → (b : ℕ) (s : ActingState) → after_actions machine.now.nodes b actions.now s ≡ with_buffer (b ∷ []) s }
 {
     let [Action::Node(n), Action::Byte] = actions else {
         return false;

@@ -2,13 +2,13 @@
 
 ghost use Rattle.std.specs.Prelude.{◌≡◌, ◌++◌, [], OnOk, IsTrue, take};
 ghost use Rattle.kex_sst.specs.Parts.{value, parts_code};
-ghost use Rattle.kex_script.specs.Pieces.{word_of};
+ghost use Rattle.kex_script.specs.Pieces.{word_code};
 ghost use Rattle.kex_action.specs.Actors.{TookAll};
 
 use kex_action::actor::Actor;
 use kex_code::memory::Memory;
 use kex_code::symbol::Symbol;
-use kex_script::piece::Piece;
+use kex_script::piece::ByteWord;
 use kex_sst::parts::{Part, Parts};
 
 // Adds the symbol that a part is, where a byte is read. A word has no old registers.
@@ -24,8 +24,8 @@ fn push_part(symbols: &mut Vec<Symbol>, part: Part, byte: u8) -> Result<(), Memo
 }
 
 // Adds the symbols of a piece.
-fn spell(words: &[Parts], piece: Piece, symbols: &mut Vec<Symbol>) -> Result<(), Memory>
-    ensures { OnOk result (symbols.new.items ≡ symbols.old.items ++ word_of words.now piece) }
+fn spell(words: &[Parts], piece: ByteWord, symbols: &mut Vec<Symbol>) -> Result<(), Memory>
+    ensures { OnOk result (symbols.new.items ≡ symbols.old.items ++ word_code words.now piece) }
 {
     let Some(parts) = words.get(piece.word as usize) else {
         return Ok(());
@@ -39,13 +39,13 @@ fn spell(words: &[Parts], piece: Piece, symbols: &mut Vec<Symbol>) -> Result<(),
 /// Performs a piece symbol by symbol. `symbols` is a buffer that is used again.
 pub fn take_word(
     words: &[Parts],
-    piece: Piece,
+    piece: ByteWord,
     symbols: &mut Vec<Symbol>,
     actor: &mut Actor,
     out: &mut Vec<u8>,
 ) -> Result<(), Memory>
     requires { IsTrue actor.old.usable }
-    ensures took { OnOk result (TookAll actor.old actor.new (word_of words.now piece) out.old.items out.new.items) }
+    ensures took { OnOk result (TookAll actor.old actor.new (word_code words.now piece) out.old.items out.new.items) }
     ensures machine { actor.new.machine ≡ actor.old.machine }
     ensures usable { OnOk result (IsTrue actor.new.usable) }
 {

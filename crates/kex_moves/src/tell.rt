@@ -7,11 +7,11 @@ ghost use Rattle.kex_action.specs.Sheets.{IsSheet, IsBlank, IsAsLong};
 ghost use Rattle.kex_script.specs.Pieces.{code_over};
 ghost use Rattle.kex_moves.specs.declared.along.TheConstants.{ROOM};
 ghost use Rattle.kex_moves.specs.declared.edges.Pair.{Pair};
-ghost use Rattle.kex_moves.specs.Known.{IsRowOf, IsKnown};
-ghost use Rattle.kex_moves.specs.Speech.{table_of, Performs, SaidOn};
+ghost use Rattle.kex_moves.specs.Known.{IsPairRow, IsKnown};
+ghost use Rattle.kex_moves.specs.Speech.{words_table, Performs, SaidOn};
 
-use crate::along::{Place, Stride, act, arrive, make_room, part_of, rounds_left};
-use crate::edge::Kind;
+use crate::along::{RowPoint, RowStride, act, arrive, make_room, part_of, rounds_left};
+use crate::edge::EdgeKind;
 use crate::edges::Edges;
 use crate::learn::{learn_word, row_for};
 use crate::spell::take_word;
@@ -20,23 +20,23 @@ use kex_action::sheet::Sheet;
 use kex_code::memory::Memory;
 use kex_code::symbol::Symbol;
 use kex_machine::Trimmed;
-use kex_script::piece::Piece;
+use kex_script::piece::ByteWord;
 use kex_sst::parts::Parts;
 use std::alloc::Global;
 
 // Goes along edges while they are written, on a sheet.
 #[inline(always)]
-fn along(edges: &Edges, sheet: &mut Sheet, row: usize, pieces: &[Piece]) -> Place
-    requires row { (p : Pair) × IsRowOf edges.now row p }
+fn along(edges: &Edges, sheet: &mut Sheet, row: usize, pieces: &[ByteWord]) -> RowPoint
+    requires row { (p : Pair) × IsPairRow edges.now row p }
     requires sheet { IsSheet sheet.old }
     requires room { sheet.old.used + 17 * length pieces.now + 17 ≤ length sheet.old.bytes.items }
     ensures within { result.count ≤ length pieces.now }
     ensures sheet { IsSheet sheet.new × IsAsLong sheet.old sheet.new }
-    ensures said { (words : List (List Part)) (a : Position) (out : List ℕ) → IsKnown (table_of words) a.machine edges.now → SaidOn edges.now a a sheet.old sheet.new row result.row (code_over words (take result.count pieces.now)) out out }
+    ensures said { (words : List (List Part)) (a : Position) (out : List ℕ) → IsKnown (words_table words) a.machine edges.now → SaidOn edges.now a a sheet.old sheet.new row result.row (code_over words (take result.count pieces.now)) out out }
 {
     let spot = edges.follow(row, pieces, &mut sheet.bytes, sheet.used);
     sheet.used = spot.used;
-    Place {
+    RowPoint {
         count: spot.at,
         row: spot.row,
     }
@@ -47,23 +47,23 @@ fn along(edges: &Edges, sheet: &mut Sheet, row: usize, pieces: &[Piece]) -> Plac
 fn act_next(
     edges: &Edges,
     row: usize,
-    piece: Piece,
+    piece: ByteWord,
     actor: &mut Actor,
     sheet: &mut Sheet,
     out: &mut Vec<u8>,
-) -> Result<Stride, Memory>
+) -> Result<RowStride, Memory>
     requires usable { IsTrue actor.old.usable }
-    requires known { (words : List (List Part)) × IsKnown (table_of words) actor.old.machine edges.now }
-    requires row { (p : Pair) × IsRowOf edges.now row p }
+    requires known { (words : List (List Part)) × IsKnown (words_table words) actor.old.machine edges.now }
+    requires row { (p : Pair) × IsPairRow edges.now row p }
     requires sheet { IsSheet sheet.old }
     ensures within { IfOk result (λ s. s.count ≤ 1) }
-    ensures said { IfOk result (λ s. (words : List (List Part)) → IsKnown (table_of words) actor.old.machine edges.now → SaidOn edges.now actor.old actor.new sheet.old sheet.new row s.row (code_over words (take s.count (piece ∷ []))) out.old.items out.new.items) }
+    ensures said { IfOk result (λ s. (words : List (List Part)) → IsKnown (words_table words) actor.old.machine edges.now → SaidOn edges.now actor.old actor.new sheet.old sheet.new row s.row (code_over words (take s.count (piece ∷ []))) out.old.items out.new.items) }
     ensures sheet { OnOk result (IsSheet sheet.new × IsAsLong sheet.old sheet.new) }
     ensures machine { actor.new.machine ≡ actor.old.machine }
     ensures usable { OnOk result (IsTrue actor.new.usable) }
 {
     if piece.word as usize >= edges.width() {
-        return Ok(Stride {
+        return Ok(RowStride {
             count: 0,
             row,
             stops: true,
@@ -71,15 +71,15 @@ fn act_next(
     }
     let edge = edges.edge_at(row, piece.word as u8);
     match edge.kind {
-        Kind::Acts => {
+        EdgeKind::Acts => {
             act(edges, edge, piece.byte, actor, sheet, out)?;
-            Ok(Stride {
+            Ok(RowStride {
                 count: 1,
                 row: edge.next,
                 stops: false,
             })
         }
-        _ => Ok(Stride {
+        _ => Ok(RowStride {
             count: 0,
             row,
             stops: true,
@@ -93,16 +93,16 @@ fn go_on(
     sheet: &mut Sheet,
     row: usize,
     actor: &mut Actor,
-    pieces: &[Piece],
+    pieces: &[ByteWord],
     out: &mut Vec<u8>,
-) -> Result<Stride, Memory>
+) -> Result<RowStride, Memory>
     requires usable { IsTrue actor.old.usable }
-    requires known { (words : List (List Part)) × IsKnown (table_of words) actor.old.machine edges.now }
-    requires row { (p : Pair) × IsRowOf edges.now row p }
+    requires known { (words : List (List Part)) × IsKnown (words_table words) actor.old.machine edges.now }
+    requires row { (p : Pair) × IsPairRow edges.now row p }
     requires sheet { IsSheet sheet.old }
     requires room { length sheet.old.bytes.items ≡ ROOM }
     ensures within { IfOk result (λ s. s.count ≤ length pieces.now) }
-    ensures said { IfOk result (λ s. (words : List (List Part)) → IsKnown (table_of words) actor.old.machine edges.now → SaidOn edges.now actor.old actor.new sheet.old sheet.new row s.row (code_over words (take s.count pieces.now)) out.old.items out.new.items) }
+    ensures said { IfOk result (λ s. (words : List (List Part)) → IsKnown (words_table words) actor.old.machine edges.now → SaidOn edges.now actor.old actor.new sheet.old sheet.new row s.row (code_over words (take s.count pieces.now)) out.old.items out.new.items) }
     ensures sheet { OnOk result (IsSheet sheet.new × IsAsLong sheet.old sheet.new) }
     ensures machine { actor.new.machine ≡ actor.old.machine }
     ensures usable { OnOk result (IsTrue actor.new.usable) }
@@ -111,14 +111,14 @@ fn go_on(
     let place = along(edges, sheet, row, part_of(pieces));
     let count = place.count;
     if count == pieces.len() {
-        return Ok(Stride {
+        return Ok(RowStride {
             count,
             row: place.row,
             stops: true,
         });
     }
     let last = act_next(edges, place.row, pieces[count], actor, sheet, out)?;
-    Ok(Stride {
+    Ok(RowStride {
         count: count + last.count,
         row: last.row,
         stops: last.stops,
@@ -131,17 +131,17 @@ fn tell_from(
     sheet: &mut Sheet,
     from: usize,
     actor: &mut Actor,
-    pieces: &[Piece],
+    pieces: &[ByteWord],
     out: &mut Vec<u8>,
-) -> Result<Place, Memory>
+) -> Result<RowPoint, Memory>
     requires usable { IsTrue actor.old.usable }
-    requires known { (words : List (List Part)) × IsKnown (table_of words) actor.old.machine edges.now }
-    requires row { (p : Pair) × IsRowOf edges.now from p × (p.node ≡ actor.old.at) }
+    requires known { (words : List (List Part)) × IsKnown (words_table words) actor.old.machine edges.now }
+    requires row { (p : Pair) × IsPairRow edges.now from p × (p.node ≡ actor.old.at) }
     requires room { length sheet.old.bytes.items ≡ ROOM }
     requires none { IsBlank sheet.old }
-    ensures row { IfOk result (λ place. (p : Pair) × IsRowOf edges.now place.row p) }
+    ensures row { IfOk result (λ place. (p : Pair) × IsPairRow edges.now place.row p) }
     ensures within { IfOk result (λ place. place.count ≤ length pieces.now) }
-    ensures performs { IfOk result (λ place. (words : List (List Part)) → IsKnown (table_of words) actor.old.machine edges.now → Performs actor.old actor.new (code_over words (take place.count pieces.now)) out.old.items out.new.items) }
+    ensures performs { IfOk result (λ place. (words : List (List Part)) → IsKnown (words_table words) actor.old.machine edges.now → Performs actor.old actor.new (code_over words (take place.count pieces.now)) out.old.items out.new.items) }
     ensures none { OnOk result (IsBlank sheet.new) }
     ensures room { OnOk result (IsAsLong sheet.old sheet.new) }
     ensures machine { actor.new.machine ≡ actor.old.machine }
@@ -157,7 +157,7 @@ fn tell_from(
         left = rounds_left(gone.stops, left);
     }
     let _state = arrive(edges, row, actor, sheet, out)?;
-    Ok(Place { count: at, row })
+    Ok(RowPoint { count: at, row })
 }
 
 // Learns the edge of a row at the first of some pieces, if it isn't learnt.
@@ -167,11 +167,11 @@ fn learn_next(
     machine: &Trimmed,
     edges: &mut Edges,
     row: usize,
-    pieces: &[Piece],
+    pieces: &[ByteWord],
 ) -> Result<(), Memory>
-    requires known { IsKnown (table_of words.now) machine.now edges.old }
-    requires row { (p : Pair) × IsRowOf edges.old row p }
-    ensures { OnOk result (IsKnown (table_of words.now) machine.now edges.new) }
+    requires known { IsKnown (words_table words.now) machine.now edges.old }
+    requires row { (p : Pair) × IsPairRow edges.old row p }
+    ensures { OnOk result (IsKnown (words_table words.now) machine.now edges.new) }
 {
     let Some(piece) = pieces.first() else {
         return Ok(());
@@ -181,7 +181,7 @@ fn learn_next(
     }
     let word = piece.word as u8;
     match edges.edge_at(row, word).kind {
-        Kind::Unknown => learn_word(alloc, words, machine, edges, row, word),
+        EdgeKind::Unknown => learn_word(alloc, words, machine, edges, row, word),
         _ => Ok(()),
     }
 }
@@ -194,15 +194,15 @@ fn tell_some(
     edges: &mut Edges,
     sheet: &mut Sheet,
     actor: &mut Actor,
-    pieces: &[Piece],
+    pieces: &[ByteWord],
     out: &mut Vec<u8>,
 ) -> Result<usize, Memory>
     requires usable { IsTrue actor.old.usable }
     requires machine { actor.old.machine ≡ machine.now }
-    requires known { IsKnown (table_of words.now) machine.now edges.old }
+    requires known { IsKnown (words_table words.now) machine.now edges.old }
     requires room { length sheet.old.bytes.items ≡ ROOM }
     requires none { IsBlank sheet.old }
-    ensures known { OnOk result (IsKnown (table_of words.now) machine.now edges.new) }
+    ensures known { OnOk result (IsKnown (words_table words.now) machine.now edges.new) }
     ensures within { IfOk result (λ count. count ≤ length pieces.now) }
     ensures performs { IfOk result (λ count. Performs actor.old actor.new (code_over words.now (take count pieces.now)) out.old.items out.new.items) }
     ensures none { OnOk result (IsBlank sheet.new) }
@@ -228,15 +228,15 @@ pub fn tell(
     sheet: &mut Sheet,
     symbols: &mut Vec<Symbol>,
     actor: &mut Actor,
-    pieces: &[Piece],
+    pieces: &[ByteWord],
     out: &mut Vec<u8>,
 ) -> Result<(), Memory>
     requires usable { IsTrue actor.old.usable }
     requires machine { actor.old.machine ≡ machine.now }
-    requires known { IsKnown (table_of words.now) machine.now edges.old }
+    requires known { IsKnown (words_table words.now) machine.now edges.old }
     requires room { length sheet.old.bytes.items ≡ ROOM }
     requires none { IsBlank sheet.old }
-    ensures known { OnOk result (IsKnown (table_of words.now) machine.now edges.new) }
+    ensures known { OnOk result (IsKnown (words_table words.now) machine.now edges.new) }
     ensures performs { OnOk result (Performs actor.old actor.new (code_over words.now pieces.now) out.old.items out.new.items) }
     ensures none { OnOk result (IsBlank sheet.new) }
     ensures room { OnOk result (IsAsLong sheet.old sheet.new) }

@@ -5,7 +5,7 @@ ghost use Rattle.kex_model.specs.Moves.{Allows};
 ghost use Rattle.kex_machine.specs.Nodes.{node_moves, move_of, IsBelow};
 ghost use Rattle.kex_action.specs.Holdings.{Rests, step_by};
 ghost use Rattle.kex_sst.specs.Parts.{value};
-ghost use Rattle.kex_moves.specs.Walks.{symbol_at, GoesOn, Learns};
+ghost use Rattle.kex_moves.specs.Walks.{symbol_at, WalkGoesOn, Learns};
 
 use kex_action::action::Action;
 use kex_code::memory::Memory;
@@ -65,7 +65,7 @@ fn go_on(
     actions: &mut Vec<Action>,
 ) -> Result<Option<u32>, Memory>
     requires { from < length machine.now.nodes }
-    ensures ok { IfOk result (λ o. IfSome o (λ t. GoesOn machine.now.nodes from actions.old.items t actions.new.items)) }
+    ensures ok { IfOk result (λ o. IfSome o (λ t. WalkGoesOn machine.now.nodes from actions.old.items t actions.new.items)) }
     ensures within { IfOk result (λ o. IfSome o (λ t. t < length machine.now.nodes)) }
 {
     let nodes = machine.nodes();

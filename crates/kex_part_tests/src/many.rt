@@ -13,7 +13,7 @@ use kex_moves::phrases::Phrases;
 use kex_rope::rope::Rope;
 use kex_runner::runner::Runner;
 use kex_script::interned::Interned;
-use kex_script::piece::Piece;
+use kex_script::piece::ByteWord;
 use kex_sst::parts::{Part, Parts};
 use std::alloc::Global;
 use std::test::Fail;
@@ -143,7 +143,7 @@ fn words_of_phrases(rt: HostRuntime) -> Result<(), Fail> {
     let mut phrases = Phrases::new(alloc, &words(alloc)?, machine)?;
     let mut actor = Actor::new(alloc, machine)?;
     let mut out = Vec::new(alloc);
-    let last = Piece {
+    let last = ByteWord {
         word: 69_999,
         byte: b'x',
     };

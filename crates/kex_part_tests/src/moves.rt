@@ -7,7 +7,7 @@ use kex_constants::{LONGEST, clear_table};
 use kex_machine::Trimmed;
 use kex_moves::moves::Moves;
 use kex_moves::phrases::Phrases;
-use kex_script::piece::Piece;
+use kex_script::piece::ByteWord;
 use kex_sst::parts::{Part, Parts};
 use kex_sst::table::Table;
 use kex_tokens::number_value;
@@ -87,12 +87,12 @@ fn words(alloc: Global) -> Result<Vec<Parts>, Fail> {
 }
 
 // Pieces, each by the number of its word and its byte.
-fn pieces(alloc: Global, row: &str) -> Result<Vec<Piece>, Fail> {
+fn pieces(alloc: Global, row: &str) -> Result<Vec<ByteWord>, Fail> {
     let mut pieces = Vec::new(alloc);
     for text in row.split(' ') {
         let (byte, digits) = text.as_bytes().split_last().ok_or("no byte")?;
         let word = number_value(digits, 999).ok_or("no number")?;
-        pieces.push(Piece { word, byte: *byte })?;
+        pieces.push(ByteWord { word, byte: *byte })?;
     }
     Ok(pieces)
 }
@@ -102,7 +102,7 @@ fn performed(
     alloc: Global,
     machine: &Trimmed,
     words: &[Parts],
-    pieces: &[Piece],
+    pieces: &[ByteWord],
     cut: usize,
 ) -> Result<Vec<u8>, Fail> {
     let mut phrases = Phrases::new(alloc, words, machine)?;
@@ -144,12 +144,12 @@ fn pieces_are_performed_at_all_cuttings(rt: HostRuntime) -> Result<(), Fail> {
 }
 
 // Many pieces of the first word, and what is written for them.
-fn many_pieces(alloc: Global) -> Result<(Vec<Piece>, Vec<u8>), Fail> {
+fn many_pieces(alloc: Global) -> Result<(Vec<ByteWord>, Vec<u8>), Fail> {
     let mut all = Vec::new(alloc);
     let mut want = b"(".to_vec(alloc)?;
     for number in 0..20_000_u32 {
         let byte = (number % 251) as u8;
-        all.push(Piece { word: 0, byte })?;
+        all.push(ByteWord { word: 0, byte })?;
         want.extend_from_slice(&[b'<', byte, b'>'])?;
     }
     Ok((all, want))

@@ -1,5 +1,5 @@
 //! Texts that are cut, texts with the place of their first bad token, and what literals and numbers stand for.
-use kex_tokens::token::{Kind, MAX_TEXT, TokenFault};
+use kex_tokens::token::{MAX_TEXT, TokenFault, TokenKind};
 use kex_tokens::{literal_bytes, number_value, tokens};
 use std::alloc::Global;
 use std::test::Fail;
@@ -112,7 +112,7 @@ fn literals_stand_for_bytes(rt: HostRuntime) -> Result<(), Fail> {
     for (spelling, want) in rows {
         let got = tokens(rt.alloc(), spelling.as_bytes())?;
         assert_eq!(rt; got.len(), 1, "{spelling}");
-        assert_eq!(rt; got[0].kind, Kind::Literal, "{spelling}");
+        assert_eq!(rt; got[0].kind, TokenKind::Literal, "{spelling}");
         let bytes = literal_bytes(rt.alloc(), got[0].spelling(spelling.as_bytes()))?;
         assert_eq!(rt; bytes.as_slice(), want, "{spelling}");
     }

@@ -12,7 +12,7 @@ use Rattle.kex_machine.specs.declared.MNode.TheVariants.{Accept, Read, Choice, F
 use Rattle.kex_machine.specs.Nodes.{Graph, node_moves, move_of}
 use Rattle.kex_machine.specs.Advancing.{dies, reads_on, both, LeadAlike, EachPlace}
 use Rattle.kex_sst.specs.declared.parts.Part.{Part}
-use Rattle.kex_paths.specs.Nexts.{Outline, HasClass, places_of, GoesOn}
+use Rattle.kex_paths.specs.Nexts.{Outline, HasClass, places_of, TreeGoesOn}
 use Rattle.kex_paths.specs.Alikes.{LeadAlikeAt, LeadAlikeFrom, GoesOnAlike}
 
 -- ---- at one place
@@ -84,7 +84,7 @@ module _ (moves : ℕ → Move ℕ) where
   right_of : (b c : ℕ) (xs ys : List ℕ) → LeadAlikeFrom moves b c (xs ++ ys) → LeadAlikeFrom moves b c ys
   right_of b c xs ys h = subst (λ z. LeadAlikeFrom moves b c z) (drop-append_seam xs ys) (All-drop (λ p. LeadAlikeAt moves b c p) (length xs) (xs ++ ys) h)
 
-  goes_alike : (b c : ℕ) (s : Shape ℕ) (k : ℕ) {f g : List Bool} {a : Option (Grown Part ℕ)} → LeadAlikeFrom moves b c (places_of s) → GoesOn moves b k f s a g → GoesOn moves c k f s a g
+  goes_alike : (b c : ℕ) (s : Shape ℕ) (k : ℕ) {f g : List Bool} {a : Option (Grown Part ℕ)} → LeadAlikeFrom moves b c (places_of s) → TreeGoesOn moves b k f s a g → TreeGoesOn moves c k f s a g
   goes_alike b c (place p) k same (dies d) = dies (λ t r. d t ((All-head (λ p. LeadAlikeAt moves b c p) p [] same t).1 r))
   goes_alike b c (place p) k same (reads_on {t = t} r v) = reads_on ((All-head (λ p. LeadAlikeAt moves b c p) p [] same t).0 r) v
   goes_alike b c (parts l r) k same (both vx vy) = both (goes_alike b c l _ (left_of b c (places_of l) (places_of r) same) vx) (goes_alike b c r _ (right_of b c (places_of l) (places_of r) same) vy)

@@ -8,7 +8,7 @@ use Rattle.kex_machine.specs.Advancing.{known, stops, parts_off, is_forced, pass
 use Rattle.kex_sst.specs.declared.parts.Part.{Part}
 use Rattle.kex_sst.specs.declared.parts.Part.TheVariants.{Put, Old, Input}
 use Rattle.kex_sst.specs.Parts.{Change, olds, olds_in, reads_of}
-use Rattle.kex_paths.specs.Nexts.{Explores, GoesOn, IsFirst, IsNext, IsChange, RiseWithin}
+use Rattle.kex_paths.specs.Nexts.{Explores, TreeGoesOn, IsFirstTree, IsNext, IsChange, RiseWithin}
 
 -- all that a tree and the label before it read: what is passed on, and then the registers in order
 abbrev pub reads_in : Option (Grown Part ℕ) → List ℕ
@@ -77,7 +77,7 @@ pub sides_of : {moves : ℕ → Move ℕ} {b : ℕ} {f h : List Bool} {u v : Lis
 sides_of (both {g = g} {x = x} {y = y} p q) = record { left = x; right = y; between = g; first = p; second = q; whole = refl }
 
 -- the registers that are read are edges of the old tree, in order
-pub advance_reads : (moves : ℕ → Move ℕ) (b k : ℕ) (f g : List Bool) (s : Shape ℕ) (a : Option (Grown Part ℕ)) → GoesOn moves b k f s a g → (hi : ℕ) → suc hi ≡ k + size_of s → RiseWithin k hi (reads_in a)
+pub advance_reads : (moves : ℕ → Move ℕ) (b k : ℕ) (f g : List Bool) (s : Shape ℕ) (a : Option (Grown Part ℕ)) → TreeGoesOn moves b k f s a g → (hi : ℕ) → suc hi ≡ k + size_of s → RiseWithin k hi (reads_in a)
 advance_reads moves b k f g (place p) a v hi e = subst (λ z. RiseWithin k hi z) (sym (tip_reads v)) tt
 advance_reads moves b k f g (parts l r) a w hi e =
     let t = sides_of w in
@@ -97,5 +97,5 @@ next_reads g b s u a (marks, v) (p, q) hi e =
     subst (λ z. RiseWithin 0 hi (olds z ++ olds_in u.regs)) (sym p) (subst (λ z. RiseWithin 0 hi (olds a.label ++ olds_in z)) (sym q) (advance_reads (node_moves g.nodes) b 0 (replicate (length g.nodes) false) marks s (Some a) v hi (omega arith)))
 
 -- an update before the first byte reads no register
-pub first_reads : (g : Graph) (u : Change) (a : Grown Part ℕ) → IsFirst g (Some a) → IsChange u a → reads_of u ≡ []
+pub first_reads : (g : Graph) (u : Change) (a : Grown Part ℕ) → IsFirstTree g (Some a) → IsChange u a → reads_of u ≡ []
 first_reads g u a (marks, v) (p, q) = ap (λ z. olds z ++ olds_in u.regs) p ∙ ap (λ z. olds a.label ++ olds_in z) q ∙ visit_reads v

@@ -10,23 +10,23 @@ use Rattle.kex_machine.proofs.Unique.{tree_unique}
 use Rattle.kex_sst.specs.declared.parts.Part.{Part}
 use Rattle.kex_sst.specs.declared.parts.Part.TheVariants.{Put, Old, Input}
 use Rattle.kex_sst.specs.Parts.{Change}
-use Rattle.kex_paths.specs.Nexts.{Explores, GoesOn, IsChange}
-use Rattle.kex_paths.specs.Laws.{IsInOrder, ArePuts, Each, Determines, DeterminesFirst, OneShape}
+use Rattle.kex_paths.specs.Nexts.{Explores, TreeGoesOn, IsChange}
+use Rattle.kex_paths.specs.Laws.{ArePartsInOrder, ArePuts, EachList, Determines, DeterminesFirst, OneShape}
 use Rattle.kex_paths.proofs.Copyless.{sides_of, next_reads}
 use Rattle.kex_paths.proofs.Sizes.{one_next, one_first}
 
-each-append : (P : List Part → Type 0) (xs ys : List (List Part)) → Each P xs → Each P ys → Each P (xs ++ ys)
+each-append : (P : List Part → Type 0) (xs ys : List (List Part)) → EachList P xs → EachList P ys → EachList P (xs ++ ys)
 each-append P [] ys h k = k
 each-append P (x ∷ xs) ys h k = (h.0, each-append P xs ys h.1 k)
 
-each_more : (P Q : List Part → Type 0) → ((x : List Part) → P x → Q x) → (xs : List (List Part)) → Each P xs → Each Q xs
+each_more : (P Q : List Part → Type 0) → ((x : List Part) → P x → Q x) → (xs : List (List Part)) → EachList P xs → EachList Q xs
 each_more P Q f [] h = tt
 each_more P Q f (x ∷ xs) h = (f x h.0, each_more P Q f xs h.1)
 
 -- all labels of a tree, and the one before it
 abbrev pub Holds : (List Part → Type 0) → Option (Grown Part ℕ) → Type 0
 Holds P None = Unit {0}
-Holds P (Some g) = P g.label × Each P (labels_of g.tree)
+Holds P (Some g) = P g.label × EachList P (labels_of g.tree)
 
 behind_holds : (P : List Part → Type 0) (x : List Part) (a : Option (Grown Part ℕ)) → ((c : List Part) → P c → P (x ++ c)) → Holds P a → Holds P (with_prefix x a)
 behind_holds P x None f h = tt
@@ -51,15 +51,15 @@ visit_puts (parts_off {a = a} {b = b} lt e m v u) = joined_holds ArePuts (with_p
 visit_puts (is_forced {x = x} {a = a} lt e m v) = behind_holds ArePuts (Put (symbol_of x) ∷ []) a (one_put (symbol_of x)) (visit_puts v)
 visit_puts (passes_on lt e m v) = visit_puts v
 
-puts_in_order : (c : List Part) → ArePuts c → IsInOrder c
+puts_in_order : (c : List Part) → ArePuts c → ArePartsInOrder c
 puts_in_order c (d, e) = record { registers = []; read = false; symbols = d; whole = e; between = λ r s. absurd (r refl) }
 
 -- the label of a whole tree: symbols stand in it only behind the byte, so old registers may go before them
 pub record IsRootLabel (c : List Part) : Type 0 where
-  pub order : IsInOrder c
+  pub order : ArePartsInOrder c
   pub read_first : order.symbols ≢ [] → order.read ≡ true
 
-root_order : (c : List Part) → IsRootLabel c → IsInOrder c
+root_order : (c : List Part) → IsRootLabel c → ArePartsInOrder c
 root_order c h = h.order
 
 none_is_root : IsRootLabel []
@@ -89,11 +89,11 @@ old_is_root k c h = record {
 -- a tree's root label, and the labels of its edges
 abbrev AreInOrder : Option (Grown Part ℕ) → Type 0
 AreInOrder None = Unit {0}
-AreInOrder (Some g) = IsRootLabel g.label × Each IsInOrder (labels_of g.tree)
+AreInOrder (Some g) = IsRootLabel g.label × EachList ArePartsInOrder (labels_of g.tree)
 
 read_orders : (a : Option (Grown Part ℕ)) → Holds ArePuts a → AreInOrder (with_prefix (Input ∷ []) a)
 read_orders None h = tt
-read_orders (Some g) h = (read_is_root g.label h.0, each_more ArePuts IsInOrder puts_in_order (labels_of g.tree) h.1)
+read_orders (Some g) h = (read_is_root g.label h.0, each_more ArePuts ArePartsInOrder puts_in_order (labels_of g.tree) h.1)
 
 old_orders : (k : ℕ) (a : Option (Grown Part ℕ)) → AreInOrder a → AreInOrder (with_prefix (Old k ∷ []) a)
 old_orders k None h = tt
@@ -104,13 +104,13 @@ joined_orders None None h k = tt
 joined_orders None (Some r) h k = k
 joined_orders (Some l) None h k = h
 joined_orders (Some l) (Some r) h k =
-    (none_is_root, (root_order l.label h.0, each-append IsInOrder (labels_of l.tree) (r.label ∷ labels_of r.tree) h.1 (root_order r.label k.0, k.1)))
+    (none_is_root, (root_order l.label h.0, each-append ArePartsInOrder (labels_of l.tree) (r.label ∷ labels_of r.tree) h.1 (root_order r.label k.0, k.1)))
 
 tip_in_order : {moves : ℕ → Move ℕ} {b p : ℕ} {f g : List Bool} {a : Option (Grown Part ℕ)} → Advances (λ s. Put s) Input moves b f (tip p) a g → AreInOrder a
 tip_in_order (dies h) = tt
 tip_in_order (reads_on {a = a} h v) = read_orders a (visit_puts v)
 
-advance_in_order : (moves : ℕ → Move ℕ) (b k : ℕ) (f g : List Bool) (s : Shape ℕ) (a : Option (Grown Part ℕ)) → GoesOn moves b k f s a g → AreInOrder a
+advance_in_order : (moves : ℕ → Move ℕ) (b k : ℕ) (f g : List Bool) (s : Shape ℕ) (a : Option (Grown Part ℕ)) → TreeGoesOn moves b k f s a g → AreInOrder a
 advance_in_order moves b k f g (place p) a v = tip_in_order v
 advance_in_order moves b k f g (parts l r) a w =
     let t = sides_of w in
@@ -118,13 +118,13 @@ advance_in_order moves b k f g (parts l r) a w =
     let q = advance_in_order moves b (suc (k + size_of l)) t.between g r t.right t.second in
     subst AreInOrder (sym t.whole) (joined_orders (with_prefix (Old k ∷ []) t.left) (with_prefix (Old (k + size_of l) ∷ []) t.right) (old_orders k t.left p) (old_orders (k + size_of l) t.right q))
 
-changed : (P : List Part → Type 0) (u : Change) (a : Grown Part ℕ) → IsChange u a → Holds P (Some a) → P u.out × Each P u.regs
-changed P u a change h = (subst P (sym change.0) h.0, subst (λ z. Each P z) (sym change.1) h.1)
+changed : (P : List Part → Type 0) (u : Change) (a : Grown Part ℕ) → IsChange u a → Holds P (Some a) → P u.out × EachList P u.regs
+changed P u a change h = (subst P (sym change.0) h.0, subst (λ z. EachList P z) (sym change.1) h.1)
 
 pub determines : (g : Graph) (b : ℕ) (s : Shape ℕ) → Determines g b s
 determines g b s = record {
   one = one_next g b s;
-  in_order = λ u a next change. let h = advance_in_order (node_moves g.nodes) b 0 (replicate (length g.nodes) false) next.0 s (Some a) next.1 in changed IsInOrder u a change (root_order a.label h.0, h.1);
+  in_order = λ u a next change. let h = advance_in_order (node_moves g.nodes) b 0 (replicate (length g.nodes) false) next.0 s (Some a) next.1 in changed ArePartsInOrder u a change (root_order a.label h.0, h.1);
   rises = next_reads g b s;
 }
 

@@ -4,8 +4,8 @@ use Rattle.std.proofs.Math.Seq.{take-suc, take-suc-set}
 use Rattle.std.proofs.lemmas.List.{take_all, reverse-append, length-set}
 use Rattle.kex_model.specs.Labelled.{Grown, with_prefix}
 use Rattle.kex_sst.specs.declared.parts.Part.{Part}
-use Rattle.kex_paths.specs.declared.forest.Edge.{Edge}
-use Rattle.kex_paths.specs.Forests.{IsTreeAt, LeadsTo, LeadToEach, last_tree, trees_before}
+use Rattle.kex_paths.specs.declared.forest.PathEdge.{PathEdge}
+use Rattle.kex_paths.specs.Forests.{IsTreeAt, LeadsToTree, LeadToEach, last_tree, trees_before}
 
 last_read : {A : Type 0} (xs : List A) (i : ℕ) (x : A) → suc i ≡ length xs → x ≡ get_or xs i x → reverse xs ≡ x ∷ reverse (take i xs)
 last_read xs i x long is =
@@ -23,7 +23,7 @@ last_set xs i y long =
     ap reverse split ∙ reverse-append (take i xs) (y ∷ [])
 
 -- the last edge has a part more in front of its label
-pub last_front : (edges : List Edge) (xs : List (Option Edge)) (i : ℕ) (part : Part) (x y : Option Edge) → suc i ≡ length xs → x ≡ get_or xs i x → ((t : Option (Grown Part ℕ)) → LeadsTo edges x t → LeadsTo edges y (with_prefix (part ∷ []) t)) → (rs : List (Option (Grown Part ℕ))) → LeadToEach edges (reverse xs) rs → LeadToEach edges (reverse (set xs i y)) (with_prefix (part ∷ []) (last_tree rs) ∷ trees_before rs)
+pub last_front : (edges : List PathEdge) (xs : List (Option PathEdge)) (i : ℕ) (part : Part) (x y : Option PathEdge) → suc i ≡ length xs → x ≡ get_or xs i x → ((t : Option (Grown Part ℕ)) → LeadsToTree edges x t → LeadsToTree edges y (with_prefix (part ∷ []) t)) → (rs : List (Option (Grown Part ℕ))) → LeadToEach edges (reverse xs) rs → LeadToEach edges (reverse (set xs i y)) (with_prefix (part ∷ []) (last_tree rs) ∷ trees_before rs)
 last_front edges xs i part x y long is leads rs h =
     subst (λ z. LeadToEach edges z (with_prefix (part ∷ []) (last_tree rs) ∷ trees_before rs)) (sym (last_set xs i y long)) (changed rs (subst (λ z. LeadToEach edges z rs) (last_read xs i x long is) h))
   where
@@ -31,10 +31,10 @@ last_front edges xs i part x y long is leads rs h =
     changed [] k = absurd k
     changed (t ∷ ts) k = (leads t k.0, k.1)
 
-pub front_part : (edges : List Edge) (part : Part) (x y : Edge) → y.label.items ≡ x.label.items ++ part ∷ [] → x.node ≡ y.node → (t : Option (Grown Part ℕ)) → LeadsTo edges (Some x) t → LeadsTo edges (Some y) (with_prefix (part ∷ []) t)
+pub front_part : (edges : List PathEdge) (part : Part) (x y : PathEdge) → y.label.items ≡ x.label.items ++ part ∷ [] → x.node ≡ y.node → (t : Option (Grown Part ℕ)) → LeadsToTree edges (Some x) t → LeadsToTree edges (Some y) (with_prefix (part ∷ []) t)
 front_part edges part x y label node None h = absurd h
 front_part edges part x y label node (Some g) h = (ap reverse label ∙ reverse-append x.label.items (part ∷ []) ∙ ap (λ z. part ∷ z) h.0, subst (λ z. IsTreeAt edges z g.tree) node h.1)
 
-pub front_none : (edges : List Edge) (part : Part) (t : Option (Grown Part ℕ)) → LeadsTo edges None t → LeadsTo edges None (with_prefix (part ∷ []) t)
+pub front_none : (edges : List PathEdge) (part : Part) (t : Option (Grown Part ℕ)) → LeadsToTree edges None t → LeadsToTree edges None (with_prefix (part ∷ []) t)
 front_none edges part None h = tt
 front_none edges part (Some g) h = absurd h

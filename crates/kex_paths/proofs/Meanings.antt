@@ -5,9 +5,9 @@ use Rattle.kex_model.specs.Labelled.{Labelled, tip, fork, labels_of, shape_of, s
 use Rattle.kex_sst.specs.declared.parts.Part.{Part}
 use Rattle.kex_sst.specs.Parts.{value, parts_code, numbered_tree}
 
-pub meant-append : (regs : List (List Symbol)) (b : ℕ) (xs ys : List Part) → parts_code regs b (xs ++ ys) ≡ parts_code regs b xs ++ parts_code regs b ys
-meant-append regs b [] ys = refl
-meant-append regs b (x ∷ xs) ys = ap (λ z. value regs b x ++ z) (meant-append regs b xs ys) ∙ sym (append_assoc (value regs b x) (parts_code regs b xs) (parts_code regs b ys))
+pub parts_code-append : (regs : List (List Symbol)) (b : ℕ) (xs ys : List Part) → parts_code regs b (xs ++ ys) ≡ parts_code regs b xs ++ parts_code regs b ys
+parts_code-append regs b [] ys = refl
+parts_code-append regs b (x ∷ xs) ys = ap (λ z. value regs b x ++ z) (parts_code-append regs b xs ys) ∙ sym (append_assoc (value regs b x) (parts_code regs b xs) (parts_code regs b ys))
 
 get_or-at : {A : Type 0} (xs : List A) (x d : A) (ys : List A) → get_or (xs ++ x ∷ ys) (length xs) d ≡ x
 get_or-at [] x d ys = refl

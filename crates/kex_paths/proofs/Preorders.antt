@@ -8,14 +8,14 @@ use Rattle.kex_model.proofs.Shapes.{among-append}
 use Rattle.kex_model.proofs.OpenAnswers.{empty_list}
 use Rattle.kex_machine.specs.Advancing.{EachPlace}
 use Rattle.kex_sst.specs.declared.parts.Part.{Part}
-use Rattle.kex_paths.specs.declared.forest.Edge.{Edge}
+use Rattle.kex_paths.specs.declared.forest.PathEdge.{PathEdge}
 use Rattle.kex_paths.specs.declared.forest.TreeNode.{TreeNode}
-use Rattle.kex_paths.specs.declared.walk.Token.{Token}
-use Rattle.kex_paths.specs.declared.walk.Token.TheVariants as token
-use Rattle.kex_paths.specs.Forests.{IsTreeAt, at_tip, at_fork, LeadsTo}
+use Rattle.kex_paths.specs.declared.walk.TreeToken.{TreeToken}
+use Rattle.kex_paths.specs.declared.walk.TreeToken.TheVariants as token
+use Rattle.kex_paths.specs.Forests.{IsTreeAt, at_tip, at_fork, LeadsToTree}
 use Rattle.kex_paths.specs.Nexts.{inner_of, places_of}
 use Rattle.kex_paths.specs.Tasks.{tokens, tokens_from, IsTipBelow, EachTip}
-use Rattle.kex_paths.specs.Spellings.{key_of, number_of, is_inner, tip_in, edges_from, AreEdges, inner_in, places_in, labels_in, IsSpelled}
+use Rattle.kex_paths.specs.Spellings.{key_of, token_number, is_inner, tip_in, edges_from, AreEdges, inner_in, places_in, labels_in, IsSpelled}
 
 pub tokens-length : (s : Shape ℕ) → length (tokens s) ≡ size_of s
 tokens-length (place p) = refl
@@ -29,7 +29,7 @@ pub each_tip : (m : ℕ) (s : Shape ℕ) → EachPlace m s → EachTip m (tokens
 each_tip m (place p) h = λ x i. ⊎_elim (λ e. subst (λ z. IsTipBelow m z) e h) (λ k. absurd k) i
 each_tip m (parts l r) h = λ x i. ⊎_elim (λ e. subst (λ z. IsTipBelow m z) e tt) (λ j. ⊎_elim (λ k. each_tip m l h.0 x k) (λ k. each_tip m r h.1 x k) (among-append (tokens l) (tokens r) x j)) i
 
-pub tip_within : (m n : ℕ) (x : Token) → m ≤ n → IsTipBelow m x → IsTipBelow n x
+pub tip_within : (m n : ℕ) (x : TreeToken) → m ≤ n → IsTipBelow m x → IsTipBelow n x
 tip_within m n token.Fork le h = tt
 tip_within m n (token.Tip p) le h = omega (arith, h, le)
 
@@ -46,9 +46,9 @@ tokens_from-append (parts l r) xs ps =
 pub tokens_of_lists : (s : Shape ℕ) → tokens_from (inner_of s) (places_of s) ≡ tokens s
 tokens_of_lists s = ap₂ (λ u v. tokens_from u v) (sym (append-nil (inner_of s))) (sym (append-nil (places_of s))) ∙ tokens_from-append s [] [] ∙ append-nil (tokens s)
 
-pub key_of_tokens : (s : Shape ℕ) → map number_of (tokens s) ≡ key_of s
+pub key_of_tokens : (s : Shape ℕ) → map token_number (tokens s) ≡ key_of s
 key_of_tokens (place p) = refl
-key_of_tokens (parts l r) = ap (λ z. 0 ∷ z) (map-append number_of (tokens l) (tokens r) ∙ ap₂ (λ u v. u ++ v) (key_of_tokens l) (key_of_tokens r))
+key_of_tokens (parts l r) = ap (λ z. 0 ∷ z) (map-append token_number (tokens l) (tokens r) ∙ ap₂ (λ u v. u ++ v) (key_of_tokens l) (key_of_tokens r))
 
 -- a shape is known by its numbers, whatever stands behind
 one_key : (s t : Shape ℕ) (x y : List ℕ) → key_of s ++ x ≡ key_of t ++ y → (s ≡ t) × (x ≡ y)
@@ -70,30 +70,30 @@ key_same s t e = (one_key s t [] [] (append-nil (key_of s) ∙ e ∙ sym (append
 
 -- two lists are of one shape
 pub one_shape : (s t : Shape ℕ) → inner_of s ≡ inner_of t → places_of s ≡ places_of t → s ≡ t
-one_shape s t e f = key_same s t (sym (key_of_tokens s) ∙ ap (λ z. map number_of z) (sym (tokens_of_lists s) ∙ ap₂ (λ u v. tokens_from u v) e f ∙ tokens_of_lists t) ∙ key_of_tokens t)
+one_shape s t e f = key_same s t (sym (key_of_tokens s) ∙ ap (λ z. map token_number z) (sym (tokens_of_lists s) ∙ ap₂ (λ u v. tokens_from u v) e f ∙ tokens_of_lists t) ∙ key_of_tokens t)
 
-module _ (xs : List Bool) (ps : List ℕ) (whole : List Token) where
-  abbrev pub IsRead : List Token → ℕ → ℕ → Type 0
+module _ (xs : List Bool) (ps : List ℕ) (whole : List TreeToken) where
+  abbrev pub IsRead : List TreeToken → ℕ → ℕ → Type 0
   IsRead ts i k = ts ++ tokens_from (drop i xs) (drop k ps) ≡ whole
 
-  pub read_fork : (ts : List Token) (i k : ℕ) → i < length xs → get_or xs i true ≡ true → IsRead ts i k → IsRead (ts ++ token.Fork ∷ []) (i + 1) k
+  pub read_fork : (ts : List TreeToken) (i k : ℕ) → i < length xs → get_or xs i true ≡ true → IsRead ts i k → IsRead (ts ++ token.Fork ∷ []) (i + 1) k
   read_fork ts i k lt e h =
       let next : drop i xs ≡ true ∷ drop (i + 1) xs = drop-cons xs i true lt ∙ ap₂ (λ u v. u ∷ drop v xs) e (sym (add-one i)) in
       append_assoc ts (token.Fork ∷ []) (tokens_from (drop (i + 1) xs) (drop k ps)) ∙ ap (λ z. ts ++ tokens_from z (drop k ps)) (sym next) ∙ h
 
-  pub read_tip : (ts : List Token) (i k : ℕ) (d : ℕ) → i < length xs → get_or xs i true ≡ false → k < length ps → IsRead ts i k → IsRead (ts ++ token.Tip (get_or ps k d) ∷ []) (i + 1) (k + 1)
+  pub read_tip : (ts : List TreeToken) (i k : ℕ) (d : ℕ) → i < length xs → get_or xs i true ≡ false → k < length ps → IsRead ts i k → IsRead (ts ++ token.Tip (get_or ps k d) ∷ []) (i + 1) (k + 1)
   read_tip ts i k d lt e lk h =
       let next : drop i xs ≡ false ∷ drop (i + 1) xs = drop-cons xs i true lt ∙ ap₂ (λ u v. u ∷ drop v xs) e (sym (add-one i)) in
       let more : drop k ps ≡ get_or ps k d ∷ drop (k + 1) ps = drop-cons ps k d lk ∙ ap (λ z. get_or ps k d ∷ drop z ps) (sym (add-one k)) in
       append_assoc ts (token.Tip (get_or ps k d) ∷ []) (tokens_from (drop (i + 1) xs) (drop (k + 1) ps)) ∙ ap₂ (λ u v. ts ++ tokens_from u v) (sym next) (sym more) ∙ h
 
-  pub read_nothing : (ts : List Token) (i k : ℕ) → i < length xs → get_or xs i true ≡ false → length ps ≤ k → IsRead ts i k → IsRead ts (i + 1) k
+  pub read_nothing : (ts : List TreeToken) (i k : ℕ) → i < length xs → get_or xs i true ≡ false → length ps ≤ k → IsRead ts i k → IsRead ts (i + 1) k
   read_nothing ts i k lt e lk h =
       let next : drop i xs ≡ false ∷ drop (i + 1) xs = drop-cons xs i true lt ∙ ap₂ (λ u v. u ∷ drop v xs) e (sym (add-one i)) in
       let none : drop k ps ≡ [] = empty_list (drop k ps) (omega (arith, length-drop k ps)) in
       ap (λ z. ts ++ tokens_from (drop (i + 1) xs) z) none ∙ ap₂ (λ u v. ts ++ tokens_from u v) (sym next) (sym none) ∙ h
 
-module _ (edges : List Edge) where
+module _ (edges : List PathEdge) where
   -- a node is spelled, before trees that are still to be
   record Opened (k : TreeNode) (t : Labelled Part ℕ) (pending : List ℕ) (ts : List (Grown Part ℕ)) : Type 0 where
     pub left : List (Grown Part ℕ)
@@ -124,7 +124,7 @@ module _ (edges : List Edge) where
       second : Grown Part ℕ
       second = record { label = reverse y.label.items; tree = r }
 
-  pub spelled_start : (x : Edge) (a : Grown Part ℕ) → LeadsTo edges (Some x) (Some a) → IsSpelled edges a (is_inner x.node ∷ []) (tip_in x.node) [] (edges_from x.node)
+  pub spelled_start : (x : PathEdge) (a : Grown Part ℕ) → LeadsToTree edges (Some x) (Some a) → IsSpelled edges a (is_inner x.node ∷ []) (tip_in x.node) [] (edges_from x.node)
   spelled_start x a h =
       let o = opened [] [] h.1 tt in
       record {
@@ -140,7 +140,7 @@ module _ (edges : List Edge) where
     topped : (rest : List ℕ) (i : ℕ) (ts : List (Grown Part ℕ)) → AreEdges edges (reverse (rest ++ i ∷ [])) ts → AreEdges edges (i ∷ reverse rest) ts
     topped rest i ts h = subst (λ z. AreEdges edges z ts) (reverse-append rest (i ∷ [])) h
 
-    pub spelled_more : (rest : List ℕ) (i : ℕ) (x : Edge) → slice_get edges i ≡ Some x → IsSpelled edges a inner places labels (rest ++ i ∷ []) → IsSpelled edges a (inner ++ is_inner x.node ∷ []) (places ++ tip_in x.node) (labels ++ reverse x.label.items ∷ []) (rest ++ edges_from x.node)
+    pub spelled_more : (rest : List ℕ) (i : ℕ) (x : PathEdge) → slice_get edges i ≡ Some x → IsSpelled edges a inner places labels (rest ++ i ∷ []) → IsSpelled edges a (inner ++ is_inner x.node ∷ []) (places ++ tip_in x.node) (labels ++ reverse x.label.items ∷ []) (rest ++ edges_from x.node)
     spelled_more rest i x e h = by h.left (topped rest i h.left h.are) h.inner_is h.places_are h.labels_are
       where
         by : (ts : List (Grown Part ℕ)) → AreEdges edges (i ∷ reverse rest) ts → inner_of (shape_of a.tree) ≡ inner ++ inner_in ts → places_of (shape_of a.tree) ≡ places ++ places_in ts → labels_of a.tree ≡ labels ++ labels_in ts → IsSpelled edges a (inner ++ is_inner x.node ∷ []) (places ++ tip_in x.node) (labels ++ reverse x.label.items ∷ []) (rest ++ edges_from x.node)
@@ -157,7 +157,7 @@ module _ (edges : List Edge) where
               labels_are = k ∙ ap₂ (λ u v. labels ++ u ∷ v) (sym label) o.labels_are ∙ sym (append_assoc labels (reverse x.label.items ∷ []) (labels_in o.left));
             }
           where
-            one : {y : Edge} → Some y ≡ Some x → y ≡ x
+            one : {y : PathEdge} → Some y ≡ Some x → y ≡ x
             one e = cc
 
     some_inner : (s : Shape ℕ) → 0 < length (inner_of s)

@@ -6,7 +6,7 @@ use Rattle.kex_byteset.specs.Classes.{class_at}
 use Rattle.kex_machine.specs.Nodes.{Graph, node_moves, HasClasses}
 use Rattle.kex_machine.specs.Advancing.{LeadAlike}
 use Rattle.kex_machine.proofs.Classes.{lead_alike}
-use Rattle.kex_paths.specs.Workspaces.{AreSamples, IsReady}
+use Rattle.kex_paths.specs.Workspaces.{AreSamples, IsWorkspaceReady}
 use Rattle.kex_paths.specs.Nexts.{HasClass}
 
 -- the bytes below n are sampled
@@ -106,11 +106,11 @@ module _ (g : Graph) (k l : List ℕ) (hk : HasClasses g.nodes k) (hl : HasClass
   one_class b lt = below_all 256 (omega arith) b lt
 
 -- the sample of a byte's class is there, and leads to the same places
-sample_leads : (g : Graph) (samples : List (Option ℕ)) (marks : List Bool) (class : ℕ) (found : Option ℕ) → IsReady g samples marks → slice_get samples class ≡ Some found → (b : ℕ) → HasClass g class b → MatchOption found ⊥ (λ byte. LeadAlike (node_moves g.nodes) byte b)
+sample_leads : (g : Graph) (samples : List (Option ℕ)) (marks : List Bool) (class : ℕ) (found : Option ℕ) → IsWorkspaceReady g samples marks → slice_get samples class ≡ Some found → (b : ℕ) → HasClass g class b → MatchOption found ⊥ (λ byte. LeadAlike (node_moves g.nodes) byte b)
 sample_leads g samples marks class None ready e b (classes, has, lt, is) = ready.each.all b lt (ap (λ z. slice_get samples z) (one_class g ready.classes classes ready.has has b lt ∙ is) ∙ e)
 sample_leads g samples marks class (Some byte) ready e b (classes, has, lt, is) =
     let r = ready.each.right class byte e in
     lead_alike g.nodes ready.classes ready.has byte b r.0 lt (r.1 ∙ sym is ∙ sym (one_class g ready.classes classes ready.has has b lt))
 
-pub sample_at : (g : Graph) (samples : List (Option ℕ)) (marks : List Bool) (class : ℕ) → class < 256 → IsReady g samples marks → (b : ℕ) → HasClass g class b → MatchOption (get_or samples class None) ⊥ (λ byte. LeadAlike (node_moves g.nodes) byte b)
+pub sample_at : (g : Graph) (samples : List (Option ℕ)) (marks : List Bool) (class : ℕ) → class < 256 → IsWorkspaceReady g samples marks → (b : ℕ) → HasClass g class b → MatchOption (get_or samples class None) ⊥ (λ byte. LeadAlike (node_moves g.nodes) byte b)
 sample_at g samples marks class lt ready b has = sample_leads g samples marks class (get_or samples class None) ready (slice_get-get_or samples class None (let long = ready.each.long in omega arith)) b has

@@ -12,26 +12,26 @@ use Rattle.kex_machine.specs.Nodes.{node_moves, MoveBelow, StaysWithin}
 use Rattle.kex_machine.proofs.Sizes.{unseen, unseen-set}
 use Rattle.kex_sst.specs.declared.parts.Part.{Part}
 use Rattle.kex_sst.specs.declared.parts.Part.TheVariants.{Put, Old, Input}
-use Rattle.kex_paths.specs.declared.walk.Token.{Token}
-use Rattle.kex_paths.specs.declared.walk.Token.TheVariants.{Fork, Tip}
+use Rattle.kex_paths.specs.declared.walk.TreeToken.{TreeToken}
+use Rattle.kex_paths.specs.declared.walk.TreeToken.TheVariants.{Fork, Tip}
 use Rattle.kex_paths.specs.declared.walk.Task.{Task}
 use Rattle.kex_paths.specs.declared.walk.Task.TheVariants.{OldTree, OldEdge, Merge, Front, Visit}
 use Rattle.kex_paths.specs.Forests.{Trees, no_trees, HasTrees, last_tree, trees_before}
-use Rattle.kex_paths.specs.Tasks.{tasks_from, read_tasks, byte_tasks, token_tasks, token_dead, place_tasks, place_trees, IsTipBelow, EachTip, IsTaskBelow, EachTask, ShapedTask, task_of, tokens_left, Runs}
+use Rattle.kex_paths.specs.Tasks.{tasks_from, read_tasks, byte_tasks, token_tasks, token_dead, place_tasks, place_trees, IsTipBelow, EachTip, IsTaskBelow, EachTask, ShapedTask, task_of, tokens_left, RunsTasks}
 use Rattle.kex_paths.proofs.OldTrees.{Going, going_start, going_join, going_front, going_edge, going_meet, going_token, going_text, going_end}
 
-module _ (moves : ℕ → Move ℕ) (b m : ℕ) (shape : List Token) (first : List ShapedTask) where
+module _ (moves : ℕ → Move ℕ) (b m : ℕ) (shape : List TreeToken) (first : List ShapedTask) where
   abbrev pub Keeps : ℕ → List Bool → List Task → Trees → Type 0
   Keeps k f tasks gs = (rs : List (Option (Grown Part ℕ))) × HasTrees gs rs × Going moves b m first k (drop k shape) f (reverse tasks) rs
 
   -- the stack with its top at the end
-  topped : (k : ℕ) (left : List Token) (f : List Bool) (tasks : List Task) (x : Task) (rs : List (Option (Grown Part ℕ))) → Going moves b m first k left f (reverse (tasks ++ x ∷ [])) rs → Going moves b m first k left f (x ∷ reverse tasks) rs
+  topped : (k : ℕ) (left : List TreeToken) (f : List Bool) (tasks : List Task) (x : Task) (rs : List (Option (Grown Part ℕ))) → Going moves b m first k left f (reverse (tasks ++ x ∷ [])) rs → Going moves b m first k left f (x ∷ reverse tasks) rs
   topped k left f tasks x rs v = subst (λ z. Going moves b m first k left f z rs) (reverse-append tasks (x ∷ [])) v
 
-  heaped : (k : ℕ) (left : List Token) (f : List Bool) (tasks more : List Task) (rs : List (Option (Grown Part ℕ))) → Going moves b m first k left f (reverse more ++ reverse tasks) rs → Going moves b m first k left f (reverse (tasks ++ more)) rs
+  heaped : (k : ℕ) (left : List TreeToken) (f : List Bool) (tasks more : List Task) (rs : List (Option (Grown Part ℕ))) → Going moves b m first k left f (reverse more ++ reverse tasks) rs → Going moves b m first k left f (reverse (tasks ++ more)) rs
   heaped k left f tasks more rs v = subst (λ z. Going moves b m first k left f z rs) (sym (reverse-append tasks more)) v
 
-  pub keeps_end : (k : ℕ) (f : List Bool) (tasks : List Task) (gs : Trees) → tasks ≡ [] → Keeps k f tasks gs → (rs : List (Option (Grown Part ℕ))) × HasTrees gs rs × ((h : List Bool) × Runs moves b first 0 (replicate m false) [] h rs)
+  pub keeps_end : (k : ℕ) (f : List Bool) (tasks : List Task) (gs : Trees) → tasks ≡ [] → Keeps k f tasks gs → (rs : List (Option (Grown Part ℕ))) × HasTrees gs rs × ((h : List Bool) × RunsTasks moves b first 0 (replicate m false) [] h rs)
   keeps_end k f tasks gs e h = (h.0, h.1, (f, going_end moves b m first k (drop k shape) f h.0 (subst (λ z. Going moves b m first k (drop k shape) f (reverse z) h.0) e h.2)))
 
   pub keeps_join : (k : ℕ) (f : List Bool) (tasks : List Task) (gs gs' : Trees) → ((rs : List (Option (Grown Part ℕ))) → HasTrees gs rs → HasTrees gs' (fork_of (last_tree (trees_before rs)) (last_tree rs) ∷ trees_before (trees_before rs))) → Keeps k f (tasks ++ Merge ∷ []) gs → Keeps k f tasks gs'
@@ -63,7 +63,7 @@ module _ (moves : ℕ → Move ℕ) (b m : ℕ) (shape : List Token) (first : Li
       let none : drop k shape ≡ [] = empty_list (drop k shape) (omega (arith, length-drop k shape)) in
       absurd (going_text moves b m first k f (reverse tasks) q.0 (subst (λ z. Going moves b m first k z f (OldTree ∷ reverse tasks) q.0) none (topped k (drop k shape) f tasks OldTree q.0 q.2)))
 
-pub keeps_start : (moves : ℕ → Move ℕ) (b m : ℕ) (shape : List Token) (j : ShapedTask) → shape ≡ tokens_left (j ∷ []) → (f : List Bool) (tasks : List Task) (gs : Trees) → f ≡ replicate m false → tasks ≡ task_of j ∷ [] → gs ≡ no_trees → Keeps moves b m shape (j ∷ []) 0 f tasks gs
+pub keeps_start : (moves : ℕ → Move ℕ) (b m : ℕ) (shape : List TreeToken) (j : ShapedTask) → shape ≡ tokens_left (j ∷ []) → (f : List Bool) (tasks : List Task) (gs : Trees) → f ≡ replicate m false → tasks ≡ task_of j ∷ [] → gs ≡ no_trees → Keeps moves b m shape (j ∷ []) 0 f tasks gs
 keeps_start moves b m shape j t f tasks gs e w g = ([], subst (λ z. HasTrees z []) (sym g) tt, subst (λ z. Going moves b m (j ∷ []) 0 shape f (reverse z) []) (sym w) (subst (λ z. Going moves b m (j ∷ []) 0 z f (task_of j ∷ []) []) (sym t) (going_start moves b m j f e)))
 
 pub one_task : (m : ℕ) (x y : Task) → IsTaskBelow m x → IsAmong (x ∷ []) y → IsTaskBelow m y
@@ -100,16 +100,16 @@ read_tasks_below m (choose l r) b h = no_tasks m
 read_tasks_below m (forced y t) b h = no_tasks m
 read_tasks_below m (go e t) b h = no_tasks m
 
-pub token_below : (nodes : List MNode) (b : ℕ) (x : Token) → StaysWithin nodes → IsTipBelow (length nodes) x → EachTask (length nodes) (token_tasks (node_moves nodes) b x)
+pub token_below : (nodes : List MNode) (b : ℕ) (x : TreeToken) → StaysWithin nodes → IsTipBelow (length nodes) x → EachTask (length nodes) (token_tasks (node_moves nodes) b x)
 token_below nodes b Fork range h = each_cons (length nodes) Merge (OldEdge ∷ OldEdge ∷ []) tt (each_cons (length nodes) OldEdge (OldEdge ∷ []) tt (each_cons (length nodes) OldEdge [] tt (no_tasks (length nodes))))
 token_below nodes b (Tip p) range h = read_tasks_below (length nodes) (node_moves nodes p) b (range p h)
 
-pub tip_at : (m : ℕ) (shape : List Token) (k : ℕ) → EachTip m shape → k < length shape → IsTipBelow m (get_or shape k Fork)
+pub tip_at : (m : ℕ) (shape : List TreeToken) (k : ℕ) → EachTip m shape → k < length shape → IsTipBelow m (get_or shape k Fork)
 tip_at m [] k h lt = absurd (omega arith)
 tip_at m (x ∷ xs) zero h lt = h x (inl refl)
 tip_at m (x ∷ xs) (suc k) h lt = tip_at m xs k (λ y i. h y (inr i)) (omega arith)
 
-token_length : (moves : ℕ → Move ℕ) (b : ℕ) (x : Token) → length (token_tasks moves b x) ≤ 3
+token_length : (moves : ℕ → Move ℕ) (b : ℕ) (x : TreeToken) → length (token_tasks moves b x) ≤ 3
 token_length moves b Fork = omega arith
 token_length moves b (Tip p) = by (moves p)
   where
@@ -150,14 +150,14 @@ falls_meet f f' n mv tasks tasks' rest lt fe w = by (get_or f n false) refl
         let few = spread_length mv in
         omega arith
 
-pub falls_edge : (moves : ℕ → Move ℕ) (b : ℕ) (x : Token) (y : Task) (n k u : ℕ) (tasks tasks' tasks'' : List Task) → k < n → tasks' ≡ tasks ++ y ∷ [] → tasks'' ≡ tasks' ++ token_tasks moves b x → u + 4 * (n - (k + 1)) + length tasks'' < u + 4 * (n - k) + suc (length tasks)
+pub falls_edge : (moves : ℕ → Move ℕ) (b : ℕ) (x : TreeToken) (y : Task) (n k u : ℕ) (tasks tasks' tasks'' : List Task) → k < n → tasks' ≡ tasks ++ y ∷ [] → tasks'' ≡ tasks' ++ token_tasks moves b x → u + 4 * (n - (k + 1)) + length tasks'' < u + 4 * (n - k) + suc (length tasks)
 falls_edge moves b x y n k u tasks tasks' tasks'' lt w w' =
     let long : length tasks'' ≡ length tasks' + length (token_tasks moves b x) = ap length w' ∙ length-append tasks' (token_tasks moves b x) in
     let longer : length tasks' ≡ length tasks + 1 = ap length w ∙ length-append tasks (y ∷ []) in
     let few = token_length moves b x in
     omega arith
 
-pub falls_token : (moves : ℕ → Move ℕ) (b : ℕ) (x : Token) (n k u : ℕ) (tasks tasks' : List Task) → k < n → tasks' ≡ tasks ++ token_tasks moves b x → u + 4 * (n - (k + 1)) + length tasks' < u + 4 * (n - k) + suc (length tasks)
+pub falls_token : (moves : ℕ → Move ℕ) (b : ℕ) (x : TreeToken) (n k u : ℕ) (tasks tasks' : List Task) → k < n → tasks' ≡ tasks ++ token_tasks moves b x → u + 4 * (n - (k + 1)) + length tasks' < u + 4 * (n - k) + suc (length tasks)
 falls_token moves b x n k u tasks tasks' lt w =
     let long : length tasks' ≡ length tasks + length (token_tasks moves b x) = ap length w ∙ length-append tasks (token_tasks moves b x) in
     let few = token_length moves b x in

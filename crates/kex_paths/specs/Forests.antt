@@ -2,35 +2,35 @@
 use Rattle.std.specs.Prelude.{◌≡◌, ℕ, List, [], ◌∷◌, Option, Some, None, reverse, slice_get}
 use Rattle.kex_model.specs.Labelled.{Labelled, tip, fork, Grown}
 use Rattle.kex_sst.specs.declared.parts.Part.{Part}
-use Rattle.kex_paths.specs.declared.forest.Edge.{Edge}
+use Rattle.kex_paths.specs.declared.forest.PathEdge.{PathEdge}
 use Rattle.kex_paths.specs.declared.forest.TreeNode.{TreeNode}
 use Rattle.kex_paths.specs.declared.forest.TreeNode.TheVariants.{Tip, Fork}
 
 -- trees side by side: the edges below their roots, and the edges to these, the last first; a tree may be gone
 pub record Trees : Type 0 where
-  pub edges : List Edge
-  pub roots : List (Option Edge)
+  pub edges : List PathEdge
+  pub roots : List (Option PathEdge)
 
 abbrev pub no_trees : Trees
 no_trees = record { edges = []; roots = [] }
 
 -- the tree that a node leads to
-pub data IsTreeAt (edges : List Edge) : TreeNode → Labelled Part ℕ → Type 0 where
+pub data IsTreeAt (edges : List PathEdge) : TreeNode → Labelled Part ℕ → Type 0 where
   at_tip : {p : ℕ} → IsTreeAt edges (Tip p) (tip p)
-  at_fork : {n m : ℕ} {x y : Edge} {l r : Labelled Part ℕ} → slice_get edges n ≡ Some x → slice_get edges m ≡ Some y → IsTreeAt edges x.node l → IsTreeAt edges y.node r → IsTreeAt edges (Fork n m) (fork (reverse x.label.items) l (reverse y.label.items) r)
+  at_fork : {n m : ℕ} {x y : PathEdge} {l r : Labelled Part ℕ} → slice_get edges n ≡ Some x → slice_get edges m ≡ Some y → IsTreeAt edges x.node l → IsTreeAt edges y.node r → IsTreeAt edges (Fork n m) (fork (reverse x.label.items) l (reverse y.label.items) r)
 
 -- the tree that an edge leads to, with the edge's label, if it is there
-abbrev pub LeadsTo : List Edge → Option Edge → Option (Grown Part ℕ) → Type 0
-LeadsTo edges None None = Unit {0}
-LeadsTo edges None (Some g) = ⊥
-LeadsTo edges (Some x) None = ⊥
-LeadsTo edges (Some x) (Some g) = (reverse x.label.items ≡ g.label) × IsTreeAt edges x.node g.tree
+abbrev pub LeadsToTree : List PathEdge → Option PathEdge → Option (Grown Part ℕ) → Type 0
+LeadsToTree edges None None = Unit {0}
+LeadsToTree edges None (Some g) = ⊥
+LeadsToTree edges (Some x) None = ⊥
+LeadsToTree edges (Some x) (Some g) = (reverse x.label.items ≡ g.label) × IsTreeAt edges x.node g.tree
 
-abbrev pub LeadToEach : List Edge → List (Option Edge) → List (Option (Grown Part ℕ)) → Type 0
+abbrev pub LeadToEach : List PathEdge → List (Option PathEdge) → List (Option (Grown Part ℕ)) → Type 0
 LeadToEach edges [] [] = Unit {0}
 LeadToEach edges [] (t ∷ ts) = ⊥
 LeadToEach edges (x ∷ xs) [] = ⊥
-LeadToEach edges (x ∷ xs) (t ∷ ts) = LeadsTo edges x t × LeadToEach edges xs ts
+LeadToEach edges (x ∷ xs) (t ∷ ts) = LeadsToTree edges x t × LeadToEach edges xs ts
 
 -- the forest has these trees, the last first
 abbrev pub HasTrees : Trees → List (Option (Grown Part ℕ)) → Type 0

@@ -7,7 +7,7 @@ use Rattle.kex_machine.specs.Nodes.{Graph, node_moves}
 use Rattle.kex_sst.specs.declared.parts.Part.{Part}
 use Rattle.kex_sst.specs.declared.parts.Part.TheVariants.{Old, Input}
 use Rattle.kex_sst.specs.Parts.{Change, puts, reads_of}
-use Rattle.kex_paths.specs.Nexts.{IsFirst, IsNext, IsChange, RiseWithin}
+use Rattle.kex_paths.specs.Nexts.{IsFirstTree, IsNext, IsChange, RiseWithin}
 
 abbrev pub old_parts : List ℕ → List Part
 old_parts [] = []
@@ -19,7 +19,7 @@ byte_if false = []
 
 -- old registers, each whole, then the byte that is read if it lies there, and then symbols: behind
 -- old registers only where the byte lies between
-pub record IsInOrder (xs : List Part) : Type 0 where
+pub record ArePartsInOrder (xs : List Part) : Type 0 where
   pub registers : List ℕ
   pub read : Bool
   pub symbols : List Symbol
@@ -29,21 +29,21 @@ pub record IsInOrder (xs : List Part) : Type 0 where
 abbrev pub ArePuts : List Part → Type 0
 ArePuts xs = (c : List Symbol) × (xs ≡ puts c)
 
-abbrev pub Each : (List Part → Type 0) → List (List Part) → Type 0
-Each P [] = Unit {0}
-Each P (xs ∷ rest) = P xs × Each P rest
+abbrev pub EachList : (List Part → Type 0) → List (List Part) → Type 0
+EachList P [] = Unit {0}
+EachList P (xs ∷ rest) = P xs × EachList P rest
 
 -- the update with which a tree of this shape goes on with byte b: there is one; its lists are in order; and the old
 -- registers rise in it, so that none stands twice
 pub record Determines (g : Graph) (b : ℕ) (s : Shape ℕ) : Type 0 where
   pub one : (a a' : Option (Grown Part ℕ)) → IsNext g b s a → IsNext g b s a' → a ≡ a'
-  pub in_order : (u : Change) (a : Grown Part ℕ) → IsNext g b s (Some a) → IsChange u a → IsInOrder u.out × Each IsInOrder u.regs
+  pub in_order : (u : Change) (a : Grown Part ℕ) → IsNext g b s (Some a) → IsChange u a → ArePartsInOrder u.out × EachList ArePartsInOrder u.regs
   pub rises : (u : Change) (a : Grown Part ℕ) → IsNext g b s (Some a) → IsChange u a → (last : ℕ) → suc last ≡ size_of s → RiseWithin 0 last (reads_of u)
 
 -- the update before the first byte: there is one, of symbols alone
 pub record DeterminesFirst (g : Graph) : Type 0 where
-  pub one : (a a' : Option (Grown Part ℕ)) → IsFirst g a → IsFirst g a' → a ≡ a'
-  pub symbols : (u : Change) (a : Grown Part ℕ) → IsFirst g (Some a) → IsChange u a → ArePuts u.out × Each ArePuts u.regs
+  pub one : (a a' : Option (Grown Part ℕ)) → IsFirstTree g a → IsFirstTree g a' → a ≡ a'
+  pub symbols : (u : Change) (a : Grown Part ℕ) → IsFirstTree g (Some a) → IsChange u a → ArePuts u.out × EachList ArePuts u.regs
 
 -- a text has one shape
 abbrev pub OneShape : Graph → List ℕ → Type 0

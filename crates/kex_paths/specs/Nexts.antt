@@ -6,7 +6,7 @@ use Rattle.kex_model.specs.Moves.{Move}
 use Rattle.kex_model.specs.Labelled.{Labelled, labels_of, Shape, place, parts, shape_of, Grown}
 use Rattle.kex_model.specs.Survivors.{HasTree}
 use Rattle.kex_machine.specs.Nodes.{Graph, node_moves, HasClasses}
-use Rattle.kex_machine.specs.Answers.{Viable}
+use Rattle.kex_machine.specs.Answers.{IsViableFor}
 use Rattle.kex_machine.specs.Advancing.{Visits, Advances}
 use Rattle.kex_sst.specs.declared.parts.Part.{Part}
 use Rattle.kex_sst.specs.declared.parts.Part.TheVariants.{Put, Input}
@@ -17,17 +17,17 @@ abbrev pub Explores : (ℕ → Move ℕ) → List Bool → ℕ → Option (Grown
 Explores moves f n a g = Visits (λ s. Put s) moves f n a g
 
 -- the tree of this shape, whose labels are registers in preorder from k on, goes on with byte b
-abbrev pub GoesOn : (ℕ → Move ℕ) → ℕ → ℕ → List Bool → Shape ℕ → Option (Grown Part ℕ) → List Bool → Type 0
-GoesOn moves b k f s a g = Advances (λ s. Put s) Input moves b f (numbered_tree k s) a g
+abbrev pub TreeGoesOn : (ℕ → Move ℕ) → ℕ → ℕ → List Bool → Shape ℕ → Option (Grown Part ℕ) → List Bool → Type 0
+TreeGoesOn moves b k f s a g = Advances (λ s. Put s) Input moves b f (numbered_tree k s) a g
 
 -- the tree of the empty text, and its label: what the survivors agree on
-abbrev pub IsFirst : Graph → Option (Grown Part ℕ) → Type 0
-IsFirst g a = (marks : List Bool) × Explores (node_moves g.nodes) (replicate (length g.nodes) false) g.start a marks
+abbrev pub IsFirstTree : Graph → Option (Grown Part ℕ) → Type 0
+IsFirstTree g a = (marks : List Bool) × Explores (node_moves g.nodes) (replicate (length g.nodes) false) g.start a marks
 
 -- the tree that a tree of this shape goes on to with byte b, and its label: what is agreed on besides; none where no place
 -- is left
 abbrev pub IsNext : Graph → ℕ → Shape ℕ → Option (Grown Part ℕ) → Type 0
-IsNext g b s a = (marks : List Bool) × GoesOn (node_moves g.nodes) b 0 (replicate (length g.nodes) false) s a marks
+IsNext g b s a = (marks : List Bool) × TreeGoesOn (node_moves g.nodes) b 0 (replicate (length g.nodes) false) s a marks
 
 -- the update passes on the label before the root, and gives the registers the other labels, in preorder
 abbrev pub IsChange : Change → Grown Part ℕ → Type 0
@@ -57,12 +57,12 @@ abbrev pub IsOfShape : Outline → Shape ℕ → Type 0
 IsOfShape t s = (t.shape ≡ inner_of s) × (t.leaves ≡ places_of s)
 
 -- the tree and the update are those of the start
-abbrev pub Begins : Outline → Change → Type 0
-Begins t u = (a : Grown Part ℕ) × IsFirst t.machine (Some a) × IsOfShape t (shape_of a.tree) × IsChange u a
+abbrev pub BeginsTree : Outline → Change → Type 0
+BeginsTree t u = (a : Grown Part ℕ) × IsFirstTree t.machine (Some a) × IsOfShape t (shape_of a.tree) × IsChange u a
 
 -- from the tree of shape s this tree and this update come with byte b
-abbrev pub Follows : Outline → ℕ → Shape ℕ → Change → Type 0
-Follows t b s u = (a : Grown Part ℕ) × IsNext t.machine b s (Some a) × IsOfShape t (shape_of a.tree) × IsChange u a
+abbrev pub FollowsTree : Outline → ℕ → Shape ℕ → Change → Type 0
+FollowsTree t b s u = (a : Grown Part ℕ) × IsNext t.machine b s (Some a) × IsOfShape t (shape_of a.tree) × IsChange u a
 
 -- with registers that hold these labels the update passes on the code x and leaves the labels of the tree, and the path
 -- tree has the tree's shape
@@ -83,7 +83,7 @@ ShowsNext t u b w c old = (x : List Symbol) × (tree : Labelled Symbol ℕ) × S
 -- what comes of a path tree by a class: for each text of whose tree it has the shape, and each byte of the class, a tree
 -- that shows the tree of the longer text, and none where that isn't viable
 abbrev pub ShowsFor : Outline → ℕ → Option (Outline × Change) → Type 0
-ShowsFor old class r = (w : List ℕ) (c : List Symbol) (t : Labelled Symbol ℕ) (b : ℕ) → HasTree (node_moves old.machine.nodes) old.machine.start w c t → IsOfShape old (shape_of t) → HasClass old.machine class b → MatchOption r (¬ Viable old.machine (w ++ b ∷ [])) (λ n. ShowsNext n.0 n.1 b w c t)
+ShowsFor old class r = (w : List ℕ) (c : List Symbol) (t : Labelled Symbol ℕ) (b : ℕ) → HasTree (node_moves old.machine.nodes) old.machine.start w c t → IsOfShape old (shape_of t) → HasClass old.machine class b → MatchOption r (¬ IsViableFor old.machine (w ++ b ∷ [])) (λ n. ShowsNext n.0 n.1 b w c t)
 
 -- the numbers rise, from lo on and below hi: so each stands there at most once
 abbrev pub RiseWithin : ℕ → ℕ → List ℕ → Type 0

@@ -6,14 +6,14 @@ use Rattle.kex_machine.specs.Advancing.{EachPlace}
 use Rattle.kex_sst.specs.declared.parts.Part.{Part}
 use Rattle.kex_paths.specs.Nexts.{inner_of, places_of}
 use Rattle.kex_paths.specs.Forests.{IsTreeAt}
-use Rattle.kex_paths.specs.declared.forest.Edge.{Edge}
+use Rattle.kex_paths.specs.declared.forest.PathEdge.{PathEdge}
 use Rattle.kex_paths.specs.declared.forest.TreeNode.{TreeNode}
 use Rattle.kex_paths.specs.declared.forest.TreeNode.TheVariants as node
-use Rattle.kex_paths.specs.declared.walk.Token.{Token}
-use Rattle.kex_paths.specs.declared.walk.Token.TheVariants.{Tip, Fork}
+use Rattle.kex_paths.specs.declared.walk.TreeToken.{TreeToken}
+use Rattle.kex_paths.specs.declared.walk.TreeToken.TheVariants.{Tip, Fork}
 
 -- these are the lists of a tree of the machine's places, of which all numbers fit 32 bits
-pub record IsSound (g : Graph) (inner : List Bool) (places : List ℕ) : Type 0 where
+pub record IsTreeSound (g : Graph) (inner : List Bool) (places : List ℕ) : Type 0 where
   pub shape : Shape ℕ
   pub inner_is : inner ≡ inner_of shape
   pub places_are : places ≡ places_of shape
@@ -27,9 +27,9 @@ key_of (place p) = suc p ∷ []
 key_of (parts l r) = 0 ∷ (key_of l ++ key_of r)
 
 -- a node as a number
-abbrev pub number_of : Token → ℕ
-number_of Fork = 0
-number_of (Tip p) = suc p
+abbrev pub token_number : TreeToken → ℕ
+token_number Fork = 0
+token_number (Tip p) = suc p
 
 abbrev pub is_inner : TreeNode → Bool
 is_inner (node.Tip p) = false
@@ -45,17 +45,17 @@ edges_from (node.Tip p) = []
 edges_from (node.Fork l r) = r ∷ l ∷ []
 
 -- the edge of this number leads to the tree
-pub record IsEdge (edges : List Edge) (i : ℕ) (t : Grown Part ℕ) : Type 0 where
-  pub edge : Edge
+pub record IsPathEdge (edges : List PathEdge) (i : ℕ) (t : Grown Part ℕ) : Type 0 where
+  pub edge : PathEdge
   pub here : slice_get edges i ≡ Some edge
   pub label : reverse edge.label.items ≡ t.label
   pub stands : IsTreeAt edges edge.node t.tree
 
-abbrev pub AreEdges : List Edge → List ℕ → List (Grown Part ℕ) → Type 0
+abbrev pub AreEdges : List PathEdge → List ℕ → List (Grown Part ℕ) → Type 0
 AreEdges edges [] [] = Unit {0}
 AreEdges edges [] (t ∷ ts) = ⊥
 AreEdges edges (i ∷ is) [] = ⊥
-AreEdges edges (i ∷ is) (t ∷ ts) = IsEdge edges i t × AreEdges edges is ts
+AreEdges edges (i ∷ is) (t ∷ ts) = IsPathEdge edges i t × AreEdges edges is ts
 
 abbrev pub inner_in : List (Grown Part ℕ) → List Bool
 inner_in [] = []
@@ -70,7 +70,7 @@ labels_in [] = []
 labels_in (t ∷ ts) = t.label ∷ (labels_of t.tree ++ labels_in ts)
 
 -- a tree is spelled so far; what is left are the trees of these edges, of which the last is the next
-pub record IsSpelled (edges : List Edge) (a : Grown Part ℕ) (inner : List Bool) (places : List ℕ) (labels : List (List Part)) (pending : List ℕ) : Type 0 where
+pub record IsSpelled (edges : List PathEdge) (a : Grown Part ℕ) (inner : List Bool) (places : List ℕ) (labels : List (List Part)) (pending : List ℕ) : Type 0 where
   pub left : List (Grown Part ℕ)
   pub are : AreEdges edges (reverse pending) left
   pub inner_is : inner_of (shape_of a.tree) ≡ inner ++ inner_in left

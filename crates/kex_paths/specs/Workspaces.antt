@@ -9,7 +9,7 @@ pub record AreSamples (classes : List ℕ) (samples : List (Option ℕ)) : Type 
   pub right : (class b : ℕ) → slice_get samples class ≡ Some (Some b) → (b < 256) × (class_at classes b ≡ class)
   pub all : (b : ℕ) → b < 256 → slice_get samples (class_at classes b) ≡ Some None → ⊥
 
-pub record IsReady (g : Graph) (samples : List (Option ℕ)) (marks : List Bool) : Type 0 where
+pub record IsWorkspaceReady (g : Graph) (samples : List (Option ℕ)) (marks : List Bool) : Type 0 where
   pub classes : List ℕ
   pub has : HasClasses g.nodes classes
   pub each : AreSamples classes samples

@@ -2,7 +2,7 @@
 
 ghost use Rattle.std.specs.Prelude.{◌≡◌, ℕ, None, IfOk, IfSome, MatchOption};
 ghost use Rattle.kex_model.specs.Labelled.{Shape};
-ghost use Rattle.kex_paths.specs.Nexts.{IsOfShape, HasClass, IsNext, Begins, Follows, ShowsFirst, ShowsFor};
+ghost use Rattle.kex_paths.specs.Nexts.{IsOfShape, HasClass, IsNext, BeginsTree, FollowsTree, ShowsFirst, ShowsFor};
 
 use crate::tree::{PathTree, gather};
 use crate::walk::{Task, Tools, walk};
@@ -21,7 +21,7 @@ impl<'m> PathTree<'m> {
     /// nodes.
     pub fn start(alloc: Global, machine: &'m Trimmed) -> Result<(PathTree<'m>, Update), Memory>
         ensures machine { IfOk result (λ r. r.0.machine ≡ machine.now) }
-        ensures first { IfOk result (λ r. Begins r.0 r.1) }
+        ensures first { IfOk result (λ r. BeginsTree r.0 r.1) }
         ensures shows { IfOk result (λ r. ShowsFirst r.0 r.1) }
     {
         let nodes = machine.nodes();
@@ -42,7 +42,7 @@ impl<'m> PathTree<'m> {
         class: u8,
     ) -> Result<Option<(PathTree<'m>, Update)>, Memory>
         ensures machine { IfOk result (λ r. IfSome r (λ n. n.0.machine ≡ self.now.machine)) }
-        ensures next { IfOk result (λ r. (s : Shape ℕ) (b : ℕ) → IsOfShape self.now s → HasClass self.now.machine class b → MatchOption r (IsNext self.now.machine b s None) (λ n. Follows n.0 b s n.1)) }
+        ensures next { IfOk result (λ r. (s : Shape ℕ) (b : ℕ) → IsOfShape self.now s → HasClass self.now.machine class b → MatchOption r (IsNext self.now.machine b s None) (λ n. FollowsTree n.0 b s n.1)) }
         ensures shows { IfOk result (λ r. ShowsFor self.now class r) }
     {
         let mut workspace = Workspace::new(alloc, self.machine())?;
@@ -58,7 +58,7 @@ impl<'m> PathTree<'m> {
     ) -> Result<Option<(PathTree<'m>, Update)>, Memory>
         requires { workspace.old ≡ self.now.machine }
         ensures machine { IfOk result (λ r. IfSome r (λ n. n.0.machine ≡ self.now.machine)) }
-        ensures next { IfOk result (λ r. (s : Shape ℕ) (b : ℕ) → IsOfShape self.now s → HasClass self.now.machine class b → MatchOption r (IsNext self.now.machine b s None) (λ n. Follows n.0 b s n.1)) }
+        ensures next { IfOk result (λ r. (s : Shape ℕ) (b : ℕ) → IsOfShape self.now s → HasClass self.now.machine class b → MatchOption r (IsNext self.now.machine b s None) (λ n. FollowsTree n.0 b s n.1)) }
         ensures shows { IfOk result (λ r. ShowsFor self.now class r) }
         ensures same { workspace.new ≡ workspace.old }
     {

@@ -3,7 +3,7 @@
 ghost use Rattle.std.specs.Prelude.{◌≡◌, ℕ, List, [], ◌∷◌, ◌++◌, Some, Option, OnOk};
 ghost use Rattle.kex_model.specs.Labelled.{Grown, tip, with_prefix, fork_of};
 ghost use Rattle.kex_sst.specs.declared.parts.Part.{Part};
-ghost use Rattle.kex_paths.specs.Forests.{HasTrees, LeadsTo, last_tree, trees_before, no_trees};
+ghost use Rattle.kex_paths.specs.Forests.{HasTrees, LeadsToTree, last_tree, trees_before, no_trees};
 
 use kex_code::memory::Memory;
 use kex_sst::parts::Part;
@@ -20,7 +20,7 @@ pub enum TreeNode {
 
 /// An edge, with what it leads to. Its label is turned: what is put in front stands at its end.
 #[derive(Drop)]
-pub struct Edge {
+pub struct PathEdge {
     pub label: SmallVec<Part, 4>,
     pub node: TreeNode,
 }
@@ -29,8 +29,8 @@ pub struct Edge {
 #[derive(Drop)]
 pub struct Forest {
     alloc: Global,
-    edges: Vec<Edge>,
-    roots: Vec<Option<Edge>>,
+    edges: Vec<PathEdge>,
+    roots: Vec<Option<PathEdge>>,
 }
 
 impl Model for Forest {
@@ -63,22 +63,22 @@ impl Forest {
     }
 
     /// The edges below the roots.
-    pub fn edges(&self) -> &[Edge]
+    pub fn edges(&self) -> &[PathEdge]
         ensures { result.now ≡ self.now.edges }
     {
         &self.edges
     }
 
-    fn push_root(&mut self, root: Option<Edge>) -> Result<(), Memory>
-        ensures { OnOk result ((t : Option (Grown Part ℕ)) (rs : List (Option (Grown Part ℕ))) → LeadsTo self.old.edges root t → HasTrees self.old rs → HasTrees self.new (t ∷ rs)) }
+    fn push_root(&mut self, root: Option<PathEdge>) -> Result<(), Memory>
+        ensures { OnOk result ((t : Option (Grown Part ℕ)) (rs : List (Option (Grown Part ℕ))) → LeadsToTree self.old.edges root t → HasTrees self.old rs → HasTrees self.new (t ∷ rs)) }
     {
         self.roots.push(root)?;
         Ok(())
     }
 
     /// Takes the last tree away; the edges below its root stay.
-    pub fn pop_root(&mut self) -> Option<Edge>
-        ensures trees { (rs : List (Option (Grown Part ℕ))) → HasTrees self.old rs → LeadsTo self.new.edges result (last_tree rs) × HasTrees self.new (trees_before rs) }
+    pub fn pop_root(&mut self) -> Option<PathEdge>
+        ensures trees { (rs : List (Option (Grown Part ℕ))) → HasTrees self.old rs → LeadsToTree self.new.edges result (last_tree rs) × HasTrees self.new (trees_before rs) }
         ensures edges { self.new.edges ≡ self.old.edges }
     {
         match self.roots.pop() {
@@ -100,12 +100,12 @@ impl Forest {
     {
         let label = SmallVec::new(self.alloc);
         let node = TreeNode::Tip(place);
-        self.push_root(Some(Edge { label, node }))
+        self.push_root(Some(PathEdge { label, node }))
     }
 
     // A fork of two trees, as the last tree.
-    fn add_fork(&mut self, left: Edge, right: Edge) -> Result<(), Memory>
-        ensures { OnOk result ((a : Grown Part ℕ) (b : Grown Part ℕ) (rs : List (Option (Grown Part ℕ))) → LeadsTo self.old.edges (Some left) (Some a) → LeadsTo self.old.edges (Some right) (Some b) → HasTrees self.old rs → HasTrees self.new (fork_of (Some a) (Some b) ∷ rs)) }
+    fn add_fork(&mut self, left: PathEdge, right: PathEdge) -> Result<(), Memory>
+        ensures { OnOk result ((a : Grown Part ℕ) (b : Grown Part ℕ) (rs : List (Option (Grown Part ℕ))) → LeadsToTree self.old.edges (Some left) (Some a) → LeadsToTree self.old.edges (Some right) (Some b) → HasTrees self.old rs → HasTrees self.new (fork_of (Some a) (Some b) ∷ rs)) }
     {
         let label = SmallVec::new(self.alloc);
         let left_number = self.edges.len();
@@ -113,7 +113,7 @@ impl Forest {
         let right_number = self.edges.len();
         self.edges.push(right)?;
         let node = TreeNode::Fork(left_number, right_number);
-        self.push_root(Some(Edge { label, node }))
+        self.push_root(Some(PathEdge { label, node }))
     }
 
     /// The last two trees as the sides of a fork; of one that is gone no fork is left.

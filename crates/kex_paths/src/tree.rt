@@ -5,14 +5,14 @@ ghost use Rattle.kex_model.specs.Labelled.{Grown, Shape, shape_of, size_of};
 ghost use Rattle.kex_machine.specs.Nodes.{node_moves};
 ghost use Rattle.kex_machine.specs.Advancing.{EachPlace};
 ghost use Rattle.kex_sst.specs.declared.parts.Part.{Part};
-ghost use Rattle.kex_paths.specs.Forests.{LeadsTo};
+ghost use Rattle.kex_paths.specs.Forests.{LeadsToTree};
 ghost use Rattle.kex_paths.specs.Nexts.{Outline, IsOfShape, IsChange, HasClass};
 ghost use Rattle.kex_paths.specs.Alikes.{LeadAlikeFrom, GoesOnAlike};
-ghost use Rattle.kex_paths.specs.Spellings.{IsSound, key_of, number_of, is_inner, tip_in, edges_from};
+ghost use Rattle.kex_paths.specs.Spellings.{IsTreeSound, key_of, token_number, is_inner, tip_in, edges_from};
 ghost use Rattle.kex_paths.specs.Tasks.{tokens_from, IsTipBelow};
 
-use crate::forest::{Edge, TreeNode};
-use crate::walk::{Token, leads_alike};
+use crate::forest::{PathEdge, TreeNode};
+use crate::walk::{TreeToken, leads_alike};
 use crate::workspace::Workspace;
 use kex_code::memory::Memory;
 use kex_machine::Trimmed;
@@ -30,13 +30,13 @@ pub struct PathTree<'m> {
 
 impl<'m> Model for PathTree<'m> {
     ghost use Rattle.kex_paths.specs.Nexts.{Outline};
-    ghost use Rattle.kex_paths.specs.Spellings.{IsSound};
+    ghost use Rattle.kex_paths.specs.Spellings.{IsTreeSound};
 
     ghost Value = { Outline };
 
     ghost view = { λ t. record { machine = t.machine.now; shape = t.shape.items; leaves = t.leaves.items } };
 
-    ghost invariant = { λ t. IsSound t.machine.now t.shape.items t.leaves.items };
+    ghost invariant = { λ t. IsTreeSound t.machine.now t.shape.items t.leaves.items };
 }
 
 impl<'m> PathTree<'m> {
@@ -44,7 +44,7 @@ impl<'m> PathTree<'m> {
     pub fn shape(&self) -> &[bool]
         ensures same { result.now ≡ self.now.shape }
         ensures tree { (s : Shape ℕ) × IsOfShape self.now s }
-        ensures sound { IsSound self.now.machine self.now.shape self.now.leaves }
+        ensures sound { IsTreeSound self.now.machine self.now.shape self.now.leaves }
     {
         &self.shape
     }
@@ -100,27 +100,31 @@ impl<'m> PathTree<'m> {
 }
 
 // A node of a tree as a number.
-fn number_of(token: Token) -> u32
+fn number_of(token: TreeToken) -> u32
     requires { IsTipBelow 4294967295 token }
-    ensures { result ≡ number_of token }
+    ensures { result ≡ token_number token }
 {
     match token {
-        Token::Fork => 0,
-        Token::Tip(place) => place + 1,
+        TreeToken::Fork => 0,
+        TreeToken::Tip(place) => place + 1,
     }
 }
 
 /// The nodes of a tree, in preorder.
-pub fn read_tokens(shape: &[bool], leaves: &[u32], tokens: &mut Vec<Token>) -> Result<(), Memory>
+pub fn read_tokens(
+    shape: &[bool],
+    leaves: &[u32],
+    tokens: &mut Vec<TreeToken>,
+) -> Result<(), Memory>
     ensures { OnOk result (tokens.new.items ≡ tokens_from shape.now leaves.now) }
 {
     tokens.clear();
     let mut leaf: usize = 0;
     for inner in shape {
         if *inner {
-            tokens.push(Token::Fork)?;
+            tokens.push(TreeToken::Fork)?;
         } else if leaf < leaves.len() {
-            tokens.push(Token::Tip(leaves[leaf]))?;
+            tokens.push(TreeToken::Tip(leaves[leaf]))?;
             leaf += 1;
         }
     }
@@ -167,7 +171,7 @@ fn add_node(
 }
 
 // The edge of a number.
-fn edge_at(edges: &[Edge], number: usize) -> &Edge
+fn edge_at(edges: &[PathEdge], number: usize) -> &PathEdge
     requires { number < length edges.now }
     ensures { slice_get edges.now number ≡ Some result.now }
 {
@@ -178,13 +182,13 @@ fn edge_at(edges: &[Edge], number: usize) -> &Edge
 pub fn gather<'m>(
     alloc: Global,
     machine: &'m Trimmed,
-    root: &Edge,
-    edges: &[Edge],
+    root: &PathEdge,
+    edges: &[PathEdge],
 ) -> Result<(PathTree<'m>, Update), Memory>
     requires few { 2 * length machine.now.nodes ≤ 2 ^ 32 }
-    requires fits { (a : Grown Part ℕ) × LeadsTo edges.now (Some root.now) (Some a) × EachPlace (length machine.now.nodes) (shape_of a.tree) × (size_of (shape_of a.tree) < 2 * length machine.now.nodes) }
+    requires fits { (a : Grown Part ℕ) × LeadsToTree edges.now (Some root.now) (Some a) × EachPlace (length machine.now.nodes) (shape_of a.tree) × (size_of (shape_of a.tree) < 2 * length machine.now.nodes) }
     ensures machine { IfOk result (λ r. r.0.machine ≡ machine.now) }
-    ensures tree { IfOk result (λ r. (a : Grown Part ℕ) → LeadsTo edges.now (Some root.now) (Some a) → IsOfShape r.0 (shape_of a.tree) × IsChange r.1 a) }
+    ensures tree { IfOk result (λ r. (a : Grown Part ℕ) → LeadsToTree edges.now (Some root.now) (Some a) → IsOfShape r.0 (shape_of a.tree) × IsChange r.1 a) }
 {
     let mut shape = Vec::with_capacity(alloc, edges.len() + 1)?;
     let mut leaves = Vec::with_capacity(alloc, edges.len() / 2 + 1)?;

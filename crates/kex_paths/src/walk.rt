@@ -6,7 +6,7 @@ ghost use Rattle.kex_machine.specs.Nodes.{node_moves, StaysWithin};
 ghost use Rattle.kex_sst.specs.declared.parts.Part.{Part};
 ghost use Rattle.kex_paths.specs.Alikes.{LeadAlikeAt};
 ghost use Rattle.kex_paths.specs.Forests.{HasTrees, last_tree};
-ghost use Rattle.kex_paths.specs.Tasks.{ShapedTask, task_of, tokens_left, Runs, tasks_from, leaf_at, IsTipBelow, token_tasks, token_dead, read_tasks, read_dead, place_tasks, place_trees, EachTip, IsTaskBelow};
+ghost use Rattle.kex_paths.specs.Tasks.{ShapedTask, task_of, tokens_left, RunsTasks, tasks_from, leaf_at, IsTipBelow, token_tasks, token_dead, read_tasks, read_dead, place_tasks, place_trees, EachTip, IsTaskBelow};
 
 use crate::forest::Forest;
 use kex_code::memory::Memory;
@@ -18,7 +18,7 @@ use std::alloc::Global;
 
 /// A node of an old tree, in preorder.
 #[derive(Clone, Copy, Debug, PartialEq, Eq)]
-pub enum Token {
+pub enum TreeToken {
     Fork,
     Tip(u32),
 }
@@ -146,7 +146,7 @@ pub fn leads_alike(nodes: &[MNode], place: u32, byte: u8, other: u8) -> bool
 // A node of the old tree: the sides of a fork are to be walked, each with the edge to it.
 fn take_token(
     nodes: &[MNode],
-    token: Token,
+    token: TreeToken,
     byte: u8,
     forest: &mut Forest,
     tasks: &mut Vec<Task>,
@@ -156,20 +156,20 @@ fn take_token(
     ensures trees { OnOk result ((rs : List (Option (Grown Part ℕ))) → HasTrees forest.old rs → HasTrees forest.new (token_dead (node_moves nodes.now) byte token ++ rs)) }
 {
     match token {
-        Token::Fork => {
+        TreeToken::Fork => {
             tasks.push(Task::Merge)?;
             tasks.push(Task::OldEdge)?;
             tasks.push(Task::OldEdge)?;
             Ok(())
         }
-        Token::Tip(place) => read(nodes, place, byte, forest, tasks),
+        TreeToken::Tip(place) => read(nodes, place, byte, forest, tasks),
     }
 }
 
 /// Does a task and those that come of it, left first; past an old tree, node by node. What comes of it is the last tree.
 pub fn walk(
     nodes: &[MNode],
-    tokens: &[Token],
+    tokens: &[TreeToken],
     byte: u8,
     first: Task,
     tools: &mut Tools,
@@ -179,7 +179,7 @@ pub fn walk(
     requires short { length tokens.now ≤ 2 ^ 32 }
     requires first { IsTaskBelow (length nodes.now) first }
     requires long { length tools.old.marks ≡ length nodes.now }
-    ensures done { OnOk result ((j : ShapedTask) → task_of j ≡ first → tokens.now ≡ tokens_left (j ∷ []) → (rs : List (Option (Grown Part ℕ))) × HasTrees tools.new.forest rs × ((h : List Bool) × Runs (node_moves nodes.now) byte (j ∷ []) 0 (replicate (length nodes.now) false) [] h rs)) }
+    ensures done { OnOk result ((j : ShapedTask) → task_of j ≡ first → tokens.now ≡ tokens_left (j ∷ []) → (rs : List (Option (Grown Part ℕ))) × HasTrees tools.new.forest rs × ((h : List Bool) × RunsTasks (node_moves nodes.now) byte (j ∷ []) 0 (replicate (length nodes.now) false) [] h rs)) }
     ensures long { length tools.new.marks ≡ length nodes.now }
 {
     let Tools {

@@ -5,12 +5,12 @@ ghost use Rattle.kex_byteset.specs.Classes.{IsNumbered};
 ghost use Rattle.kex_model.specs.Labelled.{Shape};
 ghost use Rattle.kex_machine.specs.Nodes.{node_moves, IsTrimmed};
 ghost use Rattle.kex_machine.specs.Advancing.{LeadAlike};
-ghost use Rattle.kex_paths.specs.Nexts.{Outline, IsOfShape, HasClass, IsNext, Follows};
-ghost use Rattle.kex_paths.specs.Spellings.{IsSound};
+ghost use Rattle.kex_paths.specs.Nexts.{Outline, IsOfShape, HasClass, IsNext, FollowsTree};
+ghost use Rattle.kex_paths.specs.Spellings.{IsTreeSound};
 ghost use Rattle.kex_paths.specs.Workspaces.{AreSamples};
 
 use crate::tree::{PathTree, gather, read_tokens};
-use crate::walk::{Task, Token, Tools, walk};
+use crate::walk::{Task, Tools, TreeToken, walk};
 use kex_byteset::Partition;
 use kex_code::memory::Memory;
 use kex_machine::Trimmed;
@@ -25,19 +25,19 @@ pub struct Workspace<'m> {
     alloc: Global,
     machine: &'m Trimmed,
     samples: [Option<u8>; 256],
-    tokens: Vec<Token>,
+    tokens: Vec<TreeToken>,
     tools: Tools,
 }
 
 impl<'m> Model for Workspace<'m> {
     ghost use Rattle.kex_machine.specs.Nodes.{Graph};
-    ghost use Rattle.kex_paths.specs.Workspaces.{IsReady};
+    ghost use Rattle.kex_paths.specs.Workspaces.{IsWorkspaceReady};
 
     ghost Value = { Graph };
 
     ghost view = { λ w. w.machine.now };
 
-    ghost invariant = { λ w. IsReady w.machine.now w.samples w.tools.marks };
+    ghost invariant = { λ w. IsWorkspaceReady w.machine.now w.samples w.tools.marks };
 }
 
 // A byte of each class.
@@ -81,9 +81,9 @@ impl<'m> Workspace<'m> {
         leaves: &[u32],
         byte: u8,
     ) -> Result<Option<(PathTree<'m>, Update)>, Memory>
-        requires { IsSound self.old shape.now leaves.now }
+        requires { IsTreeSound self.old shape.now leaves.now }
         ensures machine { IfOk result (λ r. IfSome r (λ n. n.0.machine ≡ self.old)) }
-        ensures next { IfOk result (λ r. (s : Shape ℕ) → IsOfShape (record { machine = self.old; shape = shape.now; leaves = leaves.now }) s → MatchOption r (IsNext self.old byte s None) (λ n. Follows n.0 byte s n.1)) }
+        ensures next { IfOk result (λ r. (s : Shape ℕ) → IsOfShape (record { machine = self.old; shape = shape.now; leaves = leaves.now }) s → MatchOption r (IsNext self.old byte s None) (λ n. FollowsTree n.0 byte s n.1)) }
         ensures trimmed { IsTrimmed self.old }
         ensures same { self.new ≡ self.old }
     {

@@ -5,7 +5,7 @@ use Rattle.std.proofs.lemmas.List.{take_all}
 use Rattle.kex_code.specs.Codes.{Begins}
 use Rattle.kex_model.specs.Answers.{Answer, stopped_answer, at_end, at_limit}
 use Rattle.kex_model.proofs.OpenAnswers.{same_front}
-use Rattle.kex_pipe.specs.Histories.{Fed, Feeds, IsFateOf, bytes_fed, ended_of, text_of, stop_as}
+use Rattle.kex_pipe.specs.Histories.{StageFed, Feeds, IsFateOf, bytes_fed, ended_of, said_text, stop_as}
 use Rattle.kex_pipe.specs.declared.turn.Stop.{Stop}
 use Rattle.kex_pipe.specs.declared.turn.Why.TheVariants.{Byte, Limit}
 use Rattle.kex_pipe.specs.Working.{Answering, CameToEnd, ReadMore}
@@ -26,13 +26,13 @@ wants_more true e = refl
 wants_more false e = sym e
 
 -- open where it neither stopped nor ended
-pub open_of : (Gives : List ℕ → Bool → Answer → Type 0) (Open : List ℕ → List ℕ → Type 0) (stop : Option Stop) (over : Bool) (h : Option Fed)
-    → StandsAs Gives Open stop over h → ended_of h ≡ false → stop ≡ None → Open (bytes_fed h) (text_of h)
+pub open_of : (Gives : List ℕ → Bool → Answer → Type 0) (Open : List ℕ → List ℕ → Type 0) (stop : Option Stop) (over : Bool) (h : Option StageFed)
+    → StandsAs Gives Open stop over h → ended_of h ≡ false → stop ≡ None → Open (bytes_fed h) (said_text h)
 open_of Gives Open stop over None s e n = s.0
 open_of Gives Open stop over (Some h) s e n = s.3 e n
 
 -- what has ended is not open
-pub not_over : (Gives : List ℕ → Bool → Answer → Type 0) (Open : List ℕ → List ℕ → Type 0) (stop : Option Stop) (over : Bool) (h : Option Fed)
+pub not_over : (Gives : List ℕ → Bool → Answer → Type 0) (Open : List ℕ → List ℕ → Type 0) (stop : Option Stop) (over : Bool) (h : Option StageFed)
     → StandsAs Gives Open stop over h → ended_of h ≡ false → over ≡ true → ⊥
 not_over Gives Open stop over None s e o = let bad : true ≡ false = sym o ∙ s.2 in cc
 not_over Gives Open stop over (Some h) s e o = let bad : true ≡ false = sym o ∙ s.2 ∙ e in cc
@@ -47,7 +47,7 @@ module _ {M : Type 0} (Says : List ℕ → Option ℕ → List ℕ → Type 0) (
   Gives w e a = GivesBy m limit w e a
 
   -- a front of a piece was read, as far as the limit lets it
-  module _ (h : Option Fed) (count : ℕ) (piece front : List ℕ) (counted : count ≡ length (bytes_fed h)) (within : count ≤ limit)
+  module _ (h : Option StageFed) (count : ℕ) (piece front : List ℕ) (counted : count ≡ length (bytes_fed h)) (within : count ≤ limit)
       (is : front ≡ take (min (limit - count) (length piece)) piece) where
     long : length front ≡ min (limit - count) (length piece)
     long = ap length is ∙ omega (arith, length-take (min (limit - count) (length piece)) piece)
@@ -91,12 +91,12 @@ module _ {M : Type 0} (Says : List ℕ → Option ℕ → List ℕ → Type 0) (
 
     pub feeds : (Follows : List ℕ → List ℕ → Type 0) (U : Type 0) (m1 : M) (at : Option ℕ) (past : Bool) (old new : List ℕ)
         → m1 ≡ m → U → (past ≡ true → length front < length piece) → (past ≡ false → length piece ≤ length front)
-        → ReadMore Says Follows (bytes_fed h) (text_of h) front at old new
+        → ReadMore Says Follows (bytes_fed h) (said_text h) front at old new
         → Feeds (λ w e a. Gives w e a)
         (λ k. StandsAs (λ w e a. GivesBy m1 limit w e a) (λ w t. Follows w t × (count + length front ≡ length w)) (stop_after at (count + length front) past) false k × U)
         h (bytes_fed h ++ piece) false old new (fate_of (stop_after at (count + length front) past))
     feeds Follows U m1 at past old new same u lt le r =
-        let text = text_of h ++ r.more in
+        let text = said_text h ++ r.more in
         let gives = answers at past text lt le r.says in
         record {
           answer = record { text = text; ended = false; stop = stop_as (stop_after at (count + length front) past) };
@@ -121,7 +121,7 @@ module _ {M : Type 0} (Says : List ℕ → Option ℕ → List ℕ → Type 0) (
         }
 
   -- the end
-  module _ (h : Option Fed) (count : ℕ) (counted : count ≡ length (bytes_fed h)) (within : count ≤ limit) where
+  module _ (h : Option StageFed) (count : ℕ) (counted : count ≡ length (bytes_fed h)) (within : count ≤ limit) where
     closed : (parsed : Bool) (text : List ℕ) → Closes (bytes_fed h) parsed text
         → Gives (bytes_fed h) true (record { text = text; ended = parsed; stop = stop_as (end_stop parsed count) })
     closed true text c = laws.whole limit (bytes_fed h) text (omega (arith, counted, within)) c
@@ -129,10 +129,10 @@ module _ {M : Type 0} (Says : List ℕ → Option ℕ → List ℕ → Type 0) (
         subst (λ n. Gives (bytes_fed h) true (stopped_answer text n at_end)) (sym counted) (laws.cut_off limit (bytes_fed h) text (omega (arith, counted, within)) c)
 
     pub ends : (Open : List ℕ → List ℕ → Type 0) (U : Type 0) (m1 : M) (parsed : Bool) (old new : List ℕ) → m1 ≡ m → U
-        → CameToEnd Closes (bytes_fed h) (text_of h) parsed old new
+        → CameToEnd Closes (bytes_fed h) (said_text h) parsed old new
         → Feeds (λ w e a. Gives w e a) (λ k. StandsAs (λ w e a. GivesBy m1 limit w e a) Open (end_stop parsed count) true k × U) h (bytes_fed h) true old new (fate_of (end_stop parsed count))
     ends Open U m1 parsed old new same u c =
-        let text = text_of h ++ c.more in
+        let text = said_text h ++ c.more in
         let gives = closed parsed text c.closes in
         record {
           answer = record { text = text; ended = parsed; stop = stop_as (end_stop parsed count) };
@@ -153,7 +153,7 @@ module _ {M : Type 0} (Says : List ℕ → Option ℕ → List ℕ → Type 0) (
         }
 
   -- a stage that has stopped drops what comes
-  pub drops : (Open : List ℕ → List ℕ → Type 0) (U : Type 0) (s : Stop) (over : Bool) (h : Option Fed) (w : List ℕ) (e : Bool) (out : List ℕ) → U
+  pub drops : (Open : List ℕ → List ℕ → Type 0) (U : Type 0) (s : Stop) (over : Bool) (h : Option StageFed) (w : List ℕ) (e : Bool) (out : List ℕ) → U
       → StandsAs Gives Open (Some s) over h → ended_of h ≡ false → Begins w (bytes_fed h)
       → Feeds (λ x d a. Gives x d a) (λ k. StandsAs Gives Open (Some s) e k × U) h w e out out (fate_of (Some s))
   drops Open U s over None w e out u h n b = let bad : Some s ≡ None = h.1 in cc

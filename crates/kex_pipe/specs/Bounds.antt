@@ -1,7 +1,7 @@
 -- What a bounded worker stands for, and where it stops.
 use Rattle.std.specs.Prelude.{◌≡◌, ℕ, Bool, true, false, List, [], Option, Some, None}
 use Rattle.kex_model.specs.Answers.{Answer}
-use Rattle.kex_pipe.specs.Histories.{Fed, stop_as}
+use Rattle.kex_pipe.specs.Histories.{StageFed, stop_as}
 use Rattle.kex_pipe.specs.declared.turn.Fate.{Fate}
 use Rattle.kex_pipe.specs.declared.turn.Fate.TheVariants.{On, Stopped}
 use Rattle.kex_pipe.specs.declared.turn.Stop.{Stop}
@@ -9,7 +9,7 @@ use Rattle.kex_pipe.specs.declared.turn.Why.TheVariants.{Byte, End, Limit}
 
 -- it was fed this; where it neither stopped nor ended it is open: it has read these bytes, and written that text
 abbrev pub StandsAs : (List ℕ → Bool → Answer → Type 0) → (List ℕ → List ℕ → Type 0)
-    → Option Stop → Bool → Option Fed → Type 0
+    → Option Stop → Bool → Option StageFed → Type 0
 StandsAs Gives Open stop over None = Open [] [] × (stop ≡ None) × (over ≡ false)
 StandsAs Gives Open stop over (Some h) =
     Gives h.bytes h.ended h.answer × (stop_as stop ≡ h.answer.stop) × (over ≡ h.ended)

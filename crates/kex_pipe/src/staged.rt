@@ -3,7 +3,7 @@
 ghost use Rattle.std.specs.Prelude.{◌≡◌, ◌++◌, ℕ, List, [], Bool, Option, true, false, IsTrue, OnOk, OnErr, is_ok, take, drop};
 ghost use Rattle.kex_model.specs.Schedules.{StreamItem};
 ghost use Rattle.kex_model.specs.Schedules as schedule;
-ghost use Rattle.kex_pipe.specs.Histories.{Fed, bytes_fed, ended_of};
+ghost use Rattle.kex_pipe.specs.Histories.{StageFed, bytes_fed, ended_of};
 ghost use Rattle.kex_pipe.specs.Waiting.{unread_bytes, waiting_items, Passes};
 
 use crate::inbox::Inbox;
@@ -54,7 +54,7 @@ fn feed<T: Turn>(stage: &mut T, piece: &[u8], into: &mut Inbox) -> Result<(), Me
     requires { IsTrue (T.is_usable stage.old) }
     ensures usable { T.is_usable stage.new ≡ is_ok result }
     ensures same_plan { T.plan stage.new ≡ T.plan stage.old }
-    ensures passes { OnOk result ((h : Option Fed) → T.stands stage.old h → ended_of h ≡ false → into.old.ended ≡ false
+    ensures passes { OnOk result ((h : Option StageFed) → T.stands stage.old h → ended_of h ≡ false → into.old.ended ≡ false
         → Passes (T.gives (T.plan stage.old)) (T.stands stage.new) h (bytes_fed h ++ piece.now) false into.old into.new) }
     ensures err { OnErr result (unread_bytes into.new ≡ []) }
 {
@@ -75,7 +75,7 @@ fn end<T: Turn>(stage: &mut T, into: &mut Inbox) -> Result<(), Memory>
     requires { IsTrue (T.is_usable stage.old) }
     ensures usable { T.is_usable stage.new ≡ is_ok result }
     ensures same_plan { T.plan stage.new ≡ T.plan stage.old }
-    ensures passes { OnOk result ((h : Option Fed) → T.stands stage.old h → ended_of h ≡ false → into.old.ended ≡ false
+    ensures passes { OnOk result ((h : Option StageFed) → T.stands stage.old h → ended_of h ≡ false → into.old.ended ≡ false
         → Passes (T.gives (T.plan stage.old)) (T.stands stage.new) h (bytes_fed h) true into.old into.new) }
     ensures err { OnErr result (unread_bytes into.new ≡ []) }
 {

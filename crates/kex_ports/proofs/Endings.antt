@@ -4,9 +4,9 @@ use Rattle.std.specs.Prelude.{Option, Some, None, option_map, Result, Ok, Err, I
 use Rattle.kex_ports.specs.Calls.{next_count}
 use Rattle.kex_ports.specs.Endings.{Ending, written_ending, failed_ending, after_finish, counts_of, finishes_of, IsUnfinished}
 
-pub counts-written : (e : Option Ending) → counts_of (option_map written_ending e) ≡ counts_of e
-counts-written None = refl
-counts-written (Some x) = refl
+pub counts_of-written_ending : (e : Option Ending) → counts_of (option_map written_ending e) ≡ counts_of e
+counts_of-written_ending None = refl
+counts_of-written_ending (Some x) = refl
 
 pub finishes-failed : (e : Option Ending) → finishes_of (option_map failed_ending e) ≡ finishes_of e
 finishes-failed None = refl
@@ -33,7 +33,7 @@ same-finished a b e = ended-by-counts a ∙ ap (option_map ended_by) e ∙ sym (
 
 -- one more write, of some
 pub written-on : (old mid new : Option Ending) → counts_of mid ≡ counts_of old → new ≡ option_map written_ending mid → counts_of new ≡ counts_of old
-written-on old mid new same e = ap counts_of e ∙ counts-written mid ∙ same
+written-on old mid new same e = ap counts_of e ∙ counts_of-written_ending mid ∙ same
 
 pub failed-on : (old mid new : Option Ending) → counts_of mid ≡ counts_of old → new ≡ option_map failed_ending mid → finishes_of new ≡ finishes_of old
 failed-on old mid new same e = ap finishes_of e ∙ finishes-failed mid ∙ same-finishes mid old same

@@ -3,9 +3,9 @@ use Rattle.std.proofs.Common.{◌≡◌, ◌≤◌, ℕ, refl, sym, ap, ap₂, �
 use Rattle.std.specs.Prelude.{Option, Some, None, option_map}
 use Rattle.kex_ports.specs.Reads.{Reads, after_asking, bounds_of, bounds_with, last_given, Asks}
 
-bounds-after : (room given : ℕ) (r : Option Reads) → bounds_of (option_map (after_asking room given) r) ≡ option_map (bounds_with room) (bounds_of r)
-bounds-after room given None = refl
-bounds-after room given (Some r) = refl
+bounds_of-after_asking : (room given : ℕ) (r : Option Reads) → bounds_of (option_map (after_asking room given) r) ≡ option_map (bounds_with room) (bounds_of r)
+bounds_of-after_asking room given None = refl
+bounds_of-after_asking room given (Some r) = refl
 
 min-again : (a b : ℕ) → min (min a b) b ≡ min a b
 min-again a b = omega arith
@@ -21,8 +21,8 @@ bound-again room (Some b) = ap (λ c. Some c) (ap₂ (λ x y. (x, y)) (min-again
 pub asks-on : (room asked given : ℕ) (old mid new : Option Reads) → asked ≡ room → Asks room old mid → new ≡ option_map (after_asking asked given) mid → Asks room old new
 asks-on room asked given old mid new same a n = by a (subst (λ k. new ≡ option_map (after_asking k given) mid) same n) where
   by : Asks room old mid → new ≡ option_map (after_asking room given) mid → Asks room old new
-  by (inl e) n = inr (ap bounds_of n ∙ bounds-after room given mid ∙ ap (λ r. option_map (bounds_with room) (bounds_of r)) e)
-  by (inr e) n = inr (ap bounds_of n ∙ bounds-after room given mid ∙ ap (option_map (bounds_with room)) e ∙ bound-again room (bounds_of old))
+  by (inl e) n = inr (ap bounds_of n ∙ bounds_of-after_asking room given mid ∙ ap (λ r. option_map (bounds_with room) (bounds_of r)) e)
+  by (inr e) n = inr (ap bounds_of n ∙ bounds_of-after_asking room given mid ∙ ap (option_map (bounds_with room)) e ∙ bound-again room (bounds_of old))
 
 given-last : (room asked given : ℕ) (r : Option Reads) → given ≤ room → given ≤ last_given room (option_map (after_asking asked given) r)
 given-last room asked given None le = le

@@ -8,23 +8,23 @@ use Rattle.kex_ports.specs.declared.shelf.ShelfAnswer.{ShelfAnswer}
 use Rattle.kex_ports.specs.declared.shelf.ShelfAnswer.TheVariants.{Failed, TooLong, Memory}
 
 -- A source: the bytes not yet read, how many a read gives at most, its calls, and what they asked for.
-pub record Reading : Type 0 where
+pub record SourceReading : Type 0 where
   pub left : List ℕ
   pub most : ℕ
   pub calls : Tally
   pub reads : Reads
 
 -- The source after a read of the first n bytes, into a buffer of this length.
-abbrev pub after_read : ℕ → ℕ → Reading → Reading
+abbrev pub after_read : ℕ → ℕ → SourceReading → SourceReading
 after_read room n s = record { left = drop n s.left; most = s.most; calls = after_success s.calls; reads = after_asking room n s.reads }
 
 -- A read into a buffer of this length: as many bytes as there are, and as the buffer and the source allow.
-abbrev pub HasRead : {E : Type 0} → Reading → Reading → ℕ → Result ℕ E → Type 0
+abbrev pub HasRead : {E : Type 0} → SourceReading → SourceReading → ℕ → Result ℕ E → Type 0
 HasRead before now room (Ok n) = (is_failing before.calls ≡ false) × (n ≡ min (min room before.most) (length before.left)) × (now ≡ after_read room n before)
 HasRead before now room (Err e) = (is_failing before.calls ≡ true) × (now ≡ record { left = before.left; most = before.most; calls = after_failure before.calls; reads = after_asking room 0 before.reads })
 
 -- A sink: the bytes that it holds, how many it has room for, how many a write takes at most, its calls, and how it was ended.
-pub record Holding : Type 0 where
+pub record SinkHolding : Type 0 where
   pub held : List ℕ
   pub room : ℕ
   pub most : ℕ
@@ -32,22 +32,22 @@ pub record Holding : Type 0 where
   pub ending : Ending
 
 -- How many bytes of a piece a write is to take.
-abbrev pub write_count : Holding → List ℕ → ℕ
+abbrev pub write_count : SinkHolding → List ℕ → ℕ
 write_count s bytes = min (length bytes) s.most
 
 -- The sink after a call that added these bytes, and after one that failed and left this ending.
-abbrev pub after_write : List ℕ → Holding → Holding
+abbrev pub after_write : List ℕ → SinkHolding → SinkHolding
 after_write bytes s = record { held = s.held ++ bytes; room = s.room; most = s.most; calls = after_success s.calls; ending = written_ending s.ending }
 
-abbrev pub after_fault : Ending → Holding → Holding
+abbrev pub after_fault : Ending → SinkHolding → SinkHolding
 after_fault ending s = record { held = s.held; room = s.room; most = s.most; calls = after_failure s.calls; ending = ending }
 
 -- A write takes what it is to take, and fails where its number is one that fails, or where that is past the room.
-abbrev pub HasWritten : {E : Type 0} → Holding → Holding → List ℕ → Result ℕ E → Type 0
-HasWritten before now bytes (Ok n) = (is_failing before.calls ≡ false) × (length before.held + n ≤ before.room) × (n ≡ write_count before bytes) × (now ≡ after_write (take n bytes) before)
-HasWritten before now bytes (Err e) = ((is_failing before.calls ≡ true) ⊎ (before.room < length before.held + write_count before bytes)) × (now ≡ after_fault (failed_ending before.ending) before)
+abbrev pub SinkHasWritten : {E : Type 0} → SinkHolding → SinkHolding → List ℕ → Result ℕ E → Type 0
+SinkHasWritten before now bytes (Ok n) = (is_failing before.calls ≡ false) × (length before.held + n ≤ before.room) × (n ≡ write_count before bytes) × (now ≡ after_write (take n bytes) before)
+SinkHasWritten before now bytes (Err e) = ((is_failing before.calls ≡ true) ⊎ (before.room < length before.held + write_count before bytes)) × (now ≡ after_fault (failed_ending before.ending) before)
 
-abbrev pub HasFinished : {T E : Type 0} → Holding → Holding → Result T E → Type 0
+abbrev pub HasFinished : {T E : Type 0} → SinkHolding → SinkHolding → Result T E → Type 0
 HasFinished before now (Ok x) = (is_failing before.calls ≡ false) × (now ≡ record { held = before.held; room = before.room; most = before.most; calls = after_success before.calls; ending = finished_ending before.ending })
 HasFinished before now (Err e) = (is_failing before.calls ≡ true) × (now ≡ after_fault (finished_ending before.ending) before)
 

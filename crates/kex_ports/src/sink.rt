@@ -5,7 +5,7 @@ ghost use Rattle.kex_ports.specs.Bytes.{AppendsFront, TakesSome};
 ghost use Rattle.kex_ports.specs.Calls.{none_made};
 ghost use Rattle.kex_ports.specs.Causes.{HasCause};
 ghost use Rattle.kex_ports.specs.Endings.{Ending, IsWritten, after_finish, never_ended};
-ghost use Rattle.kex_ports.specs.InMemory.{HasFinished, HasWritten};
+ghost use Rattle.kex_ports.specs.InMemory.{HasFinished, SinkHasWritten};
 
 use crate::calls::Calls;
 use crate::ending::Ending;
@@ -53,9 +53,9 @@ pub struct MemSink {
 
 impl Model for MemSink {
     ghost use Rattle.std.specs.Prelude.{◌<◌, ◌≤◌, vec_len, vec_capacity};
-    ghost use Rattle.kex_ports.specs.InMemory.{Holding};
+    ghost use Rattle.kex_ports.specs.InMemory.{SinkHolding};
 
-    ghost Value = { Holding };
+    ghost Value = { SinkHolding };
 
     ghost view = { λ s. record { held = s.held.items; room = s.room; most = s.per_write; calls = s.calls; ending = s.ending } };
 
@@ -103,7 +103,7 @@ impl Sink for MemSink {
         ensures failed { OnErr result (AppendsFront (Some self.old.held) (Some self.new.held) bytes.now) }
         ensures cause { HasCause self.old.calls.faults self.new.calls.faults result }
         ensures ending { IsWritten (Some self.old.ending) (Some self.new.ending) result }
-        ensures exact { HasWritten self.old self.new bytes.now result }
+        ensures exact { SinkHasWritten self.old self.new bytes.now result }
     {
         let count = bytes.len().min(self.per_write);
         let is_past = count > self.room - self.held.len();

@@ -64,9 +64,9 @@ pub struct MemSource {
 
 impl Model for MemSource {
     ghost use Rattle.std.specs.Prelude.{◌<◌, ◌≤◌, drop, vec_len};
-    ghost use Rattle.kex_ports.specs.InMemory.{Reading};
+    ghost use Rattle.kex_ports.specs.InMemory.{SourceReading};
 
-    ghost Value = { Reading };
+    ghost Value = { SourceReading };
 
     ghost view = { λ s. record { left = drop s.at s.bytes.items; most = s.per_read; calls = s.calls; reads = s.asked } };
 

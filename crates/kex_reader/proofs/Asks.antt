@@ -4,8 +4,8 @@ use Rattle.std.specs.Prelude.{OnOk, IfOk}
 use Rattle.kex_model.specs.declared.program.Definition.{Definition as Root}
 use Rattle.kex_model.specs.declared.program.Start.{Start}
 use Rattle.kex_regexp.specs.declared.breaks.Break.{Break}
-use Rattle.kex_tokens.specs.declared.token.Kind.{Kind}
-use Rattle.kex_tokens.specs.declared.token.Kind.TheVariants as kinds
+use Rattle.kex_tokens.specs.declared.token.TokenKind.{TokenKind}
+use Rattle.kex_tokens.specs.declared.token.TokenKind.TheVariants as kinds
 use Rattle.kex_reader.specs.declared.stack.Construct.{Construct}
 use Rattle.kex_reader.specs.declared.inside.StepFault.{StepFault}
 use Rattle.kex_reader.specs.declared.reader.Phase.{Phase}
@@ -40,23 +40,23 @@ quiet_head at s w h n e = sym (ap (λ (x : State). state_asks at x w) e)
 
 -- stages
 
-named_asks_is : (from number : ℕ) (k : Kind) (b : List ℕ) → k ≡ kinds.Name → Staged from number ∷ [] ≡ name_asks from number (word k b)
+named_asks_is : (from number : ℕ) (k : TokenKind) (b : List ℕ) → k ≡ kinds.Name → Staged from number ∷ [] ≡ name_asks from number (word k b)
 unfolding name_asks
-named_asks_is from number k b e = sym (ap (λ (x : Kind). name_asks from number (word x b)) e)
+named_asks_is from number k b e = sym (ap (λ (x : TokenKind). name_asks from number (word x b)) e)
 
 pub on_kind : (r : Result Phase StepFault) (P : Phase → Type 0) (Q : Type 0) → ((p : Phase) → P p → Q) → IfOk r P → OnOk r Q
 on_kind (Ok p) P Q f h = f p h
 on_kind (Err e) P Q f h = tt
 
-staged : (r : Result Phase StepFault) (k : Kind) (b : List ℕ) (from at' m number : ℕ) (cs : List Check) (o : Option Break) → OnOk r (k ≡ kinds.Name) → from ≡ at' → m ≡ number → OnOk r (NotesLeast (cs ++ Staged from m ∷ []) o) → OnOk r (NotesLeast (cs ++ name_asks at' number (word k b)) o)
+staged : (r : Result Phase StepFault) (k : TokenKind) (b : List ℕ) (from at' m number : ℕ) (cs : List Check) (o : Option Break) → OnOk r (k ≡ kinds.Name) → from ≡ at' → m ≡ number → OnOk r (NotesLeast (cs ++ Staged from m ∷ []) o) → OnOk r (NotesLeast (cs ++ name_asks at' number (word k b)) o)
 staged (Ok p) k b from at' m number cs o e f g n = subst (λ (x : List Check). NotesLeast (cs ++ x) o) (ap (λ (x : ℕ). Staged x m ∷ []) f ∙ ap (λ (x : ℕ). Staged at' x ∷ []) g ∙ named_asks_is at' number k b e) n
 staged (Err x) k b from at' m number cs o e f g n = tt
 
-pub start_asks : (at : ℕ → ℕ) (s : State) (k : Kind) (b : List ℕ) (from m : ℕ) → s ≡ StartLine → from ≡ at 2 → m ≡ 1 → (cs : List Check) (o : Option Break) (r : Result Phase StepFault) → OnOk r (k ≡ kinds.Name) → OnOk r (NotesLeast (cs ++ Staged from m ∷ []) o) → OnOk r (NotesLeast (cs ++ state_asks at s (word k b)) o)
+pub start_asks : (at : ℕ → ℕ) (s : State) (k : TokenKind) (b : List ℕ) (from m : ℕ) → s ≡ StartLine → from ≡ at 2 → m ≡ 1 → (cs : List Check) (o : Option Break) (r : Result Phase StepFault) → OnOk r (k ≡ kinds.Name) → OnOk r (NotesLeast (cs ++ Staged from m ∷ []) o) → OnOk r (NotesLeast (cs ++ state_asks at s (word k b)) o)
 unfolding state_asks
 start_asks at s k b from m e f g cs o r q n = subst (λ (x : State). OnOk r (NotesLeast (cs ++ state_asks at x (word k b)) o)) (sym e) (staged r k b from (at 2) m 1 cs o q f g n)
 
-pub next_asks : (at : ℕ → ℕ) (s : State) (f : List ℕ) (ns : List (List ℕ)) (k : Kind) (b : List ℕ) (from m : ℕ) → s ≡ StageNext f ns → from ≡ at (2 + 2 * length (f ∷ ns)) → m ≡ suc (length (f ∷ ns)) → (cs : List Check) (o : Option Break) (r : Result Phase StepFault) → OnOk r (k ≡ kinds.Name) → OnOk r (NotesLeast (cs ++ Staged from m ∷ []) o) → OnOk r (NotesLeast (cs ++ state_asks at s (word k b)) o)
+pub next_asks : (at : ℕ → ℕ) (s : State) (f : List ℕ) (ns : List (List ℕ)) (k : TokenKind) (b : List ℕ) (from m : ℕ) → s ≡ StageNext f ns → from ≡ at (2 + 2 * length (f ∷ ns)) → m ≡ suc (length (f ∷ ns)) → (cs : List Check) (o : Option Break) (r : Result Phase StepFault) → OnOk r (k ≡ kinds.Name) → OnOk r (NotesLeast (cs ++ Staged from m ∷ []) o) → OnOk r (NotesLeast (cs ++ state_asks at s (word k b)) o)
 unfolding state_asks
 next_asks at s f ns k b from m e p g cs o r q n = subst (λ (x : State). OnOk r (NotesLeast (cs ++ state_asks at x (word k b)) o)) (sym e) (staged r k b from (at (2 + 2 * length (f ∷ ns))) m (suc (length (f ∷ ns))) cs o q p g n)
 
@@ -85,11 +85,11 @@ define_on : (at : ℕ → ℕ) (h : Header) (done : List Definition) (name : Lis
 define_on at h done name (Named true n) es cs o made fs ds ss r st k = subst (λ (x : List Check). OnOk r (NotesLeast (cs ++ x) o)) (define_quiet at (length (before h done name) + length (entries es)) n es) k
 define_on at h done name m es cs o made fs ds ss r st k = nothing_made made at fs ds ss r (NotesLeast (cs ++ asks at (length (before h done name) + length (entries es)) m es Define) o) (subst (λ (x : Option State). StateSteps made at fs ds ss r x) (define_none h done name m es (λ n e. cc)) st)
 
-pub define_notes : (at : ℕ → ℕ) (s : State) (h : Header) (done : List Definition) (name : List ℕ) (i : Inside) (k : Kind) (b : List ℕ) → s ≡ Within h done name i → k ≡ kinds.Define → (cs : List Check) (o : Option Break) (made : Made) (fs : List Construct) (ds : List Root) (ss : List Start) (r : Result Phase StepFault) → StateSteps made at fs ds ss r (step_within h done name i.mode i.entries Define) → OnOk r (NotesLeast (cs ++ []) o) → OnOk r (NotesLeast (cs ++ state_asks at s (word k b)) o)
+pub define_notes : (at : ℕ → ℕ) (s : State) (h : Header) (done : List Definition) (name : List ℕ) (i : Inside) (k : TokenKind) (b : List ℕ) → s ≡ Within h done name i → k ≡ kinds.Define → (cs : List Check) (o : Option Break) (made : Made) (fs : List Construct) (ds : List Root) (ss : List Start) (r : Result Phase StepFault) → StateSteps made at fs ds ss r (step_within h done name i.mode i.entries Define) → OnOk r (NotesLeast (cs ++ []) o) → OnOk r (NotesLeast (cs ++ state_asks at s (word k b)) o)
 unfolding state_asks
 define_notes at s h done name i k b e f cs o made fs ds ss r st n =
     subst (λ (x : State). OnOk r (NotesLeast (cs ++ state_asks at x (word k b)) o)) (sym e)
-    (subst (λ (x : Kind). OnOk r (NotesLeast (cs ++ asks at (length (before h done name) + length (entries i.entries)) i.mode i.entries (word x b)) o)) (sym f) (define_on at h done name i.mode i.entries cs o made fs ds ss r st n))
+    (subst (λ (x : TokenKind). OnOk r (NotesLeast (cs ++ asks at (length (before h done name) + length (entries i.entries)) i.mode i.entries (word x b)) o)) (sym f) (define_on at h done name i.mode i.entries cs o made fs ds ss r st n))
 
 pub vec_long : (r l n : ℕ) → r ≡ l → n ≡ l → r ≡ n
 vec_long r l n e f = e ∙ sym f

@@ -4,7 +4,7 @@ use Rattle.kex_code.specs.Codes.{IsAmong}
 use Rattle.kex_regexp.specs.declared.breaks.Break.{Break}
 use Rattle.kex_regexp.specs.declared.breaks.Break.TheVariants.{BadRegex, BadCount, BadSet, OverLimit}
 use Rattle.kex_regexp.specs.Breaks.{comes_before, regex_breaks}
-use Rattle.kex_regexp.specs.Bodies.{Spells, IsBody, IsFirstWrong, BreaksFirst, IsRefusal, fault_of}
+use Rattle.kex_regexp.specs.Bodies.{SpellsRegex, IsBody, IsFirstWrong, BreaksFirst, IsRefusal, fault_of}
 use Rattle.kex_regexp.specs.Grammar.{Regex}
 use Rattle.kex_reader.specs.Checks.{BodyBreaks}
 use Rattle.kex_reader.proofs.LeastBreak.{never_itself}
@@ -15,7 +15,7 @@ broken_is body at depth (BadCount p) h = h
 broken_is body at depth (BadSet p) h = h
 broken_is body at depth (OverLimit p) h = h
 
-module _ (body : List ℕ) (tree : (r q : Regex) → Spells r body → Spells q body → r ≡ q) (wrong : (j k : ℕ) → IsFirstWrong body j → IsFirstWrong body k → j ≡ k) (either : (k : ℕ) → IsBody body → IsFirstWrong body k → ⊥) where
+module _ (body : List ℕ) (tree : (r q : Regex) → SpellsRegex r body → SpellsRegex q body → r ≡ q) (wrong : (j k : ℕ) → IsFirstWrong body j → IsFirstWrong body k → j ≡ k) (either : (k : ℕ) → IsBody body → IsFirstWrong body k → ⊥) where
   firsts : (at depth : ℕ) (a b : Break) → BreaksFirst body at depth a → BreaksFirst body at depth b → comes_before b a ≡ false
   firsts at depth a b (r, s, l) (q, t, m) = l.least b (subst (λ (x : Regex). IsAmong (regex_breaks x at depth) b) (tree q r t s) m.among)
 
@@ -48,7 +48,7 @@ module _ (body : List ℕ) (tree : (r q : Regex) → Spells r body → Spells q 
   none_in (y ∷ xs) x e h = absurd cc
 
   -- a body that breaks nothing is not refused
-  pub no_breaks : (at depth : ℕ) (r : Regex) → Spells r body → regex_breaks r at depth ≡ [] → (b : Break) → BodyBreaks body at depth b → ⊥
+  pub no_breaks : (at depth : ℕ) (r : Regex) → SpellsRegex r body → regex_breaks r at depth ≡ [] → (b : Break) → BodyBreaks body at depth b → ⊥
   no_breaks at depth r s e (BadRegex p) h = either h.0 (r, s) h.2
   no_breaks at depth r s e (BadCount p) h = none_in (regex_breaks h.0 at depth) (BadCount p) (ap (λ (x : Regex). regex_breaks x at depth) (tree h.0 r h.1 s) ∙ e) h.2.among
   no_breaks at depth r s e (BadSet p) h = none_in (regex_breaks h.0 at depth) (BadSet p) (ap (λ (x : Regex). regex_breaks x at depth) (tree h.0 r h.1 s) ∙ e) h.2.among

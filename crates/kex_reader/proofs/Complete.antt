@@ -1,18 +1,18 @@
 -- Whatever the grammar spells the machine takes, and then holds the tree that was spelled.
 use Rattle.std.proofs.Common.{◌≡◌, ℕ, Bool, true, false, List, [], ◌∷◌, ◌++◌, Option, Some, None, refl, sym, ap, ◌∙◌, subst, append_assoc}
 use Rattle.std.proofs.lemmas.List.{append-nil}
-use Rattle.kex_reader.specs.Syntax.{Word, Name, Number, Literal, Regex, Define, Bar, Tilde, At, Star, Plus, Question, OpenBrace, CloseBrace, Comma, Bang, OpenBracket, CloseBracket, OpenParen, CloseParen, Part, Text, Held, Postfix, ZeroOrMore, OneOrMore, Optional, Exactly, AtLeast, AtMost, FromTo, Term, Last, Or, Seq, Only, Then, Pre, Mute, Into, Once, Turns, Atom, One, Call, Lit, Match, Write, Assign, Group, Definition, Header, NoStart, Stages, Program, part, parts, sign, postfix, lazy_mark, term, seq, pre, atom, definitions, stages, header, program}
+use Rattle.kex_reader.specs.Syntax.{Word, Name, Number, Literal, Regex, Define, Bar, Tilde, At, Star, Plus, Question, OpenBrace, CloseBrace, Comma, Bang, OpenBracket, CloseBracket, OpenParen, CloseParen, RegisterPart, Text, Held, Postfix, ZeroOrMore, OneOrMore, Optional, Exactly, AtLeast, AtMost, FromTo, Term, Last, Or, Seq, Only, Then, Pre, Mute, Into, Once, Turns, Atom, One, Call, Lit, Match, Write, Assign, Group, Definition, Header, NoStart, Stages, Program, register_part, parts, sign, postfix, lazy_mark, term, seq, pre, atom, definitions, stages, header, program}
 use Rattle.kex_reader.specs.Reading.{Entry, Mark, Ended, Done, Muted, Storing, Opened, Low, LowComma, LowHigh, OnlyComma, High, Mode, Need, Ready, After, Turned, Named, Writing, Bracket, BracketName, Assigning, Assigned, InCount, State, Begin, StageRead, Within, with_pre, take_more, take_seq, take_branches, term_of, take_term, on_bar, after_group, on_close, on_number, begin_pre, after_atom, after_turns, next_head, on_head, after_name, on_name, on_sign, first_part, next_part, count_step, on_count, step_in, lift, on_define, step_within, first_name, head_read, stage_read, name_then, step, next, state_after, program_of_whole, program_of_term, finish_within, finish}
 
 -- ---- runs
 
-pub reads-append : (o : Option State) (u v : List Word) → state_after o (u ++ v) ≡ state_after (state_after o u) v
+pub state_after-append : (o : Option State) (u v : List Word) → state_after o (u ++ v) ≡ state_after (state_after o u) v
 unfolding state_after
-reads-append o [] v = refl
-reads-append o (t ∷ u) v = reads-append (next o t) u v
+state_after-append o [] v = refl
+state_after-append o (t ∷ u) v = state_after-append (next o t) u v
 
 pub then_reads : (o p q : Option State) (u v : List Word) → state_after o u ≡ p → state_after p v ≡ q → state_after o (u ++ v) ≡ q
-then_reads o p q u v e f = reads-append o u v ∙ ap (λ (x : Option State). state_after x v) e ∙ f
+then_reads o p q u v e f = state_after-append o u v ∙ ap (λ (x : Option State). state_after x v) e ∙ f
 
 pub one_word : (o p : Option State) (t : Word) → next o t ≡ p → state_after o (t ∷ []) ≡ p
 unfolding state_after
@@ -207,13 +207,13 @@ module _ (h : Header) (ds : List Definition) (name : List ℕ) where
   held_settles a (Named free n) es e = ap (λ (x : Atom). with_pre (Once x) es) e
   held_settles a _ es e = absurd e
 
-  pub part_step : (append : Bool) (r : List ℕ) (p : Part) (ps : List Part) (q : Part) (es : List Entry) → next (at (Assigned append r p ps) es) (part q) ≡ at (Assigned append r p (ps ++ q ∷ [])) es
-  unfolding next step step_within step_in lift next_part part
+  pub part_step : (append : Bool) (r : List ℕ) (p : RegisterPart) (ps : List RegisterPart) (q : RegisterPart) (es : List Entry) → next (at (Assigned append r p ps) es) (register_part q) ≡ at (Assigned append r p (ps ++ q ∷ [])) es
+  unfolding next step step_within step_in lift next_part register_part
   part_step append r p ps (Text t) es = refl
   part_step append r p ps (Held n) es = refl
 
-  pub first_step : (append : Bool) (r : List ℕ) (p : Part) (es : List Entry) → next (at (Assigning append r) es) (part p) ≡ at (Assigned append r p []) es
-  unfolding next step step_within step_in lift first_part part
+  pub first_step : (append : Bool) (r : List ℕ) (p : RegisterPart) (es : List Entry) → next (at (Assigning append r) es) (register_part p) ≡ at (Assigned append r p []) es
+  unfolding next step step_within step_in lift first_part register_part
   first_step append r (Text t) es = refl
   first_step append r (Held n) es = refl
 
@@ -231,17 +231,17 @@ module _ (h : Header) (ds : List Definition) (name : List ℕ) where
   finish_settles _ es fs r = absurd r
 
   -- the parts of an assignment
-  pub parts_read : (append : Bool) (r : List ℕ) (p : Part) (ps qs : List Part) (es : List Entry) → state_after (at (Assigned append r p ps) es) (parts qs) ≡ at (Assigned append r p (ps ++ qs)) es
+  pub parts_read : (append : Bool) (r : List ℕ) (p : RegisterPart) (ps qs : List RegisterPart) (es : List Entry) → state_after (at (Assigned append r p ps) es) (parts qs) ≡ at (Assigned append r p (ps ++ qs)) es
   unfolding parts state_after
-  parts_read append r p ps [] es = ap (λ (x : List Part). at (Assigned append r p x) es) (sym (append-nil ps))
-  parts_read append r p ps (q ∷ qs) es = word_then _ _ _ (part q) (parts qs) (part_step append r p ps q es) (parts_read append r p (ps ++ q ∷ []) qs es ∙ ap (λ (x : List Part). at (Assigned append r p x) es) (append_assoc ps (q ∷ []) qs))
+  parts_read append r p ps [] es = ap (λ (x : List RegisterPart). at (Assigned append r p x) es) (sym (append-nil ps))
+  parts_read append r p ps (q ∷ qs) es = word_then _ _ _ (register_part q) (parts qs) (part_step append r p ps q es) (parts_read append r p (ps ++ q ∷ []) qs es ∙ ap (λ (x : List RegisterPart). at (Assigned append r p x) es) (append_assoc ps (q ∷ []) qs))
 
-  pub assign_reads : (append : Bool) (r : List ℕ) (p : Part) (ps : List Part) (es : List Entry) → state_after (at Bracket es) (Name r ∷ sign append ∷ part p ∷ (parts ps ++ CloseBracket ∷ [])) ≡ at (After (Assign append r p ps)) es
+  pub assign_reads : (append : Bool) (r : List ℕ) (p : RegisterPart) (ps : List RegisterPart) (es : List Entry) → state_after (at Bracket es) (Name r ∷ sign append ∷ register_part p ∷ (parts ps ++ CloseBracket ∷ [])) ≡ at (After (Assign append r p ps)) es
   unfolding next step step_within step_in lift on_name next_part
   assign_reads append r p ps es =
-      word_then _ (at (BracketName r) es) _ (Name r) (sign append ∷ part p ∷ (parts ps ++ CloseBracket ∷ [])) refl
-      (word_then _ (at (Assigning append r) es) _ (sign append) (part p ∷ (parts ps ++ CloseBracket ∷ [])) (sign_step append r es)
-      (word_then _ (at (Assigned append r p []) es) _ (part p) (parts ps ++ CloseBracket ∷ []) (first_step append r p es)
+      word_then _ (at (BracketName r) es) _ (Name r) (sign append ∷ register_part p ∷ (parts ps ++ CloseBracket ∷ [])) refl
+      (word_then _ (at (Assigning append r) es) _ (sign append) (register_part p ∷ (parts ps ++ CloseBracket ∷ [])) (sign_step append r es)
+      (word_then _ (at (Assigned append r p []) es) _ (register_part p) (parts ps ++ CloseBracket ∷ []) (first_step append r p es)
       (then_reads _ (at (Assigned append r p ps) es) _ (parts ps) (CloseBracket ∷ []) (parts_read append r p [] ps es)
       (one_word _ _ CloseBracket refl))))
 
@@ -392,7 +392,7 @@ definitions_alone (d ∷ ds) = first_reads d ds NoStart
 pub by_header : (h : Header) (ds : List Definition) → Gives (state_after (Some Begin) (header h ++ definitions ds)) (record { header = h; definitions = ds })
 unfolding header
 by_header NoStart ds = definitions_alone ds
-by_header (Stages f ns) ds = gives_from _ _ _ (reads-append (Some Begin) (header (Stages f ns)) (definitions ds) ∙ ap (λ (o : Option State). state_after o (definitions ds)) (header_reads f ns)) (definitions_after f ns ds)
+by_header (Stages f ns) ds = gives_from _ _ _ (state_after-append (Some Begin) (header (Stages f ns)) (definitions ds) ∙ ap (λ (o : Option State). state_after o (definitions ds)) (header_reads f ns)) (definitions_after f ns ds)
 
 pub program_reads : (p : Program) → Gives (state_after (Some Begin) (program p)) p
 unfolding program

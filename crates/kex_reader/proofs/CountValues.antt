@@ -1,7 +1,7 @@
 -- What the code holds of a count is what the machine holds.
 use Rattle.std.proofs.Common.{◌≡◌, ℕ, List, Some, refl, ap}
-use Rattle.kex_tokens.specs.declared.token.Kind.{Kind}
-use Rattle.kex_tokens.specs.declared.token.Kind.TheVariants as kinds
+use Rattle.kex_tokens.specs.declared.token.TokenKind.{TokenKind}
+use Rattle.kex_tokens.specs.declared.token.TokenKind.TheVariants as kinds
 use Rattle.kex_regexp.specs.declared.counts.Count.{Count}
 use Rattle.kex_regexp.specs.declared.counts.Count.TheVariants as counts
 use Rattle.kex_regexp.specs.Grammar.{is_digit}
@@ -13,7 +13,7 @@ use Rattle.kex_reader.specs.Reading.{Counting, Opened, Low, LowComma, LowHigh, O
 use Rattle.kex_reader.specs.Stands.{HoldsNumber}
 use Rattle.kex_reader.specs.Counts.{count_after}
 
-pub count_refines : (x : Count) (c : Counting) (k : Kind) (b : List ℕ) (o : ℕ) → HoldsNumber o b → ShowsCount x c → ShowsCountStep (count_after x k o) (count_step c (word k b))
+pub count_refines : (x : Count) (c : Counting) (k : TokenKind) (b : List ℕ) (o : ℕ) → HoldsNumber o b → ShowsCount x c → ShowsCountStep (count_after x k o) (count_step c (word k b))
 unfolding ShowsCount ShowsCountStep count_after count_step number_outcome count_outcome is_digit low high
 count_refines counts.Opened Opened kinds.Number b o i h = i
 count_refines counts.Opened Opened kinds.Comma b o i h = tt

@@ -15,7 +15,7 @@ use Rattle.kex_model.specs.Programs.{HasNames, HasPieces}
 use Rattle.kex_model.proofs.Tables.{get_more}
 use Rattle.kex_regexp.specs.Grammar.{Regex as Body, Last as LastBranch, Or as OrBranch, Branch, Empty, Then as ThenPiece, Piece as Item', Once as OnceItem, Turns as TurnsItem, Item, Plain, Escaped, Dot, Set, Group as Grouped, branch, piece}
 use Rattle.kex_regexp.specs.Shown.{ShowsRegex, ShowsBranch, ShowsPiece, ShowsItem, IsOfBodies, Adds}
-use Rattle.kex_reader.specs.Syntax.{Part, Text, Held, Term, Last, Or, Seq, Only, Then, Pre, Mute, Into, Once, Turns, Atom, One, Call, Lit, Match, Write, Assign, Group, Definition, term, seq, pre}
+use Rattle.kex_reader.specs.Syntax.{RegisterPart, Text, Held, Term, Last, Or, Seq, Only, Then, Pre, Mute, Into, Once, Turns, Atom, One, Call, Lit, Match, Write, Assign, Group, Definition, term, seq, pre}
 use Rattle.kex_reader.specs.Shown.{Made, ShowsTerm, ShowsSeq, ShowsPre, ShowsAtom, ShowsPart, ShowsParts, ShowsDefinitions, ShowsStages}
 use Rattle.kex_reader.specs.Stands.{Keeps}
 use Rattle.kex_reader.proofs.NumberedNames.{among_push}
@@ -154,14 +154,14 @@ mutual
 
 -- ---- terms
 
-pub part_more : (p : Part) (a b : Made) (q : Piece) → Keeps a b → ShowsPart p a q → ShowsPart p b q
+pub part_more : (p : RegisterPart) (a b : Made) (q : Piece) → Keeps a b → ShowsPart p a q → ShowsPart p b q
 unfolding ShowsPart
 part_more (Text s) a b (pieces.Lit bytes) k h = h
 part_more (Text s) a b (pieces.Register r) k h = absurd h
 part_more (Held r) a b (pieces.Lit bytes) k h = absurd h
 part_more (Held r) a b (pieces.Register n) k h = k.registers n r h
 
-pub parts_more : (ps : List Part) (a b : Made) (qs : List Piece) → Keeps a b → ShowsParts ps a qs → ShowsParts ps b qs
+pub parts_more : (ps : List RegisterPart) (a b : Made) (qs : List Piece) → Keeps a b → ShowsParts ps a qs → ShowsParts ps b qs
 unfolding ShowsParts
 parts_more [] a b [] k h = tt
 parts_more [] a b (q ∷ qs) k h = absurd h

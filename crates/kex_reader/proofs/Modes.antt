@@ -7,10 +7,10 @@ use Rattle.kex_code.specs.declared.piece.Piece.TheVariants as pieces
 use Rattle.kex_model.specs.Programs.{HasBelow, HasNames, HasPieces, IsCount}
 use Rattle.kex_model.specs.declared.program.Kind.{Kind as NodeKind}
 use Rattle.kex_model.specs.declared.program.Kind.TheVariants as nodes
-use Rattle.kex_tokens.specs.declared.token.Kind.{Kind}
-use Rattle.kex_tokens.specs.declared.token.Kind.TheVariants as kinds
+use Rattle.kex_tokens.specs.declared.token.TokenKind.{TokenKind}
+use Rattle.kex_tokens.specs.declared.token.TokenKind.TheVariants as kinds
 use Rattle.kex_reader.specs.declared.stack.Construct.{Construct}
-use Rattle.kex_reader.specs.declared.stack.Part.{Part as Shown}
+use Rattle.kex_reader.specs.declared.stack.PlacedNode.{PlacedNode as Shown}
 use Rattle.kex_regexp.specs.declared.counts.Count.{Count}
 use Rattle.kex_regexp.specs.declared.counts.CountOutcome.TheVariants as outcomes
 use Rattle.kex_regexp.specs.declared.counts.Bounds.{Bounds}
@@ -24,7 +24,7 @@ use Rattle.kex_reader.specs.declared.inside.Wait.{Wait}
 use Rattle.kex_reader.specs.declared.inside.Wait.TheVariants as waits
 use Rattle.kex_reader.specs.declared.inside.StepFault.{StepFault}
 use Rattle.kex_reader.specs.declared.inside.StepFault.TheVariants as faults
-use Rattle.kex_reader.specs.Syntax.{Word, Name, Literal, word, Part, Text, Held, Postfix, Turns, Atom, Write, Assign, Call, atom, postfix}
+use Rattle.kex_reader.specs.Syntax.{Word, Name, Literal, word, RegisterPart, Text, Held, Postfix, Turns, Atom, Write, Assign, Call, atom, postfix}
 use Rattle.kex_reader.specs.Reading.{Entry, Mode, Need, Ready, After, Turned, Named, Writing, Bracket, BracketName, Assigning, Assigned, InCount, Inside, Counting, CountStep, CountOn, CountRead, CountWrong, with_pre, goes, begin_pre, after_atom, after_turns, after_name, on_name, on_sign, first_part, next_part, count_step, on_count, step_in, inside, mode, entries}
 use Rattle.kex_reader.specs.Shown.{Made, IsNode, IsRegister, ShowsPre, ShowsAtom, ShowsPart, ShowsParts, assignment_kind}
 use Rattle.kex_reader.specs.Stands.{Keeps, NotesLeast, count_asks, ConstructsShow, HoldsTurns, IsLeaf, PieceShows, part_of, ShowsMode, SomeAtom, SomeConstructs, SomeInside, SomeName, SomeTurned, Steps}
@@ -51,7 +51,7 @@ leaf_below n (nodes.Write x) h = tt
 leaf_below n (nodes.Set x y) h = tt
 leaf_below n (nodes.Add x y) h = tt
 
-pub pieces_in : (ps : List Part) (made : Made) (qs : List Piece) → ShowsParts ps made qs → HasPieces (length made.registers) qs
+pub pieces_in : (ps : List RegisterPart) (made : Made) (qs : List Piece) → ShowsParts ps made qs → HasPieces (length made.registers) qs
 unfolding ShowsParts ShowsPart
 pieces_in [] made [] h r m = absurd m
 pieces_in [] made (q ∷ qs) h r m = absurd h
@@ -120,7 +120,7 @@ unfolding ShowsMode
 mode_assigning made at i x (Assigning append r) s = (append, r, refl)
 mode_assigning made at i x _ s = absurd s
 
-pub mode_assigned : (made : Made) (at : ℕ → ℕ) (i : ℕ) (x : Assignment) (m : Mode) → ShowsMode made at i (waits.Assigned x) m → (append : Bool) × (r : List ℕ) × (p : Part) × (ps : List Part) × (m ≡ Assigned append r p ps)
+pub mode_assigned : (made : Made) (at : ℕ → ℕ) (i : ℕ) (x : Assignment) (m : Mode) → ShowsMode made at i (waits.Assigned x) m → (append : Bool) × (r : List ℕ) × (p : RegisterPart) × (ps : List RegisterPart) × (m ≡ Assigned append r p ps)
 unfolding ShowsMode
 mode_assigned made at i x (Assigned append r p ps) s = (append, r, p, ps, refl)
 mode_assigned made at i x _ s = absurd s
@@ -138,45 +138,45 @@ first_none append r es (Literal s) e = absurd cc
 first_none append r es (Name s) e = absurd cc
 first_none append r es _ e = refl
 
-pub first_some : (append : Bool) (r : List ℕ) (es : List Entry) (w : Word) (p : Part) → part_of w ≡ Some p → first_part append r es w ≡ goes (Assigned append r p []) es
+pub first_some : (append : Bool) (r : List ℕ) (es : List Entry) (w : Word) (p : RegisterPart) → part_of w ≡ Some p → first_part append r es w ≡ goes (Assigned append r p []) es
 unfolding first_part
-first_some append r es (Literal s) p e = ap (λ (x : Part). goes (Assigned append r x []) es) (cc)
-first_some append r es (Name s) p e = ap (λ (x : Part). goes (Assigned append r x []) es) (cc)
+first_some append r es (Literal s) p e = ap (λ (x : RegisterPart). goes (Assigned append r x []) es) (cc)
+first_some append r es (Name s) p e = ap (λ (x : RegisterPart). goes (Assigned append r x []) es) (cc)
 first_some append r es _ p e = absurd cc
 
-pub next_none : (append : Bool) (r : List ℕ) (p : Part) (ps : List Part) (es : List Entry) (k : Kind) (b : List ℕ) → (k ≡ kinds.CloseBracket → ⊥) → part_of (word k b) ≡ None → next_part append r p ps es (word k b) ≡ None
+pub next_none : (append : Bool) (r : List ℕ) (p : RegisterPart) (ps : List RegisterPart) (es : List Entry) (k : TokenKind) (b : List ℕ) → (k ≡ kinds.CloseBracket → ⊥) → part_of (word k b) ≡ None → next_part append r p ps es (word k b) ≡ None
 unfolding next_part
 next_none append r p ps es kinds.Literal b n e = absurd cc
 next_none append r p ps es kinds.Name b n e = absurd cc
 next_none append r p ps es kinds.CloseBracket b n e = absurd (n refl)
 next_none append r p ps es _ b n e = refl
 
-pub next_some : (append : Bool) (r : List ℕ) (p : Part) (ps : List Part) (es : List Entry) (w : Word) (q : Part) → part_of w ≡ Some q → next_part append r p ps es w ≡ goes (Assigned append r p (ps ++ q ∷ [])) es
+pub next_some : (append : Bool) (r : List ℕ) (p : RegisterPart) (ps : List RegisterPart) (es : List Entry) (w : Word) (q : RegisterPart) → part_of w ≡ Some q → next_part append r p ps es w ≡ goes (Assigned append r p (ps ++ q ∷ [])) es
 unfolding next_part
-next_some append r p ps es (Literal s) q e = ap (λ (x : Part). goes (Assigned append r p (ps ++ x ∷ [])) es) (cc)
-next_some append r p ps es (Name s) q e = ap (λ (x : Part). goes (Assigned append r p (ps ++ x ∷ [])) es) (cc)
+next_some append r p ps es (Literal s) q e = ap (λ (x : RegisterPart). goes (Assigned append r p (ps ++ x ∷ [])) es) (cc)
+next_some append r p ps es (Name s) q e = ap (λ (x : RegisterPart). goes (Assigned append r p (ps ++ x ∷ [])) es) (cc)
 next_some append r p ps es _ q e = absurd cc
 
-pub next_close : (append : Bool) (r : List ℕ) (p : Part) (ps : List Part) (es : List Entry) (k : Kind) (b : List ℕ) → k ≡ kinds.CloseBracket → next_part append r p ps es (word k b) ≡ goes (After (Assign append r p ps)) es
+pub next_close : (append : Bool) (r : List ℕ) (p : RegisterPart) (ps : List RegisterPart) (es : List Entry) (k : TokenKind) (b : List ℕ) → k ≡ kinds.CloseBracket → next_part append r p ps es (word k b) ≡ goes (After (Assign append r p ps)) es
 unfolding next_part
-next_close append r p ps es k b e = ap (λ (y : Kind). next_part append r p ps es (word y b)) e
+next_close append r p ps es k b e = ap (λ (y : TokenKind). next_part append r p ps es (word y b)) e
 
-pub parts_push : (ps : List Part) (p : Part) (made : Made) (qs : List Piece) (q : Piece) → ShowsParts ps made qs → ShowsPart p made q → ShowsParts (ps ++ p ∷ []) made (qs ++ q ∷ [])
+pub parts_push : (ps : List RegisterPart) (p : RegisterPart) (made : Made) (qs : List Piece) (q : Piece) → ShowsParts ps made qs → ShowsPart p made q → ShowsParts (ps ++ p ∷ []) made (qs ++ q ∷ [])
 unfolding ShowsParts
 parts_push [] p made [] q h k = (k, tt)
 parts_push [] p made (x ∷ qs) q h k = absurd h
 parts_push (x ∷ ps) p made [] q h k = absurd h
 parts_push (x ∷ ps) p made (y ∷ qs) q h k = (h.0, parts_push ps p made qs q h.1 k)
 
-none_piece : (o : Option Part) (made : Made) → PieceShows o made None → o ≡ None
+none_piece : (o : Option RegisterPart) (made : Made) → PieceShows o made None → o ≡ None
 none_piece None made h = refl
 none_piece (Some p) made h = absurd h
 
-some_piece : (o : Option Part) (made : Made) (q : Piece) → PieceShows o made (Some q) → (p : Part) × (o ≡ Some p) × ShowsPart p made q
+some_piece : (o : Option RegisterPart) (made : Made) (q : Piece) → PieceShows o made (Some q) → (p : RegisterPart) × (o ≡ Some p) × ShowsPart p made q
 some_piece None made q h = absurd h
 some_piece (Some p) made q h = (p, refl, h)
 
-module _ (a b : Made) (at : ℕ → ℕ) (base : ℕ) (fs : List Construct) (es : List Entry) (x : Assignment) (append : Bool) (r : List ℕ) (k : Kind) (bytes : List ℕ) where
+module _ (a b : Made) (at : ℕ → ℕ) (base : ℕ) (fs : List Construct) (es : List Entry) (x : Assignment) (append : Bool) (r : List ℕ) (k : TokenKind) (bytes : List ℕ) where
   pub first_wrong : PieceShows (part_of (word k bytes)) b None → Steps b at base fs (Err faults.Wrong) (first_part append r es (word k bytes))
   first_wrong h = to b at base fs _ _ _ (first_none append r es (word k bytes) (none_piece (part_of (word k bytes)) b h)) (wrong b at base fs)
 
@@ -189,10 +189,10 @@ module _ (a b : Made) (at : ℕ → ℕ) (base : ℕ) (fs : List Construct) (es 
       (stood b at base fs (waits.Assigned y) (Assigned append r p.0 []) es (constructs_more a b at base fs es keep f)
       (e1 ∙ m.0, e2 ∙ m.1, subst (λ (z : ℕ). IsRegister b z r) (sym e3) (keep.registers x.register r m.2), subst (λ (z : List Piece). ShowsParts (p.0 ∷ []) b z) (sym items) (p.2, tt)))
 
-  pub next_wrong : (p : Part) (ps : List Part) → (k ≡ kinds.CloseBracket → ⊥) → PieceShows (part_of (word k bytes)) b None → Steps b at base fs (Err faults.Wrong) (next_part append r p ps es (word k bytes))
+  pub next_wrong : (p : RegisterPart) (ps : List RegisterPart) → (k ≡ kinds.CloseBracket → ⊥) → PieceShows (part_of (word k bytes)) b None → Steps b at base fs (Err faults.Wrong) (next_part append r p ps es (word k bytes))
   next_wrong p ps n h = to b at base fs _ _ _ (next_none append r p ps es k bytes n (none_piece (part_of (word k bytes)) b h)) (wrong b at base fs)
 
-  pub next_on : (p : Part) (ps : List Part) (q : Piece) (y : Assignment) → y.at ≡ x.at → y.append ≡ x.append → y.register ≡ x.register → y.pieces.items ≡ x.pieces.items ++ q ∷ [] → Keeps a b → PieceShows (part_of (word k bytes)) b (Some q) → ConstructsShow a at base fs es → ShowsMode a at (base + length (entries es)) (waits.Assigned x) (Assigned append r p ps) → Steps b at base fs (Ok (waits.Assigned y)) (next_part append r p ps es (word k bytes))
+  pub next_on : (p : RegisterPart) (ps : List RegisterPart) (q : Piece) (y : Assignment) → y.at ≡ x.at → y.append ≡ x.append → y.register ≡ x.register → y.pieces.items ≡ x.pieces.items ++ q ∷ [] → Keeps a b → PieceShows (part_of (word k bytes)) b (Some q) → ConstructsShow a at base fs es → ShowsMode a at (base + length (entries es)) (waits.Assigned x) (Assigned append r p ps) → Steps b at base fs (Ok (waits.Assigned y)) (next_part append r p ps es (word k bytes))
   unfolding ShowsMode
   next_on p ps q y e1 e2 e3 e4 keep h f m =
       let t = some_piece (part_of (word k bytes)) b q h in
@@ -201,16 +201,16 @@ module _ (a b : Made) (at : ℕ → ℕ) (base : ℕ) (fs : List Construct) (es 
       (e1 ∙ m.0, e2 ∙ m.1, subst (λ (z : ℕ). IsRegister b z r) (sym e3) (keep.registers x.register r m.2), subst (λ (z : List Piece). ShowsParts (p ∷ (ps ++ t.0 ∷ [])) b z) (sym e4) (parts_push (p ∷ ps) t.0 b x.pieces.items q (parts_more (p ∷ ps) a b x.pieces.items keep m.3) t.2)))
 
 -- an assignment that is in range
-pub assigned_in : (made : Made) (at : ℕ → ℕ) (i : ℕ) (x : Assignment) (append : Bool) (r : List ℕ) (p : Part) (ps : List Part) → ShowsMode made at i (waits.Assigned x) (Assigned append r p ps) → HasNames (length made.names) (length made.registers) (assignment_kind x.append x.register x.pieces.items)
+pub assigned_in : (made : Made) (at : ℕ → ℕ) (i : ℕ) (x : Assignment) (append : Bool) (r : List ℕ) (p : RegisterPart) (ps : List RegisterPart) → ShowsMode made at i (waits.Assigned x) (Assigned append r p ps) → HasNames (length made.names) (length made.registers) (assignment_kind x.append x.register x.pieces.items)
 unfolding ShowsMode
 assigned_in made at i x append r p ps m = assigned_names x.append made x.register (length made.names) x.pieces.items (slice_get_within made.registers x.register r m.2) (pieces_in (p ∷ ps) made x.pieces.items m.3)
 
-pub assign_shows : (a b : Made) (at : ℕ → ℕ) (i n : ℕ) (x : Assignment) (append : Bool) (r : List ℕ) (p : Part) (ps : List Part) → Keeps a b → ShowsMode a at i (waits.Assigned x) (Assigned append r p ps) → IsNode b n (assignment_kind x.append x.register x.pieces.items) x.at → ShowsAtom (Assign append r p ps) b at n i
+pub assign_shows : (a b : Made) (at : ℕ → ℕ) (i n : ℕ) (x : Assignment) (append : Bool) (r : List ℕ) (p : RegisterPart) (ps : List RegisterPart) → Keeps a b → ShowsMode a at i (waits.Assigned x) (Assigned append r p ps) → IsNode b n (assignment_kind x.append x.register x.pieces.items) x.at → ShowsAtom (Assign append r p ps) b at n i
 unfolding ShowsMode ShowsAtom
 assign_shows a b at i n x append r p ps k m h =
     (x.register, x.pieces.items, subst (λ (z : ℕ). IsNode b n (assignment_kind append x.register x.pieces.items) z) m.0 (subst (λ (z : Bool). IsNode b n (assignment_kind z x.register x.pieces.items) x.at) m.1 h), k.registers x.register r m.2, parts_more (p ∷ ps) a b x.pieces.items k m.3)
 
-pub assigned_at : (made : Made) (at : ℕ → ℕ) (i : ℕ) (x : Assignment) (append : Bool) (r : List ℕ) (p : Part) (ps : List Part) → ShowsMode made at i (waits.Assigned x) (Assigned append r p ps) → x.at ≡ at i
+pub assigned_at : (made : Made) (at : ℕ → ℕ) (i : ℕ) (x : Assignment) (append : Bool) (r : List ℕ) (p : RegisterPart) (ps : List RegisterPart) → ShowsMode made at i (waits.Assigned x) (Assigned append r p ps) → x.at ≡ at i
 unfolding ShowsMode
 assigned_at made at i x append r p ps m = m.0
 
@@ -303,7 +303,7 @@ pub in_assigning : (append : Bool) (r : List ℕ) (es : List Entry) (w : Word) �
 unfolding step_in
 in_assigning append r es w = refl
 
-pub in_assigned : (append : Bool) (r : List ℕ) (p : Part) (ps : List Part) (es : List Entry) (w : Word) → step_in (Assigned append r p ps) es w ≡ next_part append r p ps es w
+pub in_assigned : (append : Bool) (r : List ℕ) (p : RegisterPart) (ps : List RegisterPart) (es : List Entry) (w : Word) → step_in (Assigned append r p ps) es w ≡ next_part append r p ps es w
 unfolding step_in
 in_assigned append r p ps es w = refl
 
@@ -349,7 +349,7 @@ some_turned made fs wait part b e s =
     let m = mode_turned made s.0 (s.1 + length (entries s.2.entries)) part b s.2.mode (subst (λ (w : Wait). ShowsMode made s.0 (s.1 + length (entries s.2.entries)) w s.2.mode) e s.3.mode) in
     (s.0, s.1, s.2.entries, m.0, m.1, s.3.below, m.3, m.4, m.5)
 
-pub some_assigned : (made : Made) (fs : List Construct) (wait : Wait) (x : Assignment) → wait ≡ waits.Assigned x → SomeInside made fs wait → (place : ℕ → ℕ) × (i : ℕ) × (append : Bool) × (r : List ℕ) × (p : Part) × (ps : List Part) × ShowsMode made place i (waits.Assigned x) (Assigned append r p ps)
+pub some_assigned : (made : Made) (fs : List Construct) (wait : Wait) (x : Assignment) → wait ≡ waits.Assigned x → SomeInside made fs wait → (place : ℕ → ℕ) × (i : ℕ) × (append : Bool) × (r : List ℕ) × (p : RegisterPart) × (ps : List RegisterPart) × ShowsMode made place i (waits.Assigned x) (Assigned append r p ps)
 some_assigned made fs wait x e s =
     let i = s.1 + length (entries s.2.entries) in
     let here = subst (λ (w : Wait). ShowsMode made s.0 i w s.2.mode) e s.3.mode in
@@ -360,7 +360,7 @@ pub write_of : (a b : Made) (at : ℕ → ℕ) (i k from : ℕ) (r : List ℕ) (
 write_of a b at i k from r (Ok w) e keep s h = (h.0, h.1, write_shows b at h.0 i k from r e h.2 (keep.registers k r s))
 write_of a b at i k from r (Err f) e keep s h = tt
 
-pub assign_of : (a b : Made) (at : ℕ → ℕ) (i : ℕ) (x : Assignment) (append : Bool) (r : List ℕ) (p : Part) (ps : List Part) (kind : NodeKind) (res : Result Wait StepFault) → kind ≡ assignment_kind x.append x.register x.pieces.items → ShowsMode a at i (waits.Assigned x) (Assigned append r p ps) → OnOk res (Keeps a b) → IfOk res (λ w. (n : ℕ) × (w ≡ waits.After (record { node = n; at = x.at })) × IsNode b n kind x.at) → IfOk res (λ w. (n : ℕ) × (w ≡ waits.After (record { node = n; at = x.at })) × ShowsAtom (Assign append r p ps) b at n i)
+pub assign_of : (a b : Made) (at : ℕ → ℕ) (i : ℕ) (x : Assignment) (append : Bool) (r : List ℕ) (p : RegisterPart) (ps : List RegisterPart) (kind : NodeKind) (res : Result Wait StepFault) → kind ≡ assignment_kind x.append x.register x.pieces.items → ShowsMode a at i (waits.Assigned x) (Assigned append r p ps) → OnOk res (Keeps a b) → IfOk res (λ w. (n : ℕ) × (w ≡ waits.After (record { node = n; at = x.at })) × IsNode b n kind x.at) → IfOk res (λ w. (n : ℕ) × (w ≡ waits.After (record { node = n; at = x.at })) × ShowsAtom (Assign append r p ps) b at n i)
 assign_of a b at i x append r p ps kind (Ok w) e m keep h = (h.0, h.1, assign_shows a b at i h.0 x append r p ps keep m (subst (λ (y : NodeKind). IsNode b h.0 y x.at) e h.2))
 assign_of a b at i x append r p ps kind (Err f) e m keep h = tt
 

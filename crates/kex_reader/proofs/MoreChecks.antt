@@ -5,8 +5,8 @@ use Rattle.std.proofs.lemmas.List.{append-nil}
 use Rattle.kex_regexp.specs.declared.breaks.Break.{Break}
 use Rattle.kex_regexp.specs.declared.breaks.Break.TheVariants.{BadCount}
 use Rattle.kex_regexp.specs.Notes.{lesser_of}
-use Rattle.kex_tokens.specs.declared.token.Kind.{Kind}
-use Rattle.kex_tokens.specs.declared.token.Kind.TheVariants as kinds
+use Rattle.kex_tokens.specs.declared.token.TokenKind.{TokenKind}
+use Rattle.kex_tokens.specs.declared.token.TokenKind.TheVariants as kinds
 use Rattle.kex_reader.specs.Syntax.{between, word, Word, Postfix, ZeroOrMore, OneOrMore, Optional, Exactly, AtLeast, AtMost, FromTo, Atom, Once, Call, atom, postfix}
 use Rattle.kex_reader.specs.Reading.{Entry, Counting, Mode, Need, Ready, After, Turned, Named, InCount, Inside, count_step, with_pre}
 use Rattle.kex_reader.specs.Checks.{Check, Nested, Counted, Matched, postfix_checks}
@@ -33,43 +33,43 @@ moved cs o p e n = subst (λ (x : Option Break). NotesLeast cs x) (sym e) n
 
 -- ---- words that ask nothing
 
-abbrev pub IsQuiet : Kind → Type 0
+abbrev pub IsQuiet : TokenKind → Type 0
 IsQuiet kinds.Tilde = ⊥
 IsQuiet kinds.OpenParen = ⊥
 IsQuiet kinds.Regex = ⊥
 IsQuiet _ = Unit {0}
 
 module _ (at : ℕ → ℕ) (i : ℕ) (es : List Entry) (b : List ℕ) where
-  quiet : (j : Kind) → IsQuiet j → begin_asks at i es (word j b) ≡ []
+  quiet : (j : TokenKind) → IsQuiet j → begin_asks at i es (word j b) ≡ []
   unfolding begin_asks
   quiet kinds.Tilde q = absurd q
   quiet kinds.OpenParen q = absurd q
   quiet kinds.Regex q = absurd q
   quiet _ q = refl
 
-  pub begin_quiet : (k j : Kind) → k ≡ j → IsQuiet j → [] ≡ begin_asks at i es (word k b)
-  begin_quiet k j e q = sym (ap (λ (x : Kind). begin_asks at i es (word x b)) e ∙ quiet j q)
+  pub begin_quiet : (k j : TokenKind) → k ≡ j → IsQuiet j → [] ≡ begin_asks at i es (word k b)
+  begin_quiet k j e q = sym (ap (λ (x : TokenKind). begin_asks at i es (word x b)) e ∙ quiet j q)
 
-  pub begin_regex_asks : (k : Kind) (a d : ℕ) → k ≡ kinds.Regex → a ≡ at i → d ≡ depth es → Matched (a + 1) d (between b) ∷ [] ≡ begin_asks at i es (word k b)
+  pub begin_regex_asks : (k : TokenKind) (a d : ℕ) → k ≡ kinds.Regex → a ≡ at i → d ≡ depth es → Matched (a + 1) d (between b) ∷ [] ≡ begin_asks at i es (word k b)
   unfolding begin_asks
-  begin_regex_asks k a d e f g = ap (λ (x : ℕ). Matched (x + 1) d (between b) ∷ []) f ∙ ap (λ (x : ℕ). Matched (at i + 1) x (between b) ∷ []) g ∙ sym (ap (λ (x : Kind). begin_asks at i es (word x b)) e)
+  begin_regex_asks k a d e f g = ap (λ (x : ℕ). Matched (x + 1) d (between b) ∷ []) f ∙ ap (λ (x : ℕ). Matched (at i + 1) x (between b) ∷ []) g ∙ sym (ap (λ (x : TokenKind). begin_asks at i es (word x b)) e)
 
-  pub begin_tilde_asks : (k : Kind) (a d : ℕ) → k ≡ kinds.Tilde → a ≡ at i → d ≡ depth es → Nested a d ∷ [] ≡ begin_asks at i es (word k b)
+  pub begin_tilde_asks : (k : TokenKind) (a d : ℕ) → k ≡ kinds.Tilde → a ≡ at i → d ≡ depth es → Nested a d ∷ [] ≡ begin_asks at i es (word k b)
   unfolding begin_asks
-  begin_tilde_asks k a d e f g = ap (λ (x : ℕ). Nested x d ∷ []) f ∙ ap (λ (x : ℕ). Nested (at i) x ∷ []) g ∙ sym (ap (λ (x : Kind). begin_asks at i es (word x b)) e)
+  begin_tilde_asks k a d e f g = ap (λ (x : ℕ). Nested x d ∷ []) f ∙ ap (λ (x : ℕ). Nested (at i) x ∷ []) g ∙ sym (ap (λ (x : TokenKind). begin_asks at i es (word x b)) e)
 
-  pub begin_paren_asks : (k : Kind) (a d : ℕ) → k ≡ kinds.OpenParen → a ≡ at i → d ≡ depth es → Nested a d ∷ [] ≡ begin_asks at i es (word k b)
+  pub begin_paren_asks : (k : TokenKind) (a d : ℕ) → k ≡ kinds.OpenParen → a ≡ at i → d ≡ depth es → Nested a d ∷ [] ≡ begin_asks at i es (word k b)
   unfolding begin_asks
-  begin_paren_asks k a d e f g = ap (λ (x : ℕ). Nested x d ∷ []) f ∙ ap (λ (x : ℕ). Nested (at i) x ∷ []) g ∙ sym (ap (λ (x : Kind). begin_asks at i es (word x b)) e)
+  begin_paren_asks k a d e f g = ap (λ (x : ℕ). Nested x d ∷ []) f ∙ ap (λ (x : ℕ). Nested (at i) x ∷ []) g ∙ sym (ap (λ (x : TokenKind). begin_asks at i es (word x b)) e)
 
-abbrev pub IsSign : Kind → Type 0
+abbrev pub IsSign : TokenKind → Type 0
 IsSign kinds.Star = Unit {0}
 IsSign kinds.Plus = Unit {0}
 IsSign kinds.Question = Unit {0}
 IsSign kinds.OpenBrace = Unit {0}
 IsSign _ = ⊥
 
-signs : (at : ℕ → ℕ) (i : ℕ) (a : Atom) (es : List Entry) (b : List ℕ) (j : Kind) → IsSign j → after_asks at i a es (word j b) ≡ []
+signs : (at : ℕ → ℕ) (i : ℕ) (a : Atom) (es : List Entry) (b : List ℕ) (j : TokenKind) → IsSign j → after_asks at i a es (word j b) ≡ []
 unfolding after_asks
 signs at i a es b kinds.Star q = refl
 signs at i a es b kinds.Plus q = refl
@@ -77,10 +77,10 @@ signs at i a es b kinds.Question q = refl
 signs at i a es b kinds.OpenBrace q = refl
 signs at i a es b _ q = absurd q
 
-pub after_quiet : (at : ℕ → ℕ) (i : ℕ) (a : Atom) (es : List Entry) (b : List ℕ) (k j : Kind) → k ≡ j → IsSign j → [] ≡ after_asks at i a es (word k b)
-after_quiet at i a es b k j e q = sym (ap (λ (x : Kind). after_asks at i a es (word x b)) e ∙ signs at i a es b j q)
+pub after_quiet : (at : ℕ → ℕ) (i : ℕ) (a : Atom) (es : List Entry) (b : List ℕ) (k j : TokenKind) → k ≡ j → IsSign j → [] ≡ after_asks at i a es (word k b)
+after_quiet at i a es b k j e q = sym (ap (λ (x : TokenKind). after_asks at i a es (word x b)) e ∙ signs at i a es b j q)
 
-pub after_begins : (at : ℕ → ℕ) (i : ℕ) (a : Atom) (es : List Entry) (b : List ℕ) (k : Kind) → (k ≡ kinds.Star → ⊥) → (k ≡ kinds.Plus → ⊥) → (k ≡ kinds.Question → ⊥) → (k ≡ kinds.OpenBrace → ⊥) → begin_asks at i (with_pre (Once a) es) (word k b) ≡ after_asks at i a es (word k b)
+pub after_begins : (at : ℕ → ℕ) (i : ℕ) (a : Atom) (es : List Entry) (b : List ℕ) (k : TokenKind) → (k ≡ kinds.Star → ⊥) → (k ≡ kinds.Plus → ⊥) → (k ≡ kinds.Question → ⊥) → (k ≡ kinds.OpenBrace → ⊥) → begin_asks at i (with_pre (Once a) es) (word k b) ≡ after_asks at i a es (word k b)
 unfolding after_asks
 after_begins at i a es b kinds.Star n1 n2 n3 n4 = absurd (n1 refl)
 after_begins at i a es b kinds.Plus n1 n2 n3 n4 = absurd (n2 refl)
@@ -88,11 +88,11 @@ after_begins at i a es b kinds.Question n1 n2 n3 n4 = absurd (n3 refl)
 after_begins at i a es b kinds.OpenBrace n1 n2 n3 n4 = absurd (n4 refl)
 after_begins at i a es b _ n1 n2 n3 n4 = refl
 
-pub named_at_asks : (at : ℕ → ℕ) (i : ℕ) (n : List ℕ) (es : List Entry) (b : List ℕ) (k : Kind) (a d : ℕ) → k ≡ kinds.At → a ≡ at i → d ≡ depth es → Nested a d ∷ [] ≡ named_asks at i n es (word k b)
+pub named_at_asks : (at : ℕ → ℕ) (i : ℕ) (n : List ℕ) (es : List Entry) (b : List ℕ) (k : TokenKind) (a d : ℕ) → k ≡ kinds.At → a ≡ at i → d ≡ depth es → Nested a d ∷ [] ≡ named_asks at i n es (word k b)
 unfolding named_asks
-named_at_asks at i n es b k a d e f g = ap (λ (x : ℕ). Nested x d ∷ []) f ∙ ap (λ (x : ℕ). Nested (at i) x ∷ []) g ∙ sym (ap (λ (x : Kind). named_asks at i n es (word x b)) e)
+named_at_asks at i n es b k a d e f g = ap (λ (x : ℕ). Nested x d ∷ []) f ∙ ap (λ (x : ℕ). Nested (at i) x ∷ []) g ∙ sym (ap (λ (x : TokenKind). named_asks at i n es (word x b)) e)
 
-pub named_after : (at : ℕ → ℕ) (i : ℕ) (n : List ℕ) (es : List Entry) (b : List ℕ) (k : Kind) → (k ≡ kinds.At → ⊥) → (k ≡ kinds.Define → ⊥) → after_asks at (i + 1) (Call n) es (word k b) ≡ named_asks at i n es (word k b)
+pub named_after : (at : ℕ → ℕ) (i : ℕ) (n : List ℕ) (es : List Entry) (b : List ℕ) (k : TokenKind) → (k ≡ kinds.At → ⊥) → (k ≡ kinds.Define → ⊥) → after_asks at (i + 1) (Call n) es (word k b) ≡ named_asks at i n es (word k b)
 unfolding named_asks
 named_after at i n es b kinds.At n1 n2 = absurd (n1 refl)
 named_after at i n es b kinds.Define n1 n2 = absurd (n2 refl)

@@ -11,7 +11,7 @@ use Rattle.kex_model.specs.declared.program.Start.{Start}
 use Rattle.kex_tokens.specs.declared.token.Token.{Token}
 use Rattle.kex_tokens.specs.declared.token.TokenFault.{TokenFault}
 use Rattle.kex_tokens.specs.declared.token.TokenFault.TheVariants as token_faults
-use Rattle.kex_tokens.specs.Texts.{AreTokens, IsRefused, most_text}
+use Rattle.kex_tokens.specs.Texts.{AreTokens, AreTokensRefused, most_text}
 use Rattle.kex_regexp.specs.declared.breaks.Break.{Break}
 use Rattle.kex_regexp.specs.declared.breaks.Break.TheVariants.{BadRegex, BadCount, BadSet, OverLimit}
 use Rattle.kex_reader.specs.declared.stack.Construct.{Construct}
@@ -35,7 +35,7 @@ use Rattle.kex_reader.specs.Spelling.{words, offset, main_stage, ShowsHeader, Sh
 use Rattle.kex_reader.proofs.NumberedNames.{get_mapped, take_get}
 use Rattle.kex_reader.proofs.Drafts.{term_within}
 use Rattle.kex_reader.proofs.Sound.{Goes, reads_goes}
-use Rattle.kex_reader.proofs.Complete.{reads-append}
+use Rattle.kex_reader.proofs.Complete.{state_after-append}
 use Rattle.kex_reader.proofs.Viable.{start_goes, read_begins, read_is, unread_begins, unfinished}
 use Rattle.kex_reader.proofs.ReadChecks.{StateAsked, state_asked, FinishAsked, finish_asked}
 
@@ -61,7 +61,7 @@ offset_end text ts k h = get_or_past (map (λ (t : Token). t.from) ts) k (length
 
 pub reads_more : (ws : List Word) (k : ℕ) (s : State) (w : Word) → slice_get ws k ≡ Some w → state_after (Some Begin) (take k ws) ≡ Some s → state_after (Some Begin) (take (k + 1) ws) ≡ step s w
 unfolding state_after next
-reads_more ws k s w g e = ap (state_after (Some Begin)) (take_get ws k w g) ∙ reads-append (Some Begin) (take k ws) (w ∷ []) ∙ ap (λ (o : Option State). state_after o (w ∷ [])) e
+reads_more ws k s w g e = ap (state_after (Some Begin)) (take_get ws k w g) ∙ state_after-append (Some Begin) (take k ws) (w ∷ []) ∙ ap (λ (o : Option State). state_after o (w ∷ [])) e
 
 pub spelled_long : (ws : List Word) (s : State) → state_after (Some Begin) ws ≡ Some s → length (words_read s) ≡ length ws
 unfolding Goes
@@ -139,7 +139,7 @@ begin_notes at o e = subst (λ (x : Option Break). NotesLeast [] x) (sym e) (λ 
 
 -- ---- refusals
 
-pub token_refused : (text : List ℕ) (f : TokenFault) → IsRefused f text → IsRefusedAs text (of_token f)
+pub token_refused : (text : List ℕ) (f : TokenFault) → AreTokensRefused f text → IsRefusedAs text (of_token f)
 token_refused text token_faults.TextTooLong h = h
 token_refused text (token_faults.BadToken at) h = h
 token_refused text token_faults.Memory h = tt

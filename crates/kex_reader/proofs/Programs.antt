@@ -3,8 +3,8 @@ use Rattle.std.proofs.Common.{◌≡◌, ℕ, ◌+◌, ◌*◌, Bool, true, fals
 use Rattle.std.specs.Prelude.{◌==◌, bytes_eq, if◌then◌else◌, IfOk, IfErr, OnOk, IsErrAnd}
 use Rattle.kex_model.specs.declared.program.Definition.{Definition as Root}
 use Rattle.kex_model.specs.declared.program.Start.{Start}
-use Rattle.kex_tokens.specs.declared.token.Kind.{Kind}
-use Rattle.kex_tokens.specs.declared.token.Kind.TheVariants as kinds
+use Rattle.kex_tokens.specs.declared.token.TokenKind.{TokenKind}
+use Rattle.kex_tokens.specs.declared.token.TokenKind.TheVariants as kinds
 use Rattle.kex_reader.specs.declared.stack.Construct.{Construct}
 use Rattle.kex_reader.specs.declared.stack.Construct.TheVariants as constructs
 use Rattle.kex_reader.specs.declared.inside.Wait.{Wait}
@@ -106,7 +106,7 @@ definitions_push (x ∷ ds) d made at (y ∷ rs) r i h m e t =
 
 -- ---- the end of a definition
 
-pub ends_of : (b : Made) (at : ℕ → ℕ) (base : ℕ) (fs : List Construct) (part : Rattle.kex_reader.specs.declared.stack.Part.Part) (old new : List Root) (name from : ℕ) (o : Option (Term × List Entry)) → length fs ≡ 0 → new ≡ old ++ record { name = name; at = from; root = part.node } ∷ [] → TermTaken b at base fs (Some part) o → Ends b at base fs old new name from (Ok tt) (whole_term o)
+pub ends_of : (b : Made) (at : ℕ → ℕ) (base : ℕ) (fs : List Construct) (part : Rattle.kex_reader.specs.declared.stack.PlacedNode.Part) (old new : List Root) (name from : ℕ) (o : Option (Term × List Entry)) → length fs ≡ 0 → new ≡ old ++ record { name = name; at = from; root = part.node } ∷ [] → TermTaken b at base fs (Some part) o → Ends b at base fs old new name from (Ok tt) (whole_term o)
 unfolding Ends whole_term ConstructsShow entries
 ends_of b at base fs part old new name from None z e h = absurd h
 ends_of b at base [] part old new name from (Some (t, [])) z e h = (refl, part.node, e, subst (λ (x : ℕ). ShowsTerm t b at part.node x) (plus_none base) h.shows)
@@ -130,7 +130,7 @@ nothing_shown b at base (constructs.Done x ∷ fs) h = absurd h
 nothing_shown b at base (constructs.Muted x ∷ fs) h = absurd h
 nothing_shown b at base (constructs.Storing x ∷ fs) h = absurd h
 
-pub ends_open : (b : Made) (at : ℕ → ℕ) (base : ℕ) (fs : List Construct) (part : Rattle.kex_reader.specs.declared.stack.Part.Part) (old new : List Root) (name from : ℕ) (o : Option (Term × List Entry)) → (length fs ≡ 0 → ⊥) → TermTaken b at base fs (Some part) o → Ends b at base fs old new name from (Err faults.Wrong) (whole_term o)
+pub ends_open : (b : Made) (at : ℕ → ℕ) (base : ℕ) (fs : List Construct) (part : Rattle.kex_reader.specs.declared.stack.PlacedNode.Part) (old new : List Root) (name from : ℕ) (o : Option (Term × List Entry)) → (length fs ≡ 0 → ⊥) → TermTaken b at base fs (Some part) o → Ends b at base fs old new name from (Err faults.Wrong) (whole_term o)
 unfolding Ends whole_term
 ends_open b at base fs part old new name from None n h = tt
 ends_open b at base fs part old new name from (Some (t, [])) n h = absurd (n (nothing_shown b at base fs h.below))
@@ -208,7 +208,7 @@ unfolding step_within on_define
 define_named h ds name n m es e = ap (λ (x : Mode). step_within h ds name x es Define) e
 
 -- any other word
-pub within_other : (h : Header) (ds : List Definition) (name : List ℕ) (m : Mode) (es : List Entry) (k : Kind) (b : List ℕ) → (k ≡ kinds.Define → ⊥) → step_within h ds name m es (word k b) ≡ lift h ds name (step_in m es (word k b))
+pub within_other : (h : Header) (ds : List Definition) (name : List ℕ) (m : Mode) (es : List Entry) (k : TokenKind) (b : List ℕ) → (k ≡ kinds.Define → ⊥) → step_within h ds name m es (word k b) ≡ lift h ds name (step_in m es (word k b))
 unfolding step_within
 within_other h ds name (Named free n) es kinds.Define b e = absurd (e refl)
 within_other h ds name (Named free n) es _ b e = refl
@@ -216,51 +216,51 @@ within_other h ds name _ es k b e = refl
 
 -- ---- the other phases
 
-pub name_then_other : (f : List ℕ → State) (k : Kind) (b : List ℕ) → (k ≡ kinds.Name → ⊥) → name_then f (word k b) ≡ None
+pub name_then_other : (f : List ℕ → State) (k : TokenKind) (b : List ℕ) → (k ≡ kinds.Name → ⊥) → name_then f (word k b) ≡ None
 unfolding name_then
 name_then_other f kinds.Name b n = absurd (n refl)
 name_then_other f _ b n = refl
 
-pub name_then_is : (f : List ℕ → State) (k : Kind) (b : List ℕ) → k ≡ kinds.Name → name_then f (word k b) ≡ Some (f b)
+pub name_then_is : (f : List ℕ → State) (k : TokenKind) (b : List ℕ) → k ≡ kinds.Name → name_then f (word k b) ≡ Some (f b)
 unfolding name_then
-name_then_is f k b e = ap (λ (x : Kind). name_then f (word x b)) e
+name_then_is f k b e = ap (λ (x : TokenKind). name_then f (word x b)) e
 
-pub first_other : (n : List ℕ) (k : Kind) (b : List ℕ) → (k ≡ kinds.Define → ⊥) → (k ≡ kinds.Colon → ⊥) → first_name n (word k b) ≡ None
+pub first_other : (n : List ℕ) (k : TokenKind) (b : List ℕ) → (k ≡ kinds.Define → ⊥) → (k ≡ kinds.Colon → ⊥) → first_name n (word k b) ≡ None
 unfolding first_name
 first_other n kinds.Define b d c = absurd (d refl)
 first_other n kinds.Colon b d c = absurd (c refl)
 first_other n _ b d c = refl
 
-pub first_define : (n : List ℕ) (k : Kind) (b : List ℕ) → k ≡ kinds.Define → first_name n (word k b) ≡ Some (Within NoStart [] n (record { mode = Need; entries = [] }))
+pub first_define : (n : List ℕ) (k : TokenKind) (b : List ℕ) → k ≡ kinds.Define → first_name n (word k b) ≡ Some (Within NoStart [] n (record { mode = Need; entries = [] }))
 unfolding first_name
-first_define n k b e = ap (λ (x : Kind). first_name n (word x b)) e
+first_define n k b e = ap (λ (x : TokenKind). first_name n (word x b)) e
 
-pub first_colon : (n : List ℕ) (k : Kind) (b : List ℕ) (t : Bool) → k ≡ kinds.Colon → bytes_eq n start ≡ t → first_name n (word k b) ≡ (if t then Some StartLine else None)
+pub first_colon : (n : List ℕ) (k : TokenKind) (b : List ℕ) (t : Bool) → k ≡ kinds.Colon → bytes_eq n start ≡ t → first_name n (word k b) ≡ (if t then Some StartLine else None)
 unfolding first_name
-first_colon n k b t e f = ap (λ (x : Kind). first_name n (word x b)) e ∙ ap (λ (x : Bool). if x then Some StartLine else None) f
+first_colon n k b t e f = ap (λ (x : TokenKind). first_name n (word x b)) e ∙ ap (λ (x : Bool). if x then Some StartLine else None) f
 
-pub read_other : (f : List ℕ) (ns : List (List ℕ)) (k : Kind) (b : List ℕ) → (k ≡ kinds.Pipe → ⊥) → (k ≡ kinds.Name → ⊥) → stage_read f ns (word k b) ≡ None
+pub read_other : (f : List ℕ) (ns : List (List ℕ)) (k : TokenKind) (b : List ℕ) → (k ≡ kinds.Pipe → ⊥) → (k ≡ kinds.Name → ⊥) → stage_read f ns (word k b) ≡ None
 unfolding stage_read
 read_other f ns kinds.Pipe b p n = absurd (p refl)
 read_other f ns kinds.Name b p n = absurd (n refl)
 read_other f ns _ b p n = refl
 
-pub read_pipe : (f : List ℕ) (ns : List (List ℕ)) (k : Kind) (b : List ℕ) → k ≡ kinds.Pipe → stage_read f ns (word k b) ≡ Some (StageNext f ns)
+pub read_pipe : (f : List ℕ) (ns : List (List ℕ)) (k : TokenKind) (b : List ℕ) → k ≡ kinds.Pipe → stage_read f ns (word k b) ≡ Some (StageNext f ns)
 unfolding stage_read
-read_pipe f ns k b e = ap (λ (x : Kind). stage_read f ns (word x b)) e
+read_pipe f ns k b e = ap (λ (x : TokenKind). stage_read f ns (word x b)) e
 
-pub read_name : (f : List ℕ) (ns : List (List ℕ)) (k : Kind) (b : List ℕ) → k ≡ kinds.Name → stage_read f ns (word k b) ≡ Some (HeadRead (Stages f ns) b)
+pub read_name : (f : List ℕ) (ns : List (List ℕ)) (k : TokenKind) (b : List ℕ) → k ≡ kinds.Name → stage_read f ns (word k b) ≡ Some (HeadRead (Stages f ns) b)
 unfolding stage_read
-read_name f ns k b e = ap (λ (x : Kind). stage_read f ns (word x b)) e
+read_name f ns k b e = ap (λ (x : TokenKind). stage_read f ns (word x b)) e
 
-pub head_other : (h : Header) (n : List ℕ) (k : Kind) (b : List ℕ) → (k ≡ kinds.Define → ⊥) → head_read h n (word k b) ≡ None
+pub head_other : (h : Header) (n : List ℕ) (k : TokenKind) (b : List ℕ) → (k ≡ kinds.Define → ⊥) → head_read h n (word k b) ≡ None
 unfolding head_read
 head_other h n kinds.Define b d = absurd (d refl)
 head_other h n _ b d = refl
 
-pub head_define : (h : Header) (n : List ℕ) (k : Kind) (b : List ℕ) → k ≡ kinds.Define → head_read h n (word k b) ≡ Some (Within h [] n (record { mode = Need; entries = [] }))
+pub head_define : (h : Header) (n : List ℕ) (k : TokenKind) (b : List ℕ) → k ≡ kinds.Define → head_read h n (word k b) ≡ Some (Within h [] n (record { mode = Need; entries = [] }))
 unfolding head_read
-head_define h n k b e = ap (λ (x : Kind). head_read h n (word x b)) e
+head_define h n k b e = ap (λ (x : TokenKind). head_read h n (word x b)) e
 
 -- a state, by what the code waits for
 module _ (a : Made) (at : ℕ → ℕ) (fs : List Construct) (ds : List Root) (ss : List Start) where
@@ -321,13 +321,13 @@ pub fault_state : (b : Made) (at : ℕ → ℕ) (gs : List Construct) (es : List
 fault_state b at gs es ts e P o f (inl m) = subst (λ (x : StepFault). StateSteps b at gs es ts (Err x) o) (sym m) (state_memory b at gs es ts o)
 fault_state b at gs es ts e P o f (inr m) = subst (λ (x : StepFault). StateSteps b at gs es ts (Err x) o) (sym m.0) (to_state b at gs es ts (Err faults.Wrong) o None (f m.1) (state_wrong b at gs es ts))
 
-pub start_steps : (a b : Made) (at : ℕ → ℕ) (fs gs : List Construct) (ds es : List Root) (ss ts : List Start) (k : Kind) (n : List ℕ) (from : ℕ) (r : Result Phase StepFault) → OnOk r ((gs ≡ fs) × (es ≡ ds)) → IfOk r (λ p. (x : ℕ) × (p ≡ phases.StageRead) × (k ≡ kinds.Name) × IsName b x n × (ts ≡ ss ++ record { name = x; at = from } ∷ [])) → IfErr r (λ e. (e ≡ faults.Memory) ⊎ ((e ≡ faults.Wrong) × (k ≡ kinds.Name → ⊥))) → fs ≡ [] → ds ≡ [] → ss ≡ [] → from ≡ at 2 → StateSteps b at gs es ts r (name_then (λ m. StageRead m []) (word k n))
+pub start_steps : (a b : Made) (at : ℕ → ℕ) (fs gs : List Construct) (ds es : List Root) (ss ts : List Start) (k : TokenKind) (n : List ℕ) (from : ℕ) (r : Result Phase StepFault) → OnOk r ((gs ≡ fs) × (es ≡ ds)) → IfOk r (λ p. (x : ℕ) × (p ≡ phases.StageRead) × (k ≡ kinds.Name) × IsName b x n × (ts ≡ ss ++ record { name = x; at = from } ∷ [])) → IfErr r (λ e. (e ≡ faults.Memory) ⊎ ((e ≡ faults.Wrong) × (k ≡ kinds.Name → ⊥))) → fs ≡ [] → ds ≡ [] → ss ≡ [] → from ≡ at 2 → StateSteps b at gs es ts r (name_then (λ m. StageRead m []) (word k n))
 start_steps a b at fs gs ds es ss ts k n from (Ok p) rest h m z y x pl =
     to_state b at gs es ts (Ok p) (name_then (λ m. StageRead m []) (word k n)) (Some (StageRead n [])) (name_then_is (λ m. StageRead m []) k n h.2)
     (shown_state b at gs es ts p phases.StageRead (StageRead n []) h.1 (stage_one b at gs es ss ts n h.0 from (rest.0 ∙ z) (rest.1 ∙ y) x h.3 pl h.4))
 start_steps a b at fs gs ds es ss ts k n from (Err e) rest h m z y x pl = fault_state b at gs es ts e (k ≡ kinds.Name → ⊥) (name_then (λ m. StageRead m []) (word k n)) (name_then_other (λ m. StageRead m []) k n) m
 
-pub next_steps : (a b : Made) (at : ℕ → ℕ) (fs gs : List Construct) (ds es : List Root) (ss ts : List Start) (f : List ℕ) (ns : List (List ℕ)) (k : Kind) (n : List ℕ) (from : ℕ) (r : Result Phase StepFault) → OnOk r (Keeps a b) → OnOk r ((gs ≡ fs) × (es ≡ ds)) → IfOk r (λ p. (x : ℕ) × (p ≡ phases.StageRead) × (k ≡ kinds.Name) × IsName b x n × (ts ≡ ss ++ record { name = x; at = from } ∷ [])) → IfErr r (λ e. (e ≡ faults.Memory) ⊎ ((e ≡ faults.Wrong) × (k ≡ kinds.Name → ⊥))) → fs ≡ [] → ds ≡ [] → ShowsStages (f ∷ ns) a at ss 2 → from ≡ at (2 + 2 * length (f ∷ ns)) → StateSteps b at gs es ts r (name_then (λ m. StageRead f (ns ++ m ∷ [])) (word k n))
+pub next_steps : (a b : Made) (at : ℕ → ℕ) (fs gs : List Construct) (ds es : List Root) (ss ts : List Start) (f : List ℕ) (ns : List (List ℕ)) (k : TokenKind) (n : List ℕ) (from : ℕ) (r : Result Phase StepFault) → OnOk r (Keeps a b) → OnOk r ((gs ≡ fs) × (es ≡ ds)) → IfOk r (λ p. (x : ℕ) × (p ≡ phases.StageRead) × (k ≡ kinds.Name) × IsName b x n × (ts ≡ ss ++ record { name = x; at = from } ∷ [])) → IfErr r (λ e. (e ≡ faults.Memory) ⊎ ((e ≡ faults.Wrong) × (k ≡ kinds.Name → ⊥))) → fs ≡ [] → ds ≡ [] → ShowsStages (f ∷ ns) a at ss 2 → from ≡ at (2 + 2 * length (f ∷ ns)) → StateSteps b at gs es ts r (name_then (λ m. StageRead f (ns ++ m ∷ [])) (word k n))
 next_steps a b at fs gs ds es ss ts f ns k n from (Ok p) keep rest h m z y st pl =
     to_state b at gs es ts (Ok p) (name_then (λ m. StageRead f (ns ++ m ∷ [])) (word k n)) (Some (StageRead f (ns ++ n ∷ []))) (name_then_is (λ m. StageRead f (ns ++ m ∷ [])) k n h.2)
     (shown_state b at gs es ts p phases.StageRead (StageRead f (ns ++ n ∷ [])) h.1 (stage_on a b at fs gs ds es ss ts f ns n h.0 from keep (rest.0 ∙ z) (rest.1 ∙ y) st h.3 pl h.4))
@@ -457,7 +457,7 @@ unfolding finish_within
 finish_named h done name m f n es e = ap (λ (x : Mode). finish_within h done name x es) e ∙ ended_is h done name (take_term (with_pre (Once (Call n)) es))
 
 -- the waiting of modes in which a definition can't end
-pub finish_other : (a : Made) (at : ℕ → ℕ) (i : ℕ) (w : Wait) (m : Mode) (h : Header) (done : List Definition) (name : List ℕ) (es : List Entry) → (w ≡ waits.Ready → ⊥) → ((p : Rattle.kex_reader.specs.declared.stack.Part.Part) → w ≡ waits.After p → ⊥) → ((p : Rattle.kex_reader.specs.declared.stack.Part.Part) (b : Bounds) → w ≡ waits.Turned p b → ⊥) → ((f : Bool) (n : Named') → w ≡ waits.Named f n → ⊥) → ShowsMode a at i w m → finish_within h done name m es ≡ None
+pub finish_other : (a : Made) (at : ℕ → ℕ) (i : ℕ) (w : Wait) (m : Mode) (h : Header) (done : List Definition) (name : List ℕ) (es : List Entry) → (w ≡ waits.Ready → ⊥) → ((p : Rattle.kex_reader.specs.declared.stack.PlacedNode.Part) → w ≡ waits.After p → ⊥) → ((p : Rattle.kex_reader.specs.declared.stack.PlacedNode.Part) (b : Bounds) → w ≡ waits.Turned p b → ⊥) → ((f : Bool) (n : Named') → w ≡ waits.Named f n → ⊥) → ShowsMode a at i w m → finish_within h done name m es ≡ None
 unfolding ShowsMode finish_within
 finish_other a at i waits.Ready m h done name es n1 n2 n4 n3 k = absurd (n1 refl)
 finish_other a at i (waits.After p) m h done name es n1 n2 n4 n3 k = absurd (n2 p refl)

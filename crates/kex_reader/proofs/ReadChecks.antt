@@ -2,7 +2,7 @@
 use Rattle.std.proofs.Common.{◌≡◌, ℕ, suc, ◌+◌, ◌*◌, Bool, true, false, List, [], ◌∷◌, ◌++◌, length, Option, Some, None, refl, sym, ap, ◌∙◌, subst, append_assoc, length-append, arith}
 use Rattle.std.specs.Prelude.{bytes_eq, codes}
 use Rattle.std.proofs.lemmas.List.{append-nil}
-use Rattle.kex_reader.specs.Syntax.{Word, Name, Number, Literal, Regex, Define, Colon, Pipe, Bar, Tilde, At, Star, Plus, PlusEquals, Question, OpenBrace, Bang, OpenBracket, CloseBracket, Arrow, OpenParen, CloseParen, Postfix, ZeroOrMore, OneOrMore, Optional, Term, Last, Or, Seq, Only, Then, Pre, Mute, Into, Once, Turns, Atom, Call, Write, Part, Definition, Header, Program, start, postfix, term, seq, pre, atom, header, definitions}
+use Rattle.kex_reader.specs.Syntax.{Word, Name, Number, Literal, Regex, Define, Colon, Pipe, Bar, Tilde, At, Star, Plus, PlusEquals, Question, OpenBrace, Bang, OpenBracket, CloseBracket, Arrow, OpenParen, CloseParen, Postfix, ZeroOrMore, OneOrMore, Optional, Term, Last, Or, Seq, Only, Then, Pre, Mute, Into, Once, Turns, Atom, Call, Write, RegisterPart, Definition, Header, Program, start, postfix, term, seq, pre, atom, header, definitions}
 use Rattle.kex_reader.specs.Reading.{Entry, Mark, Ended, Done, Muted, Storing, CountStep, CountOn, CountRead, CountWrong, Mode, Need, Ready, After, Turned, Named, Writing, Bracket, BracketName, Assigning, Assigned, InCount, Inside, State, Begin, FirstName, StartLine, StageRead, StageNext, HeadRead, Within, before, with_pre, take_more, take_seq, take_branches, term_of, take_term, goes, on_bar, after_group, on_close, on_number, begin_pre, after_atom, after_turns, after_name, on_name, on_sign, first_part, next_part, count_step, on_count, step_in, lift, next_head, on_head, on_define, step_within, first_name, head_read, stage_read, name_then, step, program_of_whole, program_of_term, finish_within, finish, entries, entry}
 use Rattle.kex_reader.specs.Checks.{Check, Nested, Staged, postfix_checks, term_checks, seq_checks, pre_checks, atom_checks, definition_checks, stage_checks, header_checks, program_checks}
 use Rattle.kex_reader.specs.Stands.{depth, begin_asks, after_asks, turned_asks, named_asks, count_asks, asks}
@@ -220,7 +220,7 @@ module _ (at : ℕ → ℕ) (base : ℕ) where
   first_part_asked append r es (Name n) = nil_nil es
   first_part_asked append r es _ = tt
 
-  next_part_asked : (append : Bool) (r : List ℕ) (p : Part) (ps : List Part) (es : List Entry) (w : Word) → Asks ((entries_checks at base es ++ []) ++ []) (next_part append r p ps es w)
+  next_part_asked : (append : Bool) (r : List ℕ) (p : RegisterPart) (ps : List RegisterPart) (es : List Entry) (w : Word) → Asks ((entries_checks at base es ++ []) ++ []) (next_part append r p ps es w)
   unfolding next_part Asks inside_checks mode_checks atom_checks
   next_part_asked append r p ps es (Literal s) = nil_nil es
   next_part_asked append r p ps es (Name n) = nil_nil es

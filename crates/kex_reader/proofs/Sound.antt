@@ -3,7 +3,7 @@ use Rattle.std.proofs.Common.{◌≡◌, ℕ, Bool, true, false, cond, List, [],
 use Rattle.std.specs.Prelude.{bytes_eq, codes}
 use Rattle.std.proofs.lemmas.List.{append-nil}
 use Rattle.std.proofs.lemmas.Slice.Eq.{bytes_eq-Decides}
-use Rattle.kex_reader.specs.Syntax.{Word, Name, Number, Literal, Regex, Define, Colon, Pipe, Bar, Tilde, At, Star, Plus, PlusEquals, Question, OpenBrace, CloseBrace, Comma, Bang, OpenBracket, CloseBracket, Arrow, OpenParen, CloseParen, Part, Text, Held, Postfix, ZeroOrMore, OneOrMore, Optional, Exactly, AtLeast, AtMost, FromTo, Term, Last, Or, Seq, Only, Then, Pre, Mute, Into, Once, Turns, Atom, One, Call, Lit, Match, Write, Assign, Group, Definition, Header, Program, start, part, parts, sign, postfix, lazy_mark, term, seq, pre, atom, definitions, stages, header, program}
+use Rattle.kex_reader.specs.Syntax.{Word, Name, Number, Literal, Regex, Define, Colon, Pipe, Bar, Tilde, At, Star, Plus, PlusEquals, Question, OpenBrace, CloseBrace, Comma, Bang, OpenBracket, CloseBracket, Arrow, OpenParen, CloseParen, RegisterPart, Text, Held, Postfix, ZeroOrMore, OneOrMore, Optional, Exactly, AtLeast, AtMost, FromTo, Term, Last, Or, Seq, Only, Then, Pre, Mute, Into, Once, Turns, Atom, One, Call, Lit, Match, Write, Assign, Group, Definition, Header, Program, start, register_part, parts, sign, postfix, lazy_mark, term, seq, pre, atom, definitions, stages, header, program}
 use Rattle.kex_reader.specs.Reading.{Entry, Mark, Ended, Done, Muted, Storing, Counting, Opened, Low, LowComma, LowHigh, OnlyComma, High, Mode, Need, Ready, After, Turned, Named, Writing, Bracket, BracketName, Assigning, Assigned, InCount, Inside, State, Begin, FirstName, StartLine, StageRead, StageNext, HeadRead, Within, with_pre, take_more, take_seq, take_branches, term_of, take_term, goes, on_bar, after_group, on_close, on_number, begin_pre, after_atom, after_turns, next_head, on_head, after_name, on_name, on_sign, first_part, next_part, count_step, on_count, after_count, step_in, lift, on_define, step_within, first_name, head_read, stage_read, name_then, step, next, state_after, program_of_whole, program_of_term, finish_within, finish, entry, entries, counting, mode, inside, before, words_read}
 
 pub same_bytes : (a b : List ℕ) → bytes_eq a b ≡ true → a ≡ b
@@ -72,10 +72,10 @@ pub term_taken : (es : List Entry) → TermTaken es (take_term es)
 unfolding take_term
 term_taken es = term_of_taken es (take_seq es) (seq_taken es)
 
-pub parts-append : (a b : List Part) → parts (a ++ b) ≡ parts a ++ parts b
+pub parts-append : (a b : List RegisterPart) → parts (a ++ b) ≡ parts a ++ parts b
 unfolding parts
 parts-append [] b = refl
-parts-append (p ∷ a) b = ap (λ (w : List Word). part p ∷ w) (parts-append a b)
+parts-append (p ∷ a) b = ap (λ (w : List Word). register_part p ∷ w) (parts-append a b)
 
 pub stages-append : (a b : List (List ℕ)) → stages (a ++ b) ≡ stages a ++ stages b
 unfolding stages
@@ -183,15 +183,15 @@ sign_part r es PlusEquals = went (Assigning true r) es _ refl
 sign_part r es _ = tt
 
 pub first_part_goes : (append : Bool) (r : List ℕ) (es : List Entry) (t : Word) → GoesIn (entries es ++ OpenBracket ∷ Name r ∷ sign append ∷ t ∷ []) (first_part append r es t)
-unfolding first_part mode part parts GoesIn
+unfolding first_part mode register_part parts GoesIn
 first_part_goes append r es (Literal t) = went (Assigned append r (Text t) []) es _ refl
 first_part_goes append r es (Name n) = went (Assigned append r (Held n) []) es _ refl
 first_part_goes append r es _ = tt
 
-pub next_part_goes : (append : Bool) (r : List ℕ) (p : Part) (ps : List Part) (es : List Entry) (t : Word) → GoesIn (entries es ++ OpenBracket ∷ Name r ∷ sign append ∷ part p ∷ (parts ps ++ t ∷ [])) (next_part append r p ps es t)
-unfolding next_part mode atom part parts GoesIn
-next_part_goes append r p ps es (Literal t) = went (Assigned append r p (ps ++ Text t ∷ [])) es _ (ap (λ (w : List Word). entries es ++ OpenBracket ∷ Name r ∷ sign append ∷ part p ∷ w) (parts-append ps (Text t ∷ [])))
-next_part_goes append r p ps es (Name n) = went (Assigned append r p (ps ++ Held n ∷ [])) es _ (ap (λ (w : List Word). entries es ++ OpenBracket ∷ Name r ∷ sign append ∷ part p ∷ w) (parts-append ps (Held n ∷ [])))
+pub next_part_goes : (append : Bool) (r : List ℕ) (p : RegisterPart) (ps : List RegisterPart) (es : List Entry) (t : Word) → GoesIn (entries es ++ OpenBracket ∷ Name r ∷ sign append ∷ register_part p ∷ (parts ps ++ t ∷ [])) (next_part append r p ps es t)
+unfolding next_part mode atom register_part parts GoesIn
+next_part_goes append r p ps es (Literal t) = went (Assigned append r p (ps ++ Text t ∷ [])) es _ (ap (λ (w : List Word). entries es ++ OpenBracket ∷ Name r ∷ sign append ∷ register_part p ∷ w) (parts-append ps (Text t ∷ [])))
+next_part_goes append r p ps es (Name n) = went (Assigned append r p (ps ++ Held n ∷ [])) es _ (ap (λ (w : List Word). entries es ++ OpenBracket ∷ Name r ∷ sign append ∷ register_part p ∷ w) (parts-append ps (Held n ∷ [])))
 next_part_goes append r p ps es CloseBracket = went (After (Assign append r p ps)) es _ refl
 next_part_goes append r p ps es _ = tt
 

@@ -6,8 +6,8 @@ use Rattle.kex_reader.specs.declared.stack.Construct.{Construct}
 use Rattle.kex_reader.specs.declared.stack.Construct.TheVariants as constructs
 use Rattle.kex_reader.specs.declared.stack.Prefix.{Prefix}
 use Rattle.kex_reader.specs.declared.stack.Prefix.TheVariants as prefixes
-use Rattle.kex_reader.specs.declared.stack.Part.{Part as Shown}
-use Rattle.kex_reader.specs.declared.stack.Store.{Store}
+use Rattle.kex_reader.specs.declared.stack.PlacedNode.{PlacedNode as Shown}
+use Rattle.kex_reader.specs.declared.stack.PlacedRegister.{PlacedRegister}
 use Rattle.kex_reader.specs.Syntax.{Term, Last, Or, Seq, Only, Then, Pre, Mute, Into, seq, pre}
 use Rattle.kex_reader.specs.Reading.{Entry, Mark, Ended, Done, Muted, Storing, entries, entry, with_pre, take_more, take_seq, take_branches, term_of, take_term}
 use Rattle.kex_reader.specs.Shown.{Made, IsNode, ShowsTerm, ShowsSeq, ShowsPre}
@@ -121,7 +121,7 @@ put_more a b at base old new prefix part whole t e k n w s = go prefix s.rest (s
     go (prefixes.Store st) _ h n w sh same = absurd h
 
 -- no prefix on top
-pub no_prefix : (a : Made) (at : ℕ → ℕ) (base : ℕ) (fs : List Construct) (es : List Entry) (p : Pre) → ((x : ℕ) (gs : List Construct) → fs ≡ constructs.Muted x ∷ gs → ⊥) → ((x : Store) (gs : List Construct) → fs ≡ constructs.Storing x ∷ gs → ⊥) → ConstructsShow a at base fs es → with_pre p es ≡ Done p ∷ es
+pub no_prefix : (a : Made) (at : ℕ → ℕ) (base : ℕ) (fs : List Construct) (es : List Entry) (p : Pre) → ((x : ℕ) (gs : List Construct) → fs ≡ constructs.Muted x ∷ gs → ⊥) → ((x : PlacedRegister) (gs : List Construct) → fs ≡ constructs.Storing x ∷ gs → ⊥) → ConstructsShow a at base fs es → with_pre p es ≡ Done p ∷ es
 unfolding ConstructsShow with_pre
 no_prefix a at base fs [] p m n h = refl
 no_prefix a at base fs (Mark ∷ es) p m n h = refl
@@ -132,7 +132,7 @@ no_prefix a at base (constructs.Storing x ∷ fs) (Storing r ∷ es) p m n h = a
 no_prefix a at base _ (Muted ∷ es) p m n h = absurd h
 no_prefix a at base _ (Storing r ∷ es) p m n h = absurd h
 
-pub put_done : (a : Made) (at : ℕ → ℕ) (base : ℕ) (old fs gs : List Construct) (part : Shown) (t : List Entry) → fs ≡ old → ((x : ℕ) (gs : List Construct) → old ≡ constructs.Muted x ∷ gs → ⊥) → ((x : Store) (gs : List Construct) → old ≡ constructs.Storing x ∷ gs → ⊥) → gs ≡ constructs.Done part ∷ fs → PreSoFar a at base old part t → ConstructsShow a at base gs t
+pub put_done : (a : Made) (at : ℕ → ℕ) (base : ℕ) (old fs gs : List Construct) (part : Shown) (t : List Entry) → fs ≡ old → ((x : ℕ) (gs : List Construct) → old ≡ constructs.Muted x ∷ gs → ⊥) → ((x : PlacedRegister) (gs : List Construct) → old ≡ constructs.Storing x ∷ gs → ⊥) → gs ≡ constructs.Done part ∷ fs → PreSoFar a at base old part t → ConstructsShow a at base gs t
 unfolding ConstructsShow
 put_done a at base old fs gs part t same m n e s =
     let d = no_prefix a at base old s.rest s.tree m n s.below in

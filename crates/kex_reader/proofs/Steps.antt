@@ -1,16 +1,16 @@
 -- From a word's kind to the machine's step, and from what the code did to the state that it stands for.
 use Rattle.std.proofs.Common.{◌≡◌, ℕ, ◌+◌, ◌<◌, Bool, true, false, List, [], ◌∷◌, ◌++◌, length, Option, Some, None, Result, Ok, Err, refl, sym, ap, ◌∙◌, subst, arith, length-append}
 use Rattle.std.specs.Prelude.{bytes_eq, codes, if◌then◌else◌, IfOk, IfErr, OnOk, IsErrAnd}
-use Rattle.kex_tokens.specs.declared.token.Kind.{Kind}
-use Rattle.kex_tokens.specs.declared.token.Kind.TheVariants as kinds
+use Rattle.kex_tokens.specs.declared.token.TokenKind.{TokenKind}
+use Rattle.kex_tokens.specs.declared.token.TokenKind.TheVariants as kinds
 use Rattle.kex_tokens.specs.Values.{StandsFor}
 use Rattle.kex_model.specs.declared.program.Kind.TheVariants as nodes
 use Rattle.kex_regexp.specs.Grammar.{Regex as Body}
-use Rattle.kex_regexp.specs.Bodies.{Spells as BodySpells}
+use Rattle.kex_regexp.specs.Bodies.{SpellsRegex as BodySpells}
 use Rattle.kex_regexp.specs.Shown.{ShowsRegex}
 use Rattle.kex_reader.specs.declared.stack.Construct.{Construct}
 use Rattle.kex_reader.specs.declared.stack.Construct.TheVariants as constructs
-use Rattle.kex_reader.specs.declared.stack.Part.{Part as Shown}
+use Rattle.kex_reader.specs.declared.stack.PlacedNode.{PlacedNode as Shown}
 use Rattle.kex_regexp.specs.declared.counts.Count.TheVariants as counts
 use Rattle.kex_regexp.specs.declared.counts.Bounds.{Bounds}
 use Rattle.kex_regexp.specs.Holding.{HoldsBounds, ShowsCount}
@@ -118,10 +118,10 @@ match_shows made at n i a b e l h = (l, λ z. let r = h z in (r.0, r.1, subst (�
 -- ---- where a pre may begin
 
 module _ (free : Bool) (es : List Entry) (b : List ℕ) where
-  pub begin_kind : (k j : Kind) (o : Option Inside) → k ≡ j → begin_pre free es (word j b) ≡ o → begin_pre free es (word k b) ≡ o
-  begin_kind k j o e f = ap (λ (x : Kind). begin_pre free es (word x b)) e ∙ f
+  pub begin_kind : (k j : TokenKind) (o : Option Inside) → k ≡ j → begin_pre free es (word j b) ≡ o → begin_pre free es (word k b) ≡ o
+  begin_kind k j o e f = ap (λ (x : TokenKind). begin_pre free es (word x b)) e ∙ f
 
-  pub begin_other : (k : Kind) → (k ≡ kinds.Name → ⊥) → (k ≡ kinds.Number → ⊥) → (k ≡ kinds.Literal → ⊥) → (k ≡ kinds.Regex → ⊥) → (k ≡ kinds.Tilde → ⊥) → (k ≡ kinds.Bang → ⊥) → (k ≡ kinds.OpenBracket → ⊥) → (k ≡ kinds.OpenParen → ⊥) → (k ≡ kinds.Bar → ⊥) → (k ≡ kinds.CloseParen → ⊥) → begin_pre free es (word k b) ≡ None
+  pub begin_other : (k : TokenKind) → (k ≡ kinds.Name → ⊥) → (k ≡ kinds.Number → ⊥) → (k ≡ kinds.Literal → ⊥) → (k ≡ kinds.Regex → ⊥) → (k ≡ kinds.Tilde → ⊥) → (k ≡ kinds.Bang → ⊥) → (k ≡ kinds.OpenBracket → ⊥) → (k ≡ kinds.OpenParen → ⊥) → (k ≡ kinds.Bar → ⊥) → (k ≡ kinds.CloseParen → ⊥) → begin_pre free es (word k b) ≡ None
   unfolding begin_pre
   begin_other kinds.Name n1 n2 n3 n4 n5 n6 n7 n8 n9 n10 = absurd (n1 refl)
   begin_other kinds.Number n1 n2 n3 n4 n5 n6 n7 n8 n9 n10 = absurd (n2 refl)
@@ -242,10 +242,10 @@ unclosed a at base fs gs part (Some t) n h = unmarked a at base fs gs t.0 t.1 n 
 -- ---- behind an atom
 
 module _ (x : Atom) (es : List Entry) (b : List ℕ) where
-  pub after_kind : (k j : Kind) (o : Option Inside) → k ≡ j → after_atom x es (word j b) ≡ o → after_atom x es (word k b) ≡ o
-  after_kind k j o e f = ap (λ (y : Kind). after_atom x es (word y b)) e ∙ f
+  pub after_kind : (k j : TokenKind) (o : Option Inside) → k ≡ j → after_atom x es (word j b) ≡ o → after_atom x es (word k b) ≡ o
+  after_kind k j o e f = ap (λ (y : TokenKind). after_atom x es (word y b)) e ∙ f
 
-  pub after_other : (k : Kind) → (k ≡ kinds.Star → ⊥) → (k ≡ kinds.Plus → ⊥) → (k ≡ kinds.Question → ⊥) → (k ≡ kinds.OpenBrace → ⊥) → after_atom x es (word k b) ≡ begin_pre true (with_pre (Once x) es) (word k b)
+  pub after_other : (k : TokenKind) → (k ≡ kinds.Star → ⊥) → (k ≡ kinds.Plus → ⊥) → (k ≡ kinds.Question → ⊥) → (k ≡ kinds.OpenBrace → ⊥) → after_atom x es (word k b) ≡ begin_pre true (with_pre (Once x) es) (word k b)
   unfolding after_atom
   after_other kinds.Star n1 n2 n3 n4 = absurd (n1 refl)
   after_other kinds.Plus n1 n2 n3 n4 = absurd (n2 refl)
@@ -270,11 +270,11 @@ unfolding after_atom
 after_brace x es = refl
 
 module _ (a : Atom) (p : Postfix) (es : List Entry) (b : List ℕ) where
-  pub turned_lazy : (k : Kind) → k ≡ kinds.Question → after_turns a p es (word k b) ≡ goes Ready (with_pre (Turns a p true) es)
+  pub turned_lazy : (k : TokenKind) → k ≡ kinds.Question → after_turns a p es (word k b) ≡ goes Ready (with_pre (Turns a p true) es)
   unfolding after_turns
-  turned_lazy k e = ap (λ (x : Kind). after_turns a p es (word x b)) e
+  turned_lazy k e = ap (λ (x : TokenKind). after_turns a p es (word x b)) e
 
-  pub turned_other : (k : Kind) → (k ≡ kinds.Question → ⊥) → after_turns a p es (word k b) ≡ begin_pre true (with_pre (Turns a p false) es) (word k b)
+  pub turned_other : (k : TokenKind) → (k ≡ kinds.Question → ⊥) → after_turns a p es (word k b) ≡ begin_pre true (with_pre (Turns a p false) es) (word k b)
   unfolding after_turns
   turned_other kinds.Question n = absurd (n refl)
   turned_other _ n = refl
@@ -308,10 +308,10 @@ put_place at base a x es e =
 -- ---- behind a name
 
 module _ (n : List ℕ) (es : List Entry) (b : List ℕ) where
-  pub named_kind : (k j : Kind) (o : Option Inside) → k ≡ j → after_name n es (word j b) ≡ o → after_name n es (word k b) ≡ o
-  named_kind k j o e f = ap (λ (y : Kind). after_name n es (word y b)) e ∙ f
+  pub named_kind : (k j : TokenKind) (o : Option Inside) → k ≡ j → after_name n es (word j b) ≡ o → after_name n es (word k b) ≡ o
+  named_kind k j o e f = ap (λ (y : TokenKind). after_name n es (word y b)) e ∙ f
 
-  pub named_other : (k : Kind) → (k ≡ kinds.At → ⊥) → (k ≡ kinds.Define → ⊥) → after_name n es (word k b) ≡ after_atom (Call n) es (word k b)
+  pub named_other : (k : TokenKind) → (k ≡ kinds.At → ⊥) → (k ≡ kinds.Define → ⊥) → after_name n es (word k b) ≡ after_atom (Call n) es (word k b)
   unfolding after_name
   named_other kinds.At n1 n2 = absurd (n1 refl)
   named_other kinds.Define n1 n2 = absurd (n2 refl)
@@ -345,30 +345,30 @@ storing_pushed a at base fs gs es x k r e h p s = subst (λ (y : List Construct)
 
 -- ---- a name that has to come
 
-pub name_other : (f : List ℕ → Option Inside) (k : Kind) (b : List ℕ) → (k ≡ kinds.Name → ⊥) → on_name f (word k b) ≡ None
+pub name_other : (f : List ℕ → Option Inside) (k : TokenKind) (b : List ℕ) → (k ≡ kinds.Name → ⊥) → on_name f (word k b) ≡ None
 unfolding on_name
 name_other f kinds.Name b n = absurd (n refl)
 name_other f _ b n = refl
 
-pub name_is : (f : List ℕ → Option Inside) (k : Kind) (b : List ℕ) → k ≡ kinds.Name → on_name f (word k b) ≡ f b
+pub name_is : (f : List ℕ → Option Inside) (k : TokenKind) (b : List ℕ) → k ≡ kinds.Name → on_name f (word k b) ≡ f b
 unfolding on_name
-name_is f k b e = ap (λ (y : Kind). on_name f (word y b)) e
+name_is f k b e = ap (λ (y : TokenKind). on_name f (word y b)) e
 
 -- ---- signs
 
-pub sign_other : (r : List ℕ) (es : List Entry) (k : Kind) (b : List ℕ) → (k ≡ kinds.Arrow → ⊥) → (k ≡ kinds.PlusEquals → ⊥) → on_sign r es (word k b) ≡ None
+pub sign_other : (r : List ℕ) (es : List Entry) (k : TokenKind) (b : List ℕ) → (k ≡ kinds.Arrow → ⊥) → (k ≡ kinds.PlusEquals → ⊥) → on_sign r es (word k b) ≡ None
 unfolding on_sign
 sign_other r es kinds.Arrow b n m = absurd (n refl)
 sign_other r es kinds.PlusEquals b n m = absurd (m refl)
 sign_other r es _ b n m = refl
 
-pub sign_arrow : (r : List ℕ) (es : List Entry) (k : Kind) (b : List ℕ) → k ≡ kinds.Arrow → on_sign r es (word k b) ≡ goes (Assigning false r) es
+pub sign_arrow : (r : List ℕ) (es : List Entry) (k : TokenKind) (b : List ℕ) → k ≡ kinds.Arrow → on_sign r es (word k b) ≡ goes (Assigning false r) es
 unfolding on_sign
-sign_arrow r es k b e = ap (λ (y : Kind). on_sign r es (word y b)) e
+sign_arrow r es k b e = ap (λ (y : TokenKind). on_sign r es (word y b)) e
 
-pub sign_plus : (r : List ℕ) (es : List Entry) (k : Kind) (b : List ℕ) → k ≡ kinds.PlusEquals → on_sign r es (word k b) ≡ goes (Assigning true r) es
+pub sign_plus : (r : List ℕ) (es : List Entry) (k : TokenKind) (b : List ℕ) → k ≡ kinds.PlusEquals → on_sign r es (word k b) ≡ goes (Assigning true r) es
 unfolding on_sign
-sign_plus r es k b e = ap (λ (y : Kind). on_sign r es (word y b)) e
+sign_plus r es k b e = ap (λ (y : TokenKind). on_sign r es (word y b)) e
 
 -- ---- what a call answered
 

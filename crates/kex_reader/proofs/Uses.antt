@@ -24,7 +24,7 @@ use Rattle.kex_reader.specs.declared.reader.Reader.{Reader}
 use Rattle.kex_reader.specs.declared.stack.Construct.{Construct}
 use Rattle.kex_reader.specs.declared.stack.Prefix.{Prefix}
 use Rattle.kex_reader.specs.declared.stack.Prefix.TheVariants as prefixes
-use Rattle.kex_reader.specs.declared.stack.Part.{Part as Shown}
+use Rattle.kex_reader.specs.declared.stack.PlacedNode.{PlacedNode as Shown}
 use Rattle.kex_reader.specs.Reading.{State, Begin, StageRead}
 use Rattle.kex_reader.specs.Shown.{Made, assignment_kind}
 use Rattle.kex_reader.specs.Stands.{Keeps, Has, LosesNone, InConstruct, InConstructs, InPart, InPieces, InPiece, InWait, IsHeld, StepLosesNone, construct_of, prefixed_kind}

@@ -1,11 +1,11 @@
 -- What has been read can be completed; what was refused can't.
 use Rattle.std.proofs.Common.{◌≡◌, ℕ, false, List, [], ◌∷◌, ◌++◌, Option, Some, None, refl, sym, ap, ◌∙◌, subst, append_assoc}
 use Rattle.std.proofs.lemmas.List.{append-nil}
-use Rattle.kex_reader.specs.Syntax.{Word, Name, Number, Define, Colon, Pipe, Bar, Tilde, At, OpenBrace, CloseBrace, Comma, CloseBracket, Arrow, OpenParen, CloseParen, Held, Postfix, Exactly, AtLeast, AtMost, FromTo, Term, Last, Or, Seq, Only, Then, Pre, Mute, Into, Once, Turns, Atom, One, Call, Write, Assign, Group, Definition, Header, NoStart, Stages, Program, start, part, parts, sign, postfix, lazy_mark, term, seq, pre, atom, definitions, stages, header, program}
+use Rattle.kex_reader.specs.Syntax.{Word, Name, Number, Define, Colon, Pipe, Bar, Tilde, At, OpenBrace, CloseBrace, Comma, CloseBracket, Arrow, OpenParen, CloseParen, Held, Postfix, Exactly, AtLeast, AtMost, FromTo, Term, Last, Or, Seq, Only, Then, Pre, Mute, Into, Once, Turns, Atom, One, Call, Write, Assign, Group, Definition, Header, NoStart, Stages, Program, start, register_part, parts, sign, postfix, lazy_mark, term, seq, pre, atom, definitions, stages, header, program}
 use Rattle.kex_reader.specs.Reading.{Entry, Mark, Ended, Done, Muted, Storing, Counting, Opened, Low, LowComma, LowHigh, OnlyComma, High, Mode, Need, Ready, After, Turned, Named, Writing, Bracket, BracketName, Assigning, Assigned, InCount, State, Begin, FirstName, StartLine, StageRead, StageNext, HeadRead, Within, state_after, finish, entry, entries, counting, mode, inside, before, words_read}
 use Rattle.kex_reader.specs.Programs.{IsProgram, BeginsProgram}
 use Rattle.kex_reader.proofs.Sound.{Goes, reads_goes, finish_is, Finishes, definitions-append, stages-append}
-use Rattle.kex_reader.proofs.Complete.{Gives, program_reads, reads-append, reads_none}
+use Rattle.kex_reader.proofs.Complete.{Gives, program_reads, state_after-append, reads_none}
 
 pub record TermFor (w : List Word) : Type 0 where
   pub more : List Word
@@ -117,7 +117,7 @@ counted_pre a OnlyComma = turns_for a (AtMost []) (OpenBrace ∷ Comma ∷ []) (
 counted_pre a (High m) = turns_for a (AtMost m) (OpenBrace ∷ Comma ∷ Number m ∷ []) (CloseBrace ∷ []) refl
 
 pub mode_pre : (m : Mode) → PreFor (mode m)
-unfolding mode pre atom sign part parts
+unfolding mode pre atom sign register_part parts
 mode_pre Need = record { more = Number (49 ∷ []) ∷ []; tree = Once One; same = refl }
 mode_pre Ready = record { more = Number (49 ∷ []) ∷ []; tree = Once One; same = refl }
 mode_pre (After a) = record { more = []; tree = Once a; same = sym (append-nil (atom a)) }
@@ -206,7 +206,7 @@ program_gives w p e = subst (λ (v : List Word). (s : State) × (state_after (So
 pub unread_begins : (w : List Word) → state_after (Some Begin) w ≡ None → BeginsProgram w → ⊥
 unread_begins w e b =
     let a = program_gives (w ++ b.0) b.1.0 b.1.1 in
-    let n : state_after (Some Begin) (w ++ b.0) ≡ None = reads-append (Some Begin) w b.0 ∙ ap (λ (o : Option State). state_after o b.0) e ∙ reads_none b.0 in
+    let n : state_after (Some Begin) (w ++ b.0) ≡ None = state_after-append (Some Begin) w b.0 ∙ ap (λ (o : Option State). state_after o b.0) e ∙ reads_none b.0 in
     cc
 
 pub unfinished : (w : List Word) (s : State) → state_after (Some Begin) w ≡ Some s → finish s ≡ None → IsProgram w → ⊥

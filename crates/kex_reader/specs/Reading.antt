@@ -1,6 +1,6 @@
 -- The reader of programs as a machine over words: what has been read so far, and what one word more makes of it.
 use Rattle.std.specs.Prelude.{ℕ, Bool, true, false, List, [], ◌∷◌, ◌++◌, Option, Some, None, bytes_eq, codes, if◌then◌else◌}
-use Rattle.kex_reader.specs.Syntax.{Word, Name, Number, Literal, Regex, Define, Colon, Pipe, Bar, Tilde, At, Star, Plus, PlusEquals, Question, OpenBrace, CloseBrace, Comma, Bang, OpenBracket, CloseBracket, Arrow, OpenParen, CloseParen, Part, Text, Held, Postfix, ZeroOrMore, OneOrMore, Optional, Term, Last, Or, Seq, Only, Then, Pre, Mute, Into, Once, Turns, Atom, One, Call, Lit, Match, Write, Assign, Group, Definition, Header, NoStart, Stages, Program, start, part, parts, sign, signs, postfix, seq, pre, atom, definitions, stages, header}
+use Rattle.kex_reader.specs.Syntax.{Word, Name, Number, Literal, Regex, Define, Colon, Pipe, Bar, Tilde, At, Star, Plus, PlusEquals, Question, OpenBrace, CloseBrace, Comma, Bang, OpenBracket, CloseBracket, Arrow, OpenParen, CloseParen, RegisterPart, Text, Held, Postfix, ZeroOrMore, OneOrMore, Optional, Term, Last, Or, Seq, Only, Then, Pre, Mute, Into, Once, Turns, Atom, One, Call, Lit, Match, Write, Assign, Group, Definition, Header, NoStart, Stages, Program, start, register_part, parts, sign, signs, postfix, seq, pre, atom, definitions, stages, header}
 use Rattle.kex_regexp.specs.Postfixes.{CountSign, Digits, CommaSign, CloseSign, NoSign, count_by, counted}
 pub use Rattle.kex_regexp.specs.Postfixes.{Counting, Opened, Low, LowComma, LowHigh, OnlyComma, High, CountStep, CountOn, CountRead, CountWrong}
 
@@ -23,7 +23,7 @@ pub data Mode : Type 0 where
   Bracket : Mode
   BracketName : (register : List ℕ) → Mode
   Assigning : (append : Bool) → (register : List ℕ) → Mode
-  Assigned : (append : Bool) → (register : List ℕ) → (first : Part) → (others : List Part) → Mode
+  Assigned : (append : Bool) → (register : List ℕ) → (first : RegisterPart) → (others : List RegisterPart) → Mode
   InCount : (atom : Atom) → Counting → Mode
 
 -- inside a definition
@@ -154,7 +154,7 @@ first_part append r es (Literal s) = goes (Assigned append r (Text s) []) es
 first_part append r es (Name n) = goes (Assigned append r (Held n) []) es
 first_part append r es _ = None
 
-unfoldable pub next_part : Bool → List ℕ → Part → List Part → List Entry → Word → Option Inside
+unfoldable pub next_part : Bool → List ℕ → RegisterPart → List RegisterPart → List Entry → Word → Option Inside
 next_part append r p ps es (Literal s) = goes (Assigned append r p (ps ++ Text s ∷ [])) es
 next_part append r p ps es (Name n) = goes (Assigned append r p (ps ++ Held n ∷ [])) es
 next_part append r p ps es CloseBracket = goes (After (Assign append r p ps)) es
@@ -297,7 +297,7 @@ mode Writing = Bang ∷ []
 mode Bracket = OpenBracket ∷ []
 mode (BracketName r) = OpenBracket ∷ Name r ∷ []
 mode (Assigning append r) = OpenBracket ∷ Name r ∷ sign append ∷ []
-mode (Assigned append r p ps) = OpenBracket ∷ Name r ∷ sign append ∷ part p ∷ parts ps
+mode (Assigned append r p ps) = OpenBracket ∷ Name r ∷ sign append ∷ register_part p ∷ parts ps
 mode (InCount a c) = atom a ++ OpenBrace ∷ counting c
 
 unfoldable pub inside : Inside → List Word

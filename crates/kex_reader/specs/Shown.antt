@@ -9,11 +9,11 @@ use Rattle.kex_model.specs.declared.program.Definition.{Definition as Root}
 use Rattle.kex_model.specs.declared.program.Start.{Start}
 use Rattle.kex_tokens.specs.Values.{StandsFor}
 use Rattle.kex_regexp.specs.declared.breaks.Break.{Break}
-use Rattle.kex_regexp.specs.Bodies.{Spells}
+use Rattle.kex_regexp.specs.Bodies.{SpellsRegex}
 use Rattle.kex_regexp.specs.Grammar.{Regex as Body}
 use Rattle.kex_regexp.specs.Postfixes.{low, high}
 use Rattle.kex_regexp.specs.Shown.{ShowsRegex}
-use Rattle.kex_reader.specs.Syntax.{Part, Text, Held, Term, Last, Or, Seq, Only, Then, Pre, Mute, Into, Once, Turns, Atom, One, Call, Lit, Match, Write, Assign, Group, Definition, term, seq, pre}
+use Rattle.kex_reader.specs.Syntax.{RegisterPart, Text, Held, Term, Last, Or, Seq, Only, Then, Pre, Mute, Into, Once, Turns, Atom, One, Call, Lit, Match, Write, Assign, Group, Definition, term, seq, pre}
 
 -- what is made of a text: nodes, names and registers by their numbers, and the least limit that was broken
 pub record Made : Type 0 where
@@ -32,12 +32,12 @@ IsName made k name = slice_get made.names k ≡ Some name
 abbrev pub IsRegister : Made → ℕ → List ℕ → Type 0
 IsRegister made k register = slice_get made.registers k ≡ Some register
 
-unfoldable pub ShowsPart : Part → Made → Piece → Type 0
+unfoldable pub ShowsPart : RegisterPart → Made → Piece → Type 0
 ShowsPart (Text s) made (pieces.Lit bytes) = StandsFor s bytes
 ShowsPart (Held r) made (pieces.Register k) = IsRegister made k r
 ShowsPart _ made _ = ⊥
 
-unfoldable pub ShowsParts : List Part → Made → List Piece → Type 0
+unfoldable pub ShowsParts : List RegisterPart → Made → List Piece → Type 0
 ShowsParts [] made [] = Unit {0}
 ShowsParts (p ∷ ps) made (q ∷ qs) = ShowsPart p made q × ShowsParts ps made qs
 ShowsParts _ made _ = ⊥
@@ -67,7 +67,7 @@ unfoldable mutual
   ShowsAtom One made at n i = IsNode made n kinds.One (at i)
   ShowsAtom (Call name) made at n i = (k : ℕ) × IsNode made n (kinds.Call k) (at i) × IsName made k name
   ShowsAtom (Lit s) made at n i = (bytes : List ℕ) × IsNode made n (kinds.Lit bytes) (at i) × StandsFor s bytes
-  ShowsAtom (Match b) made at n i = (n < length made.nodes) × (made.broken ≡ None → (r : Body) × Spells r b × ShowsRegex r made.nodes n (at i + 1))
+  ShowsAtom (Match b) made at n i = (n < length made.nodes) × (made.broken ≡ None → (r : Body) × SpellsRegex r b × ShowsRegex r made.nodes n (at i + 1))
   ShowsAtom (Write r) made at n i = (k : ℕ) × IsNode made n (kinds.Write k) (at i) × IsRegister made k r
   ShowsAtom (Assign append r p ps) made at n i = (k : ℕ) × (qs : List Piece) × IsNode made n (assignment_kind append k qs) (at i) × IsRegister made k r × ShowsParts (p ∷ ps) made qs
   -- a group is its content

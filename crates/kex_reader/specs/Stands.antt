@@ -6,13 +6,13 @@ use Rattle.kex_model.specs.declared.program.Node.{Node}
 use Rattle.kex_code.specs.Codes.{IsAmong}
 use Rattle.kex_code.specs.declared.piece.Piece.{Piece}
 use Rattle.kex_code.specs.declared.piece.Piece.TheVariants as piece_kinds
-use Rattle.kex_tokens.specs.Values.{number_of}
+use Rattle.kex_tokens.specs.Values.{decimal_value}
 use Rattle.kex_regexp.specs.declared.breaks.Break.{Break}
 use Rattle.kex_reader.specs.declared.stack.Construct.{Construct}
 use Rattle.kex_reader.specs.declared.stack.Construct.TheVariants as constructs
 use Rattle.kex_reader.specs.declared.stack.Prefix.{Prefix}
 use Rattle.kex_reader.specs.declared.stack.Prefix.TheVariants as prefixes
-use Rattle.kex_reader.specs.declared.stack.Part.{Part as Shown}
+use Rattle.kex_reader.specs.declared.stack.PlacedNode.{PlacedNode as Shown}
 use Rattle.kex_regexp.specs.declared.counts.Bounds.{Bounds}
 use Rattle.kex_regexp.specs.Holding.{HoldsBounds, ShowsCount, capped_count}
 use Rattle.kex_regexp.specs.Postfixes.{Postfix, is_bad_count}
@@ -22,10 +22,10 @@ use Rattle.kex_reader.specs.declared.inside.Wait.{Wait}
 use Rattle.kex_reader.specs.declared.inside.Wait.TheVariants as waits
 use Rattle.kex_reader.specs.declared.inside.StepFault.{StepFault}
 use Rattle.kex_reader.specs.declared.inside.StepFault.TheVariants as faults
-use Rattle.kex_reader.specs.Syntax.{Word, word, Name, Literal, Text, Held, Tilde, At, Star, Plus, Question, OpenBrace, OpenParen, Regex, Define, Part, Term, Seq, Pre, Atom, Once, Turns, Call, atom, postfix}
+use Rattle.kex_reader.specs.Syntax.{Word, word, Name, Literal, Text, Held, Tilde, At, Star, Plus, Question, OpenBrace, OpenParen, Regex, Define, RegisterPart, Term, Seq, Pre, Atom, Once, Turns, Call, atom, postfix}
 use Rattle.kex_reader.specs.Reading.{Entry, Mark, Ended, Done, Muted, Storing, CountStep, CountOn, CountRead, CountWrong, Mode, Need, Ready, After, Turned, Named, Writing, Bracket, BracketName, Assigning, Assigned, InCount, Inside, inside, first_part, next_part, with_pre, entries, count_step}
 use Rattle.kex_reader.specs.Checks.{Check, Nested, Matched, SomeBreaks, IsLeastBreak, postfix_checks}
-use Rattle.kex_reader.specs.Uses.{Numbered, NodeNumber, RegisterNumber, IsBelow, InNodes}
+use Rattle.kex_reader.specs.Uses.{Numbered, NodeNumber, RegisterNumber, IsNumberBelow, InNodes}
 use Rattle.kex_reader.specs.Shown.{Made, IsRegister, ShowsTerm, ShowsSeq, ShowsPre, ShowsAtom, ShowsPart, ShowsParts}
 
 -- what was made stays: nodes, names and registers keep their numbers, and what is broken stays broken
@@ -124,12 +124,12 @@ IsLeaf _ = Unit {0}
 -- ---- parts
 
 -- the part of an assignment that a word is, if it is one
-abbrev pub part_of : Word → Option Part
+abbrev pub part_of : Word → Option RegisterPart
 part_of (Literal s) = Some (Text s)
 part_of (Name r) = Some (Held r)
 part_of _ = None
 
-abbrev pub PieceShows : Option Part → Made → Option Piece → Type 0
+abbrev pub PieceShows : Option RegisterPart → Made → Option Piece → Type 0
 PieceShows None made None = Unit {0}
 PieceShows (Some p) made (Some q) = ShowsPart p made q
 PieceShows _ made _ = ⊥
@@ -138,7 +138,7 @@ PieceShows _ made _ = ⊥
 
 -- a number above 1,000 is held as 1,001
 abbrev pub HoldsNumber : ℕ → List ℕ → Type 0
-HoldsNumber v digits = v ≡ capped_count (number_of digits)
+HoldsNumber v digits = v ≡ capped_count (decimal_value digits)
 
 -- such a count has been noted where it is bad
 abbrev pub HoldsTurns : Made → Bounds → Postfix → Type 0
@@ -234,7 +234,7 @@ asks at i _ es w = []
 -- ---- what is held: it stands in no node yet
 
 abbrev pub Has : Made → Numbered → Type 0
-Has made x = IsBelow (length made.nodes) (length made.names) (length made.registers) x
+Has made x = IsNumberBelow (length made.nodes) (length made.names) (length made.registers) x
 
 -- none is lost: what was held before, and what is new, stands in a node now or is held after
 pub record NoneLost (old new : Made) (From To : Numbered → Type 0) : Type 0 where
@@ -334,4 +334,4 @@ FirstPart old new x result w = (at : ℕ → ℕ) (base : ℕ) (fs : List Constr
 
 -- a word behind a part of an assignment
 abbrev pub NextPart : Made → Made → Assignment → Result Wait StepFault → Word → Type 0
-NextPart old new x result w = (at : ℕ → ℕ) (base : ℕ) (fs : List Construct) (es : List Entry) (append : Bool) (r : List ℕ) (p : Part) (ps : List Part) → WhereHalfRead old at base fs es (waits.Assigned x) (Assigned append r p ps) (Steps new at base fs result (next_part append r p ps es w))
+NextPart old new x result w = (at : ℕ → ℕ) (base : ℕ) (fs : List Construct) (es : List Entry) (append : Bool) (r : List ℕ) (p : RegisterPart) (ps : List RegisterPart) → WhereHalfRead old at base fs es (waits.Assigned x) (Assigned append r p ps) (Steps new at base fs result (next_part append r p ps es w))

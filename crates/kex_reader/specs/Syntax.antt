@@ -1,7 +1,7 @@
 -- The words of a program, and the grammar of programs: its trees, each with the words that spell it.
 use Rattle.std.specs.Prelude.{ℕ, ◌-◌, Bool, true, false, List, [], ◌∷◌, ◌++◌, drop, take, length, codes}
-use Rattle.kex_tokens.specs.declared.token.Kind.{Kind}
-use Rattle.kex_tokens.specs.declared.token.Kind.TheVariants as kinds
+use Rattle.kex_tokens.specs.declared.token.TokenKind.{TokenKind}
+use Rattle.kex_tokens.specs.declared.token.TokenKind.TheVariants as kinds
 use Rattle.kex_regexp.specs.Postfixes.{Signs, spelled, lazy_sign}
 pub use Rattle.kex_regexp.specs.Postfixes.{Postfix, ZeroOrMore, OneOrMore, Optional, Exactly, AtLeast, AtMost, FromTo}
 
@@ -36,7 +36,7 @@ abbrev pub between : List ℕ → List ℕ
 between spelling = take (length spelling - 2) (drop 1 spelling)
 
 -- the word of a token of this kind, which is spelled so
-abbrev pub word : Kind → List ℕ → Word
+abbrev pub word : TokenKind → List ℕ → Word
 word kinds.Name bytes = Name bytes
 word kinds.Number bytes = Number bytes
 word kinds.Literal bytes = Literal bytes
@@ -61,9 +61,9 @@ word kinds.Arrow bytes = Arrow
 word kinds.OpenParen bytes = OpenParen
 word kinds.CloseParen bytes = CloseParen
 
-pub data Part : Type 0 where
-  Text : (spelling : List ℕ) → Part
-  Held : (register : List ℕ) → Part
+pub data RegisterPart : Type 0 where
+  Text : (spelling : List ℕ) → RegisterPart
+  Held : (register : List ℕ) → RegisterPart
 
 mutual
   -- term = seq { "|" seq }
@@ -90,7 +90,7 @@ mutual
     Lit : (spelling : List ℕ) → Atom
     Match : (body : List ℕ) → Atom
     Write : (register : List ℕ) → Atom
-    Assign : (append : Bool) → (register : List ℕ) → (first : Part) → (parts : List Part) → Atom
+    Assign : (append : Bool) → (register : List ℕ) → (first : RegisterPart) → (parts : List RegisterPart) → Atom
     Group : (term : Term) → Atom
 
 -- NAME ":=" term
@@ -112,13 +112,13 @@ pub record Program : Type 0 where
 abbrev pub start : List ℕ
 start = codes "start"
 
-unfoldable pub part : Part → Word
-part (Text s) = Literal s
-part (Held r) = Name r
+unfoldable pub register_part : RegisterPart → Word
+register_part (Text s) = Literal s
+register_part (Held r) = Name r
 
-unfoldable pub parts : List Part → List Word
+unfoldable pub parts : List RegisterPart → List Word
 parts [] = []
-parts (p ∷ ps) = part p ∷ parts ps
+parts (p ∷ ps) = register_part p ∷ parts ps
 
 unfoldable pub sign : Bool → Word
 sign false = Arrow
@@ -155,7 +155,7 @@ unfoldable mutual
   atom (Lit s) = Literal s ∷ []
   atom (Match b) = Regex b ∷ []
   atom (Write r) = Bang ∷ Name r ∷ []
-  atom (Assign append r p ps) = OpenBracket ∷ Name r ∷ sign append ∷ part p ∷ (parts ps ++ CloseBracket ∷ [])
+  atom (Assign append r p ps) = OpenBracket ∷ Name r ∷ sign append ∷ register_part p ∷ (parts ps ++ CloseBracket ∷ [])
   atom (Group t) = OpenParen ∷ (term t ++ CloseParen ∷ [])
 
 unfoldable pub definitions : List Definition → List Word

@@ -17,10 +17,10 @@ pub data Numbered : Type 0 where
   RegisterNumber : (n : ℕ) → Numbered
 
 -- the number is below the count of its sort
-abbrev pub IsBelow : (nodes names registers : ℕ) → Numbered → Type 0
-IsBelow nodes names registers (NodeNumber n) = n < nodes
-IsBelow nodes names registers (NameNumber n) = n < names
-IsBelow nodes names registers (RegisterNumber n) = n < registers
+abbrev pub IsNumberBelow : (nodes names registers : ℕ) → Numbered → Type 0
+IsNumberBelow nodes names registers (NodeNumber n) = n < nodes
+IsNumberBelow nodes names registers (NameNumber n) = n < names
+IsNumberBelow nodes names registers (RegisterNumber n) = n < registers
 
 -- a node of this kind has register r
 abbrev pub HasRegister : Kind → ℕ → Type 0
@@ -54,4 +54,4 @@ InStages ss x = (s : Start) × IsAmong ss s × (x ≡ NameNumber s.name)
 
 -- no node, name or register is spare: each stands in a node, in a definition or in a stage
 abbrev pub NoneSpare : Grammar → Type 0
-NoneSpare P = (x : Numbered) → IsBelow (length P.nodes) (length P.names) P.registers x → InNodes P.nodes x ⊎ (InDefinitions P.definitions x ⊎ InStages P.stages x)
+NoneSpare P = (x : Numbered) → IsNumberBelow (length P.nodes) (length P.names) P.registers x → InNodes P.nodes x ⊎ (InDefinitions P.definitions x ⊎ InStages P.stages x)

@@ -3,7 +3,7 @@
 ghost use Rattle.std.specs.Prelude.{◌≡◌, ℕ, ◌+◌, ◌<◌, ◌^◌, ◌++◌, ◌∷◌, [], List, length, None, Some, IfOk, IfSome, IfNone, OnOk};
 ghost use Rattle.kex_code.specs.Codes.{Different, IsAmong};
 ghost use Rattle.kex_model.specs.Programs.{Grammar, HasBelow, HasNames, IsInRange};
-ghost use Rattle.kex_regexp.specs.Bodies.{Spells, fault_of};
+ghost use Rattle.kex_regexp.specs.Bodies.{SpellsRegex, fault_of};
 ghost use Rattle.kex_regexp.specs.Grammar.{Regex};
 ghost use Rattle.kex_regexp.specs.Notes.{lesser_of};
 ghost use Rattle.kex_regexp.specs.Shown.{ShowsRegex};
@@ -137,7 +137,7 @@ impl<'t> Draft<'t> {
         ensures keeps { OnOk result (Keeps self.old self.new) }
         ensures within { IfOk result (λ n. n < length self.new.nodes) }
         ensures held { IfOk result (λ n. LosesNone self.old self.new (λ x. ⊥) (λ x. x ≡ NodeNumber n)) }
-        ensures shows { IfOk result (λ n. self.new.broken ≡ None → (r : Regex) × Spells r body.now × ShowsRegex r self.new.nodes n at) }
+        ensures shows { IfOk result (λ n. self.new.broken ≡ None → (r : Regex) × SpellsRegex r body.now × ShowsRegex r self.new.nodes n at) }
         ensures notes { OnOk result ((cs : List Check) → NotesLeast cs self.old.broken → NotesLeast (cs ++ Matched at depth body.now ∷ []) self.new.broken) }
     {
         one_tree();

@@ -2,7 +2,7 @@
 
 ghost use Rattle.std.specs.Prelude.{◌≡◌, ℕ, ◌+◌, ◌<◌, ◌≤◌, ◌^◌, ◌++◌, ◌∷◌, ◌⊎◌, [], Bool, false, true, List, Some, None, length, IfOk, IfErr, OnOk};
 ghost use Rattle.kex_model.specs.Programs.{HasNames};
-ghost use Rattle.kex_regexp.specs.Bodies.{Spells as BodySpells};
+ghost use Rattle.kex_regexp.specs.Bodies.{SpellsRegex as BodySpells};
 ghost use Rattle.kex_regexp.specs.Grammar.{Regex};
 ghost use Rattle.kex_regexp.specs.Holding.{HoldsBounds, ShowsCountStep};
 ghost use Rattle.kex_regexp.specs.Shown.{ShowsRegex};
@@ -15,12 +15,12 @@ ghost use Rattle.kex_reader.specs.Shown.{Made, IsName, IsNode, IsRegister, Shows
 ghost use Rattle.kex_reader.specs.Stands.{Behind, BehindAny, FirstPart, ConstructsShow, InConstructs, HoldsTurns, InPlace, InWait, IsBehindAtom, IsBehindTurns, IsHeld, IsLeaf, Keeps, LosesNone, NextPart, NotesLeast, NotesMore};
 ghost use Rattle.kex_reader.specs.Stands.{OnAtom, OnTurned, ShowsMode, SomeAtom, SomeConstructs, SomeInside, SomeName, SomeTurned, StepLosesNone, Steps, after_asks, asks, begin_asks, count_asks, named_asks, open_constructs, turned_asks, word_of};
 ghost use Rattle.kex_reader.specs.Uses.{InKind, NodeNumber, Numbered, RegisterNumber};
-ghost use Rattle.kex_reader.specs.Syntax.{Atom, Part as SpecPart, Postfix, Turns, Write as SpecWrite, atom, between, postfix, word as grammar_word};
+ghost use Rattle.kex_reader.specs.Syntax.{Atom, RegisterPart as SpecPart, Postfix, Turns, Write as SpecWrite, atom, between, postfix, word as grammar_word};
 
 use crate::counts::{count_step, held_number};
 use crate::draft::Draft;
 use crate::pieces::{Assignment, piece};
-use crate::stack::{Construct, Part, Stack, Store};
+use crate::stack::{Construct, PlacedNode, PlacedRegister, Stack};
 use crate::terms::{close_seq, close_term, put};
 use crate::word::{Name, Word};
 use kex_code::memory::Memory;
@@ -29,7 +29,7 @@ use kex_model::program::Kind as NodeKind;
 use kex_regexp::breaks::Break;
 use kex_regexp::counts::{Bounds, Count, CountOutcome};
 use kex_tokens::literal_bytes;
-use kex_tokens::token::Kind;
+use kex_tokens::token::TokenKind;
 use std::alloc::{AllocError, AllocFailed, Global};
 
 /// How deep parentheses and prefixes may nest.
@@ -41,15 +41,15 @@ const DEEPEST: usize = 200;
 pub(crate) enum Wait<'t> {
     Need,
     Ready,
-    After(Part),
-    Turned(Part, Bounds),
+    After(PlacedNode),
+    Turned(PlacedNode, Bounds),
     Named(bool, Name<'t>),
     Writing(u32),
     Bracket(u32),
     BracketName(u32, u32),
     Assigning(Assignment),
     Assigned(Assignment),
-    InCount(Part, Count, u32),
+    InCount(PlacedNode, Count, u32),
 }
 
 /// Why there is no next step.
@@ -100,12 +100,12 @@ fn leaf<'t>(draft: &mut Draft<'t>, kind: NodeKind, at: u32) -> Result<Wait<'t>, 
     ensures fault { IfErr result (λ e. e ≡ StepFault.Memory) }
 {
     let node = draft.add(kind, at)?;
-    Ok(Wait::After(Part { node, at }))
+    Ok(Wait::After(PlacedNode { node, at }))
 }
 
 // A literal.
 fn literal<'t>(alloc: Global, draft: &mut Draft<'t>, word: Word<'t>) -> Result<Wait<'t>, StepFault>
-    requires { IsToken Kind.Literal word.spelling.now }
+    requires { IsToken TokenKind.Literal word.spelling.now }
     ensures held { (fs : List Construct) → StepLosesNone draft.old draft.new fs Wait.Need fs result }
     ensures keeps { OnOk result (Keeps draft.old draft.new) }
     ensures broken { OnOk result (draft.new.broken ≡ draft.old.broken) }
@@ -118,7 +118,7 @@ fn literal<'t>(alloc: Global, draft: &mut Draft<'t>, word: Word<'t>) -> Result<W
 
 // What stands between the slashes.
 fn between_slashes(spelling: &[u8]) -> &[u8]
-    requires { IsToken Kind.Regex spelling.now }
+    requires { IsToken TokenKind.Regex spelling.now }
     ensures bytes { result.now ≡ between spelling.now }
     ensures short { length result.now + 2 ≤ length spelling.now }
 {
@@ -134,7 +134,7 @@ fn body<'t>(
     draft: &mut Draft<'t>,
     word: Word<'t>,
 ) -> Result<Wait<'t>, StepFault>
-    requires token { IsToken Kind.Regex word.spelling.now }
+    requires token { IsToken TokenKind.Regex word.spelling.now }
     requires place { word.at + length word.spelling.now < 2 ^ 32 }
     ensures held { (fs : List Construct) → StepLosesNone draft.old draft.new fs Wait.Need fs result }
     ensures keeps { OnOk result (Keeps draft.old draft.new) }
@@ -144,7 +144,7 @@ fn body<'t>(
 {
     let bytes = between_slashes(word.spelling);
     let node = draft.body(alloc, bytes, word.at + 1, depth)?;
-    Ok(Wait::After(Part { node, at: word.at }))
+    Ok(Wait::After(PlacedNode { node, at: word.at }))
 }
 
 // Notes the limit where something opens that nests too deep.
@@ -209,7 +209,7 @@ fn close<'t>(stack: &mut Stack, draft: &mut Draft<'t>) -> Result<Wait<'t>, StepF
     let Some(at) = stack.take_mark() else {
         return Err(StepFault::Wrong);
     };
-    Ok(Wait::After(Part {
+    Ok(Wait::After(PlacedNode {
         node: term.node,
         at,
     }))
@@ -232,34 +232,34 @@ fn begin<'t>(
     ensures notes { Behind draft.old stack.old word.entry.at (λ at base es. NotesMore draft.old.broken draft.new.broken result (begin_asks at (base + length (entries es)) es (word_of word.entry))) }
 {
     match word.kind {
-        Kind::Name => Ok(Wait::Named(
+        TokenKind::Name => Ok(Wait::Named(
             free,
             Name {
                 bytes: word.spelling,
                 at: word.at,
             },
         )),
-        Kind::Number => {
+        TokenKind::Number => {
             if word.spelling == b"1".as_slice() {
                 leaf(draft, NodeKind::One, word.at)
             } else {
                 Err(StepFault::Wrong)
             }
         }
-        Kind::Literal => literal(alloc, draft, word),
-        Kind::Regex => body(alloc, stack.depth(), draft, word),
-        Kind::Tilde => open(stack, draft, Construct::Muted(word.at), word.at),
-        Kind::Bang => Ok(Wait::Writing(word.at)),
-        Kind::OpenBracket => Ok(Wait::Bracket(word.at)),
-        Kind::OpenParen => open(stack, draft, Construct::Mark(word.at), word.at),
-        Kind::Bar => {
+        TokenKind::Literal => literal(alloc, draft, word),
+        TokenKind::Regex => body(alloc, stack.depth(), draft, word),
+        TokenKind::Tilde => open(stack, draft, Construct::Muted(word.at), word.at),
+        TokenKind::Bang => Ok(Wait::Writing(word.at)),
+        TokenKind::OpenBracket => Ok(Wait::Bracket(word.at)),
+        TokenKind::OpenParen => open(stack, draft, Construct::Mark(word.at), word.at),
+        TokenKind::Bar => {
             if free {
                 bar(stack, draft)
             } else {
                 Err(StepFault::Wrong)
             }
         }
-        Kind::CloseParen => {
+        TokenKind::CloseParen => {
             if free {
                 close(stack, draft)
             } else {
@@ -274,7 +274,7 @@ fn begin<'t>(
 pub(crate) fn end_turns(
     stack: &mut Stack,
     draft: &mut Draft,
-    item: Part,
+    item: PlacedNode,
     bounds: Bounds,
     lazy: bool,
 ) -> Result<(), Memory>
@@ -297,12 +297,12 @@ pub(crate) fn end_turns(
         },
         item.at,
     )?;
-    put(stack, draft, Part { node, at: item.at })?;
+    put(stack, draft, PlacedNode { node, at: item.at })?;
     Ok(())
 }
 
 // An atom that takes so many turns, from `low` on, up to `high`.
-fn turned<'t>(item: Part, low: u32, high: Option<u32>) -> Wait<'t>
+fn turned<'t>(item: PlacedNode, low: u32, high: Option<u32>) -> Wait<'t>
     ensures { result ≡ Wait.Turned item (record { low = low; high = high }) }
 {
     Wait::Turned(item, Bounds { low, high })
@@ -313,7 +313,7 @@ fn word_after_atom<'t>(
     alloc: Global,
     stack: &mut Stack,
     draft: &mut Draft<'t>,
-    item: Part,
+    item: PlacedNode,
     word: Word<'t>,
 ) -> Result<Wait<'t>, StepFault>
     requires atom { SomeAtom draft.old stack.old item }
@@ -325,10 +325,10 @@ fn word_after_atom<'t>(
     ensures notes { OnAtom draft.old stack.old item (λ at base es a. IsBehindAtom at base es a word.entry.at → NotesMore draft.old.broken draft.new.broken result (after_asks at (base + length (entries es) + length (atom a)) a es (word_of word.entry))) }
 {
     match word.kind {
-        Kind::Star => Ok(turned(item, 0, None)),
-        Kind::Plus => Ok(turned(item, 1, None)),
-        Kind::Question => Ok(turned(item, 0, Some(1))),
-        Kind::OpenBrace => Ok(Wait::InCount(item, Count::Opened, word.at)),
+        TokenKind::Star => Ok(turned(item, 0, None)),
+        TokenKind::Plus => Ok(turned(item, 1, None)),
+        TokenKind::Question => Ok(turned(item, 0, Some(1))),
+        TokenKind::OpenBrace => Ok(Wait::InCount(item, Count::Opened, word.at)),
         _ => {
             put(stack, draft, item)?;
             begin(alloc, stack, draft, true, word)
@@ -341,7 +341,7 @@ fn word_after_turns<'t>(
     alloc: Global,
     stack: &mut Stack,
     draft: &mut Draft<'t>,
-    item: Part,
+    item: PlacedNode,
     bounds: Bounds,
     word: Word<'t>,
 ) -> Result<Wait<'t>, StepFault>
@@ -354,7 +354,7 @@ fn word_after_turns<'t>(
     ensures notes { OnTurned draft.old stack.old item bounds (λ at base es a p. IsBehindTurns at base es a p word.entry.at → NotesMore draft.old.broken draft.new.broken result (turned_asks at (base + length (entries es) + length (atom a ++ postfix p)) a p es (word_of word.entry))) }
 {
     match word.kind {
-        Kind::Question => {
+        TokenKind::Question => {
             end_turns(stack, draft, item, bounds, true)?;
             Ok(Wait::Ready)
         }
@@ -382,15 +382,15 @@ fn word_after_name<'t>(
     ensures notes { Behind draft.old stack.old name.entry.at (λ at base es. word.entry.at ≡ at (base + length (entries es) + 1) → NotesMore draft.old.broken draft.new.broken result (named_asks at (base + length (entries es)) name.entry.bytes.now es (word_of word.entry))) }
 {
     match word.kind {
-        Kind::At => {
+        TokenKind::At => {
             let register = draft.register(name.bytes)?;
-            let store = Store {
+            let store = PlacedRegister {
                 register,
                 at: name.at,
             };
             open(stack, draft, Construct::Storing(store), name.at)
         }
-        Kind::Define => Err(StepFault::Wrong),
+        TokenKind::Define => Err(StepFault::Wrong),
         _ => {
             let item = call(draft, name)?;
             word_after_atom(alloc, stack, draft, item, word)
@@ -399,7 +399,7 @@ fn word_after_name<'t>(
 }
 
 // A call of a name.
-pub(crate) fn call<'t>(draft: &mut Draft<'t>, name: Name<'t>) -> Result<Part, Memory>
+pub(crate) fn call<'t>(draft: &mut Draft<'t>, name: Name<'t>) -> Result<PlacedNode, Memory>
     ensures held { IfOk result (λ p. LosesNone draft.old draft.new (λ x. ⊥) (λ x. x ≡ NodeNumber p.node)) }
     ensures keeps { OnOk result (Keeps draft.old draft.new) }
     ensures broken { OnOk result (draft.new.broken ≡ draft.old.broken) }
@@ -408,7 +408,7 @@ pub(crate) fn call<'t>(draft: &mut Draft<'t>, name: Name<'t>) -> Result<Part, Me
 {
     let number = draft.name(name.bytes)?;
     let node = draft.add(NodeKind::Call(number), name.at)?;
-    Ok(Part { node, at: name.at })
+    Ok(PlacedNode { node, at: name.at })
 }
 
 // The register that is written.
@@ -418,7 +418,7 @@ fn write<'t>(draft: &mut Draft<'t>, at: u32, word: Word<'t>) -> Result<Wait<'t>,
     ensures broken { OnOk result (draft.new.broken ≡ draft.old.broken) }
     ensures step { BehindAny draft.old at (λ place base fs es. Steps draft.new place base fs result (on_name (λ n. goes (After (SpecWrite n)) es) (word_of word.entry))) }
 {
-    let Kind::Name = word.kind else {
+    let TokenKind::Name = word.kind else {
         return Err(StepFault::Wrong);
     };
     let register = draft.register(word.spelling)?;
@@ -432,7 +432,7 @@ fn bracket<'t>(draft: &mut Draft<'t>, at: u32, word: Word<'t>) -> Result<Wait<'t
     ensures broken { OnOk result (draft.new.broken ≡ draft.old.broken) }
     ensures step { BehindAny draft.old at (λ place base fs es. Steps draft.new place base fs result (on_name (λ n. goes (BracketName n) es) (word_of word.entry))) }
 {
-    let Kind::Name = word.kind else {
+    let TokenKind::Name = word.kind else {
         return Err(StepFault::Wrong);
     };
     let register = draft.register(word.spelling)?;
@@ -440,19 +440,19 @@ fn bracket<'t>(draft: &mut Draft<'t>, at: u32, word: Word<'t>) -> Result<Wait<'t
 }
 
 // The sign behind a register.
-fn sign<'t>(alloc: Global, at: u32, register: u32, kind: Kind) -> Result<Wait<'t>, StepFault>
+fn sign<'t>(alloc: Global, at: u32, register: u32, kind: TokenKind) -> Result<Wait<'t>, StepFault>
     ensures held { IfOk result (λ w. (x : Numbered) → x ≡ RegisterNumber register → InWait w x) }
     ensures step { (made : Made) (place : ℕ → ℕ) (base : ℕ) (fs : List Construct) (es : List Entry) (r : List ℕ) (b : List ℕ) → ConstructsShow made place base fs es → at ≡ place (base + length (entries es))
         → IsRegister made register r → Steps made place base fs result (on_sign r es (grammar_word kind b)) }
 {
     match kind {
-        Kind::Arrow => Ok(Wait::Assigning(Assignment {
+        TokenKind::Arrow => Ok(Wait::Assigning(Assignment {
             at,
             append: false,
             register,
             pieces: Vec::new(alloc),
         })),
-        Kind::PlusEquals => Ok(Wait::Assigning(Assignment {
+        TokenKind::PlusEquals => Ok(Wait::Assigning(Assignment {
             at,
             append: true,
             register,
@@ -474,7 +474,7 @@ fn part<'t>(
     ensures keeps { OnOk result (Keeps draft.old draft.new) }
     ensures broken { OnOk result (draft.new.broken ≡ draft.old.broken) }
     ensures first { FirstPart draft.old draft.new assignment result (word_of word.entry) }
-    ensures next { (word.entry.kind ≡ Kind.CloseBracket → ⊥) → NextPart draft.old draft.new assignment result (word_of word.entry) }
+    ensures next { (word.entry.kind ≡ TokenKind.CloseBracket → ⊥) → NextPart draft.old draft.new assignment result (word_of word.entry) }
 {
     let read = piece(alloc, draft, word)?;
     let Some(piece) = read else {
@@ -499,7 +499,7 @@ fn word_after_part<'t>(
     ensures step { NextPart draft.old draft.new assignment result (word_of word.entry) }
 {
     match word.kind {
-        Kind::CloseBracket => {
+        TokenKind::CloseBracket => {
             let at = assignment.at;
             leaf(draft, assignment.kind(), at)
         }
@@ -523,7 +523,7 @@ fn note_count(draft: &mut Draft, bounds: Bounds, brace: u32)
 // A word behind what is read of a count.
 fn go_on_counting<'t>(
     draft: &mut Draft<'t>,
-    item: Part,
+    item: PlacedNode,
     brace: u32,
     outcome: CountOutcome,
 ) -> Result<Wait<'t>, StepFault>

@@ -11,7 +11,7 @@ use kex_code::memory::Memory;
 use kex_code::piece::{Bytes, Piece, Pieces};
 use kex_model::program::Kind as NodeKind;
 use kex_tokens::literal_bytes;
-use kex_tokens::token::Kind;
+use kex_tokens::token::TokenKind;
 use std::alloc::Global;
 
 /// An assignment that is half read: its bracket, its register, whether it appends, and its parts.
@@ -36,11 +36,11 @@ pub(crate) fn piece<'t>(
     ensures read { IfOk result (λ o. PieceShows (part_of (word_of word.entry)) draft.new o) }
 {
     match word.kind {
-        Kind::Literal => {
+        TokenKind::Literal => {
             let bytes = literal_bytes(alloc, word.spelling)?;
             Ok(Some(Piece::Lit(Bytes::new(bytes))))
         }
-        Kind::Name => {
+        TokenKind::Name => {
             let register = draft.register(word.spelling)?;
             Ok(Some(Piece::Register(register)))
         }

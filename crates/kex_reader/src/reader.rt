@@ -13,13 +13,13 @@ ghost use Rattle.kex_reader.specs.Syntax.{Atom, Call, Definition as SpecDefiniti
 
 use crate::draft::Draft;
 use crate::inside::{StepFault, Wait, call, end_turns, step_in};
-use crate::stack::{Part, Stack};
+use crate::stack::{PlacedNode, Stack};
 use crate::terms::{close_term, put};
 use crate::word::{Name, Word};
 use kex_model::program::{Definition, Start};
 use kex_regexp::breaks::Break;
 use kex_regexp::counts::Bounds;
-use kex_tokens::token::Kind;
+use kex_tokens::token::TokenKind;
 use std::alloc::Global;
 
 /// How many stages a start line may name.
@@ -107,7 +107,7 @@ impl<'t> Reader<'t> {
         ensures fault { IfErr result (λ e. (e ≡ StepFault.Memory) ⊎ ((e ≡ StepFault.Wrong) × (word.entry.kind ≡ Kind.Name → ⊥))) }
         ensures notes { (cs : List Check) → NotesLeast cs self.old.draft.broken → OnOk result (NotesLeast (cs ++ Staged word.entry.at (length self.old.stages.items + 1) ∷ []) self.new.draft.broken) }
     {
-        let Kind::Name = word.kind else {
+        let TokenKind::Name = word.kind else {
             return Err(StepFault::Wrong);
         };
         let name = self.draft.name(word.spelling)?;
@@ -146,7 +146,7 @@ impl<'t> Reader<'t> {
         requires token { IsToken word.kind word.spelling.now }
         requires place { word.at + length word.spelling.now < 2 ^ 32 }
         ensures held { ReaderLosesNone self.old (Phase.Within head wait.entry) self.new result }
-        ensures step { WithinDefinition self.old head wait.entry (λ at h done name i. (word.entry.kind ≡ Kind.Define → ⊥) → IsBehindState at (Within h done name i) word.entry.at → ReaderSteps self.new at result (step_within h done name i.mode i.entries (word_of word.entry))) }
+        ensures step { WithinDefinition self.old head wait.entry (λ at h done name i. (word.entry.kind ≡ TokenKind.Define → ⊥) → IsBehindState at (Within h done name i) word.entry.at → ReaderSteps self.new at result (step_within h done name i.mode i.entries (word_of word.entry))) }
         ensures notes { WithinDefinition self.old head wait.entry (λ at h done name i. IsBehindState at (Within h done name i) word.entry.at → NotesMore self.old.draft.broken self.new.draft.broken result (state_asks at (Within h done name i) (word_of word.entry))) }
     {
         match step_in(self.alloc, &mut self.stack, &mut self.draft, wait, word) {
@@ -175,14 +175,14 @@ impl<'t> Reader<'t> {
     }
 
     // The first name is the start line's word, or a head.
-    fn first(&mut self, name: Name<'t>, kind: Kind) -> Result<Phase<'t>, StepFault>
+    fn first(&mut self, name: Name<'t>, kind: TokenKind) -> Result<Phase<'t>, StepFault>
         ensures held { ReaderLosesNone self.old (Phase.FirstName name.entry) self.new result }
         ensures step { (at : ℕ → ℕ) (n b : List ℕ) → ReaderShows self.old at (Phase.FirstName name.entry) (FirstName n) → ReaderSteps self.new at result (first_name n (grammar_word kind b)) }
         ensures broken { OnOk result (self.new.draft.broken ≡ self.old.draft.broken) }
     {
         match kind {
-            Kind::Define => self.head(name),
-            Kind::Colon => {
+            TokenKind::Define => self.head(name),
+            TokenKind::Colon => {
                 if name.bytes == b"start".as_slice() {
                     Ok(Phase::StartLine)
                 } else {
@@ -208,23 +208,23 @@ impl<'t> Reader<'t> {
         };
         match phase {
             Phase::Begin => match word.kind {
-                Kind::Name => Ok(Phase::FirstName(name)),
+                TokenKind::Name => Ok(Phase::FirstName(name)),
                 _ => Err(StepFault::Wrong),
             },
             Phase::FirstName(first) => self.first(first, word.kind),
             Phase::StartLine => self.stage(word),
             Phase::StageRead => match word.kind {
-                Kind::Pipe => Ok(Phase::StageNext),
-                Kind::Name => Ok(Phase::HeadRead(name)),
+                TokenKind::Pipe => Ok(Phase::StageNext),
+                TokenKind::Name => Ok(Phase::HeadRead(name)),
                 _ => Err(StepFault::Wrong),
             },
             Phase::StageNext => self.stage(word),
             Phase::HeadRead(head) => match word.kind {
-                Kind::Define => self.head(head),
+                TokenKind::Define => self.head(head),
                 _ => Err(StepFault::Wrong),
             },
             Phase::Within(head, wait) => match word.kind {
-                Kind::Define => self.next_definition(head, wait),
+                TokenKind::Define => self.next_definition(head, wait),
                 _ => self.go_on(head, wait, word),
             },
         }
@@ -261,7 +261,7 @@ impl<'t> Reader<'t> {
     }
 
     // The last definition ends with this atom and its postfix.
-    fn end_turned(&mut self, head: Head, item: Part, bounds: Bounds) -> Result<(), StepFault>
+    fn end_turned(&mut self, head: Head, item: PlacedNode, bounds: Bounds) -> Result<(), StepFault>
         requires { SomeTurned self.old.draft self.old.stack item bounds }
         ensures held { OnOk result (EndLosesNone self.old self.new head (λ x. (x ≡ NodeNumber item.node) ⊎ InConstructs self.old.stack x)) }
         ensures keeps { OnOk result (Keeps self.old.draft self.new.draft) }
@@ -274,7 +274,7 @@ impl<'t> Reader<'t> {
     }
 
     // The last definition ends with this atom.
-    fn end_with(&mut self, head: Head, item: Part) -> Result<(), StepFault>
+    fn end_with(&mut self, head: Head, item: PlacedNode) -> Result<(), StepFault>
         requires { SomeAtom self.old.draft self.old.stack item }
         ensures held { OnOk result (EndLosesNone self.old self.new head (λ x. (x ≡ NodeNumber item.node) ⊎ InConstructs self.old.stack x)) }
         ensures keeps { OnOk result (Keeps self.old.draft self.new.draft) }

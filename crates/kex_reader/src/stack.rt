@@ -9,14 +9,14 @@ use std::marker::Model;
 
 /// A node, and the offset of its first word.
 #[derive(Clone, Copy)]
-pub(crate) struct Part {
+pub(crate) struct PlacedNode {
     pub(crate) node: u32,
     pub(crate) at: u32,
 }
 
 /// A register that what follows is put into, and the offset of its name.
 #[derive(Clone, Copy)]
-pub(crate) struct Store {
+pub(crate) struct PlacedRegister {
     pub(crate) register: u32,
     pub(crate) at: u32,
 }
@@ -26,17 +26,17 @@ pub(crate) struct Store {
 #[derive(Clone, Copy)]
 pub(crate) enum Construct {
     Mark(u32),
-    Ended(Part),
-    Done(Part),
+    Ended(PlacedNode),
+    Done(PlacedNode),
     Muted(u32),
-    Storing(Store),
+    Storing(PlacedRegister),
 }
 
 /// A prefix with its offset.
 #[derive(Clone, Copy)]
 pub(crate) enum Prefix {
     Mute(u32),
-    Store(Store),
+    Store(PlacedRegister),
 }
 
 /// Constructs, the newest on top, and how many of them are parentheses or prefixes.
@@ -105,10 +105,10 @@ impl Stack {
     }
 
     // Takes a member from the top.
-    pub(crate) fn take_done(&mut self) -> Option<Part>
+    pub(crate) fn take_done(&mut self) -> Option<PlacedNode>
         ensures some { IfSome result (λ p. self.old ≡ Construct.Done p ∷ self.new) }
         ensures none { IfNone result (self.new ≡ self.old) }
-        ensures top { IfNone result ((p : Part) (fs : List Construct) → self.old ≡ Construct.Done p ∷ fs → ⊥) }
+        ensures top { IfNone result ((p : PlacedNode) (fs : List Construct) → self.old ≡ Construct.Done p ∷ fs → ⊥) }
     {
         if let Some(&Construct::Done(part)) = self.constructs.last() {
             self.constructs.pop();
@@ -118,10 +118,10 @@ impl Stack {
     }
 
     // Takes a sequence that a bar has ended from the top.
-    pub(crate) fn take_ended(&mut self) -> Option<Part>
+    pub(crate) fn take_ended(&mut self) -> Option<PlacedNode>
         ensures some { IfSome result (λ p. self.old ≡ Construct.Ended p ∷ self.new) }
         ensures none { IfNone result (self.new ≡ self.old) }
-        ensures top { IfNone result ((p : Part) (fs : List Construct) → self.old ≡ Construct.Ended p ∷ fs → ⊥) }
+        ensures top { IfNone result ((p : PlacedNode) (fs : List Construct) → self.old ≡ Construct.Ended p ∷ fs → ⊥) }
     {
         if let Some(&Construct::Ended(part)) = self.constructs.last() {
             self.constructs.pop();
@@ -158,10 +158,10 @@ impl Stack {
     }
 
     // Takes a register that waits from the top.
-    fn take_storing(&mut self) -> Option<Store>
+    fn take_storing(&mut self) -> Option<PlacedRegister>
         ensures some { IfSome result (λ s. self.old ≡ Construct.Storing s ∷ self.new) }
         ensures none { IfNone result (self.new ≡ self.old) }
-        ensures top { IfNone result ((s : Store) (fs : List Construct) → self.old ≡ Construct.Storing s ∷ fs → ⊥) }
+        ensures top { IfNone result ((s : PlacedRegister) (fs : List Construct) → self.old ≡ Construct.Storing s ∷ fs → ⊥) }
     {
         if let Some(&Construct::Storing(store)) = self.constructs.last() {
             self.constructs.pop();
@@ -176,7 +176,7 @@ impl Stack {
         ensures some { IfSome result (λ p. self.old ≡ construct_of p ∷ self.new) }
         ensures none { IfNone result (self.new ≡ self.old) }
         ensures muted { IfNone result ((at : ℕ) (fs : List Construct) → self.old ≡ Construct.Muted at ∷ fs → ⊥) }
-        ensures storing { IfNone result ((s : Store) (fs : List Construct) → self.old ≡ Construct.Storing s ∷ fs → ⊥) }
+        ensures storing { IfNone result ((s : PlacedRegister) (fs : List Construct) → self.old ≡ Construct.Storing s ∷ fs → ⊥) }
     {
         if let Some(at) = self.take_muted() {
             return Some(Prefix::Mute(at));

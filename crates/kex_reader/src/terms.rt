@@ -8,12 +8,12 @@ ghost use Rattle.kex_reader.specs.Uses.{NodeNumber};
 ghost use Rattle.kex_reader.specs.Syntax.{Pre};
 
 use crate::draft::Draft;
-use crate::stack::{Construct, Part, Prefix, Stack};
+use crate::stack::{Construct, PlacedNode, Prefix, Stack};
 use kex_code::memory::Memory;
 use kex_model::program::Kind;
 
 // A member that has ended takes the prefixes before it.
-pub(crate) fn put(stack: &mut Stack, draft: &mut Draft, part: Part) -> Result<(), Memory>
+pub(crate) fn put(stack: &mut Stack, draft: &mut Draft, part: PlacedNode) -> Result<(), Memory>
     requires { SomePre draft.old stack.old part }
     ensures keeps { OnOk result (Keeps draft.old draft.new) }
     ensures broken { OnOk result (draft.new.broken ≡ draft.old.broken) }
@@ -31,7 +31,7 @@ pub(crate) fn put(stack: &mut Stack, draft: &mut Draft, part: Part) -> Result<()
 }
 
 // A member behind a prefix.
-fn prefixed(draft: &mut Draft, prefix: Prefix, part: Part) -> Result<Part, Memory>
+fn prefixed(draft: &mut Draft, prefix: Prefix, part: PlacedNode) -> Result<PlacedNode, Memory>
     requires within { part.node < length draft.old.nodes }
     requires register { HasRegisterBelow (length draft.old.registers) prefix }
     ensures keeps { OnOk result (Keeps draft.old draft.new) }
@@ -43,17 +43,17 @@ fn prefixed(draft: &mut Draft, prefix: Prefix, part: Part) -> Result<Part, Memor
     match prefix {
         Prefix::Mute(at) => {
             let node = draft.add(Kind::Mute(part.node), at)?;
-            Ok(Part { node, at })
+            Ok(PlacedNode { node, at })
         }
         Prefix::Store(store) => {
             let node = draft.add(Kind::At(store.register, part.node), store.at)?;
-            Ok(Part { node, at: store.at })
+            Ok(PlacedNode { node, at: store.at })
         }
     }
 }
 
 // The newest sequence, unless no member of one stands on top.
-pub(crate) fn close_seq(stack: &mut Stack, draft: &mut Draft) -> Result<Option<Part>, Memory>
+pub(crate) fn close_seq(stack: &mut Stack, draft: &mut Draft) -> Result<Option<PlacedNode>, Memory>
     requires { SomeConstructs draft.old stack.old }
     ensures keeps { OnOk result (Keeps draft.old draft.new) }
     ensures broken { OnOk result (draft.new.broken ≡ draft.old.broken) }
@@ -66,13 +66,13 @@ pub(crate) fn close_seq(stack: &mut Stack, draft: &mut Draft) -> Result<Option<P
     let mut seq = last;
     while let Some(front) = stack.take_done() {
         let node = draft.add(Kind::Seq(front.node, seq.node), front.at)?;
-        seq = Part { node, at: front.at };
+        seq = PlacedNode { node, at: front.at };
     }
     Ok(Some(seq))
 }
 
 // The newest term, unless no member of a sequence stands on top.
-pub(crate) fn close_term(stack: &mut Stack, draft: &mut Draft) -> Result<Option<Part>, Memory>
+pub(crate) fn close_term(stack: &mut Stack, draft: &mut Draft) -> Result<Option<PlacedNode>, Memory>
     requires { SomeConstructs draft.old stack.old }
     ensures keeps { OnOk result (Keeps draft.old draft.new) }
     ensures broken { OnOk result (draft.new.broken ≡ draft.old.broken) }
@@ -86,7 +86,7 @@ pub(crate) fn close_term(stack: &mut Stack, draft: &mut Draft) -> Result<Option<
     let mut term = last;
     while let Some(front) = stack.take_ended() {
         let node = draft.add(Kind::Alt(front.node, term.node), front.at)?;
-        term = Part { node, at: front.at };
+        term = PlacedNode { node, at: front.at };
     }
     Ok(Some(term))
 }

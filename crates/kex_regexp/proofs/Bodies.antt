@@ -13,11 +13,11 @@ use Rattle.kex_regexp.specs.declared.wait.Wait.TheVariants as waits
 use Rattle.kex_regexp.specs.declared.wait.StepFault.{StepFault}
 use Rattle.kex_regexp.specs.declared.wait.StepFault.TheVariants as faults
 use Rattle.kex_regexp.specs.Grammar.{Regex, Item, Once, Postfix, Turns, Member}
-use Rattle.kex_regexp.specs.Bodies.{Spells, IsFirstWrong}
-use Rattle.kex_regexp.specs.Machine.{Entry, Mark, Ended, Read, Mode, Ready, After, Turned, InEscape, InSet, InCount, State, entries, bytes_read, take_regex, step, next, state_after, start, whole_regex, finish, finish_in, step_in, Escaping, Counting, Part as SpecPart}
+use Rattle.kex_regexp.specs.Bodies.{SpellsRegex, IsFirstWrong}
+use Rattle.kex_regexp.specs.Machine.{Entry, Mark, Ended, Read, Mode, Ready, After, Turned, InEscape, InSet, InCount, State, entries, bytes_read, take_regex, step, next, state_after, start, whole_regex, finish, finish_in, step_in, Escaping, Counting, SetPhase as SpecPart}
 use Rattle.kex_regexp.specs.Holding.{IsSetAfter, IsSetIn, HoldsRegex, ConstructsShow, RegexOn, ShowsState, Steps, Ends, ShowsMode}
 use Rattle.kex_regexp.proofs.Sound.{Goes, reads_sound, start_sound}
-use Rattle.kex_regexp.proofs.Complete.{reads-append}
+use Rattle.kex_regexp.proofs.Complete.{state_after-append}
 use Rattle.kex_regexp.proofs.Viable.{read_begins, read_spells, unread_begins, unfinished}
 
 pub steps_wrong : (nodes : List Node) (base : ℕ) (fs : List Construct) (o : Option State) → Steps nodes base fs (Err faults.Wrong) o → o ≡ None
@@ -49,7 +49,7 @@ ends_ok nodes base n (Some r) s = (r, refl, s)
 pub reads_more : (bytes : List ℕ) (k : ℕ) (s : State) → k < length bytes → state_after start (take k bytes) ≡ Some s → state_after start (take (k + 1) bytes) ≡ step s (get_or bytes k 0)
 unfolding state_after next
 reads_more bytes k s h e =
-    ap (λ (x : ℕ). state_after start (take x bytes)) (add-one k) ∙ ap (state_after start) (take-suc bytes k 0 h) ∙ reads-append start (take k bytes) (get_or bytes k 0 ∷ []) ∙ ap (λ (o : Option State). state_after o (get_or bytes k 0 ∷ [])) e
+    ap (λ (x : ℕ). state_after start (take x bytes)) (add-one k) ∙ ap (state_after start) (take-suc bytes k 0 h) ∙ state_after-append start (take k bytes) (get_or bytes k 0 ∷ []) ∙ ap (λ (o : Option State). state_after o (get_or bytes k 0 ∷ [])) e
 
 -- what a state has read is as long as the bytes
 pub spelled_length : (w : List ℕ) (s : State) → state_after start w ≡ Some s → length (bytes_read s) ≡ length w
@@ -75,8 +75,8 @@ wrong_end bytes k s h e n = record {
   end = λ _ b. unfinished bytes s (subst (λ (w : List ℕ). state_after start w ≡ Some s) (take_all k bytes (omega (arith, h))) e) n b;
 }
 
-pub body_read : (bytes : List ℕ) (k : ℕ) (s : State) (r : Regex) → length bytes ≤ k → state_after start (take k bytes) ≡ Some s → finish s ≡ Some r → Spells r bytes
-body_read bytes k s r h e f = subst (λ (w : List ℕ). Spells r w) (take_all k bytes h) (read_spells (take k bytes) s r e f)
+pub body_read : (bytes : List ℕ) (k : ℕ) (s : State) (r : Regex) → length bytes ≤ k → state_after start (take k bytes) ≡ Some s → finish s ≡ Some r → SpellsRegex r bytes
+body_read bytes k s r h e f = subst (λ (w : List ℕ). SpellsRegex r w) (take_all k bytes h) (read_spells (take k bytes) s r e f)
 
 -- ---- the end
 

@@ -5,7 +5,7 @@ use Rattle.std.proofs.lemmas.Bool.Decides.{nat_tests}
 use Rattle.kex_model.specs.declared.program.Kind.TheVariants as kinds
 use Rattle.kex_model.specs.declared.program.Node.{Node}
 use Rattle.kex_model.specs.Programs.{IsCount}
-use Rattle.kex_tokens.specs.Values.{number_of}
+use Rattle.kex_tokens.specs.Values.{decimal_value}
 use Rattle.kex_regexp.specs.Postfixes.{Postfix, ZeroOrMore, OneOrMore, Optional, Exactly, AtLeast, AtMost, FromTo, high, is_bad_count, low}
 use Rattle.kex_regexp.specs.Outcomes.{are_bad, are_bad_turns}
 use Rattle.kex_regexp.specs.Holding.{HoldsBounds, IsTurns, capped_count, capped_bound}
@@ -29,10 +29,10 @@ unfolding low high
 capped_bad ZeroOrMore = refl
 capped_bad OneOrMore = refl
 capped_bad Optional = refl
-capped_bad (Exactly n) = same_capped (number_of n)
-capped_bad (AtLeast n) = above_capped (number_of n)
-capped_bad (AtMost m) = most_capped (number_of m)
-capped_bad (FromTo n m) = below_capped (number_of n) (number_of m)
+capped_bad (Exactly n) = same_capped (decimal_value n)
+capped_bad (AtLeast n) = above_capped (decimal_value n)
+capped_bad (AtMost m) = most_capped (decimal_value m)
+capped_bad (FromTo n m) = below_capped (decimal_value n) (decimal_value m)
 
 pub bad_bounds : (b : Bounds) (p : Postfix) → HoldsBounds b p → are_bad b ≡ is_bad_count p
 unfolding are_bad
@@ -51,10 +51,10 @@ unfolding low high
 uncapped_turns ZeroOrMore e = (refl, refl)
 uncapped_turns OneOrMore e = (refl, refl)
 uncapped_turns Optional e = (refl, refl)
-uncapped_turns (Exactly n) e = (uncapped (number_of n) e, ap (λ (x : ℕ). Some x) (uncapped (number_of n) e))
-uncapped_turns (AtLeast n) e = (uncapped (number_of n) e, refl)
-uncapped_turns (AtMost m) e = (refl, ap (λ (x : ℕ). Some x) (uncapped (number_of m) e))
-uncapped_turns (FromTo n m) e = let u = uncapped_both (number_of n) (number_of m) e in (u.0, ap (λ (x : ℕ). Some x) u.1)
+uncapped_turns (Exactly n) e = (uncapped (decimal_value n) e, ap (λ (x : ℕ). Some x) (uncapped (decimal_value n) e))
+uncapped_turns (AtLeast n) e = (uncapped (decimal_value n) e, refl)
+uncapped_turns (AtMost m) e = (refl, ap (λ (x : ℕ). Some x) (uncapped (decimal_value m) e))
+uncapped_turns (FromTo n m) e = let u = uncapped_both (decimal_value n) (decimal_value m) e in (u.0, ap (λ (x : ℕ). Some x) u.1)
 
 -- such bounds are those of the postfix
 pub good_bounds : (b : Bounds) (p : Postfix) → are_bad b ≡ false → HoldsBounds b p → (b.low ≡ low p) × (b.high ≡ high p)

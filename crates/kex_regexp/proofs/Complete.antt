@@ -3,9 +3,9 @@ use Rattle.std.proofs.Common.{◌≡◌, ℕ, Bool, true, false, cond, List, [],
 use Rattle.std.specs.Prelude.{◌==◌}
 use Rattle.std.proofs.lemmas.Bool.{ne_eqb, false≢true}
 use Rattle.std.proofs.lemmas.List.{append-nil}
-use Rattle.kex_regexp.specs.Grammar.{is_plain, is_among, is_punctuation, is_digit, is_hex, is_end, Escape, Newline, Tab, Return, Hex, Punctuation, End, Itself, EscapedEnd, Member, Single, Range, Postfix, ZeroOrMore, OneOrMore, Optional, Exactly, AtLeast, AtMost, FromTo, Regex, Last, Or, Branch, Empty, Then, Piece, Once, Turns, Item, Plain, Escaped, Dot, Set, Group, escape, end_of, member, members, caret, postfix, lazy_mark, regex, branch, piece, item, IsEscape, IsEnd, IsMember, AreMembers, begins_with_caret, IsSet, AreDigits, IsNumber, IsPostfix, IsRegex, IsBranch, IsPiece, IsItem}
+use Rattle.kex_regexp.specs.Grammar.{is_plain, is_among, is_punctuation, is_digit, is_hex, is_end, Escape, Newline, Tab, Return, Hex, Punctuation, End, Itself, EscapedEnd, Member, Single, Range, Postfix, ZeroOrMore, OneOrMore, Optional, Exactly, AtLeast, AtMost, FromTo, Regex, Last, Or, Branch, Empty, Then, Piece, Once, Turns, Item, Plain, Escaped, Dot, Set, Group, escape, end_of, member, members, negation, postfix, lazy_mark, regex, branch, piece, item, IsEscape, IsEnd, IsMember, AreMembers, begins_with_caret, IsSet, AreDigits, IsNumber, IsPostfix, IsRegex, IsBranch, IsPiece, IsItem}
 use Rattle.kex_regexp.specs.Postfixes.{Digits, count_by}
-use Rattle.kex_regexp.specs.Machine.{Escaping, Begun, HexBegun, HexOne, EscapeStep, EscapeOn, EscapeRead, escape_step, Part, AtStart, Between, HasEnd, HasDash, InFirst, InLast, SetStep, SetOn, SetRead, begin_member, between_step, in_first, in_last, set_step, Counting, Opened, Low, LowComma, LowHigh, OnlyComma, High, CountOn, CountRead, count_sign, count_step, Entry, Mark, Ended, Read, Mode, Ready, After, Turned, InEscape, InSet, InCount, State, take_pieces, take_branches, take_regex, goes, after_group, end_branch, begin_piece, after_item, after_turns, on_escape, on_set, on_count, step_in, step, next, state_after}
+use Rattle.kex_regexp.specs.Machine.{Escaping, Begun, HexBegun, HexOne, EscapeStep, EscapeOn, EscapeRead, escape_step, SetPhase, AtStart, Between, HasEnd, HasDash, InFirst, InLast, SetStep, SetOn, SetRead, begin_member, between_step, in_first, in_last, set_step, Counting, Opened, Low, LowComma, LowHigh, OnlyComma, High, CountOn, CountRead, count_sign, count_step, Entry, Mark, Ended, Read, Mode, Ready, After, Turned, InEscape, InSet, InCount, State, take_pieces, take_branches, take_regex, goes, after_group, end_branch, begin_piece, after_item, after_turns, on_escape, on_set, on_count, step_in, step, next, state_after}
 
 -- ---- tests
 
@@ -23,13 +23,13 @@ cond_no false x y e = refl
 
 -- ---- runs
 
-pub reads-append : (o : Option State) (u v : List ℕ) → state_after o (u ++ v) ≡ state_after (state_after o u) v
+pub state_after-append : (o : Option State) (u v : List ℕ) → state_after o (u ++ v) ≡ state_after (state_after o u) v
 unfolding state_after
-reads-append o [] v = refl
-reads-append o (b ∷ u) v = reads-append (next o b) u v
+state_after-append o [] v = refl
+state_after-append o (b ∷ u) v = state_after-append (next o b) u v
 
 pub then_reads : (o p q : Option State) (u v : List ℕ) → state_after o u ≡ p → state_after p v ≡ q → state_after o (u ++ v) ≡ q
-then_reads o p q u v e f = reads-append o u v ∙ ap (λ (x : Option State). state_after x v) e ∙ f
+then_reads o p q u v e f = state_after-append o u v ∙ ap (λ (x : Option State). state_after x v) e ∙ f
 
 pub one_byte : (o p : Option State) (b : ℕ) → next o b ≡ p → state_after o (b ∷ []) ≡ p
 unfolding state_after
@@ -82,7 +82,7 @@ escape_reads on steps (Punctuation b) h = one_byte _ _ b (steps Begun b ∙ ap o
 -- ---- sets
 
 -- the members so far, where another may begin
-pub SetReady : List Member → Part → List Member → Type 0
+pub SetReady : List Member → SetPhase → List Member → Type 0
 SetReady ms AtStart ns = ⊥
 SetReady ms Between ns = ms ≡ ns
 SetReady ms (HasEnd end) ns = ms ++ Single end ∷ [] ≡ ns
@@ -90,7 +90,7 @@ SetReady ms (HasDash end) ns = ⊥
 SetReady ms (InFirst e) ns = ⊥
 SetReady ms (InLast first e) ns = ⊥
 
-pub set_begins : (negated : Bool) (ms : List Member) (p : Part) (ns : List Member) (b : ℕ) → SetReady ms p ns → (b == 45) ≡ false → set_step negated ms p b ≡ between_step negated ns b
+pub set_begins : (negated : Bool) (ms : List Member) (p : SetPhase) (ns : List Member) (b : ℕ) → SetReady ms p ns → (b == 45) ≡ false → set_step negated ms p b ≡ between_step negated ns b
 unfolding SetReady set_step
 set_begins negated ms AtStart ns b r n = absurd r
 set_begins negated ms Between ns b r n = ap (λ (x : List Member). between_step negated x b) r
@@ -104,18 +104,18 @@ unfolding between_step
 between_begins negated [] b n = refl
 between_begins negated (m ∷ ms) b n = cond_no (b == 93) _ _ n
 
-unfoldable pub in_set : List Entry → Bool → List Member → Part → Option State
+unfoldable pub in_set : List Entry → Bool → List Member → SetPhase → Option State
 in_set es negated ms p = goes (InSet negated ms p) es
 
-pub set_next : (es : List Entry) (negated : Bool) (ms : List Member) (p : Part) (b : ℕ) (t : SetStep) → set_step negated ms p b ≡ t → next (in_set es negated ms p) b ≡ on_set es t
+pub set_next : (es : List Entry) (negated : Bool) (ms : List Member) (p : SetPhase) (b : ℕ) (t : SetStep) → set_step negated ms p b ≡ t → next (in_set es negated ms p) b ≡ on_set es t
 unfolding in_set next step step_in
 set_next es negated ms p b t e = ap (on_set es) e
 
-pub on_set_on : (es : List Entry) (negated : Bool) (ms : List Member) (p : Part) → on_set es (SetOn negated ms p) ≡ in_set es negated ms p
+pub on_set_on : (es : List Entry) (negated : Bool) (ms : List Member) (p : SetPhase) → on_set es (SetOn negated ms p) ≡ in_set es negated ms p
 unfolding on_set in_set
 on_set_on es negated ms p = refl
 
-pub set_moves : (es : List Entry) (negated : Bool) (ms : List Member) (p : Part) (b : ℕ) (ns : List Member) (q : Part) → set_step negated ms p b ≡ SetOn negated ns q → next (in_set es negated ms p) b ≡ in_set es negated ns q
+pub set_moves : (es : List Entry) (negated : Bool) (ms : List Member) (p : SetPhase) (b : ℕ) (ns : List Member) (q : SetPhase) → set_step negated ms p b ≡ SetOn negated ns q → next (in_set es negated ms p) b ≡ in_set es negated ns q
 set_moves es negated ms p b ns q e = set_next es negated ms p b (SetOn negated ns q) e ∙ on_set_on es negated ns q
 
 pub begin_plain : (negated : Bool) (ms : List Member) (b : ℕ) → is_end b ≡ true → begin_member negated ms b ≡ SetOn negated ms (HasEnd (Itself b))
@@ -179,7 +179,7 @@ unfolding members
 regroup m ms = append_assoc (member m) (members ms) (93 ∷ [])
 
 -- the first end of a member
-pub first_reads : (es : List Entry) (negated : Bool) (ms : List Member) (p : Part) (ns : List Member) (end : End) → SetReady ms p ns → IsEnd end → state_after (in_set es negated ms p) (end_of end) ≡ in_set es negated ns (HasEnd end)
+pub first_reads : (es : List Entry) (negated : Bool) (ms : List Member) (p : SetPhase) (ns : List Member) (end : End) → SetReady ms p ns → IsEnd end → state_after (in_set es negated ms p) (end_of end) ≡ in_set es negated ns (HasEnd end)
 unfolding end_of IsEnd
 first_reads es negated ms p ns (Itself b) r h =
     one_byte _ _ b (set_moves es negated ms p b ns (HasEnd (Itself b))
@@ -199,7 +199,7 @@ last_reads es negated ms first (EscapedEnd x) h =
     (set_moves es negated ms (HasDash first) 92 ms (InLast first Begun) (last_escape_begins negated ms first))
     (last_escape es negated ms first x h)
 
-pub member_reads : (es : List Entry) (negated : Bool) (ms : List Member) (p : Part) (ns : List Member) (m : Member) → SetReady ms p ns → IsMember m → (q : Part) × (os : List Member) × SetReady os q (ns ++ m ∷ []) × (state_after (in_set es negated ms p) (member m) ≡ in_set es negated os q)
+pub member_reads : (es : List Entry) (negated : Bool) (ms : List Member) (p : SetPhase) (ns : List Member) (m : Member) → SetReady ms p ns → IsMember m → (q : SetPhase) × (os : List Member) × SetReady os q (ns ++ m ∷ []) × (state_after (in_set es negated ms p) (member m) ≡ in_set es negated os q)
 unfolding member IsMember SetReady
 member_reads es negated ms p ns (Single end) r h = (HasEnd end, ns, refl, first_reads es negated ms p ns end r h)
 member_reads es negated ms p ns (Range first last) r h = (
@@ -211,7 +211,7 @@ member_reads es negated ms p ns (Range first last) r h = (
       (last_reads es negated ns first last h.1)),
 )
 
-pub members_read : (es : List Entry) (negated : Bool) (ms : List Member) (p : Part) (ns os : List Member) → SetReady ms p ns → AreMembers os → (q : Part) × (ks : List Member) × SetReady ks q (ns ++ os) × (state_after (in_set es negated ms p) (members os) ≡ in_set es negated ks q)
+pub members_read : (es : List Entry) (negated : Bool) (ms : List Member) (p : SetPhase) (ns os : List Member) → SetReady ms p ns → AreMembers os → (q : SetPhase) × (ks : List Member) × SetReady ks q (ns ++ os) × (state_after (in_set es negated ms p) (members os) ≡ in_set es negated ks q)
 unfolding members AreMembers state_after
 members_read es negated ms p ns [] r h = (p, ms, subst (λ (x : List Member). SetReady ms p x) (sym (append-nil ns)) r, refl)
 members_read es negated ms p ns (m ∷ os) r h =
@@ -220,7 +220,7 @@ members_read es negated ms p ns (m ∷ os) r h =
     (b.0, b.1, subst (λ (x : List Member). SetReady b.1 b.0 x) (append_assoc ns (m ∷ []) os) b.2, then_reads _ (in_set es negated a.1 a.0) _ (member m) (members os) a.3 b.3)
 
 -- the bracket that closes
-pub set_closes : (es : List Entry) (negated : Bool) (ms : List Member) (p : Part) (m : Member) (ns : List Member) → SetReady ms p (m ∷ ns) → state_after (in_set es negated ms p) (93 ∷ []) ≡ goes (After (Set negated (m ∷ ns))) es
+pub set_closes : (es : List Entry) (negated : Bool) (ms : List Member) (p : SetPhase) (m : Member) (ns : List Member) → SetReady ms p (m ∷ ns) → state_after (in_set es negated ms p) (93 ∷ []) ≡ goes (After (Set negated (m ∷ ns))) es
 set_closes es negated ms p m ns r =
     one_byte _ _ 93 (set_next es negated ms p 93 (SetRead negated (m ∷ ns)) (set_begins negated ms p (m ∷ ns) 93 r refl ∙ set_ends negated m ns) ∙ on_set_read es negated (m ∷ ns))
 
@@ -265,8 +265,8 @@ from_start es m w h =
     ∙ ap (λ (o : Option State). state_after o (member_tail m ++ w)) (start_as_between es (first_byte m) (no_caret_first m h))
     ∙ ap (λ (u : List ℕ). state_after (in_set es false [] Between) (u ++ w)) (sym (member_is m))
 
-pub set_reads : (es : List Entry) (negated : Bool) (ms : List Member) → IsSet negated ms → state_after (in_set es false [] AtStart) (caret negated ++ (members ms ++ 93 ∷ [])) ≡ goes (After (Set negated ms)) es
-unfolding IsSet caret AreMembers
+pub set_reads : (es : List Entry) (negated : Bool) (ms : List Member) → IsSet negated ms → state_after (in_set es false [] AtStart) (negation negated ++ (members ms ++ 93 ∷ [])) ≡ goes (After (Set negated ms)) es
+unfolding IsSet negation AreMembers
 set_reads es negated [] h = absurd h
 set_reads es true (m ∷ ms) h = byte_then _ (in_set es true [] Between) _ 94 (members (m ∷ ms) ++ 93 ∷ []) (caret_step es) (set_rest es true m ms h)
 set_reads es false (m ∷ ms) h =
@@ -559,7 +559,7 @@ mutual
   item_reads (Escaped x) h m es fs r =
       ap (state_after (goes m es)) (escape_is x) ∙ byte_then _ (goes (InEscape Begun) fs) _ 92 (escape_tail x) (begins m es fs 92 r no_sign_92 ∙ begin_92 fs) (item_escape fs x h)
   item_reads Dot h m es fs r = one_byte _ _ 46 (begins m es fs 46 r no_sign_46 ∙ begin_46 fs)
-  item_reads (Set negated ms) h m es fs r = byte_then _ (in_set fs false [] AtStart) _ 91 (caret negated ++ (members ms ++ 93 ∷ [])) (begins m es fs 91 r no_sign_91 ∙ begin_91 fs) (set_reads fs negated ms h)
+  item_reads (Set negated ms) h m es fs r = byte_then _ (in_set fs false [] AtStart) _ 91 (negation negated ++ (members ms ++ 93 ∷ [])) (begins m es fs 91 r no_sign_91 ∙ begin_91 fs) (set_reads fs negated ms h)
   item_reads (Group q) h m es fs r =
       let a = regex_reads q h Ready (Mark ∷ fs) (Mark ∷ fs) refl tt in
       byte_then _ (goes Ready (Mark ∷ fs)) _ 40 (regex q ++ 41 ∷ []) (begins m es fs 40 r no_sign_40 ∙ begin_40 fs)

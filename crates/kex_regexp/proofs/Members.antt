@@ -19,7 +19,7 @@ use Rattle.kex_regexp.specs.declared.wait.Wait.TheVariants as waits
 use Rattle.kex_regexp.specs.Grammar.{is_end, is_plain, Regex, Item, Once, Turns, Postfix, End, Itself, EscapedEnd, Member, Single, Range}
 use Rattle.kex_regexp.specs.Values.{any_below, end_byte, membership, has_backward, in_member, in_members, in_set, is_backward}
 use Rattle.kex_regexp.specs.Breaks.{is_bad_set}
-use Rattle.kex_regexp.specs.Machine.{ended_members, last_members, begin_member, between_step, in_first, in_last, set_step, escape_step, on_escape, on_set, on_count, count_step, begin_piece, after_item, after_turns, end_branch, after_group, take_regex, step_in, Entry, Mark, Ended, Read, EscapeStep, EscapeOn, EscapeRead, EscapeWrong, CountStep, CountOn, CountRead, CountWrong, SetStep, SetOn, SetRead, SetWrong, Escaping, Part, AtStart, Between, HasEnd, HasDash, InFirst, InLast, Mode, Ready, After, Turned, InEscape, InSet, InCount}
+use Rattle.kex_regexp.specs.Machine.{ended_members, last_members, begin_member, between_step, in_first, in_last, set_step, escape_step, on_escape, on_set, on_count, count_step, begin_piece, after_item, after_turns, end_branch, after_group, take_regex, step_in, Entry, Mark, Ended, Read, EscapeStep, EscapeOn, EscapeRead, EscapeWrong, CountStep, CountOn, CountRead, CountWrong, SetStep, SetOn, SetRead, SetWrong, Escaping, SetPhase, AtStart, Between, HasEnd, HasDash, InFirst, InLast, Mode, Ready, After, Turned, InEscape, InSet, InCount}
 use Rattle.kex_regexp.specs.Holding.{HasMembers, IsSetAfter, IsSetIn, ShowsEscape, ShowsMode, ShowsPart}
 use Rattle.kex_regexp.specs.Outcomes.{ended_span, escape_outcome, last_span}
 use Rattle.kex_regexp.specs.Notes.{is_bad_set_so_far}
@@ -87,7 +87,7 @@ ends_last x first (escapes.Read b) (EscapeRead e) h s = range_span x b first (Es
 ends_last x first escapes.Wrong EscapeWrong h s = tt
 ends_last x first _ _ h s = absurd s
 
-pub ends_as : (p : SetPart) (q : Part) (b : ℕ) → ShowsPart p q → EndsAs (ended_span p b) (ended_members q b)
+pub ends_as : (p : SetPart) (q : SetPhase) (b : ℕ) → ShowsPart p q → EndsAs (ended_span p b) (ended_members q b)
 unfolding ended_span ended_members ShowsPart EndsAs end_byte
 ends_as parts.AtStart AtStart b s = tt
 ends_as parts.Between Between b s = tt
@@ -153,7 +153,7 @@ last_members_are n ms first EscapeWrong = tt
 pub with_none : (ms : List Member) (t : SetStep) → MembersAre ms t → MembersAre (ms ++ []) t
 with_none ms t h = subst (λ (w : List Member). MembersAre w t) (sym (append-nil ms)) h
 
-pub step_members : (n : Bool) (ms : List Member) (q : Part) (b : ℕ) → MembersAre (ms ++ ended_members q b) (set_step n ms q b)
+pub step_members : (n : Bool) (ms : List Member) (q : SetPhase) (b : ℕ) → MembersAre (ms ++ ended_members q b) (set_step n ms q b)
 unfolding set_step ended_members MembersAre
 step_members n ms AtStart b = with_none ms _ (by_test (MembersAre ms) (b == 94) _ _ (λ _. refl) (λ _. between_members n ms b))
 step_members n ms Between b = with_none ms _ (between_members n ms b)
@@ -189,7 +189,7 @@ last_negated n ms first (EscapeOn e) = tt
 last_negated n ms first (EscapeRead e) = tt
 last_negated n ms first EscapeWrong = tt
 
-pub step_negated : (n : Bool) (ms : List Member) (q : Part) (b : ℕ) → NegatedIs n (set_step n ms q b)
+pub step_negated : (n : Bool) (ms : List Member) (q : SetPhase) (b : ℕ) → NegatedIs n (set_step n ms q b)
 unfolding set_step NegatedIs
 step_negated n ms AtStart b = by_test (NegatedIs n) (b == 94) _ _ (λ _. tt) (λ _. between_negated n ms b)
 step_negated n ms Between b = between_negated n ms b
@@ -205,7 +205,7 @@ set_after set w es (SetRead n ms) h e = subst (HasMembers set) (sym e) h
 set_after set w es SetWrong h e = tt
 
 -- the set behind a byte within a set
-pub within_set : (old new : SetSoFar) (nodes : List Node) (at : ℕ) (n e : Bool) (p : SetPart) (from : ℕ) (m : Mode) (es : List Entry) (b : ℕ) → ShowsMode nodes at (waits.InSet n e p from) m → IsSetIn old m → ((ms : List Member) (q : Part) → ShowsPart p q → HasMembers old ms → HasMembers new (ms ++ ended_members q b)) → IsSetAfter new (step_in m es b)
+pub within_set : (old new : SetSoFar) (nodes : List Node) (at : ℕ) (n e : Bool) (p : SetPart) (from : ℕ) (m : Mode) (es : List Entry) (b : ℕ) → ShowsMode nodes at (waits.InSet n e p from) m → IsSetIn old m → ((ms : List Member) (q : SetPhase) → ShowsPart p q → HasMembers old ms → HasMembers new (ms ++ ended_members q b)) → IsSetAfter new (step_in m es b)
 unfolding step_in IsSetIn
 within_set old new nodes at n e p from m es b sh i f =
     let s = (mode_set nodes at n e p from m sh).0 in
@@ -304,12 +304,12 @@ clear_bad set negated t back e = ap not e ∙ ap (λ (x : Bool). x || not (any_b
 
 -- ---- a byte within a set, by what it ends
 
-pub one_within : (old new : SetSoFar) (p : SetPart) (s : Span) (b : ℕ) → ended_span p b ≡ Some s → ((test : ℕ → Bool) → HasExactly old.bytes test → HasExactly new.bytes (λ c. test c || (nat_le s.first c && nat_le c s.last))) → new.backward ≡ (old.backward || nat_lt s.last s.first) → (ms : List Member) (q : Part) → ShowsPart p q → HasMembers old ms → HasMembers new (ms ++ ended_members q b)
+pub one_within : (old new : SetSoFar) (p : SetPart) (s : Span) (b : ℕ) → ended_span p b ≡ Some s → ((test : ℕ → Bool) → HasExactly old.bytes test → HasExactly new.bytes (λ c. test c || (nat_le s.first c && nat_le c s.last))) → new.backward ≡ (old.backward || nat_lt s.last s.first) → (ms : List Member) (q : SetPhase) → ShowsPart p q → HasMembers old ms → HasMembers new (ms ++ ended_members q b)
 one_within old new p s b e bytes back ms q sh h =
     let one = one_ends (ended_span p b) s (ended_members q b) e (ends_as p q b sh) in
     subst (λ (w : List Member). HasMembers new (ms ++ w)) (sym one.is) (member_added old new s ms one.member h one.span bytes back)
 
-pub none_within : (set : SetSoFar) (p : SetPart) (b : ℕ) → ended_span p b ≡ None → (ms : List Member) (q : Part) → ShowsPart p q → HasMembers set ms → HasMembers set (ms ++ ended_members q b)
+pub none_within : (set : SetSoFar) (p : SetPart) (b : ℕ) → ended_span p b ≡ None → (ms : List Member) (q : SetPhase) → ShowsPart p q → HasMembers set ms → HasMembers set (ms ++ ended_members q b)
 none_within set p b e ms q sh h = subst (λ (w : List Member). HasMembers set (ms ++ w)) (sym (none_ends (ended_span p b) (ended_members q b) e (ends_as p q b sh))) (subst (HasMembers set) (sym (append-nil ms)) h)
 
 pub not_in_set : (w : Wait) → ((n e : Bool) (p : SetPart) (from : ℕ) → w ≡ waits.InSet n e p from → ⊥) → IsNotInSet w

@@ -12,7 +12,7 @@ use Rattle.kex_regexp.specs.declared.wait.Wait.{Wait}
 use Rattle.kex_regexp.specs.declared.wait.Wait.TheVariants as waits
 use Rattle.kex_regexp.specs.Grammar.{is_plain, Member, Item, Set, Postfix, Regex, Last, Or, Branch, Empty, Then, Once, Turns, item, postfix}
 use Rattle.kex_regexp.specs.Breaks.{Break, BadCount, BadSet, OverLimit, break_if, is_bad_set, regex_breaks, piece_breaks}
-use Rattle.kex_regexp.specs.Machine.{Part, EscapeStep, EscapeOn, EscapeRead, EscapeWrong, escape_step, CountStep, CountOn, CountRead, CountWrong, count_step, SetStep, SetOn, SetRead, SetWrong, set_step, Entry, Mark, Ended, Read, Mode, Ready, After, Turned, InEscape, InSet, InCount, State, entries, entry, bytes_read, take_pieces, take_branches, take_regex, after_group, end_branch, begin_piece, after_item, after_turns, on_escape, on_set, on_count, step_in, step, whole_regex, finish, finish_in}
+use Rattle.kex_regexp.specs.Machine.{SetPhase, EscapeStep, EscapeOn, EscapeRead, EscapeWrong, escape_step, CountStep, CountOn, CountRead, CountWrong, count_step, SetStep, SetOn, SetRead, SetWrong, set_step, Entry, Mark, Ended, Read, Mode, Ready, After, Turned, InEscape, InSet, InCount, State, entries, entry, bytes_read, take_pieces, take_branches, take_regex, after_group, end_branch, begin_piece, after_item, after_turns, on_escape, on_set, on_count, step_in, step, whole_regex, finish, finish_in}
 use Rattle.kex_regexp.specs.Holding.{HasMembers, IsSetIn, ShowsCountStep, ShowsMode, ShowsState}
 use Rattle.kex_regexp.specs.Outcomes.{are_bad, count_outcome}
 use Rattle.kex_regexp.specs.Notes.{lesser, least_from, marks, mode_breaks, state_breaks, entries_breaks, entry_breaks, nesting_breaks, set_breaks, count_breaks, byte_breaks, is_after, is_bad_set_so_far, count_break, nesting_break, byte_break, next_depth, depth_after, lesser_of}
@@ -53,7 +53,7 @@ waits_behind nodes at (waits.InEscape e from) i s = absurd s
 waits_behind nodes at (waits.InSet n e p from) i s = absurd s
 waits_behind nodes at (waits.InCount part c brace) i s = absurd s
 
-pub waits_within : (nodes : List Node) (at : ℕ) (w : Wait) (n : Bool) (ms : List Member) (q : Part) → ShowsMode nodes at w (InSet n ms q) → is_after w ≡ false
+pub waits_within : (nodes : List Node) (at : ℕ) (w : Wait) (n : Bool) (ms : List Member) (q : SetPhase) → ShowsMode nodes at w (InSet n ms q) → is_after w ≡ false
 unfolding ShowsMode
 waits_within nodes at waits.Ready n ms q s = absurd s
 waits_within nodes at (waits.After part) n ms q s = absurd s

@@ -9,11 +9,11 @@ use Rattle.kex_regexp.specs.declared.sets.SetPart.TheVariants as parts
 use Rattle.kex_regexp.specs.declared.counts.Count.{Count}
 use Rattle.kex_regexp.specs.declared.counts.Count.TheVariants as counts
 use Rattle.kex_regexp.specs.Grammar.{is_digit, is_end, is_hex, is_punctuation, End, Itself, EscapedEnd, Member, Single, Range}
-use Rattle.kex_tokens.specs.Values.{number_of, number_behind}
+use Rattle.kex_tokens.specs.Values.{decimal_value, number_behind}
 use Rattle.kex_regexp.specs.declared.counts.CountOutcome.{CountOutcome}
 use Rattle.kex_regexp.specs.Postfixes.{CountSign, Digits, CommaSign, CloseSign, NoSign, count_by, low, high}
 use Rattle.kex_regexp.specs.Values.{escaped_byte, end_byte}
-use Rattle.kex_regexp.specs.Machine.{Escaping, Begun, HexBegun, HexOne, EscapeStep, EscapeOn, EscapeRead, EscapeWrong, escape_step, Part, AtStart, Between, HasEnd, HasDash, InFirst, InLast, begin_member, between_step, in_first, in_last, set_step, Counting, Opened, Low, LowComma, LowHigh, OnlyComma, High, CountStep, count_sign, count_step}
+use Rattle.kex_regexp.specs.Machine.{Escaping, Begun, HexBegun, HexOne, EscapeStep, EscapeOn, EscapeRead, EscapeWrong, escape_step, SetPhase, AtStart, Between, HasEnd, HasDash, InFirst, InLast, begin_member, between_step, in_first, in_last, set_step, Counting, Opened, Low, LowComma, LowHigh, OnlyComma, High, CountStep, count_sign, count_step}
 use Rattle.kex_regexp.specs.Holding.{is_empty, capped_count, ShowsEscape, ShowsPart, ShowsSet, ShowsCount, ShowsCountStep}
 use Rattle.kex_regexp.specs.Outcomes.{escape_outcome, begin_outcome, between_outcome, first_outcome, last_outcome, set_outcome, capped_number, count_outcome}
 
@@ -69,7 +69,7 @@ last_refines n e ms f end escapes.Wrong (EscapeRead k) h r s = absurd s
 last_refines n e ms f end escapes.Wrong EscapeWrong h r s = tt
 
 -- what a part of the code shows, by the machine's part
-pub set_refines : (n e : Bool) (p : SetPart) (ms : List Member) (q : Part) (b : ℕ) → e ≡ is_empty ms → ShowsPart p q → ShowsSet (set_outcome n e p b) (set_step n ms q b)
+pub set_refines : (n e : Bool) (p : SetPart) (ms : List Member) (q : SetPhase) (b : ℕ) → e ≡ is_empty ms → ShowsPart p q → ShowsSet (set_outcome n e p b) (set_step n ms q b)
 unfolding set_outcome set_step ShowsSet ShowsPart
 set_refines n e parts.AtStart ms AtStart b h s = by_both ShowsSet (b == 94) _ _ _ _ (refl, h, tt) (between_refines n e ms b h)
 set_refines n e parts.Between ms Between b h s = between_refines n e ms b h
@@ -90,11 +90,11 @@ number_behind-more v (e ∷ ds) d = number_behind-more (10 * v + (e - 48)) ds d
 pub held_arith : (v x y d : ℕ) → v ≡ min x 1001 → y ≡ 10 * x + d → min (10 * min v 1001 + d) 1001 ≡ min y 1001
 held_arith v x y d e f = omega arith
 
-pub held_more : (v : ℕ) (ds : List ℕ) (d : ℕ) → v ≡ capped_count (number_of ds) → capped_number v d ≡ capped_count (number_of (ds ++ d ∷ []))
+pub held_more : (v : ℕ) (ds : List ℕ) (d : ℕ) → v ≡ capped_count (decimal_value ds) → capped_number v d ≡ capped_count (decimal_value (ds ++ d ∷ []))
 unfolding capped_number
-held_more v ds d e = held_arith v (number_of ds) (number_of (ds ++ d ∷ [])) (d - 48) e (number_behind-more 0 ds d)
+held_more v ds d e = held_arith v (decimal_value ds) (decimal_value (ds ++ d ∷ [])) (d - 48) e (number_behind-more 0 ds d)
 
-pub held_first_digit : (d : ℕ) → capped_number 0 d ≡ capped_count (number_of (d ∷ []))
+pub held_first_digit : (d : ℕ) → capped_number 0 d ≡ capped_count (decimal_value (d ∷ []))
 unfolding number_behind
 held_first_digit d = held_more 0 [] d refl
 

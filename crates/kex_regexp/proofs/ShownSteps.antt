@@ -28,7 +28,7 @@ use Rattle.kex_regexp.specs.Grammar.{is_plain, Member, Postfix, ZeroOrMore, OneO
 use Rattle.kex_regexp.specs.Postfixes.{high, low}
 use Rattle.kex_regexp.specs.Values.{escaped_byte, membership, in_set}
 use Rattle.kex_regexp.specs.Shown.{IsNode, Adds}
-use Rattle.kex_regexp.specs.Machine.{Part, Escaping, Begun, EscapeStep, EscapeOn, EscapeRead, EscapeWrong, SetStep, SetOn, SetRead, SetWrong, AtStart, Counting, Opened, CountStep, CountOn, CountRead, CountWrong, Entry, Mark, Ended, Read, Mode, Ready, After, Turned, InEscape, InSet, InCount, State, entries, entry, take_pieces, take_regex, goes, after_group, end_branch, begin_piece, after_item, after_turns, on_escape, on_set, on_count, step_in, step, bytes_read, mode, escape_step, set_step, count_step}
+use Rattle.kex_regexp.specs.Machine.{SetPhase, Escaping, Begun, EscapeStep, EscapeOn, EscapeRead, EscapeWrong, SetStep, SetOn, SetRead, SetWrong, AtStart, Counting, Opened, CountStep, CountOn, CountRead, CountWrong, Entry, Mark, Ended, Read, Mode, Ready, After, Turned, InEscape, InSet, InCount, State, entries, entry, take_pieces, take_regex, goes, after_group, end_branch, begin_piece, after_item, after_turns, on_escape, on_set, on_count, step_in, step, bytes_read, mode, escape_step, set_step, count_step}
 use Rattle.kex_regexp.specs.Holding.{HasMembers, HoldsBounds, IsSetAfter, IsSetIn, IsTurns, HoldsRegex, HoldsPiece, HoldsItem, ConstructsShow, BranchOn, RegexOn, Steps, ShowsMode, ShowsEscape, ShowsPart, ShowsSet, ShowsCount, ShowsCountStep, is_empty, capped_count, capped_bound}
 use Rattle.kex_regexp.proofs.Complete.{cond_no}
 use Rattle.kex_regexp.proofs.Stacks.{HoldsItem-more, ConstructsShow-more, reverse_push}
@@ -354,7 +354,7 @@ mode_escape nodes at e from (InCount i c) s = absurd s
 
 pub record IsInSet (n e : Bool) (p : SetPart) (m : Mode) : Type 0 where
   pub members : List Member
-  pub part : Part
+  pub part : SetPhase
   pub is : m ≡ InSet n members part
   pub empty : e ≡ is_empty members
   pub shows : ShowsPart p part
@@ -422,7 +422,7 @@ pub step_escape : (s : State) (b : ℕ) (x : Escaping) → s.mode ≡ InEscape x
 unfolding step_in
 step_escape s b x e = step_mode s b (InEscape x) e
 
-pub step_set : (s : State) (b : ℕ) (n : Bool) (ms : List Member) (p : Part) → s.mode ≡ InSet n ms p → step s b ≡ on_set s.entries (set_step n ms p b)
+pub step_set : (s : State) (b : ℕ) (n : Bool) (ms : List Member) (p : SetPhase) → s.mode ≡ InSet n ms p → step s b ≡ on_set s.entries (set_step n ms p b)
 unfolding step_in
 step_set s b n ms p e = step_mode s b (InSet n ms p) e
 

@@ -3,9 +3,9 @@ use Rattle.std.proofs.Common.{◌≡◌, ℕ, Bool, true, false, cond, List, [],
 use Rattle.std.specs.Prelude.{◌==◌}
 use Rattle.std.proofs.lemmas.Bool.{eqb-true, eqb-false, ne_eqb, false≢true}
 use Rattle.std.proofs.lemmas.List.{append-nil}
-use Rattle.kex_regexp.specs.Grammar.{is_plain, is_punctuation, is_digit, is_hex, is_end, Escape, End, Itself, EscapedEnd, Member, Single, Range, Postfix, ZeroOrMore, OneOrMore, Optional, Regex, Last, Or, Branch, Empty, Then, Once, Turns, Item, Plain, Escaped, Dot, Set, Group, escape, end_of, member, members, caret, postfix, lazy_mark, regex, branch, piece, item, IsEscape, IsEnd, IsMember, AreMembers, begins_with_caret, IsSet, AreDigits, IsNumber, IsPostfix, IsRegex, IsBranch, IsPiece, IsItem}
+use Rattle.kex_regexp.specs.Grammar.{is_plain, is_punctuation, is_digit, is_hex, is_end, Escape, End, Itself, EscapedEnd, Member, Single, Range, Postfix, ZeroOrMore, OneOrMore, Optional, Regex, Last, Or, Branch, Empty, Then, Once, Turns, Item, Plain, Escaped, Dot, Set, Group, escape, end_of, member, members, negation, postfix, lazy_mark, regex, branch, piece, item, IsEscape, IsEnd, IsMember, AreMembers, begins_with_caret, IsSet, AreDigits, IsNumber, IsPostfix, IsRegex, IsBranch, IsPiece, IsItem}
 use Rattle.kex_regexp.specs.Postfixes.{CountSign, Digits, CommaSign, CloseSign, NoSign, count_by}
-use Rattle.kex_regexp.specs.Machine.{entry, entries, escaping, part, set_so_far, counting, mode, bytes_read, Escaping, Begun, HexBegun, HexOne, EscapeStep, EscapeOn, EscapeRead, EscapeWrong, escape_step, Part, AtStart, Between, HasEnd, HasDash, InFirst, InLast, SetStep, SetOn, SetRead, SetWrong, begin_member, between_step, in_first, in_last, set_step, Counting, Opened, Low, LowComma, LowHigh, OnlyComma, High, CountStep, CountOn, CountRead, CountWrong, count_sign, count_step, Entry, Mark, Ended, Read, Mode, Ready, After, Turned, InEscape, InSet, InCount, State, take_pieces, take_branches, take_regex, goes, after_group, end_branch, begin_piece, after_item, after_turns, on_escape, on_set, on_count, step_in, step, next, state_after, whole_regex, finish_in, start}
+use Rattle.kex_regexp.specs.Machine.{entry, entries, escaping, set_phase, set_so_far, counting, mode, bytes_read, Escaping, Begun, HexBegun, HexOne, EscapeStep, EscapeOn, EscapeRead, EscapeWrong, escape_step, SetPhase, AtStart, Between, HasEnd, HasDash, InFirst, InLast, SetStep, SetOn, SetRead, SetWrong, begin_member, between_step, in_first, in_last, set_step, Counting, Opened, Low, LowComma, LowHigh, OnlyComma, High, CountStep, CountOn, CountRead, CountWrong, count_sign, count_step, Entry, Mark, Ended, Read, Mode, Ready, After, Turned, InEscape, InSet, InCount, State, take_pieces, take_branches, take_regex, goes, after_group, end_branch, begin_piece, after_item, after_turns, on_escape, on_set, on_count, step_in, step, next, state_after, whole_regex, finish_in, start}
 
 -- a choice by a test has what both sides have
 pub by_test : {A : Type 0} (P : A → Type 0) (b : Bool) (x y : A) → (b ≡ true → P x) → (b ≡ false → P y) → P (cond b x y)
@@ -57,7 +57,7 @@ HasBegun true ms = Unit {0}
 HasBegun false [] = ⊥
 HasBegun false (m ∷ ms) = Unit {0}
 
-unfoldable pub IsPart : Bool → List Member → Part → Type 0
+unfoldable pub IsPart : Bool → List Member → SetPhase → Type 0
 IsPart negated ms AtStart = (negated ≡ false) × IsNone ms
 IsPart negated ms Between = Fine negated ms × HasBegun negated ms
 IsPart negated ms (HasEnd end) = Fine negated (ms ++ Single end ∷ [])
@@ -120,11 +120,11 @@ HasBegun-more false (n ∷ ms) m = tt
 -- ---- spelling with one byte more
 
 -- a set so far in other words: the bytes behind the bracket and the caret
-pub so_far_more : (negated : Bool) (ms : List Member) (p q : List ℕ) (b : ℕ) → q ≡ p ++ b ∷ [] → 91 ∷ caret negated ++ (members ms ++ q) ≡ (91 ∷ caret negated ++ (members ms ++ p)) ++ b ∷ []
+pub so_far_more : (negated : Bool) (ms : List Member) (p q : List ℕ) (b : ℕ) → q ≡ p ++ b ∷ [] → 91 ∷ negation negated ++ (members ms ++ q) ≡ (91 ∷ negation negated ++ (members ms ++ p)) ++ b ∷ []
 so_far_more negated ms p q b e =
-    ap (λ (w : List ℕ). 91 ∷ w) (ap (λ (w : List ℕ). caret negated ++ (members ms ++ w)) e
-    ∙ ap (λ (w : List ℕ). caret negated ++ w) (sym (append_assoc (members ms) p (b ∷ [])))
-    ∙ sym (append_assoc (caret negated) (members ms ++ p) (b ∷ [])))
+    ap (λ (w : List ℕ). 91 ∷ w) (ap (λ (w : List ℕ). negation negated ++ (members ms ++ w)) e
+    ∙ ap (λ (w : List ℕ). negation negated ++ w) (sym (append_assoc (members ms) p (b ∷ [])))
+    ∙ sym (append_assoc (negation negated) (members ms ++ p) (b ∷ [])))
 
 -- a member that is whole belongs to the members
 pub member_in : (ms : List Member) (m : Member) (w : List ℕ) → w ≡ member m → members (ms ++ m ∷ []) ++ [] ≡ members ms ++ w
@@ -140,7 +140,7 @@ first_end false (m ∷ ms) b f c e = Fine-more false (m ∷ ms) (Single (Itself 
 first_end false [] b f c e = (ne_eqb b 94 c, e, tt)
 
 pub begin_sound : (negated : Bool) (ms : List Member) (b : ℕ) → Fine negated ms → ((b ≡ 94) → HasBegun negated ms) → SetGoes (set_so_far negated ms Between ++ b ∷ []) (begin_member negated ms b)
-unfolding begin_member SetGoes set_so_far part IsPart end_of escaping IsEscaping
+unfolding begin_member SetGoes set_so_far set_phase IsPart end_of escaping IsEscaping
 begin_sound negated ms b f c =
     let P = SetGoes (set_so_far negated ms Between ++ b ∷ []) in
     by_test P (is_end b) _ _ (λ e. (first_end negated ms b f c e, so_far_more negated ms [] (b ∷ []) b refl)) (λ n.
@@ -151,8 +151,8 @@ unfolding Fine IsSet AreMembers
 is_set true m ms f = f
 is_set false m ms f = f
 
-pub so_far_end : (negated : Bool) (w : List ℕ) (b : ℕ) → (b == 93) ≡ true → 91 ∷ caret negated ++ (w ++ 93 ∷ []) ≡ (91 ∷ caret negated ++ w) ++ b ∷ []
-so_far_end negated w b e = ap (λ (v : List ℕ). 91 ∷ v) (ap (λ (c : ℕ). caret negated ++ (w ++ c ∷ [])) (is_code b 93 e) ∙ sym (append_assoc (caret negated) w (b ∷ [])))
+pub so_far_end : (negated : Bool) (w : List ℕ) (b : ℕ) → (b == 93) ≡ true → 91 ∷ negation negated ++ (w ++ 93 ∷ []) ≡ (91 ∷ negation negated ++ w) ++ b ∷ []
+so_far_end negated w b e = ap (λ (v : List ℕ). 91 ∷ v) (ap (λ (c : ℕ). negation negated ++ (w ++ c ∷ [])) (is_code b 93 e) ∙ sym (append_assoc (negation negated) w (b ∷ [])))
 
 pub no_caret : (x : Escape) → begins_with_caret (Single (EscapedEnd x)) ≡ false
 unfolding begins_with_caret
@@ -171,20 +171,20 @@ unfolding Fine
 fine_start = tt
 
 pub caret_read : (b : ℕ) → (b == 94) ≡ true → SetGoes (set_so_far false [] AtStart ++ b ∷ []) (SetOn true [] Between)
-unfolding SetGoes IsPart Fine HasBegun AreMembers set_so_far part members caret
+unfolding SetGoes IsPart Fine HasBegun AreMembers set_so_far set_phase members negation
 caret_read b e = ((tt, tt), ap (λ (c : ℕ). 91 ∷ c ∷ []) (is_code b 94 e))
 
 pub dash_read : (negated : Bool) (ms : List Member) (end : End) (b : ℕ) → Fine negated (ms ++ Single end ∷ []) → (b == 45) ≡ true → SetGoes (set_so_far negated ms (HasEnd end) ++ b ∷ []) (SetOn negated ms (HasDash end))
-unfolding SetGoes IsPart set_so_far part
+unfolding SetGoes IsPart set_so_far set_phase
 dash_read negated ms end b f e = (f, so_far_more negated ms (end_of end) (end_of end ++ 45 ∷ []) b (ap (λ (c : ℕ). end_of end ++ c ∷ []) (is_code b 45 e)))
 
 pub last_begins : (negated : Bool) (ms : List Member) (first : End) (b : ℕ) → Fine negated (ms ++ Single first ∷ []) → (b == 92) ≡ true → SetGoes (set_so_far negated ms (HasDash first) ++ b ∷ []) (SetOn negated ms (InLast first Begun))
-unfolding SetGoes IsPart set_so_far part escaping IsEscaping
+unfolding SetGoes IsPart set_so_far set_phase escaping IsEscaping
 last_begins negated ms first b f e = ((f, tt), so_far_more negated ms (end_of first ++ 45 ∷ []) (end_of first ++ 45 ∷ 92 ∷ []) b (ap (λ (c : ℕ). end_of first ++ 45 ∷ c ∷ []) (is_code b 92 e) ∙ sym (append_assoc (end_of first) (45 ∷ []) (b ∷ []))))
 
 pub set_ends : (negated : Bool) (m : Member) (ms : List Member) (b : ℕ) → Fine negated (m ∷ ms) → (b == 93) ≡ true → SetGoes (set_so_far negated (m ∷ ms) Between ++ b ∷ []) (SetRead negated (m ∷ ms))
-unfolding SetGoes Fine IsSet set_so_far part item AreMembers
-set_ends negated m ms b f e = (is_set negated m ms f, ap (λ (w : List ℕ). 91 ∷ caret negated ++ w) (ap (λ (w : List ℕ). w ++ 93 ∷ []) (sym (append-nil (members (m ∷ ms))))) ∙ so_far_end negated (members (m ∷ ms) ++ []) b e)
+unfolding SetGoes Fine IsSet set_so_far set_phase item AreMembers
+set_ends negated m ms b f e = (is_set negated m ms f, ap (λ (w : List ℕ). 91 ∷ negation negated ++ w) (ap (λ (w : List ℕ). w ++ 93 ∷ []) (sym (append-nil (members (m ∷ ms))))) ∙ so_far_end negated (members (m ∷ ms) ++ []) b e)
 
 pub between_sound : (negated : Bool) (ms : List Member) (b : ℕ) → Fine negated ms → ((b ≡ 94) → HasBegun negated ms) → SetGoes (set_so_far negated ms Between ++ b ∷ []) (between_step negated ms b)
 unfolding between_step
@@ -194,29 +194,29 @@ between_sound negated (m ∷ ms) b f c =
 
 -- an end that is read is a member
 pub end_in : (negated : Bool) (ms : List Member) (end : End) → set_so_far negated (ms ++ Single end ∷ []) Between ≡ set_so_far negated ms (HasEnd end)
-unfolding set_so_far part member
-end_in negated ms end = ap (λ (w : List ℕ). 91 ∷ caret negated ++ w) (member_in ms (Single end) (end_of end) refl)
+unfolding set_so_far set_phase member
+end_in negated ms end = ap (λ (w : List ℕ). 91 ∷ negation negated ++ w) (member_in ms (Single end) (end_of end) refl)
 
-pub range_in : (negated : Bool) (ms : List Member) (first last : End) (w : List ℕ) → w ≡ end_of first ++ 45 ∷ end_of last → set_so_far negated (ms ++ Range first last ∷ []) Between ≡ 91 ∷ caret negated ++ (members ms ++ w)
-unfolding set_so_far part member
-range_in negated ms first last w e = ap (λ (v : List ℕ). 91 ∷ caret negated ++ v) (member_in ms (Range first last) w e)
+pub range_in : (negated : Bool) (ms : List Member) (first last : End) (w : List ℕ) → w ≡ end_of first ++ 45 ∷ end_of last → set_so_far negated (ms ++ Range first last ∷ []) Between ≡ 91 ∷ negation negated ++ (members ms ++ w)
+unfolding set_so_far set_phase member
+range_in negated ms first last w e = ap (λ (v : List ℕ). 91 ∷ negation negated ++ v) (member_in ms (Range first last) w e)
 
 pub in_first_sound : (negated : Bool) (ms : List Member) (e : Escaping) (b : ℕ) (t : EscapeStep) → Fine negated ms → EscapeGoes (escaping e ++ b ∷ []) t → SetGoes (set_so_far negated ms (InFirst e) ++ b ∷ []) (in_first negated ms t)
-unfolding in_first SetGoes EscapeGoes set_so_far part IsPart end_of
+unfolding in_first SetGoes EscapeGoes set_so_far set_phase IsPart end_of
 in_first_sound negated ms e b (EscapeOn f) fine g = ((fine, g.0), so_far_more negated ms (escaping e) (escaping f) b g.1)
 in_first_sound negated ms e b (EscapeRead x) fine g = (Fine-first negated ms (Single (EscapedEnd x)) fine (no_caret x) (an_end x g.0), so_far_more negated ms (escaping e) (escape x) b g.1)
 in_first_sound negated ms e b EscapeWrong fine g = tt
 
 pub in_last_sound : (negated : Bool) (ms : List Member) (first : End) (e : Escaping) (b : ℕ) (t : EscapeStep) → Fine negated (ms ++ Single first ∷ []) → EscapeGoes (escaping e ++ b ∷ []) t → SetGoes (set_so_far negated ms (InLast first e) ++ b ∷ []) (in_last negated ms first t)
-unfolding in_last SetGoes EscapeGoes set_so_far part IsPart end_of IsEnd
+unfolding in_last SetGoes EscapeGoes set_so_far set_phase IsPart end_of IsEnd
 in_last_sound negated ms first e b (EscapeOn f) fine g =
     ((fine, g.0), so_far_more negated ms (end_of first ++ 45 ∷ escaping e) (end_of first ++ 45 ∷ escaping f) b (ap (λ (w : List ℕ). end_of first ++ 45 ∷ w) g.1 ∙ sym (append_assoc (end_of first) (45 ∷ escaping e) (b ∷ []))))
 in_last_sound negated ms first e b (EscapeRead x) fine g =
     ((Fine-range negated ms first (EscapedEnd x) fine g.0, HasBegun-more negated ms (Range first (EscapedEnd x))), range_in negated ms first (EscapedEnd x) (end_of first ++ 45 ∷ escape x) refl ∙ so_far_more negated ms (end_of first ++ 45 ∷ escaping e) (end_of first ++ 45 ∷ escape x) b (ap (λ (w : List ℕ). end_of first ++ 45 ∷ w) g.1 ∙ sym (append_assoc (end_of first) (45 ∷ escaping e) (b ∷ []))))
 in_last_sound negated ms first e b EscapeWrong fine g = tt
 
-pub last_more : (negated : Bool) (ms : List Member) (first : End) (b : ℕ) → 91 ∷ caret negated ++ (members ms ++ (end_of first ++ 45 ∷ b ∷ [])) ≡ set_so_far negated ms (HasDash first) ++ b ∷ []
-unfolding set_so_far part
+pub last_more : (negated : Bool) (ms : List Member) (first : End) (b : ℕ) → 91 ∷ negation negated ++ (members ms ++ (end_of first ++ 45 ∷ b ∷ [])) ≡ set_so_far negated ms (HasDash first) ++ b ∷ []
+unfolding set_so_far set_phase
 last_more negated ms first b = so_far_more negated ms (end_of first ++ 45 ∷ []) (end_of first ++ 45 ∷ b ∷ []) b (sym (append_assoc (end_of first) (45 ∷ []) (b ∷ [])))
 
 pub last_read : (negated : Bool) (ms : List Member) (first : End) (b : ℕ) → Fine negated (ms ++ Single first ∷ []) → is_end b ≡ true → SetGoes (set_so_far negated ms (HasDash first) ++ b ∷ []) (SetOn negated (ms ++ Range first (Itself b) ∷ []) Between)
@@ -224,8 +224,8 @@ unfolding SetGoes IsPart IsEnd end_of
 last_read negated ms first b f e =
     ((Fine-range negated ms first (Itself b) f e, HasBegun-more negated ms (Range first (Itself b))), range_in negated ms first (Itself b) (end_of first ++ 45 ∷ b ∷ []) refl ∙ last_more negated ms first b)
 
-pub set_sound : (negated : Bool) (ms : List Member) (p : Part) (b : ℕ) → IsPart negated ms p → SetGoes (set_so_far negated ms p ++ b ∷ []) (set_step negated ms p b)
-unfolding set_step IsPart set_so_far between_step SetGoes part
+pub set_sound : (negated : Bool) (ms : List Member) (p : SetPhase) (b : ℕ) → IsPart negated ms p → SetGoes (set_so_far negated ms p ++ b ∷ []) (set_step negated ms p b)
+unfolding set_step IsPart set_so_far between_step SetGoes set_phase
 set_sound true ms AtStart b good = absurd (false≢true (sym good.0))
 set_sound false (m ∷ ms) AtStart b good = absurd (not_none m ms good.1)
 set_sound false [] AtStart b good =
@@ -385,7 +385,7 @@ pub one_more : (es : List Entry) (b n : ℕ) → (b == n) ≡ true → entries e
 one_more es b n e = ap (λ (x : ℕ). entries es ++ x ∷ []) (is_code b n e)
 
 pub piece_sound : (es : List Entry) (b : ℕ) → AreEntries es → Goes (entries es ++ b ∷ []) (begin_piece es b)
-unfolding begin_piece mode IsMode item IsItem escaping IsEscaping set_so_far part members caret IsPart IsNone entries entry AreEntries IsEntry Goes branch IsBranch
+unfolding begin_piece mode IsMode item IsItem escaping IsEscaping set_so_far set_phase members negation IsPart IsNone entries entry AreEntries IsEntry Goes branch IsBranch
 piece_sound es b h =
     let P = Goes (entries es ++ b ∷ []) in
     let p = pieces_taken es Empty h tt in

@@ -2,11 +2,11 @@
 use Rattle.std.proofs.Common.{◌≡◌, ℕ, Bool, true, false, List, [], ◌∷◌, ◌++◌, Option, Some, None, refl, sym, ap, ◌∙◌, subst, append_assoc}
 use Rattle.std.proofs.lemmas.List.{append-nil}
 use Rattle.std.proofs.lemmas.Bool.{false≢true}
-use Rattle.kex_regexp.specs.Grammar.{is_digit, is_hex, is_end, Escape, Newline, Hex, End, Itself, EscapedEnd, Member, Single, Range, Postfix, Exactly, AtLeast, AtMost, FromTo, Regex, Last, Or, Branch, Empty, Then, Piece, Once, Turns, Item, Escaped, Set, Group, escape, end_of, member, members, caret, postfix, lazy_mark, regex, branch, piece, item, IsEscape, IsEnd, IsMember, AreMembers, begins_with_caret, IsSet, AreDigits, IsNumber, IsPostfix, IsRegex, IsBranch, IsPiece, IsItem}
-use Rattle.kex_regexp.specs.Bodies.{Spells, IsBody, BeginsBody}
-use Rattle.kex_regexp.specs.Machine.{entry, entries, escaping, part, set_so_far, counting, mode, bytes_read, Escaping, Begun, HexBegun, HexOne, Part, AtStart, Between, HasEnd, HasDash, InFirst, InLast, Counting, Opened, Low, LowComma, LowHigh, OnlyComma, High, Entry, Mark, Ended, Read, Mode, Ready, After, Turned, InEscape, InSet, InCount, State, take_branches, take_regex, state_after, whole_regex, finish_in, finish, start}
+use Rattle.kex_regexp.specs.Grammar.{is_digit, is_hex, is_end, Escape, Newline, Hex, End, Itself, EscapedEnd, Member, Single, Range, Postfix, Exactly, AtLeast, AtMost, FromTo, Regex, Last, Or, Branch, Empty, Then, Piece, Once, Turns, Item, Escaped, Set, Group, escape, end_of, member, members, negation, postfix, lazy_mark, regex, branch, piece, item, IsEscape, IsEnd, IsMember, AreMembers, begins_with_caret, IsSet, AreDigits, IsNumber, IsPostfix, IsRegex, IsBranch, IsPiece, IsItem}
+use Rattle.kex_regexp.specs.Bodies.{SpellsRegex, IsBody, BeginsBody}
+use Rattle.kex_regexp.specs.Machine.{entry, entries, escaping, set_phase, set_so_far, counting, mode, bytes_read, Escaping, Begun, HexBegun, HexOne, SetPhase, AtStart, Between, HasEnd, HasDash, InFirst, InLast, Counting, Opened, Low, LowComma, LowHigh, OnlyComma, High, Entry, Mark, Ended, Read, Mode, Ready, After, Turned, InEscape, InSet, InCount, State, take_branches, take_regex, state_after, whole_regex, finish_in, finish, start}
 use Rattle.kex_regexp.proofs.Sound.{IsEscaping, Fine, IsNone, IsPart, members-append, Fine-first, Fine-range, IsCounting, IsEntry, AreEntries, IsMode, IsState, Goes, reads_sound, start_sound, finish_sound_in, Finishes, no_caret}
-use Rattle.kex_regexp.proofs.Complete.{MayBegin, regex_onto, IsBase, regex_taken, Begins, regex_reads, reads-append, reads_none}
+use Rattle.kex_regexp.proofs.Complete.{MayBegin, regex_onto, IsBase, regex_taken, Begins, regex_reads, state_after-append, reads_none}
 
 -- ---- a front of a tree's spelling
 
@@ -104,16 +104,16 @@ set_of_fine false [] m f = f
 set_of_fine false (n ∷ ms) m f = f
 
 -- a set with one more member, and the bracket
-pub set_for : (negated : Bool) (ms : List Member) (m : Member) (front more : List ℕ) → member m ≡ front ++ more → Fine negated (ms ++ m ∷ []) → ItemFor (91 ∷ caret negated ++ (members ms ++ front))
+pub set_for : (negated : Bool) (ms : List Member) (m : Member) (front more : List ℕ) → member m ≡ front ++ more → Fine negated (ms ++ m ∷ []) → ItemFor (91 ∷ negation negated ++ (members ms ++ front))
 unfolding item IsItem members
 set_for negated ms m front more e f = record {
   more = more ++ 93 ∷ [];
   tree = Set negated (ms ++ m ∷ []);
   well = set_of_fine negated ms m f;
   same =
-      ap (λ (w : List ℕ). 91 ∷ caret negated ++ (w ++ 93 ∷ [])) (members-append ms (m ∷ []) ∙ ap (λ (w : List ℕ). members ms ++ w) (append-nil (member m) ∙ e))
-      ∙ ap (λ (w : List ℕ). 91 ∷ caret negated ++ w) (append_assoc (members ms) (front ++ more) (93 ∷ []) ∙ ap (λ (w : List ℕ). members ms ++ w) (append_assoc front more (93 ∷ [])) ∙ sym (append_assoc (members ms) front (more ++ 93 ∷ [])))
-      ∙ ap (λ (w : List ℕ). 91 ∷ w) (sym (append_assoc (caret negated) (members ms ++ front) (more ++ 93 ∷ [])));
+      ap (λ (w : List ℕ). 91 ∷ negation negated ++ (w ++ 93 ∷ [])) (members-append ms (m ∷ []) ∙ ap (λ (w : List ℕ). members ms ++ w) (append-nil (member m) ∙ e))
+      ∙ ap (λ (w : List ℕ). 91 ∷ negation negated ++ w) (append_assoc (members ms) (front ++ more) (93 ∷ []) ∙ ap (λ (w : List ℕ). members ms ++ w) (append_assoc front more (93 ∷ [])) ∙ sym (append_assoc (members ms) front (more ++ 93 ∷ [])))
+      ∙ ap (λ (w : List ℕ). 91 ∷ w) (sym (append_assoc (negation negated) (members ms ++ front) (more ++ 93 ∷ [])));
 }
 
 pub record EscapeFor (e : Escaping) : Type 0 where
@@ -162,11 +162,11 @@ unfolding member end_of
 range_escape first x front more e = ap (λ (w : List ℕ). end_of first ++ 45 ∷ w) e ∙ sym (append_assoc (end_of first) (45 ∷ front) more)
 
 pub start_for : ItemFor (91 ∷ [])
-unfolding item IsItem caret members member end_of IsSet begins_with_caret IsMember IsEnd is_end AreMembers
+unfolding item IsItem negation members member end_of IsSet begins_with_caret IsMember IsEnd is_end AreMembers
 start_for = record { more = 97 ∷ 93 ∷ []; tree = Set false (Single (Itself 97) ∷ []); well = (refl, refl, tt); same = refl }
 
-pub at_start : (negated : Bool) (ms : List Member) → (negated ≡ false) × IsNone ms → ItemFor (91 ∷ caret negated ++ (members ms ++ []))
-unfolding IsNone caret members
+pub at_start : (negated : Bool) (ms : List Member) → (negated ≡ false) × IsNone ms → ItemFor (91 ∷ negation negated ++ (members ms ++ []))
+unfolding IsNone negation members
 at_start true ms h = absurd (false≢true (sym h.0))
 at_start false [] h = start_for
 at_start false (m ∷ ms) h = absurd h.1
@@ -179,8 +179,8 @@ pub end_well : (x : Escape) → IsEscape x → IsEnd (EscapedEnd x)
 unfolding IsEnd
 end_well x h = h
 
-pub set_front : (negated : Bool) (ms : List Member) (p : Part) → IsPart negated ms p → ItemFor (set_so_far negated ms p)
-unfolding IsPart set_so_far part
+pub set_front : (negated : Bool) (ms : List Member) (p : SetPhase) → IsPart negated ms p → ItemFor (set_so_far negated ms p)
+unfolding IsPart set_so_far set_phase
 set_front negated ms AtStart h = at_start negated ms h
 set_front negated ms Between h = set_for negated ms (Single (Itself 97)) [] (97 ∷ []) letter_is (Fine-first negated ms (Single (Itself 97)) h.0 letter_no_caret letter_well)
 set_front negated ms (HasEnd end) h = set_for negated ms (Single end) (end_of end) [] (single_is end) h
@@ -271,7 +271,7 @@ read_begins w s e =
     begins_from w (subst Completes g.1 (state_completes s g.0))
 
 -- what was read to its end is the tree
-pub read_spells : (w : List ℕ) (s : State) (r : Regex) → state_after start w ≡ Some s → finish s ≡ Some r → Spells r w
+pub read_spells : (w : List ℕ) (s : State) (r : Regex) → state_after start w ≡ Some s → finish s ≡ Some r → SpellsRegex r w
 unfolding Goes Finishes finish bytes_read
 read_spells w s r e f =
     let g : Goes w (Some s) = subst (λ (o : Option State). Goes w o) e (reads_sound [] start w start_sound) in
@@ -295,14 +295,14 @@ spelled_reads r h =
     (record { mode = a.0; entries = a.1 }, a.3, ends a.0 a.1 r a.2)
 
 -- so a body is read, as the tree that it is
-pub body_reads : (w : List ℕ) (r : Regex) → Spells r w → (s : State) × (state_after start w ≡ Some s) × (finish s ≡ Some r)
+pub body_reads : (w : List ℕ) (r : Regex) → SpellsRegex r w → (s : State) × (state_after start w ≡ Some s) × (finish s ≡ Some r)
 body_reads w r h = subst (λ (v : List ℕ). (s : State) × (state_after start v ≡ Some s) × (finish s ≡ Some r)) h.same (spelled_reads r h.well)
 
 -- and what isn't read begins none
 pub unread_begins : (w : List ℕ) → state_after start w ≡ None → BeginsBody w → ⊥
 unread_begins w e b =
     let a = body_reads (w ++ b.0) b.1.0 b.1.1 in
-    let n : state_after start (w ++ b.0) ≡ None = reads-append start w b.0 ∙ ap (λ (o : Option State). state_after o b.0) e ∙ reads_none b.0 in
+    let n : state_after start (w ++ b.0) ≡ None = state_after-append start w b.0 ∙ ap (λ (o : Option State). state_after o b.0) e ∙ reads_none b.0 in
     cc
 
 pub unfinished : (w : List ℕ) (s : State) → state_after start w ≡ Some s → finish s ≡ None → IsBody w → ⊥
@@ -313,7 +313,7 @@ unfinished w s e f b =
     cc
 
 -- a body is one tree
-pub one_tree : (w : List ℕ) (r q : Regex) → Spells r w → Spells q w → r ≡ q
+pub one_tree : (w : List ℕ) (r q : Regex) → SpellsRegex r w → SpellsRegex q w → r ≡ q
 one_tree w r q h k =
     let a = body_reads w r h in
     let b = body_reads w q k in

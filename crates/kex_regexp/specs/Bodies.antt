@@ -6,12 +6,12 @@ use Rattle.kex_regexp.specs.Breaks.{Break, BadRegex, BadCount, BadSet, OverLimit
 use Rattle.kex_regexp.specs.Grammar.{Regex, regex, IsRegex}
 
 -- the bytes are this regex
-pub record Spells (r : Regex) (bytes : List ℕ) : Type 0 where
+pub record SpellsRegex (r : Regex) (bytes : List ℕ) : Type 0 where
   pub well : IsRegex r
   pub same : regex r ≡ bytes
 
 abbrev pub IsBody : List ℕ → Type 0
-IsBody bytes = (r : Regex) × Spells r bytes
+IsBody bytes = (r : Regex) × SpellsRegex r bytes
 
 -- some bytes behind these make a body of them
 abbrev pub BeginsBody : List ℕ → Type 0
@@ -26,7 +26,7 @@ pub record IsFirstWrong (bytes : List ℕ) (k : ℕ) : Type 0 where
 
 -- the bytes are a body that stands at an offset under so many marks, and this is the least of the rules that it breaks
 abbrev pub BreaksFirst : List ℕ → ℕ → ℕ → Break → Type 0
-BreaksFirst bytes at depth b = (r : Regex) × Spells r bytes × IsLeast (regex_breaks r at depth) b
+BreaksFirst bytes at depth b = (r : Regex) × SpellsRegex r bytes × IsLeast (regex_breaks r at depth) b
 
 abbrev pub fault_of : Break → RegexFault
 fault_of (BadRegex place) = faults.BadRegex place

@@ -93,9 +93,9 @@ unfoldable pub members : List Member → List ℕ
 members [] = []
 members (m ∷ ms) = member m ++ members ms
 
-unfoldable pub caret : Bool → List ℕ
-caret true = byte.caret ∷ []
-caret false = []
+unfoldable pub negation : Bool → List ℕ
+negation true = byte.caret ∷ []
+negation false = []
 
 -- a number is its digits
 abbrev pub signs : Signs ℕ
@@ -124,7 +124,7 @@ unfoldable mutual
   item (Plain b) = b ∷ []
   item (Escaped e) = escape e
   item Dot = byte.dot ∷ []
-  item (Set negated ms) = byte.open_bracket ∷ caret negated ++ (members ms ++ byte.close_bracket ∷ [])
+  item (Set negated ms) = byte.open_bracket ∷ negation negated ++ (members ms ++ byte.close_bracket ∷ [])
   item (Group r) = byte.open_paren ∷ regex r ++ byte.close_paren ∷ []
 
 -- ---- the conditions on bytes

@@ -25,12 +25,12 @@ use Rattle.kex_regexp.specs.declared.wait.StepFault.TheVariants as faults
 use Rattle.kex_regexp.specs.declared.wait.Wait.{Wait}
 use Rattle.kex_regexp.specs.declared.wait.Wait.TheVariants as waits
 use Rattle.kex_regexp.specs.Grammar.{item, is_hex, Member, Regex, Last, Or, Branch, Empty, Then, Piece, Once, Turns, Item, Plain, Escaped, Dot, Set, Group, branch, piece, postfix}
-use Rattle.kex_regexp.specs.Machine.{Escaping, Begun, HexBegun, HexOne, EscapeStep, EscapeOn, EscapeRead, EscapeWrong, Part, AtStart, Between, HasEnd, HasDash, InFirst, InLast, SetStep, SetOn, SetRead, SetWrong, Counting, Opened, Low, LowComma, LowHigh, OnlyComma, High, CountStep, CountOn, CountRead, CountWrong, Entry, Mark, Ended, Read, Mode, Ready, After, Turned, InEscape, InSet, InCount, State, entries, bytes_read}
+use Rattle.kex_regexp.specs.Machine.{Escaping, Begun, HexBegun, HexOne, EscapeStep, EscapeOn, EscapeRead, EscapeWrong, SetPhase, AtStart, Between, HasEnd, HasDash, InFirst, InLast, SetStep, SetOn, SetRead, SetWrong, Counting, Opened, Low, LowComma, LowHigh, OnlyComma, High, CountStep, CountOn, CountRead, CountWrong, Entry, Mark, Ended, Read, Mode, Ready, After, Turned, InEscape, InSet, InCount, State, entries, bytes_read}
 use Rattle.kex_regexp.specs.Parents.{NoneLost}
 use Rattle.kex_regexp.specs.Postfixes.{Postfix, high, is_bad_count, low}
 use Rattle.kex_regexp.specs.Shown.{IsNode, IsClass}
 use Rattle.kex_regexp.specs.Values.{end_byte, escaped_byte, has_backward, in_members, in_set}
-use Rattle.kex_tokens.specs.Values.{number_of}
+use Rattle.kex_tokens.specs.Values.{decimal_value}
 
 -- ---- nodes: as in ShowsRegex, but where a count is bad its item stands alone
 
@@ -99,7 +99,7 @@ abbrev pub is_empty : List Member → Bool
 is_empty [] = true
 is_empty (m ∷ ms) = false
 
-unfoldable pub ShowsPart : SetPart → Part → Type 0
+unfoldable pub ShowsPart : SetPart → SetPhase → Type 0
 ShowsPart parts.AtStart AtStart = Unit {0}
 ShowsPart parts.Between Between = Unit {0}
 ShowsPart (parts.HasEnd b) (HasEnd end) = b ≡ end_byte end
@@ -150,11 +150,11 @@ HoldsBounds b p = (b.low ≡ capped_count (low p)) × (b.high ≡ capped_bound (
 
 unfoldable pub ShowsCount : Count → Counting → Type 0
 ShowsCount counts.Opened Opened = Unit {0}
-ShowsCount (counts.Low v) (Low n) = v ≡ capped_count (number_of n)
-ShowsCount (counts.LowComma v) (LowComma n) = v ≡ capped_count (number_of n)
-ShowsCount (counts.LowHigh v w) (LowHigh n m) = (v ≡ capped_count (number_of n)) × (w ≡ capped_count (number_of m))
+ShowsCount (counts.Low v) (Low n) = v ≡ capped_count (decimal_value n)
+ShowsCount (counts.LowComma v) (LowComma n) = v ≡ capped_count (decimal_value n)
+ShowsCount (counts.LowHigh v w) (LowHigh n m) = (v ≡ capped_count (decimal_value n)) × (w ≡ capped_count (decimal_value m))
 ShowsCount counts.OnlyComma OnlyComma = Unit {0}
-ShowsCount (counts.High w) (High m) = w ≡ capped_count (number_of m)
+ShowsCount (counts.High w) (High m) = w ≡ capped_count (decimal_value m)
 ShowsCount _ _ = ⊥
 
 unfoldable pub ShowsCountStep : CountOutcome → CountStep → Type 0

@@ -3,7 +3,7 @@ use Rattle.kex_tokens.specs.Bytes as byte
 use Rattle.std.specs.Prelude.{ℕ, Bool, true, false, List, [], ◌∷◌, ◌++◌, Option, Some, None, ◌==◌, if◌then◌else◌}
 pub use Rattle.kex_regexp.specs.declared.escapes.Escaping.{Escaping}
 pub use Rattle.kex_regexp.specs.declared.escapes.Escaping.TheVariants.{Begun, HexBegun, HexOne}
-use Rattle.kex_regexp.specs.Grammar.{is_plain, is_punctuation, is_digit, is_hex, is_end, Escape, Newline, Tab, Return, Hex, Punctuation, End, Itself, EscapedEnd, Member, Single, Range, Regex, Last, Or, Branch, Empty, Then, Piece, Once, Turns, Item, Plain, Escaped, Dot, Set, Group, branch, piece, item, caret, members, end_of, signs, postfix}
+use Rattle.kex_regexp.specs.Grammar.{is_plain, is_punctuation, is_digit, is_hex, is_end, Escape, Newline, Tab, Return, Hex, Punctuation, End, Itself, EscapedEnd, Member, Single, Range, Regex, Last, Or, Branch, Empty, Then, Piece, Once, Turns, Item, Plain, Escaped, Dot, Set, Group, branch, piece, item, negation, members, end_of, signs, postfix}
 use Rattle.kex_regexp.specs.Postfixes.{Postfix, ZeroOrMore, OneOrMore, Optional, CountSign, Digits, CommaSign, CloseSign, NoSign, count_by, counted}
 pub use Rattle.kex_regexp.specs.Postfixes.{Counting, Opened, Low, LowComma, LowHigh, OnlyComma, High, CountStep, CountOn, CountRead, CountWrong}
 
@@ -23,16 +23,16 @@ escape_step (HexOne high) b = if is_hex b then EscapeRead (Hex high b) else Esca
 
 -- ---- a set
 
-pub data Part : Type 0 where
-  AtStart : Part
-  Between : Part
-  HasEnd : End → Part
-  HasDash : End → Part
-  InFirst : Escaping → Part
-  InLast : End → Escaping → Part
+pub data SetPhase : Type 0 where
+  AtStart : SetPhase
+  Between : SetPhase
+  HasEnd : End → SetPhase
+  HasDash : End → SetPhase
+  InFirst : Escaping → SetPhase
+  InLast : End → Escaping → SetPhase
 
 pub data SetStep : Type 0 where
-  SetOn : (negated : Bool) → (ms : List Member) → Part → SetStep
+  SetOn : (negated : Bool) → (ms : List Member) → SetPhase → SetStep
   SetRead : (negated : Bool) → (ms : List Member) → SetStep
   SetWrong : SetStep
 
@@ -55,7 +55,7 @@ in_last negated ms first (EscapeOn e) = SetOn negated ms (InLast first e)
 in_last negated ms first (EscapeRead e) = SetOn negated (ms ++ Range first (EscapedEnd e) ∷ []) Between
 in_last negated ms first EscapeWrong = SetWrong
 
-unfoldable pub set_step : Bool → List Member → Part → ℕ → SetStep
+unfoldable pub set_step : Bool → List Member → SetPhase → ℕ → SetStep
 set_step negated ms AtStart b = if b == byte.caret then SetOn true ms Between else between_step negated ms b
 set_step negated ms Between b = between_step negated ms b
 set_step negated ms (HasEnd end) b = if b == byte.hyphen then SetOn negated ms (HasDash end) else between_step negated (ms ++ Single end ∷ []) b
@@ -70,7 +70,7 @@ last_members first (EscapeOn e) = []
 last_members first (EscapeRead e) = Range first (EscapedEnd e) ∷ []
 last_members first EscapeWrong = []
 
-unfoldable pub ended_members : Part → ℕ → List Member
+unfoldable pub ended_members : SetPhase → ℕ → List Member
 ended_members AtStart b = []
 ended_members Between b = []
 ended_members (HasEnd end) b = if b == byte.hyphen then [] else Single end ∷ []
@@ -100,7 +100,7 @@ pub data Mode : Type 0 where
   After : (item : Item) → Mode
   Turned : (item : Item) → (postfix : Postfix) → Mode
   InEscape : Escaping → Mode
-  InSet : (negated : Bool) → (ms : List Member) → Part → Mode
+  InSet : (negated : Bool) → (ms : List Member) → SetPhase → Mode
   InCount : (item : Item) → Counting → Mode
 
 pub record State : Type 0 where
@@ -234,16 +234,16 @@ escaping Begun = byte.backslash ∷ []
 escaping HexBegun = byte.backslash ∷ byte.letter_x ∷ []
 escaping (HexOne high) = byte.backslash ∷ byte.letter_x ∷ high ∷ []
 
-unfoldable pub part : Part → List ℕ
-part AtStart = []
-part Between = []
-part (HasEnd end) = end_of end
-part (HasDash end) = end_of end ++ byte.hyphen ∷ []
-part (InFirst e) = escaping e
-part (InLast first e) = end_of first ++ byte.hyphen ∷ escaping e
+unfoldable pub set_phase : SetPhase → List ℕ
+set_phase AtStart = []
+set_phase Between = []
+set_phase (HasEnd end) = end_of end
+set_phase (HasDash end) = end_of end ++ byte.hyphen ∷ []
+set_phase (InFirst e) = escaping e
+set_phase (InLast first e) = end_of first ++ byte.hyphen ∷ escaping e
 
-unfoldable pub set_so_far : Bool → List Member → Part → List ℕ
-set_so_far negated ms p = byte.open_bracket ∷ caret negated ++ (members ms ++ part p)
+unfoldable pub set_so_far : Bool → List Member → SetPhase → List ℕ
+set_so_far negated ms p = byte.open_bracket ∷ negation negated ++ (members ms ++ set_phase p)
 
 unfoldable pub counting : Counting → List ℕ
 counting c = counted signs c

@@ -1,6 +1,6 @@
 -- Postfixes, of bodies and of programs: their trees, what they stand for, how an alphabet spells them, and the machine that
 -- reads a count in braces.
-use Rattle.kex_tokens.specs.Values.{number_of}
+use Rattle.kex_tokens.specs.Values.{decimal_value}
 use Rattle.std.specs.Prelude.{ℕ, Bool, true, false, ◌||◌, List, [], ◌∷◌, ◌++◌, Option, Some, None, nat_lt}
 
 -- counts as their digits
@@ -20,30 +20,30 @@ unfoldable pub low : Postfix → ℕ
 low ZeroOrMore = 0
 low OneOrMore = 1
 low Optional = 0
-low (Exactly n) = number_of n
-low (AtLeast n) = number_of n
+low (Exactly n) = decimal_value n
+low (AtLeast n) = decimal_value n
 low (AtMost m) = 0
-low (FromTo n m) = number_of n
+low (FromTo n m) = decimal_value n
 
 -- the greatest number of turns, if there is one
 unfoldable pub high : Postfix → Option ℕ
 high ZeroOrMore = None
 high OneOrMore = None
 high Optional = Some 1
-high (Exactly n) = Some (number_of n)
+high (Exactly n) = Some (decimal_value n)
 high (AtLeast n) = None
-high (AtMost m) = Some (number_of m)
-high (FromTo n m) = Some (number_of m)
+high (AtMost m) = Some (decimal_value m)
+high (FromTo n m) = Some (decimal_value m)
 
 -- a count above 1,000, or one that is below the count before it
 abbrev pub is_bad_count : Postfix → Bool
 is_bad_count ZeroOrMore = false
 is_bad_count OneOrMore = false
 is_bad_count Optional = false
-is_bad_count (Exactly n) = nat_lt 1000 (number_of n)
-is_bad_count (AtLeast n) = nat_lt 1000 (number_of n)
-is_bad_count (AtMost m) = nat_lt 1000 (number_of m)
-is_bad_count (FromTo n m) = nat_lt 1000 (number_of n) || nat_lt 1000 (number_of m) || nat_lt (number_of m) (number_of n)
+is_bad_count (Exactly n) = nat_lt 1000 (decimal_value n)
+is_bad_count (AtLeast n) = nat_lt 1000 (decimal_value n)
+is_bad_count (AtMost m) = nat_lt 1000 (decimal_value m)
+is_bad_count (FromTo n m) = nat_lt 1000 (decimal_value n) || nat_lt 1000 (decimal_value m) || nat_lt (decimal_value m) (decimal_value n)
 
 -- ---- spelling
 

@@ -1,7 +1,7 @@
 // A whole body.
 
 ghost use Rattle.std.specs.Prelude.{◌≡◌, ℕ, ◌+◌, ◌<◌, ◌^◌, List, length, reverse, IfOk, IfErr, [], Some, None};
-ghost use Rattle.kex_regexp.specs.Bodies.{IsRefusal, Spells, fault_of};
+ghost use Rattle.kex_regexp.specs.Bodies.{IsRefusal, SpellsRegex, fault_of};
 ghost use Rattle.kex_regexp.specs.Breaks.{regex_breaks};
 ghost use Rattle.kex_regexp.specs.Grammar.{Regex, Empty};
 ghost use Rattle.kex_regexp.specs.Holding.{Ends, ConstructsShow, InConstructs, IsHeld, SomeConstructs, SomeState, ShowsState};
@@ -83,11 +83,11 @@ pub fn regex(
     // No node is spare: each that is added is the body's own, or a child of another one.
     ensures nodes { IfOk result (λ m. NoneLost into.old into.new (λ n. ⊥) (λ n. n ≡ m)) }
     // What is read is a body that breaks no rule, and the node shows its tree.
-    ensures read { IfOk result (λ n. (r : Regex) × Spells r bytes.now × (regex_breaks r at depth ≡ []) × ShowsRegex r into.new n at) }
+    ensures read { IfOk result (λ n. (r : Regex) × SpellsRegex r bytes.now × (regex_breaks r at depth ≡ []) × ShowsRegex r into.new n at) }
     // What is refused is refused at its first wrong byte, or else for the least rule that it breaks.
     ensures refused { IfErr result (IsRefusal bytes.now at depth) }
     // A body that breaks no rule is read, unless memory is wanting.
-    ensures accepted { (r : Regex) → Spells r bytes.now → regex_breaks r at depth ≡ [] → IfErr result (λ fault. fault ≡ RegexFault.Memory) }
+    ensures accepted { (r : Regex) → SpellsRegex r bytes.now → regex_breaks r at depth ≡ [] → IfErr result (λ fault. fault ≡ RegexFault.Memory) }
 {
     let mut constructs = Vec::new(alloc);
     let mut set = SetSoFar::new();

@@ -4,13 +4,13 @@ ghost use Rattle.std.specs.Prelude.{◌≡◌, ℕ, ◌++◌, List};
 ghost use Rattle.kex_code.specs.Codes.{IsAmong};
 ghost use Rattle.kex_model.specs.Programs.{HasNames};
 ghost use Rattle.kex_model.specs.declared.program.Node.{Node};
-ghost use Rattle.kex_regexp.specs.Bodies.{IsBody, IsFirstWrong, Spells};
+ghost use Rattle.kex_regexp.specs.Bodies.{IsBody, IsFirstWrong, SpellsRegex};
 ghost use Rattle.kex_regexp.specs.Grammar.{Regex};
 ghost use Rattle.kex_regexp.specs.Shown.{Adds, ShowsRegex};
 
 /// Bytes spell at most one tree, or have one first wrong byte, and not both.
 pub fn one_tree()
-    ensures tree { (bytes : List ℕ) (r q : Regex) → Spells r bytes → Spells q bytes → r ≡ q }
+    ensures tree { (bytes : List ℕ) (r q : Regex) → SpellsRegex r bytes → SpellsRegex q bytes → r ≡ q }
     ensures wrong { (bytes : List ℕ) (j k : ℕ) → IsFirstWrong bytes j → IsFirstWrong bytes k → j ≡ k }
     ensures either { (bytes : List ℕ) (k : ℕ) → IsBody bytes → IsFirstWrong bytes k → ⊥ }
 {}

@@ -15,7 +15,7 @@ use Rattle.kex_rings.specs.declared.ring_seat.RingSeat.{RingSeat}
 use Rattle.kex_rings.specs.Items.{item_as, items_as}
 use Rattle.kex_rings.specs.Ends.{Giver, sent_to, taken_from, seen_in, IsLast, AreBeside}
 use Rattle.kex_rings.specs.Looking.{fed_more, lies_before, Looks, EachLooks, CarriedOut}
-use Rattle.kex_rings.specs.Lines.{Line, Joined, LineRounds}
+use Rattle.kex_rings.specs.Lines.{RingLine, Joined, LineRounds}
 use Rattle.kex_rings.proofs.Wholes.{front-whole}
 use Rattle.kex_rings.proofs.StageTurns.{Steps, steps-after, fed-next}
 
@@ -36,7 +36,7 @@ module _ {T : Type 0} (t : Ghosts T) where
   front_of (s ∷ ss) [] b taken = []
   front_of (s ∷ ss) (x ∷ xs) b taken = x.taken ++ lies_before t s
 
-  pub came-front : (came ahead : List StreamItem) (ps : List t.Plan) (ss : List (RingSeat T t)) (xs : List Progress) (b : Inbox) (taken : List ℕ) → Line t came ahead ps ss xs b taken → came ≡ front_of ss xs b taken ++ ahead
+  pub came-front : (came ahead : List StreamItem) (ps : List t.Plan) (ss : List (RingSeat T t)) (xs : List Progress) (b : Inbox) (taken : List ℕ) → RingLine t came ahead ps ss xs b taken → came ≡ front_of ss xs b taken ++ ahead
   came-front came ahead [] [] [] b taken h = h.0 ∙ sym (append-nil (map byte taken ++ waiting_items b)) ∙ ap (λ z. (map byte taken ++ waiting_items b) ++ z) (sym h.1)
   came-front came ahead (p ∷ ps) (s ∷ ss) (x ∷ xs) b taken h = h.0 ∙ sym (append_assoc x.taken (lies_before t s) ahead)
   came-front came ahead ps ss xs b taken h = absurd h
@@ -75,7 +75,7 @@ module _ {T : Type 0} (t : Ghosts T) where
     pub line : Open came ahead ps ss seats b taken
     pub steps : Steps t.gives came ps xs seats cs
 
-  pub ring-line : (room : ℕ) (came ahead came' ahead' : List StreamItem) (more : List Passed) (ps : List t.Plan) (ss ss' : List (RingSeat T t)) (xs : List Progress) (b : Inbox) (taken cs : List ℕ) → Line t came ahead ps ss xs b taken → came' ≡ front_of ss xs b taken ++ (items_as more ++ ahead') → IsWhole came' → Flows room more ss ss' cs → Goes came' ahead' ps ss' b taken xs cs
+  pub ring-line : (room : ℕ) (came ahead came' ahead' : List StreamItem) (more : List Passed) (ps : List t.Plan) (ss ss' : List (RingSeat T t)) (xs : List Progress) (b : Inbox) (taken cs : List ℕ) → RingLine t came ahead ps ss xs b taken → came' ≡ front_of ss xs b taken ++ (items_as more ++ ahead') → IsWhole came' → Flows room more ss ss' cs → Goes came' ahead' ps ss' b taken xs cs
   ring-line room came ahead came' ahead' more [] [] [] [] b taken [] h is whole work = record {
     seats = [];
     line = is ∙ ap (λ z. (map byte taken ++ waiting_items b) ++ (items_as z ++ ahead')) work ∙ append_assoc (map byte taken) (waiting_items b) ahead';
@@ -107,7 +107,7 @@ module _ {T : Type 0} (t : Ghosts T) where
   ring-line room came ahead came' ahead' more ps ss ss' xs b taken cs h is whole work = absurd h
 
   -- what the last stage has written goes behind the output in hand
-  pub out-line : (came ahead : List StreamItem) (ps : List t.Plan) (front : List (RingSeat T t)) (s : RingSeat T t) (new : List (RingSeat T t)) (xs : List Progress) (b b' : Inbox) (taken : List ℕ) (c : CarriedOut t front s b new b') → IsWhole came → Open came ahead ps (front ++ s ∷ []) xs b taken → Line t came ahead ps (front ++ c.s' ∷ []) xs b' taken
+  pub out-line : (came ahead : List StreamItem) (ps : List t.Plan) (front : List (RingSeat T t)) (s : RingSeat T t) (new : List (RingSeat T t)) (xs : List Progress) (b b' : Inbox) (taken : List ℕ) (c : CarriedOut t front s b new b') → IsWhole came → Open came ahead ps (front ++ s ∷ []) xs b taken → RingLine t came ahead ps (front ++ c.s' ∷ []) xs b' taken
   out-line came ahead (p ∷ []) [] s new (x ∷ []) b b' taken c whole h =
       let s' = c.s' in
       let lies : lies_before t s ≡ lies_before t s' = ap₂ (λ a z. waiting_items a ++ items_as (seen_in z)) (sym c.same_inbox) (sym c.same_from) in
@@ -128,4 +128,4 @@ module _ {T : Type 0} (t : Ghosts T) where
       let flows = flows-of room None None [] ss mid cs j j' refl work in
       let all : came ≡ front_of ss xs b taken ++ ([] ++ []) = came-front came [] ps ss xs b taken line in
       let r = ring-line room came [] came [] [] ps ss mid xs b taken cs line all whole flows in
-      (r.seats, steps-after t.gives h came ps xs r.seats cs after r.steps, subst (λ z. Line t came [] ps z r.seats b' taken) (sym c.is) (out-line came [] ps front s new r.seats b b' taken c whole (subst (λ z. Open came [] ps z r.seats b taken) is r.line)))
+      (r.seats, steps-after t.gives h came ps xs r.seats cs after r.steps, subst (λ z. RingLine t came [] ps z r.seats b' taken) (sym c.is) (out-line came [] ps front s new r.seats b b' taken c whole (subst (λ z. Open came [] ps z r.seats b taken) is r.line)))

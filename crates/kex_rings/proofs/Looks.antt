@@ -6,8 +6,8 @@ use Rattle.rtrb.specs.declared.consumer.Consumer.{Consumer}
 use Rattle.rtrb.specs.declared.AnyItems.{AnyItems}
 use Rattle.kex_model.specs.Schedules.{Progress, more_taken}
 use Rattle.kex_model.specs.Schedules as schedule
-use Rattle.kex_pipe.specs.Histories.{Fed}
-use Rattle.kex_pipe.specs.Seats.{IsWhole, IsFed, written_by, Sits}
+use Rattle.kex_pipe.specs.Histories.{StageFed}
+use Rattle.kex_pipe.specs.Seats.{IsWhole, IsStageFed, written_by, Sits}
 use Rattle.kex_pipe.specs.Rounds.{Takes}
 use Rattle.kex_pipe.specs.Waiting.{waiting_items}
 use Rattle.kex_pipe.specs.declared.inbox.Inbox.{Inbox}
@@ -19,7 +19,7 @@ use Rattle.kex_rings.specs.declared.item.Item.{Item}
 use Rattle.kex_rings.specs.declared.ring_seat.RingSeat.{RingSeat}
 use Rattle.kex_rings.specs.Items.{item_as, items_as}
 use Rattle.kex_rings.specs.Ends.{Giver, Taker, sent_to, free_in, taken_from, SameGiver, SameTaker}
-use Rattle.kex_rings.specs.Looking.{fed_more, found_count, unsent_of, unsent_items, Feeds, IsHeld, Looks, SendsOn, FindsIn, TakesIn}
+use Rattle.kex_rings.specs.Looking.{fed_more, found_count, unsent_of, unsent_items, RingSeatFeeds, IsHeldBack, Looks, SendsOn, FindsIn, TakesIn}
 use Rattle.kex_rings.specs.Passing.{Pulls}
 use Rattle.kex_rings.proofs.Wholes.{front-whole}
 use Rattle.kex_rings.proofs.SentItems.{same-producer, same-consumer}
@@ -94,7 +94,7 @@ module _ {T : Type 0} (t : Ghosts T) where
   had-turn : (p : t.Plan) (s : Staged T) (x : Progress) (out : List schedule.StreamItem) → Sits t p s x out → (out ≡ [] → ⊥) → x.turned ≡ true
   had-turn p s x out sits some = cases sits.history sits.fed sits.wrote
     where
-      cases : (h : Option Fed) → IsFed t p x h → out ≡ written_by h → x.turned ≡ true
+      cases : (h : Option StageFed) → IsStageFed t p x h → out ≡ written_by h → x.turned ≡ true
       cases None fed wrote = absurd (some wrote)
       cases (Some f) fed wrote = fed.0
 
@@ -190,7 +190,7 @@ module _ {T : Type 0} (t : Ghosts T) where
     free = subst (λ z. free_in s.to ≤ free_in z + length sends.more) (sym takes.same_to) sends.free;
   }
 
-  feeds-more : (a b c : RingSeat T t) (one two more again : List Item) (m n k : ℕ) → k ≡ m + n → Feeds t a b one more m → Feeds t b c two again n → Feeds t a c (one ++ two) (more ++ again) k
+  feeds-more : (a b c : RingSeat T t) (one two more again : List Item) (m n k : ℕ) → k ≡ m + n → RingSeatFeeds t a b one more m → RingSeatFeeds t b c two again n → RingSeatFeeds t a c (one ++ two) (more ++ again) k
   feeds-more a b c one two more again m n k number f g = λ p x out front whole sits out_is.
       let items : items_as (one ++ two) ≡ items_as one ++ items_as two = map-append item_as one two in
       let lot : waiting_items a.seat.inbox ++ items_as (one ++ two) ≡ (waiting_items a.seat.inbox ++ items_as one) ++ items_as two = ap (λ z. waiting_items a.seat.inbox ++ z) items ∙ sym (append_assoc (waiting_items a.seat.inbox) (items_as one) (items_as two)) in
@@ -210,7 +210,7 @@ module _ {T : Type 0} (t : Ghosts T) where
 
   -- what is unsent still after looks, and after more of them
   abbrev IsHeldIf : List schedule.StreamItem → List schedule.StreamItem → List Item → List Item → ℕ → Type 0
-  IsHeldIf before after popped more count = length more < length before → IsHeld before after popped more count
+  IsHeldIf before after popped more count = length more < length before → IsHeldBack before after popped more count
 
   held-more : (a b c : List schedule.StreamItem) (one two more again : List Item) (m n k : ℕ) → k ≡ m + n → IsHeldIf a b one more m → IsHeldIf b c two again n → IsHeldIf a c (one ++ two) (more ++ again) k
   held-more a b c one two more again m n k number f g = λ some_left.

@@ -15,7 +15,7 @@ use Rattle.kex_rings.specs.declared.item.Item.{Item}
 use Rattle.kex_rings.specs.declared.ring_seat.RingSeat.{RingSeat}
 use Rattle.kex_rings.specs.Items.{items_as}
 use Rattle.kex_rings.specs.Ends.{Giver, Taker, sent_to, free_in, taken_from, SameGiver, SameTaker, IsLast, ArePaired, AreBeside}
-use Rattle.kex_rings.specs.Looking.{fed_more, Looks, EachLooks, OnlyLooked, AllUsable, WorkedAll, unsent_of, unsent_items}
+use Rattle.kex_rings.specs.Looking.{fed_more, Looks, EachLooks, OnlyLooked, AllRingSeatsUsable, WorkedAll, unsent_of, unsent_items}
 use Rattle.kex_rings.specs.Lines.{Joined, HaveRings, AllGetOn}
 use Rattle.kex_rings.proofs.Looks.{same-taker, same-giver, one-taker, one-giver, unsent-same}
 use Rattle.kex_rings.proofs.Joins.{all-both, all-one, both-looks}
@@ -135,7 +135,7 @@ module _ {T : Type 0} (t : Ghosts T) where
   not-worked (Ok x) room ss ss' err = cc
   not-worked (Err e) room ss ss' err = record { looks = λ yes. cc; usable = λ yes. cc }
 
-  one-all : (room : ℕ) (ss : List (RingSeat T t)) (s s' : RingSeat T t) → length ss < 2 → 0 < length ss → s ≡ get_or ss 0 s → Looks t room s s' s'.took → IsTrue s'.seat.usable → EachLooks t room ss (set ss 0 s') (map (λ z. z.took) (set ss 0 s')) × AllUsable t (set ss 0 s')
+  one-all : (room : ℕ) (ss : List (RingSeat T t)) (s s' : RingSeat T t) → length ss < 2 → 0 < length ss → s ≡ get_or ss 0 s → Looks t room s s' s'.took → IsTrue s'.seat.usable → EachLooks t room ss (set ss 0 s') (map (λ z. z.took) (set ss 0 s')) × AllRingSeatsUsable t (set ss 0 s')
   one-all room [] s s' few some is looks usable = absurd (omega arith)
   one-all room (a ∷ b ∷ ss) s s' few some is looks usable = absurd (omega arith)
   one-all room (a ∷ []) s s' few some is looks usable = ((subst (λ z. Looks t room z s' s'.took) is looks, tt), all-one (λ z. IsTrue z.seat.usable) s' usable)
@@ -154,7 +154,7 @@ module _ {T : Type 0} (t : Ghosts T) where
   each-looked room (s ∷ ss) (m ∷ mid) [] cs work look = absurd look
   each-looked room (s ∷ ss) (m ∷ mid) (s' ∷ ss') [] work look = absurd work
 
-  pub usable-looked : (mid ss' : List (RingSeat T t)) → Each (OnlyLooked t) mid ss' → AllUsable t mid → AllUsable t ss'
+  pub usable-looked : (mid ss' : List (RingSeat T t)) → Each (OnlyLooked t) mid ss' → AllRingSeatsUsable t mid → AllRingSeatsUsable t ss'
   usable-looked [] [] look all k d lt = absurd (omega arith)
   usable-looked (m ∷ mid) (s ∷ ss') look all zero d lt = subst (λ z. IsTrue z.usable) (sym look.0.same_seat) (all zero m (omega arith))
   usable-looked (m ∷ mid) (s ∷ ss') look all (suc k) d lt = usable-looked mid ss' look.1 (λ n e less. all (suc n) e (omega arith)) k d (omega arith)
@@ -174,7 +174,7 @@ module _ {T : Type 0} (t : Ghosts T) where
   joined-out R to [] s s' from end j = (subst (λ z. R to z) (sym from) j.0, subst IsLast (sym end) j.1)
   joined-out R to (f ∷ front) s s' from end j = (j.0, joined-out R f.to front s s' from end j.1)
 
-  pub usable-out : (front : List (RingSeat T t)) (s s' : RingSeat T t) → s'.seat.usable ≡ s.seat.usable → AllUsable t (front ++ s ∷ []) → AllUsable t (front ++ s' ∷ [])
+  pub usable-out : (front : List (RingSeat T t)) (s s' : RingSeat T t) → s'.seat.usable ≡ s.seat.usable → AllRingSeatsUsable t (front ++ s ∷ []) → AllRingSeatsUsable t (front ++ s' ∷ [])
   usable-out [] s s' same all zero d lt = subst IsTrue (sym same) (all zero s (omega arith))
   usable-out [] s s' same all (suc k) d lt = absurd (omega arith)
   usable-out (f ∷ front) s s' same all zero d lt = all zero f (omega arith)

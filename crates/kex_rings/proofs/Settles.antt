@@ -15,8 +15,8 @@ use Rattle.kex_pipe.proofs.SeatTurns.{taken-more}
 use Rattle.kex_rings.specs.declared.ring_seat.RingSeat.{RingSeat}
 use Rattle.kex_rings.specs.Items.{items_as}
 use Rattle.kex_rings.specs.Ends.{Giver, sent_to, seen_in, AreBeside}
-use Rattle.kex_rings.specs.Looking.{fed_more, lies_before, AllUsable}
-use Rattle.kex_rings.specs.Lines.{Line, Joined, AreNew, LineSettles}
+use Rattle.kex_rings.specs.Looking.{fed_more, lies_before, AllRingSeatsUsable}
+use Rattle.kex_rings.specs.Lines.{RingLine, Joined, AreNew, LineSettles}
 use Rattle.kex_rings.specs.Settling.{SettlesBy, SettlesAll, AllSeatsUsable}
 use Rattle.kex_rings.proofs.Wholes.{front-whole}
 use Rattle.kex_rings.proofs.Looks.{back-whole}
@@ -61,7 +61,7 @@ module _ {T : Type 0} (t : Ghosts T) where
   settles-length [] (s' ∷ ss') c c' h = absurd h
   settles-length (s ∷ ss) [] c c' h = absurd h
 
-  pub row-usable : (ss : List (Seated T t)) (row : List (RingSeat T t)) → Each (λ s r. r.seat ≡ s) ss row → AllSeatsUsable t ss → AllUsable t row
+  pub row-usable : (ss : List (Seated T t)) (row : List (RingSeat T t)) → Each (λ s r. r.seat ≡ s) ss row → AllSeatsUsable t ss → AllRingSeatsUsable t row
   row-usable [] [] same all k d lt = absurd (omega arith)
   row-usable (s ∷ ss) (r ∷ row) same all zero d lt = subst (λ z. IsTrue z.usable) (sym same.0) (all zero s (omega arith))
   row-usable (s ∷ ss) (r ∷ row) same all (suc k) d lt = row-usable ss row same.1 (λ n e less. all (suc n) e (omega arith)) k d (omega arith)
@@ -72,10 +72,10 @@ module _ {T : Type 0} (t : Ghosts T) where
     pub seats : List Progress
     pub counts : List ℕ
     pub steps : Steps t.gives came ps xs seats counts
-    pub line : Line t came [] ps row seats b taken
+    pub line : RingLine t came [] ps row seats b taken
     pub settled : Settled t.gives came ps seats
 
-  settle-line : (room : ℕ) (to : Giver) (came ahead came' carried on : List StreamItem) (ps : List t.Plan) (ss : List (RingSeat T t)) (ss' : List (Seated T t)) (row : List (RingSeat T t)) (xs : List Progress) (b b' : Inbox) (taken : List ℕ) → Line t came ahead ps ss xs b taken → came' ≡ front_of t ss xs b taken ++ carried → IsWhole came' → SettlesAll t ss ss' carried on → Each (λ s r. r.seat ≡ s) ss' row → Joined t (AreBeside room) to row → sent_to to ≡ [] → AreNew t row
+  settle-line : (room : ℕ) (to : Giver) (came ahead came' carried on : List StreamItem) (ps : List t.Plan) (ss : List (RingSeat T t)) (ss' : List (Seated T t)) (row : List (RingSeat T t)) (xs : List Progress) (b b' : Inbox) (taken : List ℕ) → RingLine t came ahead ps ss xs b taken → came' ≡ front_of t ss xs b taken ++ carried → IsWhole came' → SettlesAll t ss ss' carried on → Each (λ s r. r.seat ≡ s) ss' row → Joined t (AreBeside room) to row → sent_to to ≡ [] → AreNew t row
       → ((b.ended ≡ false) ⊎ (on ≡ []) → waiting_items b' ≡ waiting_items b ++ on) → Ends came' ps row b' taken xs
   settle-line room to came ahead came' carried on [] [] [] [] [] b b' taken h is whole work same j none made moves =
       let all : came' ≡ map byte taken ++ (waiting_items b ++ on) = is ∙ ap (λ z. (map byte taken ++ waiting_items b) ++ z) (sym work) ∙ append_assoc (map byte taken) (waiting_items b) on in
@@ -95,7 +95,7 @@ module _ {T : Type 0} (t : Ghosts T) where
         seats = fed_more lot x ∷ rest.seats;
         counts = length lot ∷ rest.counts;
         steps = (fed-next (length lot) came' lot [] x next refl, k.0, wrote, rest.steps);
-        line = (next ∙ ap (λ z. (x.taken ++ lot) ++ z) (sym lies), k.0, sits, subst (λ z. Line t k.0 z ps row rest.seats b' taken) (sym (ap (λ z. waiting_items z.outbox) same.0 ∙ by.none_behind)) rest.line);
+        line = (next ∙ ap (λ z. (x.taken ++ lot) ++ z) (sym lies), k.0, sits, subst (λ z. RingLine t k.0 z ps row rest.seats b' taken) (sym (ap (λ z. waiting_items z.outbox) same.0 ∙ by.none_behind)) rest.line);
         settled = (refl, ap (λ z. drop (length (x.taken ++ lot)) z) all ∙ drop-all (x.taken ++ lot), k.0, wrote, rest.settled);
       }
   settle-line room to came ahead came' carried on [] [] (s' ∷ ss') row [] b b' taken h is whole work same j none made moves = absurd work

@@ -7,9 +7,9 @@ use Rattle.kex_code.specs.Codes.{Begins}
 use Rattle.kex_model.specs.Answers.{Answer, Stop, Report, later_report, Pipeline}
 use Rattle.kex_model.specs.Schedules.{StreamItem, byte, bytes_in, has_end, end_items, items_of, Progress, fresh, Event, After, Settled, LastWrote}
 use Rattle.kex_pipe.specs.Events.{bytes_given, end_given}
-use Rattle.kex_pipe.specs.Histories.{Fed, stop_in}
+use Rattle.kex_pipe.specs.Histories.{StageFed, stop_in}
 use Rattle.kex_pipe.specs.Rounds.{Each}
-use Rattle.kex_pipe.specs.Seats.{IsWhole, IsFed, written_by, Sits}
+use Rattle.kex_pipe.specs.Seats.{IsWhole, IsStageFed, written_by, Sits}
 use Rattle.kex_pipe.specs.Waiting.{unread_bytes, waiting_items}
 use Rattle.kex_pipe.specs.Reports.{latest_report, HasStop, LastStop}
 use Rattle.kex_pipe.specs.declared.inbox.Inbox.{Inbox}
@@ -26,8 +26,8 @@ use Rattle.kex_rings.specs.declared.pipe.RingPipe.{RingPipe}
 use Rattle.kex_rings.specs.Items.{items_as}
 use Rattle.kex_rings.specs.Ends.{Giver, sent_to, taken_from, seen_in, AreBeside}
 use Rattle.kex_rings.specs.Looking.{lies_before, IsIdle}
-use Rattle.kex_rings.specs.Lines.{Line, Joined, AreNew}
-use Rattle.kex_rings.specs.Standing.{Stands, BeginsAnswer, HasWritten, in_hand}
+use Rattle.kex_rings.specs.Lines.{RingLine, Joined, AreNew}
+use Rattle.kex_rings.specs.Standing.{RingsStand, RingsBeginAnswer, RingsHaveWritten, rings_in_hand}
 
 pub whole-given : (h : List Event) (came : List StreamItem) → came ≡ items_of (bytes_given h) (end_given h) → IsWhole came
 whole-given h came e = (bytes_given h, end_given h, e)
@@ -37,37 +37,37 @@ none-seen [] ys e = e
 none-seen (x ∷ xs) ys e = cc
 
 module _ {T : Type 0} (t : Ghosts T) where
-  pub line-wrote : (came ahead : List StreamItem) (ps : List t.Plan) (ss : List (RingSeat T t)) (xs : List Progress) (b : Inbox) (taken : List ℕ) → Line t came ahead ps ss xs b taken → (f : Bool) × LastWrote t.gives came ps xs (items_of (taken ++ unread_bytes b) f)
+  pub line-wrote : (came ahead : List StreamItem) (ps : List t.Plan) (ss : List (RingSeat T t)) (xs : List Progress) (b : Inbox) (taken : List ℕ) → RingLine t came ahead ps ss xs b taken → (f : Bool) × LastWrote t.gives came ps xs (items_of (taken ++ unread_bytes b) f)
   line-wrote came ahead [] [] [] b taken h = (b.ended, out-items t taken (unread_bytes b) b.ended ∙ sym h.0)
   line-wrote came ahead (p ∷ ps) (s ∷ ss) (x ∷ xs) b taken h =
       let r = line-wrote h.1 (waiting_items s.seat.outbox) ps ss xs b taken h.3 in
       (r.0, (h.1, sits-wrote t p s.seat.staged x h.1 h.2, r.1))
   line-wrote came ahead ps ss xs b taken h = absurd h
 
-  pub standing : (ps : List t.Plan) (pipe : RingPipe T t) (h : List Event) (taken : List ℕ) (came : List StreamItem) (xs : List Progress) → After t.gives ps h came xs → Line t came [] ps pipe.seats.items xs pipe.output taken → pipe.ended ≡ has_end came → pipe.spent ≡ false → Stands t ps pipe h taken
+  pub standing : (ps : List t.Plan) (pipe : RingPipe T t) (h : List Event) (taken : List ℕ) (came : List StreamItem) (xs : List Progress) → After t.gives ps h came xs → RingLine t came [] ps pipe.seats.items xs pipe.output taken → pipe.ended ≡ has_end came → pipe.spent ≡ false → RingsStand t ps pipe h taken
   standing ps pipe h taken came xs after line same_end going =
       let r = line-wrote came [] ps pipe.seats.items xs pipe.output taken line in
       record { came = came; seats = xs; after = after; output_ended = r.0; written = r.1; line = line; same_end = same_end; going = going }
 
   -- the same, with what else is known of the places
-  pub standing-and : (Q : List StreamItem → List Progress → Type 0) (ps : List t.Plan) (pipe : RingPipe T t) (h : List Event) (taken : List ℕ) (came : List StreamItem) (xs : List Progress) → After t.gives ps h came xs → Line t came [] ps pipe.seats.items xs pipe.output taken → pipe.ended ≡ has_end came → pipe.spent ≡ false → Q came xs → (s : Stands t ps pipe h taken) × Q s.came s.seats
+  pub standing-and : (Q : List StreamItem → List Progress → Type 0) (ps : List t.Plan) (pipe : RingPipe T t) (h : List Event) (taken : List ℕ) (came : List StreamItem) (xs : List Progress) → After t.gives ps h came xs → RingLine t came [] ps pipe.seats.items xs pipe.output taken → pipe.ended ≡ has_end came → pipe.spent ≡ false → Q came xs → (s : RingsStand t ps pipe h taken) × Q s.came s.seats
   standing-and Q ps pipe h taken came xs after line same_end going q =
       let r = line-wrote came [] ps pipe.seats.items xs pipe.output taken line in
       (record { came = came; seats = xs; after = after; output_ended = r.0; written = r.1; line = line; same_end = same_end; going = going }, q)
 
   -- more comes to the first stage, before which no ring is
-  pub line-more : (room : ℕ) (came came' : List StreamItem) (ps : List t.Plan) (ss : List (RingSeat T t)) (xs : List Progress) (b : Inbox) (taken : List ℕ) (s s' d : RingSeat T t) → Joined t (AreBeside room) None ss → s ≡ get_or ss 0 d → s'.seat.staged ≡ s.seat.staged → s'.seat.outbox ≡ s.seat.outbox → s'.from ≡ s.from → ((front : List StreamItem) → came ≡ front ++ waiting_items s.seat.inbox → came' ≡ front ++ waiting_items s'.seat.inbox) → 0 < length ss → Line t came [] ps ss xs b taken → Line t came' [] ps (set ss 0 s') xs b taken
+  pub line-more : (room : ℕ) (came came' : List StreamItem) (ps : List t.Plan) (ss : List (RingSeat T t)) (xs : List Progress) (b : Inbox) (taken : List ℕ) (s s' d : RingSeat T t) → Joined t (AreBeside room) None ss → s ≡ get_or ss 0 d → s'.seat.staged ≡ s.seat.staged → s'.seat.outbox ≡ s.seat.outbox → s'.from ≡ s.from → ((front : List StreamItem) → came ≡ front ++ waiting_items s.seat.inbox → came' ≡ front ++ waiting_items s'.seat.inbox) → 0 < length ss → RingLine t came [] ps ss xs b taken → RingLine t came' [] ps (set ss 0 s') xs b taken
   line-more room came came' ps [] xs b taken s s' d j s_is staged outbox from more some h = absurd (omega arith)
   line-more room came came' (p ∷ ps) (s0 ∷ ss) (x ∷ xs) b taken s s' d j s_is staged outbox from more some h =
       let none : items_as (seen_in s0.from) ≡ [] = ap items_as (none-seen (taken_from s0.from) (seen_in s0.from) j.0.1) in
       let none' : items_as (seen_in s'.from) ≡ [] = ap (λ z. items_as (seen_in z)) (from ∙ ap (λ z. z.from) s_is) ∙ none in
       let plain : (u : RingSeat T t) → items_as (seen_in u.from) ≡ [] → lies_before t u ++ [] ≡ waiting_items u.seat.inbox = λ u e. append-nil (lies_before t u) ∙ ap (λ z. waiting_items u.seat.inbox ++ z) e ∙ append-nil (waiting_items u.seat.inbox) in
       let now = more x.taken (h.0 ∙ ap (λ z. x.taken ++ z) (plain s0 none) ∙ ap (λ z. x.taken ++ waiting_items z.seat.inbox) (sym s_is)) in
-      (now ∙ ap (λ z. x.taken ++ z) (sym (plain s' none')), h.1, subst (λ z. Sits t p z x h.1) (ap (λ z. z.seat.staged) (sym s_is) ∙ sym staged) h.2, subst (λ z. Line t h.1 (waiting_items z) ps ss xs b taken) (ap (λ z. z.seat.outbox) (sym s_is) ∙ sym outbox) h.3)
+      (now ∙ ap (λ z. x.taken ++ z) (sym (plain s' none')), h.1, subst (λ z. Sits t p z x h.1) (ap (λ z. z.seat.staged) (sym s_is) ∙ sym staged) h.2, subst (λ z. RingLine t h.1 (waiting_items z) ps ss xs b taken) (ap (λ z. z.seat.outbox) (sym s_is) ∙ sym outbox) h.3)
   line-more room came came' ps ss xs b taken s s' d j s_is staged outbox from more some h = absurd h
 
   -- the output is taken
-  pub line-taken : (came ahead : List StreamItem) (ps : List t.Plan) (ss : List (RingSeat T t)) (xs : List Progress) (b b' : Inbox) (taken out : List ℕ) → out ≡ unread_bytes b → unread_bytes b' ≡ [] → b'.ended ≡ b.ended → Line t came ahead ps ss xs b taken → Line t came ahead ps ss xs b' (taken ++ out)
+  pub line-taken : (came ahead : List StreamItem) (ps : List t.Plan) (ss : List (RingSeat T t)) (xs : List Progress) (b b' : Inbox) (taken out : List ℕ) → out ≡ unread_bytes b → unread_bytes b' ≡ [] → b'.ended ≡ b.ended → RingLine t came ahead ps ss xs b taken → RingLine t came ahead ps ss xs b' (taken ++ out)
   line-taken came ahead [] [] [] b b' taken out out_is none end h =
       (h.0 ∙ sym (out-items t taken (unread_bytes b) b.ended) ∙ ap₂ (λ z f. map byte (taken ++ z) ++ end_items f) (sym out_is) (sym end) ∙ ap (λ z. map byte (taken ++ out) ++ items_of z b'.ended) (sym none), h.1)
   line-taken came ahead (p ∷ ps) (s ∷ ss) (x ∷ xs) b b' taken out out_is none end h =
@@ -75,7 +75,7 @@ module _ {T : Type 0} (t : Ghosts T) where
   line-taken came ahead ps ss xs b b' taken out out_is none end h = absurd h
 
   -- the output is as it was
-  pub has-written : (ps : List t.Plan) (before pipe : RingPipe T t) (h : List Event) (taken : List ℕ) → in_hand t pipe ≡ in_hand t before → Stands t ps before h taken → HasWritten t ps pipe h taken
+  pub has-written : (ps : List t.Plan) (before pipe : RingPipe T t) (h : List Event) (taken : List ℕ) → rings_in_hand t pipe ≡ rings_in_hand t before → RingsStand t ps before h taken → RingsHaveWritten t ps pipe h taken
   has-written ps before pipe h taken same s = record {
     came = s.came;
     seats = s.seats;
@@ -85,9 +85,9 @@ module _ {T : Type 0} (t : Ghosts T) where
   }
 
   -- what was in hand was taken
-  pub written-taken : (ps : List t.Plan) (before pipe : RingPipe T t) (h : List Event) (taken out : List ℕ) → out ≡ in_hand t before → in_hand t pipe ≡ [] → HasWritten t ps before h taken → HasWritten t ps pipe h (taken ++ out)
+  pub written-taken : (ps : List t.Plan) (before pipe : RingPipe T t) (h : List Event) (taken out : List ℕ) → out ≡ rings_in_hand t before → rings_in_hand t pipe ≡ [] → RingsHaveWritten t ps before h taken → RingsHaveWritten t ps pipe h (taken ++ out)
   written-taken ps before pipe h taken out all none w =
-      let whole : taken ++ in_hand t before ≡ (taken ++ out) ++ in_hand t pipe = ap (λ z. taken ++ z) (sym all) ∙ sym (append-nil (taken ++ out)) ∙ ap (λ z. (taken ++ out) ++ z) (sym none) in
+      let whole : taken ++ rings_in_hand t before ≡ (taken ++ out) ++ rings_in_hand t pipe = ap (λ z. taken ++ z) (sym all) ∙ sym (append-nil (taken ++ out)) ∙ ap (λ z. (taken ++ out) ++ z) (sym none) in
       record {
         came = w.came;
         seats = w.seats;
@@ -98,7 +98,7 @@ module _ {T : Type 0} (t : Ghosts T) where
 
   module _ (one : (p : t.Plan) (w : List ℕ) (e : Bool) (a b : Answer) → t.gives p w e a → t.gives p w e b → a ≡ b) where
     module _ (grows : (p : t.Plan) (w v : List ℕ) (e : Bool) (a b : Answer) → t.gives p w false a → t.gives p (w ++ v) e b → Begins b.text a.text) (ends : (p : t.Plan) (w : List ℕ) (e : Bool) (a : Answer) → t.gives p w e a → a.ended ≡ (e && is_none a.stop)) where
-      line-begins : (i : ℕ) (came ahead : List StreamItem) (ps : List t.Plan) (ss : List (RingSeat T t)) (xs : List Progress) (b : Inbox) (taken w : List ℕ) (e : Bool) (text : List ℕ) (report : Option Report) → Begins (items_of w e) came → Line t came ahead ps ss xs b taken → Pipeline t.gives i ps w e text report → Begins text (taken ++ unread_bytes b)
+      line-begins : (i : ℕ) (came ahead : List StreamItem) (ps : List t.Plan) (ss : List (RingSeat T t)) (xs : List Progress) (b : Inbox) (taken w : List ℕ) (e : Bool) (text : List ℕ) (report : Option Report) → Begins (items_of w e) came → RingLine t came ahead ps ss xs b taken → Pipeline t.gives i ps w e text report → Begins text (taken ++ unread_bytes b)
       line-begins i came ahead [] [] [] b taken w e text report front h answer =
           let r = bytes-front (taken ++ unread_bytes b) w e (end_items b.ended ++ front.0) (front.1 ∙ ap (λ z. z ++ front.0) (h.0 ∙ sym (append_assoc (map byte taken) (map byte (unread_bytes b)) (end_items b.ended)) ∙ ap (λ z. z ++ end_items b.ended) (sym (map-append byte taken (unread_bytes b)))) ∙ append_assoc (map byte (taken ++ unread_bytes b)) (end_items b.ended) front.0) in
           (r.0, answer.0 ∙ r.1)
@@ -108,14 +108,14 @@ module _ {T : Type 0} (t : Ghosts T) where
           line-begins (suc i) h.1 (waiting_items s.seat.outbox) ps ss xs b taken a.text a.ended text rest (sits-begins t one grows ends p s.seat.staged x h.1 (waits ++ front.0) w e a h.2 all ga) h.3 later_ones
       line-begins i came ahead ps ss xs b taken w e text report front h answer = absurd h
 
-      pub stands-begins : (ps : List t.Plan) (pipe : RingPipe T t) (h : List Event) (taken : List ℕ) → Stands t ps pipe h taken → BeginsAnswer t ps pipe h taken
+      pub stands-begins : (ps : List t.Plan) (pipe : RingPipe T t) (h : List Event) (taken : List ℕ) → RingsStand t ps pipe h taken → RingsBeginAnswer t ps pipe h taken
       stands-begins ps pipe h taken s = λ text report answer.
           line-begins 1 s.came [] ps pipe.seats.items s.seats pipe.output taken (bytes_given h) (end_given h) text report ([], sym (append-nil s.came ∙ came-given t.gives s.after)) s.line answer
 
     no-lies : (s : RingSeat T t) (ahead : List StreamItem) → IsIdle t s → ahead ≡ [] → lies_before t s ++ ahead ≡ []
     no-lies s ahead idle none = ap₂ (λ a b. (a ++ items_as b) ++ ahead) (ap₂ items_of idle.1.0 idle.1.1) idle.2 ∙ none
 
-    pub idle-settled : (came ahead : List StreamItem) (ps : List t.Plan) (ss : List (RingSeat T t)) (xs : List Progress) (b : Inbox) (taken : List ℕ) → ahead ≡ [] → ((k : ℕ) → k < length ss → (d : RingSeat T t) → IsIdle t (get_or ss k d)) → Line t came ahead ps ss xs b taken → Settled t.gives came ps xs
+    pub idle-settled : (came ahead : List StreamItem) (ps : List t.Plan) (ss : List (RingSeat T t)) (xs : List Progress) (b : Inbox) (taken : List ℕ) → ahead ≡ [] → ((k : ℕ) → k < length ss → (d : RingSeat T t) → IsIdle t (get_or ss k d)) → RingLine t came ahead ps ss xs b taken → Settled t.gives came ps xs
     idle-settled came ahead [] [] [] b taken none idle h = tt
     idle-settled came ahead (p ∷ ps) (s ∷ ss) (x ∷ xs) b taken none idle h =
         let z = idle zero (omega arith) s in
@@ -134,12 +134,12 @@ module _ {T : Type 0} (t : Ghosts T) where
         cases (x ∷ xs) e = cc
 
     -- of what waits before the next stage nothing is left when all is settled
-    settled-ahead : (came ahead : List StreamItem) (ps : List t.Plan) (ss : List (RingSeat T t)) (xs : List Progress) (b : Inbox) (taken : List ℕ) → Line t came ahead ps ss xs b taken → Settled t.gives came ps xs → ahead ≡ []
+    settled-ahead : (came ahead : List StreamItem) (ps : List t.Plan) (ss : List (RingSeat T t)) (xs : List Progress) (b : Inbox) (taken : List ℕ) → RingLine t came ahead ps ss xs b taken → Settled t.gives came ps xs → ahead ≡ []
     settled-ahead came ahead [] [] [] b taken h done = h.1
     settled-ahead came ahead (p ∷ ps) (s ∷ ss) (x ∷ xs) b taken h done = rest-empty (lies_before t s) ahead (sym (left x.taken (lies_before t s ++ ahead) came h.0) ∙ done.1)
     settled-ahead came ahead ps ss xs b taken h done = absurd h
 
-    pub settled-idle : (k : ℕ) (came ahead : List StreamItem) (ps : List t.Plan) (ss : List (RingSeat T t)) (xs : List Progress) (b : Inbox) (taken : List ℕ) (d : RingSeat T t) → k < length ss → Line t came ahead ps ss xs b taken → Settled t.gives came ps xs → IsIdle t (get_or ss k d)
+    pub settled-idle : (k : ℕ) (came ahead : List StreamItem) (ps : List t.Plan) (ss : List (RingSeat T t)) (xs : List Progress) (b : Inbox) (taken : List ℕ) (d : RingSeat T t) → k < length ss → RingLine t came ahead ps ss xs b taken → Settled t.gives came ps xs → IsIdle t (get_or ss k d)
     settled-idle zero came ahead (p ∷ ps) (s ∷ ss) (x ∷ xs) b taken d lt h done =
         let same = one-wrote t one p x.turned x.taken done.2 h.1 done.3 (sits-wrote t p s.seat.staged x h.1 h.2) in
         let lies : lies_before t s ≡ [] = front-none (lies_before t s) ahead (sym (left x.taken (lies_before t s ++ ahead) came h.0) ∙ done.1) in
@@ -153,7 +153,7 @@ module _ {T : Type 0} (t : Ghosts T) where
     settled-idle k came ahead ps ss xs b taken d lt h done = absurd h
 
     -- settled, the output and the report are the pipeline's
-    pub settled-answer : (i : ℕ) (came ahead : List StreamItem) (ps : List t.Plan) (ss : List (RingSeat T t)) (xs : List Progress) (b : Inbox) (taken w : List ℕ) (e : Bool) (report : Option Report) → came ≡ items_of w e → Line t came ahead ps ss xs b taken → Settled t.gives came ps xs → LastStop t i ps xs report → Pipeline t.gives i ps w e (taken ++ unread_bytes b) report
+    pub settled-answer : (i : ℕ) (came ahead : List StreamItem) (ps : List t.Plan) (ss : List (RingSeat T t)) (xs : List Progress) (b : Inbox) (taken w : List ℕ) (e : Bool) (report : Option Report) → came ≡ items_of w e → RingLine t came ahead ps ss xs b taken → Settled t.gives came ps xs → LastStop t i ps xs report → Pipeline t.gives i ps w e (taken ++ unread_bytes b) report
     settled-answer i came ahead [] [] [] b taken w e report is h done stop =
         (ap (λ z. taken ++ z) (sym (bytes-items (unread_bytes b) b.ended)) ∙ ap (λ z. z ++ bytes_in (waiting_items b)) (sym (bytes-items taken false)) ∙ sym (bytes-append (items_of taken false) (waiting_items b) (end-items taken false)) ∙ ap (λ z. bytes_in (z ++ waiting_items b)) (append-nil (map byte taken)) ∙ ap bytes_in (sym h.0 ∙ is) ∙ bytes-items w e, stop)
     settled-answer i came ahead (p ∷ ps) (s ∷ ss) (x ∷ xs) b taken w e report is h done (own, rest, has, others, er) =
@@ -168,7 +168,7 @@ module _ {T : Type 0} (t : Ghosts T) where
         same : done.2 ≡ h.1
         same = one-wrote t one p x.turned x.taken done.2 h.1 done.3 (sits-wrote t p s.seat.staged x h.1 h.2)
 
-        cases : (f : Option Fed) → IsFed t p x f → h.1 ≡ written_by f → ((a : Answer) → h.1 ≡ items_of a.text a.ended → Pipeline t.gives (suc i) ps a.text a.ended (taken ++ unread_bytes b) rest) → Pipeline t.gives i (p ∷ ps) w e (taken ++ unread_bytes b) report
+        cases : (f : Option StageFed) → IsStageFed t p x f → h.1 ≡ written_by f → ((a : Answer) → h.1 ≡ items_of a.text a.ended → Pipeline t.gives (suc i) ps a.text a.ended (taken ++ unread_bytes b) rest) → Pipeline t.gives i (p ∷ ps) w e (taken ++ unread_bytes b) report
         cases None fed wrote next = let bad : true ≡ false = sym done.0 ∙ fed.0 in cc
         cases (Some f) fed wrote next =
             let bytes : f.bytes ≡ w = fed.1 ∙ ap bytes_in all ∙ bytes-items w e in
@@ -181,7 +181,7 @@ module _ {T : Type 0} (t : Ghosts T) where
     settled-answer i came ahead ps ss xs b taken w e report is h done stop = absurd h
 
   -- one stage more
-  pub last-stop-more : (k i j : ℕ) (came ahead : List StreamItem) (ps : List t.Plan) (ss : List (RingSeat T t)) (xs : List Progress) (b : Inbox) (taken : List ℕ) (d : RingSeat T t) (own : Option Stop) (report : Option Report) → k < length ss → j ≡ i + k → ((h : Option Fed) → t.stands (get_or ss k d).seat.staged.stage h → own ≡ stop_in h) → Line t came ahead ps ss xs b taken → LastStop t i (take k ps) (take k xs) report → LastStop t i (take (suc k) ps) (take (suc k) xs) (latest_report j own report)
+  pub last-stop-more : (k i j : ℕ) (came ahead : List StreamItem) (ps : List t.Plan) (ss : List (RingSeat T t)) (xs : List Progress) (b : Inbox) (taken : List ℕ) (d : RingSeat T t) (own : Option Stop) (report : Option Report) → k < length ss → j ≡ i + k → ((h : Option StageFed) → t.stands (get_or ss k d).seat.staged.stage h → own ≡ stop_in h) → RingLine t came ahead ps ss xs b taken → LastStop t i (take k ps) (take k xs) report → LastStop t i (take (suc k) ps) (take (suc k) xs) (latest_report j own report)
   last-stop-more zero i j came ahead (p ∷ ps) (s ∷ ss) (x ∷ xs) b taken d own report lt number tells h before =
       (own, None, sits-stop t p s.seat.staged x h.1 own h.2 tells, refl, ap (λ z. latest_report j own z) before ∙ latest-later j own ∙ ap (λ z. later_report z own None) (let e : j ≡ i = omega arith in e))
   last-stop-more (suc k) i j came ahead (p ∷ ps) (s ∷ ss) (x ∷ xs) b taken d own report lt number tells h (first, rest, has, others, is) =
@@ -189,7 +189,7 @@ module _ {T : Type 0} (t : Ghosts T) where
   last-stop-more k i j came ahead ps [] xs bs taken d own report lt number tells h before = absurd (omega arith)
   last-stop-more k i j came ahead ps ss xs b taken d own report lt number tells h before = absurd h
 
-  pub last-stop-all : (i : ℕ) (came ahead : List StreamItem) (ps : List t.Plan) (ss : List (RingSeat T t)) (xs : List Progress) (b : Inbox) (taken : List ℕ) (report : Option Report) → Line t came ahead ps ss xs b taken → LastStop t i (take (length ss) ps) (take (length ss) xs) report → LastStop t i ps xs report
+  pub last-stop-all : (i : ℕ) (came ahead : List StreamItem) (ps : List t.Plan) (ss : List (RingSeat T t)) (xs : List Progress) (b : Inbox) (taken : List ℕ) (report : Option Report) → RingLine t came ahead ps ss xs b taken → LastStop t i (take (length ss) ps) (take (length ss) xs) report → LastStop t i ps xs report
   last-stop-all i came ahead [] [] [] b taken report h before = before
   last-stop-all i came ahead (p ∷ ps) (s ∷ ss) (x ∷ xs) b taken report h (own, rest, has, others, is) = (own, rest, has, last-stop-all (suc i) h.1 (waiting_items s.seat.outbox) ps ss xs b taken rest h.3 others, is)
   last-stop-all i came ahead ps ss xs b taken report h before = absurd h
@@ -199,7 +199,7 @@ module _ {T : Type 0} (t : Ghosts T) where
   new-seen room to s beside none = none-seen (taken_from s.from) (seen_in s.from) (beside.1 ∙ none)
 
   -- the line of stages that had no turn
-  pub new-line : (room : ℕ) (to : Giver) (stages : List T) (ss : List (Seated T t)) (row : List (RingSeat T t)) (b : Inbox) → Each (IsNew t) stages ss → Each (λ s r. r.seat ≡ s) ss row → Joined t (AreBeside room) to row → sent_to to ≡ [] → AreNew t row → waiting_items b ≡ [] → ((k : ℕ) (d : T) → k < length stages → t.stands (get_or stages k d) None) → Line t [] [] (map t.plan stages) row (map (λ p. fresh) (map t.plan stages)) b []
+  pub new-line : (room : ℕ) (to : Giver) (stages : List T) (ss : List (Seated T t)) (row : List (RingSeat T t)) (b : Inbox) → Each (IsNew t) stages ss → Each (λ s r. r.seat ≡ s) ss row → Joined t (AreBeside room) to row → sent_to to ≡ [] → AreNew t row → waiting_items b ≡ [] → ((k : ℕ) (d : T) → k < length stages → t.stands (get_or stages k d) None) → RingLine t [] [] (map t.plan stages) row (map (λ p. fresh) (map t.plan stages)) b []
   new-line room to [] [] [] b new same j none made empty unfed = (sym empty, refl)
   new-line room to (stage ∷ stages) (s ∷ ss) (r ∷ row) b new same j none made empty unfed =
       let n = new.0 in
@@ -209,7 +209,7 @@ module _ {T : Type 0} (t : Ghosts T) where
         sym lies,
         [],
         record { same_plan = ap (λ z. t.plan z.stage) staged; same_turned = ap (λ z. z.turned) staged; history = None; fed = (refl, refl); stands_for = subst (λ z. t.stands z.stage None) (sym staged) (unfed zero stage (omega arith)); wrote = refl },
-        subst (λ z. Line t [] z (map t.plan stages) row (map (λ p. fresh) (map t.plan stages)) b []) (sym (ap (λ z. waiting_items z.outbox) same.0 ∙ n.outbox)) (new-line room r.to stages ss row b new.1 same.1 j.1 own.0 (λ k d lt. made (suc k) d (omega arith)) empty (λ k d lt. unfed (suc k) d (omega arith))),
+        subst (λ z. RingLine t [] z (map t.plan stages) row (map (λ p. fresh) (map t.plan stages)) b []) (sym (ap (λ z. waiting_items z.outbox) same.0 ∙ n.outbox)) (new-line room r.to stages ss row b new.1 same.1 j.1 own.0 (λ k d lt. made (suc k) d (omega arith)) empty (λ k d lt. unfed (suc k) d (omega arith))),
       )
   new-line room to [] [] (r ∷ row) b new same j none made empty unfed = absurd same
   new-line room to [] (s ∷ ss) row b new same j none made empty unfed = absurd new

@@ -16,20 +16,20 @@ turns_from k (c ∷ cs) = turn (suc k) c ∷ turns_from (suc k) cs
 
 module _ {T : Type 0} (t : Ghosts T) where
   -- each stage sits in its seat; what came to it is what it has taken, then what lies before it, and then what the stage before it has not sent yet; behind the last stage, what was taken from the output and then what is in hand
-  abbrev pub Line : List StreamItem → List StreamItem → List t.Plan → List (RingSeat T t) → List Progress → Inbox → List ℕ → Type 0
-  Line came ahead [] [] [] b taken = (came ≡ map byte taken ++ waiting_items b) × (ahead ≡ [])
-  Line came ahead (p ∷ ps) (s ∷ ss) (x ∷ xs) b taken = (came ≡ x.taken ++ (lies_before t s ++ ahead)) × (out : List StreamItem) × Sits t p s.seat.staged x out × Line out (waiting_items s.seat.outbox) ps ss xs b taken
-  Line came ahead ps ss xs b taken = ⊥
+  abbrev pub RingLine : List StreamItem → List StreamItem → List t.Plan → List (RingSeat T t) → List Progress → Inbox → List ℕ → Type 0
+  RingLine came ahead [] [] [] b taken = (came ≡ map byte taken ++ waiting_items b) × (ahead ≡ [])
+  RingLine came ahead (p ∷ ps) (s ∷ ss) (x ∷ xs) b taken = (came ≡ x.taken ++ (lies_before t s ++ ahead)) × (out : List StreamItem) × Sits t p s.seat.staged x out × RingLine out (waiting_items s.seat.outbox) ps ss xs b taken
+  RingLine came ahead ps ss xs b taken = ⊥
 
   -- in a round the stages took turns of these counts, in their order
   abbrev pub LineRounds : List (RingSeat T t) → Inbox → List (RingSeat T t) → Inbox → List ℕ → Type 0
-  LineRounds ss b ss' b' counts = (ps : List t.Plan) (h : List Event) (came : List StreamItem) (xs : List Progress) (taken : List ℕ) → IsWhole came → After t.gives ps h came xs → Line came [] ps ss xs b taken
-      → (ys : List Progress) × After t.gives ps (h ++ turns_from 0 counts) came ys × Line came [] ps ss' ys b' taken
+  LineRounds ss b ss' b' counts = (ps : List t.Plan) (h : List Event) (came : List StreamItem) (xs : List Progress) (taken : List ℕ) → IsWhole came → After t.gives ps h came xs → RingLine came [] ps ss xs b taken
+      → (ys : List Progress) × After t.gives ps (h ++ turns_from 0 counts) came ys × RingLine came [] ps ss' ys b' taken
 
   -- all that waits was worked off, by some turns
   abbrev pub LineSettles : List (RingSeat T t) → Inbox → List (RingSeat T t) → Inbox → Type 0
-  LineSettles ss b ss' b' = (ps : List t.Plan) (h : List Event) (came : List StreamItem) (xs : List Progress) (taken : List ℕ) → IsWhole came → After t.gives ps h came xs → Line came [] ps ss xs b taken
-      → (counts : List ℕ) × (ys : List Progress) × After t.gives ps (h ++ turns_from 0 counts) came ys × Line came [] ps ss' ys b' taken × Settled t.gives came ps ys
+  LineSettles ss b ss' b' = (ps : List t.Plan) (h : List Event) (came : List StreamItem) (xs : List Progress) (taken : List ℕ) → IsWhole came → After t.gives ps h came xs → RingLine came [] ps ss xs b taken
+      → (counts : List ℕ) × (ys : List Progress) × After t.gives ps (h ++ turns_from 0 counts) came ys × RingLine came [] ps ss' ys b' taken × Settled t.gives came ps ys
 
   -- each neighbours' ends of the ring between them are so; before the first one is this end, and behind the last one none
   abbrev pub Joined : (Giver → Taker → Type 0) → Giver → List (RingSeat T t) → Type 0

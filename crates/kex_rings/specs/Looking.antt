@@ -20,7 +20,7 @@ abbrev pub IsEmpty : Inbox → Type 0
 IsEmpty b = (unread_bytes b ≡ []) × (b.ended ≡ false)
 
 -- the stage took nothing, not even out of its ring, and what is unsent now is the rest of what was
-pub record IsHeld (before after : List schedule.StreamItem) (popped more : List Item) (count : ℕ) : Type 0 where
+pub record IsHeldBack (before after : List schedule.StreamItem) (popped more : List Item) (count : ℕ) : Type 0 where
   pub none_popped : popped ≡ []
   pub none_taken : count ≡ 0
   pub rest : before ≡ items_as more ++ after
@@ -55,8 +55,8 @@ module _ {T : Type 0} (t : Ghosts T) where
     pub sits : Sits t p s'.seat.staged (fed_more got x) out
     pub out_is : out ≡ front ++ (items_as more ++ waiting_items s'.seat.outbox)
 
-  abbrev pub Feeds : RingSeat T t → RingSeat T t → List Item → List Item → ℕ → Type 0
-  Feeds s s' popped more count = (p : t.Plan) (x : Progress) (out front : List schedule.StreamItem) → IsWhole (x.taken ++ (waiting_items s.seat.inbox ++ items_as popped))
+  abbrev pub RingSeatFeeds : RingSeat T t → RingSeat T t → List Item → List Item → ℕ → Type 0
+  RingSeatFeeds s s' popped more count = (p : t.Plan) (x : Progress) (out front : List schedule.StreamItem) → IsWhole (x.taken ++ (waiting_items s.seat.inbox ++ items_as popped))
       → Sits t p s.seat.staged x out → out ≡ front ++ waiting_items s.seat.outbox → FedBy p x front s s' popped more count
 
   -- looks, in which the stage took so many items
@@ -67,13 +67,13 @@ module _ {T : Type 0} (t : Ghosts T) where
     pub more : List Item
     pub came : taken_from s'.from ≡ taken_from s.from ++ popped
     pub went : sent_to s'.to ≡ sent_to s.to ++ more
-    pub feeds : Feeds s s' popped more count
+    pub feeds : RingSeatFeeds s s' popped more count
     -- with nothing unsent it took all that it found, within the room
     pub took : unsent_items s ≡ [] → min room (finds s) ≤ count
     -- it sent what was unsent, as far as it knew slots to be free
     pub sent_most : min (length (unsent_items s)) (free_in s.to) ≤ length more
     -- unless it sent all that was unsent
-    pub held : length more < length (unsent_items s) → IsHeld (unsent_items s) (unsent_items s') popped more count
+    pub held : length more < length (unsent_items s) → IsHeldBack (unsent_items s) (unsent_items s') popped more count
     pub free : free_in s.to ≤ free_in s'.to + length more
 
   -- what was unsent was sent as far as the ring took it; nothing was taken
@@ -106,7 +106,7 @@ module _ {T : Type 0} (t : Ghosts T) where
     pub same_to : s'.to ≡ s.to
     pub popped : List Item
     pub came : taken_from s'.from ≡ taken_from s.from ++ popped
-    pub feeds : Feeds s s' popped [] count
+    pub feeds : RingSeatFeeds s s' popped [] count
     pub took : min room (finds s) ≤ count
 
   -- it had a turn, nothing lies before it, and nothing is unsent
@@ -145,8 +145,8 @@ module _ {T : Type 0} (t : Ghosts T) where
     pub none_left : waiting_items s'.seat.outbox ≡ []
     pub moves : (b.ended ≡ false) ⊎ (waiting_items s.seat.outbox ≡ []) → waiting_items b' ≡ waiting_items b ++ waiting_items s.seat.outbox
 
-  abbrev pub AllUsable : List (RingSeat T t) → Type 0
-  AllUsable ss = All (λ s. IsTrue s.seat.usable) ss
+  abbrev pub AllRingSeatsUsable : List (RingSeat T t) → Type 0
+  AllRingSeatsUsable ss = All (λ s. IsTrue s.seat.usable) ss
 
   -- the looks of each stage
   abbrev pub EachLooks : ℕ → List (RingSeat T t) → List (RingSeat T t) → List ℕ → Type 0
@@ -157,4 +157,4 @@ module _ {T : Type 0} (t : Ghosts T) where
   -- all of them have made their looks, or one wanted memory
   pub record WorkedAll (room : ℕ) (done : Bool) (ss ss' : List (RingSeat T t)) : Type 0 where
     pub looks : done ≡ true → EachLooks room ss ss' (map (λ s. s.took) ss')
-    pub usable : done ≡ true → AllUsable ss'
+    pub usable : done ≡ true → AllRingSeatsUsable ss'

@@ -4,7 +4,7 @@ ghost use Rattle.std.specs.Prelude.{◌≡◌, ◌≢◌, ◌<◌, ◌≤◌, �
 ghost use Rattle.kex_model.specs.Answers.{Pipeline};
 ghost use Rattle.kex_model.specs.Schedules.{Event, give, give_end, Settled};
 ghost use Rattle.kex_rings.specs.Ends.{AreBeside};
-ghost use Rattle.kex_rings.specs.Looking.{AllUsable};
+ghost use Rattle.kex_rings.specs.Looking.{AllRingSeatsUsable};
 ghost use Rattle.kex_rings.specs.Lines.{Joined, HaveRings};
 ghost use Rattle.kex_rings.specs.Props.{prop, rings-prop};
 
@@ -42,7 +42,7 @@ pub struct RingPipe<T: Turn> {
 
 impl<T: Turn + Drop> RingPipe<T> {
     ghost use Rattle.kex_rings.specs.Lines.{AreNew};
-    ghost use Rattle.kex_rings.specs.Standing.{Stands, BeginsAnswer, HasWritten, WorksOff, in_hand, is_ended, is_spent, stage_count};
+    ghost use Rattle.kex_rings.specs.Standing.{RingsStand, RingsBeginAnswer, RingsHaveWritten, WorksOff, rings_in_hand, rings_ended, rings_spent, rings_stage_count};
     ghost use Rattle.kex_pipe.specs.Reports.{report_as, LastStop};
     ghost use Rattle.kex_pipe.specs.Events.{bytes_given, end_given};
 
@@ -53,12 +53,12 @@ impl<T: Turn + Drop> RingPipe<T> {
         requires unfed { All (λ s. T.stands s None) stages.items }
         requires least { 1 ≤ room }
         requires most { room ≤ 1048576 }
-        ensures stands { IfOk result (λ pipe. Stands T.Turn (map T.plan stages.items) pipe [] []) }
-        ensures count { IfOk result (λ pipe. stage_count T.Turn pipe ≡ vec_len stages) }
+        ensures stands { IfOk result (λ pipe. RingsStand T.Turn (map T.plan stages.items) pipe [] []) }
+        ensures count { IfOk result (λ pipe. rings_stage_count T.Turn pipe ≡ vec_len stages) }
         ensures room { IfOk result (λ pipe. pipe.room ≡ room) }
         ensures rings { IfOk result (λ pipe. HaveRings T.Turn pipe.seats.items) }
-        ensures open { IfOk result (λ pipe. is_ended T.Turn pipe ≡ false) }
-        ensures going { IfOk result (λ pipe. is_spent T.Turn pipe ≡ false) }
+        ensures open { IfOk result (λ pipe. rings_ended T.Turn pipe ≡ false) }
+        ensures going { IfOk result (λ pipe. rings_spent T.Turn pipe ≡ false) }
     {
         if stages.len() > u32::MAX as usize {
             return Err(Memory);
@@ -88,28 +88,28 @@ impl<T: Turn + Drop> RingPipe<T> {
 
     /// Whether the end was given.
     pub fn ended(&self) -> bool
-        ensures { result ≡ is_ended T.Turn self.now }
+        ensures { result ≡ rings_ended T.Turn self.now }
     {
         self.ended
     }
 
     // A law: what was taken and is in hand begins the pipeline's text.
     pub(crate) fn begins(&self)
-        ensures { (ps : List T.Plan) (h : List Event) (taken : List ℕ) → Stands T.Turn ps self.now h taken → BeginsAnswer T.Turn ps self.now h taken }
+        ensures { (ps : List T.Plan) (h : List Event) (taken : List ℕ) → RingsStand T.Turn ps self.now h taken → RingsBeginAnswer T.Turn ps self.now h taken }
     {}
 
     /// Gives bytes to the first stage. After an error the output in hand is as it was, here and at every other call.
     pub fn give(&mut self, bytes: &[u8]) -> Result<(), PipeFault>
-        requires unended { is_ended T.Turn self.old ≡ false }
-        ensures stands { OnOk result ((ps : List T.Plan) (h : List Event) (taken : List ℕ) → Stands T.Turn ps self.old h taken → Stands T.Turn ps self.new (h ++ give bytes.now ∷ []) taken) }
-        ensures memory { result ≡ Err PipeFault.Memory → (ps : List T.Plan) (h : List Event) (taken : List ℕ) → Stands T.Turn ps self.old h taken → BeginsAnswer T.Turn ps self.new h taken }
-        ensures written { result ≡ Err PipeFault.Memory → (ps : List T.Plan) (h : List Event) (taken : List ℕ) → Stands T.Turn ps self.old h taken → HasWritten T.Turn ps self.new h taken }
-        ensures hand { in_hand T.Turn self.new ≡ in_hand T.Turn self.old }
-        ensures spent { (result ≡ Err PipeFault.Spent) ↔ IsTrue (is_spent T.Turn self.old) }
+        requires unended { rings_ended T.Turn self.old ≡ false }
+        ensures stands { OnOk result ((ps : List T.Plan) (h : List Event) (taken : List ℕ) → RingsStand T.Turn ps self.old h taken → RingsStand T.Turn ps self.new (h ++ give bytes.now ∷ []) taken) }
+        ensures memory { result ≡ Err PipeFault.Memory → (ps : List T.Plan) (h : List Event) (taken : List ℕ) → RingsStand T.Turn ps self.old h taken → RingsBeginAnswer T.Turn ps self.new h taken }
+        ensures written { result ≡ Err PipeFault.Memory → (ps : List T.Plan) (h : List Event) (taken : List ℕ) → RingsStand T.Turn ps self.old h taken → RingsHaveWritten T.Turn ps self.new h taken }
+        ensures hand { rings_in_hand T.Turn self.new ≡ rings_in_hand T.Turn self.old }
+        ensures spent { (result ≡ Err PipeFault.Spent) ↔ IsTrue (rings_spent T.Turn self.old) }
         ensures unchanged { result ≡ Err PipeFault.Spent → self.new ≡ self.old }
-        ensures spends { is_spent T.Turn self.new ≡ is_err result }
-        ensures ended { is_ended T.Turn self.new ≡ is_ended T.Turn self.old }
-        ensures count { stage_count T.Turn self.new ≡ stage_count T.Turn self.old }
+        ensures spends { rings_spent T.Turn self.new ≡ is_err result }
+        ensures ended { rings_ended T.Turn self.new ≡ rings_ended T.Turn self.old }
+        ensures count { rings_stage_count T.Turn self.new ≡ rings_stage_count T.Turn self.old }
         ensures room { self.new.room ≡ self.old.room }
     {
         if self.spent {
@@ -126,15 +126,15 @@ impl<T: Turn + Drop> RingPipe<T> {
 
     /// The input ends here.
     pub fn give_end(&mut self) -> Result<(), PipeFault>
-        requires unended { is_ended T.Turn self.old ≡ false }
-        ensures stands { OnOk result ((ps : List T.Plan) (h : List Event) (taken : List ℕ) → Stands T.Turn ps self.old h taken → Stands T.Turn ps self.new (h ++ give_end ∷ []) taken) }
+        requires unended { rings_ended T.Turn self.old ≡ false }
+        ensures stands { OnOk result ((ps : List T.Plan) (h : List Event) (taken : List ℕ) → RingsStand T.Turn ps self.old h taken → RingsStand T.Turn ps self.new (h ++ give_end ∷ []) taken) }
         ensures memory { result ≢ Err PipeFault.Memory }
-        ensures hand { in_hand T.Turn self.new ≡ in_hand T.Turn self.old }
-        ensures spent { (result ≡ Err PipeFault.Spent) ↔ IsTrue (is_spent T.Turn self.old) }
+        ensures hand { rings_in_hand T.Turn self.new ≡ rings_in_hand T.Turn self.old }
+        ensures spent { (result ≡ Err PipeFault.Spent) ↔ IsTrue (rings_spent T.Turn self.old) }
         ensures unchanged { result ≡ Err PipeFault.Spent → self.new ≡ self.old }
-        ensures spends { is_spent T.Turn self.new ≡ is_err result }
-        ensures ended { OnOk result (IsTrue (is_ended T.Turn self.new)) }
-        ensures count { stage_count T.Turn self.new ≡ stage_count T.Turn self.old }
+        ensures spends { rings_spent T.Turn self.new ≡ is_err result }
+        ensures ended { OnOk result (IsTrue (rings_ended T.Turn self.new)) }
+        ensures count { rings_stage_count T.Turn self.new ≡ rings_stage_count T.Turn self.old }
         ensures room { self.new.room ≡ self.old.room }
     {
         if self.spent {
@@ -147,8 +147,8 @@ impl<T: Turn + Drop> RingPipe<T> {
 
     /// Whether every stage had a turn, and nothing waits before a stage or is unsent. Not so of a spent pipe.
     pub fn settled(&self) -> bool
-        ensures settled { (ps : List T.Plan) (h : List Event) (taken : List ℕ) (s : Stands T.Turn ps self.now h taken) → (IsTrue result ↔ Settled T.gives s.came ps s.seats) }
-        ensures spent { IsTrue (is_spent T.Turn self.now) → result ≡ false }
+        ensures settled { (ps : List T.Plan) (h : List Event) (taken : List ℕ) (s : RingsStand T.Turn ps self.now h taken) → (IsTrue result ↔ Settled T.gives s.came ps s.seats) }
+        ensures spent { IsTrue (rings_spent T.Turn self.now) → result ≡ false }
     {
         if self.spent {
             return false;
@@ -163,9 +163,9 @@ impl<T: Turn + Drop> RingPipe<T> {
 
     /// The stop of the last stage, in the order of the pipeline, that has stopped. Of a spent pipe it says nothing.
     pub fn report(&self) -> Option<Rejected>
-        ensures last { (ps : List T.Plan) (h : List Event) (taken : List ℕ) (s : Stands T.Turn ps self.now h taken) → LastStop T.Turn 1 ps s.seats (report_as result) }
-        ensures settled { (ps : List T.Plan) (h : List Event) (taken : List ℕ) (s : Stands T.Turn ps self.now h taken) → Settled T.gives s.came ps s.seats
-            → Pipeline T.gives 1 ps (bytes_given h) (end_given h) (taken ++ in_hand T.Turn self.now) (report_as result) }
+        ensures last { (ps : List T.Plan) (h : List Event) (taken : List ℕ) (s : RingsStand T.Turn ps self.now h taken) → LastStop T.Turn 1 ps s.seats (report_as result) }
+        ensures settled { (ps : List T.Plan) (h : List Event) (taken : List ℕ) (s : RingsStand T.Turn ps self.now h taken) → Settled T.gives s.came ps s.seats
+            → Pipeline T.gives 1 ps (bytes_given h) (end_given h) (taken ++ rings_in_hand T.Turn self.now) (report_as result) }
     {
         let mut report = None;
         for (i, seat) in self.seats.iter().enumerate() {
@@ -176,14 +176,14 @@ impl<T: Turn + Drop> RingPipe<T> {
 
     /// Takes the output that is in hand, in the place of what `out` held. The room of that is kept for the output to come.
     pub fn take_output_into(&mut self, out: &mut Vec<u8>)
-        ensures all { out.new.items ≡ in_hand T.Turn self.old }
-        ensures none_left { in_hand T.Turn self.new ≡ [] }
-        ensures stands { (ps : List T.Plan) (h : List Event) (taken : List ℕ) → Stands T.Turn ps self.old h taken → Stands T.Turn ps self.new h (taken ++ out.new.items) }
-        ensures begins { (ps : List T.Plan) (h : List Event) (taken : List ℕ) → BeginsAnswer T.Turn ps self.old h taken → BeginsAnswer T.Turn ps self.new h (taken ++ out.new.items) }
-        ensures written { (ps : List T.Plan) (h : List Event) (taken : List ℕ) → HasWritten T.Turn ps self.old h taken → HasWritten T.Turn ps self.new h (taken ++ out.new.items) }
-        ensures spent { is_spent T.Turn self.new ≡ is_spent T.Turn self.old }
-        ensures ended { is_ended T.Turn self.new ≡ is_ended T.Turn self.old }
-        ensures count { stage_count T.Turn self.new ≡ stage_count T.Turn self.old }
+        ensures all { out.new.items ≡ rings_in_hand T.Turn self.old }
+        ensures none_left { rings_in_hand T.Turn self.new ≡ [] }
+        ensures stands { (ps : List T.Plan) (h : List Event) (taken : List ℕ) → RingsStand T.Turn ps self.old h taken → RingsStand T.Turn ps self.new h (taken ++ out.new.items) }
+        ensures begins { (ps : List T.Plan) (h : List Event) (taken : List ℕ) → RingsBeginAnswer T.Turn ps self.old h taken → RingsBeginAnswer T.Turn ps self.new h (taken ++ out.new.items) }
+        ensures written { (ps : List T.Plan) (h : List Event) (taken : List ℕ) → RingsHaveWritten T.Turn ps self.old h taken → RingsHaveWritten T.Turn ps self.new h (taken ++ out.new.items) }
+        ensures spent { rings_spent T.Turn self.new ≡ rings_spent T.Turn self.old }
+        ensures ended { rings_ended T.Turn self.new ≡ rings_ended T.Turn self.old }
+        ensures count { rings_stage_count T.Turn self.new ≡ rings_stage_count T.Turn self.old }
         ensures room { self.new.room ≡ self.old.room }
     {
         self.output.take_bytes_into(out);
@@ -191,14 +191,14 @@ impl<T: Turn + Drop> RingPipe<T> {
 
     /// Takes the output that is in hand.
     pub fn take_output(&mut self) -> Vec<u8>
-        ensures all { result.items ≡ in_hand T.Turn self.old }
-        ensures none_left { in_hand T.Turn self.new ≡ [] }
-        ensures stands { (ps : List T.Plan) (h : List Event) (taken : List ℕ) → Stands T.Turn ps self.old h taken → Stands T.Turn ps self.new h (taken ++ result.items) }
-        ensures begins { (ps : List T.Plan) (h : List Event) (taken : List ℕ) → BeginsAnswer T.Turn ps self.old h taken → BeginsAnswer T.Turn ps self.new h (taken ++ result.items) }
-        ensures written { (ps : List T.Plan) (h : List Event) (taken : List ℕ) → HasWritten T.Turn ps self.old h taken → HasWritten T.Turn ps self.new h (taken ++ result.items) }
-        ensures spent { is_spent T.Turn self.new ≡ is_spent T.Turn self.old }
-        ensures ended { is_ended T.Turn self.new ≡ is_ended T.Turn self.old }
-        ensures count { stage_count T.Turn self.new ≡ stage_count T.Turn self.old }
+        ensures all { result.items ≡ rings_in_hand T.Turn self.old }
+        ensures none_left { rings_in_hand T.Turn self.new ≡ [] }
+        ensures stands { (ps : List T.Plan) (h : List Event) (taken : List ℕ) → RingsStand T.Turn ps self.old h taken → RingsStand T.Turn ps self.new h (taken ++ result.items) }
+        ensures begins { (ps : List T.Plan) (h : List Event) (taken : List ℕ) → RingsBeginAnswer T.Turn ps self.old h taken → RingsBeginAnswer T.Turn ps self.new h (taken ++ result.items) }
+        ensures written { (ps : List T.Plan) (h : List Event) (taken : List ℕ) → RingsHaveWritten T.Turn ps self.old h taken → RingsHaveWritten T.Turn ps self.new h (taken ++ result.items) }
+        ensures spent { rings_spent T.Turn self.new ≡ rings_spent T.Turn self.old }
+        ensures ended { rings_ended T.Turn self.new ≡ rings_ended T.Turn self.old }
+        ensures count { rings_stage_count T.Turn self.new ≡ rings_stage_count T.Turn self.old }
         ensures room { self.new.room ≡ self.old.room }
     {
         let mut out = Vec::new(self.alloc);
@@ -209,17 +209,17 @@ impl<T: Turn + Drop> RingPipe<T> {
     /// Works off all that waits, on this thread: stage after stage, each takes what lies in the ring before it, and then what was
     /// unsent. Every ring is made anew.
     pub fn settle(&mut self) -> Result<(), PipeFault>
-        ensures works { OnOk result ((ps : List T.Plan) (h : List Event) (taken : List ℕ) → Stands T.Turn ps self.old h taken → WorksOff T.Turn ps self.new h taken) }
+        ensures works { OnOk result ((ps : List T.Plan) (h : List Event) (taken : List ℕ) → RingsStand T.Turn ps self.old h taken → WorksOff T.Turn ps self.new h taken) }
         ensures new { OnOk result (AreNew T.Turn self.new.seats.items) }
         ensures rings { OnOk result (HaveRings T.Turn self.new.seats.items) }
-        ensures begins { OnErr result ((ps : List T.Plan) (h : List Event) (taken : List ℕ) → Stands T.Turn ps self.old h taken → BeginsAnswer T.Turn ps self.new h taken) }
-        ensures written { OnErr result ((ps : List T.Plan) (h : List Event) (taken : List ℕ) → Stands T.Turn ps self.old h taken → HasWritten T.Turn ps self.new h taken) }
-        ensures hand { OnErr result (in_hand T.Turn self.new ≡ in_hand T.Turn self.old) }
-        ensures spent { (result ≡ Err PipeFault.Spent) ↔ IsTrue (is_spent T.Turn self.old) }
+        ensures begins { OnErr result ((ps : List T.Plan) (h : List Event) (taken : List ℕ) → RingsStand T.Turn ps self.old h taken → RingsBeginAnswer T.Turn ps self.new h taken) }
+        ensures written { OnErr result ((ps : List T.Plan) (h : List Event) (taken : List ℕ) → RingsStand T.Turn ps self.old h taken → RingsHaveWritten T.Turn ps self.new h taken) }
+        ensures hand { OnErr result (rings_in_hand T.Turn self.new ≡ rings_in_hand T.Turn self.old) }
+        ensures spent { (result ≡ Err PipeFault.Spent) ↔ IsTrue (rings_spent T.Turn self.old) }
         ensures unchanged { result ≡ Err PipeFault.Spent → self.new ≡ self.old }
-        ensures spends { is_spent T.Turn self.new ≡ is_err result }
-        ensures ended { is_ended T.Turn self.new ≡ is_ended T.Turn self.old }
-        ensures count { OnOk result (stage_count T.Turn self.new ≡ stage_count T.Turn self.old) }
+        ensures spends { rings_spent T.Turn self.new ≡ is_err result }
+        ensures ended { rings_ended T.Turn self.new ≡ rings_ended T.Turn self.old }
+        ensures count { OnOk result (rings_stage_count T.Turn self.new ≡ rings_stage_count T.Turn self.old) }
         ensures room { self.new.room ≡ self.old.room }
     {
         if self.spent {

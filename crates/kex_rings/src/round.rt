@@ -6,9 +6,9 @@ ghost use Rattle.kex_model.specs.Schedules.{Event};
 ghost use Rattle.kex_pipe.specs.Rounds.{Each};
 ghost use Rattle.kex_pipe.specs.Waiting.{unread_bytes};
 ghost use Rattle.kex_rings.specs.Ends.{sent_to, free_in, taken_from, SameGiver, SameTaker, ArePaired, AreBeside};
-ghost use Rattle.kex_rings.specs.Looking.{Looks, OnlyLooked, NowBeside, CarriedOut, AllUsable, WorkedAll};
-ghost use Rattle.kex_rings.specs.Lines.{turns_from, Line, Joined, HaveRings, AllGetOn, LineRounds};
-ghost use Rattle.kex_rings.specs.Standing.{Stands, BeginsAnswer, HasWritten, in_hand, is_ended, is_spent, stage_count};
+ghost use Rattle.kex_rings.specs.Looking.{Looks, OnlyLooked, NowBeside, CarriedOut, AllRingSeatsUsable, WorkedAll};
+ghost use Rattle.kex_rings.specs.Lines.{turns_from, RingLine, Joined, HaveRings, AllGetOn, LineRounds};
+ghost use Rattle.kex_rings.specs.Standing.{RingsStand, RingsBeginAnswer, RingsHaveWritten, rings_in_hand, rings_ended, rings_spent, rings_stage_count};
 
 use crate::item::Item;
 use crate::pipe::RingPipe;
@@ -43,7 +43,7 @@ fn work_one<T: Turn, G: Gate>(
 
 // What some stages are to do, the first of which has this number.
 #[derive(Drop)]
-struct Task<'g, G: Gate> {
+struct LookTask<'g, G: Gate> {
     gate: &'g G,
     first: u32,
     looks: u32,
@@ -52,11 +52,11 @@ struct Task<'g, G: Gate> {
 // The looks of these stages.
 fn work_all<R: Threads + Sync, T: Turn + Send, G: Gate + Sync>(
     rt: &R,
-    task: &Task<'_, G>,
+    task: &LookTask<'_, G>,
     room: u32,
     seats: &mut [RingSeat<T>],
 ) -> Result<(), Memory>
-    requires { (task.now.first + length seats.old ≤ 2 ^ 32) × (0 < task.now.looks) × AllUsable T.Turn seats.old }
+    requires { (task.now.first + length seats.old ≤ 2 ^ 32) × (0 < task.now.looks) × AllRingSeatsUsable T.Turn seats.old }
     ensures { WorkedAll T.Turn room (is_ok result) seats.old seats.new }
 {
     if seats.len() < 2 {
@@ -66,7 +66,7 @@ fn work_all<R: Threads + Sync, T: Turn + Send, G: Gate + Sync>(
         };
     }
     let half = seats.len() / 2;
-    let next = Task {
+    let next = LookTask {
         gate: task.gate,
         first: task.first + half as u32,
         looks: task.looks,
@@ -76,11 +76,11 @@ fn work_all<R: Threads + Sync, T: Turn + Send, G: Gate + Sync>(
     let (one, other) = join_mut(
         rt,
         &mut || -> Result<(), Memory>
-            requires { IsSync R.row × (task.now.first + length front.now ≤ 2 ^ 32) × (0 < task.now.looks) × AllUsable T.Turn front.now }
+            requires { IsSync R.row × (task.now.first + length front.now ≤ 2 ^ 32) × (0 < task.now.looks) × AllRingSeatsUsable T.Turn front.now }
             ensures { WorkedAll T.Turn room (is_ok result) front.entry.now front.exit.now }
         { work_all(rt, task, room, front) },
         &mut || -> Result<(), Memory>
-            requires { IsSync R.row × (behind.now.first + length back.now ≤ 2 ^ 32) × (0 < behind.now.looks) × AllUsable T.Turn back.now }
+            requires { IsSync R.row × (behind.now.first + length back.now ≤ 2 ^ 32) × (0 < behind.now.looks) × AllRingSeatsUsable T.Turn back.now }
             ensures { WorkedAll T.Turn room (is_ok result) back.entry.now back.exit.now }
         { work_all(rt, behind, room, back) },
     );
@@ -176,10 +176,10 @@ fn run<R: Threads + Sync, T: Turn + Send, G: Gate + Sync>(
     requires few { length seats.old < 2 ^ 32 }
     requires some { 0 < length seats.old }
     requires looks { 0 < looks }
-    requires usable { AllUsable T.Turn seats.old }
+    requires usable { AllRingSeatsUsable T.Turn seats.old }
     requires joined { Joined T.Turn (AreBeside room) None seats.old }
     requires rings { HaveRings T.Turn seats.old }
-    ensures usable { OnOk result (AllUsable T.Turn seats.new) }
+    ensures usable { OnOk result (AllRingSeatsUsable T.Turn seats.new) }
     ensures joined { OnOk result (Joined T.Turn (AreBeside room) None seats.new) }
     ensures rings { OnOk result (HaveRings T.Turn seats.new) }
     ensures count { OnOk result (length seats.new ≡ length seats.old) }
@@ -188,7 +188,7 @@ fn run<R: Threads + Sync, T: Turn + Send, G: Gate + Sync>(
     ensures gets_on { OnOk result (AllGetOn T.Turn room seats.old seats.new counts.new.items) }
     ensures hand { OnErr result (unread_bytes output.new ≡ unread_bytes output.old) }
 {
-    let task = Task {
+    let task = LookTask {
         gate,
         first: 1,
         looks,
@@ -210,19 +210,19 @@ pub fn ring_round<R: Threads + Sync, T: Turn + Drop + Send, G: Gate + Sync>(
     counts: &mut Vec<u64>,
 ) -> Result<(), PipeFault>
     requires { 0 < looks }
-    ensures stands { OnOk result ((ps : List T.Plan) (h : List Event) (taken : List ℕ) → Stands T.Turn ps pipe.old h taken → Stands T.Turn ps pipe.new (h ++ turns_from 0 counts.new.items) taken) }
-    ensures counts { OnOk result (vec_len counts.new ≡ stage_count T.Turn pipe.old) }
+    ensures stands { OnOk result ((ps : List T.Plan) (h : List Event) (taken : List ℕ) → RingsStand T.Turn ps pipe.old h taken → RingsStand T.Turn ps pipe.new (h ++ turns_from 0 counts.new.items) taken) }
+    ensures counts { OnOk result (vec_len counts.new ≡ rings_stage_count T.Turn pipe.old) }
     // With nothing unsent a stage took at least all that lay in its ring when the round began, or as much as there is room for; what
     // was unsent it sent, as far as the room goes since its ring was made. A stage that could not send all that was unsent took nothing,
     // not even out of its ring.
     ensures gets_on { OnOk result (AllGetOn T.Turn pipe.old.room pipe.old.seats.items pipe.new.seats.items counts.new.items) }
-    ensures begins { OnErr result ((ps : List T.Plan) (h : List Event) (taken : List ℕ) → Stands T.Turn ps pipe.old h taken → BeginsAnswer T.Turn ps pipe.new h taken) }
-    ensures written { OnErr result ((ps : List T.Plan) (h : List Event) (taken : List ℕ) → Stands T.Turn ps pipe.old h taken → HasWritten T.Turn ps pipe.new h taken) }
-    ensures hand { OnErr result (in_hand T.Turn pipe.new ≡ in_hand T.Turn pipe.old) }
-    ensures spent { (result ≡ Err PipeFault.Spent) ↔ IsTrue (is_spent T.Turn pipe.old) }
+    ensures begins { OnErr result ((ps : List T.Plan) (h : List Event) (taken : List ℕ) → RingsStand T.Turn ps pipe.old h taken → RingsBeginAnswer T.Turn ps pipe.new h taken) }
+    ensures written { OnErr result ((ps : List T.Plan) (h : List Event) (taken : List ℕ) → RingsStand T.Turn ps pipe.old h taken → RingsHaveWritten T.Turn ps pipe.new h taken) }
+    ensures hand { OnErr result (rings_in_hand T.Turn pipe.new ≡ rings_in_hand T.Turn pipe.old) }
+    ensures spent { (result ≡ Err PipeFault.Spent) ↔ IsTrue (rings_spent T.Turn pipe.old) }
     ensures unchanged { result ≡ Err PipeFault.Spent → pipe.new ≡ pipe.old }
-    ensures spends { is_spent T.Turn pipe.new ≡ is_err result }
-    ensures ended { is_ended T.Turn pipe.new ≡ is_ended T.Turn pipe.old }
+    ensures spends { rings_spent T.Turn pipe.new ≡ is_err result }
+    ensures ended { rings_ended T.Turn pipe.new ≡ rings_ended T.Turn pipe.old }
     ensures room { pipe.new.room ≡ pipe.old.room }
 {
     if pipe.spent {

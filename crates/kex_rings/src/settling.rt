@@ -5,7 +5,7 @@ ghost use Rattle.kex_pipe.specs.Waiting.{unread_bytes, waiting_items};
 ghost use Rattle.kex_pipe.specs.Seats.{IsWhole};
 ghost use Rattle.kex_rings.specs.Ends.{AreBeside, seen_in};
 ghost use Rattle.kex_rings.specs.Items.{items_as};
-ghost use Rattle.kex_rings.specs.Looking.{AllUsable};
+ghost use Rattle.kex_rings.specs.Looking.{AllRingSeatsUsable};
 ghost use Rattle.kex_rings.specs.Settling.{SettlesBy, SettlesAll, AllSeatsUsable};
 ghost use Rattle.kex_rings.specs.Lines.{Joined, AreNew, HaveRings, LineSettles};
 
@@ -56,7 +56,7 @@ fn settle_each<T: Turn + Drop>(
     seats: Vec<RingSeat<T>>,
     carried: &mut Inbox,
 ) -> Result<Vec<Seat<T>>, Memory>
-    requires { AllUsable T.Turn seats.items }
+    requires { AllRingSeatsUsable T.Turn seats.items }
     ensures usable { IfOk result (λ settled. AllSeatsUsable T.Turn settled.items) }
     ensures settles { IfOk result (λ settled. SettlesAll T.Turn seats.items settled.items (waiting_items carried.old) (waiting_items carried.new)) }
 {
@@ -76,8 +76,8 @@ pub(crate) fn settle_all<T: Turn + Drop>(
     seats: Vec<RingSeat<T>>,
     output: &mut Inbox,
 ) -> Result<Vec<RingSeat<T>>, Memory>
-    requires { AllUsable T.Turn seats.items }
-    ensures usable { IfOk result (λ row. AllUsable T.Turn row.items) }
+    requires { AllRingSeatsUsable T.Turn seats.items }
+    ensures usable { IfOk result (λ row. AllRingSeatsUsable T.Turn row.items) }
     ensures joined { IfOk result (λ row. Joined T.Turn (AreBeside room) None row.items) }
     ensures new { IfOk result (λ row. AreNew T.Turn row.items) }
     ensures rings { IfOk result (λ row. HaveRings T.Turn row.items) }

@@ -10,8 +10,8 @@ use Rattle.kex_model.specs.Programs.{Grammar, IsGrammar}
 use Rattle.kex_model.specs.Trees.{kind_at}
 use Rattle.kex_rules.specs.declared.components.Mark.{Mark}
 use Rattle.kex_rules.specs.Rules.{IsCall, IsNotTail, last_parts, other_parts}
-use Rattle.kex_rules.specs.Tables.{IsLeast, lower}
-use Rattle.kex_rules.specs.Graphs.{IsParted, vertices, ways}
+use Rattle.kex_rules.specs.Tables.{IsLeastOffset, lower}
+use Rattle.kex_rules.specs.Graphs.{AreComponents, vertices, vertex_successors}
 use Rattle.kex_rules.specs.Tails.{AreSame, by_other, by_last, MarksParts, HasApart}
 use Rattle.kex_rules.proofs.Marks.{one_number}
 use Rattle.kex_rules.proofs.DefinedNames.{least_more, least_same}
@@ -53,23 +53,23 @@ apart_more P marks n old new h k = record {
 abbrev pub ApartBefore : Grammar → List Bool → ℕ → ℕ → Type 0
 ApartBefore P apart i at = (n name : ℕ) × (n < i) × IsCall P n name at × (get_or apart n false ≡ true)
 
-pub before_none : (P : Grammar) (apart : List Bool) → IsLeast (ApartBefore P apart 0) None
+pub before_none : (P : Grammar) (apart : List Bool) → IsLeastOffset (ApartBefore P apart 0) None
 before_none P apart = λ at h. let lt : h.0 < 0 = h.2 in omega arith
 
 this_or_below : (a b : ℕ) → a < b + 1 → (a < b) ⊎ (b ≡ a)
 this_or_below a b lt = grind arith
 
-pub before_more : (P : Grammar) (apart : List Bool) (i name : ℕ) (m : Node) (found : Option ℕ) → HasNumber P.nodes m i → m.kind ≡ Call name → get_or apart i false ≡ true → IsLeast (ApartBefore P apart i) found → IsLeast (ApartBefore P apart (i + 1)) (Some (lower found m.at))
+pub before_more : (P : Grammar) (apart : List Bool) (i name : ℕ) (m : Node) (found : Option ℕ) → HasNumber P.nodes m i → m.kind ≡ Call name → get_or apart i false ≡ true → IsLeastOffset (ApartBefore P apart i) found → IsLeastOffset (ApartBefore P apart (i + 1)) (Some (lower found m.at))
 before_more P apart i name m found e k f h = least_more (ApartBefore P apart i) (ApartBefore P apart (i + 1)) found m.at h (i, name, omega arith, (m, e, k, refl), f)
     (λ at c. ⊎_elim (λ l. inl (c.0, c.1, l, c.3, c.4)) (λ q. inr (sym c.3.3 ∙ ap (λ z. z.at) (one_number P.nodes c.3.0 m i (subst (λ z. HasNumber P.nodes c.3.0 z) (sym q) c.3.1) e))) (this_or_below c.0 i c.2))
     (λ at c. (c.0, c.1, (let l : c.0 < i = c.2 in omega arith), c.3, c.4))
 
-pub before_same : (P : Grammar) (apart : List Bool) (i : ℕ) (found : Option ℕ) → ((name at : ℕ) → IsCall P i name at → get_or apart i false ≡ true → ⊥) → IsLeast (ApartBefore P apart i) found → IsLeast (ApartBefore P apart (i + 1)) found
+pub before_same : (P : Grammar) (apart : List Bool) (i : ℕ) (found : Option ℕ) → ((name at : ℕ) → IsCall P i name at → get_or apart i false ≡ true → ⊥) → IsLeastOffset (ApartBefore P apart i) found → IsLeastOffset (ApartBefore P apart (i + 1)) found
 before_same P apart i found n h = least_same (ApartBefore P apart i) (ApartBefore P apart (i + 1)) found h
     (λ at c. ⊎_elim (λ l. (c.0, c.1, l, c.3, c.4)) (λ q. absurd (n c.1 at (subst (λ z. IsCall P z c.1 at) (sym q) c.3) (ap (λ z. get_or apart z false) q ∙ c.4))) (this_or_below c.0 i c.2))
     (λ at c. (c.0, c.1, (let l : c.0 < i = c.2 in omega arith), c.3, c.4))
 
-pub before_all : (P : Grammar) → IsGrammar P → (marks : List Mark) → IsParted (ways P) (vertices P) marks → (apart : List Bool) → HasApart P marks 0 apart → (found : Option ℕ) → IsLeast (ApartBefore P apart (length P.nodes)) found → IsLeast (IsNotTail P) found
+pub before_all : (P : Grammar) → IsGrammar P → (marks : List Mark) → AreComponents (vertex_successors P) (vertices P) marks → (apart : List Bool) → HasApart P marks 0 apart → (found : Option ℕ) → IsLeastOffset (ApartBefore P apart (length P.nodes)) found → IsLeastOffset (IsNotTail P) found
 before_all P g marks parted apart flags found h = least_same (ApartBefore P apart (length P.nodes)) (IsNotTail P) found h
     (λ at c. let r = is_apart P g marks parted at c in (r.0, r.1, slice_get_within P.nodes r.0 r.2.0 r.2.1, r.2, flagged P g marks parted apart flags r.3))
     (λ at c. is_not_tail P g marks parted at c.0 c.1 c.3 (flags.real c.0 c.4))

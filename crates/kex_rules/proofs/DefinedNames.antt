@@ -14,7 +14,7 @@ use Rattle.kex_model.specs.Programs.{Grammar, IsGrammar}
 use Rattle.kex_model.proofs.DistinctItems.{among_get, among-append}
 use Rattle.kex_model.proofs.Tables.{some_same, get_more, get_last, get_pushed}
 use Rattle.kex_rules.specs.Rules.{IsDefined, IsTwice, CallsAt, StartsAt, IsUse, IsUnknown, IsNotTail, IsRuled, IsLowest, Nowhere}
-use Rattle.kex_rules.specs.Tables.{first_root, HasRoots, IsLeast, lower, CallsUnknown, StartsUnknown}
+use Rattle.kex_rules.specs.Tables.{first_root, HasRoots, IsLeastOffset, lower, CallsUnknown, StartsUnknown}
 use Rattle.kex_rules.proofs.Ways.{find_among}
 use Rattle.kex_rules.proofs.Marks.{number_front, number_of, same_or_not}
 
@@ -134,7 +134,7 @@ roots_kept ds d names roots r h e = record {
 }
 
 -- one more offset breaks a rule
-pub least_more : (B C : ℕ → Type 0) (found : Option ℕ) (at : ℕ) → IsLeast B found → C at → ((k : ℕ) → C k → B k ⊎ (k ≡ at)) → ((k : ℕ) → B k → C k) → IsLeast C (Some (lower found at))
+pub least_more : (B C : ℕ → Type 0) (found : Option ℕ) (at : ℕ) → IsLeastOffset B found → C at → ((k : ℕ) → C k → B k ⊎ (k ≡ at)) → ((k : ℕ) → B k → C k) → IsLeastOffset C (Some (lower found at))
 least_more B C None at h new old keep = record { breaks = new; lowest = λ k lt c. ⊎_elim (λ b. h k b) (λ e. omega arith) (old k c) }
 least_more B C (Some f) at h new old keep = by (nat_lt f at) refl
   where
@@ -142,7 +142,7 @@ least_more B C (Some f) at h new old keep = by (nat_lt f at) refl
     by true t = let lt : f < at = grind (arith, nat_tests) in record { breaks = keep f h.breaks; lowest = λ k l c. ⊎_elim (λ b. h.lowest k l b) (λ e. omega arith) (old k c) }
     by false t = let le : at ≤ f = grind (arith, nat_tests) in record { breaks = new; lowest = λ k l c. ⊎_elim (λ b. h.lowest k (omega arith) b) (λ e. omega arith) (old k c) }
 
-pub least_same : (B C : ℕ → Type 0) (found : Option ℕ) → IsLeast B found → ((k : ℕ) → C k → B k) → ((k : ℕ) → B k → C k) → IsLeast C found
+pub least_same : (B C : ℕ → Type 0) (found : Option ℕ) → IsLeastOffset B found → ((k : ℕ) → C k → B k) → ((k : ℕ) → B k → C k) → IsLeastOffset C found
 least_same B C None h back keep = λ k c. h k (back k c)
 least_same B C (Some f) h back keep = record { breaks = keep f h.breaks; lowest = λ k l c. h.lowest k l (back k c) }
 
@@ -159,13 +159,13 @@ twice_kept ds d at (i, j, x, e, lt, hi, hj, same, is) = (i, j, x, e, lt, get_mor
 pub twice_none : Nowhere (IsTwice [])
 twice_none at (i, j, x, e, lt, hi, hj, same, is) = let l : j < 0 = slice_get_within [] j e hj in omega arith
 
-pub twice_more : (ds : List Definition) (d : Definition) (found : Option ℕ) → IsDefined ds d.name → IsLeast (IsTwice ds) found → IsLeast (IsTwice (ds ++ d ∷ [])) (Some (lower found d.at))
+pub twice_more : (ds : List Definition) (d : Definition) (found : Option ℕ) → IsDefined ds d.name → IsLeastOffset (IsTwice ds) found → IsLeastOffset (IsTwice (ds ++ d ∷ [])) (Some (lower found d.at))
 twice_more ds d found (x, i, same) h = least_more (IsTwice ds) (IsTwice (ds ++ d ∷ [])) found d.at h here (λ k c. ⊎_elim (λ b. inl b) (λ b. inr b.1) (twice_cases ds d k c)) (λ k b. twice_kept ds d k b)
   where
     here : IsTwice (ds ++ d ∷ []) d.at
     here = let p = number_of [] ds x i in (p.0, length ds, x, d, slice_get_within ds p.0 x p.1, get_more ds (d ∷ []) p.0 x p.1, get_last ds d, same, refl)
 
-pub twice_same : (ds : List Definition) (d : Definition) (found : Option ℕ) → (IsDefined ds d.name → ⊥) → IsLeast (IsTwice ds) found → IsLeast (IsTwice (ds ++ d ∷ [])) found
+pub twice_same : (ds : List Definition) (d : Definition) (found : Option ℕ) → (IsDefined ds d.name → ⊥) → IsLeastOffset (IsTwice ds) found → IsLeastOffset (IsTwice (ds ++ d ∷ [])) found
 twice_same ds d found n h = least_same (IsTwice ds) (IsTwice (ds ++ d ∷ [])) found h (λ k c. ⊎_elim (λ b. b) (λ b. absurd (n b.0)) (twice_cases ds d k c)) (λ k b. twice_kept ds d k b)
 
 -- calls and the first stages
@@ -180,19 +180,19 @@ uses_kept : (P : Grammar) (ss : List Start) (s : Start) (at : ℕ) → UsesUnkno
 uses_kept P ss s at (inl c) = inl c
 uses_kept P ss s at (inr (name, (x, i, k, is), n)) = inr (name, (x, among-append ss (s ∷ []) x (inl i), k, is), n)
 
-pub uses_start : (P : Grammar) (found : Option ℕ) → IsLeast (CallsUnknown P) found → IsLeast (UsesUnknown P []) found
+pub uses_start : (P : Grammar) (found : Option ℕ) → IsLeastOffset (CallsUnknown P) found → IsLeastOffset (UsesUnknown P []) found
 uses_start P found h = least_same (CallsUnknown P) (UsesUnknown P []) found h (λ k c. ⊎_elim (λ b. b) (λ b. absurd (nothing k b)) c) (λ k b. inl b)
   where
     nothing : (k : ℕ) → StartsUnknown P.definitions [] k → ⊥
     nothing k (name, (x, i, e, is), n) = i
 
-pub uses_more : (P : Grammar) (ss : List Start) (s : Start) (found : Option ℕ) → (IsDefined P.definitions s.name → ⊥) → IsLeast (UsesUnknown P ss) found → IsLeast (UsesUnknown P (ss ++ s ∷ [])) (Some (lower found s.at))
+pub uses_more : (P : Grammar) (ss : List Start) (s : Start) (found : Option ℕ) → (IsDefined P.definitions s.name → ⊥) → IsLeastOffset (UsesUnknown P ss) found → IsLeastOffset (UsesUnknown P (ss ++ s ∷ [])) (Some (lower found s.at))
 uses_more P ss s found n h = least_more (UsesUnknown P ss) (UsesUnknown P (ss ++ s ∷ [])) found s.at h (inr (s.name, (s, among-append ss (s ∷ []) s (inr (inl refl)), refl, refl), n)) (λ k c. ⊎_elim (λ b. inl b) (λ b. inr b.1) (uses_cases P ss s k c)) (λ k b. uses_kept P ss s k b)
 
-pub uses_same : (P : Grammar) (ss : List Start) (s : Start) (found : Option ℕ) → IsDefined P.definitions s.name → IsLeast (UsesUnknown P ss) found → IsLeast (UsesUnknown P (ss ++ s ∷ [])) found
+pub uses_same : (P : Grammar) (ss : List Start) (s : Start) (found : Option ℕ) → IsDefined P.definitions s.name → IsLeastOffset (UsesUnknown P ss) found → IsLeastOffset (UsesUnknown P (ss ++ s ∷ [])) found
 uses_same P ss s found d h = least_same (UsesUnknown P ss) (UsesUnknown P (ss ++ s ∷ [])) found h (λ k c. ⊎_elim (λ b. b) (λ b. absurd (b.0 d)) (uses_cases P ss s k c)) (λ k b. uses_kept P ss s k b)
 
-pub uses_all : (P : Grammar) (found : Option ℕ) → IsLeast (UsesUnknown P P.stages) found → IsLeast (IsUnknown P) found
+pub uses_all : (P : Grammar) (found : Option ℕ) → IsLeastOffset (UsesUnknown P P.stages) found → IsLeastOffset (IsUnknown P) found
 uses_all P found h = least_same (UsesUnknown P P.stages) (IsUnknown P) found h (λ k c. back k c.0 c.1 c.2) (λ k b. on k b)
   where
     back : (k name : ℕ) → CallsAt P name k ⊎ StartsAt P.stages name k → (IsDefined P.definitions name → ⊥) → UsesUnknown P P.stages k
@@ -239,8 +239,8 @@ ruled P once known begins tail = record {
     some_stage (s ∷ stages) n = (s, inl refl)
 
 -- the same, by what the passes found
-pub ruled_by : (P : Grammar) (stages : List Start) (unknown apart : Option ℕ) (empty : Bool) → Nowhere (IsTwice P.definitions) → IsLeast (IsUnknown P) unknown → unknown ≡ None → stages ≡ P.stages → empty ≡ (length stages == 0) → empty ≡ false → IsLeast (IsNotTail P) apart → apart ≡ None → IsRuled P
+pub ruled_by : (P : Grammar) (stages : List Start) (unknown apart : Option ℕ) (empty : Bool) → Nowhere (IsTwice P.definitions) → IsLeastOffset (IsUnknown P) unknown → unknown ≡ None → stages ≡ P.stages → empty ≡ (length stages == 0) → empty ≡ false → IsLeastOffset (IsNotTail P) apart → apart ≡ None → IsRuled P
 ruled_by P stages unknown apart empty once known u all is some tail a = ruled P once
-    (subst (λ z. IsLeast (IsUnknown P) z) u known)
+    (subst (λ z. IsLeastOffset (IsUnknown P) z) u known)
     (λ e. let none : (length stages == 0) ≡ true = eq-eqb (length stages) 0 (ap length (all ∙ e)) in let clash : false ≡ true = sym some ∙ is ∙ none in cc)
-    (subst (λ z. IsLeast (IsNotTail P) z) a tail)
+    (subst (λ z. IsLeastOffset (IsNotTail P) z) a tail)

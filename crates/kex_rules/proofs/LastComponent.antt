@@ -8,21 +8,21 @@ use Rattle.kex_model.proofs.Tables.{get_more, get_last, get_pushed}
 use Rattle.kex_rules.specs.declared.components.Mark.{Mark}
 use Rattle.kex_rules.specs.declared.components.Mark.TheVariants.{Unseen, Open, Closed}
 use Rattle.kex_rules.specs.declared.components.Bound.{Bound}
-use Rattle.kex_rules.specs.Graphs.{Leads, IsParted}
-use Rattle.kex_rules.specs.Searches.{unseen_count, Met, is_closed, is_open, is_ahead, in_hand, IsSearch, Closes}
-use Rattle.kex_rules.proofs.Marks.{same_or_not, less_or_not, at_most_or_not, number_front, mark_set, one_number, unseen-closed}
+use Rattle.kex_rules.specs.Graphs.{Leads, AreComponents}
+use Rattle.kex_rules.specs.Searches.{unseen_count, Met, is_closed, is_open, is_ahead, in_hand, IsSearch, ClosesPath}
+use Rattle.kex_rules.proofs.Marks.{same_or_not, less_or_not, at_most_or_not, number_front, mark_set, one_number, unseen_count-closed}
 
 -- nothing is closed yet
-pub closes_none : (p closed : ℕ) (path : List ℕ) (marks : List Mark) → Closes p p closed path marks marks
+pub closes_none : (p closed : ℕ) (path : List ℕ) (marks : List Mark) → ClosesPath p p closed path marks marks
 closes_none p closed path marks = record { long = refl; done = λ v i le lt h. absurd (omega arith); kept = λ v n. refl; count = omega arith }
 
 -- one more is closed
-pub closes_more : (p q closed : ℕ) (path : List ℕ) (old mid : List Mark) (v : ℕ) → p ≤ q → HasNumber path v q → v < length old → Closes p q closed path old mid → Closes p (q + 1) closed path old (set mid v (Closed closed))
+pub closes_more : (p q closed : ℕ) (path : List ℕ) (old mid : List Mark) (v : ℕ) → p ≤ q → HasNumber path v q → v < length old → ClosesPath p q closed path old mid → ClosesPath p (q + 1) closed path old (set mid v (Closed closed))
 closes_more p q closed path old mid v le h lt c = record {
   long = length-set mid v (Closed closed) ∙ c.long;
   done = λ u i l m k. ⊎_elim (λ e. mark_set mid v u (Closed closed) fits e) (λ ne. get_or-set_other mid v u (Closed closed) Unseen ne ∙ c.done u i l (earlier u i m k ne) k) (same_or_not v u);
   kept = λ u n. ⊎_elim (λ e. absurd (n q le (omega arith) (subst (λ z. HasNumber path z q) e h))) (λ ne. get_or-set_other mid v u (Closed closed) Unseen ne ∙ c.kept u (λ i l m k. n i l (omega arith) k)) (same_or_not v u);
-  count = let m : unseen_count (set mid v (Closed closed)) ≤ unseen_count mid = unseen-closed mid v closed in omega (arith, c.count);
+  count = let m : unseen_count (set mid v (Closed closed)) ≤ unseen_count mid = unseen_count-closed mid v closed in omega (arith, c.count);
 }
   where
     fits : v < length mid
@@ -32,7 +32,7 @@ closes_more p q closed path old mid v le h lt c = record {
     earlier u i m k ne = ⊎_elim (λ l. l) (λ l. let e : q ≡ i = omega arith in absurd (ne (one_number path u v i k (subst (λ z. HasNumber path v z) e h)))) (less_or_not i q)
 
 -- past the end of the path there is no more
-pub closes_whole : (p q closed : ℕ) (path : List ℕ) (old new : List Mark) → length path ≤ q → Closes p q closed path old new → Closes p (length path) closed path old new
+pub closes_whole : (p q closed : ℕ) (path : List ℕ) (old new : List Mark) → length path ≤ q → ClosesPath p q closed path old new → ClosesPath p (length path) closed path old new
 closes_whole p q closed path old new le c = record {
   long = c.long;
   done = λ v i l m h. c.done v i l (omega arith) h;
@@ -50,7 +50,7 @@ last_off xs ys (Some x) b k n m e c long len h =
 
 module _ (f : ℕ → List ℕ) (count : ℕ) where
   pub closed_off : (marks marks' : List Mark) (path path' gone ahead : List ℕ) (bounds : List Bound) (top : Bound) (closed : ℕ) →
-      IsSearch f count [] marks path ahead (bounds ++ top ∷ []) closed → length ahead ≤ top.ahead → path ≡ path' ++ gone → length path' ≡ top.path → Closes top.path (length path) closed path marks marks' →
+      IsSearch f count [] marks path ahead (bounds ++ top ∷ []) closed → length ahead ≤ top.ahead → path ≡ path' ++ gone → length path' ≡ top.path → ClosesPath top.path (length path) closed path marks marks' →
       IsSearch f count [] marks' path' ahead bounds (closed + 1)
   closed_off marks marks' path path' gone ahead bounds top closed s low split len c = record {
     long = c.long ∙ s.long;
@@ -152,7 +152,7 @@ module _ (f : ℕ → List ℕ) (count : ℕ) where
           (at_most_or_not i j)
 
   -- where nothing is open, all that was met is parted
-  pub parted : (marks : List Mark) (path ahead : List ℕ) (bounds : List Bound) (closed : ℕ) → IsSearch f count [] marks path ahead bounds closed → bounds ≡ [] → ((v : ℕ) → v < count → get_or marks v Unseen ≡ Unseen → ⊥) → IsParted f count marks
+  pub parted : (marks : List Mark) (path ahead : List ℕ) (bounds : List Bound) (closed : ℕ) → IsSearch f count [] marks path ahead bounds closed → bounds ≡ [] → ((v : ℕ) → v < count → get_or marks v Unseen ≡ Unseen → ⊥) → AreComponents f count marks
   parted marks path ahead bounds closed s e n = record {
     long = s.long;
     all = λ v lt. by v lt (get_or marks v Unseen) refl;

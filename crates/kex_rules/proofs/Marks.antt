@@ -56,32 +56,32 @@ read_any [] n d e lt = absurd (omega arith)
 read_any (x ∷ xs) zero d e lt = refl
 read_any (x ∷ xs) (suc n) d e lt = read_any xs n d e (omega arith)
 
-pub unseen-open : (marks : List Mark) (n i : ℕ) → n < length marks → get_or marks n Unseen ≡ Unseen → unseen_count marks ≡ suc (unseen_count (set marks n (Open i)))
-unseen-open [] n i lt e = absurd (omega arith)
-unseen-open (Unseen ∷ xs) zero i lt e = refl
-unseen-open (Open j ∷ xs) zero i lt e = cc
-unseen-open (Closed a ∷ xs) zero i lt e = cc
-unseen-open (Unseen ∷ xs) (suc n) i lt e = ap suc (unseen-open xs n i (omega arith) e)
-unseen-open (Open j ∷ xs) (suc n) i lt e = unseen-open xs n i (omega arith) e
-unseen-open (Closed a ∷ xs) (suc n) i lt e = unseen-open xs n i (omega arith) e
+pub unseen_count-open : (marks : List Mark) (n i : ℕ) → n < length marks → get_or marks n Unseen ≡ Unseen → unseen_count marks ≡ suc (unseen_count (set marks n (Open i)))
+unseen_count-open [] n i lt e = absurd (omega arith)
+unseen_count-open (Unseen ∷ xs) zero i lt e = refl
+unseen_count-open (Open j ∷ xs) zero i lt e = cc
+unseen_count-open (Closed a ∷ xs) zero i lt e = cc
+unseen_count-open (Unseen ∷ xs) (suc n) i lt e = ap suc (unseen_count-open xs n i (omega arith) e)
+unseen_count-open (Open j ∷ xs) (suc n) i lt e = unseen_count-open xs n i (omega arith) e
+unseen_count-open (Closed a ∷ xs) (suc n) i lt e = unseen_count-open xs n i (omega arith) e
 
-pub unseen-closed : (marks : List Mark) (n a : ℕ) → unseen_count (set marks n (Closed a)) ≤ unseen_count marks
-unseen-closed [] n a = omega arith
-unseen-closed (Unseen ∷ xs) zero a = omega arith
-unseen-closed (Open j ∷ xs) zero a = omega arith
-unseen-closed (Closed b ∷ xs) zero a = omega arith
-unseen-closed (Unseen ∷ xs) (suc n) a = let h : unseen_count (set xs n (Closed a)) ≤ unseen_count xs = unseen-closed xs n a in omega arith
-unseen-closed (Open j ∷ xs) (suc n) a = unseen-closed xs n a
-unseen-closed (Closed b ∷ xs) (suc n) a = unseen-closed xs n a
+pub unseen_count-closed : (marks : List Mark) (n a : ℕ) → unseen_count (set marks n (Closed a)) ≤ unseen_count marks
+unseen_count-closed [] n a = omega arith
+unseen_count-closed (Unseen ∷ xs) zero a = omega arith
+unseen_count-closed (Open j ∷ xs) zero a = omega arith
+unseen_count-closed (Closed b ∷ xs) zero a = omega arith
+unseen_count-closed (Unseen ∷ xs) (suc n) a = let h : unseen_count (set xs n (Closed a)) ≤ unseen_count xs = unseen_count-closed xs n a in omega arith
+unseen_count-closed (Open j ∷ xs) (suc n) a = unseen_count-closed xs n a
+unseen_count-closed (Closed b ∷ xs) (suc n) a = unseen_count-closed xs n a
 
 pub fresh_mark : (k v : ℕ) → get_or (replicate k Unseen) v Unseen ≡ Unseen
 fresh_mark zero v = refl
 fresh_mark (suc k) zero = refl
 fresh_mark (suc k) (suc v) = fresh_mark k v
 
-pub unseen-fresh : (k : ℕ) → unseen_count (replicate k Unseen) ≡ k
-unseen-fresh zero = refl
-unseen-fresh (suc k) = ap suc (unseen-fresh k)
+pub unseen_count-replicate : (k : ℕ) → unseen_count (replicate k Unseen) ≡ k
+unseen_count-replicate zero = refl
+unseen_count-replicate (suc k) = ap suc (unseen_count-replicate k)
 
 pub unseen_at_most : (marks : List Mark) → unseen_count marks ≤ length marks
 unseen_at_most [] = omega arith

@@ -9,8 +9,8 @@ use Rattle.kex_model.specs.declared.program.Node.{Node}
 use Rattle.kex_model.specs.declared.program.Definition.{Definition}
 use Rattle.kex_model.specs.Programs.{Grammar}
 use Rattle.kex_model.specs.Trees.{kind_at}
-use Rattle.kex_rules.specs.Rules.{IsCall, IsDefined, IsWithin, Position, in_tail, elsewhere, Stands, at_root, as_last, as_other, last_parts, other_parts}
-use Rattle.kex_rules.specs.Tables.{CallsUnknown, IsLeast, lower}
+use Rattle.kex_rules.specs.Rules.{IsCall, IsDefined, IsWithin, TermPosition, in_tail, elsewhere, StandsIn, at_root, as_last, as_other, last_parts, other_parts}
+use Rattle.kex_rules.specs.Tables.{CallsUnknown, IsLeastOffset, lower}
 use Rattle.kex_rules.specs.Within.{FlagsParts, HasWithin}
 use Rattle.kex_rules.proofs.Marks.{one_number, same_or_not}
 use Rattle.kex_rules.proofs.DefinedNames.{among-cases, least_more, least_same}
@@ -87,7 +87,7 @@ within_same P n within h f = record {
     never j e g = let clash : false ≡ true = sym f ∙ ap (λ z. get_or within z false) e ∙ g in cc
 
 -- the flags have all that stands in a definition
-pub stands_flagged : (P : Grammar) (within : List Bool) → HasWithin P 0 within → (d : Definition) → IsAmong P.definitions d → {p : Position} {n : ℕ} → Stands P d.root p n → get_or within n false ≡ true
+pub stands_flagged : (P : Grammar) (within : List Bool) → HasWithin P 0 within → (d : Definition) → IsAmong P.definitions d → {p : TermPosition} {n : ℕ} → StandsIn P d.root p n → get_or within n false ≡ true
 stands_flagged P within h d i at_root = h.roots d i
 stands_flagged P within h d i (as_last {n = n} {m = m} s j) = h.lasts n m (omega arith) (stands_flagged P within h d i s) j
 stands_flagged P within h d i (as_other {n = n} {m = m} s j) = h.others n m (omega arith) (stands_flagged P within h d i s) j
@@ -96,23 +96,23 @@ stands_flagged P within h d i (as_other {n = n} {m = m} s j) = h.others n m (ome
 abbrev pub UnknownBefore : Grammar → List Bool → ℕ → ℕ → Type 0
 UnknownBefore P within i at = (n name : ℕ) × (n < i) × IsCall P n name at × (get_or within n false ≡ true) × (IsDefined P.definitions name → ⊥)
 
-pub unknown_none : (P : Grammar) (within : List Bool) → IsLeast (UnknownBefore P within 0) None
+pub unknown_none : (P : Grammar) (within : List Bool) → IsLeastOffset (UnknownBefore P within 0) None
 unknown_none P within = λ at h. let lt : h.0 < 0 = h.2 in omega arith
 
 this_or_below : (a b : ℕ) → a < b + 1 → (a < b) ⊎ (b ≡ a)
 this_or_below a b lt = grind arith
 
-pub unknown_more : (P : Grammar) (within : List Bool) (i name : ℕ) (m : Node) (found : Option ℕ) → HasNumber P.nodes m i → m.kind ≡ Call name → get_or within i false ≡ true → (IsDefined P.definitions name → ⊥) → IsLeast (UnknownBefore P within i) found → IsLeast (UnknownBefore P within (i + 1)) (Some (lower found m.at))
+pub unknown_more : (P : Grammar) (within : List Bool) (i name : ℕ) (m : Node) (found : Option ℕ) → HasNumber P.nodes m i → m.kind ≡ Call name → get_or within i false ≡ true → (IsDefined P.definitions name → ⊥) → IsLeastOffset (UnknownBefore P within i) found → IsLeastOffset (UnknownBefore P within (i + 1)) (Some (lower found m.at))
 unknown_more P within i name m found e k f u h = least_more (UnknownBefore P within i) (UnknownBefore P within (i + 1)) found m.at h (i, name, omega arith, (m, e, k, refl), f, u)
     (λ at c. ⊎_elim (λ l. inl (c.0, c.1, l, c.3, c.4, c.5)) (λ q. inr (sym c.3.3 ∙ ap (λ z. z.at) (one_number P.nodes c.3.0 m i (subst (λ z. HasNumber P.nodes c.3.0 z) (sym q) c.3.1) e))) (this_or_below c.0 i c.2))
     (λ at c. (c.0, c.1, (let l : c.0 < i = c.2 in omega arith), c.3, c.4, c.5))
 
-pub unknown_same : (P : Grammar) (within : List Bool) (i : ℕ) (found : Option ℕ) → ((name at : ℕ) → IsCall P i name at → get_or within i false ≡ true → (IsDefined P.definitions name → ⊥) → ⊥) → IsLeast (UnknownBefore P within i) found → IsLeast (UnknownBefore P within (i + 1)) found
+pub unknown_same : (P : Grammar) (within : List Bool) (i : ℕ) (found : Option ℕ) → ((name at : ℕ) → IsCall P i name at → get_or within i false ≡ true → (IsDefined P.definitions name → ⊥) → ⊥) → IsLeastOffset (UnknownBefore P within i) found → IsLeastOffset (UnknownBefore P within (i + 1)) found
 unknown_same P within i found n h = least_same (UnknownBefore P within i) (UnknownBefore P within (i + 1)) found h
     (λ at c. ⊎_elim (λ l. (c.0, c.1, l, c.3, c.4, c.5)) (λ q. absurd (n c.1 at (subst (λ z. IsCall P z c.1 at) (sym q) c.3) (ap (λ z. get_or within z false) q ∙ c.4) c.5)) (this_or_below c.0 i c.2))
     (λ at c. (c.0, c.1, (let l : c.0 < i = c.2 in omega arith), c.3, c.4, c.5))
 
-pub unknown_all : (P : Grammar) (within : List Bool) → HasWithin P 0 within → (found : Option ℕ) → IsLeast (UnknownBefore P within (length P.nodes)) found → IsLeast (CallsUnknown P) found
+pub unknown_all : (P : Grammar) (within : List Bool) → HasWithin P 0 within → (found : Option ℕ) → IsLeastOffset (UnknownBefore P within (length P.nodes)) found → IsLeastOffset (CallsUnknown P) found
 unknown_all P within flags found h = least_same (UnknownBefore P within (length P.nodes)) (CallsUnknown P) found h
     (λ at c. let n = c.1.0 in let s = c.1.1 in let call = c.1.2 in (n, c.0, slice_get_within P.nodes n call.0 call.1, call, stands_flagged P within flags s.0 s.2 s.3, c.2))
     (λ at c. (c.1, (c.0, flags.real c.0 c.4, c.3), c.5))

@@ -9,7 +9,7 @@ use Rattle.kex_rules.specs.declared.components.Mark.TheVariants.{Unseen, Open, C
 use Rattle.kex_rules.specs.declared.components.Bound.{Bound}
 use Rattle.kex_rules.specs.Graphs.{Leads, stays}
 use Rattle.kex_rules.specs.Searches.{SameSide, Met, is_closed, is_open, is_ahead, in_hand, IsSearch, AllLead}
-use Rattle.kex_rules.proofs.Marks.{same_or_not, number_front, number_cases, number_of, mark_set, unseen-open, unseen-fresh, fresh_mark}
+use Rattle.kex_rules.proofs.Marks.{same_or_not, number_front, number_cases, number_of, mark_set, unseen_count-open, unseen_count-replicate, fresh_mark}
 use Rattle.kex_rules.proofs.Ways.{leads_on, leads_one}
 
 module _ (f : ℕ → List ℕ) (count : ℕ) where
@@ -30,7 +30,7 @@ module _ (f : ℕ → List ℕ) (count : ℕ) where
     falls = λ u a w e i. let n : Unseen ≡ Closed a = sym (fresh_mark count u) ∙ e in cc;
     same = λ u v a e g. let n : Unseen ≡ Closed a = sym (fresh_mark count u) ∙ e in cc;
     fresh = λ u a e. let n : Unseen ≡ Closed a = sym (fresh_mark count u) ∙ e in cc;
-    few = omega (arith, unseen-fresh count);
+    few = omega (arith, unseen_count-replicate count);
   })
     where
       none_in : (v i : ℕ) → HasNumber [] v i → ⊥
@@ -141,7 +141,7 @@ module _ (f : ℕ → List ℕ) (count : ℕ) where
     falls = λ u a w e i. let r = s.falls u a w (was_closed u a e) i in (r.0, kept w (Closed r.0) (λ q. let n : Unseen ≡ Closed r.0 = sym un ∙ ap (λ z. get_or marks z Unseen) q ∙ r.1 in cc) r.1, r.2);
     same = λ u v a e g. s.same u v a (was_closed u a e) (was_closed v a g);
     fresh = λ u a e. s.fresh u a (was_closed u a e);
-    few = omega (arith, s.few, unseen-open marks y (length path) in_marks un, length-append bounds (new ∷ []));
+    few = omega (arith, s.few, unseen_count-open marks y (length path) in_marks un, length-append bounds (new ∷ []));
   }
     where
       in_marks : y < length marks

@@ -11,9 +11,9 @@ use Rattle.kex_model.specs.declared.program.Definition.{Definition}
 use Rattle.kex_model.specs.Programs.{Grammar, IsGrammar, HasBelow, HasNames}
 use Rattle.kex_model.proofs.DistinctItems.{among_get}
 use Rattle.kex_model.proofs.Tables.{some_same}
-use Rattle.kex_rules.specs.declared.graph.Ways.{Ways}
-use Rattle.kex_rules.specs.declared.graph.Ways.TheVariants.{NoWay as NoWays, One as OneWay, Two as TwoWays}
-use Rattle.kex_rules.specs.Graphs.{Leads, stays, goes, listed_ways, kind_ways, root_ways, vertex_ways, vertices, ways}
+use Rattle.kex_rules.specs.declared.graph.VertexSuccessors.{VertexSuccessors}
+use Rattle.kex_rules.specs.declared.graph.VertexSuccessors.TheVariants.{NoWay as NoWays, One as OneWay, Two as TwoWays}
+use Rattle.kex_rules.specs.Graphs.{Leads, stays, goes, successor_list, kind_successors, root_successors, successors_by, vertices, vertex_successors}
 
 pub leads_on : {f : ℕ → List ℕ} {u v w : ℕ} → Leads f u v → Leads f v w → Leads f u w
 leads_on stays k = k
@@ -22,12 +22,12 @@ leads_on (goes i h) k = goes i (leads_on h k)
 pub leads_one : (f : ℕ → List ℕ) (u v : ℕ) → IsAmong (f u) v → Leads f u v
 leads_one f u v i = goes i stays
 
-pub two_ways : (w : Ways) → length (listed_ways w) ≤ 2
-two_ways NoWays = omega arith
-two_ways (OneWay t) = omega arith
-two_ways (TwoWays l r) = omega arith
+pub two_successors : (w : VertexSuccessors) → length (successor_list w) ≤ 2
+two_successors NoWays = omega arith
+two_successors (OneWay t) = omega arith
+two_successors (TwoWays l r) = omega arith
 
-kind_below : (nodes names registers u w : ℕ) (k : Kind) → u < nodes → HasBelow u k → HasNames names registers k → IsAmong (kind_ways nodes k) w → w < nodes + names
+kind_below : (nodes names registers u w : ℕ) (k : Kind) → u < nodes → HasBelow u k → HasNames names registers k → IsAmong (kind_successors nodes k) w → w < nodes + names
 kind_below nodes names registers u w One lt b n i = absurd i
 kind_below nodes names registers u w (Lit s) lt b n i = absurd i
 kind_below nodes names registers u w (Class s) lt b n i = absurd i
@@ -58,14 +58,14 @@ find_among p (y ∷ xs) x e = by (p y) e (λ g. find_among p xs x g)
     by true g rest = inl (some_same y x g)
     by false g rest = inr (rest g)
 
-pub ways_below : (P : Grammar) → IsGrammar P → (u w : ℕ) → IsAmong (ways P u) w → w < vertices P
-ways_below P g u w i = by (slice_get P.nodes u) refl i
+pub successors_below : (P : Grammar) → IsGrammar P → (u w : ℕ) → IsAmong (vertex_successors P u) w → w < vertices P
+successors_below P g u w i = by (slice_get P.nodes u) refl i
   where
-    root : (o : Option Definition) → ((d : Definition) → o ≡ Some d → d.root < length P.nodes) → IsAmong (root_ways (option_map (λ d. d.root) o)) w → w < vertices P
+    root : (o : Option Definition) → ((d : Definition) → o ≡ Some d → d.root < length P.nodes) → IsAmong (root_successors (option_map (λ d. d.root) o)) w → w < vertices P
     root None h j = absurd j
     root (Some d) h (inl e) = let m : d.root < length P.nodes = h d refl in let q : d.root ≡ w = e in omega arith
     root (Some d) h (inr j) = absurd j
 
-    by : (o : Option Node) → slice_get P.nodes u ≡ o → IsAmong (vertex_ways P u o) w → w < vertices P
+    by : (o : Option Node) → slice_get P.nodes u ≡ o → IsAmong (successors_by P u o) w → w < vertices P
     by (Some m) e j = kind_below (length P.nodes) (length P.names) P.registers u w m.kind (slice_get_within P.nodes u m e) (g.in_order u m e) (g.in_range.named m (among_get P.nodes u m e)) j
     by None e j = root (find (λ d. d.name == (u - length P.nodes)) P.definitions) (λ d f. (g.in_range.defined d (find_among (λ d. d.name == (u - length P.nodes)) P.definitions d f)).1) j

@@ -6,38 +6,38 @@ use Rattle.kex_model.specs.declared.program.Kind.TheVariants.{Call, Seq, Alt, Re
 use Rattle.kex_model.specs.declared.program.Node.{Node}
 use Rattle.kex_model.specs.Programs.{Grammar}
 use Rattle.kex_rules.specs.Tables.{first_root}
-use Rattle.kex_rules.specs.declared.graph.Ways.{Ways}
-use Rattle.kex_rules.specs.declared.graph.Ways.TheVariants.{NoWay, One, Two}
+use Rattle.kex_rules.specs.declared.graph.VertexSuccessors.{VertexSuccessors}
+use Rattle.kex_rules.specs.declared.graph.VertexSuccessors.TheVariants.{NoWay, One, Two}
 use Rattle.kex_rules.specs.declared.components.Mark.{Mark}
 use Rattle.kex_rules.specs.declared.components.Mark.TheVariants.{Unseen, Closed}
 
-abbrev pub listed_ways : Ways → List ℕ
-listed_ways NoWay = []
-listed_ways (One t) = t ∷ []
-listed_ways (Two l r) = l ∷ r ∷ []
+abbrev pub successor_list : VertexSuccessors → List ℕ
+successor_list NoWay = []
+successor_list (One t) = t ∷ []
+successor_list (Two l r) = l ∷ r ∷ []
 
 -- where a node of a kind leads, with so many nodes before the names
-abbrev pub kind_ways : ℕ → Kind → List ℕ
-kind_ways nodes (Call name) = (nodes + name) ∷ []
-kind_ways nodes (Seq l r) = l ∷ r ∷ []
-kind_ways nodes (Alt l r) = l ∷ r ∷ []
-kind_ways nodes (Rep body min max lazy) = body ∷ []
-kind_ways nodes (Mute t) = t ∷ []
-kind_ways nodes (At r t) = t ∷ []
-kind_ways nodes _ = []
+abbrev pub kind_successors : ℕ → Kind → List ℕ
+kind_successors nodes (Call name) = (nodes + name) ∷ []
+kind_successors nodes (Seq l r) = l ∷ r ∷ []
+kind_successors nodes (Alt l r) = l ∷ r ∷ []
+kind_successors nodes (Rep body min max lazy) = body ∷ []
+kind_successors nodes (Mute t) = t ∷ []
+kind_successors nodes (At r t) = t ∷ []
+kind_successors nodes _ = []
 
-abbrev pub root_ways : Option ℕ → List ℕ
-root_ways None = []
-root_ways (Some root) = root ∷ []
+abbrev pub root_successors : Option ℕ → List ℕ
+root_successors None = []
+root_successors (Some root) = root ∷ []
 
 -- the same, of what has this number among the nodes
-abbrev pub vertex_ways : Grammar → ℕ → Option Node → List ℕ
-vertex_ways P v (Some m) = kind_ways (length P.nodes) m.kind
-vertex_ways P v None = root_ways (first_root P.definitions (v - length P.nodes))
+abbrev pub successors_by : Grammar → ℕ → Option Node → List ℕ
+successors_by P v (Some m) = kind_successors (length P.nodes) m.kind
+successors_by P v None = root_successors (first_root P.definitions (v - length P.nodes))
 
 -- where a vertex leads
-abbrev pub ways : Grammar → ℕ → List ℕ
-ways P v = vertex_ways P v (slice_get P.nodes v)
+abbrev pub vertex_successors : Grammar → ℕ → List ℕ
+vertex_successors P v = successors_by P v (slice_get P.nodes v)
 
 abbrev pub vertices : Grammar → ℕ
 vertices P = length P.nodes + length P.names
@@ -48,7 +48,7 @@ pub data Leads (f : ℕ → List ℕ) : ℕ → ℕ → Type 0 where
   goes : {u v w : ℕ} → IsAmong (f u) v → Leads f v w → Leads f u w
 
 -- the marks number the strongly connected components: those of one number lead to each other, and no way leads to a higher number
-pub record IsParted (f : ℕ → List ℕ) (count : ℕ) (marks : List Mark) : Type 0 where
+pub record AreComponents (f : ℕ → List ℕ) (count : ℕ) (marks : List Mark) : Type 0 where
   pub long : length marks ≡ count
   pub all : (v : ℕ) → v < count → (a : ℕ) × (get_or marks v Unseen ≡ Closed a)
   pub falls : (u a w : ℕ) → get_or marks u Unseen ≡ Closed a → IsAmong (f u) w → (b : ℕ) × (get_or marks w Unseen ≡ Closed b) × (b ≤ a)
@@ -56,4 +56,4 @@ pub record IsParted (f : ℕ → List ℕ) (count : ℕ) (marks : List Mark) : T
 
 -- two vertices lead to each other
 abbrev pub AreTogether : Grammar → ℕ → ℕ → Type 0
-AreTogether P u v = Leads (ways P) u v × Leads (ways P) v u
+AreTogether P u v = Leads (vertex_successors P) u v × Leads (vertex_successors P) v u

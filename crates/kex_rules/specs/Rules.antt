@@ -28,9 +28,9 @@ abbrev pub StartsAt : List Start → ℕ → ℕ → Type 0
 StartsAt stages name at = (s : Start) × IsAmong stages s × (s.name ≡ name) × (s.at ≡ at)
 
 -- in tail position, or anywhere else
-pub data Position : Type 0 where
-  in_tail : Position
-  elsewhere : Position
+pub data TermPosition : Type 0 where
+  in_tail : TermPosition
+  elsewhere : TermPosition
 
 -- the parts of a node that end where it ends
 abbrev pub last_parts : Kind → List ℕ
@@ -47,14 +47,14 @@ other_parts (At r t) = t ∷ []
 other_parts _ = []
 
 -- a node stands in the term of a root, in this position
-pub data Stands (P : Grammar) (root : ℕ) : Position → ℕ → Type 0 where
-  at_root : Stands P root in_tail root
-  as_last : {p : Position} {n m : ℕ} → Stands P root p n → IsAmong (last_parts (kind_at P n)) m → Stands P root p m
-  as_other : {p : Position} {n m : ℕ} → Stands P root p n → IsAmong (other_parts (kind_at P n)) m → Stands P root elsewhere m
+pub data StandsIn (P : Grammar) (root : ℕ) : TermPosition → ℕ → Type 0 where
+  at_root : StandsIn P root in_tail root
+  as_last : {p : TermPosition} {n m : ℕ} → StandsIn P root p n → IsAmong (last_parts (kind_at P n)) m → StandsIn P root p m
+  as_other : {p : TermPosition} {n m : ℕ} → StandsIn P root p n → IsAmong (other_parts (kind_at P n)) m → StandsIn P root elsewhere m
 
 -- the node stands in one of the definitions
 abbrev pub IsWithin : Grammar → ℕ → Type 0
-IsWithin P n = (d : Definition) × (p : Position) × IsAmong P.definitions d × Stands P d.root p n
+IsWithin P n = (d : Definition) × (p : TermPosition) × IsAmong P.definitions d × StandsIn P d.root p n
 
 -- a definition calls the name, at this offset
 abbrev pub CallsAt : Grammar → ℕ → ℕ → Type 0
@@ -70,16 +70,16 @@ IsUnknown P at = (name : ℕ) × IsUse P name at × (IsDefined P.definitions nam
 
 -- the definition of a name calls another, in any position
 abbrev pub Calls : Grammar → ℕ → ℕ → Type 0
-Calls P caller callee = IsDefined P.definitions caller × (p : Position) × (n : ℕ) × Stands P (root_of P caller) p n × (kind_at P n ≡ Call callee)
+Calls P caller callee = IsDefined P.definitions caller × (p : TermPosition) × (n : ℕ) × StandsIn P (root_of P caller) p n × (kind_at P n ≡ Call callee)
 
 -- one name is the other, or reaches it by calls
-pub data Reaches (P : Grammar) : ℕ → ℕ → Type 0 where
-  itself : {name : ℕ} → Reaches P name name
-  by_call : {caller callee target : ℕ} → Calls P caller callee → Reaches P callee target → Reaches P caller target
+pub data ReachesByCalls (P : Grammar) : ℕ → ℕ → Type 0 where
+  itself : {name : ℕ} → ReachesByCalls P name name
+  by_call : {caller callee target : ℕ} → Calls P caller callee → ReachesByCalls P callee target → ReachesByCalls P caller target
 
 -- at this offset, outside tail position, a definition calls a name that reaches it
 abbrev pub IsNotTail : Grammar → ℕ → Type 0
-IsNotTail P at = (caller callee n : ℕ) × IsDefined P.definitions caller × Stands P (root_of P caller) elsewhere n × IsCall P n callee at × Reaches P callee caller
+IsNotTail P at = (caller callee n : ℕ) × IsDefined P.definitions caller × StandsIn P (root_of P caller) elsewhere n × IsCall P n callee at × ReachesByCalls P callee caller
 
 -- each name that is called, started or defined has just one definition; there is a stage; calls that come back stand in tail position
 pub record IsRuled (P : Grammar) : Type 0 where
@@ -98,9 +98,9 @@ pub record IsLowest (Breaks : ℕ → Type 0) (at : ℕ) : Type 0 where
   pub lowest : (k : ℕ) → k < at → Breaks k → ⊥
 
 -- why a program is refused: no rule before this one is broken
-abbrev pub IsCause : Grammar → RuleRefusal → Type 0
-IsCause P (TwiceDefined at) = IsLowest (IsTwice P.definitions) at
-IsCause P (Unknown at) = Nowhere (IsTwice P.definitions) × IsLowest (IsUnknown P) at
-IsCause P NoStart = Nowhere (IsTwice P.definitions) × Nowhere (IsUnknown P) × (P.stages ≡ [])
-IsCause P (NotTail at) = Nowhere (IsTwice P.definitions) × Nowhere (IsUnknown P) × (P.stages ≡ [] → ⊥) × IsLowest (IsNotTail P) at
-IsCause P Memory = Unit {0}
+abbrev pub IsRuleCause : Grammar → RuleRefusal → Type 0
+IsRuleCause P (TwiceDefined at) = IsLowest (IsTwice P.definitions) at
+IsRuleCause P (Unknown at) = Nowhere (IsTwice P.definitions) × IsLowest (IsUnknown P) at
+IsRuleCause P NoStart = Nowhere (IsTwice P.definitions) × Nowhere (IsUnknown P) × (P.stages ≡ [])
+IsRuleCause P (NotTail at) = Nowhere (IsTwice P.definitions) × Nowhere (IsUnknown P) × (P.stages ≡ [] → ⊥) × IsLowest (IsNotTail P) at
+IsRuleCause P Memory = Unit {0}

@@ -2,7 +2,7 @@
 use Rattle.std.specs.Prelude.{◌≡◌, ℕ, suc, ◌<◌, ◌≤◌, ◌+◌, ◌*◌, List, [], ◌∷◌, length, get_or}
 use Rattle.kex_code.specs.Codes.{IsAmong, HasNumber}
 use Rattle.kex_model.specs.Programs.{Grammar}
-use Rattle.kex_rules.specs.Graphs.{Leads, vertices, ways}
+use Rattle.kex_rules.specs.Graphs.{Leads, vertices, vertex_successors}
 use Rattle.kex_rules.specs.declared.components.Mark.{Mark}
 use Rattle.kex_rules.specs.declared.components.Mark.TheVariants.{Unseen, Open, Closed}
 use Rattle.kex_rules.specs.declared.components.Bound.{Bound}
@@ -58,7 +58,7 @@ pub record Joins (p : ℕ) (old new : List Bound) : Type 0 where
   pub short : length new ≤ length old
 
 -- what stands on the path from number p on, and before number q, is closed
-pub record Closes (p q closed : ℕ) (path : List ℕ) (old new : List Mark) : Type 0 where
+pub record ClosesPath (p q closed : ℕ) (path : List ℕ) (old new : List Mark) : Type 0 where
   pub long : length new ≡ length old
   pub done : (v i : ℕ) → p ≤ i → i < q → HasNumber path v i → get_or new v Unseen ≡ Closed closed
   pub kept : (v : ℕ) → ((i : ℕ) → p ≤ i → i < q → HasNumber path v i → ⊥) → get_or new v Unseen ≡ get_or old v Unseen
@@ -66,7 +66,7 @@ pub record Closes (p q closed : ℕ) (path : List ℕ) (old new : List Mark) : T
 
 -- the search over a program's graph so far
 abbrev pub Searching : Grammar → List ℕ → Search → Type 0
-Searching P hand s = IsSearch (ways P) (vertices P) hand s.marks.items s.path.items s.ahead.items s.bounds.items s.closed
+Searching P hand s = IsSearch (vertex_successors P) (vertices P) hand s.marks.items s.path.items s.ahead.items s.bounds.items s.closed
 
 -- the work that is left: each vertex is opened once, and puts two vertices ahead at most
 abbrev pub work : Search → ℕ

@@ -16,9 +16,9 @@ pub record HasRoots (definitions : List Definition) (names : ℕ) (roots : List 
   pub each : (name : ℕ) → get_or roots name None ≡ first_root definitions name
 
 -- the lowest offset that breaks a rule, if one does
-abbrev pub IsLeast : (ℕ → Type 0) → Option ℕ → Type 0
-IsLeast Breaks None = Nowhere Breaks
-IsLeast Breaks (Some at) = IsLowest Breaks at
+abbrev pub IsLeastOffset : (ℕ → Type 0) → Option ℕ → Type 0
+IsLeastOffset Breaks None = Nowhere Breaks
+IsLeastOffset Breaks (Some at) = IsLowest Breaks at
 
 -- the lower of an offset and one that was found before
 abbrev pub lower : Option ℕ → ℕ → ℕ

@@ -4,13 +4,13 @@
 ghost use Rattle.std.specs.Prelude.{◌≡◌, ℕ, ◌<◌, ◌≤◌, ◌+◌, ◌++◌, ◌∷◌, [], length, IfOk, OnOk, get_or};
 ghost use Rattle.kex_code.specs.Codes.{HasNumber};
 ghost use Rattle.kex_model.specs.Programs.{IsGrammar};
-ghost use Rattle.kex_rules.specs.Graphs.{IsParted, listed_ways, vertices, ways};
-ghost use Rattle.kex_rules.specs.Searches.{AllLead, Closes, Joins, Searching, StaysMet, work};
+ghost use Rattle.kex_rules.specs.Graphs.{AreComponents, successor_list, vertices, vertex_successors};
+ghost use Rattle.kex_rules.specs.Searches.{AllLead, ClosesPath, Joins, Searching, StaysMet, work};
 ghost use Rattle.kex_rules.specs.Tables.{HasRoots};
 ghost use Rattle.kex_rules.specs.declared.components.Mark.TheVariants.{Unseen};
 ghost use Rattle.kex_rules.specs.declared.components.Bound.{Bound};
 
-use crate::graph::{Ways, ways_of};
+use crate::graph::{VertexSuccessors, successors_of};
 use kex_code::memory::Memory;
 use kex_model::program::Program;
 use std::alloc::Global;
@@ -42,13 +42,13 @@ pub struct Search {
 }
 
 // What a vertex leads to is ahead.
-fn push_ways(ahead: &mut Vec<usize>, ways: Ways) -> Result<(), Memory>
-    ensures { OnOk result (ahead.new.items ≡ ahead.old.items ++ listed_ways ways) }
+fn push_successors(ahead: &mut Vec<usize>, ways: VertexSuccessors) -> Result<(), Memory>
+    ensures { OnOk result (ahead.new.items ≡ ahead.old.items ++ successor_list ways) }
 {
     match ways {
-        Ways::NoWay => {}
-        Ways::One(next) => ahead.push(next)?,
-        Ways::Two(left, right) => {
+        VertexSuccessors::NoWay => {}
+        VertexSuccessors::One(next) => ahead.push(next)?,
+        VertexSuccessors::Two(left, right) => {
             ahead.push(left)?;
             ahead.push(right)?;
         }
@@ -71,7 +71,7 @@ fn join(bounds: &mut Vec<Bound>, place: usize)
 // What stands on the path from number `from` on is a component of this number.
 fn close_all(marks: &mut Vec<Mark>, path: &[usize], from: usize, closed: usize)
     requires { (v i : ℕ) → HasNumber path.now v i → v < length marks.old.items }
-    ensures { Closes from (length path.now) closed path.now marks.old.items marks.new.items }
+    ensures { ClosesPath from (length path.now) closed path.now marks.old.items marks.new.items }
 {
     for i in from..path.len() {
         marks[path[i]] = Mark::Closed(closed);
@@ -101,7 +101,7 @@ impl Search {
         requires fits { v < vertices program.now }
         requires search { Searching program.now (v ∷ []) self.old }
         requires unseen { get_or self.old.marks.items v Unseen ≡ Unseen }
-        requires reached { AllLead (ways program.now) self.old.path.items v }
+        requires reached { AllLead (vertex_successors program.now) self.old.path.items v }
         ensures search { OnOk result (Searching program.now [] self.new) }
         ensures met { OnOk result (StaysMet self.old self.new) }
         ensures opened { OnOk result (get_or self.new.marks.items v Unseen ≡ Unseen → ⊥) }
@@ -114,7 +114,7 @@ impl Search {
         self.marks[v] = Mark::Open(bound.path);
         self.path.push(v)?;
         self.bounds.push(bound)?;
-        push_ways(&mut self.ahead, ways_of(program, roots, v))?;
+        push_successors(&mut self.ahead, successors_of(program, roots, v))?;
         Ok(())
     }
 
@@ -123,7 +123,7 @@ impl Search {
         requires roots { HasRoots program.now.definitions (length program.now.names) roots.now }
         requires fits { v < vertices program.now }
         requires search { Searching program.now (v ∷ []) self.old }
-        requires reached { AllLead (ways program.now) self.old.path.items v }
+        requires reached { AllLead (vertex_successors program.now) self.old.path.items v }
         ensures search { OnOk result (Searching program.now [] self.new) }
         ensures met { OnOk result (StaysMet self.old self.new) }
         ensures work { OnOk result (work self.new ≤ work self.old) }
@@ -181,7 +181,7 @@ pub(crate) fn components(
 ) -> Result<Vec<Mark>, Memory>
     requires grammar { IsGrammar program.now }
     requires roots { HasRoots program.now.definitions (length program.now.names) roots.now }
-    ensures { IfOk result (λ marks. IsParted (ways program.now) (vertices program.now) marks.items) }
+    ensures { IfOk result (λ marks. AreComponents (vertex_successors program.now) (vertices program.now) marks.items) }
 {
     let mut search = Search::new(alloc, program)?;
     'vertices: for v in 0..search.marks.len() {

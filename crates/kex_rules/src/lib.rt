@@ -5,7 +5,7 @@
 #![tactic(auto)]
 
 ghost use Rattle.std.specs.Prelude.{◌≡◌, IfOk, IfErr};
-ghost use Rattle.kex_rules.specs.Rules.{IsCause, IsRuled};
+ghost use Rattle.kex_rules.specs.Rules.{IsRuleCause, IsRuled};
 
 mod components;
 mod graph;
@@ -57,7 +57,7 @@ impl<'a> Ruled<'a> {
 pub fn check<'a>(alloc: Global, program: &'a Program) -> Result<Ruled<'a>, RuleRefusal>
     ensures same { IfOk result (λ r. r ≡ program.now) }
     ensures ruled { IfOk result (λ r. IsRuled r) }
-    ensures refused { IfErr result (λ e. IsCause program.now e) }
+    ensures refused { IfErr result (λ e. IsRuleCause program.now e) }
 {
     // The call tells that the numbers of the program are in range.
     let _ = program.registers();

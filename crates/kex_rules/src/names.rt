@@ -2,8 +2,8 @@
 
 ghost use Rattle.std.specs.Prelude.{◌≡◌, ◌↔◌, Some, None, IfOk, OnOk, IfErr, IsTrue, length};
 ghost use Rattle.kex_model.specs.Programs.{IsGrammar};
-ghost use Rattle.kex_rules.specs.Rules.{IsCause, IsTwice, IsUnknown, Nowhere};
-ghost use Rattle.kex_rules.specs.Tables.{CallsUnknown, HasRoots, IsLeast, first_root, lower};
+ghost use Rattle.kex_rules.specs.Rules.{IsRuleCause, IsTwice, IsUnknown, Nowhere};
+ghost use Rattle.kex_rules.specs.Tables.{CallsUnknown, HasRoots, IsLeastOffset, first_root, lower};
 ghost use Rattle.kex_rules.specs.Within.{HasWithin};
 
 use crate::refusal::RuleRefusal;
@@ -27,7 +27,7 @@ pub(crate) fn roots_of(alloc: Global, program: &Program) -> Result<Vec<Option<u3
     requires { IsGrammar program.now }
     ensures roots { IfOk result (λ roots. HasRoots program.now.definitions (length program.now.names) roots.items) }
     ensures once { OnOk result (Nowhere (IsTwice program.now.definitions)) }
-    ensures refused { IfErr result (λ e. IsCause program.now e) }
+    ensures refused { IfErr result (λ e. IsRuleCause program.now e) }
 {
     let mut roots = vec![in alloc; None; program.names().len()]?;
     let mut twice = None;
@@ -59,7 +59,7 @@ fn is_unknown(program: &Program, roots: &[Option<u32>], name: u32) -> bool
 fn unknown_call(program: &Program, roots: &[Option<u32>], within: &[bool]) -> Option<u32>
     requires roots { HasRoots program.now.definitions (length program.now.names) roots.now }
     requires within { HasWithin program.now 0 within.now }
-    ensures { IsLeast (CallsUnknown program.now) result }
+    ensures { IsLeastOffset (CallsUnknown program.now) result }
 {
     let nodes = program.nodes();
     let mut found = None;
@@ -76,8 +76,8 @@ fn unknown_call(program: &Program, roots: &[Option<u32>], within: &[bool]) -> Op
 // The lowest offset of a call or a start whose name has no definition, with what was found of the calls.
 fn unknown_start(program: &Program, roots: &[Option<u32>], calls: Option<u32>) -> Option<u32>
     requires roots { HasRoots program.now.definitions (length program.now.names) roots.now }
-    requires calls { IsLeast (CallsUnknown program.now) calls }
-    ensures { IsLeast (IsUnknown program.now) result }
+    requires calls { IsLeastOffset (CallsUnknown program.now) calls }
+    ensures { IsLeastOffset (IsUnknown program.now) result }
 {
     let mut found = calls;
     let stages = program.stages();
@@ -97,7 +97,7 @@ pub(crate) fn lowest_unknown(
 ) -> Result<Option<u32>, Memory>
     requires grammar { IsGrammar program.now }
     requires roots { HasRoots program.now.definitions (length program.now.names) roots.now }
-    ensures { IfOk result (λ found. IsLeast (IsUnknown program.now) found) }
+    ensures { IfOk result (λ found. IsLeastOffset (IsUnknown program.now) found) }
 {
     let within = nodes_within(alloc, program)?;
     let calls = unknown_call(program, roots, &within);

@@ -2,9 +2,9 @@
 
 ghost use Rattle.std.specs.Prelude.{◌≡◌, ℕ, ◌<◌, ◌≤◌, ◌∷◌, [], IfOk, length};
 ghost use Rattle.kex_model.specs.Programs.{HasBelow, IsGrammar};
-ghost use Rattle.kex_rules.specs.Graphs.{IsParted, vertices, ways};
+ghost use Rattle.kex_rules.specs.Graphs.{AreComponents, vertices, vertex_successors};
 ghost use Rattle.kex_rules.specs.Rules.{IsNotTail, last_parts, other_parts};
-ghost use Rattle.kex_rules.specs.Tables.{IsLeast};
+ghost use Rattle.kex_rules.specs.Tables.{IsLeastOffset};
 ghost use Rattle.kex_rules.specs.Tails.{HasApart, MarksParts};
 
 use crate::components::Mark;
@@ -82,8 +82,8 @@ pub(crate) fn lowest_not_tail(
     marks: &[Mark],
 ) -> Result<Option<u32>, Memory>
     requires grammar { IsGrammar program.now }
-    requires parted { IsParted (ways program.now) (vertices program.now) marks.now }
-    ensures { IfOk result (λ found. IsLeast (IsNotTail program.now) found) }
+    requires parted { AreComponents (vertex_successors program.now) (vertices program.now) marks.now }
+    ensures { IfOk result (λ found. IsLeastOffset (IsNotTail program.now) found) }
 {
     let apart = apart_nodes(alloc, program, marks)?;
     let nodes = program.nodes();

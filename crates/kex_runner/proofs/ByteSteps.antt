@@ -6,12 +6,12 @@ use Rattle.kex_byteset.specs.Classes.{class_at}
 use Rattle.kex_code.specs.declared.symbol.Symbol.{Symbol}
 use Rattle.kex_sst.specs.declared.parts.Part.{Part}
 use Rattle.kex_sst.specs.declared.table.Transition.{Transition}
-use Rattle.kex_sst.specs.Parts.{IsUpdate, IsWay, parts_code, items_of}
+use Rattle.kex_sst.specs.Parts.{IsUpdate, IsWay, parts_code, item_count}
 use Rattle.kex_sst.specs.Tables.{Row, Transducer, IsTable, IsWayIf, transition_of}
 use Rattle.kex_sst.specs.Passes.{Pass, next_of, next_pass, first_pass, passes_if, whole_code, ended_by, way_of}
 use Rattle.kex_sst.proofs.Passes.{passes_more, leads_to, by_class}
 use Rattle.kex_runner.specs.Items.{items_from, items_along}
-use Rattle.kex_runner.specs.Following.{Follows, IsPlace, pass_at}
+use Rattle.kex_runner.specs.Following.{Follows, IsTablePlace, pass_at}
 
 -- from one place the table has gone on along the first bytes to another
 pub record Goes (t : Transducer) (state : ℕ) (registers : List (List Symbol)) (piece : List ℕ) (i state' : ℕ) (registers' : List (List Symbol)) (before after : List Symbol) : Type 0 where
@@ -46,11 +46,11 @@ module _ (t : Transducer) (state : ℕ) (registers : List (List Symbol)) (piece 
 pub next_by_class : (t : Transducer) (state b class : ℕ) → IsTable t → b < 256 → class ≡ class_at t.classes b → next_of t state b ≡ transition_of t state class
 next_by_class t state b class table lt e = (by_class t state).byte b (omega (arith, table.numbered.long, lt)) ∙ ap (λ z. transition_of t state z) (sym e)
 
-pub items_more : (t : Transducer) (r : Transition) (w : List ℕ) → items_from t (Some r) w ≡ items_of r.update + items_along t r.target w
+pub items_more : (t : Transducer) (r : Transition) (w : List ℕ) → items_from t (Some r) w ≡ item_count r.update + items_along t r.target w
 items_more t r [] = omega arith
 items_more t r (b ∷ w) = refl
 
-pub items_next : (t : Transducer) (state : ℕ) (piece : List ℕ) (i b : ℕ) (r : Transition) → i < length piece → b ≡ get_or piece i 0 → next_of t state b ≡ Some r → items_along t state (drop i piece) ≡ items_of r.update + items_along t r.target (drop (i + 1) piece)
+pub items_next : (t : Transducer) (state : ℕ) (piece : List ℕ) (i b : ℕ) (r : Transition) → i < length piece → b ≡ get_or piece i 0 → next_of t state b ≡ Some r → items_along t state (drop i piece) ≡ item_count r.update + items_along t r.target (drop (i + 1) piece)
 items_next t state piece i b r lt is n = ap (λ z. items_along t state z) (drop_more piece i 0 lt) ∙ ap (λ z. items_from t z (drop (i + 1) piece)) (ap (λ z. next_of t state z) (sym is) ∙ n) ∙ items_more t r (drop (i + 1) piece)
 
 pub items_stop : (t : Transducer) (state : ℕ) (piece : List ℕ) (i b : ℕ) → i < length piece → b ≡ get_or piece i 0 → next_of t state b ≡ None → items_along t state (drop i piece) ≡ 0
@@ -66,7 +66,7 @@ items_done t state piece i le = ap (λ z. items_along t state z) (none_left piec
     none_left (x ∷ xs) (suc i) le = none_left xs i (omega arith)
 
 -- a place's state is one of the table's
-pub place_in_range : {t : Transducer} {state : ℕ} {registers : List (List Symbol)} → IsPlace t state registers → state < length t.states
+pub place_in_range : {t : Transducer} {state : ℕ} {registers : List (List Symbol)} → IsTablePlace t state registers → state < length t.states
 place_in_range {t} {state} h = below t.states state h.at
   where
     below : {A : Type 0} {x : A} (xs : List A) (i : ℕ) → slice_get xs i ≡ Some x → i < length xs
@@ -75,7 +75,7 @@ place_in_range {t} {state} h = below t.states state h.at
     below (x ∷ xs) (suc i) e = let h = below xs i e in omega (arith, h)
 
 -- the state's row, its updates and its way
-pub update_at : (t : Transducer) (state class : ℕ) (registers : List (List Symbol)) (r : Transition) → IsTable t → IsPlace t state registers → transition_of t state class ≡ Some r → IsUpdate (length registers) (length r.update.regs) r.update
+pub update_at : (t : Transducer) (state class : ℕ) (registers : List (List Symbol)) (r : Transition) → IsTable t → IsTablePlace t state registers → transition_of t state class ≡ Some r → IsUpdate (length registers) (length r.update.regs) r.update
 update_at t state class registers r table h e =
     let s = leads_to t table state class r e in
     let same : h.row ≡ s.0 = some_same (sym h.at ∙ s.1) in
@@ -85,12 +85,12 @@ update_at t state class registers r table h e =
     some_same : {x y : Row} → Some x ≡ Some y → x ≡ y
     some_same e = cc
 
-pub place_next : (t : Transducer) (state class : ℕ) (registers : List (List Symbol)) (r : Transition) (registers' : List (List Symbol)) (b : ℕ) → IsTable t → transition_of t state class ≡ Some r → registers' ≡ map (λ x. parts_code registers b x) r.update.regs → IsPlace t r.target registers'
+pub place_next : (t : Transducer) (state class : ℕ) (registers : List (List Symbol)) (r : Transition) (registers' : List (List Symbol)) (b : ℕ) → IsTable t → transition_of t state class ≡ Some r → registers' ≡ map (λ x. parts_code registers b x) r.update.regs → IsTablePlace t r.target registers'
 place_next t state class registers r registers' b table e f =
     let s = leads_to t table state class r e in
     record { row = s.2.row; at = s.2.at; count = ap length f ∙ length-map r.update.regs (λ x. parts_code registers b x) ∙ s.2.update.count }
 
-pub way_at : (t : Transducer) (state : ℕ) (registers : List (List Symbol)) (s : Row) (way : List Part) → IsTable t → IsPlace t state registers → slice_get t.states state ≡ Some s → s.accepting ≡ Some way → IsWay (length registers) way
+pub way_at : (t : Transducer) (state : ℕ) (registers : List (List Symbol)) (s : Row) (way : List Part) → IsTable t → IsTablePlace t state registers → slice_get t.states state ≡ Some s → s.accepting ≡ Some way → IsWay (length registers) way
 way_at t state registers s way table h at e =
     let same : h.row ≡ s = some_same (sym h.at ∙ at) in
     let from : s.registers ≡ length registers = sym (h.count ∙ ap (λ z. z.registers) same) in
@@ -107,7 +107,7 @@ pub ending_some : (t : Transducer) (state : ℕ) (s : Row) (way : List Part) →
 ending_some t state s way at some p e = ap (λ z. ended_by (way_of (slice_get t.states z)) p) e ∙ ap (λ z. ended_by (way_of z) p) at ∙ ap (λ z. ended_by z p) some
 
 -- the place before the first byte
-pub place_begun : (t : Transducer) → IsTable t → IsPlace t 0 (first_pass t.initial).registers
+pub place_begun : (t : Transducer) → IsTable t → IsTablePlace t 0 (first_pass t.initial).registers
 place_begun t table = let h = table.begins in record { row = h.row; at = h.at; count = length-map t.initial.regs (λ x. parts_code [] 0 x) ∙ h.update.count }
 
 -- what was gone along is a front of a piece, and behind it nothing or a byte at which the table stops

@@ -11,7 +11,7 @@ use Rattle.kex_runner.specs.declared.answers.Fed.{Fed}
 use Rattle.kex_runner.specs.declared.answers.Fed.TheVariants.{On, Dead}
 use Rattle.kex_runner.specs.declared.answers.Ended.TheVariants.{Parsed, Cut}
 use Rattle.kex_runner.specs.Following.{Follows, pass_at}
-use Rattle.kex_runner.specs.Running.{Running, pass_of, StopsBehind, HasPassed, IsDead, IsRunOf, Feeds, HasNoEnd, Ends, answer_of}
+use Rattle.kex_runner.specs.Running.{Running, pass_of, StopsBehind, HasPassed, IsRunnerDead, IsRunOf, RunnerFeeds, HasNoEnd, RunnerEnds, runner_answer}
 
 pub passes_on : (t : Transducer) (w v : List ℕ) (p : Pass) → passes t w ≡ Some p → passes t (w ++ v) ≡ passes_if t (Some p) v
 passes_on t w v p e = passes_more t (Some (first_pass t.initial)) w v ∙ ap (λ z. passes_if t z v) e
@@ -24,7 +24,7 @@ stopped_none {t} {w} {v} h =
     ∙ ap (λ z. passes_if t z h.rest) h.stops
     ∙ passes_none t h.rest
 
-pub dead_stands : {r : Running} {w : List ℕ} {c : List Symbol} → r.dead ≡ true → IsRunOf r w c → IsDead r w c
+pub dead_stands : {r : Running} {w : List ℕ} {c : List Symbol} → r.dead ≡ true → IsRunOf r w c → IsRunnerDead r w c
 dead_stands d s = ⊎_elim (λ l. let bad : ⊥ = false_true (sym l.0 ∙ d) in absurd bad) (λ x. x) s
   where
     false_true : false ≡ true → ⊥
@@ -40,19 +40,19 @@ no_end : (t : Transducer) (o : Option Pass) → o ≡ None → HasNoEnd t o
 no_end t o e = subst (λ z. HasNoEnd t z) (sym e) tt
 
 -- the end where a byte was refused
-pub ends_dead : (r : Running) (before after : List Symbol) → r.dead ≡ true → after ≡ before ++ r.pending → Ends Cut r before after
+pub ends_dead : (r : Running) (before after : List Symbol) → r.dead ≡ true → after ≡ before ++ r.pending → RunnerEnds Cut r before after
 ends_dead r before after d e = record {
   more = r.pending;
   code = e;
   over = λ w c s.
-      let x : IsDead r w c = dead_stands {r = r} d s in (
+      let x : IsRunnerDead r w c = dead_stands {r = r} d s in (
         no_end r.table (passes r.table w) (stopped_none x.1.1),
         record { of = x.1.0; longest = inr x.1.1; pass = pass_of r c; passes = x.1.2.passes; code = refl },
       );
 }
 
 -- the end where nothing ends
-pub ends_cut : (r : Running) (before after : List Symbol) → r.dead ≡ false → after ≡ before ++ r.pending → ((p : Pass) → p.state ≡ r.state → whole_code r.table p ≡ None) → Ends Cut r before after
+pub ends_cut : (r : Running) (before after : List Symbol) → r.dead ≡ false → after ≡ before ++ r.pending → ((p : Pass) → p.state ≡ r.state → whole_code r.table p ≡ None) → RunnerEnds Cut r before after
 ends_cut r before after d e none = record {
   more = r.pending;
   code = e;
@@ -64,7 +64,7 @@ ends_cut r before after d e none = record {
 }
 
 -- the end where the table ends
-pub ends_parsed : (r : Running) (way : List Part) (before after : List Symbol) → r.dead ≡ false → after ≡ (before ++ r.pending) ++ parts_code r.registers 0 way → ((p : Pass) → p.state ≡ r.state → whole_code r.table p ≡ Some (p.code ++ parts_code p.registers 0 way)) → Ends Parsed r before after
+pub ends_parsed : (r : Running) (way : List Part) (before after : List Symbol) → r.dead ≡ false → after ≡ (before ++ r.pending) ++ parts_code r.registers 0 way → ((p : Pass) → p.state ≡ r.state → whole_code r.table p ≡ Some (p.code ++ parts_code p.registers 0 way)) → RunnerEnds Parsed r before after
 ends_parsed r way before after d e some = record {
   more = r.pending ++ parts_code r.registers 0 way;
   code = e ∙ append_assoc before r.pending (parts_code r.registers 0 way);
@@ -91,7 +91,7 @@ module _ (r : Running) (piece : List ℕ) (count state : ℕ) (registers : List 
     count = omega (arith, h.count, length-append w (take count piece), length-take-le count piece f.within);
   }
 
-  pub feeds_on : length piece ≤ count → Feeds On r (fed r state registers count false) piece before after
+  pub feeds_on : length piece ≤ count → RunnerFeeds On r (fed r state registers count false) piece before after
   feeds_on le =
       let all : take count piece ≡ piece = take_all count piece le in
       record {
@@ -105,7 +105,7 @@ module _ (r : Running) (piece : List ℕ) (count state : ℕ) (registers : List 
         told = refl;
       }
 
-  pub feeds_dead : count < length piece → Feeds Dead r (fed r state registers count true) piece before after
+  pub feeds_dead : count < length piece → RunnerFeeds Dead r (fed r state registers count true) piece before after
   feeds_dead lt = record {
     more = r.pending ++ f.more;
     code = added;
@@ -128,17 +128,17 @@ module _ (r : Running) (piece : List ℕ) (count state : ℕ) (registers : List 
       }
 
 -- a piece is taken as far as the table goes on
-pub feeds : (r : Running) (piece : List ℕ) (count state : ℕ) (registers : List (List Symbol)) (before mid after : List Symbol) (dead : Bool) → r.dead ≡ false → mid ≡ before ++ r.pending → Follows r.table r.state r.registers piece count state registers mid after → (dead ≡ true → count < length piece) → (dead ≡ false → length piece ≤ count) → Feeds (answer_of dead) r (fed r state registers count dead) piece before after
+pub feeds : (r : Running) (piece : List ℕ) (count state : ℕ) (registers : List (List Symbol)) (before mid after : List Symbol) (dead : Bool) → r.dead ≡ false → mid ≡ before ++ r.pending → Follows r.table r.state r.registers piece count state registers mid after → (dead ≡ true → count < length piece) → (dead ≡ false → length piece ≤ count) → RunnerFeeds (runner_answer dead) r (fed r state registers count dead) piece before after
 feeds r piece count state registers before mid after true live first f lt le = feeds_dead r piece count state registers before mid after live first f (lt refl)
 feeds r piece count state registers before mid after false live first f lt le = feeds_on r piece count state registers before mid after live first f (le refl)
 
 -- a runner that has refused a byte is fed more
-pub feeds_after : (r : Running) (piece : List ℕ) (before after : List Symbol) → r.dead ≡ true → after ≡ before ++ r.pending → Feeds Dead r (record { table = r.table; words = r.words; state = r.state; pending = []; registers = r.registers; read = r.read; dead = r.dead; ended = r.ended; usable = true }) piece before after
+pub feeds_after : (r : Running) (piece : List ℕ) (before after : List Symbol) → r.dead ≡ true → after ≡ before ++ r.pending → RunnerFeeds Dead r (record { table = r.table; words = r.words; state = r.state; pending = []; registers = r.registers; read = r.read; dead = r.dead; ended = r.ended; usable = true }) piece before after
 feeds_after r piece before after d e = record {
   more = r.pending;
   code = e;
   fed = λ w c s.
-      let x : IsDead r w c = dead_stands {r = r} d s in
+      let x : IsRunnerDead r w c = dead_stands {r = r} d s in
       let stop : StopsBehind r.table (w ++ piece) x.1.0 = record {
         byte = x.1.1.byte;
         rest = x.1.1.rest ++ piece;
@@ -179,5 +179,5 @@ jumps r state bytes w v c d none s count e =
     no_pass e = cc
 
 -- what is pending is nothing
-pub none_pending : (answer : Fed) (r n : Running) (piece : List ℕ) (before after : List Symbol) (pending : List Symbol) → pending ≡ [] → Feeds answer r (record n { pending = [] }) piece before after → Feeds answer r (record n { pending = pending }) piece before after
-none_pending answer r n piece before after pending e f = subst (λ z. Feeds answer r (record n { pending = z }) piece before after) (sym e) f
+pub none_pending : (answer : Fed) (r n : Running) (piece : List ℕ) (before after : List Symbol) (pending : List Symbol) → pending ≡ [] → RunnerFeeds answer r (record n { pending = [] }) piece before after → RunnerFeeds answer r (record n { pending = pending }) piece before after
+none_pending answer r n piece before after pending e f = subst (λ z. RunnerFeeds answer r (record n { pending = z }) piece before after) (sym e) f

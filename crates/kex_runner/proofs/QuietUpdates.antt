@@ -12,14 +12,14 @@ use Rattle.kex_sst.specs.Parts.{parts_code}
 use Rattle.kex_sst.specs.Tables.{Transducer, IsTable}
 use Rattle.kex_sst.specs.Passes.{passes_if}
 use Rattle.kex_sst.proofs.Passes.{passes_more}
-use Rattle.kex_script.specs.declared.piece.Piece.{Piece}
+use Rattle.kex_script.specs.declared.piece.ByteWord.{ByteWord}
 use Rattle.kex_script.specs.declared.script.Entry.{Entry}
 use Rattle.kex_script.specs.Scripts.{IsScriptOf, change_at, entry_at}
 use Rattle.kex_runner.specs.declared.quiet.Quiet.{Quiet}
 use Rattle.kex_runner.specs.declared.quiet.Guide.{Guide}
-use Rattle.kex_runner.specs.declared.reading.Note.{Note}
+use Rattle.kex_runner.specs.declared.reading.NotedUpdate.{NotedUpdate}
 use Rattle.kex_runner.specs.Noting.{next_registers, noted_by, registers_after, settled_of, update_of, updates_of}
-use Rattle.kex_runner.specs.Following.{Follows, IsPlace, pass_at}
+use Rattle.kex_runner.specs.Following.{Follows, IsTablePlace, pass_at}
 use Rattle.kex_runner.specs.Quiet.{IsGuide, IsQuiet, StaysAt, quiet_at, staying}
 use Rattle.kex_runner.proofs.Notes.{registers_push}
 use Rattle.kex_runner.proofs.ByteSteps.{Goes, goes_next, next_by_class, place_next}
@@ -36,7 +36,7 @@ push_each P (z ∷ zs) x h p zero y e = h zero y e
 push_each P (z ∷ zs) x h p (suc k) y e = push_each (λ i. P (suc i)) zs x (λ i w g. h (suc i) w g) p k y e
 
 -- one note more
-pub noted_more : (g : Guide) (base : List (List Piece)) (notes : List Note) (n : Note) → noted_by g.script base (notes ++ n ∷ []) ≡ next_registers (change_at g.script n.lists) n.byte (noted_by g.script base notes)
+pub noted_more : (g : Guide) (base : List (List ByteWord)) (notes : List NotedUpdate) (n : NotedUpdate) → noted_by g.script base (notes ++ n ∷ []) ≡ next_registers (change_at g.script n.lists) n.byte (noted_by g.script base notes)
 noted_more g base notes n =
     ap (λ z. registers_after (settled_of g.script base) z) (map_push (λ m. update_of g.script m) notes n)
     ∙ registers_push (settled_of g.script base) (updates_of g.script notes) (update_of g.script n)
@@ -70,17 +70,17 @@ module _ (t : Transducer) (g : Guide) (table : IsTable t) (script : IsScriptOf g
   pub whole_next : (e : Entry) (q : Quiet) → IsQuiet e g.width (length g.quiets.items) q → q.row ≡ q.row / g.width * g.width
   whole_next e q h = h.row ∙ ap (λ z. z * g.width) (sym (target e q h))
 
-  module _ (base : List (List Piece)) (notes : List Note) (row class b : ℕ) (stays : Bool) (q : Quiet) (h : IsQuiet (entry_at g.script (row / g.width) class) g.width (length g.quiets.items) q) (lt : class < class_count t.classes) where
+  module _ (base : List (List ByteWord)) (notes : List NotedUpdate) (row class b : ℕ) (stays : Bool) (q : Quiet) (h : IsQuiet (entry_at g.script (row / g.width) class) g.width (length g.quiets.items) q) (lt : class < class_count t.classes) where
     step : IsStep g.script t (row / g.width) class (entry_at g.script (row / g.width) class)
     step = step_of g.script t (row / g.width) class (entry_at g.script (row / g.width) class) script lt refl h.goes
 
     noted : noted_by g.script base (notes ++ record { lists = q.lists; byte = b; stays = stays } ∷ []) ≡ next_registers (change_at g.script (entry_at g.script (row / g.width) class).lists) b (noted_by g.script base notes)
     noted = noted_more g base notes (record { lists = q.lists; byte = b; stays = stays }) ∙ ap (λ z. next_registers (change_at g.script z) b (noted_by g.script base notes)) h.lists
 
-    pub place_quiet : IsPlace t (row / g.width) (noted_by g.script base notes) → IsPlace t (q.row / g.width) (noted_by g.script base (notes ++ record { lists = q.lists; byte = b; stays = stays } ∷ []))
+    pub place_quiet : IsTablePlace t (row / g.width) (noted_by g.script base notes) → IsTablePlace t (q.row / g.width) (noted_by g.script base (notes ++ record { lists = q.lists; byte = b; stays = stays } ∷ []))
     place_quiet p =
         let e = entry_at g.script (row / g.width) class in
-        subst (λ z. IsPlace t z (noted_by g.script base (notes ++ record { lists = q.lists; byte = b; stays = stays } ∷ []))) (sym (target e q h))
+        subst (λ z. IsTablePlace t z (noted_by g.script base (notes ++ record { lists = q.lists; byte = b; stays = stays } ∷ []))) (sym (target e q h))
         (place_next t (row / g.width) class (noted_by g.script base notes) (told_by g.script e) (noted_by g.script base (notes ++ record { lists = q.lists; byte = b; stays = stays } ∷ [])) b table step.at noted)
 
     pub goes_quiet : (state : ℕ) (registers : List (List Symbol)) (piece : List ℕ) (i : ℕ) → i < length piece → b ≡ get_or piece i 0 → b < 256 → class ≡ class_at t.classes b → Goes t state registers piece i (row / g.width) (noted_by g.script base notes) [] [] → Goes t state registers piece (i + 1) (q.row / g.width) (noted_by g.script base (notes ++ record { lists = q.lists; byte = b; stays = stays } ∷ [])) [] []
@@ -92,7 +92,7 @@ module _ (t : Transducer) (g : Guide) (table : IsTable t) (script : IsScriptOf g
         (goes_next t state registers piece i (row / g.width) regs [] [] b less is (told_by g.script e) regs' [] (next_by_class t (row / g.width) b class table byte of ∙ step.at) noted (ap (λ z. parts_code regs b z) (sym (step.update.silent.0 h.silent))) f)
 
   -- a state stays along bytes at which its row is not left
-  module _ (base : List (List Piece)) (notes : List Note) (row : ℕ) (whole : row ≡ row / g.width * g.width) (some : row ≢ 4294967295) (inside : row + g.width ≤ length g.quiets.items) where
+  module _ (base : List (List ByteWord)) (notes : List NotedUpdate) (row : ℕ) (whole : row ≡ row / g.width * g.width) (some : row ≢ 4294967295) (inside : row + g.width ≤ length g.quiets.items) where
     -- what the registers are then
     abbrev pub after : List ℕ → List (List Symbol)
     after bytes = noted_by g.script base (notes ++ staying g.quiets.items t.classes row bytes)
@@ -102,9 +102,9 @@ module _ (t : Transducer) (g : Guide) (table : IsTable t) (script : IsScriptOf g
 
     after_more : (rest : List ℕ) (n : ℕ) → n < length rest → noted_by g.script base ((notes ++ staying g.quiets.items t.classes row (take n rest)) ++ record { lists = (quiet (get_or rest n 0)).lists; byte = get_or rest n 0; stays = true } ∷ []) ≡ after (take (n + 1) rest)
     after_more rest n less =
-        let run : List ℕ → List Note = λ bytes. staying g.quiets.items t.classes row bytes in
+        let run : List ℕ → List NotedUpdate = λ bytes. staying g.quiets.items t.classes row bytes in
         let b = get_or rest n 0 in
-        let note : Note = record { lists = (quiet b).lists; byte = b; stays = true } in
+        let note : NotedUpdate = record { lists = (quiet b).lists; byte = b; stays = true } in
         ap (λ z. noted_by g.script base z)
         (append_assoc notes (run (take n rest)) (note ∷ [])
         ∙ ap (λ z. notes ++ z) (sym (ap run (take_more rest n 0 less) ∙ map_push (λ x. record { lists = (quiet x).lists; byte = x; stays = true }) (take n rest) b)))
@@ -118,10 +118,10 @@ module _ (t : Transducer) (g : Guide) (table : IsTable t) (script : IsScriptOf g
         told row (class_at t.classes b) (quiet b) whole lt (slice_get-get_or g.quiets.items (row + class_at t.classes b) (record { row = 0; lists = 0 }) (omega (arith, lt, inside))) (λ e. some (sym stays.1 ∙ e))
 
     module _ (state : ℕ) (registers : List (List Symbol)) (piece rest : List ℕ) (i : ℕ) (fits : i + length rest ≤ length piece) (at : (k : ℕ) → k < length rest → get_or rest k 0 ≡ get_or piece (i + k) 0) (bytes : (k : ℕ) → k < length rest → get_or rest k 0 < 256) where
-      pub stays_on : (n : ℕ) → n ≤ length rest → ((k : ℕ) → k < n → StaysAt g.quiets.items t.classes row (get_or rest k 0)) → IsPlace t (row / g.width) (noted_by g.script base notes) → Goes t state registers piece i (row / g.width) (noted_by g.script base notes) [] []
-          → IsPlace t (row / g.width) (after (take n rest)) × Goes t state registers piece (i + n) (row / g.width) (after (take n rest)) [] []
+      pub stays_on : (n : ℕ) → n ≤ length rest → ((k : ℕ) → k < n → StaysAt g.quiets.items t.classes row (get_or rest k 0)) → IsTablePlace t (row / g.width) (noted_by g.script base notes) → Goes t state registers piece i (row / g.width) (noted_by g.script base notes) [] []
+          → IsTablePlace t (row / g.width) (after (take n rest)) × Goes t state registers piece (i + n) (row / g.width) (after (take n rest)) [] []
       stays_on zero few of p f = (
-        subst (λ z. IsPlace t (row / g.width) z) after_none p,
+        subst (λ z. IsTablePlace t (row / g.width) z) after_none p,
         subst (λ z. Goes t state registers piece z (row / g.width) (after []) [] []) (omega arith) (subst (λ z. Goes t state registers piece i (row / g.width) z [] []) after_none f),
       )
       stays_on (suc n) few of p f =
@@ -139,7 +139,7 @@ module _ (t : Transducer) (g : Guide) (table : IsTable t) (script : IsScriptOf g
           let placed = place_quiet base ns row class b true q h stays.0 so_far.0 in
           let gone = goes_quiet base ns row class b true q h stays.0 state registers piece (i + n) (omega (arith, fits, less)) (at n less) (bytes n less) refl so_far.1 in
           let next : i + n + 1 ≡ i + suc n = omega arith in (
-            subst (λ z. IsPlace t z (after (take (suc n) rest))) back (subst (λ z. IsPlace t (q.row / g.width) z) there placed),
+            subst (λ z. IsTablePlace t z (after (take (suc n) rest))) back (subst (λ z. IsTablePlace t (q.row / g.width) z) there placed),
             subst (λ z. Goes t state registers piece z (row / g.width) (after (take (suc n) rest)) [] []) next
                 (subst (λ z. Goes t state registers piece (i + n + 1) z (after (take (suc n) rest)) [] []) back
                 (subst (λ z. Goes t state registers piece (i + n + 1) (q.row / g.width) z [] []) there gone)),

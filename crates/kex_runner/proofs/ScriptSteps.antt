@@ -10,7 +10,7 @@ use Rattle.kex_script.specs.declared.script.Entry.{Entry}
 use Rattle.kex_script.specs.Scripts.{Sheet, HasUpdate, IsEntryOf, IsScriptOf, change_at, entry_at}
 use Rattle.kex_runner.specs.declared.registers.Registers.{Registers}
 use Rattle.kex_runner.specs.Noting.{contents, next_registers}
-use Rattle.kex_runner.specs.Following.{IsRunner, IsPlace, Follows}
+use Rattle.kex_runner.specs.Following.{IsRunner, IsTablePlace, Follows}
 use Rattle.kex_runner.proofs.ByteSteps.{place_next}
 
 -- the transition that an entry tells
@@ -56,7 +56,7 @@ no_step s t state class e h lt is stops = none (transition_of t state class) (th
 
 pub runner_kept : (t : Transducer) (s : Sheet) (state : ℕ) (r r' : Registers) → IsRunner t s state r → contents s r' ≡ contents s r → r'.count ≡ length (contents s r') → IsRunner t s state r'
 runner_kept t s state r r' h e n = record {
-  sound = record { table = h.sound.table; place = subst (λ z. IsPlace t state z) (sym e) h.sound.place };
+  sound = record { table = h.sound.table; place = subst (λ z. IsTablePlace t state z) (sym e) h.sound.place };
   script = h.script;
   counted = n;
 }

@@ -8,15 +8,15 @@ use Rattle.kex_runner.specs.Noting.{contents}
 use Rattle.kex_runner.specs.declared.registers.Registers.{Registers}
 
 -- a state of the table, and as many registers as it has
-pub record IsPlace (t : Transducer) (state : ℕ) (registers : List (List Symbol)) : Type 0 where
+pub record IsTablePlace (t : Transducer) (state : ℕ) (registers : List (List Symbol)) : Type 0 where
   pub row : Row
   pub at : slice_get t.states state ≡ Some row
   pub count : length registers ≡ row.registers
 
 -- a table, and a place of it
-pub record IsSound (t : Transducer) (state : ℕ) (registers : List (List Symbol)) : Type 0 where
+pub record IsRunnerSound (t : Transducer) (state : ℕ) (registers : List (List Symbol)) : Type 0 where
   pub table : IsTable t
-  pub place : IsPlace t state registers
+  pub place : IsTablePlace t state registers
 
 -- where a table is that has passed on c
 abbrev pub pass_at : ℕ → List Symbol → List (List Symbol) → Pass
@@ -33,6 +33,6 @@ pub record Follows (t : Transducer) (state : ℕ) (registers : List (List Symbol
 
 -- a runner's parts: its table and place, the script of the table, and the count of its registers
 pub record IsRunner (t : Transducer) (s : Sheet) (state : ℕ) (registers : Registers) : Type 0 where
-  pub sound : IsSound t state (contents s registers)
+  pub sound : IsRunnerSound t state (contents s registers)
   pub script : IsScriptOf s t
   pub counted : registers.count ≡ length (contents s registers)

@@ -3,10 +3,10 @@ use Rattle.std.specs.Prelude.{ℕ, List, [], ◌∷◌, map, reverse}
 use Rattle.kex_code.specs.declared.symbol.Symbol.{Symbol}
 use Rattle.kex_sst.specs.declared.parts.Part.{Part}
 use Rattle.kex_sst.specs.Parts.{Change, parts_code}
-use Rattle.kex_script.specs.declared.piece.Piece.{Piece}
+use Rattle.kex_script.specs.declared.piece.ByteWord.{ByteWord}
 use Rattle.kex_script.specs.Pieces.{code_over}
 use Rattle.kex_script.specs.Scripts.{Sheet, change_at}
-use Rattle.kex_runner.specs.declared.reading.Note.{Note}
+use Rattle.kex_runner.specs.declared.reading.NotedUpdate.{NotedUpdate}
 use Rattle.kex_runner.specs.declared.registers.Registers.{Registers}
 
 -- an update, and the byte that was read
@@ -24,22 +24,22 @@ registers_after base [] = base
 registers_after base (n ∷ ns) = registers_after (next_registers n.update n.byte base) ns
 
 -- what pieces spell that stand last first
-abbrev pub spelled_back : List (List Part) → List Piece → List Symbol
+abbrev pub spelled_back : List (List Part) → List ByteWord → List Symbol
 spelled_back words ps = code_over words (reverse ps)
 
 -- registers that are settled, each in pieces that stand last first
-abbrev pub settled_of : Sheet → List (List Piece) → List (List Symbol)
+abbrev pub settled_of : Sheet → List (List ByteWord) → List (List Symbol)
 settled_of s base = map (λ ps. spelled_back s.words ps) base
 
 -- the update that a note names
-abbrev pub update_of : Sheet → Note → ByteUpdate
+abbrev pub update_of : Sheet → NotedUpdate → ByteUpdate
 update_of s n = record { update = change_at s n.lists; byte = n.byte }
 
-abbrev pub updates_of : Sheet → List Note → List ByteUpdate
+abbrev pub updates_of : Sheet → List NotedUpdate → List ByteUpdate
 updates_of s notes = map (λ n. update_of s n) notes
 
 -- what registers hold after so many notes
-abbrev pub noted_by : Sheet → List (List Piece) → List Note → List (List Symbol)
+abbrev pub noted_by : Sheet → List (List ByteWord) → List NotedUpdate → List (List Symbol)
 noted_by s base notes = registers_after (settled_of s base) (updates_of s notes)
 
 -- what the registers hold

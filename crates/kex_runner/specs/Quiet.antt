@@ -6,7 +6,7 @@ use Rattle.kex_script.specs.declared.script.Entry.{Entry}
 use Rattle.kex_script.specs.Scripts.{Sheet, entry_at}
 use Rattle.kex_runner.specs.declared.quiet.Quiet.{Quiet}
 use Rattle.kex_runner.specs.declared.quiet.Guide.{Guide}
-use Rattle.kex_runner.specs.declared.reading.Note.{Note}
+use Rattle.kex_runner.specs.declared.reading.NotedUpdate.{NotedUpdate}
 
 -- an entry is quiet, and this tells its lists, and where the row of its target begins, within so many places
 pub record IsQuiet (e : Entry) (width count : ℕ) (q : Quiet) : Type 0 where
@@ -42,5 +42,5 @@ abbrev pub StaysAt : List Quiet → List ℕ → ℕ → ℕ → Type 0
 StaysAt qs classes row b = (class_at classes b < class_count classes) × ((quiet_at qs classes row b).row ≡ row)
 
 -- the updates that a row tells for some bytes, noted as such that stay
-abbrev pub staying : List Quiet → List ℕ → ℕ → List ℕ → List Note
+abbrev pub staying : List Quiet → List ℕ → ℕ → List ℕ → List NotedUpdate
 staying qs classes row bytes = map (λ b. record { lists = (quiet_at qs classes row b).lists; byte = b; stays = true }) bytes

@@ -35,8 +35,8 @@ pub record StopsBehind (t : Transducer) (w v : List ℕ) : Type 0 where
   pub stops : passes t (v ++ byte ∷ []) ≡ None
 
 -- v is the longest front of w on which the table goes on
-abbrev pub IsLongest : Transducer → List ℕ → List ℕ → Type 0
-IsLongest t w v = (w ≡ v) ⊎ StopsBehind t w v
+abbrev pub IsLongestFront : Transducer → List ℕ → List ℕ → Type 0
+IsLongestFront t w v = (w ≡ v) ⊎ StopsBehind t w v
 
 -- the table went on along v, and c was passed on
 pub record HasPassed (r : Running) (v : List ℕ) (c : List Symbol) : Type 0 where
@@ -44,27 +44,27 @@ pub record HasPassed (r : Running) (v : List ℕ) (c : List Symbol) : Type 0 whe
   pub count : r.read ≡ length v
 
 -- no byte of w was refused
-abbrev pub IsLive : Running → List ℕ → List Symbol → Type 0
-IsLive r w c = (r.dead ≡ false) × HasPassed r w c
+abbrev pub IsRunnerLive : Running → List ℕ → List Symbol → Type 0
+IsRunnerLive r w c = (r.dead ≡ false) × HasPassed r w c
 
 -- a byte of w was refused
-abbrev pub IsDead : Running → List ℕ → List Symbol → Type 0
-IsDead r w c = (r.dead ≡ true) × ((v : List ℕ) × StopsBehind r.table w v × HasPassed r v c)
+abbrev pub IsRunnerDead : Running → List ℕ → List Symbol → Type 0
+IsRunnerDead r w c = (r.dead ≡ true) × ((v : List ℕ) × StopsBehind r.table w v × HasPassed r v c)
 
 -- the runner was fed w, and has passed on c
 abbrev pub IsRunOf : Running → List ℕ → List Symbol → Type 0
-IsRunOf r w c = IsLive r w c ⊎ IsDead r w c
+IsRunOf r w c = IsRunnerLive r w c ⊎ IsRunnerDead r w c
 
 -- and what the last piece was answered by
-abbrev pub IsFed : Fed → Running → List ℕ → List Symbol → Type 0
-IsFed On r w c = (passes r.table w ≡ Some (record { state = r.state; code = c; registers = r.registers })) × IsRunOf r w c
-IsFed Dead r w c = (passes r.table w ≡ None) × IsRunOf r w c
+abbrev pub IsRunnerFed : Fed → Running → List ℕ → List Symbol → Type 0
+IsRunnerFed On r w c = (passes r.table w ≡ Some (record { state = r.state; code = c; registers = r.registers })) × IsRunOf r w c
+IsRunnerFed Dead r w c = (passes r.table w ≡ None) × IsRunOf r w c
 
 -- feeding a piece has put its code behind what was there
-pub record Feeds (answer : Fed) (old new : Running) (piece : List ℕ) (before after : List Symbol) : Type 0 where
+pub record RunnerFeeds (answer : Fed) (old new : Running) (piece : List ℕ) (before after : List Symbol) : Type 0 where
   pub more : List Symbol
   pub code : after ≡ before ++ more
-  pub fed : (w : List ℕ) (c : List Symbol) → IsRunOf old w c → IsFed answer new (w ++ piece) (c ++ more)
+  pub fed : (w : List ℕ) (c : List Symbol) → IsRunOf old w c → IsRunnerFed answer new (w ++ piece) (c ++ more)
   pub told : new.pending ≡ []
 
 -- the table goes on along w to a state in which nothing ends, or doesn't go on
@@ -75,26 +75,26 @@ HasNoEnd t (Some p) = whole_code t p ≡ None
 -- c was passed on of the longest front of w on which the table goes on
 pub record IsPassedOn (t : Transducer) (w : List ℕ) (c : List Symbol) : Type 0 where
   pub of : List ℕ
-  pub longest : IsLongest t w of
+  pub longest : IsLongestFront t w of
   pub pass : Pass
   pub passes : passes t of ≡ Some pass
   pub code : c ≡ pass.code
 
 -- what the end was answered by, behind w, where c was passed on in all
-abbrev pub IsOver : Ended → Transducer → List ℕ → List Symbol → Type 0
-IsOver Parsed t w c = (p : Pass) × (passes t w ≡ Some p) × (whole_code t p ≡ Some c)
-IsOver Cut t w c = HasNoEnd t (passes t w) × IsPassedOn t w c
+abbrev pub IsRunnerOver : Ended → Transducer → List ℕ → List Symbol → Type 0
+IsRunnerOver Parsed t w c = (p : Pass) × (passes t w ≡ Some p) × (whole_code t p ≡ Some c)
+IsRunnerOver Cut t w c = HasNoEnd t (passes t w) × IsPassedOn t w c
 
 -- the end has put its code behind what was there
-pub record Ends (answer : Ended) (old : Running) (before after : List Symbol) : Type 0 where
+pub record RunnerEnds (answer : Ended) (old : Running) (before after : List Symbol) : Type 0 where
   pub more : List Symbol
   pub code : after ≡ before ++ more
-  pub over : (w : List ℕ) (c : List Symbol) → IsRunOf old w c → IsOver answer old.table w (c ++ more)
+  pub over : (w : List ℕ) (c : List Symbol) → IsRunOf old w c → IsRunnerOver answer old.table w (c ++ more)
 
 -- how many items the updates have of the bytes of a piece that are taken
 abbrev pub items_taken : Running → List ℕ → ℕ
 items_taken r piece = if r.dead then 0 else items_along r.table r.state piece
 
-abbrev pub answer_of : Bool → Fed
-answer_of false = On
-answer_of true = Dead
+abbrev pub runner_answer : Bool → Fed
+runner_answer false = On
+runner_answer true = Dead

@@ -1,7 +1,7 @@
 // What a runner answers.
 
 ghost use Rattle.std.specs.Prelude.{◌≡◌};
-ghost use Rattle.kex_runner.specs.Running.{answer_of};
+ghost use Rattle.kex_runner.specs.Running.{runner_answer};
 
 /// What a piece leaves: bytes that can go on to a parse, or that can't.
 #[derive(Clone, Copy, Debug, PartialEq, Eq)]
@@ -18,7 +18,7 @@ pub enum Ended {
 }
 
 pub(crate) fn answer_of(dead: bool) -> Fed
-    ensures { result ≡ answer_of dead }
+    ensures { result ≡ runner_answer dead }
 {
     if dead { Fed::Dead } else { Fed::On }
 }

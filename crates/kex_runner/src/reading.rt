@@ -5,17 +5,17 @@ ghost use Rattle.kex_sst.specs.declared.parts.Part.{Part};
 ghost use Rattle.kex_sst.specs.Parts.{parts_code};
 ghost use Rattle.kex_script.specs.Scripts.{IsTail, IsWord, list_at};
 ghost use Rattle.kex_runner.specs.Noting.{noted_by, settled_of, spelled_back, updates_of};
-ghost use Rattle.kex_runner.specs.Looking.{AreNoted, HasAskedFor, HasRead, codes_of, if_some, unless_empty};
+ghost use Rattle.kex_runner.specs.Looking.{AreNoted, HasAskedFor, HasReadList, codes_of, if_some, unless_empty};
 
 use kex_code::memory::Memory;
-use kex_script::piece::Piece;
+use kex_script::piece::ByteWord;
 use kex_script::script::{Script, Tail};
 use std::marker::Model;
 
 /// The update that was done, by the place of its lists in the script, and the byte that was read. Where the state stays a note
 /// may say so: notes of the same update may stand before it then. Nothing rests on what it says.
 #[derive(Clone, Copy)]
-pub struct Note {
+pub struct NotedUpdate {
     pub lists: u32,
     pub byte: u8,
     pub stays: bool,
@@ -32,14 +32,14 @@ pub struct Unread {
 /// A register where the notes begin: the pieces that it holds, the last first.
 #[derive(Drop)]
 pub struct Settled {
-    pub pieces: Vec<Piece>,
+    pub pieces: Vec<ByteWord>,
 }
 
 impl Model for Settled {
     ghost use Rattle.std.specs.Prelude.{List};
-    ghost use Rattle.kex_script.specs.declared.piece.Piece.{Piece};
+    ghost use Rattle.kex_script.specs.declared.piece.ByteWord.{ByteWord};
 
-    ghost Value = { List Piece };
+    ghost Value = { List ByteWord };
 
     ghost view = { λ s. s.pieces.items };
 }
@@ -49,18 +49,18 @@ impl Model for Settled {
 #[derive(Drop)]
 pub struct Reading {
     pub pending: Vec<Unread>,
-    pub back: Vec<Piece>,
+    pub back: Vec<ByteWord>,
 }
 
 // A word is read, if there is one.
 #[inline(always)]
-fn say(word: Option<u32>, byte: u8, back: &mut Vec<Piece>) -> Result<(), Memory>
+fn say(word: Option<u32>, byte: u8, back: &mut Vec<ByteWord>) -> Result<(), Memory>
     ensures { OnOk result ((words : List (List Part)) (w : List Part) → IsWord words word w → spelled_back words back.new.items ≡ parts_code [] byte w ++ spelled_back words back.old.items) }
 {
     match word {
         None => Ok(()),
         Some(word) => {
-            back.push(Piece { word, byte })?;
+            back.push(ByteWord { word, byte })?;
             Ok(())
         }
     }
@@ -94,7 +94,7 @@ fn or_pop(next: Option<Unread>, pending: &mut Vec<Unread>) -> Option<Unread>
 pub fn ask(
     script: &Script,
     base: &[Settled],
-    notes: &[Note],
+    notes: &[NotedUpdate],
     after: usize,
     register: usize,
     reading: &mut Reading,
@@ -121,7 +121,7 @@ pub fn ask(
 fn ask_if(
     script: &Script,
     base: &[Settled],
-    notes: &[Note],
+    notes: &[NotedUpdate],
     after: usize,
     old: Option<u32>,
     reading: &mut Reading,
@@ -140,7 +140,7 @@ fn ask_if(
 fn read_end(
     script: &Script,
     base: &[Settled],
-    notes: &[Note],
+    notes: &[NotedUpdate],
     unread: Unread,
     tail: Tail,
     reading: &mut Reading,
@@ -148,7 +148,7 @@ fn read_end(
     requires after { unread.after ≤ length notes.now }
     requires empty { list_at script.now 0 ≡ [] }
     requires tail { IsTail script.now.words script.now.lists tail (list_at script.now unread.list) }
-    ensures { IfOk result (λ next. HasRead script.now (settled_of script.now base.now) (updates_of script.now notes.now) (reading.old.pending.items ++ unread ∷ []) (reading.new.pending.items ++ if_some next) reading.old.back.items reading.new.back.items) }
+    ensures { IfOk result (λ next. HasReadList script.now (settled_of script.now base.now) (updates_of script.now notes.now) (reading.old.pending.items ++ unread ∷ []) (reading.new.pending.items ++ if_some next) reading.old.back.items reading.new.back.items) }
 {
     say(tail.word, unread.byte, &mut reading.back)?;
     let rest = Unread {
@@ -165,12 +165,12 @@ fn read_end(
 fn read(
     script: &Script,
     base: &[Settled],
-    notes: &[Note],
+    notes: &[NotedUpdate],
     unread: Unread,
     reading: &mut Reading,
 ) -> Result<Option<Unread>, Memory>
     requires { unread.after ≤ length notes.now }
-    ensures read { IfOk result (λ next. HasRead script.now (settled_of script.now base.now) (updates_of script.now notes.now) (reading.old.pending.items ++ unread ∷ []) (reading.new.pending.items ++ if_some next) reading.old.back.items reading.new.back.items) }
+    ensures read { IfOk result (λ next. HasReadList script.now (settled_of script.now base.now) (updates_of script.now notes.now) (reading.old.pending.items ++ unread ∷ []) (reading.new.pending.items ++ if_some next) reading.old.back.items reading.new.back.items) }
     ensures none { IfOk result (λ next. next ≡ None → reading.new.pending.items ≡ []) }
 {
     match script.tail(unread.list) {
@@ -186,7 +186,7 @@ fn read(
 pub fn look_up(
     script: &Script,
     base: &[Settled],
-    notes: &[Note],
+    notes: &[NotedUpdate],
     first: Option<Unread>,
     reading: &mut Reading,
 ) -> Result<(), Memory>
@@ -205,7 +205,7 @@ pub fn look_up(
 pub fn read_list(
     script: &Script,
     base: &[Settled],
-    notes: &[Note],
+    notes: &[NotedUpdate],
     list: u32,
     byte: u8,
     reading: &mut Reading,
@@ -226,7 +226,7 @@ pub fn read_list(
 pub fn read_register(
     script: &Script,
     base: &[Settled],
-    notes: &[Note],
+    notes: &[NotedUpdate],
     register: usize,
     reading: &mut Reading,
 ) -> Result<(), Memory>

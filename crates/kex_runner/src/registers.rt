@@ -3,7 +3,7 @@
 ghost use Rattle.std.specs.Prelude.{◌≡◌, ◌≢◌, ◌+◌, ◌-◌, ◌<◌, ◌≤◌, [], ◌∷◌, ◌++◌, OnOk, OnErr, IfOk, IfSome, All, true, false, length, get_or, map, reverse, slice_get, take};
 ghost use Rattle.std.specs.Vec.{vec_capacity, vec_len};
 ghost use Rattle.kex_byteset.specs.Classes.{class_count};
-ghost use Rattle.kex_sst.specs.Parts.{items_of, long_in, parts_code, value};
+ghost use Rattle.kex_sst.specs.Parts.{item_count, long_in, parts_code, value};
 ghost use Rattle.kex_script.specs.Pieces.{code_over};
 ghost use Rattle.kex_script.specs.Scripts.{HasUpdate, Sheet, change_at};
 ghost use Rattle.kex_runner.specs.Noting.{contents, next_registers, noted_by, settled_of};
@@ -12,7 +12,7 @@ ghost use Rattle.kex_runner.specs.Quiet.{IsGuide, StaysAt, quiet_at, staying};
 ghost use Rattle.kex_runner.specs.Ways.{AreKnown};
 
 use crate::quiet::{Guide, NOWHERE, Quiet};
-use crate::reading::{Note, Reading, Settled, read_register};
+use crate::reading::{NotedUpdate, Reading, Settled, read_register};
 use crate::spelling::spell;
 use crate::walking::pass_list;
 use crate::ways::Ways;
@@ -21,7 +21,7 @@ use kex_code::code::Code;
 use kex_code::memory::Memory;
 use kex_code::symbol::Symbol;
 use kex_ports::Steps;
-use kex_script::piece::Piece;
+use kex_script::piece::ByteWord;
 use kex_script::script::{Entry, Script};
 use kex_sst::parts::{Part, Update};
 use kex_sst::table::Table;
@@ -42,16 +42,16 @@ const LEAST: usize = 4096;
 pub struct Registers {
     alloc: Global,
     base: Vec<Settled>,
-    notes: Vec<Note>,
+    notes: Vec<NotedUpdate>,
     count: usize,
     limit: usize,
     reading: Reading,
     // Room for what is said.
-    room: Vec<Piece>,
+    room: Vec<ByteWord>,
 }
 
 // The pieces of a register, as they were read.
-fn settled_pieces(alloc: Global, back: &[Piece]) -> Result<Settled, Memory>
+fn settled_pieces(alloc: Global, back: &[ByteWord]) -> Result<Settled, Memory>
     ensures { IfOk result (λ s. s ≡ back.now) }
 {
     let mut pieces = Vec::new(alloc);
@@ -64,7 +64,7 @@ fn settled(
     alloc: Global,
     script: &Script,
     base: &[Settled],
-    notes: &[Note],
+    notes: &[NotedUpdate],
     count: usize,
     most: usize,
     reading: &mut Reading,
@@ -97,7 +97,7 @@ fn pieces_in(base: &[Settled]) -> usize {
 
 // A note is put behind others. There is room mostly: what makes room is apart.
 #[inline(always)]
-fn push(notes: &mut Vec<Note>, note: Note) -> Result<(), Memory>
+fn push(notes: &mut Vec<NotedUpdate>, note: NotedUpdate) -> Result<(), Memory>
     ensures ok { OnOk result (notes.new.items ≡ notes.old.items ++ note ∷ []) }
     ensures err { OnErr result (notes.new.items ≡ notes.old.items) }
 {
@@ -115,7 +115,7 @@ fn stay(
     partition: &Partition,
     row: usize,
     piece: &[u8],
-    notes: &mut Vec<Note>,
+    notes: &mut Vec<NotedUpdate>,
 ) -> usize
     requires row { row + class_count partition.now ≤ length quiets.now }
     requires room { vec_len notes.old + length piece.now ≤ vec_capacity notes.old }
@@ -132,7 +132,7 @@ fn stay(
         if told.row as usize != row {
             break;
         }
-        notes.push_reserved(Note {
+        notes.push_reserved(NotedUpdate {
             lists: told.lists,
             byte,
             stays: true,
@@ -143,7 +143,7 @@ fn stay(
 }
 
 // Only the last note is kept, and no register before it.
-fn cut(last: Note, base: &mut Vec<Settled>, notes: &mut Vec<Note>)
+fn cut(last: NotedUpdate, base: &mut Vec<Settled>, notes: &mut Vec<NotedUpdate>)
     requires { 0 < length notes.old.items }
     ensures base { base.new.items ≡ [] }
     ensures notes { notes.new.items ≡ last ∷ [] }
@@ -164,7 +164,7 @@ fn count_parts<L: Ledger>(parts: &[Part], steps: &mut Steps<L>)
 
 /// Each item of an update is a step.
 pub fn count_items<L: Ledger>(update: &Update, steps: &mut Steps<L>)
-    ensures { steps.new ≡ steps.old + items_of update.now }
+    ensures { steps.new ≡ steps.old + item_count update.now }
 {
     count_parts(update.out().as_slice(), steps);
     let lists = update.regs();
@@ -267,7 +267,7 @@ impl Registers {
             return Ok(());
         }
         self.make_room(script)?;
-        let note = Note {
+        let note = NotedUpdate {
             lists: entry.lists,
             byte,
             stays: false,
@@ -288,7 +288,7 @@ impl Registers {
         ways: &mut Ways,
         lists: u32,
         byte: u8,
-        pieces: &mut Vec<Piece>,
+        pieces: &mut Vec<ByteWord>,
     ) -> Result<(), Memory>
         requires known { AreKnown script.now ways.old }
         ensures known { OnOk result (AreKnown script.now ways.new) }
@@ -317,7 +317,7 @@ impl Registers {
         ways: &mut Ways,
         entry: Entry,
         byte: u8,
-        pieces: &mut Vec<Piece>,
+        pieces: &mut Vec<ByteWord>,
     ) -> Result<(), Memory>
         requires known { AreKnown script.now ways.old }
         requires entry { HasUpdate script.now entry entry.target (change_at script.now entry.lists) }
@@ -366,7 +366,7 @@ impl Registers {
             if quiet.row == NOWHERE {
                 break;
             }
-            notes.push_reserved(Note {
+            notes.push_reserved(NotedUpdate {
                 lists: quiet.lists,
                 byte,
                 stays: false,

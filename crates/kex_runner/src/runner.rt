@@ -3,11 +3,11 @@
 ghost use Rattle.std.specs.Prelude.{◌≡◌, ℕ, ◌+◌, ◌^◌, ◌<◌, ◌≤◌, ◌++◌, [], List, IfOk, OnOk, IsTrue, IsOk, ◌↔◌, true, false, Some, length, take};
 ghost use Rattle.kex_code.specs.declared.symbol.Symbol.{Symbol};
 ghost use Rattle.kex_sst.specs.Passes.{first_pass, passes};
-ghost use Rattle.kex_runner.specs.Running.{Ends, Feeds, IsRunOf, items_taken};
+ghost use Rattle.kex_runner.specs.Running.{RunnerEnds, RunnerFeeds, IsRunOf, items_taken};
 ghost use Rattle.kex_script.specs.Pieces.{code_over};
 ghost use Rattle.kex_script.specs.Scripts.{IsScriptOf};
 ghost use Rattle.kex_runner.specs.Noting.{contents};
-ghost use Rattle.kex_runner.specs.Following.{Follows, IsPlace, IsRunner, pass_at};
+ghost use Rattle.kex_runner.specs.Following.{Follows, IsTablePlace, IsRunner, pass_at};
 ghost use Rattle.kex_runner.specs.Items.{items_along};
 ghost use Rattle.kex_runner.specs.Quiet.{IsGuide};
 ghost use Rattle.kex_runner.specs.Ways.{AreKnown};
@@ -20,7 +20,7 @@ use crate::ways::Ways;
 use kex_code::code::Code;
 use kex_code::memory::Memory;
 use kex_ports::Steps;
-use kex_script::piece::Piece;
+use kex_script::piece::ByteWord;
 use kex_script::script::Script;
 use kex_sst::parts::Parts;
 use kex_sst::table::Table;
@@ -36,7 +36,7 @@ pub struct Runner<'t> {
     guide: Guide,
     ways: Ways,
     state: u32,
-    pending: Vec<Piece>,
+    pending: Vec<ByteWord>,
     registers: Registers,
     read: u64,
     dead: bool,
@@ -68,7 +68,7 @@ fn follow<L: Ledger>(
     state: &mut u32,
     registers: &mut Registers,
     piece: &[u8],
-    pieces: &mut Vec<Piece>,
+    pieces: &mut Vec<ByteWord>,
     steps: &mut Steps<L>,
 ) -> Result<usize, Memory>
     requires runner { IsRunner table.now script.now state.old registers.old }
@@ -94,7 +94,7 @@ fn follow<L: Ledger>(
 // What was pending is put into pieces, and those that were there go. There is seldom some: only then are the two exchanged, since what
 // was written in halves is slow to copy whole.
 #[inline(always)]
-fn hand_over(pending: &mut Vec<Piece>, pieces: &mut Vec<Piece>)
+fn hand_over(pending: &mut Vec<ByteWord>, pieces: &mut Vec<ByteWord>)
     ensures pieces { pieces.new.items ≡ pending.old.items }
     ensures none { pending.new.items ≡ [] }
 {
@@ -127,7 +127,7 @@ fn follow_held(
     state: &mut u32,
     registers: &mut Registers,
     piece: &[u8],
-    pieces: &mut Vec<Piece>,
+    pieces: &mut Vec<ByteWord>,
 ) -> Result<Taken, Memory>
     requires runner { IsRunner table.now guide.now.script state.old registers.old }
     requires guide { IsGuide table.now guide.now }
@@ -173,7 +173,7 @@ fn begin(
     table: &Table,
     script: &Script,
     ways: &mut Ways,
-) -> Result<(Registers, Vec<Piece>), Memory>
+) -> Result<(Registers, Vec<ByteWord>), Memory>
     requires script { IsScriptOf script.now table.now }
     requires known { AreKnown script.now ways.old }
     ensures known { OnOk result (AreKnown script.now ways.new) }
@@ -224,7 +224,7 @@ impl<'t> Runner<'t> {
         requires usable { IsTrue self.old.usable }
         requires open { self.old.ended ≡ false }
         requires room { self.old.read + length piece.now < 2 ^ 64 }
-        ensures fed { IfOk result (λ answer. Feeds answer self.old self.new piece.now code.old code.new) }
+        ensures fed { IfOk result (λ answer. RunnerFeeds answer self.old self.new piece.now code.old code.new) }
         ensures steps { OnOk result (steps.new ≡ steps.old + items_taken self.old piece.now) }
         ensures read { (self.old.read ≤ self.new.read) × (self.new.read ≤ self.old.read + length piece.now) }
         ensures table { self.new.table ≡ self.old.table }
@@ -261,11 +261,11 @@ impl<'t> Runner<'t> {
     /// table stops. What was in `pieces` goes, and what the bytes let it pass on is left there, in words.
     ///
     /// After `Memory` the pieces may be a part of that, and the runner is only dropped.
-    pub fn hold(&mut self, piece: &[u8], pieces: &mut Vec<Piece>) -> Result<Held, Memory>
+    pub fn hold(&mut self, piece: &[u8], pieces: &mut Vec<ByteWord>) -> Result<Held, Memory>
         requires usable { IsTrue self.old.usable }
         requires open { self.old.ended ≡ false }
         requires room { self.old.read + length piece.now < 2 ^ 64 }
-        ensures fed { IfOk result (λ h. Feeds h.fed self.old self.new (take h.taken piece.now) [] (code_over self.old.words pieces.new.items)) }
+        ensures fed { IfOk result (λ h. RunnerFeeds h.fed self.old self.new (take h.taken piece.now) [] (code_over self.old.words pieces.new.items)) }
         ensures taken { IfOk result (λ h. h.taken ≤ length piece.now) }
         ensures some { IfOk result (λ h. 0 < length piece.now → 0 < h.taken) }
         ensures read { (self.old.read ≤ self.new.read) × (self.new.read ≤ self.old.read + length piece.now) }
@@ -308,7 +308,7 @@ impl<'t> Runner<'t> {
     pub fn end(&mut self, code: &mut Code) -> Result<Ended, Memory>
         requires usable { IsTrue self.old.usable }
         requires open { self.old.ended ≡ false }
-        ensures over { IfOk result (λ answer. Ends answer self.old code.old code.new) }
+        ensures over { IfOk result (λ answer. RunnerEnds answer self.old code.old code.new) }
         ensures table { self.new.table ≡ self.old.table }
         ensures words { self.new.words ≡ self.old.words }
         ensures read { self.new.read ≡ self.old.read }
@@ -340,7 +340,7 @@ impl<'t> Runner<'t> {
 
     /// Whether this is the number of a state of its table that has no registers.
     pub fn is_bare(&self, state: u32) -> bool
-        ensures { IsTrue result ↔ IsPlace self.now.table state [] }
+        ensures { IsTrue result ↔ IsTablePlace self.now.table state [] }
     {
         match self.table.states().get(state as usize) {
             None => false,
@@ -350,7 +350,7 @@ impl<'t> Runner<'t> {
 
     /// Goes on to a state without registers, past so many bytes whose code was passed on elsewhere.
     pub fn jump(&mut self, state: u32, bytes: u64)
-        requires place { IsPlace self.old.table state [] }
+        requires place { IsTablePlace self.old.table state [] }
         requires told { self.old.pending ≡ [] }
         requires room { self.old.read + bytes < 2 ^ 64 }
         ensures jumped { self.new ≡ record self.old { state = state; registers = []; read = self.old.read + bytes } }

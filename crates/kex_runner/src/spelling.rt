@@ -2,12 +2,12 @@
 
 ghost use Rattle.std.specs.Prelude.{◌≡◌, ◌++◌, [], OnOk};
 ghost use Rattle.kex_sst.specs.Parts.{parts_code, value};
-ghost use Rattle.kex_script.specs.Pieces.{code_over, word_of};
+ghost use Rattle.kex_script.specs.Pieces.{code_over, word_code};
 
 use kex_code::code::Code;
 use kex_code::memory::Memory;
 use kex_code::symbol::Symbol;
-use kex_script::piece::Piece;
+use kex_script::piece::ByteWord;
 use kex_sst::parts::{Part, Parts};
 
 // What a part of a word stands for goes to the end of a code. A word has no old registers.
@@ -32,8 +32,8 @@ fn spell_word(word: &[Part], byte: u8, code: &mut Code) -> Result<(), Memory>
 }
 
 // What a piece stands for goes to the end of a code.
-fn spell_piece(words: &[Parts], piece: Piece, code: &mut Code) -> Result<(), Memory>
-    ensures { OnOk result (code.new ≡ code.old ++ word_of words.now piece) }
+fn spell_piece(words: &[Parts], piece: ByteWord, code: &mut Code) -> Result<(), Memory>
+    ensures { OnOk result (code.new ≡ code.old ++ word_code words.now piece) }
 {
     match words.get(piece.word as usize) {
         None => Ok(()),
@@ -42,7 +42,7 @@ fn spell_piece(words: &[Parts], piece: Piece, code: &mut Code) -> Result<(), Mem
 }
 
 /// What pieces stand for goes to the end of a code.
-pub fn spell(words: &[Parts], pieces: &[Piece], code: &mut Code) -> Result<(), Memory>
+pub fn spell(words: &[Parts], pieces: &[ByteWord], code: &mut Code) -> Result<(), Memory>
     ensures { OnOk result (code.new ≡ code.old ++ code_over words.now pieces.now) }
 {
     for piece in pieces {

@@ -3,23 +3,23 @@
 ghost use Rattle.std.specs.Prelude.{◌≡◌, ◌≢◌, ◌+◌, ◌-◌, ◌≤◌, ◌<◌, ◌++◌, ◌∷◌, [], List, All, IfOk, IfSome, OnOk, length, get_or, slice_get, take, drop, reverse};
 ghost use Rattle.kex_sst.specs.declared.parts.Part.{Part};
 ghost use Rattle.kex_sst.specs.Parts.{parts_code, value};
-ghost use Rattle.kex_script.specs.declared.piece.Piece.{Piece};
+ghost use Rattle.kex_script.specs.declared.piece.ByteWord.{ByteWord};
 ghost use Rattle.kex_script.specs.Pieces.{code_over};
 ghost use Rattle.kex_script.specs.Scripts.{IsWord, Sheet, list_at};
 ghost use Rattle.kex_runner.specs.Noting.{noted_by, registers_after, settled_of, spelled_back, updates_of};
-ghost use Rattle.kex_runner.specs.Ways.{AreKnown, AreOlds, HasWalked, IsSplit, IsStep, IsStepIf, IsWay};
+ghost use Rattle.kex_runner.specs.Ways.{AreKnown, AreOlds, HasWalked, IsSplit, IsWayStep, IsStepIf, IsNumberedWay};
 
-use crate::reading::{Note, Reading, Settled, ask, look_up, read_list};
-use crate::ways::{Split, Step, Ways, known_step};
+use crate::reading::{NotedUpdate, Reading, Settled, ask, look_up, read_list};
+use crate::ways::{Split, WayStep, Ways, known_step};
 use kex_code::memory::Memory;
-use kex_script::piece::Piece;
+use kex_script::piece::ByteWord;
 use kex_script::script::Script;
 use kex_sst::parts::Part;
 use std::mem;
 
 /// A way over what the registers were after so many notes, and where the pieces begin that stand behind it.
 #[derive(Clone, Copy)]
-pub struct Place {
+pub struct WalkPoint {
     pub way: u16,
     pub last: u32,
     pub after: usize,
@@ -28,7 +28,7 @@ pub struct Place {
 
 // A word is put before the pieces that begin at a place, if there is one. Tells where they begin then.
 #[inline(always)]
-fn say(word: Option<u16>, byte: u8, room: &mut [Piece], start: usize) -> usize
+fn say(word: Option<u16>, byte: u8, room: &mut [ByteWord], start: usize) -> usize
     requires some { 0 < start }
     requires within { start ≤ length room.old }
     ensures said { (words : List (List Part)) (w : List Part) → IsWord words word w → code_over words (drop result room.new) ≡ parts_code [] byte w ++ code_over words (drop start room.old) }
@@ -50,7 +50,13 @@ fn say(word: Option<u16>, byte: u8, room: &mut [Piece], start: usize) -> usize
 
 // Goes back along notes of one update, before which a way stays the same, up to another.
 #[inline(always)]
-fn stay(split: Split, lists: u32, notes: &[Note], first: Place, room: &mut [Piece]) -> Place
+fn stay(
+    split: Split,
+    lists: u32,
+    notes: &[NotedUpdate],
+    first: WalkPoint,
+    room: &mut [ByteWord],
+) -> WalkPoint
     requires after { first.after ≤ length notes.now }
     requires room { first.after ≤ first.start }
     requires within { first.start ≤ length room.old }
@@ -58,7 +64,7 @@ fn stay(split: Split, lists: u32, notes: &[Note], first: Place, room: &mut [Piec
     ensures other { 0 < result.after → IfSome (slice_get notes.now (result.after - 1)) (λ n. n.lists ≢ lists) }
     ensures room { result.after ≤ result.start }
     ensures within { result.start ≤ length room.new }
-    ensures walked { (s : Sheet) (ways : List (List Part)) (way : List Part) (x : List Piece) → split.way ≡ first.way → IsStep s ways first.way lists split
+    ensures walked { (s : Sheet) (ways : List (List Part)) (way : List Part) (x : List ByteWord) → split.way ≡ first.way → IsWayStep s ways first.way lists split
         → HasWalked s ways (updates_of s notes.now) way first x (drop first.start room.old) → HasWalked s ways (updates_of s notes.now) way result x (drop result.start room.new) }
 {
     let mut place = first;
@@ -68,7 +74,7 @@ fn stay(split: Split, lists: u32, notes: &[Note], first: Place, room: &mut [Piec
             break;
         }
         let start = say(split.word, note.byte, room, place.start);
-        place = Place {
+        place = WalkPoint {
             after: place.after - 1,
             start,
             ..place
@@ -79,13 +85,18 @@ fn stay(split: Split, lists: u32, notes: &[Note], first: Place, room: &mut [Piec
 
 // Goes back along notes, as far as it is known what the way was. What is said is put before the pieces that are there.
 #[inline(never)]
-fn walk_known(steps: &[Step], notes: &[Note], first: Place, room: &mut [Piece]) -> Place
+fn walk_known(
+    steps: &[WayStep],
+    notes: &[NotedUpdate],
+    first: WalkPoint,
+    room: &mut [ByteWord],
+) -> WalkPoint
     requires after { first.after ≤ length notes.now }
     requires room { first.after ≤ first.start }
     requires within { first.start ≤ length room.old }
     ensures room { result.after ≤ result.start }
     ensures within { result.start ≤ length room.new }
-    ensures walked { (s : Sheet) (ways : List (List Part)) (way : List Part) (x : List Piece) → All (IsStepIf s ways) steps.now → HasWalked s ways (updates_of s notes.now) way first x (drop first.start room.old) → HasWalked s ways (updates_of s notes.now) way result x (drop result.start room.new) }
+    ensures walked { (s : Sheet) (ways : List (List Part)) (way : List Part) (x : List ByteWord) → All (IsStepIf s ways) steps.now → HasWalked s ways (updates_of s notes.now) way first x (drop first.start room.old) → HasWalked s ways (updates_of s notes.now) way result x (drop result.start room.new) }
 {
     let mut place = first;
     'notes: while place.after > 0 {
@@ -95,7 +106,7 @@ fn walk_known(steps: &[Step], notes: &[Note], first: Place, room: &mut [Piece]) 
         };
         let start = say(split.word, note.byte, room, place.start);
         let stays = note.stays && split.way == place.way;
-        place = Place {
+        place = WalkPoint {
             way: split.way,
             last: split.last,
             after: place.after - 1,
@@ -112,20 +123,20 @@ fn walk_known(steps: &[Step], notes: &[Note], first: Place, room: &mut [Piece]) 
 fn walk(
     script: &Script,
     ways: &mut Ways,
-    notes: &[Note],
-    first: Place,
-    room: &mut [Piece],
-) -> Result<Place, Memory>
+    notes: &[NotedUpdate],
+    first: WalkPoint,
+    room: &mut [ByteWord],
+) -> Result<WalkPoint, Memory>
     requires known { AreKnown script.now ways.old }
-    requires way { (to : List Part) × IsWay ways.old.lists first.way to }
+    requires way { (to : List Part) × IsNumberedWay ways.old.lists first.way to }
     requires after { first.after ≤ length notes.now }
     requires room { first.after ≤ first.start }
     requires within { first.start ≤ length room.old }
     ensures known { OnOk result (AreKnown script.now ways.new) }
-    ensures way { IfOk result (λ p. (to : List Part) × IsWay ways.new.lists p.way to) }
+    ensures way { IfOk result (λ p. (to : List Part) × IsNumberedWay ways.new.lists p.way to) }
     ensures after { IfOk result (λ p. p.after ≤ length notes.now) }
     ensures within { IfOk result (λ p. p.start ≤ length room.new) }
-    ensures walked { IfOk result (λ p. (from : List Part) (x : List Piece) → HasWalked script.now ways.old.lists (updates_of script.now notes.now) from first x (drop first.start room.old) → HasWalked script.now ways.new.lists (updates_of script.now notes.now) from p x (drop p.start room.new)) }
+    ensures walked { IfOk result (λ p. (from : List Part) (x : List ByteWord) → HasWalked script.now ways.old.lists (updates_of script.now notes.now) from first x (drop first.start room.old) → HasWalked script.now ways.new.lists (updates_of script.now notes.now) from p x (drop p.start room.new)) }
 {
     let mut place = first;
     'notes: while place.after > 0 && place.way != 0 {
@@ -134,7 +145,7 @@ fn walk(
             return Ok(place);
         };
         let start = say(split.word, note.byte, room, place.start);
-        place = Place {
+        place = WalkPoint {
             way: split.way,
             last: split.last,
             after: place.after - 1,
@@ -148,7 +159,7 @@ fn walk(
 fn read_old(
     script: &Script,
     base: &[Settled],
-    notes: &[Note],
+    notes: &[NotedUpdate],
     after: usize,
     part: Part,
     reading: &mut Reading,
@@ -171,7 +182,7 @@ fn read_old(
 fn read_way(
     script: &Script,
     base: &[Settled],
-    notes: &[Note],
+    notes: &[NotedUpdate],
     after: usize,
     way: &[Part],
     reading: &mut Reading,
@@ -189,7 +200,7 @@ fn read_way(
 }
 
 // What was read is put behind pieces, in its order. Where there are none it isn't copied.
-fn hand_on(back: &mut Vec<Piece>, pieces: &mut Vec<Piece>) -> Result<(), Memory>
+fn hand_on(back: &mut Vec<ByteWord>, pieces: &mut Vec<ByteWord>) -> Result<(), Memory>
     ensures { OnOk result (pieces.new.items ≡ pieces.old.items ++ reverse back.old.items) }
 {
     back.reverse();
@@ -206,11 +217,11 @@ fn hand_on(back: &mut Vec<Piece>, pieces: &mut Vec<Piece>) -> Result<(), Memory>
 fn pass_read(
     script: &Script,
     base: &[Settled],
-    notes: &[Note],
+    notes: &[NotedUpdate],
     list: u32,
     byte: u8,
     reading: &mut Reading,
-    pieces: &mut Vec<Piece>,
+    pieces: &mut Vec<ByteWord>,
 ) -> Result<(), Memory>
     ensures { OnOk result (code_over script.now.words pieces.new.items ≡ code_over script.now.words pieces.old.items ++ parts_code (noted_by script.now base.now notes.now) byte (list_at script.now list)) }
 {
@@ -223,12 +234,12 @@ fn pass_read(
 fn pass_way(
     script: &Script,
     base: &[Settled],
-    notes: &[Note],
+    notes: &[NotedUpdate],
     after: usize,
     way: &[Part],
-    said: &[Piece],
+    said: &[ByteWord],
     reading: &mut Reading,
-    pieces: &mut Vec<Piece>,
+    pieces: &mut Vec<ByteWord>,
 ) -> Result<(), Memory>
     requires after { after ≤ length notes.now }
     requires olds { AreOlds way.now }
@@ -247,19 +258,19 @@ fn pass_rest(
     script: &Script,
     ways: &mut Ways,
     base: &[Settled],
-    notes: &[Note],
-    first: Place,
+    notes: &[NotedUpdate],
+    first: WalkPoint,
     reading: &mut Reading,
-    room: &mut [Piece],
-    pieces: &mut Vec<Piece>,
+    room: &mut [ByteWord],
+    pieces: &mut Vec<ByteWord>,
 ) -> Result<(), Memory>
     requires known { AreKnown script.now ways.old }
-    requires way { (to : List Part) × IsWay ways.old.lists first.way to }
+    requires way { (to : List Part) × IsNumberedWay ways.old.lists first.way to }
     requires after { first.after ≤ length notes.now }
     requires room { first.after ≤ first.start }
     requires within { first.start ≤ length room.old }
     ensures known { OnOk result (AreKnown script.now ways.new) }
-    ensures passed { OnOk result ((from : List Part) (x : List Piece) → HasWalked script.now ways.old.lists (updates_of script.now notes.now) from first x (drop first.start room.old)
+    ensures passed { OnOk result ((from : List Part) (x : List ByteWord) → HasWalked script.now ways.old.lists (updates_of script.now notes.now) from first x (drop first.start room.old)
         → code_over script.now.words pieces.new.items ≡ code_over script.now.words pieces.old.items ++ (parts_code (noted_by script.now base.now notes.now) 0 from ++ code_over script.now.words x)) }
 {
     let place = walk(script, ways, notes, first, room)?;
@@ -277,12 +288,12 @@ fn pass_split(
     script: &Script,
     ways: &mut Ways,
     base: &[Settled],
-    notes: &[Note],
+    notes: &[NotedUpdate],
     split: Split,
     byte: u8,
     reading: &mut Reading,
-    room: &mut [Piece],
-    pieces: &mut Vec<Piece>,
+    room: &mut [ByteWord],
+    pieces: &mut Vec<ByteWord>,
 ) -> Result<(), Memory>
     requires known { AreKnown script.now ways.old }
     requires split { (list : List Part) × IsSplit script.now.words ways.old.lists split list }
@@ -292,7 +303,7 @@ fn pass_split(
 {
     let end = room.len();
     let start = say(split.word, byte, room, end);
-    let first = Place {
+    let first = WalkPoint {
         way: split.way,
         last: split.last,
         after: notes.len(),
@@ -308,16 +319,16 @@ fn pass_split(
 
 // Makes room for so many pieces.
 #[inline(never)]
-fn grow(room: &mut Vec<Piece>, count: usize) -> Result<(), Memory>
+fn grow(room: &mut Vec<ByteWord>, count: usize) -> Result<(), Memory>
     ensures { OnOk result (count ≤ length room.new.items) }
 {
-    room.resize(count, Piece { word: 0, byte: 0 })?;
+    room.resize(count, ByteWord { word: 0, byte: 0 })?;
     Ok(())
 }
 
 // There is room for so many pieces.
 #[inline(always)]
-fn make_room(room: &mut Vec<Piece>, count: usize) -> Result<(), Memory>
+fn make_room(room: &mut Vec<ByteWord>, count: usize) -> Result<(), Memory>
     ensures { OnOk result (count ≤ length room.new.items) }
 {
     if room.len() < count {
@@ -331,12 +342,12 @@ pub fn pass_list(
     script: &Script,
     ways: &mut Ways,
     base: &[Settled],
-    notes: &[Note],
+    notes: &[NotedUpdate],
     list: u32,
     byte: u8,
     reading: &mut Reading,
-    room: &mut Vec<Piece>,
-    pieces: &mut Vec<Piece>,
+    room: &mut Vec<ByteWord>,
+    pieces: &mut Vec<ByteWord>,
 ) -> Result<(), Memory>
     requires known { AreKnown script.now ways.old }
     ensures known { OnOk result (AreKnown script.now ways.new) }

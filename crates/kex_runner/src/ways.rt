@@ -3,9 +3,9 @@
 ghost use Rattle.std.specs.Prelude.{◌≡◌, ◌+◌, ◌^◌, ◌<◌, ◌≤◌, ◌++◌, ◌∷◌, [], List, All, IsTrue, IfOk, IfSome, OnOk, length, drop, false, true, get_or, Some};
 ghost use Rattle.kex_sst.specs.declared.parts.Part.{Part};
 ghost use Rattle.kex_sst.specs.Parts.{olds};
-ghost use Rattle.kex_script.specs.Pages.{Keeps};
+ghost use Rattle.kex_script.specs.Pages.{KeepsItems};
 ghost use Rattle.kex_script.specs.Scripts.{IsWord, Sheet, change_at, list_at};
-ghost use Rattle.kex_runner.specs.Ways.{AreKnown, AreOlds, HasStart, HasStep, IsSplit, IsStart, IsStep, IsStepIf, IsWay, composition, split_in};
+ghost use Rattle.kex_runner.specs.Ways.{AreKnown, AreOlds, HasStart, HasStep, IsSplit, IsStart, IsWayStep, IsStepIf, IsNumberedWay, composition, split_in};
 
 use kex_code::memory::Memory;
 use kex_script::interned::Interned;
@@ -29,7 +29,7 @@ pub struct Split {
 
 /// What a list of the script is, if it is a way and a word. List 0 is none.
 #[derive(Clone, Copy, Debug, PartialEq, Eq)]
-pub struct Start {
+pub struct WayStart {
     pub list: u32,
     pub split: Option<Split>,
 }
@@ -45,7 +45,7 @@ pub enum Form {
 /// What a way was before an update: its form, and the way and the word, as far as the form has them. Plain numbers, since one is read for
 /// each note.
 #[derive(Clone, Copy, Debug, PartialEq, Eq)]
-pub struct Step {
+pub struct WayStep {
     pub lists: u32,
     pub last: u32,
     pub from: u16,
@@ -58,8 +58,8 @@ pub struct Step {
 #[derive(Drop)]
 pub struct Ways {
     lists: Interned,
-    starts: Vec<Start>,
-    steps: Vec<Step>,
+    starts: Vec<WayStart>,
+    steps: Vec<WayStep>,
     // Room for parts that are joined.
     parts: Vec<Part>,
 }
@@ -142,7 +142,7 @@ pub fn split_of(
     parts: &[Part],
 ) -> Result<Option<Split>, Memory>
     ensures split { IfOk result (λ o. IfSome o (λ x. IsSplit words.now ways.new x parts.now)) }
-    ensures kept { OnOk result (Keeps ways.old ways.new) }
+    ensures kept { OnOk result (KeepsItems ways.old ways.new) }
 {
     let start = word_start(parts);
     if ways.len() >= MOST || !are_olds(&parts[..start]) {
@@ -199,12 +199,12 @@ fn place_of(last: u32, lists: u32) -> usize
     lists as usize + last as usize
 }
 
-impl Step {
+impl WayStep {
     ghost use Rattle.std.specs.Prelude.{◌≡◌};
     ghost use Rattle.kex_runner.specs.Ways.{split_in};
 
     // What a way was before an update.
-    fn new(from: u16, lists: u32, split: Option<Split>) -> Step
+    fn new(from: u16, lists: u32, split: Option<Split>) -> WayStep
         ensures { (result.from ≡ from) × (result.lists ≡ lists) × (split_in result ≡ split) }
     {
         let (split, word, form) = match split {
@@ -222,7 +222,7 @@ impl Step {
                 Some(word) => (split, word, Form::Said),
             },
         };
-        Step {
+        WayStep {
             lists,
             last: split.last,
             from,
@@ -255,8 +255,8 @@ impl Step {
 
 // The step of a way before an update, if it is kept.
 #[inline(always)]
-fn kept(steps: &[Step], way: u16, last: u32, lists: u32) -> Option<Step>
-    ensures step { IfSome result (λ x. (s : Sheet) (ways : List (List Part)) → All (IsStepIf s ways) steps.now → IfSome (split_in x) (λ y. IsStep s ways way lists y)) }
+fn kept(steps: &[WayStep], way: u16, last: u32, lists: u32) -> Option<WayStep>
+    ensures step { IfSome result (λ x. (s : Sheet) (ways : List (List Part)) → All (IsStepIf s ways) steps.now → IfSome (split_in x) (λ y. IsWayStep s ways way lists y)) }
     ensures kept { IfSome result (λ x. HasStep steps.now way last lists (split_in x)) }
 {
     let step = *steps.get(place_of(last, lists))?;
@@ -269,8 +269,8 @@ fn kept(steps: &[Step], way: u16, last: u32, lists: u32) -> Option<Step>
 
 /// What a way was before an update, as a way and a word, if that is known.
 #[inline(always)]
-pub fn known_step(steps: &[Step], way: u16, last: u32, lists: u32) -> Option<Split>
-    ensures { IfSome result (λ x. (s : Sheet) (ways : List (List Part)) → All (IsStepIf s ways) steps.now → IsStep s ways way lists x) }
+pub fn known_step(steps: &[WayStep], way: u16, last: u32, lists: u32) -> Option<Split>
+    ensures { IfSome result (λ x. (s : Sheet) (ways : List (List Part)) → All (IsStepIf s ways) steps.now → IsWayStep s ways way lists x) }
 {
     kept(steps, way, last, lists)?.split()
 }
@@ -283,11 +283,11 @@ impl Ways {
     {
         let mut lists = Interned::new(alloc);
         lists.add(&[])?;
-        let start = Start {
+        let start = WayStart {
             list: 0,
             split: None,
         };
-        let step = Step::new(0, 0, None);
+        let step = WayStep::new(0, 0, None);
         let far = script.rows() > NEAR;
         Ok(Ways {
             lists,
@@ -306,7 +306,7 @@ impl Ways {
 
     /// The steps that are known.
     #[inline(always)]
-    pub fn steps(&self) -> &[Step]
+    pub fn steps(&self) -> &[WayStep]
         ensures { result.now ≡ self.now.steps.items }
     {
         &self.steps
@@ -314,7 +314,7 @@ impl Ways {
 
     // What is known of a list.
     #[inline(always)]
-    fn known_start(&self, list: u32) -> Option<Start>
+    fn known_start(&self, list: u32) -> Option<WayStart>
         requires { 0 < list }
         ensures split { IfSome result (λ x. (s : Sheet) → AreKnown s self.now → IfSome x.split (λ y. IsSplit s.words self.now.lists y (list_at s list))) }
         ensures kept { IfSome result (λ x. HasStart self.now.starts.items list x.split) }
@@ -340,7 +340,7 @@ impl Ways {
         let split = split_of(script.words(), &mut self.lists, parts)?;
         let place = list as usize;
         if place < self.starts.len() {
-            self.starts[place] = Start { list, split };
+            self.starts[place] = WayStart { list, split };
         }
         Ok(split)
     }
@@ -372,10 +372,10 @@ impl Ways {
         lists: u32,
     ) -> Result<Option<Split>, Memory>
         requires known { AreKnown script.now self.old }
-        requires way { (from : List Part) × IsWay self.old.lists way from }
+        requires way { (from : List Part) × IsNumberedWay self.old.lists way from }
         ensures known { OnOk result (AreKnown script.now self.new) }
-        ensures kept { OnOk result (Keeps self.old.lists self.new.lists) }
-        ensures step { IfOk result (λ o. IfSome o (λ x. IsStep script.now self.new.lists way lists x)) }
+        ensures kept { OnOk result (KeepsItems self.old.lists self.new.lists) }
+        ensures step { IfOk result (λ o. IfSome o (λ x. IsWayStep script.now self.new.lists way lists x)) }
         ensures learnt { IfOk result (λ o. HasStep self.new.steps.items way last lists o) }
     {
         compose(
@@ -387,7 +387,7 @@ impl Ways {
         let split = split_of(script.words(), &mut self.lists, &self.parts)?;
         let place = place_of(last, lists);
         if place < self.steps.len() {
-            self.steps[place] = Step::new(way, lists, split);
+            self.steps[place] = WayStep::new(way, lists, split);
         }
         Ok(split)
     }
@@ -401,11 +401,11 @@ impl Ways {
         lists: u32,
     ) -> Result<Option<Split>, Memory>
         requires known { AreKnown script.now self.old }
-        requires way { (from : List Part) × IsWay self.old.lists way from }
+        requires way { (from : List Part) × IsNumberedWay self.old.lists way from }
         requires some { 0 < way }
         ensures known { OnOk result (AreKnown script.now self.new) }
-        ensures kept { OnOk result (Keeps self.old.lists self.new.lists) }
-        ensures step { IfOk result (λ o. IfSome o (λ x. IsStep script.now self.new.lists way lists x)) }
+        ensures kept { OnOk result (KeepsItems self.old.lists self.new.lists) }
+        ensures step { IfOk result (λ o. IfSome o (λ x. IsWayStep script.now self.new.lists way lists x)) }
         ensures learnt { IfOk result (λ o. HasStep self.new.steps.items way last lists o) }
     {
         match kept(&self.steps, way, last, lists) {

@@ -15,13 +15,13 @@ pub record Pages : Type 0 where
   pub rows : List ℕ
 
 -- what stands in the first list stands there in the second
-abbrev pub Keeps : {A : Type 0} → List A → List A → Type 0
-Keeps {A} xs ys = (k : ℕ) (x : A) → slice_get xs k ≡ Some x → slice_get ys k ≡ Some x
+abbrev pub KeepsItems : {A : Type 0} → List A → List A → Type 0
+KeepsItems {A} xs ys = (k : ℕ) (x : A) → slice_get xs k ≡ Some x → slice_get ys k ≡ Some x
 
 -- lists and rows stay where they are
-pub record Grows (old new : Pages) : Type 0 where
-  pub lists : Keeps old.lists new.lists
-  pub rows : Keeps old.rows new.rows
+pub record PagesGrow (old new : Pages) : Type 0 where
+  pub lists : KeepsItems old.lists new.lists
+  pub rows : KeepsItems old.rows new.rows
 
 abbrev pub AreSound : Pages → Type 0
 AreSound p = AreTails p.words p.lists p.tails

@@ -1,7 +1,7 @@
 // Lists of parts by number.
 
 ghost use Rattle.std.specs.Prelude.{◌≡◌, ◌∷◌, ◌++◌, length, [], Some, IfOk, OnOk, IfSome, get_or, slice_get};
-ghost use Rattle.kex_script.specs.Pages.{Keeps};
+ghost use Rattle.kex_script.specs.Pages.{KeepsItems};
 
 use indexmap::IndexMap;
 use kex_code::memory::Memory;
@@ -85,7 +85,7 @@ impl Interned {
     /// A number of these parts.
     pub fn number(&mut self, parts: &[Part]) -> Result<u32, Memory>
         ensures number { IfOk result (λ n. slice_get self.new n ≡ Some parts.now) }
-        ensures kept { OnOk result (Keeps self.old self.new) }
+        ensures kept { OnOk result (KeepsItems self.old self.new) }
     {
         match self.find(parts) {
             Some(number) => Ok(number),

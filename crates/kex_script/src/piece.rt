@@ -2,7 +2,7 @@
 
 /// The number of a word in a list of words, and the byte that the word's `Input` stands for.
 #[derive(Clone, Copy, Debug, PartialEq, Eq)]
-pub struct Piece {
+pub struct ByteWord {
     pub word: u32,
     pub byte: u8,
 }

@@ -1,7 +1,7 @@
 // Rows of numbers, one behind the other.
 
 ghost use Rattle.std.specs.Prelude.{◌≡◌, ◌≤◌, ◌∷◌, ◌++◌, [], true, IfOk, IfSome, OnOk, length, take, drop};
-ghost use Rattle.kex_script.specs.Pages.{Keeps};
+ghost use Rattle.kex_script.specs.Pages.{KeepsItems};
 
 use indexmap::IndexMap;
 use kex_code::memory::Memory;
@@ -36,7 +36,7 @@ fn hash_of(row: &[u32]) -> u64 {
 
 // Whether a row stands at the front of numbers.
 fn begins_with(numbers: &[u32], row: &[u32]) -> bool
-    ensures { result ≡ true → Keeps row.now numbers.now }
+    ensures { result ≡ true → KeepsItems row.now numbers.now }
 {
     if numbers.len() < row.len() {
         return false;
@@ -73,7 +73,7 @@ impl Rows {
     // Where the row that begins at a place stands before it, if that is found.
     fn find(&self, at: usize) -> Option<u32>
         requires { at ≤ length self.now }
-        ensures { IfSome result (λ place. Keeps (drop at self.now) (drop place (take at self.now))) }
+        ensures { IfSome result (λ place. KeepsItems (drop at self.now) (drop place (take at self.now))) }
     {
         let row = &self.numbers[at..];
         let place = *self.places.get(&hash_of(row))?;
@@ -88,8 +88,8 @@ impl Rows {
     /// The row that begins at a place goes, where an equal one stands before it. Tells where it stands.
     pub fn share(&mut self, at: u32) -> Result<u32, Memory>
         requires { at ≤ length self.old }
-        ensures row { IfOk result (λ place. Keeps (drop at self.old) (drop place self.new)) }
-        ensures before { OnOk result (Keeps (take at self.old) self.new) }
+        ensures row { IfOk result (λ place. KeepsItems (drop at self.old) (drop place self.new)) }
+        ensures before { OnOk result (KeepsItems (take at self.old) self.new) }
     {
         match self.find(at as usize) {
             Some(place) => {

@@ -5,7 +5,7 @@ ghost use Rattle.kex_sst.specs.Parts.{olds, olds_in};
 ghost use Rattle.kex_sst.specs.Tables.{Row};
 ghost use Rattle.kex_sst.specs.declared.table.Transition.{Transition};
 ghost use Rattle.kex_script.specs.Scripts.{IsWord};
-ghost use Rattle.kex_script.specs.Pages.{AreEntries, AreListsAt, AreSound, Grows, HasRow, HasRowIf, IsJoined, IsListAt, IsRow, IsSegment, Keeps};
+ghost use Rattle.kex_script.specs.Pages.{AreEntries, AreListsAt, AreSound, PagesGrow, HasRow, HasRowIf, IsJoined, IsListAt, IsRow, IsSegment, KeepsItems};
 
 use crate::interned::Interned;
 use crate::rows::Rows;
@@ -118,7 +118,7 @@ fn first_segment(parts: &[Part]) -> Segment
 // The number of a word, if it has parts.
 fn word_number(words: &mut Interned, word: &[Part]) -> Result<Option<u32>, Memory>
     ensures number { IfOk result (λ n. IsWord words.new n word.now) }
-    ensures kept { OnOk result (Keeps words.old words.new) }
+    ensures kept { OnOk result (KeepsItems words.old words.new) }
 {
     if word.is_empty() {
         return Ok(None);
@@ -160,7 +160,7 @@ impl Writer {
         requires joined { IsJoined self.old.lists before old word.now whole.now }
         ensures number { IfOk result (λ n. slice_get self.new.lists n ≡ Some whole.now) }
         ensures sound { OnOk result (AreSound self.new) }
-        ensures grown { OnOk result (Grows self.old self.new) }
+        ensures grown { OnOk result (PagesGrow self.old self.new) }
         ensures rows { self.new.rows ≡ self.old.rows }
     {
         if let Some(number) = self.lists.find(whole) {
@@ -177,7 +177,7 @@ impl Writer {
         requires sound { AreSound self.old }
         ensures number { IfOk result (λ n. slice_get self.new.lists n ≡ Some parts.now) }
         ensures sound { OnOk result (AreSound self.new) }
-        ensures grown { OnOk result (Grows self.old self.new) }
+        ensures grown { OnOk result (PagesGrow self.old self.new) }
         ensures rows { self.new.rows ≡ self.old.rows }
     {
         if let Some(number) = self.lists.find(parts) {
@@ -201,7 +201,7 @@ impl Writer {
         ensures at { OnOk result (IsListAt self.new (length self.old.rows) parts.now) }
         ensures count { OnOk result (length self.new.rows ≡ length self.old.rows + 1) }
         ensures sound { OnOk result (AreSound self.new) }
-        ensures grown { OnOk result (Grows self.old self.new) }
+        ensures grown { OnOk result (PagesGrow self.old self.new) }
     {
         let number = self.list(parts)?;
         self.rows.push(number)?;
@@ -213,7 +213,7 @@ impl Writer {
         requires sound { AreSound self.old }
         ensures at { OnOk result (AreListsAt self.new (length self.old.rows) (length lists.now) lists.now) }
         ensures sound { OnOk result (AreSound self.new) }
-        ensures grown { OnOk result (Grows self.old self.new) }
+        ensures grown { OnOk result (PagesGrow self.old self.new) }
     {
         for list in lists {
             self.put(list.as_slice())?;
@@ -226,7 +226,7 @@ impl Writer {
         requires sound { AreSound self.old }
         ensures row { IfOk result (λ at. IsRow self.new at update.now) }
         ensures sound { OnOk result (AreSound self.new) }
-        ensures grown { OnOk result (Grows self.old self.new) }
+        ensures grown { OnOk result (PagesGrow self.old self.new) }
     {
         let Ok(at) = u32::try_from(self.rows.len()) else {
             return Err(Memory);
@@ -245,7 +245,7 @@ impl Writer {
         requires sound { AreSound self.old }
         ensures entry { IfOk result (λ e. HasRow self.new e target update.now) }
         ensures sound { OnOk result (AreSound self.new) }
-        ensures grown { OnOk result (Grows self.old self.new) }
+        ensures grown { OnOk result (PagesGrow self.old self.new) }
     {
         let Ok(registers) = u32::try_from(update.regs().len()) else {
             return Err(Memory);
@@ -265,7 +265,7 @@ impl Writer {
         requires sound { AreSound self.old }
         ensures entry { IfOk result (λ e. HasRowIf self.new e transition.now) }
         ensures sound { OnOk result (AreSound self.new) }
-        ensures grown { OnOk result (Grows self.old self.new) }
+        ensures grown { OnOk result (PagesGrow self.old self.new) }
     {
         match transition {
             None => Ok(Entry::none()),
@@ -278,7 +278,7 @@ impl Writer {
         requires sound { AreSound self.old }
         ensures entries { OnOk result ((before : List (Option Transition)) → AreEntries self.old entries.old.items before → AreEntries self.new entries.new.items (before ++ go.now)) }
         ensures sound { OnOk result (AreSound self.new) }
-        ensures grown { OnOk result (Grows self.old self.new) }
+        ensures grown { OnOk result (PagesGrow self.old self.new) }
     {
         for transition in go {
             let entry = self.entry(transition)?;
@@ -292,7 +292,7 @@ impl Writer {
         requires sound { AreSound self.old }
         ensures entries { IfOk result (λ es. AreEntries self.new es.items (flat_map (λ (s : Row). s.go) states.now)) }
         ensures sound { OnOk result (AreSound self.new) }
-        ensures grown { OnOk result (Grows self.old self.new) }
+        ensures grown { OnOk result (PagesGrow self.old self.new) }
     {
         let mut entries = Vec::new(alloc);
         for state in states {

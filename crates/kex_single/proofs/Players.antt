@@ -5,18 +5,18 @@ use Rattle.std.proofs.lemmas.List.{take_all}
 use Rattle.kex_code.specs.declared.symbol.Symbol.{Symbol}
 use Rattle.kex_code.specs.declared.symbol.Symbol.TheVariants.{L, R, Byte}
 use Rattle.kex_code.specs.Codes.{Begins}
-use Rattle.kex_code.specs.Readers.{HasRead, ReadOn, Reading}
+use Rattle.kex_code.specs.Readers.{ReaderHasRead, ReadOn, CodeReading}
 use Rattle.kex_code.specs.Texts.{BeginsText, IsBegun, IsCode, text_of}
 use Rattle.kex_code.proofs.Texts.{spells_begins, text_of-append}
 use Rattle.kex_model.proofs.OpenAnswers.{shorter_front}
 use Rattle.kex_machine.specs.Nodes.{Graph}
 use Rattle.kex_machine.specs.Answers.{IsRun, left_by}
-use Rattle.kex_action.specs.Actors.{BeginsRun, HasPerformed, IsSettled, IsWhole, Position, TookAll}
+use Rattle.kex_action.specs.Actors.{BeginsRun, HasPerformed, IsSettled, IsWholeCode, Position, TookAll}
 use Rattle.kex_pipe.specs.Working.{CameToEnd, ReadMore}
 use Rattle.kex_single.specs.Plays.{ClosesPlayed, HasNext, IsBadByte, LongestCode, PlaysOn, SaysPlayed, StopsIn, WritesRun}
 use Rattle.kex_single.specs.PlayLaws.{code_behind, further, longer_code}
 use Rattle.kex_single.specs.PlayedLaws.{front}
-use Rattle.kex_single.specs.Playing.{BadAt, IsWholeOf, PlayFollows, Refuses, TakesText}
+use Rattle.kex_single.specs.Playing.{BadAt, IsWholeOf, PlayFollows, RefusesSymbol, TakesText}
 
 code_front : (c d : List Symbol) → IsCode (c ++ d) → IsCode c
 code_front [] d h = tt
@@ -55,7 +55,7 @@ less : (m n : ℕ) → (n < m → ⊥) → m ≤ n
 less m n h = omega arith
 
 -- the longest code is the one behind which there is no whole symbol
-longest_by : (g : Graph) (u : List ℕ) (c : List Symbol) → IsCode c → Begins u (text_of c) → BeginsRun g c → (HasNext u c → ⊥) → LongestCode (BeginsRun g) (IsWhole g) (WritesRun g) u c
+longest_by : (g : Graph) (u : List ℕ) (c : List Symbol) → IsCode c → Begins u (text_of c) → BeginsRun g c → (HasNext u c → ⊥) → LongestCode (BeginsRun g) (IsWholeCode g) (WritesRun g) u c
 longest_by g u c code p begins none = record {
   code = code;
   front = p;
@@ -72,12 +72,12 @@ longest_by g u c code p begins none = record {
             let split : d ≡ (c ++ x ∷ []) ++ m = e ∙ sym (append_assoc c (x ∷ []) m) in
             none (x, code_front (c ++ x ∷ []) m (subst (λ z. IsCode z) split k), further (text_of d) u (text_of (c ++ x ∷ [])) q (text_of m, ap (λ z. text_of z) split ∙ text_of-append (c ++ x ∷ []) m))
 
-module _ (g : Graph) (r r1 : Reading) (a a1 : Position) (size : ℕ) (w said : List ℕ) (o : PlayFollows g r a size w said) (m1 : a1.machine ≡ g) (m : a.machine ≡ g) (old new : List ℕ) where
+module _ (g : Graph) (r r1 : CodeReading) (a a1 : Position) (size : ℕ) (w said : List ℕ) (o : PlayFollows g r a size w said) (m1 : a1.machine ≡ g) (m : a.machine ≡ g) (old new : List ℕ) where
   abbrev B : List Symbol → Type 0
   B = BeginsRun g
 
   abbrev W : List Symbol → Type 0
-  W = IsWhole g
+  W = IsWholeCode g
 
   abbrev Writes : List Symbol → List ℕ → Type 0
   Writes = WritesRun g
@@ -87,7 +87,7 @@ module _ (g : Graph) (r r1 : Reading) (a a1 : Position) (size : ℕ) (w said : L
       let left = done.left settled ks (subst (λ g. IsRun g ks) (sym m1) run) b in
       (ks, run, b, subst (λ g. text ≡ (left_by g ks c).out) m1 (sym (ap (λ z. z.out) left)))
 
-  module _ (piece : List ℕ) (symbols : List Symbol) (spelt : HasRead r1 (w ++ piece) (o.code ++ symbols)) where
+  module _ (piece : List ℕ) (symbols : List Symbol) (spelt : ReaderHasRead r1 (w ++ piece) (o.code ++ symbols)) where
     abbrev u : List ℕ
     u = w ++ piece
 
@@ -155,7 +155,7 @@ module _ (g : Graph) (r r1 : Reading) (a a1 : Position) (size : ℕ) (w said : L
     abbrev small : Type 0
     small = size + length (text_of symbols) ≤ 2 ^ 64 - 1
 
-    took : (refused bad at : Option ℕ) → size + length (text_of symbols) ≤ 2 ^ 64 - 1 → Refuses refused a a1 symbols old new → ((i : ℕ) → bad ≡ Some i → (r1.bad ≡ true) × (r1.good ≡ i)) → (bad ≡ None → r1.bad ≡ false) → BadAt refused bad size symbols at → Took refused bad at
+    took : (refused bad at : Option ℕ) → size + length (text_of symbols) ≤ 2 ^ 64 - 1 → RefusesSymbol refused a a1 symbols old new → ((i : ℕ) → bad ≡ Some i → (r1.bad ≡ true) × (r1.good ≡ i)) → (bad ≡ None → r1.bad ≡ false) → BadAt refused bad size symbols at → Took refused bad at
     took (Some i) bad at fits s is_bad is_good place =
         let c = o.code ++ take i symbols in
         let text = said ++ s.went.more in
@@ -267,8 +267,8 @@ module _ (g : Graph) (r r1 : Reading) (a a1 : Position) (size : ℕ) (w said : L
           long = omega (arith, size_is, long, o.long, fits_of room);
         }
 
-    pub play_reads : (size1 : ℕ) (refused bad at : Option ℕ) → r.good + length piece < 2 ^ 64 → size1 ≡ min (size + length (text_of symbols)) (2 ^ 64 - 1) → Refuses refused a a1 symbols old new → ((i : ℕ) → bad ≡ Some i → (r1.bad ≡ true) × (r1.good ≡ i)) → (bad ≡ None → r1.bad ≡ false) → BadAt refused bad size symbols at
-        → ReadMore (λ u b t. SaysPlayed (BeginsRun g) (IsWhole g) (WritesRun g) u b t) (λ u t. PlayFollows g r1 a1 size1 u t) w said piece at old new
+    pub play_reads : (size1 : ℕ) (refused bad at : Option ℕ) → r.good + length piece < 2 ^ 64 → size1 ≡ min (size + length (text_of symbols)) (2 ^ 64 - 1) → RefusesSymbol refused a a1 symbols old new → ((i : ℕ) → bad ≡ Some i → (r1.bad ≡ true) × (r1.good ≡ i)) → (bad ≡ None → r1.bad ≡ false) → BadAt refused bad size symbols at
+        → ReadMore (λ u b t. SaysPlayed (BeginsRun g) (IsWholeCode g) (WritesRun g) u b t) (λ u t. PlayFollows g r1 a1 size1 u t) w said piece at old new
     play_reads size1 refused bad at room size_is refuses is_bad is_good place =
         let t = took refused bad at (fits_of room) refuses is_bad is_good place in
         record {
@@ -278,11 +278,11 @@ module _ (g : Graph) (r r1 : Reading) (a a1 : Position) (size : ℕ) (w said : L
           follows = λ none. subst (λ z. PlayFollows g r1 a1 size1 u z) t.whole_text (follows size1 refused bad at t room size_is none);
         }
 
-pub text_read : (bad : Option ℕ) (r r1 : Reading) (piece : List ℕ) (before after : List Symbol) → TakesText bad r r1 piece before after → ReadOn r r1 piece before after
+pub text_read : (bad : Option ℕ) (r r1 : CodeReading) (piece : List ℕ) (before after : List Symbol) → TakesText bad r r1 piece before after → ReadOn r r1 piece before after
 text_read None r r1 piece before after t = t.0
 text_read (Some i) r r1 piece before after t = t.0
 
-pub bad_read : (bad : Option ℕ) (r r1 : Reading) (piece : List ℕ) (before after : List Symbol) → TakesText bad r r1 piece before after → (i : ℕ) → bad ≡ Some i → (r1.bad ≡ true) × (r1.good ≡ i)
+pub bad_read : (bad : Option ℕ) (r r1 : CodeReading) (piece : List ℕ) (before after : List Symbol) → TakesText bad r r1 piece before after → (i : ℕ) → bad ≡ Some i → (r1.bad ≡ true) × (r1.good ≡ i)
 bad_read None r r1 piece before after t i e = cc
 bad_read (Some j) r r1 piece before after t i e =
     let same : j ≡ i = some_same j i e in
@@ -291,17 +291,17 @@ bad_read (Some j) r r1 piece before after t i e =
     some_same : (i j : ℕ) → Some i ≡ Some j → i ≡ j
     some_same i j e = cc
 
-pub good_read : (bad : Option ℕ) (r r1 : Reading) (piece : List ℕ) (before after : List Symbol) → TakesText bad r r1 piece before after → bad ≡ None → r1.bad ≡ false
+pub good_read : (bad : Option ℕ) (r r1 : CodeReading) (piece : List ℕ) (before after : List Symbol) → TakesText bad r r1 piece before after → bad ≡ None → r1.bad ≡ false
 good_read None r r1 piece before after t e = t.1
 good_read (Some j) r r1 piece before after t e = cc
 
 -- of no symbols none is refused
-pub took_nothing : (refused : Option ℕ) (a a1 : Position) (old new : List ℕ) → Refuses refused a a1 [] old new → IfSome refused (λ i. i < length {A = Symbol} []) → TookAll a a1 [] old new
+pub took_nothing : (refused : Option ℕ) (a a1 : Position) (old new : List ℕ) → RefusesSymbol refused a a1 [] old new → IfSome refused (λ i. i < length {A = Symbol} []) → TookAll a a1 [] old new
 took_nothing None a a1 old new t within = t
 took_nothing (Some i) a a1 old new t within = absurd (omega arith)
 
 -- the end
-module _ (g : Graph) (r : Reading) (a a1 : Position) (size : ℕ) (w begun : List ℕ) (o : PlayFollows g r a size w begun) (m1 : a1.machine ≡ g) (old new : List ℕ) (took : TookAll a a1 [] old new) (is_whole : Bool) (tells : IsWholeOf r a1 is_whole) where
+module _ (g : Graph) (r : CodeReading) (a a1 : Position) (size : ℕ) (w begun : List ℕ) (o : PlayFollows g r a size w begun) (m1 : a1.machine ≡ g) (old new : List ℕ) (took : TookAll a a1 [] old new) (is_whole : Bool) (tells : IsWholeOf r a1 is_whole) where
   abbrev said : List ℕ
   said = begun ++ took.went.more
 
@@ -319,7 +319,7 @@ module _ (g : Graph) (r : Reading) (a a1 : Position) (size : ℕ) (w begun : Lis
   spelt : w ≡ text_of o.code ++ r.begun
   spelt = sym (take_all r.good w (omega (arith, o.spelt.all o.good))) ∙ o.spelt.spells.text
 
-  on : PlaysOn (BeginsRun g) (IsWhole g) (WritesRun g) w o.code None
+  on : PlaysOn (BeginsRun g) (IsWholeCode g) (WritesRun g) w o.code None
   on =
       let none = no_next g w o.code r.begun spelt o.spelt.spells.front in
       record {
@@ -327,17 +327,17 @@ module _ (g : Graph) (r : Reading) (a a1 : Position) (size : ℕ) (w begun : Lis
         stops = (none, subst (λ z. BeginsText z) (take_all r.good w (omega (arith, o.spelt.all o.good))) (spells_begins (take r.good w) o.code r.begun o.spelt.spells));
       }
 
-  pub play_ends : CameToEnd (λ u b t. ClosesPlayed (BeginsRun g) (IsWhole g) (WritesRun g) u b t) w begun is_whole old new
+  pub play_ends : CameToEnd (λ u b t. ClosesPlayed (BeginsRun g) (IsWholeCode g) (WritesRun g) u b t) w begun is_whole old new
   play_ends = record { more = took.went.more; written = took.went.written; closes = by is_whole (tells o.code said done) }
     where
-      by : (b : Bool) → (IsTrue b ↔ ((r.bad ≡ false) × (r.begun ≡ []) × IsWhole a1.machine o.code)) → ClosesPlayed (BeginsRun g) (IsWhole g) (WritesRun g) w b said
+      by : (b : Bool) → (IsTrue b ↔ ((r.bad ≡ false) × (r.begun ≡ []) × IsWholeCode a1.machine o.code)) → ClosesPlayed (BeginsRun g) (IsWholeCode g) (WritesRun g) w b said
       by true t =
           let x = t.0 refl in
-          (o.code, on, spelt ∙ ap (λ z. text_of o.code ++ z) x.1 ∙ append-nil (text_of o.code), subst (λ g. IsWhole g o.code) m1 x.2, writes)
+          (o.code, on, spelt ∙ ap (λ z. text_of o.code ++ z) x.1 ∙ append-nil (text_of o.code), subst (λ g. IsWholeCode g o.code) m1 x.2, writes)
       by false t = (
         o.code,
         on,
         λ is whole.
-            let bad : false ≡ true = t.1 (o.good, same_rest (text_of o.code) r.begun [] (sym spelt ∙ is ∙ sym (append-nil (text_of o.code))), subst (λ g. IsWhole g o.code) (sym m1) whole) in cc,
+            let bad : false ≡ true = t.1 (o.good, same_rest (text_of o.code) r.begun [] (sym spelt ∙ is ∙ sym (append-nil (text_of o.code))), subst (λ g. IsWholeCode g o.code) (sym m1) whole) in cc,
         writes,
       )

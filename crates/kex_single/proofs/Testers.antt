@@ -3,35 +3,35 @@ use Rattle.std.proofs.Common.{◌≡◌, ℕ, Bool, true, false, List, [], ◌�
 use Rattle.std.specs.Prelude.{IsTrue, ◌↔◌}
 use Rattle.kex_code.specs.Codes.{Begins}
 use Rattle.kex_machine.specs.Nodes.{Graph}
-use Rattle.kex_machine.specs.Answers.{Viable, HasParse}
+use Rattle.kex_machine.specs.Answers.{IsViableFor, HasRun}
 use Rattle.kex_frontier.specs.Matchers.{Match, IsAnswer, WasFed}
 use Rattle.kex_frontier.specs.declared.matcher.Matched.{Matched}
 use Rattle.kex_frontier.specs.declared.matcher.Matched.TheVariants.{On, Dead}
 use Rattle.kex_pipe.specs.Working.{CameToEnd, ClosesParsed, ReadMore, SaysViable}
-use Rattle.kex_single.specs.Singles.{SaysNothing, HasParseAlone}
+use Rattle.kex_single.specs.Singles.{SaysNoText, HasRunAlone}
 use Rattle.kex_single.specs.Standing.{dead_at}
 
 -- the empty text can go on
-pub nothing_good : (m : Match) → WasFed m [] → Viable m.machine []
+pub nothing_good : (m : Match) → WasFed m [] → IsViableFor m.machine []
 nothing_good m fed = by m.dead refl
   where
     empty : (v : List ℕ) → Begins [] v → v ≡ []
     empty [] b = refl
     empty (x ∷ v) b = let bad : [] ≡ x ∷ (v ++ b.0) = b.1 in cc
 
-    by : (dead : Bool) → m.dead ≡ dead → Viable m.machine []
+    by : (dead : Bool) → m.dead ≡ dead → IsViableFor m.machine []
     by false e = (fed.good e).0
-    by true e = let d = fed.dead e in subst (λ z. Viable m.machine z) (empty d.1.0 d.1.1.front) d.1.1.viable
+    by true e = let d = fed.dead e in subst (λ z. IsViableFor m.machine z) (empty d.1.0 d.1.1.front) d.1.1.viable
 
 abbrev pub Tests : Match → List ℕ → List ℕ → Type 0
-Tests m w text = WasFed m w × Viable m.machine w × (text ≡ [])
+Tests m w text = WasFed m w × IsViableFor m.machine w × (text ≡ [])
 
 module _ (g : Graph) where
   abbrev pub SaysTest : List ℕ → Option ℕ → List ℕ → Type 0
-  SaysTest w at text = SaysViable (Viable g) (SaysNothing g) (HasParse g) (HasParseAlone g) w at text
+  SaysTest w at text = SaysViable (IsViableFor g) (SaysNoText g) (HasRun g) (HasRunAlone g) w at text
 
   abbrev pub ClosesTest : List ℕ → Bool → List ℕ → Type 0
-  ClosesTest w parsed text = ClosesParsed (Viable g) (SaysNothing g) (HasParse g) (HasParseAlone g) w parsed text
+  ClosesTest w parsed text = ClosesParsed (IsViableFor g) (SaysNoText g) (HasRun g) (HasRunAlone g) w parsed text
 
   -- a piece was read
   module _ (new : Match) (same : new.machine ≡ g) (w text piece out : List ℕ) (none : text ≡ []) (fed : WasFed new (w ++ piece)) where
@@ -43,7 +43,7 @@ module _ (g : Graph) where
     says (Dead at) (bad, (v, l, long)) = (bad, (v, record { front = l.front; good = l.viable; longest = l.longest }, still, sym long))
 
     follows : (answer : Matched) → IsAnswer answer g (w ++ piece) → dead_at answer ≡ None → Tests new (w ++ piece) (text ++ [])
-    follows On good e = (fed, subst (λ z. Viable z (w ++ piece)) (sym same) good, still)
+    follows On good e = (fed, subst (λ z. IsViableFor z (w ++ piece)) (sym same) good, still)
     follows (Dead at) a e = let no : Some at ≡ None = e in cc
 
     pub test_reads : (answer : Matched) (at : Option ℕ) → at ≡ dead_at answer → IsAnswer answer new.machine (w ++ piece)
@@ -58,7 +58,7 @@ module _ (g : Graph) where
         })
 
   -- the end came
-  pub test_ends : (w text out : List ℕ) (parsed : Bool) → text ≡ [] → Viable g w → (IsTrue parsed ↔ HasParse g w) → CameToEnd ClosesTest w text parsed out out
+  pub test_ends : (w text out : List ℕ) (parsed : Bool) → text ≡ [] → IsViableFor g w → (IsTrue parsed ↔ HasRun g w) → CameToEnd ClosesTest w text parsed out out
   test_ends w text out true none good has = record { more = []; written = sym (append-nil out); closes = (good, has.0 refl, append-nil text ∙ none) }
   test_ends w text out false none good has = record {
     more = [];

@@ -204,10 +204,10 @@ module _ (B W : List Symbol → Type 0) (Writes : List Symbol → List ℕ → T
           second lt =
               bad.bad (subst (λ z. BeginsText z) (take_further (k + 1) u y p (omega (arith, bad.within))) (begins_front (take (k + 1) y) (take i y) (take_front_of (k + 1) i y (omega arith)) bad'.before))
 
-  abbrev Gives : ℕ → List ℕ → Bool → Answer → Type 0
-  Gives n w e a = Plays B W Writes n w e a
+  abbrev WorkerGives : ℕ → List ℕ → Bool → Answer → Type 0
+  WorkerGives n w e a = Plays B W Writes n w e a
 
-  pub ends : (n : ℕ) {w : List ℕ} {e : Bool} {a : Answer} → Gives n w e a → a.ended ≡ (e && is_none a.stop)
+  pub ends : (n : ℕ) {w : List ℕ} {e : Bool} {a : Answer} → WorkerGives n w e a → a.ended ≡ (e && is_none a.stop)
   ends n {e = false} (bad_byte c k on h) = refl
   ends n {e = true} (bad_byte c k on h) = refl
   ends n {e = false} (too_long c lt on h) = refl
@@ -216,7 +216,7 @@ module _ (B W : List Symbol → Type 0) (Writes : List Symbol → List ℕ → T
   ends n (whole c le on is p h) = refl
   ends n (still_open c le on h) = refl
 
-  pub past_limit : (n : ℕ) {w : List ℕ} {e : Bool} {a : Answer} → Gives n w e a → n < length w → IsSome a.stop
+  pub past_limit : (n : ℕ) {w : List ℕ} {e : Bool} {a : Answer} → WorkerGives n w e a → n < length w → IsSome a.stop
   past_limit n (bad_byte c k on h) lt = refl
   past_limit n (too_long c l on h) lt = refl
   past_limit n (cut_off c le on none h) lt = refl
@@ -230,7 +230,7 @@ module _ (B W : List Symbol → Type 0) (Writes : List Symbol → List ℕ → T
   same_stop s t i j e f = (([], sym e ∙ sym (append-nil s)), λ h. ap₂ (λ p q. stopped_answer p q at_byte) (sym e) (sym f))
 
   -- where a text stopped within the limit, so does each longer one
-  after_bad : (n : ℕ) (w x : List ℕ) (e : Bool) (s : List ℕ) (c : List Symbol) (k : ℕ) {b : Answer} → Begins x w → On (take n w) c (Some k) → Writes c s → Gives n x e b → Stays (stopped_answer s k at_byte) b
+  after_bad : (n : ℕ) (w x : List ℕ) (e : Bool) (s : List ℕ) (c : List Symbol) (k : ℕ) {b : Answer} → Begins x w → On (take n w) c (Some k) → Writes c s → WorkerGives n x e b → Stays (stopped_answer s k at_byte) b
   after_bad n w x e s c k p on h (bad_byte {text = t} d j on' h') =
       let r = stop_stays (take n w) (take n x) c d k (Some j) (take_front n w x p) on on' in
       let same : k ≡ j = some_same k j (sym r.1) in
@@ -261,7 +261,7 @@ module _ (B W : List Symbol → Type 0) (Writes : List Symbol → List ℕ → T
   grown_text : (u y : List ℕ) (c d : List Symbol) (s t : List ℕ) (i j : Option ℕ) → Begins y u → On u c i → On y d j → Writes c s → Writes d t → Begins t s
   grown_text u y c d s t i j p on on' h k = more c d s t (grown u y c d p on.longest on'.longest) h k
 
-  pub stays : (n : ℕ) {w x : List ℕ} {e : Bool} {a b : Answer} → Begins x w → Gives n w false a → Gives n x e b → Stays a b
+  pub stays : (n : ℕ) {w x : List ℕ} {e : Bool} {a b : Answer} → Begins x w → WorkerGives n w false a → WorkerGives n x e b → Stays a b
   stays n {w = w} {x = x} {e = e} p (bad_byte {text = s} c k on h) g = after_bad n w x e s c k p on h g
   stays n {w = w} {x = x} p (too_long c lt on h) (bad_byte d j on' h') =
       let same = same_take n w x p lt in
@@ -290,7 +290,7 @@ module _ (B W : List Symbol → Type 0) (Writes : List Symbol → List ℕ → T
   some_stop s i e = cc
 
   -- there is one answer
-  pub one_answer : (n : ℕ) {w : List ℕ} {e : Bool} {a b : Answer} → Gives n w e a → Gives n w e b → a ≡ b
+  pub one_answer : (n : ℕ) {w : List ℕ} {e : Bool} {a b : Answer} → WorkerGives n w e a → WorkerGives n w e b → a ≡ b
   one_answer n {w = w} {e = e} (bad_byte {text = s} c k on h) g = sym ((after_bad n w w e s c k (nothing_more w) on h g).1 (some_stop s k))
   one_answer n {w = w} {e = e} g (bad_byte {text = s} c k on h) = (after_bad n w w e s c k (nothing_more w) on h g).1 (some_stop s k)
   one_answer n {w = w} (too_long {text = s} c lt on h) (too_long {text = t} d lt' on' h') =
@@ -315,7 +315,7 @@ module _ (B W : List Symbol → Type 0) (Writes : List Symbol → List ℕ → T
       ap (λ z. record { text = z; ended = false; stop = None }) (one_text c s t h (subst (λ z. Writes z t) (one_longest w c d on.longest on'.longest) h'))
 
   -- what has stopped stays so, whatever comes
-  pub stopped_more : (n : ℕ) (w v : List ℕ) (e : Bool) {a : Answer} → Gives n w false a → (a.stop ≡ None → ⊥) → Gives n (w ++ v) e a
+  pub stopped_more : (n : ℕ) (w v : List ℕ) (e : Bool) {a : Answer} → WorkerGives n w false a → (a.stop ≡ None → ⊥) → WorkerGives n (w ++ v) e a
   stopped_more n w v e (bad_byte c k on h) some = bad_byte c k (more_on (take n w) (take n (w ++ v)) c k (take_front n w (w ++ v) (v, refl)) on) h
     where
       more_on : (u y : List ℕ) (c : List Symbol) (k : ℕ) → Begins y u → On u c (Some k) → On y c (Some k)

@@ -7,7 +7,7 @@ use Rattle.kex_model.specs.Answers.{Answer, stopped_answer, at_byte, at_end, at_
 use Rattle.kex_model.specs.Moves.{Step, code_of}
 use Rattle.kex_machine.specs.Nodes.{Graph}
 use Rattle.kex_machine.specs.Answers.{IsRun, left_by}
-use Rattle.kex_action.specs.Actors.{BeginsRun, IsWhole}
+use Rattle.kex_action.specs.Actors.{BeginsRun, IsWholeCode}
 
 -- u has the whole text of one more symbol
 abbrev pub HasNext : List ℕ → List Symbol → Type 0
@@ -59,5 +59,5 @@ module _ (BeginsParse : List Symbol → Type 0) (IsParse : List Symbol → Type 
 abbrev pub WritesRun : Graph → List Symbol → List ℕ → Type 0
 WritesRun g c text = (ks : List (Step ℕ)) × IsRun g ks × Begins (code_of ks) c × (text ≡ (left_by g ks c).out)
 
-abbrev pub ActAnswers : Graph → ℕ → List ℕ → Bool → Answer → Type 0
-ActAnswers g limit w e a = Plays (BeginsRun g) (IsWhole g) (WritesRun g) limit w e a
+abbrev pub MachineActAnswers : Graph → ℕ → List ℕ → Bool → Answer → Type 0
+MachineActAnswers g limit w e a = Plays (BeginsRun g) (IsWholeCode g) (WritesRun g) limit w e a

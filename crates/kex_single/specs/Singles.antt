@@ -5,7 +5,7 @@ use Rattle.kex_code.specs.Texts.{text_of}
 use Rattle.kex_model.specs.Answers.{Answer, Answers}
 use Rattle.kex_model.specs.Survivors.{Agreed}
 use Rattle.kex_machine.specs.Nodes.{Graph, node_moves}
-use Rattle.kex_machine.specs.Answers.{Viable, HasParse, IsGreedy}
+use Rattle.kex_machine.specs.Answers.{IsViableFor, HasRun, IsGreedy}
 use Rattle.kex_pipe.specs.Working.{BoundedPlan}
 
 -- a machine, and the most bytes that it takes
@@ -14,24 +14,24 @@ Single = BoundedPlan Graph
 
 module _ (g : Graph) where
   -- the text of what the survivors of w agree on
-  abbrev pub SaysCode : List ℕ → List ℕ → Type 0
-  SaysCode w text = (c : List Symbol) × Agreed (node_moves g.nodes) g.start w c × (text ≡ text_of c)
+  abbrev pub SaysSharedCode : List ℕ → List ℕ → Type 0
+  SaysSharedCode w text = (c : List Symbol) × Agreed (node_moves g.nodes) g.start w c × (text ≡ text_of c)
 
   -- the text of the greedy code of w
-  abbrev pub MeansCode : List ℕ → List ℕ → Type 0
-  MeansCode w text = (c : List Symbol) × IsGreedy g w c × (text ≡ text_of c)
+  abbrev pub MeansRunCode : List ℕ → List ℕ → Type 0
+  MeansRunCode w text = (c : List Symbol) × IsGreedy g w c × (text ≡ text_of c)
 
   -- the code of w, open or (true) ended, within a limit
-  abbrev pub CodeAnswers : ℕ → List ℕ → Bool → Answer → Type 0
-  CodeAnswers limit w e a = Answers (Viable g) SaysCode (HasParse g) MeansCode limit w e a
+  abbrev pub MachineCodeAnswers : ℕ → List ℕ → Bool → Answer → Type 0
+  MachineCodeAnswers limit w e a = Answers (IsViableFor g) SaysSharedCode (HasRun g) MeansRunCode limit w e a
 
-  abbrev pub SaysNothing : List ℕ → List ℕ → Type 0
-  SaysNothing w text = text ≡ []
+  abbrev pub SaysNoText : List ℕ → List ℕ → Type 0
+  SaysNoText w text = text ≡ []
 
   -- w has a parse, and nothing is written
-  abbrev pub HasParseAlone : List ℕ → List ℕ → Type 0
-  HasParseAlone w text = Viable g w × HasParse g w × (text ≡ [])
+  abbrev pub HasRunAlone : List ℕ → List ℕ → Type 0
+  HasRunAlone w text = IsViableFor g w × HasRun g w × (text ≡ [])
 
   -- whether w has a parse
-  abbrev pub TestAnswers : ℕ → List ℕ → Bool → Answer → Type 0
-  TestAnswers limit w e a = Answers (Viable g) SaysNothing (HasParse g) HasParseAlone limit w e a
+  abbrev pub MachineTestAnswers : ℕ → List ℕ → Bool → Answer → Type 0
+  MachineTestAnswers limit w e a = Answers (IsViableFor g) SaysNoText (HasRun g) HasRunAlone limit w e a

@@ -3,7 +3,7 @@ use Rattle.std.specs.Prelude.{◌≡◌, ℕ, ◌<◌, ◌+◌, Bool, true, fals
 use Rattle.kex_code.specs.declared.symbol.Symbol.{Symbol}
 use Rattle.kex_code.specs.Texts.{text_of}
 use Rattle.kex_machine.specs.Nodes.{Graph}
-use Rattle.kex_machine.specs.Answers.{Viable}
+use Rattle.kex_machine.specs.Answers.{IsViableFor}
 use Rattle.kex_frontier.specs.Frontiers.{Front, IsFed}
 use Rattle.kex_frontier.specs.declared.frontier.Ended.{Ended}
 use Rattle.kex_frontier.specs.declared.frontier.Ended.TheVariants.{Parsed, Cut}
@@ -11,9 +11,9 @@ use Rattle.kex_frontier.specs.declared.matcher.Matched.{Matched}
 use Rattle.kex_frontier.specs.declared.matcher.Matched.TheVariants as match
 
 -- the machine goes on from w over a piece, or up to the byte of this number, with which no parse begins
-abbrev pub GoesOn : Graph → List ℕ → List ℕ → Option ℕ → Type 0
-GoesOn g w piece None = Viable g (w ++ piece)
-GoesOn g w piece (Some k) = (k < length piece) × Viable g (w ++ take k piece) × (Viable g (w ++ take (k + 1) piece) → ⊥)
+abbrev pub MachineGoesOn : Graph → List ℕ → List ℕ → Option ℕ → Type 0
+MachineGoesOn g w piece None = IsViableFor g (w ++ piece)
+MachineGoesOn g w piece (Some k) = (k < length piece) × IsViableFor g (w ++ take k piece) × (IsViableFor g (w ++ take (k + 1) piece) → ⊥)
 
 -- the bytes that the machine was given
 abbrev pub given_of : List ℕ → List ℕ → Option ℕ → List ℕ
@@ -35,7 +35,7 @@ pub record CodeFollows (f : Front) (read : ℕ) (w text : List ℕ) : Type 0 whe
   pub fed : IsFed f w code
   pub written : text ≡ text_of code
   pub count : read ≡ length w
-  pub good : Viable f.machine w
+  pub good : IsViableFor f.machine w
 
 abbrev pub dead_at : Matched → Option ℕ
 dead_at match.On = None

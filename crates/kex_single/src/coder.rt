@@ -3,12 +3,12 @@
 ghost use Rattle.std.specs.Prelude.{◌≡◌, ◌≤◌, ◌<◌, ◌+◌, ◌^◌, ◌++◌, ◌&&◌, not, [], ℕ, List, true, false, IfOk, IfSome, OnOk, IsTrue, IsOk, ◌↔◌, Some, None, Option, length};
 ghost use Rattle.kex_code.specs.declared.symbol.Symbol.{Symbol};
 ghost use Rattle.kex_code.specs.Texts.{text_of};
-ghost use Rattle.kex_machine.specs.Answers.{HasParse, IsSaid, Viable};
+ghost use Rattle.kex_machine.specs.Answers.{HasRun, IsSaid, IsViableFor};
 ghost use Rattle.kex_frontier.specs.Frontiers.{IsFed, IsOver};
 ghost use Rattle.kex_frontier.specs.declared.frontier.Ended.{Ended};
 ghost use Rattle.kex_pipe.specs.Working.{ClosesParsed, SaysViable};
-ghost use Rattle.kex_single.specs.Singles.{CodeAnswers, MeansCode, SaysCode};
-ghost use Rattle.kex_single.specs.Standing.{CodeFollows, GoesOn, given_of, is_parsed, place_of};
+ghost use Rattle.kex_single.specs.Singles.{MachineCodeAnswers, MeansRunCode, SaysSharedCode};
+ghost use Rattle.kex_single.specs.Standing.{CodeFollows, MachineGoesOn, given_of, is_parsed, place_of};
 ghost use Rattle.kex_single.specs.CodeLaws.{answering};
 
 use kex_code::memory::Memory;
@@ -24,8 +24,8 @@ use std::alloc::Global;
 fn read(oracle: &mut Frontier, piece: &[u8]) -> Result<Option<usize>, Memory>
     requires usable { IsTrue oracle.old.usable }
     requires open { oracle.old.ended ≡ false }
-    ensures reads { IfOk result (λ bad. (w : List ℕ) (c : List Symbol) → IsFed oracle.old w c → Viable oracle.old.machine w
-        → GoesOn oracle.old.machine w piece.now bad × IsFed oracle.new (given_of w piece.now bad) c) }
+    ensures reads { IfOk result (λ bad. (w : List ℕ) (c : List Symbol) → IsFed oracle.old w c → IsViableFor oracle.old.machine w
+        → MachineGoesOn oracle.old.machine w piece.now bad × IsFed oracle.new (given_of w piece.now bad) c) }
     ensures within { IfOk result (λ bad. IfSome bad (λ k. k < length piece.now)) }
     ensures machine { oracle.new.machine ≡ oracle.old.machine }
     ensures usable { IsTrue oracle.new.usable ↔ IsOk result }
@@ -96,11 +96,11 @@ impl<'m> Worker for CodeWorker<'m> {
 
     ghost machine = { λ s. s.oracle.machine };
 
-    ghost says = { λ g w at text. SaysViable (Viable g) (SaysCode g) (HasParse g) (MeansCode g) w at text };
+    ghost says = { λ g w at text. SaysViable (IsViableFor g) (SaysSharedCode g) (HasRun g) (MeansRunCode g) w at text };
 
-    ghost closes = { λ g w parsed text. ClosesParsed (Viable g) (SaysCode g) (HasParse g) (MeansCode g) w parsed text };
+    ghost closes = { λ g w parsed text. ClosesParsed (IsViableFor g) (SaysSharedCode g) (HasRun g) (MeansRunCode g) w parsed text };
 
-    ghost gives = { λ g n w e a. CodeAnswers g n w e a };
+    ghost gives = { λ g n w e a. MachineCodeAnswers g n w e a };
 
     ghost follows = { λ s w text. CodeFollows s.oracle s.count w text };
 
@@ -158,7 +158,7 @@ impl<'m> Turn for Coder<'m> {
 
     ghost plan = { λ s. ⟦<Bounded<CodeWorker<'m>> as Turn>⟧.plan s.within };
 
-    ghost gives = { λ p w e a. CodeAnswers p.machine p.limit w e a };
+    ghost gives = { λ p w e a. MachineCodeAnswers p.machine p.limit w e a };
 
     ghost stands = { λ s h. ⟦<Bounded<CodeWorker<'m>> as Turn>⟧.stands s.within h };
 

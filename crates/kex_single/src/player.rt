@@ -3,10 +3,10 @@
 ghost use Rattle.std.specs.Prelude.{◌≡◌, ◌≤◌, ◌<◌, ◌+◌, ◌-◌, ◌^◌, ◌++◌, ◌∷◌, ◌&&◌, [], ℕ, List, true, IfOk, IfSome, OnOk, IsTrue, IsOk, ◌↔◌, min, take, None, length};
 ghost use Rattle.kex_code.specs.declared.symbol.Symbol.{Symbol};
 ghost use Rattle.kex_code.specs.Texts.{text_of};
-ghost use Rattle.kex_action.specs.Actors.{BeginsRun, IsWhole};
-ghost use Rattle.kex_single.specs.Plays.{ActAnswers, ClosesPlayed, SaysPlayed, WritesRun};
+ghost use Rattle.kex_action.specs.Actors.{BeginsRun, IsWholeCode};
+ghost use Rattle.kex_single.specs.Plays.{MachineActAnswers, ClosesPlayed, SaysPlayed, WritesRun};
 ghost use Rattle.kex_single.specs.PlayedLaws.{answering};
-ghost use Rattle.kex_single.specs.Playing.{BadAt, IsWholeOf, PlayFollows, Refuses, TakesText};
+ghost use Rattle.kex_single.specs.Playing.{BadAt, IsWholeOf, PlayFollows, RefusesSymbol, TakesText};
 
 use kex_action::actor::Actor;
 use kex_action::fault::ActFault;
@@ -59,7 +59,7 @@ fn read(reader: &mut CodeReader, piece: &[u8], code: &mut Code) -> Result<Option
 // Performs symbols, up to the one with which no parse's code begins, and tells the number of that symbol.
 fn perform(actor: &mut Actor, symbols: &[Symbol], out: &mut Vec<u8>) -> Result<Option<u64>, Memory>
     requires { IsTrue actor.old.usable }
-    ensures performs { IfOk result (λ refused. Refuses refused actor.old actor.new symbols.now out.old.items out.new.items) }
+    ensures performs { IfOk result (λ refused. RefusesSymbol refused actor.old actor.new symbols.now out.old.items out.new.items) }
     ensures within { IfOk result (λ refused. IfSome refused (λ i. i < length symbols.now)) }
     ensures machine { actor.new.machine ≡ actor.old.machine }
     ensures usable { IsTrue actor.new.usable ↔ IsOk result }
@@ -116,11 +116,11 @@ impl<'m> Worker for PlayWorker<'m> {
 
     ghost machine = { λ s. s.actor.machine };
 
-    ghost says = { λ g u at text. SaysPlayed (BeginsRun g) (IsWhole g) (WritesRun g) u at text };
+    ghost says = { λ g u at text. SaysPlayed (BeginsRun g) (IsWholeCode g) (WritesRun g) u at text };
 
-    ghost closes = { λ g u parsed text. ClosesPlayed (BeginsRun g) (IsWhole g) (WritesRun g) u parsed text };
+    ghost closes = { λ g u parsed text. ClosesPlayed (BeginsRun g) (IsWholeCode g) (WritesRun g) u parsed text };
 
-    ghost gives = { λ g n w e a. ActAnswers g n w e a };
+    ghost gives = { λ g n w e a. MachineActAnswers g n w e a };
 
     ghost follows = { λ s w text. PlayFollows s.actor.machine s.reader s.actor s.size w text };
 
@@ -184,7 +184,7 @@ impl<'m> Turn for Player<'m> {
 
     ghost plan = { λ s. ⟦<Bounded<PlayWorker<'m>> as Turn>⟧.plan s.within };
 
-    ghost gives = { λ p w e a. ActAnswers p.machine p.limit w e a };
+    ghost gives = { λ p w e a. MachineActAnswers p.machine p.limit w e a };
 
     ghost stands = { λ s h. ⟦<Bounded<PlayWorker<'m>> as Turn>⟧.stands s.within h };
 

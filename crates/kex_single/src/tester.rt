@@ -1,10 +1,10 @@
 // Whether a stage's input has a parse.
 
 ghost use Rattle.std.specs.Prelude.{◌≡◌, [], true, false, None, IfOk, IsTrue};
-ghost use Rattle.kex_machine.specs.Answers.{HasParse, Viable};
+ghost use Rattle.kex_machine.specs.Answers.{HasRun, IsViableFor};
 ghost use Rattle.kex_frontier.specs.Matchers.{WasFed};
 ghost use Rattle.kex_pipe.specs.Working.{ClosesParsed, SaysViable};
-ghost use Rattle.kex_single.specs.Singles.{HasParseAlone, SaysNothing, TestAnswers};
+ghost use Rattle.kex_single.specs.Singles.{HasRunAlone, SaysNoText, MachineTestAnswers};
 ghost use Rattle.kex_single.specs.Standing.{dead_at};
 ghost use Rattle.kex_single.specs.TestLaws.{answering};
 
@@ -43,13 +43,13 @@ impl<'m> Worker for TestWorker<'m> {
 
     ghost machine = { λ s. s.matcher.machine };
 
-    ghost says = { λ g w at text. SaysViable (Viable g) (SaysNothing g) (HasParse g) (HasParseAlone g) w at text };
+    ghost says = { λ g w at text. SaysViable (IsViableFor g) (SaysNoText g) (HasRun g) (HasRunAlone g) w at text };
 
-    ghost closes = { λ g w parsed text. ClosesParsed (Viable g) (SaysNothing g) (HasParse g) (HasParseAlone g) w parsed text };
+    ghost closes = { λ g w parsed text. ClosesParsed (IsViableFor g) (SaysNoText g) (HasRun g) (HasRunAlone g) w parsed text };
 
-    ghost gives = { λ g n w e a. TestAnswers g n w e a };
+    ghost gives = { λ g n w e a. MachineTestAnswers g n w e a };
 
-    ghost follows = { λ s w text. WasFed s.matcher w × Viable s.matcher.machine w × (text ≡ []) };
+    ghost follows = { λ s w text. WasFed s.matcher w × IsViableFor s.matcher.machine w × (text ≡ []) };
 
     ghost is_ready = { λ s. true };
 
@@ -98,7 +98,7 @@ impl<'m> Turn for Tester<'m> {
 
     ghost plan = { λ s. ⟦<Bounded<TestWorker<'m>> as Turn>⟧.plan s.within };
 
-    ghost gives = { λ p w e a. TestAnswers p.machine p.limit w e a };
+    ghost gives = { λ p w e a. MachineTestAnswers p.machine p.limit w e a };
 
     ghost stands = { λ s h. ⟦<Bounded<TestWorker<'m>> as Turn>⟧.stands s.within h };
 

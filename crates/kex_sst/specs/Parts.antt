@@ -53,8 +53,8 @@ long_in [] = 0
 long_in (x ∷ xs) = length x + long_in xs
 
 -- how many items an update has: symbols, bytes that are read, and old registers
-abbrev pub items_of : Change → ℕ
-items_of u = length u.out + long_in u.regs
+abbrev pub item_count : Change → ℕ
+item_count u = length u.out + long_in u.regs
 
 abbrev pub IsChoice : Symbol → Type 0
 IsChoice L = Unit {0}

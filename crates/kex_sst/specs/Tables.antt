@@ -40,7 +40,7 @@ pub record LeadsTo (states : List Row) (from target : ℕ) (u : Change) : Type 0
   pub update : IsUpdate from row.registers u
 
 -- a state has a transition or none for each class, and its numbers are in range
-pub record IsState (classes : List ℕ) (states : List Row) (s : Row) : Type 0 where
+pub record IsTableState (classes : List ℕ) (states : List Row) (s : Row) : Type 0 where
   pub long : length s.go ≡ class_count classes
   pub ends : IsWayIf s.registers s.accepting
   pub goes : (class : ℕ) (r : Transition) → slice_get s.go class ≡ Some (Some r) → LeadsTo states s.registers r.target r.update
@@ -50,5 +50,5 @@ pub record IsTable (t : Transducer) : Type 0 where
   pub numbered : IsNumbered t.classes
   pub begins : LeadsTo t.states 0 0 t.initial
   pub puts : EachPart IsPut t.initial
-  pub states : (i : ℕ) (s : Row) → slice_get t.states i ≡ Some s → IsState t.classes t.states s
+  pub states : (i : ℕ) (s : Row) → slice_get t.states i ≡ Some s → IsTableState t.classes t.states s
   pub few : length t.states < 4294967296

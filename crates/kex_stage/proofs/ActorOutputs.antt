@@ -2,12 +2,12 @@
 use Rattle.std.proofs.Common.{◌≡◌, ℕ, ◌<◌, Bool, true, false, List, [], ◌++◌, length, take, sym, ap, subst, ◌∙◌, append_assoc, append-nil, arith}
 use Rattle.kex_code.specs.declared.symbol.Symbol.{Symbol}
 use Rattle.kex_machine.specs.Nodes.{Graph}
-use Rattle.kex_machine.specs.Answers.{Viable}
+use Rattle.kex_machine.specs.Answers.{IsViableFor}
 use Rattle.kex_action.specs.Actors.{Position, HasPerformed, BeginsRun, WentOn, TookAll}
 use Rattle.kex_moves.specs.Speech.{Performs}
 use Rattle.kex_stage.specs.declared.oracle.Oracle.{Oracle}
 use Rattle.kex_stage.specs.Oracles.{HearsOn, Tells, TellsEnd}
-use Rattle.kex_stage.specs.Works.{Followed, Goes, Works, Finishes}
+use Rattle.kex_stage.specs.Works.{Followed, StageGoes, StageWorks, StageFinishes}
 use Rattle.kex_stage.proofs.OracleAnswers.{says, means, take_all}
 
 module _ (a b : Position) (start code symbols more : List Symbol) (out new : List ℕ) (none : start ≡ []) (same : symbols ≡ code) (added : code ≡ start ++ more) (took : TookAll a b symbols out new) where
@@ -16,7 +16,7 @@ module _ (a b : Position) (start code symbols more : List Symbol) (out new : Lis
       let is : symbols ≡ more = same ∙ added ∙ ap (λ z. z ++ more) none in
       subst (λ z. HasPerformed b (c ++ z) (c ++ z) (text ++ took.went.more)) is (took.went.performed c c text h)
 
-pub works : (o new : Oracle) (a b : Position) (piece : List ℕ) (count : ℕ) (start code symbols : List Symbol) (before after : List ℕ) → start ≡ [] → symbols ≡ code → b.machine ≡ a.machine → Tells o new piece count start code → TookAll a b symbols before after → Works o new a b piece count before after
+pub works : (o new : Oracle) (a b : Position) (piece : List ℕ) (count : ℕ) (start code symbols : List Symbol) (before after : List ℕ) → start ≡ [] → symbols ≡ code → b.machine ≡ a.machine → Tells o new piece count start code → TookAll a b symbols before after → StageWorks o new a b piece count before after
 works o new a b piece count start code symbols before after none same mb h took = record {
   within = h.within;
   works = λ g w text f v.
@@ -32,7 +32,7 @@ works o new a b piece count start code symbols before after none same mb h took 
       };
 }
 
-pub finishes : (parsed : Bool) (o : Oracle) (a b : Position) (start code symbols : List Symbol) (before after : List ℕ) → start ≡ [] → symbols ≡ code → b.machine ≡ a.machine → TellsEnd parsed o start code → TookAll a b symbols before after → Finishes parsed o a before after
+pub finishes : (parsed : Bool) (o : Oracle) (a b : Position) (start code symbols : List Symbol) (before after : List ℕ) → start ≡ [] → symbols ≡ code → b.machine ≡ a.machine → TellsEnd parsed o start code → TookAll a b symbols before after → StageFinishes parsed o a before after
 finishes true o a b start code symbols before after none same mb h took = record {
   more = took.went.more;
   written = took.went.written;
@@ -51,7 +51,7 @@ finishes false o a b start code symbols before after none same mb h took = recor
 
 -- what was told is performed by pieces
 module _ (o new : Oracle) (a b : Position) (piece : List ℕ) (count : ℕ) (said : List Symbol) (before after : List ℕ) (mb : b.machine ≡ a.machine) (h : Tells o new piece count [] said) (p : Performs a b said before after) where
-  module _ (g : Graph) (w text : List ℕ) (f : Followed g o a w text) (v : Viable g w) where
+  module _ (g : Graph) (w text : List ℕ) (f : Followed g o a w text) (v : IsViableFor g w) where
     heard : HearsOn g new w piece count (f.code ++ said)
     heard = subst (λ z. HearsOn g new w piece count (f.code ++ z)) (sym h.code) (h.tells g w f.code f.hears v)
 
@@ -61,7 +61,7 @@ module _ (o new : Oracle) (a b : Position) (piece : List ℕ) (count : ℕ) (sai
     went : WentOn a b said said before after
     went = p f.code f.code text f.performed begins
 
-  pub speaks : count ≡ length piece → Goes o new a b piece before after
+  pub speaks : count ≡ length piece → StageGoes o new a b piece before after
   speaks all = record {
     goes = λ g w text f v.
         let x = heard g w text f v in
@@ -70,12 +70,12 @@ module _ (o new : Oracle) (a b : Position) (piece : List ℕ) (count : ℕ) (sai
           more = k.more;
           written = k.written;
           followed = record { code = f.code ++ said; hears = x.hears all; performed = k.performed f.code f.code text f.performed; machine = mb ∙ f.machine };
-          good = subst (λ z. Viable g (w ++ z)) (ap (λ z. take z piece) all ∙ take_all piece) x.good;
+          good = subst (λ z. IsViableFor g (w ++ z)) (ap (λ z. take z piece) all ∙ take_all piece) x.good;
         };
   }
 
   -- and behind the last good byte the actor does what needs no symbol
-  pub stops : (c : Position) (last : List ℕ) → count < length piece → c.machine ≡ b.machine → TookAll b c [] after last → Works o new a c piece count before last
+  pub stops : (c : Position) (last : List ℕ) → count < length piece → c.machine ≡ b.machine → TookAll b c [] after last → StageWorks o new a c piece count before last
   stops c last lt mc took = record {
     within = omega (arith, lt);
     works = λ g w text f v.

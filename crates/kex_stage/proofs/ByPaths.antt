@@ -6,12 +6,12 @@ use Rattle.kex_code.specs.Codes.{Begins, IsAmong}
 use Rattle.kex_model.specs.Labelled.{Leaf, Labelled, tip, fork, leaves_of}
 use Rattle.kex_model.specs.Survivors.{Agreed}
 use Rattle.kex_machine.specs.Nodes.{Graph, node_moves}
-use Rattle.kex_machine.specs.Answers.{Viable, HasParse, IsSaid, IsGreedy}
+use Rattle.kex_machine.specs.Answers.{IsViableFor, HasRun, IsSaid, IsGreedy}
 use Rattle.kex_frontier.specs.Frontiers.{Front, IsFed, IsOver}
 use Rattle.kex_frontier.specs.declared.frontier.Ended.{Ended}
 use Rattle.kex_frontier.specs.declared.frontier.Ended.TheVariants.{Parsed, Cut}
 use Rattle.kex_stage.specs.declared.oracle.Oracle.TheVariants.{Paths}
-use Rattle.kex_stage.specs.Oracles.{HasSurvivor, Tells, TellsEnd, ReadsOn, Reads, is_parsed}
+use Rattle.kex_stage.specs.Oracles.{HasSurvivor, Tells, TellsEnd, ReadsOn, OracleReads, is_parsed}
 use Rattle.kex_stage.proofs.OracleAnswers.{whole_front, said_before, agrees, take_all, more_taken}
 
 -- a tree has a leaf
@@ -27,19 +27,19 @@ leaf_in (fork x l y r) c =
     among_front (x ∷ xs) ys z (inr h) = inr (among_front xs ys z h)
 
 -- what was fed and can go on has a survivor
-pub survivor_of : (f : Front) (g : Graph) (w : List ℕ) (c : List Symbol) → f.machine ≡ g → IsFed f w c → Viable g w → HasSurvivor g w
+pub survivor_of : (f : Front) (g : Graph) (w : List ℕ) (c : List Symbol) → f.machine ≡ g → IsFed f w c → IsViableFor g w → HasSurvivor g w
 survivor_of f g w c e (inl (t, h, k)) v =
     let x = leaf_in t (c ++ f.untaken) in
     subst (λ z. HasSurvivor z w) e (x.0.at, x.0.code, h.lists.each x.0 x.1)
-survivor_of f g w c e (inr (dead, h, k)) v = absurd (dead (subst (λ z. Viable z w) (sym e) v))
+survivor_of f g w c e (inr (dead, h, k)) v = absurd (dead (subst (λ z. IsViableFor z w) (sym e) v))
 
 -- the empty text can go on
-pub begins_good : (f : Front) (g : Graph) → f.machine ≡ g → IsFed f [] [] → Viable g []
+pub begins_good : (f : Front) (g : Graph) → f.machine ≡ g → IsFed f [] [] → IsViableFor g []
 begins_good f g e (inl (t, h, k)) =
     let x = leaf_in t ([] ++ f.untaken) in
     let s = h.lists.each x.0 x.1 in
-    subst (λ z. Viable z []) e (x.0.at, (x.0.code, s.reached, s.alive))
-begins_good f g e (inr (dead, h, k)) = absurd (dead (subst (λ z. Viable f.machine z) (empty h.of h.longest.front) h.longest.viable))
+    subst (λ z. IsViableFor z []) e (x.0.at, (x.0.code, s.reached, s.alive))
+begins_good f g e (inr (dead, h, k)) = absurd (dead (subst (λ z. IsViableFor f.machine z) (empty h.of h.longest.front) h.longest.viable))
   where
     empty : (of : List ℕ) → Begins [] of → of ≡ []
     empty [] b = refl
@@ -50,17 +50,17 @@ next_byte w piece i h = append_assoc w (take i piece) _ ∙ ap (λ z. w ++ z) (s
 
 -- the frontier was fed the first bytes
 pub record Went (f old : Front) (g : Graph) (piece : List ℕ) (i : ℕ) : Type 0 where
-  pub fed : (w : List ℕ) (c : List Symbol) → IsFed old w c → Viable g w → IsFed f (w ++ take i piece) c
-  pub good : (w : List ℕ) (c : List Symbol) → IsFed old w c → Viable g w → Viable g (w ++ take i piece)
+  pub fed : (w : List ℕ) (c : List Symbol) → IsFed old w c → IsViableFor g w → IsFed f (w ++ take i piece) c
+  pub good : (w : List ℕ) (c : List Symbol) → IsFed old w c → IsViableFor g w → IsViableFor g (w ++ take i piece)
 
 pub went_none : (f : Front) (piece : List ℕ) → Went f f f.machine piece 0
 went_none f piece = record {
   fed = λ w c h v. subst (λ z. IsFed f z c) (sym (append-nil w)) h;
-  good = λ w c h v. subst (λ z. Viable f.machine z) (sym (append-nil w)) v;
+  good = λ w c h v. subst (λ z. IsViableFor f.machine z) (sym (append-nil w)) v;
 }
 
 module _ (f old : Front) (g : Graph) (same : f.machine ≡ g) (piece : List ℕ) where
-  pub reads_all : Went f old g piece (length piece) → (w : List ℕ) (c : List Symbol) → IsFed old w c → Viable g w → ReadsOn f g w piece (length piece) c
+  pub reads_all : Went f old g piece (length piece) → (w : List ℕ) (c : List Symbol) → IsFed old w c → IsViableFor g w → ReadsOn f g w piece (length piece) c
   reads_all h w c fed v =
       let is = h.fed w c fed v in
       let good = h.good w c fed v in
@@ -71,7 +71,7 @@ module _ (f old : Front) (g : Graph) (same : f.machine ≡ g) (piece : List ℕ)
         bad = λ lt. absurd (omega (arith, lt));
       }
 
-  pub reads_so_far : (i : ℕ) → i < length piece → Went f old g piece i → (new : Front) → ((w : List ℕ) (c : List Symbol) → IsFed f w c → (¬ Viable g (w ++ slice_index_or piece i 0 ∷ [])) × IsFed new (w ++ slice_index_or piece i 0 ∷ []) c) → (w : List ℕ) (c : List Symbol) → IsFed old w c → Viable g w → ReadsOn new g w piece i c
+  pub reads_so_far : (i : ℕ) → i < length piece → Went f old g piece i → (new : Front) → ((w : List ℕ) (c : List Symbol) → IsFed f w c → (¬ IsViableFor g (w ++ slice_index_or piece i 0 ∷ [])) × IsFed new (w ++ slice_index_or piece i 0 ∷ []) c) → (w : List ℕ) (c : List Symbol) → IsFed old w c → IsViableFor g w → ReadsOn new g w piece i c
   reads_so_far i lt h new by w c fed v =
       let is = h.fed w c fed v in
       let good = h.good w c fed v in
@@ -80,23 +80,23 @@ module _ (f old : Front) (g : Graph) (same : f.machine ≡ g) (piece : List ℕ)
         good = good;
         survivor = survivor_of f g (w ++ take i piece) c same is good;
         all = λ e. absurd (omega (arith, e, lt));
-        bad = λ _. (subst (λ z. ¬ Viable g z) (next_byte w piece i lt) next.0, subst (λ z. IsFed new z c) (next_byte w piece i lt) next.1);
+        bad = λ _. (subst (λ z. ¬ IsViableFor g z) (next_byte w piece i lt) next.0, subst (λ z. IsFed new z c) (next_byte w piece i lt) next.1);
       }
 
-pub went_next : (f old : Front) (g : Graph) (piece : List ℕ) (i : ℕ) → i < length piece → Went f old g piece i → (new : Front) → ((w : List ℕ) (c : List Symbol) → IsFed f w c → Viable g (w ++ slice_index_or piece i 0 ∷ []) × IsFed new (w ++ slice_index_or piece i 0 ∷ []) c) → Went new old g piece (i + 1)
+pub went_next : (f old : Front) (g : Graph) (piece : List ℕ) (i : ℕ) → i < length piece → Went f old g piece i → (new : Front) → ((w : List ℕ) (c : List Symbol) → IsFed f w c → IsViableFor g (w ++ slice_index_or piece i 0 ∷ []) × IsFed new (w ++ slice_index_or piece i 0 ∷ []) c) → Went new old g piece (i + 1)
 went_next f old g piece i lt h new by = record {
   fed = λ w c fed v. subst (λ z. IsFed new z c) (next_byte w piece i lt) (by (w ++ take i piece) c (h.fed w c fed v)).1;
-  good = λ w c fed v. subst (λ z. Viable g z) (next_byte w piece i lt) (by (w ++ take i piece) c (h.fed w c fed v)).0;
+  good = λ w c fed v. subst (λ z. IsViableFor g z) (next_byte w piece i lt) (by (w ++ take i piece) c (h.fed w c fed v)).0;
 }
 
 -- what a frontier's paths agree on is told
-pub paths_tell : (f mid new : Front) (n m : ℕ) (piece : List ℕ) (count : ℕ) (told before after : List Symbol) → mid.machine ≡ f.machine → new.machine ≡ mid.machine → after ≡ before ++ told → count ≤ length piece → Reads f mid piece count → ((w : List ℕ) (c : List Symbol) → IsFed mid w c → IsFed new w (c ++ told) × IsSaid mid.machine w (c ++ told)) → Tells (Paths (record { frontier = f; read = n })) (Paths (record { frontier = new; read = m })) piece count before after
+pub paths_tell : (f mid new : Front) (n m : ℕ) (piece : List ℕ) (count : ℕ) (told before after : List Symbol) → mid.machine ≡ f.machine → new.machine ≡ mid.machine → after ≡ before ++ told → count ≤ length piece → OracleReads f mid piece count → ((w : List ℕ) (c : List Symbol) → IsFed mid w c → IsFed new w (c ++ told) × IsSaid mid.machine w (c ++ told)) → Tells (Paths (record { frontier = f; read = n })) (Paths (record { frontier = new; read = m })) piece count before after
 paths_tell f mid new n m piece count told before after m1 m2 e within reads takes = record {
   more = told;
   code = e;
   within = within;
   tells = λ g w c h v.
-      let r : ReadsOn mid g w piece count c = subst (λ z. ReadsOn mid z w piece count c) h.0 (reads w c h.1 (subst (λ z. Viable z w) (sym h.0) v)) in
+      let r : ReadsOn mid g w piece count c = subst (λ z. ReadsOn mid z w piece count c) h.0 (reads w c h.1 (subst (λ z. IsViableFor z w) (sym h.0) v)) in
       let said : (x : List ℕ) → IsFed mid x c → IsFed new x (c ++ told) × IsSaid g x (c ++ told) = λ x k. let t = takes x c k in (t.0, subst (λ z. IsSaid z x (c ++ told)) (m1 ∙ h.0) t.1) in
       record {
         hears = λ all. (m2 ∙ m1 ∙ h.0, (said (w ++ piece) (r.all all)).0);
@@ -119,7 +119,7 @@ paths_tell f mid new n m piece count told before after m1 m2 e within reads take
         all is =
             let whole : take count piece ≡ piece = ap (λ z. take z piece) is ∙ take_all piece in
             let s = (said (w ++ piece) (r.all is)).1 in
-            let good = subst (λ z. Viable g (w ++ z)) whole r.good in
+            let good = subst (λ z. IsViableFor g (w ++ z)) whole r.good in
             subst (λ z. Agreed (node_moves g.nodes) g.start (w ++ z) (c ++ told)) (sym whole) (subst (λ z. Agreed (node_moves g.nodes) g.start z (c ++ told)) (whole_front g (w ++ piece) s.of s.longest good) s.agreed)
 
         some : count < length piece → Agreed (node_moves g.nodes) g.start (w ++ take count piece) (c ++ told)
@@ -141,7 +141,7 @@ paths_end Cut f mid n told before after m is e over = record {
   tells = λ g w c h v.
       let o = over w c h.1 in
       let s = subst (λ z. IsSaid z w (c ++ told)) (m ∙ h.0) (subst (λ z. IsSaid mid.machine w (c ++ z)) (sym is) o.1) in (
-        subst (λ z. ¬ HasParse z w) (m ∙ h.0) o.0,
+        subst (λ z. ¬ HasRun z w) (m ∙ h.0) o.0,
         agrees g w (c ++ told) (survivor_of f g w c h.0 h.1 v) (subst (λ z. Agreed (node_moves g.nodes) g.start z (c ++ told)) (whole_front g w s.of s.longest v) s.agreed),
       );
 }

@@ -9,13 +9,13 @@ use Rattle.kex_model.proofs.Walks.{bytes_of-append}
 use Rattle.kex_model.proofs.AgreedFronts.{agreed_greedy}
 use Rattle.kex_model.proofs.Derivations.{walk-append, code_of-append}
 use Rattle.kex_machine.specs.Nodes.{Graph, node_moves, IsTrimmed}
-use Rattle.kex_machine.specs.Answers.{Viable, HasParse}
+use Rattle.kex_machine.specs.Answers.{IsViableFor, HasRun}
 use Rattle.kex_machine.proofs.Ranges.{is_trim}
 use Rattle.kex_machine.proofs.LongestFronts.{no_parse}
 use Rattle.kex_sst.specs.Tables.{Transducer}
 use Rattle.kex_sst.specs.Passes.{Pass, first_pass, passes, whole_code}
 use Rattle.kex_sst.specs.Machines.{IsTableOf}
-use Rattle.kex_runner.specs.Running.{Running, HasNoEnd, IsFed, IsRunOf, IsLive, IsDead, HasPassed, Feeds, Ends, pass_of}
+use Rattle.kex_runner.specs.Running.{Running, HasNoEnd, IsRunnerFed, IsRunOf, IsRunnerLive, IsRunnerDead, HasPassed, RunnerFeeds, RunnerEnds, pass_of}
 use Rattle.kex_runner.specs.declared.answers.Fed.{Fed}
 use Rattle.kex_runner.specs.declared.answers.Fed.TheVariants.{On, Dead}
 use Rattle.kex_runner.specs.declared.answers.Ended.TheVariants.{Parsed, Cut}
@@ -34,7 +34,7 @@ module _ (g : Graph) (t : Transducer) (trimmed : IsTrimmed g) (of : IsTableOf g 
       agreed : Agreed (node_moves g.nodes) g.start w p.code
       agreed = of.goes_on w p e
 
-      with_parse : (v : List ℕ) → HasParse g (w ++ v) → Agrees g w p.code
+      with_parse : (v : List ℕ) → HasRun g (w ++ v) → Agrees g w p.code
       with_parse v h = at (passes t (w ++ v)) refl
         where
           ends : (q : Pass) → passes t (w ++ v) ≡ Some q → (o : Option (List Symbol)) → whole_code t q ≡ o → Agrees g w p.code
@@ -54,7 +54,7 @@ module _ (g : Graph) (t : Transducer) (trimmed : IsTrimmed g) (of : IsTableOf g 
           at None f = absurd (no_parse g (is_trim g trimmed) (w ++ v) (of.stops (w ++ v) f) h)
           at (Some q) f = ends q f (whole_code t q) refl
 
-      by : Viable g w → Agrees g w p.code
+      by : IsViableFor g w → Agrees g w p.code
       by (q, (c, (ks, path, is), (js, e, walk, end))) =
           with_parse (bytes_of (code_of js)) (
             ks ++ js,
@@ -63,13 +63,13 @@ module _ (g : Graph) (t : Transducer) (trimmed : IsTrimmed g) (of : IsTableOf g 
           )
 
   -- where a text can go on, no byte of it was refused
-  pub still_live : (r : Running) (w : List ℕ) (c : List Symbol) → r.table ≡ t → IsRunOf r w c → Viable g w → HasPassed r w c
+  pub still_live : (r : Running) (w : List ℕ) (c : List Symbol) → r.table ≡ t → IsRunOf r w c → IsViableFor g w → HasPassed r w c
   still_live r w c e s v = ⊎_elim (λ l. l.1) (λ x. absurd (of.stops w (subst (λ z. passes z w ≡ None) e (stopped_none x.1.1)) v)) s
 
-  pub begins_good : Viable g []
+  pub begins_good : IsViableFor g []
   begins_good = (of.goes_on [] (first_pass t.initial) refl).viable
 
-fed_stands : (answer : Fed) (r : Running) (w : List ℕ) (c : List Symbol) → IsFed answer r w c → IsRunOf r w c
+fed_stands : (answer : Fed) (r : Running) (w : List ℕ) (c : List Symbol) → IsRunnerFed answer r w c → IsRunOf r w c
 fed_stands On r w c h = h.1
 fed_stands Dead r w c h = h.1
 
@@ -77,7 +77,7 @@ no_end : (t : Transducer) (o : Option Pass) (p : Pass) → o ≡ Some p → HasN
 no_end t o p e h = subst (λ z. HasNoEnd t z) e h
 
 -- what a runner passes on along a piece is told
-pub table_tells : (answer : Fed) (f0 f1 : Follower) (piece : List ℕ) (count : ℕ) (before after : List Symbol) → f1.moves ≡ f0.moves → f1.runner.table ≡ f0.runner.table → Feeds answer f0.runner f1.runner piece before after → f1.runner.read ≡ f0.runner.read + count → count ≤ length piece → Tells (Table f0) (Table f1) piece count before after
+pub table_tells : (answer : Fed) (f0 f1 : Follower) (piece : List ℕ) (count : ℕ) (before after : List Symbol) → f1.moves ≡ f0.moves → f1.runner.table ≡ f0.runner.table → RunnerFeeds answer f0.runner f1.runner piece before after → f1.runner.read ≡ f0.runner.read + count → count ≤ length piece → Tells (Table f0) (Table f1) piece count before after
 table_tells answer f0 f1 piece count before after moves same f read within = record {
   more = f.more;
   code = f.code;
@@ -94,19 +94,19 @@ table_tells answer f0 f1 piece count before after moves same f read within = rec
         told : (v : List ℕ) → HasPassed f1.runner v (c ++ f.more) → Agrees g v (c ++ f.more)
         told v h = subst (λ z. Agrees g v z) (ap (λ z. (c ++ f.more) ++ z) f.told ∙ append-nil (c ++ f.more)) (table_agrees g f1.runner.table trimmed of_new v (pass_of f1.runner (c ++ f.more)) h.passes)
 
-        live : IsLive f1.runner (w ++ piece) (c ++ f.more) → HearsOn g (Table f1) w piece count (c ++ f.more)
+        live : IsRunnerLive f1.runner (w ++ piece) (c ++ f.more) → HearsOn g (Table f1) w piece count (c ++ f.more)
         live l =
             let all : count ≡ length piece = omega (arith, read, l.1.count, was.count, length-append w piece) in
             let whole : take count piece ≡ piece = ap (λ z. take z piece) all ∙ take_all piece in
             let agrees = told (w ++ piece) l.1 in
             record {
               hears = λ e. (trimmed, of_new, ap (λ z. z.table) moves ∙ learnt ∙ sym same, s);
-              good = subst (λ z. Viable g (w ++ z)) (sym whole) agrees.agreed.viable;
+              good = subst (λ z. IsViableFor g (w ++ z)) (sym whole) agrees.agreed.viable;
               bad = λ lt. absurd (omega (arith, lt, all));
               agrees = subst (λ z. Agrees g (w ++ z) (c ++ f.more)) (sym whole) agrees;
             }
 
-        dead : IsDead f1.runner (w ++ piece) (c ++ f.more) → HearsOn g (Table f1) w piece count (c ++ f.more)
+        dead : IsRunnerDead f1.runner (w ++ piece) (c ++ f.more) → HearsOn g (Table f1) w piece count (c ++ f.more)
         dead (d, (v, stop, h)) =
             let long : length v ≡ length w + count = omega (arith, read, h.count, was.count) in
             let less : count < length piece = omega (arith, long, ap length stop.front, length-append w piece, length-append v (stop.byte ∷ stop.rest)) in
@@ -116,20 +116,20 @@ table_tells answer f0 f1 piece count before after moves same f read within = rec
             let agrees = told v h in
             record {
               hears = λ e. absurd (omega (arith, e, less));
-              good = subst (λ z. Viable g z) here agrees.agreed.viable;
-              bad = λ lt. subst (λ z. ¬ Viable g z) next (of_new.stops (v ++ stop.byte ∷ []) stop.stops);
+              good = subst (λ z. IsViableFor g z) here agrees.agreed.viable;
+              bad = λ lt. subst (λ z. ¬ IsViableFor g z) next (of_new.stops (v ++ stop.byte ∷ []) stop.stops);
               agrees = subst (λ z. Agrees g z (c ++ f.more)) here agrees;
             }
 
 -- what a runner passes on at the end is told
-pub table_ends : (f : Follower) (before after : List Symbol) → Ends Parsed f.runner before after → TellsEnd true (Table f) before after
+pub table_ends : (f : Follower) (before after : List Symbol) → RunnerEnds Parsed f.runner before after → TellsEnd true (Table f) before after
 table_ends f before after e = record {
   more = e.more;
   code = e.code;
   tells = λ g w c h v. let o = e.over w c h.3 in h.1.parsed w o.0 (c ++ e.more) o.1 o.2;
 }
 
-pub table_cut : (f : Follower) (before after : List Symbol) → Ends Cut f.runner before after → TellsEnd false (Table f) before after
+pub table_cut : (f : Follower) (before after : List Symbol) → RunnerEnds Cut f.runner before after → TellsEnd false (Table f) before after
 table_cut f before after e = record {
   more = e.more;
   code = e.code;
@@ -146,7 +146,7 @@ table_cut f before after e = record {
 }
 
 -- a text on which all was told is agreed
-pub table_told : (f : Follower) (g : Graph) (w : List ℕ) (c : List Symbol) → f.runner.pending ≡ [] → Hears g (Table f) w c → Viable g w → Agrees g w c
+pub table_told : (f : Follower) (g : Graph) (w : List ℕ) (c : List Symbol) → f.runner.pending ≡ [] → Hears g (Table f) w c → IsViableFor g w → Agrees g w c
 table_told f g w c none h v =
     let live = still_live g f.runner.table h.0 h.1 f.runner w c refl h.3 v in
     subst (λ z. Agrees g w z) (ap (λ z. c ++ z) none ∙ append-nil c) (table_agrees g f.runner.table h.0 h.1 w (pass_of f.runner c) live.passes)

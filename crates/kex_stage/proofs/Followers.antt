@@ -2,7 +2,7 @@
 use Rattle.std.proofs.Common.{◌≡◌, ℕ, zero, suc, ◌<◌, ◌≤◌, ◌+◌, ◌-◌, Bool, true, false, List, [], ◌∷◌, ◌++◌, Some, length, take, drop, refl, sym, ap, ap₂, subst, ◌∙◌, append_assoc, append-nil, arith, length-append, take-append-drop}
 use Rattle.std.proofs.lemmas.List.{length-take-le, take_rest}
 use Rattle.kex_code.specs.declared.symbol.Symbol.{Symbol}
-use Rattle.kex_machine.specs.Answers.{Viable, Says}
+use Rattle.kex_machine.specs.Answers.{IsViableFor, SaysByRun}
 use Rattle.kex_action.specs.Actors.{Position, HasPerformed, BeginsRun, TookAll}
 use Rattle.kex_sst.specs.Machines.{IsTableOf}
 use Rattle.kex_sst.specs.Passes.{passes}
@@ -13,23 +13,23 @@ use Rattle.kex_stage.specs.declared.follower.Follower.{Follower}
 use Rattle.kex_stage.specs.declared.oracle.Oracle.{Oracle}
 use Rattle.kex_stage.specs.declared.oracle.Oracle.TheVariants.{Table}
 use Rattle.kex_stage.specs.Oracles.{Agrees}
-use Rattle.kex_stage.specs.Works.{Followed, Works, Goes}
+use Rattle.kex_stage.specs.Works.{Followed, StageWorks, StageGoes}
 use Rattle.kex_stage.specs.Strides.{HasGone}
 use Rattle.kex_stage.proofs.OracleAnswers.{says, take_all}
 use Rattle.kex_stage.proofs.ByTable.{still_live, table_agrees, table_told}
 
 -- nothing is done
-pub goes_nowhere : (o : Oracle) (a : Position) (out : List ℕ) → Goes o o a a [] out out
+pub goes_nowhere : (o : Oracle) (a : Position) (out : List ℕ) → StageGoes o o a a [] out out
 goes_nowhere o a out = record {
   goes = λ g w text f v. record {
     more = [];
     written = sym (append-nil out);
     followed = subst (λ z. Followed g o a z (text ++ [])) (sym (append-nil w)) (subst (λ z. Followed g o a w z) (sym (append-nil text)) f);
-    good = subst (λ z. Viable g z) (sym (append-nil w)) v;
+    good = subst (λ z. IsViableFor g z) (sym (append-nil w)) v;
   };
 }
 
-pub goes_more : (o m n : Oracle) (a b c : Position) (p q x y z : List ℕ) → Goes o m a b p x y → Goes m n b c q y z → Goes o n a c (p ++ q) x z
+pub goes_more : (o m n : Oracle) (a b c : Position) (p q x y z : List ℕ) → StageGoes o m a b p x y → StageGoes m n b c q y z → StageGoes o n a c (p ++ q) x z
 goes_more o m n a b c p q x y z first then = record {
   goes = λ g w text f v.
       let h = first.goes g w text f v in
@@ -38,16 +38,16 @@ goes_more o m n a b c p q x y z first then = record {
         more = h.more ++ k.more;
         written = k.written ∙ ap (λ u. u ++ k.more) h.written ∙ append_assoc x h.more k.more;
         followed = subst (λ u. Followed g n c u (text ++ (h.more ++ k.more))) (append_assoc w p q) (subst (λ u. Followed g n c ((w ++ p) ++ q) u) (append_assoc text h.more k.more) k.followed);
-        good = subst (λ u. Viable g u) (append_assoc w p q) k.good;
+        good = subst (λ u. IsViableFor g u) (append_assoc w p q) k.good;
       };
 }
 
 -- all of a piece was good
-pub goes_all : (o n : Oracle) (a b : Position) (p : List ℕ) (count : ℕ) (x y : List ℕ) → count ≡ length p → Works o n a b p count x y → Goes o n a b p x y
+pub goes_all : (o n : Oracle) (a b : Position) (p : List ℕ) (count : ℕ) (x y : List ℕ) → count ≡ length p → StageWorks o n a b p count x y → StageGoes o n a b p x y
 goes_all o n a b p count x y all h = record {
   goes = λ g w text f v.
       let k = h.works g w text f v in
-      record { more = k.more; written = k.written; followed = k.followed all; good = subst (λ z. Viable g (w ++ z)) (ap (λ z. take z p) all ∙ take_all p) k.good };
+      record { more = k.more; written = k.written; followed = k.followed all; good = subst (λ z. IsViableFor g (w ++ z)) (ap (λ z. take z p) all ∙ take_all p) k.good };
 }
 
 take_past : (p q : List ℕ) (k : ℕ) → take (length p + k) (p ++ q) ≡ p ++ take k q
@@ -61,7 +61,7 @@ take_front (b ∷ p) q zero le = refl
 take_front (b ∷ p) q (suc k) le = ap (λ z. b ∷ z) (take_front p q k (omega arith))
 
 -- and of the next a byte is refused
-pub works_more : (o m n : Oracle) (a b c : Position) (p q : List ℕ) (count : ℕ) (x y z : List ℕ) → Goes o m a b p x y → Works m n b c q count y z → count < length q → Works o n a c (p ++ q) (length p + count) x z
+pub works_more : (o m n : Oracle) (a b c : Position) (p q : List ℕ) (count : ℕ) (x y z : List ℕ) → StageGoes o m a b p x y → StageWorks m n b c q count y z → count < length q → StageWorks o n a c (p ++ q) (length p + count) x z
 works_more o m n a b c p q count x y z first then lt = record {
   within = omega (arith, length-append p q, then.within);
   works = λ g w text f v.
@@ -73,14 +73,14 @@ works_more o m n a b c p q count x y z first then lt = record {
         more = h.more ++ k.more;
         written = k.written ∙ ap (λ u. u ++ k.more) h.written ∙ append_assoc x h.more k.more;
         followed = λ e. absurd (omega (arith, e, length-append p q, lt));
-        good = subst (λ u. Viable g u) (at count) k.good;
-        bad = λ _. subst (λ u. ¬ Viable g u) (at (count + 1) ∙ ap (λ i. w ++ take i (p ++ q)) next) (k.bad lt);
-        says = subst (λ u. Says g u (text ++ (h.more ++ k.more))) (at count) (subst (λ u. Says g ((w ++ p) ++ take count q) u) (append_assoc text h.more k.more) k.says);
+        good = subst (λ u. IsViableFor g u) (at count) k.good;
+        bad = λ _. subst (λ u. ¬ IsViableFor g u) (at (count + 1) ∙ ap (λ i. w ++ take i (p ++ q)) next) (k.bad lt);
+        says = subst (λ u. SaysByRun g u (text ++ (h.more ++ k.more))) (at count) (subst (λ u. SaysByRun g ((w ++ p) ++ take count q) u) (append_assoc text h.more k.more) k.says);
       };
 }
 
 -- what stands behind a byte that is refused doesn't matter
-pub works_longer : (o n : Oracle) (a b : Position) (p rest : List ℕ) (count : ℕ) (x y : List ℕ) → count < length p → Works o n a b p count x y → Works o n a b (p ++ rest) count x y
+pub works_longer : (o n : Oracle) (a b : Position) (p rest : List ℕ) (count : ℕ) (x y : List ℕ) → count < length p → StageWorks o n a b p count x y → StageWorks o n a b (p ++ rest) count x y
 works_longer o n a b p rest count x y lt h = record {
   within = omega (arith, length-append p rest, lt);
   works = λ g w text f v.
@@ -89,14 +89,14 @@ works_longer o n a b p rest count x y lt h = record {
         more = k.more;
         written = k.written;
         followed = λ e. absurd (omega (arith, e, length-append p rest, lt));
-        good = subst (λ u. Viable g (w ++ u)) (sym (take_front p rest count (omega (arith, lt)))) k.good;
-        bad = λ _. subst (λ u. ¬ Viable g (w ++ u)) (sym (take_front p rest (count + 1) (omega (arith, lt)))) (k.bad lt);
-        says = subst (λ u. Says g (w ++ u) (text ++ k.more)) (sym (take_front p rest count (omega (arith, lt)))) k.says;
+        good = subst (λ u. IsViableFor g (w ++ u)) (sym (take_front p rest count (omega (arith, lt)))) k.good;
+        bad = λ _. subst (λ u. ¬ IsViableFor g (w ++ u)) (sym (take_front p rest (count + 1) (omega (arith, lt)))) (k.bad lt);
+        says = subst (λ u. SaysByRun g (w ++ u) (text ++ k.more)) (sym (take_front p rest count (omega (arith, lt)))) k.says;
       };
 }
 
 -- at the end the actor does what needs no symbol
-pub settles : (o : Oracle) (f : Follower) (a b c : Position) (p x y z : List ℕ) → f.runner.pending ≡ [] → Goes o (Table f) a b p x y → TookAll b c [] y z → c.machine ≡ b.machine → Works o (Table f) a c p (length p) x z
+pub settles : (o : Oracle) (f : Follower) (a b c : Position) (p x y z : List ℕ) → f.runner.pending ≡ [] → StageGoes o (Table f) a b p x y → TookAll b c [] y z → c.machine ≡ b.machine → StageWorks o (Table f) a c p (length p) x z
 settles o f a b c p x y z none first took mc = record {
   within = omega arith;
   works = λ g w text fol v.
@@ -109,14 +109,14 @@ settles o f a b c p x y z none first took mc = record {
         more = h.more ++ took.went.more;
         written = took.went.written ∙ ap (λ u. u ++ took.went.more) h.written ∙ append_assoc x h.more took.went.more;
         followed = λ e. record { code = d.code; hears = d.hears; performed = subst (λ u. HasPerformed c d.code d.code u) (append_assoc text h.more took.went.more) done; machine = mc ∙ d.machine };
-        good = subst (λ u. Viable g (w ++ u)) (sym (take_all p)) h.good;
+        good = subst (λ u. IsViableFor g (w ++ u)) (sym (take_all p)) h.good;
         bad = λ lt. absurd (omega (arith, lt));
-        says = subst (λ u. Says g (w ++ u) (text ++ (h.more ++ took.went.more))) (sym (take_all p)) (subst (λ u. Says g (w ++ p) u) (append_assoc text h.more took.went.more) said);
+        says = subst (λ u. SaysByRun g (w ++ u) (text ++ (h.more ++ took.went.more))) (sym (take_all p)) (subst (λ u. SaysByRun g (w ++ p) u) (append_assoc text h.more took.went.more) said);
       };
 }
 
 -- table and actor run on at once
-pub runs_go : (f new : Follower) (a b : Position) (q count : ℕ) (bs before after : List ℕ) → f.runner.pending ≡ [] → f.runner.registers ≡ [] → new.moves ≡ f.moves → new.runner.table ≡ f.runner.table → b.machine ≡ a.machine → length bs ≡ count → RunsOn f.moves.table a b f.runner.state q bs before after → ((w v : List ℕ) (c d : List Symbol) → IsRunOf f.runner w c → length v ≡ count → passes f.runner.table (w ++ v) ≡ Some (pass_at q (c ++ d) []) → IsRunOf new.runner (w ++ v) (c ++ d)) → Goes (Table f) (Table new) a b bs before after
+pub runs_go : (f new : Follower) (a b : Position) (q count : ℕ) (bs before after : List ℕ) → f.runner.pending ≡ [] → f.runner.registers ≡ [] → new.moves ≡ f.moves → new.runner.table ≡ f.runner.table → b.machine ≡ a.machine → length bs ≡ count → RunsOn f.moves.table a b f.runner.state q bs before after → ((w v : List ℕ) (c d : List Symbol) → IsRunOf f.runner w c → length v ≡ count → passes f.runner.table (w ++ v) ≡ Some (pass_at q (c ++ d) []) → IsRunOf new.runner (w ++ v) (c ++ d)) → StageGoes (Table f) (Table new) a b bs before after
 runs_go f new a b q count bs before after none no_registers moves table mb long r stands = record {
   goes = λ g w text fol v.
       let h = fol.hears in
@@ -140,14 +140,14 @@ runs_go f new a b q count bs before after none no_registers moves table mb long 
 }
 
 -- a part is run, and a part read behind it
-pub strides : (refused : Bool) (o m n : Oracle) (a b c : Position) (piece next rest : List ℕ) (ran count : ℕ) (x y z : List ℕ) → piece ≡ take ran piece ++ (next ++ rest) → ran ≤ length piece → count ≤ length next → Goes o m a b (take ran piece) x y → HasGone refused m n b c next count y z → HasGone refused o n a c piece (ran + count) x z
+pub strides : (refused : Bool) (o m n : Oracle) (a b c : Position) (piece next rest : List ℕ) (ran count : ℕ) (x y z : List ℕ) → piece ≡ take ran piece ++ (next ++ rest) → ran ≤ length piece → count ≤ length next → StageGoes o m a b (take ran piece) x y → HasGone refused m n b c next count y z → HasGone refused o n a c piece (ran + count) x z
 strides true o m n a b c piece next rest ran count x y z is le within first then =
     let lt : count < length next = then.0 in
     let long : length (take ran piece) ≡ ran = length-take-le ran piece le in
     let all : (take ran piece ++ next) ++ rest ≡ piece = append_assoc (take ran piece) next rest ∙ sym is in
     let done = works_longer o n a c (take ran piece ++ next) rest (length (take ran piece) + count) x z (omega (arith, length-append (take ran piece) next, lt)) (works_more o m n a b c (take ran piece) next count x y z first then.1 lt) in (
       omega (arith, ap length is, length-append (take ran piece) (next ++ rest), length-append next rest, long, lt),
-      subst (λ k. Works o n a c piece (k + count) x z) long (subst (λ p. Works o n a c p (length (take ran piece) + count) x z) all done),
+      subst (λ k. StageWorks o n a c piece (k + count) x z) long (subst (λ p. StageWorks o n a c p (length (take ran piece) + count) x z) all done),
     )
 strides false o m n a b c piece next rest ran count x y z is le within first then =
     let long : length (take ran piece) ≡ ran = length-take-le ran piece le in
@@ -156,19 +156,19 @@ strides false o m n a b c piece next rest ran count x y z is le within first the
     ∙ sym (take_past (take ran piece) (next ++ rest) count)
     ∙ ap (λ i. take (i + count) (take ran piece ++ (next ++ rest))) long
     ∙ ap (λ u. take (ran + count) u) (sym is) in
-    subst (λ p. Goes o n a c p x z) both (goes_more o m n a b c (take ran piece) (take count next) x y z first then)
+    subst (λ p. StageGoes o n a c p x z) both (goes_more o m n a b c (take ran piece) (take count next) x y z first then)
 
 -- the front of a piece is read: all of it is good, or a byte of it is refused
 pub fronts : (refused : Bool) (o n : Oracle) (a b : Position) (piece : List ℕ) (taken count : ℕ) (x y : List ℕ) → taken ≤ length piece → HasGone refused o n a b (take taken piece) count x y → count ≤ taken → HasGone refused o n a b piece count x y
 fronts true o n a b piece taken count x y le h within =
     let long = length-take-le taken piece le in
-    (omega (arith, h.0, long, le), subst (λ p. Works o n a b p count x y) (take-append-drop taken piece) (works_longer o n a b (take taken piece) (drop taken piece) count x y h.0 h.1))
+    (omega (arith, h.0, long, le), subst (λ p. StageWorks o n a b p count x y) (take-append-drop taken piece) (works_longer o n a b (take taken piece) (drop taken piece) count x y h.0 h.1))
 fronts false o n a b piece taken count x y le h within =
     let long = length-take-le taken piece le in
-    subst (λ p. Goes o n a b p x y) (sym (take_front (take taken piece) (drop taken piece) count (omega (arith, long, within))) ∙ ap (λ p. take count p) (take-append-drop taken piece)) h
+    subst (λ p. StageGoes o n a b p x y) (sym (take_front (take taken piece) (drop taken piece) count (omega (arith, long, within))) ∙ ap (λ p. take count p) (take-append-drop taken piece)) h
 
 -- the actor does what needs no symbol
-pub rests : (o : Oracle) (a b : Position) (x y : List ℕ) → TookAll a b [] x y → b.machine ≡ a.machine → Goes o o a b [] x y
+pub rests : (o : Oracle) (a b : Position) (x y : List ℕ) → TookAll a b [] x y → b.machine ≡ a.machine → StageGoes o o a b [] x y
 rests o a b x y took mb = record {
   goes = λ g w text f v.
       let done : HasPerformed b f.code f.code (text ++ took.went.more) = subst (λ u. HasPerformed b u u (text ++ took.went.more)) (append-nil f.code) (took.went.performed f.code f.code text f.performed) in
@@ -176,12 +176,12 @@ rests o a b x y took mb = record {
         more = took.went.more;
         written = took.went.written;
         followed = subst (λ z. Followed g o b z (text ++ took.went.more)) (sym (append-nil w)) (record { code = f.code; hears = f.hears; performed = done; machine = mb ∙ f.machine });
-        good = subst (λ z. Viable g z) (sym (append-nil w)) v;
+        good = subst (λ z. IsViableFor g z) (sym (append-nil w)) v;
       };
 }
 
 -- of no bytes none is refused
-pub none_refused : (refused : Bool) (o n : Oracle) (a b : Position) (count : ℕ) (x y : List ℕ) → count ≤ 0 → HasGone refused o n a b [] count x y → Goes o n a b [] x y
+pub none_refused : (refused : Bool) (o n : Oracle) (a b : Position) (count : ℕ) (x y : List ℕ) → count ≤ 0 → HasGone refused o n a b [] count x y → StageGoes o n a b [] x y
 none_refused true o n a b count x y le h = absurd (omega (arith, h.0))
 none_refused false o n a b zero x y le h = h
 none_refused false o n a b (suc k) x y le h = absurd (omega arith)

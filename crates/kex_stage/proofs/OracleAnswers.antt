@@ -8,12 +8,12 @@ use Rattle.kex_model.proofs.OpenAnswers.{shorter_front, same_front}
 use Rattle.kex_model.proofs.Walks.{bytes_of-append}
 use Rattle.kex_model.proofs.Derivations.{walk-append, code_of-append}
 use Rattle.kex_machine.specs.Nodes.{Graph, node_moves}
-use Rattle.kex_machine.specs.Answers.{Viable, IsRun, left_by, Says, Means, IsSaid, IsGreedy}
+use Rattle.kex_machine.specs.Answers.{IsViableFor, IsRun, left_by, SaysByRun, MeansByRun, IsSaid, IsGreedy}
 use Rattle.kex_action.specs.Actors.{Position, HasPerformed, IsSettled}
 use Rattle.kex_stage.specs.Oracles.{Agrees, HasSurvivor}
 
 -- the longest front that can go on of a text that can is the text
-pub whole_front : (g : Graph) (w of : List ℕ) → LongestViable (node_moves g.nodes) g.start w of → Viable g w → of ≡ w
+pub whole_front : (g : Graph) (w of : List ℕ) → LongestViable (node_moves g.nodes) g.start w of → IsViableFor g w → of ≡ w
 whole_front g w of l v =
     let more : length w ≤ length of = l.longest w ([], sym (append-nil w)) v in
     same_front w of w l.front ([], sym (append-nil w)) (omega (arith, more, ap length l.front.1, length-append of l.front.0))
@@ -36,10 +36,10 @@ module _ (g : Graph) (a : Position) (same : a.machine ≡ g) (settled : IsSettle
   left_out : (ks : List (Step ℕ)) → IsRun g ks → Begins (code_of ks) c → out ≡ (left_by g ks c).out
   left_out ks r b = subst (λ m. out ≡ (left_by m ks c).out) same (sym (ap (λ z. z.out) (p.left settled ks (subst (λ m. IsRun m ks) (sym same) r) b)))
 
-  pub says : (w : List ℕ) → Agrees g w c → Says g w out
+  pub says : (w : List ℕ) → Agrees g w c → SaysByRun g w out
   says w h = record { agreed = c; is_agreed = h.agreed; run = h.run; runs = h.runs; reads = h.reads; begins = h.begins; said = left_out h.run h.runs h.begins }
 
-  pub means : (w : List ℕ) → IsGreedy g w c → Means g w out
+  pub means : (w : List ℕ) → IsGreedy g w c → MeansByRun g w out
   means w h =
       let e = h.greedy in
       let path = e.2.reached in
@@ -55,13 +55,13 @@ module _ (g : Graph) (a : Position) (same : a.machine ≡ g) (settled : IsSettle
       }
 
 -- what is said where a byte was refused is what was agreed before it
-pub said_before : (g : Graph) (v next : List ℕ) (c : List Symbol) → Begins next v → length next ≡ length v + 1 → Viable g v → (Viable g next → ⊥) → IsSaid g next c → Agreed (node_moves g.nodes) g.start v c
+pub said_before : (g : Graph) (v next : List ℕ) (c : List Symbol) → Begins next v → length next ≡ length v + 1 → IsViableFor g v → (IsViableFor g next → ⊥) → IsSaid g next c → Agreed (node_moves g.nodes) g.start v c
 said_before g v next c p n good bad s =
     let more : length v ≤ length s.of = s.longest.longest v p good in
     subst (λ z. Agreed (node_moves g.nodes) g.start z c) (same_front next s.of v s.longest.front p (by s.of s.longest.front.0 s.longest.front.1 s.longest.viable more)) s.agreed
   where
-    by : (of m : List ℕ) → next ≡ of ++ m → Viable g of → length v ≤ length of → length of ≡ length v
-    by of [] f h le = absurd (bad (subst (λ z. Viable g z) (sym (f ∙ append-nil of)) h))
+    by : (of m : List ℕ) → next ≡ of ++ m → IsViableFor g of → length v ≤ length of → length of ≡ length v
+    by of [] f h le = absurd (bad (subst (λ z. IsViableFor g z) (sym (f ∙ append-nil of)) h))
     by of (y ∷ m) f h le = omega (arith, ap length f, length-append of (y ∷ m), n, le)
 
 pub take_all : {A : Type 0} (xs : List A) → take (length xs) xs ≡ xs

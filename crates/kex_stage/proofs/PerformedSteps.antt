@@ -9,7 +9,7 @@ use Rattle.kex_stage.specs.declared.follower.Follower.{Follower}
 use Rattle.kex_stage.specs.declared.oracle.Oracle.{Oracle}
 use Rattle.kex_stage.specs.declared.oracle.Oracle.TheVariants.{Table}
 use Rattle.kex_stage.specs.Oracles.{Tells}
-use Rattle.kex_stage.specs.Works.{Goes}
+use Rattle.kex_stage.specs.Works.{StageGoes}
 use Rattle.kex_stage.specs.Strides.{HasGone}
 use Rattle.kex_stage.proofs.OracleAnswers.{take_all}
 use Rattle.kex_stage.proofs.ActorOutputs.{speaks, stops}
@@ -28,7 +28,7 @@ module _ (o : Oracle) (f n : Follower) (a b : Position) (piece : List ℕ) (take
   steps_on all =
       let front : List ℕ = take taken piece in
       let whole : good ≡ length front = omega (arith, long, all, most) in
-      let goes : Goes o (Table n) a b (take good front) before after = subst (λ p. Goes o (Table n) a b p before after) (sym (ap (λ z. take z front) whole ∙ take_all front)) (speaks o (Table n) a b front good said before after mb tells performs whole) in
+      let goes : StageGoes o (Table n) a b (take good front) before after = subst (λ p. StageGoes o (Table n) a b p before after) (sym (ap (λ z. take z front) whole ∙ take_all front)) (speaks o (Table n) a b front good said before after mb tells performs whole) in
       subst (λ r. HasGone r o (Table n) a b piece good before after) (sym (le-ltb good taken all)) (fronts false o (Table n) a b piece taken good before after within goes most)
 
   -- the last byte was refused, and the actor does what needs no symbol

@@ -5,7 +5,7 @@ use Rattle.kex_code.specs.Codes.{Begins, bytes_of}
 use Rattle.kex_model.specs.Moves.{Step, code_of}
 use Rattle.kex_model.specs.Survivors.{Agreed, Survives}
 use Rattle.kex_machine.specs.Nodes.{Graph, node_moves, IsTrimmed}
-use Rattle.kex_machine.specs.Answers.{Viable, IsRun, HasParse, IsGreedy}
+use Rattle.kex_machine.specs.Answers.{IsViableFor, IsRun, HasRun, IsGreedy}
 use Rattle.kex_frontier.specs.Frontiers.{Front, IsFed}
 use Rattle.kex_frontier.specs.declared.frontier.Ended.{Ended}
 use Rattle.kex_frontier.specs.declared.frontier.Ended.TheVariants.{Parsed, Cut}
@@ -29,13 +29,13 @@ usable_of (Paths p) = p.frontier.usable
 usable_of (Table f) = f.runner.usable
 
 -- whether it was given the end
-abbrev pub ended_of : Oracle → Bool
-ended_of (Paths p) = p.frontier.ended
-ended_of (Table f) = f.runner.ended
+abbrev pub oracle_ended : Oracle → Bool
+oracle_ended (Paths p) = p.frontier.ended
+oracle_ended (Table f) = f.runner.ended
 
 -- it can be fed
 abbrev pub IsReady : Oracle → Type 0
-IsReady o = IsTrue (usable_of o) × (ended_of o ≡ false)
+IsReady o = IsTrue (usable_of o) × (oracle_ended o ≡ false)
 
 -- the machine that was learnt, if one was
 abbrev pub learnt_of : Oracle → Graph → Graph
@@ -57,8 +57,8 @@ pub record Agrees (g : Graph) (w : List ℕ) (c : List Symbol) : Type 0 where
 -- of a piece behind w so many bytes are good; where that is all of it, c is told
 pub record HearsOn (g : Graph) (o : Oracle) (w piece : List ℕ) (count : ℕ) (c : List Symbol) : Type 0 where
   pub hears : count ≡ length piece → Hears g o (w ++ piece) c
-  pub good : Viable g (w ++ take count piece)
-  pub bad : count < length piece → ¬ Viable g (w ++ take (count + 1) piece)
+  pub good : IsViableFor g (w ++ take count piece)
+  pub bad : count < length piece → ¬ IsViableFor g (w ++ take (count + 1) piece)
   pub agrees : Agrees g (w ++ take count piece) c
 
 -- the oracle was fed a piece, and has told what is agreed
@@ -66,28 +66,28 @@ pub record Tells (old new : Oracle) (piece : List ℕ) (count : ℕ) (before aft
   pub more : List Symbol
   pub code : after ≡ before ++ more
   pub within : count ≤ length piece
-  pub tells : (g : Graph) (w : List ℕ) (c : List Symbol) → Hears g old w c → Viable g w → HearsOn g new w piece count (c ++ more)
+  pub tells : (g : Graph) (w : List ℕ) (c : List Symbol) → Hears g old w c → IsViableFor g w → HearsOn g new w piece count (c ++ more)
 
 -- what the end shows behind w: a parse, of which c is the greedy code, or none
 abbrev pub ShowsEnd : Bool → Graph → List ℕ → List Symbol → Type 0
 ShowsEnd true g w c = IsGreedy g w c
-ShowsEnd false g w c = (¬ HasParse g w) × Agrees g w c
+ShowsEnd false g w c = (¬ HasRun g w) × Agrees g w c
 
 -- the oracle was given the end
 pub record TellsEnd (parsed : Bool) (old : Oracle) (before after : List Symbol) : Type 0 where
   pub more : List Symbol
   pub code : after ≡ before ++ more
-  pub tells : (g : Graph) (w : List ℕ) (c : List Symbol) → Hears g old w c → Viable g w → ShowsEnd parsed g w (c ++ more)
+  pub tells : (g : Graph) (w : List ℕ) (c : List Symbol) → Hears g old w c → IsViableFor g w → ShowsEnd parsed g w (c ++ more)
 
 -- going by paths, so many bytes of a piece behind w are good: the frontier was fed them, and the byte behind them, if there is one
 pub record ReadsOn (f : Front) (g : Graph) (w piece : List ℕ) (count : ℕ) (c : List Symbol) : Type 0 where
-  pub good : Viable g (w ++ take count piece)
+  pub good : IsViableFor g (w ++ take count piece)
   pub survivor : HasSurvivor g (w ++ take count piece)
   pub all : count ≡ length piece → IsFed f (w ++ piece) c
-  pub bad : count < length piece → (¬ Viable g (w ++ take (count + 1) piece)) × IsFed f (w ++ take (count + 1) piece) c
+  pub bad : count < length piece → (¬ IsViableFor g (w ++ take (count + 1) piece)) × IsFed f (w ++ take (count + 1) piece) c
 
-abbrev pub Reads : Front → Front → List ℕ → ℕ → Type 0
-Reads old new piece count = (w : List ℕ) (c : List Symbol) → IsFed old w c → Viable old.machine w → ReadsOn new old.machine w piece count c
+abbrev pub OracleReads : Front → Front → List ℕ → ℕ → Type 0
+OracleReads old new piece count = (w : List ℕ) (c : List Symbol) → IsFed old w c → IsViableFor old.machine w → ReadsOn new old.machine w piece count c
 
 abbrev pub is_parsed : Ended → Bool
 is_parsed Parsed = true

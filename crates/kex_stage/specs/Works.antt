@@ -2,7 +2,7 @@
 use Rattle.std.specs.Prelude.{◌≡◌, ℕ, ◌<◌, ◌≤◌, ◌+◌, Bool, true, false, List, ◌++◌, length, take}
 use Rattle.kex_code.specs.declared.symbol.Symbol.{Symbol}
 use Rattle.kex_machine.specs.Nodes.{Graph}
-use Rattle.kex_machine.specs.Answers.{Viable, HasParse, Says, Means}
+use Rattle.kex_machine.specs.Answers.{IsViableFor, HasRun, SaysByRun, MeansByRun}
 use Rattle.kex_action.specs.Actors.{Position, HasPerformed}
 use Rattle.kex_stage.specs.declared.oracle.Oracle.{Oracle}
 use Rattle.kex_stage.specs.Oracles.{Hears}
@@ -19,32 +19,32 @@ pub record WorksOn (g : Graph) (o : Oracle) (a : Position) (w text piece : List 
   pub more : List ℕ
   pub written : after ≡ before ++ more
   pub followed : count ≡ length piece → Followed g o a (w ++ piece) (text ++ more)
-  pub good : Viable g (w ++ take count piece)
-  pub bad : count < length piece → ¬ Viable g (w ++ take (count + 1) piece)
-  pub says : Says g (w ++ take count piece) (text ++ more)
+  pub good : IsViableFor g (w ++ take count piece)
+  pub bad : count < length piece → ¬ IsViableFor g (w ++ take (count + 1) piece)
+  pub says : SaysByRun g (w ++ take count piece) (text ++ more)
 
 -- oracle and actor went along a piece, of which so many bytes are good
-pub record Works (old new : Oracle) (a b : Position) (piece : List ℕ) (count : ℕ) (before after : List ℕ) : Type 0 where
+pub record StageWorks (old new : Oracle) (a b : Position) (piece : List ℕ) (count : ℕ) (before after : List ℕ) : Type 0 where
   pub within : count ≤ length piece
-  pub works : (g : Graph) (w text : List ℕ) → Followed g old a w text → Viable g w → WorksOn g new b w text piece count before after
+  pub works : (g : Graph) (w text : List ℕ) → Followed g old a w text → IsViableFor g w → WorksOn g new b w text piece count before after
 
 -- bytes behind w are good, and more is written
 pub record GoesOn (g : Graph) (o : Oracle) (a : Position) (w text piece before after : List ℕ) : Type 0 where
   pub more : List ℕ
   pub written : after ≡ before ++ more
   pub followed : Followed g o a (w ++ piece) (text ++ more)
-  pub good : Viable g (w ++ piece)
+  pub good : IsViableFor g (w ++ piece)
 
 -- oracle and actor went along good bytes
-pub record Goes (old new : Oracle) (a b : Position) (piece before after : List ℕ) : Type 0 where
-  pub goes : (g : Graph) (w text : List ℕ) → Followed g old a w text → Viable g w → GoesOn g new b w text piece before after
+pub record StageGoes (old new : Oracle) (a b : Position) (piece before after : List ℕ) : Type 0 where
+  pub goes : (g : Graph) (w text : List ℕ) → Followed g old a w text → IsViableFor g w → GoesOn g new b w text piece before after
 
 -- at the end what w means is written, or what is said on it
 abbrev pub WritesEnd : Bool → Graph → List ℕ → List ℕ → Type 0
-WritesEnd true g w text = Means g w text
-WritesEnd false g w text = (¬ HasParse g w) × Says g w text
+WritesEnd true g w text = MeansByRun g w text
+WritesEnd false g w text = (¬ HasRun g w) × SaysByRun g w text
 
-pub record Finishes (parsed : Bool) (old : Oracle) (a : Position) (before after : List ℕ) : Type 0 where
+pub record StageFinishes (parsed : Bool) (old : Oracle) (a : Position) (before after : List ℕ) : Type 0 where
   pub more : List ℕ
   pub written : after ≡ before ++ more
-  pub finishes : (g : Graph) (w out : List ℕ) → Followed g old a w out → Viable g w → WritesEnd parsed g w (out ++ more)
+  pub finishes : (g : Graph) (w out : List ℕ) → Followed g old a w out → IsViableFor g w → WritesEnd parsed g w (out ++ more)

@@ -8,7 +8,7 @@ use kex_machine::Trimmed;
 use kex_moves::moves::Moves;
 use kex_moves::phrases::Phrases;
 use kex_runner::runner::Runner;
-use kex_script::piece::Piece;
+use kex_script::piece::ByteWord;
 use kex_sst::table::Table;
 use std::alloc::Global;
 
@@ -20,7 +20,7 @@ pub struct Follower<'p> {
     pub moves: Moves<'p>,
     pub phrases: Phrases<'p>,
     // What was passed on last.
-    pub pieces: Vec<Piece>,
+    pub pieces: Vec<ByteWord>,
     ghost same_words: { phrases.words ≡ runner.words },
     ghost same_machine: { phrases.machine ≡ moves.machine },
 }

@@ -1,10 +1,10 @@
 // The oracle of a stage: a frontier of its machine, or a runner of its table.
 
 ghost use Rattle.std.specs.Prelude.{◌≡◌, ◌+◌, ◌^◌, ◌<◌, ◌≤◌, [], IfOk, OnOk, IsTrue, length};
-ghost use Rattle.kex_machine.specs.Answers.{Viable};
+ghost use Rattle.kex_machine.specs.Answers.{IsViableFor};
 ghost use Rattle.kex_machine.specs.Nodes.{Graph};
 ghost use Rattle.kex_stage.specs.Oracles.{Hears, IsReady, TellsEnd, learnt_of, read_of};
-ghost use Rattle.kex_stage.specs.Works.{Finishes, Works};
+ghost use Rattle.kex_stage.specs.Works.{StageFinishes, StageWorks};
 
 use crate::follower::Follower;
 use crate::paths::Paths;
@@ -27,7 +27,7 @@ impl<'p> Oracle<'p> {
     /// An oracle that was fed nothing: over the plan's table, or without one over its machine.
     pub fn new(alloc: Global, plan: &'p Plan) -> Result<Oracle<'p>, Memory>
         ensures hears { IfOk result (λ o. Hears plan.now.machine o [] []) }
-        ensures good { IfOk result (λ o. Viable plan.now.machine []) }
+        ensures good { IfOk result (λ o. IsViableFor plan.now.machine []) }
         ensures learnt { IfOk result (λ o. learnt_of o plan.now.machine ≡ plan.now.machine) }
         ensures ready { IfOk result (λ o. IsReady o × (read_of o ≡ 0)) }
     {
@@ -67,7 +67,7 @@ impl<'p> Oracle<'p> {
         requires actor { IsTrue actor.old.usable }
         requires learnt { learnt_of self.old actor.old.machine ≡ actor.old.machine }
         requires room { read_of self.old + length piece.now < 2 ^ 64 }
-        ensures works { IfOk result (λ count. Works self.old self.new actor.old actor.new piece.now count out.old.items out.new.items) }
+        ensures works { IfOk result (λ count. StageWorks self.old self.new actor.old actor.new piece.now count out.old.items out.new.items) }
         ensures read { IfOk result (λ count. read_of self.new ≡ read_of self.old + count) }
         ensures within { read_of self.new ≤ read_of self.old + length piece.now }
         ensures machine { actor.new.machine ≡ actor.old.machine }
@@ -102,7 +102,7 @@ impl<'p> Oracle<'p> {
     ) -> Result<bool, Memory>
         requires ready { IsReady self.old }
         requires actor { IsTrue actor.old.usable }
-        ensures finishes { IfOk result (λ parsed. Finishes parsed self.old actor.old out.old.items out.new.items) }
+        ensures finishes { IfOk result (λ parsed. StageFinishes parsed self.old actor.old out.old.items out.new.items) }
         ensures read { read_of self.new ≡ read_of self.old }
         ensures machine { actor.new.machine ≡ actor.old.machine }
         ensures learnt { (m : Graph) → learnt_of self.new m ≡ learnt_of self.old m }

@@ -1,8 +1,8 @@
 // A frontier, and how many good bytes it was fed.
 
 ghost use Rattle.std.specs.Prelude.{◌≡◌, ◌+◌, ◌^◌, ◌<◌, ◌≤◌, false, IfOk, OnOk, IsTrue, length};
-ghost use Rattle.kex_stage.specs.Oracles.{Reads, Tells, TellsEnd, is_parsed};
-ghost use Rattle.kex_stage.specs.Works.{Works};
+ghost use Rattle.kex_stage.specs.Oracles.{OracleReads, Tells, TellsEnd, is_parsed};
+ghost use Rattle.kex_stage.specs.Works.{StageWorks};
 
 use crate::oracle::Oracle;
 use crate::speak::speak;
@@ -22,7 +22,7 @@ pub struct Paths<'p> {
 fn follow(frontier: &mut Frontier, piece: &[u8]) -> Result<usize, Memory>
     requires usable { IsTrue frontier.old.usable }
     requires open { frontier.old.ended ≡ false }
-    ensures reads { IfOk result (λ count. Reads frontier.old frontier.new piece.now count) }
+    ensures reads { IfOk result (λ count. OracleReads frontier.old frontier.new piece.now count) }
     ensures within { IfOk result (λ count. count ≤ length piece.now) }
     ensures machine { frontier.new.machine ≡ frontier.old.machine }
     ensures usable { OnOk result (IsTrue frontier.new.usable) }
@@ -91,7 +91,7 @@ impl<'p> Paths<'p> {
         requires open { self.old.frontier.ended ≡ false }
         requires actor { IsTrue actor.old.usable }
         requires room { self.old.read + length piece.now < 2 ^ 64 }
-        ensures works { IfOk result (λ count. Works (Oracle.Paths self.old) (Oracle.Paths self.new) actor.old actor.new piece.now count out.old.items out.new.items) }
+        ensures works { IfOk result (λ count. StageWorks (Oracle.Paths self.old) (Oracle.Paths self.new) actor.old actor.new piece.now count out.old.items out.new.items) }
         ensures read { IfOk result (λ count. self.new.read ≡ self.old.read + count) }
         ensures within { self.new.read ≤ self.old.read + length piece.now }
         ensures usable { OnOk result (IsTrue self.new.frontier.usable × IsTrue actor.new.usable) }

@@ -1,9 +1,9 @@
 // A stage.
 
 ghost use Rattle.std.specs.Prelude.{◌≡◌, ◌&&◌, not, true, IfOk, IsTrue, None};
-ghost use Rattle.kex_machine.specs.Answers.{HasParse, Means, Says, Viable};
+ghost use Rattle.kex_machine.specs.Answers.{HasRun, MeansByRun, SaysByRun, IsViableFor};
 ghost use Rattle.kex_pipe.specs.Working.{ClosesParsed, SaysViable};
-ghost use Rattle.kex_stage.specs.Oracles.{ended_of, learnt_of, read_of, usable_of};
+ghost use Rattle.kex_stage.specs.Oracles.{oracle_ended, learnt_of, read_of, usable_of};
 ghost use Rattle.kex_stage.specs.StageLaws.{answering};
 ghost use Rattle.kex_stage.specs.Stages.{Gives, StageFollows, refused_at};
 
@@ -38,15 +38,15 @@ impl<'p> Worker for StageWorker<'p> {
 
     ghost machine = { λ s. s.actor.machine };
 
-    ghost says = { λ g w at text. SaysViable (Viable g) (Says g) (HasParse g) (Means g) w at text };
+    ghost says = { λ g w at text. SaysViable (IsViableFor g) (SaysByRun g) (HasRun g) (MeansByRun g) w at text };
 
-    ghost closes = { λ g w parsed text. ClosesParsed (Viable g) (Says g) (HasParse g) (Means g) w parsed text };
+    ghost closes = { λ g w parsed text. ClosesParsed (IsViableFor g) (SaysByRun g) (HasRun g) (MeansByRun g) w parsed text };
 
     ghost gives = { λ g n w e a. Gives (record { machine = g; limit = n }) w e a };
 
     ghost follows = { λ s w text. StageFollows s.oracle s.actor w text };
 
-    ghost is_ready = { λ s. usable_of s.oracle && not (ended_of s.oracle) && s.actor.usable };
+    ghost is_ready = { λ s. usable_of s.oracle && not (oracle_ended s.oracle) && s.actor.usable };
 
     ghost counted = { λ s. read_of s.oracle };
 

@@ -3,7 +3,7 @@
 ghost use Rattle.std.specs.Prelude.{◌≡◌, ◌+◌, ◌^◌, ◌<◌, ◌≤◌, [], false, IfOk, OnOk, IsTrue, length, take};
 ghost use Rattle.kex_script.specs.Pieces.{code_over};
 ghost use Rattle.kex_stage.specs.Oracles.{Tells, TellsEnd};
-ghost use Rattle.kex_stage.specs.Works.{Goes, Works};
+ghost use Rattle.kex_stage.specs.Works.{StageGoes, StageWorks};
 ghost use Rattle.kex_stage.specs.Strides.{HasGone};
 
 use crate::follower::Follower;
@@ -116,7 +116,7 @@ impl<'p> Follower<'p> {
         requires learnt { actor.old.machine ≡ self.old.moves.machine }
         requires told { self.old.runner.pending ≡ [] }
         requires room { self.old.runner.read + length piece.now < 2 ^ 64 }
-        ensures goes { IfOk result (λ count. Goes (Oracle.Table self.old) (Oracle.Table self.new) actor.old actor.new (take count piece.now) out.old.items out.new.items) }
+        ensures goes { IfOk result (λ count. StageGoes (Oracle.Table self.old) (Oracle.Table self.new) actor.old actor.new (take count piece.now) out.old.items out.new.items) }
         ensures count { IfOk result (λ count. count ≤ length piece.now) }
         ensures read { IfOk result (λ count. self.new.runner.read ≡ self.old.runner.read + count) }
         ensures within { self.new.runner.read ≤ self.old.runner.read + length piece.now }
@@ -185,7 +185,7 @@ impl<'p> Follower<'p> {
         requires actor { IsTrue actor.old.usable }
         requires learnt { actor.old.machine ≡ self.old.moves.machine }
         requires room { self.old.runner.read + length piece.now < 2 ^ 64 }
-        ensures works { IfOk result (λ count. Works (Oracle.Table self.old) (Oracle.Table self.new) actor.old actor.new piece.now count out.old.items out.new.items) }
+        ensures works { IfOk result (λ count. StageWorks (Oracle.Table self.old) (Oracle.Table self.new) actor.old actor.new piece.now count out.old.items out.new.items) }
         ensures read { IfOk result (λ count. self.new.runner.read ≡ self.old.runner.read + count) }
         ensures within { self.new.runner.read ≤ self.old.runner.read + length piece.now }
         ensures usable { OnOk result (IsTrue self.new.runner.usable × IsTrue actor.new.usable) }

@@ -6,17 +6,17 @@ use Rattle.std.proofs.lemmas.Bool.Decides.{nat_tests}
 use Rattle.std.proofs.lemmas.Bool.{eqb-false}
 use Rattle.std.proofs.lemmas.List.{take_at, length-take-le}
 use Rattle.std.proofs.Math.ListN.{take-append-drop}
-use Rattle.kex_tokens.specs.Lexemes.{is_space, is_letter, is_digit, is_name_byte, is_no_feed, is_regex_byte, AreAll, Item, items, AreItems, Atom, Plain, Escaped, atoms, AreAtoms, Kind, Name, Number, Literal, Regex, Define, Colon, Pipe, Bar, Tilde, At, Star, Plus, PlusEquals, Question, OpenBrace, CloseBrace, Comma, Bang, OpenBracket, CloseBracket, Arrow, OpenParen, CloseParen, Lexeme, Space, LineComment, BlockComment, Kept, Piece, NoClose, IsToken, IsLexeme, IsLongest, HasNoLexeme}
-use Rattle.kex_tokens.specs.Scanning.{run, more, Between, literal, regex, block, piece, behind_one, slash, alone, one_or_two, two, single, of_kind, sign, lexeme, closing}
+use Rattle.kex_tokens.specs.Lexemes.{is_space, is_letter, is_digit, is_name_byte, is_no_feed, is_regex_byte, AreAll, LiteralItem, items, AreItems, LiteralAtom, Plain, Escaped, atoms, AreAtoms, TokenKind, Name, Number, Literal, Regex, Define, Colon, Pipe, Bar, Tilde, At, Star, Plus, PlusEquals, Question, OpenBrace, CloseBrace, Comma, Bang, OpenBracket, CloseBracket, Arrow, OpenParen, CloseParen, Lexeme, Space, LineComment, BlockComment, Kept, SizedLexeme, NoClose, IsToken, IsLexeme, IsLongest, HasNoLexeme}
+use Rattle.kex_tokens.specs.Scanning.{run, more, Between, literal, regex, block, piece, behind_one, slash, alone, one_or_two, two, single, of_kind, sign_at, lexeme, closing}
 use Rattle.kex_tokens.proofs.Scans.{by_test, apart, cond_yes, cond_no, is_code, or_no, Split, Splits, more_splits, run_splits, run_long, IsLiteralEnd, so_far, IsInLiteral, literal_splits, AtLeast, more_at_least, literal_long, IsRegexEnd, escaped, regex_splits, regex_long, star_before, IsBlockEnd, block_splits, block_long}
 
 -- a lexeme of this piece's kind and length stands at the front
-unfoldable pub Found : List ℕ → Option Piece → Type 0
+unfoldable pub Found : List ℕ → Option SizedLexeme → Type 0
 Found bytes None = Unit {0}
 Found bytes (Some p) = Split bytes p.long (IsLexeme p.lexeme)
 
 -- the piece is no shorter, and of this kind where it is as long
-unfoldable pub Reaches : Lexeme → ℕ → Option Piece → Type 0
+unfoldable pub Reaches : Lexeme → ℕ → Option SizedLexeme → Type 0
 Reaches l n None = ⊥
 Reaches l n (Some p) = (n ≤ p.long) × (n ≡ p.long → p.lexeme ≡ l)
 
@@ -27,7 +27,7 @@ unfolding Found behind_one Splits
 behind_found b bs l Q None f s = tt
 behind_found b bs l Q (Some n) f s = record { front = b ∷ s.front; rest = s.rest; whole = ap (λ (w : List ℕ). b ∷ w) s.whole; long = ap suc s.long; holds = f s.front s.holds }
 
-pub no_end : (as' : List Atom) → [] ≡ atoms as' ++ 47 ∷ [] → ⊥
+pub no_end : (as' : List LiteralAtom) → [] ≡ atoms as' ++ 47 ∷ [] → ⊥
 unfolding atoms
 no_end [] e = absurd cc
 no_end (Plain b ∷ as') e = absurd cc
@@ -53,7 +53,7 @@ unfolding IsLexeme IsToken
 literal_lexeme b w e h = (h.0, h.1, ap (λ (x : ℕ). x ∷ w) (sym (is_code b 34 e)) ∙ ap (λ (v : List ℕ). 34 ∷ v) h.2)
 
 -- the parts of a regex that was found
-pub regex_parts : (d : ℕ) (w : List ℕ) (as' : List Atom) → (d == 47) ≡ false → d ∷ w ≡ atoms as' ++ 47 ∷ [] → (v : List ℕ) × (atoms as' ≡ d ∷ v) × (w ≡ v ++ 47 ∷ [])
+pub regex_parts : (d : ℕ) (w : List ℕ) (as' : List LiteralAtom) → (d == 47) ≡ false → d ∷ w ≡ atoms as' ++ 47 ∷ [] → (v : List ℕ) × (atoms as' ≡ d ∷ v) × (w ≡ v ++ 47 ∷ [])
 unfolding atoms
 regex_parts d w [] n e = let q : d ≡ 47 = cc in absurd (eqb-false d 47 n q)
 regex_parts d w (Plain b ∷ as') n e = let q : b ≡ d = cc in (atoms as', ap (λ (x : ℕ). x ∷ atoms as') q, cc)
@@ -84,11 +84,11 @@ slash_found (c ∷ cs) =
     by_test P (c == 42) _ _ (λ e. behind_found 47 (c ∷ cs) BlockComment (λ w. IsBlock w) (more (block false cs)) (λ w h. block_lexeme w h) (more_splits c cs (λ w. IsBlock w) (IsBlockEnd false) _ (λ w h. subst (λ (x : ℕ). IsBlock (x ∷ w)) (is_code c 42 e) (block_of w h)) (block_splits false cs))) (λ m.
     slash_regex c cs (regex false (c ∷ cs)) n m (regex_splits false (c ∷ cs))))
 
-pub sign_found : (k : Kind) (w rest : List ℕ) (n : ℕ) (bytes : List ℕ) → IsToken k w → length w ≡ n → bytes ≡ w ++ rest → Found bytes (Some (piece (Kept k) n))
+pub sign_found : (k : TokenKind) (w rest : List ℕ) (n : ℕ) (bytes : List ℕ) → IsToken k w → length w ≡ n → bytes ≡ w ++ rest → Found bytes (Some (piece (Kept k) n))
 unfolding Found IsLexeme
 sign_found k w rest n bytes e l b = record { front = w; rest = rest; whole = b; long = l; holds = e }
 
-pub one_or_two_found : (b c : ℕ) (long short : Kind) (bs : List ℕ) → IsToken long (b ∷ c ∷ []) → IsToken short (b ∷ []) → Found (b ∷ bs) (one_or_two c long short bs)
+pub one_or_two_found : (b c : ℕ) (long short : TokenKind) (bs : List ℕ) → IsToken long (b ∷ c ∷ []) → IsToken short (b ∷ []) → Found (b ∷ bs) (one_or_two c long short bs)
 unfolding one_or_two
 one_or_two_found b c long short [] l s = sign_found short (b ∷ []) [] 1 (b ∷ []) s refl refl
 one_or_two_found b c long short (d ∷ bs) l s =
@@ -96,18 +96,18 @@ one_or_two_found b c long short (d ∷ bs) l s =
     (λ e. sign_found long (b ∷ c ∷ []) bs 2 (b ∷ d ∷ bs) l refl (ap (λ (x : ℕ). b ∷ x ∷ bs) (sym (is_code d c e))))
     (λ _. sign_found short (b ∷ []) (d ∷ bs) 1 (b ∷ d ∷ bs) s refl refl)
 
-pub two_found : (b c : ℕ) (long : Kind) (bs : List ℕ) → IsToken long (b ∷ c ∷ []) → Found (b ∷ bs) (two c long bs)
+pub two_found : (b c : ℕ) (long : TokenKind) (bs : List ℕ) → IsToken long (b ∷ c ∷ []) → Found (b ∷ bs) (two c long bs)
 unfolding two Found
 two_found b c long [] l = tt
 two_found b c long (d ∷ bs) l = by_test (Found (b ∷ d ∷ bs)) (d == c) _ _ (λ e. sign_found long (b ∷ c ∷ []) bs 2 (b ∷ d ∷ bs) l refl (ap (λ (x : ℕ). b ∷ x ∷ bs) (sym (is_code d c e)))) (λ _. tt)
 
-pub alone_found : (b n : ℕ) (bs : List ℕ) (k : Kind) → IsToken k (n ∷ []) → (b == n) ≡ true → Found (b ∷ bs) (alone k)
+pub alone_found : (b n : ℕ) (bs : List ℕ) (k : TokenKind) → IsToken k (n ∷ []) → (b == n) ≡ true → Found (b ∷ bs) (alone k)
 alone_found b n bs k l e = sign_found k (n ∷ []) bs 1 (b ∷ bs) l refl (ap (λ (x : ℕ). x ∷ bs) (sym (is_code b n e)))
 
 pub single_found : (b : ℕ) (bs : List ℕ) → Found (b ∷ bs) (of_kind (single b))
 unfolding single IsToken Found
 single_found b bs =
-    let P = λ (o : Option Kind). Found (b ∷ bs) (of_kind o) in
+    let P = λ (o : Option TokenKind). Found (b ∷ bs) (of_kind o) in
     by_test P (b == 124) _ _ (alone_found b 124 bs Bar refl) (λ _. by_test P (b == 126) _ _ (alone_found b 126 bs Tilde refl) (λ _.
     by_test P (b == 64) _ _ (alone_found b 64 bs At refl) (λ _. by_test P (b == 42) _ _ (alone_found b 42 bs Star refl) (λ _.
     by_test P (b == 63) _ _ (alone_found b 63 bs Question refl) (λ _. by_test P (b == 123) _ _ (alone_found b 123 bs OpenBrace refl) (λ _.
@@ -116,8 +116,8 @@ single_found b bs =
     by_test P (b == 93) _ _ (alone_found b 93 bs CloseBracket refl) (λ _. by_test P (b == 40) _ _ (alone_found b 40 bs OpenParen refl) (λ _.
     by_test P (b == 41) _ _ (alone_found b 41 bs CloseParen refl) (λ _. tt)))))))))))))
 
-pub signs_found : (b : ℕ) (bs : List ℕ) → Found (b ∷ bs) (sign b bs)
-unfolding sign IsToken
+pub signs_found : (b : ℕ) (bs : List ℕ) → Found (b ∷ bs) (sign_at b bs)
+unfolding sign_at IsToken
 signs_found b bs =
     let P = Found (b ∷ bs) in
     by_test P (b == 58) _ _ (λ e. subst (λ (x : ℕ). Found (x ∷ bs) (one_or_two 61 Define Colon bs)) (is_code b 58 e) (one_or_two_found 58 61 Define Colon bs refl refl)) (λ _.
@@ -147,10 +147,10 @@ unfolding AtLeast Reaches behind_one
 behind_reaches n l None h = h
 behind_reaches n l (Some m) h = (omega (arith, h), λ _. refl)
 
-pub yes_reaches : (l : Lexeme) (n : ℕ) (b : Bool) (x y : Option Piece) → b ≡ true → Reaches l n x → Reaches l n (cond b x y)
+pub yes_reaches : (l : Lexeme) (n : ℕ) (b : Bool) (x y : Option SizedLexeme) → b ≡ true → Reaches l n x → Reaches l n (cond b x y)
 yes_reaches l n b x y e h = subst (Reaches l n) (sym (cond_yes b x y e)) h
 
-pub no_reaches : (l : Lexeme) (n : ℕ) (b : Bool) (x y : Option Piece) → b ≡ false → Reaches l n y → Reaches l n (cond b x y)
+pub no_reaches : (l : Lexeme) (n : ℕ) (b : Bool) (x y : Option SizedLexeme) → b ≡ false → Reaches l n y → Reaches l n (cond b x y)
 no_reaches l n b x y e h = subst (Reaches l n) (sym (cond_no b x y e)) h
 
 pub run_reaches : (l : Lexeme) (n m : ℕ) → n ≤ m → Reaches l n (Some (piece l m))
@@ -160,7 +160,7 @@ run_reaches l n m h = (h, λ _. refl)
 pub not_space : (f : ℕ → Bool) (b : ℕ) → f b ≡ true → f 32 ≡ false → f 9 ≡ false → f 13 ≡ false → f 10 ≡ false → is_space b ≡ false
 not_space f b h a c d e = or_no _ _ (or_no _ _ (or_no _ _ (apart f b 32 h a) (apart f b 9 h c)) (apart f b 13 h d)) (apart f b 10 h e)
 
-pub one_or_two_reaches : (c : ℕ) (long short : Kind) (bs : List ℕ) → Reaches (Kept short) 1 (one_or_two c long short bs)
+pub one_or_two_reaches : (c : ℕ) (long short : TokenKind) (bs : List ℕ) → Reaches (Kept short) 1 (one_or_two c long short bs)
 unfolding one_or_two Reaches
 one_or_two_reaches c long short [] = (omega arith, λ _. refl)
 one_or_two_reaches c long short (b ∷ bs) = by_test (Reaches (Kept short) 1) (b == c) _ _ (λ _. (omega arith, λ e. absurd (omega (arith, e)))) (λ _. (omega arith, λ _. refl))
@@ -180,7 +180,7 @@ pub reaches_number : (b : ℕ) (w rest : List ℕ) → is_digit b ≡ true → A
 unfolding lexeme
 reaches_number b w rest h k = no_reaches _ _ (is_space b) _ _ (not_space is_digit b h refl refl refl refl) (no_reaches _ _ (is_letter b) _ _ (digit_no_letter b h) (yes_reaches _ _ (is_digit b) _ _ h (run_reaches (Kept Number) (suc (length w)) (suc (run is_digit (w ++ rest))) (omega (arith, run_long is_digit w rest k)))))
 
-pub reaches_literal : (is : List Item) (rest : List ℕ) → AreItems is → Reaches (Kept Literal) (suc (length (items is ++ 34 ∷ []))) (lexeme (34 ∷ ((items is ++ 34 ∷ []) ++ rest)))
+pub reaches_literal : (is : List LiteralItem) (rest : List ℕ) → AreItems is → Reaches (Kept Literal) (suc (length (items is ++ 34 ∷ []))) (lexeme (34 ∷ ((items is ++ 34 ∷ []) ++ rest)))
 unfolding lexeme
 reaches_literal is rest h = behind_reaches _ (Kept Literal) _ (literal_long is rest h)
 
@@ -196,7 +196,7 @@ pub reaches_regex : (b : ℕ) (w rest : List ℕ) → (b == 47) ≡ false → (b
 unfolding lexeme slash
 reaches_regex b w rest n m h = no_reaches _ _ (b == 47) _ _ n (no_reaches _ _ (b == 42) _ _ m (behind_reaches _ (Kept Regex) _ h))
 
-pub regex_first : (as' : List Atom) (b : ℕ) (w : List ℕ) → AreAtoms as' → atoms as' ≡ b ∷ w → (b == 47) ≡ false
+pub regex_first : (as' : List LiteralAtom) (b : ℕ) (w : List ℕ) → AreAtoms as' → atoms as' ≡ b ∷ w → (b == 47) ≡ false
 unfolding atoms AreAtoms
 regex_first [] b w h e = absurd cc
 regex_first (Plain c ∷ as') b w h e = let q : c ≡ b = cc in subst (λ (x : ℕ). (x == 47) ≡ false) q (apart is_regex_byte c 47 h.0 refl)
@@ -205,12 +205,12 @@ regex_first (Escaped c ∷ as') b w h e = let q : 92 ≡ b = cc in subst (λ (x 
 pub at_front : (l : Lexeme) (rest v w : List ℕ) → w ≡ v → Reaches l (length v) (lexeme (v ++ rest)) → Reaches l (length w) (lexeme (w ++ rest))
 at_front l rest v w e h = subst (λ (x : List ℕ). Reaches l (length x) (lexeme (x ++ rest))) (sym e) h
 
-pub sign_reaches : (k : Kind) (v rest : List ℕ) (n : ℕ) → length v ≡ n → lexeme (v ++ rest) ≡ Some (piece (Kept k) n) → Reaches (Kept k) (length v) (lexeme (v ++ rest))
+pub sign_reaches : (k : TokenKind) (v rest : List ℕ) (n : ℕ) → length v ≡ n → lexeme (v ++ rest) ≡ Some (piece (Kept k) n) → Reaches (Kept k) (length v) (lexeme (v ++ rest))
 unfolding Reaches
-sign_reaches k v rest n l e = subst (λ (o : Option Piece). Reaches (Kept k) (length v) o) (sym e) (let q : length v ≤ n = omega (arith, l) in (q, λ _. refl))
+sign_reaches k v rest n l e = subst (λ (o : Option SizedLexeme). Reaches (Kept k) (length v) o) (sym e) (let q : length v ≤ n = omega (arith, l) in (q, λ _. refl))
 
-pub token_reaches : (k : Kind) (w : List ℕ) → IsToken k w → (rest : List ℕ) → Reaches (Kept k) (length w) (lexeme (w ++ rest))
-unfolding IsToken lexeme sign single two one_or_two
+pub token_reaches : (k : TokenKind) (w : List ℕ) → IsToken k w → (rest : List ℕ) → Reaches (Kept k) (length w) (lexeme (w ++ rest))
+unfolding IsToken lexeme sign_at single two one_or_two
 token_reaches Name w h rest = at_front (Kept Name) rest _ w h.4 (reaches_name h.0 h.1 rest h.2 h.3)
 token_reaches Number w h rest = at_front (Kept Number) rest _ w h.4 (reaches_number h.0 h.1 rest h.2 h.3)
 token_reaches Literal w h rest = at_front (Kept Literal) rest _ w h.2 (reaches_literal h.0 rest h.1)
@@ -249,13 +249,13 @@ front_reaches bytes l n h =
     let same : take n bytes ++ drop n bytes ≡ bytes = take-append-drop n bytes in
     subst (λ (x : List ℕ). Reaches l (length (take n bytes)) (lexeme x)) same (lexeme_reaches l (take n bytes) h (drop n bytes))
 
-pub not_longer : (bytes : List ℕ) (p : Piece) → lexeme bytes ≡ Some p → (other : Lexeme) (n : ℕ) → p.long < n → n ≤ length bytes → IsLexeme other (take n bytes) → ⊥
+pub not_longer : (bytes : List ℕ) (p : SizedLexeme) → lexeme bytes ≡ Some p → (other : Lexeme) (n : ℕ) → p.long < n → n ≤ length bytes → IsLexeme other (take n bytes) → ⊥
 unfolding Reaches
 not_longer bytes p e other n lt le h =
-    let j : Reaches other (length (take n bytes)) (Some p) = subst (λ (o : Option Piece). Reaches other (length (take n bytes)) o) e (front_reaches bytes other n h) in
+    let j : Reaches other (length (take n bytes)) (Some p) = subst (λ (o : Option SizedLexeme). Reaches other (length (take n bytes)) o) e (front_reaches bytes other n h) in
     absurd (omega (arith, j.0, lt, length-take-le n bytes le))
 
-pub found_longest : (bytes : List ℕ) (p : Piece) → lexeme bytes ≡ Some p → IsLongest bytes p
+pub found_longest : (bytes : List ℕ) (p : SizedLexeme) → lexeme bytes ≡ Some p → IsLongest bytes p
 unfolding Found
 found_longest bytes p e =
     let s : Split bytes p.long (IsLexeme p.lexeme) = subst (Found bytes) e (lexeme_found bytes) in
@@ -268,11 +268,11 @@ found_longest bytes p e =
 
 pub none_found : (bytes : List ℕ) → lexeme bytes ≡ None → HasNoLexeme bytes
 unfolding Reaches
-none_found bytes e any n h = subst (λ (o : Option Piece). Reaches any (length (take n bytes)) o) e (front_reaches bytes any n h)
+none_found bytes e any n h = subst (λ (o : Option SizedLexeme). Reaches any (length (take n bytes)) o) e (front_reaches bytes any n h)
 
 -- ---- no lexeme is empty
 
-pub token_filled : (k : Kind) (w : List ℕ) → IsToken k w → w ≡ [] → ⊥
+pub token_filled : (k : TokenKind) (w : List ℕ) → IsToken k w → w ≡ [] → ⊥
 unfolding IsToken
 token_filled Name w h e = let q = h.4 in absurd cc
 token_filled Number w h e = let q = h.4 in absurd cc
@@ -287,7 +287,7 @@ lexeme_filled LineComment w h e = let q = h.2 in absurd cc
 lexeme_filled BlockComment w h e = let q = h.2 in absurd cc
 lexeme_filled (Kept k) w h e = token_filled k w h e
 
-pub longest_filled : (bytes : List ℕ) (p : Piece) → IsLongest bytes p → 0 < p.long
+pub longest_filled : (bytes : List ℕ) (p : SizedLexeme) → IsLongest bytes p → 0 < p.long
 longest_filled bytes p h = go p.long refl
   where
     go : (n : ℕ) → p.long ≡ n → 0 < n
@@ -296,7 +296,7 @@ longest_filled bytes p h = go p.long refl
 
 -- ---- the longest is what is found
 
-pub found_is : (bytes : List ℕ) (p : Piece) (o : Option Piece) → lexeme bytes ≡ o → IsLongest bytes p → Reaches p.lexeme p.long o → o ≡ Some p
+pub found_is : (bytes : List ℕ) (p : SizedLexeme) (o : Option SizedLexeme) → lexeme bytes ≡ o → IsLongest bytes p → Reaches p.lexeme p.long o → o ≡ Some p
 unfolding Reaches
 found_is bytes p None e h r = absurd r
 found_is bytes p (Some q) e h r =
@@ -308,12 +308,12 @@ found_is bytes p (Some q) e h r =
     same true t = let s : IsLongest bytes q = found_longest bytes q e in absurd (h.no_longer q.lexeme q.long (ltb-true p.long q.long t) s.inside s.is)
     same false t = omega (arith, r.0, ltb-false p.long q.long t)
 
-pub longest_found : (bytes : List ℕ) (p : Piece) → IsLongest bytes p → lexeme bytes ≡ Some p
+pub longest_found : (bytes : List ℕ) (p : SizedLexeme) → IsLongest bytes p → lexeme bytes ≡ Some p
 longest_found bytes p h =
     let long : length (take p.long bytes) ≡ p.long = length-take-le p.long bytes h.inside in
     found_is bytes p (lexeme bytes) refl h (subst (λ (n : ℕ). Reaches p.lexeme n (lexeme bytes)) long (front_reaches bytes p.lexeme p.long h.is))
 
-pub one_longest : (bytes : List ℕ) (p q : Piece) → IsLongest bytes p → IsLongest bytes q → p ≡ q
+pub one_longest : (bytes : List ℕ) (p q : SizedLexeme) → IsLongest bytes p → IsLongest bytes q → p ≡ q
 one_longest bytes p q h k =
     let e : lexeme bytes ≡ Some p = longest_found bytes p h in
     let f : lexeme bytes ≡ Some q = longest_found bytes q k in

@@ -2,9 +2,9 @@
 use Rattle.std.proofs.Common.{◌≡◌, ℕ, ◌+◌, ◌-◌, ◌*◌, ◌<◌, ◌≤◌, true, List, [], ◌∷◌, ◌++◌, length, get_or, drop, Option, Some, None, refl, sym, ap, ◌∙◌, arith, append_assoc, append-nil}
 use Rattle.std.specs.Prelude.{map, ◌==◌}
 use Rattle.std.proofs.Math.ListN.{drop_of_length-le}
-use Rattle.kex_tokens.specs.Lexemes.{is_literal_byte, is_short, Item, Itself, Short, Hex, items, AreItems, Literal, IsToken}
-use Rattle.kex_tokens.specs.Scanning.{InLiteral, Between, Backslash, HexBegun, HexOne, Step, On, Closed, Wrong, literal_step}
-use Rattle.kex_tokens.specs.Values.{hex_value, short_value, item_value, StandsFor, number_behind, number_of, item_end, or_nothing, decode_after, decode}
+use Rattle.kex_tokens.specs.Lexemes.{is_literal_byte, is_short, LiteralItem, Itself, Short, Hex, items, AreItems, Literal, IsToken}
+use Rattle.kex_tokens.specs.Scanning.{InLiteral, Between, Backslash, HexBegun, HexOne, ClosingStep, On, Closed, Wrong, literal_step}
+use Rattle.kex_tokens.specs.Values.{hex_value, short_value, item_value, StandsFor, number_behind, decimal_value, item_end, or_nothing, decode_after, decode}
 use Rattle.kex_tokens.proofs.Scans.{apart, cond_no, itself_step, short_step, hex_step, low_step}
 use Rattle.kex_tokens.proofs.Loops.{drop_at_next}
 
@@ -13,7 +13,7 @@ use Rattle.kex_tokens.proofs.Loops.{drop_at_next}
 pub decode_step : (s t : InLiteral) (b : ℕ) (bs : List ℕ) (o : Option ℕ) → literal_step s b ≡ On t → item_end s b ≡ o → decode s (b ∷ bs) ≡ or_nothing o ++ decode t bs
 unfolding decode
 decode_step s t b bs o e f =
-    ap (λ (x : Step InLiteral). decode_after x (or_nothing (item_end s b)) (λ u. decode u bs)) e ∙ ap (λ (x : Option ℕ). or_nothing x ++ decode t bs) f
+    ap (λ (x : ClosingStep InLiteral). decode_after x (or_nothing (item_end s b)) (λ u. decode u bs)) e ∙ ap (λ (x : Option ℕ). or_nothing x ++ decode t bs) f
 
 pub itself_end : (b : ℕ) → is_literal_byte b ≡ true → item_end Between b ≡ Some b
 unfolding item_end
@@ -24,7 +24,7 @@ unfolding item_end
 short_end b h = cond_no (b == 120) _ _ (apart is_short b 120 h refl)
 
 -- an item's first bytes give nothing, and its last one gives its value
-pub decode_items : (is : List Item) → AreItems is → decode Between (items is ++ 34 ∷ []) ≡ map item_value is
+pub decode_items : (is : List LiteralItem) → AreItems is → decode Between (items is ++ 34 ∷ []) ≡ map item_value is
 unfolding items AreItems decode literal_step item_end
 decode_items [] h = refl
 decode_items (Itself b ∷ is) h =
@@ -39,9 +39,9 @@ decode_items (Hex i j ∷ is) h =
 abbrev pub IsGiven : List ℕ → List ℕ → InLiteral → ℕ → Type 0
 IsGiven text given s i = given ++ decode s (drop i text) ≡ decode Between (drop 1 text)
 
-pub decode_at : (text : List ℕ) (i : ℕ) (s : InLiteral) (x : Step InLiteral) → i < length text → x ≡ literal_step s (get_or text i 0) → decode s (drop i text) ≡ decode_after x (or_nothing (item_end s (get_or text i 0))) (λ t. decode t (drop (i + 1) text))
+pub decode_at : (text : List ℕ) (i : ℕ) (s : InLiteral) (x : ClosingStep InLiteral) → i < length text → x ≡ literal_step s (get_or text i 0) → decode s (drop i text) ≡ decode_after x (or_nothing (item_end s (get_or text i 0))) (λ t. decode t (drop (i + 1) text))
 unfolding decode
-decode_at text i s x h e = ap (decode s) (drop_at_next text i h) ∙ ap (λ (y : Step InLiteral). decode_after y (or_nothing (item_end s (get_or text i 0))) (λ t. decode t (drop (i + 1) text))) (sym e)
+decode_at text i s x h e = ap (decode s) (drop_at_next text i h) ∙ ap (λ (y : ClosingStep InLiteral). decode_after y (or_nothing (item_end s (get_or text i 0))) (λ t. decode t (drop (i + 1) text))) (sym e)
 
 pub given_more : (text given new : List ℕ) (i : ℕ) (s t : InLiteral) (o : Option ℕ) → i < length text → On t ≡ literal_step s (get_or text i 0) → o ≡ item_end s (get_or text i 0) → new ≡ given ++ or_nothing o → IsGiven text given s i → IsGiven text new t (i + 1)
 given_more text given new i s t o h e f n inv =
@@ -49,7 +49,7 @@ given_more text given new i s t o h e f n inv =
     ∙ append_assoc given (or_nothing (item_end s (get_or text i 0))) (decode t (drop (i + 1) text))
     ∙ ap (λ (w : List ℕ). given ++ w) (sym (decode_at text i s (On t) h e)) ∙ inv
 
-pub given_all : (text given : List ℕ) (i : ℕ) (s : InLiteral) (x : Step InLiteral) → i < length text → x ≡ literal_step s (get_or text i 0) → ((t : InLiteral) → x ≡ On t → ⊥) → IsGiven text given s i → given ≡ decode Between (drop 1 text)
+pub given_all : (text given : List ℕ) (i : ℕ) (s : InLiteral) (x : ClosingStep InLiteral) → i < length text → x ≡ literal_step s (get_or text i 0) → ((t : InLiteral) → x ≡ On t → ⊥) → IsGiven text given s i → given ≡ decode Between (drop 1 text)
 given_all text given i s (On t) h e n inv = absurd (n t refl)
 given_all text given i s Closed h e n inv = sym (append-nil given) ∙ ap (λ (w : List ℕ). given ++ w) (sym (decode_at text i s Closed h e)) ∙ inv
 given_all text given i s Wrong h e n inv = sym (append-nil given) ∙ ap (λ (w : List ℕ). given ++ w) (sym (decode_at text i s Wrong h e)) ∙ inv
@@ -78,12 +78,12 @@ pub number_at : (digits : List ℕ) (i n m : ℕ) → i < length digits → m �
 unfolding number_behind
 number_at digits i n m h e = ap (number_behind n) (drop_at_next digits i h) ∙ ap (λ (k : ℕ). number_behind k (drop (i + 1) digits)) (sym e)
 
-pub number_more : (digits : List ℕ) (i n m : ℕ) → i < length digits → m ≡ 10 * n + (get_or digits i 0 - 48) → number_behind n (drop i digits) ≡ number_of digits → number_behind m (drop (i + 1) digits) ≡ number_of digits
+pub number_more : (digits : List ℕ) (i n m : ℕ) → i < length digits → m ≡ 10 * n + (get_or digits i 0 - 48) → number_behind n (drop i digits) ≡ decimal_value digits → number_behind m (drop (i + 1) digits) ≡ decimal_value digits
 number_more digits i n m h e inv = sym (number_at digits i n m h e) ∙ inv
 
-pub number_above : (digits : List ℕ) (i n m most : ℕ) → i < length digits → m ≡ 10 * n + (get_or digits i 0 - 48) → number_behind n (drop i digits) ≡ number_of digits → most < m → most < number_of digits
+pub number_above : (digits : List ℕ) (i n m most : ℕ) → i < length digits → m ≡ 10 * n + (get_or digits i 0 - 48) → number_behind n (drop i digits) ≡ decimal_value digits → most < m → most < decimal_value digits
 number_above digits i n m most h e inv l = omega (arith, l, number_grows m (drop (i + 1) digits), number_more digits i n m h e inv)
 
-pub number_whole : (digits : List ℕ) (i n : ℕ) → length digits ≤ i → number_behind n (drop i digits) ≡ number_of digits → n ≡ number_of digits
+pub number_whole : (digits : List ℕ) (i n : ℕ) → length digits ≤ i → number_behind n (drop i digits) ≡ decimal_value digits → n ≡ decimal_value digits
 unfolding number_behind
 number_whole digits i n h inv = sym (ap (number_behind n) (drop_of_length-le digits h)) ∙ inv

@@ -2,7 +2,7 @@
 use Rattle.std.proofs.Common.{◌≡◌, ℕ, suc, ◌+◌, ◌-◌, ◌<◌, ◌≤◌, Bool, true, false, cond, List, ◌∷◌, length, get_or, drop, Option, Some, None, refl, sym, ap, ◌∙◌, add-one, arith, drop-cons}
 use Rattle.std.proofs.Math.ListN.{drop_of_length-le}
 use Rattle.std.proofs.lemmas.Bool.{false≢true}
-use Rattle.kex_tokens.specs.Scanning.{run, more, Step, On, Closed, Wrong, after, closing}
+use Rattle.kex_tokens.specs.Scanning.{run, more, ClosingStep, On, Closed, Wrong, after, closing}
 
 -- so many bytes more
 unfoldable pub added : ℕ → Option ℕ → Option ℕ
@@ -24,25 +24,25 @@ pub drop_at_next : (text : List ℕ) (i : ℕ) → i < length text → drop i te
 drop_at_next text i h = drop-cons text i 0 h ∙ ap (λ (n : ℕ). get_or text i 0 ∷ drop n text) (sym (add-one i))
 
 -- what has been scanned, and what the rest is scanned to, is what the whole is scanned to
-abbrev pub IsScanned : {S : Type 0} → (S → ℕ → Step S) → S → List ℕ → ℕ → S → ℕ → Type 0
+abbrev pub IsScanned : {S : Type 0} → (S → ℕ → ClosingStep S) → S → List ℕ → ℕ → S → ℕ → Type 0
 IsScanned step first text from s i = added (i - from) (closing step s (drop i text)) ≡ closing step first (drop from text)
 
-pub closing_at : {S : Type 0} (step : S → ℕ → Step S) (text : List ℕ) (i : ℕ) (s : S) (x : Step S) → i < length text → x ≡ step s (get_or text i 0) → closing step s (drop i text) ≡ after x (λ t. closing step t (drop (i + 1) text))
+pub closing_at : {S : Type 0} (step : S → ℕ → ClosingStep S) (text : List ℕ) (i : ℕ) (s : S) (x : ClosingStep S) → i < length text → x ≡ step s (get_or text i 0) → closing step s (drop i text) ≡ after x (λ t. closing step t (drop (i + 1) text))
 unfolding closing
-closing_at step text i s x h e = ap (closing step s) (drop_at_next text i h) ∙ ap (λ (y : Step _). after y (λ t. closing step t (drop (i + 1) text))) (sym e)
+closing_at step text i s x h e = ap (closing step s) (drop_at_next text i h) ∙ ap (λ (y : ClosingStep _). after y (λ t. closing step t (drop (i + 1) text))) (sym e)
 
-pub goes_on : {S : Type 0} (step : S → ℕ → Step S) (first : S) (text : List ℕ) (from i : ℕ) (s t : S) → from ≤ i → i < length text → On t ≡ step s (get_or text i 0) → IsScanned step first text from s i → IsScanned step first text from t (i + 1)
+pub goes_on : {S : Type 0} (step : S → ℕ → ClosingStep S) (first : S) (text : List ℕ) (from i : ℕ) (s t : S) → from ≤ i → i < length text → On t ≡ step s (get_or text i 0) → IsScanned step first text from s i → IsScanned step first text from t (i + 1)
 goes_on step first text from i s t le h e inv = sym (ap (added (i - from)) (closing_at step text i s (On t) h e) ∙ added-more (i - from) (i + 1 - from) (closing step t (drop (i + 1) text)) (omega (arith, le))) ∙ inv
 
-pub closes : {S : Type 0} (step : S → ℕ → Step S) (first : S) (text : List ℕ) (from i n : ℕ) (s : S) → from ≤ i → i < length text → n ≡ i + 1 - from → Closed ≡ step s (get_or text i 0) → IsScanned step first text from s i → Some n ≡ closing step first (drop from text)
+pub closes : {S : Type 0} (step : S → ℕ → ClosingStep S) (first : S) (text : List ℕ) (from i n : ℕ) (s : S) → from ≤ i → i < length text → n ≡ i + 1 - from → Closed ≡ step s (get_or text i 0) → IsScanned step first text from s i → Some n ≡ closing step first (drop from text)
 unfolding added
 closes step first text from i n s le h q e inv = let k : n ≡ (i - from) + 1 = omega (arith, le, q) in ap Some k ∙ sym (ap (added (i - from)) (closing_at step text i s Closed h e)) ∙ inv
 
-pub goes_wrong : {S : Type 0} (step : S → ℕ → Step S) (first : S) (text : List ℕ) (from i : ℕ) (s : S) → i < length text → Wrong ≡ step s (get_or text i 0) → IsScanned step first text from s i → None ≡ closing step first (drop from text)
+pub goes_wrong : {S : Type 0} (step : S → ℕ → ClosingStep S) (first : S) (text : List ℕ) (from i : ℕ) (s : S) → i < length text → Wrong ≡ step s (get_or text i 0) → IsScanned step first text from s i → None ≡ closing step first (drop from text)
 unfolding added
 goes_wrong step first text from i s h e inv = sym (ap (added (i - from)) (closing_at step text i s Wrong h e)) ∙ inv
 
-pub never_closes : {S : Type 0} (step : S → ℕ → Step S) (first : S) (text : List ℕ) (from i : ℕ) (s : S) → length text ≤ i → IsScanned step first text from s i → None ≡ closing step first (drop from text)
+pub never_closes : {S : Type 0} (step : S → ℕ → ClosingStep S) (first : S) (text : List ℕ) (from i : ℕ) (s : S) → length text ≤ i → IsScanned step first text from s i → None ≡ closing step first (drop from text)
 unfolding added closing
 never_closes step first text from i s h inv = sym (ap (λ (w : List ℕ). added (i - from) (closing step s w)) (drop_of_length-le text h)) ∙ inv
 

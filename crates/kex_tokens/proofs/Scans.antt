@@ -2,8 +2,8 @@
 use Rattle.std.proofs.Common.{◌≡◌, ℕ, suc, ◌≤◌, Bool, true, false, cond, List, [], ◌∷◌, ◌++◌, length, Option, Some, None, refl, sym, ap, ◌∙◌, subst, arith}
 use Rattle.std.specs.Prelude.{◌==◌, ◌||◌}
 use Rattle.std.proofs.lemmas.Bool.{eqb-true, eqb-false, ne_eqb, false≢true}
-use Rattle.kex_tokens.specs.Lexemes.{is_hex, not, is_no_feed, is_short, is_literal_byte, is_regex_byte, AreAll, Item, Itself, Short, Hex, items, AreItems, Atom, Plain, Escaped, atoms, AreAtoms, NoClose}
-use Rattle.kex_tokens.specs.Scanning.{run, more, InLiteral, Between, Backslash, HexBegun, HexOne, Step, On, after, closing, literal, literal_step, regex, regex_step, block, block_step, star_closes}
+use Rattle.kex_tokens.specs.Lexemes.{is_hex, not, is_no_feed, is_short, is_literal_byte, is_regex_byte, AreAll, LiteralItem, Itself, Short, Hex, items, AreItems, LiteralAtom, Plain, Escaped, atoms, AreAtoms, NoClose}
+use Rattle.kex_tokens.specs.Scanning.{run, more, InLiteral, Between, Backslash, HexBegun, HexOne, ClosingStep, On, after, closing, literal, literal_step, regex, regex_step, block, block_step, star_closes}
 
 pub by_test : {A : Type 0} (P : A → Type 0) (b : Bool) (x y : A) → (b ≡ true → P x) → (b ≡ false → P y) → P (cond b x y)
 by_test P true x y f g = f refl
@@ -69,7 +69,7 @@ run_long p (b ∷ w) rest h = subst (λ (n : ℕ). suc (length w) ≤ n) (sym (c
 -- ---- literals
 
 abbrev pub IsLiteralEnd : List ℕ → Type 0
-IsLiteralEnd w = (is : List Item) × AreItems is × (w ≡ items is ++ 34 ∷ [])
+IsLiteralEnd w = (is : List LiteralItem) × AreItems is × (w ≡ items is ++ 34 ∷ [])
 
 unfoldable pub so_far : InLiteral → List ℕ
 so_far Between = []
@@ -109,18 +109,18 @@ literal_splits Backslash [] k = tt
 literal_splits HexBegun [] k = tt
 literal_splits (HexOne high) [] k = tt
 literal_splits Between (b ∷ bs) k =
-    let P = λ (x : Step InLiteral). Splits (b ∷ bs) (λ w. IsLiteralEnd w) (after x (λ t. literal t bs)) in
+    let P = λ (x : ClosingStep InLiteral). Splits (b ∷ bs) (λ w. IsLiteralEnd w) (after x (λ t. literal t bs)) in
     by_test P (b == 34) _ _ (λ e. one b bs (λ w. IsLiteralEnd w) (quote_ends b e)) (λ n1.
     by_test P (b == 92) _ _ (λ e. more_splits b bs (λ w. IsLiteralEnd w) (λ w. IsLiteralEnd (92 ∷ w)) _ (λ w h. subst (λ (x : ℕ). IsLiteralEnd (x ∷ w)) (is_code b 92 e) h) (literal_splits Backslash bs tt)) (λ n2.
     by_test P (b == 10) _ _ (λ e. tt) (λ n3. more_splits b bs (λ w. IsLiteralEnd w) (λ w. IsLiteralEnd w) _ (λ w h. with_itself b w (literal_byte b n1 n2 n3) h) (literal_splits Between bs tt))))
 literal_splits Backslash (b ∷ bs) k =
-    let P = λ (x : Step InLiteral). Splits (b ∷ bs) (λ w. IsLiteralEnd (92 ∷ w)) (after x (λ t. literal t bs)) in
+    let P = λ (x : ClosingStep InLiteral). Splits (b ∷ bs) (λ w. IsLiteralEnd (92 ∷ w)) (after x (λ t. literal t bs)) in
     by_test P (b == 120) _ _ (λ e. more_splits b bs (λ w. IsLiteralEnd (92 ∷ w)) (λ w. IsLiteralEnd (92 ∷ 120 ∷ w)) _ (λ w h. subst (λ (x : ℕ). IsLiteralEnd (92 ∷ x ∷ w)) (is_code b 120 e) h) (literal_splits HexBegun bs tt)) (λ _.
     by_test P (is_short b) _ _ (λ e. more_splits b bs (λ w. IsLiteralEnd (92 ∷ w)) (λ w. IsLiteralEnd w) _ (λ w h. with_short b w e h) (literal_splits Between bs tt)) (λ _. tt))
 literal_splits HexBegun (b ∷ bs) k =
-    by_test (λ (x : Step InLiteral). Splits (b ∷ bs) (λ w. IsLiteralEnd (92 ∷ 120 ∷ w)) (after x (λ t. literal t bs))) (is_hex b) _ _ (λ e. more_splits b bs (λ w. IsLiteralEnd (92 ∷ 120 ∷ w)) (λ w. IsLiteralEnd (92 ∷ 120 ∷ b ∷ w)) _ (λ w h. h) (literal_splits (HexOne b) bs e)) (λ _. tt)
+    by_test (λ (x : ClosingStep InLiteral). Splits (b ∷ bs) (λ w. IsLiteralEnd (92 ∷ 120 ∷ w)) (after x (λ t. literal t bs))) (is_hex b) _ _ (λ e. more_splits b bs (λ w. IsLiteralEnd (92 ∷ 120 ∷ w)) (λ w. IsLiteralEnd (92 ∷ 120 ∷ b ∷ w)) _ (λ w h. h) (literal_splits (HexOne b) bs e)) (λ _. tt)
 literal_splits (HexOne high) (b ∷ bs) k =
-    by_test (λ (x : Step InLiteral). Splits (b ∷ bs) (λ w. IsLiteralEnd (92 ∷ 120 ∷ high ∷ w)) (after x (λ t. literal t bs))) (is_hex b) _ _ (λ e. more_splits b bs (λ w. IsLiteralEnd (92 ∷ 120 ∷ high ∷ w)) (λ w. IsLiteralEnd w) _ (λ w h. with_hex high b w k e h) (literal_splits Between bs tt)) (λ _. tt)
+    by_test (λ (x : ClosingStep InLiteral). Splits (b ∷ bs) (λ w. IsLiteralEnd (92 ∷ 120 ∷ high ∷ w)) (after x (λ t. literal t bs))) (is_hex b) _ _ (λ e. more_splits b bs (λ w. IsLiteralEnd (92 ∷ 120 ∷ high ∷ w)) (λ w. IsLiteralEnd w) _ (λ w h. with_hex high b w k e h) (literal_splits Between bs tt)) (λ _. tt)
 
 -- and what is spelled so is found
 unfoldable pub AtLeast : ℕ → Option ℕ → Type 0
@@ -132,9 +132,9 @@ unfolding AtLeast more
 more_at_least n None h = h
 more_at_least n (Some m) h = omega (arith, h)
 
-pub from_step : {S : Type 0} (n : ℕ) (step : S → ℕ → Step S) (s : S) (b : ℕ) (bs : List ℕ) (x : Step S) → step s b ≡ x → AtLeast n (after x (λ t. closing step t bs)) → AtLeast n (closing step s (b ∷ bs))
+pub from_step : {S : Type 0} (n : ℕ) (step : S → ℕ → ClosingStep S) (s : S) (b : ℕ) (bs : List ℕ) (x : ClosingStep S) → step s b ≡ x → AtLeast n (after x (λ t. closing step t bs)) → AtLeast n (closing step s (b ∷ bs))
 unfolding closing
-from_step n step s b bs x e h = subst (λ (y : Step _). AtLeast n (after y (λ t. closing step t bs))) (sym e) h
+from_step n step s b bs x e h = subst (λ (y : ClosingStep _). AtLeast n (after y (λ t. closing step t bs))) (sym e) h
 
 pub itself_step : (b : ℕ) → is_literal_byte b ≡ true → literal_step Between b ≡ On Between
 unfolding literal_step
@@ -152,7 +152,7 @@ pub low_step : (high b : ℕ) → is_hex b ≡ true → literal_step (HexOne hig
 unfolding literal_step
 low_step high b h = cond_yes (is_hex b) _ _ h
 
-pub literal_long : (is : List Item) (rest : List ℕ) → AreItems is → AtLeast (length (items is ++ 34 ∷ [])) (literal Between ((items is ++ 34 ∷ []) ++ rest))
+pub literal_long : (is : List LiteralItem) (rest : List ℕ) → AreItems is → AtLeast (length (items is ++ 34 ∷ [])) (literal Between ((items is ++ 34 ∷ []) ++ rest))
 unfolding items AreItems closing literal_step AtLeast
 literal_long [] rest h = omega arith
 literal_long (Itself b ∷ is) rest h = from_step _ literal_step Between b _ (On Between) (itself_step b h.0) (more_at_least _ _ (literal_long is rest h.1))
@@ -164,7 +164,7 @@ literal_long (Hex i j ∷ is) rest h =
 -- ---- regexes
 
 abbrev pub IsRegexEnd : List ℕ → Type 0
-IsRegexEnd w = (as' : List Atom) × AreAtoms as' × (w ≡ atoms as' ++ 47 ∷ [])
+IsRegexEnd w = (as' : List LiteralAtom) × AreAtoms as' × (w ≡ atoms as' ++ 47 ∷ [])
 
 unfoldable pub escaped : Bool → List ℕ
 escaped true = 92 ∷ []
@@ -190,12 +190,12 @@ unfolding closing regex_step escaped Splits
 regex_splits true [] = tt
 regex_splits false [] = tt
 regex_splits false (b ∷ bs) =
-    let P = λ (x : Step Bool). Splits (b ∷ bs) (λ w. IsRegexEnd w) (after x (λ t. regex t bs)) in
+    let P = λ (x : ClosingStep Bool). Splits (b ∷ bs) (λ w. IsRegexEnd w) (after x (λ t. regex t bs)) in
     by_test P (b == 47) _ _ (λ e. one b bs (λ w. IsRegexEnd w) (slash_ends b e)) (λ n1.
     by_test P (b == 92) _ _ (λ e. more_splits b bs (λ w. IsRegexEnd w) (λ w. IsRegexEnd (92 ∷ w)) _ (λ w h. subst (λ (x : ℕ). IsRegexEnd (x ∷ w)) (is_code b 92 e) h) (regex_splits true bs)) (λ n2.
     by_test P (b == 10) _ _ (λ e. tt) (λ n3. more_splits b bs (λ w. IsRegexEnd w) (λ w. IsRegexEnd w) _ (λ w h. with_plain b w (regex_byte b n1 n2 n3) h) (regex_splits false bs))))
 regex_splits true (b ∷ bs) =
-    by_test (λ (x : Step Bool). Splits (b ∷ bs) (λ w. IsRegexEnd (92 ∷ w)) (after x (λ t. regex t bs))) (b == 10) _ _ (λ _. tt) (λ n. more_splits b bs (λ w. IsRegexEnd (92 ∷ w)) (λ w. IsRegexEnd w) _ (λ w h. with_escaped b w (not_is _ n) h) (regex_splits false bs))
+    by_test (λ (x : ClosingStep Bool). Splits (b ∷ bs) (λ w. IsRegexEnd (92 ∷ w)) (after x (λ t. regex t bs))) (b == 10) _ _ (λ _. tt) (λ n. more_splits b bs (λ w. IsRegexEnd (92 ∷ w)) (λ w. IsRegexEnd w) _ (λ w h. with_escaped b w (not_is _ n) h) (regex_splits false bs))
 
 pub feed_apart : (b : ℕ) → is_no_feed b ≡ true → (b == 10) ≡ false
 feed_apart b h = apart is_no_feed b 10 h refl
@@ -208,7 +208,7 @@ pub escaped_step : (b : ℕ) → is_no_feed b ≡ true → regex_step true b ≡
 unfolding regex_step
 escaped_step b h = cond_no (b == 10) _ _ (feed_apart b h)
 
-pub regex_long : (as' : List Atom) (rest : List ℕ) → AreAtoms as' → AtLeast (length (atoms as' ++ 47 ∷ [])) (regex false ((atoms as' ++ 47 ∷ []) ++ rest))
+pub regex_long : (as' : List LiteralAtom) (rest : List ℕ) → AreAtoms as' → AtLeast (length (atoms as' ++ 47 ∷ [])) (regex false ((atoms as' ++ 47 ∷ []) ++ rest))
 unfolding atoms AreAtoms closing regex_step AtLeast
 regex_long [] rest h = omega arith
 regex_long (Plain b ∷ as') rest h = from_step _ regex_step false b _ (On false) (plain_step b h.0) (more_at_least _ _ (regex_long as' rest h.1))
@@ -292,7 +292,7 @@ pub block_splits : (star : Bool) (bs : List ℕ) → Splits bs (IsBlockEnd star)
 unfolding closing block_step Splits
 block_splits star [] = tt
 block_splits star (b ∷ bs) =
-    by_test (λ (x : Step Bool). Splits (b ∷ bs) (IsBlockEnd star) (after x (λ t. block t bs))) (star_closes star b) _ _ (λ e. one b bs (IsBlockEnd star) (block_ends star b e))
+    by_test (λ (x : ClosingStep Bool). Splits (b ∷ bs) (IsBlockEnd star) (after x (λ t. block t bs))) (star_closes star b) _ _ (λ e. one b bs (IsBlockEnd star) (block_ends star b e))
     (λ n. more_splits b bs (IsBlockEnd star) (IsBlockEnd (b == 42)) _ (λ w h. block_cons star b w n h) (block_splits (b == 42) bs))
 
 pub open_step : (star : Bool) (b : ℕ) → star_closes star b ≡ false → block_step star b ≡ On (b == 42)

@@ -52,8 +52,8 @@ digit_0 = 48
 abbrev pub colon : ℕ
 colon = 58
 
-abbrev pub less : ℕ
-less = 60
+abbrev pub less_than : ℕ
+less_than = 60
 
 abbrev pub equals : ℕ
 equals = 61

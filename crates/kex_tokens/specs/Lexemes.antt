@@ -2,11 +2,11 @@
 use Rattle.std.specs.Char.{is_ascii_alphabetic, is_ascii_digit, is_ascii_hexdigit}
 use Rattle.kex_tokens.specs.Bytes as byte
 use Rattle.std.specs.Prelude.{◌≡◌, ℕ, ◌<◌, ◌≤◌, Bool, true, false, ◌||◌, List, [], ◌∷◌, ◌++◌, length, take, ◌==◌, codes}
-pub use Rattle.kex_tokens.specs.declared.token.Kind.{Kind}
-pub use Rattle.kex_tokens.specs.declared.token.Kind.TheVariants.{Name, Number, Literal, Regex, Define, Colon, Pipe, Bar, Tilde, At, Star, Plus, PlusEquals, Question, OpenBrace, CloseBrace, Comma, Bang, OpenBracket, CloseBracket, Arrow, OpenParen, CloseParen}
+pub use Rattle.kex_tokens.specs.declared.token.TokenKind.{TokenKind}
+pub use Rattle.kex_tokens.specs.declared.token.TokenKind.TheVariants.{Name, Number, Literal, Regex, Define, Colon, Pipe, Bar, Tilde, At, Star, Plus, PlusEquals, Question, OpenBrace, CloseBrace, Comma, Bang, OpenBracket, CloseBracket, Arrow, OpenParen, CloseParen}
 pub use Rattle.kex_tokens.specs.declared.lexeme.Lexeme.{Lexeme}
 pub use Rattle.kex_tokens.specs.declared.lexeme.Lexeme.TheVariants.{Space, LineComment, BlockComment, Kept}
-pub use Rattle.kex_tokens.specs.declared.lexeme.Piece.{Piece}
+pub use Rattle.kex_tokens.specs.declared.lexeme.SizedLexeme.{SizedLexeme}
 
 -- ---- bytes
 
@@ -52,45 +52,45 @@ AreAll p (b ∷ bs) = (p b ≡ true) × AreAll p bs
 
 -- ---- items of literals and of regexes
 
-pub data Item : Type 0 where
-  Itself : (byte : ℕ) → Item
-  Short : (byte : ℕ) → Item
-  Hex : (high low : ℕ) → Item
+pub data LiteralItem : Type 0 where
+  Itself : (byte : ℕ) → LiteralItem
+  Short : (byte : ℕ) → LiteralItem
+  Hex : (high low : ℕ) → LiteralItem
 
-unfoldable pub items : List Item → List ℕ
+unfoldable pub items : List LiteralItem → List ℕ
 items [] = []
 items (Itself b ∷ is) = b ∷ items is
 items (Short b ∷ is) = byte.backslash ∷ b ∷ items is
 items (Hex h l ∷ is) = byte.backslash ∷ byte.letter_x ∷ h ∷ l ∷ items is
 
-unfoldable pub AreItems : List Item → Type 0
+unfoldable pub AreItems : List LiteralItem → Type 0
 AreItems [] = Unit {0}
 AreItems (Itself b ∷ is) = (is_literal_byte b ≡ true) × AreItems is
 AreItems (Short b ∷ is) = (is_short b ≡ true) × AreItems is
 AreItems (Hex h l ∷ is) = (is_hex h ≡ true) × (is_hex l ≡ true) × AreItems is
 
-pub data Atom : Type 0 where
-  Plain : (byte : ℕ) → Atom
-  Escaped : (byte : ℕ) → Atom
+pub data LiteralAtom : Type 0 where
+  Plain : (byte : ℕ) → LiteralAtom
+  Escaped : (byte : ℕ) → LiteralAtom
 
-unfoldable pub atoms : List Atom → List ℕ
+unfoldable pub atoms : List LiteralAtom → List ℕ
 atoms [] = []
 atoms (Plain b ∷ as') = b ∷ atoms as'
 atoms (Escaped b ∷ as') = byte.backslash ∷ b ∷ atoms as'
 
-unfoldable pub AreAtoms : List Atom → Type 0
+unfoldable pub AreAtoms : List LiteralAtom → Type 0
 AreAtoms [] = Unit {0}
 AreAtoms (Plain b ∷ as') = (is_regex_byte b ≡ true) × AreAtoms as'
 AreAtoms (Escaped b ∷ as') = (is_no_feed b ≡ true) × AreAtoms as'
 
 -- ---- tokens, white space and comments
 
-unfoldable pub IsToken : Kind → List ℕ → Type 0
+unfoldable pub IsToken : TokenKind → List ℕ → Type 0
 IsToken Name bytes = (b : ℕ) × (w : List ℕ) × (is_letter b ≡ true) × AreAll is_name_byte w × (bytes ≡ b ∷ w)
 IsToken Number bytes = (b : ℕ) × (w : List ℕ) × (is_digit b ≡ true) × AreAll is_digit w × (bytes ≡ b ∷ w)
-IsToken Literal bytes = (is : List Item) × AreItems is × (bytes ≡ byte.quote ∷ items is ++ byte.quote ∷ [])
+IsToken Literal bytes = (is : List LiteralItem) × AreItems is × (bytes ≡ byte.quote ∷ items is ++ byte.quote ∷ [])
 -- between the slashes stands at least one item, and the first byte there is no *
-IsToken Regex bytes = (b : ℕ) × (w : List ℕ) × (as' : List Atom) × AreAtoms as' × ((b == byte.asterisk) ≡ false) × (atoms as' ≡ b ∷ w) × (bytes ≡ byte.slash ∷ b ∷ w ++ byte.slash ∷ [])
+IsToken Regex bytes = (b : ℕ) × (w : List ℕ) × (as' : List LiteralAtom) × AreAtoms as' × ((b == byte.asterisk) ≡ false) × (atoms as' ≡ b ∷ w) × (bytes ≡ byte.slash ∷ b ∷ w ++ byte.slash ∷ [])
 IsToken Define bytes = bytes ≡ codes ":="
 IsToken Colon bytes = bytes ≡ codes ":"
 IsToken Pipe bytes = bytes ≡ codes ">>"
@@ -123,7 +123,7 @@ IsLexeme BlockComment bytes = (w : List ℕ) × NoClose (w ++ byte.asterisk ∷ 
 IsLexeme (Kept kind) bytes = IsToken kind bytes
 
 -- this lexeme stands at the front, and no longer one does
-pub record IsLongest (bytes : List ℕ) (p : Piece) : Type 0 where
+pub record IsLongest (bytes : List ℕ) (p : SizedLexeme) : Type 0 where
   pub inside : p.long ≤ length bytes
   pub is : IsLexeme p.lexeme (take p.long bytes)
   pub no_longer : (other : Lexeme) (n : ℕ) → p.long < n → n ≤ length bytes → IsLexeme other (take n bytes) → ⊥

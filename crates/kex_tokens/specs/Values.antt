@@ -1,8 +1,8 @@
 -- What literals and numbers stand for.
 use Rattle.kex_tokens.specs.Bytes as byte
 use Rattle.std.specs.Prelude.{◌≡◌, ℕ, ◌+◌, ◌-◌, ◌*◌, ◌&&◌, List, [], ◌∷◌, ◌++◌, map, Option, Some, None, nat_le, ◌==◌, if◌then◌else◌}
-use Rattle.kex_tokens.specs.Lexemes.{is_digit, Item, Itself, Short, Hex, items, AreItems}
-use Rattle.kex_tokens.specs.Scanning.{InLiteral, Between, Backslash, HexBegun, HexOne, Step, On, Closed, Wrong, literal_step}
+use Rattle.kex_tokens.specs.Lexemes.{is_digit, LiteralItem, Itself, Short, Hex, items, AreItems}
+use Rattle.kex_tokens.specs.Scanning.{InLiteral, Between, Backslash, HexBegun, HexOne, ClosingStep, On, Closed, Wrong, literal_step}
 
 -- what a hexadecimal digit counts
 abbrev pub hex_value : ℕ → ℕ
@@ -12,22 +12,22 @@ hex_value b = if is_digit b then b - 48 else if nat_le 65 b && nat_le b 70 then 
 abbrev pub short_value : ℕ → ℕ
 short_value b = if b == byte.letter_n then byte.line_feed else if b == byte.letter_t then byte.tab else if b == byte.letter_r then byte.carriage_return else b
 
-abbrev pub item_value : Item → ℕ
+abbrev pub item_value : LiteralItem → ℕ
 item_value (Itself b) = b
 item_value (Short b) = short_value b
 item_value (Hex h l) = 16 * hex_value h + hex_value l
 
 -- the literal with this spelling stands for these bytes, one for each item
 abbrev pub StandsFor : List ℕ → List ℕ → Type 0
-StandsFor spelling bytes = (is : List Item) × AreItems is × (spelling ≡ byte.quote ∷ items is ++ byte.quote ∷ []) × (map item_value is ≡ bytes)
+StandsFor spelling bytes = (is : List LiteralItem) × AreItems is × (spelling ≡ byte.quote ∷ items is ++ byte.quote ∷ []) × (map item_value is ≡ bytes)
 
 -- the number that decimal digits write, where n stands before them
 unfoldable pub number_behind : ℕ → List ℕ → ℕ
 number_behind n [] = n
 number_behind n (b ∷ bs) = number_behind (10 * n + (b - byte.digit_0)) bs
 
-abbrev pub number_of : List ℕ → ℕ
-number_of digits = number_behind 0 digits
+abbrev pub decimal_value : List ℕ → ℕ
+decimal_value digits = number_behind 0 digits
 
 -- ---- how the code goes
 
@@ -42,7 +42,7 @@ abbrev pub or_nothing : Option ℕ → List ℕ
 or_nothing None = []
 or_nothing (Some b) = b ∷ []
 
-abbrev pub decode_after : Step InLiteral → List ℕ → (InLiteral → List ℕ) → List ℕ
+abbrev pub decode_after : ClosingStep InLiteral → List ℕ → (InLiteral → List ℕ) → List ℕ
 decode_after (On s) given rest = given ++ rest s
 decode_after Closed given rest = []
 decode_after Wrong given rest = []

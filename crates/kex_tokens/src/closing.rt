@@ -2,7 +2,7 @@
 
 /// What a byte does: more has to come, with this known of it; or it closes; or it may not stand here.
 #[derive(Clone, Copy, Drop)]
-pub enum Step<S> {
+pub enum ClosingStep<S> {
     On(S),
     Closed,
     Wrong,

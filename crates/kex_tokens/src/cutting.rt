@@ -2,15 +2,15 @@
 
 ghost use Rattle.std.specs.Prelude.{◌≡◌, ℕ, ◌<◌, ◌≤◌, ◌++◌, ◌↔◌, ◌⊎◌, List, Err, length, All, IfOk, IfErr, MatchResult};
 ghost use Rattle.kex_tokens.specs.declared.token.Token.{Token};
-ghost use Rattle.kex_tokens.specs.Texts.{AreInOrder, AreTokens, IsBadToken, IsRefused, IsSpan, added_tokens, most_text};
+ghost use Rattle.kex_tokens.specs.Texts.{AreInOrder, AreTokens, IsBadToken, AreTokensRefused, IsSpan, added_tokens, most_text};
 
-use crate::lexeme::{Lexeme, Piece};
+use crate::lexeme::{Lexeme, SizedLexeme};
 use crate::scan::longest;
 use crate::token::{MAX_TEXT, Token, TokenFault};
 use std::alloc::Global;
 
 /// Adds the token that this piece is, if it is one.
-fn keep(tokens: &mut Vec<Token>, piece: Piece, from: u32, to: u32) -> Result<(), TokenFault>
+fn keep(tokens: &mut Vec<Token>, piece: SizedLexeme, from: u32, to: u32) -> Result<(), TokenFault>
     ensures kept { IfOk result (λ _. tokens.new.items ≡ tokens.old.items ++ added_tokens piece.lexeme from to) }
     ensures memory { IfErr result (λ fault. fault ≡ TokenFault.Memory) }
 {
@@ -24,7 +24,7 @@ fn keep(tokens: &mut Vec<Token>, piece: Piece, from: u32, to: u32) -> Result<(),
 fn cut(alloc: Global, text: &[u8]) -> Result<Vec<Token>, TokenFault>
     requires { length text.now ≤ most_text }
     ensures cut { IfOk result (λ ts. AreTokens text.now ts.items) }
-    ensures refused { IfErr result (λ fault. IsRefused fault text.now) }
+    ensures refused { IfErr result (λ fault. AreTokensRefused fault text.now) }
 {
     let mut tokens = Vec::new(alloc);
     let mut at = 0;
@@ -45,7 +45,7 @@ fn cut(alloc: Global, text: &[u8]) -> Result<Vec<Token>, TokenFault>
 /// first thing that begins no token, white space or comment, or isn't completed. The time is linear in the text.
 pub fn tokens(alloc: Global, text: &[u8]) -> Result<Vec<Token>, TokenFault>
     ensures cut { IfOk result (λ ts. AreTokens text.now ts.items) }
-    ensures refused { IfErr result (λ fault. IsRefused fault text.now) }
+    ensures refused { IfErr result (λ fault. AreTokensRefused fault text.now) }
     ensures too_long { most_text < length text.now → result ≡ Err TokenFault.TextTooLong }
     // a text that is cut is answered with these tokens, if there is memory
     ensures whole { (ts : List Token) → length text.now ≤ most_text → AreTokens text.now ts →

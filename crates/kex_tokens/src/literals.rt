@@ -4,7 +4,7 @@ ghost use Rattle.std.specs.Prelude.{◌≡◌, ◌+◌, ◌≤◌, length, drop,
 ghost use Rattle.kex_tokens.specs.Scanning.{literal, literal_step};
 
 use crate::bytes::is_short;
-use crate::closing::Step;
+use crate::closing::ClosingStep;
 
 /// Where in an item of a literal the next byte stands.
 #[derive(Clone, Copy, Drop)]
@@ -17,42 +17,42 @@ pub enum InLiteral {
 
 /// What a byte does in a literal.
 #[tactic(auto, unfolding(crate::specs::Scanning::literal_step))]
-pub fn literal_step(state: InLiteral, byte: u8) -> Step<InLiteral>
+pub fn literal_step(state: InLiteral, byte: u8) -> ClosingStep<InLiteral>
     ensures { result ≡ literal_step state byte }
 {
     match state {
         InLiteral::Between => {
             if byte == b'"' {
-                Step::Closed
+                ClosingStep::Closed
             } else if byte == b'\\' {
-                Step::On(InLiteral::Backslash)
+                ClosingStep::On(InLiteral::Backslash)
             } else if byte == b'\n' {
-                Step::Wrong
+                ClosingStep::Wrong
             } else {
-                Step::On(InLiteral::Between)
+                ClosingStep::On(InLiteral::Between)
             }
         }
         InLiteral::Backslash => {
             if byte == b'x' {
-                Step::On(InLiteral::HexBegun)
+                ClosingStep::On(InLiteral::HexBegun)
             } else if is_short(byte) {
-                Step::On(InLiteral::Between)
+                ClosingStep::On(InLiteral::Between)
             } else {
-                Step::Wrong
+                ClosingStep::Wrong
             }
         }
         InLiteral::HexBegun => {
             if byte.is_ascii_hexdigit() {
-                Step::On(InLiteral::HexOne(byte))
+                ClosingStep::On(InLiteral::HexOne(byte))
             } else {
-                Step::Wrong
+                ClosingStep::Wrong
             }
         }
         InLiteral::HexOne(_) => {
             if byte.is_ascii_hexdigit() {
-                Step::On(InLiteral::Between)
+                ClosingStep::On(InLiteral::Between)
             } else {
-                Step::Wrong
+                ClosingStep::Wrong
             }
         }
     }
@@ -67,9 +67,9 @@ pub fn literal_length(text: &[u8], from: usize) -> Option<usize>
     let mut state = InLiteral::Between;
     for i in from..text.len() {
         match literal_step(state, text[i]) {
-            Step::On(next) => state = next,
-            Step::Closed => return Some(i + 1 - from),
-            Step::Wrong => return None,
+            ClosingStep::On(next) => state = next,
+            ClosingStep::Closed => return Some(i + 1 - from),
+            ClosingStep::Wrong => return None,
         }
     }
     None

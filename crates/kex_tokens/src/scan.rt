@@ -5,21 +5,21 @@ ghost use Rattle.kex_tokens.specs.Lexemes.{HasNoLexeme, IsLongest};
 ghost use Rattle.kex_tokens.specs.Scanning.{behind_one, lexeme, slash};
 
 use crate::bytes::is_space;
-use crate::lexeme::{Lexeme, Piece};
+use crate::lexeme::{Lexeme, SizedLexeme};
 use crate::literals::literal_length;
 use crate::runs::{Run, run_length};
 use crate::signs::{has_byte, sign};
 use crate::slashes::{block_length, regex_length};
-use crate::token::Kind;
+use crate::token::TokenKind;
 
 /// This lexeme, of one byte and what stands behind it.
 #[tactic(auto, unfolding(crate::specs::Scanning::behind_one))]
-fn behind_one(lexeme: Lexeme, long: Option<usize>) -> Option<Piece>
+fn behind_one(lexeme: Lexeme, long: Option<usize>) -> Option<SizedLexeme>
     requires { IfSome long (λ n. n < 2 ^ 63) }
     ensures { result ≡ behind_one lexeme long }
 {
     match long {
-        Some(n) => Some(Piece {
+        Some(n) => Some(SizedLexeme {
             lexeme,
             long: n + 1,
         }),
@@ -29,13 +29,13 @@ fn behind_one(lexeme: Lexeme, long: Option<usize>) -> Option<Piece>
 
 /// What a slash begins: the byte behind it decides.
 #[tactic(auto, unfolding(crate::specs::Scanning::slash))]
-fn slash(text: &[u8], next: usize) -> Option<Piece>
+fn slash(text: &[u8], next: usize) -> Option<SizedLexeme>
     requires { next ≤ length text.now }
     ensures { result ≡ slash (drop next text.now) }
 {
     if has_byte(text, next, b'/') {
         let long = 2 + run_length(text, next + 1, Run::Line);
-        Some(Piece {
+        Some(SizedLexeme {
             lexeme: Lexeme::LineComment,
             long,
         })
@@ -45,35 +45,35 @@ fn slash(text: &[u8], next: usize) -> Option<Piece>
             None => None,
         }
     } else {
-        behind_one(Lexeme::Kept(Kind::Regex), regex_length(text, next))
+        behind_one(Lexeme::Kept(TokenKind::Regex), regex_length(text, next))
     }
 }
 
 /// What this byte begins, where the text goes on at `next`.
 #[tactic(auto, unfolding(crate::specs::Scanning::lexeme))]
-fn begun(first: u8, text: &[u8], next: usize) -> Option<Piece>
+fn begun(first: u8, text: &[u8], next: usize) -> Option<SizedLexeme>
     requires { next ≤ length text.now }
     ensures { result ≡ lexeme (first ∷ drop next text.now) }
 {
     if is_space(first) {
-        Some(Piece {
+        Some(SizedLexeme {
             lexeme: Lexeme::Space,
             long: 1,
         })
     } else if first.is_ascii_alphabetic() {
         let long = 1 + run_length(text, next, Run::NameBytes);
-        Some(Piece {
-            lexeme: Lexeme::Kept(Kind::Name),
+        Some(SizedLexeme {
+            lexeme: Lexeme::Kept(TokenKind::Name),
             long,
         })
     } else if first.is_ascii_digit() {
         let long = 1 + run_length(text, next, Run::Digits);
-        Some(Piece {
-            lexeme: Lexeme::Kept(Kind::Number),
+        Some(SizedLexeme {
+            lexeme: Lexeme::Kept(TokenKind::Number),
             long,
         })
     } else if first == b'"' {
-        behind_one(Lexeme::Kept(Kind::Literal), literal_length(text, next))
+        behind_one(Lexeme::Kept(TokenKind::Literal), literal_length(text, next))
     } else if first == b'/' {
         slash(text, next)
     } else {
@@ -82,7 +82,7 @@ fn begun(first: u8, text: &[u8], next: usize) -> Option<Piece>
 }
 
 /// The longest lexeme at this place, or nothing where none begins there or none is complete.
-pub fn longest(text: &[u8], at: usize) -> Option<Piece>
+pub fn longest(text: &[u8], at: usize) -> Option<SizedLexeme>
     requires { at < length text.now }
     ensures found { IfSome result (λ p. IsLongest (drop at text.now) p) }
     ensures none { IfNone result (HasNoLexeme (drop at text.now)) }

@@ -3,39 +3,39 @@
 ghost use Rattle.std.specs.Prelude.{◌≡◌, ◌+◌, ◌≤◌, length, drop, false, IfSome};
 ghost use Rattle.kex_tokens.specs.Scanning.{block, block_step, regex, regex_step};
 
-use crate::closing::Step;
+use crate::closing::ClosingStep;
 
 /// What a byte does in a regex, where the byte before is a backslash that escapes it, or not.
 #[tactic(auto, unfolding(crate::specs::Scanning::regex_step))]
-fn regex_step(escaped: bool, byte: u8) -> Step<bool>
+fn regex_step(escaped: bool, byte: u8) -> ClosingStep<bool>
     ensures { result ≡ regex_step escaped byte }
 {
     if escaped {
         if byte == b'\n' {
-            Step::Wrong
+            ClosingStep::Wrong
         } else {
-            Step::On(false)
+            ClosingStep::On(false)
         }
     } else if byte == b'/' {
-        Step::Closed
+        ClosingStep::Closed
     } else if byte == b'\\' {
-        Step::On(true)
+        ClosingStep::On(true)
     } else if byte == b'\n' {
-        Step::Wrong
+        ClosingStep::Wrong
     } else {
-        Step::On(false)
+        ClosingStep::On(false)
     }
 }
 
 /// What a byte does in a block comment, where the byte before is a star, or not.
 #[tactic(auto, unfolding(crate::specs::Scanning::block_step))]
-fn block_step(star: bool, byte: u8) -> Step<bool>
+fn block_step(star: bool, byte: u8) -> ClosingStep<bool>
     ensures { result ≡ block_step star byte }
 {
     if star && byte == b'/' {
-        Step::Closed
+        ClosingStep::Closed
     } else {
-        Step::On(byte == b'*')
+        ClosingStep::On(byte == b'*')
     }
 }
 
@@ -48,9 +48,9 @@ pub fn regex_length(text: &[u8], from: usize) -> Option<usize>
     let mut escaped = false;
     for i in from..text.len() {
         match regex_step(escaped, text[i]) {
-            Step::On(next) => escaped = next,
-            Step::Closed => return Some(i + 1 - from),
-            Step::Wrong => return None,
+            ClosingStep::On(next) => escaped = next,
+            ClosingStep::Closed => return Some(i + 1 - from),
+            ClosingStep::Wrong => return None,
         }
     }
     None
@@ -65,9 +65,9 @@ pub fn block_length(text: &[u8], from: usize) -> Option<usize>
     let mut star = false;
     for i in from..text.len() {
         match block_step(star, text[i]) {
-            Step::On(next) => star = next,
-            Step::Closed => return Some(i + 1 - from),
-            Step::Wrong => return None,
+            ClosingStep::On(next) => star = next,
+            ClosingStep::Closed => return Some(i + 1 - from),
+            ClosingStep::Wrong => return None,
         }
     }
     None

@@ -9,7 +9,7 @@ use thiserror::Error;
 
 /// What a token is: a name, a number, a literal, a regex, or a sign.
 #[derive(Clone, Copy, PartialEq, Eq, Debug)]
-pub enum Kind {
+pub enum TokenKind {
     Name,
     Number,
     Literal,
@@ -57,7 +57,7 @@ pub enum Kind {
 /// A token of a text: the bytes from the offset `from` up to, not including, the offset `to`.
 #[derive(Clone, Copy, PartialEq, Eq, Debug)]
 pub struct Token {
-    pub kind: Kind,
+    pub kind: TokenKind,
     pub from: u32,
     pub to: u32,
 }

@@ -2,11 +2,11 @@
 
 ghost use Rattle.std.specs.Prelude.{◌≡◌, ◌<◌, ◌≤◌, ◌++◌, drop, IfOk, MatchOption};
 ghost use Rattle.kex_tokens.specs.Lexemes.{IsToken};
-ghost use Rattle.kex_tokens.specs.Values.{StandsFor, hex_value, item_end, number_of, or_nothing, short_value};
+ghost use Rattle.kex_tokens.specs.Values.{StandsFor, hex_value, item_end, decimal_value, or_nothing, short_value};
 
-use crate::closing::Step;
+use crate::closing::ClosingStep;
 use crate::literals::{InLiteral, literal_step};
-use crate::token::Kind;
+use crate::token::TokenKind;
 use std::alloc::{AllocError, Global};
 
 /// What a hexadecimal digit counts.
@@ -71,14 +71,14 @@ fn push_some(bytes: &mut Vec<u8>, byte: Option<u8>) -> Result<(), AllocError>
 
 /// The bytes that a literal stands for, where `spelling` is the whole token with its quotes.
 pub fn literal_bytes(alloc: Global, spelling: &[u8]) -> Result<Vec<u8>, AllocError>
-    requires { IsToken Kind.Literal spelling.now }
+    requires { IsToken TokenKind.Literal spelling.now }
     ensures { IfOk result (λ bytes. StandsFor spelling.now bytes.items) }
 {
     let mut bytes = Vec::new(alloc);
     let mut state = InLiteral::Between;
     for i in 1..spelling.len() {
         let byte = spelling[i];
-        let Step::On(next) = literal_step(state, byte) else {
+        let ClosingStep::On(next) = literal_step(state, byte) else {
             return Ok(bytes);
         };
         push_some(&mut bytes, item_end(state, byte))?;
@@ -89,7 +89,7 @@ pub fn literal_bytes(alloc: Global, spelling: &[u8]) -> Result<Vec<u8>, AllocErr
 
 /// The number that these decimal digits write, if it is at most `most`, however many there are.
 pub fn number_value(digits: &[u8], most: u32) -> Option<u32>
-    ensures { MatchOption result (most < number_of digits.now) (λ n. (n ≡ number_of digits.now) × (n ≤ most)) }
+    ensures { MatchOption result (most < decimal_value digits.now) (λ n. (n ≡ decimal_value digits.now) × (n ≤ most)) }
 {
     let mut value = 0;
     for i in 0..digits.len() {

@@ -4,8 +4,8 @@ use Rattle.std.specs.Prelude.{Option, Some, None}
 use Rattle.kex_code.specs.Codes.{IsAmong, bytes_of}
 use Rattle.kex_model.specs.Answers.{Answer, Pipeline, Report, at_byte, at_end, at_limit, bad_byte, cut_off, still_open, too_long, whole}
 use Rattle.kex_model.specs.Answers as model
-use Rattle.kex_machine.specs.Nodes.{Graph, IsInRange, IsTrimmed}
-use Rattle.kex_machine.specs.Answers.{HasParse, Means, Says, StageAnswers}
+use Rattle.kex_machine.specs.Nodes.{Graph, IsMachineInRange, IsTrimmed}
+use Rattle.kex_machine.specs.Answers.{HasRun, MeansByRun, SaysByRun, MachineAnswers}
 use Rattle.kex_machine.proofs.Ranges.{stays_within}
 use Rattle.kex_lowering.proofs.Existence.{has_answers, pipeline_answers}
 use Rattle.kex_pipe.specs.Histories.{why_as}
@@ -13,30 +13,30 @@ use Rattle.kex_pipe.specs.Reports.{report_as}
 use Rattle.kex_pipe.specs.declared.report.Rejected.{Rejected}
 use Rattle.kex_pipe.specs.declared.turn.Why.{Why}
 use Rattle.kex_pipe.specs.declared.turn.Why.TheVariants.{Byte, End, Limit}
-use Rattle.kex_single.specs.Singles.{CodeAnswers, MeansCode, SaysCode}
+use Rattle.kex_single.specs.Singles.{MachineCodeAnswers, MeansRunCode, SaysSharedCode}
 use Rattle.kex_top.specs.Pipelines.{AlwaysAnswers, AlwaysSays, StagesSay}
 
-module _ (g : Graph) (limit : ℕ) (range : IsInRange g.start g.nodes g.registers) (trimmed : IsTrimmed g) where
-  pub machine-answers : (w : List ℕ) (e : Bool) → (a : Answer) × StageAnswers g limit w e a
+module _ (g : Graph) (limit : ℕ) (range : IsMachineInRange g.start g.nodes g.registers) (trimmed : IsTrimmed g) where
+  pub machine-answers : (w : List ℕ) (e : Bool) → (a : Answer) × MachineAnswers g limit w e a
   machine-answers w e = has_answers g (stays_within g range) range.start_in trimmed limit w e
 
-  says-code : (w s : List ℕ) → Says g w s → (text : List ℕ) × SaysCode g w text
+  says-code : (w s : List ℕ) → SaysByRun g w s → (text : List ℕ) × SaysSharedCode g w text
   says-code w s h = (_, (h.agreed, h.is_agreed, refl))
 
-  means-code : (w s : List ℕ) → Means g w s → (text : List ℕ) × MeansCode g w text
+  means-code : (w s : List ℕ) → MeansByRun g w s → (text : List ℕ) × MeansRunCode g w text
   means-code w s m =
       let r = m.is_greedy.2.reached in
-      let parse : HasParse g w = (m.run, m.runs, ap (λ z. bytes_of z) (m.codes ∙ sym r.2) ∙ r.1.reads) in
+      let parse : HasRun g w = (m.run, m.runs, ap (λ z. bytes_of z) (m.codes ∙ sym r.2) ∙ r.1.reads) in
       (_, (m.greedy, record { parse = parse; greedy = m.is_greedy; least = m.least }, refl))
 
-  coded : {w : List ℕ} {e : Bool} {a : Answer} → StageAnswers g limit w e a → (b : Answer) × CodeAnswers g limit w e b
+  coded : {w : List ℕ} {e : Bool} {a : Answer} → MachineAnswers g limit w e a → (b : Answer) × MachineCodeAnswers g limit w e b
   coded (bad_byte {text = s} v bad l h) = (_, bad_byte v bad (record { front = l.front; good = l.good; longest = l.longest }) (says-code v s h).1)
   coded (too_long {text = s} lt good h) = (_, too_long lt good (says-code _ s h).1)
   coded (cut_off {text = s} le good none h) = (_, cut_off le good none (says-code _ s h).1)
   coded (whole {text = s} le m) = (_, whole le (means-code _ s m).1)
   coded (still_open {text = s} le good h) = (_, still_open le good (says-code _ s h).1)
 
-  pub code-answers : (w : List ℕ) (e : Bool) → (a : Answer) × CodeAnswers g limit w e a
+  pub code-answers : (w : List ℕ) (e : Bool) → (a : Answer) × MachineCodeAnswers g limit w e a
   code-answers w e = coded (machine-answers w e).1
 
 reason : (y : model.Why) → (x : Why) × (why_as x ≡ y)

@@ -9,7 +9,7 @@ use Rattle.kex_pipe.specs.declared.turn.Fate.{Fate}
 use Rattle.kex_pipe.specs.declared.turn.Turn.{Ghosts}
 use Rattle.kex_top.specs.Answer.{Said}
 use Rattle.kex_top.specs.Fronts.{IsFront}
-use Rattle.kex_top.specs.History.{Feeds, History, IsSaid, Writes, WritesEarly, WritesFront, bytes_passed, is_ended, text_of}
+use Rattle.kex_top.specs.History.{FeedsStages, History, IsSaidSoFar, WritesSaid, WritesEarly, WritesSaidFront, bytes_passed, is_history_ended, history_text}
 use Rattle.kex_top.specs.Piped.{PipeSays, PipeStands, plans_of}
 use Rattle.kex_top.specs.Pipelines.{AlwaysSays}
 use Rattle.kex_top.specs.declared.any_pipe.AnyPipe.{AnyPipe}
@@ -20,7 +20,7 @@ pub what-is-left : (xs : List ℕ) (n : ℕ) → n ≤ length xs → take (lengt
 what-is-left xs n le = take_all (length xs - n) (drop n xs) (let long = length-drop n xs in omega arith)
 
 -- what an open pipe stands for was said
-pub said-open : {T : Type 0} (t : Ghosts T) (pipe : AnyPipe T t) (h : History) → PipeStands t pipe h → is_ended h ≡ false → IsSaid (PipeSays t (plans_of t pipe)) h
+pub said-open : {T : Type 0} (t : Ghosts T) (pipe : AnyPipe T t) (h : History) → PipeStands t pipe h → is_history_ended h ≡ false → IsSaidSoFar (PipeSays t (plans_of t pipe)) h
 said-open t pipe None s is_open = tt
 said-open t pipe (Some f) s is_open = subst (λ e. PipeSays t (plans_of t pipe) f.bytes e f.said) is_open s.says
 
@@ -28,23 +28,23 @@ said-open t pipe (Some f) s is_open = subst (λ e. PipeSays t (plans_of t pipe) 
 pub record Passing (stands : History → Type 0) (h : History) (w rest : List ℕ) (old mid : Option (List ℕ)) : Type 0 where
   pub now : History
   pub stands_for : stands now
-  pub is_open : is_ended now ≡ false
+  pub is_open : is_history_ended now ≡ false
   pub cut : w ≡ bytes_passed now ++ rest
   pub added : List ℕ
-  pub whole : text_of now ≡ text_of h ++ added
+  pub whole : history_text now ≡ history_text h ++ added
   pub appended : Appends old mid added
 
-pub none-passed : (stands : History → Type 0) (h : History) (block : List ℕ) (held : Option (List ℕ)) → stands h → is_ended h ≡ false → Passing stands h (bytes_passed h ++ block) block held held
-none-passed stands h block held s is_open = record { now = h; stands_for = s; is_open = is_open; cut = refl; added = []; whole = append-nil (text_of h); appended = appends-nothing held }
+pub none-passed : (stands : History → Type 0) (h : History) (block : List ℕ) (held : Option (List ℕ)) → stands h → is_history_ended h ≡ false → Passing stands h (bytes_passed h ++ block) block held held
+none-passed stands h block held s is_open = record { now = h; stands_for = s; is_open = is_open; cut = refl; added = []; whole = append-nil (history_text h); appended = appends-nothing held }
 
 module _ (says : List ℕ → Bool → Said → Type 0) (stands : History → Type 0) (h : History) (w rest : List ℕ) (old mid : Option (List ℕ)) (p : Passing stands h w rest old mid) where
   -- where memory is wanted then
-  pub wanted : IsSaid says p.now → WritesEarly says h w old mid
+  pub wanted : IsSaidSoFar says p.now → WritesEarly says h w old mid
   wanted said = record { now = p.now; rest = rest; cut = p.cut; is_said = said; added = p.added; whole = p.whole; appended = p.appended }
 
-  module _ (then : History → Type 0) (n : ℕ) (out : List ℕ) (fate : Fate) (x : Feeds says then p.now (bytes_passed p.now ++ take n rest) false out fate) (new : Option (List ℕ)) where
-    text : x.said.text ≡ text_of h ++ (p.added ++ out)
-    text = x.whole ∙ ap (λ (z : List ℕ). z ++ out) p.whole ∙ append_assoc (text_of h) p.added out
+  module _ (then : History → Type 0) (n : ℕ) (out : List ℕ) (fate : Fate) (x : FeedsStages says then p.now (bytes_passed p.now ++ take n rest) false out fate) (new : Option (List ℕ)) where
+    text : x.said.text ≡ history_text h ++ (p.added ++ out)
+    text = x.whole ∙ ap (λ (z : List ℕ). z ++ out) p.whole ∙ append_assoc (history_text h) p.added out
 
     cut : w ≡ (bytes_passed p.now ++ take n rest) ++ drop n rest
     cut = p.cut ∙ ap (λ z. bytes_passed p.now ++ z) (sym (take-append-drop n rest)) ∙ sym (append_assoc (bytes_passed p.now) (take n rest) (drop n rest))
@@ -65,8 +65,8 @@ module _ (says : List ℕ → Bool → Said → Type 0) (stands : History → Ty
     all is = ap (λ z. bytes_passed p.now ++ z) (take_all n rest (omega (arith, is))) ∙ sym p.cut
 
     -- the last one
-    pub all-passed : n ≡ length rest → Appends mid new out → Writes says then h w false old new fate
-    all-passed is appended = subst (λ z. Writes says then h z false old new fate) (all is) (record {
+    pub all-passed : n ≡ length rest → Appends mid new out → WritesSaid says then h w false old new fate
+    all-passed is appended = subst (λ z. WritesSaid says then h z false old new fate) (all is) (record {
       said = x.said;
       is_said = x.is_said;
       stands_for = x.stands_for;
@@ -77,9 +77,9 @@ module _ (says : List ℕ → Bool → Said → Type 0) (stands : History → Ty
     })
 
     -- where the sink fails then: what is said of a front begins what is said of the whole
-    pub failed : (pace : Pace) → IsFront pace rest n → (pace ≡ Parts → AlwaysSays says) → ((v u : List ℕ) (e : Bool) (a b : Said) → says v false a → says (v ++ u) e b → IsPrefix a.text b.text) → AppendsFront mid new out → WritesFront says h w false old new
+    pub failed : (pace : Pace) → IsFront pace rest n → (pace ≡ Parts → AlwaysSays says) → ((v u : List ℕ) (e : Bool) (a b : Said) → says v false a → says (v ++ u) e b → IsPrefix a.text b.text) → AppendsFront mid new out → WritesSaidFront says h w false old new
     failed Blocks front always grows f =
-        subst (λ z. WritesFront says h z false old new) (all (front.whole refl)) (record { said = x.said; is_said = x.is_said; added = p.added ++ out; whole = text; appended = front-then old mid new p.added out p.appended f })
+        subst (λ z. WritesSaidFront says h z false old new) (all (front.whole refl)) (record { said = x.said; is_said = x.is_said; added = p.added ++ out; whole = text; appended = front-then old mid new p.added out p.appended f })
     failed Parts front always grows f =
         let (said, is_said) = always refl w false in
         let v = bytes_passed p.now ++ take n rest in
@@ -88,6 +88,6 @@ module _ (says : List ℕ → Bool → Said → Type 0) (stands : History → Ty
           said = said;
           is_said = is_said;
           added = (p.added ++ out) ++ begins.rest;
-          whole = begins.joined ∙ ap (λ (z : List ℕ). z ++ begins.rest) text ∙ append_assoc (text_of h) (p.added ++ out) begins.rest;
+          whole = begins.joined ∙ ap (λ (z : List ℕ). z ++ begins.rest) text ∙ append_assoc (history_text h) (p.added ++ out) begins.rest;
           appended = front-more old new (p.added ++ out) begins.rest (front-then old mid new p.added out p.appended f);
         }

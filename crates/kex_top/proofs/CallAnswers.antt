@@ -13,7 +13,7 @@ use Rattle.kex_model.specs.Answers.{Answer, Pipeline, bad_byte, too_long, cut_of
 use Rattle.kex_model.specs.Answers as model
 use Rattle.kex_machine.specs.Answers as nodes
 use Rattle.kex_code.specs.declared.symbol.Symbol.{Symbol}
-use Rattle.kex_action.specs.Actors.{BeginsRun, IsWhole}
+use Rattle.kex_action.specs.Actors.{BeginsRun, IsWholeCode}
 use Rattle.kex_single.specs.Plays as plays
 use Rattle.kex_single.specs.Singles as single
 use Rattle.kex_lowering.specs.Stages.{Carries}
@@ -26,7 +26,7 @@ use Rattle.kex_compile.specs.Stages.{AreStages, Plans, roots_of}
 use Rattle.kex_compile.specs.Compiled.{IsCompiled, IsRefused}
 use Rattle.kex_compile.specs.declared.limits.Limits.{Limits}
 use Rattle.kex_compile.specs.declared.refusal.CompileRefusal.{CompileRefusal}
-use Rattle.kex_words.specs.Gains.{Change}
+use Rattle.kex_words.specs.Gains.{StreamChange}
 use Rattle.kex_words.specs.declared.refusals.Refusal.{Refusal}
 use Rattle.kex_words.specs.Form.{most_input}
 use Rattle.kex_words.specs.Lines.{counts_line, trial_line}
@@ -39,9 +39,9 @@ use Rattle.kex_top.specs.declared.start.StartError.{StartError}
 use Rattle.kex_top.specs.declared.start.StartError.TheVariants as start
 use Rattle.kex_top.specs.Answer.{Said}
 use Rattle.kex_top.specs.Pipelines.{Answered, NodesSay, StagesSay, first_limit, stage_plans}
-use Rattle.kex_top.specs.Run.{IsLeft, Left, Ran, EndsAs, WritesAll}
+use Rattle.kex_top.specs.Run.{IsAsBefore, Left, Ran, EndsAs, WritesAll}
 use Rattle.kex_top.specs.Kex.{CommandAnswers, Works}
-use Rattle.kex_top.specs.Modes.{BeginsParse, HasParseAlone, IsParse, WritesPart, MachineGives, MachinesSay, MeansCode, SaysCode, SaysNothing, SaysBy, StageGives, limits_of, limits_to_check}
+use Rattle.kex_top.specs.Modes.{BeginsParse, HasParseAlone, IsParseCode, WritesPart, MachineGives, MachinesSay, MeansCode, SaysCode, SaysNothing, SaysBy, StageGives, limits_of, limits_to_check}
 use Rattle.kex_pipe.specs.declared.report.Rejected.{Rejected as Report}
 use Rattle.kex_top.specs.declared.status.Status.{Status}
 use Rattle.kex_top.specs.declared.status.Status.TheVariants.{Done, Rejected, Usage, Refused, ReadFault, WriteFault, ShelfFault, Memory, TooLong}
@@ -51,10 +51,10 @@ plan_at limit m = record { machine = m; limit = limit }
 
 -- one saying in place of another that says the same
 module _ (says says' : List ℕ → Bool → Said → Type 0) (to : (w : List ℕ) (e : Bool) (s : Said) → says w e s → says' w e s) (from : (w : List ℕ) (e : Bool) (s : Said) → says' w e s → says w e s) where
-  all_alike : (w : List ℕ) (e : Bool) (r : Option Report) (sink : Change) → WritesAll says w e r sink → WritesAll says' w e r sink
+  all_alike : (w : List ℕ) (e : Bool) (r : Option Report) (sink : StreamChange) → WritesAll says w e r sink → WritesAll says' w e r sink
   all_alike w e r sink a = record { said = a.said; is_said = to w e a.said a.is_said; reports = a.reports; appended = a.appended }
 
-  ends_alike : (n : ℕ) (w : List ℕ) (e : Bool) (source sink : Change) (s : Status) → EndsAs says n w e source sink s → EndsAs says' n w e source sink s
+  ends_alike : (n : ℕ) (w : List ℕ) (e : Bool) (source sink : StreamChange) (s : Status) → EndsAs says n w e source sink s → EndsAs says' n w e source sink s
   ends_alike n w e source sink Done t = (t.0, all_alike w e None sink t.1, t.2, t.3)
   ends_alike n w e source sink (Rejected r) t = (t.0, all_alike w e (Some r) sink t.1, t.2, t.3)
   ends_alike n w e source sink (TooLong r) t = (t.0, all_alike w e (Some r) sink t.1, t.2, t.3)
@@ -87,7 +87,7 @@ module _ (says says' : List ℕ → Bool → Said → Type 0) (to : (w : List �
   ends_alike n w e source sink (Refused r) t = t
   ends_alike n w e source sink ShelfFault t = t
 
-  pub ran_alike : (n : ℕ) (source sink : Change) (s : Status) → Ran says n source sink s → Ran says' n source sink s
+  pub ran_alike : (n : ℕ) (source sink : StreamChange) (s : Status) → Ran says n source sink s → Ran says' n source sink s
   ran_alike n source sink s r = record { w = r.w; e = r.e; read = r.read; ended = r.ended; ends = ends_alike n r.w r.e source sink s r.ends }
 
 -- a stage's answer by one sort of what is said in place of another
@@ -134,7 +134,7 @@ module _ (P : Grammar) (limit root : ℕ) (m : Graph) (c : Carries P root m) whe
     λ x. let r = c.runs x.0 x.1 in (r.0, r.1, (x.2.0, r.2.codes ∙ x.2.1)),
   )
 
-  whole_alike : (d : List Symbol) → IsWhole m d ↔ IsParse P root d
+  whole_alike : (d : List Symbol) → IsWholeCode m d ↔ IsParseCode P root d
   whole_alike d = (
     λ x. let t = c.trees x.0 x.1 in (t.0, t.1, sym t.2.codes ∙ x.2),
     λ x. let r = c.runs x.0 x.1 in (r.0, r.1, r.2.codes ∙ x.2),
@@ -149,23 +149,23 @@ module _ (P : Grammar) (limit root : ℕ) (m : Graph) (c : Carries P root m) whe
   pub to_stage : (mode : Mode) (w : List ℕ) (e : Bool) (a : Answer) → MachineGives mode limit m w e a → StageGives mode P limit root w e a
   to_stage (running n) w e a h = (c.answers limit w e a).1 h
   to_stage coding w e a h =
-      sayings (nodes.Viable m) (model.Viable P root) (single.SaysCode m) (SaysCode P root) (nodes.HasParse m) (model.HasParse P root) (single.MeansCode m) (MeansCode P root)
+      sayings (nodes.IsViableFor m) (model.Viable P root) (single.SaysSharedCode m) (SaysCode P root) (nodes.HasRun m) (model.HasParse P root) (single.MeansRunCode m) (MeansCode P root)
       (λ v. turned (c.viable v)) (λ v s x. (x.0, (c.agreed v x.0).1 x.1, x.2)) (λ v p. (c.parsed v).0 p)
       (λ v s x. (x.0, record { parse = (c.parsed v).1 x.1.parse; greedy = (c.greedy v x.0).1 x.1.greedy; least = λ d g. x.1.least d ((c.greedy v d).0 g) }, x.2)) limit h
-  to_stage acting w e a h = playings (BeginsRun m) (BeginsParse P root) (IsWhole m) (IsParse P root) (plays.WritesRun m) (WritesPart P root) begun_alike whole_alike part_of_run limit h
+  to_stage acting w e a h = playings (BeginsRun m) (BeginsParse P root) (IsWholeCode m) (IsParseCode P root) (plays.WritesRun m) (WritesPart P root) begun_alike whole_alike part_of_run limit h
   to_stage testing w e a h =
-      sayings (nodes.Viable m) (model.Viable P root) (single.SaysNothing m) (SaysNothing P root) (nodes.HasParse m) (model.HasParse P root) (single.HasParseAlone m) (HasParseAlone P root)
+      sayings (nodes.IsViableFor m) (model.Viable P root) (single.SaysNoText m) (SaysNothing P root) (nodes.HasRun m) (model.HasParse P root) (single.HasRunAlone m) (HasParseAlone P root)
       (λ v. turned (c.viable v)) (λ v s x. x) (λ v p. (c.parsed v).0 p) (λ v s x. ((c.viable v).1 x.0, (c.parsed v).1 x.1, x.2)) limit h
 
   pub to_machine : (mode : Mode) (w : List ℕ) (e : Bool) (a : Answer) → StageGives mode P limit root w e a → MachineGives mode limit m w e a
   to_machine (running n) w e a h = (c.answers limit w e a).0 h
   to_machine coding w e a h =
-      sayings (model.Viable P root) (nodes.Viable m) (SaysCode P root) (single.SaysCode m) (model.HasParse P root) (nodes.HasParse m) (MeansCode P root) (single.MeansCode m)
+      sayings (model.Viable P root) (nodes.IsViableFor m) (SaysCode P root) (single.SaysSharedCode m) (model.HasParse P root) (nodes.HasRun m) (MeansCode P root) (single.MeansRunCode m)
       (λ v. c.viable v) (λ v s x. (x.0, (c.agreed v x.0).0 x.1, x.2)) (λ v p. (c.parsed v).1 p)
       (λ v s x. (x.0, record { parse = (c.parsed v).0 x.1.parse; greedy = (c.greedy v x.0).0 x.1.greedy; least = λ d g. x.1.least d ((c.greedy v d).1 g) }, x.2)) limit h
-  to_machine acting w e a h = playings (BeginsParse P root) (BeginsRun m) (IsParse P root) (IsWhole m) (WritesPart P root) (plays.WritesRun m) (λ d. turned (begun_alike d)) (λ d. turned (whole_alike d)) run_of_part limit h
+  to_machine acting w e a h = playings (BeginsParse P root) (BeginsRun m) (IsParseCode P root) (IsWholeCode m) (WritesPart P root) (plays.WritesRun m) (λ d. turned (begun_alike d)) (λ d. turned (whole_alike d)) run_of_part limit h
   to_machine testing w e a h =
-      sayings (model.Viable P root) (nodes.Viable m) (SaysNothing P root) (single.SaysNothing m) (model.HasParse P root) (nodes.HasParse m) (HasParseAlone P root) (single.HasParseAlone m)
+      sayings (model.Viable P root) (nodes.IsViableFor m) (SaysNothing P root) (single.SaysNoText m) (model.HasParse P root) (nodes.HasRun m) (HasParseAlone P root) (single.HasRunAlone m)
       (λ v. c.viable v) (λ v s x. x) (λ v p. (c.parsed v).1 p) (λ v s x. ((c.viable v).0 x.0, (c.parsed v).0 x.1, x.2)) limit h
 
 -- the machines of a program's stages answer as its stages do
@@ -192,7 +192,7 @@ module _ (states limit : ℕ) where
   by_plans i [] w e text r x = x
   by_plans i (m ∷ ms) w e text r (a, rest, gives, others, is) = (a, rest, gives, by_plans (suc i) ms a.text a.ended text rest others, is)
 
-  pub run_by_machines : (ms : List Graph) (block : ℕ) (source sink : Change) (s : Status) → 0 < length ms → Ran (NodesSay (stage_plans limit ms)) block source sink s → Ran (MachinesSay (running states) limit ms) block source sink s
+  pub run_by_machines : (ms : List Graph) (block : ℕ) (source sink : StreamChange) (s : Status) → 0 < length ms → Ran (NodesSay (stage_plans limit ms)) block source sink s → Ran (MachinesSay (running states) limit ms) block source sink s
   run_by_machines ms block source sink s some r =
       ran_alike _ _
       (λ w e said h. (some, by_machines 1 ms w e said.text (report_as said.report) h.1))
@@ -234,12 +234,12 @@ pub first-of : {S P : Type 0} (plan : S → P) (limit : P → ℕ) (ss : List S)
 first-of plan limit [] = refl
 first-of plan limit (s ∷ ss) = refl
 
-module _ (mode : Mode) (limit : ℕ) (ms : List Graph) (block : ℕ) (source sink : Change) (s : Status) where
+module _ (mode : Mode) (limit : ℕ) (ms : List Graph) (block : ℕ) (source sink : StreamChange) (s : Status) where
   pub ran_by : (states : ℕ) → mode ≡ running states → 0 < length ms → Ran (NodesSay (stage_plans limit ms)) block source sink s → Ran (MachinesSay mode limit ms) block source sink s
   ran_by states is some r = subst (λ m. Ran (MachinesSay m limit ms) block source sink s) (sym is) (run_by_machines states limit ms block source sink s some r)
 
 -- one stage by itself
-module _ {A : Type 0} (F : A → List ℕ → Bool → Answer → Type 0) (x : A) (mode : Mode) (limit : ℕ) (m : Graph) (block : ℕ) (source sink : Change) where
+module _ {A : Type 0} (F : A → List ℕ → Bool → Answer → Type 0) (x : A) (mode : Mode) (limit : ℕ) (m : Graph) (block : ℕ) (source sink : StreamChange) where
   pub ran_single : ((w : List ℕ) (e : Bool) (a : Answer) → F x w e a → MachineGives mode limit m w e a) → ((w : List ℕ) (e : Bool) (a : Answer) → MachineGives mode limit m w e a → F x w e a) → (s : Status) → Ran (StagesSay (λ p w e a. F p w e a) (x ∷ [])) block source sink s → Ran (MachinesSay mode limit (m ∷ [])) block source sink s
   ran_single to from s r =
       ran_alike (StagesSay (λ p w e a. F p w e a) (x ∷ [])) (MachinesSay mode limit (m ∷ []))
@@ -256,7 +256,7 @@ unplanned limits told text (start.Refused r) t (rule, refused, shown) = inr (rec
 unplanned limits told text start.Usage t x = x.2
 unplanned limits told text start.Shelf t x = absurd x.2
 
-pub unbegun : (asked : Asked) (texts : Option Texts) (reads : Option Reads) (source sink : Change) (why : StartError) → HasNone (limits_for asked) (told_text texts asked) why → (why ≡ start.Shelf → IsSome (calls_of (Some asked)).takes) → Left source sink → CommandAnswers asked texts reads source sink (status_of why)
+pub unbegun : (asked : Asked) (texts : Option Texts) (reads : Option Reads) (source sink : StreamChange) (why : StartError) → HasNone (limits_for asked) (told_text texts asked) why → (why ≡ start.Shelf → IsSome (calls_of (Some asked)).takes) → Left source sink → CommandAnswers asked texts reads source sink (status_of why)
 unbegun asked texts reads source sink start.Usage h t l = h
 unbegun asked texts reads source sink start.Shelf h t l = (t refl, l)
 unbegun asked texts reads source sink (start.Refused r) h t l = (l, h)
@@ -264,22 +264,22 @@ unbegun asked texts reads source sink start.Memory h t l = inl l
 
 -- ---- a command that has begun: by its program it answers none of what is answered before
 
-not_usage : (asked : Asked) (P : Grammar) (reads : Option Reads) (source sink : Change) → Performs asked P reads source sink Usage → ⊥
+not_usage : (asked : Asked) (P : Grammar) (reads : Option Reads) (source sink : StreamChange) → Performs asked P reads source sink Usage → ⊥
 not_usage (ToStream mode name reach) P reads source sink h = h.ends
 not_usage (ToCheck name states) P reads source sink h = h.1.told
 not_usage (ToTry lines block rings) P reads source sink h = h.1.told
 
-not_refused : (asked : Asked) (P : Grammar) (reads : Option Reads) (source sink : Change) (r : Refusal) → Performs asked P reads source sink (Refused r) → ⊥
+not_refused : (asked : Asked) (P : Grammar) (reads : Option Reads) (source sink : StreamChange) (r : Refusal) → Performs asked P reads source sink (Refused r) → ⊥
 not_refused (ToStream mode name reach) P reads source sink r h = h.ends
 not_refused (ToCheck name states) P reads source sink r h = h.1.told
 not_refused (ToTry lines block rings) P reads source sink r h = h.1.told
 
-not_shelf : (asked : Asked) (P : Grammar) (reads : Option Reads) (source sink : Change) → Performs asked P reads source sink ShelfFault → ⊥
+not_shelf : (asked : Asked) (P : Grammar) (reads : Option Reads) (source sink : StreamChange) → Performs asked P reads source sink ShelfFault → ⊥
 not_shelf (ToStream mode name reach) P reads source sink h = h.ends
 not_shelf (ToCheck name states) P reads source sink h = h.1.told
 not_shelf (ToTry lines block rings) P reads source sink h = h.1.told
 
-begun : (asked : Asked) (texts : Option Texts) (reads : Option Reads) (source sink : Change) (s : Status) → Works asked texts reads source sink s → CommandAnswers asked texts reads source sink s
+begun : (asked : Asked) (texts : Option Texts) (reads : Option Reads) (source sink : StreamChange) (s : Status) → Works asked texts reads source sink s → CommandAnswers asked texts reads source sink s
 begun asked texts reads source sink Done w = w
 begun asked texts reads source sink (Rejected x) w = w
 begun asked texts reads source sink (TooLong x) w = w
@@ -290,7 +290,7 @@ begun asked texts reads source sink Usage w = not_usage asked w.program reads so
 begun asked texts reads source sink (Refused x) w = absurd (not_refused asked w.program reads source sink x w.performs)
 begun asked texts reads source sink ShelfFault w = absurd (not_shelf asked w.program reads source sink w.performs)
 
-pub served : (mode : Mode) (name : List ℕ) (reach : Reach) (texts : Option Texts) (reads : Option Reads) (plans : Plans) (source sink : Change) (s : Status) → HasPlans (limits_of mode) (told_of texts name) plans → Ran (MachinesSay mode reach.max_input plans.stages) (last_given reach.block reads) source sink s → CommandAnswers (ToStream mode name reach) texts reads source sink s
+pub served : (mode : Mode) (name : List ℕ) (reach : Reach) (texts : Option Texts) (reads : Option Reads) (plans : Plans) (source sink : StreamChange) (s : Status) → HasPlans (limits_of mode) (told_of texts name) plans → Ran (MachinesSay mode reach.max_input plans.stages) (last_given reach.block reads) source sink s → CommandAnswers (ToStream mode name reach) texts reads source sink s
 served mode name reach texts reads plans source sink s h r =
     let p = h.compiled in
     let limit = reach.max_input in
@@ -321,7 +321,7 @@ counted limits text plans p Q asked q =
       told = subst (λ k. Q (counts_line (record { stages = k; places = plans.places; states = plans.states }))) same q;
     }
 
-pub checked : (name : List ℕ) (states : ℕ) (texts : Option Texts) (reads : Option Reads) (plans : Plans) (source sink : Change) (s : Status) → HasPlans (limits_to_check states) (told_of texts name) plans → IsLeft source → TellsLine (counts_line (record { stages = length plans.stages; places = plans.places; states = plans.states })) sink s → CommandAnswers (ToCheck name states) texts reads source sink s
+pub checked : (name : List ℕ) (states : ℕ) (texts : Option Texts) (reads : Option Reads) (plans : Plans) (source sink : StreamChange) (s : Status) → HasPlans (limits_to_check states) (told_of texts name) plans → IsAsBefore source → TellsLine (counts_line (record { stages = length plans.stages; places = plans.places; states = plans.states })) sink s → CommandAnswers (ToCheck name states) texts reads source sink s
 checked name states texts reads plans source sink s h l q =
     begun (ToCheck name states) texts reads source sink s (
     record {
@@ -333,7 +333,7 @@ checked name states texts reads plans source sink s h l q =
     }
     )
 
-pub tried : (lines block : ℕ) (rings : Option ℕ) (texts : Option Texts) (reads : Option Reads) (plans : Plans) (summary : Summary) (source sink : Change) (s : Status) → IsCompiled (limits_to_check usual_states) trial_text plans → IsSummary (NodesSay (stage_plans most_input plans.stages)) lines summary → IsLeft source → TellsLine (trial_line summary) sink s → CommandAnswers (ToTry lines block rings) texts reads source sink s
+pub tried : (lines block : ℕ) (rings : Option ℕ) (texts : Option Texts) (reads : Option Reads) (plans : Plans) (summary : Summary) (source sink : StreamChange) (s : Status) → IsCompiled (limits_to_check usual_states) trial_text plans → IsSummary (NodesSay (stage_plans most_input plans.stages)) lines summary → IsAsBefore source → TellsLine (trial_line summary) sink s → CommandAnswers (ToTry lines block rings) texts reads source sink s
 tried lines block rings texts reads plans summary source sink s p sums l q =
     begun (ToTry lines block rings) texts reads source sink s (
     record {

@@ -16,7 +16,7 @@ use Rattle.kex_model.proofs.AgreedFronts.{agreed_grows, agreed_greedy}
 use Rattle.kex_model.specs.Laws.{StageAnswers}
 use Rattle.kex_model.specs.Answers.{Answer, Stop, later_report, Pipeline, Viable, Says, HasParse, Means, bad_byte, too_long, cut_off, whole, still_open, code_at, empty}
 use Rattle.kex_model.specs.Answers as model
-use Rattle.kex_model.specs.Trees.{kind_at, meaning, part}
+use Rattle.kex_model.specs.Trees.{kind_at, meaning, part_meaning}
 use Rattle.kex_model.proofs.Correspondence.{one_to_one}
 use Rattle.kex_model.proofs.Orders.{at_most_both}
 use Rattle.kex_model.proofs.SaidTexts.{grows, means_good}
@@ -31,7 +31,7 @@ use Rattle.kex_compile.specs.declared.refusal.CompileRefusal.TheVariants as comp
 use Rattle.kex_compile.specs.declared.limits.Limits.{Limits}
 use Rattle.kex_code.specs.Texts.{text_of}
 use Rattle.kex_code.specs.declared.symbol.Symbol.{Symbol}
-use Rattle.kex_model.specs.Acting.{State, after_steps}
+use Rattle.kex_model.specs.Acting.{ActingState, after_steps}
 use Rattle.kex_model.proofs.Effects.{done_all}
 use Rattle.kex_model.proofs.Parts.{same_part}
 use Rattle.kex_machine.proofs.Outputs.{acted_grows}
@@ -41,16 +41,16 @@ use Rattle.kex_single.specs.TestLaws.{both_nothing}
 use Rattle.kex_words.specs.Words.{Asked, Mode, Reach}
 use Rattle.kex_words.specs.Words.Asked.{ToCheck, ToStream, ToTry}
 use Rattle.kex_words.specs.Words.Mode.{running, coding, acting, testing}
-use Rattle.kex_words.specs.Gains.{Change}
+use Rattle.kex_words.specs.Gains.{StreamChange}
 use Rattle.kex_words.specs.declared.refusals.Refusal.{Refusal}
 use Rattle.kex_top.specs.Answer.{Said}
-use Rattle.kex_top.specs.Modes.{BeginsParse, HasParseAlone, IsParse, WritesPart, MeansCode, SaysBy, SaysCode, SaysNothing, StageGives, limits_of}
+use Rattle.kex_top.specs.Modes.{BeginsParse, HasParseAlone, IsParseCode, WritesPart, MeansCode, SaysBy, SaysCode, SaysNothing, StageGives, limits_of}
 use Rattle.kex_top.specs.Pipelines.{MeansInTurn}
 use Rattle.kex_top.specs.Run.{Ran, WritesAll}
 use Rattle.kex_top.specs.Commands.{Parses, calls_of, limits_for, told_text}
 use Rattle.kex_top.specs.Refusals.{IsRefusalOf, IsRefusedFor}
 use Rattle.kex_top.specs.Shelves.{Broke, ShelfChange, ShelfServes}
-use Rattle.kex_top.specs.Kex.{CallAnswers, CommandAnswers, Headline, IsComplete, IsQuiet, IsSound, Works}
+use Rattle.kex_top.specs.Kex.{CallAnswers, CommandAnswers, Headline, IsComplete, HasNotRisen, BreaksNoRule, Works}
 use Rattle.kex_pipe.specs.declared.report.Rejected.{Rejected as Report}
 use Rattle.kex_top.specs.declared.status.Status.{Status}
 use Rattle.kex_top.specs.declared.status.Status.TheVariants.{Done, Rejected, Usage, Refused, ReadFault, WriteFault, ShelfFault, Memory, TooLong}
@@ -106,9 +106,9 @@ module _ (P : Grammar) (root : ℕ) where
   more_part : (c d : List Symbol) (s t : List ℕ) → Begins d c → WritesPart P root c s → WritesPart P root d t → Begins t s
   more_part c d s t (m, e) (x, is, b, f) (y, it, q, g) =
       let begins : Begins (code_at P root y) c = (m ++ q.0, q.1 ∙ ap (λ z. z ++ q.0) e ∙ append_assoc c m q.0) in
-      let same : part P (kind_at P root) x c (empty P) ≡ part P (kind_at P root) y c (empty P) =
+      let same : part_meaning P (kind_at P root) x c (empty P) ≡ part_meaning P (kind_at P root) y c (empty P) =
       same_part P c [] [] b.0 begins.0 (empty P) is it (append-nil' (code_at P root x) ∙ b.1) (append-nil' (code_at P root y) ∙ begins.1) in
-      let st : State = record { out = []; buffers = []; registers = empty P } in
+      let st : ActingState = record { out = []; buffers = []; registers = empty P } in
       let steps = steps_of P root (kind_at P root) y [] in
       let grown : Begins (after_steps steps (c ++ m) st).out (after_steps steps c st).out = acted_grows steps c m st in
       let whole : t ≡ (after_steps steps (c ++ m) st).out = g ∙ sym (done_all P root y d (empty P) [] it).written ∙ ap (λ z. (after_steps steps z st).out) e in
@@ -119,13 +119,13 @@ module _ (P : Grammar) (limit : ℕ) where
   one : (mode : Mode) (x : ℕ) (w : List ℕ) (e : Bool) (a b : Answer) → StageGives mode P limit x w e a → StageGives mode P limit x w e b → a ≡ b
   one (running n) x w e a b h k = one_answer (Viable P x) (Says P x) (HasParse P x) (Means P x) (orderly P x) limit (λ u s m. (m.0, m.1.parses)) (one_meaning P x) h k
   one coding x w e a b h k = one_answer (Viable P x) (SaysCode P x) (HasParse P x) (MeansCode P x) (orderly_code P x) limit (λ u s m. m.1.parse) (one_code P x) h k
-  one acting x w e a b h k = plays.one_answer (BeginsParse P x) (IsParse P x) (WritesPart P x) (begins_front P x) (more_part P x) limit h k
+  one acting x w e a b h k = plays.one_answer (BeginsParse P x) (IsParseCode P x) (WritesPart P x) (begins_front P x) (more_part P x) limit h k
   one testing x w e a b h k = one_answer (Viable P x) (SaysNothing P x) (HasParse P x) (HasParseAlone P x) (orderly_test P x) limit (λ u s m. m.1) (λ u s t m m'. m.2 ∙ sym m'.2) h k
 
   stands : (mode : Mode) (x : ℕ) (w v : List ℕ) (e : Bool) (a b : Answer) → StageGives mode P limit x w false a → StageGives mode P limit x (w ++ v) e b → Begins b.text a.text × ((a.stop ≡ None → ⊥) → b ≡ a)
   stands (running n) x w v e a b h k = stays (Viable P x) (Says P x) (HasParse P x) (Means P x) (orderly P x) limit (v, refl) h k
   stands coding x w v e a b h k = stays (Viable P x) (SaysCode P x) (HasParse P x) (MeansCode P x) (orderly_code P x) limit (v, refl) h k
-  stands acting x w v e a b h k = plays.stays (BeginsParse P x) (IsParse P x) (WritesPart P x) (begins_front P x) (more_part P x) limit (v, refl) h k
+  stands acting x w v e a b h k = plays.stays (BeginsParse P x) (IsParseCode P x) (WritesPart P x) (begins_front P x) (more_part P x) limit (v, refl) h k
   stands testing x w v e a b h k = stays (Viable P x) (SaysNothing P x) (HasParse P x) (HasParseAlone P x) (orderly_test P x) limit (v, refl) h k
 
   -- open input isn't handed on ended
@@ -137,7 +137,7 @@ module _ (P : Grammar) (limit : ℕ) where
   stays_open : (mode : Mode) (x : ℕ) (w : List ℕ) (a : Answer) → StageGives mode P limit x w false a → a.ended ≡ false
   stays_open (running n) x w a h = answer_open h
   stays_open coding x w a h = answer_open h
-  stays_open acting x w a h = plays.ends (BeginsParse P x) (IsParse P x) (WritesPart P x) (begins_front P x) (more_part P x) limit h
+  stays_open acting x w a h = plays.ends (BeginsParse P x) (IsParseCode P x) (WritesPart P x) (begins_front P x) (more_part P x) limit h
   stays_open testing x w a h = answer_open h
 
   module _ (mode : Mode) where
@@ -172,7 +172,7 @@ told-same untold text other is t = cc
 told-same absent text other is t = cc
 told-same (present x) text other is t = cc
 
-unbroken : (told : ShelfText) (text : List ℕ) (s : ShelfChange) → told ≡ present text → IsQuiet s.breaks_before s.breaks_now → Broke told s → ⊥
+unbroken : (told : ShelfText) (text : List ℕ) (s : ShelfChange) → told ≡ present text → HasNotRisen s.breaks_before s.breaks_now → Broke told s → ⊥
 unbroken told text s is quiet broke =
     let P : ShelfText → Type 0 = λ t. Broke t s in
     let b = subst P is broke in
@@ -190,40 +190,40 @@ unrefused limits told text r is short good (inr b) =
     shown_memory b.text r b.rule (good b.rule (subst (λ t. IsRefused limits t b.rule) same b.is_refused)) b.is_shown
 
 -- a run on an input that is good has no report
-ran-good : (mode : Mode) (limit last : ℕ) (text other : List ℕ) (P : Grammar) (source sink : Change) (s : Status) (r : Report) → other ≡ text → Spells other P → Parses mode limit text source → (ran : Ran (SaysBy mode P limit) last source sink s) → WritesAll (SaysBy mode P limit) ran.w ran.e (Some r) sink → ⊥
+ran-good : (mode : Mode) (limit last : ℕ) (text other : List ℕ) (P : Grammar) (source sink : StreamChange) (s : Status) (r : Report) → other ≡ text → Spells other P → Parses mode limit text source → (ran : Ran (SaysBy mode P limit) last source sink s) → WritesAll (SaysBy mode P limit) ran.w ran.e (Some r) sink → ⊥
 ran-good mode limit last text other P source sink s r same spells g ran all =
     let goes = g.parses P (subst (λ t. Spells t P) same spells) in
     unrejected_by P mode limit source.old source.new ran.w g.input ran.e all.said goes.0 r g.rest ran.read ran.ended all.is_said all.reports goes.1 goes.2
 
-module _ (texts : Option Texts) (shelf : ShelfChange) (reads : Option Reads) (source sink : Change) where
+module _ (texts : Option Texts) (shelf : ShelfChange) (reads : Option Reads) (source sink : StreamChange) where
   -- what is sound doesn't fail at the shelf
-  unfailed : (asked : Asked) → IsSound asked texts shelf source sink → IsSome (calls_of (Some asked)).takes → ShelfServes (calls_of (Some asked)).takes texts shelf ShelfFault → ⊥
+  unfailed : (asked : Asked) → BreaksNoRule asked texts shelf source sink → IsSome (calls_of (Some asked)).takes → ShelfServes (calls_of (Some asked)).takes texts shelf ShelfFault → ⊥
   unfailed (ToStream mode name reach) g takes h = unbroken (told_of texts name) g.text shelf g.is_told (g.on_shelf takes) h.2
   unfailed (ToCheck name states) g takes h = unbroken (told_of texts name) g.text shelf g.is_told (g.on_shelf takes) h.2
   unfailed (ToTry lines block rings) g takes h = false≢true takes
 
   -- isn't rejected
-  unrejected_as : (asked : Asked) (r : Report) → IsSound asked texts shelf source sink → Works asked texts reads source sink (Rejected r) → ⊥
+  unrejected_as : (asked : Asked) (r : Report) → BreaksNoRule asked texts shelf source sink → Works asked texts reads source sink (Rejected r) → ⊥
   unrejected_as (ToStream mode name reach) r g w =
       ran-good mode reach.max_input (last_given reach.block reads) g.text w.text w.program source sink (Rejected r) r (told-same (told_of texts name) g.text w.text g.is_told w.is_told) w.accepts.spells g.input_is_good w.performs w.performs.ends.1
   unrejected_as (ToCheck name states) r g w = w.performs.1.told
   unrejected_as (ToTry lines block rings) r g w = w.performs.1.told
 
   -- isn't too long
-  unlimited : (asked : Asked) (r : Report) → IsSound asked texts shelf source sink → Works asked texts reads source sink (TooLong r) → ⊥
+  unlimited : (asked : Asked) (r : Report) → BreaksNoRule asked texts shelf source sink → Works asked texts reads source sink (TooLong r) → ⊥
   unlimited (ToStream mode name reach) r g w =
       ran-good mode reach.max_input (last_given reach.block reads) g.text w.text w.program source sink (TooLong r) r (told-same (told_of texts name) g.text w.text g.is_told w.is_told) w.accepts.spells g.input_is_good w.performs w.performs.ends.1
   unlimited (ToCheck name states) r g w = w.performs.1.told
   unlimited (ToTry lines block rings) r g w = w.performs.1.told
 
   -- and fails at neither source nor sink
-  unstopped : (asked : Asked) → IsSound asked texts shelf source sink → Works asked texts reads source sink ReadFault → ⊥
+  unstopped : (asked : Asked) → BreaksNoRule asked texts shelf source sink → Works asked texts reads source sink ReadFault → ⊥
   unstopped (ToStream mode name reach) g w =
       let rose = w.performs.ends.2.1 in let quiet = g.readable refl in omega arith
   unstopped (ToCheck name states) g w = w.performs.1.told
   unstopped (ToTry lines block rings) g w = w.performs.1.told
 
-  unspoilt : (asked : Asked) → IsSound asked texts shelf source sink → Works asked texts reads source sink WriteFault → ⊥
+  unspoilt : (asked : Asked) → BreaksNoRule asked texts shelf source sink → Works asked texts reads source sink WriteFault → ⊥
   unspoilt (ToStream mode name reach) g w =
       let rose = w.performs.ends.2.1 in let quiet = g.writable in omega arith
   unspoilt (ToCheck name states) g w =
@@ -231,7 +231,7 @@ module _ (texts : Option Texts) (shelf : ShelfChange) (reads : Option Reads) (so
   unspoilt (ToTry lines block rings) g w =
       let rose = w.performs.1.told.1.1 in let quiet = g.writable in omega arith
 
-  sound : (asked : Asked) (s : Status) → IsSound asked texts shelf source sink → ShelfServes (calls_of (Some asked)).takes texts shelf s → CommandAnswers asked texts reads source sink s → (s ≡ Done) ⊎ (s ≡ Memory)
+  sound : (asked : Asked) (s : Status) → BreaksNoRule asked texts shelf source sink → ShelfServes (calls_of (Some asked)).takes texts shelf s → CommandAnswers asked texts reads source sink s → (s ≡ Done) ⊎ (s ≡ Memory)
   sound asked Done g h a = inl refl
   sound asked Memory g h a = inr refl
   sound asked Usage g h a = absurd a
@@ -285,7 +285,7 @@ all-meant P limit i (root ∷ rs) w text r (a, rest, gives, others, is) none =
     let m = whole_of P root limit gives n.0 in
     (m.0, a.text, m.1, all-meant P limit (suc i) rs a.text text rest (subst (λ z. Pipeline (λ root v d b. StageAnswers P root limit v d b) (suc i) rs a.text z text rest) m.2 others) n.1)
 
-pub done-as-told : (states : ℕ) (name : List ℕ) (reach : Reach) (a : Option Asked) (texts : Option Texts) (reads : Option Reads) (source sink : Change) (s : Status) (text input before : List ℕ) → a ≡ Some (ToStream (running states) name reach) → told_of texts name ≡ present text → source.old ≡ Some input → sink.old ≡ Some before → s ≡ Done → CallAnswers a texts reads source sink s → Headline states text reach.max_input input before source.new sink.new
+pub done-as-told : (states : ℕ) (name : List ℕ) (reach : Reach) (a : Option Asked) (texts : Option Texts) (reads : Option Reads) (source sink : StreamChange) (s : Status) (text input before : List ℕ) → a ≡ Some (ToStream (running states) name reach) → told_of texts name ≡ present text → source.old ≡ Some input → sink.old ≡ Some before → s ≡ Done → CallAnswers a texts reads source sink s → Headline states text reach.max_input input before source.new sink.new
 done-as-told states name reach a texts reads source sink s text input before command is rest held done answers =
     by (subst (λ x. CallAnswers (Some (ToStream (running states) name reach)) texts reads source sink x) done (subst (λ x. CallAnswers x texts reads source sink s) command answers))
   where

@@ -5,7 +5,7 @@ use Rattle.kex_model.specs.Schedules.{Event, give}
 use Rattle.kex_pipe.specs.Events.{bytes_given}
 use Rattle.kex_pipe.specs.declared.turn.Turn.{Ghosts}
 use Rattle.kex_rings.specs.Lines.{turns_from}
-use Rattle.kex_rings.specs.Standing.{Stands, WorksOff}
+use Rattle.kex_rings.specs.Standing.{RingsStand, WorksOff}
 use Rattle.kex_rings.specs.declared.pipe.RingPipe.{RingPipe}
 use Rattle.kex_rings.proofs.StageTurns.{same-bytes, same-end}
 use Rattle.kex_top.specs.Piped.{IsGiven, IsWorkedOff}
@@ -14,9 +14,9 @@ use Rattle.kex_top.proofs.PipeAnswers.{bytes-more, end-open}
 module _ {T : Type 0} (t : Ghosts T) (ps : List t.Plan) (h : List Event) (taken : List ℕ) where
   -- the pipe stands for a schedule that gave these bytes more
   abbrev pub Given : RingPipe T t → List ℕ → Type 0
-  Given pipe more = IsGiven (λ k. Stands t ps pipe k taken) more h
+  Given pipe more = IsGiven (λ k. RingsStand t ps pipe k taken) more h
 
-  pub given-all : (pipe : RingPipe T t) (bytes : List ℕ) → Stands t ps pipe (h ++ give bytes ∷ []) taken → Given pipe (take (length bytes) bytes)
+  pub given-all : (pipe : RingPipe T t) (bytes : List ℕ) → RingsStand t ps pipe (h ++ give bytes ∷ []) taken → Given pipe (take (length bytes) bytes)
   given-all pipe bytes s = record {
     events = h ++ give bytes ∷ [];
     bytes = bytes-more h bytes ∙ ap (λ z. bytes_given h ++ z) (sym (take_all (length bytes) bytes (omega arith)));
@@ -24,11 +24,11 @@ module _ {T : Type 0} (t : Ghosts T) (ps : List t.Plan) (h : List Event) (taken 
     stands_for = s;
   }
 
-  pub none-given : (pipe : RingPipe T t) → Stands t ps pipe h taken → Given pipe []
+  pub none-given : (pipe : RingPipe T t) → RingsStand t ps pipe h taken → Given pipe []
   none-given pipe s = record { events = h; bytes = sym (append-nil (bytes_given h)); same_end = refl; stands_for = s }
 
   module _ (old pipe : RingPipe T t) (g : Given old []) where
-    pub round-made : (counts : List ℕ) → ((k : List Event) → Stands t ps old k taken → Stands t ps pipe (k ++ turns_from 0 counts) taken) → Given pipe []
+    pub round-made : (counts : List ℕ) → ((k : List Event) → RingsStand t ps old k taken → RingsStand t ps pipe (k ++ turns_from 0 counts) taken) → Given pipe []
     round-made counts next = record {
       events = g.events ++ turns_from 0 counts;
       bytes = same-bytes g.events 0 counts ∙ g.bytes;
@@ -36,7 +36,7 @@ module _ {T : Type 0} (t : Ghosts T) (ps : List t.Plan) (h : List Event) (taken 
       stands_for = next g.events g.stands_for;
     }
 
-    pub rest-settled : ((k : List Event) → Stands t ps old k taken → WorksOff t ps pipe k taken) → IsWorkedOff t.gives ps (λ k. Stands t ps pipe k taken) h
+    pub rest-settled : ((k : List Event) → RingsStand t ps old k taken → WorksOff t ps pipe k taken) → IsWorkedOff t.gives ps (λ k. RingsStand t ps pipe k taken) h
     rest-settled settles =
         let w = settles g.events g.stands_for in
         record {

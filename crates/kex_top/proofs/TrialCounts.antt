@@ -4,9 +4,9 @@ use Rattle.std.specs.Prelude.{Some}
 use Rattle.std.proofs.lemmas.List.{append_assoc, length-append}
 use Rattle.kex_pipe.specs.declared.turn.Fate.{Fate}
 use Rattle.kex_top.specs.Answer.{Said}
-use Rattle.kex_top.specs.History.{Feeds, History, bytes_passed, text_of}
-use Rattle.kex_top.specs.Tallies.{Counts, HasWaiting, IsFed, IsTally}
-use Rattle.kex_top.specs.Trials.{saturated_count, line_of, lines_from, next, rolling_sum}
+use Rattle.kex_top.specs.History.{FeedsStages, History, bytes_passed, history_text}
+use Rattle.kex_top.specs.Tallies.{Counts, HasWaiting, AreStagesFed, IsTally}
+use Rattle.kex_top.specs.Trials.{saturated_count, drawn_line, lines_from, next_random, rolling_sum}
 use Rattle.kex_top.specs.declared.tally.Tally.{Tally}
 
 pub rolled-append : (h : ℕ) (a b : List ℕ) → rolling_sum h (a ++ b) ≡ rolling_sum (rolling_sum h a) b
@@ -25,17 +25,17 @@ module _ (old new : Tally) (piece out : List ℕ) (made : new.made ≡ saturated
   }
 
   -- what is given out is counted
-  pub counts : (says : List ℕ → Bool → Said → Type 0) (stands : History → Type 0) (h : History) (w : List ℕ) (e : Bool) (fate : Fate) → w ≡ bytes_passed h ++ piece → Feeds says stands h w e out fate → Counts says stands h w e old new
+  pub counts : (says : List ℕ → Bool → Said → Type 0) (stands : History → Type 0) (h : History) (w : List ℕ) (e : Bool) (fate : Fate) → w ≡ bytes_passed h ++ piece → FeedsStages says stands h w e out fate → Counts says stands h w e old new
   counts says stands h w e fate is f = record {
     said = f.said;
     is_said = f.is_said;
     stands_for = f.stands_for;
-    tallied = λ t. subst (λ z. IsTally new z f.said.text) (sym is) (subst (λ z. IsTally new (bytes_passed h ++ piece) z) (sym f.whole) (tallied (bytes_passed h) (text_of h) t));
+    tallied = λ t. subst (λ z. IsTally new z f.said.text) (sym is) (subst (λ z. IsTally new (bytes_passed h ++ piece) z) (sym f.whole) (tallied (bytes_passed h) (history_text h) t));
   }
 
 module _ (says : List ℕ → Bool → Said → Type 0) (stands now : History → Type 0) where
   -- more is fed of what waits
-  pub fed-more : (all bytes waiting rest piece : List ℕ) (old new : Tally) (f : IsFed says stands bytes old) → all ≡ bytes ++ waiting → waiting ≡ piece ++ rest → Counts says now (Some (record { bytes = bytes; ended = false; said = f.said })) (bytes ++ piece) false old new → HasWaiting says now all rest new
+  pub fed-more : (all bytes waiting rest piece : List ℕ) (old new : Tally) (f : AreStagesFed says stands bytes old) → all ≡ bytes ++ waiting → waiting ≡ piece ++ rest → Counts says now (Some (record { bytes = bytes; ended = false; said = f.said })) (bytes ++ piece) false old new → HasWaiting says now all rest new
   fed-more all bytes waiting rest piece old new f is parts c = (
     bytes ++ piece,
     record { said = c.said; is_said = c.is_said; stands_for = c.stands_for; tallied = c.tallied f.tallied },
@@ -46,5 +46,5 @@ module _ (says : List ℕ → Bool → Said → Type 0) (stands now : History �
 pub waits-more : (says : List ℕ → Bool → Said → Type 0) (stands : History → Type 0) (all waiting line now : List ℕ) (t : Tally) → now ≡ waiting ++ line → HasWaiting says stands all waiting t → HasWaiting says stands (all ++ line) now t
 waits-more says stands all waiting line now t is (bytes, fed, parts) = (bytes, fed, ap (λ z. z ++ line) parts ∙ append_assoc bytes waiting line ∙ ap (λ z. bytes ++ z) (sym is))
 
-pub lines-more : (x y k n : ℕ) → y ≡ next x → k ≡ suc n → lines_from x k ≡ line_of y ++ lines_from y n
-lines-more x y k n is more = ap (λ z. lines_from x z) more ∙ ap (λ z. line_of z ++ lines_from z n) (sym is)
+pub lines-more : (x y k n : ℕ) → y ≡ next_random x → k ≡ suc n → lines_from x k ≡ drawn_line y ++ lines_from y n
+lines-more x y k n is more = ap (λ z. lines_from x z) more ∙ ap (λ z. drawn_line z ++ lines_from z n) (sym is)

@@ -6,8 +6,8 @@ use Rattle.kex_ports.specs.Causes.{Rose}
 use Rattle.kex_ports.specs.Bytes.{IsPrefix}
 use Rattle.kex_ports.proofs.Known.{append-nil, appends-nothing, appends-then, appends-same, appends-kept, prefix-whole}
 use Rattle.kex_top.specs.Answer.{Said}
-use Rattle.kex_top.specs.History.{History, Fed, IsSaid, bytes_passed, text_of, Writes, WritesEarly, WritesFront, WritesUpTo}
-use Rattle.kex_words.specs.Gains.{Change, change}
+use Rattle.kex_top.specs.History.{History, StagesFed, IsSaidSoFar, bytes_passed, history_text, WritesSaid, WritesEarly, WritesSaidFront, WritesUpTo}
+use Rattle.kex_words.specs.Gains.{StreamChange, change}
 use Rattle.kex_top.specs.Run.{is_whole, IsSaidBy, Pumped, Ran, EndsAs, WritesAll, WritesBegun, WritesEarlier, TroubleCause, status_of, status_for, status_after}
 use Rattle.kex_pipe.specs.declared.turn.Fate.{Fate}
 use Rattle.kex_pipe.specs.declared.turn.Why.{Why}
@@ -26,24 +26,24 @@ appends-kept-after a b c x p k =
     appends-same a c (x ++ []) x (sym (append-nil x)) (appends-then a b c x [] p (appends-kept b c k))
 
 -- A run that was worked off ends as its report says.
-why-ends : (says : List ℕ → Bool → Said → Type 0) (n : ℕ) (w : List ℕ) (e : Bool) (source sink : Change) (r : Report) (why : Why) → r.why ≡ why
+why-ends : (says : List ℕ → Bool → Said → Type 0) (n : ℕ) (w : List ℕ) (e : Bool) (source sink : StreamChange) (r : Report) (why : Why) → r.why ≡ why
     → WritesAll says w e (Some r) sink → source.now ≡ source.before → sink.now ≡ sink.before
     → EndsAs says n w e source sink (status_for why r)
 why-ends says n w e source sink r Byte y all a b = (ap (λ (k : Why). status_for k r) y, all, a, b)
 why-ends says n w e source sink r End y all a b = (ap (λ (k : Why). status_for k r) y, all, a, b)
 why-ends says n w e source sink r Limit y all a b = (ap (λ (k : Why). status_for k r) y, all, a, b)
 
-worked-ends : (says : List ℕ → Bool → Said → Type 0) (n : ℕ) (w : List ℕ) (e : Bool) (source sink : Change) (r : Option Report)
+worked-ends : (says : List ℕ → Bool → Said → Type 0) (n : ℕ) (w : List ℕ) (e : Bool) (source sink : StreamChange) (r : Option Report)
     → WritesAll says w e r sink → (r ≡ None → e ≡ true)
     → source.now ≡ source.before → sink.now ≡ sink.before → EndsAs says n w e source sink (status_of r)
 worked-ends says n w e source sink None all end a b = (end refl, all, a, b)
 worked-ends says n w e source sink (Some r) all end a b = why-ends says n w e source sink r r.why refl all a b
 
-module _ {Plan : Type 0} (says : Plan → List ℕ → Bool → Said → Type 0) (p p' : Plan) (same : p' ≡ p) (h : History) (n : ℕ) (source sink : Change) (mid : Option (List ℕ)) (w : List ℕ) (e : Bool) (s : Status) where
+module _ {Plan : Type 0} (says : Plan → List ℕ → Bool → Said → Type 0) (p p' : Plan) (same : p' ≡ p) (h : History) (n : ℕ) (source sink : StreamChange) (mid : Option (List ℕ)) (w : List ℕ) (e : Bool) (s : Status) where
   pub worked : (stands : History → Type 0) (r : Option Report) (fate : Fate)
       → Consumes source.old source.new w → (e ≡ true → IsAtEnd source.new)
       → source.now ≡ source.before → sink.now ≡ sink.before
-      → Appends sink.old mid (text_of h) → (x : Writes (says p') stands h w e mid sink.new fate)
+      → Appends sink.old mid (history_text h) → (x : WritesSaid (says p') stands h w e mid sink.new fate)
       → s ≡ status_of r → r ≡ x.said.report → (r ≡ None → e ≡ true) → (earlier : Said) × says p w false earlier → Pumped (says p) n source sink s
   worked stands r fate read ended a b before x status report end opened =
       let all : WritesAll (says p) w e r sink = record {
@@ -63,32 +63,32 @@ module _ {Plan : Type 0} (says : Plan → List ℕ → Bool → Said → Type 0)
       )
 
 -- what was written of some of a text is that of a front of it
-module _ {Plan : Type 0} (says : Plan → List ℕ → Bool → Said → Type 0) (p p' : Plan) (same : p' ≡ p) (h : History) (w : List ℕ) (e : Bool) (sink : Change) (mid : Option (List ℕ)) where
+module _ {Plan : Type 0} (says : Plan → List ℕ → Bool → Said → Type 0) (p p' : Plan) (same : p' ≡ p) (h : History) (w : List ℕ) (e : Bool) (sink : StreamChange) (mid : Option (List ℕ)) where
   earlier-of : (grows : (q : Plan) (v x : List ℕ) (d : Bool) (a b : Said) → says q v false a → says q (v ++ x) d b → IsPrefix a.text b.text)
-      → Appends sink.old mid (text_of h) → WritesEarly (says p') h w mid sink.new → WritesEarlier (says p) w e sink
+      → Appends sink.old mid (history_text h) → WritesEarly (says p') h w mid sink.new → WritesEarlier (says p) w e sink
   earlier-of grows before x = record {
-    added = text_of x.now;
+    added = history_text x.now;
     appended = appends-same _ _ _ _ (sym x.whole) (appends-then _ _ _ _ _ before x.appended);
     from = from x.now x.cut x.is_said;
     front = front x.now x.cut x.is_said;
   }
     where
-      from : (k : History) → w ≡ bytes_passed k ++ x.rest → IsSaid (says p') k → (text_of k ≡ []) ⊎ IsSaidBy (says p) w (text_of k)
+      from : (k : History) → w ≡ bytes_passed k ++ x.rest → IsSaidSoFar (says p') k → (history_text k ≡ []) ⊎ IsSaidBy (says p) w (history_text k)
       from None cut said = inl refl
       from (Some f) cut said = inr (f.bytes, f.said, record { rest = x.rest; joined = cut }, subst (λ q. says q f.bytes false f.said) same said, refl)
 
-      front : (k : History) → w ≡ bytes_passed k ++ x.rest → IsSaid (says p') k → (b : Said) → says p w e b → IsPrefix (text_of k) b.text
+      front : (k : History) → w ≡ bytes_passed k ++ x.rest → IsSaidSoFar (says p') k → (b : Said) → says p w e b → IsPrefix (history_text k) b.text
       front None cut said b h = record { rest = b.text; joined = refl }
       front (Some f) cut said b h = grows p f.bytes x.rest e f.said b (subst (λ q. says q f.bytes false f.said) same said) (subst (λ z. says p z e b) cut h)
 
-module _ {Plan : Type 0} (says : Plan → List ℕ → Bool → Said → Type 0) (p p' : Plan) (same : p' ≡ p) (f : Fed) (n : ℕ) (source sink : Change) (mid : Option (List ℕ)) (w : List ℕ) (e : Bool) (s : Status) where
+module _ {Plan : Type 0} (says : Plan → List ℕ → Bool → Said → Type 0) (p p' : Plan) (same : p' ≡ p) (f : StagesFed) (n : ℕ) (source sink : StreamChange) (mid : Option (List ℕ)) (w : List ℕ) (e : Bool) (s : Status) where
   -- the piece before which the bytes f were said
   module _ (u : List ℕ) (cut : w ≡ f.bytes ++ u) (short : length u ≤ n) (is_said : says p f.bytes false f.said) (before : Appends sink.old mid f.said.text) where
     wanted : (grows : (q : Plan) (v x : List ℕ) (d : Bool) (a b : Said) → says q v false a → says q (v ++ x) d b → IsPrefix a.text b.text)
         → WritesEarly (says p') (Some f) w mid sink.new → WritesEarlier (says p) w e sink
     wanted grows early = earlier-of says p p' same (Some f) w e sink mid grows before early
 
-    failed : WritesFront (says p') (Some f) w e mid sink.new → WritesBegun (says p) n w e sink
+    failed : WritesSaidFront (says p') (Some f) w e mid sink.new → WritesBegun (says p) n w e sink
     failed x = record {
       said = x.said;
       is_said = subst (λ q. says q w e x.said) same x.is_said;
@@ -127,8 +127,8 @@ module _ {Plan : Type 0} (says : Plan → List ℕ → Bool → Said → Type 0)
         by_trouble trouble.Write y c = (failed y, omega (arith, a), c)
 
 -- The first piece, of nothing, is in trouble.
-module _ (says : List ℕ → Bool → Said → Type 0) (n : ℕ) (source sink : Change) (s : Status) where
-  begun-first : WritesFront says None [] false sink.old sink.new → WritesBegun says n [] false sink
+module _ (says : List ℕ → Bool → Said → Type 0) (n : ℕ) (source sink : StreamChange) (s : Status) where
+  begun-first : WritesSaidFront says None [] false sink.old sink.new → WritesBegun says n [] false sink
   begun-first x = record {
     said = x.said;
     is_said = x.is_said;
@@ -179,7 +179,7 @@ all-closed says w e r old mid new before count now all kept = record {
   appended = appends-kept-after _ _ _ _ all.appended kept;
 }
 
-pub closed : (says : List ℕ → Bool → Said → Type 0) (n : ℕ) (source : Change) (old mid new : Option (List ℕ)) (before count now : ℕ) (s : Status)
+pub closed : (says : List ℕ → Bool → Said → Type 0) (n : ℕ) (source : StreamChange) (old mid new : Option (List ℕ)) (before count now : ℕ) (s : Status)
     → is_whole s ≡ true → Ran says n source (change old mid before count) s → Keeps mid new → now ≡ count
     → Ran says n source (change old new before now) s
 closed says n source old mid new before count now s whole ran kept same = record { w = ran.w; e = ran.e; read = ran.read; ended = ran.ended; ends = by s whole ran.ends }
@@ -208,7 +208,7 @@ late says p grows n w e r old mid new before count now (earlier, h) all kept = r
 
 pub close-fails : {Plan : Type 0} (says : Plan → List ℕ → Bool → Said → Type 0) (p : Plan)
     → ((q : Plan) (v x : List ℕ) (d : Bool) (a b : Said) → says q v false a → says q (v ++ x) d b → IsPrefix a.text b.text)
-    → (n : ℕ) (source : Change) (old mid new : Option (List ℕ)) (before count now : ℕ) (s : Status)
+    → (n : ℕ) (source : StreamChange) (old mid new : Option (List ℕ)) (before count now : ℕ) (s : Status)
     → is_whole s ≡ true → Pumped (says p) n source (change old mid before count) s → Keeps mid new → count ≤ now → Rose count now
     → Ran (says p) n source (change old new before now) WriteFault
 close-fails says p grows n source old mid new before count now s whole (ran, opened) kept later rose = record { w = ran.w; e = ran.e; read = ran.read; ended = ran.ended; ends = by s whole (opened whole) ran.ends }

@@ -8,7 +8,7 @@ use Rattle.kex_reader.specs.Spelling.{Spells}
 use Rattle.kex_compile.specs.Stages.{HaveInAll, HaveStatesInAll, roots_of}
 use Rattle.kex_compile.specs.declared.limits.Limits.{Limits}
 use Rattle.kex_words.specs.Form.{most_input}
-use Rattle.kex_words.specs.Gains.{Change, GainsFront, GainsWhole}
+use Rattle.kex_words.specs.Gains.{StreamChange, GainsFront, GainsWhole}
 use Rattle.kex_words.specs.Lines.{counts_line, trial_line}
 use Rattle.kex_words.specs.Words.{Asked, Mode}
 use Rattle.kex_words.specs.Words.Asked.{ToCheck, ToStream, ToTry}
@@ -17,7 +17,7 @@ use Rattle.kex_words.specs.declared.counts.Summary.{Summary}
 use Rattle.kex_top.specs.Answer.{Said}
 use Rattle.kex_top.specs.Modes.{SaysBy, limits_of, limits_to_check}
 use Rattle.kex_top.specs.Pipelines.{Answered}
-use Rattle.kex_top.specs.Run.{IsLeft, Ran}
+use Rattle.kex_top.specs.Run.{IsAsBefore, Ran}
 use Rattle.kex_top.specs.Trials.{IsSummary, trial_text, usual_states}
 use Rattle.kex_top.specs.declared.status.Status.{Status}
 use Rattle.kex_top.specs.declared.status.Status.TheVariants.{Done, WriteFault}
@@ -55,7 +55,7 @@ limits_for (ToCheck name states) = limits_to_check states
 limits_for (ToTry lines block rings) = limits_to_check usual_states
 
 -- The line was written, or a front of it.
-abbrev pub TellsLine : List ℕ → Change → Status → Type 0
+abbrev pub TellsLine : List ℕ → StreamChange → Status → Type 0
 TellsLine line sink Done = GainsWhole sink line
 TellsLine line sink WriteFault = GainsFront sink line
 TellsLine line sink _ = ⊥
@@ -76,23 +76,23 @@ pub record Tried (P : Grammar) (lines : ℕ) (Told : List ℕ → Type 0) : Type
 
 -- What a command does with its program, for each answer that comes after it has begun. A command on
 -- an input says what its program says of the bytes read; a check and a trial read nothing.
-abbrev pub Performs : Asked → Grammar → Option Reads → Change → Change → Status → Type 0
+abbrev pub Performs : Asked → Grammar → Option Reads → StreamChange → StreamChange → Status → Type 0
 Performs (ToStream mode name reach) P reads source sink status =
     Ran (SaysBy mode P reach.max_input) (last_given reach.block reads) source sink status
 Performs (ToCheck name states) P reads source sink status =
-    IsLeft source × Counted P (λ line. TellsLine line sink status)
+    IsAsBefore source × Counted P (λ line. TellsLine line sink status)
 Performs (ToTry lines block rings) P reads source sink status =
-    IsLeft source × Tried P lines (λ line. TellsLine line sink status)
+    IsAsBefore source × Tried P lines (λ line. TellsLine line sink status)
 
 -- The source's bytes are known, and what a program of the text says of them, ended, has no report.
-pub record Parses (mode : Mode) (limit : ℕ) (text : List ℕ) (source : Change) : Type 0 where
+pub record Parses (mode : Mode) (limit : ℕ) (text : List ℕ) (source : StreamChange) : Type 0 where
   pub input : List ℕ
   pub rest : source.old ≡ Some input
   pub parses : (P : Grammar) → Spells text P
       → (said : Said) × SaysBy mode P limit input true said × (said.report ≡ None)
 
 -- The input is one with which the command ends well. A check and a trial have none.
-abbrev pub InputIsGood : Asked → List ℕ → Change → Type 0
+abbrev pub InputIsGood : Asked → List ℕ → StreamChange → Type 0
 InputIsGood (ToStream mode name reach) text source = Parses mode reach.max_input text source
 InputIsGood (ToCheck name states) text source = ⊤
 InputIsGood (ToTry lines block rings) text source = ⊤

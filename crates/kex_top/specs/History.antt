@@ -10,74 +10,74 @@ use Rattle.kex_top.specs.declared.pass.Trouble.{Trouble}
 use Rattle.kex_top.specs.declared.pass.Trouble.TheVariants as trouble
 
 -- The bytes that were fed, whether their end was, and what is said on them.
-pub record Fed : Type 0 where
+pub record StagesFed : Type 0 where
   pub bytes : List ℕ
   pub ended : Bool
   pub said : Said
 
 -- Nothing before the first call.
 abbrev pub History : Type 0
-History = Option Fed
+History = Option StagesFed
 
 abbrev pub bytes_passed : History → List ℕ
 bytes_passed None = []
 bytes_passed (Some f) = f.bytes
 
-abbrev pub text_of : History → List ℕ
-text_of None = []
-text_of (Some f) = f.said.text
+abbrev pub history_text : History → List ℕ
+history_text None = []
+history_text (Some f) = f.said.text
 
-abbrev pub is_ended : History → Bool
-is_ended None = false
-is_ended (Some f) = f.ended
+abbrev pub is_history_ended : History → Bool
+is_history_ended None = false
+is_history_ended (Some f) = f.ended
 
 -- Stages that have stopped have a report, and those that go on have none.
-abbrev pub IsFateOf : Option Rejected → Fate → Type 0
-IsFateOf report On = report ≡ None
-IsFateOf report Stopped = IsSome report
+abbrev pub IsFateOfStages : Option Rejected → Fate → Type 0
+IsFateOfStages report On = report ≡ None
+IsFateOfStages report Stopped = IsSome report
 
 module _ (says : List ℕ → Bool → Said → Type 0) where
   -- The call brings the stages to w, and gives out what is said there and wasn't yet.
-  pub record Feeds (stands : History → Type 0) (h : History) (w : List ℕ) (e : Bool) (out : List ℕ) (fate : Fate) : Type 0 where
+  pub record FeedsStages (stands : History → Type 0) (h : History) (w : List ℕ) (e : Bool) (out : List ℕ) (fate : Fate) : Type 0 where
     pub said : Said
     pub is_said : says w e said
     pub stands_for : stands (Some (record { bytes = w; ended = e; said = said }))
-    pub whole : said.text ≡ text_of h ++ out
-    pub is_fate : IsFateOf said.report fate
+    pub whole : said.text ≡ history_text h ++ out
+    pub is_fate : IsFateOfStages said.report fate
 
   -- The same, of what a sink holds.
-  pub record Writes (stands : History → Type 0) (h : History) (w : List ℕ) (e : Bool) (old new : Option (List ℕ)) (fate : Fate) : Type 0 where
+  pub record WritesSaid (stands : History → Type 0) (h : History) (w : List ℕ) (e : Bool) (old new : Option (List ℕ)) (fate : Fate) : Type 0 where
     pub said : Said
     pub is_said : says w e said
     pub stands_for : stands (Some (record { bytes = w; ended = e; said = said }))
     pub added : List ℕ
-    pub whole : said.text ≡ text_of h ++ added
+    pub whole : said.text ≡ history_text h ++ added
     pub appended : Appends old new added
-    pub is_fate : IsFateOf said.report fate
+    pub is_fate : IsFateOfStages said.report fate
 
   -- A front of it.
-  pub record WritesFront (h : History) (w : List ℕ) (e : Bool) (old new : Option (List ℕ)) : Type 0 where
+  pub record WritesSaidFront (h : History) (w : List ℕ) (e : Bool) (old new : Option (List ℕ)) : Type 0 where
     pub said : Said
     pub is_said : says w e said
     pub added : List ℕ
-    pub whole : said.text ≡ text_of h ++ added
+    pub whole : said.text ≡ history_text h ++ added
     pub appended : AppendsFront old new added
 
-  abbrev pub IsSaid : History → Type 0
-  IsSaid None = Unit {0}
-  IsSaid (Some f) = says f.bytes false f.said
+  abbrev pub IsSaidSoFar : History → Type 0
+  IsSaidSoFar None = Unit {0}
+  IsSaidSoFar (Some f) = says f.bytes false f.said
 
   -- What is said of a front of w, so far as it wasn't said yet.
   pub record WritesEarly (h : History) (w : List ℕ) (old new : Option (List ℕ)) : Type 0 where
     pub now : History
     pub rest : List ℕ
     pub cut : w ≡ bytes_passed now ++ rest
-    pub is_said : IsSaid now
+    pub is_said : IsSaidSoFar now
     pub added : List ℕ
-    pub whole : text_of now ≡ text_of h ++ added
+    pub whole : history_text now ≡ history_text h ++ added
     pub appended : Appends old new added
 
   -- What was written where memory is wanted, and where the sink fails.
   abbrev pub WritesUpTo : History → List ℕ → Bool → Option (List ℕ) → Option (List ℕ) → Trouble → Type 0
   WritesUpTo h w e old new trouble.Memory = WritesEarly h w old new
-  WritesUpTo h w e old new trouble.Write = WritesFront h w e old new
+  WritesUpTo h w e old new trouble.Write = WritesSaidFront h w e old new

@@ -9,7 +9,7 @@ use Rattle.kex_compile.specs.Compiled.{Accepts, IsRefused}
 use Rattle.kex_compile.specs.Stages.{roots_of}
 use Rattle.kex_compile.specs.declared.refusal.CompileRefusal.{CompileRefusal}
 use Rattle.kex_compile.specs.declared.refusal.CompileRefusal.TheVariants as compile
-use Rattle.kex_words.specs.Gains.{Change}
+use Rattle.kex_words.specs.Gains.{StreamChange}
 use Rattle.kex_words.specs.Words.{Asked}
 use Rattle.kex_words.specs.Words.Mode.{running}
 use Rattle.kex_top.specs.Commands.{InputIsGood, Performs, calls_of, limits_for, told_text}
@@ -22,7 +22,7 @@ use Rattle.kex_top.specs.declared.status.Status.{Status}
 use Rattle.kex_top.specs.declared.status.Status.TheVariants.{Usage, Refused, ShelfFault, Memory}
 
 -- A program that the told text spells, and that the command accepts, was worked with.
-pub record Works (asked : Asked) (texts : Option Texts) (reads : Option Reads) (source sink : Change) (status : Status) : Type 0 where
+pub record Works (asked : Asked) (texts : Option Texts) (reads : Option Reads) (source sink : StreamChange) (status : Status) : Type 0 where
   pub text : List ℕ
   pub is_told : IsTold (told_text texts asked) text
   pub program : Grammar
@@ -30,7 +30,7 @@ pub record Works (asked : Asked) (texts : Option Texts) (reads : Option Reads) (
   pub performs : Performs asked program reads source sink status
 
 -- What each answer to a command says. Where it doesn't begin, nothing is read or written.
-abbrev pub CommandAnswers : Asked → Option Texts → Option Reads → Change → Change → Status → Type 0
+abbrev pub CommandAnswers : Asked → Option Texts → Option Reads → StreamChange → StreamChange → Status → Type 0
 CommandAnswers asked texts reads source sink Usage = ⊥
 CommandAnswers asked texts reads source sink ShelfFault =
     IsSome (calls_of (Some asked)).takes × Left source sink
@@ -47,31 +47,31 @@ IsUnasked Memory = ⊤
 IsUnasked status = ⊥
 
 -- What each answer to words says.
-abbrev pub CallAnswers : Option Asked → Option Texts → Option Reads → Change → Change → Status → Type 0
+abbrev pub CallAnswers : Option Asked → Option Texts → Option Reads → StreamChange → StreamChange → Status → Type 0
 CallAnswers None texts reads source sink status = IsUnasked status
 CallAnswers (Some asked) texts reads source sink status =
     CommandAnswers asked texts reads source sink status
 
 -- A count that didn't rise.
-abbrev pub IsQuiet : ℕ → ℕ → Type 0
-IsQuiet before now = now < min (before + 1) (2 ^ 64 - 1)
+abbrev pub HasNotRisen : ℕ → ℕ → Type 0
+HasNotRisen before now = now < min (before + 1) (2 ^ 64 - 1)
 
 -- The program breaks no rule that the command asks, its input is good, and no count rose of what it
 -- calls.
-pub record IsSound (asked : Asked) (texts : Option Texts) (shelf : ShelfChange) (source sink : Change) : Type 0 where
+pub record BreaksNoRule (asked : Asked) (texts : Option Texts) (shelf : ShelfChange) (source sink : StreamChange) : Type 0 where
   pub text : List ℕ
   pub is_told : told_text texts asked ≡ present text
   pub short : length text ≤ most_text
   pub unbroken : (rule : CompileRefusal) → IsRefused (limits_for asked) text rule → rule ≡ compile.Memory
   pub input_is_good : InputIsGood asked text source
-  pub on_shelf : IsSome (calls_of (Some asked)).takes → IsQuiet shelf.breaks_before shelf.breaks_now
-  pub readable : IsSome (calls_of (Some asked)).block → IsQuiet source.before source.now
-  pub writable : IsQuiet sink.before sink.now
+  pub on_shelf : IsSome (calls_of (Some asked)).takes → HasNotRisen shelf.breaks_before shelf.breaks_now
+  pub readable : IsSome (calls_of (Some asked)).block → HasNotRisen source.before source.now
+  pub writable : HasNotRisen sink.before sink.now
 
 -- Nothing stands in the way of what the words ask for.
-abbrev pub IsComplete : Option Asked → Option Texts → ShelfChange → Change → Change → Type 0
+abbrev pub IsComplete : Option Asked → Option Texts → ShelfChange → StreamChange → StreamChange → Type 0
 IsComplete None texts shelf source sink = ⊥
-IsComplete (Some asked) texts shelf source sink = IsSound asked texts shelf source sink
+IsComplete (Some asked) texts shelf source sink = BreaksNoRule asked texts shelf source sink
 
 -- With all told: the source was read to its end, and the sink holds what it held and then exactly
 -- what a program that the text spells means on the input: the meaning of each stage's greedy parse

@@ -10,7 +10,7 @@ use Rattle.kex_model.specs.Answers.{Answer, Answers, HasParse, Viable, code_at, 
 use Rattle.kex_machine.specs.Nodes.{Graph}
 use Rattle.kex_machine.specs.Answers as machine
 use Rattle.kex_model.specs.Laws.{StageAnswers}
-use Rattle.kex_model.specs.Trees.{Tree, IsTree, kind_at, part}
+use Rattle.kex_model.specs.Trees.{Tree, IsTree, kind_at, part_meaning}
 use Rattle.kex_single.specs.Plays.{Plays}
 use Rattle.kex_single.specs.Plays as plays
 use Rattle.kex_single.specs.Singles as nodes
@@ -39,14 +39,14 @@ module _ (P : Grammar) (root : ℕ) where
   SaysCode w text = (c : List Symbol) × Agreed (moves P) (start_of P root) w c × (text ≡ text_of c)
 
   -- c is the code of the greedy parse of w: of the paths to the end the least
-  pub record IsGreedy (w : List ℕ) (c : List Symbol) : Type 0 where
+  pub record IsGreedyCode (w : List ℕ) (c : List Symbol) : Type 0 where
     pub parse : HasParse P root w
     pub greedy : Greedy (moves P) (start_of P root) w c
     pub least : (d : List Symbol) → Greedy (moves P) (start_of P root) w d → AtMost c d
 
   -- the text of the greedy code of w
   abbrev pub MeansCode : List ℕ → List ℕ → Type 0
-  MeansCode w text = (c : List Symbol) × IsGreedy w c × (text ≡ text_of c)
+  MeansCode w text = (c : List Symbol) × IsGreedyCode w c × (text ≡ text_of c)
 
   abbrev pub SaysNothing : List ℕ → List ℕ → Type 0
   SaysNothing w text = text ≡ []
@@ -67,16 +67,16 @@ module _ (P : Grammar) (root : ℕ) where
   BeginsParse c = (t : Tree) × IsTree P (kind_at P root) t × Begins (code_at P root t) c
 
   -- c is a parse's whole code
-  abbrev pub IsParse : List Symbol → Type 0
-  IsParse c = (t : Tree) × IsTree P (kind_at P root) t × (code_at P root t ≡ c)
+  abbrev pub IsParseCode : List Symbol → Type 0
+  IsParseCode c = (t : Tree) × IsTree P (kind_at P root) t × (code_at P root t ≡ c)
 
   -- the bytes of the part of a parse that its code's front c gives
   abbrev pub WritesPart : List Symbol → List ℕ → Type 0
-  WritesPart c text = (t : Tree) × IsTree P (kind_at P root) t × Begins (code_at P root t) c × (text ≡ (part P (kind_at P root) t c (empty P)).bytes)
+  WritesPart c text = (t : Tree) × IsTree P (kind_at P root) t × Begins (code_at P root t) c × (text ≡ (part_meaning P (kind_at P root) t c (empty P)).bytes)
 
   -- what w means as the text of a code, within a limit
   abbrev pub ActAnswers : ℕ → List ℕ → Bool → Answer → Type 0
-  ActAnswers limit w e a = Plays BeginsParse IsParse WritesPart limit w e a
+  ActAnswers limit w e a = Plays BeginsParse IsParseCode WritesPart limit w e a
 
 -- the answer of a stage that begins there
 abbrev pub StageGives : Mode → Grammar → ℕ → ℕ → List ℕ → Bool → Answer → Type 0
@@ -87,10 +87,10 @@ StageGives testing P limit root w e a = TestAnswers P root limit w e a
 
 -- over a machine
 abbrev pub MachineGives : Mode → ℕ → Graph → List ℕ → Bool → Answer → Type 0
-MachineGives (running states) limit m w e a = machine.StageAnswers m limit w e a
-MachineGives coding limit m w e a = nodes.CodeAnswers m limit w e a
-MachineGives acting limit m w e a = plays.ActAnswers m limit w e a
-MachineGives testing limit m w e a = nodes.TestAnswers m limit w e a
+MachineGives (running states) limit m w e a = machine.MachineAnswers m limit w e a
+MachineGives coding limit m w e a = nodes.MachineCodeAnswers m limit w e a
+MachineGives acting limit m w e a = plays.MachineActAnswers m limit w e a
+MachineGives testing limit m w e a = nodes.MachineTestAnswers m limit w e a
 
 -- what a program says of an input
 abbrev pub SaysBy : Mode → Grammar → ℕ → List ℕ → Bool → Said → Type 0

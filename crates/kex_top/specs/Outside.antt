@@ -32,5 +32,5 @@ ReadsBy None before now status = now ≡ before
 ReadsBy (Some block) before now status = ReadsBlocks block before now status
 
 -- The sink before it is finished.
-abbrev pub IsOpen : Option Ending → Option Ending → Status → Type 0
-IsOpen before now status = (finishes_of now ≡ finishes_of before) × (is_whole status ≡ true → counts_of now ≡ counts_of before)
+abbrev pub IsSinkOpen : Option Ending → Option Ending → Status → Type 0
+IsSinkOpen before now status = (finishes_of now ≡ finishes_of before) × (is_whole status ≡ true → counts_of now ≡ counts_of before)

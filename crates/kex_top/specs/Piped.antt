@@ -9,7 +9,7 @@ use Rattle.kex_rings.specs.Standing as by_rings
 use Rattle.kex_top.specs.declared.any_pipe.AnyPipe.{AnyPipe}
 use Rattle.kex_top.specs.declared.any_pipe.AnyPipe.TheVariants.{Rounds, Rings}
 use Rattle.kex_top.specs.Answer.{Said}
-use Rattle.kex_top.specs.History.{Fed, History}
+use Rattle.kex_top.specs.History.{StagesFed, History}
 use Rattle.kex_top.specs.Pipelines.{StagesSay, first_limit}
 
 -- what stands for schedules in this way stands for one that gave these bytes more
@@ -21,7 +21,7 @@ pub record IsGiven (stands : List Event → Type 0) (more : List ℕ) (given : L
 
 module _ {P : Type 0} (gives : P → List ℕ → Bool → Answer → Type 0) (plans : List P) where
   -- all that the schedule gave is worked off
-  pub record IsSettled (events : List Event) : Type 0 where
+  pub record IsPipeSettled (events : List Event) : Type 0 where
     pub came : List StreamItem
     pub seats : List Progress
     pub after : After gives plans events came seats
@@ -33,26 +33,26 @@ module _ {P : Type 0} (gives : P → List ℕ → Bool → Answer → Type 0) (p
     pub same_bytes : bytes_given events ≡ bytes_given given
     pub same_end : end_given events ≡ end_given given
     pub stands_for : stands events
-    pub settled : IsSettled events
+    pub settled : IsPipeSettled events
 
 module _ {T : Type 0} (t : Ghosts T) where
-  abbrev pub is_ended : AnyPipe T t → Bool
-  is_ended (Rounds pipe) = by_rounds.is_ended t pipe
-  is_ended (Rings pipe counts) = by_rings.is_ended t pipe
+  abbrev pub is_any_ended : AnyPipe T t → Bool
+  is_any_ended (Rounds pipe) = by_rounds.is_ended t pipe
+  is_any_ended (Rings pipe counts) = by_rings.rings_ended t pipe
 
-  abbrev pub is_in_round : AnyPipe T t → Bool
-  is_in_round (Rounds pipe) = by_rounds.is_in_round t pipe
-  is_in_round (Rings pipe counts) = false
+  abbrev pub is_any_in_round : AnyPipe T t → Bool
+  is_any_in_round (Rounds pipe) = by_rounds.is_in_round t pipe
+  is_any_in_round (Rings pipe counts) = false
 
   -- the output that is in hand
-  abbrev pub in_hand : AnyPipe T t → List ℕ
-  in_hand (Rounds pipe) = by_rounds.in_hand t pipe
-  in_hand (Rings pipe counts) = by_rings.in_hand t pipe
+  abbrev pub any_in_hand : AnyPipe T t → List ℕ
+  any_in_hand (Rounds pipe) = by_rounds.in_hand t pipe
+  any_in_hand (Rings pipe counts) = by_rings.rings_in_hand t pipe
 
   -- the pipe of stages with these plans has come by this schedule, and this was taken from its output
-  abbrev pub Stands : List t.Plan → AnyPipe T t → List Event → List ℕ → Type 0
-  Stands plans (Rounds pipe) events taken = by_rounds.Stands t plans pipe events taken
-  Stands plans (Rings pipe counts) events taken = by_rings.Stands t plans pipe events taken
+  abbrev pub AnyPipeStands : List t.Plan → AnyPipe T t → List Event → List ℕ → Type 0
+  AnyPipeStands plans (Rounds pipe) events taken = by_rounds.Stands t plans pipe events taken
+  AnyPipeStands plans (Rings pipe counts) events taken = by_rings.RingsStand t plans pipe events taken
 
   abbrev pub stages_of : AnyPipe T t → List T
   stages_of (Rounds pipe) = map (λ s. s.staged.stage) pipe.seats.items
@@ -71,13 +71,13 @@ module _ {T : Type 0} (t : Ghosts T) where
   limit_of limit pipe = first_limit limit (stages_of pipe)
 
   -- the pipe was given what was fed, and what it has said was taken
-  pub record HasSaid (plans : List t.Plan) (pipe : AnyPipe T t) (f : Fed) : Type 0 where
+  pub record HasSaid (plans : List t.Plan) (pipe : AnyPipe T t) (f : StagesFed) : Type 0 where
     pub given : List Event
     pub bytes : bytes_given given ≡ f.bytes
     pub end : end_given given ≡ f.ended
-    pub worked_off : IsWorkedOff t.gives plans (λ events. Stands plans pipe events f.said.text) given
+    pub worked_off : IsWorkedOff t.gives plans (λ events. AnyPipeStands plans pipe events f.said.text) given
     pub says : PipeSays plans f.bytes f.ended f.said
 
   abbrev pub PipeStands : AnyPipe T t → History → Type 0
-  PipeStands pipe None = (0 < length (plans_of pipe)) × Stands (plans_of pipe) pipe [] []
+  PipeStands pipe None = (0 < length (plans_of pipe)) × AnyPipeStands (plans_of pipe) pipe [] []
   PipeStands pipe (Some f) = HasSaid (plans_of pipe) pipe f

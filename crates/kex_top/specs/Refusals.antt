@@ -8,7 +8,7 @@ use Rattle.kex_compile.specs.declared.refusal.CompileRefusal.TheVariants as comp
 use Rattle.kex_ports.specs.Shelf.{ShelfText, IsTold, IsPast}
 use Rattle.kex_reader.specs.Lines.{behind_feed, feeds}
 use Rattle.kex_tokens.specs.Texts.{most_text}
-use Rattle.kex_words.specs.declared.refusals.Place.TheVariants.{At, Nowhere, Stage}
+use Rattle.kex_words.specs.declared.refusals.RefusalPlace.TheVariants.{At, Nowhere, Stage}
 use Rattle.kex_words.specs.declared.refusals.Refusal.{Refusal}
 use Rattle.kex_words.specs.declared.refusals.Rule.{Rule}
 use Rattle.kex_words.specs.declared.refusals.Rule.TheVariants as rules
@@ -61,7 +61,7 @@ IsStartOf text rule (start.Refused r) = IsRefusalOf text rule r
 IsStartOf text rule _ = ⊥
 
 -- A text that is told breaks this rule.
-pub record Breaks (limits : Limits) (told : ShelfText) (r : Refusal) : Type 0 where
+pub record IsBrokenRule (limits : Limits) (told : ShelfText) (r : Refusal) : Type 0 where
   pub text : List ℕ
   pub is_told : IsTold told text
   pub rule : CompileRefusal
@@ -70,7 +70,7 @@ pub record Breaks (limits : Limits) (told : ShelfText) (r : Refusal) : Type 0 wh
 
 -- What is told is past the limit, or breaks the rule.
 abbrev pub IsRefusedFor : Limits → ShelfText → Refusal → Type 0
-IsRefusedFor limits told r = (IsPast told most_text × (r ≡ broken rules.TextTooLong)) ⊎ Breaks limits told r
+IsRefusedFor limits told r = (IsPast told most_text × (r ≡ broken rules.TextTooLong)) ⊎ IsBrokenRule limits told r
 
 -- A text that is told has these plans.
 pub record HasPlans (limits : Limits) (told : ShelfText) (plans : Plans) : Type 0 where

@@ -4,7 +4,7 @@ use Rattle.kex_ports.specs.declared.shelf.ShelfAnswer.{ShelfAnswer}
 use Rattle.kex_ports.specs.declared.shelf.ShelfAnswer.TheVariants as shelf
 use Rattle.kex_words.specs.declared.asked.WordsRefusal.{WordsRefusal}
 use Rattle.kex_words.specs.declared.asked.WordsRefusal.TheVariants as words
-use Rattle.kex_words.specs.declared.refusals.Place.TheVariants.{Nowhere}
+use Rattle.kex_words.specs.declared.refusals.RefusalPlace.TheVariants.{Nowhere}
 use Rattle.kex_words.specs.declared.refusals.Rule.TheVariants.{TextTooLong}
 use Rattle.kex_top.specs.declared.start.StartError.{StartError}
 use Rattle.kex_top.specs.declared.start.StartError.TheVariants.{Usage, Shelf, Refused, Memory}

@@ -7,25 +7,25 @@ use Rattle.kex_words.specs.declared.notes.Note.TheVariants as note
 use Rattle.kex_top.specs.declared.status.Status.{Status}
 use Rattle.kex_top.specs.declared.status.Status.TheVariants.{Done, Rejected, Usage, Refused, ReadFault, WriteFault, ShelfFault, Memory, TooLong}
 
-abbrev pub number_of : Status → ℕ
-number_of Done = 0
-number_of (Rejected r) = 1
-number_of Usage = 2
-number_of (Refused r) = 3
-number_of ReadFault = 4
-number_of WriteFault = 5
-number_of ShelfFault = 6
-number_of Memory = 7
-number_of (TooLong r) = 8
+abbrev pub status_number : Status → ℕ
+status_number Done = 0
+status_number (Rejected r) = 1
+status_number Usage = 2
+status_number (Refused r) = 3
+status_number ReadFault = 4
+status_number WriteFault = 5
+status_number ShelfFault = 6
+status_number Memory = 7
+status_number (TooLong r) = 8
 
-abbrev pub is_end : Why → Bool
-is_end Byte = false
-is_end End = true
-is_end Limit = false
+abbrev pub is_at_end : Why → Bool
+is_at_end Byte = false
+is_at_end End = true
+is_at_end Limit = false
 
 abbrev pub note_of : Status → Note
 note_of Done = note.Nothing
-note_of (Rejected r) = note.Rejected r.stage r.at (is_end r.why)
+note_of (Rejected r) = note.Rejected r.stage r.at (is_at_end r.why)
 note_of Usage = note.Usage
 note_of (Refused r) = note.Refused r
 note_of ReadFault = note.ReadFault

@@ -1,7 +1,7 @@
 -- What a trial counts as it goes on.
 use Rattle.std.specs.Prelude.{◌≡◌, ◌++◌, ℕ, Bool, false, true, List, length, Some}
 use Rattle.kex_top.specs.Answer.{Said}
-use Rattle.kex_top.specs.History.{History, bytes_passed, text_of}
+use Rattle.kex_top.specs.History.{History, bytes_passed, history_text}
 use Rattle.kex_top.specs.Trials.{saturated_count, rolling_sum}
 use Rattle.kex_top.specs.declared.tally.Tally.{Tally}
 
@@ -17,11 +17,11 @@ module _ (says : List ℕ → Bool → Said → Type 0) where
     pub said : Said
     pub is_said : says w e said
     pub stands_for : stands (Some (record { bytes = w; ended = e; said = said }))
-    pub tallied : IsTally old (bytes_passed h) (text_of h) → IsTally new w said.text
+    pub tallied : IsTally old (bytes_passed h) (history_text h) → IsTally new w said.text
 
 -- stages that were fed these bytes, which are counted
 module _ (says : List ℕ → Bool → Said → Type 0) (stands : History → Type 0) where
-  pub record IsFed (bytes : List ℕ) (tally : Tally) : Type 0 where
+  pub record AreStagesFed (bytes : List ℕ) (tally : Tally) : Type 0 where
     pub said : Said
     pub is_said : says bytes false said
     pub stands_for : stands (Some (record { bytes = bytes; ended = false; said = said }))
@@ -29,7 +29,7 @@ module _ (says : List ℕ → Bool → Said → Type 0) (stands : History → Ty
 
   -- it was fed some of these bytes, and the rest waits
   abbrev pub HasWaiting : List ℕ → List ℕ → Tally → Type 0
-  HasWaiting all waiting tally = (bytes : List ℕ) × IsFed bytes tally × (all ≡ bytes ++ waiting)
+  HasWaiting all waiting tally = (bytes : List ℕ) × AreStagesFed bytes tally × (all ≡ bytes ++ waiting)
 
 -- what is said on the bytes, ended, is counted
 abbrev pub SumsUp : (List ℕ → Bool → Said → Type 0) → List ℕ → Tally → Type 0

@@ -4,21 +4,21 @@ use Rattle.kex_words.specs.declared.counts.Summary.{Summary}
 use Rattle.kex_top.specs.Answer.{Said}
 
 -- the state after this one
-abbrev pub next : ℕ → ℕ
-next x = (x * 1664525 + 1013904223) % 2 ^ 32
+abbrev pub next_random : ℕ → ℕ
+next_random x = (x * 1664525 + 1013904223) % 2 ^ 32
 
 -- a letter by some of the state's bits
 abbrev pub letter : ℕ → ℕ → ℕ
 letter x bits = 97 + (x / 2 ^ bits) % 26
 
 -- three letters, a blank, a number and a line feed
-abbrev pub line_of : ℕ → List ℕ
-line_of x = letter x 8 ∷ letter x 16 ∷ letter x 24 ∷ 32 ∷ decimal (x % 10000) ++ 10 ∷ []
+abbrev pub drawn_line : ℕ → List ℕ
+drawn_line x = letter x 8 ∷ letter x 16 ∷ letter x 24 ∷ 32 ∷ decimal (x % 10000) ++ 10 ∷ []
 
 -- so many lines, of the states after this one
 abbrev pub lines_from : ℕ → ℕ → List ℕ
 lines_from x zero = []
-lines_from x (suc n) = line_of (next x) ++ lines_from (next x) n
+lines_from x (suc n) = drawn_line (next_random x) ++ lines_from (next_random x) n
 
 abbrev pub made_lines : ℕ → List ℕ
 made_lines n = lines_from 0 n

@@ -5,7 +5,7 @@ ghost use Rattle.kex_model.specs.Schedules.{Event, give_end};
 ghost use Rattle.kex_pipe.specs.Events.{bytes_given, end_given};
 ghost use Rattle.kex_pipe.specs.Reports.{report_as};
 ghost use Rattle.kex_top.specs.Fronts.{IsFront};
-ghost use Rattle.kex_top.specs.Piped.{IsGiven, IsSettled, IsWorkedOff, Stands, in_hand, is_ended, is_in_round, plans_of};
+ghost use Rattle.kex_top.specs.Piped.{IsGiven, IsPipeSettled, IsWorkedOff, AnyPipeStands, any_in_hand, is_any_ended, is_any_in_round, plans_of};
 
 use crate::rounds::Pace;
 use crate::{rings, rounds};
@@ -36,7 +36,7 @@ impl<T: Turn + Drop> AnyPipe<T> {
     ) -> Result<AnyPipe<T>, Memory>
         requires some { 0 < vec_len stages }
         requires unfed { All (λ s. T.stands s None) stages.items }
-        ensures stands { IfOk result (λ pipe. Stands T.Turn (map T.plan stages.items) pipe [] []) }
+        ensures stands { IfOk result (λ pipe. AnyPipeStands T.Turn (map T.plan stages.items) pipe [] []) }
         ensures plans { IfOk result (λ pipe. plans_of T.Turn pipe ≡ map T.plan stages.items) }
     {
         match rings {
@@ -50,10 +50,10 @@ impl<T: Turn + Drop> AnyPipe<T> {
 
     /// The input ends here.
     pub(crate) fn give_end(&mut self) -> Result<(), PipeFault>
-        requires unended { is_ended T.Turn self.old ≡ false }
-        requires closed { is_in_round T.Turn self.old ≡ false }
-        ensures stands { OnOk result ((ps : List T.Plan) (h : List Event) (taken : List ℕ) → Stands T.Turn ps self.old h taken → Stands T.Turn ps self.new (h ++ give_end ∷ []) taken) }
-        ensures closed { is_in_round T.Turn self.new ≡ false }
+        requires unended { is_any_ended T.Turn self.old ≡ false }
+        requires closed { is_any_in_round T.Turn self.old ≡ false }
+        ensures stands { OnOk result ((ps : List T.Plan) (h : List Event) (taken : List ℕ) → AnyPipeStands T.Turn ps self.old h taken → AnyPipeStands T.Turn ps self.new (h ++ give_end ∷ []) taken) }
+        ensures closed { is_any_in_round T.Turn self.new ≡ false }
     {
         match self {
             AnyPipe::Rounds(pipe) => pipe.give_end(),
@@ -63,9 +63,9 @@ impl<T: Turn + Drop> AnyPipe<T> {
 
     /// Takes the output that is in hand, in the place of what `out` held.
     pub(crate) fn take_output_into(&mut self, out: &mut Vec<u8>)
-        requires closed { is_in_round T.Turn self.old ≡ false }
-        ensures none_left { in_hand T.Turn self.new ≡ [] }
-        ensures stands { (ps : List T.Plan) (h : List Event) (taken : List ℕ) → Stands T.Turn ps self.old h taken → Stands T.Turn ps self.new h (taken ++ out.new.items) }
+        requires closed { is_any_in_round T.Turn self.old ≡ false }
+        ensures none_left { any_in_hand T.Turn self.new ≡ [] }
+        ensures stands { (ps : List T.Plan) (h : List Event) (taken : List ℕ) → AnyPipeStands T.Turn ps self.old h taken → AnyPipeStands T.Turn ps self.new h (taken ++ out.new.items) }
     {
         match self {
             AnyPipe::Rounds(pipe) => pipe.take_output_into(out),
@@ -75,8 +75,8 @@ impl<T: Turn + Drop> AnyPipe<T> {
 
     /// The stop of the last stage that has stopped.
     pub(crate) fn report(&self) -> Option<Rejected>
-        ensures settled { (ps : List T.Plan) (h : List Event) (taken : List ℕ) → Stands T.Turn ps self.now h taken → IsSettled T.gives ps h
-            → Pipeline T.gives 1 ps (bytes_given h) (end_given h) (taken ++ in_hand T.Turn self.now) (report_as result) }
+        ensures settled { (ps : List T.Plan) (h : List Event) (taken : List ℕ) → AnyPipeStands T.Turn ps self.now h taken → IsPipeSettled T.gives ps h
+            → Pipeline T.gives 1 ps (bytes_given h) (end_given h) (taken ++ any_in_hand T.Turn self.now) (report_as result) }
     {
         match self {
             AnyPipe::Rounds(pipe) => pipe.report(),
@@ -93,11 +93,11 @@ pub(crate) fn give_front<R: Threads + Sync, T: Turn + Drop + Send, G: Gate + Syn
     pace: Pace,
     bytes: &[u8],
 ) -> Result<usize, PipeFault>
-    requires unended { is_ended T.Turn pipe.old ≡ false }
-    requires closed { is_in_round T.Turn pipe.old ≡ false }
+    requires unended { is_any_ended T.Turn pipe.old ≡ false }
+    requires closed { is_any_in_round T.Turn pipe.old ≡ false }
     ensures front { IfOk result (λ count. IsFront pace bytes.now count) }
-    ensures given { IfOk result (λ count. (ps : List T.Plan) (h : List Event) (taken : List ℕ) → Stands T.Turn ps pipe.old h taken → IsGiven (λ k. Stands T.Turn ps pipe.new k taken) (take count bytes.now) h) }
-    ensures closed { is_in_round T.Turn pipe.new ≡ false }
+    ensures given { IfOk result (λ count. (ps : List T.Plan) (h : List Event) (taken : List ℕ) → AnyPipeStands T.Turn ps pipe.old h taken → IsGiven (λ k. AnyPipeStands T.Turn ps pipe.new k taken) (take count bytes.now) h) }
+    ensures closed { is_any_in_round T.Turn pipe.new ≡ false }
 {
     match pipe {
         AnyPipe::Rounds(pipe) => rounds::give_front(rt, pipe, gate, pace, bytes),
@@ -111,9 +111,9 @@ pub(crate) fn work_off<R: Threads + Sync, T: Turn + Drop + Send, G: Gate + Sync>
     pipe: &mut AnyPipe<T>,
     gate: &G,
 ) -> Result<(), PipeFault>
-    requires closed { is_in_round T.Turn pipe.old ≡ false }
-    ensures works { OnOk result ((ps : List T.Plan) (h : List Event) (taken : List ℕ) → Stands T.Turn ps pipe.old h taken → IsWorkedOff T.gives ps (λ k. Stands T.Turn ps pipe.new k taken) h) }
-    ensures closed { is_in_round T.Turn pipe.new ≡ false }
+    requires closed { is_any_in_round T.Turn pipe.old ≡ false }
+    ensures works { OnOk result ((ps : List T.Plan) (h : List Event) (taken : List ℕ) → AnyPipeStands T.Turn ps pipe.old h taken → IsWorkedOff T.gives ps (λ k. AnyPipeStands T.Turn ps pipe.new k taken) h) }
+    ensures closed { is_any_in_round T.Turn pipe.new ≡ false }
 {
     match pipe {
         AnyPipe::Rounds(pipe) => rounds::work_off(rt, pipe, gate),

@@ -1,6 +1,6 @@
 // The lines that a trial makes.
 ghost use Rattle.std.specs.Prelude.{◌≡◌, ◌<◌, ◌+◌, ◌%◌, ◌++◌, ◌^◌, OnOk};
-ghost use Rattle.kex_top.specs.Trials.{line_of, next};
+ghost use Rattle.kex_top.specs.Trials.{drawn_line, next_random};
 
 use itoa::Buffer;
 use kex_code::memory::Memory;
@@ -8,7 +8,7 @@ use kex_code::memory::Memory;
 /// The state after this one. A state has 32 bits.
 pub(crate) fn next(state: u64) -> u64
     requires { state < 2 ^ 32 }
-    ensures value { result ≡ next state }
+    ensures value { result ≡ next_random state }
     ensures fits { result < 2 ^ 32 }
 {
     (state * 1_664_525 + 1_013_904_223) % 4_294_967_296
@@ -23,7 +23,7 @@ fn letter(rest: u64) -> u8
 
 /// Adds the line of a state: three letters, a blank, a number and a line feed.
 pub(crate) fn push_line(state: u64, out: &mut Vec<u8>) -> Result<(), Memory>
-    ensures { OnOk result (out.new.items ≡ out.old.items ++ line_of state) }
+    ensures { OnOk result (out.new.items ≡ out.old.items ++ drawn_line state) }
 {
     let front = [
         letter(state / 256),

@@ -1,7 +1,7 @@
 // One block through the stages into a sink.
 ghost use Rattle.std.specs.Prelude.{◌≡◌, ◌++◌, true, false, List, ℕ, Option, Some, None, IfErr, IfOk, OnOk};
 ghost use Rattle.kex_ports.specs.Endings.{IsUnfinished};
-ghost use Rattle.kex_top.specs.History.{History, bytes_passed, is_ended, Writes, WritesUpTo};
+ghost use Rattle.kex_top.specs.History.{History, bytes_passed, is_history_ended, WritesSaid, WritesUpTo};
 ghost use Rattle.kex_top.specs.Piped.{PipeSays, PipeStands, plans_of};
 ghost use Rattle.kex_top.specs.Pipelines.{AlwaysSays};
 ghost use Rattle.kex_top.specs.Run.{TroubleCause};
@@ -51,12 +51,12 @@ pub(crate) fn pass<R: Threads + Sync, T: Limited + Drop + Send, G: Gate + Sync, 
     out: &mut Vec<u8>,
     output: &mut K,
 ) -> Result<Fate, Trouble>
-    requires stands { (h : History) × PipeStands T.Turn pipe.old h × (is_ended h ≡ false) }
+    requires stands { (h : History) × PipeStands T.Turn pipe.old h × (is_history_ended h ≡ false) }
     requires says { pace ≡ Pace.Parts → AlwaysSays (PipeSays T.Turn (plans_of T.Turn pipe.old)) }
     ensures same { OnOk result (plans_of T.Turn pipe.new ≡ plans_of T.Turn pipe.old) }
-    ensures writes { IfOk result (λ fate. (h : History) → PipeStands T.Turn pipe.old h → is_ended h ≡ false
-        → Writes (PipeSays T.Turn (plans_of T.Turn pipe.old)) (PipeStands T.Turn pipe.new) h (bytes_passed h ++ block.now) false (K.held output.old) (K.held output.new) fate) }
-    ensures trouble { IfErr result (λ trouble. (h : History) → PipeStands T.Turn pipe.old h → is_ended h ≡ false
+    ensures writes { IfOk result (λ fate. (h : History) → PipeStands T.Turn pipe.old h → is_history_ended h ≡ false
+        → WritesSaid (PipeSays T.Turn (plans_of T.Turn pipe.old)) (PipeStands T.Turn pipe.new) h (bytes_passed h ++ block.now) false (K.held output.old) (K.held output.new) fate) }
+    ensures trouble { IfErr result (λ trouble. (h : History) → PipeStands T.Turn pipe.old h → is_history_ended h ≡ false
         → WritesUpTo (PipeSays T.Turn (plans_of T.Turn pipe.old)) h (bytes_passed h ++ block.now) false (K.held output.old) (K.held output.new) trouble) }
     ensures cause { TroubleCause (K.faults output.old) (K.faults output.new) result }
     ensures unfinished { IsUnfinished (K.ending output.old) (K.ending output.new) result }
@@ -80,11 +80,11 @@ pub(crate) fn pass_end<R: Threads + Sync, T: Limited + Drop + Send, G: Gate + Sy
     out: &mut Vec<u8>,
     output: &mut K,
 ) -> Result<Fate, Trouble>
-    requires { (h : History) × PipeStands T.Turn pipe.old h × (is_ended h ≡ false) }
+    requires { (h : History) × PipeStands T.Turn pipe.old h × (is_history_ended h ≡ false) }
     ensures same { OnOk result (plans_of T.Turn pipe.new ≡ plans_of T.Turn pipe.old) }
-    ensures writes { IfOk result (λ fate. (h : History) → PipeStands T.Turn pipe.old h → is_ended h ≡ false
-        → Writes (PipeSays T.Turn (plans_of T.Turn pipe.old)) (PipeStands T.Turn pipe.new) h (bytes_passed h) true (K.held output.old) (K.held output.new) fate) }
-    ensures trouble { IfErr result (λ trouble. (h : History) → PipeStands T.Turn pipe.old h → is_ended h ≡ false
+    ensures writes { IfOk result (λ fate. (h : History) → PipeStands T.Turn pipe.old h → is_history_ended h ≡ false
+        → WritesSaid (PipeSays T.Turn (plans_of T.Turn pipe.old)) (PipeStands T.Turn pipe.new) h (bytes_passed h) true (K.held output.old) (K.held output.new) fate) }
+    ensures trouble { IfErr result (λ trouble. (h : History) → PipeStands T.Turn pipe.old h → is_history_ended h ≡ false
         → WritesUpTo (PipeSays T.Turn (plans_of T.Turn pipe.old)) h (bytes_passed h) true (K.held output.old) (K.held output.new) trouble) }
     ensures cause { TroubleCause (K.faults output.old) (K.faults output.new) result }
     ensures unfinished { IsUnfinished (K.ending output.old) (K.ending output.new) result }

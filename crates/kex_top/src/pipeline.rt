@@ -4,7 +4,7 @@ ghost use Rattle.std.proofs.Common.{ap};
 ghost use Rattle.kex_machine.proofs.NodeAnswers.{past_limit};
 ghost use Rattle.kex_model.specs.Answers.{Answer};
 ghost use Rattle.kex_top.specs.Fronts.{IsFront};
-ghost use Rattle.kex_top.specs.History.{Fed, History, bytes_passed, is_ended, IsFateOf, Feeds};
+ghost use Rattle.kex_top.specs.History.{StagesFed, History, bytes_passed, is_history_ended, IsFateOfStages, FeedsStages};
 ghost use Rattle.kex_top.specs.Piped.{PipeSays, PipeStands, plans_of};
 
 use crate::any_pipe::{AnyPipe, give_front, work_off};
@@ -35,7 +35,7 @@ impl<'p> Limited for Stage<'p> {
 }
 
 fn fate_of(report: Option<Rejected>) -> Fate
-    ensures { IsFateOf report result }
+    ensures { IsFateOfStages report result }
 {
     match report {
         None => Fate::On,
@@ -61,11 +61,11 @@ pub(crate) fn feed<R: Threads + Sync, T: Limited + Drop + Send, G: Gate + Sync>(
     piece: &[u8],
     out: &mut Vec<u8>,
 ) -> Result<Front, PipeFault>
-    requires { (h : History) × PipeStands T.Turn pipe.old h × (is_ended h ≡ false) }
+    requires { (h : History) × PipeStands T.Turn pipe.old h × (is_history_ended h ≡ false) }
     ensures same { OnOk result (plans_of T.Turn pipe.new ≡ plans_of T.Turn pipe.old) }
     ensures front { IfOk result (λ front. IsFront pace piece.now front.count) }
-    ensures feeds { IfOk result (λ front. (h : History) → PipeStands T.Turn pipe.old h → is_ended h ≡ false
-        → Feeds (PipeSays T.Turn (plans_of T.Turn pipe.old)) (PipeStands T.Turn pipe.new) h (bytes_passed h ++ take front.count piece.now) false out.new.items front.fate) }
+    ensures feeds { IfOk result (λ front. (h : History) → PipeStands T.Turn pipe.old h → is_history_ended h ≡ false
+        → FeedsStages (PipeSays T.Turn (plans_of T.Turn pipe.old)) (PipeStands T.Turn pipe.new) h (bytes_passed h ++ take front.count piece.now) false out.new.items front.fate) }
 {
     let count = give_front(rt, pipe, gate, pace, piece)?;
     work_off(rt, pipe, gate)?;
@@ -83,10 +83,10 @@ pub(crate) fn end<R: Threads + Sync, T: Limited + Drop + Send, G: Gate + Sync>(
     pipe: &mut AnyPipe<T>,
     out: &mut Vec<u8>,
 ) -> Result<Fate, PipeFault>
-    requires { (h : History) × PipeStands T.Turn pipe.old h × (is_ended h ≡ false) }
+    requires { (h : History) × PipeStands T.Turn pipe.old h × (is_history_ended h ≡ false) }
     ensures same { OnOk result (plans_of T.Turn pipe.new ≡ plans_of T.Turn pipe.old) }
-    ensures feeds { IfOk result (λ fate. (h : History) → PipeStands T.Turn pipe.old h → is_ended h ≡ false
-        → Feeds (PipeSays T.Turn (plans_of T.Turn pipe.old)) (PipeStands T.Turn pipe.new) h (bytes_passed h) true out.new.items fate) }
+    ensures feeds { IfOk result (λ fate. (h : History) → PipeStands T.Turn pipe.old h → is_history_ended h ≡ false
+        → FeedsStages (PipeSays T.Turn (plans_of T.Turn pipe.old)) (PipeStands T.Turn pipe.new) h (bytes_passed h) true out.new.items fate) }
 {
     pipe.give_end()?;
     work_off(rt, pipe, gate)?;
@@ -96,7 +96,7 @@ pub(crate) fn end<R: Threads + Sync, T: Limited + Drop + Send, G: Gate + Sync>(
 
 /// The report of what was fed.
 pub(crate) fn rejected<T: Limited + Drop>(pipe: &AnyPipe<T>) -> Option<Rejected>
-    ensures { (f : Fed) → PipeStands T.Turn pipe.now (Some f) → result ≡ f.said.report }
+    ensures { (f : StagesFed) → PipeStands T.Turn pipe.now (Some f) → result ≡ f.said.report }
 {
     pipe.report()
 }

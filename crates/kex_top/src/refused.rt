@@ -7,7 +7,7 @@ ghost use Rattle.kex_top.specs.declared.start.StartError.TheVariants.{Refused};
 use crate::start::StartError;
 use kex_compile::refusal::CompileRefusal;
 use kex_reader::place;
-use kex_words::{Place, Refusal, Rule};
+use kex_words::{Refusal, RefusalPlace, Rule};
 
 // The whole text breaks the rule.
 fn broken(rule: Rule) -> StartError
@@ -15,7 +15,7 @@ fn broken(rule: Rule) -> StartError
 {
     StartError::Refused(Refusal {
         rule,
-        place: Place::Nowhere,
+        place: RefusalPlace::Nowhere,
     })
 }
 
@@ -27,7 +27,7 @@ fn broken_at(rule: Rule, text: &[u8], at: u32) -> StartError
     let (line, column) = place(text, at);
     StartError::Refused(Refusal {
         rule,
-        place: Place::At { line, column },
+        place: RefusalPlace::At { line, column },
     })
 }
 
@@ -37,7 +37,7 @@ fn broken_in(rule: Rule, stage: u32) -> StartError
 {
     StartError::Refused(Refusal {
         rule,
-        place: Place::Stage(stage),
+        place: RefusalPlace::Stage(stage),
     })
 }
 

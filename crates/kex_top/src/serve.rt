@@ -31,7 +31,7 @@ use kex_pipe::turn::Turn;
 use kex_ports::{Gate, Shelf, Sink, Source};
 use kex_stage::plan::Plan;
 use kex_stage::stage::Stage;
-use kex_words::{Limits, Mode, Rings};
+use kex_words::{Mode, Rings, RunLimits};
 use std::alloc::Global;
 use std::thread::Threads;
 
@@ -78,7 +78,7 @@ fn run_stages<R: Threads + Sync, G: Gate + Sync, S: Source, K: Sink>(
     gate: &G,
     alloc: Global,
     compiled: &Compiled,
-    limits: Limits,
+    limits: RunLimits,
     input: &mut S,
     output: &mut K,
 ) -> Result<Status, Memory>
@@ -112,7 +112,7 @@ fn serve<R: Threads + Sync, G: Gate + Sync, S: Source, K: Sink>(
     alloc: Global,
     mode: Mode,
     compiled: &Compiled,
-    limits: Limits,
+    limits: RunLimits,
     input: &mut S,
     output: &mut K,
 ) -> Result<Status, Memory>
@@ -167,7 +167,7 @@ pub(crate) fn answer_stream<R: Threads + Sync, G: Gate + Sync, H: Shelf, S: Sour
     alloc: Global,
     mode: Mode,
     program: &str,
-    limits: Limits,
+    limits: RunLimits,
     shelf: &mut H,
     input: &mut S,
     output: &mut K,

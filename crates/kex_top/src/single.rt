@@ -6,12 +6,12 @@ ghost use Rattle.kex_ports.specs.Reads.{last_given};
 ghost use Rattle.kex_single.specs.CodeLaws as code;
 ghost use Rattle.kex_single.specs.PlayedLaws as act;
 ghost use Rattle.kex_single.specs.TestLaws as test;
-ghost use Rattle.kex_words.specs.Gains.{Change, change_of};
+ghost use Rattle.kex_words.specs.Gains.{StreamChange, change_of};
 ghost use Rattle.kex_words.specs.Words.Mode.{acting, coding, testing};
 ghost use Rattle.kex_top.specs.Modes.{MachinesSay};
 ghost use Rattle.kex_top.specs.Outside.{Closes, ReadsBlocks};
 ghost use Rattle.kex_top.specs.Pipelines.{StagesSay};
-ghost use Rattle.kex_top.specs.Run.{IsLeft, Ran};
+ghost use Rattle.kex_top.specs.Run.{IsAsBefore, Ran};
 
 use crate::any_pipe::AnyPipe;
 use crate::pipeline::Limited;
@@ -23,7 +23,7 @@ use kex_machine::Trimmed;
 use kex_pipe::turn::Turn;
 use kex_ports::{Gate, NeverFailsSink, Sink, Source};
 use kex_single::{Coder, Player, Tester};
-use kex_words::Limits;
+use kex_words::RunLimits;
 use std::alloc::Global;
 use std::thread::Threads;
 
@@ -58,7 +58,7 @@ fn run_one<R: Threads + Sync, T: Limited + Drop + Send, G: Gate + Sync, S: Sourc
     alloc: Global,
     stage: T,
     pace: Pace,
-    limits: Limits,
+    limits: RunLimits,
     input: &mut S,
     output: &mut K,
 ) -> Result<Status, Memory>
@@ -86,7 +86,7 @@ pub(crate) fn code<R: Threads + Sync, G: Gate + Sync, S: Source, K: Sink>(
     gate: &G,
     alloc: Global,
     machine: &Trimmed,
-    limits: Limits,
+    limits: RunLimits,
     input: &mut S,
     output: &mut K,
 ) -> Result<Status, Memory>
@@ -110,7 +110,7 @@ pub(crate) fn act<R: Threads + Sync, G: Gate + Sync, S: Source, K: Sink>(
     gate: &G,
     alloc: Global,
     machine: &Trimmed,
-    limits: Limits,
+    limits: RunLimits,
     input: &mut S,
     output: &mut K,
 ) -> Result<Status, Memory>
@@ -133,10 +133,10 @@ pub(crate) fn test<R: Threads + Sync, G: Gate + Sync, S: Source>(
     gate: &G,
     alloc: Global,
     machine: &Trimmed,
-    limits: Limits,
+    limits: RunLimits,
     input: &mut S,
 ) -> Result<Status, Memory>
-    ensures ran { (sink : Change) → IsLeft sink → IfOk result (λ status.
+    ensures ran { (sink : StreamChange) → IsAsBefore sink → IfOk result (λ status.
         Ran (MachinesSay testing limits.max_input (machine.now ∷ []))
         (last_given limits.block (S.reads input.new))
         (change_of S.rest S.faults input.old input.new) sink status) }

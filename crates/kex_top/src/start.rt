@@ -7,7 +7,7 @@ use crate::status::Status;
 use kex_code::memory::Memory;
 use kex_pipe::pipe::PipeFault;
 use kex_ports::ShelfAnswer;
-use kex_words::{Place, Refusal, Rule, WordsRefusal};
+use kex_words::{Refusal, RefusalPlace, Rule, WordsRefusal};
 
 /// Why a command doesn't begin. Nothing is read or written then.
 #[derive(Clone, Copy, Debug, PartialEq, Eq, Drop)]
@@ -40,7 +40,7 @@ impl From<ShelfAnswer> for StartError {
             ShelfAnswer::Failed => StartError::Shelf,
             ShelfAnswer::TooLong => StartError::Refused(Refusal {
                 rule: Rule::TextTooLong,
-                place: Place::Nowhere,
+                place: RefusalPlace::Nowhere,
             }),
             ShelfAnswer::Memory => StartError::Memory,
         }

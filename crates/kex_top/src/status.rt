@@ -1,7 +1,7 @@
 // What a call of the program answers.
 
 ghost use Rattle.std.specs.Prelude.{◌≡◌};
-ghost use Rattle.kex_top.specs.Status.{is_end, note_of, number_of};
+ghost use Rattle.kex_top.specs.Status.{is_at_end, note_of, status_number};
 
 use kex_pipe::report::Rejected;
 use kex_pipe::turn::Why;
@@ -24,7 +24,7 @@ pub enum Status {
 impl Status {
     /// The number with which the program ends.
     pub fn number(&self) -> u8
-        ensures { result ≡ number_of self.now }
+        ensures { result ≡ status_number self.now }
     {
         match self {
             Status::Done => 0,
@@ -65,7 +65,7 @@ impl Status {
 }
 
 fn is_end(why: Why) -> bool
-    ensures { result ≡ is_end why }
+    ensures { result ≡ is_at_end why }
 {
     match why {
         Why::End => true,

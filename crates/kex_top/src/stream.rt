@@ -2,7 +2,7 @@
 ghost use Rattle.std.specs.Prelude.{◌≡◌, ◌<◌, ◌≤◌, ◌^◌, ℕ, IfOk, None, OnErr, length};
 ghost use Rattle.kex_ports.specs.Reads.{Asks, last_given};
 ghost use Rattle.kex_words.specs.Gains.{change_of};
-ghost use Rattle.kex_top.specs.Outside.{Closes, IsOpen, ReadsBlocks};
+ghost use Rattle.kex_top.specs.Outside.{Closes, IsSinkOpen, ReadsBlocks};
 ghost use Rattle.kex_top.specs.Piped.{PipeSays, PipeStands, limit_of, plans_of};
 ghost use Rattle.kex_top.specs.Pipelines.{AlwaysSays};
 ghost use Rattle.kex_top.specs.Run.{Pumped, Ran, status_of, status_after, is_whole};
@@ -16,7 +16,7 @@ use kex_code::memory::Memory;
 use kex_pipe::report::Rejected;
 use kex_pipe::turn::{Fate, Why};
 use kex_ports::{Failed, Gate, Sink, Source};
-use kex_words::Limits;
+use kex_words::RunLimits;
 use std::alloc::Global;
 use std::thread::Threads;
 
@@ -62,7 +62,7 @@ pub(crate) fn pump<R: Threads + Sync, T: Limited + Drop + Send, G: Gate + Sync, 
         (change_of S.rest S.faults input.old input.new)
         (change_of K.held K.faults output.old output.new) result }
     ensures asks { Asks (length block.old) (S.reads input.old) (S.reads input.new) }
-    ensures unclosed { IsOpen (K.ending output.old) (K.ending output.new) result }
+    ensures unclosed { IsSinkOpen (K.ending output.old) (K.ending output.new) result }
 {
     match pass(rt, gate, pipe, pace, &[], out, output) {
         Ok(Fate::On) => {}
@@ -104,7 +104,7 @@ pub(crate) fn run<R: Threads + Sync, T: Limited + Drop + Send, G: Gate + Sync, S
     alloc: Global,
     pipe: &mut AnyPipe<T>,
     pace: Pace,
-    limits: Limits,
+    limits: RunLimits,
     input: &mut S,
     output: &mut K,
 ) -> Result<Status, Memory>

@@ -3,17 +3,17 @@ ghost use Rattle.std.specs.Prelude.{◌≡◌, ◌≤◌, ◌<◌, ◌+◌, ◌^
 ghost use Rattle.kex_ports.specs.Named.{Texts};
 ghost use Rattle.kex_ports.specs.Reads.{Reads};
 ghost use Rattle.kex_words.specs.Form.{most_input};
-ghost use Rattle.kex_words.specs.Gains.{Change, change_of};
+ghost use Rattle.kex_words.specs.Gains.{StreamChange, change_of};
 ghost use Rattle.kex_words.specs.Lines.{trial_line};
 ghost use Rattle.kex_words.specs.Words.{room_of};
 ghost use Rattle.kex_words.specs.Words.Asked.{ToTry};
 ghost use Rattle.kex_top.specs.Commands.{TellsLine};
-ghost use Rattle.kex_top.specs.History.{History, bytes_passed, is_ended};
+ghost use Rattle.kex_top.specs.History.{History, bytes_passed, is_history_ended};
 ghost use Rattle.kex_top.specs.Kex.{CommandAnswers};
 ghost use Rattle.kex_top.specs.Outside.{Closes};
 ghost use Rattle.kex_top.specs.Piped.{PipeSays, PipeStands, plans_of};
 ghost use Rattle.kex_top.specs.Pipelines.{NodesSay, stage_plans};
-ghost use Rattle.kex_top.specs.Run.{IsLeft};
+ghost use Rattle.kex_top.specs.Run.{IsAsBefore};
 ghost use Rattle.kex_top.specs.Starts.{status_of_answer};
 ghost use Rattle.kex_top.specs.Tallies.{Counts, HasWaiting, SumsUp};
 ghost use Rattle.kex_top.specs.Trials.{IsSummary, made_lines};
@@ -51,9 +51,9 @@ fn give<R: Threads + Sync, T: Limited + Drop + Send, G: Gate + Sync>(
     out: &mut Vec<u8>,
     tally: Tally,
 ) -> Result<Tally, PipeFault>
-    requires { (h : History) × PipeStands T.Turn pipe.old h × (is_ended h ≡ false) }
+    requires { (h : History) × PipeStands T.Turn pipe.old h × (is_history_ended h ≡ false) }
     ensures same { OnOk result (plans_of T.Turn pipe.new ≡ plans_of T.Turn pipe.old) }
-    ensures counts { IfOk result (λ more. (h : History) → PipeStands T.Turn pipe.old h → is_ended h ≡ false
+    ensures counts { IfOk result (λ more. (h : History) → PipeStands T.Turn pipe.old h → is_history_ended h ≡ false
         → Counts (PipeSays T.Turn (plans_of T.Turn pipe.old)) (PipeStands T.Turn pipe.new) h (bytes_passed h ++ piece.now) false tally more) }
 {
     let _ = feed(rt, gate, pipe, Pace::Blocks, piece, out)?;
@@ -68,9 +68,9 @@ fn give_end<R: Threads + Sync, T: Limited + Drop + Send, G: Gate + Sync>(
     out: &mut Vec<u8>,
     tally: Tally,
 ) -> Result<Tally, PipeFault>
-    requires { (h : History) × PipeStands T.Turn pipe.old h × (is_ended h ≡ false) }
+    requires { (h : History) × PipeStands T.Turn pipe.old h × (is_history_ended h ≡ false) }
     ensures same { OnOk result (plans_of T.Turn pipe.new ≡ plans_of T.Turn pipe.old) }
-    ensures counts { IfOk result (λ more. (h : History) → PipeStands T.Turn pipe.old h → is_ended h ≡ false
+    ensures counts { IfOk result (λ more. (h : History) → PipeStands T.Turn pipe.old h → is_history_ended h ≡ false
         → Counts (PipeSays T.Turn (plans_of T.Turn pipe.old)) (PipeStands T.Turn pipe.new) h (bytes_passed h) true tally more) }
 {
     let _ = end(rt, gate, pipe, out)?;
@@ -185,7 +185,7 @@ pub(crate) fn answer_trial<R: Threads + Sync, G: Gate + Sync, K: Sink>(
     lines: Lines,
     output: &mut K,
 ) -> Result<Status, StartError>
-    ensures answers { (texts : Option Texts) (reads : Option Reads) (source : Change) → IsLeft source
+    ensures answers { (texts : Option Texts) (reads : Option Reads) (source : StreamChange) → IsAsBefore source
         → CommandAnswers (ToTry lines.count lines.block (room_of lines.rings)) texts reads source
         (change_of K.held K.faults output.old output.new) (status_of_answer result) }
     ensures closes { Closes (K.ending output.old) (K.ending output.new) (status_of_answer result) }

@@ -12,7 +12,7 @@ use Rattle.kex_machine.specs.declared.MNode.{MNode}
 use Rattle.kex_machine.specs.declared.MNode.TheVariants.{Accept, Read, Choice, Forced, Do, Skip}
 use Rattle.kex_trim.specs.Ways.{LeadsBelow}
 use Rattle.kex_machine.specs.Nodes.{node_moves, move_of}
-use Rattle.kex_trim.specs.Ways.{ways, Adds, IsReverse, unmarked_count, Marks, IsAlive}
+use Rattle.kex_trim.specs.Ways.{successors, AddsToLists, IsReverse, unmarked_count, Marks, AreAliveFlags}
 use Rattle.kex_model.proofs.Shapes.{among-append as among-cases, among_left, among_right}
 
 pub same_or_not : (a b : ℕ) → (a ≡ b) ⊎ (b ≢ a)
@@ -30,52 +30,52 @@ some_byte (false ∷ set) zero i = cc
 some_byte (false ∷ set) (suc b) i = some_byte set b i
 
 -- a way is a step
-pub way_step : {S : Type 0} (v : Move S) (t : S) → IsAmong (ways v) t → (k : Step S) × Allows v k × (target_of k ≡ t)
-way_step accept t i = absurd i
-way_step (read set u) t i = by (list_any (λ b. b) set) refl i
+pub successor_step : {S : Type 0} (v : Move S) (t : S) → IsAmong (successors v) t → (k : Step S) × Allows v k × (target_of k ≡ t)
+successor_step accept t i = absurd i
+successor_step (read set u) t i = by (list_any (λ b. b) set) refl i
   where
     by : (x : Bool) → list_any (λ b. b) set ≡ x → IsAmong (if x then u ∷ [] else []) t → (k : Step _) × Allows (read set u) k × (target_of k ≡ t)
     by true e (inl same) = let b = any_byte set e in (took b.0 u, reads b.1, same)
     by true e (inr i) = absurd i
     by false e i = absurd i
-way_step (choose l r) t (inl e) = (chose to_left l, goes_left, e)
-way_step (choose l r) t (inr (inl e)) = (chose to_right r, goes_right, e)
-way_step (choose l r) t (inr (inr i)) = absurd i
-way_step (forced x u) t (inl e) = (chose x u, goes_forced, e)
-way_step (forced x u) t (inr i) = absurd i
-way_step (go e u) t (inl same) = (went e u, goes, same)
-way_step (go e u) t (inr i) = absurd i
+successor_step (choose l r) t (inl e) = (chose to_left l, goes_left, e)
+successor_step (choose l r) t (inr (inl e)) = (chose to_right r, goes_right, e)
+successor_step (choose l r) t (inr (inr i)) = absurd i
+successor_step (forced x u) t (inl e) = (chose x u, goes_forced, e)
+successor_step (forced x u) t (inr i) = absurd i
+successor_step (go e u) t (inl same) = (went e u, goes, same)
+successor_step (go e u) t (inr i) = absurd i
 
-pub is_way : {S : Type 0} {v : Move S} {k : Step S} → Allows v k → IsAmong (ways v) (target_of k)
-is_way (reads {set = set} {b = b} {s = s} i) = subst (λ z. IsAmong (if z then s ∷ [] else []) s) (sym (some_byte set b i)) (inl refl)
-is_way goes_left = inl refl
-is_way goes_right = inr (inl refl)
-is_way goes_forced = inl refl
-is_way goes = inl refl
+pub is_successor : {S : Type 0} {v : Move S} {k : Step S} → Allows v k → IsAmong (successors v) (target_of k)
+is_successor (reads {set = set} {b = b} {s = s} i) = subst (λ z. IsAmong (if z then s ∷ [] else []) s) (sym (some_byte set b i)) (inl refl)
+is_successor goes_left = inl refl
+is_successor goes_right = inr (inl refl)
+is_successor goes_forced = inl refl
+is_successor goes = inl refl
 
-way_in : (k : ℕ) (m : MNode) (t : ℕ) → LeadsBelow k m → IsAmong (ways (move_of (Some m))) t → t < k
-way_in k Accept t b i = absurd i
-way_in k (Read set n) t b i = by (list_any (λ b. b) set) i
+successor_in : (k : ℕ) (m : MNode) (t : ℕ) → LeadsBelow k m → IsAmong (successors (move_of (Some m))) t → t < k
+successor_in k Accept t b i = absurd i
+successor_in k (Read set n) t b i = by (list_any (λ b. b) set) i
   where
     by : (x : Bool) → IsAmong (if x then n ∷ [] else []) t → t < k
     by true (inl e) = subst (λ z. z < k) e b
     by true (inr i) = absurd i
     by false i = absurd i
-way_in k (Choice l r) t b (inl e) = subst (λ z. z < k) e b.0
-way_in k (Choice l r) t b (inr (inl e)) = subst (λ z. z < k) e b.1
-way_in k (Choice l r) t b (inr (inr i)) = absurd i
-way_in k (Forced x n) t b (inl e) = subst (λ z. z < k) e b
-way_in k (Forced x n) t b (inr i) = absurd i
-way_in k (Do x n) t b (inl e) = subst (λ z. z < k) e b
-way_in k (Do x n) t b (inr i) = absurd i
-way_in k (Skip n) t b (inl e) = subst (λ z. z < k) e b
-way_in k (Skip n) t b (inr i) = absurd i
+successor_in k (Choice l r) t b (inl e) = subst (λ z. z < k) e b.0
+successor_in k (Choice l r) t b (inr (inl e)) = subst (λ z. z < k) e b.1
+successor_in k (Choice l r) t b (inr (inr i)) = absurd i
+successor_in k (Forced x n) t b (inl e) = subst (λ z. z < k) e b
+successor_in k (Forced x n) t b (inr i) = absurd i
+successor_in k (Do x n) t b (inl e) = subst (λ z. z < k) e b
+successor_in k (Do x n) t b (inr i) = absurd i
+successor_in k (Skip n) t b (inl e) = subst (λ z. z < k) e b
+successor_in k (Skip n) t b (inr i) = absurd i
 
-pub way_below : (nodes : List MNode) → All (LeadsBelow (length nodes)) nodes → (n : ℕ) → n < length nodes → (t : ℕ) → IsAmong (ways (node_moves nodes n)) t → t < length nodes
-way_below nodes all n lt t i = way_in (length nodes) (get_or nodes n Accept) t (All-get_or (LeadsBelow (length nodes)) nodes n Accept lt all) (subst (λ z. IsAmong (ways (move_of z)) t) (slice_get-get_or nodes n Accept lt) i)
+pub successor_below : (nodes : List MNode) → All (LeadsBelow (length nodes)) nodes → (n : ℕ) → n < length nodes → (t : ℕ) → IsAmong (successors (node_moves nodes n)) t → t < length nodes
+successor_below nodes all n lt t i = successor_in (length nodes) (get_or nodes n Accept) t (All-get_or (LeadsBelow (length nodes)) nodes n Accept lt all) (subst (λ z. IsAmong (successors (move_of z)) t) (slice_get-get_or nodes n Accept lt) i)
 
 -- one list gets one more
-pub adds_one : (old : List (List ℕ)) (t s : ℕ) → t < length old → Adds (t ∷ []) s old (set old t (get_or old t [] ++ s ∷ []))
+pub adds_one : (old : List (List ℕ)) (t s : ℕ) → t < length old → AddsToLists (t ∷ []) s old (set old t (get_or old t [] ++ s ∷ []))
 adds_one old t s lt = record {
   long = length-set old t longer;
   kept = λ u x i. ⊎_elim (λ e. subst (λ z. IsAmong z x) (sym (at u e)) (among_left (get_or old t []) (s ∷ []) x (subst (λ z. IsAmong (get_or old z []) x) (sym e) i))) (λ ne. subst (λ z. IsAmong z x) (sym (get_or-set_other old t u longer [] ne)) i) (same_or_not t u);
@@ -89,10 +89,10 @@ adds_one old t s lt = record {
     at : (u : ℕ) → t ≡ u → get_or (set old t longer) u [] ≡ longer
     at u e = ap (λ z. get_or (set old t longer) z []) (sym e) ∙ get_or-set_same old t longer [] lt
 
-pub adds_none : (s : ℕ) (old : List (List ℕ)) → Adds [] s old old
+pub adds_none : (s : ℕ) (old : List (List ℕ)) → AddsToLists [] s old old
 adds_none s old = record { long = refl; kept = λ t x i. i; added = λ t i. absurd i; only = λ t x i. inl i }
 
-pub adds_both : (ts us : List ℕ) (s : ℕ) (old mid new : List (List ℕ)) → Adds ts s old mid → Adds us s mid new → Adds (ts ++ us) s old new
+pub adds_both : (ts us : List ℕ) (s : ℕ) (old mid new : List (List ℕ)) → AddsToLists ts s old mid → AddsToLists us s mid new → AddsToLists (ts ++ us) s old new
 adds_both ts us s old mid new a b = record {
   long = b.long ∙ a.long;
   kept = λ t x i. b.kept t x (a.kept t x i);
@@ -103,8 +103,8 @@ adds_both ts us s old mid new a b = record {
 -- what leads where, of the first n nodes
 pub record Reversed (nodes : List MNode) (n : ℕ) (into : List (List ℕ)) : Type 0 where
   pub long : length into ≡ length nodes
-  pub real : (t s : ℕ) → IsAmong (get_or into t []) s → IsAmong (ways (node_moves nodes s)) t
-  pub all : (t s : ℕ) → s < n → IsAmong (ways (node_moves nodes s)) t → IsAmong (get_or into t []) s
+  pub real : (t s : ℕ) → IsAmong (get_or into t []) s → IsAmong (successors (node_moves nodes s)) t
+  pub all : (t s : ℕ) → s < n → IsAmong (successors (node_moves nodes s)) t → IsAmong (get_or into t []) s
 
 abbrev nobody : List ℕ
 nobody = []
@@ -121,25 +121,25 @@ reversed_none nodes into e = record {
   all = λ t s lt i. absurd (omega arith);
 }
 
-pub reversed_more : (nodes : List MNode) (n : ℕ) (old new : List (List ℕ)) → Reversed nodes n old → Adds (ways (node_moves nodes n)) n old new → Reversed nodes (n + 1) new
+pub reversed_more : (nodes : List MNode) (n : ℕ) (old new : List (List ℕ)) → Reversed nodes n old → AddsToLists (successors (node_moves nodes n)) n old new → Reversed nodes (n + 1) new
 reversed_more nodes n old new r a = record {
   long = a.long ∙ r.long;
-  real = λ t s i. ⊎_elim (λ j. r.real t s j) (λ j. subst (λ z. IsAmong (ways (node_moves nodes z)) t) j.1 j.0) (a.only t s i);
-  all = λ t s lt i. ⊎_elim (λ e. subst (λ z. IsAmong (get_or new t []) z) e (a.added t (subst (λ z. IsAmong (ways (node_moves nodes z)) t) (sym e) i))) (λ l. a.kept t s (r.all t s l i)) (last_or_less n s lt);
+  real = λ t s i. ⊎_elim (λ j. r.real t s j) (λ j. subst (λ z. IsAmong (successors (node_moves nodes z)) t) j.1 j.0) (a.only t s i);
+  all = λ t s lt i. ⊎_elim (λ e. subst (λ z. IsAmong (get_or new t []) z) e (a.added t (subst (λ z. IsAmong (successors (node_moves nodes z)) t) (sym e) i))) (λ l. a.kept t s (r.all t s l i)) (last_or_less n s lt);
 }
   where
     last_or_less : (n s : ℕ) → s < n + 1 → (n ≡ s) ⊎ (s < n)
     last_or_less n s lt = grind arith
 
 -- past the last node there is no way
-no_way : (nodes : List MNode) (s t : ℕ) → length nodes ≤ s → IsAmong (ways (node_moves nodes s)) t → ⊥
-no_way nodes s t le i = ⊎_elim (λ h. let lt : s < length nodes = h.1 in absurd (omega arith)) (λ h. subst (λ z. IsAmong (ways (move_of z)) t) h.1 i) (slice_get_cases nodes s).1
+no_successor : (nodes : List MNode) (s t : ℕ) → length nodes ≤ s → IsAmong (successors (node_moves nodes s)) t → ⊥
+no_successor nodes s t le i = ⊎_elim (λ h. let lt : s < length nodes = h.1 in absurd (omega arith)) (λ h. subst (λ z. IsAmong (successors (move_of z)) t) h.1 i) (slice_get_cases nodes s).1
 
 pub reversed_all : (nodes : List MNode) (into : List (List ℕ)) → Reversed nodes (length nodes) into → IsReverse nodes into
 reversed_all nodes into r = record {
   long = r.long;
   real = r.real;
-  all = λ t s lt i. ⊎_elim (λ l. r.all t s l i) (λ l. absurd (no_way nodes s t l i)) (less_or_not s (length nodes));
+  all = λ t s lt i. ⊎_elim (λ l. r.all t s l i) (λ l. absurd (no_successor nodes s t l i)) (less_or_not s (length nodes));
 }
   where
     less_or_not : (a b : ℕ) → (a < b) ⊎ (b ≤ a)
@@ -257,7 +257,7 @@ module _ (nodes : List MNode) where
     pub long : length alive ≡ length nodes
     pub ends : (n : ℕ) → get_or alive n false ≡ true → LeadsToEnd f n
     pub accepts : (n : ℕ) → n < length nodes → f n ≡ accept → get_or alive n false ≡ true
-    pub closed : (n : ℕ) → get_or alive n false ≡ true → IsAmong stack n ⊎ ((s : ℕ) → IsAmong (ways (f s)) n → get_or alive s false ≡ true)
+    pub closed : (n : ℕ) → get_or alive n false ≡ true → IsAmong stack n ⊎ ((s : ℕ) → IsAmong (successors (f s)) n → get_or alive s false ≡ true)
     pub below : (n : ℕ) → IsAmong stack n → n < length nodes
     pub marked : (n : ℕ) → IsAmong stack n → get_or alive n false ≡ true
 
@@ -271,9 +271,9 @@ module _ (nodes : List MNode) where
     marked = h.marked;
   }
 
-  leads_on : (s t : ℕ) → IsAmong (ways (f s)) t → LeadsToEnd f t → LeadsToEnd f s
+  leads_on : (s t : ℕ) → IsAmong (successors (f s)) t → LeadsToEnd f t → LeadsToEnd f s
   leads_on s t i (ks, e, w, a) =
-      let k = way_step (f s) t i in
+      let k = successor_step (f s) t i in
       (k.0 ∷ ks, e, (k.1, subst (λ z. Walk f z ks e) (sym k.2) w), a)
 
   pub spread_more : (into : List (List ℕ)) (old new : List Bool) (s s' : List ℕ) (n : ℕ) → IsReverse nodes into → Spread old (s ++ n ∷ []) → Marks (get_or into n []) old s new s' → Spread new s'
@@ -283,7 +283,7 @@ module _ (nodes : List MNode) where
     accepts = λ m lt e. k.kept m (h.accepts m lt e);
     closed = λ m q. ⊎_elim
         (λ e. ⊎_elim
-        (λ i. ⊎_elim (λ j. inl (k.still m j)) (λ j. ⊎_elim (λ same. inr (λ x w. k.marked x (r.all n x (h.below n at_top) (subst (λ z. IsAmong (ways (f x)) z) (sym same) w)))) (λ y. absurd y) j) (among-cases s (n ∷ []) m i))
+        (λ i. ⊎_elim (λ j. inl (k.still m j)) (λ j. ⊎_elim (λ same. inr (λ x w. k.marked x (r.all n x (h.below n at_top) (subst (λ z. IsAmong (successors (f x)) z) (sym same) w)))) (λ y. absurd y) j) (among-cases s (n ∷ []) m i))
         (λ all. inr (λ x w. k.kept x (all x w)))
         (h.closed m e))
         (λ i. inl i)
@@ -299,26 +299,26 @@ module _ (nodes : List MNode) where
       top = h.marked n at_top
 
       source_below : (m : ℕ) → IsAmong (get_or into n []) m → m < length nodes
-      source_below m i = ⊎_elim (λ l. l) (λ l. absurd (no_way nodes m n l (r.real n m i))) (less_or_not m (length nodes))
+      source_below m i = ⊎_elim (λ l. l) (λ l. absurd (no_successor nodes m n l (r.real n m i))) (less_or_not m (length nodes))
         where
           less_or_not : (a b : ℕ) → (a < b) ⊎ (b ≤ a)
           less_or_not a b = grind arith
 
   -- sources are in range
   pub sources_below : (into : List (List ℕ)) → IsReverse nodes into → (n m : ℕ) → IsAmong (get_or into n []) m → m < length nodes
-  sources_below into r n m i = ⊎_elim (λ l. l) (λ l. absurd (no_way nodes m n l (r.real n m i))) (less_or_not m (length nodes))
+  sources_below into r n m i = ⊎_elim (λ l. l) (λ l. absurd (no_successor nodes m n l (r.real n m i))) (less_or_not m (length nodes))
     where
       less_or_not : (a b : ℕ) → (a < b) ⊎ (b ≤ a)
       less_or_not a b = grind arith
 
-  pub spread_end : All (LeadsBelow (length nodes)) nodes → (alive : List Bool) → Spread alive [] → IsAlive nodes alive
+  pub spread_end : All (LeadsBelow (length nodes)) nodes → (alive : List Bool) → Spread alive [] → AreAliveFlags nodes alive
   spread_end range alive h = record { long = h.long; ends = h.ends; all = λ n lt l. back l.0 n l.1 lt l.2 l.3 }
     where
       back : (ks : List (Step ℕ)) (n e : ℕ) → n < length nodes → Walk f n ks e → f e ≡ accept → get_or alive n false ≡ true
       back [] n e lt w a = h.accepts n lt (ap f w ∙ a)
       back (k ∷ ks) n e lt w a =
-          let way = is_way w.0 in
-          let next : get_or alive (target_of k) false ≡ true = back ks (target_of k) e (way_below nodes range n lt (target_of k) way) w.1 a in
+          let way = is_successor w.0 in
+          let next : get_or alive (target_of k) false ≡ true = back ks (target_of k) e (successor_below nodes range n lt (target_of k) way) w.1 a in
           ⊎_elim (λ i. absurd i) (λ all. all n way) (h.closed (target_of k) next)
 
 pub read_any : {A : Type 0} (xs : List A) (n : ℕ) (d e : A) → n < length xs → get_or xs n d ≡ get_or xs n e

@@ -12,13 +12,13 @@ use Rattle.kex_model.proofs.Tables.{some_same, get_more, get_last}
 use Rattle.kex_machine.specs.declared.MNode.{MNode}
 use Rattle.kex_machine.specs.declared.MNode.TheVariants.{Accept, Read, Choice, Forced, Do, Skip}
 use Rattle.kex_trim.specs.Ways.{LeadsBelow}
-use Rattle.kex_machine.specs.Nodes.{Graph, IsBelow, IsInRange, IsTrimmed, UsesRegisters, effect_of, node_moves, move_of}
+use Rattle.kex_machine.specs.Nodes.{Graph, IsBelow, IsMachineInRange, IsTrimmed, UsesRegisters, effect_of, node_moves, move_of}
 use Rattle.kex_machine.proofs.Ranges.{trimmed_by_ends}
-use Rattle.kex_trim.specs.Ways.{IsAlive}
-use Rattle.kex_trim.specs.Trim.{Keeps, still_accepts, still_reads, still_chooses, only_left, only_right, still_forced, still_goes, IsTrimOf, IsNumbering, IsShrunk, choice_left, renumbered_move}
+use Rattle.kex_trim.specs.Ways.{AreAliveFlags}
+use Rattle.kex_trim.specs.Trim.{KeepsMove, still_accepts, still_reads, still_chooses, only_left, only_right, still_forced, still_goes, IsTrimOf, IsNumbering, IsShrunk, choice_left, renumbered_move}
 
 module _ {S T : Type 0} (R : S → T → Type 0) (Lost : S → Type 0) where
-  kept_ahead : {m : Move S} {n : Move T} {k : Step S} → Keeps R Lost m n → Allows m k → (Lost (target_of k) → ⊥) → (j : Step T) × Allows n j × SameLabel k j × R (target_of k) (target_of j)
+  kept_ahead : {m : Move S} {n : Move T} {k : Step S} → KeepsMove R Lost m n → Allows m k → (Lost (target_of k) → ⊥) → (j : Step T) × Allows n j × SameLabel k j × R (target_of k) (target_of j)
   kept_ahead still_accepts a h = elim a [ ]
   kept_ahead (still_reads {t = t} r) (reads {b = b} i) h = (took b t, reads i, refl, r)
   kept_ahead (still_chooses {t = t} r r') goes_left h = (chose to_left t, goes_left, refl, r)
@@ -30,7 +30,7 @@ module _ {S T : Type 0} (R : S → T → Type 0) (Lost : S → Type 0) where
   kept_ahead (still_forced {x = x} {t = t} r) goes_forced h = (chose x t, goes_forced, refl, r)
   kept_ahead (still_goes {e = e} {t = t} r) goes h = (went e t, goes, refl, r)
 
-  kept_back : {m : Move S} {n : Move T} {j : Step T} → Keeps R Lost m n → Allows n j → (k : Step S) × Allows m k × SameLabel k j × R (target_of k) (target_of j)
+  kept_back : {m : Move S} {n : Move T} {j : Step T} → KeepsMove R Lost m n → Allows n j → (k : Step S) × Allows m k × SameLabel k j × R (target_of k) (target_of j)
   kept_back still_accepts a = elim a [ ]
   kept_back (still_reads {s = s} r) (reads {b = b} i) = (took b s, reads i, refl, r)
   kept_back (still_chooses {s = s} r r') goes_left = (chose to_left s, goes_left, refl, r)
@@ -40,7 +40,7 @@ module _ {S T : Type 0} (R : S → T → Type 0) (Lost : S → Type 0) where
   kept_back (still_forced {x = x} {s = s} r) goes_forced = (chose x s, goes_forced, refl, r)
   kept_back (still_goes {e = e} {s = s} r) goes = (went e s, goes, refl, r)
 
-  kept_waits : {m : Move S} {n : Move T} → Keeps R Lost m n → IsWaiting m → IsWaiting n
+  kept_waits : {m : Move S} {n : Move T} → KeepsMove R Lost m n → IsWaiting m → IsWaiting n
   kept_waits still_accepts w = tt
   kept_waits (still_reads r) w = tt
   kept_waits (still_chooses r r') w = w
@@ -49,7 +49,7 @@ module _ {S T : Type 0} (R : S → T → Type 0) (Lost : S → Type 0) where
   kept_waits (still_forced r) w = w
   kept_waits (still_goes r) w = w
 
-  kept_waits_back : {m : Move S} {n : Move T} → Keeps R Lost m n → IsWaiting n → IsWaiting m
+  kept_waits_back : {m : Move S} {n : Move T} → KeepsMove R Lost m n → IsWaiting n → IsWaiting m
   kept_waits_back still_accepts w = tt
   kept_waits_back (still_reads r) w = tt
   kept_waits_back (still_chooses r r') w = w
@@ -58,7 +58,7 @@ module _ {S T : Type 0} (R : S → T → Type 0) (Lost : S → Type 0) where
   kept_waits_back (still_forced r) w = w
   kept_waits_back (still_goes r) w = w
 
-  kept_ends : {m : Move S} {n : Move T} → Keeps R Lost m n → m ≡ accept → n ≡ accept
+  kept_ends : {m : Move S} {n : Move T} → KeepsMove R Lost m n → m ≡ accept → n ≡ accept
   kept_ends still_accepts e = refl
   kept_ends (still_reads r) e = cc
   kept_ends (still_chooses r r') e = cc
@@ -67,7 +67,7 @@ module _ {S T : Type 0} (R : S → T → Type 0) (Lost : S → Type 0) where
   kept_ends (still_forced r) e = cc
   kept_ends (still_goes r) e = cc
 
-  kept_ends_back : {m : Move S} {n : Move T} → Keeps R Lost m n → n ≡ accept → m ≡ accept
+  kept_ends_back : {m : Move S} {n : Move T} → KeepsMove R Lost m n → n ≡ accept → m ≡ accept
   kept_ends_back still_accepts e = refl
   kept_ends_back (still_reads r) e = cc
   kept_ends_back (still_chooses r r') e = cc
@@ -77,7 +77,7 @@ module _ {S T : Type 0} (R : S → T → Type 0) (Lost : S → Type 0) where
   kept_ends_back (still_goes r) e = cc
 
 -- what is kept is alike
-pub alike_kept : {S T : Type 0} (f : S → Move S) (g : T → Move T) (R : S → T → Type 0) → ((s : S) (t : T) → R s t → Keeps R (λ q. LeadsToEnd f q → ⊥) (f s) (g t)) → ((s : S) (t t' : T) → R s t → R s t' → t ≡ t') → ((s s' : S) (t : T) → R s t → R s' t → s ≡ s') → Alike f g R
+pub alike_kept : {S T : Type 0} (f : S → Move S) (g : T → Move T) (R : S → T → Type 0) → ((s : S) (t : T) → R s t → KeepsMove R (λ q. LeadsToEnd f q → ⊥) (f s) (g t)) → ((s : S) (t t' : T) → R s t → R s t' → t ≡ t') → ((s s' : S) (t : T) → R s t → R s' t → s ≡ s') → Alike f g R
 alike_kept f g R keeps one one_back = record {
   ahead = λ s t k r a e. kept_ahead R (λ q. LeadsToEnd f q → ⊥) (keeps s t r) a (λ lost. lost e);
   back = λ s t j r a. kept_back R (λ q. LeadsToEnd f q → ⊥) (keeps s t r) a;
@@ -93,7 +93,7 @@ alike_kept f g R keeps one one_back = record {
 pub alike_trim : (g h : Graph) → IsTrimOf g h → (k : List ℕ) × Alike (node_moves g.nodes) (node_moves h.nodes) (HasNumber k)
 alike_trim g h t = (t.kept, alike_kept (node_moves g.nodes) (node_moves h.nodes) (HasNumber t.kept) t.keeps t.once (λ s s' n p q. some_same s s' (sym p ∙ q)))
 
-module _ (nodes : List MNode) (alive : List Bool) (kept numbers : List ℕ) (is : IsAlive nodes alive) (num : IsNumbering alive kept numbers) where
+module _ (nodes : List MNode) (alive : List Bool) (kept numbers : List ℕ) (is : AreAliveFlags nodes alive) (num : IsNumbering alive kept numbers) where
   abbrev f : ℕ → Move ℕ
   f n = node_moves nodes n
 
@@ -110,12 +110,12 @@ module _ (nodes : List MNode) (alive : List Bool) (kept numbers : List ℕ) (is 
   lost : (s : ℕ) → s < length nodes → get_or alive s false ≡ false → Lost s
   lost s lt e l = let bad : false ≡ true = sym e ∙ is.all s lt l in cc
 
-  pub choice : (a b : Bool) (l r : ℕ) → get_or alive l false ≡ a → get_or alive r false ≡ b → l < length nodes → r < length nodes → (LeadsToEnd f l ⊎ LeadsToEnd f r) → Keeps (HasNumber kept) Lost (choose l r) (choice_left a b (get_or numbers l 0) (get_or numbers r 0))
+  pub choice : (a b : Bool) (l r : ℕ) → get_or alive l false ≡ a → get_or alive r false ≡ b → l < length nodes → r < length nodes → (LeadsToEnd f l ⊎ LeadsToEnd f r) → KeepsMove (HasNumber kept) Lost (choose l r) (choice_left a b (get_or numbers l 0) (get_or numbers r 0))
   choice true true l r ea eb fl fr some = still_chooses (numbered_at l fl ea) (numbered_at r fr eb)
   choice true false l r ea eb fl fr some = only_left (numbered_at l fl ea) (lost r fr eb)
   choice false b l r ea eb fl fr some = only_right (lost l fl ea) (⊎_elim (λ h. absurd (lost l fl ea h)) (λ h. has_number r fr h) some)
 
-  by_move : (m : MNode) → LeadsBelow (length nodes) m → ((move_of (Some m) ≡ accept) ⊎ ((k : Step ℕ) × Allows (move_of (Some m)) k × LeadsToEnd f (target_of k))) → Keeps (HasNumber kept) Lost (move_of (Some m)) (renumbered_move alive numbers (move_of (Some m)))
+  by_move : (m : MNode) → LeadsBelow (length nodes) m → ((move_of (Some m) ≡ accept) ⊎ ((k : Step ℕ) × Allows (move_of (Some m)) k × LeadsToEnd f (target_of k))) → KeepsMove (HasNumber kept) Lost (move_of (Some m)) (renumbered_move alive numbers (move_of (Some m)))
   by_move Accept b h = still_accepts
   by_move (Read set t) b (inl e) = cc
   by_move (Read set t) b (inr (k, a, e)) = still_reads (has_number t b (side a e))
@@ -145,11 +145,11 @@ module _ (nodes : List MNode) (alive : List Bool) (kept numbers : List ℕ) (is 
       side goes e = e
 
   -- a node that is kept, by the new numbers
-  pub kept_node : All (LeadsBelow (length nodes)) nodes → (s : ℕ) → s < length nodes → LeadsToEnd f s → Keeps (HasNumber kept) Lost (f s) (renumbered_move alive numbers (f s))
+  pub kept_node : All (LeadsBelow (length nodes)) nodes → (s : ℕ) → s < length nodes → LeadsToEnd f s → KeepsMove (HasNumber kept) Lost (f s) (renumbered_move alive numbers (f s))
   kept_node range s lt (ks, e, w, a) =
       let m = get_or nodes s Accept in
       let here : f s ≡ move_of (Some m) = ap (λ z. move_of z) (slice_get-get_or nodes s Accept lt) in
-      subst (λ z. Keeps (HasNumber kept) Lost z (renumbered_move alive numbers z)) (sym here) (by_move m (All-get_or (LeadsBelow (length nodes)) nodes s Accept lt range) (steps here ks w))
+      subst (λ z. KeepsMove (HasNumber kept) Lost z (renumbered_move alive numbers z)) (sym here) (by_move m (All-get_or (LeadsBelow (length nodes)) nodes s Accept lt range) (steps here ks w))
     where
       steps : {v : Move ℕ} → f s ≡ v → (ks : List (Step ℕ)) → Walk f s ks e → (v ≡ accept) ⊎ ((k : Step ℕ) × Allows v k × LeadsToEnd f (target_of k))
       steps {v} here [] w = inl (sym here ∙ ap f w ∙ a)
@@ -210,7 +210,7 @@ pub leads_below : (ms : List MNode) (r : ℕ) → All (IsBelow (length ms) r) ms
 leads_below ms r h = λ k d lt. leads_of (length ms) r (get_or ms k d) (h k d lt)
 
 -- the machine that is made
-module _ (g : Graph) (range : IsInRange g.start g.nodes g.registers) (alive : List Bool) (kept numbers : List ℕ) (made : List MNode) (is : IsAlive g.nodes alive) (num : IsNumbering alive kept numbers) (shrunk : IsShrunk g.nodes made alive kept numbers) (starts : get_or alive g.start false ≡ true) where
+module _ (g : Graph) (range : IsMachineInRange g.start g.nodes g.registers) (alive : List Bool) (kept numbers : List ℕ) (made : List MNode) (is : AreAliveFlags g.nodes alive) (num : IsNumbering alive kept numbers) (shrunk : IsShrunk g.nodes made alive kept numbers) (starts : get_or alive g.start false ≡ true) where
   abbrev new : Graph
   new = record { start = get_or numbers g.start 0; nodes = made; stage = g.stage; registers = g.registers }
 
@@ -225,10 +225,10 @@ module _ (g : Graph) (range : IsInRange g.start g.nodes g.registers) (alive : Li
   at_number : (s : ℕ) → get_or alive s false ≡ true → HasNumber kept s (get_or numbers s 0)
   at_number s e = num.all s e
 
-  keeps_at : (s t : ℕ) → HasNumber kept s t → Keeps (HasNumber kept) (λ q. LeadsToEnd (node_moves g.nodes) q → ⊥) (node_moves g.nodes s) (node_moves made t)
+  keeps_at : (s t : ℕ) → HasNumber kept s t → KeepsMove (HasNumber kept) (λ q. LeadsToEnd (node_moves g.nodes) q → ⊥) (node_moves g.nodes s) (node_moves made t)
   keeps_at s t h =
       let a = num.each s t h in
-      subst (λ z. Keeps (HasNumber kept) (λ q. LeadsToEnd (node_moves g.nodes) q → ⊥) (node_moves g.nodes s) z) (sym (shrunk.each s t h)) (kept_node g.nodes alive kept numbers is num (leads_below g.nodes g.registers range.below) s (within s a) (is.ends s a))
+      subst (λ z. KeepsMove (HasNumber kept) (λ q. LeadsToEnd (node_moves g.nodes) q → ⊥) (node_moves g.nodes s) z) (sym (shrunk.each s t h)) (kept_node g.nodes alive kept numbers is num (leads_below g.nodes g.registers range.below) s (within s a) (is.ends s a))
 
   pub is_trim : IsTrimOf g new
   is_trim = record {
@@ -243,12 +243,12 @@ module _ (g : Graph) (range : IsInRange g.start g.nodes g.registers) (alive : Li
     registers = refl;
   }
 
-  below_forced : {v : Move ℕ} {x : Side} {t : ℕ} {Lost : ℕ → Type 0} → Keeps (HasNumber kept) Lost v (forced x t) → t < length kept
+  below_forced : {v : Move ℕ} {x : Side} {t : ℕ} {Lost : ℕ → Type 0} → KeepsMove (HasNumber kept) Lost v (forced x t) → t < length kept
   below_forced (only_left {s = s} r l) = slice_get_within kept _ s r
   below_forced (only_right {s' = s} l r) = slice_get_within kept _ s r
   below_forced (still_forced {s = s} r) = slice_get_within kept _ s r
 
-  below_by : (m : MNode) {v : Move ℕ} {Lost : ℕ → Type 0} → Keeps (HasNumber kept) Lost v (move_of (Some m)) → LeadsBelow (length kept) m
+  below_by : (m : MNode) {v : Move ℕ} {Lost : ℕ → Type 0} → KeepsMove (HasNumber kept) Lost v (move_of (Some m)) → LeadsBelow (length kept) m
   below_by Accept k = tt
   below_by (Read set n) (still_reads {s = s} r) = slice_get_within kept n s r
   below_by (Choice l r) (still_chooses {s = s} {s' = s'} a b) = (slice_get_within kept l s a, slice_get_within kept r s' b)
@@ -268,10 +268,10 @@ module _ (g : Graph) (range : IsInRange g.start g.nodes g.registers) (alive : Li
   uses_at : (s : ℕ) {e : Effect} {t : ℕ} → s < length g.nodes → node_moves g.nodes s ≡ go e t → UsesRegisters g.registers e
   uses_at s lt h = uses_by (get_or g.nodes s Accept) (All-get_or (IsBelow (length g.nodes) g.registers) g.nodes s Accept lt range.below) (sym (ap (λ z. move_of z) (slice_get-get_or g.nodes s Accept lt)) ∙ h)
 
-  kept_effect : {v : Move ℕ} {e : Effect} {t : ℕ} {Lost : ℕ → Type 0} → Keeps (HasNumber kept) Lost v (go e t) → (s : ℕ) × (v ≡ go e s)
+  kept_effect : {v : Move ℕ} {e : Effect} {t : ℕ} {Lost : ℕ → Type 0} → KeepsMove (HasNumber kept) Lost v (go e t) → (s : ℕ) × (v ≡ go e s)
   kept_effect (still_goes {s = s} r) = (s, refl)
 
-  all_below : (m : MNode) (s : ℕ) {Lost : ℕ → Type 0} → s < length g.nodes → Keeps (HasNumber kept) Lost (node_moves g.nodes s) (move_of (Some m)) → LeadsBelow (length kept) m → IsBelow (length kept) g.registers m
+  all_below : (m : MNode) (s : ℕ) {Lost : ℕ → Type 0} → s < length g.nodes → KeepsMove (HasNumber kept) Lost (node_moves g.nodes s) (move_of (Some m)) → LeadsBelow (length kept) m → IsBelow (length kept) g.registers m
   all_below Accept s lt k b = b
   all_below (Read set n) s lt k b = b
   all_below (Choice l r) s lt k b = b
@@ -279,7 +279,7 @@ module _ (g : Graph) (range : IsInRange g.start g.nodes g.registers) (alive : Li
   all_below (Do e n) s lt k b = let h = kept_effect k in (b, uses_at s lt h.1)
   all_below (Skip n) s lt k b = b
 
-  pub in_range : IsInRange (get_or numbers g.start 0) made g.registers
+  pub in_range : IsMachineInRange (get_or numbers g.start 0) made g.registers
   in_range = record {
     start_in = subst (λ z. get_or numbers g.start 0 < z) (sym shrunk.count) (slice_get_within kept (get_or numbers g.start 0) g.start (at_number g.start starts));
     below = subst (λ z. All (IsBelow z g.registers) made) (sym shrunk.count) (All-from_get_or (IsBelow (length kept) g.registers) made Accept below_at);
@@ -291,7 +291,7 @@ module _ (g : Graph) (range : IsInRange g.start g.nodes g.registers) (alive : Li
           let fits : t < length kept = omega (arith, shrunk.count) in
           let s = get_or kept t 0 in
           let at = slice_get-get_or kept t 0 fits in
-          let k = subst (λ z. Keeps (HasNumber kept) (λ q. LeadsToEnd (node_moves g.nodes) q → ⊥) (node_moves g.nodes s) (move_of z)) (slice_get-get_or made t Accept lt) (keeps_at s t at) in
+          let k = subst (λ z. KeepsMove (HasNumber kept) (λ q. LeadsToEnd (node_moves g.nodes) q → ⊥) (node_moves g.nodes s) (move_of z)) (slice_get-get_or made t Accept lt) (keeps_at s t at) in
           all_below (get_or made t Accept) s (within s (num.each s t at)) k (below_by (get_or made t Accept) k)
 
   pub is_trimmed : IsTrimmed new

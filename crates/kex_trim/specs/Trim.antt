@@ -9,14 +9,14 @@ use Rattle.kex_trim.specs.declared.TrimRefusal.{TrimRefusal}
 use Rattle.kex_trim.specs.declared.TrimRefusal.TheVariants.{NoText, Memory}
 
 -- the same, but that a choice with a lost side has only the other side left; R pairs what is kept
-pub data Keeps {S T : Type 0} (R : S → T → Type 0) (Lost : S → Type 0) : Move S → Move T → Type 0 where
-  still_accepts : Keeps R Lost accept accept
-  still_reads : {set : List Bool} {s : S} {t : T} → R s t → Keeps R Lost (read set s) (read set t)
-  still_chooses : {s s' : S} {t t' : T} → R s t → R s' t' → Keeps R Lost (choose s s') (choose t t')
-  only_left : {s s' : S} {t : T} → R s t → Lost s' → Keeps R Lost (choose s s') (forced to_left t)
-  only_right : {s s' : S} {t : T} → Lost s → R s' t → Keeps R Lost (choose s s') (forced to_right t)
-  still_forced : {x : Side} {s : S} {t : T} → R s t → Keeps R Lost (forced x s) (forced x t)
-  still_goes : {e : Effect} {s : S} {t : T} → R s t → Keeps R Lost (go e s) (go e t)
+pub data KeepsMove {S T : Type 0} (R : S → T → Type 0) (Lost : S → Type 0) : Move S → Move T → Type 0 where
+  still_accepts : KeepsMove R Lost accept accept
+  still_reads : {set : List Bool} {s : S} {t : T} → R s t → KeepsMove R Lost (read set s) (read set t)
+  still_chooses : {s s' : S} {t t' : T} → R s t → R s' t' → KeepsMove R Lost (choose s s') (choose t t')
+  only_left : {s s' : S} {t : T} → R s t → Lost s' → KeepsMove R Lost (choose s s') (forced to_left t)
+  only_right : {s s' : S} {t : T} → Lost s → R s' t → KeepsMove R Lost (choose s s') (forced to_right t)
+  still_forced : {x : Side} {s : S} {t : T} → R s t → KeepsMove R Lost (forced x s) (forced x t)
+  still_goes : {e : Effect} {s : S} {t : T} → R s t → KeepsMove R Lost (go e s) (go e t)
 
 -- h has just the nodes of g from which the end is reached
 pub record IsTrimOf (g h : Graph) : Type 0 where
@@ -26,14 +26,14 @@ pub record IsTrimOf (g h : Graph) : Type 0 where
   pub all : (s : ℕ) → s < length g.nodes → LeadsToEnd (node_moves g.nodes) s → (t : ℕ) × HasNumber kept s t
   pub once : (s t t' : ℕ) → HasNumber kept s t → HasNumber kept s t' → t ≡ t'
   pub start : HasNumber kept g.start h.start
-  pub keeps : (s t : ℕ) → HasNumber kept s t → Keeps (HasNumber kept) (λ q. LeadsToEnd (node_moves g.nodes) q → ⊥) (node_moves g.nodes s) (node_moves h.nodes t)
+  pub keeps : (s t : ℕ) → HasNumber kept s t → KeepsMove (HasNumber kept) (λ q. LeadsToEnd (node_moves g.nodes) q → ⊥) (node_moves g.nodes s) (node_moves h.nodes t)
   pub stage : h.stage ≡ g.stage
   pub registers : h.registers ≡ g.registers
 
 -- why the machine is refused
-abbrev pub IsCause : Graph → TrimRefusal → Type 0
-IsCause g NoText = LeadsToEnd (node_moves g.nodes) g.start → ⊥
-IsCause g Memory = Unit {0}
+abbrev pub IsTrimCause : Graph → TrimRefusal → Type 0
+IsTrimCause g NoText = LeadsToEnd (node_moves g.nodes) g.start → ⊥
+IsTrimCause g Memory = Unit {0}
 
 -- those that are alive have numbers
 pub record IsNumbering (alive : List Bool) (kept numbers : List ℕ) : Type 0 where

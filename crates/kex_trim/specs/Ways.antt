@@ -7,16 +7,16 @@ use Rattle.kex_model.specs.Survivors.{LeadsToEnd}
 use Rattle.kex_machine.specs.declared.MNode.{MNode}
 use Rattle.kex_machine.specs.declared.MNode.TheVariants.{Accept, Read, Choice, Forced, Do, Skip}
 use Rattle.kex_machine.specs.Nodes.{node_moves}
-use Rattle.kex_trim.specs.declared.alive.Ways.{Ways}
-use Rattle.kex_trim.specs.declared.alive.Ways.TheVariants.{NoWay, One, Two}
+use Rattle.kex_trim.specs.declared.alive.Successors.{Successors}
+use Rattle.kex_trim.specs.declared.alive.Successors.TheVariants.{NoWay, One, Two}
 
 -- where a move leads, by some step
-abbrev pub ways : {S : Type 0} → Move S → List S
-ways accept = []
-ways (read set t) = if list_any (λ b. b) set then t ∷ [] else []
-ways (choose l r) = l ∷ r ∷ []
-ways (forced x t) = t ∷ []
-ways (go e t) = t ∷ []
+abbrev pub successors : {S : Type 0} → Move S → List S
+successors accept = []
+successors (read set t) = if list_any (λ b. b) set then t ∷ [] else []
+successors (choose l r) = l ∷ r ∷ []
+successors (forced x t) = t ∷ []
+successors (go e t) = t ∷ []
 
 -- the node leads to numbers below the count
 abbrev pub LeadsBelow : ℕ → MNode → Type 0
@@ -27,16 +27,16 @@ LeadsBelow count (Forced b n) = n < count
 LeadsBelow count (Do e n) = n < count
 LeadsBelow count (Skip n) = n < count
 
-abbrev pub listed_ways : Ways → List ℕ
-listed_ways NoWay = []
-listed_ways (One t) = t ∷ []
-listed_ways (Two l r) = l ∷ r ∷ []
+abbrev pub listed_successors : Successors → List ℕ
+listed_successors NoWay = []
+listed_successors (One t) = t ∷ []
+listed_successors (Two l r) = l ∷ r ∷ []
 
 abbrev pub EachUnder : ℕ → List ℕ → Type 0
 EachUnder k ns = (n : ℕ) → IsAmong ns n → n < k
 
 -- s was added to the lists of ts
-pub record Adds (ts : List ℕ) (s : ℕ) (old new : List (List ℕ)) : Type 0 where
+pub record AddsToLists (ts : List ℕ) (s : ℕ) (old new : List (List ℕ)) : Type 0 where
   pub long : length new ≡ length old
   pub kept : (t x : ℕ) → IsAmong (get_or old t []) x → IsAmong (get_or new t []) x
   pub added : (t : ℕ) → IsAmong ts t → IsAmong (get_or new t []) s
@@ -45,8 +45,8 @@ pub record Adds (ts : List ℕ) (s : ℕ) (old new : List (List ℕ)) : Type 0 w
 -- for each node, those that lead to it
 pub record IsReverse (nodes : List MNode) (into : List (List ℕ)) : Type 0 where
   pub long : length into ≡ length nodes
-  pub real : (t s : ℕ) → IsAmong (get_or into t []) s → IsAmong (ways (node_moves nodes s)) t
-  pub all : (t s : ℕ) → t < length nodes → IsAmong (ways (node_moves nodes s)) t → IsAmong (get_or into t []) s
+  pub real : (t s : ℕ) → IsAmong (get_or into t []) s → IsAmong (successors (node_moves nodes s)) t
+  pub all : (t s : ℕ) → t < length nodes → IsAmong (successors (node_moves nodes s)) t → IsAmong (get_or into t []) s
 
 -- how many flags are false
 abbrev pub unmarked_count : List Bool → ℕ
@@ -66,7 +66,7 @@ pub record Marks (xs : List ℕ) (old : List Bool) (stack : List ℕ) (new : Lis
   pub sum : unmarked_count new + length stack' ≡ unmarked_count old + length stack
 
 -- the flags say from which nodes the end is reached
-pub record IsAlive (nodes : List MNode) (alive : List Bool) : Type 0 where
+pub record AreAliveFlags (nodes : List MNode) (alive : List Bool) : Type 0 where
   pub long : length alive ≡ length nodes
   pub ends : (n : ℕ) → get_or alive n false ≡ true → LeadsToEnd (node_moves nodes) n
   pub all : (n : ℕ) → n < length nodes → LeadsToEnd (node_moves nodes) n → get_or alive n false ≡ true

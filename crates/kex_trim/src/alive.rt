@@ -2,7 +2,7 @@
 
 ghost use Rattle.std.specs.Prelude.{◌≡◌, ◌<◌, ◌++◌, ◌∷◌, [], All, length, Some, IfOk, OnOk, slice_set, get_or, replicate};
 ghost use Rattle.kex_machine.specs.Nodes.{move_of};
-ghost use Rattle.kex_trim.specs.Ways.{Adds, EachUnder, IsAlive, IsReverse, LeadsBelow, Marks, listed_ways, ways};
+ghost use Rattle.kex_trim.specs.Ways.{AddsToLists, EachUnder, AreAliveFlags, IsReverse, LeadsBelow, Marks, listed_successors, successors};
 
 use kex_machine::{MNode, node_at};
 use std::alloc::{AllocError, Global};
@@ -10,28 +10,28 @@ use std::marker::Model;
 
 // Where a node leads.
 #[derive(Clone, Copy)]
-pub enum Ways {
+pub enum Successors {
     NoWay,
     One(u32),
     Two(u32, u32),
 }
 
-fn ways_of(node: &MNode) -> Ways
-    ensures { listed_ways result ≡ ways (move_of (Some node.now)) }
+fn successors_of(node: &MNode) -> Successors
+    ensures { listed_successors result ≡ successors (move_of (Some node.now)) }
 {
     match node {
-        MNode::Accept => Ways::NoWay,
+        MNode::Accept => Successors::NoWay,
         MNode::Read(set, next) => {
             if set.has_any() {
-                Ways::One(*next)
+                Successors::One(*next)
             } else {
-                Ways::NoWay
+                Successors::NoWay
             }
         }
-        MNode::Choice(left, right) => Ways::Two(*left, *right),
-        MNode::Forced(_, next) => Ways::One(*next),
-        MNode::Do(_, next) => Ways::One(*next),
-        MNode::Skip(next) => Ways::One(*next),
+        MNode::Choice(left, right) => Successors::Two(*left, *right),
+        MNode::Forced(_, next) => Successors::One(*next),
+        MNode::Do(_, next) => Successors::One(*next),
+        MNode::Skip(next) => Successors::One(*next),
     }
 }
 
@@ -90,14 +90,18 @@ fn no_sources(alloc: Global, count: usize) -> Result<Vec<Sources>, AllocError>
 }
 
 // The ways of a node are added to what leads where.
-fn add_ways(into: &mut Vec<Sources>, found: Ways, from: u32) -> Result<(), AllocError>
-    requires { EachUnder (length into.old.items) (listed_ways found) }
-    ensures { OnOk result (Adds (listed_ways found) from into.old.items into.new.items) }
+fn add_to_successors(
+    into: &mut Vec<Sources>,
+    found: Successors,
+    from: u32,
+) -> Result<(), AllocError>
+    requires { EachUnder (length into.old.items) (listed_successors found) }
+    ensures { OnOk result (AddsToLists (listed_successors found) from into.old.items into.new.items) }
 {
     match found {
-        Ways::NoWay => Ok(()),
-        Ways::One(next) => add_source(into, next, from),
-        Ways::Two(left, right) => {
+        Successors::NoWay => Ok(()),
+        Successors::One(next) => add_source(into, next, from),
+        Successors::Two(left, right) => {
             add_source(into, left, from)?;
             add_source(into, right, from)
         }
@@ -112,8 +116,8 @@ fn sources_of(alloc: Global, nodes: &[MNode]) -> Result<Vec<Sources>, AllocError
 {
     let mut into = no_sources(alloc, nodes.len())?;
     for n in 0..nodes.len() {
-        let found = ways_of(node_at(nodes, n));
-        add_ways(&mut into, found, n as u32)?;
+        let found = successors_of(node_at(nodes, n));
+        add_to_successors(&mut into, found, n as u32)?;
     }
     Ok(into)
 }
@@ -145,7 +149,7 @@ fn reach_all(alive: &mut Vec<bool>, stack: &mut Vec<u32>, nodes: &[u32]) -> Resu
 pub(crate) fn alive_nodes(alloc: Global, nodes: &[MNode]) -> Result<Vec<bool>, AllocError>
     requires below { All (LeadsBelow (length nodes.now)) nodes.now }
     requires count { length nodes.now < 4294967296 }
-    ensures { IfOk result (λ alive. IsAlive nodes.now alive.items) }
+    ensures { IfOk result (λ alive. AreAliveFlags nodes.now alive.items) }
 {
     let into = sources_of(alloc, nodes)?;
     let mut alive = vec![in alloc; false; nodes.len()]?;

@@ -5,7 +5,7 @@
 #![tactic(auto)]
 
 ghost use Rattle.std.specs.Prelude.{◌≡◌, IfOk, IfErr};
-ghost use Rattle.kex_trim.specs.Trim.{IsCause, IsTrimOf};
+ghost use Rattle.kex_trim.specs.Trim.{IsTrimCause, IsTrimOf};
 ghost use Rattle.kex_trim.specs.declared.TrimRefusal.TheVariants.{Memory};
 
 mod alive;
@@ -39,7 +39,7 @@ impl From<AllocError> for TrimRefusal {
 /// The machine without dead ends.
 pub fn trim(alloc: Global, machine: Machine) -> Result<Trimmed, TrimRefusal>
     ensures trimmed { IfOk result (λ t. IsTrimOf machine t) }
-    ensures refused { IfErr result (λ e. IsCause machine e) }
+    ensures refused { IfErr result (λ e. IsTrimCause machine e) }
 {
     let alive = alive_nodes(alloc, machine.nodes())?;
     if !alive[machine.start() as usize] {

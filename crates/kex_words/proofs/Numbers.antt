@@ -8,7 +8,7 @@ use Rattle.clap.specs.ValueTests.{is_unsigned_in}
 use Rattle.clap.specs.declared.builder.value_parser.ValueParser.TheVariants as vp
 use Rattle.clap.proofs.ValueTestLemmas.{accepts-Accepts, Accepts-accepts}
 use Rattle.clap.proofs.WalkLemmas.{both}
-use Rattle.kex_words.specs.Words.{number_within, number_of}
+use Rattle.kex_words.specs.Words.{number_within, bounded_number}
 
 abbrev value : Text → ℕ
 value t = digits_value 10 (without_leading_plus t)
@@ -23,10 +23,10 @@ within_is : (low high : ℕ) (t : Text) → Within low high t → is_unsigned_in
 within_is low high t w = Accepts-accepts false (vp.Unsigned low high) t w
 
 read-some : (low high v : ℕ) (t : Text) → IsNumeral 10 (without_leading_plus t) → value t < 2 ^ 64 → v ≡ value t
-    → number_within low high (Some v) ≡ number_of low high t
+    → number_within low high (Some v) ≡ bounded_number low high t
 read-some low high v t numeral small is = go (is_unsigned_in low high t) refl (nat_le low v && nat_le v high) refl where
   go : (b : Bool) → is_unsigned_in low high t ≡ b → (d : Bool) → (nat_le low v && nat_le v high) ≡ d
-      → number_within low high (Some v) ≡ number_of low high t
+      → number_within low high (Some v) ≡ bounded_number low high t
   go true x true y = rw (x, y) (ap Some is)
   go true x false y =
       let w = is_within low high t x in
@@ -41,16 +41,16 @@ read-some low high v t numeral small is = go (is_unsigned_in low high t) refl (n
   go false x false y = rw (x, y) refl
 
 read-none : (low high : ℕ) (t : Text) → ¬ (IsNumeral 10 (without_leading_plus t) × (value t < 2 ^ 64))
-    → number_within low high None ≡ number_of low high t
+    → number_within low high None ≡ bounded_number low high t
 read-none low high t refused = go (is_unsigned_in low high t) refl where
-  go : (b : Bool) → is_unsigned_in low high t ≡ b → number_within low high None ≡ number_of low high t
+  go : (b : Bool) → is_unsigned_in low high t ≡ b → number_within low high None ≡ bounded_number low high t
   go true x = let w = is_within low high t x in absurd (refused (w.0, w.1))
   go false x = rw x refl
 
 pub number-read : (E : Type 0) (G : List ℕ → Result ℕ E → Type 0) (low high : ℕ) (o : Option Text) (r : Option ℕ)
     → ((u : List ℕ) (x : Result ℕ E) → G u x → ParsesUnsigned 64 10 u x)
     → (o ≡ None → r ≡ None) → ((t : Text) → o ≡ Some t → ReadsOne G t r)
-    → number_within low high r ≡ option_and_then (number_of low high) o
+    → number_within low high r ≡ option_and_then (bounded_number low high) o
 number-read E G low high None r only none value = ap (number_within low high) (none refl)
 number-read E G low high (Some t) (Some v) only none value =
     let p = only t (Ok v) (value t refl) in read-some low high v t p.0.0 p.0.1 p.1

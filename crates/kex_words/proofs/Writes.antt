@@ -2,7 +2,7 @@
 use Rattle.std.proofs.Common.{◌≡◌, ◌++◌, ℕ, true, false, List, ◌∙◌, sym, subst, arith}
 use Rattle.std.specs.Prelude.{Option, Result, Ok, Err, IsErr, OnErr}
 use Rattle.kex_ports.proofs.Known.{appends-then, front-then, front-more}
-use Rattle.kex_words.specs.Gains.{GainsFront, GainsWhole, Tells, change}
+use Rattle.kex_words.specs.Gains.{GainsFront, GainsWhole, TellsGain, change}
 
 module _ {T E : Type 0} where
   pub on-err : (r : Result T E) (P : Type 0) → P → OnErr r P
@@ -23,7 +23,7 @@ front-after a b c m n k x y g t =
 module _ {E : Type 0} where
   -- A front of y, then, is a front of x, y and z.
   pub fails-after : (a b c : Option (List ℕ)) (m n k : ℕ) (x y z all : List ℕ) (r : Result (Unit {0}) E) → IsErr r
-      → all ≡ x ++ (y ++ z) → GainsWhole (change a b m n) x → GainsFront (change b c n k) y → Tells (change a c m k) all r
+      → all ≡ x ++ (y ++ z) → GainsWhole (change a b m n) x → GainsFront (change b c n k) y → TellsGain (change a c m k) all r
   fails-after a b c m n k x y z all (Ok done) is e g t = let bad : false ≡ true = is in cc
   fails-after a b c m n k x y z all (Err failed) is e g t =
       let f = front-after a b c m n k x (y ++ z) g (front-more b c y z t.0, t.1) in

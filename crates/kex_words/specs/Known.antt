@@ -22,8 +22,8 @@ abbrev pub over_rings : ℕ → Reach
 over_rings room = record usual_reach { rings = Some room }
 
 -- the line asks for this
-abbrev pub Asks : String → Asked → Type 0
-Asks line what = asked_of (words_of line) ≡ Some what
+abbrev pub LineAsks : String → Asked → Type 0
+LineAsks line what = asked_of (words_of line) ≡ Some what
 
 -- the line is out of form
 abbrev pub is_usage : String → Bool
@@ -37,43 +37,43 @@ abbrev pub to_run : String → Reach → Asked
 to_run name r = ToStream (running 4096) (codes name) r
 
 pub record ReadsRun : Type 0 where
-  pub plain : Asks "kex run p" (to_run "p" usual_reach)
-  pub with_options : Asks "kex run p --max-input 3 --block 1" (to_run "p" (reach 3 1))
-  pub options_first : Asks "kex run --block=1048576 --max-input=0 p" (to_run "p" (reach 0 1048576))
-  pub states : Asks "kex run p --states 7 --block 1" (ToStream (running 7) (codes "p") (reach 281474976710656 1))
-  pub largest : Asks "kex run p --max-input 281474976710656 --states 65536" (ToStream (running 65536) (codes "p") usual_reach)
-  pub rings : Asks "kex run p --rings 1" (to_run "p" (over_rings 1))
-  pub largest_rings : Asks "kex run --rings=1048576 p" (to_run "p" (over_rings 1048576))
+  pub plain : LineAsks "kex run p" (to_run "p" usual_reach)
+  pub with_options : LineAsks "kex run p --max-input 3 --block 1" (to_run "p" (reach 3 1))
+  pub options_first : LineAsks "kex run --block=1048576 --max-input=0 p" (to_run "p" (reach 0 1048576))
+  pub states : LineAsks "kex run p --states 7 --block 1" (ToStream (running 7) (codes "p") (reach 281474976710656 1))
+  pub largest : LineAsks "kex run p --max-input 281474976710656 --states 65536" (ToStream (running 65536) (codes "p") usual_reach)
+  pub rings : LineAsks "kex run p --rings 1" (to_run "p" (over_rings 1))
+  pub largest_rings : LineAsks "kex run --rings=1048576 p" (to_run "p" (over_rings 1048576))
   -- as `clap` reads numbers
-  pub plus_and_zeros : Asks "kex run p --max-input +3 --block 007" (to_run "p" (reach 3 7))
-  pub empty_name : Asks "kex run " (to_run "" usual_reach)
-  pub dash_for_a_name : Asks "kex run -" (to_run "-" usual_reach)
-  pub name_behind_dashes : Asks "kex run -- --block" (to_run "--block" usual_reach)
-  pub dashes_behind_name : Asks "kex run --block 3 p --" (to_run "p" (reach 281474976710656 3))
-  pub command_for_a_name : Asks "kex run check" (to_run "check" usual_reach)
-  pub help_for_a_name : Asks "kex run help" (to_run "help" usual_reach)
-  pub file_of_words : Asks "kex run @p" (to_run "@p" usual_reach)
+  pub plus_and_zeros : LineAsks "kex run p --max-input +3 --block 007" (to_run "p" (reach 3 7))
+  pub empty_name : LineAsks "kex run " (to_run "" usual_reach)
+  pub dash_for_a_name : LineAsks "kex run -" (to_run "-" usual_reach)
+  pub name_behind_dashes : LineAsks "kex run -- --block" (to_run "--block" usual_reach)
+  pub dashes_behind_name : LineAsks "kex run --block 3 p --" (to_run "p" (reach 281474976710656 3))
+  pub command_for_a_name : LineAsks "kex run check" (to_run "check" usual_reach)
+  pub help_for_a_name : LineAsks "kex run help" (to_run "help" usual_reach)
+  pub file_of_words : LineAsks "kex run @p" (to_run "@p" usual_reach)
   -- the first word is the program's own name, whatever it is
-  pub own_name : Asks "--help run p" (to_run "p" usual_reach)
+  pub own_name : LineAsks "--help run p" (to_run "p" usual_reach)
 
 pub record ReadsCheck : Type 0 where
-  pub plain : Asks "kex check p" (ToCheck (codes "p") 4096)
-  pub states : Asks "kex check --states 1 p" (ToCheck (codes "p") 1)
-  pub empty_name : Asks "kex check " (ToCheck [] 4096)
-  pub name_behind_dashes : Asks "kex check -- --states" (ToCheck (codes "--states") 4096)
-  pub command_for_a_name : Asks "kex check run" (ToCheck (codes "run") 4096)
+  pub plain : LineAsks "kex check p" (ToCheck (codes "p") 4096)
+  pub states : LineAsks "kex check --states 1 p" (ToCheck (codes "p") 1)
+  pub empty_name : LineAsks "kex check " (ToCheck [] 4096)
+  pub name_behind_dashes : LineAsks "kex check -- --states" (ToCheck (codes "--states") 4096)
+  pub command_for_a_name : LineAsks "kex check run" (ToCheck (codes "run") 4096)
 
 -- the commands on a program of one stage
 pub record ReadsSingles : Type 0 where
-  pub code : Asks "kex code p" (ToStream coding (codes "p") usual_reach)
-  pub act : Asks "kex act p --block 7" (ToStream acting (codes "p") (reach 281474976710656 7))
-  pub test : Asks "kex test --max-input 3 p" (ToStream testing (codes "p") (reach 3 65536))
+  pub code : LineAsks "kex code p" (ToStream coding (codes "p") usual_reach)
+  pub act : LineAsks "kex act p --block 7" (ToStream acting (codes "p") (reach 281474976710656 7))
+  pub test : LineAsks "kex test --max-input 3 p" (ToStream testing (codes "p") (reach 3 65536))
 
 pub record ReadsTrial : Type 0 where
-  pub plain : Asks "kex trial 2" (ToTry 2 65536 None)
-  pub none : Asks "kex trial --block 1 0" (ToTry 0 1 None)
-  pub most : Asks "kex trial 1000000" (ToTry 1000000 65536 None)
-  pub rings : Asks "kex trial 2 --rings 64" (ToTry 2 65536 (Some 64))
+  pub plain : LineAsks "kex trial 2" (ToTry 2 65536 None)
+  pub none : LineAsks "kex trial --block 1 0" (ToTry 0 1 None)
+  pub most : LineAsks "kex trial 1000000" (ToTry 1000000 65536 None)
+  pub rings : LineAsks "kex trial 2 --rings 64" (ToTry 2 65536 (Some 64))
 
 pub record RefusesWords : Type 0 where
   pub no_words : asked_of [] ≡ None

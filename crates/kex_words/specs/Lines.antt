@@ -6,8 +6,8 @@ use Rattle.kex_words.specs.declared.counts.Counts.{Counts}
 use Rattle.kex_words.specs.declared.counts.Summary.{Summary}
 use Rattle.kex_words.specs.declared.notes.Note.{Note}
 use Rattle.kex_words.specs.declared.notes.Note.TheVariants.{Nothing, Rejected, TooLong, Usage, Refused, ReadFault, WriteFault, ShelfFault, Memory}
-use Rattle.kex_words.specs.declared.refusals.Place.{Place}
-use Rattle.kex_words.specs.declared.refusals.Place.TheVariants.{Nowhere, At, Stage}
+use Rattle.kex_words.specs.declared.refusals.RefusalPlace.{RefusalPlace}
+use Rattle.kex_words.specs.declared.refusals.RefusalPlace.TheVariants.{Nowhere, At, Stage}
 use Rattle.kex_words.specs.declared.refusals.Refusal.{Refusal}
 use Rattle.kex_words.specs.declared.refusals.Rule.{Rule}
 use Rattle.kex_words.specs.declared.refusals.Rule.TheVariants as rule
@@ -29,17 +29,17 @@ title_of rule.NoText = codes "K13 NoText"
 title_of rule.OneStage = codes "K14 OneStage"
 title_of rule.TooManyStates = codes "K15 TooManyStates"
 
-abbrev pub end_of : Bool → List ℕ
-end_of at_end = if at_end then codes " (end)\n" else codes "\n"
+abbrev pub line_end : Bool → List ℕ
+line_end at_end = if at_end then codes " (end)\n" else codes "\n"
 
 abbrev pub rejected_line : ℕ → ℕ → Bool → List ℕ
 rejected_line stage at at_end =
-    concat (codes "rejected: stage " ∷ decimal stage ∷ codes " at byte " ∷ decimal at ∷ end_of at_end ∷ [])
+    concat (codes "rejected: stage " ∷ decimal stage ∷ codes " at byte " ∷ decimal at ∷ line_end at_end ∷ [])
 
 abbrev pub too_long_line : ℕ → ℕ → List ℕ
 too_long_line stage at = concat (codes "too long: stage " ∷ decimal stage ∷ codes " at byte " ∷ decimal at ∷ codes "\n" ∷ [])
 
-abbrev pub placed_line : Place → List ℕ → List ℕ
+abbrev pub placed_line : RefusalPlace → List ℕ → List ℕ
 placed_line Nowhere title = concat (codes "refused: " ∷ title ∷ codes "\n" ∷ [])
 placed_line (At line column) title =
     concat (codes "refused: " ∷ title ∷ codes " at line " ∷ decimal line ∷ codes " column " ∷ decimal column ∷ codes "\n" ∷ [])

@@ -5,8 +5,8 @@ use Rattle.kex_words.specs.Form.{kex_app}
 use Rattle.kex_words.specs.Words.{Asked, asked_by, asked_of, is_in_form}
 
 -- the words name this subcommand, and these are the matches of its arguments
-abbrev pub Names : List Text → Text → List Row → Type 0
-Names words name rows = subcommand_of kex_app words ≡ Some (name, rows)
+abbrev pub NamesSubcommand : List Text → Text → List Row → Type 0
+NamesSubcommand words name rows = subcommand_of kex_app words ≡ Some (name, rows)
 
 abbrev pub subcommands : List Text
 subcommands = codes "run" ∷ codes "check" ∷ codes "code" ∷ codes "act" ∷ codes "test" ∷ codes "trial" ∷ []
@@ -20,7 +20,7 @@ pub record AsksBySubcommand (words : List Text) (what : Asked) : Type 0 where
   pub name : Text
   pub rows : List Row
   pub known : IsOneOf subcommands name
-  pub named : Names words name rows
+  pub named : NamesSubcommand words name rows
   pub asks : what ≡ asked_by name rows
 
 abbrev pub AskBySubcommand : Type 0

@@ -6,7 +6,7 @@ use Rattle.clap.specs.Words.{Row, Text, first_of, one_of, subcommand_of, fault_o
 use Rattle.clap.specs.Walk.{is_empty}
 use Rattle.clap.specs.ValueTests.{is_unsigned_in}
 use Rattle.kex_words.specs.Form.{kex_app, most_block, most_input, most_lines, most_room, most_states}
-use Rattle.kex_words.specs.declared.asked.Limits.{Limits}
+use Rattle.kex_words.specs.declared.asked.RunLimits.{RunLimits}
 use Rattle.kex_words.specs.declared.asked.Rings.{Rings}
 use Rattle.kex_words.specs.declared.asked.Command.{Command}
 use Rattle.kex_words.specs.declared.asked.Command.TheVariants.{Stream, Check, Trial}
@@ -39,11 +39,11 @@ number_within low high None = None
 number_within low high (Some n) = if nat_le low n && nat_le n high then Some n else None
 
 -- the number that a text within the bounds spells
-abbrev pub number_of : ℕ → ℕ → Text → Option ℕ
-number_of low high text = if is_unsigned_in low high text then Some (digits_value 10 (without_leading_plus text)) else None
+abbrev pub bounded_number : ℕ → ℕ → Text → Option ℕ
+bounded_number low high text = if is_unsigned_in low high text then Some (digits_value 10 (without_leading_plus text)) else None
 
 abbrev pub number_at : Text → ℕ → ℕ → List Row → Option ℕ
-number_at id low high rows = option_and_then (number_of low high) (one_of id rows)
+number_at id low high rows = option_and_then (bounded_number low high) (one_of id rows)
 
 -- what the matches say of an argument, and else its default
 abbrev pub program_in : List Row → Text
@@ -95,7 +95,7 @@ abbrev pub room_of : Option Rings → Option ℕ
 room_of None = None
 room_of (Some rings) = Some rings.room
 
-abbrev pub reach_of : Limits → Reach
+abbrev pub reach_of : RunLimits → Reach
 reach_of limits = record { max_input = limits.max_input; block = limits.block; rings = room_of limits.rings }
 
 abbrev pub mode_of : Moded → Mode

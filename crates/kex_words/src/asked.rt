@@ -30,7 +30,7 @@ pub struct Rings {
 
 /// How many bytes are read, in all and at a time.
 #[derive(Clone, Copy, Debug, PartialEq, Eq)]
-pub struct Limits {
+pub struct RunLimits {
     /// The most bytes that a stage takes.
     pub max_input: u64,
     /// The bytes that one read asks for.
@@ -44,7 +44,7 @@ pub struct Limits {
 
 /// How many states a stage may have.
 #[derive(Clone, Copy, Debug, PartialEq, Eq)]
-pub struct States {
+pub struct StateLimit {
     pub most: u32,
     ghost some: { 1 ≤ most },
     ghost fits: { most ≤ 2 ^ 16 },
@@ -65,7 +65,7 @@ pub struct Lines {
 #[derive(Clone, Copy, Debug, PartialEq, Eq)]
 pub enum Mode {
     /// What they mean, by tables of at most so many states.
-    Run(States),
+    Run(StateLimit),
     /// Their code, in a program of one stage.
     Code,
     /// What they mean as the text of a code, in a program of one stage.
@@ -81,12 +81,12 @@ pub enum Command<'a> {
     Stream {
         mode: Mode,
         program: &'a str,
-        limits: Limits,
+        limits: RunLimits,
     },
     /// Asks whether the program breaks a rule, and reads no input.
     Check {
         program: &'a str,
-        states: States,
+        states: StateLimit,
     },
     /// Runs a program of its own on lines of its own.
     Trial(Lines),

@@ -6,7 +6,7 @@ ghost use Rattle.kex_ports.specs.Causes.{HasCause};
 ghost use Rattle.kex_ports.specs.Endings.{IsUnfinished};
 ghost use Rattle.kex_words.specs.Lines.{counts_line, trial_line};
 
-use crate::parts::{Part, write_parts};
+use crate::parts::{LinePart, write_parts};
 use kex_ports::{Failed, Sink};
 
 /// What a check counts of a program that breaks no rule.
@@ -41,13 +41,13 @@ pub fn write_counts<K: Sink>(sink: &mut K, counts: Counts) -> Result<(), Failed>
     write_parts(
         sink,
         &[
-            Part::Text("stages "),
-            Part::Number(counts.stages as u64),
-            Part::Text(" places "),
-            Part::Number(counts.places),
-            Part::Text(" states "),
-            Part::Number(counts.states),
-            Part::Text("\n"),
+            LinePart::Text("stages "),
+            LinePart::Number(counts.stages as u64),
+            LinePart::Text(" places "),
+            LinePart::Number(counts.places),
+            LinePart::Text(" states "),
+            LinePart::Number(counts.states),
+            LinePart::Text("\n"),
         ],
     )
 }
@@ -62,15 +62,15 @@ pub fn write_summary<K: Sink>(sink: &mut K, summary: Summary) -> Result<(), Fail
     write_parts(
         sink,
         &[
-            Part::Text("lines "),
-            Part::Number(summary.lines as u64),
-            Part::Text(" in "),
-            Part::Number(summary.made),
-            Part::Text(" out "),
-            Part::Number(summary.written),
-            Part::Text(" roll "),
-            Part::Number(summary.roll as u64),
-            Part::Text("\n"),
+            LinePart::Text("lines "),
+            LinePart::Number(summary.lines as u64),
+            LinePart::Text(" in "),
+            LinePart::Number(summary.made),
+            LinePart::Text(" out "),
+            LinePart::Number(summary.written),
+            LinePart::Text(" roll "),
+            LinePart::Number(summary.roll as u64),
+            LinePart::Text("\n"),
         ],
     )
 }

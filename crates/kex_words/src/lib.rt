@@ -14,10 +14,10 @@ mod reading;
 mod refusals;
 mod writing;
 
-pub use asked::{Command, Limits, Lines, Mode, Rings, States, WordsRefusal};
+pub use asked::{Command, Lines, Mode, Rings, RunLimits, StateLimit, WordsRefusal};
 pub use counts::{Counts, Summary, write_counts, write_summary};
 pub use known::{asks_by_subcommand, asks_in_form, reads_known_words};
 pub use notes::{Note, tell};
 pub use reading::read;
-pub use refusals::{Place, Refusal, Rule};
+pub use refusals::{Refusal, RefusalPlace, Rule};
 pub use writing::write_all;

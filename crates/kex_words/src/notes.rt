@@ -1,12 +1,12 @@
 // The line that a run leaves in the notes. It takes no memory.
 ghost use Rattle.std.specs.Prelude.{◌≡◌};
 ghost use Rattle.kex_ports.specs.Endings.{IsUnfinished, finishes_of};
-ghost use Rattle.kex_words.specs.Gains.{Gains, Tells, change_of};
-ghost use Rattle.kex_words.specs.Lines.{end_of, line_of, refused_line, rejected_line, too_long_line};
+ghost use Rattle.kex_words.specs.Gains.{Gains, TellsGain, change_of};
+ghost use Rattle.kex_words.specs.Lines.{line_end, line_of, refused_line, rejected_line, too_long_line};
 ghost use Rattle.kex_words.specs.declared.notes.Note.TheVariants.{Nothing};
 
-use crate::parts::{Part, write_parts, write_text};
-use crate::refusals::{Place, Refusal};
+use crate::parts::{LinePart, write_parts, write_text};
+use crate::refusals::{Refusal, RefusalPlace};
 use kex_ports::{Failed, Sink};
 
 /// The line of words that are out of form. The manual and the guide show it, and are compared with what the program writes.
@@ -31,83 +31,87 @@ pub enum Note {
 }
 
 fn end_of(at_end: bool) -> &'static str
-    ensures { result.now ≡ end_of at_end }
+    ensures { result.now ≡ line_end at_end }
 {
     if at_end { " (end)\n" } else { "\n" }
 }
 
 fn rejected<N: Sink>(sink: &mut N, stage: u32, at: u64, at_end: bool) -> Result<(), Failed>
-    ensures tells { Tells (change_of N.held N.faults sink.old sink.new)
+    ensures tells { TellsGain (change_of N.held N.faults sink.old sink.new)
         (rejected_line stage at at_end) result }
     ensures unfinished { IsUnfinished (N.ending sink.old) (N.ending sink.new) result }
 {
     write_parts(
         sink,
         &[
-            Part::Text("rejected: stage "),
-            Part::Number(stage as u64),
-            Part::Text(" at byte "),
-            Part::Number(at),
-            Part::Text(end_of(at_end)),
+            LinePart::Text("rejected: stage "),
+            LinePart::Number(stage as u64),
+            LinePart::Text(" at byte "),
+            LinePart::Number(at),
+            LinePart::Text(end_of(at_end)),
         ],
     )
 }
 
 fn too_long<N: Sink>(sink: &mut N, stage: u32, at: u64) -> Result<(), Failed>
-    ensures tells { Tells (change_of N.held N.faults sink.old sink.new)
+    ensures tells { TellsGain (change_of N.held N.faults sink.old sink.new)
         (too_long_line stage at) result }
     ensures unfinished { IsUnfinished (N.ending sink.old) (N.ending sink.new) result }
 {
     write_parts(
         sink,
         &[
-            Part::Text("too long: stage "),
-            Part::Number(stage as u64),
-            Part::Text(" at byte "),
-            Part::Number(at),
-            Part::Text("\n"),
+            LinePart::Text("too long: stage "),
+            LinePart::Number(stage as u64),
+            LinePart::Text(" at byte "),
+            LinePart::Number(at),
+            LinePart::Text("\n"),
         ],
     )
 }
 
 fn refused<N: Sink>(sink: &mut N, refusal: Refusal) -> Result<(), Failed>
-    ensures tells { Tells (change_of N.held N.faults sink.old sink.new)
+    ensures tells { TellsGain (change_of N.held N.faults sink.old sink.new)
         (refused_line refusal) result }
     ensures unfinished { IsUnfinished (N.ending sink.old) (N.ending sink.new) result }
 {
     let title = refusal.rule.title();
     match refusal.place {
-        Place::Nowhere => write_parts(
-            sink,
-            &[Part::Text("refused: "), Part::Text(title), Part::Text("\n")],
-        ),
-        Place::At { line, column } => write_parts(
+        RefusalPlace::Nowhere => write_parts(
             sink,
             &[
-                Part::Text("refused: "),
-                Part::Text(title),
-                Part::Text(" at line "),
-                Part::Number(line as u64),
-                Part::Text(" column "),
-                Part::Number(column as u64),
-                Part::Text("\n"),
+                LinePart::Text("refused: "),
+                LinePart::Text(title),
+                LinePart::Text("\n"),
             ],
         ),
-        Place::Stage(stage) => write_parts(
+        RefusalPlace::At { line, column } => write_parts(
             sink,
             &[
-                Part::Text("refused: "),
-                Part::Text(title),
-                Part::Text(" in stage "),
-                Part::Number(stage as u64),
-                Part::Text("\n"),
+                LinePart::Text("refused: "),
+                LinePart::Text(title),
+                LinePart::Text(" at line "),
+                LinePart::Number(line as u64),
+                LinePart::Text(" column "),
+                LinePart::Number(column as u64),
+                LinePart::Text("\n"),
+            ],
+        ),
+        RefusalPlace::Stage(stage) => write_parts(
+            sink,
+            &[
+                LinePart::Text("refused: "),
+                LinePart::Text(title),
+                LinePart::Text(" in stage "),
+                LinePart::Number(stage as u64),
+                LinePart::Text("\n"),
             ],
         ),
     }
 }
 
 fn line<N: Sink>(sink: &mut N, note: Note) -> Result<(), Failed>
-    ensures tells { Tells (change_of N.held N.faults sink.old sink.new)
+    ensures tells { TellsGain (change_of N.held N.faults sink.old sink.new)
         (line_of note) result }
     ensures unfinished { IsUnfinished (N.ending sink.old) (N.ending sink.new) result }
     ensures left { note ≡ Nothing → sink.new ≡ sink.old }

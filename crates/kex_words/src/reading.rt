@@ -6,8 +6,8 @@ ghost use Rattle.kex_words.specs.Words.Asked.{ToStream};
 ghost use Rattle.kex_words.specs.declared.asked.WordsRefusal.TheVariants.{Usage};
 
 use crate::asked::{
-    Command, Limits, Lines, MOST_BLOCK, MOST_INPUT, MOST_LINES, MOST_ROOM, MOST_STATES, Mode,
-    Rings, States, USUAL_BLOCK, USUAL_STATES, WordsRefusal,
+    Command, Lines, MOST_BLOCK, MOST_INPUT, MOST_LINES, MOST_ROOM, MOST_STATES, Mode, Rings,
+    RunLimits, StateLimit, USUAL_BLOCK, USUAL_STATES, WordsRefusal,
 };
 use crate::form::form;
 use clap::error::ErrorKind;
@@ -55,22 +55,22 @@ fn rings(matches: &ArgMatches) -> Option<Rings>
     Some(Rings { room: room as u32 })
 }
 
-fn limits(matches: &ArgMatches) -> Limits
+fn limits(matches: &ArgMatches) -> RunLimits
     ensures max_input { result.max_input ≡ (reach_in (rows_of (found_of matches.now))).max_input }
     ensures block { result.block ≡ (reach_in (rows_of (found_of matches.now))).block }
     ensures rings { room_of result.rings ≡ (reach_in (rows_of (found_of matches.now))).rings }
 {
-    Limits {
+    RunLimits {
         max_input: number(matches, "max-input", 0, MOST_INPUT).unwrap_or(MOST_INPUT),
         block: block(matches),
         rings: rings(matches),
     }
 }
 
-fn states(matches: &ArgMatches) -> States
+fn states(matches: &ArgMatches) -> StateLimit
     ensures { result.most ≡ states_in (rows_of (found_of matches.now)) }
 {
-    States {
+    StateLimit {
         most: number(matches, "states", 1, MOST_STATES).unwrap_or(USUAL_STATES) as u32,
     }
 }

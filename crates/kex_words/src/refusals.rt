@@ -49,7 +49,7 @@ impl Rule {
 
 /// Where in a program a rule is broken. Each rule is told with one kind of place.
 #[derive(Clone, Copy, Debug, PartialEq, Eq)]
-pub enum Place {
+pub enum RefusalPlace {
     /// K00, K09, K14: of the whole text.
     Nowhere,
     /// K01 to K08, K10. Both count from 1, the column in bytes.
@@ -61,5 +61,5 @@ pub enum Place {
 #[derive(Clone, Copy, Debug, PartialEq, Eq)]
 pub struct Refusal {
     pub rule: Rule,
-    pub place: Place,
+    pub place: RefusalPlace,
 }

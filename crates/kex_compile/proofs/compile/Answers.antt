@@ -3,7 +3,7 @@ use Rattle.kex_model.specs.Programs.{Grammar}
 use Rattle.kex_reader.specs.Spelling.{Spells, IsRefusedAs}
 use Rattle.kex_reader.specs.declared.refusal.ReadRefusal.{ReadRefusal}
 use Rattle.kex_reader.specs.declared.refusal.ReadRefusal.TheVariants as read
-use Rattle.kex_rules.specs.Rules.{IsRuled, IsCause}
+use Rattle.kex_rules.specs.Rules.{IsRuled, IsRuleCause}
 use Rattle.kex_rules.specs.declared.refusal.RuleRefusal.{RuleRefusal}
 use Rattle.kex_rules.specs.declared.refusal.RuleRefusal.TheVariants as rule
 use Rattle.kex_lowering.proofs.Causes.{if_err}
@@ -26,7 +26,7 @@ unread limits text (read.BadSet at) h = h
 unread limits text (read.OverLimit at) h = h
 unread limits text read.Memory h = tt
 
-unruled : (limits : Limits) (text : List ℕ) (P : Grammar) (e : RuleRefusal) → Spells text P → IsCause P e → IsRefused limits text (of_rule e)
+unruled : (limits : Limits) (text : List ℕ) (P : Grammar) (e : RuleRefusal) → Spells text P → IsRuleCause P e → IsRefused limits text (of_rule e)
 unruled limits text P (rule.TwiceDefined at) s h = (P, s, h)
 unruled limits text P (rule.Unknown at) s h = (P, s, h)
 unruled limits text P rule.NoStart s h = (P, s, h)

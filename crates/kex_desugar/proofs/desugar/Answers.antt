@@ -1,7 +1,7 @@
 use Rattle.std.proofs.Common.{◌≡◌, ◌<◌, ◌≤◌, [], Some, length, get_or, slice_get, ap₂, refl, sym, ap, subst, ◌∙◌, arith}
 use Rattle.std.proofs.lemmas.Option.{slice_get-get_or}
 use Rattle.kex_model.specs.Places.{at_start, by_rest, enter}
-use Rattle.kex_machine.specs.Nodes.{IsInRange}
+use Rattle.kex_machine.specs.Nodes.{IsMachineInRange}
 use Rattle.kex_desugar.specs.declared.spot.Spot.TheVariants.{Empty, On}
 use Rattle.kex_desugar.specs.Machines.{IsMachineOf}
 use Rattle.kex_desugar.specs.Spots.{IsReal, Real}
@@ -68,7 +68,7 @@ all_made c = omega (arith, c.places-test.false, c.len.ensures, c.len-in-places.e
 pub new-requires : goal.new-requires
 new-requires c =
     let small : c.args.max_places < 4294967296 = omega (arith, c.ranges.max_places.fits) in
-    subst (λ r. IsInRange c.in_ok-start.start c.places.nodes.items r) (sym c.registers.ensures.same)
+    subst (λ r. IsMachineInRange c.in_ok-start.start c.places.nodes.items r) (sym c.registers.ensures.same)
     (in_range c.args.program.now c.args.root c.args.max_places c.places.spots.keys c.places.nodes.items c.in_ok-start.start c.in_ok-bottom.bottom c.places.invariant (all_made (goal.at.new-requires c).After-places) c.registers.ensures.grammar small)
 
 pub returns-clause-machine : goal.returns-clause-machine

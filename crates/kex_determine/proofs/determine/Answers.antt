@@ -3,7 +3,7 @@ use Rattle.kex_model.specs.Labelled.{shape_of}
 use Rattle.kex_model.specs.States.{HasStates, HasMoreStates}
 use Rattle.std.specs.Global.{Vec}
 use Rattle.kex_machine.specs.Nodes.{Graph, node_moves}
-use Rattle.kex_paths.specs.Nexts.{Outline, IsFirst}
+use Rattle.kex_paths.specs.Nexts.{Outline, IsFirstTree}
 use Rattle.kex_machine.proofs.Nexts.{IsTrim}
 use Rattle.kex_machine.proofs.Ranges.{is_trim}
 use Rattle.kex_sst.specs.Tables.{Transducer, IsTable}
@@ -64,8 +64,8 @@ module _ (c : In_ok-rows) where
   abbrev made : Transducer
   made = record { classes = classes; initial = c.in_ok-tree.update; states = c.in_ok-rows.rows.items }
 
-  first : IsFirst g (Some c.in_ok-tree.ensures.first.0)
-  first = subst (λ z. IsFirst z (Some c.in_ok-tree.ensures.first.0)) c.in_ok-tree.ensures.machine c.in_ok-tree.ensures.first.1
+  first : IsFirstTree g (Some c.in_ok-tree.ensures.first.0)
+  first = subst (λ z. IsFirstTree z (Some c.in_ok-tree.ensures.first.0)) c.in_ok-tree.ensures.machine c.in_ok-tree.ensures.first.1
 
   few : length c.in_ok-rows.rows.items ≤ c.args.max_states
   few = omega (arith, c.in_ok-rows.ensures.filled.within, c.in_ok-rows.ensures.filled.numbered.count, c.in_ok-rows.ensures.within, c.in_ok-enter.ensures.most, c.new-states.ensures.most)

@@ -5,11 +5,11 @@ use Rattle.kex_model.specs.Alike.{Goes, accepts, reads_on, chooses, goes_on}
 use Rattle.kex_machine.specs.Nodes.{effect_of}
 use Rattle.kex_machine.specs.declared.MNode.TheVariants.{Read, Choice, Do, Skip}
 use Rattle.kex_desugar.specs.declared.spot.Spot.TheVariants.{Empty, On}
-use Rattle.kex_desugar.specs.declared.plan.Plan.{Plan}
-use Rattle.kex_desugar.specs.declared.plan.Plan.TheVariants.{Take, Fork, Act, Pass}
+use Rattle.kex_desugar.specs.declared.plan.NodePlan.{NodePlan}
+use Rattle.kex_desugar.specs.declared.plan.NodePlan.TheVariants.{Take, Fork, Act, Pass}
 use Rattle.kex_desugar.specs.declared.plan.Way.{Way}
 use Rattle.kex_desugar.specs.Plans.{frames, plan_move}
-use Rattle.kex_desugar.specs.Spots.{Names, IsAt, IsOnPlace, IsReal}
+use Rattle.kex_desugar.specs.Spots.{SpotIsPlace, IsAt, IsOnPlace, IsReal}
 use Rattle.kex_desugar.proofs.PlaceNumbers.{not_empty}
 use Rattle.kex_desugar.proofs.SpotWays.{at_later, begins_twice, err_as, had, node_by_plan, on_place, on_place_later}
 use Rattle.kex_desugar.proofs.node.node_of.Goals as goal
@@ -19,24 +19,24 @@ real : (c : In_ok-plan) (root : ℕ) → IsReal c.args.program.now root c.args.s
 real c root here = subst (λ s. IsReal c.args.program.now root c.args.spots.now.keys s) c.in-On.is here
 
 -- what is on top does what the plan says
-does : (c : In_ok-plan) (plan : Plan) → c.in_ok-plan.plan ≡ plan → (q : Place) → moves c.args.program.now (c.in-On.frame ∷ q) ≡ plan_move plan q
+does : (c : In_ok-plan) (plan : NodePlan) → c.in_ok-plan.plan ≡ plan → (q : Place) → moves c.args.program.now (c.in-On.frame ∷ q) ≡ plan_move plan q
 does c plan e q = c.in_ok-plan.ensures q ∙ ap (λ z. plan_move z q) e
 
 -- where the plan leads is a place
-leads : (c : In_ok-plan) (plan : Plan) (way : Way) (root : ℕ) → c.in_ok-plan.plan ≡ plan → ((q : Place) → (k : Step Place) × Allows (plan_move plan q) k × (target_of k ≡ frames way ++ q)) → IsReal c.args.program.now root c.args.spots.now.keys c.args.spot → IsOnPlace c.args.program.now root c.args.spots.now.keys way c.in-On.rest
+leads : (c : In_ok-plan) (plan : NodePlan) (way : Way) (root : ℕ) → c.in_ok-plan.plan ≡ plan → ((q : Place) → (k : Step Place) × Allows (plan_move plan q) k × (target_of k ≡ frames way ++ q)) → IsReal c.args.program.now root c.args.spots.now.keys c.args.spot → IsOnPlace c.args.program.now root c.args.spots.now.keys way c.in-On.rest
 leads c plan way root e step here = on_place c.args.program.now root c.args.spots.now.keys c.in-On.frame c.in-On.rest plan way (real c root here) (does c plan e) step
 
 pub returns-in_default-clause-node : goal.returns-in_default-clause-node
-returns-in_default-clause-node c = λ root here p h. empty p (subst (λ s. Names c.args.spots.now.keys s p) c.in_default.is h)
+returns-in_default-clause-node c = λ root here p h. empty p (subst (λ s. SpotIsPlace c.args.spots.now.keys s p) c.in_default.is h)
   where
-    empty : (p : Place) → Names c.args.spots.now.keys Empty p → Goes (IsAt c.args.spots.now.keys) (moves c.args.program.now p) accept
+    empty : (p : Place) → SpotIsPlace c.args.spots.now.keys Empty p → Goes (IsAt c.args.spots.now.keys) (moves c.args.program.now p) accept
     empty [] h = accepts
     empty (f ∷ q) (r, t, e, at, h) = absurd (not_empty f r e)
 
 pub returns-in-Take-clause-node : goal.returns-in-Take-clause-node
 returns-in-Take-clause-node c = λ root here p h.
     let top = (goal.at.returns-in-Take-clause-node c).In_ok-plan in
-    node_by_plan c.args.program.now root c.args.spots.now.keys c.in-On.frame c.in-On.rest (Take c.in-Take.set) (Read c.in-Take.set c.in-On.rest) (does top _ c.in-Take.is) (λ q at. reads_on at) p (subst (λ s. Names c.args.spots.now.keys s p) c.in-On.is h)
+    node_by_plan c.args.program.now root c.args.spots.now.keys c.in-On.frame c.in-On.rest (Take c.in-Take.set) (Read c.in-Take.set c.in-On.rest) (does top _ c.in-Take.is) (λ q at. reads_on at) p (subst (λ s. SpotIsPlace c.args.spots.now.keys s p) c.in-On.is h)
 
 pub returns-in_err-next-in-Act-clause-refused : goal.returns-in_err-next-in-Act-clause-refused
 returns-in_err-next-in-Act-clause-refused c =
@@ -54,7 +54,7 @@ returns-in_ok-next-in-Act-clause-node c = λ root here p h.
     let new = c.reach.new.spots.keys in
     node_by_plan c.args.program.now root new c.in-On.frame c.in-On.rest (Act c.in-Act.effect c.in-Act.way) (Do c.in-Act.effect c.in_ok-next-in-Act.next) (does top _ c.in-Act.is)
     (λ q at. goes_on (c.in_ok-next-in-Act.ensures.number q (had c.args.program.now root c.args.spots.now.keys new c.in-On.frame c.in-On.rest (real top root here) c.in_ok-next-in-Act.ensures.grown q at)))
-    p (subst (λ s. Names new s p) c.in-On.is h)
+    p (subst (λ s. SpotIsPlace new s p) c.in-On.is h)
 
 pub returns-in_err-next-in-Pass-clause-refused : goal.returns-in_err-next-in-Pass-clause-refused
 returns-in_err-next-in-Pass-clause-refused c =
@@ -72,7 +72,7 @@ returns-in_ok-next-in-Pass-clause-node c = λ root here p h.
     let new = c.reach-in-Pass.new.spots.keys in
     node_by_plan c.args.program.now root new c.in-On.frame c.in-On.rest (Pass c.in-Pass.way) (Skip c.in_ok-next-in-Pass.next) (does top _ c.in-Pass.is)
     (λ q at. goes_on (c.in_ok-next-in-Pass.ensures.number q (had c.args.program.now root c.args.spots.now.keys new c.in-On.frame c.in-On.rest (real top root here) c.in_ok-next-in-Pass.ensures.grown q at)))
-    p (subst (λ s. Names new s p) c.in-On.is h)
+    p (subst (λ s. SpotIsPlace new s p) c.in-On.is h)
 
 pub returns-in_err-left-in-Fork-clause-refused : goal.returns-in_err-left-in-Fork-clause-refused
 returns-in_err-left-in-Fork-clause-refused c =
@@ -108,4 +108,4 @@ returns-in_ok-right-in-Fork-clause-node c = λ root here p h.
     chooses
     (at_later mid new c.in_ok-right-in-Fork.ensures.grown (frames c.in-Fork.left ++ q) c.in_ok-left-in-Fork.left (c.in_ok-left-in-Fork.ensures.number q before))
     (c.in_ok-right-in-Fork.ensures.number q (at_later old mid c.in_ok-left-in-Fork.ensures.grown q c.in-On.rest before)))
-    p (subst (λ s. Names new s p) c.in-On.is h)
+    p (subst (λ s. SpotIsPlace new s p) c.in-On.is h)

@@ -5,7 +5,7 @@ use Rattle.std.proofs.lemmas.Option.{slice_get_read}
 use Rattle.kex_byteset.specs.Classes.{class_at, class_count}
 use Rattle.kex_model.specs.Labelled.{Shape}
 use Rattle.kex_sst.specs.Parts.{Change}
-use Rattle.kex_paths.specs.Nexts.{Outline, IsOfShape, HasClass, IsNext, Follows}
+use Rattle.kex_paths.specs.Nexts.{Outline, IsOfShape, HasClass, IsNext, FollowsTree}
 use Rattle.kex_determine.specs.Numbering.{NextIs, IsMet, AreNumbered, AreTransitionsTo, Refuses, IsMetIf, HasMoreFound}
 use Rattle.kex_determine.proofs.Transitions.{get_later, tree_at, next_on, next_met, one_more, one_again, transitions_as, err_as, refuses_as}
 use Rattle.kex_determine.proofs.rows.transitions_of.Goals as goal
@@ -21,7 +21,7 @@ module _ (c : After-alike_among) (xs : List (Shape ℕ)) (s : Shape ℕ) (n : Ar
   within : c.loop-class.class < class_count c.args.partition.now
   within = omega (arith, c.loop-class-test.true, c.classes-class-end.ensures.count)
 
-  module _ (next : Option (Outline × Change)) (same : IfSome next (λ m. m.0.machine ≡ c.index-tree.result.now.machine)) (goes : (u : Shape ℕ) (b : ℕ) → IsOfShape c.index-tree.result.now u → HasClass c.index-tree.result.now.machine c.loop-class.class b → MatchOption next (IsNext c.index-tree.result.now.machine b u None) (λ m. Follows m.0 b u m.1)) where
+  module _ (next : Option (Outline × Change)) (same : IfSome next (λ m. m.0.machine ≡ c.index-tree.result.now.machine)) (goes : (u : Shape ℕ) (b : ℕ) → IsOfShape c.index-tree.result.now u → HasClass c.index-tree.result.now.machine c.loop-class.class b → MatchOption next (IsNext c.index-tree.result.now.machine b u None) (λ m. FollowsTree m.0 b u m.1)) where
     next_is : (b : ℕ) → b < 256 → class_at c.args.partition.now b ≡ c.loop-class.class → NextIs c.args.workspace.now b s next
     next_is = next_on c.args.workspace.now c.args.partition.now c.requires.classes c.index-tree.result.now s met c.loop-class.class next same goes
 

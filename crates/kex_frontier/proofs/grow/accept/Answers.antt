@@ -1,13 +1,13 @@
 use Rattle.std.proofs.Common.{[], length, refl, sym, subst}
 use Rattle.kex_machine.specs.Nodes.{node_moves}
-use Rattle.kex_frontier.specs.Edges.{HasTrees, as_is}
+use Rattle.kex_frontier.specs.Edges.{HasCodeTrees, as_is}
 use Rattle.kex_frontier.proofs.AdvanceLoop.{tips_start, tips_left, tip_first, ends_start, ends_edge}
 use Rattle.kex_frontier.proofs.grow.accept.Goals as goal
 
 pub loop-edge-init : goal.loop-edge-init
 loop-edge-init c = record {
   tips = tips_start (length c.args.nodes.now) c.reverse.new.self.items c.args.tree.now.items c.reverse.ensures.items c.requires;
-  ends = λ t is. ends_start (node_moves c.args.nodes.now) t c.reverse.new.self.items c.args.tree.now.items c.clear.new.self c.reverse.ensures.items (subst (λ z. HasTrees as_is z []) (sym c.clear.ensures) (refl, refl)) is;
+  ends = λ t is. ends_start (node_moves c.args.nodes.now) t c.reverse.new.self.items c.args.tree.now.items c.clear.new.self c.reverse.ensures.items (subst (λ z. HasCodeTrees as_is z []) (sym c.clear.ensures) (refl, refl)) is;
 }
 
 pub end_edge-requires : goal.end_edge-requires

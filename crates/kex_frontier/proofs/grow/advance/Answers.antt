@@ -1,7 +1,7 @@
 use Rattle.std.proofs.Common.{◌<◌, [], length, refl, sym, subst}
 use Rattle.std.specs.Prelude.{IfSome}
 use Rattle.kex_machine.specs.Nodes.{node_moves}
-use Rattle.kex_frontier.specs.Edges.{HasTrees, as_is, with_fork}
+use Rattle.kex_frontier.specs.Edges.{HasCodeTrees, as_is, with_fork}
 use Rattle.kex_frontier.proofs.AdvanceLoop.{tips_start, tips_left, tip_first, grows_start, grows_tip, grows_fork}
 use Rattle.kex_frontier.proofs.grow.advance.Goals as goal
 
@@ -9,7 +9,7 @@ pub loop-edge-init : goal.loop-edge-init
 loop-edge-init c = record {
   long = c.requires.long;
   tips = tips_start (length c.args.nodes.now) c.reverse.new.self.items c.args.tree.now.items c.reverse.ensures.items c.requires.tree;
-  grows = λ t is. grows_start (node_moves c.args.nodes.now) c.args.byte c.args.tools.now.marks t c.reverse.new.self.items c.args.tree.now.items c.clear.new.self c.reverse.ensures.items (subst (λ z. HasTrees as_is z []) (sym c.clear.ensures) (refl, refl)) is;
+  grows = λ t is. grows_start (node_moves c.args.nodes.now) c.args.byte c.args.tools.now.marks t c.reverse.new.self.items c.args.tree.now.items c.clear.new.self c.reverse.ensures.items (subst (λ z. HasCodeTrees as_is z []) (sym c.clear.ensures) (refl, refl)) is;
 }
 
 pub advance_tip-requires-clause-below : goal.advance_tip-requires-clause-below

@@ -1,7 +1,7 @@
 use Rattle.std.proofs.Common.{◌≡◌, ◌∷◌, [], ◌++◌, ◌<◌, length, get_or, false, refl, ap, ◌∙◌, length-set, arith}
 use Rattle.kex_machine.specs.Nodes.{node_moves}
 use Rattle.kex_model.proofs.OpenAnswers.{empty_list}
-use Rattle.kex_frontier.specs.declared.visit.Task.TheVariants.{Visit, Front, Merge}
+use Rattle.kex_frontier.specs.declared.visit.VisitTask.TheVariants.{Visit, Front, Merge}
 use Rattle.kex_frontier.proofs.VisitLoop.{keeps_front, keeps_merge, keeps_meet, keeps_end, tasks_left, task_last, tasks_met, falls_meet}
 use Rattle.kex_frontier.proofs.visit.walk.Goals.{In-Visit}
 use Rattle.kex_frontier.proofs.visit.walk.Goals as goal

@@ -3,7 +3,7 @@ use Rattle.std.specs.Vec.{with_items}
 use Rattle.std.proofs.lemmas.List.{with_items_is}
 use Rattle.kex_action.specs.declared.sheet.Sheet.{Sheet}
 use Rattle.kex_action.proofs.Sheets.{marks_more}
-use Rattle.kex_moves.specs.Runs.{Stop, stop_behind, run_of}
+use Rattle.kex_moves.specs.Runs.{RunStop, stop_behind, run_of}
 use Rattle.kex_moves.specs.Known.{rows_of}
 use Rattle.kex_moves.proofs.SheetRuns.{reached_run, longer, stop_at}
 use Rattle.kex_moves.proofs.along.along.Goals as goal
@@ -15,7 +15,7 @@ returns-clause-sheet c =
     let spot = c.run-halt.result in
     let stop = run_of (rows_of c.args.edges.now) c.args.row c.args.piece.now in
     let same = with_items_is old.bytes buffer (omega (arith, c.run-halt.auto.buffer, ap length c.deref_mut.ensures.value, old.bytes.ok.0)) in
-    let ran = ap (λ (z : Stop). z.written) c.run-halt.ensures.ran ∙ ap (λ b. (stop_behind (take old.used b) stop).written) c.deref_mut.ensures.value in
+    let ran = ap (λ (z : RunStop). z.written) c.run-halt.ensures.ran ∙ ap (λ b. (stop_behind (take old.used b) stop).written) c.deref_mut.ensures.value in
     let more = longer old.used spot.used old.bytes.items buffer stop.written c.requires.sheet.used c.run-halt.ensures.used ran in (
       record {
         used = subst (λ b. spot.used ≤ length b) (sym same) c.run-halt.ensures.used;

@@ -2,8 +2,8 @@ use Rattle.std.proofs.Common.{◌≡◌, ◌∙◌, ◌+◌, ◌*◌, ◌-◌, �
 use Rattle.std.proofs.lemmas.List.Elements.{All-get_or}
 use Rattle.kex_moves.specs.declared.edge.Edge.{Edge}
 use Rattle.kex_moves.specs.Edges.{is_written, HasRoom}
-use Rattle.kex_moves.specs.Runs.{Step}
-use Rattle.kex_moves.specs.Trails.{IsStep, IsTrail}
+use Rattle.kex_moves.specs.Runs.{RunStep}
+use Rattle.kex_moves.specs.Trails.{IsWrittenEdge, IsTrail}
 use Rattle.kex_moves.proofs.Runs.{no_edge}
 use Rattle.kex_moves.proofs.Trails.{no_piece, trail_next, trail_on, edge_read, over_unwritten}
 use Rattle.kex_moves.proofs.follow.follow.Goals as goal
@@ -22,13 +22,13 @@ loop-at-preserved-then-e-row c =
     let back : e.next ≡ c.loop-at.row = c.if-e-row.true in
     let within : p.word < width = omega (arith, c.if-piece-width.false) in
     let lt : i < length edges = omega (arith, within, c.loop-at.invariant.row) in
-    let step : IsStep edges width c.loop-at.row p e = record { within = within; edge = edge_read edges i lt; written = sym c.is_written.ensures ∙ c.if-not-is_written.false } in
-    let from : Step = record { row = c.args.row; writes = take c.args.used c.args.buffer.now } in
-    let here : Step = record { row = c.loop-at.row; writes = take c.loop-at.used c.loop-at.buffer } in
-    let next : Step = record { row = e.next; writes = take (c.loop-at.used + e.adds) c.put.new.buffer } in
+    let step : IsWrittenEdge edges width c.loop-at.row p e = record { within = within; edge = edge_read edges i lt; written = sym c.is_written.ensures ∙ c.if-not-is_written.false } in
+    let from : RunStep = record { row = c.args.row; writes = take c.args.used c.args.buffer.now } in
+    let here : RunStep = record { row = c.loop-at.row; writes = take c.loop-at.used c.loop-at.buffer } in
+    let next : RunStep = record { row = e.next; writes = take (c.loop-at.used + e.adds) c.put.new.buffer } in
     let writes = take (c.loop-at.used + e.adds + count * e.adds) c.stay-count.new.buffer in
     let first = trail_next edges text width pieces at e from here next c.loop-at-test.true c.loop-at.invariant.trail step (ap (λ l. record { row = e.next; writes = l }) c.put.ensures.written) in
-    let rest = c.stay-count.ensures.trail edges width (subst (λ r. IsStep edges width r p e) (sym back) step) in
+    let rest = c.stay-count.ensures.trail edges width (subst (λ r. IsWrittenEdge edges width r p e) (sym back) step) in
     let left : length (take (length pieces - (at + 1)) (drop (at + 1) pieces)) ≡ length pieces - (at + 1) = omega (arith, length-take (length pieces - (at + 1)) (drop (at + 1) pieces), length-drop (at + 1) pieces) in
     record {
       at = omega (arith, c.stay-count.ensures.count, left, c.loop-at-test.true);
@@ -50,9 +50,9 @@ loop-at-preserved c =
     let lt : i < length edges = omega (arith, within, c.loop-at.invariant.row) in
     let written : is_written e.kind ≡ true = sym c.is_written.ensures ∙ c.if-not-is_written.false in
     let room : HasRoom (length text) e = All-get_or (λ (e : Edge). is_written e.kind ≡ true → HasRoom (length text) e) edges i no_edge lt c.requires.text written in
-    let from : Step = record { row = c.args.row; writes = take c.args.used c.args.buffer.now } in
-    let here : Step = record { row = c.loop-at.row; writes = take c.loop-at.used c.loop-at.buffer } in
-    let next : Step = record { row = e.next; writes = take (c.loop-at.used + e.adds) c.put.new.buffer } in
+    let from : RunStep = record { row = c.args.row; writes = take c.args.used c.args.buffer.now } in
+    let here : RunStep = record { row = c.loop-at.row; writes = take c.loop-at.used c.loop-at.buffer } in
+    let next : RunStep = record { row = e.next; writes = take (c.loop-at.used + e.adds) c.put.new.buffer } in
     record {
       at = omega (arith, c.loop-at-test.true);
       row = All-get_or (λ (e : Edge). is_written e.kind ≡ true → e.next + c.args.width ≤ length edges) edges i no_edge lt c.requires.next written;

@@ -1,7 +1,7 @@
 use Rattle.std.proofs.Common.{◌≡◌, ◌∙◌, ap, sym, subst, IfSome, true, arith}
 use Rattle.std.specs.Prelude.{slice_get}
 use Rattle.kex_moves.specs.Edges.{is_known}
-use Rattle.kex_moves.specs.Known.{IsRight, IsRowOf}
+use Rattle.kex_moves.specs.Known.{IsRight, IsPairRow}
 use Rattle.kex_moves.proofs.KnownEdges.{class_below, pair_known, known_put, right_at_row}
 use Rattle.kex_moves.proofs.learn.learn_edge.Goals as goal
 
@@ -21,5 +21,5 @@ returns-clause-known c =
     let e = c.in_ok-edge.edge in
     let stands = c.at_row.ensures.same in
     let o = c.in_ok-edge.ensures {u = tt} in
-    let row = o.grows.rows c.args.row p (subst (λ q. IsRowOf c.args.edges.now c.args.row q) (sym (c.pair_at-pair.ensures c.requires.row.0 c.requires.row.1)) c.requires.row.1) in
+    let row = o.grows.rows c.args.row p (subst (λ q. IsPairRow c.args.edges.now c.args.row q) (sym (c.pair_at-pair.ensures c.requires.row.0 c.requires.row.1)) c.requires.row.1) in
     known_put t g mid c.put.new.self c.args.row class p c.at_row.result o.known row (omega (arith, o.grows.width, c.class_of-class.ensures.within)) (right_at_row t g.nodes mid p class e c.at_row.result stands o.right) c.put.ensures.ordered c.put.ensures.put

@@ -8,7 +8,7 @@ use Rattle.kex_moves.specs.declared.edge.Edge.{Edge}
 use Rattle.kex_moves.specs.Edges.{is_known}
 use Rattle.kex_moves.specs.Walks.{Learns}
 use Rattle.kex_moves.specs.Known.{IsRight, IsLed, IsKnown}
-use Rattle.kex_moves.specs.Speech.{table_of}
+use Rattle.kex_moves.specs.Speech.{words_table}
 use Rattle.kex_moves.proofs.PlacedTexts.{map_ok}
 use Rattle.kex_moves.proofs.KnownEdges.{right_led}
 use Rattle.kex_moves.proofs.PieceRuns.{by_word}
@@ -16,14 +16,14 @@ use Rattle.kex_moves.proofs.learn.word_edge.Goals as goal
 
 pub returns-clause-known : goal.returns-clause-known
 returns-clause-known c =
-    let t = table_of c.args.words.now in
+    let t = words_table c.args.words.now in
     let g = c.args.machine.now in
     map_ok (λ (e : Edge). (t : Transducer) → 0 < length t.states → IsKnown t g c.args.edges.now → IsKnown t g c.lead.new.edges) (λ (e : Edge). IsKnown t g c.lead.new.edges) c.lead.result (λ e f. f t (omega arith) c.requires.known) c.lead.ensures.known
 
 pub returns-clause-right : goal.returns-clause-right
 returns-clause-right c =
     let words = c.args.words.now in
-    let t = table_of words in
+    let t = words_table words in
     let nodes = c.args.machine.now.nodes in
     let k = c.lead.new.edges in
     let p = c.args.pair in

@@ -1,6 +1,6 @@
 use Rattle.std.proofs.Common.{◌∙◌, ◌++◌, ◌∷◌, [], ◌<◌, length, get_or, sym, ap, arith, length-set}
 use Rattle.std.proofs.lemmas.List.{take_more, take_more_set}
-use Rattle.kex_moves.specs.declared.edge.Kind.TheVariants.{Keep}
+use Rattle.kex_moves.specs.declared.edge.EdgeKind.TheVariants.{Keep}
 use Rattle.kex_moves.proofs.Runs.{one_kind}
 use Rattle.kex_moves.proofs.run.keep.Goals as goal
 

@@ -1,5 +1,5 @@
 use Rattle.std.proofs.Common.{length, ◌-◌, ◌≡◌, ◌<◌, ◌≤◌, All, take}
-use Rattle.kex_moves.specs.declared.edge.Kind.TheVariants.{Keep}
+use Rattle.kex_moves.specs.declared.edge.EdgeKind.TheVariants.{Keep}
 use Rattle.kex_moves.specs.Runs.{HasKind}
 use Rattle.kex_moves.proofs.run.keep.Given as goal
 

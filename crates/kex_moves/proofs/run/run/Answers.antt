@@ -1,6 +1,6 @@
 use Rattle.std.proofs.Common.{◌≡◌, ◌∙◌, ◌-◌, ◌<◌, ◌≤◌, true, false, length, get_or, take, drop, ap, arith, length-take, length-drop}
 use Rattle.std.proofs.lemmas.Grind.{common_steps}
-use Rattle.kex_moves.specs.declared.edge.Kind.TheVariants.{Keep, Drop}
+use Rattle.kex_moves.specs.declared.edge.EdgeKind.TheVariants.{Keep, Drop}
 use Rattle.kex_moves.specs.Edges.{is_written}
 use Rattle.kex_moves.specs.Runs.{Rows}
 use Rattle.kex_moves.proofs.Runs.{edge_at, row_at, room_at, no_step, one_step, stops, goes_on, kept_from, dropped_from, first_kind, stops_at, not_written}

@@ -1,5 +1,5 @@
 use Rattle.std.proofs.Common.{◌<◌, length, get_or, arith}
-use Rattle.kex_moves.specs.declared.edge.Kind.TheVariants.{Drop}
+use Rattle.kex_moves.specs.declared.edge.EdgeKind.TheVariants.{Drop}
 use Rattle.kex_moves.proofs.Runs.{one_kind}
 use Rattle.kex_moves.proofs.run.skip.Goals as goal
 

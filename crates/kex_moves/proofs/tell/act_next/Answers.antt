@@ -1,6 +1,6 @@
 use Rattle.std.proofs.Common.{◌<◌, ap, refl, arith}
 use Rattle.kex_moves.specs.Edges.{is_known}
-use Rattle.kex_moves.specs.Speech.{table_of}
+use Rattle.kex_moves.specs.Speech.{words_table}
 use Rattle.kex_moves.proofs.KnownEdges.{pair_known}
 use Rattle.kex_moves.proofs.EdgeRuns.{right_at}
 use Rattle.kex_moves.proofs.PieceRuns.{said_acts, said_none}
@@ -8,7 +8,7 @@ use Rattle.kex_moves.proofs.tell.act_next.Goals as goal
 
 pub act-requires-clause-to : goal.act-requires-clause-to
 act-requires-clause-to c =
-    let t = table_of c.requires.known.0 in
+    let t = words_table c.requires.known.0 in
     let g = c.args.actor.now.machine in
     let k = c.args.edges.now in
     let lt : c.args.piece.word < k.width = omega (arith, c.if-piece-width.false, c.width.ensures) in

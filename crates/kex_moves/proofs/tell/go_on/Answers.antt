@@ -2,7 +2,7 @@ use Rattle.std.proofs.Common.{◌≡◌, ◌∙◌, ◌++◌, ◌∷◌, [], ◌
 use Rattle.std.proofs.lemmas.List.{take-take}
 use Rattle.kex_script.specs.Pieces.{code_over}
 use Rattle.kex_moves.specs.Known.{IsKnown}
-use Rattle.kex_moves.specs.Speech.{table_of, SaidOn}
+use Rattle.kex_moves.specs.Speech.{words_table, SaidOn}
 use Rattle.kex_moves.proofs.EdgeRuns.{one_more}
 use Rattle.kex_moves.proofs.Trails.{no_piece}
 use Rattle.kex_moves.proofs.PieceRuns.{spelled_more, said_from, said_more}
@@ -11,7 +11,7 @@ use Rattle.kex_moves.proofs.tell.go_on.Goals as goal
 pub act_next-requires-clause-row : goal.act_next-requires-clause-row
 act_next-requires-clause-row c =
     let words = c.requires.known.0 in
-    let known = subst (λ m. IsKnown (table_of words) m c.args.edges.now) (sym (c.in_ok-make_room.ensures {u = tt}).machine) c.requires.known.1 in
+    let known = subst (λ m. IsKnown (words_table words) m c.args.edges.now) (sym (c.in_ok-make_room.ensures {u = tt}).machine) c.requires.known.1 in
     let r = c.along-place.ensures.said words c.make_room.new.actor c.make_room.new.out.items known c.requires.row.0 c.requires.row.1 in
     (r.to, r.row_of)
 
@@ -27,7 +27,7 @@ returns-then-count-pieces-clause-said c = λ words known.
     let made = c.in_ok-make_room.ensures {u = tt} in
     let few : count ≤ 4096 = omega (arith, c.along-place.ensures.within, c.part_of.ensures.few) in
     let same : take count part ≡ take count c.args.pieces.now = ap (take count) c.part_of.ensures.front ∙ take-take count 4096 c.args.pieces.now few in
-    let along = c.along-place.ensures.said words mid x1 (subst (λ m. IsKnown (table_of words) m k) (sym made.machine) known) in
+    let along = c.along-place.ensures.said words mid x1 (subst (λ m. IsKnown (words_table words) m k) (sym made.machine) known) in
     let run = said_from k old mid mid c.args.sheet.now c.make_room.new.sheet c.along-place.new.sheet c.args.row c.along-place.result.row (code_over words (take count part)) x0 x1 x1 made.same along in
     subst (λ l. SaidOn k old mid c.args.sheet.now c.along-place.new.sheet c.args.row c.along-place.result.row (code_over words l) x0 x1) same run
 
@@ -47,7 +47,7 @@ returns-clause-said c = λ words known.
     let last = c.in_ok-last.ensures {u = tt} in
     let one = c.in_ok-last.last.count in
     let next = take one (get_or pieces count no_piece ∷ []) in
-    let here = subst (λ m. IsKnown (table_of words) m k) (sym made.machine) known in
+    let here = subst (λ m. IsKnown (words_table words) m k) (sym made.machine) known in
     let few : count ≤ 4096 = omega (arith, c.along-place.ensures.within, c.part_of.ensures.few) in
     let same : take count part ≡ take count pieces = ap (take count) c.part_of.ensures.front ∙ take-take count 4096 pieces few in
     let within : length part ≤ length pieces = omega (arith, ap length c.part_of.ensures.front, length-take 4096 pieces) in

@@ -1,6 +1,6 @@
 use Rattle.std.proofs.Common.{◌≡◌, ◌∙◌, ◌++◌, ◌∷◌, [], ◌+◌, ◌-◌, length, get_or, take, drop, refl, sym, ap, subst, arith, append-nil, length-take, length-drop}
 use Rattle.std.proofs.lemmas.List.{take_more, take_all}
-use Rattle.kex_script.specs.Pieces.{word_of, code_over}
+use Rattle.kex_script.specs.Pieces.{word_code, code_over}
 use Rattle.kex_moves.specs.Speech.{Performs}
 use Rattle.kex_moves.proofs.EdgeRuns.{part_more}
 use Rattle.kex_moves.proofs.Trails.{no_piece}
@@ -45,12 +45,12 @@ pieces-preserved-then-at-pieces c =
     let y = c.tell_some.new.out.items in
     let z = c.take_word.new.out.items in
     let some = performs_more c.args.actor.now c.pieces.actor c.tell_some.new.actor (code_over words (take at pieces)) (code_over words (take count part)) c.args.out.now.items c.pieces.out.items y (old.machine ∙ sym c.requires.machine) old.performs e.performs in
-    let one = performs_took c.tell_some.new.actor c.take_word.new.actor (word_of words next) y z took.took in
+    let one = performs_took c.tell_some.new.actor c.take_word.new.actor (word_code words next) y z took.took in
     let machine = e.machine ∙ old.machine ∙ sym c.requires.machine in
-    let all = performs_more c.args.actor.now c.tell_some.new.actor c.take_word.new.actor (code_over words (take at pieces) ++ code_over words (take count part)) (word_of words next) c.args.out.now.items y z machine some one in
+    let all = performs_more c.args.actor.now c.tell_some.new.actor c.take_word.new.actor (code_over words (take at pieces) ++ code_over words (take count part)) (word_code words next) c.args.out.now.items y z machine some one in
     let front = sym (spelled_more words (take at pieces) (take count part)) ∙ ap (code_over words) (part_more pieces part at n count refl e.within) in
-    let whole = ap (λ l. l ++ word_of words next) front
-    ∙ ap (λ l. code_over words (take here pieces) ++ l) (sym (append-nil (word_of words next)))
+    let whole = ap (λ l. l ++ word_code words next) front
+    ∙ ap (λ l. code_over words (take here pieces) ++ l) (sym (append-nil (word_code words next)))
     ∙ sym (spelled_more words (take here pieces) (next ∷ []))
     ∙ ap (code_over words) (sym (take_more pieces here no_piece c.if-at-pieces.true)) in
     record {

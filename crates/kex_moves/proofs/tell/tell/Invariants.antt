@@ -2,7 +2,7 @@ use Rattle.std.proofs.Common.{◌≡◌, ◌≤◌, ◌-◌, IsTrue, length, tak
 use Rattle.kex_action.specs.Sheets.{IsBlank}
 use Rattle.kex_script.specs.Pieces.{code_over}
 use Rattle.kex_moves.specs.Known.{IsKnown}
-use Rattle.kex_moves.specs.Speech.{table_of, Performs}
+use Rattle.kex_moves.specs.Speech.{words_table, Performs}
 use Rattle.kex_moves.proofs.tell.tell.Given as goal
 
 abbrev pub invariant-pieces : goal.invariant-pieces
@@ -10,7 +10,7 @@ invariant-pieces l = record {
   at : l.at ≤ length l.pieces;
   machine : l.actor.machine ≡ l.machine;
   usable : IsTrue l.actor.usable;
-  known : IsKnown (table_of l.words) l.machine l.edges;
+  known : IsKnown (words_table l.words) l.machine l.edges;
   blank : IsBlank l.sheet;
   room : length l.sheet.bytes.items ≡ 86033;
   performs : Performs l.fn.actor l.actor (code_over l.words (take l.at l.pieces)) l.fn.out.items l.out.items;

@@ -1,7 +1,7 @@
 use Rattle.std.proofs.Common.{◌∙◌, ◌-◌, ◌<◌, length, take, drop, refl, sym, ap, subst, arith, length-take, length-drop}
 use Rattle.kex_script.specs.Pieces.{code_over}
 use Rattle.kex_moves.specs.Known.{IsKnown}
-use Rattle.kex_moves.specs.Speech.{table_of, SaidOn}
+use Rattle.kex_moves.specs.Speech.{words_table, SaidOn}
 use Rattle.kex_moves.proofs.KnownEdges.{pair_known}
 use Rattle.kex_moves.proofs.EdgeRuns.{part_more}
 use Rattle.kex_moves.proofs.SheetRuns.{blank_sheet}
@@ -38,7 +38,7 @@ rounds-preserved c =
       sheet = e.sheet.0;
       room = e.sheet.1 ∙ old.room;
       said = λ words known.
-          let next = e.said words (subst (λ m. IsKnown (table_of words) m k) (sym old.machine) known) in
+          let next = e.said words (subst (λ m. IsKnown (words_table words) m k) (sym old.machine) known) in
           let all = said_more k c.args.actor.now c.rounds.actor c.go_on.new.actor c.args.sheet.now c.rounds.sheet c.go_on.new.sheet c.args.from c.rounds.row gone.row (code_over words (take at pieces)) (code_over words (take gone.count part)) c.args.out.now.items c.rounds.out.items c.go_on.new.out.items old.machine (old.said words known) next in
           let whole = sym (spelled_more words (take at pieces) (take gone.count part)) ∙ ap (code_over words) (part_more pieces part at n gone.count refl e.within) in
           subst (λ d. SaidOn k c.args.actor.now c.go_on.new.actor c.args.sheet.now c.go_on.new.sheet c.args.from gone.row d c.args.out.now.items c.go_on.new.out.items) whole all;
@@ -48,7 +48,7 @@ pub arrive-requires-clause-row : goal.arrive-requires-clause-row
 arrive-requires-clause-row c =
     let known = c.requires.known.1 in
     let r = c.rounds.invariant.said c.requires.known.0 known c.requires.row.0 c.requires.row.1 in
-    (r.to, r.row_of, subst (λ m. r.to.node < length m.nodes) (sym c.rounds.invariant.machine) (pair_known (table_of c.requires.known.0) c.args.actor.now.machine c.args.edges.now c.rounds.row r.to r.to known r.row_of refl).node)
+    (r.to, r.row_of, subst (λ m. r.to.node < length m.nodes) (sym c.rounds.invariant.machine) (pair_known (words_table c.requires.known.0) c.args.actor.now.machine c.args.edges.now c.rounds.row r.to r.to known r.row_of refl).node)
 
 pub returns-clause-row : goal.returns-clause-row
 returns-clause-row c = let r = c.rounds.invariant.said c.requires.known.0 c.requires.known.1 c.requires.row.0 c.requires.row.1 in (r.to, r.row_of)

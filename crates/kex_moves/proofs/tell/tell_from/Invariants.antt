@@ -3,7 +3,7 @@ use Rattle.kex_action.specs.Sheets.{IsSheet}
 use Rattle.kex_sst.specs.declared.parts.Part.{Part}
 use Rattle.kex_script.specs.Pieces.{code_over}
 use Rattle.kex_moves.specs.Known.{IsKnown}
-use Rattle.kex_moves.specs.Speech.{table_of, SaidOn}
+use Rattle.kex_moves.specs.Speech.{words_table, SaidOn}
 use Rattle.kex_moves.proofs.tell.tell_from.Given as goal
 
 abbrev pub invariant-rounds : goal.invariant-rounds
@@ -13,7 +13,7 @@ invariant-rounds l = record {
   usable : IsTrue l.actor.usable;
   sheet : IsSheet l.sheet;
   room : length l.sheet.bytes.items ≡ 86033;
-  said : (words : List (List Part)) → IsKnown (table_of words) l.fn.actor.machine l.edges → SaidOn l.edges l.fn.actor l.actor l.fn.sheet l.sheet l.fn.from l.row (code_over words (take l.at l.pieces)) l.fn.out.items l.out.items;
+  said : (words : List (List Part)) → IsKnown (words_table words) l.fn.actor.machine l.edges → SaidOn l.edges l.fn.actor l.actor l.fn.sheet l.sheet l.fn.from l.row (code_over words (take l.at l.pieces)) l.fn.out.items l.out.items;
 }
 
 abbrev pub decreases-rounds : goal.decreases-rounds

@@ -6,7 +6,7 @@ use Rattle.kex_action.specs.Holdings.{Rests, step_by}
 use Rattle.kex_action.proofs.NodeSteps.{move_at}
 use Rattle.kex_code.specs.declared.symbol.Symbol.TheVariants.{L}
 use Rattle.kex_sst.specs.declared.parts.Part.TheVariants.{Put}
-use Rattle.kex_moves.specs.Walks.{symbol_at, GoesOn}
+use Rattle.kex_moves.specs.Walks.{symbol_at, WalkGoesOn}
 use Rattle.kex_moves.proofs.ByteWalks.{Follows, own, own_none, follows_on, follows_more, below_at, learnt}
 use Rattle.kex_moves.proofs.walk.follow.Goals as goal
 use Rattle.kex_moves.proofs.walk.follow.Goals.{in-Read+in_ok-push, in_default-letter}
@@ -19,7 +19,7 @@ loop-part-preserved c =
     let rest = c.in-Some-2.rest in
     let mid = c.go_on.new.actions.items in
     let went = c.in_ok-rest.ensures {u = tt} in
-    let goes = subst (λ o. IfSome o (λ t. GoesOn g.nodes c.loop-part.at c.loop-part.actions.items t mid)) c.in-Some-2.is went.ok in
+    let goes = subst (λ o. IfSome o (λ t. WalkGoesOn g.nodes c.loop-part.at c.loop-part.actions.items t mid)) c.in-Some-2.is went.ok in
     let node = subst (λ o. IfSome o (λ t. t < length g.nodes)) c.in-Some-2.is went.within in
     let same = c.nodes.ensures.same in
     let here = move_at g.nodes c.nodes.result.now rest c.index-nodes-rest.result same node c.index-nodes-rest.is in
@@ -42,5 +42,5 @@ pub returns-clause-learns : goal.returns-clause-learns
 returns-clause-learns c =
     let g = c.args.machine.now in
     let went = c.in_ok-to.ensures {u = tt} in
-    let goes = subst (λ o. IfSome o (λ t. GoesOn g.nodes c.loop-part.at c.loop-part.actions.items t c.go_on-2.new.actions.items)) c.in-Some-3.is went.ok in
+    let goes = subst (λ o. IfSome o (λ t. WalkGoesOn g.nodes c.loop-part.at c.loop-part.actions.items t c.go_on-2.new.actions.items)) c.in-Some-3.is went.ok in
     learnt g.nodes c.args.from c.in-Some-3.to c.args.parts.now c.loop-part.part-index c.go_on-2.new.actions.items c.loop-part-test.false (follows_on g.nodes c.args.from c.loop-part.at c.in-Some-3.to c.args.parts.now c.loop-part.part-index c.loop-part.actions.items c.go_on-2.new.actions.items c.loop-part.invariant.follows goes)

@@ -1,7 +1,7 @@
 use Rattle.std.proofs.Common.{◌≡◌, ℕ, [], ◌∷◌, ◌++◌, Some, length, reverse, ap, subst, ◌∙◌, length-append, arith}
 use Rattle.kex_model.specs.Labelled.{Grown}
 use Rattle.kex_sst.specs.declared.parts.Part.{Part}
-use Rattle.kex_paths.specs.Forests.{LeadsTo}
+use Rattle.kex_paths.specs.Forests.{LeadsToTree}
 use Rattle.kex_paths.specs.Spellings.{IsSpelled, is_inner, tip_in, edges_from}
 use Rattle.kex_paths.proofs.Preorders.{spelled_start, spelled_more, spelled_as, next_edge}
 use Rattle.kex_paths.proofs.tree.gather.Goals as goal
@@ -15,7 +15,7 @@ loop-number-init c = λ a h.
     spelled_as c.args.edges.now a (is_inner c.args.root.now.node ∷ []) c.add_node.new.shape.items (tip_in c.args.root.now.node) c.add_node.new.leaves.items [] c.in_ok-regs.regs.items (edges_from c.args.root.now.node) c.add_node.new.pending.items shape leaves c.in_ok-regs.ensures.items pending (spelled_start c.args.edges.now c.args.root.now a h)
 
 -- what is spelled, with the edge that is the next
-spelled : (c : In-Some) (a : Grown Part ℕ) → LeadsTo c.args.edges.now (Some c.args.root.now) (Some a) → IsSpelled c.args.edges.now a c.loop-number.shape.items c.loop-number.leaves.items c.loop-number.regs.items (c.pop.new.self.items ++ c.in-Some.number ∷ [])
+spelled : (c : In-Some) (a : Grown Part ℕ) → LeadsToTree c.args.edges.now (Some c.args.root.now) (Some a) → IsSpelled c.args.edges.now a c.loop-number.shape.items c.loop-number.leaves.items c.loop-number.regs.items (c.pop.new.self.items ++ c.in-Some.number ∷ [])
 spelled c a h = subst (λ z. IsSpelled c.args.edges.now a c.loop-number.shape.items c.loop-number.leaves.items c.loop-number.regs.items z) c.in-Some.ensures.items (c.loop-number.invariant a h)
 
 pub edge_at-edge-requires : goal.edge_at-edge-requires

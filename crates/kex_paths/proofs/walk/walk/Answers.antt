@@ -6,7 +6,7 @@ use Rattle.kex_model.proofs.OpenAnswers.{empty_list}
 use Rattle.kex_machine.specs.Nodes.{node_moves}
 use Rattle.kex_machine.proofs.Sizes.{unseen}
 use Rattle.kex_sst.specs.declared.parts.Part.TheVariants.{Old}
-use Rattle.kex_paths.specs.declared.walk.Token.TheVariants.{Fork}
+use Rattle.kex_paths.specs.declared.walk.TreeToken.TheVariants.{Fork}
 use Rattle.kex_paths.specs.declared.walk.Task.{Task}
 use Rattle.kex_paths.specs.declared.walk.Task.TheVariants.{OldTree, OldEdge, Merge, Front, Visit}
 use Rattle.kex_paths.specs.Tasks.{IsTaskBelow, EachTask, ShapedTask, task_of, tokens_left}

@@ -1,5 +1,5 @@
 use Rattle.std.proofs.Common.{◌+◌, [], ◌++◌, length, sym, ap, ◌∙◌, subst, inl, inr}
-use Rattle.kex_tokens.specs.declared.token.Kind.TheVariants as kinds
+use Rattle.kex_tokens.specs.declared.token.TokenKind.TheVariants as kinds
 use Rattle.kex_model.specs.declared.program.Kind.TheVariants as nodes
 use Rattle.kex_reader.specs.Syntax.{One, Lit, Match, between}
 use Rattle.kex_reader.specs.Reading.{entries}

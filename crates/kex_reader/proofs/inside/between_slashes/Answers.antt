@@ -1,5 +1,5 @@
 use Rattle.std.proofs.Common.{ℕ, ◌≤◌, ◌∷◌, [], List, length, ap, arith, length-append}
-use Rattle.kex_tokens.specs.declared.token.Kind.TheVariants as kinds
+use Rattle.kex_tokens.specs.declared.token.TokenKind.TheVariants as kinds
 use Rattle.kex_tokens.specs.Lexemes.{IsToken}
 use Rattle.kex_reader.proofs.inside.between_slashes.Goals as goal
 

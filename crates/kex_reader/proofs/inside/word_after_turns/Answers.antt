@@ -1,5 +1,5 @@
 use Rattle.std.proofs.Common.{◌+◌, ◌++◌, true, false, length, ap, subst, inl}
-use Rattle.kex_tokens.specs.declared.token.Kind.TheVariants as kinds
+use Rattle.kex_tokens.specs.declared.token.TokenKind.TheVariants as kinds
 use Rattle.kex_reader.specs.Syntax.{Turns, atom, postfix, word}
 use Rattle.kex_reader.specs.Reading.{entries, with_pre}
 use Rattle.kex_reader.specs.Stands.{NotesLeast, begin_asks}

@@ -2,7 +2,7 @@ use Rattle.std.proofs.Common.{length, get_or, Err, sym, ap, ◌∙◌, subst, ar
 use Rattle.std.specs.List.{slice_range}
 use Rattle.std.proofs.lemmas.Option.{slice_get-get_or}
 use Rattle.kex_tokens.specs.declared.token.Token.{Token}
-use Rattle.kex_tokens.specs.declared.token.Kind.TheVariants as kinds
+use Rattle.kex_tokens.specs.declared.token.TokenKind.TheVariants as kinds
 use Rattle.kex_reader.specs.Syntax.{word}
 use Rattle.kex_reader.specs.Reading.{Begin, step, finish}
 use Rattle.kex_reader.specs.Checks.{program_checks}

@@ -2,7 +2,7 @@ use Rattle.std.proofs.Common.{◌≡◌, ◌∙◌, true, None, map, length, sym
 use Rattle.std.specs.Prelude.{is_ok}
 use Rattle.kex_pipe.proofs.Lines.{on-ok}
 use Rattle.kex_rings.specs.Ends.{AreBeside}
-use Rattle.kex_rings.specs.Looking.{EachLooks, AllUsable}
+use Rattle.kex_rings.specs.Looking.{EachLooks, AllRingSeatsUsable}
 use Rattle.kex_rings.specs.Lines.{Joined, HaveRings, AllGetOn}
 use Rattle.kex_rings.proofs.Line.{line-rounds}
 use Rattle.kex_rings.proofs.Rounds.{ended-by, joined-pairs, joined-kept, rings-kept, rings-out, each-looked, usable-looked, looks-length, joined-out, usable-out, all-get-on, get-on-out}
@@ -22,11 +22,11 @@ returns-clause-usable g c = on-ok c.carry_out.result (λ out.
     let w = c.work_all.new.seats in
     let mid = c.look_beside_all.new.seats in
     let done : is_ok c.work_all.result ≡ true = ap is_ok c.in_ok-work_all.was in
-    let work : EachLooks g.T.Turn c.args.room c.args.seats.now c.work_all.new.seats (map (λ s. s.took) c.work_all.new.seats) × AllUsable g.T.Turn c.work_all.new.seats = (c.work_all.ensures.looks done, c.work_all.ensures.usable done) in
+    let work : EachLooks g.T.Turn c.args.room c.args.seats.now c.work_all.new.seats (map (λ s. s.took) c.work_all.new.seats) × AllRingSeatsUsable g.T.Turn c.work_all.new.seats = (c.work_all.ensures.looks done, c.work_all.ensures.usable done) in
     let sizes = looks-length t c.args.room c.args.seats.now w (map (λ s. s.took) w) work.0 in
     let ended = ended-by mid (omega (arith, c.requires.some, sizes.0, c.look_beside_all.ensures.count)) in
     let o = out ended.front ended.last ended.is in
-    subst (λ z. AllUsable t z) (sym o.is) (usable-out t ended.front ended.last o.s' o.same_usable (subst (λ z. AllUsable t z) ended.is (usable-looked t w mid c.look_beside_all.ensures.looked work.1)))) c.carry_out.ensures.out
+    subst (λ z. AllRingSeatsUsable t z) (sym o.is) (usable-out t ended.front ended.last o.s' o.same_usable (subst (λ z. AllRingSeatsUsable t z) ended.is (usable-looked t w mid c.look_beside_all.ensures.looked work.1)))) c.carry_out.ensures.out
 
 pub returns-clause-joined : goal.returns-clause-joined
 returns-clause-joined g c = on-ok c.carry_out.result (λ out.
@@ -36,7 +36,7 @@ returns-clause-joined g c = on-ok c.carry_out.result (λ out.
     let w = c.work_all.new.seats in
     let mid = c.look_beside_all.new.seats in
     let done : is_ok c.work_all.result ≡ true = ap is_ok c.in_ok-work_all.was in
-    let work : EachLooks g.T.Turn c.args.room c.args.seats.now c.work_all.new.seats (map (λ s. s.took) c.work_all.new.seats) × AllUsable g.T.Turn c.work_all.new.seats = (c.work_all.ensures.looks done, c.work_all.ensures.usable done) in
+    let work : EachLooks g.T.Turn c.args.room c.args.seats.now c.work_all.new.seats (map (λ s. s.took) c.work_all.new.seats) × AllRingSeatsUsable g.T.Turn c.work_all.new.seats = (c.work_all.ensures.looks done, c.work_all.ensures.usable done) in
     let sizes = looks-length t room old w (map (λ s. s.took) w) work.0 in
     let joined = c.look_beside_all.ensures.beside room (joined-kept t room None None old w (map (λ s. s.took) w) tt (joined-pairs t room None old c.requires.joined) work.0) in
     let ended = ended-by mid (omega (arith, c.requires.some, sizes.0, c.look_beside_all.ensures.count)) in
@@ -64,7 +64,7 @@ returns-clause-turns g c = on-ok c.carry_out.result (λ out.
     let mid = c.look_beside_all.new.seats in
     let cs = c.gather.new.counts.items in
     let done : is_ok c.work_all.result ≡ true = ap is_ok c.in_ok-work_all.was in
-    let work : EachLooks g.T.Turn c.args.room c.args.seats.now c.work_all.new.seats (map (λ s. s.took) c.work_all.new.seats) × AllUsable g.T.Turn c.work_all.new.seats = (c.work_all.ensures.looks done, c.work_all.ensures.usable done) in
+    let work : EachLooks g.T.Turn c.args.room c.args.seats.now c.work_all.new.seats (map (λ s. s.took) c.work_all.new.seats) × AllRingSeatsUsable g.T.Turn c.work_all.new.seats = (c.work_all.ensures.looks done, c.work_all.ensures.usable done) in
     let sizes = looks-length t room old w (map (λ s. s.took) w) work.0 in
     let joined = c.look_beside_all.ensures.beside room (joined-kept t room None None old w (map (λ s. s.took) w) tt (joined-pairs t room None old c.requires.joined) work.0) in
     let ended = ended-by mid (omega (arith, c.requires.some, sizes.0, c.look_beside_all.ensures.count)) in
@@ -80,7 +80,7 @@ returns-clause-gets_on g c = on-ok c.carry_out.result (λ out.
     let mid = c.look_beside_all.new.seats in
     let cs = c.gather.new.counts.items in
     let done : is_ok c.work_all.result ≡ true = ap is_ok c.in_ok-work_all.was in
-    let work : EachLooks g.T.Turn c.args.room c.args.seats.now c.work_all.new.seats (map (λ s. s.took) c.work_all.new.seats) × AllUsable g.T.Turn c.work_all.new.seats = (c.work_all.ensures.looks done, c.work_all.ensures.usable done) in
+    let work : EachLooks g.T.Turn c.args.room c.args.seats.now c.work_all.new.seats (map (λ s. s.took) c.work_all.new.seats) × AllRingSeatsUsable g.T.Turn c.work_all.new.seats = (c.work_all.ensures.looks done, c.work_all.ensures.usable done) in
     let sizes = looks-length t room old w (map (λ s. s.took) w) work.0 in
     let ended = ended-by mid (omega (arith, c.requires.some, sizes.0, c.look_beside_all.ensures.count)) in
     let o = out ended.front ended.last ended.is in
@@ -96,7 +96,7 @@ returns-clause-rings g c = on-ok c.carry_out.result (λ out.
     let mid = c.look_beside_all.new.seats in
     let cs = c.gather.new.counts.items in
     let done : is_ok c.work_all.result ≡ true = ap is_ok c.in_ok-work_all.was in
-    let work : EachLooks g.T.Turn c.args.room c.args.seats.now c.work_all.new.seats (map (λ s. s.took) c.work_all.new.seats) × AllUsable g.T.Turn c.work_all.new.seats = (c.work_all.ensures.looks done, c.work_all.ensures.usable done) in
+    let work : EachLooks g.T.Turn c.args.room c.args.seats.now c.work_all.new.seats (map (λ s. s.took) c.work_all.new.seats) × AllRingSeatsUsable g.T.Turn c.work_all.new.seats = (c.work_all.ensures.looks done, c.work_all.ensures.usable done) in
     let sizes = looks-length t room old w (map (λ s. s.took) w) work.0 in
     let ended = ended-by mid (omega (arith, c.requires.some, sizes.0, c.look_beside_all.ensures.count)) in
     let o = out ended.front ended.last ended.is in

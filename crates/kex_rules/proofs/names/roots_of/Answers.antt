@@ -2,7 +2,7 @@ use Rattle.std.proofs.Common.{◌≡◌, ◌<◌, ◌+◌, ◌++◌, ◌∷◌, 
 use Rattle.std.proofs.lemmas.List.{take_more}
 use Rattle.kex_model.specs.declared.program.Definition.{Definition}
 use Rattle.kex_rules.specs.Rules.{IsTwice}
-use Rattle.kex_rules.specs.Tables.{HasRoots, IsLeast}
+use Rattle.kex_rules.specs.Tables.{HasRoots, IsLeastOffset}
 use Rattle.kex_rules.proofs.DefinedNames.{roots_more, roots_kept, twice_more, twice_same, first_none, first_some, name_fits, whole}
 use Rattle.kex_rules.proofs.Marks.{read_any}
 use Rattle.kex_rules.proofs.names.roots_of.Goals as goal
@@ -31,11 +31,11 @@ loop-definition-preserved c =
     elim c.match-index.branch [
       | in-Some w ↦ record {
         roots = subst (λ z. HasRoots z names c.match-index.roots.items) (sym split) (subst (λ z. HasRoots (before ++ d ∷ []) names z.items) (sym w.roots-is) (roots_kept before d names roots w.in-Some.field-0 h (read ∙ w.in-Some.is)));
-        twice = subst (λ z. IsLeast (IsTwice z) c.match-index.twice) (sym split) (subst (λ z. IsLeast (IsTwice (before ++ d ∷ [])) z) (sym (w.twice-is ∙ w.lowest-twice.ensures)) (twice_more before d c.loop-definition.twice (first_some before d.name w.in-Some.field-0 (sym (h.each d.name) ∙ read ∙ w.in-Some.is)) c.loop-definition.invariant.twice));
+        twice = subst (λ z. IsLeastOffset (IsTwice z) c.match-index.twice) (sym split) (subst (λ z. IsLeastOffset (IsTwice (before ++ d ∷ [])) z) (sym (w.twice-is ∙ w.lowest-twice.ensures)) (twice_more before d c.loop-definition.twice (first_some before d.name w.in-Some.field-0 (sym (h.each d.name) ∙ read ∙ w.in-Some.is)) c.loop-definition.invariant.twice));
       }
       | in-None w ↦ record {
         roots = subst (λ z. HasRoots z names c.match-index.roots.items) (sym split) (subst (λ z. HasRoots (before ++ d ∷ []) names z.items) (sym w.roots-is) (roots_more before d names roots lt h (read ∙ w.in-None.is)));
-        twice = subst (λ z. IsLeast (IsTwice z) c.match-index.twice) (sym split) (subst (λ z. IsLeast (IsTwice (before ++ d ∷ [])) z) (sym w.twice-is) (twice_same before d c.loop-definition.twice (first_none before d.name (sym (h.each d.name) ∙ read ∙ w.in-None.is)) c.loop-definition.invariant.twice));
+        twice = subst (λ z. IsLeastOffset (IsTwice z) c.match-index.twice) (sym split) (subst (λ z. IsLeastOffset (IsTwice (before ++ d ∷ [])) z) (sym w.twice-is) (twice_same before d c.loop-definition.twice (first_none before d.name (sym (h.each d.name) ∙ read ∙ w.in-None.is)) c.loop-definition.invariant.twice));
       }
     ]
 
@@ -43,4 +43,4 @@ pub returns-in-None-twice-clause-once : goal.returns-in-None-twice-clause-once
 returns-in-None-twice-clause-once c =
     let definitions = c.definitions-definitions.result.now in
     let end : take c.loop-definition.definition-index definitions ≡ c.args.program.now.definitions = whole definitions c.loop-definition.definition-index c.loop-definition-test.false ∙ c.definitions-definitions.ensures in
-    subst (λ z. IsLeast (IsTwice z) None) end (subst (λ z. IsLeast (IsTwice (take c.loop-definition.definition-index definitions)) z) c.in-None-twice.is c.loop-definition.invariant.twice)
+    subst (λ z. IsLeastOffset (IsTwice z) None) end (subst (λ z. IsLeastOffset (IsTwice (take c.loop-definition.definition-index definitions)) z) c.in-None-twice.is c.loop-definition.invariant.twice)

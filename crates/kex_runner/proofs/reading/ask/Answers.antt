@@ -2,7 +2,7 @@ use Rattle.std.proofs.Common.{false, ◌-◌, ◌++◌, [], length, get_or, sym,
 use Rattle.std.proofs.lemmas.Bool.{ltb-true}
 use Rattle.std.proofs.lemmas.List.{get_or_read, length-map}
 use Rattle.std.proofs.Math.ListN.{get_or-map}
-use Rattle.kex_runner.specs.declared.reading.Note.{Note}
+use Rattle.kex_runner.specs.declared.reading.NotedUpdate.{NotedUpdate}
 use Rattle.kex_runner.specs.declared.reading.Reading.{Reading}
 use Rattle.kex_runner.specs.Noting.{settled_of, spelled_back, update_of, updates_of}
 use Rattle.kex_runner.proofs.Pieces.{spelled_back-append}
@@ -25,6 +25,6 @@ returns c =
     let s = c.args.script.now in
     let notes = c.args.notes.now in
     let k = c.args.after - 1 in
-    let none : Note = record { lists = 0; byte = 0; stays = false } in
-    let note : Note = get_or notes k none in
+    let none : NotedUpdate = record { lists = 0; byte = 0; stays = false } in
+    let note : NotedUpdate = get_or notes k none in
     asked_before s (settled_of s c.args.base.now) (updates_of s notes) c.args.reading.now c.args.after k c.args.register (update_of s none) (update_of s note) (record { list = c.given.result; after = k; byte = note.byte }) (omega (arith, c.if-after-eq0.false)) (omega (arith, c.requires, length-map notes (λ n. update_of s n))) (sym (get_or-map (λ n. update_of s n) notes k none)) refl refl c.given.ensures

@@ -4,7 +4,7 @@ use Rattle.std.proofs.lemmas.List.Elements.{All-more}
 use Rattle.std.proofs.lemmas.Option.{slice_get-get_or, slice_get_past}
 use Rattle.kex_byteset.specs.Classes.{class_at, class_count}
 use Rattle.kex_runner.specs.declared.quiet.Quiet.{Quiet}
-use Rattle.kex_runner.specs.declared.reading.Note.{Note}
+use Rattle.kex_runner.specs.declared.reading.NotedUpdate.{NotedUpdate}
 use Rattle.kex_runner.specs.Quiet.{StaysAt, quiet_at, staying}
 use Rattle.kex_runner.proofs.registers.stay.Goals as goal
 
@@ -20,10 +20,10 @@ loop-count-preserved c =
     let none : Quiet = record { row = 0; lists = 0 } in
     let told : Quiet = get_or qs (row + c.from.result) none in
     let same : told ≡ quiet_at qs classes row b = ap (λ z. get_or qs (row + z) none) (c.from.ensures ∙ c.class_of.ensures.class) in
-    let note : Note = record { lists = told.lists; byte = b; stays = true } in
-    let noted : Note = record { lists = (quiet_at qs classes row b).lists; byte = b; stays = true } in
+    let note : NotedUpdate = record { lists = told.lists; byte = b; stays = true } in
+    let noted : NotedUpdate = record { lists = (quiet_at qs classes row b).lists; byte = b; stays = true } in
     let alike : note ≡ noted = ap (λ (z : Quiet). record { lists = z.lists; byte = b; stays = true }) same in
-    let run : List ℕ → List Note = λ bytes. staying qs classes row bytes in
+    let run : List ℕ → List NotedUpdate = λ bytes. staying qs classes row bytes in
     let one = ap run (take_more piece count 0 c.loop-count-test.true) ∙ map_push (λ x. record { lists = (quiet_at qs classes row x).lists; byte = x; stays = true }) (take count piece) b in
     let below : class_at classes b < class_count classes = subst (λ z. z < class_count classes) c.class_of.ensures.class c.class_of.ensures.below in
     record {

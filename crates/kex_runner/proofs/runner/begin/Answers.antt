@@ -4,7 +4,7 @@ use Rattle.kex_sst.specs.Passes.{first_pass}
 use Rattle.kex_script.specs.Pieces.{code_over}
 use Rattle.kex_script.specs.Scripts.{HasUpdate, change_at}
 use Rattle.kex_runner.specs.Noting.{contents, next_registers}
-use Rattle.kex_runner.specs.Following.{IsPlace}
+use Rattle.kex_runner.specs.Following.{IsTablePlace}
 use Rattle.kex_runner.proofs.ByteSteps.{place_begun}
 use Rattle.kex_runner.proofs.ScriptSteps.{begins, registers_begun}
 use Rattle.kex_runner.proofs.runner.begin.Goals as goal
@@ -36,7 +36,7 @@ pub returns-clause-runner : goal.returns-clause-runner
 returns-clause-runner c =
     let t = c.args.table.now in
     record {
-      sound = record { table = c.requires.script.table; place = subst (λ z. IsPlace t 0 z) (sym (begun_registers (goal.at.returns-clause-runner c).In_ok-take)) (place_begun t c.requires.script.table) };
+      sound = record { table = c.requires.script.table; place = subst (λ z. IsTablePlace t 0 z) (sym (begun_registers (goal.at.returns-clause-runner c).In_ok-take)) (place_begun t c.requires.script.table) };
       script = c.requires.script;
       counted = c.take.ensures.counted;
     }

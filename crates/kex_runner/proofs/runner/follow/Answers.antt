@@ -1,7 +1,7 @@
 use Rattle.std.proofs.Common.{◌≡◌, ◌<◌, Some, get_or, refl, ap, subst, sym, ◌∙◌, arith}
 use Rattle.kex_byteset.specs.Classes.{class_at, class_count}
 use Rattle.kex_sst.specs.declared.table.Transition.{Transition}
-use Rattle.kex_sst.specs.Parts.{items_of}
+use Rattle.kex_sst.specs.Parts.{item_count}
 use Rattle.kex_script.specs.Pieces.{code_over}
 use Rattle.kex_runner.specs.Noting.{contents}
 use Rattle.kex_runner.proofs.ByteSteps.{goes_next, goes_nowhere, next_by_class, items_next, items_stop}
@@ -59,7 +59,7 @@ loop-i-preserved g c =
     let r : Transition = record { target = c.in-Some.field-0-0; update = c.in-Some.update.now } in
     let k = step_at s t c.loop-i.state class e r c.loop-i.invariant.runner.script lt c.entry-entry.ensures c.in-Some.ensures in
     let items = items_next t c.loop-i.state c.args.piece.now c.loop-i.i b (told_by s e) c.loop-i-test.true refl (by ∙ k.at) in
-    let told = ap (λ (z : Transition). items_of z.update) (same (sym c.in-Some.ensures ∙ k.at)) in
+    let told = ap (λ (z : Transition). item_count z.update) (same (sym c.in-Some.ensures ∙ k.at)) in
     record {
       goes = goes_next t c.args.state.now (contents s c.args.registers.now) c.args.piece.now c.loop-i.i c.loop-i.state (contents s c.loop-i.registers) (code_over s.words c.args.pieces.now.items) (code_over s.words c.loop-i.pieces.items) b c.loop-i-test.true refl (told_by s e) (contents s c.take.new.self) (code_over s.words c.take.new.pieces.items) (by ∙ k.at) c.in_ok-take.ensures.registers c.in_ok-take.ensures.pieces c.loop-i.invariant.goes;
       known = c.in_ok-take.ensures.known;

@@ -3,7 +3,7 @@ use Rattle.std.proofs.lemmas.List.{take_rest}
 use Rattle.std.proofs.lemmas.Option.{get_or_from_slice_get}
 use Rattle.std.proofs.lemmas.Result.{on_ok_weaker}
 use Rattle.kex_sst.specs.Parts.{parts_code}
-use Rattle.kex_script.specs.declared.piece.Piece.{Piece}
+use Rattle.kex_script.specs.declared.piece.ByteWord.{ByteWord}
 use Rattle.kex_script.specs.Pieces.{code_over}
 use Rattle.kex_runner.specs.Noting.{registers_after, settled_of, updates_of}
 use Rattle.kex_runner.specs.Ways.{AreOlds}
@@ -16,7 +16,7 @@ returns-then-place-eq0-clause-passed c = λ from x h.
     let s = c.args.script.now in
     let p = c.in_ok-place.place in
     let old = c.args.pieces.now.items in
-    let said : List Piece = drop p.start c.walk.new.room in
+    let said : List ByteWord = drop p.start c.walk.new.room in
     ap (λ z. code_over s.words z) (c.in_ok-extend_from_slice.ensures.items ∙ ap (λ z. old ++ z) (take_rest c.walk.new.room p.start))
     ∙ spelled-append s.words old said
     ∙ ap (λ z. code_over s.words old ++ z) (whole_means s (settled_of s c.args.base.now) (updates_of s c.args.notes.now) c.walk.new.ways.lists p from x said c.in_ok-place.ensures.known.none (omega (arith, c.if-place-eq0.true)) (c.in_ok-place.ensures.walked from x h))
@@ -34,7 +34,7 @@ returns-clause-passed c =
     let p = c.in_ok-place.place in
     let way = c.way-way.result.now in
     let old = code_over s.words c.args.pieces.now.items in
-    let said : List Piece = drop p.start c.walk.new.room in
+    let said : List ByteWord = drop p.start c.walk.new.room in
     on_ok_weaker c.pass_way.result (λ e from x h.
     e ∙ ap (λ z. old ++ z) (ap (λ z. parts_code (registers_after base (take p.after notes)) 0 way ++ code_over s.words z) (take_rest c.walk.new.room p.start)
     ∙ way_means s base notes c.walk.new.ways.lists p from way x said (c.in_ok-place.ensures.walked from x h) c.way-way.ensures)) c.pass_way.ensures

@@ -3,7 +3,7 @@ use Rattle.std.proofs.lemmas.List.{length-map, take_rest}
 use Rattle.std.proofs.lemmas.Result.{on_ok_weaker}
 use Rattle.kex_sst.specs.declared.parts.Part.{Part}
 use Rattle.kex_sst.specs.Parts.{parts_code}
-use Rattle.kex_script.specs.declared.piece.Piece.{Piece}
+use Rattle.kex_script.specs.declared.piece.ByteWord.{ByteWord}
 use Rattle.kex_script.specs.Pieces.{code_over}
 use Rattle.kex_runner.specs.Noting.{noted_by, settled_of, update_of, updates_of}
 use Rattle.kex_runner.specs.Ways.{HasWalked, IsSplit, IsStepIf}
@@ -13,7 +13,7 @@ use Rattle.kex_runner.proofs.walking.pass_split.Goals as goal
 use Rattle.kex_runner.proofs.walking.pass_split.Goals.{After-walk_known-place}
 
 module _ (c : After-walk_known-place) (list : List Part) (split : IsSplit c.args.script.now.words c.args.ways.now.lists c.args.split list) where
-  abbrev behind : List Piece
+  abbrev behind : List ByteWord
   behind = drop c.say-start.result c.say-start.new.room
 
   walked : HasWalked c.args.script.now c.args.ways.now.lists (updates_of c.args.script.now c.args.notes.now) split.front c.walk_known-place.result behind (drop c.walk_known-place.result.start c.walk_known-place.new.room)
@@ -32,7 +32,7 @@ returns-then-place-eq0-clause-passed c = λ list split.
     let s = c.args.script.now in
     let p = c.walk_known-place.result in
     let old = c.args.pieces.now.items in
-    let said : List Piece = drop p.start c.walk_known-place.new.room in
+    let said : List ByteWord = drop p.start c.walk_known-place.new.room in
     ap (λ z. code_over s.words z) (c.in_ok-extend_from_slice.ensures.items ∙ ap (λ z. old ++ z) (take_rest c.walk_known-place.new.room p.start))
     ∙ spelled-append s.words old said
     ∙ ap (λ z. code_over s.words old ++ z) (whole_means s (settled_of s c.args.base.now) (updates_of s c.args.notes.now) c.args.ways.now.lists p split.front (behind top list split) said c.requires.known.none (omega (arith, c.if-place-eq0.true)) (walked top list split) ∙ means top list split)

@@ -1,10 +1,10 @@
 use Rattle.std.proofs.Common.{false, ◌-◌, get_or, drop, refl, sym, subst, arith}
 use Rattle.std.specs.Prelude.{IfSome}
 use Rattle.std.proofs.Math.ListN.{get_or-map}
-use Rattle.kex_runner.specs.declared.reading.Note.{Note}
-use Rattle.kex_runner.specs.declared.walking.Place.{Place}
+use Rattle.kex_runner.specs.declared.reading.NotedUpdate.{NotedUpdate}
+use Rattle.kex_runner.specs.declared.walking.WalkPoint.{WalkPoint}
 use Rattle.kex_runner.specs.Noting.{update_of, updates_of}
-use Rattle.kex_runner.specs.Ways.{IsStep}
+use Rattle.kex_runner.specs.Ways.{IsWayStep}
 use Rattle.kex_runner.proofs.WayLemmas.{walked_on}
 use Rattle.kex_runner.proofs.walking.walk.Goals as goal
 
@@ -14,13 +14,13 @@ notes-preserved c =
     let notes = c.args.notes.now in
     let p = c.notes.place in
     let k = p.after - 1 in
-    let none : Note = record { lists = 0; byte = 0; stays = false } in
-    let note : Note = get_or notes k none in
+    let none : NotedUpdate = record { lists = 0; byte = 0; stays = false } in
+    let note : NotedUpdate = get_or notes k none in
     let split = c.in-Some.split in
     let start = c.say-start.result in
-    let next : Place = record { way = split.way; last = split.last; after = k; start = start } in
+    let next : WalkPoint = record { way = split.way; last = split.last; after = k; start = start } in
     let ways' = c.step.new.self.lists in
-    let step : IsStep s ways' p.way note.lists split = subst (λ z. IfSome z (λ x. IsStep s ways' p.way note.lists x)) c.in-Some.is c.in_ok-split.ensures.step in
+    let step : IsWayStep s ways' p.way note.lists split = subst (λ z. IfSome z (λ x. IsWayStep s ways' p.way note.lists x)) c.in-Some.is c.in_ok-split.ensures.step in
     record {
       known = c.in_ok-split.ensures.known;
       way = (step.split.front, step.split.way);

@@ -1,18 +1,18 @@
 use Rattle.std.proofs.Common.{◌≤◌, List, length, drop}
 use Rattle.kex_sst.specs.declared.parts.Part.{Part}
-use Rattle.kex_script.specs.declared.piece.Piece.{Piece}
+use Rattle.kex_script.specs.declared.piece.ByteWord.{ByteWord}
 use Rattle.kex_runner.specs.Noting.{updates_of}
-use Rattle.kex_runner.specs.Ways.{AreKnown, HasWalked, IsWay}
+use Rattle.kex_runner.specs.Ways.{AreKnown, HasWalked, IsNumberedWay}
 use Rattle.kex_runner.proofs.walking.walk.Given as goal
 
 abbrev pub invariant-notes : goal.invariant-notes
 invariant-notes l = record {
   known : AreKnown l.script l.ways;
-  way : (to : List Part) × IsWay l.ways.lists l.place.way to;
+  way : (to : List Part) × IsNumberedWay l.ways.lists l.place.way to;
   after : l.place.after ≤ length l.notes;
   room : l.place.after ≤ l.place.start;
   within : l.place.start ≤ length l.room;
-  walked : (from : List Part) (x : List Piece) → HasWalked l.script l.initial.ways.lists (updates_of l.script l.notes) from l.fn.first x (drop l.fn.first.start l.initial.room) → HasWalked l.script l.ways.lists (updates_of l.script l.notes) from l.place x (drop l.place.start l.room);
+  walked : (from : List Part) (x : List ByteWord) → HasWalked l.script l.initial.ways.lists (updates_of l.script l.notes) from l.fn.first x (drop l.fn.first.start l.initial.room) → HasWalked l.script l.ways.lists (updates_of l.script l.notes) from l.place x (drop l.place.start l.room);
 }
 
 abbrev pub decreases-notes : goal.decreases-notes

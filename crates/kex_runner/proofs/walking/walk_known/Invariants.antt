@@ -1,6 +1,6 @@
 use Rattle.std.proofs.Common.{◌≤◌, List, All, length, drop}
 use Rattle.kex_sst.specs.declared.parts.Part.{Part}
-use Rattle.kex_script.specs.declared.piece.Piece.{Piece}
+use Rattle.kex_script.specs.declared.piece.ByteWord.{ByteWord}
 use Rattle.kex_script.specs.Scripts.{Sheet}
 use Rattle.kex_runner.specs.Noting.{updates_of}
 use Rattle.kex_runner.specs.Ways.{HasWalked, IsStepIf}
@@ -11,7 +11,7 @@ invariant-notes l = record {
   after : l.place.after ≤ length l.notes;
   room : l.place.after ≤ l.place.start;
   within : l.place.start ≤ length l.room;
-  walked : (s : Sheet) (ways : List (List Part)) (from : List Part) (none : List Piece) → All (IsStepIf s ways) l.steps → HasWalked s ways (updates_of s l.notes) from l.fn.first none (drop l.fn.first.start l.initial.room) → HasWalked s ways (updates_of s l.notes) from l.place none (drop l.place.start l.room);
+  walked : (s : Sheet) (ways : List (List Part)) (from : List Part) (none : List ByteWord) → All (IsStepIf s ways) l.steps → HasWalked s ways (updates_of s l.notes) from l.fn.first none (drop l.fn.first.start l.initial.room) → HasWalked s ways (updates_of s l.notes) from l.place none (drop l.place.start l.room);
 }
 
 abbrev pub decreases-notes : goal.decreases-notes

@@ -3,7 +3,7 @@ use Rattle.std.proofs.lemmas.Result.{err_from_is_err_and}
 use Rattle.std.specs.Prelude.{Some}
 use Rattle.kex_ports.proofs.Endings.{same-finishes}
 use Rattle.kex_ports.proofs.Known.{appends-same, front-same}
-use Rattle.kex_top.specs.History.{Feeds, History, IsSaid, bytes_passed}
+use Rattle.kex_top.specs.History.{FeedsStages, History, IsSaidSoFar, bytes_passed}
 use Rattle.kex_top.specs.Piped.{PipeSays, PipeStands, plans_of}
 use Rattle.kex_top.specs.PipelineLaws.{says_grows}
 use Rattle.kex_top.proofs.BlockFronts.{Passing, all-passed, failed, front-passed, said-open, wanted, what-is-left}
@@ -16,7 +16,7 @@ returns-in_err-front-clause-trouble g c =
     let t = g.T.Turn in
     let i = c.fronts.invariant in
     let p = i.passing h s is_open in
-    wanted (PipeSays t (plans_of t c.args.pipe.now)) (PipeStands t c.fronts.pipe) h _ c.fronts.rest.now _ _ p (subst (λ q. IsSaid (PipeSays t q) p.now) i.same (said-open t c.fronts.pipe p.now p.stands_for p.is_open)))
+    wanted (PipeSays t (plans_of t c.args.pipe.now)) (PipeStands t c.fronts.pipe) h _ c.fronts.rest.now _ _ p (subst (λ q. IsSaidSoFar (PipeSays t q) p.now) i.same (said-open t c.fronts.pipe p.now p.stands_for p.is_open)))
 
 pub returns-in_err-front-clause-unfinished : goal.returns-in_err-front-clause-unfinished
 returns-in_err-front-clause-unfinished g c =
@@ -34,7 +34,7 @@ returns-in_err-write_all-clause-trouble g c =
     let plans = plans_of t c.args.pipe.now in
     let rest : List ℕ = c.fronts.rest.now in
     let n : ℕ = c.in_ok-front.front.count in
-    let x = subst (λ q. Feeds (PipeSays t q) (PipeStands t c.feed.new.pipe) p.now (bytes_passed p.now ++ take n rest) false c.feed.new.out.items c.in_ok-front.front.fate) i.same (c.in_ok-front.ensures.feeds p.now p.stands_for p.is_open) in
+    let x = subst (λ q. FeedsStages (PipeSays t q) (PipeStands t c.feed.new.pipe) p.now (bytes_passed p.now ++ take n rest) false c.feed.new.out.items c.in_ok-front.front.fate) i.same (c.in_ok-front.ensures.feeds p.now p.stands_for p.is_open) in
     failed (PipeSays t plans) (PipeStands t c.fronts.pipe) h _ rest _ _ p (PipeStands t c.feed.new.pipe) n c.feed.new.out.items c.in_ok-front.front.fate x _ c.args.pace c.in_ok-front.ensures.front c.requires.says
     (says_grows t.gives laws.one laws.grows laws.stays laws.ends plans)
     (front-same _ _ _ _ c.deref.ensures.value c.in_err-write_all.ensures.failed))
@@ -46,7 +46,7 @@ returns-then-front-rest-clause-writes g c = λ h s is_open.
     let p = i.passing h s is_open in
     let rest : List ℕ = c.fronts.rest.now in
     let n : ℕ = c.in_ok-front.front.count in
-    let x = subst (λ q. Feeds (PipeSays t q) (PipeStands t c.feed.new.pipe) p.now (bytes_passed p.now ++ take n rest) false c.feed.new.out.items c.in_ok-front.front.fate) i.same (c.in_ok-front.ensures.feeds p.now p.stands_for p.is_open) in
+    let x = subst (λ q. FeedsStages (PipeSays t q) (PipeStands t c.feed.new.pipe) p.now (bytes_passed p.now ++ take n rest) false c.feed.new.out.items c.in_ok-front.front.fate) i.same (c.in_ok-front.ensures.feeds p.now p.stands_for p.is_open) in
     all-passed (PipeSays t (plans_of t c.args.pipe.now)) (PipeStands t c.fronts.pipe) h _ rest _ _ p (PipeStands t c.feed.new.pipe) n c.feed.new.out.items c.in_ok-front.front.fate x _ (search rules) (appends-same _ _ _ _ c.deref.ensures.value c.in_ok-write_all.ensures.written)
 
 pub fronts-preserved : goal.fronts-preserved
@@ -62,7 +62,7 @@ fronts-preserved g c =
       stands = (Some (record { bytes = bytes_passed i.stands.0 ++ take n rest; ended = false; said = was.said }), was.stands_for, refl);
       passing = λ h s is_open.
           let p = i.passing h s is_open in
-          let x = subst (λ q. Feeds (PipeSays t q) stands p.now (bytes_passed p.now ++ take n rest) false c.feed.new.out.items c.in_ok-front.front.fate) i.same (c.in_ok-front.ensures.feeds p.now p.stands_for p.is_open) in
+          let x = subst (λ q. FeedsStages (PipeSays t q) stands p.now (bytes_passed p.now ++ take n rest) false c.feed.new.out.items c.in_ok-front.front.fate) i.same (c.in_ok-front.ensures.feeds p.now p.stands_for p.is_open) in
           subst (λ z. Passing stands h (bytes_passed h ++ c.args.block.now) z (g.K.Sink.held c.args.output.now) (g.K.Sink.held c.write_all.new.sink)) (sym (what-is-left rest n c.in_ok-front.ensures.front.within))
           (front-passed (PipeSays t (plans_of t c.args.pipe.now)) (PipeStands t c.fronts.pipe) h _ rest _ _ p stands n c.feed.new.out.items c.in_ok-front.front.fate x _ (appends-same _ _ _ _ c.deref.ensures.value c.in_ok-write_all.ensures.written));
       written = search rules;

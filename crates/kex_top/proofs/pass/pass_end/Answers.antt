@@ -1,7 +1,7 @@
 use Rattle.std.proofs.Common.{[]}
 use Rattle.std.proofs.lemmas.Result.{err_from_is_err_and}
 use Rattle.kex_ports.proofs.Known.{append-nil, appends-nothing}
-use Rattle.kex_top.specs.History.{bytes_passed, text_of}
+use Rattle.kex_top.specs.History.{bytes_passed, history_text}
 use Rattle.kex_top.proofs.BlockFronts.{said-open}
 use Rattle.kex_top.proofs.pass.pass_end.Goals as goal
 
@@ -14,6 +14,6 @@ returns-in_err-fate-clause-trouble g c =
       cut = append-nil (bytes_passed h);
       is_said = said-open g.T.Turn c.args.pipe.now h s is_open;
       added = [];
-      whole = append-nil (text_of h);
+      whole = append-nil (history_text h);
       appended = appends-nothing _;
     })

@@ -1,6 +1,6 @@
 use Rattle.std.proofs.Common.{◌∷◌, [], ◌++◌, true, refl, ◌∙◌}
 use Rattle.kex_model.specs.Schedules.{give_end}
-use Rattle.kex_top.specs.History.{bytes_passed, text_of}
+use Rattle.kex_top.specs.History.{bytes_passed, history_text}
 use Rattle.kex_top.specs.Piped.{plans_of}
 use Rattle.kex_top.proofs.PipeAnswers.{not-in-round, standing, still-open, same-plans, said-all, bytes-same, end-now}
 use Rattle.kex_top.proofs.pipeline.end.Goals as goal
@@ -13,7 +13,7 @@ give_end-requires-clause-closed g c = not-in-round g.T.Turn c.args.pipe.now c.re
 
 pub returns-clause-same : goal.returns-clause-same
 returns-clause-same g c =
-    let text = text_of c.requires.0 in
+    let text = history_text c.requires.0 in
     let x = standing g.T.Turn c.args.pipe.now c.requires.0 c.requires.1 in
     let ps = plans_of g.T.Turn c.args.pipe.now in
     let w = c.in_ok-work_off.ensures.works ps (x.events ++ give_end ∷ []) text (c.in_ok-give_end.ensures.stands ps x.events text x.stands) in
@@ -24,7 +24,7 @@ returns-clause-feeds g c = λ h s e.
     let x = standing g.T.Turn c.args.pipe.now h s in
     let ps = plans_of g.T.Turn c.args.pipe.now in
     let given = x.events ++ give_end ∷ [] in
-    let w = c.in_ok-work_off.ensures.works ps given (text_of h) (c.in_ok-give_end.ensures.stands ps x.events (text_of h) x.stands) in
-    said-all g.T.Turn ps c.work_off.new.pipe c.take_output_into.new.self given (text_of h) c.take_output_into.new.out.items c.report.result
+    let w = c.in_ok-work_off.ensures.works ps given (history_text h) (c.in_ok-give_end.ensures.stands ps x.events (history_text h) x.stands) in
+    said-all g.T.Turn ps c.work_off.new.pipe c.take_output_into.new.self given (history_text h) c.take_output_into.new.out.items c.report.result
     h (bytes_passed h) true c.fate_of.result x.some refl (bytes-same x.events ∙ x.bytes) (end-now x.events)
-    w (λ k st. c.take_output_into.ensures.stands ps k (text_of h) st) c.take_output_into.ensures.none_left (λ k text st done. c.report.ensures.settled ps k text st done) c.fate_of.ensures
+    w (λ k st. c.take_output_into.ensures.stands ps k (history_text h) st) c.take_output_into.ensures.none_left (λ k text st done. c.report.ensures.settled ps k text st done) c.fate_of.ensures

@@ -1,7 +1,7 @@
 use Rattle.std.proofs.Common.{◌∷◌, [], ◌++◌, ℕ, List, false, refl, sym, ap, ◌∙◌, take}
 use Rattle.kex_model.specs.Schedules.{give}
-use Rattle.kex_top.specs.History.{bytes_passed, text_of}
-use Rattle.kex_top.specs.Piped.{Stands, plans_of}
+use Rattle.kex_top.specs.History.{bytes_passed, history_text}
+use Rattle.kex_top.specs.Piped.{AnyPipeStands, plans_of}
 use Rattle.kex_top.proofs.PipeAnswers.{not-in-round, standing, still-open, same-plans, said-all, bytes-more, end-open}
 use Rattle.kex_top.proofs.StageRounds.{off-of}
 use Rattle.kex_top.proofs.pipeline.feed.Goals as goal
@@ -14,7 +14,7 @@ give_front-requires-clause-closed g c = λ κs bounds. not-in-round g.T.Turn c.a
 
 pub returns-clause-same : goal.returns-clause-same
 returns-clause-same g c =
-    let text = text_of c.requires.0 in
+    let text = history_text c.requires.0 in
     let x = standing g.T.Turn c.args.pipe.now c.requires.0 c.requires.1 in
     let ps = plans_of g.T.Turn c.args.pipe.now in
     let given = c.in_ok-count.ensures.given ps x.events text x.stands in
@@ -27,8 +27,8 @@ returns-clause-feeds g c = λ h s e.
     let x = standing g.T.Turn c.args.pipe.now h s in
     let ps = plans_of g.T.Turn c.args.pipe.now in
     let events = x.events ++ give piece ∷ [] in
-    let given = c.in_ok-count.ensures.given ps x.events (text_of h) x.stands in
-    let w = off-of g.T.Turn.gives ps (λ k. Stands g.T.Turn ps c.work_off.new.pipe k (text_of h)) events given.events (given.bytes ∙ sym (bytes-more x.events piece)) (given.same_end ∙ sym (end-open x.events piece)) (c.in_ok-work_off.ensures.works ps given.events (text_of h) given.stands_for) in
-    said-all g.T.Turn ps c.work_off.new.pipe c.take_output_into.new.self events (text_of h) c.take_output_into.new.out.items c.report.result
+    let given = c.in_ok-count.ensures.given ps x.events (history_text h) x.stands in
+    let w = off-of g.T.Turn.gives ps (λ k. AnyPipeStands g.T.Turn ps c.work_off.new.pipe k (history_text h)) events given.events (given.bytes ∙ sym (bytes-more x.events piece)) (given.same_end ∙ sym (end-open x.events piece)) (c.in_ok-work_off.ensures.works ps given.events (history_text h) given.stands_for) in
+    said-all g.T.Turn ps c.work_off.new.pipe c.take_output_into.new.self events (history_text h) c.take_output_into.new.out.items c.report.result
     h (bytes_passed h ++ piece) false c.fate_of.result x.some refl (bytes-more x.events piece ∙ ap (λ (z : List ℕ). z ++ piece) x.bytes) (end-open x.events piece ∙ x.end ∙ e)
-    w (λ k st. c.take_output_into.ensures.stands ps k (text_of h) st) c.take_output_into.ensures.none_left (λ k text st done. c.report.ensures.settled ps k text st done) c.fate_of.ensures
+    w (λ k st. c.take_output_into.ensures.stands ps k (history_text h) st) c.take_output_into.ensures.none_left (λ k text st done. c.report.ensures.settled ps k text st done) c.fate_of.ensures

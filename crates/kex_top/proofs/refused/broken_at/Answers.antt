@@ -1,5 +1,5 @@
 use Rattle.std.proofs.Common.{◌≡◌, ℕ, take, length-take, ap, ◌∙◌, arith}
-use Rattle.kex_words.specs.declared.refusals.Place.TheVariants.{At}
+use Rattle.kex_words.specs.declared.refusals.RefusalPlace.TheVariants.{At}
 use Rattle.kex_top.specs.Refusals.{column_at, line_at}
 use Rattle.kex_top.specs.declared.start.StartError.TheVariants.{Refused}
 use Rattle.kex_top.proofs.LineColumns.{few-behind, few-feeds}

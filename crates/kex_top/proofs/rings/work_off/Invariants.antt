@@ -1,8 +1,8 @@
 use Rattle.std.proofs.Common.{ℕ, List, []}
 use Rattle.kex_model.specs.Schedules.{Event}
-use Rattle.kex_rings.specs.Standing.{Stands}
+use Rattle.kex_rings.specs.Standing.{RingsStand}
 use Rattle.kex_top.proofs.RingRounds.{Given}
 use Rattle.kex_top.proofs.rings.work_off.Given as goal
 
 abbrev pub invariant-rounds : goal.invariant-rounds
-invariant-rounds g l = (ps : List g.T.Turn.Plan) (h : List Event) (taken : List ℕ) → Stands g.T.Turn ps l.fn.pipe h taken → Given g.T.Turn ps h taken l.pipe []
+invariant-rounds g l = (ps : List g.T.Turn.Plan) (h : List Event) (taken : List ℕ) → RingsStand g.T.Turn ps l.fn.pipe h taken → Given g.T.Turn ps h taken l.pipe []

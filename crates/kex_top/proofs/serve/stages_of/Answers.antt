@@ -2,7 +2,7 @@ use Rattle.std.proofs.Common.{◌≡◌, ◌∷◌, [], ◌++◌, ◌<◌, ◌�
 use Rattle.std.specs.Prelude.{None}
 use Rattle.std.proofs.lemmas.List.{map-append, map_more, take_all}
 use Rattle.kex_code.specs.Codes.{IsAmong}
-use Rattle.kex_machine.specs.Nodes.{Graph, IsInRange}
+use Rattle.kex_machine.specs.Nodes.{Graph, IsMachineInRange}
 use Rattle.kex_stage.specs.Plans.{machine_of}
 use Rattle.kex_stage.specs.Stages.{StagePlan}
 use Rattle.kex_stage.specs.declared.stage.Stage.{Stage}
@@ -26,7 +26,7 @@ plans-preserved c =
     let plan : ghosts.plan stage ≡ plan_at max (get_or all i c.plan-item.result).machine = c.in_ok-stage.ensures.plan ∙ ap (λ z. plan_at max z.machine) item in
     let within : i < length all = c.plans-test.true in
     let same = c.machine.ensures.same in
-    let range = subst (λ m. IsInRange m.start m.nodes m.registers) same c.nodes-nodes.ensures.in_range in
+    let range = subst (λ m. IsMachineInRange m.start m.nodes m.registers) same c.nodes-nodes.ensures.in_range in
     record {
       plans = ap (λ z. map ghosts.plan z) c.in_ok-push.ensures.items ∙ map-append ghosts.plan old (stage ∷ []) ∙ ap (λ z. z ++ ghosts.plan stage ∷ []) c.plans.invariant.plans ∙ ap (λ z. stage_plans max (map machine_of (take i all)) ++ z ∷ []) plan ∙ sym (ap (λ z. stage_plans max z) (map_more machine_of all i c.plan-item.result within) ∙ map-append (plan_at max) (map machine_of (take i all)) ((get_or all i c.plan-item.result).machine ∷ []));
       unfed = subst (λ z. (k : ℕ) (d : Stage) → k < length z → ghosts.stands (get_or z k d) None) (sym c.in_ok-push.ensures.items) (unfed-more ghosts old stage c.plans.invariant.unfed c.in_ok-stage.ensures.stands);

@@ -1,7 +1,7 @@
 use Rattle.std.proofs.Common.{sym, subst}
 use Rattle.std.proofs.lemmas.Result.{IfOk-weaker}
 use Rattle.kex_top.specs.Pipelines.{AlwaysAnswers}
-use Rattle.kex_single.specs.Singles.{CodeAnswers, Single}
+use Rattle.kex_single.specs.Singles.{MachineCodeAnswers, Single}
 use Rattle.kex_single.specs.contracts.coder.CoderTurn.TheImpl.{ghosts}
 use Rattle.kex_words.specs.Words.Mode.{coding}
 use Rattle.kex_top.proofs.CallAnswers.{ran_single}
@@ -14,6 +14,6 @@ run_one-requires-clause-answers g c = λ κs bounds by_parts. subst (λ p. Alway
 pub returns-clause-ran : goal.returns-clause-ran
 returns-clause-ran g c =
     IfOk-weaker _ _ _ (ran_single (λ p w e a. ghosts.gives p w e a) (ghosts.plan c.in_ok-coder.coder) coding c.args.limits.max_input c.args.machine.now _ _ _
-    (λ w e a h. subst (λ (q : Single). CodeAnswers q.machine q.limit w e a) c.in_ok-coder.ensures.plan h)
-    (λ w e a h. subst (λ (q : Single). CodeAnswers q.machine q.limit w e a) (sym c.in_ok-coder.ensures.plan) h)
+    (λ w e a h. subst (λ (q : Single). MachineCodeAnswers q.machine q.limit w e a) c.in_ok-coder.ensures.plan h)
+    (λ w e a h. subst (λ (q : Single). MachineCodeAnswers q.machine q.limit w e a) (sym c.in_ok-coder.ensures.plan) h)
     ) c.run_one.ensures.ran

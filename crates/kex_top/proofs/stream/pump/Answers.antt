@@ -4,7 +4,7 @@ use Rattle.std.specs.Prelude.{Some, None}
 use Rattle.kex_ports.proofs.Known.{consumes-then, consumes-last, consumes-nothing, appends-nothing, appends-same, appends-then, append-nil}
 use Rattle.kex_ports.proofs.ReadRequests.{asks-on, last-read}
 use Rattle.kex_ports.proofs.Endings.{same-finishes}
-use Rattle.kex_top.specs.History.{Fed}
+use Rattle.kex_top.specs.History.{StagesFed}
 use Rattle.kex_top.specs.declared.status.Status.TheVariants.{ReadFault}
 use Rattle.kex_top.specs.Piped.{PipeSays, limit_of, plans_of, stages_of}
 use Rattle.kex_top.specs.Pipelines.{AlwaysSays}
@@ -20,7 +20,7 @@ pub returns-in-Ok-pass_end-clause-pumped : goal.returns-in-Ok-pass_end-clause-pu
 returns-in-Ok-pass_end-clause-pumped g c =
     let i = c.reads.invariant in
     let w = i.fed.0 in
-    let f : Fed = record { bytes = w; ended = false; said = i.fed.1 } in
+    let f : StagesFed = record { bytes = w; ended = false; said = i.fed.1 } in
     let x = c.in-Ok-pass_end.ensures.writes (Some f) i.fed.3 refl in
     worked (PipeSays g.T.Turn) _ _ i.same (Some f) _ _ _ _ w true _ _ _ _
     (consumes-last _ _ _ _ _ _ (omega arith) i.fed.5 c.in-Ok-eq0.ensures.bytes.0)
@@ -35,7 +35,7 @@ returns-in-Err-pass_end-clause-pumped g c =
     let laws = g.met.T.Turn g.world.𝓛 g.world.𝓜 g.world.𝓡 ((λ s x. x), (λ x. x), (λ x. x), λ x. x) in
     let i = c.reads.invariant in
     let w = i.fed.0 in
-    let f : Fed = record { bytes = w; ended = false; said = i.fed.1 } in
+    let f : StagesFed = record { bytes = w; ended = false; said = i.fed.1 } in
     broken (PipeSays g.T.Turn) _ _ i.same f _ _ _ _ w true _ [] (append-nil w) (omega arith) i.fed.2 i.fed.7 (says_grows g.T.Turn.gives laws.one laws.grows laws.stays laws.ends) _ _
     (consumes-last _ _ _ _ _ _ (omega arith) i.fed.5 c.in-Ok-eq0.ensures.bytes.0)
     (λ e. c.in-Ok-eq0.ensures.bytes.1 (omega arith) (omega arith))
@@ -48,7 +48,7 @@ pub returns-in-Ok-Stopped-pass-clause-pumped : goal.returns-in-Ok-Stopped-pass-c
 returns-in-Ok-Stopped-pass-clause-pumped g c =
     let i = c.reads.invariant in
     let w = i.fed.0 in
-    let f : Fed = record { bytes = w; ended = false; said = i.fed.1 } in
+    let f : StagesFed = record { bytes = w; ended = false; said = i.fed.1 } in
     let v = w ++ take c.in-Ok.count c.read.new.buf in
     let x = c.in-Ok-Stopped-pass.ensures.writes (Some f) i.fed.3 refl in
     let report = c.rejected-in-Ok-Stopped-pass.ensures (record { bytes = v; ended = false; said = x.said }) x.stands_for in
@@ -67,7 +67,7 @@ returns-in-Err-pass-clause-pumped g c =
     let laws = g.met.T.Turn g.world.𝓛 g.world.𝓜 g.world.𝓡 ((λ s x. x), (λ x. x), (λ x. x), λ x. x) in
     let i = c.reads.invariant in
     let w = i.fed.0 in
-    let f : Fed = record { bytes = w; ended = false; said = i.fed.1 } in
+    let f : StagesFed = record { bytes = w; ended = false; said = i.fed.1 } in
     let piece = take c.in-Ok.count c.read.new.buf in
     broken (PipeSays g.T.Turn) _ _ i.same f _ _ _ _ (w ++ piece) false _ piece refl (short-piece _ c.in-Ok.count _ (last-read _ _ _ _ _ (omega (arith, c.in-Ok.ensures.bound, c.reads.auto.block)) c.in-Ok.ensures.asked)) i.fed.2 i.fed.7 (says_grows g.T.Turn.gives laws.one laws.grows laws.stays laws.ends) _ _
     (consumes-then _ _ _ _ _ i.fed.5 c.in-Ok.ensures.bytes.0)
@@ -181,7 +181,7 @@ pub reads-preserved : goal.reads-preserved
 reads-preserved g c =
     let i = c.reads.invariant in
     let w = i.fed.0 in
-    let f : Fed = record { bytes = w; ended = false; said = i.fed.1 } in
+    let f : StagesFed = record { bytes = w; ended = false; said = i.fed.1 } in
     let piece = take c.in-Ok.count c.read.new.buf in
     let x = c.in-Ok-On-pass.ensures.writes (Some f) i.fed.3 refl in
     record {

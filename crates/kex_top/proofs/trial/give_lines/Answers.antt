@@ -4,7 +4,7 @@ use Rattle.std.proofs.lemmas.List.{append-nil, append_assoc}
 use Rattle.kex_top.specs.Answer.{Said}
 use Rattle.kex_top.specs.History.{History}
 use Rattle.kex_top.specs.Tallies.{HasWaiting, IsTally}
-use Rattle.kex_top.specs.Trials.{line_of, lines_from, made_lines}
+use Rattle.kex_top.specs.Trials.{drawn_line, lines_from, made_lines}
 use Rattle.kex_top.specs.Piped.{PipeSays, PipeStands, plans_of}
 use Rattle.kex_top.proofs.TrialCounts.{lines-more, waits-more}
 use Rattle.kex_top.proofs.trial.give_lines.Goals as goal
@@ -14,7 +14,7 @@ give_blocks-requires-clause-fed g c = λ κs bounds.
     let (front, waits, made) = c.lines.invariant.fed in
     let says : List g.T.Turn.Plan → List ℕ → Bool → Said → Type 0 = λ p w e said. PipeSays g.T.Turn p w e said in
     let stands : History → Type 0 = λ k. PipeStands g.T.Turn c.lines.pipe k in
-    let line : List ℕ = line_of c.next-state.result in
+    let line : List ℕ = drawn_line c.next-state.result in
     let begun = subst (λ p. HasWaiting (says p) stands front c.lines.waiting.items c.lines.tally) (sym c.lines.invariant.same) waits in
     (front ++ line, waits-more (says (plans_of g.T.Turn c.lines.pipe)) stands front c.lines.waiting.items line c.push_line.new.out.items c.lines.tally c.in_ok-push_line.ensures begun)
 
@@ -39,7 +39,7 @@ lines-preserved g c =
     let says : List g.T.Turn.Plan → List ℕ → Bool → Said → Type 0 = λ p w e said. PipeSays g.T.Turn p w e said in
     let stands : History → Type 0 = λ k. PipeStands g.T.Turn c.lines.pipe k in
     let now : History → Type 0 = λ k. PipeStands g.T.Turn c.give_blocks.new.pipe k in
-    let line : List ℕ = line_of c.next-state.result in
+    let line : List ℕ = drawn_line c.next-state.result in
     let begun = subst (λ p. HasWaiting (says p) stands front c.lines.waiting.items c.lines.tally) (sym same) waits in
     let more = waits-more (says (plans_of g.T.Turn c.lines.pipe)) stands front c.lines.waiting.items line c.push_line.new.out.items c.lines.tally c.in_ok-push_line.ensures begun in
     let given = c.in_ok-tally-2.ensures.given (front ++ line) more in

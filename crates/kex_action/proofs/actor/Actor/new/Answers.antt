@@ -1,6 +1,6 @@
 use Rattle.std.proofs.Common.{◌∙◌, ◌<◌, ap, sym, subst, [], replicate, true, false, length, List, ℕ}
 use Rattle.std.proofs.lemmas.List.{length-replicate}
-use Rattle.kex_machine.specs.Nodes.{IsInRange}
+use Rattle.kex_machine.specs.Nodes.{IsMachineInRange}
 use Rattle.kex_action.specs.Actors.{HasPerformed}
 use Rattle.kex_action.proofs.ActorRuns.{begins_performed, position}
 use Rattle.kex_action.proofs.actor.Actor.new.Goals as goal
@@ -9,7 +9,7 @@ pub invariant_of-result : goal.invariant_of-result
 invariant_of-result c =
     let start = c.start-start.ensures ∙ ap (λ g. g.start) c.machine.ensures.same in
     let count = c.registers.ensures ∙ ap (λ g. g.registers) c.machine-3.ensures.same in
-    let range = subst (λ g. IsInRange g.start g.nodes g.registers) c.machine-2.ensures.same c.nodes-nodes.ensures.in_range in
+    let range = subst (λ g. IsMachineInRange g.start g.nodes g.registers) c.machine-2.ensures.same c.nodes-nodes.ensures.in_range in
     record {
       trimmed = c.machine.ensures.trimmed;
       in_range = range;

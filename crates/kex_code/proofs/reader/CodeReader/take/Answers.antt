@@ -2,7 +2,7 @@ use Rattle.std.proofs.Common.{◌≡◌, ◌∷◌, ◌++◌, ◌+◌, [], true,
 use Rattle.std.specs.Prelude.{Result, Ok, Err, OnOk}
 use Rattle.std.specs.Result.{is_err}
 use Rattle.kex_code.specs.Begun.{text_begun}
-use Rattle.kex_code.specs.Readers.{Reading, FaultLeaves}
+use Rattle.kex_code.specs.Readers.{CodeReading, FaultLeaves}
 use Rattle.kex_code.proofs.CodeReaders.{opened, completed, broken}
 use Rattle.kex_code.proofs.reader.CodeReader.take.Goals as goal
 use Rattle.kex_code.proofs.reader.CodeReader.take.Goals.{in-Open, in-Whole+else-is_err}
@@ -10,7 +10,7 @@ use Rattle.kex_code.proofs.reader.CodeReader.take.Goals.{in-Open, in-Whole+else-
 pub returns-in-Wrong-clause-err : goal.returns-in-Wrong-clause-err
 returns-in-Wrong-clause-err c =
     let old = c.args.self.now in
-    let new : Reading = record { begun = text_begun c.self.inside.begun; good = c.self.inside.good; bad = true; usable = c.self.inside.usable } in
+    let new : CodeReading = record { begun = text_begun c.self.inside.begun; good = c.self.inside.good; bad = true; usable = c.self.inside.usable } in
     let here : old.begun ≡ text_begun c.self.inside.begun = ap (λ r. r.begun) (sym c.self.view_is) in
     let good : new.good ≡ old.good = ap (λ r. r.good) c.self.view_is in
     subst (λ e. FaultLeaves e old new (c.args.byte ∷ []) c.args.out.now c.args.out.now) (sym c.fault.ensures) (

@@ -1,5 +1,5 @@
 use Rattle.std.proofs.Common.{ap, ◌∙◌, arith}
-use Rattle.kex_constants.specs.Known.{number}
+use Rattle.kex_constants.specs.Known.{kept_number}
 use Rattle.kex_constants.proofs.RegisterNumbers.{number_most, number_read, number_beyond}
 use Rattle.kex_constants.proofs.known.Known.number.Goals as goal
 
@@ -24,4 +24,4 @@ overflow_cast-result-else-at-past c =
 pub returns-else-at-past : goal.returns-else-at-past
 returns-else-at-past c =
     number_beyond c.self.inside.constants.items c.self.inside.numbers.items c.self.invariant c.args.register c.len-past.result c.index-else-at-past.result.now (omega arith) c.if-at-past.false c.index-else-at-past.ensures
-    ∙ ap (λ z. number z c.args.register) c.self.view_is
+    ∙ ap (λ z. kept_number z c.args.register) c.self.view_is

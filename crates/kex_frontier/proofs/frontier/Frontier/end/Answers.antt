@@ -1,7 +1,7 @@
 use Rattle.std.proofs.Common.{◌≡◌, ◌∷◌, [], true, refl, ap, sym, subst, ◌∙◌, arith}
 use Rattle.kex_model.proofs.OpenAnswers.{empty_list}
 use Rattle.kex_machine.specs.Nodes.{node_moves}
-use Rattle.kex_frontier.specs.Edges.{HasTrees, as_is}
+use Rattle.kex_frontier.specs.Edges.{HasCodeTrees, as_is}
 use Rattle.kex_machine.specs.Advancing.{first_accepting}
 use Rattle.kex_frontier.specs.Views.{edges_at}
 use Rattle.kex_frontier.specs.Frontiers.{Front, IsFed, IsOver}
@@ -25,6 +25,6 @@ returns-clause-over c =
     subst (λ z. IsOver z new w taken) (sym c.end_of.ensures)
     (over old w taken (is_trim old.machine c.self.invariant.trimmed) c.in_ok-parsed.parsed new refl some
     (λ t is.
-    let has = subst (λ z. HasTrees as_is c.accept.new.found (first_accepting (node_moves z) t ∷ [])) nodes (c.in_ok-accept.ensures t is) in
+    let has = subst (λ z. HasCodeTrees as_is c.accept.new.found (first_accepting (node_moves z) t ∷ [])) nodes (c.in_ok-accept.ensures t is) in
     (c.in_ok-parsed.ensures.there (first_accepting (node_moves c.self.inside.machine.now.nodes) t) has, c.in_ok-parsed.ensures.code (first_accepting (node_moves c.self.inside.machine.now.nodes) t) has))
     (subst (λ z. IsFed z w taken) (sym c.self.view_is) h))

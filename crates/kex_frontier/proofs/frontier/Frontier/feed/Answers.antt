@@ -1,9 +1,9 @@
 use Rattle.std.proofs.Common.{◌≡◌, ◌∷◌, [], ◌++◌, true, length, refl, ap, sym, subst, ◌∙◌, arith}
 use Rattle.kex_model.proofs.OpenAnswers.{empty_list}
 use Rattle.kex_machine.specs.Nodes.{node_moves, IsTrimmed}
-use Rattle.kex_frontier.specs.Edges.{IsKept, IsTreeBelow}
+use Rattle.kex_frontier.specs.Edges.{IsKeptTree, IsTreeBelow}
 use Rattle.kex_frontier.specs.Views.{edges_at}
-use Rattle.kex_frontier.specs.Going.{WentOn}
+use Rattle.kex_frontier.specs.Going.{TreeWentOn}
 use Rattle.kex_machine.specs.Nodes.{StaysWithin}
 use Rattle.kex_frontier.specs.Frontiers.{Front, IsFed, IsFedBy}
 use Rattle.kex_machine.proofs.Ranges.{stays_within, is_trim}
@@ -25,7 +25,7 @@ invariant_of-self-2 c =
     let tree : IsTreeBelow (length c.self.inside.machine.now.nodes) (edges_at c.self.inside.tree.items) = kept_tree (length c.self.inside.machine.now.nodes) (edges_at c.self.inside.tree.items) c.self.inside.tools.marks (c.self.invariant.kept (ap (λ z. z.usable) c.self.view_is ∙ c.requires.usable)) some in
     record {
       trimmed = c.self.invariant.trimmed;
-      kept = λ _. subst (λ z. IsKept (length z) (edges_at c.go_on.new.tree.items) c.go_on.new.tools.marks) nodes (went_kept (node_moves c.nodes-nodes.result.now) (length c.nodes-nodes.result.now) c.args.byte tree.0 c.in_ok-on.on c.self.inside.untaken c.go_on.new.code (edges_at c.go_on.new.tree.items) c.go_on.new.tools.marks c.in_ok-on.ensures.long (c.in_ok-on.ensures.went tree.0 tree.1));
+      kept = λ _. subst (λ z. IsKeptTree (length z) (edges_at c.go_on.new.tree.items) c.go_on.new.tools.marks) nodes (went_kept (node_moves c.nodes-nodes.result.now) (length c.nodes-nodes.result.now) c.args.byte tree.0 c.in_ok-on.on c.self.inside.untaken c.go_on.new.code (edges_at c.go_on.new.tree.items) c.go_on.new.tools.marks c.in_ok-on.ensures.long (c.in_ok-on.ensures.went tree.0 tree.1));
     }
 
 pub returns-clause-fed : goal.returns-clause-fed
@@ -37,5 +37,5 @@ returns-clause-fed c =
     λ w taken h.
     subst (λ z. IsFedBy z new (w ++ c.args.byte ∷ []) taken) (sym c.answer_of.ensures)
     (fed old w taken (is_trim old.machine c.self.invariant.trimmed) c.args.byte (length c.nodes-nodes.result.now) c.in_ok-on.on new refl some
-    (λ t is. subst (λ z. WentOn (node_moves z) c.args.byte (length c.nodes-nodes.result.now) t c.in_ok-on.on c.self.inside.untaken c.go_on.new.code (edges_at c.go_on.new.tree.items)) nodes (c.in_ok-on.ensures.went t is))
+    (λ t is. subst (λ z. TreeWentOn (node_moves z) c.args.byte (length c.nodes-nodes.result.now) t c.in_ok-on.on c.self.inside.untaken c.go_on.new.code (edges_at c.go_on.new.tree.items)) nodes (c.in_ok-on.ensures.went t is))
     (subst (λ z. IsFed z w taken) (sym c.self.view_is) h))

@@ -2,7 +2,7 @@ use Rattle.std.proofs.Common.{◌<◌, ◌+◌, ◌∷◌, ◌++◌, [], length,
 use Rattle.kex_machine.specs.Nodes.{StaysWithin, node_moves}
 use Rattle.kex_machine.proofs.Nexts.{IsTrim}
 use Rattle.kex_machine.proofs.Ranges.{stays_within, is_trim}
-use Rattle.kex_frontier.specs.Rows.{IsRow}
+use Rattle.kex_frontier.specs.Rows.{IsMarkRow}
 use Rattle.kex_frontier.specs.Matchers.{Match, WasFed}
 use Rattle.kex_frontier.proofs.Matches.{fed_dead, fed_on, fed_dies, some_of, none_of}
 use Rattle.kex_frontier.proofs.matcher.Matcher.take.Goals as goal
@@ -23,7 +23,7 @@ returns-then-is_none-clause-fed c = λ w h.
     let new : Match = record { machine = g; row = c.swap.new.x; good = c.self.inside.good; dead = true } in
     let fed : WasFed old w = subst (λ z. WasFed z w) (sym c.self.view_is) h in
     let start : g.start < length c.nodes-nodes.result.now = subst (λ z. g.start < length z) (sym c.nodes-nodes.ensures.same) c.nodes-nodes.ensures.in_range.start_in in
-    let row : IsRow g (w ++ c.args.byte ∷ []) c.swap.new.x = subst (λ z. IsRow g (w ++ c.args.byte ∷ []) z) (sym c.swap.ensures.x_after) (c.step.ensures.row g w (sym c.nodes-nodes.ensures.same) start fed.row) in
+    let row : IsMarkRow g (w ++ c.args.byte ∷ []) c.swap.new.x = subst (λ z. IsMarkRow g (w ++ c.args.byte ∷ []) z) (sym c.swap.ensures.x_after) (c.step.ensures.row g w (sym c.nodes-nodes.ensures.same) start fed.row) in
     let none = none_of c.highest_below.result (c.if-is_none.ensures {u = tt}) c.highest_below.ensures.none in
     fed_dies old new w c.args.byte refl (is_trim g c.nodes-nodes.ensures.trimmed) fed c.if-self.false row (stays_within g c.nodes-nodes.ensures.in_range) c.nodes-nodes.ensures.in_range.start_in refl refl (λ p lt. none p (subst (λ z. p < length z) (sym c.nodes-nodes.ensures.same) lt))
 
@@ -34,6 +34,6 @@ returns-else-is_none-clause-fed c = λ w h.
     let new : Match = record { machine = g; row = c.swap.new.x; good = c.self.inside.good + 1; dead = c.self.inside.dead } in
     let fed : WasFed old w = subst (λ z. WasFed z w) (sym c.self.view_is) h in
     let start : g.start < length c.nodes-nodes.result.now = subst (λ z. g.start < length z) (sym c.nodes-nodes.ensures.same) c.nodes-nodes.ensures.in_range.start_in in
-    let row : IsRow g (w ++ c.args.byte ∷ []) c.swap.new.x = subst (λ z. IsRow g (w ++ c.args.byte ∷ []) z) (sym c.swap.ensures.x_after) (c.step.ensures.row g w (sym c.nodes-nodes.ensures.same) start fed.row) in
+    let row : IsMarkRow g (w ++ c.args.byte ∷ []) c.swap.new.x = subst (λ z. IsMarkRow g (w ++ c.args.byte ∷ []) z) (sym c.swap.ensures.x_after) (c.step.ensures.row g w (sym c.nodes-nodes.ensures.same) start fed.row) in
     let some = some_of c.highest_below.result (c.if-is_none.ensures {u = tt}) c.highest_below.ensures.some in
     fed_on old new w c.args.byte refl (is_trim g c.nodes-nodes.ensures.trimmed) fed c.if-self.false row c.if-self.false refl some.0 some.1.marked

@@ -5,7 +5,7 @@ use Rattle.kex_moves.specs.declared.edge.Edge.{Edge}
 use Rattle.std.proofs.lemmas.Nat.{same_from_place}
 use Rattle.kex_moves.specs.declared.edges.Pair.{Pair}
 use Rattle.kex_moves.specs.Edges.{IsAtRow}
-use Rattle.kex_moves.specs.Known.{Known, IsEdge, IsOrdered, IsRowOf}
+use Rattle.kex_moves.specs.Known.{Known, IsEdge, IsOrdered, IsPairRow}
 use Rattle.kex_moves.proofs.KnownEdges.{slice_get-set}
 use Rattle.kex_moves.proofs.edges.Edges.put.Goals as goal
 
@@ -21,7 +21,7 @@ stays k i e x h = record {
   acts = h.acts;
 }
 
-ordered : (k : Known) (row class : ℕ) (p : Pair) (e : Edge) → IsOrdered k → IsRowOf k row p → class < k.width → IsEdge k e → IsAtRow row e → IsOrdered (with_edge k (row + class) e)
+ordered : (k : Known) (row class : ℕ) (p : Pair) (e : Edge) → IsOrdered k → IsPairRow k row p → class < k.width → IsEdge k e → IsAtRow row e → IsOrdered (with_edge k (row + class) e)
 ordered k row class p e h r lt is stands = record {
   width = h.width;
   few = h.few;
@@ -42,10 +42,10 @@ pub invariant_of-self : goal.invariant_of-self
 invariant_of-self c =
     let e = c.self.inside in
     let k : Known = record { classes = e.classes; width = e.width; shift = e.shift; pairs = e.pairs.items; edges = e.edges.items; text = e.text.items; acts = e.acts.items } in
-    ordered k c.args.row c.args.class c.requires.row.0 c.args.edge c.self.invariant (subst (λ z. IsRowOf z c.args.row c.requires.row.0) (sym c.self.view_is) c.requires.row.1) (omega (arith, ap (λ z. z.width) c.self.view_is, c.requires.class)) (subst (λ z. IsEdge z c.args.edge) (sym c.self.view_is) c.requires.edge) c.requires.at
+    ordered k c.args.row c.args.class c.requires.row.0 c.args.edge c.self.invariant (subst (λ z. IsPairRow z c.args.row c.requires.row.0) (sym c.self.view_is) c.requires.row.1) (omega (arith, ap (λ z. z.width) c.self.view_is, c.requires.class)) (subst (λ z. IsEdge z c.args.edge) (sym c.self.view_is) c.requires.edge) c.requires.at
 
 pub returns-clause-ordered : goal.returns-clause-ordered
 returns-clause-ordered c =
     let e = c.self.inside in
     let k : Known = record { classes = e.classes; width = e.width; shift = e.shift; pairs = e.pairs.items; edges = e.edges.items; text = e.text.items; acts = e.acts.items } in
-    ordered k c.args.row c.args.class c.requires.row.0 c.args.edge c.self.invariant (subst (λ z. IsRowOf z c.args.row c.requires.row.0) (sym c.self.view_is) c.requires.row.1) (omega (arith, ap (λ z. z.width) c.self.view_is, c.requires.class)) (subst (λ z. IsEdge z c.args.edge) (sym c.self.view_is) c.requires.edge) c.requires.at
+    ordered k c.args.row c.args.class c.requires.row.0 c.args.edge c.self.invariant (subst (λ z. IsPairRow z c.args.row c.requires.row.0) (sym c.self.view_is) c.requires.row.1) (omega (arith, ap (λ z. z.width) c.self.view_is, c.requires.class)) (subst (λ z. IsEdge z c.args.edge) (sym c.self.view_is) c.requires.edge) c.requires.at

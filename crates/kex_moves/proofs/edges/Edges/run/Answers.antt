@@ -1,8 +1,8 @@
 use Rattle.std.proofs.Common.{◌+◌, subst, sym}
 use Rattle.std.specs.Prelude.{IfSome}
 use Rattle.std.proofs.lemmas.Option.{IfSome_then}
-use Rattle.kex_moves.specs.Known.{Known, IsEdge, IsRowOf}
-use Rattle.kex_moves.specs.Runs.{HasRow, LeadsBack, IsWithin, StopsAt}
+use Rattle.kex_moves.specs.Known.{Known, IsEdge, IsPairRow}
+use Rattle.kex_moves.specs.Runs.{HasEdgeRow, LeadsBack, AreEdgesWithin, StopsAt}
 use Rattle.kex_moves.proofs.KnownEdges.{at_of, row_in, back_in, rows_within}
 use Rattle.kex_moves.proofs.edges.Edges.run.Goals as goal
 
@@ -10,19 +10,19 @@ pub run-requires-clause-row : goal.run-requires-clause-row
 run-requires-clause-row c =
     let e = c.self.inside in
     let k : Known = record { classes = e.classes; width = e.width; shift = e.shift; pairs = e.pairs.items; edges = e.edges.items; text = e.text.items; acts = e.acts.items } in
-    subst (λ l. HasRow e.classes l c.args.row) (sym c.deref.ensures.value) (row_in k c.args.row c.requires.row.0 c.self.invariant (subst (λ k. IsRowOf k c.args.row c.requires.row.0) (sym c.self.view_is) c.requires.row.1))
+    subst (λ l. HasEdgeRow e.classes l c.args.row) (sym c.deref.ensures.value) (row_in k c.args.row c.requires.row.0 c.self.invariant (subst (λ k. IsPairRow k c.args.row c.requires.row.0) (sym c.self.view_is) c.requires.row.1))
 
 pub run-requires-clause-rows : goal.run-requires-clause-rows
 run-requires-clause-rows c =
     let e = c.self.inside in
     let k : Known = record { classes = e.classes; width = e.width; shift = e.shift; pairs = e.pairs.items; edges = e.edges.items; text = e.text.items; acts = e.acts.items } in
-    subst (λ t. IsWithin (record { classes = e.classes; edges = c.deref.result.now; text = t })) (sym c.deref-2.ensures.value) (subst (λ l. IsWithin (record { classes = e.classes; edges = l; text = k.text })) (sym c.deref.ensures.value) (rows_within k c.self.invariant))
+    subst (λ t. AreEdgesWithin (record { classes = e.classes; edges = c.deref.result.now; text = t })) (sym c.deref-2.ensures.value) (subst (λ l. AreEdgesWithin (record { classes = e.classes; edges = l; text = k.text })) (sym c.deref.ensures.value) (rows_within k c.self.invariant))
 
 pub run-requires-clause-back : goal.run-requires-clause-back
 run-requires-clause-back c =
     let e = c.self.inside in
     let k : Known = record { classes = e.classes; width = e.width; shift = e.shift; pairs = e.pairs.items; edges = e.edges.items; text = e.text.items; acts = e.acts.items } in
-    let row = subst (λ k. IsRowOf k c.args.row c.requires.row.0) (sym c.self.view_is) c.requires.row.1 in
+    let row = subst (λ k. IsPairRow k c.args.row c.requires.row.0) (sym c.self.view_is) c.requires.row.1 in
     subst (λ l. LeadsBack e.classes l c.args.row) (sym c.deref.ensures.value) (back_in k c.args.row row.number c.self.invariant row.begins)
 
 pub returns-clause-edge : goal.returns-clause-edge

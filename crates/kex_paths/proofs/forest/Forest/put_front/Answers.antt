@@ -1,7 +1,7 @@
 use Rattle.std.proofs.Common.{◌≡◌, ◌-◌, suc, [], ◌∷◌, length, subst, sym, refl, arith}
 use Rattle.kex_model.specs.Labelled.{with_prefix}
 use Rattle.kex_paths.specs.contracts.forest.Forest.{the_view}
-use Rattle.kex_paths.specs.Forests.{HasTrees, LeadsTo, last_tree, trees_before}
+use Rattle.kex_paths.specs.Forests.{HasTrees, LeadsToTree, last_tree, trees_before}
 use Rattle.kex_paths.proofs.LastEdges.{last_front, front_part, front_none}
 use Rattle.kex_paths.proofs.forest.Forest.put_front.Goals as goal
 use Rattle.kex_paths.proofs.forest.Forest.put_front.Goals.{in-Some+in_ok-push, in_default}
@@ -16,11 +16,11 @@ returns c = λ rs has.
       | in-Some+in_ok-push w ↦
           subst (λ z. HasTrees (the_view z) (with_prefix (c.args.part ∷ []) (last_tree rs) ∷ trees_before rs)) (sym w.self-inside-is)
           (last_front edges roots (c.len-count.result - 1) c.args.part c.index_mut.result.now _ long c.index_mut.ensures.value
-          (λ t h. front_part edges c.args.part w.in-Some.root (record { label = w.push.new.self; node = w.in-Some.root.node }) w.in_ok-push.ensures.ok refl t (subst (λ z. LeadsTo edges z t) w.in-Some.is h))
+          (λ t h. front_part edges c.args.part w.in-Some.root (record { label = w.push.new.self; node = w.in-Some.root.node }) w.in_ok-push.ensures.ok refl t (subst (λ z. LeadsToTree edges z t) w.in-Some.is h))
           rs old)
       | in_default w ↦
           subst (λ z. HasTrees (the_view z) (with_prefix (c.args.part ∷ []) (last_tree rs) ∷ trees_before rs)) (sym w.self-inside-is)
           (last_front edges roots (c.len-count.result - 1) c.args.part c.index_mut.result.now _ long c.index_mut.ensures.value
-          (λ t. subst (λ z. LeadsTo edges z t → LeadsTo edges z (with_prefix (c.args.part ∷ []) t)) (sym w.in_default.is) (front_none edges c.args.part t))
+          (λ t. subst (λ z. LeadsToTree edges z t → LeadsToTree edges z (with_prefix (c.args.part ∷ []) t)) (sym w.in_default.is) (front_none edges c.args.part t))
           rs old)
     ]

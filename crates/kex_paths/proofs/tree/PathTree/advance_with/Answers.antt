@@ -1,15 +1,15 @@
 use Rattle.std.proofs.Common.{◌≡◌, sym, subst}
 use Rattle.std.specs.Prelude.{IfOk, IfSome}
 use Rattle.kex_paths.specs.Nexts.{HasClass}
-use Rattle.kex_paths.specs.Spellings.{IsSound}
+use Rattle.kex_paths.specs.Spellings.{IsTreeSound}
 use Rattle.kex_paths.proofs.TaskSteps.{GoesOnBy, GoesOnFor, ShowsOver, goes_on_for, shows_for, if_ok_both}
 use Rattle.kex_paths.proofs.tree.PathTree.advance_with.Goals as goal
 
 pub advance-requires : goal.advance-requires
 advance-requires c =
-    subst (λ z. IsSound z c.shape.result.now c.leaves.result.now) (sym c.requires)
-    (subst (λ z. IsSound c.args.self.now.machine z c.leaves.result.now) (sym c.shape.ensures.same)
-    (subst (λ z. IsSound c.args.self.now.machine c.args.self.now.shape z) (sym c.leaves.ensures) c.shape.ensures.sound))
+    subst (λ z. IsTreeSound z c.shape.result.now c.leaves.result.now) (sym c.requires)
+    (subst (λ z. IsTreeSound c.args.self.now.machine z c.leaves.result.now) (sym c.shape.ensures.same)
+    (subst (λ z. IsTreeSound c.args.self.now.machine c.args.self.now.shape z) (sym c.leaves.ensures) c.shape.ensures.sound))
 
 pub returns-in-None-clause-next : goal.returns-in-None-clause-next
 returns-in-None-clause-next c = λ s b is has. absurd (c.in-None.ensures b (subst (λ z. HasClass z c.args.class b) (sym c.requires) has))

@@ -1,7 +1,7 @@
 use Rattle.std.proofs.Common.{rules, ◌≡◌, ◌||◌, not, ℕ, List, [], Option, None, true, length, sym, subst, append-nil}
 use Rattle.std.specs.Prelude.{IsTrue}
 use Rattle.kex_pipe.specs.Bounds.{StandsAs, fate_of}
-use Rattle.kex_pipe.specs.Histories.{Feeds, bytes_fed, text_of}
+use Rattle.kex_pipe.specs.Histories.{Feeds, bytes_fed, said_text}
 use Rattle.kex_pipe.specs.declared.turn.Fate.{Fate}
 use Rattle.kex_pipe.specs.declared.turn.Fate.TheVariants.{Stopped}
 use Rattle.kex_pipe.specs.declared.turn.Stop.{Stop}
@@ -21,7 +21,7 @@ returns-clause-feeds g c = λ h stands e.
     let m = w.machine s.worker in
     let none : s.stop ≡ None = search rules in
     let open_ = open_of (λ u x b. w.gives m s.limit u x b) (λ u t. w.follows s.worker u t × (s.count ≡ length u)) s.stop s.over h stands.0 e none in
-    let closed = c.in_ok-parsed.ensures.ends (bytes_fed h) (text_of h) open_.0 in
+    let closed = c.in_ok-parsed.ensures.ends (bytes_fed h) (said_text h) open_.0 in
     let more = ends (w.says m) (w.closes m) w.gives m (g.met.W.Worker.answers m) s.limit h s.count open_.1 s.within
     (λ u t. w.follows c.finish.new.self u t × (s.count ≡ length u)) (IsTrue (not w.may_want || true)) (w.machine c.finish.new.self) c.in_ok-parsed.parsed
     c.args.out.now.items c.finish.new.out.items c.finish.ensures.same (may_go_on w.may_want) closed in

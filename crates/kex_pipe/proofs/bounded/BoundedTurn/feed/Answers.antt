@@ -2,7 +2,7 @@ use Rattle.std.proofs.Common.{rules, ◌≡◌, ◌+◌, ◌++◌, ◌||◌, not
 use Rattle.std.specs.Prelude.{IsTrue}
 use Rattle.std.proofs.lemmas.Bool.{ltb-true, ltb-false}
 use Rattle.kex_pipe.specs.Bounds.{StandsAs, fate_of}
-use Rattle.kex_pipe.specs.Histories.{Feeds, bytes_fed, text_of}
+use Rattle.kex_pipe.specs.Histories.{Feeds, bytes_fed, said_text}
 use Rattle.kex_pipe.specs.declared.turn.Fate.{Fate}
 use Rattle.kex_pipe.specs.declared.turn.Fate.TheVariants.{Stopped}
 use Rattle.kex_pipe.specs.declared.turn.Stop.{Stop}
@@ -25,7 +25,7 @@ returns-clause-feeds g c = λ h stands e.
     let none : s.stop ≡ None = search rules in
     let on : s.over ≡ false = search rules in
     let open_ = open_of (λ u x b. w.gives m s.limit u x b) (λ u t. w.follows s.worker u t × (s.count ≡ length u)) s.stop s.over h stands.0 e none in
-    let reads = c.in_ok-at.ensures.reads (bytes_fed h) (text_of h) open_.0 in
+    let reads = c.in_ok-at.ensures.reads (bytes_fed h) (said_text h) open_.0 in
     let more = feeds (w.says m) (w.closes m) w.gives m (g.met.W.Worker.answers m) s.limit h s.count piece front open_.1 s.within c.front_of-front.ensures
     (λ u t. w.follows c.go_on.new.self u t) (IsTrue (not w.may_want || true)) (w.machine c.go_on.new.self) c.in_ok-at.at (nat_lt (length front) (length piece))
     c.args.out.now.items c.go_on.new.out.items c.go_on.ensures.same (may_go_on w.may_want)

@@ -2,7 +2,7 @@ use Rattle.std.proofs.Common.{[], ◌++◌, sym, subst}
 use Rattle.kex_code.specs.Codes.{Begins}
 use Rattle.kex_model.specs.Schedules.{Settled}
 use Rattle.kex_pipe.proofs.Schedule.{came-given}
-use Rattle.kex_rings.specs.Lines.{Line, turns_from}
+use Rattle.kex_rings.specs.Lines.{RingLine, turns_from}
 use Rattle.kex_rings.proofs.StageTurns.{same-bytes, same-end}
 use Rattle.kex_rings.proofs.Standings.{standing-and, has-written, stands-begins, whole-given}
 use Rattle.kex_rings.proofs.pipe.RingPipe.settle.Goals as goal
@@ -10,7 +10,7 @@ use Rattle.kex_rings.proofs.pipe.RingPipe.settle.Goals as goal
 pub returns-in-Ok-clause-works : goal.returns-in-Ok-clause-works
 returns-in-Ok-clause-works g c = λ ps h taken s.
     let t = g.T.Turn in
-    let r = c.in-Ok.ensures.settles ps h s.came s.seats taken (whole-given h s.came (came-given t.gives s.after)) s.after (subst (λ z. Line t s.came [] ps z.items s.seats c.args.self.now.output taken) (sym c.replace-seats.ensures.value) s.line) in
+    let r = c.in-Ok.ensures.settles ps h s.came s.seats taken (whole-given h s.came (came-given t.gives s.after)) s.after (subst (λ z. RingLine t s.came [] ps z.items s.seats c.args.self.now.output taken) (sym c.replace-seats.ensures.value) s.line) in
     let both = standing-and t (λ came xs. Settled t.gives came ps xs) ps _ (h ++ turns_from 0 r.0) taken s.came r.1 r.2 r.3 s.same_end s.going r.4 in
     record { events = h ++ turns_from 0 r.0; same_bytes = same-bytes h 0 r.0; same_end = same-end h 0 r.0; stands = both.0; settled = both.1 }
 

@@ -9,7 +9,7 @@ use Rattle.kex_sst.specs.Tables.{Row}
 use Rattle.kex_script.specs.Scripts.{entry_at}
 use Rattle.kex_runner.specs.declared.quiet.Quiet.{Quiet}
 use Rattle.kex_runner.specs.Noting.{contents, noted_by}
-use Rattle.kex_runner.specs.Following.{IsPlace}
+use Rattle.kex_runner.specs.Following.{IsTablePlace}
 use Rattle.kex_runner.specs.Quiet.{IsQuiet, StaysAt, staying}
 use Rattle.kex_runner.proofs.ByteSteps.{Goes, goes_none, place_in_range}
 use Rattle.kex_runner.proofs.QuietUpdates.{told, whole_next, place_quiet, goes_quiet, stays_on, stays_each, byte_within}
@@ -49,7 +49,7 @@ quiet-init c =
       within = omega (arith, c.if-row-guide.false, ap length c.as_slice-quiets.ensures.value);
       whole = ap (λ z. z * w) back;
       room = subst (λ v. vec_len v + (c.min-room.result - 0) ≤ vec_capacity v) (sym c.replace-notes.ensures.value) (omega (arith, c.in_ok-try_reserve.ensures.ok));
-      place = subst (λ z. IsPlace t z (noted_by g.script c.args.self.now.base.items c.replace-notes.result.items)) back (subst (λ z. IsPlace t state z) holds c.requires.runner.sound.place);
+      place = subst (λ z. IsTablePlace t z (noted_by g.script c.args.self.now.base.items c.replace-notes.result.items)) back (subst (λ z. IsTablePlace t state z) holds c.requires.runner.sound.place);
       goes = subst (λ z. Goes t state regs c.args.piece.now 0 z (noted_by g.script c.args.self.now.base.items c.replace-notes.result.items) [] []) back (subst (λ z. Goes t state regs c.args.piece.now 0 state z [] []) holds (goes_none t state regs c.args.piece.now []));
     }
 
@@ -79,11 +79,11 @@ module _ (c : After-push_reserved) where
       let at : slice_get g.quiets.items (row + class) ≡ Some quiet = subst (λ z. slice_get z (row + class) ≡ Some quiet) same (subst (λ z. slice_get all (row + z) ≡ Some quiet) c.from.ensures (slice_get-get_or all (row + c.from.result) none inside)) in
       told c.args.table.now g c.requires.runner.sound.table c.requires.runner.script c.requires.guide row class quiet c.quiet.invariant.whole lt at c.if-quiet.false
 
-  placed : IsPlace c.args.table.now (quiet.row / c.args.guide.now.width) (noted_by c.args.guide.now.script c.args.self.now.base.items c.push_reserved.new.self.items)
+  placed : IsTablePlace c.args.table.now (quiet.row / c.args.guide.now.width) (noted_by c.args.guide.now.script c.args.self.now.base.items c.push_reserved.new.self.items)
   placed =
       let t = c.args.table.now in
       let g = c.args.guide.now in
-      subst (λ z. IsPlace t (quiet.row / g.width) (noted_by g.script c.args.self.now.base.items z)) (sym c.push_reserved.ensures.items)
+      subst (λ z. IsTablePlace t (quiet.row / g.width) (noted_by g.script c.args.self.now.base.items z)) (sym c.push_reserved.ensures.items)
       (place_quiet t g c.requires.runner.sound.table c.requires.runner.script c.requires.guide c.args.self.now.base.items c.quiet.notes.items c.quiet.row class (get_or c.args.piece.now c.quiet.count 0) false quiet told_there few c.quiet.invariant.place)
 
   gone : Goes c.args.table.now c.args.state.now (contents c.args.guide.now.script c.args.self.now) c.args.piece.now (c.quiet.count + 1) (quiet.row / c.args.guide.now.width) (noted_by c.args.guide.now.script c.args.self.now.base.items c.push_reserved.new.self.items) [] []
@@ -139,13 +139,13 @@ quiet-preserved-then-next-row c =
     let stays = subst (λ z. All (StaysAt z t.classes row) (take n rest)) quiets (subst (λ z. All (StaysAt c.as_slice-quiets.result.now z row) (take n rest)) classes c.stay-count.ensures.stays) in
     let noted : c.stay-count.new.notes.items ≡ notes ++ staying g.quiets.items t.classes row (take n rest) = c.stay-count.ensures.notes ∙ ap₂ (λ x y. notes ++ staying x y row (take n rest)) quiets classes in
     let all = stays_on t g c.requires.runner.sound.table c.requires.runner.script c.requires.guide base notes row c.quiet.invariant.whole (λ e. c.if-quiet.false (same ∙ e)) c.quiet.invariant.within c.args.state.now regs c.args.piece.now rest from fits at (λ k lt. subst (λ z. z < 256) (sym (at k lt)) (c.type_inv.piece (from + k)).fits) n few_more (stays_each g.quiets.items t.classes rest row n few_more stays)
-    (subst (λ z. IsPlace t z (noted_by g.script base notes)) back (placed top)) (subst (λ z. Goes t c.args.state.now regs c.args.piece.now from z (noted_by g.script base notes) [] []) back (gone top)) in
+    (subst (λ z. IsTablePlace t z (noted_by g.script base notes)) back (placed top)) (subst (λ z. Goes t c.args.state.now regs c.args.piece.now from z (noted_by g.script base notes) [] []) back (gone top)) in
     record {
       count = omega (arith, few_more, long, c.quiet-test.true);
       within = c.quiet.invariant.within;
       whole = c.quiet.invariant.whole;
       room = omega (arith, c.stay-count.ensures.room, long, few_more, c.quiet-test.true);
-      place = subst (λ z. IsPlace t (row / w) (noted_by g.script base z)) (sym noted) all.0;
+      place = subst (λ z. IsTablePlace t (row / w) (noted_by g.script base z)) (sym noted) all.0;
       goes = subst (λ z. Goes t c.args.state.now regs c.args.piece.now (from + n) (row / w) (noted_by g.script base z) [] []) (sym noted) all.1;
     }
 
@@ -168,7 +168,7 @@ pub returns-clause-runner : goal.returns-clause-runner
 returns-clause-runner c =
     let t = c.args.table.now in
     let state = c.state_of-now.result in
-    let p = subst (λ z. IsPlace t z (noted_by c.args.guide.now.script c.args.self.now.base.items c.quiet.notes.items)) (sym c.state_of-now.ensures) c.quiet.invariant.place in
+    let p = subst (λ z. IsTablePlace t z (noted_by c.args.guide.now.script c.args.self.now.base.items c.quiet.notes.items)) (sym c.state_of-now.ensures) c.quiet.invariant.place in
     let s = c.index-states-now.result in
     let at : slice_get t.states state ≡ Some s = slice_get_read t.states (length t.states) state s refl (place_in_range p) (subst (λ z. s ≡ get_or z state s) c.states.ensures.same c.index-states-now.is) in
     record {

@@ -2,7 +2,7 @@ use Rattle.std.proofs.Common.{false, ◌≡◌, [], length, ap, ap₂, sym, ◌�
 use Rattle.std.proofs.lemmas.List.{length-map, map_push}
 use Rattle.kex_sst.specs.Parts.{parts_code}
 use Rattle.kex_script.specs.Scripts.{change_at}
-use Rattle.kex_runner.specs.declared.reading.Note.{Note}
+use Rattle.kex_runner.specs.declared.reading.NotedUpdate.{NotedUpdate}
 use Rattle.kex_runner.specs.Noting.{contents, next_registers, registers_after, settled_of, update_of, updates_of}
 use Rattle.kex_runner.proofs.Notes.{registers_push, registers_fresh}
 use Rattle.kex_runner.proofs.registers.Registers.note.Goals as goal
@@ -18,7 +18,7 @@ noted : (c : In_ok-push) → registers_after (settled_of c.args.script.now c.mak
 noted c =
     let s = c.args.script.now in
     let r = c.make_room.new.self in
-    let note : Note = record { lists = c.args.entry.lists; byte = c.args.byte; stays = false } in
+    let note : NotedUpdate = record { lists = c.args.entry.lists; byte = c.args.byte; stays = false } in
     ap (λ z. registers_after (settled_of s r.base.items) z) (ap (λ z. updates_of s z) c.in_ok-push.ensures.ok ∙ map_push (λ n. update_of s n) r.notes.items note)
     ∙ registers_push (settled_of s r.base.items) (updates_of s r.notes.items) (update_of s note)
     ∙ ap (λ z. next_registers (change_at s c.args.entry.lists) c.args.byte z) c.make_room.ensures.same

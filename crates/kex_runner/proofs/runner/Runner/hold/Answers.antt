@@ -4,7 +4,7 @@ use Rattle.std.proofs.lemmas.List.{length-take-le}
 use Rattle.kex_script.specs.Pieces.{code_over}
 use Rattle.kex_runner.specs.declared.answers.Fed.TheVariants.{Dead}
 use Rattle.kex_runner.specs.Noting.{contents}
-use Rattle.kex_runner.specs.Running.{Running, Feeds, answer_of}
+use Rattle.kex_runner.specs.Running.{Running, RunnerFeeds, runner_answer}
 use Rattle.kex_runner.proofs.FedRunners.{feeds, feeds_after, none_pending}
 use Rattle.kex_runner.proofs.runner.Runner.hold.Goals as goal
 
@@ -17,7 +17,7 @@ returns-then-self-clause-fed c =
     let pieces = c.hand_over.new.pieces.items in
     let told : code_over script.words pieces ≡ r.pending = ap (λ z. code_over script.words z) c.hand_over.ensures.pieces in
     none_pending Dead c.args.self.now n piece [] (code_over c.args.self.now.words pieces) (code_over script.words c.hand_over.new.pending.items) (ap (λ z. code_over script.words z) c.hand_over.ensures.none)
-    (subst (λ (z : Running). Feeds Dead z n piece [] (code_over z.words pieces)) c.self.view_is (feeds_after r piece [] (code_over script.words pieces) c.if-self.true told))
+    (subst (λ (z : Running). RunnerFeeds Dead z n piece [] (code_over z.words pieces)) c.self.view_is (feeds_after r piece [] (code_over script.words pieces) c.if-self.true told))
 
 pub returns-clause-fed : goal.returns-clause-fed
 returns-clause-fed c =
@@ -32,9 +32,9 @@ returns-clause-fed c =
     let before = c.hand_over.new.pieces.items in
     let pieces = c.follow_held.new.pieces.items in
     let told : code_over script.words before ≡ r.pending = ap (λ z. code_over script.words z) c.hand_over.ensures.pieces in
-    subst (λ z. Feeds z c.args.self.now (record n { pending = code_over script.words c.hand_over.new.pending.items }) piece [] (code_over c.args.self.now.words pieces)) (sym c.answer_of.ensures)
-    (none_pending (answer_of dead) c.args.self.now n piece [] (code_over c.args.self.now.words pieces) (code_over script.words c.hand_over.new.pending.items) (ap (λ z. code_over script.words z) c.hand_over.ensures.none)
-    (subst (λ (z : Running). Feeds (answer_of dead) z n piece [] (code_over z.words pieces)) c.self.view_is
+    subst (λ z. RunnerFeeds z c.args.self.now (record n { pending = code_over script.words c.hand_over.new.pending.items }) piece [] (code_over c.args.self.now.words pieces)) (sym c.answer_of.ensures)
+    (none_pending (runner_answer dead) c.args.self.now n piece [] (code_over c.args.self.now.words pieces) (code_over script.words c.hand_over.new.pending.items) (ap (λ z. code_over script.words z) c.hand_over.ensures.none)
+    (subst (λ (z : Running). RunnerFeeds (runner_answer dead) z n piece [] (code_over z.words pieces)) c.self.view_is
     (feeds r piece good n.state n.registers [] (code_over script.words before) (code_over script.words pieces) dead c.if-self.false told c.in_ok-taken.ensures.follows
     (λ e. omega (arith, long, ltb-true good taken e))
     (λ e. omega (arith, long, ltb-false good taken e)))))

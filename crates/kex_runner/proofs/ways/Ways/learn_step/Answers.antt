@@ -3,13 +3,13 @@ use Rattle.std.specs.Prelude.{IfSome}
 use Rattle.std.proofs.lemmas.List.Elements.{All-set}
 use Rattle.std.proofs.lemmas.Option.{get_or_from_slice_get}
 use Rattle.kex_script.specs.Scripts.{change_at}
-use Rattle.kex_runner.specs.Ways.{IsStep, IsStepIf, composition}
+use Rattle.kex_runner.specs.Ways.{IsWayStep, IsStepIf, composition}
 use Rattle.kex_runner.proofs.WayLemmas.{known_more, step_if, step_is}
 use Rattle.kex_runner.proofs.ways.Ways.learn_step.Goals as goal
 use Rattle.kex_runner.proofs.ways.Ways.learn_step.Goals.{In_ok-split}
 
 -- what was found
-found : (c : In_ok-split) → IfSome c.in_ok-split.split (λ x. IsStep c.args.script.now c.split_of.new.ways c.args.way c.args.lists x)
+found : (c : In_ok-split) → IfSome c.in_ok-split.split (λ x. IsWayStep c.args.script.now c.split_of.new.ways c.args.way c.args.lists x)
 found c =
     let s = c.args.script.now in
     let ways = c.args.self.now.lists in

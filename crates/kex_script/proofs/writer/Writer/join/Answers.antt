@@ -1,7 +1,7 @@
 use Rattle.std.proofs.Common.{◌++◌, ◌∷◌, [], sym, ap, subst, ◌∙◌}
 use Rattle.kex_script.specs.declared.script.Tail.{Tail}
 use Rattle.kex_script.specs.Scripts.{AreTails, IsTail}
-use Rattle.kex_script.specs.Pages.{Pages, Keeps, IsJoined}
+use Rattle.kex_script.specs.Pages.{Pages, KeepsItems, IsJoined}
 use Rattle.kex_script.proofs.Pages.{keeps_same, keeps_more, tails_more}
 use Rattle.kex_script.proofs.writer.Writer.join.Goals as goal
 
@@ -16,6 +16,6 @@ returns-clause-sound c =
 
 pub returns-clause-grown : goal.returns-clause-grown
 returns-clause-grown c = record {
-  lists = subst (λ y. Keeps c.args.self.now.lists y) (ap (λ (z : Pages). z.lists ++ c.args.whole.now ∷ []) (sym c.self.view_is) ∙ sym c.in_ok-number.ensures.added) (keeps_more c.args.self.now.lists (c.args.whole.now ∷ []));
-  rows = subst (λ y. Keeps c.args.self.now.rows y) (ap (λ (z : Pages). z.rows) (sym c.self.view_is)) (keeps_same c.args.self.now.rows);
+  lists = subst (λ y. KeepsItems c.args.self.now.lists y) (ap (λ (z : Pages). z.lists ++ c.args.whole.now ∷ []) (sym c.self.view_is) ∙ sym c.in_ok-number.ensures.added) (keeps_more c.args.self.now.lists (c.args.whole.now ∷ []));
+  rows = subst (λ y. KeepsItems c.args.self.now.rows y) (ap (λ (z : Pages). z.rows) (sym c.self.view_is)) (keeps_same c.args.self.now.rows);
 }

@@ -1,6 +1,6 @@
 use Rattle.std.proofs.Common.{◌≡◌, ◌≤◌, Some, take, length, ◌-◌}
 use Rattle.std.specs.Prelude.{slice_get}
-use Rattle.kex_script.specs.Pages.{AreSound, Grows}
+use Rattle.kex_script.specs.Pages.{AreSound, PagesGrow}
 use Rattle.kex_script.proofs.writer.Writer.list.Given as goal
 
 abbrev pub invariant-loop-from : goal.invariant-loop-from
@@ -8,7 +8,7 @@ invariant-loop-from l = record {
   number : slice_get l.self.lists l.number ≡ Some (take l.from l.parts);
   from : l.from ≤ length l.parts;
   sound : AreSound l.self;
-  grown : Grows l.initial.self l.self;
+  grown : PagesGrow l.initial.self l.self;
   rows : l.self.rows ≡ l.initial.self.rows;
 }
 

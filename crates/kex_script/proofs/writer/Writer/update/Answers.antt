@@ -1,7 +1,7 @@
 use Rattle.std.proofs.Common.{◌≡◌, ◌++◌, ◌∷◌, [], length, drop, sym, ap, ◌∙◌, arith, subst}
 use Rattle.std.proofs.lemmas.Result.{IfOk-weaker, on_ok_weaker}
 use Rattle.kex_sst.specs.Parts.{Change}
-use Rattle.kex_script.specs.Pages.{Pages, Keeps, Grows, IsListAt, AreListsAt, IsRow}
+use Rattle.kex_script.specs.Pages.{Pages, KeepsItems, PagesGrow, IsListAt, AreListsAt, IsRow}
 use Rattle.kex_script.proofs.Pages.{keeps_same, keeps_more, kept_in_front, grows_on, the_row, row_moved}
 use Rattle.kex_script.proofs.writer.Writer.update.Goals as goal
 
@@ -23,26 +23,26 @@ written c =
     (subst (λ z. AreListsAt c.put_all.new.self (length c.put.new.self.rows) (length z) z) c.regs-2.ensures c.in_ok-put_all.ensures.at)
 
 -- what was there before stays where the row is
-grown : (c : goal.After-share) → Grows c.args.self.now c.put_all.new.self
+grown : (c : goal.After-share) → PagesGrow c.args.self.now c.put_all.new.self
 grown c =
     let count = c.in-Ok-try_from.count in
-    let pushed : Grows (record { words = c.self.inside.words; lists = c.self.inside.lists; tails = c.self.inside.tails.items; rows = c.self.inside.rows }) (begun c) = record {
+    let pushed : PagesGrow (record { words = c.self.inside.words; lists = c.self.inside.lists; tails = c.self.inside.tails.items; rows = c.self.inside.rows }) (begun c) = record {
       lists = keeps_same c.self.inside.lists;
-      rows = subst (λ z. Keeps c.self.inside.rows z) (sym c.in_ok-push.ensures) (keeps_more c.self.inside.rows (count ∷ []));
+      rows = subst (λ z. KeepsItems c.self.inside.rows z) (sym c.in_ok-push.ensures) (keeps_more c.self.inside.rows (count ∷ []));
     } in
-    grows_on (subst (λ z. Grows z (begun c)) c.self.view_is pushed) (grows_on c.in_ok-put.ensures.grown c.in_ok-put_all.ensures.grown)
+    grows_on (subst (λ z. PagesGrow z (begun c)) c.self.view_is pushed) (grows_on c.in_ok-put.ensures.grown c.in_ok-put_all.ensures.grown)
 
 -- the pages where the row is gone, if an equal one stood before it
 abbrev after : goal.After-share → Pages
 after c = record { words = c.self-2.inside.words; lists = c.self-2.inside.lists; tails = c.self-2.inside.tails.items; rows = c.share.new.self }
 
 pub returns-clause-row : goal.returns-clause-row
-returns-clause-row c = IfOk-weaker c.share.result (λ place. Keeps (drop c.in-Ok.at c.self-2.inside.rows) (drop place c.share.new.self)) (λ place. IsRow (after c) place c.args.update.now) (λ place moved. row_moved c.put_all.new.self (after c) c.in-Ok.at place (sym (ap (λ (z : Pages). z.lists) c.self-2.view_is)) (subst (λ z. Keeps (drop c.in-Ok.at z) (drop place c.share.new.self)) (ap (λ (z : Pages). z.rows) c.self-2.view_is) moved) c.args.update.now (written c)) c.share.ensures.row
+returns-clause-row c = IfOk-weaker c.share.result (λ place. KeepsItems (drop c.in-Ok.at c.self-2.inside.rows) (drop place c.share.new.self)) (λ place. IsRow (after c) place c.args.update.now) (λ place moved. row_moved c.put_all.new.self (after c) c.in-Ok.at place (sym (ap (λ (z : Pages). z.lists) c.self-2.view_is)) (subst (λ z. KeepsItems (drop c.in-Ok.at z) (drop place c.share.new.self)) (ap (λ (z : Pages). z.rows) c.self-2.view_is) moved) c.args.update.now (written c)) c.share.ensures.row
 
 pub returns-clause-grown : goal.returns-clause-grown
 returns-clause-grown c =
     let old = c.args.self.now in
-    let all : Grows old (record { words = c.self-2.inside.words; lists = c.self-2.inside.lists; tails = c.self-2.inside.tails.items; rows = c.self-2.inside.rows }) = subst (λ z. Grows old z) (sym c.self-2.view_is) (grown c) in
+    let all : PagesGrow old (record { words = c.self-2.inside.words; lists = c.self-2.inside.lists; tails = c.self-2.inside.tails.items; rows = c.self-2.inside.rows }) = subst (λ z. PagesGrow old z) (sym c.self-2.view_is) (grown c) in
     on_ok_weaker c.share.result (λ stays. record {
       lists = all.lists;
       rows = λ k x e. stays k x (kept_in_front c.in-Ok.at old.rows c.self-2.inside.rows (omega (arith, the_place c)) all.rows k x e);

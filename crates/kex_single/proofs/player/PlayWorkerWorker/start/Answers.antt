@@ -1,5 +1,5 @@
 use Rattle.std.proofs.Common.{[], refl, sym, ap, subst}
-use Rattle.kex_code.specs.Readers.{Reading}
+use Rattle.kex_code.specs.Readers.{CodeReading}
 use Rattle.kex_action.specs.Actors.{BeginsRun}
 use Rattle.kex_model.specs.Moves.{code_of}
 use Rattle.kex_single.proofs.player.PlayWorkerWorker.start.Goals as goal
@@ -11,7 +11,7 @@ returns-clause-follows c =
     record {
       code = [];
       spelt = c.new-2.ensures.begins;
-      good = ap (λ (r : Reading). r.bad) c.new-2.ensures.usable;
+      good = ap (λ (r : CodeReading). r.bad) c.new-2.ensures.usable;
       performed = c.in_ok-actor.ensures.begins;
       begins = subst (λ g. BeginsRun g []) (sym c.in_ok-actor.ensures.machine) begins;
       long = refl;

@@ -1,7 +1,7 @@
 use Rattle.std.proofs.Common.{◌≡◌, ◌+◌, ◌-◌, [], List, ℕ, true, length, take, drop, sym, ap, subst, ◌∙◌, arith, length-drop}
 use Rattle.std.proofs.lemmas.List.{length-take-le, take_all, take_rest}
 use Rattle.kex_stage.specs.declared.oracle.Oracle.TheVariants.{Table}
-use Rattle.kex_stage.specs.Works.{Goes, Works}
+use Rattle.kex_stage.specs.Works.{StageGoes, StageWorks}
 use Rattle.kex_stage.specs.Strides.{HasGone}
 use Rattle.kex_stage.proofs.Followers.{cut_at, goes_more, none_refused, rests, settles, taken_both, works_more}
 use Rattle.kex_stage.proofs.follower.Follower.go_on.Goals as goal
@@ -30,18 +30,18 @@ returns-then-stride-clause-works c =
     let rest : List ℕ = take (length c.args.piece.now - c.strides.at) (drop c.strides.at c.args.piece.now) in
     let gone : HasGone true (Table c.strides.self) (Table c.stride.new.self) c.strides.actor c.stride.new.actor rest c.in_ok-stride.stride.count c.strides.out.items c.stride.new.out.items = subst (λ r. HasGone r (Table c.strides.self) (Table c.stride.new.self) c.strides.actor c.stride.new.actor rest c.in_ok-stride.stride.count c.strides.out.items c.stride.new.out.items) c.if-stride.true c.in_ok-stride.ensures.gone in
     let done = works_more (Table c.args.self.now) (Table c.strides.self) (Table c.stride.new.self) c.args.actor.now c.strides.actor c.stride.new.actor (take c.strides.at c.args.piece.now) rest c.in_ok-stride.stride.count c.args.out.now.items c.strides.out.items c.stride.new.out.items c.strides.invariant.goes gone.1 gone.0 in
-    subst (λ k. Works (Table c.args.self.now) (Table c.stride.new.self) c.args.actor.now c.stride.new.actor c.args.piece.now (k + c.in_ok-stride.stride.count) c.args.out.now.items c.stride.new.out.items) (length-take-le c.strides.at c.args.piece.now c.strides.invariant.at)
-    (subst (λ p. Works (Table c.args.self.now) (Table c.stride.new.self) c.args.actor.now c.stride.new.actor p (length (take c.strides.at c.args.piece.now) + c.in_ok-stride.stride.count) c.args.out.now.items c.stride.new.out.items) (cut_at c.args.piece.now c.strides.at) done)
+    subst (λ k. StageWorks (Table c.args.self.now) (Table c.stride.new.self) c.args.actor.now c.stride.new.actor c.args.piece.now (k + c.in_ok-stride.stride.count) c.args.out.now.items c.stride.new.out.items) (length-take-le c.strides.at c.args.piece.now c.strides.invariant.at)
+    (subst (λ p. StageWorks (Table c.args.self.now) (Table c.stride.new.self) c.args.actor.now c.stride.new.actor p (length (take c.strides.at c.args.piece.now) + c.in_ok-stride.stride.count) c.args.out.now.items c.stride.new.out.items) (cut_at c.args.piece.now c.strides.at) done)
 
 pub strides-preserved : goal.strides-preserved
 strides-preserved c =
     let rest : List ℕ = take (length c.args.piece.now - c.strides.at) (drop c.strides.at c.args.piece.now) in
     let i = c.strides.invariant in
     let long = ap length (take_rest c.args.piece.now c.strides.at) ∙ length-drop c.strides.at c.args.piece.now in
-    let gone : Goes (Table c.strides.self) (Table c.stride.new.self) c.strides.actor c.stride.new.actor (take c.in_ok-stride.stride.count rest) c.strides.out.items c.stride.new.out.items = subst (λ r. HasGone r (Table c.strides.self) (Table c.stride.new.self) c.strides.actor c.stride.new.actor rest c.in_ok-stride.stride.count c.strides.out.items c.stride.new.out.items) c.if-stride.false c.in_ok-stride.ensures.gone in
+    let gone : StageGoes (Table c.strides.self) (Table c.stride.new.self) c.strides.actor c.stride.new.actor (take c.in_ok-stride.stride.count rest) c.strides.out.items c.stride.new.out.items = subst (λ r. HasGone r (Table c.strides.self) (Table c.stride.new.self) c.strides.actor c.stride.new.actor rest c.in_ok-stride.stride.count c.strides.out.items c.stride.new.out.items) c.if-stride.false c.in_ok-stride.ensures.gone in
     record {
       at = omega (arith, c.in_ok-stride.ensures.count, long, c.strides.invariant.at);
-      goes = subst (λ p. Goes (Table c.args.self.now) (Table c.stride.new.self) c.args.actor.now c.stride.new.actor p c.args.out.now.items c.stride.new.out.items) (taken_both c.args.piece.now c.strides.at c.in_ok-stride.stride.count c.strides.invariant.at) (goes_more (Table c.args.self.now) (Table c.strides.self) (Table c.stride.new.self) c.args.actor.now c.strides.actor c.stride.new.actor (take c.strides.at c.args.piece.now) (take c.in_ok-stride.stride.count rest) c.args.out.now.items c.strides.out.items c.stride.new.out.items c.strides.invariant.goes gone);
+      goes = subst (λ p. StageGoes (Table c.args.self.now) (Table c.stride.new.self) c.args.actor.now c.stride.new.actor p c.args.out.now.items c.stride.new.out.items) (taken_both c.args.piece.now c.strides.at c.in_ok-stride.stride.count c.strides.invariant.at) (goes_more (Table c.args.self.now) (Table c.strides.self) (Table c.stride.new.self) c.args.actor.now c.strides.actor c.stride.new.actor (take c.strides.at c.args.piece.now) (take c.in_ok-stride.stride.count rest) c.args.out.now.items c.strides.out.items c.stride.new.out.items c.strides.invariant.goes gone);
       told = c.in_ok-stride.ensures.told;
       moves = c.in_ok-stride.ensures.moves ∙ c.strides.invariant.moves;
       machine = c.in_ok-stride.ensures.machine ∙ c.strides.invariant.machine;
@@ -53,6 +53,6 @@ strides-preserved c =
 pub returns-clause-works : goal.returns-clause-works
 returns-clause-works c =
     let all : c.strides.at ≡ length c.args.piece.now = omega (arith, c.strides-test.false, c.strides.invariant.at) in
-    let goes = subst (λ p. Goes (Table c.args.self.now) (Table c.strides.self) c.args.actor.now c.strides.actor p c.args.out.now.items c.strides.out.items) (take_all c.strides.at c.args.piece.now c.strides-test.false) c.strides.invariant.goes in
-    subst (λ k. Works (Table c.args.self.now) (Table c.strides.self) c.args.actor.now c.speak-2.new.actor c.args.piece.now k c.args.out.now.items c.speak-2.new.out.items) (sym all)
+    let goes = subst (λ p. StageGoes (Table c.args.self.now) (Table c.strides.self) c.args.actor.now c.strides.actor p c.args.out.now.items c.strides.out.items) (take_all c.strides.at c.args.piece.now c.strides-test.false) c.strides.invariant.goes in
+    subst (λ k. StageWorks (Table c.args.self.now) (Table c.strides.self) c.args.actor.now c.speak-2.new.actor c.args.piece.now k c.args.out.now.items c.speak-2.new.out.items) (sym all)
     (settles (Table c.args.self.now) c.strides.self c.args.actor.now c.strides.actor c.speak-2.new.actor c.args.piece.now c.args.out.now.items c.strides.out.items c.speak-2.new.out.items c.strides.invariant.told goes c.in_ok-speak-2.ensures.took c.in_ok-speak-2.ensures.machine)

@@ -1,13 +1,13 @@
 use Rattle.std.proofs.Common.{◌≡◌, ◌+◌, ◌-◌, ◌≤◌, [], false, length, take}
 use Rattle.std.specs.Prelude.{IsTrue}
 use Rattle.kex_stage.specs.declared.oracle.Oracle.TheVariants.{Table}
-use Rattle.kex_stage.specs.Works.{Goes}
+use Rattle.kex_stage.specs.Works.{StageGoes}
 use Rattle.kex_stage.proofs.follower.Follower.go_on.Given as goal
 
 abbrev pub invariant-strides : goal.invariant-strides
 invariant-strides l = record {
   at : l.at ≤ length l.piece;
-  goes : Goes (Table l.fn.self) (Table l.self) l.fn.actor l.actor (take l.at l.piece) l.fn.out.items l.out.items;
+  goes : StageGoes (Table l.fn.self) (Table l.self) l.fn.actor l.actor (take l.at l.piece) l.fn.out.items l.out.items;
   told : l.self.runner.pending ≡ [];
   moves : l.self.moves ≡ l.fn.self.moves;
   machine : l.actor.machine ≡ l.fn.actor.machine;

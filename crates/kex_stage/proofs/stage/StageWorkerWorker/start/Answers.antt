@@ -1,5 +1,5 @@
 use Rattle.std.proofs.Common.{◌≡◌, [], refl, sym, subst, ◌∙◌}
-use Rattle.kex_machine.specs.Answers.{Viable}
+use Rattle.kex_machine.specs.Answers.{IsViableFor}
 use Rattle.kex_stage.specs.Oracles.{Hears}
 use Rattle.kex_stage.proofs.stage.StageWorkerWorker.start.Goals as goal
 
@@ -14,5 +14,5 @@ returns-clause-follows c =
         machine = refl;
       };
       count = c.in_ok-oracle.ensures.ready.1;
-      good = subst (λ g. Viable g []) same c.in_ok-oracle.ensures.good;
+      good = subst (λ g. IsViableFor g []) same c.in_ok-oracle.ensures.good;
     }

@@ -2,7 +2,7 @@ use Rattle.std.proofs.Common.{[], ◌∷◌, ◌++◌, ap, sym, ◌∙◌}
 use Rattle.kex_frontier.specs.Edges.{as_is}
 use Rattle.kex_frontier.specs.Views.{edges_at}
 use Rattle.kex_frontier.proofs.Forests.{only_root, has_root}
-use Rattle.kex_frontier.proofs.forest.Forest.settle.Goals as goal
+use Rattle.kex_frontier.proofs.forest.CodeForest.settle.Goals as goal
 
 pub returns-in-Some-clause-code : goal.returns-in-Some-clause-code
 returns-in-Some-clause-code c = λ r has. c.in_ok-append.ensures.added ∙ ap (λ z. c.args.code.now ++ z) (c.deref.ensures.value ∙ (only_root r c.args.self.now c.pop_edge.new.self c.in-Some.edge.label.items c.in-Some.edge.at (sym c.if-is_last_there.ensures) c.in-Some.ensures.edges has).0)
