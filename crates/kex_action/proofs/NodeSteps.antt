@@ -1,6 +1,6 @@
 -- Nodes, and where their steps lead.
 use Rattle.std.proofs.Common.{◌≡◌, ℕ, zero, suc, ◌<◌, ◌+◌, List, [], ◌∷◌, ◌++◌, Some, length, take, drop, get_or, refl, sym, ap, ap₂, ◌∙◌, subst, arith, append_assoc, length-append, length-set}
-use Rattle.std.specs.Prelude.{slice_get, IfSome}
+use Rattle.std.specs.Prelude.{slice_get}
 use Rattle.std.proofs.lemmas.List.{take-append-drop}
 use Rattle.kex_code.specs.Codes.{Begins}
 use Rattle.kex_code.specs.Registers.{Registers, content_of, pieces_text}
@@ -11,11 +11,10 @@ use Rattle.kex_model.specs.Acting.{ActingState, after_append, after_drop, after_
 use Rattle.kex_model.proofs.Tables.{some_same}
 use Rattle.kex_model.proofs.Derivations.{code_of-append, walk-append}
 use Rattle.kex_machine.specs.declared.MNode.{MNode}
-use Rattle.kex_machine.specs.declared.MNode.TheVariants.{Accept, Read, Choice, Forced, Do, Skip}
-use Rattle.kex_machine.specs.Nodes.{Graph, node_moves, move_of, IsBelow, IsMachineInRange}
-use Rattle.kex_action.specs.Holdings.{step_by, LeadsByCode, Holding, state_of, Fits, ReachesSilently, WritesFront, CanAct, PassesMove, IsPassed}
+use Rattle.kex_machine.specs.Nodes.{Graph, node_moves, move_of, IsMachineInRange}
+use Rattle.kex_action.specs.Holdings.{step_by, LeadsByCode, Holding, state_of, Fits, ReachesSilently, WritesFront, PassesMove, IsPassed}
 use Rattle.kex_action.proofs.WalkEffects.{after_steps-append}
-use Rattle.kex_action.proofs.QuietWalks.{entered_in, some_in}
+use Rattle.kex_action.proofs.QuietWalks.{entered_in}
 
 pub slice_get-at : {A : Type 0} (xs : List A) (i : ℕ) (x : A) → i < length xs → x ≡ get_or xs i x → slice_get xs i ≡ Some x
 slice_get-at [] i x h e = absurd (omega arith)
@@ -126,18 +125,6 @@ length-done_by (add_to r parts) s = length-set s.registers r (content_of s.regis
 
 pub count_after : (e : Effect) (out out' : List ℕ) (h h' : Holding) (n : ℕ) → state_of out' h' ≡ after_effect e (state_of out h) → length h.registers ≡ n → length h'.registers ≡ n
 count_after e out out' h h' n f k = ap (λ z. length z.registers) f ∙ length-done_by e (state_of out h) ∙ k
-
--- what a node does has registers
-pub can_act : (g : Graph) (i : ℕ) (m : MNode) (h : Holding) → IsMachineInRange g.start g.nodes g.registers → slice_get g.nodes i ≡ Some m → length h.registers ≡ g.registers → CanAct (length h.registers) m
-can_act g i m h range e count = subst (λ r. CanAct r m) (sym count) (by_node m (subst (λ o. IfSome o (IsBelow (length g.nodes) g.registers)) e (some_in (IsBelow (length g.nodes) g.registers) g.nodes i range.below)))
-  where
-    by_node : (m : MNode) → IsBelow (length g.nodes) g.registers m → CanAct g.registers m
-    by_node Accept h = tt
-    by_node (Read set n) h = tt
-    by_node (Choice l r) h = tt
-    by_node (Forced b n) h = tt
-    by_node (Do e n) h = h.1
-    by_node (Skip n) h = tt
 
 pub fits_passed : (g : Graph) (s t : ℕ) (out out' : List ℕ) (h h' : Holding) → IsMachineInRange g.start g.nodes g.registers → Fits g s h → PassesMove (node_moves g.nodes s) (state_of out h) t (state_of out' h') → Fits g t h'
 fits_passed g s t out out' h h' range f p = record { node = entered_in g s (went p.effect t) range p.allowed; count = count_after p.effect out out' h h' g.registers (sym p.did) f.count }

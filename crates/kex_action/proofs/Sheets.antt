@@ -4,7 +4,7 @@ use Rattle.std.proofs.Math.Seq.{take-add, take-length}
 use Rattle.std.proofs.lemmas.List.{take_more, take-append-drop, take-append-le, drop-append-le, take-take, drop-take, reverse-append, length-take-le}
 use Rattle.kex_code.specs.Registers.{Registers, content_of, with_content, pieces_text}
 use Rattle.kex_code.specs.declared.piece.Piece.{Piece}
-use Rattle.kex_model.specs.Moves.{open_buffer, drop_buffer, into, write, set_to, add_to}
+use Rattle.kex_model.specs.Moves.{open_buffer, into, write, set_to, add_to}
 use Rattle.kex_model.specs.Acting.{ActingState, after_effect}
 use Rattle.kex_machine.specs.declared.MNode.{MNode}
 use Rattle.kex_action.specs.declared.action.Action.{Action}
@@ -12,7 +12,7 @@ use Rattle.kex_action.specs.Actions.{after_action, after_actions}
 use Rattle.kex_action.proofs.Actions.{done-more, length-done}
 use Rattle.kex_action.specs.declared.sheet.Sheet.{Sheet}
 use Rattle.kex_action.specs.Holdings.{Holding, with_bytes, state_of}
-use Rattle.kex_action.specs.Sheets.{with_buffer, with_marked_bytes, AreMarks, IsSheet, IsBlank, IsSame, Writes, ClosesBuffer, state_with}
+use Rattle.kex_action.specs.Sheets.{with_buffer, with_marked_bytes, AreMarks, IsSheet, IsBlank, Writes, ClosesBuffer, state_with}
 
 -- the same state with other registers
 abbrev pub with_registers : Registers → ActingState → ActingState
@@ -128,9 +128,6 @@ handed bytes ds from to s z z' e a h was is =
 pub blank_state : (s : Sheet) (out : List ℕ) (h : Holding) → IsBlank s → state_with s out h ≡ state_of out h
 blank_state s out h b = ap₂ (λ n ms. with_marked_bytes (take n s.bytes.items) (reverse ms) (state_of out h)) b.0 b.1 ∙ laid_none (state_of out h)
 
-pub same_state : (s s' : Sheet) (out : List ℕ) (h : Holding) → IsSame s s' → state_with s' out h ≡ state_with s out h
-same_state s s' out h e = ap₂ (λ n ms. with_marked_bytes (take n s'.bytes.items) (reverse ms) (state_of out h)) e.used e.marks ∙ ap (λ b. with_marked_bytes (take s.used b) (reverse s.marks.items) (state_of out h)) e.bytes
-
 used_marks : (s : Sheet) → IsSheet s → AreMarks (length (take s.used s.bytes.items)) (reverse s.marks.items)
 used_marks s h = subst (λ n. AreMarks n (reverse s.marks.items)) (sym (length-take-le s.used s.bytes.items h.used)) h.marks
 
@@ -153,9 +150,6 @@ closed s s' z c = ap (λ ms. with_marked_bytes (take s.used s.bytes.items) ms z)
 
 front : (s s' : Sheet) → ClosesBuffer s s' → take s'.used s'.bytes.items ≡ take s'.used (take s.used s.bytes.items)
 front s s' c = ap (take s'.used) c.kept ∙ sym (take-take s'.used s.used s.bytes.items c.within)
-
-pub dropped : (s s' : Sheet) (out : List ℕ) (h : Holding) → ClosesBuffer s s' → state_with s' out h ≡ after_effect drop_buffer (state_with s out h)
-dropped s s' out h c = ap (λ b. with_marked_bytes b (reverse s'.marks.items) (state_of out h)) (front s s' c) ∙ sym (ap (after_effect drop_buffer) (closed s s' (state_of out h) c))
 
 pub taken : (s s' : Sheet) (bytes out : List ℕ) (r : ℕ) (h : Holding) → ClosesBuffer s s' → bytes ≡ take (s.used - s'.used) (drop s'.used s'.bytes.items) → state_with s' out (record { buffers = h.buffers; registers = with_content h.registers r bytes }) ≡ after_effect (into r) (state_with s out h)
 taken s s' bytes out r h c e =

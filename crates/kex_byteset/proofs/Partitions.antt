@@ -145,10 +145,6 @@ module _ (old : List ℕ) (s : List Bool) (new : List ℕ) (n count : ℕ) (b : 
       by None e = goes_on old s new n count b.long in_range count (count + 1) b (fresh (λ i li ec hi. t.none (class_at old n) lt e i li ec hi))
       by (Some m) e = let r = t.some (class_at old n) m e in goes_on old s new n m b.long in_range count count b (found m r.0 r.1 r.2 r.3 r.4)
 
-  -- and a number that was given is below the count
-  pub given_below : (numbers : List (Option ℕ)) → AreNumbers old s new n (has s n) numbers → (m : ℕ) → new_number numbers (class_at old n) ≡ Some m → m < count
-  given_below numbers t m e = let r = t.some (class_at old n) m e in omega (arith, b.below r.0 r.1, r.4)
-
   -- the byte has its number, from the table of the bytes that are in the set as it is, or aren't
   pub next_byte : (numbers others now_numbers : List (Option ℕ)) (v w : Bool) (m now : ℕ) → has s n ≡ v → (v ≡ w → ⊥) → class_at old n < 256 → AreNumbers old s new n v numbers → AreNumbers old s new n w others
       → m ≡ number_or count (new_number numbers (class_at old n)) → now_numbers ≡ set numbers (class_at old n) (Some m) → now ≡ count_with count (new_number numbers (class_at old n))
@@ -238,8 +234,3 @@ count_more xs k lt = ap class_count (take_more xs k 0 lt) ∙ count_push (take k
   where
     suc_one : (n : ℕ) → suc n ≡ n + 1
     suc_one n = omega arith
-
--- where each class is a byte, there are no more than 256
-pub count_fits : (classes : List ℕ) → ((i : ℕ) → get_or classes i 0 < 256) → class_count classes ≤ 256
-count_fits [] h = omega arith
-count_fits (c ∷ cs) h = max-le (omega (arith, h 0)) (count_fits cs (λ i. h (suc i)))

@@ -1,5 +1,5 @@
 -- What some codes agree on.
-use Rattle.std.proofs.Common.{◌≡◌, ℕ, zero, suc, ◌<◌, ◌≤◌, ◌+◌, ◌⊎◌, ⊎_elim, List, [], ◌∷◌, ◌++◌, length, take, drop, get_or, refl, sym, ap, subst, ◌∙◌, append_assoc, append-nil, length-append, arith, All}
+use Rattle.std.proofs.Common.{◌≡◌, ℕ, zero, suc, ◌<◌, ◌≤◌, ◌+◌, ◌⊎◌, ⊎_elim, List, [], ◌∷◌, ◌++◌, length, take, drop, get_or, refl, sym, ap, subst, ◌∙◌, append_assoc, length-append, arith, All}
 use Rattle.std.proofs.lemmas.List.{take_at, take-append-drop, length-take-le, get_or_append_left}
 use Rattle.std.proofs.lemmas.List.Elements.{All-nil, All-cons, All-head, All-tail, All-weaker, All-append, All-get_or}
 use Rattle.kex_code.specs.declared.symbol.Symbol.{Symbol}
@@ -46,12 +46,6 @@ two_agree a b n la lb same apart = record {
       let wa : length front ≤ length a = begins_long front a ba in
       let wb : length front ≤ length b = begins_long front b bb in
       absurd (apart (omega arith) (omega arith) (at_front n front a (omega arith) ba ∙ sym (at_front n front b (omega arith) bb)))) (less_or m n);
-}
-
-pub one_agrees : (a : List Symbol) → IsCommonLength (a ∷ []) (length a)
-one_agrees a = record {
-  agree = (a, refl, All-cons (λ c. Begins c a) a [] ([], sym (append-nil a)) (All-nil (λ c. Begins c a)));
-  greatest = λ m (front, long, all). let l : length front ≤ length a = begins_long front a (All-head (λ c. Begins c front) a [] all) in omega arith;
 }
 
 pub front_fits : (a b : List Symbol) (n k : ℕ) → IsCommonLength (take n a ∷ b ∷ []) k → k ≤ length a

@@ -12,7 +12,7 @@ use Rattle.kex_lowering.specs.declared.refusal.StageRefusal.{StageRefusal}
 use Rattle.kex_lowering.specs.declared.refusal.StageRefusal.TheVariants.{TooManyPlaces, NoText, Memory}
 use Rattle.kex_compile.specs.declared.firsts.Firsts.{Firsts}
 use Rattle.kex_compile.specs.declared.limits.Limits.{Limits}
-use Rattle.kex_compile.specs.Stages.{AreFirsts, AreMachines, AreStages, CanRun, HaveInAll, IsFirst, IsFirstIn, IsStageRefused, IsStage, IsUnplanned, Machines, first_of, least, least_of, most_places, with_first, roots_of}
+use Rattle.kex_compile.specs.Stages.{AreFirsts, AreStages, CanRun, HaveInAll, IsFirst, IsFirstIn, IsStageRefused, IsStage, IsUnplanned, Machines, first_of, least, least_of, most_places, with_first, roots_of}
 use Rattle.kex_compile.specs.declared.refusal.PlanRefusal.{PlanRefusal}
 use Rattle.kex_compile.specs.declared.refusal.PlanRefusal.TheVariants as plan
 
@@ -148,9 +148,3 @@ module _ (P : Grammar) (i : ℕ) (past : length P.stages ≤ i) (f : Firsts) (c 
   all-refused limits e is =
       let firsts = subst (λ z. AreFirsts P z f) all_of g.firsts in
       unplanned limits P f.too_many_places f.no_text e firsts.too_many_places firsts.no_text is
-
-  pub all-planned : least f ≡ None → AreMachines P c
-  all-planned none = record {
-    stages = subst (λ z. AreStages P 1 z c.machines) all_of (g.stages none);
-    places = subst (λ z. HaveInAll P z c.places) all_of (g.places none);
-  }

@@ -100,11 +100,6 @@ unfolding Rising
 rising_both low [] mid qs high h k = rising_from mid low qs high h k
 rising_both low (p ∷ ps) mid qs high h k = (h.0, rising_both (suc p.key) ps mid qs high h.1 k)
 
-rises : (low : ℕ) (ps : List Pair) (high : ℕ) → Rising low ps high → low ≤ high
-unfolding Rising
-rises low [] high h = h
-rises low (p ∷ ps) high h = let k : low ≤ p.key = h.0 in let l : suc p.key ≤ high = rises (suc p.key) ps high h.1 in omega arith
-
 above : (low : ℕ) (ps : List Pair) (high : ℕ) (q : Pair) → Rising low ps high → IsAmong ps q → low ≤ q.key
 unfolding Rising
 above low [] high q h i = absurd i

@@ -4,7 +4,7 @@ use Rattle.std.specs.Prelude.{slice_get}
 use Rattle.std.proofs.lemmas.Bool.{cases_lt}
 use Rattle.kex_machine.specs.declared.Bit.{Bit}
 use Rattle.kex_sst.specs.declared.table.Transition.{Transition}
-use Rattle.kex_sst.specs.Tables.{Row, Transducer, transition_if, transition_on}
+use Rattle.kex_sst.specs.Tables.{Row, Transducer, transition_on}
 use Rattle.kex_sst.specs.Passes.{Pass, first_pass, transition_at, next_of, next_pass, passes_if}
 use Rattle.kex_constants.specs.Known.{Constants, Hold}
 use Rattle.kex_constants.specs.Clearing.{GivesConstants, GivesIf, HoldAfter, HoldAlways}
@@ -12,14 +12,6 @@ use Rattle.kex_constants.specs.Clearing.{GivesConstants, GivesIf, HoldAfter, Hol
 -- all transitions of a state, if it is there
 abbrev pub StateGives : List Constants → Constants → Option Row → Type 0
 StateGives css cs s = (k : ℕ) → GivesIf css cs (transition_on s k)
-
-pub state_gives : (css : List Constants) (cs : Constants) (s : Row) → ((k : ℕ) → GivesIf css cs (transition_if (slice_get s.go k))) → StateGives css cs (Some s)
-state_gives css cs s h = h
-
-pub state_read : {A : Type 0} (xs : List A) (i : ℕ) (x : A) → i < length xs → x ≡ get_or xs i x → Some x ≡ slice_get xs i
-state_read [] i x lt e = absurd (omega arith)
-state_read (y ∷ xs) zero x lt e = let h : x ≡ y = e in cc
-state_read (y ∷ xs) (suc i) x lt e = state_read xs i x (omega arith) e
 
 past : {A : Type 0} (xs : List A) (i : ℕ) → length xs ≤ i → None ≡ slice_get xs i
 past [] i le = cc
@@ -50,11 +42,3 @@ module _ (t : Transducer) (css : List Constants) where
 
   pub hold_always : GivesConstants [] t.initial (get_or css 0 []) → ((i : ℕ) → StateGives css (get_or css i []) (slice_get t.states i)) → HoldAlways t css
   hold_always first g w = hold_from g w (Some (first_pass t.initial)) (first [] 0 (λ i c e. absurd (none_there i c e)))
-
-hold_nothing : (p : Option Pass) → HoldAfter [] p
-hold_nothing None = tt
-hold_nothing (Some p) = λ i c e. absurd (none_there i c e)
-
--- no constants are held always
-pub hold_none : (t : Transducer) → HoldAlways t []
-hold_none t w = hold_nothing (passes_if t (Some (first_pass t.initial)) w)

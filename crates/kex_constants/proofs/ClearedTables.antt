@@ -93,14 +93,6 @@ module _ (cs : Constants) where
   replaced_reads [] = refl
   replaced_reads (x ∷ xs) = ap₂ (λ u v. u ++ v) (replaced_olds x) (replaced_reads xs) ∙ sym (all_renumbered-append (olds x) (olds_in xs))
 
-number_up : (cs : Constants) (i j : ℕ) → i ≤ j → kept_number cs i ≤ kept_number cs j
-number_up [] i j le = le
-number_up (c ∷ cs) zero j le = omega arith
-number_up (Some v ∷ cs) (suc i) zero le = absurd (omega arith)
-number_up (None ∷ cs) (suc i) zero le = absurd (omega arith)
-number_up (Some v ∷ cs) (suc i) (suc j) le = number_up cs i j (omega arith)
-number_up (None ∷ cs) (suc i) (suc j) le = let h = number_up cs i j (omega arith) in omega (arith, h)
-
 -- a register that is kept has a smaller number than those behind it
 number_rises : (cs : Constants) (i j : ℕ) → get_or cs i None ≡ None → i < j → kept_number cs i < kept_number cs j
 number_rises [] i j e lt = lt

@@ -31,11 +31,6 @@ parts_code-puts_bits regs b (x ∷ c) = ap (λ z. symbol_of (side_of x) ∷ z) (
 pub meant_more : (regs : List (List Symbol)) (b : ℕ) (xs : List Part) (i : ℕ) → i < length xs → parts_code regs b (take (i + 1) xs) ≡ parts_code regs b (take i xs) ++ value regs b (get_or xs i (Put symbol.L))
 meant_more regs b xs i lt = ap (λ z. parts_code regs b z) (take_more xs i (Put symbol.L) lt) ∙ parts_code-append regs b (take i xs) (get_or xs i (Put symbol.L) ∷ []) ∙ ap (λ z. parts_code regs b (take i xs) ++ z) (append-nil (value regs b (get_or xs i (Put symbol.L))))
 
-pub given_at : (lists : List (List Part)) (i : ℕ) (x : List Part) (regs : List (List Symbol)) (b : ℕ) → i < length lists → x ≡ get_or lists i x → get_or (map (λ y. parts_code regs b y) lists) i [] ≡ parts_code regs b x
-given_at [] i x regs b lt e = absurd (omega arith)
-given_at (y ∷ lists) zero x regs b lt e = ap (λ z. parts_code regs b z) (sym e)
-given_at (y ∷ lists) (suc i) x regs b lt e = given_at lists i x regs b (omega arith) e
-
 -- what holds of each item holds of each that is read
 pub each_read : (P : Option Transition → Type 0) (go : List (Option Transition)) → P None → ((k : ℕ) → k < length go → P (get_or go k None)) → (k : ℕ) → P (transition_if (slice_get go k))
 each_read P [] none each k = none
@@ -71,9 +66,6 @@ kept_push (None ∷ cs) (x ∷ xs) y = ap (λ z. x ∷ z) (kept_push cs xs y)
 
 take_here : {A : Type 0} (xs : List A) (i : ℕ) (x : A) → i < length xs → x ≡ get_or xs i x → take (i + 1) xs ≡ take i xs ++ x ∷ []
 take_here xs i x lt e = take_more xs i x lt ∙ ap (λ z. take i xs ++ z ∷ []) (sym e)
-
-pub map_more : {A B : Type 0} (f : A → B) (xs : List A) (i : ℕ) (x : A) → i < length xs → x ≡ get_or xs i x → map f (take (i + 1) xs) ≡ map f (take i xs) ++ f x ∷ []
-map_more f xs i x lt e = ap (λ z. map f z) (take_here xs i x lt e) ∙ map-append f (take i xs) (x ∷ [])
 
 pub kept_more : (cs ds : Constants) (lists : List (List Part)) (i : ℕ) (x : List Part) → i < length lists → x ≡ get_or lists i x → map (λ y. cleared_parts cs y) (kept_items ds (take i lists)) ++ map (λ y. cleared_parts cs y) (item_if_kept (get_or ds i None) x) ≡ map (λ y. cleared_parts cs y) (kept_items ds (take (i + 1) lists))
 kept_more cs ds lists i x lt e =

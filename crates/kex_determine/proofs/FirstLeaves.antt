@@ -10,7 +10,7 @@ use Rattle.kex_sst.specs.declared.parts.Part.{Part}
 use Rattle.kex_sst.specs.declared.parts.Part.TheVariants.{Old}
 use Rattle.kex_sst.specs.Parts.{numbered_tree}
 use Rattle.kex_paths.specs.Nexts.{inner_of, places_of}
-use Rattle.kex_determine.specs.Rows.{is_accepting, way_to}
+use Rattle.kex_determine.specs.Rows.{is_accepting}
 use Rattle.kex_determine.specs.Ways.{RightSide, inner_in_sides, places_in_sides, EachSide, AreForks, either, onward, from_sides, from_here, IsOnWay}
 
 head_of : {A : Type 0} (xs : List A) (k : ℕ) (d : A) → k < length xs → drop k xs ≡ get_or xs k d ∷ drop (k + 1) xs
@@ -78,10 +78,6 @@ onward_behind way k (Some a) = ap (λ z. Some z) (sym (append_assoc (map (λ i. 
 onward_picked : (way : List ℕ) (a b : Option (Grown Part ℕ)) → onward way (left_or_right a b) ≡ either (onward way a) (onward way b)
 onward_picked way None b = refl
 onward_picked way (Some a) b = refl
-
-onward_none : (a : Option (Grown Part ℕ)) → way_to a ≡ onward [] a
-onward_none None = refl
-onward_none (Some a) = refl
 
 forks_more : (way x : List ℕ) (forks : List ℕ) (sides : List RightSide) → AreForks way forks sides → AreForks (way ++ x) forks sides
 forks_more way x forks [] h = h

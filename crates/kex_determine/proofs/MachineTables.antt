@@ -9,7 +9,7 @@ use Rattle.kex_code.specs.Codes.{IsAmong}
 use Rattle.kex_model.specs.Moves.{Move, took, Allows}
 use Rattle.kex_model.specs.Labelled.{Labelled, tip, fork, labels_of, Shape, place, parts, shape_of, size_of, map_labels, Grown}
 use Rattle.kex_model.specs.Survivors.{HasTree}
-use Rattle.kex_model.specs.States.{AllDifferent, IsState}
+use Rattle.kex_model.specs.States.{IsState}
 use Rattle.kex_model.proofs.Shapes.{tree_agrees}
 use Rattle.kex_machine.specs.Nodes.{Graph, node_moves, HasClasses}
 use Rattle.kex_machine.specs.Answers.{IsViableFor, HasRun, IsGreedy}
@@ -173,20 +173,3 @@ module _ (g : Graph) (trim : IsTrim (node_moves g.nodes) g.start) where
           relabelled_shape (parts_code (labels_of t) b) a.tree,
         ),
       )
-
--- without one that is there
-removed : {A : Type 0} (xs : List A) (x : A) → IsAmong xs x → (ys : List A) × (suc (length ys) ≡ length xs) × ((z : A) → IsAmong xs z → (x ≡ z) ⊎ IsAmong ys z)
-removed [] x i = absurd i
-removed (y ∷ xs) x i =
-    ⊎_elim
-    (λ e. (xs, refl, (λ z j. ⊎_elim (λ f. inl (sym e ∙ f)) (λ k. inr k) j)))
-    (λ j. let r = removed xs x j in (y ∷ r.0, ap suc r.1, (λ z k. ⊎_elim (λ f. inr (inl f)) (λ k. ⊎_elim (λ f. inl f) (λ l. inr (inr l)) (r.2 z k)) k)))
-    i
-
--- different ones among others are no more than those
-pub no_more : {A : Type 0} (xs ys : List A) → AllDifferent xs → ((x : A) → IsAmong xs x → IsAmong ys x) → length xs ≤ length ys
-no_more [] ys d h = omega arith
-no_more (x ∷ xs) ys d h =
-    let r = removed ys x (h x (inl refl)) in
-    let fewer = no_more xs r.0 d.1 (λ z i. ⊎_elim (λ e. absurd (d.0 (subst (λ u. IsAmong xs u) (sym e) i))) (λ j. j) (r.2 z (h z (inr i)))) in
-    omega (arith, r.1, fewer)

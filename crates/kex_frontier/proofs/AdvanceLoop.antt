@@ -119,24 +119,6 @@ module _ (moves : ℕ → Move ℕ) (b : ℕ) (f0 : List Bool) where
         steps = (g', fork_of (with_prefix l.label a') (with_prefix r.label a), s, both adv' adv, ap (λ z. with_prefix x.label.items (fork_of z r')) is' ∙ ap (λ z. with_prefix x.label.items (fork_of (with_prefix l.label a') z)) is);
       }
 
-  pub grows_end : (t : Labelled Symbol ℕ) (f : List Bool) (all : List TreeEdge) (forest : CodeTrees) → all ≡ [] → Grows t f (left_of all) forest → (a : Option (Grown Symbol ℕ)) × AdvancesCodes moves b f0 t a f × HasCodeTrees as_is forest (a ∷ [])
-  grows_end t f all forest e h = by h.trees h.results (ap (λ z. made (Some h.trees) (left_of z)) (sym e) ∙ h.makes) h.has h.steps
-    where
-      as_it_is : (a : Option (Grown Symbol ℕ)) → with_prefix [] a ≡ a
-      as_it_is None = refl
-      as_it_is (Some g) = refl
-
-      one : (ts : List (Grown Symbol ℕ)) → Some ts ≡ Some (whole t ∷ []) → ts ≡ whole t ∷ []
-      one ts e = cc
-
-      of_one : (rs : List (Option (Grown Symbol ℕ))) → HasCodeTrees as_is forest rs → Steps (whole t ∷ []) rs f → (a : Option (Grown Symbol ℕ)) × AdvancesCodes moves b f0 t a f × HasCodeTrees as_is forest (a ∷ [])
-      of_one [] has s = absurd s
-      of_one (r ∷ []) has (g, a, s, adv, is) = (a, subst (λ z. AdvancesCodes moves b z t a f) (sym s) adv, subst (λ z. HasCodeTrees as_is forest (z ∷ [])) (is ∙ as_it_is a) has)
-      of_one (r ∷ r' ∷ rs) has (g, a, s, adv, is) = absurd s
-
-      by : (ts : List (Grown Symbol ℕ)) (rs : List (Option (Grown Symbol ℕ))) → Some ts ≡ Some (whole t ∷ []) → HasCodeTrees as_is forest rs → Steps ts rs f → (a : Option (Grown Symbol ℕ)) × AdvancesCodes moves b f0 t a f × HasCodeTrees as_is forest (a ∷ [])
-      by ts rs m has s = of_one rs has (subst (λ z. Steps z rs f) (one ts m) s)
-
 module _ (moves : ℕ → Move ℕ) where
   -- what of a tree accepts, behind its label
   abbrev pub found_in : Grown Symbol ℕ → Option (Grown Symbol ℕ)
@@ -181,13 +163,3 @@ module _ (moves : ℕ → Move ℕ) where
       by None [] m has done = cc
       by None (r ∷ []) m has done = cc
       by None (r ∷ l ∷ ts) m has done = record { trees = record { label = x.label.items; tree = fork l.label l.tree r.label r.tree } ∷ ts; makes = m; has = done' (left_or_right (found_in l) (found_in r) ∷ map found_in ts) (done (found_in r ∷ found_in l ∷ map found_in ts) (first_tip (r ∷ ts)) has) }
-
-  pub ends_end : (t : Labelled Symbol ℕ) (all : List TreeEdge) (forest : CodeTrees) → all ≡ [] → Ends t (left_of all) forest → HasCodeTrees as_is forest (first_accepting moves t ∷ [])
-  ends_end t all forest e h = subst (λ z. HasCodeTrees as_is forest z) (ap (λ z. map found_in z) (one h.trees (ap (λ z. made (Some h.trees) (left_of z)) (sym e) ∙ h.makes)) ∙ ap (λ z. z ∷ []) (as_it_is (first_accepting moves t))) h.has
-    where
-      as_it_is : (a : Option (Grown Symbol ℕ)) → with_prefix [] a ≡ a
-      as_it_is None = refl
-      as_it_is (Some g) = refl
-
-      one : (ts : List (Grown Symbol ℕ)) → Some ts ≡ Some (whole t ∷ []) → ts ≡ whole t ∷ []
-      one ts e = cc

@@ -2,10 +2,10 @@
 use Rattle.std.proofs.Common.{◌≡◌, ℕ, suc, ◌+◌, ◌-◌, ◌*◌, ◌/◌, ◌%◌, ◌^◌, ◌<◌, ◌≤◌, ◌==◌, true, false, List, [], ◌∷◌, ◌⊎◌, inl, inr, ⊎_elim, length, set, get_or, sym, ap, subst, ◌∙◌, arith, w64, bit_or, bit_and, get_or-set_same, get_or-set_other, length-set}
 use Rattle.std.proofs.Math.Nat.{div-eq_of_lt, div-lt_iff_lt-mul, mod-lt, pow-le-pow_right, pow-succ'}
 use Rattle.std.proofs.lemmas.Nat.{leading_top, pow_pos, one_shl, and_mask}
-use Rattle.std.proofs.lemmas.Nat.Bits.{bit_at-zero, bit_at_and, bit_at_ones, bit_at-lt, bit_at_set_same, bit_at_set_other, bit_at_clear_same, bit_at_clear_other}
+use Rattle.std.proofs.lemmas.Nat.Bits.{bit_at_and, bit_at_ones, bit_at-lt, bit_at_set_same, bit_at_set_other, bit_at_clear_same, bit_at_clear_other}
 use Rattle.std.proofs.lemmas.Bool.{cases_eq}
 use Rattle.std.specs.Int.{bit_at, bit_not}
-use Rattle.kex_frontier.specs.Rows.{has_mark, IsTop, IsHighestBelow, AlsoMarks, Unmarks}
+use Rattle.kex_frontier.specs.Rows.{has_mark, IsTop, AlsoMarks, Unmarks}
 use lib.Count.{count_leading_zeros}
 
 -- a number below a power has no bit from there on
@@ -31,12 +31,6 @@ top_is a some small =
     either q lt = grind arith
 
 module _ (row : List ℕ) where
-  mark_at : (word i : ℕ) → i < 64 → has_mark row (64 * word + i) ≡ (bit_at (get_or row word 0) i == 1)
-  mark_at word i lt =
-      let high : (64 * word + i) / 64 ≡ word = omega arith in
-      let low : (64 * word + i) % 64 ≡ i = omega arith in
-      ap (λ z. bit_at (get_or row z 0) ((64 * word + i) % 64) == 1) high ∙ ap (λ z. bit_at (get_or row word 0) z == 1) low
-
   -- the places from the word's on up to the end are looked at, but for the bits
   pub record Searching (end word bits : ℕ) : Type 0 where
     pub within : word ≤ end / 64
@@ -59,39 +53,6 @@ module _ (row : List ℕ) where
             ap (λ z. bit_at z i) (masked ∙ and_mask x k) ∙ no_bit (x % 2 ^ k) k i low (omega arith);
         above = λ m past below. absurd (omega arith);
       }
-
-  none_here : (end word bits : ℕ) → Searching end word bits → bits ≡ 0 → (i : ℕ) → i < 64 → 64 * word + i < end → has_mark row (64 * word + i) ≡ false
-  none_here end word bits s e i lt below = mark_at word i lt ∙ ap (λ z. z == 1) (sym (s.same i lt below) ∙ ap (λ z. bit_at z i) e ∙ bit_at-zero i)
-
-  by_word : (m word : ℕ) → 64 * word ≤ m → (64 * (word + 1) ≤ m) ⊎ ((i : ℕ) × (i < 64) × (m ≡ 64 * word + i))
-  by_word m word le = ⊎_elim (λ h. inl h) (λ h. inr (m - 64 * word, (omega arith), (omega arith))) (split m (64 * (word + 1)))
-    where
-      split : (a b : ℕ) → (b ≤ a) ⊎ (a < b)
-      split a b = grind arith
-
-  pub search_on : (end word bits x : ℕ) → Searching end word bits → bits ≡ 0 → 0 < word → x ≡ get_or row (word - 1) 0 → Searching end (word - 1) x
-  search_on end word bits x s e some here = record {
-    within = let w : word ≤ end / 64 = s.within in omega arith;
-    same = λ i lt below. ap (λ z. bit_at z i) here;
-    none = λ i lt past. let w : word ≤ end / 64 = s.within in absurd (omega arith);
-    above = λ m past below.
-        ⊎_elim (λ h. s.above m h below) (λ (i, lt, at). subst (λ z. has_mark row z ≡ false) (sym at) (none_here end word bits s e i lt (omega arith))) (by_word m word (omega arith));
-  }
-
-  pub search_fails : (end bits : ℕ) → Searching end 0 bits → bits ≡ 0 → (n : ℕ) → n < end → has_mark row n ≡ false
-  search_fails end bits s e n below = ⊎_elim (λ h. s.above n h below) (λ (i, lt, at). subst (λ z. has_mark row z ≡ false) (sym at) (none_here end 0 bits s e i lt (omega arith))) (by_word n 0 (omega arith))
-
-  pub search_finds : (end word bits j : ℕ) → Searching end word bits → IsTop bits j → IsHighestBelow row end (64 * word + j)
-  search_finds end word bits j s t =
-      let below : 64 * word + j < end = ⊎_elim (λ h. absurd (let none : bit_at bits j ≡ 0 = s.none j t.within h in let one : bit_at bits j ≡ 1 = t.set in omega arith)) (λ h. h) (split (64 * word + j) end) in
-      record {
-        below = below;
-        marked = mark_at word j t.within ∙ ap (λ z. z == 1) (sym (s.same j t.within below) ∙ t.set);
-        highest = λ m past lt. ⊎_elim (λ h. s.above m h lt) (λ (i, small, at). subst (λ z. has_mark row z ≡ false) (sym at) (mark_at word i small ∙ ap (λ z. z == 1) (sym (s.same i small (omega arith)) ∙ t.last i (omega arith)))) (by_word m word (omega arith));
-      }
-    where
-      split : (a b : ℕ) → (b ≤ a) ⊎ (a < b)
-      split a b = grind arith
 
 -- the bit of a place is set
 pub marks_one : (row : List ℕ) (place w : ℕ) → place / 64 < length row → w ≡ get_or row (place / 64) 0 → AlsoMarks (place ∷ []) row (set row (place / 64) (bit_or w (1 * 2 ^ (place % 64) % 2 ^ 64)))

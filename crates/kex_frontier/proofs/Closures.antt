@@ -7,85 +7,14 @@ use Rattle.kex_model.specs.Moves.{Move, accept, read, choose, forced, go, quiet,
 use Rattle.kex_model.proofs.Walks.{bytes_of-append}
 use Rattle.kex_model.proofs.Derivations.{walk-append, code_of-append}
 use Rattle.kex_machine.specs.declared.MNode.{MNode}
-use Rattle.kex_machine.specs.Nodes.{node_moves, move_of, MoveBelow, StaysWithin}
-use Rattle.kex_frontier.specs.Rows.{has_mark, IsHighestBelow, AlsoMarks, Unmarks, Opens, IsReachedQuietly, IsClosureOf}
+use Rattle.kex_machine.specs.Nodes.{node_moves, move_of}
+use Rattle.kex_frontier.specs.Rows.{has_mark, IsHighestBelow, Unmarks, Opens, IsReachedQuietly, IsClosureOf}
 
 pub marked_or_not : (b : Bool) → (b ≡ true) ⊎ (b ≡ false)
 marked_or_not true = inl refl
 marked_or_not false = inr refl
 
 -- ---- what was marked
-
-among_front : (ms ns : List ℕ) (n : ℕ) → IsAmong ms n → IsAmong (ms ++ ns) n
-among_front (x ∷ ms) ns n (inl e) = inl e
-among_front (x ∷ ms) ns n (inr i) = inr (among_front ms ns n i)
-among_front [] ns n i = absurd i
-
-among_back : (ms ns : List ℕ) (n : ℕ) → IsAmong ns n → IsAmong (ms ++ ns) n
-among_back [] ns n i = i
-among_back (x ∷ ms) ns n i = inr (among_back ms ns n i)
-
-among_either : (ms ns : List ℕ) (n : ℕ) → IsAmong (ms ++ ns) n → IsAmong ms n ⊎ IsAmong ns n
-among_either [] ns n i = inr i
-among_either (x ∷ ms) ns n (inl e) = inl (inl e)
-among_either (x ∷ ms) ns n (inr i) = ⊎_elim (λ j. inl (inr j)) (λ j. inr j) (among_either ms ns n i)
-
-pub also_both : (ms ns : List ℕ) (old mid new : List ℕ) → AlsoMarks ms old mid → AlsoMarks ns mid new → AlsoMarks (ms ++ ns) old new
-also_both ms ns old mid new h k = record {
-  room = k.room ∙ h.room;
-  kept = λ n e. k.kept n (h.kept n e);
-  added = λ n i. ⊎_elim (λ j. k.kept n (h.added n j)) (λ j. k.added n j) (among_either ms ns n i);
-  only = λ n e. ⊎_elim (λ m. ⊎_elim (λ o. inl o) (λ i. inr (among_front ms ns n i)) (h.only n m)) (λ i. inr (among_back ms ns n i)) (k.only n e);
-}
-
-pub opens_none : (end : ℕ) (old fresh : List ℕ) → Opens [] end old fresh old fresh end
-opens_none end old fresh = record {
-  marked = record { room = refl; kept = λ n e. e; added = λ n i. absurd i; only = λ n e. inl e };
-  room = refl;
-  opened = λ n e. inl e;
-  kept = λ n e. e;
-  only = λ n e. inl e;
-  rises = omega arith;
-  above = λ n le e. e;
-}
-
--- a place that was marked
-pub opens_known : (place end : ℕ) (old fresh new : List ℕ) → AlsoMarks (place ∷ []) old new → has_mark old place ≡ true → Opens (place ∷ []) end old fresh new fresh end
-opens_known place end old fresh new k known = record {
-  marked = k;
-  room = refl;
-  opened = λ n e. ⊎_elim (λ o. inl o) (λ i. ⊎_elim (λ at. inl (subst (λ z. has_mark old z ≡ true) at known)) (λ z. absurd z) i) (k.only n e);
-  kept = λ n e. e;
-  only = λ n e. inl e;
-  rises = omega arith;
-  above = λ n le e. e;
-}
-
--- and one that wasn't
-pub opens_one : (place end : ℕ) (old fresh new fresh' : List ℕ) (end' : ℕ) → AlsoMarks (place ∷ []) old new → has_mark old place ≡ false → AlsoMarks (place ∷ []) fresh fresh' → end ≤ end' → place < end' → Opens (place ∷ []) end old fresh new fresh' end'
-opens_one place end old fresh new fresh' end' k unknown o le past = record {
-  marked = k;
-  room = o.room;
-  opened = λ n e. ⊎_elim (λ h. inl h) (λ i. inr (o.added n i)) (k.only n e);
-  kept = o.kept;
-  only = λ n e. ⊎_elim (λ h. inl h) (λ i. ⊎_elim (λ at. inr (subst (λ z. has_mark old z ≡ false) at unknown, inl at)) (λ z. absurd z) i) (o.only n e);
-  rises = le;
-  above = λ n far e. ⊎_elim (λ h. h) (λ i. ⊎_elim (λ at. let q : place ≡ n = at in absurd (omega (arith, past, far))) (λ z. absurd z) i) (o.only n e);
-}
-
-pub opens_both : (ms ns : List ℕ) (a b c : ℕ) (old fresh mid fresh' new fresh'' : List ℕ) → Opens ms a old fresh mid fresh' b → Opens ns b mid fresh' new fresh'' c → Opens (ms ++ ns) a old fresh new fresh'' c
-opens_both ms ns a b c old fresh mid fresh' new fresh'' h k = record {
-  marked = also_both ms ns old mid new h.marked k.marked;
-  room = k.room ∙ h.room;
-  opened = λ n e. ⊎_elim (λ m. ⊎_elim (λ o. inl o) (λ o. inr (k.kept n o)) (h.opened n m)) (λ o. inr o) (k.opened n e);
-  kept = λ n e. k.kept n (h.kept n e);
-  only = λ n e. ⊎_elim
-      (λ m. ⊎_elim (λ o. inl o) (λ o. inr (o.0, among_front ms ns n o.1)) (h.only n m))
-      (λ m. inr (⊎_elim (λ o. absurd (true≢false (sym (h.marked.kept n o) ∙ m.0))) (λ o. o) (marked_or_not (has_mark old n)), among_back ms ns n m.1))
-      (k.only n e);
-  rises = omega (arith, h.rises, k.rises);
-  above = λ n le e. h.above n (omega (arith, le, k.rises)) (k.above n le e);
-}
 
 -- ---- steps without a byte
 
@@ -111,23 +40,9 @@ is_quiet goes_right e = inl refl
 is_quiet goes_forced e = inl refl
 is_quiet goes e = inl refl
 
-way_below : (c : ℕ) (v : Move ℕ) (m : ℕ) → MoveBelow c v → IsAmong (quiet v) m → m < c
-way_below c accept m h i = absurd i
-way_below c (read set t) m h i = absurd i
-way_below c (choose l r) m h (inl e) = subst (λ z. z < c) e h.1
-way_below c (choose l r) m h (inr (inl e)) = subst (λ z. z < c) e h.0
-way_below c (choose l r) m h (inr (inr i)) = absurd i
-way_below c (forced x t) m h (inl e) = subst (λ z. z < c) e h
-way_below c (forced x t) m h (inr i) = absurd i
-way_below c (go x t) m h (inl e) = subst (λ z. z < c) e h
-way_below c (go x t) m h (inr i) = absurd i
-
 none_left : {A : Type 0} (xs ys : List A) → xs ++ ys ≡ [] → (xs ≡ []) × (ys ≡ [])
 none_left [] ys e = (refl, e)
 none_left (x ∷ xs) ys e = cc
-
-split : (a b : ℕ) → (a ≤ b) ⊎ (b < a)
-split a b = grind arith
 
 -- a place counts twice if it isn't marked, and once if it is and is fresh
 abbrev pub weight : Bool → Bool → ℕ
@@ -184,9 +99,6 @@ module _ (nodes : List MNode) where
   reached_on : (q n : ℕ) (k : Step ℕ) → IsReachedQuietly nodes q n → Allows (f n) k → bytes_of (symbols_of k) ≡ [] → IsReachedQuietly nodes q (target_of k)
   reached_on q n k (ks, w, e) a s = (ks ++ k ∷ [], walk-append f ks (k ∷ []) q n (target_of k) w (a, refl), ap bytes_of (code_of-append ks (k ∷ [])) ∙ bytes_of-append (code_of ks) (symbols_of k ++ []) ∙ ap₂ (λ x y. x ++ y) e (bytes_of-append (symbols_of k) [] ∙ ap (λ z. z ++ []) s))
 
-  reached_both : (m p n : ℕ) → IsReachedQuietly nodes m p → IsReachedQuietly nodes p n → IsReachedQuietly nodes m n
-  reached_both m p n (js, v, d) (ks, w, e) = (js ++ ks, walk-append f js ks m p n v w, ap bytes_of (code_of-append js ks) ∙ bytes_of-append (code_of js) (code_of ks) ∙ ap₂ (λ x y. x ++ y) d e)
-
   -- the marks are spread, but from the places that are fresh; from the end on none is
   pub record Going (old row fresh : List ℕ) (end : ℕ) : Type 0 where
     pub within : end ≤ length nodes
@@ -197,18 +109,6 @@ module _ (nodes : List MNode) where
     pub inside : (n : ℕ) → has_mark fresh n ≡ true → has_mark row n ≡ true
     pub closed : (n m : ℕ) → has_mark row n ≡ true → has_mark fresh n ≡ false → IsAmong (quiet (f n)) m → has_mark row m ≡ true
     pub above : (n : ℕ) → end ≤ n → n < length nodes → has_mark fresh n ≡ false
-
-  pub going_starts : (row fresh : List ℕ) → fresh ≡ row → Going row row fresh (length nodes)
-  going_starts row fresh same = record {
-    within = omega arith;
-    room = refl;
-    fresh_room = ap length same;
-    kept = λ n e. e;
-    real = λ n e. (n, e, ([], refl, refl));
-    inside = λ n e. subst (λ z. has_mark z n ≡ true) same e;
-    closed = λ n m e g i. absurd (true≢false (sym e ∙ sym (ap (λ z. has_mark z n) same) ∙ g));
-    above = λ n le lt. absurd (omega (arith, le, lt));
-  }
 
   pub going_on : (old row fresh less new fresh' : List ℕ) (end n end' : ℕ) → Going old row fresh end → IsHighestBelow fresh end n → Unmarks n fresh less → Opens (quiet (f n)) n row less new fresh' end' → end' ≤ length nodes → Going old new fresh' end'
   going_on old row fresh less new fresh' end n end' s top u o le = record {

@@ -1,17 +1,13 @@
 -- What becomes of trees side by side, as lists of edges.
-use Rattle.std.proofs.Common.{◌≡◌, ℕ, true, false, List, [], ◌∷◌, ◌++◌, Option, Some, None, get_or, drop, map, reverse, refl, sym, ap, ap₂, subst, ◌∙◌, append_assoc}
+use Rattle.std.proofs.Common.{◌≡◌, ℕ, true, false, List, [], ◌∷◌, ◌++◌, Option, Some, None, get_or, map, reverse, refl, sym, ap, ap₂, subst, ◌∙◌, append_assoc}
 use Rattle.std.proofs.lemmas.List.{map-append, reverse-reverse}
 use Rattle.kex_code.specs.declared.symbol.Symbol.{Symbol}
 use Rattle.kex_model.specs.Labelled.{Labelled, tip, fork, Grown}
-use Rattle.kex_frontier.specs.Edges.{Edge, CodeTrees, edges_by, edges_of, as_is, edges_if, edges_in, is_there, there_flags, HasCodeTrees, last_code_tree, code_trees_before, with_front, root_label, bare_edges, with_label_turned}
+use Rattle.kex_frontier.specs.Edges.{Edge, CodeTrees, edges_by, edges_of, as_is, edges_if, edges_in, is_there, there_flags, HasCodeTrees, last_code_tree, with_front, root_label, bare_edges, with_label_turned}
 
 pub first_there : (rs : List (Option (Grown Symbol ℕ))) → get_or (there_flags rs) 0 false ≡ is_there (last_code_tree rs)
 first_there [] = refl
 first_there (r ∷ rs) = refl
-
-pub others_there : (rs : List (Option (Grown Symbol ℕ))) → drop 1 (there_flags rs) ≡ there_flags (code_trees_before rs)
-others_there [] = refl
-others_there (r ∷ rs) = refl
 
 module _ (h : List Symbol → List Symbol) where
   -- a tree's edges before its root's

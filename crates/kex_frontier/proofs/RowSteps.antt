@@ -10,7 +10,6 @@ use Rattle.kex_machine.specs.declared.MNode.{MNode}
 use Rattle.kex_machine.specs.Nodes.{Graph, node_moves}
 use Rattle.kex_machine.proofs.CutWalks.{cut}
 use Rattle.kex_frontier.specs.Rows.{has_mark, IsHighestBelow, AlsoMarks, byte_ways, IsClosureOf, IsMarkRow}
-use Rattle.kex_frontier.proofs.Closures.{past_last}
 
 byte_step : {S : Type 0} (v : Move S) (b : ℕ) (t : S) → IsAmong (byte_ways v b) t → Allows v (took b t)
 byte_step accept b t i = absurd i
@@ -39,13 +38,6 @@ module _ (nodes : List MNode) where
     pub room : length next ≡ length first
     pub real : (t : ℕ) → has_mark next t ≡ true → (p : ℕ) × (has_mark now p ≡ true) × IsAmong (byte_ways (f p) b) t
     pub all : (p t : ℕ) → left ≤ p → has_mark now p ≡ true → IsAmong (byte_ways (f p) b) t → has_mark next t ≡ true
-
-  pub enter_starts : (b : ℕ) (now first : List ℕ) → ((n : ℕ) → has_mark first n ≡ false) → Entering b now first first (length nodes)
-  enter_starts b now first none = record {
-    room = refl;
-    real = λ t h. absurd (true≢false (sym h ∙ none t));
-    all = λ p t le h i. absurd (subst (λ z. IsAmong (byte_ways z b) t) (past_last nodes p le) i);
-  }
 
   pub enter_on : (b : ℕ) (now first next new : List ℕ) (left n : ℕ) → Entering b now first next left → IsHighestBelow now left n → AlsoMarks (byte_ways (f n) b) next new → Entering b now first new n
   enter_on b now first next new left n h top k = record {

@@ -43,9 +43,6 @@ module _ (moves : ℕ → Move ℕ) where
     abbrev pub Keeps : List Bool → List VisitTask → CodeTrees → Type 0
     Keeps f tasks forest = (rs : List (Option (Grown Symbol ℕ))) × HasCodeTrees reverse forest rs × ((g : List Bool) (out : List (Option (Grown Symbol ℕ))) → RunsVisits moves (reverse tasks) f rs g out → RunsVisits moves (Visit first ∷ []) f0 [] g out)
 
-    pub keeps_start : (f : List Bool) (tasks : List VisitTask) (forest : CodeTrees) → f ≡ f0 → tasks ≡ Visit first ∷ [] → HasCodeTrees reverse forest [] → Keeps f tasks forest
-    keeps_start f tasks forest e w has = ([], has, (λ g out q. subst (λ z. RunsVisits moves (Visit first ∷ []) z [] g out) e (subst (λ z. RunsVisits moves (reverse z) f [] g out) w q)))
-
     pub keeps_front : (f : List Bool) (all tasks : List VisitTask) (s : Symbol) (old new : CodeTrees) → all ≡ tasks ++ Front s ∷ [] → ((rs : List (Option (Grown Symbol ℕ))) → HasCodeTrees reverse old rs → HasCodeTrees reverse new (with_front (s ∷ []) rs)) → Keeps f all old → Keeps f tasks new
     keeps_front f all tasks s old new e done h = (with_front (s ∷ []) h.0, done h.0 h.1, (λ g out q. h.2 g out (subst (λ z. RunsVisits moves z f h.0 g out) (sym (ap reverse e ∙ reverse-append tasks (Front s ∷ []))) q)))
 

@@ -52,9 +52,6 @@ split c (x ∷ xs) ys (u ∷ us) vs hx hy hu hv e =
     let r = split c xs ys us vs (λ z i. hx z (inr i)) hy (λ z i. hu z (inr i)) hv (cc) in
     (ap₂ (λ a b. a ∷ b) same r.0, r.1)
 
-empty_or : (m : List Symbol) → m ≡ [] → (n : List Symbol) → m ++ n ≡ n
-empty_or m e n = ap (λ z. z ++ n) e
-
 -- lists of which each begins with the other
 one_front : (c d : List Symbol) → Begins c d → Begins d c → c ≡ d
 one_front c d (m, e) (n, f) = back m n e f (append_cancel_left c (n ++ m) [] (sym (append_assoc c n m) ∙ ap (λ z. z ++ m) (sym f) ∙ sym e ∙ sym (append-nil c)))

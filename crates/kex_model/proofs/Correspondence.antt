@@ -23,10 +23,6 @@ same_left None (Some n) = inr (λ e. cc)
 same_left (Some m) None = inr (λ e. cc)
 same_left (Some m) (Some n) = ⊎_elim (λ e. inl (ap (λ z. Some z) e)) (λ ne. inr (λ e. ne (cc))) (cases_eq m n)
 
-left_of : Frame → Option ℕ
-left_of (Pending n need left) = left
-left_of (EndOf n) = None
-
 same_frame : (f g : Frame) → (f ≡ g) ⊎ (f ≡ g → ⊥)
 same_frame (Pending m need left) (Pending n need' left') =
     ⊎_elim

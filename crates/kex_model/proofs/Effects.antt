@@ -7,7 +7,7 @@ use Rattle.kex_code.specs.declared.symbol.Symbol.{Symbol}
 use Rattle.kex_code.specs.declared.symbol.Symbol.TheVariants.{L, R, Byte}
 use Rattle.kex_model.proofs.Walks.{step_from_code}
 use Rattle.kex_model.proofs.Derivations.{from_accept}
-use Rattle.kex_model.specs.Moves.{Move, accept, Allows, reads, goes_left, goes_right, goes_forced, goes, code_of, Walk, symbol_of, turn_side, end_side, Effect, nothing, open_buffer, drop_buffer, into, Step, to_left, to_right, took, chose, went}
+use Rattle.kex_model.specs.Moves.{Move, accept, Allows, reads, goes_left, goes_right, goes_forced, goes, code_of, Walk, symbol_of, turn_side, end_side, nothing, open_buffer, drop_buffer, into, Step, to_left, to_right, took, chose, went}
 use Rattle.kex_code.specs.Registers.{Registers, with_content}
 use Rattle.kex_model.specs.Trees.{kind_at, root_of, less, Tree, IsTree, one, lit, one_byte, call, seq, alt_left, alt_right, needed, again, end, mute, at_register, write_register, set_register, add_register, PartMeaning, part_behind, go_on, then_part, muted_part, put_whole, kept_part, part_meaning}
 use Rattle.kex_model.specs.declared.frame.Frame.TheVariants.{Pending, EndOf}
@@ -34,10 +34,6 @@ DoneBy (Some d) p js ks c out bs regs = after_steps (js ++ ks) c (record { out =
 
 abbrev pub Does : PartMeaning → List (Step Place) → List Symbol → Registers → Type 0
 Does p js c regs = (ks : List (Step Place)) (out : List ℕ) (bs : List (List ℕ)) → DoneBy p.rest p js ks c out bs regs
-
--- one step without a symbol
-silent : (e : Effect) (rest : Place) (p : PartMeaning) (d c : List Symbol) (regs : Registers) → p.rest ≡ Some d → d ≡ c → ((out : List ℕ) (bs : List (List ℕ)) → after_effect e (record { out = out; buffers = bs; registers = regs }) ≡ after_append p.bytes out bs p.registers) → Does p (went e rest ∷ []) c regs
-silent e rest p d c regs r same does ks out bs = rw (r, same) (ap (λ s. after_steps ks c s) (does out bs))
 
 -- two, one after the other
 then_does : (bytes : List ℕ) (regs' : Registers) (o : Option (List Symbol)) (f : List Symbol → Registers → PartMeaning) (is js : List (Step Place)) (c : List Symbol) (regs : Registers) → Does (record { bytes = bytes; registers = regs'; rest = o }) is c regs → ((d : List Symbol) → Does (f d regs') js d regs') → Does (go_on bytes regs' o f) (is ++ js) c regs

@@ -10,7 +10,6 @@ pub mod OpenAnswers
 pub mod Effects
 pub mod Transfer
 pub mod Shapes
-pub mod SettledPipelines
 pub mod LeftBehind
 pub mod Likeness
 pub mod Tables

@@ -27,9 +27,6 @@ same_front w a b p q e =
 front_take : {A : Type 0} (n : ℕ) (w : List A) → Begins w (take n w)
 front_take n w = (drop n w, sym (take-append-drop n w))
 
-further : {A : Type 0} (w v a : List A) → Begins w a → Begins (w ++ v) a
-further w v a p = (p.0 ++ v, ap (λ z. z ++ v) p.1 ∙ append_assoc a p.0 v)
-
 refl_front : {A : Type 0} (w : List A) → Begins w w
 refl_front w = ([], sym (append-nil w))
 

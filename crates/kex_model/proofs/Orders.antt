@@ -47,12 +47,6 @@ before_cut c d r up down h = ⊎_elim inside over (two_fronts c h.0 r (L ∷ h.1
 pub before_more : (c d x y : List Symbol) → Before c d → Before (c ++ x) (d ++ y)
 before_more c d x y h = (h.0, h.1 ++ x, h.2 ++ y, ap (λ z. z ++ x) h.3 ∙ append_assoc h.0 (L ∷ h.1) x, ap (λ z. z ++ y) h.4 ∙ append_assoc h.0 (R ∷ h.2) y)
 
-pub before_right : (c d y : List Symbol) → Before c d → Before c (d ++ y)
-before_right c d y h = subst (λ z. Before z (d ++ y)) (append-nil c) (before_more c d [] y h)
-
-pub before_left : (c d x : List Symbol) → Before c d → Before (c ++ x) d
-before_left c d x h = subst (λ z. Before (c ++ x) z) (append-nil d) (before_more c d x [] h)
-
 pub before_trans : (c d e : List Symbol) → Before c d → Before d e → Before c e
 before_trans c d e h h' = ⊎_elim up down (two_fronts h.0 h'.0 (R ∷ h.2) (L ∷ h'.1) (sym h.4 ∙ h'.3))
   where

@@ -1,5 +1,5 @@
 -- Rows that are added.
-use Rattle.std.proofs.Common.{◌<◌, ◌≡◌, ℕ, zero, suc, ◌+◌, ◌*◌, ◌/◌, ◌^◌, List, [], ◌∷◌, ◌++◌, All, Some, length, get_or, refl, sym, ap, ap₂, subst, ◌∙◌, arith, length-append, ⊎_elim}
+use Rattle.std.proofs.Common.{◌<◌, ◌≡◌, ℕ, ◌+◌, ◌*◌, ◌/◌, ◌^◌, List, [], ◌∷◌, ◌++◌, All, Some, length, get_or, refl, sym, ap, ap₂, subst, ◌∙◌, arith, length-append, ⊎_elim}
 use Rattle.std.specs.Prelude.{slice_get}
 use Rattle.std.proofs.lemmas.List.{append-nil}
 use Rattle.std.proofs.lemmas.List.Elements.{All-append, All-nil}
@@ -46,11 +46,6 @@ ordered_wider k p more h e unknown =
 
     one_more : (n w : ℕ) → n * w + w ≡ (n + 1) * w
     one_more n w = omega arith
-
-slice_get-front : {A : Type 0} (xs ys : List A) (i : ℕ) (x : A) → slice_get xs i ≡ Some x → slice_get (xs ++ ys) i ≡ Some x
-slice_get-front [] ys i x e = cc
-slice_get-front (z ∷ xs) ys zero x e = e
-slice_get-front (z ∷ xs) ys (suc i) x e = slice_get-front xs ys i x e
 
 slice_get-last : {A : Type 0} (xs : List A) (x : A) → slice_get (xs ++ x ∷ []) (length xs) ≡ Some x
 slice_get-last [] x = refl

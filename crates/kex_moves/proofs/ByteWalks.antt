@@ -11,7 +11,7 @@ use Rattle.kex_machine.specs.Nodes.{Graph, node_moves, IsMachineInRange, IsBelow
 use Rattle.kex_action.specs.Holdings.{Rests, LeadsByCode, step_by}
 use Rattle.kex_action.proofs.WalkEffects.{first_step}
 use Rattle.kex_action.proofs.QuietWalks.{entered_in}
-use Rattle.kex_action.proofs.NodeSteps.{leads_on, stays, by_symbol}
+use Rattle.kex_action.proofs.NodeSteps.{leads_on, by_symbol}
 use Rattle.kex_moves.specs.declared.walk.Letter.{Letter}
 use Rattle.kex_moves.specs.declared.walk.Letter.TheVariants.{L, R, Read}
 use Rattle.kex_action.specs.declared.action.Action.{Action}
@@ -38,9 +38,6 @@ takes_passed nodes n t e c f p = by p.steps p.walk p.codes
     by (k ∷ ks) w g =
         let h = only_goes e t f w.0 in
         record { steps = ks; to = p.to; walk = subst (λ q. Walk (node_moves nodes) q ks p.to) (ap target_of h) w.1; codes = sym (ap (λ q. symbols_of q ++ code_of ks) h) ∙ g }
-
-pub going_none : (nodes : List MNode) (n : ℕ) (ds : List Action) → WalkGoesOn nodes n ds n ds
-going_none nodes n ds = record { more = []; noted = sym (append-nil ds); leads = λ b s. stays nodes n s; takes = λ c p. p }
 
 -- one step more, of which some actions are noted
 going_by : (nodes : List MNode) (n m t : ℕ) (e : Effect) (before after more : List Action) → WalkGoesOn nodes n before m after → node_moves nodes m ≡ go e t → ((b : ℕ) (s : ActingState) → after_effect e s ≡ after_actions nodes b more s) → WalkGoesOn nodes n before t (after ++ more)
@@ -77,9 +74,6 @@ code_with_byte-drop b w i d x c h e = ap (λ l. code_with_byte b l ++ c) (drop_m
 pub record Follows (nodes : List MNode) (n : ℕ) (w : List Part) (i t : ℕ) (actions : List Action) : Type 0 where
   pub leads : (b : ℕ) (c : List Symbol) → TakesCode nodes n (code_with_byte b w ++ c) → (s : ActingState) → LeadsByCode nodes n s (code_with_byte b (take i w)) t (after_actions nodes b actions s)
   pub takes : (b : ℕ) (c : List Symbol) → TakesCode nodes n (code_with_byte b w ++ c) → TakesCode nodes t (code_with_byte b (drop i w) ++ c)
-
-pub follows_none : (nodes : List MNode) (n : ℕ) (w : List Part) → Follows nodes n w 0 n []
-follows_none nodes n w = record { leads = λ b c p s. stays nodes n s; takes = λ b c p. p }
 
 -- and then what needs no symbol
 pub follows_on : (nodes : List MNode) (n m t : ℕ) (w : List Part) (i : ℕ) (actions after : List Action) → Follows nodes n w i m actions → WalkGoesOn nodes m actions t after → Follows nodes n w i t after

@@ -5,14 +5,10 @@ use Rattle.kex_model.specs.Acting.{ActingState, after_effect}
 use Rattle.kex_action.specs.Holdings.{with_bytes}
 use Rattle.kex_moves.specs.declared.settle.EdgeDraft.{EdgeDraft}
 use Rattle.kex_moves.specs.Drafts.{with_buffers, Drafts}
-use Rattle.kex_moves.proofs.PlacedTexts.{adding_more, adding_none}
+use Rattle.kex_moves.proofs.PlacedTexts.{adding_more}
 
 abbrev pub draft : ℕ → ℕ → EdgeDraft
 draft p n = record { place = p; depth = n }
-
--- nothing is done yet
-pub drafts_none : (b : ℕ) (s : ActingState) → Drafts [] (draft 16 0) b s s
-drafts_none b s = record { tops = []; count = refl; is = adding_none s }
 
 -- at its end the text is what is made
 pub drafts_all : (bytes : List ℕ) (d : EdgeDraft) (b : ℕ) (s z : ActingState) → d.depth ≡ 0 → Drafts bytes d b s z → z ≡ with_bytes (set bytes d.place b) s

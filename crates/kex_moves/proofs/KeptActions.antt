@@ -1,8 +1,8 @@
 -- Actions that are kept.
-use Rattle.std.proofs.Common.{◌≡◌, ℕ, List, [], ◌∷◌, ◌++◌, Option, Some, None, length, take, refl, sym, ap, ◌∙◌, subst, arith, length-append}
+use Rattle.std.proofs.Common.{◌≡◌, ℕ, List, [], ◌∷◌, ◌++◌, Option, Some, None, length, sym, ap, ◌∙◌, subst, arith, length-append}
 use Rattle.std.proofs.lemmas.List.{take-append-le}
 use Rattle.std.proofs.Math.Seq.{take-length}
-use Rattle.kex_model.specs.Moves.{open_buffer, drop_buffer}
+use Rattle.kex_model.specs.Moves.{open_buffer}
 use Rattle.kex_model.specs.Acting.{ActingState, after_effect}
 use Rattle.kex_machine.specs.declared.MNode.{MNode}
 use Rattle.kex_action.specs.declared.action.Action.{Action}
@@ -10,9 +10,6 @@ use Rattle.kex_action.specs.Holdings.{with_bytes}
 use Rattle.kex_action.specs.Actions.{after_action, after_actions}
 use Rattle.kex_action.proofs.Actions.{done-append}
 use Rattle.kex_moves.specs.Drafts.{with_buffers, KeepsActions}
-
-pub keeps_none : (nodes : List MNode) (b : ℕ) (s : ActingState) → KeepsActions nodes [] None b s s
-keeps_none nodes b s = record { all = refl; front = tt }
 
 -- an action more
 more_done : (nodes : List MNode) (kept : List Action) (a : Action) (b : ℕ) (s z : ActingState) → z ≡ after_actions nodes b kept s → after_action nodes b a z ≡ after_actions nodes b (kept ++ a ∷ []) s
@@ -32,6 +29,3 @@ keeps_written nodes kept all at a more b s z e writes h = subst (λ l. KeepsActi
   all = more_done nodes kept a b s z h.all;
   front = (omega (arith, h.front.0, length-append kept (a ∷ [])), h.front.1 ++ more, writes ∙ ap (with_bytes more) h.front.2 ∙ ap (λ l. with_buffers ((h.front.1 ++ more) ∷ []) (after_actions nodes b l s)) (sym (take-append-le at kept (a ∷ []) h.front.0)));
 })
-
-pub keeps_dropped : (nodes : List MNode) (kept all : List Action) (at : ℕ) (a : Action) (b : ℕ) (s z : ActingState) → all ≡ take at kept → after_action nodes b a z ≡ after_effect drop_buffer z → KeepsActions nodes kept (Some at) b s z → KeepsActions nodes all None b s (after_action nodes b a z)
-keeps_dropped nodes kept all at a b s z e drops h = subst (λ l. KeepsActions nodes l None b s (after_action nodes b a z)) (sym e) (record { all = drops ∙ ap (after_effect drop_buffer) h.front.2; front = tt })

@@ -1,6 +1,6 @@
 -- What is learnt stays right.
 use Rattle.std.proofs.Common.{◌≡◌, ℕ, zero, suc, ◌<◌, ◌≤◌, ◌+◌, ◌*◌, Bool, true, false, cond, List, [], ◌∷◌, ◌++◌, All, Option, Some, None, length, get_or, take, drop, set, refl, sym, ap, subst, ◌∙◌, arith, length-drop, inl, inr, ⊎_elim}
-use Rattle.std.specs.Prelude.{slice_get, ◌⊎◌, IfSome}
+use Rattle.std.specs.Prelude.{slice_get, ◌⊎◌}
 use Rattle.std.proofs.lemmas.List.{take-append-le, drop-append-le}
 use Rattle.std.proofs.lemmas.List.Elements.{All-append, All-get_or, All-from_get_or}
 use Rattle.std.proofs.lemmas.Option.{slice_get_within, slice_get-get_or, get_or_from_slice_get}
@@ -24,7 +24,7 @@ use Rattle.kex_moves.specs.Edges.{writes, is_written, is_known, has_acts, HasRoo
 use Rattle.kex_moves.specs.Runs.{HasEdgeRow, LeadsBack, HasRoomBelow, AreEdgesWithin}
 use Rattle.kex_moves.specs.Trails.{EdgesLeadBelow}
 use Rattle.kex_moves.specs.Walks.{code_with_byte, TakesCode, Learns}
-use Rattle.kex_moves.specs.Known.{Known, rows_of, IsEdge, IsOrdered, IsPairRow, HasRowFor, IsRight, AreRight, IsPairOf, IsKnown, IsLed, KnownGrows, Widens, Lengthens, Forgets, Settles, makes}
+use Rattle.kex_moves.specs.Known.{Known, rows_of, IsEdge, IsOrdered, IsPairRow, HasRowFor, IsRight, AreRight, IsPairOf, IsKnown, IsLed, KnownGrows, Widens, Lengthens, Settles, makes}
 
 -- the edge of a row at a class is one of the edges
 pub index_in : (k : Known) (row : ℕ) (p : Pair) (class : ℕ) → IsOrdered k → IsPairRow k row p → class < k.width → row + class < length k.edges
@@ -279,13 +279,6 @@ makes_at_row nodes k e b s w = ap (λ x. cond x (with_bytes (writes k.text e b) 
 abbrev as_text : Edge → Edge
 as_text e = record { next = e.next; from = e.from; byte_at = e.byte_at; adds = e.adds; kind = Text }
 
-pub edge_at_row : (k : Known) (e x : Edge) → (x ≡ e) ⊎ ((is_written e.kind ≡ true) × (x ≡ as_text e)) → IsEdge k e → IsEdge k x
-edge_at_row k e x (inl h) is = subst (λ y. IsEdge k y) (sym h) is
-edge_at_row k e x (inr h) is =
-    let room = is.room h.0 in
-    let known = known_if e.kind h.0 in
-    subst (λ y. IsEdge k y) (sym h.1) (record { next = λ q. is.next known; begins = λ q. is.begins known; room = λ q. record { text = room.text; byte_at = room.byte_at; adds = room.adds; keeps = λ q. cc; drops = λ q. cc }; acts = λ q. cc })
-
 pub right_at_row : (t : Transducer) (nodes : List MNode) (k : Known) (p : Pair) (class : ℕ) (e x : Edge) → (x ≡ e) ⊎ ((is_written e.kind ≡ true) × (x ≡ as_text e)) → (is_known e.kind ≡ true → IsRight t nodes k p class e) → is_known x.kind ≡ true → IsRight t nodes k p class x
 right_at_row t nodes k p class e x (inl h) right known = subst (λ y. IsRight t nodes k p class y) (sym h) (right (ap (λ (y : Edge). is_known y.kind) (sym h) ∙ known))
 right_at_row t nodes k p class e x (inr h) right known =
@@ -302,9 +295,6 @@ right_at_row t nodes k p class e x (inr h) right known =
       opens = λ q. cc;
     })
 
-pub grows_put : (old mid new : Known) (i : ℕ) (e : Edge) → KnownGrows old mid → new ≡ with_edges mid (set mid.edges i e) → KnownGrows old new
-grows_put old mid new i e g is = subst (λ k. KnownGrows old k) (sym is) (record { width = g.width; rows = λ row p r. rows_put mid (set mid.edges i e) row p (g.rows row p r) })
-
 -- where there is no row all is right
 pub known_none : (t : Transducer) (g : Graph) (k : Known) → IsOrdered k → k.classes ≡ t.classes → k.pairs ≡ [] → IsKnown t g k
 known_none t g k ordered classes none = record {
@@ -313,9 +303,6 @@ known_none t g k ordered classes none = record {
   pairs = subst (λ l. All (IsPairOf t g) l) (sym none) (λ i d l. absurd (omega arith));
   right = λ number class p e at lt is known. let clash : None ≡ Some p = sym (ap (λ l. slice_get l number) none) ∙ at in cc;
 }
-
-pub known_forgotten : (t : Transducer) (g : Graph) (old new : Known) → old.classes ≡ t.classes → Forgets old new → IsKnown t g new
-known_forgotten t g old new h f = known_none t g new f.ordered (f.classes ∙ h) f.pairs
 
 -- an edge that is led by what was learnt of the update's code is right
 pub right_led : (t : Transducer) (nodes : List MNode) (k : Known) (p : Pair) (class : ℕ) (by : Transition) (out : List Part) (node : ℕ) (actions : List Action) (e : Edge) → transition_of t p.state class ≡ Some by → by.update.regs ≡ [] → out ≡ by.update.out → Learns nodes p.node out node actions → IsLed nodes k by.target node actions e → is_known e.kind ≡ true → IsRight t nodes k p class e

@@ -1,5 +1,5 @@
 -- A text with a place for the byte, from what is done.
-use Rattle.std.proofs.Common.{Result, Ok, Err, IfOk, true, false, cond, replicate, refl, ◌≡◌, ℕ, ◌<◌, ◌≤◌, ◌+◌, List, [], ◌∷◌, ◌++◌, length, take, drop, set, sym, ap, ap₂, ◌∙◌, subst, arith, append_assoc, length-append, length-set, inl, inr}
+use Rattle.std.proofs.Common.{Result, Ok, Err, IfOk, true, false, cond, replicate, refl, ◌≡◌, ℕ, ◌<◌, ◌≤◌, ◌+◌, List, [], ◌∷◌, ◌++◌, length, take, drop, set, sym, ap, ap₂, ◌∙◌, arith, append_assoc, length-append, length-set, inl, inr}
 use Rattle.std.specs.Prelude.{◌⊎◌}
 use Rattle.std.proofs.lemmas.List.{append-nil, set-append_left, set_past, set_at, drop_at, take_all, take-append-drop, length-take-le}
 use Rattle.kex_code.specs.Registers.{Registers}
@@ -12,7 +12,7 @@ use Rattle.kex_action.specs.Sheets.{with_buffer}
 use Rattle.kex_moves.specs.declared.edge.Edge.{Edge}
 use Rattle.kex_moves.specs.declared.edge.EdgeKind.{EdgeKind}
 use Rattle.kex_moves.specs.declared.edge.EdgeKind.TheVariants.{Keep, Drop, Text, Acts, Opens, Plain, Unknown}
-use Rattle.kex_moves.specs.Edges.{writes, is_written, is_known, has_acts, HasRoom}
+use Rattle.kex_moves.specs.Edges.{writes, is_written, has_acts, HasRoom}
 use Rattle.kex_moves.specs.Known.{Known, HasPlace, Settles, Lengthens}
 use Rattle.kex_moves.proofs.BufferWrites.{within}
 use Rattle.kex_moves.proofs.Runs.{one}
@@ -38,16 +38,9 @@ set_more xs ys p b (inr h) = set_past (xs ++ ys) p b (omega (arith, length-appen
 pub more_room : (xs ys : List ℕ) (p : ℕ) → HasPlace xs p → length xs + length ys ≤ 16 → (p < length xs) ⊎ (length xs + length ys ≤ p)
 more_room xs ys p h k = elim h.place [ inl a ↦ inl a | inr a ↦ inr (omega arith) ]
 
--- a literal behind the text
-pub literal_place : (p : ℕ) (xs ys zs : List ℕ) → HasPlace xs p → length xs + length ys ≤ 16 → zs ≡ xs ++ ys → HasPlace zs p
-literal_place p xs ys zs h k e = subst (λ l. HasPlace l p) (sym e) (record { count = omega (arith, length-append xs ys); place = elim h.place [ inl a ↦ inl (omega (arith, length-append xs ys)) | inr a ↦ inr a ] })
-
 -- the byte behind it
 pub byte_text : (p q b : ℕ) (xs : List ℕ) → HasPlace xs p → 16 ≤ p → q ≡ length xs → set xs p b ++ b ∷ [] ≡ set (xs ++ 0 ∷ []) q b
 byte_text p q b xs h k e = ap (λ l. l ++ b ∷ []) (set_past xs p b (omega (arith, h.count))) ∙ sym (set_at xs 0 [] b q (sym e))
-
-pub byte_place : (q : ℕ) (xs zs : List ℕ) → length xs < 16 → q ≡ length xs → zs ≡ xs ++ 0 ∷ [] → HasPlace zs q
-byte_place q xs zs h e f = subst (λ l. HasPlace l q) (sym f) (record { count = omega (arith, length-append xs (0 ∷ [])); place = inl (omega (arith, length-append xs (0 ∷ []))) })
 
 -- what is written is the text with the byte
 text_written : (old xs pad text : List ℕ) (p b : ℕ) (e : Edge) → text ≡ (old ++ xs) ++ pad → length pad ≡ 16 → length xs ≤ 16 → e.from ≡ length old → e.byte_at ≡ p → e.adds ≡ length xs → writes text e b ≡ set xs p b
@@ -129,18 +122,6 @@ settles_acts nodes k old actions next e is n f l acts opens =
       does = λ known b s. does b s;
       opens = λ q b s. sym (does b s) ∙ opens q b s;
     }
-
-pub settles_plain : (nodes : List MNode) (k : Known) (next : ℕ) (f : ℕ → ActingState → ActingState) (e : Edge) → is_known e.kind ≡ false → Settles nodes k next f e
-settles_plain nodes k next f e h = by e.kind refl h
-  where
-    by : (x : EdgeKind) → e.kind ≡ x → is_known x ≡ false → Settles nodes k next f e
-    by Keep is h = cc
-    by Drop is h = cc
-    by Text is h = cc
-    by Acts is h = cc
-    by Opens is h = cc
-    by Plain is h = record { goes = λ known. cc; room = λ written. cc; acts = λ q. cc; does = λ known. cc; opens = λ q. cc }
-    by Unknown is h = record { goes = λ known. cc; room = λ written. cc; acts = λ q. cc; does = λ known. cc; opens = λ q. cc }
 
 pub lengthens_none : (k : Known) → Lengthens k k
 lengthens_none k = record { text = []; acts = []; longer = ap₂ (λ (t : List ℕ) (a : List Action). record { classes = k.classes; width = k.width; shift = k.shift; pairs = k.pairs; edges = k.edges; text = t; acts = a }) (sym (append-nil k.text)) (sym (append-nil k.acts)) }

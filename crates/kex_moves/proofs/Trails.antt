@@ -1,5 +1,5 @@
 -- Along pieces, edge by edge.
-use Rattle.std.proofs.Common.{◌≡◌, ℕ, ◌<◌, ◌≤◌, ◌+◌, ◌-◌, true, false, List, [], ◌∷◌, ◌++◌, Some, length, get_or, take, drop, sym, ap, subst, ◌∙◌, arith, append_assoc, append-nil}
+use Rattle.std.proofs.Common.{◌≡◌, ℕ, ◌<◌, ◌≤◌, ◌+◌, ◌-◌, true, false, List, [], ◌∷◌, ◌++◌, Some, length, get_or, take, drop, sym, ap, subst, ◌∙◌, append_assoc, append-nil}
 use Rattle.std.specs.Prelude.{slice_get}
 use Rattle.std.proofs.Math.Seq.{take-add}
 use Rattle.std.proofs.lemmas.List.{drop_more, take_more}
@@ -47,10 +47,6 @@ edge_read edges i h = slice_get-get_or edges i no_edge h
 
 over_at : (edges : List Edge) (width row : ℕ) (pieces : List ByteWord) (at : ℕ) → at < length pieces → ((e : Edge) → IsWrittenEdge edges width row (get_or pieces at no_piece) e → ⊥) → IsTrailOver edges width row (drop at pieces)
 over_at edges width row pieces at h none = subst (λ l. IsTrailOver edges width row l) (sym (drop_more pieces at no_piece h)) none
-
--- no word of a row
-pub over_past : (edges : List Edge) (width row : ℕ) (pieces : List ByteWord) (at : ℕ) → at < length pieces → width ≤ (get_or pieces at no_piece).word → IsTrailOver edges width row (drop at pieces)
-over_past edges width row pieces at h past = over_at edges width row pieces at h (λ e step. absurd (omega (arith, step.within, past)))
 
 -- an edge that isn't written
 pub over_unwritten : (edges : List Edge) (width row : ℕ) (pieces : List ByteWord) (at : ℕ) (e : Edge) → at < length pieces → slice_get edges (row + (get_or pieces at no_piece).word) ≡ Some e → is_written e.kind ≡ false → IsTrailOver edges width row (drop at pieces)

@@ -8,7 +8,7 @@ use Rattle.std.proofs.lemmas.List.Elements.{All-nil, All-cons, All-append, All-t
 use Rattle.kex_model.specs.Moves.{Move, read, took, Allows, reads}
 use Rattle.kex_model.specs.Labelled.{Shape, place, parts, Grown}
 use Rattle.kex_machine.specs.declared.MNode.{MNode}
-use Rattle.kex_machine.specs.declared.MNode.TheVariants.{Accept, Read, Choice, Forced, Do, Skip}
+use Rattle.kex_machine.specs.declared.MNode.TheVariants.{Read}
 use Rattle.kex_machine.specs.Nodes.{Graph, node_moves, move_of}
 use Rattle.kex_machine.specs.Advancing.{dies, reads_on, both, LeadAlike, EachPlace}
 use Rattle.kex_sst.specs.declared.parts.Part.{Part}
@@ -59,21 +59,6 @@ read_alike m set n b c e = (
 
 pub set_alike : (node : MNode) (set : List Bool) (n b c : ℕ) (m : Move ℕ) (u v : Bool) → m ≡ move_of (Some node) → node ≡ Read set n → u ≡ get_or set b false → v ≡ get_or set c false → IsTrue (beq u v) ↔ AllowsAlike m b c
 set_alike node set n b c m u v is e p q = subst (λ z. IsTrue (beq z v) ↔ AllowsAlike m b c) (sym p) (subst (λ z. IsTrue (beq (get_or set b false) z) ↔ AllowsAlike m b c) (sym q) (read_alike m set n b c (is ∙ ap (λ z. move_of (Some z)) e)))
-
-not_read : (node : MNode) → ((set : List Bool) (n : ℕ) → node ≡ Read set n → ⊥) → (set : List Bool) (t : ℕ) → move_of (Some node) ≡ read set t → ⊥
-not_read (Read s n) none set t e = none s n refl
-not_read Accept none set t e = cc
-not_read (Choice l r) none set t e = cc
-not_read (Forced x n) none set t e = cc
-not_read (Do f n) none set t e = cc
-not_read (Skip n) none set t e = cc
-
--- where nothing is read
-pub none_alike : (node : MNode) (m : Move ℕ) (b c : ℕ) → m ≡ move_of (Some node) → ((set : List Bool) (n : ℕ) → node ≡ Read set n → ⊥) → IsTrue true ↔ AllowsAlike m b c
-none_alike node m b c is none = ((λ i t. (over b c t, over c b t)), (λ h. refl))
-  where
-    over : (b c t : ℕ) → Allows m (took b t) → Allows m (took c t)
-    over b c t a = let r = read_there a in absurd (not_read node none r.0 t (sym is ∙ r.1))
 
 -- ---- from the leaves of a tree
 

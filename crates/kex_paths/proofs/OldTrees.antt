@@ -62,9 +62,6 @@ module _ (moves : ℕ → Move ℕ) (b : ℕ) where
   pub going_meet : (m : ℕ) (first : List ShapedTask) (k : ℕ) (left : List TreeToken) (f : List Bool) (n : ℕ) (stack : List Task) (rs : List (Option (Grown Part ℕ))) → n < length f → Going m first k left f (Visit n ∷ stack) rs → Going m first k left (set f n true) (reverse (place_tasks (get_or f n false) (moves n)) ++ stack) (place_trees (get_or f n false) (moves n) n ++ rs)
   going_meet m first k left f n stack rs lt v = by v.shaped v.erased v.reads_left v.runs
     where
-      Whole : List Bool → List (Option (Grown Part ℕ)) → Type 0
-      Whole g out = RunsTasks moves b first 0 (replicate m false) [] g out
-
       set_again : (f : List Bool) (n : ℕ) → get_or f n false ≡ true → set f n true ≡ f
       set_again [] n e = refl
       set_again (x ∷ f) zero e = cc

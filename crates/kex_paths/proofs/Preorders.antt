@@ -1,11 +1,10 @@
 -- Trees spelled in preorder: as two lists, as tokens, as numbers, and edge by edge.
-use Rattle.std.proofs.Common.{◌≡◌, ℕ, ◌+◌, ◌<◌, ◌≤◌, Bool, true, false, List, [], ◌∷◌, ◌++◌, ⊎_elim, Some, map, length, reverse, get_or, drop, refl, sym, ap, ap₂, subst, ◌∙◌, append_assoc, append-nil, length-append, length-drop, drop-cons, add-one, arith}
+use Rattle.std.proofs.Common.{◌≡◌, ℕ, ◌+◌, ◌<◌, ◌≤◌, Bool, true, List, [], ◌∷◌, ◌++◌, ⊎_elim, Some, map, length, reverse, drop, refl, sym, ap, ap₂, subst, ◌∙◌, append_assoc, append-nil, length-append, arith}
 use Rattle.std.specs.Prelude.{slice_get}
 use Rattle.std.proofs.lemmas.List.{reverse-append, map-append}
 use Rattle.std.proofs.lemmas.Option.{slice_get_within}
 use Rattle.kex_model.specs.Labelled.{Labelled, labels_of, Shape, place, parts, shape_of, size_of, Grown}
 use Rattle.kex_model.proofs.Shapes.{among-append}
-use Rattle.kex_model.proofs.OpenAnswers.{empty_list}
 use Rattle.kex_machine.specs.Advancing.{EachPlace}
 use Rattle.kex_sst.specs.declared.parts.Part.{Part}
 use Rattle.kex_paths.specs.declared.forest.PathEdge.{PathEdge}
@@ -68,30 +67,9 @@ one_key (parts l r) (parts l' r') x y e =
 pub key_same : (s t : Shape ℕ) → key_of s ≡ key_of t → s ≡ t
 key_same s t e = (one_key s t [] [] (append-nil (key_of s) ∙ e ∙ sym (append-nil (key_of t)))).0
 
--- two lists are of one shape
-pub one_shape : (s t : Shape ℕ) → inner_of s ≡ inner_of t → places_of s ≡ places_of t → s ≡ t
-one_shape s t e f = key_same s t (sym (key_of_tokens s) ∙ ap (λ z. map token_number z) (sym (tokens_of_lists s) ∙ ap₂ (λ u v. tokens_from u v) e f ∙ tokens_of_lists t) ∙ key_of_tokens t)
-
 module _ (xs : List Bool) (ps : List ℕ) (whole : List TreeToken) where
   abbrev pub IsRead : List TreeToken → ℕ → ℕ → Type 0
   IsRead ts i k = ts ++ tokens_from (drop i xs) (drop k ps) ≡ whole
-
-  pub read_fork : (ts : List TreeToken) (i k : ℕ) → i < length xs → get_or xs i true ≡ true → IsRead ts i k → IsRead (ts ++ token.Fork ∷ []) (i + 1) k
-  read_fork ts i k lt e h =
-      let next : drop i xs ≡ true ∷ drop (i + 1) xs = drop-cons xs i true lt ∙ ap₂ (λ u v. u ∷ drop v xs) e (sym (add-one i)) in
-      append_assoc ts (token.Fork ∷ []) (tokens_from (drop (i + 1) xs) (drop k ps)) ∙ ap (λ z. ts ++ tokens_from z (drop k ps)) (sym next) ∙ h
-
-  pub read_tip : (ts : List TreeToken) (i k : ℕ) (d : ℕ) → i < length xs → get_or xs i true ≡ false → k < length ps → IsRead ts i k → IsRead (ts ++ token.Tip (get_or ps k d) ∷ []) (i + 1) (k + 1)
-  read_tip ts i k d lt e lk h =
-      let next : drop i xs ≡ false ∷ drop (i + 1) xs = drop-cons xs i true lt ∙ ap₂ (λ u v. u ∷ drop v xs) e (sym (add-one i)) in
-      let more : drop k ps ≡ get_or ps k d ∷ drop (k + 1) ps = drop-cons ps k d lk ∙ ap (λ z. get_or ps k d ∷ drop z ps) (sym (add-one k)) in
-      append_assoc ts (token.Tip (get_or ps k d) ∷ []) (tokens_from (drop (i + 1) xs) (drop (k + 1) ps)) ∙ ap₂ (λ u v. ts ++ tokens_from u v) (sym next) (sym more) ∙ h
-
-  pub read_nothing : (ts : List TreeToken) (i k : ℕ) → i < length xs → get_or xs i true ≡ false → length ps ≤ k → IsRead ts i k → IsRead ts (i + 1) k
-  read_nothing ts i k lt e lk h =
-      let next : drop i xs ≡ false ∷ drop (i + 1) xs = drop-cons xs i true lt ∙ ap₂ (λ u v. u ∷ drop v xs) e (sym (add-one i)) in
-      let none : drop k ps ≡ [] = empty_list (drop k ps) (omega (arith, length-drop k ps)) in
-      ap (λ z. ts ++ tokens_from (drop (i + 1) xs) z) none ∙ ap₂ (λ u v. ts ++ tokens_from u v) (sym next) (sym none) ∙ h
 
 module _ (edges : List PathEdge) where
   -- a node is spelled, before trees that are still to be
@@ -174,14 +152,6 @@ module _ (edges : List PathEdge) where
             let some = some_inner (shape_of t.tree) in
             let whole = ap length f in
             (slice_get_within edges i q.edge q.here, omega (arith, inner-length (shape_of a.tree), length-append inner (inner_of (shape_of t.tree) ++ inner_in ts), length-append (inner_of (shape_of t.tree)) (inner_in ts)))
-
-    -- where no edge is left the tree is spelled
-    pub spelled_end : IsSpelled edges a inner places labels [] → (inner ≡ inner_of (shape_of a.tree)) × (places ≡ places_of (shape_of a.tree)) × (labels ≡ labels_of a.tree)
-    spelled_end h = by h.left h.are h.inner_is h.places_are h.labels_are
-      where
-        by : (ts : List (Grown Part ℕ)) → AreEdges edges [] ts → inner_of (shape_of a.tree) ≡ inner ++ inner_in ts → places_of (shape_of a.tree) ≡ places ++ places_in ts → labels_of a.tree ≡ labels ++ labels_in ts → (inner ≡ inner_of (shape_of a.tree)) × (places ≡ places_of (shape_of a.tree)) × (labels ≡ labels_of a.tree)
-        by [] h f g k = (sym (append-nil inner) ∙ sym f, sym (append-nil places) ∙ sym g, sym (append-nil labels) ∙ sym k)
-        by (t ∷ ts) h f g k = absurd h
 
   -- the same, of equal lists
   pub spelled_as : (a : Grown Part ℕ) (inner inner' : List Bool) (places places' : List ℕ) (labels labels' : List (List Part)) (pending pending' : List ℕ) → inner' ≡ inner → places' ≡ places → labels' ≡ labels → pending' ≡ pending → IsSpelled edges a inner places labels pending → IsSpelled edges a inner' places' labels' pending'

@@ -156,9 +156,3 @@ falls_edge moves b x y n k u tasks tasks' tasks'' lt w w' =
     let longer : length tasks' ≡ length tasks + 1 = ap length w ∙ length-append tasks (y ∷ []) in
     let few = token_length moves b x in
     omega arith
-
-pub falls_token : (moves : ℕ → Move ℕ) (b : ℕ) (x : TreeToken) (n k u : ℕ) (tasks tasks' : List Task) → k < n → tasks' ≡ tasks ++ token_tasks moves b x → u + 4 * (n - (k + 1)) + length tasks' < u + 4 * (n - k) + suc (length tasks)
-falls_token moves b x n k u tasks tasks' lt w =
-    let long : length tasks' ≡ length tasks + length (token_tasks moves b x) = ap length w ∙ length-append tasks (token_tasks moves b x) in
-    let few = token_length moves b x in
-    omega arith

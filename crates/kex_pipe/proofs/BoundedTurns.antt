@@ -21,21 +21,11 @@ pub may_go_on : (may_want : Bool) → (not may_want || true) ≡ true
 may_go_on true = refl
 may_go_on false = refl
 
-pub wants_more : (may_want : Bool) → may_want ≡ true → (not may_want || false) ≡ false
-wants_more true e = refl
-wants_more false e = sym e
-
 -- open where it neither stopped nor ended
 pub open_of : (Gives : List ℕ → Bool → Answer → Type 0) (Open : List ℕ → List ℕ → Type 0) (stop : Option Stop) (over : Bool) (h : Option StageFed)
     → StandsAs Gives Open stop over h → ended_of h ≡ false → stop ≡ None → Open (bytes_fed h) (said_text h)
 open_of Gives Open stop over None s e n = s.0
 open_of Gives Open stop over (Some h) s e n = s.3 e n
-
--- what has ended is not open
-pub not_over : (Gives : List ℕ → Bool → Answer → Type 0) (Open : List ℕ → List ℕ → Type 0) (stop : Option Stop) (over : Bool) (h : Option StageFed)
-    → StandsAs Gives Open stop over h → ended_of h ≡ false → over ≡ true → ⊥
-not_over Gives Open stop over None s e o = let bad : true ≡ false = sym o ∙ s.2 in cc
-not_over Gives Open stop over (Some h) s e o = let bad : true ≡ false = sym o ∙ s.2 ∙ e in cc
 
 fated : (stop : Option Stop) → IsFateOf (stop_as stop) (fate_of stop)
 fated None = refl

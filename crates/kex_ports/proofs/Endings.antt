@@ -1,8 +1,7 @@
 -- The end of an output, over several calls.
-use Rattle.std.proofs.Common.{◌≡◌, ℕ, true, false, refl, sym, ap, ◌∙◌}
+use Rattle.std.proofs.Common.{◌≡◌, true, false, refl, sym, ap, ◌∙◌}
 use Rattle.std.specs.Prelude.{Option, Some, None, option_map, Result, Ok, Err, IsErr}
-use Rattle.kex_ports.specs.Calls.{next_count}
-use Rattle.kex_ports.specs.Endings.{Ending, written_ending, failed_ending, after_finish, counts_of, finishes_of, IsUnfinished}
+use Rattle.kex_ports.specs.Endings.{Ending, written_ending, failed_ending, counts_of, finishes_of, IsUnfinished}
 
 pub counts_of-written_ending : (e : Option Ending) → counts_of (option_map written_ending e) ≡ counts_of e
 counts_of-written_ending None = refl
@@ -20,28 +19,12 @@ by-counts (Some x) = refl
 pub same-finishes : (a b : Option Ending) → counts_of a ≡ counts_of b → finishes_of a ≡ finishes_of b
 same-finishes a b e = by-counts a ∙ ap (option_map (λ c. c.0)) e ∙ sym (by-counts b)
 
-abbrev ended_by : ℕ × ℕ → Ending
-ended_by c = record { finishes = next_count c.0; failed_writes = c.1; is_closed = true }
-
-ended-by-counts : (e : Option Ending) → after_finish e ≡ option_map ended_by (counts_of e)
-ended-by-counts None = refl
-ended-by-counts (Some x) = refl
-
--- where the counts are the same, it is finished alike
-pub same-finished : (a b : Option Ending) → counts_of a ≡ counts_of b → after_finish a ≡ after_finish b
-same-finished a b e = ended-by-counts a ∙ ap (option_map ended_by) e ∙ sym (ended-by-counts b)
-
 -- one more write, of some
 pub written-on : (old mid new : Option Ending) → counts_of mid ≡ counts_of old → new ≡ option_map written_ending mid → counts_of new ≡ counts_of old
 written-on old mid new same e = ap counts_of e ∙ counts_of-written_ending mid ∙ same
 
 pub failed-on : (old mid new : Option Ending) → counts_of mid ≡ counts_of old → new ≡ option_map failed_ending mid → finishes_of new ≡ finishes_of old
 failed-on old mid new same e = ap finishes_of e ∙ finishes-failed mid ∙ same-finishes mid old same
-
--- one more call that writes
-pub unfinished-on : {T E : Type 0} (old mid new : Option Ending) (r : Result T E) → counts_of mid ≡ counts_of old → IsUnfinished mid new r → IsUnfinished old new r
-unfinished-on old mid new (Ok x) same u = u ∙ same
-unfinished-on old mid new (Err e) same u = u ∙ same-finishes mid old same
 
 -- a call that failed, and in which it wasn't finished
 pub unfinished-at : {T E : Type 0} (old new : Option Ending) (r : Result T E) → IsErr r → finishes_of new ≡ finishes_of old → IsUnfinished old new r

@@ -90,6 +90,3 @@ unfolding state_asks
 define_notes at s h done name i k b e f cs o made fs ds ss r st n =
     subst (λ (x : State). OnOk r (NotesLeast (cs ++ state_asks at x (word k b)) o)) (sym e)
     (subst (λ (x : TokenKind). OnOk r (NotesLeast (cs ++ asks at (length (before h done name) + length (entries i.entries)) i.mode i.entries (word x b)) o)) (sym f) (define_on at h done name i.mode i.entries cs o made fs ds ss r st n))
-
-pub vec_long : (r l n : ℕ) → r ≡ l → n ≡ l → r ≡ n
-vec_long r l n e f = e ∙ sym f

@@ -128,10 +128,6 @@ bad_count (FromTo m k) cs o brace e n = noted_one o (BadCount brace) cs (Counted
 pub count_noted : (p : Postfix) (cs : List Check) (o : Option Break) (brace from : ℕ) → brace ≡ from → is_bad_count p ≡ true → NotesLeast cs o → NotesLeast (cs ++ postfix_checks p from) (lesser_of o (Some (BadCount brace)))
 count_noted p cs o brace from e bad n = subst (λ (x : ℕ). NotesLeast (cs ++ postfix_checks p x) (lesser_of o (Some (BadCount brace)))) e (bad_count p cs o brace bad n)
 
-pub on_moved : {A B : Type 0} (r : Result A B) (cs : List Check) (o p : Option Break) → OnOk r (p ≡ o) → NotesLeast cs o → OnOk r (NotesLeast cs p)
-on_moved (Ok a) cs o p e n = moved cs o p e n
-on_moved (Err b) cs o p e n = tt
-
 pub on_refl : {A B : Type 0} (r : Result A B) (o : Option Break) → OnOk r (o ≡ o)
 on_refl (Ok a) o = refl
 on_refl (Err b) o = tt

@@ -11,7 +11,7 @@ use Rattle.kex_model.specs.declared.program.Start.{Start}
 use Rattle.kex_tokens.specs.declared.token.Token.{Token}
 use Rattle.kex_tokens.specs.declared.token.TokenFault.{TokenFault}
 use Rattle.kex_tokens.specs.declared.token.TokenFault.TheVariants as token_faults
-use Rattle.kex_tokens.specs.Texts.{AreTokens, AreTokensRefused, most_text}
+use Rattle.kex_tokens.specs.Texts.{AreTokens, most_text}
 use Rattle.kex_regexp.specs.declared.breaks.Break.{Break}
 use Rattle.kex_regexp.specs.declared.breaks.Break.TheVariants.{BadRegex, BadCount, BadSet, OverLimit}
 use Rattle.kex_reader.specs.declared.stack.Construct.{Construct}
@@ -31,7 +31,7 @@ use Rattle.kex_reader.specs.Uses.{Numbered, InNodes, InDefinitions, InStages, No
 use Rattle.kex_reader.proofs.Uses.{AllHeld}
 use Rattle.kex_reader.specs.Holding.{ShowsHead, ShowsState, StateSteps, Finishes}
 use Rattle.kex_reader.specs.Asked.{state_checks, state_asks}
-use Rattle.kex_reader.specs.Spelling.{words, offset, main_stage, ShowsHeader, ShowsProgram, Spells, IsUnexpected, BreaksLimit, IsRefusedAs, of_token, of_limit, of_step}
+use Rattle.kex_reader.specs.Spelling.{words, offset, main_stage, ShowsHeader, ShowsProgram, Spells, IsUnexpected, BreaksLimit, IsRefusedAs, of_limit, of_step}
 use Rattle.kex_reader.proofs.NumberedNames.{get_mapped, take_get}
 use Rattle.kex_reader.proofs.Drafts.{term_within}
 use Rattle.kex_reader.proofs.Sound.{Goes, reads_goes}
@@ -139,11 +139,6 @@ begin_notes at o e = subst (λ (x : Option Break). NotesLeast [] x) (sym e) (λ 
 
 -- ---- refusals
 
-pub token_refused : (text : List ℕ) (f : TokenFault) → AreTokensRefused f text → IsRefusedAs text (of_token f)
-token_refused text token_faults.TextTooLong h = h
-token_refused text (token_faults.BadToken at) h = h
-token_refused text token_faults.Memory h = tt
-
 pub limit_refused : (text : List ℕ) (b : Break) → length text ≤ most_text → BreaksLimit text b → IsRefusedAs text (of_limit b)
 limit_refused text (BadRegex at) l h = (l, h)
 limit_refused text (BadCount at) l h = (l, h)
@@ -180,13 +175,6 @@ main_in names (d ∷ ds) h s m = go (bytes_eq (get_or names d.name []) (codes "m
     go true r (inl e) = subst (λ (y : Start). y.name < length names) e (h d (inl refl))
     go true r (inr e) = absurd e
     go false r m = r m
-
--- a header that names no stage has none
-pub head_none : (h : Header) (made : Made) (at : ℕ → ℕ) (ss : List Start) → length ss ≡ 0 → ShowsHead h made at ss → h ≡ NoStart
-unfolding ShowsStages
-head_none NoStart made at ss e k = refl
-head_none (Stages n ns) made at [] e k = absurd k
-head_none (Stages n ns) made at (s ∷ ss) e k = absurd (omega (arith, e))
 
 pub head_some : (h : Header) (made : Made) (at : ℕ → ℕ) (ss : List Start) → (length ss ≡ 0 → ⊥) → ShowsHead h made at ss → (s : Start) → IsAmong ss s → s.name < length made.names
 head_some NoStart made at ss e k s m = absurd (e (ap (λ (x : List Start). length x) k))

@@ -432,10 +432,6 @@ finish_of a b at gs old mid ss ts head h done name (Err faults.Wrong) (Some t) h
 pub to_finish : (b : Made) (at : ℕ → ℕ) (ds : List Root) (ss : List Start) (r : Result (Unit {0}) StepFault) (o p : Option Program) → o ≡ p → Finishes b at ds ss r p → Finishes b at ds ss r o
 to_finish b at ds ss r o p e h = subst (λ (x : Option Program). Finishes b at ds ss r x) (sym e) h
 
-pub finish_memory : (b : Made) (at : ℕ → ℕ) (ds : List Root) (ss : List Start) (o : Option Program) → Finishes b at ds ss (Err faults.Memory) o
-unfolding Finishes
-finish_memory b at ds ss o = tt
-
 pub finish_wrong : (b : Made) (at : ℕ → ℕ) (ds : List Root) (ss : List Start) → Finishes b at ds ss (Err faults.Wrong) None
 unfolding Finishes
 finish_wrong b at ds ss = tt

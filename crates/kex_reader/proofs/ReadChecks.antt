@@ -197,9 +197,6 @@ module _ (at : ℕ → ℕ) (base : ℕ) where
   count_asked a es (CountRead p) = turns_asked a p es _ refl
   count_asked a es CountWrong = tt
 
-  both_nil : (es : List Entry) (cs : List Check) → entries_checks at base es ++ [] ≡ cs → (entries_checks at base es ++ []) ++ [] ≡ cs
-  both_nil es cs e = append-nil _ ∙ e
-
   on_name_asked : (f : List ℕ → Option Inside) (cs : List Check) (w : Word) → ((n : List ℕ) → Asks cs (f n)) → Asks cs (on_name f w)
   unfolding on_name Asks
   on_name_asked f cs (Name n) h = h n

@@ -65,17 +65,6 @@ unfolding ConstructsShow
 ended_on a at base part fs (Ended s ∷ es) h = record { tree = s; rest = es; is = refl; place = h.0; shows = h.1; below = h.2 }
 ended_on a at base part fs _ h = absurd h
 
-pub record MarkOn (a : Made) (at : ℕ → ℕ) (base : ℕ) (place_at : ℕ) (fs : List Construct) (es : List Entry) : Type 0 where
-  pub rest : List Entry
-  pub is : es ≡ Mark ∷ rest
-  pub place : place_at ≡ at (base + length (entries rest))
-  pub below : ConstructsShow a at base fs rest
-
-pub mark_on : (a : Made) (at : ℕ → ℕ) (base : ℕ) (place_at : ℕ) (fs : List Construct) (es : List Entry) → ConstructsShow a at base (constructs.Mark place_at ∷ fs) es → MarkOn a at base place_at fs es
-unfolding ConstructsShow
-mark_on a at base place_at fs (Mark ∷ es) h = record { rest = es; is = refl; place = h.0; below = h.1 }
-mark_on a at base place_at fs _ h = absurd h
-
 -- ---- prefixes
 
 -- a pre that is put together, from its last prefix on

@@ -325,10 +325,6 @@ pub named_define : (n : List ℕ) (es : List Entry) → after_name n es Define �
 unfolding after_name
 named_define n es = refl
 
-pub call_ends : (n : List ℕ) → length (atom (Call n)) ≡ 1
-unfolding atom
-call_ends n = refl
-
 -- constructs that were pushed
 
 pub mark_pushed : (a : Made) (at : ℕ → ℕ) (base : ℕ) (fs gs : List Construct) (es : List Entry) (x : ℕ) → gs ≡ constructs.Mark x ∷ fs → ConstructsShow a at base fs es → x ≡ at (base + length (entries es)) → ConstructsShow a at base gs (Mark ∷ es)

@@ -24,10 +24,6 @@ pub record Completes (w : List Word) : Type 0 where
 
 -- ---- something in front of a term's first pre
 
-pub first_seq : (Pre → Seq) → (Pre → Seq → Seq) → Seq → Seq
-first_seq f g (Only p) = f p
-first_seq f g (Then p s) = g p s
-
 pub prepend : Pre → Term → Term
 prepend p (Last s) = Last (Then p s)
 prepend p (Or s t) = Or (Then p s) t

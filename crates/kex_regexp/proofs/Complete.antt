@@ -484,10 +484,6 @@ close_step m es r fs q = begins m es (regex_onto r (Mark ∷ fs)) 41 q refl ∙ 
 unfoldable pub Begins : List Entry → Option State → Type 0
 Begins fs o = (m : Mode) × (es : List Entry) × MayBegin m es fs × (o ≡ goes m es)
 
-pub ready_begins : (es : List Entry) → Begins es (goes Ready es)
-unfolding Begins MayBegin
-ready_begins es = (Ready, es, refl, refl)
-
 pub begin_byte : (fs : List Entry) (b : ℕ) → is_plain b ≡ true → begin_piece fs b ≡ goes (After (Plain b)) fs
 unfolding begin_piece
 begin_byte fs b h = cond_yes (is_plain b) _ _ h

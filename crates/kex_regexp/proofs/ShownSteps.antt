@@ -29,7 +29,7 @@ use Rattle.kex_regexp.specs.Postfixes.{high, low}
 use Rattle.kex_regexp.specs.Values.{escaped_byte, membership, in_set}
 use Rattle.kex_regexp.specs.Shown.{IsNode, Adds}
 use Rattle.kex_regexp.specs.Machine.{SetPhase, Escaping, Begun, EscapeStep, EscapeOn, EscapeRead, EscapeWrong, SetStep, SetOn, SetRead, SetWrong, AtStart, Counting, Opened, CountStep, CountOn, CountRead, CountWrong, Entry, Mark, Ended, Read, Mode, Ready, After, Turned, InEscape, InSet, InCount, State, entries, entry, take_pieces, take_regex, goes, after_group, end_branch, begin_piece, after_item, after_turns, on_escape, on_set, on_count, step_in, step, bytes_read, mode, escape_step, set_step, count_step}
-use Rattle.kex_regexp.specs.Holding.{HasMembers, HoldsBounds, IsSetAfter, IsSetIn, IsTurns, HoldsRegex, HoldsPiece, HoldsItem, ConstructsShow, BranchOn, RegexOn, Steps, ShowsMode, ShowsEscape, ShowsPart, ShowsSet, ShowsCount, ShowsCountStep, is_empty, capped_count, capped_bound}
+use Rattle.kex_regexp.specs.Holding.{HasMembers, HoldsBounds, IsSetAfter, IsSetIn, IsTurns, HoldsRegex, HoldsPiece, HoldsItem, ConstructsShow, BranchOn, RegexOn, Steps, ShowsMode, ShowsEscape, ShowsPart, ShowsSet, ShowsCount, ShowsCountStep, is_empty}
 use Rattle.kex_regexp.proofs.Complete.{cond_no}
 use Rattle.kex_regexp.proofs.Stacks.{HoldsItem-more, ConstructsShow-more, reverse_push}
 
@@ -90,9 +90,6 @@ unclosed nodes base [] r (Mark ∷ es) h none_on = absurd h
 unclosed nodes base (constructs.Mark at ∷ fs) r (Mark ∷ es) h none_on = absurd (none_on at fs refl)
 unclosed nodes base (constructs.Ended n at ∷ fs) r (Mark ∷ es) h none_on = absurd h
 unclosed nodes base (constructs.Piece n at ∷ fs) r (Mark ∷ es) h none_on = absurd h
-
-abbrev node_of : Kind → ℕ → Node
-node_of kind at = record { kind = kind; at = at }
 
 pub close_steps : (nodes : List Node) (base : ℕ) (old fs : List Construct) (part : Placed) (from : ℕ) (t : Regex × List Entry) → RegexOn nodes base old part t → old ≡ fs ++ constructs.Mark from ∷ [] → Steps nodes base fs (Ok (waits.After (record { node = part.node; at = from }))) (after_group t)
 unfolding entries entry HoldsItem

@@ -37,9 +37,6 @@ unfolding prepend IsRegex IsBranch
 prepend_well p (Last b) h k = (h, k)
 prepend_well p (Or b r) h k = ((h, k.0), k.1)
 
-abbrev alone : Item → Regex
-alone i = Last (Then (Once i) Empty)
-
 pub alone_is : (i : Item) → regex (Last (Then (Once i) Empty)) ≡ item i
 unfolding regex branch piece
 alone_is i = append-nil (item i)

@@ -24,8 +24,8 @@ use Rattle.kex_regexp.specs.declared.wait.StepFault.{StepFault}
 use Rattle.kex_regexp.specs.declared.wait.StepFault.TheVariants as faults
 use Rattle.kex_regexp.specs.declared.wait.Wait.{Wait}
 use Rattle.kex_regexp.specs.declared.wait.Wait.TheVariants as waits
-use Rattle.kex_regexp.specs.Grammar.{item, is_hex, Member, Regex, Last, Or, Branch, Empty, Then, Piece, Once, Turns, Item, Plain, Escaped, Dot, Set, Group, branch, piece, postfix}
-use Rattle.kex_regexp.specs.Machine.{Escaping, Begun, HexBegun, HexOne, EscapeStep, EscapeOn, EscapeRead, EscapeWrong, SetPhase, AtStart, Between, HasEnd, HasDash, InFirst, InLast, SetStep, SetOn, SetRead, SetWrong, Counting, Opened, Low, LowComma, LowHigh, OnlyComma, High, CountStep, CountOn, CountRead, CountWrong, Entry, Mark, Ended, Read, Mode, Ready, After, Turned, InEscape, InSet, InCount, State, entries, bytes_read}
+use Rattle.kex_regexp.specs.Grammar.{item, Member, Regex, Last, Or, Branch, Empty, Then, Piece, Once, Turns, Item, Plain, Escaped, Dot, Set, Group, branch, piece, postfix}
+use Rattle.kex_regexp.specs.Machine.{EscapeStep, EscapeOn, EscapeRead, EscapeWrong, SetPhase, AtStart, Between, HasEnd, HasDash, InFirst, InLast, SetStep, SetOn, SetRead, SetWrong, Counting, Opened, Low, LowComma, LowHigh, OnlyComma, High, CountStep, CountOn, CountRead, CountWrong, Entry, Mark, Ended, Read, Mode, Ready, After, Turned, InEscape, InSet, InCount, State, entries, bytes_read}
 use Rattle.kex_regexp.specs.Parents.{NoneLost}
 use Rattle.kex_regexp.specs.Postfixes.{Postfix, high, is_bad_count, low}
 use Rattle.kex_regexp.specs.Shown.{IsNode, IsClass}
@@ -81,11 +81,6 @@ pub record RegexOn (nodes : List Node) (base : ℕ) (fs : List Construct) (part 
   pub below : ConstructsShow nodes base (reverse fs) t.1
 
 -- ---- escapes
-
-abbrev pub IsEscaping : Escaping → Type 0
-IsEscaping Begun = Unit {0}
-IsEscaping HexBegun = Unit {0}
-IsEscaping (HexOne high) = is_hex high ≡ true
 
 unfoldable pub ShowsEscape : EscapeOutcome → EscapeStep → Type 0
 ShowsEscape (escapes.On e) (EscapeOn f) = e ≡ f
@@ -199,10 +194,6 @@ Ends nodes base (Err faults.Wrong) (Some r) = ⊥
 -- these constructs, and an offset behind them, are those of some state
 abbrev pub SomeConstructs : List Node → List Construct → ℕ → Type 0
 SomeConstructs nodes fs at = (base : ℕ) × (es : List Entry) × ConstructsShow nodes base (reverse fs) es × (at ≡ base + length (entries es))
-
--- and an item that begins there
-abbrev pub SomeItem : List Node → List Construct → Placed → Type 0
-SomeItem nodes fs part = (base : ℕ) × (es : List Entry) × (i : Item) × ConstructsShow nodes base (reverse fs) es × (part.at ≡ base + length (entries es)) × HoldsItem i nodes part.node part.at
 
 abbrev pub SomeState : List Node → List Construct → Wait → ℕ → Type 0
 SomeState nodes fs wait at = (base : ℕ) × (s : State) × ShowsState nodes base fs wait s × (at ≡ base + length (bytes_read s))

@@ -1,6 +1,6 @@
 -- Stages that are joined, one after another.
 use Rattle.std.proofs.Common.{◌≡◌, ◌≤◌, ◌<◌, ◌+◌, ◌⊎◌, false, ℕ, zero, suc, List, [], ◌∷◌, ◌++◌, Some, None, length, get_or, refl, sym, ap, ap₂, subst, ◌∙◌, append_assoc, length-append, arith}
-use Rattle.std.specs.Prelude.{Result, Ok, Err, OnOk, IsSome, All}
+use Rattle.std.specs.Prelude.{IsSome, All}
 use Rattle.std.proofs.Math.ListN.{set}
 use Rattle.kex_pipe.specs.Rounds.{Each}
 use Rattle.kex_pipe.specs.Waiting.{waiting_items}
@@ -41,10 +41,6 @@ module _ {T : Type 0} (t : Ghosts T) where
   pub joined-end : (R : Giver → Taker → Type 0) (to last : Giver) (ss : List (RingSeat T t)) → JoinedTo R to ss last → IsLast last → Joined t R to ss
   joined-end R to last [] j end = subst IsLast j end
   joined-end R to last (s ∷ ss) j end = (j.0, joined-end R s.to last ss j.1 end)
-
-  pub joined-weaker : (R S : Giver → Taker → Type 0) → ((to : Giver) (from : Taker) → R to from → S to from) → (to : Giver) (ss : List (RingSeat T t)) → Joined t R to ss → Joined t S to ss
-  joined-weaker R S f to [] j = j
-  joined-weaker R S f to (s ∷ ss) j = (f to s.from j.0, joined-weaker R S f s.to ss j.1)
 
   -- the first of these see all that lies before them
   pub record Split (room i : ℕ) (ss : List (RingSeat T t)) : Type 0 where
@@ -212,10 +208,6 @@ pub got-again : {A : Type 0} (xs : List A) (n : ℕ) (d : A) → get_or xs n d �
 got-again [] n d = refl
 got-again (x ∷ xs) zero d = refl
 got-again (x ∷ xs) (suc n) d = got-again xs n d
-
-pub from-ok : {A E P : Type 0} (r : Result A E) (x : A) → r ≡ Ok x → OnOk r P → P
-from-ok (Ok y) x is h = h
-from-ok (Err e) x is h = cc
 
 pub all-both : {A : Type 0} (P : A → Type 0) (xs ys : List A) → ((k : ℕ) (d : A) → k < length xs → P (get_or xs k d)) → ((k : ℕ) (d : A) → k < length ys → P (get_or ys k d)) → (k : ℕ) (d : A) → k < length (xs ++ ys) → P (get_or (xs ++ ys) k d)
 all-both P [] ys f b k d lt = b k d lt

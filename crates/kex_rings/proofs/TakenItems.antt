@@ -1,5 +1,5 @@
 -- Items that come out of a ring, run by run.
-use Rattle.std.proofs.Common.{◌≡◌, ◌≤◌, ◌+◌, ℕ, List, [], ◌++◌, length, take, refl, sym, ap, ap₂, subst, ◌∙◌, append_assoc, append-nil, length-append, arith, min}
+use Rattle.std.proofs.Common.{◌≡◌, ◌≤◌, ◌+◌, ℕ, List, [], ◌++◌, length, take, sym, ap, ap₂, subst, ◌∙◌, append_assoc, length-append, arith}
 use Rattle.std.proofs.lemmas.List.{map-append}
 use Rattle.std.proofs.Math.Seq.{take-append_seam}
 use Rattle.rtrb.specs.Ring.{received, known_items}
@@ -9,7 +9,7 @@ use Rattle.kex_pipe.specs.Waiting.{waiting_items}
 use Rattle.kex_pipe.specs.declared.inbox.Inbox.{Inbox}
 use Rattle.kex_rings.specs.declared.item.Item.{Item}
 use Rattle.kex_rings.specs.Items.{item_as, items_as}
-use Rattle.kex_rings.specs.Passing.{Pulls, ComesOut}
+use Rattle.kex_rings.specs.Passing.{ComesOut}
 use Rattle.kex_rings.proofs.Wholes.{front-whole}
 use Rattle.kex_rings.proofs.SentItems.{same-consumer}
 
@@ -18,9 +18,6 @@ fronts : {A : Type 0} (xs ys us vs : List A) → xs ++ us ≡ ys ++ vs → lengt
 fronts xs ys us vs e long = sym (take-append_seam xs us) ∙ ap₂ (λ n z. take n z) long e ∙ take-append_seam ys vs
 
 module _ {A P : Type 0} where
-  pub none-out : (b : Inbox) (ring : Consumer Item A P) → ComesOut b b ring ring 0
-  none-out b ring = record { same = ((refl, refl, refl, refl), refl); items = []; came = sym (append-nil _); count_is = refl; order = ([], append-nil (known_items ring)); lies = λ whole. sym (append-nil (waiting_items b)) }
-
   pub more-out : (old mid new : Inbox) (ring ring' ring'' : Consumer Item A P) (i j : ℕ) → ComesOut old mid ring ring' i → ComesOut mid new ring' ring'' j → ComesOut old new ring ring'' (i + j)
   more-out old mid new ring ring' ring'' i j p q =
       let all : List Item = p.items ++ q.items in
@@ -38,13 +35,6 @@ module _ {A P : Type 0} where
             let before = p.lies (front-whole (waiting_items old ++ items_as p.items) (items_as q.items) w) in
             q.lies (subst (λ z. IsWhole (z ++ items_as q.items)) (sym before) w) ∙ ap (λ z. z ++ items_as q.items) before ∙ sym cut;
       }
-
-  -- no more was seen than came out and is seen still
-  pub seen-out : (old new : Inbox) (ring ring' : Consumer Item A P) (i : ℕ) → ComesOut old new ring ring' i → length (known_items ring) ≤ i + length (known_items ring')
-  seen-out old new ring ring' i p = omega (arith, p.count_is, ap length p.order.1, length-append (known_items ring) p.order.0, length-append p.items (known_items ring'))
-
-  pub all-pulled : (room : ℕ) (old new : Inbox) (ring ring' : Consumer Item A P) (i : ℕ) → ComesOut old new ring ring' i → i ≤ room → min room (length (known_items ring)) ≤ i → Pulls room old new ring ring' i
-  all-pulled room old new ring ring' i p within least = record { same = p.same; items = p.items; came = p.came; count_is = p.count_is; within = within; least = least; lies = p.lies }
 
   -- what was seen came out
   pub all-out : (old new : Inbox) (ring ring' : Consumer Item A P) (i : ℕ) → ComesOut old new ring ring' i → i ≡ length (known_items ring) → IsWhole (waiting_items old ++ items_as (known_items ring)) → waiting_items new ≡ waiting_items old ++ items_as (known_items ring)

@@ -45,13 +45,6 @@ block_within [] i d lt = absurd (omega arith)
 block_within (b ∷ bs) zero d lt = omega (arith, length-append b.items (symbols_in bs))
 block_within (b ∷ bs) (suc i) d lt = let h = block_within bs i d (omega arith) in omega (arith, h, length-append b.items (symbols_in bs))
 
--- the only block has lost its symbols
-pub joined-set_only : (bs : List (Vec Symbol)) (i : ℕ) (v : Vec Symbol) → length bs ≤ 1 → i < length bs → v.items ≡ [] → symbols_in (set bs i v) ≡ []
-joined-set_only [] i v le lt e = refl
-joined-set_only (b ∷ []) zero v le lt e = append-nil v.items ∙ e
-joined-set_only (b ∷ []) (suc i) v le lt e = absurd (omega arith)
-joined-set_only (b ∷ c ∷ bs) i v le lt e = absurd (omega arith)
-
 -- a new block with one symbol
 pub joined-push : (bs : List (Vec Symbol)) (v : Vec Symbol) (s : Symbol) → v.items ≡ s ∷ [] → symbols_in (bs ++ v ∷ []) ≡ symbols_in bs ++ s ∷ []
 joined-push bs v s e = joined-append bs (v ∷ []) ∙ ap (λ z. symbols_in bs ++ z) (append-nil v.items ∙ e)

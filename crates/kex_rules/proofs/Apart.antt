@@ -1,5 +1,5 @@
 -- The flags of nodes that stand apart, and the lowest call among them.
-use Rattle.std.proofs.Common.{◌≡◌, ℕ, zero, suc, ◌<◌, ◌≤◌, ◌+◌, Bool, true, false, List, [], ◌⊎◌, inl, inr, ⊎_elim, Option, Some, None, length, get_or, replicate, refl, sym, ap, subst, ◌∙◌, arith}
+use Rattle.std.proofs.Common.{◌≡◌, ℕ, zero, suc, ◌<◌, ◌≤◌, ◌+◌, Bool, true, false, List, [], ◌⊎◌, inl, inr, ⊎_elim, Option, Some, length, get_or, replicate, refl, sym, ap, subst, ◌∙◌, arith}
 use Rattle.std.proofs.lemmas.List.{length-replicate}
 use Rattle.std.proofs.lemmas.Option.{slice_get_within, slice_get_past}
 use Rattle.kex_code.specs.Codes.{IsAmong, HasNumber}
@@ -52,9 +52,6 @@ apart_more P marks n old new h k = record {
 -- one of the first nodes is a call at this offset that stands apart
 abbrev pub ApartBefore : Grammar → List Bool → ℕ → ℕ → Type 0
 ApartBefore P apart i at = (n name : ℕ) × (n < i) × IsCall P n name at × (get_or apart n false ≡ true)
-
-pub before_none : (P : Grammar) (apart : List Bool) → IsLeastOffset (ApartBefore P apart 0) None
-before_none P apart = λ at h. let lt : h.0 < 0 = h.2 in omega arith
 
 this_or_below : (a b : ℕ) → a < b + 1 → (a < b) ⊎ (b ≡ a)
 this_or_below a b lt = grind arith

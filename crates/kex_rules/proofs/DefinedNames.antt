@@ -1,10 +1,9 @@
 -- Names that are defined, and the lowest of the offsets that break a rule.
-use Rattle.std.proofs.Common.{◌≡◌, ℕ, zero, suc, ◌<◌, ◌≤◌, Bool, true, false, cond, List, [], ◌∷◌, ◌++◌, ◌⊎◌, inl, inr, ⊎_elim, Option, Some, None, find, length, get_or, set, take, replicate, refl, sym, ap, subst, ◌∙◌, length-set, get_or-set_same, get_or-set_other, arith}
+use Rattle.std.proofs.Common.{◌≡◌, ℕ, zero, suc, ◌<◌, ◌≤◌, Bool, true, false, cond, List, [], ◌∷◌, ◌++◌, ◌⊎◌, inl, inr, ⊎_elim, Option, Some, None, find, length, get_or, set, take, refl, sym, ap, subst, ◌∙◌, length-set, get_or-set_same, get_or-set_other, arith}
 use Rattle.std.specs.Prelude.{◌==◌, if◌then◌else◌, nat_lt, IsTrue, ◌↔◌}
 use Rattle.std.specs.Option.{option_map, option_or}
 use Rattle.std.proofs.lemmas.Bool.{eqb-true, eq-eqb}
 use Rattle.std.proofs.lemmas.Bool.Decides.{nat_tests}
-use Rattle.std.proofs.lemmas.List.{length-replicate}
 use Rattle.std.proofs.lemmas.List.Folds.{find-append}
 use Rattle.std.proofs.lemmas.Option.{slice_get_within, slice_get-get_or}
 use Rattle.kex_code.specs.Codes.{IsAmong, HasNumber}
@@ -106,15 +105,6 @@ first_other ds d name n = by (first_root ds name) refl
     by None e = first_new ds d name e ∙ find_not_here d name n ∙ sym e
     by (Some r) e = first_kept ds d name r e ∙ sym e
 
--- no definition, no root
-pub no_roots : (names : ℕ) (roots : List (Option ℕ)) → roots ≡ replicate names None → HasRoots [] names roots
-no_roots names roots e = record { long = ap length e ∙ length-replicate names None; each = λ name. ap (λ z. get_or z name None) e ∙ none names name }
-  where
-    none : (k name : ℕ) → get_or (replicate k None) name None ≡ first_root [] name
-    none zero name = refl
-    none (suc k) zero = refl
-    none (suc k) (suc name) = none k name
-
 pub roots_more : (ds : List Definition) (d : Definition) (names : ℕ) (roots : List (Option ℕ)) → d.name < names → HasRoots ds names roots → get_or roots d.name None ≡ None → HasRoots (ds ++ d ∷ []) names (set roots d.name (Some d.root))
 roots_more ds d names roots lt h e = record {
   long = length-set roots d.name (Some d.root) ∙ h.long;
@@ -155,9 +145,6 @@ twice_cases ds d at (i, j, x, e, lt, hi, hj, same, is) = ⊎_elim
 
 twice_kept : (ds : List Definition) (d : Definition) (at : ℕ) → IsTwice ds at → IsTwice (ds ++ d ∷ []) at
 twice_kept ds d at (i, j, x, e, lt, hi, hj, same, is) = (i, j, x, e, lt, get_more ds (d ∷ []) i x hi, get_more ds (d ∷ []) j e hj, same, is)
-
-pub twice_none : Nowhere (IsTwice [])
-twice_none at (i, j, x, e, lt, hi, hj, same, is) = let l : j < 0 = slice_get_within [] j e hj in omega arith
 
 pub twice_more : (ds : List Definition) (d : Definition) (found : Option ℕ) → IsDefined ds d.name → IsLeastOffset (IsTwice ds) found → IsLeastOffset (IsTwice (ds ++ d ∷ [])) (Some (lower found d.at))
 twice_more ds d found (x, i, same) h = least_more (IsTwice ds) (IsTwice (ds ++ d ∷ [])) found d.at h here (λ k c. ⊎_elim (λ b. inl b) (λ b. inr b.1) (twice_cases ds d k c)) (λ k b. twice_kept ds d k b)

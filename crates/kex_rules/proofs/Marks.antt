@@ -82,9 +82,3 @@ fresh_mark (suc k) (suc v) = fresh_mark k v
 pub unseen_count-replicate : (k : ℕ) → unseen_count (replicate k Unseen) ≡ k
 unseen_count-replicate zero = refl
 unseen_count-replicate (suc k) = ap suc (unseen_count-replicate k)
-
-pub unseen_at_most : (marks : List Mark) → unseen_count marks ≤ length marks
-unseen_at_most [] = omega arith
-unseen_at_most (Unseen ∷ xs) = let h : unseen_count xs ≤ length xs = unseen_at_most xs in omega arith
-unseen_at_most (Open i ∷ xs) = let h : unseen_count xs ≤ length xs = unseen_at_most xs in omega arith
-unseen_at_most (Closed a ∷ xs) = let h : unseen_count xs ≤ length xs = unseen_at_most xs in omega arith

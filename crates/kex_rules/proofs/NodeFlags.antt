@@ -1,5 +1,5 @@
 -- The flags of the nodes that stand in a definition, and the lowest call of an unknown name among them.
-use Rattle.std.proofs.Common.{◌≡◌, ℕ, zero, suc, ◌<◌, ◌≤◌, ◌+◌, Bool, true, false, List, [], ◌∷◌, ◌++◌, ◌⊎◌, inl, inr, ⊎_elim, Option, Some, None, length, get_or, set, replicate, refl, sym, ap, subst, ◌∙◌, length-set, get_or-set_same, get_or-set_other, arith}
+use Rattle.std.proofs.Common.{◌≡◌, ℕ, zero, suc, ◌<◌, ◌≤◌, ◌+◌, Bool, true, false, List, [], ◌∷◌, ◌++◌, ◌⊎◌, inl, inr, ⊎_elim, Option, Some, length, get_or, set, replicate, refl, sym, ap, subst, ◌∙◌, length-set, get_or-set_same, get_or-set_other, arith}
 use Rattle.std.proofs.lemmas.List.{length-replicate}
 use Rattle.std.proofs.lemmas.Option.{slice_get_within, slice_get_past}
 use Rattle.kex_code.specs.Codes.{IsAmong, HasNumber}
@@ -95,9 +95,6 @@ stands_flagged P within h d i (as_other {n = n} {m = m} s j) = h.others n m (ome
 -- one of the first nodes stands in a definition and calls a name that has none, at this offset
 abbrev pub UnknownBefore : Grammar → List Bool → ℕ → ℕ → Type 0
 UnknownBefore P within i at = (n name : ℕ) × (n < i) × IsCall P n name at × (get_or within n false ≡ true) × (IsDefined P.definitions name → ⊥)
-
-pub unknown_none : (P : Grammar) (within : List Bool) → IsLeastOffset (UnknownBefore P within 0) None
-unknown_none P within = λ at h. let lt : h.0 < 0 = h.2 in omega arith
 
 this_or_below : (a b : ℕ) → a < b + 1 → (a < b) ⊎ (b ≡ a)
 this_or_below a b lt = grind arith

@@ -53,7 +53,3 @@ pub record AreComponents (f : ℕ → List ℕ) (count : ℕ) (marks : List Mark
   pub all : (v : ℕ) → v < count → (a : ℕ) × (get_or marks v Unseen ≡ Closed a)
   pub falls : (u a w : ℕ) → get_or marks u Unseen ≡ Closed a → IsAmong (f u) w → (b : ℕ) × (get_or marks w Unseen ≡ Closed b) × (b ≤ a)
   pub same : (u v a : ℕ) → get_or marks u Unseen ≡ Closed a → get_or marks v Unseen ≡ Closed a → Leads f u v
-
--- two vertices lead to each other
-abbrev pub AreTogether : Grammar → ℕ → ℕ → Type 0
-AreTogether P u v = Leads (vertex_successors P) u v × Leads (vertex_successors P) v u

@@ -1,13 +1,13 @@
 -- A table that goes on byte by byte.
-use Rattle.std.proofs.Common.{◌≡◌, ℕ, zero, suc, ◌+◌, ◌<◌, ◌≤◌, List, [], ◌∷◌, ◌++◌, Some, None, length, get_or, map, take, drop, refl, sym, ap, ap₂, subst, ◌∙◌, append_assoc, append-nil, arith}
+use Rattle.std.proofs.Common.{◌≡◌, ℕ, zero, suc, ◌+◌, ◌<◌, ◌≤◌, List, [], ◌∷◌, ◌++◌, Some, None, length, get_or, map, take, drop, refl, sym, ap, ap₂, ◌∙◌, append_assoc, append-nil, arith}
 use Rattle.std.specs.Prelude.{slice_get}
 use Rattle.std.proofs.lemmas.List.{drop_more, length-map, length-take-le, take-take, take_more}
 use Rattle.kex_byteset.specs.Classes.{class_at}
 use Rattle.kex_code.specs.declared.symbol.Symbol.{Symbol}
 use Rattle.kex_sst.specs.declared.parts.Part.{Part}
 use Rattle.kex_sst.specs.declared.table.Transition.{Transition}
-use Rattle.kex_sst.specs.Parts.{IsUpdate, IsWay, parts_code, item_count}
-use Rattle.kex_sst.specs.Tables.{Row, Transducer, IsTable, IsWayIf, transition_of}
+use Rattle.kex_sst.specs.Parts.{parts_code, item_count}
+use Rattle.kex_sst.specs.Tables.{Row, Transducer, IsTable, transition_of}
 use Rattle.kex_sst.specs.Passes.{Pass, next_of, next_pass, first_pass, passes_if, whole_code, ended_by, way_of}
 use Rattle.kex_sst.proofs.Passes.{passes_more, leads_to, by_class}
 use Rattle.kex_runner.specs.Items.{items_from, items_along}
@@ -56,15 +56,6 @@ items_next t state piece i b r lt is n = ap (λ z. items_along t state z) (drop_
 pub items_stop : (t : Transducer) (state : ℕ) (piece : List ℕ) (i b : ℕ) → i < length piece → b ≡ get_or piece i 0 → next_of t state b ≡ None → items_along t state (drop i piece) ≡ 0
 items_stop t state piece i b lt is n = ap (λ z. items_along t state z) (drop_more piece i 0 lt) ∙ ap (λ z. items_from t z (drop (i + 1) piece)) (ap (λ z. next_of t state z) (sym is) ∙ n)
 
-pub items_done : (t : Transducer) (state : ℕ) (piece : List ℕ) (i : ℕ) → length piece ≤ i → items_along t state (drop i piece) ≡ 0
-items_done t state piece i le = ap (λ z. items_along t state z) (none_left piece i le)
-  where
-    none_left : (xs : List ℕ) (i : ℕ) → length xs ≤ i → drop i xs ≡ []
-    none_left [] zero le = refl
-    none_left [] (suc i) le = refl
-    none_left (x ∷ xs) zero le = absurd (omega arith)
-    none_left (x ∷ xs) (suc i) le = none_left xs i (omega arith)
-
 -- a place's state is one of the table's
 pub place_in_range : {t : Transducer} {state : ℕ} {registers : List (List Symbol)} → IsTablePlace t state registers → state < length t.states
 place_in_range {t} {state} h = below t.states state h.at
@@ -74,31 +65,10 @@ place_in_range {t} {state} h = below t.states state h.at
     below (x ∷ xs) zero e = omega arith
     below (x ∷ xs) (suc i) e = let h = below xs i e in omega (arith, h)
 
--- the state's row, its updates and its way
-pub update_at : (t : Transducer) (state class : ℕ) (registers : List (List Symbol)) (r : Transition) → IsTable t → IsTablePlace t state registers → transition_of t state class ≡ Some r → IsUpdate (length registers) (length r.update.regs) r.update
-update_at t state class registers r table h e =
-    let s = leads_to t table state class r e in
-    let same : h.row ≡ s.0 = some_same (sym h.at ∙ s.1) in
-    let from : s.0.registers ≡ length registers = sym (h.count ∙ ap (λ z. z.registers) same) in
-    subst (λ n. IsUpdate n (length r.update.regs) r.update) from (subst (λ n. IsUpdate s.0.registers n r.update) (sym s.2.update.count) s.2.update)
-  where
-    some_same : {x y : Row} → Some x ≡ Some y → x ≡ y
-    some_same e = cc
-
 pub place_next : (t : Transducer) (state class : ℕ) (registers : List (List Symbol)) (r : Transition) (registers' : List (List Symbol)) (b : ℕ) → IsTable t → transition_of t state class ≡ Some r → registers' ≡ map (λ x. parts_code registers b x) r.update.regs → IsTablePlace t r.target registers'
 place_next t state class registers r registers' b table e f =
     let s = leads_to t table state class r e in
     record { row = s.2.row; at = s.2.at; count = ap length f ∙ length-map r.update.regs (λ x. parts_code registers b x) ∙ s.2.update.count }
-
-pub way_at : (t : Transducer) (state : ℕ) (registers : List (List Symbol)) (s : Row) (way : List Part) → IsTable t → IsTablePlace t state registers → slice_get t.states state ≡ Some s → s.accepting ≡ Some way → IsWay (length registers) way
-way_at t state registers s way table h at e =
-    let same : h.row ≡ s = some_same (sym h.at ∙ at) in
-    let from : s.registers ≡ length registers = sym (h.count ∙ ap (λ z. z.registers) same) in
-    let is : IsWayIf s.registers (Some way) = subst (λ z. IsWayIf s.registers z) e (table.states state s at).ends in
-    subst (λ n. IsWay n way) from is
-  where
-    some_same : {x y : Row} → Some x ≡ Some y → x ≡ y
-    some_same e = cc
 
 pub ending_none : (t : Transducer) (state : ℕ) (s : Row) → slice_get t.states state ≡ Some s → s.accepting ≡ None → (p : Pass) → p.state ≡ state → whole_code t p ≡ None
 ending_none t state s at none p e = ap (λ z. ended_by (way_of (slice_get t.states z)) p) e ∙ ap (λ z. ended_by (way_of z) p) at ∙ ap (λ z. ended_by z p) none

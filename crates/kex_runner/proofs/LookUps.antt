@@ -2,7 +2,6 @@
 use Rattle.std.proofs.Common.{◌≡◌, ℕ, zero, suc, ◌+◌, ◌<◌, ◌≤◌, List, [], ◌∷◌, ◌++◌, Option, Some, None, length, map, get_or, take, refl, sym, ap, ap₂, subst, ◌∙◌, append_assoc, append-nil, length-append, arith}
 use Rattle.std.proofs.lemmas.Option.{get_or_from_slice_get}
 use Rattle.std.proofs.Math.ListN.{get_or-map}
-use Rattle.std.proofs.lemmas.List.{take_all}
 use Rattle.kex_code.specs.declared.symbol.Symbol.{Symbol}
 use Rattle.kex_sst.specs.declared.parts.Part.{Part}
 use Rattle.kex_sst.specs.Parts.{value, parts_code}
@@ -154,7 +153,3 @@ module _ (s : Sheet) (base : List (List Symbol)) (notes : List ByteUpdate) where
         noted = λ k. subst (λ z. AreNoted (length notes) z) (sym same) (noted_left (length notes) pending (u ∷ []) k);
         weight = let f = ap (λ z. weight_of s notes z) same in omega (arith, f, weight_of-append pending (u ∷ []));
       }
-
-  -- one list over all notes
-  pub one_list : (u : Unread) → length notes ≤ u.after → codes_of s base notes (u ∷ []) ++ spelled_back s.words [] ≡ parts_code (registers_after base notes) u.byte (list_at s u.list)
-  one_list u le = append-nil (codes_of s base notes (u ∷ [])) ∙ append-nil (unread_code s base notes u) ∙ ap (λ z. parts_code (registers_after base z) u.byte (list_at s u.list)) (take_all u.after notes le)

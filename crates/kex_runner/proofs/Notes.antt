@@ -1,6 +1,6 @@
 -- Notes that grow, are cut, and are settled.
-use Rattle.std.proofs.Common.{◌≡◌, ℕ, zero, suc, ◌+◌, ◌<◌, List, [], ◌∷◌, ◌++◌, length, map, get_or, take, refl, sym, ap, ap₂, ◌∙◌, append_assoc, append-nil, arith}
-use Rattle.std.proofs.lemmas.List.{take_more, length-map}
+use Rattle.std.proofs.Common.{◌≡◌, ℕ, ◌+◌, ◌<◌, List, [], ◌∷◌, ◌++◌, length, map, get_or, take, refl, sym, ap, ap₂, ◌∙◌, append_assoc, append-nil, arith}
+use Rattle.std.proofs.lemmas.List.{take_more}
 use Rattle.kex_code.specs.declared.symbol.Symbol.{Symbol}
 use Rattle.kex_sst.specs.declared.parts.Part.{Part}
 use Rattle.kex_sst.specs.declared.parts.Part.TheVariants.{Put, Old, Input}
@@ -11,14 +11,6 @@ use Rattle.kex_runner.specs.Noting.{ByteUpdate, next_registers, registers_after}
 pub registers_push : (base : List (List Symbol)) (notes : List ByteUpdate) (n : ByteUpdate) → registers_after base (notes ++ n ∷ []) ≡ next_registers n.update n.byte (registers_after base notes)
 registers_push base [] n = refl
 registers_push base (m ∷ ms) n = registers_push (next_registers m.update m.byte base) ms n
-
--- there are as many registers as the last note gives something
-pub as_many : (base : List (List Symbol)) (notes : List ByteUpdate) (k : ℕ) (n : ByteUpdate) → k + 1 ≡ length notes → n ≡ get_or notes k n → length (registers_after base notes) ≡ length n.update.regs
-as_many base [] k n e is = absurd (omega arith)
-as_many base (m ∷ []) zero n e is = length-map m.update.regs (λ xs. parts_code base m.byte xs) ∙ ap (λ z. length z.update.regs) (sym is)
-as_many base (m ∷ []) (suc k) n e is = absurd (omega arith)
-as_many base (m ∷ o ∷ ms) zero n e is = absurd (omega arith)
-as_many base (m ∷ o ∷ ms) (suc k) n e is = as_many (next_registers m.update m.byte base) (o ∷ ms) k n (omega arith) is
 
 -- a list of parts that reads no register is the same whatever they hold
 pub meant_fresh : (regs regs' : List (List Symbol)) (b : ℕ) (xs : List Part) → olds xs ≡ [] → parts_code regs b xs ≡ parts_code regs' b xs

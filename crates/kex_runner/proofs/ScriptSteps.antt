@@ -10,7 +10,7 @@ use Rattle.kex_script.specs.declared.script.Entry.{Entry}
 use Rattle.kex_script.specs.Scripts.{Sheet, HasUpdate, IsEntryOf, IsScriptOf, change_at, entry_at}
 use Rattle.kex_runner.specs.declared.registers.Registers.{Registers}
 use Rattle.kex_runner.specs.Noting.{contents, next_registers}
-use Rattle.kex_runner.specs.Following.{IsRunner, IsTablePlace, Follows}
+use Rattle.kex_runner.specs.Following.{IsRunner, Follows}
 use Rattle.kex_runner.proofs.ByteSteps.{place_next}
 
 -- the transition that an entry tells
@@ -53,13 +53,6 @@ no_step s t state class e h lt is stops = none (transition_of t state class) (th
     none : (o : Option Transition) → IsEntryOf s e o → o ≡ None
     none None k = refl
     none (Some r) k = let bad : ⊥ = true_false (sym k.goes ∙ stops) in absurd bad
-
-pub runner_kept : (t : Transducer) (s : Sheet) (state : ℕ) (r r' : Registers) → IsRunner t s state r → contents s r' ≡ contents s r → r'.count ≡ length (contents s r') → IsRunner t s state r'
-runner_kept t s state r r' h e n = record {
-  sound = record { table = h.sound.table; place = subst (λ z. IsTablePlace t state z) (sym e) h.sound.place };
-  script = h.script;
-  counted = n;
-}
 
 pub runner_next : (t : Transducer) (s : Sheet) (state class b : ℕ) (e : Entry) (r r' : Registers) → IsRunner t s state r → IsStep s t state class e → contents s r' ≡ next_registers (change_at s e.lists) b (contents s r) → r'.count ≡ length (contents s r') → IsRunner t s e.target r'
 runner_next t s state class b e r r' h k f n = record {

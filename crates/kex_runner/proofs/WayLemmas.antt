@@ -110,10 +110,6 @@ module _ (s : Sheet) (ways ways' : List (List Part)) (notes : List ByteUpdate) (
       some_same : {y z : List Part} → Some y ≡ Some z → y ≡ z
       some_same e = cc
 
--- ways may grow where nothing is gone
-pub walked_kept : (s : Sheet) (ways ways' : List (List Part)) (notes : List ByteUpdate) (from : List Part) (p : WalkPoint) (old new : List ByteWord) → KeepsItems ways ways' → HasWalked s ways notes from p old new → HasWalked s ways' notes from p old new
-walked_kept s ways ways' notes from p old new k h = record { after = h.after; to = h.to; way = way_kept ways ways' p.way h.to k h.way; text = h.text }
-
 -- nothing is gone
 pub walked_none : (s : Sheet) (ways : List (List Part)) (notes : List ByteUpdate) (from : List Part) (p : WalkPoint) (back : List ByteWord) → p.after ≡ length notes → IsNumberedWay ways p.way from → HasWalked s ways notes from p back back
 walked_none s ways notes from p back e h = record { after = omega (arith, e); to = from; way = h; text = λ base. ap (λ z. parts_code (registers_after base z) 0 from ++ code_over s.words back) (take_all p.after notes (omega (arith, e))) }

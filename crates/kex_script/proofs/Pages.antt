@@ -42,9 +42,6 @@ pub last_there : {A : Type 0} (xs : List A) (a : A) → slice_get (xs ++ a ∷ [
 last_there [] a = refl
 last_there (x ∷ xs) a = last_there xs a
 
-pub grows_same : (p : Pages) → PagesGrow p p
-grows_same p = record { lists = keeps_same p.lists; rows = keeps_same p.rows }
-
 pub grows_on : {p q r : Pages} → PagesGrow p q → PagesGrow q r → PagesGrow p r
 grows_on g h = record { lists = λ k x e. h.lists k x (g.lists k x e); rows = λ k x e. h.rows k x (g.rows k x e) }
 
@@ -79,9 +76,6 @@ tails_more words words' lists tails x whole kw h t = record {
       one_more k y some (omega (arith, within, length_push tails x)) at;
 }
   where
-    none_some : {y : Tail} → None ≡ Some y → ⊥
-    none_some e = cc
-
     same : {y z : Tail} → Some y ≡ Some z → y ≡ z
     same e = cc
 

@@ -152,9 +152,6 @@ module _ (g : Graph) (r r1 : CodeReading) (a a1 : Position) (size : ℕ) (w said
       pub on : PlaysOn B W Writes u code at
       pub opens : at ≡ None → (code ≡ o.code ++ symbols) × (r1.bad ≡ false) × HasPerformed a1 (o.code ++ symbols) (o.code ++ symbols) text × B (o.code ++ symbols)
 
-    abbrev small : Type 0
-    small = size + length (text_of symbols) ≤ 2 ^ 64 - 1
-
     took : (refused bad at : Option ℕ) → size + length (text_of symbols) ≤ 2 ^ 64 - 1 → RefusesSymbol refused a a1 symbols old new → ((i : ℕ) → bad ≡ Some i → (r1.bad ≡ true) × (r1.good ≡ i)) → (bad ≡ None → r1.bad ≡ false) → BadAt refused bad size symbols at → Took refused bad at
     took (Some i) bad at fits s is_bad is_good place =
         let c = o.code ++ take i symbols in

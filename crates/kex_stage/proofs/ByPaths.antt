@@ -1,5 +1,5 @@
 -- An oracle that goes by paths.
-use Rattle.std.proofs.Common.{◌≡◌, ℕ, ◌<◌, ◌≤◌, ◌+◌, ◌⊎◌, List, [], ◌∷◌, ◌++◌, length, take, refl, sym, ap, subst, ◌∙◌, append_assoc, append-nil, arith, inl, inr, ⊎_elim, take-suc, add-one, length-append, length-take}
+use Rattle.std.proofs.Common.{◌≡◌, ℕ, ◌<◌, ◌≤◌, ◌+◌, ◌⊎◌, List, [], ◌∷◌, ◌++◌, length, take, refl, sym, ap, subst, ◌∙◌, append_assoc, arith, inl, inr, ⊎_elim, take-suc, add-one, length-append, length-take}
 use Rattle.std.specs.Prelude.{slice_index_or}
 use Rattle.kex_code.specs.declared.symbol.Symbol.{Symbol}
 use Rattle.kex_code.specs.Codes.{Begins, IsAmong}
@@ -52,12 +52,6 @@ next_byte w piece i h = append_assoc w (take i piece) _ ∙ ap (λ z. w ++ z) (s
 pub record Went (f old : Front) (g : Graph) (piece : List ℕ) (i : ℕ) : Type 0 where
   pub fed : (w : List ℕ) (c : List Symbol) → IsFed old w c → IsViableFor g w → IsFed f (w ++ take i piece) c
   pub good : (w : List ℕ) (c : List Symbol) → IsFed old w c → IsViableFor g w → IsViableFor g (w ++ take i piece)
-
-pub went_none : (f : Front) (piece : List ℕ) → Went f f f.machine piece 0
-went_none f piece = record {
-  fed = λ w c h v. subst (λ z. IsFed f z c) (sym (append-nil w)) h;
-  good = λ w c h v. subst (λ z. IsViableFor f.machine z) (sym (append-nil w)) v;
-}
 
 module _ (f old : Front) (g : Graph) (same : f.machine ≡ g) (piece : List ℕ) where
   pub reads_all : Went f old g piece (length piece) → (w : List ℕ) (c : List Symbol) → IsFed old w c → IsViableFor g w → ReadsOn f g w piece (length piece) c

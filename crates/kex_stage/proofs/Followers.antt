@@ -42,14 +42,6 @@ goes_more o m n a b c p q x y z first then = record {
       };
 }
 
--- all of a piece was good
-pub goes_all : (o n : Oracle) (a b : Position) (p : List ℕ) (count : ℕ) (x y : List ℕ) → count ≡ length p → StageWorks o n a b p count x y → StageGoes o n a b p x y
-goes_all o n a b p count x y all h = record {
-  goes = λ g w text f v.
-      let k = h.works g w text f v in
-      record { more = k.more; written = k.written; followed = k.followed all; good = subst (λ z. IsViableFor g (w ++ z)) (ap (λ z. take z p) all ∙ take_all p) k.good };
-}
-
 take_past : (p q : List ℕ) (k : ℕ) → take (length p + k) (p ++ q) ≡ p ++ take k q
 take_past [] q k = let e : 0 + k ≡ k = omega arith in ap (λ z. take z q) e
 take_past (b ∷ p) q k = let e : suc (length p) + k ≡ suc (length p + k) = omega arith in ap (λ z. take z (b ∷ (p ++ q))) e ∙ ap (λ z. b ∷ z) (take_past p q k)

@@ -4,7 +4,7 @@ use Rattle.std.specs.Prelude.{Option, Some, None}
 use Rattle.std.specs.Io.KnownBytes.{Appends}
 use Rattle.std.proofs.lemmas.List.{length-drop, take_all, take-append-drop}
 use Rattle.kex_ports.specs.Bytes.{AppendsFront, IsPrefix}
-use Rattle.kex_ports.proofs.Known.{append-nil, appends-nothing, appends-then, front-then, front-more}
+use Rattle.kex_ports.proofs.Known.{appends-then, front-then, front-more}
 use Rattle.kex_pipe.specs.declared.turn.Fate.{Fate}
 use Rattle.kex_pipe.specs.declared.turn.Turn.{Ghosts}
 use Rattle.kex_top.specs.Answer.{Said}
@@ -33,9 +33,6 @@ pub record Passing (stands : History → Type 0) (h : History) (w rest : List �
   pub added : List ℕ
   pub whole : history_text now ≡ history_text h ++ added
   pub appended : Appends old mid added
-
-pub none-passed : (stands : History → Type 0) (h : History) (block : List ℕ) (held : Option (List ℕ)) → stands h → is_history_ended h ≡ false → Passing stands h (bytes_passed h ++ block) block held held
-none-passed stands h block held s is_open = record { now = h; stands_for = s; is_open = is_open; cut = refl; added = []; whole = append-nil (history_text h); appended = appends-nothing held }
 
 module _ (says : List ℕ → Bool → Said → Type 0) (stands : History → Type 0) (h : History) (w rest : List ℕ) (old mid : Option (List ℕ)) (p : Passing stands h w rest old mid) where
   -- where memory is wanted then

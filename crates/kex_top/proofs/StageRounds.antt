@@ -67,9 +67,6 @@ module _ {T : Type 0} (t : Ghosts T) where
     pub stands : Stands t ps pipe events taken
     pub front : SettledTo t.gives i stands.came ps stands.seats
 
-  pub no-round : (ps : List t.Plan) (h : List Event) (taken : List ℕ) (pipe : Pipe T t) → Stands t ps pipe h taken → Rounding 0 ps h taken pipe
-  no-round ps h taken pipe s = record { events = h; same_bytes = refl; same_end = refl; stands = s; front = tt }
-
   pub one-round : (i : ℕ) (ss : List (Seated T t)) (order : List ℕ) (ps : List t.Plan) (h : List Event) (taken : List ℕ) (old pipe : Pipe T t) → ((k : List Event) (s : Stands t ps old k taken) → SettledTo t.gives i s.came ps s.seats → (now : Stands t ps pipe (k ++ map (turn_of t ss) order) taken) × SettledTo t.gives (suc i) now.came ps now.seats) → Rounding i ps h taken old → Rounding (suc i) ps h taken pipe
   one-round i ss order ps h taken old pipe next r =
       let n = next r.events r.stands r.front in

@@ -18,9 +18,6 @@ use Rattle.kex_top.specs.declared.status.Status.TheVariants.{Done, Rejected, Too
 use Rattle.kex_top.specs.declared.pass.Trouble.{Trouble}
 use Rattle.kex_top.specs.declared.pass.Trouble.TheVariants as trouble
 
-abbrev pub Saying : Type 0 → Type 1
-Saying Plan = Plan → List ℕ → Bool → Said → Type 0
-
 appends-kept-after : (a b c : Option (List ℕ)) (x : List ℕ) → Appends a b x → Keeps b c → Appends a c x
 appends-kept-after a b c x p k =
     appends-same a c (x ++ []) x (sym (append-nil x)) (appends-then a b c x [] p (appends-kept b c k))

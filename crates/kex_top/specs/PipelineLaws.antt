@@ -1,5 +1,5 @@
 -- What holds of the answers of pipelines.
-use Rattle.std.proofs.Common.{◌≡◌, ℕ, ◌<◌, Bool, false, List, [], ◌∷◌, ◌++◌, ◌&&◌, Option, Some, None, length, map, refl, sym, ap, ap₂, ◌∙◌, arith}
+use Rattle.std.proofs.Common.{◌≡◌, ℕ, ◌<◌, Bool, false, List, [], ◌∷◌, ◌++◌, ◌&&◌, Option, Some, None, length, map, refl, sym, ap, ◌∙◌, arith}
 use Rattle.std.specs.Prelude.{IsSome, is_none}
 use Rattle.std.proofs.lemmas.Bool.{false≢true}
 use Rattle.kex_code.specs.Codes.{Begins}
@@ -10,7 +10,7 @@ use Rattle.kex_pipe.specs.Reports.{report_as}
 use Rattle.kex_pipe.specs.declared.report.Rejected.{Rejected}
 use Rattle.kex_pipe.specs.declared.turn.Why.{Why}
 use Rattle.kex_pipe.specs.declared.turn.Why.TheVariants.{Byte, End, Limit}
-use Rattle.kex_model.proofs.Pipelines.{one_answer, pipelines_stand}
+use Rattle.kex_model.proofs.Pipelines.{pipelines_stand}
 use Rattle.kex_top.specs.Answer.{Said}
 use Rattle.kex_top.specs.Pipelines.{StagesSay, first_limit}
 
@@ -49,10 +49,6 @@ some-reported : (r : Option Rejected) → (report_as r ≡ None → ⊥) → IsS
 some-reported None some = absurd (some refl)
 some-reported (Some r) some = refl
 
-reported-some : (r : Option Rejected) → IsSome r → report_as r ≡ None → ⊥
-reported-some None i e = false≢true i
-reported-some (Some r) i e = cc
-
 pub later-some : (i : ℕ) (own : Option Stop) (rest : Option Report) → IsSome own → later_report i own rest ≡ None → ⊥
 later-some i own (Some r) some e = cc
 later-some i None None some e = false≢true some
@@ -66,19 +62,8 @@ module _ {T : Type 0} (Gives : T → List ℕ → Bool → Answer → Type 0) wh
       some-reported a.report (λ none. later-some 1 x.stop rest (past s w x gives lt) (sym is ∙ none))
 
   module _ (one : (p : T) (w : List ℕ) (e : Bool) (a b : Answer) → Gives p w e a → Gives p w e b → a ≡ b) where
-    pub says_one : (ps : List T) (w : List ℕ) (e : Bool) (a b : Said) → StagesSay Gives ps w e a → StagesSay Gives ps w e b → a ≡ b
-    says_one ps w e a b h k =
-        let x = one_answer Gives one ps 1 w a.text b.text e (report_as a.report) (report_as b.report) h.1 k.1 in
-        ap₂ (λ s r. record { text = s; report = r }) (sym x.0) (report-same a.report b.report (sym x.1))
-
     module _ (grows : (p : T) (w v : List ℕ) (e : Bool) (a b : Answer) → Gives p w false a → Gives p (w ++ v) e b → Begins b.text a.text) (stays : (p : T) (w v : List ℕ) (e : Bool) (a b : Answer) → Gives p w false a → Gives p (w ++ v) e b → (a.stop ≡ None → ⊥) → b ≡ a) (ends : (p : T) (w : List ℕ) (e : Bool) (a : Answer) → Gives p w e a → a.ended ≡ (e && is_none a.stop)) where
       pub says_grows : (ps : List T) (w v : List ℕ) (e : Bool) (a b : Said) → StagesSay Gives ps w false a → StagesSay Gives ps (w ++ v) e b → IsPrefix a.text b.text
       says_grows ps w v e a b h k =
           let x = pipelines_stand Gives one grows stays (λ p u c g. ends p u false c g) ps 1 w v a.text b.text e (report_as a.report) (report_as b.report) h.1 k.1 in
           record { rest = x.0.0; joined = x.0.1 }
-
-      pub says_stays : (ps : List T) (w v : List ℕ) (e : Bool) (a b : Said) → StagesSay Gives ps w false a → StagesSay Gives ps (w ++ v) e b → IsSome a.report → b ≡ a
-      says_stays ps w v e a b h k some =
-          let x = pipelines_stand Gives one grows stays (λ p u c g. ends p u false c g) ps 1 w v a.text b.text e (report_as a.report) (report_as b.report) h.1 k.1 in
-          let y = x.1 (reported-some a.report some) in
-          ap₂ (λ s r. record { text = s; report = r }) y.0 (report-same b.report a.report y.1)

@@ -1,8 +1,7 @@
 -- From where the end is reached: marks that spread against the ways.
-use Rattle.std.proofs.Common.{◌≡◌, ◌≢◌, ℕ, zero, suc, ◌<◌, ◌≤◌, ◌+◌, Bool, true, false, if◌then◌else◌, List, [], ◌∷◌, ◌++◌, ◌⊎◌, inl, inr, ⊎_elim, Some, IsTrue, length, get_or, set, replicate, refl, sym, ap, subst, ◌∙◌, length-append, length-set, get_or-set_same, get_or-set_other, arith}
+use Rattle.std.proofs.Common.{◌≡◌, ◌≢◌, ℕ, zero, suc, ◌<◌, ◌≤◌, ◌+◌, Bool, true, false, if◌then◌else◌, List, [], ◌∷◌, ◌++◌, ◌⊎◌, inl, inr, ⊎_elim, Some, IsTrue, length, get_or, set, refl, sym, ap, subst, ◌∙◌, length-append, length-set, get_or-set_same, get_or-set_other, arith}
 use Rattle.std.specs.Prelude.{All}
 use Rattle.std.specs.List.{list_any}
-use Rattle.std.proofs.lemmas.List.{length-replicate}
 use Rattle.std.proofs.lemmas.List.Elements.{All-get_or}
 use Rattle.std.proofs.lemmas.Option.{slice_get-get_or, slice_get_cases}
 use Rattle.kex_code.specs.Codes.{IsAmong}
@@ -89,9 +88,6 @@ adds_one old t s lt = record {
     at : (u : ℕ) → t ≡ u → get_or (set old t longer) u [] ≡ longer
     at u e = ap (λ z. get_or (set old t longer) z []) (sym e) ∙ get_or-set_same old t longer [] lt
 
-pub adds_none : (s : ℕ) (old : List (List ℕ)) → AddsToLists [] s old old
-adds_none s old = record { long = refl; kept = λ t x i. i; added = λ t i. absurd i; only = λ t x i. inl i }
-
 pub adds_both : (ts us : List ℕ) (s : ℕ) (old mid new : List (List ℕ)) → AddsToLists ts s old mid → AddsToLists us s mid new → AddsToLists (ts ++ us) s old new
 adds_both ts us s old mid new a b = record {
   long = b.long ∙ a.long;
@@ -106,44 +102,9 @@ pub record Reversed (nodes : List MNode) (n : ℕ) (into : List (List ℕ)) : Ty
   pub real : (t s : ℕ) → IsAmong (get_or into t []) s → IsAmong (successors (node_moves nodes s)) t
   pub all : (t s : ℕ) → s < n → IsAmong (successors (node_moves nodes s)) t → IsAmong (get_or into t []) s
 
-abbrev nobody : List ℕ
-nobody = []
-
-empty_lists : (k t : ℕ) → get_or (replicate k nobody) t nobody ≡ nobody
-empty_lists zero t = refl
-empty_lists (suc k) zero = refl
-empty_lists (suc k) (suc t) = empty_lists k t
-
-pub reversed_none : (nodes : List MNode) (into : List (List ℕ)) → into ≡ replicate (length nodes) [] → Reversed nodes 0 into
-reversed_none nodes into e = record {
-  long = ap length e ∙ length-replicate (length nodes) [];
-  real = λ t s i. absurd (subst (λ z. IsAmong z s) (ap (λ z. get_or z t []) e ∙ empty_lists (length nodes) t) i);
-  all = λ t s lt i. absurd (omega arith);
-}
-
-pub reversed_more : (nodes : List MNode) (n : ℕ) (old new : List (List ℕ)) → Reversed nodes n old → AddsToLists (successors (node_moves nodes n)) n old new → Reversed nodes (n + 1) new
-reversed_more nodes n old new r a = record {
-  long = a.long ∙ r.long;
-  real = λ t s i. ⊎_elim (λ j. r.real t s j) (λ j. subst (λ z. IsAmong (successors (node_moves nodes z)) t) j.1 j.0) (a.only t s i);
-  all = λ t s lt i. ⊎_elim (λ e. subst (λ z. IsAmong (get_or new t []) z) e (a.added t (subst (λ z. IsAmong (successors (node_moves nodes z)) t) (sym e) i))) (λ l. a.kept t s (r.all t s l i)) (last_or_less n s lt);
-}
-  where
-    last_or_less : (n s : ℕ) → s < n + 1 → (n ≡ s) ⊎ (s < n)
-    last_or_less n s lt = grind arith
-
 -- past the last node there is no way
 no_successor : (nodes : List MNode) (s t : ℕ) → length nodes ≤ s → IsAmong (successors (node_moves nodes s)) t → ⊥
 no_successor nodes s t le i = ⊎_elim (λ h. let lt : s < length nodes = h.1 in absurd (omega arith)) (λ h. subst (λ z. IsAmong (successors (move_of z)) t) h.1 i) (slice_get_cases nodes s).1
-
-pub reversed_all : (nodes : List MNode) (into : List (List ℕ)) → Reversed nodes (length nodes) into → IsReverse nodes into
-reversed_all nodes into r = record {
-  long = r.long;
-  real = r.real;
-  all = λ t s lt i. ⊎_elim (λ l. r.all t s l i) (λ l. absurd (no_successor nodes s t l i)) (less_or_not s (length nodes));
-}
-  where
-    less_or_not : (a b : ℕ) → (a < b) ⊎ (b ≤ a)
-    less_or_not a b = grind arith
 
 unmarked-set : (xs : List Bool) (n : ℕ) → n < length xs → get_or xs n false ≡ false → unmarked_count xs ≡ suc (unmarked_count (set xs n true))
 unmarked-set [] n lt e = absurd (omega arith)
@@ -156,22 +117,6 @@ pub flag_read : (xs : List Bool) (n : ℕ) (d e : Bool) → n < length xs → ge
 flag_read [] n d e lt = absurd (omega arith)
 flag_read (x ∷ xs) zero d e lt = refl
 flag_read (x ∷ xs) (suc n) d e lt = flag_read xs n d e (omega arith)
-
-pub marks_none : (old : List Bool) (stack : List ℕ) → Marks [] old stack old stack
-marks_none old stack = record { long = refl; kept = λ n e. e; marked = λ n i. absurd i; only = λ n e. inl e; stacked = λ n e. inl e; still = λ n i. i; from = λ n i. inl i; sum = refl }
-
--- what is marked already stays as it is
-pub marks_again : (old : List Bool) (stack : List ℕ) (n : ℕ) → get_or old n false ≡ true → Marks (n ∷ []) old stack old stack
-marks_again old stack n e = record {
-  long = refl;
-  kept = λ m h. h;
-  marked = λ m i. ⊎_elim (λ q. subst (λ z. get_or old z false ≡ true) q e) (λ x. absurd x) i;
-  only = λ m h. inl h;
-  stacked = λ m h. inl h;
-  still = λ m i. i;
-  from = λ m i. inl i;
-  sum = refl;
-}
 
 pub marks_one : (old : List Bool) (stack : List ℕ) (n : ℕ) → n < length old → get_or old n false ≡ false → Marks (n ∷ []) old stack (set old n true) (stack ++ n ∷ [])
 marks_one old stack n lt e = record {
@@ -213,45 +158,6 @@ module _ (nodes : List MNode) where
     pub below : (m : ℕ) → IsAmong stack m → m < length nodes
     pub marked : (m : ℕ) → IsAmong stack m → get_or alive m false ≡ true
 
-  none_marked : (k n : ℕ) → get_or (replicate k false) n false ≡ true → ⊥
-  none_marked zero n e = cc
-  none_marked (suc k) zero e = cc
-  none_marked (suc k) (suc n) e = none_marked k n e
-
-  pub ends_none : (alive : List Bool) (stack : List ℕ) → alive ≡ replicate (length nodes) false → stack ≡ [] → Ends 0 alive stack
-  ends_none alive stack e es = record {
-    long = ap length e ∙ length-replicate (length nodes) false;
-    real = λ m h. absurd (none_marked (length nodes) m (sym (ap (λ z. get_or z m false) e) ∙ h));
-    all = λ m lt h. absurd (omega arith);
-    stacked = λ m h. absurd (none_marked (length nodes) m (sym (ap (λ z. get_or z m false) e) ∙ h));
-    below = λ m i. absurd (subst (λ z. IsAmong z m) es i);
-    marked = λ m i. absurd (subst (λ z. IsAmong z m) es i);
-  }
-
-  last_or_less : (n s : ℕ) → s < n + 1 → (n ≡ s) ⊎ (s < n)
-  last_or_less n s lt = grind arith
-
-  -- a node that isn't the end
-  pub ends_skip : (n : ℕ) (alive : List Bool) (stack : List ℕ) → Ends n alive stack → (f n ≡ accept → ⊥) → Ends (n + 1) alive stack
-  ends_skip n alive stack h goes_on = record {
-    long = h.long;
-    real = h.real;
-    all = λ m lt e. ⊎_elim (λ q. absurd (goes_on (ap f q ∙ e))) (λ l. h.all m l e) (last_or_less n m lt);
-    stacked = h.stacked;
-    below = h.below;
-    marked = h.marked;
-  }
-
-  pub ends_more : (n : ℕ) (old new : List Bool) (s s' : List ℕ) → n < length nodes → Ends n old s → f n ≡ accept → Marks (n ∷ []) old s new s' → Ends (n + 1) new s'
-  ends_more n old new s s' fits h e k = record {
-    long = k.long ∙ h.long;
-    real = λ m q. ⊎_elim (λ r. h.real m r) (λ i. ⊎_elim (λ r. sym (ap f r) ∙ e) (λ x. absurd x) i) (k.only m q);
-    all = λ m lt q. ⊎_elim (λ r. k.marked m (inl r)) (λ l. k.kept m (h.all m l q)) (last_or_less n m lt);
-    stacked = λ m q. ⊎_elim (λ r. k.still m (h.stacked m r)) (λ i. i) (k.stacked m q);
-    below = λ m i. ⊎_elim (λ j. h.below m j) (λ j. ⊎_elim (λ r. subst (λ z. z < length nodes) r fits) (λ x. absurd x) j) (k.from m i);
-    marked = λ m i. ⊎_elim (λ j. k.kept m (h.marked m j)) (λ j. k.marked m j) (k.from m i);
-  }
-
   -- the marks while they spread
   pub record Spread (alive : List Bool) (stack : List ℕ) : Type 0 where
     pub long : length alive ≡ length nodes
@@ -260,16 +166,6 @@ module _ (nodes : List MNode) where
     pub closed : (n : ℕ) → get_or alive n false ≡ true → IsAmong stack n ⊎ ((s : ℕ) → IsAmong (successors (f s)) n → get_or alive s false ≡ true)
     pub below : (n : ℕ) → IsAmong stack n → n < length nodes
     pub marked : (n : ℕ) → IsAmong stack n → get_or alive n false ≡ true
-
-  pub spread_start : (alive : List Bool) (stack : List ℕ) → Ends (length nodes) alive stack → Spread alive stack
-  spread_start alive stack h = record {
-    long = h.long;
-    ends = λ n e. ([], n, refl, h.real n e);
-    accepts = h.all;
-    closed = λ n e. inl (h.stacked n e);
-    below = h.below;
-    marked = h.marked;
-  }
 
   leads_on : (s t : ℕ) → IsAmong (successors (f s)) t → LeadsToEnd f t → LeadsToEnd f s
   leads_on s t i (ks, e, w, a) =

@@ -2,12 +2,12 @@
 use Rattle.std.proofs.Common.{◌≡◌, ◌≢◌, ℕ, zero, suc, ◌<◌, ◌≤◌, ◌+◌, Bool, true, false, List, [], ◌∷◌, ◌++◌, ◌⊎◌, inl, inr, ⊎_elim, Some, length, get_or, set, refl, sym, ap, subst, ◌∙◌, length-append, length-set, arith}
 use Rattle.std.specs.Prelude.{slice_get, All}
 use Rattle.std.proofs.lemmas.List.Elements.{All-get_or, All-from_get_or, All-set}
-use Rattle.std.proofs.lemmas.Option.{slice_get_within, slice_get-get_or, slice_get_cases}
-use Rattle.kex_code.specs.Codes.{bytes_of, IsAmong, HasNumber}
-use Rattle.kex_model.specs.Moves.{quiet, go, nothing, Effect, code_of, Move, accept, read, choose, forced, Side, to_left, to_right, Step, took, chose, went, Allows, reads, goes_left, goes_right, goes_forced, goes, target_of, Walk, IsWaiting}
+use Rattle.std.proofs.lemmas.Option.{slice_get_within, slice_get-get_or}
+use Rattle.kex_code.specs.Codes.{HasNumber}
+use Rattle.kex_model.specs.Moves.{go, nothing, Effect, Move, accept, read, choose, forced, Side, to_left, to_right, Step, took, chose, went, Allows, reads, goes_left, goes_right, goes_forced, goes, target_of, Walk, IsWaiting}
 use Rattle.kex_model.specs.Survivors.{LeadsToEnd}
 use Rattle.kex_model.specs.Alike.{SameLabel, Alike}
-use Rattle.kex_model.proofs.Transfer.{walk_ahead, same_symbols}
+use Rattle.kex_model.proofs.Transfer.{walk_ahead}
 use Rattle.kex_model.proofs.Tables.{some_same, get_more, get_last}
 use Rattle.kex_machine.specs.declared.MNode.{MNode}
 use Rattle.kex_machine.specs.declared.MNode.TheVariants.{Accept, Read, Choice, Forced, Do, Skip}
@@ -89,10 +89,6 @@ alike_kept f g R keeps one one_back = record {
   one_back = one_back;
 }
 
--- a trim is alike, as far as the end can be reached
-pub alike_trim : (g h : Graph) → IsTrimOf g h → (k : List ℕ) × Alike (node_moves g.nodes) (node_moves h.nodes) (HasNumber k)
-alike_trim g h t = (t.kept, alike_kept (node_moves g.nodes) (node_moves h.nodes) (HasNumber t.kept) t.keeps t.once (λ s s' n p q. some_same s s' (sym p ∙ q)))
-
 module _ (nodes : List MNode) (alive : List Bool) (kept numbers : List ℕ) (is : AreAliveFlags nodes alive) (num : IsNumbering alive kept numbers) where
   abbrev f : ℕ → Move ℕ
   f n = node_moves nodes n
@@ -162,9 +158,6 @@ pub record Shrinking (nodes rest made : List MNode) (alive : List Bool) (kept nu
   pub same : (s u : ℕ) → HasNumber kept s u → t ≤ u → node_moves rest s ≡ node_moves nodes s
   pub count : length made ≡ t
   pub each : (s u : ℕ) → HasNumber kept s u → u < t → node_moves made u ≡ renumbered_move alive numbers (node_moves nodes s)
-
-pub shrinking_start : (nodes made : List MNode) (alive : List Bool) (kept numbers : List ℕ) → All (LeadsBelow (length nodes)) nodes → made ≡ [] → Shrinking nodes nodes made alive kept numbers 0
-shrinking_start nodes made alive kept numbers below none = rw none (record { long = refl; below = below; same = λ s u h le. refl; count = refl; each = λ s u h lt. absurd (omega arith) })
 
 pub shrinking_end : (nodes rest made : List MNode) (alive : List Bool) (kept numbers : List ℕ) → Shrinking nodes rest made alive kept numbers (length kept) → IsShrunk nodes made alive kept numbers
 shrinking_end nodes rest made alive kept numbers h = record { count = h.count; each = λ s t n. h.each s t n (slice_get_within kept t s n) }

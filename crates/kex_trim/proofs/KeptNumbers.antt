@@ -1,7 +1,5 @@
 -- Numbers for what is kept.
-use Rattle.std.proofs.Common.{◌≡◌, ◌≢◌, ℕ, zero, suc, ◌<◌, ◌≤◌, ◌+◌, Bool, true, false, List, [], ◌∷◌, ◌++◌, ◌⊎◌, inl, inr, ⊎_elim, length, get_or, set, replicate, sym, ap, subst, ◌∙◌, length-append, length-set, get_or-set_same, get_or-set_other, arith}
-use Rattle.std.proofs.lemmas.List.{length-replicate}
-use Rattle.std.proofs.lemmas.Option.{slice_get_within}
+use Rattle.std.proofs.Common.{◌≡◌, ◌≢◌, ℕ, zero, suc, ◌<◌, ◌≤◌, ◌+◌, Bool, true, false, List, [], ◌∷◌, ◌++◌, ◌⊎◌, ⊎_elim, length, get_or, set, sym, ap, subst, ◌∙◌, length-append, length-set, get_or-set_same, get_or-set_other, arith}
 use Rattle.kex_code.specs.Codes.{HasNumber}
 use Rattle.kex_model.proofs.Tables.{get_more, get_last, get_pushed}
 use Rattle.kex_trim.specs.Trim.{IsNumbering, NumbersOne}
@@ -16,18 +14,6 @@ pub record Numbered (i : ℕ) (alive : List Bool) (kept numbers : List ℕ) : Ty
   pub each : (s t : ℕ) → HasNumber kept s t → (get_or alive s false ≡ true) × (s < i)
   pub all : (s : ℕ) → s < i → get_or alive s false ≡ true → HasNumber kept s (get_or numbers s 0)
   pub once : (s t : ℕ) → HasNumber kept s t → get_or numbers s 0 ≡ t
-
-pub numbered_none : (alive : List Bool) (kept numbers : List ℕ) → kept ≡ [] → numbers ≡ replicate (length alive) 0 → Numbered 0 alive kept numbers
-numbered_none alive kept numbers ek en = rw (ek, en) (record {
-  long = length-replicate (length alive) 0;
-  few = omega arith;
-  each = λ s t h. absurd (none s t h);
-  all = λ s lt e. absurd (omega arith);
-  once = λ s t h. absurd (none s t h);
-})
-  where
-    none : (s t : ℕ) → HasNumber [] s t → ⊥
-    none s t h = let lt : t < 0 = slice_get_within [] t s h in omega arith
 
 pub numbered_more : (n : ℕ) (alive : List Bool) (kept numbers kept' numbers' : List ℕ) → n < length alive → Numbered n alive kept numbers → (b : Bool) → get_or alive n false ≡ b → NumbersOne b n kept numbers kept' numbers' → Numbered (n + 1) alive kept' numbers'
 numbered_more n alive kept numbers kept' numbers' lt h true e one = rw (one.0, one.1) (record {
