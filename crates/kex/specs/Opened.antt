@@ -5,4 +5,5 @@ use Rattle.std.specs.Io.KnownBytes.{Consumes, IsAtEnd}
 
 --- the bytes that the reads of some opened file gave, up to its end
 abbrev pub IsWholeText : {File : Type 0} → (File → Option (List ℕ)) → List ℕ → Type 0
-IsWholeText {File} remaining text = (opened : File) × (ended : File) × Consumes (remaining opened) (remaining ended) text × IsAtEnd (remaining ended)
+IsWholeText {File} remaining text = (opened : File) × (ended : File)
+    × Consumes (remaining opened) (remaining ended) text × IsAtEnd (remaining ended)

@@ -15,7 +15,8 @@ use std::time::Clock;
 
 const BLOCK: usize = 4096;
 
-/// Files as a shelf, by their paths. No text is told, and each fault counts as one at a name that has a text.
+/// Files as a shelf, by their paths. No text is told, and each fault counts as one at a name that
+/// has a text.
 #[derive(Drop)]
 pub struct FileShelf<R: Files + Clock + Drop> {
     files: R,
@@ -49,9 +50,11 @@ fn read_within<F: Read, C: Clock>(
     limit: usize,
 ) -> Result<Vec<u8>, ShelfAnswer>
     ensures within { IfOk result (λ text. length text.items ≤ limit) }
-    ensures read { IfOk result (λ text. Consumes (F.remaining file.old) (F.remaining file.new) text.items) }
+    ensures read { IfOk result (λ text.
+        Consumes (F.remaining file.old) (F.remaining file.new) text.items) }
     ensures end { IfOk result (λ text. IsAtEnd (F.remaining file.new)) }
-    ensures too_long { IsErrOf result TooLong → IfSome (F.remaining file.old) (λ bytes. limit < length bytes) }
+    ensures too_long { IsErrOf result TooLong
+        → IfSome (F.remaining file.old) (λ bytes. limit < length bytes) }
 {
     let mut text = Vec::new(alloc);
     let mut block = [0; BLOCK];

@@ -1,7 +1,8 @@
-//! The program: the words of its command line, standard input, standard output, standard error for the notes, and files for
-//! the shelf.
+//! The program: the words of its command line, standard input, standard output, standard error for
+//! the notes, and files for the shelf.
 //!
-//! Stands on `kex_ports`, `kex_top` and `kex_words`. The adapters meet the clauses of the ports; their counts rise at each fault.
+//! Stands on `kex_ports`, `kex_top` and `kex_words`. The adapters meet the clauses of the ports;
+//! their counts rise at each fault.
 #![tactic(auto)]
 
 mod files;
@@ -21,7 +22,8 @@ use std::io::ErrorKind;
 use std::process::ExitCode;
 use std::rt::Env;
 
-// The words, of which the first is the program's own name; or the status and the note of why there are none.
+// The words, of which the first is the program's own name; or the status and the note of why there
+// are none.
 fn words<R: Env + AllocGlobal>(rt: &R) -> Result<Vec<String>, (Status, Note)> {
     let args = match env::args(rt) {
         Ok(args) => args,

@@ -6,7 +6,8 @@ use kex_ports::{Failed, Sink};
 use std::io::Write;
 use std::time::Clock;
 
-/// A writer as a sink, which tells what the writer tells of its bytes: standard output and standard error tell none.
+/// A writer as a sink, which tells what the writer tells of its bytes: standard output and standard
+/// error tell none.
 #[derive(Drop)]
 pub struct Output<W: Write + Drop, C: Clock + Drop> {
     writer: W,

@@ -1,4 +1,5 @@
-// Calls of the system that are made again: where a signal interrupts one, and where one would block on what doesn't wait by itself.
+// Calls of the system that are made again: where a signal interrupts one, and where one would block
+// on what doesn't wait by itself.
 ghost use Rattle.std.specs.Prelude.{◌↔◌, IsTrue, IfErr};
 ghost use Rattle.std.specs.IoError.{error_kind};
 ghost use Rattle.std.specs.Io.{ReadsAtMost, WritesAtMost};
@@ -14,7 +15,8 @@ const MOST_TRIES: u64 = u64::MAX;
 
 const PAUSE_MILLIS: u64 = 1;
 
-// Whether a call that ended so is to be made again. Where it would have blocked, a while passes first.
+// Whether a call that ended so is to be made again. Where it would have blocked, a while passes
+// first.
 fn is_passing<C: Clock>(clock: &C, error: &Error) -> bool
     ensures { IsTrue result ↔ IsPassing (error_kind error.now) }
 {

@@ -1,10 +1,12 @@
 -- What an actor holds between steps, and what steps make of it.
-use Rattle.std.specs.Prelude.{◌≡◌, ℕ, Bool, IsTrue, ◌<◌, ◌≤◌, List, [], ◌∷◌, Some, slice_get, length, take}
+use Rattle.std.specs.Prelude.{◌≡◌, ℕ, Bool, IsTrue, ◌<◌, ◌≤◌, List, [], ◌∷◌, Some, slice_get}
+use Rattle.std.specs.Prelude.{length, take}
 use Rattle.kex_code.specs.declared.symbol.Symbol.{Symbol}
 use Rattle.kex_code.specs.declared.symbol.Symbol.TheVariants.{L, R, Byte}
 use Rattle.kex_code.specs.Codes.{Begins}
 use Rattle.kex_code.specs.Registers.{Registers, with_content}
-use Rattle.kex_model.specs.Moves.{Move, accept, read, choose, forced, go, to_left, to_right, Effect, Step, took, chose, went, Allows, code_of, Walk}
+use Rattle.kex_model.specs.Moves.{Move, accept, read, choose, forced, go, to_left, to_right, Effect}
+use Rattle.kex_model.specs.Moves.{Step, took, chose, went, Allows, code_of, Walk}
 use Rattle.kex_model.specs.Acting.{ActingState, after_append, after_effect, after_steps}
 use Rattle.kex_machine.specs.declared.MNode.{MNode}
 use Rattle.kex_machine.specs.declared.MNode.TheVariants.{Do}
@@ -27,7 +29,8 @@ Rests (forced x n) = Unit {0}
 Rests (go e n) = ⊥
 
 -- steps with the code c lead from s to t, and make of one state the other
-pub record LeadsByCode (nodes : List MNode) (s : ℕ) (before : ActingState) (c : List Symbol) (t : ℕ) (after : ActingState) : Type 0 where
+pub record LeadsByCode (nodes : List MNode) (s : ℕ) (before : ActingState) (c : List Symbol) (t : ℕ)
+    (after : ActingState) : Type 0 where
   pub steps : List (Step ℕ)
   pub walk : Walk (node_moves nodes) s steps t
   pub codes : code_of steps ≡ c
@@ -42,7 +45,8 @@ abbrev pub Does : List MNode → ℕ → List Symbol → ℕ → (ActingState �
 Does nodes s c t f = (before : ActingState) → LeadsByCode nodes s before c t (f before)
 
 -- some steps, whose code c begins with, write so much
-pub record WritesFront (nodes : List MNode) (s : ℕ) (before : ActingState) (c : List Symbol) (out : List ℕ) : Type 0 where
+pub record WritesFront (nodes : List MNode) (s : ℕ) (before : ActingState) (c : List Symbol)
+    (out : List ℕ) : Type 0 where
   pub steps : List (Step ℕ)
   pub to : ℕ
   pub walk : Walk (node_moves nodes) s steps to
@@ -76,13 +80,16 @@ step_by L t = chose to_left t
 step_by R t = chose to_right t
 step_by (Byte b) t = took b t
 
--- from n the symbols were followed as far as there are steps for them, to t, and then all was done that needs none
-pub record FollowedCode (g : Graph) (n : ℕ) (before : ActingState) (symbols : List Symbol) (count t : ℕ) (out : List ℕ) (h : Holding) : Type 0 where
+-- from n the symbols were followed as far as there are steps for them, to t, and then all was done
+-- that needs none
+pub record FollowedCode (g : Graph) (n : ℕ) (before : ActingState) (symbols : List Symbol)
+    (count t : ℕ) (out : List ℕ) (h : Holding) : Type 0 where
   pub leads : LeadsByCode g.nodes n before (take count symbols) t (state_of out h)
   pub rests : Rests (node_moves g.nodes t)
   pub fits : Fits g t h
   pub within : count ≤ length symbols
-  pub none : (y : Symbol) (s : ℕ) → slice_get symbols count ≡ Some y → Allows (node_moves g.nodes t) (step_by y s) → ⊥
+  pub none : (y : Symbol) (s : ℕ) → slice_get symbols count ≡ Some y
+      → Allows (node_moves g.nodes t) (step_by y s) → ⊥
 
 -- steps without a symbol lead from s to t
 pub record ReachesSilently (nodes : List MNode) (s t : ℕ) : Type 0 where
@@ -96,7 +103,8 @@ CanAct registers (Do e n) = HasRegisters registers e
 CanAct registers _ = Unit {0}
 
 -- a step without a symbol leads to t, and makes of one state the other
-pub record PassesMove (m : Move ℕ) (before : ActingState) (t : ℕ) (after : ActingState) : Type 0 where
+pub record PassesMove (m : Move ℕ) (before : ActingState) (t : ℕ)
+    (after : ActingState) : Type 0 where
   pub effect : Effect
   pub allowed : Allows m (went effect t)
   pub did : after_effect effect before ≡ after

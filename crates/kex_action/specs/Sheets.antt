@@ -8,10 +8,12 @@ use Rattle.kex_action.specs.Holdings.{Holding, with_bytes, state_of}
 abbrev pub with_buffer : List ℕ → ActingState → ActingState
 with_buffer b s = record { out = s.out; buffers = b ∷ s.buffers; registers = s.registers }
 
--- bytes with marks among them, the last one first: from each mark on they stand in a buffer that is opened there
+-- bytes with marks among them, the last one first: from each mark on they stand in a buffer that is
+-- opened there
 abbrev pub with_marked_bytes : List ℕ → List ℕ → ActingState → ActingState
 with_marked_bytes bytes [] s = with_bytes bytes s
-with_marked_bytes bytes (m ∷ ms) s = with_buffer (drop m bytes) (with_marked_bytes (take m bytes) ms s)
+with_marked_bytes bytes (m ∷ ms) s =
+    with_buffer (drop m bytes) (with_marked_bytes (take m bytes) ms s)
 
 -- marks among so many bytes, the last one first
 abbrev pub AreMarks : ℕ → List ℕ → Type 0
@@ -25,7 +27,8 @@ pub record IsSheet (s : Sheet) : Type 0 where
 
 -- what was written and is held, once the sheet is handed on
 abbrev pub state_with : Sheet → List ℕ → Holding → ActingState
-state_with s out h = with_marked_bytes (take s.used s.bytes.items) (reverse s.marks.items) (state_of out h)
+state_with s out h =
+    with_marked_bytes (take s.used s.bytes.items) (reverse s.marks.items) (state_of out h)
 
 -- bytes are written behind those that are used
 pub record Writes (old new : Sheet) (bytes : List ℕ) : Type 0 where

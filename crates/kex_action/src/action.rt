@@ -1,6 +1,7 @@
 // What is done along a walk, for every byte at once.
 
-ghost use Rattle.std.specs.Prelude.{◌≡◌, ◌≤◌, false, IfOk, IfSome, IsTrue, OnOk, List, ℕ, length, take};
+ghost use Rattle.std.specs.Prelude.{◌≡◌, ◌≤◌, false, IfOk, IfSome, IsTrue, OnOk, List, ℕ, length};
+ghost use Rattle.std.specs.Prelude.{take};
 ghost use Rattle.kex_model.specs.Acting.{ActingState, after_effect};
 ghost use Rattle.kex_machine.specs.Nodes.{node_moves, effect_of, HasRegisters};
 ghost use Rattle.kex_action.specs.Holdings.{state_of};
@@ -28,7 +29,8 @@ fn act(
     out: &mut Vec<u8>,
 ) -> Result<(), Memory>
     requires { length store.old.registers ≡ machine.now.registers }
-    ensures { OnOk result (state_of out.new.items store.new ≡ after_action machine.now.nodes byte action (state_of out.old.items store.old)) }
+    ensures { OnOk result (state_of out.new.items store.new
+        ≡ after_action machine.now.nodes byte action (state_of out.old.items store.old)) }
 {
     let nodes = machine.machine().nodes();
     match action {
@@ -49,7 +51,8 @@ pub fn act_all(
     out: &mut Vec<u8>,
 ) -> Result<(), Memory>
     requires { length store.old.registers ≡ machine.now.registers }
-    ensures { OnOk result (state_of out.new.items store.new ≡ after_actions machine.now.nodes byte actions.now (state_of out.old.items store.old)) }
+    ensures { OnOk result (state_of out.new.items store.new
+        ≡ after_actions machine.now.nodes byte actions.now (state_of out.old.items store.old)) }
 {
     for action in actions {
         act(machine, *action, byte, store, out)?;
@@ -60,7 +63,8 @@ pub fn act_all(
 // What a node does, if it does anything.
 #[inline(always)]
 fn effect_at(machine: &Trimmed, n: u32) -> Option<&Effect>
-    ensures did { IfSome result (λ e. (s : ActingState) → after_move (node_moves machine.now.nodes n) s ≡ after_effect (effect_of e.now) s) }
+    ensures did { IfSome result (λ e. (s : ActingState)
+        → after_move (node_moves machine.now.nodes n) s ≡ after_effect (effect_of e.now) s) }
     ensures registers { IfSome result (λ e. HasRegisters machine.now.registers e.now) }
 {
     match machine.nodes().get(n as usize) {
@@ -69,7 +73,8 @@ fn effect_at(machine: &Trimmed, n: u32) -> Option<&Effect>
     }
 }
 
-// Does on a sheet what an action says, where this byte is read. False where it can't be done there: nothing is done then.
+// Does on a sheet what an action says, where this byte is read. False where it can't be done there:
+// nothing is done then.
 #[inline(always)]
 fn act_at(
     machine: &Trimmed,
@@ -80,8 +85,10 @@ fn act_at(
 ) -> Result<bool, Memory>
     requires registers { length store.old.registers ≡ machine.now.registers }
     requires sheet { IsSheet sheet.old }
-    ensures did { IfOk result (λ b. IsTrue b → (out : List ℕ) → state_with sheet.new out store.new ≡ after_action machine.now.nodes byte action (state_with sheet.old out store.old)) }
-    ensures stays { IfOk result (λ b. b ≡ false → (out : List ℕ) → state_with sheet.new out store.new ≡ state_with sheet.old out store.old) }
+    ensures did { IfOk result (λ b. IsTrue b → (out : List ℕ) → state_with sheet.new out store.new
+        ≡ after_action machine.now.nodes byte action (state_with sheet.old out store.old)) }
+    ensures stays { IfOk result (λ b. b ≡ false → (out : List ℕ)
+        → state_with sheet.new out store.new ≡ state_with sheet.old out store.old) }
     ensures sheet { OnOk result (IsSheet sheet.new × IsAsLong sheet.old sheet.new) }
 {
     match action {
@@ -93,7 +100,8 @@ fn act_at(
     }
 }
 
-// Does on a sheet what actions say, one after another, where this byte is read. Tells how many were done.
+// Does on a sheet what actions say, one after another, where this byte is read. Tells how many were
+// done.
 #[inline(always)]
 pub fn act_on(
     machine: &Trimmed,
@@ -104,7 +112,9 @@ pub fn act_on(
 ) -> Result<usize, Memory>
     requires registers { length store.old.registers ≡ machine.now.registers }
     requires sheet { IsSheet sheet.old }
-    ensures did { IfOk result (λ n. (out : List ℕ) → state_with sheet.new out store.new ≡ after_actions machine.now.nodes byte (take n actions.now) (state_with sheet.old out store.old)) }
+    ensures did { IfOk result (λ n. (out : List ℕ)
+        → state_with sheet.new out store.new ≡ after_actions machine.now.nodes byte
+        (take n actions.now) (state_with sheet.old out store.old)) }
     ensures count { IfOk result (λ n. n ≤ length actions.now) }
     ensures sheet { OnOk result (IsSheet sheet.new × IsAsLong sheet.old sheet.new) }
 {

@@ -1,6 +1,7 @@
 // The action machine.
 
-ghost use Rattle.std.specs.Prelude.{◌≡◌, ◌<◌, ◌≤◌, ◌↔◌, [], List, ℕ, IfOk, IsOk, OnOk, IfErr, OnErr, IsTrue, if◌then◌else◌, length, take};
+ghost use Rattle.std.specs.Prelude.{◌≡◌, ◌<◌, ◌≤◌, ◌↔◌, [], List, ℕ, IfOk, IsOk, OnOk, IfErr};
+ghost use Rattle.std.specs.Prelude.{OnErr, IsTrue, if◌then◌else◌, length, take};
 ghost use Rattle.kex_code.specs.Registers.{content_of};
 ghost use Rattle.kex_code.specs.declared.symbol.Symbol.{Symbol};
 ghost use Rattle.kex_action.specs.Holdings.{Does, state_of};
@@ -27,11 +28,12 @@ fn performable(symbols: &[Symbol], refused: bool) -> &[Symbol]
     if refused { &symbols[..0] } else { symbols }
 }
 
-/// A stage's action machine (Kleenex, POPL 2016), over the machine that it borrows: it is given a parse's code in
-/// pieces, and writes what the parse means.
+/// A stage's action machine (Kleenex, POPL 2016), over the machine that it borrows: it is given a
+/// parse's code in pieces, and writes what the parse means.
 ///
-/// With c all symbols performed, and at least one call of `take`, the bytes written and the registers are what every
-/// parse leaves whose code begins with c. Once a call has answered `Memory` an actor may only be dropped.
+/// With c all symbols performed, and at least one call of `take`, the bytes written and the
+/// registers are what every parse leaves whose code begins with c. Once a call has answered
+/// `Memory` an actor may only be dropped.
 #[derive(Drop)]
 pub struct Actor<'m> {
     machine: &'m Trimmed,
@@ -47,7 +49,13 @@ impl<'m> Model for Actor<'m> {
 
     ghost Value = { Position };
 
-    ghost view = { λ a. record { machine = a.machine.now; at = a.at; holding = a.store; refused = a.refused; usable = a.usable } };
+    ghost view = { λ a. record {
+      machine = a.machine.now;
+      at = a.at;
+      holding = a.store;
+      refused = a.refused;
+      usable = a.usable;
+    } };
 
     ghost invariant = { λ a. IsActorSound a.machine.now a.at a.store a.usable };
 }
@@ -72,13 +80,17 @@ impl<'m> Actor<'m> {
         })
     }
 
-    /// Performs the symbols, and then all that needs no symbol. What is written is appended to `out`.
+    /// Performs the symbols, and then all that needs no symbol. What is written is appended to
+    /// `out`.
     ///
-    /// After `NotACode(at)` those before number `at` are performed, and every later symbol is refused.
+    /// After `NotACode(at)` those before number `at` are performed, and every later symbol is
+    /// refused.
     pub fn take(&mut self, symbols: &[Symbol], out: &mut Vec<u8>) -> Result<(), ActFault>
         requires { IsTrue self.old.usable }
-        ensures ok { OnOk result (TookAll self.old self.new symbols.now out.old.items out.new.items) }
-        ensures err { IfErr result (λ fault. AfterFault fault self.old self.new symbols.now out.old.items out.new.items) }
+        ensures ok { OnOk result
+            (TookAll self.old self.new symbols.now out.old.items out.new.items) }
+        ensures err { IfErr result (λ fault.
+            AfterFault fault self.old self.new symbols.now out.old.items out.new.items) }
         ensures machine { self.new.machine ≡ self.old.machine }
         ensures usable { IsTrue self.new.usable ↔ (¬ (result ≡ Err ActFault.Memory)) }
     {
@@ -102,8 +114,8 @@ impl<'m> Actor<'m> {
         self.at
     }
 
-    /// Goes to a node, and does what the actions say, where this byte is read. Every code whose steps do just that from
-    /// where it stands is performed then.
+    /// Goes to a node, and does what the actions say, where this byte is read. Every code whose
+    /// steps do just that from where it stands is performed then.
     pub fn act(
         &mut self,
         node: u32,
@@ -113,8 +125,11 @@ impl<'m> Actor<'m> {
     ) -> Result<(), Memory>
         requires usable { IsTrue self.old.usable }
         requires node { node < length self.old.machine.nodes }
-        ensures ok { OnOk result ((c : List Symbol) → Does self.old.machine.nodes self.old.at c node (after_actions self.old.machine.nodes byte actions.now) → WentOn self.old self.new c c out.old.items out.new.items) }
-        ensures did { OnOk result (state_of out.new.items self.new.holding ≡ after_actions self.old.machine.nodes byte actions.now (state_of out.old.items self.old.holding)) }
+        ensures ok { OnOk result ((c : List Symbol) → Does self.old.machine.nodes self.old.at c node
+            (after_actions self.old.machine.nodes byte actions.now)
+            → WentOn self.old self.new c c out.old.items out.new.items) }
+        ensures did { OnOk result (state_of out.new.items self.new.holding ≡ after_actions
+            self.old.machine.nodes byte actions.now (state_of out.old.items self.old.holding)) }
         ensures node { OnOk result (self.new.at ≡ node) }
         ensures machine { self.new.machine ≡ self.old.machine }
         ensures refused { self.new.refused ≡ self.old.refused }
@@ -127,8 +142,8 @@ impl<'m> Actor<'m> {
         Ok(())
     }
 
-    /// Does on a sheet what the actions say, where this byte is read, from the first on. Tells how many were done; how many those are isn't
-    /// promised.
+    /// Does on a sheet what the actions say, where this byte is read, from the first on. Tells how
+    /// many were done; how many those are isn't promised.
     #[inline(always)]
     pub fn act_on(
         &mut self,
@@ -138,10 +153,13 @@ impl<'m> Actor<'m> {
     ) -> Result<usize, Memory>
         requires usable { IsTrue self.old.usable }
         requires sheet { IsSheet sheet.old }
-        ensures did { IfOk result (λ n. (out : List ℕ) → state_with sheet.new out self.new.holding ≡ after_actions self.old.machine.nodes byte (take n actions.now) (state_with sheet.old out self.old.holding)) }
+        ensures did { IfOk result (λ n. (out : List ℕ)
+            → state_with sheet.new out self.new.holding ≡ after_actions self.old.machine.nodes byte
+            (take n actions.now) (state_with sheet.old out self.old.holding)) }
         ensures count { IfOk result (λ n. n ≤ length actions.now) }
         ensures sheet { OnOk result (IsSheet sheet.new × IsAsLong sheet.old sheet.new) }
-        ensures same { (self.new.machine ≡ self.old.machine) × (self.new.at ≡ self.old.at) × (self.new.refused ≡ self.old.refused) }
+        ensures same { (self.new.machine ≡ self.old.machine) × (self.new.at ≡ self.old.at)
+            × (self.new.refused ≡ self.old.refused) }
         ensures usable { IsTrue self.new.usable ↔ IsOk result }
     {
         self.usable = false;
@@ -155,11 +173,13 @@ impl<'m> Actor<'m> {
         requires usable { IsTrue self.old.usable }
         requires sheet { IsSheet sheet.old }
         requires node { node < length self.old.machine.nodes }
-        ensures did { OnOk result (state_of out.new.items self.new.holding ≡ state_with sheet.old out.old.items self.old.holding) }
+        ensures did { OnOk result (state_of out.new.items self.new.holding
+            ≡ state_with sheet.old out.old.items self.old.holding) }
         ensures none { OnOk result (IsBlank sheet.new) }
         ensures room { IsAsLong sheet.old sheet.new }
         ensures at { OnOk result (self.new.at ≡ node) }
-        ensures same { (self.new.machine ≡ self.old.machine) × (self.new.refused ≡ self.old.refused) }
+        ensures same { (self.new.machine ≡ self.old.machine)
+            × (self.new.refused ≡ self.old.refused) }
         ensures usable { IsTrue self.new.usable ↔ IsOk result }
     {
         self.usable = false;
@@ -173,7 +193,8 @@ impl<'m> Actor<'m> {
     /// Whether what was performed is a parse's whole code.
     pub fn at_end(&self) -> bool
         requires { IsTrue self.now.usable }
-        ensures { (given c : List Symbol) (out : List ℕ) → HasPerformed self.now given c out → (IsTrue result ↔ IsWholeCode self.now.machine c) }
+        ensures { (given c : List Symbol) (out : List ℕ) → HasPerformed self.now given c out
+            → (IsTrue result ↔ IsWholeCode self.now.machine c) }
     {
         let end = rest_of(self.machine, self.at);
         is_end(&self.machine.machine().nodes()[end as usize])

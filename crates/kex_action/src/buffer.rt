@@ -7,7 +7,8 @@ use kex_code::memory::Memory;
 use std::alloc::Global;
 use std::marker::Model;
 
-// Bytes of an open buffer or of a register: the first `used`. What stands behind them doesn't count.
+// Bytes of an open buffer or of a register: the first `used`. What stands behind them doesn't
+// count.
 #[derive(Drop)]
 pub struct Buffer {
     bytes: Vec<u8>,

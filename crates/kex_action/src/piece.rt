@@ -5,12 +5,14 @@ ghost use Rattle.std.specs.Prelude.{◌≡◌, ◌+◌, ◌≤◌, ◌++◌, ℕ
 // How many bytes are copied at once. A copy of so many is one load and one store.
 pub const PIECE: usize = 16;
 
-// Copies a piece over what stands behind the first so many bytes. Of what is copied as many bytes count as the caller says.
+// Copies a piece over what stands behind the first so many bytes. Of what is copied as many bytes
+// count as the caller says.
 #[inline(always)]
 pub fn copy_piece(from: &[u8], at: usize, to: &mut [u8], behind: usize)
     requires from { at + 16 ≤ length from.now }
     requires to { behind + 16 ≤ length to.old }
-    ensures copied { (n : ℕ) → n ≤ 16 → take (behind + n) to.new ≡ take behind to.old ++ take n (drop at from.now) }
+    ensures copied { (n : ℕ) → n ≤ 16
+        → take (behind + n) to.new ≡ take behind to.old ++ take n (drop at from.now) }
     ensures len { length to.new ≡ length to.old }
 {
     // By a copy between, so that nothing asks whether the two overlap.

@@ -1,6 +1,7 @@
 // What an actor has written and not handed on yet.
 
-ghost use Rattle.std.specs.Prelude.{◌≡◌, ◌++◌, [], ◌∷◌, IfOk, OnOk, IfSome, IfNone, IsTrue, false, length};
+ghost use Rattle.std.specs.Prelude.{◌≡◌, ◌++◌, [], ◌∷◌, IfOk, OnOk, IfSome, IfNone, IsTrue, false};
+ghost use Rattle.std.specs.Prelude.{length};
 ghost use Rattle.kex_action.specs.Sheets.{IsSheet, IsAsLong, IsBlank, IsSame, Writes, ClosesBuffer};
 
 use crate::buffer::Buffer;
@@ -8,8 +9,8 @@ use crate::piece::{PIECE, copy_piece};
 use kex_code::memory::Memory;
 use std::alloc::Global;
 
-/// Bytes that are written and not handed on yet. From each mark on they stand in a buffer that was opened there, up to
-/// the next mark. What stands from `used` on doesn't count.
+/// Bytes that are written and not handed on yet. From each mark on they stand in a buffer that was
+/// opened there, up to the next mark. What stands from `used` on doesn't count.
 #[derive(Drop)]
 pub struct Sheet {
     pub bytes: Vec<u8>,
@@ -95,7 +96,8 @@ impl Sheet {
         self.write_many(bytes)
     }
 
-    // Writes what a buffer has, if there is room for it. A few bytes are copied as a whole piece where there is one.
+    // Writes what a buffer has, if there is room for it. A few bytes are copied as a whole piece
+    // where there is one.
     #[inline(always)]
     pub(crate) fn write_buffer(&mut self, buffer: &Buffer) -> bool
         requires { IsSheet self.old }
@@ -119,18 +121,22 @@ impl Sheet {
     #[inline(always)]
     pub(crate) fn open(&mut self) -> Result<(), Memory>
         requires { IsSheet self.old }
-        ensures opened { OnOk result (self.new.marks.items ≡ self.old.marks.items ++ self.old.used ∷ []) }
+        ensures opened { OnOk result (self.new.marks.items
+            ≡ self.old.marks.items ++ self.old.used ∷ []) }
         ensures sheet { OnOk result (IsSheet self.new) }
-        ensures same { (self.new.bytes.items ≡ self.old.bytes.items) × (self.new.used ≡ self.old.used) }
+        ensures same { (self.new.bytes.items ≡ self.old.bytes.items)
+            × (self.new.used ≡ self.old.used) }
     {
         push(&mut self.marks, self.used)
     }
 
-    // Where the innermost buffer was opened here, if one was. It is closed then, and what it had doesn't count any more.
+    // Where the innermost buffer was opened here, if one was. It is closed then, and what it had
+    // doesn't count any more.
     #[inline(always)]
     pub(crate) fn close(&mut self) -> Option<usize>
         requires { IsSheet self.old }
-        ensures some { IfSome result (λ end. (end ≡ self.old.used) × ClosesBuffer self.old self.new) }
+        ensures some { IfSome result (λ end. (end ≡ self.old.used)
+            × ClosesBuffer self.old self.new) }
         ensures none { IfNone result (IsSame self.old self.new) }
         ensures sheet { IsSheet self.new }
     {

@@ -1,6 +1,7 @@
 // The open buffers and the registers, and what each effect does to them.
 
-ghost use Rattle.std.specs.Prelude.{◌≡◌, ◌<◌, ◌↔◌, ◌++◌, [], ◌∷◌, List, ℕ, OnOk, OnErr, IfOk, IsTrue, length, replicate, reverse, false};
+ghost use Rattle.std.specs.Prelude.{◌≡◌, ◌<◌, ◌↔◌, ◌++◌, [], ◌∷◌, List, ℕ, OnOk, OnErr, IfOk};
+ghost use Rattle.std.specs.Prelude.{IsTrue, length, replicate, reverse, false};
 ghost use Rattle.kex_code.specs.Registers.{pieces_text, with_content, content_of};
 ghost use Rattle.kex_code.specs.declared.piece.Piece.{Piece};
 ghost use Rattle.kex_model.specs.Programs.{HasPieces};
@@ -34,14 +35,17 @@ impl Model for Store {
 
     ghost Value = { Holding };
 
-    ghost view = { λ s. record { buffers = reverse s.buffers.items; registers = s.registers.items } };
+    ghost view = { λ s.
+        record { buffers = reverse s.buffers.items; registers = s.registers.items } };
 
     ghost invariant = { λ s. s.spare ≡ [] };
 }
 
 // Bytes go to the innermost open buffer, or to the output where none is open.
 fn append_to(buffers: &mut Vec<Buffer>, bytes: &[u8], out: &mut Vec<u8>) -> Result<(), Memory>
-    ensures ok { OnOk result ((regs : List (List ℕ)) → state_of out.new.items (record { buffers = reverse buffers.new.items; registers = regs }) ≡ after_append bytes.now out.old.items (reverse buffers.old.items) regs) }
+    ensures ok { OnOk result ((regs : List (List ℕ))
+        → state_of out.new.items (record { buffers = reverse buffers.new.items; registers = regs })
+        ≡ after_append bytes.now out.old.items (reverse buffers.old.items) regs) }
     ensures err { OnErr result (out.new.items ≡ out.old.items) }
 {
     let count = buffers.len();
@@ -110,7 +114,8 @@ impl Store {
 
     // Writes bytes.
     pub fn write(&mut self, bytes: &[u8], out: &mut Vec<u8>) -> Result<(), Memory>
-        ensures ok { OnOk result (state_of out.new.items self.new ≡ after_append bytes.now out.old.items self.old.buffers self.old.registers) }
+        ensures ok { OnOk result (state_of out.new.items self.new
+            ≡ after_append bytes.now out.old.items self.old.buffers self.old.registers) }
         ensures err { OnErr result (out.new.items ≡ out.old.items) }
     {
         append_to(&mut self.buffers, bytes, out)
@@ -118,7 +123,8 @@ impl Store {
 
     fn write_register(&mut self, r: u32, out: &mut Vec<u8>) -> Result<(), Memory>
         requires { r < length self.old.registers }
-        ensures ok { OnOk result (state_of out.new.items self.new ≡ after_append (content_of self.old.registers r) out.old.items self.old.buffers self.old.registers) }
+        ensures ok { OnOk result (state_of out.new.items self.new ≡ after_append
+            (content_of self.old.registers r) out.old.items self.old.buffers self.old.registers) }
         ensures err { OnErr result (out.new.items ≡ out.old.items) }
     {
         append_to(
@@ -129,7 +135,8 @@ impl Store {
     }
 
     fn open(&mut self) -> Result<(), Memory>
-        ensures { OnOk result (self.new ≡ record { buffers = [] ∷ self.old.buffers; registers = self.old.registers }) }
+        ensures { OnOk result (self.new
+            ≡ record { buffers = [] ∷ self.old.buffers; registers = self.old.registers }) }
     {
         let buffer = mem::replace(&mut self.spare, Buffer::new(self.alloc));
         self.buffers.push(buffer)?;
@@ -167,7 +174,12 @@ impl Store {
     fn add(&mut self, r: u32, pieces: &[Piece]) -> Result<(), Memory>
         requires in_range { r < length self.old.registers }
         requires pieces_in { HasPieces (length self.old.registers) pieces.now }
-        ensures { OnOk result (self.new ≡ record { buffers = self.old.buffers; registers = with_content self.old.registers r (content_of self.old.registers r ++ pieces_text pieces.now self.old.registers) }) }
+        ensures { OnOk result (self.new
+            ≡ record {
+              buffers = self.old.buffers;
+              registers = with_content self.old.registers r
+                  (content_of self.old.registers r ++ pieces_text pieces.now self.old.registers);
+            }) }
     {
         let mut more = mem::replace(&mut self.spare, Buffer::new(self.alloc));
         join(pieces, &self.registers, &mut more)?;
@@ -176,11 +188,16 @@ impl Store {
         Ok(())
     }
 
-    // The register gets the pieces. Where it is the first of them itself, the others are put behind it.
+    // The register gets the pieces. Where it is the first of them itself, the others are put behind
+    // it.
     fn set(&mut self, r: u32, pieces: &[Piece]) -> Result<(), Memory>
         requires in_range { r < length self.old.registers }
         requires pieces_in { HasPieces (length self.old.registers) pieces.now }
-        ensures { OnOk result (self.new ≡ record { buffers = self.old.buffers; registers = with_content self.old.registers r (pieces_text pieces.now self.old.registers) }) }
+        ensures { OnOk result (self.new ≡ record {
+          buffers = self.old.buffers;
+          registers =
+              with_content self.old.registers r (pieces_text pieces.now self.old.registers);
+        }) }
     {
         if begins_with(pieces, r) {
             return self.add(r, &pieces[1..]);
@@ -195,7 +212,8 @@ impl Store {
     // Does an effect.
     pub fn perform(&mut self, effect: &Effect, out: &mut Vec<u8>) -> Result<(), Memory>
         requires { HasRegisters (length self.old.registers) effect.now }
-        ensures ok { OnOk result (state_of out.new.items self.new ≡ after_effect (effect_of effect.now) (state_of out.old.items self.old)) }
+        ensures ok { OnOk result (state_of out.new.items self.new
+            ≡ after_effect (effect_of effect.now) (state_of out.old.items self.old)) }
         ensures err { OnErr result (out.new.items ≡ out.old.items) }
     {
         match effect {
@@ -220,8 +238,11 @@ impl Store {
     fn take_from(&mut self, r: u32, sheet: &mut Sheet) -> Result<bool, Memory>
         requires register { r < length self.old.registers }
         requires sheet { IsSheet sheet.old }
-        ensures did { IfOk result (λ b. IsTrue b → (out : List ℕ) → state_with sheet.new out self.new ≡ after_effect (into r) (state_with sheet.old out self.old)) }
-        ensures stays { IfOk result (λ b. b ≡ false → (out : List ℕ) → state_with sheet.new out self.new ≡ state_with sheet.old out self.old) }
+        ensures did { IfOk result (λ b. IsTrue b → (out : List ℕ)
+            → state_with sheet.new out self.new
+            ≡ after_effect (into r) (state_with sheet.old out self.old)) }
+        ensures stays { IfOk result (λ b. b ≡ false → (out : List ℕ)
+            → state_with sheet.new out self.new ≡ state_with sheet.old out self.old) }
         ensures sheet { OnOk result (IsSheet sheet.new × IsAsLong sheet.old sheet.new) }
     {
         let Some(end) = sheet.close() else {
@@ -236,8 +257,11 @@ impl Store {
     pub fn perform_on(&mut self, effect: &Effect, sheet: &mut Sheet) -> Result<bool, Memory>
         requires registers { HasRegisters (length self.old.registers) effect.now }
         requires sheet { IsSheet sheet.old }
-        ensures did { IfOk result (λ b. IsTrue b → (out : List ℕ) → state_with sheet.new out self.new ≡ after_effect (effect_of effect.now) (state_with sheet.old out self.old)) }
-        ensures stays { IfOk result (λ b. b ≡ false → (out : List ℕ) → state_with sheet.new out self.new ≡ state_with sheet.old out self.old) }
+        ensures did { IfOk result (λ b. IsTrue b → (out : List ℕ)
+            → state_with sheet.new out self.new
+            ≡ after_effect (effect_of effect.now) (state_with sheet.old out self.old)) }
+        ensures stays { IfOk result (λ b. b ≡ false → (out : List ℕ)
+            → state_with sheet.new out self.new ≡ state_with sheet.old out self.old) }
         ensures sheet { OnOk result (IsSheet sheet.new × IsAsLong sheet.old sheet.new) }
     {
         match effect {
@@ -263,7 +287,8 @@ impl Store {
     // Hands on what stands on a sheet: its bytes are written, and what was opened there is opened.
     pub fn hand_on(&mut self, sheet: &Sheet, out: &mut Vec<u8>) -> Result<(), Memory>
         requires { IsSheet sheet.now }
-        ensures { OnOk result (state_of out.new.items self.new ≡ state_with sheet.now out.old.items self.old) }
+        ensures { OnOk result (state_of out.new.items self.new
+            ≡ state_with sheet.now out.old.items self.old) }
     {
         let bytes = sheet.bytes.as_slice();
         let mut from = 0;

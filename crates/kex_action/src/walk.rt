@@ -1,9 +1,12 @@
 // Walking along a machine's nodes.
 
-ghost use Rattle.std.specs.Prelude.{◌≡◌, ◌<◌, [], ◌∷◌, ℕ, IfOk, OnErr, IfSome, IfNone, IsTrue, ◌↔◌, length};
+ghost use Rattle.std.specs.Prelude.{◌≡◌, ◌<◌, [], ◌∷◌, ℕ, IfOk, OnErr, IfSome, IfNone, IsTrue, ◌↔◌};
+ghost use Rattle.std.specs.Prelude.{length};
 ghost use Rattle.kex_model.specs.Moves.{Allows, accept, symbol_of};
 ghost use Rattle.kex_machine.specs.Nodes.{node_moves, move_of, side_of};
-ghost use Rattle.kex_action.specs.Holdings.{state_of, step_by, Rests, Fits, LeadsByCode, WritesFront, FollowedCode, ReachesSilently, CanAct, PassesMove, IsPassed};
+ghost use Rattle.kex_action.specs.Holdings.{state_of, step_by, Rests, Fits, LeadsByCode};
+ghost use Rattle.kex_action.specs.Holdings.{WritesFront, FollowedCode, ReachesSilently, CanAct};
+ghost use Rattle.kex_action.specs.Holdings.{PassesMove, IsPassed};
 
 use crate::store::Store;
 use kex_code::memory::Memory;
@@ -27,7 +30,8 @@ fn is_of(bit: Bit, symbol: Symbol) -> bool
 // Where a node leads with a symbol.
 fn next_of(node: &MNode, symbol: Symbol) -> Option<u32>
     ensures some { IfSome result (λ t. Allows (move_of (Some node.now)) (step_by symbol t)) }
-    ensures none { IfNone result ((t : ℕ) → Allows (move_of (Some node.now)) (step_by symbol t) → ⊥) }
+    ensures none { IfNone result ((t : ℕ) → Allows (move_of (Some node.now)) (step_by symbol t)
+        → ⊥) }
 {
     match (node, symbol) {
         (MNode::Read(set, next), Symbol::Byte(byte)) if set.has(byte) => Some(*next),
@@ -41,9 +45,11 @@ fn next_of(node: &MNode, symbol: Symbol) -> Option<u32>
 // Does what a node does without a symbol, and tells where it leads.
 fn pass(node: &MNode, store: &mut Store, out: &mut Vec<u8>) -> Result<Option<u32>, Memory>
     requires { CanAct (length store.old.registers) node.now }
-    ensures some { IfOk result (λ o. IfSome o (λ t. PassesMove (move_of (Some node.now)) (state_of out.old.items store.old) t (state_of out.new.items store.new))) }
+    ensures some { IfOk result (λ o. IfSome o (λ t. PassesMove (move_of (Some node.now))
+        (state_of out.old.items store.old) t (state_of out.new.items store.new))) }
     ensures none { IfOk result (λ o. IfNone o (Rests (move_of (Some node.now)))) }
-    ensures same { IfOk result (λ o. IfNone o (state_of out.new.items store.new ≡ state_of out.old.items store.old)) }
+    ensures same { IfOk result (λ o.
+        IfNone o (state_of out.new.items store.new ≡ state_of out.old.items store.old)) }
     ensures err { OnErr result (out.new.items ≡ out.old.items) }
 {
     match node {
@@ -71,10 +77,12 @@ fn passed(node: &MNode) -> Option<u32>
 // Goes on until a symbol or the end comes next.
 fn go_on(machine: &Trimmed, from: u32, store: &mut Store, out: &mut Vec<u8>) -> Result<u32, Memory>
     requires { Fits machine.now from store.old }
-    ensures leads { IfOk result (λ t. LeadsByCode machine.now.nodes from (state_of out.old.items store.old) [] t (state_of out.new.items store.new)) }
+    ensures leads { IfOk result (λ t. LeadsByCode machine.now.nodes from
+        (state_of out.old.items store.old) [] t (state_of out.new.items store.new)) }
     ensures rests { IfOk result (λ t. Rests (node_moves machine.now.nodes t)) }
     ensures fits { IfOk result (λ t. Fits machine.now t store.new) }
-    ensures err { OnErr result (WritesFront machine.now.nodes from (state_of out.old.items store.old) [] out.new.items) }
+    ensures err { OnErr result
+        (WritesFront machine.now.nodes from (state_of out.old.items store.old) [] out.new.items) }
 {
     let nodes = machine.machine().nodes();
     let mut at = from;
@@ -97,10 +105,13 @@ fn step(
     out: &mut Vec<u8>,
 ) -> Result<Option<u32>, Memory>
     requires { Fits machine.now from store.old }
-    ensures some { IfOk result (λ o. IfSome o (λ t. LeadsByCode machine.now.nodes from (state_of out.old.items store.old) (symbol ∷ []) t (state_of out.new.items store.new))) }
+    ensures some { IfOk result (λ o. IfSome o (λ t. LeadsByCode machine.now.nodes from
+        (state_of out.old.items store.old) (symbol ∷ []) t (state_of out.new.items store.new))) }
     ensures fits { IfOk result (λ o. IfSome o (λ t. Fits machine.now t store.new)) }
-    ensures none { IfOk result (λ o. IfNone o ((t : ℕ) → Allows (node_moves machine.now.nodes from) (step_by symbol t) → ⊥)) }
-    ensures same { IfOk result (λ o. IfNone o (state_of out.new.items store.new ≡ state_of out.old.items store.old)) }
+    ensures none { IfOk result (λ o.
+        IfNone o ((t : ℕ) → Allows (node_moves machine.now.nodes from) (step_by symbol t) → ⊥)) }
+    ensures same { IfOk result (λ o.
+        IfNone o (state_of out.new.items store.new ≡ state_of out.old.items store.old)) }
     ensures err { OnErr result (out.new.items ≡ out.old.items) }
 {
     let nodes = machine.machine().nodes();
@@ -122,8 +133,10 @@ pub fn follow(
     out: &mut Vec<u8>,
 ) -> Result<Walked, Memory>
     requires { Fits machine.now from store.old }
-    ensures ok { IfOk result (λ w. FollowedCode machine.now from (state_of out.old.items store.old) symbols.now w.count w.at out.new.items store.new) }
-    ensures err { OnErr result (WritesFront machine.now.nodes from (state_of out.old.items store.old) symbols.now out.new.items) }
+    ensures ok { IfOk result (λ w. FollowedCode machine.now from
+        (state_of out.old.items store.old) symbols.now w.count w.at out.new.items store.new) }
+    ensures err { OnErr result (WritesFront machine.now.nodes from
+        (state_of out.old.items store.old) symbols.now out.new.items) }
 {
     let mut at = go_on(machine, from, store, out)?;
     for (count, symbol) in symbols.iter().enumerate() {

@@ -1,13 +1,14 @@
 //! The classes of bytes that sets do not tell apart.
 
 ghost use Rattle.std.specs.Prelude.{◌≡◌, ℕ, ◌<◌, ◌≤◌, Bool, List, [], ◌∷◌, ◌++◌, length, set};
-ghost use Rattle.kex_byteset.specs.Classes.{class_at, class_count, IsNumbered, IsRefinedBy, new_number, number_or, count_with};
+ghost use Rattle.kex_byteset.specs.Classes.{class_at, class_count, IsNumbered, IsRefinedBy};
+ghost use Rattle.kex_byteset.specs.Classes.{new_number, number_or, count_with};
 
 use crate::ByteSet;
 use std::marker::Model;
 
-/// The bytes by classes: two bytes are in one class exactly if each set that the partition was refined by has both or
-/// neither. Classes are numbered from 0, by their least bytes.
+/// The bytes by classes: two bytes are in one class exactly if each set that the partition was
+/// refined by has both or neither. Classes are numbered from 0, by their least bytes.
 #[derive(Drop)]
 pub struct Partition {
     classes: [u8; 256],
@@ -43,7 +44,8 @@ impl Partition {
 
     /// Parts each class that has bytes of the set and others. The classes are numbered anew.
     pub fn refine(&mut self, set: &ByteSet)
-        ensures refined { (sets : List (List Bool)) → IsRefinedBy self.old sets → IsRefinedBy self.new (sets ++ set.now ∷ []) }
+        ensures refined { (sets : List (List Bool)) → IsRefinedBy self.old sets
+            → IsRefinedBy self.new (sets ++ set.now ∷ []) }
         ensures flags { length set.now ≡ 256 }
     {
         let _flags = &set.words;
@@ -72,7 +74,8 @@ impl Partition {
 // The classes when each is parted by the set.
 fn parted(old: &[u8; 256], set: &ByteSet) -> [u8; 256]
     ensures numbered { IsNumbered result }
-    ensures refined { (sets : List (List Bool)) → IsRefinedBy old.now sets → IsRefinedBy result (sets ++ set.now ∷ []) }
+    ensures refined { (sets : List (List Bool)) → IsRefinedBy old.now sets
+        → IsRefinedBy result (sets ++ set.now ∷ []) }
 {
     let mut new = [0; 256];
     let mut within = [None; 256];

@@ -1,10 +1,12 @@
 //! Sets of bytes, and the classes of bytes that sets do not tell apart.
 //!
-//! Stands on nothing. A set is kept as four words, one bit a byte, and seen as 256 flags; each call's contract says which bytes its answer has.
-//! A partition is seen as the 256 classes; `refine` says of which sets.
+//! Stands on nothing. A set is kept as four words, one bit a byte, and seen as 256 flags; each
+//! call's contract says which bytes its answer has. A partition is seen as the 256 classes;
+//! `refine` says of which sets.
 #![tactic(auto)]
 
-ghost use Rattle.std.specs.Prelude.{◌≡◌, ◌≤◌, ◌==◌, ◌&&◌, ◌||◌, Bool, List, get_or, set, replicate, false, true, not, nat_le, count_by};
+ghost use Rattle.std.specs.Prelude.{◌≡◌, ◌≤◌, ◌==◌, ◌&&◌, ◌||◌, Bool, List, get_or, set, replicate};
+ghost use Rattle.std.specs.Prelude.{false, true, not, nat_le, count_by};
 ghost use Rattle.std.specs.List.{list_any};
 ghost use Rattle.kex_byteset.specs.Sets.{HasExactly, has};
 

@@ -22,7 +22,8 @@ pub(crate) const NONE: Failing = Failing {
     note: 0,
 };
 
-/// Words, what lies before the call and what is held behind it, and the number of its status with the note.
+/// Words, what lies before the call and what is held behind it, and the number of its status with
+/// the note.
 #[derive(Clone, Copy)]
 pub(crate) struct Case<'a> {
     pub words: &'a str,
@@ -98,7 +99,8 @@ pub(crate) fn bytes_of(alloc: Global, text: &str) -> Result<Vec<u8>, AllocError>
     Ok(bytes)
 }
 
-/// Whether a row holds: words, a program, an input, what is written, and the answer. The option is one more word.
+/// Whether a row holds: words, a program, an input, what is written, and the answer. The option is
+/// one more word.
 pub(crate) fn row_holds<R: Threads + Sync>(
     rt: &R,
     alloc: Global,

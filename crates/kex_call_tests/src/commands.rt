@@ -4,7 +4,8 @@ use std::test::Fail;
 
 const BLOCKS: [&str; 3] = ["--block=1", "--block=7", "--block=65536"];
 
-// Where two places are left that part by no symbol, nothing is agreed on; and a begun symbol is none yet.
+// Where two places are left that part by no symbol, nothing is agreed on; and a begun symbol is
+// none yet.
 const ON_INPUT: &str = r#"
 code p # main := "1" /ac/ | "2" /ab/ # ab # 1'61'62 # 0
 code p # main := /a*/ # aa # 0'610'611 # 0

@@ -1,5 +1,5 @@
-//! Ports of which a call fails: each read and each write of a run in turn, up to one past the last. A read gives a byte, and a write takes
-//! one.
+//! Ports of which a call fails: each read and each write of a run in turn, up to one past the last.
+//! A read gives a byte, and a write takes one.
 use crate::call::{Case, Failing, NONE, holds, plain};
 use std::alloc::Global;
 use std::test::Fail;
@@ -7,8 +7,9 @@ use std::thread::Threads;
 
 const BLOCKS: [&str; 3] = ["--block=65536", "--block=1", "--block=3"];
 
-// A run, what is held where a read fails and where a write does, by the number of that call, and what it answers without a fault. The
-// last of each is where no call is left to fail. The end of the output is a write.
+// A run, what is held where a read fails and where a write does, by the number of that call, and
+// what it answers without a fault. The last of each is where no call is left to fail. The end of
+// the output is a write.
 const RUNS: &str = r#"
 run # start: a >> b a := (~/x/ "yy")* b := (~/yyy/ "z")* # xx # ,,z,z # ,z,z # 1 rejected: stage 2 at byte 4 (end)
 run # start: a >> b a := (~/x/ "yy")* b := (~/yyy/ "z")* # xxq # ,,z,z # ,z,z # 1 rejected: stage 1 at byte 2
@@ -97,8 +98,8 @@ fn each_call_fails(rt: HostRuntime) -> Result<(), Fail> {
     Ok(())
 }
 
-// A fault of writing is told before one of reading; a sink that takes two bytes a write holds two when its second write fails; and one of
-// the notes changes no status.
+// A fault of writing is told before one of reading; a sink that takes two bytes a write holds two
+// when its second write fails; and one of the notes changes no status.
 #[test]
 fn other_calls_fail(rt: HostRuntime) -> Result<(), Fail> {
     let both = Case {

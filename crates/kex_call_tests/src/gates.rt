@@ -7,7 +7,8 @@ use std::sync::atomic::{AtomicU32, Ordering};
 use std::test::Fail;
 use std::thread::Threads;
 
-// How a call ends, at a gate, whose program reads so many bytes that come at once, and what it writes.
+// How a call ends, at a gate, whose program reads so many bytes that come at once, and what it
+// writes.
 fn call<R: Threads + Sync, G: Gate + Sync>(
     rt: &R,
     alloc: Global,
@@ -69,8 +70,9 @@ impl Gate for EntryGate {
     fn leave(&self, _stage: u32) {}
 }
 
-// Work begins once before the first byte, and once at the end. Between them a round takes all that came; over rings a stage takes in a
-// round no more than 16 times a ring's room, and after 64 rounds the rest is settled.
+// Work begins once before the first byte, and once at the end. Between them a round takes all that
+// came; over rings a stage takes in a round no more than 16 times a ring's room, and after 64
+// rounds the rest is settled.
 #[test]
 fn a_stage_works_as_often_as_its_ring_wants(rt: HostRuntime) -> Result<(), Fail> {
     let rows = [
@@ -92,8 +94,9 @@ fn a_stage_works_as_often_as_its_ring_wants(rt: HostRuntime) -> Result<(), Fail>
     Ok(())
 }
 
-// A trial of one line, which has nine bytes, through two stages. Work begins once before the first byte, once for each block and once at
-// the end, and again where the first stage has written: it writes at the end of the line.
+// A trial of one line, which has nine bytes, through two stages. Work begins once before the first
+// byte, once for each block and once at the end, and again where the first stage has written: it
+// writes at the end of the line.
 #[test]
 fn a_trial_goes_by_blocks(rt: HostRuntime) -> Result<(), Fail> {
     let rows = [

@@ -4,7 +4,8 @@ use crate::long::around;
 use std::alloc::Global;
 use std::test::Fail;
 
-// A piece of more than a mebibyte into a second stage, and a fault of reading behind a block and a part of one.
+// A piece of more than a mebibyte into a second stage, and a fault of reading behind a block and a
+// part of one.
 #[test]
 fn blocks_and_pieces_are_long(rt: HostRuntime) -> Result<(), Fail> {
     let alloc = rt.alloc();
@@ -28,7 +29,8 @@ fn blocks_and_pieces_are_long(rt: HostRuntime) -> Result<(), Fail> {
     Ok(())
 }
 
-// What one stage says is written before the next part of a block is given, where there are 65,536 bytes of it. The second write fails.
+// What one stage says is written before the next part of a block is given, where there are 65,536
+// bytes of it. The second write fails.
 #[test]
 fn parts_are_written(rt: HostRuntime) -> Result<(), Fail> {
     let alloc = rt.alloc();
@@ -91,8 +93,9 @@ fn the_rest_is_settled(rt: HostRuntime) -> Result<(), Fail> {
     Ok(())
 }
 
-// Words, a program, what is given and what is held, each of these by its front, its middle, how often that stands there, and its end. There
-// are more than 65,536 bytes that are undecided, in a register, or in a code, and more edges of states are met.
+// Words, a program, what is given and what is held, each of these by its front, its middle, how
+// often that stands there, and its end. There are more than 65,536 bytes that are undecided, in a
+// register, or in a code, and more edges of states are met.
 const MANY: &str = r#"
 run p # main := "1" /a*b/ | "2" /a*c/ # ,a,70000,c # 2,a,70000,c
 run p # main := r@/a*/ /b/ !r # ,a,70000,b # b,a,70000,

@@ -1,5 +1,5 @@
-//! What runs read and write, with blocks of several lengths, and where rings join the stages; on inputs that have a parse and on some that
-//! have none.
+//! What runs read and write, with blocks of several lengths, and where rings join the stages; on
+//! inputs that have a parse and on some that have none.
 use crate::call::{Case, holds, plain, row_holds};
 use std::test::Fail;
 
@@ -64,8 +64,9 @@ fn stages_read_and_write(rt: HostRuntime) -> Result<(), Fail> {
     Ok(())
 }
 
-// The input of a second stage breaks off, and what is agreed on is written; the last stage that rejects is told; an input that breaks off
-// isn't ended, even where it has a parse; and each stage has the limit.
+// The input of a second stage breaks off, and what is agreed on is written; the last stage that
+// rejects is told; an input that breaks off isn't ended, even where it has a parse; and each stage
+// has the limit.
 const PIPELINES: &str = r#"
 run p # main := /ab*c/ # abx # ab # 1 rejected: stage 1 at byte 2
 run p # start: a >> b a := (~/x/ "yy")* b := (~/yyy/ "z")* # xxx # zz # 0

@@ -8,7 +8,8 @@ use Rattle.kex_code.specs.Codes.{Begins}
 abbrev pub apostrophe : ℕ
 apostrophe = 39
 
--- the text of a code: 0 for the left side, 1 for the right one, and for a byte ' with two lower-case hexadecimal digits
+-- the text of a code: 0 for the left side, 1 for the right one, and for a byte ' with two
+-- lower-case hexadecimal digits
 abbrev pub text_of : List Symbol → List ℕ
 text_of [] = []
 text_of (L ∷ c) = digit_char 0 ∷ text_of c
@@ -32,7 +33,8 @@ BeginsText w = (c : List Symbol) × IsCode c × Begins (text_of c) w
 
 -- a front of a symbol's text that isn't all of it
 abbrev pub IsBegun : List ℕ → Type 0
-IsBegun s = (x : Symbol) × (next : ℕ) × (more : List ℕ) × IsCode (x ∷ []) × (text_of (x ∷ []) ≡ s ++ next ∷ more)
+IsBegun s = (x : Symbol) × (next : ℕ) × (more : List ℕ) × IsCode (x ∷ [])
+    × (text_of (x ∷ []) ≡ s ++ next ∷ more)
 
 -- w is the text of the whole symbols c, and then what is begun of one more
 pub record SpellsCode (w : List ℕ) (c : List Symbol) (begun : List ℕ) : Type 0 where

@@ -1,6 +1,7 @@
 // Codes from their text, as its bytes come.
 
-ghost use Rattle.std.specs.Prelude.{◌≡◌, ◌<◌, ◌≤◌, ◌+◌, ◌^◌, ◌++◌, ◌∷◌, [], ℕ, List, length, IfSome, IfNone, OnOk, IfErr, IsTrue, ◌↔◌, true, false};
+ghost use Rattle.std.specs.Prelude.{◌≡◌, ◌<◌, ◌≤◌, ◌+◌, ◌^◌, ◌++◌, ◌∷◌, [], ℕ, List, length};
+ghost use Rattle.std.specs.Prelude.{IfSome, IfNone, OnOk, IfErr, IsTrue, ◌↔◌, true, false};
 ghost use Rattle.std.specs.Char.{digit_char};
 ghost use Rattle.kex_code.specs.declared.symbol.Symbol.{Symbol};
 ghost use Rattle.kex_code.specs.Texts.{IsText};
@@ -95,9 +96,9 @@ fn step_by(begun: Begun, byte: u8) -> ReaderStep
 
 /// Reads codes from their text, which comes in pieces.
 ///
-/// It stores no history: `ReaderHasRead` relates it to the bytes that it was fed and the symbols that it has given, in the
-/// clauses of `CodeReader::new`, `CodeReader::feed` and `CodeReader::whole`. Once a call has answered `Memory` it may
-/// only be dropped.
+/// It stores no history: `ReaderHasRead` relates it to the bytes that it was fed and the symbols
+/// that it has given, in the clauses of `CodeReader::new`, `CodeReader::feed` and
+/// `CodeReader::whole`. Once a call has answered `Memory` it may only be dropped.
 #[derive(Drop)]
 pub struct CodeReader {
     begun: Begun,
@@ -112,7 +113,8 @@ impl Model for CodeReader {
 
     ghost Value = { CodeReading };
 
-    ghost view = { λ r. record { begun = text_begun r.begun; good = r.good; bad = r.bad; usable = r.usable } };
+    ghost view = { λ r.
+        record { begun = text_begun r.begun; good = r.good; bad = r.bad; usable = r.usable } };
 
     ghost invariant = { λ r. IsPart r.begun };
 }
@@ -142,8 +144,10 @@ impl CodeReader {
         requires usable { IsTrue self.old.usable }
         requires good { self.old.bad ≡ false }
         requires fits { self.old.good + 1 < 2 ^ 64 }
-        ensures ok { OnOk result (ReadOn self.old self.new (byte ∷ []) out.old out.new × (self.new.bad ≡ false) × (self.new.good ≡ self.old.good + 1)) }
-        ensures err { IfErr result (λ e. FaultLeaves e self.old self.new (byte ∷ []) out.old out.new) }
+        ensures ok { OnOk result (ReadOn self.old self.new (byte ∷ []) out.old out.new
+            × (self.new.bad ≡ false) × (self.new.good ≡ self.old.good + 1)) }
+        ensures err { IfErr result (λ e.
+            FaultLeaves e self.old self.new (byte ∷ []) out.old out.new) }
         ensures count { self.new.good ≤ self.old.good + 1 }
         ensures usable { IsTrue self.new.usable ↔ (¬ (result ≡ Err CodeError.Memory)) }
     {
@@ -167,13 +171,15 @@ impl CodeReader {
 
     /// Reads a piece more. The symbols that are whole by it are added to `out`.
     ///
-    /// `Bad` tells the first byte after which no code's text goes on, counted over all pieces; each later call answers
-    /// the same.
+    /// `Bad` tells the first byte after which no code's text goes on, counted over all pieces; each
+    /// later call answers the same.
     pub fn feed(&mut self, piece: &[u8], out: &mut Code) -> Result<(), CodeError>
         requires usable { IsTrue self.old.usable }
         requires fits { self.old.good + length piece.now < 2 ^ 64 }
-        ensures ok { OnOk result (ReadOn self.old self.new piece.now out.old out.new × (self.new.bad ≡ false)) }
-        ensures err { IfErr result (λ e. FaultLeaves e self.old self.new piece.now out.old out.new) }
+        ensures ok { OnOk result (ReadOn self.old self.new piece.now out.old out.new
+            × (self.new.bad ≡ false)) }
+        ensures err { IfErr result (λ e.
+            FaultLeaves e self.old self.new piece.now out.old out.new) }
         ensures count { self.new.good ≤ self.old.good + length piece.now }
         ensures usable { IsTrue self.new.usable ↔ (¬ (result ≡ Err CodeError.Memory)) }
     {
@@ -190,7 +196,8 @@ impl CodeReader {
     pub fn whole(&self) -> bool
         requires { IsTrue self.now.usable }
         ensures state { IsTrue result ↔ ((self.now.bad ≡ false) × (self.now.begun ≡ [])) }
-        ensures text { (w : List ℕ) (c : List Symbol) → ReaderHasRead self.now w c → (IsTrue result ↔ IsText w) }
+        ensures text { (w : List ℕ) (c : List Symbol) → ReaderHasRead self.now w c
+            → (IsTrue result ↔ IsText w) }
     {
         !self.bad && matches!(self.begun, Begun::Nothing)
     }

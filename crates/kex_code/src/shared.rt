@@ -6,8 +6,8 @@ ghost use Rattle.kex_code.specs.Shared.{shared_items};
 use crate::memory::Memory;
 use std::sync::Arc;
 
-/// A list that stays as it is. Where its owners are counted, each copy is one more of them; alone, it has one owner and
-/// `copy` fails.
+/// A list that stays as it is. Where its owners are counted, each copy is one more of them; alone,
+/// it has one owner and `copy` fails.
 #[derive(Drop)]
 pub enum Shared<T> {
     Counted(Arc<Vec<T>>),
@@ -35,7 +35,8 @@ impl<T: Drop> Shared<T> {
         }
     }
 
-    /// One more owner of the same items. Fails where they are alone, or no more owners can be counted.
+    /// One more owner of the same items. Fails where they are alone, or no more owners can be
+    /// counted.
     pub fn copy(&self) -> Result<Shared<T>, Memory>
         ensures { IfOk result (λ s. shared_items s ≡ shared_items self.now) }
     {

@@ -34,12 +34,14 @@ fn write_symbol(symbol: Symbol, out: &mut Vec<u8>) -> Result<(), Memory>
     Ok(())
 }
 
-/// Adds the text of the symbols: `0` for L, `1` for R, and `'` with two lower-case hexadecimal digits for a byte.
+/// Adds the text of the symbols: `0` for L, `1` for R, and `'` with two lower-case hexadecimal
+/// digits for a byte.
 ///
 /// Without memory the text of the first ones is added, of each whole.
 pub fn write_text(symbols: &[Symbol], out: &mut Vec<u8>) -> Result<(), Memory>
     ensures ok { OnOk result (out.new.items ≡ out.old.items ++ text_of symbols.now) }
-    ensures err { OnErr result ((n : ℕ) × (out.new.items ≡ out.old.items ++ text_of (take n symbols.now))) }
+    ensures err { OnErr result ((n : ℕ)
+        × (out.new.items ≡ out.old.items ++ text_of (take n symbols.now))) }
 {
     for symbol in symbols {
         write_symbol(*symbol, out)?;

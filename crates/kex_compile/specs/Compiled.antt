@@ -10,14 +10,23 @@ use Rattle.kex_reader.specs.declared.refusal.ReadRefusal.TheVariants as read
 use Rattle.kex_rules.specs.Rules.{IsRuled, IsRuleCause}
 use Rattle.kex_rules.specs.declared.refusal.RuleRefusal.{RuleRefusal}
 use Rattle.kex_rules.specs.declared.refusal.RuleRefusal.TheVariants as rule
-use Rattle.kex_compile.specs.Stages.{AllRun, KeepsToOneStage, KeepsToStates, Plans, ArePlans, IsUnplanned, roots_of}
+use Rattle.kex_compile.specs.Stages.{AllRun, KeepsToOneStage, KeepsToStates, Plans, ArePlans}
+use Rattle.kex_compile.specs.Stages.{IsUnplanned, roots_of}
 use Rattle.kex_compile.specs.declared.limits.Limits.{Limits}
 use Rattle.kex_compile.specs.declared.refusal.PlanRefusal.{PlanRefusal}
 use Rattle.kex_compile.specs.declared.refusal.PlanRefusal.TheVariants as plan
 use Rattle.kex_compile.specs.declared.refusal.CompileRefusal.{CompileRefusal}
-use Rattle.kex_compile.specs.declared.refusal.CompileRefusal.TheVariants.{TextTooLong, BadToken, Unexpected, BadRegex, BadCount, BadSet, OverLimit, TwiceDefined, Unknown, NoStart, NotTail, TooManyPlaces, NoText, OneStage, TooManyStates, Memory}
+use Rattle.kex_compile.specs.declared.refusal.CompileRefusal.TheVariants.{TextTooLong, BadToken}
+use Rattle.kex_compile.specs.declared.refusal.CompileRefusal.TheVariants.{Unexpected, BadRegex}
+use Rattle.kex_compile.specs.declared.refusal.CompileRefusal.TheVariants.{BadCount, BadSet}
+use Rattle.kex_compile.specs.declared.refusal.CompileRefusal.TheVariants.{OverLimit, TwiceDefined}
+use Rattle.kex_compile.specs.declared.refusal.CompileRefusal.TheVariants.{Unknown, NoStart, NotTail}
+use Rattle.kex_compile.specs.declared.refusal.CompileRefusal.TheVariants.{TooManyPlaces, NoText}
+use Rattle.kex_compile.specs.declared.refusal.CompileRefusal.TheVariants.{OneStage, TooManyStates}
+use Rattle.kex_compile.specs.declared.refusal.CompileRefusal.TheVariants.{Memory}
 
--- the text spells the program, which keeps the rules and what a command asks, and each of whose stages can run
+-- the text spells the program, which keeps the rules and what a command asks, and each of whose
+-- stages can run
 pub record Accepts (limits : Limits) (text : List ℕ) (P : Grammar) : Type 0 where
   pub spells : Spells text P
   pub ruled : IsRuled P
@@ -84,12 +93,16 @@ of_plan plan.Memory = Memory
 
 -- stage by stage the programs mean the same
 abbrev pub MeansAlike : Grammar → Grammar → Type 0
-MeansAlike P Q = (i r q : ℕ) (input said : List ℕ) → HasNumber (roots_of P) r i → HasNumber (roots_of Q) q i → Means P r input said ↔ Means Q q input said
+MeansAlike P Q = (i r q : ℕ) (input said : List ℕ) → HasNumber (roots_of P) r i
+    → HasNumber (roots_of Q) q i → Means P r input said ↔ Means Q q input said
 
 -- their pipelines say and report the same, on an input that is open or ended
 abbrev pub AnswersAlike : Grammar → Grammar → Type 0
-AnswersAlike P Q = (limit : ℕ) (input : List ℕ) (ended : Bool) (said : List ℕ) (report : Option Report) → StagesAnswer P limit (roots_of P) input ended said report ↔ StagesAnswer Q limit (roots_of Q) input ended said report
+AnswersAlike P Q = (limit : ℕ) (input : List ℕ) (ended : Bool) (said : List ℕ)
+    (report : Option Report) → StagesAnswer P limit (roots_of P) input ended said report
+    ↔ StagesAnswer Q limit (roots_of Q) input ended said report
 
 -- on each input, open or ended, the program's pipeline says something
 abbrev pub HasAnswers : Grammar → Type 0
-HasAnswers P = (limit : ℕ) (input : List ℕ) (ended : Bool) → (said : List ℕ) × (report : Option Report) × StagesAnswer P limit (roots_of P) input ended said report
+HasAnswers P = (limit : ℕ) (input : List ℕ) (ended : Bool) → (said : List ℕ)
+    × (report : Option Report) × StagesAnswer P limit (roots_of P) input ended said report

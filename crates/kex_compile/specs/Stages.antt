@@ -1,5 +1,6 @@
 -- The stages of a program: what their plans are, and which is refused first.
-use Rattle.std.specs.Prelude.{◌≡◌, ◌+◌, ◌<◌, ◌≤◌, ◌∷◌, ◌++◌, [], ℕ, suc, Bool, true, false, List, Option, Some, None, length, map}
+use Rattle.std.specs.Prelude.{◌≡◌, ◌+◌, ◌<◌, ◌≤◌, ◌∷◌, ◌++◌, [], ℕ, suc, Bool, true, false, List}
+use Rattle.std.specs.Prelude.{Option, Some, None, length, map}
 use Rattle.kex_code.specs.Codes.{IsAmong}
 use Rattle.kex_model.specs.Programs.{Grammar}
 use Rattle.kex_model.specs.Trees.{root_of}
@@ -18,7 +19,9 @@ use Rattle.kex_lowering.specs.declared.refusal.StageRefusal.TheVariants as why
 use Rattle.kex_compile.specs.declared.firsts.Firsts.{Firsts}
 use Rattle.kex_compile.specs.declared.limits.Limits.{Limits}
 use Rattle.kex_compile.specs.declared.refusal.PlanRefusal.{PlanRefusal}
-use Rattle.kex_compile.specs.declared.refusal.PlanRefusal.TheVariants.{TooManyPlaces, NoText, OneStage, TooManyStates, Memory}
+use Rattle.kex_compile.specs.declared.refusal.PlanRefusal.TheVariants.{TooManyPlaces, NoText}
+use Rattle.kex_compile.specs.declared.refusal.PlanRefusal.TheVariants.{OneStage, TooManyStates}
+use Rattle.kex_compile.specs.declared.refusal.PlanRefusal.TheVariants.{Memory}
 
 abbrev pub most_places : ℕ
 most_places = 65536
@@ -46,9 +49,11 @@ HasTooManyStates limits P root = HasMoreStates (moves P) (start_of P root) limit
 
 -- where tables are asked for, no stage has
 abbrev pub KeepsToStates : Limits → Grammar → Type 0
-KeepsToStates limits P = limits.tables ≡ true → (root : ℕ) → IsAmong (roots_of P) root → HasTooManyStates limits P root → ⊥
+KeepsToStates limits P = limits.tables ≡ true → (root : ℕ) → IsAmong (roots_of P) root
+    → HasTooManyStates limits P root → ⊥
 
--- the stage can run, and the machine answers as it does, has its paths to the places that it keeps, and bears its number
+-- the stage can run, and the machine answers as it does, has its paths to the places that it keeps,
+-- and bears its number
 pub record IsStage (P : Grammar) (root number : ℕ) (m : Graph) : Type 0 where
   pub can_run : CanRun P root
   pub carries : Carries P root m
@@ -64,12 +69,14 @@ AreStages P i rs ms = ⊥
 -- the stages have so many places in all
 abbrev pub HaveInAll : Grammar → List ℕ → ℕ → Type 0
 HaveInAll P [] total = total ≡ 0
-HaveInAll P (r ∷ rs) total = (own rest : ℕ) × HasPlaces P r own × HaveInAll P rs rest × (total ≡ own + rest)
+HaveInAll P (r ∷ rs) total = (own rest : ℕ) × HasPlaces P r own × HaveInAll P rs rest
+    × (total ≡ own + rest)
 
 -- and so many states
 abbrev pub HaveStatesInAll : Grammar → List ℕ → ℕ → Type 0
 HaveStatesInAll P [] total = total ≡ 0
-HaveStatesInAll P (r ∷ rs) total = (own rest : ℕ) × HasStates (moves P) (start_of P r) own × HaveStatesInAll P rs rest × (total ≡ own + rest)
+HaveStatesInAll P (r ∷ rs) total = (own rest : ℕ) × HasStates (moves P) (start_of P r) own
+    × HaveStatesInAll P rs rest × (total ≡ own + rest)
 
 -- machines, and a count of places
 pub record Machines : Type 0 where
@@ -93,7 +100,8 @@ HasTableIf true m None = ⊥
 HasTableIf true m (Some t) = IsTableOf m t × IsDetermined m t
 HasTableIf false m o = o ≡ None
 
--- where tables are asked for, a machine has a table that is its own, numbered as states are met, else none
+-- where tables are asked for, a machine has a table that is its own, numbered as states are met,
+-- else none
 abbrev pub HasTable : Limits → Graph → Option Transducer → Type 0
 HasTable limits m o = HasTableIf limits.tables m o
 
@@ -102,7 +110,8 @@ AreTabled limits [] [] = Unit {0}
 AreTabled limits (m ∷ ms) (o ∷ os) = HasTable limits m o × AreTabled limits ms os
 AreTabled limits ms os = ⊥
 
--- the plans of the program's stages, with their tables, and how many places and states these have in all
+-- the plans of the program's stages, with their tables, and how many places and states these have
+-- in all
 pub record ArePlans (limits : Limits) (P : Grammar) (plans : Plans) : Type 0 where
   pub stages : AreStages P 1 (roots_of P) plans.stages
   pub places : HaveInAll P (roots_of P) plans.places
@@ -126,12 +135,15 @@ NoneIs Q xs = (x : ℕ) → IsAmong xs x → Q x → ⊥
 abbrev pub IsStageRefused : Grammar → StageRefusal → ℕ → Type 0
 IsStageRefused P e root = IsWhy P root most_places e
 
--- no stage is refused by a rule that comes before, and this stage is the first that is by this one, or there is one too many
+-- no stage is refused by a rule that comes before, and this stage is the first that is by this one,
+-- or there is one too many
 abbrev pub IsUnplanned : Limits → Grammar → PlanRefusal → Type 0
 IsUnplanned limits P (TooManyPlaces n) = IsFirst (IsStageRefused P why.TooManyPlaces) (roots_of P) n
-IsUnplanned limits P (NoText n) = NoneIs (IsStageRefused P why.TooManyPlaces) (roots_of P) × IsFirst (IsStageRefused P why.NoText) (roots_of P) n
+IsUnplanned limits P (NoText n) = NoneIs (IsStageRefused P why.TooManyPlaces) (roots_of P)
+    × IsFirst (IsStageRefused P why.NoText) (roots_of P) n
 IsUnplanned limits P OneStage = AllRun P × (limits.one_stage ≡ true) × (1 < length P.stages)
-IsUnplanned limits P (TooManyStates n) = AllRun P × KeepsToOneStage limits P × (limits.tables ≡ true) × IsFirst (HasTooManyStates limits P) (roots_of P) n
+IsUnplanned limits P (TooManyStates n) = AllRun P × KeepsToOneStage limits P
+    × (limits.tables ≡ true) × IsFirst (HasTooManyStates limits P) (roots_of P) n
 IsUnplanned limits P Memory = Unit {0}
 
 -- ---- the first stages so far
@@ -172,19 +184,22 @@ HasMoreNodes limits m = HasMoreStates (node_moves m.nodes) m.start limits.states
 
 -- where tables are asked for, the machine has so many states, and no more than are allowed
 abbrev pub HasStatesIf : Limits → Graph → ℕ → Type 0
-HasStatesIf limits m n = limits.tables ≡ true → HasStates (node_moves m.nodes) m.start n × (HasMoreNodes limits m → ⊥)
+HasStatesIf limits m n = limits.tables ≡ true → HasStates (node_moves m.nodes) m.start n
+    × (HasMoreNodes limits m → ⊥)
 
 -- and so many the machines in all
 abbrev pub NodeStates : Limits → List Graph → ℕ → Type 0
 NodeStates limits [] total = total ≡ 0
-NodeStates limits (m ∷ ms) total = (own rest : ℕ) × HasStates (node_moves m.nodes) m.start own × (HasMoreNodes limits m → ⊥) × NodeStates limits ms rest × (total ≡ own + rest)
+NodeStates limits (m ∷ ms) total = (own rest : ℕ) × HasStates (node_moves m.nodes) m.start own
+    × (HasMoreNodes limits m → ⊥) × NodeStates limits ms rest × (total ≡ own + rest)
 
 abbrev pub HaveNodeStates : Limits → List Graph → ℕ → Type 0
 HaveNodeStates limits ms total = limits.tables ≡ true → NodeStates limits ms total
 
 -- why the machine of a stage has no plan
 abbrev pub IsUntabledAs : Limits → Graph → ℕ → PlanRefusal → Type 0
-IsUntabledAs limits m stage (TooManyStates n) = (limits.tables ≡ true) × (n ≡ stage) × HasMoreNodes limits m
+IsUntabledAs limits m stage (TooManyStates n) = (limits.tables ≡ true) × (n ≡ stage)
+    × HasMoreNodes limits m
 IsUntabledAs limits m stage Memory = Unit {0}
 IsUntabledAs limits m stage _ = ⊥
 

@@ -9,7 +9,8 @@ use kex_stage::plan::Plan;
 use std::alloc::Global;
 use std::marker::Model;
 
-/// The plans of a program's stages, in their order, and how many places and states the stages have in all.
+/// The plans of a program's stages, in their order, and how many places and states the stages have
+/// in all.
 #[derive(Drop)]
 pub struct Compiled {
     stages: Vec<Plan>,
@@ -24,7 +25,12 @@ impl Model for Compiled {
 
     ghost Value = { Plans };
 
-    ghost view = { λ c. record { stages = map machine_of c.stages.items; tables = map table_of c.stages.items; places = c.places; states = c.states } };
+    ghost view = { λ c. record {
+      stages = map machine_of c.stages.items;
+      tables = map table_of c.stages.items;
+      places = c.places;
+      states = c.states;
+    } };
 
     ghost invariant = { λ c. length c.stages.items < 2 ^ 32 };
 }
@@ -44,7 +50,14 @@ impl Compiled {
     pub(crate) fn push(&mut self, plan: Plan, states: u32) -> Result<(), Memory>
         requires states { self.old.states + states < 2 ^ 64 }
         requires stages { length self.old.stages + 1 < 2 ^ 32 }
-        ensures pushed { OnOk result (self.new ≡ record { stages = self.old.stages ++ plan.machine ∷ []; tables = self.old.tables ++ plan.table ∷ []; places = self.old.places; states = self.old.states + states }) }
+        ensures pushed { OnOk result (self.new
+            ≡ record {
+              stages = self.old.stages ++ plan.machine ∷ [];
+              tables = self.old.tables
+                  ++ plan.table ∷ [];
+              places = self.old.places;
+              states = self.old.states + states;
+            }) }
         ensures few { OnOk result (self.new.states < self.old.states + 2 ^ 32) }
     {
         self.stages.push(plan)?;

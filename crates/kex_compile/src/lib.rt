@@ -1,7 +1,8 @@
 //! Program texts into plans.
 //!
-//! Stands on the reader, the rules and the passes. The contract of `compile` is the crate's promise: the plans answer as the program's
-//! stages do, and a text is refused for the first rule that it breaks.
+//! Stands on the reader, the rules and the passes. The contract of `compile` is the crate's
+//! promise: the plans answer as the program's stages do, and a text is refused for the first rule
+//! that it breaks.
 #![tactic(auto)]
 
 ghost use Rattle.std.specs.Prelude.{◌≡◌, ◌<◌, IfOk, IfErr};
@@ -26,7 +27,8 @@ use std::alloc::Global;
 
 /// The plans of a program text.
 ///
-/// Each rule is asked of the whole text before the next. Of the states of a stage one more is counted than are allowed.
+/// Each rule is asked of the whole text before the next. Of the states of a stage one more is
+/// counted than are allowed.
 pub fn compile(alloc: Global, text: &[u8], limits: &Limits) -> Result<Compiled, CompileRefusal>
     requires states { limits.now.states < 4294967295 }
     ensures plans { IfOk result (λ plans. IsCompiled limits.now text.now plans) }

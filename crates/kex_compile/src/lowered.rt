@@ -39,7 +39,11 @@ impl Lowered {
     pub(crate) fn push(&mut self, machine: Trimmed, places: u32) -> Result<(), Memory>
         requires places { self.old.places + places < 2 ^ 64 }
         requires stages { length self.old.machines + 1 < 2 ^ 32 }
-        ensures pushed { OnOk result (self.new ≡ record { machines = self.old.machines ++ machine ∷ []; places = self.old.places + places }) }
+        ensures pushed { OnOk result (self.new ≡ record {
+          machines = self.old.machines ++ machine
+              ∷ [];
+          places = self.old.places + places;
+        }) }
         ensures few { OnOk result (self.new.places < self.old.places + 2 ^ 32) }
     {
         self.machines.push(machine)?;

@@ -46,10 +46,12 @@ pub enum CompileRefusal {
     /// At this offset a token, white space or a comment should begin, and none can be completed.
     #[error("bad token at byte {0}")]
     BadToken(u32),
-    /// The tokens before this one begin a program, and those up to and with it begin none; or the text ends here, and is none.
+    /// The tokens before this one begin a program, and those up to and with it begin none; or the
+    /// text ends here, and is none.
     #[error("unexpected token at byte {0}")]
     Unexpected(u32),
-    /// The regex's bytes before this one begin a regex, and those up to and with it begin none; or it ends here, and is none.
+    /// The regex's bytes before this one begin a regex, and those up to and with it begin none; or
+    /// it ends here, and is none.
     #[error("bad regex at byte {0}")]
     BadRegex(u32),
     /// The count at this offset is above 1,000, or its least count above the greatest.

@@ -2,7 +2,8 @@
 
 ghost use Rattle.std.specs.Prelude.{◌≡◌, ◌<◌, ◌^◌, IfOk, IfErr, OnOk, length};
 ghost use Rattle.kex_model.specs.Trees.{root_of};
-ghost use Rattle.kex_compile.specs.Stages.{AreMachines, ArePlans, IsUnplanned, KeepsToOneStage, KeepsToStates};
+ghost use Rattle.kex_compile.specs.Stages.{AreMachines, ArePlans, IsUnplanned, KeepsToOneStage};
+ghost use Rattle.kex_compile.specs.Stages.{KeepsToStates};
 
 use crate::compiled::Compiled;
 use crate::firsts::Firsts;
@@ -26,8 +27,8 @@ fn root_of(program: &Program, name: u32) -> u32
     }
 }
 
-// The machines of a program's stages, or the refusal by the rule of the lowest number, and of the stages that are refused by it the
-// first.
+// The machines of a program's stages, or the refusal by the rule of the lowest number, and of the
+// stages that are refused by it the first.
 fn lower_stages(alloc: Global, program: &Program) -> Result<Lowered, PlanRefusal>
     requires few { length program.now.stages < 2 ^ 32 }
     ensures machines { IfOk result (λ l. AreMachines program.now l) }
@@ -56,8 +57,8 @@ fn lower_stages(alloc: Global, program: &Program) -> Result<Lowered, PlanRefusal
 
 /// The plans of a program's stages, in their order.
 ///
-/// Each rule is asked of all stages before the next: the answer is the refusal of the lowest number, and of the stages that
-/// are refused by it the first.
+/// Each rule is asked of all stages before the next: the answer is the refusal of the lowest
+/// number, and of the stages that are refused by it the first.
 pub fn plan_stages(
     alloc: Global,
     program: &Program,

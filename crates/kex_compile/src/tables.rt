@@ -1,7 +1,8 @@
 // The plans of machines, with their tables where these are asked for.
 
 ghost use Rattle.std.specs.Prelude.{◌≡◌, ◌<◌, IfOk, IfErr, length};
-ghost use Rattle.kex_compile.specs.Stages.{AreTabled, HasStatesIf, HasTable, HaveNodeStates, IsUntabled, IsUntabledAs};
+ghost use Rattle.kex_compile.specs.Stages.{AreTabled, HasStatesIf, HasTable, HaveNodeStates};
+ghost use Rattle.kex_compile.specs.Stages.{IsUntabled, IsUntabledAs};
 
 use crate::compiled::Compiled;
 use crate::limits::Limits;

@@ -8,7 +8,8 @@ abbrev pub PassesAreAlike : Transducer → Transducer → Option Pass → Option
 PassesAreAlike t u None None = Unit {0}
 PassesAreAlike t u None (Some q) = ⊥
 PassesAreAlike t u (Some p) None = ⊥
-PassesAreAlike t u (Some p) (Some q) = (q.state ≡ p.state) × (q.code ≡ p.code) × (whole_code u q ≡ whole_code t p)
+PassesAreAlike t u (Some p) (Some q) = (q.state ≡ p.state) × (q.code ≡ p.code)
+    × (whole_code u q ≡ whole_code t p)
 
 -- they are so after every text
 abbrev pub PassAlike : Transducer → Transducer → Type 0

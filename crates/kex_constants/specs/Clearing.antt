@@ -34,30 +34,45 @@ cleared_parts cs (x ∷ xs) = parts_for cs x ++ cleared_parts cs xs
 
 -- the update between the registers that are kept
 abbrev pub cleared_change : Constants → Change → Constants → Change
-cleared_change cs u ds = record { out = cleared_parts cs u.out; regs = map (λ x. cleared_parts cs x) (kept_items ds u.regs) }
+cleared_change cs u ds = record {
+  out = cleared_parts cs u.out;
+  regs = map (λ x. cleared_parts cs x) (kept_items ds u.regs);
+}
 
 abbrev pub cleared_transition : List Constants → Constants → Option Transition → Option Transition
 cleared_transition css cs None = None
-cleared_transition css cs (Some r) = Some (record { target = r.target; update = cleared_change cs r.update (get_or css r.target []) })
+cleared_transition css cs (Some r) = Some
+    (record { target = r.target; update = cleared_change cs r.update (get_or css r.target []) })
 
 abbrev pub cleared_way : Constants → Option (List Part) → Option (List Part)
 cleared_way cs None = None
 cleared_way cs (Some way) = Some (cleared_parts cs way)
 
 abbrev pub cleared_state : List Constants → Constants → Row → Row
-cleared_state css cs s = record { registers = kept_number cs s.registers; accepting = cleared_way cs s.accepting; go = map (λ r. cleared_transition css cs r) s.go }
+cleared_state css cs s = record {
+  registers = kept_number cs s.registers;
+  accepting = cleared_way cs s.accepting;
+  go = map (λ r. cleared_transition css cs r) s.go;
+}
 
 -- the states from number i on
 abbrev pub cleared_states : List Constants → ℕ → List Row → List Row
 cleared_states css i [] = []
-cleared_states css i (s ∷ ss) = cleared_state css (get_or css i []) s ∷ cleared_states css (suc i) ss
+cleared_states css i (s ∷ ss) =
+    cleared_state css (get_or css i []) s ∷ cleared_states css (suc i) ss
 
 abbrev pub cleared_table : List Constants → Transducer → Transducer
-cleared_table css t = record { classes = t.classes; initial = cleared_change [] t.initial (get_or css 0 []); states = cleared_states css 0 t.states }
+cleared_table css t =
+    record {
+      classes = t.classes;
+      initial = cleared_change [] t.initial (get_or css 0 []);
+      states = cleared_states css 0 t.states;
+    }
 
 -- where the old registers hold their constants, the new ones are given theirs
 abbrev pub GivesConstants : Constants → Change → Constants → Type 0
-GivesConstants cs u ds = (regs : List (List Symbol)) (b : ℕ) → Hold cs regs → Hold ds (map (λ x. parts_code regs b x) u.regs)
+GivesConstants cs u ds = (regs : List (List Symbol)) (b : ℕ) → Hold cs regs
+    → Hold ds (map (λ x. parts_code regs b x) u.regs)
 
 abbrev pub GivesIf : List Constants → Constants → Option Transition → Type 0
 GivesIf css cs None = Unit {0}

@@ -1,6 +1,7 @@
 // Checking that registers always hold their constants.
 
-ghost use Rattle.std.specs.Prelude.{◌≡◌, ℕ, List, [], ◌++◌, Some, IfOk, IsTrue, IfSome, map, get_or, slice_get};
+ghost use Rattle.std.specs.Prelude.{◌≡◌, ℕ, List, [], ◌++◌, Some, IfOk, IsTrue, IfSome, map};
+ghost use Rattle.std.specs.Prelude.{get_or, slice_get};
 ghost use Rattle.kex_code.specs.declared.symbol.Symbol.{Symbol as ASymbol};
 ghost use Rattle.kex_machine.specs.declared.Bit.{Bit as ABit};
 ghost use Rattle.kex_machine.specs.Nodes.{side_of};
@@ -32,7 +33,8 @@ fn side_at(symbol: Symbol) -> Option<Bit>
 
 // Adds what a part stands for, if that is known.
 fn spell(part: Part, known: &[Option<Choices>], into: &mut Choices) -> Result<bool, Memory>
-    ensures { IfOk result (λ yes. IsTrue yes → (regs : List (List ASymbol)) (b : ℕ) → Hold known.now regs → symbols into.new ≡ symbols into.old ++ value regs b part) }
+    ensures { IfOk result (λ yes. IsTrue yes → (regs : List (List ASymbol)) (b : ℕ)
+        → Hold known.now regs → symbols into.new ≡ symbols into.old ++ value regs b part) }
 {
     match part {
         Part::Put(symbol) => match side_at(symbol) {
@@ -54,7 +56,8 @@ pub fn spelled(
     known: &[Option<Choices>],
     into: &mut Choices,
 ) -> Result<bool, Memory>
-    ensures { IfOk result (λ yes. IsTrue yes → (regs : List (List ASymbol)) (b : ℕ) → Hold known.now regs → parts_code regs b parts.now ≡ symbols into.new) }
+    ensures { IfOk result (λ yes. IsTrue yes → (regs : List (List ASymbol)) (b : ℕ)
+        → Hold known.now regs → parts_code regs b parts.now ≡ symbols into.new) }
 {
     into.clear();
     for part in parts {
@@ -73,7 +76,9 @@ fn is_given(
     constant: &Option<Choices>,
     spare: &mut Choices,
 ) -> Result<bool, Memory>
-    ensures { IfOk result (λ yes. IsTrue yes → (c : List ABit) → constant.now ≡ Some c → (regs : List (List ASymbol)) (b : ℕ) → Hold from.now regs → get_or (map (λ x. parts_code regs b x) lists.now) register [] ≡ symbols c) }
+    ensures { IfOk result (λ yes. IsTrue yes → (c : List ABit) → constant.now ≡ Some c
+        → (regs : List (List ASymbol)) (b : ℕ) → Hold from.now regs
+        → get_or (map (λ x. parts_code regs b x) lists.now) register [] ≡ symbols c) }
 {
     match constant {
         None => Ok(true),
@@ -128,7 +133,8 @@ fn state_gives(
     constants: &Constants,
     spare: &mut Choices,
 ) -> Result<bool, Memory>
-    ensures { IfOk result (λ yes. IsTrue yes → (k : ℕ) → GivesIf constants.now from.now (transition_if (slice_get go.now k))) }
+    ensures { IfOk result (λ yes. IsTrue yes → (k : ℕ)
+        → GivesIf constants.now from.now (transition_if (slice_get go.now k))) }
 {
     for transition in go {
         if !transition_gives(transition, from, constants, spare)? {

@@ -1,5 +1,6 @@
-// Guessing constants: what all ways into a state agree on, found by following those that are known, as constants of programs
-// are (Kildall, A unified approach to global program optimization, POPL 1973). Nothing is promised of a guess: it is checked.
+// Guessing constants: what all ways into a state agree on, found by following those that are known,
+// as constants of programs are (Kildall, A unified approach to global program optimization, POPL
+// 1973). Nothing is promised of a guess: it is checked.
 
 use crate::check::{gives, spelled};
 use crate::choices::Choices;
@@ -11,7 +12,8 @@ use kex_sst::table::{Table, Transition};
 use std::alloc::Global;
 use std::rc::Rc;
 
-// What is thought of the registers of each state that was met, and the states whose transitions are to be followed.
+// What is thought of the registers of each state that was met, and the states whose transitions are
+// to be followed.
 #[derive(Drop)]
 struct Guess {
     alloc: Global,
@@ -39,7 +41,8 @@ impl Guess {
         })
     }
 
-    // Whether an update of registers of which this is known gives a state that was met all that is thought of it.
+    // Whether an update of registers of which this is known gives a state that was met all that is
+    // thought of it.
     fn agrees(
         &mut self,
         state: usize,
@@ -70,7 +73,8 @@ impl Guess {
         Ok(given)
     }
 
-    // One more way into a state: an update of registers of which this is known. It is followed if less is thought of it than before.
+    // One more way into a state: an update of registers of which this is known. It is followed if
+    // less is thought of it than before.
     fn meet(
         &mut self,
         state: usize,
@@ -115,7 +119,8 @@ fn narrow(given: &mut [Option<Choices>], known: &[Option<Choices>]) {
     }
 }
 
-// How often a state may be followed: each when it is met, and again for each constant that it loses.
+// How often a state may be followed: each when it is met, and again for each constant that it
+// loses.
 fn follow_count(table: &Table) -> u64 {
     let mut count: u64 = 0;
     for state in table.states() {

@@ -92,7 +92,8 @@ fn numbers(alloc: Global, constants: &[Option<Choices>]) -> Result<Vec<usize>, M
     Ok(numbers)
 }
 
-/// What is known of each state's registers; of a state without a list nothing is. States may share a list.
+/// What is known of each state's registers; of a state without a list nothing is. States may share
+/// a list.
 #[derive(Drop)]
 pub struct Constants {
     states: Vec<Option<Rc<Known>>>,

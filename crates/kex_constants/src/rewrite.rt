@@ -2,7 +2,9 @@
 
 ghost use Rattle.std.specs.Prelude.{◌≡◌, ◌++◌, IfOk, OnOk, map, get_or, None};
 ghost use Rattle.kex_constants.specs.Known.{item_if_kept};
-ghost use Rattle.kex_constants.specs.Clearing.{puts_bits, parts_for, cleared_parts, cleared_change, cleared_transition, cleared_way, cleared_state, cleared_states, cleared_table};
+ghost use Rattle.kex_constants.specs.Clearing.{puts_bits, parts_for, cleared_parts, cleared_change};
+ghost use Rattle.kex_constants.specs.Clearing.{cleared_transition, cleared_way, cleared_state};
+ghost use Rattle.kex_constants.specs.Clearing.{cleared_states, cleared_table};
 
 use crate::choices::Choices;
 use crate::known::{Constants, Known, constant_of};
@@ -56,7 +58,8 @@ fn put_list(
     to: &Known,
     into: &mut Vec<Parts>,
 ) -> Result<(), Memory>
-    ensures { OnOk result (into.new.items ≡ into.old.items ++ map (λ x. cleared_parts from.now x) (item_if_kept (get_or to.now register None) parts.now)) }
+    ensures { OnOk result (into.new.items ≡ into.old.items ++ map (λ x.
+        cleared_parts from.now x) (item_if_kept (get_or to.now register None) parts.now)) }
 {
     match constant_of(to.constants(), register) {
         Some(_) => Ok(()),
@@ -108,7 +111,8 @@ fn clear_transitions(
     constants: &Constants,
     updates: &mut Updates,
 ) -> Result<Vec<Option<Transition>>, Memory>
-    ensures { IfOk result (λ v. v.items ≡ map (λ r. cleared_transition constants.now from.now r) go.now) }
+    ensures { IfOk result (λ v. v.items
+        ≡ map (λ r. cleared_transition constants.now from.now r) go.now) }
 {
     let mut cleared = Vec::with_capacity(alloc, go.len())?;
     for transition in go {

@@ -11,8 +11,8 @@ use std::alloc::Global;
 use std::hash::{FoldHasher, Hasher};
 use std::rc::{Rc, Weak};
 
-/// Lists of constants that were met, by a hash of their choices. Each is kept as long as a state has it. Of two with one hash only the
-/// one that was met last is found again.
+/// Lists of constants that were met, by a hash of their choices. Each is kept as long as a state
+/// has it. Of two with one hash only the one that was met last is found again.
 #[derive(Drop)]
 pub struct SharedLists {
     alloc: Global,

@@ -24,7 +24,8 @@ pub record IsMachineOf (P : Grammar) (root : ℕ) (m : Graph) : Type 0 where
   pub once : (p : Place) (i j : ℕ) → HasNumber places p i → HasNumber places p j → i ≡ j
   pub start : HasNumber places (start_of P root) m.start
   pub registers : m.registers ≡ P.registers
-  pub goes : (p : Place) (i : ℕ) → HasNumber places p i → Goes (HasNumber places) (moves P p) (node_moves m.nodes i)
+  pub goes : (p : Place) (i : ℕ) → HasNumber places p i
+      → Goes (HasNumber places) (moves P p) (node_moves m.nodes i)
 
 abbrev pub IsTooMany : DesugarRefusal → Type 0
 IsTooMany TooManyPlaces = Unit {0}

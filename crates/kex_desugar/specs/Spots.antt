@@ -13,7 +13,8 @@ use Rattle.kex_desugar.specs.Plans.{frames}
 -- the spot stands for the place
 abbrev pub SpotIsPlace : List Spot → Spot → Place → Type 0
 SpotIsPlace spots s [] = s ≡ Empty
-SpotIsPlace spots s (f ∷ p) = (r : ℕ) × (t : Spot) × (s ≡ On f r) × (slice_get spots r ≡ Some t) × SpotIsPlace spots t p
+SpotIsPlace spots s (f ∷ p) = (r : ℕ) × (t : Spot) × (s ≡ On f r) × (slice_get spots r ≡ Some t)
+    × SpotIsPlace spots t p
 
 -- the spot of number i stands for the place
 abbrev pub IsAt : List Spot → Place → ℕ → Type 0
@@ -34,4 +35,5 @@ IsOnPlace P root spots w rest = (q : Place) × IsAt spots q rest × IsPlace P ro
 
 -- the node goes as the place of the spot does
 abbrev pub NodeOf : Grammar → List Spot → Spot → MNode → Type 0
-NodeOf P spots s m = (p : Place) → SpotIsPlace spots s p → Goes (IsAt spots) (moves P p) (move_of (Some m))
+NodeOf P spots s m = (p : Place) → SpotIsPlace spots s p
+    → Goes (IsAt spots) (moves P p) (move_of (Some m))

@@ -1,7 +1,8 @@
 //! From a program to a machine: each place of a stage gets a number, and is a node of the machine.
 //!
-//! Stands on the model's places and on machines. The contract of `desugar` is the crate's: the nodes are the stage's
-//! places, one to one, and it refuses exactly where the stage has more places than are allowed.
+//! Stands on the model's places and on machines. The contract of `desugar` is the crate's: the
+//! nodes are the stage's places, one to one, and it refuses exactly where the stage has more places
+//! than are allowed.
 #![tactic(auto)]
 
 ghost use Rattle.std.specs.Prelude.{◌≡◌, IfOk, OnOk, IfErr};
@@ -25,9 +26,10 @@ use std::alloc::Global;
 
 /// The machine of the stage that begins at node `root`: its places, numbered as they are met.
 ///
-/// A place is what is still to be done, as in the oracle machine of the Kleenex paper (POPL 2016), with the turns of
-/// repetitions counted. The empty place and each place's rest count too, also where no step leads to them. It answers
-/// `TooManyPlaces` once place number `max_places + 1` is met. A name that has no definition goes to node 0.
+/// A place is what is still to be done, as in the oracle machine of the Kleenex paper (POPL 2016),
+/// with the turns of repetitions counted. The empty place and each place's rest count too, also
+/// where no step leads to them. It answers `TooManyPlaces` once place number `max_places + 1` is
+/// met. A name that has no definition goes to node 0.
 pub fn desugar(
     alloc: Global,
     program: &Program,

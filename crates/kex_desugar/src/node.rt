@@ -23,11 +23,15 @@ pub(crate) fn node_of(
 ) -> Result<MNode, DesugarRefusal>
     requires roots { MapHasRoots program.now roots.now }
     requires within { length spots.old.keys ≤ max }
-    ensures node { IfOk result (λ m. (root : ℕ) → IsReal program.now root spots.old.keys spot → NodeOf program.now spots.new.keys spot m) }
+    ensures node { IfOk result (λ m. (root : ℕ) → IsReal program.now root spots.old.keys spot
+        → NodeOf program.now spots.new.keys spot m) }
     ensures grown { OnOk result (Begins spots.new.keys spots.old.keys) }
     ensures within { OnOk result (length spots.new.keys ≤ max) }
-    ensures real { OnOk result ((root : ℕ) → Real program.now root spots.old.keys → IsReal program.now root spots.old.keys spot → Real program.now root spots.new.keys) }
-    ensures refused { IfErr result (λ e. IsTooMany e → (root : ℕ) → Real program.now root spots.old.keys → IsReal program.now root spots.old.keys spot → HasMore program.now root max) }
+    ensures real { OnOk result ((root : ℕ) → Real program.now root spots.old.keys
+        → IsReal program.now root spots.old.keys spot → Real program.now root spots.new.keys) }
+    ensures refused { IfErr result (λ e. IsTooMany e → (root : ℕ)
+        → Real program.now root spots.old.keys → IsReal program.now root spots.old.keys spot
+        → HasMore program.now root max) }
 {
     let Spot::On(frame, rest) = spot else {
         return Ok(MNode::Accept);

@@ -79,7 +79,8 @@ fn rep_plan(
     left: Option<u32>,
     lazy: bool,
 ) -> NodePlan
-    ensures { (q : Place) → moves_of program.now node (Rep body need left lazy) q ≡ plan_move result q }
+    ensures { (q : Place)
+        → moves_of program.now node (Rep body need left lazy) q ≡ plan_move result q }
 {
     let turn = entered(program, body);
     let again = Frame::Pending {
@@ -107,7 +108,8 @@ fn kind_plan(
     left: Option<u32>,
 ) -> Result<NodePlan, Memory>
     requires { MapHasRoots program.now roots.now }
-    ensures { IfOk result (λ plan. (q : Place) → moves_of program.now node (with_counts kind.now need left) q ≡ plan_move plan q) }
+    ensures { IfOk result (λ plan. (q : Place)
+        → moves_of program.now node (with_counts kind.now need left) q ≡ plan_move plan q) }
 {
     let plan = match kind {
         Kind::One => NodePlan::Pass(Way::Rest),

@@ -30,8 +30,10 @@ pub(crate) fn intern(
     ensures number { IfOk result (λ i. slice_get spots.new.keys i ≡ Some spot) }
     ensures grown { OnOk result (Begins spots.new.keys spots.old.keys) }
     ensures within { OnOk result (length spots.new.keys ≤ max) }
-    ensures real { OnOk result ((P : Grammar) (root : ℕ) → Real P root spots.old.keys → IsReal P root spots.old.keys spot → Real P root spots.new.keys) }
-    ensures refused { IfErr result (λ e. IsTooMany e → (P : Grammar) (root : ℕ) → Real P root spots.old.keys → IsReal P root spots.old.keys spot → HasMore P root max) }
+    ensures real { OnOk result ((P : Grammar) (root : ℕ) → Real P root spots.old.keys
+        → IsReal P root spots.old.keys spot → Real P root spots.new.keys) }
+    ensures refused { IfErr result (λ e. IsTooMany e → (P : Grammar) (root : ℕ)
+        → Real P root spots.old.keys → IsReal P root spots.old.keys spot → HasMore P root max) }
 {
     if let Some(i) = spots.get_index_of(&spot) {
         return Ok(i as u32);
@@ -51,11 +53,15 @@ pub(crate) fn reach(
     rest: u32,
 ) -> Result<u32, DesugarRefusal>
     requires { length spots.old.keys ≤ max }
-    ensures number { IfOk result (λ i. (q : Place) → IsAt spots.old.keys q rest → IsAt spots.new.keys (frames way ++ q) i) }
+    ensures number { IfOk result (λ i. (q : Place) → IsAt spots.old.keys q rest
+        → IsAt spots.new.keys (frames way ++ q) i) }
     ensures grown { OnOk result (Begins spots.new.keys spots.old.keys) }
     ensures within { OnOk result (length spots.new.keys ≤ max) }
-    ensures real { OnOk result ((P : Grammar) (root : ℕ) → Real P root spots.old.keys → IsOnPlace P root spots.old.keys way rest → Real P root spots.new.keys) }
-    ensures refused { IfErr result (λ e. IsTooMany e → (P : Grammar) (root : ℕ) → Real P root spots.old.keys → IsOnPlace P root spots.old.keys way rest → HasMore P root max) }
+    ensures real { OnOk result ((P : Grammar) (root : ℕ) → Real P root spots.old.keys
+        → IsOnPlace P root spots.old.keys way rest → Real P root spots.new.keys) }
+    ensures refused { IfErr result (λ e. IsTooMany e → (P : Grammar) (root : ℕ)
+        → Real P root spots.old.keys → IsOnPlace P root spots.old.keys way rest
+        → HasMore P root max) }
 {
     match way {
         Way::Rest => Ok(rest),

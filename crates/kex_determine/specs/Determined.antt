@@ -1,5 +1,7 @@
--- What the table of a machine is: its states are the shapes of the texts, numbered in the order in which they are met.
-use Rattle.std.specs.Prelude.{◌≡◌, ℕ, suc, ◌<◌, List, [], ◌∷◌, ◌++◌, ◌⊎◌, Option, Some, None, length, slice_get}
+-- What the table of a machine is: its states are the shapes of the texts, numbered in the order in
+-- which they are met.
+use Rattle.std.specs.Prelude.{◌≡◌, ℕ, suc, ◌<◌, List, [], ◌∷◌, ◌++◌, ◌⊎◌, Option, Some, None}
+use Rattle.std.specs.Prelude.{length, slice_get}
 use Rattle.kex_code.specs.declared.symbol.Symbol.{Symbol}
 use Rattle.kex_code.specs.Codes.{IsAmong}
 use Rattle.kex_model.specs.Labelled.{Labelled, labels_of, Shape, shape_of}
@@ -12,11 +14,13 @@ use Rattle.kex_sst.specs.Tables.{Row, Transducer}
 use Rattle.kex_sst.specs.Passes.{Pass, passes}
 use Rattle.kex_determine.specs.Rows.{AreRows}
 
--- the state has the shape of the tree of w, what was passed on is agreed, and the registers hold the labels; none where w
--- isn't viable
+-- the state has the shape of the tree of w, what was passed on is agreed, and the registers hold
+-- the labels; none where w isn't viable
 abbrev pub ShowsText : Graph → List (Shape ℕ) → List ℕ → Option Pass → Type 0
 ShowsText g shapes w None = ¬ IsViableFor g w
-ShowsText g shapes w (Some p) = (tree : Labelled Symbol ℕ) × HasTree (node_moves g.nodes) g.start w p.code tree × (p.registers ≡ labels_of tree) × (slice_get shapes p.state ≡ Some (shape_of tree))
+ShowsText g shapes w (Some p) = (tree : Labelled Symbol ℕ)
+    × HasTree (node_moves g.nodes) g.start w p.code tree × (p.registers ≡ labels_of tree)
+    × (slice_get shapes p.state ≡ Some (shape_of tree))
 
 -- where the transitions of a state lead, in the order of classes
 abbrev pub targets_of : List (Option Transition) → List ℕ
@@ -31,10 +35,11 @@ targets_in (s ∷ rows) = targets_of s.go ++ targets_in rows
 -- n numbers were met, and with these in their order it is `all`: a new one is the next
 abbrev pub MeetsInOrder : ℕ → List ℕ → ℕ → Type 0
 MeetsInOrder n [] all = n ≡ all
-MeetsInOrder n (i ∷ is) all = ((i < n) × MeetsInOrder n is all) ⊎ ((i ≡ n) × MeetsInOrder (suc n) is all)
+MeetsInOrder n (i ∷ is) all = ((i < n) × MeetsInOrder n is all)
+    ⊎ ((i ≡ n) × MeetsInOrder (suc n) is all)
 
--- the states are exactly the shapes of the texts, numbered in the order first met: breadth first, classes ascending; each row is
--- the one that its shape determines
+-- the states are exactly the shapes of the texts, numbered in the order first met: breadth first,
+-- classes ascending; each row is the one that its shape determines
 pub record IsDetermined (g : Graph) (t : Transducer) : Type 0 where
   pub shapes : List (Shape ℕ)
   pub rows : AreRows g t shapes

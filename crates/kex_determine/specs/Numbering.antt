@@ -1,5 +1,6 @@
 -- The numbers of the shapes that were met.
-use Rattle.std.specs.Prelude.{◌≡◌, ℕ, ◌+◌, ◌<◌, List, [], ◌∷◌, ◌++◌, ◌⊎◌, Option, Some, None, map, length, slice_get}
+use Rattle.std.specs.Prelude.{◌≡◌, ℕ, ◌+◌, ◌<◌, List, [], ◌∷◌, ◌++◌, ◌⊎◌, Option, Some, None, map}
+use Rattle.std.specs.Prelude.{length, slice_get}
 use Rattle.std.specs.Global.{Vec}
 use Rattle.kex_byteset.specs.Classes.{class_at, class_count}
 use Rattle.kex_code.specs.Codes.{IsAmong, Begins}
@@ -30,14 +31,17 @@ pub record IsMet (g : Graph) (tree : Outline) (s : Shape ℕ) : Type 0 where
   pub found : IsFound g s
 
 -- the keys and the trees are those of the shapes, each once
-pub record AreNumbered (g : Graph) (keys : List (Vec ℕ)) (trees : List Outline) (xs : List (Shape ℕ)) : Type 0 where
+pub record AreNumbered (g : Graph) (keys : List (Vec ℕ)) (trees : List Outline)
+    (xs : List (Shape ℕ)) : Type 0 where
   pub keyed : texts keys ≡ map key_of xs
   pub count : length trees ≡ length xs
-  pub shaped : (i : ℕ) (s : Shape ℕ) → slice_get xs i ≡ Some s → (t : Outline) × (slice_get trees i ≡ Some t) × IsMet g t s
+  pub shaped : (i : ℕ) (s : Shape ℕ) → slice_get xs i ≡ Some s → (t : Outline)
+      × (slice_get trees i ≡ Some t) × IsMet g t s
   pub different : AllDifferent xs
 
 -- the shape has this number now: it had it, or it is the next
-pub record IsWith (g : Graph) (keys : List (Vec ℕ)) (trees : List Outline) (xs : List (Shape ℕ)) (s : Shape ℕ) (i : ℕ) (ys : List (Shape ℕ)) : Type 0 where
+pub record IsWith (g : Graph) (keys : List (Vec ℕ)) (trees : List Outline) (xs : List (Shape ℕ))
+    (s : Shape ℕ) (i : ℕ) (ys : List (Shape ℕ)) : Type 0 where
   pub numbered : AreNumbered g keys trees ys
   pub grown : ((ys ≡ xs) × (i < length xs)) ⊎ ((ys ≡ xs ++ s ∷ []) × (i ≡ length xs))
   pub at : slice_get ys i ≡ Some s
@@ -66,11 +70,13 @@ IsMetIf g (Some r) = (s : Shape ℕ) × IsMet g r.0 s
 -- the transition has the update, and its target is the shape's number
 abbrev pub HasTarget : List (Shape ℕ) → Option (Outline × Change) → Option Transition → Type 0
 HasTarget ys None None = Unit {0}
-HasTarget ys (Some n) (Some r) = (r.update ≡ n.1) × ((s : Shape ℕ) → IsOfShape n.0 s → slice_get ys r.target ≡ Some s)
+HasTarget ys (Some n) (Some r) = (r.update ≡ n.1)
+    × ((s : Shape ℕ) → IsOfShape n.0 s → slice_get ys r.target ≡ Some s)
 HasTarget ys _ _ = ⊥
 
 -- a transition, by which a shape may be met that wasn't before
-pub record IsFollowed (g : Graph) (keys : List (Vec ℕ)) (trees : List Outline) (xs : List (Shape ℕ)) (next : Option (Outline × Change)) (ys : List (Shape ℕ)) (r : Option Transition) : Type 0 where
+pub record IsFollowed (g : Graph) (keys : List (Vec ℕ)) (trees : List Outline) (xs : List (Shape ℕ))
+    (next : Option (Outline × Change)) (ys : List (Shape ℕ)) (r : Option Transition) : Type 0 where
   pub numbered : AreNumbered g keys trees ys
   pub begins : Begins ys xs
   pub target : HasTarget ys next r
@@ -78,10 +84,13 @@ pub record IsFollowed (g : Graph) (keys : List (Vec ℕ)) (trees : List Outline)
 
 -- on each byte of the first n classes a state of shape s does what its transition says
 abbrev pub DoOn : Graph → List ℕ → List (Shape ℕ) → Shape ℕ → ℕ → List (Option Transition) → Type 0
-DoOn g classes ys s n go = (b : ℕ) → b < 256 → class_at classes b < n → DoesOn g ys s b (transition_if (slice_get go (class_at classes b)))
+DoOn g classes ys s n go = (b : ℕ) → b < 256 → class_at classes b < n
+    → DoesOn g ys s b (transition_if (slice_get go (class_at classes b)))
 
 -- the transitions on the first n classes, with the shapes that were met by them
-pub record AreTransitionsTo (n : ℕ) (g : Graph) (classes : List ℕ) (keys : List (Vec ℕ)) (trees : List Outline) (xs ys : List (Shape ℕ)) (s : Shape ℕ) (go : List (Option Transition)) : Type 0 where
+pub record AreTransitionsTo (n : ℕ) (g : Graph) (classes : List ℕ) (keys : List (Vec ℕ))
+    (trees : List Outline) (xs ys : List (Shape ℕ)) (s : Shape ℕ)
+    (go : List (Option Transition)) : Type 0 where
   pub numbered : AreNumbered g keys trees ys
   pub begins : Begins ys xs
   pub long : length go ≡ n
@@ -89,16 +98,21 @@ pub record AreTransitionsTo (n : ℕ) (g : Graph) (classes : List ℕ) (keys : L
   pub order : MeetsInOrder (length xs) (targets_of go) (length ys)
 
 -- those on all classes
-abbrev pub AreTransitions : Graph → List ℕ → List (Vec ℕ) → List Outline → List (Shape ℕ) → List (Shape ℕ) → Shape ℕ → List (Option Transition) → Type 0
-AreTransitions g classes keys trees xs ys s go = AreTransitionsTo (class_count classes) g classes keys trees xs ys s go
+abbrev pub AreTransitions : Graph → List ℕ → List (Vec ℕ) → List Outline → List (Shape ℕ)
+    → List (Shape ℕ) → Shape ℕ → List (Option Transition) → Type 0
+AreTransitions g classes keys trees xs ys s go =
+    AreTransitionsTo (class_count classes) g classes keys trees xs ys s go
 
 -- a state's row, with the shapes that were met by it
-pub record IsStateWith (g : Graph) (classes : List ℕ) (keys : List (Vec ℕ)) (trees : List Outline) (xs ys : List (Shape ℕ)) (s : Shape ℕ) (row : Row) : Type 0 where
+pub record IsStateWith (g : Graph) (classes : List ℕ) (keys : List (Vec ℕ)) (trees : List Outline)
+    (xs ys : List (Shape ℕ)) (s : Shape ℕ) (row : Row) : Type 0 where
   pub numbered : AreNumbered g keys trees ys
   pub begins : Begins ys xs
   pub row_of : IsRowOf g classes ys s row
   pub order : MeetsInOrder (length xs) (targets_of row.go) (length ys)
 
 -- whatever shapes the states have, of which this number has the shape s
-abbrev pub WhereNumbered : Graph → List (Vec ℕ) → List Outline → ℕ → (List (Shape ℕ) → Shape ℕ → Type 0) → Type 0
-WhereNumbered g keys trees at Says = (xs : List (Shape ℕ)) (s : Shape ℕ) → AreNumbered g keys trees xs → slice_get xs at ≡ Some s → Says xs s
+abbrev pub WhereNumbered : Graph → List (Vec ℕ) → List Outline → ℕ
+    → (List (Shape ℕ) → Shape ℕ → Type 0) → Type 0
+WhereNumbered g keys trees at Says = (xs : List (Shape ℕ)) (s : Shape ℕ)
+    → AreNumbered g keys trees xs → slice_get xs at ≡ Some s → Says xs s

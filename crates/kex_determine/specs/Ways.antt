@@ -1,5 +1,6 @@
 -- A walk to the first leaf that accepts: where it stands, and what is still to come.
-use Rattle.std.specs.Prelude.{◌≡◌, ℕ, ◌+◌, ◌-◌, Bool, List, [], ◌∷◌, ◌++◌, Option, Some, None, map, length, drop}
+use Rattle.std.specs.Prelude.{◌≡◌, ℕ, ◌+◌, ◌-◌, Bool, List, [], ◌∷◌, ◌++◌, Option, Some, None, map}
+use Rattle.std.specs.Prelude.{length, drop}
 use Rattle.kex_code.specs.Codes.{Begins}
 use Rattle.kex_model.specs.Moves.{Move}
 use Rattle.kex_model.specs.Labelled.{Shape, size_of, Grown}
@@ -29,7 +30,8 @@ EachSide m (x ∷ rest) = EachPlace m x.shape × EachSide m rest
 -- the forks by how long the way to each is, the last the deepest; each lies on the way
 abbrev pub AreForks : List ℕ → List ℕ → List RightSide → Type 0
 AreForks way forks [] = forks ≡ []
-AreForks way forks (x ∷ rest) = (more : List ℕ) × (forks ≡ more ++ length x.before ∷ []) × Begins way x.before × AreForks x.before more rest
+AreForks way forks (x ∷ rest) = (more : List ℕ) × (forks ≡ more ++ length x.before ∷ [])
+    × Begins way x.before × AreForks x.before more rest
 
 abbrev pub either : Option (List Part) → Option (List Part) → Option (List Part)
 either None o = o
@@ -44,13 +46,16 @@ module _ (moves : ℕ → Move ℕ) where
   -- the first way to the end, from node k on
   abbrev pub from_sides : ℕ → List RightSide → Option (List Part)
   from_sides k [] = None
-  from_sides k (x ∷ rest) = either (onward (x.before ++ (k - 1) ∷ []) (first_accepting moves (numbered_tree k x.shape))) (from_sides (k + size_of x.shape) rest)
+  from_sides k (x ∷ rest) = either (onward (x.before ++ (k - 1) ∷ [])
+      (first_accepting moves (numbered_tree k x.shape))) (from_sides (k + size_of x.shape) rest)
 
   abbrev pub from_here : ℕ → List ℕ → Shape ℕ → List RightSide → Option (List Part)
-  from_here k way s rest = either (onward way (first_accepting moves (numbered_tree k s))) (from_sides (k + size_of s) rest)
+  from_here k way s rest = either (onward way (first_accepting moves (numbered_tree k s)))
+      (from_sides (k + size_of s) rest)
 
 -- at node k, behind so many leaves: what is still to come has the whole tree's way to the end
-pub record IsOnWay (moves : ℕ → Move ℕ) (m : ℕ) (shape : List Bool) (leaves : List ℕ) (whole : Option (List Part)) (k leaf : ℕ) (way forks : List ℕ) : Type 0 where
+pub record IsOnWay (moves : ℕ → Move ℕ) (m : ℕ) (shape : List Bool) (leaves : List ℕ)
+    (whole : Option (List Part)) (k leaf : ℕ) (way forks : List ℕ) : Type 0 where
   pub here : Shape ℕ
   pub sides : List RightSide
   pub inner : drop k shape ≡ inner_of here ++ inner_in_sides sides

@@ -40,8 +40,8 @@ fn registers(alloc: Global, numbers: &[u32]) -> Result<Parts, Memory>
     Ok(parts)
 }
 
-/// The registers on the way to the first leaf at which a text may end, if there is one, by the shape of a tree in preorder and
-/// its leaves.
+/// The registers on the way to the first leaf at which a text may end, if there is one, by the
+/// shape of a tree in preorder and its leaves.
 pub(crate) fn way_to_end(
     alloc: Global,
     nodes: &[MNode],
@@ -49,8 +49,11 @@ pub(crate) fn way_to_end(
     leaves: &[u32],
 ) -> Result<Option<Parts>, Memory>
     requires short { length shape.now ≤ 4294967296 }
-    requires tree { (s : Shape ℕ) × (shape.now ≡ inner_of s) × (leaves.now ≡ places_of s) × EachPlace (length nodes.now) s }
-    ensures { IfOk result (λ way. (s : Shape ℕ) → shape.now ≡ inner_of s → leaves.now ≡ places_of s → EachPlace (length nodes.now) s → way ≡ way_to (first_accepting (node_moves nodes.now) (numbered_tree 0 s))) }
+    requires tree { (s : Shape ℕ) × (shape.now ≡ inner_of s) × (leaves.now ≡ places_of s)
+        × EachPlace (length nodes.now) s }
+    ensures { IfOk result (λ way. (s : Shape ℕ) → shape.now ≡ inner_of s → leaves.now ≡ places_of s
+        → EachPlace (length nodes.now) s
+        → way ≡ way_to (first_accepting (node_moves nodes.now) (numbered_tree 0 s))) }
 {
     let mut way = Vec::new(alloc);
     // How long the way is to each fork whose right side is still to come.

@@ -1,8 +1,8 @@
-//! Determinisation: from a machine to the table whose states are the shapes of its texts' path trees, after the Kleenex paper
-//! (POPL 2016).
+//! Determinisation: from a machine to the table whose states are the shapes of its texts' path
+//! trees, after the Kleenex paper (POPL 2016).
 //!
-//! Stands on path trees, which show how a shape goes on with a class of bytes, and on tables. The contract of `determine` is
-//! the crate's.
+//! Stands on path trees, which show how a shape goes on with a class of bytes, and on tables. The
+//! contract of `determine` is the crate's.
 #![tactic(auto)]
 
 mod ends;
@@ -26,14 +26,17 @@ use kex_paths::workspace::Workspace;
 use kex_sst::table::Table;
 use std::alloc::Global;
 
-/// The table of a machine: its states are the shapes of the texts' path trees, numbered as they are met, breadth first and
-/// classes ascending. It answers `TooManyStates` once state number `max_states + 1` is met.
+/// The table of a machine: its states are the shapes of the texts' path trees, numbered as they are
+/// met, breadth first and classes ascending. It answers `TooManyStates` once state number
+/// `max_states + 1` is met.
 pub fn determine(alloc: Global, machine: &Trimmed, max_states: u32) -> Result<Table, DetRefusal>
     requires { max_states < 4294967295 }
     ensures determined { IfOk result (λ t. IsDetermined machine.now t) }
     ensures table { IfOk result (λ t. IsTableOf machine.now t) }
-    ensures states { IfOk result (λ t. HasStates (node_moves machine.now.nodes) machine.now.start (length t.states) × (length t.states ≤ max_states)) }
-    ensures refused { IfErr result (Refuses max_states (HasMoreStates (node_moves machine.now.nodes) machine.now.start max_states)) }
+    ensures states { IfOk result (λ t. HasStates (node_moves machine.now.nodes) machine.now.start
+        (length t.states) × (length t.states ≤ max_states)) }
+    ensures refused { IfErr result (Refuses max_states
+        (HasMoreStates (node_moves machine.now.nodes) machine.now.start max_states)) }
 {
     // From each node the end is reached, so each tree has a leaf.
     let _nodes = machine.nodes();

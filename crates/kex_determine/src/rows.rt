@@ -1,12 +1,14 @@
 // The rows of states: what each does on each class of bytes.
 
-ghost use Rattle.std.specs.Prelude.{◌≡◌, ℕ, ◌<◌, ◌≤◌, List, [], Some, All, Contains, OnOk, IfOk, IfErr, IfSome, IfNone, length, slice_get};
+ghost use Rattle.std.specs.Prelude.{◌≡◌, ℕ, ◌<◌, ◌≤◌, List, [], Some, All, Contains, OnOk, IfOk};
+ghost use Rattle.std.specs.Prelude.{IfErr, IfSome, IfNone, length, slice_get};
 ghost use Rattle.kex_model.specs.Labelled.{Shape};
 ghost use Rattle.kex_machine.specs.Nodes.{HasClasses};
 ghost use Rattle.kex_paths.specs.Alikes.{GoesOnAlike};
 ghost use Rattle.kex_determine.specs.Filling.{IsFilled};
 ghost use Rattle.kex_determine.specs.Rows.{LeadsApart};
-ghost use Rattle.kex_determine.specs.Numbering.{AreNumbered, AreTransitions, HasMoreFound, IsStateWith, Refuses, WhereNumbered};
+ghost use Rattle.kex_determine.specs.Numbering.{AreNumbered, AreTransitions, HasMoreFound};
+ghost use Rattle.kex_determine.specs.Numbering.{IsStateWith, Refuses, WhereNumbered};
 
 use crate::ends::way_to_end;
 use crate::refusal::DetRefusal;
@@ -41,7 +43,8 @@ fn alike_among<'m>(
     class: u8,
 ) -> Option<u8>
     requires { workspace.now ≡ tree.now.machine }
-    ensures some { IfSome result (λ earlier. Contains classes.now earlier × GoesOnAlike tree.now earlier class) }
+    ensures some { IfSome result (λ earlier. Contains classes.now earlier
+        × GoesOnAlike tree.now earlier class) }
     ensures none { IfNone result (All (λ earlier. LeadsApart tree.now earlier class) classes.now) }
 {
     for earlier in classes {
@@ -52,8 +55,8 @@ fn alike_among<'m>(
     None
 }
 
-// The transitions of state `at`, by class, with the states that are met on the way. Classes that lead on alike have the
-// same transition, which is walked once.
+// The transitions of state `at`, by class, with the states that are met on the way. Classes that
+// lead on alike have the same transition, which is walked once.
 fn transitions_of<'m>(
     alloc: Global,
     at: usize,
@@ -64,12 +67,18 @@ fn transitions_of<'m>(
     requires classes { HasClasses workspace.old.nodes partition.now }
     requires few { states.old.most < 4294967295 }
     requires room { length states.old.trees.items ≤ states.old.most }
-    requires known { (xs : List (Shape ℕ)) × (s : Shape ℕ) × AreNumbered workspace.old states.old.keys.keys states.old.trees.items xs × (slice_get xs at ≡ Some s) }
-    ensures ok { IfOk result (λ go. WhereNumbered workspace.old states.old.keys.keys states.old.trees.items at (λ xs s. (ys : List (Shape ℕ)) × AreTransitions workspace.old partition.now states.new.keys.keys states.new.trees.items xs ys s go.items)) }
+    requires known { (xs : List (Shape ℕ)) × (s : Shape ℕ)
+        × AreNumbered workspace.old states.old.keys.keys states.old.trees.items xs
+        × (slice_get xs at ≡ Some s) }
+    ensures ok { IfOk result (λ go. WhereNumbered workspace.old states.old.keys.keys
+        states.old.trees.items at (λ xs s. (ys : List (Shape ℕ)) × AreTransitions workspace.old
+        partition.now states.new.keys.keys states.new.trees.items xs ys s go.items)) }
     ensures workspace { OnOk result (workspace.new ≡ workspace.old) }
     ensures most { OnOk result (states.new.most ≡ states.old.most) }
     ensures within { OnOk result (length states.new.trees.items ≤ states.old.most) }
-    ensures err { IfErr result (Refuses states.old.most (WhereNumbered workspace.old states.old.keys.keys states.old.trees.items at (λ xs s. HasMoreFound workspace.old states.old.most))) }
+    ensures err { IfErr result (Refuses states.old.most
+        (WhereNumbered workspace.old states.old.keys.keys states.old.trees.items at (λ xs s.
+        HasMoreFound workspace.old states.old.most))) }
 {
     let mut go = Vec::with_capacity(alloc, usize::from(partition.classes()))?;
     // The classes that were walked.
@@ -102,12 +111,18 @@ fn state_of<'m>(
     requires classes { HasClasses machine.now.nodes partition.now }
     requires few { states.old.most < 4294967295 }
     requires room { length states.old.trees.items ≤ states.old.most }
-    requires known { (xs : List (Shape ℕ)) × (s : Shape ℕ) × AreNumbered machine.now states.old.keys.keys states.old.trees.items xs × (slice_get xs at ≡ Some s) }
-    ensures ok { IfOk result (λ row. WhereNumbered machine.now states.old.keys.keys states.old.trees.items at (λ xs s. (ys : List (Shape ℕ)) × IsStateWith machine.now partition.now states.new.keys.keys states.new.trees.items xs ys s row)) }
+    requires known { (xs : List (Shape ℕ)) × (s : Shape ℕ)
+        × AreNumbered machine.now states.old.keys.keys states.old.trees.items xs
+        × (slice_get xs at ≡ Some s) }
+    ensures ok { IfOk result (λ row. WhereNumbered machine.now states.old.keys.keys
+        states.old.trees.items at (λ xs s. (ys : List (Shape ℕ)) × IsStateWith machine.now
+        partition.now states.new.keys.keys states.new.trees.items xs ys s row)) }
     ensures workspace { OnOk result (workspace.new ≡ machine.now) }
     ensures most { OnOk result (states.new.most ≡ states.old.most) }
     ensures within { OnOk result (length states.new.trees.items ≤ states.old.most) }
-    ensures err { IfErr result (Refuses states.old.most (WhereNumbered machine.now states.old.keys.keys states.old.trees.items at (λ xs s. HasMoreFound machine.now states.old.most))) }
+    ensures err { IfErr result (Refuses states.old.most
+        (WhereNumbered machine.now states.old.keys.keys states.old.trees.items at (λ xs s.
+        HasMoreFound machine.now states.old.most))) }
 {
     let go = transitions_of(alloc, at, partition, states, workspace)?;
     let tree = &states.trees[at];
@@ -129,11 +144,14 @@ pub(crate) fn rows_of<'m>(
     requires classes { HasClasses machine.now.nodes partition.now }
     requires few { states.old.most < 4294967295 }
     requires room { length states.old.trees.items ≤ states.old.most }
-    requires begun { IsFilled machine.now partition.now states.old.keys.keys states.old.trees.items [] }
-    ensures filled { IfOk result (λ rows. IsFilled machine.now partition.now states.new.keys.keys states.new.trees.items rows.items) }
+    requires begun { IsFilled machine.now partition.now states.old.keys.keys states.old.trees.items
+        [] }
+    ensures filled { IfOk result (λ rows.
+        IsFilled machine.now partition.now states.new.keys.keys states.new.trees.items rows.items) }
     ensures all { IfOk result (λ rows. length states.new.trees.items ≤ length rows.items) }
     ensures within { OnOk result (length states.new.trees.items ≤ states.old.most) }
-    ensures err { IfErr result (Refuses states.old.most (HasMoreFound machine.now states.old.most)) }
+    ensures err { IfErr result
+        (Refuses states.old.most (HasMoreFound machine.now states.old.most)) }
 {
     let mut rows = Vec::new(alloc);
     'states: while rows.len() < states.trees.len() {

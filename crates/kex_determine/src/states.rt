@@ -1,10 +1,12 @@
 // The states that were met, by number.
 
-ghost use Rattle.std.specs.Prelude.{◌≡◌, ℕ, ◌<◌, ◌≤◌, List, [], Some, Option, OnOk, IfOk, IfErr, length, slice_get};
+ghost use Rattle.std.specs.Prelude.{◌≡◌, ℕ, ◌<◌, ◌≤◌, List, [], Some, Option, OnOk, IfOk, IfErr};
+ghost use Rattle.std.specs.Prelude.{length, slice_get};
 ghost use Rattle.kex_model.specs.Labelled.{Shape};
 ghost use Rattle.kex_machine.specs.Nodes.{Graph};
 ghost use Rattle.kex_paths.specs.Nexts.{Outline};
-ghost use Rattle.kex_determine.specs.Numbering.{texts, IsAdded, AreNumbered, IsMet, IsWith, Refuses, HasMoreFound, IsMetIf, IsFollowed};
+ghost use Rattle.kex_determine.specs.Numbering.{texts, IsAdded, AreNumbered, IsMet, IsWith};
+ghost use Rattle.kex_determine.specs.Numbering.{Refuses, HasMoreFound, IsMetIf, IsFollowed};
 
 use crate::refusal::DetRefusal;
 use indexmap::IndexSet;
@@ -15,7 +17,8 @@ use kex_sst::table::Transition;
 use kex_sst::updates::Updates;
 use std::alloc::Global;
 
-/// The path trees of the states that were met, and their keys, by number; how many there may be; and the updates of transitions.
+/// The path trees of the states that were met, and their keys, by number; how many there may be;
+/// and the updates of transitions.
 #[derive(Drop)]
 pub struct States<'m> {
     pub keys: IndexSet<Vec<u32>>,
@@ -52,10 +55,14 @@ impl<'m> States<'m> {
     pub fn enter(&mut self, alloc: Global, tree: PathTree<'m>) -> Result<u32, DetRefusal>
         requires few { self.old.most < 4294967295 }
         requires room { length self.old.trees.items ≤ self.old.most }
-        ensures ok { IfOk result (λ i. (g : Graph) (xs : List (Shape ℕ)) (s : Shape ℕ) → AreNumbered g self.old.keys.keys self.old.trees.items xs → IsMet g tree.entry s → (ys : List (Shape ℕ)) × IsWith g self.new.keys.keys self.new.trees.items xs s i ys) }
+        ensures ok { IfOk result (λ i. (g : Graph) (xs : List (Shape ℕ)) (s : Shape ℕ)
+            → AreNumbered g self.old.keys.keys self.old.trees.items xs → IsMet g tree.entry s
+            → (ys : List (Shape ℕ)) × IsWith g self.new.keys.keys self.new.trees.items xs s i ys) }
         ensures most { self.new.most ≡ self.old.most }
         ensures within { OnOk result (length self.new.trees.items ≤ self.old.most) }
-        ensures err { IfErr result (Refuses self.old.most ((g : Graph) (xs : List (Shape ℕ)) (s : Shape ℕ) → AreNumbered g self.old.keys.keys self.old.trees.items xs → IsMet g tree.entry s → HasMoreFound g self.old.most)) }
+        ensures err { IfErr result (Refuses self.old.most ((g : Graph) (xs : List (Shape ℕ))
+            (s : Shape ℕ) → AreNumbered g self.old.keys.keys self.old.trees.items xs
+            → IsMet g tree.entry s → HasMoreFound g self.old.most)) }
     {
         let key = tree.key(alloc)?;
         let index = number(&mut self.keys, key)?;
@@ -80,10 +87,15 @@ impl<'m> States<'m> {
     ) -> Result<Option<Transition>, DetRefusal>
         requires few { self.old.most < 4294967295 }
         requires room { length self.old.trees.items ≤ self.old.most }
-        ensures ok { IfOk result (λ r. (g : Graph) (xs : List (Shape ℕ)) → AreNumbered g self.old.keys.keys self.old.trees.items xs → IsMetIf g next.entry → (ys : List (Shape ℕ)) × IsFollowed g self.new.keys.keys self.new.trees.items xs next.entry ys r) }
+        ensures ok { IfOk result (λ r. (g : Graph) (xs : List (Shape ℕ))
+            → AreNumbered g self.old.keys.keys self.old.trees.items xs → IsMetIf g next.entry
+            → (ys : List (Shape ℕ))
+            × IsFollowed g self.new.keys.keys self.new.trees.items xs next.entry ys r) }
         ensures most { self.new.most ≡ self.old.most }
         ensures within { OnOk result (length self.new.trees.items ≤ self.old.most) }
-        ensures err { IfErr result (Refuses self.old.most ((g : Graph) (xs : List (Shape ℕ)) → AreNumbered g self.old.keys.keys self.old.trees.items xs → IsMetIf g next.entry → HasMoreFound g self.old.most)) }
+        ensures err { IfErr result (Refuses self.old.most ((g : Graph) (xs : List (Shape ℕ))
+            → AreNumbered g self.old.keys.keys self.old.trees.items xs → IsMetIf g next.entry
+            → HasMoreFound g self.old.most)) }
     {
         match next {
             None => Ok(None),

@@ -1,5 +1,6 @@
 -- Labelled trees as lists of edges, in postorder, and trees side by side.
-use Rattle.std.specs.Prelude.{◌≡◌, ℕ, ◌<◌, ◌⊎◌, length, Bool, true, false, List, [], ◌∷◌, ◌++◌, Option, Some, None, reverse}
+use Rattle.std.specs.Prelude.{◌≡◌, ℕ, ◌<◌, ◌⊎◌, length, Bool, true, false, List, [], ◌∷◌, ◌++◌}
+use Rattle.std.specs.Prelude.{Option, Some, None, reverse}
 use Rattle.kex_code.specs.declared.symbol.Symbol.{Symbol}
 use Rattle.kex_model.specs.Labelled.{Labelled, tip, fork, Grown, with_prefix, fork_of}
 use Rattle.kex_machine.specs.Advancing.{left_or_right}
@@ -12,7 +13,8 @@ pub record Edge : Type 0 where
 -- the edges of a tree, with a label to its root, and each label turned by h
 abbrev pub edges_by : (List Symbol → List Symbol) → Labelled Symbol ℕ → List Symbol → List Edge
 edges_by h (tip p) c = record { label = h c; at = Some p } ∷ []
-edges_by h (fork x l y r) c = (edges_by h l x ++ edges_by h r y) ++ record { label = h c; at = None } ∷ []
+edges_by h (fork x l y r) c =
+    (edges_by h l x ++ edges_by h r y) ++ record { label = h c; at = None } ∷ []
 
 abbrev pub as_is : List Symbol → List Symbol
 as_is c = c
@@ -43,7 +45,8 @@ there_flags [] = []
 there_flags (r ∷ rs) = is_there r ∷ there_flags rs
 
 -- the forest has these trees, the last first, with each label turned by h
-abbrev pub HasCodeTrees : (List Symbol → List Symbol) → CodeTrees → List (Option (Grown Symbol ℕ)) → Type 0
+abbrev pub HasCodeTrees : (List Symbol → List Symbol) → CodeTrees → List (Option (Grown Symbol ℕ))
+    → Type 0
 HasCodeTrees h f rs = (f.edges ≡ edges_in h rs) × (f.there ≡ there_flags rs)
 
 abbrev pub no_code_trees : CodeTrees
@@ -58,13 +61,15 @@ code_trees_before [] = []
 code_trees_before (r ∷ rs) = rs
 
 -- the last tree with more in front
-abbrev pub with_front : List Symbol → List (Option (Grown Symbol ℕ)) → List (Option (Grown Symbol ℕ))
+abbrev pub with_front : List Symbol → List (Option (Grown Symbol ℕ))
+    → List (Option (Grown Symbol ℕ))
 with_front x [] = []
 with_front x (r ∷ rs) = with_prefix x r ∷ rs
 
 -- the last two trees as sides of a fork
 abbrev pub with_fork : List (Option (Grown Symbol ℕ)) → List (Option (Grown Symbol ℕ))
-with_fork rs = fork_of (last_code_tree (code_trees_before rs)) (last_code_tree rs) ∷ code_trees_before (code_trees_before rs)
+with_fork rs = fork_of (last_code_tree (code_trees_before rs)) (last_code_tree rs)
+    ∷ code_trees_before (code_trees_before rs)
 
 -- a fork's edge, if both of its sides are there
 abbrev pub fork_if : Bool → List Edge
@@ -73,7 +78,8 @@ fork_if false = []
 
 -- of the last two trees the first that is there
 abbrev pub with_first_tree : List (Option (Grown Symbol ℕ)) → List (Option (Grown Symbol ℕ))
-with_first_tree rs = left_or_right (last_code_tree (code_trees_before rs)) (last_code_tree rs) ∷ code_trees_before (code_trees_before rs)
+with_first_tree rs = left_or_right (last_code_tree (code_trees_before rs)) (last_code_tree rs)
+    ∷ code_trees_before (code_trees_before rs)
 
 -- the tree is a tip, if it is there
 abbrev pub IsTipIf : Option (Grown Symbol ℕ) → Type 0

@@ -11,8 +11,8 @@ use Rattle.kex_frontier.specs.declared.frontier.Fed.TheVariants.{On, Dead}
 use Rattle.kex_frontier.specs.declared.frontier.Ended.{Ended}
 use Rattle.kex_frontier.specs.declared.frontier.Ended.TheVariants.{Parsed, Cut}
 
--- a frontier: its machine, what is agreed and wasn't taken, the edges of the survivors' tree, whether the end was given,
--- and whether no call has answered want of memory
+-- a frontier: its machine, what is agreed and wasn't taken, the edges of the survivors' tree,
+-- whether the end was given, and whether no call has answered want of memory
 pub record Front : Type 0 where
   pub machine : Graph
   pub untaken : List Symbol
@@ -22,11 +22,14 @@ pub record Front : Type 0 where
 
 -- the frontier has the tree of w
 abbrev pub IsLive : Front → List ℕ → List Symbol → Type 0
-IsLive f w taken = (t : Labelled Symbol ℕ) × HasTree (node_moves f.machine.nodes) f.machine.start w (taken ++ f.untaken) t × (f.edges ≡ edges_of t [])
+IsLive f w taken = (t : Labelled Symbol ℕ)
+    × HasTree (node_moves f.machine.nodes) f.machine.start w (taken ++ f.untaken) t
+    × (f.edges ≡ edges_of t [])
 
 -- w isn't viable, and no tree is left
 abbrev pub IsDead : Front → List ℕ → List Symbol → Type 0
-IsDead f w taken = (¬ IsViableFor f.machine w) × IsSaid f.machine w (taken ++ f.untaken) × (f.edges ≡ [])
+IsDead f w taken = (¬ IsViableFor f.machine w) × IsSaid f.machine w (taken ++ f.untaken)
+    × (f.edges ≡ [])
 
 -- the frontier was fed w, and these symbols were taken
 abbrev pub IsFed : Front → List ℕ → List Symbol → Type 0
@@ -50,7 +53,9 @@ abbrev pub end_answer : Bool → Ended
 end_answer true = Parsed
 end_answer false = Cut
 
--- the machine is trimmed; while the frontier is usable, its edges and marks are those of a tree of the machine's places
-pub record IsFrontierSound (g : Graph) (edges : List Edge) (marks : List Bool) (usable : Bool) : Type 0 where
+-- the machine is trimmed; while the frontier is usable, its edges and marks are those of a tree of
+-- the machine's places
+pub record IsFrontierSound (g : Graph) (edges : List Edge) (marks : List Bool)
+    (usable : Bool) : Type 0 where
   pub trimmed : IsTrimmed g
   pub kept : usable ≡ true → IsKeptTree (length g.nodes) edges marks

@@ -7,7 +7,8 @@ use Rattle.kex_frontier.specs.declared.matcher.Matched.{Matched}
 use Rattle.kex_frontier.specs.declared.matcher.Matched.TheVariants.{On, Dead}
 use Rattle.kex_frontier.specs.Rows.{IsMarkRow}
 
--- a matcher: its machine, the row of the bytes that it was fed, how many of them were good, and whether one was not
+-- a matcher: its machine, the row of the bytes that it was fed, how many of them were good, and
+-- whether one was not
 pub record Match : Type 0 where
   pub machine : Graph
   pub row : List ℕ
@@ -16,7 +17,8 @@ pub record Match : Type 0 where
 
 -- w isn't viable, and its longest viable front has this many bytes
 abbrev pub IsDeadAt : Graph → List ℕ → ℕ → Type 0
-IsDeadAt g w at = (¬ IsViableFor g w) × ((v : List ℕ) × LongestViable (node_moves g.nodes) g.start w v × (length v ≡ at))
+IsDeadAt g w at = (¬ IsViableFor g w)
+    × ((v : List ℕ) × LongestViable (node_moves g.nodes) g.start w v × (length v ≡ at))
 
 -- what is answered on w
 abbrev pub IsAnswer : Matched → Graph → List ℕ → Type 0

@@ -1,5 +1,6 @@
 -- Rows of bits over a machine's places, and the row of a text.
-use Rattle.std.specs.Prelude.{◌≡◌, ℕ, ◌<◌, ◌≤◌, ◌/◌, ◌%◌, ◌==◌, Bool, true, false, List, [], ◌∷◌, ◌⊎◌, if◌then◌else◌, get_or, length}
+use Rattle.std.specs.Prelude.{◌≡◌, ℕ, ◌<◌, ◌≤◌, ◌/◌, ◌%◌, ◌==◌, Bool, true, false, List, [], ◌∷◌}
+use Rattle.std.specs.Prelude.{◌⊎◌, if◌then◌else◌, get_or, length}
 use Rattle.std.specs.Int.{bit_at}
 use Rattle.kex_code.specs.Codes.{bytes_of, IsAmong}
 use Rattle.kex_model.specs.Moves.{Move, accept, read, choose, forced, go, Step, code_of, Walk}
@@ -35,13 +36,16 @@ pub record Unmarks (place : ℕ) (old new : List ℕ) : Type 0 where
   pub gone : has_mark new place ≡ false
   pub others : (n : ℕ) → (n ≡ place → ⊥) → has_mark new n ≡ has_mark old n
 
--- those among ms were marked in a row, and in another row those of them that were not marked before; at or above `end'` nothing was
+-- those among ms were marked in a row, and in another row those of them that were not marked
+-- before; at or above `end'` nothing was
 pub record Opens (ms : List ℕ) (end : ℕ) (old fresh new fresh' : List ℕ) (end' : ℕ) : Type 0 where
   pub marked : AlsoMarks ms old new
   pub room : length fresh' ≡ length fresh
-  pub opened : (n : ℕ) → has_mark new n ≡ true → (has_mark old n ≡ true) ⊎ (has_mark fresh' n ≡ true)
+  pub opened : (n : ℕ) → has_mark new n ≡ true → (has_mark old n ≡ true)
+      ⊎ (has_mark fresh' n ≡ true)
   pub kept : (n : ℕ) → has_mark fresh n ≡ true → has_mark fresh' n ≡ true
-  pub only : (n : ℕ) → has_mark fresh' n ≡ true → (has_mark fresh n ≡ true) ⊎ ((has_mark old n ≡ false) × IsAmong ms n)
+  pub only : (n : ℕ) → has_mark fresh' n ≡ true → (has_mark fresh n ≡ true)
+      ⊎ ((has_mark old n ≡ false) × IsAmong ms n)
   pub rises : end ≤ end'
   pub above : (n : ℕ) → end' ≤ n → has_mark fresh' n ≡ true → has_mark fresh n ≡ true
 
@@ -55,15 +59,19 @@ byte_ways (go e t) b = []
 
 -- n is reached from m without a byte
 abbrev pub IsReachedQuietly : List MNode → ℕ → ℕ → Type 0
-IsReachedQuietly nodes m n = (ks : List (Step ℕ)) × Walk (node_moves nodes) m ks n × (bytes_of (code_of ks) ≡ [])
+IsReachedQuietly nodes m n = (ks : List (Step ℕ)) × Walk (node_moves nodes) m ks n
+    × (bytes_of (code_of ks) ≡ [])
 
 -- what is reached without a byte from the places that were marked is marked
 pub record IsClosureOf (nodes : List MNode) (old new : List ℕ) : Type 0 where
   pub room : length new ≡ length old
-  pub real : (n : ℕ) → has_mark new n ≡ true → (m : ℕ) × (has_mark old m ≡ true) × IsReachedQuietly nodes m n
+  pub real : (n : ℕ) → has_mark new n ≡ true → (m : ℕ) × (has_mark old m ≡ true)
+      × IsReachedQuietly nodes m n
   pub all : (m n : ℕ) → has_mark old m ≡ true → IsReachedQuietly nodes m n → has_mark new n ≡ true
 
 -- the marks are those of the places that are reached on w
 pub record IsMarkRow (g : Graph) (w : List ℕ) (row : List ℕ) : Type 0 where
-  pub real : (n : ℕ) → has_mark row n ≡ true → (ks : List (Step ℕ)) × Walk (node_moves g.nodes) g.start ks n × (bytes_of (code_of ks) ≡ w)
-  pub all : (n : ℕ) (ks : List (Step ℕ)) → Walk (node_moves g.nodes) g.start ks n → bytes_of (code_of ks) ≡ w → has_mark row n ≡ true
+  pub real : (n : ℕ) → has_mark row n ≡ true → (ks : List (Step ℕ))
+      × Walk (node_moves g.nodes) g.start ks n × (bytes_of (code_of ks) ≡ w)
+  pub all : (n : ℕ) (ks : List (Step ℕ)) → Walk (node_moves g.nodes) g.start ks n
+      → bytes_of (code_of ks) ≡ w → has_mark row n ≡ true

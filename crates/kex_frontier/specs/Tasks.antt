@@ -41,8 +41,10 @@ IsVisitBelow m Merge = Unit {0}
 
 module _ (moves : ℕ → Move ℕ) where
   -- the tasks lead from marks f and trees rs to marks g and trees out
-  abbrev pub RunsVisits : List VisitTask → List Bool → List (Option (Grown Symbol ℕ)) → List Bool → List (Option (Grown Symbol ℕ)) → Type 0
+  abbrev pub RunsVisits : List VisitTask → List Bool → List (Option (Grown Symbol ℕ)) → List Bool
+      → List (Option (Grown Symbol ℕ)) → Type 0
   RunsVisits [] f rs g out = (f ≡ g) × (rs ≡ out)
-  RunsVisits (Visit n ∷ js) f rs g out = (a : Option (Grown Symbol ℕ)) × (h : List Bool) × VisitsCodes moves f n a h × RunsVisits js h (a ∷ rs) g out
+  RunsVisits (Visit n ∷ js) f rs g out = (a : Option (Grown Symbol ℕ)) × (h : List Bool)
+      × VisitsCodes moves f n a h × RunsVisits js h (a ∷ rs) g out
   RunsVisits (Front s ∷ js) f rs g out = RunsVisits js f (with_front (s ∷ []) rs) g out
   RunsVisits (Merge ∷ js) f rs g out = RunsVisits js f (with_fork rs) g out

@@ -1,9 +1,13 @@
 // Trees side by side, as lists of their edges.
 
-ghost use Rattle.std.specs.Prelude.{◌≡◌, ℕ, List, [], ◌∷◌, ◌++◌, Some, None, Option, OnOk, IfOk, IfNone, reverse, get_or, drop, map, option_to_list, false};
+ghost use Rattle.std.specs.Prelude.{◌≡◌, ℕ, List, [], ◌∷◌, ◌++◌, Some, None, Option, OnOk, IfOk};
+ghost use Rattle.std.specs.Prelude.{IfNone, reverse, get_or, drop, map, option_to_list, false};
 ghost use Rattle.kex_code.specs.declared.symbol.Symbol.{Symbol};
 ghost use Rattle.kex_model.specs.Labelled.{Grown, tip, with_prefix};
-ghost use Rattle.kex_frontier.specs.Edges.{HasCodeTrees, as_is, no_code_trees, last_code_tree, with_front, with_fork, with_first_tree, IsTipIf, fork_if, is_there, root_label, bare_edges, with_label_turned};
+ghost use Rattle.kex_frontier.specs.Edges.{HasCodeTrees, as_is, no_code_trees, last_code_tree};
+ghost use Rattle.kex_frontier.specs.Edges.{with_front, with_fork, with_first_tree, IsTipIf};
+ghost use Rattle.kex_frontier.specs.Edges.{fork_if, is_there, root_label, bare_edges};
+ghost use Rattle.kex_frontier.specs.Edges.{with_label_turned};
 ghost use Rattle.kex_frontier.specs.Views.{edge_of, edges_at};
 
 use kex_code::code::Code;
@@ -20,7 +24,8 @@ pub struct TreeEdge {
     pub at: Option<u32>,
 }
 
-/// Trees side by side, of which each may be gone: all their edges in postorder, and which of them are there.
+/// Trees side by side, of which each may be gone: all their edges in postorder, and which of them
+/// are there.
 #[derive(Drop)]
 pub struct CodeForest {
     edges: Vec<TreeEdge>,
@@ -35,7 +40,8 @@ impl Model for CodeForest {
 
     ghost use Rattle.kex_frontier.specs.Views.{edge_of};
 
-    ghost view = { λ f. record { edges = map edge_of f.edges.items; there = reverse f.there.items } };
+    ghost view = { λ f.
+        record { edges = map edge_of f.edges.items; there = reverse f.there.items } };
 }
 
 // The longest label whose room is kept.
@@ -151,14 +157,17 @@ impl CodeForest {
 
     /// A tree that is gone.
     pub fn add_none(&mut self) -> Result<(), Memory>
-        ensures { OnOk result ((h : List Symbol → List Symbol) (rs : List (Option (Grown Symbol ℕ))) → HasCodeTrees h self.old rs → HasCodeTrees h self.new (None ∷ rs)) }
+        ensures { OnOk result ((h : List Symbol → List Symbol) (rs : List (Option (Grown Symbol ℕ)))
+            → HasCodeTrees h self.old rs → HasCodeTrees h self.new (None ∷ rs)) }
     {
         self.push_there(false)
     }
 
     /// A tree of one place.
     pub fn add_tip(&mut self, place: u32, spare: &mut Spare) -> Result<(), Memory>
-        ensures { OnOk result ((h : List Symbol → List Symbol) (rs : List (Option (Grown Symbol ℕ))) → h [] ≡ [] → HasCodeTrees h self.old rs → HasCodeTrees h self.new (Some (record { label = []; tree = tip place }) ∷ rs)) }
+        ensures { OnOk result ((h : List Symbol → List Symbol) (rs : List (Option (Grown Symbol ℕ)))
+            → h [] ≡ [] → HasCodeTrees h self.old rs
+            → HasCodeTrees h self.new (Some (record { label = []; tree = tip place }) ∷ rs)) }
     {
         let label = spare.take();
         let at = Some(place);
@@ -168,7 +177,8 @@ impl CodeForest {
 
     /// The last two trees as the sides of a fork; of one that is gone no fork is left.
     pub fn merge(&mut self, spare: &mut Spare) -> Result<(), Memory>
-        ensures { OnOk result ((h : List Symbol → List Symbol) (rs : List (Option (Grown Symbol ℕ))) → h [] ≡ [] → HasCodeTrees h self.old rs → HasCodeTrees h self.new (with_fork rs)) }
+        ensures { OnOk result ((h : List Symbol → List Symbol) (rs : List (Option (Grown Symbol ℕ)))
+            → h [] ≡ [] → HasCodeTrees h self.old rs → HasCodeTrees h self.new (with_fork rs)) }
     {
         let right = self.pop_there();
         let left = self.pop_there();
@@ -178,7 +188,8 @@ impl CodeForest {
 
     /// Of the last two trees, which are tips, the first that is there.
     pub fn choose(&mut self) -> Result<(), Memory>
-        ensures { OnOk result ((rs : List (Option (Grown Symbol ℕ))) → IsTipIf (last_code_tree rs) → HasCodeTrees as_is self.old rs → HasCodeTrees as_is self.new (with_first_tree rs)) }
+        ensures { OnOk result ((rs : List (Option (Grown Symbol ℕ))) → IsTipIf (last_code_tree rs)
+            → HasCodeTrees as_is self.old rs → HasCodeTrees as_is self.new (with_first_tree rs)) }
     {
         let right = self.pop_there();
         if self.is_last_there() {
@@ -193,7 +204,9 @@ impl CodeForest {
 
     /// A symbol in front of the last tree, where labels are turned.
     pub fn put_symbol(&mut self, symbol: Symbol) -> Result<(), Memory>
-        ensures { OnOk result ((rs : List (Option (Grown Symbol ℕ))) → HasCodeTrees reverse self.old rs → HasCodeTrees reverse self.new (with_front (symbol ∷ []) rs)) }
+        ensures { OnOk result ((rs : List (Option (Grown Symbol ℕ)))
+            → HasCodeTrees reverse self.old rs
+            → HasCodeTrees reverse self.new (with_front (symbol ∷ []) rs)) }
     {
         if self.is_last_there() {
             if let Some(mut edge) = self.pop_edge() {
@@ -205,10 +218,13 @@ impl CodeForest {
         Ok(())
     }
 
-    /// A label in front of the last tree. What stands in front of it already is put behind the label: of two labels that
-    /// a fork has parted the one below is copied, which is as long as the fork has lived.
+    /// A label in front of the last tree. What stands in front of it already is put behind the
+    /// label: of two labels that a fork has parted the one below is copied, which is as long as the
+    /// fork has lived.
     pub fn put_label(&mut self, label: Vec<Symbol>, spare: &mut Spare) -> Result<(), Memory>
-        ensures { OnOk result ((rs : List (Option (Grown Symbol ℕ))) → HasCodeTrees as_is self.old rs → HasCodeTrees as_is self.new (with_front label.items rs)) }
+        ensures { OnOk result ((rs : List (Option (Grown Symbol ℕ)))
+            → HasCodeTrees as_is self.old rs
+            → HasCodeTrees as_is self.new (with_front label.items rs)) }
     {
         if self.is_last_there() {
             if let Some(edge) = self.pop_edge() {
@@ -223,14 +239,17 @@ impl CodeForest {
         Ok(())
     }
 
-    /// The only tree of `fresh`, whose labels are turned, becomes the last tree here, behind a label.
+    /// The only tree of `fresh`, whose labels are turned, becomes the last tree here, behind a
+    /// label.
     pub fn graft(
         &mut self,
         fresh: &mut CodeForest,
         label: Vec<Symbol>,
         spare: &mut Spare,
     ) -> Result<(), Memory>
-        ensures { OnOk result ((a : Option (Grown Symbol ℕ)) (rs : List (Option (Grown Symbol ℕ))) → HasCodeTrees reverse fresh.old (a ∷ []) → HasCodeTrees as_is self.old rs → HasCodeTrees as_is self.new (with_prefix label.items a ∷ rs)) }
+        ensures { OnOk result ((a : Option (Grown Symbol ℕ)) (rs : List (Option (Grown Symbol ℕ)))
+            → HasCodeTrees reverse fresh.old (a ∷ []) → HasCodeTrees as_is self.old rs
+            → HasCodeTrees as_is self.new (with_prefix label.items a ∷ rs)) }
     {
         let there = fresh.is_last_there();
         self.move_turned(fresh)?;
@@ -239,18 +258,22 @@ impl CodeForest {
     }
 
     fn move_turned(&mut self, fresh: &mut CodeForest) -> Result<(), Memory>
-        ensures edges { OnOk result (self.new.edges ≡ self.old.edges ++ map with_label_turned fresh.old.edges) }
+        ensures edges { OnOk result (self.new.edges
+            ≡ self.old.edges ++ map with_label_turned fresh.old.edges) }
         ensures same { OnOk result (self.new.there ≡ self.old.there) }
     {
         move_turned(&mut fresh.edges, &mut self.edges)
     }
 
-    /// The only tree is moved to `tree`, but for its root's label, which goes to the end of `code`. Tells whether it is
-    /// there.
+    /// The only tree is moved to `tree`, but for its root's label, which goes to the end of `code`.
+    /// Tells whether it is there.
     pub fn settle(&mut self, tree: &mut Vec<TreeEdge>, code: &mut Code) -> Result<bool, Memory>
-        ensures there { IfOk result (λ there. (r : Option (Grown Symbol ℕ)) → HasCodeTrees as_is self.old (r ∷ []) → there ≡ is_there r) }
-        ensures code { OnOk result ((r : Option (Grown Symbol ℕ)) → HasCodeTrees as_is self.old (r ∷ []) → code.new ≡ code.old ++ root_label r) }
-        ensures tree { OnOk result ((r : Option (Grown Symbol ℕ)) → HasCodeTrees as_is self.old (r ∷ []) → edges_at tree.new.items ≡ bare_edges r) }
+        ensures there { IfOk result (λ there. (r : Option (Grown Symbol ℕ))
+            → HasCodeTrees as_is self.old (r ∷ []) → there ≡ is_there r) }
+        ensures code { OnOk result ((r : Option (Grown Symbol ℕ))
+            → HasCodeTrees as_is self.old (r ∷ []) → code.new ≡ code.old ++ root_label r) }
+        ensures tree { OnOk result ((r : Option (Grown Symbol ℕ))
+            → HasCodeTrees as_is self.old (r ∷ []) → edges_at tree.new.items ≡ bare_edges r) }
     {
         tree.clear();
         if self.is_last_there() {
@@ -268,7 +291,8 @@ impl CodeForest {
 
 // Knots go to the end of others, with their labels turned.
 fn move_turned(from: &mut Vec<TreeEdge>, to: &mut Vec<TreeEdge>) -> Result<(), Memory>
-    ensures { OnOk result (edges_at to.new.items ≡ edges_at to.old.items ++ map with_label_turned (edges_at from.old.items)) }
+    ensures { OnOk result (edges_at to.new.items
+        ≡ edges_at to.old.items ++ map with_label_turned (edges_at from.old.items)) }
 {
     from.reverse();
     while let Some(mut edge) = from.pop() {

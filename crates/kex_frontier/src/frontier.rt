@@ -1,6 +1,7 @@
 // The oracle of a stage.
 
-ghost use Rattle.std.specs.Prelude.{◌≡◌, ℕ, ◌++◌, ◌∷◌, [], List, IfOk, OnOk, OnErr, IsTrue, IsOk, true, false, length, ◌↔◌};
+ghost use Rattle.std.specs.Prelude.{◌≡◌, ℕ, ◌++◌, ◌∷◌, [], List, IfOk, OnOk, OnErr, IsTrue, IsOk};
+ghost use Rattle.std.specs.Prelude.{true, false, length, ◌↔◌};
 ghost use Rattle.kex_code.specs.declared.symbol.Symbol.{Symbol};
 ghost use Rattle.kex_model.specs.Labelled.{Labelled};
 ghost use Rattle.kex_machine.specs.Nodes.{node_moves, StaysWithin};
@@ -34,7 +35,8 @@ pub enum Ended {
     Cut,
 }
 
-/// The oracle of a stage's machine: the tree of the survivors of what it was fed, and what they agree on.
+/// The oracle of a stage's machine: the tree of the survivors of what it was fed, and what they
+/// agree on.
 #[derive(Drop)]
 pub struct Frontier<'m> {
     alloc: Global,
@@ -53,9 +55,16 @@ impl<'m> Model for Frontier<'m> {
 
     ghost Value = { Front };
 
-    ghost view = { λ f. record { machine = f.machine.now; untaken = f.untaken; edges = edges_at f.tree.items; ended = f.ended; usable = f.usable } };
+    ghost view = { λ f. record {
+      machine = f.machine.now;
+      untaken = f.untaken;
+      edges = edges_at f.tree.items;
+      ended = f.ended;
+      usable = f.usable;
+    } };
 
-    ghost invariant = { λ f. IsFrontierSound f.machine.now (edges_at f.tree.items) f.tools.marks f.usable };
+    ghost invariant = { λ f.
+        IsFrontierSound f.machine.now (edges_at f.tree.items) f.tools.marks f.usable };
 }
 
 fn answer_of(on: bool) -> Fed
@@ -70,7 +79,8 @@ fn end_of(parsed: bool) -> Ended
     if parsed { Ended::Parsed } else { Ended::Cut }
 }
 
-// A tree goes on with a byte; its root's label goes to the end of `code`. Tells whether a tree is left.
+// A tree goes on with a byte; its root's label goes to the end of `code`. Tells whether a tree is
+// left.
 fn go_on(
     nodes: &[MNode],
     tree: &mut Vec<TreeEdge>,
@@ -82,7 +92,9 @@ fn go_on(
     requires range { StaysWithin nodes.now }
     requires tree { IsTreeBelow (length nodes.now) (edges_at tree.old.items) }
     requires long { length tools.old.marks ≡ length nodes.now }
-    ensures went { IfOk result (λ there. (t : Labelled Symbol ℕ) → edges_at tree.old.items ≡ edges_of t [] → TreeWentOn (node_moves nodes.now) byte (length nodes.now) t there code.old code.new (edges_at tree.new.items)) }
+    ensures went { IfOk result (λ there. (t : Labelled Symbol ℕ)
+        → edges_at tree.old.items ≡ edges_of t [] → TreeWentOn (node_moves nodes.now) byte
+        (length nodes.now) t there code.old code.new (edges_at tree.new.items)) }
     ensures long { OnOk result (length tools.new.marks ≡ length nodes.now) }
 {
     tools.marks.clear();
@@ -125,7 +137,8 @@ impl<'m> Frontier<'m> {
     pub fn feed(&mut self, byte: u8) -> Result<Fed, Memory>
         requires usable { IsTrue self.old.usable }
         requires open { self.old.ended ≡ false }
-        ensures fed { IfOk result (λ answer. (w : List ℕ) (taken : List Symbol) → IsFed self.old w taken → IsFedBy answer self.new (w ++ byte ∷ []) taken) }
+        ensures fed { IfOk result (λ answer. (w : List ℕ) (taken : List Symbol)
+            → IsFed self.old w taken → IsFedBy answer self.new (w ++ byte ∷ []) taken) }
         ensures machine { self.new.machine ≡ self.old.machine }
         ensures open { self.new.ended ≡ false }
         ensures usable { IsTrue self.new.usable ↔ IsOk result }
@@ -147,11 +160,13 @@ impl<'m> Frontier<'m> {
         Ok(answer_of(on))
     }
 
-    /// Takes the end. `Parsed` exactly where the bytes have a parse; the rest of the greedy code can then be taken.
+    /// Takes the end. `Parsed` exactly where the bytes have a parse; the rest of the greedy code
+    /// can then be taken.
     pub fn end(&mut self) -> Result<Ended, Memory>
         requires usable { IsTrue self.old.usable }
         requires open { self.old.ended ≡ false }
-        ensures over { IfOk result (λ answer. (w : List ℕ) (taken : List Symbol) → IsFed self.old w taken → IsOver answer self.new w taken) }
+        ensures over { IfOk result (λ answer. (w : List ℕ) (taken : List Symbol)
+            → IsFed self.old w taken → IsOver answer self.new w taken) }
         ensures machine { self.new.machine ≡ self.old.machine }
         ensures ended { OnOk result (self.new.ended ≡ true) }
         ensures usable { IsTrue self.new.usable ↔ IsOk result }
@@ -178,9 +193,17 @@ impl<'m> Frontier<'m> {
     pub fn take_code(&mut self) -> Code
         requires { IsTrue self.old.usable }
         ensures value { result ≡ self.old.untaken }
-        ensures fed { (w : List ℕ) (taken : List Symbol) → IsFed self.old w taken → IsFed self.new w (taken ++ result) × IsSaid self.old.machine w (taken ++ result) }
-        ensures over { (answer : Ended) (w : List ℕ) (taken : List Symbol) → IsOver answer self.old w taken → IsOver answer self.new w (taken ++ result) }
-        ensures after { self.new ≡ record { machine = self.old.machine; untaken = []; edges = self.old.edges; ended = self.old.ended; usable = self.old.usable } }
+        ensures fed { (w : List ℕ) (taken : List Symbol) → IsFed self.old w taken
+            → IsFed self.new w (taken ++ result) × IsSaid self.old.machine w (taken ++ result) }
+        ensures over { (answer : Ended) (w : List ℕ) (taken : List Symbol)
+            → IsOver answer self.old w taken → IsOver answer self.new w (taken ++ result) }
+        ensures after { self.new ≡ record {
+          machine = self.old.machine;
+          untaken = [];
+          edges = self.old.edges;
+          ended = self.old.ended;
+          usable = self.old.usable;
+        } }
     {
         mem::replace(&mut self.untaken, Code::new(self.alloc))
     }

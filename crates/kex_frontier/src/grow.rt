@@ -1,11 +1,13 @@
 // How a tree goes on with a byte, and with the end.
 
-ghost use Rattle.std.specs.Prelude.{◌≡◌, ℕ, ◌<◌, ◌++◌, ◌∷◌, [], List, Option, Some, None, OnOk, IfOk, MatchOption, IfSome, length, replicate, false};
+ghost use Rattle.std.specs.Prelude.{◌≡◌, ℕ, ◌<◌, ◌++◌, ◌∷◌, [], List, Option, Some, None, OnOk};
+ghost use Rattle.std.specs.Prelude.{IfOk, MatchOption, IfSome, length, replicate, false};
 ghost use Rattle.kex_code.specs.declared.symbol.Symbol.{Symbol};
 ghost use Rattle.kex_model.specs.Labelled.{Labelled, Grown, tip, with_prefix};
 ghost use Rattle.kex_model.specs.Moves.{Allows, took};
 ghost use Rattle.kex_machine.specs.Nodes.{node_moves};
-ghost use Rattle.kex_frontier.specs.Edges.{HasCodeTrees, as_is, edges_of, last_code_tree, IsTipIf, IsTreeBelow, is_there, root_label, bare_edges};
+ghost use Rattle.kex_frontier.specs.Edges.{HasCodeTrees, as_is, edges_of, last_code_tree, IsTipIf};
+ghost use Rattle.kex_frontier.specs.Edges.{IsTreeBelow, is_there, root_label, bare_edges};
 ghost use Rattle.kex_frontier.specs.Views.{edges_at};
 ghost use Rattle.kex_machine.specs.Advancing.{first_accepting};
 ghost use Rattle.kex_frontier.specs.Going.{AdvancesCodes, trees_at_end};
@@ -20,7 +22,8 @@ use kex_machine::{MNode, node_at};
 // Where a byte leads from a place, if it leads on.
 fn next_by(nodes: &[MNode], place: u32, byte: u8) -> Option<u32>
     requires { place < length nodes.now }
-    ensures { MatchOption result ((t : ℕ) → Allows (node_moves nodes.now place) (took byte t) → ⊥) (λ t. Allows (node_moves nodes.now place) (took byte t)) }
+    ensures { MatchOption result ((t : ℕ) → Allows (node_moves nodes.now place) (took byte t)
+        → ⊥) (λ t. Allows (node_moves nodes.now place) (took byte t)) }
 {
     match node_at(nodes, place as usize) {
         MNode::Read(set, next) => { if set.has(byte) { Some(*next) } else { None } }
@@ -40,7 +43,10 @@ fn advance_tip(
     requires range { StaysWithin nodes.now }
     requires below { place < length nodes.now }
     requires long { length tools.old.marks ≡ length nodes.now }
-    ensures tree { OnOk result ((a : Option (Grown Symbol ℕ)) × AdvancesCodes (node_moves nodes.now) byte tools.old.marks (tip place) a tools.new.marks × ((rs : List (Option (Grown Symbol ℕ))) → HasCodeTrees as_is grown.old rs → HasCodeTrees as_is grown.new (with_prefix label.items a ∷ rs))) }
+    ensures tree { OnOk result ((a : Option (Grown Symbol ℕ))
+        × AdvancesCodes (node_moves nodes.now) byte tools.old.marks (tip place) a tools.new.marks
+        × ((rs : List (Option (Grown Symbol ℕ))) → HasCodeTrees as_is grown.old rs
+        → HasCodeTrees as_is grown.new (with_prefix label.items a ∷ rs))) }
     ensures long { OnOk result (length tools.new.marks ≡ length nodes.now) }
 {
     if let Some(next) = next_by(nodes, place, byte) {
@@ -66,7 +72,10 @@ pub fn advance(
     requires range { StaysWithin nodes.now }
     requires tree { IsTreeBelow (length nodes.now) (edges_at tree.old.items) }
     requires long { length tools.old.marks ≡ length nodes.now }
-    ensures tree { OnOk result ((t : Labelled Symbol ℕ) → edges_at tree.old.items ≡ edges_of t [] → (a : Option (Grown Symbol ℕ)) × AdvancesCodes (node_moves nodes.now) byte tools.old.marks t a tools.new.marks × HasCodeTrees as_is grown.new (a ∷ [])) }
+    ensures tree { OnOk result ((t : Labelled Symbol ℕ) → edges_at tree.old.items ≡ edges_of t []
+        → (a : Option (Grown Symbol ℕ))
+        × AdvancesCodes (node_moves nodes.now) byte tools.old.marks t a tools.new.marks
+        × HasCodeTrees as_is grown.new (a ∷ [])) }
     ensures long { OnOk result (length tools.new.marks ≡ length nodes.now) }
 {
     grown.clear();
@@ -91,7 +100,9 @@ fn end_edge(
     spare: &mut Spare,
 ) -> Result<(), Memory>
     requires { IfSome at (λ place. place < length nodes.now) }
-    ensures { OnOk result ((rs : List (Option (Grown Symbol ℕ))) → IsTipIf (last_code_tree rs) → HasCodeTrees as_is found.old rs → HasCodeTrees as_is found.new (trees_at_end (node_moves nodes.now) at rs)) }
+    ensures { OnOk result ((rs : List (Option (Grown Symbol ℕ))) → IsTipIf (last_code_tree rs)
+        → HasCodeTrees as_is found.old rs
+        → HasCodeTrees as_is found.new (trees_at_end (node_moves nodes.now) at rs)) }
 {
     match at {
         None => found.choose(),
@@ -110,7 +121,8 @@ pub fn accept(
     spare: &mut Spare,
 ) -> Result<(), Memory>
     requires { IsTreeBelow (length nodes.now) (edges_at tree.old.items) }
-    ensures { OnOk result ((t : Labelled Symbol ℕ) → edges_at tree.old.items ≡ edges_of t [] → HasCodeTrees as_is found.new (first_accepting (node_moves nodes.now) t ∷ [])) }
+    ensures { OnOk result ((t : Labelled Symbol ℕ) → edges_at tree.old.items ≡ edges_of t []
+        → HasCodeTrees as_is found.new (first_accepting (node_moves nodes.now) t ∷ [])) }
 {
     found.clear();
     tree.reverse();

@@ -1,11 +1,13 @@
 // Whether a text can be parsed, in memory that is made once.
 
-ghost use Rattle.std.specs.Prelude.{◌≡◌, ℕ, ◌<◌, ◌≤◌, ◌+◌, ◌/◌, ◌^◌, ◌++◌, ◌∷◌, [], List, length, IfOk, IsTrue, ◌↔◌, true, false};
+ghost use Rattle.std.specs.Prelude.{◌≡◌, ℕ, ◌<◌, ◌≤◌, ◌+◌, ◌/◌, ◌^◌, ◌++◌, ◌∷◌, [], List, length};
+ghost use Rattle.std.specs.Prelude.{IfOk, IsTrue, ◌↔◌, true, false};
 ghost use Rattle.kex_code.specs.Codes.{IsAmong};
 ghost use Rattle.kex_model.specs.Moves.{accept, quiet};
 ghost use Rattle.kex_machine.specs.Nodes.{Graph, StaysWithin, MoveBelow, move_of, node_moves};
 ghost use Rattle.kex_machine.specs.Answers.{HasRun};
-ghost use Rattle.kex_frontier.specs.Rows.{AlsoMarks, Opens, byte_ways, has_mark, IsClosureOf, IsMarkRow};
+ghost use Rattle.kex_frontier.specs.Rows.{AlsoMarks, Opens, byte_ways, has_mark, IsClosureOf};
+ghost use Rattle.kex_frontier.specs.Rows.{IsMarkRow};
 ghost use Rattle.kex_frontier.specs.Matchers.{IsAnswer, WasFed};
 
 use crate::row::Row;
@@ -24,7 +26,8 @@ pub enum Matched {
     Dead(u64),
 }
 
-// Marks a place; one that wasn't marked is fresh too. Gives the end, or what is past the place if that is more.
+// Marks a place; one that wasn't marked is fresh too. Gives the end, or what is past the place if
+// that is more.
 fn mark_way(row: &mut Row, fresh: &mut Row, place: u32, end: usize, count: usize) -> usize
     requires row { count / 64 < length row.old }
     requires fresh { count / 64 < length fresh.old }
@@ -43,14 +46,15 @@ fn mark_way(row: &mut Row, fresh: &mut Row, place: u32, end: usize, count: usize
     end
 }
 
-// Marks where a node leads without a byte, and what of that wasn't marked is fresh. No place from the end on that is given is fresh
-// by that.
+// Marks where a node leads without a byte, and what of that wasn't marked is fresh. No place from
+// the end on that is given is fresh by that.
 fn mark_ways(row: &mut Row, fresh: &mut Row, node: &MNode, end: usize, count: usize) -> usize
     requires row { count / 64 < length row.old }
     requires fresh { count / 64 < length fresh.old }
     requires within { MoveBelow count (move_of (Some node.now)) }
     requires end { end ≤ count }
-    ensures opens { Opens (quiet (move_of (Some node.now))) end row.old fresh.old row.new fresh.new result }
+    ensures opens { Opens
+        (quiet (move_of (Some node.now))) end row.old fresh.old row.new fresh.new result }
     ensures within { result ≤ count }
 {
     match node {
@@ -65,8 +69,9 @@ fn mark_ways(row: &mut Row, fresh: &mut Row, node: &MNode, end: usize, count: us
     }
 }
 
-// Marks what is reached without a byte from the places that are marked. Each of these is gone through once, whatever loops there
-// are: those that still have to be stand in the second row, which is only room.
+// Marks what is reached without a byte from the places that are marked. Each of these is gone
+// through once, whatever loops there are: those that still have to be stand in the second row,
+// which is only room.
 fn close(nodes: &[MNode], row: &mut Row, fresh: &mut Row)
     requires row { length nodes.now / 64 < length row.old }
     requires fresh { length fresh.old ≡ length row.old }
@@ -102,7 +107,8 @@ fn step(nodes: &[MNode], byte: u8, now: &mut Row, next: &mut Row)
     requires within { StaysWithin nodes.now }
     ensures now { length now.new ≡ length now.old }
     ensures next { length next.new ≡ length next.old }
-    ensures row { (g : Graph) (w : List ℕ) → g.nodes ≡ nodes.now → g.start < length nodes.now → IsMarkRow g w now.old → IsMarkRow g (w ++ byte ∷ []) next.new }
+    ensures row { (g : Graph) (w : List ℕ) → g.nodes ≡ nodes.now → g.start < length nodes.now
+        → IsMarkRow g w now.old → IsMarkRow g (w ++ byte ∷ []) next.new }
 {
     next.clear();
     let mut left = nodes.len();
@@ -116,7 +122,8 @@ fn step(nodes: &[MNode], byte: u8, now: &mut Row, next: &mut Row)
 // Whether a marked place is the end.
 fn accepts(nodes: &[MNode], row: &Row) -> bool
     requires { length nodes.now / 64 < length row.now }
-    ensures { IsTrue result ↔ ((n : ℕ) × (n < length nodes.now) × (has_mark row.now n ≡ true) × (node_moves nodes.now n ≡ accept)) }
+    ensures { IsTrue result ↔ ((n : ℕ) × (n < length nodes.now) × (has_mark row.now n ≡ true)
+        × (node_moves nodes.now n ≡ accept)) }
 {
     let mut left = nodes.len();
     'places: while let Some(n) = row.highest_below(left) {
@@ -128,8 +135,8 @@ fn accepts(nodes: &[MNode], row: &Row) -> bool
     false
 }
 
-/// Whether texts are parsed by a stage, and no more: it keeps which places the bytes lead to, in two rows of bits that it
-/// is made with.
+/// Whether texts are parsed by a stage, and no more: it keeps which places the bytes lead to, in
+/// two rows of bits that it is made with.
 ///
 /// It stores no history: `WasFed` relates it to the bytes that it was fed.
 #[derive(Drop)]
@@ -147,9 +154,11 @@ impl<'m> Model for Matcher<'m> {
 
     ghost Value = { Match };
 
-    ghost view = { λ m. record { machine = m.machine.now; row = m.row; good = m.good; dead = m.dead } };
+    ghost view = { λ m.
+        record { machine = m.machine.now; row = m.row; good = m.good; dead = m.dead } };
 
-    ghost invariant = { λ m. (length m.machine.now.nodes / 64 < length m.row) × (length m.spare ≡ length m.row) };
+    ghost invariant = { λ m. (length m.machine.now.nodes / 64 < length m.row)
+        × (length m.spare ≡ length m.row) };
 }
 
 impl<'m> Matcher<'m> {
@@ -193,13 +202,15 @@ impl<'m> Matcher<'m> {
         }
     }
 
-    /// Takes a piece of the text. `Dead` exactly where no parse begins with all bytes, and then for good.
+    /// Takes a piece of the text. `Dead` exactly where no parse begins with all bytes, and then for
+    /// good.
     ///
-    /// A byte costs time in the words of a row, and in the places that are marked. Where a step without a byte leads to a higher
-    /// place, the words between are looked through again.
+    /// A byte costs time in the words of a row, and in the places that are marked. Where a step
+    /// without a byte leads to a higher place, the words between are looked through again.
     pub fn feed(&mut self, piece: &[u8]) -> Matched
         requires { self.old.good + length piece.now < 2 ^ 64 }
-        ensures fed { (w : List ℕ) → WasFed self.old w → WasFed self.new (w ++ piece.now) × IsAnswer result self.new.machine (w ++ piece.now) }
+        ensures fed { (w : List ℕ) → WasFed self.old w → WasFed self.new (w ++ piece.now)
+            × IsAnswer result self.new.machine (w ++ piece.now) }
         ensures machine { self.new.machine ≡ self.old.machine }
         ensures count { self.new.good ≤ self.old.good + length piece.now }
     {

@@ -1,6 +1,7 @@
 // Rows of bits, one a place.
 
-ghost use Rattle.std.specs.Prelude.{◌≡◌, ℕ, ◌<◌, ◌+◌, ◌*◌, ◌/◌, ◌∷◌, [], length, IfOk, IfSome, IfNone, false};
+ghost use Rattle.std.specs.Prelude.{◌≡◌, ℕ, ◌<◌, ◌+◌, ◌*◌, ◌/◌, ◌∷◌, [], length, IfOk, IfSome};
+ghost use Rattle.std.specs.Prelude.{IfNone, false};
 ghost use Rattle.kex_frontier.specs.Rows.{AlsoMarks, Unmarks, has_mark, IsHighestBelow, IsTop};
 
 use kex_code::memory::Memory;

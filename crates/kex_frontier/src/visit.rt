@@ -1,6 +1,7 @@
 // The places that are reached from a place without a byte, as a tree.
 
-ghost use Rattle.std.specs.Prelude.{◌≡◌, ℕ, ◌<◌, ◌++◌, ◌∷◌, [], List, Option, Some, IfOk, OnOk, replicate, reverse, length, get_or, set, false, true};
+ghost use Rattle.std.specs.Prelude.{◌≡◌, ℕ, ◌<◌, ◌++◌, ◌∷◌, [], List, Option, Some, IfOk, OnOk};
+ghost use Rattle.std.specs.Prelude.{replicate, reverse, length, get_or, set, false, true};
 ghost use Rattle.kex_code.specs.declared.symbol.Symbol.{Symbol};
 ghost use Rattle.kex_model.specs.Labelled.{Grown};
 ghost use Rattle.kex_machine.specs.Nodes.{node_moves, StaysWithin};
@@ -15,7 +16,8 @@ use kex_machine::marks::Marks;
 use kex_machine::{MNode, node_at};
 use std::alloc::Global;
 
-/// What is still to be done: a place is to be visited, a symbol put in front of the last tree, the last two trees merged.
+/// What is still to be done: a place is to be visited, a symbol put in front of the last tree, the
+/// last two trees merged.
 #[derive(Clone, Copy, Debug, PartialEq, Eq)]
 pub enum VisitTask {
     Visit(u32),
@@ -23,7 +25,8 @@ pub enum VisitTask {
     Merge,
 }
 
-/// What walks use again and again. The labels in `fresh` are turned: what is put in front stands at their ends.
+/// What walks use again and again. The labels in `fresh` are turned: what is put in front stands at
+/// their ends.
 #[derive(Drop)]
 pub struct VisitTools {
     pub marks: Marks,
@@ -56,8 +59,11 @@ fn enter(
     spare: &mut Spare,
 ) -> Result<(), Memory>
     requires { n < length nodes.now }
-    ensures tasks { OnOk result (tasks.new.items ≡ tasks.old.items ++ visits_from (node_moves nodes.now n)) }
-    ensures trees { OnOk result ((rs : List (Option (Grown Symbol ℕ))) → HasCodeTrees reverse fresh.old rs → HasCodeTrees reverse fresh.new (code_leaf_at (node_moves nodes.now n) n ++ rs)) }
+    ensures tasks { OnOk result (tasks.new.items
+        ≡ tasks.old.items ++ visits_from (node_moves nodes.now n)) }
+    ensures trees { OnOk result ((rs : List (Option (Grown Symbol ℕ)))
+        → HasCodeTrees reverse fresh.old rs
+        → HasCodeTrees reverse fresh.new (code_leaf_at (node_moves nodes.now n) n ++ rs)) }
 {
     match node_at(nodes, n as usize) {
         MNode::Accept => fresh.add_tip(n, spare),
@@ -98,8 +104,11 @@ fn meet(
     requires below { n < length nodes.now }
     requires long { length marks.old ≡ length nodes.now }
     ensures marks { OnOk result (marks.new ≡ set marks.old n true) }
-    ensures tasks { OnOk result (tasks.new.items ≡ tasks.old.items ++ tasks_at (get_or marks.old n false) (node_moves nodes.now n)) }
-    ensures trees { OnOk result ((rs : List (Option (Grown Symbol ℕ))) → HasCodeTrees reverse fresh.old rs → HasCodeTrees reverse fresh.new (trees_at (get_or marks.old n false) (node_moves nodes.now n) n ++ rs)) }
+    ensures tasks { OnOk result (tasks.new.items
+        ≡ tasks.old.items ++ tasks_at (get_or marks.old n false) (node_moves nodes.now n)) }
+    ensures trees { OnOk result ((rs : List (Option (Grown Symbol ℕ)))
+        → HasCodeTrees reverse fresh.old rs → HasCodeTrees reverse fresh.new
+        (trees_at (get_or marks.old n false) (node_moves nodes.now n) n ++ rs)) }
 {
     if marks.mark(n) {
         fresh.add_none()
@@ -108,12 +117,14 @@ fn meet(
     }
 }
 
-/// The tree of the waiting places that are reached from a place without a byte and weren't met before.
+/// The tree of the waiting places that are reached from a place without a byte and weren't met
+/// before.
 pub fn walk(nodes: &[MNode], first: u32, tools: &mut VisitTools) -> Result<(), Memory>
     requires range { StaysWithin nodes.now }
     requires first { first < length nodes.now }
     requires long { length tools.old.marks ≡ length nodes.now }
-    ensures tree { OnOk result ((a : Option (Grown Symbol ℕ)) × HasCodeTrees reverse tools.new.fresh (a ∷ []) × VisitsCodes (node_moves nodes.now) tools.old.marks first a tools.new.marks) }
+    ensures tree { OnOk result ((a : Option (Grown Symbol ℕ)) × HasCodeTrees reverse tools.new.fresh
+        (a ∷ []) × VisitsCodes (node_moves nodes.now) tools.old.marks first a tools.new.marks) }
     ensures long { OnOk result (length tools.new.marks ≡ length nodes.now) }
 {
     let VisitTools {

@@ -2,7 +2,8 @@
 use Rattle.kex_desugar.specs.declared.refusal.DesugarRefusal.{DesugarRefusal}
 use Rattle.kex_trim.specs.declared.TrimRefusal.{TrimRefusal}
 use Rattle.kex_lowering.specs.declared.refusal.StageRefusal.{StageRefusal}
-use Rattle.kex_lowering.specs.declared.refusal.StageRefusal.TheVariants.{TooManyPlaces, NoText, Memory}
+use Rattle.kex_lowering.specs.declared.refusal.StageRefusal.TheVariants.{TooManyPlaces, NoText}
+use Rattle.kex_lowering.specs.declared.refusal.StageRefusal.TheVariants.{Memory}
 use Rattle.kex_desugar.specs.declared.refusal.DesugarRefusal.TheVariants as desugar
 use Rattle.kex_trim.specs.declared.TrimRefusal.TheVariants as trim
 

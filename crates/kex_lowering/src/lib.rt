@@ -1,7 +1,8 @@
 //! From a stage of a program to its trimmed machine, which answers as the stage does.
 //!
-//! Stands on the passes from places to nodes and from nodes to those that lead to the end. The contract of
-//! `stage_machine` is the crate's: its refusals are said of the stage's places, and so is what its machine answers.
+//! Stands on the passes from places to nodes and from nodes to those that lead to the end. The
+//! contract of `stage_machine` is the crate's: its refusals are said of the stage's places, and so
+//! is what its machine answers.
 #![tactic(auto)]
 
 ghost use Rattle.std.specs.Prelude.{◌≡◌, IfOk, OnOk, IfErr};
@@ -27,7 +28,8 @@ pub struct StageMachine {
 
 /// The machine of a stage that begins at node `root`, without dead ends.
 ///
-/// It is refused for its places before it is for want of a text. The time is linear in the count of places.
+/// It is refused for its places before it is for want of a text. The time is linear in the count of
+/// places.
 pub fn stage_machine(
     alloc: Global,
     program: &Program,

@@ -1,4 +1,5 @@
--- A stage's answer over a machine's nodes: a tree is a run to the end, and it means what its steps do. A text that has a run has a parse.
+-- A stage's answer over a machine's nodes: a tree is a run to the end, and it means what its steps
+-- do. A text that has a run has a parse.
 use Rattle.std.specs.Prelude.{◌≡◌, ℕ, Bool, List, [], replicate}
 use Rattle.kex_code.specs.declared.symbol.Symbol.{Symbol}
 use Rattle.kex_code.specs.Codes.{bytes_of, Begins, AtMost}
@@ -27,7 +28,8 @@ module _ (g : Graph) where
   abbrev pub left_by : List (Step ℕ) → List Symbol → ActingState
   left_by ks c = after_steps ks c (start_state g.registers)
 
-  -- the text that is said on w: what a run on a text that begins with w does with the symbols that are agreed
+  -- the text that is said on w: what a run on a text that begins with w does with the symbols that
+  -- are agreed
   pub record SaysByRun (w text : List ℕ) : Type 0 where
     pub agreed : List Symbol
     pub is_agreed : Agreed (node_moves g.nodes) g.start w agreed

@@ -1,8 +1,11 @@
 -- A machine's nodes, as what there is to do at a number.
-use Rattle.std.specs.Prelude.{◌≡◌, ℕ, Bool, List, [], ◌∷◌, Option, Some, None, slice_get, ◌<◌, All, length}
+use Rattle.std.specs.Prelude.{◌≡◌, ℕ, Bool, List, [], ◌∷◌, Option, Some, None, slice_get, ◌<◌, All}
+use Rattle.std.specs.Prelude.{length}
 use Rattle.kex_byteset.specs.Classes.{IsRefinedBy}
 use Rattle.kex_model.specs.Programs.{HasPieces}
-use Rattle.kex_model.specs.Moves.{Move, accept, read, choose, forced, go, Side, to_left, to_right, nothing, append, open_buffer, drop_buffer, into, write, set_to, add_to, Step, code_of, Walk}
+use Rattle.kex_model.specs.Moves.{Move, accept, read, choose, forced, go, Side, to_left, to_right}
+use Rattle.kex_model.specs.Moves.{nothing, append, open_buffer, drop_buffer, into, write, set_to}
+use Rattle.kex_model.specs.Moves.{add_to, Step, code_of, Walk}
 use Rattle.kex_model.specs.Survivors.{LeadsToEnd}
 use Rattle.kex_machine.specs.declared.Bit.{Bit}
 use Rattle.kex_machine.specs.declared.Bit.TheVariants.{L, R}
@@ -84,9 +87,11 @@ pub record Graph : Type 0 where
 
 -- some node is reached again from itself without a symbol
 abbrev pub HasMuteLoop : List MNode → Type 0
-HasMuteLoop nodes = (n : ℕ) × (k : Step ℕ) × (ks : List (Step ℕ)) × Walk (node_moves nodes) n (k ∷ ks) n × (code_of (k ∷ ks) ≡ [])
+HasMuteLoop nodes = (n : ℕ) × (k : Step ℕ) × (ks : List (Step ℕ))
+    × Walk (node_moves nodes) n (k ∷ ks) n × (code_of (k ∷ ks) ≡ [])
 
--- the end is reached from every node, and every loop without a byte has a choice or a forced side in it
+-- the end is reached from every node, and every loop without a byte has a choice or a forced side
+-- in it
 pub record IsTrimmed (g : Graph) : Type 0 where
   pub ends : (n : ℕ) → n < length g.nodes → LeadsToEnd (node_moves g.nodes) n
   pub no_mute_loop : HasMuteLoop g.nodes → ⊥

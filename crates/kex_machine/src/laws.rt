@@ -2,9 +2,11 @@
 
 ghost use Rattle.std.specs.Prelude.{ℕ, List};
 ghost use Rattle.kex_machine.specs.Nodes.{Graph};
-ghost use Rattle.kex_machine.specs.Laws.{MachineAnswersStand, RunsGrow, OneLeft, OneRunPath, RunsHavePaths};
+ghost use Rattle.kex_machine.specs.Laws.{MachineAnswersStand, RunsGrow, OneLeft, OneRunPath};
+ghost use Rattle.kex_machine.specs.Laws.{RunsHavePaths};
 
-/// Of two paths on one text neither code is a proper prefix of the other, and equal codes are of equal paths.
+/// Of two paths on one text neither code is a proper prefix of the other, and equal codes are of
+/// equal paths.
 pub fn one_path()
     ensures { (g : Graph) → OneRunPath g }
 {}

@@ -1,7 +1,8 @@
 //! Machines: a stage's places as numbered nodes.
 //!
-//! Stands on byte sets, codes and the model's moves. A `Machine` keeps that all its numbers are in range; a `Trimmed`
-//! keeps that the end is reached from every node and that every loop without a byte makes a choice.
+//! Stands on byte sets, codes and the model's moves. A `Machine` keeps that all its numbers are in
+//! range; a `Trimmed` keeps that the end is reached from every node and that every loop without a
+//! byte makes a choice.
 #![tactic(auto)]
 
 pub mod laws;
@@ -9,7 +10,8 @@ pub mod marks;
 
 ghost use Rattle.std.specs.Prelude.{◌≡◌, ℕ, ◌<◌, [], ◌∷◌, ◌++◌, List, Some, length};
 ghost use Rattle.kex_model.specs.Moves.{symbol_of};
-ghost use Rattle.kex_machine.specs.Nodes.{Graph, IsMachineInRange, IsTrimmed, HasClasses, side_of, move_of, node_moves};
+ghost use Rattle.kex_machine.specs.Nodes.{Graph, IsMachineInRange, IsTrimmed, HasClasses, side_of};
+ghost use Rattle.kex_machine.specs.Nodes.{move_of, node_moves};
 
 use kex_byteset::{ByteSet, Partition};
 use kex_code::piece::{Bytes, Pieces};
@@ -46,8 +48,8 @@ impl From<Bit> for Symbol {
     }
 }
 
-/// A machine's node, with the numbers of those where it leads. `Forced` gives the symbol of a choice that trimming has
-/// left one side of.
+/// A machine's node, with the numbers of those where it leads. `Forced` gives the symbol of a
+/// choice that trimming has left one side of.
 #[derive(Drop)]
 pub enum MNode {
     Accept,
@@ -80,7 +82,12 @@ impl Model for Machine {
 
     ghost Value = { Graph };
 
-    ghost view = { λ m. record { start = m.start; nodes = m.nodes.items; stage = m.stage; registers = m.registers } };
+    ghost view = { λ m. record {
+      start = m.start;
+      nodes = m.nodes.items;
+      stage = m.stage;
+      registers = m.registers;
+    } };
 
     ghost invariant = { λ m. IsMachineInRange m.start m.nodes.items m.registers };
 }
@@ -89,7 +96,8 @@ impl Machine {
     /// The machine of these nodes.
     pub fn new(start: u32, nodes: Vec<MNode>, stage: u32, registers: u32) -> Machine
         requires { IsMachineInRange start nodes.items registers }
-        ensures { result ≡ record { start = start; nodes = nodes.items; stage = stage; registers = registers } }
+        ensures { result
+            ≡ record { start = start; nodes = nodes.items; stage = stage; registers = registers } }
     {
         Machine {
             start,
@@ -136,8 +144,8 @@ impl Machine {
     }
 }
 
-/// A machine from whose every node the end is reached, so that every loop without a byte makes a choice, and the classes of the
-/// bytes that no node tells apart.
+/// A machine from whose every node the end is reached, so that every loop without a byte makes a
+/// choice, and the classes of the bytes that no node tells apart.
 #[derive(Drop)]
 pub struct Trimmed {
     machine: Machine,
@@ -156,7 +164,8 @@ impl Model for Trimmed {
 
 // Refines classes by what one node more reads.
 fn refine_by(node: &MNode, classes: &mut Partition)
-    ensures { (nodes : List MNode) → HasClasses nodes classes.old → HasClasses (nodes ++ node.now ∷ []) classes.new }
+    ensures { (nodes : List MNode) → HasClasses nodes classes.old
+        → HasClasses (nodes ++ node.now ∷ []) classes.new }
 {
     if let MNode::Read(set, _) = node {
         classes.refine(set);

@@ -6,7 +6,8 @@ use kex_code::memory::Memory;
 use std::alloc::Global;
 use std::marker::Model;
 
-/// A mark for each place: it is marked if its stamp is the current one. So taking all marks away is one step.
+/// A mark for each place: it is marked if its stamp is the current one. So taking all marks away is
+/// one step.
 #[derive(Drop)]
 pub struct Marks {
     stamps: Vec<u64>,
@@ -32,7 +33,8 @@ impl Marks {
         Ok(Marks { stamps, current: 1 })
     }
 
-    /// Takes all marks away. Where stamps come to their end they start anew, which is once in 2^64 - 2 times.
+    /// Takes all marks away. Where stamps come to their end they start anew, which is once in
+    /// 2^64 - 2 times.
     pub fn clear(&mut self)
         ensures { self.new ≡ replicate (length self.old) false }
     {

@@ -1,5 +1,6 @@
 -- A stage's answer, a pipeline's, and what a schedule leaves.
-use Rattle.std.specs.Prelude.{◌≡◌, ℕ, suc, ◌<◌, ◌≤◌, Bool, true, false, List, [], ◌∷◌, ◌++◌, ◌⊎◌, Option, Some, None, length, take, replicate}
+use Rattle.std.specs.Prelude.{◌≡◌, ℕ, suc, ◌<◌, ◌≤◌, Bool, true, false, List, [], ◌∷◌, ◌++◌, ◌⊎◌}
+use Rattle.std.specs.Prelude.{Option, Some, None, length, take, replicate}
 use Rattle.kex_model.specs.Programs.{Grammar}
 use Rattle.kex_code.specs.declared.symbol.Symbol.{Symbol}
 use Rattle.kex_code.specs.Codes.{Begins, Before}
@@ -16,7 +17,8 @@ module _ (P : Grammar) (root : ℕ) where
   abbrev pub code_at : Tree → List Symbol
   code_at t = code P (kind_at P root) t
 
-  -- t is a parse of w: a tree of w whose steps form a path, so they enter no place twice without a byte in between
+  -- t is a parse of w: a tree of w whose steps form a path, so they enter no place twice without a
+  -- byte in between
   pub record IsParse (t : Tree) (w : List ℕ) : Type 0 where
     pub derives : Parses P root t w
     pub path : IsPath (moves P) (start_of P root) w [] (steps_of P root (kind_at P root) t [])
@@ -31,9 +33,11 @@ module _ (P : Grammar) (root : ℕ) where
 
   -- the text that w means
   abbrev pub Means : List ℕ → List ℕ → Type 0
-  Means w text = (t : Tree) × GreedyParse w t × (text ≡ (meaning P (kind_at P root) t (empty P)).bytes)
+  Means w text = (t : Tree) × GreedyParse w t
+      × (text ≡ (meaning P (kind_at P root) t (empty P)).bytes)
 
-  -- the text that is said on w: what any tree of a text that begins with w does with the symbols that are agreed
+  -- the text that is said on w: what any tree of a text that begins with w does with the symbols
+  -- that are agreed
   pub record Says (w text : List ℕ) : Type 0 where
     pub agreed : List Symbol
     pub is_agreed : Agreed (moves P) (start_of P root) w agreed
@@ -61,10 +65,12 @@ pub record Answer : Type 0 where
   pub stop : Option Stop
 
 abbrev pub stopped_answer : List ℕ → ℕ → Why → Answer
-stopped_answer text at why = record { text = text; ended = false; stop = Some (record { at = at; why = why }) }
+stopped_answer text at why =
+    record { text = text; ended = false; stop = Some (record { at = at; why = why }) }
 
 -- a stage by what is viable, what is said, what has a parse and what is meant, over places or nodes
-module _ (CanGoOn : List ℕ → Type 0) (Says' : List ℕ → List ℕ → Type 0) (Parsed : List ℕ → Type 0) (Means' : List ℕ → List ℕ → Type 0) where
+module _ (CanGoOn : List ℕ → Type 0) (Says' : List ℕ → List ℕ → Type 0) (Parsed : List ℕ → Type 0)
+    (Means' : List ℕ → List ℕ → Type 0) where
   -- the longest front of a text from which it can go on
   pub record LongestGood (w v : List ℕ) : Type 0 where
     pub front : Begins w v
@@ -73,11 +79,17 @@ module _ (CanGoOn : List ℕ → Type 0) (Says' : List ℕ → List ℕ → Type
 
   -- the answer on a text that is ended (true) or open, within a limit
   pub data Answers (limit : ℕ) : List ℕ → Bool → Answer → Type 0 where
-    bad_byte : {w : List ℕ} {e : Bool} {text : List ℕ} (v : List ℕ) → (CanGoOn (take limit w) → ⊥) → LongestGood (take limit w) v → Says' v text → Answers limit w e (stopped_answer text (length v) at_byte)
-    too_long : {w : List ℕ} {e : Bool} {text : List ℕ} → limit < length w → CanGoOn (take limit w) → Says' (take limit w) text → Answers limit w e (stopped_answer text limit at_limit)
-    cut_off : {w text : List ℕ} → length w ≤ limit → CanGoOn w → (Parsed w → ⊥) → Says' w text → Answers limit w true (stopped_answer text (length w) at_end)
-    whole : {w text : List ℕ} → length w ≤ limit → Means' w text → Answers limit w true (record { text = text; ended = true; stop = None })
-    still_open : {w text : List ℕ} → length w ≤ limit → CanGoOn w → Says' w text → Answers limit w false (record { text = text; ended = false; stop = None })
+    bad_byte : {w : List ℕ} {e : Bool} {text : List ℕ} (v : List ℕ) → (CanGoOn (take limit w) → ⊥)
+        → LongestGood (take limit w) v → Says' v text
+        → Answers limit w e (stopped_answer text (length v) at_byte)
+    too_long : {w : List ℕ} {e : Bool} {text : List ℕ} → limit < length w → CanGoOn (take limit w)
+        → Says' (take limit w) text → Answers limit w e (stopped_answer text limit at_limit)
+    cut_off : {w text : List ℕ} → length w ≤ limit → CanGoOn w → (Parsed w → ⊥) → Says' w text
+        → Answers limit w true (stopped_answer text (length w) at_end)
+    whole : {w text : List ℕ} → length w ≤ limit → Means' w text
+        → Answers limit w true (record { text = text; ended = true; stop = None })
+    still_open : {w text : List ℕ} → length w ≤ limit → CanGoOn w → Says' w text
+        → Answers limit w false (record { text = text; ended = false; stop = None })
 
 pub record Report : Type 0 where
   pub stage : ℕ
@@ -93,4 +105,5 @@ module _ {T : Type 0} (Gives : T → List ℕ → Bool → Answer → Type 0) wh
   -- the text and the report of stages from number i on
   abbrev pub Pipeline : ℕ → List T → List ℕ → Bool → List ℕ → Option Report → Type 0
   Pipeline i [] w e text report = (text ≡ w) × (report ≡ None)
-  Pipeline i (s ∷ ss) w e text report = (a : Answer) × (rest : Option Report) × Gives s w e a × Pipeline (suc i) ss a.text a.ended text rest × (report ≡ later_report i a.stop rest)
+  Pipeline i (s ∷ ss) w e text report = (a : Answer) × (rest : Option Report) × Gives s w e a
+      × Pipeline (suc i) ss a.text a.ended text rest × (report ≡ later_report i a.stop rest)

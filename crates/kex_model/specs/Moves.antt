@@ -58,7 +58,8 @@ pub data Step (S : Type 0) : Type 0 where
 
 -- the move allows the step
 pub data Allows {S : Type 0} : Move S → Step S → Type 0 where
-  reads : {set : List Bool} {b : ℕ} {s : S} → IsTrue (get_or set b false) → Allows (read set s) (took b s)
+  reads : {set : List Bool} {b : ℕ} {s : S} → IsTrue (get_or set b false)
+      → Allows (read set s) (took b s)
   goes_left : {l r : S} → Allows (choose l r) (chose to_left l)
   goes_right : {l r : S} → Allows (choose l r) (chose to_right r)
   goes_forced : {x : Side} {s : S} → Allows (forced x s) (chose x s)

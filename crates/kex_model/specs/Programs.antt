@@ -4,7 +4,8 @@ use Rattle.kex_code.specs.Codes.{IsAmong}
 use Rattle.kex_code.specs.declared.piece.Piece.{Piece}
 use Rattle.kex_code.specs.declared.piece.Piece.TheVariants.{Register}
 use Rattle.kex_model.specs.declared.program.Kind.{Kind}
-use Rattle.kex_model.specs.declared.program.Kind.TheVariants.{Call, Seq, Alt, Rep, Mute, At, Write, Set, Add}
+use Rattle.kex_model.specs.declared.program.Kind.TheVariants.{Call, Seq, Alt, Rep, Mute, At, Write}
+use Rattle.kex_model.specs.declared.program.Kind.TheVariants.{Set, Add}
 use Rattle.kex_model.specs.declared.program.Node.{Node}
 use Rattle.kex_model.specs.declared.program.Definition.{Definition}
 use Rattle.kex_model.specs.declared.program.Start.{Start}
@@ -47,9 +48,11 @@ HasNames names registers (Add r parts) = (r < registers) × HasPieces registers 
 HasNames names registers _ = Unit {0}
 
 -- all numbers are those of names, nodes and registers
-pub record IsInRange (nodes : List Node) (names : List (List ℕ)) (definitions : List Definition) (stages : List Start) (registers : ℕ) : Type 0 where
+pub record IsInRange (nodes : List Node) (names : List (List ℕ)) (definitions : List Definition)
+    (stages : List Start) (registers : ℕ) : Type 0 where
   pub named : (n : Node) → IsAmong nodes n → HasNames (length names) registers n.kind
-  pub defined : (d : Definition) → IsAmong definitions d → (d.name < length names) × (d.root < length nodes)
+  pub defined : (d : Definition) → IsAmong definitions d → (d.name < length names)
+      × (d.root < length nodes)
   pub started : (s : Start) → IsAmong stages s → s.name < length names
 
 pub record IsGrammar (P : Grammar) : Type 0 where

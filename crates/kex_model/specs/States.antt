@@ -1,4 +1,5 @@
--- A stage's states: the shapes of its viable texts (the path trees of the Kleenex paper, POPL 2016, with the codes left out).
+-- A stage's states: the shapes of its viable texts (the path trees of the Kleenex paper, POPL 2016,
+-- with the codes left out).
 use Rattle.std.specs.Prelude.{◌≡◌, ℕ, ◌<◌, List, [], ◌∷◌, length}
 use Rattle.kex_code.specs.Codes.{IsAmong}
 use Rattle.kex_model.specs.Labelled.{Shape}
@@ -17,7 +18,8 @@ module _ {S : Type 0} (moves : S → Move S) (start : S) where
 
   -- there are more than n states
   abbrev pub HasMoreStates : ℕ → Type 0
-  HasMoreStates n = (xs : List (Shape S)) × (n < length xs) × AllDifferent xs × ((s : Shape S) → IsAmong xs s → IsState s)
+  HasMoreStates n = (xs : List (Shape S)) × (n < length xs) × AllDifferent xs
+      × ((s : Shape S) → IsAmong xs s → IsState s)
 
   -- there are exactly n states
   pub record HasStates (n : ℕ) : Type 0 where

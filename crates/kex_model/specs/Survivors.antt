@@ -64,7 +64,8 @@ module _ {S : Type 0} (moves : S → Move S) (start : S) where
   pub record Agreed (w : List ℕ) (c : List Symbol) : Type 0 where
     pub viable : IsViable w
     pub common : (p : S) (d : List Symbol) → Survives w p d → Begins d c
-    pub longest : (c' : List Symbol) → ((p : S) (d : List Symbol) → Survives w p d → Begins d c') → Begins c c'
+    pub longest : (c' : List Symbol) → ((p : S) (d : List Symbol) → Survives w p d → Begins d c')
+        → Begins c c'
 
   -- c is the code of the greedy path on w to the end
   abbrev pub Greedy : List ℕ → List Symbol → Type 0

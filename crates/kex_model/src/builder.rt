@@ -37,7 +37,8 @@ impl Builder {
         }
     }
 
-    /// Adds a node whose children are there, and answers its number. Past 2^32 nodes there is no memory.
+    /// Adds a node whose children are there, and answers its number. Past 2^32 nodes there is no
+    /// memory.
     pub fn add(&mut self, node: Node) -> Result<u32, Memory>
         requires { HasBelow (length self.old) node.kind }
         ensures added { IfOk result (λ n. self.new ≡ self.old ++ node ∷ []) }
@@ -67,7 +68,13 @@ impl Builder {
         registers: u32,
     ) -> Program
         requires { IsInRange self names.items definitions.items stages.items registers }
-        ensures { result ≡ record { nodes = self; names = names.items; definitions = definitions.items; stages = stages.items; registers = registers } }
+        ensures { result ≡ record {
+          nodes = self;
+          names = names.items;
+          definitions = definitions.items;
+          stages = stages.items;
+          registers = registers;
+        } }
     {
         Program::new(self.nodes, names, definitions, stages, registers)
     }

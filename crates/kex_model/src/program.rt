@@ -51,8 +51,8 @@ pub struct Start {
     pub at: u32,
 }
 
-/// A program: nodes, each of which has only nodes below it for children; names; definitions and stages in their order;
-/// and how many registers there are.
+/// A program: nodes, each of which has only nodes below it for children; names; definitions and
+/// stages in their order; and how many registers there are.
 #[derive(Drop)]
 pub struct Program {
     nodes: Vec<Node>,
@@ -67,9 +67,21 @@ impl Model for Program {
 
     ghost Value = { Grammar };
 
-    ghost view = { λ p. record { nodes = p.nodes.items; names = p.names.items; definitions = p.definitions.items; stages = p.stages.items; registers = p.registers } };
+    ghost view = { λ p. record {
+      nodes = p.nodes.items;
+      names = p.names.items;
+      definitions = p.definitions.items;
+      stages = p.stages.items;
+      registers = p.registers;
+    } };
 
-    ghost invariant = { λ p. IsGrammar (record { nodes = p.nodes.items; names = p.names.items; definitions = p.definitions.items; stages = p.stages.items; registers = p.registers }) };
+    ghost invariant = { λ p. IsGrammar (record {
+      nodes = p.nodes.items;
+      names = p.names.items;
+      definitions = p.definitions.items;
+      stages = p.stages.items;
+      registers = p.registers;
+    }) };
 }
 
 impl Program {
@@ -82,8 +94,15 @@ impl Program {
         registers: u32,
     ) -> Program
         requires order { IsInOrder nodes.items }
-        requires range { IsInRange nodes.items names.items definitions.items stages.items registers }
-        ensures { result ≡ record { nodes = nodes.items; names = names.items; definitions = definitions.items; stages = stages.items; registers = registers } }
+        requires range { IsInRange nodes.items names.items definitions.items stages.items
+            registers }
+        ensures { result ≡ record {
+          nodes = nodes.items;
+          names = names.items;
+          definitions = definitions.items;
+          stages = stages.items;
+          registers = registers;
+        } }
     {
         Program {
             nodes,

@@ -1,18 +1,24 @@
 // Worked examples of the definitions. Each function's contract is one.
 
-ghost use Rattle.kex_model.specs.Worked.{ChoiceIsLate, EmptyTurnsAreNoParses, EndsAreOfNodes, LastStopIsReported, LazyPrefersTheEnd, LeftIsGreedy, LimitStops, MuteKeepsRegisters, PlacesAreClosed, RegisterDoubles, RegisterIsWholeOrAsItWas, RegistersSwap, ShapeForks, TextsBreakOff, TurnsAreCounted};
+ghost use Rattle.kex_model.specs.Worked.{ChoiceIsLate, EmptyTurnsAreNoParses, EndsAreOfNodes};
+ghost use Rattle.kex_model.specs.Worked.{LastStopIsReported, LazyPrefersTheEnd, LeftIsGreedy};
+ghost use Rattle.kex_model.specs.Worked.{LimitStops, MuteKeepsRegisters, PlacesAreClosed};
+ghost use Rattle.kex_model.specs.Worked.{RegisterDoubles, RegisterIsWholeOrAsItWas, RegistersSwap};
+ghost use Rattle.kex_model.specs.Worked.{ShapeForks, TextsBreakOff, TurnsAreCounted};
 
 /// A choice between parses is made where the texts part, and nothing is said before.
 pub fn choice_is_late()
     ensures { ChoiceIsLate }
 {}
 
-/// Of two parses of one text the one that goes left is greedy, and is said as soon as both paths meet.
+/// Of two parses of one text the one that goes left is greedy, and is said as soon as both paths
+/// meet.
 pub fn left_is_greedy()
     ensures { LeftIsGreedy }
 {}
 
-/// Two registers swap the fields of a line, one grows by itself, and one that is filled in a muted group stays filled.
+/// Two registers swap the fields of a line, one grows by itself, and one that is filled in a muted
+/// group stays filled.
 pub fn registers_are_kept()
     ensures swap { RegistersSwap }
     ensures grow { RegisterDoubles }

@@ -14,45 +14,68 @@ use Rattle.kex_moves.specs.Known.{Known, HasRowFor}
 abbrev pub bare : ℕ → List Symbol → Pass
 bare q c = record { state = q; code = c; registers = [] }
 
--- along the bytes the table goes from q to r and says a code, and where that can be taken, on the way to anything, the
--- actor has performed it
-pub record GoesAlong (t : Transducer) (old new : Position) (q r : ℕ) (bs before after : List ℕ) : Type 0 where
+-- along the bytes the table goes from q to r and says a code, and where that can be taken, on the
+-- way to anything, the actor has performed it
+pub record GoesAlong (t : Transducer) (old new : Position) (q r : ℕ)
+    (bs before after : List ℕ) : Type 0 where
   pub said : List Symbol
   pub passed : (c : List Symbol) → passes_if t (Some (bare q c)) bs ≡ Some (bare r (c ++ said))
-  pub went : (x : List Symbol) → TakesCode old.machine.nodes old.at (said ++ x) → WentOn old new said said before after
-  pub takes : (x : List Symbol) → TakesCode old.machine.nodes old.at (said ++ x) → TakesCode new.machine.nodes new.at x
+  pub went : (x : List Symbol) → TakesCode old.machine.nodes old.at (said ++ x)
+      → WentOn old new said said before after
+  pub takes : (x : List Symbol) → TakesCode old.machine.nodes old.at (said ++ x)
+      → TakesCode new.machine.nodes new.at x
 
 -- the same, to the row of a state and of the node where the actor stands
-pub record Reached (t : Transducer) (k : Known) (old new : Position) (q row : ℕ) (bs before after : List ℕ) : Type 0 where
+pub record Reached (t : Transducer) (k : Known) (old new : Position) (q row : ℕ)
+    (bs before after : List ℕ) : Type 0 where
   pub state : ℕ
   pub row_for : HasRowFor k row state new.at
   pub goes : GoesAlong t old new q state bs before after
 
 -- the actor, as if what stands on the sheet were handed on at a node
 abbrev pub with_sheet : Position → ℕ → Sheet → List ℕ → Position
-with_sheet a n s out = let z = state_with s out a.holding in record { machine = a.machine; at = n; holding = record { buffers = z.buffers; registers = z.registers }; refused = a.refused; usable = true }
+with_sheet a n s out = let z = state_with s out a.holding
+    in record {
+      machine = a.machine;
+      at = n;
+      holding = record {
+        buffers = z.buffers;
+        registers = z.registers;
+      };
+      refused = a.refused;
+      usable = true;
+    }
 
 -- what is written then
 abbrev pub written_with : Position → Sheet → List ℕ → List ℕ
 written_with a s out = (state_with s out a.holding).out
 
 -- along the bytes the actor and its sheet have come to a row, and to some node
-pub record ReachedWith (t : Transducer) (k : Known) (from new : Position) (s : Sheet) (q row : ℕ) (bs before after : List ℕ) : Type 0 where
+pub record ReachedWith (t : Transducer) (k : Known) (from new : Position) (s : Sheet) (q row : ℕ)
+    (bs before after : List ℕ) : Type 0 where
   pub node : ℕ
-  pub reached : Reached t k from (with_sheet new node s after) q row bs before (written_with new s after)
+  pub reached
+      : Reached t k from (with_sheet new node s after) q row bs before (written_with new s after)
 
 -- the same from the row of any state and the node where the actor and its sheet are
-abbrev pub ReachedOn : Transducer → Known → Known → Position → Position → Sheet → Sheet → ℕ → ℕ → List ℕ → List ℕ → List ℕ → Type 0
-ReachedOn t k k' old new s s' row row' bs before after = (q n : ℕ) → HasRowFor k row q n → ReachedWith t k' (with_sheet old n s before) new s' q row' bs (written_with old s before) after
+abbrev pub ReachedOn : Transducer → Known → Known → Position → Position → Sheet → Sheet → ℕ → ℕ
+    → List ℕ → List ℕ → List ℕ → Type 0
+ReachedOn t k k' old new s s' row row' bs before after = (q n : ℕ) → HasRowFor k row q n
+    → ReachedWith t k' (with_sheet old n s before) new s' q row' bs
+    (written_with old s before) after
 
 -- a table and a machine
 pub record Over : Type 0 where
   pub table : Transducer
   pub machine : Graph
 
--- where the table, after a text, is at q without registers, it goes along the bytes to r and says a code, without
--- registers again; and if all that was said begins a run's code, the actor that has performed it performs this too
-pub record RunsOn (t : Transducer) (old new : Position) (q r : ℕ) (bs before after : List ℕ) : Type 0 where
+-- where the table, after a text, is at q without registers, it goes along the bytes to r and says a
+-- code, without registers again; and if all that was said begins a run's code, the actor that has
+-- performed it performs this too
+pub record RunsOn (t : Transducer) (old new : Position) (q r : ℕ)
+    (bs before after : List ℕ) : Type 0 where
   pub said : List Symbol
-  pub passed : (w : List ℕ) (c : List Symbol) → passes t w ≡ Some (bare q c) → passes t (w ++ bs) ≡ Some (bare r (c ++ said))
-  pub went : (given c : List Symbol) (written : List ℕ) → HasPerformed old given c written → BeginsRun old.machine (c ++ said) → WentOn old new said said before after
+  pub passed : (w : List ℕ) (c : List Symbol) → passes t w ≡ Some (bare q c)
+      → passes t (w ++ bs) ≡ Some (bare r (c ++ said))
+  pub went : (given c : List Symbol) (written : List ℕ) → HasPerformed old given c written
+      → BeginsRun old.machine (c ++ said) → WentOn old new said said before after

@@ -1,5 +1,6 @@
 -- A text that is put together from what is done.
-use Rattle.std.specs.Prelude.{◌≡◌, ◌≤◌, ℕ, List, [], ◌∷◌, ◌++◌, Option, IfSome, length, take, slice_set}
+use Rattle.std.specs.Prelude.{◌≡◌, ◌≤◌, ℕ, List, [], ◌∷◌, ◌++◌, Option, IfSome, length, take}
+use Rattle.std.specs.Prelude.{slice_set}
 use Rattle.kex_model.specs.Moves.{open_buffer, drop_buffer}
 use Rattle.kex_model.specs.Acting.{ActingState, after_effect}
 use Rattle.kex_machine.specs.declared.MNode.{MNode}
@@ -31,7 +32,10 @@ IsTurn Opens z z' = z' ≡ after_effect open_buffer z
 IsTurn Drops z z' = z' ≡ after_effect drop_buffer z
 IsTurn Other z z' = Unit {0}
 
--- the actions make z of s where the byte b is read; those before a place too, but for a buffer that is opened then
-pub record KeepsActions (nodes : List MNode) (kept : List Action) (place : Option ℕ) (b : ℕ) (s z : ActingState) : Type 0 where
+-- the actions make z of s where the byte b is read; those before a place too, but for a buffer that
+-- is opened then
+pub record KeepsActions (nodes : List MNode) (kept : List Action) (place : Option ℕ) (b : ℕ)
+    (s z : ActingState) : Type 0 where
   pub all : z ≡ after_actions nodes b kept s
-  pub front : IfSome place (λ at. (at ≤ length kept) × (x : List ℕ) × (z ≡ with_buffers (x ∷ []) (after_actions nodes b (take at kept) s)))
+  pub front : IfSome place (λ at. (at ≤ length kept) × (x : List ℕ)
+      × (z ≡ with_buffers (x ∷ []) (after_actions nodes b (take at kept) s)))

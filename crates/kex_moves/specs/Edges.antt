@@ -2,7 +2,8 @@
 use Rattle.std.specs.Prelude.{◌≡◌, ◌≤◌, ◌+◌, ℕ, Bool, true, false, List, take, drop, slice_set}
 use Rattle.kex_moves.specs.declared.edge.Edge.{Edge}
 use Rattle.kex_moves.specs.declared.edge.EdgeKind.{EdgeKind}
-use Rattle.kex_moves.specs.declared.edge.EdgeKind.TheVariants.{Keep, Drop, Text, Acts, Opens, Plain, Unknown}
+use Rattle.kex_moves.specs.declared.edge.EdgeKind.TheVariants.{Keep, Drop, Text, Acts, Opens, Plain}
+use Rattle.kex_moves.specs.declared.edge.EdgeKind.TheVariants.{Unknown}
 
 -- as much of the text as counts, with the byte over the one at its place
 abbrev pub writes : List ℕ → Edge → ℕ → List ℕ

@@ -1,5 +1,6 @@
 -- What the edges along a piece write, up to the first byte whose edge isn't written.
-use Rattle.std.specs.Prelude.{◌≡◌, ◌<◌, ◌+◌, ℕ, List, [], ◌∷◌, ◌++◌, Option, Some, None, All, true, drop, get_or, length, if◌then◌else◌, slice_get, slice_index}
+use Rattle.std.specs.Prelude.{◌≡◌, ◌<◌, ◌+◌, ℕ, List, [], ◌∷◌, ◌++◌, Option, Some, None, All, true}
+use Rattle.std.specs.Prelude.{drop, get_or, length, if◌then◌else◌, slice_get, slice_index}
 use Rattle.kex_moves.specs.declared.edge.Edge.{Edge}
 use Rattle.kex_moves.specs.declared.edge.EdgeKind.{EdgeKind}
 use Rattle.kex_moves.specs.Edges.{writes, is_written, HasRoom, IsAtRow}
@@ -17,7 +18,8 @@ pub record RunStep : Type 0 where
 
 abbrev pub by_edge : List ℕ → ℕ → Option Edge → Option RunStep
 by_edge text b None = None
-by_edge text b (Some e) = if is_written e.kind then Some (record { row = e.next; writes = writes text e b }) else None
+by_edge text b (Some e) = if is_written e.kind
+    then Some (record { row = e.next; writes = writes text e b }) else None
 
 -- the edge that is written at a byte, if it is one
 abbrev pub edge_step : Rows → ℕ → ℕ → Option RunStep
@@ -40,7 +42,8 @@ on_step stop more (Some w) = more w
 -- a run over bytes, as far as edges are written
 abbrev pub run_of : Rows → ℕ → List ℕ → RunStop
 run_of t row [] = record { written = []; row = row; left = [] }
-run_of t row (b ∷ bs) = on_step (record { written = []; row = row; left = b ∷ bs }) (λ w. stop_behind w.writes (run_of t w.row bs)) (edge_step t row b)
+run_of t row (b ∷ bs) = on_step (record { written = []; row = row; left = b ∷ bs }) (λ w.
+    stop_behind w.writes (run_of t w.row bs)) (edge_step t row b)
 
 -- a run over the bytes of a piece from number i on, behind what stood before
 abbrev pub run_from : Rows → List ℕ → List ℕ → ℕ → ℕ → RunStop
@@ -52,7 +55,8 @@ HasEdgeRow classes edges row = All (λ c. row + c < length edges) classes
 
 -- those that keep or drop lead back to the row
 abbrev pub LeadsBack : List ℕ → List Edge → ℕ → Type 0
-LeadsBack classes edges row = All (λ c. (e : Edge) → slice_get edges (row + c) ≡ Some e → IsAtRow row e) classes
+LeadsBack classes edges row =
+    All (λ c. (e : Edge) → slice_get edges (row + c) ≡ Some e → IsAtRow row e) classes
 
 -- among the edges of a row that of the byte is of the kind
 pub record HasKind (classes : List ℕ) (edges : List Edge) (k : EdgeKind) (b : ℕ) : Type 0 where
@@ -70,7 +74,8 @@ pub record IsEdgeAt (classes : List ℕ) (edges : List Edge) (row b : ℕ) (e : 
 
 -- a byte of the piece is next, and that is its edge
 abbrev pub StopsAt : List ℕ → List Edge → ℕ → ℕ → List ℕ → Edge → Type 0
-StopsAt classes edges row at piece e = (at < length piece) × IsEdgeAt classes edges row (get_or piece at 0) e
+StopsAt classes edges row at piece e = (at < length piece)
+    × IsEdgeAt classes edges row (get_or piece at 0) e
 
 -- what edges write lies within so many bytes of text
 abbrev pub HasRoomBelow : ℕ → List Edge → Type 0
@@ -78,5 +83,6 @@ HasRoomBelow n edges = All (λ (e : Edge). is_written e.kind ≡ true → HasRoo
 
 -- where edges lead there is a row, and what they write lies within the text
 pub record AreEdgesWithin (t : Rows) : Type 0 where
-  pub next : All (λ (e : Edge). is_written e.kind ≡ true → HasEdgeRow t.classes t.edges e.next × LeadsBack t.classes t.edges e.next) t.edges
+  pub next : All (λ (e : Edge). is_written e.kind ≡ true → HasEdgeRow t.classes t.edges e.next
+      × LeadsBack t.classes t.edges e.next) t.edges
   pub room : HasRoomBelow (length t.text) t.edges

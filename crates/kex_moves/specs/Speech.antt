@@ -22,18 +22,29 @@ says_word w = Some (record { target = 0; update = record { out = w; regs = [] } 
 
 -- a table with one state, whose classes are the words; no byte has one
 abbrev pub words_table : List (List Part) → Transducer
-words_table words = record { classes = replicate 256 0; initial = record { out = []; regs = [] }; states = record { registers = 0; accepting = None; go = map says_word words } ∷ [] }
+words_table words = record {
+  classes = replicate 256 0;
+  initial = record { out = []; regs = [] };
+  states = record { registers = 0; accepting = None; go = map says_word words } ∷ [];
+}
 
--- if all that was performed and what is said begin a run's code, the actor has performed what is said too
+-- if all that was performed and what is said begin a run's code, the actor has performed what is
+-- said too
 abbrev pub Performs : Position → Position → List Symbol → List ℕ → List ℕ → Type 0
-Performs old new said before after = (given c : List Symbol) (written : List ℕ) → HasPerformed old given c written → BeginsRun old.machine (c ++ said) → WentOn old new said said before after
+Performs old new said before after = (given c : List Symbol) (written : List ℕ)
+    → HasPerformed old given c written → BeginsRun old.machine (c ++ said)
+    → WentOn old new said said before after
 
 -- the same, where the actor and its sheet have come to the node of a row
-pub record SaidWith (k : Known) (from new : Position) (s : Sheet) (row : ℕ) (said : List Symbol) (before after : List ℕ) : Type 0 where
+pub record SaidWith (k : Known) (from new : Position) (s : Sheet) (row : ℕ) (said : List Symbol)
+    (before after : List ℕ) : Type 0 where
   pub to : Pair
   pub row_of : IsPairRow k row to
-  pub performs : Performs from (with_sheet new to.node s after) said before (written_with new s after)
+  pub performs
+      : Performs from (with_sheet new to.node s after) said before (written_with new s after)
 
 -- the same from the node of a row
-abbrev pub SaidOn : Known → Position → Position → Sheet → Sheet → ℕ → ℕ → List Symbol → List ℕ → List ℕ → Type 0
-SaidOn k old new s s' row row' said before after = (p : Pair) → IsPairRow k row p → SaidWith k (with_sheet old p.node s before) new s' row' said (written_with old s before) after
+abbrev pub SaidOn : Known → Position → Position → Sheet → Sheet → ℕ → ℕ → List Symbol → List ℕ
+    → List ℕ → Type 0
+SaidOn k old new s s' row row' said before after = (p : Pair) → IsPairRow k row p
+    → SaidWith k (with_sheet old p.node s before) new s' row' said (written_with old s before) after

@@ -1,12 +1,14 @@
 -- What edges write along pieces: from row to row by the numbers of their words.
-use Rattle.std.specs.Prelude.{◌≡◌, ◌<◌, ◌≤◌, ◌+◌, ℕ, List, [], ◌∷◌, ◌++◌, Some, All, true, slice_get, length}
+use Rattle.std.specs.Prelude.{◌≡◌, ◌<◌, ◌≤◌, ◌+◌, ℕ, List, [], ◌∷◌, ◌++◌, Some, All, true}
+use Rattle.std.specs.Prelude.{slice_get, length}
 use Rattle.kex_script.specs.declared.piece.ByteWord.{ByteWord}
 use Rattle.kex_moves.specs.declared.edge.Edge.{Edge}
 use Rattle.kex_moves.specs.Edges.{writes, is_written}
 use Rattle.kex_moves.specs.Runs.{RunStep}
 
 -- in the row there is an edge for the piece's word, and it is written
-pub record IsWrittenEdge (edges : List Edge) (width row : ℕ) (p : ByteWord) (e : Edge) : Type 0 where
+pub record IsWrittenEdge (edges : List Edge) (width row : ℕ) (p : ByteWord)
+    (e : Edge) : Type 0 where
   pub within : p.word < width
   pub edge : slice_get edges (row + p.word) ≡ Some e
   pub written : is_written e.kind ≡ true
@@ -14,7 +16,8 @@ pub record IsWrittenEdge (edges : List Edge) (width row : ℕ) (p : ByteWord) (e
 -- along the pieces edges are written from one row to another, behind what stood before
 abbrev pub IsTrail : List Edge → List ℕ → ℕ → List ByteWord → RunStep → RunStep → Type 0
 IsTrail edges text width [] s z = z ≡ s
-IsTrail edges text width (p ∷ ps) s z = (e : Edge) × IsWrittenEdge edges width s.row p e × IsTrail edges text width ps (record { row = e.next; writes = s.writes ++ writes text e p.byte }) z
+IsTrail edges text width (p ∷ ps) s z = (e : Edge) × IsWrittenEdge edges width s.row p e × IsTrail
+    edges text width ps (record { row = e.next; writes = s.writes ++ writes text e p.byte }) z
 
 -- no edge is written for the first of the pieces, if there is one
 abbrev pub IsTrailOver : List Edge → ℕ → ℕ → List ByteWord → Type 0
@@ -23,4 +26,5 @@ IsTrailOver edges width row (p ∷ ps) = (e : Edge) → ¬ IsWrittenEdge edges w
 
 -- where edges lead there is a row
 abbrev pub EdgesLeadBelow : ℕ → List Edge → Type 0
-EdgesLeadBelow width edges = All (λ (e : Edge). is_written e.kind ≡ true → e.next + width ≤ length edges) edges
+EdgesLeadBelow width edges =
+    All (λ (e : Edge). is_written e.kind ≡ true → e.next + width ≤ length edges) edges

@@ -32,13 +32,18 @@ pub record TakesCode (nodes : List MNode) (n : ℕ) (c : List Symbol) : Type 0 w
   pub codes : code_of steps ≡ c
 
 -- on the way from n to t no symbol is needed, and what is done is noted
-pub record WalkGoesOn (nodes : List MNode) (n : ℕ) (before : List Action) (t : ℕ) (after : List Action) : Type 0 where
+pub record WalkGoesOn (nodes : List MNode) (n : ℕ) (before : List Action) (t : ℕ)
+    (after : List Action) : Type 0 where
   pub more : List Action
   pub noted : after ≡ before ++ more
   pub leads : (b : ℕ) (s : ActingState) → LeadsByCode nodes n s [] t (after_actions nodes b more s)
   pub takes : (c : List Symbol) → TakesCode nodes n c → TakesCode nodes t c
 
--- for each byte with which the code can be taken from n, on the way to anything, it leads to t and does what is noted
-pub record Learns (nodes : List MNode) (n : ℕ) (parts : List Part) (t : ℕ) (actions : List Action) : Type 0 where
-  pub does : (b : ℕ) (c : List Symbol) → TakesCode nodes n (code_with_byte b parts ++ c) → Does nodes n (code_with_byte b parts) t (after_actions nodes b actions)
-  pub takes : (b : ℕ) (c : List Symbol) → TakesCode nodes n (code_with_byte b parts ++ c) → TakesCode nodes t c
+-- for each byte with which the code can be taken from n, on the way to anything, it leads to t and
+-- does what is noted
+pub record Learns (nodes : List MNode) (n : ℕ) (parts : List Part) (t : ℕ)
+    (actions : List Action) : Type 0 where
+  pub does : (b : ℕ) (c : List Symbol) → TakesCode nodes n (code_with_byte b parts ++ c)
+      → Does nodes n (code_with_byte b parts) t (after_actions nodes b actions)
+  pub takes : (b : ℕ) (c : List Symbol) → TakesCode nodes n (code_with_byte b parts ++ c)
+      → TakesCode nodes t c

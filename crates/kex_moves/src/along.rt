@@ -1,6 +1,7 @@
 // A run along edges with the actor, in which new edges are learnt.
 
-ghost use Rattle.std.specs.Prelude.{◌≡◌, ◌<◌, ◌≤◌, ◌+◌, ◌*◌, ◌-◌, ℕ, List, [], ◌∷◌, false, IsTrue, IfOk, IfSome, OnOk, length, take, drop};
+ghost use Rattle.std.specs.Prelude.{◌≡◌, ◌<◌, ◌≤◌, ◌+◌, ◌*◌, ◌-◌, ℕ, List, [], ◌∷◌, false, IsTrue};
+ghost use Rattle.std.specs.Prelude.{IfOk, IfSome, OnOk, length, take, drop};
 ghost use Rattle.kex_sst.specs.Tables.{Transducer};
 ghost use Rattle.kex_action.specs.Holdings.{Holding, state_of};
 ghost use Rattle.kex_action.specs.Actions.{after_actions};
@@ -60,7 +61,8 @@ pub struct RowStride {
 fn open(sheet: &mut Sheet, byte: u8) -> Result<(), Memory>
     requires sheet { IsSheet sheet.old }
     requires room { sheet.old.used < length sheet.old.bytes.items }
-    ensures opened { OnOk result ((out : List ℕ) (h : Holding) → state_with sheet.new out h ≡ with_buffer (byte ∷ []) (state_with sheet.old out h)) }
+    ensures opened { OnOk result ((out : List ℕ) (h : Holding)
+        → state_with sheet.new out h ≡ with_buffer (byte ∷ []) (state_with sheet.old out h)) }
     ensures sheet { OnOk result (IsSheet sheet.new × IsAsLong sheet.old sheet.new) }
     ensures used { sheet.new.used ≤ sheet.old.used + 1 }
 {
@@ -78,10 +80,15 @@ fn along(edges: &Edges, sheet: &mut Sheet, row: usize, piece: &[u8]) -> Halt
     requires sheet { IsSheet sheet.old }
     requires room { sheet.old.used + 17 * length piece.now + 17 ≤ length sheet.old.bytes.items }
     ensures within { result.at ≤ length piece.now }
-    ensures edge { IfSome result.edge (λ e. StopsAt edges.now.classes edges.now.edges result.row result.at piece.now e × IsEdge edges.now e) }
-    ensures sheet { IsSheet sheet.new × (length sheet.new.bytes.items ≡ length sheet.old.bytes.items) }
-    ensures room { sheet.new.used + 17 * (length piece.now - result.at) + 17 ≤ length sheet.old.bytes.items }
-    ensures reached { (t : Transducer) (a : Position) (out : List ℕ) → IsKnown t a.machine edges.now → ReachedOn t edges.now edges.now a a sheet.old sheet.new row result.row (take result.at piece.now) out out }
+    ensures edge { IfSome result.edge (λ e. StopsAt edges.now.classes edges.now.edges result.row
+        result.at piece.now e × IsEdge edges.now e) }
+    ensures sheet { IsSheet sheet.new
+        × (length sheet.new.bytes.items ≡ length sheet.old.bytes.items) }
+    ensures room { sheet.new.used + 17 * (length piece.now - result.at) + 17
+        ≤ length sheet.old.bytes.items }
+    ensures reached { (t : Transducer) (a : Position) (out : List ℕ) → IsKnown t a.machine edges.now
+        → ReachedOn t edges.now edges.now a a sheet.old sheet.new row result.row
+        (take result.at piece.now) out out }
 {
     let halt = edges.run(row, piece, &mut sheet.bytes, sheet.used);
     sheet.used = halt.used;
@@ -99,12 +106,16 @@ fn act_rest(
     out: &mut Vec<u8>,
 ) -> Result<(), Memory>
     requires usable { IsTrue actor.old.usable }
-    requires to { (p : Pair) × IsPairRow edges.now edge.next p × (p.node < length actor.old.machine.nodes) }
+    requires to { (p : Pair) × IsPairRow edges.now edge.next p
+        × (p.node < length actor.old.machine.nodes) }
     requires sheet { IsSheet sheet.old }
-    ensures did { OnOk result (state_of out.new.items actor.new.holding ≡ after_actions actor.old.machine.nodes byte rest.now (state_with sheet.old out.old.items actor.old.holding)) }
+    ensures did { OnOk result (state_of out.new.items actor.new.holding
+        ≡ after_actions actor.old.machine.nodes byte rest.now
+        (state_with sheet.old out.old.items actor.old.holding)) }
     ensures none { OnOk result (IsBlank sheet.new) }
     ensures room { IsAsLong sheet.old sheet.new }
-    ensures same { (actor.new.machine ≡ actor.old.machine) × (actor.new.refused ≡ actor.old.refused) }
+    ensures same { (actor.new.machine ≡ actor.old.machine)
+        × (actor.new.refused ≡ actor.old.refused) }
     ensures usable { OnOk result (IsTrue actor.new.usable) }
 {
     let node = edges.pair_at(edge.next).node;
@@ -123,12 +134,16 @@ pub fn act(
     out: &mut Vec<u8>,
 ) -> Result<(), Memory>
     requires usable { IsTrue actor.old.usable }
-    requires to { (p : Pair) × IsPairRow edges.now edge.next p × (p.node < length actor.old.machine.nodes) }
+    requires to { (p : Pair) × IsPairRow edges.now edge.next p
+        × (p.node < length actor.old.machine.nodes) }
     requires edge { IsEdge edges.now edge × (edge.kind ≡ EdgeKind.Acts) }
     requires sheet { IsSheet sheet.old }
-    ensures did { OnOk result (state_with sheet.new out.new.items actor.new.holding ≡ after_actions actor.old.machine.nodes byte (take edge.adds (drop edge.from edges.now.acts)) (state_with sheet.old out.old.items actor.old.holding)) }
+    ensures did { OnOk result (state_with sheet.new out.new.items actor.new.holding
+        ≡ after_actions actor.old.machine.nodes byte (take edge.adds
+        (drop edge.from edges.now.acts)) (state_with sheet.old out.old.items actor.old.holding)) }
     ensures sheet { OnOk result (IsSheet sheet.new × IsAsLong sheet.old sheet.new) }
-    ensures same { (actor.new.machine ≡ actor.old.machine) × (actor.new.refused ≡ actor.old.refused) }
+    ensures same { (actor.new.machine ≡ actor.old.machine)
+        × (actor.new.refused ≡ actor.old.refused) }
     ensures usable { OnOk result (IsTrue actor.new.usable) }
 {
     let actions = edges.acts_of(edge);
@@ -139,7 +154,8 @@ pub fn act(
     Ok(())
 }
 
-// Takes a byte with its edge, if that opens a buffer or has actions. It stops at another one, and where much stands on the sheet.
+// Takes a byte with its edge, if that opens a buffer or has actions. It stops at another one, and
+// where much stands on the sheet.
 #[inline(always)]
 fn act_at(
     edges: &Edges,
@@ -153,12 +169,15 @@ fn act_at(
     requires usable { IsTrue actor.old.usable }
     requires known { (t : Transducer) × IsKnown t actor.old.machine edges.now }
     requires row { (p : Pair) × IsPairRow edges.now row p }
-    requires edge { IsEdgeAt edges.now.classes edges.now.edges row byte edge × IsEdge edges.now edge }
+    requires edge { IsEdgeAt edges.now.classes edges.now.edges row byte edge
+        × IsEdge edges.now edge }
     requires sheet { IsSheet sheet.old }
     requires room { sheet.old.used < length sheet.old.bytes.items }
     ensures within { IfOk result (λ s. s.count ≤ 1) }
     ensures some { IfOk result (λ s. s.stops ≡ false → 0 < s.count) }
-    ensures reached { IfOk result (λ s. (t : Transducer) → IsKnown t actor.old.machine edges.now → ReachedOn t edges.now edges.now actor.old actor.new sheet.old sheet.new row s.row (take s.count (byte ∷ [])) out.old.items out.new.items) }
+    ensures reached { IfOk result (λ s. (t : Transducer) → IsKnown t actor.old.machine edges.now
+        → ReachedOn t edges.now edges.now actor.old actor.new sheet.old sheet.new row s.row
+        (take s.count (byte ∷ [])) out.old.items out.new.items) }
     ensures few { IfOk result (λ s. s.stops ≡ false → sheet.new.used ≤ MOST) }
     ensures sheet { OnOk result (IsSheet sheet.new × IsAsLong sheet.old sheet.new) }
     ensures machine { actor.new.machine ≡ actor.old.machine }
@@ -189,7 +208,8 @@ fn act_at(
     }
 }
 
-// Goes along edges while they are written, on a sheet, and along the next one if that opens a buffer or has actions.
+// Goes along edges while they are written, on a sheet, and along the next one if that opens a
+// buffer or has actions.
 #[inline(always)]
 fn act_next(
     edges: &Edges,
@@ -206,7 +226,9 @@ fn act_next(
     requires room { sheet.old.used + 17 * length piece.now + 17 ≤ length sheet.old.bytes.items }
     ensures within { IfOk result (λ s. s.count ≤ length piece.now) }
     ensures some { IfOk result (λ s. s.stops ≡ false → 0 < s.count) }
-    ensures reached { IfOk result (λ s. (t : Transducer) → IsKnown t actor.old.machine edges.now → ReachedOn t edges.now edges.now actor.old actor.new sheet.old sheet.new row s.row (take s.count piece.now) out.old.items out.new.items) }
+    ensures reached { IfOk result (λ s. (t : Transducer) → IsKnown t actor.old.machine edges.now
+        → ReachedOn t edges.now edges.now actor.old actor.new sheet.old sheet.new row s.row
+        (take s.count piece.now) out.old.items out.new.items) }
     ensures few { IfOk result (λ s. s.stops ≡ false → sheet.new.used ≤ MOST) }
     ensures sheet { OnOk result (IsSheet sheet.new × IsAsLong sheet.old sheet.new) }
     ensures machine { actor.new.machine ≡ actor.old.machine }
@@ -229,8 +251,9 @@ fn act_next(
     })
 }
 
-// Goes along edges of a part of a piece, up to one that is plain or isn't learnt, or until much stands on the sheet.
-// Not inlined: within a long caller what the loop reads for each byte would stand in memory.
+// Goes along edges of a part of a piece, up to one that is plain or isn't learnt, or until much
+// stands on the sheet. Not inlined: within a long caller what the loop reads for each byte would
+// stand in memory.
 #[inline(never)]
 fn along_acting(
     edges: &Edges,
@@ -248,7 +271,9 @@ fn along_acting(
     requires few { sheet.old.used ≤ MOST }
     requires room { length sheet.old.bytes.items ≡ ROOM }
     ensures within { IfOk result (λ place. place.count ≤ length part.now) }
-    ensures reached { IfOk result (λ place. (t : Transducer) → IsKnown t actor.old.machine edges.now → ReachedOn t edges.now edges.now actor.old actor.new sheet.old sheet.new from place.row (take place.count part.now) out.old.items out.new.items) }
+    ensures reached { IfOk result (λ place. (t : Transducer) → IsKnown t actor.old.machine edges.now
+        → ReachedOn t edges.now edges.now actor.old actor.new sheet.old sheet.new from place.row
+        (take place.count part.now) out.old.items out.new.items) }
     ensures sheet { OnOk result (IsSheet sheet.new × IsAsLong sheet.old sheet.new) }
     ensures machine { actor.new.machine ≡ actor.old.machine }
     ensures usable { OnOk result (IsTrue actor.new.usable) }
@@ -299,9 +324,12 @@ pub fn arrive(
     out: &mut Vec<u8>,
 ) -> Result<u32, Memory>
     requires usable { IsTrue actor.old.usable }
-    requires row { (p : Pair) × IsPairRow edges.now row p × (p.node < length actor.old.machine.nodes) }
+    requires row { (p : Pair) × IsPairRow edges.now row p
+        × (p.node < length actor.old.machine.nodes) }
     requires sheet { IsSheet sheet.old }
-    ensures arrives { IfOk result (λ s. (p : Pair) → IsPairRow edges.now row p → (s ≡ p.state) × (actor.new ≡ with_sheet actor.old p.node sheet.old out.old.items) × (out.new.items ≡ written_with actor.old sheet.old out.old.items)) }
+    ensures arrives { IfOk result (λ s. (p : Pair) → IsPairRow edges.now row p → (s ≡ p.state)
+        × (actor.new ≡ with_sheet actor.old p.node sheet.old out.old.items)
+        × (out.new.items ≡ written_with actor.old sheet.old out.old.items)) }
     ensures none { OnOk result (IsBlank sheet.new) }
     ensures room { IsAsLong sheet.old sheet.new }
     ensures machine { actor.new.machine ≡ actor.old.machine }
@@ -321,10 +349,16 @@ pub fn make_room(
     out: &mut Vec<u8>,
 ) -> Result<(), Memory>
     requires usable { IsTrue actor.old.usable }
-    requires row { (p : Pair) × IsPairRow edges.now row p × (p.node < length actor.old.machine.nodes) }
+    requires row { (p : Pair) × IsPairRow edges.now row p
+        × (p.node < length actor.old.machine.nodes) }
     requires sheet { IsSheet sheet.old }
-    ensures same { OnOk result ((p : Pair) → IsPairRow edges.now row p → (with_sheet actor.new p.node sheet.new out.new.items ≡ with_sheet actor.old p.node sheet.old out.old.items) × (written_with actor.new sheet.new out.new.items ≡ written_with actor.old sheet.old out.old.items)) }
-    ensures sheet { OnOk result (IsSheet sheet.new × IsAsLong sheet.old sheet.new × (sheet.new.used ≤ MOST)) }
+    ensures same { OnOk result ((p : Pair) → IsPairRow edges.now row p
+        → (with_sheet actor.new p.node sheet.new out.new.items
+        ≡ with_sheet actor.old p.node sheet.old out.old.items)
+        × (written_with actor.new sheet.new out.new.items
+        ≡ written_with actor.old sheet.old out.old.items)) }
+    ensures sheet { OnOk result (IsSheet sheet.new × IsAsLong sheet.old sheet.new
+        × (sheet.new.used ≤ MOST)) }
     ensures machine { actor.new.machine ≡ actor.old.machine }
     ensures usable { OnOk result (IsTrue actor.new.usable) }
 {
@@ -367,7 +401,8 @@ fn go_on(
     requires room { length sheet.old.bytes.items ≡ ROOM }
     ensures known { IfOk result (λ s. IsKnown table.now machine.now edges.new) }
     ensures within { IfOk result (λ s. s.count ≤ length piece.now) }
-    ensures reached { IfOk result (λ s. ReachedOn table.now edges.old edges.new actor.old actor.new sheet.old sheet.new row s.row (take s.count piece.now) out.old.items out.new.items) }
+    ensures reached { IfOk result (λ s. ReachedOn table.now edges.old edges.new actor.old actor.new
+        sheet.old sheet.new row s.row (take s.count piece.now) out.old.items out.new.items) }
     ensures sheet { OnOk result (IsSheet sheet.new × IsAsLong sheet.old sheet.new) }
     ensures machine { actor.new.machine ≡ actor.old.machine }
     ensures usable { OnOk result (IsTrue actor.new.usable) }
@@ -428,7 +463,9 @@ fn run_from(
     requires none { IsBlank sheet.old }
     ensures known { IfOk result (λ ran. IsKnown table.now machine.now edges.new) }
     ensures within { IfOk result (λ ran. ran.count ≤ length piece.now) }
-    ensures goes { IfOk result (λ ran. (q : ℕ) → HasRowFor edges.old from q actor.old.at → GoesAlong table.now actor.old actor.new q ran.state (take ran.count piece.now) out.old.items out.new.items) }
+    ensures goes { IfOk result (λ ran. (q : ℕ) → HasRowFor edges.old from q actor.old.at
+        → GoesAlong table.now actor.old actor.new q ran.state
+        (take ran.count piece.now) out.old.items out.new.items) }
     ensures none { OnOk result (IsBlank sheet.new) }
     ensures room { OnOk result (IsAsLong sheet.old sheet.new) }
     ensures machine { actor.new.machine ≡ actor.old.machine }
@@ -451,7 +488,8 @@ fn run_from(
 // Whether a piece is empty, or a plain step is to be taken at its first byte.
 fn ends_at(edges: &Edges, row: usize, piece: &[u8]) -> bool
     requires { (p : Pair) × IsPairRow edges.now row p }
-    ensures { IsTrue result → run_of (rows_of edges.now) row piece.now ≡ record { written = []; row = row; left = piece.now } }
+    ensures { IsTrue result → run_of (rows_of edges.now) row piece.now
+        ≡ record { written = []; row = row; left = piece.now } }
 {
     if piece.is_empty() {
         return true;
@@ -462,8 +500,8 @@ fn ends_at(edges: &Edges, row: usize, piece: &[u8]) -> bool
     }
 }
 
-/// Goes on from a state, as far as edges go. Nothing is taken where the actor doesn't rest, or where there is no room for
-/// the row.
+/// Goes on from a state, as far as edges go. Nothing is taken where the actor doesn't rest, or
+/// where there is no room for the row.
 pub fn run_at(
     alloc: Global,
     table: &Table,
@@ -482,7 +520,8 @@ pub fn run_at(
     requires none { IsBlank sheet.old }
     ensures known { IfOk result (λ ran. IsKnown table.now machine.now edges.new) }
     ensures within { IfOk result (λ ran. ran.count ≤ length piece.now) }
-    ensures goes { IfOk result (λ ran. GoesAlong table.now actor.old actor.new state ran.state (take ran.count piece.now) out.old.items out.new.items) }
+    ensures goes { IfOk result (λ ran. GoesAlong table.now actor.old actor.new state ran.state
+        (take ran.count piece.now) out.old.items out.new.items) }
     ensures none { OnOk result (IsBlank sheet.new) }
     ensures room { OnOk result (IsAsLong sheet.old sheet.new) }
     ensures machine { actor.new.machine ≡ actor.old.machine }

@@ -1,7 +1,7 @@
 // What is known of a pair of a state and a node at a class of bytes.
 
-/// What kind of edge it is. In a row the first two are kinds of edges that lead back to it, so that the kind alone says that
-/// the row stays.
+/// What kind of edge it is. In a row the first two are kinds of edges that lead back to it, so that
+/// the kind alone says that the row stays.
 #[derive(Clone, Copy, Debug, PartialEq, Eq)]
 pub enum EdgeKind {
     /// The byte alone is written, and the row stays.
@@ -20,9 +20,9 @@ pub enum EdgeKind {
     Unknown,
 }
 
-/// Where a byte leads: to the row that begins at `next`. Of a text of 16 bytes that begins at `from` as many count as it
-/// `adds`, with the byte read over the one at `byte_at` (16 where it isn't written); or as many actions as it `adds` are
-/// done, from number `from` on.
+/// Where a byte leads: to the row that begins at `next`. Of a text of 16 bytes that begins at
+/// `from` as many count as it `adds`, with the byte read over the one at `byte_at` (16 where it
+/// isn't written); or as many actions as it `adds` are done, from number `from` on.
 #[derive(Clone, Copy, Debug, PartialEq, Eq)]
 pub struct Edge {
     pub next: usize,
@@ -103,7 +103,8 @@ impl Edge {
     // The edge as it stands in a row: it keeps or drops only where it leads back to the row.
     pub fn at_row(self, row: usize) -> Edge
         ensures at { IsAtRow row result }
-        ensures same { (result ≡ self) ⊎ ((is_written self.kind ≡ true) × (result ≡ record self { kind = EdgeKind.Text })) }
+        ensures same { (result ≡ self)
+            ⊎ ((is_written self.kind ≡ true) × (result ≡ record self { kind = EdgeKind.Text })) }
     {
         if self.next == row || !self.kind.is_written() {
             return self;

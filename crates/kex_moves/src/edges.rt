@@ -1,6 +1,8 @@
 // The rows of edges that are learnt, one for each pair of a state and a node.
 
-ghost use Rattle.std.specs.Prelude.{◌≡◌, ◌<◌, ◌≤◌, ◌+◌, ◌*◌, ◌-◌, ◌^◌, IsTrue, ◌++◌, ◌∷◌, List, ℕ, [], All, OnOk, IfOk, IfSome, IsNone, length, take, drop, replicate, slice_get, Some, slice_set, true};
+ghost use Rattle.std.specs.Prelude.{◌≡◌, ◌<◌, ◌≤◌, ◌+◌, ◌*◌, ◌-◌, ◌^◌, IsTrue, ◌++◌, ◌∷◌, List, ℕ};
+ghost use Rattle.std.specs.Prelude.{[], All, OnOk, IfOk, IfSome, IsNone, length, take, drop};
+ghost use Rattle.std.specs.Prelude.{replicate, slice_get, Some, slice_set, true};
 ghost use Rattle.kex_machine.specs.declared.MNode.{MNode};
 ghost use Rattle.kex_action.specs.Holdings.{with_bytes};
 ghost use Rattle.kex_model.specs.Acting.{ActingState};
@@ -9,7 +11,8 @@ ghost use Rattle.kex_action.specs.Sheets.{with_buffer};
 ghost use Rattle.kex_moves.specs.Edges.{is_written, has_acts, IsAtRow};
 ghost use Rattle.kex_moves.specs.Runs.{StopsAt, stop_behind, run_of};
 ghost use Rattle.kex_moves.specs.Trails.{IsTrail, IsTrailOver};
-ghost use Rattle.kex_moves.specs.Known.{rows_of, IsEdge, IsOrdered, IsPairRow, HasRowFor, HasPlace, Settles, Widens, Lengthens, Forgets};
+ghost use Rattle.kex_moves.specs.Known.{rows_of, IsEdge, IsOrdered, IsPairRow, HasRowFor, HasPlace};
+ghost use Rattle.kex_moves.specs.Known.{Settles, Widens, Lengthens, Forgets};
 
 use crate::edge::{Edge, EdgeKind};
 use crate::follow::follow;
@@ -21,7 +24,8 @@ use std::alloc::Global;
 use std::marker::Model;
 use std::mem;
 
-/// A state of the table and a node where the actor rests, and the number of an earlier pair of the same state.
+/// A state of the table and a node where the actor rests, and the number of an earlier pair of the
+/// same state.
 #[derive(Clone, Copy, Debug, PartialEq, Eq)]
 pub struct Pair {
     pub state: u32,
@@ -47,9 +51,9 @@ const MOST_ACTS: usize = 1_048_321;
 /// How many pairs of one state or node are looked at, and there are.
 const LOOKS: u32 = 64;
 
-/// How many calls there are in which nothing more can be learnt, for each edge that was learnt, before
-/// all is forgotten. So what it costs to learn all again is shared by many bytes, also where there is
-/// never room for what is met in turn.
+/// How many calls there are in which nothing more can be learnt, for each edge that was learnt,
+/// before all is forgotten. So what it costs to learn all again is shared by many bytes, also where
+/// there is never room for what is met in turn.
 const PATIENCE: usize = 8;
 
 /// By which number of a pair it is looked for.
@@ -59,9 +63,9 @@ pub enum By {
     Node,
 }
 
-/// What is learnt: pairs, and for each a row of edges by class. It grows with what is met, up to a bound
-/// of memory. Once that is reached what is known is kept, and no more is learnt; all is forgotten when
-/// that has lasted long.
+/// What is learnt: pairs, and for each a row of edges by class. It grows with what is met, up to a
+/// bound of memory. Once that is reached what is known is kept, and no more is learnt; all is
+/// forgotten when that has lasted long.
 #[derive(Drop)]
 pub struct Edges {
     classes: [u8; 256],
@@ -82,9 +86,26 @@ impl Model for Edges {
 
     ghost Value = { Known };
 
-    ghost view = { λ e. record { classes = e.classes; width = e.width; shift = e.shift; pairs = e.pairs.items; edges = e.edges.items; text = e.text.items; acts = e.acts.items } };
+    ghost view = { λ e. record {
+      classes = e.classes;
+      width = e.width;
+      shift = e.shift;
+      pairs = e.pairs.items;
+      edges = e.edges.items;
+      text = e.text.items;
+      acts = e.acts.items;
+    } };
 
-    ghost invariant = { λ e. IsOrdered (record { classes = e.classes; width = e.width; shift = e.shift; pairs = e.pairs.items; edges = e.edges.items; text = e.text.items; acts = e.acts.items }) };
+    ghost invariant = { λ e.
+        IsOrdered (record {
+          classes = e.classes;
+          width = e.width;
+          shift = e.shift;
+          pairs = e.pairs.items;
+          edges = e.edges.items;
+          text = e.text.items;
+          acts = e.acts.items;
+        }) };
 }
 
 // The head of some pairs, in whose place the number is put.
@@ -104,7 +125,8 @@ fn push_row(
 ) -> Result<(), Memory>
     requires { length edges.old.items + width ≤ MOST_EDGES }
     ensures pairs { OnOk result (pairs.new.items ≡ pairs.old.items ++ pair ∷ []) }
-    ensures edges { OnOk result ((more : List Edge) × (edges.new.items ≡ edges.old.items ++ more) × (length more ≡ width) × All (λ (e : Edge). e.kind ≡ EdgeKind.Unknown) more) }
+    ensures edges { OnOk result ((more : List Edge) × (edges.new.items ≡ edges.old.items ++ more)
+        × (length more ≡ width) × All (λ (e : Edge). e.kind ≡ EdgeKind.Unknown) more) }
 {
     pairs.push(pair)?;
     edges.resize(edges.len() + width, Edge::unknown())?;
@@ -136,8 +158,8 @@ fn kind_of(place: usize, count: usize) -> EdgeKind
     EdgeKind::Text
 }
 
-// The kind of an edge with actions. Those that open a buffer and write the byte alone have a kind of their own where
-// edges are those of bytes.
+// The kind of an edge with actions. Those that open a buffer and write the byte alone have a kind
+// of their own where edges are those of bytes.
 fn kind_of_acts(opens: bool, bytes: bool) -> EdgeKind
     ensures acts { has_acts result ≡ true }
     ensures opens { result ≡ EdgeKind.Opens → IsTrue opens }
@@ -160,8 +182,8 @@ fn append_text(text: &mut Vec<u8>, bytes: &[u8]) -> Result<(), Memory>
 }
 
 impl Edges {
-    /// Nothing is learnt. A row has 2 to the power of `shift` edges, and there are so many states or nodes by which pairs
-    /// are looked for.
+    /// Nothing is learnt. A row has 2 to the power of `shift` edges, and there are so many states
+    /// or nodes by which pairs are looked for.
     pub fn new(
         alloc: Global,
         classes: [u8; 256],
@@ -171,7 +193,15 @@ impl Edges {
     ) -> Result<Edges, Memory>
         requires few { shift ≤ 8 }
         requires classes { All (λ c. c < 2 ^ shift) classes }
-        ensures { IfOk result (λ e. e ≡ record { classes = classes; width = 2 ^ shift; shift = shift; pairs = []; edges = []; text = replicate 16 0; acts = [] }) }
+        ensures { IfOk result (λ e. e ≡ record {
+          classes = classes;
+          width = 2 ^ shift;
+          shift = shift;
+          pairs = [];
+          edges = [];
+          text = replicate 16 0;
+          acts = [];
+        }) }
     {
         let mut heads = Vec::new(alloc);
         heads.resize(count, NO_PAIR)?;
@@ -225,7 +255,8 @@ impl Edges {
 
     // Whether there may be one more row.
     fn has_room(&self) -> bool
-        ensures { IsTrue result → (length self.now.edges + self.now.width ≤ MOST_EDGES) × (length self.now.pairs < MOST_PAIRS) }
+        ensures { IsTrue result → (length self.now.edges + self.now.width ≤ MOST_EDGES)
+            × (length self.now.pairs < MOST_PAIRS) }
     {
         self.pairs.len() < MOST_PAIRS && self.edges.len() <= MOST_EDGES - self.width
     }
@@ -320,12 +351,14 @@ impl Edges {
         &self.acts[from..from + edge.adds as usize]
     }
 
-    /// An edge to `next` that writes a text in which the byte read has a place, 16 where it has none.
+    /// An edge to `next` that writes a text in which the byte read has a place, 16 where it has
+    /// none.
     pub fn text_edge(&mut self, next: usize, bytes: &[u8], place: usize) -> Result<Edge, Memory>
         requires { HasPlace bytes.now place }
         ensures ordered { IfOk result (λ e. IsOrdered self.new) }
         ensures longer { IfOk result (λ e. Lengthens self.old self.new) }
-        ensures settles { IfOk result (λ e. (nodes : List MNode) → Settles nodes self.new next (λ b. with_bytes (slice_set bytes.now place b)) e) }
+        ensures settles { IfOk result (λ e. (nodes : List MNode)
+            → Settles nodes self.new next (λ b. with_bytes (slice_set bytes.now place b)) e) }
     {
         let end = self.text.len();
         let kind = kind_of(place, bytes.len());
@@ -353,7 +386,8 @@ impl Edges {
         })
     }
 
-    /// An edge to `next` at which the actions are done. Whether they only open a buffer and write the byte is told.
+    /// An edge to `next` at which the actions are done. Whether they only open a buffer and write
+    /// the byte is told.
     pub fn acts_edge(
         &mut self,
         next: usize,
@@ -362,7 +396,9 @@ impl Edges {
     ) -> Result<Edge, Memory>
         ensures ordered { IfOk result (λ e. IsOrdered self.new) }
         ensures longer { IfOk result (λ e. Lengthens self.old self.new) }
-        ensures settles { IfOk result (λ e. (nodes : List MNode) → (IsTrue opens → (b : ℕ) (s : ActingState) → after_actions nodes b actions.now s ≡ with_buffer (b ∷ []) s) → Settles nodes self.new next (λ b. after_actions nodes b actions.now) e) }
+        ensures settles { IfOk result (λ e. (nodes : List MNode) → (IsTrue opens → (b : ℕ)
+            (s : ActingState) → after_actions nodes b actions.now s ≡ with_buffer (b ∷ []) s)
+            → Settles nodes self.new next (λ b. after_actions nodes b actions.now) e) }
     {
         let Some(from) = place_behind(self.acts.len(), MOST_ACTS) else {
             return Ok(Edge::plain());
@@ -387,7 +423,8 @@ impl Edges {
         requires edge { IsEdge self.old edge }
         requires at { IsAtRow row edge }
         ensures ordered { IsOrdered self.new }
-        ensures put { self.new ≡ record self.old { edges = slice_set self.old.edges (row + class) edge } }
+        ensures put { self.new
+            ≡ record self.old { edges = slice_set self.old.edges (row + class) edge } }
     {
         self.edges[row + class as usize] = edge;
         self.learnt = self.learnt.saturating_add(1);
@@ -401,9 +438,15 @@ impl Edges {
         ensures at { result.at ≤ length piece.now }
         ensures used { result.used ≤ length buffer.new }
         ensures room { result.used + 17 * (length piece.now - result.at) + 17 ≤ length buffer.new }
-        ensures edge { IfSome result.edge (λ e. StopsAt self.now.classes self.now.edges result.row result.at piece.now e × IsEdge self.now e) }
+        ensures edge { IfSome result.edge (λ e. StopsAt self.now.classes self.now.edges result.row
+            result.at piece.now e × IsEdge self.now e) }
         ensures told { IsNone result.edge → result.at ≡ length piece.now }
-        ensures ran { record { written = take result.used buffer.new; row = result.row; left = drop result.at piece.now } ≡ stop_behind (take used buffer.old) (run_of (rows_of self.now) row piece.now) }
+        ensures ran { record {
+          written = take result.used buffer.new;
+          row = result.row;
+          left = drop result.at piece.now;
+        }
+            ≡ stop_behind (take used buffer.old) (run_of (rows_of self.now) row piece.now) }
         ensures ordered { IsOrdered self.now }
     {
         run(
@@ -423,7 +466,8 @@ impl Edges {
         self.width
     }
 
-    /// Goes along edges from a row by the words of pieces while they are written, behind what is used of a buffer.
+    /// Goes along edges from a row by the words of pieces while they are written, behind what is
+    /// used of a buffer.
     pub fn follow(
         &self,
         row: usize,
@@ -435,8 +479,11 @@ impl Edges {
         requires room { used + 17 * length pieces.now + 17 ≤ length buffer.old }
         ensures at { result.at ≤ length pieces.now }
         ensures used { result.used ≤ length buffer.new }
-        ensures trail { IsTrail self.now.edges self.now.text self.now.width (take result.at pieces.now) (record { row = row; writes = take used buffer.old }) (record { row = result.row; writes = take result.used buffer.new }) }
-        ensures stops { IsTrailOver self.now.edges self.now.width result.row (drop result.at pieces.now) }
+        ensures trail { IsTrail self.now.edges self.now.text self.now.width
+            (take result.at pieces.now) (record { row = row; writes = take used buffer.old })
+            (record { row = result.row; writes = take result.used buffer.new }) }
+        ensures stops { IsTrailOver self.now.edges self.now.width result.row
+            (drop result.at pieces.now) }
         ensures ordered { IsOrdered self.now }
     {
         follow(
@@ -455,7 +502,8 @@ impl Edges {
         !self.has_room() || self.text.len() > MOST_TEXT || self.acts.len() > MOST_ACTS
     }
 
-    /// Whether it is time to forget, at a call: nothing more can be learnt, and there were many such calls.
+    /// Whether it is time to forget, at a call: nothing more can be learnt, and there were many
+    /// such calls.
     pub fn is_worn(&mut self) -> bool
         ensures { self.new ≡ self.old }
     {

@@ -1,6 +1,8 @@
-// The hot loop over pieces: from row to row by the numbers of their words, with all that changes in locals.
+// The hot loop over pieces: from row to row by the numbers of their words, with all that changes in
+// locals.
 
-ghost use Rattle.std.specs.Prelude.{◌≡◌, ◌≢◌, ℕ, ◌+◌, ◌*◌, ◌-◌, ◌≤◌, List, IfSome, length, take, drop, slice_get};
+ghost use Rattle.std.specs.Prelude.{◌≡◌, ◌≢◌, ℕ, ◌+◌, ◌*◌, ◌-◌, ◌≤◌, List, IfSome, length, take};
+ghost use Rattle.std.specs.Prelude.{drop, slice_get};
 ghost use Rattle.kex_moves.specs.declared.edge.Edge.{Edge};
 ghost use Rattle.kex_moves.specs.Edges.{HasRoom};
 ghost use Rattle.kex_moves.specs.Runs.{HasRoomBelow};
@@ -11,8 +13,8 @@ use crate::put::put;
 use crate::run::SheetPoint;
 use kex_script::piece::ByteWord;
 
-// Writes an edge that leads back to its own row again for each piece with the word of the one before, up to another word: the
-// edge is the same, so nothing is looked up. Tells how many pieces.
+// Writes an edge that leads back to its own row again for each piece with the word of the one
+// before, up to another word: the edge is the same, so nothing is looked up. Tells how many pieces.
 #[inline(always)]
 fn stay(
     e: Edge,
@@ -25,9 +27,13 @@ fn stay(
     requires edge { HasRoom (length text.now) e }
     requires room { used + 17 * length pieces.now + 17 ≤ length buffer.old }
     ensures count { result ≤ length pieces.now }
-    ensures room { used + result * e.adds + 17 * (length pieces.now - result) + 17 ≤ length buffer.old }
+    ensures room { used + result * e.adds + 17 * (length pieces.now - result) + 17
+        ≤ length buffer.old }
     ensures len { length buffer.new ≡ length buffer.old }
-    ensures trail { (edges : List Edge) (width : ℕ) → IsWrittenEdge edges width e.next before e → IsTrail edges text.now width (take result pieces.now) (record { row = e.next; writes = take used buffer.old }) (record { row = e.next; writes = take (used + result * e.adds) buffer.new }) }
+    ensures trail { (edges : List Edge) (width : ℕ) → IsWrittenEdge edges width e.next before e
+        → IsTrail edges text.now width (take result pieces.now)
+        (record { row = e.next; writes = take used buffer.old })
+        (record { row = e.next; writes = take (used + result * e.adds) buffer.new }) }
     ensures other { IfSome (slice_get pieces.now result) (λ p. p.word ≢ before.word) }
 {
     let mut count = 0;
@@ -62,7 +68,9 @@ pub fn follow(
     requires room { used + 17 * length pieces.now + 17 ≤ length buffer.old }
     ensures at { result.at ≤ length pieces.now }
     ensures used { result.used ≤ length buffer.new }
-    ensures trail { IsTrail edges.now text.now width (take result.at pieces.now) (record { row = row; writes = take used buffer.old }) (record { row = result.row; writes = take result.used buffer.new }) }
+    ensures trail { IsTrail edges.now text.now width (take result.at pieces.now)
+        (record { row = row; writes = take used buffer.old })
+        (record { row = result.row; writes = take result.used buffer.new }) }
     ensures stops { IsTrailOver edges.now width result.row (drop result.at pieces.now) }
 {
     let mut at = 0;

@@ -6,7 +6,8 @@ ghost use Rattle.kex_machine.specs.Nodes.{Graph};
 ghost use Rattle.kex_sst.specs.Tables.{Transducer};
 ghost use Rattle.kex_moves.specs.declared.edges.Pair.{Pair};
 ghost use Rattle.kex_moves.specs.Edges.{is_known};
-ghost use Rattle.kex_moves.specs.Known.{IsEdge, IsRight, IsPairRow, HasRowFor, IsPairOf, IsKnown, IsLed, KnownGrows};
+ghost use Rattle.kex_moves.specs.Known.{IsEdge, IsRight, IsPairRow, HasRowFor, IsPairOf, IsKnown};
+ghost use Rattle.kex_moves.specs.Known.{IsLed, KnownGrows};
 ghost use Rattle.kex_moves.specs.Speech.{words_table};
 
 use crate::edge::Edge;
@@ -19,8 +20,8 @@ use kex_sst::parts::Parts;
 use kex_sst::table::Table;
 use std::alloc::Global;
 
-// An edge to the row of a state and the node to which a walk led, for what is done along the walk. A plain one where there
-// is no room for the row.
+// An edge to the row of a state and the node to which a walk led, for what is done along the walk.
+// A plain one where there is no room for the row.
 fn lead(
     alloc: Global,
     machine: &Trimmed,
@@ -29,9 +30,11 @@ fn lead(
     learnt: &Learnt,
 ) -> Result<Edge, Memory>
     requires { learnt.now.to < length machine.now.nodes }
-    ensures known { IfOk result (λ e. (t : Transducer) → state < length t.states → IsKnown t machine.now edges.old → IsKnown t machine.now edges.new) }
+    ensures known { IfOk result (λ e. (t : Transducer) → state < length t.states
+        → IsKnown t machine.now edges.old → IsKnown t machine.now edges.new) }
     ensures grows { IfOk result (λ e. KnownGrows edges.old edges.new) }
-    ensures led { IfOk result (IsLed machine.now.nodes edges.new state learnt.now.to learnt.now.actions.items) }
+    ensures led { IfOk result
+        (IsLed machine.now.nodes edges.new state learnt.now.to learnt.now.actions.items) }
 {
     let Some(row) = edges.row_of(state, learnt.to)? else {
         return Ok(Edge::plain());
@@ -55,7 +58,8 @@ fn edge_of(
     ensures known { IfOk result (λ e. IsKnown table.now machine.now edges.new) }
     ensures grows { IfOk result (λ e. KnownGrows edges.old edges.new) }
     ensures edge { IfOk result (IsEdge edges.new) }
-    ensures right { IfOk result (λ e. is_known e.kind ≡ true → IsRight table.now machine.now.nodes edges.new pair class e) }
+    ensures right { IfOk result (λ e. is_known e.kind ≡ true
+        → IsRight table.now machine.now.nodes edges.new pair class e) }
 {
     let Some((target, update)) = table.next(pair.state, class) else {
         return Ok(Edge::plain());
@@ -104,7 +108,8 @@ fn word_edge(
     ensures known { IfOk result (λ e. IsKnown (words_table words.now) machine.now edges.new) }
     ensures grows { IfOk result (λ e. KnownGrows edges.old edges.new) }
     ensures edge { IfOk result (IsEdge edges.new) }
-    ensures right { IfOk result (λ e. is_known e.kind ≡ true → IsRight (words_table words.now) machine.now.nodes edges.new pair word e) }
+    ensures right { IfOk result (λ e. is_known e.kind ≡ true
+        → IsRight (words_table words.now) machine.now.nodes edges.new pair word e) }
 {
     let Some(parts) = words.get(word as usize) else {
         return Ok(Edge::plain());
@@ -144,7 +149,8 @@ fn renew(edges: &mut Edges)
     }
 }
 
-/// The row of a state and a node. `None` where there is no such state or node, and where there is no room for the row.
+/// The row of a state and a node. `None` where there is no such state or node, and where there is
+/// no room for the row.
 pub fn row_for(
     machine: &Trimmed,
     edges: &mut Edges,
@@ -152,7 +158,8 @@ pub fn row_for(
     state: u32,
     node: u32,
 ) -> Result<Option<usize>, Memory>
-    ensures known { IfOk result (λ o. (t : Transducer) → length t.states ≡ states → IsKnown t machine.now edges.old → IsKnown t machine.now edges.new) }
+    ensures known { IfOk result (λ o. (t : Transducer) → length t.states ≡ states
+        → IsKnown t machine.now edges.old → IsKnown t machine.now edges.new) }
     ensures row { IfOk result (λ o. IfSome o (λ row. HasRowFor edges.new row state node)) }
 {
     renew(edges);

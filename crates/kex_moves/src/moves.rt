@@ -14,8 +14,9 @@ use kex_sst::table::Table;
 use std::alloc::Global;
 use std::marker::Model;
 
-/// What is learnt of a table and a machine, to go along a piece of input with both at once: where a state's update is
-/// known to say a code alone, without registers, and what the actor does with it. It is learnt when it is first met.
+/// What is learnt of a table and a machine, to go along a piece of input with both at once: where a
+/// state's update is known to say a code alone, without registers, and what the actor does with it.
+/// It is learnt when it is first met.
 ///
 /// Once a call has answered `Memory` the actor may only be dropped, and no later call takes a byte.
 #[derive(Drop)]
@@ -39,7 +40,8 @@ impl<'p> Model for Moves<'p> {
 
     ghost view = { λ m. record { table = m.table.now; machine = m.machine.now } };
 
-    ghost invariant = { λ m. IsTrue m.usable → IsKnown m.table.now m.machine.now m.edges × IsBlank m.sheet × (length m.sheet.bytes.items ≡ ROOM) };
+    ghost invariant = { λ m. IsTrue m.usable → IsKnown m.table.now m.machine.now m.edges
+        × IsBlank m.sheet × (length m.sheet.bytes.items ≡ ROOM) };
 }
 
 // The classes of all bytes.
@@ -86,8 +88,8 @@ impl<'p> Moves<'p> {
         })
     }
 
-    /// Goes on from a state over a piece, with the actor, up to a byte at which a plain step is to be taken, or before it.
-    /// Nothing is taken where the actor doesn't rest.
+    /// Goes on from a state over a piece, with the actor, up to a byte at which a plain step is to
+    /// be taken, or before it. Nothing is taken where the actor doesn't rest.
     pub fn run(
         &mut self,
         state: u32,
@@ -98,7 +100,8 @@ impl<'p> Moves<'p> {
         requires usable { IsTrue actor.old.usable }
         requires machine { actor.old.machine ≡ self.old.machine }
         ensures within { IfOk result (λ ran. ran.count ≤ length piece.now) }
-        ensures runs { IfOk result (λ ran. RunsOn self.old.table actor.old actor.new state ran.state (take ran.count piece.now) out.old.items out.new.items) }
+        ensures runs { IfOk result (λ ran. RunsOn self.old.table actor.old actor.new state ran.state
+            (take ran.count piece.now) out.old.items out.new.items) }
         ensures same { self.new ≡ self.old }
         ensures machine { actor.new.machine ≡ actor.old.machine }
         ensures usable { OnOk result (IsTrue actor.new.usable) }

@@ -21,10 +21,11 @@ use std::marker::Model;
 /// How many words have edges.
 const MOST: usize = 256;
 
-/// What the words of a list do at the nodes of a machine: an edge for each node and word, learnt when it is first met.
+/// What the words of a list do at the nodes of a machine: an edge for each node and word, learnt
+/// when it is first met.
 ///
-/// The first 256 words have edges; those behind them are performed symbol by symbol. Once a call has answered `Memory` the
-/// actor may only be dropped, and each later call answers it too.
+/// The first 256 words have edges; those behind them are performed symbol by symbol. Once a call
+/// has answered `Memory` the actor may only be dropped, and each later call answers it too.
 #[derive(Drop)]
 pub struct Phrases<'p> {
     alloc: Global,
@@ -47,7 +48,9 @@ impl<'p> Model for Phrases<'p> {
 
     ghost view = { λ p. record { words = p.words.items; machine = p.machine.now } };
 
-    ghost invariant = { λ p. IsTrue p.usable → IsKnown (words_table p.words.items) p.machine.now p.edges × IsBlank p.sheet × (length p.sheet.bytes.items ≡ ROOM) };
+    ghost invariant = { λ p. IsTrue p.usable
+        → IsKnown (words_table p.words.items) p.machine.now p.edges × IsBlank p.sheet
+        × (length p.sheet.bytes.items ≡ ROOM) };
 }
 
 // The same words again.
@@ -89,7 +92,8 @@ impl<'p> Phrases<'p> {
     ) -> Result<(), Memory>
         requires usable { IsTrue actor.old.usable }
         requires machine { actor.old.machine ≡ self.old.machine }
-        ensures performs { OnOk result (Performs actor.old actor.new (code_over self.old.words pieces.now) out.old.items out.new.items) }
+        ensures performs { OnOk result (Performs actor.old actor.new
+            (code_over self.old.words pieces.now) out.old.items out.new.items) }
         ensures same { self.new ≡ self.old }
         ensures machine { actor.new.machine ≡ actor.old.machine }
         ensures usable { OnOk result (IsTrue actor.new.usable) }

@@ -5,12 +5,14 @@ ghost use Rattle.kex_moves.specs.Edges.{writes, HasRoom};
 
 use crate::edge::Edge;
 
-// Writes what the edge writes behind the first `used` bytes. What it writes past them doesn't count.
+// Writes what the edge writes behind the first `used` bytes. What it writes past them doesn't
+// count.
 #[inline(always)]
 pub fn put(buffer: &mut [u8], used: usize, byte: u8, text: &[u8], e: Edge)
     requires room { used + 17 ≤ length buffer.old }
     requires edge { HasRoom (length text.now) e }
-    ensures written { take (used + e.adds) buffer.new ≡ take used buffer.old ++ writes text.now e byte }
+    ensures written { take (used + e.adds) buffer.new
+        ≡ take used buffer.old ++ writes text.now e byte }
     ensures len { length buffer.new ≡ length buffer.old }
 {
     let from = e.from as usize;

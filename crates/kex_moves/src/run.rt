@@ -1,8 +1,10 @@
 // The hot loop: functions over slices and numbers by value, so that all that changes is in locals.
 
-ghost use Rattle.std.specs.Prelude.{◌≡◌, ℕ, ◌+◌, ◌*◌, ◌-◌, ◌<◌, ◌≤◌, List, All, IfSome, IsNone, length, take, drop};
+ghost use Rattle.std.specs.Prelude.{◌≡◌, ℕ, ◌+◌, ◌*◌, ◌-◌, ◌<◌, ◌≤◌, List, All, IfSome, IsNone};
+ghost use Rattle.std.specs.Prelude.{length, take, drop};
 ghost use Rattle.kex_moves.specs.declared.edge.EdgeKind.{EdgeKind};
-ghost use Rattle.kex_moves.specs.Runs.{HasEdgeRow, LeadsBack, HasKind, AreEdgesWithin, StopsAt, run_from};
+ghost use Rattle.kex_moves.specs.Runs.{HasEdgeRow, LeadsBack, HasKind, AreEdgesWithin, StopsAt};
+ghost use Rattle.kex_moves.specs.Runs.{run_from};
 
 use crate::edge::Edge;
 use crate::put::put;
@@ -40,7 +42,8 @@ fn keep(classes: &[u8; 256], edges: &[Edge], piece: &[u8], to: &mut [u8]) -> usi
     count
 }
 
-// Passes over bytes as long as the edges of a row drop them, as that of the first does. Tells how many.
+// Passes over bytes as long as the edges of a row drop them, as that of the first does. Tells how
+// many.
 #[inline(always)]
 fn skip(classes: &[u8; 256], edges: &[Edge], piece: &[u8]) -> usize
     requires row { All (λ c. c < length edges.now) classes.now }
@@ -80,18 +83,26 @@ pub fn run(
     buffer: &mut [u8],
     from: SheetPoint,
 ) -> Halt
-    requires rows { AreEdgesWithin (record { classes = classes.now; edges = edges.now; text = text.now }) }
+    requires rows { AreEdgesWithin
+        (record { classes = classes.now; edges = edges.now; text = text.now }) }
     requires row { HasEdgeRow classes.now edges.now from.row }
     requires back { LeadsBack classes.now edges.now from.row }
     requires at { from.at ≤ length piece.now }
     requires room { from.used + 17 * (length piece.now - from.at) + 17 ≤ length buffer.old }
     ensures at { result.at ≤ length piece.now }
-    ensures edge { IfSome result.edge (StopsAt classes.now edges.now result.row result.at piece.now) }
+    ensures edge { IfSome result.edge
+        (StopsAt classes.now edges.now result.row result.at piece.now) }
     ensures told { IsNone result.edge → result.at ≡ length piece.now }
     ensures row { HasEdgeRow classes.now edges.now result.row }
     ensures used { result.used ≤ length buffer.new }
     ensures room { result.used + 17 * (length piece.now - result.at) + 17 ≤ length buffer.new }
-    ensures ran { record { written = take result.used buffer.new; row = result.row; left = drop result.at piece.now } ≡ run_from (record { classes = classes.now; edges = edges.now; text = text.now }) piece.now (take from.used buffer.old) from.row from.at }
+    ensures ran { record {
+      written = take result.used buffer.new;
+      row = result.row;
+      left = drop result.at piece.now;
+    }
+        ≡ run_from (record { classes = classes.now; edges = edges.now; text = text.now }) piece.now
+        (take from.used buffer.old) from.row from.at }
 {
     let mut at = from.at;
     let mut row = from.row;

@@ -16,8 +16,8 @@ use kex_code::memory::Memory;
 use kex_machine::{Effect, MNode, Trimmed};
 use std::alloc::Global;
 
-/// Of a text of at most 16 bytes the place of the byte read, 16 where it has none, and how many buffers were opened
-/// behind it that nothing is kept of.
+/// Of a text of at most 16 bytes the place of the byte read, 16 where it has none, and how many
+/// buffers were opened behind it that nothing is kept of.
 #[derive(Clone, Copy, Debug, PartialEq, Eq)]
 pub struct EdgeDraft {
     pub place: usize,
@@ -26,7 +26,8 @@ pub struct EdgeDraft {
 
 // What a node does, if it does anything.
 fn effect_at(machine: &Trimmed, n: u32) -> Option<&Effect>
-    ensures { IfSome result (λ e. (s : ActingState) → after_move (node_moves machine.now.nodes n) s ≡ after_effect (effect_of e.now) s) }
+    ensures { IfSome result (λ e. (s : ActingState)
+        → after_move (node_moves machine.now.nodes n) s ≡ after_effect (effect_of e.now) s) }
 {
     match machine.nodes().get(n as usize) {
         Some(MNode::Do(effect, _)) => Some(effect),
@@ -38,7 +39,8 @@ fn effect_at(machine: &Trimmed, n: u32) -> Option<&Effect>
 fn add_byte(draft: EdgeDraft, bytes: &mut Vec<u8>) -> Result<Option<EdgeDraft>, Memory>
     requires { IsDraft bytes.old.items draft }
     ensures draft { IfOk result (λ o. IfSome o (IsDraft bytes.new.items)) }
-    ensures drafts { IfOk result (λ o. IfSome o (λ new. (b : ℕ) (s z : ActingState) → Drafts bytes.old.items draft b s z → Drafts bytes.new.items new b s (with_bytes (b ∷ []) z))) }
+    ensures drafts { IfOk result (λ o. IfSome o (λ new. (b : ℕ) (s z : ActingState) → Drafts
+        bytes.old.items draft b s z → Drafts bytes.new.items new b s (with_bytes (b ∷ []) z))) }
 {
     let at = bytes.len();
     if draft.depth > 0 {
@@ -62,7 +64,8 @@ fn add_literal(
 ) -> Result<Option<EdgeDraft>, Memory>
     requires { IsDraft bytes.old.items draft }
     ensures draft { IfOk result (λ o. IfSome o (IsDraft bytes.new.items)) }
-    ensures drafts { IfOk result (λ o. IfSome o (λ new. (b : ℕ) (s z : ActingState) → Drafts bytes.old.items draft b s z → Drafts bytes.new.items new b s (with_bytes literal.now z))) }
+    ensures drafts { IfOk result (λ o. IfSome o (λ new. (b : ℕ) (s z : ActingState) → Drafts
+        bytes.old.items draft b s z → Drafts bytes.new.items new b s (with_bytes literal.now z))) }
 {
     if draft.depth > 0 {
         return Ok(Some(draft));
@@ -74,8 +77,8 @@ fn add_literal(
     Ok(Some(draft))
 }
 
-// Adds an effect. `None` where that can't be said by a text: what a buffer takes that is open here is written nowhere
-// if it is dropped here.
+// Adds an effect. `None` where that can't be said by a text: what a buffer takes that is open here
+// is written nowhere if it is dropped here.
 fn add_effect(
     draft: EdgeDraft,
     effect: &Effect,
@@ -83,7 +86,9 @@ fn add_effect(
 ) -> Result<Option<EdgeDraft>, Memory>
     requires { IsDraft bytes.old.items draft }
     ensures draft { IfOk result (λ o. IfSome o (IsDraft bytes.new.items)) }
-    ensures drafts { IfOk result (λ o. IfSome o (λ new. (b : ℕ) (s z : ActingState) → Drafts bytes.old.items draft b s z → Drafts bytes.new.items new b s (after_effect (effect_of effect.now) z))) }
+    ensures drafts { IfOk result (λ o.
+        IfSome o (λ new. (b : ℕ) (s z : ActingState) → Drafts bytes.old.items draft b s z
+        → Drafts bytes.new.items new b s (after_effect (effect_of effect.now) z))) }
 {
     match effect {
         Effect::Lit(literal) => add_literal(draft, literal.as_slice(), bytes),
@@ -108,7 +113,9 @@ fn add(
 ) -> Result<Option<EdgeDraft>, Memory>
     requires { IsDraft bytes.old.items draft }
     ensures draft { IfOk result (λ o. IfSome o (IsDraft bytes.new.items)) }
-    ensures drafts { IfOk result (λ o. IfSome o (λ new. (b : ℕ) (s z : ActingState) → Drafts bytes.old.items draft b s z → Drafts bytes.new.items new b s (after_action machine.now.nodes b action z))) }
+    ensures drafts { IfOk result (λ o.
+        IfSome o (λ new. (b : ℕ) (s z : ActingState) → Drafts bytes.old.items draft b s z
+        → Drafts bytes.new.items new b s (after_action machine.now.nodes b action z))) }
 {
     match action {
         Action::Byte => add_byte(draft, bytes),
@@ -119,14 +126,16 @@ fn add(
     }
 }
 
-// The text that the actions write, and the place in it of the byte read, 16 where it has none. `None` where they do more.
+// The text that the actions write, and the place in it of the byte read, 16 where it has none.
+// `None` where they do more.
 fn text_of(
     machine: &Trimmed,
     actions: &[Action],
     bytes: &mut Vec<u8>,
 ) -> Result<Option<usize>, Memory>
     requires { bytes.old.items ≡ [] }
-    ensures done { IfOk result (λ o. IfSome o (λ p. (b : ℕ) (s : ActingState) → after_actions machine.now.nodes b actions.now s ≡ with_bytes (slice_set bytes.new.items p b) s)) }
+    ensures done { IfOk result (λ o. IfSome o (λ p. (b : ℕ) (s : ActingState) → after_actions
+        machine.now.nodes b actions.now s ≡ with_bytes (slice_set bytes.new.items p b) s)) }
     ensures place { IfOk result (λ o. IfSome o (λ p. HasPlace bytes.new.items p)) }
 {
     let mut draft = EdgeDraft {
@@ -155,7 +164,8 @@ enum NodeAct {
 
 // What an action does to the buffers.
 fn act_of(machine: &Trimmed, action: Action) -> NodeAct
-    ensures { (b : ℕ) (z : ActingState) → IsTurn result z (after_action machine.now.nodes b action z) }
+    ensures { (b : ℕ) (z : ActingState)
+        → IsTurn result z (after_action machine.now.nodes b action z) }
 {
     match action {
         Action::Byte => NodeAct::Writes,
@@ -168,15 +178,18 @@ fn act_of(machine: &Trimmed, action: Action) -> NodeAct
     }
 }
 
-// Adds an action to those that are kept. At a place of these a buffer may have been opened into which all was written
-// that was done since: where it is dropped, nothing from there on is kept. Tells that place, if there is one.
+// Adds an action to those that are kept. At a place of these a buffer may have been opened into
+// which all was written that was done since: where it is dropped, nothing from there on is kept.
+// Tells that place, if there is one.
 fn keep(
     machine: &Trimmed,
     action: Action,
     kept: &mut Vec<Action>,
     place: Option<usize>,
 ) -> Result<Option<usize>, Memory>
-    ensures { IfOk result (λ new. (b : ℕ) (s z : ActingState) → KeepsActions machine.now.nodes kept.old.items place b s z → KeepsActions machine.now.nodes kept.new.items new b s (after_action machine.now.nodes b action z)) }
+    ensures { IfOk result (λ new. (b : ℕ) (s z : ActingState)
+        → KeepsActions machine.now.nodes kept.old.items place b s z → KeepsActions machine.now.nodes
+        kept.new.items new b s (after_action machine.now.nodes b action z)) }
 {
     let end = kept.len();
     let new = match (act_of(machine, action), place) {
@@ -194,7 +207,9 @@ fn keep(
 
 // The actions without those that only fill a buffer that is opened and dropped among them.
 fn kept_of(alloc: Global, machine: &Trimmed, actions: &[Action]) -> Result<Vec<Action>, Memory>
-    ensures { IfOk result (λ kept. (b : ℕ) (s : ActingState) → after_actions machine.now.nodes b actions.now s ≡ after_actions machine.now.nodes b kept.items s) }
+    ensures { IfOk result (λ kept. (b : ℕ) (s : ActingState)
+        → after_actions machine.now.nodes b actions.now s
+        ≡ after_actions machine.now.nodes b kept.items s) }
 {
     let mut kept = Vec::new(alloc);
     let mut place = None;
@@ -206,7 +221,8 @@ fn kept_of(alloc: Global, machine: &Trimmed, actions: &[Action]) -> Result<Vec<A
 
 // Whether the actions only open a buffer and write the byte.
 fn only_open(machine: &Trimmed, actions: &[Action]) -> bool
-    ensures { IsTrue result → (b : ℕ) (s : ActingState) → after_actions machine.now.nodes b actions.now s ≡ with_buffer (b ∷ []) s }
+    ensures { IsTrue result → (b : ℕ) (s : ActingState)
+        → after_actions machine.now.nodes b actions.now s ≡ with_buffer (b ∷ []) s }
 {
     let [Action::Node(n), Action::Byte] = actions else {
         return false;
@@ -227,7 +243,8 @@ pub fn settle(
 ) -> Result<Edge, Memory>
     ensures ordered { IfOk result (λ e. IsOrdered edges.new) }
     ensures longer { IfOk result (λ e. Lengthens edges.old edges.new) }
-    ensures settles { IfOk result (λ e. Settles machine.now.nodes edges.new next (λ b. after_actions machine.now.nodes b actions.now) e) }
+    ensures settles { IfOk result (λ e. Settles machine.now.nodes edges.new next (λ b.
+        after_actions machine.now.nodes b actions.now) e) }
 {
     let mut bytes = Vec::new(alloc);
     match text_of(machine, actions, &mut bytes)? {

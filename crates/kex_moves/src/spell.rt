@@ -45,7 +45,8 @@ pub fn take_word(
     out: &mut Vec<u8>,
 ) -> Result<(), Memory>
     requires { IsTrue actor.old.usable }
-    ensures took { OnOk result (TookAll actor.old actor.new (word_code words.now piece) out.old.items out.new.items) }
+    ensures took { OnOk result
+        (TookAll actor.old actor.new (word_code words.now piece) out.old.items out.new.items) }
     ensures machine { actor.new.machine ≡ actor.old.machine }
     ensures usable { OnOk result (IsTrue actor.new.usable) }
 {

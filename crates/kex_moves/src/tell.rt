@@ -1,6 +1,7 @@
 // Pieces along edges with the actor, in which new edges are learnt.
 
-ghost use Rattle.std.specs.Prelude.{◌≡◌, ◌<◌, ◌≤◌, ◌+◌, ◌*◌, ℕ, List, [], ◌∷◌, IsTrue, IfOk, OnOk, length, take, drop};
+ghost use Rattle.std.specs.Prelude.{◌≡◌, ◌<◌, ◌≤◌, ◌+◌, ◌*◌, ℕ, List, [], ◌∷◌, IsTrue, IfOk, OnOk};
+ghost use Rattle.std.specs.Prelude.{length, take, drop};
 ghost use Rattle.kex_sst.specs.declared.parts.Part.{Part};
 ghost use Rattle.kex_action.specs.Actors.{Position};
 ghost use Rattle.kex_action.specs.Sheets.{IsSheet, IsBlank, IsAsLong};
@@ -32,7 +33,9 @@ fn along(edges: &Edges, sheet: &mut Sheet, row: usize, pieces: &[ByteWord]) -> R
     requires room { sheet.old.used + 17 * length pieces.now + 17 ≤ length sheet.old.bytes.items }
     ensures within { result.count ≤ length pieces.now }
     ensures sheet { IsSheet sheet.new × IsAsLong sheet.old sheet.new }
-    ensures said { (words : List (List Part)) (a : Position) (out : List ℕ) → IsKnown (words_table words) a.machine edges.now → SaidOn edges.now a a sheet.old sheet.new row result.row (code_over words (take result.count pieces.now)) out out }
+    ensures said { (words : List (List Part)) (a : Position) (out : List ℕ)
+        → IsKnown (words_table words) a.machine edges.now → SaidOn edges.now a a sheet.old sheet.new
+        row result.row (code_over words (take result.count pieces.now)) out out }
 {
     let spot = edges.follow(row, pieces, &mut sheet.bytes, sheet.used);
     sheet.used = spot.used;
@@ -53,11 +56,15 @@ fn act_next(
     out: &mut Vec<u8>,
 ) -> Result<RowStride, Memory>
     requires usable { IsTrue actor.old.usable }
-    requires known { (words : List (List Part)) × IsKnown (words_table words) actor.old.machine edges.now }
+    requires known { (words : List (List Part))
+        × IsKnown (words_table words) actor.old.machine edges.now }
     requires row { (p : Pair) × IsPairRow edges.now row p }
     requires sheet { IsSheet sheet.old }
     ensures within { IfOk result (λ s. s.count ≤ 1) }
-    ensures said { IfOk result (λ s. (words : List (List Part)) → IsKnown (words_table words) actor.old.machine edges.now → SaidOn edges.now actor.old actor.new sheet.old sheet.new row s.row (code_over words (take s.count (piece ∷ []))) out.old.items out.new.items) }
+    ensures said { IfOk result (λ s. (words : List (List Part))
+        → IsKnown (words_table words) actor.old.machine edges.now
+        → SaidOn edges.now actor.old actor.new sheet.old sheet.new row s.row
+        (code_over words (take s.count (piece ∷ []))) out.old.items out.new.items) }
     ensures sheet { OnOk result (IsSheet sheet.new × IsAsLong sheet.old sheet.new) }
     ensures machine { actor.new.machine ≡ actor.old.machine }
     ensures usable { OnOk result (IsTrue actor.new.usable) }
@@ -97,12 +104,16 @@ fn go_on(
     out: &mut Vec<u8>,
 ) -> Result<RowStride, Memory>
     requires usable { IsTrue actor.old.usable }
-    requires known { (words : List (List Part)) × IsKnown (words_table words) actor.old.machine edges.now }
+    requires known { (words : List (List Part))
+        × IsKnown (words_table words) actor.old.machine edges.now }
     requires row { (p : Pair) × IsPairRow edges.now row p }
     requires sheet { IsSheet sheet.old }
     requires room { length sheet.old.bytes.items ≡ ROOM }
     ensures within { IfOk result (λ s. s.count ≤ length pieces.now) }
-    ensures said { IfOk result (λ s. (words : List (List Part)) → IsKnown (words_table words) actor.old.machine edges.now → SaidOn edges.now actor.old actor.new sheet.old sheet.new row s.row (code_over words (take s.count pieces.now)) out.old.items out.new.items) }
+    ensures said { IfOk result (λ s. (words : List (List Part))
+        → IsKnown (words_table words) actor.old.machine edges.now
+        → SaidOn edges.now actor.old actor.new sheet.old sheet.new row s.row
+        (code_over words (take s.count pieces.now)) out.old.items out.new.items) }
     ensures sheet { OnOk result (IsSheet sheet.new × IsAsLong sheet.old sheet.new) }
     ensures machine { actor.new.machine ≡ actor.old.machine }
     ensures usable { OnOk result (IsTrue actor.new.usable) }
@@ -135,13 +146,16 @@ fn tell_from(
     out: &mut Vec<u8>,
 ) -> Result<RowPoint, Memory>
     requires usable { IsTrue actor.old.usable }
-    requires known { (words : List (List Part)) × IsKnown (words_table words) actor.old.machine edges.now }
+    requires known { (words : List (List Part))
+        × IsKnown (words_table words) actor.old.machine edges.now }
     requires row { (p : Pair) × IsPairRow edges.now from p × (p.node ≡ actor.old.at) }
     requires room { length sheet.old.bytes.items ≡ ROOM }
     requires none { IsBlank sheet.old }
     ensures row { IfOk result (λ place. (p : Pair) × IsPairRow edges.now place.row p) }
     ensures within { IfOk result (λ place. place.count ≤ length pieces.now) }
-    ensures performs { IfOk result (λ place. (words : List (List Part)) → IsKnown (words_table words) actor.old.machine edges.now → Performs actor.old actor.new (code_over words (take place.count pieces.now)) out.old.items out.new.items) }
+    ensures performs { IfOk result (λ place. (words : List (List Part))
+        → IsKnown (words_table words) actor.old.machine edges.now → Performs actor.old actor.new
+        (code_over words (take place.count pieces.now)) out.old.items out.new.items) }
     ensures none { OnOk result (IsBlank sheet.new) }
     ensures room { OnOk result (IsAsLong sheet.old sheet.new) }
     ensures machine { actor.new.machine ≡ actor.old.machine }
@@ -204,7 +218,8 @@ fn tell_some(
     requires none { IsBlank sheet.old }
     ensures known { OnOk result (IsKnown (words_table words.now) machine.now edges.new) }
     ensures within { IfOk result (λ count. count ≤ length pieces.now) }
-    ensures performs { IfOk result (λ count. Performs actor.old actor.new (code_over words.now (take count pieces.now)) out.old.items out.new.items) }
+    ensures performs { IfOk result (λ count. Performs actor.old actor.new
+        (code_over words.now (take count pieces.now)) out.old.items out.new.items) }
     ensures none { OnOk result (IsBlank sheet.new) }
     ensures room { OnOk result (IsAsLong sheet.old sheet.new) }
     ensures machine { actor.new.machine ≡ actor.old.machine }
@@ -237,7 +252,8 @@ pub fn tell(
     requires room { length sheet.old.bytes.items ≡ ROOM }
     requires none { IsBlank sheet.old }
     ensures known { OnOk result (IsKnown (words_table words.now) machine.now edges.new) }
-    ensures performs { OnOk result (Performs actor.old actor.new (code_over words.now pieces.now) out.old.items out.new.items) }
+    ensures performs { OnOk result (Performs actor.old actor.new
+        (code_over words.now pieces.now) out.old.items out.new.items) }
     ensures none { OnOk result (IsBlank sheet.new) }
     ensures room { OnOk result (IsAsLong sheet.old sheet.new) }
     ensures machine { actor.new.machine ≡ actor.old.machine }

@@ -44,8 +44,10 @@ fn letter_of(part: Part) -> Option<Letter>
 // Where a node leads with a letter.
 fn next_of(node: &MNode, letter: Letter) -> Option<u32>
     ensures rests { IfSome result (λ t. Rests (move_of (Some node.now))) }
-    ensures some { IfSome result (λ t. (b s : ℕ) → Allows (move_of (Some node.now)) (step_by (symbol_at b letter) s) → s ≡ t) }
-    ensures within { IfSome result (λ t. (count registers : ℕ) → IsBelow count registers node.now → t < count) }
+    ensures some { IfSome result (λ t. (b s : ℕ)
+        → Allows (move_of (Some node.now)) (step_by (symbol_at b letter) s) → s ≡ t) }
+    ensures within { IfSome result (λ t. (count registers : ℕ) → IsBelow count registers node.now
+        → t < count) }
 {
     match (node, letter) {
         (MNode::Read(_, next), Letter::Read) => Some(*next),
@@ -65,7 +67,8 @@ fn go_on(
     actions: &mut Vec<Action>,
 ) -> Result<Option<u32>, Memory>
     requires { from < length machine.now.nodes }
-    ensures ok { IfOk result (λ o. IfSome o (λ t. WalkGoesOn machine.now.nodes from actions.old.items t actions.new.items)) }
+    ensures ok { IfOk result (λ o.
+        IfSome o (λ t. WalkGoesOn machine.now.nodes from actions.old.items t actions.new.items)) }
     ensures within { IfOk result (λ o. IfSome o (λ t. t < length machine.now.nodes)) }
 {
     let nodes = machine.nodes();
@@ -86,7 +89,8 @@ fn go_on(
     Ok(None)
 }
 
-// The first of the buffers that were opened on a walk and are still open: the node that opens it, and how many there are.
+// The first of the buffers that were opened on a walk and are still open: the node that opens it,
+// and how many there are.
 #[derive(Clone, Copy)]
 struct Opened {
     by: u32,
@@ -119,7 +123,8 @@ fn behind(opened: Opened, effect: &Effect, node: u32) -> Opened {
     }
 }
 
-// The node that opens the first of the buffers that are still open where a symbol or the end comes next.
+// The node that opens the first of the buffers that are still open where a symbol or the end comes
+// next.
 fn opener_of(machine: &Trimmed, from: u32) -> u32
     requires { from < length machine.now.nodes }
 {
@@ -142,7 +147,8 @@ fn opener_of(machine: &Trimmed, from: u32) -> u32
     NO_NODE
 }
 
-// Where the code of the parts leads from a node. An early end is before a buffer that is opened last and stays open.
+// Where the code of the parts leads from a node. An early end is before a buffer that is opened
+// last and stays open.
 fn follow(
     alloc: Global,
     machine: &Trimmed,
@@ -151,7 +157,8 @@ fn follow(
     early: bool,
 ) -> Result<Option<Learnt>, Memory>
     requires { from < length machine.now.nodes }
-    ensures learns { IfOk result (λ o. IfSome o (λ l. Learns machine.now.nodes from parts.now l.to l.actions.items)) }
+    ensures learns { IfOk result (λ o.
+        IfSome o (λ l. Learns machine.now.nodes from parts.now l.to l.actions.items)) }
     ensures within { IfOk result (λ o. IfSome o (λ l. l.to < length machine.now.nodes)) }
 {
     let mut actions = Vec::new(alloc);
@@ -182,7 +189,8 @@ fn follow(
     Ok(Some(Learnt { to, actions }))
 }
 
-// How many buffers are open behind an action, if it only writes, opens one, or drops one that was opened before.
+// How many buffers are open behind an action, if it only writes, opens one, or drops one that was
+// opened before.
 fn depth_behind(machine: &Trimmed, action: Action, depth: u32) -> Option<u32> {
     let Action::Node(n) = action else {
         return Some(depth);
@@ -209,8 +217,8 @@ fn only_write(machine: &Trimmed, actions: &[Action]) -> bool {
 
 /// Where the code of the parts leads from a node. `None` says nothing.
 ///
-/// Where a buffer is opened last, it ends before that if only a text is written up to there: what is read next into the
-/// buffer, and dropped at once, is never written then.
+/// Where a buffer is opened last, it ends before that if only a text is written up to there: what
+/// is read next into the buffer, and dropped at once, is never written then.
 pub fn learn(
     alloc: Global,
     machine: &Trimmed,
@@ -218,7 +226,8 @@ pub fn learn(
     parts: &[Part],
 ) -> Result<Option<Learnt>, Memory>
     requires { from < length machine.now.nodes }
-    ensures learns { IfOk result (λ o. IfSome o (λ l. Learns machine.now.nodes from parts.now l.to l.actions.items)) }
+    ensures learns { IfOk result (λ o.
+        IfSome o (λ l. Learns machine.now.nodes from parts.now l.to l.actions.items)) }
     ensures within { IfOk result (λ o. IfSome o (λ l. l.to < length machine.now.nodes)) }
 {
     if let Some(learnt) = follow(alloc, machine, from, parts, true)? {

@@ -5,7 +5,8 @@ use kex_compile::limits::Limits;
 use std::alloc::{AllocError, Global};
 use std::test::Fail;
 
-// How many stages, places and states there are, or why there are none, where no more than 65,536 states are allowed. Offsets count from 0.
+// How many stages, places and states there are, or why there are none, where no more than 65,536
+// states are allowed. Offsets count from 0.
 fn answer(alloc: Global, text: &str, limits: &Limits) -> Result<String, AllocError> {
     let limits = Limits {
         states: limits.states.min(65_536),
@@ -59,8 +60,8 @@ fn texts_are_compiled_or_refused(rt: HostRuntime) -> Result<(), Fail> {
     Ok(())
 }
 
-// Where one stage is asked for, a second is refused, but only after all rules that the text breaks. Without tables no state
-// is counted.
+// Where one stage is asked for, a second is refused, but only after all rules that the text breaks.
+// Without tables no state is counted.
 const ONE_STAGE: &str = r#"
 main := /a/ => 1 2 0
 start: a a := /a/ => 1 2 0

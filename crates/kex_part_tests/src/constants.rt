@@ -17,8 +17,9 @@ fn registers(alloc: Global, table: &Table) -> Result<String, AllocError> {
     Ok(all)
 }
 
-// How many choices a constant may have, a program, and how many registers each state of its table has, before and after. In the table of
-// the last but one a register is given `L` on one way and `LL` on another, and in that of the last one registers hold bytes.
+// How many choices a constant may have, a program, and how many registers each state of its table
+// has, before and after. In the table of the last but one a register is given `L` on one way and
+// `LL` on another, and in that of the last one registers hold bytes.
 const TABLES: &str = r#"
 16 main := /([a-z]*,[a-z]*\n)*/ => has 4 2 2, then 0 0 0
 0 main := /([a-z]*,[a-z]*\n)*/ => has 4 2 2, then 4 2 2

@@ -1,7 +1,8 @@
 //! A stage that copies what it reads, and wants memory once it has answered so many calls.
 ghost use Rattle.std.specs.Prelude.{◌≡◌, true, false, Bool, Option};
 ghost use Rattle.std.proofs.Common.{sym, ◌∙◌};
-ghost use Rattle.kex_pipe.specs.Copying.{copy_answer, Copies, copied-grows, copied-stays, copied-ends};
+ghost use Rattle.kex_pipe.specs.Copying.{copy_answer, Copies, copied-grows, copied-stays};
+ghost use Rattle.kex_pipe.specs.Copying.{copied-ends};
 
 use kex_code::memory::Memory;
 use kex_pipe::turn::{Fate, Stop, Turn};

@@ -1,9 +1,11 @@
 //! Tests of the crates below the program, through their public calls.
 //!
-//! They stand in a crate of their own, which has nothing else but two stages for them: a crate with tests is proved twice. Only what no clause says is
-//! tested: that calls answer with ample memory, what a worked example comes to, and what is found, learnt and met.
+//! They stand in a crate of their own, which has nothing else but two stages for them: a crate with
+//! tests is proved twice. Only what no clause says is tested: that calls answer with ample memory,
+//! what a worked example comes to, and what is found, learnt and met.
 //!
-//! A module tests the crate of its name. Its rows are lines of text, so that another row costs no proof.
+//! A module tests the crate of its name. Its rows are lines of text, so that another row costs no
+//! proof.
 #![tactic(auto)]
 
 #[cfg(test)]

@@ -53,7 +53,8 @@ fn bytes_and_pieces(rt: HostRuntime) -> Result<(), Fail> {
     Ok(())
 }
 
-// Symbols that are pushed; and blocks of one symbol that are put behind one another, copied, and moved out.
+// Symbols that are pushed; and blocks of one symbol that are put behind one another, copied, and
+// moved out.
 #[test]
 fn symbols_and_blocks_of_ropes(rt: HostRuntime) -> Result<(), Fail> {
     let alloc = rt.alloc();
@@ -105,7 +106,8 @@ fn lists_of_parts(rt: HostRuntime) -> Result<(), Fail> {
     Ok(())
 }
 
-// Bytes that are noted before it is known what becomes of them, and the pieces that they then come to.
+// Bytes that are noted before it is known what becomes of them, and the pieces that they then come
+// to.
 #[test]
 fn notes_and_pieces(rt: HostRuntime) -> Result<(), Fail> {
     let alloc = rt.alloc();

@@ -117,7 +117,8 @@ fn performed(
     Ok(out)
 }
 
-// Texts round the byte, a byte that is dropped, a register, a word past number 255, two words for one, and no symbols or no word.
+// Texts round the byte, a byte that is dropped, a register, a word past number 255, two words for
+// one, and no symbols or no word.
 const PIECES: &str = "\
 0x 0y => (<x><y>
 1x 0y => (<y>

@@ -6,7 +6,8 @@ use kex_paths::workspace::Workspace;
 use kex_sst::parts::{Part, Update};
 use std::test::Fail;
 
-// Whether a tree of this shape has come, and what is passed on; no tree, where the shape has no node.
+// Whether a tree of this shape has come, and what is passed on; no tree, where the shape has no
+// node.
 fn has_come(next: Option<(PathTree<'_>, Update)>, shape: &[bool], out: &[Part]) -> bool {
     match next {
         None => shape.is_empty(),

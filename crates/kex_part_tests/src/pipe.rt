@@ -1,4 +1,5 @@
-//! A pipe of stages whose turns come out of order, with empty pieces among those that it is given; and what an inbox keeps.
+//! A pipe of stages whose turns come out of order, with empty pieces among those that it is given;
+//! and what an inbox keeps.
 use crate::copier::copy;
 use kex_pipe::inbox::Inbox;
 use kex_pipe::pipe::Pipe;

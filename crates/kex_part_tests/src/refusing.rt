@@ -1,4 +1,5 @@
-//! A stage round another one: it wants memory once it has answered so many calls, and tells whether it works while its gate is closed.
+//! A stage round another one: it wants memory once it has answered so many calls, and tells whether
+//! it works while its gate is closed.
 ghost use Rattle.std.specs.Prelude.{◌≡◌, true, IsTrue, None};
 
 use kex_code::memory::Memory;
@@ -6,7 +7,8 @@ use kex_pipe::turn::{Fate, Stop, Turn};
 use kex_ports::Gate;
 use std::sync::atomic::{AtomicU32, Ordering};
 
-/// A gate that counts how often stages enter and leave it, and which calls come while no stage is inside.
+/// A gate that counts how often stages enter and leave it, and which calls come while no stage is
+/// inside.
 #[derive(Drop)]
 pub struct Watch {
     pub entered: AtomicU32,

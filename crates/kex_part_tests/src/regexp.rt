@@ -17,8 +17,8 @@ fn answer(alloc: Global, body: &str, depth: u32) -> Result<String, AllocError> {
     }
 }
 
-// Bodies of all forms; then where the first byte stands that continues no body, or the end where a body has to go on; then the rule
-// of the least number, and of its breaks the first.
+// Bodies of all forms; then where the first byte stands that continues no body, or the end where a
+// body has to go on; then the rule of the least number, and of its breaks the first.
 const BODIES: &str = r#"
 a => read
 ab*c+d? => read
@@ -85,7 +85,8 @@ fn bodies_are_read_or_refused(rt: HostRuntime) -> Result<(), Fail> {
     Ok(())
 }
 
-// 200 parentheses and marks may stand open, and the first above them is refused, unless a byte is wrong behind it.
+// 200 parentheses and marks may stand open, and the first above them is refused, unless a byte is
+// wrong behind it.
 #[test]
 fn nesting_is_counted(rt: HostRuntime) -> Result<(), Fail> {
     let rows = [

@@ -45,8 +45,8 @@ fn memory_in_a_round(rt: HostRuntime) -> Result<(), Fail> {
     Ok(())
 }
 
-// How much room a ring has, how many looks there are, how many bytes are given, and how many items a stage then takes: at each look as many
-// as a ring has room for.
+// How much room a ring has, how many looks there are, how many bytes are given, and how many items
+// a stage then takes: at each look as many as a ring has room for.
 const LOOKS: &str = "\
 1 1 9 1
 1 16 100 16

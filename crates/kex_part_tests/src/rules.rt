@@ -1,4 +1,5 @@
-//! Programs that keep the rules on names, stages and calls, and some of each refusal. Offsets count from 0.
+//! Programs that keep the rules on names, stages and calls, and some of each refusal. Offsets count
+//! from 0.
 use kex_reader::read;
 use kex_rules::check;
 use std::alloc::{AllocError, Global};
@@ -40,7 +41,8 @@ fn programs_and_refusals(rt: HostRuntime) -> Result<(), Fail> {
     Ok(())
 }
 
-// So many definitions, each of which calls the next one, before what stands at its end, and the last one the first.
+// So many definitions, each of which calls the next one, before what stands at its end, and the
+// last one the first.
 fn cycle(alloc: Global, count: u32, end: &str) -> Result<String, AllocError> {
     let mut text = String::from_str(alloc, "start: a0")?;
     for number in 0..count {

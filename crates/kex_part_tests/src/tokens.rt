@@ -1,10 +1,12 @@
-//! Texts that are cut, texts with the place of their first bad token, and what literals and numbers stand for.
+//! Texts that are cut, texts with the place of their first bad token, and what literals and numbers
+//! stand for.
 use kex_tokens::token::{MAX_TEXT, TokenFault, TokenKind};
 use kex_tokens::{literal_bytes, number_value, tokens};
 use std::alloc::Global;
 use std::test::Fail;
 
-// The kinds of a text's tokens, and where each begins and ends; or where the first thing stands that is no token.
+// The kinds of a text's tokens, and where each begins and ends; or where the first thing stands
+// that is no token.
 fn answer(alloc: Global, text: &[u8]) -> Result<String, Fail> {
     let mut answer = String::new(alloc);
     match tokens(alloc, text) {
@@ -60,7 +62,8 @@ fn texts_are_cut(rt: HostRuntime) -> Result<(), Fail> {
     Ok(())
 }
 
-// Line feeds end what stands in one line, and bytes that aren't ASCII stand in comments, literals and regular expressions alone.
+// Line feeds end what stands in one line, and bytes that aren't ASCII stand in comments, literals
+// and regular expressions alone.
 #[test]
 fn other_bytes_are_placed(rt: HostRuntime) -> Result<(), Fail> {
     let rows: [(&[u8], &str); 8] = [
@@ -80,8 +83,8 @@ fn other_bytes_are_placed(rt: HostRuntime) -> Result<(), Fail> {
     Ok(())
 }
 
-// A text of the greatest length that is blank, one that is all tokens, and one that is all one comment without its end; and a text that
-// is too long.
+// A text of the greatest length that is blank, one that is all tokens, and one that is all one
+// comment without its end; and a text that is too long.
 #[test]
 fn the_longest_texts_take_one_pass(rt: HostRuntime) -> Result<(), Fail> {
     let mut blank = vec![in rt.alloc(); b' '; MAX_TEXT]?;

@@ -15,4 +15,6 @@ LeadAlikeFrom moves b c places = All (λ p. LeadAlikeAt moves b c p) places
 
 -- what comes of a tree with a byte of one class comes of it with each of the other
 abbrev pub GoesOnAlike : Outline → ℕ → ℕ → Type 0
-GoesOnAlike tree class other = (s : Shape ℕ) (b c : ℕ) (a : Option (Grown Part ℕ)) → IsOfShape tree s → HasClass tree.machine class b → HasClass tree.machine other c → IsNext tree.machine b s a → IsNext tree.machine c s a
+GoesOnAlike tree class other = (s : Shape ℕ) (b c : ℕ) (a : Option (Grown Part ℕ))
+    → IsOfShape tree s → HasClass tree.machine class b → HasClass tree.machine other c
+    → IsNext tree.machine b s a → IsNext tree.machine c s a

@@ -6,7 +6,8 @@ use Rattle.kex_paths.specs.declared.forest.PathEdge.{PathEdge}
 use Rattle.kex_paths.specs.declared.forest.TreeNode.{TreeNode}
 use Rattle.kex_paths.specs.declared.forest.TreeNode.TheVariants.{Tip, Fork}
 
--- trees side by side: the edges below their roots, and the edges to these, the last first; a tree may be gone
+-- trees side by side: the edges below their roots, and the edges to these, the last first; a tree
+-- may be gone
 pub record Trees : Type 0 where
   pub edges : List PathEdge
   pub roots : List (Option PathEdge)
@@ -17,16 +18,20 @@ no_trees = record { edges = []; roots = [] }
 -- the tree that a node leads to
 pub data IsTreeAt (edges : List PathEdge) : TreeNode → Labelled Part ℕ → Type 0 where
   at_tip : {p : ℕ} → IsTreeAt edges (Tip p) (tip p)
-  at_fork : {n m : ℕ} {x y : PathEdge} {l r : Labelled Part ℕ} → slice_get edges n ≡ Some x → slice_get edges m ≡ Some y → IsTreeAt edges x.node l → IsTreeAt edges y.node r → IsTreeAt edges (Fork n m) (fork (reverse x.label.items) l (reverse y.label.items) r)
+  at_fork : {n m : ℕ} {x y : PathEdge} {l r : Labelled Part ℕ} → slice_get edges n ≡ Some x
+      → slice_get edges m ≡ Some y → IsTreeAt edges x.node l → IsTreeAt edges y.node r
+      → IsTreeAt edges (Fork n m) (fork (reverse x.label.items) l (reverse y.label.items) r)
 
 -- the tree that an edge leads to, with the edge's label, if it is there
 abbrev pub LeadsToTree : List PathEdge → Option PathEdge → Option (Grown Part ℕ) → Type 0
 LeadsToTree edges None None = Unit {0}
 LeadsToTree edges None (Some g) = ⊥
 LeadsToTree edges (Some x) None = ⊥
-LeadsToTree edges (Some x) (Some g) = (reverse x.label.items ≡ g.label) × IsTreeAt edges x.node g.tree
+LeadsToTree edges (Some x) (Some g) = (reverse x.label.items ≡ g.label)
+    × IsTreeAt edges x.node g.tree
 
-abbrev pub LeadToEach : List PathEdge → List (Option PathEdge) → List (Option (Grown Part ℕ)) → Type 0
+abbrev pub LeadToEach : List PathEdge → List (Option PathEdge) → List (Option (Grown Part ℕ))
+    → Type 0
 LeadToEach edges [] [] = Unit {0}
 LeadToEach edges [] (t ∷ ts) = ⊥
 LeadToEach edges (x ∷ xs) [] = ⊥

@@ -1,5 +1,6 @@
 -- Laws of how path trees go on.
-use Rattle.std.specs.Prelude.{◌≡◌, ◌≢◌, ℕ, suc, Bool, true, false, List, [], ◌∷◌, ◌++◌, Option, Some}
+use Rattle.std.specs.Prelude.{◌≡◌, ◌≢◌, ℕ, suc, Bool, true, false, List, [], ◌∷◌, ◌++◌, Option}
+use Rattle.std.specs.Prelude.{Some}
 use Rattle.kex_code.specs.declared.symbol.Symbol.{Symbol}
 use Rattle.kex_model.specs.Labelled.{Shape, size_of, Grown}
 use Rattle.kex_model.specs.Survivors.{HasShape}
@@ -33,18 +34,22 @@ abbrev pub EachList : (List Part → Type 0) → List (List Part) → Type 0
 EachList P [] = Unit {0}
 EachList P (xs ∷ rest) = P xs × EachList P rest
 
--- the update with which a tree of this shape goes on with byte b: there is one; its lists are in order; and the old
--- registers rise in it, so that none stands twice
+-- the update with which a tree of this shape goes on with byte b: there is one; its lists are in
+-- order; and the old registers rise in it, so that none stands twice
 pub record Determines (g : Graph) (b : ℕ) (s : Shape ℕ) : Type 0 where
   pub one : (a a' : Option (Grown Part ℕ)) → IsNext g b s a → IsNext g b s a' → a ≡ a'
-  pub in_order : (u : Change) (a : Grown Part ℕ) → IsNext g b s (Some a) → IsChange u a → ArePartsInOrder u.out × EachList ArePartsInOrder u.regs
-  pub rises : (u : Change) (a : Grown Part ℕ) → IsNext g b s (Some a) → IsChange u a → (last : ℕ) → suc last ≡ size_of s → RiseWithin 0 last (reads_of u)
+  pub in_order : (u : Change) (a : Grown Part ℕ) → IsNext g b s (Some a) → IsChange u a
+      → ArePartsInOrder u.out × EachList ArePartsInOrder u.regs
+  pub rises : (u : Change) (a : Grown Part ℕ) → IsNext g b s (Some a) → IsChange u a → (last : ℕ)
+      → suc last ≡ size_of s → RiseWithin 0 last (reads_of u)
 
 -- the update before the first byte: there is one, of symbols alone
 pub record DeterminesFirst (g : Graph) : Type 0 where
   pub one : (a a' : Option (Grown Part ℕ)) → IsFirstTree g a → IsFirstTree g a' → a ≡ a'
-  pub symbols : (u : Change) (a : Grown Part ℕ) → IsFirstTree g (Some a) → IsChange u a → ArePuts u.out × EachList ArePuts u.regs
+  pub symbols : (u : Change) (a : Grown Part ℕ) → IsFirstTree g (Some a) → IsChange u a
+      → ArePuts u.out × EachList ArePuts u.regs
 
 -- a text has one shape
 abbrev pub OneShape : Graph → List ℕ → Type 0
-OneShape g w = (s t : Shape ℕ) → HasShape (node_moves g.nodes) g.start w s → HasShape (node_moves g.nodes) g.start w t → s ≡ t
+OneShape g w = (s t : Shape ℕ) → HasShape (node_moves g.nodes) g.start w s
+    → HasShape (node_moves g.nodes) g.start w t → s ≡ t

@@ -1,5 +1,6 @@
 -- Trees spelled in preorder.
-use Rattle.std.specs.Prelude.{◌≡◌, ℕ, suc, ◌*◌, ◌^◌, ◌<◌, ◌≤◌, Bool, true, false, List, [], ◌∷◌, ◌++◌, Some, length, reverse, slice_get}
+use Rattle.std.specs.Prelude.{◌≡◌, ℕ, suc, ◌*◌, ◌^◌, ◌<◌, ◌≤◌, Bool, true, false, List, [], ◌∷◌}
+use Rattle.std.specs.Prelude.{◌++◌, Some, length, reverse, slice_get}
 use Rattle.kex_model.specs.Labelled.{labels_of, Shape, place, parts, shape_of, size_of, Grown}
 use Rattle.kex_machine.specs.Nodes.{Graph}
 use Rattle.kex_machine.specs.Advancing.{EachPlace}
@@ -69,8 +70,10 @@ abbrev pub labels_in : List (Grown Part ℕ) → List (List Part)
 labels_in [] = []
 labels_in (t ∷ ts) = t.label ∷ (labels_of t.tree ++ labels_in ts)
 
--- a tree is spelled so far; what is left are the trees of these edges, of which the last is the next
-pub record IsSpelled (edges : List PathEdge) (a : Grown Part ℕ) (inner : List Bool) (places : List ℕ) (labels : List (List Part)) (pending : List ℕ) : Type 0 where
+-- a tree is spelled so far; what is left are the trees of these edges, of which the last is the
+-- next
+pub record IsSpelled (edges : List PathEdge) (a : Grown Part ℕ) (inner : List Bool)
+    (places : List ℕ) (labels : List (List Part)) (pending : List ℕ) : Type 0 where
   pub left : List (Grown Part ℕ)
   pub are : AreEdges edges (reverse pending) left
   pub inner_is : inner_of (shape_of a.tree) ≡ inner ++ inner_in left

@@ -1,5 +1,6 @@
 -- What a walk has still to do, with the shapes that are walked, and where it leads.
-use Rattle.std.specs.Prelude.{◌≡◌, ℕ, ◌+◌, ◌-◌, ◌<◌, Bool, true, false, List, [], ◌∷◌, ◌++◌, Option, Some, None, get_or}
+use Rattle.std.specs.Prelude.{◌≡◌, ℕ, ◌+◌, ◌-◌, ◌<◌, Bool, true, false, List, [], ◌∷◌, ◌++◌, Option}
+use Rattle.std.specs.Prelude.{Some, None, get_or}
 use Rattle.kex_code.specs.declared.symbol.Symbol.TheVariants.{L, R}
 use Rattle.kex_code.specs.Codes.{IsAmong}
 use Rattle.kex_model.specs.Moves.{Move, accept, read, choose, forced, go, symbol_of}
@@ -115,10 +116,17 @@ tokens_left (go_to n ∷ js) = tokens_left js
 
 module _ (moves : ℕ → Move ℕ) (b : ℕ) where
   -- the tasks lead from marks f and trees rs, at token k, to marks g and trees out
-  abbrev pub RunsTasks : List ShapedTask → ℕ → List Bool → List (Option (Grown Part ℕ)) → List Bool → List (Option (Grown Part ℕ)) → Type 0
+  abbrev pub RunsTasks : List ShapedTask → ℕ → List Bool → List (Option (Grown Part ℕ)) → List Bool
+      → List (Option (Grown Part ℕ)) → Type 0
   RunsTasks [] k f rs g out = (f ≡ g) × (rs ≡ out)
-  RunsTasks (tree s ∷ js) k f rs g out = (a : Option (Grown Part ℕ)) × (h : List Bool) × TreeGoesOn moves b k f s a h × RunsTasks js (k + size_of s) h (a ∷ rs) g out
-  RunsTasks (edge s ∷ js) k f rs g out = (a : Option (Grown Part ℕ)) × (h : List Bool) × TreeGoesOn moves b k f s a h × RunsTasks js (k + size_of s) h (with_prefix (Old (k - 1) ∷ []) a ∷ rs) g out
-  RunsTasks (merge_two ∷ js) k f rs g out = RunsTasks js k f (fork_of (last_tree (trees_before rs)) (last_tree rs) ∷ trees_before (trees_before rs)) g out
-  RunsTasks (put_front x ∷ js) k f rs g out = RunsTasks js k f (with_prefix (x ∷ []) (last_tree rs) ∷ trees_before rs) g out
-  RunsTasks (go_to n ∷ js) k f rs g out = (a : Option (Grown Part ℕ)) × (h : List Bool) × Explores moves f n a h × RunsTasks js k h (a ∷ rs) g out
+  RunsTasks (tree s ∷ js) k f rs g out = (a : Option (Grown Part ℕ)) × (h : List Bool)
+      × TreeGoesOn moves b k f s a h × RunsTasks js (k + size_of s) h (a ∷ rs) g out
+  RunsTasks (edge s ∷ js) k f rs g out = (a : Option (Grown Part ℕ)) × (h : List Bool)
+      × TreeGoesOn moves b k f s a h
+      × RunsTasks js (k + size_of s) h (with_prefix (Old (k - 1) ∷ []) a ∷ rs) g out
+  RunsTasks (merge_two ∷ js) k f rs g out = RunsTasks js k f
+      (fork_of (last_tree (trees_before rs)) (last_tree rs) ∷ trees_before (trees_before rs)) g out
+  RunsTasks (put_front x ∷ js) k f rs g out =
+      RunsTasks js k f (with_prefix (x ∷ []) (last_tree rs) ∷ trees_before rs) g out
+  RunsTasks (go_to n ∷ js) k f rs g out = (a : Option (Grown Part ℕ)) × (h : List Bool)
+      × Explores moves f n a h × RunsTasks js k h (a ∷ rs) g out

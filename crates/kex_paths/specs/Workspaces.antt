@@ -6,10 +6,12 @@ use Rattle.kex_machine.specs.Nodes.{Graph, HasClasses}
 -- for each class one of its bytes, and none where it has no byte
 pub record AreSamples (classes : List ℕ) (samples : List (Option ℕ)) : Type 0 where
   pub long : length samples ≡ 256
-  pub right : (class b : ℕ) → slice_get samples class ≡ Some (Some b) → (b < 256) × (class_at classes b ≡ class)
+  pub right : (class b : ℕ) → slice_get samples class ≡ Some (Some b) → (b < 256)
+      × (class_at classes b ≡ class)
   pub all : (b : ℕ) → b < 256 → slice_get samples (class_at classes b) ≡ Some None → ⊥
 
-pub record IsWorkspaceReady (g : Graph) (samples : List (Option ℕ)) (marks : List Bool) : Type 0 where
+pub record IsWorkspaceReady (g : Graph) (samples : List (Option ℕ))
+    (marks : List Bool) : Type 0 where
   pub classes : List ℕ
   pub has : HasClasses g.nodes classes
   pub each : AreSamples classes samples

@@ -70,7 +70,9 @@ impl Forest {
     }
 
     fn push_root(&mut self, root: Option<PathEdge>) -> Result<(), Memory>
-        ensures { OnOk result ((t : Option (Grown Part ℕ)) (rs : List (Option (Grown Part ℕ))) → LeadsToTree self.old.edges root t → HasTrees self.old rs → HasTrees self.new (t ∷ rs)) }
+        ensures { OnOk result ((t : Option (Grown Part ℕ)) (rs : List (Option (Grown Part ℕ)))
+            → LeadsToTree self.old.edges root t → HasTrees self.old rs
+            → HasTrees self.new (t ∷ rs)) }
     {
         self.roots.push(root)?;
         Ok(())
@@ -78,7 +80,9 @@ impl Forest {
 
     /// Takes the last tree away; the edges below its root stay.
     pub fn pop_root(&mut self) -> Option<PathEdge>
-        ensures trees { (rs : List (Option (Grown Part ℕ))) → HasTrees self.old rs → LeadsToTree self.new.edges result (last_tree rs) × HasTrees self.new (trees_before rs) }
+        ensures trees { (rs : List (Option (Grown Part ℕ))) → HasTrees self.old rs
+            → LeadsToTree self.new.edges result (last_tree rs)
+            × HasTrees self.new (trees_before rs) }
         ensures edges { self.new.edges ≡ self.old.edges }
     {
         match self.roots.pop() {
@@ -89,14 +93,16 @@ impl Forest {
 
     /// A tree that is gone.
     pub fn add_none(&mut self) -> Result<(), Memory>
-        ensures { OnOk result ((rs : List (Option (Grown Part ℕ))) → HasTrees self.old rs → HasTrees self.new (None ∷ rs)) }
+        ensures { OnOk result ((rs : List (Option (Grown Part ℕ))) → HasTrees self.old rs
+            → HasTrees self.new (None ∷ rs)) }
     {
         self.push_root(None)
     }
 
     /// A tree of one place.
     pub fn add_tip(&mut self, place: u32) -> Result<(), Memory>
-        ensures { OnOk result ((rs : List (Option (Grown Part ℕ))) → HasTrees self.old rs → HasTrees self.new (Some (record { label = []; tree = tip place }) ∷ rs)) }
+        ensures { OnOk result ((rs : List (Option (Grown Part ℕ))) → HasTrees self.old rs
+            → HasTrees self.new (Some (record { label = []; tree = tip place }) ∷ rs)) }
     {
         let label = SmallVec::new(self.alloc);
         let node = TreeNode::Tip(place);
@@ -105,7 +111,10 @@ impl Forest {
 
     // A fork of two trees, as the last tree.
     fn add_fork(&mut self, left: PathEdge, right: PathEdge) -> Result<(), Memory>
-        ensures { OnOk result ((a : Grown Part ℕ) (b : Grown Part ℕ) (rs : List (Option (Grown Part ℕ))) → LeadsToTree self.old.edges (Some left) (Some a) → LeadsToTree self.old.edges (Some right) (Some b) → HasTrees self.old rs → HasTrees self.new (fork_of (Some a) (Some b) ∷ rs)) }
+        ensures { OnOk result ((a : Grown Part ℕ) (b : Grown Part ℕ)
+            (rs : List (Option (Grown Part ℕ))) → LeadsToTree self.old.edges (Some left) (Some a)
+            → LeadsToTree self.old.edges (Some right) (Some b) → HasTrees self.old rs
+            → HasTrees self.new (fork_of (Some a) (Some b) ∷ rs)) }
     {
         let label = SmallVec::new(self.alloc);
         let left_number = self.edges.len();
@@ -118,7 +127,9 @@ impl Forest {
 
     /// The last two trees as the sides of a fork; of one that is gone no fork is left.
     pub fn merge(&mut self) -> Result<(), Memory>
-        ensures { OnOk result ((rs : List (Option (Grown Part ℕ))) → HasTrees self.old rs → HasTrees self.new (fork_of (last_tree (trees_before rs)) (last_tree rs) ∷ trees_before (trees_before rs))) }
+        ensures { OnOk result ((rs : List (Option (Grown Part ℕ))) → HasTrees self.old rs
+            → HasTrees self.new (fork_of (last_tree (trees_before rs)) (last_tree rs)
+            ∷ trees_before (trees_before rs))) }
     {
         let right = self.pop_root();
         let left = self.pop_root();
@@ -131,7 +142,8 @@ impl Forest {
 
     /// A part in front of the last tree.
     pub fn put_front(&mut self, part: Part) -> Result<(), Memory>
-        ensures { OnOk result ((rs : List (Option (Grown Part ℕ))) → HasTrees self.old rs → HasTrees self.new (with_prefix (part ∷ []) (last_tree rs) ∷ trees_before rs)) }
+        ensures { OnOk result ((rs : List (Option (Grown Part ℕ))) → HasTrees self.old rs
+            → HasTrees self.new (with_prefix (part ∷ []) (last_tree rs) ∷ trees_before rs)) }
     {
         let count = self.roots.len();
         if count == 0 {

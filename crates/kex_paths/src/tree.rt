@@ -1,6 +1,7 @@
 // Path trees, and how one is made of what a walk leaves.
 
-ghost use Rattle.std.specs.Prelude.{◌≡◌, ℕ, ◌*◌, ◌<◌, ◌≤◌, ◌^◌, ◌↔◌, ◌∷◌, ◌++◌, [], List, Some, IsTrue, OnOk, IfOk, length, reverse, slice_get};
+ghost use Rattle.std.specs.Prelude.{◌≡◌, ℕ, ◌*◌, ◌<◌, ◌≤◌, ◌^◌, ◌↔◌, ◌∷◌, ◌++◌, [], List, Some};
+ghost use Rattle.std.specs.Prelude.{IsTrue, OnOk, IfOk, length, reverse, slice_get};
 ghost use Rattle.kex_model.specs.Labelled.{Grown, Shape, shape_of, size_of};
 ghost use Rattle.kex_machine.specs.Nodes.{node_moves};
 ghost use Rattle.kex_machine.specs.Advancing.{EachPlace};
@@ -8,7 +9,8 @@ ghost use Rattle.kex_sst.specs.declared.parts.Part.{Part};
 ghost use Rattle.kex_paths.specs.Forests.{LeadsToTree};
 ghost use Rattle.kex_paths.specs.Nexts.{Outline, IsOfShape, IsChange, HasClass};
 ghost use Rattle.kex_paths.specs.Alikes.{LeadAlikeFrom, GoesOnAlike};
-ghost use Rattle.kex_paths.specs.Spellings.{IsTreeSound, key_of, token_number, is_inner, tip_in, edges_from};
+ghost use Rattle.kex_paths.specs.Spellings.{IsTreeSound, key_of, token_number, is_inner, tip_in};
+ghost use Rattle.kex_paths.specs.Spellings.{edges_from};
 ghost use Rattle.kex_paths.specs.Tasks.{tokens_from, IsTipBelow};
 
 use crate::forest::{PathEdge, TreeNode};
@@ -20,7 +22,8 @@ use kex_sst::parts::{Part, Parts, Update};
 use std::alloc::Global;
 use std::marker::Model;
 
-/// The tree of the survivors of a text, with the codes left out: a path tree of the Kleenex paper (POPL 2016).
+/// The tree of the survivors of a text, with the codes left out: a path tree of the Kleenex paper
+/// (POPL 2016).
 #[derive(Drop)]
 pub struct PathTree<'m> {
     machine: &'m Trimmed,
@@ -34,7 +37,8 @@ impl<'m> Model for PathTree<'m> {
 
     ghost Value = { Outline };
 
-    ghost view = { λ t. record { machine = t.machine.now; shape = t.shape.items; leaves = t.leaves.items } };
+    ghost view = { λ t.
+        record { machine = t.machine.now; shape = t.shape.items; leaves = t.leaves.items } };
 
     ghost invariant = { λ t. IsTreeSound t.machine.now t.shape.items t.leaves.items };
 }
@@ -62,11 +66,13 @@ impl<'m> PathTree<'m> {
         &self.leaves
     }
 
-    /// Whether the tree goes on alike with two classes: their bytes lead to the same places from each of its leaves. Not
-    /// where one of them has no byte.
+    /// Whether the tree goes on alike with two classes: their bytes lead to the same places from
+    /// each of its leaves. Not where one of them has no byte.
     pub fn goes_on_alike(&self, workspace: &Workspace<'m>, class: u8, other: u8) -> bool
         requires { workspace.now ≡ self.now.machine }
-        ensures alike { (b c : ℕ) → HasClass self.now.machine class b → HasClass self.now.machine other c → IsTrue result ↔ LeadAlikeFrom (node_moves self.now.machine.nodes) b c self.now.leaves }
+        ensures alike { (b c : ℕ) → HasClass self.now.machine class b
+            → HasClass self.now.machine other c → IsTrue result
+            ↔ LeadAlikeFrom (node_moves self.now.machine.nodes) b c self.now.leaves }
         ensures next { IsTrue result → GoesOnAlike self.now class other }
     {
         let Some(byte) = workspace.sample(class) else {
@@ -86,8 +92,10 @@ impl<'m> PathTree<'m> {
 
     /// Numbers that are equal for two trees of a machine exactly if their shapes are.
     pub fn key(&self, alloc: Global) -> Result<Vec<u32>, Memory>
-        ensures key { IfOk result (λ key. (s : Shape ℕ) → IsOfShape self.now s → key.items ≡ key_of s) }
-        ensures equal { IfOk result (λ key. (s : Shape ℕ) (t : Shape ℕ) → IsOfShape self.now s → (key.items ≡ key_of t) ↔ (s ≡ t)) }
+        ensures key { IfOk result (λ key. (s : Shape ℕ) → IsOfShape self.now s
+            → key.items ≡ key_of s) }
+        ensures equal { IfOk result (λ key. (s : Shape ℕ) (t : Shape ℕ) → IsOfShape self.now s
+            → (key.items ≡ key_of t) ↔ (s ≡ t)) }
     {
         let mut tokens = Vec::with_capacity(alloc, self.shape.len())?;
         read_tokens(&self.shape, &self.leaves, &mut tokens)?;
@@ -178,7 +186,8 @@ fn edge_at(edges: &[PathEdge], number: usize) -> &PathEdge
     edges.get(number).unwrap()
 }
 
-/// The tree that an edge leads to, with the update that its label and those of the edges below it are.
+/// The tree that an edge leads to, with the update that its label and those of the edges below it
+/// are.
 pub fn gather<'m>(
     alloc: Global,
     machine: &'m Trimmed,
@@ -186,9 +195,12 @@ pub fn gather<'m>(
     edges: &[PathEdge],
 ) -> Result<(PathTree<'m>, Update), Memory>
     requires few { 2 * length machine.now.nodes ≤ 2 ^ 32 }
-    requires fits { (a : Grown Part ℕ) × LeadsToTree edges.now (Some root.now) (Some a) × EachPlace (length machine.now.nodes) (shape_of a.tree) × (size_of (shape_of a.tree) < 2 * length machine.now.nodes) }
+    requires fits { (a : Grown Part ℕ) × LeadsToTree edges.now (Some root.now) (Some a)
+        × EachPlace (length machine.now.nodes) (shape_of a.tree)
+        × (size_of (shape_of a.tree) < 2 * length machine.now.nodes) }
     ensures machine { IfOk result (λ r. r.0.machine ≡ machine.now) }
-    ensures tree { IfOk result (λ r. (a : Grown Part ℕ) → LeadsToTree edges.now (Some root.now) (Some a) → IsOfShape r.0 (shape_of a.tree) × IsChange r.1 a) }
+    ensures tree { IfOk result (λ r. (a : Grown Part ℕ) → LeadsToTree edges.now (Some root.now)
+        (Some a) → IsOfShape r.0 (shape_of a.tree) × IsChange r.1 a) }
 {
     let mut shape = Vec::with_capacity(alloc, edges.len() + 1)?;
     let mut leaves = Vec::with_capacity(alloc, edges.len() / 2 + 1)?;

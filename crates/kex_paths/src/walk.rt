@@ -1,12 +1,16 @@
 // The walk over an old tree and, past the byte, over the places that are reached.
 
-ghost use Rattle.std.specs.Prelude.{◌≡◌, ℕ, ◌<◌, ◌≤◌, ◌^◌, ◌↔◌, ◌++◌, ◌∷◌, [], List, Bool, Option, Some, IsTrue, OnOk, IfOk, length, get_or, set, replicate, true, false};
+ghost use Rattle.std.specs.Prelude.{◌≡◌, ℕ, ◌<◌, ◌≤◌, ◌^◌, ◌↔◌, ◌++◌, ◌∷◌, [], List, Bool, Option};
+ghost use Rattle.std.specs.Prelude.{Some, IsTrue, OnOk, IfOk, length, get_or, set, replicate, true};
+ghost use Rattle.std.specs.Prelude.{false};
 ghost use Rattle.kex_model.specs.Labelled.{Grown};
 ghost use Rattle.kex_machine.specs.Nodes.{node_moves, StaysWithin};
 ghost use Rattle.kex_sst.specs.declared.parts.Part.{Part};
 ghost use Rattle.kex_paths.specs.Alikes.{LeadAlikeAt};
 ghost use Rattle.kex_paths.specs.Forests.{HasTrees, last_tree};
-ghost use Rattle.kex_paths.specs.Tasks.{ShapedTask, task_of, tokens_left, RunsTasks, tasks_from, leaf_at, IsTipBelow, token_tasks, token_dead, read_tasks, read_dead, place_tasks, place_trees, EachTip, IsTaskBelow};
+ghost use Rattle.kex_paths.specs.Tasks.{ShapedTask, task_of, tokens_left, RunsTasks, tasks_from};
+ghost use Rattle.kex_paths.specs.Tasks.{leaf_at, IsTipBelow, token_tasks, token_dead, read_tasks};
+ghost use Rattle.kex_paths.specs.Tasks.{read_dead, place_tasks, place_trees, EachTip, IsTaskBelow};
 
 use crate::forest::Forest;
 use kex_code::memory::Memory;
@@ -23,8 +27,8 @@ pub enum TreeToken {
     Tip(u32),
 }
 
-/// What is still to be done: the next old tree is walked, or that with the old edge to it; the last two trees are merged,
-/// a part is put in front of the last tree, or a place is visited.
+/// What is still to be done: the next old tree is walked, or that with the old edge to it; the last
+/// two trees are merged, a part is put in front of the last tree, or a place is visited.
 #[derive(Clone, Copy, Debug, PartialEq, Eq)]
 pub enum Task {
     OldTree,
@@ -59,8 +63,10 @@ impl Tools {
 // A place that wasn't met: where it leads without a byte is to be visited, or it is a tree.
 fn enter(nodes: &[MNode], n: u32, forest: &mut Forest, tasks: &mut Vec<Task>) -> Result<(), Memory>
     requires { n < length nodes.now }
-    ensures tasks { OnOk result (tasks.new.items ≡ tasks.old.items ++ tasks_from (node_moves nodes.now n)) }
-    ensures trees { OnOk result ((rs : List (Option (Grown Part ℕ))) → HasTrees forest.old rs → HasTrees forest.new (leaf_at (node_moves nodes.now n) n ++ rs)) }
+    ensures tasks { OnOk result (tasks.new.items
+        ≡ tasks.old.items ++ tasks_from (node_moves nodes.now n)) }
+    ensures trees { OnOk result ((rs : List (Option (Grown Part ℕ))) → HasTrees forest.old rs
+        → HasTrees forest.new (leaf_at (node_moves nodes.now n) n ++ rs)) }
 {
     match node_at(nodes, n as usize) {
         MNode::Accept => forest.add_tip(n),
@@ -100,8 +106,11 @@ fn meet(
     requires below { n < length nodes.now }
     requires long { length marks.old ≡ length nodes.now }
     ensures marks { marks.new ≡ set marks.old n true }
-    ensures tasks { OnOk result (tasks.new.items ≡ tasks.old.items ++ place_tasks (get_or marks.old n false) (node_moves nodes.now n)) }
-    ensures trees { OnOk result ((rs : List (Option (Grown Part ℕ))) → HasTrees forest.old rs → HasTrees forest.new (place_trees (get_or marks.old n false) (node_moves nodes.now n) n ++ rs)) }
+    ensures tasks { OnOk result (tasks.new.items
+        ≡ tasks.old.items ++ place_tasks (get_or marks.old n false) (node_moves nodes.now n)) }
+    ensures trees { OnOk result ((rs : List (Option (Grown Part ℕ))) → HasTrees forest.old rs
+        → HasTrees forest.new
+        (place_trees (get_or marks.old n false) (node_moves nodes.now n) n ++ rs)) }
 {
     if marks.mark(n) {
         forest.add_none()
@@ -119,8 +128,10 @@ fn read(
     tasks: &mut Vec<Task>,
 ) -> Result<(), Memory>
     requires { place < length nodes.now }
-    ensures tasks { OnOk result (tasks.new.items ≡ tasks.old.items ++ read_tasks (node_moves nodes.now place) byte) }
-    ensures trees { OnOk result ((rs : List (Option (Grown Part ℕ))) → HasTrees forest.old rs → HasTrees forest.new (read_dead (node_moves nodes.now place) byte ++ rs)) }
+    ensures tasks { OnOk result (tasks.new.items
+        ≡ tasks.old.items ++ read_tasks (node_moves nodes.now place) byte) }
+    ensures trees { OnOk result ((rs : List (Option (Grown Part ℕ))) → HasTrees forest.old rs
+        → HasTrees forest.new (read_dead (node_moves nodes.now place) byte ++ rs)) }
 {
     if let MNode::Read(set, next) = node_at(nodes, place as usize) {
         if set.has(byte) {
@@ -152,8 +163,10 @@ fn take_token(
     tasks: &mut Vec<Task>,
 ) -> Result<(), Memory>
     requires { IsTipBelow (length nodes.now) token }
-    ensures tasks { OnOk result (tasks.new.items ≡ tasks.old.items ++ token_tasks (node_moves nodes.now) byte token) }
-    ensures trees { OnOk result ((rs : List (Option (Grown Part ℕ))) → HasTrees forest.old rs → HasTrees forest.new (token_dead (node_moves nodes.now) byte token ++ rs)) }
+    ensures tasks { OnOk result (tasks.new.items
+        ≡ tasks.old.items ++ token_tasks (node_moves nodes.now) byte token) }
+    ensures trees { OnOk result ((rs : List (Option (Grown Part ℕ))) → HasTrees forest.old rs
+        → HasTrees forest.new (token_dead (node_moves nodes.now) byte token ++ rs)) }
 {
     match token {
         TreeToken::Fork => {
@@ -166,7 +179,8 @@ fn take_token(
     }
 }
 
-/// Does a task and those that come of it, left first; past an old tree, node by node. What comes of it is the last tree.
+/// Does a task and those that come of it, left first; past an old tree, node by node. What comes of
+/// it is the last tree.
 pub fn walk(
     nodes: &[MNode],
     tokens: &[TreeToken],
@@ -179,7 +193,10 @@ pub fn walk(
     requires short { length tokens.now ≤ 2 ^ 32 }
     requires first { IsTaskBelow (length nodes.now) first }
     requires long { length tools.old.marks ≡ length nodes.now }
-    ensures done { OnOk result ((j : ShapedTask) → task_of j ≡ first → tokens.now ≡ tokens_left (j ∷ []) → (rs : List (Option (Grown Part ℕ))) × HasTrees tools.new.forest rs × ((h : List Bool) × RunsTasks (node_moves nodes.now) byte (j ∷ []) 0 (replicate (length nodes.now) false) [] h rs)) }
+    ensures done { OnOk result ((j : ShapedTask) → task_of j ≡ first
+        → tokens.now ≡ tokens_left (j ∷ []) → (rs : List (Option (Grown Part ℕ)))
+        × HasTrees tools.new.forest rs × ((h : List Bool) × RunsTasks (node_moves nodes.now) byte
+        (j ∷ []) 0 (replicate (length nodes.now) false) [] h rs)) }
     ensures long { length tools.new.marks ≡ length nodes.now }
 {
     let Tools {

@@ -1,6 +1,7 @@
 // What the walks of path trees use again and again.
 
-ghost use Rattle.std.specs.Prelude.{◌≡◌, ℕ, ◌<◌, List, Some, None, Option, IfOk, IfSome, OnOk, MatchOption, length};
+ghost use Rattle.std.specs.Prelude.{◌≡◌, ℕ, ◌<◌, List, Some, None, Option, IfOk, IfSome, OnOk};
+ghost use Rattle.std.specs.Prelude.{MatchOption, length};
 ghost use Rattle.kex_byteset.specs.Classes.{IsNumbered};
 ghost use Rattle.kex_model.specs.Labelled.{Shape};
 ghost use Rattle.kex_machine.specs.Nodes.{node_moves, IsTrimmed};
@@ -18,8 +19,8 @@ use kex_sst::parts::Update;
 use std::alloc::Global;
 use std::marker::Model;
 
-/// What the walks over a machine's path trees use again and again: a byte of each class, marks by place, and lists that
-/// keep their room.
+/// What the walks over a machine's path trees use again and again: a byte of each class, marks by
+/// place, and lists that keep their room.
 #[derive(Drop)]
 pub struct Workspace<'m> {
     alloc: Global,
@@ -69,7 +70,8 @@ impl<'m> Workspace<'m> {
 
     // A byte that leads to the same places as all of a class, if the class has one.
     pub(crate) fn sample(&self, class: u8) -> Option<u8>
-        ensures { (b : ℕ) → HasClass self.now class b → MatchOption result ⊥ (λ byte. LeadAlike (node_moves self.now.nodes) byte b) }
+        ensures { (b : ℕ) → HasClass self.now class b
+            → MatchOption result ⊥ (λ byte. LeadAlike (node_moves self.now.nodes) byte b) }
     {
         self.samples[usize::from(class)]
     }
@@ -83,7 +85,9 @@ impl<'m> Workspace<'m> {
     ) -> Result<Option<(PathTree<'m>, Update)>, Memory>
         requires { IsTreeSound self.old shape.now leaves.now }
         ensures machine { IfOk result (λ r. IfSome r (λ n. n.0.machine ≡ self.old)) }
-        ensures next { IfOk result (λ r. (s : Shape ℕ) → IsOfShape (record { machine = self.old; shape = shape.now; leaves = leaves.now }) s → MatchOption r (IsNext self.old byte s None) (λ n. FollowsTree n.0 byte s n.1)) }
+        ensures next { IfOk result (λ r. (s : Shape ℕ)
+            → IsOfShape (record { machine = self.old; shape = shape.now; leaves = leaves.now }) s
+            → MatchOption r (IsNext self.old byte s None) (λ n. FollowsTree n.0 byte s n.1)) }
         ensures trimmed { IsTrimmed self.old }
         ensures same { self.new ≡ self.old }
     {

@@ -7,7 +7,8 @@ use Rattle.kex_pipe.specs.declared.turn.Fate.TheVariants.{On, Stopped}
 use Rattle.kex_pipe.specs.declared.turn.Stop.{Stop}
 use Rattle.kex_pipe.specs.declared.turn.Why.TheVariants.{Byte, End, Limit}
 
--- it was fed this; where it neither stopped nor ended it is open: it has read these bytes, and written that text
+-- it was fed this; where it neither stopped nor ended it is open: it has read these bytes, and
+-- written that text
 abbrev pub StandsAs : (List ℕ → Bool → Answer → Type 0) → (List ℕ → List ℕ → Type 0)
     → Option Stop → Bool → Option StageFed → Type 0
 StandsAs Gives Open stop over None = Open [] [] × (stop ≡ None) × (over ≡ false)
@@ -19,7 +20,8 @@ abbrev pub fate_of : Option Stop → Fate
 fate_of None = On
 fate_of (Some s) = Stopped
 
--- where it stops that was given so many bytes: at a byte that was refused, or where a piece goes past the limit
+-- where it stops that was given so many bytes: at a byte that was refused, or where a piece goes
+-- past the limit
 abbrev pub stop_after : Option ℕ → ℕ → Bool → Option Stop
 stop_after (Some at) count past = Some (record { at = at; why = Byte })
 stop_after None count true = Some (record { at = count; why = Limit })

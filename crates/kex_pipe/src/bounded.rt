@@ -1,6 +1,7 @@
 // A worker within a limit, as a stage.
 
-ghost use Rattle.std.specs.Prelude.{◌≡◌, ◌≤◌, ◌||◌, not, true, false, IfOk, IsTrue, Option, None, ℕ, List, length, min, take};
+ghost use Rattle.std.specs.Prelude.{◌≡◌, ◌≤◌, ◌||◌, not, true, false, IfOk, IsTrue, Option, None};
+ghost use Rattle.std.specs.Prelude.{ℕ, List, length, min, take};
 ghost use Rattle.kex_pipe.specs.Bounds.{StandsAs, end_stop, fate_of, stop_after};
 
 use crate::turn::{Fate, Stop, Turn, Why};
@@ -8,8 +9,8 @@ use crate::worker::Worker;
 use kex_code::memory::Memory;
 use std::alloc::Global;
 
-/// A worker that takes at most so many bytes, as a stage: it stops where the worker does, or at the end where that finds no
-/// parse, or past the limit. What comes behind a stop is dropped.
+/// A worker that takes at most so many bytes, as a stage: it stops where the worker does, or at the
+/// end where that finds no parse, or past the limit. What comes behind a stop is dropped.
 #[derive(Drop)]
 pub struct Bounded<W: Worker> {
     worker: W,
@@ -27,7 +28,8 @@ pub struct Bounded<W: Worker> {
 impl<W: Worker> Bounded<W> {
     /// A stage that has read nothing, and takes at most so many bytes.
     pub fn new(alloc: Global, basis: W::Basis, max_input: u64) -> Result<Bounded<W>, Memory>
-        ensures plan { IfOk result (λ s. ⟦<Bounded<W> as Turn>⟧.plan s ≡ record { machine = W.machine_in basis; limit = max_input }) }
+        ensures plan { IfOk result (λ s. ⟦<Bounded<W> as Turn>⟧.plan s
+            ≡ record { machine = W.machine_in basis; limit = max_input }) }
         ensures stands { IfOk result (λ s. ⟦<Bounded<W> as Turn>⟧.stands s None) }
         ensures usable { IfOk result (λ s. IsTrue (⟦<Bounded<W> as Turn>⟧.is_usable s)) }
     {
@@ -53,7 +55,8 @@ impl<W: Worker> Turn for Bounded<W> {
     ghost gives = { λ p w e a. W.gives p.machine p.limit w e a };
 
     ghost stands = { λ s h. StandsAs (λ w e a. W.gives (W.machine s.worker) s.limit w e a)
-        (λ w text. W.follows s.worker w text × (s.count ≡ length w)) s.stop s.over h × IsTrue (not W.may_want || s.usable) };
+        (λ w text. W.follows s.worker w text × (s.count ≡ length w)) s.stop s.over h
+        × IsTrue (not W.may_want || s.usable) };
 
     ghost is_usable = { λ s. not W.may_want || s.usable };
 
@@ -63,7 +66,8 @@ impl<W: Worker> Turn for Bounded<W> {
 
     ghost grows = { λ p w v e a b h k. (W.answers p.machine).grows p.limit w v e a b h k };
 
-    ghost stays = { λ p w v e a b h k some. (W.answers p.machine).stays p.limit w v e a b h k some };
+    ghost stays = { λ p w v e a b h k some.
+        (W.answers p.machine).stays p.limit w v e a b h k some };
 
     ghost ends = { λ p w e a h. (W.answers p.machine).ends p.limit w e a h };
 
@@ -128,7 +132,8 @@ fn fate_of(stop: Option<Stop>) -> Fate
     }
 }
 
-// Where a stage stops that was given so many bytes: at one that was refused, or where a piece goes past the limit.
+// Where a stage stops that was given so many bytes: at one that was refused, or where a piece goes
+// past the limit.
 fn stop_after(at: Option<u64>, count: u64, past: bool) -> Option<Stop>
     ensures { result ≡ stop_after at count past }
 {

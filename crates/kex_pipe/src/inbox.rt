@@ -1,6 +1,7 @@
 // What waits between two stages.
 
-ghost use Rattle.std.specs.Prelude.{◌≡◌, ◌≤◌, ◌&&◌, ◌++◌, ◌∷◌, ◌↔◌, ◌⊎◌, [], List, ℕ, true, false, IsTrue, OnOk, OnErr, not, nat_lt, length, take, drop, map};
+ghost use Rattle.std.specs.Prelude.{◌≡◌, ◌≤◌, ◌&&◌, ◌++◌, ◌∷◌, ◌↔◌, ◌⊎◌, [], List, ℕ, true, false};
+ghost use Rattle.std.specs.Prelude.{IsTrue, OnOk, OnErr, not, nat_lt, length, take, drop, map};
 
 use kex_code::memory::Memory;
 use std::alloc::Global;
@@ -8,7 +9,8 @@ use std::mem::swap;
 
 /// Items that wait: bytes, and the end behind them where it has come.
 ///
-/// What was taken lies before `start` until it is more than what waits: no more bytes are moved than were taken.
+/// What was taken lies before `start` until it is more than what waits: no more bytes are moved
+/// than were taken.
 #[derive(Drop)]
 pub struct Inbox {
     pub(crate) bytes: Vec<u8>,
@@ -67,10 +69,11 @@ impl Inbox {
         self.bytes.len() - self.start
     }
 
-    /// Moves all that waits there behind what waits here, where the end hasn't come or nothing waits there. After an error
-    /// nothing was moved.
+    /// Moves all that waits there behind what waits here, where the end hasn't come or nothing
+    /// waits there. After an error nothing was moved.
     pub fn append(&mut self, other: &mut Inbox) -> Result<(), Memory>
-        ensures ok { OnOk result ((self.old.ended ≡ false) ⊎ (waiting_items other.old ≡ []) → waiting_items self.new ≡ waiting_items self.old ++ waiting_items other.old) }
+        ensures ok { OnOk result ((self.old.ended ≡ false) ⊎ (waiting_items other.old ≡ [])
+            → waiting_items self.new ≡ waiting_items self.old ++ waiting_items other.old) }
         ensures none_left { OnOk result (waiting_items other.new ≡ []) }
         ensures err { OnErr result (unread_bytes self.new ≡ unread_bytes self.old) }
     {
@@ -87,7 +90,8 @@ impl Inbox {
     /// Takes the first items away.
     pub fn remove(&mut self, at_most: u64)
         ensures bytes { unread_bytes self.new ≡ drop at_most (unread_bytes self.old) }
-        ensures end { self.new.ended ≡ (self.old.ended && not (nat_lt (length (unread_bytes self.old)) at_most)) }
+        ensures end { self.new.ended
+            ≡ (self.old.ended && not (nat_lt (length (unread_bytes self.old)) at_most)) }
     {
         if self.bytes.len() - self.start < at_most as usize {
             self.clear();

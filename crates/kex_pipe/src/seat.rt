@@ -1,6 +1,7 @@
 // A stage in its seat, with what lies before and behind it.
 
-ghost use Rattle.std.specs.Prelude.{◌≡◌, ◌&&◌, ◌⊎◌, ℕ, Bool, true, false, IsTrue, OnOk, is_ok, drop, length};
+ghost use Rattle.std.specs.Prelude.{◌≡◌, ◌&&◌, ◌⊎◌, ℕ, Bool, true, false, IsTrue, OnOk, is_ok};
+ghost use Rattle.std.specs.Prelude.{drop, length};
 ghost use Rattle.kex_pipe.specs.Waiting.{waiting_items};
 
 use crate::inbox::Inbox;
@@ -32,13 +33,14 @@ impl<T: Turn> Seat<T> {
         turned
     }
 
-    /// Takes all that waits before the stage, as a turn does, and keeps what it writes until the round ends. The seat of a
-    /// spent pipe takes nothing.
+    /// Takes all that waits before the stage, as a turn does, and keeps what it writes until the
+    /// round ends. The seat of a spent pipe takes nothing.
     pub fn work(&mut self) -> Result<(), Memory>
         ensures works { OnOk result (IsTrue self.old.usable → Works T.Turn self.old self.new) }
         ensures idle { self.old.usable ≡ false → IsTrue (is_ok result) × (self.new ≡ self.old) }
         ensures usable { self.new.usable ≡ (self.old.usable && is_ok result) }
-        ensures own { (before : Seat T T.Turn) → LeftBy T.Turn before self.old → LeftBy T.Turn before self.new }
+        ensures own { (before : Seat T T.Turn) → LeftBy T.Turn before self.old
+            → LeftBy T.Turn before self.new }
     {
         if !self.usable {
             return Ok(());

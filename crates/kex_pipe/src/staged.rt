@@ -1,6 +1,7 @@
 // A stage that takes its turns.
 
-ghost use Rattle.std.specs.Prelude.{◌≡◌, ◌++◌, ℕ, List, [], Bool, Option, true, false, IsTrue, OnOk, OnErr, is_ok, take, drop};
+ghost use Rattle.std.specs.Prelude.{◌≡◌, ◌++◌, ℕ, List, [], Bool, Option, true, false, IsTrue};
+ghost use Rattle.std.specs.Prelude.{OnOk, OnErr, is_ok, take, drop};
 ghost use Rattle.kex_model.specs.Schedules.{StreamItem};
 ghost use Rattle.kex_model.specs.Schedules as schedule;
 ghost use Rattle.kex_pipe.specs.Histories.{StageFed, bytes_fed, ended_of};
@@ -20,7 +21,8 @@ pub struct Staged<T> {
 impl<T: Turn> Staged<T> {
     ghost use Rattle.kex_pipe.specs.Seats.{Sits, IsWhole, TakesTurn};
 
-    /// Takes at most this many items of its inbox, and writes into the next, which is empty after an error.
+    /// Takes at most this many items of its inbox, and writes into the next, which is empty after
+    /// an error.
     pub(crate) fn turn(
         &mut self,
         at_most: u64,
@@ -29,11 +31,14 @@ impl<T: Turn> Staged<T> {
     ) -> Result<(), Memory>
         requires { IsTrue (T.is_usable self.old.stage) }
         ensures usable { T.is_usable self.new.stage ≡ is_ok result }
-        ensures turns { OnOk result ((p : T.Plan) (x : schedule.Progress) (came out front : List StreamItem)
-            → IsWhole came → came ≡ x.taken ++ waiting_items inbox.old → Sits T.Turn p self.old x out → out ≡ front ++ waiting_items next.old
+        ensures turns { OnOk result ((p : T.Plan) (x : schedule.Progress)
+            (came out front : List StreamItem)
+            → IsWhole came → came ≡ x.taken ++ waiting_items inbox.old
+            → Sits T.Turn p self.old x out → out ≡ front ++ waiting_items next.old
             → TakesTurn T.Turn p at_most came x front self.new inbox.new next.new) }
         ensures turned { OnOk result (self.new.turned ≡ true) }
-        ensures rest { OnOk result (waiting_items inbox.new ≡ drop at_most (waiting_items inbox.old)) }
+        ensures rest { OnOk result (waiting_items inbox.new
+            ≡ drop at_most (waiting_items inbox.old)) }
         ensures err { OnErr result (unread_bytes next.new ≡ []) }
     {
         if self.turned && inbox.is_empty() {
@@ -54,8 +59,10 @@ fn feed<T: Turn>(stage: &mut T, piece: &[u8], into: &mut Inbox) -> Result<(), Me
     requires { IsTrue (T.is_usable stage.old) }
     ensures usable { T.is_usable stage.new ≡ is_ok result }
     ensures same_plan { T.plan stage.new ≡ T.plan stage.old }
-    ensures passes { OnOk result ((h : Option StageFed) → T.stands stage.old h → ended_of h ≡ false → into.old.ended ≡ false
-        → Passes (T.gives (T.plan stage.old)) (T.stands stage.new) h (bytes_fed h ++ piece.now) false into.old into.new) }
+    ensures passes { OnOk result ((h : Option StageFed) → T.stands stage.old h → ended_of h ≡ false
+        → into.old.ended ≡ false
+        → Passes (T.gives (T.plan stage.old)) (T.stands stage.new) h
+        (bytes_fed h ++ piece.now) false into.old into.new) }
     ensures err { OnErr result (unread_bytes into.new ≡ []) }
 {
     // Only of a stage that was fed in order it is known that it appends.
@@ -70,13 +77,16 @@ fn feed<T: Turn>(stage: &mut T, piece: &[u8], into: &mut Inbox) -> Result<(), Me
     }
 }
 
-// Ends the stage's input. The end goes into the inbox unless the stage has stopped; after an error that is empty.
+// Ends the stage's input. The end goes into the inbox unless the stage has stopped; after an error
+// that is empty.
 fn end<T: Turn>(stage: &mut T, into: &mut Inbox) -> Result<(), Memory>
     requires { IsTrue (T.is_usable stage.old) }
     ensures usable { T.is_usable stage.new ≡ is_ok result }
     ensures same_plan { T.plan stage.new ≡ T.plan stage.old }
-    ensures passes { OnOk result ((h : Option StageFed) → T.stands stage.old h → ended_of h ≡ false → into.old.ended ≡ false
-        → Passes (T.gives (T.plan stage.old)) (T.stands stage.new) h (bytes_fed h) true into.old into.new) }
+    ensures passes { OnOk result ((h : Option StageFed) → T.stands stage.old h → ended_of h ≡ false
+        → into.old.ended ≡ false
+        → Passes (T.gives (T.plan stage.old)) (T.stands stage.new) h
+        (bytes_fed h) true into.old into.new) }
     ensures err { OnErr result (unread_bytes into.new ≡ []) }
 {
     let fate = stage.end(&mut into.bytes);

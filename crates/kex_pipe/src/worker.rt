@@ -1,12 +1,14 @@
 // What a stage does with the bytes that its limit lets through.
 
-ghost use Rattle.std.specs.Prelude.{◌≡◌, ◌+◌, ◌<◌, ◌≤◌, ◌^◌, [], ℕ, Bool, List, Option, None, IfOk, OnErr, IsTrue, length};
+ghost use Rattle.std.specs.Prelude.{◌≡◌, ◌+◌, ◌<◌, ◌≤◌, ◌^◌, [], ℕ, Bool, List, Option, None, IfOk};
+ghost use Rattle.std.specs.Prelude.{OnErr, IsTrue, length};
 ghost use Rattle.kex_model.specs.Answers.{Answer};
 
 use kex_code::memory::Memory;
 use std::alloc::Global;
 
-/// What works in a stage: it is given bytes that the stage's limit lets through, until one stops it, and then their end.
+/// What works in a stage: it is given bytes that the stage's limit lets through, until one stops
+/// it, and then their end.
 ///
 /// What it says of texts is its own: `Bounded` makes a stage of any that `answers`.
 pub trait Worker {
@@ -49,13 +51,15 @@ pub trait Worker {
         ensures ready { IfOk result (λ s. IsTrue (is_ready s)) }
         ensures counted { IfOk result (λ s. counted s ≡ 0) };
 
-    /// Reads more bytes, and appends what is said and wasn't yet. Tells which byte stops it, if one does, as a number in all bytes.
+    /// Reads more bytes, and appends what is said and wasn't yet. Tells which byte stops it, if one
+    /// does, as a number in all bytes.
     fn go_on(&mut self, piece: &[u8], out: &mut Vec<u8>) -> Result<Option<u64>, Memory>
         requires ready { IsTrue (is_ready self.old) }
         requires room { counted self.old + length piece.now < 2 ^ 64 }
         ensures same { machine self.new ≡ machine self.old }
         ensures reads { IfOk result (λ at. (w text : List ℕ) → follows self.old w text
-            → ReadMore (says (machine self.old)) (follows self.new) w text piece.now at out.old.items out.new.items) }
+            → ReadMore (says (machine self.old))
+            (follows self.new) w text piece.now at out.old.items out.new.items) }
         ensures ready { IfOk result (λ at. at ≡ None → IsTrue (is_ready self.new)) }
         ensures counted { counted self.new ≤ counted self.old + length piece.now }
         ensures wants { OnErr result (IsTrue may_want) };

@@ -2,7 +2,8 @@
 use Rattle.std.specs.Prelude.{◌≡◌, ℕ, Bool, true, false, Option, option_map, Result, Ok, Err}
 use Rattle.kex_ports.specs.Calls.{next_count}
 
--- How many calls were to finish it, how many writes failed, and whether the last call was to finish it.
+-- How many calls were to finish it, how many writes failed, and whether the last call was to finish
+-- it.
 pub record Ending : Type 0 where
   pub finishes : ℕ
   pub failed_writes : ℕ
@@ -12,10 +13,12 @@ abbrev pub never_ended : Ending
 never_ended = record { finishes = 0; failed_writes = 0; is_closed = false }
 
 abbrev pub written_ending : Ending → Ending
-written_ending e = record { finishes = e.finishes; failed_writes = e.failed_writes; is_closed = false }
+written_ending e =
+    record { finishes = e.finishes; failed_writes = e.failed_writes; is_closed = false }
 
 abbrev pub failed_ending : Ending → Ending
-failed_ending e = record { finishes = e.finishes; failed_writes = next_count e.failed_writes; is_closed = false }
+failed_ending e =
+    record { finishes = e.finishes; failed_writes = next_count e.failed_writes; is_closed = false }
 
 -- After a call to write.
 abbrev pub IsWritten : {T E : Type 0} → Option Ending → Option Ending → Result T E → Type 0
@@ -23,7 +26,8 @@ IsWritten before now (Ok n) = now ≡ option_map written_ending before
 IsWritten before now (Err e) = now ≡ option_map failed_ending before
 
 abbrev pub finished_ending : Ending → Ending
-finished_ending e = record { finishes = next_count e.finishes; failed_writes = e.failed_writes; is_closed = true }
+finished_ending e =
+    record { finishes = next_count e.finishes; failed_writes = e.failed_writes; is_closed = true }
 
 -- After a call to finish.
 abbrev pub after_finish : Option Ending → Option Ending

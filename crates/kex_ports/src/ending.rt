@@ -1,11 +1,12 @@
 // How a sink in memory was ended.
 ghost use Rattle.std.specs.Prelude.{◌≡◌};
-ghost use Rattle.kex_ports.specs.Endings.{never_ended, written_ending, failed_ending, finished_ending};
+ghost use Rattle.kex_ports.specs.Endings.{never_ended, written_ending, failed_ending};
+ghost use Rattle.kex_ports.specs.Endings.{finished_ending};
 
 use std::marker::Model;
 
-// How many calls were to finish it, how many writes failed, and whether the last call was to finish it. A count stands still
-// at its last value.
+// How many calls were to finish it, how many writes failed, and whether the last call was to finish
+// it. A count stands still at its last value.
 #[derive(Drop)]
 pub(crate) struct Ending {
     finishes: u64,
@@ -18,7 +19,11 @@ impl Model for Ending {
 
     ghost Value = { Ended };
 
-    ghost view = { λ e. record { finishes = e.finishes; failed_writes = e.failed_writes; is_closed = e.is_closed } };
+    ghost view = { λ e. record {
+      finishes = e.finishes;
+      failed_writes = e.failed_writes;
+      is_closed = e.is_closed;
+    } };
 }
 
 impl Ending {

@@ -55,8 +55,8 @@ impl Watched {
     }
 }
 
-/// For tests: each of two stages raises a flag of its own as it first enters, and then looks for the other's flag, at most
-/// 50,000,000 times.
+/// For tests: each of two stages raises a flag of its own as it first enters, and then looks for
+/// the other's flag, at most 50,000,000 times.
 #[derive(Drop)]
 pub struct MeetGate {
     one: Watched,

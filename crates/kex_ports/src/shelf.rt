@@ -1,5 +1,6 @@
 // Texts by name.
-ghost use Rattle.std.specs.Prelude.{◌≡◌, ◌≤◌, ◌∷◌, [], ℕ, List, Option, Some, IfOk, OnOk, OnErr, IsErrOf, option_map, length, map, string_bytes};
+ghost use Rattle.std.specs.Prelude.{◌≡◌, ◌≤◌, ◌∷◌, [], ℕ, List, Option, Some, IfOk, OnOk, OnErr};
+ghost use Rattle.std.specs.Prelude.{IsErrOf, option_map, length, map, string_bytes};
 ghost use Rattle.kex_ports.specs.Calls.{none_made};
 ghost use Rattle.kex_ports.specs.InMemory.{HasTaken};
 ghost use Rattle.kex_ports.specs.Named.{Texts, text_named};
@@ -39,11 +40,14 @@ pub trait Shelf {
     /// The text of a name.
     fn take(&mut self, alloc: Global, name: &str, limit: usize) -> Result<Vec<u8>, ShelfAnswer>
         ensures texts { texts self.new ≡ texts self.old }
-        ensures found { IfOk result (λ text. IsTold (told_of (texts self.old) name.now) text.items) }
+        ensures found { IfOk result (λ text.
+            IsTold (told_of (texts self.old) name.now) text.items) }
         ensures within { IfOk result (λ text. length text.items ≤ limit) }
-        ensures too_long { IsErrOf result TooLong → IsPast (told_of (texts self.old) name.now) limit }
+        ensures too_long { IsErrOf result TooLong
+            → IsPast (told_of (texts self.old) name.now) limit }
         ensures cause { HasShelfCause (faults self.old) (faults self.new) result }
-        ensures broken { HasShelfBreak (told_of (texts self.old) name.now) (breaks self.old) (breaks self.new) result };
+        ensures broken { HasShelfBreak (told_of (texts self.old) name.now) (breaks self.old)
+            (breaks self.new) result };
 }
 
 #[derive(Drop)]
@@ -67,7 +71,12 @@ impl Model for MemShelf {
 
     ghost Value = { Shelved };
 
-    ghost view = { λ s. record { texts = map (λ e. (string_bytes e.name, e.text.items)) s.texts.items; calls = s.calls; breaks = s.breaks } };
+    ghost view = { λ s. record {
+      texts = map (λ e.
+          (string_bytes e.name, e.text.items)) s.texts.items;
+      calls = s.calls;
+      breaks = s.breaks;
+    } };
 }
 
 impl MemShelf {
@@ -85,7 +94,14 @@ impl MemShelf {
 
     /// Gives the name this text, in place of one that it had.
     pub fn put(&mut self, name: &str, text: &[u8]) -> Result<(), Memory>
-        ensures texts { OnOk result (self.new ≡ record { texts = (name.now, text.now) ∷ self.old.texts; calls = self.old.calls; breaks = self.old.breaks }) }
+        ensures texts { OnOk result (self.new ≡ record {
+          texts = (
+            name.now,
+            text.now,
+          ) ∷ self.old.texts;
+          calls = self.old.calls;
+          breaks = self.old.breaks;
+        }) }
         ensures kept { OnErr result (self.new ≡ self.old) }
     {
         let name = name.to_owned(self.alloc)?;
@@ -116,11 +132,14 @@ impl Shelf for MemShelf {
 
     fn take(&mut self, alloc: Global, name: &str, limit: usize) -> Result<Vec<u8>, ShelfAnswer>
         ensures texts { Some self.new.texts ≡ Some self.old.texts }
-        ensures found { IfOk result (λ text. IsTold (told_of (Some self.old.texts) name.now) text.items) }
+        ensures found { IfOk result (λ text.
+            IsTold (told_of (Some self.old.texts) name.now) text.items) }
         ensures within { IfOk result (λ text. length text.items ≤ limit) }
-        ensures too_long { IsErrOf result TooLong → IsPast (told_of (Some self.old.texts) name.now) limit }
+        ensures too_long { IsErrOf result TooLong
+            → IsPast (told_of (Some self.old.texts) name.now) limit }
         ensures cause { HasShelfCause self.old.calls.faults self.new.calls.faults result }
-        ensures broken { HasShelfBreak (told_of (Some self.old.texts) name.now) self.old.breaks self.new.breaks result }
+        ensures broken { HasShelfBreak
+            (told_of (Some self.old.texts) name.now) self.old.breaks self.new.breaks result }
         ensures exact { HasTaken (λ text. text.items) self.old self.new name.now limit result }
     {
         let Some(text) = find(&self.texts, name) else {

@@ -1,5 +1,6 @@
 // Where output goes.
-ghost use Rattle.std.specs.Prelude.{◌≡◌, ◌<◌, ◌≤◌, [], List, ℕ, Option, Some, None, IsOk, OnErr, IfOk, length, take};
+ghost use Rattle.std.specs.Prelude.{◌≡◌, ◌<◌, ◌≤◌, [], List, ℕ, Option, Some, None, IsOk, OnErr};
+ghost use Rattle.std.specs.Prelude.{IfOk, length, take};
 ghost use Rattle.std.specs.Io.KnownBytes.{Appends, Keeps};
 ghost use Rattle.kex_ports.specs.Bytes.{AppendsFront, TakesSome};
 ghost use Rattle.kex_ports.specs.Calls.{none_made};
@@ -28,7 +29,8 @@ pub trait Sink {
     /// Takes at least one byte of a piece that isn't empty, from its front.
     fn write(&mut self, bytes: &[u8]) -> Result<usize, Failed>
         ensures bound { TakesSome result bytes.now }
-        ensures taken { IfOk result (λ n. Appends (held self.old) (held self.new) (take n bytes.now)) }
+        ensures taken { IfOk result (λ n.
+            Appends (held self.old) (held self.new) (take n bytes.now)) }
         ensures failed { OnErr result (AppendsFront (held self.old) (held self.new) bytes.now) }
         ensures cause { HasCause (faults self.old) (faults self.new) result }
         ensures ending { IsWritten (ending self.old) (ending self.new) result };
@@ -40,8 +42,9 @@ pub trait Sink {
         ensures ending { ending self.new ≡ after_finish (ending self.old) };
 }
 
-/// Output in memory, with room that was made ahead, of which a write takes at most so many bytes. The calls with these
-/// numbers, counted from 1, fail; `finish` is a call. So does a write past the room.
+/// Output in memory, with room that was made ahead, of which a write takes at most so many bytes.
+/// The calls with these numbers, counted from 1, fail; `finish` is a call. So does a write past the
+/// room.
 #[derive(Drop)]
 pub struct MemSink {
     held: Vec<u8>,
@@ -57,9 +60,16 @@ impl Model for MemSink {
 
     ghost Value = { SinkHolding };
 
-    ghost view = { λ s. record { held = s.held.items; room = s.room; most = s.per_write; calls = s.calls; ending = s.ending } };
+    ghost view = { λ s. record {
+      held = s.held.items;
+      room = s.room;
+      most = s.per_write;
+      calls = s.calls;
+      ending = s.ending;
+    } };
 
-    ghost invariant = { λ s. (vec_len s.held ≤ s.room) × (s.room ≤ vec_capacity s.held) × (0 < s.per_write) };
+    ghost invariant = { λ s. (vec_len s.held ≤ s.room) × (s.room ≤ vec_capacity s.held)
+        × (0 < s.per_write) };
 }
 
 impl MemSink {
@@ -71,7 +81,13 @@ impl MemSink {
         fails: Vec<u64>,
     ) -> Result<Self, Memory>
         requires { 0 < per_write }
-        ensures { IfOk result (λ s. s ≡ record { held = []; room = room; most = per_write; calls = none_made fails.items; ending = never_ended }) }
+        ensures { IfOk result (λ s. s ≡ record {
+          held = [];
+          room = room;
+          most = per_write;
+          calls = none_made fails.items;
+          ending = never_ended;
+        }) }
     {
         Ok(MemSink {
             held: Vec::with_capacity(alloc, room)?,
@@ -99,8 +115,10 @@ impl Sink for MemSink {
 
     fn write(&mut self, bytes: &[u8]) -> Result<usize, Failed>
         ensures bound { TakesSome result bytes.now }
-        ensures taken { IfOk result (λ n. Appends (Some self.old.held) (Some self.new.held) (take n bytes.now)) }
-        ensures failed { OnErr result (AppendsFront (Some self.old.held) (Some self.new.held) bytes.now) }
+        ensures taken { IfOk result (λ n.
+            Appends (Some self.old.held) (Some self.new.held) (take n bytes.now)) }
+        ensures failed { OnErr result
+            (AppendsFront (Some self.old.held) (Some self.new.held) bytes.now) }
         ensures cause { HasCause self.old.calls.faults self.new.calls.faults result }
         ensures ending { IsWritten (Some self.old.ending) (Some self.new.ending) result }
         ensures exact { SinkHasWritten self.old self.new bytes.now result }

@@ -1,5 +1,6 @@
 // Where input comes from.
-ghost use Rattle.std.specs.Prelude.{◌≡◌, ◌<◌, ◌≤◌, List, ℕ, Option, Some, None, OnErr, IfOk, length, drop, take, min, vec_len};
+ghost use Rattle.std.specs.Prelude.{◌≡◌, ◌<◌, ◌≤◌, List, ℕ, Option, Some, None, OnErr, IfOk};
+ghost use Rattle.std.specs.Prelude.{length, drop, take, min, vec_len};
 ghost use Rattle.std.specs.Io.{ReadsAtMost};
 ghost use Rattle.std.specs.Io.KnownBytes.{ReadConsumes};
 ghost use Rattle.kex_ports.specs.Calls.{none_made};
@@ -52,7 +53,8 @@ fn copy_front(from: &[u8], most: usize, buf: &mut [u8]) -> usize
     count
 }
 
-/// Bytes in memory, of which a read gives at most so many. The calls with these numbers, counted from 1, fail.
+/// Bytes in memory, of which a read gives at most so many. The calls with these numbers, counted
+/// from 1, fail.
 #[derive(Drop)]
 pub struct MemSource {
     bytes: Vec<u8>,
@@ -68,7 +70,12 @@ impl Model for MemSource {
 
     ghost Value = { SourceReading };
 
-    ghost view = { λ s. record { left = drop s.at s.bytes.items; most = s.per_read; calls = s.calls; reads = s.asked } };
+    ghost view = { λ s. record {
+      left = drop s.at s.bytes.items;
+      most = s.per_read;
+      calls = s.calls;
+      reads = s.asked;
+    } };
 
     ghost invariant = { λ s. (s.at ≤ vec_len s.bytes) × (0 < s.per_read) };
 }
@@ -77,7 +84,12 @@ impl MemSource {
     /// A read gives at most `per_read` bytes, and the calls numbered in `fails` fail.
     pub fn new(bytes: Vec<u8>, per_read: usize, fails: Vec<u64>) -> Self
         requires { 0 < per_read }
-        ensures { result ≡ record { left = bytes.items; most = per_read; calls = none_made fails.items; reads = no_reads } }
+        ensures { result ≡ record {
+          left = bytes.items;
+          most = per_read;
+          calls = none_made fails.items;
+          reads = no_reads;
+        } }
     {
         MemSource {
             bytes,
@@ -108,7 +120,8 @@ impl Source for MemSource {
         ensures bound { ReadsAtMost result buf.new }
         ensures bytes { ReadConsumes (Some self.old.left) (Some self.new.left) result buf.new }
         ensures cause { HasCause self.old.calls.faults self.new.calls.faults result }
-        ensures asked { HasAsked (Some self.old.reads) (Some self.new.reads) (length buf.old) result }
+        ensures asked { HasAsked (Some self.old.reads) (Some self.new.reads)
+            (length buf.old) result }
         ensures exact { HasRead self.old self.new (length buf.old) result }
         ensures beyond { IfOk result (λ n. drop n buf.new ≡ drop n buf.old) }
         ensures untouched { OnErr result (buf.new ≡ buf.old) }

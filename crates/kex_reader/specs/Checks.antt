@@ -6,9 +6,13 @@ use Rattle.kex_regexp.specs.declared.breaks.Break.TheVariants.{BadRegex, BadCoun
 use Rattle.kex_regexp.specs.Breaks.{comes_before}
 use Rattle.kex_regexp.specs.Bodies.{IsFirstWrong, BreaksFirst}
 use Rattle.kex_regexp.specs.Postfixes.{is_bad_count}
-use Rattle.kex_reader.specs.Syntax.{Postfix, ZeroOrMore, OneOrMore, Optional, Term, Last, Or, Seq, Only, Then, Pre, Mute, Into, Once, Turns, Atom, One, Call, Lit, Match, Write, Assign, Group, Definition, Header, NoStart, Stages, Program, term, seq, pre, atom, header}
+use Rattle.kex_reader.specs.Syntax.{Postfix, ZeroOrMore, OneOrMore, Optional, Term, Last, Or, Seq}
+use Rattle.kex_reader.specs.Syntax.{Only, Then, Pre, Mute, Into, Once, Turns, Atom, One, Call, Lit}
+use Rattle.kex_reader.specs.Syntax.{Match, Write, Assign, Group, Definition, Header, NoStart}
+use Rattle.kex_reader.specs.Syntax.{Stages, Program, term, seq, pre, atom, header}
 
--- a mark or prefix under so many others, a count, a body under so many, a stage by its number from 1; each with its offset
+-- a mark or prefix under so many others, a count, a body under so many, a stage by its number from
+-- 1; each with its offset
 pub data Check : Type 0 where
   Nested : (at depth : ℕ) → Check
   Counted : (at : ℕ) → (postfix : Postfix) → Check
@@ -47,17 +51,20 @@ postfix_checks p at = Counted at p ∷ []
 unfoldable mutual
   pub term_checks : Term → (ℕ → ℕ) → ℕ → ℕ → List Check
   term_checks (Last s) at i depth = seq_checks s at i depth
-  term_checks (Or s t) at i depth = seq_checks s at i depth ++ term_checks t at (i + length (seq s) + 1) depth
+  term_checks (Or s t) at i depth =
+      seq_checks s at i depth ++ term_checks t at (i + length (seq s) + 1) depth
 
   pub seq_checks : Seq → (ℕ → ℕ) → ℕ → ℕ → List Check
   seq_checks (Only p) at i depth = pre_checks p at i depth
-  seq_checks (Then p s) at i depth = pre_checks p at i depth ++ seq_checks s at (i + length (pre p)) depth
+  seq_checks (Then p s) at i depth =
+      pre_checks p at i depth ++ seq_checks s at (i + length (pre p)) depth
 
   pub pre_checks : Pre → (ℕ → ℕ) → ℕ → ℕ → List Check
   pre_checks (Mute p) at i depth = Nested (at i) depth ∷ pre_checks p at (i + 1) (suc depth)
   pre_checks (Into r p) at i depth = Nested (at i) depth ∷ pre_checks p at (i + 2) (suc depth)
   pre_checks (Once a) at i depth = atom_checks a at i depth
-  pre_checks (Turns a p lazy) at i depth = atom_checks a at i depth ++ postfix_checks p (at (i + length (atom a)))
+  pre_checks (Turns a p lazy) at i depth =
+      atom_checks a at i depth ++ postfix_checks p (at (i + length (atom a)))
 
   pub atom_checks : Atom → (ℕ → ℕ) → ℕ → ℕ → List Check
   atom_checks One at i depth = []
@@ -70,7 +77,8 @@ unfoldable mutual
 
 unfoldable pub definition_checks : List Definition → (ℕ → ℕ) → ℕ → List Check
 definition_checks [] at i = []
-definition_checks (d ∷ ds) at i = term_checks d.term at (i + 2) 0 ++ definition_checks ds at (i + 2 + length (term d.term))
+definition_checks (d ∷ ds) at i =
+    term_checks d.term at (i + 2) 0 ++ definition_checks ds at (i + 2 + length (term d.term))
 
 unfoldable pub stage_checks : List (List ℕ) → (ℕ → ℕ) → ℕ → ℕ → List Check
 stage_checks [] at i number = []
@@ -81,4 +89,5 @@ header_checks NoStart at = []
 header_checks (Stages n ns) at = stage_checks (n ∷ ns) at 2 1
 
 abbrev pub program_checks : Program → (ℕ → ℕ) → List Check
-program_checks p at = header_checks p.header at ++ definition_checks p.definitions at (length (header p.header))
+program_checks p at =
+    header_checks p.header at ++ definition_checks p.definitions at (length (header p.header))

@@ -9,7 +9,8 @@ IsProgram ws = (p : Program) × (program p ≡ ws)
 abbrev pub BeginsProgram : List Word → Type 0
 BeginsProgram ws = (more : List Word) × IsProgram (ws ++ more)
 
--- the words before number k begin a program, and those up to and with it begin none, or there are no more and they are none
+-- the words before number k begin a program, and those up to and with it begin none, or there are
+-- no more and they are none
 pub record IsFirstWrong (ws : List Word) (k : ℕ) : Type 0 where
   pub inside : k ≤ length ws
   pub before : BeginsProgram (take k ws)

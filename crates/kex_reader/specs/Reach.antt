@@ -9,7 +9,8 @@ use Rattle.kex_regexp.specs.Parents.{HasChild}
 -- these nodes, from node n's parent up, lead to the root of a definition
 unfoldable pub LeadsUp : Grammar → List ℕ → ℕ → Type 0
 LeadsUp P [] n = (d : Root) × IsAmong P.definitions d × (n ≡ d.root)
-LeadsUp P (m ∷ ms) n = (v : Node) × (slice_get P.nodes m ≡ Some v) × HasChild v.kind n × LeadsUp P ms m
+LeadsUp P (m ∷ ms) n = (v : Node) × (slice_get P.nodes m ≡ Some v) × HasChild v.kind n
+    × LeadsUp P ms m
 
 abbrev pub IsReached : Grammar → ℕ → Type 0
 IsReached P n = (ms : List ℕ) × LeadsUp P ms n

@@ -1,10 +1,23 @@
--- The reader of programs as a machine over words: what has been read so far, and what one word more makes of it.
-use Rattle.std.specs.Prelude.{ℕ, Bool, true, false, List, [], ◌∷◌, ◌++◌, Option, Some, None, bytes_eq, codes, if◌then◌else◌}
-use Rattle.kex_reader.specs.Syntax.{Word, Name, Number, Literal, Regex, Define, Colon, Pipe, Bar, Tilde, At, Star, Plus, PlusEquals, Question, OpenBrace, CloseBrace, Comma, Bang, OpenBracket, CloseBracket, Arrow, OpenParen, CloseParen, RegisterPart, Text, Held, Postfix, ZeroOrMore, OneOrMore, Optional, Term, Last, Or, Seq, Only, Then, Pre, Mute, Into, Once, Turns, Atom, One, Call, Lit, Match, Write, Assign, Group, Definition, Header, NoStart, Stages, Program, start, register_part, parts, sign, signs, postfix, seq, pre, atom, definitions, stages, header}
-use Rattle.kex_regexp.specs.Postfixes.{CountSign, Digits, CommaSign, CloseSign, NoSign, count_by, counted}
-pub use Rattle.kex_regexp.specs.Postfixes.{Counting, Opened, Low, LowComma, LowHigh, OnlyComma, High, CountStep, CountOn, CountRead, CountWrong}
+-- The reader of programs as a machine over words: what has been read so far, and what one word more
+-- makes of it.
+use Rattle.std.specs.Prelude.{ℕ, Bool, true, false, List, [], ◌∷◌, ◌++◌, Option, Some, None}
+use Rattle.std.specs.Prelude.{bytes_eq, codes, if◌then◌else◌}
+use Rattle.kex_reader.specs.Syntax.{Word, Name, Number, Literal, Regex, Define, Colon, Pipe, Bar}
+use Rattle.kex_reader.specs.Syntax.{Tilde, At, Star, Plus, PlusEquals, Question, OpenBrace}
+use Rattle.kex_reader.specs.Syntax.{CloseBrace, Comma, Bang, OpenBracket, CloseBracket, Arrow}
+use Rattle.kex_reader.specs.Syntax.{OpenParen, CloseParen, RegisterPart, Text, Held, Postfix}
+use Rattle.kex_reader.specs.Syntax.{ZeroOrMore, OneOrMore, Optional, Term, Last, Or, Seq, Only}
+use Rattle.kex_reader.specs.Syntax.{Then, Pre, Mute, Into, Once, Turns, Atom, One, Call, Lit, Match}
+use Rattle.kex_reader.specs.Syntax.{Write, Assign, Group, Definition, Header, NoStart, Stages}
+use Rattle.kex_reader.specs.Syntax.{Program, start, register_part, parts, sign, signs, postfix, seq}
+use Rattle.kex_reader.specs.Syntax.{pre, atom, definitions, stages, header}
+use Rattle.kex_regexp.specs.Postfixes.{CountSign, Digits, CommaSign, CloseSign, NoSign, count_by}
+use Rattle.kex_regexp.specs.Postfixes.{counted}
+pub use Rattle.kex_regexp.specs.Postfixes.{Counting, Opened, Low, LowComma, LowHigh, OnlyComma}
+pub use Rattle.kex_regexp.specs.Postfixes.{High, CountStep, CountOn, CountRead, CountWrong}
 
--- what stands open in a definition, the newest first: parentheses, what a bar has ended, what has ended behind it, prefixes
+-- what stands open in a definition, the newest first: parentheses, what a bar has ended, what has
+-- ended behind it, prefixes
 pub data Entry : Type 0 where
   Mark : Entry
   Ended : (seq : Seq) → Entry
@@ -12,7 +25,8 @@ pub data Entry : Type 0 where
   Muted : Entry
   Storing : (register : List ℕ) → Entry
 
--- a pre has to come, or one has ended, an atom, one with a postfix, a name that may be a call, a register or a head, or something is half read
+-- a pre has to come, or one has ended, an atom, one with a postfix, a name that may be a call, a
+-- register or a head, or something is half read
 pub data Mode : Type 0 where
   Need : Mode
   Ready : Mode
@@ -23,7 +37,8 @@ pub data Mode : Type 0 where
   Bracket : Mode
   BracketName : (register : List ℕ) → Mode
   Assigning : (append : Bool) → (register : List ℕ) → Mode
-  Assigned : (append : Bool) → (register : List ℕ) → (first : RegisterPart) → (others : List RegisterPart) → Mode
+  Assigned : (append : Bool) → (register : List ℕ) → (first : RegisterPart)
+      → (others : List RegisterPart) → Mode
   InCount : (atom : Atom) → Counting → Mode
 
 -- inside a definition
@@ -154,7 +169,8 @@ first_part append r es (Literal s) = goes (Assigned append r (Text s) []) es
 first_part append r es (Name n) = goes (Assigned append r (Held n) []) es
 first_part append r es _ = None
 
-unfoldable pub next_part : Bool → List ℕ → RegisterPart → List RegisterPart → List Entry → Word → Option Inside
+unfoldable pub next_part : Bool → List ℕ → RegisterPart → List RegisterPart → List Entry → Word
+    → Option Inside
 next_part append r p ps es (Literal s) = goes (Assigned append r p (ps ++ Text s ∷ [])) es
 next_part append r p ps es (Name n) = goes (Assigned append r p (ps ++ Held n ∷ [])) es
 next_part append r p ps es CloseBracket = goes (After (Assign append r p ps)) es
@@ -197,20 +213,25 @@ lift h ds name None = None
 lift h ds name (Some i) = Some (Within h ds name i)
 
 -- a definition ends where the next one's head stands
-unfoldable pub next_head : Header → List Definition → List ℕ → List ℕ → Term → List Entry → Option State
-next_head h ds name n t [] = Some (Within h (ds ++ record { name = name; term = t } ∷ []) n (record { mode = Need; entries = [] }))
+unfoldable pub next_head : Header → List Definition → List ℕ → List ℕ → Term → List Entry
+    → Option State
+next_head h ds name n t [] = Some (Within h (ds ++ record { name = name; term = t } ∷ []) n
+    (record { mode = Need; entries = [] }))
 next_head h ds name n t (e ∷ es) = None
 
-unfoldable pub on_head : Header → List Definition → List ℕ → List ℕ → Option (Term × List Entry) → Option State
+unfoldable pub on_head : Header → List Definition → List ℕ → List ℕ → Option (Term × List Entry)
+    → Option State
 on_head h ds name n None = None
 on_head h ds name n (Some t) = next_head h ds name n t.0 t.1
 
 -- a name that has to be a call or a register is no head
-unfoldable pub on_define : Header → List Definition → List ℕ → Bool → List ℕ → List Entry → Option State
+unfoldable pub on_define : Header → List Definition → List ℕ → Bool → List ℕ → List Entry
+    → Option State
 on_define h ds name true n es = on_head h ds name n (take_term es)
 on_define h ds name false n es = None
 
-unfoldable pub step_within : Header → List Definition → List ℕ → Mode → List Entry → Word → Option State
+unfoldable pub step_within : Header → List Definition → List ℕ → Mode → List Entry → Word
+    → Option State
 step_within h ds name (Named free n) es Define = on_define h ds name free n es
 step_within h ds name m es w = lift h ds name (step_in m es w)
 
@@ -250,19 +271,25 @@ unfoldable pub state_after : Option State → List Word → Option State
 state_after o [] = o
 state_after o (w ∷ ws) = state_after (next o w) ws
 
-unfoldable pub program_of_whole : Header → List Definition → List ℕ → Term → List Entry → Option Program
-program_of_whole h ds name t [] = Some (record { header = h; definitions = ds ++ record { name = name; term = t } ∷ [] })
+unfoldable pub program_of_whole : Header → List Definition → List ℕ → Term → List Entry
+    → Option Program
+program_of_whole h ds name t [] =
+    Some (record { header = h; definitions = ds ++ record { name = name; term = t } ∷ [] })
 program_of_whole h ds name t (e ∷ es) = None
 
-unfoldable pub program_of_term : Header → List Definition → List ℕ → Option (Term × List Entry) → Option Program
+unfoldable pub program_of_term : Header → List Definition → List ℕ → Option (Term × List Entry)
+    → Option Program
 program_of_term h ds name None = None
 program_of_term h ds name (Some t) = program_of_whole h ds name t.0 t.1
 
-unfoldable pub finish_within : Header → List Definition → List ℕ → Mode → List Entry → Option Program
+unfoldable pub finish_within : Header → List Definition → List ℕ → Mode → List Entry
+    → Option Program
 finish_within h ds name Ready es = program_of_term h ds name (take_term es)
 finish_within h ds name (After a) es = program_of_term h ds name (take_term (with_pre (Once a) es))
-finish_within h ds name (Turned a p) es = program_of_term h ds name (take_term (with_pre (Turns a p false) es))
-finish_within h ds name (Named free n) es = program_of_term h ds name (take_term (with_pre (Once (Call n)) es))
+finish_within h ds name (Turned a p) es =
+    program_of_term h ds name (take_term (with_pre (Turns a p false) es))
+finish_within h ds name (Named free n) es =
+    program_of_term h ds name (take_term (with_pre (Once (Call n)) es))
 finish_within h ds name _ es = None
 
 unfoldable pub finish : State → Option Program

@@ -1,5 +1,6 @@
 -- What a text spells, and why it is refused.
-use Rattle.std.specs.Prelude.{◌≡◌, ℕ, ◌<◌, ◌≤◌, List, [], ◌∷◌, length, map, get_or, bytes_eq, codes, None, if◌then◌else◌}
+use Rattle.std.specs.Prelude.{◌≡◌, ℕ, ◌<◌, ◌≤◌, List, [], ◌∷◌, length, map, get_or, bytes_eq, codes}
+use Rattle.std.specs.Prelude.{None, if◌then◌else◌}
 use Rattle.std.specs.List.{slice_range}
 use Rattle.kex_code.specs.Codes.{Different}
 use Rattle.kex_model.specs.Programs.{Grammar}
@@ -12,7 +13,8 @@ use Rattle.kex_reader.specs.declared.inside.StepFault.{StepFault}
 use Rattle.kex_reader.specs.declared.inside.StepFault.TheVariants as steps
 use Rattle.kex_tokens.specs.Texts.{AreTokens, IsBadToken, most_text}
 use Rattle.kex_regexp.specs.declared.breaks.Break.{Break}
-use Rattle.kex_regexp.specs.declared.breaks.Break.TheVariants.{BadRegex, BadCount, BadSet, OverLimit}
+use Rattle.kex_regexp.specs.declared.breaks.Break.TheVariants.{BadRegex, BadCount, BadSet}
+use Rattle.kex_regexp.specs.declared.breaks.Break.TheVariants.{OverLimit}
 use Rattle.kex_reader.specs.declared.refusal.ReadRefusal.{ReadRefusal}
 use Rattle.kex_reader.specs.declared.refusal.ReadRefusal.TheVariants as refusals
 use Rattle.kex_reader.specs.Syntax.{Word, word, Header, NoStart, Stages, Program, program, header}
@@ -29,10 +31,12 @@ words text ts = map (λ t. word t.kind (slice_range text t.from t.to)) ts
 abbrev pub offset : List ℕ → List Token → ℕ → ℕ
 offset text ts k = get_or (map (λ t. t.from) ts) k (length text)
 
--- without a start line the one stage is main, with the offset of its first definition, if it has one
+-- without a start line the one stage is main, with the offset of its first definition, if it has
+-- one
 abbrev pub main_stage : List (List ℕ) → List Root → List Start
 main_stage names [] = []
-main_stage names (d ∷ ds) = if bytes_eq (get_or names d.name []) (codes "main") then record { name = d.name; at = d.at } ∷ [] else main_stage names ds
+main_stage names (d ∷ ds) = if bytes_eq (get_or names d.name []) (codes "main")
+    then record { name = d.name; at = d.at } ∷ [] else main_stage names ds
 
 abbrev pub ShowsHeader : Header → Made → (ℕ → ℕ) → Grammar → Type 0
 ShowsHeader NoStart made at P = P.stages ≡ main_stage P.names P.definitions
@@ -40,14 +44,17 @@ ShowsHeader (Stages n ns) made at P = ShowsStages (n ∷ ns) made at P.stages 2
 
 -- what is made where a program is read whole, with these registers
 abbrev pub made_of : Grammar → List (List ℕ) → Made
-made_of P registers = record { nodes = P.nodes; names = P.names; registers = registers; broken = None }
+made_of P registers =
+    record { nodes = P.nodes; names = P.names; registers = registers; broken = None }
 
 -- the nodes, definitions and stages of the program are those of the tree, whatever their numbers
 pub record ShowsProgram (tree : Program) (made : Made) (at : ℕ → ℕ) (P : Grammar) : Type 0 where
-  pub definitions : ShowsDefinitions tree.definitions made at P.definitions (length (header tree.header))
+  pub definitions
+      : ShowsDefinitions tree.definitions made at P.definitions (length (header tree.header))
   pub stages : ShowsHeader tree.header made at P
 
--- the tokens of the text are a program's, no limit is broken, and these are its nodes, names and registers
+-- the tokens of the text are a program's, no limit is broken, and these are its nodes, names and
+-- registers
 pub record Spells (text : List ℕ) (P : Grammar) : Type 0 where
   pub short : length text ≤ most_text
   pub tokens : List Token
@@ -62,13 +69,16 @@ pub record Spells (text : List ℕ) (P : Grammar) : Type 0 where
   pub counted : P.registers ≡ length registers
   pub none_spare : NoneSpare P
 
--- the tokens before this offset begin a program, and those up to and with it begin none, or they end and are none
+-- the tokens before this offset begin a program, and those up to and with it begin none, or they
+-- end and are none
 abbrev pub IsUnexpected : List ℕ → ℕ → Type 0
-IsUnexpected text at = (ts : List Token) × (k : ℕ) × AreTokens text ts × IsFirstWrong (words text ts) k × (at ≡ offset text ts k)
+IsUnexpected text at = (ts : List Token) × (k : ℕ) × AreTokens text ts
+    × IsFirstWrong (words text ts) k × (at ≡ offset text ts k)
 
 -- the tokens are a program's, and this is the least limit that it breaks
 abbrev pub BreaksLimit : List ℕ → Break → Type 0
-BreaksLimit text b = (ts : List Token) × (tree : Program) × AreTokens text ts × (program tree ≡ words text ts) × IsLeastBreak (program_checks tree (offset text ts)) b
+BreaksLimit text b = (ts : List Token) × (tree : Program) × AreTokens text ts
+    × (program tree ≡ words text ts) × IsLeastBreak (program_checks tree (offset text ts)) b
 
 -- the refusals for what the parts answer
 abbrev pub of_token : TokenFault → ReadRefusal
@@ -94,5 +104,6 @@ IsRefusedAs text (refusals.Unexpected at) = (length text ≤ most_text) × IsUne
 IsRefusedAs text (refusals.BadRegex at) = (length text ≤ most_text) × BreaksLimit text (BadRegex at)
 IsRefusedAs text (refusals.BadCount at) = (length text ≤ most_text) × BreaksLimit text (BadCount at)
 IsRefusedAs text (refusals.BadSet at) = (length text ≤ most_text) × BreaksLimit text (BadSet at)
-IsRefusedAs text (refusals.OverLimit at) = (length text ≤ most_text) × BreaksLimit text (OverLimit at)
+IsRefusedAs text (refusals.OverLimit at) = (length text ≤ most_text)
+    × BreaksLimit text (OverLimit at)
 IsRefusedAs text refusals.Memory = Unit {0}

@@ -1,5 +1,8 @@
--- What the code holds of a program that is being read, and the state of the machine that it stands for.
-use Rattle.std.specs.Prelude.{◌≡◌, ℕ, suc, ◌+◌, ◌<◌, ◌≤◌, Bool, true, false, List, [], ◌∷◌, ◌++◌, length, Option, Some, None, Result, Ok, Err, IfOk, OnOk, slice_get, ◌⊎◌, if◌then◌else◌}
+-- What the code holds of a program that is being read, and the state of the machine that it stands
+-- for.
+use Rattle.std.specs.Prelude.{◌≡◌, ℕ, suc, ◌+◌, ◌<◌, ◌≤◌, Bool, true, false, List, [], ◌∷◌, ◌++◌}
+use Rattle.std.specs.Prelude.{length, Option, Some, None, Result, Ok, Err, IfOk, OnOk, slice_get}
+use Rattle.std.specs.Prelude.{◌⊎◌, if◌then◌else◌}
 use Rattle.kex_model.specs.declared.program.Kind.{Kind}
 use Rattle.kex_model.specs.declared.program.Kind.TheVariants as kinds
 use Rattle.kex_model.specs.declared.program.Node.{Node}
@@ -22,17 +25,27 @@ use Rattle.kex_reader.specs.declared.inside.Wait.{Wait}
 use Rattle.kex_reader.specs.declared.inside.Wait.TheVariants as waits
 use Rattle.kex_reader.specs.declared.inside.StepFault.{StepFault}
 use Rattle.kex_reader.specs.declared.inside.StepFault.TheVariants as faults
-use Rattle.kex_reader.specs.Syntax.{Word, word, Name, Literal, Text, Held, Tilde, At, Star, Plus, Question, OpenBrace, OpenParen, Regex, Define, RegisterPart, Term, Seq, Pre, Atom, Once, Turns, Call, atom, postfix}
-use Rattle.kex_reader.specs.Reading.{Entry, Mark, Ended, Done, Muted, Storing, CountStep, CountOn, CountRead, CountWrong, Mode, Need, Ready, After, Turned, Named, Writing, Bracket, BracketName, Assigning, Assigned, InCount, Inside, inside, first_part, next_part, with_pre, entries, count_step}
-use Rattle.kex_reader.specs.Checks.{Check, Nested, Matched, SomeBreaks, IsLeastBreak, postfix_checks}
+use Rattle.kex_reader.specs.Syntax.{Word, word, Name, Literal, Text, Held, Tilde, At, Star, Plus}
+use Rattle.kex_reader.specs.Syntax.{Question, OpenBrace, OpenParen, Regex, Define, RegisterPart}
+use Rattle.kex_reader.specs.Syntax.{Term, Seq, Pre, Atom, Once, Turns, Call, atom, postfix}
+use Rattle.kex_reader.specs.Reading.{Entry, Mark, Ended, Done, Muted, Storing, CountStep, CountOn}
+use Rattle.kex_reader.specs.Reading.{CountRead, CountWrong, Mode, Need, Ready, After, Turned, Named}
+use Rattle.kex_reader.specs.Reading.{Writing, Bracket, BracketName, Assigning, Assigned, InCount}
+use Rattle.kex_reader.specs.Reading.{Inside, inside, first_part, next_part, with_pre, entries}
+use Rattle.kex_reader.specs.Reading.{count_step}
+use Rattle.kex_reader.specs.Checks.{Check, Nested, Matched, SomeBreaks, IsLeastBreak}
+use Rattle.kex_reader.specs.Checks.{postfix_checks}
 use Rattle.kex_reader.specs.Uses.{Numbered, NodeNumber, RegisterNumber, IsNumberBelow, InNodes}
-use Rattle.kex_reader.specs.Shown.{Made, IsRegister, ShowsTerm, ShowsSeq, ShowsPre, ShowsAtom, ShowsPart, ShowsParts}
+use Rattle.kex_reader.specs.Shown.{Made, IsRegister, ShowsTerm, ShowsSeq, ShowsPre, ShowsAtom}
+use Rattle.kex_reader.specs.Shown.{ShowsPart, ShowsParts}
 
--- what was made stays: nodes, names and registers keep their numbers, and what is broken stays broken
+-- what was made stays: nodes, names and registers keep their numbers, and what is broken stays
+-- broken
 pub record Keeps (old new : Made) : Type 0 where
   pub nodes : (k : ℕ) (v : Node) → slice_get old.nodes k ≡ Some v → slice_get new.nodes k ≡ Some v
   pub names : (k : ℕ) (v : List ℕ) → slice_get old.names k ≡ Some v → slice_get new.names k ≡ Some v
-  pub registers : (k : ℕ) (v : List ℕ) → slice_get old.registers k ≡ Some v → slice_get new.registers k ≡ Some v
+  pub registers : (k : ℕ) (v : List ℕ) → slice_get old.registers k ≡ Some v
+      → slice_get new.registers k ≡ Some v
   pub long : length old.nodes ≤ length new.nodes
   pub broken : new.broken ≡ None → old.broken ≡ None
 
@@ -81,33 +94,46 @@ depth (Done p ∷ es) = depth es
 depth (Muted ∷ es) = suc (depth es)
 depth (Storing r ∷ es) = suc (depth es)
 
--- the constructs, the newest first, show the entries of a definition whose term begins with word number base
+-- the constructs, the newest first, show the entries of a definition whose term begins with word
+-- number base
 unfoldable pub ConstructsShow : Made → (ℕ → ℕ) → ℕ → List Construct → List Entry → Type 0
 ConstructsShow made at base [] [] = Unit {0}
-ConstructsShow made at base (constructs.Mark a ∷ fs) (Mark ∷ es) = (a ≡ at (base + length (entries es))) × ConstructsShow made at base fs es
-ConstructsShow made at base (constructs.Ended p ∷ fs) (Ended s ∷ es) = (p.at ≡ at (base + length (entries es))) × ShowsSeq s made at p.node (base + length (entries es)) × ConstructsShow made at base fs es
-ConstructsShow made at base (constructs.Done p ∷ fs) (Done q ∷ es) = (p.at ≡ at (base + length (entries es))) × ShowsPre q made at p.node (base + length (entries es)) × ConstructsShow made at base fs es
-ConstructsShow made at base (constructs.Muted a ∷ fs) (Muted ∷ es) = (a ≡ at (base + length (entries es))) × ConstructsShow made at base fs es
-ConstructsShow made at base (constructs.Storing s ∷ fs) (Storing r ∷ es) = (s.at ≡ at (base + length (entries es))) × IsRegister made s.register r × ConstructsShow made at base fs es
+ConstructsShow made at base (constructs.Mark a ∷ fs) (Mark ∷ es) =
+    (a ≡ at (base + length (entries es))) × ConstructsShow made at base fs es
+ConstructsShow made at base (constructs.Ended p ∷ fs) (Ended s ∷ es) =
+    (p.at ≡ at (base + length (entries es)))
+    × ShowsSeq s made at p.node (base + length (entries es)) × ConstructsShow made at base fs es
+ConstructsShow made at base (constructs.Done p ∷ fs) (Done q ∷ es) =
+    (p.at ≡ at (base + length (entries es)))
+    × ShowsPre q made at p.node (base + length (entries es)) × ConstructsShow made at base fs es
+ConstructsShow made at base (constructs.Muted a ∷ fs) (Muted ∷ es) =
+    (a ≡ at (base + length (entries es))) × ConstructsShow made at base fs es
+ConstructsShow made at base (constructs.Storing s ∷ fs) (Storing r ∷ es) =
+    (s.at ≡ at (base + length (entries es))) × IsRegister made s.register r
+    × ConstructsShow made at base fs es
 ConstructsShow made at base _ _ = ⊥
 
 -- what has ended on top, as a seq or term above entries that the constructs show
-pub record SeqOn (made : Made) (at : ℕ → ℕ) (base : ℕ) (fs : List Construct) (part : Shown) (t : Seq × List Entry) : Type 0 where
+pub record SeqOn (made : Made) (at : ℕ → ℕ) (base : ℕ) (fs : List Construct) (part : Shown)
+    (t : Seq × List Entry) : Type 0 where
   pub place : part.at ≡ at (base + length (entries t.1))
   pub shows : ShowsSeq t.0 made at part.node (base + length (entries t.1))
   pub below : ConstructsShow made at base fs t.1
 
-pub record TermOn (made : Made) (at : ℕ → ℕ) (base : ℕ) (fs : List Construct) (part : Shown) (t : Term × List Entry) : Type 0 where
+pub record TermOn (made : Made) (at : ℕ → ℕ) (base : ℕ) (fs : List Construct) (part : Shown)
+    (t : Term × List Entry) : Type 0 where
   pub place : part.at ≡ at (base + length (entries t.1))
   pub shows : ShowsTerm t.0 made at part.node (base + length (entries t.1))
   pub below : ConstructsShow made at base fs t.1
 
-abbrev pub SeqTaken : Made → (ℕ → ℕ) → ℕ → List Construct → Option Shown → Option (Seq × List Entry) → Type 0
+abbrev pub SeqTaken : Made → (ℕ → ℕ) → ℕ → List Construct → Option Shown → Option (Seq × List Entry)
+    → Type 0
 SeqTaken made at base fs None None = Unit {0}
 SeqTaken made at base fs (Some part) (Some t) = SeqOn made at base fs part t
 SeqTaken made at base fs _ _ = ⊥
 
-abbrev pub TermTaken : Made → (ℕ → ℕ) → ℕ → List Construct → Option Shown → Option (Term × List Entry) → Type 0
+abbrev pub TermTaken : Made → (ℕ → ℕ) → ℕ → List Construct → Option Shown
+    → Option (Term × List Entry) → Type 0
 TermTaken made at base fs None None = Unit {0}
 TermTaken made at base fs (Some part) (Some t) = TermOn made at base fs part t
 TermTaken made at base fs _ _ = ⊥
@@ -150,24 +176,32 @@ HoldsTurns made b p = HoldsBounds b p × (is_bad_count p ≡ true → made.broke
 unfoldable pub ShowsMode : Made → (ℕ → ℕ) → ℕ → Wait → Mode → Type 0
 ShowsMode made at i waits.Need Need = Unit {0}
 ShowsMode made at i waits.Ready Ready = Unit {0}
-ShowsMode made at i (waits.After part) (After a) = (part.at ≡ at i) × ShowsAtom a made at part.node i
-ShowsMode made at i (waits.Turned part b) (Turned a p) = (part.at ≡ at i) × ShowsAtom a made at part.node i × HoldsTurns made b p
-ShowsMode made at i (waits.Named f n) (Named free name) = (f ≡ free) × (n.bytes.now ≡ name) × (n.at ≡ at i)
+ShowsMode made at i (waits.After part) (After a) = (part.at ≡ at i)
+    × ShowsAtom a made at part.node i
+ShowsMode made at i (waits.Turned part b) (Turned a p) = (part.at ≡ at i)
+    × ShowsAtom a made at part.node i × HoldsTurns made b p
+ShowsMode made at i (waits.Named f n) (Named free name) = (f ≡ free) × (n.bytes.now ≡ name)
+    × (n.at ≡ at i)
 ShowsMode made at i (waits.Writing a) Writing = a ≡ at i
 ShowsMode made at i (waits.Bracket a) Bracket = a ≡ at i
 ShowsMode made at i (waits.BracketName a k) (BracketName r) = (a ≡ at i) × IsRegister made k r
-ShowsMode made at i (waits.Assigning x) (Assigning append r) = (x.at ≡ at i) × (x.append ≡ append) × IsRegister made x.register r × (x.pieces.items ≡ [])
-ShowsMode made at i (waits.Assigned x) (Assigned append r p ps) = (x.at ≡ at i) × (x.append ≡ append) × IsRegister made x.register r × ShowsParts (p ∷ ps) made x.pieces.items
-ShowsMode made at i (waits.InCount part c brace) (InCount a d) = (part.at ≡ at i) × ShowsAtom a made at part.node i × ShowsCount c d × (brace ≡ at (i + length (atom a)))
+ShowsMode made at i (waits.Assigning x) (Assigning append r) = (x.at ≡ at i) × (x.append ≡ append)
+    × IsRegister made x.register r × (x.pieces.items ≡ [])
+ShowsMode made at i (waits.Assigned x) (Assigned append r p ps) = (x.at ≡ at i)
+    × (x.append ≡ append) × IsRegister made x.register r × ShowsParts (p ∷ ps) made x.pieces.items
+ShowsMode made at i (waits.InCount part c brace) (InCount a d) = (part.at ≡ at i)
+    × ShowsAtom a made at part.node i × ShowsCount c d × (brace ≡ at (i + length (atom a)))
 ShowsMode _ _ _ _ _ = ⊥
 
 -- constructs and what is waited for are those of a place inside a definition
-pub record ShowsInside (made : Made) (at : ℕ → ℕ) (base : ℕ) (fs : List Construct) (wait : Wait) (i : Inside) : Type 0 where
+pub record ShowsInside (made : Made) (at : ℕ → ℕ) (base : ℕ) (fs : List Construct) (wait : Wait)
+    (i : Inside) : Type 0 where
   pub below : ConstructsShow made at base fs i.entries
   pub mode : ShowsMode made at (base + length (entries i.entries)) wait i.mode
 
 -- what a step made is what the machine makes, unless memory ran out
-unfoldable pub Steps : Made → (ℕ → ℕ) → ℕ → List Construct → Result Wait StepFault → Option Inside → Type 0
+unfoldable pub Steps : Made → (ℕ → ℕ) → ℕ → List Construct → Result Wait StepFault → Option Inside
+    → Type 0
 Steps made at base fs (Ok wait) None = ⊥
 Steps made at base fs (Ok wait) (Some i) = ShowsInside made at base fs wait i
 Steps made at base fs (Err faults.Memory) o = Unit {0}
@@ -176,22 +210,32 @@ Steps made at base fs (Err faults.Wrong) (Some i) = ⊥
 
 -- these constructs are those of some entries, and an atom stands on them
 abbrev pub SomeConstructs : Made → List Construct → Type 0
-SomeConstructs made fs = (at : ℕ → ℕ) × (base : ℕ) × (es : List Entry) × ConstructsShow made at base fs es
+SomeConstructs made fs = (at : ℕ → ℕ) × (base : ℕ) × (es : List Entry)
+    × ConstructsShow made at base fs es
 
 abbrev pub SomeAtom : Made → List Construct → Shown → Type 0
-SomeAtom made fs part = (at : ℕ → ℕ) × (base : ℕ) × (es : List Entry) × (a : Atom) × ConstructsShow made at base fs es × (part.at ≡ at (base + length (entries es))) × ShowsAtom a made at part.node (base + length (entries es))
+SomeAtom made fs part = (at : ℕ → ℕ) × (base : ℕ) × (es : List Entry) × (a : Atom)
+    × ConstructsShow made at base fs es × (part.at ≡ at (base + length (entries es)))
+    × ShowsAtom a made at part.node (base + length (entries es))
 
 abbrev pub SomeTurned : Made → List Construct → Shown → Bounds → Type 0
-SomeTurned made fs part b = (at : ℕ → ℕ) × (base : ℕ) × (es : List Entry) × (a : Atom) × (p : Postfix) × ConstructsShow made at base fs es × (part.at ≡ at (base + length (entries es))) × ShowsAtom a made at part.node (base + length (entries es)) × HoldsTurns made b p
+SomeTurned made fs part b = (at : ℕ → ℕ) × (base : ℕ) × (es : List Entry) × (a : Atom)
+    × (p : Postfix) × ConstructsShow made at base fs es
+    × (part.at ≡ at (base + length (entries es)))
+    × ShowsAtom a made at part.node (base + length (entries es)) × HoldsTurns made b p
 
 abbrev pub SomePre : Made → List Construct → Shown → Type 0
-SomePre made fs part = (at : ℕ → ℕ) × (base : ℕ) × (es : List Entry) × (p : Pre) × ConstructsShow made at base fs es × (part.at ≡ at (base + length (entries es))) × ShowsPre p made at part.node (base + length (entries es))
+SomePre made fs part = (at : ℕ → ℕ) × (base : ℕ) × (es : List Entry) × (p : Pre)
+    × ConstructsShow made at base fs es × (part.at ≡ at (base + length (entries es)))
+    × ShowsPre p made at part.node (base + length (entries es))
 
 abbrev pub SomeName : Made → List Construct → ℕ → Type 0
-SomeName made fs a = (at : ℕ → ℕ) × (base : ℕ) × (es : List Entry) × ConstructsShow made at base fs es × (a ≡ at (base + length (entries es)))
+SomeName made fs a = (at : ℕ → ℕ) × (base : ℕ) × (es : List Entry)
+    × ConstructsShow made at base fs es × (a ≡ at (base + length (entries es)))
 
 abbrev pub SomeInside : Made → List Construct → Wait → Type 0
-SomeInside made fs wait = (at : ℕ → ℕ) × (base : ℕ) × (i : Inside) × ShowsInside made at base fs wait i
+SomeInside made fs wait = (at : ℕ → ℕ) × (base : ℕ) × (i : Inside)
+    × ShowsInside made at base fs wait i
 
 -- ---- the checks that a word asks
 
@@ -283,8 +327,10 @@ abbrev pub IsHeld : List Construct → Wait → Numbered → Type 0
 IsHeld fs wait x = InConstructs fs x ⊎ InWait wait x
 
 -- a step loses none
-abbrev pub StepLosesNone : Made → Made → List Construct → Wait → List Construct → Result Wait StepFault → Type 0
-StepLosesNone old new fs wait gs result = IfOk result (λ next. LosesNone old new (IsHeld fs wait) (IsHeld gs next))
+abbrev pub StepLosesNone : Made → Made → List Construct → Wait → List Construct
+    → Result Wait StepFault → Type 0
+StepLosesNone old new fs wait gs result =
+    IfOk result (λ next. LosesNone old new (IsHeld fs wait) (IsHeld gs next))
 
 -- ---- what clauses say
 
@@ -294,44 +340,66 @@ word_of w = word w.kind w.spelling.now
 
 -- where the constructs show entries, behind which a word stands at this offset
 abbrev pub Behind : Made → List Construct → ℕ → ((ℕ → ℕ) → ℕ → List Entry → Type 0) → Type 0
-Behind made fs place Says = (at : ℕ → ℕ) (base : ℕ) (es : List Entry) → ConstructsShow made at base fs es → place ≡ at (base + length (entries es)) → Says at base es
+Behind made fs place Says = (at : ℕ → ℕ) (base : ℕ) (es : List Entry)
+    → ConstructsShow made at base fs es → place ≡ at (base + length (entries es)) → Says at base es
 
 -- the same for any constructs
 abbrev pub BehindAny : Made → ℕ → ((ℕ → ℕ) → ℕ → List Construct → List Entry → Type 0) → Type 0
-BehindAny made place Says = (at : ℕ → ℕ) (base : ℕ) (fs : List Construct) (es : List Entry) → ConstructsShow made at base fs es → place ≡ at (base + length (entries es)) → Says at base fs es
+BehindAny made place Says = (at : ℕ → ℕ) (base : ℕ) (fs : List Construct) (es : List Entry)
+    → ConstructsShow made at base fs es → place ≡ at (base + length (entries es))
+    → Says at base fs es
 
 -- where the constructs show entries, behind which stands an atom with this node
-abbrev pub OnAtom : Made → List Construct → Shown → ((ℕ → ℕ) → ℕ → List Entry → Atom → Type 0) → Type 0
-OnAtom made fs part Says = (at : ℕ → ℕ) (base : ℕ) (es : List Entry) (a : Atom) → ConstructsShow made at base fs es → part.at ≡ at (base + length (entries es)) → ShowsAtom a made at part.node (base + length (entries es)) → Says at base es a
+abbrev pub OnAtom : Made → List Construct → Shown → ((ℕ → ℕ) → ℕ → List Entry → Atom → Type 0)
+    → Type 0
+OnAtom made fs part Says = (at : ℕ → ℕ) (base : ℕ) (es : List Entry) (a : Atom)
+    → ConstructsShow made at base fs es → part.at ≡ at (base + length (entries es))
+    → ShowsAtom a made at part.node (base + length (entries es)) → Says at base es a
 
 -- and where the atom has this postfix
-abbrev pub OnTurned : Made → List Construct → Shown → Bounds → ((ℕ → ℕ) → ℕ → List Entry → Atom → Postfix → Type 0) → Type 0
-OnTurned made fs part b Says = (at : ℕ → ℕ) (base : ℕ) (es : List Entry) (a : Atom) (p : Postfix) → ConstructsShow made at base fs es → part.at ≡ at (base + length (entries es)) → ShowsAtom a made at part.node (base + length (entries es)) → HoldsTurns made b p → Says at base es a p
+abbrev pub OnTurned : Made → List Construct → Shown → Bounds
+    → ((ℕ → ℕ) → ℕ → List Entry → Atom → Postfix → Type 0) → Type 0
+OnTurned made fs part b Says = (at : ℕ → ℕ) (base : ℕ) (es : List Entry) (a : Atom) (p : Postfix)
+    → ConstructsShow made at base fs es → part.at ≡ at (base + length (entries es))
+    → ShowsAtom a made at part.node (base + length (entries es)) → HoldsTurns made b p
+    → Says at base es a p
 
 -- the offset is that of the word behind the atom and its postfix
 abbrev pub IsBehindTurns : (ℕ → ℕ) → ℕ → List Entry → Atom → Postfix → ℕ → Type 0
-IsBehindTurns at base es a p place = place ≡ at (base + length (entries es) + length (atom a ++ postfix p))
+IsBehindTurns at base es a p place =
+    place ≡ at (base + length (entries es) + length (atom a ++ postfix p))
 
 -- the offset is that of the word behind the atom
 abbrev pub IsBehindAtom : (ℕ → ℕ) → ℕ → List Entry → Atom → ℕ → Type 0
 IsBehindAtom at base es a place = place ≡ at (base + length (entries es) + length (atom a))
 
--- where constructs and what is waited for are those of a place inside a definition, and a word stands behind it at this offset
+-- where constructs and what is waited for are those of a place inside a definition, and a word
+-- stands behind it at this offset
 abbrev pub InPlace : Made → List Construct → Wait → ℕ → ((ℕ → ℕ) → ℕ → Inside → Type 0) → Type 0
-InPlace made fs wait place Says = (at : ℕ → ℕ) (base : ℕ) (i : Inside) → ShowsInside made at base fs wait i → place ≡ at (base + length (inside i)) → Says at base i
+InPlace made fs wait place Says = (at : ℕ → ℕ) (base : ℕ) (i : Inside)
+    → ShowsInside made at base fs wait i → place ≡ at (base + length (inside i)) → Says at base i
 
 -- the least limit that is broken goes on to be that of these checks too
-abbrev pub NotesMore : {A E : Type 0} → Option Break → Option Break → Result A E → List Check → Type 0
-NotesMore old new result more = (cs : List Check) → NotesLeast cs old → OnOk result (NotesLeast (cs ++ more) new)
+abbrev pub NotesMore : {A E : Type 0} → Option Break → Option Break → Result A E → List Check
+    → Type 0
+NotesMore old new result more = (cs : List Check) → NotesLeast cs old
+    → OnOk result (NotesLeast (cs ++ more) new)
 
 -- where the constructs show entries, behind which this is half read
-abbrev pub WhereHalfRead : Made → (ℕ → ℕ) → ℕ → List Construct → List Entry → Wait → Mode → Type 0 → Type 0
-WhereHalfRead made at base fs es wait mode Says = ConstructsShow made at base fs es → ShowsMode made at (base + length (entries es)) wait mode → Says
+abbrev pub WhereHalfRead : Made → (ℕ → ℕ) → ℕ → List Construct → List Entry → Wait → Mode → Type 0
+    → Type 0
+WhereHalfRead made at base fs es wait mode Says = ConstructsShow made at base fs es
+    → ShowsMode made at (base + length (entries es)) wait mode → Says
 
 -- a word where the first part of an assignment has to come
 abbrev pub FirstPart : Made → Made → Assignment → Result Wait StepFault → Word → Type 0
-FirstPart old new x result w = (at : ℕ → ℕ) (base : ℕ) (fs : List Construct) (es : List Entry) (append : Bool) (r : List ℕ) → WhereHalfRead old at base fs es (waits.Assigning x) (Assigning append r) (Steps new at base fs result (first_part append r es w))
+FirstPart old new x result w = (at : ℕ → ℕ) (base : ℕ) (fs : List Construct) (es : List Entry)
+    (append : Bool) (r : List ℕ) → WhereHalfRead old at base fs es (waits.Assigning x)
+    (Assigning append r) (Steps new at base fs result (first_part append r es w))
 
 -- a word behind a part of an assignment
 abbrev pub NextPart : Made → Made → Assignment → Result Wait StepFault → Word → Type 0
-NextPart old new x result w = (at : ℕ → ℕ) (base : ℕ) (fs : List Construct) (es : List Entry) (append : Bool) (r : List ℕ) (p : RegisterPart) (ps : List RegisterPart) → WhereHalfRead old at base fs es (waits.Assigned x) (Assigned append r p ps) (Steps new at base fs result (next_part append r p ps es w))
+NextPart old new x result w = (at : ℕ → ℕ) (base : ℕ) (fs : List Construct) (es : List Entry)
+    (append : Bool) (r : List ℕ) (p : RegisterPart) (ps : List RegisterPart)
+    → WhereHalfRead old at base fs es (waits.Assigned x) (Assigned append r p ps)
+    (Steps new at base fs result (next_part append r p ps es w))

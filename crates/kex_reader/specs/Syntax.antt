@@ -1,11 +1,15 @@
--- The words of a program, and the grammar of programs: its trees, each with the words that spell it.
-use Rattle.std.specs.Prelude.{ℕ, ◌-◌, Bool, true, false, List, [], ◌∷◌, ◌++◌, drop, take, length, codes}
+-- The words of a program, and the grammar of programs: its trees, each with the words that spell
+-- it.
+use Rattle.std.specs.Prelude.{ℕ, ◌-◌, Bool, true, false, List, [], ◌∷◌, ◌++◌, drop, take, length}
+use Rattle.std.specs.Prelude.{codes}
 use Rattle.kex_tokens.specs.declared.token.TokenKind.{TokenKind}
 use Rattle.kex_tokens.specs.declared.token.TokenKind.TheVariants as kinds
 use Rattle.kex_regexp.specs.Postfixes.{Signs, spelled, lazy_sign}
-pub use Rattle.kex_regexp.specs.Postfixes.{Postfix, ZeroOrMore, OneOrMore, Optional, Exactly, AtLeast, AtMost, FromTo}
+pub use Rattle.kex_regexp.specs.Postfixes.{Postfix, ZeroOrMore, OneOrMore, Optional, Exactly}
+pub use Rattle.kex_regexp.specs.Postfixes.{AtLeast, AtMost, FromTo}
 
--- a token without its place: names, numbers and literals as they stand in the text, a regex without its slashes
+-- a token without its place: names, numbers and literals as they stand in the text, a regex without
+-- its slashes
 pub data Word : Type 0 where
   Name : (name : List ℕ) → Word
   Number : (digits : List ℕ) → Word
@@ -83,14 +87,16 @@ mutual
     Once : (atom : Atom) → Pre
     Turns : (atom : Atom) → (postfix : Postfix) → (lazy : Bool) → Pre
 
-  -- atom = "1" | NAME | LITERAL | REGEX | "!" NAME | "[" NAME ( "<-" | "+=" ) part { part } "]" | "(" term ")"
+  -- atom = "1" | NAME | LITERAL | REGEX | "!" NAME | "[" NAME ( "<-" | "+=" ) part { part } "]" |
+  -- "(" term ")"
   pub data Atom : Type 0 where
     One : Atom
     Call : (name : List ℕ) → Atom
     Lit : (spelling : List ℕ) → Atom
     Match : (body : List ℕ) → Atom
     Write : (register : List ℕ) → Atom
-    Assign : (append : Bool) → (register : List ℕ) → (first : RegisterPart) → (parts : List RegisterPart) → Atom
+    Assign : (append : Bool) → (register : List ℕ) → (first : RegisterPart)
+        → (parts : List RegisterPart) → Atom
     Group : (term : Term) → Atom
 
 -- NAME ":=" term
@@ -126,7 +132,15 @@ sign true = PlusEquals
 
 -- a number is one word
 abbrev pub signs : Signs Word
-signs = record { star = Star; plus = Plus; question = Question; open_brace = OpenBrace; comma = Comma; close_brace = CloseBrace; number = λ digits. Number digits ∷ [] }
+signs = record {
+  star = Star;
+  plus = Plus;
+  question = Question;
+  open_brace = OpenBrace;
+  comma = Comma;
+  close_brace = CloseBrace;
+  number = λ digits. Number digits ∷ [];
+}
 
 unfoldable pub postfix : Postfix → List Word
 postfix p = spelled signs p
@@ -155,7 +169,8 @@ unfoldable mutual
   atom (Lit s) = Literal s ∷ []
   atom (Match b) = Regex b ∷ []
   atom (Write r) = Bang ∷ Name r ∷ []
-  atom (Assign append r p ps) = OpenBracket ∷ Name r ∷ sign append ∷ register_part p ∷ (parts ps ++ CloseBracket ∷ [])
+  atom (Assign append r p ps) =
+      OpenBracket ∷ Name r ∷ sign append ∷ register_part p ∷ (parts ps ++ CloseBracket ∷ [])
   atom (Group t) = OpenParen ∷ (term t ++ CloseParen ∷ [])
 
 unfoldable pub definitions : List Definition → List Word

@@ -54,4 +54,5 @@ InStages ss x = (s : Start) × IsAmong ss s × (x ≡ NameNumber s.name)
 
 -- no node, name or register is spare: each stands in a node, in a definition or in a stage
 abbrev pub NoneSpare : Grammar → Type 0
-NoneSpare P = (x : Numbered) → IsNumberBelow (length P.nodes) (length P.names) P.registers x → InNodes P.nodes x ⊎ (InDefinitions P.definitions x ⊎ InStages P.stages x)
+NoneSpare P = (x : Numbered) → IsNumberBelow (length P.nodes) (length P.names) P.registers x
+    → InNodes P.nodes x ⊎ (InDefinitions P.definitions x ⊎ InStages P.stages x)

@@ -1,6 +1,7 @@
 // What is made of a text.
 
-ghost use Rattle.std.specs.Prelude.{◌≡◌, ℕ, ◌+◌, ◌<◌, ◌^◌, ◌++◌, ◌∷◌, [], List, length, None, Some, IfOk, IfSome, IfNone, OnOk};
+ghost use Rattle.std.specs.Prelude.{◌≡◌, ℕ, ◌+◌, ◌<◌, ◌^◌, ◌++◌, ◌∷◌, [], List, length, None, Some};
+ghost use Rattle.std.specs.Prelude.{IfOk, IfSome, IfNone, OnOk};
 ghost use Rattle.kex_code.specs.Codes.{Different, IsAmong};
 ghost use Rattle.kex_model.specs.Programs.{Grammar, HasBelow, HasNames, IsInRange};
 ghost use Rattle.kex_regexp.specs.Bodies.{SpellsRegex, fault_of};
@@ -65,9 +66,11 @@ impl<'t> Model for Draft<'t> {
 
     ghost Value = { Made };
 
-    ghost view = { λ d. record { nodes = d.nodes; names = d.names; registers = d.registers; broken = d.broken } };
+    ghost view = { λ d.
+        record { nodes = d.nodes; names = d.names; registers = d.registers; broken = d.broken } };
 
-    ghost invariant = { λ d. (n : Node) → IsAmong d.nodes n → HasNames (length d.names) (length d.registers) n.kind };
+    ghost invariant = { λ d. (n : Node) → IsAmong d.nodes n
+        → HasNames (length d.names) (length d.registers) n.kind };
 }
 
 impl<'t> Draft<'t> {
@@ -88,7 +91,8 @@ impl<'t> Draft<'t> {
         requires named { HasNames (length self.old.names) (length self.old.registers) kind }
         ensures keeps { OnOk result (Keeps self.old self.new) }
         ensures node { IfOk result (λ n. IsNode self.new n kind at) }
-        ensures held { IfOk result (λ n. LosesNone self.old self.new (InKind kind) (λ x. x ≡ NodeNumber n)) }
+        ensures held { IfOk result (λ n.
+            LosesNone self.old self.new (InKind kind) (λ x. x ≡ NodeNumber n)) }
         ensures broken { OnOk result (self.new.broken ≡ self.old.broken) }
     {
         let number = self.nodes.add(Node { kind, at })?;
@@ -99,7 +103,8 @@ impl<'t> Draft<'t> {
     pub(crate) fn name(&mut self, name: &'t [u8]) -> Result<u32, Memory>
         ensures keeps { OnOk result (Keeps self.old self.new) }
         ensures number { IfOk result (λ k. IsName self.new k name.now) }
-        ensures held { IfOk result (λ k. LosesNone self.old self.new (λ x. ⊥) (λ x. x ≡ NameNumber k)) }
+        ensures held { IfOk result (λ k.
+            LosesNone self.old self.new (λ x. ⊥) (λ x. x ≡ NameNumber k)) }
         ensures broken { OnOk result (self.new.broken ≡ self.old.broken) }
     {
         let number = self.names.number(name)?;
@@ -110,7 +115,8 @@ impl<'t> Draft<'t> {
     pub(crate) fn register(&mut self, register: &'t [u8]) -> Result<u32, Memory>
         ensures keeps { OnOk result (Keeps self.old self.new) }
         ensures number { IfOk result (λ k. IsRegister self.new k register.now) }
-        ensures held { IfOk result (λ k. LosesNone self.old self.new (λ x. ⊥) (λ x. x ≡ RegisterNumber k)) }
+        ensures held { IfOk result (λ k.
+            LosesNone self.old self.new (λ x. ⊥) (λ x. x ≡ RegisterNumber k)) }
         ensures broken { OnOk result (self.new.broken ≡ self.old.broken) }
     {
         let number = self.registers.number(register)?;
@@ -119,7 +125,8 @@ impl<'t> Draft<'t> {
 
     // Notes that a limit is broken.
     pub(crate) fn note(&mut self, broken: Break)
-        ensures noted { self.new ≡ record self.old { broken = lesser_of self.old.broken (Some broken) } }
+        ensures noted { self.new
+            ≡ record self.old { broken = lesser_of self.old.broken (Some broken) } }
         ensures keeps { Keeps self.old self.new }
     {
         self.broken = lesser(self.broken, Some(broken));
@@ -136,9 +143,12 @@ impl<'t> Draft<'t> {
         requires place { at + length body.now < 2 ^ 32 }
         ensures keeps { OnOk result (Keeps self.old self.new) }
         ensures within { IfOk result (λ n. n < length self.new.nodes) }
-        ensures held { IfOk result (λ n. LosesNone self.old self.new (λ x. ⊥) (λ x. x ≡ NodeNumber n)) }
-        ensures shows { IfOk result (λ n. self.new.broken ≡ None → (r : Regex) × SpellsRegex r body.now × ShowsRegex r self.new.nodes n at) }
-        ensures notes { OnOk result ((cs : List Check) → NotesLeast cs self.old.broken → NotesLeast (cs ++ Matched at depth body.now ∷ []) self.new.broken) }
+        ensures held { IfOk result (λ n.
+            LosesNone self.old self.new (λ x. ⊥) (λ x. x ≡ NodeNumber n)) }
+        ensures shows { IfOk result (λ n. self.new.broken ≡ None → (r : Regex)
+            × SpellsRegex r body.now × ShowsRegex r self.new.nodes n at) }
+        ensures notes { OnOk result ((cs : List Check) → NotesLeast cs self.old.broken
+            → NotesLeast (cs ++ Matched at depth body.now ∷ []) self.new.broken) }
     {
         one_tree();
         let Some(nested) = room(depth, body.len()) else {
@@ -172,9 +182,18 @@ impl<'t> Draft<'t> {
         stages: Vec<Start>,
     ) -> Result<Program, Memory>
         requires same { names.items ≡ self.names }
-        requires defined { (d : Definition) → IsAmong definitions.items d → (d.name < length self.names) × (d.root < length self.nodes) }
+        requires defined { (d : Definition) → IsAmong definitions.items d
+            → (d.name < length self.names) × (d.root < length self.nodes) }
         requires started { (s : Start) → IsAmong stages.items s → s.name < length self.names }
-        ensures made { IfOk result (λ P. P ≡ record { nodes = self.entry.nodes; names = names.items; definitions = definitions.items; stages = stages.items; registers = length self.entry.registers }) }
+        ensures made { IfOk result (λ P. P
+            ≡ record {
+              nodes = self.entry.nodes;
+              names = names.items;
+              definitions =
+                  definitions.items;
+              stages = stages.items;
+              registers = length self.entry.registers;
+            }) }
         ensures different { Different self.entry.registers }
     {
         let Ok(registers) = u32::try_from(self.registers.len()) else {

@@ -1,6 +1,7 @@
 // One word more, inside a definition.
 
-ghost use Rattle.std.specs.Prelude.{◌≡◌, ℕ, ◌+◌, ◌<◌, ◌≤◌, ◌^◌, ◌++◌, ◌∷◌, ◌⊎◌, [], Bool, false, true, List, Some, None, length, IfOk, IfErr, OnOk};
+ghost use Rattle.std.specs.Prelude.{◌≡◌, ℕ, ◌+◌, ◌<◌, ◌≤◌, ◌^◌, ◌++◌, ◌∷◌, ◌⊎◌, [], Bool, false};
+ghost use Rattle.std.specs.Prelude.{true, List, Some, None, length, IfOk, IfErr, OnOk};
 ghost use Rattle.kex_model.specs.Programs.{HasNames};
 ghost use Rattle.kex_regexp.specs.Bodies.{SpellsRegex as BodySpells};
 ghost use Rattle.kex_regexp.specs.Grammar.{Regex};
@@ -9,13 +10,25 @@ ghost use Rattle.kex_regexp.specs.Shown.{ShowsRegex};
 ghost use Rattle.kex_tokens.specs.Lexemes.{IsToken};
 ghost use Rattle.kex_tokens.specs.Values.{StandsFor};
 ghost use Rattle.kex_reader.specs.Checks.{Check, Matched, Nested, postfix_checks};
-ghost use Rattle.kex_reader.specs.Reading.{After, Assigned, Assigning, BracketName, CountStep, Entry, Inside, Ready, after_atom, after_turns, begin_pre, entries, first_part};
-ghost use Rattle.kex_reader.specs.Reading.{goes, after_name, next_part, on_bar, on_close, on_count, on_name, on_sign, with_pre, inside, step_in as spec_step_in, take_seq, take_term};
+ghost use Rattle.kex_reader.specs.Reading.{After, Assigned, Assigning, BracketName, CountStep};
+ghost use Rattle.kex_reader.specs.Reading.{Entry, Inside, Ready, after_atom, after_turns};
+ghost use Rattle.kex_reader.specs.Reading.{begin_pre, entries, first_part};
+ghost use Rattle.kex_reader.specs.Reading.{goes, after_name, next_part, on_bar, on_close, on_count};
+ghost use Rattle.kex_reader.specs.Reading.{on_name, on_sign, with_pre, inside};
+ghost use Rattle.kex_reader.specs.Reading.{step_in as spec_step_in, take_seq, take_term};
 ghost use Rattle.kex_reader.specs.Shown.{Made, IsName, IsNode, IsRegister, ShowsAtom, ShowsParts};
-ghost use Rattle.kex_reader.specs.Stands.{Behind, BehindAny, FirstPart, ConstructsShow, InConstructs, HoldsTurns, InPlace, InWait, IsBehindAtom, IsBehindTurns, IsHeld, IsLeaf, Keeps, LosesNone, NextPart, NotesLeast, NotesMore};
-ghost use Rattle.kex_reader.specs.Stands.{OnAtom, OnTurned, ShowsMode, SomeAtom, SomeConstructs, SomeInside, SomeName, SomeTurned, StepLosesNone, Steps, after_asks, asks, begin_asks, count_asks, named_asks, open_constructs, turned_asks, word_of};
+ghost use Rattle.kex_reader.specs.Stands.{Behind, BehindAny, FirstPart, ConstructsShow};
+ghost use Rattle.kex_reader.specs.Stands.{InConstructs, HoldsTurns, InPlace, InWait, IsBehindAtom};
+ghost use Rattle.kex_reader.specs.Stands.{IsBehindTurns, IsHeld, IsLeaf, Keeps, LosesNone};
+ghost use Rattle.kex_reader.specs.Stands.{NextPart, NotesLeast, NotesMore};
+ghost use Rattle.kex_reader.specs.Stands.{OnAtom, OnTurned, ShowsMode, SomeAtom, SomeConstructs};
+ghost use Rattle.kex_reader.specs.Stands.{SomeInside, SomeName, SomeTurned, StepLosesNone, Steps};
+ghost use Rattle.kex_reader.specs.Stands.{after_asks, asks, begin_asks, count_asks, named_asks};
+ghost use Rattle.kex_reader.specs.Stands.{open_constructs, turned_asks, word_of};
 ghost use Rattle.kex_reader.specs.Uses.{InKind, NodeNumber, Numbered, RegisterNumber};
-ghost use Rattle.kex_reader.specs.Syntax.{Atom, RegisterPart as SpecPart, Postfix, Turns, Write as SpecWrite, atom, between, postfix, word as grammar_word};
+ghost use Rattle.kex_reader.specs.Syntax.{Atom, RegisterPart as SpecPart, Postfix, Turns};
+ghost use Rattle.kex_reader.specs.Syntax.{Write as SpecWrite, atom, between, postfix};
+ghost use Rattle.kex_reader.specs.Syntax.{word as grammar_word};
 
 use crate::counts::{count_step, held_number};
 use crate::draft::Draft;
@@ -35,8 +48,8 @@ use std::alloc::{AllocError, AllocFailed, Global};
 /// How deep parentheses and prefixes may nest.
 const DEEPEST: usize = 200;
 
-/// What the next word belongs to: a member has to come or may, an atom may have a postfix, a postfix may be lazy, a name may
-/// be a call, a register or a head, and the rest is half read.
+/// What the next word belongs to: a member has to come or may, an atom may have a postfix, a
+/// postfix may be lazy, a name may be a call, a register or a head, and the rest is half read.
 #[derive(Drop)]
 pub(crate) enum Wait<'t> {
     Need,
@@ -93,10 +106,12 @@ impl<T: Drop> From<AllocFailed<T>> for StepFault {
 fn leaf<'t>(draft: &mut Draft<'t>, kind: NodeKind, at: u32) -> Result<Wait<'t>, StepFault>
     requires below { HasNames (length draft.old.names) (length draft.old.registers) kind }
     requires alone { IsLeaf kind }
-    ensures held { (fs : List Construct) → IfOk result (λ w. LosesNone draft.old draft.new (λ x. InConstructs fs x ⊎ InKind kind x) (IsHeld fs w)) }
+    ensures held { (fs : List Construct) → IfOk result (λ w.
+        LosesNone draft.old draft.new (λ x. InConstructs fs x ⊎ InKind kind x) (IsHeld fs w)) }
     ensures keeps { OnOk result (Keeps draft.old draft.new) }
     ensures broken { OnOk result (draft.new.broken ≡ draft.old.broken) }
-    ensures wait { IfOk result (λ w. (n : ℕ) × (w ≡ Wait.After (record { node = n; at = at })) × IsNode draft.new n kind at) }
+    ensures wait { IfOk result (λ w. (n : ℕ) × (w ≡ Wait.After (record { node = n; at = at }))
+        × IsNode draft.new n kind at) }
     ensures fault { IfErr result (λ e. e ≡ StepFault.Memory) }
 {
     let node = draft.add(kind, at)?;
@@ -106,10 +121,13 @@ fn leaf<'t>(draft: &mut Draft<'t>, kind: NodeKind, at: u32) -> Result<Wait<'t>, 
 // A literal.
 fn literal<'t>(alloc: Global, draft: &mut Draft<'t>, word: Word<'t>) -> Result<Wait<'t>, StepFault>
     requires { IsToken TokenKind.Literal word.spelling.now }
-    ensures held { (fs : List Construct) → StepLosesNone draft.old draft.new fs Wait.Need fs result }
+    ensures held { (fs : List Construct)
+        → StepLosesNone draft.old draft.new fs Wait.Need fs result }
     ensures keeps { OnOk result (Keeps draft.old draft.new) }
     ensures broken { OnOk result (draft.new.broken ≡ draft.old.broken) }
-    ensures wait { IfOk result (λ w. (n : ℕ) × (bytes : List ℕ) × (w ≡ Wait.After (record { node = n; at = word.entry.at })) × IsNode draft.new n (NodeKind.Lit bytes) word.entry.at × StandsFor word.entry.spelling.now bytes) }
+    ensures wait { IfOk result (λ w. (n : ℕ) × (bytes : List ℕ)
+        × (w ≡ Wait.After (record { node = n; at = word.entry.at })) × IsNode draft.new n
+        (NodeKind.Lit bytes) word.entry.at × StandsFor word.entry.spelling.now bytes) }
     ensures fault { IfErr result (λ e. e ≡ StepFault.Memory) }
 {
     let bytes = literal_bytes(alloc, word.spelling)?;
@@ -136,10 +154,16 @@ fn body<'t>(
 ) -> Result<Wait<'t>, StepFault>
     requires token { IsToken TokenKind.Regex word.spelling.now }
     requires place { word.at + length word.spelling.now < 2 ^ 32 }
-    ensures held { (fs : List Construct) → StepLosesNone draft.old draft.new fs Wait.Need fs result }
+    ensures held { (fs : List Construct)
+        → StepLosesNone draft.old draft.new fs Wait.Need fs result }
     ensures keeps { OnOk result (Keeps draft.old draft.new) }
-    ensures wait { IfOk result (λ w. (n : ℕ) × (w ≡ Wait.After (record { node = n; at = word.entry.at })) × (n < length draft.new.nodes) × (draft.new.broken ≡ None → (r : Regex) × BodySpells r (between word.entry.spelling.now) × ShowsRegex r draft.new.nodes n (word.entry.at + 1))) }
-    ensures notes { OnOk result ((cs : List Check) → NotesLeast cs draft.old.broken → NotesLeast (cs ++ Matched (word.entry.at + 1) depth (between word.entry.spelling.now) ∷ []) draft.new.broken) }
+    ensures wait { IfOk result (λ w. (n : ℕ)
+        × (w ≡ Wait.After (record { node = n; at = word.entry.at })) × (n < length draft.new.nodes)
+        × (draft.new.broken ≡ None → (r : Regex) × BodySpells r (between word.entry.spelling.now)
+        × ShowsRegex r draft.new.nodes n (word.entry.at + 1))) }
+    ensures notes { OnOk result ((cs : List Check) → NotesLeast cs draft.old.broken
+        → NotesLeast (cs ++ Matched (word.entry.at + 1) depth (between word.entry.spelling.now)
+        ∷ []) draft.new.broken) }
     ensures fault { IfErr result (λ e. e ≡ StepFault.Memory) }
 {
     let bytes = between_slashes(word.spelling);
@@ -151,7 +175,8 @@ fn body<'t>(
 fn nest(draft: &mut Draft, depth: usize, at: u32)
     ensures held { LosesNone draft.old draft.new (λ x. ⊥) (λ x. ⊥) }
     ensures keeps { Keeps draft.old draft.new }
-    ensures notes { (cs : List Check) → NotesLeast cs draft.old.broken → NotesLeast (cs ++ Nested at depth ∷ []) draft.new.broken }
+    ensures notes { (cs : List Check) → NotesLeast cs draft.old.broken
+        → NotesLeast (cs ++ Nested at depth ∷ []) draft.new.broken }
 {
     if depth != DEEPEST {
         return;
@@ -166,11 +191,13 @@ fn open<'t>(
     construct: Construct,
     at: u32,
 ) -> Result<Wait<'t>, StepFault>
-    ensures held { IfOk result (λ w. LosesNone draft.old draft.new (InConstructs (construct ∷ stack.old)) (IsHeld stack.new w)) }
+    ensures held { IfOk result (λ w.
+        LosesNone draft.old draft.new (InConstructs (construct ∷ stack.old)) (IsHeld stack.new w)) }
     ensures keeps { OnOk result (Keeps draft.old draft.new) }
     ensures wait { IfOk result (λ w. w ≡ Wait.Need) }
     ensures pushed { OnOk result (stack.new ≡ construct ∷ stack.old) }
-    ensures notes { OnOk result ((cs : List Check) → NotesLeast cs draft.old.broken → NotesLeast (cs ++ Nested at (open_constructs stack.old) ∷ []) draft.new.broken) }
+    ensures notes { OnOk result ((cs : List Check) → NotesLeast cs draft.old.broken
+        → NotesLeast (cs ++ Nested at (open_constructs stack.old) ∷ []) draft.new.broken) }
     ensures fault { IfErr result (λ e. e ≡ StepFault.Memory) }
 {
     nest(draft, stack.depth(), at);
@@ -184,7 +211,9 @@ fn bar<'t>(stack: &mut Stack, draft: &mut Draft<'t>) -> Result<Wait<'t>, StepFau
     ensures held { StepLosesNone draft.old draft.new stack.old Wait.Need stack.new result }
     ensures keeps { OnOk result (Keeps draft.old draft.new) }
     ensures broken { OnOk result (draft.new.broken ≡ draft.old.broken) }
-    ensures step { (at : ℕ → ℕ) (base : ℕ) (es : List Entry) → ConstructsShow draft.old at base stack.old es → Steps draft.new at base stack.new result (on_bar (take_seq es)) }
+    ensures step { (at : ℕ → ℕ) (base : ℕ) (es : List Entry)
+        → ConstructsShow draft.old at base stack.old es
+        → Steps draft.new at base stack.new result (on_bar (take_seq es)) }
 {
     let closed = close_seq(stack, draft)?;
     let Some(seq) = closed else {
@@ -200,7 +229,9 @@ fn close<'t>(stack: &mut Stack, draft: &mut Draft<'t>) -> Result<Wait<'t>, StepF
     ensures held { StepLosesNone draft.old draft.new stack.old Wait.Need stack.new result }
     ensures keeps { OnOk result (Keeps draft.old draft.new) }
     ensures broken { OnOk result (draft.new.broken ≡ draft.old.broken) }
-    ensures step { (at : ℕ → ℕ) (base : ℕ) (es : List Entry) → ConstructsShow draft.old at base stack.old es → Steps draft.new at base stack.new result (on_close (take_term es)) }
+    ensures step { (at : ℕ → ℕ) (base : ℕ) (es : List Entry)
+        → ConstructsShow draft.old at base stack.old es
+        → Steps draft.new at base stack.new result (on_close (take_term es)) }
 {
     let closed = close_term(stack, draft)?;
     let Some(term) = closed else {
@@ -228,8 +259,11 @@ fn begin<'t>(
     requires place { word.at + length word.spelling.now < 2 ^ 32 }
     ensures held { StepLosesNone draft.old draft.new stack.old Wait.Need stack.new result }
     ensures keeps { OnOk result (Keeps draft.old draft.new) }
-    ensures step { Behind draft.old stack.old word.entry.at (λ at base es. Steps draft.new at base stack.new result (begin_pre free es (word_of word.entry))) }
-    ensures notes { Behind draft.old stack.old word.entry.at (λ at base es. NotesMore draft.old.broken draft.new.broken result (begin_asks at (base + length (entries es)) es (word_of word.entry))) }
+    ensures step { Behind draft.old stack.old word.entry.at (λ at base es.
+        Steps draft.new at base stack.new result (begin_pre free es (word_of word.entry))) }
+    ensures notes { Behind draft.old stack.old word.entry.at (λ at base es.
+        NotesMore draft.old.broken draft.new.broken result
+        (begin_asks at (base + length (entries es)) es (word_of word.entry))) }
 {
     match word.kind {
         TokenKind::Name => Ok(Wait::Named(
@@ -270,7 +304,8 @@ fn begin<'t>(
     }
 }
 
-// Ends a member with a postfix. Where the count is bad its atom stands alone, and the text is refused in the end.
+// Ends a member with a postfix. Where the count is bad its atom stands alone, and the text is
+// refused in the end.
 pub(crate) fn end_turns(
     stack: &mut Stack,
     draft: &mut Draft,
@@ -279,10 +314,12 @@ pub(crate) fn end_turns(
     lazy: bool,
 ) -> Result<(), Memory>
     requires { SomeTurned draft.old stack.old item bounds }
-    ensures held { OnOk result (LosesNone draft.old draft.new (IsHeld stack.old (Wait.Turned item bounds)) (InConstructs stack.new)) }
+    ensures held { OnOk result (LosesNone draft.old draft.new
+        (IsHeld stack.old (Wait.Turned item bounds)) (InConstructs stack.new)) }
     ensures keeps { OnOk result (Keeps draft.old draft.new) }
     ensures broken { OnOk result (draft.new.broken ≡ draft.old.broken) }
-    ensures put { OnOk result (OnTurned draft.old stack.old item bounds (λ at base es a p. ConstructsShow draft.new at base stack.new (with_pre (Turns a p lazy) es))) }
+    ensures put { OnOk result (OnTurned draft.old stack.old item bounds (λ at base es a p.
+        ConstructsShow draft.new at base stack.new (with_pre (Turns a p lazy) es))) }
 {
     if bounds.are_bad() {
         put(stack, draft, item)?;
@@ -321,8 +358,12 @@ fn word_after_atom<'t>(
     requires place { word.at + length word.spelling.now < 2 ^ 32 }
     ensures held { StepLosesNone draft.old draft.new stack.old (Wait.After item) stack.new result }
     ensures keeps { OnOk result (Keeps draft.old draft.new) }
-    ensures step { OnAtom draft.old stack.old item (λ at base es a. IsBehindAtom at base es a word.entry.at → Steps draft.new at base stack.new result (after_atom a es (word_of word.entry))) }
-    ensures notes { OnAtom draft.old stack.old item (λ at base es a. IsBehindAtom at base es a word.entry.at → NotesMore draft.old.broken draft.new.broken result (after_asks at (base + length (entries es) + length (atom a)) a es (word_of word.entry))) }
+    ensures step { OnAtom draft.old stack.old item (λ at base es a.
+        IsBehindAtom at base es a word.entry.at
+        → Steps draft.new at base stack.new result (after_atom a es (word_of word.entry))) }
+    ensures notes { OnAtom draft.old stack.old item (λ at base es a.
+        IsBehindAtom at base es a word.entry.at → NotesMore draft.old.broken draft.new.broken result
+        (after_asks at (base + length (entries es) + length (atom a)) a es (word_of word.entry))) }
 {
     match word.kind {
         TokenKind::Star => Ok(turned(item, 0, None)),
@@ -348,10 +389,16 @@ fn word_after_turns<'t>(
     requires turned { SomeTurned draft.old stack.old item bounds }
     requires token { IsToken word.kind word.spelling.now }
     requires place { word.at + length word.spelling.now < 2 ^ 32 }
-    ensures held { StepLosesNone draft.old draft.new stack.old (Wait.Turned item bounds) stack.new result }
+    ensures held { StepLosesNone draft.old draft.new stack.old
+        (Wait.Turned item bounds) stack.new result }
     ensures keeps { OnOk result (Keeps draft.old draft.new) }
-    ensures step { OnTurned draft.old stack.old item bounds (λ at base es a p. IsBehindTurns at base es a p word.entry.at → Steps draft.new at base stack.new result (after_turns a p es (word_of word.entry))) }
-    ensures notes { OnTurned draft.old stack.old item bounds (λ at base es a p. IsBehindTurns at base es a p word.entry.at → NotesMore draft.old.broken draft.new.broken result (turned_asks at (base + length (entries es) + length (atom a ++ postfix p)) a p es (word_of word.entry))) }
+    ensures step { OnTurned draft.old stack.old item bounds (λ at base es a p.
+        IsBehindTurns at base es a p word.entry.at
+        → Steps draft.new at base stack.new result (after_turns a p es (word_of word.entry))) }
+    ensures notes { OnTurned draft.old stack.old item bounds (λ at base es a p.
+        IsBehindTurns at base es a p word.entry.at
+        → NotesMore draft.old.broken draft.new.broken result (turned_asks at
+        (base + length (entries es) + length (atom a ++ postfix p)) a p es (word_of word.entry))) }
 {
     match word.kind {
         TokenKind::Question => {
@@ -378,8 +425,12 @@ fn word_after_name<'t>(
     requires place { word.at + length word.spelling.now < 2 ^ 32 }
     ensures held { StepLosesNone draft.old draft.new stack.old Wait.Need stack.new result }
     ensures keeps { OnOk result (Keeps draft.old draft.new) }
-    ensures step { Behind draft.old stack.old name.entry.at (λ at base es. word.entry.at ≡ at (base + length (entries es) + 1) → Steps draft.new at base stack.new result (after_name name.entry.bytes.now es (word_of word.entry))) }
-    ensures notes { Behind draft.old stack.old name.entry.at (λ at base es. word.entry.at ≡ at (base + length (entries es) + 1) → NotesMore draft.old.broken draft.new.broken result (named_asks at (base + length (entries es)) name.entry.bytes.now es (word_of word.entry))) }
+    ensures step { Behind draft.old stack.old name.entry.at (λ at base es. word.entry.at
+        ≡ at (base + length (entries es) + 1) → Steps draft.new at base stack.new result
+        (after_name name.entry.bytes.now es (word_of word.entry))) }
+    ensures notes { Behind draft.old stack.old name.entry.at (λ at base es. word.entry.at
+        ≡ at (base + length (entries es) + 1) → NotesMore draft.old.broken draft.new.broken result
+        (named_asks at (base + length (entries es)) name.entry.bytes.now es (word_of word.entry))) }
 {
     match word.kind {
         TokenKind::At => {
@@ -400,10 +451,12 @@ fn word_after_name<'t>(
 
 // A call of a name.
 pub(crate) fn call<'t>(draft: &mut Draft<'t>, name: Name<'t>) -> Result<PlacedNode, Memory>
-    ensures held { IfOk result (λ p. LosesNone draft.old draft.new (λ x. ⊥) (λ x. x ≡ NodeNumber p.node)) }
+    ensures held { IfOk result (λ p.
+        LosesNone draft.old draft.new (λ x. ⊥) (λ x. x ≡ NodeNumber p.node)) }
     ensures keeps { OnOk result (Keeps draft.old draft.new) }
     ensures broken { OnOk result (draft.new.broken ≡ draft.old.broken) }
-    ensures node { IfOk result (λ p. (k : ℕ) × IsNode draft.new p.node (NodeKind.Call k) name.entry.at × IsName draft.new k name.entry.bytes.now) }
+    ensures node { IfOk result (λ p. (k : ℕ) × IsNode draft.new p.node
+        (NodeKind.Call k) name.entry.at × IsName draft.new k name.entry.bytes.now) }
     ensures place { IfOk result (λ p. p.at ≡ name.entry.at) }
 {
     let number = draft.name(name.bytes)?;
@@ -413,10 +466,12 @@ pub(crate) fn call<'t>(draft: &mut Draft<'t>, name: Name<'t>) -> Result<PlacedNo
 
 // The register that is written.
 fn write<'t>(draft: &mut Draft<'t>, at: u32, word: Word<'t>) -> Result<Wait<'t>, StepFault>
-    ensures held { (fs : List Construct) → StepLosesNone draft.old draft.new fs Wait.Need fs result }
+    ensures held { (fs : List Construct)
+        → StepLosesNone draft.old draft.new fs Wait.Need fs result }
     ensures keeps { OnOk result (Keeps draft.old draft.new) }
     ensures broken { OnOk result (draft.new.broken ≡ draft.old.broken) }
-    ensures step { BehindAny draft.old at (λ place base fs es. Steps draft.new place base fs result (on_name (λ n. goes (After (SpecWrite n)) es) (word_of word.entry))) }
+    ensures step { BehindAny draft.old at (λ place base fs es. Steps draft.new place base fs result
+        (on_name (λ n. goes (After (SpecWrite n)) es) (word_of word.entry))) }
 {
     let TokenKind::Name = word.kind else {
         return Err(StepFault::Wrong);
@@ -427,10 +482,12 @@ fn write<'t>(draft: &mut Draft<'t>, at: u32, word: Word<'t>) -> Result<Wait<'t>,
 
 // The register behind a bracket.
 fn bracket<'t>(draft: &mut Draft<'t>, at: u32, word: Word<'t>) -> Result<Wait<'t>, StepFault>
-    ensures held { (fs : List Construct) → StepLosesNone draft.old draft.new fs Wait.Need fs result }
+    ensures held { (fs : List Construct)
+        → StepLosesNone draft.old draft.new fs Wait.Need fs result }
     ensures keeps { OnOk result (Keeps draft.old draft.new) }
     ensures broken { OnOk result (draft.new.broken ≡ draft.old.broken) }
-    ensures step { BehindAny draft.old at (λ place base fs es. Steps draft.new place base fs result (on_name (λ n. goes (BracketName n) es) (word_of word.entry))) }
+    ensures step { BehindAny draft.old at (λ place base fs es. Steps draft.new place base fs result
+        (on_name (λ n. goes (BracketName n) es) (word_of word.entry))) }
 {
     let TokenKind::Name = word.kind else {
         return Err(StepFault::Wrong);
@@ -442,8 +499,11 @@ fn bracket<'t>(draft: &mut Draft<'t>, at: u32, word: Word<'t>) -> Result<Wait<'t
 // The sign behind a register.
 fn sign<'t>(alloc: Global, at: u32, register: u32, kind: TokenKind) -> Result<Wait<'t>, StepFault>
     ensures held { IfOk result (λ w. (x : Numbered) → x ≡ RegisterNumber register → InWait w x) }
-    ensures step { (made : Made) (place : ℕ → ℕ) (base : ℕ) (fs : List Construct) (es : List Entry) (r : List ℕ) (b : List ℕ) → ConstructsShow made place base fs es → at ≡ place (base + length (entries es))
-        → IsRegister made register r → Steps made place base fs result (on_sign r es (grammar_word kind b)) }
+    ensures step { (made : Made) (place : ℕ → ℕ) (base : ℕ) (fs : List Construct) (es : List Entry)
+        (r : List ℕ) (b : List ℕ) → ConstructsShow made place base fs es
+        → at ≡ place (base + length (entries es))
+        → IsRegister made register r
+        → Steps made place base fs result (on_sign r es (grammar_word kind b)) }
 {
     match kind {
         TokenKind::Arrow => Ok(Wait::Assigning(Assignment {
@@ -470,11 +530,13 @@ fn part<'t>(
     word: Word<'t>,
 ) -> Result<Wait<'t>, StepFault>
     requires token { IsToken word.kind word.spelling.now }
-    ensures held { (fs : List Construct) → StepLosesNone draft.old draft.new fs (Wait.Assigning assignment) fs result }
+    ensures held { (fs : List Construct)
+        → StepLosesNone draft.old draft.new fs (Wait.Assigning assignment) fs result }
     ensures keeps { OnOk result (Keeps draft.old draft.new) }
     ensures broken { OnOk result (draft.new.broken ≡ draft.old.broken) }
     ensures first { FirstPart draft.old draft.new assignment result (word_of word.entry) }
-    ensures next { (word.entry.kind ≡ TokenKind.CloseBracket → ⊥) → NextPart draft.old draft.new assignment result (word_of word.entry) }
+    ensures next { (word.entry.kind ≡ TokenKind.CloseBracket → ⊥)
+        → NextPart draft.old draft.new assignment result (word_of word.entry) }
 {
     let read = piece(alloc, draft, word)?;
     let Some(piece) = read else {
@@ -491,9 +553,12 @@ fn word_after_part<'t>(
     assignment: Assignment,
     word: Word<'t>,
 ) -> Result<Wait<'t>, StepFault>
-    requires some { (place : ℕ → ℕ) × (i : ℕ) × (append : Bool) × (r : List ℕ) × (p : SpecPart) × (ps : List SpecPart) × ShowsMode draft.old place i (Wait.Assigned assignment) (Assigned append r p ps) }
+    requires some { (place : ℕ → ℕ) × (i : ℕ) × (append : Bool) × (r : List ℕ) × (p : SpecPart)
+        × (ps : List SpecPart)
+        × ShowsMode draft.old place i (Wait.Assigned assignment) (Assigned append r p ps) }
     requires token { IsToken word.kind word.spelling.now }
-    ensures held { (fs : List Construct) → StepLosesNone draft.old draft.new fs (Wait.Assigned assignment) fs result }
+    ensures held { (fs : List Construct)
+        → StepLosesNone draft.old draft.new fs (Wait.Assigned assignment) fs result }
     ensures keeps { OnOk result (Keeps draft.old draft.new) }
     ensures broken { OnOk result (draft.new.broken ≡ draft.old.broken) }
     ensures step { NextPart draft.old draft.new assignment result (word_of word.entry) }
@@ -512,7 +577,9 @@ fn note_count(draft: &mut Draft, bounds: Bounds, brace: u32)
     ensures held { LosesNone draft.old draft.new (λ x. ⊥) (λ x. ⊥) }
     ensures keeps { Keeps draft.old draft.new }
     ensures noted { (p : Postfix) → HoldsBounds bounds p → HoldsTurns draft.new bounds p }
-    ensures notes { (p : Postfix) (from : ℕ) → brace ≡ from → HoldsBounds bounds p → (cs : List Check) → NotesLeast cs draft.old.broken → NotesLeast (cs ++ postfix_checks p from) draft.new.broken }
+    ensures notes { (p : Postfix) (from : ℕ) → brace ≡ from → HoldsBounds bounds p
+        → (cs : List Check) → NotesLeast cs draft.old.broken
+        → NotesLeast (cs ++ postfix_checks p from) draft.new.broken }
 {
     if !bounds.are_bad() {
         return;
@@ -527,10 +594,15 @@ fn go_on_counting<'t>(
     brace: u32,
     outcome: CountOutcome,
 ) -> Result<Wait<'t>, StepFault>
-    ensures held { (fs : List Construct) → StepLosesNone draft.old draft.new fs (Wait.After item) fs result }
+    ensures held { (fs : List Construct)
+        → StepLosesNone draft.old draft.new fs (Wait.After item) fs result }
     ensures keeps { OnOk result (Keeps draft.old draft.new) }
-    ensures step { (fs : List Construct) → OnAtom draft.old fs item (λ at base es a. (t : CountStep) → IsBehindAtom at base es a brace → ShowsCountStep outcome t → Steps draft.new at base fs result (on_count a es t)) }
-    ensures notes { (t : CountStep) (from : ℕ) → brace ≡ from → ShowsCountStep outcome t → (cs : List Check) → NotesLeast cs draft.old.broken → OnOk result (NotesLeast (cs ++ count_asks from t) draft.new.broken) }
+    ensures step { (fs : List Construct) → OnAtom draft.old fs item (λ at base es a. (t : CountStep)
+        → IsBehindAtom at base es a brace → ShowsCountStep outcome t
+        → Steps draft.new at base fs result (on_count a es t)) }
+    ensures notes { (t : CountStep) (from : ℕ) → brace ≡ from → ShowsCountStep outcome t
+        → (cs : List Check) → NotesLeast cs draft.old.broken
+        → OnOk result (NotesLeast (cs ++ count_asks from t) draft.new.broken) }
 {
     match outcome {
         CountOutcome::On(count) => Ok(Wait::InCount(item, count, brace)),
@@ -555,8 +627,11 @@ pub(crate) fn step_in<'t>(
     requires place { word.at + length word.spelling.now < 2 ^ 32 }
     ensures held { StepLosesNone draft.old draft.new stack.old wait.entry stack.new result }
     ensures keeps { OnOk result (Keeps draft.old draft.new) }
-    ensures step { InPlace draft.old stack.old wait.entry word.entry.at (λ at base i. Steps draft.new at base stack.new result (spec_step_in i.mode i.entries (word_of word.entry))) }
-    ensures notes { InPlace draft.old stack.old wait.entry word.entry.at (λ at base i. NotesMore draft.old.broken draft.new.broken result (asks at (base + length (entries i.entries)) i.mode i.entries (word_of word.entry))) }
+    ensures step { InPlace draft.old stack.old wait.entry word.entry.at (λ at base i. Steps
+        draft.new at base stack.new result (spec_step_in i.mode i.entries (word_of word.entry))) }
+    ensures notes { InPlace draft.old stack.old wait.entry word.entry.at (λ at base i.
+        NotesMore draft.old.broken draft.new.broken result
+        (asks at (base + length (entries i.entries)) i.mode i.entries (word_of word.entry))) }
 {
     match wait {
         Wait::Need => begin(alloc, stack, draft, false, word),

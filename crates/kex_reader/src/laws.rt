@@ -1,4 +1,5 @@
-// Laws of programs: what words spell and where they go wrong, and why a text is refused, is one thing; and what nothing spare means.
+// Laws of programs: what words spell and where they go wrong, and why a text is refused, is one
+// thing; and what nothing spare means.
 
 ghost use Rattle.std.specs.Prelude.{◌≡◌, ◌<◌, ℕ, List, length};
 ghost use Rattle.kex_model.specs.Programs.{Grammar, IsInOrder};
@@ -20,13 +21,16 @@ pub fn one_tree()
 
 /// Besides want of memory a text has at most one refusal, and none if it spells a program.
 pub fn one_refusal()
-    ensures refusal { (text : List ℕ) (d e : ReadRefusal) → (d ≡ ReadRefusal.Memory → ⊥) → (e ≡ ReadRefusal.Memory → ⊥) → IsRefusedAs text d → IsRefusedAs text e → d ≡ e }
-    ensures either { (text : List ℕ) (P : Grammar) (e : ReadRefusal) → (e ≡ ReadRefusal.Memory → ⊥) → Spells text P → IsRefusedAs text e → ⊥ }
+    ensures refusal { (text : List ℕ) (d e : ReadRefusal) → (d ≡ ReadRefusal.Memory → ⊥)
+        → (e ≡ ReadRefusal.Memory → ⊥) → IsRefusedAs text d → IsRefusedAs text e → d ≡ e }
+    ensures either { (text : List ℕ) (P : Grammar) (e : ReadRefusal) → (e ≡ ReadRefusal.Memory → ⊥)
+        → Spells text P → IsRefusedAs text e → ⊥ }
 {
     one_cut()
 }
 
 /// Of a program in which nothing is spare a definition reaches each node.
 pub fn all_reached()
-    ensures { (P : Grammar) → IsInOrder P.nodes → NoneSpare P → (n : ℕ) → n < length P.nodes → IsReached P n }
+    ensures { (P : Grammar) → IsInOrder P.nodes → NoneSpare P → (n : ℕ) → n < length P.nodes
+        → IsReached P n }
 {}

@@ -39,7 +39,8 @@ impl<'t> Names<'t> {
     pub(crate) fn number(&mut self, name: &'t [u8]) -> Result<u32, Memory>
         ensures number { IfOk result (λ i. slice_get self.new i ≡ Some name.now) }
         ensures grown { Begins self.new self.old }
-        ensures added { IfOk result (λ i. (k : ℕ) → k < length self.new → (k < length self.old) ⊎ (k ≡ i)) }
+        ensures added { IfOk result (λ i. (k : ℕ) → k < length self.new → (k < length self.old)
+            ⊎ (k ≡ i)) }
     {
         let (number, _) = self.all.insert_full(name)?;
         let Ok(number) = u32::try_from(number) else {

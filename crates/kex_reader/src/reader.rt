@@ -1,15 +1,27 @@
 // A whole program, a word at a time.
 
-ghost use Rattle.std.specs.Prelude.{◌≡◌, ℕ, ◌+◌, ◌<◌, ◌^◌, ◌++◌, ◌∷◌, ◌⊎◌, [], false, List, length, None, IfOk, IfErr, OnOk};
+ghost use Rattle.std.specs.Prelude.{◌≡◌, ℕ, ◌+◌, ◌<◌, ◌^◌, ◌++◌, ◌∷◌, ◌⊎◌, [], false, List, length};
+ghost use Rattle.std.specs.Prelude.{None, IfOk, IfErr, OnOk};
 ghost use Rattle.kex_tokens.specs.Lexemes.{IsToken};
-ghost use Rattle.kex_reader.specs.Holding.{EndLosesNone, FinishLosesNone, InPhase, InState, IsBehindState, ReaderEnds, ReaderFinishes, ReaderLosesNone, ReaderShows, ReaderSteps, WithinDefinition, whole_term};
-ghost use Rattle.kex_reader.specs.Reading.{Entry, Inside, State, entries, with_pre, Within, finish as spec_finish, finish_within as spec_finish_within, first_name, FirstName, words_read, step as spec_step, step_within, take_term};
+ghost use Rattle.kex_reader.specs.Holding.{EndLosesNone, FinishLosesNone, InPhase, InState};
+ghost use Rattle.kex_reader.specs.Holding.{IsBehindState, ReaderEnds, ReaderFinishes};
+ghost use Rattle.kex_reader.specs.Holding.{ReaderLosesNone, ReaderShows, ReaderSteps};
+ghost use Rattle.kex_reader.specs.Holding.{WithinDefinition, whole_term};
+ghost use Rattle.kex_reader.specs.Reading.{Entry, Inside, State, entries, with_pre, Within};
+ghost use Rattle.kex_reader.specs.Reading.{finish as spec_finish};
+ghost use Rattle.kex_reader.specs.Reading.{finish_within as spec_finish_within, first_name};
+ghost use Rattle.kex_reader.specs.Reading.{FirstName, words_read, step as spec_step, step_within};
+ghost use Rattle.kex_reader.specs.Reading.{take_term};
 ghost use Rattle.kex_reader.specs.Shown.{IsName, ShowsAtom};
 ghost use Rattle.kex_reader.specs.Asked.{state_asks};
 ghost use Rattle.kex_reader.specs.Uses.{InStages, NodeNumber};
 ghost use Rattle.kex_reader.specs.Checks.{Check, Staged};
-ghost use Rattle.kex_reader.specs.Stands.{Behind, ConstructsShow, InConstructs, Keeps, LosesNone, NotesLeast, NotesMore, OnAtom, OnTurned, SomeAtom, SomeConstructs, SomeInside, SomeName, SomeTurned, word_of};
-ghost use Rattle.kex_reader.specs.Syntax.{Atom, Call, Definition as SpecDefinition, Define, Once, Turns, Header, word as grammar_word};
+ghost use Rattle.kex_reader.specs.Stands.{Behind, ConstructsShow, InConstructs, Keeps, LosesNone};
+ghost use Rattle.kex_reader.specs.Stands.{NotesLeast, NotesMore, OnAtom, OnTurned, SomeAtom};
+ghost use Rattle.kex_reader.specs.Stands.{SomeConstructs, SomeInside, SomeName, SomeTurned};
+ghost use Rattle.kex_reader.specs.Stands.{word_of};
+ghost use Rattle.kex_reader.specs.Syntax.{Atom, Call, Definition as SpecDefinition, Define, Once};
+ghost use Rattle.kex_reader.specs.Syntax.{Turns, Header, word as grammar_word};
 
 use crate::draft::Draft;
 use crate::inside::{StepFault, Wait, call, end_turns, step_in};
@@ -29,7 +41,8 @@ const MOST_STAGES: usize = 64;
 fn limit_stages(draft: &mut Draft, before: usize, at: u32)
     ensures held { LosesNone draft.old draft.new (λ x. ⊥) (λ x. ⊥) }
     ensures keeps { Keeps draft.old draft.new }
-    ensures notes { (cs : List Check) → NotesLeast cs draft.old.broken → NotesLeast (cs ++ Staged at (before + 1) ∷ []) draft.new.broken }
+    ensures notes { (cs : List Check) → NotesLeast cs draft.old.broken
+        → NotesLeast (cs ++ Staged at (before + 1) ∷ []) draft.new.broken }
 {
     if before != MOST_STAGES {
         return;
@@ -56,7 +69,8 @@ pub(crate) enum Phase<'t> {
     Within(Head, Wait<'t>),
 }
 
-/// A program that is being read: what stands open in the definition, what is made, and the definitions and stages so far.
+/// A program that is being read: what stands open in the definition, what is made, and the
+/// definitions and stages so far.
 #[derive(Drop)]
 pub(crate) struct Reader<'t> {
     pub(crate) alloc: Global,
@@ -68,7 +82,8 @@ pub(crate) struct Reader<'t> {
 
 impl<'t> Reader<'t> {
     pub(crate) fn new(alloc: Global) -> Reader<'t>
-        ensures { (result.stack ≡ []) × (result.definitions.items ≡ []) × (result.stages.items ≡ []) × (result.draft ≡ record { nodes = []; names = []; registers = []; broken = None }) }
+        ensures { (result.stack ≡ []) × (result.definitions.items ≡ []) × (result.stages.items ≡ [])
+            × (result.draft ≡ record { nodes = []; names = []; registers = []; broken = None }) }
     {
         Reader {
             alloc,
@@ -81,10 +96,14 @@ impl<'t> Reader<'t> {
 
     // A definition begins.
     fn head(&mut self, name: Name<'t>) -> Result<Phase<'t>, StepFault>
-        ensures held { IfOk result (λ p. LosesNone self.old.draft self.new.draft (λ x. ⊥) (InPhase p)) }
+        ensures held { IfOk result (λ p.
+            LosesNone self.old.draft self.new.draft (λ x. ⊥) (InPhase p)) }
         ensures keeps { OnOk result (Keeps self.old.draft self.new.draft) }
-        ensures rest { OnOk result ((self.new.stack ≡ self.old.stack) × (self.new.definitions.items ≡ self.old.definitions.items) × (self.new.stages.items ≡ self.old.stages.items)) }
-        ensures phase { IfOk result (λ p. (k : ℕ) × (p ≡ Phase.Within (record { name = k; at = name.entry.at }) Wait.Need) × IsName self.new.draft k name.entry.bytes.now) }
+        ensures rest { OnOk result ((self.new.stack ≡ self.old.stack) × (self.new.definitions.items
+            ≡ self.old.definitions.items) × (self.new.stages.items ≡ self.old.stages.items)) }
+        ensures phase { IfOk result (λ p. (k : ℕ)
+            × (p ≡ Phase.Within (record { name = k; at = name.entry.at }) Wait.Need)
+            × IsName self.new.draft k name.entry.bytes.now) }
         ensures fault { IfErr result (λ e. e ≡ StepFault.Memory) }
         ensures broken { OnOk result (self.new.draft.broken ≡ self.old.draft.broken) }
     {
@@ -100,12 +119,19 @@ impl<'t> Reader<'t> {
 
     // A stage is named.
     fn stage(&mut self, word: Word<'t>) -> Result<Phase<'t>, StepFault>
-        ensures held { OnOk result (LosesNone self.old.draft self.new.draft (InStages self.old.stages.items) (InStages self.new.stages.items)) }
+        ensures held { OnOk result (LosesNone self.old.draft self.new.draft
+            (InStages self.old.stages.items) (InStages self.new.stages.items)) }
         ensures keeps { OnOk result (Keeps self.old.draft self.new.draft) }
-        ensures rest { OnOk result ((self.new.stack ≡ self.old.stack) × (self.new.definitions.items ≡ self.old.definitions.items)) }
-        ensures read { IfOk result (λ p. (k : ℕ) × (p ≡ Phase.StageRead) × (word.entry.kind ≡ Kind.Name) × IsName self.new.draft k word.entry.spelling.now × (self.new.stages.items ≡ self.old.stages.items ++ record { name = k; at = word.entry.at } ∷ [])) }
-        ensures fault { IfErr result (λ e. (e ≡ StepFault.Memory) ⊎ ((e ≡ StepFault.Wrong) × (word.entry.kind ≡ Kind.Name → ⊥))) }
-        ensures notes { (cs : List Check) → NotesLeast cs self.old.draft.broken → OnOk result (NotesLeast (cs ++ Staged word.entry.at (length self.old.stages.items + 1) ∷ []) self.new.draft.broken) }
+        ensures rest { OnOk result ((self.new.stack ≡ self.old.stack)
+            × (self.new.definitions.items ≡ self.old.definitions.items)) }
+        ensures read { IfOk result (λ p. (k : ℕ) × (p ≡ Phase.StageRead) × (word.entry.kind
+            ≡ Kind.Name) × IsName self.new.draft k word.entry.spelling.now × (self.new.stages.items
+            ≡ self.old.stages.items ++ record { name = k; at = word.entry.at } ∷ [])) }
+        ensures fault { IfErr result (λ e. (e ≡ StepFault.Memory)
+            ⊎ ((e ≡ StepFault.Wrong) × (word.entry.kind ≡ Kind.Name → ⊥))) }
+        ensures notes { (cs : List Check) → NotesLeast cs self.old.draft.broken
+            → OnOk result (NotesLeast (cs ++ Staged word.entry.at (length self.old.stages.items + 1)
+            ∷ []) self.new.draft.broken) }
     {
         let TokenKind::Name = word.kind else {
             return Err(StepFault::Wrong);
@@ -119,10 +145,13 @@ impl<'t> Reader<'t> {
     // The definition that is being read ends with what stands open.
     fn end(&mut self, head: Head) -> Result<(), StepFault>
         requires { SomeConstructs self.old.draft self.old.stack }
-        ensures held { OnOk result (EndLosesNone self.old self.new head (InConstructs self.old.stack)) }
+        ensures held { OnOk result
+            (EndLosesNone self.old self.new head (InConstructs self.old.stack)) }
         ensures keeps { OnOk result (Keeps self.old.draft self.new.draft) }
         ensures stages { OnOk result (self.new.stages.items ≡ self.old.stages.items) }
-        ensures ends { (at : ℕ → ℕ) (base : ℕ) (es : List Entry) → ConstructsShow self.old.draft at base self.old.stack es → ReaderEnds self.old self.new at base head result (whole_term (take_term es)) }
+        ensures ends { (at : ℕ → ℕ) (base : ℕ) (es : List Entry)
+            → ConstructsShow self.old.draft at base self.old.stack es
+            → ReaderEnds self.old self.new at base head result (whole_term (take_term es)) }
         ensures broken { OnOk result (self.new.draft.broken ≡ self.old.draft.broken) }
     {
         let closed = close_term(&mut self.stack, &mut self.draft)?;
@@ -146,8 +175,14 @@ impl<'t> Reader<'t> {
         requires token { IsToken word.kind word.spelling.now }
         requires place { word.at + length word.spelling.now < 2 ^ 32 }
         ensures held { ReaderLosesNone self.old (Phase.Within head wait.entry) self.new result }
-        ensures step { WithinDefinition self.old head wait.entry (λ at h done name i. (word.entry.kind ≡ TokenKind.Define → ⊥) → IsBehindState at (Within h done name i) word.entry.at → ReaderSteps self.new at result (step_within h done name i.mode i.entries (word_of word.entry))) }
-        ensures notes { WithinDefinition self.old head wait.entry (λ at h done name i. IsBehindState at (Within h done name i) word.entry.at → NotesMore self.old.draft.broken self.new.draft.broken result (state_asks at (Within h done name i) (word_of word.entry))) }
+        ensures step { WithinDefinition self.old head wait.entry (λ at h done name i.
+            (word.entry.kind ≡ TokenKind.Define → ⊥)
+            → IsBehindState at (Within h done name i) word.entry.at → ReaderSteps self.new at result
+            (step_within h done name i.mode i.entries (word_of word.entry))) }
+        ensures notes { WithinDefinition self.old head wait.entry (λ at h done name i.
+            IsBehindState at (Within h done name i) word.entry.at
+            → NotesMore self.old.draft.broken self.new.draft.broken result
+            (state_asks at (Within h done name i) (word_of word.entry))) }
     {
         match step_in(self.alloc, &mut self.stack, &mut self.draft, wait, word) {
             Ok(next) => Ok(Phase::Within(head, next)),
@@ -159,7 +194,8 @@ impl<'t> Reader<'t> {
     fn next_definition(&mut self, head: Head, wait: Wait<'t>) -> Result<Phase<'t>, StepFault>
         requires { SomeInside self.old.draft self.old.stack wait }
         ensures held { ReaderLosesNone self.old (Phase.Within head wait.entry) self.new result }
-        ensures step { WithinDefinition self.old head wait.entry (λ at h done name i. ReaderSteps self.new at result (step_within h done name i.mode i.entries Define)) }
+        ensures step { WithinDefinition self.old head wait.entry (λ at h done name i.
+            ReaderSteps self.new at result (step_within h done name i.mode i.entries Define)) }
         ensures broken { OnOk result (self.new.draft.broken ≡ self.old.draft.broken) }
     {
         let Wait::Named(free, name) = wait else {
@@ -177,7 +213,9 @@ impl<'t> Reader<'t> {
     // The first name is the start line's word, or a head.
     fn first(&mut self, name: Name<'t>, kind: TokenKind) -> Result<Phase<'t>, StepFault>
         ensures held { ReaderLosesNone self.old (Phase.FirstName name.entry) self.new result }
-        ensures step { (at : ℕ → ℕ) (n b : List ℕ) → ReaderShows self.old at (Phase.FirstName name.entry) (FirstName n) → ReaderSteps self.new at result (first_name n (grammar_word kind b)) }
+        ensures step { (at : ℕ → ℕ) (n b : List ℕ)
+            → ReaderShows self.old at (Phase.FirstName name.entry) (FirstName n)
+            → ReaderSteps self.new at result (first_name n (grammar_word kind b)) }
         ensures broken { OnOk result (self.new.draft.broken ≡ self.old.draft.broken) }
     {
         match kind {
@@ -199,8 +237,13 @@ impl<'t> Reader<'t> {
         requires token { IsToken word.kind word.spelling.now }
         requires place { word.at + length word.spelling.now < 2 ^ 32 }
         ensures held { ReaderLosesNone self.old phase.entry self.new result }
-        ensures step { (at : ℕ → ℕ) (s : State) → ReaderShows self.old at phase.entry s → IsBehindState at s word.entry.at → ReaderSteps self.new at result (spec_step s (word_of word.entry)) }
-        ensures notes { (at : ℕ → ℕ) (s : State) (cs : List Check) → ReaderShows self.old at phase.entry s → IsBehindState at s word.entry.at → NotesLeast cs self.old.draft.broken → OnOk result (NotesLeast (cs ++ state_asks at s (word_of word.entry)) self.new.draft.broken) }
+        ensures step { (at : ℕ → ℕ) (s : State) → ReaderShows self.old at phase.entry s
+            → IsBehindState at s word.entry.at
+            → ReaderSteps self.new at result (spec_step s (word_of word.entry)) }
+        ensures notes { (at : ℕ → ℕ) (s : State) (cs : List Check)
+            → ReaderShows self.old at phase.entry s → IsBehindState at s word.entry.at
+            → NotesLeast cs self.old.draft.broken → OnOk result
+            (NotesLeast (cs ++ state_asks at s (word_of word.entry)) self.new.draft.broken) }
     {
         let name = Name {
             bytes: word.spelling,
@@ -234,7 +277,8 @@ impl<'t> Reader<'t> {
     fn finish_within(&mut self, head: Head, wait: Wait<'t>) -> Result<(), StepFault>
         requires { SomeInside self.old.draft self.old.stack wait }
         ensures held { FinishLosesNone self.old (Phase.Within head wait.entry) self.new result }
-        ensures ends { WithinDefinition self.old head wait.entry (λ at h done name i. ReaderFinishes self.new at result (spec_finish_within h done name i.mode i.entries)) }
+        ensures ends { WithinDefinition self.old head wait.entry (λ at h done name i.
+            ReaderFinishes self.new at result (spec_finish_within h done name i.mode i.entries)) }
         ensures broken { OnOk result (self.new.draft.broken ≡ self.old.draft.broken) }
     {
         match wait {
@@ -250,10 +294,13 @@ impl<'t> Reader<'t> {
     // The last definition ends with this call.
     fn end_call(&mut self, head: Head, name: Name<'t>) -> Result<(), StepFault>
         requires { SomeName self.old.draft self.old.stack name.at }
-        ensures held { OnOk result (EndLosesNone self.old self.new head (InConstructs self.old.stack)) }
+        ensures held { OnOk result
+            (EndLosesNone self.old self.new head (InConstructs self.old.stack)) }
         ensures keeps { OnOk result (Keeps self.old.draft self.new.draft) }
         ensures stages { OnOk result (self.new.stages.items ≡ self.old.stages.items) }
-        ensures ends { Behind self.old.draft self.old.stack name.entry.at (λ at base es. ReaderEnds self.old self.new at base head result (whole_term (take_term (with_pre (Once (Call name.entry.bytes.now)) es)))) }
+        ensures ends { Behind self.old.draft self.old.stack name.entry.at (λ at base es.
+            ReaderEnds self.old self.new at base head result
+            (whole_term (take_term (with_pre (Once (Call name.entry.bytes.now)) es)))) }
         ensures broken { OnOk result (self.new.draft.broken ≡ self.old.draft.broken) }
     {
         let item = call(&mut self.draft, name)?;
@@ -263,10 +310,13 @@ impl<'t> Reader<'t> {
     // The last definition ends with this atom and its postfix.
     fn end_turned(&mut self, head: Head, item: PlacedNode, bounds: Bounds) -> Result<(), StepFault>
         requires { SomeTurned self.old.draft self.old.stack item bounds }
-        ensures held { OnOk result (EndLosesNone self.old self.new head (λ x. (x ≡ NodeNumber item.node) ⊎ InConstructs self.old.stack x)) }
+        ensures held { OnOk result (EndLosesNone self.old self.new head (λ x.
+            (x ≡ NodeNumber item.node) ⊎ InConstructs self.old.stack x)) }
         ensures keeps { OnOk result (Keeps self.old.draft self.new.draft) }
         ensures stages { OnOk result (self.new.stages.items ≡ self.old.stages.items) }
-        ensures ends { OnTurned self.old.draft self.old.stack item bounds (λ at base es a p. ReaderEnds self.old self.new at base head result (whole_term (take_term (with_pre (Turns a p false) es)))) }
+        ensures ends { OnTurned self.old.draft self.old.stack item bounds (λ at base es a p.
+            ReaderEnds self.old self.new at base head result
+            (whole_term (take_term (with_pre (Turns a p false) es)))) }
         ensures broken { OnOk result (self.new.draft.broken ≡ self.old.draft.broken) }
     {
         end_turns(&mut self.stack, &mut self.draft, item, bounds, false)?;
@@ -276,10 +326,12 @@ impl<'t> Reader<'t> {
     // The last definition ends with this atom.
     fn end_with(&mut self, head: Head, item: PlacedNode) -> Result<(), StepFault>
         requires { SomeAtom self.old.draft self.old.stack item }
-        ensures held { OnOk result (EndLosesNone self.old self.new head (λ x. (x ≡ NodeNumber item.node) ⊎ InConstructs self.old.stack x)) }
+        ensures held { OnOk result (EndLosesNone self.old self.new head (λ x.
+            (x ≡ NodeNumber item.node) ⊎ InConstructs self.old.stack x)) }
         ensures keeps { OnOk result (Keeps self.old.draft self.new.draft) }
         ensures stages { OnOk result (self.new.stages.items ≡ self.old.stages.items) }
-        ensures ends { OnAtom self.old.draft self.old.stack item (λ at base es a. ReaderEnds self.old self.new at base head result (whole_term (take_term (with_pre (Once a) es)))) }
+        ensures ends { OnAtom self.old.draft self.old.stack item (λ at base es a. ReaderEnds
+            self.old self.new at base head result (whole_term (take_term (with_pre (Once a) es)))) }
         ensures broken { OnOk result (self.new.draft.broken ≡ self.old.draft.broken) }
     {
         put(&mut self.stack, &mut self.draft, item)?;
@@ -290,7 +342,8 @@ impl<'t> Reader<'t> {
     pub(crate) fn finish(&mut self, phase: Phase<'t>) -> Result<(), StepFault>
         requires { InState self.old phase }
         ensures held { FinishLosesNone self.old phase.entry self.new result }
-        ensures ends { (at : ℕ → ℕ) (s : State) → ReaderShows self.old at phase.entry s → ReaderFinishes self.new at result (spec_finish s) }
+        ensures ends { (at : ℕ → ℕ) (s : State) → ReaderShows self.old at phase.entry s
+            → ReaderFinishes self.new at result (spec_finish s) }
         ensures broken { OnOk result (self.new.draft.broken ≡ self.old.draft.broken) }
     {
         match phase {

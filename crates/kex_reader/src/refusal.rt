@@ -16,16 +16,19 @@ pub enum ReadRefusal {
     /// Here a token, white space or a comment should begin, and none can be completed.
     #[error("bad token at byte {at}")]
     BadToken { at: u32 },
-    /// The tokens before this one begin a program, and those up to and with it begin none; or here they end, and are none.
+    /// The tokens before this one begin a program, and those up to and with it begin none; or here
+    /// they end, and are none.
     #[error("unexpected token at byte {at}")]
     Unexpected { at: u32 },
-    /// The body's bytes before this one begin a body, and those up to and with it begin none; or here it ends, and is none.
+    /// The body's bytes before this one begin a body, and those up to and with it begin none; or
+    /// here it ends, and is none.
     #[error("bad regex at byte {at}")]
     BadRegex { at: u32 },
     /// At this brace stands a count above 1,000, or a least count above the greatest.
     #[error("bad count at byte {at}")]
     BadCount { at: u32 },
-    /// At this bracket stands a set with a range whose first byte is above its last, or a set without a byte.
+    /// At this bracket stands a set with a range whose first byte is above its last, or a set
+    /// without a byte.
     #[error("bad set at byte {at}")]
     BadSet { at: u32 },
     /// This mark or prefix raises the nesting above 200, or this name is that of a 65th stage.

@@ -1,6 +1,7 @@
 // What stands open in a definition.
 
-ghost use Rattle.std.specs.Prelude.{◌≡◌, ℕ, Bool, List, [], ◌∷◌, length, OnOk, IfSome, IfNone, ◌==◌};
+ghost use Rattle.std.specs.Prelude.{◌≡◌, ℕ, Bool, List, [], ◌∷◌, length, OnOk, IfSome, IfNone};
+ghost use Rattle.std.specs.Prelude.{◌==◌};
 ghost use Rattle.kex_reader.specs.Stands.{is_opening, open_constructs, construct_of};
 
 use kex_code::memory::Memory;
@@ -21,8 +22,8 @@ pub(crate) struct PlacedRegister {
     pub(crate) at: u32,
 }
 
-/// An open parenthesis; a sequence that a bar has ended; a member of the sequence that is being read; a prefix that waits for
-/// what it stands before.
+/// An open parenthesis; a sequence that a bar has ended; a member of the sequence that is being
+/// read; a prefix that waits for what it stands before.
 #[derive(Clone, Copy)]
 pub(crate) enum Construct {
     Mark(u32),
@@ -108,7 +109,8 @@ impl Stack {
     pub(crate) fn take_done(&mut self) -> Option<PlacedNode>
         ensures some { IfSome result (λ p. self.old ≡ Construct.Done p ∷ self.new) }
         ensures none { IfNone result (self.new ≡ self.old) }
-        ensures top { IfNone result ((p : PlacedNode) (fs : List Construct) → self.old ≡ Construct.Done p ∷ fs → ⊥) }
+        ensures top { IfNone result ((p : PlacedNode) (fs : List Construct)
+            → self.old ≡ Construct.Done p ∷ fs → ⊥) }
     {
         if let Some(&Construct::Done(part)) = self.constructs.last() {
             self.constructs.pop();
@@ -121,7 +123,8 @@ impl Stack {
     pub(crate) fn take_ended(&mut self) -> Option<PlacedNode>
         ensures some { IfSome result (λ p. self.old ≡ Construct.Ended p ∷ self.new) }
         ensures none { IfNone result (self.new ≡ self.old) }
-        ensures top { IfNone result ((p : PlacedNode) (fs : List Construct) → self.old ≡ Construct.Ended p ∷ fs → ⊥) }
+        ensures top { IfNone result ((p : PlacedNode) (fs : List Construct)
+            → self.old ≡ Construct.Ended p ∷ fs → ⊥) }
     {
         if let Some(&Construct::Ended(part)) = self.constructs.last() {
             self.constructs.pop();
@@ -133,7 +136,8 @@ impl Stack {
     // Takes a parenthesis from the top.
     pub(crate) fn take_mark(&mut self) -> Option<u32>
         ensures some { IfSome result (λ at. self.old ≡ Construct.Mark at ∷ self.new) }
-        ensures top { IfNone result ((at : ℕ) (fs : List Construct) → self.old ≡ Construct.Mark at ∷ fs → ⊥) }
+        ensures top { IfNone result ((at : ℕ) (fs : List Construct)
+            → self.old ≡ Construct.Mark at ∷ fs → ⊥) }
     {
         if let Some(&Construct::Mark(at)) = self.constructs.last() {
             self.constructs.pop();
@@ -147,7 +151,8 @@ impl Stack {
     fn take_muted(&mut self) -> Option<u32>
         ensures some { IfSome result (λ at. self.old ≡ Construct.Muted at ∷ self.new) }
         ensures none { IfNone result (self.new ≡ self.old) }
-        ensures top { IfNone result ((at : ℕ) (fs : List Construct) → self.old ≡ Construct.Muted at ∷ fs → ⊥) }
+        ensures top { IfNone result ((at : ℕ) (fs : List Construct)
+            → self.old ≡ Construct.Muted at ∷ fs → ⊥) }
     {
         if let Some(&Construct::Muted(at)) = self.constructs.last() {
             self.constructs.pop();
@@ -161,7 +166,8 @@ impl Stack {
     fn take_storing(&mut self) -> Option<PlacedRegister>
         ensures some { IfSome result (λ s. self.old ≡ Construct.Storing s ∷ self.new) }
         ensures none { IfNone result (self.new ≡ self.old) }
-        ensures top { IfNone result ((s : PlacedRegister) (fs : List Construct) → self.old ≡ Construct.Storing s ∷ fs → ⊥) }
+        ensures top { IfNone result ((s : PlacedRegister) (fs : List Construct)
+            → self.old ≡ Construct.Storing s ∷ fs → ⊥) }
     {
         if let Some(&Construct::Storing(store)) = self.constructs.last() {
             self.constructs.pop();
@@ -175,8 +181,10 @@ impl Stack {
     pub(crate) fn take_prefix(&mut self) -> Option<Prefix>
         ensures some { IfSome result (λ p. self.old ≡ construct_of p ∷ self.new) }
         ensures none { IfNone result (self.new ≡ self.old) }
-        ensures muted { IfNone result ((at : ℕ) (fs : List Construct) → self.old ≡ Construct.Muted at ∷ fs → ⊥) }
-        ensures storing { IfNone result ((s : PlacedRegister) (fs : List Construct) → self.old ≡ Construct.Storing s ∷ fs → ⊥) }
+        ensures muted { IfNone result ((at : ℕ) (fs : List Construct)
+            → self.old ≡ Construct.Muted at ∷ fs → ⊥) }
+        ensures storing { IfNone result ((s : PlacedRegister) (fs : List Construct)
+            → self.old ≡ Construct.Storing s ∷ fs → ⊥) }
     {
         if let Some(at) = self.take_muted() {
             return Some(Prefix::Mute(at));

@@ -3,7 +3,10 @@
 ghost use Rattle.std.specs.Prelude.{◌≡◌, ℕ, ◌+◌, ◌<◌, ◌⊎◌, List, length, IfOk, OnOk};
 ghost use Rattle.kex_reader.specs.Reading.{Entry, entries, with_pre, take_seq, take_term};
 ghost use Rattle.kex_reader.specs.Shown.{IsNode, ShowsPre};
-ghost use Rattle.kex_reader.specs.Stands.{ConstructsShow, HasRegisterBelow, InConstruct, InConstructs, InPart, Keeps, LosesNone, SeqTaken, SomeConstructs, SomePre, TermTaken, construct_of, prefix_at, prefixed_kind};
+ghost use Rattle.kex_reader.specs.Stands.{ConstructsShow, HasRegisterBelow, InConstruct};
+ghost use Rattle.kex_reader.specs.Stands.{InConstructs, InPart, Keeps, LosesNone, SeqTaken};
+ghost use Rattle.kex_reader.specs.Stands.{SomeConstructs, SomePre, TermTaken, construct_of};
+ghost use Rattle.kex_reader.specs.Stands.{prefix_at, prefixed_kind};
 ghost use Rattle.kex_reader.specs.Uses.{NodeNumber};
 ghost use Rattle.kex_reader.specs.Syntax.{Pre};
 
@@ -17,9 +20,12 @@ pub(crate) fn put(stack: &mut Stack, draft: &mut Draft, part: PlacedNode) -> Res
     requires { SomePre draft.old stack.old part }
     ensures keeps { OnOk result (Keeps draft.old draft.new) }
     ensures broken { OnOk result (draft.new.broken ≡ draft.old.broken) }
-    ensures held { OnOk result (LosesNone draft.old draft.new (λ x. (x ≡ NodeNumber part.node) ⊎ InConstructs stack.old x) (InConstructs stack.new)) }
-    ensures put { OnOk result ((at : ℕ → ℕ) (base : ℕ) (es : List Entry) (p : Pre) → ConstructsShow draft.old at base stack.old es → part.at ≡ at (base + length (entries es))
-        → ShowsPre p draft.old at part.node (base + length (entries es)) → ConstructsShow draft.new at base stack.new (with_pre p es)) }
+    ensures held { OnOk result (LosesNone draft.old draft.new (λ x. (x ≡ NodeNumber part.node)
+        ⊎ InConstructs stack.old x) (InConstructs stack.new)) }
+    ensures put { OnOk result ((at : ℕ → ℕ) (base : ℕ) (es : List Entry) (p : Pre)
+        → ConstructsShow draft.old at base stack.old es → part.at ≡ at (base + length (entries es))
+        → ShowsPre p draft.old at part.node (base + length (entries es))
+        → ConstructsShow draft.new at base stack.new (with_pre p es)) }
 {
     let mut whole = part;
     while let Some(prefix) = stack.take_prefix() {
@@ -36,9 +42,11 @@ fn prefixed(draft: &mut Draft, prefix: Prefix, part: PlacedNode) -> Result<Place
     requires register { HasRegisterBelow (length draft.old.registers) prefix }
     ensures keeps { OnOk result (Keeps draft.old draft.new) }
     ensures broken { OnOk result (draft.new.broken ≡ draft.old.broken) }
-    ensures node { IfOk result (λ w. IsNode draft.new w.node (prefixed_kind prefix part.node) (prefix_at prefix)) }
+    ensures node { IfOk result (λ w.
+        IsNode draft.new w.node (prefixed_kind prefix part.node) (prefix_at prefix)) }
     ensures place { IfOk result (λ w. w.at ≡ prefix_at prefix) }
-    ensures held { IfOk result (λ w. LosesNone draft.old draft.new (λ x. (x ≡ NodeNumber part.node) ⊎ InConstruct (construct_of prefix) x) (λ x. x ≡ NodeNumber w.node)) }
+    ensures held { IfOk result (λ w. LosesNone draft.old draft.new (λ x. (x ≡ NodeNumber part.node)
+        ⊎ InConstruct (construct_of prefix) x) (λ x. x ≡ NodeNumber w.node)) }
 {
     match prefix {
         Prefix::Mute(at) => {
@@ -57,8 +65,11 @@ pub(crate) fn close_seq(stack: &mut Stack, draft: &mut Draft) -> Result<Option<P
     requires { SomeConstructs draft.old stack.old }
     ensures keeps { OnOk result (Keeps draft.old draft.new) }
     ensures broken { OnOk result (draft.new.broken ≡ draft.old.broken) }
-    ensures held { IfOk result (λ o. LosesNone draft.old draft.new (InConstructs stack.old) (λ x. InPart o x ⊎ InConstructs stack.new x)) }
-    ensures seq { IfOk result (λ o. (at : ℕ → ℕ) (base : ℕ) (es : List Entry) → ConstructsShow draft.old at base stack.old es → SeqTaken draft.new at base stack.new o (take_seq es)) }
+    ensures held { IfOk result (λ o. LosesNone draft.old draft.new (InConstructs stack.old) (λ x.
+        InPart o x ⊎ InConstructs stack.new x)) }
+    ensures seq { IfOk result (λ o. (at : ℕ → ℕ) (base : ℕ) (es : List Entry)
+        → ConstructsShow draft.old at base stack.old es
+        → SeqTaken draft.new at base stack.new o (take_seq es)) }
 {
     let Some(last) = stack.take_done() else {
         return Ok(None);
@@ -76,8 +87,11 @@ pub(crate) fn close_term(stack: &mut Stack, draft: &mut Draft) -> Result<Option<
     requires { SomeConstructs draft.old stack.old }
     ensures keeps { OnOk result (Keeps draft.old draft.new) }
     ensures broken { OnOk result (draft.new.broken ≡ draft.old.broken) }
-    ensures held { IfOk result (λ o. LosesNone draft.old draft.new (InConstructs stack.old) (λ x. InPart o x ⊎ InConstructs stack.new x)) }
-    ensures term { IfOk result (λ o. (at : ℕ → ℕ) (base : ℕ) (es : List Entry) → ConstructsShow draft.old at base stack.old es → TermTaken draft.new at base stack.new o (take_term es)) }
+    ensures held { IfOk result (λ o. LosesNone draft.old draft.new (InConstructs stack.old) (λ x.
+        InPart o x ⊎ InConstructs stack.new x)) }
+    ensures term { IfOk result (λ o. (at : ℕ → ℕ) (base : ℕ) (es : List Entry)
+        → ConstructsShow draft.old at base stack.old es
+        → TermTaken draft.new at base stack.new o (take_term es)) }
 {
     let closed = close_seq(stack, draft)?;
     let Some(last) = closed else {

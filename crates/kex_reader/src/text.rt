@@ -1,12 +1,14 @@
 // The whole text.
 
-ghost use Rattle.std.specs.Prelude.{◌≡◌, ℕ, ◌<◌, ◌≤◌, ◌⊎◌, [], None, Some, List, length, All, IfOk, IfErr};
+ghost use Rattle.std.specs.Prelude.{◌≡◌, ℕ, ◌<◌, ◌≤◌, ◌⊎◌, [], None, Some, List, length, All, IfOk};
+ghost use Rattle.std.specs.Prelude.{IfErr};
 ghost use Rattle.kex_code.specs.Codes.{Different, IsAmong};
 ghost use Rattle.kex_model.specs.Programs.{Grammar};
 ghost use Rattle.kex_tokens.specs.Texts.{AreTokens, IsSpan, most_text};
 ghost use Rattle.kex_reader.specs.Holding.{ShowsHead};
 ghost use Rattle.kex_reader.specs.Shown.{ShowsDefinitions};
-ghost use Rattle.kex_reader.specs.Spelling.{IsRefusedAs, ShowsProgram, Spells, made_of, main_stage, of_limit, of_step, of_token};
+ghost use Rattle.kex_reader.specs.Spelling.{IsRefusedAs, ShowsProgram, Spells, made_of, main_stage};
+ghost use Rattle.kex_reader.specs.Spelling.{of_limit, of_step, of_token};
 ghost use Rattle.kex_reader.specs.Stands.{Has};
 ghost use Rattle.kex_reader.specs.Syntax.{Program as Tree, header};
 ghost use Rattle.kex_reader.specs.Uses.{InDefinitions, InNodes, InStages, NoneSpare, Numbered};
@@ -89,7 +91,8 @@ fn stages_of(
 ) -> Result<Vec<Start>, Memory>
     requires { (d : Definition) → IsAmong definitions.now d → d.name < length names.now }
     ensures line { (length named.items ≡ 0 → ⊥) → IfOk result (λ ss. ss.items ≡ named.items) }
-    ensures main { length named.items ≡ 0 → IfOk result (λ ss. ss.items ≡ main_stage names.now definitions.now) }
+    ensures main { length named.items ≡ 0
+        → IfOk result (λ ss. ss.items ≡ main_stage names.now definitions.now) }
 {
     if named.is_empty() {
         main_alone(alloc, names, definitions)
@@ -105,13 +108,21 @@ fn program(
     definitions: Vec<Definition>,
     named: Vec<Start>,
 ) -> Result<Program, ReadRefusal>
-    requires { (at : ℕ → ℕ) × (tree : Tree) × ShowsDefinitions tree.definitions draft at definitions.items (length (header tree.header)) × ShowsHead tree.header draft at named.items }
+    requires { (at : ℕ → ℕ) × (tree : Tree)
+        × ShowsDefinitions tree.definitions draft at definitions.items (length (header tree.header))
+        × ShowsHead tree.header draft at named.items }
     ensures whole { IfOk result (λ _. draft.entry.broken ≡ None) }
-    ensures shown { IfOk result (λ P. (at : ℕ → ℕ) (tree : Tree) → ShowsDefinitions tree.definitions draft.entry at definitions.items (length (header tree.header)) → ShowsHead tree.header draft.entry at named.items → ShowsProgram tree (made_of P draft.entry.registers) at P) }
+    ensures shown { IfOk result (λ P. (at : ℕ → ℕ) (tree : Tree)
+        → ShowsDefinitions tree.definitions draft.entry at definitions.items
+        (length (header tree.header)) → ShowsHead tree.header draft.entry at named.items
+        → ShowsProgram tree (made_of P draft.entry.registers) at P) }
     ensures names { IfOk result (λ P. Different P.names) }
-    ensures registers { IfOk result (λ P. Different draft.entry.registers × (P.registers ≡ length draft.entry.registers)) }
-    ensures used { IfOk result (λ P. ((x : Numbered) → Has draft.entry x → InNodes draft.entry.nodes x ⊎ (InDefinitions definitions.items x ⊎ InStages named.items x)) → NoneSpare P) }
-    ensures refused { IfErr result (λ e. (e ≡ ReadRefusal.Memory) ⊎ ((b : Break) × (draft.entry.broken ≡ Some b) × (e ≡ of_limit b))) }
+    ensures registers { IfOk result (λ P. Different draft.entry.registers
+        × (P.registers ≡ length draft.entry.registers)) }
+    ensures used { IfOk result (λ P. ((x : Numbered) → Has draft.entry x → InNodes draft.entry.nodes
+        x ⊎ (InDefinitions definitions.items x ⊎ InStages named.items x)) → NoneSpare P) }
+    ensures refused { IfErr result (λ e. (e ≡ ReadRefusal.Memory)
+        ⊎ ((b : Break) × (draft.entry.broken ≡ Some b) × (e ≡ of_limit b))) }
 {
     if let Some(broken) = draft.broken() {
         return Err(limit_refusal(broken));
@@ -160,8 +171,8 @@ fn parse(alloc: Global, text: &[u8], tokens: &[Token]) -> Result<Program, ReadRe
 
 /// The program that a text spells. The time is linear in the text.
 ///
-/// The refusals are asked one after another over the whole text, `TextTooLong` first and `OverLimit` last; within one the lowest
-/// offset is answered.
+/// The refusals are asked one after another over the whole text, `TextTooLong` first and
+/// `OverLimit` last; within one the lowest offset is answered.
 pub fn read(alloc: Global, text: &[u8]) -> Result<Program, ReadRefusal>
     ensures read { IfOk result (λ P. Spells text.now P) }
     ensures refused { IfErr result (λ e. IsRefusedAs text.now e) }

@@ -2,7 +2,8 @@
 use Rattle.std.specs.Prelude.{◌≡◌, ℕ, ◌+◌, ◌<◌, ◌≤◌, List, ◌++◌, length, take}
 use Rattle.kex_regexp.specs.declared.fault.RegexFault.{RegexFault}
 use Rattle.kex_regexp.specs.declared.fault.RegexFault.TheVariants as faults
-use Rattle.kex_regexp.specs.Breaks.{Break, BadRegex, BadCount, BadSet, OverLimit, IsLeast, regex_breaks}
+use Rattle.kex_regexp.specs.Breaks.{Break, BadRegex, BadCount, BadSet, OverLimit, IsLeast}
+use Rattle.kex_regexp.specs.Breaks.{regex_breaks}
 use Rattle.kex_regexp.specs.Grammar.{Regex, regex, IsRegex}
 
 -- the bytes are this regex
@@ -17,16 +18,19 @@ IsBody bytes = (r : Regex) × SpellsRegex r bytes
 abbrev pub BeginsBody : List ℕ → Type 0
 BeginsBody bytes = (more : List ℕ) × IsBody (bytes ++ more)
 
--- the bytes before k begin a body, and those up to and with it begin none, or there are no more and they are none
+-- the bytes before k begin a body, and those up to and with it begin none, or there are no more and
+-- they are none
 pub record IsFirstWrong (bytes : List ℕ) (k : ℕ) : Type 0 where
   pub inside : k ≤ length bytes
   pub before : BeginsBody (take k bytes)
   pub byte : k < length bytes → BeginsBody (take (k + 1) bytes) → ⊥
   pub end : k ≡ length bytes → IsBody bytes → ⊥
 
--- the bytes are a body that stands at an offset under so many marks, and this is the least of the rules that it breaks
+-- the bytes are a body that stands at an offset under so many marks, and this is the least of the
+-- rules that it breaks
 abbrev pub BreaksFirst : List ℕ → ℕ → ℕ → Break → Type 0
-BreaksFirst bytes at depth b = (r : Regex) × SpellsRegex r bytes × IsLeast (regex_breaks r at depth) b
+BreaksFirst bytes at depth b = (r : Regex) × SpellsRegex r bytes
+    × IsLeast (regex_breaks r at depth) b
 
 abbrev pub fault_of : Break → RegexFault
 fault_of (BadRegex place) = faults.BadRegex place

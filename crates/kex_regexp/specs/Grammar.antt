@@ -1,15 +1,19 @@
--- The grammar of regex bodies, as trees, one constructor for each alternative of a rule, and what each tree spells.
+-- The grammar of regex bodies, as trees, one constructor for each alternative of a rule, and what
+-- each tree spells.
 use Rattle.std.specs.Char.{is_ascii_digit, is_ascii_hexdigit, is_ascii_punctuation}
 use Rattle.kex_tokens.specs.Bytes as byte
 use Rattle.kex_regexp.specs.Postfixes.{Signs, spelled, lazy_sign}
-pub use Rattle.kex_regexp.specs.Postfixes.{Postfix, ZeroOrMore, OneOrMore, Optional, Exactly, AtLeast, AtMost, FromTo}
+pub use Rattle.kex_regexp.specs.Postfixes.{Postfix, ZeroOrMore, OneOrMore, Optional, Exactly}
+pub use Rattle.kex_regexp.specs.Postfixes.{AtLeast, AtMost, FromTo}
 use Rattle.std.specs.Prelude.{◌≡◌, ℕ, Bool, true, false, List, [], ◌∷◌, ◌++◌, ◌==◌, if◌then◌else◌}
 
 -- ---- which bytes are what
 
 -- a byte that stands for itself: none of * + ? { } ( ) | [ ] \ . / ^ $ and no line feed
 abbrev pub special_bytes : List ℕ
-special_bytes = byte.asterisk ∷ byte.plus ∷ byte.question ∷ byte.open_brace ∷ byte.close_brace ∷ byte.open_paren ∷ byte.close_paren ∷ byte.bar ∷ byte.open_bracket ∷ byte.close_bracket ∷ byte.backslash ∷ byte.dot ∷ byte.slash ∷ byte.caret ∷ byte.dollar ∷ byte.line_feed ∷ []
+special_bytes = byte.asterisk ∷ byte.plus ∷ byte.question ∷ byte.open_brace ∷ byte.close_brace
+    ∷ byte.open_paren ∷ byte.close_paren ∷ byte.bar ∷ byte.open_bracket ∷ byte.close_bracket
+    ∷ byte.backslash ∷ byte.dot ∷ byte.slash ∷ byte.caret ∷ byte.dollar ∷ byte.line_feed ∷ []
 
 abbrev pub is_among : ℕ → List ℕ → Bool
 is_among b [] = false
@@ -30,7 +34,8 @@ is_hex b = is_ascii_hexdigit b
 
 -- what may be an end of a member: no ] \ - / and no line feed
 unfoldable pub is_end : ℕ → Bool
-is_end b = if is_among b (byte.close_bracket ∷ byte.backslash ∷ byte.hyphen ∷ byte.slash ∷ byte.line_feed ∷ []) then false else true
+is_end b = if is_among b (byte.close_bracket ∷ byte.backslash ∷ byte.hyphen ∷ byte.slash
+    ∷ byte.line_feed ∷ []) then false else true
 
 -- ---- trees without recursion
 
@@ -99,7 +104,16 @@ negation false = []
 
 -- a number is its digits
 abbrev pub signs : Signs ℕ
-signs = record { star = byte.asterisk; plus = byte.plus; question = byte.question; open_brace = byte.open_brace; comma = byte.comma; close_brace = byte.close_brace; number = λ digits. digits }
+signs = record {
+  star = byte.asterisk;
+  plus = byte.plus;
+  question = byte.question;
+  open_brace =
+      byte.open_brace;
+  comma = byte.comma;
+  close_brace = byte.close_brace;
+  number = λ digits. digits;
+}
 
 unfoldable pub postfix : Postfix → List ℕ
 postfix p = spelled signs p
@@ -124,7 +138,8 @@ unfoldable mutual
   item (Plain b) = b ∷ []
   item (Escaped e) = escape e
   item Dot = byte.dot ∷ []
-  item (Set negated ms) = byte.open_bracket ∷ negation negated ++ (members ms ++ byte.close_bracket ∷ [])
+  item (Set negated ms) =
+      byte.open_bracket ∷ negation negated ++ (members ms ++ byte.close_bracket ∷ [])
   item (Group r) = byte.open_paren ∷ regex r ++ byte.close_paren ∷ []
 
 -- ---- the conditions on bytes

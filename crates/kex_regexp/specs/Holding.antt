@@ -1,5 +1,7 @@
--- What the reader holds while it reads: nodes, constructs, a set, a count, each against what the machine holds.
-use Rattle.std.specs.Prelude.{◌≡◌, ℕ, ◌+◌, Bool, true, false, List, [], ◌∷◌, ◌++◌, length, reverse, Option, Some, None, Result, Ok, Err, IfOk, MatchBool, min, ◌==◌, ◌⊎◌}
+-- What the reader holds while it reads: nodes, constructs, a set, a count, each against what the
+-- machine holds.
+use Rattle.std.specs.Prelude.{◌≡◌, ℕ, ◌+◌, Bool, true, false, List, [], ◌∷◌, ◌++◌, length, reverse}
+use Rattle.std.specs.Prelude.{Option, Some, None, Result, Ok, Err, IfOk, MatchBool, min, ◌==◌, ◌⊎◌}
 use Rattle.kex_byteset.specs.Sets.{HasExactly}
 use Rattle.kex_code.specs.Codes.{IsAmong}
 use Rattle.kex_model.specs.declared.program.Kind.TheVariants as kinds
@@ -24,8 +26,15 @@ use Rattle.kex_regexp.specs.declared.wait.StepFault.{StepFault}
 use Rattle.kex_regexp.specs.declared.wait.StepFault.TheVariants as faults
 use Rattle.kex_regexp.specs.declared.wait.Wait.{Wait}
 use Rattle.kex_regexp.specs.declared.wait.Wait.TheVariants as waits
-use Rattle.kex_regexp.specs.Grammar.{item, Member, Regex, Last, Or, Branch, Empty, Then, Piece, Once, Turns, Item, Plain, Escaped, Dot, Set, Group, branch, piece, postfix}
-use Rattle.kex_regexp.specs.Machine.{EscapeStep, EscapeOn, EscapeRead, EscapeWrong, SetPhase, AtStart, Between, HasEnd, HasDash, InFirst, InLast, SetStep, SetOn, SetRead, SetWrong, Counting, Opened, Low, LowComma, LowHigh, OnlyComma, High, CountStep, CountOn, CountRead, CountWrong, Entry, Mark, Ended, Read, Mode, Ready, After, Turned, InEscape, InSet, InCount, State, entries, bytes_read}
+use Rattle.kex_regexp.specs.Grammar.{item, Member, Regex, Last, Or, Branch, Empty, Then, Piece}
+use Rattle.kex_regexp.specs.Grammar.{Once, Turns, Item, Plain, Escaped, Dot, Set, Group, branch}
+use Rattle.kex_regexp.specs.Grammar.{piece, postfix}
+use Rattle.kex_regexp.specs.Machine.{EscapeStep, EscapeOn, EscapeRead, EscapeWrong, SetPhase}
+use Rattle.kex_regexp.specs.Machine.{AtStart, Between, HasEnd, HasDash, InFirst, InLast, SetStep}
+use Rattle.kex_regexp.specs.Machine.{SetOn, SetRead, SetWrong, Counting, Opened, Low, LowComma}
+use Rattle.kex_regexp.specs.Machine.{LowHigh, OnlyComma, High, CountStep, CountOn, CountRead}
+use Rattle.kex_regexp.specs.Machine.{CountWrong, Entry, Mark, Ended, Read, Mode, Ready, After}
+use Rattle.kex_regexp.specs.Machine.{Turned, InEscape, InSet, InCount, State, entries, bytes_read}
 use Rattle.kex_regexp.specs.Parents.{NoneLost}
 use Rattle.kex_regexp.specs.Postfixes.{Postfix, high, is_bad_count, low}
 use Rattle.kex_regexp.specs.Shown.{IsNode, IsClass}
@@ -36,21 +45,25 @@ use Rattle.kex_tokens.specs.Values.{decimal_value}
 
 -- item l with this postfix, which is lazy or not, is node n
 abbrev pub IsTurns : Postfix → Bool → List Node → ℕ → ℕ → ℕ → Type 0
-IsTurns p lazy nodes n l at = MatchBool (is_bad_count p) (n ≡ l) (IsNode nodes n (kinds.Rep l (low p) (high p) lazy) at)
+IsTurns p lazy nodes n l at =
+    MatchBool (is_bad_count p) (n ≡ l) (IsNode nodes n (kinds.Rep l (low p) (high p) lazy) at)
 
 unfoldable mutual
   pub HoldsRegex : Regex → List Node → ℕ → ℕ → Type 0
   HoldsRegex (Last b) nodes n at = HoldsBranch b nodes n at
-  HoldsRegex (Or b r) nodes n at = (l : ℕ) × (m : ℕ) × IsNode nodes n (kinds.Alt l m) at × HoldsBranch b nodes l at × HoldsRegex r nodes m (at + length (branch b) + 1)
+  HoldsRegex (Or b r) nodes n at = (l : ℕ) × (m : ℕ) × IsNode nodes n (kinds.Alt l m) at
+      × HoldsBranch b nodes l at × HoldsRegex r nodes m (at + length (branch b) + 1)
 
   pub HoldsBranch : Branch → List Node → ℕ → ℕ → Type 0
   HoldsBranch Empty nodes n at = IsNode nodes n kinds.One at
   HoldsBranch (Then p Empty) nodes n at = HoldsPiece p nodes n at
-  HoldsBranch (Then p (Then q b)) nodes n at = (l : ℕ) × (m : ℕ) × IsNode nodes n (kinds.Seq l m) at × HoldsPiece p nodes l at × HoldsBranch (Then q b) nodes m (at + length (piece p))
+  HoldsBranch (Then p (Then q b)) nodes n at = (l : ℕ) × (m : ℕ) × IsNode nodes n (kinds.Seq l m) at
+      × HoldsPiece p nodes l at × HoldsBranch (Then q b) nodes m (at + length (piece p))
 
   pub HoldsPiece : Piece → List Node → ℕ → ℕ → Type 0
   HoldsPiece (Once i) nodes n at = HoldsItem i nodes n at
-  HoldsPiece (Turns i p lazy) nodes n at = (l : ℕ) × IsTurns p lazy nodes n l at × HoldsItem i nodes l at
+  HoldsPiece (Turns i p lazy) nodes n at = (l : ℕ) × IsTurns p lazy nodes n l at
+      × HoldsItem i nodes l at
 
   pub HoldsItem : Item → List Node → ℕ → ℕ → Type 0
   HoldsItem (Plain byte) nodes n at = IsClass nodes n (λ b. b == byte) at
@@ -64,18 +77,23 @@ unfoldable mutual
 -- the constructs, the newest first, show the entries of a body that begins at base
 unfoldable pub ConstructsShow : List Node → ℕ → List Construct → List Entry → Type 0
 ConstructsShow nodes base [] [] = Unit {0}
-ConstructsShow nodes base (constructs.Mark at ∷ fs) (Mark ∷ es) = (at ≡ base + length (entries es)) × ConstructsShow nodes base fs es
-ConstructsShow nodes base (constructs.Ended n at ∷ fs) (Ended b ∷ es) = (at ≡ base + length (entries es)) × HoldsBranch b nodes n at × ConstructsShow nodes base fs es
-ConstructsShow nodes base (constructs.Piece n at ∷ fs) (Read p ∷ es) = (at ≡ base + length (entries es)) × HoldsPiece p nodes n at × ConstructsShow nodes base fs es
+ConstructsShow nodes base (constructs.Mark at ∷ fs) (Mark ∷ es) = (at ≡ base + length (entries es))
+    × ConstructsShow nodes base fs es
+ConstructsShow nodes base (constructs.Ended n at ∷ fs) (Ended b ∷ es) =
+    (at ≡ base + length (entries es)) × HoldsBranch b nodes n at × ConstructsShow nodes base fs es
+ConstructsShow nodes base (constructs.Piece n at ∷ fs) (Read p ∷ es) =
+    (at ≡ base + length (entries es)) × HoldsPiece p nodes n at × ConstructsShow nodes base fs es
 ConstructsShow nodes base _ _ = ⊥
 
 -- a node that shows a branch, above entries that the constructs show
-pub record BranchOn (nodes : List Node) (base : ℕ) (fs : List Construct) (part : Placed) (t : Branch × List Entry) : Type 0 where
+pub record BranchOn (nodes : List Node) (base : ℕ) (fs : List Construct) (part : Placed)
+    (t : Branch × List Entry) : Type 0 where
   pub at : part.at ≡ base + length (entries t.1)
   pub shows : HoldsBranch t.0 nodes part.node part.at
   pub below : ConstructsShow nodes base (reverse fs) t.1
 
-pub record RegexOn (nodes : List Node) (base : ℕ) (fs : List Construct) (part : Placed) (t : Regex × List Entry) : Type 0 where
+pub record RegexOn (nodes : List Node) (base : ℕ) (fs : List Construct) (part : Placed)
+    (t : Regex × List Entry) : Type 0 where
   pub at : part.at ≡ base + length (entries t.1)
   pub shows : HoldsRegex t.0 nodes part.node part.at
   pub below : ConstructsShow nodes base (reverse fs) t.1
@@ -104,7 +122,8 @@ ShowsPart (parts.InLast b e) (InLast end f) = (b ≡ end_byte end) × (e ≡ f)
 ShowsPart _ _ = ⊥
 
 unfoldable pub ShowsSet : SetOutcome → SetStep → Type 0
-ShowsSet (sets.On negated empty p) (SetOn n ms q) = (negated ≡ n) × (empty ≡ is_empty ms) × ShowsPart p q
+ShowsSet (sets.On negated empty p) (SetOn n ms q) = (negated ≡ n) × (empty ≡ is_empty ms)
+    × ShowsPart p q
 ShowsSet (sets.Read negated) (SetRead n ms) = negated ≡ n
 ShowsSet sets.Wrong SetWrong = Unit {0}
 ShowsSet _ _ = ⊥
@@ -147,7 +166,8 @@ unfoldable pub ShowsCount : Count → Counting → Type 0
 ShowsCount counts.Opened Opened = Unit {0}
 ShowsCount (counts.Low v) (Low n) = v ≡ capped_count (decimal_value n)
 ShowsCount (counts.LowComma v) (LowComma n) = v ≡ capped_count (decimal_value n)
-ShowsCount (counts.LowHigh v w) (LowHigh n m) = (v ≡ capped_count (decimal_value n)) × (w ≡ capped_count (decimal_value m))
+ShowsCount (counts.LowHigh v w) (LowHigh n m) = (v ≡ capped_count (decimal_value n))
+    × (w ≡ capped_count (decimal_value m))
 ShowsCount counts.OnlyComma OnlyComma = Unit {0}
 ShowsCount (counts.High w) (High m) = w ≡ capped_count (decimal_value m)
 ShowsCount _ _ = ⊥
@@ -164,19 +184,24 @@ ShowsCountStep _ _ = ⊥
 unfoldable pub ShowsMode : List Node → ℕ → Wait → Mode → Type 0
 ShowsMode nodes at waits.Ready Ready = Unit {0}
 ShowsMode nodes at (waits.After part) (After i) = (part.at ≡ at) × HoldsItem i nodes part.node at
-ShowsMode nodes at (waits.Turned r) (Turned i p) = (r.item.at ≡ at) × HoldsItem i nodes r.item.node at × HoldsBounds r.bounds p
+ShowsMode nodes at (waits.Turned r) (Turned i p) = (r.item.at ≡ at)
+    × HoldsItem i nodes r.item.node at × HoldsBounds r.bounds p
 ShowsMode nodes at (waits.InEscape e from) (InEscape f) = (e ≡ f) × (from ≡ at)
-ShowsMode nodes at (waits.InSet negated empty p from) (InSet n ms q) = (negated ≡ n) × (empty ≡ is_empty ms) × ShowsPart p q × (from ≡ at)
-ShowsMode nodes at (waits.InCount part c brace) (InCount i d) = (part.at ≡ at) × HoldsItem i nodes part.node at × ShowsCount c d × (brace ≡ at + length (item i))
+ShowsMode nodes at (waits.InSet negated empty p from) (InSet n ms q) = (negated ≡ n)
+    × (empty ≡ is_empty ms) × ShowsPart p q × (from ≡ at)
+ShowsMode nodes at (waits.InCount part c brace) (InCount i d) = (part.at ≡ at)
+    × HoldsItem i nodes part.node at × ShowsCount c d × (brace ≡ at + length (item i))
 ShowsMode _ _ _ _ = ⊥
 
 -- the constructs and what the code waits for are those of a state
-pub record ShowsState (nodes : List Node) (base : ℕ) (fs : List Construct) (wait : Wait) (s : State) : Type 0 where
+pub record ShowsState (nodes : List Node) (base : ℕ) (fs : List Construct) (wait : Wait)
+    (s : State) : Type 0 where
   pub below : ConstructsShow nodes base (reverse fs) s.entries
   pub mode : ShowsMode nodes (base + length (entries s.entries)) wait s.mode
 
 -- what a step made is what the machine makes, unless memory ran out
-unfoldable pub Steps : List Node → ℕ → List Construct → Result Wait StepFault → Option State → Type 0
+unfoldable pub Steps : List Node → ℕ → List Construct → Result Wait StepFault → Option State
+    → Type 0
 Steps nodes base fs (Ok wait) None = ⊥
 Steps nodes base fs (Ok wait) (Some s) = ShowsState nodes base fs wait s
 Steps nodes base fs (Err faults.Memory) o = Unit {0}
@@ -193,26 +218,38 @@ Ends nodes base (Err faults.Wrong) (Some r) = ⊥
 
 -- these constructs, and an offset behind them, are those of some state
 abbrev pub SomeConstructs : List Node → List Construct → ℕ → Type 0
-SomeConstructs nodes fs at = (base : ℕ) × (es : List Entry) × ConstructsShow nodes base (reverse fs) es × (at ≡ base + length (entries es))
+SomeConstructs nodes fs at = (base : ℕ) × (es : List Entry)
+    × ConstructsShow nodes base (reverse fs) es × (at ≡ base + length (entries es))
 
 abbrev pub SomeState : List Node → List Construct → Wait → ℕ → Type 0
-SomeState nodes fs wait at = (base : ℕ) × (s : State) × ShowsState nodes base fs wait s × (at ≡ base + length (bytes_read s))
+SomeState nodes fs wait at = (base : ℕ) × (s : State) × ShowsState nodes base fs wait s
+    × (at ≡ base + length (bytes_read s))
 
 abbrev pub SomeBehind : List Node → List Construct → Placed → ℕ → Type 0
-SomeBehind nodes fs part at = (base : ℕ) × (es : List Entry) × (i : Item) × ConstructsShow nodes base (reverse fs) es × (part.at ≡ base + length (entries es)) × (at ≡ part.at + length (item i)) × HoldsItem i nodes part.node part.at
+SomeBehind nodes fs part at = (base : ℕ) × (es : List Entry) × (i : Item)
+    × ConstructsShow nodes base (reverse fs) es × (part.at ≡ base + length (entries es))
+    × (at ≡ part.at + length (item i)) × HoldsItem i nodes part.node part.at
 
 abbrev pub SomeTurned : List Node → List Construct → Repetition → ℕ → Type 0
-SomeTurned nodes fs r at = (base : ℕ) × (es : List Entry) × (i : Item) × (p : Postfix) × ConstructsShow nodes base (reverse fs) es × (r.item.at ≡ base + length (entries es)) × (at ≡ r.item.at + length (item i ++ postfix p)) × HoldsItem i nodes r.item.node r.item.at × HoldsBounds r.bounds p
+SomeTurned nodes fs r at = (base : ℕ) × (es : List Entry) × (i : Item) × (p : Postfix)
+    × ConstructsShow nodes base (reverse fs) es × (r.item.at ≡ base + length (entries es))
+    × (at ≡ r.item.at + length (item i ++ postfix p)) × HoldsItem i nodes r.item.node r.item.at
+    × HoldsBounds r.bounds p
 
 -- ---- what clauses say
 
 -- where the constructs show entries, behind which stands an item with this node
 abbrev pub OnItem : List Node → List Construct → Placed → (ℕ → List Entry → Item → Type 0) → Type 0
-OnItem nodes constructs placed Says = (base : ℕ) (es : List Entry) (i : Item) → ConstructsShow nodes base (reverse constructs) es → placed.at ≡ base + length (entries es) → HoldsItem i nodes placed.node placed.at → Says base es i
+OnItem nodes constructs placed Says = (base : ℕ) (es : List Entry) (i : Item)
+    → ConstructsShow nodes base (reverse constructs) es → placed.at ≡ base + length (entries es)
+    → HoldsItem i nodes placed.node placed.at → Says base es i
 
 -- and where the item has this postfix
-abbrev pub OnTurned : List Node → List Construct → Repetition → (ℕ → List Entry → Item → Postfix → Type 0) → Type 0
-OnTurned nodes constructs r Says = (base : ℕ) (es : List Entry) (i : Item) (p : Postfix) → ConstructsShow nodes base (reverse constructs) es → r.item.at ≡ base + length (entries es) → HoldsItem i nodes r.item.node r.item.at → HoldsBounds r.bounds p → Says base es i p
+abbrev pub OnTurned : List Node → List Construct → Repetition
+    → (ℕ → List Entry → Item → Postfix → Type 0) → Type 0
+OnTurned nodes constructs r Says = (base : ℕ) (es : List Entry) (i : Item) (p : Postfix)
+    → ConstructsShow nodes base (reverse constructs) es → r.item.at ≡ base + length (entries es)
+    → HoldsItem i nodes r.item.node r.item.at → HoldsBounds r.bounds p → Says base es i p
 
 -- ---- nodes that are held: they have no parent yet
 
@@ -234,5 +271,7 @@ abbrev pub IsHeld : List Construct → Wait → ℕ → Type 0
 IsHeld fs wait n = InConstructs fs n ⊎ InWait wait n
 
 -- a step loses no node
-abbrev pub LosesNone : List Node → List Node → List Construct → Wait → List Construct → Result Wait StepFault → Type 0
-LosesNone old new fs wait gs result = IfOk result (λ next. NoneLost old new (IsHeld fs wait) (IsHeld gs next))
+abbrev pub LosesNone : List Node → List Node → List Construct → Wait → List Construct
+    → Result Wait StepFault → Type 0
+LosesNone old new fs wait gs result =
+    IfOk result (λ next. NoneLost old new (IsHeld fs wait) (IsHeld gs next))

@@ -1,11 +1,19 @@
 -- The reader of bodies as a machine: what has been read so far, and what one more byte makes of it.
 use Rattle.kex_tokens.specs.Bytes as byte
-use Rattle.std.specs.Prelude.{ℕ, Bool, true, false, List, [], ◌∷◌, ◌++◌, Option, Some, None, ◌==◌, if◌then◌else◌}
+use Rattle.std.specs.Prelude.{ℕ, Bool, true, false, List, [], ◌∷◌, ◌++◌, Option, Some, None, ◌==◌}
+use Rattle.std.specs.Prelude.{if◌then◌else◌}
 pub use Rattle.kex_regexp.specs.declared.escapes.Escaping.{Escaping}
 pub use Rattle.kex_regexp.specs.declared.escapes.Escaping.TheVariants.{Begun, HexBegun, HexOne}
-use Rattle.kex_regexp.specs.Grammar.{is_plain, is_punctuation, is_digit, is_hex, is_end, Escape, Newline, Tab, Return, Hex, Punctuation, End, Itself, EscapedEnd, Member, Single, Range, Regex, Last, Or, Branch, Empty, Then, Piece, Once, Turns, Item, Plain, Escaped, Dot, Set, Group, branch, piece, item, negation, members, end_of, signs, postfix}
-use Rattle.kex_regexp.specs.Postfixes.{Postfix, ZeroOrMore, OneOrMore, Optional, CountSign, Digits, CommaSign, CloseSign, NoSign, count_by, counted}
-pub use Rattle.kex_regexp.specs.Postfixes.{Counting, Opened, Low, LowComma, LowHigh, OnlyComma, High, CountStep, CountOn, CountRead, CountWrong}
+use Rattle.kex_regexp.specs.Grammar.{is_plain, is_punctuation, is_digit, is_hex, is_end, Escape}
+use Rattle.kex_regexp.specs.Grammar.{Newline, Tab, Return, Hex, Punctuation, End, Itself}
+use Rattle.kex_regexp.specs.Grammar.{EscapedEnd, Member, Single, Range, Regex, Last, Or, Branch}
+use Rattle.kex_regexp.specs.Grammar.{Empty, Then, Piece, Once, Turns, Item, Plain, Escaped, Dot}
+use Rattle.kex_regexp.specs.Grammar.{Set, Group, branch, piece, item, negation, members, end_of}
+use Rattle.kex_regexp.specs.Grammar.{signs, postfix}
+use Rattle.kex_regexp.specs.Postfixes.{Postfix, ZeroOrMore, OneOrMore, Optional, CountSign, Digits}
+use Rattle.kex_regexp.specs.Postfixes.{CommaSign, CloseSign, NoSign, count_by, counted}
+pub use Rattle.kex_regexp.specs.Postfixes.{Counting, Opened, Low, LowComma, LowHigh, OnlyComma}
+pub use Rattle.kex_regexp.specs.Postfixes.{High, CountStep, CountOn, CountRead, CountWrong}
 
 -- ---- an escape
 
@@ -16,8 +24,10 @@ pub data EscapeStep : Type 0 where
 
 unfoldable pub escape_step : Escaping → ℕ → EscapeStep
 escape_step Begun b =
-    if b == byte.letter_n then EscapeRead Newline else if b == byte.letter_t then EscapeRead Tab else if b == byte.letter_r then EscapeRead Return
-    else if b == byte.letter_x then EscapeOn HexBegun else if is_punctuation b then EscapeRead (Punctuation b) else EscapeWrong
+    if b == byte.letter_n then EscapeRead Newline else if b == byte.letter_t then EscapeRead Tab
+    else if b == byte.letter_r then EscapeRead Return
+    else if b == byte.letter_x then EscapeOn HexBegun else if is_punctuation b
+    then EscapeRead (Punctuation b) else EscapeWrong
 escape_step HexBegun b = if is_hex b then EscapeOn (HexOne b) else EscapeWrong
 escape_step (HexOne high) b = if is_hex b then EscapeRead (Hex high b) else EscapeWrong
 
@@ -39,11 +49,13 @@ pub data SetStep : Type 0 where
 -- between members a member may begin, or behind one the set may end
 unfoldable pub begin_member : Bool → List Member → ℕ → SetStep
 begin_member negated ms b =
-    if is_end b then SetOn negated ms (HasEnd (Itself b)) else if b == byte.backslash then SetOn negated ms (InFirst Begun) else SetWrong
+    if is_end b then SetOn negated ms (HasEnd (Itself b)) else if b == byte.backslash
+    then SetOn negated ms (InFirst Begun) else SetWrong
 
 unfoldable pub between_step : Bool → List Member → ℕ → SetStep
 between_step negated [] b = begin_member negated [] b
-between_step negated (m ∷ ms) b = if b == byte.close_bracket then SetRead negated (m ∷ ms) else begin_member negated (m ∷ ms) b
+between_step negated (m ∷ ms) b = if b == byte.close_bracket then SetRead negated (m ∷ ms)
+    else begin_member negated (m ∷ ms) b
 
 unfoldable pub in_first : Bool → List Member → EscapeStep → SetStep
 in_first negated ms (EscapeOn e) = SetOn negated ms (InFirst e)
@@ -52,15 +64,19 @@ in_first negated ms EscapeWrong = SetWrong
 
 unfoldable pub in_last : Bool → List Member → End → EscapeStep → SetStep
 in_last negated ms first (EscapeOn e) = SetOn negated ms (InLast first e)
-in_last negated ms first (EscapeRead e) = SetOn negated (ms ++ Range first (EscapedEnd e) ∷ []) Between
+in_last negated ms first (EscapeRead e) =
+    SetOn negated (ms ++ Range first (EscapedEnd e) ∷ []) Between
 in_last negated ms first EscapeWrong = SetWrong
 
 unfoldable pub set_step : Bool → List Member → SetPhase → ℕ → SetStep
-set_step negated ms AtStart b = if b == byte.caret then SetOn true ms Between else between_step negated ms b
+set_step negated ms AtStart b = if b == byte.caret then SetOn true ms Between
+    else between_step negated ms b
 set_step negated ms Between b = between_step negated ms b
-set_step negated ms (HasEnd end) b = if b == byte.hyphen then SetOn negated ms (HasDash end) else between_step negated (ms ++ Single end ∷ []) b
+set_step negated ms (HasEnd end) b = if b == byte.hyphen then SetOn negated ms (HasDash end)
+    else between_step negated (ms ++ Single end ∷ []) b
 set_step negated ms (HasDash first) b =
-    if is_end b then SetOn negated (ms ++ Range first (Itself b) ∷ []) Between else if b == byte.backslash then SetOn negated ms (InLast first Begun) else SetWrong
+    if is_end b then SetOn negated (ms ++ Range first (Itself b) ∷ []) Between
+    else if b == byte.backslash then SetOn negated ms (InLast first Begun) else SetWrong
 set_step negated ms (InFirst e) b = in_first negated ms (escape_step e b)
 set_step negated ms (InLast first e) b = in_last negated ms first (escape_step e b)
 
@@ -81,15 +97,16 @@ ended_members (InLast first e) b = last_members first (escape_step e b)
 -- ---- a count in braces
 
 unfoldable pub count_sign : ℕ → CountSign
-count_sign b = if is_digit b then Digits (b ∷ []) else if b == byte.comma then CommaSign else if b == byte.close_brace then CloseSign else NoSign
+count_sign b = if is_digit b then Digits (b ∷ []) else if b == byte.comma then CommaSign
+    else if b == byte.close_brace then CloseSign else NoSign
 
 unfoldable pub count_step : Counting → ℕ → CountStep
 count_step c b = count_by true c (count_sign b)
 
 -- ---- the whole
 
--- what stands open, the newest first: a mark for each parenthesis, and behind it the branches that a bar has
--- ended and the pieces of the branch that is being read
+-- what stands open, the newest first: a mark for each parenthesis, and behind it the branches that
+-- a bar has ended and the pieces of the branch that is being read
 pub data Entry : Type 0 where
   Mark : Entry
   Ended : (branch : Branch) → Entry
@@ -158,7 +175,8 @@ after_item i es b =
 
 -- behind a postfix: what makes it lazy, or what follows the piece
 unfoldable pub after_turns : Item → Postfix → List Entry → ℕ → Option State
-after_turns i p es b = if b == byte.question then goes Ready (Read (Turns i p true) ∷ es) else begin_piece (Read (Turns i p false) ∷ es) b
+after_turns i p es b = if b == byte.question then goes Ready (Read (Turns i p true) ∷ es)
+    else begin_piece (Read (Turns i p false) ∷ es) b
 
 unfoldable pub on_escape : List Entry → EscapeStep → Option State
 on_escape es (EscapeOn e) = goes (InEscape e) es

@@ -1,18 +1,24 @@
--- The breaks of what the machine holds, and what one more byte adds to them; what the code notes of breaks and depth.
+-- The breaks of what the machine holds, and what one more byte adds to them; what the code notes of
+-- breaks and depth.
 use Rattle.kex_tokens.specs.Bytes as byte
-use Rattle.std.specs.Prelude.{ℕ, suc, ◌+◌, ◌-◌, Bool, true, false, not, ◌&&◌, ◌||◌, List, [], ◌∷◌, ◌++◌, length, Option, Some, None, ◌==◌, if◌then◌else◌}
+use Rattle.std.specs.Prelude.{ℕ, suc, ◌+◌, ◌-◌, Bool, true, false, not, ◌&&◌, ◌||◌, List, [], ◌∷◌}
+use Rattle.std.specs.Prelude.{◌++◌, length, Option, Some, None, ◌==◌, if◌then◌else◌}
 use Rattle.kex_byteset.specs.Sets.{has}
 use Rattle.kex_regexp.specs.declared.counts.CountOutcome.{CountOutcome}
 use Rattle.kex_regexp.specs.declared.counts.CountOutcome.TheVariants as outcomes
 use Rattle.kex_regexp.specs.declared.sets.SetSoFar.{SetSoFar}
 use Rattle.kex_regexp.specs.declared.wait.Wait.{Wait}
 use Rattle.kex_regexp.specs.declared.wait.Wait.TheVariants as waits
-use Rattle.kex_regexp.specs.Breaks.{Break, BadCount, BadSet, OverLimit, break_if, is_bad_set, branch_breaks, piece_breaks, item_breaks, comes_before}
+use Rattle.kex_regexp.specs.Breaks.{Break, BadCount, BadSet, OverLimit, break_if, is_bad_set}
+use Rattle.kex_regexp.specs.Breaks.{branch_breaks, piece_breaks, item_breaks, comes_before}
 use Rattle.kex_regexp.specs.Grammar.{item, postfix}
 use Rattle.kex_regexp.specs.Postfixes.{is_bad_count}
 use Rattle.kex_regexp.specs.Outcomes.{are_bad, count_outcome}
 use Rattle.kex_regexp.specs.Values.{any_below, membership}
-use Rattle.kex_regexp.specs.Machine.{Entry, Mark, Ended, Read, Mode, Ready, After, Turned, InEscape, InSet, InCount, State, SetStep, SetOn, SetRead, SetWrong, set_step, CountStep, CountOn, CountRead, CountWrong, count_step, entries}
+use Rattle.kex_regexp.specs.Machine.{Entry, Mark, Ended, Read, Mode, Ready, After, Turned, InEscape}
+use Rattle.kex_regexp.specs.Machine.{InSet, InCount, State, SetStep, SetOn, SetRead, SetWrong}
+use Rattle.kex_regexp.specs.Machine.{set_step, CountStep, CountOn, CountRead, CountWrong}
+use Rattle.kex_regexp.specs.Machine.{count_step, entries}
 
 -- ---- the least
 
@@ -39,23 +45,27 @@ entry_breaks (Read p) at depth = piece_breaks p at depth
 
 unfoldable pub entries_breaks : ℕ → ℕ → List Entry → List Break
 entries_breaks base depth [] = []
-entries_breaks base depth (e ∷ es) = entries_breaks base depth es ++ entry_breaks e (base + length (entries es)) (depth + marks es)
+entries_breaks base depth (e ∷ es) =
+    entries_breaks base depth es ++ entry_breaks e (base + length (entries es)) (depth + marks es)
 
 unfoldable pub mode_breaks : Mode → ℕ → ℕ → List Break
 mode_breaks Ready at depth = []
 mode_breaks (After i) at depth = item_breaks i at depth
-mode_breaks (Turned i p) at depth = item_breaks i at depth ++ break_if (is_bad_count p) (BadCount (at + length (item i)))
+mode_breaks (Turned i p) at depth =
+    item_breaks i at depth ++ break_if (is_bad_count p) (BadCount (at + length (item i)))
 mode_breaks (InEscape e) at depth = []
 mode_breaks (InSet negated ms p) at depth = []
 mode_breaks (InCount i c) at depth = item_breaks i at depth
 
 unfoldable pub state_breaks : ℕ → ℕ → State → List Break
-state_breaks base depth s = entries_breaks base depth s.entries ++ mode_breaks s.mode (base + length (entries s.entries)) (depth + marks s.entries)
+state_breaks base depth s = entries_breaks base depth s.entries
+    ++ mode_breaks s.mode (base + length (entries s.entries)) (depth + marks s.entries)
 
 -- ---- what one byte more adds
 
 unfoldable pub nesting_breaks : ℕ → ℕ → ℕ → List Break
-nesting_breaks at depth b = if b == byte.open_paren then break_if (depth == 200) (OverLimit at) else []
+nesting_breaks at depth b = if b == byte.open_paren then break_if (depth == 200) (OverLimit at)
+    else []
 
 unfoldable pub set_breaks : ℕ → SetStep → List Break
 set_breaks at (SetOn negated ms p) = []
@@ -82,10 +92,12 @@ is_after (waits.After part) = true
 is_after _ = false
 
 unfoldable pub is_bad_set_so_far : SetSoFar → Bool → Bool
-is_bad_set_so_far set negated = set.backward || not (any_below 256 (λ b. membership negated (has set.bytes b)))
+is_bad_set_so_far set negated =
+    set.backward || not (any_below 256 (λ b. membership negated (has set.bytes b)))
 
 unfoldable pub nesting_break : ℕ → ℕ → ℕ → Option Break
-nesting_break depth at b = if (b == byte.open_paren) && (depth == 200) then Some (OverLimit at) else None
+nesting_break depth at b = if (b == byte.open_paren) && (depth == 200) then Some (OverLimit at)
+    else None
 
 unfoldable pub count_break : CountOutcome → ℕ → Option Break
 count_break (outcomes.On c) brace = None
@@ -97,11 +109,14 @@ byte_break waits.Ready next set depth at b = nesting_break depth at b
 byte_break (waits.After part) next set depth at b = nesting_break depth at b
 byte_break (waits.Turned r) next set depth at b = nesting_break depth at b
 byte_break (waits.InEscape e from) next set depth at b = None
-byte_break (waits.InSet negated empty part from) next set depth at b = if is_after next && is_bad_set_so_far set negated then Some (BadSet from) else None
-byte_break (waits.InCount part count brace) next set depth at b = count_break (count_outcome count b) brace
+byte_break (waits.InSet negated empty part from) next set depth at b =
+    if is_after next && is_bad_set_so_far set negated then Some (BadSet from) else None
+byte_break (waits.InCount part count brace) next set depth at b =
+    count_break (count_outcome count b) brace
 
 unfoldable pub depth_after : ℕ → ℕ → ℕ
-depth_after depth b = if b == byte.open_paren then depth + 1 else if b == byte.close_paren then depth - 1 else depth
+depth_after depth b = if b == byte.open_paren then depth + 1 else if b == byte.close_paren
+    then depth - 1 else depth
 
 unfoldable pub next_depth : Wait → ℕ → ℕ → ℕ
 next_depth waits.Ready depth b = depth_after depth b

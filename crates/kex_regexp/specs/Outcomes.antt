@@ -1,6 +1,7 @@
 -- What the code's values of sets and counts become by one byte.
 use Rattle.kex_tokens.specs.Bytes as byte
-use Rattle.std.specs.Prelude.{ℕ, ◌+◌, ◌*◌, ◌-◌, ◌||◌, nat_lt, Bool, true, false, Option, Some, None, min, ◌==◌, if◌then◌else◌}
+use Rattle.std.specs.Prelude.{ℕ, ◌+◌, ◌*◌, ◌-◌, ◌||◌, nat_lt, Bool, true, false, Option, Some, None}
+use Rattle.std.specs.Prelude.{min, ◌==◌, if◌then◌else◌}
 use Rattle.kex_regexp.specs.declared.escapes.EscapeOutcome.{EscapeOutcome}
 use Rattle.kex_regexp.specs.declared.escapes.EscapeOutcome.TheVariants as escapes
 use Rattle.kex_regexp.specs.declared.sets.SetPart.{SetPart}
@@ -20,18 +21,23 @@ use Rattle.kex_regexp.specs.Values.{hex_value}
 
 unfoldable pub escape_outcome : Escaping → ℕ → EscapeOutcome
 escape_outcome Begun b =
-    if b == byte.letter_n then escapes.Read byte.line_feed else if b == byte.letter_t then escapes.Read byte.tab else if b == byte.letter_r then escapes.Read byte.carriage_return
-    else if b == byte.letter_x then escapes.On HexBegun else if is_punctuation b then escapes.Read b else escapes.Wrong
+    if b == byte.letter_n then escapes.Read byte.line_feed else if b == byte.letter_t
+    then escapes.Read byte.tab else if b == byte.letter_r then escapes.Read byte.carriage_return
+    else if b == byte.letter_x then escapes.On HexBegun else if is_punctuation b then escapes.Read b
+    else escapes.Wrong
 escape_outcome HexBegun b = if is_hex b then escapes.On (HexOne b) else escapes.Wrong
-escape_outcome (HexOne high) b = if is_hex b then escapes.Read (16 * hex_value high + hex_value b) else escapes.Wrong
+escape_outcome (HexOne high) b = if is_hex b then escapes.Read (16 * hex_value high + hex_value b)
+    else escapes.Wrong
 
 unfoldable pub begin_outcome : Bool → Bool → ℕ → SetOutcome
 begin_outcome negated empty b =
-    if is_end b then sets.On negated empty (parts.HasEnd b) else if b == byte.backslash then sets.On negated empty (parts.InFirst Begun) else sets.Wrong
+    if is_end b then sets.On negated empty (parts.HasEnd b) else if b == byte.backslash
+    then sets.On negated empty (parts.InFirst Begun) else sets.Wrong
 
 unfoldable pub between_outcome : Bool → Bool → ℕ → SetOutcome
 between_outcome negated true b = begin_outcome negated true b
-between_outcome negated false b = if b == byte.close_bracket then sets.Read negated else begin_outcome negated false b
+between_outcome negated false b = if b == byte.close_bracket then sets.Read negated
+    else begin_outcome negated false b
 
 unfoldable pub first_outcome : Bool → Bool → EscapeOutcome → SetOutcome
 first_outcome negated empty (escapes.On e) = sets.On negated empty (parts.InFirst e)
@@ -44,13 +50,17 @@ last_outcome negated empty first (escapes.Read b) = sets.On negated false parts.
 last_outcome negated empty first escapes.Wrong = sets.Wrong
 
 unfoldable pub set_outcome : Bool → Bool → SetPart → ℕ → SetOutcome
-set_outcome negated empty parts.AtStart b = if b == byte.caret then sets.On true empty parts.Between else between_outcome negated empty b
+set_outcome negated empty parts.AtStart b = if b == byte.caret then sets.On true empty parts.Between
+    else between_outcome negated empty b
 set_outcome negated empty parts.Between b = between_outcome negated empty b
-set_outcome negated empty (parts.HasEnd end) b = if b == byte.hyphen then sets.On negated empty (parts.HasDash end) else between_outcome negated false b
+set_outcome negated empty (parts.HasEnd end) b = if b == byte.hyphen
+    then sets.On negated empty (parts.HasDash end) else between_outcome negated false b
 set_outcome negated empty (parts.HasDash first) b =
-    if is_end b then sets.On negated false parts.Between else if b == byte.backslash then sets.On negated empty (parts.InLast first Begun) else sets.Wrong
+    if is_end b then sets.On negated false parts.Between else if b == byte.backslash
+    then sets.On negated empty (parts.InLast first Begun) else sets.Wrong
 set_outcome negated empty (parts.InFirst e) b = first_outcome negated empty (escape_outcome e b)
-set_outcome negated empty (parts.InLast first e) b = last_outcome negated empty first (escape_outcome e b)
+set_outcome negated empty (parts.InLast first e) b =
+    last_outcome negated empty first (escape_outcome e b)
 
 -- the bytes of the member that this byte ends, if it ends one
 unfoldable pub last_span : ℕ → EscapeOutcome → Option Span
@@ -61,8 +71,10 @@ last_span first escapes.Wrong = None
 unfoldable pub ended_span : SetPart → ℕ → Option Span
 ended_span parts.AtStart b = None
 ended_span parts.Between b = None
-ended_span (parts.HasEnd end) b = if b == byte.hyphen then None else Some (record { first = end; last = end })
-ended_span (parts.HasDash first) b = if is_end b then Some (record { first = first; last = b }) else None
+ended_span (parts.HasEnd end) b = if b == byte.hyphen then None
+    else Some (record { first = end; last = end })
+ended_span (parts.HasDash first) b = if is_end b then Some (record { first = first; last = b })
+    else None
 ended_span (parts.InFirst e) b = None
 ended_span (parts.InLast first e) b = last_span first (escape_outcome e b)
 
@@ -71,15 +83,24 @@ capped_number v d = min (10 * min v 1001 + (d - byte.digit_0)) 1001
 
 -- by a digit, a comma, the brace that closes, or another byte
 abbrev pub outcome_by : ℕ → CountOutcome → CountOutcome → CountOutcome → CountOutcome
-outcome_by b digit comma close = if is_digit b then digit else if b == byte.comma then comma else if b == byte.close_brace then close else outcomes.Wrong
+outcome_by b digit comma close = if is_digit b then digit else if b == byte.comma then comma
+    else if b == byte.close_brace then close else outcomes.Wrong
 
 unfoldable pub count_outcome : Count → ℕ → CountOutcome
-count_outcome counts.Opened b = outcome_by b (outcomes.On (counts.Low (capped_number 0 b))) (outcomes.On counts.OnlyComma) outcomes.Wrong
-count_outcome (counts.Low v) b = outcome_by b (outcomes.On (counts.Low (capped_number v b))) (outcomes.On (counts.LowComma v)) (outcomes.Read (record { low = v; high = Some v }))
-count_outcome (counts.LowComma v) b = outcome_by b (outcomes.On (counts.LowHigh v (capped_number 0 b))) outcomes.Wrong (outcomes.Read (record { low = v; high = None }))
-count_outcome (counts.LowHigh v w) b = outcome_by b (outcomes.On (counts.LowHigh v (capped_number w b))) outcomes.Wrong (outcomes.Read (record { low = v; high = Some w }))
-count_outcome counts.OnlyComma b = outcome_by b (outcomes.On (counts.High (capped_number 0 b))) outcomes.Wrong outcomes.Wrong
-count_outcome (counts.High w) b = outcome_by b (outcomes.On (counts.High (capped_number w b))) outcomes.Wrong (outcomes.Read (record { low = 0; high = Some w }))
+count_outcome counts.Opened b = outcome_by b (outcomes.On (counts.Low (capped_number 0 b)))
+    (outcomes.On counts.OnlyComma) outcomes.Wrong
+count_outcome (counts.Low v) b = outcome_by b (outcomes.On (counts.Low (capped_number v b)))
+    (outcomes.On (counts.LowComma v)) (outcomes.Read (record { low = v; high = Some v }))
+count_outcome (counts.LowComma v) b =
+    outcome_by b (outcomes.On (counts.LowHigh v (capped_number 0 b))) outcomes.Wrong
+    (outcomes.Read (record { low = v; high = None }))
+count_outcome (counts.LowHigh v w) b =
+    outcome_by b (outcomes.On (counts.LowHigh v (capped_number w b))) outcomes.Wrong
+    (outcomes.Read (record { low = v; high = Some w }))
+count_outcome counts.OnlyComma b =
+    outcome_by b (outcomes.On (counts.High (capped_number 0 b))) outcomes.Wrong outcomes.Wrong
+count_outcome (counts.High w) b = outcome_by b (outcomes.On (counts.High (capped_number w b)))
+    outcomes.Wrong (outcomes.Read (record { low = 0; high = Some w }))
 
 -- the same by a whole number, where numbers are no bytes
 unfoldable pub number_outcome : Count → ℕ → CountOutcome

@@ -1,7 +1,8 @@
--- Postfixes, of bodies and of programs: their trees, what they stand for, how an alphabet spells them, and the machine that
--- reads a count in braces.
+-- Postfixes, of bodies and of programs: their trees, what they stand for, how an alphabet spells
+-- them, and the machine that reads a count in braces.
 use Rattle.kex_tokens.specs.Values.{decimal_value}
-use Rattle.std.specs.Prelude.{ℕ, Bool, true, false, ◌||◌, List, [], ◌∷◌, ◌++◌, Option, Some, None, nat_lt}
+use Rattle.std.specs.Prelude.{ℕ, Bool, true, false, ◌||◌, List, [], ◌∷◌, ◌++◌, Option, Some, None}
+use Rattle.std.specs.Prelude.{nat_lt}
 
 -- counts as their digits
 pub data Postfix : Type 0 where
@@ -43,7 +44,8 @@ is_bad_count Optional = false
 is_bad_count (Exactly n) = nat_lt 1000 (decimal_value n)
 is_bad_count (AtLeast n) = nat_lt 1000 (decimal_value n)
 is_bad_count (AtMost m) = nat_lt 1000 (decimal_value m)
-is_bad_count (FromTo n m) = nat_lt 1000 (decimal_value n) || nat_lt 1000 (decimal_value m) || nat_lt (decimal_value m) (decimal_value n)
+is_bad_count (FromTo n m) = nat_lt 1000 (decimal_value n) || nat_lt 1000 (decimal_value m)
+    || nat_lt (decimal_value m) (decimal_value n)
 
 -- ---- spelling
 
@@ -101,7 +103,8 @@ pub data CountStep : Type 0 where
   CountRead : Postfix → CountStep
   CountWrong : CountStep
 
--- one letter more. In some alphabets a number comes by and by, and digits go on with it; in others it comes whole
+-- one letter more. In some alphabets a number comes by and by, and digits go on with it; in others
+-- it comes whole
 abbrev pub count_by : (by_digits : Bool) → Counting → CountSign → CountStep
 count_by digits Opened (Digits d) = CountOn (Low d)
 count_by digits Opened CommaSign = CountOn OnlyComma

@@ -1,11 +1,13 @@
 -- Which node of a list shows a tree that stands at an offset, whatever the nodes' numbers.
-use Rattle.std.specs.Prelude.{◌≡◌, ℕ, ◌+◌, Bool, true, false, List, ◌++◌, length, Some, slice_get, ◌==◌}
+use Rattle.std.specs.Prelude.{◌≡◌, ℕ, ◌+◌, Bool, true, false, List, ◌++◌, length, Some, slice_get}
+use Rattle.std.specs.Prelude.{◌==◌}
 use Rattle.kex_byteset.specs.Sets.{HasExactly}
 use Rattle.kex_code.specs.Codes.{IsAmong}
 use Rattle.kex_model.specs.declared.program.Kind.{Kind}
 use Rattle.kex_model.specs.declared.program.Kind.TheVariants as kinds
 use Rattle.kex_model.specs.declared.program.Node.{Node}
-use Rattle.kex_regexp.specs.Grammar.{Regex, Last, Or, Branch, Empty, Then, Piece, Once, Turns, Item, Plain, Escaped, Dot, Set, Group, branch, piece}
+use Rattle.kex_regexp.specs.Grammar.{Regex, Last, Or, Branch, Empty, Then, Piece, Once, Turns, Item}
+use Rattle.kex_regexp.specs.Grammar.{Plain, Escaped, Dot, Set, Group, branch, piece}
 use Rattle.kex_regexp.specs.Postfixes.{low, high}
 use Rattle.kex_regexp.specs.Values.{escaped_byte, in_set}
 
@@ -20,17 +22,20 @@ IsClass nodes n test at = (s : List Bool) × HasExactly s test × IsNode nodes n
 unfoldable mutual
   pub ShowsRegex : Regex → List Node → ℕ → ℕ → Type 0
   ShowsRegex (Last b) nodes n at = ShowsBranch b nodes n at
-  ShowsRegex (Or b r) nodes n at = (l : ℕ) × (m : ℕ) × IsNode nodes n (kinds.Alt l m) at × ShowsBranch b nodes l at × ShowsRegex r nodes m (at + length (branch b) + 1)
+  ShowsRegex (Or b r) nodes n at = (l : ℕ) × (m : ℕ) × IsNode nodes n (kinds.Alt l m) at
+      × ShowsBranch b nodes l at × ShowsRegex r nodes m (at + length (branch b) + 1)
 
   -- an empty branch is One, a single piece itself
   pub ShowsBranch : Branch → List Node → ℕ → ℕ → Type 0
   ShowsBranch Empty nodes n at = IsNode nodes n kinds.One at
   ShowsBranch (Then p Empty) nodes n at = ShowsPiece p nodes n at
-  ShowsBranch (Then p (Then q b)) nodes n at = (l : ℕ) × (m : ℕ) × IsNode nodes n (kinds.Seq l m) at × ShowsPiece p nodes l at × ShowsBranch (Then q b) nodes m (at + length (piece p))
+  ShowsBranch (Then p (Then q b)) nodes n at = (l : ℕ) × (m : ℕ) × IsNode nodes n (kinds.Seq l m) at
+      × ShowsPiece p nodes l at × ShowsBranch (Then q b) nodes m (at + length (piece p))
 
   pub ShowsPiece : Piece → List Node → ℕ → ℕ → Type 0
   ShowsPiece (Once i) nodes n at = ShowsItem i nodes n at
-  ShowsPiece (Turns i p lazy) nodes n at = (l : ℕ) × IsNode nodes n (kinds.Rep l (low p) (high p) lazy) at × ShowsItem i nodes l at
+  ShowsPiece (Turns i p lazy) nodes n at = (l : ℕ)
+      × IsNode nodes n (kinds.Rep l (low p) (high p) lazy) at × ShowsItem i nodes l at
 
   -- a group is its content
   pub ShowsItem : Item → List Node → ℕ → ℕ → Type 0

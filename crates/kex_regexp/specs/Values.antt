@@ -1,12 +1,15 @@
 -- What escapes and sets stand for.
 use Rattle.kex_tokens.specs.Bytes as byte
-use Rattle.std.specs.Prelude.{ℕ, zero, suc, ◌+◌, ◌*◌, ◌-◌, Bool, true, false, not, ◌&&◌, ◌||◌, List, [], ◌∷◌, nat_le, nat_lt, ◌==◌, if◌then◌else◌}
-use Rattle.kex_regexp.specs.Grammar.{End, Itself, EscapedEnd, Escape, Newline, Tab, Return, Hex, Punctuation, Member, Single, Range}
+use Rattle.std.specs.Prelude.{ℕ, zero, suc, ◌+◌, ◌*◌, ◌-◌, Bool, true, false, not, ◌&&◌, ◌||◌, List}
+use Rattle.std.specs.Prelude.{[], ◌∷◌, nat_le, nat_lt, ◌==◌, if◌then◌else◌}
+use Rattle.kex_regexp.specs.Grammar.{End, Itself, EscapedEnd, Escape, Newline, Tab, Return, Hex}
+use Rattle.kex_regexp.specs.Grammar.{Punctuation, Member, Single, Range}
 
 -- ---- bytes
 
 unfoldable pub hex_value : ℕ → ℕ
-hex_value d = if nat_le 48 d && nat_le d 57 then d - 48 else if nat_le 65 d && nat_le d 70 then d - 55 else if nat_le 97 d && nat_le d 102 then d - 87 else 0
+hex_value d = if nat_le 48 d && nat_le d 57 then d - 48 else if nat_le 65 d && nat_le d 70
+    then d - 55 else if nat_le 97 d && nat_le d 102 then d - 87 else 0
 
 unfoldable pub escaped_byte : Escape → ℕ
 escaped_byte Newline = byte.line_feed

@@ -1,11 +1,14 @@
 // A whole body.
 
-ghost use Rattle.std.specs.Prelude.{◌≡◌, ℕ, ◌+◌, ◌<◌, ◌^◌, List, length, reverse, IfOk, IfErr, [], Some, None};
+ghost use Rattle.std.specs.Prelude.{◌≡◌, ℕ, ◌+◌, ◌<◌, ◌^◌, List, length, reverse, IfOk, IfErr, []};
+ghost use Rattle.std.specs.Prelude.{Some, None};
 ghost use Rattle.kex_regexp.specs.Bodies.{IsRefusal, SpellsRegex, fault_of};
 ghost use Rattle.kex_regexp.specs.Breaks.{regex_breaks};
 ghost use Rattle.kex_regexp.specs.Grammar.{Regex, Empty};
-ghost use Rattle.kex_regexp.specs.Holding.{Ends, ConstructsShow, InConstructs, IsHeld, SomeConstructs, SomeState, ShowsState};
-ghost use Rattle.kex_regexp.specs.Machine.{Entry, State, entries, bytes_read, take_regex, whole_regex, finish as spec_finish};
+ghost use Rattle.kex_regexp.specs.Holding.{Ends, ConstructsShow, InConstructs, IsHeld};
+ghost use Rattle.kex_regexp.specs.Holding.{SomeConstructs, SomeState, ShowsState};
+ghost use Rattle.kex_regexp.specs.Machine.{Entry, State, entries, bytes_read, take_regex};
+ghost use Rattle.kex_regexp.specs.Machine.{whole_regex, finish as spec_finish};
 ghost use Rattle.kex_regexp.specs.Parents.{NoneLost};
 ghost use Rattle.kex_regexp.specs.Shown.{Adds, ShowsRegex};
 
@@ -24,8 +27,11 @@ use std::alloc::Global;
 fn end(constructs: &mut Vec<Construct>, into: &mut Builder, at: u32) -> Result<u32, StepFault>
     requires { SomeConstructs into.old constructs.old.items at }
     ensures adds { Adds into.old into.new }
-    ensures nodes { IfOk result (λ m. NoneLost into.old into.new (InConstructs constructs.old.items) (λ n. n ≡ m)) }
-    ensures ends { (base : ℕ) (es : List Entry) → ConstructsShow into.old base (reverse constructs.old.items) es → at ≡ base + length (entries es) → Ends into.new base result (whole_regex (take_regex es)) }
+    ensures nodes { IfOk result (λ m.
+        NoneLost into.old into.new (InConstructs constructs.old.items) (λ n. n ≡ m)) }
+    ensures ends { (base : ℕ) (es : List Entry)
+        → ConstructsShow into.old base (reverse constructs.old.items) es → at
+        ≡ base + length (entries es) → Ends into.new base result (whole_regex (take_regex es)) }
 {
     let regex = close_regex(constructs, into, at)?;
     if constructs.is_empty() {
@@ -45,8 +51,10 @@ fn finish(
 ) -> Result<u32, StepFault>
     requires { SomeState into.old constructs.old.items wait at }
     ensures adds { Adds into.old into.new }
-    ensures nodes { IfOk result (λ m. NoneLost into.old into.new (IsHeld constructs.old.items wait) (λ n. n ≡ m)) }
-    ensures ends { (base : ℕ) (s : State) → ShowsState into.old base constructs.old.items wait s → at ≡ base + length (bytes_read s) → Ends into.new base result (spec_finish s) }
+    ensures nodes { IfOk result (λ m.
+        NoneLost into.old into.new (IsHeld constructs.old.items wait) (λ n. n ≡ m)) }
+    ensures ends { (base : ℕ) (s : State) → ShowsState into.old base constructs.old.items wait s
+        → at ≡ base + length (bytes_read s) → Ends into.new base result (spec_finish s) }
 {
     match wait {
         Wait::Ready => end(constructs, into, at),
@@ -68,7 +76,8 @@ fn finish(
     }
 }
 
-/// Reads a body, which begins at the offset `at` of the text, under `depth` open marks, and gives the number of its node.
+/// Reads a body, which begins at the offset `at` of the text, under `depth` open marks, and gives
+/// the number of its node.
 #[tactic(auto, using(crate::proofs::Additions::adding))]
 pub fn regex(
     alloc: Global,
@@ -83,11 +92,14 @@ pub fn regex(
     // No node is spare: each that is added is the body's own, or a child of another one.
     ensures nodes { IfOk result (λ m. NoneLost into.old into.new (λ n. ⊥) (λ n. n ≡ m)) }
     // What is read is a body that breaks no rule, and the node shows its tree.
-    ensures read { IfOk result (λ n. (r : Regex) × SpellsRegex r bytes.now × (regex_breaks r at depth ≡ []) × ShowsRegex r into.new n at) }
-    // What is refused is refused at its first wrong byte, or else for the least rule that it breaks.
+    ensures read { IfOk result (λ n. (r : Regex) × SpellsRegex r bytes.now
+        × (regex_breaks r at depth ≡ []) × ShowsRegex r into.new n at) }
+    // What is refused is refused at its first wrong byte, or else for the least rule that it
+    // breaks.
     ensures refused { IfErr result (IsRefusal bytes.now at depth) }
     // A body that breaks no rule is read, unless memory is wanting.
-    ensures accepted { (r : Regex) → SpellsRegex r bytes.now → regex_breaks r at depth ≡ [] → IfErr result (λ fault. fault ≡ RegexFault.Memory) }
+    ensures accepted { (r : Regex) → SpellsRegex r bytes.now → regex_breaks r at depth ≡ []
+        → IfErr result (λ fault. fault ≡ RegexFault.Memory) }
 {
     let mut constructs = Vec::new(alloc);
     let mut set = SetSoFar::new();

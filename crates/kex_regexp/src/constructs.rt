@@ -1,8 +1,10 @@
 // What stands open, the newest last.
 
-ghost use Rattle.std.specs.Prelude.{◌≡◌, ℕ, ◌+◌, List, length, reverse, IfOk, IfSome, IfNone, ◌++◌, ◌∷◌, ◌⊎◌, []};
+ghost use Rattle.std.specs.Prelude.{◌≡◌, ℕ, ◌+◌, List, length, reverse, IfOk, IfSome, IfNone, ◌++◌};
+ghost use Rattle.std.specs.Prelude.{◌∷◌, ◌⊎◌, []};
 ghost use Rattle.kex_regexp.specs.Grammar.{Empty};
-ghost use Rattle.kex_regexp.specs.Holding.{BranchOn, ConstructsShow, InConstructs, RegexOn, SomeConstructs};
+ghost use Rattle.kex_regexp.specs.Holding.{BranchOn, ConstructsShow, InConstructs, RegexOn};
+ghost use Rattle.kex_regexp.specs.Holding.{SomeConstructs};
 ghost use Rattle.kex_regexp.specs.Machine.{Entry, entries, take_pieces, take_regex};
 ghost use Rattle.kex_regexp.specs.Parents.{NoneLost};
 ghost use Rattle.kex_regexp.specs.Shown.{Adds};
@@ -11,7 +13,8 @@ use kex_code::memory::Memory;
 use kex_model::builder::Builder;
 use kex_model::program::{Kind, Node};
 
-/// A parenthesis, a branch that a bar has ended, or a piece of the branch that is being read; and where it begins.
+/// A parenthesis, a branch that a bar has ended, or a piece of the branch that is being read; and
+/// where it begins.
 #[derive(Clone, Copy, Drop)]
 pub enum Construct {
     Mark { at: u32 },
@@ -28,9 +31,11 @@ pub struct Placed {
 
 /// Takes a piece from the top.
 pub fn take_piece(constructs: &mut Vec<Construct>) -> Option<Placed>
-    ensures some { IfSome result (λ p. constructs.old.items ≡ constructs.new.items ++ Construct.Piece p.node p.at ∷ []) }
+    ensures some { IfSome result (λ p. constructs.old.items
+        ≡ constructs.new.items ++ Construct.Piece p.node p.at ∷ []) }
     ensures none { IfNone result (constructs.new.items ≡ constructs.old.items) }
-    ensures top { IfNone result ((n at : ℕ) (fs : List Construct) → reverse constructs.old.items ≡ Construct.Piece n at ∷ fs → ⊥) }
+    ensures top { IfNone result ((n at : ℕ) (fs : List Construct)
+        → reverse constructs.old.items ≡ Construct.Piece n at ∷ fs → ⊥) }
 {
     if let Some(&Construct::Piece { node, at }) = constructs.last() {
         constructs.pop();
@@ -41,9 +46,11 @@ pub fn take_piece(constructs: &mut Vec<Construct>) -> Option<Placed>
 
 /// Takes a branch that a bar has ended from the top.
 pub fn take_ended(constructs: &mut Vec<Construct>) -> Option<Placed>
-    ensures some { IfSome result (λ p. constructs.old.items ≡ constructs.new.items ++ Construct.Ended p.node p.at ∷ []) }
+    ensures some { IfSome result (λ p. constructs.old.items
+        ≡ constructs.new.items ++ Construct.Ended p.node p.at ∷ []) }
     ensures none { IfNone result (constructs.new.items ≡ constructs.old.items) }
-    ensures top { IfNone result ((n at : ℕ) (fs : List Construct) → reverse constructs.old.items ≡ Construct.Ended n at ∷ fs → ⊥) }
+    ensures top { IfNone result ((n at : ℕ) (fs : List Construct)
+        → reverse constructs.old.items ≡ Construct.Ended n at ∷ fs → ⊥) }
 {
     if let Some(&Construct::Ended { node, at }) = constructs.last() {
         constructs.pop();
@@ -54,8 +61,10 @@ pub fn take_ended(constructs: &mut Vec<Construct>) -> Option<Placed>
 
 /// Takes a mark from the top.
 pub fn take_mark(constructs: &mut Vec<Construct>) -> Option<u32>
-    ensures some { IfSome result (λ at. constructs.old.items ≡ constructs.new.items ++ Construct.Mark at ∷ []) }
-    ensures top { IfNone result ((at : ℕ) (fs : List Construct) → reverse constructs.old.items ≡ Construct.Mark at ∷ fs → ⊥) }
+    ensures some { IfSome result (λ at. constructs.old.items
+        ≡ constructs.new.items ++ Construct.Mark at ∷ []) }
+    ensures top { IfNone result ((at : ℕ) (fs : List Construct)
+        → reverse constructs.old.items ≡ Construct.Mark at ∷ fs → ⊥) }
 {
     if let Some(&Construct::Mark { at }) = constructs.last() {
         constructs.pop();
@@ -73,8 +82,11 @@ pub fn close_branch(
 ) -> Result<Placed, Memory>
     requires { SomeConstructs into.old constructs.old.items at }
     ensures adds { Adds into.old into.new }
-    ensures branch { IfOk result (λ p. (base : ℕ) (es : List Entry) → ConstructsShow into.old base (reverse constructs.old.items) es → at ≡ base + length (entries es) → BranchOn into.new base constructs.new.items p (take_pieces es Empty)) }
-    ensures nodes { IfOk result (λ p. NoneLost into.old into.new (InConstructs constructs.old.items) (λ n. (n ≡ p.node) ⊎ InConstructs constructs.new.items n)) }
+    ensures branch { IfOk result (λ p. (base : ℕ) (es : List Entry) → ConstructsShow into.old base
+        (reverse constructs.old.items) es → at ≡ base + length (entries es)
+        → BranchOn into.new base constructs.new.items p (take_pieces es Empty)) }
+    ensures nodes { IfOk result (λ p. NoneLost into.old into.new (InConstructs constructs.old.items)
+        (λ n. (n ≡ p.node) ⊎ InConstructs constructs.new.items n)) }
 {
     let Some(last) = take_piece(constructs) else {
         let node = into.add(Node {
@@ -103,8 +115,11 @@ pub fn close_regex(
 ) -> Result<Placed, Memory>
     requires { SomeConstructs into.old constructs.old.items at }
     ensures adds { Adds into.old into.new }
-    ensures regex { IfOk result (λ p. (base : ℕ) (es : List Entry) → ConstructsShow into.old base (reverse constructs.old.items) es → at ≡ base + length (entries es) → RegexOn into.new base constructs.new.items p (take_regex es)) }
-    ensures nodes { IfOk result (λ p. NoneLost into.old into.new (InConstructs constructs.old.items) (λ n. (n ≡ p.node) ⊎ InConstructs constructs.new.items n)) }
+    ensures regex { IfOk result (λ p. (base : ℕ) (es : List Entry)
+        → ConstructsShow into.old base (reverse constructs.old.items) es → at ≡ base
+        + length (entries es) → RegexOn into.new base constructs.new.items p (take_regex es)) }
+    ensures nodes { IfOk result (λ p. NoneLost into.old into.new (InConstructs constructs.old.items)
+        (λ n. (n ≡ p.node) ⊎ InConstructs constructs.new.items n)) }
 {
     let mut regex = close_branch(constructs, into, at)?;
     while let Some(branch) = take_ended(constructs) {

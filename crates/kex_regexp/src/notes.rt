@@ -1,7 +1,8 @@
 // What a byte breaks, and how deep it leaves the place.
 
 ghost use Rattle.std.specs.Prelude.{◌≡◌, ◌+◌, ◌<◌, ◌^◌};
-ghost use Rattle.kex_regexp.specs.Notes.{depth_after, next_depth, count_break, byte_break, nesting_break};
+ghost use Rattle.kex_regexp.specs.Notes.{depth_after, next_depth, count_break, byte_break};
+ghost use Rattle.kex_regexp.specs.Notes.{nesting_break};
 
 use crate::breaks::Break;
 use crate::counts::{CountOutcome, in_count};

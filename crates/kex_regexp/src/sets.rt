@@ -1,10 +1,12 @@
 // Sets between brackets: where the next byte stands, and which bytes are in the set so far.
 
-ghost use Rattle.std.specs.Prelude.{◌≡◌, ◌&&◌, ◌||◌, ℕ, Bool, List, Option, false, not, nat_le, nat_lt, IfSome, IfNone};
+ghost use Rattle.std.specs.Prelude.{◌≡◌, ◌&&◌, ◌||◌, ℕ, Bool, List, Option, false, not, nat_le};
+ghost use Rattle.std.specs.Prelude.{nat_lt, IfSome, IfNone};
 ghost use Rattle.kex_byteset.specs.Sets.{HasExactly, has};
 ghost use Rattle.kex_model.specs.declared.program.Node.{Node};
 ghost use Rattle.kex_regexp.specs.Notes.{is_bad_set_so_far};
-ghost use Rattle.kex_regexp.specs.Outcomes.{begin_outcome, between_outcome, ended_span, first_outcome, last_outcome, last_span, set_outcome};
+ghost use Rattle.kex_regexp.specs.Outcomes.{begin_outcome, between_outcome, ended_span};
+ghost use Rattle.kex_regexp.specs.Outcomes.{first_outcome, last_outcome, last_span, set_outcome};
 ghost use Rattle.kex_regexp.specs.Holding.{IsSetAfter, IsSetIn, ShowsMode};
 ghost use Rattle.kex_regexp.specs.Machine.{Entry, Mode, step_in};
 ghost use Rattle.kex_regexp.specs.declared.sets.SetPart.TheVariants.{HasDash, HasEnd};
@@ -236,8 +238,11 @@ impl SetSoFar {
 
     // Adds the bytes of a member.
     fn add(&mut self, member: Span)
-        ensures bytes { (test : ℕ → Bool) → HasExactly self.old.bytes test → HasExactly self.new.bytes (λ b. test b || (nat_le member.first b && nat_le b member.last)) }
-        ensures backward { self.new.backward ≡ (self.old.backward || nat_lt member.last member.first) }
+        ensures bytes { (test : ℕ → Bool) → HasExactly self.old.bytes test
+            → HasExactly self.new.bytes (λ b. test b
+            || (nat_le member.first b && nat_le b member.last)) }
+        ensures backward { self.new.backward
+            ≡ (self.old.backward || nat_lt member.last member.first) }
     {
         if member.first == member.last {
             self.bytes.insert(member.first);
@@ -248,9 +253,12 @@ impl SetSoFar {
         }
     }
 
-    /// Takes in the member that this byte ends. At a bracket that may open a set there are no members yet.
+    /// Takes in the member that this byte ends. At a bracket that may open a set there are no
+    /// members yet.
     pub fn take_in(&mut self, wait: Wait, byte: u8)
-        ensures { (nodes : List Node) (at : ℕ) (m : Mode) (es : List Entry) → ShowsMode nodes at wait m → IsSetIn self.old m → IsSetAfter self.new (step_in m es byte) }
+        ensures { (nodes : List Node) (at : ℕ) (m : Mode) (es : List Entry)
+            → ShowsMode nodes at wait m → IsSetIn self.old m
+            → IsSetAfter self.new (step_in m es byte) }
     {
         if let Wait::InSet { part, .. } = wait {
             if let Some(member) = ended(part, byte) {

@@ -1,9 +1,20 @@
 // One byte more.
 
-ghost use Rattle.std.specs.Prelude.{◌≡◌, ℕ, ◌+◌, ◌<◌, List, [], ◌∷◌, ◌++◌, length, reverse, OnOk, IfOk, IfErr};
-ghost use Rattle.kex_regexp.specs.Grammar.{Item, Postfix, Empty, Turns, item as spelled_item, postfix};
-ghost use Rattle.kex_regexp.specs.Holding.{ConstructsShow, HoldsBounds, HoldsItem, InConstructs, IsHeld, IsSetAfter, LosesNone, IsTurns, OnItem, OnTurned, ShowsCountStep, ShowsEscape, ShowsSet, SomeBehind, SomeConstructs, SomeState, SomeTurned, ShowsState, Steps};
-ghost use Rattle.kex_regexp.specs.Machine.{EscapeStep, SetStep, CountStep, Entry, Read, Ready, State, entries, bytes_read, goes, take_pieces, take_regex, begin_piece, after_item, after_turns, end_branch, after_group as close_parenthesis, on_escape as spec_on_escape, on_set as spec_on_set, on_count as spec_on_count, step as spec_step};
+ghost use Rattle.std.specs.Prelude.{◌≡◌, ℕ, ◌+◌, ◌<◌, List, [], ◌∷◌, ◌++◌, length, reverse, OnOk};
+ghost use Rattle.std.specs.Prelude.{IfOk, IfErr};
+ghost use Rattle.kex_regexp.specs.Grammar.{Item, Postfix, Empty, Turns, item as spelled_item};
+ghost use Rattle.kex_regexp.specs.Grammar.{postfix};
+ghost use Rattle.kex_regexp.specs.Holding.{ConstructsShow, HoldsBounds, HoldsItem, InConstructs};
+ghost use Rattle.kex_regexp.specs.Holding.{IsHeld, IsSetAfter, LosesNone, IsTurns, OnItem};
+ghost use Rattle.kex_regexp.specs.Holding.{OnTurned, ShowsCountStep, ShowsEscape, ShowsSet};
+ghost use Rattle.kex_regexp.specs.Holding.{SomeBehind, SomeConstructs, SomeState, SomeTurned};
+ghost use Rattle.kex_regexp.specs.Holding.{ShowsState, Steps};
+ghost use Rattle.kex_regexp.specs.Machine.{EscapeStep, SetStep, CountStep, Entry, Read, Ready};
+ghost use Rattle.kex_regexp.specs.Machine.{State, entries, bytes_read, goes, take_pieces};
+ghost use Rattle.kex_regexp.specs.Machine.{take_regex, begin_piece, after_item, after_turns};
+ghost use Rattle.kex_regexp.specs.Machine.{end_branch, after_group as close_parenthesis};
+ghost use Rattle.kex_regexp.specs.Machine.{on_escape as spec_on_escape, on_set as spec_on_set};
+ghost use Rattle.kex_regexp.specs.Machine.{on_count as spec_on_count, step as spec_step};
 ghost use Rattle.kex_regexp.specs.Parents.{NoneLost};
 ghost use Rattle.kex_regexp.specs.Shown.{Adds, IsNode};
 
@@ -30,7 +41,8 @@ pub fn push(constructs: &mut Vec<Construct>, construct: Construct) -> Result<(),
 fn leaf(into: &mut Builder, set: ByteSet, at: u32) -> Result<Wait, StepFault>
     ensures adds { Adds into.old into.new }
     ensures nodes { (fs : List Construct) → LosesNone into.old into.new fs Wait.Ready fs result }
-    ensures ok { IfOk result (λ w. (n : ℕ) × (w ≡ Wait.After (record { node = n; at = at })) × IsNode into.new n (Kind.Class set) at) }
+    ensures ok { IfOk result (λ w. (n : ℕ) × (w ≡ Wait.After (record { node = n; at = at }))
+        × IsNode into.new n (Kind.Class set) at) }
     ensures err { IfErr result (λ e. e ≡ StepFault.Memory) }
 {
     let class = Node {
@@ -46,8 +58,12 @@ fn leaf(into: &mut Builder, set: ByteSet, at: u32) -> Result<Wait, StepFault>
 fn bar(constructs: &mut Vec<Construct>, into: &mut Builder, at: u32) -> Result<Wait, StepFault>
     requires { SomeConstructs into.old constructs.old.items at }
     ensures adds { Adds into.old into.new }
-    ensures nodes { LosesNone into.old into.new constructs.old.items Wait.Ready constructs.new.items result }
-    ensures step { (base : ℕ) (es : List Entry) → ConstructsShow into.old base (reverse constructs.old.items) es → at ≡ base + length (entries es) → Steps into.new base constructs.new.items result (end_branch (take_pieces es Empty)) }
+    ensures nodes { LosesNone into.old into.new constructs.old.items Wait.Ready constructs.new.items
+        result }
+    ensures step { (base : ℕ) (es : List Entry)
+        → ConstructsShow into.old base (reverse constructs.old.items) es
+        → at ≡ base + length (entries es)
+        → Steps into.new base constructs.new.items result (end_branch (take_pieces es Empty)) }
 {
     let branch = close_branch(constructs, into, at)?;
     let ended = Construct::Ended {
@@ -63,8 +79,12 @@ fn bar(constructs: &mut Vec<Construct>, into: &mut Builder, at: u32) -> Result<W
 fn close(constructs: &mut Vec<Construct>, into: &mut Builder, at: u32) -> Result<Wait, StepFault>
     requires { SomeConstructs into.old constructs.old.items at }
     ensures adds { Adds into.old into.new }
-    ensures nodes { LosesNone into.old into.new constructs.old.items Wait.Ready constructs.new.items result }
-    ensures step { (base : ℕ) (es : List Entry) → ConstructsShow into.old base (reverse constructs.old.items) es → at ≡ base + length (entries es) → Steps into.new base constructs.new.items result (close_parenthesis (take_regex es)) }
+    ensures nodes { LosesNone into.old into.new constructs.old.items Wait.Ready constructs.new.items
+        result }
+    ensures step { (base : ℕ) (es : List Entry)
+        → ConstructsShow into.old base (reverse constructs.old.items) es
+        → at ≡ base + length (entries es)
+        → Steps into.new base constructs.new.items result (close_parenthesis (take_regex es)) }
 {
     let regex = close_regex(constructs, into, at)?;
     let Some(from) = take_mark(constructs) else {
@@ -86,8 +106,12 @@ fn begin(
 ) -> Result<Wait, StepFault>
     requires { SomeConstructs into.old constructs.old.items at }
     ensures adds { Adds into.old into.new }
-    ensures nodes { LosesNone into.old into.new constructs.old.items Wait.Ready constructs.new.items result }
-    ensures step { (base : ℕ) (es : List Entry) → ConstructsShow into.old base (reverse constructs.old.items) es → at ≡ base + length (entries es) → Steps into.new base constructs.new.items result (begin_piece es byte) }
+    ensures nodes { LosesNone into.old into.new constructs.old.items Wait.Ready constructs.new.items
+        result }
+    ensures step { (base : ℕ) (es : List Entry)
+        → ConstructsShow into.old base (reverse constructs.old.items) es
+        → at ≡ base + length (entries es)
+        → Steps into.new base constructs.new.items result (begin_piece es byte) }
 {
     if is_plain(byte) {
         leaf(into, ByteSet::single(byte), at)
@@ -122,8 +146,10 @@ fn begin(
 fn repeated(into: &mut Builder, turns: Repetition, lazy: bool) -> Result<u32, Memory>
     requires { turns.item.node < length into.old }
     ensures adds { Adds into.old into.new }
-    ensures nodes { IfOk result (λ m. NoneLost into.old into.new (λ n. n ≡ turns.item.node) (λ n. n ≡ m)) }
-    ensures turns { IfOk result (λ n. (p : Postfix) → HoldsBounds turns.bounds p → IsTurns p lazy into.new n turns.item.node turns.item.at) }
+    ensures nodes { IfOk result (λ m.
+        NoneLost into.old into.new (λ n. n ≡ turns.item.node) (λ n. n ≡ m)) }
+    ensures turns { IfOk result (λ n. (p : Postfix) → HoldsBounds turns.bounds p
+        → IsTurns p lazy into.new n turns.item.node turns.item.at) }
 {
     if turns.bounds.are_bad() {
         return Ok(turns.item.node);
@@ -140,7 +166,8 @@ fn repeated(into: &mut Builder, turns: Repetition, lazy: bool) -> Result<u32, Me
     Ok(node)
 }
 
-/// Ends a piece with a postfix. Where the count is bad the body is refused in the end, and the item stands alone until then.
+/// Ends a piece with a postfix. Where the count is bad the body is refused in the end, and the item
+/// stands alone until then.
 #[tactic(auto, using(crate::proofs::Additions::adding))]
 pub fn end_turns(
     constructs: &mut Vec<Construct>,
@@ -150,8 +177,10 @@ pub fn end_turns(
 ) -> Result<(), Memory>
     requires { (at : ℕ) × SomeTurned into.old constructs.old.items turns at }
     ensures adds { Adds into.old into.new }
-    ensures nodes { OnOk result (NoneLost into.old into.new (IsHeld constructs.old.items (Wait.Turned turns)) (InConstructs constructs.new.items)) }
-    ensures shows { OnOk result (OnTurned into.old constructs.old.items turns (λ base es i p. ConstructsShow into.new base (reverse constructs.new.items) (Read (Turns i p lazy) ∷ es))) }
+    ensures nodes { OnOk result (NoneLost into.old into.new
+        (IsHeld constructs.old.items (Wait.Turned turns)) (InConstructs constructs.new.items)) }
+    ensures shows { OnOk result (OnTurned into.old constructs.old.items turns (λ base es i p.
+        ConstructsShow into.new base (reverse constructs.new.items) (Read (Turns i p lazy) ∷ es))) }
 {
     let node = repeated(into, turns, lazy)?;
     let piece = Construct::Piece {
@@ -173,8 +202,10 @@ fn byte_after_item(
 ) -> Result<Wait, StepFault>
     requires { SomeBehind into.old constructs.old.items item at }
     ensures adds { Adds into.old into.new }
-    ensures nodes { LosesNone into.old into.new constructs.old.items (Wait.After item) constructs.new.items result }
-    ensures step { OnItem into.old constructs.old.items item (λ base es i. at ≡ item.at + length (spelled_item i) → Steps into.new base constructs.new.items result (after_item i es byte)) }
+    ensures nodes { LosesNone into.old into.new constructs.old.items
+        (Wait.After item) constructs.new.items result }
+    ensures step { OnItem into.old constructs.old.items item (λ base es i. at ≡ item.at + length
+        (spelled_item i) → Steps into.new base constructs.new.items result (after_item i es byte)) }
 {
     if byte == b'*' {
         Ok(Wait::Turned(item.turns(0, None)))
@@ -209,8 +240,11 @@ fn byte_after_turns(
 ) -> Result<Wait, StepFault>
     requires { SomeTurned into.old constructs.old.items turns at }
     ensures adds { Adds into.old into.new }
-    ensures nodes { LosesNone into.old into.new constructs.old.items (Wait.Turned turns) constructs.new.items result }
-    ensures step { OnTurned into.old constructs.old.items turns (λ base es i p. at ≡ turns.item.at + length (spelled_item i ++ postfix p) → Steps into.new base constructs.new.items result (after_turns i p es byte)) }
+    ensures nodes { LosesNone into.old into.new constructs.old.items
+        (Wait.Turned turns) constructs.new.items result }
+    ensures step { OnTurned into.old constructs.old.items turns (λ base es i p. at
+        ≡ turns.item.at + length (spelled_item i ++ postfix p)
+        → Steps into.new base constructs.new.items result (after_turns i p es byte)) }
 {
     if byte == b'?' {
         end_turns(constructs, into, turns, true)?;
@@ -230,7 +264,10 @@ fn on_set(
 ) -> Result<Wait, StepFault>
     ensures adds { Adds into.old into.new }
     ensures nodes { (fs : List Construct) → LosesNone into.old into.new fs Wait.Ready fs result }
-    ensures step { (base : ℕ) (fs : List Construct) (es : List Entry) (t : SetStep) → ConstructsShow into.old base (reverse fs) es → from ≡ base + length (entries es) → ShowsSet outcome t → IsSetAfter set.now (spec_on_set es t) → Steps into.new base fs result (spec_on_set es t) }
+    ensures step { (base : ℕ) (fs : List Construct) (es : List Entry) (t : SetStep)
+        → ConstructsShow into.old base (reverse fs) es → from ≡ base + length (entries es)
+        → ShowsSet outcome t → IsSetAfter set.now (spec_on_set es t)
+        → Steps into.new base fs result (spec_on_set es t) }
 {
     match outcome {
         SetOutcome::On {
@@ -253,7 +290,9 @@ fn on_set(
 fn on_escape(outcome: EscapeOutcome, into: &mut Builder, from: u32) -> Result<Wait, StepFault>
     ensures adds { Adds into.old into.new }
     ensures nodes { (fs : List Construct) → LosesNone into.old into.new fs Wait.Ready fs result }
-    ensures step { (base : ℕ) (fs : List Construct) (es : List Entry) (t : EscapeStep) → ConstructsShow into.old base (reverse fs) es → from ≡ base + length (entries es) → ShowsEscape outcome t → Steps into.new base fs result (spec_on_escape es t) }
+    ensures step { (base : ℕ) (fs : List Construct) (es : List Entry) (t : EscapeStep)
+        → ConstructsShow into.old base (reverse fs) es → from ≡ base + length (entries es)
+        → ShowsEscape outcome t → Steps into.new base fs result (spec_on_escape es t) }
 {
     match outcome {
         EscapeOutcome::On(escaping) => Ok(Wait::InEscape { escaping, from }),
@@ -264,8 +303,11 @@ fn on_escape(outcome: EscapeOutcome, into: &mut Builder, from: u32) -> Result<Wa
 
 /// What comes of a count by a byte.
 fn on_count(outcome: CountOutcome, item: Placed, brace: u32) -> Result<Wait, StepFault>
-    ensures nodes { (nodes : List Node) (fs : List Construct) → LosesNone nodes nodes fs (Wait.After item) fs result }
-    ensures step { (nodes : List Node) (fs : List Construct) → OnItem nodes fs item (λ base es i. (t : CountStep) → brace ≡ item.at + length (spelled_item i) → ShowsCountStep outcome t → Steps nodes base fs result (spec_on_count i es t)) }
+    ensures nodes { (nodes : List Node) (fs : List Construct)
+        → LosesNone nodes nodes fs (Wait.After item) fs result }
+    ensures step { (nodes : List Node) (fs : List Construct) → OnItem nodes fs item (λ base es i.
+        (t : CountStep) → brace ≡ item.at + length (spelled_item i) → ShowsCountStep outcome t
+        → Steps nodes base fs result (spec_on_count i es t)) }
 {
     match outcome {
         CountOutcome::On(count) => Ok(Wait::InCount { item, count, brace }),
@@ -286,8 +328,11 @@ pub fn step(
 ) -> Result<Wait, StepFault>
     requires { SomeState into.old constructs.old.items wait at }
     ensures adds { Adds into.old into.new }
-    ensures nodes { LosesNone into.old into.new constructs.old.items wait constructs.new.items result }
-    ensures step { (base : ℕ) (s : State) → ShowsState into.old base constructs.old.items wait s → IsSetAfter set.now (spec_step s byte) → at ≡ base + length (bytes_read s) → Steps into.new base constructs.new.items result (spec_step s byte) }
+    ensures nodes { LosesNone into.old into.new constructs.old.items wait constructs.new.items
+        result }
+    ensures step { (base : ℕ) (s : State) → ShowsState into.old base constructs.old.items wait s
+        → IsSetAfter set.now (spec_step s byte) → at ≡ base + length (bytes_read s)
+        → Steps into.new base constructs.new.items result (spec_step s byte) }
 {
     match wait {
         Wait::Ready => begin(constructs, into, at, byte),

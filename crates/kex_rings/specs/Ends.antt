@@ -1,7 +1,8 @@
 -- The ends of rings that a stage has: none before the first stage, none behind the last.
 use Rattle.std.specs.Prelude.{◌≡◌, ℕ, ◌++◌, List, [], Option, Some, None}
 use Rattle.std.proofs.Common.{Global}
-use Rattle.rtrb.specs.Ring.{sent, known_free, received, known_items, producer_capacity, IsPair, SameProducer, SameConsumer}
+use Rattle.rtrb.specs.Ring.{sent, known_free, received, known_items, producer_capacity, IsPair}
+use Rattle.rtrb.specs.Ring.{SameProducer, SameConsumer}
 use Rattle.rtrb.specs.declared.producer.Producer.{Producer}
 use Rattle.rtrb.specs.declared.consumer.Consumer.{Consumer}
 use Rattle.rtrb.specs.declared.AnyItems.{AnyItems}

@@ -20,21 +20,26 @@ module _ {A P : Type 0} where
     pub most : min (length (waiting_items old)) (known_free ring) ≤ length more
     pub free : known_free ring ≤ known_free ring' + length more
 
-  -- so many items came out, at least all that were seen, within the room; where nothing stands behind an end they lie in the inbox
-  pub record Pulls (room : ℕ) (old new : Inbox) (ring ring' : Consumer Item A P) (count : ℕ) : Type 0 where
+  -- so many items came out, at least all that were seen, within the room; where nothing stands
+  -- behind an end they lie in the inbox
+  pub record Pulls (room : ℕ) (old new : Inbox) (ring ring' : Consumer Item A P)
+      (count : ℕ) : Type 0 where
     pub same : SameConsumer ring ring'
     pub items : List Item
     pub came : received ring' ≡ received ring ++ items
     pub count_is : count ≡ length items
     pub within : count ≤ room
     pub least : min room (length (known_items ring)) ≤ count
-    pub lies : IsWhole (waiting_items old ++ items_as items) → waiting_items new ≡ waiting_items old ++ items_as items
+    pub lies : IsWhole (waiting_items old ++ items_as items)
+        → waiting_items new ≡ waiting_items old ++ items_as items
 
-  -- so many items came out, what was seen before the rest; where nothing stands behind an end they lie in the inbox
+  -- so many items came out, what was seen before the rest; where nothing stands behind an end they
+  -- lie in the inbox
   pub record ComesOut (old new : Inbox) (ring ring' : Consumer Item A P) (count : ℕ) : Type 0 where
     pub same : SameConsumer ring ring'
     pub items : List Item
     pub came : received ring' ≡ received ring ++ items
     pub count_is : count ≡ length items
     pub order : IsPrefix (known_items ring) (items ++ known_items ring')
-    pub lies : IsWhole (waiting_items old ++ items_as items) → waiting_items new ≡ waiting_items old ++ items_as items
+    pub lies : IsWhole (waiting_items old ++ items_as items)
+        → waiting_items new ≡ waiting_items old ++ items_as items

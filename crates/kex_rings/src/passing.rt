@@ -1,7 +1,9 @@
 // Into a ring, and out of one.
 
-ghost use Rattle.std.specs.Prelude.{◌≡◌, ◌<◌, ◌≤◌, ◌+◌, ◌++◌, ◌∷◌, [], List, ℕ, IfOk, OnOk, length, map, take, min};
-ghost use Rattle.rtrb.specs.Ring.{sent, known_free, received, known_items, SameProducer, SameConsumer};
+ghost use Rattle.std.specs.Prelude.{◌≡◌, ◌<◌, ◌≤◌, ◌+◌, ◌++◌, ◌∷◌, [], List, ℕ, IfOk, OnOk, length};
+ghost use Rattle.std.specs.Prelude.{map, take, min};
+ghost use Rattle.rtrb.specs.Ring.{sent, known_free, received, known_items, SameProducer};
+ghost use Rattle.rtrb.specs.Ring.{SameConsumer};
 ghost use Rattle.kex_pipe.specs.Seats.{IsWhole};
 ghost use Rattle.kex_pipe.specs.Waiting.{unread_bytes, waiting_items};
 ghost use Rattle.kex_rings.specs.declared.passing.TheConstants.{RUN};
@@ -19,7 +21,8 @@ const RUN: usize = 64;
 // Writes the first items that wait to the run, as many as it has room for, and tells how many.
 fn offer(inbox: &Inbox, run: &mut [Item]) -> usize
     ensures within { result ≤ length run.old }
-    ensures items { items_as (take result run.new) ≡ take (length run.old) (waiting_items inbox.now) }
+    ensures items { items_as (take result run.new)
+        ≡ take (length run.old) (waiting_items inbox.now) }
 {
     let room = run.len() as u64;
     let bytes = inbox.front(room);
@@ -51,7 +54,8 @@ pub(crate) fn send(unsent: &mut Inbox, ring: &mut Producer<Item>)
 // Adds the bytes of the items.
 fn give_bytes(inbox: &mut Inbox, items: &[Item]) -> Result<(), Memory>
     requires { length items.now ≤ RUN }
-    ensures bytes { OnOk result (unread_bytes inbox.new ≡ unread_bytes inbox.old ++ map byte_of items.now) }
+    ensures bytes { OnOk result (unread_bytes inbox.new
+        ≡ unread_bytes inbox.old ++ map byte_of items.now) }
     ensures same_end { inbox.new.ended ≡ inbox.old.ended }
 {
     let mut bytes = [0; RUN];
@@ -64,7 +68,8 @@ fn give_bytes(inbox: &mut Inbox, items: &[Item]) -> Result<(), Memory>
 // Items come, where the end hasn't come.
 fn put(inbox: &mut Inbox, items: &[Item]) -> Result<(), Memory>
     requires { length items.now ≤ RUN }
-    ensures { OnOk result (IsWhole (waiting_items inbox.old ++ items_as items.now) → waiting_items inbox.new ≡ waiting_items inbox.old ++ items_as items.now) }
+    ensures { OnOk result (IsWhole (waiting_items inbox.old ++ items_as items.now)
+        → waiting_items inbox.new ≡ waiting_items inbox.old ++ items_as items.now) }
 {
     let [front @ .., Item::End] = items else {
         return give_bytes(inbox, items);
@@ -104,7 +109,8 @@ pub(crate) fn pull(ring: &mut Consumer<Item>, inbox: &mut Inbox, room: u64) -> R
 
 /// Takes all that is seen in the ring.
 pub(crate) fn pull_all(ring: &mut Consumer<Item>, inbox: &mut Inbox) -> Result<(), Memory>
-    ensures { OnOk result (IsWhole (waiting_items inbox.old ++ items_as (known_items ring.old)) → waiting_items inbox.new ≡ waiting_items inbox.old ++ items_as (known_items ring.old)) }
+    ensures { OnOk result (IsWhole (waiting_items inbox.old ++ items_as (known_items ring.old))
+        → waiting_items inbox.new ≡ waiting_items inbox.old ++ items_as (known_items ring.old)) }
 {
     let all = ring.cached_slots() as u64;
     let mut count = 0;

@@ -1,6 +1,7 @@
 // A stage between two rings.
 
-ghost use Rattle.std.specs.Prelude.{◌≡◌, ◌≤◌, ◌+◌, ◌<◌, ◌*◌, ◌^◌, ◌↔◌, [], ℕ, true, false, IsTrue, IfOk, OnOk};
+ghost use Rattle.std.specs.Prelude.{◌≡◌, ◌≤◌, ◌+◌, ◌<◌, ◌*◌, ◌^◌, ◌↔◌, [], ℕ, true, false, IsTrue};
+ghost use Rattle.std.specs.Prelude.{IfOk, OnOk};
 
 use crate::item::Item;
 use crate::passing::{pull, send};
@@ -9,8 +10,9 @@ use kex_pipe::seat::Seat;
 use kex_pipe::turn::Turn;
 use rtrb::{Consumer, Producer};
 
-/// A stage, the end of the ring before it that gives, and the end of the ring behind it that takes. What the ring behind
-/// didn't take lies in the outbox. The first stage takes from its inbox, and what the last one writes stays in its outbox.
+/// A stage, the end of the ring before it that gives, and the end of the ring behind it that takes.
+/// What the ring behind didn't take lies in the outbox. The first stage takes from its inbox, and
+/// what the last one writes stays in its outbox.
 #[derive(Drop)]
 pub struct RingSeat<T: Turn> {
     pub(crate) seat: Seat<T>,
@@ -22,7 +24,8 @@ pub struct RingSeat<T: Turn> {
 
 impl<T: Turn> RingSeat<T> {
     ghost use Rattle.kex_rings.specs.Ends.{seen_in};
-    ghost use Rattle.kex_rings.specs.Looking.{Looks, SendsOn, FindsIn, TakesIn, IsIdle, unsent_items};
+    ghost use Rattle.kex_rings.specs.Looking.{Looks, SendsOn, FindsIn, TakesIn, IsIdle};
+    ghost use Rattle.kex_rings.specs.Looking.{unsent_items};
 
     // Sends what is unsent, as far as the ring takes it, and tells whether that was all.
     fn send_on(&mut self) -> bool
@@ -37,7 +40,8 @@ impl<T: Turn> RingSeat<T> {
         self.seat.outbox.is_empty()
     }
 
-    // What comes out of the ring goes into the inbox. Tells how much is to be taken, within the room.
+    // What comes out of the ring goes into the inbox. Tells how much is to be taken, within the
+    // room.
     fn find(&mut self, room: u64) -> Result<u64, Memory>
         ensures usable { self.new.seat.usable ≡ self.old.seat.usable }
         ensures within { IfOk result (λ count. count ≤ room) }
@@ -61,7 +65,8 @@ impl<T: Turn> RingSeat<T> {
         Ok(count)
     }
 
-    /// Sends what is unsent, as far as the ring takes it; if all was sent takes what it finds, within the room.
+    /// Sends what is unsent, as far as the ring takes it; if all was sent takes what it finds,
+    /// within the room.
     fn look(&mut self, room: u64) -> Result<u64, Memory>
         requires { IsTrue self.old.seat.usable }
         ensures usable { OnOk result (IsTrue self.new.seat.usable) }

@@ -1,14 +1,21 @@
 // A round of all stages at once, joined by their rings.
 
-ghost use Rattle.std.specs.Prelude.{◌≡◌, ◌+◌, ◌<◌, ◌≤◌, ◌^◌, ◌++◌, ◌∷◌, ◌↔◌, [], List, ℕ, None, Err, IsTrue, IfOk, OnOk, OnErr, is_ok, is_err, length, map, vec_len};
+ghost use Rattle.std.specs.Prelude.{◌≡◌, ◌+◌, ◌<◌, ◌≤◌, ◌^◌, ◌++◌, ◌∷◌, ◌↔◌, [], List, ℕ, None};
+ghost use Rattle.std.specs.Prelude.{Err, IsTrue, IfOk, OnOk, OnErr, is_ok, is_err, length, map};
+ghost use Rattle.std.specs.Prelude.{vec_len};
 ghost use Rattle.std.specs.Thread.{IsSync};
 ghost use Rattle.kex_model.specs.Schedules.{Event};
 ghost use Rattle.kex_pipe.specs.Rounds.{Each};
 ghost use Rattle.kex_pipe.specs.Waiting.{unread_bytes};
-ghost use Rattle.kex_rings.specs.Ends.{sent_to, free_in, taken_from, SameGiver, SameTaker, ArePaired, AreBeside};
-ghost use Rattle.kex_rings.specs.Looking.{Looks, OnlyLooked, NowBeside, CarriedOut, AllRingSeatsUsable, WorkedAll};
-ghost use Rattle.kex_rings.specs.Lines.{turns_from, RingLine, Joined, HaveRings, AllGetOn, LineRounds};
-ghost use Rattle.kex_rings.specs.Standing.{RingsStand, RingsBeginAnswer, RingsHaveWritten, rings_in_hand, rings_ended, rings_spent, rings_stage_count};
+ghost use Rattle.kex_rings.specs.Ends.{sent_to, free_in, taken_from, SameGiver, SameTaker};
+ghost use Rattle.kex_rings.specs.Ends.{ArePaired, AreBeside};
+ghost use Rattle.kex_rings.specs.Looking.{Looks, OnlyLooked, NowBeside, CarriedOut};
+ghost use Rattle.kex_rings.specs.Looking.{AllRingSeatsUsable, WorkedAll};
+ghost use Rattle.kex_rings.specs.Lines.{turns_from, RingLine, Joined, HaveRings, AllGetOn};
+ghost use Rattle.kex_rings.specs.Lines.{LineRounds};
+ghost use Rattle.kex_rings.specs.Standing.{RingsStand, RingsBeginAnswer, RingsHaveWritten};
+ghost use Rattle.kex_rings.specs.Standing.{rings_in_hand, rings_ended, rings_spent};
+ghost use Rattle.kex_rings.specs.Standing.{rings_stage_count};
 
 use crate::item::Item;
 use crate::pipe::RingPipe;
@@ -56,7 +63,8 @@ fn work_all<R: Threads + Sync, T: Turn + Send, G: Gate + Sync>(
     room: u32,
     seats: &mut [RingSeat<T>],
 ) -> Result<(), Memory>
-    requires { (task.now.first + length seats.old ≤ 2 ^ 32) × (0 < task.now.looks) × AllRingSeatsUsable T.Turn seats.old }
+    requires { (task.now.first + length seats.old ≤ 2 ^ 32) × (0 < task.now.looks)
+        × AllRingSeatsUsable T.Turn seats.old }
     ensures { WorkedAll T.Turn room (is_ok result) seats.old seats.new }
 {
     if seats.len() < 2 {
@@ -76,11 +84,13 @@ fn work_all<R: Threads + Sync, T: Turn + Send, G: Gate + Sync>(
     let (one, other) = join_mut(
         rt,
         &mut || -> Result<(), Memory>
-            requires { IsSync R.row × (task.now.first + length front.now ≤ 2 ^ 32) × (0 < task.now.looks) × AllRingSeatsUsable T.Turn front.now }
+            requires { IsSync R.row × (task.now.first + length front.now ≤ 2 ^ 32)
+                × (0 < task.now.looks) × AllRingSeatsUsable T.Turn front.now }
             ensures { WorkedAll T.Turn room (is_ok result) front.entry.now front.exit.now }
         { work_all(rt, task, room, front) },
         &mut || -> Result<(), Memory>
-            requires { IsSync R.row × (behind.now.first + length back.now ≤ 2 ^ 32) × (0 < behind.now.looks) × AllRingSeatsUsable T.Turn back.now }
+            requires { IsSync R.row × (behind.now.first + length back.now ≤ 2 ^ 32)
+                × (0 < behind.now.looks) × AllRingSeatsUsable T.Turn back.now }
             ensures { WorkedAll T.Turn room (is_ok result) back.entry.now back.exit.now }
         { work_all(rt, behind, room, back) },
     );
@@ -103,7 +113,8 @@ fn gather<T: Turn>(seats: &[RingSeat<T>], counts: &mut Vec<u64>) -> Result<(), M
 fn look_at(to: &mut Option<Producer<Item>>, from: &mut Option<Consumer<Item>>)
     requires { (room : ℕ) × ArePaired room to.old from.old }
     ensures beside { (room : ℕ) → ArePaired room to.old from.old → AreBeside room to.new from.new }
-    ensures to { SameGiver to.old to.new × (sent_to to.new ≡ sent_to to.old) × (free_in to.old ≤ free_in to.new) }
+    ensures to { SameGiver to.old to.new × (sent_to to.new ≡ sent_to to.old)
+        × (free_in to.old ≤ free_in to.new) }
     ensures from { SameTaker from.old from.new × (taken_from from.new ≡ taken_from from.old) }
 {
     if let Some(to) = to {
@@ -117,8 +128,11 @@ fn look_at(to: &mut Option<Producer<Item>>, from: &mut Option<Consumer<Item>>)
 fn look_between<T: Turn>(front: &mut [RingSeat<T>], back: &mut [RingSeat<T>])
     requires front { 0 < length front.old }
     requires back { 0 < length back.old }
-    requires paired { (room : ℕ) × (fs : List (RingSeat T T.Turn)) × (s : RingSeat T T.Turn) × (n : RingSeat T T.Turn) × (bs : List (RingSeat T T.Turn)) × (front.old ≡ fs ++ s ∷ []) × (back.old ≡ n ∷ bs) × ArePaired room s.to n.from }
-    ensures { (fs bs : List (RingSeat T T.Turn)) (s n : RingSeat T T.Turn) → front.old ≡ fs ++ s ∷ [] → back.old ≡ n ∷ bs → NowBeside T.Turn fs bs s n (front.new ++ back.new) }
+    requires paired { (room : ℕ) × (fs : List (RingSeat T T.Turn)) × (s : RingSeat T T.Turn)
+        × (n : RingSeat T T.Turn) × (bs : List (RingSeat T T.Turn)) × (front.old ≡ fs ++ s ∷ [])
+        × (back.old ≡ n ∷ bs) × ArePaired room s.to n.from }
+    ensures { (fs bs : List (RingSeat T T.Turn)) (s n : RingSeat T T.Turn) → front.old
+        ≡ fs ++ s ∷ [] → back.old ≡ n ∷ bs → NowBeside T.Turn fs bs s n (front.new ++ back.new) }
 {
     let last = front.len() - 1;
     let before = &mut front[last];
@@ -129,9 +143,12 @@ fn look_between<T: Turn>(front: &mut [RingSeat<T>], back: &mut [RingSeat<T>])
 // The stages at this place and behind it, which have the ends of one ring.
 fn look_beside<T: Turn>(seats: &mut [RingSeat<T>], i: usize)
     requires within { i + 1 < length seats.old }
-    requires paired { (room : ℕ) × (front : List (RingSeat T T.Turn)) × (s : RingSeat T T.Turn) × (n : RingSeat T T.Turn) × (back : List (RingSeat T T.Turn)) × (seats.old ≡ front ++ s ∷ n ∷ back) × (length front ≡ i) × ArePaired room s.to n.from }
+    requires paired { (room : ℕ) × (front : List (RingSeat T T.Turn)) × (s : RingSeat T T.Turn)
+        × (n : RingSeat T T.Turn) × (back : List (RingSeat T T.Turn))
+        × (seats.old ≡ front ++ s ∷ n ∷ back) × (length front ≡ i) × ArePaired room s.to n.from }
     ensures count { length seats.new ≡ length seats.old }
-    ensures beside { (front back : List (RingSeat T T.Turn)) (s n : RingSeat T T.Turn) → seats.old ≡ front ++ s ∷ n ∷ back → length front ≡ i → NowBeside T.Turn front back s n seats.new }
+    ensures beside { (front back : List (RingSeat T T.Turn)) (s n : RingSeat T T.Turn) → seats.old
+        ≡ front ++ s ∷ n ∷ back → length front ≡ i → NowBeside T.Turn front back s n seats.new }
 {
     let (front, back) = seats.split_at_mut(i + 1);
     look_between(front, back);
@@ -143,7 +160,8 @@ fn look_beside_all<T: Turn>(seats: &mut [RingSeat<T>])
     requires paired { (room : ℕ) × Joined T.Turn (ArePaired room) None seats.old }
     ensures count { length seats.new ≡ length seats.old }
     ensures looked { Each (OnlyLooked T.Turn) seats.old seats.new }
-    ensures beside { (room : ℕ) → Joined T.Turn (ArePaired room) None seats.old → Joined T.Turn (AreBeside room) None seats.new }
+    ensures beside { (room : ℕ) → Joined T.Turn (ArePaired room) None seats.old
+        → Joined T.Turn (AreBeside room) None seats.new }
 {
     let last = seats.len() - 1;
     for i in 0..last {
@@ -155,7 +173,8 @@ fn look_beside_all<T: Turn>(seats: &mut [RingSeat<T>])
 fn carry_out<T: Turn>(seats: &mut [RingSeat<T>], output: &mut Inbox) -> Result<(), Memory>
     requires { 0 < length seats.old }
     ensures count { length seats.new ≡ length seats.old }
-    ensures out { OnOk result ((front : List (RingSeat T T.Turn)) (s : RingSeat T T.Turn) → seats.old ≡ front ++ s ∷ [] → CarriedOut T.Turn front s output.old seats.new output.new) }
+    ensures out { OnOk result ((front : List (RingSeat T T.Turn)) (s : RingSeat T T.Turn)
+        → seats.old ≡ front ++ s ∷ [] → CarriedOut T.Turn front s output.old seats.new output.new) }
     ensures hand { OnErr result (unread_bytes output.new ≡ unread_bytes output.old) }
 {
     let last = seats.len() - 1;
@@ -184,7 +203,8 @@ fn run<R: Threads + Sync, T: Turn + Send, G: Gate + Sync>(
     ensures rings { OnOk result (HaveRings T.Turn seats.new) }
     ensures count { OnOk result (length seats.new ≡ length seats.old) }
     ensures counts { OnOk result (length counts.new.items ≡ length seats.old) }
-    ensures turns { OnOk result (LineRounds T.Turn seats.old output.old seats.new output.new counts.new.items) }
+    ensures turns { OnOk result
+        (LineRounds T.Turn seats.old output.old seats.new output.new counts.new.items) }
     ensures gets_on { OnOk result (AllGetOn T.Turn room seats.old seats.new counts.new.items) }
     ensures hand { OnErr result (unread_bytes output.new ≡ unread_bytes output.old) }
 {
@@ -199,9 +219,10 @@ fn run<R: Threads + Sync, T: Turn + Send, G: Gate + Sync>(
     carry_out(seats, output)
 }
 
-/// Each stage makes so many looks, at least one, all at once. A look sends what is unsent while the ring behind takes it; only
-/// if nothing is left unsent it takes what it sees in the ring before, as much as a ring has room for. The stages enter the
-/// gate before their looks and leave it after. `counts` becomes the number of items that each stage took.
+/// Each stage makes so many looks, at least one, all at once. A look sends what is unsent while the
+/// ring behind takes it; only if nothing is left unsent it takes what it sees in the ring before,
+/// as much as a ring has room for. The stages enter the gate before their looks and leave it after.
+/// `counts` becomes the number of items that each stage took.
 pub fn ring_round<R: Threads + Sync, T: Turn + Drop + Send, G: Gate + Sync>(
     rt: &R,
     pipe: &mut RingPipe<T>,
@@ -210,14 +231,20 @@ pub fn ring_round<R: Threads + Sync, T: Turn + Drop + Send, G: Gate + Sync>(
     counts: &mut Vec<u64>,
 ) -> Result<(), PipeFault>
     requires { 0 < looks }
-    ensures stands { OnOk result ((ps : List T.Plan) (h : List Event) (taken : List ℕ) → RingsStand T.Turn ps pipe.old h taken → RingsStand T.Turn ps pipe.new (h ++ turns_from 0 counts.new.items) taken) }
+    ensures stands { OnOk result ((ps : List T.Plan) (h : List Event) (taken : List ℕ)
+        → RingsStand T.Turn ps pipe.old h taken
+        → RingsStand T.Turn ps pipe.new (h ++ turns_from 0 counts.new.items) taken) }
     ensures counts { OnOk result (vec_len counts.new ≡ rings_stage_count T.Turn pipe.old) }
-    // With nothing unsent a stage took at least all that lay in its ring when the round began, or as much as there is room for; what
-    // was unsent it sent, as far as the room goes since its ring was made. A stage that could not send all that was unsent took nothing,
-    // not even out of its ring.
-    ensures gets_on { OnOk result (AllGetOn T.Turn pipe.old.room pipe.old.seats.items pipe.new.seats.items counts.new.items) }
-    ensures begins { OnErr result ((ps : List T.Plan) (h : List Event) (taken : List ℕ) → RingsStand T.Turn ps pipe.old h taken → RingsBeginAnswer T.Turn ps pipe.new h taken) }
-    ensures written { OnErr result ((ps : List T.Plan) (h : List Event) (taken : List ℕ) → RingsStand T.Turn ps pipe.old h taken → RingsHaveWritten T.Turn ps pipe.new h taken) }
+    // With nothing unsent a stage took at least all that lay in its ring when the round began, or
+    // as much as there is room for; what was unsent it sent, as far as the room goes since its ring
+    // was made. A stage that could not send all that was unsent took nothing, not even out of its
+    // ring.
+    ensures gets_on { OnOk result
+        (AllGetOn T.Turn pipe.old.room pipe.old.seats.items pipe.new.seats.items counts.new.items) }
+    ensures begins { OnErr result ((ps : List T.Plan) (h : List Event) (taken : List ℕ)
+        → RingsStand T.Turn ps pipe.old h taken → RingsBeginAnswer T.Turn ps pipe.new h taken) }
+    ensures written { OnErr result ((ps : List T.Plan) (h : List Event) (taken : List ℕ)
+        → RingsStand T.Turn ps pipe.old h taken → RingsHaveWritten T.Turn ps pipe.new h taken) }
     ensures hand { OnErr result (rings_in_hand T.Turn pipe.new ≡ rings_in_hand T.Turn pipe.old) }
     ensures spent { (result ≡ Err PipeFault.Spent) ↔ IsTrue (rings_spent T.Turn pipe.old) }
     ensures unchanged { result ≡ Err PipeFault.Spent → pipe.new ≡ pipe.old }

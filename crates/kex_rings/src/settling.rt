@@ -1,6 +1,7 @@
 // All that waits is worked off, stage after stage.
 
-ghost use Rattle.std.specs.Prelude.{◌≡◌, ◌++◌, [], List, ℕ, None, IsTrue, IfOk, OnOk, OnErr, length};
+ghost use Rattle.std.specs.Prelude.{◌≡◌, ◌++◌, [], List, ℕ, None, IsTrue, IfOk, OnOk, OnErr};
+ghost use Rattle.std.specs.Prelude.{length};
 ghost use Rattle.kex_pipe.specs.Waiting.{unread_bytes, waiting_items};
 ghost use Rattle.kex_pipe.specs.Seats.{IsWhole};
 ghost use Rattle.kex_rings.specs.Ends.{AreBeside, seen_in};
@@ -22,7 +23,8 @@ use std::alloc::Global;
 
 // Takes all that is seen in the ring, if there is one.
 fn empty(from: Option<Consumer<Item>>, inbox: &mut Inbox) -> Result<(), Memory>
-    ensures { OnOk result (IsWhole (waiting_items inbox.old ++ items_as (seen_in from)) → waiting_items inbox.new ≡ waiting_items inbox.old ++ items_as (seen_in from)) }
+    ensures { OnOk result (IsWhole (waiting_items inbox.old ++ items_as (seen_in from))
+        → waiting_items inbox.new ≡ waiting_items inbox.old ++ items_as (seen_in from)) }
 {
     match from {
         None => Ok(()),
@@ -30,11 +32,13 @@ fn empty(from: Option<Consumer<Item>>, inbox: &mut Inbox) -> Result<(), Memory>
     }
 }
 
-// The stage takes what lies in its ring and then what was carried here, and what it has written is carried on.
+// The stage takes what lies in its ring and then what was carried here, and what it has written is
+// carried on.
 fn settle_one<T: Turn + Drop>(seat: RingSeat<T>, carried: &mut Inbox) -> Result<Seat<T>, Memory>
     requires { IsTrue seat.seat.usable }
     ensures usable { IfOk result (λ s. IsTrue s.usable) }
-    ensures settles { IfOk result (λ s. SettlesBy T.Turn seat s (waiting_items carried.old) (waiting_items carried.new)) }
+    ensures settles { IfOk result (λ s.
+        SettlesBy T.Turn seat s (waiting_items carried.old) (waiting_items carried.new)) }
 {
     let RingSeat {
         mut seat,
@@ -58,7 +62,8 @@ fn settle_each<T: Turn + Drop>(
 ) -> Result<Vec<Seat<T>>, Memory>
     requires { AllRingSeatsUsable T.Turn seats.items }
     ensures usable { IfOk result (λ settled. AllSeatsUsable T.Turn settled.items) }
-    ensures settles { IfOk result (λ settled. SettlesAll T.Turn seats.items settled.items (waiting_items carried.old) (waiting_items carried.new)) }
+    ensures settles { IfOk result (λ settled. SettlesAll T.Turn seats.items settled.items
+        (waiting_items carried.old) (waiting_items carried.new)) }
 {
     let mut settled = Vec::new(alloc);
     for seat in seats {
@@ -68,8 +73,8 @@ fn settle_each<T: Turn + Drop>(
     Ok(settled)
 }
 
-/// The stages with new rings, after each has taken all that waits before it, those in front first. What the last one has written
-/// goes behind the output in hand.
+/// The stages with new rings, after each has taken all that waits before it, those in front first.
+/// What the last one has written goes behind the output in hand.
 pub(crate) fn settle_all<T: Turn + Drop>(
     alloc: Global,
     room: u32,
@@ -82,7 +87,8 @@ pub(crate) fn settle_all<T: Turn + Drop>(
     ensures new { IfOk result (λ row. AreNew T.Turn row.items) }
     ensures rings { IfOk result (λ row. HaveRings T.Turn row.items) }
     ensures count { IfOk result (λ row. length row.items ≡ length seats.items) }
-    ensures settles { IfOk result (λ row. LineSettles T.Turn seats.items output.old row.items output.new) }
+    ensures settles { IfOk result (λ row.
+        LineSettles T.Turn seats.items output.old row.items output.new) }
     ensures hand { OnErr result (unread_bytes output.new ≡ unread_bytes output.old) }
 {
     let mut carried = Inbox::new(alloc);

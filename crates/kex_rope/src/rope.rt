@@ -1,6 +1,7 @@
 // Ropes.
 
-ghost use Rattle.std.specs.Prelude.{◌≡◌, ◌+◌, ◌^◌, ◌<◌, ◌≤◌, [], ◌∷◌, ◌++◌, ◌↔◌, IsTrue, length, max, OnOk, OnErr, IfOk};
+ghost use Rattle.std.specs.Prelude.{◌≡◌, ◌+◌, ◌^◌, ◌<◌, ◌≤◌, [], ◌∷◌, ◌++◌, ◌↔◌, IsTrue, length};
+ghost use Rattle.std.specs.Prelude.{max, OnOk, OnErr, IfOk};
 ghost use Rattle.kex_code.specs.Codes.{Begins};
 ghost use Rattle.kex_rope.specs.Blocks.{symbols_in, AreFilled, AreBlocks};
 
@@ -43,7 +44,8 @@ impl Model for Rope {
 // A symbol is put behind the last block, or into a new one where that is full.
 fn put(alloc: Global, blocks: &mut LinkedList<Vec<Symbol>>, symbol: Symbol) -> Result<(), Memory>
     ensures added { OnOk result (symbols_in blocks.new ≡ symbols_in blocks.old ++ symbol ∷ []) }
-    ensures filled { OnOk result (AreBlocks blocks.old (length (symbols_in blocks.old)) → AreFilled blocks.new) }
+    ensures filled { OnOk result (AreBlocks blocks.old (length (symbols_in blocks.old))
+        → AreFilled blocks.new) }
     ensures kept { OnErr result (symbols_in blocks.new ≡ symbols_in blocks.old) }
     ensures count { OnErr result (length blocks.new ≡ length blocks.old) }
     ensures still { OnErr result (AreFilled blocks.old → AreFilled blocks.new) }
@@ -60,11 +62,14 @@ fn put(alloc: Global, blocks: &mut LinkedList<Vec<Symbol>>, symbol: Symbol) -> R
     Ok(())
 }
 
-// The symbols of the first block are put behind a code, and the block goes. Tells how many they are.
+// The symbols of the first block are put behind a code, and the block goes. Tells how many they
+// are.
 fn give_front(blocks: &mut LinkedList<Vec<Symbol>>, code: &mut Code) -> Result<usize, Memory>
     requires { 0 < length blocks.old }
-    ensures moved { OnOk result (code.new ++ symbols_in blocks.new ≡ code.old ++ symbols_in blocks.old) }
-    ensures count { IfOk result (λ n. n + length (symbols_in blocks.new) ≡ length (symbols_in blocks.old)) }
+    ensures moved { OnOk result (code.new ++ symbols_in blocks.new
+        ≡ code.old ++ symbols_in blocks.old) }
+    ensures count { IfOk result (λ n. n + length (symbols_in blocks.new)
+        ≡ length (symbols_in blocks.old)) }
     ensures fewer { OnOk result (length blocks.new + 1 ≡ length blocks.old) }
     ensures filled { OnOk result (AreFilled blocks.old → AreFilled blocks.new) }
     ensures kept { OnErr result ((blocks.new ≡ blocks.old) × (code.new ≡ code.old)) }
@@ -130,8 +135,8 @@ impl Rope {
         Ok(())
     }
 
-    /// Puts the symbols of another rope behind its own, by moving their blocks, and leaves that one empty. Takes no memory,
-    /// and constant time.
+    /// Puts the symbols of another rope behind its own, by moving their blocks, and leaves that one
+    /// empty. Takes no memory, and constant time.
     pub fn append(&mut self, other: &mut Rope)
         requires { length self.old + length other.old < 2 ^ 63 }
         ensures joined { self.new ≡ self.old ++ other.old }
@@ -159,7 +164,8 @@ impl Rope {
         mem::replace(self, Rope::new(alloc))
     }
 
-    /// Moves its symbols to the end of a code. Where memory is wanted, those that were not moved stay.
+    /// Moves its symbols to the end of a code. Where memory is wanted, those that were not moved
+    /// stay.
     pub fn drain_into(&mut self, code: &mut Code) -> Result<(), Memory>
         ensures moved { OnOk result (code.new ≡ code.old ++ self.old) }
         ensures empty { OnOk result (self.new ≡ []) }
@@ -176,7 +182,8 @@ impl Rope {
         Ok(())
     }
 
-    /// Copies its symbols to the end of a code. Where memory is wanted, the code may have a front of them.
+    /// Copies its symbols to the end of a code. Where memory is wanted, the code may have a front
+    /// of them.
     pub fn copy_into(&self, code: &mut Code) -> Result<(), Memory>
         ensures copied { OnOk result (code.new ≡ code.old ++ self.now) }
         ensures front { OnErr result (Begins code.new code.old) }

@@ -1,10 +1,13 @@
 // A round of all the stages of a pipe.
 
-ghost use Rattle.std.specs.Prelude.{◌≡◌, ◌+◌, ◌<◌, ◌≤◌, ◌^◌, ◌++◌, ◌⊎◌, ◌↔◌, ◌&&◌, [], List, ℕ, true, false, IsTrue, OnOk, OnErr, is_ok, is_err, Err, suc, All, IsPermutation, map, length};
+ghost use Rattle.std.specs.Prelude.{◌≡◌, ◌+◌, ◌<◌, ◌≤◌, ◌^◌, ◌++◌, ◌⊎◌, ◌↔◌, ◌&&◌, [], List, ℕ};
+ghost use Rattle.std.specs.Prelude.{true, false, IsTrue, OnOk, OnErr, is_ok, is_err, Err, suc, All};
+ghost use Rattle.std.specs.Prelude.{IsPermutation, map, length};
 ghost use Rattle.std.specs.List.{range_with_len};
 ghost use Rattle.std.specs.Thread.{IsSync};
 ghost use Rattle.kex_model.specs.Schedules.{Event};
-ghost use Rattle.kex_pipe.specs.Standing.{Stands, BeginsAnswer, HasWritten, in_hand, is_ended, is_spent, is_in_round, stage_count};
+ghost use Rattle.kex_pipe.specs.Standing.{Stands, BeginsAnswer, HasWritten, in_hand, is_ended};
+ghost use Rattle.kex_pipe.specs.Standing.{is_spent, is_in_round, stage_count};
 ghost use Rattle.kex_pipe.specs.Rounds.{Each, Works, LeftBy, turn_of};
 ghost use Rattle.kex_pipe.specs.Settling.{SettledTo};
 ghost use Rattle.kex_rounds.specs.Working.{AllWork};
@@ -21,7 +24,8 @@ fn work_one<T: Turn, G: Gate>(gate: &G, stage: u32, seat: &mut Seat<T>) -> Resul
     ensures works { OnOk result (IsTrue seat.old.usable → Works T.Turn seat.old seat.new) }
     ensures usable { seat.new.usable ≡ (seat.old.usable && is_ok result) }
     ensures idle { seat.old.usable ≡ false → IsTrue (is_ok result) }
-    ensures own { (before : Seat T T.Turn) → LeftBy T.Turn before seat.old → LeftBy T.Turn before seat.new }
+    ensures own { (before : Seat T T.Turn) → LeftBy T.Turn before seat.old
+        → LeftBy T.Turn before seat.new }
 {
     gate.enter(stage);
     let worked = seat.work();
@@ -63,23 +67,31 @@ fn work_all<R: Threads + Sync, T: Turn + Send, G: Gate + Sync>(
     other
 }
 
-/// Each stage takes a turn of the items that lay before it when the round began, all at once. The stages enter the gate before
-/// their turn and leave it after.
+/// Each stage takes a turn of the items that lay before it when the round began, all at once. The
+/// stages enter the gate before their turn and leave it after.
 pub fn round<R: Threads + Sync, T: Turn + Drop + Send, G: Gate + Sync>(
     rt: &R,
     pipe: &mut Pipe<T>,
     gate: &G,
 ) -> Result<(), PipeFault>
     requires { is_in_round T.Turn pipe.old ≡ false }
-    ensures stands { OnOk result ((ps : List T.Plan) (h : List Event) (taken : List ℕ) (order : List ℕ)
-        → Stands T.Turn ps pipe.old h taken → IsPermutation (range_with_len 0 (stage_count T.Turn pipe.old)) order
+    ensures stands { OnOk result ((ps : List T.Plan) (h : List Event) (taken : List ℕ)
+        (order : List ℕ)
+        → Stands T.Turn ps pipe.old h taken
+        → IsPermutation (range_with_len 0 (stage_count T.Turn pipe.old)) order
         → Stands T.Turn ps pipe.new (h ++ map (turn_of T.Turn pipe.old.seats.items) order) taken) }
-    // The first stages that had worked off all that came stay so, and the one behind them joins them.
-    ensures settles { OnOk result ((ps : List T.Plan) (h : List Event) (taken : List ℕ) (order : List ℕ) (k : ℕ) (s : Stands T.Turn ps pipe.old h taken)
-        → IsPermutation (range_with_len 0 (stage_count T.Turn pipe.old)) order → SettledTo T.gives k s.came ps s.seats
-        → (now : Stands T.Turn ps pipe.new (h ++ map (turn_of T.Turn pipe.old.seats.items) order) taken) × SettledTo T.gives (suc k) now.came ps now.seats) }
-    ensures begins { OnErr result ((ps : List T.Plan) (h : List Event) (taken : List ℕ) → Stands T.Turn ps pipe.old h taken → BeginsAnswer T.Turn ps pipe.new h taken) }
-    ensures written { OnErr result ((ps : List T.Plan) (h : List Event) (taken : List ℕ) → Stands T.Turn ps pipe.old h taken → HasWritten T.Turn ps pipe.new h taken) }
+    // The first stages that had worked off all that came stay so, and the one behind them joins
+    // them.
+    ensures settles { OnOk result ((ps : List T.Plan) (h : List Event) (taken : List ℕ)
+        (order : List ℕ) (k : ℕ) (s : Stands T.Turn ps pipe.old h taken)
+        → IsPermutation (range_with_len 0 (stage_count T.Turn pipe.old)) order
+        → SettledTo T.gives k s.came ps s.seats
+        → (now : Stands T.Turn ps pipe.new (h ++ map (turn_of T.Turn pipe.old.seats.items) order)
+        taken) × SettledTo T.gives (suc k) now.came ps now.seats) }
+    ensures begins { OnErr result ((ps : List T.Plan) (h : List Event) (taken : List ℕ)
+        → Stands T.Turn ps pipe.old h taken → BeginsAnswer T.Turn ps pipe.new h taken) }
+    ensures written { OnErr result ((ps : List T.Plan) (h : List Event) (taken : List ℕ)
+        → Stands T.Turn ps pipe.old h taken → HasWritten T.Turn ps pipe.new h taken) }
     ensures hand { OnErr result (in_hand T.Turn pipe.new ≡ in_hand T.Turn pipe.old) }
     ensures spent { (result ≡ Err PipeFault.Spent) ↔ IsTrue (is_spent T.Turn pipe.old) }
     ensures spends { is_spent T.Turn pipe.new ≡ is_err result }

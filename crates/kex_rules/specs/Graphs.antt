@@ -1,5 +1,7 @@
--- The graph of a program: its nodes and, behind them, its names. A node leads to its parts, a call to its name, a name to its root.
-use Rattle.std.specs.Prelude.{◌≡◌, ℕ, ◌<◌, ◌≤◌, ◌+◌, ◌-◌, List, [], ◌∷◌, Option, Some, None, length, get_or, slice_get}
+-- The graph of a program: its nodes and, behind them, its names. A node leads to its parts, a call
+-- to its name, a name to its root.
+use Rattle.std.specs.Prelude.{◌≡◌, ℕ, ◌<◌, ◌≤◌, ◌+◌, ◌-◌, List, [], ◌∷◌, Option, Some, None, length}
+use Rattle.std.specs.Prelude.{get_or, slice_get}
 use Rattle.kex_code.specs.Codes.{IsAmong}
 use Rattle.kex_model.specs.declared.program.Kind.{Kind}
 use Rattle.kex_model.specs.declared.program.Kind.TheVariants.{Call, Seq, Alt, Rep, Mute, At}
@@ -47,9 +49,12 @@ pub data Leads (f : ℕ → List ℕ) : ℕ → ℕ → Type 0 where
   stays : {u : ℕ} → Leads f u u
   goes : {u v w : ℕ} → IsAmong (f u) v → Leads f v w → Leads f u w
 
--- the marks number the strongly connected components: those of one number lead to each other, and no way leads to a higher number
+-- the marks number the strongly connected components: those of one number lead to each other, and
+-- no way leads to a higher number
 pub record AreComponents (f : ℕ → List ℕ) (count : ℕ) (marks : List Mark) : Type 0 where
   pub long : length marks ≡ count
   pub all : (v : ℕ) → v < count → (a : ℕ) × (get_or marks v Unseen ≡ Closed a)
-  pub falls : (u a w : ℕ) → get_or marks u Unseen ≡ Closed a → IsAmong (f u) w → (b : ℕ) × (get_or marks w Unseen ≡ Closed b) × (b ≤ a)
-  pub same : (u v a : ℕ) → get_or marks u Unseen ≡ Closed a → get_or marks v Unseen ≡ Closed a → Leads f u v
+  pub falls : (u a w : ℕ) → get_or marks u Unseen ≡ Closed a → IsAmong (f u) w → (b : ℕ)
+      × (get_or marks w Unseen ≡ Closed b) × (b ≤ a)
+  pub same : (u v a : ℕ) → get_or marks u Unseen ≡ Closed a → get_or marks v Unseen ≡ Closed a
+      → Leads f u v

@@ -1,5 +1,6 @@
 -- The roots of names in a table, and the lowest of offsets.
-use Rattle.std.specs.Prelude.{◌≡◌, ℕ, ◌==◌, if◌then◌else◌, List, Option, Some, None, find, get_or, length, nat_lt}
+use Rattle.std.specs.Prelude.{◌≡◌, ℕ, ◌==◌, if◌then◌else◌, List, Option, Some, None, find, get_or}
+use Rattle.std.specs.Prelude.{length, nat_lt}
 use Rattle.std.specs.Option.{option_map}
 use Rattle.kex_model.specs.declared.program.Definition.{Definition}
 use Rattle.kex_model.specs.declared.program.Start.{Start}
@@ -11,7 +12,8 @@ abbrev pub first_root : List Definition → ℕ → Option ℕ
 first_root definitions name = option_map (λ d. d.root) (find (λ d. d.name == name) definitions)
 
 -- the table has the roots of so many names
-pub record HasRoots (definitions : List Definition) (names : ℕ) (roots : List (Option ℕ)) : Type 0 where
+pub record HasRoots (definitions : List Definition) (names : ℕ)
+    (roots : List (Option ℕ)) : Type 0 where
   pub long : length roots ≡ names
   pub each : (name : ℕ) → get_or roots name None ≡ first_root definitions name
 
@@ -31,4 +33,5 @@ CallsUnknown P at = (name : ℕ) × CallsAt P name at × (IsDefined P.definition
 
 -- one of the stages is started by such a name, at this offset
 abbrev pub StartsUnknown : List Definition → List Start → ℕ → Type 0
-StartsUnknown definitions stages at = (name : ℕ) × StartsAt stages name at × (IsDefined definitions name → ⊥)
+StartsUnknown definitions stages at = (name : ℕ) × StartsAt stages name at
+    × (IsDefined definitions name → ⊥)

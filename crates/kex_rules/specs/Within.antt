@@ -11,14 +11,18 @@ pub record FlagsParts (n : ℕ) (last other : List ℕ) (old new : List Bool) : 
   pub long : length new ≡ length old
   pub kept : (m : ℕ) → get_or old m false ≡ true → get_or new m false ≡ true
   pub above : (m : ℕ) → n ≤ m → get_or new m false ≡ get_or old m false
-  pub only : (m : ℕ) → get_or new m false ≡ true → (get_or old m false ≡ true) ⊎ (IsAmong last m ⊎ IsAmong other m)
+  pub only : (m : ℕ) → get_or new m false ≡ true → (get_or old m false ≡ true)
+      ⊎ (IsAmong last m ⊎ IsAmong other m)
   pub lasts : (m : ℕ) → IsAmong last m → get_or new m false ≡ true
   pub others : (m : ℕ) → IsAmong other m → get_or new m false ≡ true
 
--- the flags say which nodes stand in a definition, by the roots and the parts of node n and those above
+-- the flags say which nodes stand in a definition, by the roots and the parts of node n and those
+-- above
 pub record HasWithin (P : Grammar) (n : ℕ) (within : List Bool) : Type 0 where
   pub long : length within ≡ length P.nodes
   pub real : (m : ℕ) → get_or within m false ≡ true → IsWithin P m
   pub roots : (d : Definition) → IsAmong P.definitions d → get_or within d.root false ≡ true
-  pub lasts : (k m : ℕ) → n ≤ k → get_or within k false ≡ true → IsAmong (last_parts (kind_at P k)) m → get_or within m false ≡ true
-  pub others : (k m : ℕ) → n ≤ k → get_or within k false ≡ true → IsAmong (other_parts (kind_at P k)) m → get_or within m false ≡ true
+  pub lasts : (k m : ℕ) → n ≤ k → get_or within k false ≡ true
+      → IsAmong (last_parts (kind_at P k)) m → get_or within m false ≡ true
+  pub others : (k m : ℕ) → n ≤ k → get_or within k false ≡ true
+      → IsAmong (other_parts (kind_at P k)) m → get_or within m false ≡ true

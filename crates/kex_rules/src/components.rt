@@ -1,10 +1,12 @@
-// The strongly connected components of a program's graph, by one search along the path of those that are open
-// (path-based, as Gabow's). Each vertex and each way is met once.
+// The strongly connected components of a program's graph, by one search along the path of those
+// that are open (path-based, as Gabow's). Each vertex and each way is met once.
 
-ghost use Rattle.std.specs.Prelude.{◌≡◌, ℕ, ◌<◌, ◌≤◌, ◌+◌, ◌++◌, ◌∷◌, [], length, IfOk, OnOk, get_or};
+ghost use Rattle.std.specs.Prelude.{◌≡◌, ℕ, ◌<◌, ◌≤◌, ◌+◌, ◌++◌, ◌∷◌, [], length, IfOk, OnOk};
+ghost use Rattle.std.specs.Prelude.{get_or};
 ghost use Rattle.kex_code.specs.Codes.{HasNumber};
 ghost use Rattle.kex_model.specs.Programs.{IsGrammar};
-ghost use Rattle.kex_rules.specs.Graphs.{AreComponents, successor_list, vertices, vertex_successors};
+ghost use Rattle.kex_rules.specs.Graphs.{AreComponents, successor_list, vertices};
+ghost use Rattle.kex_rules.specs.Graphs.{vertex_successors};
 ghost use Rattle.kex_rules.specs.Searches.{AllLead, ClosesPath, Joins, Searching, StaysMet, work};
 ghost use Rattle.kex_rules.specs.Tables.{HasRoots};
 ghost use Rattle.kex_rules.specs.declared.components.Mark.TheVariants.{Unseen};
@@ -15,7 +17,8 @@ use kex_code::memory::Memory;
 use kex_model::program::Program;
 use std::alloc::Global;
 
-// How far the search is with a vertex: not met, open at this number of the path, or in a component of this number.
+// How far the search is with a vertex: not met, open at this number of the path, or in a component
+// of this number.
 #[derive(Clone, Copy, PartialEq, Eq, Debug)]
 pub enum Mark {
     Unseen,
@@ -30,8 +33,8 @@ pub struct Bound {
     pub ahead: usize,
 }
 
-// The search: the open vertices as they were met, the vertices that are still ahead of them, and where the open
-// components begin. Of two open components the earlier one leads to the later one.
+// The search: the open vertices as they were met, the vertices that are still ahead of them, and
+// where the open components begin. Of two open components the earlier one leads to the later one.
 #[derive(Drop)]
 pub struct Search {
     marks: Vec<Mark>,
@@ -56,9 +59,11 @@ fn push_successors(ahead: &mut Vec<usize>, ways: VertexSuccessors) -> Result<(),
     Ok(())
 }
 
-// The bounds behind number `place` of the path go: what begins there is one component with what stands at `place`.
+// The bounds behind number `place` of the path go: what begins there is one component with what
+// stands at `place`.
 fn join(bounds: &mut Vec<Bound>, place: usize)
-    requires { (k l : ℕ) (b c : Bound) → k ≤ l → HasNumber bounds.old.items b k → HasNumber bounds.old.items c l → (b.path ≤ c.path) × (b.ahead ≤ c.ahead) }
+    requires { (k l : ℕ) (b c : Bound) → k ≤ l → HasNumber bounds.old.items b k
+        → HasNumber bounds.old.items c l → (b.path ≤ c.path) × (b.ahead ≤ c.ahead) }
     ensures { Joins place bounds.old.items bounds.new.items }
 {
     let mut kept = bounds.len();
@@ -118,7 +123,8 @@ impl Search {
         Ok(())
     }
 
-    // Goes to a vertex to which all that is open leads: on the path, all behind it is one component with it.
+    // Goes to a vertex to which all that is open leads: on the path, all behind it is one component
+    // with it.
     fn meet(&mut self, program: &Program, roots: &[Option<u32>], v: usize) -> Result<(), Memory>
         requires roots { HasRoots program.now.definitions (length program.now.names) roots.now }
         requires fits { v < vertices program.now }
@@ -141,7 +147,8 @@ impl Search {
     // The last component, from which nothing is ahead, is closed.
     fn close(&mut self, program: &Program, bound: Bound)
         requires search { Searching program.now [] self.old }
-        requires last { (k : ℕ) × (length self.old.bounds.items ≡ k + 1) × HasNumber self.old.bounds.items bound k }
+        requires last { (k : ℕ) × (length self.old.bounds.items ≡ k + 1)
+            × HasNumber self.old.bounds.items bound k }
         requires ahead { length self.old.ahead.items ≤ bound.ahead }
         ensures search { Searching program.now [] self.new }
         ensures met { StaysMet self.old self.new }
@@ -181,7 +188,8 @@ pub(crate) fn components(
 ) -> Result<Vec<Mark>, Memory>
     requires grammar { IsGrammar program.now }
     requires roots { HasRoots program.now.definitions (length program.now.names) roots.now }
-    ensures { IfOk result (λ marks. AreComponents (vertex_successors program.now) (vertices program.now) marks.items) }
+    ensures { IfOk result (λ marks.
+        AreComponents (vertex_successors program.now) (vertices program.now) marks.items) }
 {
     let mut search = Search::new(alloc, program)?;
     'vertices: for v in 0..search.marks.len() {

@@ -1,7 +1,8 @@
 // A program as a graph: its nodes are vertices, and so are its names, which stand behind the nodes.
 
 ghost use Rattle.std.specs.Prelude.{◌≡◌, ◌<◌, ◌^◌, length};
-ghost use Rattle.kex_rules.specs.Graphs.{kind_successors, successor_list, root_successors, vertices, vertex_successors};
+ghost use Rattle.kex_rules.specs.Graphs.{kind_successors, successor_list, root_successors};
+ghost use Rattle.kex_rules.specs.Graphs.{vertices, vertex_successors};
 ghost use Rattle.kex_rules.specs.Tables.{HasRoots};
 
 use kex_model::program::{Kind, Program};

@@ -25,7 +25,8 @@ pub(crate) fn lowest(found: Option<u32>, at: u32) -> Option<u32>
 // The root of each name that is defined; refused where a name is defined twice.
 pub(crate) fn roots_of(alloc: Global, program: &Program) -> Result<Vec<Option<u32>>, RuleRefusal>
     requires { IsGrammar program.now }
-    ensures roots { IfOk result (λ roots. HasRoots program.now.definitions (length program.now.names) roots.items) }
+    ensures roots { IfOk result (λ roots.
+        HasRoots program.now.definitions (length program.now.names) roots.items) }
     ensures once { OnOk result (Nowhere (IsTwice program.now.definitions)) }
     ensures refused { IfErr result (λ e. IsRuleCause program.now e) }
 {
@@ -73,7 +74,8 @@ fn unknown_call(program: &Program, roots: &[Option<u32>], within: &[bool]) -> Op
     found
 }
 
-// The lowest offset of a call or a start whose name has no definition, with what was found of the calls.
+// The lowest offset of a call or a start whose name has no definition, with what was found of the
+// calls.
 fn unknown_start(program: &Program, roots: &[Option<u32>], calls: Option<u32>) -> Option<u32>
     requires roots { HasRoots program.now.definitions (length program.now.names) roots.now }
     requires calls { IsLeastOffset (CallsUnknown program.now) calls }

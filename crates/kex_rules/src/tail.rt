@@ -42,7 +42,8 @@ fn mark_parts(marks: &[Mark], apart: &mut Vec<bool>, node: usize, kind: &Kind)
     requires below { HasBelow node kind.now }
     requires fits { node < length apart.old.items }
     requires long { length apart.old.items ≤ length marks.now }
-    ensures { MarksParts marks.now node (last_parts kind.now) (other_parts kind.now) apart.old.items apart.new.items }
+    ensures { MarksParts marks.now node (last_parts kind.now)
+        (other_parts kind.now) apart.old.items apart.new.items }
 {
     match kind {
         Kind::Seq(first, last) => {
@@ -75,14 +76,16 @@ fn apart_nodes(alloc: Global, program: &Program, marks: &[Mark]) -> Result<Vec<b
     Ok(apart)
 }
 
-// The lowest offset of a call outside tail position of a name that reaches the definition it stands in.
+// The lowest offset of a call outside tail position of a name that reaches the definition it stands
+// in.
 pub(crate) fn lowest_not_tail(
     alloc: Global,
     program: &Program,
     marks: &[Mark],
 ) -> Result<Option<u32>, Memory>
     requires grammar { IsGrammar program.now }
-    requires parted { AreComponents (vertex_successors program.now) (vertices program.now) marks.now }
+    requires parted { AreComponents (vertex_successors program.now)
+        (vertices program.now) marks.now }
     ensures { IfOk result (λ found. IsLeastOffset (IsNotTail program.now) found) }
 {
     let apart = apart_nodes(alloc, program, marks)?;

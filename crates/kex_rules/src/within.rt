@@ -12,7 +12,8 @@ use std::alloc::Global;
 // Flags the root of each definition, among one flag a node.
 fn roots_within(alloc: Global, program: &Program) -> Result<Vec<bool>, Memory>
     requires { IsGrammar program.now }
-    ensures { IfOk result (λ within. HasWithin program.now (length program.now.nodes) within.items) }
+    ensures { IfOk result (λ within.
+        HasWithin program.now (length program.now.nodes) within.items) }
 {
     let mut within = vec![in alloc; false; program.nodes().len()]?;
     let definitions = program.definitions();
@@ -26,7 +27,8 @@ fn roots_within(alloc: Global, program: &Program) -> Result<Vec<bool>, Memory>
 fn flag_parts(within: &mut Vec<bool>, node: usize, kind: &Kind)
     requires below { HasBelow node kind.now }
     requires fits { node < length within.old.items }
-    ensures { FlagsParts node (last_parts kind.now) (other_parts kind.now) within.old.items within.new.items }
+    ensures { FlagsParts node (last_parts kind.now)
+        (other_parts kind.now) within.old.items within.new.items }
 {
     match kind {
         Kind::Seq(left, right) | Kind::Alt(left, right) => {

@@ -1,5 +1,7 @@
--- Looking up backwards: the lists that are still to be read, what they stand for, and how much there is to be read.
-use Rattle.std.specs.Prelude.{◌≡◌, ℕ, zero, suc, ◌+◌, ◌<◌, ◌≤◌, List, [], ◌∷◌, ◌++◌, Option, Some, None, map, length, get_or, take}
+-- Looking up backwards: the lists that are still to be read, what they stand for, and how much
+-- there is to be read.
+use Rattle.std.specs.Prelude.{◌≡◌, ℕ, zero, suc, ◌+◌, ◌<◌, ◌≤◌, List, [], ◌∷◌, ◌++◌, Option, Some}
+use Rattle.std.specs.Prelude.{None, map, length, get_or, take}
 use Rattle.kex_code.specs.declared.symbol.Symbol.{Symbol}
 use Rattle.kex_sst.specs.declared.parts.Part.{Part}
 use Rattle.kex_sst.specs.declared.parts.Part.TheVariants.{Put, Old, Input}
@@ -12,7 +14,8 @@ use Rattle.kex_runner.specs.declared.reading.Unread.{Unread}
 
 -- what an unread list stands for
 abbrev pub unread_code : Sheet → List (List Symbol) → List ByteUpdate → Unread → List Symbol
-unread_code s base notes u = parts_code (registers_after base (take u.after notes)) u.byte (list_at s u.list)
+unread_code s base notes u =
+    parts_code (registers_after base (take u.after notes)) u.byte (list_at s u.list)
 
 -- the same of some, joined
 abbrev pub codes_of : Sheet → List (List Symbol) → List ByteUpdate → List Unread → List Symbol
@@ -68,19 +71,27 @@ abbrev pub old_weight : List ℕ → Option ℕ → ℕ
 old_weight ws None = 0
 old_weight ws (Some i) = suc (get_or ws i 0 + get_or ws i 0)
 
--- what is said is to be read from the next list, or was read, before the pieces that were; and it takes no more than so much
-pub record HasAskedNext (s : Sheet) (base : List (List Symbol)) (notes : List ByteUpdate) (old new : Reading) (next : Option Unread) (said : List Symbol) (most : ℕ) : Type 0 where
-  pub text : codes_of s base notes (if_some next) ++ spelled_back s.words new.back.items ≡ said ++ spelled_back s.words old.back.items
+-- what is said is to be read from the next list, or was read, before the pieces that were; and it
+-- takes no more than so much
+pub record HasAskedNext (s : Sheet) (base : List (List Symbol)) (notes : List ByteUpdate)
+    (old new : Reading) (next : Option Unread) (said : List Symbol) (most : ℕ) : Type 0 where
+  pub text : codes_of s base notes (if_some next) ++ spelled_back s.words new.back.items
+      ≡ said ++ spelled_back s.words old.back.items
   pub pending : new.pending.items ≡ old.pending.items
   pub noted : AreNoted (length notes) (if_some next)
   pub weight : weight_of s notes (if_some next) ≤ most
 
 -- what an old register holds after so many notes, if there is one, is to be read
-abbrev pub HasAskedFor : Sheet → List (List Symbol) → List ByteUpdate → ℕ → Option ℕ → Reading → Reading → Option Unread → Type 0
-HasAskedFor s base notes after old before now next = HasAskedNext s base notes before now next (old_text (registers_after base (take after notes)) old) (old_weight (register_work [] (take after notes)) old)
+abbrev pub HasAskedFor : Sheet → List (List Symbol) → List ByteUpdate → ℕ → Option ℕ → Reading
+    → Reading → Option Unread → Type 0
+HasAskedFor s base notes after old before now next =
+    HasAskedNext s base notes before now next (old_text (registers_after base (take after notes))
+    old) (old_weight (register_work [] (take after notes)) old)
 
 -- of lists that were unread the last was read from its end, which leaves others, and less
-pub record HasReadList (s : Sheet) (base : List (List Symbol)) (notes : List ByteUpdate) (before after : List Unread) (old new : List ByteWord) : Type 0 where
-  pub text : codes_of s base notes after ++ spelled_back s.words new ≡ codes_of s base notes before ++ spelled_back s.words old
+pub record HasReadList (s : Sheet) (base : List (List Symbol)) (notes : List ByteUpdate)
+    (before after : List Unread) (old new : List ByteWord) : Type 0 where
+  pub text : codes_of s base notes after ++ spelled_back s.words new
+      ≡ codes_of s base notes before ++ spelled_back s.words old
   pub noted : AreNoted (length notes) before → AreNoted (length notes) after
   pub weight : weight_of s notes after < weight_of s notes before

@@ -1,4 +1,5 @@
--- Registers whose updates are noted: what they were where the notes begin, and the updates since, each with its byte.
+-- Registers whose updates are noted: what they were where the notes begin, and the updates since,
+-- each with its byte.
 use Rattle.std.specs.Prelude.{ℕ, List, [], ◌∷◌, map, reverse}
 use Rattle.kex_code.specs.declared.symbol.Symbol.{Symbol}
 use Rattle.kex_sst.specs.declared.parts.Part.{Part}

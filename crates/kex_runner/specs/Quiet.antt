@@ -1,5 +1,7 @@
--- Quiet updates: those that pass nothing on. They are told by places, a row for each state and in it a place for each class.
-use Rattle.std.specs.Prelude.{◌≡◌, ℕ, ◌+◌, ◌*◌, ◌/◌, ◌%◌, ◌^◌, ◌<◌, ◌≤◌, true, List, Some, get_or, length, map, slice_get}
+-- Quiet updates: those that pass nothing on. They are told by places, a row for each state and in
+-- it a place for each class.
+use Rattle.std.specs.Prelude.{◌≡◌, ℕ, ◌+◌, ◌*◌, ◌/◌, ◌%◌, ◌^◌, ◌<◌, ◌≤◌, true, List, Some, get_or}
+use Rattle.std.specs.Prelude.{length, map, slice_get}
 use Rattle.kex_byteset.specs.Classes.{class_at, class_count}
 use Rattle.kex_sst.specs.Tables.{Transducer}
 use Rattle.kex_script.specs.declared.script.Entry.{Entry}
@@ -8,7 +10,8 @@ use Rattle.kex_runner.specs.declared.quiet.Quiet.{Quiet}
 use Rattle.kex_runner.specs.declared.quiet.Guide.{Guide}
 use Rattle.kex_runner.specs.declared.reading.NotedUpdate.{NotedUpdate}
 
--- an entry is quiet, and this tells its lists, and where the row of its target begins, within so many places
+-- an entry is quiet, and this tells its lists, and where the row of its target begins, within so
+-- many places
 pub record IsQuiet (e : Entry) (width count : ℕ) (q : Quiet) : Type 0 where
   pub goes : e.goes ≡ true
   pub silent : e.silent ≡ true
@@ -22,7 +25,8 @@ IsQuietIf e width count q = (q.row ≡ 4294967295 → ⊥) → IsQuiet e width c
 
 -- each place tells what a state does on a class
 abbrev pub AreQuiet : Sheet → ℕ → ℕ → List Quiet → Type 0
-AreQuiet s width count qs = (k : ℕ) (q : Quiet) → slice_get qs k ≡ Some q → IsQuietIf (entry_at s (k / width) (k % width)) width count q
+AreQuiet s width count qs = (k : ℕ) (q : Quiet) → slice_get qs k ≡ Some q
+    → IsQuietIf (entry_at s (k / width) (k % width)) width count q
 
 -- the rows are as wide as a power of two, and have a place for each class of a table
 pub record IsGuide (t : Transducer) (g : Guide) : Type 0 where
@@ -39,8 +43,10 @@ quiet_at qs classes row b = get_or qs (row + class_at classes b) (record { row =
 
 -- it leads back to the row
 abbrev pub StaysAt : List Quiet → List ℕ → ℕ → ℕ → Type 0
-StaysAt qs classes row b = (class_at classes b < class_count classes) × ((quiet_at qs classes row b).row ≡ row)
+StaysAt qs classes row b = (class_at classes b < class_count classes)
+    × ((quiet_at qs classes row b).row ≡ row)
 
 -- the updates that a row tells for some bytes, noted as such that stay
 abbrev pub staying : List Quiet → List ℕ → ℕ → List ℕ → List NotedUpdate
-staying qs classes row bytes = map (λ b. record { lists = (quiet_at qs classes row b).lists; byte = b; stays = true }) bytes
+staying qs classes row bytes =
+    map (λ b. record { lists = (quiet_at qs classes row b).lists; byte = b; stays = true }) bytes

@@ -1,5 +1,6 @@
 -- What a runner stands for: the bytes that it was fed, and the code that it has passed on.
-use Rattle.std.specs.Prelude.{◌≡◌, ℕ, ◌⊎◌, Bool, true, false, length, List, [], ◌∷◌, ◌++◌, Option, Some, None, if◌then◌else◌}
+use Rattle.std.specs.Prelude.{◌≡◌, ℕ, ◌⊎◌, Bool, true, false, length, List, [], ◌∷◌, ◌++◌, Option}
+use Rattle.std.specs.Prelude.{Some, None, if◌then◌else◌}
 use Rattle.kex_code.specs.declared.symbol.Symbol.{Symbol}
 use Rattle.kex_sst.specs.declared.parts.Part.{Part}
 use Rattle.kex_sst.specs.Tables.{Transducer}
@@ -10,8 +11,9 @@ use Rattle.kex_runner.specs.declared.answers.Fed.TheVariants.{On, Dead}
 use Rattle.kex_runner.specs.declared.answers.Ended.{Ended}
 use Rattle.kex_runner.specs.declared.answers.Ended.TheVariants.{Parsed, Cut}
 
--- a runner: its table, the words that it tells, its state, what it has still to pass on, what its registers hold, how many good bytes it has read,
--- whether a byte was refused, whether the end was given, and whether no call has answered want of memory
+-- a runner: its table, the words that it tells, its state, what it has still to pass on, what its
+-- registers hold, how many good bytes it has read, whether a byte was refused, whether the end was
+-- given, and whether no call has answered want of memory
 pub record Running : Type 0 where
   pub table : Transducer
   pub words : List (List Part)
@@ -57,14 +59,17 @@ IsRunOf r w c = IsRunnerLive r w c ⊎ IsRunnerDead r w c
 
 -- and what the last piece was answered by
 abbrev pub IsRunnerFed : Fed → Running → List ℕ → List Symbol → Type 0
-IsRunnerFed On r w c = (passes r.table w ≡ Some (record { state = r.state; code = c; registers = r.registers })) × IsRunOf r w c
+IsRunnerFed On r w c = (passes r.table w
+    ≡ Some (record { state = r.state; code = c; registers = r.registers })) × IsRunOf r w c
 IsRunnerFed Dead r w c = (passes r.table w ≡ None) × IsRunOf r w c
 
 -- feeding a piece has put its code behind what was there
-pub record RunnerFeeds (answer : Fed) (old new : Running) (piece : List ℕ) (before after : List Symbol) : Type 0 where
+pub record RunnerFeeds (answer : Fed) (old new : Running) (piece : List ℕ)
+    (before after : List Symbol) : Type 0 where
   pub more : List Symbol
   pub code : after ≡ before ++ more
-  pub fed : (w : List ℕ) (c : List Symbol) → IsRunOf old w c → IsRunnerFed answer new (w ++ piece) (c ++ more)
+  pub fed : (w : List ℕ) (c : List Symbol) → IsRunOf old w c
+      → IsRunnerFed answer new (w ++ piece) (c ++ more)
   pub told : new.pending ≡ []
 
 -- the table goes on along w to a state in which nothing ends, or doesn't go on
@@ -89,7 +94,8 @@ IsRunnerOver Cut t w c = HasNoEnd t (passes t w) × IsPassedOn t w c
 pub record RunnerEnds (answer : Ended) (old : Running) (before after : List Symbol) : Type 0 where
   pub more : List Symbol
   pub code : after ≡ before ++ more
-  pub over : (w : List ℕ) (c : List Symbol) → IsRunOf old w c → IsRunnerOver answer old.table w (c ++ more)
+  pub over : (w : List ℕ) (c : List Symbol) → IsRunOf old w c
+      → IsRunnerOver answer old.table w (c ++ more)
 
 -- how many items the updates have of the bytes of a piece that are taken
 abbrev pub items_taken : Running → List ℕ → ℕ

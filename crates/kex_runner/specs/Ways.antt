@@ -1,5 +1,6 @@
 -- Ways: old registers one behind the other, and what they were before an update.
-use Rattle.std.specs.Prelude.{◌≡◌, ℕ, ◌+◌, ◌<◌, ◌≤◌, List, [], ◌∷◌, ◌++◌, Option, Some, None, All, IfSome, get_or, slice_get, length, take}
+use Rattle.std.specs.Prelude.{◌≡◌, ℕ, ◌+◌, ◌<◌, ◌≤◌, List, [], ◌∷◌, ◌++◌, Option, Some, None, All}
+use Rattle.std.specs.Prelude.{IfSome, get_or, slice_get, length, take}
 use Rattle.kex_code.specs.declared.symbol.Symbol.{Symbol}
 use Rattle.kex_sst.specs.declared.parts.Part.{Part}
 use Rattle.kex_sst.specs.declared.parts.Part.TheVariants.{Put, Old, Input}
@@ -61,7 +62,8 @@ abbrev pub split_in : WayStep → Option Split
 split_in x = split_by x x.form
 
 -- what a way was before an update
-pub record IsWayStep (s : Sheet) (ways : List (List Part)) (number lists : ℕ) (x : Split) : Type 0 where
+pub record IsWayStep (s : Sheet) (ways : List (List Part)) (number lists : ℕ)
+    (x : Split) : Type 0 where
   pub from : List Part
   pub way : IsNumberedWay ways number from
   pub split : IsSplit s.words ways x (composition (change_at s lists) from)
@@ -72,11 +74,14 @@ IsStepIf s ways x = IfSome (split_in x) (λ y. IsWayStep s ways x.from x.lists y
 
 -- this is kept of a list, where it has a place
 abbrev pub HasStart : List WayStart → ℕ → Option Split → Type 0
-HasStart starts list x = list < length starts → slice_get starts list ≡ Some (record { list = list; split = x })
+HasStart starts list x = list < length starts
+    → slice_get starts list ≡ Some (record { list = list; split = x })
 
 -- this is kept of a way with that last register before an update, where it has a place
 abbrev pub HasStep : List WayStep → ℕ → ℕ → ℕ → Option Split → Type 0
-HasStep steps way last lists x = lists + last < length steps → (step : WayStep) × (slice_get steps (lists + last) ≡ Some step) × (step.from ≡ way) × (step.lists ≡ lists) × (split_in step ≡ x)
+HasStep steps way last lists x = lists + last < length steps → (step : WayStep)
+    × (slice_get steps (lists + last) ≡ Some step) × (step.from ≡ way) × (step.lists ≡ lists)
+    × (split_in step ≡ x)
 
 -- what is known of ways is so, over a script
 pub record AreKnown (s : Sheet) (w : Ways) : Type 0 where
@@ -85,8 +90,11 @@ pub record AreKnown (s : Sheet) (w : Ways) : Type 0 where
   pub steps : All (IsStepIf s w.lists) w.steps.items
 
 -- a way over all notes, and what stood behind it, are another one over some of them, and pieces
-pub record HasWalked (s : Sheet) (ways : List (List Part)) (notes : List ByteUpdate) (from : List Part) (place : WalkPoint) (old new : List ByteWord) : Type 0 where
+pub record HasWalked (s : Sheet) (ways : List (List Part)) (notes : List ByteUpdate)
+    (from : List Part) (place : WalkPoint) (old new : List ByteWord) : Type 0 where
   pub after : place.after ≤ length notes
   pub to : List Part
   pub way : IsNumberedWay ways place.way to
-  pub text : (base : List (List Symbol)) → parts_code (registers_after base (take place.after notes)) 0 to ++ code_over s.words new ≡ parts_code (registers_after base notes) 0 from ++ code_over s.words old
+  pub text : (base : List (List Symbol))
+      → parts_code (registers_after base (take place.after notes)) 0 to ++ code_over s.words new
+      ≡ parts_code (registers_after base notes) 0 from ++ code_over s.words old

@@ -12,15 +12,16 @@ use std::alloc::Global;
 /// Where no row begins.
 pub const NOWHERE: u32 = u32::MAX;
 
-/// What a state does on a class of bytes, where its update is quiet: where the row of its target begins, and which lists it has.
+/// What a state does on a class of bytes, where its update is quiet: where the row of its target
+/// begins, and which lists it has.
 #[derive(Clone, Copy, Debug, PartialEq, Eq)]
 pub struct Quiet {
     pub row: u32,
     pub lists: u32,
 }
 
-/// A script, and its quiet updates: of each state a row, by class. A row is 2 to the power of `shift` wide, so that the state of a row is
-/// found by a shift.
+/// A script, and its quiet updates: of each state a row, by class. A row is 2 to the power of
+/// `shift` wide, so that the state of a row is found by a shift.
 #[derive(Drop)]
 pub struct Guide {
     pub script: Script,

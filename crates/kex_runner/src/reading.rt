@@ -1,19 +1,22 @@
 // Looking registers up: lists are read from their ends, back through the notes.
 
-ghost use Rattle.std.specs.Prelude.{◌≡◌, ◌<◌, ◌≤◌, [], List, ◌∷◌, ◌++◌, Some, None, OnOk, IfOk, IfNone, length, get_or};
+ghost use Rattle.std.specs.Prelude.{◌≡◌, ◌<◌, ◌≤◌, [], List, ◌∷◌, ◌++◌, Some, None, OnOk, IfOk};
+ghost use Rattle.std.specs.Prelude.{IfNone, length, get_or};
 ghost use Rattle.kex_sst.specs.declared.parts.Part.{Part};
 ghost use Rattle.kex_sst.specs.Parts.{parts_code};
 ghost use Rattle.kex_script.specs.Scripts.{IsTail, IsWord, list_at};
 ghost use Rattle.kex_runner.specs.Noting.{noted_by, settled_of, spelled_back, updates_of};
-ghost use Rattle.kex_runner.specs.Looking.{AreNoted, HasAskedFor, HasReadList, codes_of, if_some, unless_empty};
+ghost use Rattle.kex_runner.specs.Looking.{AreNoted, HasAskedFor, HasReadList, codes_of, if_some};
+ghost use Rattle.kex_runner.specs.Looking.{unless_empty};
 
 use kex_code::memory::Memory;
 use kex_script::piece::ByteWord;
 use kex_script::script::{Script, Tail};
 use std::marker::Model;
 
-/// The update that was done, by the place of its lists in the script, and the byte that was read. Where the state stays a note
-/// may say so: notes of the same update may stand before it then. Nothing rests on what it says.
+/// The update that was done, by the place of its lists in the script, and the byte that was read.
+/// Where the state stays a note may say so: notes of the same update may stand before it then.
+/// Nothing rests on what it says.
 #[derive(Clone, Copy)]
 pub struct NotedUpdate {
     pub lists: u32,
@@ -44,8 +47,8 @@ impl Model for Settled {
     ghost view = { λ s. s.pieces.items };
 }
 
-/// What a look-up uses, kept for the next: the lists that are still to be read, the last on top, and the pieces that were read, the
-/// last first.
+/// What a look-up uses, kept for the next: the lists that are still to be read, the last on top,
+/// and the pieces that were read, the last first.
 #[derive(Drop)]
 pub struct Reading {
     pub pending: Vec<Unread>,
@@ -55,7 +58,9 @@ pub struct Reading {
 // A word is read, if there is one.
 #[inline(always)]
 fn say(word: Option<u32>, byte: u8, back: &mut Vec<ByteWord>) -> Result<(), Memory>
-    ensures { OnOk result ((words : List (List Part)) (w : List Part) → IsWord words word w → spelled_back words back.new.items ≡ parts_code [] byte w ++ spelled_back words back.old.items) }
+    ensures { OnOk result ((words : List (List Part)) (w : List Part) → IsWord words word w
+        → spelled_back words back.new.items
+        ≡ parts_code [] byte w ++ spelled_back words back.old.items) }
 {
     match word {
         None => Ok(()),
@@ -69,7 +74,8 @@ fn say(word: Option<u32>, byte: u8, back: &mut Vec<ByteWord>) -> Result<(), Memo
 // A list is put on top, if it isn't the empty one.
 #[inline(always)]
 fn keep(unread: Unread, pending: &mut Vec<Unread>) -> Result<(), Memory>
-    ensures { OnOk result (pending.new.items ≡ pending.old.items ++ unless_empty unread.list unread) }
+    ensures { OnOk result (pending.new.items
+        ≡ pending.old.items ++ unless_empty unread.list unread) }
 {
     if unread.list != 0 {
         pending.push(unread)?;
@@ -89,7 +95,8 @@ fn or_pop(next: Option<Unread>, pending: &mut Vec<Unread>) -> Option<Unread>
     }
 }
 
-// What a register holds after so many notes is to be read: the list that the last of them gives it, or the settled register at once.
+// What a register holds after so many notes is to be read: the list that the last of them gives it,
+// or the settled register at once.
 #[inline(always)]
 pub fn ask(
     script: &Script,
@@ -100,7 +107,8 @@ pub fn ask(
     reading: &mut Reading,
 ) -> Result<Option<Unread>, Memory>
     requires { after ≤ length notes.now }
-    ensures { IfOk result (λ next. HasAskedFor script.now (settled_of script.now base.now) (updates_of script.now notes.now) after (Some register) reading.old reading.new next) }
+    ensures { IfOk result (λ next. HasAskedFor script.now (settled_of script.now base.now)
+        (updates_of script.now notes.now) after (Some register) reading.old reading.new next) }
 {
     if after == 0 {
         if let Some(settled) = base.get(register) {
@@ -127,7 +135,8 @@ fn ask_if(
     reading: &mut Reading,
 ) -> Result<Option<Unread>, Memory>
     requires { after ≤ length notes.now }
-    ensures { IfOk result (λ next. HasAskedFor script.now (settled_of script.now base.now) (updates_of script.now notes.now) after old reading.old reading.new next) }
+    ensures { IfOk result (λ next. HasAskedFor script.now (settled_of script.now base.now)
+        (updates_of script.now notes.now) after old reading.old reading.new next) }
 {
     match old {
         None => Ok(None),
@@ -148,7 +157,9 @@ fn read_end(
     requires after { unread.after ≤ length notes.now }
     requires empty { list_at script.now 0 ≡ [] }
     requires tail { IsTail script.now.words script.now.lists tail (list_at script.now unread.list) }
-    ensures { IfOk result (λ next. HasReadList script.now (settled_of script.now base.now) (updates_of script.now notes.now) (reading.old.pending.items ++ unread ∷ []) (reading.new.pending.items ++ if_some next) reading.old.back.items reading.new.back.items) }
+    ensures { IfOk result (λ next. HasReadList script.now (settled_of script.now base.now)
+        (updates_of script.now notes.now) (reading.old.pending.items ++ unread ∷ [])
+        (reading.new.pending.items ++ if_some next) reading.old.back.items reading.new.back.items) }
 {
     say(tail.word, unread.byte, &mut reading.back)?;
     let rest = Unread {
@@ -170,7 +181,9 @@ fn read(
     reading: &mut Reading,
 ) -> Result<Option<Unread>, Memory>
     requires { unread.after ≤ length notes.now }
-    ensures read { IfOk result (λ next. HasReadList script.now (settled_of script.now base.now) (updates_of script.now notes.now) (reading.old.pending.items ++ unread ∷ []) (reading.new.pending.items ++ if_some next) reading.old.back.items reading.new.back.items) }
+    ensures read { IfOk result (λ next. HasReadList script.now (settled_of script.now base.now)
+        (updates_of script.now notes.now) (reading.old.pending.items ++ unread ∷ [])
+        (reading.new.pending.items ++ if_some next) reading.old.back.items reading.new.back.items) }
     ensures none { IfOk result (λ next. next ≡ None → reading.new.pending.items ≡ []) }
 {
     match script.tail(unread.list) {
@@ -192,7 +205,9 @@ pub fn look_up(
 ) -> Result<(), Memory>
     requires noted { AreNoted (length notes.now) (if_some first) }
     requires none { reading.old.pending.items ≡ [] }
-    ensures { OnOk result (spelled_back script.now.words reading.new.back.items ≡ codes_of script.now (settled_of script.now base.now) (updates_of script.now notes.now) (if_some first) ++ spelled_back script.now.words reading.old.back.items) }
+    ensures { OnOk result (spelled_back script.now.words reading.new.back.items
+        ≡ codes_of script.now (settled_of script.now base.now) (updates_of script.now notes.now)
+        (if_some first) ++ spelled_back script.now.words reading.old.back.items) }
 {
     let mut next = first;
     while let Some(unread) = next {
@@ -210,7 +225,8 @@ pub fn read_list(
     byte: u8,
     reading: &mut Reading,
 ) -> Result<(), Memory>
-    ensures { OnOk result (spelled_back script.now.words reading.new.back.items ≡ parts_code (noted_by script.now base.now notes.now) byte (list_at script.now list)) }
+    ensures { OnOk result (spelled_back script.now.words reading.new.back.items
+        ≡ parts_code (noted_by script.now base.now notes.now) byte (list_at script.now list)) }
 {
     reading.pending.clear();
     reading.back.clear();
@@ -230,7 +246,8 @@ pub fn read_register(
     register: usize,
     reading: &mut Reading,
 ) -> Result<(), Memory>
-    ensures { OnOk result (spelled_back script.now.words reading.new.back.items ≡ get_or (noted_by script.now base.now notes.now) register []) }
+    ensures { OnOk result (spelled_back script.now.words reading.new.back.items
+        ≡ get_or (noted_by script.now base.now notes.now) register []) }
 {
     reading.pending.clear();
     reading.back.clear();

@@ -1,6 +1,8 @@
 // Registers, and what an update does to them.
 
-ghost use Rattle.std.specs.Prelude.{◌≡◌, ◌≢◌, ◌+◌, ◌-◌, ◌<◌, ◌≤◌, [], ◌∷◌, ◌++◌, OnOk, OnErr, IfOk, IfSome, All, true, false, length, get_or, map, reverse, slice_get, take};
+ghost use Rattle.std.specs.Prelude.{◌≡◌, ◌≢◌, ◌+◌, ◌-◌, ◌<◌, ◌≤◌, [], ◌∷◌, ◌++◌, OnOk, OnErr, IfOk};
+ghost use Rattle.std.specs.Prelude.{IfSome, All, true, false, length, get_or, map, reverse};
+ghost use Rattle.std.specs.Prelude.{slice_get, take};
 ghost use Rattle.std.specs.Vec.{vec_capacity, vec_len};
 ghost use Rattle.kex_byteset.specs.Classes.{class_count};
 ghost use Rattle.kex_sst.specs.Parts.{item_count, long_in, parts_code, value};
@@ -32,12 +34,13 @@ use std::sync::ledger::Ledger;
 // So many updates are noted at least before the registers are settled.
 const LEAST: usize = 4096;
 
-/// The registers of a state. Updates are noted, and not done: a register is looked up where it is passed on, from the last note
-/// back to where the notes begin. There each has its pieces.
+/// The registers of a state. Updates are noted, and not done: a register is looked up where it is
+/// passed on, from the last note back to where the notes begin. There each has its pieces.
 ///
-/// When there are many notes each register is looked up and its pieces kept, and the notes begin anew, if that halves what is kept: text
-/// that several registers hold is kept once by notes. Many is 4,096, or twice the pieces or the notes that there were when this was
-/// last tried, if that is more.
+/// When there are many notes each register is looked up and its pieces kept, and the notes begin
+/// anew, if that halves what is kept: text that several registers hold is kept once by notes. Many
+/// is 4,096, or twice the pieces or the notes that there were when this was last tried, if that is
+/// more.
 #[derive(Drop)]
 pub struct Registers {
     alloc: Global,
@@ -70,7 +73,8 @@ fn settled(
     reading: &mut Reading,
 ) -> Result<Option<Vec<Settled>>, Memory>
     requires { count ≡ length (noted_by script.now base.now notes.now) }
-    ensures { IfOk result (λ o. IfSome o (λ all. settled_of script.now all.items ≡ noted_by script.now base.now notes.now)) }
+    ensures { IfOk result (λ o. IfSome o (λ all. settled_of script.now all.items
+        ≡ noted_by script.now base.now notes.now)) }
 {
     let mut all = Vec::new(alloc);
     let mut left = most;
@@ -108,7 +112,8 @@ fn push(notes: &mut Vec<NotedUpdate>, note: NotedUpdate) -> Result<(), Memory>
     Ok(())
 }
 
-// Notes the updates of a row for each byte at which it is not left, up to one at which it is. Tells how many.
+// Notes the updates of a row for each byte at which it is not left, up to one at which it is. Tells
+// how many.
 #[inline(always)]
 fn stay(
     quiets: &[Quiet],
@@ -121,8 +126,10 @@ fn stay(
     requires room { vec_len notes.old + length piece.now ≤ vec_capacity notes.old }
     ensures count { result ≤ length piece.now }
     ensures stays { All (StaysAt quiets.now partition.now row) (take result piece.now) }
-    ensures other { IfSome (slice_get piece.now result) (λ b. (quiet_at quiets.now partition.now row b).row ≢ row) }
-    ensures notes { notes.new.items ≡ notes.old.items ++ staying quiets.now partition.now row (take result piece.now) }
+    ensures other { IfSome (slice_get piece.now result) (λ b.
+        (quiet_at quiets.now partition.now row b).row ≢ row) }
+    ensures notes { notes.new.items
+        ≡ notes.old.items ++ staying quiets.now partition.now row (take result piece.now) }
     ensures room { vec_len notes.new + (length piece.now - result) ≤ vec_capacity notes.new }
 {
     let mut count = 0;
@@ -252,13 +259,15 @@ impl Registers {
         self.settle(script)
     }
 
-    // Notes an update. What can be seen not to be read again goes: all where there are no registers now, and what was before the
-    // update where it gives no register an old one.
+    // Notes an update. What can be seen not to be read again goes: all where there are no registers
+    // now, and what was before the update where it gives no register an old one.
     #[inline(always)]
     fn note(&mut self, script: &Script, entry: Entry, byte: u8) -> Result<(), Memory>
-        requires entry { HasUpdate script.now entry entry.target (change_at script.now entry.lists) }
+        requires entry { HasUpdate script.now entry entry.target
+            (change_at script.now entry.lists) }
         requires counted { self.old.count ≡ length (contents script.now self.old) }
-        ensures registers { OnOk result (contents script.now self.new ≡ next_registers (change_at script.now entry.lists) byte (contents script.now self.old)) }
+        ensures registers { OnOk result (contents script.now self.new ≡ next_registers
+            (change_at script.now entry.lists) byte (contents script.now self.old)) }
         ensures kept { OnErr result (contents script.now self.new ≡ contents script.now self.old) }
         ensures counted { self.new.count ≡ length (contents script.now self.new) }
     {
@@ -292,7 +301,9 @@ impl Registers {
     ) -> Result<(), Memory>
         requires known { AreKnown script.now ways.old }
         ensures known { OnOk result (AreKnown script.now ways.new) }
-        ensures pieces { OnOk result (code_over script.now.words pieces.new.items ≡ code_over script.now.words pieces.old.items ++ parts_code (contents script.now self.old) byte (change_at script.now lists).out) }
+        ensures pieces { OnOk result (code_over script.now.words pieces.new.items
+            ≡ code_over script.now.words pieces.old.items
+            ++ parts_code (contents script.now self.old) byte (change_at script.now lists).out) }
         ensures same { contents script.now self.new ≡ contents script.now self.old }
         ensures count { self.new.count ≡ self.old.count }
     {
@@ -320,11 +331,15 @@ impl Registers {
         pieces: &mut Vec<ByteWord>,
     ) -> Result<(), Memory>
         requires known { AreKnown script.now ways.old }
-        requires entry { HasUpdate script.now entry entry.target (change_at script.now entry.lists) }
+        requires entry { HasUpdate script.now entry entry.target
+            (change_at script.now entry.lists) }
         requires counted { self.old.count ≡ length (contents script.now self.old) }
         ensures known { OnOk result (AreKnown script.now ways.new) }
-        ensures registers { OnOk result (contents script.now self.new ≡ next_registers (change_at script.now entry.lists) byte (contents script.now self.old)) }
-        ensures pieces { OnOk result (code_over script.now.words pieces.new.items ≡ code_over script.now.words pieces.old.items ++ parts_code (contents script.now self.old) byte (change_at script.now entry.lists).out) }
+        ensures registers { OnOk result (contents script.now self.new ≡ next_registers
+            (change_at script.now entry.lists) byte (contents script.now self.old)) }
+        ensures pieces { OnOk result (code_over script.now.words pieces.new.items
+            ≡ code_over script.now.words pieces.old.items ++ parts_code
+            (contents script.now self.old) byte (change_at script.now entry.lists).out) }
         ensures kept { OnErr result (contents script.now self.new ≡ contents script.now self.old) }
         ensures counted { self.new.count ≡ length (contents script.now self.new) }
     {
@@ -334,8 +349,9 @@ impl Registers {
         self.note(script, entry, byte)
     }
 
-    // Goes along the front of a piece while updates are quiet and there is room for notes. Tells how many bytes that is.
-    // Not inlined: within a long caller what the loop reads for each byte would stand in memory.
+    // Goes along the front of a piece while updates are quiet and there is room for notes. Tells
+    // how many bytes that is. Not inlined: within a long caller what the loop reads for each byte
+    // would stand in memory.
     #[inline(never)]
     fn go_quiet(
         &mut self,
@@ -347,7 +363,8 @@ impl Registers {
         requires runner { IsRunner table.now guide.now.script state.old self.old }
         requires guide { IsGuide table.now guide.now }
         ensures count { IfOk result (λ n. n ≤ length piece.now) }
-        ensures follows { IfOk result (λ n. Follows table.now state.old (contents guide.now.script self.old) (take n piece.now) n state.new (contents guide.now.script self.new) [] []) }
+        ensures follows { IfOk result (λ n. Follows table.now state.old (contents guide.now.script
+            self.old) (take n piece.now) n state.new (contents guide.now.script self.new) [] []) }
         ensures runner { IsRunner table.now guide.now.script state.new self.new }
     {
         let quiets = guide.quiets.as_slice();
@@ -386,8 +403,9 @@ impl Registers {
         Ok(count)
     }
 
-    /// Goes along the front of a piece while updates are quiet and there is room for notes, if the entry of its first byte passes
-    /// nothing on; if not, along none, so that what is passed on doesn't pay for a run. Tells how many bytes that is.
+    /// Goes along the front of a piece while updates are quiet and there is room for notes, if the
+    /// entry of its first byte passes nothing on; if not, along none, so that what is passed on
+    /// doesn't pay for a run. Tells how many bytes that is.
     #[inline(always)]
     pub fn go_on_quietly(
         &mut self,
@@ -400,7 +418,8 @@ impl Registers {
         requires runner { IsRunner table.now guide.now.script state.old self.old }
         requires guide { IsGuide table.now guide.now }
         ensures count { IfOk result (λ n. n ≤ length piece.now) }
-        ensures follows { IfOk result (λ n. Follows table.now state.old (contents guide.now.script self.old) (take n piece.now) n state.new (contents guide.now.script self.new) [] []) }
+        ensures follows { IfOk result (λ n. Follows table.now state.old (contents guide.now.script
+            self.old) (take n piece.now) n state.new (contents guide.now.script self.new) [] []) }
         ensures runner { IsRunner table.now guide.now.script state.new self.new }
     {
         if !entry.silent {
@@ -416,7 +435,8 @@ impl Registers {
         register: usize,
         code: &mut Code,
     ) -> Result<(), Memory>
-        ensures code { OnOk result (code.new ≡ code.old ++ get_or (contents script.now self.old) register []) }
+        ensures code { OnOk result (code.new
+            ≡ code.old ++ get_or (contents script.now self.old) register []) }
         ensures same { contents script.now self.new ≡ contents script.now self.old }
         ensures count { self.new.count ≡ self.old.count }
     {
@@ -427,7 +447,8 @@ impl Registers {
 
     // What a part stands for goes to the end of a code.
     fn spell_part(&mut self, script: &Script, part: Part, code: &mut Code) -> Result<(), Memory>
-        ensures code { OnOk result (code.new ≡ code.old ++ value (contents script.now self.old) 0 part) }
+        ensures code { OnOk result (code.new
+            ≡ code.old ++ value (contents script.now self.old) 0 part) }
         ensures same { contents script.now self.new ≡ contents script.now self.old }
         ensures count { self.new.count ≡ self.old.count }
     {
@@ -440,7 +461,8 @@ impl Registers {
 
     /// What stands on a way of registers goes to the end of a code.
     pub fn spell(&mut self, script: &Script, way: &[Part], code: &mut Code) -> Result<(), Memory>
-        ensures code { OnOk result (code.new ≡ code.old ++ parts_code (contents script.now self.old) 0 way.now) }
+        ensures code { OnOk result (code.new
+            ≡ code.old ++ parts_code (contents script.now self.old) 0 way.now) }
         ensures same { contents script.now self.new ≡ contents script.now self.old }
         ensures count { self.new.count ≡ self.old.count }
     {

@@ -1,6 +1,7 @@
 // A runner.
 
-ghost use Rattle.std.specs.Prelude.{◌≡◌, ℕ, ◌+◌, ◌^◌, ◌<◌, ◌≤◌, ◌++◌, [], List, IfOk, OnOk, IsTrue, IsOk, ◌↔◌, true, false, Some, length, take};
+ghost use Rattle.std.specs.Prelude.{◌≡◌, ℕ, ◌+◌, ◌^◌, ◌<◌, ◌≤◌, ◌++◌, [], List, IfOk, OnOk, IsTrue};
+ghost use Rattle.std.specs.Prelude.{IsOk, ◌↔◌, true, false, Some, length, take};
 ghost use Rattle.kex_code.specs.declared.symbol.Symbol.{Symbol};
 ghost use Rattle.kex_sst.specs.Passes.{first_pass, passes};
 ghost use Rattle.kex_runner.specs.Running.{RunnerEnds, RunnerFeeds, IsRunOf, items_taken};
@@ -55,12 +56,27 @@ impl<'t> Model for Runner<'t> {
 
     ghost Value = { Running };
 
-    ghost view = { λ r. record { table = r.table.now; words = r.guide.script.words; state = r.state; pending = code_over r.guide.script.words r.pending.items; registers = contents r.guide.script r.registers; read = r.read; dead = r.dead; ended = r.ended; usable = r.usable } };
+    ghost view = { λ r.
+        record {
+          table = r.table.now;
+          words = r.guide.script.words;
+          state = r.state;
+          pending =
+              code_over r.guide.script.words r.pending.items;
+          registers = contents r.guide.script
+              r.registers;
+          read = r.read;
+          dead = r.dead;
+          ended = r.ended;
+          usable = r.usable;
+        } };
 
-    ghost invariant = { λ r. IsRunner r.table.now r.guide.script r.state r.registers × IsGuide r.table.now r.guide × (IsTrue r.usable → AreKnown r.guide.script r.ways) };
+    ghost invariant = { λ r. IsRunner r.table.now r.guide.script r.state r.registers
+        × IsGuide r.table.now r.guide × (IsTrue r.usable → AreKnown r.guide.script r.ways) };
 }
 
-// Follows the table along a piece, as far as it goes on, and tells how many bytes that is. What is passed on is put behind pieces.
+// Follows the table along a piece, as far as it goes on, and tells how many bytes that is. What is
+// passed on is put behind pieces.
 fn follow<L: Ledger>(
     table: &Table,
     script: &Script,
@@ -74,8 +90,12 @@ fn follow<L: Ledger>(
     requires runner { IsRunner table.now script.now state.old registers.old }
     requires known { AreKnown script.now ways.old }
     ensures known { OnOk result (AreKnown script.now ways.new) }
-    ensures follows { IfOk result (λ count. Follows table.now state.old (contents script.now registers.old) piece.now count state.new (contents script.now registers.new) (code_over script.now.words pieces.old.items) (code_over script.now.words pieces.new.items)) }
-    ensures steps { OnOk result (steps.new ≡ steps.old + items_along table.now state.old piece.now) }
+    ensures follows { IfOk result (λ count.
+        Follows table.now state.old (contents script.now registers.old) piece.now count state.new
+        (contents script.now registers.new) (code_over script.now.words pieces.old.items)
+        (code_over script.now.words pieces.new.items)) }
+    ensures steps { OnOk result (steps.new
+        ≡ steps.old + items_along table.now state.old piece.now) }
     ensures runner { IsRunner table.now script.now state.new registers.new }
 {
     for i in 0..piece.len() {
@@ -91,8 +111,8 @@ fn follow<L: Ledger>(
     Ok(piece.len())
 }
 
-// What was pending is put into pieces, and those that were there go. There is seldom some: only then are the two exchanged, since what
-// was written in halves is slow to copy whole.
+// What was pending is put into pieces, and those that were there go. There is seldom some: only
+// then are the two exchanged, since what was written in halves is slow to copy whole.
 #[inline(always)]
 fn hand_over(pending: &mut Vec<ByteWord>, pieces: &mut Vec<ByteWord>)
     ensures pieces { pieces.new.items ≡ pending.old.items }
@@ -118,8 +138,9 @@ struct Taken {
     good: usize,
 }
 
-// Follows the table along a piece, up to a byte at which it stops, or one behind the first that leads from no registers to none: what
-// is learnt goes over those faster. What is passed on is put behind pieces.
+// Follows the table along a piece, up to a byte at which it stops, or one behind the first that
+// leads from no registers to none: what is learnt goes over those faster. What is passed on is put
+// behind pieces.
 fn follow_held(
     table: &Table,
     guide: &Guide,
@@ -133,7 +154,10 @@ fn follow_held(
     requires guide { IsGuide table.now guide.now }
     requires known { AreKnown guide.now.script ways.old }
     ensures known { OnOk result (AreKnown guide.now.script ways.new) }
-    ensures follows { IfOk result (λ t. Follows table.now state.old (contents guide.now.script registers.old) (take t.taken piece.now) t.good state.new (contents guide.now.script registers.new) (code_over guide.now.script.words pieces.old.items) (code_over guide.now.script.words pieces.new.items)) }
+    ensures follows { IfOk result (λ t. Follows table.now state.old
+        (contents guide.now.script registers.old) (take t.taken piece.now) t.good state.new
+        (contents guide.now.script registers.new) (code_over guide.now.script.words
+        pieces.old.items) (code_over guide.now.script.words pieces.new.items)) }
     ensures taken { IfOk result (λ t. t.taken ≤ length piece.now) }
     ensures some { IfOk result (λ t. 0 < length piece.now → 0 < t.taken) }
     ensures runner { IsRunner table.now guide.now.script state.new registers.new }
@@ -177,8 +201,10 @@ fn begin(
     requires script { IsScriptOf script.now table.now }
     requires known { AreKnown script.now ways.old }
     ensures known { OnOk result (AreKnown script.now ways.new) }
-    ensures registers { IfOk result (λ made. contents script.now made.0 ≡ (first_pass table.now.initial).registers) }
-    ensures code { IfOk result (λ made. code_over script.now.words made.1.items ≡ (first_pass table.now.initial).code) }
+    ensures registers { IfOk result (λ made. contents script.now made.0
+        ≡ (first_pass table.now.initial).registers) }
+    ensures code { IfOk result (λ made. code_over script.now.words made.1.items
+        ≡ (first_pass table.now.initial).code) }
     ensures runner { IfOk result (λ made. IsRunner table.now script.now 0 made.0) }
 {
     let mut registers = Registers::new(alloc);
@@ -211,8 +237,9 @@ impl<'t> Runner<'t> {
         })
     }
 
-    /// Takes bytes, and puts what they let it pass on behind a code. `Dead` exactly where the table stops at one of them, and then
-    /// for good. Each item of an update of a byte that is taken is a step.
+    /// Takes bytes, and puts what they let it pass on behind a code. `Dead` exactly where the table
+    /// stops at one of them, and then for good. Each item of an update of a byte that is taken is a
+    /// step.
     ///
     /// After `Memory` the code may have a part of that, and the runner is only dropped.
     pub fn feed<L: Ledger>(
@@ -224,9 +251,11 @@ impl<'t> Runner<'t> {
         requires usable { IsTrue self.old.usable }
         requires open { self.old.ended ≡ false }
         requires room { self.old.read + length piece.now < 2 ^ 64 }
-        ensures fed { IfOk result (λ answer. RunnerFeeds answer self.old self.new piece.now code.old code.new) }
+        ensures fed { IfOk result (λ answer.
+            RunnerFeeds answer self.old self.new piece.now code.old code.new) }
         ensures steps { OnOk result (steps.new ≡ steps.old + items_taken self.old piece.now) }
-        ensures read { (self.old.read ≤ self.new.read) × (self.new.read ≤ self.old.read + length piece.now) }
+        ensures read { (self.old.read ≤ self.new.read)
+            × (self.new.read ≤ self.old.read + length piece.now) }
         ensures table { self.new.table ≡ self.old.table }
         ensures words { self.new.words ≡ self.old.words }
         ensures open { self.new.ended ≡ false }
@@ -257,18 +286,21 @@ impl<'t> Runner<'t> {
         Ok(answer_of(self.dead))
     }
 
-    /// Takes some bytes of a piece as `feed` does, at least one if there is one, and counts no steps. The last may be one at which the
-    /// table stops. What was in `pieces` goes, and what the bytes let it pass on is left there, in words.
+    /// Takes some bytes of a piece as `feed` does, at least one if there is one, and counts no
+    /// steps. The last may be one at which the table stops. What was in `pieces` goes, and what the
+    /// bytes let it pass on is left there, in words.
     ///
     /// After `Memory` the pieces may be a part of that, and the runner is only dropped.
     pub fn hold(&mut self, piece: &[u8], pieces: &mut Vec<ByteWord>) -> Result<Held, Memory>
         requires usable { IsTrue self.old.usable }
         requires open { self.old.ended ≡ false }
         requires room { self.old.read + length piece.now < 2 ^ 64 }
-        ensures fed { IfOk result (λ h. RunnerFeeds h.fed self.old self.new (take h.taken piece.now) [] (code_over self.old.words pieces.new.items)) }
+        ensures fed { IfOk result (λ h. RunnerFeeds h.fed self.old self.new
+            (take h.taken piece.now) [] (code_over self.old.words pieces.new.items)) }
         ensures taken { IfOk result (λ h. h.taken ≤ length piece.now) }
         ensures some { IfOk result (λ h. 0 < length piece.now → 0 < h.taken) }
-        ensures read { (self.old.read ≤ self.new.read) × (self.new.read ≤ self.old.read + length piece.now) }
+        ensures read { (self.old.read ≤ self.new.read)
+            × (self.new.read ≤ self.old.read + length piece.now) }
         ensures within { IfOk result (λ h. self.new.read ≤ self.old.read + h.taken) }
         ensures table { self.new.table ≡ self.old.table }
         ensures words { self.new.words ≡ self.old.words }
@@ -353,9 +385,12 @@ impl<'t> Runner<'t> {
         requires place { IsTablePlace self.old.table state [] }
         requires told { self.old.pending ≡ [] }
         requires room { self.old.read + bytes < 2 ^ 64 }
-        ensures jumped { self.new ≡ record self.old { state = state; registers = []; read = self.old.read + bytes } }
-        ensures stands { (w v : List ℕ) (c d : List Symbol) → IsRunOf self.old w c → length v ≡ bytes
-            → passes self.old.table (w ++ v) ≡ Some (pass_at state (c ++ d) []) → IsRunOf self.new (w ++ v) (c ++ d) }
+        ensures jumped { self.new
+            ≡ record self.old { state = state; registers = []; read = self.old.read + bytes } }
+        ensures stands { (w v : List ℕ) (c d : List Symbol) → IsRunOf self.old w c
+            → length v ≡ bytes
+            → passes self.old.table (w ++ v) ≡ Some (pass_at state (c ++ d) [])
+            → IsRunOf self.new (w ++ v) (c ++ d) }
     {
         self.registers.clear();
         self.state = state;

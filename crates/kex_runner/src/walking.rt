@@ -1,13 +1,16 @@
 // Looking up by ways: back through the notes, a step for each.
 
-ghost use Rattle.std.specs.Prelude.{◌≡◌, ◌≢◌, ◌+◌, ◌-◌, ◌≤◌, ◌<◌, ◌++◌, ◌∷◌, [], List, All, IfOk, IfSome, OnOk, length, get_or, slice_get, take, drop, reverse};
+ghost use Rattle.std.specs.Prelude.{◌≡◌, ◌≢◌, ◌+◌, ◌-◌, ◌≤◌, ◌<◌, ◌++◌, ◌∷◌, [], List, All, IfOk};
+ghost use Rattle.std.specs.Prelude.{IfSome, OnOk, length, get_or, slice_get, take, drop, reverse};
 ghost use Rattle.kex_sst.specs.declared.parts.Part.{Part};
 ghost use Rattle.kex_sst.specs.Parts.{parts_code, value};
 ghost use Rattle.kex_script.specs.declared.piece.ByteWord.{ByteWord};
 ghost use Rattle.kex_script.specs.Pieces.{code_over};
 ghost use Rattle.kex_script.specs.Scripts.{IsWord, Sheet, list_at};
-ghost use Rattle.kex_runner.specs.Noting.{noted_by, registers_after, settled_of, spelled_back, updates_of};
-ghost use Rattle.kex_runner.specs.Ways.{AreKnown, AreOlds, HasWalked, IsSplit, IsWayStep, IsStepIf, IsNumberedWay};
+ghost use Rattle.kex_runner.specs.Noting.{noted_by, registers_after, settled_of, spelled_back};
+ghost use Rattle.kex_runner.specs.Noting.{updates_of};
+ghost use Rattle.kex_runner.specs.Ways.{AreKnown, AreOlds, HasWalked, IsSplit, IsWayStep, IsStepIf};
+ghost use Rattle.kex_runner.specs.Ways.{IsNumberedWay};
 
 use crate::reading::{NotedUpdate, Reading, Settled, ask, look_up, read_list};
 use crate::ways::{Split, WayStep, Ways, known_step};
@@ -17,7 +20,8 @@ use kex_script::script::Script;
 use kex_sst::parts::Part;
 use std::mem;
 
-/// A way over what the registers were after so many notes, and where the pieces begin that stand behind it.
+/// A way over what the registers were after so many notes, and where the pieces begin that stand
+/// behind it.
 #[derive(Clone, Copy)]
 pub struct WalkPoint {
     pub way: u16,
@@ -26,12 +30,15 @@ pub struct WalkPoint {
     pub start: usize,
 }
 
-// A word is put before the pieces that begin at a place, if there is one. Tells where they begin then.
+// A word is put before the pieces that begin at a place, if there is one. Tells where they begin
+// then.
 #[inline(always)]
 fn say(word: Option<u16>, byte: u8, room: &mut [ByteWord], start: usize) -> usize
     requires some { 0 < start }
     requires within { start ≤ length room.old }
-    ensures said { (words : List (List Part)) (w : List Part) → IsWord words word w → code_over words (drop result room.new) ≡ parts_code [] byte w ++ code_over words (drop start room.old) }
+    ensures said { (words : List (List Part)) (w : List Part) → IsWord words word w
+        → code_over words (drop result room.new)
+        ≡ parts_code [] byte w ++ code_over words (drop start room.old) }
     ensures before { result ≤ start }
     ensures one { start ≤ result + 1 }
     ensures length { length room.new ≡ length room.old }
@@ -61,11 +68,14 @@ fn stay(
     requires room { first.after ≤ first.start }
     requires within { first.start ≤ length room.old }
     ensures after { result.after ≤ first.after }
-    ensures other { 0 < result.after → IfSome (slice_get notes.now (result.after - 1)) (λ n. n.lists ≢ lists) }
+    ensures other { 0 < result.after
+        → IfSome (slice_get notes.now (result.after - 1)) (λ n. n.lists ≢ lists) }
     ensures room { result.after ≤ result.start }
     ensures within { result.start ≤ length room.new }
-    ensures walked { (s : Sheet) (ways : List (List Part)) (way : List Part) (x : List ByteWord) → split.way ≡ first.way → IsWayStep s ways first.way lists split
-        → HasWalked s ways (updates_of s notes.now) way first x (drop first.start room.old) → HasWalked s ways (updates_of s notes.now) way result x (drop result.start room.new) }
+    ensures walked { (s : Sheet) (ways : List (List Part)) (way : List Part) (x : List ByteWord)
+        → split.way ≡ first.way → IsWayStep s ways first.way lists split
+        → HasWalked s ways (updates_of s notes.now) way first x (drop first.start room.old)
+        → HasWalked s ways (updates_of s notes.now) way result x (drop result.start room.new) }
 {
     let mut place = first;
     'notes: while place.after > 0 {
@@ -83,7 +93,8 @@ fn stay(
     place
 }
 
-// Goes back along notes, as far as it is known what the way was. What is said is put before the pieces that are there.
+// Goes back along notes, as far as it is known what the way was. What is said is put before the
+// pieces that are there.
 #[inline(never)]
 fn walk_known(
     steps: &[WayStep],
@@ -96,7 +107,10 @@ fn walk_known(
     requires within { first.start ≤ length room.old }
     ensures room { result.after ≤ result.start }
     ensures within { result.start ≤ length room.new }
-    ensures walked { (s : Sheet) (ways : List (List Part)) (way : List Part) (x : List ByteWord) → All (IsStepIf s ways) steps.now → HasWalked s ways (updates_of s notes.now) way first x (drop first.start room.old) → HasWalked s ways (updates_of s notes.now) way result x (drop result.start room.new) }
+    ensures walked { (s : Sheet) (ways : List (List Part)) (way : List Part) (x : List ByteWord)
+        → All (IsStepIf s ways) steps.now
+        → HasWalked s ways (updates_of s notes.now) way first x (drop first.start room.old)
+        → HasWalked s ways (updates_of s notes.now) way result x (drop result.start room.new) }
 {
     let mut place = first;
     'notes: while place.after > 0 {
@@ -136,7 +150,10 @@ fn walk(
     ensures way { IfOk result (λ p. (to : List Part) × IsNumberedWay ways.new.lists p.way to) }
     ensures after { IfOk result (λ p. p.after ≤ length notes.now) }
     ensures within { IfOk result (λ p. p.start ≤ length room.new) }
-    ensures walked { IfOk result (λ p. (from : List Part) (x : List ByteWord) → HasWalked script.now ways.old.lists (updates_of script.now notes.now) from first x (drop first.start room.old) → HasWalked script.now ways.new.lists (updates_of script.now notes.now) from p x (drop p.start room.new)) }
+    ensures walked { IfOk result (λ p. (from : List Part) (x : List ByteWord)
+        → HasWalked script.now ways.old.lists (updates_of script.now notes.now) from first x
+        (drop first.start room.old) → HasWalked script.now ways.new.lists
+        (updates_of script.now notes.now) from p x (drop p.start room.new)) }
 {
     let mut place = first;
     'notes: while place.after > 0 && place.way != 0 {
@@ -165,7 +182,10 @@ fn read_old(
     reading: &mut Reading,
 ) -> Result<(), Memory>
     requires { after ≤ length notes.now }
-    ensures { OnOk result (AreOlds (part ∷ []) → spelled_back script.now.words reading.new.back.items ≡ value (registers_after (settled_of script.now base.now) (take after (updates_of script.now notes.now))) 0 part ++ spelled_back script.now.words reading.old.back.items) }
+    ensures { OnOk result (AreOlds (part ∷ [])
+        → spelled_back script.now.words reading.new.back.items ≡ value (registers_after
+        (settled_of script.now base.now) (take after (updates_of script.now notes.now))) 0 part
+        ++ spelled_back script.now.words reading.old.back.items) }
 {
     reading.pending.clear();
     match part {
@@ -189,7 +209,9 @@ fn read_way(
 ) -> Result<(), Memory>
     requires after { after ≤ length notes.now }
     requires olds { AreOlds way.now }
-    ensures { OnOk result (spelled_back script.now.words reading.new.back.items ≡ parts_code (registers_after (settled_of script.now base.now) (take after (updates_of script.now notes.now))) 0 way.now ++ spelled_back script.now.words reading.old.back.items) }
+    ensures { OnOk result (spelled_back script.now.words reading.new.back.items
+        ≡ parts_code (registers_after (settled_of script.now base.now) (take after (updates_of
+        script.now notes.now))) 0 way.now ++ spelled_back script.now.words reading.old.back.items) }
 {
     let mut left = way.len();
     while left > 0 {
@@ -223,7 +245,9 @@ fn pass_read(
     reading: &mut Reading,
     pieces: &mut Vec<ByteWord>,
 ) -> Result<(), Memory>
-    ensures { OnOk result (code_over script.now.words pieces.new.items ≡ code_over script.now.words pieces.old.items ++ parts_code (noted_by script.now base.now notes.now) byte (list_at script.now list)) }
+    ensures { OnOk result (code_over script.now.words pieces.new.items
+        ≡ code_over script.now.words pieces.old.items
+        ++ parts_code (noted_by script.now base.now notes.now) byte (list_at script.now list)) }
 {
     read_list(script, base, notes, list, byte, reading)?;
     hand_on(&mut reading.back, pieces)
@@ -243,7 +267,10 @@ fn pass_way(
 ) -> Result<(), Memory>
     requires after { after ≤ length notes.now }
     requires olds { AreOlds way.now }
-    ensures { OnOk result (code_over script.now.words pieces.new.items ≡ code_over script.now.words pieces.old.items ++ (parts_code (registers_after (settled_of script.now base.now) (take after (updates_of script.now notes.now))) 0 way.now ++ code_over script.now.words said.now)) }
+    ensures { OnOk result (code_over script.now.words pieces.new.items
+        ≡ code_over script.now.words pieces.old.items ++ (parts_code (registers_after
+        (settled_of script.now base.now) (take after (updates_of script.now notes.now))) 0 way.now
+        ++ code_over script.now.words said.now)) }
 {
     reading.back.clear();
     reading.back.extend_from_slice(said)?;
@@ -270,8 +297,11 @@ fn pass_rest(
     requires room { first.after ≤ first.start }
     requires within { first.start ≤ length room.old }
     ensures known { OnOk result (AreKnown script.now ways.new) }
-    ensures passed { OnOk result ((from : List Part) (x : List ByteWord) → HasWalked script.now ways.old.lists (updates_of script.now notes.now) from first x (drop first.start room.old)
-        → code_over script.now.words pieces.new.items ≡ code_over script.now.words pieces.old.items ++ (parts_code (noted_by script.now base.now notes.now) 0 from ++ code_over script.now.words x)) }
+    ensures passed { OnOk result ((from : List Part) (x : List ByteWord) → HasWalked script.now
+        ways.old.lists (updates_of script.now notes.now) from first x (drop first.start room.old)
+        → code_over script.now.words pieces.new.items
+        ≡ code_over script.now.words pieces.old.items ++ (parts_code
+        (noted_by script.now base.now notes.now) 0 from ++ code_over script.now.words x)) }
 {
     let place = walk(script, ways, notes, first, room)?;
     let said = &room[place.start..];
@@ -299,7 +329,10 @@ fn pass_split(
     requires split { (list : List Part) × IsSplit script.now.words ways.old.lists split list }
     requires room { length notes.now < length room.old }
     ensures known { OnOk result (AreKnown script.now ways.new) }
-    ensures passed { OnOk result ((list : List Part) → IsSplit script.now.words ways.old.lists split list → code_over script.now.words pieces.new.items ≡ code_over script.now.words pieces.old.items ++ parts_code (noted_by script.now base.now notes.now) byte list) }
+    ensures passed { OnOk result ((list : List Part)
+        → IsSplit script.now.words ways.old.lists split list
+        → code_over script.now.words pieces.new.items ≡ code_over script.now.words pieces.old.items
+        ++ parts_code (noted_by script.now base.now notes.now) byte list) }
 {
     let end = room.len();
     let start = say(split.word, byte, room, end);
@@ -351,7 +384,9 @@ pub fn pass_list(
 ) -> Result<(), Memory>
     requires known { AreKnown script.now ways.old }
     ensures known { OnOk result (AreKnown script.now ways.new) }
-    ensures passed { OnOk result (code_over script.now.words pieces.new.items ≡ code_over script.now.words pieces.old.items ++ parts_code (noted_by script.now base.now notes.now) byte (list_at script.now list)) }
+    ensures passed { OnOk result (code_over script.now.words pieces.new.items
+        ≡ code_over script.now.words pieces.old.items
+        ++ parts_code (noted_by script.now base.now notes.now) byte (list_at script.now list)) }
 {
     let Some(split) = ways.start(script, list)? else {
         return pass_read(script, base, notes, list, byte, reading, pieces);

@@ -1,11 +1,13 @@
 // Ways: old registers one behind the other, and what they were before an update.
 
-ghost use Rattle.std.specs.Prelude.{◌≡◌, ◌+◌, ◌^◌, ◌<◌, ◌≤◌, ◌++◌, ◌∷◌, [], List, All, IsTrue, IfOk, IfSome, OnOk, length, drop, false, true, get_or, Some};
+ghost use Rattle.std.specs.Prelude.{◌≡◌, ◌+◌, ◌^◌, ◌<◌, ◌≤◌, ◌++◌, ◌∷◌, [], List, All, IsTrue};
+ghost use Rattle.std.specs.Prelude.{IfOk, IfSome, OnOk, length, drop, false, true, get_or, Some};
 ghost use Rattle.kex_sst.specs.declared.parts.Part.{Part};
 ghost use Rattle.kex_sst.specs.Parts.{olds};
 ghost use Rattle.kex_script.specs.Pages.{KeepsItems};
 ghost use Rattle.kex_script.specs.Scripts.{IsWord, Sheet, change_at, list_at};
-ghost use Rattle.kex_runner.specs.Ways.{AreKnown, AreOlds, HasStart, HasStep, IsSplit, IsStart, IsWayStep, IsStepIf, IsNumberedWay, composition, split_in};
+ghost use Rattle.kex_runner.specs.Ways.{AreKnown, AreOlds, HasStart, HasStep, IsSplit, IsStart};
+ghost use Rattle.kex_runner.specs.Ways.{IsWayStep, IsStepIf, IsNumberedWay, composition, split_in};
 
 use kex_code::memory::Memory;
 use kex_script::interned::Interned;
@@ -16,7 +18,8 @@ use std::alloc::Global;
 // So many ways are kept at most.
 const MOST: usize = 16_384;
 
-// Where the rows of updates are longer than this, no ways are known: what is kept of each would be fetched from far.
+// Where the rows of updates are longer than this, no ways are known: what is kept of each would be
+// fetched from far.
 const NEAR: usize = 1 << 16;
 
 /// A list is a way, and then a word or none. `last` is the way's last register.
@@ -42,8 +45,8 @@ pub enum Form {
     Other,
 }
 
-/// What a way was before an update: its form, and the way and the word, as far as the form has them. Plain numbers, since one is read for
-/// each note.
+/// What a way was before an update: its form, and the way and the word, as far as the form has
+/// them. Plain numbers, since one is read for each note.
 #[derive(Clone, Copy, Debug, PartialEq, Eq)]
 pub struct WayStep {
     pub lists: u32,
@@ -54,7 +57,8 @@ pub struct WayStep {
     pub form: Form,
 }
 
-/// Ways by number, of which the first is empty, and what is known of them. Nothing rests on what is known: it may be let go at any time.
+/// Ways by number, of which the first is empty, and what is known of them. Nothing rests on what is
+/// known: it may be let go at any time.
 #[derive(Drop)]
 pub struct Ways {
     lists: Interned,
@@ -161,7 +165,8 @@ pub fn split_of(
 
 // A part is put behind parts, an old register as what an update gives it.
 fn put(script: &Script, lists: u32, part: Part, parts: &mut Vec<Part>) -> Result<(), Memory>
-    ensures { OnOk result (parts.new.items ≡ parts.old.items ++ composition (change_at script.now lists) (part ∷ [])) }
+    ensures { OnOk result (parts.new.items
+        ≡ parts.old.items ++ composition (change_at script.now lists) (part ∷ [])) }
 {
     match part {
         Part::Old(register) => {
@@ -256,7 +261,8 @@ impl WayStep {
 // The step of a way before an update, if it is kept.
 #[inline(always)]
 fn kept(steps: &[WayStep], way: u16, last: u32, lists: u32) -> Option<WayStep>
-    ensures step { IfSome result (λ x. (s : Sheet) (ways : List (List Part)) → All (IsStepIf s ways) steps.now → IfSome (split_in x) (λ y. IsWayStep s ways way lists y)) }
+    ensures step { IfSome result (λ x. (s : Sheet) (ways : List (List Part)) → All
+        (IsStepIf s ways) steps.now → IfSome (split_in x) (λ y. IsWayStep s ways way lists y)) }
     ensures kept { IfSome result (λ x. HasStep steps.now way last lists (split_in x)) }
 {
     let step = *steps.get(place_of(last, lists))?;
@@ -270,7 +276,8 @@ fn kept(steps: &[WayStep], way: u16, last: u32, lists: u32) -> Option<WayStep>
 /// What a way was before an update, as a way and a word, if that is known.
 #[inline(always)]
 pub fn known_step(steps: &[WayStep], way: u16, last: u32, lists: u32) -> Option<Split>
-    ensures { IfSome result (λ x. (s : Sheet) (ways : List (List Part)) → All (IsStepIf s ways) steps.now → IsWayStep s ways way lists x) }
+    ensures { IfSome result (λ x. (s : Sheet) (ways : List (List Part))
+        → All (IsStepIf s ways) steps.now → IsWayStep s ways way lists x) }
 {
     kept(steps, way, last, lists)?.split()
 }
@@ -279,7 +286,8 @@ impl Ways {
     /// Nothing is known but the empty way.
     pub fn new(alloc: Global, script: &Script) -> Result<Ways, Memory>
         ensures known { IfOk result (λ w. AreKnown script.now w) }
-        ensures room { IfOk result (λ w. length script.now.rows ≤ 2 ^ 16 → (length w.steps.items ≡ length script.now.rows) × (length w.starts.items ≡ length script.now.lists)) }
+        ensures room { IfOk result (λ w. length script.now.rows ≤ 2 ^ 16 → (length w.steps.items
+            ≡ length script.now.rows) × (length w.starts.items ≡ length script.now.lists)) }
     {
         let mut lists = Interned::new(alloc);
         lists.add(&[])?;
@@ -316,7 +324,8 @@ impl Ways {
     #[inline(always)]
     fn known_start(&self, list: u32) -> Option<WayStart>
         requires { 0 < list }
-        ensures split { IfSome result (λ x. (s : Sheet) → AreKnown s self.now → IfSome x.split (λ y. IsSplit s.words self.now.lists y (list_at s list))) }
+        ensures split { IfSome result (λ x. (s : Sheet) → AreKnown s self.now
+            → IfSome x.split (λ y. IsSplit s.words self.now.lists y (list_at s list))) }
         ensures kept { IfSome result (λ x. HasStart self.now.starts.items list x.split) }
     {
         let start = *self.starts.get(list as usize)?;
@@ -332,7 +341,8 @@ impl Ways {
     fn learn_start(&mut self, script: &Script, list: u32) -> Result<Option<Split>, Memory>
         requires known { AreKnown script.now self.old }
         ensures known { OnOk result (AreKnown script.now self.new) }
-        ensures split { IfOk result (λ o. IfSome o (λ x. IsSplit script.now.words self.new.lists x (list_at script.now list))) }
+        ensures split { IfOk result (λ o.
+            IfSome o (λ x. IsSplit script.now.words self.new.lists x (list_at script.now list))) }
         ensures learnt { IfOk result (λ o. HasStart self.new.starts.items list o) }
         ensures steps { self.new.steps ≡ self.old.steps }
     {
@@ -350,8 +360,10 @@ impl Ways {
     pub fn start(&mut self, script: &Script, list: u32) -> Result<Option<Split>, Memory>
         requires known { AreKnown script.now self.old }
         ensures known { OnOk result (AreKnown script.now self.new) }
-        ensures split { IfOk result (λ o. IfSome o (λ x. IsSplit script.now.words self.new.lists x (list_at script.now list))) }
-        ensures learnt { IfOk result (λ o. 0 < list → 0 < length self.new.steps.items → HasStart self.new.starts.items list o) }
+        ensures split { IfOk result (λ o.
+            IfSome o (λ x. IsSplit script.now.words self.new.lists x (list_at script.now list))) }
+        ensures learnt { IfOk result (λ o. 0 < list → 0 < length self.new.steps.items
+            → HasStart self.new.starts.items list o) }
     {
         if list == 0 || self.steps.is_empty() {
             return Ok(None);
@@ -375,7 +387,8 @@ impl Ways {
         requires way { (from : List Part) × IsNumberedWay self.old.lists way from }
         ensures known { OnOk result (AreKnown script.now self.new) }
         ensures kept { OnOk result (KeepsItems self.old.lists self.new.lists) }
-        ensures step { IfOk result (λ o. IfSome o (λ x. IsWayStep script.now self.new.lists way lists x)) }
+        ensures step { IfOk result (λ o.
+            IfSome o (λ x. IsWayStep script.now self.new.lists way lists x)) }
         ensures learnt { IfOk result (λ o. HasStep self.new.steps.items way last lists o) }
     {
         compose(
@@ -405,7 +418,8 @@ impl Ways {
         requires some { 0 < way }
         ensures known { OnOk result (AreKnown script.now self.new) }
         ensures kept { OnOk result (KeepsItems self.old.lists self.new.lists) }
-        ensures step { IfOk result (λ o. IfSome o (λ x. IsWayStep script.now self.new.lists way lists x)) }
+        ensures step { IfOk result (λ o.
+            IfSome o (λ x. IsWayStep script.now self.new.lists way lists x)) }
         ensures learnt { IfOk result (λ o. HasStep self.new.steps.items way last lists o) }
     {
         match kept(&self.steps, way, last, lists) {

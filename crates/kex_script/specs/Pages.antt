@@ -1,5 +1,6 @@
 -- What a script is written on: its lists and rows as far as they are, which only grow.
-use Rattle.std.specs.Prelude.{◌≡◌, ℕ, ◌+◌, ◌<◌, ◌≤◌, true, false, List, [], ◌++◌, Option, Some, None, ◌↔◌, get_or, slice_get, length, take, drop}
+use Rattle.std.specs.Prelude.{◌≡◌, ℕ, ◌+◌, ◌<◌, ◌≤◌, true, false, List, [], ◌++◌, Option, Some}
+use Rattle.std.specs.Prelude.{None, ◌↔◌, get_or, slice_get, length, take, drop}
 use Rattle.kex_sst.specs.declared.parts.Part.{Part}
 use Rattle.kex_sst.specs.declared.table.Transition.{Transition}
 use Rattle.kex_sst.specs.Parts.{Change, olds, olds_in}
@@ -35,7 +36,8 @@ pub record IsSegment (s : Segment) (parts : List Part) : Type 0 where
   pub plain : olds (drop s.start (take s.end parts)) ≡ []
 
 -- a list of this number, then an old register or none, then a word, are these parts
-pub record IsJoined (lists : List (List Part)) (number : ℕ) (old : Option ℕ) (word whole : List Part) : Type 0 where
+pub record IsJoined (lists : List (List Part)) (number : ℕ) (old : Option ℕ)
+    (word whole : List Part) : Type 0 where
   pub front : List Part
   pub before : slice_get lists number ≡ Some front
   pub shorter : length front < length whole
@@ -71,6 +73,7 @@ HasRowIf p e None = e.goes ≡ false
 HasRowIf p e (Some r) = HasRow p e r.target r.update
 
 -- the entries are those of these transitions, one for one
-pub record AreEntries (p : Pages) (entries : List Entry) (go : List (Option Transition)) : Type 0 where
+pub record AreEntries (p : Pages) (entries : List Entry)
+    (go : List (Option Transition)) : Type 0 where
   pub as_many : length entries ≡ length go
   pub each : (k : ℕ) → k < length go → HasRowIf p (get_or entries k no_entry) (get_or go k None)

@@ -1,5 +1,7 @@
--- Scripts: lists of parts by number, each also from its end; updates in rows of such numbers; and what each state does on each class.
-use Rattle.std.specs.Prelude.{◌≡◌, ℕ, zero, suc, ◌+◌, ◌*◌, ◌<◌, true, false, List, [], ◌∷◌, ◌++◌, Option, Some, None, ◌↔◌, get_or, slice_get, length}
+-- Scripts: lists of parts by number, each also from its end; updates in rows of such numbers; and
+-- what each state does on each class.
+use Rattle.std.specs.Prelude.{◌≡◌, ℕ, zero, suc, ◌+◌, ◌*◌, ◌<◌, true, false, List, [], ◌∷◌, ◌++◌}
+use Rattle.std.specs.Prelude.{Option, Some, None, ◌↔◌, get_or, slice_get, length}
 use Rattle.kex_byteset.specs.Classes.{class_count}
 use Rattle.kex_sst.specs.declared.parts.Part.{Part}
 use Rattle.kex_sst.specs.declared.parts.Part.TheVariants.{Old}
@@ -26,12 +28,17 @@ abbrev pub lists_from : Sheet → ℕ → ℕ → List (List Part)
 lists_from s k zero = []
 lists_from s k (suc n) = list_at s (get_or s.rows k 0) ∷ lists_from s (suc k) n
 
--- the update that stands in the rows at a place: how many registers it gives, what it passes on, and what it gives them
+-- the update that stands in the rows at a place: how many registers it gives, what it passes on,
+-- and what it gives them
 abbrev pub change_at : Sheet → ℕ → Change
-change_at s at = record { out = list_at s (get_or s.rows (suc at) 0); regs = lists_from s (suc (suc at)) (get_or s.rows at 0) }
+change_at s at = record {
+  out = list_at s (get_or s.rows (suc at) 0);
+  regs = lists_from s (suc (suc at)) (get_or s.rows at 0);
+}
 
 abbrev pub no_entry : Entry
-no_entry = record { goes = false; silent = false; fresh = false; target = 0; lists = 0; registers = 0 }
+no_entry =
+    record { goes = false; silent = false; fresh = false; target = 0; lists = 0; registers = 0 }
 
 -- what a state does on a class
 abbrev pub entry_at : Sheet → ℕ → ℕ → Entry
@@ -46,7 +53,8 @@ abbrev pub IsWord : List (List Part) → Option ℕ → List Part → Type 0
 IsWord words None w = w ≡ []
 IsWord words (Some n) w = slice_get words n ≡ Some w
 
--- a list is a shorter one, then an old register or none, then a word or none, in which no old register is read
+-- a list is a shorter one, then an old register or none, then a word or none, in which no old
+-- register is read
 pub record IsTail (words lists : List (List Part)) (x : Tail) (whole : List Part) : Type 0 where
   pub front : List Part
   pub before : slice_get lists x.before ≡ Some front
@@ -60,7 +68,8 @@ pub record IsTail (words lists : List (List Part)) (x : Tail) (whole : List Part
 pub record AreTails (words lists : List (List Part)) (tails : List Tail) : Type 0 where
   pub empty : slice_get lists 0 ≡ Some []
   pub as_many : length tails ≡ length lists
-  pub each : (k : ℕ) (x : Tail) → 0 < k → slice_get tails k ≡ Some x → IsTail words lists x (get_or lists k [])
+  pub each : (k : ℕ) (x : Tail) → 0 < k → slice_get tails k ≡ Some x
+      → IsTail words lists x (get_or lists k [])
 
 -- the entry has a target and an update
 pub record HasUpdate (s : Sheet) (e : Entry) (to : ℕ) (u : Change) : Type 0 where
@@ -76,9 +85,10 @@ abbrev pub IsEntryOf : Sheet → Entry → Option Transition → Type 0
 IsEntryOf s e None = e.goes ≡ false
 IsEntryOf s e (Some r) = HasUpdate s e r.target r.update
 
--- each state does on each class what the table does: nothing where that has no transition, and else it goes to the same target with lists
--- that are those of the update, part for part
+-- each state does on each class what the table does: nothing where that has no transition, and else
+-- it goes to the same target with lists that are those of the update, part for part
 pub record IsScriptOf (s : Sheet) (t : Transducer) : Type 0 where
   pub table : IsTable t
   pub initial : HasUpdate s s.initial 0 t.initial
-  pub entries : (state class : ℕ) → class < class_count t.classes → IsEntryOf s (entry_at s state class) (transition_of t state class)
+  pub entries : (state class : ℕ) → class < class_count t.classes
+      → IsEntryOf s (entry_at s state class) (transition_of t state class)

@@ -1,6 +1,7 @@
 // Lists of parts by number.
 
-ghost use Rattle.std.specs.Prelude.{◌≡◌, ◌∷◌, ◌++◌, length, [], Some, IfOk, OnOk, IfSome, get_or, slice_get};
+ghost use Rattle.std.specs.Prelude.{◌≡◌, ◌∷◌, ◌++◌, length, [], Some, IfOk, OnOk, IfSome, get_or};
+ghost use Rattle.std.specs.Prelude.{slice_get};
 ghost use Rattle.kex_script.specs.Pages.{KeepsItems};
 
 use indexmap::IndexMap;
@@ -10,7 +11,8 @@ use std::alloc::Global;
 use std::hash::{FoldHasher, Hasher};
 use std::marker::Model;
 
-/// Lists of parts by number. Equal ones are found by a hash of their parts; where two lists have one hash, the second isn't found again.
+/// Lists of parts by number. Equal ones are found by a hash of their parts; where two lists have
+/// one hash, the second isn't found again.
 #[derive(Drop)]
 pub struct Interned {
     alloc: Global,

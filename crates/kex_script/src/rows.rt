@@ -1,6 +1,7 @@
 // Rows of numbers, one behind the other.
 
-ghost use Rattle.std.specs.Prelude.{◌≡◌, ◌≤◌, ◌∷◌, ◌++◌, [], true, IfOk, IfSome, OnOk, length, take, drop};
+ghost use Rattle.std.specs.Prelude.{◌≡◌, ◌≤◌, ◌∷◌, ◌++◌, [], true, IfOk, IfSome, OnOk, length};
+ghost use Rattle.std.specs.Prelude.{take, drop};
 ghost use Rattle.kex_script.specs.Pages.{KeepsItems};
 
 use indexmap::IndexMap;
@@ -9,8 +10,8 @@ use std::alloc::Global;
 use std::hash::{FoldHasher, Hasher};
 use std::marker::Model;
 
-/// Rows of numbers, one behind the other, each known by its place. Equal ones are found by a hash of their numbers; where two rows have
-/// one hash, the first isn't found again.
+/// Rows of numbers, one behind the other, each known by its place. Equal ones are found by a hash
+/// of their numbers; where two rows have one hash, the first isn't found again.
 #[derive(Drop)]
 pub struct Rows {
     numbers: Vec<u32>,
@@ -73,7 +74,8 @@ impl Rows {
     // Where the row that begins at a place stands before it, if that is found.
     fn find(&self, at: usize) -> Option<u32>
         requires { at ≤ length self.now }
-        ensures { IfSome result (λ place. KeepsItems (drop at self.now) (drop place (take at self.now))) }
+        ensures { IfSome result (λ place.
+            KeepsItems (drop at self.now) (drop place (take at self.now))) }
     {
         let row = &self.numbers[at..];
         let place = *self.places.get(&hash_of(row))?;
@@ -85,7 +87,8 @@ impl Rows {
         }
     }
 
-    /// The row that begins at a place goes, where an equal one stands before it. Tells where it stands.
+    /// The row that begins at a place goes, where an equal one stands before it. Tells where it
+    /// stands.
     pub fn share(&mut self, at: u32) -> Result<u32, Memory>
         requires { at ≤ length self.old }
         ensures row { IfOk result (λ place. KeepsItems (drop at self.old) (drop place self.new)) }

@@ -1,6 +1,7 @@
 // The lists of a table's updates, and what each state does on each class of bytes.
 
-ghost use Rattle.std.specs.Prelude.{◌≡◌, ◌+◌, ◌*◌, ◌<◌, [], suc, false, Option, Some, None, IfOk, MatchOption, get_or, slice_get, length};
+ghost use Rattle.std.specs.Prelude.{◌≡◌, ◌+◌, ◌*◌, ◌<◌, [], suc, false, Option, Some, None, IfOk};
+ghost use Rattle.std.specs.Prelude.{MatchOption, get_or, slice_get, length};
 ghost use Rattle.kex_script.specs.Scripts.{IsScriptOf, IsTail, change_at, entry_at, list_at};
 
 use crate::writer::Writer;
@@ -10,7 +11,8 @@ use kex_sst::table::Table;
 use std::alloc::Global;
 use std::marker::Model;
 
-/// A list from its end: a word or none, before it an old register or none, and before that the list of this number, which is shorter.
+/// A list from its end: a word or none, before it an old register or none, and before that the list
+/// of this number, which is shorter.
 #[derive(Clone, Copy, Debug, PartialEq, Eq)]
 pub struct Tail {
     pub before: u32,
@@ -34,9 +36,10 @@ pub struct Entry {
     pub registers: u32,
 }
 
-/// The lists of a table's updates by number, each as parts and from its end, and the words that they end with; the updates, in rows: how
-/// many registers are given something, the number of the list that is passed on, and those of the registers; and for each state, and in
-/// it for each class, an entry.
+/// The lists of a table's updates by number, each as parts and from its end, and the words that
+/// they end with; the updates, in rows: how many registers are given something, the number of the
+/// list that is passed on, and those of the registers; and for each state, and in it for each
+/// class, an entry.
 #[derive(Drop)]
 pub struct Script {
     words: Vec<Parts>,
@@ -53,7 +56,16 @@ impl Model for Script {
 
     ghost Value = { Sheet };
 
-    ghost view = { λ s. record { words = s.words.items; lists = s.lists.items; tails = s.tails.items; rows = s.rows.items; initial = s.initial; entries = s.entries.items; width = s.width } };
+    ghost view = { λ s.
+        record {
+          words = s.words.items;
+          lists = s.lists.items;
+          tails = s.tails.items;
+          rows = s.rows.items;
+          initial = s.initial;
+          entries = s.entries.items;
+          width = s.width;
+        } };
 
     ghost invariant = { λ s. AreTails s.words.items s.lists.items s.tails.items };
 }
@@ -123,7 +135,8 @@ impl Script {
         number_at(&self.rows, lists as usize + 1)
     }
 
-    /// The number of the list that an update gives to a register; list 0, which is empty, where there is no such register.
+    /// The number of the list that an update gives to a register; list 0, which is empty, where
+    /// there is no such register.
     #[inline(always)]
     pub fn given(&self, lists: u32, register: usize) -> u32
         ensures { list_at self.now result ≡ get_or (change_at self.now lists).regs register [] }
@@ -163,7 +176,8 @@ impl Script {
     #[inline(always)]
     pub fn tail(&self, list: u32) -> Option<Tail>
         ensures empty { list_at self.now 0 ≡ [] }
-        ensures tail { MatchOption result (list_at self.now list ≡ []) (λ x. IsTail self.now.words self.now.lists x (list_at self.now list)) }
+        ensures tail { MatchOption result (list_at self.now list
+            ≡ []) (λ x. IsTail self.now.words self.now.lists x (list_at self.now list)) }
     {
         let tails = self.tails.as_slice();
         if list == 0 {
@@ -179,7 +193,14 @@ impl Script {
 impl Entry {
     /// No transition.
     pub fn none() -> Entry
-        ensures { result ≡ record { goes = false; silent = false; fresh = false; target = 0; lists = 0; registers = 0 } }
+        ensures { result ≡ record {
+          goes = false;
+          silent = false;
+          fresh = false;
+          target = 0;
+          lists = 0;
+          registers = 0;
+        } }
     {
         Entry {
             goes: false,

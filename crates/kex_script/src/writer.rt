@@ -1,11 +1,15 @@
 // Writes the lists of updates down, each once.
 
-ghost use Rattle.std.specs.Prelude.{◌≡◌, ◌+◌, ◌<◌, ◌≤◌, List, [], ◌∷◌, ◌++◌, Option, Some, None, true, false, IfOk, OnOk, IfSome, ◌↔◌, flat_map, length, get_or, slice_get, take, drop};
+ghost use Rattle.std.specs.Prelude.{◌≡◌, ◌+◌, ◌<◌, ◌≤◌, List, [], ◌∷◌, ◌++◌, Option, Some, None};
+ghost use Rattle.std.specs.Prelude.{true, false, IfOk, OnOk, IfSome, ◌↔◌, flat_map, length, get_or};
+ghost use Rattle.std.specs.Prelude.{slice_get, take, drop};
 ghost use Rattle.kex_sst.specs.Parts.{olds, olds_in};
 ghost use Rattle.kex_sst.specs.Tables.{Row};
 ghost use Rattle.kex_sst.specs.declared.table.Transition.{Transition};
 ghost use Rattle.kex_script.specs.Scripts.{IsWord};
-ghost use Rattle.kex_script.specs.Pages.{AreEntries, AreListsAt, AreSound, PagesGrow, HasRow, HasRowIf, IsJoined, IsListAt, IsRow, IsSegment, KeepsItems};
+ghost use Rattle.kex_script.specs.Pages.{AreEntries, AreListsAt, AreSound, PagesGrow, HasRow};
+ghost use Rattle.kex_script.specs.Pages.{HasRowIf, IsJoined, IsListAt, IsRow, IsSegment};
+ghost use Rattle.kex_script.specs.Pages.{KeepsItems};
 
 use crate::interned::Interned;
 use crate::rows::Rows;
@@ -30,7 +34,8 @@ impl Model for Writer {
 
     ghost Value = { Pages };
 
-    ghost view = { λ w. record { words = w.words; lists = w.lists; tails = w.tails.items; rows = w.rows } };
+    ghost view = { λ w.
+        record { words = w.words; lists = w.lists; tails = w.tails.items; rows = w.rows } };
 }
 
 // Whether a part is an old register.
@@ -211,7 +216,8 @@ impl Writer {
     // The numbers of lists are put behind the rows.
     fn put_all(&mut self, lists: &[Parts]) -> Result<(), Memory>
         requires sound { AreSound self.old }
-        ensures at { OnOk result (AreListsAt self.new (length self.old.rows) (length lists.now) lists.now) }
+        ensures at { OnOk result
+            (AreListsAt self.new (length self.old.rows) (length lists.now) lists.now) }
         ensures sound { OnOk result (AreSound self.new) }
         ensures grown { OnOk result (PagesGrow self.old self.new) }
     {
@@ -276,7 +282,9 @@ impl Writer {
     // The entries of a state are put behind others.
     fn state(&mut self, go: &[Option<Transition>], entries: &mut Vec<Entry>) -> Result<(), Memory>
         requires sound { AreSound self.old }
-        ensures entries { OnOk result ((before : List (Option Transition)) → AreEntries self.old entries.old.items before → AreEntries self.new entries.new.items (before ++ go.now)) }
+        ensures entries { OnOk result ((before : List (Option Transition))
+            → AreEntries self.old entries.old.items before
+            → AreEntries self.new entries.new.items (before ++ go.now)) }
         ensures sound { OnOk result (AreSound self.new) }
         ensures grown { OnOk result (PagesGrow self.old self.new) }
     {
@@ -290,7 +298,8 @@ impl Writer {
     /// The entries of all states, one state behind the other.
     pub fn entries(&mut self, alloc: Global, states: &[State]) -> Result<Vec<Entry>, Memory>
         requires sound { AreSound self.old }
-        ensures entries { IfOk result (λ es. AreEntries self.new es.items (flat_map (λ (s : Row). s.go) states.now)) }
+        ensures entries { IfOk result (λ es.
+            AreEntries self.new es.items (flat_map (λ (s : Row). s.go) states.now)) }
         ensures sound { OnOk result (AreSound self.new) }
         ensures grown { OnOk result (PagesGrow self.old self.new) }
     {

@@ -1,5 +1,6 @@
 -- What the text of a code means, as far as it is the text of a parse's code.
-use Rattle.std.specs.Prelude.{◌≡◌, ℕ, ◌<◌, ◌≤◌, ◌+◌, Bool, true, false, List, [], ◌∷◌, ◌++◌, ◌⊎◌, Option, Some, None, length, take}
+use Rattle.std.specs.Prelude.{◌≡◌, ℕ, ◌<◌, ◌≤◌, ◌+◌, Bool, true, false, List, [], ◌∷◌, ◌++◌, ◌⊎◌}
+use Rattle.std.specs.Prelude.{Option, Some, None, length, take}
 use Rattle.kex_code.specs.declared.symbol.Symbol.{Symbol}
 use Rattle.kex_code.specs.Codes.{Begins}
 use Rattle.kex_code.specs.Texts.{BeginsText, IsCode, text_of}
@@ -19,18 +20,23 @@ pub record IsBadByte (u : List ℕ) (k : ℕ) : Type 0 where
   pub before : BeginsText (take k u)
   pub bad : BeginsText (take (k + 1) u) → ⊥
 
--- by the codes that begin a parse's code, those that are a parse's whole code, and what is written for one
-module _ (BeginsParse : List Symbol → Type 0) (IsParse : List Symbol → Type 0) (Writes : List Symbol → List ℕ → Type 0) where
+-- by the codes that begin a parse's code, those that are a parse's whole code, and what is written
+-- for one
+module _ (BeginsParse : List Symbol → Type 0) (IsParse : List Symbol → Type 0)
+    (Writes : List Symbol → List ℕ → Type 0) where
   -- of the codes whose text stands at the front of u, and that begin a parse's code, the longest
   pub record LongestCode (u : List ℕ) (c : List Symbol) : Type 0 where
     pub code : IsCode c
     pub front : Begins u (text_of c)
     pub begins : BeginsParse c
-    pub longest : (d : List Symbol) → IsCode d → Begins u (text_of d) → BeginsParse d → length d ≤ length c
+    pub longest : (d : List Symbol) → IsCode d → Begins u (text_of d) → BeginsParse d
+        → length d ≤ length c
 
-  -- where u stops: at the first byte of the next whole symbol; or else at the byte with which no code's text begins
+  -- where u stops: at the first byte of the next whole symbol; or else at the byte with which no
+  -- code's text begins
   abbrev pub StopsIn : List ℕ → List Symbol → Option ℕ → Type 0
-  StopsIn u c (Some k) = (HasNext u c × (k ≡ length (text_of c))) ⊎ ((HasNext u c → ⊥) × IsBadByte u k)
+  StopsIn u c (Some k) = (HasNext u c × (k ≡ length (text_of c)))
+      ⊎ ((HasNext u c → ⊥) × IsBadByte u k)
   StopsIn u c None = (HasNext u c → ⊥) × BeginsText u
 
   -- c is performed of u, and u stops there, or nowhere
@@ -44,20 +50,32 @@ module _ (BeginsParse : List Symbol → Type 0) (IsParse : List Symbol → Type 
 
   -- at the end of u this text is written, and u is the text of a parse's whole code (true), or none
   abbrev pub ClosesPlayed : List ℕ → Bool → List ℕ → Type 0
-  ClosesPlayed u true text = (c : List Symbol) × PlaysOn u c None × (u ≡ text_of c) × IsParse c × Writes c text
-  ClosesPlayed u false text = (c : List Symbol) × PlaysOn u c None × (u ≡ text_of c → IsParse c → ⊥) × Writes c text
+  ClosesPlayed u true text = (c : List Symbol) × PlaysOn u c None × (u ≡ text_of c) × IsParse c
+      × Writes c text
+  ClosesPlayed u false text = (c : List Symbol) × PlaysOn u c None × (u ≡ text_of c → IsParse c → ⊥)
+      × Writes c text
 
   -- the answer on a text that is ended (true) or open, within a limit
   pub data Plays (limit : ℕ) : List ℕ → Bool → Answer → Type 0 where
-    bad_byte : {w : List ℕ} {e : Bool} {text : List ℕ} (c : List Symbol) (k : ℕ) → PlaysOn (take limit w) c (Some k) → Writes c text → Plays limit w e (stopped_answer text k at_byte)
-    too_long : {w : List ℕ} {e : Bool} {text : List ℕ} (c : List Symbol) → limit < length w → PlaysOn (take limit w) c None → Writes c text → Plays limit w e (stopped_answer text limit at_limit)
-    cut_off : {w text : List ℕ} (c : List Symbol) → length w ≤ limit → PlaysOn w c None → (w ≡ text_of c → IsParse c → ⊥) → Writes c text → Plays limit w true (stopped_answer text (length w) at_end)
-    whole : {w text : List ℕ} (c : List Symbol) → length w ≤ limit → PlaysOn w c None → w ≡ text_of c → IsParse c → Writes c text → Plays limit w true (record { text = text; ended = true; stop = None })
-    still_open : {w text : List ℕ} (c : List Symbol) → length w ≤ limit → PlaysOn w c None → Writes c text → Plays limit w false (record { text = text; ended = false; stop = None })
+    bad_byte : {w : List ℕ} {e : Bool} {text : List ℕ} (c : List Symbol) (k : ℕ)
+        → PlaysOn (take limit w) c (Some k) → Writes c text
+        → Plays limit w e (stopped_answer text k at_byte)
+    too_long : {w : List ℕ} {e : Bool} {text : List ℕ} (c : List Symbol) → limit < length w
+        → PlaysOn (take limit w) c None → Writes c text
+        → Plays limit w e (stopped_answer text limit at_limit)
+    cut_off : {w text : List ℕ} (c : List Symbol) → length w ≤ limit → PlaysOn w c None
+        → (w ≡ text_of c → IsParse c → ⊥) → Writes c text
+        → Plays limit w true (stopped_answer text (length w) at_end)
+    whole : {w text : List ℕ} (c : List Symbol) → length w ≤ limit → PlaysOn w c None
+        → w ≡ text_of c → IsParse c → Writes c text
+        → Plays limit w true (record { text = text; ended = true; stop = None })
+    still_open : {w text : List ℕ} (c : List Symbol) → length w ≤ limit → PlaysOn w c None
+        → Writes c text → Plays limit w false (record { text = text; ended = false; stop = None })
 
 -- what a run whose code begins with c writes as far as c goes
 abbrev pub WritesRun : Graph → List Symbol → List ℕ → Type 0
-WritesRun g c text = (ks : List (Step ℕ)) × IsRun g ks × Begins (code_of ks) c × (text ≡ (left_by g ks c).out)
+WritesRun g c text = (ks : List (Step ℕ)) × IsRun g ks × Begins (code_of ks) c
+    × (text ≡ (left_by g ks c).out)
 
 abbrev pub MachineActAnswers : Graph → ℕ → List ℕ → Bool → Answer → Type 0
 MachineActAnswers g limit w e a = Plays (BeginsRun g) (IsWholeCode g) (WritesRun g) limit w e a

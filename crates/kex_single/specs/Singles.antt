@@ -15,7 +15,8 @@ Single = BoundedPlan Graph
 module _ (g : Graph) where
   -- the text of what the survivors of w agree on
   abbrev pub SaysSharedCode : List ℕ → List ℕ → Type 0
-  SaysSharedCode w text = (c : List Symbol) × Agreed (node_moves g.nodes) g.start w c × (text ≡ text_of c)
+  SaysSharedCode w text = (c : List Symbol) × Agreed (node_moves g.nodes) g.start w c
+      × (text ≡ text_of c)
 
   -- the text of the greedy code of w
   abbrev pub MeansRunCode : List ℕ → List ℕ → Type 0
@@ -23,7 +24,8 @@ module _ (g : Graph) where
 
   -- the code of w, open or (true) ended, within a limit
   abbrev pub MachineCodeAnswers : ℕ → List ℕ → Bool → Answer → Type 0
-  MachineCodeAnswers limit w e a = Answers (IsViableFor g) SaysSharedCode (HasRun g) MeansRunCode limit w e a
+  MachineCodeAnswers limit w e a =
+      Answers (IsViableFor g) SaysSharedCode (HasRun g) MeansRunCode limit w e a
 
   abbrev pub SaysNoText : List ℕ → List ℕ → Type 0
   SaysNoText w text = text ≡ []
@@ -34,4 +36,5 @@ module _ (g : Graph) where
 
   -- whether w has a parse
   abbrev pub MachineTestAnswers : ℕ → List ℕ → Bool → Answer → Type 0
-  MachineTestAnswers limit w e a = Answers (IsViableFor g) SaysNoText (HasRun g) HasRunAlone limit w e a
+  MachineTestAnswers limit w e a =
+      Answers (IsViableFor g) SaysNoText (HasRun g) HasRunAlone limit w e a

@@ -1,5 +1,6 @@
 -- What a worker on one stage stands for, and how its machine takes a piece.
-use Rattle.std.specs.Prelude.{◌≡◌, ℕ, ◌<◌, ◌+◌, Bool, true, false, List, ◌++◌, Option, Some, None, length, take}
+use Rattle.std.specs.Prelude.{◌≡◌, ℕ, ◌<◌, ◌+◌, Bool, true, false, List, ◌++◌, Option, Some, None}
+use Rattle.std.specs.Prelude.{length, take}
 use Rattle.kex_code.specs.declared.symbol.Symbol.{Symbol}
 use Rattle.kex_code.specs.Texts.{text_of}
 use Rattle.kex_machine.specs.Nodes.{Graph}
@@ -10,10 +11,12 @@ use Rattle.kex_frontier.specs.declared.frontier.Ended.TheVariants.{Parsed, Cut}
 use Rattle.kex_frontier.specs.declared.matcher.Matched.{Matched}
 use Rattle.kex_frontier.specs.declared.matcher.Matched.TheVariants as match
 
--- the machine goes on from w over a piece, or up to the byte of this number, with which no parse begins
+-- the machine goes on from w over a piece, or up to the byte of this number, with which no parse
+-- begins
 abbrev pub MachineGoesOn : Graph → List ℕ → List ℕ → Option ℕ → Type 0
 MachineGoesOn g w piece None = IsViableFor g (w ++ piece)
-MachineGoesOn g w piece (Some k) = (k < length piece) × IsViableFor g (w ++ take k piece) × (IsViableFor g (w ++ take (k + 1) piece) → ⊥)
+MachineGoesOn g w piece (Some k) = (k < length piece) × IsViableFor g (w ++ take k piece)
+    × (IsViableFor g (w ++ take (k + 1) piece) → ⊥)
 
 -- the bytes that the machine was given
 abbrev pub given_of : List ℕ → List ℕ → Option ℕ → List ℕ

@@ -23,9 +23,13 @@ module _ (g : Graph) where
     good = λ w s m. m.0;
   }
 
-  pub answering : Answering (SaysViable (IsViableFor g) (SaysNoText g) (HasRun g) (HasRunAlone g)) (ClosesParsed (IsViableFor g) (SaysNoText g) (HasRun g) (HasRunAlone g)) (λ n w e a. MachineTestAnswers g n w e a)
-  answering = viable.answering (IsViableFor g) (SaysNoText g) (HasRun g) (HasRunAlone g) orderly (λ u s m. m.1) (λ u s t m k. m.2 ∙ sym k.2)
+  pub answering : Answering (SaysViable (IsViableFor g) (SaysNoText g) (HasRun g) (HasRunAlone g))
+      (ClosesParsed (IsViableFor g) (SaysNoText g) (HasRun g) (HasRunAlone g)) (λ n w e a.
+      MachineTestAnswers g n w e a)
+  answering = viable.answering (IsViableFor g) (SaysNoText g) (HasRun g) (HasRunAlone g) orderly
+      (λ u s m. m.1) (λ u s t m k. m.2 ∙ sym k.2)
 
   -- past the limit there is a stop
-  pub past : (n : ℕ) (w : List ℕ) (a : Answer) → MachineTestAnswers g n w false a → n < length w → IsSome a.stop
+  pub past : (n : ℕ) (w : List ℕ) (a : Answer) → MachineTestAnswers g n w false a → n < length w
+      → IsSome a.stop
   past n w a h lt = answering.past n w false a h lt

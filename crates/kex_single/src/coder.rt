@@ -1,6 +1,8 @@
 // The code of a stage's input.
 
-ghost use Rattle.std.specs.Prelude.{◌≡◌, ◌≤◌, ◌<◌, ◌+◌, ◌^◌, ◌++◌, ◌&&◌, not, [], ℕ, List, true, false, IfOk, IfSome, OnOk, IsTrue, IsOk, ◌↔◌, Some, None, Option, length};
+ghost use Rattle.std.specs.Prelude.{◌≡◌, ◌≤◌, ◌<◌, ◌+◌, ◌^◌, ◌++◌, ◌&&◌, not, [], ℕ, List, true};
+ghost use Rattle.std.specs.Prelude.{false, IfOk, IfSome, OnOk, IsTrue, IsOk, ◌↔◌, Some, None};
+ghost use Rattle.std.specs.Prelude.{Option, length};
 ghost use Rattle.kex_code.specs.declared.symbol.Symbol.{Symbol};
 ghost use Rattle.kex_code.specs.Texts.{text_of};
 ghost use Rattle.kex_machine.specs.Answers.{HasRun, IsSaid, IsViableFor};
@@ -8,7 +10,8 @@ ghost use Rattle.kex_frontier.specs.Frontiers.{IsFed, IsOver};
 ghost use Rattle.kex_frontier.specs.declared.frontier.Ended.{Ended};
 ghost use Rattle.kex_pipe.specs.Working.{ClosesParsed, SaysViable};
 ghost use Rattle.kex_single.specs.Singles.{MachineCodeAnswers, MeansRunCode, SaysSharedCode};
-ghost use Rattle.kex_single.specs.Standing.{CodeFollows, MachineGoesOn, given_of, is_parsed, place_of};
+ghost use Rattle.kex_single.specs.Standing.{CodeFollows, MachineGoesOn, given_of, is_parsed};
+ghost use Rattle.kex_single.specs.Standing.{place_of};
 ghost use Rattle.kex_single.specs.CodeLaws.{answering};
 
 use kex_code::memory::Memory;
@@ -24,8 +27,10 @@ use std::alloc::Global;
 fn read(oracle: &mut Frontier, piece: &[u8]) -> Result<Option<usize>, Memory>
     requires usable { IsTrue oracle.old.usable }
     requires open { oracle.old.ended ≡ false }
-    ensures reads { IfOk result (λ bad. (w : List ℕ) (c : List Symbol) → IsFed oracle.old w c → IsViableFor oracle.old.machine w
-        → MachineGoesOn oracle.old.machine w piece.now bad × IsFed oracle.new (given_of w piece.now bad) c) }
+    ensures reads { IfOk result (λ bad. (w : List ℕ) (c : List Symbol) → IsFed oracle.old w c
+        → IsViableFor oracle.old.machine w
+        → MachineGoesOn oracle.old.machine w piece.now bad
+        × IsFed oracle.new (given_of w piece.now bad) c) }
     ensures within { IfOk result (λ bad. IfSome bad (λ k. k < length piece.now)) }
     ensures machine { oracle.new.machine ≡ oracle.old.machine }
     ensures usable { IsTrue oracle.new.usable ↔ IsOk result }
@@ -45,8 +50,11 @@ fn read(oracle: &mut Frontier, piece: &[u8]) -> Result<Option<usize>, Memory>
 fn write_agreed(oracle: &mut Frontier, out: &mut Vec<u8>) -> Result<(), Memory>
     requires { IsTrue oracle.old.usable }
     ensures written { OnOk result (out.new.items ≡ out.old.items ++ text_of oracle.old.untaken) }
-    ensures fed { (w : List ℕ) (c : List Symbol) → IsFed oracle.old w c → IsFed oracle.new w (c ++ oracle.old.untaken) × IsSaid oracle.old.machine w (c ++ oracle.old.untaken) }
-    ensures over { (answer : Ended) (w : List ℕ) (c : List Symbol) → IsOver answer oracle.old w c → IsOver answer oracle.new w (c ++ oracle.old.untaken) }
+    ensures fed { (w : List ℕ) (c : List Symbol) → IsFed oracle.old w c
+        → IsFed oracle.new w (c ++ oracle.old.untaken)
+        × IsSaid oracle.old.machine w (c ++ oracle.old.untaken) }
+    ensures over { (answer : Ended) (w : List ℕ) (c : List Symbol) → IsOver answer oracle.old w c
+        → IsOver answer oracle.new w (c ++ oracle.old.untaken) }
     ensures machine { oracle.new.machine ≡ oracle.old.machine }
     ensures usable { IsTrue oracle.new.usable }
     ensures open { oracle.new.ended ≡ oracle.old.ended }
@@ -77,8 +85,8 @@ fn place_of(bad: Option<usize>, before: u64, length: usize) -> Option<u64>
     }
 }
 
-/// Writes the text of the code: what the surviving paths agree on as soon as it is agreed, and at the end the rest of the
-/// greedy code.
+/// Writes the text of the code: what the surviving paths agree on as soon as it is agreed, and at
+/// the end the rest of the greedy code.
 #[derive(Drop)]
 pub struct CodeWorker<'m> {
     oracle: Frontier<'m>,
@@ -96,9 +104,11 @@ impl<'m> Worker for CodeWorker<'m> {
 
     ghost machine = { λ s. s.oracle.machine };
 
-    ghost says = { λ g w at text. SaysViable (IsViableFor g) (SaysSharedCode g) (HasRun g) (MeansRunCode g) w at text };
+    ghost says = { λ g w at text.
+        SaysViable (IsViableFor g) (SaysSharedCode g) (HasRun g) (MeansRunCode g) w at text };
 
-    ghost closes = { λ g w parsed text. ClosesParsed (IsViableFor g) (SaysSharedCode g) (HasRun g) (MeansRunCode g) w parsed text };
+    ghost closes = { λ g w parsed text.
+        ClosesParsed (IsViableFor g) (SaysSharedCode g) (HasRun g) (MeansRunCode g) w parsed text };
 
     ghost gives = { λ g n w e a. MachineCodeAnswers g n w e a };
 
@@ -132,8 +142,8 @@ impl<'m> Worker for CodeWorker<'m> {
     }
 }
 
-/// The code of one stage's input: what the surviving paths agree on goes out as soon as it is agreed, and at the end the rest of
-/// the greedy code.
+/// The code of one stage's input: what the surviving paths agree on goes out as soon as it is
+/// agreed, and at the end the rest of the greedy code.
 #[derive(Drop)]
 pub struct Coder<'m> {
     within: Bounded<CodeWorker<'m>>,
@@ -142,7 +152,8 @@ pub struct Coder<'m> {
 impl<'m> Coder<'m> {
     /// A coder that has read nothing, and takes at most so many bytes.
     pub fn new(alloc: Global, machine: &'m Trimmed, max_input: u64) -> Result<Coder<'m>, Memory>
-        ensures plan { IfOk result (λ s. ⟦<Coder<'m> as Turn>⟧.plan s ≡ record { machine = machine.now; limit = max_input }) }
+        ensures plan { IfOk result (λ s. ⟦<Coder<'m> as Turn>⟧.plan s
+            ≡ record { machine = machine.now; limit = max_input }) }
         ensures stands { IfOk result (λ s. ⟦<Coder<'m> as Turn>⟧.stands s None) }
         ensures usable { IfOk result (λ s. IsTrue (⟦<Coder<'m> as Turn>⟧.is_usable s)) }
     {
@@ -170,7 +181,8 @@ impl<'m> Turn for Coder<'m> {
 
     ghost grows = { λ p w v e a b h k. (answering p.machine).grows p.limit w v e a b h k };
 
-    ghost stays = { λ p w v e a b h k some. (answering p.machine).stays p.limit w v e a b h k some };
+    ghost stays = { λ p w v e a b h k some.
+        (answering p.machine).stays p.limit w v e a b h k some };
 
     ghost ends = { λ p w e a h. (answering p.machine).ends p.limit w e a h };
 

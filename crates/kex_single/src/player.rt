@@ -1,6 +1,8 @@
 // What the text of a code means.
 
-ghost use Rattle.std.specs.Prelude.{◌≡◌, ◌≤◌, ◌<◌, ◌+◌, ◌-◌, ◌^◌, ◌++◌, ◌∷◌, ◌&&◌, [], ℕ, List, true, IfOk, IfSome, OnOk, IsTrue, IsOk, ◌↔◌, min, take, None, length};
+ghost use Rattle.std.specs.Prelude.{◌≡◌, ◌≤◌, ◌<◌, ◌+◌, ◌-◌, ◌^◌, ◌++◌, ◌∷◌, ◌&&◌, [], ℕ, List};
+ghost use Rattle.std.specs.Prelude.{true, IfOk, IfSome, OnOk, IsTrue, IsOk, ◌↔◌, min, take, None};
+ghost use Rattle.std.specs.Prelude.{length};
 ghost use Rattle.kex_code.specs.declared.symbol.Symbol.{Symbol};
 ghost use Rattle.kex_code.specs.Texts.{text_of};
 ghost use Rattle.kex_action.specs.Actors.{BeginsRun, IsWholeCode};
@@ -41,11 +43,13 @@ fn size_on(count: u64, symbols: &[Symbol]) -> u64
     total
 }
 
-// Reads a piece of the text, up to the byte with which no code's text begins, and tells the number of that byte.
+// Reads a piece of the text, up to the byte with which no code's text begins, and tells the number
+// of that byte.
 fn read(reader: &mut CodeReader, piece: &[u8], code: &mut Code) -> Result<Option<u64>, Memory>
     requires usable { IsTrue reader.old.usable }
     requires fits { reader.old.good + length piece.now < 2 ^ 64 }
-    ensures reads { IfOk result (λ bad. TakesText bad reader.old reader.new piece.now code.old code.new) }
+    ensures reads { IfOk result (λ bad.
+        TakesText bad reader.old reader.new piece.now code.old code.new) }
     ensures count { reader.new.good ≤ reader.old.good + length piece.now }
     ensures usable { IsTrue reader.new.usable ↔ IsOk result }
 {
@@ -56,10 +60,12 @@ fn read(reader: &mut CodeReader, piece: &[u8], code: &mut Code) -> Result<Option
     }
 }
 
-// Performs symbols, up to the one with which no parse's code begins, and tells the number of that symbol.
+// Performs symbols, up to the one with which no parse's code begins, and tells the number of that
+// symbol.
 fn perform(actor: &mut Actor, symbols: &[Symbol], out: &mut Vec<u8>) -> Result<Option<u64>, Memory>
     requires { IsTrue actor.old.usable }
-    ensures performs { IfOk result (λ refused. RefusesSymbol refused actor.old actor.new symbols.now out.old.items out.new.items) }
+    ensures performs { IfOk result (λ refused.
+        RefusesSymbol refused actor.old actor.new symbols.now out.old.items out.new.items) }
     ensures within { IfOk result (λ refused. IfSome refused (λ i. i < length symbols.now)) }
     ensures machine { actor.new.machine ≡ actor.old.machine }
     ensures usable { IsTrue actor.new.usable ↔ IsOk result }
@@ -82,10 +88,11 @@ fn bad_at(refused: Option<u64>, bad: Option<u64>, size: u64, symbols: &[Symbol])
     }
 }
 
-/// Writes what the text of a code means: what it says of the symbols that are whole goes out as soon as they are.
+/// Writes what the text of a code means: what it says of the symbols that are whole goes out as
+/// soon as they are.
 ///
-/// It is stopped at the first byte of the next whole symbol with which the code begins no parse's; or else at the byte with
-/// which the text begins no code's.
+/// It is stopped at the first byte of the next whole symbol with which the code begins no parse's;
+/// or else at the byte with which the text begins no code's.
 #[derive(Drop)]
 pub struct PlayWorker<'m> {
     alloc: Global,
@@ -116,9 +123,11 @@ impl<'m> Worker for PlayWorker<'m> {
 
     ghost machine = { λ s. s.actor.machine };
 
-    ghost says = { λ g u at text. SaysPlayed (BeginsRun g) (IsWholeCode g) (WritesRun g) u at text };
+    ghost says = { λ g u at text.
+        SaysPlayed (BeginsRun g) (IsWholeCode g) (WritesRun g) u at text };
 
-    ghost closes = { λ g u parsed text. ClosesPlayed (BeginsRun g) (IsWholeCode g) (WritesRun g) u parsed text };
+    ghost closes = { λ g u parsed text.
+        ClosesPlayed (BeginsRun g) (IsWholeCode g) (WritesRun g) u parsed text };
 
     ghost gives = { λ g n w e a. MachineActAnswers g n w e a };
 
@@ -159,7 +168,8 @@ impl<'m> Worker for PlayWorker<'m> {
     }
 }
 
-/// What the text of a code means in one stage: what it says of the symbols that are whole goes out as soon as they are.
+/// What the text of a code means in one stage: what it says of the symbols that are whole goes out
+/// as soon as they are.
 #[derive(Drop)]
 pub struct Player<'m> {
     within: Bounded<PlayWorker<'m>>,
@@ -168,7 +178,8 @@ pub struct Player<'m> {
 impl<'m> Player<'m> {
     /// A player that has read nothing, and takes at most so many bytes of text.
     pub fn new(alloc: Global, machine: &'m Trimmed, max_input: u64) -> Result<Player<'m>, Memory>
-        ensures plan { IfOk result (λ s. ⟦<Player<'m> as Turn>⟧.plan s ≡ record { machine = machine.now; limit = max_input }) }
+        ensures plan { IfOk result (λ s. ⟦<Player<'m> as Turn>⟧.plan s
+            ≡ record { machine = machine.now; limit = max_input }) }
         ensures stands { IfOk result (λ s. ⟦<Player<'m> as Turn>⟧.stands s None) }
         ensures usable { IfOk result (λ s. IsTrue (⟦<Player<'m> as Turn>⟧.is_usable s)) }
     {
@@ -196,7 +207,8 @@ impl<'m> Turn for Player<'m> {
 
     ghost grows = { λ p w v e a b h k. (answering p.machine).grows p.limit w v e a b h k };
 
-    ghost stays = { λ p w v e a b h k some. (answering p.machine).stays p.limit w v e a b h k some };
+    ghost stays = { λ p w v e a b h k some.
+        (answering p.machine).stays p.limit w v e a b h k some };
 
     ghost ends = { λ p w e a h. (answering p.machine).ends p.limit w e a h };
 

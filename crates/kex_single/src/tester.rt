@@ -43,13 +43,16 @@ impl<'m> Worker for TestWorker<'m> {
 
     ghost machine = { λ s. s.matcher.machine };
 
-    ghost says = { λ g w at text. SaysViable (IsViableFor g) (SaysNoText g) (HasRun g) (HasRunAlone g) w at text };
+    ghost says = { λ g w at text.
+        SaysViable (IsViableFor g) (SaysNoText g) (HasRun g) (HasRunAlone g) w at text };
 
-    ghost closes = { λ g w parsed text. ClosesParsed (IsViableFor g) (SaysNoText g) (HasRun g) (HasRunAlone g) w parsed text };
+    ghost closes = { λ g w parsed text.
+        ClosesParsed (IsViableFor g) (SaysNoText g) (HasRun g) (HasRunAlone g) w parsed text };
 
     ghost gives = { λ g n w e a. MachineTestAnswers g n w e a };
 
-    ghost follows = { λ s w text. WasFed s.matcher w × IsViableFor s.matcher.machine w × (text ≡ []) };
+    ghost follows = { λ s w text. WasFed s.matcher w × IsViableFor s.matcher.machine w
+        × (text ≡ []) };
 
     ghost is_ready = { λ s. true };
 
@@ -82,7 +85,8 @@ pub struct Tester<'m> {
 impl<'m> Tester<'m> {
     /// A tester that has read nothing, and takes at most so many bytes.
     pub fn new(alloc: Global, machine: &'m Trimmed, max_input: u64) -> Result<Tester<'m>, Memory>
-        ensures plan { IfOk result (λ s. ⟦<Tester<'m> as Turn>⟧.plan s ≡ record { machine = machine.now; limit = max_input }) }
+        ensures plan { IfOk result (λ s. ⟦<Tester<'m> as Turn>⟧.plan s
+            ≡ record { machine = machine.now; limit = max_input }) }
         ensures stands { IfOk result (λ s. ⟦<Tester<'m> as Turn>⟧.stands s None) }
         ensures usable { IfOk result (λ s. IsTrue (⟦<Tester<'m> as Turn>⟧.is_usable s)) }
     {
@@ -110,7 +114,8 @@ impl<'m> Turn for Tester<'m> {
 
     ghost grows = { λ p w v e a b h k. (answering p.machine).grows p.limit w v e a b h k };
 
-    ghost stays = { λ p w v e a b h k some. (answering p.machine).stays p.limit w v e a b h k some };
+    ghost stays = { λ p w v e a b h k some.
+        (answering p.machine).stays p.limit w v e a b h k some };
 
     ghost ends = { λ p w e a h. (answering p.machine).ends p.limit w e a h };
 

@@ -31,7 +31,8 @@ puts (s ∷ c) = Put s ∷ puts c
 -- the tree of this shape whose labels are registers, in preorder from k on
 abbrev pub numbered_tree : ℕ → Shape ℕ → Labelled Part ℕ
 numbered_tree k (place p) = tip p
-numbered_tree k (parts l r) = fork (Old k ∷ []) (numbered_tree (suc k) l) (Old (k + size_of l) ∷ []) (numbered_tree (suc (k + size_of l)) r)
+numbered_tree k (parts l r) = fork (Old k ∷ []) (numbered_tree (suc k) l) (Old (k + size_of l) ∷ [])
+    (numbered_tree (suc (k + size_of l)) r)
 
 -- the old registers in a list of parts
 abbrev pub olds : List Part → List ℕ
@@ -91,7 +92,8 @@ pub record IsUpdate (from to : ℕ) (u : Change) : Type 0 where
   pub within : (i : ℕ) → IsAmong (reads_of u) i → i < from
   pub choices : EachPart PutsChoice u
 
--- what stands on the way to a leaf of a state with so many registers: each of them at most once, and no byte that is read
+-- what stands on the way to a leaf of a state with so many registers: each of them at most once,
+-- and no byte that is read
 pub record IsWay (count : ℕ) (way : List Part) : Type 0 where
   pub once : Different (olds way)
   pub within : (i : ℕ) → IsAmong (olds way) i → i < count

@@ -14,7 +14,11 @@ pub record Pass : Type 0 where
 
 -- what an update leaves, with the byte that is read
 abbrev pub pass_after : Change → ℕ → Pass → ℕ → Pass
-pass_after u b p target = record { state = target; code = p.code ++ parts_code p.registers b u.out; registers = map (λ xs. parts_code p.registers b xs) u.regs }
+pass_after u b p target = record {
+  state = target;
+  code = p.code ++ parts_code p.registers b u.out;
+  registers = map (λ xs. parts_code p.registers b xs) u.regs;
+}
 
 -- before the first byte
 abbrev pub first_pass : Change → Pass
@@ -37,7 +41,8 @@ passes_if t None w = None
 passes_if t (Some p) [] = Some p
 passes_if t (Some p) (b ∷ w) = passes_if t (next_pass (next_of t p.state b) b p) w
 
--- the state after a text, what was passed on, and the registers; none from the first byte on for which there is no transition
+-- the state after a text, what was passed on, and the registers; none from the first byte on for
+-- which there is no transition
 abbrev pub passes : Transducer → List ℕ → Option Pass
 passes t w = passes_if t (Some (first_pass t.initial)) w
 

@@ -33,7 +33,8 @@ abbrev pub IsWayIf : ℕ → Option (List Part) → Type 0
 IsWayIf count None = Unit {0}
 IsWayIf count (Some way) = IsWay count way
 
--- an update from so many registers leads to a state of the list, with as many lists as that has registers
+-- an update from so many registers leads to a state of the list, with as many lists as that has
+-- registers
 pub record LeadsTo (states : List Row) (from target : ℕ) (u : Change) : Type 0 where
   pub row : Row
   pub at : slice_get states target ≡ Some row
@@ -43,9 +44,11 @@ pub record LeadsTo (states : List Row) (from target : ℕ) (u : Change) : Type 0
 pub record IsTableState (classes : List ℕ) (states : List Row) (s : Row) : Type 0 where
   pub long : length s.go ≡ class_count classes
   pub ends : IsWayIf s.registers s.accepting
-  pub goes : (class : ℕ) (r : Transition) → slice_get s.go class ≡ Some (Some r) → LeadsTo states s.registers r.target r.update
+  pub goes : (class : ℕ) (r : Transition) → slice_get s.go class ≡ Some (Some r)
+      → LeadsTo states s.registers r.target r.update
 
--- all numbers are in range, no update uses an old register twice, and there is one before the first byte, of symbols alone
+-- all numbers are in range, no update uses an old register twice, and there is one before the first
+-- byte, of symbols alone
 pub record IsTable (t : Transducer) : Type 0 where
   pub numbered : IsNumbered t.classes
   pub begins : LeadsTo t.states 0 0 t.initial

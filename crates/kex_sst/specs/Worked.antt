@@ -17,6 +17,12 @@ many_a = record {
   states = record {
     registers = 2;
     accepting = Some (Old 1 ∷ []);
-    go = None ∷ Some (record { target = 0; update = record { out = Old 0 ∷ Input ∷ []; regs = (Put L ∷ []) ∷ (Put R ∷ []) ∷ [] } }) ∷ [];
+    go = None ∷ Some (record {
+      target = 0;
+      update = record {
+        out = Old 0 ∷ Input ∷ [];
+        regs = (Put L ∷ []) ∷ (Put R ∷ []) ∷ [];
+      };
+    }) ∷ [];
   } ∷ [];
 }

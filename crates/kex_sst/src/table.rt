@@ -16,8 +16,8 @@ pub struct Transition {
     pub update: SharedUpdate,
 }
 
-/// A state: how many registers it has, those on the way to the leaf at which a text may end, if there is one, and for each
-/// class of bytes its transition, if a byte of the class can come.
+/// A state: how many registers it has, those on the way to the leaf at which a text may end, if
+/// there is one, and for each class of bytes its transition, if a byte of the class can come.
 #[derive(Drop)]
 pub struct State {
     registers: u32,
@@ -30,7 +30,8 @@ impl Model for State {
 
     ghost Value = { Row };
 
-    ghost view = { λ s. record { registers = s.registers; accepting = s.accepting; go = s.go.items } };
+    ghost view = { λ s.
+        record { registers = s.registers; accepting = s.accepting; go = s.go.items } };
 }
 
 impl State {
@@ -54,7 +55,8 @@ impl State {
 
     /// What stands on the way to the leaf at which a text may end, if there is one.
     pub fn accepting(&self) -> Option<&Parts>
-        ensures { MatchOption result (self.now.accepting ≡ None) (λ parts. self.now.accepting ≡ Some parts.now) }
+        ensures { MatchOption result (self.now.accepting ≡ None) (λ parts. self.now.accepting
+            ≡ Some parts.now) }
     {
         self.accepting.as_ref()
     }
@@ -67,7 +69,8 @@ impl State {
     }
 }
 
-/// States by number, from the first, with the classes of bytes and the update before the first byte.
+/// States by number, from the first, with the classes of bytes and the update before the first
+/// byte.
 #[derive(Drop)]
 pub struct Table {
     partition: Partition,
@@ -80,16 +83,20 @@ impl Model for Table {
 
     ghost Value = { Transducer };
 
-    ghost view = { λ t. record { classes = t.partition; initial = t.initial; states = t.states.items } };
+    ghost view = { λ t.
+        record { classes = t.partition; initial = t.initial; states = t.states.items } };
 
-    ghost invariant = { λ t. IsTable (record { classes = t.partition; initial = t.initial; states = t.states.items }) };
+    ghost invariant = { λ t.
+        IsTable (record { classes = t.partition; initial = t.initial; states = t.states.items }) };
 }
 
 impl Table {
     /// The table of these parts, which are moved.
     pub fn new(partition: Partition, initial: Update, states: Vec<State>) -> Table
-        requires { IsTable (record { classes = partition; initial = initial; states = states.items }) }
-        ensures { result ≡ record { classes = partition; initial = initial; states = states.items } }
+        requires { IsTable
+            (record { classes = partition; initial = initial; states = states.items }) }
+        ensures { result
+            ≡ record { classes = partition; initial = initial; states = states.items } }
     {
         Table {
             partition,
@@ -126,7 +133,8 @@ impl Table {
     pub fn next(&self, state: u32, class: u8) -> Option<(u32, &Update)>
         requires state { state < length self.now.states }
         requires class { class < class_count self.now.classes }
-        ensures { MatchOption result (transition_of self.now state class ≡ None) (λ r. transition_of self.now state class ≡ Some (record { target = r.0; update = r.1.now })) }
+        ensures { MatchOption result (transition_of self.now state class ≡ None) (λ r.
+            transition_of self.now state class ≡ Some (record { target = r.0; update = r.1.now })) }
     {
         let state = &self.states[state as usize];
         match &state.go[usize::from(class)] {

@@ -1,5 +1,7 @@
--- What an oracle stands for, whether it goes by paths or by a table: the bytes that it was fed, and the code that it has told.
-use Rattle.std.specs.Prelude.{◌≡◌, ℕ, ◌<◌, ◌≤◌, ◌+◌, Bool, true, false, IsTrue, List, ◌++◌, length, take}
+-- What an oracle stands for, whether it goes by paths or by a table: the bytes that it was fed, and
+-- the code that it has told.
+use Rattle.std.specs.Prelude.{◌≡◌, ℕ, ◌<◌, ◌≤◌, ◌+◌, Bool, true, false, IsTrue, List, ◌++◌, length}
+use Rattle.std.specs.Prelude.{take}
 use Rattle.kex_code.specs.declared.symbol.Symbol.{Symbol}
 use Rattle.kex_code.specs.Codes.{Begins, bytes_of}
 use Rattle.kex_model.specs.Moves.{Step, code_of}
@@ -17,7 +19,8 @@ use Rattle.kex_stage.specs.declared.oracle.Oracle.TheVariants.{Paths, Table}
 -- the oracle was fed w, and has told c
 abbrev pub Hears : Graph → Oracle → List ℕ → List Symbol → Type 0
 Hears g (Paths p) w c = (p.frontier.machine ≡ g) × IsFed p.frontier w c
-Hears g (Table f) w c = IsTrimmed g × IsTableOf g f.runner.table × (f.moves.table ≡ f.runner.table) × runs.IsRunOf f.runner w c
+Hears g (Table f) w c = IsTrimmed g × IsTableOf g f.runner.table × (f.moves.table ≡ f.runner.table)
+    × runs.IsRunOf f.runner w c
 
 -- how many good bytes it has read
 abbrev pub read_of : Oracle → ℕ
@@ -55,18 +58,21 @@ pub record Agrees (g : Graph) (w : List ℕ) (c : List Symbol) : Type 0 where
   pub reads : Begins (bytes_of (code_of run)) w
 
 -- of a piece behind w so many bytes are good; where that is all of it, c is told
-pub record HearsOn (g : Graph) (o : Oracle) (w piece : List ℕ) (count : ℕ) (c : List Symbol) : Type 0 where
+pub record HearsOn (g : Graph) (o : Oracle) (w piece : List ℕ) (count : ℕ)
+    (c : List Symbol) : Type 0 where
   pub hears : count ≡ length piece → Hears g o (w ++ piece) c
   pub good : IsViableFor g (w ++ take count piece)
   pub bad : count < length piece → ¬ IsViableFor g (w ++ take (count + 1) piece)
   pub agrees : Agrees g (w ++ take count piece) c
 
 -- the oracle was fed a piece, and has told what is agreed
-pub record Tells (old new : Oracle) (piece : List ℕ) (count : ℕ) (before after : List Symbol) : Type 0 where
+pub record Tells (old new : Oracle) (piece : List ℕ) (count : ℕ)
+    (before after : List Symbol) : Type 0 where
   pub more : List Symbol
   pub code : after ≡ before ++ more
   pub within : count ≤ length piece
-  pub tells : (g : Graph) (w : List ℕ) (c : List Symbol) → Hears g old w c → IsViableFor g w → HearsOn g new w piece count (c ++ more)
+  pub tells : (g : Graph) (w : List ℕ) (c : List Symbol) → Hears g old w c → IsViableFor g w
+      → HearsOn g new w piece count (c ++ more)
 
 -- what the end shows behind w: a parse, of which c is the greedy code, or none
 abbrev pub ShowsEnd : Bool → Graph → List ℕ → List Symbol → Type 0
@@ -77,17 +83,22 @@ ShowsEnd false g w c = (¬ HasRun g w) × Agrees g w c
 pub record TellsEnd (parsed : Bool) (old : Oracle) (before after : List Symbol) : Type 0 where
   pub more : List Symbol
   pub code : after ≡ before ++ more
-  pub tells : (g : Graph) (w : List ℕ) (c : List Symbol) → Hears g old w c → IsViableFor g w → ShowsEnd parsed g w (c ++ more)
+  pub tells : (g : Graph) (w : List ℕ) (c : List Symbol) → Hears g old w c → IsViableFor g w
+      → ShowsEnd parsed g w (c ++ more)
 
--- going by paths, so many bytes of a piece behind w are good: the frontier was fed them, and the byte behind them, if there is one
-pub record ReadsOn (f : Front) (g : Graph) (w piece : List ℕ) (count : ℕ) (c : List Symbol) : Type 0 where
+-- going by paths, so many bytes of a piece behind w are good: the frontier was fed them, and the
+-- byte behind them, if there is one
+pub record ReadsOn (f : Front) (g : Graph) (w piece : List ℕ) (count : ℕ)
+    (c : List Symbol) : Type 0 where
   pub good : IsViableFor g (w ++ take count piece)
   pub survivor : HasSurvivor g (w ++ take count piece)
   pub all : count ≡ length piece → IsFed f (w ++ piece) c
-  pub bad : count < length piece → (¬ IsViableFor g (w ++ take (count + 1) piece)) × IsFed f (w ++ take (count + 1) piece) c
+  pub bad : count < length piece → (¬ IsViableFor g (w ++ take (count + 1) piece))
+      × IsFed f (w ++ take (count + 1) piece) c
 
 abbrev pub OracleReads : Front → Front → List ℕ → ℕ → Type 0
-OracleReads old new piece count = (w : List ℕ) (c : List Symbol) → IsFed old w c → IsViableFor old.machine w → ReadsOn new old.machine w piece count c
+OracleReads old new piece count = (w : List ℕ) (c : List Symbol) → IsFed old w c
+    → IsViableFor old.machine w → ReadsOn new old.machine w piece count c
 
 abbrev pub is_parsed : Ended → Bool
 is_parsed Parsed = true

@@ -17,7 +17,8 @@ StagePlan = BoundedPlan Graph
 abbrev pub Gives : StagePlan → List ℕ → Bool → Answer → Type 0
 Gives p w e a = MachineAnswers p.machine p.limit w e a
 
--- the oracle was fed w, with which a parse begins, and the actor has performed what it told, which has written this
+-- the oracle was fed w, with which a parse begins, and the actor has performed what it told, which
+-- has written this
 pub record StageFollows (o : Oracle) (a : Position) (w out : List ℕ) : Type 0 where
   pub followed : Followed a.machine o a w out
   pub count : read_of o ≡ length w

@@ -5,6 +5,9 @@ use Rattle.kex_stage.specs.declared.oracle.Oracle.{Oracle}
 use Rattle.kex_stage.specs.Works.{StageGoes, StageWorks}
 
 -- a byte was refused behind so many, or so many were good
-abbrev pub HasGone : Bool → Oracle → Oracle → Position → Position → List ℕ → ℕ → List ℕ → List ℕ → Type 0
-HasGone true old new a b piece count before after = (count < length piece) × StageWorks old new a b piece count before after
-HasGone false old new a b piece count before after = StageGoes old new a b (take count piece) before after
+abbrev pub HasGone : Bool → Oracle → Oracle → Position → Position → List ℕ → ℕ → List ℕ → List ℕ
+    → Type 0
+HasGone true old new a b piece count before after = (count < length piece)
+    × StageWorks old new a b piece count before after
+HasGone false old new a b piece count before after =
+    StageGoes old new a b (take count piece) before after

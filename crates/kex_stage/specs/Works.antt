@@ -14,8 +14,10 @@ pub record Followed (g : Graph) (o : Oracle) (a : Position) (w out : List ℕ) :
   pub performed : HasPerformed a code code out
   pub machine : a.machine ≡ g
 
--- of a piece behind w, on which text was written, so many bytes are good, and what is said is written
-pub record WorksOn (g : Graph) (o : Oracle) (a : Position) (w text piece : List ℕ) (count : ℕ) (before after : List ℕ) : Type 0 where
+-- of a piece behind w, on which text was written, so many bytes are good, and what is said is
+-- written
+pub record WorksOn (g : Graph) (o : Oracle) (a : Position) (w text piece : List ℕ) (count : ℕ)
+    (before after : List ℕ) : Type 0 where
   pub more : List ℕ
   pub written : after ≡ before ++ more
   pub followed : count ≡ length piece → Followed g o a (w ++ piece) (text ++ more)
@@ -24,27 +26,34 @@ pub record WorksOn (g : Graph) (o : Oracle) (a : Position) (w text piece : List 
   pub says : SaysByRun g (w ++ take count piece) (text ++ more)
 
 -- oracle and actor went along a piece, of which so many bytes are good
-pub record StageWorks (old new : Oracle) (a b : Position) (piece : List ℕ) (count : ℕ) (before after : List ℕ) : Type 0 where
+pub record StageWorks (old new : Oracle) (a b : Position) (piece : List ℕ) (count : ℕ)
+    (before after : List ℕ) : Type 0 where
   pub within : count ≤ length piece
-  pub works : (g : Graph) (w text : List ℕ) → Followed g old a w text → IsViableFor g w → WorksOn g new b w text piece count before after
+  pub works : (g : Graph) (w text : List ℕ) → Followed g old a w text → IsViableFor g w
+      → WorksOn g new b w text piece count before after
 
 -- bytes behind w are good, and more is written
-pub record GoesOn (g : Graph) (o : Oracle) (a : Position) (w text piece before after : List ℕ) : Type 0 where
+pub record GoesOn (g : Graph) (o : Oracle) (a : Position)
+    (w text piece before after : List ℕ) : Type 0 where
   pub more : List ℕ
   pub written : after ≡ before ++ more
   pub followed : Followed g o a (w ++ piece) (text ++ more)
   pub good : IsViableFor g (w ++ piece)
 
 -- oracle and actor went along good bytes
-pub record StageGoes (old new : Oracle) (a b : Position) (piece before after : List ℕ) : Type 0 where
-  pub goes : (g : Graph) (w text : List ℕ) → Followed g old a w text → IsViableFor g w → GoesOn g new b w text piece before after
+pub record StageGoes (old new : Oracle) (a b : Position)
+    (piece before after : List ℕ) : Type 0 where
+  pub goes : (g : Graph) (w text : List ℕ) → Followed g old a w text → IsViableFor g w
+      → GoesOn g new b w text piece before after
 
 -- at the end what w means is written, or what is said on it
 abbrev pub WritesEnd : Bool → Graph → List ℕ → List ℕ → Type 0
 WritesEnd true g w text = MeansByRun g w text
 WritesEnd false g w text = (¬ HasRun g w) × SaysByRun g w text
 
-pub record StageFinishes (parsed : Bool) (old : Oracle) (a : Position) (before after : List ℕ) : Type 0 where
+pub record StageFinishes (parsed : Bool) (old : Oracle) (a : Position)
+    (before after : List ℕ) : Type 0 where
   pub more : List ℕ
   pub written : after ≡ before ++ more
-  pub finishes : (g : Graph) (w out : List ℕ) → Followed g old a w out → IsViableFor g w → WritesEnd parsed g w (out ++ more)
+  pub finishes : (g : Graph) (w out : List ℕ) → Followed g old a w out → IsViableFor g w
+      → WritesEnd parsed g w (out ++ more)

@@ -12,8 +12,9 @@ use kex_script::piece::ByteWord;
 use kex_sst::table::Table;
 use std::alloc::Global;
 
-/// A runner of a table; what was learnt of the table and the actor, by which both go on at once where no registers are; and what
-/// was learnt of the runner's words, by which the actor performs what is passed on where there are some.
+/// A runner of a table; what was learnt of the table and the actor, by which both go on at once
+/// where no registers are; and what was learnt of the runner's words, by which the actor performs
+/// what is passed on where there are some.
 #[derive(Drop)]
 pub struct Follower<'p> {
     pub runner: Runner<'p>,
@@ -32,10 +33,12 @@ impl<'p> Follower<'p> {
         table: &'p Table,
         machine: &'p Trimmed,
     ) -> Result<Follower<'p>, Memory>
-        ensures tables { IfOk result (λ f. (f.runner.table ≡ table.now) × (f.moves.table ≡ table.now)) }
+        ensures tables { IfOk result (λ f. (f.runner.table ≡ table.now)
+            × (f.moves.table ≡ table.now)) }
         ensures machine { IfOk result (λ f. f.moves.machine ≡ machine.now) }
         ensures stands { IfOk result (λ f. IsRunOf f.runner [] []) }
-        ensures usable { IfOk result (λ f. (IsTrue f.runner.usable) × (f.runner.ended ≡ false) × (f.runner.read ≡ 0)) }
+        ensures usable { IfOk result (λ f. (IsTrue f.runner.usable) × (f.runner.ended ≡ false)
+            × (f.runner.read ≡ 0)) }
     {
         let runner = Runner::new(alloc, table)?;
         let moves = Moves::new(alloc, table, machine)?;

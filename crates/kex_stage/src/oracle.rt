@@ -54,8 +54,8 @@ impl<'p> Oracle<'p> {
         }
     }
 
-    /// Takes a piece, and writes what is said. Tells how many bytes are good: all, or those before one with which no parse
-    /// begins. What the code held is cleared.
+    /// Takes a piece, and writes what is said. Tells how many bytes are good: all, or those before
+    /// one with which no parse begins. What the code held is cleared.
     pub fn go_on(
         &mut self,
         actor: &mut Actor<'p>,
@@ -67,7 +67,8 @@ impl<'p> Oracle<'p> {
         requires actor { IsTrue actor.old.usable }
         requires learnt { learnt_of self.old actor.old.machine ≡ actor.old.machine }
         requires room { read_of self.old + length piece.now < 2 ^ 64 }
-        ensures works { IfOk result (λ count. StageWorks self.old self.new actor.old actor.new piece.now count out.old.items out.new.items) }
+        ensures works { IfOk result (λ count. StageWorks self.old self.new actor.old actor.new
+            piece.now count out.old.items out.new.items) }
         ensures read { IfOk result (λ count. read_of self.new ≡ read_of self.old + count) }
         ensures within { read_of self.new ≤ read_of self.old + length piece.now }
         ensures machine { actor.new.machine ≡ actor.old.machine }
@@ -80,7 +81,8 @@ impl<'p> Oracle<'p> {
         }
     }
 
-    // Takes the end, and puts the rest of the code behind a code. Tells whether the bytes have a parse.
+    // Takes the end, and puts the rest of the code behind a code. Tells whether the bytes have a
+    // parse.
     fn end(&mut self, code: &mut Code) -> Result<bool, Memory>
         requires ready { IsReady self.old }
         ensures tells { IfOk result (λ parsed. TellsEnd parsed self.old code.old code.new) }
@@ -93,7 +95,8 @@ impl<'p> Oracle<'p> {
         }
     }
 
-    /// Takes the end, and writes the rest. Tells whether the bytes have a parse. What the code held is cleared.
+    /// Takes the end, and writes the rest. Tells whether the bytes have a parse. What the code held
+    /// is cleared.
     pub fn finish(
         &mut self,
         actor: &mut Actor,
@@ -102,7 +105,8 @@ impl<'p> Oracle<'p> {
     ) -> Result<bool, Memory>
         requires ready { IsReady self.old }
         requires actor { IsTrue actor.old.usable }
-        ensures finishes { IfOk result (λ parsed. StageFinishes parsed self.old actor.old out.old.items out.new.items) }
+        ensures finishes { IfOk result (λ parsed.
+            StageFinishes parsed self.old actor.old out.old.items out.new.items) }
         ensures read { read_of self.new ≡ read_of self.old }
         ensures machine { actor.new.machine ≡ actor.old.machine }
         ensures learnt { (m : Graph) → learnt_of self.new m ≡ learnt_of self.old m }

@@ -53,7 +53,8 @@ impl<'p> Paths<'p> {
         requires usable { IsTrue self.old.frontier.usable }
         requires open { self.old.frontier.ended ≡ false }
         requires room { self.old.read + length piece.now < 2 ^ 64 }
-        ensures tells { IfOk result (λ count. Tells (Oracle.Paths self.old) (Oracle.Paths self.new) piece.now count code.old code.new) }
+        ensures tells { IfOk result (λ count. Tells (Oracle.Paths self.old)
+            (Oracle.Paths self.new) piece.now count code.old code.new) }
         ensures read { IfOk result (λ count. self.new.read ≡ self.old.read + count) }
         ensures within { self.new.read ≤ self.old.read + length piece.now }
         ensures usable { OnOk result (IsTrue self.new.frontier.usable) }
@@ -70,7 +71,8 @@ impl<'p> Paths<'p> {
     pub fn end(&mut self, code: &mut Code) -> Result<bool, Memory>
         requires usable { IsTrue self.old.frontier.usable }
         requires open { self.old.frontier.ended ≡ false }
-        ensures tells { IfOk result (λ parsed. TellsEnd parsed (Oracle.Paths self.old) code.old code.new) }
+        ensures tells { IfOk result (λ parsed.
+            TellsEnd parsed (Oracle.Paths self.old) code.old code.new) }
         ensures read { self.new.read ≡ self.old.read }
     {
         let ended = self.frontier.end()?;
@@ -91,7 +93,8 @@ impl<'p> Paths<'p> {
         requires open { self.old.frontier.ended ≡ false }
         requires actor { IsTrue actor.old.usable }
         requires room { self.old.read + length piece.now < 2 ^ 64 }
-        ensures works { IfOk result (λ count. StageWorks (Oracle.Paths self.old) (Oracle.Paths self.new) actor.old actor.new piece.now count out.old.items out.new.items) }
+        ensures works { IfOk result (λ count. StageWorks (Oracle.Paths self.old) (Oracle.Paths
+            self.new) actor.old actor.new piece.now count out.old.items out.new.items) }
         ensures read { IfOk result (λ count. self.new.read ≡ self.old.read + count) }
         ensures within { self.new.read ≤ self.old.read + length piece.now }
         ensures usable { OnOk result (IsTrue self.new.frontier.usable × IsTrue actor.new.usable) }

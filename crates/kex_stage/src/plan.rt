@@ -12,8 +12,8 @@ use kex_sst::table::Table;
 use std::alloc::Global;
 use std::marker::Model;
 
-/// A stage's machine, and its table, if it has one. Beside that table there may be a shorter one of the machine, by which stages
-/// go.
+/// A stage's machine, and its table, if it has one. Beside that table there may be a shorter one of
+/// the machine, by which stages go.
 #[derive(Drop)]
 pub struct Plan {
     machine: Trimmed,
@@ -31,7 +31,8 @@ impl Model for Plan {
     ghost invariant = { λ p. IsTableIf p.machine p.table × IsTableIf p.machine p.shorter };
 }
 
-// Whether there is a register that may be constant. Either answer would be right: without one the shorter table is the same.
+// Whether there is a register that may be constant. Either answer would be right: without one the
+// shorter table is the same.
 fn has_registers(table: &Table) -> bool {
     for state in table.states() {
         if state.registers() > 0 {
@@ -65,13 +66,15 @@ impl Plan {
 
     /// The table, if it has one.
     pub fn table(&self) -> Option<&Table>
-        ensures same { MatchOption result (self.now.table ≡ None) (λ t. self.now.table ≡ Some t.now) }
+        ensures same { MatchOption result (self.now.table ≡ None) (λ t. self.now.table
+            ≡ Some t.now) }
         ensures of_machine { IfSome result (λ t. IsTableOf self.now.machine t.now) }
     {
         self.table.as_ref()
     }
 
-    /// The same plan, of which stages go by a table without constant registers, if it has a table with registers.
+    /// The same plan, of which stages go by a table without constant registers, if it has a table
+    /// with registers.
     pub fn shorten(self, alloc: Global) -> Result<Plan, Memory>
         ensures { IfOk result (λ p. p ≡ self) }
     {

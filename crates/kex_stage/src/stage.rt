@@ -17,8 +17,8 @@ use kex_pipe::turn::{Fate, Stop, Turn};
 use kex_pipe::worker::Worker;
 use std::alloc::Global;
 
-/// Works over the plan that it borrows: bytes come in pieces, and what the surviving paths agree on goes out as soon as it is
-/// agreed.
+/// Works over the plan that it borrows: bytes come in pieces, and what the surviving paths agree on
+/// goes out as soon as it is agreed.
 #[derive(Drop)]
 pub struct StageWorker<'p> {
     oracle: Oracle<'p>,
@@ -38,9 +38,11 @@ impl<'p> Worker for StageWorker<'p> {
 
     ghost machine = { λ s. s.actor.machine };
 
-    ghost says = { λ g w at text. SaysViable (IsViableFor g) (SaysByRun g) (HasRun g) (MeansByRun g) w at text };
+    ghost says = { λ g w at text.
+        SaysViable (IsViableFor g) (SaysByRun g) (HasRun g) (MeansByRun g) w at text };
 
-    ghost closes = { λ g w parsed text. ClosesParsed (IsViableFor g) (SaysByRun g) (HasRun g) (MeansByRun g) w parsed text };
+    ghost closes = { λ g w parsed text.
+        ClosesParsed (IsViableFor g) (SaysByRun g) (HasRun g) (MeansByRun g) w parsed text };
 
     ghost gives = { λ g n w e a. Gives (record { machine = g; limit = n }) w e a };
 
@@ -84,8 +86,8 @@ fn refused_at(refused: bool, good: u64) -> Option<u64>
     if refused { Some(good) } else { None }
 }
 
-/// One stage of a pipeline, over the plan that it borrows: bytes come in pieces, and what the surviving paths agree on goes
-/// out as soon as it is agreed.
+/// One stage of a pipeline, over the plan that it borrows: bytes come in pieces, and what the
+/// surviving paths agree on goes out as soon as it is agreed.
 #[derive(Drop)]
 pub struct Stage<'p> {
     within: Bounded<StageWorker<'p>>,
@@ -94,7 +96,8 @@ pub struct Stage<'p> {
 impl<'p> Stage<'p> {
     /// A stage that has read nothing, and takes at most so many bytes.
     pub fn new(alloc: Global, plan: &'p Plan, max_input: u64) -> Result<Stage<'p>, Memory>
-        ensures plan { IfOk result (λ s. ⟦<Stage<'p> as Turn>⟧.plan s ≡ record { machine = plan.now.machine; limit = max_input }) }
+        ensures plan { IfOk result (λ s. ⟦<Stage<'p> as Turn>⟧.plan s
+            ≡ record { machine = plan.now.machine; limit = max_input }) }
         ensures stands { IfOk result (λ s. ⟦<Stage<'p> as Turn>⟧.stands s None) }
         ensures usable { IfOk result (λ s. IsTrue (⟦<Stage<'p> as Turn>⟧.is_usable s)) }
     {
@@ -122,7 +125,8 @@ impl<'p> Turn for Stage<'p> {
 
     ghost grows = { λ p w v e a b h k. (answering p.machine).grows p.limit w v e a b h k };
 
-    ghost stays = { λ p w v e a b h k some. (answering p.machine).stays p.limit w v e a b h k some };
+    ghost stays = { λ p w v e a b h k some.
+        (answering p.machine).stays p.limit w v e a b h k some };
 
     ghost ends = { λ p w e a h. (answering p.machine).ends p.limit w e a h };
 

@@ -1,6 +1,7 @@
 // How a follower goes along a piece.
 
-ghost use Rattle.std.specs.Prelude.{◌≡◌, ◌+◌, ◌^◌, ◌<◌, ◌≤◌, [], false, IfOk, OnOk, IsTrue, length, take};
+ghost use Rattle.std.specs.Prelude.{◌≡◌, ◌+◌, ◌^◌, ◌<◌, ◌≤◌, [], false, IfOk, OnOk, IsTrue, length};
+ghost use Rattle.std.specs.Prelude.{take};
 ghost use Rattle.kex_script.specs.Pieces.{code_over};
 ghost use Rattle.kex_stage.specs.Oracles.{Tells, TellsEnd};
 ghost use Rattle.kex_stage.specs.Works.{StageGoes, StageWorks};
@@ -37,7 +38,9 @@ impl<'p> Follower<'p> {
         requires usable { IsTrue self.old.runner.usable }
         requires open { self.old.runner.ended ≡ false }
         requires room { self.old.runner.read + length piece.now < 2 ^ 64 }
-        ensures tells { IfOk result (λ h. Tells (Oracle.Table self.old) (Oracle.Table self.new) (take h.taken piece.now) h.good [] (code_over self.old.phrases.words self.new.pieces.items)) }
+        ensures tells { IfOk result (λ h.
+            Tells (Oracle.Table self.old) (Oracle.Table self.new) (take h.taken piece.now) h.good []
+            (code_over self.old.phrases.words self.new.pieces.items)) }
         ensures taken { IfOk result (λ h. h.taken ≤ length piece.now) }
         ensures some { IfOk result (λ h. 0 < length piece.now → 0 < h.taken) }
         ensures read { IfOk result (λ h. self.new.runner.read ≡ self.old.runner.read + h.good) }
@@ -60,7 +63,8 @@ impl<'p> Follower<'p> {
     pub fn end(&mut self, code: &mut Code) -> Result<bool, Memory>
         requires usable { IsTrue self.old.runner.usable }
         requires open { self.old.runner.ended ≡ false }
-        ensures tells { IfOk result (λ parsed. TellsEnd parsed (Oracle.Table self.old) code.old code.new) }
+        ensures tells { IfOk result (λ parsed.
+            TellsEnd parsed (Oracle.Table self.old) code.old code.new) }
         ensures read { self.new.runner.read ≡ self.old.runner.read }
         ensures moves { self.new.moves ≡ self.old.moves }
     {
@@ -82,7 +86,8 @@ impl<'p> Follower<'p> {
         requires actor { IsTrue actor.old.usable }
         requires learnt { actor.old.machine ≡ self.old.moves.machine }
         requires room { self.old.runner.read + length piece.now < 2 ^ 64 }
-        ensures gone { IfOk result (λ s. HasGone s.refused (Oracle.Table self.old) (Oracle.Table self.new) actor.old actor.new piece.now s.count out.old.items out.new.items) }
+        ensures gone { IfOk result (λ s. HasGone s.refused (Oracle.Table self.old) (Oracle.Table
+            self.new) actor.old actor.new piece.now s.count out.old.items out.new.items) }
         ensures some { IfOk result (λ s. 0 < length piece.now → s.refused ≡ false → 0 < s.count) }
         ensures count { IfOk result (λ s. s.count ≤ length piece.now) }
         ensures read { IfOk result (λ s. self.new.runner.read ≡ self.old.runner.read + s.count) }
@@ -105,7 +110,8 @@ impl<'p> Follower<'p> {
         })
     }
 
-    // Reads the front of a piece by what is learnt, where no registers are. The table is at a state of its own then, with none.
+    // Reads the front of a piece by what is learnt, where no registers are. The table is at a state
+    // of its own then, with none.
     fn run(
         &mut self,
         actor: &mut Actor<'p>,
@@ -116,12 +122,14 @@ impl<'p> Follower<'p> {
         requires learnt { actor.old.machine ≡ self.old.moves.machine }
         requires told { self.old.runner.pending ≡ [] }
         requires room { self.old.runner.read + length piece.now < 2 ^ 64 }
-        ensures goes { IfOk result (λ count. StageGoes (Oracle.Table self.old) (Oracle.Table self.new) actor.old actor.new (take count piece.now) out.old.items out.new.items) }
+        ensures goes { IfOk result (λ count. StageGoes (Oracle.Table self.old) (Oracle.Table
+            self.new) actor.old actor.new (take count piece.now) out.old.items out.new.items) }
         ensures count { IfOk result (λ count. count ≤ length piece.now) }
         ensures read { IfOk result (λ count. self.new.runner.read ≡ self.old.runner.read + count) }
         ensures within { self.new.runner.read ≤ self.old.runner.read + length piece.now }
         ensures told { self.new.runner.pending ≡ [] }
-        ensures same { (self.new.runner.usable ≡ self.old.runner.usable) × (self.new.runner.ended ≡ self.old.runner.ended) }
+        ensures same { (self.new.runner.usable ≡ self.old.runner.usable)
+            × (self.new.runner.ended ≡ self.old.runner.ended) }
         ensures moves { self.new.moves ≡ self.old.moves }
         ensures machine { actor.new.machine ≡ actor.old.machine }
         ensures usable { OnOk result (IsTrue actor.new.usable) }
@@ -152,7 +160,8 @@ impl<'p> Follower<'p> {
         requires told { self.old.runner.pending ≡ [] }
         requires some { 0 < length piece.now }
         requires room { self.old.runner.read + length piece.now < 2 ^ 64 }
-        ensures gone { IfOk result (λ s. HasGone s.refused (Oracle.Table self.old) (Oracle.Table self.new) actor.old actor.new piece.now s.count out.old.items out.new.items) }
+        ensures gone { IfOk result (λ s. HasGone s.refused (Oracle.Table self.old) (Oracle.Table
+            self.new) actor.old actor.new piece.now s.count out.old.items out.new.items) }
         ensures some { IfOk result (λ s. s.refused ≡ false → 0 < s.count) }
         ensures count { IfOk result (λ s. s.count ≤ length piece.now) }
         ensures read { IfOk result (λ s. self.new.runner.read ≡ self.old.runner.read + s.count) }
@@ -185,7 +194,8 @@ impl<'p> Follower<'p> {
         requires actor { IsTrue actor.old.usable }
         requires learnt { actor.old.machine ≡ self.old.moves.machine }
         requires room { self.old.runner.read + length piece.now < 2 ^ 64 }
-        ensures works { IfOk result (λ count. StageWorks (Oracle.Table self.old) (Oracle.Table self.new) actor.old actor.new piece.now count out.old.items out.new.items) }
+        ensures works { IfOk result (λ count. StageWorks (Oracle.Table self.old) (Oracle.Table
+            self.new) actor.old actor.new piece.now count out.old.items out.new.items) }
         ensures read { IfOk result (λ count. self.new.runner.read ≡ self.old.runner.read + count) }
         ensures within { self.new.runner.read ≤ self.old.runner.read + length piece.now }
         ensures usable { OnOk result (IsTrue self.new.runner.usable × IsTrue actor.new.usable) }

@@ -1,18 +1,28 @@
 -- What tokens, white space and comments are spelled, and the longest of them at a place.
 use Rattle.std.specs.Char.{is_ascii_alphabetic, is_ascii_digit, is_ascii_hexdigit}
 use Rattle.kex_tokens.specs.Bytes as byte
-use Rattle.std.specs.Prelude.{◌≡◌, ℕ, ◌<◌, ◌≤◌, Bool, true, false, ◌||◌, List, [], ◌∷◌, ◌++◌, length, take, ◌==◌, codes}
+use Rattle.std.specs.Prelude.{◌≡◌, ℕ, ◌<◌, ◌≤◌, Bool, true, false, ◌||◌, List, [], ◌∷◌, ◌++◌}
+use Rattle.std.specs.Prelude.{length, take, ◌==◌, codes}
 pub use Rattle.kex_tokens.specs.declared.token.TokenKind.{TokenKind}
-pub use Rattle.kex_tokens.specs.declared.token.TokenKind.TheVariants.{Name, Number, Literal, Regex, Define, Colon, Pipe, Bar, Tilde, At, Star, Plus, PlusEquals, Question, OpenBrace, CloseBrace, Comma, Bang, OpenBracket, CloseBracket, Arrow, OpenParen, CloseParen}
+pub use Rattle.kex_tokens.specs.declared.token.TokenKind.TheVariants.{Name, Number, Literal, Regex}
+pub use Rattle.kex_tokens.specs.declared.token.TokenKind.TheVariants.{Define, Colon, Pipe, Bar}
+pub use Rattle.kex_tokens.specs.declared.token.TokenKind.TheVariants.{Tilde, At, Star, Plus}
+pub use Rattle.kex_tokens.specs.declared.token.TokenKind.TheVariants.{PlusEquals, Question}
+pub use Rattle.kex_tokens.specs.declared.token.TokenKind.TheVariants.{OpenBrace, CloseBrace, Comma}
+pub use Rattle.kex_tokens.specs.declared.token.TokenKind.TheVariants.{Bang, OpenBracket}
+pub use Rattle.kex_tokens.specs.declared.token.TokenKind.TheVariants.{CloseBracket, Arrow}
+pub use Rattle.kex_tokens.specs.declared.token.TokenKind.TheVariants.{OpenParen, CloseParen}
 pub use Rattle.kex_tokens.specs.declared.lexeme.Lexeme.{Lexeme}
-pub use Rattle.kex_tokens.specs.declared.lexeme.Lexeme.TheVariants.{Space, LineComment, BlockComment, Kept}
+pub use Rattle.kex_tokens.specs.declared.lexeme.Lexeme.TheVariants.{Space, LineComment}
+pub use Rattle.kex_tokens.specs.declared.lexeme.Lexeme.TheVariants.{BlockComment, Kept}
 pub use Rattle.kex_tokens.specs.declared.lexeme.SizedLexeme.{SizedLexeme}
 
 -- ---- bytes
 
 -- blank, tab, carriage return, line feed
 abbrev pub is_space : ℕ → Bool
-is_space b = (b == byte.blank) || (b == byte.tab) || (b == byte.carriage_return) || (b == byte.line_feed)
+is_space b =
+    (b == byte.blank) || (b == byte.tab) || (b == byte.carriage_return) || (b == byte.line_feed)
 
 abbrev pub is_letter : ℕ → Bool
 is_letter b = is_ascii_alphabetic b
@@ -36,7 +46,8 @@ is_no_feed b = not (b == byte.line_feed)
 
 -- what may stand behind the \ of a short escape: n, t, r, \ and "
 abbrev pub is_short : ℕ → Bool
-is_short b = (b == byte.letter_n) || (b == byte.letter_t) || (b == byte.letter_r) || (b == byte.backslash) || (b == byte.quote)
+is_short b = (b == byte.letter_n) || (b == byte.letter_t) || (b == byte.letter_r)
+    || (b == byte.backslash) || (b == byte.quote)
 
 -- what stands for itself in a literal: no ", \ or line feed
 abbrev pub is_literal_byte : ℕ → Bool
@@ -86,11 +97,16 @@ AreAtoms (Escaped b ∷ as') = (is_no_feed b ≡ true) × AreAtoms as'
 -- ---- tokens, white space and comments
 
 unfoldable pub IsToken : TokenKind → List ℕ → Type 0
-IsToken Name bytes = (b : ℕ) × (w : List ℕ) × (is_letter b ≡ true) × AreAll is_name_byte w × (bytes ≡ b ∷ w)
-IsToken Number bytes = (b : ℕ) × (w : List ℕ) × (is_digit b ≡ true) × AreAll is_digit w × (bytes ≡ b ∷ w)
-IsToken Literal bytes = (is : List LiteralItem) × AreItems is × (bytes ≡ byte.quote ∷ items is ++ byte.quote ∷ [])
+IsToken Name bytes = (b : ℕ) × (w : List ℕ) × (is_letter b ≡ true) × AreAll is_name_byte w
+    × (bytes ≡ b ∷ w)
+IsToken Number bytes = (b : ℕ) × (w : List ℕ) × (is_digit b ≡ true) × AreAll is_digit w
+    × (bytes ≡ b ∷ w)
+IsToken Literal bytes = (is : List LiteralItem) × AreItems is
+    × (bytes ≡ byte.quote ∷ items is ++ byte.quote ∷ [])
 -- between the slashes stands at least one item, and the first byte there is no *
-IsToken Regex bytes = (b : ℕ) × (w : List ℕ) × (as' : List LiteralAtom) × AreAtoms as' × ((b == byte.asterisk) ≡ false) × (atoms as' ≡ b ∷ w) × (bytes ≡ byte.slash ∷ b ∷ w ++ byte.slash ∷ [])
+IsToken Regex bytes = (b : ℕ) × (w : List ℕ) × (as' : List LiteralAtom) × AreAtoms as'
+    × ((b == byte.asterisk) ≡ false) × (atoms as' ≡ b ∷ w)
+    × (bytes ≡ byte.slash ∷ b ∷ w ++ byte.slash ∷ [])
 IsToken Define bytes = bytes ≡ codes ":="
 IsToken Colon bytes = bytes ≡ codes ":"
 IsToken Pipe bytes = bytes ≡ codes ">>"
@@ -117,16 +133,19 @@ NoClose bytes = (a b : List ℕ) → bytes ≡ a ++ byte.asterisk ∷ byte.slash
 
 unfoldable pub IsLexeme : Lexeme → List ℕ → Type 0
 IsLexeme Space bytes = (b : ℕ) × (is_space b ≡ true) × (bytes ≡ b ∷ [])
-IsLexeme LineComment bytes = (w : List ℕ) × AreAll is_no_feed w × (bytes ≡ byte.slash ∷ byte.slash ∷ w)
+IsLexeme LineComment bytes = (w : List ℕ) × AreAll is_no_feed w
+    × (bytes ≡ byte.slash ∷ byte.slash ∷ w)
 -- the first */ behind the /* ends it
-IsLexeme BlockComment bytes = (w : List ℕ) × NoClose (w ++ byte.asterisk ∷ []) × (bytes ≡ byte.slash ∷ byte.asterisk ∷ w ++ byte.asterisk ∷ byte.slash ∷ [])
+IsLexeme BlockComment bytes = (w : List ℕ) × NoClose (w ++ byte.asterisk ∷ [])
+    × (bytes ≡ byte.slash ∷ byte.asterisk ∷ w ++ byte.asterisk ∷ byte.slash ∷ [])
 IsLexeme (Kept kind) bytes = IsToken kind bytes
 
 -- this lexeme stands at the front, and no longer one does
 pub record IsLongest (bytes : List ℕ) (p : SizedLexeme) : Type 0 where
   pub inside : p.long ≤ length bytes
   pub is : IsLexeme p.lexeme (take p.long bytes)
-  pub no_longer : (other : Lexeme) (n : ℕ) → p.long < n → n ≤ length bytes → IsLexeme other (take n bytes) → ⊥
+  pub no_longer : (other : Lexeme) (n : ℕ) → p.long < n → n ≤ length bytes
+      → IsLexeme other (take n bytes) → ⊥
 
 -- no lexeme stands at the front
 abbrev pub HasNoLexeme : List ℕ → Type 0

@@ -1,13 +1,20 @@
 -- How the scanners go: the lexeme at the front, by its first byte.
 use Rattle.kex_tokens.specs.Bytes as byte
-use Rattle.std.specs.Prelude.{ℕ, suc, Bool, true, false, List, [], ◌∷◌, Option, Some, None, ◌==◌, drop, if◌then◌else◌}
-use Rattle.kex_tokens.specs.Lexemes.{is_space, is_letter, is_digit, is_name_byte, is_hex, is_no_feed, is_short, TokenKind, Name, Number, Literal, Regex, Define, Colon, Pipe, Bar, Tilde, At, Star, Plus, PlusEquals, Question, OpenBrace, CloseBrace, Comma, Bang, OpenBracket, CloseBracket, Arrow, OpenParen, CloseParen, Lexeme, Space, LineComment, BlockComment, Kept, SizedLexeme}
+use Rattle.std.specs.Prelude.{ℕ, suc, Bool, true, false, List, [], ◌∷◌, Option, Some, None, ◌==◌}
+use Rattle.std.specs.Prelude.{drop, if◌then◌else◌}
+use Rattle.kex_tokens.specs.Lexemes.{is_space, is_letter, is_digit, is_name_byte, is_hex}
+use Rattle.kex_tokens.specs.Lexemes.{is_no_feed, is_short, TokenKind, Name, Number, Literal, Regex}
+use Rattle.kex_tokens.specs.Lexemes.{Define, Colon, Pipe, Bar, Tilde, At, Star, Plus, PlusEquals}
+use Rattle.kex_tokens.specs.Lexemes.{Question, OpenBrace, CloseBrace, Comma, Bang, OpenBracket}
+use Rattle.kex_tokens.specs.Lexemes.{CloseBracket, Arrow, OpenParen, CloseParen, Lexeme, Space}
+use Rattle.kex_tokens.specs.Lexemes.{LineComment, BlockComment, Kept, SizedLexeme}
 pub use Rattle.kex_tokens.specs.declared.runs.Run.{Run}
 pub use Rattle.kex_tokens.specs.declared.runs.Run.TheVariants.{NameBytes, Digits, Line}
 pub use Rattle.kex_tokens.specs.declared.closing.ClosingStep.{ClosingStep}
 pub use Rattle.kex_tokens.specs.declared.closing.ClosingStep.TheVariants.{On, Closed, Wrong}
 pub use Rattle.kex_tokens.specs.declared.literals.InLiteral.{InLiteral}
-pub use Rattle.kex_tokens.specs.declared.literals.InLiteral.TheVariants.{Between, Backslash, HexBegun, HexOne}
+pub use Rattle.kex_tokens.specs.declared.literals.InLiteral.TheVariants.{Between, Backslash}
+pub use Rattle.kex_tokens.specs.declared.literals.InLiteral.TheVariants.{HexBegun, HexOne}
 
 -- ---- runs
 
@@ -38,14 +45,17 @@ closing step s [] = None
 closing step s (b ∷ bs) = after (step s b) (λ t. closing step t bs)
 
 unfoldable pub literal_step : InLiteral → ℕ → ClosingStep InLiteral
-literal_step Between b = if b == byte.quote then Closed else if b == byte.backslash then On Backslash else if b == byte.line_feed then Wrong else On Between
-literal_step Backslash b = if b == byte.letter_x then On HexBegun else if is_short b then On Between else Wrong
+literal_step Between b = if b == byte.quote then Closed else if b == byte.backslash
+    then On Backslash else if b == byte.line_feed then Wrong else On Between
+literal_step Backslash b = if b == byte.letter_x then On HexBegun else if is_short b then On Between
+    else Wrong
 literal_step HexBegun b = if is_hex b then On (HexOne b) else Wrong
 literal_step (HexOne high) b = if is_hex b then On Between else Wrong
 
 -- whether the byte before is a \ that escapes
 unfoldable pub regex_step : Bool → ℕ → ClosingStep Bool
-regex_step false b = if b == byte.slash then Closed else if b == byte.backslash then On true else if b == byte.line_feed then Wrong else On false
+regex_step false b = if b == byte.slash then Closed else if b == byte.backslash then On true
+    else if b == byte.line_feed then Wrong else On false
 regex_step true b = if b == byte.line_feed then Wrong else On false
 
 abbrev pub star_closes : Bool → ℕ → Bool
@@ -81,8 +91,10 @@ begins_with c (b ∷ bs) = b == c
 -- behind a /
 unfoldable pub slash : List ℕ → Option SizedLexeme
 slash bs =
-    if begins_with byte.slash bs then Some (piece LineComment (suc (suc (run is_no_feed (drop 1 bs)))))
-    else if begins_with byte.asterisk bs then behind_one BlockComment (more (block false (drop 1 bs)))
+    if begins_with byte.slash bs
+    then Some (piece LineComment (suc (suc (run is_no_feed (drop 1 bs)))))
+    else if begins_with byte.asterisk bs
+    then behind_one BlockComment (more (block false (drop 1 bs)))
     else behind_one (Kept Regex) (regex false bs)
 
 abbrev pub alone : TokenKind → Option SizedLexeme
@@ -99,9 +111,13 @@ two c long bs = if begins_with c bs then pair long else None
 
 unfoldable pub single : ℕ → Option TokenKind
 single b =
-    if b == byte.bar then Some Bar else if b == byte.tilde then Some Tilde else if b == byte.at_sign then Some At else if b == byte.asterisk then Some Star
-    else if b == byte.question then Some Question else if b == byte.open_brace then Some OpenBrace else if b == byte.close_brace then Some CloseBrace else if b == byte.comma then Some Comma
-    else if b == byte.bang then Some Bang else if b == byte.open_bracket then Some OpenBracket else if b == byte.close_bracket then Some CloseBracket else if b == byte.open_paren then Some OpenParen
+    if b == byte.bar then Some Bar else if b == byte.tilde then Some Tilde else if b == byte.at_sign
+    then Some At else if b == byte.asterisk then Some Star
+    else if b == byte.question then Some Question else if b == byte.open_brace then Some OpenBrace
+    else if b == byte.close_brace then Some CloseBrace else if b == byte.comma then Some Comma
+    else if b == byte.bang then Some Bang else if b == byte.open_bracket then Some OpenBracket
+    else if b == byte.close_bracket then Some CloseBracket else if b == byte.open_paren
+    then Some OpenParen
     else if b == byte.close_paren then Some CloseParen else None
 
 abbrev pub of_kind : Option TokenKind → Option SizedLexeme

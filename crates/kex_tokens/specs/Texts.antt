@@ -4,7 +4,8 @@ use Rattle.std.specs.List.{slice_range}
 use Rattle.kex_tokens.specs.declared.token.Token.{Token}
 use Rattle.kex_tokens.specs.declared.token.TokenFault.{TokenFault}
 use Rattle.kex_tokens.specs.declared.token.TokenFault.TheVariants.{TextTooLong, BadToken, Memory}
-use Rattle.kex_tokens.specs.Lexemes.{Lexeme, Space, LineComment, BlockComment, Kept, SizedLexeme, IsToken, IsLongest, HasNoLexeme}
+use Rattle.kex_tokens.specs.Lexemes.{Lexeme, Space, LineComment, BlockComment, Kept, SizedLexeme}
+use Rattle.kex_tokens.specs.Lexemes.{IsToken, IsLongest, HasNoLexeme}
 
 -- how many bytes a text may have
 abbrev pub most_text : ℕ
@@ -32,7 +33,8 @@ AreTokens text ts = (ps : List SizedLexeme) × Covers text 0 ps (length text) ×
 
 -- the text before this offset is cut into the longest lexemes, and none can be completed there
 abbrev pub IsBadToken : List ℕ → ℕ → Type 0
-IsBadToken text at = (ps : List SizedLexeme) × Covers text 0 ps at × (at < length text) × HasNoLexeme (drop at text)
+IsBadToken text at = (ps : List SizedLexeme) × Covers text 0 ps at × (at < length text)
+    × HasNoLexeme (drop at text)
 
 -- a span within the text that is spelled as its kind says
 pub record IsSpan (text : List ℕ) (t : Token) : Type 0 where

@@ -1,16 +1,20 @@
 -- What literals and numbers stand for.
 use Rattle.kex_tokens.specs.Bytes as byte
-use Rattle.std.specs.Prelude.{◌≡◌, ℕ, ◌+◌, ◌-◌, ◌*◌, ◌&&◌, List, [], ◌∷◌, ◌++◌, map, Option, Some, None, nat_le, ◌==◌, if◌then◌else◌}
+use Rattle.std.specs.Prelude.{◌≡◌, ℕ, ◌+◌, ◌-◌, ◌*◌, ◌&&◌, List, [], ◌∷◌, ◌++◌, map, Option, Some}
+use Rattle.std.specs.Prelude.{None, nat_le, ◌==◌, if◌then◌else◌}
 use Rattle.kex_tokens.specs.Lexemes.{is_digit, LiteralItem, Itself, Short, Hex, items, AreItems}
-use Rattle.kex_tokens.specs.Scanning.{InLiteral, Between, Backslash, HexBegun, HexOne, ClosingStep, On, Closed, Wrong, literal_step}
+use Rattle.kex_tokens.specs.Scanning.{InLiteral, Between, Backslash, HexBegun, HexOne, ClosingStep}
+use Rattle.kex_tokens.specs.Scanning.{On, Closed, Wrong, literal_step}
 
 -- what a hexadecimal digit counts
 abbrev pub hex_value : ℕ → ℕ
-hex_value b = if is_digit b then b - 48 else if nat_le 65 b && nat_le b 70 then b - 55 else if nat_le 97 b && nat_le b 102 then b - 87 else 0
+hex_value b = if is_digit b then b - 48 else if nat_le 65 b && nat_le b 70 then b - 55
+    else if nat_le 97 b && nat_le b 102 then b - 87 else 0
 
 -- \n, \t and \r stand for a line feed, a tab and a carriage return, \\ and \" for their second byte
 abbrev pub short_value : ℕ → ℕ
-short_value b = if b == byte.letter_n then byte.line_feed else if b == byte.letter_t then byte.tab else if b == byte.letter_r then byte.carriage_return else b
+short_value b = if b == byte.letter_n then byte.line_feed else if b == byte.letter_t then byte.tab
+    else if b == byte.letter_r then byte.carriage_return else b
 
 abbrev pub item_value : LiteralItem → ℕ
 item_value (Itself b) = b
@@ -19,7 +23,8 @@ item_value (Hex h l) = 16 * hex_value h + hex_value l
 
 -- the literal with this spelling stands for these bytes, one for each item
 abbrev pub StandsFor : List ℕ → List ℕ → Type 0
-StandsFor spelling bytes = (is : List LiteralItem) × AreItems is × (spelling ≡ byte.quote ∷ items is ++ byte.quote ∷ []) × (map item_value is ≡ bytes)
+StandsFor spelling bytes = (is : List LiteralItem) × AreItems is
+    × (spelling ≡ byte.quote ∷ items is ++ byte.quote ∷ []) × (map item_value is ≡ bytes)
 
 -- the number that decimal digits write, where n stands before them
 unfoldable pub number_behind : ℕ → List ℕ → ℕ

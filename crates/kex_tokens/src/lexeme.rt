@@ -2,7 +2,8 @@
 
 use crate::token::TokenKind;
 
-/// What a piece of a text is. White space is a byte at a time; tokens are kept, and all else is dropped.
+/// What a piece of a text is. White space is a byte at a time; tokens are kept, and all else is
+/// dropped.
 #[derive(Clone, Copy, PartialEq, Eq, Debug)]
 pub enum Lexeme {
     Space,

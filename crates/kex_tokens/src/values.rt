@@ -2,7 +2,8 @@
 
 ghost use Rattle.std.specs.Prelude.{◌≡◌, ◌<◌, ◌≤◌, ◌++◌, drop, IfOk, MatchOption};
 ghost use Rattle.kex_tokens.specs.Lexemes.{IsToken};
-ghost use Rattle.kex_tokens.specs.Values.{StandsFor, hex_value, item_end, decimal_value, or_nothing, short_value};
+ghost use Rattle.kex_tokens.specs.Values.{StandsFor, hex_value, item_end, decimal_value};
+ghost use Rattle.kex_tokens.specs.Values.{or_nothing, short_value};
 
 use crate::closing::ClosingStep;
 use crate::literals::{InLiteral, literal_step};
@@ -89,7 +90,8 @@ pub fn literal_bytes(alloc: Global, spelling: &[u8]) -> Result<Vec<u8>, AllocErr
 
 /// The number that these decimal digits write, if it is at most `most`, however many there are.
 pub fn number_value(digits: &[u8], most: u32) -> Option<u32>
-    ensures { MatchOption result (most < decimal_value digits.now) (λ n. (n ≡ decimal_value digits.now) × (n ≤ most)) }
+    ensures { MatchOption result (most
+        < decimal_value digits.now) (λ n. (n ≡ decimal_value digits.now) × (n ≤ most)) }
 {
     let mut value = 0;
     for i in 0..digits.len() {

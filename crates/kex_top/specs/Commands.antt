@@ -1,4 +1,5 @@
--- What the commands are, case by case: what each calls, what it asks of its program, and what it does.
+-- What the commands are, case by case: what each calls, what it asks of its program, and what it
+-- does.
 use Rattle.std.specs.Prelude.{◌≡◌, ℕ, Bool, true, false, List, Option, Some, None, length, ⊤}
 use Rattle.kex_ports.specs.Named.{Texts}
 use Rattle.kex_ports.specs.Reads.{Reads, last_given}
@@ -66,7 +67,8 @@ pub record Counted (P : Grammar) (Told : List ℕ → Type 0) : Type 0 where
   pub states : ℕ
   pub in_all : HaveInAll P (roots_of P) places
   pub states_in_all : HaveStatesInAll P (roots_of P) states
-  pub told : Told (counts_line (record { stages = length P.stages; places = places; states = states }))
+  pub told
+      : Told (counts_line (record { stages = length P.stages; places = places; states = states }))
 
 -- What a program says of so many lines was summed up, and the line of that told.
 pub record Tried (P : Grammar) (lines : ℕ) (Told : List ℕ → Type 0) : Type 0 where

@@ -38,7 +38,8 @@ IsFateOfStages report Stopped = IsSome report
 
 module _ (says : List ℕ → Bool → Said → Type 0) where
   -- The call brings the stages to w, and gives out what is said there and wasn't yet.
-  pub record FeedsStages (stands : History → Type 0) (h : History) (w : List ℕ) (e : Bool) (out : List ℕ) (fate : Fate) : Type 0 where
+  pub record FeedsStages (stands : History → Type 0) (h : History) (w : List ℕ) (e : Bool)
+      (out : List ℕ) (fate : Fate) : Type 0 where
     pub said : Said
     pub is_said : says w e said
     pub stands_for : stands (Some (record { bytes = w; ended = e; said = said }))
@@ -46,7 +47,8 @@ module _ (says : List ℕ → Bool → Said → Type 0) where
     pub is_fate : IsFateOfStages said.report fate
 
   -- The same, of what a sink holds.
-  pub record WritesSaid (stands : History → Type 0) (h : History) (w : List ℕ) (e : Bool) (old new : Option (List ℕ)) (fate : Fate) : Type 0 where
+  pub record WritesSaid (stands : History → Type 0) (h : History) (w : List ℕ) (e : Bool)
+      (old new : Option (List ℕ)) (fate : Fate) : Type 0 where
     pub said : Said
     pub is_said : says w e said
     pub stands_for : stands (Some (record { bytes = w; ended = e; said = said }))
@@ -56,7 +58,8 @@ module _ (says : List ℕ → Bool → Said → Type 0) where
     pub is_fate : IsFateOfStages said.report fate
 
   -- A front of it.
-  pub record WritesSaidFront (h : History) (w : List ℕ) (e : Bool) (old new : Option (List ℕ)) : Type 0 where
+  pub record WritesSaidFront (h : History) (w : List ℕ) (e : Bool)
+      (old new : Option (List ℕ)) : Type 0 where
     pub said : Said
     pub is_said : says w e said
     pub added : List ℕ
@@ -78,6 +81,7 @@ module _ (says : List ℕ → Bool → Said → Type 0) where
     pub appended : Appends old new added
 
   -- What was written where memory is wanted, and where the sink fails.
-  abbrev pub WritesUpTo : History → List ℕ → Bool → Option (List ℕ) → Option (List ℕ) → Trouble → Type 0
+  abbrev pub WritesUpTo : History → List ℕ → Bool → Option (List ℕ) → Option (List ℕ) → Trouble
+      → Type 0
   WritesUpTo h w e old new trouble.Memory = WritesEarly h w old new
   WritesUpTo h w e old new trouble.Write = WritesSaidFront h w e old new

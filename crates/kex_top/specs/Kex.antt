@@ -1,5 +1,6 @@
 -- What a call of the program leaves, by what its words ask for and by its answer.
-use Rattle.std.specs.Prelude.{◌≡◌, ◌⊎◌, ◌+◌, ◌-◌, ◌^◌, ◌<◌, ◌≤◌, ℕ, List, [], ◌++◌, Option, Some, None, IsSome, length, min, ⊤}
+use Rattle.std.specs.Prelude.{◌≡◌, ◌⊎◌, ◌+◌, ◌-◌, ◌^◌, ◌<◌, ◌≤◌, ℕ, List, [], ◌++◌, Option, Some}
+use Rattle.std.specs.Prelude.{None, IsSome, length, min, ⊤}
 use Rattle.kex_ports.specs.Named.{Texts}
 use Rattle.kex_ports.specs.Reads.{Reads}
 use Rattle.kex_ports.specs.Shelf.{present, IsTold}
@@ -22,7 +23,8 @@ use Rattle.kex_top.specs.declared.status.Status.{Status}
 use Rattle.kex_top.specs.declared.status.Status.TheVariants.{Usage, Refused, ShelfFault, Memory}
 
 -- A program that the told text spells, and that the command accepts, was worked with.
-pub record Works (asked : Asked) (texts : Option Texts) (reads : Option Reads) (source sink : StreamChange) (status : Status) : Type 0 where
+pub record Works (asked : Asked) (texts : Option Texts) (reads : Option Reads)
+    (source sink : StreamChange) (status : Status) : Type 0 where
   pub text : List ℕ
   pub is_told : IsTold (told_text texts asked) text
   pub program : Grammar
@@ -30,7 +32,8 @@ pub record Works (asked : Asked) (texts : Option Texts) (reads : Option Reads) (
   pub performs : Performs asked program reads source sink status
 
 -- What each answer to a command says. Where it doesn't begin, nothing is read or written.
-abbrev pub CommandAnswers : Asked → Option Texts → Option Reads → StreamChange → StreamChange → Status → Type 0
+abbrev pub CommandAnswers : Asked → Option Texts → Option Reads → StreamChange → StreamChange
+    → Status → Type 0
 CommandAnswers asked texts reads source sink Usage = ⊥
 CommandAnswers asked texts reads source sink ShelfFault =
     IsSome (calls_of (Some asked)).takes × Left source sink
@@ -47,7 +50,8 @@ IsUnasked Memory = ⊤
 IsUnasked status = ⊥
 
 -- What each answer to words says.
-abbrev pub CallAnswers : Option Asked → Option Texts → Option Reads → StreamChange → StreamChange → Status → Type 0
+abbrev pub CallAnswers : Option Asked → Option Texts → Option Reads → StreamChange → StreamChange
+    → Status → Type 0
 CallAnswers None texts reads source sink status = IsUnasked status
 CallAnswers (Some asked) texts reads source sink status =
     CommandAnswers asked texts reads source sink status
@@ -58,25 +62,30 @@ HasNotRisen before now = now < min (before + 1) (2 ^ 64 - 1)
 
 -- The program breaks no rule that the command asks, its input is good, and no count rose of what it
 -- calls.
-pub record BreaksNoRule (asked : Asked) (texts : Option Texts) (shelf : ShelfChange) (source sink : StreamChange) : Type 0 where
+pub record BreaksNoRule (asked : Asked) (texts : Option Texts) (shelf : ShelfChange)
+    (source sink : StreamChange) : Type 0 where
   pub text : List ℕ
   pub is_told : told_text texts asked ≡ present text
   pub short : length text ≤ most_text
-  pub unbroken : (rule : CompileRefusal) → IsRefused (limits_for asked) text rule → rule ≡ compile.Memory
+  pub unbroken : (rule : CompileRefusal) → IsRefused (limits_for asked) text rule
+      → rule ≡ compile.Memory
   pub input_is_good : InputIsGood asked text source
-  pub on_shelf : IsSome (calls_of (Some asked)).takes → HasNotRisen shelf.breaks_before shelf.breaks_now
+  pub on_shelf : IsSome (calls_of (Some asked)).takes
+      → HasNotRisen shelf.breaks_before shelf.breaks_now
   pub readable : IsSome (calls_of (Some asked)).block → HasNotRisen source.before source.now
   pub writable : HasNotRisen sink.before sink.now
 
 -- Nothing stands in the way of what the words ask for.
-abbrev pub IsComplete : Option Asked → Option Texts → ShelfChange → StreamChange → StreamChange → Type 0
+abbrev pub IsComplete : Option Asked → Option Texts → ShelfChange → StreamChange → StreamChange
+    → Type 0
 IsComplete None texts shelf source sink = ⊥
 IsComplete (Some asked) texts shelf source sink = BreaksNoRule asked texts shelf source sink
 
 -- With all told: the source was read to its end, and the sink holds what it held and then exactly
 -- what a program that the text spells means on the input: the meaning of each stage's greedy parse
 -- of what the stage before it wrote.
-pub record Headline (states : ℕ) (text : List ℕ) (limit : ℕ) (input before : List ℕ) (rest held : Option (List ℕ)) : Type 0 where
+pub record Headline (states : ℕ) (text : List ℕ) (limit : ℕ) (input before : List ℕ)
+    (rest held : Option (List ℕ)) : Type 0 where
   pub program : Grammar
   pub accepts : Accepts (limits_of (running states)) text program
   pub meant : List ℕ

@@ -21,8 +21,8 @@ use Rattle.kex_words.specs.Words.Mode.{running, coding, acting, testing}
 use Rattle.kex_top.specs.Answer.{Said}
 use Rattle.kex_top.specs.Pipelines.{PipelineSays, StagesSay}
 
--- what is asked of a program: where its input is run through its stages, that no stage has more than so many states; otherwise that
--- it has one stage
+-- what is asked of a program: where its input is run through its stages, that no stage has more
+-- than so many states; otherwise that it has one stage
 abbrev pub limits_of : Mode → Limits
 limits_of (running states) = record { states = states; one_stage = false; tables = true }
 limits_of coding = record { states = 4096; one_stage = true; tables = false }
@@ -60,7 +60,8 @@ module _ (P : Grammar) (root : ℕ) where
 
   -- whether w has a parse
   abbrev pub TestAnswers : ℕ → List ℕ → Bool → Answer → Type 0
-  TestAnswers limit w e a = Answers (Viable P root) SaysNothing (HasParse P root) HasParseAlone limit w e a
+  TestAnswers limit w e a =
+      Answers (Viable P root) SaysNothing (HasParse P root) HasParseAlone limit w e a
 
   -- c begins a parse's code
   abbrev pub BeginsParse : List Symbol → Type 0
@@ -72,7 +73,8 @@ module _ (P : Grammar) (root : ℕ) where
 
   -- the bytes of the part of a parse that its code's front c gives
   abbrev pub WritesPart : List Symbol → List ℕ → Type 0
-  WritesPart c text = (t : Tree) × IsTree P (kind_at P root) t × Begins (code_at P root t) c × (text ≡ (part_meaning P (kind_at P root) t c (empty P)).bytes)
+  WritesPart c text = (t : Tree) × IsTree P (kind_at P root) t × Begins (code_at P root t) c
+      × (text ≡ (part_meaning P (kind_at P root) t c (empty P)).bytes)
 
   -- what w means as the text of a code, within a limit
   abbrev pub ActAnswers : ℕ → List ℕ → Bool → Answer → Type 0
@@ -94,8 +96,10 @@ MachineGives testing limit m w e a = nodes.MachineTestAnswers m limit w e a
 
 -- what a program says of an input
 abbrev pub SaysBy : Mode → Grammar → ℕ → List ℕ → Bool → Said → Type 0
-SaysBy mode P limit w e said = PipelineSays (λ root v d a. StageGives mode P limit root v d a) (roots_of P) w e said
+SaysBy mode P limit w e said =
+    PipelineSays (λ root v d a. StageGives mode P limit root v d a) (roots_of P) w e said
 
 -- what its machines say
 abbrev pub MachinesSay : Mode → ℕ → List Graph → List ℕ → Bool → Said → Type 0
-MachinesSay mode limit ms w e said = StagesSay (λ m v d a. MachineGives mode limit m v d a) ms w e said
+MachinesSay mode limit ms w e said =
+    StagesSay (λ m v d a. MachineGives mode limit m v d a) ms w e said

@@ -4,7 +4,9 @@ use Rattle.kex_ports.specs.Endings.{Ending, counts_of, after_finish, finishes_of
 use Rattle.kex_ports.specs.Reads.{Asks, Reads}
 use Rattle.kex_top.specs.Run.{is_whole}
 use Rattle.kex_top.specs.declared.status.Status.{Status}
-use Rattle.kex_top.specs.declared.status.Status.TheVariants.{Done, Rejected, Usage, Refused, ReadFault, WriteFault, ShelfFault, Memory, TooLong}
+use Rattle.kex_top.specs.declared.status.Status.TheVariants.{Done, Rejected, Usage, Refused}
+use Rattle.kex_top.specs.declared.status.Status.TheVariants.{ReadFault, WriteFault, ShelfFault}
+use Rattle.kex_top.specs.declared.status.Status.TheVariants.{Memory, TooLong}
 
 -- Where all was written, the sink was finished once, and that was the last call to it. After a
 -- failed write it wasn't finished; or all writes were taken, and to finish it failed.
@@ -33,4 +35,5 @@ ReadsBy (Some block) before now status = ReadsBlocks block before now status
 
 -- The sink before it is finished.
 abbrev pub IsSinkOpen : Option Ending → Option Ending → Status → Type 0
-IsSinkOpen before now status = (finishes_of now ≡ finishes_of before) × (is_whole status ≡ true → counts_of now ≡ counts_of before)
+IsSinkOpen before now status = (finishes_of now ≡ finishes_of before)
+    × (is_whole status ≡ true → counts_of now ≡ counts_of before)

@@ -13,7 +13,8 @@ use Rattle.kex_top.specs.History.{StagesFed, History}
 use Rattle.kex_top.specs.Pipelines.{StagesSay, first_limit}
 
 -- what stands for schedules in this way stands for one that gave these bytes more
-pub record IsGiven (stands : List Event → Type 0) (more : List ℕ) (given : List Event) : Type 0 where
+pub record IsGiven (stands : List Event → Type 0) (more : List ℕ)
+    (given : List Event) : Type 0 where
   pub events : List Event
   pub bytes : bytes_given events ≡ bytes_given given ++ more
   pub same_end : end_given events ≡ end_given given
@@ -27,7 +28,8 @@ module _ {P : Type 0} (gives : P → List ℕ → Bool → Answer → Type 0) (p
     pub after : After gives plans events came seats
     pub settled : Settled gives came plans seats
 
-  -- what stands for schedules in this way stands for one that gave the same, and all of that is worked off
+  -- what stands for schedules in this way stands for one that gave the same, and all of that is
+  -- worked off
   pub record IsWorkedOff (stands : List Event → Type 0) (given : List Event) : Type 0 where
     pub events : List Event
     pub same_bytes : bytes_given events ≡ bytes_given given
@@ -49,10 +51,12 @@ module _ {T : Type 0} (t : Ghosts T) where
   any_in_hand (Rounds pipe) = by_rounds.in_hand t pipe
   any_in_hand (Rings pipe counts) = by_rings.rings_in_hand t pipe
 
-  -- the pipe of stages with these plans has come by this schedule, and this was taken from its output
+  -- the pipe of stages with these plans has come by this schedule, and this was taken from its
+  -- output
   abbrev pub AnyPipeStands : List t.Plan → AnyPipe T t → List Event → List ℕ → Type 0
   AnyPipeStands plans (Rounds pipe) events taken = by_rounds.Stands t plans pipe events taken
-  AnyPipeStands plans (Rings pipe counts) events taken = by_rings.RingsStand t plans pipe events taken
+  AnyPipeStands plans (Rings pipe counts) events taken =
+      by_rings.RingsStand t plans pipe events taken
 
   abbrev pub stages_of : AnyPipe T t → List T
   stages_of (Rounds pipe) = map (λ s. s.staged.stage) pipe.seats.items
@@ -75,7 +79,8 @@ module _ {T : Type 0} (t : Ghosts T) where
     pub given : List Event
     pub bytes : bytes_given given ≡ f.bytes
     pub end : end_given given ≡ f.ended
-    pub worked_off : IsWorkedOff t.gives plans (λ events. AnyPipeStands plans pipe events f.said.text) given
+    pub worked_off
+        : IsWorkedOff t.gives plans (λ events. AnyPipeStands plans pipe events f.said.text) given
     pub says : PipeSays plans f.bytes f.ended f.said
 
   abbrev pub PipeStands : AnyPipe T t → History → Type 0

@@ -11,11 +11,13 @@ use Rattle.kex_compile.specs.Stages.{roots_of}
 use Rattle.kex_top.specs.Answer.{Said}
 
 -- the answer of a pipeline, by what each of its stages gives
-abbrev pub PipelineSays : {T : Type 0} → (T → List ℕ → Bool → Answer → Type 0) → List T → List ℕ → Bool → Said → Type 0
+abbrev pub PipelineSays : {T : Type 0} → (T → List ℕ → Bool → Answer → Type 0) → List T → List ℕ
+    → Bool → Said → Type 0
 PipelineSays Gives stages w e said = Pipeline Gives 1 stages w e said.text (report_as said.report)
 
 -- the same, of one stage at least
-abbrev pub StagesSay : {T : Type 0} → (T → List ℕ → Bool → Answer → Type 0) → List T → List ℕ → Bool → Said → Type 0
+abbrev pub StagesSay : {T : Type 0} → (T → List ℕ → Bool → Answer → Type 0) → List T → List ℕ → Bool
+    → Said → Type 0
 StagesSay Gives stages w e said = (0 < length stages) × PipelineSays Gives stages w e said
 
 -- on each text, open or ended, there is something that is said
@@ -45,10 +47,12 @@ NodesSay plans w e said = StagesSay (λ p v d a. Gives p v d a) plans w e said
 
 -- over the stages of a program, each within the limit
 abbrev pub Answered : Grammar → ℕ → List ℕ → Bool → Said → Type 0
-Answered P limit w e said = PipelineSays (λ root v d a. StageAnswers P root limit v d a) (roots_of P) w e said
+Answered P limit w e said =
+    PipelineSays (λ root v d a. StageAnswers P root limit v d a) (roots_of P) w e said
 
--- the meanings of stages, one after the other: each stage's input is within the limit, and the next stage reads what its greedy
--- parse means
+-- the meanings of stages, one after the other: each stage's input is within the limit, and the next
+-- stage reads what its greedy parse means
 abbrev pub MeansInTurn : Grammar → ℕ → List ℕ → List ℕ → List ℕ → Type 0
 MeansInTurn P limit [] input text = text ≡ input
-MeansInTurn P limit (root ∷ roots) input text = (length input ≤ limit) × (mid : List ℕ) × Means P root input mid × MeansInTurn P limit roots mid text
+MeansInTurn P limit (root ∷ roots) input text = (length input ≤ limit) × (mid : List ℕ)
+    × Means P root input mid × MeansInTurn P limit roots mid text

@@ -70,7 +70,8 @@ pub record IsBrokenRule (limits : Limits) (told : ShelfText) (r : Refusal) : Typ
 
 -- What is told is past the limit, or breaks the rule.
 abbrev pub IsRefusedFor : Limits → ShelfText → Refusal → Type 0
-IsRefusedFor limits told r = (IsPast told most_text × (r ≡ broken rules.TextTooLong)) ⊎ IsBrokenRule limits told r
+IsRefusedFor limits told r = (IsPast told most_text × (r ≡ broken rules.TextTooLong))
+    ⊎ IsBrokenRule limits told r
 
 -- A text that is told has these plans.
 pub record HasPlans (limits : Limits) (told : ShelfText) (plans : Plans) : Type 0 where

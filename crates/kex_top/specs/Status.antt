@@ -5,7 +5,9 @@ use Rattle.kex_pipe.specs.declared.turn.Why.TheVariants.{Byte, End, Limit}
 use Rattle.kex_words.specs.declared.notes.Note.{Note}
 use Rattle.kex_words.specs.declared.notes.Note.TheVariants as note
 use Rattle.kex_top.specs.declared.status.Status.{Status}
-use Rattle.kex_top.specs.declared.status.Status.TheVariants.{Done, Rejected, Usage, Refused, ReadFault, WriteFault, ShelfFault, Memory, TooLong}
+use Rattle.kex_top.specs.declared.status.Status.TheVariants.{Done, Rejected, Usage, Refused}
+use Rattle.kex_top.specs.declared.status.Status.TheVariants.{ReadFault, WriteFault, ShelfFault}
+use Rattle.kex_top.specs.declared.status.Status.TheVariants.{Memory, TooLong}
 
 abbrev pub status_number : Status → ℕ
 status_number Done = 0

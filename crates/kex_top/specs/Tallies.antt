@@ -13,7 +13,8 @@ pub record IsTally (tally : Tally) (given text : List ℕ) : Type 0 where
 
 module _ (says : List ℕ → Bool → Said → Type 0) where
   -- the call brings the stages to w, and counts what is said there and wasn't yet
-  pub record Counts (stands : History → Type 0) (h : History) (w : List ℕ) (e : Bool) (old new : Tally) : Type 0 where
+  pub record Counts (stands : History → Type 0) (h : History) (w : List ℕ) (e : Bool)
+      (old new : Tally) : Type 0 where
     pub said : Said
     pub is_said : says w e said
     pub stands_for : stands (Some (record { bytes = w; ended = e; said = said }))
@@ -29,7 +30,8 @@ module _ (says : List ℕ → Bool → Said → Type 0) (stands : History → Ty
 
   -- it was fed some of these bytes, and the rest waits
   abbrev pub HasWaiting : List ℕ → List ℕ → Tally → Type 0
-  HasWaiting all waiting tally = (bytes : List ℕ) × AreStagesFed bytes tally × (all ≡ bytes ++ waiting)
+  HasWaiting all waiting tally = (bytes : List ℕ) × AreStagesFed bytes tally
+      × (all ≡ bytes ++ waiting)
 
 -- what is said on the bytes, ended, is counted
 abbrev pub SumsUp : (List ℕ → Bool → Said → Type 0) → List ℕ → Tally → Type 0

@@ -1,5 +1,6 @@
 -- The lines that a trial makes, the program that it runs them through, and what it sums up.
-use Rattle.std.specs.Prelude.{◌≡◌, ◌+◌, ◌*◌, ◌/◌, ◌%◌, ◌-◌, ◌^◌, ℕ, zero, suc, Bool, true, List, [], ◌∷◌, ◌++◌, codes, decimal, length, min}
+use Rattle.std.specs.Prelude.{◌≡◌, ◌+◌, ◌*◌, ◌/◌, ◌%◌, ◌-◌, ◌^◌, ℕ, zero, suc, Bool, true, List, []}
+use Rattle.std.specs.Prelude.{◌∷◌, ◌++◌, codes, decimal, length, min}
 use Rattle.kex_words.specs.declared.counts.Summary.{Summary}
 use Rattle.kex_top.specs.Answer.{Said}
 
@@ -34,14 +35,16 @@ saturated_count n = min n (2 ^ 64 - 1)
 
 -- it turns each line round, and joins its words by a sign
 abbrev pub trial_text : List ℕ
-trial_text = codes "start: swap >> mark\nswap := (w@/[a-z]+/ ~/ / n@/[0-9]+/ !n \" \" !w /\\n/)*\nmark := (/[0-9]+/ ~/ / \"=\" /[a-z]+\\n/)*\n"
+trial_text = codes
+    "start: swap >> mark\nswap := (w@/[a-z]+/ ~/ / n@/[0-9]+/ !n \" \" !w /\\n/)*\nmark := (/[0-9]+/ ~/ / \"=\" /[a-z]+\\n/)*\n"
 
 -- a trial's program may have as many states as one that is run
 abbrev pub usual_states : ℕ
 usual_states = 4096
 
 -- what is said of so many lines is summed up
-pub record IsSummary (says : List ℕ → Bool → Said → Type 0) (lines : ℕ) (summary : Summary) : Type 0 where
+pub record IsSummary (says : List ℕ → Bool → Said → Type 0) (lines : ℕ)
+    (summary : Summary) : Type 0 where
   pub said : Said
   pub is_said : says (made_lines lines) true said
   pub lines_of : summary.lines ≡ lines

@@ -1,11 +1,13 @@
 // A pipe of a program's stages, which work by rounds or over rings.
-ghost use Rattle.std.specs.Prelude.{◌≡◌, ◌<◌, ◌++◌, ◌∷◌, [], List, ℕ, Some, None, All, IfOk, OnOk, false, take, map, vec_len};
+ghost use Rattle.std.specs.Prelude.{◌≡◌, ◌<◌, ◌++◌, ◌∷◌, [], List, ℕ, Some, None, All, IfOk, OnOk};
+ghost use Rattle.std.specs.Prelude.{false, take, map, vec_len};
 ghost use Rattle.kex_model.specs.Answers.{Pipeline};
 ghost use Rattle.kex_model.specs.Schedules.{Event, give_end};
 ghost use Rattle.kex_pipe.specs.Events.{bytes_given, end_given};
 ghost use Rattle.kex_pipe.specs.Reports.{report_as};
 ghost use Rattle.kex_top.specs.Fronts.{IsFront};
-ghost use Rattle.kex_top.specs.Piped.{IsGiven, IsPipeSettled, IsWorkedOff, AnyPipeStands, any_in_hand, is_any_ended, is_any_in_round, plans_of};
+ghost use Rattle.kex_top.specs.Piped.{IsGiven, IsPipeSettled, IsWorkedOff, AnyPipeStands};
+ghost use Rattle.kex_top.specs.Piped.{any_in_hand, is_any_ended, is_any_in_round, plans_of};
 
 use crate::rounds::Pace;
 use crate::{rings, rounds};
@@ -36,7 +38,8 @@ impl<T: Turn + Drop> AnyPipe<T> {
     ) -> Result<AnyPipe<T>, Memory>
         requires some { 0 < vec_len stages }
         requires unfed { All (λ s. T.stands s None) stages.items }
-        ensures stands { IfOk result (λ pipe. AnyPipeStands T.Turn (map T.plan stages.items) pipe [] []) }
+        ensures stands { IfOk result (λ pipe.
+            AnyPipeStands T.Turn (map T.plan stages.items) pipe [] []) }
         ensures plans { IfOk result (λ pipe. plans_of T.Turn pipe ≡ map T.plan stages.items) }
     {
         match rings {
@@ -52,7 +55,9 @@ impl<T: Turn + Drop> AnyPipe<T> {
     pub(crate) fn give_end(&mut self) -> Result<(), PipeFault>
         requires unended { is_any_ended T.Turn self.old ≡ false }
         requires closed { is_any_in_round T.Turn self.old ≡ false }
-        ensures stands { OnOk result ((ps : List T.Plan) (h : List Event) (taken : List ℕ) → AnyPipeStands T.Turn ps self.old h taken → AnyPipeStands T.Turn ps self.new (h ++ give_end ∷ []) taken) }
+        ensures stands { OnOk result ((ps : List T.Plan) (h : List Event) (taken : List ℕ)
+            → AnyPipeStands T.Turn ps self.old h taken
+            → AnyPipeStands T.Turn ps self.new (h ++ give_end ∷ []) taken) }
         ensures closed { is_any_in_round T.Turn self.new ≡ false }
     {
         match self {
@@ -65,7 +70,9 @@ impl<T: Turn + Drop> AnyPipe<T> {
     pub(crate) fn take_output_into(&mut self, out: &mut Vec<u8>)
         requires closed { is_any_in_round T.Turn self.old ≡ false }
         ensures none_left { any_in_hand T.Turn self.new ≡ [] }
-        ensures stands { (ps : List T.Plan) (h : List Event) (taken : List ℕ) → AnyPipeStands T.Turn ps self.old h taken → AnyPipeStands T.Turn ps self.new h (taken ++ out.new.items) }
+        ensures stands { (ps : List T.Plan) (h : List Event) (taken : List ℕ)
+            → AnyPipeStands T.Turn ps self.old h taken
+            → AnyPipeStands T.Turn ps self.new h (taken ++ out.new.items) }
     {
         match self {
             AnyPipe::Rounds(pipe) => pipe.take_output_into(out),
@@ -75,8 +82,10 @@ impl<T: Turn + Drop> AnyPipe<T> {
 
     /// The stop of the last stage that has stopped.
     pub(crate) fn report(&self) -> Option<Rejected>
-        ensures settled { (ps : List T.Plan) (h : List Event) (taken : List ℕ) → AnyPipeStands T.Turn ps self.now h taken → IsPipeSettled T.gives ps h
-            → Pipeline T.gives 1 ps (bytes_given h) (end_given h) (taken ++ any_in_hand T.Turn self.now) (report_as result) }
+        ensures settled { (ps : List T.Plan) (h : List Event) (taken : List ℕ)
+            → AnyPipeStands T.Turn ps self.now h taken → IsPipeSettled T.gives ps h
+            → Pipeline T.gives 1 ps (bytes_given h) (end_given h)
+            (taken ++ any_in_hand T.Turn self.now) (report_as result) }
     {
         match self {
             AnyPipe::Rounds(pipe) => pipe.report(),
@@ -96,7 +105,9 @@ pub(crate) fn give_front<R: Threads + Sync, T: Turn + Drop + Send, G: Gate + Syn
     requires unended { is_any_ended T.Turn pipe.old ≡ false }
     requires closed { is_any_in_round T.Turn pipe.old ≡ false }
     ensures front { IfOk result (λ count. IsFront pace bytes.now count) }
-    ensures given { IfOk result (λ count. (ps : List T.Plan) (h : List Event) (taken : List ℕ) → AnyPipeStands T.Turn ps pipe.old h taken → IsGiven (λ k. AnyPipeStands T.Turn ps pipe.new k taken) (take count bytes.now) h) }
+    ensures given { IfOk result (λ count. (ps : List T.Plan) (h : List Event) (taken : List ℕ)
+        → AnyPipeStands T.Turn ps pipe.old h taken
+        → IsGiven (λ k. AnyPipeStands T.Turn ps pipe.new k taken) (take count bytes.now) h) }
     ensures closed { is_any_in_round T.Turn pipe.new ≡ false }
 {
     match pipe {
@@ -112,7 +123,9 @@ pub(crate) fn work_off<R: Threads + Sync, T: Turn + Drop + Send, G: Gate + Sync>
     gate: &G,
 ) -> Result<(), PipeFault>
     requires closed { is_any_in_round T.Turn pipe.old ≡ false }
-    ensures works { OnOk result ((ps : List T.Plan) (h : List Event) (taken : List ℕ) → AnyPipeStands T.Turn ps pipe.old h taken → IsWorkedOff T.gives ps (λ k. AnyPipeStands T.Turn ps pipe.new k taken) h) }
+    ensures works { OnOk result ((ps : List T.Plan) (h : List Event) (taken : List ℕ)
+        → AnyPipeStands T.Turn ps pipe.old h taken
+        → IsWorkedOff T.gives ps (λ k. AnyPipeStands T.Turn ps pipe.new k taken) h) }
     ensures closed { is_any_in_round T.Turn pipe.new ≡ false }
 {
     match pipe {

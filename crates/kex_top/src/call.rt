@@ -90,13 +90,16 @@ fn answer<R: Threads + Sync, G: Gate + Sync, H: Shelf, S: Source, K: Sink>(
     answer_command(rt, gate, alloc, command, shelf, input, output)
 }
 
-/// Does what the words ask for, and leaves a line in the notes. The words begin with the program's own name.
+/// Does what the words ask for, and leaves a line in the notes. The words begin with the program's
+/// own name.
 ///
-/// `run` writes what the program means on the input: exactly the meaning of its greedy parse; where the input breaks off or has
-/// no parse, exactly what its surviving paths agreed on before the first byte after which no continuation parses. Of a program of
-/// several stages each stage reads what the one before it wrote. `code` writes the code of the greedy parse, `act` what the input
-/// means as such a code, and `test` only asks whether there is a parse, all of a program of one stage. `check` writes a line with
-/// the counts of stages, places and states, and `trial` one that sums up what a program of its own writes for lines of its own.
+/// `run` writes what the program means on the input: exactly the meaning of its greedy parse; where
+/// the input breaks off or has no parse, exactly what its surviving paths agreed on before the
+/// first byte after which no continuation parses. Of a program of several stages each stage reads
+/// what the one before it wrote. `code` writes the code of the greedy parse, `act` what the input
+/// means as such a code, and `test` only asks whether there is a parse, all of a program of one
+/// stage. `check` writes a line with the counts of stages, places and states, and `trial` one that
+/// sums up what a program of its own writes for lines of its own.
 pub fn kex<R: Threads + Sync, H: Shelf, S: Source, K: Sink, N: Sink, G: Gate + Sync>(
     rt: &R,
     alloc: Global,
@@ -127,15 +130,18 @@ pub fn kex<R: Threads + Sync, H: Shelf, S: Source, K: Sink, N: Sink, G: Gate + S
         × (calls.writes ≡ false → output.new ≡ output.old) }
 
     // What is told of shelf, source and sink, and the answer Done, fix the output.
-    ensures headline { (states : ℕ) (name : List ℕ) (reach : Reach) (text input_bytes before : List ℕ)
+    ensures headline { (states : ℕ) (name : List ℕ) (reach : Reach)
+        (text input_bytes before : List ℕ)
         → asked_of (map string_bytes words.now) ≡ Some (ToStream (running states) name reach)
         → told_of (H.texts shelf.old) name ≡ present text
         → S.rest input.old ≡ Some input_bytes → K.held output.old ≡ Some before → result ≡ Done
-        → Headline states text reach.max_input input_bytes before (S.rest input.new) (K.held output.new) }
+        → Headline states text reach.max_input input_bytes before (S.rest input.new)
+        (K.held output.new) }
 
     ensures unfinished { finishes_of (N.ending notes.new) ≡ finishes_of (N.ending notes.old) }
     ensures silent { result ≡ Done → notes.new ≡ notes.old }
-    ensures note { Gains (change_of N.held N.faults notes.old notes.new) (line_of (note_of result)) }
+    ensures note { Gains (change_of N.held N.faults notes.old notes.new)
+        (line_of (note_of result)) }
 {
     let status = status_of(answer(rt, gate, alloc, words, shelf, input, output));
     tell(status.note(), notes);

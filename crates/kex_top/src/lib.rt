@@ -1,6 +1,7 @@
 //! The command that runs a program over a source into a sink.
 //!
-//! Stands on plans, stages and the outside's traits. The clauses of `kex` are the promise of the whole program.
+//! Stands on plans, stages and the outside's traits. The clauses of `kex` are the promise of the
+//! whole program.
 #![tactic(auto)]
 
 mod any_pipe;

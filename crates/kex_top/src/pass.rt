@@ -1,7 +1,9 @@
 // One block through the stages into a sink.
-ghost use Rattle.std.specs.Prelude.{◌≡◌, ◌++◌, true, false, List, ℕ, Option, Some, None, IfErr, IfOk, OnOk};
+ghost use Rattle.std.specs.Prelude.{◌≡◌, ◌++◌, true, false, List, ℕ, Option, Some, None, IfErr};
+ghost use Rattle.std.specs.Prelude.{IfOk, OnOk};
 ghost use Rattle.kex_ports.specs.Endings.{IsUnfinished};
-ghost use Rattle.kex_top.specs.History.{History, bytes_passed, is_history_ended, WritesSaid, WritesUpTo};
+ghost use Rattle.kex_top.specs.History.{History, bytes_passed, is_history_ended, WritesSaid};
+ghost use Rattle.kex_top.specs.History.{WritesUpTo};
 ghost use Rattle.kex_top.specs.Piped.{PipeSays, PipeStands, plans_of};
 ghost use Rattle.kex_top.specs.Pipelines.{AlwaysSays};
 ghost use Rattle.kex_top.specs.Run.{TroubleCause};
@@ -41,7 +43,8 @@ impl From<Failed> for Trouble {
 
 /// Feeds a block front by front, and writes what is said after each.
 ///
-/// What is said of a front begins what is said of the block, if anything is: that has to be known where fronts are written.
+/// What is said of a front begins what is said of the block, if anything is: that has to be known
+/// where fronts are written.
 pub(crate) fn pass<R: Threads + Sync, T: Limited + Drop + Send, G: Gate + Sync, K: Sink>(
     rt: &R,
     gate: &G,
@@ -54,10 +57,14 @@ pub(crate) fn pass<R: Threads + Sync, T: Limited + Drop + Send, G: Gate + Sync, 
     requires stands { (h : History) × PipeStands T.Turn pipe.old h × (is_history_ended h ≡ false) }
     requires says { pace ≡ Pace.Parts → AlwaysSays (PipeSays T.Turn (plans_of T.Turn pipe.old)) }
     ensures same { OnOk result (plans_of T.Turn pipe.new ≡ plans_of T.Turn pipe.old) }
-    ensures writes { IfOk result (λ fate. (h : History) → PipeStands T.Turn pipe.old h → is_history_ended h ≡ false
-        → WritesSaid (PipeSays T.Turn (plans_of T.Turn pipe.old)) (PipeStands T.Turn pipe.new) h (bytes_passed h ++ block.now) false (K.held output.old) (K.held output.new) fate) }
-    ensures trouble { IfErr result (λ trouble. (h : History) → PipeStands T.Turn pipe.old h → is_history_ended h ≡ false
-        → WritesUpTo (PipeSays T.Turn (plans_of T.Turn pipe.old)) h (bytes_passed h ++ block.now) false (K.held output.old) (K.held output.new) trouble) }
+    ensures writes { IfOk result (λ fate. (h : History) → PipeStands T.Turn pipe.old h
+        → is_history_ended h ≡ false
+        → WritesSaid (PipeSays T.Turn (plans_of T.Turn pipe.old)) (PipeStands T.Turn pipe.new) h
+        (bytes_passed h ++ block.now) false (K.held output.old) (K.held output.new) fate) }
+    ensures trouble { IfErr result (λ trouble. (h : History) → PipeStands T.Turn pipe.old h
+        → is_history_ended h ≡ false
+        → WritesUpTo (PipeSays T.Turn (plans_of T.Turn pipe.old)) h
+        (bytes_passed h ++ block.now) false (K.held output.old) (K.held output.new) trouble) }
     ensures cause { TroubleCause (K.faults output.old) (K.faults output.new) result }
     ensures unfinished { IsUnfinished (K.ending output.old) (K.ending output.new) result }
 {
@@ -82,10 +89,14 @@ pub(crate) fn pass_end<R: Threads + Sync, T: Limited + Drop + Send, G: Gate + Sy
 ) -> Result<Fate, Trouble>
     requires { (h : History) × PipeStands T.Turn pipe.old h × (is_history_ended h ≡ false) }
     ensures same { OnOk result (plans_of T.Turn pipe.new ≡ plans_of T.Turn pipe.old) }
-    ensures writes { IfOk result (λ fate. (h : History) → PipeStands T.Turn pipe.old h → is_history_ended h ≡ false
-        → WritesSaid (PipeSays T.Turn (plans_of T.Turn pipe.old)) (PipeStands T.Turn pipe.new) h (bytes_passed h) true (K.held output.old) (K.held output.new) fate) }
-    ensures trouble { IfErr result (λ trouble. (h : History) → PipeStands T.Turn pipe.old h → is_history_ended h ≡ false
-        → WritesUpTo (PipeSays T.Turn (plans_of T.Turn pipe.old)) h (bytes_passed h) true (K.held output.old) (K.held output.new) trouble) }
+    ensures writes { IfOk result (λ fate. (h : History) → PipeStands T.Turn pipe.old h
+        → is_history_ended h ≡ false
+        → WritesSaid (PipeSays T.Turn (plans_of T.Turn pipe.old)) (PipeStands T.Turn pipe.new) h
+        (bytes_passed h) true (K.held output.old) (K.held output.new) fate) }
+    ensures trouble { IfErr result (λ trouble. (h : History) → PipeStands T.Turn pipe.old h
+        → is_history_ended h ≡ false
+        → WritesUpTo (PipeSays T.Turn (plans_of T.Turn pipe.old)) h (bytes_passed h) true
+        (K.held output.old) (K.held output.new) trouble) }
     ensures cause { TroubleCause (K.faults output.old) (K.faults output.new) result }
     ensures unfinished { IsUnfinished (K.ending output.old) (K.ending output.new) result }
 {

@@ -1,10 +1,12 @@
 // The stages of a program, fed piece by piece.
-ghost use Rattle.std.specs.Prelude.{◌≡◌, ◌<◌, ◌++◌, List, ℕ, Some, IsSome, OnOk, IfOk, false, true, length, take};
+ghost use Rattle.std.specs.Prelude.{◌≡◌, ◌<◌, ◌++◌, List, ℕ, Some, IsSome, OnOk, IfOk, false, true};
+ghost use Rattle.std.specs.Prelude.{length, take};
 ghost use Rattle.std.proofs.Common.{ap};
 ghost use Rattle.kex_machine.proofs.NodeAnswers.{past_limit};
 ghost use Rattle.kex_model.specs.Answers.{Answer};
 ghost use Rattle.kex_top.specs.Fronts.{IsFront};
-ghost use Rattle.kex_top.specs.History.{StagesFed, History, bytes_passed, is_history_ended, IsFateOfStages, FeedsStages};
+ghost use Rattle.kex_top.specs.History.{StagesFed, History, bytes_passed, is_history_ended};
+ghost use Rattle.kex_top.specs.History.{IsFateOfStages, FeedsStages};
 ghost use Rattle.kex_top.specs.Piped.{PipeSays, PipeStands, plans_of};
 
 use crate::any_pipe::{AnyPipe, give_front, work_off};
@@ -23,7 +25,8 @@ pub(crate) trait Limited: Turn {
     /// Stages that work by the same have the same limit.
     ghost by_plan: { (s t : Self) → Self.plan s ≡ Self.plan t → limit s ≡ limit t };
 
-    ghost past_limit: { (s : Self) (w : List ℕ) (a : Answer) → Self.gives (Self.plan s) w false a → limit s < length w → IsSome a.stop };
+    ghost past_limit: { (s : Self) (w : List ℕ) (a : Answer) → Self.gives (Self.plan s) w false a
+        → limit s < length w → IsSome a.stop };
 }
 
 impl<'p> Limited for Stage<'p> {
@@ -31,7 +34,8 @@ impl<'p> Limited for Stage<'p> {
 
     ghost by_plan = { λ s t e. ap (λ p. p.limit) e };
 
-    ghost past_limit = { λ s w a g lt. past_limit (⟦<Stage<'p> as Turn>⟧.plan s).machine (⟦<Stage<'p> as Turn>⟧.plan s).limit g lt };
+    ghost past_limit = { λ s w a g lt. past_limit (⟦<Stage<'p> as Turn>⟧.plan s).machine
+        (⟦<Stage<'p> as Turn>⟧.plan s).limit g lt };
 }
 
 fn fate_of(report: Option<Rejected>) -> Fate
@@ -50,7 +54,8 @@ pub(crate) struct Front {
     pub(crate) fate: Fate,
 }
 
-/// Feeds a front of the piece, and puts into `out`, in place of what it held, what the stages say now of the bytes and haven't said yet.
+/// Feeds a front of the piece, and puts into `out`, in place of what it held, what the stages say
+/// now of the bytes and haven't said yet.
 ///
 /// Once a call has answered Err, the pipe may only be dropped.
 pub(crate) fn feed<R: Threads + Sync, T: Limited + Drop + Send, G: Gate + Sync>(
@@ -64,8 +69,10 @@ pub(crate) fn feed<R: Threads + Sync, T: Limited + Drop + Send, G: Gate + Sync>(
     requires { (h : History) × PipeStands T.Turn pipe.old h × (is_history_ended h ≡ false) }
     ensures same { OnOk result (plans_of T.Turn pipe.new ≡ plans_of T.Turn pipe.old) }
     ensures front { IfOk result (λ front. IsFront pace piece.now front.count) }
-    ensures feeds { IfOk result (λ front. (h : History) → PipeStands T.Turn pipe.old h → is_history_ended h ≡ false
-        → FeedsStages (PipeSays T.Turn (plans_of T.Turn pipe.old)) (PipeStands T.Turn pipe.new) h (bytes_passed h ++ take front.count piece.now) false out.new.items front.fate) }
+    ensures feeds { IfOk result (λ front. (h : History) → PipeStands T.Turn pipe.old h
+        → is_history_ended h ≡ false
+        → FeedsStages (PipeSays T.Turn (plans_of T.Turn pipe.old)) (PipeStands T.Turn pipe.new) h
+        (bytes_passed h ++ take front.count piece.now) false out.new.items front.fate) }
 {
     let count = give_front(rt, pipe, gate, pace, piece)?;
     work_off(rt, pipe, gate)?;
@@ -85,8 +92,10 @@ pub(crate) fn end<R: Threads + Sync, T: Limited + Drop + Send, G: Gate + Sync>(
 ) -> Result<Fate, PipeFault>
     requires { (h : History) × PipeStands T.Turn pipe.old h × (is_history_ended h ≡ false) }
     ensures same { OnOk result (plans_of T.Turn pipe.new ≡ plans_of T.Turn pipe.old) }
-    ensures feeds { IfOk result (λ fate. (h : History) → PipeStands T.Turn pipe.old h → is_history_ended h ≡ false
-        → FeedsStages (PipeSays T.Turn (plans_of T.Turn pipe.old)) (PipeStands T.Turn pipe.new) h (bytes_passed h) true out.new.items fate) }
+    ensures feeds { IfOk result (λ fate. (h : History) → PipeStands T.Turn pipe.old h
+        → is_history_ended h ≡ false
+        → FeedsStages (PipeSays T.Turn (plans_of T.Turn pipe.old)) (PipeStands T.Turn pipe.new) h
+        (bytes_passed h) true out.new.items fate) }
 {
     pipe.give_end()?;
     work_off(rt, pipe, gate)?;

@@ -24,7 +24,9 @@ pub(crate) fn give_all<T: Turn + Drop>(
 ) -> Result<usize, PipeFault>
     requires unended { rings_ended T.Turn pipe.old ≡ false }
     ensures count { IfOk result (λ count. count ≡ length bytes.now) }
-    ensures given { IfOk result (λ count. (ps : List T.Plan) (h : List Event) (taken : List ℕ) → RingsStand T.Turn ps pipe.old h taken → IsGiven (λ k. RingsStand T.Turn ps pipe.new k taken) (take count bytes.now) h) }
+    ensures given { IfOk result (λ count. (ps : List T.Plan) (h : List Event) (taken : List ℕ)
+        → RingsStand T.Turn ps pipe.old h taken
+        → IsGiven (λ k. RingsStand T.Turn ps pipe.new k taken) (take count bytes.now) h) }
 {
     pipe.give(bytes)?;
     Ok(bytes.len())
@@ -37,7 +39,9 @@ pub(crate) fn work_off<R: Threads + Sync, T: Turn + Drop + Send, G: Gate + Sync>
     gate: &G,
     counts: &mut Vec<u64>,
 ) -> Result<(), PipeFault>
-    ensures { OnOk result ((ps : List T.Plan) (h : List Event) (taken : List ℕ) → RingsStand T.Turn ps pipe.old h taken → IsWorkedOff T.gives ps (λ k. RingsStand T.Turn ps pipe.new k taken) h) }
+    ensures { OnOk result ((ps : List T.Plan) (h : List Event) (taken : List ℕ)
+        → RingsStand T.Turn ps pipe.old h taken
+        → IsWorkedOff T.gives ps (λ k. RingsStand T.Turn ps pipe.new k taken) h) }
 {
     'rounds: for _round in 0..ROUNDS {
         if pipe.settled() {

@@ -17,14 +17,15 @@ const ENOUGH: usize = 65_536;
 /// When what the stages say goes out.
 #[derive(Clone, Copy, Debug, PartialEq, Eq)]
 pub(crate) enum Pace {
-    /// After a part of a block behind which nothing waits, where there is enough of it, and when the block is worked off.
+    /// After a part of a block behind which nothing waits, where there is enough of it, and when
+    /// the block is worked off.
     Parts,
     /// When a block is worked off.
     Blocks,
 }
 
-// The most bytes that are given at once to so many stages. What a single one says of them is held, so they are few; of several each
-// takes a thread for them, so they are more.
+// The most bytes that are given at once to so many stages. What a single one says of them is held,
+// so they are few; of several each takes a thread for them, so they are more.
 fn part_for(stages: u32) -> usize
     ensures some { 0 < result }
     ensures few { result ≤ 65536 }
@@ -34,8 +35,9 @@ fn part_for(stages: u32) -> usize
     if stages > 1 { 16_384 } else { 4_096 }
 }
 
-/// Gives bytes in parts, with a round after each: a stage works on one part while the next works on what came of the part before.
-/// Tells how many were given: all, or by parts as many as leave nothing waiting and enough output.
+/// Gives bytes in parts, with a round after each: a stage works on one part while the next works on
+/// what came of the part before. Tells how many were given: all, or by parts as many as leave
+/// nothing waiting and enough output.
 pub(crate) fn give_front<R: Threads + Sync, T: Turn + Drop + Send, G: Gate + Sync>(
     rt: &R,
     pipe: &mut Pipe<T>,
@@ -46,7 +48,9 @@ pub(crate) fn give_front<R: Threads + Sync, T: Turn + Drop + Send, G: Gate + Syn
     requires unended { is_ended T.Turn pipe.old ≡ false }
     requires closed { is_in_round T.Turn pipe.old ≡ false }
     ensures front { IfOk result (λ count. IsFront pace bytes.now count) }
-    ensures given { IfOk result (λ count. (ps : List T.Plan) (h : List Event) (taken : List ℕ) → Stands T.Turn ps pipe.old h taken → IsGiven (λ k. Stands T.Turn ps pipe.new k taken) (take count bytes.now) h) }
+    ensures given { IfOk result (λ count. (ps : List T.Plan) (h : List Event) (taken : List ℕ)
+        → Stands T.Turn ps pipe.old h taken
+        → IsGiven (λ k. Stands T.Turn ps pipe.new k taken) (take count bytes.now) h) }
     ensures closed { is_in_round T.Turn pipe.new ≡ false }
 {
     let part = part_for(pipe.count());
@@ -63,14 +67,17 @@ pub(crate) fn give_front<R: Threads + Sync, T: Turn + Drop + Send, G: Gate + Syn
     Ok(given)
 }
 
-/// Makes rounds until nothing waits: with each one stage more, in the order of the pipeline, has worked off all that comes to it.
+/// Makes rounds until nothing waits: with each one stage more, in the order of the pipeline, has
+/// worked off all that comes to it.
 pub(crate) fn work_off<R: Threads + Sync, T: Turn + Drop + Send, G: Gate + Sync>(
     rt: &R,
     pipe: &mut Pipe<T>,
     gate: &G,
 ) -> Result<(), PipeFault>
     requires closed { is_in_round T.Turn pipe.old ≡ false }
-    ensures works { OnOk result ((ps : List T.Plan) (h : List Event) (taken : List ℕ) → Stands T.Turn ps pipe.old h taken → IsWorkedOff T.gives ps (λ k. Stands T.Turn ps pipe.new k taken) h) }
+    ensures works { OnOk result ((ps : List T.Plan) (h : List Event) (taken : List ℕ)
+        → Stands T.Turn ps pipe.old h taken
+        → IsWorkedOff T.gives ps (λ k. Stands T.Turn ps pipe.new k taken) h) }
     ensures closed { is_in_round T.Turn pipe.new ≡ false }
 {
     let count = pipe.count();

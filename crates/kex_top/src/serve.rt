@@ -1,5 +1,6 @@
 // The commands on an input.
-ghost use Rattle.std.specs.Prelude.{◌≡◌, ◌<◌, ◌∷◌, [], All, IfOk, None, OnErr, true, false, length, map, vec_len};
+ghost use Rattle.std.specs.Prelude.{◌≡◌, ◌<◌, ◌∷◌, [], All, IfOk, None, OnErr, true, false, length};
+ghost use Rattle.std.specs.Prelude.{map, vec_len};
 ghost use Rattle.kex_ports.specs.Reads.{last_given};
 ghost use Rattle.kex_ports.specs.Shelf.{told_of};
 ghost use Rattle.kex_stage.specs.Plans.{machine_of};
@@ -42,9 +43,12 @@ pub(crate) fn stages_of<'p>(
     max_input: u64,
 ) -> Result<Vec<Stage<'p>>, Memory>
     ensures count { IfOk result (λ stages. vec_len stages ≡ length plans.now) }
-    ensures plans { IfOk result (λ stages. map ⟦<Stage<'p> as Turn>⟧.plan stages.items ≡ stage_plans max_input (map machine_of plans.now)) }
-    ensures unfed { IfOk result (λ stages. All (λ s. ⟦<Stage<'p> as Turn>⟧.stands s None) stages.items) }
-    ensures answers { IfOk result (λ stages. AllAnswer ⟦<Stage<'p> as Turn>⟧.gives (map ⟦<Stage<'p> as Turn>⟧.plan stages.items)) }
+    ensures plans { IfOk result (λ stages. map ⟦<Stage<'p> as Turn>⟧.plan stages.items
+        ≡ stage_plans max_input (map machine_of plans.now)) }
+    ensures unfed { IfOk result (λ stages.
+        All (λ s. ⟦<Stage<'p> as Turn>⟧.stands s None) stages.items) }
+    ensures answers { IfOk result (λ stages.
+        AllAnswer ⟦<Stage<'p> as Turn>⟧.gives (map ⟦<Stage<'p> as Turn>⟧.plan stages.items)) }
 {
     let mut stages = Vec::new(alloc);
     'plans: for plan in plans {
@@ -63,9 +67,11 @@ pub(crate) fn pipe_of<'p>(
     rings: Option<Rings>,
 ) -> Result<AnyPipe<Stage<'p>>, Memory>
     requires { 0 < length plans.now }
-    ensures plans { IfOk result (λ pipe. plans_of ⟦<Stage<'p> as Turn>⟧ pipe ≡ stage_plans max_input (map machine_of plans.now)) }
+    ensures plans { IfOk result (λ pipe. plans_of ⟦<Stage<'p> as Turn>⟧ pipe
+        ≡ stage_plans max_input (map machine_of plans.now)) }
     ensures fresh { IfOk result (λ pipe. PipeStands ⟦<Stage<'p> as Turn>⟧ pipe None) }
-    ensures says { IfOk result (λ pipe. AlwaysSays (PipeSays ⟦<Stage<'p> as Turn>⟧ (plans_of ⟦<Stage<'p> as Turn>⟧ pipe))) }
+    ensures says { IfOk result (λ pipe.
+        AlwaysSays (PipeSays ⟦<Stage<'p> as Turn>⟧ (plans_of ⟦<Stage<'p> as Turn>⟧ pipe))) }
 {
     let stages = stages_of(alloc, plans, max_input)?;
     let pipe = AnyPipe::new(alloc, stages, rings)?;
@@ -83,13 +89,15 @@ fn run_stages<R: Threads + Sync, G: Gate + Sync, S: Source, K: Sink>(
     output: &mut K,
 ) -> Result<Status, Memory>
     requires { 0 < length compiled.now.stages }
-    ensures ran { IfOk result (λ status. Ran (NodesSay (stage_plans limits.max_input compiled.now.stages))
+    ensures ran { IfOk result (λ status.
+        Ran (NodesSay (stage_plans limits.max_input compiled.now.stages))
         (last_given limits.block (S.reads input.new))
         (change_of S.rest S.faults input.old input.new)
         (change_of K.held K.faults output.old output.new) status) }
     ensures blocks { IfOk result (λ status.
         ReadsBlocks limits.block (S.reads input.old) (S.reads input.new) status) }
-    ensures closes { IfOk result (λ status. Closes (K.ending output.old) (K.ending output.new) status) }
+    ensures closes { IfOk result (λ status.
+        Closes (K.ending output.old) (K.ending output.new) status) }
     ensures left { OnErr result ((input.new ≡ input.old) × (output.new ≡ output.old)) }
 {
     let mut pipe = pipe_of(alloc, compiled.stages(), limits.max_input, limits.rings)?;
@@ -118,7 +126,8 @@ fn serve<R: Threads + Sync, G: Gate + Sync, S: Source, K: Sink>(
 ) -> Result<Status, Memory>
     requires some { 0 < length compiled.now.stages }
     requires one { (limits_of (mode_of mode)).one_stage ≡ true → length compiled.now.stages ≡ 1 }
-    ensures ran { IfOk result (λ status. Ran (MachinesSay (mode_of mode) limits.max_input compiled.now.stages)
+    ensures ran { IfOk result (λ status.
+        Ran (MachinesSay (mode_of mode) limits.max_input compiled.now.stages)
         (last_given limits.block (S.reads input.new))
         (change_of S.rest S.faults input.old input.new)
         (change_of K.held K.faults output.old output.new) status) }

@@ -32,7 +32,8 @@ impl<'m> Limited for Coder<'m> {
 
     ghost by_plan = { λ s t e. ap (λ p. p.limit) e };
 
-    ghost past_limit = { λ s w a g lt. code.past (⟦<Coder<'m> as Turn>⟧.plan s).machine (⟦<Coder<'m> as Turn>⟧.plan s).limit w a g lt };
+    ghost past_limit = { λ s w a g lt. code.past (⟦<Coder<'m> as Turn>⟧.plan s).machine
+        (⟦<Coder<'m> as Turn>⟧.plan s).limit w a g lt };
 }
 
 impl<'m> Limited for Player<'m> {
@@ -40,7 +41,8 @@ impl<'m> Limited for Player<'m> {
 
     ghost by_plan = { λ s t e. ap (λ p. p.limit) e };
 
-    ghost past_limit = { λ s w a g lt. act.past (⟦<Player<'m> as Turn>⟧.plan s).machine (⟦<Player<'m> as Turn>⟧.plan s).limit w a g lt };
+    ghost past_limit = { λ s w a g lt. act.past (⟦<Player<'m> as Turn>⟧.plan s).machine
+        (⟦<Player<'m> as Turn>⟧.plan s).limit w a g lt };
 }
 
 impl<'m> Limited for Tester<'m> {
@@ -48,7 +50,8 @@ impl<'m> Limited for Tester<'m> {
 
     ghost by_plan = { λ s t e. ap (λ p. p.limit) e };
 
-    ghost past_limit = { λ s w a g lt. test.past (⟦<Tester<'m> as Turn>⟧.plan s).machine (⟦<Tester<'m> as Turn>⟧.plan s).limit w a g lt };
+    ghost past_limit = { λ s w a g lt. test.past (⟦<Tester<'m> as Turn>⟧.plan s).machine
+        (⟦<Tester<'m> as Turn>⟧.plan s).limit w a g lt };
 }
 
 // Runs one stage.
@@ -65,13 +68,15 @@ fn run_one<R: Threads + Sync, T: Limited + Drop + Send, G: Gate + Sync, S: Sourc
     requires fresh { T.stands stage None }
     requires limit { T.limit stage ≡ limits.max_input }
     requires answers { pace ≡ Pace.Parts → AlwaysAnswers T.gives (T.plan stage) }
-    ensures ran { IfOk result (λ status. Ran (StagesSay (λ p w e a. T.gives p w e a) (T.plan stage ∷ []))
+    ensures ran { IfOk result (λ status.
+        Ran (StagesSay (λ p w e a. T.gives p w e a) (T.plan stage ∷ []))
         (last_given limits.block (S.reads input.new))
         (change_of S.rest S.faults input.old input.new)
         (change_of K.held K.faults output.old output.new) status) }
     ensures blocks { IfOk result (λ status.
         ReadsBlocks limits.block (S.reads input.old) (S.reads input.new) status) }
-    ensures closes { IfOk result (λ status. Closes (K.ending output.old) (K.ending output.new) status) }
+    ensures closes { IfOk result (λ status.
+        Closes (K.ending output.old) (K.ending output.new) status) }
     ensures left { OnErr result ((input.new ≡ input.old) × (output.new ≡ output.old)) }
 {
     let mut stages = Vec::new(alloc);
@@ -90,13 +95,15 @@ pub(crate) fn code<R: Threads + Sync, G: Gate + Sync, S: Source, K: Sink>(
     input: &mut S,
     output: &mut K,
 ) -> Result<Status, Memory>
-    ensures ran { IfOk result (λ status. Ran (MachinesSay coding limits.max_input (machine.now ∷ []))
+    ensures ran { IfOk result (λ status.
+        Ran (MachinesSay coding limits.max_input (machine.now ∷ []))
         (last_given limits.block (S.reads input.new))
         (change_of S.rest S.faults input.old input.new)
         (change_of K.held K.faults output.old output.new) status) }
     ensures blocks { IfOk result (λ status.
         ReadsBlocks limits.block (S.reads input.old) (S.reads input.new) status) }
-    ensures closes { IfOk result (λ status. Closes (K.ending output.old) (K.ending output.new) status) }
+    ensures closes { IfOk result (λ status.
+        Closes (K.ending output.old) (K.ending output.new) status) }
     ensures left { OnErr result ((input.new ≡ input.old) × (output.new ≡ output.old)) }
 {
     let _nodes = machine.nodes();
@@ -114,13 +121,15 @@ pub(crate) fn act<R: Threads + Sync, G: Gate + Sync, S: Source, K: Sink>(
     input: &mut S,
     output: &mut K,
 ) -> Result<Status, Memory>
-    ensures ran { IfOk result (λ status. Ran (MachinesSay acting limits.max_input (machine.now ∷ []))
+    ensures ran { IfOk result (λ status.
+        Ran (MachinesSay acting limits.max_input (machine.now ∷ []))
         (last_given limits.block (S.reads input.new))
         (change_of S.rest S.faults input.old input.new)
         (change_of K.held K.faults output.old output.new) status) }
     ensures blocks { IfOk result (λ status.
         ReadsBlocks limits.block (S.reads input.old) (S.reads input.new) status) }
-    ensures closes { IfOk result (λ status. Closes (K.ending output.old) (K.ending output.new) status) }
+    ensures closes { IfOk result (λ status.
+        Closes (K.ending output.old) (K.ending output.new) status) }
     ensures left { OnErr result ((input.new ≡ input.old) × (output.new ≡ output.old)) }
 {
     let player = Player::new(alloc, machine, limits.max_input)?;

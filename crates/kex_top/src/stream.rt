@@ -42,7 +42,8 @@ fn status_after(trouble: Trouble) -> Status
     }
 }
 
-/// Reads blocks until the end of input, a fault or a report, and writes what the stages say of each at this pace.
+/// Reads blocks until the end of input, a fault or a report, and writes what the stages say of each
+/// at this pace.
 pub(crate) fn pump<R: Threads + Sync, T: Limited + Drop + Send, G: Gate + Sync, S: Source, K: Sink>(
     rt: &R,
     gate: &G,
@@ -58,7 +59,8 @@ pub(crate) fn pump<R: Threads + Sync, T: Limited + Drop + Send, G: Gate + Sync, 
     requires says { pace ≡ Pace.Parts → AlwaysSays (PipeSays T.Turn (plans_of T.Turn pipe.old)) }
     requires limit { (limit_of T.Turn T.limit pipe.old ≡ most) × (most ≤ 2 ^ 48) }
     requires block { (0 < length block.old) × (length block.old ≤ 2 ^ 20) }
-    ensures pumped { Pumped (PipeSays T.Turn (plans_of T.Turn pipe.old)) (last_given (length block.old) (S.reads input.new))
+    ensures pumped { Pumped (PipeSays T.Turn (plans_of T.Turn pipe.old))
+        (last_given (length block.old) (S.reads input.new))
         (change_of S.rest S.faults input.old input.new)
         (change_of K.held K.faults output.old output.new) result }
     ensures asks { Asks (length block.old) (S.reads input.old) (S.reads input.new) }
@@ -69,7 +71,8 @@ pub(crate) fn pump<R: Threads + Sync, T: Limited + Drop + Send, G: Gate + Sync, 
         Ok(Fate::Stopped) => return status_of(rejected(pipe)),
         Err(trouble) => return status_after(trouble),
     }
-    // Each read gives at least one byte, and with one byte more than it takes the first stage has a report.
+    // Each read gives at least one byte, and with one byte more than it takes the first stage has a
+    // report.
     'reads: for _read in 0..most + 1 {
         match input.read(block) {
             Err(Failed) => return Status::ReadFault,
@@ -97,7 +100,8 @@ fn is_whole(status: Status) -> bool
     }
 }
 
-/// Runs new stages over a source into a sink, by blocks, within the limits. Err says that there was no memory for a block.
+/// Runs new stages over a source into a sink, by blocks, within the limits. Err says that there was
+/// no memory for a block.
 pub(crate) fn run<R: Threads + Sync, T: Limited + Drop + Send, G: Gate + Sync, S: Source, K: Sink>(
     rt: &R,
     gate: &G,
@@ -117,7 +121,8 @@ pub(crate) fn run<R: Threads + Sync, T: Limited + Drop + Send, G: Gate + Sync, S
         (change_of K.held K.faults output.old output.new) status) }
     ensures blocks { IfOk result (λ status.
         ReadsBlocks limits.block (S.reads input.old) (S.reads input.new) status) }
-    ensures closes { IfOk result (λ status. Closes (K.ending output.old) (K.ending output.new) status) }
+    ensures closes { IfOk result (λ status.
+        Closes (K.ending output.old) (K.ending output.new) status) }
     ensures left { OnErr result ((input.new ≡ input.old) × (output.new ≡ output.old)) }
 {
     let mut buffer = vec![in alloc; 0u8; limits.block as usize]?;

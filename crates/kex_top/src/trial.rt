@@ -1,5 +1,6 @@
 // The trial: a program of its own on lines of its own.
-ghost use Rattle.std.specs.Prelude.{◌≡◌, ◌≤◌, ◌<◌, ◌+◌, ◌^◌, ◌++◌, [], List, ℕ, Option, None, true, false, IfOk, OnOk, drop, length};
+ghost use Rattle.std.specs.Prelude.{◌≡◌, ◌≤◌, ◌<◌, ◌+◌, ◌^◌, ◌++◌, [], List, ℕ, Option, None, true};
+ghost use Rattle.std.specs.Prelude.{false, IfOk, OnOk, drop, length};
 ghost use Rattle.kex_ports.specs.Named.{Texts};
 ghost use Rattle.kex_ports.specs.Reads.{Reads};
 ghost use Rattle.kex_words.specs.Form.{most_input};
@@ -53,8 +54,10 @@ fn give<R: Threads + Sync, T: Limited + Drop + Send, G: Gate + Sync>(
 ) -> Result<Tally, PipeFault>
     requires { (h : History) × PipeStands T.Turn pipe.old h × (is_history_ended h ≡ false) }
     ensures same { OnOk result (plans_of T.Turn pipe.new ≡ plans_of T.Turn pipe.old) }
-    ensures counts { IfOk result (λ more. (h : History) → PipeStands T.Turn pipe.old h → is_history_ended h ≡ false
-        → Counts (PipeSays T.Turn (plans_of T.Turn pipe.old)) (PipeStands T.Turn pipe.new) h (bytes_passed h ++ piece.now) false tally more) }
+    ensures counts { IfOk result (λ more. (h : History) → PipeStands T.Turn pipe.old h
+        → is_history_ended h ≡ false
+        → Counts (PipeSays T.Turn (plans_of T.Turn pipe.old)) (PipeStands T.Turn pipe.new) h
+        (bytes_passed h ++ piece.now) false tally more) }
 {
     let _ = feed(rt, gate, pipe, Pace::Blocks, piece, out)?;
     Ok(tally.add(piece.len(), out))
@@ -70,8 +73,10 @@ fn give_end<R: Threads + Sync, T: Limited + Drop + Send, G: Gate + Sync>(
 ) -> Result<Tally, PipeFault>
     requires { (h : History) × PipeStands T.Turn pipe.old h × (is_history_ended h ≡ false) }
     ensures same { OnOk result (plans_of T.Turn pipe.new ≡ plans_of T.Turn pipe.old) }
-    ensures counts { IfOk result (λ more. (h : History) → PipeStands T.Turn pipe.old h → is_history_ended h ≡ false
-        → Counts (PipeSays T.Turn (plans_of T.Turn pipe.old)) (PipeStands T.Turn pipe.new) h (bytes_passed h) true tally more) }
+    ensures counts { IfOk result (λ more. (h : History) → PipeStands T.Turn pipe.old h
+        → is_history_ended h ≡ false
+        → Counts (PipeSays T.Turn (plans_of T.Turn pipe.old)) (PipeStands T.Turn pipe.new) h
+        (bytes_passed h) true tally more) }
 {
     let _ = end(rt, gate, pipe, out)?;
     Ok(tally.add(0, out))
@@ -96,10 +101,13 @@ fn give_blocks<R: Threads + Sync, T: Limited + Drop + Send, G: Gate + Sync>(
     tally: Tally,
 ) -> Result<Tally, PipeFault>
     requires block { 0 < block }
-    requires fed { (all : List ℕ) × HasWaiting (PipeSays T.Turn (plans_of T.Turn pipe.old)) (PipeStands T.Turn pipe.old) all waiting.old.items tally }
+    requires fed { (all : List ℕ) × HasWaiting (PipeSays T.Turn (plans_of T.Turn pipe.old))
+        (PipeStands T.Turn pipe.old) all waiting.old.items tally }
     ensures same { OnOk result (plans_of T.Turn pipe.new ≡ plans_of T.Turn pipe.old) }
-    ensures given { IfOk result (λ more. (all : List ℕ) → HasWaiting (PipeSays T.Turn (plans_of T.Turn pipe.old)) (PipeStands T.Turn pipe.old) all waiting.old.items tally
-        → HasWaiting (PipeSays T.Turn (plans_of T.Turn pipe.old)) (PipeStands T.Turn pipe.new) all waiting.new.items more) }
+    ensures given { IfOk result (λ more. (all : List ℕ) → HasWaiting (PipeSays T.Turn
+        (plans_of T.Turn pipe.old)) (PipeStands T.Turn pipe.old) all waiting.old.items tally
+        → HasWaiting (PipeSays T.Turn (plans_of T.Turn pipe.old))
+        (PipeStands T.Turn pipe.new) all waiting.new.items more) }
 {
     let mut more = tally;
     'blocks: while waiting.len() >= block {
@@ -118,7 +126,8 @@ fn give_lines<R: Threads + Sync, T: Limited + Drop + Send, G: Gate + Sync>(
     lines: Lines,
 ) -> Result<Tally, PipeFault>
     requires { PipeStands T.Turn pipe.old None }
-    ensures { IfOk result (λ tally. SumsUp (PipeSays T.Turn (plans_of T.Turn pipe.old)) (made_lines lines.count) tally) }
+    ensures { IfOk result (λ tally.
+        SumsUp (PipeSays T.Turn (plans_of T.Turn pipe.old)) (made_lines lines.count) tally) }
 {
     let mut out = Vec::new(alloc);
     let mut waiting = Vec::new(alloc);
@@ -150,7 +159,8 @@ fn sum_up<R: Threads + Sync, G: Gate + Sync>(
     lines: Lines,
 ) -> Result<Summary, PipeFault>
     requires { 0 < length compiled.now.stages }
-    ensures { IfOk result (λ summary. IsSummary (NodesSay (stage_plans most_input compiled.now.stages)) lines.count summary) }
+    ensures { IfOk result (λ summary.
+        IsSummary (NodesSay (stage_plans most_input compiled.now.stages)) lines.count summary) }
 {
     let mut pipe = pipe_of(alloc, compiled.stages(), MOST_INPUT, lines.rings)?;
     let tally = give_lines(rt, gate, alloc, &mut pipe, lines)?;
@@ -185,7 +195,8 @@ pub(crate) fn answer_trial<R: Threads + Sync, G: Gate + Sync, K: Sink>(
     lines: Lines,
     output: &mut K,
 ) -> Result<Status, StartError>
-    ensures answers { (texts : Option Texts) (reads : Option Reads) (source : StreamChange) → IsAsBefore source
+    ensures answers { (texts : Option Texts) (reads : Option Reads) (source : StreamChange)
+        → IsAsBefore source
         → CommandAnswers (ToTry lines.count lines.block (room_of lines.rings)) texts reads source
         (change_of K.held K.faults output.old output.new) (status_of_answer result) }
     ensures closes { Closes (K.ending output.old) (K.ending output.new) (status_of_answer result) }

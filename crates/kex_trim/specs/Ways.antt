@@ -1,5 +1,6 @@
 -- Where nodes lead, and from where the end is reached.
-use Rattle.std.specs.Prelude.{◌≡◌, ℕ, suc, ◌<◌, ◌+◌, Bool, true, false, List, [], ◌∷◌, ◌⊎◌, if◌then◌else◌, get_or, length}
+use Rattle.std.specs.Prelude.{◌≡◌, ℕ, suc, ◌<◌, ◌+◌, Bool, true, false, List, [], ◌∷◌, ◌⊎◌}
+use Rattle.std.specs.Prelude.{if◌then◌else◌, get_or, length}
 use Rattle.std.specs.List.{list_any}
 use Rattle.kex_code.specs.Codes.{IsAmong}
 use Rattle.kex_model.specs.Moves.{Move, accept, read, choose, forced, go}
@@ -40,13 +41,15 @@ pub record AddsToLists (ts : List ℕ) (s : ℕ) (old new : List (List ℕ)) : T
   pub long : length new ≡ length old
   pub kept : (t x : ℕ) → IsAmong (get_or old t []) x → IsAmong (get_or new t []) x
   pub added : (t : ℕ) → IsAmong ts t → IsAmong (get_or new t []) s
-  pub only : (t x : ℕ) → IsAmong (get_or new t []) x → IsAmong (get_or old t []) x ⊎ (IsAmong ts t × (s ≡ x))
+  pub only : (t x : ℕ) → IsAmong (get_or new t []) x → IsAmong (get_or old t []) x
+      ⊎ (IsAmong ts t × (s ≡ x))
 
 -- for each node, those that lead to it
 pub record IsReverse (nodes : List MNode) (into : List (List ℕ)) : Type 0 where
   pub long : length into ≡ length nodes
   pub real : (t s : ℕ) → IsAmong (get_or into t []) s → IsAmong (successors (node_moves nodes s)) t
-  pub all : (t s : ℕ) → t < length nodes → IsAmong (successors (node_moves nodes s)) t → IsAmong (get_or into t []) s
+  pub all : (t s : ℕ) → t < length nodes → IsAmong (successors (node_moves nodes s)) t
+      → IsAmong (get_or into t []) s
 
 -- how many flags are false
 abbrev pub unmarked_count : List Bool → ℕ
@@ -55,7 +58,8 @@ unmarked_count (true ∷ xs) = unmarked_count xs
 unmarked_count (false ∷ xs) = suc (unmarked_count xs)
 
 -- xs were marked, and those among them that were not before are on the stack
-pub record Marks (xs : List ℕ) (old : List Bool) (stack : List ℕ) (new : List Bool) (stack' : List ℕ) : Type 0 where
+pub record Marks (xs : List ℕ) (old : List Bool) (stack : List ℕ) (new : List Bool)
+    (stack' : List ℕ) : Type 0 where
   pub long : length new ≡ length old
   pub kept : (n : ℕ) → get_or old n false ≡ true → get_or new n false ≡ true
   pub marked : (n : ℕ) → IsAmong xs n → get_or new n false ≡ true
@@ -69,4 +73,5 @@ pub record Marks (xs : List ℕ) (old : List Bool) (stack : List ℕ) (new : Lis
 pub record AreAliveFlags (nodes : List MNode) (alive : List Bool) : Type 0 where
   pub long : length alive ≡ length nodes
   pub ends : (n : ℕ) → get_or alive n false ≡ true → LeadsToEnd (node_moves nodes) n
-  pub all : (n : ℕ) → n < length nodes → LeadsToEnd (node_moves nodes) n → get_or alive n false ≡ true
+  pub all : (n : ℕ) → n < length nodes → LeadsToEnd (node_moves nodes) n
+      → get_or alive n false ≡ true

@@ -1,8 +1,10 @@
 // From which nodes the end is reached.
 
-ghost use Rattle.std.specs.Prelude.{◌≡◌, ◌<◌, ◌++◌, ◌∷◌, [], All, length, Some, IfOk, OnOk, slice_set, get_or, replicate};
+ghost use Rattle.std.specs.Prelude.{◌≡◌, ◌<◌, ◌++◌, ◌∷◌, [], All, length, Some, IfOk, OnOk};
+ghost use Rattle.std.specs.Prelude.{slice_set, get_or, replicate};
 ghost use Rattle.kex_machine.specs.Nodes.{move_of};
-ghost use Rattle.kex_trim.specs.Ways.{AddsToLists, EachUnder, AreAliveFlags, IsReverse, LeadsBelow, Marks, listed_successors, successors};
+ghost use Rattle.kex_trim.specs.Ways.{AddsToLists, EachUnder, AreAliveFlags, IsReverse, LeadsBelow};
+ghost use Rattle.kex_trim.specs.Ways.{Marks, listed_successors, successors};
 
 use kex_machine::{MNode, node_at};
 use std::alloc::{AllocError, Global};
@@ -74,7 +76,8 @@ impl Sources {
 
 fn add_source(into: &mut Vec<Sources>, to: u32, from: u32) -> Result<(), AllocError>
     requires { to < length into.old.items }
-    ensures { OnOk result (into.new.items ≡ slice_set into.old.items to (get_or into.old.items to [] ++ from ∷ [])) }
+    ensures { OnOk result (into.new.items
+        ≡ slice_set into.old.items to (get_or into.old.items to [] ++ from ∷ [])) }
 {
     into[to as usize].push(from)
 }
@@ -96,7 +99,8 @@ fn add_to_successors(
     from: u32,
 ) -> Result<(), AllocError>
     requires { EachUnder (length into.old.items) (listed_successors found) }
-    ensures { OnOk result (AddsToLists (listed_successors found) from into.old.items into.new.items) }
+    ensures { OnOk result
+        (AddsToLists (listed_successors found) from into.old.items into.new.items) }
 {
     match found {
         Successors::NoWay => Ok(()),
@@ -125,7 +129,8 @@ fn sources_of(alloc: Global, nodes: &[MNode]) -> Result<Vec<Sources>, AllocError
 // A node from which the end is reached.
 fn reach_one(alive: &mut Vec<bool>, stack: &mut Vec<u32>, n: u32) -> Result<(), AllocError>
     requires { n < length alive.old.items }
-    ensures { OnOk result (Marks (n ∷ []) alive.old.items stack.old.items alive.new.items stack.new.items) }
+    ensures { OnOk result
+        (Marks (n ∷ []) alive.old.items stack.old.items alive.new.items stack.new.items) }
 {
     if !alive[n as usize] {
         alive[n as usize] = true;
@@ -137,7 +142,8 @@ fn reach_one(alive: &mut Vec<bool>, stack: &mut Vec<u32>, n: u32) -> Result<(), 
 // Nodes from which the end is reached.
 fn reach_all(alive: &mut Vec<bool>, stack: &mut Vec<u32>, nodes: &[u32]) -> Result<(), AllocError>
     requires { EachUnder (length alive.old.items) nodes.now }
-    ensures { OnOk result (Marks nodes.now alive.old.items stack.old.items alive.new.items stack.new.items) }
+    ensures { OnOk result
+        (Marks nodes.now alive.old.items stack.old.items alive.new.items stack.new.items) }
 {
     for n in nodes {
         reach_one(alive, stack, *n)?;

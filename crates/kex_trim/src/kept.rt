@@ -20,7 +20,8 @@ pub struct Numbering {
 fn number_one(alive: bool, s: u32, numbering: &mut Numbering) -> Result<(), AllocError>
     requires fits { s < length numbering.old.numbers.items }
     requires few { length numbering.old.kept.items < 4294967296 }
-    ensures { OnOk result (NumbersOne alive s numbering.old.kept.items numbering.old.numbers.items numbering.new.kept.items numbering.new.numbers.items) }
+    ensures { OnOk result (NumbersOne alive s numbering.old.kept.items numbering.old.numbers.items
+        numbering.new.kept.items numbering.new.numbers.items) }
 {
     if alive {
         numbering.numbers[s as usize] = numbering.kept.len() as u32;
@@ -73,7 +74,8 @@ fn shrunk(node: MNode, alive: &[bool], numbers: &[u32]) -> MNode
 fn take_node(nodes: &mut Vec<MNode>, n: u32) -> MNode
     requires { n < length nodes.old.items }
     ensures node { move_of (Some result) ≡ node_moves nodes.old.items n }
-    ensures fits { All (LeadsBelow (length nodes.old.items)) nodes.old.items → LeadsBelow (length nodes.old.items) result }
+    ensures fits { All (LeadsBelow (length nodes.old.items)) nodes.old.items
+        → LeadsBelow (length nodes.old.items) result }
     ensures left { nodes.new.items ≡ slice_set nodes.old.items n Accept }
 {
     std::mem::replace(&mut nodes[n as usize], MNode::Accept)
@@ -88,8 +90,10 @@ pub(crate) fn shrink(
 ) -> Result<Vec<MNode>, AllocError>
     requires below { All (LeadsBelow (length nodes.items)) nodes.items }
     requires long { length alive.now ≡ length nodes.items }
-    requires numbering { IsNumbering alive.now numbering.now.kept.items numbering.now.numbers.items }
-    ensures { IfOk result (λ made. IsShrunk nodes.items made.items alive.now numbering.now.kept.items numbering.now.numbers.items) }
+    requires numbering { IsNumbering alive.now numbering.now.kept.items
+        numbering.now.numbers.items }
+    ensures { IfOk result (λ made. IsShrunk nodes.items made.items alive.now
+        numbering.now.kept.items numbering.now.numbers.items) }
 {
     let mut rest = nodes;
     let mut made = Vec::new(alloc);

@@ -41,10 +41,12 @@ most_room = 1048576
 
 -- where it isn't given there are no rings
 abbrev pub rings_rule : Rule
-rings_rule = record (new_rule (codes "rings")) { long = Some (codes "rings"); parser = Some (vp.Unsigned 1 most_room) }
+rings_rule = record (new_rule (codes "rings"))
+    { long = Some (codes "rings"); parser = Some (vp.Unsigned 1 most_room) }
 
 abbrev pub lines_rule : Rule
-lines_rule = record (new_rule (codes "N")) { parser = Some (vp.Unsigned 0 most_lines); required = true }
+lines_rule =
+    record (new_rule (codes "N")) { parser = Some (vp.Unsigned 0 most_lines); required = true }
 
 abbrev pub with_rules : App → List Rule → App
 with_rules app [] = app
@@ -85,4 +87,5 @@ begun_app = with_subcommands bare_app (run_app ∷ check_app ∷ stage_app (code
 
 -- one of these subcommands, which is required
 abbrev pub kex_app : App
-kex_app = with_subcommands begun_app (stage_app (codes "act") ∷ stage_app (codes "test") ∷ trial_app ∷ [])
+kex_app =
+    with_subcommands begun_app (stage_app (codes "act") ∷ stage_app (codes "test") ∷ trial_app ∷ [])

@@ -4,7 +4,8 @@ use Rattle.std.specs.Io.KnownBytes.{Appends}
 use Rattle.kex_ports.specs.Bytes.{AppendsFront}
 use Rattle.kex_ports.specs.Causes.{Rose}
 
--- A source or sink before and after a call: its bytes, where they are known, and its count of faults.
+-- A source or sink before and after a call: its bytes, where they are known, and its count of
+-- faults.
 pub record StreamChange : Type 0 where
   pub old : Option (List ℕ)
   pub new : Option (List ℕ)

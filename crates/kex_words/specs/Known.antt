@@ -39,9 +39,12 @@ to_run name r = ToStream (running 4096) (codes name) r
 pub record ReadsRun : Type 0 where
   pub plain : LineAsks "kex run p" (to_run "p" usual_reach)
   pub with_options : LineAsks "kex run p --max-input 3 --block 1" (to_run "p" (reach 3 1))
-  pub options_first : LineAsks "kex run --block=1048576 --max-input=0 p" (to_run "p" (reach 0 1048576))
-  pub states : LineAsks "kex run p --states 7 --block 1" (ToStream (running 7) (codes "p") (reach 281474976710656 1))
-  pub largest : LineAsks "kex run p --max-input 281474976710656 --states 65536" (ToStream (running 65536) (codes "p") usual_reach)
+  pub options_first
+      : LineAsks "kex run --block=1048576 --max-input=0 p" (to_run "p" (reach 0 1048576))
+  pub states : LineAsks "kex run p --states 7 --block 1"
+      (ToStream (running 7) (codes "p") (reach 281474976710656 1))
+  pub largest : LineAsks "kex run p --max-input 281474976710656 --states 65536"
+      (ToStream (running 65536) (codes "p") usual_reach)
   pub rings : LineAsks "kex run p --rings 1" (to_run "p" (over_rings 1))
   pub largest_rings : LineAsks "kex run --rings=1048576 p" (to_run "p" (over_rings 1048576))
   -- as `clap` reads numbers
@@ -77,28 +80,43 @@ pub record ReadsTrial : Type 0 where
 
 pub record RefusesWords : Type 0 where
   pub no_words : asked_of [] ≡ None
-  pub no_command : AreUsage ("kex" ∷ "kex " ∷ "kex --" ∷ "kex p" ∷ "kex -- run p" ∷ "kex --block 3 run p" ∷ [])
-  pub other_command : AreUsage ("kex walk p" ∷ "kex ru p" ∷ "kex RUN p" ∷ "kex checks p" ∷ "kex --run p" ∷ [])
-  pub help_or_version : AreUsage ("kex help" ∷ "kex help run" ∷ "kex -h" ∷ "kex --help" ∷ "kex -V" ∷ "kex --version"
+  pub no_command
+      : AreUsage ("kex" ∷ "kex " ∷ "kex --" ∷ "kex p" ∷ "kex -- run p" ∷ "kex --block 3 run p" ∷ [])
+  pub other_command
+      : AreUsage ("kex walk p" ∷ "kex ru p" ∷ "kex RUN p" ∷ "kex checks p" ∷ "kex --run p" ∷ [])
+  pub help_or_version
+      : AreUsage ("kex help" ∷ "kex help run" ∷ "kex -h" ∷ "kex --help" ∷ "kex -V" ∷ "kex --version"
       ∷ "kex run -h" ∷ "kex run p --help" ∷ "kex run p --version" ∷ "kex check --help" ∷ [])
-  pub no_program : AreUsage ("kex run" ∷ "kex run --" ∷ "kex run --block 3" ∷ "kex check" ∷ "kex code" ∷ "kex trial" ∷ [])
-  pub two_programs : AreUsage ("kex run p q" ∷ "kex run p p" ∷ "kex run p " ∷ "kex run -- p --" ∷ "kex run -- p --block 3"
+  pub no_program : AreUsage
+      ("kex run" ∷ "kex run --" ∷ "kex run --block 3" ∷ "kex check" ∷ "kex code" ∷ "kex trial" ∷ [])
+  pub two_programs : AreUsage
+      ("kex run p q" ∷ "kex run p p" ∷ "kex run p " ∷ "kex run -- p --" ∷ "kex run -- p --block 3"
       ∷ "kex check p q" ∷ "kex check p run q" ∷ [])
-  pub unknown_option : AreUsage ("kex run p --rate 1" ∷ "kex run p --state 1" ∷ "kex run p --bloc 3" ∷ "kex run p --Block 3"
-      ∷ "kex run p --max_input 3" ∷ "kex run p -b 3" ∷ "kex run p -block 3" ∷ "kex run -p" ∷ "kex run -5" ∷ [])
-  pub option_of_another_command : AreUsage ("kex check p --block 1" ∷ "kex check p --max-input 1" ∷ "kex code p --states 1" ∷ "kex act p --states 1"
-      ∷ "kex test p --states 1" ∷ "kex trial 1 --states 1" ∷ "kex trial 1 --max-input 1" ∷ "kex check p --rings 1" ∷ "kex code p --rings 1"
+  pub unknown_option : AreUsage
+      ("kex run p --rate 1" ∷ "kex run p --state 1" ∷ "kex run p --bloc 3" ∷ "kex run p --Block 3"
+      ∷ "kex run p --max_input 3" ∷ "kex run p -b 3" ∷ "kex run p -block 3" ∷ "kex run -p"
+      ∷ "kex run -5" ∷ [])
+  pub option_of_another_command : AreUsage ("kex check p --block 1" ∷ "kex check p --max-input 1"
+      ∷ "kex code p --states 1" ∷ "kex act p --states 1"
+      ∷ "kex test p --states 1" ∷ "kex trial 1 --states 1" ∷ "kex trial 1 --max-input 1"
+      ∷ "kex check p --rings 1" ∷ "kex code p --rings 1"
       ∷ "kex act p --rings 1" ∷ "kex test p --rings 1" ∷ [])
   pub option_twice : AreUsage ("kex run p --block 2 --block 3" ∷ "kex run p --block=2 --block=2"
       ∷ "kex run --max-input 1 p --max-input 1" ∷ [])
-  pub no_value : AreUsage ("kex run p --block" ∷ "kex run p --block=" ∷ "kex run p --block " ∷ "kex run p --block --max-input 3"
+  pub no_value : AreUsage ("kex run p --block" ∷ "kex run p --block=" ∷ "kex run p --block "
+      ∷ "kex run p --block --max-input 3"
       ∷ "kex run --block -- p" ∷ [])
-  pub below_range : AreUsage ("kex run p --block 0" ∷ "kex run p --block -1" ∷ "kex run p --max-input -1" ∷ "kex run p --max-input=-0"
-      ∷ "kex run p --states 0" ∷ "kex run p --rings 0" ∷ "kex trial 1 --rings 0" ∷ "kex check p --states 0" ∷ "kex trial -1" ∷ [])
+  pub below_range : AreUsage ("kex run p --block 0" ∷ "kex run p --block -1"
+      ∷ "kex run p --max-input -1" ∷ "kex run p --max-input=-0"
+      ∷ "kex run p --states 0" ∷ "kex run p --rings 0" ∷ "kex trial 1 --rings 0"
+      ∷ "kex check p --states 0" ∷ "kex trial -1" ∷ [])
   pub above_range : AreUsage ("kex run p --block 1048577" ∷ "kex run p --max-input 281474976710657"
-      ∷ "kex run p --block 18446744073709551617" ∷ "kex run p --states 65537" ∷ "kex run p --rings 1048577" ∷ "kex trial 1000001" ∷ [])
-  pub no_number : AreUsage ("kex run p --block two" ∷ "kex run p --block 3k" ∷ "kex run p --block 0x10" ∷ "kex run p --block 1_000"
-      ∷ "kex run p --block 3.0" ∷ "kex run p --block +" ∷ "kex run p --block ++3" ∷ "kex run p --block=3=4"
+      ∷ "kex run p --block 18446744073709551617" ∷ "kex run p --states 65537"
+      ∷ "kex run p --rings 1048577" ∷ "kex trial 1000001" ∷ [])
+  pub no_number : AreUsage ("kex run p --block two" ∷ "kex run p --block 3k"
+      ∷ "kex run p --block 0x10" ∷ "kex run p --block 1_000"
+      ∷ "kex run p --block 3.0" ∷ "kex run p --block +" ∷ "kex run p --block ++3"
+      ∷ "kex run p --block=3=4"
       ∷ "kex run p --block 3,5" ∷ "kex trial p" ∷ "kex trial " ∷ [])
 
 pub record ReadsWords : Type 0 where

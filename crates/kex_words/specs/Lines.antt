@@ -5,7 +5,9 @@ use Rattle.kex_words.specs.declared.notes.TheConstants.{USAGE}
 use Rattle.kex_words.specs.declared.counts.Counts.{Counts}
 use Rattle.kex_words.specs.declared.counts.Summary.{Summary}
 use Rattle.kex_words.specs.declared.notes.Note.{Note}
-use Rattle.kex_words.specs.declared.notes.Note.TheVariants.{Nothing, Rejected, TooLong, Usage, Refused, ReadFault, WriteFault, ShelfFault, Memory}
+use Rattle.kex_words.specs.declared.notes.Note.TheVariants.{Nothing, Rejected, TooLong, Usage}
+use Rattle.kex_words.specs.declared.notes.Note.TheVariants.{Refused, ReadFault, WriteFault}
+use Rattle.kex_words.specs.declared.notes.Note.TheVariants.{ShelfFault, Memory}
 use Rattle.kex_words.specs.declared.refusals.RefusalPlace.{RefusalPlace}
 use Rattle.kex_words.specs.declared.refusals.RefusalPlace.TheVariants.{Nowhere, At, Stage}
 use Rattle.kex_words.specs.declared.refusals.Refusal.{Refusal}
@@ -34,15 +36,18 @@ line_end at_end = if at_end then codes " (end)\n" else codes "\n"
 
 abbrev pub rejected_line : ℕ → ℕ → Bool → List ℕ
 rejected_line stage at at_end =
-    concat (codes "rejected: stage " ∷ decimal stage ∷ codes " at byte " ∷ decimal at ∷ line_end at_end ∷ [])
+    concat (codes "rejected: stage " ∷ decimal stage ∷ codes " at byte " ∷ decimal at
+    ∷ line_end at_end ∷ [])
 
 abbrev pub too_long_line : ℕ → ℕ → List ℕ
-too_long_line stage at = concat (codes "too long: stage " ∷ decimal stage ∷ codes " at byte " ∷ decimal at ∷ codes "\n" ∷ [])
+too_long_line stage at = concat
+    (codes "too long: stage " ∷ decimal stage ∷ codes " at byte " ∷ decimal at ∷ codes "\n" ∷ [])
 
 abbrev pub placed_line : RefusalPlace → List ℕ → List ℕ
 placed_line Nowhere title = concat (codes "refused: " ∷ title ∷ codes "\n" ∷ [])
 placed_line (At line column) title =
-    concat (codes "refused: " ∷ title ∷ codes " at line " ∷ decimal line ∷ codes " column " ∷ decimal column ∷ codes "\n" ∷ [])
+    concat (codes "refused: " ∷ title ∷ codes " at line " ∷ decimal line ∷ codes " column "
+    ∷ decimal column ∷ codes "\n" ∷ [])
 placed_line (Stage stage) title =
     concat (codes "refused: " ∷ title ∷ codes " in stage " ∷ decimal stage ∷ codes "\n" ∷ [])
 
@@ -65,10 +70,12 @@ line_of ShelfFault = codes "shelf fault\n"
 line_of Memory = codes "out of memory\n"
 
 abbrev pub counts_line : Counts → List ℕ
-counts_line counts = concat (codes "stages " ∷ decimal counts.stages ∷ codes " places " ∷ decimal counts.places
+counts_line counts =
+    concat (codes "stages " ∷ decimal counts.stages ∷ codes " places " ∷ decimal counts.places
     ∷ codes " states " ∷ decimal counts.states ∷ codes "\n" ∷ [])
 
 -- the line of a trial
 abbrev pub trial_line : Summary → List ℕ
-trial_line s = concat (codes "lines " ∷ decimal s.lines ∷ codes " in " ∷ decimal s.made ∷ codes " out " ∷ decimal s.written
+trial_line s = concat (codes "lines " ∷ decimal s.lines ∷ codes " in " ∷ decimal s.made
+    ∷ codes " out " ∷ decimal s.written
     ∷ codes " roll " ∷ decimal s.roll ∷ codes "\n" ∷ [])

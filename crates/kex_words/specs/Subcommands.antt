@@ -9,7 +9,8 @@ abbrev pub NamesSubcommand : List Text → Text → List Row → Type 0
 NamesSubcommand words name rows = subcommand_of kex_app words ≡ Some (name, rows)
 
 abbrev pub subcommands : List Text
-subcommands = codes "run" ∷ codes "check" ∷ codes "code" ∷ codes "act" ∷ codes "test" ∷ codes "trial" ∷ []
+subcommands =
+    codes "run" ∷ codes "check" ∷ codes "code" ∷ codes "act" ∷ codes "test" ∷ codes "trial" ∷ []
 
 abbrev pub IsOneOf : List Text → Text → Type 0
 IsOneOf [] name = ⊥
@@ -24,8 +25,10 @@ pub record AsksBySubcommand (words : List Text) (what : Asked) : Type 0 where
   pub asks : what ≡ asked_by name rows
 
 abbrev pub AskBySubcommand : Type 0
-AskBySubcommand = (words : List Text) (what : Asked) → asked_of words ≡ Some what → AsksBySubcommand words what
+AskBySubcommand = (words : List Text) (what : Asked) → asked_of words ≡ Some what
+    → AsksBySubcommand words what
 
 -- words in form ask for something
 abbrev pub AskInForm : Type 0
-AskInForm = (words : List Text) → is_in_form words ≡ true → (what : Asked) × (asked_of words ≡ Some what)
+AskInForm = (words : List Text) → is_in_form words ≡ true → (what : Asked)
+    × (asked_of words ≡ Some what)

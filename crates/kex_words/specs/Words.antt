@@ -1,11 +1,13 @@
 -- What the words of a command line ask for.
-use Rattle.std.specs.Prelude.{[], nat_le, ◌&&◌, ℕ, Bool, List, Option, Some, None, codes, option_and_then, unwrap_or, if◌then◌else◌}
+use Rattle.std.specs.Prelude.{[], nat_le, ◌&&◌, ℕ, Bool, List, Option, Some, None, codes}
+use Rattle.std.specs.Prelude.{option_and_then, unwrap_or, if◌then◌else◌}
 use Rattle.std.specs.Str.{bytes_eq}
 use Rattle.std.specs.Str.Parse.{digits_value, without_leading_plus}
 use Rattle.clap.specs.Words.{Row, Text, first_of, one_of, subcommand_of, fault_of}
 use Rattle.clap.specs.Walk.{is_empty}
 use Rattle.clap.specs.ValueTests.{is_unsigned_in}
-use Rattle.kex_words.specs.Form.{kex_app, most_block, most_input, most_lines, most_room, most_states}
+use Rattle.kex_words.specs.Form.{kex_app, most_block, most_input, most_lines, most_room}
+use Rattle.kex_words.specs.Form.{most_states}
 use Rattle.kex_words.specs.declared.asked.RunLimits.{RunLimits}
 use Rattle.kex_words.specs.declared.asked.Rings.{Rings}
 use Rattle.kex_words.specs.declared.asked.Command.{Command}
@@ -13,14 +15,16 @@ use Rattle.kex_words.specs.declared.asked.Command.TheVariants.{Stream, Check, Tr
 use Rattle.kex_words.specs.declared.asked.Mode.{Mode as Moded}
 use Rattle.kex_words.specs.declared.asked.Mode.TheVariants as of_mode
 
--- how many bytes are read, in all and at a time, and how many items each ring between two stages has room for, where there are rings
+-- how many bytes are read, in all and at a time, and how many items each ring between two stages
+-- has room for, where there are rings
 pub record Reach : Type 0 where
   pub max_input : ℕ
   pub block : ℕ
   pub rings : Option ℕ
 
--- what is written for the bytes of the input: what they mean, by tables of at most so many states; their code; what they mean as
--- the text of a code; or nothing, where it is only asked whether they have a parse
+-- what is written for the bytes of the input: what they mean, by tables of at most so many states;
+-- their code; what they mean as the text of a code; or nothing, where it is only asked whether they
+-- have a parse
 pub data Mode : Type 0 where
   running : (states : ℕ) → Mode
   coding : Mode
@@ -40,7 +44,8 @@ number_within low high (Some n) = if nat_le low n && nat_le n high then Some n e
 
 -- the number that a text within the bounds spells
 abbrev pub bounded_number : ℕ → ℕ → Text → Option ℕ
-bounded_number low high text = if is_unsigned_in low high text then Some (digits_value 10 (without_leading_plus text)) else None
+bounded_number low high text = if is_unsigned_in low high text
+    then Some (digits_value 10 (without_leading_plus text)) else None
 
 abbrev pub number_at : Text → ℕ → ℕ → List Row → Option ℕ
 number_at id low high rows = option_and_then (bounded_number low high) (one_of id rows)
@@ -96,7 +101,8 @@ room_of None = None
 room_of (Some rings) = Some rings.room
 
 abbrev pub reach_of : RunLimits → Reach
-reach_of limits = record { max_input = limits.max_input; block = limits.block; rings = room_of limits.rings }
+reach_of limits =
+    record { max_input = limits.max_input; block = limits.block; rings = room_of limits.rings }
 
 abbrev pub mode_of : Moded → Mode
 mode_of (of_mode.Run states) = running states.most
@@ -106,6 +112,7 @@ mode_of of_mode.Test = testing
 
 -- what a command asks for
 abbrev pub asked_by_command : Command → Asked
-asked_by_command (Stream mode program limits) = ToStream (mode_of mode) program.now (reach_of limits)
+asked_by_command (Stream mode program limits) =
+    ToStream (mode_of mode) program.now (reach_of limits)
 asked_by_command (Check program states) = ToCheck program.now states.most
 asked_by_command (Trial lines) = ToTry lines.count lines.block (room_of lines.rings)

@@ -33,8 +33,10 @@ pub struct Summary {
 
 /// Writes the line of the counts, or a front of it where the sink fails. It takes no memory.
 pub fn write_counts<K: Sink>(sink: &mut K, counts: Counts) -> Result<(), Failed>
-    ensures written { OnOk result (Appends (K.held sink.old) (K.held sink.new) (counts_line counts)) }
-    ensures failed { OnErr result (AppendsFront (K.held sink.old) (K.held sink.new) (counts_line counts)) }
+    ensures written { OnOk result
+        (Appends (K.held sink.old) (K.held sink.new) (counts_line counts)) }
+    ensures failed { OnErr result
+        (AppendsFront (K.held sink.old) (K.held sink.new) (counts_line counts)) }
     ensures cause { HasCause (K.faults sink.old) (K.faults sink.new) result }
     ensures unfinished { IsUnfinished (K.ending sink.old) (K.ending sink.new) result }
 {
@@ -54,8 +56,10 @@ pub fn write_counts<K: Sink>(sink: &mut K, counts: Counts) -> Result<(), Failed>
 
 /// Writes the line of a trial, or a front of it where the sink fails. It takes no memory.
 pub fn write_summary<K: Sink>(sink: &mut K, summary: Summary) -> Result<(), Failed>
-    ensures written { OnOk result (Appends (K.held sink.old) (K.held sink.new) (trial_line summary)) }
-    ensures failed { OnErr result (AppendsFront (K.held sink.old) (K.held sink.new) (trial_line summary)) }
+    ensures written { OnOk result
+        (Appends (K.held sink.old) (K.held sink.new) (trial_line summary)) }
+    ensures failed { OnErr result
+        (AppendsFront (K.held sink.old) (K.held sink.new) (trial_line summary)) }
     ensures cause { HasCause (K.faults sink.old) (K.faults sink.new) result }
     ensures unfinished { IsUnfinished (K.ending sink.old) (K.ending sink.new) result }
 {

@@ -2,7 +2,9 @@
 ghost use Rattle.std.specs.Prelude.{◌≡◌, IfOk, false};
 ghost use Rattle.clap.specs.Words.{app_of, rule_of, with_subcommand};
 ghost use Rattle.clap.specs.declared.builder.command.Command.TheViews.{out-Command};
-ghost use Rattle.kex_words.specs.Form.{bare_app, begun_app, block_rule, check_app, kex_app, lines_rule, max_input_rule, number_rule, program_rule, rings_rule, run_app, stage_app, states_rule, trial_app};
+ghost use Rattle.kex_words.specs.Form.{bare_app, begun_app, block_rule, check_app, kex_app};
+ghost use Rattle.kex_words.specs.Form.{lines_rule, max_input_rule, number_rule, program_rule};
+ghost use Rattle.kex_words.specs.Form.{rings_rule, run_app, stage_app, states_rule, trial_app};
 
 use crate::asked::{MOST_BLOCK, MOST_INPUT, MOST_LINES, MOST_ROOM, MOST_STATES};
 use clap::builder::ValueParser;
@@ -116,7 +118,8 @@ fn bare<'a>(alloc: Global) -> Command<'a>
 
 fn with<'a>(command: Command<'a>, sub: Command<'a>) -> Result<Command<'a>, AllocError>
     requires { (out-Command sub).has_globals ≡ false }
-    ensures { IfOk result (λ r. app_of r ≡ with_subcommand (app_of command.entry) (app_of sub.entry).top) }
+    ensures { IfOk result (λ r. app_of r
+        ≡ with_subcommand (app_of command.entry) (app_of sub.entry).top) }
 {
     command.subcommand(sub)
 }

@@ -1,7 +1,9 @@
-//! The words of a command line, the line that a call leaves in the notes, and the lines of a check and of a trial.
+//! The words of a command line, the line that a call leaves in the notes, and the lines of a check
+//! and of a trial.
 //!
-//! Stands on `clap`, `itoa` and `kex_ports`. `read` is to be taken by its clauses: Ok is what the words ask for, and Usage comes
-//! exactly where the words don't meet the form of the command. `tell`, `write_counts`, `write_summary` and `write_all` say what a sink gains.
+//! Stands on `clap`, `itoa` and `kex_ports`. `read` is to be taken by its clauses: Ok is what the
+//! words ask for, and Usage comes exactly where the words don't meet the form of the command.
+//! `tell`, `write_counts`, `write_summary` and `write_all` say what a sink gains.
 #![tactic(auto)]
 
 mod asked;

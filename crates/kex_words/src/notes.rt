@@ -2,14 +2,16 @@
 ghost use Rattle.std.specs.Prelude.{◌≡◌};
 ghost use Rattle.kex_ports.specs.Endings.{IsUnfinished, finishes_of};
 ghost use Rattle.kex_words.specs.Gains.{Gains, TellsGain, change_of};
-ghost use Rattle.kex_words.specs.Lines.{line_end, line_of, refused_line, rejected_line, too_long_line};
+ghost use Rattle.kex_words.specs.Lines.{line_end, line_of, refused_line, rejected_line};
+ghost use Rattle.kex_words.specs.Lines.{too_long_line};
 ghost use Rattle.kex_words.specs.declared.notes.Note.TheVariants.{Nothing};
 
 use crate::parts::{LinePart, write_parts, write_text};
 use crate::refusals::{Refusal, RefusalPlace};
 use kex_ports::{Failed, Sink};
 
-/// The line of words that are out of form. The manual and the guide show it, and are compared with what the program writes.
+/// The line of words that are out of form. The manual and the guide show it, and are compared with
+/// what the program writes.
 const USAGE: &str =
     "usage: kex run|check|code|act|test PROGRAM [--states N] [--max-input N] [--block N] [--rings N] | kex trial N [--block N] [--rings N]\n";
 
@@ -17,8 +19,8 @@ const USAGE: &str =
 #[derive(Clone, Copy, Debug, PartialEq, Eq)]
 pub enum Note {
     Nothing,
-    /// The first `at` bytes of the stage's input begin a text that has a parse. Up to byte `at` and with it they begin none; or,
-    /// at the end, they are the whole input, and have no parse.
+    /// The first `at` bytes of the stage's input begin a text that has a parse. Up to byte `at` and
+    /// with it they begin none; or, at the end, they are the whole input, and have no parse.
     Rejected { stage: u32, at: u64, at_end: bool },
     /// The stage's input goes on past its limit, which is this byte.
     TooLong { stage: u32, at: u64 },
@@ -129,7 +131,8 @@ fn line<N: Sink>(sink: &mut N, note: Note) -> Result<(), Failed>
     }
 }
 
-/// Writes the note's line, or a front of it where the sink fails. Where the note is `Nothing`, the sink isn't called.
+/// Writes the note's line, or a front of it where the sink fails. Where the note is `Nothing`, the
+/// sink isn't called.
 pub fn tell<N: Sink>(note: Note, sink: &mut N)
     ensures tells { Gains (change_of N.held N.faults sink.old sink.new) (line_of note) }
     ensures unfinished { finishes_of (N.ending sink.new) ≡ finishes_of (N.ending sink.old) }

@@ -23,7 +23,8 @@ pub(crate) fn write_text<N: Sink>(sink: &mut N, text: &str) -> Result<(), Failed
 }
 
 fn write_number<N: Sink>(sink: &mut N, number: u64) -> Result<(), Failed>
-    ensures tells { TellsGain (change_of N.held N.faults sink.old sink.new) (decimal number) result }
+    ensures tells { TellsGain (change_of N.held N.faults sink.old sink.new)
+        (decimal number) result }
     ensures unfinished { IsUnfinished (N.ending sink.old) (N.ending sink.new) result }
 {
     let mut digits = Buffer::new();
@@ -31,7 +32,8 @@ fn write_number<N: Sink>(sink: &mut N, number: u64) -> Result<(), Failed>
 }
 
 fn write_part<N: Sink>(sink: &mut N, part: LinePart) -> Result<(), Failed>
-    ensures tells { TellsGain (change_of N.held N.faults sink.old sink.new) (part_bytes part.entry) result }
+    ensures tells { TellsGain (change_of N.held N.faults sink.old sink.new)
+        (part_bytes part.entry) result }
     ensures unfinished { IsUnfinished (N.ending sink.old) (N.ending sink.new) result }
 {
     match part {

@@ -1,7 +1,10 @@
 // What the words of a command line ask for.
-ghost use Rattle.std.specs.Prelude.{◌≡◌, ◌≤◌, ◌^◌, IfSome, IfOk, Some, None, map, string_bytes, IsErrOf, option_map};
+ghost use Rattle.std.specs.Prelude.{◌≡◌, ◌≤◌, ◌^◌, IfSome, IfOk, Some, None, map, string_bytes};
+ghost use Rattle.std.specs.Prelude.{IsErrOf, option_map};
 ghost use Rattle.clap.specs.Words.{found_of, rows_of, first_of, subcommand_rows_of};
-ghost use Rattle.kex_words.specs.Words.{asked_by_command, asked_in, asked_of, block_in, number_within, lines_in, mode_of, number_at, program_in, reach_in, rings_in, room_of, states_in};
+ghost use Rattle.kex_words.specs.Words.{asked_by_command, asked_in, asked_of, block_in};
+ghost use Rattle.kex_words.specs.Words.{number_within, lines_in, mode_of, number_at, program_in};
+ghost use Rattle.kex_words.specs.Words.{reach_in, rings_in, room_of, states_in};
 ghost use Rattle.kex_words.specs.Words.Asked.{ToStream};
 ghost use Rattle.kex_words.specs.declared.asked.WordsRefusal.TheVariants.{Usage};
 
@@ -88,7 +91,8 @@ fn lines(matches: &ArgMatches) -> Lines
 }
 
 fn stream<'a>(mode: Mode, matches: &ArgMatches<'a>) -> Command<'a>
-    ensures { asked_by_command result ≡ ToStream (mode_of mode) (program_in (rows_of (found_of matches.now))) (reach_in (rows_of (found_of matches.now))) }
+    ensures { asked_by_command result ≡ ToStream (mode_of mode)
+        (program_in (rows_of (found_of matches.now))) (reach_in (rows_of (found_of matches.now))) }
 {
     Command::Stream {
         mode,
@@ -117,9 +121,11 @@ fn command<'a>(matches: &ArgMatches<'a>) -> Option<Command<'a>>
 
 /// What the words ask for, of which the first is the program's own name.
 ///
-/// Usage comes exactly where the words don't meet the form of the command; want of memory in building or reading it is Memory.
+/// Usage comes exactly where the words don't meet the form of the command; want of memory in
+/// building or reading it is Memory.
 pub fn read<'a>(alloc: Global, words: &'a [String]) -> Result<Command<'a>, WordsRefusal>
-    ensures asked { IfOk result (λ command. asked_of (map string_bytes words.entry.now) ≡ Some (asked_by_command command)) }
+    ensures asked { IfOk result (λ command. asked_of (map string_bytes words.entry.now)
+        ≡ Some (asked_by_command command)) }
     ensures usage { IsErrOf result Usage → asked_of (map string_bytes words.entry.now) ≡ None }
 {
     match form(alloc)?.try_get_matches_from(words) {

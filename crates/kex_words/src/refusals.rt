@@ -2,7 +2,8 @@
 ghost use Rattle.std.specs.Prelude.{◌≡◌};
 ghost use Rattle.kex_words.specs.Lines.{title_of};
 
-/// A rule that a program breaks. A program is refused by the first rule that applies, in this order.
+/// A rule that a program breaks. A program is refused by the first rule that applies, in this
+/// order.
 #[derive(Clone, Copy, Debug, PartialEq, Eq)]
 pub enum Rule {
     TextTooLong,
