@@ -9,7 +9,7 @@ use Rattle.kex_regexp.specs.Bodies.{SpellsRegex}
 use Rattle.kex_regexp.specs.Grammar.{regex, Regex as Body}
 use Rattle.kex_regexp.specs.Shown.{ShowsRegex}
 use Rattle.kex_regexp.specs.Postfixes.{low, high}
-use Rattle.kex_reader.specs.Syntax.{RegisterPart, Text, Held, Word, Name, Regex, Tilde, At, Bar, OpenParen, CloseParen, Term, Last, Or, Seq, Only, Then, Pre, Mute, Into, Once, Turns, Atom, One, Call, Lit, Match, Write, Assign, Group, term, seq, pre, atom, postfix, lazy_mark}
+use Rattle.kex_reader.specs.Syntax.{RegisterPart, Text, Held, Word, Name, Regex, Tilde, At, Bar, OpenParen, CloseParen, Term, Last, Or, Seq, Only, Then, Pre, Mute, Into, Once, Turns, Atom, One, Call, Lit, Match, Write, Assign, Group, term, seq, pre, atom, postfix, word_lazy_mark}
 use Rattle.kex_reader.specs.Shown.{Made, IsNode, assignment_kind, ShowsPart, ShowsParts, ShowsTerm, ShowsSeq, ShowsPre, ShowsAtom}
 use Rattle.kex_compile.proofs.NodePairs.{Joins, SameKind, SameParts, no_more, text, register, one, lit, call, seq as in_seq, alt, rep, mute, at_register, write_register, set_register, add_register, Together, on_top, alone, beside, within, rank}
 use Rattle.kex_compile.proofs.BodyPairs.{regex_of}
@@ -115,7 +115,7 @@ module _ (one_body : (bytes : List ℕ) (r q : Body) → SpellsRegex r bytes →
         (on_top made.nodes made'.nodes N G n n' (record { kind = kinds.At k m; at = at i }) (record { kind = kinds.At k' m'; at = at i }) (4 * at i + 2) (4 * at (i + 2) + 2) _ rest.pairs e e' refl (at_register (r, g, g') rest.top) (omega arith) (omega (arith, a, b, some, next)) rest.match rest.rising)
     pre_of (Once a) n n' i h k sp = within made.nodes made'.nodes N G n n' (4 * at i + 3) _ _ _ (omega arith) (omega arith) (atom_of a n n' i h k sp)
     pre_of (Turns a p lazy) n n' i (l, m, e, x) (l', m', e', x') sp =
-        let signs = postfix p ++ lazy_mark lazy in
+        let signs = postfix p ++ word_lazy_mark lazy in
         let long = length-append (atom a) signs in
         let to : at (i + length (atom a) + length signs) ≡ at (i + length (atom a ++ signs)) = ap at (omega (arith, long)) in
         let more = rises at (i + length (atom a)) signs (spaced_rest at i (atom a) signs sp) in

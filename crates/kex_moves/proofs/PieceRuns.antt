@@ -29,7 +29,7 @@ use Rattle.kex_moves.specs.Walks.{TakesCode, code_with_byte}
 use Rattle.kex_moves.specs.Known.{Known, IsPairRow, IsRight, IsKnown, makes}
 use Rattle.kex_moves.specs.Along.{with_sheet, written_with}
 use Rattle.kex_moves.specs.Trails.{IsTrail}
-use Rattle.kex_moves.specs.Speech.{says_word, words_table, Performs, SaidWith, SaidOn}
+use Rattle.kex_moves.specs.Speech.{says_word, words_table, PerformsSaid, SaidWith, SaidOn}
 use Rattle.kex_moves.proofs.KnownEdges.{known_if, pair_known}
 use Rattle.kex_moves.proofs.PlacedTexts.{adding_more, adding_none}
 use Rattle.kex_moves.proofs.EdgeRuns.{right_at, went_none, went_more, takes_run}
@@ -131,22 +131,22 @@ meant_more b [] x = append-nil (value [] b x)
 meant_more b (y ∷ xs) x = ap (λ l. value [] b y ++ l) (meant_more b xs x) ∙ sym (append_assoc (value [] b y) (parts_code [] b xs) (value [] b x))
 
 -- nothing is said
-pub performs_none : (a : Position) (x : List ℕ) → Performs a a [] x x
+pub performs_none : (a : Position) (x : List ℕ) → PerformsSaid a a [] x x
 performs_none a x = λ given c w h run. went_none a x
 
 -- one and then another
-pub performs_more : (old mid new : Position) (c d : List Symbol) (x y z : List ℕ) → mid.machine ≡ old.machine → Performs old mid c x y → Performs mid new d y z → Performs old new (c ++ d) x z
+pub performs_more : (old mid new : Position) (c d : List Symbol) (x y z : List ℕ) → mid.machine ≡ old.machine → PerformsSaid old mid c x y → PerformsSaid mid new d y z → PerformsSaid old new (c ++ d) x z
 performs_more old mid new c d x y z machine p q = λ given code w h run.
     let all = sym (append_assoc code c d) in
     let first = p given code w h (begins_front old.machine (code ++ c) (code ++ (c ++ d)) run (d, all)) in
     let then = subst (λ l. BeginsRun old.machine l) all run in
     went_more old mid new c d x y z first (q (given ++ c) (code ++ c) (w ++ first.more) (first.performed given code w h) (subst (λ g. BeginsRun g ((code ++ c) ++ d)) (sym machine) then))
 
-pub performs_took : (old new : Position) (c : List Symbol) (x y : List ℕ) → TookAll old new c x y → Performs old new c x y
+pub performs_took : (old new : Position) (c : List Symbol) (x y : List ℕ) → TookAll old new c x y → PerformsSaid old new c x y
 performs_took old new c x y t = λ given code w h run. t.went
 
 -- where it can be taken from here, on the way to anything
-performs_taken : (old new : Position) (c : List Symbol) (x y : List ℕ) → ((d : List Symbol) → TakesCode old.machine.nodes old.at (c ++ d) → WentOn old new c c x y) → Performs old new c x y
+performs_taken : (old new : Position) (c : List Symbol) (x y : List ℕ) → ((d : List Symbol) → TakesCode old.machine.nodes old.at (c ++ d) → WentOn old new c c x y) → PerformsSaid old new c x y
 performs_taken old new c x y f = λ given code w h run. let t = takes_run old given code c w h run in f t.0 t.1
 
 -- along a trail
@@ -202,12 +202,12 @@ said_from k a a' b s s' s'' row row' c x x' y same f p r =
     subst (λ u. SaidWith k u b s'' row' c (written_with a s x) y) e.0 (subst (λ u. SaidWith k (with_sheet a' p.node s' x') b s'' row' c u y) e.1 (f p r))
 
 -- at its end all is handed on
-pub told : (k : Known) (a b b' : Position) (s s' : Sheet) (row row' state : ℕ) (c : List Symbol) (x y y' : List ℕ) → IsBlank s → IsTrue a.usable → SaidOn k a b s s' row row' c x y → ((p : Pair) → IsPairRow k row' p → (state ≡ p.state) × (b' ≡ with_sheet b p.node s' y) × (y' ≡ written_with b s' y)) → (q : Pair) → IsPairRow k row q → q.node ≡ a.at → Performs a b' c x y'
+pub told : (k : Known) (a b b' : Position) (s s' : Sheet) (row row' state : ℕ) (c : List Symbol) (x y y' : List ℕ) → IsBlank s → IsTrue a.usable → SaidOn k a b s s' row row' c x y → ((p : Pair) → IsPairRow k row' p → (state ≡ p.state) × (b' ≡ with_sheet b p.node s' y) × (y' ≡ written_with b s' y)) → (q : Pair) → IsPairRow k row q → q.node ≡ a.at → PerformsSaid a b' c x y'
 told k a b b' s s' row row' state c x y y' blank usable f there q h node =
     let r = f q h in
     let all = there r.to r.row_of in
     let new = with_sheet b r.to.node s' y in
-    let one = subst (λ u. Performs u new c (written_with a s x) (written_with b s' y)) (blank_position a q.node s x blank node usable) r.performs in
-    let two = subst (λ u. Performs a new c u (written_with b s' y)) (blank_written a s x blank) one in
-    let three = subst (λ u. Performs a u c x (written_with b s' y)) (sym all.1) two in
-    subst (λ u. Performs a b' c x u) (sym all.2) three
+    let one = subst (λ u. PerformsSaid u new c (written_with a s x) (written_with b s' y)) (blank_position a q.node s x blank node usable) r.performs in
+    let two = subst (λ u. PerformsSaid a new c u (written_with b s' y)) (blank_written a s x blank) one in
+    let three = subst (λ u. PerformsSaid a u c x (written_with b s' y)) (sym all.1) two in
+    subst (λ u. PerformsSaid a b' c x u) (sym all.2) three

@@ -30,8 +30,8 @@ words_table words = record {
 
 -- if all that was performed and what is said begin a run's code, the actor has performed what is
 -- said too
-abbrev pub Performs : Position → Position → List Symbol → List ℕ → List ℕ → Type 0
-Performs old new said before after = (given c : List Symbol) (written : List ℕ)
+abbrev pub PerformsSaid : Position → Position → List Symbol → List ℕ → List ℕ → Type 0
+PerformsSaid old new said before after = (given c : List Symbol) (written : List ℕ)
     → HasPerformed old given c written → BeginsRun old.machine (c ++ said)
     → WentOn old new said said before after
 
@@ -41,7 +41,7 @@ pub record SaidWith (k : Known) (from new : Position) (s : Sheet) (row : ℕ) (s
   pub to : Pair
   pub row_of : IsPairRow k row to
   pub performs
-      : Performs from (with_sheet new to.node s after) said before (written_with new s after)
+      : PerformsSaid from (with_sheet new to.node s after) said before (written_with new s after)
 
 -- the same from the node of a row
 abbrev pub SaidOn : Known → Position → Position → Sheet → Sheet → ℕ → ℕ → List Symbol → List ℕ

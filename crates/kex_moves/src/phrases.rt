@@ -2,7 +2,7 @@
 
 ghost use Rattle.std.specs.Prelude.{◌≡◌, ◌≤◌, ◌^◌, IsTrue, IfOk, OnOk};
 ghost use Rattle.kex_script.specs.Pieces.{code_over};
-ghost use Rattle.kex_moves.specs.Speech.{Performs};
+ghost use Rattle.kex_moves.specs.Speech.{PerformsSaid};
 
 use crate::along::ROOM;
 use crate::edges::{By, Edges};
@@ -92,7 +92,7 @@ impl<'p> Phrases<'p> {
     ) -> Result<(), Memory>
         requires usable { IsTrue actor.old.usable }
         requires machine { actor.old.machine ≡ self.old.machine }
-        ensures performs { OnOk result (Performs actor.old actor.new
+        ensures performs { OnOk result (PerformsSaid actor.old actor.new
             (code_over self.old.words pieces.now) out.old.items out.new.items) }
         ensures same { self.new ≡ self.old }
         ensures machine { actor.new.machine ≡ actor.old.machine }

@@ -9,7 +9,7 @@ ghost use Rattle.kex_script.specs.Pieces.{code_over};
 ghost use Rattle.kex_moves.specs.declared.along.TheConstants.{ROOM};
 ghost use Rattle.kex_moves.specs.declared.edges.Pair.{Pair};
 ghost use Rattle.kex_moves.specs.Known.{IsPairRow, IsKnown};
-ghost use Rattle.kex_moves.specs.Speech.{words_table, Performs, SaidOn};
+ghost use Rattle.kex_moves.specs.Speech.{words_table, PerformsSaid, SaidOn};
 
 use crate::along::{RowPoint, RowStride, act, arrive, make_room, part_of, rounds_left};
 use crate::edge::EdgeKind;
@@ -154,7 +154,7 @@ fn tell_from(
     ensures row { IfOk result (λ place. (p : Pair) × IsPairRow edges.now place.row p) }
     ensures within { IfOk result (λ place. place.count ≤ length pieces.now) }
     ensures performs { IfOk result (λ place. (words : List (List Part))
-        → IsKnown (words_table words) actor.old.machine edges.now → Performs actor.old actor.new
+        → IsKnown (words_table words) actor.old.machine edges.now → PerformsSaid actor.old actor.new
         (code_over words (take place.count pieces.now)) out.old.items out.new.items) }
     ensures none { OnOk result (IsBlank sheet.new) }
     ensures room { OnOk result (IsAsLong sheet.old sheet.new) }
@@ -218,7 +218,7 @@ fn tell_some(
     requires none { IsBlank sheet.old }
     ensures known { OnOk result (IsKnown (words_table words.now) machine.now edges.new) }
     ensures within { IfOk result (λ count. count ≤ length pieces.now) }
-    ensures performs { IfOk result (λ count. Performs actor.old actor.new
+    ensures performs { IfOk result (λ count. PerformsSaid actor.old actor.new
         (code_over words.now (take count pieces.now)) out.old.items out.new.items) }
     ensures none { OnOk result (IsBlank sheet.new) }
     ensures room { OnOk result (IsAsLong sheet.old sheet.new) }
@@ -252,7 +252,7 @@ pub fn tell(
     requires room { length sheet.old.bytes.items ≡ ROOM }
     requires none { IsBlank sheet.old }
     ensures known { OnOk result (IsKnown (words_table words.now) machine.now edges.new) }
-    ensures performs { OnOk result (Performs actor.old actor.new
+    ensures performs { OnOk result (PerformsSaid actor.old actor.new
         (code_over words.now pieces.now) out.old.items out.new.items) }
     ensures none { OnOk result (IsBlank sheet.new) }
     ensures room { OnOk result (IsAsLong sheet.old sheet.new) }

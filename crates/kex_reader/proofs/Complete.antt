@@ -1,8 +1,8 @@
 -- Whatever the grammar spells the machine takes, and then holds the tree that was spelled.
 use Rattle.std.proofs.Common.{◌≡◌, ℕ, Bool, true, false, List, [], ◌∷◌, ◌++◌, Option, Some, None, refl, sym, ap, ◌∙◌, subst, append_assoc}
 use Rattle.std.proofs.lemmas.List.{append-nil}
-use Rattle.kex_reader.specs.Syntax.{Word, Name, Number, Literal, Regex, Define, Bar, Tilde, At, Star, Plus, Question, OpenBrace, CloseBrace, Comma, Bang, OpenBracket, CloseBracket, OpenParen, CloseParen, RegisterPart, Text, Held, Postfix, ZeroOrMore, OneOrMore, Optional, Exactly, AtLeast, AtMost, FromTo, Term, Last, Or, Seq, Only, Then, Pre, Mute, Into, Once, Turns, Atom, One, Call, Lit, Match, Write, Assign, Group, Definition, Header, NoStart, Stages, Program, register_part, parts, sign, postfix, lazy_mark, term, seq, pre, atom, definitions, stages, header, program}
-use Rattle.kex_reader.specs.Reading.{Entry, Mark, Ended, Done, Muted, Storing, Opened, Low, LowComma, LowHigh, OnlyComma, High, Mode, Need, Ready, After, Turned, Named, Writing, Bracket, BracketName, Assigning, Assigned, InCount, State, Begin, StageRead, Within, with_pre, take_more, take_seq, take_branches, term_of, take_term, on_bar, after_group, on_close, on_number, begin_pre, after_atom, after_turns, next_head, on_head, after_name, on_name, on_sign, first_part, next_part, count_step, on_count, step_in, lift, on_define, step_within, first_name, head_read, stage_read, name_then, step, next, state_after, program_of_whole, program_of_term, finish_within, finish}
+use Rattle.kex_reader.specs.Syntax.{Word, Name, Number, Literal, Regex, Define, Bar, Tilde, At, Star, Plus, Question, OpenBrace, CloseBrace, Comma, Bang, OpenBracket, CloseBracket, OpenParen, CloseParen, RegisterPart, Text, Held, Postfix, ZeroOrMore, OneOrMore, Optional, Exactly, AtLeast, AtMost, FromTo, Term, Last, Or, Seq, Only, Then, Pre, Mute, Into, Once, Turns, Atom, One, Call, Lit, Match, Write, Assign, Group, Definition, Header, NoStart, Stages, Program, register_part, parts, sign, postfix, word_lazy_mark, term, seq, pre, atom, definitions, stages, header, program}
+use Rattle.kex_reader.specs.Reading.{Entry, Mark, Ended, Done, Muted, Storing, Opened, Low, LowComma, LowHigh, OnlyComma, High, Mode, Need, Ready, After, Turned, Named, Writing, Bracket, BracketName, Assigning, Assigned, InCount, State, Begin, StageRead, Within, with_pre, take_more, take_seq, take_branches, term_of, take_term, on_bar, after_group, on_close, on_number, begin_pre, after_atom, after_term_turns, next_head, on_head, after_name, on_name, on_sign, first_part, next_part, count_step, on_count, step_in, lift, on_define, step_within, first_name, head_read, stage_read, name_then, step, next, state_after, program_of_whole, program_of_term, finish_within, finish}
 
 -- ---- runs
 
@@ -143,8 +143,8 @@ module _ (h : Header) (ds : List Definition) (name : List ℕ) where
   after_begins a es OpenBrace n = absurd n
   after_begins a es t n = refl
 
-  pub turned_begins : (a : Atom) (p : Postfix) (es : List Entry) (t : Word) → IsBeginner t → after_turns a p es t ≡ begin_pre true (with_pre (Turns a p false) es) t
-  unfolding after_turns IsBeginner
+  pub turned_begins : (a : Atom) (p : Postfix) (es : List Entry) (t : Word) → IsBeginner t → after_term_turns a p es t ≡ begin_pre true (with_pre (Turns a p false) es) t
+  unfolding after_term_turns IsBeginner
   turned_begins a p es Question n = absurd n
   turned_begins a p es t n = refl
 
@@ -268,7 +268,7 @@ module _ (h : Header) (ds : List Definition) (name : List ℕ) where
       (word_then _ (at (InCount a (LowHigh n j)) es) _ (Number j) _ refl (one_word _ _ CloseBrace refl))))
 
   pub lazy_step : (a : Atom) (p : Postfix) (es : List Entry) → next (at (Turned a p) es) Question ≡ at Ready (with_pre (Turns a p true) es)
-  unfolding next step step_within step_in lift after_turns
+  unfolding next step step_within step_in lift after_term_turns
   lazy_step a p es = refl
 
   pub bar_step : (m : Mode) (es : List Entry) (s : Seq) (fs : List Entry) → Settles m es (seq_onto s fs) → IsFloor fs → next (at m es) Bar ≡ at Need (Ended s ∷ fs)
@@ -280,7 +280,7 @@ module _ (h : Header) (ds : List Definition) (name : List ℕ) where
   close_step m es t fs r = begins true m es (term_onto t (Mark ∷ fs)) CloseParen (free_may m es (term_onto t (Mark ∷ fs)) r) tt ∙ ap (λ (x : Option (Term × List Entry)). lift h ds name (on_close x)) (term_back t (Mark ∷ fs) tt)
 
   mutual
-    unfolding term seq pre lazy_mark atom term_onto seq_onto with_pre Settled AtomRead Settles MayBegin IsBase IsFloor Holds begin_pre on_number IsBeginner next step step_within step_in lift after_name on_name
+    unfolding term seq pre word_lazy_mark atom term_onto seq_onto with_pre Settled AtomRead Settles MayBegin IsBase IsFloor Holds begin_pre on_number IsBeginner next step step_within step_in lift after_name on_name
 
     pub term_reads : (t : Term) (free : Bool) (m : Mode) (es fs : List Entry) → MayBegin free m es fs → IsFloor fs → Settled (term_onto t fs) (state_after (at m es) (term t))
     term_reads (Last s) free m es fs r k = seq_reads s free m es fs r (floor_base fs k)

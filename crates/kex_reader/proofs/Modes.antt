@@ -25,9 +25,9 @@ use Rattle.kex_reader.specs.declared.inside.Wait.TheVariants as waits
 use Rattle.kex_reader.specs.declared.inside.StepFault.{StepFault}
 use Rattle.kex_reader.specs.declared.inside.StepFault.TheVariants as faults
 use Rattle.kex_reader.specs.Syntax.{Word, Name, Literal, word, RegisterPart, Text, Held, Postfix, Turns, Atom, Write, Assign, Call, atom, postfix}
-use Rattle.kex_reader.specs.Reading.{Entry, Mode, Need, Ready, After, Turned, Named, Writing, Bracket, BracketName, Assigning, Assigned, InCount, Inside, Counting, CountStep, CountOn, CountRead, CountWrong, with_pre, goes, begin_pre, after_atom, after_turns, after_name, on_name, on_sign, first_part, next_part, count_step, on_count, step_in, inside, mode, entries}
+use Rattle.kex_reader.specs.Reading.{Entry, Mode, Need, Ready, After, Turned, Named, Writing, Bracket, BracketName, Assigning, Assigned, InCount, Inside, Counting, CountStep, CountOn, CountRead, CountWrong, with_pre, goes, begin_pre, after_atom, after_term_turns, after_name, on_name, on_sign, first_part, next_part, count_step, on_count, step_in, inside, mode, entries}
 use Rattle.kex_reader.specs.Shown.{Made, IsNode, IsRegister, ShowsPre, ShowsAtom, ShowsPart, ShowsParts, assignment_kind}
-use Rattle.kex_reader.specs.Stands.{Keeps, NotesLeast, count_asks, ConstructsShow, HoldsTurns, IsLeaf, PieceShows, part_of, ShowsMode, SomeAtom, SomeConstructs, SomeInside, SomeName, SomeTurned, Steps}
+use Rattle.kex_reader.specs.Stands.{Keeps, NotesLeast, count_asks, ConstructsShow, HoldsTurns, IsLeaf, PieceShows, part_of, ShowsMode, SomeAtom, SomeConstructs, SomeInside, SomeName, SomeTermTurned, Steps}
 use Rattle.kex_reader.proofs.Drafts.{atom_within, parts_more}
 use Rattle.kex_reader.proofs.Stacks.{constructs_more}
 use Rattle.kex_reader.proofs.MoreChecks.{same}
@@ -279,7 +279,7 @@ pub in_after : (a : Atom) (es : List Entry) (w : Word) → step_in (After a) es 
 unfolding step_in
 in_after a es w = refl
 
-pub in_turned : (a : Atom) (p : Postfix) (es : List Entry) (w : Word) → step_in (Turned a p) es w ≡ after_turns a p es w
+pub in_turned : (a : Atom) (p : Postfix) (es : List Entry) (w : Word) → step_in (Turned a p) es w ≡ after_term_turns a p es w
 unfolding step_in
 in_turned a p es w = refl
 
@@ -344,7 +344,7 @@ some_atom made fs wait part e s =
     let m = mode_after made s.0 (s.1 + length (entries s.2.entries)) part s.2.mode (subst (λ (w : Wait). ShowsMode made s.0 (s.1 + length (entries s.2.entries)) w s.2.mode) e s.3.mode) in
     (s.0, s.1, s.2.entries, m.0, s.3.below, m.2, m.3)
 
-pub some_turned : (made : Made) (fs : List Construct) (wait : Wait) (part : Shown) (b : Bounds) → wait ≡ waits.Turned part b → SomeInside made fs wait → SomeTurned made fs part b
+pub some_turned : (made : Made) (fs : List Construct) (wait : Wait) (part : Shown) (b : Bounds) → wait ≡ waits.Turned part b → SomeInside made fs wait → SomeTermTurned made fs part b
 some_turned made fs wait part b e s =
     let m = mode_turned made s.0 (s.1 + length (entries s.2.entries)) part b s.2.mode (subst (λ (w : Wait). ShowsMode made s.0 (s.1 + length (entries s.2.entries)) w s.2.mode) e s.3.mode) in
     (s.0, s.1, s.2.entries, m.0, m.1, s.3.below, m.3, m.4, m.5)

@@ -184,7 +184,7 @@ definitions_long (d ∷ ds) name t = omega (arith, definitions_long ds name t, l
 -- ---- a word that is Define
 
 pub define_none : (h : Header) (ds : List Definition) (name : List ℕ) (m : Mode) (es : List Entry) → ((n : List ℕ) → m ≡ Named true n → ⊥) → step_within h ds name m es Define ≡ None
-unfolding step_within on_define step_in lift Rattle.kex_reader.specs.Reading.begin_pre Rattle.kex_reader.specs.Reading.after_atom Rattle.kex_reader.specs.Reading.after_turns Rattle.kex_reader.specs.Reading.on_name Rattle.kex_reader.specs.Reading.on_sign Rattle.kex_reader.specs.Reading.first_part Rattle.kex_reader.specs.Reading.next_part Rattle.kex_reader.specs.Reading.on_count Rattle.kex_reader.specs.Reading.count_step
+unfolding step_within on_define step_in lift Rattle.kex_reader.specs.Reading.begin_pre Rattle.kex_reader.specs.Reading.after_atom Rattle.kex_reader.specs.Reading.after_term_turns Rattle.kex_reader.specs.Reading.on_name Rattle.kex_reader.specs.Reading.on_sign Rattle.kex_reader.specs.Reading.first_part Rattle.kex_reader.specs.Reading.next_part Rattle.kex_reader.specs.Reading.on_count Rattle.kex_reader.specs.Reading.count_step
 define_none h ds name Need es n = refl
 define_none h ds name Ready es n = refl
 define_none h ds name (After a) es n = refl

@@ -3,7 +3,7 @@ use Rattle.std.proofs.Common.{◌≡◌, ℕ, suc, ◌+◌, ◌*◌, Bool, true,
 use Rattle.std.specs.Prelude.{bytes_eq, codes}
 use Rattle.std.proofs.lemmas.List.{append-nil}
 use Rattle.kex_reader.specs.Syntax.{Word, Name, Number, Literal, Regex, Define, Colon, Pipe, Bar, Tilde, At, Star, Plus, PlusEquals, Question, OpenBrace, Bang, OpenBracket, CloseBracket, Arrow, OpenParen, CloseParen, Postfix, ZeroOrMore, OneOrMore, Optional, Term, Last, Or, Seq, Only, Then, Pre, Mute, Into, Once, Turns, Atom, Call, Write, RegisterPart, Definition, Header, Program, start, postfix, term, seq, pre, atom, header, definitions}
-use Rattle.kex_reader.specs.Reading.{Entry, Mark, Ended, Done, Muted, Storing, CountStep, CountOn, CountRead, CountWrong, Mode, Need, Ready, After, Turned, Named, Writing, Bracket, BracketName, Assigning, Assigned, InCount, Inside, State, Begin, FirstName, StartLine, StageRead, StageNext, HeadRead, Within, before, with_pre, take_more, take_seq, take_branches, term_of, take_term, goes, on_bar, after_group, on_close, on_number, begin_pre, after_atom, after_turns, after_name, on_name, on_sign, first_part, next_part, count_step, on_count, step_in, lift, next_head, on_head, on_define, step_within, first_name, head_read, stage_read, name_then, step, program_of_whole, program_of_term, finish_within, finish, entries, entry}
+use Rattle.kex_reader.specs.Reading.{Entry, Mark, Ended, Done, Muted, Storing, CountStep, CountOn, CountRead, CountWrong, Mode, Need, Ready, After, Turned, Named, Writing, Bracket, BracketName, Assigning, Assigned, InCount, Inside, State, Begin, FirstName, StartLine, StageRead, StageNext, HeadRead, Within, before, with_pre, take_more, take_seq, take_branches, term_of, take_term, goes, on_bar, after_group, on_close, on_number, begin_pre, after_atom, after_term_turns, after_name, on_name, on_sign, first_part, next_part, count_step, on_count, step_in, lift, next_head, on_head, on_define, step_within, first_name, head_read, stage_read, name_then, step, program_of_whole, program_of_term, finish_within, finish, entries, entry}
 use Rattle.kex_reader.specs.Checks.{Check, Nested, Staged, postfix_checks, term_checks, seq_checks, pre_checks, atom_checks, definition_checks, stage_checks, header_checks, program_checks}
 use Rattle.kex_reader.specs.Stands.{depth, begin_asks, after_asks, turned_asks, named_asks, count_asks, asks}
 use Rattle.kex_reader.specs.Asked.{entry_checks, entries_checks, mode_checks, inside_checks, state_checks, name_asks, state_asks}
@@ -172,8 +172,8 @@ module _ (at : ℕ → ℕ) (base : ℕ) where
   unfolding pre_checks mode_checks
   eager_asked a p es w = to_asks _ _ _ (ap (λ (x : List Check). x ++ begin_asks at (base + length (entries (with_pre (Turns a p false) es))) (with_pre (Turns a p false) es) w) (put_checks (Turns a p false) es) ∙ ap (λ (k : ℕ). (entries_checks at base es ++ (atom_checks a at (base + length (entries es)) (depth es) ++ postfix_checks p (at (base + length (entries es) + length (atom a))))) ++ begin_asks at k (with_pre (Turns a p false) es) w) (eager_long a p es)) (begin_asked true (with_pre (Turns a p false) es) w)
 
-  pub turned_asked : (a : Atom) (p : Postfix) (es : List Entry) (w : Word) → Asks ((entries_checks at base es ++ mode_checks (Turned a p) at (base + length (entries es)) (depth es)) ++ turned_asks at (base + length (entries es) + length (atom a ++ postfix p)) a p es w) (after_turns a p es w)
-  unfolding after_turns mode_checks begin_asks pre_checks
+  pub turned_asked : (a : Atom) (p : Postfix) (es : List Entry) (w : Word) → Asks ((entries_checks at base es ++ mode_checks (Turned a p) at (base + length (entries es)) (depth es)) ++ turned_asks at (base + length (entries es) + length (atom a ++ postfix p)) a p es w) (after_term_turns a p es w)
+  unfolding after_term_turns mode_checks begin_asks pre_checks
   turned_asked a p es Question = put_asked (Turns a p true) es _ (sym (append-nil _))
   turned_asked a p es w = eager_asked a p es w
 

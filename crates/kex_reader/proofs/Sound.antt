@@ -3,8 +3,8 @@ use Rattle.std.proofs.Common.{◌≡◌, ℕ, Bool, true, false, cond, List, [],
 use Rattle.std.specs.Prelude.{bytes_eq, codes}
 use Rattle.std.proofs.lemmas.List.{append-nil}
 use Rattle.std.proofs.lemmas.Slice.Eq.{bytes_eq-Decides}
-use Rattle.kex_reader.specs.Syntax.{Word, Name, Number, Literal, Regex, Define, Colon, Pipe, Bar, Tilde, At, Star, Plus, PlusEquals, Question, OpenBrace, CloseBrace, Comma, Bang, OpenBracket, CloseBracket, Arrow, OpenParen, CloseParen, RegisterPart, Text, Held, Postfix, ZeroOrMore, OneOrMore, Optional, Exactly, AtLeast, AtMost, FromTo, Term, Last, Or, Seq, Only, Then, Pre, Mute, Into, Once, Turns, Atom, One, Call, Lit, Match, Write, Assign, Group, Definition, Header, Program, start, register_part, parts, sign, postfix, lazy_mark, term, seq, pre, atom, definitions, stages, header, program}
-use Rattle.kex_reader.specs.Reading.{Entry, Mark, Ended, Done, Muted, Storing, Counting, Opened, Low, LowComma, LowHigh, OnlyComma, High, Mode, Need, Ready, After, Turned, Named, Writing, Bracket, BracketName, Assigning, Assigned, InCount, Inside, State, Begin, FirstName, StartLine, StageRead, StageNext, HeadRead, Within, with_pre, take_more, take_seq, take_branches, term_of, take_term, goes, on_bar, after_group, on_close, on_number, begin_pre, after_atom, after_turns, next_head, on_head, after_name, on_name, on_sign, first_part, next_part, count_step, on_count, after_count, step_in, lift, on_define, step_within, first_name, head_read, stage_read, name_then, step, next, state_after, program_of_whole, program_of_term, finish_within, finish, entry, entries, counting, mode, inside, before, words_read}
+use Rattle.kex_reader.specs.Syntax.{Word, Name, Number, Literal, Regex, Define, Colon, Pipe, Bar, Tilde, At, Star, Plus, PlusEquals, Question, OpenBrace, CloseBrace, Comma, Bang, OpenBracket, CloseBracket, Arrow, OpenParen, CloseParen, RegisterPart, Text, Held, Postfix, ZeroOrMore, OneOrMore, Optional, Exactly, AtLeast, AtMost, FromTo, Term, Last, Or, Seq, Only, Then, Pre, Mute, Into, Once, Turns, Atom, One, Call, Lit, Match, Write, Assign, Group, Definition, Header, Program, start, register_part, parts, sign, postfix, word_lazy_mark, term, seq, pre, atom, definitions, stages, header, program}
+use Rattle.kex_reader.specs.Reading.{Entry, Mark, Ended, Done, Muted, Storing, Counting, Opened, Low, LowComma, LowHigh, OnlyComma, High, Mode, Need, Ready, After, Turned, Named, Writing, Bracket, BracketName, Assigning, Assigned, InCount, Inside, State, Begin, FirstName, StartLine, StageRead, StageNext, HeadRead, Within, with_pre, take_more, take_seq, take_branches, term_of, take_term, goes, on_bar, after_group, on_close, on_number, begin_pre, after_atom, after_term_turns, next_head, on_head, after_name, on_name, on_sign, first_part, next_part, count_step, on_count, after_count, step_in, lift, on_define, step_within, first_name, head_read, stage_read, name_then, step, next, state_after, program_of_whole, program_of_term, finish_within, finish, entry, entries, counting, mode, inside, before, words_read}
 
 pub same_bytes : (a b : List ℕ) → bytes_eq a b ≡ true → a ≡ b
 same_bytes a b e = (bytes_eq-Decides a b).0 e
@@ -147,14 +147,14 @@ sign_goes a p es v e = went (Turned a p) es _ (ap (λ (w : List Word). entries e
 
 -- a pre with a postfix that isn't lazy
 pub eager_is : (a : Atom) (p : Postfix) (es : List Entry) → entries (with_pre (Turns a p false) es) ≡ entries es ++ (atom a ++ postfix p)
-unfolding pre lazy_mark
+unfolding pre word_lazy_mark
 eager_is a p es = put_is (Turns a p false) es ∙ ap (λ (w : List Word). entries es ++ (atom a ++ w)) (append-nil (postfix p))
 
 pub eager_begins : (a : Atom) (p : Postfix) (es : List Entry) (t : Word) → GoesIn ((entries es ++ (atom a ++ postfix p)) ++ t ∷ []) (begin_pre true (with_pre (Turns a p false) es) t)
 eager_begins a p es t = subst (λ (w : List Word). GoesIn (w ++ t ∷ []) (begin_pre true (with_pre (Turns a p false) es) t)) (eager_is a p es) (begin_goes true (with_pre (Turns a p false) es) t)
 
-pub turned_goes : (a : Atom) (p : Postfix) (es : List Entry) (t : Word) → GoesIn ((entries es ++ (atom a ++ postfix p)) ++ t ∷ []) (after_turns a p es t)
-unfolding after_turns pre lazy_mark
+pub turned_goes : (a : Atom) (p : Postfix) (es : List Entry) (t : Word) → GoesIn ((entries es ++ (atom a ++ postfix p)) ++ t ∷ []) (after_term_turns a p es t)
+unfolding after_term_turns pre word_lazy_mark
 turned_goes a p es Question = put_goes (Turns a p true) es _ (ap (λ (w : List Word). entries es ++ w) (sym (append_assoc (atom a) (postfix p) (Question ∷ []))) ∙ sym (append_assoc (entries es) (atom a ++ postfix p) (Question ∷ [])))
 turned_goes a p es t = eager_begins a p es t
 
@@ -224,7 +224,7 @@ unfolding step_in mode
 in_goes Need es t = begin_goes false es t
 in_goes Ready es t = begin_goes true es t
 in_goes (After a) es t = after_goes a es t
-in_goes (Turned a p) es t = subst (λ (w : List Word). GoesIn w (after_turns a p es t)) (append_assoc (entries es) (atom a ++ postfix p) (t ∷ [])) (turned_goes a p es t)
+in_goes (Turned a p) es t = subst (λ (w : List Word). GoesIn w (after_term_turns a p es t)) (append_assoc (entries es) (atom a ++ postfix p) (t ∷ [])) (turned_goes a p es t)
 in_goes (Named free n) es t = named_goes n es t
 in_goes Writing es t = write_goes es t
 in_goes Bracket es t = bracket_goes es t

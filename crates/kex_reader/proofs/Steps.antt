@@ -23,7 +23,7 @@ use Rattle.kex_reader.specs.declared.inside.StepFault.{StepFault}
 use Rattle.kex_reader.specs.declared.inside.StepFault.TheVariants as faults
 use Rattle.kex_reader.specs.declared.word.Name.{Name as Named'}
 use Rattle.kex_reader.specs.Syntax.{Word, Name, Number, Literal, Regex, Define, Bar, Tilde, At, Star, Plus, Question, OpenBrace, Bang, OpenBracket, OpenParen, CloseParen, word, Postfix, ZeroOrMore, OneOrMore, Optional, Term, Seq, Once, Turns, Atom, One, Call, Lit, Match, Write, Group, pre, atom, postfix}
-use Rattle.kex_reader.specs.Reading.{Entry, Mark, Ended, Done, Muted, Storing, Opened, Mode, Need, Ready, After, Turned, Named, Writing, Bracket, BracketName, Assigning, InCount, Inside, with_pre, take_seq, take_term, goes, on_bar, after_group, on_close, on_number, begin_pre, after_atom, after_turns, after_name, on_name, on_sign, entries, entry}
+use Rattle.kex_reader.specs.Reading.{Entry, Mark, Ended, Done, Muted, Storing, Opened, Mode, Need, Ready, After, Turned, Named, Writing, Bracket, BracketName, Assigning, InCount, Inside, with_pre, take_seq, take_term, goes, on_bar, after_group, on_close, on_number, begin_pre, after_atom, after_term_turns, after_name, on_name, on_sign, entries, entry}
 use Rattle.kex_reader.specs.Shown.{Made, IsNode, IsName, IsRegister, ShowsTerm, ShowsPre, ShowsAtom}
 use Rattle.kex_reader.specs.Stands.{HoldsTurns, Keeps, ConstructsShow, SeqTaken, TermTaken, ShowsMode, Steps}
 use Rattle.kex_reader.proofs.Drafts.{Keeps-trans}
@@ -270,12 +270,12 @@ unfolding after_atom
 after_brace x es = refl
 
 module _ (a : Atom) (p : Postfix) (es : List Entry) (b : List ℕ) where
-  pub turned_lazy : (k : TokenKind) → k ≡ kinds.Question → after_turns a p es (word k b) ≡ goes Ready (with_pre (Turns a p true) es)
-  unfolding after_turns
-  turned_lazy k e = ap (λ (x : TokenKind). after_turns a p es (word x b)) e
+  pub turned_lazy : (k : TokenKind) → k ≡ kinds.Question → after_term_turns a p es (word k b) ≡ goes Ready (with_pre (Turns a p true) es)
+  unfolding after_term_turns
+  turned_lazy k e = ap (λ (x : TokenKind). after_term_turns a p es (word x b)) e
 
-  pub turned_other : (k : TokenKind) → (k ≡ kinds.Question → ⊥) → after_turns a p es (word k b) ≡ begin_pre true (with_pre (Turns a p false) es) (word k b)
-  unfolding after_turns
+  pub turned_other : (k : TokenKind) → (k ≡ kinds.Question → ⊥) → after_term_turns a p es (word k b) ≡ begin_pre true (with_pre (Turns a p false) es) (word k b)
+  unfolding after_term_turns
   turned_other kinds.Question n = absurd (n refl)
   turned_other _ n = refl
 

@@ -1,7 +1,7 @@
 -- What has been read can be completed; what was refused can't.
 use Rattle.std.proofs.Common.{◌≡◌, ℕ, false, List, [], ◌∷◌, ◌++◌, Option, Some, None, refl, sym, ap, ◌∙◌, subst, append_assoc}
 use Rattle.std.proofs.lemmas.List.{append-nil}
-use Rattle.kex_reader.specs.Syntax.{Word, Name, Number, Define, Colon, Pipe, Bar, Tilde, At, OpenBrace, CloseBrace, Comma, CloseBracket, Arrow, OpenParen, CloseParen, Held, Postfix, Exactly, AtLeast, AtMost, FromTo, Term, Last, Or, Seq, Only, Then, Pre, Mute, Into, Once, Turns, Atom, One, Call, Write, Assign, Group, Definition, Header, NoStart, Stages, Program, start, register_part, parts, sign, postfix, lazy_mark, term, seq, pre, atom, definitions, stages, header, program}
+use Rattle.kex_reader.specs.Syntax.{Word, Name, Number, Define, Colon, Pipe, Bar, Tilde, At, OpenBrace, CloseBrace, Comma, CloseBracket, Arrow, OpenParen, CloseParen, Held, Postfix, Exactly, AtLeast, AtMost, FromTo, Term, Last, Or, Seq, Only, Then, Pre, Mute, Into, Once, Turns, Atom, One, Call, Write, Assign, Group, Definition, Header, NoStart, Stages, Program, start, register_part, parts, sign, postfix, word_lazy_mark, term, seq, pre, atom, definitions, stages, header, program}
 use Rattle.kex_reader.specs.Reading.{Entry, Mark, Ended, Done, Muted, Storing, Counting, Opened, Low, LowComma, LowHigh, OnlyComma, High, Mode, Need, Ready, After, Turned, Named, Writing, Bracket, BracketName, Assigning, Assigned, InCount, State, Begin, FirstName, StartLine, StageRead, StageNext, HeadRead, Within, state_after, finish, entry, entries, counting, mode, inside, before, words_read}
 use Rattle.kex_reader.specs.Programs.{IsProgram, BeginsProgram}
 use Rattle.kex_reader.proofs.Sound.{Goes, reads_goes, finish_is, Finishes, definitions-append, stages-append}
@@ -100,7 +100,7 @@ plug (Mark ∷ es) t =
 -- ---- each mode
 
 pub turns_for : (a : Atom) (p : Postfix) (v more : List Word) → postfix p ≡ v ++ more → PreFor (atom a ++ v)
-unfolding pre lazy_mark
+unfolding pre word_lazy_mark
 turns_for a p v more e = record { more = more; tree = Turns a p false; same = ap (λ (w : List Word). atom a ++ w) (append-nil (postfix p) ∙ e) ∙ sym (append_assoc (atom a) v more) }
 
 pub counted_pre : (a : Atom) (c : Counting) → PreFor (atom a ++ OpenBrace ∷ counting c)

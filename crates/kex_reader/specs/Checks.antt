@@ -40,7 +40,7 @@ pub record IsLeastBreak (cs : List Check) (b : Break) : Type 0 where
   pub broken : SomeBreaks cs b
   pub least : (other : Break) → SomeBreaks cs other → comes_before other b ≡ false
 
--- ---- the checks of a tree in the order of the text, where word number i has the offset at i, under so many marks and prefixes
+-- ---- the checks of a tree in the order of the text; word number i has the offset at i
 
 unfoldable pub postfix_checks : Postfix → ℕ → List Check
 postfix_checks ZeroOrMore at = []

@@ -9,10 +9,11 @@ use Rattle.kex_reader.specs.Syntax.{OpenParen, CloseParen, RegisterPart, Text, H
 use Rattle.kex_reader.specs.Syntax.{ZeroOrMore, OneOrMore, Optional, Term, Last, Or, Seq, Only}
 use Rattle.kex_reader.specs.Syntax.{Then, Pre, Mute, Into, Once, Turns, Atom, One, Call, Lit, Match}
 use Rattle.kex_reader.specs.Syntax.{Write, Assign, Group, Definition, Header, NoStart, Stages}
-use Rattle.kex_reader.specs.Syntax.{Program, start, register_part, parts, sign, signs, postfix, seq}
+use Rattle.kex_reader.specs.Syntax.{Program, start, register_part, parts, sign, word_signs, postfix}
+use Rattle.kex_reader.specs.Syntax.{seq}
 use Rattle.kex_reader.specs.Syntax.{pre, atom, definitions, stages, header}
 use Rattle.kex_regexp.specs.Postfixes.{CountSign, Digits, CommaSign, CloseSign, NoSign, count_by}
-use Rattle.kex_regexp.specs.Postfixes.{counted}
+use Rattle.kex_regexp.specs.Postfixes.{count_spelling}
 pub use Rattle.kex_regexp.specs.Postfixes.{Counting, Opened, Low, LowComma, LowHigh, OnlyComma}
 pub use Rattle.kex_regexp.specs.Postfixes.{High, CountStep, CountOn, CountRead, CountWrong}
 
@@ -146,9 +147,9 @@ after_atom a es OpenBrace = goes (InCount a Opened) es
 after_atom a es w = begin_pre true (with_pre (Once a) es) w
 
 -- behind a postfix: what makes it lazy, or what follows the pre
-unfoldable pub after_turns : Atom → Postfix → List Entry → Word → Option Inside
-after_turns a p es Question = goes Ready (with_pre (Turns a p true) es)
-after_turns a p es w = begin_pre true (with_pre (Turns a p false) es) w
+unfoldable pub after_term_turns : Atom → Postfix → List Entry → Word → Option Inside
+after_term_turns a p es Question = goes Ready (with_pre (Turns a p true) es)
+after_term_turns a p es w = begin_pre true (with_pre (Turns a p false) es) w
 
 unfoldable pub after_name : List ℕ → List Entry → Word → Option Inside
 after_name n es At = goes Need (Storing n ∷ es)
@@ -176,14 +177,14 @@ next_part append r p ps es (Name n) = goes (Assigned append r p (ps ++ Held n �
 next_part append r p ps es CloseBracket = goes (After (Assign append r p ps)) es
 next_part append r p ps es _ = None
 
-abbrev pub count_sign : Word → CountSign
-count_sign (Number digits) = Digits digits
-count_sign Comma = CommaSign
-count_sign CloseBrace = CloseSign
-count_sign _ = NoSign
+abbrev pub word_count_sign : Word → CountSign
+word_count_sign (Number digits) = Digits digits
+word_count_sign Comma = CommaSign
+word_count_sign CloseBrace = CloseSign
+word_count_sign _ = NoSign
 
 unfoldable pub count_step : Counting → Word → CountStep
-count_step c w = count_by false c (count_sign w)
+count_step c w = count_by false c (word_count_sign w)
 
 unfoldable pub on_count : Atom → List Entry → CountStep → Option Inside
 on_count a es (CountOn c) = goes (InCount a c) es
@@ -197,7 +198,7 @@ unfoldable pub step_in : Mode → List Entry → Word → Option Inside
 step_in Need es w = begin_pre false es w
 step_in Ready es w = begin_pre true es w
 step_in (After a) es w = after_atom a es w
-step_in (Turned a p) es w = after_turns a p es w
+step_in (Turned a p) es w = after_term_turns a p es w
 step_in (Named free n) es w = after_name n es w
 step_in Writing es w = on_name (λ n. goes (After (Write n)) es) w
 step_in Bracket es w = on_name (λ n. goes (BracketName n) es) w
@@ -312,7 +313,7 @@ entries [] = []
 entries (e ∷ es) = entries es ++ entry e
 
 unfoldable pub counting : Counting → List Word
-counting c = counted signs c
+counting c = count_spelling word_signs c
 
 unfoldable pub mode : Mode → List Word
 mode Need = []

@@ -218,8 +218,8 @@ SomeAtom made fs part = (at : ℕ → ℕ) × (base : ℕ) × (es : List Entry) 
     × ConstructsShow made at base fs es × (part.at ≡ at (base + length (entries es)))
     × ShowsAtom a made at part.node (base + length (entries es))
 
-abbrev pub SomeTurned : Made → List Construct → Shown → Bounds → Type 0
-SomeTurned made fs part b = (at : ℕ → ℕ) × (base : ℕ) × (es : List Entry) × (a : Atom)
+abbrev pub SomeTermTurned : Made → List Construct → Shown → Bounds → Type 0
+SomeTermTurned made fs part b = (at : ℕ → ℕ) × (base : ℕ) × (es : List Entry) × (a : Atom)
     × (p : Postfix) × ConstructsShow made at base fs es
     × (part.at ≡ at (base + length (entries es)))
     × ShowsAtom a made at part.node (base + length (entries es)) × HoldsTurns made b p
@@ -357,9 +357,10 @@ OnAtom made fs part Says = (at : ℕ → ℕ) (base : ℕ) (es : List Entry) (a 
     → ShowsAtom a made at part.node (base + length (entries es)) → Says at base es a
 
 -- and where the atom has this postfix
-abbrev pub OnTurned : Made → List Construct → Shown → Bounds
+abbrev pub OnTermTurned : Made → List Construct → Shown → Bounds
     → ((ℕ → ℕ) → ℕ → List Entry → Atom → Postfix → Type 0) → Type 0
-OnTurned made fs part b Says = (at : ℕ → ℕ) (base : ℕ) (es : List Entry) (a : Atom) (p : Postfix)
+OnTermTurned made fs part b Says =
+    (at : ℕ → ℕ) (base : ℕ) (es : List Entry) (a : Atom) (p : Postfix)
     → ConstructsShow made at base fs es → part.at ≡ at (base + length (entries es))
     → ShowsAtom a made at part.node (base + length (entries es)) → HoldsTurns made b p
     → Says at base es a p

@@ -4,7 +4,7 @@ use Rattle.std.specs.Prelude.{ℕ, ◌-◌, Bool, true, false, List, [], ◌∷�
 use Rattle.std.specs.Prelude.{codes}
 use Rattle.kex_tokens.specs.declared.token.TokenKind.{TokenKind}
 use Rattle.kex_tokens.specs.declared.token.TokenKind.TheVariants as kinds
-use Rattle.kex_regexp.specs.Postfixes.{Signs, spelled, lazy_sign}
+use Rattle.kex_regexp.specs.Postfixes.{Signs, postfix_spelling, lazy_sign}
 pub use Rattle.kex_regexp.specs.Postfixes.{Postfix, ZeroOrMore, OneOrMore, Optional, Exactly}
 pub use Rattle.kex_regexp.specs.Postfixes.{AtLeast, AtMost, FromTo}
 
@@ -131,8 +131,8 @@ sign false = Arrow
 sign true = PlusEquals
 
 -- a number is one word
-abbrev pub signs : Signs Word
-signs = record {
+abbrev pub word_signs : Signs Word
+word_signs = record {
   star = Star;
   plus = Plus;
   question = Question;
@@ -143,10 +143,10 @@ signs = record {
 }
 
 unfoldable pub postfix : Postfix → List Word
-postfix p = spelled signs p
+postfix p = postfix_spelling word_signs p
 
-unfoldable pub lazy_mark : Bool → List Word
-lazy_mark lazy = lazy_sign signs lazy
+unfoldable pub word_lazy_mark : Bool → List Word
+word_lazy_mark lazy = lazy_sign word_signs lazy
 
 unfoldable mutual
   pub term : Term → List Word
@@ -161,7 +161,7 @@ unfoldable mutual
   pre (Mute p) = Tilde ∷ pre p
   pre (Into r p) = Name r ∷ At ∷ pre p
   pre (Once a) = atom a
-  pre (Turns a p lazy) = atom a ++ (postfix p ++ lazy_mark lazy)
+  pre (Turns a p lazy) = atom a ++ (postfix p ++ word_lazy_mark lazy)
 
   pub atom : Atom → List Word
   atom One = Number (codes "1") ∷ []

@@ -11,7 +11,7 @@ ghost use Rattle.kex_tokens.specs.Lexemes.{IsToken};
 ghost use Rattle.kex_tokens.specs.Values.{StandsFor};
 ghost use Rattle.kex_reader.specs.Checks.{Check, Matched, Nested, postfix_checks};
 ghost use Rattle.kex_reader.specs.Reading.{After, Assigned, Assigning, BracketName, CountStep};
-ghost use Rattle.kex_reader.specs.Reading.{Entry, Inside, Ready, after_atom, after_turns};
+ghost use Rattle.kex_reader.specs.Reading.{Entry, Inside, Ready, after_atom, after_term_turns};
 ghost use Rattle.kex_reader.specs.Reading.{begin_pre, entries, first_part};
 ghost use Rattle.kex_reader.specs.Reading.{goes, after_name, next_part, on_bar, on_close, on_count};
 ghost use Rattle.kex_reader.specs.Reading.{on_name, on_sign, with_pre, inside};
@@ -21,8 +21,10 @@ ghost use Rattle.kex_reader.specs.Stands.{Behind, BehindAny, FirstPart, Construc
 ghost use Rattle.kex_reader.specs.Stands.{InConstructs, HoldsTurns, InPlace, InWait, IsBehindAtom};
 ghost use Rattle.kex_reader.specs.Stands.{IsBehindTurns, IsHeld, IsLeaf, Keeps, LosesNone};
 ghost use Rattle.kex_reader.specs.Stands.{NextPart, NotesLeast, NotesMore};
-ghost use Rattle.kex_reader.specs.Stands.{OnAtom, OnTurned, ShowsMode, SomeAtom, SomeConstructs};
-ghost use Rattle.kex_reader.specs.Stands.{SomeInside, SomeName, SomeTurned, StepLosesNone, Steps};
+ghost use Rattle.kex_reader.specs.Stands.{OnAtom, OnTermTurned, ShowsMode, SomeAtom};
+ghost use Rattle.kex_reader.specs.Stands.{SomeConstructs};
+ghost use Rattle.kex_reader.specs.Stands.{SomeInside, SomeName, SomeTermTurned, StepLosesNone};
+ghost use Rattle.kex_reader.specs.Stands.{Steps};
 ghost use Rattle.kex_reader.specs.Stands.{after_asks, asks, begin_asks, count_asks, named_asks};
 ghost use Rattle.kex_reader.specs.Stands.{open_constructs, turned_asks, word_of};
 ghost use Rattle.kex_reader.specs.Uses.{InKind, NodeNumber, Numbered, RegisterNumber};
@@ -313,12 +315,12 @@ pub(crate) fn end_turns(
     bounds: Bounds,
     lazy: bool,
 ) -> Result<(), Memory>
-    requires { SomeTurned draft.old stack.old item bounds }
+    requires { SomeTermTurned draft.old stack.old item bounds }
     ensures held { OnOk result (LosesNone draft.old draft.new
         (IsHeld stack.old (Wait.Turned item bounds)) (InConstructs stack.new)) }
     ensures keeps { OnOk result (Keeps draft.old draft.new) }
     ensures broken { OnOk result (draft.new.broken ≡ draft.old.broken) }
-    ensures put { OnOk result (OnTurned draft.old stack.old item bounds (λ at base es a p.
+    ensures put { OnOk result (OnTermTurned draft.old stack.old item bounds (λ at base es a p.
         ConstructsShow draft.new at base stack.new (with_pre (Turns a p lazy) es))) }
 {
     if bounds.are_bad() {
@@ -386,16 +388,16 @@ fn word_after_turns<'t>(
     bounds: Bounds,
     word: Word<'t>,
 ) -> Result<Wait<'t>, StepFault>
-    requires turned { SomeTurned draft.old stack.old item bounds }
+    requires turned { SomeTermTurned draft.old stack.old item bounds }
     requires token { IsToken word.kind word.spelling.now }
     requires place { word.at + length word.spelling.now < 2 ^ 32 }
     ensures held { StepLosesNone draft.old draft.new stack.old
         (Wait.Turned item bounds) stack.new result }
     ensures keeps { OnOk result (Keeps draft.old draft.new) }
-    ensures step { OnTurned draft.old stack.old item bounds (λ at base es a p.
+    ensures step { OnTermTurned draft.old stack.old item bounds (λ at base es a p.
         IsBehindTurns at base es a p word.entry.at
-        → Steps draft.new at base stack.new result (after_turns a p es (word_of word.entry))) }
-    ensures notes { OnTurned draft.old stack.old item bounds (λ at base es a p.
+        → Steps draft.new at base stack.new result (after_term_turns a p es (word_of word.entry))) }
+    ensures notes { OnTermTurned draft.old stack.old item bounds (λ at base es a p.
         IsBehindTurns at base es a p word.entry.at
         → NotesMore draft.old.broken draft.new.broken result (turned_asks at
         (base + length (entries es) + length (atom a ++ postfix p)) a p es (word_of word.entry))) }

@@ -17,8 +17,8 @@ ghost use Rattle.kex_reader.specs.Asked.{state_asks};
 ghost use Rattle.kex_reader.specs.Uses.{InStages, NodeNumber};
 ghost use Rattle.kex_reader.specs.Checks.{Check, Staged};
 ghost use Rattle.kex_reader.specs.Stands.{Behind, ConstructsShow, InConstructs, Keeps, LosesNone};
-ghost use Rattle.kex_reader.specs.Stands.{NotesLeast, NotesMore, OnAtom, OnTurned, SomeAtom};
-ghost use Rattle.kex_reader.specs.Stands.{SomeConstructs, SomeInside, SomeName, SomeTurned};
+ghost use Rattle.kex_reader.specs.Stands.{NotesLeast, NotesMore, OnAtom, OnTermTurned, SomeAtom};
+ghost use Rattle.kex_reader.specs.Stands.{SomeConstructs, SomeInside, SomeName, SomeTermTurned};
 ghost use Rattle.kex_reader.specs.Stands.{word_of};
 ghost use Rattle.kex_reader.specs.Syntax.{Atom, Call, Definition as SpecDefinition, Define, Once};
 ghost use Rattle.kex_reader.specs.Syntax.{Turns, Header, word as grammar_word};
@@ -309,12 +309,12 @@ impl<'t> Reader<'t> {
 
     // The last definition ends with this atom and its postfix.
     fn end_turned(&mut self, head: Head, item: PlacedNode, bounds: Bounds) -> Result<(), StepFault>
-        requires { SomeTurned self.old.draft self.old.stack item bounds }
+        requires { SomeTermTurned self.old.draft self.old.stack item bounds }
         ensures held { OnOk result (EndLosesNone self.old self.new head (λ x.
             (x ≡ NodeNumber item.node) ⊎ InConstructs self.old.stack x)) }
         ensures keeps { OnOk result (Keeps self.old.draft self.new.draft) }
         ensures stages { OnOk result (self.new.stages.items ≡ self.old.stages.items) }
-        ensures ends { OnTurned self.old.draft self.old.stack item bounds (λ at base es a p.
+        ensures ends { OnTermTurned self.old.draft self.old.stack item bounds (λ at base es a p.
             ReaderEnds self.old self.new at base head result
             (whole_term (take_term (with_pre (Turns a p false) es)))) }
         ensures broken { OnOk result (self.new.draft.broken ≡ self.old.draft.broken) }

@@ -2,7 +2,7 @@
 -- each tree spells.
 use Rattle.std.specs.Char.{is_ascii_digit, is_ascii_hexdigit, is_ascii_punctuation}
 use Rattle.kex_tokens.specs.Bytes as byte
-use Rattle.kex_regexp.specs.Postfixes.{Signs, spelled, lazy_sign}
+use Rattle.kex_regexp.specs.Postfixes.{Signs, postfix_spelling, lazy_sign}
 pub use Rattle.kex_regexp.specs.Postfixes.{Postfix, ZeroOrMore, OneOrMore, Optional, Exactly}
 pub use Rattle.kex_regexp.specs.Postfixes.{AtLeast, AtMost, FromTo}
 use Rattle.std.specs.Prelude.{◌≡◌, ℕ, Bool, true, false, List, [], ◌∷◌, ◌++◌, ◌==◌, if◌then◌else◌}
@@ -116,7 +116,7 @@ signs = record {
 }
 
 unfoldable pub postfix : Postfix → List ℕ
-postfix p = spelled signs p
+postfix p = postfix_spelling signs p
 
 unfoldable pub lazy_mark : Bool → List ℕ
 lazy_mark lazy = lazy_sign signs lazy

@@ -11,7 +11,7 @@ use Rattle.kex_regexp.specs.Grammar.{Empty, Then, Piece, Once, Turns, Item, Plai
 use Rattle.kex_regexp.specs.Grammar.{Set, Group, branch, piece, item, negation, members, end_of}
 use Rattle.kex_regexp.specs.Grammar.{signs, postfix}
 use Rattle.kex_regexp.specs.Postfixes.{Postfix, ZeroOrMore, OneOrMore, Optional, CountSign, Digits}
-use Rattle.kex_regexp.specs.Postfixes.{CommaSign, CloseSign, NoSign, count_by, counted}
+use Rattle.kex_regexp.specs.Postfixes.{CommaSign, CloseSign, NoSign, count_by, count_spelling}
 pub use Rattle.kex_regexp.specs.Postfixes.{Counting, Opened, Low, LowComma, LowHigh, OnlyComma}
 pub use Rattle.kex_regexp.specs.Postfixes.{High, CountStep, CountOn, CountRead, CountWrong}
 
@@ -264,7 +264,7 @@ unfoldable pub set_so_far : Bool → List Member → SetPhase → List ℕ
 set_so_far negated ms p = byte.open_bracket ∷ negation negated ++ (members ms ++ set_phase p)
 
 unfoldable pub counting : Counting → List ℕ
-counting c = counted signs c
+counting c = count_spelling signs c
 
 unfoldable pub mode : Mode → List ℕ
 mode Ready = []

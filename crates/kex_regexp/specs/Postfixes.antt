@@ -59,14 +59,15 @@ pub record Signs (A : Type 0) : Type 0 where
   pub close_brace : A
   pub number : List ℕ → List A
 
-abbrev pub spelled : {A : Type 0} → Signs A → Postfix → List A
-spelled s ZeroOrMore = s.star ∷ []
-spelled s OneOrMore = s.plus ∷ []
-spelled s Optional = s.question ∷ []
-spelled s (Exactly n) = s.open_brace ∷ s.number n ++ s.close_brace ∷ []
-spelled s (AtLeast n) = s.open_brace ∷ s.number n ++ s.comma ∷ s.close_brace ∷ []
-spelled s (AtMost m) = s.open_brace ∷ s.comma ∷ s.number m ++ s.close_brace ∷ []
-spelled s (FromTo n m) = s.open_brace ∷ s.number n ++ (s.comma ∷ s.number m ++ s.close_brace ∷ [])
+abbrev pub postfix_spelling : {A : Type 0} → Signs A → Postfix → List A
+postfix_spelling s ZeroOrMore = s.star ∷ []
+postfix_spelling s OneOrMore = s.plus ∷ []
+postfix_spelling s Optional = s.question ∷ []
+postfix_spelling s (Exactly n) = s.open_brace ∷ s.number n ++ s.close_brace ∷ []
+postfix_spelling s (AtLeast n) = s.open_brace ∷ s.number n ++ s.comma ∷ s.close_brace ∷ []
+postfix_spelling s (AtMost m) = s.open_brace ∷ s.comma ∷ s.number m ++ s.close_brace ∷ []
+postfix_spelling s (FromTo n m) =
+    s.open_brace ∷ s.number n ++ (s.comma ∷ s.number m ++ s.close_brace ∷ [])
 
 -- what makes a postfix lazy: one more sign
 abbrev pub lazy_sign : {A : Type 0} → Signs A → Bool → List A
@@ -83,13 +84,13 @@ pub data Counting : Type 0 where
   OnlyComma : Counting
   High : (m : List ℕ) → Counting
 
-abbrev pub counted : {A : Type 0} → Signs A → Counting → List A
-counted s Opened = []
-counted s (Low n) = s.number n
-counted s (LowComma n) = s.number n ++ s.comma ∷ []
-counted s (LowHigh n m) = s.number n ++ s.comma ∷ s.number m
-counted s OnlyComma = s.comma ∷ []
-counted s (High m) = s.comma ∷ s.number m
+abbrev pub count_spelling : {A : Type 0} → Signs A → Counting → List A
+count_spelling s Opened = []
+count_spelling s (Low n) = s.number n
+count_spelling s (LowComma n) = s.number n ++ s.comma ∷ []
+count_spelling s (LowHigh n m) = s.number n ++ s.comma ∷ s.number m
+count_spelling s OnlyComma = s.comma ∷ []
+count_spelling s (High m) = s.comma ∷ s.number m
 
 -- what one letter more is to a count
 pub data CountSign : Type 0 where

@@ -4,7 +4,7 @@ use Rattle.kex_code.specs.declared.symbol.Symbol.{Symbol}
 use Rattle.kex_machine.specs.Nodes.{Graph}
 use Rattle.kex_machine.specs.Answers.{IsViableFor}
 use Rattle.kex_action.specs.Actors.{Position, HasPerformed, BeginsRun, WentOn, TookAll}
-use Rattle.kex_moves.specs.Speech.{Performs}
+use Rattle.kex_moves.specs.Speech.{PerformsSaid}
 use Rattle.kex_stage.specs.declared.oracle.Oracle.{Oracle}
 use Rattle.kex_stage.specs.Oracles.{HearsOn, Tells, TellsEnd}
 use Rattle.kex_stage.specs.Works.{Followed, StageGoes, StageWorks, StageFinishes}
@@ -50,7 +50,7 @@ finishes false o a b start code symbols before after none same mb h took = recor
 }
 
 -- what was told is performed by pieces
-module _ (o new : Oracle) (a b : Position) (piece : List ℕ) (count : ℕ) (said : List Symbol) (before after : List ℕ) (mb : b.machine ≡ a.machine) (h : Tells o new piece count [] said) (p : Performs a b said before after) where
+module _ (o new : Oracle) (a b : Position) (piece : List ℕ) (count : ℕ) (said : List Symbol) (before after : List ℕ) (mb : b.machine ≡ a.machine) (h : Tells o new piece count [] said) (p : PerformsSaid a b said before after) where
   module _ (g : Graph) (w text : List ℕ) (f : Followed g o a w text) (v : IsViableFor g w) where
     heard : HearsOn g new w piece count (f.code ++ said)
     heard = subst (λ z. HearsOn g new w piece count (f.code ++ z)) (sym h.code) (h.tells g w f.code f.hears v)

@@ -4,7 +4,7 @@ use Rattle.std.proofs.lemmas.Bool.{lt-ltb, le-ltb}
 use Rattle.std.proofs.lemmas.List.{length-take-le}
 use Rattle.kex_code.specs.declared.symbol.Symbol.{Symbol}
 use Rattle.kex_action.specs.Actors.{Position, TookAll}
-use Rattle.kex_moves.specs.Speech.{Performs}
+use Rattle.kex_moves.specs.Speech.{PerformsSaid}
 use Rattle.kex_stage.specs.declared.follower.Follower.{Follower}
 use Rattle.kex_stage.specs.declared.oracle.Oracle.{Oracle}
 use Rattle.kex_stage.specs.declared.oracle.Oracle.TheVariants.{Table}
@@ -16,7 +16,7 @@ use Rattle.kex_stage.proofs.ActorOutputs.{speaks, stops}
 use Rattle.kex_stage.proofs.ByTable.{still_tells}
 use Rattle.kex_stage.proofs.Followers.{fronts}
 
-module _ (o : Oracle) (f n : Follower) (a b : Position) (piece : List ℕ) (taken good : ℕ) (said : List Symbol) (before after : List ℕ) (runner : n.runner ≡ f.runner) (moves : n.moves ≡ f.moves) (mb : b.machine ≡ a.machine) (within : taken ≤ length piece) (most : good ≤ taken) (told : Tells o (Table f) (take taken piece) good [] said) (performs : Performs a b said before after) where
+module _ (o : Oracle) (f n : Follower) (a b : Position) (piece : List ℕ) (taken good : ℕ) (said : List Symbol) (before after : List ℕ) (runner : n.runner ≡ f.runner) (moves : n.moves ≡ f.moves) (mb : b.machine ≡ a.machine) (within : taken ≤ length piece) (most : good ≤ taken) (told : Tells o (Table f) (take taken piece) good [] said) (performs : PerformsSaid a b said before after) where
   long : length (take taken piece) ≡ taken
   long = length-take-le taken piece within
 

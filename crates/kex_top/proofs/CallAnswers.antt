@@ -40,7 +40,7 @@ use Rattle.kex_top.specs.declared.start.StartError.TheVariants as start
 use Rattle.kex_top.specs.Answer.{Said}
 use Rattle.kex_top.specs.Pipelines.{Answered, NodesSay, StagesSay, first_limit, stage_plans}
 use Rattle.kex_top.specs.Run.{IsAsBefore, Left, Ran, EndsAs, WritesAll}
-use Rattle.kex_top.specs.Kex.{CommandAnswers, Works}
+use Rattle.kex_top.specs.Kex.{CommandAnswers, CommandWorks}
 use Rattle.kex_top.specs.Modes.{BeginsParse, HasParseAlone, IsParseCode, WritesPart, MachineGives, MachinesSay, MeansCode, SaysCode, SaysNothing, SaysBy, StageGives, limits_of, limits_to_check}
 use Rattle.kex_pipe.specs.declared.report.Rejected.{Rejected as Report}
 use Rattle.kex_top.specs.declared.status.Status.{Status}
@@ -279,7 +279,7 @@ not_shelf (ToStream mode name reach) P reads source sink h = h.ends
 not_shelf (ToCheck name states) P reads source sink h = h.1.told
 not_shelf (ToTry lines block rings) P reads source sink h = h.1.told
 
-begun : (asked : Asked) (texts : Option Texts) (reads : Option Reads) (source sink : StreamChange) (s : Status) → Works asked texts reads source sink s → CommandAnswers asked texts reads source sink s
+begun : (asked : Asked) (texts : Option Texts) (reads : Option Reads) (source sink : StreamChange) (s : Status) → CommandWorks asked texts reads source sink s → CommandAnswers asked texts reads source sink s
 begun asked texts reads source sink Done w = w
 begun asked texts reads source sink (Rejected x) w = w
 begun asked texts reads source sink (TooLong x) w = w

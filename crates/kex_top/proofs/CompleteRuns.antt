@@ -47,10 +47,10 @@ use Rattle.kex_top.specs.Answer.{Said}
 use Rattle.kex_top.specs.Modes.{BeginsParse, HasParseAlone, IsParseCode, WritesPart, MeansCode, SaysBy, SaysCode, SaysNothing, StageGives, limits_of}
 use Rattle.kex_top.specs.Pipelines.{MeansInTurn}
 use Rattle.kex_top.specs.Run.{Ran, WritesAll}
-use Rattle.kex_top.specs.Commands.{Parses, calls_of, limits_for, told_text}
+use Rattle.kex_top.specs.Commands.{StreamParses, calls_of, limits_for, told_text}
 use Rattle.kex_top.specs.Refusals.{IsRefusalOf, IsRefusedFor}
 use Rattle.kex_top.specs.Shelves.{Broke, ShelfChange, ShelfServes}
-use Rattle.kex_top.specs.Kex.{CallAnswers, CommandAnswers, Headline, IsComplete, HasNotRisen, BreaksNoRule, Works}
+use Rattle.kex_top.specs.Kex.{CallAnswers, CommandAnswers, Headline, IsComplete, HasNotRisen, BreaksNoRule, CommandWorks}
 use Rattle.kex_pipe.specs.declared.report.Rejected.{Rejected as Report}
 use Rattle.kex_top.specs.declared.status.Status.{Status}
 use Rattle.kex_top.specs.declared.status.Status.TheVariants.{Done, Rejected, Usage, Refused, ReadFault, WriteFault, ShelfFault, Memory, TooLong}
@@ -190,7 +190,7 @@ unrefused limits told text r is short good (inr b) =
     shown_memory b.text r b.rule (good b.rule (subst (λ t. IsRefused limits t b.rule) same b.is_refused)) b.is_shown
 
 -- a run on an input that is good has no report
-ran-good : (mode : Mode) (limit last : ℕ) (text other : List ℕ) (P : Grammar) (source sink : StreamChange) (s : Status) (r : Report) → other ≡ text → Spells other P → Parses mode limit text source → (ran : Ran (SaysBy mode P limit) last source sink s) → WritesAll (SaysBy mode P limit) ran.w ran.e (Some r) sink → ⊥
+ran-good : (mode : Mode) (limit last : ℕ) (text other : List ℕ) (P : Grammar) (source sink : StreamChange) (s : Status) (r : Report) → other ≡ text → Spells other P → StreamParses mode limit text source → (ran : Ran (SaysBy mode P limit) last source sink s) → WritesAll (SaysBy mode P limit) ran.w ran.e (Some r) sink → ⊥
 ran-good mode limit last text other P source sink s r same spells g ran all =
     let goes = g.parses P (subst (λ t. Spells t P) same spells) in
     unrejected_by P mode limit source.old source.new ran.w g.input ran.e all.said goes.0 r g.rest ran.read ran.ended all.is_said all.reports goes.1 goes.2
@@ -203,27 +203,27 @@ module _ (texts : Option Texts) (shelf : ShelfChange) (reads : Option Reads) (so
   unfailed (ToTry lines block rings) g takes h = false≢true takes
 
   -- isn't rejected
-  unrejected_as : (asked : Asked) (r : Report) → BreaksNoRule asked texts shelf source sink → Works asked texts reads source sink (Rejected r) → ⊥
+  unrejected_as : (asked : Asked) (r : Report) → BreaksNoRule asked texts shelf source sink → CommandWorks asked texts reads source sink (Rejected r) → ⊥
   unrejected_as (ToStream mode name reach) r g w =
       ran-good mode reach.max_input (last_given reach.block reads) g.text w.text w.program source sink (Rejected r) r (told-same (told_of texts name) g.text w.text g.is_told w.is_told) w.accepts.spells g.input_is_good w.performs w.performs.ends.1
   unrejected_as (ToCheck name states) r g w = w.performs.1.told
   unrejected_as (ToTry lines block rings) r g w = w.performs.1.told
 
   -- isn't too long
-  unlimited : (asked : Asked) (r : Report) → BreaksNoRule asked texts shelf source sink → Works asked texts reads source sink (TooLong r) → ⊥
+  unlimited : (asked : Asked) (r : Report) → BreaksNoRule asked texts shelf source sink → CommandWorks asked texts reads source sink (TooLong r) → ⊥
   unlimited (ToStream mode name reach) r g w =
       ran-good mode reach.max_input (last_given reach.block reads) g.text w.text w.program source sink (TooLong r) r (told-same (told_of texts name) g.text w.text g.is_told w.is_told) w.accepts.spells g.input_is_good w.performs w.performs.ends.1
   unlimited (ToCheck name states) r g w = w.performs.1.told
   unlimited (ToTry lines block rings) r g w = w.performs.1.told
 
   -- and fails at neither source nor sink
-  unstopped : (asked : Asked) → BreaksNoRule asked texts shelf source sink → Works asked texts reads source sink ReadFault → ⊥
+  unstopped : (asked : Asked) → BreaksNoRule asked texts shelf source sink → CommandWorks asked texts reads source sink ReadFault → ⊥
   unstopped (ToStream mode name reach) g w =
       let rose = w.performs.ends.2.1 in let quiet = g.readable refl in omega arith
   unstopped (ToCheck name states) g w = w.performs.1.told
   unstopped (ToTry lines block rings) g w = w.performs.1.told
 
-  unspoilt : (asked : Asked) → BreaksNoRule asked texts shelf source sink → Works asked texts reads source sink WriteFault → ⊥
+  unspoilt : (asked : Asked) → BreaksNoRule asked texts shelf source sink → CommandWorks asked texts reads source sink WriteFault → ⊥
   unspoilt (ToStream mode name reach) g w =
       let rose = w.performs.ends.2.1 in let quiet = g.writable in omega arith
   unspoilt (ToCheck name states) g w =
@@ -289,7 +289,7 @@ pub done-as-told : (states : ℕ) (name : List ℕ) (reach : Reach) (a : Option 
 done-as-told states name reach a texts reads source sink s text input before command is rest held done answers =
     by (subst (λ x. CallAnswers (Some (ToStream (running states) name reach)) texts reads source sink x) done (subst (λ x. CallAnswers x texts reads source sink s) command answers))
   where
-    by : Works (ToStream (running states) name reach) texts reads source sink Done → Headline states text reach.max_input input before source.new sink.new
+    by : CommandWorks (ToStream (running states) name reach) texts reads source sink Done → Headline states text reach.max_input input before source.new sink.new
     by w =
         let limit = reach.max_input in
         let ran = w.performs in

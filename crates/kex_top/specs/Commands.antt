@@ -25,7 +25,7 @@ use Rattle.kex_top.specs.declared.status.Status.TheVariants.{Done, WriteFault}
 
 -- The name of the text that a command takes from the shelf, how many bytes each of its reads asks
 -- for, and whether it calls the sink.
-pub record Calls : Type 0 where
+pub record CommandCalls : Type 0 where
   pub takes : Option (List ℕ)
   pub block : Option ℕ
   pub writes : Bool
@@ -36,7 +36,7 @@ is_writing testing = false
 is_writing mode = true
 
 -- Words out of form call nothing.
-abbrev pub calls_of : Option Asked → Calls
+abbrev pub calls_of : Option Asked → CommandCalls
 calls_of None = record { takes = None; block = None; writes = false }
 calls_of (Some (ToStream mode name reach)) =
     record { takes = Some name; block = Some reach.block; writes = is_writing mode }
@@ -87,7 +87,8 @@ Performs (ToTry lines block rings) P reads source sink status =
     IsAsBefore source × Tried P lines (λ line. TellsLine line sink status)
 
 -- The source's bytes are known, and what a program of the text says of them, ended, has no report.
-pub record Parses (mode : Mode) (limit : ℕ) (text : List ℕ) (source : StreamChange) : Type 0 where
+pub record StreamParses (mode : Mode) (limit : ℕ) (text : List ℕ)
+    (source : StreamChange) : Type 0 where
   pub input : List ℕ
   pub rest : source.old ≡ Some input
   pub parses : (P : Grammar) → Spells text P
@@ -95,6 +96,6 @@ pub record Parses (mode : Mode) (limit : ℕ) (text : List ℕ) (source : Stream
 
 -- The input is one with which the command ends well. A check and a trial have none.
 abbrev pub InputIsGood : Asked → List ℕ → StreamChange → Type 0
-InputIsGood (ToStream mode name reach) text source = Parses mode reach.max_input text source
+InputIsGood (ToStream mode name reach) text source = StreamParses mode reach.max_input text source
 InputIsGood (ToCheck name states) text source = ⊤
 InputIsGood (ToTry lines block rings) text source = ⊤

@@ -23,7 +23,7 @@ use Rattle.kex_top.specs.declared.status.Status.{Status}
 use Rattle.kex_top.specs.declared.status.Status.TheVariants.{Usage, Refused, ShelfFault, Memory}
 
 -- A program that the told text spells, and that the command accepts, was worked with.
-pub record Works (asked : Asked) (texts : Option Texts) (reads : Option Reads)
+pub record CommandWorks (asked : Asked) (texts : Option Texts) (reads : Option Reads)
     (source sink : StreamChange) (status : Status) : Type 0 where
   pub text : List ℕ
   pub is_told : IsTold (told_text texts asked) text
@@ -40,8 +40,9 @@ CommandAnswers asked texts reads source sink ShelfFault =
 CommandAnswers asked texts reads source sink (Refused r) =
     Left source sink × IsRefusedFor (limits_for asked) (told_text texts asked) r
 CommandAnswers asked texts reads source sink Memory =
-    Left source sink ⊎ Works asked texts reads source sink Memory
-CommandAnswers asked texts reads source sink status = Works asked texts reads source sink status
+    Left source sink ⊎ CommandWorks asked texts reads source sink Memory
+CommandAnswers asked texts reads source sink status =
+    CommandWorks asked texts reads source sink status
 
 -- What is answered where nothing is asked for.
 abbrev pub IsUnasked : Status → Type 0

@@ -5,7 +5,7 @@ ghost use Rattle.kex_compile.specs.Compiled.{IsCompiled, IsRefused};
 ghost use Rattle.kex_compile.specs.declared.refusal.CompileRefusal.{CompileRefusal};
 ghost use Rattle.kex_tokens.specs.Texts.{most_text};
 ghost use Rattle.kex_top.specs.Refusals.{HasNone, HasPlans, IsStartOf};
-ghost use Rattle.kex_top.specs.Shelves.{TakesText, shelf_change_of};
+ghost use Rattle.kex_top.specs.Shelves.{TakesProgram, shelf_change_of};
 
 use crate::refused::refused;
 use crate::start::StartError;
@@ -43,7 +43,7 @@ pub(crate) fn plans_of<H: Shelf>(
 ) -> Result<Compiled, StartError>
     requires { asked.now.states < 4294967295 }
     ensures texts { H.texts shelf.new ≡ H.texts shelf.old }
-    ensures shelf { TakesText (told_of (H.texts shelf.old) name.now)
+    ensures shelf { TakesProgram (told_of (H.texts shelf.old) name.now)
         (shelf_change_of H.faults H.breaks shelf.old shelf.new) result }
     ensures plans { IfOk result (λ plans.
         HasPlans asked.now (told_of (H.texts shelf.old) name.now) plans) }

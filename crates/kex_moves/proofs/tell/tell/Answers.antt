@@ -1,7 +1,7 @@
 use Rattle.std.proofs.Common.{◌≡◌, ◌∙◌, ◌++◌, ◌∷◌, [], ◌+◌, ◌-◌, length, get_or, take, drop, refl, sym, ap, subst, arith, append-nil, length-take, length-drop}
 use Rattle.std.proofs.lemmas.List.{take_more, take_all}
 use Rattle.kex_script.specs.Pieces.{word_code, code_over}
-use Rattle.kex_moves.specs.Speech.{Performs}
+use Rattle.kex_moves.specs.Speech.{PerformsSaid}
 use Rattle.kex_moves.proofs.EdgeRuns.{part_more}
 use Rattle.kex_moves.proofs.Trails.{no_piece}
 use Rattle.kex_moves.proofs.PieceRuns.{spelled_more, performs_more, performs_took}
@@ -26,7 +26,7 @@ pieces-preserved c =
       known = e.known;
       blank = e.none;
       room = e.room ∙ old.room;
-      performs = subst (λ d. Performs c.args.actor.now c.tell_some.new.actor d c.args.out.now.items c.tell_some.new.out.items) whole all;
+      performs = subst (λ d. PerformsSaid c.args.actor.now c.tell_some.new.actor d c.args.out.now.items c.tell_some.new.out.items) whole all;
     }
 
 pub pieces-preserved-then-at-pieces : goal.pieces-preserved-then-at-pieces
@@ -60,11 +60,11 @@ pieces-preserved-then-at-pieces c =
       known = e.known;
       blank = e.none;
       room = e.room ∙ old.room;
-      performs = subst (λ d. Performs c.args.actor.now c.take_word.new.actor d c.args.out.now.items z) whole all;
+      performs = subst (λ d. PerformsSaid c.args.actor.now c.take_word.new.actor d c.args.out.now.items z) whole all;
     }
 
 pub returns-clause-performs : goal.returns-clause-performs
 returns-clause-performs c =
     let pieces = c.args.pieces.now in
     let all : take c.pieces.at pieces ≡ pieces = take_all c.pieces.at pieces (omega (arith, c.pieces-test.false)) in
-    subst (λ ps. Performs c.args.actor.now c.pieces.actor (code_over c.args.words.now ps) c.args.out.now.items c.pieces.out.items) all c.pieces.invariant.performs
+    subst (λ ps. PerformsSaid c.args.actor.now c.pieces.actor (code_over c.args.words.now ps) c.args.out.now.items c.pieces.out.items) all c.pieces.invariant.performs

@@ -2,7 +2,7 @@ use Rattle.std.proofs.Common.{◌≡◌, ◌≤◌, ◌-◌, IsTrue, length, tak
 use Rattle.kex_action.specs.Sheets.{IsBlank}
 use Rattle.kex_script.specs.Pieces.{code_over}
 use Rattle.kex_moves.specs.Known.{IsKnown}
-use Rattle.kex_moves.specs.Speech.{words_table, Performs}
+use Rattle.kex_moves.specs.Speech.{words_table, PerformsSaid}
 use Rattle.kex_moves.proofs.tell.tell.Given as goal
 
 abbrev pub invariant-pieces : goal.invariant-pieces
@@ -13,7 +13,7 @@ invariant-pieces l = record {
   known : IsKnown (words_table l.words) l.machine l.edges;
   blank : IsBlank l.sheet;
   room : length l.sheet.bytes.items ≡ 86033;
-  performs : Performs l.fn.actor l.actor (code_over l.words (take l.at l.pieces)) l.fn.out.items l.out.items;
+  performs : PerformsSaid l.fn.actor l.actor (code_over l.words (take l.at l.pieces)) l.fn.out.items l.out.items;
 }
 
 abbrev pub decreases-pieces : goal.decreases-pieces
