@@ -150,6 +150,6 @@ fn words_of_phrases(rt: HostRuntime) -> Result<(), Fail> {
         byte: b'x',
     };
     phrases.say(&mut actor, &[last], &mut out)?;
-    assert!(&rt; out.as_slice() == b"<x>");
+    assert!(&rt; out.as_slice() == b"<x>".as_slice());
     Ok(())
 }

@@ -21,15 +21,15 @@ fn answer(alloc: Global, words: &[String]) -> Result<String, AllocError> {
 }
 
 const LINES: &str = r#"
-kex run p => Stream { mode: Run(States { most: 4096 }), program: "p", limits: Limits { max_input: 281474976710656, block: 65536, rings: None } }
-kex run --block 1 p --max-input 3 => Stream { mode: Run(States { most: 4096 }), program: "p", limits: Limits { max_input: 3, block: 1, rings: None } }
-kex run --block=+1 --max-input=003 -- -p => Stream { mode: Run(States { most: 4096 }), program: "-p", limits: Limits { max_input: 3, block: 1, rings: None } }
-kex run  => Stream { mode: Run(States { most: 4096 }), program: "", limits: Limits { max_input: 281474976710656, block: 65536, rings: None } }
-kex run --rings 4096 p --max-input 3 => Stream { mode: Run(States { most: 4096 }), program: "p", limits: Limits { max_input: 3, block: 65536, rings: Some(Rings { room: 4096 }) } }
-kex code p => Stream { mode: Code, program: "p", limits: Limits { max_input: 281474976710656, block: 65536, rings: None } }
-kex act p --max-input 3 --block 1 => Stream { mode: Act, program: "p", limits: Limits { max_input: 3, block: 1, rings: None } }
-kex test -- run => Stream { mode: Test, program: "run", limits: Limits { max_input: 281474976710656, block: 65536, rings: None } }
-kex check p => Check { program: "p", states: States { most: 4096 } }
+kex run p => Stream { mode: Run(StateLimit { most: 4096 }), program: "p", limits: RunLimits { max_input: 281474976710656, block: 65536, rings: None } }
+kex run --block 1 p --max-input 3 => Stream { mode: Run(StateLimit { most: 4096 }), program: "p", limits: RunLimits { max_input: 3, block: 1, rings: None } }
+kex run --block=+1 --max-input=003 -- -p => Stream { mode: Run(StateLimit { most: 4096 }), program: "-p", limits: RunLimits { max_input: 3, block: 1, rings: None } }
+kex run  => Stream { mode: Run(StateLimit { most: 4096 }), program: "", limits: RunLimits { max_input: 281474976710656, block: 65536, rings: None } }
+kex run --rings 4096 p --max-input 3 => Stream { mode: Run(StateLimit { most: 4096 }), program: "p", limits: RunLimits { max_input: 3, block: 65536, rings: Some(Rings { room: 4096 }) } }
+kex code p => Stream { mode: Code, program: "p", limits: RunLimits { max_input: 281474976710656, block: 65536, rings: None } }
+kex act p --max-input 3 --block 1 => Stream { mode: Act, program: "p", limits: RunLimits { max_input: 3, block: 1, rings: None } }
+kex test -- run => Stream { mode: Test, program: "run", limits: RunLimits { max_input: 281474976710656, block: 65536, rings: None } }
+kex check p => Check { program: "p", states: StateLimit { most: 4096 } }
 kex trial 2 => Trial(Lines { count: 2, block: 65536, rings: None })
 kex trial 2 --rings 1 => Trial(Lines { count: 2, block: 65536, rings: Some(Rings { room: 1 }) })
 kex => Usage
