@@ -49,7 +49,7 @@ impl EdgeKind {
 
     #[inline(always)]
     pub fn is_text(self) -> bool
-        ensures { IsTrue result ↔ (self ≡ Kind.Text) }
+        ensures { IsTrue result ↔ (self ≡ EdgeKind.Text) }
     {
         matches!(self, EdgeKind::Text)
     }

@@ -106,7 +106,7 @@ definitions_push (x ∷ ds) d made at (y ∷ rs) r i h m e t =
 
 -- ---- the end of a definition
 
-pub ends_of : (b : Made) (at : ℕ → ℕ) (base : ℕ) (fs : List Construct) (part : Rattle.kex_reader.specs.declared.stack.PlacedNode.Part) (old new : List Root) (name from : ℕ) (o : Option (Term × List Entry)) → length fs ≡ 0 → new ≡ old ++ record { name = name; at = from; root = part.node } ∷ [] → TermTaken b at base fs (Some part) o → Ends b at base fs old new name from (Ok tt) (whole_term o)
+pub ends_of : (b : Made) (at : ℕ → ℕ) (base : ℕ) (fs : List Construct) (part : Rattle.kex_reader.specs.declared.stack.PlacedNode.PlacedNode) (old new : List Root) (name from : ℕ) (o : Option (Term × List Entry)) → length fs ≡ 0 → new ≡ old ++ record { name = name; at = from; root = part.node } ∷ [] → TermTaken b at base fs (Some part) o → Ends b at base fs old new name from (Ok tt) (whole_term o)
 unfolding Ends whole_term ConstructsShow entries
 ends_of b at base fs part old new name from None z e h = absurd h
 ends_of b at base [] part old new name from (Some (t, [])) z e h = (refl, part.node, e, subst (λ (x : ℕ). ShowsTerm t b at part.node x) (plus_none base) h.shows)
@@ -130,7 +130,7 @@ nothing_shown b at base (constructs.Done x ∷ fs) h = absurd h
 nothing_shown b at base (constructs.Muted x ∷ fs) h = absurd h
 nothing_shown b at base (constructs.Storing x ∷ fs) h = absurd h
 
-pub ends_open : (b : Made) (at : ℕ → ℕ) (base : ℕ) (fs : List Construct) (part : Rattle.kex_reader.specs.declared.stack.PlacedNode.Part) (old new : List Root) (name from : ℕ) (o : Option (Term × List Entry)) → (length fs ≡ 0 → ⊥) → TermTaken b at base fs (Some part) o → Ends b at base fs old new name from (Err faults.Wrong) (whole_term o)
+pub ends_open : (b : Made) (at : ℕ → ℕ) (base : ℕ) (fs : List Construct) (part : Rattle.kex_reader.specs.declared.stack.PlacedNode.PlacedNode) (old new : List Root) (name from : ℕ) (o : Option (Term × List Entry)) → (length fs ≡ 0 → ⊥) → TermTaken b at base fs (Some part) o → Ends b at base fs old new name from (Err faults.Wrong) (whole_term o)
 unfolding Ends whole_term
 ends_open b at base fs part old new name from None n h = tt
 ends_open b at base fs part old new name from (Some (t, [])) n h = absurd (n (nothing_shown b at base fs h.below))
@@ -453,7 +453,7 @@ unfolding finish_within
 finish_named h done name m f n es e = ap (λ (x : Mode). finish_within h done name x es) e ∙ ended_is h done name (take_term (with_pre (Once (Call n)) es))
 
 -- the waiting of modes in which a definition can't end
-pub finish_other : (a : Made) (at : ℕ → ℕ) (i : ℕ) (w : Wait) (m : Mode) (h : Header) (done : List Definition) (name : List ℕ) (es : List Entry) → (w ≡ waits.Ready → ⊥) → ((p : Rattle.kex_reader.specs.declared.stack.PlacedNode.Part) → w ≡ waits.After p → ⊥) → ((p : Rattle.kex_reader.specs.declared.stack.PlacedNode.Part) (b : Bounds) → w ≡ waits.Turned p b → ⊥) → ((f : Bool) (n : Named') → w ≡ waits.Named f n → ⊥) → ShowsMode a at i w m → finish_within h done name m es ≡ None
+pub finish_other : (a : Made) (at : ℕ → ℕ) (i : ℕ) (w : Wait) (m : Mode) (h : Header) (done : List Definition) (name : List ℕ) (es : List Entry) → (w ≡ waits.Ready → ⊥) → ((p : Rattle.kex_reader.specs.declared.stack.PlacedNode.PlacedNode) → w ≡ waits.After p → ⊥) → ((p : Rattle.kex_reader.specs.declared.stack.PlacedNode.PlacedNode) (b : Bounds) → w ≡ waits.Turned p b → ⊥) → ((f : Bool) (n : Named') → w ≡ waits.Named f n → ⊥) → ShowsMode a at i w m → finish_within h done name m es ≡ None
 unfolding ShowsMode finish_within
 finish_other a at i waits.Ready m h done name es n1 n2 n4 n3 k = absurd (n1 refl)
 finish_other a at i (waits.After p) m h done name es n1 n2 n4 n3 k = absurd (n2 p refl)

@@ -125,10 +125,10 @@ impl<'t> Reader<'t> {
         ensures rest { OnOk result ((self.new.stack ≡ self.old.stack)
             × (self.new.definitions.items ≡ self.old.definitions.items)) }
         ensures read { IfOk result (λ p. (k : ℕ) × (p ≡ Phase.StageRead) × (word.entry.kind
-            ≡ Kind.Name) × IsName self.new.draft k word.entry.spelling.now × (self.new.stages.items
+            ≡ TokenKind.Name) × IsName self.new.draft k word.entry.spelling.now × (self.new.stages.items
             ≡ self.old.stages.items ++ record { name = k; at = word.entry.at } ∷ [])) }
         ensures fault { IfErr result (λ e. (e ≡ StepFault.Memory)
-            ⊎ ((e ≡ StepFault.Wrong) × (word.entry.kind ≡ Kind.Name → ⊥))) }
+            ⊎ ((e ≡ StepFault.Wrong) × (word.entry.kind ≡ TokenKind.Name → ⊥))) }
         ensures notes { (cs : List Check) → NotesLeast cs self.old.draft.broken
             → OnOk result (NotesLeast (cs ++ Staged word.entry.at (length self.old.stages.items + 1)
             ∷ []) self.new.draft.broken) }
