@@ -63,12 +63,14 @@ second_digits() {
 }
 
 cat <<'END'
-// Maps of bytes, to copy from; byte_maps.sh beside this file writes them. The first word of a line tells
-// which map the rest of it goes through. No map reads a line feed: for a text write (lower | /\n/)*.
+// Maps of bytes, to copy from; byte_maps.sh beside this file writes them. The first word of a line
+// tells which map the rest of it goes through. No map reads a line feed: for a text write
+// (lower | /\n/)*.
 start: lines >> maps
 
 maps := (mapped /\n/)*
-mapped := ~/lower / lower* | ~/upper / upper* | ~/utf8 / latin1_utf8* | ~/hex / hex* | ~/unhex / unhex*
+mapped := ~/lower / lower* | ~/upper / upper* | ~/utf8 / latin1_utf8* | ~/hex / hex*
+    | ~/unhex / unhex*
 
 END
 printf '// Letters of ASCII; all other bytes stay.\n'

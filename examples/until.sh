@@ -1,8 +1,9 @@
 #!/bin/sh
 # Writes definitions that read up to the first WORD, drop all of it, and go on to NEXT:
 #   sh examples/until.sh NAME WORD NEXT
-# Each is a mode that says how much of WORD has just been read. So the end is decided at its last byte, and what
-# comes after is written at once. WORD is of ASCII's printing marks. To keep what is read, leave out each ~.
+# Each is a mode that says how much of WORD has just been read. So the end is decided at its last
+# byte, and what comes after is written at once. WORD is of ASCII's printing marks. To keep what is
+# read, leave out each ~.
 set -eu
 if [ $# -ne 3 ]; then
     sed -n '2,/^set/s/^# \{0,1\}//p' "$0" >&2
