@@ -10,7 +10,7 @@ use Rattle.kex_model.specs.Places.{Place, moves, start_of, steps_of}
 use Rattle.kex_model.specs.Survivors.{Agreed, HasTree}
 use Rattle.kex_model.specs.Answers.{stopped_answer, code_at, HasParse, GreedyParse, Says, Viable, at_byte, bad_byte, too_long, cut_off, whole, still_open}
 use Rattle.kex_model.specs.Laws.{StageAnswers}
-use Rattle.kex_model.specs.Worked.{late, late_tree, ChoiceIsLate, twice, twice_left, twice_right, LeftIsGreedy, RegistersSwap, doubling, RegisterDoubles, MuteKeepsRegisters, RegisterIsWholeOrAsItWas, counted_loop, counted_turn, TurnsAreCounted, muted_twice, EndsAreOfNodes, breaks, breaks_tree, TextsBreakOff, stars, LimitStops, ShapeForks, two_stages, LastStopIsReported, loops, byte_turn, EmptyTurnsAreNoParses, LazyPrefersTheEnd}
+use Rattle.kex_model.specs.Worked.{late, late_tree, ChoiceIsLate, twice, twice_left, twice_right, LeftIsGreedy, RegistersSwap, doubling, RegisterDoubles, MuteKeepsRegisters, RegisterIsWholeOrAsItWas, counted_loop, counted_turn, TurnsAreCounted, muted_twice, EndsAreOfNodes, breaks, breaks_tree, TextsBreakOff, stars, LimitStops, ShapeForks, two_stages, LastStopIsReported, loops, byte_turn, EmptyTurnsAreNoParses, LazyPrefersTheEnd, LazyTurnsAreCounted, nested, turn_of_byte, ReturnsAreNoParses}
 use Rattle.kex_model.proofs.Shapes.{tree_agrees}
 use Rattle.kex_model.proofs.AllPaths.{each_leads, leads_to_end, a_survivor, has_tree, not_viable, of_parse, longest_good, differ, once}
 use Rattle.kex_model.proofs.Correspondence.{parse_once}
@@ -407,3 +407,34 @@ empty_turns_are_no_parses = record {
 
 pub lazy_prefers_the_end : LazyPrefersTheEnd
 lazy_prefers_the_end = record { first = refl; none = refl; one = refl; tree = record { tree = again tt (one_byte refl) end; text = refl } }
+
+pub lazy_turns_are_counted : LazyTurnsAreCounted
+lazy_turns_are_counted = record {
+  maybe_none = refl;
+  maybe_one = refl;
+  maybe_tree = record { tree = again tt (one_byte refl) end; text = refl };
+  exact = refl;
+  exact_tree = record { tree = needed (one_byte refl) (needed (one_byte refl) end); text = refl };
+  needed = refl;
+  wanted = refl;
+  short = refl;
+  short_tree = record { tree = needed (one_byte refl) end; text = refl };
+  long = refl;
+  long_tree = record { tree = needed (one_byte refl) (again tt (one_byte refl) end); text = refl };
+}
+
+-- returns
+
+pub returns_are_no_parses : ReturnsAreNoParses
+returns_are_no_parses = record {
+  chosen = record { tree = again tt end end; text = refl };
+  chosen_code = refl;
+  by_choice = λ h. h.path.once.1.0 (inr (inl refl));
+  behind = record { tree = again tt (again tt (one_byte refl) end) (again tt end end); text = refl };
+  behind_code = refl;
+  to_byte = λ h. h.path.once.1.1.1.0 (inr (inl refl));
+  parse =
+      parse_once nested 2 (97 ∷ []) turn_of_byte (record { tree = again tt (again tt (one_byte refl) end) end; text = refl })
+      (once (start_of nested 2 ∷ []) (steps_of nested 2 (kind_at nested 2) turn_of_byte []) refl);
+  parse_code = refl;
+}

@@ -284,3 +284,58 @@ pub record LazyPrefersTheEnd : Type 0 where
   pub none : code_at lazy_stars 1 done ≡ L ∷ []
   pub one : code_at lazy_stars 1 (turn (byte 97) done) ≡ R ∷ Byte 97 ∷ L ∷ []
   pub tree : Parses lazy_stars 1 (turn (byte 97) done) (97 ∷ [])
+
+-- /a??/, /a{2}?/ and /a{1,2}?/, of one body
+abbrev pub lazy_counts : Grammar
+lazy_counts = grammar 0 (Class (set_of (97 ∷ [])) ∷ Rep 0 0 (Some 1) true ∷ Rep 0 2 (Some 2) true
+    ∷ Rep 0 1 (Some 2) true ∷ [])
+
+abbrev pub one_turn : Tree
+one_turn = turn (byte 97) done
+
+abbrev pub two_turns : Tree
+two_turns = turn (byte 97) one_turn
+
+-- a lazy repetition bears its marks where a greedy one does: none before a turn that is needed, and
+-- none at the end where no turn is left; of `/a{1,2}?/` the shorter text is preferred
+pub record LazyTurnsAreCounted : Type 0 where
+  pub maybe_none : code_at lazy_counts 1 done ≡ L ∷ []
+  pub maybe_one : code_at lazy_counts 1 one_turn ≡ R ∷ Byte 97 ∷ []
+  pub maybe_tree : Parses lazy_counts 1 one_turn (97 ∷ [])
+  pub exact : code_at lazy_counts 2 two_turns ≡ Byte 97 ∷ Byte 97 ∷ []
+  pub exact_tree : Parses lazy_counts 2 two_turns (97 ∷ 97 ∷ [])
+  pub needed : moves lazy_counts (start_of lazy_counts 3)
+      ≡ go nothing (Pending 0 0 None ∷ Pending 3 0 (Some 1) ∷ [])
+  pub wanted : moves lazy_counts (Pending 3 0 (Some 1) ∷ [])
+      ≡ choose [] (Pending 0 0 None ∷ Pending 3 0 (Some 0) ∷ [])
+  pub short : code_at lazy_counts 3 one_turn ≡ Byte 97 ∷ L ∷ []
+  pub short_tree : Parses lazy_counts 3 one_turn (97 ∷ [])
+  pub long : code_at lazy_counts 3 two_turns ≡ Byte 97 ∷ R ∷ Byte 97 ∷ []
+  pub long_tree : Parses lazy_counts 3 two_turns (97 ∷ 97 ∷ [])
+
+-- main := (/a*/)*
+abbrev pub nested : Grammar
+nested = grammar 0 (Class (set_of (97 ∷ [])) ∷ Rep 0 0 None false ∷ Rep 1 0 None false ∷ [])
+
+-- a turn of the outer repetition without one of the inner, alone and after one with a byte
+abbrev pub turn_of_none : Tree
+turn_of_none = turn done done
+
+abbrev pub turn_of_byte : Tree
+turn_of_byte = turn one_turn done
+
+abbrev pub turn_of_none_behind : Tree
+turn_of_none_behind = turn one_turn turn_of_none
+
+-- a path doesn't come back by the step of a choice, as where the inner repetition ends at once, nor
+-- to the place that a byte led to
+pub record ReturnsAreNoParses : Type 0 where
+  pub chosen : Parses nested 2 turn_of_none []
+  pub chosen_code : code_at nested 2 turn_of_none ≡ L ∷ R ∷ R ∷ []
+  pub by_choice : IsParse nested 2 turn_of_none [] → ⊥
+  pub behind : Parses nested 2 turn_of_none_behind (97 ∷ [])
+  pub behind_code : code_at nested 2 turn_of_none_behind
+      ≡ L ∷ L ∷ Byte 97 ∷ R ∷ L ∷ R ∷ R ∷ []
+  pub to_byte : IsParse nested 2 turn_of_none_behind (97 ∷ []) → ⊥
+  pub parse : IsParse nested 2 turn_of_byte (97 ∷ [])
+  pub parse_code : code_at nested 2 turn_of_byte ≡ L ∷ L ∷ Byte 97 ∷ R ∷ R ∷ []

@@ -1,10 +1,12 @@
 // Worked examples of the definitions. Each function's contract is one.
 
 ghost use Rattle.kex_model.specs.Worked.{ChoiceIsLate, EmptyTurnsAreNoParses, EndsAreOfNodes};
-ghost use Rattle.kex_model.specs.Worked.{LastStopIsReported, LazyPrefersTheEnd, LeftIsGreedy};
-ghost use Rattle.kex_model.specs.Worked.{LimitStops, MuteKeepsRegisters, PlacesAreClosed};
-ghost use Rattle.kex_model.specs.Worked.{RegisterDoubles, RegisterIsWholeOrAsItWas, RegistersSwap};
-ghost use Rattle.kex_model.specs.Worked.{ShapeForks, TextsBreakOff, TurnsAreCounted};
+ghost use Rattle.kex_model.specs.Worked.{LastStopIsReported, LazyPrefersTheEnd};
+ghost use Rattle.kex_model.specs.Worked.{LazyTurnsAreCounted, LeftIsGreedy, LimitStops};
+ghost use Rattle.kex_model.specs.Worked.{MuteKeepsRegisters, PlacesAreClosed, RegisterDoubles};
+ghost use Rattle.kex_model.specs.Worked.{RegisterIsWholeOrAsItWas, RegistersSwap};
+ghost use Rattle.kex_model.specs.Worked.{ReturnsAreNoParses, ShapeForks, TextsBreakOff};
+ghost use Rattle.kex_model.specs.Worked.{TurnsAreCounted};
 
 /// A choice between parses is made where the texts part, and nothing is said before.
 pub fn choice_is_late()
@@ -36,6 +38,11 @@ pub fn lazy_prefers_the_end()
     ensures { LazyPrefersTheEnd }
 {}
 
+/// A lazy repetition counts its turns as a greedy one does.
+pub fn lazy_turns_are_counted()
+    ensures { LazyTurnsAreCounted }
+{}
+
 /// The ends of two groups of one body are two places.
 pub fn ends_are_of_nodes()
     ensures { EndsAreOfNodes }
@@ -49,6 +56,11 @@ pub fn places_are_closed()
 /// A turn that reads nothing belongs to trees and to no parse.
 pub fn empty_turns_are_no_parses()
     ensures { EmptyTurnsAreNoParses }
+{}
+
+/// A path comes back neither by a choice nor to a place that a byte led to.
+pub fn returns_are_no_parses()
+    ensures { ReturnsAreNoParses }
 {}
 
 /// A text that is open, rejected, cut off or whole.
