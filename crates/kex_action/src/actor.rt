@@ -28,12 +28,12 @@ fn performable(symbols: &[Symbol], refused: bool) -> &[Symbol]
     if refused { &symbols[..0] } else { symbols }
 }
 
-/// A stage's action machine (Kleenex, POPL 2016), over the machine that it borrows: it is given a
-/// parse's code in pieces, and writes what the parse means.
+/// A stage's action machine (Kleenex, POPL 2016), over the machine that it borrows: it is given the
+/// code of a tree in pieces, and writes what the tree means.
 ///
 /// With c all symbols performed, and at least one call of `take`, the bytes written and the
-/// registers are what every parse leaves whose code begins with c. Once a call has answered
-/// `Memory` an actor may only be dropped.
+/// registers are what every tree leaves whose code begins with c. The tree may have turns that read
+/// nothing, which no parse has. Once a call has answered `Memory` an actor may only be dropped.
 #[derive(Drop)]
 pub struct Actor<'m> {
     machine: &'m Trimmed,
@@ -190,7 +190,7 @@ impl<'m> Actor<'m> {
         Ok(())
     }
 
-    /// Whether what was performed is a parse's whole code.
+    /// Whether what was performed is the whole code of a tree.
     pub fn at_end(&self) -> bool
         requires { IsTrue self.now.usable }
         ensures { (given c : List Symbol) (out : List ℕ) → HasPerformed self.now given c out

@@ -6,8 +6,8 @@ use thiserror::Error;
 /// Why symbols were not performed.
 #[derive(Clone, Copy, Debug, PartialEq, Eq, Drop, Error)]
 pub enum ActFault {
-    /// The least number of a symbol of the slice, from 0, with which all that was given begins no
-    /// parse's code.
+    /// The least number of a symbol of the slice, from 0, with which all that was given begins the
+    /// code of no tree.
     #[error("symbol {0} begins no code")]
     NotACode(u64),
     /// No contract says when this comes.

@@ -36,7 +36,7 @@ BadAt (Some i) bad size symbols at =
     at ≡ Some (min (size + length (text_of (take i symbols))) (2 ^ 64 - 1))
 BadAt None bad size symbols at = at ≡ bad
 
--- nothing is begun or bad, and the code is a parse's whole code
+-- nothing is begun or bad, and the code is a tree's whole code
 abbrev pub IsWholeOf : CodeReading → Position → Bool → Type 0
 IsWholeOf r a whole = (c : List Symbol) (out : List ℕ) → HasPerformed a c c out
     → (IsTrue whole ↔ ((r.bad ≡ false) × (r.begun ≡ []) × IsWholeCode a.machine c))

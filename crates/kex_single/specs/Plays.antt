@@ -1,4 +1,4 @@
--- What the text of a code means, as far as it is the text of a parse's code.
+-- What the text of a code means, as far as it is the text of a tree's code.
 use Rattle.std.specs.Prelude.{◌≡◌, ℕ, ◌<◌, ◌≤◌, ◌+◌, Bool, true, false, List, [], ◌∷◌, ◌++◌, ◌⊎◌}
 use Rattle.std.specs.Prelude.{Option, Some, None, length, take}
 use Rattle.kex_code.specs.declared.symbol.Symbol.{Symbol}
@@ -20,16 +20,16 @@ pub record IsBadByte (u : List ℕ) (k : ℕ) : Type 0 where
   pub before : BeginsText (take k u)
   pub bad : BeginsText (take (k + 1) u) → ⊥
 
--- by the codes that begin a parse's code, those that are a parse's whole code, and what is written
--- for one
-module _ (BeginsParse : List Symbol → Type 0) (IsParse : List Symbol → Type 0)
+-- by the codes that begin a tree's code, those that are a tree's whole code, and what is written for
+-- one
+module _ (BeginsTreeCode : List Symbol → Type 0) (IsTreeCode : List Symbol → Type 0)
     (Writes : List Symbol → List ℕ → Type 0) where
-  -- of the codes whose text stands at the front of u, and that begin a parse's code, the longest
+  -- of the codes whose text stands at the front of u, and that begin a tree's code, the longest
   pub record LongestCode (u : List ℕ) (c : List Symbol) : Type 0 where
     pub code : IsCode c
     pub front : Begins u (text_of c)
-    pub begins : BeginsParse c
-    pub longest : (d : List Symbol) → IsCode d → Begins u (text_of d) → BeginsParse d
+    pub begins : BeginsTreeCode c
+    pub longest : (d : List Symbol) → IsCode d → Begins u (text_of d) → BeginsTreeCode d
         → length d ≤ length c
 
   -- where u stops: at the first byte of the next whole symbol; or else at the byte with which no
@@ -48,12 +48,12 @@ module _ (BeginsParse : List Symbol → Type 0) (IsParse : List Symbol → Type 
   abbrev pub SaysPlayed : List ℕ → Option ℕ → List ℕ → Type 0
   SaysPlayed u at text = (c : List Symbol) × PlaysOn u c at × Writes c text
 
-  -- at the end of u this text is written, and u is the text of a parse's whole code (true), or none
+  -- at the end of u this text is written, and u is the text of a tree's whole code (true), or none
   abbrev pub ClosesPlayed : List ℕ → Bool → List ℕ → Type 0
-  ClosesPlayed u true text = (c : List Symbol) × PlaysOn u c None × (u ≡ text_of c) × IsParse c
+  ClosesPlayed u true text = (c : List Symbol) × PlaysOn u c None × (u ≡ text_of c) × IsTreeCode c
       × Writes c text
-  ClosesPlayed u false text = (c : List Symbol) × PlaysOn u c None × (u ≡ text_of c → IsParse c → ⊥)
-      × Writes c text
+  ClosesPlayed u false text = (c : List Symbol) × PlaysOn u c None
+      × (u ≡ text_of c → IsTreeCode c → ⊥) × Writes c text
 
   -- the answer on a text that is ended (true) or open, within a limit
   pub data Plays (limit : ℕ) : List ℕ → Bool → Answer → Type 0 where
@@ -64,10 +64,10 @@ module _ (BeginsParse : List Symbol → Type 0) (IsParse : List Symbol → Type 
         → PlaysOn (take limit w) c None → Writes c text
         → Plays limit w e (stopped_answer text limit at_limit)
     cut_off : {w text : List ℕ} (c : List Symbol) → length w ≤ limit → PlaysOn w c None
-        → (w ≡ text_of c → IsParse c → ⊥) → Writes c text
+        → (w ≡ text_of c → IsTreeCode c → ⊥) → Writes c text
         → Plays limit w true (stopped_answer text (length w) at_end)
     whole : {w text : List ℕ} (c : List Symbol) → length w ≤ limit → PlaysOn w c None
-        → w ≡ text_of c → IsParse c → Writes c text
+        → w ≡ text_of c → IsTreeCode c → Writes c text
         → Plays limit w true (record { text = text; ended = true; stop = None })
     still_open : {w text : List ℕ} (c : List Symbol) → length w ≤ limit → PlaysOn w c None
         → Writes c text → Plays limit w false (record { text = text; ended = false; stop = None })

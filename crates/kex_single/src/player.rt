@@ -60,7 +60,7 @@ fn read(reader: &mut CodeReader, piece: &[u8], code: &mut Code) -> Result<Option
     }
 }
 
-// Performs symbols, up to the one with which no parse's code begins, and tells the number of that
+// Performs symbols, up to the one with which no tree's code begins, and tells the number of that
 // symbol.
 fn perform(actor: &mut Actor, symbols: &[Symbol], out: &mut Vec<u8>) -> Result<Option<u64>, Memory>
     requires { IsTrue actor.old.usable }
@@ -91,7 +91,7 @@ fn bad_at(refused: Option<u64>, bad: Option<u64>, size: u64, symbols: &[Symbol])
 /// Writes what the text of a code means: what it says of the symbols that are whole goes out as
 /// soon as they are.
 ///
-/// It is stopped at the first byte of the next whole symbol with which the code begins no parse's;
+/// It is stopped at the first byte of the next whole symbol with which the code begins no tree's;
 /// or else at the byte with which the text begins no code's.
 #[derive(Drop)]
 pub struct PlayWorker<'m> {
@@ -102,7 +102,7 @@ pub struct PlayWorker<'m> {
 }
 
 impl<'m> PlayWorker<'m> {
-    // Whether the text is that of a parse's whole code.
+    // Whether the text is that of a tree's whole code.
     fn is_whole(&self) -> bool
         requires reader { IsTrue self.now.reader.usable }
         requires actor { IsTrue self.now.actor.usable }
