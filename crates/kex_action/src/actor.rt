@@ -80,6 +80,18 @@ impl<'m> Actor<'m> {
         })
     }
 
+    /// Is as a new actor of its machine. Registers keep their room.
+    pub fn begin_anew(&mut self)
+        requires { IsTrue self.old.usable }
+        ensures begins { HasPerformed self.new [] [] [] }
+        ensures machine { self.new.machine ≡ self.old.machine }
+        ensures usable { IsTrue self.new.usable }
+    {
+        self.at = self.machine.machine().start();
+        self.store.begin_anew();
+        self.refused = false;
+    }
+
     /// Performs the symbols, and then all that needs no symbol. What is written is appended to
     /// `out`.
     ///

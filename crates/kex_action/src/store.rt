@@ -88,6 +88,15 @@ fn join(pieces: &[Piece], registers: &[Buffer], into: &mut Buffer) -> Result<(),
     Ok(())
 }
 
+// All bytes are taken away, and the room stays.
+fn clear_all(all: &mut [Buffer])
+    ensures { all.new ≡ replicate (length all.old) [] }
+{
+    for i in 0..all.len() {
+        all[i].clear();
+    }
+}
+
 impl Store {
     // No buffer is open, and all registers are empty.
     pub fn new(alloc: Global, count: u32) -> Result<Store, Memory>
@@ -103,6 +112,17 @@ impl Store {
             registers,
             spare: Buffer::new(alloc),
         })
+    }
+
+    // No buffer is open any more, and all registers are empty. They keep their room.
+    pub fn begin_anew(&mut self)
+        ensures { self.new ≡ record {
+          buffers = [];
+          registers = replicate (length self.old.registers) [];
+        } }
+    {
+        self.buffers.clear();
+        clear_all(&mut self.registers);
     }
 
     pub fn register(&self, r: u32) -> &[u8]

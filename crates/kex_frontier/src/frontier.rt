@@ -131,6 +131,17 @@ impl<'m> Frontier<'m> {
         })
     }
 
+    /// Is as a new frontier of its machine.
+    pub fn begin_anew(&mut self) -> Result<(), Memory>
+        ensures machine { self.new.machine ≡ self.old.machine }
+        ensures begins { OnOk result (IsFed self.new [] []) }
+        ensures usable { OnOk result ((self.new.usable ≡ true) × (self.new.ended ≡ false)) }
+    {
+        let fresh = Frontier::new(self.alloc, self.machine)?;
+        *self = fresh;
+        Ok(())
+    }
+
     /// Takes a byte. `Dead` exactly where no parse begins with the bytes, and then for good.
     ///
     /// The cost is that of the nodes which the byte reaches, and of the survivors.

@@ -1,11 +1,11 @@
 // A worker within a limit, as a stage.
 
-ghost use Rattle.std.specs.Prelude.{◌≡◌, ◌≤◌, ◌||◌, not, true, false, IfOk, IsTrue, Option, None};
-ghost use Rattle.std.specs.Prelude.{ℕ, List, length, min, take};
+ghost use Rattle.std.specs.Prelude.{◌≡◌, ◌≤◌, ◌||◌, not, true, false, IfOk, OnOk, IsTrue, Option};
+ghost use Rattle.std.specs.Prelude.{None, ℕ, List, length, min, take};
 ghost use Rattle.kex_pipe.specs.Bounds.{StandsAs, end_stop, fate_of, stop_after};
 
 use crate::turn::{Fate, Stop, Turn, Why};
-use crate::worker::Worker;
+use crate::worker::{BeginsAnew, Worker};
 use kex_code::memory::Memory;
 use std::alloc::Global;
 
@@ -42,6 +42,26 @@ impl<W: Worker> Bounded<W> {
             over: false,
             usable: true,
         })
+    }
+}
+
+impl<W: BeginsAnew> Bounded<W> {
+    /// Is as a new stage of the same worker and limit: it has read nothing.
+    ///
+    /// After `Memory` the stage may only be dropped.
+    pub fn begin_anew(&mut self) -> Result<(), Memory>
+        ensures plan { ⟦<Bounded<W> as Turn>⟧.plan self.new
+            ≡ ⟦<Bounded<W> as Turn>⟧.plan self.old }
+        ensures stands { OnOk result (⟦<Bounded<W> as Turn>⟧.stands self.new None) }
+        ensures usable { OnOk result (IsTrue (⟦<Bounded<W> as Turn>⟧.is_usable self.new)) }
+    {
+        self.usable = false;
+        self.worker.begin_anew()?;
+        self.count = 0;
+        self.stop = None;
+        self.over = false;
+        self.usable = true;
+        Ok(())
     }
 }
 

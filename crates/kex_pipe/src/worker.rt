@@ -1,7 +1,7 @@
 // What a stage does with the bytes that its limit lets through.
 
 ghost use Rattle.std.specs.Prelude.{◌≡◌, ◌+◌, ◌<◌, ◌≤◌, ◌^◌, [], ℕ, Bool, List, Option, None, IfOk};
-ghost use Rattle.std.specs.Prelude.{OnErr, IsTrue, length};
+ghost use Rattle.std.specs.Prelude.{OnOk, OnErr, IsTrue, length};
 ghost use Rattle.kex_model.specs.Answers.{Answer};
 
 use kex_code::memory::Memory;
@@ -74,4 +74,17 @@ pub trait Worker {
         ensures wants { OnErr result (IsTrue may_want) };
 
     ghost answers: { (m : Machine) → Answering (says m) (closes m) (gives m) };
+}
+
+/// A worker that can begin anew. What it has learnt of its machine stays.
+pub trait BeginsAnew: Worker {
+    /// Is as when it was started: it was given nothing. Want of memory comes also where a call has
+    /// wanted some before.
+    fn begin_anew(&mut self) -> Result<(), Memory>
+        ensures same { Self.machine self.new ≡ Self.machine self.old }
+        ensures follows { OnOk result (Self.follows self.new [] []) }
+        ensures ready { OnOk result (IsTrue (Self.is_ready self.new)) }
+        ensures begun { OnOk result (Self.counted self.new ≡ 0) }
+        ensures counted { Self.counted self.new ≤ Self.counted self.old }
+        ensures wants { OnErr result (IsTrue Self.may_want) };
 }

@@ -1,6 +1,7 @@
 pub mod LookUps
 pub mod WayLemmas
 pub mod Notes
+pub mod Beginnings
 pub mod Pieces
 pub mod ByteSteps
 pub mod ScriptSteps

@@ -1,7 +1,7 @@
 // A runner.
 
-ghost use Rattle.std.specs.Prelude.{◌≡◌, ℕ, ◌+◌, ◌^◌, ◌<◌, ◌≤◌, ◌++◌, [], List, IfOk, OnOk, IsTrue};
-ghost use Rattle.std.specs.Prelude.{IsOk, ◌↔◌, true, false, Some, length, take};
+ghost use Rattle.std.specs.Prelude.{◌≡◌, ℕ, ◌+◌, ◌^◌, ◌<◌, ◌≤◌, ◌++◌, [], List, IfOk, OnOk, OnErr};
+ghost use Rattle.std.specs.Prelude.{IsTrue, IsOk, ◌↔◌, true, false, Some, length, take};
 ghost use Rattle.kex_code.specs.declared.symbol.Symbol.{Symbol};
 ghost use Rattle.kex_sst.specs.Passes.{first_pass, passes};
 ghost use Rattle.kex_runner.specs.Running.{RunnerEnds, RunnerFeeds, IsRunOf, items_taken};
@@ -191,6 +191,33 @@ fn follow_held(
     })
 }
 
+// What stands before the first byte, in the place of what was held: the registers, and what is to
+// be passed on. The update before the first byte reads no register.
+fn begin_again(
+    table: &Table,
+    script: &Script,
+    ways: &mut Ways,
+    registers: &mut Registers,
+    pieces: &mut Vec<ByteWord>,
+) -> Result<(), Memory>
+    requires script { IsScriptOf script.now table.now }
+    requires known { AreKnown script.now ways.old }
+    requires counted { registers.old.count ≡ length (contents script.now registers.old) }
+    ensures known { OnOk result (AreKnown script.now ways.new) }
+    ensures registers { OnOk result (contents script.now registers.new
+        ≡ (first_pass table.now.initial).registers) }
+    ensures code { OnOk result (code_over script.now.words pieces.new.items
+        ≡ (first_pass table.now.initial).code) }
+    ensures runner { OnOk result (IsRunner table.now script.now 0 registers.new) }
+    ensures kept { OnErr result (contents script.now registers.new
+        ≡ contents script.now registers.old) }
+    ensures counted { registers.new.count ≡ length (contents script.now registers.new) }
+{
+    pieces.clear();
+    registers.take(script, ways, script.initial(), 0, pieces)?;
+    Ok(())
+}
+
 // What stands before the first byte: the registers, and what is to be passed on.
 fn begin(
     alloc: Global,
@@ -209,7 +236,7 @@ fn begin(
 {
     let mut registers = Registers::new(alloc);
     let mut pieces = Vec::new(alloc);
-    registers.take(script, ways, script.initial(), 0, &mut pieces)?;
+    begin_again(table, script, ways, &mut registers, &mut pieces)?;
     Ok((registers, pieces))
 }
 
@@ -235,6 +262,34 @@ impl<'t> Runner<'t> {
             ended: false,
             usable: true,
         })
+    }
+
+    /// Is as a new runner of its table: it was fed nothing. What was learnt of ways stays.
+    ///
+    /// After `Memory` the runner is only dropped.
+    pub fn begin_anew(&mut self) -> Result<(), Memory>
+        requires usable { IsTrue self.old.usable }
+        ensures stands { OnOk result (IsRunOf self.new [] []) }
+        ensures ready { OnOk result ((self.new.ended ≡ false) × (self.new.read ≡ 0)) }
+        ensures read { self.new.read ≤ self.old.read }
+        ensures table { self.new.table ≡ self.old.table }
+        ensures words { self.new.words ≡ self.old.words }
+        ensures usable { IsTrue self.new.usable ↔ IsOk result }
+    {
+        self.usable = false;
+        begin_again(
+            self.table,
+            &self.guide.script,
+            &mut self.ways,
+            &mut self.registers,
+            &mut self.pending,
+        )?;
+        self.state = 0;
+        self.read = 0;
+        self.dead = false;
+        self.ended = false;
+        self.usable = true;
+        Ok(())
     }
 
     /// Takes bytes, and puts what they let it pass on behind a code. `Dead` exactly where the table
