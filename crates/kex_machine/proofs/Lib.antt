@@ -13,3 +13,8 @@ pub mod Labels
 pub mod Unique
 pub mod Sizes
 pub mod Classes
+pub mod StraightWalks
+pub mod TreesThere
+pub mod UncoveredPlaces
+pub mod RestrictedTrees
+pub mod BestAnswers

@@ -22,14 +22,14 @@ abbrev pub IsPartedIf : Option (Grown Symbol ℕ) → Type 0
 IsPartedIf None = Unit {0}
 IsPartedIf (Some g) = IsParted g.tree
 
-behind_parted : (x : List Symbol) (a : Option (Grown Symbol ℕ)) → IsPartedIf a → IsPartedIf (with_prefix x a)
+pub behind_parted : (x : List Symbol) (a : Option (Grown Symbol ℕ)) → IsPartedIf a → IsPartedIf (with_prefix x a)
 behind_parted x None h = h
 behind_parted x (Some g) h = h
 
 more_starts : {s : Symbol} (x y : List Symbol) → StartsWith s x → StartsWith s (x ++ y)
 more_starts x y (more, e) = (more ++ y, ap (λ z. z ++ y) e)
 
-both_parted : (x y : List Symbol) (a a' : Option (Grown Symbol ℕ)) → StartsWith L x → StartsWith R y → IsPartedIf a → IsPartedIf a' → IsPartedIf (fork_of (with_prefix x a) (with_prefix y a'))
+pub both_parted : (x y : List Symbol) (a a' : Option (Grown Symbol ℕ)) → StartsWith L x → StartsWith R y → IsPartedIf a → IsPartedIf a' → IsPartedIf (fork_of (with_prefix x a) (with_prefix y a'))
 both_parted x y None None p q h h' = tt
 both_parted x y (Some l) None p q h h' = h
 both_parted x y None (Some r) p q h h' = h'
@@ -42,7 +42,7 @@ visits_parted (parts_off {a = a} {b = a'} lt e m v v') = both_parted (L ∷ []) 
 visits_parted (is_forced {x = x} {a = a} lt e m v) = behind_parted (symbol_of x ∷ []) a (visits_parted v)
 visits_parted (passes_on lt e m v) = visits_parted v
 
-advances_parted : {moves : ℕ → Move ℕ} {b : ℕ} {f g : List Bool} {t : Labelled Symbol ℕ} {a : Option (Grown Symbol ℕ)} → Advances itself (Byte b) moves b f t a g → IsParted t → IsPartedIf a
+pub advances_parted : {moves : ℕ → Move ℕ} {b : ℕ} {f g : List Bool} {t : Labelled Symbol ℕ} {a : Option (Grown Symbol ℕ)} → Advances itself (Byte b) moves b f t a g → IsParted t → IsPartedIf a
 advances_parted (dies h) p = tt
 advances_parted {b = b} (reads_on {a = a} h v) p = behind_parted (Byte b ∷ []) a (visits_parted v)
 advances_parted (both {u = u} {v = v} {x = x} {y = y} va vb) p = both_parted u v x y p.0 p.2 (advances_parted va p.1) (advances_parted vb p.3)

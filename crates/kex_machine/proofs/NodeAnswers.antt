@@ -52,7 +52,7 @@ module _ (g : Graph) where
       let r = k.2.reached in
       (m.run, m.runs, ap (λ z. bytes_of z) (m.codes ∙ sym r.2) ∙ r.1.reads)
 
-  one_meaning : (w s t : List ℕ) → MeansByRun g w s → MeansByRun g w t → s ≡ t
+  pub one_meaning : (w s t : List ℕ) → MeansByRun g w s → MeansByRun g w t → s ≡ t
   one_meaning w s t h k =
       let code : h.greedy ≡ k.greedy = at_most_both h.greedy k.greedy (h.least k.greedy k.is_greedy) (k.least h.greedy h.is_greedy) in
       let left = same_left h.run k.run h.greedy h.runs k.runs ([], h.codes ∙ sym (append-nil h.greedy)) ([], k.codes ∙ sym code ∙ sym (append-nil h.greedy)) in

@@ -15,7 +15,7 @@ not_itself : (c : List Symbol) → Before c c → ⊥
 not_itself c h = not_both c c h h
 
 -- two rising lists with the same members are one
-one_list : {S : Type 0} (xs ys : List (CodedPlace S)) → Rising xs → Rising ys → ((x : CodedPlace S) → IsAmong xs x → IsAmong ys x) → ((x : CodedPlace S) → IsAmong ys x → IsAmong xs x) → xs ≡ ys
+pub one_list : {S : Type 0} (xs ys : List (CodedPlace S)) → Rising xs → Rising ys → ((x : CodedPlace S) → IsAmong xs x → IsAmong ys x) → ((x : CodedPlace S) → IsAmong ys x → IsAmong xs x) → xs ≡ ys
 one_list [] [] h h' f g = refl
 one_list [] (y ∷ ys) h h' f g = absurd (g y (inl refl))
 one_list (x ∷ xs) [] h h' f g = absurd (f x (inl refl))
@@ -53,7 +53,7 @@ split c (x ∷ xs) ys (u ∷ us) vs hx hy hu hv e =
     (ap₂ (λ a b. a ∷ b) same r.0, r.1)
 
 -- lists of which each begins with the other
-one_front : (c d : List Symbol) → Begins c d → Begins d c → c ≡ d
+pub one_front : (c d : List Symbol) → Begins c d → Begins d c → c ≡ d
 one_front c d (m, e) (n, f) = back m n e f (append_cancel_left c (n ++ m) [] (sym (append_assoc c n m) ∙ ap (λ z. z ++ m) (sym f) ∙ sym e ∙ sym (append-nil c)))
   where
     back : (m n : List Symbol) → c ≡ d ++ m → d ≡ c ++ n → n ++ m ≡ [] → c ≡ d

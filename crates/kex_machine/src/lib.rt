@@ -5,6 +5,7 @@
 //! byte makes a choice.
 #![tactic(auto)]
 
+pub mod best_laws;
 pub mod laws;
 pub mod marks;
 
