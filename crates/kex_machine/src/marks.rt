@@ -46,6 +46,14 @@ impl Marks {
         self.current += 1;
     }
 
+    /// Whether a place is marked.
+    pub fn is_marked(&self, place: u32) -> bool
+        requires { place < length self.now }
+        ensures { result ≡ get_or self.now place false }
+    {
+        self.stamps[place as usize] == self.current
+    }
+
     /// Marks a place, and tells whether it was marked.
     pub fn mark(&mut self, place: u32) -> bool
         requires { place < length self.old }
