@@ -1,10 +1,10 @@
 -- A table that passes on what a machine's table does is that machine's.
-use Rattle.std.proofs.Common.{◌≡◌, Option, Some, None, refl, sym, subst, ◌∙◌}
-use Rattle.kex_model.specs.Survivors.{Agreed}
-use Rattle.kex_machine.specs.Nodes.{Graph, node_moves}
+use Rattle.std.proofs.Common.{◌≡◌, ℕ, List, Option, Some, None, refl, sym, subst, ◌∙◌}
+use Rattle.kex_code.specs.declared.symbol.Symbol.{Symbol}
+use Rattle.kex_machine.specs.Nodes.{Graph}
 use Rattle.kex_sst.specs.Tables.{Transducer}
 use Rattle.kex_sst.specs.Passes.{Pass, passes, whole_code}
-use Rattle.kex_sst.specs.Machines.{IsTableOf}
+use Rattle.kex_sst.specs.Machines.{IsTableBy}
 use Rattle.kex_constants.specs.Alike.{PassesAreAlike, PassAlike}
 
 module _ (g : Graph) (t u : Transducer) where
@@ -17,9 +17,9 @@ module _ (g : Graph) (t u : Transducer) where
   none None a = refl
   none (Some p) a = absurd a
 
-  pub same_machine : PassAlike t u → IsTableOf g t → IsTableOf g u
-  same_machine alike h = record {
-    goes_on = λ w q e. let o = other (passes t w) q (subst (λ z. PassesAreAlike t u (passes t w) z) e (alike w)) in subst (λ z. Agreed (node_moves g.nodes) g.start w z) (sym o.2) (h.goes_on w o.0 o.1);
+  pub same_machine : {Told : List ℕ → List Symbol → Type 0} → PassAlike t u → IsTableBy Told g t → IsTableBy Told g u
+  same_machine {Told = Told} alike h = record {
+    goes_on = λ w q e. let o = other (passes t w) q (subst (λ z. PassesAreAlike t u (passes t w) z) e (alike w)) in subst (λ z. Told w z) (sym o.2) (h.goes_on w o.0 o.1);
     stops = λ w e. h.stops w (none (passes t w) (subst (λ z. PassesAreAlike t u (passes t w) z) e (alike w)));
     parsed = λ w q c e f. let o = other (passes t w) q (subst (λ z. PassesAreAlike t u (passes t w) z) e (alike w)) in h.parsed w o.0 c o.1 (sym o.3 ∙ f);
     cut = λ w q e f. let o = other (passes t w) q (subst (λ z. PassesAreAlike t u (passes t w) z) e (alike w)) in h.cut w o.0 o.1 (sym o.3 ∙ f);

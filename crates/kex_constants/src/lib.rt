@@ -14,7 +14,7 @@ mod shared;
 
 ghost use Rattle.std.specs.Prelude.{IfOk};
 ghost use Rattle.kex_machine.specs.Nodes.{Graph};
-ghost use Rattle.kex_sst.specs.Machines.{IsTableOf};
+ghost use Rattle.kex_sst.specs.Machines.{IsBestTableOf, IsTableOf};
 ghost use Rattle.kex_constants.specs.Alike.{PassAlike};
 
 use crate::check::checked;
@@ -35,6 +35,7 @@ pub const LONGEST: usize = 16;
 pub fn clear_table(alloc: Global, table: &Table, longest: usize) -> Result<Table, Memory>
     ensures alike { IfOk result (λ t. PassAlike table.now t) }
     ensures machine { IfOk result (λ t. (g : Graph) → IsTableOf g table.now → IsTableOf g t) }
+    ensures best { IfOk result (λ t. (g : Graph) → IsBestTableOf g table.now → IsBestTableOf g t) }
 {
     let guess = guessed(alloc, table, longest)?;
     let constants = checked(alloc, table, guess)?;
