@@ -137,8 +137,8 @@ module _ (g : Graph) (range : IsMachineInRange g.start g.nodes g.registers) (tri
     adv = advanced ms b v has.parted (λ n k i. absurd (none_marked m n i))
 
     -- a leaf is reached
-    real : (x : CodedPlace ℕ) → IsAmong (leaves_if a c) x → Reaches ms g.start (w ++ b ∷ []) x.at x.code
-    real x i =
+    pub next_real : (x : CodedPlace ℕ) → IsAmong (leaves_if a c) x → Reaches ms g.start (w ++ b ∷ []) x.at x.code
+    next_real x i =
         let l = adv.leaf c x i in
         let e = l.0 in
         let from = l.2 in
@@ -165,7 +165,7 @@ module _ (g : Graph) (range : IsMachineInRange g.start g.nodes g.registers) (tri
             (λ i. absurd (none_marked m p i))
             (λ x.
             let up : AtMost x.0.code d = subst (λ z. AtMost x.0.code z) (ap (λ z. r.code ++ Byte z ∷ code_of back) (sym same) ∙ sym whole) x.3 in
-            let down : AtMost d x.0.code = u.1.survives.least x.0.code (subst (λ z. Reaches ms g.start (w ++ b ∷ []) z x.0.code) x.2 (real x.0 x.1)) in
+            let down : AtMost d x.0.code = u.1.survives.least x.0.code (subst (λ z. Reaches ms g.start (w ++ b ∷ []) z x.0.code) x.2 (next_real x.0 x.1)) in
             let is : x.0 ≡ record { at = p; code = d } = both_same x.0 p d x.2 (at_most_both x.0.code d up down) in
             subst (λ z. IsAmong (leaves_if a c) z) is x.1)
             (adv.all c e (has.all r.at r.code o) to (subst (λ z. Allows (ms r.at) (took z to)) same walk.0) back p once (walk.1, quiet) u.1.survives.reached.1.waits)
@@ -177,7 +177,7 @@ module _ (g : Graph) (range : IsMachineInRange g.start g.nodes g.registers) (tri
         one : (x : CodedPlace ℕ) → IsAmong (leaves_if a c) x → (z : Bool) → keep x.at ≡ z → Survives ms g.start (w ++ b ∷ []) x.at x.code ⊎ (keep x.at ≡ false)
         one x i false e = inr e
         one x i true e =
-            let y = least_code g range trimmed (w ++ b ∷ []) x.at x.code (real x i) in
+            let y = least_code g range trimmed (w ++ b ∷ []) x.at x.code (next_real x i) in
             let u = next_there x.at y.0 (k.kept x.at y.0 y.1 e) in
             let same : record { at = x.at; code = y.0 } ≡ x = adv.single c (record { at = x.at; code = y.0 }) x u i refl in
             inl (subst (λ z. Survives ms g.start (w ++ b ∷ []) x.at z) (ap (λ z. z.code) same) y.1)
