@@ -6,3 +6,5 @@ pub mod Bits
 pub mod Closures
 pub mod RowSteps
 pub mod Matches
+pub mod CutRows
+pub mod CachedWays

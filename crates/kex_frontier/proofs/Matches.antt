@@ -11,7 +11,7 @@ use Rattle.kex_machine.specs.Answers.{IsViableFor, HasRun}
 use Rattle.kex_machine.proofs.Nexts.{IsTrim, reached_by}
 use Rattle.kex_machine.proofs.CutWalks.{cut}
 use Rattle.kex_machine.proofs.LongestFronts.{viable_before, longest_self, longest_later}
-use Rattle.kex_frontier.specs.Rows.{has_mark, AlsoMarks, IsReachedQuietly, IsClosureOf, IsMarkRow}
+use Rattle.kex_frontier.specs.Rows.{has_mark, HasSomeMark, AlsoMarks, IsReachedQuietly, IsClosureOf, IsMarkRow}
 use Rattle.kex_frontier.specs.Matchers.{Match, IsDeadAt, WasFed}
 
 step_within : (c : ℕ) (v : Move ℕ) (k : Step ℕ) → MoveBelow c v → Allows v k → target_of k < c
@@ -89,6 +89,21 @@ module _ (m n : Match) (w : List ℕ) (b : ℕ) (same : n.machine ≡ m.machine)
         good = λ live. cc;
         dead = λ _. subst (λ z. IsDeadAt z v n.good) (sym same) (gone, (w, longest_later does m.machine.start w w b (longest_self does m.machine.start w (fed.good live).0) gone, sym (good ∙ (fed.good live).1)));
       }
+
+-- a matcher that was fed w takes bytes whose steps are known
+pub fed_along : (m n : Match) (w bs : List ℕ) → n.machine ≡ m.machine → IsTrim (node_moves m.machine.nodes) m.machine.start → m.dead ≡ false → n.dead ≡ false → WasFed m w → IsMarkRow m.machine (w ++ bs) n.row → n.good ≡ m.good + length bs → (0 < length bs → HasSomeMark n.row) → WasFed n (w ++ bs)
+fed_along m n w bs same trim live on fed r good mark = record {
+  row = subst (λ z. IsMarkRow z (w ++ bs) n.row) (sym same) r;
+  good = λ _. (
+    subst (λ z. IsViableFor z (w ++ bs)) (sym same) (viable bs mark r),
+    (let long : length (w ++ bs) ≡ length w + length bs = length-append w bs in let was : m.good ≡ length w = (fed.good live).1 in omega arith),
+  );
+  dead = λ d. cc;
+}
+  where
+    viable : (bs : List ℕ) → (0 < length bs → HasSomeMark n.row) → IsMarkRow m.machine (w ++ bs) n.row → IsViableFor m.machine (w ++ bs)
+    viable [] mark r = subst (λ z. IsViableFor m.machine z) (sym (append-nil w)) (fed.good live).0
+    viable (b ∷ bs) mark r = let (p, h) = mark (omega arith) in viable_by_mark m.machine trim (w ++ b ∷ bs) n.row p r h
 
 -- the row of the empty text
 pub row_starts : (g : Graph) (first marked new : List ℕ) → ((n : ℕ) → has_mark first n ≡ false) → AlsoMarks (g.start ∷ []) first marked → IsClosureOf g.nodes marked new → IsMarkRow g [] new

@@ -5,3 +5,4 @@ pub mod Views
 pub mod Tasks
 pub mod Matchers
 pub mod Rows
+pub mod Caches

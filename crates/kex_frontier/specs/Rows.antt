@@ -69,6 +69,24 @@ pub record IsClosureOf (nodes : List MNode) (old new : List ℕ) : Type 0 where
       × IsReachedQuietly nodes m n
   pub all : (m n : ℕ) → has_mark old m ≡ true → IsReachedQuietly nodes m n → has_mark new n ≡ true
 
+-- some place is marked
+abbrev pub HasSomeMark : List ℕ → Type 0
+HasSomeMark row = (n : ℕ) × (has_mark row n ≡ true)
+
+-- what is reached by the byte b from the places that were marked, and from there without a byte, is
+-- marked
+pub record IsByteStep (nodes : List MNode) (b : ℕ) (old new : List ℕ) : Type 0 where
+  pub real : (n : ℕ) → has_mark new n ≡ true → (p t : ℕ) × (has_mark old p ≡ true)
+      × IsAmong (byte_ways (node_moves nodes p) b) t × IsReachedQuietly nodes t n
+  pub all : (p t n : ℕ) → has_mark old p ≡ true → IsAmong (byte_ways (node_moves nodes p) b) t
+      → IsReachedQuietly nodes t n → has_mark new n ≡ true
+
+-- so for one byte after another
+abbrev pub AreByteSteps : List MNode → List ℕ → List ℕ → List ℕ → Type 0
+AreByteSteps nodes old [] new = new ≡ old
+AreByteSteps nodes old (b ∷ bs) new = (next : List ℕ) × IsByteStep nodes b old next
+    × AreByteSteps nodes next bs new
+
 -- the marks are those of the places that are reached on w
 pub record IsMarkRow (g : Graph) (w : List ℕ) (row : List ℕ) : Type 0 where
   pub real : (n : ℕ) → has_mark row n ≡ true → (ks : List (Step ℕ))

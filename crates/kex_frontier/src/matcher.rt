@@ -1,16 +1,17 @@
 // Whether a text can be parsed, in memory that is made once.
 
 ghost use Rattle.std.specs.Prelude.{◌≡◌, ℕ, ◌<◌, ◌≤◌, ◌+◌, ◌/◌, ◌^◌, ◌++◌, ◌∷◌, [], List, length};
-ghost use Rattle.std.specs.Prelude.{IfOk, IsTrue, ◌↔◌, true, false};
+ghost use Rattle.std.specs.Prelude.{IfOk, IsTrue, ◌↔◌, take, true, false};
 ghost use Rattle.kex_code.specs.Codes.{IsAmong};
 ghost use Rattle.kex_model.specs.Moves.{accept, quiet};
-ghost use Rattle.kex_machine.specs.Nodes.{Graph, StaysWithin, MoveBelow, move_of, node_moves};
+ghost use Rattle.kex_machine.specs.Nodes.{StaysWithin, MoveBelow, move_of, node_moves};
 ghost use Rattle.kex_machine.specs.Answers.{HasRun};
 ghost use Rattle.kex_frontier.specs.Rows.{AlsoMarks, Opens, byte_ways, has_mark, IsClosureOf};
-ghost use Rattle.kex_frontier.specs.Rows.{IsMarkRow};
+ghost use Rattle.kex_frontier.specs.Rows.{IsByteStep};
 ghost use Rattle.kex_frontier.specs.Matchers.{IsAnswer, WasFed};
 
 use crate::row::Row;
+use crate::step_cache::StepCache;
 use kex_code::memory::Memory;
 use kex_machine::{MNode, Trimmed, node_at};
 use std::alloc::Global;
@@ -107,8 +108,7 @@ fn step(nodes: &[MNode], byte: u8, now: &mut Row, next: &mut Row)
     requires within { StaysWithin nodes.now }
     ensures now { length now.new ≡ length now.old }
     ensures next { length next.new ≡ length next.old }
-    ensures row { (g : Graph) (w : List ℕ) → g.nodes ≡ nodes.now → g.start < length nodes.now
-        → IsMarkRow g w now.old → IsMarkRow g (w ++ byte ∷ []) next.new }
+    ensures row { IsByteStep nodes.now byte now.old next.new }
 {
     next.clear();
     let mut left = nodes.len();
@@ -135,8 +135,12 @@ fn accepts(nodes: &[MNode], row: &Row) -> bool
     false
 }
 
-/// Whether texts are parsed by a stage, and no more: it keeps which places the bytes lead to, in
-/// two rows of bits that it is made with.
+/// Whether texts are parsed by a stage, and no more: it keeps which places the bytes lead to, as a
+/// row of bits.
+///
+/// Rows that it came to and the steps between them are kept too, so that a byte whose step is known
+/// costs one look-up. All room is made by `Matcher::new`: two rows, and at most 4 MiB for what is
+/// kept. Where rows don't come back the steps are made anew.
 ///
 /// It stores no history: `WasFed` relates it to the bytes that it was fed.
 #[derive(Drop)]
@@ -144,6 +148,7 @@ pub struct Matcher<'m> {
     machine: &'m Trimmed,
     row: Row,
     spare: Row,
+    cache: StepCache,
     good: u64,
     dead: bool,
 }
@@ -151,6 +156,8 @@ pub struct Matcher<'m> {
 impl<'m> Model for Matcher<'m> {
     ghost use Rattle.std.specs.Prelude.{◌≡◌, ◌<◌, ◌/◌, length};
     ghost use Rattle.kex_frontier.specs.Matchers.{Match};
+    ghost use Rattle.kex_frontier.specs.Caches.{IsCacheOf};
+    ghost use Rattle.kex_machine.specs.Nodes.{IsTrimmed};
 
     ghost Value = { Match };
 
@@ -158,7 +165,8 @@ impl<'m> Model for Matcher<'m> {
         record { machine = m.machine.now; row = m.row; good = m.good; dead = m.dead } };
 
     ghost invariant = { λ m. (length m.machine.now.nodes / 64 < length m.row)
-        × (length m.spare ≡ length m.row) };
+        × (length m.spare ≡ length m.row) × IsCacheOf m.machine.now.nodes m.row m.cache
+        × IsTrimmed m.machine.now };
 }
 
 impl<'m> Matcher<'m> {
@@ -171,18 +179,37 @@ impl<'m> Matcher<'m> {
         let nodes = machine.nodes();
         let mut row = Row::new(alloc, nodes.len())?;
         let mut spare = Row::new(alloc, nodes.len())?;
+        let cache = StepCache::new(alloc, machine.partition().copy(), row.words().len())?;
         row.mark(machine.start() as usize);
         close(nodes, &mut row, &mut spare);
         Ok(Matcher {
             machine,
             row,
             spare,
+            cache,
             good: 0,
             dead: false,
         })
     }
 
-    // Takes a byte.
+    // Takes bytes whose steps are known. Gives how many.
+    fn follow(&mut self, piece: &[u8]) -> usize
+        requires { self.old.good + length piece.now < 2 ^ 64 }
+        ensures taken { result ≤ length piece.now }
+        ensures fed { (w : List ℕ) → WasFed self.old w
+            → WasFed self.new (w ++ take result piece.now) }
+        ensures machine { self.new.machine ≡ self.old.machine }
+        ensures count { self.new.good ≤ self.old.good + result }
+    {
+        if self.dead {
+            return 0;
+        }
+        let taken = self.cache.follow(piece, &mut self.row);
+        self.good += taken as u64;
+        taken
+    }
+
+    // Takes a byte by a step.
     fn take(&mut self, byte: u8)
         requires { self.old.good + 1 < 2 ^ 64 }
         ensures fed { (w : List ℕ) → WasFed self.old w → WasFed self.new (w ++ byte ∷ []) }
@@ -196,8 +223,10 @@ impl<'m> Matcher<'m> {
         step(nodes, byte, &mut self.row, &mut self.spare);
         mem::swap(&mut self.row, &mut self.spare);
         if self.row.highest_below(nodes.len()).is_none() {
+            self.cache.leave();
             self.dead = true;
         } else {
+            self.cache.learn(byte, &self.row);
             self.good += 1;
         }
     }
@@ -205,8 +234,9 @@ impl<'m> Matcher<'m> {
     /// Takes a piece of the text. `Dead` exactly where no parse begins with all bytes, and then for
     /// good.
     ///
-    /// A byte costs time in the words of a row, and in the places that are marked. Where a step
-    /// without a byte leads to a higher place, the words between are looked through again.
+    /// A byte whose step is known costs one look-up. Another costs time in the words of a row, and
+    /// in the places that are marked. Where a step without a byte leads to a higher place, the
+    /// words between are looked through again.
     pub fn feed(&mut self, piece: &[u8]) -> Matched
         requires { self.old.good + length piece.now < 2 ^ 64 }
         ensures fed { (w : List ℕ) → WasFed self.old w → WasFed self.new (w ++ piece.now)
@@ -214,8 +244,11 @@ impl<'m> Matcher<'m> {
         ensures machine { self.new.machine ≡ self.old.machine }
         ensures count { self.new.good ≤ self.old.good + length piece.now }
     {
-        for byte in piece {
-            self.take(*byte);
+        let mut taken = self.follow(piece);
+        while taken < piece.len() {
+            self.take(piece[taken]);
+            taken += 1;
+            taken += self.follow(&piece[taken..]);
         }
         if self.dead {
             Matched::Dead(self.good)

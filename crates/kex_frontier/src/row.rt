@@ -75,6 +75,21 @@ impl Row {
         self.words.copy_from_slice(&other.words);
     }
 
+    /// The words.
+    pub fn words(&self) -> &[u64]
+        ensures { result.now ≡ self.now }
+    {
+        &self.words
+    }
+
+    /// The marks of words as another row has them.
+    pub fn copy_words(&mut self, words: &[u64])
+        requires { length self.old ≡ length words.now }
+        ensures { self.new ≡ words.now }
+    {
+        self.words.copy_from_slice(words);
+    }
+
     /// The highest place below `end` that is marked.
     pub fn highest_below(&self, end: usize) -> Option<usize>
         requires { end / 64 < length self.now }

@@ -1,6 +1,6 @@
 use Rattle.std.proofs.Common.{arith, subst, sym}
-use Rattle.kex_frontier.specs.Rows.{AlsoMarks, byte_ways, IsClosureOf}
-use Rattle.kex_frontier.proofs.RowSteps.{Entering, enter_on, row_more}
+use Rattle.kex_frontier.specs.Rows.{AlsoMarks, byte_ways}
+use Rattle.kex_frontier.proofs.RowSteps.{enter_on, step_is}
 use Rattle.kex_frontier.proofs.matcher.step.Goals as goal
 
 pub places-preserved : goal.places-preserved
@@ -13,8 +13,4 @@ places-preserved c =
     }
 
 pub returns-clause-row : goal.returns-clause-row
-returns-clause-row c = λ g w same start row.
-    row_more g c.args.byte w c.args.now.now c.clear.new.self c.places.next c.close.new.row c.places.left row
-    (subst (λ z. Entering z c.args.byte c.args.now.now c.clear.new.self c.places.next c.places.left) (sym same) c.places.invariant.so_far)
-    (c.in_default.ensures {u = tt}).none
-    (subst (λ z. IsClosureOf z c.places.next c.close.new.row) (sym same) c.close.ensures.closure)
+returns-clause-row c = step_is c.args.nodes.now c.args.byte c.args.now.now c.clear.new.self c.places.next c.close.new.row c.places.left c.places.invariant.so_far (c.in_default.ensures {u = tt}).none c.close.ensures.closure
