@@ -69,6 +69,9 @@ run p # start: a >> b a := (/b*/)* b := /a/ b # a #  # 3 refused: K13 NoText in 
 run p --states 1024 # main := /(a|b)*a(a|b){10}/ # a #  # 3 refused: K15 TooManyStates in stage 1
 run p --states 2047 # main := /(a|b)*a(a|b){10}/ # a #  # 3 refused: K15 TooManyStates in stage 1
 check p --states 2048 # main := /(a|b)*a(a|b){10}/ # a # stages 1 places 49 states 2048$ # 0
+check p --states 40001 # main := /(a{200}){200}/ # a # stages 1 places 80402 states 40001$ # 0
+run p # main := /(a{200}){200}/ # a #  # 3 refused: K15 TooManyStates in stage 1
+check p # main := /(a{1000}){600}/ # a #  # 3 refused: K11 TooManyPlaces in stage 1
 check p # start: b >> a a := /a/ a b := /b*/ # a #  # 3 refused: K13 NoText in stage 2
 run p #  # a #  # 3 refused: K09 NoStart
 run # main := /a*/ # a #  # 2 usage: kex run|check|code|act|test PROGRAM [--states N] [--max-input N] [--block N] [--rings N] | kex trial N [--block N] [--rings N]

@@ -1,4 +1,4 @@
--- A program that a text spells has at most 64 stages: a 65th that is named breaks a limit.
+-- A program that a text spells has no more stages than may be named: one past those breaks a limit.
 use Rattle.std.proofs.Common.{◌≡◌, ◌+◌, ◌<◌, ◌≤◌, ℕ, zero, suc, Bool, true, false, arith, List, [], ◌∷◌, ◌⊎◌, inl, inr, ⊎_elim, refl, sym, ap, subst, length}
 use Rattle.std.specs.Prelude.{None, bytes_eq, codes, get_or, if◌then◌else◌}
 use Rattle.kex_code.specs.Codes.{IsAmong}
@@ -9,7 +9,7 @@ use Rattle.kex_model.proofs.Shapes.{among_left}
 use Rattle.kex_regexp.specs.declared.breaks.Break.{Break}
 use Rattle.kex_regexp.specs.declared.breaks.Break.TheVariants.{OverLimit}
 use Rattle.kex_reader.specs.Syntax.{Header, NoStart, Stages, header}
-use Rattle.kex_reader.specs.Checks.{Staged, SomeBreaks, stage_checks, header_checks, definition_checks}
+use Rattle.kex_reader.specs.Checks.{Staged, SomeBreaks, most_stages, stage_checks, header_checks, definition_checks}
 use Rattle.kex_reader.specs.Shown.{Made, ShowsStages}
 use Rattle.kex_reader.specs.Spelling.{ShowsHeader, Spells, main_stage, offset}
 
@@ -37,21 +37,21 @@ alone names (d ∷ ds) = by (bytes_eq (get_or names d.name []) (codes "main")) (
     by true rest = omega arith
     by false rest = rest
 
-more_or_not : (n : ℕ) → (n ≤ 64) ⊎ (64 < n)
+more_or_not : (n : ℕ) → (n ≤ most_stages) ⊎ (most_stages < n)
 more_or_not n = grind arith
 
-few : (head : Header) (made : Made) (at : ℕ → ℕ) (P : Grammar) → ShowsHeader head made at P → ((b : Break) → SomeBreaks (header_checks head at) b → ⊥) → length P.stages ≤ 64
+few : (head : Header) (made : Made) (at : ℕ → ℕ) (P : Grammar) → ShowsHeader head made at P → ((b : Break) → SomeBreaks (header_checks head at) b → ⊥) → length P.stages ≤ most_stages
 unfolding header_checks
 few NoStart made at P shows none = let one : length P.stages ≤ 1 = subst (λ z. length z ≤ 1) (sym shows) (alone P.names P.definitions) in omega arith
 few (Stages n ns) made at P shows none =
     let long : length P.stages ≡ length (n ∷ ns) = shown (n ∷ ns) made at P.stages 2 shows in
     ⊎_elim (λ le. le)
     (λ lt.
-    let x = numbered 64 (n ∷ ns) at 2 1 (omega (arith, long, lt)) in
-    absurd (none (OverLimit x.0) (Staged x.0 65, x.1, (refl, refl))))
+    let x = numbered most_stages (n ∷ ns) at 2 1 (omega (arith, long, lt)) in
+    absurd (none (OverLimit x.0) (Staged x.0 (most_stages + 1), x.1, (refl, refl))))
     (more_or_not (length P.stages))
 
-pub few_stages : (text : List ℕ) (P : Grammar) → Spells text P → length P.stages ≤ 64
+pub few_stages : (text : List ℕ) (P : Grammar) → Spells text P → length P.stages ≤ most_stages
 few_stages text P h =
     let at = offset text h.tokens in
     few h.tree.header (record { nodes = P.nodes; names = P.names; registers = h.registers; broken = None }) at P h.shown.stages

@@ -23,8 +23,9 @@ use Rattle.kex_compile.specs.declared.refusal.PlanRefusal.TheVariants.{TooManyPl
 use Rattle.kex_compile.specs.declared.refusal.PlanRefusal.TheVariants.{OneStage, TooManyStates}
 use Rattle.kex_compile.specs.declared.refusal.PlanRefusal.TheVariants.{Memory}
 
+-- how many places a stage may have
 abbrev pub most_places : ℕ
-most_places = 65536
+most_places = 1048576
 
 -- where the stages begin, in their order
 abbrev pub roots_of : Grammar → List ℕ

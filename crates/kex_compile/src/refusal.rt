@@ -11,7 +11,7 @@ use thiserror::Error;
 /// Why the stages of a program have no plans. Stages count from 1.
 #[derive(Clone, Copy, Debug, PartialEq, Eq, Drop, Error)]
 pub enum PlanRefusal {
-    /// The stage has more than 65,536 places.
+    /// The stage has more than `MOST_PLACES` places.
     #[error("stage {0} has too many places")]
     TooManyPlaces(u32),
     /// No text has a parse by the stage.
@@ -40,7 +40,7 @@ impl From<Memory> for PlanRefusal {
 /// The rule that a program text breaks. Offsets count its bytes from 0, and stages count from 1.
 #[derive(Clone, Copy, Debug, PartialEq, Eq, Drop, Error)]
 pub enum CompileRefusal {
-    /// The text has more than 1,048,576 bytes.
+    /// The text has more than `MAX_TEXT` bytes.
     #[error("the text is too long")]
     TextTooLong,
     /// At this offset a token, white space or a comment should begin, and none can be completed.
@@ -54,13 +54,14 @@ pub enum CompileRefusal {
     /// it ends here, and is none.
     #[error("bad regex at byte {0}")]
     BadRegex(u32),
-    /// The count at this offset is above 1,000, or its least count above the greatest.
+    /// The count at this offset is above `MAX_COUNT`, or its least count above the greatest.
     #[error("bad count at byte {0}")]
     BadCount(u32),
     /// The set at this offset has a range whose first byte is above its last, or has no byte.
     #[error("bad set at byte {0}")]
     BadSet(u32),
-    /// The mark or name at this offset raises the nesting above 200, or is that of a 65th stage.
+    /// The mark or name at this offset raises the nesting above `MAX_DEPTH`, or is that of the
+    /// first stage past `MOST_STAGES`.
     #[error("over a limit at byte {0}")]
     OverLimit(u32),
     /// The name at this offset was defined before.
@@ -74,7 +75,7 @@ pub enum CompileRefusal {
     /// The call at this offset comes back, and stands outside tail position.
     #[error("the call at byte {0} comes back outside tail position")]
     NotTail(u32),
-    /// The stage has more than 65,536 places.
+    /// The stage has more than `MOST_PLACES` places.
     #[error("stage {0} has too many places")]
     TooManyPlaces(u32),
     /// No text has a parse by the stage.

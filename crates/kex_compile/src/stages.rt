@@ -15,7 +15,8 @@ use kex_lowering::stage_machine;
 use kex_model::program::Program;
 use std::alloc::Global;
 
-const MOST_PLACES: u32 = 65_536;
+/// How many places a stage may have.
+const MOST_PLACES: u32 = 1_048_576;
 
 // The node where the definition of a name begins, and node 0 for a name that has none.
 fn root_of(program: &Program, name: u32) -> u32

@@ -5,11 +5,11 @@ use kex_compile::limits::Limits;
 use std::alloc::{AllocError, Global};
 use std::test::Fail;
 
-// How many stages, places and states there are, or why there are none, where no more than 65,536
-// states are allowed. Offsets count from 0.
+// How many stages, places and states there are, or why there are none, where no more than a
+// million states are allowed. Offsets count from 0.
 fn answer(alloc: Global, text: &str, limits: &Limits) -> Result<String, AllocError> {
     let limits = Limits {
-        states: limits.states.min(65_536),
+        states: limits.states.min(1_048_576),
         ..*limits
     };
     match compile(alloc, text.as_bytes(), &limits) {
@@ -40,8 +40,9 @@ main := foo => the name at byte 8 has no definition
 foo := 1 => there is no stage
 main := /a/ main /b/ | 1 => the call at byte 12 comes back outside tail position
 main := (/a/ main)? 1 => the call at byte 13 comes back outside tail position
-main := /(a{200}){200}/ => stage 1 has too many places
-main := foo foo := /(a{216}){151}/ => stage 1 has too many places
+main := /(a{200}){200}/ => stage 1 has too many states
+main := foo foo := /(a{216}){151}/ => stage 1 has too many states
+main := /(a{1000}){600}/ => stage 1 has too many places
 main := (/a*/)* => 1 4 1
 main := ("x" | /a/)* => 1 5 1
 main := "x" main | 1 => 1 6 1
@@ -66,6 +67,8 @@ const ONE_STAGE: &str = r#"
 main := /a/ => 1 2 0
 start: a a := /a/ => 1 2 0
 main := /(a{216}){151}/ => 1 65536 0
+main := /(a{1000}){523}b{763}/ => 1 1048576 0
+main := foo foo := /(a{1000}){523}b{763}/ => stage 1 has too many places
 start: a >> a a := /a/ => there is more than one stage
 start: a >> b a := /a/ a b := /b/ => no text has a parse by stage 1
 "#;
@@ -94,6 +97,9 @@ const STATES: &str = r#"
 1 start: a >> b a := /x*/ b := /y/ => stage 2 has too many states
 1 start: a >> b a := /x/ b := /y/ => stage 1 has too many states
 1 start: a >> b a := /x/ b := /y/ b => no text has a parse by stage 2
+32617 main := foo foo := /(a{216}){151}/ => 1 65537 32617
+40001 main := /(a{200}){200}/ => 1 80402 40001
+40000 main := /(a{200}){200}/ => stage 1 has too many states
 "#;
 
 #[test]
@@ -130,8 +136,8 @@ main := 1# #1048567# => 1 2 1
 main := 1# #1048568# => the text is too long
 main := #~#200#foo => the name at byte 208 has no definition
 main := #~#201#foo => over a limit at byte 208
-start: a# >> a#63# a := 1 => 64 128 64
-start: a# >> a#64# a := 1 => over a limit at byte 327
+start: a# >> a#255# a := 1 => 256 512 256
+start: a# >> a#256# a := 1 => over a limit at byte 1287
 "#;
 
 #[test]

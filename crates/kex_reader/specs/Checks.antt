@@ -3,7 +3,7 @@ use Rattle.std.specs.Prelude.{◌≡◌, ℕ, suc, ◌+◌, Bool, true, false, L
 use Rattle.kex_code.specs.Codes.{IsAmong}
 use Rattle.kex_regexp.specs.declared.breaks.Break.{Break}
 use Rattle.kex_regexp.specs.declared.breaks.Break.TheVariants.{BadRegex, BadCount, OverLimit}
-use Rattle.kex_regexp.specs.Breaks.{comes_before}
+use Rattle.kex_regexp.specs.Breaks.{comes_before, most_depth}
 use Rattle.kex_regexp.specs.Bodies.{IsFirstWrong, BreaksFirst}
 use Rattle.kex_regexp.specs.Postfixes.{is_bad_count}
 use Rattle.kex_reader.specs.Syntax.{Postfix, ZeroOrMore, OneOrMore, Optional, Term, Last, Or, Seq}
@@ -24,12 +24,17 @@ abbrev pub BodyBreaks : List ℕ → ℕ → ℕ → Break → Type 0
 BodyBreaks body at depth (BadRegex place) = (k : ℕ) × (place ≡ at + k) × IsFirstWrong body k
 BodyBreaks body at depth b = BreaksFirst body at depth b
 
--- nesting rises above 200 where 200 stand open; the 65th stage is one too many
+-- how many stages may be named
+abbrev pub most_stages : ℕ
+most_stages = 256
+
+-- nesting rises too far where as many stand open as may; the stage past the last one that may be
+-- named is one too many
 abbrev pub Breaks : Check → Break → Type 0
-Breaks (Nested at depth) b = (depth ≡ 200) × (b ≡ OverLimit at)
+Breaks (Nested at depth) b = (depth ≡ most_depth) × (b ≡ OverLimit at)
 Breaks (Counted at postfix) b = (is_bad_count postfix ≡ true) × (b ≡ BadCount at)
 Breaks (Matched at depth body) b = BodyBreaks body at depth b
-Breaks (Staged at number) b = (number ≡ 65) × (b ≡ OverLimit at)
+Breaks (Staged at number) b = (number ≡ most_stages + 1) × (b ≡ OverLimit at)
 
 -- one of the checks is broken so
 abbrev pub SomeBreaks : List Check → Break → Type 0

@@ -41,14 +41,14 @@ use crate::word::{Name, Word};
 use kex_code::memory::Memory;
 use kex_code::piece::Bytes;
 use kex_model::program::Kind as NodeKind;
-use kex_regexp::breaks::Break;
+use kex_regexp::breaks::{Break, MAX_DEPTH};
 use kex_regexp::counts::{Bounds, Count, CountOutcome};
 use kex_tokens::literal_bytes;
 use kex_tokens::token::TokenKind;
 use std::alloc::{AllocError, AllocFailed, Global};
 
-/// How deep parentheses and prefixes may nest.
-const DEEPEST: usize = 200;
+/// How many parentheses and prefixes may stand open at a place.
+const DEEPEST: usize = MAX_DEPTH as usize;
 
 /// What the next word belongs to: a member has to come or may, an atom may have a postfix, a
 /// postfix may be lazy, a name may be a call, a register or a head, and the rest is half read.

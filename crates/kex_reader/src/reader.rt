@@ -35,7 +35,7 @@ use kex_tokens::token::TokenKind;
 use std::alloc::Global;
 
 /// How many stages a start line may name.
-const MOST_STAGES: usize = 64;
+const MOST_STAGES: usize = 256;
 
 // Notes the limit where one stage too many is named.
 fn limit_stages(draft: &mut Draft, before: usize, at: u32)

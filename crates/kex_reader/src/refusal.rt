@@ -10,7 +10,7 @@ use thiserror::Error;
 /// Why a text is no program. Offsets count its bytes from 0.
 #[derive(Clone, Copy, PartialEq, Eq, Debug, Drop, Error)]
 pub enum ReadRefusal {
-    /// The text has more than 1,048,576 bytes.
+    /// The text has more than `MAX_TEXT` bytes.
     #[error("the text is too long")]
     TextTooLong,
     /// Here a token, white space or a comment should begin, and none can be completed.
@@ -24,14 +24,15 @@ pub enum ReadRefusal {
     /// here it ends, and is none.
     #[error("bad regex at byte {at}")]
     BadRegex { at: u32 },
-    /// At this brace stands a count above 1,000, or a least count above the greatest.
+    /// At this brace stands a count above `MAX_COUNT`, or a least count above the greatest.
     #[error("bad count at byte {at}")]
     BadCount { at: u32 },
     /// At this bracket stands a set with a range whose first byte is above its last, or a set
     /// without a byte.
     #[error("bad set at byte {at}")]
     BadSet { at: u32 },
-    /// This mark or prefix raises the nesting above 200, or this name is that of a 65th stage.
+    /// This mark or prefix raises the nesting above `MAX_DEPTH`, or this name is that of the
+    /// first stage past `MOST_STAGES`.
     #[error("over a limit at byte {at}")]
     OverLimit { at: u32 },
     /// Memory was wanted, and there was none. No contract says when it comes.

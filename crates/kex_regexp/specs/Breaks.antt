@@ -11,6 +11,10 @@ use Rattle.kex_regexp.specs.Grammar.{item}
 use Rattle.kex_regexp.specs.Postfixes.{is_bad_count}
 use Rattle.kex_regexp.specs.Values.{in_set, has_backward, any_below}
 
+-- how many parentheses and prefixes may stand open at a place
+abbrev pub most_depth : ℕ
+most_depth = 200
+
 -- a range whose first byte is above its last, or no byte at all
 abbrev pub is_bad_set : Bool → List Member → Bool
 is_bad_set negated ms = has_backward ms || not (any_below 256 (in_set negated ms))
@@ -43,7 +47,7 @@ unfoldable mutual
   item_breaks Dot at depth = []
   item_breaks (Set negated ms) at depth = break_if (is_bad_set negated ms) (BadSet at)
   item_breaks (Group r) at depth =
-      break_if (depth == 200) (OverLimit at) ++ regex_breaks r (at + 1) (depth + 1)
+      break_if (depth == most_depth) (OverLimit at) ++ regex_breaks r (at + 1) (depth + 1)
 
 -- ---- the least of them: by the number of the refusal, then by the offset
 

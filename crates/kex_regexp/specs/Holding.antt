@@ -36,7 +36,7 @@ use Rattle.kex_regexp.specs.Machine.{LowHigh, OnlyComma, High, CountStep, CountO
 use Rattle.kex_regexp.specs.Machine.{CountWrong, Entry, Mark, Ended, Read, Mode, Ready, After}
 use Rattle.kex_regexp.specs.Machine.{Turned, InEscape, InSet, InCount, State, entries, bytes_read}
 use Rattle.kex_regexp.specs.Parents.{NoneLost}
-use Rattle.kex_regexp.specs.Postfixes.{Postfix, high, is_bad_count, low}
+use Rattle.kex_regexp.specs.Postfixes.{Postfix, high, is_bad_count, low, most_count}
 use Rattle.kex_regexp.specs.Shown.{IsNode, IsClass}
 use Rattle.kex_regexp.specs.Values.{end_byte, escaped_byte, has_backward, in_members, in_set}
 use Rattle.kex_tokens.specs.Values.{decimal_value}
@@ -150,9 +150,9 @@ IsSetAfter set (Some s) = IsSetIn set s.mode
 
 -- ---- counts
 
--- a count above 1000 is held as 1001
+-- a count above the greatest is held as one more than that
 abbrev pub capped_count : ℕ → ℕ
-capped_count n = min n 1001
+capped_count n = min n (most_count + 1)
 
 abbrev pub capped_bound : Option ℕ → Option ℕ
 capped_bound None = None

@@ -11,6 +11,7 @@ use Rattle.kex_regexp.specs.declared.wait.Wait.{Wait}
 use Rattle.kex_regexp.specs.declared.wait.Wait.TheVariants as waits
 use Rattle.kex_regexp.specs.Breaks.{Break, BadCount, BadSet, OverLimit, break_if, is_bad_set}
 use Rattle.kex_regexp.specs.Breaks.{branch_breaks, piece_breaks, item_breaks, comes_before}
+use Rattle.kex_regexp.specs.Breaks.{most_depth}
 use Rattle.kex_regexp.specs.Grammar.{item, postfix}
 use Rattle.kex_regexp.specs.Postfixes.{is_bad_count}
 use Rattle.kex_regexp.specs.Outcomes.{are_bad, count_outcome}
@@ -39,7 +40,7 @@ marks (Ended b ∷ es) = marks es
 marks (Read p ∷ es) = marks es
 
 unfoldable pub entry_breaks : Entry → ℕ → ℕ → List Break
-entry_breaks Mark at depth = break_if (depth == 200) (OverLimit at)
+entry_breaks Mark at depth = break_if (depth == most_depth) (OverLimit at)
 entry_breaks (Ended b) at depth = branch_breaks b at depth
 entry_breaks (Read p) at depth = piece_breaks p at depth
 
@@ -64,8 +65,8 @@ state_breaks base depth s = entries_breaks base depth s.entries
 -- ---- what one byte more adds
 
 unfoldable pub nesting_breaks : ℕ → ℕ → ℕ → List Break
-nesting_breaks at depth b = if b == byte.open_paren then break_if (depth == 200) (OverLimit at)
-    else []
+nesting_breaks at depth b =
+    if b == byte.open_paren then break_if (depth == most_depth) (OverLimit at) else []
 
 unfoldable pub set_breaks : ℕ → SetStep → List Break
 set_breaks at (SetOn negated ms p) = []
@@ -96,8 +97,8 @@ is_bad_set_so_far set negated =
     set.backward || not (any_below 256 (λ b. membership negated (has set.bytes b)))
 
 unfoldable pub nesting_break : ℕ → ℕ → ℕ → Option Break
-nesting_break depth at b = if (b == byte.open_paren) && (depth == 200) then Some (OverLimit at)
-    else None
+nesting_break depth at b =
+    if (b == byte.open_paren) && (depth == most_depth) then Some (OverLimit at) else None
 
 unfoldable pub count_break : CountOutcome → ℕ → Option Break
 count_break (outcomes.On c) brace = None

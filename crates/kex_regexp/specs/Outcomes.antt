@@ -17,6 +17,7 @@ use Rattle.kex_regexp.specs.declared.counts.CountOutcome.TheVariants as outcomes
 use Rattle.kex_regexp.specs.declared.escapes.Escaping.{Escaping}
 use Rattle.kex_regexp.specs.declared.escapes.Escaping.TheVariants.{Begun, HexBegun, HexOne}
 use Rattle.kex_regexp.specs.Grammar.{is_digit, is_end, is_hex, is_punctuation}
+use Rattle.kex_regexp.specs.Postfixes.{most_count}
 use Rattle.kex_regexp.specs.Values.{hex_value}
 
 unfoldable pub escape_outcome : Escaping → ℕ → EscapeOutcome
@@ -79,7 +80,7 @@ ended_span (parts.InFirst e) b = None
 ended_span (parts.InLast first e) b = last_span first (escape_outcome e b)
 
 unfoldable pub capped_number : ℕ → ℕ → ℕ
-capped_number v d = min (10 * min v 1001 + (d - byte.digit_0)) 1001
+capped_number v d = min (10 * min v (most_count + 1) + (d - byte.digit_0)) (most_count + 1)
 
 -- by a digit, a comma, the brace that closes, or another byte
 abbrev pub outcome_by : ℕ → CountOutcome → CountOutcome → CountOutcome → CountOutcome
@@ -110,9 +111,9 @@ number_outcome counts.OnlyComma n = outcomes.On (counts.High n)
 number_outcome _ n = outcomes.Wrong
 
 abbrev pub are_bad_turns : ℕ → Option ℕ → Bool
-are_bad_turns low None = nat_lt 1000 low
-are_bad_turns low (Some high) = nat_lt 1000 low || nat_lt 1000 high || nat_lt high low
+are_bad_turns low None = nat_lt most_count low
+are_bad_turns low (Some high) = nat_lt most_count low || nat_lt most_count high || nat_lt high low
 
--- a count above 1,000, or one that is below the count before it
+-- a count above the greatest, or one that is below the count before it
 unfoldable pub are_bad : Bounds → Bool
 are_bad bounds = are_bad_turns bounds.low bounds.high

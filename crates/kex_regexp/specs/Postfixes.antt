@@ -36,16 +36,20 @@ high (AtLeast n) = None
 high (AtMost m) = Some (decimal_value m)
 high (FromTo n m) = Some (decimal_value m)
 
--- a count above 1,000, or one that is below the count before it
+-- the greatest count that is allowed
+abbrev pub most_count : ℕ
+most_count = 1000
+
+-- a count above it, or one that is below the count before it
 abbrev pub is_bad_count : Postfix → Bool
 is_bad_count ZeroOrMore = false
 is_bad_count OneOrMore = false
 is_bad_count Optional = false
-is_bad_count (Exactly n) = nat_lt 1000 (decimal_value n)
-is_bad_count (AtLeast n) = nat_lt 1000 (decimal_value n)
-is_bad_count (AtMost m) = nat_lt 1000 (decimal_value m)
-is_bad_count (FromTo n m) = nat_lt 1000 (decimal_value n) || nat_lt 1000 (decimal_value m)
-    || nat_lt (decimal_value m) (decimal_value n)
+is_bad_count (Exactly n) = nat_lt most_count (decimal_value n)
+is_bad_count (AtLeast n) = nat_lt most_count (decimal_value n)
+is_bad_count (AtMost m) = nat_lt most_count (decimal_value m)
+is_bad_count (FromTo n m) = nat_lt most_count (decimal_value n)
+    || nat_lt most_count (decimal_value m) || nat_lt (decimal_value m) (decimal_value n)
 
 -- ---- spelling
 

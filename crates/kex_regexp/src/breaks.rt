@@ -7,6 +7,9 @@ ghost use Rattle.kex_regexp.specs.Notes.{lesser_of};
 
 use crate::fault::RegexFault;
 
+/// How many parentheses and prefixes may stand open at a place.
+pub const MAX_DEPTH: u64 = 200;
+
 /// A rule that is broken, and the offset in the text.
 #[derive(Clone, Copy, PartialEq, Eq, Debug, Drop)]
 pub enum Break {

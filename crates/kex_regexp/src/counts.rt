@@ -1,4 +1,5 @@
-// Counts in braces, of bodies and of programs. A count above 1,000 is held as 1,001.
+// Counts in braces, of bodies and of programs. A count above the greatest is held as one more
+// than that.
 
 ghost use Rattle.std.specs.Prelude.{◌≡◌, ◌≤◌};
 ghost use Rattle.kex_tokens.specs.Bytes.{close_brace, comma};
@@ -39,7 +40,7 @@ fn with_digit(value: u32, digit: u8) -> u32
     requires { (48 ≤ digit) × (digit ≤ 57) }
     ensures { result ≡ capped_number value digit }
 {
-    (10 * value.min(1001) + (digit - b'0') as u32).min(1001)
+    (10 * value.min(MAX_COUNT + 1) + (digit - b'0') as u32).min(MAX_COUNT + 1)
 }
 
 // A digit more.
@@ -64,7 +65,7 @@ fn at_digit(count: Count, digit: u8) -> CountOutcome
     })
 }
 
-/// A whole number, held up to 1,001.
+/// A whole number, held up to one more than the greatest count.
 #[tactic(auto, unfolding(crate::specs::Outcomes::number_outcome))]
 pub fn at_number(count: Count, number: u32) -> CountOutcome
     ensures { result ≡ number_outcome count number }

@@ -4,13 +4,10 @@ ghost use Rattle.std.specs.Prelude.{◌≡◌, ◌+◌, ◌<◌, ◌^◌};
 ghost use Rattle.kex_regexp.specs.Notes.{depth_after, next_depth, count_break, byte_break};
 ghost use Rattle.kex_regexp.specs.Notes.{nesting_break};
 
-use crate::breaks::Break;
+use crate::breaks::{Break, MAX_DEPTH};
 use crate::counts::{CountOutcome, in_count};
 use crate::sets::SetSoFar;
 use crate::wait::Wait;
-
-/// How deep a place may be nested.
-const MAX_DEPTH: u64 = 200;
 
 // A parenthesis that raises the nesting above the limit.
 #[tactic(auto, unfolding(crate::specs::Notes::nesting_break))]

@@ -28,7 +28,7 @@ abbrev pub block_rule : Rule
 block_rule = number_rule (codes "block") 1 most_block (codes "65536")
 
 abbrev pub most_states : ℕ
-most_states = 65536
+most_states = 1048576
 
 abbrev pub most_lines : ℕ
 most_lines = 1000000

@@ -43,8 +43,8 @@ pub record ReadsRun : Type 0 where
       : LineAsks "kex run --block=1048576 --max-input=0 p" (to_run "p" (reach 0 1048576))
   pub states : LineAsks "kex run p --states 7 --block 1"
       (ToStream (running 7) (codes "p") (reach 281474976710656 1))
-  pub largest : LineAsks "kex run p --max-input 281474976710656 --states 65536"
-      (ToStream (running 65536) (codes "p") usual_reach)
+  pub largest : LineAsks "kex run p --max-input 281474976710656 --states 1048576"
+      (ToStream (running 1048576) (codes "p") usual_reach)
   pub rings : LineAsks "kex run p --rings 1" (to_run "p" (over_rings 1))
   pub largest_rings : LineAsks "kex run --rings=1048576 p" (to_run "p" (over_rings 1048576))
   -- as `clap` reads numbers
@@ -111,7 +111,7 @@ pub record RefusesWords : Type 0 where
       ∷ "kex run p --states 0" ∷ "kex run p --rings 0" ∷ "kex trial 1 --rings 0"
       ∷ "kex check p --states 0" ∷ "kex trial -1" ∷ [])
   pub above_range : AreUsage ("kex run p --block 1048577" ∷ "kex run p --max-input 281474976710657"
-      ∷ "kex run p --block 18446744073709551617" ∷ "kex run p --states 65537"
+      ∷ "kex run p --block 18446744073709551617" ∷ "kex run p --states 1048577"
       ∷ "kex run p --rings 1048577" ∷ "kex trial 1000001" ∷ [])
   pub no_number : AreUsage ("kex run p --block two" ∷ "kex run p --block 3k"
       ∷ "kex run p --block 0x10" ∷ "kex run p --block 1_000"

@@ -11,7 +11,7 @@ pub(crate) const MOST_BLOCK: u64 = 1_048_576;
 
 pub(crate) const USUAL_BLOCK: u64 = 65_536;
 
-pub(crate) const MOST_STATES: u64 = 65_536;
+pub(crate) const MOST_STATES: u64 = 1_048_576;
 
 pub(crate) const USUAL_STATES: u64 = 4_096;
 
@@ -47,7 +47,7 @@ pub struct RunLimits {
 pub struct StateLimit {
     pub most: u32,
     ghost some: { 1 ≤ most },
-    ghost fits: { most ≤ 2 ^ 16 },
+    ghost fits: { most ≤ 2 ^ 20 },
 }
 
 /// Lines that are made, and the bytes of them that are made at a time.

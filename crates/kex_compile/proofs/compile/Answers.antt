@@ -13,6 +13,7 @@ use Rattle.kex_compile.specs.declared.limits.Limits.{Limits}
 use Rattle.kex_compile.specs.declared.refusal.PlanRefusal.{PlanRefusal}
 use Rattle.kex_compile.specs.declared.refusal.PlanRefusal.TheVariants as plan
 use Rattle.kex_compile.proofs.FirstStages.{all-run}
+use Rattle.kex_reader.specs.Checks.{most_stages}
 use Rattle.kex_compile.proofs.FewStages.{few_stages}
 use Rattle.kex_compile.proofs.compile.Goals as goal
 
@@ -80,5 +81,5 @@ pub plan_stages-requires-clause-few : goal.plan_stages-requires-clause-few
 plan_stages-requires-clause-few c =
     let P = c.in_ok-program.program in
     let same = c.program-2.ensures.same ∙ c.in_ok-ruled.ensures.same in
-    let few : length P.stages ≤ 64 = few_stages c.args.text.now P c.in_ok-program.ensures.read in
+    let few : length P.stages ≤ most_stages = few_stages c.args.text.now P c.in_ok-program.ensures.read in
     omega (arith, few, ap (λ (z : Grammar). length z.stages) same)
