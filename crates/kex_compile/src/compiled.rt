@@ -1,6 +1,6 @@
 // What a text is compiled to.
 
-ghost use Rattle.std.specs.Prelude.{◌≡◌, ◌+◌, ◌^◌, ◌<◌, ◌++◌, ◌∷◌, [], OnOk, length, map};
+ghost use Rattle.std.specs.Prelude.{◌≡◌, ◌+◌, ◌^◌, ◌<◌, ◌++◌, ◌∷◌, [], IfOk, OnOk, length, map};
 ghost use Rattle.kex_stage.specs.Plans.{machine_of};
 ghost use Rattle.kex_compile.specs.Stages.{table_of};
 
@@ -33,6 +33,18 @@ impl Model for Compiled {
     } };
 
     ghost invariant = { λ c. length c.stages.items < 2 ^ 32 };
+}
+
+// The same plans, each with a shorter table.
+fn shorten_all(alloc: Global, plans: Vec<Plan>) -> Result<Vec<Plan>, Memory>
+    ensures { IfOk result (λ shorter. shorter.items ≡ plans.items) }
+{
+    let mut shorter = Vec::with_capacity(alloc, plans.len())?;
+    'plans: for plan in plans {
+        let plan = plan.shorten(alloc)?;
+        shorter.push(plan)?;
+    }
+    Ok(shorter)
 }
 
 impl Compiled {
@@ -73,6 +85,19 @@ impl Compiled {
         ensures few { length self.now.stages < 2 ^ 32 }
     {
         &self.stages
+    }
+
+    /// The same plans, of which stages go by tables without constant registers. A command that only
+    /// counts has no use for such tables.
+    pub fn shorten(self, alloc: Global) -> Result<Compiled, Memory>
+        ensures { IfOk result (λ c. c ≡ self) }
+    {
+        let stages = shorten_all(alloc, self.stages)?;
+        Ok(Compiled {
+            stages,
+            places: self.places,
+            states: self.states,
+        })
     }
 
     /// How many places the stages have in all, before their machines are trimmed.

@@ -43,8 +43,10 @@ fn plan(
     match determine(alloc, &machine, limits.states) {
         Ok(table) => {
             let states = table.states().len() as u32;
-            let plan = Plan::new(machine, Some(table)).shorten(alloc)?;
-            Ok(Planned { plan, states })
+            Ok(Planned {
+                plan: Plan::new(machine, Some(table)),
+                states,
+            })
         }
         Err(DetRefusal::TooManyStates { seen: _ }) => Err(PlanRefusal::TooManyStates(stage)),
         Err(DetRefusal::Memory) => Err(PlanRefusal::Memory),

@@ -195,6 +195,7 @@ pub(crate) fn answer_stream<R: Threads + Sync, G: Gate + Sync, H: Shelf, S: Sour
 {
     let asked = limits_of(mode);
     let plans = plans_of(alloc, shelf, program, &asked)?;
-    let status = serve(rt, gate, alloc, mode, &plans, limits, input, output)?;
+    let short = plans.shorten(alloc)?;
+    let status = serve(rt, gate, alloc, mode, &short, limits, input, output)?;
     Ok(status)
 }

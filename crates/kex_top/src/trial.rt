@@ -203,6 +203,7 @@ pub(crate) fn answer_trial<R: Threads + Sync, G: Gate + Sync, K: Sink>(
 {
     let asked = limits_to_check(STATES);
     let plans = plans_of_text(alloc, TEXT.as_bytes(), &asked)?;
-    let summary = sum_up(rt, gate, alloc, &plans, lines)?;
+    let short = plans.shorten(alloc)?;
+    let summary = sum_up(rt, gate, alloc, &short, lines)?;
     Ok(tell_summary(summary, output))
 }

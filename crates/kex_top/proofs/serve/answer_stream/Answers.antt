@@ -1,5 +1,6 @@
-use Rattle.std.proofs.Common.{◌∙◌, ap, subst}
+use Rattle.std.proofs.Common.{◌∙◌, ◌≡◌, ◌<◌, ap, length, subst, sym}
 use Rattle.kex_ports.specs.Shelf.{told_of}
+use Rattle.kex_compile.specs.Stages.{Plans}
 use Rattle.kex_compile.specs.declared.limits.Limits.{Limits}
 use Rattle.kex_words.specs.Words.{mode_of, reach_of}
 use Rattle.kex_top.specs.Refusals.{HasPlans}
@@ -9,15 +10,15 @@ use Rattle.kex_top.proofs.serve.answer_stream.Goals as goal
 pub serve-requires-clause-some : goal.serve-requires-clause-some
 serve-requires-clause-some g c = λ κs bounds.
     let h = c.in_ok-plans.ensures.plans in
-    some-machine c.limits_of-asked.result h.text c.in_ok-plans.plans h.compiled
+    subst (λ (z : Plans). 0 < length z.stages) (sym c.in_ok-short.ensures) (some-machine c.limits_of-asked.result h.text c.in_ok-plans.plans h.compiled)
 
 pub serve-requires-clause-one : goal.serve-requires-clause-one
 serve-requires-clause-one g c = λ κs bounds one.
     let h = c.in_ok-plans.ensures.plans in
-    one-machine c.limits_of-asked.result h.text c.in_ok-plans.plans h.compiled (ap (λ (l : Limits). l.one_stage) c.limits_of-asked.ensures.value ∙ one)
+    subst (λ (z : Plans). length z.stages ≡ 1) (sym c.in_ok-short.ensures) (one-machine c.limits_of-asked.result h.text c.in_ok-plans.plans h.compiled (ap (λ (l : Limits). l.one_stage) c.limits_of-asked.ensures.value ∙ one))
 
 pub returns-clause-answers : goal.returns-clause-answers
 returns-clause-answers g c =
     let told = told_of (g.H.Shelf.texts c.args.shelf.now) c.args.program.now in
-    served (mode_of c.args.mode) c.args.program.now (reach_of c.args.limits) _ _ c.in_ok-plans.plans _ _ c.in_ok-status.status
-    (subst (λ l. HasPlans l told c.in_ok-plans.plans) c.limits_of-asked.ensures.value c.in_ok-plans.ensures.plans) c.in_ok-status.ensures.ran
+    served (mode_of c.args.mode) c.args.program.now (reach_of c.args.limits) _ _ c.in_ok-short.short _ _ c.in_ok-status.status
+    (subst (λ l. HasPlans l told c.in_ok-short.short) c.limits_of-asked.ensures.value (subst (λ z. HasPlans c.limits_of-asked.result told z) (sym c.in_ok-short.ensures) c.in_ok-plans.ensures.plans)) c.in_ok-status.ensures.ran

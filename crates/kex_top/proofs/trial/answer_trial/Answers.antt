@@ -1,6 +1,7 @@
-use Rattle.std.proofs.Common.{◌≡◌, refl, subst, inl}
+use Rattle.std.proofs.Common.{◌≡◌, ◌<◌, length, refl, subst, sym, inl}
 use Rattle.std.proofs.lemmas.Result.{err_from_is_err_and}
 use Rattle.kex_compile.specs.Compiled.{IsCompiled, IsRefused}
+use Rattle.kex_compile.specs.Stages.{Plans}
 use Rattle.kex_compile.specs.declared.refusal.CompileRefusal.{CompileRefusal}
 use Rattle.kex_words.specs.Words.{room_of}
 use Rattle.kex_words.specs.Words.Asked.{ToTry}
@@ -12,7 +13,7 @@ use Rattle.kex_top.proofs.CallAnswers.{some-machine, tried, unbegun, unplanned}
 use Rattle.kex_top.proofs.trial.answer_trial.Goals as goal
 
 pub sum_up-requires-after_bounds : goal.sum_up-requires-after_bounds
-sum_up-requires-after_bounds g c = λ κs bounds. some-machine c.limits_to_check-asked.result c.as_bytes.result.now c.in_ok-plans.plans c.in_ok-plans.ensures.plans
+sum_up-requires-after_bounds g c = λ κs bounds. subst (λ (z : Plans). 0 < length z.stages) (sym c.in_ok-short.ensures) (some-machine c.limits_to_check-asked.result c.as_bytes.result.now c.in_ok-plans.plans c.in_ok-plans.ensures.plans)
 
 pub returns-in_err-plans-clause-answers : goal.returns-in_err-plans-clause-answers
 returns-in_err-plans-clause-answers g c = λ texts reads source left.
@@ -25,6 +26,11 @@ returns-in_err-plans-clause-answers g c = λ texts reads source left.
     (subst (λ l. (rule : CompileRefusal) × IsRefused l trial_text rule × IsStartOf trial_text rule e) c.limits_to_check-asked.ensures (subst (λ t. (rule : CompileRefusal) × IsRefused c.limits_to_check-asked.result t rule × IsStartOf t rule e) text x)))
     (λ is. absurd (subst (λ w. IsStartOf c.as_bytes.result.now x.0 w) is x.2)) (left, (refl, refl)))
 
+pub returns-in_err-short-clause-answers : goal.returns-in_err-short-clause-answers
+returns-in_err-short-clause-answers g c = λ texts reads source left.
+    let p = err_from_is_err_and c.from_residual-in_err-short.result c.from_residual-in_err-short.ensures.1 in
+    rw (p.1, p.2) (inl (left, (refl, refl)))
+
 pub returns-in_err-summary-clause-answers : goal.returns-in_err-summary-clause-answers
 returns-in_err-summary-clause-answers g c = λ texts reads source left.
     let p = err_from_is_err_and c.from_residual-in_err-summary.result c.from_residual-in_err-summary.ensures.1 in
@@ -33,6 +39,6 @@ returns-in_err-summary-clause-answers g c = λ texts reads source left.
 pub returns-clause-answers : goal.returns-clause-answers
 returns-clause-answers g c = λ texts reads source left.
     let text : c.as_bytes.result.now ≡ trial_text = c.as_bytes.ensures.value in
-    tried c.args.lines.count c.args.lines.block (room_of c.args.lines.rings) texts reads c.in_ok-plans.plans c.in_ok-summary.summary source _ _
-    (subst (λ l. IsCompiled l trial_text c.in_ok-plans.plans) c.limits_to_check-asked.ensures (subst (λ t. IsCompiled c.limits_to_check-asked.result t c.in_ok-plans.plans) text c.in_ok-plans.ensures.plans))
+    tried c.args.lines.count c.args.lines.block (room_of c.args.lines.rings) texts reads c.in_ok-short.short c.in_ok-summary.summary source _ _
+    (subst (λ z. IsCompiled (limits_to_check usual_states) trial_text z) (sym c.in_ok-short.ensures) (subst (λ l. IsCompiled l trial_text c.in_ok-plans.plans) c.limits_to_check-asked.ensures (subst (λ t. IsCompiled c.limits_to_check-asked.result t c.in_ok-plans.plans) text c.in_ok-plans.ensures.plans)))
     c.in_ok-summary.ensures left c.tell_summary.ensures.told
