@@ -22,6 +22,11 @@ Hears g (Paths p) w c = (p.frontier.machine ≡ g) × IsFed p.frontier w c
 Hears g (Table f) w c = IsTrimmed g × IsTableOf g f.runner.table × (f.moves.table ≡ f.runner.table)
     × runs.IsRunOf f.runner w c
 
+-- the oracle is one of this machine
+abbrev pub IsOracleFor : Graph → Oracle → Type 0
+IsOracleFor g (Paths p) = p.frontier.machine ≡ g
+IsOracleFor g (Table f) = IsTrimmed g × IsTableOf g f.runner.table
+
 -- how many good bytes it has read
 abbrev pub read_of : Oracle → ℕ
 read_of (Paths p) = p.read

@@ -24,6 +24,11 @@ pub record StageFollows (o : Oracle) (a : Position) (w out : List ℕ) : Type 0 
   pub count : read_of o ≡ length w
   pub good : IsViableFor a.machine w
 
+-- the oracle and the actor of a stage
+pub record WorkerState : Type 0 where
+  pub oracle : Oracle
+  pub actor : Position
+
 -- the number of the byte behind so many good ones, where it was refused
 abbrev pub refused_at : Bool → ℕ → Option ℕ
 refused_at true good = Some good

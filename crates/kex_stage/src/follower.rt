@@ -24,6 +24,7 @@ pub struct Follower<'p> {
     pub pieces: Vec<ByteWord>,
     ghost same_words: { phrases.words ≡ runner.words },
     ghost same_machine: { phrases.machine ≡ moves.machine },
+    ghost same_table: { moves.table ≡ runner.table },
 }
 
 impl<'p> Follower<'p> {

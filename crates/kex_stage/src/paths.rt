@@ -1,6 +1,7 @@
 // A frontier, and how many good bytes it was fed.
 
-ghost use Rattle.std.specs.Prelude.{◌≡◌, ◌+◌, ◌^◌, ◌<◌, ◌≤◌, false, IfOk, OnOk, IsTrue, length};
+ghost use Rattle.std.specs.Prelude.{◌≡◌, ◌+◌, ◌^◌, ◌<◌, ◌≤◌, [], false, IfOk, OnOk, IsTrue, length};
+ghost use Rattle.kex_frontier.specs.Frontiers.{IsFed};
 ghost use Rattle.kex_stage.specs.Oracles.{OracleReads, Tells, TellsEnd, is_parsed};
 ghost use Rattle.kex_stage.specs.Works.{StageWorks};
 
@@ -48,6 +49,20 @@ fn is_parsed(ended: Ended) -> bool
 }
 
 impl<'p> Paths<'p> {
+    /// Is as when it was fed nothing.
+    pub fn begin_anew(&mut self) -> Result<(), Memory>
+        ensures begins { OnOk result (IsFed self.new.frontier [] []) }
+        ensures same { self.new.frontier.machine ≡ self.old.frontier.machine }
+        ensures usable { OnOk result (IsTrue self.new.frontier.usable
+            × (self.new.frontier.ended ≡ false)) }
+        ensures begun { OnOk result (self.new.read ≡ 0) }
+        ensures read { self.new.read ≤ self.old.read }
+    {
+        self.frontier.begin_anew()?;
+        self.read = 0;
+        Ok(())
+    }
+
     // Puts what the paths agree on along a piece behind a code, and tells how many bytes are good.
     fn hear(&mut self, piece: &[u8], code: &mut Code) -> Result<usize, Memory>
         requires usable { IsTrue self.old.frontier.usable }
@@ -57,6 +72,7 @@ impl<'p> Paths<'p> {
             (Oracle.Paths self.new) piece.now count code.old code.new) }
         ensures read { IfOk result (λ count. self.new.read ≡ self.old.read + count) }
         ensures within { self.new.read ≤ self.old.read + length piece.now }
+        ensures same { self.new.frontier.machine ≡ self.old.frontier.machine }
         ensures usable { OnOk result (IsTrue self.new.frontier.usable) }
         ensures open { self.new.frontier.ended ≡ false }
     {
@@ -74,6 +90,7 @@ impl<'p> Paths<'p> {
         ensures tells { IfOk result (λ parsed.
             TellsEnd parsed (Oracle.Paths self.old) code.old code.new) }
         ensures read { self.new.read ≡ self.old.read }
+        ensures same { self.new.frontier.machine ≡ self.old.frontier.machine }
     {
         let ended = self.frontier.end()?;
         let told = self.frontier.take_code();
@@ -97,6 +114,7 @@ impl<'p> Paths<'p> {
             self.new) actor.old actor.new piece.now count out.old.items out.new.items) }
         ensures read { IfOk result (λ count. self.new.read ≡ self.old.read + count) }
         ensures within { self.new.read ≤ self.old.read + length piece.now }
+        ensures same { self.new.frontier.machine ≡ self.old.frontier.machine }
         ensures usable { OnOk result (IsTrue self.new.frontier.usable × IsTrue actor.new.usable) }
         ensures open { self.new.frontier.ended ≡ false }
         ensures machine { actor.new.machine ≡ actor.old.machine }

@@ -1,9 +1,9 @@
 // A stage.
 
-ghost use Rattle.std.specs.Prelude.{◌≡◌, ◌&&◌, not, true, IfOk, IsTrue, None};
+ghost use Rattle.std.specs.Prelude.{◌≡◌, ◌&&◌, not, true, IfOk, OnOk, IsTrue, None};
 ghost use Rattle.kex_machine.specs.Answers.{HasRun, MeansByRun, SaysByRun, IsViableFor};
 ghost use Rattle.kex_pipe.specs.Working.{ClosesParsed, SaysViable};
-ghost use Rattle.kex_stage.specs.Oracles.{oracle_ended, learnt_of, read_of, usable_of};
+ghost use Rattle.kex_stage.specs.Oracles.{oracle_ended, read_of, usable_of};
 ghost use Rattle.kex_stage.specs.StageLaws.{answering};
 ghost use Rattle.kex_stage.specs.Stages.{Gives, StageFollows, refused_at};
 
@@ -14,8 +14,9 @@ use kex_code::code::Code;
 use kex_code::memory::Memory;
 use kex_pipe::bounded::Bounded;
 use kex_pipe::turn::{Fate, Stop, Turn};
-use kex_pipe::worker::Worker;
+use kex_pipe::worker::{BeginsAnew, Worker};
 use std::alloc::Global;
+use std::marker::Model;
 
 /// Works over the plan that it borrows: bytes come in pieces, and what the surviving paths agree on
 /// goes out as soon as it is agreed.
@@ -24,7 +25,19 @@ pub struct StageWorker<'p> {
     oracle: Oracle<'p>,
     actor: Actor<'p>,
     code: Code,
-    ghost one_machine: { learnt_of oracle actor.machine ≡ actor.machine },
+}
+
+impl<'p> Model for StageWorker<'p> {
+    ghost use Rattle.std.specs.Prelude.{◌≡◌};
+    ghost use Rattle.kex_stage.specs.Oracles.{IsOracleFor, learnt_of};
+    ghost use Rattle.kex_stage.specs.Stages.{WorkerState};
+
+    ghost Value = { WorkerState };
+
+    ghost view = { λ s. record { oracle = s.oracle; actor = s.actor } };
+
+    ghost invariant = { λ s. (learnt_of s.oracle s.actor.machine ≡ s.actor.machine)
+        × IsOracleFor s.actor.machine s.oracle };
 }
 
 impl<'p> Worker for StageWorker<'p> {
@@ -79,6 +92,17 @@ impl<'p> Worker for StageWorker<'p> {
     }
 }
 
+impl<'p> BeginsAnew for StageWorker<'p> {
+    fn begin_anew(&mut self) -> Result<(), Memory> {
+        if !self.oracle.usable() || !self.actor.usable() {
+            return Err(Memory);
+        }
+        self.oracle.begin_anew()?;
+        self.actor.begin_anew();
+        Ok(())
+    }
+}
+
 // The number of the byte behind the good ones, where that was refused.
 fn refused_at(refused: bool, good: u64) -> Option<u64>
     ensures { result ≡ refused_at refused good }
@@ -103,6 +127,18 @@ impl<'p> Stage<'p> {
     {
         let within = Bounded::new(alloc, plan, max_input)?;
         Ok(Stage { within })
+    }
+
+    /// Is as a new stage of its plan and limit: it has read nothing. What was learnt of the table
+    /// stays, and so does the room that it has.
+    ///
+    /// After `Memory` the stage may only be dropped.
+    pub fn begin_anew(&mut self) -> Result<(), Memory>
+        ensures plan { ⟦<Stage<'p> as Turn>⟧.plan self.new ≡ ⟦<Stage<'p> as Turn>⟧.plan self.old }
+        ensures stands { OnOk result (⟦<Stage<'p> as Turn>⟧.stands self.new None) }
+        ensures usable { OnOk result (IsTrue (⟦<Stage<'p> as Turn>⟧.is_usable self.new)) }
+    {
+        self.within.begin_anew()
     }
 }
 
