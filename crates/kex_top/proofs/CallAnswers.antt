@@ -41,7 +41,7 @@ use Rattle.kex_top.specs.Answer.{Said}
 use Rattle.kex_top.specs.Pipelines.{Answered, NodesSay, StagesSay, first_limit, stage_plans}
 use Rattle.kex_top.specs.Run.{IsAsBefore, Left, Ran, EndsAs, WritesAll}
 use Rattle.kex_top.specs.Kex.{CommandAnswers, CommandWorks}
-use Rattle.kex_top.specs.Modes.{BeginsParse, HasParseAlone, IsParseCode, WritesPart, MachineGives, MachinesSay, MeansCode, SaysCode, SaysNothing, SaysBy, StageGives, limits_of, limits_to_check}
+use Rattle.kex_top.specs.Modes.{BeginsTreeCode, HasParseAlone, IsTreeCode, WritesPart, MachineGives, MachinesSay, MeansCode, SaysCode, SaysNothing, SaysBy, StageGives, limits_of, limits_to_check}
 use Rattle.kex_pipe.specs.declared.report.Rejected.{Rejected as Report}
 use Rattle.kex_top.specs.declared.status.Status.{Status}
 use Rattle.kex_top.specs.declared.status.Status.TheVariants.{Done, Rejected, Usage, Refused, ReadFault, WriteFault, ShelfFault, Memory, TooLong}
@@ -128,13 +128,13 @@ turned h = (h.1, h.0)
 
 -- a machine answers as its stage does
 module _ (P : Grammar) (limit root : ℕ) (m : Graph) (c : Carries P root m) where
-  begun_alike : (d : List Symbol) → BeginsRun m d ↔ BeginsParse P root d
+  begun_alike : (d : List Symbol) → BeginsRun m d ↔ BeginsTreeCode P root d
   begun_alike d = (
     λ x. let t = c.trees x.0 x.1 in (t.0, t.1, (x.2.0, sym t.2.codes ∙ x.2.1)),
     λ x. let r = c.runs x.0 x.1 in (r.0, r.1, (x.2.0, r.2.codes ∙ x.2.1)),
   )
 
-  whole_alike : (d : List Symbol) → IsWholeCode m d ↔ IsParseCode P root d
+  whole_alike : (d : List Symbol) → IsWholeCode m d ↔ IsTreeCode P root d
   whole_alike d = (
     λ x. let t = c.trees x.0 x.1 in (t.0, t.1, sym t.2.codes ∙ x.2),
     λ x. let r = c.runs x.0 x.1 in (r.0, r.1, r.2.codes ∙ x.2),
@@ -152,7 +152,7 @@ module _ (P : Grammar) (limit root : ℕ) (m : Graph) (c : Carries P root m) whe
       sayings (nodes.IsViableFor m) (model.Viable P root) (single.SaysSharedCode m) (SaysCode P root) (nodes.HasRun m) (model.HasParse P root) (single.MeansRunCode m) (MeansCode P root)
       (λ v. turned (c.viable v)) (λ v s x. (x.0, (c.agreed v x.0).1 x.1, x.2)) (λ v p. (c.parsed v).0 p)
       (λ v s x. (x.0, record { parse = (c.parsed v).1 x.1.parse; greedy = (c.greedy v x.0).1 x.1.greedy; least = λ d g. x.1.least d ((c.greedy v d).0 g) }, x.2)) limit h
-  to_stage acting w e a h = playings (BeginsRun m) (BeginsParse P root) (IsWholeCode m) (IsParseCode P root) (plays.WritesRun m) (WritesPart P root) begun_alike whole_alike part_of_run limit h
+  to_stage acting w e a h = playings (BeginsRun m) (BeginsTreeCode P root) (IsWholeCode m) (IsTreeCode P root) (plays.WritesRun m) (WritesPart P root) begun_alike whole_alike part_of_run limit h
   to_stage testing w e a h =
       sayings (nodes.IsViableFor m) (model.Viable P root) (single.SaysNoText m) (SaysNothing P root) (nodes.HasRun m) (model.HasParse P root) (single.HasRunAlone m) (HasParseAlone P root)
       (λ v. turned (c.viable v)) (λ v s x. x) (λ v p. (c.parsed v).0 p) (λ v s x. ((c.viable v).1 x.0, (c.parsed v).1 x.1, x.2)) limit h
@@ -163,7 +163,7 @@ module _ (P : Grammar) (limit root : ℕ) (m : Graph) (c : Carries P root m) whe
       sayings (model.Viable P root) (nodes.IsViableFor m) (SaysCode P root) (single.SaysSharedCode m) (model.HasParse P root) (nodes.HasRun m) (MeansCode P root) (single.MeansRunCode m)
       (λ v. c.viable v) (λ v s x. (x.0, (c.agreed v x.0).0 x.1, x.2)) (λ v p. (c.parsed v).1 p)
       (λ v s x. (x.0, record { parse = (c.parsed v).0 x.1.parse; greedy = (c.greedy v x.0).0 x.1.greedy; least = λ d g. x.1.least d ((c.greedy v d).1 g) }, x.2)) limit h
-  to_machine acting w e a h = playings (BeginsParse P root) (BeginsRun m) (IsParseCode P root) (IsWholeCode m) (WritesPart P root) (plays.WritesRun m) (λ d. turned (begun_alike d)) (λ d. turned (whole_alike d)) run_of_part limit h
+  to_machine acting w e a h = playings (BeginsTreeCode P root) (BeginsRun m) (IsTreeCode P root) (IsWholeCode m) (WritesPart P root) (plays.WritesRun m) (λ d. turned (begun_alike d)) (λ d. turned (whole_alike d)) run_of_part limit h
   to_machine testing w e a h =
       sayings (model.Viable P root) (nodes.IsViableFor m) (SaysNothing P root) (single.SaysNoText m) (model.HasParse P root) (nodes.HasRun m) (HasParseAlone P root) (single.HasRunAlone m)
       (λ v. c.viable v) (λ v s x. x) (λ v p. (c.parsed v).1 p) (λ v s x. ((c.viable v).0 x.0, (c.parsed v).0 x.1, x.2)) limit h

@@ -44,7 +44,7 @@ use Rattle.kex_words.specs.Words.Mode.{running, coding, acting, testing}
 use Rattle.kex_words.specs.Gains.{StreamChange}
 use Rattle.kex_words.specs.declared.refusals.Refusal.{Refusal}
 use Rattle.kex_top.specs.Answer.{Said}
-use Rattle.kex_top.specs.Modes.{BeginsParse, HasParseAlone, IsParseCode, WritesPart, MeansCode, SaysBy, SaysCode, SaysNothing, StageGives, limits_of}
+use Rattle.kex_top.specs.Modes.{BeginsTreeCode, HasParseAlone, IsTreeCode, WritesPart, MeansCode, SaysBy, SaysCode, SaysNothing, StageGives, limits_of}
 use Rattle.kex_top.specs.Pipelines.{MeansInTurn}
 use Rattle.kex_top.specs.Run.{Ran, WritesAll}
 use Rattle.kex_top.specs.Commands.{StreamParses, calls_of, limits_for, told_text}
@@ -100,7 +100,7 @@ one_code P root w s t h k =
 
 -- what a part begins, and what more of a code adds
 module _ (P : Grammar) (root : ℕ) where
-  begins_front : (c d : List Symbol) → Begins d c → BeginsParse P root d → BeginsParse P root c
+  begins_front : (c d : List Symbol) → Begins d c → BeginsTreeCode P root d → BeginsTreeCode P root c
   begins_front c d (m, e) (t, is, q) = (t, is, (m ++ q.0, q.1 ∙ ap (λ z. z ++ q.0) e ∙ append_assoc c m q.0))
 
   more_part : (c d : List Symbol) (s t : List ℕ) → Begins d c → WritesPart P root c s → WritesPart P root d t → Begins t s
@@ -119,13 +119,13 @@ module _ (P : Grammar) (limit : ℕ) where
   one : (mode : Mode) (x : ℕ) (w : List ℕ) (e : Bool) (a b : Answer) → StageGives mode P limit x w e a → StageGives mode P limit x w e b → a ≡ b
   one (running n) x w e a b h k = one_answer (Viable P x) (Says P x) (HasParse P x) (Means P x) (orderly P x) limit (λ u s m. (m.0, m.1.parses)) (one_meaning P x) h k
   one coding x w e a b h k = one_answer (Viable P x) (SaysCode P x) (HasParse P x) (MeansCode P x) (orderly_code P x) limit (λ u s m. m.1.parse) (one_code P x) h k
-  one acting x w e a b h k = plays.one_answer (BeginsParse P x) (IsParseCode P x) (WritesPart P x) (begins_front P x) (more_part P x) limit h k
+  one acting x w e a b h k = plays.one_answer (BeginsTreeCode P x) (IsTreeCode P x) (WritesPart P x) (begins_front P x) (more_part P x) limit h k
   one testing x w e a b h k = one_answer (Viable P x) (SaysNothing P x) (HasParse P x) (HasParseAlone P x) (orderly_test P x) limit (λ u s m. m.1) (λ u s t m m'. m.2 ∙ sym m'.2) h k
 
   stands : (mode : Mode) (x : ℕ) (w v : List ℕ) (e : Bool) (a b : Answer) → StageGives mode P limit x w false a → StageGives mode P limit x (w ++ v) e b → Begins b.text a.text × ((a.stop ≡ None → ⊥) → b ≡ a)
   stands (running n) x w v e a b h k = stays (Viable P x) (Says P x) (HasParse P x) (Means P x) (orderly P x) limit (v, refl) h k
   stands coding x w v e a b h k = stays (Viable P x) (SaysCode P x) (HasParse P x) (MeansCode P x) (orderly_code P x) limit (v, refl) h k
-  stands acting x w v e a b h k = plays.stays (BeginsParse P x) (IsParseCode P x) (WritesPart P x) (begins_front P x) (more_part P x) limit (v, refl) h k
+  stands acting x w v e a b h k = plays.stays (BeginsTreeCode P x) (IsTreeCode P x) (WritesPart P x) (begins_front P x) (more_part P x) limit (v, refl) h k
   stands testing x w v e a b h k = stays (Viable P x) (SaysNothing P x) (HasParse P x) (HasParseAlone P x) (orderly_test P x) limit (v, refl) h k
 
   -- open input isn't handed on ended
@@ -137,7 +137,7 @@ module _ (P : Grammar) (limit : ℕ) where
   stays_open : (mode : Mode) (x : ℕ) (w : List ℕ) (a : Answer) → StageGives mode P limit x w false a → a.ended ≡ false
   stays_open (running n) x w a h = answer_open h
   stays_open coding x w a h = answer_open h
-  stays_open acting x w a h = plays.ends (BeginsParse P x) (IsParseCode P x) (WritesPart P x) (begins_front P x) (more_part P x) limit h
+  stays_open acting x w a h = plays.ends (BeginsTreeCode P x) (IsTreeCode P x) (WritesPart P x) (begins_front P x) (more_part P x) limit h
   stays_open testing x w a h = answer_open h
 
   module _ (mode : Mode) where

@@ -63,22 +63,22 @@ module _ (P : Grammar) (root : ℕ) where
   TestAnswers limit w e a =
       Answers (Viable P root) SaysNothing (HasParse P root) HasParseAlone limit w e a
 
-  -- c begins a parse's code
-  abbrev pub BeginsParse : List Symbol → Type 0
-  BeginsParse c = (t : Tree) × IsTree P (kind_at P root) t × Begins (code_at P root t) c
+  -- c begins the code of a tree
+  abbrev pub BeginsTreeCode : List Symbol → Type 0
+  BeginsTreeCode c = (t : Tree) × IsTree P (kind_at P root) t × Begins (code_at P root t) c
 
-  -- c is a parse's whole code
-  abbrev pub IsParseCode : List Symbol → Type 0
-  IsParseCode c = (t : Tree) × IsTree P (kind_at P root) t × (code_at P root t ≡ c)
+  -- c is the whole code of a tree
+  abbrev pub IsTreeCode : List Symbol → Type 0
+  IsTreeCode c = (t : Tree) × IsTree P (kind_at P root) t × (code_at P root t ≡ c)
 
-  -- the bytes of the part of a parse that its code's front c gives
+  -- the bytes of the part of a tree that its code's front c gives
   abbrev pub WritesPart : List Symbol → List ℕ → Type 0
   WritesPart c text = (t : Tree) × IsTree P (kind_at P root) t × Begins (code_at P root t) c
       × (text ≡ (part_meaning P (kind_at P root) t c (empty P)).bytes)
 
   -- what w means as the text of a code, within a limit
   abbrev pub ActAnswers : ℕ → List ℕ → Bool → Answer → Type 0
-  ActAnswers limit w e a = Plays BeginsParse IsParseCode WritesPart limit w e a
+  ActAnswers limit w e a = Plays BeginsTreeCode IsTreeCode WritesPart limit w e a
 
 -- the answer of a stage that begins there
 abbrev pub StageGives : Mode → Grammar → ℕ → ℕ → List ℕ → Bool → Answer → Type 0

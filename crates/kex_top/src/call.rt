@@ -97,9 +97,9 @@ fn answer<R: Threads + Sync, G: Gate + Sync, H: Shelf, S: Source, K: Sink>(
 /// the input breaks off or has no parse, exactly what its surviving paths agreed on before the
 /// first byte after which no continuation parses. Of a program of several stages each stage reads
 /// what the one before it wrote. `code` writes the code of the greedy parse, `act` what the input
-/// means as such a code, and `test` only asks whether there is a parse, all of a program of one
-/// stage. `check` writes a line with the counts of stages, places and states, and `trial` one that
-/// sums up what a program of its own writes for lines of its own.
+/// means as the code of a tree, and `test` only asks whether there is a parse, all of a program of
+/// one stage. `check` writes a line with the counts of stages, places and states, and `trial` one
+/// that sums up what a program of its own writes for lines of its own.
 pub fn kex<R: Threads + Sync, H: Shelf, S: Source, K: Sink, N: Sink, G: Gate + Sync>(
     rt: &R,
     alloc: Global,
