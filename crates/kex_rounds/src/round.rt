@@ -10,7 +10,7 @@ ghost use Rattle.kex_pipe.specs.Standing.{Stands, BeginsAnswer, HasWritten, in_h
 ghost use Rattle.kex_pipe.specs.Standing.{is_spent, is_in_round, stage_count};
 ghost use Rattle.kex_pipe.specs.Rounds.{Each, Works, LeftBy, turn_of};
 ghost use Rattle.kex_pipe.specs.Settling.{SettledTo};
-ghost use Rattle.kex_rounds.specs.Working.{AllWork};
+ghost use Rattle.kex_rounds.specs.Working.{AllWork, IsIdle};
 
 use kex_code::memory::Memory;
 use kex_pipe::pipe::{Pipe, PipeFault};
@@ -33,7 +33,17 @@ fn work_one<T: Turn, G: Gate>(gate: &G, stage: u32, seat: &mut Seat<T>) -> Resul
     worked
 }
 
-// The work of these seats, the first of which is that of this stage.
+// Whether none of the seats has anything to do.
+fn all_idle<T: Turn>(seats: &[Seat<T>]) -> bool
+    ensures { IsTrue result ↔ All (λ s. IsIdle T.Turn s) seats.now }
+{
+    seats
+        .iter()
+        .all(|seat| seat.staged.turned && seat.inbox.is_empty())
+}
+
+// The work of these seats, the first of which is that of this stage. Two halves that both have
+// something to do work at once; else a thread would cost more than it brings.
 fn work_all<R: Threads + Sync, T: Turn + Send, G: Gate + Sync>(
     rt: &R,
     gate: &G,
@@ -52,17 +62,24 @@ fn work_all<R: Threads + Sync, T: Turn + Send, G: Gate + Sync>(
     let half = seats.len() / 2;
     let next = first + half as u32;
     let (front, back) = seats.split_at_mut(half);
-    let (one, other) = join_mut(
-        rt,
-        &mut || -> Result<(), Memory>
-            requires { IsSync R.row × (first + length front.now ≤ 2 ^ 32) }
-            ensures { AllWork T.Turn (is_ok result) front.entry.now front.exit.now }
-        { work_all(rt, gate, first, front) },
-        &mut || -> Result<(), Memory>
-            requires { IsSync R.row × (next + length back.now ≤ 2 ^ 32) }
-            ensures { AllWork T.Turn (is_ok result) back.entry.now back.exit.now }
-        { work_all(rt, gate, next, back) },
-    );
+    let (one, other) = if all_idle(front) || all_idle(back) {
+        (
+            work_all(rt, gate, first, front),
+            work_all(rt, gate, next, back),
+        )
+    } else {
+        join_mut(
+            rt,
+            &mut || -> Result<(), Memory>
+                requires { IsSync R.row × (first + length front.now ≤ 2 ^ 32) }
+                ensures { AllWork T.Turn (is_ok result) front.entry.now front.exit.now }
+            { work_all(rt, gate, first, front) },
+            &mut || -> Result<(), Memory>
+                requires { IsSync R.row × (next + length back.now ≤ 2 ^ 32) }
+                ensures { AllWork T.Turn (is_ok result) back.entry.now back.exit.now }
+            { work_all(rt, gate, next, back) },
+        )
+    };
     one?;
     other
 }
