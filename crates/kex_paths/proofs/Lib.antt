@@ -11,3 +11,4 @@ pub mod TaskSteps
 pub mod InOrder
 pub mod LastEdges
 pub mod Alikes
+pub mod LeftTrees

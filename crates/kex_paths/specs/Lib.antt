@@ -5,3 +5,4 @@ pub mod Tasks
 pub mod Spellings
 pub mod Workspaces
 pub mod Laws
+pub mod KeptLeaves

@@ -125,6 +125,20 @@ impl Forest {
         self.push_root(Some(PathEdge { label, node }))
     }
 
+    // Two trees as the sides of a fork, as the last tree; of one that is gone no fork is left.
+    fn join(&mut self, left: Option<PathEdge>, right: Option<PathEdge>) -> Result<(), Memory>
+        ensures { OnOk result ((a : Option (Grown Part ℕ)) (b : Option (Grown Part ℕ))
+            (rs : List (Option (Grown Part ℕ))) → LeadsToTree self.old.edges left a
+            → LeadsToTree self.old.edges right b → HasTrees self.old rs
+            → HasTrees self.new (fork_of a b ∷ rs)) }
+    {
+        match (left, right) {
+            (None, right) => self.push_root(right),
+            (Some(left), None) => self.push_root(Some(left)),
+            (Some(left), Some(right)) => self.add_fork(left, right),
+        }
+    }
+
     /// The last two trees as the sides of a fork; of one that is gone no fork is left.
     pub fn merge(&mut self) -> Result<(), Memory>
         ensures { OnOk result ((rs : List (Option (Grown Part ℕ))) → HasTrees self.old rs
@@ -133,11 +147,19 @@ impl Forest {
     {
         let right = self.pop_root();
         let left = self.pop_root();
-        match (left, right) {
-            (None, right) => self.push_root(right),
-            (Some(left), None) => self.push_root(Some(left)),
-            (Some(left), Some(right)) => self.add_fork(left, right),
-        }
+        self.join(left, right)
+    }
+
+    /// The last two trees as the sides of a fork, of which the last is the left one; of one that is
+    /// gone no fork is left.
+    pub fn merge_turned(&mut self) -> Result<(), Memory>
+        ensures { OnOk result ((rs : List (Option (Grown Part ℕ))) → HasTrees self.old rs
+            → HasTrees self.new (fork_of (last_tree rs) (last_tree (trees_before rs))
+            ∷ trees_before (trees_before rs))) }
+    {
+        let left = self.pop_root();
+        let right = self.pop_root();
+        self.join(left, right)
     }
 
     /// A part in front of the last tree.

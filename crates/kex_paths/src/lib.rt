@@ -9,6 +9,7 @@
 mod advance;
 mod forest;
 pub mod laws;
+mod restrict;
 pub mod tree;
 mod walk;
 pub mod workspace;

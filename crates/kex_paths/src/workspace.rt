@@ -41,8 +41,8 @@ impl<'m> Model for Workspace<'m> {
     ghost invariant = { λ w. IsWorkspaceReady w.machine.now w.samples w.tools.marks };
 }
 
-// A byte of each class.
-fn samples_of(partition: &Partition) -> [Option<u8>; 256]
+/// A byte of each class.
+pub fn samples_of(partition: &Partition) -> [Option<u8>; 256]
     ensures { AreSamples partition.now result }
 {
     let mut samples = [None; 256];
