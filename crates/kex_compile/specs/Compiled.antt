@@ -10,8 +10,9 @@ use Rattle.kex_reader.specs.declared.refusal.ReadRefusal.TheVariants as read
 use Rattle.kex_rules.specs.Rules.{IsRuled, IsRuleCause}
 use Rattle.kex_rules.specs.declared.refusal.RuleRefusal.{RuleRefusal}
 use Rattle.kex_rules.specs.declared.refusal.RuleRefusal.TheVariants as rule
-use Rattle.kex_compile.specs.Stages.{AllRun, KeepsToOneStage, KeepsToStates, Plans, ArePlans}
-use Rattle.kex_compile.specs.Stages.{IsUnplanned, roots_of}
+use Rattle.kex_machine.specs.Nodes.{Graph}
+use Rattle.kex_compile.specs.Stages.{AllRun, AreStages, KeepsToOneStage, KeepsToStates, Plans}
+use Rattle.kex_compile.specs.Stages.{ArePlans, IsUnplanned, roots_of}
 use Rattle.kex_compile.specs.declared.limits.Limits.{Limits}
 use Rattle.kex_compile.specs.declared.refusal.PlanRefusal.{PlanRefusal}
 use Rattle.kex_compile.specs.declared.refusal.PlanRefusal.TheVariants as plan
@@ -39,6 +40,13 @@ pub record IsCompiled (limits : Limits) (text : List ℕ) (plans : Plans) : Type
   pub program : Grammar
   pub accepts : Accepts limits text program
   pub plans_of : ArePlans limits program plans
+
+-- the machines are those of the stages of a program that the text spells
+pub record HasMachines (text : List ℕ) (ms : List Graph) : Type 0 where
+  pub program : Grammar
+  pub spells : Spells text program
+  pub ruled : IsRuled program
+  pub stages : AreStages program 1 (roots_of program) ms
 
 -- the text spells a program that breaks this rule, and none before it
 abbrev pub BreaksRule : List ℕ → RuleRefusal → Type 0

@@ -5,8 +5,9 @@
 //! that it breaks.
 #![tactic(auto)]
 
-ghost use Rattle.std.specs.Prelude.{◌≡◌, ◌<◌, IfOk, IfErr};
-ghost use Rattle.kex_compile.specs.Compiled.{IsCompiled, IsRefused};
+ghost use Rattle.std.specs.Prelude.{◌≡◌, ◌<◌, ◌^◌, IfOk, IfErr, length};
+ghost use Rattle.kex_compile.specs.Compiled.{HasMachines, IsCompiled, IsRefused};
+ghost use Rattle.kex_compile.specs.declared.limits.Limits.{Limits};
 
 pub mod compiled;
 mod firsts;
@@ -20,7 +21,8 @@ mod tables;
 use crate::compiled::Compiled;
 use crate::limits::Limits;
 use crate::refusal::CompileRefusal;
-use crate::stages::plan_stages;
+use crate::stages::{lower_stages, plan_stages};
+use kex_machine::Trimmed;
 use kex_reader::read;
 use kex_rules::check;
 use std::alloc::Global;
@@ -38,4 +40,17 @@ pub fn compile(alloc: Global, text: &[u8], limits: &Limits) -> Result<Compiled, 
     let ruled = check(alloc, &program)?;
     let compiled = plan_stages(alloc, ruled.program(), limits)?;
     Ok(compiled)
+}
+
+/// The machines of a program text's stages, in their order: what `compile` makes before tables are
+/// asked for. The text is refused as by `compile`, if it breaks a rule of the language.
+pub fn machines(alloc: Global, text: &[u8]) -> Result<Vec<Trimmed>, CompileRefusal>
+    ensures machines { IfOk result (λ ms. HasMachines text.now ms.items) }
+    ensures few { IfOk result (λ ms. length ms.items < 2 ^ 32) }
+    ensures refused { IfErr result (λ e. (limits : Limits) → IsRefused limits text.now e) }
+{
+    let program = read(alloc, text)?;
+    let ruled = check(alloc, &program)?;
+    let lowered = lower_stages(alloc, ruled.program())?;
+    Ok(lowered.into_machines())
 }

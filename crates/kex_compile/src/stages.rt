@@ -28,9 +28,9 @@ fn root_of(program: &Program, name: u32) -> u32
     }
 }
 
-// The machines of a program's stages, or the refusal by the rule of the lowest number, and of the
-// stages that are refused by it the first.
-fn lower_stages(alloc: Global, program: &Program) -> Result<Lowered, PlanRefusal>
+/// The machines of a program's stages, or the refusal by the rule of the lowest number, and of the
+/// stages that are refused by it the first.
+pub(crate) fn lower_stages(alloc: Global, program: &Program) -> Result<Lowered, PlanRefusal>
     requires few { length program.now.stages < 2 ^ 32 }
     ensures machines { IfOk result (λ l. AreMachines program.now l) }
     ensures refused { IfErr result (λ e. (limits : Limits) → IsUnplanned limits program.now e) }

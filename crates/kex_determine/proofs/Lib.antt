@@ -1,8 +1,8 @@
-mod MachineTables
+pub mod MachineTables
 mod DifferentShapes
 mod ShapeKeys
 mod Targets
-mod Transitions
+pub mod Transitions
 mod FirstLeaves
 mod StateRows
-mod TableForms
+pub mod TableForms

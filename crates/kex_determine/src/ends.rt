@@ -42,7 +42,7 @@ fn registers(alloc: Global, numbers: &[u32]) -> Result<Parts, Memory>
 
 /// The registers on the way to the first leaf at which a text may end, if there is one, by the
 /// shape of a tree in preorder and its leaves.
-pub(crate) fn way_to_end(
+pub fn way_to_end(
     alloc: Global,
     nodes: &[MNode],
     shape: &[bool],

@@ -5,7 +5,7 @@
 //! contract of `determine` is the crate's.
 #![tactic(auto)]
 
-mod ends;
+pub mod ends;
 pub mod refusal;
 mod rows;
 mod states;
