@@ -7,16 +7,24 @@ use kex_rounds::round::round;
 use std::sync::atomic::Ordering;
 use std::test::Fail;
 
+// Any two stages meet that have something to do: their first turn, or what waits before them.
+// Where only one has, the caller works them one after another.
 #[test]
 fn any_two_stages_meet(rt: HostRuntime) -> Result<(), Fail> {
     let alloc = rt.alloc();
     let mut pipe = Pipe::new(alloc, vec![in alloc; copy(), copy(), copy(), copy()]?)?;
     let first = MeetGate::new(1, 2);
     round(&rt, &mut pipe, &first)?;
+    pipe.give(b"abc")?;
+    let alone = MeetGate::new(1, 2);
+    round(&rt, &mut pipe, &alone)?;
+    pipe.turn(2, 2)?;
+    pipe.turn(3, 1)?;
     let second = MeetGate::new(3, 4);
     round(&rt, &mut pipe, &second)?;
     assert!(rt; first.saw(1));
     assert!(rt; first.saw(2));
+    assert!(rt; alone.saw(2) && !alone.saw(1));
     assert!(rt; second.saw(3));
     assert!(rt; second.saw(4));
     Ok(())
