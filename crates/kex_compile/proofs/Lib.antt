@@ -16,4 +16,4 @@ pub mod States
 pub mod ProgramAnswers
 pub mod FewStages
 pub mod StageTables
-mod Refusals
+mod StageRefusals

@@ -10,7 +10,7 @@ ghost use Rattle.kex_pipe.specs.Standing.{Stands, BeginsAnswer, HasWritten, in_h
 ghost use Rattle.kex_pipe.specs.Standing.{is_spent, is_in_round, stage_count};
 ghost use Rattle.kex_pipe.specs.Rounds.{Each, Works, LeftBy, turn_of};
 ghost use Rattle.kex_pipe.specs.Settling.{SettledTo};
-ghost use Rattle.kex_rounds.specs.Working.{AllWork, IsIdle};
+ghost use Rattle.kex_rounds.specs.Working.{AllWork, HasNoItems};
 
 use kex_code::memory::Memory;
 use kex_pipe::pipe::{Pipe, PipeFault};
@@ -35,7 +35,7 @@ fn work_one<T: Turn, G: Gate>(gate: &G, stage: u32, seat: &mut Seat<T>) -> Resul
 
 // Whether none of the seats has anything to do.
 fn all_idle<T: Turn>(seats: &[Seat<T>]) -> bool
-    ensures { IsTrue result ↔ All (λ s. IsIdle T.Turn s) seats.now }
+    ensures { IsTrue result ↔ All (λ s. HasNoItems T.Turn s) seats.now }
 {
     seats
         .iter()

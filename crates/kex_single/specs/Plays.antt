@@ -20,8 +20,8 @@ pub record IsBadByte (u : List ℕ) (k : ℕ) : Type 0 where
   pub before : BeginsText (take k u)
   pub bad : BeginsText (take (k + 1) u) → ⊥
 
--- by the codes that begin a tree's code, those that are a tree's whole code, and what is written for
--- one
+-- by the codes that begin a tree's code, those that are a tree's whole code, and what is written
+-- for one
 module _ (BeginsTreeCode : List Symbol → Type 0) (IsTreeCode : List Symbol → Type 0)
     (Writes : List Symbol → List ℕ → Type 0) where
   -- of the codes whose text stands at the front of u, and that begin a tree's code, the longest

@@ -7,7 +7,7 @@ use Rattle.kex_compile.specs.Stages.{ArePlans, IsUnplanned, KeepsToOneStage, Kee
 use Rattle.kex_compile.proofs.FirstStages.{all-run}
 use Rattle.kex_reader.specs.Checks.{most_stages}
 use Rattle.kex_compile.proofs.FewStages.{few_stages}
-use Rattle.kex_compile.proofs.Refusals.{unplanned, unread, unruled}
+use Rattle.kex_compile.proofs.StageRefusals.{unplanned, unread, unruled}
 use Rattle.kex_compile.proofs.compile.Goals as goal
 
 pub returns-in_err-program-clause-refused : goal.returns-in_err-program-clause-refused

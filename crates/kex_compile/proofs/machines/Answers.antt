@@ -7,7 +7,7 @@ use Rattle.kex_compile.specs.Compiled.{IsRefused, of_plan, of_read, of_rule}
 use Rattle.kex_compile.specs.Stages.{AreMachines, AreStages, IsUnplanned, roots_of}
 use Rattle.kex_compile.specs.declared.limits.Limits.{Limits}
 use Rattle.kex_compile.proofs.FewStages.{few_stages}
-use Rattle.kex_compile.proofs.Refusals.{unplanned, unread, unruled}
+use Rattle.kex_compile.proofs.StageRefusals.{unplanned, unread, unruled}
 use Rattle.kex_compile.proofs.machines.Goals as goal
 
 pub returns-in_err-program-clause-refused : goal.returns-in_err-program-clause-refused
