@@ -1,4 +1,5 @@
 //! A call of `kex` over objects in memory, and rows of such calls.
+use crate::long::around;
 use kex_ports::{MemShelf, MemSink, MemSource, OpenGate};
 use kex_top::kex;
 use std::alloc::{AllocError, Global};
@@ -6,23 +7,29 @@ use std::str::from_utf8;
 use std::test::Fail;
 use std::thread::Threads;
 
-/// The numbers of the calls that fail, from 1; none for 0.
+/// How many bytes a call of the ports reads and writes at most, and the numbers of the calls that
+/// fail, from 1; none for 0.
 #[derive(Clone, Copy)]
-pub(crate) struct Failing {
+pub(crate) struct Ports {
+    pub given: usize,
+    pub taken: usize,
     pub take: u64,
     pub read: u64,
     pub write: u64,
     pub note: u64,
 }
 
-pub(crate) const NONE: Failing = Failing {
+/// Ports without a fault, which give and take what is asked.
+pub(crate) const USUAL: Ports = Ports {
+    given: 2_000_000,
+    taken: 2_000_000,
     take: 0,
     read: 0,
     write: 0,
     note: 0,
 };
 
-/// Words, what lies before the call and what is held behind it, and the number of its status with
+/// Words, what lies before the call and what is held afterwards, and the number of its status with
 /// the note.
 #[derive(Clone, Copy)]
 pub(crate) struct Case<'a> {
@@ -31,24 +38,7 @@ pub(crate) struct Case<'a> {
     pub input: &'a [u8],
     pub held: &'a [u8],
     pub answer: &'a str,
-    /// The most bytes that one call reads, and that one writes.
-    pub given: usize,
-    pub taken: usize,
-    pub failing: Failing,
-}
-
-/// A run of a program on no input, for as long as the case that differs from it lives.
-pub(crate) fn plain<'a>() -> Case<'a> {
-    Case {
-        words: "kex run p",
-        program: b"main := /a*/",
-        input: b"",
-        held: b"",
-        answer: "0",
-        given: 2_000_000,
-        taken: 2_000_000,
-        failing: NONE,
-    }
+    pub ports: Ports,
 }
 
 pub(crate) fn words_of(alloc: Global, line: &str) -> Result<Vec<String>, AllocError> {
@@ -66,16 +56,18 @@ pub(crate) fn holds<R: Threads + Sync>(
     case: &Case<'_>,
 ) -> Result<bool, Fail> {
     let words = words_of(alloc, case.words)?;
-    let (given, taken) = (case.given.max(1), case.taken.max(1));
-    let mut shelf = MemShelf::new(alloc, vec![in alloc; case.failing.take]?);
+    let ports = case.ports;
+    let mut shelf = MemShelf::new(alloc, vec![in alloc; ports.take]?);
     shelf.put("p", case.program)?;
-    let mut input = MemSource::new(
-        case.input.to_vec(alloc)?,
-        given,
-        vec![in alloc; case.failing.read]?,
-    );
-    let mut output = MemSink::new(alloc, 2_000_000, taken, vec![in alloc; case.failing.write]?)?;
-    let mut notes = MemSink::new(alloc, 256, 256, vec![in alloc; case.failing.note]?)?;
+    let given = case.input.to_vec(alloc)?;
+    let mut input = MemSource::new(given, ports.given.max(1), vec![in alloc; ports.read]?);
+    let mut output = MemSink::new(
+        alloc,
+        2_000_000,
+        ports.taken.max(1),
+        vec![in alloc; ports.write]?,
+    )?;
+    let mut notes = MemSink::new(alloc, 256, 256, vec![in alloc; ports.note]?)?;
     let status = kex(
         rt,
         alloc,
@@ -90,18 +82,40 @@ pub(crate) fn holds<R: Threads + Sync>(
     Ok(output.bytes() == case.held && answer.trim() == case.answer)
 }
 
-/// The bytes of a row's part, in which `$` stands for a line feed.
-pub(crate) fn bytes_of(alloc: Global, text: &str) -> Result<Vec<u8>, AllocError> {
-    let mut bytes = Vec::new(alloc);
-    for byte in text.as_bytes() {
-        bytes.push(if *byte == b'$' { b'\n' } else { *byte })?;
-    }
+// The bytes of a row's part: `$` stands for a line feed, and `a%b%3%c` for `abbbc`.
+fn bytes_of(alloc: Global, part: &str) -> Result<Vec<u8>, Fail> {
+    let text = part.replace(alloc, '$', "\n")?;
+    let mut pieces = text.split('%');
+    let front = pieces.next().unwrap_or("").as_bytes();
+    let middle = pieces.next().unwrap_or("").as_bytes();
+    let times = pieces.next().unwrap_or("0").parse::<u32>()?;
+    let end = pieces.next().unwrap_or("").as_bytes();
+    let bytes = around(alloc, front, middle, times as usize, end)?;
     Ok(bytes)
 }
 
-/// Whether a row holds: words, a program, an input, what is written, and the answer. The option is
-/// one more word.
-pub(crate) fn row_holds<R: Threads + Sync>(
+// Ports that differ from the usual ones, as in `read=3 given=1`.
+fn ports_of(part: &str) -> Result<Ports, Fail> {
+    let mut ports = USUAL;
+    for setting in part.split(' ') {
+        let (name, digits) = setting.split_once('=').ok_or("no setting")?;
+        let number = digits.parse::<u32>()?;
+        match name {
+            "given" => ports.given = number as usize,
+            "taken" => ports.taken = number as usize,
+            "take" => ports.take = u64::from(number),
+            "read" => ports.read = u64::from(number),
+            "write" => ports.write = u64::from(number),
+            "note" => ports.note = u64::from(number),
+            _ => return Err(Fail::new("no such port")),
+        }
+    }
+    Ok(ports)
+}
+
+// Whether a row holds: words, a program, an input, what is written, the answer, and ports if they
+// aren't the usual ones. The option is one more word.
+fn row_holds<R: Threads + Sync>(
     rt: &R,
     alloc: Global,
     row: &str,
@@ -110,16 +124,38 @@ pub(crate) fn row_holds<R: Threads + Sync>(
     let mut parts = row.split(" # ");
     let words = parts.next().ok_or("no words")?;
     let words = format!(in alloc; "kex {words} {option}")?;
-    let program = parts.next().ok_or("no program")?;
+    let program = bytes_of(alloc, parts.next().ok_or("no program")?)?;
     let input = bytes_of(alloc, parts.next().ok_or("no input")?)?;
     let held = bytes_of(alloc, parts.next().ok_or("no output")?)?;
+    let answer = parts.next().ok_or("no answer")?;
+    let ports = match parts.next() {
+        Some(part) => ports_of(part)?,
+        None => USUAL,
+    };
     let case = Case {
         words: words.as_str(),
-        program: program.as_bytes(),
+        program: program.as_slice(),
         input: input.as_slice(),
         held: held.as_slice(),
-        answer: parts.next().ok_or("no answer")?,
-        ..plain()
+        answer,
+        ports,
     };
     holds(rt, alloc, &case)
+}
+
+/// Fails at the first row that doesn't hold with one of the options.
+pub(crate) fn each_holds<R: Threads + Sync>(
+    rt: &R,
+    alloc: Global,
+    rows: &str,
+    options: &[&str],
+) -> Result<(), Fail> {
+    for row in rows.trim().lines() {
+        for option in options {
+            if !row_holds(rt, alloc, row, option)? {
+                return Err(Fail::new(format_args!("{option}: {row}")));
+            }
+        }
+    }
+    Ok(())
 }

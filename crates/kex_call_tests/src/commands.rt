@@ -1,8 +1,6 @@
 //! The other commands, and each kind of status and note.
-use crate::call::row_holds;
+use crate::call::each_holds;
 use std::test::Fail;
-
-const BLOCKS: [&str; 3] = ["--block=1", "--block=7", "--block=65536"];
 
 // Where two places are left that part by no symbol, nothing is agreed on; and a begun symbol is
 // none yet.
@@ -20,6 +18,13 @@ act p # main := "1" /ac/ | "2" /ab/ # 1'61 # 2a # 1 rejected: stage 1 at byte 4 
 act p # main := "1" /ac/ | "2" /ab/ # 1'7 # 2 # 1 rejected: stage 1 at byte 3 (end)
 code p # main := (/a?/ (1 | /b/))* # ab # 00'611'621 # 0
 code p # main := "<" /[ab]*?/ ">" /b*/ # abb # 1'6100'620'621 # 0
+code p # main := /a+?/ /a?/ # aa # '6100'61 # 0
+code p # main := /a{2}?/ # aa # '61'61 # 0
+code p # main := /a{2,}?/ # aaa # '61'611'610 # 0
+code p # main := /a{,2}?/ # aa # 1'611'61 # 0
+act p # main := /a{1,2}?/ # '610 # a # 0
+act p # main := /a{1,2}?/ # '611'61 # aa # 0
+act p # main := /a{1,2}?/ # '611'610 # aa # 1 rejected: stage 1 at byte 7
 code p # main := /a??/ "x" /a?/ # a # 00'61 # 0
 code p # main := (/a*/)* # aa # 00'610'6111 # 0
 code p # main := (/a*/)* # ab # 00'61 # 1 rejected: stage 1 at byte 1
@@ -45,12 +50,12 @@ trial 2 --rings=1 #  #  # lines 2 in 18 out 18 roll 1142616778$ # 0
 
 #[test]
 fn commands_on_an_input(rt: HostRuntime) -> Result<(), Fail> {
-    for row in ON_INPUT.trim().lines() {
-        for block in &BLOCKS {
-            assert!(&rt; row_holds(&rt, rt.alloc(), row, block)?, "{block} {row}");
-        }
-    }
-    Ok(())
+    each_holds(
+        &rt,
+        rt.alloc(),
+        ON_INPUT,
+        &["--block=1", "--block=7", "--block=65536"],
+    )
 }
 
 // Counts, refusals with each kind of place, words out of form, and a name that isn't on the shelf.
@@ -63,6 +68,9 @@ run p # main := /a/ main /b/ | 1 # a #  # 3 refused: K10 NotTail at line 1 colum
 run p # main := main # a #  # 3 refused: K13 NoText in stage 1
 run p # main := /a/*?? # a #  # 3 refused: K02 Unexpected at line 1 column 14
 run p # main := /a*??/ # a #  # 3 refused: K03 BadRegex at line 1 column 13
+run p # main := /a$/ # a #  # 3 refused: K01 BadToken at line 1 column 9
+run p # main := "a$" # a #  # 3 refused: K01 BadToken at line 1 column 9
+run p # main :=$/a/ // "$ foo # a #  # 3 refused: K08 Unknown at line 3 column 2
 check p # main := (/a*/)* # a # stages 1 places 4 states 1$ # 0
 check p # main := ("x")+ # a # stages 1 places 4 states 1$ # 0
 run p # start: a >> b a := (/b*/)* b := /a/ b # a #  # 3 refused: K13 NoText in stage 2
@@ -80,8 +88,5 @@ run q # main := /a*/ # a #  # 6 shelf fault
 
 #[test]
 fn commands_without_an_input(rt: HostRuntime) -> Result<(), Fail> {
-    for row in WITHOUT_INPUT.trim().lines() {
-        assert!(&rt; row_holds(&rt, rt.alloc(), row, "--")?, "{row}");
-    }
-    Ok(())
+    each_holds(&rt, rt.alloc(), WITHOUT_INPUT, &["--"])
 }

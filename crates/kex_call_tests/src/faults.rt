@@ -1,6 +1,6 @@
 //! Ports of which a call fails: each read and each write of a run in turn, up to one past the last.
 //! A read gives a byte, and a write takes one.
-use crate::call::{Case, Failing, NONE, holds, plain};
+use crate::call::{Case, Ports, USUAL, each_holds, holds};
 use std::alloc::Global;
 use std::test::Fail;
 use std::thread::Threads;
@@ -23,7 +23,7 @@ test # main := /ab*c/ # ac # ,,, #  # 0
 "#;
 
 // Whether a run holds by each of these texts, where the call of its number fails.
-fn each_holds<R: Threads + Sync>(
+fn each_fails<R: Threads + Sync>(
     rt: &R,
     alloc: Global,
     usual: Case<'_>,
@@ -34,14 +34,12 @@ fn each_holds<R: Threads + Sync>(
     let mut call = 0_u64;
     for held in texts.split(',') {
         call = call.saturating_add(1);
-        let failing = if reads {
-            Failing { read: call, ..NONE }
+        let mut ports = usual.ports;
+        if reads {
+            ports.read = call;
         } else {
-            Failing {
-                write: call,
-                ..NONE
-            }
-        };
+            ports.write = call;
+        }
         let answer = match (call < last, reads) {
             (false, _) => usual.answer,
             (true, true) => "4 read fault",
@@ -50,7 +48,7 @@ fn each_holds<R: Threads + Sync>(
         let case = Case {
             held: held.as_bytes(),
             answer,
-            failing,
+            ports,
             ..usual
         };
         if !holds(rt, alloc, &case)? {
@@ -60,7 +58,7 @@ fn each_holds<R: Threads + Sync>(
     Ok(true)
 }
 
-fn row_holds<R: Threads + Sync>(
+fn row_fails<R: Threads + Sync>(
     rt: &R,
     alloc: Global,
     row: &str,
@@ -77,14 +75,17 @@ fn row_holds<R: Threads + Sync>(
         words: words.as_str(),
         program: program.as_bytes(),
         input: input.as_bytes(),
+        held: b"",
         answer: parts.next().ok_or("no answer")?,
-        given: 1,
-        taken: 1,
-        ..plain()
+        ports: Ports {
+            given: 1,
+            taken: 1,
+            ..USUAL
+        },
     };
     Ok(
-        each_holds(rt, alloc, usual, by_read, true)?
-            && each_holds(rt, alloc, usual, by_write, false)?,
+        each_fails(rt, alloc, usual, by_read, true)?
+            && each_fails(rt, alloc, usual, by_write, false)?,
     )
 }
 
@@ -92,98 +93,36 @@ fn row_holds<R: Threads + Sync>(
 fn each_call_fails(rt: HostRuntime) -> Result<(), Fail> {
     for row in RUNS.trim().lines() {
         for block in &BLOCKS {
-            assert!(&rt; row_holds(&rt, rt.alloc(), row, block)?, "{block} {row}");
+            assert!(&rt; row_fails(&rt, rt.alloc(), row, block)?, "{block} {row}");
         }
     }
     Ok(())
 }
 
 // A fault of writing is told before one of reading; a sink that takes two bytes a write holds two
-// when its second write fails; and one of the notes changes no status.
+// when its second write fails; a fault of the notes changes no status; each part of the line that a
+// check writes is a write, and then the end; and the shelf fails each command.
+const OTHERS: &str = r#"
+run p # main := /a*/ # aaa # aaa # 5 write fault # given=1 taken=1 read=4 write=4
+run p # main := /a*/ # aaa # aa # 5 write fault # given=3 taken=2 write=2
+run p # main := /a*/ # aaa # aaa # 0 # given=1 taken=2
+run p # main := /ab*c/ # abx # ab # 1 # note=1
+check p # main := /a*/ # aaa #  # 5 write fault # read=1 write=1
+check p # main := /a*/ # aaa # stages  # 5 write fault # read=1 write=2
+check p # main := /a*/ # aaa # stages 1 # 5 write fault # read=1 write=3
+check p # main := /a*/ # aaa # stages 1 places  # 5 write fault # read=1 write=4
+check p # main := /a*/ # aaa # stages 1 places 3 # 5 write fault # read=1 write=5
+check p # main := /a*/ # aaa # stages 1 places 3 states  # 5 write fault # read=1 write=6
+check p # main := /a*/ # aaa # stages 1 places 3 states 1 # 5 write fault # read=1 write=7
+check p # main := /a*/ # aaa # stages 1 places 3 states 1$ # 5 write fault # read=1 write=8
+run p # main := /a*/ # aaa #  # 6 shelf fault # take=1
+code p # main := /a*/ # aaa #  # 6 shelf fault # take=1
+act p # main := /a*/ # aaa #  # 6 shelf fault # take=1
+test p # main := /a*/ # aaa #  # 6 shelf fault # take=1
+check p # main := /a*/ # aaa #  # 6 shelf fault # take=1
+"#;
+
 #[test]
 fn other_calls_fail(rt: HostRuntime) -> Result<(), Fail> {
-    let both = Case {
-        input: b"aaa",
-        held: b"aaa",
-        answer: "5 write fault",
-        given: 1,
-        taken: 1,
-        failing: Failing {
-            read: 4,
-            write: 4,
-            ..NONE
-        },
-        ..plain()
-    };
-    assert!(&rt; holds(&rt, rt.alloc(), &both)?);
-    let halves = Case {
-        held: b"aa",
-        taken: 2,
-        failing: Failing { write: 2, ..NONE },
-        ..both
-    };
-    assert!(&rt; holds(&rt, rt.alloc(), &Case { given: 3, ..halves })?);
-    let whole = Case {
-        held: b"aaa",
-        answer: "0",
-        failing: NONE,
-        ..halves
-    };
-    assert!(&rt; holds(&rt, rt.alloc(), &whole)?);
-    let untold = Case {
-        program: b"main := /ab*c/",
-        input: b"abx",
-        held: b"ab",
-        answer: "1",
-        failing: Failing { note: 1, ..NONE },
-        ..plain()
-    };
-    assert!(&rt; holds(&rt, rt.alloc(), &untold)?);
-    Ok(())
-}
-
-// Each part of the line that a check writes is a write, and then the end.
-#[test]
-fn each_write_of_a_check_fails(rt: HostRuntime) -> Result<(), Fail> {
-    let alloc = rt.alloc();
-    let mut held = Vec::new(alloc);
-    let mut call = 0_u64;
-    for part in ["stages ", "1", " places ", "3", " states ", "1", "\n", ""] {
-        call = call.saturating_add(1);
-        let case = Case {
-            words: "kex check p",
-            held: held.as_slice(),
-            answer: "5 write fault",
-            failing: Failing {
-                read: 1,
-                write: call,
-                ..NONE
-            },
-            ..plain()
-        };
-        assert!(&rt; holds(&rt, alloc, &case)?, "write {call}");
-        held.extend_from_slice(part.as_bytes())?;
-    }
-    Ok(())
-}
-
-#[test]
-fn the_shelf_fails(rt: HostRuntime) -> Result<(), Fail> {
-    for words in [
-        "kex run p",
-        "kex code p",
-        "kex act p",
-        "kex test p",
-        "kex check p",
-    ] {
-        let case = Case {
-            words,
-            input: b"aaa",
-            answer: "6 shelf fault",
-            failing: Failing { take: 1, ..NONE },
-            ..plain()
-        };
-        assert!(&rt; holds(&rt, rt.alloc(), &case)?, "{words}");
-    }
-    Ok(())
+    each_holds(&rt, rt.alloc(), OTHERS, &["--"])
 }

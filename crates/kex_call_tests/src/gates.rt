@@ -1,5 +1,5 @@
 //! Gates that see stages work at once, and count how often one works.
-use crate::call::{plain, words_of};
+use crate::call::words_of;
 use kex_ports::{Gate, MeetGate, MemShelf, MemSink, MemSource, NeverFailsSink};
 use kex_top::{Status, kex};
 use std::alloc::Global;
@@ -70,49 +70,36 @@ impl Gate for EntryGate {
     fn leave(&self, _stage: u32) {}
 }
 
-// Work begins once before the first byte, and once at the end. Between them a round takes all that
-// came; over rings a stage takes in a round no more than 16 times a ring's room, and after 64
-// rounds the rest is settled.
-#[test]
-fn a_stage_works_as_often_as_its_ring_wants(rt: HostRuntime) -> Result<(), Fail> {
-    let rows = [
-        ("kex run p --block=65536", 2_000, 3),
-        ("kex run p --rings=1", 1_000, 65),
-        ("kex run p --rings=1", 2_000, 66),
-        ("kex run p --rings=2", 2_000, 65),
-        ("kex run p --rings=4096", 2_000, 3),
-    ];
-    for (words, bytes, count) in rows {
-        let gate = EntryGate {
-            entries: AtomicU32::new(0),
-        };
-        let (status, _) = call(&rt, rt.alloc(), words, plain().program, bytes, &gate)?;
-        assert!(&rt; status == Status::Done, "{words} {bytes}");
-        let counted = gate.entries.load(Ordering::SeqCst);
-        assert!(&rt; counted == count, "{words} {bytes}: {counted}");
-    }
-    Ok(())
-}
+// How often work begins on so many bytes. It begins once before the first byte, and once at the
+// end. Between them a round takes all that came; over rings a stage takes in a round no more than
+// 16 times a ring's room, and after 64 rounds the rest is settled. A trial of one line has nine
+// bytes and goes by blocks through two stages, of which the first writes at the end of the line.
+const COUNTS: &str = "\
+run p --block=65536 # 2000 # 3
+run p --rings=1 # 1000 # 65
+run p --rings=1 # 2000 # 66
+run p --rings=2 # 2000 # 65
+run p --rings=4096 # 2000 # 3
+trial 1 # 0 # 10
+trial 1 --block=9 # 0 # 10
+trial 1 --block=3 # 0 # 14
+trial 1 --block=1 # 0 # 26";
 
-// A trial of one line, which has nine bytes, through two stages. Work begins once before the first
-// byte, once for each block and once at the end, and again where the first stage has written: it
-// writes at the end of the line.
 #[test]
-fn a_trial_goes_by_blocks(rt: HostRuntime) -> Result<(), Fail> {
-    let rows = [
-        ("kex trial 1", 10),
-        ("kex trial 1 --block=9", 10),
-        ("kex trial 1 --block=3", 14),
-        ("kex trial 1 --block=1", 26),
-    ];
-    for (words, count) in rows {
+fn stages_work_as_often_as_they_are_asked(rt: HostRuntime) -> Result<(), Fail> {
+    for row in COUNTS.lines() {
+        let (words, rest) = row.split_once(" # ").ok_or("no bytes")?;
+        let (bytes, count) = rest.split_once(" # ").ok_or("no count")?;
+        let words = format!(in rt.alloc(); "kex {words}")?;
+        let bytes = bytes.parse::<u32>()? as usize;
+        let count = count.parse::<u32>()?;
         let gate = EntryGate {
             entries: AtomicU32::new(0),
         };
-        let (status, _) = call(&rt, rt.alloc(), words, b"", 0, &gate)?;
-        assert!(&rt; status == Status::Done, "{words}");
-        let counted = gate.entries.load(Ordering::SeqCst);
-        assert!(&rt; counted == count, "{words}: {counted}");
+        let program = b"main := /a*/";
+        let (status, _) = call(&rt, rt.alloc(), words.as_str(), program, bytes, &gate)?;
+        assert!(&rt; status == Status::Done, "{row}");
+        assert_eq!(&rt; gate.entries.load(Ordering::SeqCst), count, "{row}");
     }
     Ok(())
 }

@@ -1,138 +1,52 @@
 //! Long inputs, blocks and pieces, where memory is ample.
-use crate::call::{Case, Failing, NONE, holds, plain};
-use crate::long::around;
-use std::alloc::Global;
+use crate::call::each_holds;
 use std::test::Fail;
 
-// A piece of more than a mebibyte into a second stage, and a fault of reading behind a block and a
-// part of one.
-#[test]
-fn blocks_and_pieces_are_long(rt: HostRuntime) -> Result<(), Fail> {
-    let alloc = rt.alloc();
-    let few = around(alloc, b"", b"a", 70_000, b"")?;
-    let many = around(alloc, b"", b"yyyyyyyyyyyyyyyyy", 70_000, b"")?;
-    let piece = Case {
-        program: b"start: a >> b a := (~/a/ \"yyyyyyyyyyyyyyyyy\")* b := /y*/",
-        input: &few,
-        held: &many,
-        ..plain()
-    };
-    assert!(&rt; holds(&rt, alloc, &piece)?);
-    let fault = Case {
-        input: &few,
-        held: &few,
-        answer: "4 read fault",
-        failing: Failing { read: 3, ..NONE },
-        ..plain()
-    };
-    assert!(&rt; holds(&rt, alloc, &fault)?);
-    Ok(())
-}
-
-// What one stage says is written before the next part of a block is given, where there are 65,536
-// bytes of it. The second write fails.
-#[test]
-fn parts_are_written(rt: HostRuntime) -> Result<(), Fail> {
-    let alloc = rt.alloc();
-    let input = around(alloc, b"", b"a", 20_000, b"")?;
-    let part = around(alloc, b"", b"yyyyyyyyyyyyyyyy", 4_096, b"")?;
-    let fails = Case {
-        input: &input,
-        answer: "5 write fault",
-        failing: Failing { write: 2, ..NONE },
-        ..plain()
-    };
-    let run = Case {
-        program: b"main := (~/a/ \"yyyyyyyyyyyyyyyy\")*",
-        held: &part,
-        ..fails
-    };
-    assert!(&rt; holds(&rt, alloc, &run)?);
-    let part = around(alloc, b"", b"0'61", 16_384, b"")?;
-    let code = Case {
-        words: "kex code p",
-        held: &part,
-        ..fails
-    };
-    assert!(&rt; holds(&rt, alloc, &code)?);
-    Ok(())
-}
-
-// Some blocks of lines through two stages and registers.
-#[test]
-fn lines_are_many(rt: HostRuntime) -> Result<(), Fail> {
-    let alloc = rt.alloc();
-    let input = around(alloc, b"", b"ab,12\n", 12_000, b"")?;
-    let held = around(alloc, b"", b"> 12,ab\n", 12_000, b"")?;
-    let case = Case {
-        program: b"start: swap >> mark \
-            swap := (x@/[a-z]*/ ~/,/ y@/[0-9]*/ !y \",\" !x /\\n/)* \
-            mark := (\"> \" /[^\\n]*\\n/)*",
-        input: &input,
-        held: &held,
-        ..plain()
-    };
-    assert!(&rt; holds(&rt, alloc, &case)?);
-    Ok(())
-}
-
-// More than rounds of rings with room for one item take, so that the rest is settled.
-#[test]
-fn the_rest_is_settled(rt: HostRuntime) -> Result<(), Fail> {
-    let alloc = rt.alloc();
-    let input = around(alloc, b"", b"xxx", 1_000, b"")?;
-    let held = around(alloc, b"", b"zz", 1_000, b"")?;
-    let case = Case {
-        words: "kex run p --rings 1",
-        program: b"start: a >> b a := (~/x/ \"yy\")* b := (~/yyy/ \"z\")*",
-        input: &input,
-        held: &held,
-        ..plain()
-    };
-    assert!(&rt; holds(&rt, alloc, &case)?);
-    Ok(())
-}
-
-// Words, a program, what is given and what is held, each of these by its front, its middle, how
-// often that stands there, and its end. There are more than 65,536 bytes that are undecided, in a
-// register, or in a code, and more edges of states are met.
-const MANY: &str = r#"
-run p # main := "1" /a*b/ | "2" /a*c/ # ,a,70000,c # 2,a,70000,c
-run p # main := r@/a*/ /b/ !r # ,a,70000,b # b,a,70000,
-code p # main := /a*/ # ,a,70000, # ,0'61,70000,1
-act p # main := /a*/ # ,0'61,70000,1 # ,a,70000,
-test p # main := /a*/ # ,a,70000, # ,,0,
-run p --states=65536 # main := /((ab){100}){100}/ # ,ab,10000, # ,ab,10000,
+// A piece of more than a mebibyte into a second stage; a fault of reading behind a block and a part
+// of one; faults of writing behind a part of a block, since what one stage says is written before
+// the next part is given, where there are 65,536 bytes of it; blocks of lines through two stages
+// and registers; and more than rounds of rings with room for one item take, so that the rest is
+// settled.
+const BLOCKS: &str = r#"
+run p # start: a >> b a := (~/a/ "yyyyyyyyyyyyyyyyy")* b := /y*/ # %a%70000% # %yyyyyyyyyyyyyyyyy%70000% # 0
+run p # main := /a*/ # %a%70000% # %a%70000% # 4 read fault # read=3
+run p # main := (~/a/ "yyyyyyyyyyyyyyyy")* # %a%20000% # %yyyyyyyyyyyyyyyy%4096% # 5 write fault # write=2
+code p # main := /a*/ # %a%20000% # %0'61%16384% # 5 write fault # write=2
+run p # start: swap >> mark swap := (x@/[a-z]*/ ~/,/ y@/[0-9]*/ !y "," !x /\n/)* mark := ("> " /[^\n]*\n/)* # %ab,12$%12000% # %> 12,ab$%12000% # 0
+run p --rings=1 # start: a >> b a := (~/x/ "yy")* b := (~/yyy/ "z")* # %xxx%1000% # %zz%1000% # 0
 "#;
 
-// A text by its four parts.
-fn text_of(alloc: Global, row: &str) -> Result<Vec<u8>, Fail> {
-    let mut parts = row.split(',');
-    let front = parts.next().ok_or("no front")?.as_bytes();
-    let middle = parts.next().ok_or("no middle")?.as_bytes();
-    let times = parts.next().ok_or("no number")?.parse::<u32>()?;
-    let end = parts.next().ok_or("no end")?.as_bytes();
-    let text = around(alloc, front, middle, times as usize, end)?;
-    Ok(text)
+#[test]
+fn blocks_and_pieces_are_long(rt: HostRuntime) -> Result<(), Fail> {
+    each_holds(&rt, rt.alloc(), BLOCKS, &["--block=65536"])
 }
+
+// More than 65,536 bytes that are undecided, in a register, or in a code, also in one block, and as
+// many labels that are joined.
+const MANY: &str = r#"
+run p # main := "1" /a*b/ | "2" /a*c/ # %a%70000%c # 2%a%70000%c # 0
+code p # main := "1" /a*b/ | "2" /a*c/ # %a%70000%c # 1%0'61%70000%1'63 # 0
+code p # main := "1" /(a|ab)*c/ | "2" /(a|ab)*d/ # %a%70000%c # 0%00'61%70000%1'63 # 0
+run p # main := r@/a*/ /b/ !r # %a%70000%b # b%a%70000% # 0
+code p # main := /a*/ # %a%70000% # %0'61%70000%1 # 0
+act p # main := /a*/ # %0'61%70000%1 # %a%70000% # 0
+test p # main := /a*/ # %a%70000% #  # 0
+run p # main := "1" ("<" /a/ ">")* /b/ | "2" ("<" /a/ ">")* /c/ # %a%70000%c # 2%<a>%70000%c # 0
+"#;
 
 #[test]
 fn there_is_memory_for_more_than_65_536(rt: HostRuntime) -> Result<(), Fail> {
-    let alloc = rt.alloc();
-    for row in MANY.trim().lines() {
-        let mut parts = row.split(" # ");
-        let words = format!(in alloc; "kex {}", parts.next().ok_or("no words")?)?;
-        let program = parts.next().ok_or("no program")?;
-        let input = text_of(alloc, parts.next().ok_or("no input")?)?;
-        let held = text_of(alloc, parts.next().ok_or("no output")?)?;
-        let case = Case {
-            words: words.as_str(),
-            program: program.as_bytes(),
-            input: &input,
-            held: &held,
-            ..plain()
-        };
-        assert!(&rt; holds(&rt, alloc, &case)?, "{row}");
-    }
-    Ok(())
+    each_holds(&rt, rt.alloc(), MANY, &["--block=65536", "--block=1000000"])
+}
+
+// A loop of 9,000 states and 131 classes has more edges than there is room to learn, and goes round
+// 50 times. One of 20,001 states is met once.
+const LOOPS: &str = r#"
+run p --states=65536 # main := /(((ab){90}){50}|\x80|\x81|\x82|\x83|\x84|\x85|\x86|\x87|\x88|\x89|\x8a|\x8b|\x8c|\x8d|\x8e|\x8f|\x90|\x91|\x92|\x93|\x94|\x95|\x96|\x97|\x98|\x99|\x9a|\x9b|\x9c|\x9d|\x9e|\x9f|\xa0|\xa1|\xa2|\xa3|\xa4|\xa5|\xa6|\xa7|\xa8|\xa9|\xaa|\xab|\xac|\xad|\xae|\xaf|\xb0|\xb1|\xb2|\xb3|\xb4|\xb5|\xb6|\xb7|\xb8|\xb9|\xba|\xbb|\xbc|\xbd|\xbe|\xbf|\xc0|\xc1|\xc2|\xc3|\xc4|\xc5|\xc6|\xc7|\xc8|\xc9|\xca|\xcb|\xcc|\xcd|\xce|\xcf|\xd0|\xd1|\xd2|\xd3|\xd4|\xd5|\xd6|\xd7|\xd8|\xd9|\xda|\xdb|\xdc|\xdd|\xde|\xdf|\xe0|\xe1|\xe2|\xe3|\xe4|\xe5|\xe6|\xe7|\xe8|\xe9|\xea|\xeb|\xec|\xed|\xee|\xef|\xf0|\xf1|\xf2|\xf3|\xf4|\xf5|\xf6|\xf7|\xf8|\xf9|\xfa|\xfb|\xfc|\xfd|\xfe|\xff)*/ # %ab%225000% # %ab%225000% # 0
+run p --states=65536 # main := /((ab){100}){100}/ # %ab%10000% # %ab%10000% # 0
+"#;
+
+#[test]
+fn tables_are_larger_than_what_is_learnt(rt: HostRuntime) -> Result<(), Fail> {
+    each_holds(&rt, rt.alloc(), LOOPS, &["--block=65536"])
 }

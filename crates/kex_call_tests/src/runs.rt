@@ -1,11 +1,21 @@
 //! What runs read and write, with blocks of several lengths, and where rings join the stages; on
 //! inputs that have a parse and on some that have none.
-use crate::call::{Case, holds, plain, row_holds};
+use crate::call::{Case, USUAL, each_holds, holds};
 use std::test::Fail;
 
 const BLOCKS: [&str; 3] = ["--block=65536", "--block=1", "--block=3"];
 
-const RINGS: [&str; 3] = ["--rings=1", "--rings=2", "--rings=4096"];
+const RINGS: [&str; 9] = [
+    "--rings=1 --block=65536",
+    "--rings=1 --block=1",
+    "--rings=1 --block=3",
+    "--rings=2 --block=65536",
+    "--rings=2 --block=1",
+    "--rings=2 --block=3",
+    "--rings=4096 --block=65536",
+    "--rings=4096 --block=1",
+    "--rings=4096 --block=3",
+];
 
 // Programs of one stage: terms of each kind, inputs with a parse and then inputs without one.
 const ONE_STAGE: &str = r#"
@@ -23,6 +33,13 @@ run p # main := "<" /[ab]*?/ ">" /b*/ # abb # <a>bb # 0
 run p # main := /a??/ "x" /a?/ # a # xa # 0
 run p # main := ("<" /a/ ">")*? /a*/ # aa # aa # 0
 run p # main := ("<" /a/ ">"){1,2}? /a*/ # aa # <a>a # 0
+run p # main := "<" /a+?/ ">" /a*/ # aaa # <a>aa # 0
+run p # main := "<" /a{2}?/ ">" /a*/ # aaa # <aa>a # 0
+run p # main := "<" /a{2,}?/ ">" /a*/ # aaaa # <aa>aa # 0
+run p # main := "<" /a{2,}?/ ">" /b/ # aaab # <aaa>b # 0
+run p # main := "<" /a{,2}?/ ">" /a*/ # aaa # <>aaa # 0
+run p # main := "<" /a{,2}?/ ">" /b/ # aab # <aa>b # 0
+run p # main := ("<" /a/ ">")+? /a*/ # aa # <a>a # 0
 run p # main := /[b-d]{2}\x2e/ # bd. # bd. # 0
 run p # main := /a/ main | 1 # aaa # aaa # 0
 run p # main := /a/ foo foo := /b/ main | "." # aba # aba. # 0
@@ -37,6 +54,8 @@ run p # main := ("x" | /a/)* # aa # aa # 0
 run p # main := ("x")+ #  # x # 0
 run p # main := "x" main | 1 #  #  # 0
 run p # main := [r <- "-"] [r += "a"]* !r #  # - # 0
+run p # main := "<" /a{,2}?/ ">" /b/ # aaab # <aa> # 1 rejected: stage 1 at byte 2
+run p # main := "<" /a{2}?/ ">" /b/ # ab # <a # 1 rejected: stage 1 at byte 1
 run p # main := (/a*/)* # aab # aa # 1 rejected: stage 1 at byte 2
 run p # main := (~/x/ "y"){2,3} # x # y # 1 rejected: stage 1 at byte 1 (end)
 run p # main := (~/x/ "y"){2,3} # xxxx # yyy # 1 rejected: stage 1 at byte 3
@@ -56,12 +75,7 @@ run p --max-input 0 # main := /a*/ # a #  # 8 too long: stage 1 at byte 0
 
 #[test]
 fn stages_read_and_write(rt: HostRuntime) -> Result<(), Fail> {
-    for row in ONE_STAGE.trim().lines() {
-        for block in &BLOCKS {
-            assert!(&rt; row_holds(&rt, rt.alloc(), row, block)?, "{block} {row}");
-        }
-    }
-    Ok(())
+    each_holds(&rt, rt.alloc(), ONE_STAGE, &BLOCKS)
 }
 
 // The input of a second stage breaks off, and what is agreed on is written; the last stage that
@@ -80,35 +94,23 @@ run p --max-input 3 # start: a >> b a := (~/x/ "yy")* b := /y*/ # xx # yyy # 8 t
 
 #[test]
 fn each_stage_reads_what_the_one_before_wrote(rt: HostRuntime) -> Result<(), Fail> {
-    for row in PIPELINES.trim().lines() {
-        for block in &BLOCKS {
-            assert!(&rt; row_holds(&rt, rt.alloc(), row, block)?, "{block} {row}");
-        }
-    }
-    Ok(())
+    each_holds(&rt, rt.alloc(), PIPELINES, &BLOCKS)
 }
 
 #[test]
 fn rings_change_nothing(rt: HostRuntime) -> Result<(), Fail> {
-    for row in PIPELINES.trim().lines() {
-        for block in &BLOCKS {
-            for room in &RINGS {
-                let options = format!(in rt.alloc(); "{room} {block}")?;
-                let holds = row_holds(&rt, rt.alloc(), row, options.as_str())?;
-                assert!(&rt; holds, "{options} {row}");
-            }
-        }
-    }
-    Ok(())
+    each_holds(&rt, rt.alloc(), PIPELINES, &RINGS)
 }
 
 #[test]
 fn bytes_that_are_no_text(rt: HostRuntime) -> Result<(), Fail> {
     let case = Case {
+        words: "kex run p",
         program: b"main := \"\\x00\\xff\" /[^a]/",
         input: b"\xfe",
         held: b"\x00\xff\xfe",
-        ..plain()
+        answer: "0",
+        ports: USUAL,
     };
     assert!(&rt; holds(&rt, rt.alloc(), &case)?);
     Ok(())

@@ -7,12 +7,12 @@ use std::test::Fail;
 
 // How many stages, places and states there are, or why there are none, where no more than a
 // million states are allowed. Offsets count from 0.
-fn answer(alloc: Global, text: &str, limits: &Limits) -> Result<String, AllocError> {
+fn answer(alloc: Global, text: &[u8], limits: &Limits) -> Result<String, AllocError> {
     let limits = Limits {
         states: limits.states.min(1_048_576),
         ..*limits
     };
-    match compile(alloc, text.as_bytes(), &limits) {
+    match compile(alloc, text, &limits) {
         Ok(made) => {
             let (stages, places, states) = (made.stages().len(), made.places(), made.states());
             format!(in alloc; "{stages} {places} {states}")
@@ -21,75 +21,77 @@ fn answer(alloc: Global, text: &str, limits: &Limits) -> Result<String, AllocErr
     }
 }
 
+// So many states, or one stage without tables.
+fn limits_of(word: &str) -> Result<Limits, Fail> {
+    if word == "one" {
+        return Ok(Limits {
+            states: 4_096,
+            one_stage: true,
+            tables: false,
+        });
+    }
+    Ok(Limits {
+        states: word.parse::<u32>()?,
+        ..ANY
+    })
+}
+
+// A text, where `a%b%3%c` stands for `abbbc`.
+fn text_of(alloc: Global, spelling: &str) -> Result<Vec<u8>, Fail> {
+    let mut pieces = spelling.split('%');
+    let mut text = pieces.next().unwrap_or("").as_bytes().to_vec(alloc)?;
+    let middle = pieces.next().unwrap_or("").as_bytes();
+    let times = pieces.next().unwrap_or("0").parse::<u32>()?;
+    let middles = middle.repeat(alloc, times as usize)?;
+    text.extend_from_slice(middles.as_slice())?;
+    text.extend_from_slice(pieces.next().unwrap_or("").as_bytes())?;
+    Ok(text)
+}
+
+// How many states a stage may have, and a text. Where one stage is asked for, a second is refused,
+// but only after all rules that the text breaks, and without tables no state is counted. Then come
+// states up to their limit; and limits of texts at their number, where another rule is broken or
+// none, and one past it.
 const TEXTS: &str = r#"
-main := 1 => 1 2 1
-main := /a*/ => 1 3 1
-main := /a{3}/ => 1 8 4
-main := /a{1000}/ => 1 2002 1001
-main := /a{1001}/ => bad count at byte 10
-start: a >> b a := (~/x/ "yy")* b := (~/yyy/ "z")* => 2 18 4
-start: a >> b a := /x*/ b := /y/ => 2 5 3
-start: a >> b a := (/b*/)* b := /a/ b => no text has a parse by stage 2
-main := "a => bad token at byte 8
-main := => unexpected token at byte 7
-main := /a(/ => bad regex at byte 11
-main := foo /a{3,2}/ => bad count at byte 14
-main := /[z-a]/ => bad set at byte 9
-main := 1 main := 1 => the name at byte 10 is defined twice
-main := foo => the name at byte 8 has no definition
-foo := 1 => there is no stage
-main := /a/ main /b/ | 1 => the call at byte 12 comes back outside tail position
-main := (/a/ main)? 1 => the call at byte 13 comes back outside tail position
-main := /(a{200}){200}/ => stage 1 has too many states
-main := foo foo := /(a{216}){151}/ => stage 1 has too many states
-main := /(a{1000}){600}/ => stage 1 has too many places
-main := (/a*/)* => 1 4 1
-main := ("x" | /a/)* => 1 5 1
-main := "x" main | 1 => 1 6 1
-main := main => no text has a parse by stage 1
-main := "x" main => no text has a parse by stage 1
-main := /a/ main => no text has a parse by stage 1
-"#;
-
-#[test]
-fn texts_are_compiled_or_refused(rt: HostRuntime) -> Result<(), Fail> {
-    for row in TEXTS.trim().lines() {
-        let (text, want) = row.split_once(" => ").ok_or("no answer")?;
-        let got = answer(rt.alloc(), text, &ANY)?;
-        assert_eq!(rt; got.as_str(), want, "{text}");
-    }
-    Ok(())
-}
-
-// Where one stage is asked for, a second is refused, but only after all rules that the text breaks.
-// Without tables no state is counted.
-const ONE_STAGE: &str = r#"
-main := /a/ => 1 2 0
-start: a a := /a/ => 1 2 0
-main := /(a{216}){151}/ => 1 65536 0
-main := /(a{1000}){523}b{763}/ => 1 1048576 0
-main := foo foo := /(a{1000}){523}b{763}/ => stage 1 has too many places
-start: a >> a a := /a/ => there is more than one stage
-start: a >> b a := /a/ a b := /b/ => no text has a parse by stage 1
-"#;
-
-#[test]
-fn one_stage_alone(rt: HostRuntime) -> Result<(), Fail> {
-    let limits = Limits {
-        states: 4_096,
-        one_stage: true,
-        tables: false,
-    };
-    for row in ONE_STAGE.trim().lines() {
-        let (text, want) = row.split_once(" => ").ok_or("no answer")?;
-        let got = answer(rt.alloc(), text, &limits)?;
-        assert_eq!(rt; got.as_str(), want, "{text}");
-    }
-    Ok(())
-}
-
-// The most states of a stage, and the text.
-const STATES: &str = r#"
+4096 main := 1 => 1 2 1
+4096 main := /a*/ => 1 3 1
+4096 main := /a{3}/ => 1 8 4
+4096 main := /a{1000}/ => 1 2002 1001
+4096 main := /a{1001}/ => bad count at byte 10
+4096 start: a >> b a := (~/x/ "yy")* b := (~/yyy/ "z")* => 2 18 4
+4096 start: a >> b a := /x*/ b := /y/ => 2 5 3
+4096 start: a >> b a := (/b*/)* b := /a/ b => no text has a parse by stage 2
+4096 main := "a => bad token at byte 8
+4096 main := => unexpected token at byte 7
+4096 main := /a(/ => bad regex at byte 11
+4096 main := foo /a{3,2}/ => bad count at byte 14
+4096 main := /[z-a]/ => bad set at byte 9
+4096 main := 1 main := 1 => the name at byte 10 is defined twice
+4096 main := foo => the name at byte 8 has no definition
+4096 foo := 1 => there is no stage
+4096 main := foo main := 1 => the name at byte 12 is defined twice
+4096 start: foo main := 1 => the name at byte 7 has no definition
+4096 main := main /a/ | 1 => the call at byte 8 comes back outside tail position
+4096 main := 1 foo := foo /a/ | 1 => the call at byte 17 comes back outside tail position
+4096 main := 1 foo := main /a/ | 1 => 1 2 1
+4096 main := /a/ main /b/ | 1 => the call at byte 12 comes back outside tail position
+4096 main := (/a/ main)? 1 => the call at byte 13 comes back outside tail position
+4096 main := /(a{200}){200}/ => stage 1 has too many states
+4096 main := foo foo := /(a{216}){151}/ => stage 1 has too many states
+4096 main := /(a{1000}){600}/ => stage 1 has too many places
+4096 main := (/a*/)* => 1 4 1
+4096 main := ("x" | /a/)* => 1 5 1
+4096 main := "x" main | 1 => 1 6 1
+4096 main := main => no text has a parse by stage 1
+4096 main := "x" main => no text has a parse by stage 1
+4096 main := /a/ main => no text has a parse by stage 1
+one main := /a/ => 1 2 0
+one start: a a := /a/ => 1 2 0
+one main := /(a{216}){151}/ => 1 65536 0
+one main := /(a{1000}){523}b{763}/ => 1 1048576 0
+one main := foo foo := /(a{1000}){523}b{763}/ => stage 1 has too many places
+one start: a >> a a := /a/ => there is more than one stage
+one start: a >> b a := /a/ a b := /b/ => no text has a parse by stage 1
 1 main := 1 => 1 2 1
 16 main := /(a|b)*a(a|b){3}/ => 1 21 16
 15 main := /(a|b)*a(a|b){3}/ => stage 1 has too many states
@@ -100,53 +102,63 @@ const STATES: &str = r#"
 32617 main := foo foo := /(a{216}){151}/ => 1 65537 32617
 40001 main := /(a{200}){200}/ => 1 80402 40001
 40000 main := /(a{200}){200}/ => stage 1 has too many states
+4096 main := 1% %1048567% => 1 2 1
+4096 main := 1% %1048568% => the text is too long
+4096 main := %~%200%foo => the name at byte 208 has no definition
+4096 main := %~%201%foo => over a limit at byte 208
+4096 start: a% >> a%255% a := 1 => 256 512 256
+4096 start: a% >> a%256% a := 1 => over a limit at byte 1287
+4096 main := %(%1048568% => unexpected token at byte 1048576
+4096 main := 1/%*%1048566% => bad token at byte 9
+4096 main := %~%199%/()/ => 1 400 1
+4096 main := %~%200%/()/ => over a limit at byte 209
+4096 main := %~%198%/((()))/ => over a limit at byte 209
+4096 main := %~%200%/(/ => bad regex at byte 210
+4096 main := "%x%70000%" => 1 2 1
+4096 main := [r <-% "x"%70000%] => 1 2 1
+4096 main := 1% 1%70000% => 1 140002 1
 "#;
 
 #[test]
-fn states_are_counted_up_to_their_limit(rt: HostRuntime) -> Result<(), Fail> {
-    for row in STATES.trim().lines() {
-        let (most, rest) = row.split_once(' ').ok_or("no limit")?;
-        let (text, want) = rest.split_once(" => ").ok_or("no answer")?;
-        let limits = Limits {
-            states: u32::from(most.parse::<u16>()?),
-            ..ANY
-        };
-        let got = answer(rt.alloc(), text, &limits)?;
+fn texts_are_compiled_or_refused(rt: HostRuntime) -> Result<(), Fail> {
+    let alloc = rt.alloc();
+    for row in TEXTS.trim().lines() {
+        let (word, rest) = row.split_once(' ').ok_or("no limit")?;
+        let (spelling, want) = rest.split_once(" => ").ok_or("no answer")?;
+        let text = text_of(alloc, spelling)?;
+        let got = answer(alloc, &text, &limits_of(word)?)?;
         assert_eq!(rt; got.as_str(), want, "{row}");
     }
     Ok(())
 }
 
-// A text by its front, its middle, how often that stands there, and its end.
-fn around(alloc: Global, row: &str) -> Result<String, Fail> {
-    let (front, rest) = row.split_once('#').ok_or("no middle")?;
-    let (middle, rest) = rest.split_once('#').ok_or("no number")?;
-    let (times, end) = rest.split_once('#').ok_or("no end")?;
-    let mut text = String::from_str(alloc, front)?;
-    for _ in 0..times.parse::<u32>()? {
-        text.push_str(middle)?;
+// Definitions, each of which calls the next one before what stands at its end, and the last one the
+// first.
+fn cycle(alloc: Global, count: u32, end: &str) -> Result<String, AllocError> {
+    let mut text = String::from_str(alloc, "start: a0")?;
+    for number in 0..count {
+        let next = if number + 1 < count { number + 1 } else { 0 };
+        let definition = format!(in alloc; " a{number} := a{next}{end}")?;
+        text.push_str(definition.as_str())?;
     }
-    text.push_str(end)?;
     Ok(text)
 }
 
-// Limits at their number, where another rule is broken or none, and one past it.
-const LONG: &str = r#"
-main := 1# #1048567# => 1 2 1
-main := 1# #1048568# => the text is too long
-main := #~#200#foo => the name at byte 208 has no definition
-main := #~#201#foo => over a limit at byte 208
-start: a# >> a#255# a := 1 => 256 512 256
-start: a# >> a#256# a := 1 => over a limit at byte 1287
-"#;
-
+// The rules are asked in time linear in the program: a search from each definition wouldn't end.
 #[test]
-fn long_and_deep_texts(rt: HostRuntime) -> Result<(), Fail> {
-    for row in LONG.trim().lines() {
-        let (text, want) = row.split_once(" => ").ok_or("no answer")?;
-        let text = around(rt.alloc(), text)?;
-        let got = answer(rt.alloc(), text.as_str(), &ANY)?;
-        assert_eq!(rt; got.as_str(), want, "{row}");
+fn many_definitions(rt: HostRuntime) -> Result<(), Fail> {
+    let alloc = rt.alloc();
+    let rows = [
+        ("", "no text has a parse by stage 1"),
+        (
+            "/b/",
+            "the call at byte 16 comes back outside tail position",
+        ),
+    ];
+    for (end, want) in rows {
+        let text = cycle(alloc, 40_000, end)?;
+        let got = answer(alloc, text.as_bytes(), &ANY)?;
+        assert_eq!(rt; got.as_str(), want);
     }
     Ok(())
 }

@@ -2,7 +2,6 @@
 use crate::made::ANY;
 use kex_compile::compile;
 use kex_paths::tree::PathTree;
-use kex_paths::workspace::Workspace;
 use kex_sst::parts::{Part, Update};
 use std::test::Fail;
 
@@ -35,19 +34,5 @@ fn trees_go_on_by_classes(rt: HostRuntime) -> Result<(), Fail> {
         let next = start.advance(rt.alloc(), class)?;
         assert!(rt; has_come(next, shape, out), "class {class}");
     }
-    Ok(())
-}
-
-#[test]
-fn a_workspace_is_used_again(rt: HostRuntime) -> Result<(), Fail> {
-    let compiled = compile(rt.alloc(), b"main := /(a|b)*a/", &ANY)?;
-    let machine = compiled.stages().first().ok_or("no stage")?.machine();
-    let mut workspace = Workspace::new(rt.alloc(), machine)?;
-    let (start, _) = PathTree::start(rt.alloc(), machine)?;
-    let large: &[bool] = &[true, true, true, false, false, false, false];
-    let first = start.advance_with(&mut workspace, 1)?;
-    assert!(rt; has_come(first, large, &[]));
-    let again = start.advance_with(&mut workspace, 1)?;
-    assert!(rt; has_come(again, large, &[]));
     Ok(())
 }

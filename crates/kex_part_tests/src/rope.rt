@@ -1,6 +1,8 @@
-//! Ropes, call by call.
+//! Ropes, and the text of the codes that they come to.
 use kex_code::code::Code;
+use kex_code::reader::CodeReader;
 use kex_code::symbol::Symbol;
+use kex_code::text::write_text;
 use kex_rope::rope::Rope;
 use std::test::Fail;
 
@@ -9,25 +11,19 @@ fn ropes_are_joined_in_order(rt: HostRuntime) -> Result<(), Fail> {
     let alloc = rt.alloc();
     let mut first = Rope::new(alloc);
     let mut second = Rope::new(alloc);
-    let mut whole = Code::new(alloc);
     let mut code = Code::new(alloc);
     first.push(Symbol::L)?;
-    whole.push(Symbol::L)?;
-    for number in 0..1_000_u16 {
-        let symbol = Symbol::Byte((number % 200) as u8);
-        second.push(symbol)?;
-        whole.push(symbol)?;
-    }
-    assert_eq!(rt; first.len(), 1);
-    assert_eq!(rt; second.len(), 1_000);
+    second.push(Symbol::Byte(b'a'))?;
+    code.push(Symbol::L)?;
     first.append(&mut second);
-    let mut all = first.take();
-    assert!(rt; first.is_empty() && second.is_empty());
-    all.copy_into(&mut code)?;
-    assert_eq!(rt; code.as_slice(), whole.as_slice());
-    code.clear();
-    all.drain_into(&mut code)?;
-    assert!(rt; all.is_empty());
-    assert_eq!(rt; code.as_slice(), whole.as_slice());
+    first.copy_into(&mut code)?;
+    first.drain_into(&mut code)?;
+    let mut text = Vec::new(alloc);
+    write_text(code.as_slice(), &mut text)?;
+    assert_eq!(rt; text.as_slice(), b"00'610'61".as_slice());
+    let mut read = Code::new(alloc);
+    let fed = CodeReader::new().feed(text.as_slice(), &mut read);
+    assert!(rt; fed.is_ok());
+    assert_eq!(rt; read.as_slice(), code.as_slice());
     Ok(())
 }

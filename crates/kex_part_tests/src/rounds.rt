@@ -2,7 +2,7 @@
 use crate::copier::{copy, failing};
 use crate::refusing::{Watch, refusing_after};
 use kex_pipe::pipe::{Pipe, PipeFault};
-use kex_ports::{Gate, MeetGate, OpenGate};
+use kex_ports::{MeetGate, OpenGate};
 use kex_rounds::round::round;
 use std::sync::atomic::Ordering;
 use std::test::Fail;
@@ -27,24 +27,6 @@ fn any_two_stages_meet(rt: HostRuntime) -> Result<(), Fail> {
     assert!(rt; alone.saw(2) && !alone.saw(1));
     assert!(rt; second.saw(3));
     assert!(rt; second.saw(4));
-    Ok(())
-}
-
-// Turns one after another end too, and the stage that comes first sees no other.
-#[test]
-fn turns_one_after_another(rt: HostRuntime) -> Result<(), Fail> {
-    let alloc = rt.alloc();
-    let mut pipe = Pipe::new(alloc, vec![in alloc; copy(), copy()]?)?;
-    pipe.give(b"ab")?;
-    let gate = MeetGate::default();
-    gate.enter(1);
-    pipe.turn(1, 9)?;
-    gate.leave(1);
-    gate.enter(2);
-    pipe.turn(2, 9)?;
-    gate.leave(2);
-    assert_eq!(rt; pipe.take_output().as_slice(), b"ab".as_slice());
-    assert!(rt; gate.saw(2) && !gate.saw(1));
     Ok(())
 }
 
