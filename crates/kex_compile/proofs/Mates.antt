@@ -1,6 +1,5 @@
 -- Steps that are paired by their symbols and by where they lead come back together.
 use Rattle.std.proofs.Common.{◌≡◌, ℕ, List, [], ◌∷◌, inl, inr, ⊎_elim, refl, sym, subst}
-use Rattle.kex_code.specs.declared.symbol.Symbol.{Symbol}
 use Rattle.kex_code.specs.declared.symbol.Symbol.TheVariants.{Byte}
 use Rattle.kex_code.specs.Codes.{IsAmong}
 use Rattle.kex_model.specs.Moves.{Step, Side, to_left, to_right, symbol_of, took, chose, went, target_of, symbols_of}

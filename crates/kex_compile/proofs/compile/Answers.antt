@@ -1,4 +1,4 @@
-use Rattle.std.proofs.Common.{ℕ, List, ◌≤◌, length, ap, subst, ◌∙◌, arith}
+use Rattle.std.proofs.Common.{◌≤◌, length, ap, subst, ◌∙◌, arith}
 use Rattle.kex_model.specs.Programs.{Grammar}
 use Rattle.kex_rules.specs.Rules.{IsRuled}
 use Rattle.kex_lowering.proofs.Causes.{if_err}

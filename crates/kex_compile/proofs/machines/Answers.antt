@@ -1,7 +1,8 @@
-use Rattle.std.proofs.Common.{ℕ, List, ◌≤◌, length, ap, subst, sym, ◌∙◌, arith}
+use Rattle.std.proofs.Common.{List, ◌≤◌, length, ap, subst, sym, ◌∙◌, arith}
 use Rattle.kex_model.specs.Programs.{Grammar}
 use Rattle.kex_machine.specs.Nodes.{Graph}
 use Rattle.kex_rules.specs.Rules.{IsRuled}
+use Rattle.kex_reader.specs.Checks.{most_stages}
 use Rattle.kex_lowering.proofs.Causes.{if_err}
 use Rattle.kex_compile.specs.Compiled.{IsRefused, of_plan, of_read, of_rule}
 use Rattle.kex_compile.specs.Stages.{AreMachines, AreStages, IsUnplanned, roots_of}
@@ -44,5 +45,5 @@ pub lower_stages-requires : goal.lower_stages-requires
 lower_stages-requires c =
     let P = c.in_ok-program.program in
     let same = c.program-2.ensures.same ∙ c.in_ok-ruled.ensures.same in
-    let few : length P.stages ≤ 64 = few_stages c.args.text.now P c.in_ok-program.ensures.read in
+    let few : length P.stages ≤ most_stages = few_stages c.args.text.now P c.in_ok-program.ensures.read in
     omega (arith, few, ap (λ (z : Grammar). length z.stages) same)

@@ -1,4 +1,4 @@
-use Rattle.std.proofs.Common.{◌≡◌, ◌++◌, ◌∷◌, [], List, sym, ap, ap₂, ◌∙◌, append_assoc}
+use Rattle.std.proofs.Common.{◌++◌, ◌∷◌, [], List, sym, ap, ap₂, ◌∙◌, append_assoc}
 use Rattle.kex_stage.specs.Plans.{Planned}
 use Rattle.kex_compile.proofs.compiled.shorten_all.Goals as goal
 
