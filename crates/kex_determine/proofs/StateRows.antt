@@ -16,7 +16,7 @@ use Rattle.kex_sst.specs.Tables.{Row, Transducer, transition_if}
 use Rattle.kex_sst.specs.Machines.{IsTableOf}
 use Rattle.kex_paths.specs.Nexts.{Outline, IsFirstTree, IsChange, BeginsTree as BeginsWith}
 use Rattle.kex_paths.proofs.Sizes.{one_first}
-use Rattle.kex_determine.specs.Determined.{targets_of, targets_in, MeetsInOrder, IsDetermined}
+use Rattle.kex_determine.specs.Determined.{AreStateTrees, targets_of, targets_in, MeetsInOrder, IsDetermined}
 use Rattle.kex_determine.specs.Rows.{IsRowOf, AreRows, IsFound, at_first}
 use Rattle.kex_determine.specs.Numbering.{texts, IsMet, AreNumbered, IsWith, IsStateWith, HasMoreFound}
 use Rattle.kex_determine.specs.Filling.{IsFilled}
@@ -136,6 +136,11 @@ module _ (g : Graph) where
         numbered = subst (λ n. MeetsInOrder 1 (targets_in rows) n) (sym count) f.order;
         classes = classed;
       }
+
+      -- with the trees of the states
+      pub with_trees : AreStateTrees g f.shapes trees → (d : IsDetermined g table) × AreStateTrees g d.shapes trees
+      unfolding determined
+      with_trees h = (determined, h)
 
       pub tabled : IsTableOf g table
       tabled = is_table g trim table f.shapes classed (all_rows classes u keys trees rows f le a first change)

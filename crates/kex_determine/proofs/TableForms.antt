@@ -40,14 +40,14 @@ rise_wider lo hi more (x ∷ xs) le h = (h.0, omega (arith, h.1, le), rise_wider
 
 -- ---- what stands in labels
 
-abbrev EachIn : (Part → Type 0) → List Part → Type 0
+abbrev pub EachIn : (Part → Type 0) → List Part → Type 0
 EachIn P xs = (x : Part) → IsAmong xs x → P x
 
-abbrev EachLabel : (Part → Type 0) → Labelled Part ℕ → Type 0
+abbrev pub EachLabel : (Part → Type 0) → Labelled Part ℕ → Type 0
 EachLabel P (tip p) = Unit {0}
 EachLabel P (fork x l y r) = EachIn P x × EachLabel P l × EachIn P y × EachLabel P r
 
-abbrev EachIf : (Part → Type 0) → Option (Grown Part ℕ) → Type 0
+abbrev pub EachIf : (Part → Type 0) → Option (Grown Part ℕ) → Type 0
 EachIf P None = Unit {0}
 EachIf P (Some a) = EachIn P a.label × EachLabel P a.tree
 
@@ -55,11 +55,11 @@ module _ (P : Part → Type 0) where
   one_in : (x : Part) → P x → EachIn P (x ∷ [])
   one_in x h y i = ⊎_elim (λ e. subst P e h) (λ k. absurd k) i
 
-  behind_each : (x : List Part) (a : Option (Grown Part ℕ)) → EachIn P x → EachIf P a → EachIf P (with_prefix x a)
+  pub behind_each : (x : List Part) (a : Option (Grown Part ℕ)) → EachIn P x → EachIf P a → EachIf P (with_prefix x a)
   behind_each x None h k = tt
   behind_each x (Some a) h k = ((λ y i. ⊎_elim (λ j. h y j) (λ j. k.0 y j) (among-append x a.label y i)), k.1)
 
-  joined_each : (a b : Option (Grown Part ℕ)) → EachIf P a → EachIf P b → EachIf P (fork_of a b)
+  pub joined_each : (a b : Option (Grown Part ℕ)) → EachIf P a → EachIf P b → EachIf P (fork_of a b)
   joined_each None None h k = tt
   joined_each (Some l) None h k = h
   joined_each None (Some r) h k = k
@@ -72,17 +72,17 @@ module _ (P : Part → Type 0) where
       (λ j. ⊎_elim (λ k. in_labels l h.1 xs k) (λ k. ⊎_elim (λ e. subst (EachIn P) e h.2) (λ m. in_labels r h.3 xs m) k) (among-append (labels_of l) (y ∷ labels_of r) xs j))
       i
 
-  each_part : (u : Change) (a : Grown Part ℕ) → IsChange u a → EachIf P (Some a) → EachPart P u
+  pub each_part : (u : Change) (a : Grown Part ℕ) → IsChange u a → EachIf P (Some a) → EachPart P u
   each_part u a change h = record {
     out = λ x i. h.0 x (subst (λ z. IsAmong z x) change.0 i);
     regs = λ xs i x j. in_labels a.tree h.1 xs (subst (λ z. IsAmong z xs) change.1 i) x j;
   }
 
-  numbered_each : ((i : ℕ) → P (Old i)) → (k : ℕ) (s : Shape ℕ) → EachLabel P (numbered_tree k s)
+  pub numbered_each : ((i : ℕ) → P (Old i)) → (k : ℕ) (s : Shape ℕ) → EachLabel P (numbered_tree k s)
   numbered_each old k (place p) = tt
   numbered_each old k (parts l r) = (one_in (Old k) (old k), numbered_each old (suc k) l, one_in (Old (k + size_of l)) (old (k + size_of l)), numbered_each old (suc (k + size_of l)) r)
 
-  visits_each : ((x : Side) → P (Put (symbol_of x))) → {moves : ℕ → Move ℕ} {f g : List Bool} {n : ℕ} {a : Option (Grown Part ℕ)} → Visits (λ s. Put s) moves f n a g → EachIf P a
+  pub visits_each : ((x : Side) → P (Put (symbol_of x))) → {moves : ℕ → Move ℕ} {f g : List Bool} {n : ℕ} {a : Option (Grown Part ℕ)} → Visits (λ s. Put s) moves f n a g → EachIf P a
   visits_each side (known e) = tt
   visits_each side (stops lt e w) = ((λ y i. absurd i), tt)
   visits_each side (parts_off {a = a} {b = b} lt e m va vb) =
@@ -90,17 +90,17 @@ module _ (P : Part → Type 0) where
   visits_each side (is_forced {x = x} {a = a} lt e m v) = behind_each (Put (symbol_of x) ∷ []) a (one_in (Put (symbol_of x)) (side x)) (visits_each side v)
   visits_each side (passes_on lt e m v) = visits_each side v
 
-  advances_each : ((x : Side) → P (Put (symbol_of x))) → P Input → {moves : ℕ → Move ℕ} {b : ℕ} {f g : List Bool} {t : Labelled Part ℕ} {a : Option (Grown Part ℕ)} → Advances (λ s. Put s) Input moves b f t a g → EachLabel P t → EachIf P a
+  pub advances_each : ((x : Side) → P (Put (symbol_of x))) → P Input → {moves : ℕ → Move ℕ} {b : ℕ} {f g : List Bool} {t : Labelled Part ℕ} {a : Option (Grown Part ℕ)} → Advances (λ s. Put s) Input moves b f t a g → EachLabel P t → EachIf P a
   advances_each side input (dies h) k = tt
   advances_each side input (reads_on {a = a} h v) k = behind_each (Input ∷ []) a (one_in Input input) (visits_each side v)
   advances_each side input (both {u = u} {v = v} {x = x} {y = y} va vb) k =
       joined_each (with_prefix u x) (with_prefix v y) (behind_each u x k.0 (advances_each side input va k.1)) (behind_each v y k.2 (advances_each side input vb k.3))
 
-choice_side : (x : Side) → PutsChoice (Put (symbol_of x))
+pub choice_side : (x : Side) → PutsChoice (Put (symbol_of x))
 choice_side to_left = tt
 choice_side to_right = tt
 
-put_side : (x : Side) → IsPut (Put (symbol_of x))
+pub put_side : (x : Side) → IsPut (Put (symbol_of x))
 put_side to_left = tt
 put_side to_right = tt
 

@@ -12,6 +12,7 @@ use Rattle.kex_machine.specs.Answers.{IsViableFor}
 use Rattle.kex_sst.specs.declared.table.Transition.{Transition}
 use Rattle.kex_sst.specs.Tables.{Row, Transducer}
 use Rattle.kex_sst.specs.Passes.{Pass, passes}
+use Rattle.kex_paths.specs.Nexts.{Outline, IsOfShape}
 use Rattle.kex_determine.specs.Rows.{AreRows}
 
 -- the state has the shape of the tree of w, what was passed on is agreed, and the registers hold
@@ -49,3 +50,9 @@ pub record IsDetermined (g : Graph) (t : Transducer) : Type 0 where
   pub shows : (w : List ℕ) → ShowsText g shapes w (passes t w)
   pub numbered : MeetsInOrder 1 (targets_in t.states) (length t.states)
   pub classes : HasClasses g.nodes t.classes
+
+-- the path trees have these shapes, in the order of the states
+pub record AreStateTrees (g : Graph) (shapes : List (Shape ℕ)) (trees : List Outline) : Type 0 where
+  pub count : length trees ≡ length shapes
+  pub each : (i : ℕ) (s : Shape ℕ) → slice_get shapes i ≡ Some s → (t : Outline)
+      × (slice_get trees i ≡ Some t) × (t.machine ≡ g) × IsOfShape t s

@@ -14,7 +14,7 @@ ghost use Rattle.std.specs.Prelude.{◌≡◌, ◌<◌, ◌≤◌, OnOk, IfOk, I
 ghost use Rattle.kex_model.specs.States.{HasStates, HasMoreStates};
 ghost use Rattle.kex_machine.specs.Nodes.{node_moves};
 ghost use Rattle.kex_sst.specs.Machines.{IsTableOf};
-ghost use Rattle.kex_determine.specs.Determined.{IsDetermined};
+ghost use Rattle.kex_determine.specs.Determined.{AreStateTrees, IsDetermined};
 ghost use Rattle.kex_determine.specs.Numbering.{Refuses};
 
 use crate::refusal::DetRefusal;
@@ -38,6 +38,25 @@ pub fn determine(alloc: Global, machine: &Trimmed, max_states: u32) -> Result<Ta
     ensures refused { IfErr result (Refuses max_states
         (HasMoreStates (node_moves machine.now.nodes) machine.now.start max_states)) }
 {
+    let (table, _trees) = determine_trees(alloc, machine, max_states)?;
+    Ok(table)
+}
+
+/// The same, with the path tree of each state.
+pub fn determine_trees<'m>(
+    alloc: Global,
+    machine: &'m Trimmed,
+    max_states: u32,
+) -> Result<(Table, Vec<PathTree<'m>>), DetRefusal>
+    requires { max_states < 4294967295 }
+    ensures determined { IfOk result (λ r. (d : IsDetermined machine.now r.0)
+        × AreStateTrees machine.now d.shapes r.1.items) }
+    ensures table { IfOk result (λ r. IsTableOf machine.now r.0) }
+    ensures states { IfOk result (λ r. HasStates (node_moves machine.now.nodes) machine.now.start
+        (length r.0.states) × (length r.0.states ≤ max_states)) }
+    ensures refused { IfErr result (Refuses max_states
+        (HasMoreStates (node_moves machine.now.nodes) machine.now.start max_states)) }
+{
     // From each node the end is reached, so each tree has a leaf.
     let _nodes = machine.nodes();
     let partition = machine.partition();
@@ -46,5 +65,6 @@ pub fn determine(alloc: Global, machine: &Trimmed, max_states: u32) -> Result<Ta
     let (tree, update) = PathTree::start(alloc, machine)?;
     states.enter(alloc, tree)?;
     let rows = rows_of(alloc, machine, partition, &mut states, &mut workspace)?;
-    Ok(Table::new(partition.copy(), update, rows))
+    let table = Table::new(partition.copy(), update, rows);
+    Ok((table, states.into_trees()))
 }

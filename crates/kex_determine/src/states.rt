@@ -51,6 +51,13 @@ impl<'m> States<'m> {
         }
     }
 
+    /// The trees, by the numbers of their states.
+    pub fn into_trees(self) -> Vec<PathTree<'m>>
+        ensures { result ≡ self.entry.trees }
+    {
+        self.trees
+    }
+
     /// The number of a tree's shape: its own, or the next if it wasn't met before.
     pub fn enter(&mut self, alloc: Global, tree: PathTree<'m>) -> Result<u32, DetRefusal>
         requires few { self.old.most < 4294967295 }
