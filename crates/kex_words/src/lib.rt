@@ -14,6 +14,7 @@ mod notes;
 mod parts;
 mod reading;
 mod refusals;
+mod text_sink;
 mod writing;
 
 pub use asked::{Command, Lines, Mode, Rings, RunLimits, StateLimit, WordsRefusal};
@@ -22,4 +23,5 @@ pub use known::{asks_by_subcommand, asks_in_form, reads_known_words};
 pub use notes::{Note, tell};
 pub use reading::read;
 pub use refusals::{Refusal, RefusalPlace, Rule};
+pub use text_sink::push_line;
 pub use writing::write_all;

@@ -112,7 +112,7 @@ fn refused<N: Sink>(sink: &mut N, refusal: Refusal) -> Result<(), Failed>
     }
 }
 
-fn line<N: Sink>(sink: &mut N, note: Note) -> Result<(), Failed>
+pub(crate) fn line<N: Sink>(sink: &mut N, note: Note) -> Result<(), Failed>
     ensures tells { TellsGain (change_of N.held N.faults sink.old sink.new)
         (line_of note) result }
     ensures unfinished { IsUnfinished (N.ending sink.old) (N.ending sink.new) result }
