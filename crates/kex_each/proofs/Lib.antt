@@ -1,0 +1,5 @@
+pub mod TextLists
+pub mod LineLists
+pub mod ChainAnswers
+pub mod DeskLists
+pub mod KeptLines
