@@ -6,8 +6,8 @@ use Rattle.std.proofs.lemmas.List.{map-append}
 use Rattle.std.proofs.Math.ListN.{set}
 use Rattle.kex_pipe.specs.Rounds.{Each}
 use Rattle.kex_stage.specs.Stages.{StagePlan}
-use Rattle.kex_each.specs.Answers.{StagesAnswer}
-use Rattle.kex_each.specs.Desks.{AllWorked, DeskState, HavePlans, all_plans, answers_of, between, cleared, first_plans}
+use Rattle.kex_each.specs.Answers.{PlansAnswerLines}
+use Rattle.kex_each.specs.Desks.{AllWorked, DeskState, HavePlans, all_plans, answers_of, lines_between, without_answers, first_plans}
 
 pub each_both : {A B : Type 0} (R : A → B → Type 0) (xs us : List A) (ys vs : List B) → Each R xs ys → Each R us vs → Each R (xs ++ us) (ys ++ vs)
 each_both R [] us [] vs h k = k
@@ -33,10 +33,10 @@ length_drop' zero xs = omega arith
 length_drop' (suc n) [] = omega arith
 length_drop' (suc n) (x ∷ xs) = let h = length_drop' n xs in omega (arith, h)
 
-pub between_none : (from : ℕ) (lines : List (List ℕ)) → between from from lines ≡ []
+pub between_none : (from : ℕ) (lines : List (List ℕ)) → lines_between from from lines ≡ []
 between_none from lines = let none : from - from ≡ 0 = omega arith in ap (λ n. take n (drop from lines)) none
 
-pub between_more : (from i : ℕ) (lines : List (List ℕ)) → from ≤ i → i < length lines → between from (i + 1) lines ≡ between from i lines ++ get_or lines i [] ∷ []
+pub between_more : (from i : ℕ) (lines : List (List ℕ)) → from ≤ i → i < length lines → lines_between from (i + 1) lines ≡ lines_between from i lines ++ get_or lines i [] ∷ []
 between_more from i lines le lt =
     let n : (i + 1) - from ≡ suc (i - from) = omega (arith, le) in
     let long = length_drop' from lines in
@@ -62,13 +62,13 @@ drop_both zero n xs = let e : n ≡ 0 + n = omega arith in ap (λ k. drop k xs) 
 drop_both (suc m) n [] = none_dropped n ∙ sym (none_dropped (suc m + n))
 drop_both (suc m) n (x ∷ xs) = let e : suc (m + n) ≡ suc m + n = omega arith in drop_both m n xs ∙ ap (λ k. drop k (x ∷ xs)) e
 
-pub between_both : (from cut to : ℕ) (lines : List (List ℕ)) → from ≤ cut → cut ≤ to → between from to lines ≡ between from cut lines ++ between cut to lines
+pub between_both : (from cut to : ℕ) (lines : List (List ℕ)) → from ≤ cut → cut ≤ to → lines_between from to lines ≡ lines_between from cut lines ++ lines_between cut to lines
 between_both from cut to lines le le' =
     let n : to - from ≡ (cut - from) + (to - cut) = omega (arith, le, le') in
     let at : from + (cut - from) ≡ cut = omega (arith, le) in
     ap (λ k. take k (drop from lines)) n ∙ take_both (cut - from) (to - cut) (drop from lines) ∙ ap (λ z. take (cut - from) (drop from lines) ++ take (to - cut) z) (drop_both from (cut - from) lines ∙ ap (λ k. drop k lines) at)
 
-pub between_all : (lines : List (List ℕ)) → between 0 (length lines) lines ≡ lines
+pub between_all : (lines : List (List ℕ)) → lines_between 0 (length lines) lines ≡ lines
 between_all lines = let n : length lines - 0 ≡ length lines = omega arith in ap (λ k. take k lines) n ∙ all lines
   where
     all : {A : Type 0} (xs : List A) → take (length xs) xs ≡ xs
@@ -123,33 +123,33 @@ both_worked a b ls ms fs fs' bs bs' one other = record {
   same = map-append (λ (d : DeskState). d.plans) fs' bs' ∙ ap₂ (λ y z. y ++ z) one.same other.same ∙ sym (map-append (λ (d : DeskState). d.plans) fs bs);
   answered = λ yes ps h.
       let d = both_true a b yes in
-      subst (λ z. StagesAnswer ps (ls ++ ms) z) (sym (answers_both fs' bs'))
+      subst (λ z. PlansAnswerLines ps (ls ++ ms) z) (sym (answers_both fs' bs'))
       (each_both _ ls ms (answers_of fs') (answers_of bs') (one.answered d.0 ps (plans_front ps fs bs h)) (other.answered d.1 ps (plans_back ps fs bs h)));
 }
 
-pub one_worked : (done : Bool) (lines : List (List ℕ)) (ds : List DeskState) (d d' : DeskState) → length ds < 2 → 0 < length ds → d ≡ get_or ds 0 d → d'.plans ≡ d.plans → (done ≡ true → StagesAnswer d.plans lines d'.answers) → AllWorked done lines ds (set ds 0 d')
+pub one_worked : (done : Bool) (lines : List (List ℕ)) (ds : List DeskState) (d d' : DeskState) → length ds < 2 → 0 < length ds → d ≡ get_or ds 0 d → d'.plans ≡ d.plans → (done ≡ true → PlansAnswerLines d.plans lines d'.answers) → AllWorked done lines ds (set ds 0 d')
 one_worked done lines [] d d' few some is same answers = let bad : ⊥ = omega (arith, some) in absurd bad
 one_worked done lines (a ∷ b ∷ ds) d d' few some is same answers = let bad : ⊥ = omega (arith, few) in absurd bad
 one_worked done lines (a ∷ []) d d' few some is same answers = record {
   same = ap (λ z. z ∷ []) (same ∙ ap (λ (z : DeskState). z.plans) is);
   answered = λ yes ps h.
       let own : d.plans ≡ ps = ap (λ (z : DeskState). z.plans) is ∙ h.0 in
-      subst (λ z. StagesAnswer ps lines z) (sym (append-nil d'.answers)) (subst (λ z. StagesAnswer z lines d'.answers) own (answers yes));
+      subst (λ z. PlansAnswerLines ps lines z) (sym (append-nil d'.answers)) (subst (λ z. PlansAnswerLines z lines d'.answers) own (answers yes));
 }
 
 -- ---- desks whose answers went
 
-pub cleared_plans : (ps : List StagePlan) (ds : List DeskState) → HavePlans ps ds → HavePlans ps (cleared ds)
+pub cleared_plans : (ps : List StagePlan) (ds : List DeskState) → HavePlans ps ds → HavePlans ps (without_answers ds)
 cleared_plans ps [] h = tt
 cleared_plans ps (d ∷ ds) h = (h.0, cleared_plans ps ds h.1)
 
-pub cleared_none : (n : ℕ) (ds : List DeskState) → answers_of (drop n (cleared ds)) ≡ []
+pub cleared_none : (n : ℕ) (ds : List DeskState) → answers_of (drop n (without_answers ds)) ≡ []
 cleared_none zero [] = refl
 cleared_none zero (d ∷ ds) = cleared_none zero ds
 cleared_none (suc n) [] = refl
 cleared_none (suc n) (d ∷ ds) = cleared_none n ds
 
-pub cleared_length : (ds : List DeskState) → length (cleared ds) ≡ length ds
+pub cleared_length : (ds : List DeskState) → length (without_answers ds) ≡ length ds
 cleared_length [] = refl
 cleared_length (d ∷ ds) = ap suc (cleared_length ds)
 
@@ -162,12 +162,12 @@ answers_more n ds d lt is =
     let one : n + 1 ≡ suc n = omega arith in
     ap (λ k. answers_of (take k ds)) one ∙ ap answers_of (take_more' n ds d lt) ∙ answers_both (take n ds) (get_or ds n d ∷ []) ∙ ap (λ (z : List (List ℕ)). answers_of (take n ds) ++ z) (append-nil (get_or ds n d).answers) ∙ ap (λ (z : DeskState). answers_of (take n ds) ++ z.answers) (sym is)
 
-cleared_at : (i : ℕ) (ds : List DeskState) (d : DeskState) → i < length ds → get_or (cleared (take i ds) ++ drop i ds) i d ≡ get_or ds i d
+cleared_at : (i : ℕ) (ds : List DeskState) (d : DeskState) → i < length ds → get_or (without_answers (take i ds) ++ drop i ds) i d ≡ get_or ds i d
 cleared_at zero ds d lt = refl
 cleared_at (suc i) [] d lt = refl
 cleared_at (suc i) (x ∷ ds) d lt = cleared_at i ds d (omega (arith, lt))
 
-cleared_set : (i : ℕ) (ds : List DeskState) (x : DeskState) → i < length ds → x ≡ record (get_or ds i x) { answers = [] } → set (cleared (take i ds) ++ drop i ds) i x ≡ cleared (take (suc i) ds) ++ drop (suc i) ds
+cleared_set : (i : ℕ) (ds : List DeskState) (x : DeskState) → i < length ds → x ≡ record (get_or ds i x) { answers = [] } → set (without_answers (take i ds) ++ drop i ds) i x ≡ without_answers (take (suc i) ds) ++ drop (suc i) ds
 cleared_set zero [] x lt e = let bad : ⊥ = omega (arith, lt) in absurd bad
 cleared_set zero (y ∷ ds) x lt e = ap (λ z. z ∷ ds) e
 cleared_set (suc i) [] x lt e = let bad : ⊥ = omega (arith, lt) in absurd bad
@@ -178,11 +178,11 @@ same_desk i [] d d' lt = let bad : ⊥ = omega (arith, lt) in absurd bad
 same_desk zero (y ∷ ds) d d' lt = refl
 same_desk (suc i) (y ∷ ds) d d' lt = same_desk i ds d d' (omega (arith, lt))
 
-pub cleared_more : (i : ℕ) (old now : List DeskState) (x d : DeskState) → i < length old → now ≡ cleared (take i old) ++ drop i old → d ≡ get_or now i d → x ≡ record d { answers = [] } → set now i x ≡ cleared (take (i + 1) old) ++ drop (i + 1) old
+pub cleared_more : (i : ℕ) (old now : List DeskState) (x d : DeskState) → i < length old → now ≡ without_answers (take i old) ++ drop i old → d ≡ get_or now i d → x ≡ record d { answers = [] } → set now i x ≡ without_answers (take (i + 1) old) ++ drop (i + 1) old
 cleared_more i old now x d lt is at e =
     let one : suc i ≡ i + 1 = omega arith in
     let here : d ≡ get_or old i x = at ∙ ap (λ z. get_or z i d) is ∙ cleared_at i old d lt ∙ same_desk i old d x lt in
-    ap (λ z. set z i x) is ∙ cleared_set i old x lt (e ∙ ap (λ (z : DeskState). record z { answers = [] }) here) ∙ ap (λ k. cleared (take k old) ++ drop k old) one
+    ap (λ z. set z i x) is ∙ cleared_set i old x lt (e ∙ ap (λ (z : DeskState). record z { answers = [] }) here) ∙ ap (λ k. without_answers (take k old) ++ drop k old) one
 
 pub on_ok_true : {A E P : Type 0} (r : Result A E) → OnOk r P → is_ok r ≡ true → P
 on_ok_true (Ok x) h e = h
@@ -197,19 +197,19 @@ err_both (Err x) one other e is bad = ap (λ z. is_ok z && is_ok other) is
 pub each_more : {A B : Type 0} (R : A → B → Type 0) (xs : List A) (ys : List B) (x : A) (y : B) → Each R xs ys → R x y → Each R (xs ++ x ∷ []) (ys ++ y ∷ [])
 each_more R xs ys x y h r = each_both R xs (x ∷ []) ys (y ∷ []) h (r, tt)
 
-cleared_same : (ds : List DeskState) → all_plans (cleared ds) ≡ all_plans ds
+cleared_same : (ds : List DeskState) → all_plans (without_answers ds) ≡ all_plans ds
 cleared_same [] = refl
 cleared_same (d ∷ ds) = ap (λ z. d.plans ∷ z) (cleared_same ds)
 
-pub none_worked : (old : List DeskState) → AllWorked true [] old (cleared old)
-none_worked old = record { same = cleared_same old; answered = λ yes ps h. subst (λ z. StagesAnswer ps [] z) (sym (cleared_none 0 old)) tt }
+pub none_worked : (old : List DeskState) → AllWorked true [] old (without_answers old)
+none_worked old = record { same = cleared_same old; answered = λ yes ps h. subst (λ z. PlansAnswerLines ps [] z) (sym (cleared_none 0 old)) tt }
 
-pub parts_worked : (done : Bool) (lines : List (List ℕ)) (old busy idle busy' : List DeskState) → cleared old ≡ busy ++ idle → answers_of idle ≡ [] → AllWorked done lines busy busy' → AllWorked done lines old (busy' ++ idle)
+pub parts_worked : (done : Bool) (lines : List (List ℕ)) (old busy idle busy' : List DeskState) → without_answers old ≡ busy ++ idle → answers_of idle ≡ [] → AllWorked done lines busy busy' → AllWorked done lines old (busy' ++ idle)
 parts_worked done lines old busy idle busy' cut none work = record {
   same = map-append (λ (d : DeskState). d.plans) busy' idle ∙ ap (λ z. z ++ all_plans idle) work.same ∙ sym (map-append (λ (d : DeskState). d.plans) busy idle) ∙ ap all_plans (sym cut) ∙ cleared_same old;
   answered = λ yes ps h.
       let own = plans_front ps busy idle (subst (λ z. HavePlans ps z) cut (cleared_plans ps old h)) in
-      subst (λ z. StagesAnswer ps lines z) (sym (answers_both busy' idle ∙ ap (λ z. answers_of busy' ++ z) none ∙ append-nil (answers_of busy'))) (work.answered yes ps own);
+      subst (λ z. PlansAnswerLines ps lines z) (sym (answers_both busy' idle ∙ ap (λ z. answers_of busy' ++ z) none ∙ append-nil (answers_of busy'))) (work.answered yes ps own);
 }
 
 abbrev pub AreDesks : List DeskState → Type 0

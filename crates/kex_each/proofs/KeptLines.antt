@@ -5,7 +5,7 @@ use Rattle.kex_model.specs.Answers.{Answer, Answers, LongestGood, bad_byte, too_
 use Rattle.kex_machine.specs.Answers.{HasRun, IsViableFor, MeansByRun, SaysByRun}
 use Rattle.kex_stage.specs.Plans.{Planned}
 use Rattle.kex_stage.specs.Stages.{StagePlan}
-use Rattle.kex_each.specs.Answers.{AnswersLine, StagesAnswer, plans_within}
+use Rattle.kex_each.specs.Answers.{AnswersLine, PlansAnswerLines, plans_within}
 use Rattle.kex_each.specs.Laws.{IsKeptEnough}
 use Rattle.kex_each.specs.Lines.{fronts_of}
 use Rattle.kex_each.specs.Pieces.{IsEnough}

@@ -5,7 +5,7 @@ use Rattle.std.specs.Prelude.{◌==◌, Result, Ok, Err, OnOk, if◌then◌else�
 use Rattle.memchr.specs.Find.{NoneBefore, Nowhere, Passes, is_byte}
 use Rattle.std.proofs.lemmas.List.{map-append, take-append-drop}
 use Rattle.std.proofs.Math.Seq.{take-append-add, take-length}
-use Rattle.kex_each.specs.Lines.{BegunLine, IsBegunBehind, ReadsLines, begun_behind, fronts_of, has_some, is_line_feed, lines_behind, lines_of, unless_empty}
+use Rattle.kex_each.specs.Lines.{BegunLine, IsBegunBehind, ReadsLines, begun_behind, fronts_of, has_some, is_line_feed, lines_behind, lines_of, line_if_some}
 use Rattle.kex_each.specs.Laws.{BeginsLines, ByPieces}
 
 pub by_pieces : (line v u : List ℕ) → ByPieces line v u
@@ -32,8 +32,8 @@ by_pieces line (b ∷ v) u = by (is_line_feed b) (by_pieces [] v u) (by_pieces (
 pub begins_lines : (v u : List ℕ) (e : Bool) → BeginsLines v u e
 begins_lines v u false = record { more = lines_behind (begun_behind [] v) u; front = (by_pieces [] v u).lines }
 begins_lines v u true = record {
-  more = lines_behind (begun_behind [] v) u ++ unless_empty (begun_behind [] (v ++ u));
-  front = ap (λ z. z ++ unless_empty (begun_behind [] (v ++ u))) (by_pieces [] v u).lines ∙ append_assoc (lines_behind [] v) (lines_behind (begun_behind [] v) u) (unless_empty (begun_behind [] (v ++ u)));
+  more = lines_behind (begun_behind [] v) u ++ line_if_some (begun_behind [] (v ++ u));
+  front = ap (λ z. z ++ line_if_some (begun_behind [] (v ++ u))) (by_pieces [] v u).lines ∙ append_assoc (lines_behind [] v) (lines_behind (begun_behind [] v) u) (line_if_some (begun_behind [] (v ++ u)));
 }
 
 -- bytes among which there is no line feed

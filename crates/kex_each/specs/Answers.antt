@@ -1,5 +1,6 @@
 -- What a program answers to each line, as to an input of its own.
-use Rattle.std.specs.Prelude.{◌≡◌, ◌++◌, ℕ, Bool, true, false, List, [], ◌∷◌, Option, Some, None, map}
+use Rattle.std.specs.Prelude.{◌≡◌, ◌++◌, ℕ, Bool, true, false, List, [], ◌∷◌, map}
+use Rattle.std.specs.Prelude.{Option, Some, None}
 use Rattle.kex_model.specs.Answers.{Answer, Report, Pipeline, Why, at_byte, at_end, at_limit}
 use Rattle.kex_pipe.specs.Rounds.{Each}
 use Rattle.kex_stage.specs.Plans.{Planned, machine_of}
@@ -34,5 +35,5 @@ abbrev pub plans_within : ℕ → List Planned → List StagePlan
 plans_within limit plans = map (λ m. record { machine = m; limit = limit }) (map machine_of plans)
 
 -- what stages answer to lines
-abbrev pub StagesAnswer : List StagePlan → List (List ℕ) → List (List ℕ) → Type 0
-StagesAnswer ps lines texts = AnswersLines (λ p w e a. Gives p w e a) ps lines texts
+abbrev pub PlansAnswerLines : List StagePlan → List (List ℕ) → List (List ℕ) → Type 0
+PlansAnswerLines ps lines texts = AnswersLines (λ p w e a. Gives p w e a) ps lines texts

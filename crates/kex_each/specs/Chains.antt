@@ -8,8 +8,8 @@ use Rattle.kex_stage.specs.contracts.stage.StageTurn.TheImpl.{ghosts}
 use Rattle.kex_stage.specs.declared.stage.Stage.{Stage}
 
 -- the plans of stages
-abbrev pub plans_of : List Stage → List StagePlan
-plans_of stages = map ghosts.plan stages
+abbrev pub chain_plans : List Stage → List StagePlan
+chain_plans stages = map ghosts.plan stages
 
 -- the text and the stop are the answer of a stage with this plan on an input, open or (true) ended
 pub record IsStageAnswer (p : StagePlan) (input : List ℕ) (ended : Bool) (text : List ℕ)

@@ -1,7 +1,7 @@
 -- What desks have answered.
 use Rattle.std.specs.Prelude.{◌≡◌, ◌-◌, ◌++◌, ℕ, Bool, true, List, [], ◌∷◌, map, take, drop}
 use Rattle.kex_stage.specs.Stages.{StagePlan}
-use Rattle.kex_each.specs.Answers.{StagesAnswer}
+use Rattle.kex_each.specs.Answers.{PlansAnswerLines}
 
 -- the plans of a desk's stages, and its answers
 pub record DeskState : Type 0 where
@@ -9,8 +9,8 @@ pub record DeskState : Type 0 where
   pub answers : List (List ℕ)
 
 -- the lines from one place up to another
-abbrev pub between : ℕ → ℕ → List (List ℕ) → List (List ℕ)
-between from to lines = take (to - from) (drop from lines)
+abbrev pub lines_between : ℕ → ℕ → List (List ℕ) → List (List ℕ)
+lines_between from to lines = take (to - from) (drop from lines)
 
 -- the answers of desks, one behind the other
 abbrev pub answers_of : List DeskState → List (List ℕ)
@@ -30,11 +30,11 @@ abbrev pub all_plans : List DeskState → List (List StagePlan)
 all_plans desks = map (λ d. d.plans) desks
 
 -- desks whose answers went
-abbrev pub cleared : List DeskState → List DeskState
-cleared desks = map (λ (d : DeskState). record d { answers = [] }) desks
+abbrev pub without_answers : List DeskState → List DeskState
+without_answers desks = map (λ (d : DeskState). record d { answers = [] }) desks
 
 -- desks with the same plans have answered the lines, or one wanted memory
 pub record AllWorked (done : Bool) (lines : List (List ℕ)) (old new : List DeskState) : Type 0 where
   pub same : all_plans new ≡ all_plans old
   pub answered : done ≡ true → (ps : List StagePlan) → HavePlans ps old
-      → StagesAnswer ps lines (answers_of new)
+      → PlansAnswerLines ps lines (answers_of new)

@@ -1,7 +1,7 @@
 -- What holds of lines and of the answers to them.
 use Rattle.std.specs.Prelude.{◌≡◌, ◌++◌, ℕ, Bool, false, List}
 use Rattle.kex_stage.specs.Stages.{StagePlan}
-use Rattle.kex_each.specs.Answers.{StagesAnswer}
+use Rattle.kex_each.specs.Answers.{PlansAnswerLines}
 use Rattle.kex_each.specs.Lines.{begun_behind, fronts_of, lines_behind, lines_of}
 use Rattle.kex_each.specs.Pieces.{IsEnough}
 
@@ -19,4 +19,4 @@ pub record BeginsLines (v u : List ℕ) (e : Bool) : Type 0 where
 -- the answer to so much of a line is that to the line
 abbrev pub IsKeptEnough : Type 0
 IsKeptEnough = (keep : ℕ) (ps : List StagePlan) → IsEnough keep ps → (lines texts : List (List ℕ))
-    → StagesAnswer ps (fronts_of keep lines) texts → StagesAnswer ps lines texts
+    → PlansAnswerLines ps (fronts_of keep lines) texts → PlansAnswerLines ps lines texts

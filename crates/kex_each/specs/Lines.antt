@@ -1,9 +1,12 @@
 -- The lines of a text.
-use Rattle.std.specs.Prelude.{◌≡◌, ◌==◌, ◌++◌, ℕ, Bool, true, false, List, [], ◌∷◌, if◌then◌else◌, map}
-use Rattle.std.specs.Prelude.{take}
+use Rattle.std.specs.Prelude.{◌≡◌, ◌==◌, ◌++◌, ℕ, Bool, true, false, List, [], ◌∷◌}
+use Rattle.std.specs.Prelude.{if◌then◌else◌, map, take}
+
+abbrev pub line_mark : ℕ
+line_mark = 10
 
 abbrev pub is_line_feed : ℕ → Bool
-is_line_feed b = b == 10
+is_line_feed b = b == line_mark
 
 -- the lines that a text ends, of which the first was begun before it
 abbrev pub lines_behind : List ℕ → List ℕ → List (List ℕ)
@@ -21,14 +24,14 @@ abbrev pub has_some : List ℕ → Bool
 has_some [] = false
 has_some (b ∷ w) = true
 
-abbrev pub unless_empty : List ℕ → List (List ℕ)
-unless_empty line = if has_some line then line ∷ [] else []
+abbrev pub line_if_some : List ℕ → List (List ℕ)
+line_if_some line = if has_some line then line ∷ [] else []
 
 -- the lines of a text: what stands between line feeds, without them; at its end (true) also an
 -- unfinished one, if it isn't empty
 abbrev pub lines_of : List ℕ → Bool → List (List ℕ)
 lines_of w false = lines_behind [] w
-lines_of w true = lines_behind [] w ++ unless_empty (begun_behind [] w)
+lines_of w true = lines_behind [] w ++ line_if_some (begun_behind [] w)
 
 -- of each line so many bytes, from its front
 abbrev pub fronts_of : ℕ → List (List ℕ) → List (List ℕ)
@@ -46,6 +49,7 @@ pub record IsBegunBehind (w : List ℕ) (l : BegunLine) : Type 0 where
   pub begun : l.begun ≡ has_some (begun_behind [] w)
 
 -- a piece was read behind w: the lines that it ends were put behind others
-pub record ReadsLines (w piece : List ℕ) (l : BegunLine) (before after : List (List ℕ)) : Type 0 where
+pub record ReadsLines (w piece : List ℕ) (l : BegunLine)
+    (before after : List (List ℕ)) : Type 0 where
   pub ended : after ≡ before ++ fronts_of l.keep (lines_behind (begun_behind [] w) piece)
   pub begun : IsBegunBehind (w ++ piece) l

@@ -2,7 +2,7 @@
 use Rattle.std.specs.Prelude.{◌≡◌, ◌+◌, ◌++◌, ℕ, List, [], ◌∷◌}
 use Rattle.std.specs.List.{concat}
 use Rattle.kex_stage.specs.Stages.{StagePlan}
-use Rattle.kex_each.specs.Answers.{StagesAnswer}
+use Rattle.kex_each.specs.Answers.{PlansAnswerLines}
 use Rattle.kex_each.specs.Lines.{BegunLine}
 
 -- the plans by which lines are answered, and the unfinished line
@@ -20,5 +20,5 @@ IsEnough keep (p ∷ ps) = keep ≡ p.limit + 1
 pub record WritesAnswers (ps : List StagePlan) (lines : List (List ℕ))
     (before after : List ℕ) : Type 0 where
   pub texts : List (List ℕ)
-  pub answers : StagesAnswer ps lines texts
+  pub answers : PlansAnswerLines ps lines texts
   pub written : after ≡ before ++ concat texts

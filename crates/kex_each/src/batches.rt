@@ -2,7 +2,7 @@
 
 ghost use Rattle.std.specs.Prelude.{◌≡◌, ◌≤◌, IfOk, map};
 ghost use Rattle.kex_stage.specs.Stages.{Gives};
-ghost use Rattle.kex_each.specs.Answers.{AnswersLine, StagesAnswer, plans_within};
+ghost use Rattle.kex_each.specs.Answers.{AnswersLine, PlansAnswerLines, plans_within};
 
 use crate::clerk::Clerk;
 use crate::desks::Desks;
@@ -38,7 +38,7 @@ pub fn batch<R: Threads + Sync, G: Gate + Sync>(
     gate: &G,
 ) -> Result<Vec<Vec<u8>>, Memory>
     requires { (1 ≤ workers) × (workers ≤ 64) }
-    ensures { IfOk result (λ answers. StagesAnswer (plans_within max_input plans.now)
+    ensures { IfOk result (λ answers. PlansAnswerLines (plans_within max_input plans.now)
         (map (λ v. v.items) lines.now) (map (λ v. v.items) answers.items)) }
 {
     let mut packed = Texts::new(alloc);

@@ -8,7 +8,7 @@ ghost use Rattle.kex_pipe.specs.Reports.{latest_report, report_as};
 ghost use Rattle.kex_stage.specs.Stages.{Gives};
 ghost use Rattle.kex_words.specs.Lines.{line_of};
 ghost use Rattle.kex_each.specs.Answers.{AnswersLine, answer_text, plans_within, told_of_stop};
-ghost use Rattle.kex_each.specs.Chains.{IsStageAnswer, plans_of};
+ghost use Rattle.kex_each.specs.Chains.{IsStageAnswer, chain_plans};
 
 use crate::texts::Texts;
 use kex_code::memory::Memory;
@@ -34,12 +34,12 @@ pub struct Clerk<'p> {
 
 impl<'p> Model for Clerk<'p> {
     ghost use Rattle.std.specs.Prelude.{◌<◌, ◌^◌, List, length};
-    ghost use Rattle.kex_each.specs.Chains.{plans_of};
+    ghost use Rattle.kex_each.specs.Chains.{chain_plans};
     ghost use Rattle.kex_stage.specs.Stages.{StagePlan};
 
     ghost Value = { List StagePlan };
 
-    ghost view = { λ c. plans_of c.stages.items };
+    ghost view = { λ c. chain_plans c.stages.items };
 
     ghost invariant = { λ c. length c.stages.items < 2 ^ 32 };
 }
@@ -92,9 +92,9 @@ fn answer_in_turn<'p>(
     next: &mut Vec<u8>,
 ) -> Result<Option<Rejected>, Memory>
     requires { length stages.old < 2 ^ 32 }
-    ensures same { plans_of stages.new ≡ plans_of stages.old }
+    ensures same { chain_plans stages.new ≡ chain_plans stages.old }
     ensures answers { IfOk result (λ report. Pipeline (λ p w e a. Gives p w e a) 1
-        (plans_of stages.old) text.old.items true text.new.items (report_as report)) }
+        (chain_plans stages.old) text.old.items true text.new.items (report_as report)) }
 {
     let mut ended = true;
     let mut report = None;

@@ -12,12 +12,12 @@ use std::marker::Model;
 
 /// What works on lines at a place of its own, and keeps its answers.
 ///
-/// Threads are started by functions over a type parameter: where the type has a lifetime of its own,
-/// what a borrow of it comes back with isn't known.
+/// Threads are started by functions over a type parameter: where the type has a lifetime of its
+/// own, what a borrow of it comes back with isn't known.
 pub trait LineDesk {
     ghost use Rattle.std.specs.Prelude.{◌≡◌, ◌≤◌, [], OnOk, length};
-    ghost use Rattle.kex_each.specs.Answers.{StagesAnswer};
-    ghost use Rattle.kex_each.specs.Desks.{DeskState, between};
+    ghost use Rattle.kex_each.specs.Answers.{PlansAnswerLines};
+    ghost use Rattle.kex_each.specs.Desks.{DeskState, lines_between};
 
     ghost state: { Self → DeskState };
 
@@ -29,8 +29,8 @@ pub trait LineDesk {
     fn work(&mut self, lines: &Texts, from: usize, to: usize) -> Result<(), Memory>
         requires { (from ≤ to) × (to ≤ length lines.now) }
         ensures plans { (state self.new).plans ≡ (state self.old).plans }
-        ensures answers { OnOk result (StagesAnswer (state self.old).plans
-            (between from to lines.now) (state self.new).answers) };
+        ensures answers { OnOk result (PlansAnswerLines (state self.old).plans
+            (lines_between from to lines.now) (state self.new).answers) };
 }
 
 /// A clerk at a desk of its own, with what it has answered.

@@ -1,10 +1,11 @@
 // Desks that share lines out among threads.
 
-ghost use Rattle.std.specs.Prelude.{◌≡◌, ◌+◌, ◌≤◌, ◌<◌, ◌^◌, ◌++◌, [], IfOk, OnOk, is_ok, length, map};
+ghost use Rattle.std.specs.Prelude.{◌≡◌, ◌+◌, ◌≤◌, ◌<◌, ◌^◌, ◌++◌, [], IfOk, OnOk, is_ok};
+ghost use Rattle.std.specs.Prelude.{length, map};
 ghost use Rattle.std.specs.List.{concat};
 ghost use Rattle.std.specs.Thread.{IsSync};
-ghost use Rattle.kex_each.specs.Answers.{StagesAnswer, plans_within};
-ghost use Rattle.kex_each.specs.Desks.{AllWorked, between, cleared};
+ghost use Rattle.kex_each.specs.Answers.{PlansAnswerLines, plans_within};
+ghost use Rattle.kex_each.specs.Desks.{AllWorked, lines_between, without_answers};
 
 use crate::desk::{Desk, LineDesk};
 use crate::texts::Texts;
@@ -32,8 +33,8 @@ fn work_one<D: LineDesk, G: Gate>(
 ) -> Result<(), Memory>
     requires { (from ≤ to) × (to ≤ length lines.now) }
     ensures plans { (D.state desk.new).plans ≡ (D.state desk.old).plans }
-    ensures answers { OnOk result (StagesAnswer (D.state desk.old).plans
-        (between from to lines.now) (D.state desk.new).answers) }
+    ensures answers { OnOk result (PlansAnswerLines (D.state desk.old).plans
+        (lines_between from to lines.now) (D.state desk.new).answers) }
 {
     gate.enter(part);
     let worked = desk.work(lines, from, to);
@@ -63,7 +64,7 @@ fn work_all<R: Threads + Sync, D: LineDesk + Send, G: Gate + Sync>(
     requires some { 0 < length desks.old }
     requires few { first + length desks.old ≤ 2 ^ 32 }
     requires within { (from ≤ to) × (to ≤ length lines.now) }
-    ensures { AllWorked (is_ok result) (between from to lines.now)
+    ensures { AllWorked (is_ok result) (lines_between from to lines.now)
         (map D.state desks.old) (map D.state desks.new) }
 {
     let count = desks.len();
@@ -76,7 +77,7 @@ fn work_all<R: Threads + Sync, D: LineDesk + Send, G: Gate + Sync>(
     let half = count / 2;
     let next = first + half as u32;
     let cut = from + share_of(to - from, count, half);
-    // Each closure borrows a number of its own, so that what it was lent is back before the other's.
+    // Each closure borrows a number of its own: what it was lent is back before the other's is.
     let end = cut;
     let (front, back) = desks.split_at_mut(half);
     let (one, other) = join_mut(
@@ -84,13 +85,13 @@ fn work_all<R: Threads + Sync, D: LineDesk + Send, G: Gate + Sync>(
         &mut || -> Result<(), Memory>
             requires { IsSync R.row × (0 < length front.now)
                 × (first + length front.now ≤ 2 ^ 32) × (from ≤ end) × (end ≤ length lines.now) }
-            ensures { AllWorked (is_ok result) (between from end lines.entry.now)
+            ensures { AllWorked (is_ok result) (lines_between from end lines.entry.now)
                 (map D.state front.entry.now) (map D.state front.exit.now) }
         { work_all(rt, gate, first, lines, from, end, front) },
         &mut || -> Result<(), Memory>
             requires { IsSync R.row × (0 < length back.now)
                 × (next + length back.now ≤ 2 ^ 32) × (cut ≤ to) × (to ≤ length lines.now) }
-            ensures { AllWorked (is_ok result) (between cut to lines.entry.now)
+            ensures { AllWorked (is_ok result) (lines_between cut to lines.entry.now)
                 (map D.state back.entry.now) (map D.state back.exit.now) }
         { work_all(rt, gate, next, lines, cut, to, back) },
     );
@@ -100,14 +101,15 @@ fn work_all<R: Threads + Sync, D: LineDesk + Send, G: Gate + Sync>(
 
 // No desk has answers any more.
 fn clear_all<D: LineDesk>(desks: &mut [D])
-    ensures { map D.state desks.new ≡ cleared (map D.state desks.old) }
+    ensures { map D.state desks.new ≡ without_answers (map D.state desks.old) }
 {
     for i in 0..desks.len() {
         desks[i].clear();
     }
 }
 
-// The work of desks on lines, in the place of what they had answered: of as many as there are lines.
+// The work of desks on lines, in the place of what they had answered. Of desks beyond the number of
+// lines there is none.
 fn answer_in_parts<R: Threads + Sync, D: LineDesk + Send, G: Gate + Sync>(
     rt: &R,
     gate: &G,
@@ -171,7 +173,7 @@ impl<'p> Desks<'p> {
         lines: &Texts,
     ) -> Result<(), Memory>
         ensures plans { self.new.plans ≡ self.old.plans }
-        ensures answers { OnOk result (StagesAnswer self.old.plans lines.now self.new.answers) }
+        ensures answers { OnOk result (PlansAnswerLines self.old.plans lines.now self.new.answers) }
     {
         answer_in_parts(rt, gate, lines, &mut self.desks)
     }

@@ -3,7 +3,7 @@
 ghost use Rattle.std.specs.Prelude.{◌≡◌, ◌+◌, ◌<◌, ◌≤◌, ◌^◌, ◌++◌, [], List, ℕ, IfOk, OnOk, length};
 ghost use Rattle.std.specs.List.{concat};
 ghost use Rattle.kex_each.specs.Answers.{plans_within};
-ghost use Rattle.kex_each.specs.Lines.{IsBegunBehind, begun_behind, lines_behind, unless_empty};
+ghost use Rattle.kex_each.specs.Lines.{IsBegunBehind, begun_behind, lines_behind, line_if_some};
 ghost use Rattle.kex_each.specs.Pieces.{WritesAnswers};
 
 use crate::desks::Desks;
@@ -39,8 +39,8 @@ impl<'p> Model for LineAnswers<'p> {
 }
 
 impl<'p> LineAnswers<'p> {
-    /// Nothing was read. The lines are answered by the stages of these plans, each of which takes at
-    /// most so many bytes, and so many workers share them.
+    /// Nothing was read. The lines are answered by the stages of these plans, each of which takes
+    /// at most so many bytes, and so many workers share them.
     pub fn new(
         alloc: Global,
         plans: &'p [Plan],
@@ -91,7 +91,7 @@ impl<'p> LineAnswers<'p> {
     ) -> Result<(), Memory>
         ensures plans { self.new.plans ≡ self.old.plans }
         ensures answers { OnOk result ((w : List ℕ) → IsBegunBehind w self.old.begun
-            → WritesAnswers self.old.plans (unless_empty (begun_behind [] w))
+            → WritesAnswers self.old.plans (line_if_some (begun_behind [] w))
             out.old.items out.new.items) }
     {
         self.ended.clear();

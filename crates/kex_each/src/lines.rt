@@ -1,8 +1,8 @@
 // The lines of a text that comes in pieces.
 
 ghost use Rattle.std.specs.Prelude.{◌≡◌, ◌++◌, ◌∷◌, ◌||◌, [], List, ℕ, OnOk, false, map, take};
-ghost use Rattle.kex_each.specs.Lines.{IsBegunBehind, ReadsLines, begun_behind, fronts_of, has_some};
-ghost use Rattle.kex_each.specs.Lines.{unless_empty};
+ghost use Rattle.kex_each.specs.Lines.{IsBegunBehind, ReadsLines, begun_behind, fronts_of};
+ghost use Rattle.kex_each.specs.Lines.{has_some, line_if_some};
 
 use crate::texts::Texts;
 use kex_code::memory::Memory;
@@ -51,7 +51,8 @@ impl Lines {
 
     // Reads bytes among which there is no line feed.
     fn go_on(&mut self, bytes: &[u8]) -> Result<(), Memory>
-        ensures kept { OnOk result (self.new.kept ≡ take self.old.keep (self.old.kept ++ bytes.now)) }
+        ensures kept { OnOk result
+            (self.new.kept ≡ take self.old.keep (self.old.kept ++ bytes.now)) }
         ensures begun { OnOk result (self.new.begun ≡ (self.old.begun || has_some bytes.now)) }
         ensures keep { self.new.keep ≡ self.old.keep }
     {
@@ -96,7 +97,7 @@ impl Lines {
     /// The text ends here: an unfinished line that isn't empty is put behind others.
     pub fn finish(&mut self, out: &mut Texts) -> Result<(), Memory>
         ensures ended { OnOk result ((w : List ℕ) → IsBegunBehind w self.old
-            → out.new ≡ out.old ++ fronts_of self.old.keep (unless_empty (begun_behind [] w))) }
+            → out.new ≡ out.old ++ fronts_of self.old.keep (line_if_some (begun_behind [] w))) }
         ensures keep { self.new.keep ≡ self.old.keep }
     {
         if self.begun {
@@ -121,7 +122,7 @@ impl Lines {
     pub fn end(&mut self, out: &mut Vec<Vec<u8>>) -> Result<(), Memory>
         ensures ended { OnOk result ((w : List ℕ) → IsBegunBehind w self.old
             → map (λ v. v.items) out.new.items ≡ map (λ v. v.items) out.old.items
-            ++ fronts_of self.old.keep (unless_empty (begun_behind [] w))) }
+            ++ fronts_of self.old.keep (line_if_some (begun_behind [] w))) }
     {
         let mut ended = Texts::new(self.alloc);
         self.finish(&mut ended)?;

@@ -1,12 +1,12 @@
 use Rattle.std.proofs.Common.{◌≡◌, ◌<◌, ◌∷◌, ℕ, suc, drop, get_or, length, map, refl, sym, ap, ◌∙◌, arith, subst, ◌+◌}
 use Rattle.kex_stage.specs.contracts.stage.StageTurn.TheImpl.{ghosts}
 use Rattle.kex_pipe.specs.Reports.{report_as}
-use Rattle.kex_each.specs.Chains.{IsStageAnswer, plans_of}
+use Rattle.kex_each.specs.Chains.{IsStageAnswer, chain_plans}
 use Rattle.kex_each.proofs.ChainAnswers.{drop_at, map_at, map_long, map_set, none_behind, so_far_all, so_far_next, so_far_none}
 use Rattle.kex_each.proofs.clerk.answer_in_turn.Goals as goal
 
 pub stages-init : goal.stages-init
-stages-init c = record { same = refl; so_far = so_far_none (plans_of c.args.stages.now) c.args.text.now.items }
+stages-init c = record { same = refl; so_far = so_far_none (chain_plans c.args.stages.now) c.args.text.now.items }
 
 pub returns-in_err-stop-clause-same : goal.returns-in_err-stop-clause-same
 returns-in_err-stop-clause-same c =
@@ -18,7 +18,7 @@ stages-preserved c =
     let i = c.stages.i in
     let all = c.stages.stages in
     let d = c.index-stages-i.result in
-    let ps = plans_of c.args.stages.now in
+    let ps = chain_plans c.args.stages.now in
     let lt : i < length all = (let t = c.stages-test.true in let a = c.stages.auto.stages in omega (arith, t, a)) in
     let same = c.stages.invariant.same in
     let long : i < length ps = (let m = map_long ghosts.plan all in let e = ap length same in omega (arith, m, e, lt)) in
@@ -36,7 +36,7 @@ stages-preserved c =
 
 pub returns-clause-answers : goal.returns-clause-answers
 returns-clause-answers c =
-    let ps = plans_of c.args.stages.now in
+    let ps = chain_plans c.args.stages.now in
     let past = c.stages-test.false in
     let long = map_long ghosts.plan c.args.stages.now in
     so_far_all c.stages.i ps c.args.text.now.items c.stages.text.items c.stages.ended (report_as c.stages.report) (none_behind c.stages.i ps (omega (arith, past, long))) c.stages.invariant.so_far

@@ -1,7 +1,7 @@
 use Rattle.std.proofs.Common.{◌≡◌, List, true, refl, sym, ap, subst, ◌∙◌, arith}
 use Rattle.std.specs.Prelude.{OnOk, Result, Ok, Err, is_ok}
 use Rattle.std.proofs.lemmas.List.{with_items_is}
-use Rattle.kex_each.specs.Answers.{StagesAnswer}
+use Rattle.kex_each.specs.Answers.{PlansAnswerLines}
 use Rattle.kex_each.specs.Desks.{DeskState, HavePlans, all_plans, answers_of, first_plans}
 use Rattle.kex_each.proofs.DeskLists.{AreDesks, map_same, same_desks}
 use Rattle.kex_each.proofs.desks.Desks.answer_all.Goals as goal
@@ -29,5 +29,5 @@ returns-clause-answers g c =
     let have = subst (λ z. HavePlans ps z) (sym (map_same c.deref_mut.result.now ∙ c.deref_mut.ensures.value)) c.self.invariant.2 in
     let plans = c.args.self.now.plans in
     ok_on c.answer_in_parts.result (λ done.
-    let all : StagesAnswer ps lines (answers_of new) = subst (λ z. StagesAnswer ps lines (answers_of z)) (map_same new) (c.answer_in_parts.ensures.answered done ps have) in
-    subst (λ z. StagesAnswer plans lines (answers_of z)) (sym items) (subst (λ z. StagesAnswer z lines (answers_of new)) own all))
+    let all : PlansAnswerLines ps lines (answers_of new) = subst (λ z. PlansAnswerLines ps lines (answers_of z)) (map_same new) (c.answer_in_parts.ensures.answered done ps have) in
+    subst (λ z. PlansAnswerLines plans lines (answers_of z)) (sym items) (subst (λ z. PlansAnswerLines z lines (answers_of new)) own all))
