@@ -1,8 +1,8 @@
 -- Stages that answer one after another.
-use Rattle.std.proofs.Common.{◌≡◌, ◌≤◌, ◌<◌, ◌&&◌, ℕ, zero, suc, Bool, true, false, List, [], ◌∷◌, Option, Some, None, length, map, drop, get_or, refl, sym, ap, ap₂, subst, ◌∙◌, arith}
+use Rattle.std.proofs.Common.{◌≡◌, ◌≤◌, ◌<◌, ◌&&◌, ℕ, zero, suc, Bool, true, List, [], ◌∷◌, Option, Some, None, length, map, drop, get_or, refl, sym, ap, subst, ◌∙◌, arith}
 use Rattle.std.specs.Prelude.{is_none}
 use Rattle.std.proofs.Math.ListN.{set}
-use Rattle.kex_model.specs.Answers.{Answer, Report, Stop, Pipeline, later_report}
+use Rattle.kex_model.specs.Answers.{Report, Stop, Pipeline, later_report}
 use Rattle.kex_pipe.specs.Histories.{stop_as}
 use Rattle.kex_pipe.specs.Reports.{latest_report}
 use Rattle.kex_pipe.specs.declared.turn.Stop.{Stop as TurnStop}

@@ -1,13 +1,10 @@
 -- The answer to a line rests on no byte past the one behind the limit.
-use Rattle.std.proofs.Common.{◌≡◌, ◌≤◌, ◌<◌, ◌+◌, ℕ, zero, suc, Bool, true, List, [], ◌∷◌, length, map, take, refl, sym, ap, subst, ◌∙◌, arith}
-use Rattle.std.specs.Prelude.{min}
+use Rattle.std.proofs.Common.{◌≡◌, ◌≤◌, ◌<◌, ◌+◌, ℕ, zero, suc, Bool, true, List, [], ◌∷◌, length, take, refl, ap, subst, ◌∙◌, arith}
 use Rattle.kex_model.specs.Answers.{Answer, Answers, LongestGood, bad_byte, too_long, cut_off, whole, still_open}
 use Rattle.kex_machine.specs.Answers.{HasRun, IsViableFor, MeansByRun, SaysByRun}
 use Rattle.kex_stage.specs.Plans.{Planned}
-use Rattle.kex_stage.specs.Stages.{StagePlan}
-use Rattle.kex_each.specs.Answers.{AnswersLine, PlansAnswerLines, plans_within}
+use Rattle.kex_each.specs.Answers.{plans_within}
 use Rattle.kex_each.specs.Laws.{IsKeptEnough}
-use Rattle.kex_each.specs.Lines.{fronts_of}
 use Rattle.kex_each.specs.Pieces.{IsEnough}
 
 take_less : (n m : ℕ) (w : List ℕ) → n ≤ m → take n (take m w) ≡ take n w

@@ -1,11 +1,11 @@
 -- Lines are found piece by piece.
-use Rattle.std.proofs.Common.{◌≡◌, ◌≤◌, ◌<◌, ◌+◌, ◌-◌, ◌||◌, ℕ, zero, suc, Bool, true, false, List, [], ◌∷◌, ◌++◌, length, map, take, drop, get_or, refl, sym, ap, ap₂, subst, ◌∙◌, append_assoc, arith, length-append, append-nil}
+use Rattle.std.proofs.Common.{◌≡◌, ◌≤◌, ◌<◌, ◌+◌, ◌-◌, ◌||◌, ℕ, zero, suc, Bool, true, false, List, [], ◌∷◌, ◌++◌, length, take, drop, get_or, refl, sym, ap, ap₂, subst, ◌∙◌, append_assoc, arith, length-append, append-nil}
 use Rattle.std.proofs.lemmas.Bool.{eqb-true}
-use Rattle.std.specs.Prelude.{◌==◌, Result, Ok, Err, OnOk, if◌then◌else◌, slice_index}
+use Rattle.std.specs.Prelude.{Result, Ok, Err, OnOk, if◌then◌else◌}
 use Rattle.memchr.specs.Find.{NoneBefore, Nowhere, Passes, is_byte}
-use Rattle.std.proofs.lemmas.List.{map-append, take-append-drop}
+use Rattle.std.proofs.lemmas.List.{map-append}
 use Rattle.std.proofs.Math.Seq.{take-append-add, take-length}
-use Rattle.kex_each.specs.Lines.{BegunLine, IsBegunBehind, ReadsLines, begun_behind, fronts_of, has_some, is_line_feed, lines_behind, lines_of, line_if_some}
+use Rattle.kex_each.specs.Lines.{BegunLine, IsBegunBehind, ReadsLines, begun_behind, fronts_of, has_some, is_line_feed, lines_behind, line_if_some}
 use Rattle.kex_each.specs.Laws.{BeginsLines, ByPieces}
 
 pub by_pieces : (line v u : List ℕ) → ByPieces line v u

@@ -1,5 +1,5 @@
 -- What is left of trees where some of their leaves are kept: node by node from the last, and how large it is.
-use Rattle.std.proofs.Common.{◌≡◌, ℕ, zero, suc, ◌+◌, ◌-◌, ◌*◌, ◌<◌, ◌≤◌, Bool, true, false, List, [], ◌∷◌, ◌++◌, Option, Some, None, map, length, get_or, drop, replicate, refl, sym, ap, ap₂, subst, ◌∙◌, append_assoc, append-nil, length-append, arith, if◌then◌else◌}
+use Rattle.std.proofs.Common.{◌≡◌, ℕ, zero, suc, ◌+◌, ◌*◌, ◌<◌, ◌≤◌, Bool, true, false, List, [], ◌∷◌, ◌++◌, Option, Some, None, map, length, get_or, replicate, refl, sym, ap, ap₂, subst, ◌∙◌, append_assoc, append-nil, length-append, arith, if◌then◌else◌}
 use Rattle.std.specs.Prelude.{slice_get}
 use Rattle.std.proofs.lemmas.List.{replicate-append-replicate}
 use Rattle.std.proofs.lemmas.Option.{slice_get-get_or}
@@ -12,10 +12,10 @@ use Rattle.kex_sst.specs.Parts.{Change}
 use Rattle.kex_paths.specs.declared.forest.PathEdge.{PathEdge}
 use Rattle.kex_paths.specs.declared.walk.TreeToken.{TreeToken}
 use Rattle.kex_paths.specs.declared.walk.TreeToken.TheVariants as token
-use Rattle.kex_paths.specs.Forests.{Trees, no_trees, HasTrees, LeadsToTree, last_tree, trees_before}
+use Rattle.kex_paths.specs.Forests.{Trees, no_trees, HasTrees, LeadsToTree}
 use Rattle.kex_paths.specs.KeptLeaves.{node_left, trees_beside, sides_of, trees_behind, restrict_each, parts_of, restrict_shape}
 use Rattle.kex_paths.specs.Nexts.{Outline, IsOfShape, IsChange, inner_of, places_of}
-use Rattle.kex_paths.specs.Spellings.{IsTreeSound, key_of, token_number, labels_in}
+use Rattle.kex_paths.specs.Spellings.{IsTreeSound, token_number, labels_in}
 use Rattle.kex_paths.specs.Tasks.{tokens, tokens_from}
 use Rattle.kex_paths.proofs.Preorders.{tokens-length, inner-length, tokens_of_lists, key_of_tokens, key_same}
 

@@ -1,4 +1,4 @@
-use Rattle.std.proofs.Common.{◌≡◌, ◌<◌, ◌∷◌, ℕ, suc, drop, get_or, length, map, refl, sym, ap, ◌∙◌, arith, subst, ◌+◌}
+use Rattle.std.proofs.Common.{◌≡◌, ◌<◌, ◌∷◌, suc, drop, get_or, length, refl, sym, ap, ◌∙◌, arith, subst, ◌+◌}
 use Rattle.kex_stage.specs.contracts.stage.StageTurn.TheImpl.{ghosts}
 use Rattle.kex_pipe.specs.Reports.{report_as}
 use Rattle.kex_each.specs.Chains.{IsStageAnswer, chain_plans}

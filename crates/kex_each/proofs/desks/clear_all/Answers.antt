@@ -1,4 +1,4 @@
-use Rattle.std.proofs.Common.{◌≡◌, ◌<◌, length, get_or, map, sym, ap, ◌∙◌, arith}
+use Rattle.std.proofs.Common.{◌<◌, length, get_or, map, sym, ◌∙◌, arith}
 use Rattle.kex_each.proofs.DeskLists.{cleared_more, map_at, map_long, map_set, same_desk}
 use Rattle.kex_each.proofs.desks.clear_all.Goals as goal
 

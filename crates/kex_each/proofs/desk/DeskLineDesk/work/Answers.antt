@@ -1,4 +1,4 @@
-use Rattle.std.proofs.Common.{◌≤◌, ◌<◌, ◌++◌, ◌∷◌, [], get_or, length, sym, ap, subst, ◌∙◌, arith}
+use Rattle.std.proofs.Common.{◌<◌, ◌++◌, ◌∷◌, [], get_or, length, sym, subst, ◌∙◌, arith}
 use Rattle.kex_stage.specs.Stages.{Gives}
 use Rattle.kex_each.specs.Answers.{AnswersLine, PlansAnswerLines}
 use Rattle.kex_each.specs.Desks.{lines_between}

@@ -1,4 +1,4 @@
-use Rattle.std.proofs.Common.{◌≡◌, List, true, refl, sym, ap, subst, ◌∙◌, arith}
+use Rattle.std.proofs.Common.{◌≡◌, true, refl, sym, ap, subst, ◌∙◌, arith}
 use Rattle.std.specs.Prelude.{OnOk, Result, Ok, Err, is_ok}
 use Rattle.std.proofs.lemmas.List.{with_items_is}
 use Rattle.kex_each.specs.Answers.{PlansAnswerLines}

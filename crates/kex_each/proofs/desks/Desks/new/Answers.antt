@@ -1,4 +1,4 @@
-use Rattle.std.proofs.Common.{◌≡◌, ◌++◌, ◌∷◌, [], sym, ap, ap₂, subst, ◌∙◌, arith}
+use Rattle.std.proofs.Common.{◌++◌, ◌∷◌, [], sym, ap, ap₂, subst, ◌∙◌, arith}
 use Rattle.kex_each.specs.Answers.{plans_within}
 use Rattle.kex_each.specs.Desks.{DeskState, HavePlans, answers_of}
 use Rattle.kex_each.proofs.DeskLists.{answers_both, plans_both}

@@ -1,4 +1,4 @@
-use Rattle.std.proofs.Common.{◌≡◌, ◌++◌, take, map, sym, ap, ap₂, ◌∙◌, append_assoc}
+use Rattle.std.proofs.Common.{◌++◌, take, map, sym, ap, ap₂, ◌∙◌, append_assoc}
 use Rattle.kex_each.specs.Desks.{answers_of}
 use Rattle.kex_each.proofs.DeskLists.{answers_more}
 use Rattle.kex_each.proofs.desks.Desks.unpack_into.Goals as goal

@@ -1,4 +1,4 @@
-use Rattle.std.proofs.Common.{◌≡◌, ◌++◌, take, sym, ap, ap₂, ◌∙◌, append_assoc}
+use Rattle.std.proofs.Common.{◌++◌, take, sym, ap, ap₂, ◌∙◌, append_assoc}
 use Rattle.std.specs.List.{concat}
 use Rattle.kex_each.specs.Desks.{answers_of}
 use Rattle.kex_each.proofs.DeskLists.{answers_more, concat_both}

@@ -1,7 +1,7 @@
 use Rattle.std.proofs.Common.{◌≡◌, ◌++◌, [], sym, ap, subst, ◌∙◌}
 use Rattle.std.specs.Prelude.{OnOk, Result, Ok, Err}
 use Rattle.kex_each.specs.Answers.{PlansAnswerLines}
-use Rattle.kex_each.specs.Lines.{IsBegunBehind, begun_behind, fronts_of, lines_behind, line_if_some}
+use Rattle.kex_each.specs.Lines.{IsBegunBehind, begun_behind, fronts_of, line_if_some}
 use Rattle.kex_each.specs.Pieces.{LineReader, WritesAnswers}
 use Rattle.kex_each.proofs.KeptLines.{kept_enough}
 use Rattle.kex_each.proofs.line_answers.LineAnswers.finish.Goals as goal

@@ -1,4 +1,4 @@
-use Rattle.std.proofs.Common.{◌≡◌, ◌++◌, ◌∷◌, [], take, sym, ap, subst, ◌∙◌, append_assoc}
+use Rattle.std.proofs.Common.{◌++◌, ◌∷◌, [], take, sym, ap, subst, ◌∙◌, append_assoc}
 use Rattle.kex_each.specs.Lines.{ReadsLines}
 use Rattle.kex_each.proofs.LineLists.{feed_cut, feed_none, on_ok_both, read_line, read_rest, reads_more}
 use Rattle.kex_each.proofs.lines.Lines.read.Goals as goal

@@ -1,5 +1,5 @@
-use Rattle.std.proofs.Common.{◌≡◌, ◌<◌, ◌-◌, [], length, take, drop, get_or, sym, ap, ap₂, ◌∙◌, arith}
-use Rattle.kex_each.specs.Texts.{begin_of, cut_at}
+use Rattle.std.proofs.Common.{◌≡◌, ◌<◌, ◌-◌, [], length, take, drop, get_or, ap, ap₂, ◌∙◌, arith}
+use Rattle.kex_each.specs.Texts.{begin_of}
 use Rattle.kex_each.proofs.TextLists.{cut_is, cut_length, same_at}
 use Rattle.kex_each.proofs.texts.Texts.get.Goals as goal
 

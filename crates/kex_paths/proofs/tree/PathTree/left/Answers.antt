@@ -1,4 +1,4 @@
-use Rattle.std.proofs.Common.{◌≡◌, suc, ◌-◌, ◌≤◌, Some, false, get_or, length, ap, subst, arith}
+use Rattle.std.proofs.Common.{◌≡◌, ◌-◌, ◌≤◌, false, get_or, length, ap, subst, arith}
 use Rattle.kex_paths.specs.KeptLeaves.{IsRestricted}
 use Rattle.kex_paths.proofs.LeftTrees.{IsTreeWith, some_node, bare_tree, left_none, left_some}
 use Rattle.kex_paths.proofs.tree.PathTree.left.Goals as goal
