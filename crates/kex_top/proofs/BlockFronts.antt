@@ -1,5 +1,5 @@
 -- A block goes through front by front, and what is said of each is written.
-use Rattle.std.proofs.Common.{◌≡◌, ◌++◌, ℕ, List, [], Bool, false, refl, sym, ap, subst, ◌∙◌, take, drop, length, ◌≤◌, ◌-◌, append_assoc, arith}
+use Rattle.std.proofs.Common.{◌≡◌, ◌++◌, ℕ, List, Bool, false, refl, sym, ap, subst, ◌∙◌, take, drop, length, ◌≤◌, ◌-◌, append_assoc, arith}
 use Rattle.std.specs.Prelude.{Option, Some, None}
 use Rattle.std.specs.Io.KnownBytes.{Appends}
 use Rattle.std.proofs.lemmas.List.{length-drop, take_all, take-append-drop}

@@ -18,7 +18,7 @@ use Rattle.kex_single.specs.Plays as plays
 use Rattle.kex_single.specs.Singles as single
 use Rattle.kex_lowering.specs.Stages.{Carries}
 use Rattle.kex_words.specs.Words.{Asked, Mode, Reach}
-use Rattle.kex_words.specs.Words.Asked.{ToCheck, ToStream, ToTry}
+use Rattle.kex_words.specs.Words.Asked.{ToCheck, ToEach, ToStream, ToTry}
 use Rattle.kex_words.specs.Words.Mode.{running, coding, acting, testing}
 use Rattle.kex_model.specs.Programs.{Grammar}
 use Rattle.kex_stage.specs.Stages.{StagePlan, Gives}
@@ -44,20 +44,21 @@ use Rattle.kex_top.specs.Kex.{CommandAnswers, CommandWorks}
 use Rattle.kex_top.specs.Modes.{BeginsTreeCode, HasParseAlone, IsTreeCode, WritesPart, MachineGives, MachinesSay, MeansCode, SaysCode, SaysNothing, SaysBy, StageGives, limits_of, limits_to_check}
 use Rattle.kex_pipe.specs.declared.report.Rejected.{Rejected as Report}
 use Rattle.kex_top.specs.declared.status.Status.{Status}
-use Rattle.kex_top.specs.declared.status.Status.TheVariants.{Done, Rejected, Usage, Refused, ReadFault, WriteFault, ShelfFault, Memory, TooLong}
+use Rattle.kex_top.specs.declared.status.Status.TheVariants.{Done, Rejected, Usage, Refused, ReadFault, WriteFault, ShelfFault, Memory, TooLong, InputTooLong}
 
 abbrev plan_at : ℕ → Graph → StagePlan
 plan_at limit m = record { machine = m; limit = limit }
 
 -- one saying in place of another that says the same
 module _ (says says' : List ℕ → Bool → Said → Type 0) (to : (w : List ℕ) (e : Bool) (s : Said) → says w e s → says' w e s) (from : (w : List ℕ) (e : Bool) (s : Said) → says' w e s → says w e s) where
-  all_alike : (w : List ℕ) (e : Bool) (r : Option Report) (sink : StreamChange) → WritesAll says w e r sink → WritesAll says' w e r sink
+  pub all_alike : (w : List ℕ) (e : Bool) (r : Option Report) (sink : StreamChange) → WritesAll says w e r sink → WritesAll says' w e r sink
   all_alike w e r sink a = record { said = a.said; is_said = to w e a.said a.is_said; reports = a.reports; appended = a.appended }
 
-  ends_alike : (n : ℕ) (w : List ℕ) (e : Bool) (source sink : StreamChange) (s : Status) → EndsAs says n w e source sink s → EndsAs says' n w e source sink s
+  pub ends_alike : (n : ℕ) (w : List ℕ) (e : Bool) (source sink : StreamChange) (s : Status) → EndsAs says n w e source sink s → EndsAs says' n w e source sink s
   ends_alike n w e source sink Done t = (t.0, all_alike w e None sink t.1, t.2, t.3)
   ends_alike n w e source sink (Rejected r) t = (t.0, all_alike w e (Some r) sink t.1, t.2, t.3)
   ends_alike n w e source sink (TooLong r) t = (t.0, all_alike w e (Some r) sink t.1, t.2, t.3)
+  ends_alike n w e source sink InputTooLong t = t
   ends_alike n w e source sink ReadFault t = (t.0, all_alike w e None sink t.1, t.2, t.3)
   ends_alike n w e source sink WriteFault t =
       let b = t.0 in (
@@ -170,13 +171,13 @@ module _ (P : Grammar) (limit root : ℕ) (m : Graph) (c : Carries P root m) whe
 
 -- the machines of a program's stages answer as its stages do
 module _ (P : Grammar) (mode : Mode) (limit : ℕ) where
-  carried : (i k : ℕ) (rs : List ℕ) (ms : List Graph) (w : List ℕ) (e : Bool) (text : List ℕ) (r : Option model.Report) → AreStages P k rs ms → Pipeline (λ m v d a. MachineGives mode limit m v d a) i ms w e text r → Pipeline (λ root v d a. StageGives mode P limit root v d a) i rs w e text r
+  pub carried : (i k : ℕ) (rs : List ℕ) (ms : List Graph) (w : List ℕ) (e : Bool) (text : List ℕ) (r : Option model.Report) → AreStages P k rs ms → Pipeline (λ m v d a. MachineGives mode limit m v d a) i ms w e text r → Pipeline (λ root v d a. StageGives mode P limit root v d a) i rs w e text r
   carried i k [] [] w e text r h x = x
   carried i k (root ∷ rs) (m ∷ ms) w e text r h (a, rest, gives, others, is) = (a, rest, to_stage P limit root m h.0.carries mode w e a gives, carried (suc i) (suc k) rs ms a.text a.ended text rest h.1 others, is)
   carried i k [] (m ∷ ms) w e text r h x = absurd h
   carried i k (root ∷ rs) [] w e text r h x = absurd h
 
-  carried-back : (i k : ℕ) (rs : List ℕ) (ms : List Graph) (w : List ℕ) (e : Bool) (text : List ℕ) (r : Option model.Report) → AreStages P k rs ms → Pipeline (λ root v d a. StageGives mode P limit root v d a) i rs w e text r → Pipeline (λ m v d a. MachineGives mode limit m v d a) i ms w e text r
+  pub carried-back : (i k : ℕ) (rs : List ℕ) (ms : List Graph) (w : List ℕ) (e : Bool) (text : List ℕ) (r : Option model.Report) → AreStages P k rs ms → Pipeline (λ root v d a. StageGives mode P limit root v d a) i rs w e text r → Pipeline (λ m v d a. MachineGives mode limit m v d a) i ms w e text r
   carried-back i k [] [] w e text r h x = x
   carried-back i k (root ∷ rs) (m ∷ ms) w e text r h (a, rest, gives, others, is) = (a, rest, to_machine P limit root m h.0.carries mode w e a gives, carried-back (suc i) (suc k) rs ms a.text a.ended text rest h.1 others, is)
   carried-back i k [] (m ∷ ms) w e text r h x = absurd h
@@ -184,11 +185,11 @@ module _ (P : Grammar) (mode : Mode) (limit : ℕ) where
 
 -- plans of machines give what the machines do
 module _ (states limit : ℕ) where
-  by_machines : (i : ℕ) (ms : List Graph) (w : List ℕ) (e : Bool) (text : List ℕ) (r : Option model.Report) → Pipeline (λ p v d a. Gives p v d a) i (stage_plans limit ms) w e text r → Pipeline (λ m v d a. MachineGives (running states) limit m v d a) i ms w e text r
+  pub by_machines : (i : ℕ) (ms : List Graph) (w : List ℕ) (e : Bool) (text : List ℕ) (r : Option model.Report) → Pipeline (λ p v d a. Gives p v d a) i (stage_plans limit ms) w e text r → Pipeline (λ m v d a. MachineGives (running states) limit m v d a) i ms w e text r
   by_machines i [] w e text r x = x
   by_machines i (m ∷ ms) w e text r (a, rest, gives, others, is) = (a, rest, gives, by_machines (suc i) ms a.text a.ended text rest others, is)
 
-  by_plans : (i : ℕ) (ms : List Graph) (w : List ℕ) (e : Bool) (text : List ℕ) (r : Option model.Report) → Pipeline (λ m v d a. MachineGives (running states) limit m v d a) i ms w e text r → Pipeline (λ p v d a. Gives p v d a) i (stage_plans limit ms) w e text r
+  pub by_plans : (i : ℕ) (ms : List Graph) (w : List ℕ) (e : Bool) (text : List ℕ) (r : Option model.Report) → Pipeline (λ m v d a. MachineGives (running states) limit m v d a) i ms w e text r → Pipeline (λ p v d a. Gives p v d a) i (stage_plans limit ms) w e text r
   by_plans i [] w e text r x = x
   by_plans i (m ∷ ms) w e text r (a, rest, gives, others, is) = (a, rest, gives, by_plans (suc i) ms a.text a.ended text rest others, is)
 
@@ -267,22 +268,26 @@ unbegun asked texts reads source sink start.Memory h t l = inl l
 not_usage : (asked : Asked) (P : Grammar) (reads : Option Reads) (source sink : StreamChange) → Performs asked P reads source sink Usage → ⊥
 not_usage (ToStream mode name reach) P reads source sink h = h.ends
 not_usage (ToCheck name states) P reads source sink h = h.1.told
+not_usage (ToEach name states limit workers) P reads source sink h = h.ends
 not_usage (ToTry lines block rings) P reads source sink h = h.1.told
 
 not_refused : (asked : Asked) (P : Grammar) (reads : Option Reads) (source sink : StreamChange) (r : Refusal) → Performs asked P reads source sink (Refused r) → ⊥
 not_refused (ToStream mode name reach) P reads source sink r h = h.ends
 not_refused (ToCheck name states) P reads source sink r h = h.1.told
+not_refused (ToEach name states limit workers) P reads source sink r h = h.ends
 not_refused (ToTry lines block rings) P reads source sink r h = h.1.told
 
 not_shelf : (asked : Asked) (P : Grammar) (reads : Option Reads) (source sink : StreamChange) → Performs asked P reads source sink ShelfFault → ⊥
 not_shelf (ToStream mode name reach) P reads source sink h = h.ends
 not_shelf (ToCheck name states) P reads source sink h = h.1.told
+not_shelf (ToEach name states limit workers) P reads source sink h = h.ends
 not_shelf (ToTry lines block rings) P reads source sink h = h.1.told
 
-begun : (asked : Asked) (texts : Option Texts) (reads : Option Reads) (source sink : StreamChange) (s : Status) → CommandWorks asked texts reads source sink s → CommandAnswers asked texts reads source sink s
+pub begun : (asked : Asked) (texts : Option Texts) (reads : Option Reads) (source sink : StreamChange) (s : Status) → CommandWorks asked texts reads source sink s → CommandAnswers asked texts reads source sink s
 begun asked texts reads source sink Done w = w
 begun asked texts reads source sink (Rejected x) w = w
 begun asked texts reads source sink (TooLong x) w = w
+begun asked texts reads source sink InputTooLong w = w
 begun asked texts reads source sink ReadFault w = w
 begun asked texts reads source sink WriteFault w = w
 begun asked texts reads source sink Memory w = inr w

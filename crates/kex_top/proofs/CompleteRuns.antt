@@ -1,5 +1,5 @@
 -- A good run is done, or wants memory; and what is done is what the program means.
-use Rattle.std.proofs.Common.{◌≡◌, ◌++◌, ◌≤◌, ◌<◌, ℕ, suc, List, [], ◌∷◌, Bool, true, false, refl, sym, ◌∙◌, ap, subst, append_assoc, append-nil as append-nil', arith, inl, inr, length}
+use Rattle.std.proofs.Common.{◌≡◌, ◌++◌, ◌≤◌, ◌<◌, ℕ, suc, List, [], ◌∷◌, Bool, true, false, refl, sym, ◌∙◌, ap, subst, append_assoc, append-nil as append-nil', arith, inl, inr, length, length-append}
 use Rattle.std.specs.Prelude.{◌⊎◌, Option, Some, None, IsSome}
 use Rattle.std.specs.Io.KnownBytes.{Appends, Consumes, IsAtEnd}
 use Rattle.kex_code.specs.Codes.{Begins}
@@ -39,7 +39,7 @@ use Rattle.kex_single.specs.PlayLaws as plays
 use Rattle.kex_single.specs.CodeLaws.{text_grows}
 use Rattle.kex_single.specs.TestLaws.{both_nothing}
 use Rattle.kex_words.specs.Words.{Asked, Mode, Reach}
-use Rattle.kex_words.specs.Words.Asked.{ToCheck, ToStream, ToTry}
+use Rattle.kex_words.specs.Words.Asked.{ToCheck, ToEach, ToStream, ToTry}
 use Rattle.kex_words.specs.Words.Mode.{running, coding, acting, testing}
 use Rattle.kex_words.specs.Gains.{StreamChange}
 use Rattle.kex_words.specs.declared.refusals.Refusal.{Refusal}
@@ -53,7 +53,7 @@ use Rattle.kex_top.specs.Shelves.{Broke, ShelfChange, ShelfServes}
 use Rattle.kex_top.specs.Kex.{CallAnswers, CommandAnswers, Headline, IsComplete, HasNotRisen, BreaksNoRule, CommandWorks}
 use Rattle.kex_pipe.specs.declared.report.Rejected.{Rejected as Report}
 use Rattle.kex_top.specs.declared.status.Status.{Status}
-use Rattle.kex_top.specs.declared.status.Status.TheVariants.{Done, Rejected, Usage, Refused, ReadFault, WriteFault, ShelfFault, Memory, TooLong}
+use Rattle.kex_top.specs.declared.status.Status.TheVariants.{Done, Rejected, Usage, Refused, ReadFault, WriteFault, ShelfFault, Memory, TooLong, InputTooLong}
 
 orderly : (P : Grammar) (root : ℕ) → Orderly (Viable P root) (Says P root) (HasParse P root) (Means P root)
 orderly P root = record {
@@ -167,6 +167,16 @@ unrejected_by P mode limit (Some xs) (Some ys) w input e said done r is read end
     let same : input ≡ xs = cc in
     unrejected P limit mode w ys input e said done r (same ∙ read) end h rep k n
 
+-- no more is read than there is
+read-within : (old new : Option (List ℕ)) (input w : List ℕ) → old ≡ Some input → Consumes old new w → length w ≤ length input
+read-within None new input w is read = cc
+read-within (Some xs) None input w is read = absurd read
+read-within (Some xs) (Some ys) input w is read =
+    let same : xs ≡ input = cc in
+    let all = ap length read in
+    let sum = length-append w ys in
+    let e = ap length same in omega (arith, all, sum, e)
+
 told-same : (told : ShelfText) (text other : List ℕ) → told ≡ present text → IsTold told other → other ≡ text
 told-same untold text other is t = cc
 told-same absent text other is t = cc
@@ -200,6 +210,7 @@ module _ (texts : Option Texts) (shelf : ShelfChange) (reads : Option Reads) (so
   unfailed : (asked : Asked) → BreaksNoRule asked texts shelf source sink → IsSome (calls_of (Some asked)).takes → ShelfServes (calls_of (Some asked)).takes texts shelf ShelfFault → ⊥
   unfailed (ToStream mode name reach) g takes h = unbroken (told_of texts name) g.text shelf g.is_told (g.on_shelf takes) h.2
   unfailed (ToCheck name states) g takes h = unbroken (told_of texts name) g.text shelf g.is_told (g.on_shelf takes) h.2
+  unfailed (ToEach name states limit workers) g takes h = unbroken (told_of texts name) g.text shelf g.is_told (g.on_shelf takes) h.2
   unfailed (ToTry lines block rings) g takes h = false≢true takes
 
   -- isn't rejected
@@ -207,6 +218,7 @@ module _ (texts : Option Texts) (shelf : ShelfChange) (reads : Option Reads) (so
   unrejected_as (ToStream mode name reach) r g w =
       ran-good mode reach.max_input (last_given reach.block reads) g.text w.text w.program source sink (Rejected r) r (told-same (told_of texts name) g.text w.text g.is_told w.is_told) w.accepts.spells g.input_is_good w.performs w.performs.ends.1
   unrejected_as (ToCheck name states) r g w = w.performs.1.told
+  unrejected_as (ToEach name states limit workers) r g w = w.performs.ends
   unrejected_as (ToTry lines block rings) r g w = w.performs.1.told
 
   -- isn't too long
@@ -214,13 +226,26 @@ module _ (texts : Option Texts) (shelf : ShelfChange) (reads : Option Reads) (so
   unlimited (ToStream mode name reach) r g w =
       ran-good mode reach.max_input (last_given reach.block reads) g.text w.text w.program source sink (TooLong r) r (told-same (told_of texts name) g.text w.text g.is_told w.is_told) w.accepts.spells g.input_is_good w.performs w.performs.ends.1
   unlimited (ToCheck name states) r g w = w.performs.1.told
+  unlimited (ToEach name states limit workers) r g w = w.performs.ends
   unlimited (ToTry lines block rings) r g w = w.performs.1.told
+
+  -- has no more bytes than an input may have
+  unbounded : (asked : Asked) → BreaksNoRule asked texts shelf source sink → CommandWorks asked texts reads source sink InputTooLong → ⊥
+  unbounded (ToStream mode name reach) g w = w.performs.ends
+  unbounded (ToCheck name states) g w = w.performs.1.told
+  unbounded (ToEach name states limit workers) g w =
+      let short = read-within source.old source.new g.input_is_good.input w.performs.w g.input_is_good.rest w.performs.read in
+      let few = g.input_is_good.short in
+      let long = w.performs.ends.0 in omega arith
+  unbounded (ToTry lines block rings) g w = w.performs.1.told
 
   -- and fails at neither source nor sink
   unstopped : (asked : Asked) → BreaksNoRule asked texts shelf source sink → CommandWorks asked texts reads source sink ReadFault → ⊥
   unstopped (ToStream mode name reach) g w =
       let rose = w.performs.ends.2.1 in let quiet = g.readable refl in omega arith
   unstopped (ToCheck name states) g w = w.performs.1.told
+  unstopped (ToEach name states limit workers) g w =
+      let rose = w.performs.ends.1.2.1 in let quiet = g.readable refl in omega arith
   unstopped (ToTry lines block rings) g w = w.performs.1.told
 
   unspoilt : (asked : Asked) → BreaksNoRule asked texts shelf source sink → CommandWorks asked texts reads source sink WriteFault → ⊥
@@ -228,6 +253,8 @@ module _ (texts : Option Texts) (shelf : ShelfChange) (reads : Option Reads) (so
       let rose = w.performs.ends.2.1 in let quiet = g.writable in omega arith
   unspoilt (ToCheck name states) g w =
       let rose = w.performs.1.told.1.1 in let quiet = g.writable in omega arith
+  unspoilt (ToEach name states limit workers) g w =
+      let rose = w.performs.ends.2.1 in let quiet = g.writable in omega arith
   unspoilt (ToTry lines block rings) g w =
       let rose = w.performs.1.told.1.1 in let quiet = g.writable in omega arith
 
@@ -239,6 +266,7 @@ module _ (texts : Option Texts) (shelf : ShelfChange) (reads : Option Reads) (so
   sound asked (Refused k) g h a = absurd (unrefused (limits_for asked) (told_text texts asked) g.text k g.is_told g.short g.unbroken a.1)
   sound asked (Rejected r) g h a = absurd (unrejected_as asked r g a)
   sound asked (TooLong r) g h a = absurd (unlimited asked r g a)
+  sound asked InputTooLong g h a = absurd (unbounded asked g a)
   sound asked ReadFault g h a = absurd (unstopped asked g a)
   sound asked WriteFault g h a = absurd (unspoilt asked g a)
 

@@ -6,7 +6,9 @@ pub mod LineColumns
 pub mod BlockFronts
 pub mod AnswerExistence
 pub mod WholeRuns
+pub mod LineRuns
 pub mod CallAnswers
+pub mod LineCommands
 pub mod CompleteRuns
 pub mod PortCalls
 pub mod SilentTests

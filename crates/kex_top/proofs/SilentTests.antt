@@ -13,7 +13,7 @@ use Rattle.kex_top.specs.Answer.{Said}
 use Rattle.kex_top.specs.Modes.{MachinesSay}
 use Rattle.kex_top.specs.Run.{EndsAs, IsAsBefore, Ran, WritesAll}
 use Rattle.kex_top.specs.declared.status.Status.{Status}
-use Rattle.kex_top.specs.declared.status.Status.TheVariants.{Done, Rejected, Usage, Refused, ReadFault, WriteFault, ShelfFault, Memory, TooLong}
+use Rattle.kex_top.specs.declared.status.Status.TheVariants.{Done, Rejected, Usage, Refused, ReadFault, WriteFault, ShelfFault, Memory, TooLong, InputTooLong}
 
 nothing : (g : Graph) (limit : ℕ) {w : List ℕ} {e : Bool} {a : Answer} → MachineTestAnswers g limit w e a → a.text ≡ []
 nothing g limit (bad_byte v bad l h) = h
@@ -37,6 +37,7 @@ module _ (g : Graph) (limit n : ℕ) (source sink : StreamChange) (left : IsAsBe
   ends-left w e Done t = (t.0, all-left w e None _ t.1, t.2, left.1)
   ends-left w e (Rejected r) t = (t.0, all-left w e (Some r) _ t.1, t.2, left.1)
   ends-left w e (TooLong r) t = (t.0, all-left w e (Some r) _ t.1, t.2, left.1)
+  ends-left w e InputTooLong t = t
   ends-left w e ReadFault t = (t.0, all-left w e None _ t.1, t.2, left.1)
   ends-left w e WriteFault t = let rose = t.2.1 in absurd (omega arith)
   ends-left w e Memory t = (record { added = []; appended = left-appends sink [] left.0 refl; from = inl refl; front = λ said h. record { rest = said.text; joined = refl } }, t.1, left.1)

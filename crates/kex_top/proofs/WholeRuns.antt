@@ -14,7 +14,7 @@ use Rattle.kex_pipe.specs.declared.turn.Why.{Why}
 use Rattle.kex_pipe.specs.declared.turn.Why.TheVariants.{Byte, End, Limit}
 use Rattle.kex_pipe.specs.declared.report.Rejected.{Rejected as Report}
 use Rattle.kex_top.specs.declared.status.Status.{Status}
-use Rattle.kex_top.specs.declared.status.Status.TheVariants.{Done, Rejected, TooLong, ReadFault, WriteFault}
+use Rattle.kex_top.specs.declared.status.Status.TheVariants.{Done, Rejected, TooLong, InputTooLong, ReadFault, WriteFault}
 use Rattle.kex_top.specs.declared.pass.Trouble.{Trouble}
 use Rattle.kex_top.specs.declared.pass.Trouble.TheVariants as trouble
 
@@ -186,6 +186,7 @@ closed says n source old mid new before count now s whole ran kept same = record
     by (Rejected r) h t = (t.0, all-closed says _ _ _ _ _ _ _ count _ t.1 kept, t.2, same ∙ t.3)
     by (TooLong r) h t = (t.0, all-closed says _ _ _ _ _ _ _ count _ t.1 kept, t.2, same ∙ t.3)
     by ReadFault h t = (t.0, all-closed says _ _ _ _ _ _ _ count _ t.1 kept, t.2, same ∙ t.3)
+    by InputTooLong h t = absurd t
     by _ h t = let bad : false ≡ true = h in cc
 
 -- The whole text was written, and then the sink failed.
@@ -215,4 +216,5 @@ close-fails says p grows n source old mid new before count now s whole (ran, ope
     by (Rejected r) h o t = (late says p grows n _ _ _ _ _ _ _ count _ o t.1 kept, omega (arith, t.2), (omega (arith, t.3, later), omega (arith, t.3, rose)))
     by (TooLong r) h o t = (late says p grows n _ _ _ _ _ _ _ count _ o t.1 kept, omega (arith, t.2), (omega (arith, t.3, later), omega (arith, t.3, rose)))
     by ReadFault h o t = (late says p grows n _ _ _ _ _ _ _ count _ o t.1 kept, omega (arith, t.2), (omega (arith, t.3, later), omega (arith, t.3, rose)))
+    by InputTooLong h o t = absurd t
     by _ h o t = let bad : false ≡ true = h in cc

@@ -12,6 +12,8 @@ pub mod Piped
 pub mod Modes
 pub mod Refusals
 pub mod Trials
+pub mod ByLines
+pub mod LineWrites
 pub mod Commands
 pub mod Kex
 pub mod Tallies

@@ -6,7 +6,7 @@ use Rattle.kex_top.specs.Run.{is_whole}
 use Rattle.kex_top.specs.declared.status.Status.{Status}
 use Rattle.kex_top.specs.declared.status.Status.TheVariants.{Done, Rejected, Usage, Refused}
 use Rattle.kex_top.specs.declared.status.Status.TheVariants.{ReadFault, WriteFault, ShelfFault}
-use Rattle.kex_top.specs.declared.status.Status.TheVariants.{Memory, TooLong}
+use Rattle.kex_top.specs.declared.status.Status.TheVariants.{Memory, TooLong, InputTooLong}
 
 -- Where all was written, the sink was finished once, and that was the last call to it. After a
 -- failed write it wasn't finished; or all writes were taken, and to finish it failed.
@@ -14,6 +14,7 @@ abbrev pub Closes : Option Ending → Option Ending → Status → Type 0
 Closes before now Done = now ≡ after_finish before
 Closes before now (Rejected r) = now ≡ after_finish before
 Closes before now (TooLong r) = now ≡ after_finish before
+Closes before now InputTooLong = now ≡ after_finish before
 Closes before now ReadFault = now ≡ after_finish before
 Closes before now WriteFault = (finishes_of now ≡ finishes_of before) ⊎ (now ≡ after_finish before)
 Closes before now Memory = finishes_of now ≡ finishes_of before

@@ -11,7 +11,7 @@ use Rattle.kex_pipe.specs.declared.turn.Why.{Why}
 use Rattle.kex_pipe.specs.declared.turn.Why.TheVariants.{Byte, End, Limit}
 use Rattle.kex_top.specs.declared.status.Status.{Status}
 use Rattle.kex_top.specs.declared.status.Status.TheVariants.{Done, Rejected, ReadFault, WriteFault}
-use Rattle.kex_top.specs.declared.status.Status.TheVariants.{Memory, TooLong}
+use Rattle.kex_top.specs.declared.status.Status.TheVariants.{Memory, TooLong, InputTooLong}
 use Rattle.kex_top.specs.declared.pass.Trouble.{Trouble}
 use Rattle.kex_top.specs.declared.pass.Trouble.TheVariants as trouble
 
@@ -46,6 +46,7 @@ abbrev pub is_whole : Status → Bool
 is_whole Done = true
 is_whole (Rejected r) = true
 is_whole (TooLong r) = true
+is_whole InputTooLong = true
 is_whole ReadFault = true
 is_whole _ = false
 

@@ -7,7 +7,7 @@ use Rattle.kex_words.specs.declared.notes.Note.TheVariants as note
 use Rattle.kex_top.specs.declared.status.Status.{Status}
 use Rattle.kex_top.specs.declared.status.Status.TheVariants.{Done, Rejected, Usage, Refused}
 use Rattle.kex_top.specs.declared.status.Status.TheVariants.{ReadFault, WriteFault, ShelfFault}
-use Rattle.kex_top.specs.declared.status.Status.TheVariants.{Memory, TooLong}
+use Rattle.kex_top.specs.declared.status.Status.TheVariants.{Memory, TooLong, InputTooLong}
 
 abbrev pub status_number : Status → ℕ
 status_number Done = 0
@@ -19,6 +19,7 @@ status_number WriteFault = 5
 status_number ShelfFault = 6
 status_number Memory = 7
 status_number (TooLong r) = 8
+status_number InputTooLong = 8
 
 abbrev pub is_at_end : Why → Bool
 is_at_end Byte = false
@@ -35,3 +36,4 @@ note_of WriteFault = note.WriteFault
 note_of ShelfFault = note.ShelfFault
 note_of Memory = note.Memory
 note_of (TooLong r) = note.TooLong r.stage r.at
+note_of InputTooLong = note.InputTooLong

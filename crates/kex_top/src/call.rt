@@ -16,6 +16,7 @@ ghost use Rattle.kex_top.specs.Status.{note_of};
 ghost use Rattle.kex_top.specs.declared.status.Status.TheVariants.{Done, Memory};
 
 use crate::check::answer_check;
+use crate::each::answer_each;
 use crate::serve::answer_stream;
 use crate::start::{StartError, status_of};
 use crate::status::Status;
@@ -57,6 +58,9 @@ fn answer_command<R: Threads + Sync, G: Gate + Sync, H: Shelf, S: Source, K: Sin
             limits,
         } => answer_stream(rt, gate, alloc, mode, program, limits, shelf, input, output),
         Command::Check { program, states } => answer_check(alloc, program, states, shelf, output),
+        Command::Each { program, limits } => {
+            answer_each(rt, gate, alloc, program, limits, shelf, input, output)
+        }
         Command::Trial(lines) => answer_trial(rt, gate, alloc, lines, output),
     }
 }
@@ -98,8 +102,10 @@ fn answer<R: Threads + Sync, G: Gate + Sync, H: Shelf, S: Source, K: Sink>(
 /// first byte after which no continuation parses. Of a program of several stages each stage reads
 /// what the one before it wrote. `code` writes the code of the greedy parse, `act` what the input
 /// means as the code of a tree, and `test` only asks whether there is a parse, all of a program of
-/// one stage. `check` writes a line with the counts of stages, places and states, and `trial` one
-/// that sums up what a program of its own writes for lines of its own.
+/// one stage. `each` does for each line of the input what `run` does for an input, and writes for a
+/// line that is rejected what the notes would say of it. `check` writes a line with the counts of
+/// stages, places and states, and `trial` one that sums up what a program of its own writes for
+/// lines of its own.
 pub fn kex<R: Threads + Sync, H: Shelf, S: Source, K: Sink, N: Sink, G: Gate + Sync>(
     rt: &R,
     alloc: Global,

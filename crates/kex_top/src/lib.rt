@@ -7,6 +7,7 @@
 mod any_pipe;
 mod call;
 mod check;
+mod each;
 mod limits;
 mod lines;
 mod pass;

@@ -12,6 +12,7 @@ ghost use Rattle.kex_top.specs.declared.pass.Trouble.TheVariants as trouble;
 use crate::any_pipe::AnyPipe;
 use crate::pipeline::{Limited, end, feed};
 use crate::rounds::Pace;
+use kex_code::memory::Memory;
 use kex_pipe::pipe::PipeFault;
 use kex_pipe::turn::Fate;
 use kex_ports::{Failed, Gate, Sink};
@@ -29,6 +30,14 @@ impl From<PipeFault> for Trouble {
     ghost from_gives = { λ _ e. e ≡ trouble.Memory };
 
     fn from(_: PipeFault) -> Trouble {
+        Trouble::Memory
+    }
+}
+
+impl From<Memory> for Trouble {
+    ghost from_gives = { λ _ e. e ≡ trouble.Memory };
+
+    fn from(_: Memory) -> Trouble {
         Trouble::Memory
     }
 }

@@ -19,6 +19,8 @@ pub enum Status {
     ShelfFault,
     Memory,
     TooLong(Rejected),
+    /// More bytes were read than an input may have.
+    InputTooLong,
 }
 
 impl Status {
@@ -35,7 +37,7 @@ impl Status {
             Status::WriteFault => 5,
             Status::ShelfFault => 6,
             Status::Memory => 7,
-            Status::TooLong(_) => 8,
+            Status::TooLong(_) | Status::InputTooLong => 8,
         }
     }
 
@@ -60,6 +62,7 @@ impl Status {
                 stage: report.stage,
                 at: report.at,
             },
+            Status::InputTooLong => Note::InputTooLong,
         }
     }
 }

@@ -33,7 +33,7 @@ fn status_of(report: Option<Rejected>) -> Status
     }
 }
 
-fn status_after(trouble: Trouble) -> Status
+pub(crate) fn status_after(trouble: Trouble) -> Status
     ensures { result ≡ status_after trouble }
 {
     match trouble {
@@ -90,12 +90,16 @@ pub(crate) fn pump<R: Threads + Sync, T: Limited + Drop + Send, G: Gate + Sync, 
     status_of(rejected(pipe))
 }
 
-// All was written that the run had to say.
-fn is_whole(status: Status) -> bool
+/// All was written that the run had to say.
+pub(crate) fn is_whole(status: Status) -> bool
     ensures { result ≡ is_whole status }
 {
     match status {
-        Status::Done | Status::Rejected(_) | Status::TooLong(_) | Status::ReadFault => true,
+        Status::Done
+        | Status::Rejected(_)
+        | Status::TooLong(_)
+        | Status::InputTooLong
+        | Status::ReadFault => true,
         _ => false,
     }
 }

@@ -44,6 +44,12 @@ abbrev pub rings_rule : Rule
 rings_rule = record (new_rule (codes "rings"))
     { long = Some (codes "rings"); parser = Some (vp.Unsigned 1 most_room) }
 
+abbrev pub most_workers : ℕ
+most_workers = 64
+
+abbrev pub workers_rule : Rule
+workers_rule = number_rule (codes "workers") 1 most_workers (codes "1")
+
 abbrev pub lines_rule : Rule
 lines_rule =
     record (new_rule (codes "N")) { parser = Some (vp.Unsigned 0 most_lines); required = true }
@@ -67,6 +73,11 @@ run_app = with_rules (stage_app (codes "run")) (states_rule ∷ rings_rule ∷ [
 abbrev pub trial_app : App
 trial_app = with_rules (new_app (codes "trial")) (lines_rule ∷ block_rule ∷ rings_rule ∷ [])
 
+-- lines are answered by tables
+abbrev pub each_app : App
+each_app = with_rules (new_app (codes "each"))
+    (program_rule ∷ states_rule ∷ max_input_rule ∷ workers_rule ∷ [])
+
 -- no flag or subcommand for help or the version
 abbrev pub bare_app : App
 bare_app = record (new_app (codes "kex")) {
@@ -85,7 +96,9 @@ with_subcommands app (sub ∷ subs) = with_subcommands (with_subcommand app sub.
 abbrev pub begun_app : App
 begun_app = with_subcommands bare_app (run_app ∷ check_app ∷ stage_app (codes "code") ∷ [])
 
+abbrev pub played_app : App
+played_app = with_subcommands begun_app (stage_app (codes "act") ∷ stage_app (codes "test") ∷ [])
+
 -- one of these subcommands, which is required
 abbrev pub kex_app : App
-kex_app =
-    with_subcommands begun_app (stage_app (codes "act") ∷ stage_app (codes "test") ∷ trial_app ∷ [])
+kex_app = with_subcommands played_app (trial_app ∷ each_app ∷ [])

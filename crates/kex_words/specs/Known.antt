@@ -4,7 +4,7 @@ use Rattle.std.specs.List.{list_all, slice_split}
 use Prim.Native.String.{String}
 use Rattle.clap.specs.Words.{Text}
 use Rattle.kex_words.specs.Words.{Asked, Reach, asked_of}
-use Rattle.kex_words.specs.Words.Asked.{ToStream, ToCheck, ToTry}
+use Rattle.kex_words.specs.Words.Asked.{ToStream, ToCheck, ToEach, ToTry}
 use Rattle.kex_words.specs.Words.Mode.{running, coding, acting, testing}
 
 -- the words of a line, between single blanks, so that an empty word may stand among them
@@ -78,6 +78,11 @@ pub record ReadsTrial : Type 0 where
   pub most : LineAsks "kex trial 1000000" (ToTry 1000000 65536 None)
   pub rings : LineAsks "kex trial 2 --rings 64" (ToTry 2 65536 (Some 64))
 
+pub record ReadsEach : Type 0 where
+  pub plain : LineAsks "kex each p" (ToEach (codes "p") 4096 281474976710656 1)
+  pub with_options : LineAsks "kex each --workers 64 p --states 7 --max-input=0"
+      (ToEach (codes "p") 7 0 64)
+
 pub record RefusesWords : Type 0 where
   pub no_words : asked_of [] ≡ None
   pub no_command
@@ -100,7 +105,8 @@ pub record RefusesWords : Type 0 where
       ∷ "kex code p --states 1" ∷ "kex act p --states 1"
       ∷ "kex test p --states 1" ∷ "kex trial 1 --states 1" ∷ "kex trial 1 --max-input 1"
       ∷ "kex check p --rings 1" ∷ "kex code p --rings 1"
-      ∷ "kex act p --rings 1" ∷ "kex test p --rings 1" ∷ [])
+      ∷ "kex act p --rings 1" ∷ "kex test p --rings 1" ∷ "kex each p --block 1"
+      ∷ "kex each p --rings 1" ∷ "kex check p --workers 1" ∷ [])
   pub option_twice : AreUsage ("kex run p --block 2 --block 3" ∷ "kex run p --block=2 --block=2"
       ∷ "kex run --max-input 1 p --max-input 1" ∷ [])
   pub no_value : AreUsage ("kex run p --block" ∷ "kex run p --block=" ∷ "kex run p --block "
@@ -109,10 +115,10 @@ pub record RefusesWords : Type 0 where
   pub below_range : AreUsage ("kex run p --block 0" ∷ "kex run p --block -1"
       ∷ "kex run p --max-input -1" ∷ "kex run p --max-input=-0"
       ∷ "kex run p --states 0" ∷ "kex run p --rings 0" ∷ "kex trial 1 --rings 0"
-      ∷ "kex check p --states 0" ∷ "kex trial -1" ∷ [])
+      ∷ "kex check p --states 0" ∷ "kex trial -1" ∷ "kex each p --workers 0" ∷ [])
   pub above_range : AreUsage ("kex run p --block 1048577" ∷ "kex run p --max-input 281474976710657"
       ∷ "kex run p --block 18446744073709551617" ∷ "kex run p --states 1048577"
-      ∷ "kex run p --rings 1048577" ∷ "kex trial 1000001" ∷ [])
+      ∷ "kex run p --rings 1048577" ∷ "kex trial 1000001" ∷ "kex each p --workers 65" ∷ [])
   pub no_number : AreUsage ("kex run p --block two" ∷ "kex run p --block 3k"
       ∷ "kex run p --block 0x10" ∷ "kex run p --block 1_000"
       ∷ "kex run p --block 3.0" ∷ "kex run p --block +" ∷ "kex run p --block ++3"
@@ -124,4 +130,5 @@ pub record ReadsWords : Type 0 where
   pub check : ReadsCheck
   pub singles : ReadsSingles
   pub trial : ReadsTrial
+  pub each : ReadsEach
   pub out_of_form : RefusesWords

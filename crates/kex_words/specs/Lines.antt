@@ -5,7 +5,8 @@ use Rattle.kex_words.specs.declared.notes.TheConstants.{USAGE}
 use Rattle.kex_words.specs.declared.counts.Counts.{Counts}
 use Rattle.kex_words.specs.declared.counts.Summary.{Summary}
 use Rattle.kex_words.specs.declared.notes.Note.{Note}
-use Rattle.kex_words.specs.declared.notes.Note.TheVariants.{Nothing, Rejected, TooLong, Usage}
+use Rattle.kex_words.specs.declared.notes.Note.TheVariants.{Nothing, Rejected, TooLong}
+use Rattle.kex_words.specs.declared.notes.Note.TheVariants.{InputTooLong, Usage}
 use Rattle.kex_words.specs.declared.notes.Note.TheVariants.{Refused, ReadFault, WriteFault}
 use Rattle.kex_words.specs.declared.notes.Note.TheVariants.{ShelfFault, Memory}
 use Rattle.kex_words.specs.declared.refusals.RefusalPlace.{RefusalPlace}
@@ -62,6 +63,7 @@ abbrev pub line_of : Note → List ℕ
 line_of Nothing = []
 line_of (Rejected stage at at_end) = rejected_line stage at at_end
 line_of (TooLong stage at) = too_long_line stage at
+line_of InputTooLong = codes "too long: input\n"
 line_of Usage = usage_line
 line_of (Refused refusal) = refused_line refusal
 line_of ReadFault = codes "read fault\n"

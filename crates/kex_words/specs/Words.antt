@@ -7,11 +7,11 @@ use Rattle.clap.specs.Words.{Row, Text, first_of, one_of, subcommand_of, fault_o
 use Rattle.clap.specs.Walk.{is_empty}
 use Rattle.clap.specs.ValueTests.{is_unsigned_in}
 use Rattle.kex_words.specs.Form.{kex_app, most_block, most_input, most_lines, most_room}
-use Rattle.kex_words.specs.Form.{most_states}
+use Rattle.kex_words.specs.Form.{most_states, most_workers}
 use Rattle.kex_words.specs.declared.asked.RunLimits.{RunLimits}
 use Rattle.kex_words.specs.declared.asked.Rings.{Rings}
 use Rattle.kex_words.specs.declared.asked.Command.{Command}
-use Rattle.kex_words.specs.declared.asked.Command.TheVariants.{Stream, Check, Trial}
+use Rattle.kex_words.specs.declared.asked.Command.TheVariants.{Stream, Check, Each, Trial}
 use Rattle.kex_words.specs.declared.asked.Mode.{Mode as Moded}
 use Rattle.kex_words.specs.declared.asked.Mode.TheVariants as of_mode
 
@@ -35,6 +35,7 @@ pub data Mode : Type 0 where
 pub data Asked : Type 0 where
   ToStream : (mode : Mode) (program : Text) (reach : Reach) → Asked
   ToCheck : (program : Text) (states : ℕ) → Asked
+  ToEach : (program : Text) (states max_input workers : ℕ) → Asked
   ToTry : (lines block : ℕ) (rings : Option ℕ) → Asked
 
 -- the number where it is within the bounds
@@ -60,15 +61,21 @@ block_in rows = unwrap_or (number_at (codes "block") 1 most_block rows) 65536
 abbrev pub rings_in : List Row → Option ℕ
 rings_in rows = number_at (codes "rings") 1 most_room rows
 
+abbrev pub max_input_in : List Row → ℕ
+max_input_in rows = unwrap_or (number_at (codes "max-input") 0 most_input rows) most_input
+
 abbrev pub reach_in : List Row → Reach
 reach_in rows = record {
-  max_input = unwrap_or (number_at (codes "max-input") 0 most_input rows) most_input;
+  max_input = max_input_in rows;
   block = block_in rows;
   rings = rings_in rows;
 }
 
 abbrev pub states_in : List Row → ℕ
 states_in rows = unwrap_or (number_at (codes "states") 1 most_states rows) 4096
+
+abbrev pub workers_in : List Row → ℕ
+workers_in rows = unwrap_or (number_at (codes "workers") 1 most_workers rows) 1
 
 abbrev pub lines_in : List Row → ℕ
 lines_in rows = unwrap_or (number_at (codes "N") 0 most_lines rows) 0
@@ -81,6 +88,8 @@ asked_by name rows =
     else if bytes_eq name (codes "act") then ToStream acting (program_in rows) (reach_in rows)
     else if bytes_eq name (codes "test") then ToStream testing (program_in rows) (reach_in rows)
     else if bytes_eq name (codes "trial") then ToTry (lines_in rows) (block_in rows) (rings_in rows)
+    else if bytes_eq name (codes "each")
+    then ToEach (program_in rows) (states_in rows) (max_input_in rows) (workers_in rows)
     else ToStream (running (states_in rows)) (program_in rows) (reach_in rows)
 
 -- the same, where there is a subcommand; words in form have one
@@ -115,4 +124,6 @@ abbrev pub asked_by_command : Command → Asked
 asked_by_command (Stream mode program limits) =
     ToStream (mode_of mode) program.now (reach_of limits)
 asked_by_command (Check program states) = ToCheck program.now states.most
+asked_by_command (Each program limits) =
+    ToEach program.now limits.states.most limits.max_input limits.workers
 asked_by_command (Trial lines) = ToTry lines.count lines.block (room_of lines.rings)

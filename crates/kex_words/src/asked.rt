@@ -19,6 +19,8 @@ pub(crate) const MOST_LINES: u64 = 1_000_000;
 
 pub(crate) const MOST_ROOM: u64 = 1_048_576;
 
+pub(crate) const MOST_WORKERS: u64 = 64;
+
 /// Rings between stages that work at once.
 #[derive(Clone, Copy, Debug, PartialEq, Eq)]
 pub struct Rings {
@@ -61,6 +63,18 @@ pub struct Lines {
     ghost fits: { block ≤ 2 ^ 20 },
 }
 
+/// What bounds the answers to lines, and how many workers make them.
+#[derive(Clone, Copy, Debug, PartialEq, Eq)]
+pub struct LineLimits {
+    pub states: StateLimit,
+    /// The most bytes that a stage takes of a line.
+    pub max_input: u64,
+    pub workers: u32,
+    ghost most: { max_input ≤ 2 ^ 48 },
+    ghost some: { 1 ≤ workers },
+    ghost few: { workers ≤ 64 },
+}
+
 /// What is written for the bytes of the input.
 #[derive(Clone, Copy, Debug, PartialEq, Eq)]
 pub enum Mode {
@@ -87,6 +101,11 @@ pub enum Command<'a> {
     Check {
         program: &'a str,
         states: StateLimit,
+    },
+    /// Answers each line of the input as an input of its own.
+    Each {
+        program: &'a str,
+        limits: LineLimits,
     },
     /// Runs a program of its own on lines of its own.
     Trial(Lines),

@@ -5,8 +5,9 @@ ghost use Rattle.clap.specs.declared.builder.command.Command.TheViews.{out-Comma
 ghost use Rattle.kex_words.specs.Form.{bare_app, begun_app, block_rule, check_app, kex_app};
 ghost use Rattle.kex_words.specs.Form.{lines_rule, max_input_rule, number_rule, program_rule};
 ghost use Rattle.kex_words.specs.Form.{rings_rule, run_app, stage_app, states_rule, trial_app};
+ghost use Rattle.kex_words.specs.Form.{each_app, played_app, workers_rule};
 
-use crate::asked::{MOST_BLOCK, MOST_INPUT, MOST_LINES, MOST_ROOM, MOST_STATES};
+use crate::asked::{MOST_BLOCK, MOST_INPUT, MOST_LINES, MOST_ROOM, MOST_STATES, MOST_WORKERS};
 use clap::builder::ValueParser;
 use clap::{Arg, Command};
 use std::alloc::{AllocError, Global};
@@ -59,6 +60,13 @@ fn rings<'a>(alloc: Global) -> Arg<'a>
         .value_parser(ValueParser::Unsigned(1, MOST_ROOM))
 }
 
+fn workers<'a>(alloc: Global) -> Arg<'a>
+    ensures rule { rule_of result ≡ workers_rule }
+    ensures local { result.global ≡ false }
+{
+    number(alloc, "workers", 1, MOST_WORKERS, "1")
+}
+
 fn lines<'a>(alloc: Global) -> Arg<'a>
     ensures rule { rule_of result ≡ lines_rule }
     ensures local { result.global ≡ false }
@@ -105,6 +113,17 @@ fn trial<'a>(alloc: Global) -> Result<Command<'a>, AllocError>
         .arg(rings(alloc))
 }
 
+fn each<'a>(alloc: Global) -> Result<Command<'a>, AllocError>
+    ensures app { IfOk result (λ command. app_of command ≡ each_app) }
+    ensures local { IfOk result (λ command. (out-Command command).has_globals ≡ false) }
+{
+    Command::new(alloc, "each")
+        .arg(program(alloc))?
+        .arg(states(alloc))?
+        .arg(max_input(alloc))?
+        .arg(workers(alloc))
+}
+
 // Help and the version are no words of the form.
 fn bare<'a>(alloc: Global) -> Command<'a>
     ensures { app_of result ≡ bare_app }
@@ -132,10 +151,16 @@ fn begun<'a>(alloc: Global) -> Result<Command<'a>, AllocError>
     with(with_check, stage(alloc, "code")?)
 }
 
+fn played<'a>(alloc: Global) -> Result<Command<'a>, AllocError>
+    ensures { IfOk result (λ command. app_of command ≡ played_app) }
+{
+    let with_act = with(begun(alloc)?, stage(alloc, "act")?)?;
+    with(with_act, stage(alloc, "test")?)
+}
+
 pub(crate) fn form<'a>(alloc: Global) -> Result<Command<'a>, AllocError>
     ensures { IfOk result (λ command. app_of command ≡ kex_app) }
 {
-    let with_act = with(begun(alloc)?, stage(alloc, "act")?)?;
-    let with_test = with(with_act, stage(alloc, "test")?)?;
-    with(with_test, trial(alloc)?)
+    let with_trial = with(played(alloc)?, trial(alloc)?)?;
+    with(with_trial, each(alloc)?)
 }

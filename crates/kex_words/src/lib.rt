@@ -17,7 +17,7 @@ mod refusals;
 mod text_sink;
 mod writing;
 
-pub use asked::{Command, Lines, Mode, Rings, RunLimits, StateLimit, WordsRefusal};
+pub use asked::{Command, LineLimits, Lines, Mode, Rings, RunLimits, StateLimit, WordsRefusal};
 pub use counts::{Counts, Summary, write_counts, write_summary};
 pub use known::{asks_by_subcommand, asks_in_form, reads_known_words};
 pub use notes::{Note, tell};

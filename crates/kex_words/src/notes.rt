@@ -13,7 +13,7 @@ use kex_ports::{Failed, Sink};
 /// The line of words that are out of form. The manual and the guide show it, and are compared with
 /// what the program writes.
 const USAGE: &str =
-    "usage: kex run|check|code|act|test PROGRAM [--states N] [--max-input N] [--block N] [--rings N] | kex trial N [--block N] [--rings N]\n";
+    "usage: kex run|check|code|act|test PROGRAM [--states N] [--max-input N] [--block N] [--rings N] | kex trial N [--block N] [--rings N] | kex each PROGRAM [--states N] [--max-input N] [--workers N]\n";
 
 /// What a run leaves to be told. Stages count from 1, bytes from 0.
 #[derive(Clone, Copy, Debug, PartialEq, Eq)]
@@ -24,6 +24,8 @@ pub enum Note {
     Rejected { stage: u32, at: u64, at_end: bool },
     /// The stage's input goes on past its limit, which is this byte.
     TooLong { stage: u32, at: u64 },
+    /// More bytes were read than an input may have.
+    InputTooLong,
     Usage,
     Refused(Refusal),
     ReadFault,
@@ -122,6 +124,7 @@ pub(crate) fn line<N: Sink>(sink: &mut N, note: Note) -> Result<(), Failed>
         Note::Nothing => Ok(()),
         Note::Rejected { stage, at, at_end } => rejected(sink, stage, at, at_end),
         Note::TooLong { stage, at } => too_long(sink, stage, at),
+        Note::InputTooLong => write_text(sink, "too long: input\n"),
         Note::Usage => write_text(sink, USAGE),
         Note::Refused(refusal) => refused(sink, refusal),
         Note::ReadFault => write_text(sink, "read fault\n"),

@@ -4,13 +4,14 @@ ghost use Rattle.std.specs.Prelude.{IsErrOf, option_map};
 ghost use Rattle.clap.specs.Words.{found_of, rows_of, first_of, subcommand_rows_of};
 ghost use Rattle.kex_words.specs.Words.{asked_by_command, asked_in, asked_of, block_in};
 ghost use Rattle.kex_words.specs.Words.{number_within, lines_in, mode_of, number_at, program_in};
-ghost use Rattle.kex_words.specs.Words.{reach_in, rings_in, room_of, states_in};
+ghost use Rattle.kex_words.specs.Words.{max_input_in, reach_in, rings_in, room_of, states_in};
+ghost use Rattle.kex_words.specs.Words.{workers_in};
 ghost use Rattle.kex_words.specs.Words.Asked.{ToStream};
 ghost use Rattle.kex_words.specs.declared.asked.WordsRefusal.TheVariants.{Usage};
 
 use crate::asked::{
-    Command, Lines, MOST_BLOCK, MOST_INPUT, MOST_LINES, MOST_ROOM, MOST_STATES, Mode, Rings,
-    RunLimits, StateLimit, USUAL_BLOCK, USUAL_STATES, WordsRefusal,
+    Command, LineLimits, Lines, MOST_BLOCK, MOST_INPUT, MOST_LINES, MOST_ROOM, MOST_STATES,
+    MOST_WORKERS, Mode, Rings, RunLimits, StateLimit, USUAL_BLOCK, USUAL_STATES, WordsRefusal,
 };
 use crate::form::form;
 use clap::error::ErrorKind;
@@ -58,13 +59,20 @@ fn rings(matches: &ArgMatches) -> Option<Rings>
     Some(Rings { room: room as u32 })
 }
 
+fn max_input(matches: &ArgMatches) -> u64
+    ensures most { result ≤ 2 ^ 48 }
+    ensures value { result ≡ max_input_in (rows_of (found_of matches.now)) }
+{
+    number(matches, "max-input", 0, MOST_INPUT).unwrap_or(MOST_INPUT)
+}
+
 fn limits(matches: &ArgMatches) -> RunLimits
     ensures max_input { result.max_input ≡ (reach_in (rows_of (found_of matches.now))).max_input }
     ensures block { result.block ≡ (reach_in (rows_of (found_of matches.now))).block }
     ensures rings { room_of result.rings ≡ (reach_in (rows_of (found_of matches.now))).rings }
 {
     RunLimits {
-        max_input: number(matches, "max-input", 0, MOST_INPUT).unwrap_or(MOST_INPUT),
+        max_input: max_input(matches),
         block: block(matches),
         rings: rings(matches),
     }
@@ -75,6 +83,18 @@ fn states(matches: &ArgMatches) -> StateLimit
 {
     StateLimit {
         most: number(matches, "states", 1, MOST_STATES).unwrap_or(USUAL_STATES) as u32,
+    }
+}
+
+fn line_limits(matches: &ArgMatches) -> LineLimits
+    ensures states { result.states.most ≡ states_in (rows_of (found_of matches.now)) }
+    ensures max_input { result.max_input ≡ max_input_in (rows_of (found_of matches.now)) }
+    ensures workers { result.workers ≡ workers_in (rows_of (found_of matches.now)) }
+{
+    LineLimits {
+        states: states(matches),
+        max_input: max_input(matches),
+        workers: number(matches, "workers", 1, MOST_WORKERS).unwrap_or(1) as u32,
     }
 }
 
@@ -114,6 +134,10 @@ fn command<'a>(matches: &ArgMatches<'a>) -> Option<Command<'a>>
         Some(("act", inner)) => Some(stream(Mode::Act, inner)),
         Some(("test", inner)) => Some(stream(Mode::Test, inner)),
         Some(("trial", inner)) => Some(Command::Trial(lines(inner))),
+        Some(("each", inner)) => Some(Command::Each {
+            program: program(inner),
+            limits: line_limits(inner),
+        }),
         Some((_, inner)) => Some(stream(Mode::Run(states(inner)), inner)),
         None => None,
     }

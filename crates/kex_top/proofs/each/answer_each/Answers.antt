@@ -1,0 +1,17 @@
+use Rattle.std.proofs.Common.{subst}
+use Rattle.kex_ports.specs.Shelf.{told_of}
+use Rattle.kex_top.specs.Refusals.{HasPlans}
+use Rattle.kex_top.proofs.CallAnswers.{some-machine}
+use Rattle.kex_top.proofs.LineCommands.{line_served}
+use Rattle.kex_top.proofs.each.answer_each.Goals as goal
+
+pub answer_lines-requires-after_bounds : goal.answer_lines-requires-after_bounds
+answer_lines-requires-after_bounds g c = λ κs bounds.
+    let h = c.in_ok-plans.ensures.plans in
+    some-machine c.limits_to_check-asked.result h.text c.in_ok-plans.plans h.compiled
+
+pub returns-clause-answers : goal.returns-clause-answers
+returns-clause-answers g c =
+    let told = told_of (g.H.Shelf.texts c.args.shelf.now) c.args.program.now in
+    line_served c.args.program.now c.args.limits.states.most c.args.limits.max_input c.args.limits.workers _ _ c.in_ok-plans.plans _ _ c.in_ok-status.status
+    (subst (λ l. HasPlans l told c.in_ok-plans.plans) c.limits_to_check-asked.ensures c.in_ok-plans.ensures.plans) c.in_ok-status.ensures.ran
