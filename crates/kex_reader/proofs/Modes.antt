@@ -9,7 +9,7 @@ use Rattle.kex_model.specs.declared.program.Kind.{Kind as NodeKind}
 use Rattle.kex_model.specs.declared.program.Kind.TheVariants as nodes
 use Rattle.kex_tokens.specs.declared.token.TokenKind.{TokenKind}
 use Rattle.kex_tokens.specs.declared.token.TokenKind.TheVariants as kinds
-use Rattle.kex_reader.specs.declared.stack.Construct.{Construct}
+use Rattle.kex_reader.specs.declared.stack.TermConstruct.{TermConstruct}
 use Rattle.kex_reader.specs.declared.stack.PlacedNode.{PlacedNode as Shown}
 use Rattle.kex_regexp.specs.declared.counts.Count.{Count}
 use Rattle.kex_regexp.specs.declared.counts.CountOutcome.TheVariants as outcomes
@@ -20,10 +20,10 @@ use Rattle.kex_regexp.specs.Postfixes.{is_bad_count}
 use Rattle.kex_regexp.proofs.CappedCounts.{bad_bounds}
 use Rattle.kex_reader.specs.declared.pieces.Assignment.{Assignment}
 use Rattle.kex_reader.specs.declared.word.Name.{Name as Named'}
-use Rattle.kex_reader.specs.declared.inside.Wait.{Wait}
-use Rattle.kex_reader.specs.declared.inside.Wait.TheVariants as waits
-use Rattle.kex_reader.specs.declared.inside.StepFault.{StepFault}
-use Rattle.kex_reader.specs.declared.inside.StepFault.TheVariants as faults
+use Rattle.kex_reader.specs.declared.inside.TermWait.{TermWait}
+use Rattle.kex_reader.specs.declared.inside.TermWait.TheVariants as waits
+use Rattle.kex_reader.specs.declared.inside.TermFault.{TermFault}
+use Rattle.kex_reader.specs.declared.inside.TermFault.TheVariants as faults
 use Rattle.kex_reader.specs.Syntax.{Word, Name, Literal, word, RegisterPart, Text, Held, Postfix, Turns, Atom, Write, Assign, Call, atom, postfix}
 use Rattle.kex_reader.specs.Reading.{Entry, Mode, Need, Ready, After, Turned, Named, Writing, Bracket, BracketName, Assigning, Assigned, InCount, Inside, Counting, CountStep, CountOn, CountRead, CountWrong, with_pre, goes, begin_pre, after_atom, after_term_turns, after_name, on_name, on_sign, first_part, next_part, count_step, on_count, step_in, inside, mode, entries}
 use Rattle.kex_reader.specs.Shown.{Made, IsNode, IsRegister, ShowsPre, ShowsAtom, ShowsPart, ShowsParts, assignment_kind}
@@ -176,7 +176,7 @@ some_piece : (o : Option RegisterPart) (made : Made) (q : Piece) → PieceShows 
 some_piece None made q h = absurd h
 some_piece (Some p) made q h = (p, refl, h)
 
-module _ (a b : Made) (at : ℕ → ℕ) (base : ℕ) (fs : List Construct) (es : List Entry) (x : Assignment) (append : Bool) (r : List ℕ) (k : TokenKind) (bytes : List ℕ) where
+module _ (a b : Made) (at : ℕ → ℕ) (base : ℕ) (fs : List TermConstruct) (es : List Entry) (x : Assignment) (append : Bool) (r : List ℕ) (k : TokenKind) (bytes : List ℕ) where
   pub first_wrong : PieceShows (part_of (word k bytes)) b None → Steps b at base fs (Err faults.Wrong) (first_part append r es (word k bytes))
   first_wrong h = to b at base fs _ _ _ (first_none append r es (word k bytes) (none_piece (part_of (word k bytes)) b h)) (wrong b at base fs)
 
@@ -216,20 +216,20 @@ assigned_at made at i x append r p ps m = m.0
 
 -- ---- counts
 
-pub count_on : (made : Made) (at : ℕ → ℕ) (base : ℕ) (fs : List Construct) (es : List Entry) (a : Atom) (item : Shown) (brace : ℕ) (c : Count) (t : CountStep) → ConstructsShow made at base fs es → item.at ≡ at (base + length (entries es)) → brace ≡ at (base + length (entries es) + length (atom a)) → ShowsAtom a made at item.node (base + length (entries es)) → ShowsCountStep (outcomes.On c) t → Steps made at base fs (Ok (waits.InCount item c brace)) (on_count a es t)
+pub count_on : (made : Made) (at : ℕ → ℕ) (base : ℕ) (fs : List TermConstruct) (es : List Entry) (a : Atom) (item : Shown) (brace : ℕ) (c : Count) (t : CountStep) → ConstructsShow made at base fs es → item.at ≡ at (base + length (entries es)) → brace ≡ at (base + length (entries es) + length (atom a)) → ShowsAtom a made at item.node (base + length (entries es)) → ShowsCountStep (outcomes.On c) t → Steps made at base fs (Ok (waits.InCount item c brace)) (on_count a es t)
 unfolding ShowsCountStep on_count ShowsMode
 count_on made at base fs es a item brace c (CountOn d) h e b s k = stood made at base fs (waits.InCount item c brace) (InCount a d) es h (e, s, k, b)
 count_on made at base fs es a item brace c (CountRead p) h e b s k = absurd k
 count_on made at base fs es a item brace c CountWrong h e b s k = absurd k
 
-pub count_wrong : (made : Made) (at : ℕ → ℕ) (base : ℕ) (fs : List Construct) (es : List Entry) (a : Atom) (t : CountStep) → ShowsCountStep outcomes.Wrong t → Steps made at base fs (Err faults.Wrong) (on_count a es t)
+pub count_wrong : (made : Made) (at : ℕ → ℕ) (base : ℕ) (fs : List TermConstruct) (es : List Entry) (a : Atom) (t : CountStep) → ShowsCountStep outcomes.Wrong t → Steps made at base fs (Err faults.Wrong) (on_count a es t)
 unfolding ShowsCountStep on_count
 count_wrong made at base fs es a (CountOn d) k = absurd k
 count_wrong made at base fs es a (CountRead p) k = absurd k
 count_wrong made at base fs es a CountWrong k = wrong made at base fs
 
 -- a count that is read, once it has been noted
-pub count_read : (made : Made) (at : ℕ → ℕ) (base : ℕ) (fs : List Construct) (es : List Entry) (a : Atom) (item : Shown) (b : Bounds) (t : CountStep) → ConstructsShow made at base fs es → item.at ≡ at (base + length (entries es)) → ShowsAtom a made at item.node (base + length (entries es)) → ((p : Postfix) → HoldsBounds b p → HoldsTurns made b p) → ShowsCountStep (outcomes.Read b) t → Steps made at base fs (Ok (waits.Turned item b)) (on_count a es t)
+pub count_read : (made : Made) (at : ℕ → ℕ) (base : ℕ) (fs : List TermConstruct) (es : List Entry) (a : Atom) (item : Shown) (b : Bounds) (t : CountStep) → ConstructsShow made at base fs es → item.at ≡ at (base + length (entries es)) → ShowsAtom a made at item.node (base + length (entries es)) → ((p : Postfix) → HoldsBounds b p → HoldsTurns made b p) → ShowsCountStep (outcomes.Read b) t → Steps made at base fs (Ok (waits.Turned item b)) (on_count a es t)
 unfolding ShowsCountStep on_count
 count_read made at base fs es a item b (CountOn d) h e s f k = absurd k
 count_read made at base fs es a item b (CountRead p) h e s f k = turned made at base fs es item b a p h e s (f p k)
@@ -336,41 +336,41 @@ pub call_place : (at : ℕ → ℕ) (base a : ℕ) (n : List ℕ) (es : List Ent
 unfolding atom
 call_place at base a n es e = e
 
-pub some_named : (made : Made) (fs : List Construct) (wait : Wait) → SomeInside made fs wait → SomeConstructs made fs
+pub some_named : (made : Made) (fs : List TermConstruct) (wait : TermWait) → SomeInside made fs wait → SomeConstructs made fs
 some_named made fs wait s = (s.0, s.1, s.2.entries, s.3.below)
 
-pub some_atom : (made : Made) (fs : List Construct) (wait : Wait) (part : Shown) → wait ≡ waits.After part → SomeInside made fs wait → SomeAtom made fs part
+pub some_atom : (made : Made) (fs : List TermConstruct) (wait : TermWait) (part : Shown) → wait ≡ waits.After part → SomeInside made fs wait → SomeAtom made fs part
 some_atom made fs wait part e s =
-    let m = mode_after made s.0 (s.1 + length (entries s.2.entries)) part s.2.mode (subst (λ (w : Wait). ShowsMode made s.0 (s.1 + length (entries s.2.entries)) w s.2.mode) e s.3.mode) in
+    let m = mode_after made s.0 (s.1 + length (entries s.2.entries)) part s.2.mode (subst (λ (w : TermWait). ShowsMode made s.0 (s.1 + length (entries s.2.entries)) w s.2.mode) e s.3.mode) in
     (s.0, s.1, s.2.entries, m.0, s.3.below, m.2, m.3)
 
-pub some_turned : (made : Made) (fs : List Construct) (wait : Wait) (part : Shown) (b : Bounds) → wait ≡ waits.Turned part b → SomeInside made fs wait → SomeTermTurned made fs part b
+pub some_turned : (made : Made) (fs : List TermConstruct) (wait : TermWait) (part : Shown) (b : Bounds) → wait ≡ waits.Turned part b → SomeInside made fs wait → SomeTermTurned made fs part b
 some_turned made fs wait part b e s =
-    let m = mode_turned made s.0 (s.1 + length (entries s.2.entries)) part b s.2.mode (subst (λ (w : Wait). ShowsMode made s.0 (s.1 + length (entries s.2.entries)) w s.2.mode) e s.3.mode) in
+    let m = mode_turned made s.0 (s.1 + length (entries s.2.entries)) part b s.2.mode (subst (λ (w : TermWait). ShowsMode made s.0 (s.1 + length (entries s.2.entries)) w s.2.mode) e s.3.mode) in
     (s.0, s.1, s.2.entries, m.0, m.1, s.3.below, m.3, m.4, m.5)
 
-pub some_assigned : (made : Made) (fs : List Construct) (wait : Wait) (x : Assignment) → wait ≡ waits.Assigned x → SomeInside made fs wait → (place : ℕ → ℕ) × (i : ℕ) × (append : Bool) × (r : List ℕ) × (p : RegisterPart) × (ps : List RegisterPart) × ShowsMode made place i (waits.Assigned x) (Assigned append r p ps)
+pub some_assigned : (made : Made) (fs : List TermConstruct) (wait : TermWait) (x : Assignment) → wait ≡ waits.Assigned x → SomeInside made fs wait → (place : ℕ → ℕ) × (i : ℕ) × (append : Bool) × (r : List ℕ) × (p : RegisterPart) × (ps : List RegisterPart) × ShowsMode made place i (waits.Assigned x) (Assigned append r p ps)
 some_assigned made fs wait x e s =
     let i = s.1 + length (entries s.2.entries) in
-    let here = subst (λ (w : Wait). ShowsMode made s.0 i w s.2.mode) e s.3.mode in
+    let here = subst (λ (w : TermWait). ShowsMode made s.0 i w s.2.mode) e s.3.mode in
     let m = mode_assigned made s.0 i x s.2.mode here in
     (s.0, i, m.0, m.1, m.2, m.3, subst (λ (y : Mode). ShowsMode made s.0 i (waits.Assigned x) y) m.4 here)
 
-pub write_of : (a b : Made) (at : ℕ → ℕ) (i k from : ℕ) (r : List ℕ) (res : Result Wait StepFault) → from ≡ at i → OnOk res (Keeps a b) → IsRegister a k r → IfOk res (λ w. (n : ℕ) × (w ≡ waits.After (record { node = n; at = from })) × IsNode b n (nodes.Write k) from) → IfOk res (λ w. (n : ℕ) × (w ≡ waits.After (record { node = n; at = from })) × ShowsAtom (Write r) b at n i)
+pub write_of : (a b : Made) (at : ℕ → ℕ) (i k from : ℕ) (r : List ℕ) (res : Result TermWait TermFault) → from ≡ at i → OnOk res (Keeps a b) → IsRegister a k r → IfOk res (λ w. (n : ℕ) × (w ≡ waits.After (record { node = n; at = from })) × IsNode b n (nodes.Write k) from) → IfOk res (λ w. (n : ℕ) × (w ≡ waits.After (record { node = n; at = from })) × ShowsAtom (Write r) b at n i)
 write_of a b at i k from r (Ok w) e keep s h = (h.0, h.1, write_shows b at h.0 i k from r e h.2 (keep.registers k r s))
 write_of a b at i k from r (Err f) e keep s h = tt
 
-pub assign_of : (a b : Made) (at : ℕ → ℕ) (i : ℕ) (x : Assignment) (append : Bool) (r : List ℕ) (p : RegisterPart) (ps : List RegisterPart) (kind : NodeKind) (res : Result Wait StepFault) → kind ≡ assignment_kind x.append x.register x.pieces.items → ShowsMode a at i (waits.Assigned x) (Assigned append r p ps) → OnOk res (Keeps a b) → IfOk res (λ w. (n : ℕ) × (w ≡ waits.After (record { node = n; at = x.at })) × IsNode b n kind x.at) → IfOk res (λ w. (n : ℕ) × (w ≡ waits.After (record { node = n; at = x.at })) × ShowsAtom (Assign append r p ps) b at n i)
+pub assign_of : (a b : Made) (at : ℕ → ℕ) (i : ℕ) (x : Assignment) (append : Bool) (r : List ℕ) (p : RegisterPart) (ps : List RegisterPart) (kind : NodeKind) (res : Result TermWait TermFault) → kind ≡ assignment_kind x.append x.register x.pieces.items → ShowsMode a at i (waits.Assigned x) (Assigned append r p ps) → OnOk res (Keeps a b) → IfOk res (λ w. (n : ℕ) × (w ≡ waits.After (record { node = n; at = x.at })) × IsNode b n kind x.at) → IfOk res (λ w. (n : ℕ) × (w ≡ waits.After (record { node = n; at = x.at })) × ShowsAtom (Assign append r p ps) b at n i)
 assign_of a b at i x append r p ps kind (Ok w) e m keep h = (h.0, h.1, assign_shows a b at i h.0 x append r p ps keep m (subst (λ (y : NodeKind). IsNode b h.0 y x.at) e h.2))
 assign_of a b at i x append r p ps kind (Err f) e m keep h = tt
 
-pub assigning_on : (made : Made) (at : ℕ → ℕ) (base : ℕ) (fs : List Construct) (es : List Entry) (x : Assignment) (append : Bool) (r : List ℕ) → ConstructsShow made at base fs es → x.at ≡ at (base + length (entries es)) → x.append ≡ append → IsRegister made x.register r → x.pieces.items ≡ [] → Steps made at base fs (Ok (waits.Assigning x)) (goes (Assigning append r) es)
+pub assigning_on : (made : Made) (at : ℕ → ℕ) (base : ℕ) (fs : List TermConstruct) (es : List Entry) (x : Assignment) (append : Bool) (r : List ℕ) → ConstructsShow made at base fs es → x.at ≡ at (base + length (entries es)) → x.append ≡ append → IsRegister made x.register r → x.pieces.items ≡ [] → Steps made at base fs (Ok (waits.Assigning x)) (goes (Assigning append r) es)
 unfolding ShowsMode
 assigning_on made at base fs es x append r h a p k q = stood made at base fs (waits.Assigning x) (Assigning append r) es h (a, p, k, q)
 
-pub some_name : (made : Made) (fs : List Construct) (wait : Wait) (f : Bool) (n : Named') → wait ≡ waits.Named f n → SomeInside made fs wait → SomeName made fs n.at
+pub some_name : (made : Made) (fs : List TermConstruct) (wait : TermWait) (f : Bool) (n : Named') → wait ≡ waits.Named f n → SomeInside made fs wait → SomeName made fs n.at
 some_name made fs wait f n e s =
-    let m = mode_named made s.0 (s.1 + length (entries s.2.entries)) f n s.2.mode (subst (λ (w : Wait). ShowsMode made s.0 (s.1 + length (entries s.2.entries)) w s.2.mode) e s.3.mode) in
+    let m = mode_named made s.0 (s.1 + length (entries s.2.entries)) f n s.2.mode (subst (λ (w : TermWait). ShowsMode made s.0 (s.1 + length (entries s.2.entries)) w s.2.mode) e s.3.mode) in
     (s.0, s.1, s.2.entries, s.3.below, m.1)
 
 pub count_on_notes : (from : ℕ) (t : CountStep) (c : Count) → ShowsCountStep (outcomes.On c) t → (cs : List Check) (o : Option Break) → NotesLeast cs o → NotesLeast (cs ++ count_asks from t) o

@@ -14,9 +14,9 @@ use Rattle.kex_tokens.specs.declared.token.TokenFault.TheVariants as token_fault
 use Rattle.kex_tokens.specs.Texts.{AreTokens, most_text}
 use Rattle.kex_regexp.specs.declared.breaks.Break.{Break}
 use Rattle.kex_regexp.specs.declared.breaks.Break.TheVariants.{BadRegex, BadCount, BadSet, OverLimit}
-use Rattle.kex_reader.specs.declared.stack.Construct.{Construct}
-use Rattle.kex_reader.specs.declared.inside.StepFault.{StepFault}
-use Rattle.kex_reader.specs.declared.inside.StepFault.TheVariants as faults
+use Rattle.kex_reader.specs.declared.stack.TermConstruct.{TermConstruct}
+use Rattle.kex_reader.specs.declared.inside.TermFault.{TermFault}
+use Rattle.kex_reader.specs.declared.inside.TermFault.TheVariants as faults
 use Rattle.kex_reader.specs.declared.reader.Phase.{Phase}
 use Rattle.kex_reader.specs.declared.reader.Phase.TheVariants as phases
 use Rattle.kex_reader.specs.declared.refusal.ReadRefusal.{ReadRefusal}
@@ -93,12 +93,12 @@ program_read ws k s p h e f = read_is (take k ws) s p e f ∙ take_all k ws h
 
 -- ---- outcomes
 
-pub state_ok : (made : Made) (at : ℕ → ℕ) (fs : List Construct) (ds : List Root) (ss : List Start) (p : Phase) (o : Option State) → StateSteps made at fs ds ss (Ok p) o → (s : State) × (o ≡ Some s) × ShowsState made at fs ds ss p s
+pub state_ok : (made : Made) (at : ℕ → ℕ) (fs : List TermConstruct) (ds : List Root) (ss : List Start) (p : Phase) (o : Option State) → StateSteps made at fs ds ss (Ok p) o → (s : State) × (o ≡ Some s) × ShowsState made at fs ds ss p s
 unfolding StateSteps
 state_ok made at fs ds ss p None h = absurd h
 state_ok made at fs ds ss p (Some s) h = (s, refl, h)
 
-pub state_bad : (made : Made) (at : ℕ → ℕ) (fs : List Construct) (ds : List Root) (ss : List Start) (o : Option State) → StateSteps made at fs ds ss (Err faults.Wrong) o → o ≡ None
+pub state_bad : (made : Made) (at : ℕ → ℕ) (fs : List TermConstruct) (ds : List Root) (ss : List Start) (o : Option State) → StateSteps made at fs ds ss (Err faults.Wrong) o → o ≡ None
 unfolding StateSteps
 state_bad made at fs ds ss None h = refl
 state_bad made at fs ds ss (Some s) h = absurd h
@@ -125,7 +125,7 @@ end_checks at s p e =
     let h : FinishAsked at (state_checks at s) (Some p) = subst (λ (o : Option Program). FinishAsked at (state_checks at s) o) e (finish_asked at s) in
     sym h
 
-pub begin_shows : (made : Made) (at : ℕ → ℕ) (fs : List Construct) (ds : List Root) (ss : List Start) → fs ≡ [] → ds ≡ [] → ss ≡ [] → ShowsState made at fs ds ss phases.Begin Begin
+pub begin_shows : (made : Made) (at : ℕ → ℕ) (fs : List TermConstruct) (ds : List Root) (ss : List Start) → fs ≡ [] → ds ≡ [] → ss ≡ [] → ShowsState made at fs ds ss phases.Begin Begin
 unfolding ShowsState
 begin_shows made at fs ds ss f d s = (f, d, s)
 
@@ -145,7 +145,7 @@ limit_refused text (BadCount at) l h = (l, h)
 limit_refused text (BadSet at) l h = (l, h)
 limit_refused text (OverLimit at) l h = (l, h)
 
-pub step_refused : (text : List ℕ) (f : StepFault) (at : ℕ) → length text ≤ most_text → (f ≡ faults.Wrong → IsUnexpected text at) → IsRefusedAs text (of_step f at)
+pub step_refused : (text : List ℕ) (f : TermFault) (at : ℕ) → length text ≤ most_text → (f ≡ faults.Wrong → IsUnexpected text at) → IsRefusedAs text (of_step f at)
 step_refused text faults.Memory at l h = tt
 step_refused text faults.Wrong at l h = (l, h refl)
 

@@ -5,12 +5,12 @@ use Rattle.kex_model.specs.declared.program.Definition.{Definition as Root}
 use Rattle.kex_model.specs.declared.program.Start.{Start}
 use Rattle.kex_tokens.specs.declared.token.TokenKind.{TokenKind}
 use Rattle.kex_tokens.specs.declared.token.TokenKind.TheVariants as kinds
-use Rattle.kex_reader.specs.declared.stack.Construct.{Construct}
-use Rattle.kex_reader.specs.declared.stack.Construct.TheVariants as constructs
-use Rattle.kex_reader.specs.declared.inside.Wait.{Wait}
-use Rattle.kex_reader.specs.declared.inside.Wait.TheVariants as waits
-use Rattle.kex_reader.specs.declared.inside.StepFault.{StepFault}
-use Rattle.kex_reader.specs.declared.inside.StepFault.TheVariants as faults
+use Rattle.kex_reader.specs.declared.stack.TermConstruct.{TermConstruct}
+use Rattle.kex_reader.specs.declared.stack.TermConstruct.TheVariants as constructs
+use Rattle.kex_reader.specs.declared.inside.TermWait.{TermWait}
+use Rattle.kex_reader.specs.declared.inside.TermWait.TheVariants as waits
+use Rattle.kex_reader.specs.declared.inside.TermFault.{TermFault}
+use Rattle.kex_reader.specs.declared.inside.TermFault.TheVariants as faults
 use Rattle.kex_regexp.specs.declared.counts.Bounds.{Bounds}
 use Rattle.kex_reader.specs.declared.reader.Head.{Head}
 use Rattle.kex_reader.specs.declared.reader.Phase.{Phase}
@@ -30,8 +30,8 @@ head_more (Stages n ns) a b at ss k e = stages_more (n ∷ ns) a b at ss 2 k e
 
 -- ---- outcomes
 
-module _ (made : Made) (at : ℕ → ℕ) (fs : List Construct) (ds : List Root) (ss : List Start) where
-  pub to_state : (r : Result Phase StepFault) (o p : Option State) → o ≡ p → StateSteps made at fs ds ss r p → StateSteps made at fs ds ss r o
+module _ (made : Made) (at : ℕ → ℕ) (fs : List TermConstruct) (ds : List Root) (ss : List Start) where
+  pub to_state : (r : Result Phase TermFault) (o p : Option State) → o ≡ p → StateSteps made at fs ds ss r p → StateSteps made at fs ds ss r o
   to_state r o p e s = subst (λ (x : Option State). StateSteps made at fs ds ss r x) (sym e) s
 
   pub state_memory : (o : Option State) → StateSteps made at fs ds ss (Err faults.Memory) o
@@ -43,7 +43,7 @@ module _ (made : Made) (at : ℕ → ℕ) (fs : List Construct) (ds : List Root)
   state_wrong = tt
 
 -- a definition whose head was read
-pub head_steps : (a b : Made) (at : ℕ → ℕ) (fs gs : List Construct) (ds es : List Root) (ss ts : List Start) (n : Named') (h : Header) (done : List Definition) (r : Result Phase StepFault)
+pub head_steps : (a b : Made) (at : ℕ → ℕ) (fs gs : List TermConstruct) (ds es : List Root) (ss ts : List Start) (n : Named') (h : Header) (done : List Definition) (r : Result Phase TermFault)
     → OnOk r (Keeps a b) → OnOk r ((gs ≡ fs) × (es ≡ ds) × (ts ≡ ss)) → IfOk r (λ p. (k : ℕ) × (p ≡ phases.Within (record { name = k; at = n.at }) waits.Need) × IsName b k n.bytes.now) → IfErr r (λ e. e ≡ faults.Memory)
     → fs ≡ [] → ShowsHead h a at ss → ShowsDefinitions done a at ds (length (header h)) → n.at ≡ at (length (header h) + length (definitions done))
     → StateSteps b at gs es ts r (Some (Within h done n.bytes.now (record { mode = Need; entries = [] })))
@@ -54,22 +54,22 @@ head_steps a b at fs gs ds es ss ts n h done (Ok p) k rest ph m nil hd df pl =
       subst (λ (x : List Root). ShowsDefinitions done b at x (length (header h))) (sym rest.1) (definitions_more done a b at ds (length (header h)) k df),
       ph.2,
       pl,
-      record { below = subst (λ (x : List Construct). ConstructsShow b at (length (before h done n.bytes.now)) x []) (sym (rest.0 ∙ nil)) tt; mode = tt },
+      record { below = subst (λ (x : List TermConstruct). ConstructsShow b at (length (before h done n.bytes.now)) x []) (sym (rest.0 ∙ nil)) tt; mode = tt },
     )
-head_steps a b at fs gs ds es ss ts n h done (Err e) k rest ph m nil hd df pl = subst (λ (x : StepFault). StateSteps b at gs es ts (Err x) (Some (Within h done n.bytes.now (record { mode = Need; entries = [] })))) (sym m) tt
+head_steps a b at fs gs ds es ss ts n h done (Err e) k rest ph m nil hd df pl = subst (λ (x : TermFault). StateSteps b at gs es ts (Err x) (Some (Within h done n.bytes.now (record { mode = Need; entries = [] })))) (sym m) tt
 
 -- inside a definition
-pub lift_steps : (a b : Made) (at : ℕ → ℕ) (gs : List Construct) (ds : List Root) (ss : List Start) (head : Head) (h : Header) (done : List Definition) (name : List ℕ) (r : Result Wait StepFault) (o : Option Inside)
+pub lift_steps : (a b : Made) (at : ℕ → ℕ) (gs : List TermConstruct) (ds : List Root) (ss : List Start) (head : Head) (h : Header) (done : List Definition) (name : List ℕ) (r : Result TermWait TermFault) (o : Option Inside)
     → OnOk r (Keeps a b) → ShowsHead h a at ss → ShowsDefinitions done a at ds (length (header h)) → IsName a head.name name → head.at ≡ at (length (header h) + length (definitions done))
     → Steps b at (length (before h done name)) gs r o
-    → (q : Result Phase StepFault) → IfOk r (λ w. q ≡ Ok (phases.Within head w)) → IfErr r (λ e. q ≡ Err e) → StateSteps b at gs ds ss q (lift h done name o)
+    → (q : Result Phase TermFault) → IfOk r (λ w. q ≡ Ok (phases.Within head w)) → IfErr r (λ e. q ≡ Err e) → StateSteps b at gs ds ss q (lift h done name o)
 unfolding StateSteps ShowsState Steps lift
 lift_steps a b at gs ds ss head h done name (Ok w) None k hd df nm pl s q e f = absurd s
 lift_steps a b at gs ds ss head h done name (Ok w) (Some i) k hd df nm pl s q e f =
-    subst (λ (x : Result Phase StepFault). StateSteps b at gs ds ss x (Some (Within h done name i))) (sym e)
+    subst (λ (x : Result Phase TermFault). StateSteps b at gs ds ss x (Some (Within h done name i))) (sym e)
     (head_more h a b at ss k hd, definitions_more done a b at ds (length (header h)) k df, k.names head.name name nm, pl, s)
-lift_steps a b at gs ds ss head h done name (Err faults.Memory) o k hd df nm pl s q e f = subst (λ (x : Result Phase StepFault). StateSteps b at gs ds ss x (lift h done name o)) (sym f) tt
-lift_steps a b at gs ds ss head h done name (Err faults.Wrong) None k hd df nm pl s q e f = subst (λ (x : Result Phase StepFault). StateSteps b at gs ds ss x None) (sym f) tt
+lift_steps a b at gs ds ss head h done name (Err faults.Memory) o k hd df nm pl s q e f = subst (λ (x : Result Phase TermFault). StateSteps b at gs ds ss x (lift h done name o)) (sym f) tt
+lift_steps a b at gs ds ss head h done name (Err faults.Wrong) None k hd df nm pl s q e f = subst (λ (x : Result Phase TermFault). StateSteps b at gs ds ss x None) (sym f) tt
 lift_steps a b at gs ds ss head h done name (Err faults.Wrong) (Some i) k hd df nm pl s q e f = absurd s
 
 -- ---- stages
@@ -106,7 +106,7 @@ definitions_push (x ∷ ds) d made at (y ∷ rs) r i h m e t =
 
 -- ---- the end of a definition
 
-pub ends_of : (b : Made) (at : ℕ → ℕ) (base : ℕ) (fs : List Construct) (part : Rattle.kex_reader.specs.declared.stack.PlacedNode.PlacedNode) (old new : List Root) (name from : ℕ) (o : Option (Term × List Entry)) → length fs ≡ 0 → new ≡ old ++ record { name = name; at = from; root = part.node } ∷ [] → TermTaken b at base fs (Some part) o → Ends b at base fs old new name from (Ok tt) (whole_term o)
+pub ends_of : (b : Made) (at : ℕ → ℕ) (base : ℕ) (fs : List TermConstruct) (part : Rattle.kex_reader.specs.declared.stack.PlacedNode.PlacedNode) (old new : List Root) (name from : ℕ) (o : Option (Term × List Entry)) → length fs ≡ 0 → new ≡ old ++ record { name = name; at = from; root = part.node } ∷ [] → TermTaken b at base fs (Some part) o → Ends b at base fs old new name from (Ok tt) (whole_term o)
 unfolding Ends whole_term ConstructsShow entries
 ends_of b at base fs part old new name from None z e h = absurd h
 ends_of b at base [] part old new name from (Some (t, [])) z e h = (refl, part.node, e, subst (λ (x : ℕ). ShowsTerm t b at part.node x) (plus_none base) h.shows)
@@ -116,12 +116,12 @@ ends_of b at base [] part old new name from (Some (t, [])) z e h = (refl, part.n
 ends_of b at base [] part old new name from (Some (t, x ∷ es)) z e h = absurd h.below
 ends_of b at base (f ∷ fs) part old new name from (Some (t, es)) z e h = absurd (omega (arith, z))
 
-pub ends_none : (b : Made) (at : ℕ → ℕ) (base : ℕ) (fs gs : List Construct) (old new : List Root) (name from : ℕ) (o : Option (Term × List Entry)) → TermTaken b at base fs None o → Ends b at base gs old new name from (Err faults.Wrong) (whole_term o)
+pub ends_none : (b : Made) (at : ℕ → ℕ) (base : ℕ) (fs gs : List TermConstruct) (old new : List Root) (name from : ℕ) (o : Option (Term × List Entry)) → TermTaken b at base fs None o → Ends b at base gs old new name from (Err faults.Wrong) (whole_term o)
 unfolding Ends whole_term
 ends_none b at base fs gs old new name from None h = tt
 ends_none b at base fs gs old new name from (Some t) h = absurd h
 
-nothing_shown : (b : Made) (at : ℕ → ℕ) (base : ℕ) (fs : List Construct) → ConstructsShow b at base fs [] → length fs ≡ 0
+nothing_shown : (b : Made) (at : ℕ → ℕ) (base : ℕ) (fs : List TermConstruct) → ConstructsShow b at base fs [] → length fs ≡ 0
 unfolding ConstructsShow
 nothing_shown b at base [] h = refl
 nothing_shown b at base (constructs.Mark x ∷ fs) h = absurd h
@@ -130,19 +130,19 @@ nothing_shown b at base (constructs.Done x ∷ fs) h = absurd h
 nothing_shown b at base (constructs.Muted x ∷ fs) h = absurd h
 nothing_shown b at base (constructs.Storing x ∷ fs) h = absurd h
 
-pub ends_open : (b : Made) (at : ℕ → ℕ) (base : ℕ) (fs : List Construct) (part : Rattle.kex_reader.specs.declared.stack.PlacedNode.PlacedNode) (old new : List Root) (name from : ℕ) (o : Option (Term × List Entry)) → (length fs ≡ 0 → ⊥) → TermTaken b at base fs (Some part) o → Ends b at base fs old new name from (Err faults.Wrong) (whole_term o)
+pub ends_open : (b : Made) (at : ℕ → ℕ) (base : ℕ) (fs : List TermConstruct) (part : Rattle.kex_reader.specs.declared.stack.PlacedNode.PlacedNode) (old new : List Root) (name from : ℕ) (o : Option (Term × List Entry)) → (length fs ≡ 0 → ⊥) → TermTaken b at base fs (Some part) o → Ends b at base fs old new name from (Err faults.Wrong) (whole_term o)
 unfolding Ends whole_term
 ends_open b at base fs part old new name from None n h = tt
 ends_open b at base fs part old new name from (Some (t, [])) n h = absurd (n (nothing_shown b at base fs h.below))
 ends_open b at base fs part old new name from (Some (t, x ∷ es)) n h = tt
 
-pub ends_memory : (b : Made) (at : ℕ → ℕ) (base : ℕ) (fs : List Construct) (old new : List Root) (name from : ℕ) (o : Option Term) → Ends b at base fs old new name from (Err faults.Memory) o
+pub ends_memory : (b : Made) (at : ℕ → ℕ) (base : ℕ) (fs : List TermConstruct) (old new : List Root) (name from : ℕ) (o : Option Term) → Ends b at base fs old new name from (Err faults.Memory) o
 unfolding Ends
 ends_memory b at base fs old new name from o = tt
 
-pub ends_exit : (b : Made) (at : ℕ → ℕ) (base : ℕ) (fs : List Construct) (old new : List Root) (name from : ℕ) (r : Result (Unit {0}) StepFault) → IsErrAnd r (λ e. e ≡ faults.Memory) → (o : Option Term) → Ends b at base fs old new name from r o
+pub ends_exit : (b : Made) (at : ℕ → ℕ) (base : ℕ) (fs : List TermConstruct) (old new : List Root) (name from : ℕ) (r : Result (Unit {0}) TermFault) → IsErrAnd r (λ e. e ≡ faults.Memory) → (o : Option Term) → Ends b at base fs old new name from r o
 ends_exit b at base fs old new name from (Ok u) e o = absurd e
-ends_exit b at base fs old new name from (Err f) e o = subst (λ (x : StepFault). Ends b at base fs old new name from (Err x) o) (sym e) (ends_memory b at base fs old new name from o)
+ends_exit b at base fs old new name from (Err f) e o = subst (λ (x : TermFault). Ends b at base fs old new name from (Err x) o) (sym e) (ends_memory b at base fs old new name from o)
 
 -- ---- where the next definition begins
 
@@ -263,7 +263,7 @@ unfolding head_read
 head_define h n k b e = ap (λ (x : TokenKind). head_read h n (word x b)) e
 
 -- a state, by what the code waits for
-module _ (a : Made) (at : ℕ → ℕ) (fs : List Construct) (ds : List Root) (ss : List Start) where
+module _ (a : Made) (at : ℕ → ℕ) (fs : List TermConstruct) (ds : List Root) (ss : List Start) where
   pub state_begin : (s : State) → ShowsState a at fs ds ss phases.Begin s → (s ≡ Begin) × (fs ≡ []) × (ds ≡ []) × (ss ≡ [])
   unfolding ShowsState
   state_begin Begin h = (refl, h.0, h.1, h.2)
@@ -294,54 +294,54 @@ module _ (a : Made) (at : ℕ → ℕ) (fs : List Construct) (ds : List Root) (s
   state_head n (HeadRead h name) k = (h, ap (HeadRead h) (sym k.3), k.0, k.1, k.2, k.4)
   state_head n _ k = absurd k
 
-  pub state_within : (head : Head) (w : Wait) (s : State) → ShowsState a at fs ds ss (phases.Within head w) s → (h : Header) × (done : List Definition) × (name : List ℕ) × (i : Inside) × (s ≡ Within h done name i)
+  pub state_within : (head : Head) (w : TermWait) (s : State) → ShowsState a at fs ds ss (phases.Within head w) s → (h : Header) × (done : List Definition) × (name : List ℕ) × (i : Inside) × (s ≡ Within h done name i)
   unfolding ShowsState
   state_within head w (Within h done name i) k = (h, done, name, i, refl)
   state_within head w _ k = absurd k
 
-  pub within_parts : (head : Head) (w : Wait) (h : Header) (done : List Definition) (name : List ℕ) (i : Inside) → ShowsState a at fs ds ss (phases.Within head w) (Within h done name i) → ShowsHead h a at ss × ShowsDefinitions done a at ds (length (header h)) × IsName a head.name name × (head.at ≡ at (length (header h) + length (definitions done))) × ShowsInside a at (length (before h done name)) fs w i
+  pub within_parts : (head : Head) (w : TermWait) (h : Header) (done : List Definition) (name : List ℕ) (i : Inside) → ShowsState a at fs ds ss (phases.Within head w) (Within h done name i) → ShowsHead h a at ss × ShowsDefinitions done a at ds (length (header h)) × IsName a head.name name × (head.at ≡ at (length (header h) + length (definitions done))) × ShowsInside a at (length (before h done name)) fs w i
   unfolding ShowsState
   within_parts head w h done name i k = k
 
 -- stages that are named
 
-stage_on : (a b : Made) (at : ℕ → ℕ) (fs gs : List Construct) (ds es : List Root) (ss ts : List Start) (f : List ℕ) (ns : List (List ℕ)) (n : List ℕ) (k from : ℕ) → Keeps a b → gs ≡ [] → es ≡ [] → ShowsStages (f ∷ ns) a at ss 2 → IsName b k n → from ≡ at (2 + 2 * length (f ∷ ns)) → ts ≡ ss ++ record { name = k; at = from } ∷ [] → ShowsState b at gs es ts phases.StageRead (StageRead f (ns ++ n ∷ []))
+stage_on : (a b : Made) (at : ℕ → ℕ) (fs gs : List TermConstruct) (ds es : List Root) (ss ts : List Start) (f : List ℕ) (ns : List (List ℕ)) (n : List ℕ) (k from : ℕ) → Keeps a b → gs ≡ [] → es ≡ [] → ShowsStages (f ∷ ns) a at ss 2 → IsName b k n → from ≡ at (2 + 2 * length (f ∷ ns)) → ts ≡ ss ++ record { name = k; at = from } ∷ [] → ShowsState b at gs es ts phases.StageRead (StageRead f (ns ++ n ∷ []))
 unfolding ShowsState
 stage_on a b at fs gs ds es ss ts f ns n k from keep g e st nm pl t = (g, e, subst (λ (x : List Start). ShowsStages (f ∷ (ns ++ n ∷ [])) b at x 2) (sym t) (stages_push (f ∷ ns) n b at ss k from 2 (stages_more (f ∷ ns) a b at ss 2 keep st) nm pl))
 
-stage_one : (b : Made) (at : ℕ → ℕ) (gs : List Construct) (es : List Root) (ss ts : List Start) (n : List ℕ) (k from : ℕ) → gs ≡ [] → es ≡ [] → ss ≡ [] → IsName b k n → from ≡ at 2 → ts ≡ ss ++ record { name = k; at = from } ∷ [] → ShowsState b at gs es ts phases.StageRead (StageRead n [])
+stage_one : (b : Made) (at : ℕ → ℕ) (gs : List TermConstruct) (es : List Root) (ss ts : List Start) (n : List ℕ) (k from : ℕ) → gs ≡ [] → es ≡ [] → ss ≡ [] → IsName b k n → from ≡ at 2 → ts ≡ ss ++ record { name = k; at = from } ∷ [] → ShowsState b at gs es ts phases.StageRead (StageRead n [])
 unfolding ShowsState ShowsStages
 stage_one b at gs es ss ts n k from g e z nm pl t = (g, e, subst (λ (x : List Start). ShowsStages (n ∷ []) b at x 2) (sym (t ∙ ap (λ (x : List Start). x ++ record { name = k; at = from } ∷ []) z)) (nm, pl, tt))
 
-pub shown_state : (b : Made) (at : ℕ → ℕ) (gs : List Construct) (es : List Root) (ts : List Start) (p q : Phase) (s : State) → p ≡ q → ShowsState b at gs es ts q s → StateSteps b at gs es ts (Ok p) (Some s)
+pub shown_state : (b : Made) (at : ℕ → ℕ) (gs : List TermConstruct) (es : List Root) (ts : List Start) (p q : Phase) (s : State) → p ≡ q → ShowsState b at gs es ts q s → StateSteps b at gs es ts (Ok p) (Some s)
 unfolding StateSteps
 shown_state b at gs es ts p q s e h = subst (λ (x : Phase). ShowsState b at gs es ts x s) (sym e) h
 
-pub fault_state : (b : Made) (at : ℕ → ℕ) (gs : List Construct) (es : List Root) (ts : List Start) (e : StepFault) (P : Type 0) (o : Option State) → (P → o ≡ None) → (e ≡ faults.Memory) ⊎ ((e ≡ faults.Wrong) × P) → StateSteps b at gs es ts (Err e) o
-fault_state b at gs es ts e P o f (inl m) = subst (λ (x : StepFault). StateSteps b at gs es ts (Err x) o) (sym m) (state_memory b at gs es ts o)
-fault_state b at gs es ts e P o f (inr m) = subst (λ (x : StepFault). StateSteps b at gs es ts (Err x) o) (sym m.0) (to_state b at gs es ts (Err faults.Wrong) o None (f m.1) (state_wrong b at gs es ts))
+pub fault_state : (b : Made) (at : ℕ → ℕ) (gs : List TermConstruct) (es : List Root) (ts : List Start) (e : TermFault) (P : Type 0) (o : Option State) → (P → o ≡ None) → (e ≡ faults.Memory) ⊎ ((e ≡ faults.Wrong) × P) → StateSteps b at gs es ts (Err e) o
+fault_state b at gs es ts e P o f (inl m) = subst (λ (x : TermFault). StateSteps b at gs es ts (Err x) o) (sym m) (state_memory b at gs es ts o)
+fault_state b at gs es ts e P o f (inr m) = subst (λ (x : TermFault). StateSteps b at gs es ts (Err x) o) (sym m.0) (to_state b at gs es ts (Err faults.Wrong) o None (f m.1) (state_wrong b at gs es ts))
 
-pub start_steps : (a b : Made) (at : ℕ → ℕ) (fs gs : List Construct) (ds es : List Root) (ss ts : List Start) (k : TokenKind) (n : List ℕ) (from : ℕ) (r : Result Phase StepFault) → OnOk r ((gs ≡ fs) × (es ≡ ds)) → IfOk r (λ p. (x : ℕ) × (p ≡ phases.StageRead) × (k ≡ kinds.Name) × IsName b x n × (ts ≡ ss ++ record { name = x; at = from } ∷ [])) → IfErr r (λ e. (e ≡ faults.Memory) ⊎ ((e ≡ faults.Wrong) × (k ≡ kinds.Name → ⊥))) → fs ≡ [] → ds ≡ [] → ss ≡ [] → from ≡ at 2 → StateSteps b at gs es ts r (name_then (λ m. StageRead m []) (word k n))
+pub start_steps : (a b : Made) (at : ℕ → ℕ) (fs gs : List TermConstruct) (ds es : List Root) (ss ts : List Start) (k : TokenKind) (n : List ℕ) (from : ℕ) (r : Result Phase TermFault) → OnOk r ((gs ≡ fs) × (es ≡ ds)) → IfOk r (λ p. (x : ℕ) × (p ≡ phases.StageRead) × (k ≡ kinds.Name) × IsName b x n × (ts ≡ ss ++ record { name = x; at = from } ∷ [])) → IfErr r (λ e. (e ≡ faults.Memory) ⊎ ((e ≡ faults.Wrong) × (k ≡ kinds.Name → ⊥))) → fs ≡ [] → ds ≡ [] → ss ≡ [] → from ≡ at 2 → StateSteps b at gs es ts r (name_then (λ m. StageRead m []) (word k n))
 start_steps a b at fs gs ds es ss ts k n from (Ok p) rest h m z y x pl =
     to_state b at gs es ts (Ok p) (name_then (λ m. StageRead m []) (word k n)) (Some (StageRead n [])) (name_then_is (λ m. StageRead m []) k n h.2)
     (shown_state b at gs es ts p phases.StageRead (StageRead n []) h.1 (stage_one b at gs es ss ts n h.0 from (rest.0 ∙ z) (rest.1 ∙ y) x h.3 pl h.4))
 start_steps a b at fs gs ds es ss ts k n from (Err e) rest h m z y x pl = fault_state b at gs es ts e (k ≡ kinds.Name → ⊥) (name_then (λ m. StageRead m []) (word k n)) (name_then_other (λ m. StageRead m []) k n) m
 
-pub next_steps : (a b : Made) (at : ℕ → ℕ) (fs gs : List Construct) (ds es : List Root) (ss ts : List Start) (f : List ℕ) (ns : List (List ℕ)) (k : TokenKind) (n : List ℕ) (from : ℕ) (r : Result Phase StepFault) → OnOk r (Keeps a b) → OnOk r ((gs ≡ fs) × (es ≡ ds)) → IfOk r (λ p. (x : ℕ) × (p ≡ phases.StageRead) × (k ≡ kinds.Name) × IsName b x n × (ts ≡ ss ++ record { name = x; at = from } ∷ [])) → IfErr r (λ e. (e ≡ faults.Memory) ⊎ ((e ≡ faults.Wrong) × (k ≡ kinds.Name → ⊥))) → fs ≡ [] → ds ≡ [] → ShowsStages (f ∷ ns) a at ss 2 → from ≡ at (2 + 2 * length (f ∷ ns)) → StateSteps b at gs es ts r (name_then (λ m. StageRead f (ns ++ m ∷ [])) (word k n))
+pub next_steps : (a b : Made) (at : ℕ → ℕ) (fs gs : List TermConstruct) (ds es : List Root) (ss ts : List Start) (f : List ℕ) (ns : List (List ℕ)) (k : TokenKind) (n : List ℕ) (from : ℕ) (r : Result Phase TermFault) → OnOk r (Keeps a b) → OnOk r ((gs ≡ fs) × (es ≡ ds)) → IfOk r (λ p. (x : ℕ) × (p ≡ phases.StageRead) × (k ≡ kinds.Name) × IsName b x n × (ts ≡ ss ++ record { name = x; at = from } ∷ [])) → IfErr r (λ e. (e ≡ faults.Memory) ⊎ ((e ≡ faults.Wrong) × (k ≡ kinds.Name → ⊥))) → fs ≡ [] → ds ≡ [] → ShowsStages (f ∷ ns) a at ss 2 → from ≡ at (2 + 2 * length (f ∷ ns)) → StateSteps b at gs es ts r (name_then (λ m. StageRead f (ns ++ m ∷ [])) (word k n))
 next_steps a b at fs gs ds es ss ts f ns k n from (Ok p) keep rest h m z y st pl =
     to_state b at gs es ts (Ok p) (name_then (λ m. StageRead f (ns ++ m ∷ [])) (word k n)) (Some (StageRead f (ns ++ n ∷ []))) (name_then_is (λ m. StageRead f (ns ++ m ∷ [])) k n h.2)
     (shown_state b at gs es ts p phases.StageRead (StageRead f (ns ++ n ∷ [])) h.1 (stage_on a b at fs gs ds es ss ts f ns n h.0 from keep (rest.0 ∙ z) (rest.1 ∙ y) st h.3 pl h.4))
 next_steps a b at fs gs ds es ss ts f ns k n from (Err e) keep rest h m z y st pl = fault_state b at gs es ts e (k ≡ kinds.Name → ⊥) (name_then (λ m. StageRead f (ns ++ m ∷ [])) (word k n)) (name_then_other (λ m. StageRead f (ns ++ m ∷ [])) k n) m
 
-pub lift_ok : (a b : Made) (at : ℕ → ℕ) (gs : List Construct) (ds : List Root) (ss : List Start) (head : Head) (h : Header) (done : List Definition) (name : List ℕ) (r : Result Wait StepFault) (o : Option Inside) (w : Wait) → r ≡ Ok w
+pub lift_ok : (a b : Made) (at : ℕ → ℕ) (gs : List TermConstruct) (ds : List Root) (ss : List Start) (head : Head) (h : Header) (done : List Definition) (name : List ℕ) (r : Result TermWait TermFault) (o : Option Inside) (w : TermWait) → r ≡ Ok w
     → OnOk r (Keeps a b) → ShowsHead h a at ss → ShowsDefinitions done a at ds (length (header h)) → IsName a head.name name → head.at ≡ at (length (header h) + length (definitions done))
     → Steps b at (length (before h done name)) gs r o → StateSteps b at gs ds ss (Ok (phases.Within head w)) (lift h done name o)
-lift_ok a b at gs ds ss head h done name r o w e k hd df nm pl s = lift_steps a b at gs ds ss head h done name (Ok w) o (subst (λ (x : Result Wait StepFault). OnOk x (Keeps a b)) e k) hd df nm pl (subst (λ (x : Result Wait StepFault). Steps b at (length (before h done name)) gs x o) e s) (Ok (phases.Within head w)) refl tt
+lift_ok a b at gs ds ss head h done name r o w e k hd df nm pl s = lift_steps a b at gs ds ss head h done name (Ok w) o (subst (λ (x : Result TermWait TermFault). OnOk x (Keeps a b)) e k) hd df nm pl (subst (λ (x : Result TermWait TermFault). Steps b at (length (before h done name)) gs x o) e s) (Ok (phases.Within head w)) refl tt
 
-pub lift_err : (a b : Made) (at : ℕ → ℕ) (gs : List Construct) (ds : List Root) (ss : List Start) (head : Head) (h : Header) (done : List Definition) (name : List ℕ) (r : Result Wait StepFault) (o : Option Inside) (e : StepFault) → r ≡ Err e
+pub lift_err : (a b : Made) (at : ℕ → ℕ) (gs : List TermConstruct) (ds : List Root) (ss : List Start) (head : Head) (h : Header) (done : List Definition) (name : List ℕ) (r : Result TermWait TermFault) (o : Option Inside) (e : TermFault) → r ≡ Err e
     → ShowsHead h a at ss → ShowsDefinitions done a at ds (length (header h)) → IsName a head.name name → head.at ≡ at (length (header h) + length (definitions done))
     → Steps b at (length (before h done name)) gs r o → StateSteps b at gs ds ss (Err e) (lift h done name o)
-lift_err a b at gs ds ss head h done name r o e q hd df nm pl s = lift_steps a b at gs ds ss head h done name (Err e) o tt hd df nm pl (subst (λ (x : Result Wait StepFault). Steps b at (length (before h done name)) gs x o) q s) (Err e) tt refl
+lift_err a b at gs ds ss head h done name r o e q hd df nm pl s = lift_steps a b at gs ds ss head h done name (Err e) o tt hd df nm pl (subst (λ (x : Result TermWait TermFault). Steps b at (length (before h done name)) gs x o) q s) (Err e) tt refl
 
 -- places of words
 
@@ -363,7 +363,7 @@ no_definitions : (a : Made) (at : ℕ → ℕ) (ds : List Root) (i : ℕ) → ds
 unfolding ShowsDefinitions
 no_definitions a at ds i e = subst (λ (x : List Root). ShowsDefinitions [] a at x i) (sym e) tt
 
-pub first_steps : (a b : Made) (at : ℕ → ℕ) (fs gs : List Construct) (ds es : List Root) (ss ts : List Start) (n : Named') (m : List ℕ) (r : Result Phase StepFault)
+pub first_steps : (a b : Made) (at : ℕ → ℕ) (fs gs : List TermConstruct) (ds es : List Root) (ss ts : List Start) (n : Named') (m : List ℕ) (r : Result Phase TermFault)
     → ShowsState a at fs ds ss (phases.FirstName n) (FirstName m)
     → OnOk r (Keeps a b) → OnOk r ((gs ≡ fs) × (es ≡ ds) × (ts ≡ ss)) → IfOk r (λ p. (k : ℕ) × (p ≡ phases.Within (record { name = k; at = n.at }) waits.Need) × IsName b k n.bytes.now) → IfErr r (λ e. e ≡ faults.Memory)
     → StateSteps b at gs es ts r (Some (Within NoStart [] m (record { mode = Need; entries = [] })))
@@ -372,7 +372,7 @@ first_steps a b at fs gs ds es ss ts n m r st k rest ph f =
     subst (λ (x : List ℕ). StateSteps b at gs es ts r (Some (Within NoStart [] x (record { mode = Need; entries = [] })))) st.3
     (head_steps a b at fs gs ds es ss ts n NoStart [] r k rest ph f st.0 st.2 (no_definitions a at ds 0 st.1) st.4)
 
-pub head_read_steps : (a b : Made) (at : ℕ → ℕ) (fs gs : List Construct) (ds es : List Root) (ss ts : List Start) (n : Named') (h : Header) (r : Result Phase StepFault)
+pub head_read_steps : (a b : Made) (at : ℕ → ℕ) (fs gs : List TermConstruct) (ds es : List Root) (ss ts : List Start) (n : Named') (h : Header) (r : Result Phase TermFault)
     → fs ≡ [] → ds ≡ [] → ShowsHead h a at ss → n.at ≡ at (length (header h))
     → OnOk r (Keeps a b) → OnOk r ((gs ≡ fs) × (es ≡ ds) × (ts ≡ ss)) → IfOk r (λ p. (k : ℕ) × (p ≡ phases.Within (record { name = k; at = n.at }) waits.Need) × IsName b k n.bytes.now) → IfErr r (λ e. e ≡ faults.Memory)
     → StateSteps b at gs es ts r (Some (Within h [] n.bytes.now (record { mode = Need; entries = [] })))
@@ -381,16 +381,16 @@ head_read_steps a b at fs gs ds es ss ts n h r nil none hd pl k rest ph f =
     let j : length (header h) ≡ length (header h) + 0 = omega arith in
     head_steps a b at fs gs ds es ss ts n h [] r k rest ph f nil hd (no_definitions a at ds (length (header h)) none) (pl ∙ ap at j)
 
-pub started : (b : Made) (at : ℕ → ℕ) (fs : List Construct) (ds : List Root) (ss : List Start) (n : Named') (m : List ℕ) → ShowsState b at fs ds ss (phases.FirstName n) (FirstName m) → StateSteps b at fs ds ss (Ok phases.StartLine) (Some StartLine)
+pub started : (b : Made) (at : ℕ → ℕ) (fs : List TermConstruct) (ds : List Root) (ss : List Start) (n : Named') (m : List ℕ) → ShowsState b at fs ds ss (phases.FirstName n) (FirstName m) → StateSteps b at fs ds ss (Ok phases.StartLine) (Some StartLine)
 unfolding ShowsState StateSteps
 started b at fs ds ss n m st = (st.0, st.1, st.2)
 
-pub first_is : (b : Made) (at : ℕ → ℕ) (fs : List Construct) (ds : List Root) (ss : List Start) (n : Named') (m : List ℕ) → ShowsState b at fs ds ss (phases.FirstName n) (FirstName m) → n.bytes.now ≡ m
+pub first_is : (b : Made) (at : ℕ → ℕ) (fs : List TermConstruct) (ds : List Root) (ss : List Start) (n : Named') (m : List ℕ) → ShowsState b at fs ds ss (phases.FirstName n) (FirstName m) → n.bytes.now ≡ m
 unfolding ShowsState
 first_is b at fs ds ss n m st = st.3
 
 -- where a definition ends and the next one begins, with what was answered of the end
-pub next_definition_steps : (a b d : Made) (at : ℕ → ℕ) (fs gs hs : List Construct) (old mid new : List Root) (ss ts us : List Start) (head : Head) (n : Named') (h : Header) (done : List Definition) (name : List ℕ) (o : Option Term) (r : Result Phase StepFault)
+pub next_definition_steps : (a b d : Made) (at : ℕ → ℕ) (fs gs hs : List TermConstruct) (old mid new : List Root) (ss ts us : List Start) (head : Head) (n : Named') (h : Header) (done : List Definition) (name : List ℕ) (o : Option Term) (r : Result Phase TermFault)
     → ShowsHead h a at ss → ShowsDefinitions done a at old (length (header h)) → IsName a head.name name → head.at ≡ at (length (header h) + length (definitions done))
     → Keeps a b → ts ≡ ss → Ends b at (length (before h done name)) gs old mid head.name head.at (Ok tt) o
     → ((t : Term) → o ≡ Some t → n.at ≡ at (length (before h done name) + length (term t)))
@@ -403,7 +403,7 @@ next_definition_steps a b d at fs gs hs old mid new ss ts us head n h done name 
     let j : length (before h done name) + length (term t) ≡ length (header h) + length (definitions (done ++ record { name = name; term = t } ∷ [])) = omega (arith, before_long h done name, definitions_long done name t) in
     head_steps b d at gs hs mid new ts us n h (done ++ record { name = name; term = t } ∷ []) r l rest ph f en.0 (subst (λ (x : List Start). ShowsHead h b at x) (sym e) (head_more h a b at ss k hd)) shown (place t refl ∙ ap at j)
 
-pub next_wrong_steps : (b : Made) (at : ℕ → ℕ) (gs : List Construct) (old mid new : List Root) (us : List Start) (h : Header) (done : List Definition) (name n : List ℕ) (from to' base : ℕ) (e : StepFault) (o : Option Term) → Ends b at base gs old mid from to' (Err e) o → StateSteps b at gs new us (Err e) (with_head h done name n o)
+pub next_wrong_steps : (b : Made) (at : ℕ → ℕ) (gs : List TermConstruct) (old mid new : List Root) (us : List Start) (h : Header) (done : List Definition) (name n : List ℕ) (from to' base : ℕ) (e : TermFault) (o : Option Term) → Ends b at base gs old mid from to' (Err e) o → StateSteps b at gs new us (Err e) (with_head h done name n o)
 unfolding Ends StateSteps
 next_wrong_steps b at gs old mid new us h done name n from to' base faults.Memory o en = tt
 next_wrong_steps b at gs old mid new us h done name n from to' base faults.Wrong None en = tt
@@ -421,7 +421,7 @@ whole_long es t e = go (take_term es) (term_taken es) e
 
 -- ---- the end
 
-pub finish_of : (a b : Made) (at : ℕ → ℕ) (gs : List Construct) (old mid : List Root) (ss ts : List Start) (head : Head) (h : Header) (done : List Definition) (name : List ℕ) (r : Result (Unit {0}) StepFault) (o : Option Term) → ShowsHead h a at ss → ShowsDefinitions done a at old (length (header h)) → IsName a head.name name → head.at ≡ at (length (header h) + length (definitions done)) → OnOk r (Keeps a b) → OnOk r (ts ≡ ss) → Ends b at (length (before h done name)) gs old mid head.name head.at r o → Finishes b at mid ts r (with_end h done name o)
+pub finish_of : (a b : Made) (at : ℕ → ℕ) (gs : List TermConstruct) (old mid : List Root) (ss ts : List Start) (head : Head) (h : Header) (done : List Definition) (name : List ℕ) (r : Result (Unit {0}) TermFault) (o : Option Term) → ShowsHead h a at ss → ShowsDefinitions done a at old (length (header h)) → IsName a head.name name → head.at ≡ at (length (header h) + length (definitions done)) → OnOk r (Keeps a b) → OnOk r (ts ≡ ss) → Ends b at (length (before h done name)) gs old mid head.name head.at r o → Finishes b at mid ts r (with_end h done name o)
 unfolding Ends Finishes
 finish_of a b at gs old mid ss ts head h done name (Ok u) None hd df nm pl k e en = absurd en
 finish_of a b at gs old mid ss ts head h done name (Ok u) (Some t) hd df nm pl k e en = (ended_shows a b at h done name head old mid en.1 t k df nm pl en.2 en.3, subst (λ (x : List Start). ShowsHead h b at x) (sym e) (head_more h a b at ss k hd))
@@ -429,7 +429,7 @@ finish_of a b at gs old mid ss ts head h done name (Err faults.Memory) o hd df n
 finish_of a b at gs old mid ss ts head h done name (Err faults.Wrong) None hd df nm pl k e en = tt
 finish_of a b at gs old mid ss ts head h done name (Err faults.Wrong) (Some t) hd df nm pl k e en = absurd en
 
-pub to_finish : (b : Made) (at : ℕ → ℕ) (ds : List Root) (ss : List Start) (r : Result (Unit {0}) StepFault) (o p : Option Program) → o ≡ p → Finishes b at ds ss r p → Finishes b at ds ss r o
+pub to_finish : (b : Made) (at : ℕ → ℕ) (ds : List Root) (ss : List Start) (r : Result (Unit {0}) TermFault) (o p : Option Program) → o ≡ p → Finishes b at ds ss r p → Finishes b at ds ss r o
 to_finish b at ds ss r o p e h = subst (λ (x : Option Program). Finishes b at ds ss r x) (sym e) h
 
 pub finish_wrong : (b : Made) (at : ℕ → ℕ) (ds : List Root) (ss : List Start) → Finishes b at ds ss (Err faults.Wrong) None
@@ -453,7 +453,7 @@ unfolding finish_within
 finish_named h done name m f n es e = ap (λ (x : Mode). finish_within h done name x es) e ∙ ended_is h done name (take_term (with_pre (Once (Call n)) es))
 
 -- the waiting of modes in which a definition can't end
-pub finish_other : (a : Made) (at : ℕ → ℕ) (i : ℕ) (w : Wait) (m : Mode) (h : Header) (done : List Definition) (name : List ℕ) (es : List Entry) → (w ≡ waits.Ready → ⊥) → ((p : Rattle.kex_reader.specs.declared.stack.PlacedNode.PlacedNode) → w ≡ waits.After p → ⊥) → ((p : Rattle.kex_reader.specs.declared.stack.PlacedNode.PlacedNode) (b : Bounds) → w ≡ waits.Turned p b → ⊥) → ((f : Bool) (n : Named') → w ≡ waits.Named f n → ⊥) → ShowsMode a at i w m → finish_within h done name m es ≡ None
+pub finish_other : (a : Made) (at : ℕ → ℕ) (i : ℕ) (w : TermWait) (m : Mode) (h : Header) (done : List Definition) (name : List ℕ) (es : List Entry) → (w ≡ waits.Ready → ⊥) → ((p : Rattle.kex_reader.specs.declared.stack.PlacedNode.PlacedNode) → w ≡ waits.After p → ⊥) → ((p : Rattle.kex_reader.specs.declared.stack.PlacedNode.PlacedNode) (b : Bounds) → w ≡ waits.Turned p b → ⊥) → ((f : Bool) (n : Named') → w ≡ waits.Named f n → ⊥) → ShowsMode a at i w m → finish_within h done name m es ≡ None
 unfolding ShowsMode finish_within
 finish_other a at i waits.Ready m h done name es n1 n2 n4 n3 k = absurd (n1 refl)
 finish_other a at i (waits.After p) m h done name es n1 n2 n4 n3 k = absurd (n2 p refl)
@@ -469,11 +469,11 @@ finish_other a at i (waits.InCount p c b) (Rattle.kex_reader.specs.Reading.InCou
 finish_other a at i w m h done name es n1 n2 n4 n3 k = absurd k
 
 -- a wait for another mode than a name that may be a head
-pub not_head : (a : Made) (at : ℕ → ℕ) (i : ℕ) (w : Wait) (m : Mode) → ((f : Bool) (n : Named') → w ≡ waits.Named f n → ⊥) → ShowsMode a at i w m → (n : List ℕ) → m ≡ Named true n → ⊥
+pub not_head : (a : Made) (at : ℕ → ℕ) (i : ℕ) (w : TermWait) (m : Mode) → ((f : Bool) (n : Named') → w ≡ waits.Named f n → ⊥) → ShowsMode a at i w m → (n : List ℕ) → m ≡ Named true n → ⊥
 unfolding ShowsMode
 not_head a at i w m never k n e = go w (subst (λ (x : Mode). ShowsMode a at i w x) e k) never
   where
-    go : (w : Wait) → ShowsMode a at i w (Named true n) → ((f : Bool) (n : Named') → w ≡ waits.Named f n → ⊥) → ⊥
+    go : (w : TermWait) → ShowsMode a at i w (Named true n) → ((f : Bool) (n : Named') → w ≡ waits.Named f n → ⊥) → ⊥
     go (waits.Named f x) k never = never f x refl
     go w k never = absurd k
 
@@ -531,19 +531,19 @@ pub begin_long : length (words_read Begin) ≡ 0
 unfolding words_read
 begin_long = refl
 
-pub first_named : (a : Made) (at : ℕ → ℕ) (fs : List Construct) (ds : List Root) (ss : List Start) (n : Named') → fs ≡ [] → ds ≡ [] → ss ≡ [] → n.at ≡ at 0 → StateSteps a at fs ds ss (Ok (phases.FirstName n)) (Some (FirstName n.bytes.now))
+pub first_named : (a : Made) (at : ℕ → ℕ) (fs : List TermConstruct) (ds : List Root) (ss : List Start) (n : Named') → fs ≡ [] → ds ≡ [] → ss ≡ [] → n.at ≡ at 0 → StateSteps a at fs ds ss (Ok (phases.FirstName n)) (Some (FirstName n.bytes.now))
 unfolding StateSteps ShowsState
 first_named a at fs ds ss n f d s p = (f, d, s, refl, p)
 
-pub next_waits : (a : Made) (at : ℕ → ℕ) (fs : List Construct) (ds : List Root) (ss : List Start) (f : List ℕ) (ns : List (List ℕ)) → fs ≡ [] → ds ≡ [] → ShowsStages (f ∷ ns) a at ss 2 → StateSteps a at fs ds ss (Ok phases.StageNext) (Some (StageNext f ns))
+pub next_waits : (a : Made) (at : ℕ → ℕ) (fs : List TermConstruct) (ds : List Root) (ss : List Start) (f : List ℕ) (ns : List (List ℕ)) → fs ≡ [] → ds ≡ [] → ShowsStages (f ∷ ns) a at ss 2 → StateSteps a at fs ds ss (Ok phases.StageNext) (Some (StageNext f ns))
 unfolding StateSteps ShowsState
 next_waits a at fs ds ss f ns x y z = (x, y, z)
 
-pub head_named : (a : Made) (at : ℕ → ℕ) (fs : List Construct) (ds : List Root) (ss : List Start) (f : List ℕ) (ns : List (List ℕ)) (n : Named') → fs ≡ [] → ds ≡ [] → ShowsStages (f ∷ ns) a at ss 2 → n.at ≡ at (length (header (Stages f ns))) → StateSteps a at fs ds ss (Ok (phases.HeadRead n)) (Some (HeadRead (Stages f ns) n.bytes.now))
+pub head_named : (a : Made) (at : ℕ → ℕ) (fs : List TermConstruct) (ds : List Root) (ss : List Start) (f : List ℕ) (ns : List (List ℕ)) (n : Named') → fs ≡ [] → ds ≡ [] → ShowsStages (f ∷ ns) a at ss 2 → n.at ≡ at (length (header (Stages f ns))) → StateSteps a at fs ds ss (Ok (phases.HeadRead n)) (Some (HeadRead (Stages f ns) n.bytes.now))
 unfolding StateSteps ShowsState
 head_named a at fs ds ss f ns n x y z p = (x, y, z, refl, p)
 
-pub some_inside : (a : Made) (fs : List Construct) (ds : List Root) (ss : List Start) (phase : Phase) (head : Head) (w : Wait) → phase ≡ phases.Within head w → SomeState a fs ds ss phase → SomeInside a fs w
+pub some_inside : (a : Made) (fs : List TermConstruct) (ds : List Root) (ss : List Start) (phase : Phase) (head : Head) (w : TermWait) → phase ≡ phases.Within head w → SomeState a fs ds ss phase → SomeInside a fs w
 some_inside a fs ds ss phase head w e s =
     let here = subst (λ (x : Phase). ShowsState a s.0 fs ds ss x s.1) e s.2 in
     let t = state_within a s.0 fs ds ss head w s.1 here in
@@ -552,12 +552,12 @@ some_inside a fs ds ss phase head w e s =
 
 -- ---- the end, by the state
 
-pub end_begin : (a : Made) (at : ℕ → ℕ) (fs : List Construct) (ds : List Root) (ss : List Start) (s : State) → ShowsState a at fs ds ss phases.Begin s → Finishes a at ds ss (Ok tt) (finish s)
+pub end_begin : (a : Made) (at : ℕ → ℕ) (fs : List TermConstruct) (ds : List Root) (ss : List Start) (s : State) → ShowsState a at fs ds ss phases.Begin s → Finishes a at ds ss (Ok tt) (finish s)
 unfolding ShowsState Finishes finish ShowsDefinitions
 end_begin a at fs ds ss Begin h = (subst (λ (x : List Root). ShowsDefinitions [] a at x (length (header NoStart))) (sym h.1) tt, h.2)
 end_begin a at fs ds ss _ h = absurd h
 
-pub end_read : (a : Made) (at : ℕ → ℕ) (fs : List Construct) (ds : List Root) (ss : List Start) (s : State) → ShowsState a at fs ds ss phases.StageRead s → Finishes a at ds ss (Ok tt) (finish s)
+pub end_read : (a : Made) (at : ℕ → ℕ) (fs : List TermConstruct) (ds : List Root) (ss : List Start) (s : State) → ShowsState a at fs ds ss phases.StageRead s → Finishes a at ds ss (Ok tt) (finish s)
 unfolding ShowsState Finishes finish ShowsDefinitions
 end_read a at fs ds ss (StageRead f ns) h = (subst (λ (x : List Root). ShowsDefinitions [] a at x (length (header (Stages f ns)))) (sym h.1) tt, h.2)
 end_read a at fs ds ss _ h = absurd h
@@ -566,7 +566,7 @@ pub end_within : (s : State) (h : Header) (done : List Definition) (name : List 
 unfolding finish
 end_within s h done name i e = ap finish e
 
-pub end_other : (a : Made) (at : ℕ → ℕ) (fs : List Construct) (ds : List Root) (ss : List Start) (p : Phase) (s : State) → (p ≡ phases.Begin → ⊥) → (p ≡ phases.StageRead → ⊥) → ((x : Head) (w : Wait) → p ≡ phases.Within x w → ⊥) → ShowsState a at fs ds ss p s → finish s ≡ None
+pub end_other : (a : Made) (at : ℕ → ℕ) (fs : List TermConstruct) (ds : List Root) (ss : List Start) (p : Phase) (s : State) → (p ≡ phases.Begin → ⊥) → (p ≡ phases.StageRead → ⊥) → ((x : Head) (w : TermWait) → p ≡ phases.Within x w → ⊥) → ShowsState a at fs ds ss p s → finish s ≡ None
 unfolding ShowsState finish
 end_other a at fs ds ss phases.Begin s n1 n2 n3 h = absurd (n1 refl)
 end_other a at fs ds ss phases.StageRead s n1 n2 n3 h = absurd (n2 refl)

@@ -8,8 +8,8 @@ use Rattle.kex_model.specs.declared.program.Kind.TheVariants as nodes
 use Rattle.kex_regexp.specs.Grammar.{Regex as Body}
 use Rattle.kex_regexp.specs.Bodies.{SpellsRegex as BodySpells}
 use Rattle.kex_regexp.specs.Shown.{ShowsRegex}
-use Rattle.kex_reader.specs.declared.stack.Construct.{Construct}
-use Rattle.kex_reader.specs.declared.stack.Construct.TheVariants as constructs
+use Rattle.kex_reader.specs.declared.stack.TermConstruct.{TermConstruct}
+use Rattle.kex_reader.specs.declared.stack.TermConstruct.TheVariants as constructs
 use Rattle.kex_reader.specs.declared.stack.PlacedNode.{PlacedNode as Shown}
 use Rattle.kex_regexp.specs.declared.counts.Count.TheVariants as counts
 use Rattle.kex_regexp.specs.declared.counts.Bounds.{Bounds}
@@ -17,10 +17,10 @@ use Rattle.kex_regexp.specs.Holding.{HoldsBounds, ShowsCount}
 use Rattle.kex_regexp.specs.Outcomes.{are_bad}
 use Rattle.kex_regexp.specs.Postfixes.{high, low}
 use Rattle.kex_regexp.proofs.CappedCounts.{good_bounds}
-use Rattle.kex_reader.specs.declared.inside.Wait.{Wait}
-use Rattle.kex_reader.specs.declared.inside.Wait.TheVariants as waits
-use Rattle.kex_reader.specs.declared.inside.StepFault.{StepFault}
-use Rattle.kex_reader.specs.declared.inside.StepFault.TheVariants as faults
+use Rattle.kex_reader.specs.declared.inside.TermWait.{TermWait}
+use Rattle.kex_reader.specs.declared.inside.TermWait.TheVariants as waits
+use Rattle.kex_reader.specs.declared.inside.TermFault.{TermFault}
+use Rattle.kex_reader.specs.declared.inside.TermFault.TheVariants as faults
 use Rattle.kex_reader.specs.declared.word.Name.{Name as Named'}
 use Rattle.kex_reader.specs.Syntax.{Word, Name, Number, Literal, Regex, Define, Bar, Tilde, At, Star, Plus, Question, OpenBrace, Bang, OpenBracket, OpenParen, CloseParen, word, Postfix, ZeroOrMore, OneOrMore, Optional, Term, Seq, Once, Turns, Atom, One, Call, Lit, Match, Write, Group, pre, atom, postfix}
 use Rattle.kex_reader.specs.Reading.{Entry, Mark, Ended, Done, Muted, Storing, Opened, Mode, Need, Ready, After, Turned, Named, Writing, Bracket, BracketName, Assigning, InCount, Inside, with_pre, take_seq, take_term, goes, on_bar, after_group, on_close, on_number, begin_pre, after_atom, after_term_turns, after_name, on_name, on_sign, entries, entry}
@@ -32,8 +32,8 @@ use Rattle.kex_reader.proofs.Stacks.{constructs_more}
 
 -- ---- outcomes
 
-module _ (made : Made) (at : ℕ → ℕ) (base : ℕ) (fs : List Construct) where
-  pub to : (r : Result Wait StepFault) (o p : Option Inside) → o ≡ p → Steps made at base fs r p → Steps made at base fs r o
+module _ (made : Made) (at : ℕ → ℕ) (base : ℕ) (fs : List TermConstruct) where
+  pub to : (r : Result TermWait TermFault) (o p : Option Inside) → o ≡ p → Steps made at base fs r p → Steps made at base fs r o
   to r o p e s = subst (λ (x : Option Inside). Steps made at base fs r x) (sym e) s
 
   pub memory : (o : Option Inside) → Steps made at base fs (Err faults.Memory) o
@@ -41,15 +41,15 @@ module _ (made : Made) (at : ℕ → ℕ) (base : ℕ) (fs : List Construct) whe
   memory o = tt
 
   -- out of memory
-  pub memory_exit : (r : Result Wait StepFault) → IsErrAnd r (λ e. e ≡ faults.Memory) → (o : Option Inside) → Steps made at base fs r o
+  pub memory_exit : (r : Result TermWait TermFault) → IsErrAnd r (λ e. e ≡ faults.Memory) → (o : Option Inside) → Steps made at base fs r o
   memory_exit (Ok w) e o = absurd e
-  memory_exit (Err f) e o = subst (λ (x : StepFault). Steps made at base fs (Err x) o) (sym e) (memory o)
+  memory_exit (Err f) e o = subst (λ (x : TermFault). Steps made at base fs (Err x) o) (sym e) (memory o)
 
   pub wrong : Steps made at base fs (Err faults.Wrong) None
   unfolding Steps
   wrong = tt
 
-  pub stood : (w : Wait) (m : Mode) (es : List Entry) → ConstructsShow made at base fs es → ShowsMode made at (base + length (entries es)) w m → Steps made at base fs (Ok w) (goes m es)
+  pub stood : (w : TermWait) (m : Mode) (es : List Entry) → ConstructsShow made at base fs es → ShowsMode made at (base + length (entries es)) w m → Steps made at base fs (Ok w) (goes m es)
   unfolding Steps
   stood w m es h s = record { below = h; mode = s }
 
@@ -86,8 +86,8 @@ module _ (made : Made) (at : ℕ → ℕ) (base : ℕ) (fs : List Construct) whe
   turned es part b x p h e s t = stood (waits.Turned part b) (Turned x p) es h (e, s, t)
 
   -- an atom begins to take so many turns
-  pub begins_turns : (es : List Entry) (w : Wait) (part : Shown) (b : Bounds) (x : Atom) (p : Postfix) → w ≡ waits.Turned part b → ConstructsShow made at base fs es → part.at ≡ at (base + length (entries es)) → ShowsAtom x made at part.node (base + length (entries es)) → HoldsTurns made b p → Steps made at base fs (Ok w) (goes (Turned x p) es)
-  begins_turns es w part b x p q h e s t = subst (λ (v : Wait). Steps made at base fs (Ok v) (goes (Turned x p) es)) (sym q) (turned es part b x p h e s t)
+  pub begins_turns : (es : List Entry) (w : TermWait) (part : Shown) (b : Bounds) (x : Atom) (p : Postfix) → w ≡ waits.Turned part b → ConstructsShow made at base fs es → part.at ≡ at (base + length (entries es)) → ShowsAtom x made at part.node (base + length (entries es)) → HoldsTurns made b p → Steps made at base fs (Ok w) (goes (Turned x p) es)
+  begins_turns es w part b x p q h e s t = subst (λ (v : TermWait). Steps made at base fs (Ok v) (goes (Turned x p) es)) (sym q) (turned es part b x p h e s t)
 
   pub count_opens : (es : List Entry) (x : Atom) (part : Shown) (brace : ℕ) → ConstructsShow made at base fs es → part.at ≡ at (base + length (entries es)) → ShowsAtom x made at part.node (base + length (entries es)) → brace ≡ at (base + length (entries es) + length (atom x)) → Steps made at base fs (Ok (waits.InCount part counts.Opened brace)) (goes (InCount x Opened) es)
   unfolding ShowsMode ShowsCount
@@ -193,17 +193,17 @@ begin_number free es b e = ap (λ (x : Bool). if x then goes (After One) es else
 
 -- ---- bars and parentheses
 
-pub bar_steps : (a b : Made) (at : ℕ → ℕ) (base : ℕ) (fs gs : List Construct) (part : Shown) (o : Option (Seq × List Entry)) → gs ≡ constructs.Ended part ∷ fs → SeqTaken a at base fs (Some part) o → Steps a at base gs (Ok waits.Need) (on_bar o)
+pub bar_steps : (a b : Made) (at : ℕ → ℕ) (base : ℕ) (fs gs : List TermConstruct) (part : Shown) (o : Option (Seq × List Entry)) → gs ≡ constructs.Ended part ∷ fs → SeqTaken a at base fs (Some part) o → Steps a at base gs (Ok waits.Need) (on_bar o)
 unfolding on_bar ConstructsShow
 bar_steps a b at base fs gs part None e h = absurd h
-bar_steps a b at base fs gs part (Some t) e h = need a at base gs (Ended t.0 ∷ t.1) (subst (λ (x : List Construct). ConstructsShow a at base x (Ended t.0 ∷ t.1)) (sym e) (h.place, h.shows, h.below))
+bar_steps a b at base fs gs part (Some t) e h = need a at base gs (Ended t.0 ∷ t.1) (subst (λ (x : List TermConstruct). ConstructsShow a at base x (Ended t.0 ∷ t.1)) (sym e) (h.place, h.shows, h.below))
 
-pub bar_wrong : (a : Made) (at : ℕ → ℕ) (base : ℕ) (fs gs : List Construct) (o : Option (Seq × List Entry)) → SeqTaken a at base fs None o → Steps a at base gs (Err faults.Wrong) (on_bar o)
+pub bar_wrong : (a : Made) (at : ℕ → ℕ) (base : ℕ) (fs gs : List TermConstruct) (o : Option (Seq × List Entry)) → SeqTaken a at base fs None o → Steps a at base gs (Err faults.Wrong) (on_bar o)
 unfolding on_bar
 bar_wrong a at base fs gs None h = wrong a at base gs
 bar_wrong a at base fs gs (Some t) h = absurd h
 
-pub close_wrong : (a : Made) (at : ℕ → ℕ) (base : ℕ) (fs gs : List Construct) (o : Option (Term × List Entry)) → TermTaken a at base fs None o → Steps a at base gs (Err faults.Wrong) (on_close o)
+pub close_wrong : (a : Made) (at : ℕ → ℕ) (base : ℕ) (fs gs : List TermConstruct) (o : Option (Term × List Entry)) → TermTaken a at base fs None o → Steps a at base gs (Err faults.Wrong) (on_close o)
 unfolding on_close
 close_wrong a at base fs gs None h = wrong a at base gs
 close_wrong a at base fs gs (Some t) h = absurd h
@@ -212,19 +212,19 @@ group_shows : (a : Made) (at : ℕ → ℕ) (n i : ℕ) (t : Term) → ShowsTerm
 unfolding ShowsAtom
 group_shows a at n i t h = h
 
-closes : (a : Made) (at : ℕ → ℕ) (base : ℕ) (new : List Construct) (part : Shown) (from : ℕ) (t : Term) (es : List Entry) → ShowsTerm t a at part.node (base + length (entries es)) → ConstructsShow a at base (constructs.Mark from ∷ new) es → Steps a at base new (Ok (waits.After (record { node = part.node; at = from }))) (after_group t es)
+closes : (a : Made) (at : ℕ → ℕ) (base : ℕ) (new : List TermConstruct) (part : Shown) (from : ℕ) (t : Term) (es : List Entry) → ShowsTerm t a at part.node (base + length (entries es)) → ConstructsShow a at base (constructs.Mark from ∷ new) es → Steps a at base new (Ok (waits.After (record { node = part.node; at = from }))) (after_group t es)
 unfolding after_group ConstructsShow entries entry
 closes a at base new part from t (Mark ∷ es) s h =
     let j : base + length (entries es ++ OpenParen ∷ []) ≡ base + length (entries es) + 1 = omega (arith, length-append (entries es) (OpenParen ∷ [])) in
     after a at base new es part.node from (Group t) h.1 h.0 (group_shows a at part.node (base + length (entries es)) t (subst (λ (y : ℕ). ShowsTerm t a at part.node y) j s))
 closes a at base new part from t _ s h = absurd h
 
-pub close_steps : (a : Made) (at : ℕ → ℕ) (base : ℕ) (fs new : List Construct) (part : Shown) (from : ℕ) (o : Option (Term × List Entry)) → fs ≡ constructs.Mark from ∷ new → TermTaken a at base fs (Some part) o → Steps a at base new (Ok (waits.After (record { node = part.node; at = from }))) (on_close o)
+pub close_steps : (a : Made) (at : ℕ → ℕ) (base : ℕ) (fs new : List TermConstruct) (part : Shown) (from : ℕ) (o : Option (Term × List Entry)) → fs ≡ constructs.Mark from ∷ new → TermTaken a at base fs (Some part) o → Steps a at base new (Ok (waits.After (record { node = part.node; at = from }))) (on_close o)
 unfolding on_close
 close_steps a at base fs new part from None e h = absurd h
-close_steps a at base fs new part from (Some t) e h = closes a at base new part from t.0 t.1 h.shows (subst (λ (x : List Construct). ConstructsShow a at base x t.1) e h.below)
+close_steps a at base fs new part from (Some t) e h = closes a at base new part from t.0 t.1 h.shows (subst (λ (x : List TermConstruct). ConstructsShow a at base x t.1) e h.below)
 
-unmarked : (a : Made) (at : ℕ → ℕ) (base : ℕ) (fs gs : List Construct) (t : Term) (es : List Entry) → ((x : ℕ) (hs : List Construct) → fs ≡ constructs.Mark x ∷ hs → ⊥) → ConstructsShow a at base fs es → Steps a at base gs (Err faults.Wrong) (after_group t es)
+unmarked : (a : Made) (at : ℕ → ℕ) (base : ℕ) (fs gs : List TermConstruct) (t : Term) (es : List Entry) → ((x : ℕ) (hs : List TermConstruct) → fs ≡ constructs.Mark x ∷ hs → ⊥) → ConstructsShow a at base fs es → Steps a at base gs (Err faults.Wrong) (after_group t es)
 unfolding after_group ConstructsShow
 unmarked a at base fs gs t [] n h = wrong a at base gs
 unmarked a at base fs gs t (Ended s ∷ es) n h = wrong a at base gs
@@ -234,7 +234,7 @@ unmarked a at base fs gs t (Storing r ∷ es) n h = wrong a at base gs
 unmarked a at base (constructs.Mark x ∷ fs) gs t (Mark ∷ es) n h = absurd (n x fs refl)
 unmarked a at base _ gs t (Mark ∷ es) n h = absurd h
 
-pub unclosed : (a : Made) (at : ℕ → ℕ) (base : ℕ) (fs gs : List Construct) (part : Shown) (o : Option (Term × List Entry)) → ((x : ℕ) (hs : List Construct) → fs ≡ constructs.Mark x ∷ hs → ⊥) → TermTaken a at base fs (Some part) o → Steps a at base gs (Err faults.Wrong) (on_close o)
+pub unclosed : (a : Made) (at : ℕ → ℕ) (base : ℕ) (fs gs : List TermConstruct) (part : Shown) (o : Option (Term × List Entry)) → ((x : ℕ) (hs : List TermConstruct) → fs ≡ constructs.Mark x ∷ hs → ⊥) → TermTaken a at base fs (Some part) o → Steps a at base gs (Err faults.Wrong) (on_close o)
 unfolding on_close
 unclosed a at base fs gs part None n h = absurd h
 unclosed a at base fs gs part (Some t) n h = unmarked a at base fs gs t.0 t.1 n h.below
@@ -327,17 +327,17 @@ named_define n es = refl
 
 -- constructs that were pushed
 
-pub mark_pushed : (a : Made) (at : ℕ → ℕ) (base : ℕ) (fs gs : List Construct) (es : List Entry) (x : ℕ) → gs ≡ constructs.Mark x ∷ fs → ConstructsShow a at base fs es → x ≡ at (base + length (entries es)) → ConstructsShow a at base gs (Mark ∷ es)
+pub mark_pushed : (a : Made) (at : ℕ → ℕ) (base : ℕ) (fs gs : List TermConstruct) (es : List Entry) (x : ℕ) → gs ≡ constructs.Mark x ∷ fs → ConstructsShow a at base fs es → x ≡ at (base + length (entries es)) → ConstructsShow a at base gs (Mark ∷ es)
 unfolding ConstructsShow
-mark_pushed a at base fs gs es x e h p = subst (λ (y : List Construct). ConstructsShow a at base y (Mark ∷ es)) (sym e) (p, h)
+mark_pushed a at base fs gs es x e h p = subst (λ (y : List TermConstruct). ConstructsShow a at base y (Mark ∷ es)) (sym e) (p, h)
 
-pub muted_pushed : (a : Made) (at : ℕ → ℕ) (base : ℕ) (fs gs : List Construct) (es : List Entry) (x : ℕ) → gs ≡ constructs.Muted x ∷ fs → ConstructsShow a at base fs es → x ≡ at (base + length (entries es)) → ConstructsShow a at base gs (Muted ∷ es)
+pub muted_pushed : (a : Made) (at : ℕ → ℕ) (base : ℕ) (fs gs : List TermConstruct) (es : List Entry) (x : ℕ) → gs ≡ constructs.Muted x ∷ fs → ConstructsShow a at base fs es → x ≡ at (base + length (entries es)) → ConstructsShow a at base gs (Muted ∷ es)
 unfolding ConstructsShow
-muted_pushed a at base fs gs es x e h p = subst (λ (y : List Construct). ConstructsShow a at base y (Muted ∷ es)) (sym e) (p, h)
+muted_pushed a at base fs gs es x e h p = subst (λ (y : List TermConstruct). ConstructsShow a at base y (Muted ∷ es)) (sym e) (p, h)
 
-pub storing_pushed : (a : Made) (at : ℕ → ℕ) (base : ℕ) (fs gs : List Construct) (es : List Entry) (x k : ℕ) (r : List ℕ) → gs ≡ constructs.Storing (record { register = k; at = x }) ∷ fs → ConstructsShow a at base fs es → x ≡ at (base + length (entries es)) → IsRegister a k r → ConstructsShow a at base gs (Storing r ∷ es)
+pub storing_pushed : (a : Made) (at : ℕ → ℕ) (base : ℕ) (fs gs : List TermConstruct) (es : List Entry) (x k : ℕ) (r : List ℕ) → gs ≡ constructs.Storing (record { register = k; at = x }) ∷ fs → ConstructsShow a at base fs es → x ≡ at (base + length (entries es)) → IsRegister a k r → ConstructsShow a at base gs (Storing r ∷ es)
 unfolding ConstructsShow
-storing_pushed a at base fs gs es x k r e h p s = subst (λ (y : List Construct). ConstructsShow a at base y (Storing r ∷ es)) (sym e) (p, s, h)
+storing_pushed a at base fs gs es x k r e h p s = subst (λ (y : List TermConstruct). ConstructsShow a at base y (Storing r ∷ es)) (sym e) (p, s, h)
 
 -- ---- a name that has to come
 
@@ -368,43 +368,43 @@ sign_plus r es k b e = ap (λ (y : TokenKind). on_sign r es (word y b)) e
 
 -- ---- what a call answered
 
-module _ (a b : Made) (at : ℕ → ℕ) (base : ℕ) (fs gs : List Construct) (es : List Entry) where
+module _ (a b : Made) (at : ℕ → ℕ) (base : ℕ) (fs gs : List TermConstruct) (es : List Entry) where
   -- an atom, over the constructs that were there
-  pub atom_steps : (r : Result Wait StepFault) (x : Atom) (from : ℕ) → OnOk r (Keeps a b) → IfOk r (λ w. (n : ℕ) × (w ≡ waits.After (record { node = n; at = from })) × ShowsAtom x b at n (base + length (entries es))) → IfErr r (λ e. e ≡ faults.Memory) → ConstructsShow a at base fs es → from ≡ at (base + length (entries es)) → Steps b at base fs r (goes (After x) es)
-  atom_steps (Ok w) x from k h m f e = subst (λ (y : Wait). Steps b at base fs (Ok y) (goes (After x) es)) (sym h.1) (after b at base fs es h.0 from x (constructs_more a b at base fs es k f) e h.2)
-  atom_steps (Err e) x from k h m f p = subst (λ (y : StepFault). Steps b at base fs (Err y) (goes (After x) es)) (sym m) (memory b at base fs (goes (After x) es))
+  pub atom_steps : (r : Result TermWait TermFault) (x : Atom) (from : ℕ) → OnOk r (Keeps a b) → IfOk r (λ w. (n : ℕ) × (w ≡ waits.After (record { node = n; at = from })) × ShowsAtom x b at n (base + length (entries es))) → IfErr r (λ e. e ≡ faults.Memory) → ConstructsShow a at base fs es → from ≡ at (base + length (entries es)) → Steps b at base fs r (goes (After x) es)
+  atom_steps (Ok w) x from k h m f e = subst (λ (y : TermWait). Steps b at base fs (Ok y) (goes (After x) es)) (sym h.1) (after b at base fs es h.0 from x (constructs_more a b at base fs es k f) e h.2)
+  atom_steps (Err e) x from k h m f p = subst (λ (y : TermFault). Steps b at base fs (Err y) (goes (After x) es)) (sym m) (memory b at base fs (goes (After x) es))
 
-  opened_steps : (r : Result Wait StepFault) (top : Entry) → OnOk r (ConstructsShow b at base gs (top ∷ es)) → IfOk r (λ w. w ≡ waits.Need) → IfErr r (λ e. e ≡ faults.Memory) → Steps b at base gs r (goes Need (top ∷ es))
-  opened_steps (Ok w) top f h m = subst (λ (y : Wait). Steps b at base gs (Ok y) (goes Need (top ∷ es))) (sym h) (need b at base gs (top ∷ es) f)
-  opened_steps (Err e) top f h m = subst (λ (y : StepFault). Steps b at base gs (Err y) (goes Need (top ∷ es))) (sym m) (memory b at base gs (goes Need (top ∷ es)))
+  opened_steps : (r : Result TermWait TermFault) (top : Entry) → OnOk r (ConstructsShow b at base gs (top ∷ es)) → IfOk r (λ w. w ≡ waits.Need) → IfErr r (λ e. e ≡ faults.Memory) → Steps b at base gs r (goes Need (top ∷ es))
+  opened_steps (Ok w) top f h m = subst (λ (y : TermWait). Steps b at base gs (Ok y) (goes Need (top ∷ es))) (sym h) (need b at base gs (top ∷ es) f)
+  opened_steps (Err e) top f h m = subst (λ (y : TermFault). Steps b at base gs (Err y) (goes Need (top ∷ es))) (sym m) (memory b at base gs (goes Need (top ∷ es)))
 
-  on_both : {A B C : Type 0} (r : Result Wait StepFault) → (A → B → C) → OnOk r A → OnOk r B → OnOk r C
+  on_both : {A B C : Type 0} (r : Result TermWait TermFault) → (A → B → C) → OnOk r A → OnOk r B → OnOk r C
   on_both (Ok w) f x y = f x y
   on_both (Err e) f x y = tt
 
-  pub tilde_steps : (r : Result Wait StepFault) (x : ℕ) → OnOk r (Keeps a b) → OnOk r (gs ≡ constructs.Muted x ∷ fs) → IfOk r (λ w. w ≡ waits.Need) → IfErr r (λ e. e ≡ faults.Memory) → ConstructsShow a at base fs es → x ≡ at (base + length (entries es)) → Steps b at base gs r (goes Need (Muted ∷ es))
+  pub tilde_steps : (r : Result TermWait TermFault) (x : ℕ) → OnOk r (Keeps a b) → OnOk r (gs ≡ constructs.Muted x ∷ fs) → IfOk r (λ w. w ≡ waits.Need) → IfErr r (λ e. e ≡ faults.Memory) → ConstructsShow a at base fs es → x ≡ at (base + length (entries es)) → Steps b at base gs r (goes Need (Muted ∷ es))
   tilde_steps r x k p h m f e = opened_steps r Muted (on_both r (λ k p. muted_pushed b at base fs gs es x p (constructs_more a b at base fs es k f) e) k p) h m
 
-  pub paren_steps : (r : Result Wait StepFault) (x : ℕ) → OnOk r (Keeps a b) → OnOk r (gs ≡ constructs.Mark x ∷ fs) → IfOk r (λ w. w ≡ waits.Need) → IfErr r (λ e. e ≡ faults.Memory) → ConstructsShow a at base fs es → x ≡ at (base + length (entries es)) → Steps b at base gs r (goes Need (Mark ∷ es))
+  pub paren_steps : (r : Result TermWait TermFault) (x : ℕ) → OnOk r (Keeps a b) → OnOk r (gs ≡ constructs.Mark x ∷ fs) → IfOk r (λ w. w ≡ waits.Need) → IfErr r (λ e. e ≡ faults.Memory) → ConstructsShow a at base fs es → x ≡ at (base + length (entries es)) → Steps b at base gs r (goes Need (Mark ∷ es))
   paren_steps r x k p h m f e = opened_steps r Mark (on_both r (λ k p. mark_pushed b at base fs gs es x p (constructs_more a b at base fs es k f) e) k p) h m
 
-  pub storing_steps : (r : Result Wait StepFault) (x k : ℕ) (name : List ℕ) → OnOk r (Keeps a b) → OnOk r (gs ≡ constructs.Storing (record { register = k; at = x }) ∷ fs) → IfOk r (λ w. w ≡ waits.Need) → IfErr r (λ e. e ≡ faults.Memory) → ConstructsShow a at base fs es → x ≡ at (base + length (entries es)) → IsRegister a k name → Steps b at base gs r (goes Need (Storing name ∷ es))
+  pub storing_steps : (r : Result TermWait TermFault) (x k : ℕ) (name : List ℕ) → OnOk r (Keeps a b) → OnOk r (gs ≡ constructs.Storing (record { register = k; at = x }) ∷ fs) → IfOk r (λ w. w ≡ waits.Need) → IfErr r (λ e. e ≡ faults.Memory) → ConstructsShow a at base fs es → x ≡ at (base + length (entries es)) → IsRegister a k name → Steps b at base gs r (goes Need (Storing name ∷ es))
   storing_steps r x k name l p h m f e s = opened_steps r (Storing name) (on_both r (λ l p. storing_pushed b at base fs gs es x k name p (constructs_more a b at base fs es l f) e (l.registers k name s)) l p) h m
 
-pub on_keeps : {A : Type 0} (r : Result A StepFault) (a b d : Made) → Keeps a b → OnOk r (Keeps b d) → OnOk r (Keeps a d)
+pub on_keeps : {A : Type 0} (r : Result A TermFault) (a b d : Made) → Keeps a b → OnOk r (Keeps b d) → OnOk r (Keeps a d)
 on_keeps (Ok w) a b d k l = Keeps-trans a b d k l
 on_keeps (Err e) a b d k l = tt
 
 -- what is said of the atom that a call answered
-pub atom_of : (made : Made) (at : ℕ → ℕ) (i from : ℕ) (x : Atom) (P : ℕ → Type 0) (r : Result Wait StepFault) → ((n : ℕ) → P n → ShowsAtom x made at n i) → IfOk r (λ w. (n : ℕ) × (w ≡ waits.After (record { node = n; at = from })) × P n) → IfOk r (λ w. (n : ℕ) × (w ≡ waits.After (record { node = n; at = from })) × ShowsAtom x made at n i)
+pub atom_of : (made : Made) (at : ℕ → ℕ) (i from : ℕ) (x : Atom) (P : ℕ → Type 0) (r : Result TermWait TermFault) → ((n : ℕ) → P n → ShowsAtom x made at n i) → IfOk r (λ w. (n : ℕ) × (w ≡ waits.After (record { node = n; at = from })) × P n) → IfOk r (λ w. (n : ℕ) × (w ≡ waits.After (record { node = n; at = from })) × ShowsAtom x made at n i)
 atom_of made at i from x P (Ok w) f h = (h.0, h.1, f h.0 h.2)
 atom_of made at i from x P (Err e) f h = tt
 
-pub literal_of : (made : Made) (at : ℕ → ℕ) (i from : ℕ) (s : List ℕ) (r : Result Wait StepFault) → from ≡ at i → IfOk r (λ w. (n : ℕ) × (bytes : List ℕ) × (w ≡ waits.After (record { node = n; at = from })) × IsNode made n (nodes.Lit bytes) from × StandsFor s bytes) → IfOk r (λ w. (n : ℕ) × (w ≡ waits.After (record { node = n; at = from })) × ShowsAtom (Lit s) made at n i)
+pub literal_of : (made : Made) (at : ℕ → ℕ) (i from : ℕ) (s : List ℕ) (r : Result TermWait TermFault) → from ≡ at i → IfOk r (λ w. (n : ℕ) × (bytes : List ℕ) × (w ≡ waits.After (record { node = n; at = from })) × IsNode made n (nodes.Lit bytes) from × StandsFor s bytes) → IfOk r (λ w. (n : ℕ) × (w ≡ waits.After (record { node = n; at = from })) × ShowsAtom (Lit s) made at n i)
 literal_of made at i from s (Ok w) e h = (h.0, h.2, lit_shows made at h.0 i from s h.1 e h.3 h.4)
 literal_of made at i from s (Err f) e h = tt
 
-pub match_of : (made : Made) (at : ℕ → ℕ) (i from : ℕ) (b : List ℕ) (r : Result Wait StepFault) → from ≡ at i → IfOk r (λ w. (n : ℕ) × (w ≡ waits.After (record { node = n; at = from })) × (n < length made.nodes) × (made.broken ≡ None → (t : Body) × BodySpells t b × ShowsRegex t made.nodes n (from + 1))) → IfOk r (λ w. (n : ℕ) × (w ≡ waits.After (record { node = n; at = from })) × ShowsAtom (Match b) made at n i)
+pub match_of : (made : Made) (at : ℕ → ℕ) (i from : ℕ) (b : List ℕ) (r : Result TermWait TermFault) → from ≡ at i → IfOk r (λ w. (n : ℕ) × (w ≡ waits.After (record { node = n; at = from })) × (n < length made.nodes) × (made.broken ≡ None → (t : Body) × BodySpells t b × ShowsRegex t made.nodes n (from + 1))) → IfOk r (λ w. (n : ℕ) × (w ≡ waits.After (record { node = n; at = from })) × ShowsAtom (Match b) made at n i)
 match_of made at i from b (Ok w) e h = (h.0, h.1, match_shows made at h.0 i from b e h.2 h.3)
 match_of made at i from b (Err f) e h = tt
 

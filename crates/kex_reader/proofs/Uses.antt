@@ -14,14 +14,14 @@ use Rattle.kex_model.proofs.Shapes.{among_left, among_right}
 use Rattle.kex_model.proofs.Tables.{get_last}
 use Rattle.kex_regexp.specs.Parents.{NoneLost as NodesKept}
 use Rattle.kex_regexp.specs.declared.counts.Bounds.{Bounds}
-use Rattle.kex_reader.specs.declared.inside.StepFault.{StepFault}
-use Rattle.kex_reader.specs.declared.inside.Wait.{Wait}
-use Rattle.kex_reader.specs.declared.inside.Wait.TheVariants as waits
+use Rattle.kex_reader.specs.declared.inside.TermFault.{TermFault}
+use Rattle.kex_reader.specs.declared.inside.TermWait.{TermWait}
+use Rattle.kex_reader.specs.declared.inside.TermWait.TheVariants as waits
 use Rattle.kex_reader.specs.declared.reader.Head.{Head}
 use Rattle.kex_reader.specs.declared.reader.Phase.{Phase}
 use Rattle.kex_reader.specs.declared.reader.Phase.TheVariants as phases
 use Rattle.kex_reader.specs.declared.reader.Reader.{Reader}
-use Rattle.kex_reader.specs.declared.stack.Construct.{Construct}
+use Rattle.kex_reader.specs.declared.stack.TermConstruct.{TermConstruct}
 use Rattle.kex_reader.specs.declared.stack.Prefix.{Prefix}
 use Rattle.kex_reader.specs.declared.stack.Prefix.TheVariants as prefixes
 use Rattle.kex_reader.specs.declared.stack.PlacedNode.{PlacedNode as Shown}
@@ -163,10 +163,10 @@ register_piece r x e = subst (λ (y : Numbered). InPieces (pieces.Register r ∷
 
 -- ---- constructs
 
-pub constructs_are : (fs gs : List Construct) → fs ≡ gs → (x : Numbered) → InConstructs fs x → InConstructs gs x
-constructs_are fs gs e x h = subst (λ (ys : List Construct). InConstructs ys x) e h
+pub constructs_are : (fs gs : List TermConstruct) → fs ≡ gs → (x : Numbered) → InConstructs fs x → InConstructs gs x
+constructs_are fs gs e x h = subst (λ (ys : List TermConstruct). InConstructs ys x) e h
 
-pub no_constructs : (fs : List Construct) → length fs ≡ 0 → (x : Numbered) → InConstructs fs x → ⊥
+pub no_constructs : (fs : List TermConstruct) → length fs ≡ 0 → (x : Numbered) → InConstructs fs x → ⊥
 no_constructs [] e x h = h
 no_constructs (f ∷ fs) e x h = absurd (omega (arith, e))
 
@@ -175,24 +175,24 @@ parts_are o p e x h = subst (λ (y : Option Shown). InPart y x) e h
 
 -- ---- steps
 
-pub step_from : (r : Result Wait StepFault) (a b : Made) (B B' : Numbered → Type 0) (gs : List Construct) → ((x : Numbered) → B' x → B x) → IfOk r (λ w. LosesNone a b B (IsHeld gs w)) → IfOk r (λ w. LosesNone a b B' (IsHeld gs w))
+pub step_from : (r : Result TermWait TermFault) (a b : Made) (B B' : Numbered → Type 0) (gs : List TermConstruct) → ((x : Numbered) → B' x → B x) → IfOk r (λ w. LosesNone a b B (IsHeld gs w)) → IfOk r (λ w. LosesNone a b B' (IsHeld gs w))
 step_from (Ok w) a b B B' gs f h = held_as a b _ _ _ _ f (λ x i. i) h
 step_from (Err e) a b B B' gs f h = tt
 
-pub step_then : (r : Result Wait StepFault) (a b c : Made) (B M M' : Numbered → Type 0) (gs : List Construct) → OnOk r (Keeps b c) → LosesNone a b B M → ((x : Numbered) → M x → M' x) → IfOk r (λ w. LosesNone b c M' (IsHeld gs w)) → IfOk r (λ w. LosesNone a c B (IsHeld gs w))
+pub step_then : (r : Result TermWait TermFault) (a b c : Made) (B M M' : Numbered → Type 0) (gs : List TermConstruct) → OnOk r (Keeps b c) → LosesNone a b B M → ((x : Numbered) → M x → M' x) → IfOk r (λ w. LosesNone b c M' (IsHeld gs w)) → IfOk r (λ w. LosesNone a c B (IsHeld gs w))
 step_then (Ok w) a b c B M M' gs k f g h = none_lost a b c B M (IsHeld gs w) k f (held_as b c _ _ _ _ g (λ x i. i) h)
 step_then (Err e) a b c B M M' gs k f g h = tt
 
-pub waiting : (w v : Wait) (a b : Made) (fs gs : List Construct) (r : Result Wait StepFault) → w ≡ v → StepLosesNone a b fs v gs r → StepLosesNone a b fs w gs r
-waiting w v a b fs gs r e h = subst (λ (x : Wait). StepLosesNone a b fs x gs r) (sym e) h
+pub waiting : (w v : TermWait) (a b : Made) (fs gs : List TermConstruct) (r : Result TermWait TermFault) → w ≡ v → StepLosesNone a b fs v gs r → StepLosesNone a b fs w gs r
+waiting w v a b fs gs r e h = subst (λ (x : TermWait). StepLosesNone a b fs x gs r) (sym e) h
 
-pub sign_read : (r : Result Wait StepFault) (a : Made) (fs : List Construct) (at k : ℕ) → IfOk r (λ w. (x : Numbered) → x ≡ RegisterNumber k → InWait w x) → StepLosesNone a a fs (waits.BracketName at k) fs r
+pub sign_read : (r : Result TermWait TermFault) (a : Made) (fs : List TermConstruct) (at k : ℕ) → IfOk r (λ w. (x : Numbered) → x ≡ RegisterNumber k → InWait w x) → StepLosesNone a a fs (waits.BracketName at k) fs r
 sign_read (Ok w) a fs at k h = unchanged a _ _ (λ x i. elim i [ inl j ↦ inl j | inr e ↦ inr (h x e) ])
 sign_read (Err e) a fs at k h = tt
 
 -- an atom begins to take turns
-pub turned_held : (w : Wait) (a : Made) (fs : List Construct) (part : Shown) (b : Bounds) → w ≡ waits.Turned part b → LosesNone a a (IsHeld fs (waits.After part)) (IsHeld fs w)
-turned_held w a fs part b e = subst (λ (v : Wait). LosesNone a a (IsHeld fs (waits.After part)) (IsHeld fs v)) (sym e) (unchanged a _ _ (λ x h. h))
+pub turned_held : (w : TermWait) (a : Made) (fs : List TermConstruct) (part : Shown) (b : Bounds) → w ≡ waits.Turned part b → LosesNone a a (IsHeld fs (waits.After part)) (IsHeld fs w)
+turned_held w a fs part b e = subst (λ (v : TermWait). LosesNone a a (IsHeld fs (waits.After part)) (IsHeld fs v)) (sym e) (unchanged a _ _ (λ x h. h))
 
 -- ---- definitions and stages
 
@@ -220,14 +220,14 @@ stage_on ss ts name at e x h =
 
 -- ---- readers
 
-pub phase_as : (p q : Phase) (old new : Reader) (r : Result Phase StepFault) → p ≡ q → ReaderLosesNone old q new r → ReaderLosesNone old p new r
+pub phase_as : (p q : Phase) (old new : Reader) (r : Result Phase TermFault) → p ≡ q → ReaderLosesNone old q new r → ReaderLosesNone old p new r
 phase_as p q old new r e h = subst (λ (x : Phase). ReaderLosesNone old x new r) (sym e) h
 
 pub reader_still : (r : Reader) (p q : Phase) → ((x : Numbered) → InPhase p x → InPhase q x) → Keeps r.draft r.draft × LosesNone r.draft r.draft (InReader r p) (InReader r q)
 reader_still r p q f = (Keeps-refl r.draft, unchanged r.draft _ _ (λ x h. elim h [ inl i ↦ inl i | inr j ↦ elim j [ inl k ↦ inr (inl (f x k)) | inr k ↦ inr (inr k) ] ]))
 
 -- a head is read
-pub head_then : (r : Result Phase StepFault) (a : Made) (mid new : Reader) (B : Numbered → Type 0) → Keeps a mid.draft → LosesNone a mid.draft B (λ x. InConstructs mid.stack x ⊎ InProgram mid x) → OnOk r (Keeps mid.draft new.draft) → OnOk r ((new.stack ≡ mid.stack) × (new.definitions.items ≡ mid.definitions.items) × (new.stages.items ≡ mid.stages.items)) → IfOk r (λ p. LosesNone mid.draft new.draft (λ x. ⊥) (InPhase p)) → IfOk r (λ p. Keeps a new.draft × LosesNone a new.draft B (InReader new p))
+pub head_then : (r : Result Phase TermFault) (a : Made) (mid new : Reader) (B : Numbered → Type 0) → Keeps a mid.draft → LosesNone a mid.draft B (λ x. InConstructs mid.stack x ⊎ InProgram mid x) → OnOk r (Keeps mid.draft new.draft) → OnOk r ((new.stack ≡ mid.stack) × (new.definitions.items ≡ mid.definitions.items) × (new.stages.items ≡ mid.stages.items)) → IfOk r (λ p. LosesNone mid.draft new.draft (λ x. ⊥) (InPhase p)) → IfOk r (λ p. Keeps a new.draft × LosesNone a new.draft B (InReader new p))
 head_then (Err e) a mid new B k f l rest h = tt
 head_then (Ok p) a mid new B k f l rest h = (
   Keeps-trans a mid.draft new.draft k l,
@@ -238,11 +238,11 @@ head_then (Ok p) a mid new B k f l rest h = (
       ]) h),
 )
 
-pub head_first : (r : Result Phase StepFault) (old new : Reader) (q : Phase) → ((x : Numbered) → InPhase q x → ⊥) → OnOk r (Keeps old.draft new.draft) → OnOk r ((new.stack ≡ old.stack) × (new.definitions.items ≡ old.definitions.items) × (new.stages.items ≡ old.stages.items)) → IfOk r (λ p. LosesNone old.draft new.draft (λ x. ⊥) (InPhase p)) → ReaderLosesNone old q new r
+pub head_first : (r : Result Phase TermFault) (old new : Reader) (q : Phase) → ((x : Numbered) → InPhase q x → ⊥) → OnOk r (Keeps old.draft new.draft) → OnOk r ((new.stack ≡ old.stack) × (new.definitions.items ≡ old.definitions.items) × (new.stages.items ≡ old.stages.items)) → IfOk r (λ p. LosesNone old.draft new.draft (λ x. ⊥) (InPhase p)) → ReaderLosesNone old q new r
 head_first r old new q f k rest h = head_then r old.draft old new (InReader old q) (Keeps-refl old.draft) (unchanged old.draft _ _ (λ x i. elim i [ inl j ↦ inl j | inr j ↦ elim j [ inl z ↦ absurd (f x z) | inr l ↦ inr l ] ])) k rest h
 
 -- a stage is read
-pub stage_then : (r : Result Phase StepFault) (old new : Reader) (q : Phase) → ((x : Numbered) → InPhase q x → ⊥) → OnOk r (Keeps old.draft new.draft) → OnOk r (LosesNone old.draft new.draft (InStages old.stages.items) (InStages new.stages.items)) → OnOk r ((new.stack ≡ old.stack) × (new.definitions.items ≡ old.definitions.items)) → ReaderLosesNone old q new r
+pub stage_then : (r : Result Phase TermFault) (old new : Reader) (q : Phase) → ((x : Numbered) → InPhase q x → ⊥) → OnOk r (Keeps old.draft new.draft) → OnOk r (LosesNone old.draft new.draft (InStages old.stages.items) (InStages new.stages.items)) → OnOk r ((new.stack ≡ old.stack) × (new.definitions.items ≡ old.definitions.items)) → ReaderLosesNone old q new r
 stage_then (Err e) old new q f k h rest = tt
 stage_then (Ok p) old new q f k h rest = (
   k,
@@ -253,7 +253,7 @@ stage_then (Ok p) old new q f k h rest = (
 )
 
 -- a step inside a definition
-pub inside_then : (old new : Reader) (head : Head) (w v : Wait) → new.definitions.items ≡ old.definitions.items → new.stages.items ≡ old.stages.items → Keeps old.draft new.draft → LosesNone old.draft new.draft (IsHeld old.stack w) (IsHeld new.stack v) → Keeps old.draft new.draft × LosesNone old.draft new.draft (InReader old (phases.Within head w)) (InReader new (phases.Within head v))
+pub inside_then : (old new : Reader) (head : Head) (w v : TermWait) → new.definitions.items ≡ old.definitions.items → new.stages.items ≡ old.stages.items → Keeps old.draft new.draft → LosesNone old.draft new.draft (IsHeld old.stack w) (IsHeld new.stack v) → Keeps old.draft new.draft × LosesNone old.draft new.draft (InReader old (phases.Within head w)) (InReader new (phases.Within head v))
 inside_then old new head w v d s k h = (
   k,
   beside old.draft new.draft _ _ (λ x. (x ≡ NameNumber head.name) ⊎ InProgram old x) _ _ (λ x i. elim i [
@@ -266,31 +266,31 @@ inside_then old new head w v d s k h = (
 )
 
 -- a definition ends
-pub ended_left : (old new : Reader) (head : Head) (w v : Wait) (Held : Numbered → Type 0) → w ≡ v → ((x : Numbered) → IsHeld old.stack v x → Held x) → new.stages.items ≡ old.stages.items → EndLosesNone old new head Held → LosesNone old.draft new.draft (InReader old (phases.Within head w)) (InProgram new)
+pub ended_left : (old new : Reader) (head : Head) (w v : TermWait) (Held : Numbered → Type 0) → w ≡ v → ((x : Numbered) → IsHeld old.stack v x → Held x) → new.stages.items ≡ old.stages.items → EndLosesNone old new head Held → LosesNone old.draft new.draft (InReader old (phases.Within head w)) (InProgram new)
 ended_left old new head w v Held e f s h = beside old.draft new.draft _ _ (InStages old.stages.items) _ _ (λ x i. elim i [
   | inl j ↦ inl (inl (f x (inl j)))
   | inr j ↦ elim j [
-    | inl l ↦ elim l [ inl n ↦ inl (inr (inl n)) | inr u ↦ inl (inl (f x (inr (subst (λ (y : Wait). InWait y x) e u)))) ]
+    | inl l ↦ elim l [ inl n ↦ inl (inr (inl n)) | inr u ↦ inl (inl (f x (inr (subst (λ (y : TermWait). InWait y x) e u)))) ]
     | inr l ↦ elim l [ inl d ↦ inl (inr (inr d)) | inr t ↦ inr t ]
   ]
 ]) (λ x d. inl d) (λ x t. inr (stages_are _ _ (sym s) x t)) h
 
-pub end_then : (r : Result (Unit {0}) StepFault) (old new : Reader) (head : Head) (w v : Wait) (Held : Numbered → Type 0) → w ≡ v → ((x : Numbered) → IsHeld old.stack v x → Held x) → OnOk r (Keeps old.draft new.draft) → OnOk r (new.stages.items ≡ old.stages.items) → OnOk r (EndLosesNone old new head Held) → FinishLosesNone old (phases.Within head w) new r
+pub end_then : (r : Result (Unit {0}) TermFault) (old new : Reader) (head : Head) (w v : TermWait) (Held : Numbered → Type 0) → w ≡ v → ((x : Numbered) → IsHeld old.stack v x → Held x) → OnOk r (Keeps old.draft new.draft) → OnOk r (new.stages.items ≡ old.stages.items) → OnOk r (EndLosesNone old new head Held) → FinishLosesNone old (phases.Within head w) new r
 end_then (Ok u) old new head w v Held e f k s h = (k, ended_left old new head w v Held e f s h)
 end_then (Err z) old new head w v Held e f k s h = tt
 
-pub on_then : (r : Result (Unit {0}) StepFault) (a b c : Made) (B M A : Numbered → Type 0) → OnOk r (Keeps b c) → LosesNone a b B M → OnOk r (LosesNone b c M A) → OnOk r (LosesNone a c B A)
+pub on_then : (r : Result (Unit {0}) TermFault) (a b c : Made) (B M A : Numbered → Type 0) → OnOk r (Keeps b c) → LosesNone a b B M → OnOk r (LosesNone b c M A) → OnOk r (LosesNone a c B A)
 on_then (Ok u) a b c B M A k f g = none_lost a b c B M A k f g
 on_then (Err e) a b c B M A k f g = tt
 
 -- ---- the end
 
-begin_open : (made : Made) (at : ℕ → ℕ) (fs : List Construct) (ds : List Root) (ss : List Start) (s : State) → ShowsState made at fs ds ss phases.Begin s → fs ≡ []
+begin_open : (made : Made) (at : ℕ → ℕ) (fs : List TermConstruct) (ds : List Root) (ss : List Start) (s : State) → ShowsState made at fs ds ss phases.Begin s → fs ≡ []
 unfolding ShowsState
 begin_open made at fs ds ss Begin h = h.0
 begin_open made at fs ds ss _ h = absurd h
 
-read_open : (made : Made) (at : ℕ → ℕ) (fs : List Construct) (ds : List Root) (ss : List Start) (s : State) → ShowsState made at fs ds ss phases.StageRead s → fs ≡ []
+read_open : (made : Made) (at : ℕ → ℕ) (fs : List TermConstruct) (ds : List Root) (ss : List Start) (s : State) → ShowsState made at fs ds ss phases.StageRead s → fs ≡ []
 unfolding ShowsState
 read_open made at fs ds ss (StageRead f ns) h = h.0
 read_open made at fs ds ss _ h = absurd h
@@ -310,7 +310,7 @@ finish_begun r p e s = finish_still r p phases.Begin e (begin_open r.draft s.0 r
 pub finish_read : (r : Reader) (p : Phase) → p ≡ phases.StageRead → SomeState r.draft r.stack r.definitions.items r.stages.items p → Keeps r.draft r.draft × LosesNone r.draft r.draft (InReader r p) (InProgram r)
 finish_read r p e s = finish_still r p phases.StageRead e (read_open r.draft s.0 r.stack r.definitions.items r.stages.items s.1 (subst (λ (y : Phase). ShowsState r.draft s.0 r.stack r.definitions.items r.stages.items y s.1) e s.2)) (λ x h. h)
 
-pub finish_as : (p q : Phase) (old new : Reader) (r : Result (Unit {0}) StepFault) → p ≡ q → FinishLosesNone old q new r → FinishLosesNone old p new r
+pub finish_as : (p q : Phase) (old new : Reader) (r : Result (Unit {0}) TermFault) → p ≡ q → FinishLosesNone old q new r → FinishLosesNone old p new r
 finish_as p q old new r e h = subst (λ (x : Phase). FinishLosesNone old x new r) (sym e) h
 
 -- ---- the whole text

@@ -4,10 +4,10 @@ use Rattle.std.specs.Prelude.{◌≡◌, ℕ, ◌+◌, ◌++◌, ◌∷◌, List
 use Rattle.std.specs.Prelude.{Result, Ok, Err, IfOk, OnOk}
 use Rattle.kex_model.specs.declared.program.Definition.{Definition as Root}
 use Rattle.kex_model.specs.declared.program.Start.{Start}
-use Rattle.kex_reader.specs.declared.stack.Construct.{Construct}
-use Rattle.kex_reader.specs.declared.inside.StepFault.{StepFault}
-use Rattle.kex_reader.specs.declared.inside.StepFault.TheVariants as faults
-use Rattle.kex_reader.specs.declared.inside.Wait.{Wait}
+use Rattle.kex_reader.specs.declared.stack.TermConstruct.{TermConstruct}
+use Rattle.kex_reader.specs.declared.inside.TermFault.{TermFault}
+use Rattle.kex_reader.specs.declared.inside.TermFault.TheVariants as faults
+use Rattle.kex_reader.specs.declared.inside.TermWait.{TermWait}
 use Rattle.kex_reader.specs.declared.reader.Head.{Head}
 use Rattle.kex_reader.specs.declared.reader.Phase.{Phase}
 use Rattle.kex_reader.specs.declared.reader.Reader.{Reader}
@@ -29,7 +29,8 @@ abbrev pub next_index : Header → List Definition → ℕ
 next_index h done = length (header h) + length (definitions done)
 
 -- constructs, definitions and stages so far, and what is waited for, are those of a state
-unfoldable pub ShowsState : Made → (ℕ → ℕ) → List Construct → List Root → List Start → Phase → State
+unfoldable pub ShowsState : Made → (ℕ → ℕ) → List TermConstruct → List Root → List Start → Phase
+    → State
     → Type 0
 ShowsState made at fs ds ss phases.Begin Begin = (fs ≡ []) × (ds ≡ []) × (ss ≡ [])
 ShowsState made at fs ds ss (phases.FirstName n) (FirstName name) = (fs ≡ []) × (ds ≡ [])
@@ -48,15 +49,15 @@ ShowsState made at fs ds ss (phases.Within head wait) (Within h done name i) =
 ShowsState made at fs ds ss _ _ = ⊥
 
 -- what a step made is what the machine makes, unless memory ran out
-unfoldable pub StateSteps : Made → (ℕ → ℕ) → List Construct → List Root → List Start
-    → Result Phase StepFault → Option State → Type 0
+unfoldable pub StateSteps : Made → (ℕ → ℕ) → List TermConstruct → List Root → List Start
+    → Result Phase TermFault → Option State → Type 0
 StateSteps made at fs ds ss (Ok phase) None = ⊥
 StateSteps made at fs ds ss (Ok phase) (Some s) = ShowsState made at fs ds ss phase s
 StateSteps made at fs ds ss (Err faults.Memory) o = Unit {0}
 StateSteps made at fs ds ss (Err faults.Wrong) None = Unit {0}
 StateSteps made at fs ds ss (Err faults.Wrong) (Some s) = ⊥
 
-abbrev pub SomeState : Made → List Construct → List Root → List Start → Phase → Type 0
+abbrev pub SomeState : Made → List TermConstruct → List Root → List Start → Phase → Type 0
 SomeState made fs ds ss phase = (at : ℕ → ℕ) × (s : State) × ShowsState made at fs ds ss phase s
 
 -- the term that is left, where nothing stands below it
@@ -66,8 +67,8 @@ whole_term (Some (t, [])) = Some t
 whole_term (Some (t, e ∷ es)) = None
 
 -- a definition that ends with this term, unless memory ran out
-unfoldable pub Ends : Made → (ℕ → ℕ) → ℕ → List Construct → List Root → List Root → ℕ → ℕ
-    → Result (Unit {0}) StepFault → Option Term → Type 0
+unfoldable pub Ends : Made → (ℕ → ℕ) → ℕ → List TermConstruct → List Root → List Root → ℕ → ℕ
+    → Result (Unit {0}) TermFault → Option Term → Type 0
 Ends made at base fs old new name from (Ok u) None = ⊥
 Ends made at base fs old new name from (Ok u) (Some t) = (fs ≡ []) × (root : ℕ) × (new
     ≡ old ++ record { name = name; at = from; root = root } ∷ []) × ShowsTerm t made at root base
@@ -76,7 +77,7 @@ Ends made at base fs old new name from (Err faults.Wrong) None = Unit {0}
 Ends made at base fs old new name from (Err faults.Wrong) (Some t) = ⊥
 
 -- what the end made is the machine's program, unless memory ran out
-unfoldable pub Finishes : Made → (ℕ → ℕ) → List Root → List Start → Result (Unit {0}) StepFault
+unfoldable pub Finishes : Made → (ℕ → ℕ) → List Root → List Start → Result (Unit {0}) TermFault
     → Option Program → Type 0
 Finishes made at ds ss (Ok u) None = ⊥
 Finishes made at ds ss (Ok u) (Some p) =
@@ -106,11 +107,11 @@ EndLosesNone old new head Held =
     ⊎ InDefinitions old.definitions.items x)) (InDefinitions new.definitions.items)
 
 -- a step of a reader loses none
-abbrev pub ReaderLosesNone : Reader → Phase → Reader → Result Phase StepFault → Type 0
+abbrev pub ReaderLosesNone : Reader → Phase → Reader → Result Phase TermFault → Type 0
 ReaderLosesNone old phase new result = IfOk result (λ next. Keeps old.draft new.draft
     × LosesNone old.draft new.draft (InReader old phase) (InReader new next))
 
-abbrev pub FinishLosesNone : Reader → Phase → Reader → Result (Unit {0}) StepFault → Type 0
+abbrev pub FinishLosesNone : Reader → Phase → Reader → Result (Unit {0}) TermFault → Type 0
 FinishLosesNone old phase new result = OnOk result (Keeps old.draft new.draft
     × LosesNone old.draft new.draft (InReader old phase) (InProgram new))
 
@@ -125,16 +126,16 @@ abbrev pub InState : Reader → Phase → Type 0
 InState r phase = SomeState r.draft r.stack r.definitions.items r.stages.items phase
 
 -- what a step made of the reader is what the machine makes
-abbrev pub ReaderSteps : Reader → (ℕ → ℕ) → Result Phase StepFault → Option State → Type 0
+abbrev pub ReaderSteps : Reader → (ℕ → ℕ) → Result Phase TermFault → Option State → Type 0
 ReaderSteps r at result o =
     StateSteps r.draft at r.stack r.definitions.items r.stages.items result o
 
 -- what the end made of the reader is the machine's program
-abbrev pub ReaderFinishes : Reader → (ℕ → ℕ) → Result (Unit {0}) StepFault → Option Program → Type 0
+abbrev pub ReaderFinishes : Reader → (ℕ → ℕ) → Result (Unit {0}) TermFault → Option Program → Type 0
 ReaderFinishes r at result o = Finishes r.draft at r.definitions.items r.stages.items result o
 
 -- from this reader to that one the definition ends with this term
-abbrev pub ReaderEnds : Reader → Reader → (ℕ → ℕ) → ℕ → Head → Result (Unit {0}) StepFault
+abbrev pub ReaderEnds : Reader → Reader → (ℕ → ℕ) → ℕ → Head → Result (Unit {0}) TermFault
     → Option Term → Type 0
 ReaderEnds old new at base head result o = Ends new.draft at base new.stack old.definitions.items
     new.definitions.items head.name head.at result o
@@ -144,7 +145,7 @@ abbrev pub IsBehindState : (ℕ → ℕ) → State → ℕ → Type 0
 IsBehindState at s place = place ≡ at (length (words_read s))
 
 -- where the reader is within a definition
-abbrev pub WithinDefinition : Reader → Head → Wait
+abbrev pub WithinDefinition : Reader → Head → TermWait
     → ((ℕ → ℕ) → Header → List Definition → List ℕ → Inside → Type 0) → Type 0
 WithinDefinition r head wait Says =
     (at : ℕ → ℕ) (h : Header) (done : List Definition) (name : List ℕ) (i : Inside)

@@ -9,8 +9,8 @@ use Rattle.kex_model.specs.declared.program.Start.{Start}
 use Rattle.kex_tokens.specs.declared.token.Token.{Token}
 use Rattle.kex_tokens.specs.declared.token.TokenFault.{TokenFault}
 use Rattle.kex_tokens.specs.declared.token.TokenFault.TheVariants as tokens
-use Rattle.kex_reader.specs.declared.inside.StepFault.{StepFault}
-use Rattle.kex_reader.specs.declared.inside.StepFault.TheVariants as steps
+use Rattle.kex_reader.specs.declared.inside.TermFault.{TermFault}
+use Rattle.kex_reader.specs.declared.inside.TermFault.TheVariants as steps
 use Rattle.kex_tokens.specs.Texts.{AreTokens, IsBadToken, most_text}
 use Rattle.kex_regexp.specs.declared.breaks.Break.{Break}
 use Rattle.kex_regexp.specs.declared.breaks.Break.TheVariants.{BadRegex, BadCount, BadSet}
@@ -92,7 +92,7 @@ of_limit (BadCount at) = refusals.BadCount at
 of_limit (BadSet at) = refusals.BadSet at
 of_limit (OverLimit at) = refusals.OverLimit at
 
-abbrev pub of_step : StepFault → ℕ → ReadRefusal
+abbrev pub of_step : TermFault → ℕ → ReadRefusal
 of_step steps.Memory at = refusals.Memory
 of_step steps.Wrong at = refusals.Unexpected at
 

@@ -11,8 +11,8 @@ use Rattle.kex_code.specs.declared.piece.Piece.{Piece}
 use Rattle.kex_code.specs.declared.piece.Piece.TheVariants as piece_kinds
 use Rattle.kex_tokens.specs.Values.{decimal_value}
 use Rattle.kex_regexp.specs.declared.breaks.Break.{Break}
-use Rattle.kex_reader.specs.declared.stack.Construct.{Construct}
-use Rattle.kex_reader.specs.declared.stack.Construct.TheVariants as constructs
+use Rattle.kex_reader.specs.declared.stack.TermConstruct.{TermConstruct}
+use Rattle.kex_reader.specs.declared.stack.TermConstruct.TheVariants as constructs
 use Rattle.kex_reader.specs.declared.stack.Prefix.{Prefix}
 use Rattle.kex_reader.specs.declared.stack.Prefix.TheVariants as prefixes
 use Rattle.kex_reader.specs.declared.stack.PlacedNode.{PlacedNode as Shown}
@@ -21,10 +21,10 @@ use Rattle.kex_regexp.specs.Holding.{HoldsBounds, ShowsCount, capped_count}
 use Rattle.kex_regexp.specs.Postfixes.{Postfix, is_bad_count}
 use Rattle.kex_reader.specs.declared.word.Word.{Word as WordHeld}
 use Rattle.kex_reader.specs.declared.pieces.Assignment.{Assignment}
-use Rattle.kex_reader.specs.declared.inside.Wait.{Wait}
-use Rattle.kex_reader.specs.declared.inside.Wait.TheVariants as waits
-use Rattle.kex_reader.specs.declared.inside.StepFault.{StepFault}
-use Rattle.kex_reader.specs.declared.inside.StepFault.TheVariants as faults
+use Rattle.kex_reader.specs.declared.inside.TermWait.{TermWait}
+use Rattle.kex_reader.specs.declared.inside.TermWait.TheVariants as waits
+use Rattle.kex_reader.specs.declared.inside.TermFault.{TermFault}
+use Rattle.kex_reader.specs.declared.inside.TermFault.TheVariants as faults
 use Rattle.kex_reader.specs.Syntax.{Word, word, Name, Literal, Text, Held, Tilde, At, Star, Plus}
 use Rattle.kex_reader.specs.Syntax.{Question, OpenBrace, OpenParen, Regex, Define, RegisterPart}
 use Rattle.kex_reader.specs.Syntax.{Term, Seq, Pre, Atom, Once, Turns, Call, atom, postfix}
@@ -56,14 +56,14 @@ NotesLeast cs (Some b) = IsLeastBreak cs b
 
 -- ---- constructs
 
-abbrev pub is_opening : Construct → Bool
+abbrev pub is_opening : TermConstruct → Bool
 is_opening (constructs.Mark at) = true
 is_opening (constructs.Ended part) = false
 is_opening (constructs.Done part) = false
 is_opening (constructs.Muted at) = true
 is_opening (constructs.Storing s) = true
 
-abbrev pub construct_of : Prefix → Construct
+abbrev pub construct_of : Prefix → TermConstruct
 construct_of (prefixes.Mute at) = constructs.Muted at
 construct_of (prefixes.Store s) = constructs.Storing s
 
@@ -81,7 +81,7 @@ HasRegisterBelow registers (prefixes.Mute at) = Unit {0}
 HasRegisterBelow registers (prefixes.Store s) = s.register < registers
 
 -- how many parentheses and prefixes are among the constructs
-unfoldable pub open_constructs : List Construct → ℕ
+unfoldable pub open_constructs : List TermConstruct → ℕ
 open_constructs [] = 0
 open_constructs (f ∷ fs) = if is_opening f then suc (open_constructs fs) else open_constructs fs
 
@@ -96,7 +96,7 @@ depth (Storing r ∷ es) = suc (depth es)
 
 -- the constructs, the newest first, show the entries of a definition whose term begins with word
 -- number base
-unfoldable pub ConstructsShow : Made → (ℕ → ℕ) → ℕ → List Construct → List Entry → Type 0
+unfoldable pub ConstructsShow : Made → (ℕ → ℕ) → ℕ → List TermConstruct → List Entry → Type 0
 ConstructsShow made at base [] [] = Unit {0}
 ConstructsShow made at base (constructs.Mark a ∷ fs) (Mark ∷ es) =
     (a ≡ at (base + length (entries es))) × ConstructsShow made at base fs es
@@ -114,25 +114,26 @@ ConstructsShow made at base (constructs.Storing s ∷ fs) (Storing r ∷ es) =
 ConstructsShow made at base _ _ = ⊥
 
 -- what has ended on top, as a seq or term above entries that the constructs show
-pub record SeqOn (made : Made) (at : ℕ → ℕ) (base : ℕ) (fs : List Construct) (part : Shown)
+pub record SeqOn (made : Made) (at : ℕ → ℕ) (base : ℕ) (fs : List TermConstruct) (part : Shown)
     (t : Seq × List Entry) : Type 0 where
   pub place : part.at ≡ at (base + length (entries t.1))
   pub shows : ShowsSeq t.0 made at part.node (base + length (entries t.1))
   pub below : ConstructsShow made at base fs t.1
 
-pub record TermOn (made : Made) (at : ℕ → ℕ) (base : ℕ) (fs : List Construct) (part : Shown)
+pub record TermOn (made : Made) (at : ℕ → ℕ) (base : ℕ) (fs : List TermConstruct) (part : Shown)
     (t : Term × List Entry) : Type 0 where
   pub place : part.at ≡ at (base + length (entries t.1))
   pub shows : ShowsTerm t.0 made at part.node (base + length (entries t.1))
   pub below : ConstructsShow made at base fs t.1
 
-abbrev pub SeqTaken : Made → (ℕ → ℕ) → ℕ → List Construct → Option Shown → Option (Seq × List Entry)
+abbrev pub SeqTaken : Made → (ℕ → ℕ) → ℕ → List TermConstruct → Option Shown → Option (Seq
+    × List Entry)
     → Type 0
 SeqTaken made at base fs None None = Unit {0}
 SeqTaken made at base fs (Some part) (Some t) = SeqOn made at base fs part t
 SeqTaken made at base fs _ _ = ⊥
 
-abbrev pub TermTaken : Made → (ℕ → ℕ) → ℕ → List Construct → Option Shown
+abbrev pub TermTaken : Made → (ℕ → ℕ) → ℕ → List TermConstruct → Option Shown
     → Option (Term × List Entry) → Type 0
 TermTaken made at base fs None None = Unit {0}
 TermTaken made at base fs (Some part) (Some t) = TermOn made at base fs part t
@@ -173,7 +174,7 @@ HoldsTurns made b p = HoldsBounds b p × (is_bad_count p ≡ true → made.broke
 -- ---- what is waited for
 
 -- the mode's own words begin with number i
-unfoldable pub ShowsMode : Made → (ℕ → ℕ) → ℕ → Wait → Mode → Type 0
+unfoldable pub ShowsMode : Made → (ℕ → ℕ) → ℕ → TermWait → Mode → Type 0
 ShowsMode made at i waits.Need Need = Unit {0}
 ShowsMode made at i waits.Ready Ready = Unit {0}
 ShowsMode made at i (waits.After part) (After a) = (part.at ≡ at i)
@@ -194,13 +195,15 @@ ShowsMode made at i (waits.InCount part c brace) (InCount a d) = (part.at ≡ at
 ShowsMode _ _ _ _ _ = ⊥
 
 -- constructs and what is waited for are those of a place inside a definition
-pub record ShowsInside (made : Made) (at : ℕ → ℕ) (base : ℕ) (fs : List Construct) (wait : Wait)
+pub record ShowsInside (made : Made) (at : ℕ → ℕ) (base : ℕ) (fs : List TermConstruct)
+    (wait : TermWait)
     (i : Inside) : Type 0 where
   pub below : ConstructsShow made at base fs i.entries
   pub mode : ShowsMode made at (base + length (entries i.entries)) wait i.mode
 
 -- what a step made is what the machine makes, unless memory ran out
-unfoldable pub Steps : Made → (ℕ → ℕ) → ℕ → List Construct → Result Wait StepFault → Option Inside
+unfoldable pub Steps : Made → (ℕ → ℕ) → ℕ → List TermConstruct → Result TermWait TermFault
+    → Option Inside
     → Type 0
 Steps made at base fs (Ok wait) None = ⊥
 Steps made at base fs (Ok wait) (Some i) = ShowsInside made at base fs wait i
@@ -209,31 +212,31 @@ Steps made at base fs (Err faults.Wrong) None = Unit {0}
 Steps made at base fs (Err faults.Wrong) (Some i) = ⊥
 
 -- these constructs are those of some entries, and an atom stands on them
-abbrev pub SomeConstructs : Made → List Construct → Type 0
+abbrev pub SomeConstructs : Made → List TermConstruct → Type 0
 SomeConstructs made fs = (at : ℕ → ℕ) × (base : ℕ) × (es : List Entry)
     × ConstructsShow made at base fs es
 
-abbrev pub SomeAtom : Made → List Construct → Shown → Type 0
+abbrev pub SomeAtom : Made → List TermConstruct → Shown → Type 0
 SomeAtom made fs part = (at : ℕ → ℕ) × (base : ℕ) × (es : List Entry) × (a : Atom)
     × ConstructsShow made at base fs es × (part.at ≡ at (base + length (entries es)))
     × ShowsAtom a made at part.node (base + length (entries es))
 
-abbrev pub SomeTermTurned : Made → List Construct → Shown → Bounds → Type 0
+abbrev pub SomeTermTurned : Made → List TermConstruct → Shown → Bounds → Type 0
 SomeTermTurned made fs part b = (at : ℕ → ℕ) × (base : ℕ) × (es : List Entry) × (a : Atom)
     × (p : Postfix) × ConstructsShow made at base fs es
     × (part.at ≡ at (base + length (entries es)))
     × ShowsAtom a made at part.node (base + length (entries es)) × HoldsTurns made b p
 
-abbrev pub SomePre : Made → List Construct → Shown → Type 0
+abbrev pub SomePre : Made → List TermConstruct → Shown → Type 0
 SomePre made fs part = (at : ℕ → ℕ) × (base : ℕ) × (es : List Entry) × (p : Pre)
     × ConstructsShow made at base fs es × (part.at ≡ at (base + length (entries es)))
     × ShowsPre p made at part.node (base + length (entries es))
 
-abbrev pub SomeName : Made → List Construct → ℕ → Type 0
+abbrev pub SomeName : Made → List TermConstruct → ℕ → Type 0
 SomeName made fs a = (at : ℕ → ℕ) × (base : ℕ) × (es : List Entry)
     × ConstructsShow made at base fs es × (a ≡ at (base + length (entries es)))
 
-abbrev pub SomeInside : Made → List Construct → Wait → Type 0
+abbrev pub SomeInside : Made → List TermConstruct → TermWait → Type 0
 SomeInside made fs wait = (at : ℕ → ℕ) × (base : ℕ) × (i : Inside)
     × ShowsInside made at base fs wait i
 
@@ -293,13 +296,13 @@ abbrev pub InPart : Option Shown → Numbered → Type 0
 InPart None x = ⊥
 InPart (Some p) x = x ≡ NodeNumber p.node
 
-abbrev pub InConstruct : Construct → Numbered → Type 0
+abbrev pub InConstruct : TermConstruct → Numbered → Type 0
 InConstruct (constructs.Ended p) x = x ≡ NodeNumber p.node
 InConstruct (constructs.Done p) x = x ≡ NodeNumber p.node
 InConstruct (constructs.Storing s) x = x ≡ RegisterNumber s.register
 InConstruct _ x = ⊥
 
-abbrev pub InConstructs : List Construct → Numbered → Type 0
+abbrev pub InConstructs : List TermConstruct → Numbered → Type 0
 InConstructs [] x = ⊥
 InConstructs (f ∷ fs) x = InConstruct f x ⊎ InConstructs fs x
 
@@ -314,7 +317,7 @@ InPiece (Some p) x = InPieces (p ∷ []) x
 abbrev pub InAssignment : Assignment → Numbered → Type 0
 InAssignment y x = (x ≡ RegisterNumber y.register) ⊎ InPieces y.pieces.items x
 
-abbrev pub InWait : Wait → Numbered → Type 0
+abbrev pub InWait : TermWait → Numbered → Type 0
 InWait (waits.After p) x = x ≡ NodeNumber p.node
 InWait (waits.Turned p b) x = x ≡ NodeNumber p.node
 InWait (waits.InCount p c brace) x = x ≡ NodeNumber p.node
@@ -323,12 +326,12 @@ InWait (waits.Assigning y) x = InAssignment y x
 InWait (waits.Assigned y) x = InAssignment y x
 InWait _ x = ⊥
 
-abbrev pub IsHeld : List Construct → Wait → Numbered → Type 0
+abbrev pub IsHeld : List TermConstruct → TermWait → Numbered → Type 0
 IsHeld fs wait x = InConstructs fs x ⊎ InWait wait x
 
 -- a step loses none
-abbrev pub StepLosesNone : Made → Made → List Construct → Wait → List Construct
-    → Result Wait StepFault → Type 0
+abbrev pub StepLosesNone : Made → Made → List TermConstruct → TermWait → List TermConstruct
+    → Result TermWait TermFault → Type 0
 StepLosesNone old new fs wait gs result =
     IfOk result (λ next. LosesNone old new (IsHeld fs wait) (IsHeld gs next))
 
@@ -339,25 +342,25 @@ abbrev pub word_of : WordHeld → Word
 word_of w = word w.kind w.spelling.now
 
 -- where the constructs show entries, behind which a word stands at this offset
-abbrev pub Behind : Made → List Construct → ℕ → ((ℕ → ℕ) → ℕ → List Entry → Type 0) → Type 0
+abbrev pub Behind : Made → List TermConstruct → ℕ → ((ℕ → ℕ) → ℕ → List Entry → Type 0) → Type 0
 Behind made fs place Says = (at : ℕ → ℕ) (base : ℕ) (es : List Entry)
     → ConstructsShow made at base fs es → place ≡ at (base + length (entries es)) → Says at base es
 
 -- the same for any constructs
-abbrev pub BehindAny : Made → ℕ → ((ℕ → ℕ) → ℕ → List Construct → List Entry → Type 0) → Type 0
-BehindAny made place Says = (at : ℕ → ℕ) (base : ℕ) (fs : List Construct) (es : List Entry)
+abbrev pub BehindAny : Made → ℕ → ((ℕ → ℕ) → ℕ → List TermConstruct → List Entry → Type 0) → Type 0
+BehindAny made place Says = (at : ℕ → ℕ) (base : ℕ) (fs : List TermConstruct) (es : List Entry)
     → ConstructsShow made at base fs es → place ≡ at (base + length (entries es))
     → Says at base fs es
 
 -- where the constructs show entries, behind which stands an atom with this node
-abbrev pub OnAtom : Made → List Construct → Shown → ((ℕ → ℕ) → ℕ → List Entry → Atom → Type 0)
+abbrev pub OnAtom : Made → List TermConstruct → Shown → ((ℕ → ℕ) → ℕ → List Entry → Atom → Type 0)
     → Type 0
 OnAtom made fs part Says = (at : ℕ → ℕ) (base : ℕ) (es : List Entry) (a : Atom)
     → ConstructsShow made at base fs es → part.at ≡ at (base + length (entries es))
     → ShowsAtom a made at part.node (base + length (entries es)) → Says at base es a
 
 -- and where the atom has this postfix
-abbrev pub OnTermTurned : Made → List Construct → Shown → Bounds
+abbrev pub OnTermTurned : Made → List TermConstruct → Shown → Bounds
     → ((ℕ → ℕ) → ℕ → List Entry → Atom → Postfix → Type 0) → Type 0
 OnTermTurned made fs part b Says =
     (at : ℕ → ℕ) (base : ℕ) (es : List Entry) (a : Atom) (p : Postfix)
@@ -376,7 +379,8 @@ IsBehindAtom at base es a place = place ≡ at (base + length (entries es) + len
 
 -- where constructs and what is waited for are those of a place inside a definition, and a word
 -- stands behind it at this offset
-abbrev pub InPlace : Made → List Construct → Wait → ℕ → ((ℕ → ℕ) → ℕ → Inside → Type 0) → Type 0
+abbrev pub InPlace : Made → List TermConstruct → TermWait → ℕ → ((ℕ → ℕ) → ℕ → Inside → Type 0)
+    → Type 0
 InPlace made fs wait place Says = (at : ℕ → ℕ) (base : ℕ) (i : Inside)
     → ShowsInside made at base fs wait i → place ≡ at (base + length (inside i)) → Says at base i
 
@@ -387,20 +391,21 @@ NotesMore old new result more = (cs : List Check) → NotesLeast cs old
     → OnOk result (NotesLeast (cs ++ more) new)
 
 -- where the constructs show entries, behind which this is half read
-abbrev pub WhereHalfRead : Made → (ℕ → ℕ) → ℕ → List Construct → List Entry → Wait → Mode → Type 0
+abbrev pub WhereHalfRead : Made → (ℕ → ℕ) → ℕ → List TermConstruct → List Entry → TermWait → Mode
+    → Type 0
     → Type 0
 WhereHalfRead made at base fs es wait mode Says = ConstructsShow made at base fs es
     → ShowsMode made at (base + length (entries es)) wait mode → Says
 
 -- a word where the first part of an assignment has to come
-abbrev pub FirstPart : Made → Made → Assignment → Result Wait StepFault → Word → Type 0
-FirstPart old new x result w = (at : ℕ → ℕ) (base : ℕ) (fs : List Construct) (es : List Entry)
+abbrev pub FirstPart : Made → Made → Assignment → Result TermWait TermFault → Word → Type 0
+FirstPart old new x result w = (at : ℕ → ℕ) (base : ℕ) (fs : List TermConstruct) (es : List Entry)
     (append : Bool) (r : List ℕ) → WhereHalfRead old at base fs es (waits.Assigning x)
     (Assigning append r) (Steps new at base fs result (first_part append r es w))
 
 -- a word behind a part of an assignment
-abbrev pub NextPart : Made → Made → Assignment → Result Wait StepFault → Word → Type 0
-NextPart old new x result w = (at : ℕ → ℕ) (base : ℕ) (fs : List Construct) (es : List Entry)
+abbrev pub NextPart : Made → Made → Assignment → Result TermWait TermFault → Word → Type 0
+NextPart old new x result w = (at : ℕ → ℕ) (base : ℕ) (fs : List TermConstruct) (es : List Entry)
     (append : Bool) (r : List ℕ) (p : RegisterPart) (ps : List RegisterPart)
     → WhereHalfRead old at base fs es (waits.Assigned x) (Assigned append r p ps)
     (Steps new at base fs result (next_part append r p ps es w))

@@ -35,7 +35,7 @@ ghost use Rattle.kex_reader.specs.Syntax.{word as grammar_word};
 use crate::counts::{count_step, held_number};
 use crate::draft::Draft;
 use crate::pieces::{Assignment, piece};
-use crate::stack::{Construct, PlacedNode, PlacedRegister, Stack};
+use crate::stack::{PlacedNode, PlacedRegister, Stack, TermConstruct};
 use crate::terms::{close_seq, close_term, put};
 use crate::word::{Name, Word};
 use kex_code::memory::Memory;
@@ -53,7 +53,7 @@ const DEEPEST: usize = MAX_DEPTH as usize;
 /// What the next word belongs to: a member has to come or may, an atom may have a postfix, a
 /// postfix may be lazy, a name may be a call, a register or a head, and the rest is half read.
 #[derive(Drop)]
-pub(crate) enum Wait<'t> {
+pub(crate) enum TermWait<'t> {
     Need,
     Ready,
     After(PlacedNode),
@@ -69,68 +69,72 @@ pub(crate) enum Wait<'t> {
 
 /// Why there is no next step.
 #[derive(Clone, Copy, Drop)]
-pub(crate) enum StepFault {
+pub(crate) enum TermFault {
     Memory,
     Wrong,
 }
 
-impl From<Memory> for StepFault {
-    ghost use Rattle.kex_reader.specs.declared.inside.StepFault.TheVariants as faults;
+impl From<Memory> for TermFault {
+    ghost use Rattle.kex_reader.specs.declared.inside.TermFault.TheVariants as faults;
 
     ghost from_gives = { λ _ e. e ≡ faults.Memory };
 
-    fn from(_: Memory) -> StepFault {
-        StepFault::Memory
+    fn from(_: Memory) -> TermFault {
+        TermFault::Memory
     }
 }
 
-impl From<AllocError> for StepFault {
-    ghost use Rattle.kex_reader.specs.declared.inside.StepFault.TheVariants as faults;
+impl From<AllocError> for TermFault {
+    ghost use Rattle.kex_reader.specs.declared.inside.TermFault.TheVariants as faults;
 
     ghost from_gives = { λ _ e. e ≡ faults.Memory };
 
-    fn from(_: AllocError) -> StepFault {
-        StepFault::Memory
+    fn from(_: AllocError) -> TermFault {
+        TermFault::Memory
     }
 }
 
-impl<T: Drop> From<AllocFailed<T>> for StepFault {
-    ghost use Rattle.kex_reader.specs.declared.inside.StepFault.TheVariants as faults;
+impl<T: Drop> From<AllocFailed<T>> for TermFault {
+    ghost use Rattle.kex_reader.specs.declared.inside.TermFault.TheVariants as faults;
 
     ghost from_gives = { λ _ e. e ≡ faults.Memory };
 
-    fn from(_: AllocFailed<T>) -> StepFault {
-        StepFault::Memory
+    fn from(_: AllocFailed<T>) -> TermFault {
+        TermFault::Memory
     }
 }
 
 // An atom of one node.
-fn leaf<'t>(draft: &mut Draft<'t>, kind: NodeKind, at: u32) -> Result<Wait<'t>, StepFault>
+fn leaf<'t>(draft: &mut Draft<'t>, kind: NodeKind, at: u32) -> Result<TermWait<'t>, TermFault>
     requires below { HasNames (length draft.old.names) (length draft.old.registers) kind }
     requires alone { IsLeaf kind }
-    ensures held { (fs : List Construct) → IfOk result (λ w.
+    ensures held { (fs : List TermConstruct) → IfOk result (λ w.
         LosesNone draft.old draft.new (λ x. InConstructs fs x ⊎ InKind kind x) (IsHeld fs w)) }
     ensures keeps { OnOk result (Keeps draft.old draft.new) }
     ensures broken { OnOk result (draft.new.broken ≡ draft.old.broken) }
-    ensures wait { IfOk result (λ w. (n : ℕ) × (w ≡ Wait.After (record { node = n; at = at }))
+    ensures wait { IfOk result (λ w. (n : ℕ) × (w ≡ TermWait.After (record { node = n; at = at }))
         × IsNode draft.new n kind at) }
-    ensures fault { IfErr result (λ e. e ≡ StepFault.Memory) }
+    ensures fault { IfErr result (λ e. e ≡ TermFault.Memory) }
 {
     let node = draft.add(kind, at)?;
-    Ok(Wait::After(PlacedNode { node, at }))
+    Ok(TermWait::After(PlacedNode { node, at }))
 }
 
 // A literal.
-fn literal<'t>(alloc: Global, draft: &mut Draft<'t>, word: Word<'t>) -> Result<Wait<'t>, StepFault>
+fn literal<'t>(
+    alloc: Global,
+    draft: &mut Draft<'t>,
+    word: Word<'t>,
+) -> Result<TermWait<'t>, TermFault>
     requires { IsToken TokenKind.Literal word.spelling.now }
-    ensures held { (fs : List Construct)
-        → StepLosesNone draft.old draft.new fs Wait.Need fs result }
+    ensures held { (fs : List TermConstruct)
+        → StepLosesNone draft.old draft.new fs TermWait.Need fs result }
     ensures keeps { OnOk result (Keeps draft.old draft.new) }
     ensures broken { OnOk result (draft.new.broken ≡ draft.old.broken) }
     ensures wait { IfOk result (λ w. (n : ℕ) × (bytes : List ℕ)
-        × (w ≡ Wait.After (record { node = n; at = word.entry.at })) × IsNode draft.new n
+        × (w ≡ TermWait.After (record { node = n; at = word.entry.at })) × IsNode draft.new n
         (NodeKind.Lit bytes) word.entry.at × StandsFor word.entry.spelling.now bytes) }
-    ensures fault { IfErr result (λ e. e ≡ StepFault.Memory) }
+    ensures fault { IfErr result (λ e. e ≡ TermFault.Memory) }
 {
     let bytes = literal_bytes(alloc, word.spelling)?;
     leaf(draft, NodeKind::Lit(Bytes::new(bytes)), word.at)
@@ -153,24 +157,25 @@ fn body<'t>(
     depth: usize,
     draft: &mut Draft<'t>,
     word: Word<'t>,
-) -> Result<Wait<'t>, StepFault>
+) -> Result<TermWait<'t>, TermFault>
     requires token { IsToken TokenKind.Regex word.spelling.now }
     requires place { word.at + length word.spelling.now < 2 ^ 32 }
-    ensures held { (fs : List Construct)
-        → StepLosesNone draft.old draft.new fs Wait.Need fs result }
+    ensures held { (fs : List TermConstruct)
+        → StepLosesNone draft.old draft.new fs TermWait.Need fs result }
     ensures keeps { OnOk result (Keeps draft.old draft.new) }
     ensures wait { IfOk result (λ w. (n : ℕ)
-        × (w ≡ Wait.After (record { node = n; at = word.entry.at })) × (n < length draft.new.nodes)
+        × (w ≡ TermWait.After (record { node = n; at = word.entry.at })) ×
+        (n < length draft.new.nodes)
         × (draft.new.broken ≡ None → (r : Regex) × BodySpells r (between word.entry.spelling.now)
         × ShowsRegex r draft.new.nodes n (word.entry.at + 1))) }
     ensures notes { OnOk result ((cs : List Check) → NotesLeast cs draft.old.broken
         → NotesLeast (cs ++ Matched (word.entry.at + 1) depth (between word.entry.spelling.now)
         ∷ []) draft.new.broken) }
-    ensures fault { IfErr result (λ e. e ≡ StepFault.Memory) }
+    ensures fault { IfErr result (λ e. e ≡ TermFault.Memory) }
 {
     let bytes = between_slashes(word.spelling);
     let node = draft.body(alloc, bytes, word.at + 1, depth)?;
-    Ok(Wait::After(PlacedNode { node, at: word.at }))
+    Ok(TermWait::After(PlacedNode { node, at: word.at }))
 }
 
 // Notes the limit where something opens that nests too deep.
@@ -190,27 +195,27 @@ fn nest(draft: &mut Draft, depth: usize, at: u32)
 fn open<'t>(
     stack: &mut Stack,
     draft: &mut Draft<'t>,
-    construct: Construct,
+    construct: TermConstruct,
     at: u32,
-) -> Result<Wait<'t>, StepFault>
+) -> Result<TermWait<'t>, TermFault>
     ensures held { IfOk result (λ w.
         LosesNone draft.old draft.new (InConstructs (construct ∷ stack.old)) (IsHeld stack.new w)) }
     ensures keeps { OnOk result (Keeps draft.old draft.new) }
-    ensures wait { IfOk result (λ w. w ≡ Wait.Need) }
+    ensures wait { IfOk result (λ w. w ≡ TermWait.Need) }
     ensures pushed { OnOk result (stack.new ≡ construct ∷ stack.old) }
     ensures notes { OnOk result ((cs : List Check) → NotesLeast cs draft.old.broken
         → NotesLeast (cs ++ Nested at (open_constructs stack.old) ∷ []) draft.new.broken) }
-    ensures fault { IfErr result (λ e. e ≡ StepFault.Memory) }
+    ensures fault { IfErr result (λ e. e ≡ TermFault.Memory) }
 {
     nest(draft, stack.depth(), at);
     stack.push(construct)?;
-    Ok(Wait::Need)
+    Ok(TermWait::Need)
 }
 
 // A bar ends a sequence.
-fn bar<'t>(stack: &mut Stack, draft: &mut Draft<'t>) -> Result<Wait<'t>, StepFault>
+fn bar<'t>(stack: &mut Stack, draft: &mut Draft<'t>) -> Result<TermWait<'t>, TermFault>
     requires { SomeConstructs draft.old stack.old }
-    ensures held { StepLosesNone draft.old draft.new stack.old Wait.Need stack.new result }
+    ensures held { StepLosesNone draft.old draft.new stack.old TermWait.Need stack.new result }
     ensures keeps { OnOk result (Keeps draft.old draft.new) }
     ensures broken { OnOk result (draft.new.broken ≡ draft.old.broken) }
     ensures step { (at : ℕ → ℕ) (base : ℕ) (es : List Entry)
@@ -219,16 +224,16 @@ fn bar<'t>(stack: &mut Stack, draft: &mut Draft<'t>) -> Result<Wait<'t>, StepFau
 {
     let closed = close_seq(stack, draft)?;
     let Some(seq) = closed else {
-        return Err(StepFault::Wrong);
+        return Err(TermFault::Wrong);
     };
-    stack.push(Construct::Ended(seq))?;
-    Ok(Wait::Need)
+    stack.push(TermConstruct::Ended(seq))?;
+    Ok(TermWait::Need)
 }
 
 // A parenthesis ends a term.
-fn close<'t>(stack: &mut Stack, draft: &mut Draft<'t>) -> Result<Wait<'t>, StepFault>
+fn close<'t>(stack: &mut Stack, draft: &mut Draft<'t>) -> Result<TermWait<'t>, TermFault>
     requires { SomeConstructs draft.old stack.old }
-    ensures held { StepLosesNone draft.old draft.new stack.old Wait.Need stack.new result }
+    ensures held { StepLosesNone draft.old draft.new stack.old TermWait.Need stack.new result }
     ensures keeps { OnOk result (Keeps draft.old draft.new) }
     ensures broken { OnOk result (draft.new.broken ≡ draft.old.broken) }
     ensures step { (at : ℕ → ℕ) (base : ℕ) (es : List Entry)
@@ -237,12 +242,12 @@ fn close<'t>(stack: &mut Stack, draft: &mut Draft<'t>) -> Result<Wait<'t>, StepF
 {
     let closed = close_term(stack, draft)?;
     let Some(term) = closed else {
-        return Err(StepFault::Wrong);
+        return Err(TermFault::Wrong);
     };
     let Some(at) = stack.take_mark() else {
-        return Err(StepFault::Wrong);
+        return Err(TermFault::Wrong);
     };
-    Ok(Wait::After(PlacedNode {
+    Ok(TermWait::After(PlacedNode {
         node: term.node,
         at,
     }))
@@ -255,11 +260,11 @@ fn begin<'t>(
     draft: &mut Draft<'t>,
     free: bool,
     word: Word<'t>,
-) -> Result<Wait<'t>, StepFault>
+) -> Result<TermWait<'t>, TermFault>
     requires constructs { SomeConstructs draft.old stack.old }
     requires token { IsToken word.kind word.spelling.now }
     requires place { word.at + length word.spelling.now < 2 ^ 32 }
-    ensures held { StepLosesNone draft.old draft.new stack.old Wait.Need stack.new result }
+    ensures held { StepLosesNone draft.old draft.new stack.old TermWait.Need stack.new result }
     ensures keeps { OnOk result (Keeps draft.old draft.new) }
     ensures step { Behind draft.old stack.old word.entry.at (λ at base es.
         Steps draft.new at base stack.new result (begin_pre free es (word_of word.entry))) }
@@ -268,7 +273,7 @@ fn begin<'t>(
         (begin_asks at (base + length (entries es)) es (word_of word.entry))) }
 {
     match word.kind {
-        TokenKind::Name => Ok(Wait::Named(
+        TokenKind::Name => Ok(TermWait::Named(
             free,
             Name {
                 bytes: word.spelling,
@@ -279,30 +284,30 @@ fn begin<'t>(
             if word.spelling == b"1".as_slice() {
                 leaf(draft, NodeKind::One, word.at)
             } else {
-                Err(StepFault::Wrong)
+                Err(TermFault::Wrong)
             }
         }
         TokenKind::Literal => literal(alloc, draft, word),
         TokenKind::Regex => body(alloc, stack.depth(), draft, word),
-        TokenKind::Tilde => open(stack, draft, Construct::Muted(word.at), word.at),
-        TokenKind::Bang => Ok(Wait::Writing(word.at)),
-        TokenKind::OpenBracket => Ok(Wait::Bracket(word.at)),
-        TokenKind::OpenParen => open(stack, draft, Construct::Mark(word.at), word.at),
+        TokenKind::Tilde => open(stack, draft, TermConstruct::Muted(word.at), word.at),
+        TokenKind::Bang => Ok(TermWait::Writing(word.at)),
+        TokenKind::OpenBracket => Ok(TermWait::Bracket(word.at)),
+        TokenKind::OpenParen => open(stack, draft, TermConstruct::Mark(word.at), word.at),
         TokenKind::Bar => {
             if free {
                 bar(stack, draft)
             } else {
-                Err(StepFault::Wrong)
+                Err(TermFault::Wrong)
             }
         }
         TokenKind::CloseParen => {
             if free {
                 close(stack, draft)
             } else {
-                Err(StepFault::Wrong)
+                Err(TermFault::Wrong)
             }
         }
-        _ => Err(StepFault::Wrong),
+        _ => Err(TermFault::Wrong),
     }
 }
 
@@ -317,7 +322,7 @@ pub(crate) fn end_turns(
 ) -> Result<(), Memory>
     requires { SomeTermTurned draft.old stack.old item bounds }
     ensures held { OnOk result (LosesNone draft.old draft.new
-        (IsHeld stack.old (Wait.Turned item bounds)) (InConstructs stack.new)) }
+        (IsHeld stack.old (TermWait.Turned item bounds)) (InConstructs stack.new)) }
     ensures keeps { OnOk result (Keeps draft.old draft.new) }
     ensures broken { OnOk result (draft.new.broken ≡ draft.old.broken) }
     ensures put { OnOk result (OnTermTurned draft.old stack.old item bounds (λ at base es a p.
@@ -341,10 +346,10 @@ pub(crate) fn end_turns(
 }
 
 // An atom that takes so many turns, from `low` on, up to `high`.
-fn turned<'t>(item: PlacedNode, low: u32, high: Option<u32>) -> Wait<'t>
-    ensures { result ≡ Wait.Turned item (record { low = low; high = high }) }
+fn turned<'t>(item: PlacedNode, low: u32, high: Option<u32>) -> TermWait<'t>
+    ensures { result ≡ TermWait.Turned item (record { low = low; high = high }) }
 {
-    Wait::Turned(item, Bounds { low, high })
+    TermWait::Turned(item, Bounds { low, high })
 }
 
 // A word behind an atom.
@@ -354,11 +359,12 @@ fn word_after_atom<'t>(
     draft: &mut Draft<'t>,
     item: PlacedNode,
     word: Word<'t>,
-) -> Result<Wait<'t>, StepFault>
+) -> Result<TermWait<'t>, TermFault>
     requires atom { SomeAtom draft.old stack.old item }
     requires token { IsToken word.kind word.spelling.now }
     requires place { word.at + length word.spelling.now < 2 ^ 32 }
-    ensures held { StepLosesNone draft.old draft.new stack.old (Wait.After item) stack.new result }
+    ensures held { StepLosesNone draft.old draft.new stack.old
+        (TermWait.After item) stack.new result }
     ensures keeps { OnOk result (Keeps draft.old draft.new) }
     ensures step { OnAtom draft.old stack.old item (λ at base es a.
         IsBehindAtom at base es a word.entry.at
@@ -371,7 +377,7 @@ fn word_after_atom<'t>(
         TokenKind::Star => Ok(turned(item, 0, None)),
         TokenKind::Plus => Ok(turned(item, 1, None)),
         TokenKind::Question => Ok(turned(item, 0, Some(1))),
-        TokenKind::OpenBrace => Ok(Wait::InCount(item, Count::Opened, word.at)),
+        TokenKind::OpenBrace => Ok(TermWait::InCount(item, Count::Opened, word.at)),
         _ => {
             put(stack, draft, item)?;
             begin(alloc, stack, draft, true, word)
@@ -387,12 +393,12 @@ fn word_after_turns<'t>(
     item: PlacedNode,
     bounds: Bounds,
     word: Word<'t>,
-) -> Result<Wait<'t>, StepFault>
+) -> Result<TermWait<'t>, TermFault>
     requires turned { SomeTermTurned draft.old stack.old item bounds }
     requires token { IsToken word.kind word.spelling.now }
     requires place { word.at + length word.spelling.now < 2 ^ 32 }
     ensures held { StepLosesNone draft.old draft.new stack.old
-        (Wait.Turned item bounds) stack.new result }
+        (TermWait.Turned item bounds) stack.new result }
     ensures keeps { OnOk result (Keeps draft.old draft.new) }
     ensures step { OnTermTurned draft.old stack.old item bounds (λ at base es a p.
         IsBehindTurns at base es a p word.entry.at
@@ -405,7 +411,7 @@ fn word_after_turns<'t>(
     match word.kind {
         TokenKind::Question => {
             end_turns(stack, draft, item, bounds, true)?;
-            Ok(Wait::Ready)
+            Ok(TermWait::Ready)
         }
         _ => {
             end_turns(stack, draft, item, bounds, false)?;
@@ -421,11 +427,11 @@ fn word_after_name<'t>(
     draft: &mut Draft<'t>,
     name: Name<'t>,
     word: Word<'t>,
-) -> Result<Wait<'t>, StepFault>
+) -> Result<TermWait<'t>, TermFault>
     requires constructs { SomeName draft.old stack.old name.at }
     requires token { IsToken word.kind word.spelling.now }
     requires place { word.at + length word.spelling.now < 2 ^ 32 }
-    ensures held { StepLosesNone draft.old draft.new stack.old Wait.Need stack.new result }
+    ensures held { StepLosesNone draft.old draft.new stack.old TermWait.Need stack.new result }
     ensures keeps { OnOk result (Keeps draft.old draft.new) }
     ensures step { Behind draft.old stack.old name.entry.at (λ at base es. word.entry.at
         ≡ at (base + length (entries es) + 1) → Steps draft.new at base stack.new result
@@ -441,9 +447,9 @@ fn word_after_name<'t>(
                 register,
                 at: name.at,
             };
-            open(stack, draft, Construct::Storing(store), name.at)
+            open(stack, draft, TermConstruct::Storing(store), name.at)
         }
-        TokenKind::Define => Err(StepFault::Wrong),
+        TokenKind::Define => Err(TermFault::Wrong),
         _ => {
             let item = call(draft, name)?;
             word_after_atom(alloc, stack, draft, item, word)
@@ -467,60 +473,66 @@ pub(crate) fn call<'t>(draft: &mut Draft<'t>, name: Name<'t>) -> Result<PlacedNo
 }
 
 // The register that is written.
-fn write<'t>(draft: &mut Draft<'t>, at: u32, word: Word<'t>) -> Result<Wait<'t>, StepFault>
-    ensures held { (fs : List Construct)
-        → StepLosesNone draft.old draft.new fs Wait.Need fs result }
+fn write<'t>(draft: &mut Draft<'t>, at: u32, word: Word<'t>) -> Result<TermWait<'t>, TermFault>
+    ensures held { (fs : List TermConstruct)
+        → StepLosesNone draft.old draft.new fs TermWait.Need fs result }
     ensures keeps { OnOk result (Keeps draft.old draft.new) }
     ensures broken { OnOk result (draft.new.broken ≡ draft.old.broken) }
     ensures step { BehindAny draft.old at (λ place base fs es. Steps draft.new place base fs result
         (on_name (λ n. goes (After (SpecWrite n)) es) (word_of word.entry))) }
 {
     let TokenKind::Name = word.kind else {
-        return Err(StepFault::Wrong);
+        return Err(TermFault::Wrong);
     };
     let register = draft.register(word.spelling)?;
     leaf(draft, NodeKind::Write(register), at)
 }
 
 // The register behind a bracket.
-fn bracket<'t>(draft: &mut Draft<'t>, at: u32, word: Word<'t>) -> Result<Wait<'t>, StepFault>
-    ensures held { (fs : List Construct)
-        → StepLosesNone draft.old draft.new fs Wait.Need fs result }
+fn bracket<'t>(draft: &mut Draft<'t>, at: u32, word: Word<'t>) -> Result<TermWait<'t>, TermFault>
+    ensures held { (fs : List TermConstruct)
+        → StepLosesNone draft.old draft.new fs TermWait.Need fs result }
     ensures keeps { OnOk result (Keeps draft.old draft.new) }
     ensures broken { OnOk result (draft.new.broken ≡ draft.old.broken) }
     ensures step { BehindAny draft.old at (λ place base fs es. Steps draft.new place base fs result
         (on_name (λ n. goes (BracketName n) es) (word_of word.entry))) }
 {
     let TokenKind::Name = word.kind else {
-        return Err(StepFault::Wrong);
+        return Err(TermFault::Wrong);
     };
     let register = draft.register(word.spelling)?;
-    Ok(Wait::BracketName(at, register))
+    Ok(TermWait::BracketName(at, register))
 }
 
 // The sign behind a register.
-fn sign<'t>(alloc: Global, at: u32, register: u32, kind: TokenKind) -> Result<Wait<'t>, StepFault>
+fn sign<'t>(
+    alloc: Global,
+    at: u32,
+    register: u32,
+    kind: TokenKind,
+) -> Result<TermWait<'t>, TermFault>
     ensures held { IfOk result (λ w. (x : Numbered) → x ≡ RegisterNumber register → InWait w x) }
-    ensures step { (made : Made) (place : ℕ → ℕ) (base : ℕ) (fs : List Construct) (es : List Entry)
+    ensures step { (made : Made) (place : ℕ → ℕ) (base : ℕ) (fs : List TermConstruct)
+        (es : List Entry)
         (r : List ℕ) (b : List ℕ) → ConstructsShow made place base fs es
         → at ≡ place (base + length (entries es))
         → IsRegister made register r
         → Steps made place base fs result (on_sign r es (grammar_word kind b)) }
 {
     match kind {
-        TokenKind::Arrow => Ok(Wait::Assigning(Assignment {
+        TokenKind::Arrow => Ok(TermWait::Assigning(Assignment {
             at,
             append: false,
             register,
             pieces: Vec::new(alloc),
         })),
-        TokenKind::PlusEquals => Ok(Wait::Assigning(Assignment {
+        TokenKind::PlusEquals => Ok(TermWait::Assigning(Assignment {
             at,
             append: true,
             register,
             pieces: Vec::new(alloc),
         })),
-        _ => Err(StepFault::Wrong),
+        _ => Err(TermFault::Wrong),
     }
 }
 
@@ -530,10 +542,10 @@ fn part<'t>(
     draft: &mut Draft<'t>,
     mut assignment: Assignment,
     word: Word<'t>,
-) -> Result<Wait<'t>, StepFault>
+) -> Result<TermWait<'t>, TermFault>
     requires token { IsToken word.kind word.spelling.now }
-    ensures held { (fs : List Construct)
-        → StepLosesNone draft.old draft.new fs (Wait.Assigning assignment) fs result }
+    ensures held { (fs : List TermConstruct)
+        → StepLosesNone draft.old draft.new fs (TermWait.Assigning assignment) fs result }
     ensures keeps { OnOk result (Keeps draft.old draft.new) }
     ensures broken { OnOk result (draft.new.broken ≡ draft.old.broken) }
     ensures first { FirstPart draft.old draft.new assignment result (word_of word.entry) }
@@ -542,10 +554,10 @@ fn part<'t>(
 {
     let read = piece(alloc, draft, word)?;
     let Some(piece) = read else {
-        return Err(StepFault::Wrong);
+        return Err(TermFault::Wrong);
     };
     assignment.pieces.push(piece)?;
-    Ok(Wait::Assigned(assignment))
+    Ok(TermWait::Assigned(assignment))
 }
 
 // A word behind a part.
@@ -554,13 +566,13 @@ fn word_after_part<'t>(
     draft: &mut Draft<'t>,
     assignment: Assignment,
     word: Word<'t>,
-) -> Result<Wait<'t>, StepFault>
+) -> Result<TermWait<'t>, TermFault>
     requires some { (place : ℕ → ℕ) × (i : ℕ) × (append : Bool) × (r : List ℕ) × (p : SpecPart)
         × (ps : List SpecPart)
-        × ShowsMode draft.old place i (Wait.Assigned assignment) (Assigned append r p ps) }
+        × ShowsMode draft.old place i (TermWait.Assigned assignment) (Assigned append r p ps) }
     requires token { IsToken word.kind word.spelling.now }
-    ensures held { (fs : List Construct)
-        → StepLosesNone draft.old draft.new fs (Wait.Assigned assignment) fs result }
+    ensures held { (fs : List TermConstruct)
+        → StepLosesNone draft.old draft.new fs (TermWait.Assigned assignment) fs result }
     ensures keeps { OnOk result (Keeps draft.old draft.new) }
     ensures broken { OnOk result (draft.new.broken ≡ draft.old.broken) }
     ensures step { NextPart draft.old draft.new assignment result (word_of word.entry) }
@@ -595,11 +607,12 @@ fn go_on_counting<'t>(
     item: PlacedNode,
     brace: u32,
     outcome: CountOutcome,
-) -> Result<Wait<'t>, StepFault>
-    ensures held { (fs : List Construct)
-        → StepLosesNone draft.old draft.new fs (Wait.After item) fs result }
+) -> Result<TermWait<'t>, TermFault>
+    ensures held { (fs : List TermConstruct)
+        → StepLosesNone draft.old draft.new fs (TermWait.After item) fs result }
     ensures keeps { OnOk result (Keeps draft.old draft.new) }
-    ensures step { (fs : List Construct) → OnAtom draft.old fs item (λ at base es a. (t : CountStep)
+    ensures step { (fs : List TermConstruct) → OnAtom draft.old fs item (λ at base es a.
+        (t : CountStep)
         → IsBehindAtom at base es a brace → ShowsCountStep outcome t
         → Steps draft.new at base fs result (on_count a es t)) }
     ensures notes { (t : CountStep) (from : ℕ) → brace ≡ from → ShowsCountStep outcome t
@@ -607,12 +620,12 @@ fn go_on_counting<'t>(
         → OnOk result (NotesLeast (cs ++ count_asks from t) draft.new.broken) }
 {
     match outcome {
-        CountOutcome::On(count) => Ok(Wait::InCount(item, count, brace)),
+        CountOutcome::On(count) => Ok(TermWait::InCount(item, count, brace)),
         CountOutcome::Read(bounds) => {
             note_count(draft, bounds, brace);
-            Ok(Wait::Turned(item, bounds))
+            Ok(TermWait::Turned(item, bounds))
         }
-        CountOutcome::Wrong => Err(StepFault::Wrong),
+        CountOutcome::Wrong => Err(TermFault::Wrong),
     }
 }
 
@@ -621,9 +634,9 @@ pub(crate) fn step_in<'t>(
     alloc: Global,
     stack: &mut Stack,
     draft: &mut Draft<'t>,
-    wait: Wait<'t>,
+    wait: TermWait<'t>,
     word: Word<'t>,
-) -> Result<Wait<'t>, StepFault>
+) -> Result<TermWait<'t>, TermFault>
     requires inside { SomeInside draft.old stack.old wait }
     requires token { IsToken word.kind word.spelling.now }
     requires place { word.at + length word.spelling.now < 2 ^ 32 }
@@ -636,17 +649,17 @@ pub(crate) fn step_in<'t>(
         (asks at (base + length (entries i.entries)) i.mode i.entries (word_of word.entry))) }
 {
     match wait {
-        Wait::Need => begin(alloc, stack, draft, false, word),
-        Wait::Ready => begin(alloc, stack, draft, true, word),
-        Wait::After(item) => word_after_atom(alloc, stack, draft, item, word),
-        Wait::Turned(item, bounds) => word_after_turns(alloc, stack, draft, item, bounds, word),
-        Wait::Named(_, name) => word_after_name(alloc, stack, draft, name, word),
-        Wait::Writing(at) => write(draft, at, word),
-        Wait::Bracket(at) => bracket(draft, at, word),
-        Wait::BracketName(at, register) => sign(alloc, at, register, word.kind),
-        Wait::Assigning(assignment) => part(alloc, draft, assignment, word),
-        Wait::Assigned(assignment) => word_after_part(alloc, draft, assignment, word),
-        Wait::InCount(item, count, brace) => go_on_counting(
+        TermWait::Need => begin(alloc, stack, draft, false, word),
+        TermWait::Ready => begin(alloc, stack, draft, true, word),
+        TermWait::After(item) => word_after_atom(alloc, stack, draft, item, word),
+        TermWait::Turned(item, bounds) => word_after_turns(alloc, stack, draft, item, bounds, word),
+        TermWait::Named(_, name) => word_after_name(alloc, stack, draft, name, word),
+        TermWait::Writing(at) => write(draft, at, word),
+        TermWait::Bracket(at) => bracket(draft, at, word),
+        TermWait::BracketName(at, register) => sign(alloc, at, register, word.kind),
+        TermWait::Assigning(assignment) => part(alloc, draft, assignment, word),
+        TermWait::Assigned(assignment) => word_after_part(alloc, draft, assignment, word),
+        TermWait::InCount(item, count, brace) => go_on_counting(
             draft,
             item,
             brace,

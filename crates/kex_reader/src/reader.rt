@@ -24,7 +24,7 @@ ghost use Rattle.kex_reader.specs.Syntax.{Atom, Call, Definition as SpecDefiniti
 ghost use Rattle.kex_reader.specs.Syntax.{Turns, Header, word as grammar_word};
 
 use crate::draft::Draft;
-use crate::inside::{StepFault, Wait, call, end_turns, step_in};
+use crate::inside::{TermFault, TermWait, call, end_turns, step_in};
 use crate::stack::{PlacedNode, Stack};
 use crate::terms::{close_term, put};
 use crate::word::{Name, Word};
@@ -66,7 +66,7 @@ pub(crate) enum Phase<'t> {
     StageRead,
     StageNext,
     HeadRead(Name<'t>),
-    Within(Head, Wait<'t>),
+    Within(Head, TermWait<'t>),
 }
 
 /// A program that is being read: what stands open in the definition, what is made, and the
@@ -95,16 +95,16 @@ impl<'t> Reader<'t> {
     }
 
     // A definition begins.
-    fn head(&mut self, name: Name<'t>) -> Result<Phase<'t>, StepFault>
+    fn head(&mut self, name: Name<'t>) -> Result<Phase<'t>, TermFault>
         ensures held { IfOk result (λ p.
             LosesNone self.old.draft self.new.draft (λ x. ⊥) (InPhase p)) }
         ensures keeps { OnOk result (Keeps self.old.draft self.new.draft) }
         ensures rest { OnOk result ((self.new.stack ≡ self.old.stack) × (self.new.definitions.items
             ≡ self.old.definitions.items) × (self.new.stages.items ≡ self.old.stages.items)) }
         ensures phase { IfOk result (λ p. (k : ℕ)
-            × (p ≡ Phase.Within (record { name = k; at = name.entry.at }) Wait.Need)
+            × (p ≡ Phase.Within (record { name = k; at = name.entry.at }) TermWait.Need)
             × IsName self.new.draft k name.entry.bytes.now) }
-        ensures fault { IfErr result (λ e. e ≡ StepFault.Memory) }
+        ensures fault { IfErr result (λ e. e ≡ TermFault.Memory) }
         ensures broken { OnOk result (self.new.draft.broken ≡ self.old.draft.broken) }
     {
         let number = self.draft.name(name.bytes)?;
@@ -113,12 +113,12 @@ impl<'t> Reader<'t> {
                 name: number,
                 at: name.at,
             },
-            Wait::Need,
+            TermWait::Need,
         ))
     }
 
     // A stage is named.
-    fn stage(&mut self, word: Word<'t>) -> Result<Phase<'t>, StepFault>
+    fn stage(&mut self, word: Word<'t>) -> Result<Phase<'t>, TermFault>
         ensures held { OnOk result (LosesNone self.old.draft self.new.draft
             (InStages self.old.stages.items) (InStages self.new.stages.items)) }
         ensures keeps { OnOk result (Keeps self.old.draft self.new.draft) }
@@ -127,14 +127,14 @@ impl<'t> Reader<'t> {
         ensures read { IfOk result (λ p. (k : ℕ) × (p ≡ Phase.StageRead) × (word.entry.kind
             ≡ TokenKind.Name) × IsName self.new.draft k word.entry.spelling.now × (self.new.stages.items
             ≡ self.old.stages.items ++ record { name = k; at = word.entry.at } ∷ [])) }
-        ensures fault { IfErr result (λ e. (e ≡ StepFault.Memory)
-            ⊎ ((e ≡ StepFault.Wrong) × (word.entry.kind ≡ TokenKind.Name → ⊥))) }
+        ensures fault { IfErr result (λ e. (e ≡ TermFault.Memory)
+            ⊎ ((e ≡ TermFault.Wrong) × (word.entry.kind ≡ TokenKind.Name → ⊥))) }
         ensures notes { (cs : List Check) → NotesLeast cs self.old.draft.broken
             → OnOk result (NotesLeast (cs ++ Staged word.entry.at (length self.old.stages.items + 1)
             ∷ []) self.new.draft.broken) }
     {
         let TokenKind::Name = word.kind else {
-            return Err(StepFault::Wrong);
+            return Err(TermFault::Wrong);
         };
         let name = self.draft.name(word.spelling)?;
         limit_stages(&mut self.draft, self.stages.len(), word.at);
@@ -143,7 +143,7 @@ impl<'t> Reader<'t> {
     }
 
     // The definition that is being read ends with what stands open.
-    fn end(&mut self, head: Head) -> Result<(), StepFault>
+    fn end(&mut self, head: Head) -> Result<(), TermFault>
         requires { SomeConstructs self.old.draft self.old.stack }
         ensures held { OnOk result
             (EndLosesNone self.old self.new head (InConstructs self.old.stack)) }
@@ -156,10 +156,10 @@ impl<'t> Reader<'t> {
     {
         let closed = close_term(&mut self.stack, &mut self.draft)?;
         let Some(term) = closed else {
-            return Err(StepFault::Wrong);
+            return Err(TermFault::Wrong);
         };
         if !self.stack.is_empty() {
-            return Err(StepFault::Wrong);
+            return Err(TermFault::Wrong);
         }
         self.definitions.push(Definition {
             name: head.name,
@@ -170,7 +170,12 @@ impl<'t> Reader<'t> {
     }
 
     // A word inside a definition.
-    fn go_on(&mut self, head: Head, wait: Wait<'t>, word: Word<'t>) -> Result<Phase<'t>, StepFault>
+    fn go_on(
+        &mut self,
+        head: Head,
+        wait: TermWait<'t>,
+        word: Word<'t>,
+    ) -> Result<Phase<'t>, TermFault>
         requires inside { SomeInside self.old.draft self.old.stack wait }
         requires token { IsToken word.kind word.spelling.now }
         requires place { word.at + length word.spelling.now < 2 ^ 32 }
@@ -191,18 +196,18 @@ impl<'t> Reader<'t> {
     }
 
     // Where the next definition begins, behind a name that needn't be a call.
-    fn next_definition(&mut self, head: Head, wait: Wait<'t>) -> Result<Phase<'t>, StepFault>
+    fn next_definition(&mut self, head: Head, wait: TermWait<'t>) -> Result<Phase<'t>, TermFault>
         requires { SomeInside self.old.draft self.old.stack wait }
         ensures held { ReaderLosesNone self.old (Phase.Within head wait.entry) self.new result }
         ensures step { WithinDefinition self.old head wait.entry (λ at h done name i.
             ReaderSteps self.new at result (step_within h done name i.mode i.entries Define)) }
         ensures broken { OnOk result (self.new.draft.broken ≡ self.old.draft.broken) }
     {
-        let Wait::Named(free, name) = wait else {
-            return Err(StepFault::Wrong);
+        let TermWait::Named(free, name) = wait else {
+            return Err(TermFault::Wrong);
         };
         if !free {
-            return Err(StepFault::Wrong);
+            return Err(TermFault::Wrong);
         }
         match self.end(head) {
             Ok(()) => self.head(name),
@@ -211,7 +216,7 @@ impl<'t> Reader<'t> {
     }
 
     // The first name is the start line's word, or a head.
-    fn first(&mut self, name: Name<'t>, kind: TokenKind) -> Result<Phase<'t>, StepFault>
+    fn first(&mut self, name: Name<'t>, kind: TokenKind) -> Result<Phase<'t>, TermFault>
         ensures held { ReaderLosesNone self.old (Phase.FirstName name.entry) self.new result }
         ensures step { (at : ℕ → ℕ) (n b : List ℕ)
             → ReaderShows self.old at (Phase.FirstName name.entry) (FirstName n)
@@ -224,15 +229,15 @@ impl<'t> Reader<'t> {
                 if name.bytes == b"start".as_slice() {
                     Ok(Phase::StartLine)
                 } else {
-                    Err(StepFault::Wrong)
+                    Err(TermFault::Wrong)
                 }
             }
-            _ => Err(StepFault::Wrong),
+            _ => Err(TermFault::Wrong),
         }
     }
 
     // A word more.
-    pub(crate) fn step(&mut self, phase: Phase<'t>, word: Word<'t>) -> Result<Phase<'t>, StepFault>
+    pub(crate) fn step(&mut self, phase: Phase<'t>, word: Word<'t>) -> Result<Phase<'t>, TermFault>
         requires some { InState self.old phase }
         requires token { IsToken word.kind word.spelling.now }
         requires place { word.at + length word.spelling.now < 2 ^ 32 }
@@ -252,19 +257,19 @@ impl<'t> Reader<'t> {
         match phase {
             Phase::Begin => match word.kind {
                 TokenKind::Name => Ok(Phase::FirstName(name)),
-                _ => Err(StepFault::Wrong),
+                _ => Err(TermFault::Wrong),
             },
             Phase::FirstName(first) => self.first(first, word.kind),
             Phase::StartLine => self.stage(word),
             Phase::StageRead => match word.kind {
                 TokenKind::Pipe => Ok(Phase::StageNext),
                 TokenKind::Name => Ok(Phase::HeadRead(name)),
-                _ => Err(StepFault::Wrong),
+                _ => Err(TermFault::Wrong),
             },
             Phase::StageNext => self.stage(word),
             Phase::HeadRead(head) => match word.kind {
                 TokenKind::Define => self.head(head),
-                _ => Err(StepFault::Wrong),
+                _ => Err(TermFault::Wrong),
             },
             Phase::Within(head, wait) => match word.kind {
                 TokenKind::Define => self.next_definition(head, wait),
@@ -274,7 +279,7 @@ impl<'t> Reader<'t> {
     }
 
     // The last definition ends with the text.
-    fn finish_within(&mut self, head: Head, wait: Wait<'t>) -> Result<(), StepFault>
+    fn finish_within(&mut self, head: Head, wait: TermWait<'t>) -> Result<(), TermFault>
         requires { SomeInside self.old.draft self.old.stack wait }
         ensures held { FinishLosesNone self.old (Phase.Within head wait.entry) self.new result }
         ensures ends { WithinDefinition self.old head wait.entry (λ at h done name i.
@@ -282,17 +287,17 @@ impl<'t> Reader<'t> {
         ensures broken { OnOk result (self.new.draft.broken ≡ self.old.draft.broken) }
     {
         match wait {
-            Wait::Ready => return self.end(head),
-            Wait::After(item) => return self.end_with(head, item),
-            Wait::Turned(item, bounds) => return self.end_turned(head, item, bounds),
-            Wait::Named(_, name) => return self.end_call(head, name),
+            TermWait::Ready => return self.end(head),
+            TermWait::After(item) => return self.end_with(head, item),
+            TermWait::Turned(item, bounds) => return self.end_turned(head, item, bounds),
+            TermWait::Named(_, name) => return self.end_call(head, name),
             _ => {}
         }
-        Err(StepFault::Wrong)
+        Err(TermFault::Wrong)
     }
 
     // The last definition ends with this call.
-    fn end_call(&mut self, head: Head, name: Name<'t>) -> Result<(), StepFault>
+    fn end_call(&mut self, head: Head, name: Name<'t>) -> Result<(), TermFault>
         requires { SomeName self.old.draft self.old.stack name.at }
         ensures held { OnOk result
             (EndLosesNone self.old self.new head (InConstructs self.old.stack)) }
@@ -308,7 +313,7 @@ impl<'t> Reader<'t> {
     }
 
     // The last definition ends with this atom and its postfix.
-    fn end_turned(&mut self, head: Head, item: PlacedNode, bounds: Bounds) -> Result<(), StepFault>
+    fn end_turned(&mut self, head: Head, item: PlacedNode, bounds: Bounds) -> Result<(), TermFault>
         requires { SomeTermTurned self.old.draft self.old.stack item bounds }
         ensures held { OnOk result (EndLosesNone self.old self.new head (λ x.
             (x ≡ NodeNumber item.node) ⊎ InConstructs self.old.stack x)) }
@@ -324,7 +329,7 @@ impl<'t> Reader<'t> {
     }
 
     // The last definition ends with this atom.
-    fn end_with(&mut self, head: Head, item: PlacedNode) -> Result<(), StepFault>
+    fn end_with(&mut self, head: Head, item: PlacedNode) -> Result<(), TermFault>
         requires { SomeAtom self.old.draft self.old.stack item }
         ensures held { OnOk result (EndLosesNone self.old self.new head (λ x.
             (x ≡ NodeNumber item.node) ⊎ InConstructs self.old.stack x)) }
@@ -339,7 +344,7 @@ impl<'t> Reader<'t> {
     }
 
     // The text ends.
-    pub(crate) fn finish(&mut self, phase: Phase<'t>) -> Result<(), StepFault>
+    pub(crate) fn finish(&mut self, phase: Phase<'t>) -> Result<(), TermFault>
         requires { InState self.old phase }
         ensures held { FinishLosesNone self.old phase.entry self.new result }
         ensures ends { (at : ℕ → ℕ) (s : State) → ReaderShows self.old at phase.entry s
@@ -350,7 +355,7 @@ impl<'t> Reader<'t> {
             Phase::Begin => Ok(()),
             Phase::StageRead => Ok(()),
             Phase::Within(head, wait) => self.finish_within(head, wait),
-            _ => Err(StepFault::Wrong),
+            _ => Err(TermFault::Wrong),
         }
     }
 }

@@ -25,7 +25,7 @@ pub(crate) struct PlacedRegister {
 /// An open parenthesis; a sequence that a bar has ended; a member of the sequence that is being
 /// read; a prefix that waits for what it stands before.
 #[derive(Clone, Copy)]
-pub(crate) enum Construct {
+pub(crate) enum TermConstruct {
     Mark(u32),
     Ended(PlacedNode),
     Done(PlacedNode),
@@ -43,30 +43,30 @@ pub(crate) enum Prefix {
 /// Constructs, the newest on top, and how many of them are parentheses or prefixes.
 #[derive(Drop)]
 pub(crate) struct Stack {
-    constructs: Vec<Construct>,
+    constructs: Vec<TermConstruct>,
     depth: usize,
 }
 
 impl Model for Stack {
     ghost use Rattle.std.specs.Prelude.{◌≡◌, List, reverse};
-    ghost use Rattle.kex_reader.specs.declared.stack.Construct.{Construct};
+    ghost use Rattle.kex_reader.specs.declared.stack.TermConstruct.{TermConstruct};
     ghost use Rattle.kex_reader.specs.Stands.{open_constructs};
 
-    ghost Value = { List Construct };
+    ghost Value = { List TermConstruct };
 
     ghost view = { λ s. reverse s.constructs.items };
 
     ghost invariant = { λ s. s.depth ≡ open_constructs (reverse s.constructs.items) };
 }
 
-impl Construct {
+impl TermConstruct {
     fn is_open(self) -> bool
         ensures { result ≡ is_opening self }
     {
         match self {
-            Construct::Mark(_) => true,
-            Construct::Muted(_) => true,
-            Construct::Storing(_) => true,
+            TermConstruct::Mark(_) => true,
+            TermConstruct::Muted(_) => true,
+            TermConstruct::Storing(_) => true,
             _ => false,
         }
     }
@@ -95,7 +95,7 @@ impl Stack {
         self.constructs.is_empty()
     }
 
-    pub(crate) fn push(&mut self, construct: Construct) -> Result<(), Memory>
+    pub(crate) fn push(&mut self, construct: TermConstruct) -> Result<(), Memory>
         ensures { OnOk result (self.new ≡ construct ∷ self.old) }
     {
         self.constructs.push(construct)?;
@@ -107,12 +107,12 @@ impl Stack {
 
     // Takes a member from the top.
     pub(crate) fn take_done(&mut self) -> Option<PlacedNode>
-        ensures some { IfSome result (λ p. self.old ≡ Construct.Done p ∷ self.new) }
+        ensures some { IfSome result (λ p. self.old ≡ TermConstruct.Done p ∷ self.new) }
         ensures none { IfNone result (self.new ≡ self.old) }
-        ensures top { IfNone result ((p : PlacedNode) (fs : List Construct)
-            → self.old ≡ Construct.Done p ∷ fs → ⊥) }
+        ensures top { IfNone result ((p : PlacedNode) (fs : List TermConstruct)
+            → self.old ≡ TermConstruct.Done p ∷ fs → ⊥) }
     {
-        if let Some(&Construct::Done(part)) = self.constructs.last() {
+        if let Some(&TermConstruct::Done(part)) = self.constructs.last() {
             self.constructs.pop();
             return Some(part);
         }
@@ -121,12 +121,12 @@ impl Stack {
 
     // Takes a sequence that a bar has ended from the top.
     pub(crate) fn take_ended(&mut self) -> Option<PlacedNode>
-        ensures some { IfSome result (λ p. self.old ≡ Construct.Ended p ∷ self.new) }
+        ensures some { IfSome result (λ p. self.old ≡ TermConstruct.Ended p ∷ self.new) }
         ensures none { IfNone result (self.new ≡ self.old) }
-        ensures top { IfNone result ((p : PlacedNode) (fs : List Construct)
-            → self.old ≡ Construct.Ended p ∷ fs → ⊥) }
+        ensures top { IfNone result ((p : PlacedNode) (fs : List TermConstruct)
+            → self.old ≡ TermConstruct.Ended p ∷ fs → ⊥) }
     {
-        if let Some(&Construct::Ended(part)) = self.constructs.last() {
+        if let Some(&TermConstruct::Ended(part)) = self.constructs.last() {
             self.constructs.pop();
             return Some(part);
         }
@@ -135,11 +135,11 @@ impl Stack {
 
     // Takes a parenthesis from the top.
     pub(crate) fn take_mark(&mut self) -> Option<u32>
-        ensures some { IfSome result (λ at. self.old ≡ Construct.Mark at ∷ self.new) }
-        ensures top { IfNone result ((at : ℕ) (fs : List Construct)
-            → self.old ≡ Construct.Mark at ∷ fs → ⊥) }
+        ensures some { IfSome result (λ at. self.old ≡ TermConstruct.Mark at ∷ self.new) }
+        ensures top { IfNone result ((at : ℕ) (fs : List TermConstruct)
+            → self.old ≡ TermConstruct.Mark at ∷ fs → ⊥) }
     {
-        if let Some(&Construct::Mark(at)) = self.constructs.last() {
+        if let Some(&TermConstruct::Mark(at)) = self.constructs.last() {
             self.constructs.pop();
             self.depth -= 1;
             return Some(at);
@@ -149,12 +149,12 @@ impl Stack {
 
     // Takes a `~` from the top.
     fn take_muted(&mut self) -> Option<u32>
-        ensures some { IfSome result (λ at. self.old ≡ Construct.Muted at ∷ self.new) }
+        ensures some { IfSome result (λ at. self.old ≡ TermConstruct.Muted at ∷ self.new) }
         ensures none { IfNone result (self.new ≡ self.old) }
-        ensures top { IfNone result ((at : ℕ) (fs : List Construct)
-            → self.old ≡ Construct.Muted at ∷ fs → ⊥) }
+        ensures top { IfNone result ((at : ℕ) (fs : List TermConstruct)
+            → self.old ≡ TermConstruct.Muted at ∷ fs → ⊥) }
     {
-        if let Some(&Construct::Muted(at)) = self.constructs.last() {
+        if let Some(&TermConstruct::Muted(at)) = self.constructs.last() {
             self.constructs.pop();
             self.depth -= 1;
             return Some(at);
@@ -164,12 +164,12 @@ impl Stack {
 
     // Takes a register that waits from the top.
     fn take_storing(&mut self) -> Option<PlacedRegister>
-        ensures some { IfSome result (λ s. self.old ≡ Construct.Storing s ∷ self.new) }
+        ensures some { IfSome result (λ s. self.old ≡ TermConstruct.Storing s ∷ self.new) }
         ensures none { IfNone result (self.new ≡ self.old) }
-        ensures top { IfNone result ((s : PlacedRegister) (fs : List Construct)
-            → self.old ≡ Construct.Storing s ∷ fs → ⊥) }
+        ensures top { IfNone result ((s : PlacedRegister) (fs : List TermConstruct)
+            → self.old ≡ TermConstruct.Storing s ∷ fs → ⊥) }
     {
-        if let Some(&Construct::Storing(store)) = self.constructs.last() {
+        if let Some(&TermConstruct::Storing(store)) = self.constructs.last() {
             self.constructs.pop();
             self.depth -= 1;
             return Some(store);
@@ -181,10 +181,10 @@ impl Stack {
     pub(crate) fn take_prefix(&mut self) -> Option<Prefix>
         ensures some { IfSome result (λ p. self.old ≡ construct_of p ∷ self.new) }
         ensures none { IfNone result (self.new ≡ self.old) }
-        ensures muted { IfNone result ((at : ℕ) (fs : List Construct)
-            → self.old ≡ Construct.Muted at ∷ fs → ⊥) }
-        ensures storing { IfNone result ((s : PlacedRegister) (fs : List Construct)
-            → self.old ≡ Construct.Storing s ∷ fs → ⊥) }
+        ensures muted { IfNone result ((at : ℕ) (fs : List TermConstruct)
+            → self.old ≡ TermConstruct.Muted at ∷ fs → ⊥) }
+        ensures storing { IfNone result ((s : PlacedRegister) (fs : List TermConstruct)
+            → self.old ≡ TermConstruct.Storing s ∷ fs → ⊥) }
     {
         if let Some(at) = self.take_muted() {
             return Some(Prefix::Mute(at));

@@ -11,7 +11,7 @@ ghost use Rattle.kex_reader.specs.Uses.{NodeNumber};
 ghost use Rattle.kex_reader.specs.Syntax.{Pre};
 
 use crate::draft::Draft;
-use crate::stack::{Construct, PlacedNode, Prefix, Stack};
+use crate::stack::{PlacedNode, Prefix, Stack, TermConstruct};
 use kex_code::memory::Memory;
 use kex_model::program::Kind;
 
@@ -32,7 +32,7 @@ pub(crate) fn put(stack: &mut Stack, draft: &mut Draft, part: PlacedNode) -> Res
         let more = prefixed(draft, prefix, whole)?;
         whole = more;
     }
-    stack.push(Construct::Done(whole))?;
+    stack.push(TermConstruct::Done(whole))?;
     Ok(())
 }
 

@@ -14,7 +14,7 @@ ghost use Rattle.kex_reader.specs.Syntax.{Program as Tree, header};
 ghost use Rattle.kex_reader.specs.Uses.{InDefinitions, InNodes, InStages, NoneSpare, Numbered};
 
 use crate::draft::Draft;
-use crate::inside::StepFault;
+use crate::inside::TermFault;
 use crate::reader::{Phase, Reader};
 use crate::refusal::ReadRefusal;
 use crate::word::Word;
@@ -50,12 +50,12 @@ fn limit_refusal(broken: Break) -> ReadRefusal
 }
 
 // Why the text is refused where there is no next step.
-fn step_refusal(fault: StepFault, at: u32) -> ReadRefusal
+fn step_refusal(fault: TermFault, at: u32) -> ReadRefusal
     ensures { result ≡ of_step fault at }
 {
     match fault {
-        StepFault::Memory => ReadRefusal::Memory,
-        StepFault::Wrong => ReadRefusal::Unexpected { at },
+        TermFault::Memory => ReadRefusal::Memory,
+        TermFault::Wrong => ReadRefusal::Unexpected { at },
     }
 }
 

@@ -2,7 +2,7 @@ use Rattle.std.proofs.Common.{refl, subst, inl, inr}
 use Rattle.kex_reader.proofs.Steps.{memory_exit}
 use Rattle.kex_reader.specs.Syntax.{word}
 use Rattle.kex_reader.proofs.Modes.{first_wrong, first_on, next_wrong, next_on}
-use Rattle.kex_reader.specs.declared.inside.Wait.TheVariants.{Assigning}
+use Rattle.kex_reader.specs.declared.inside.TermWait.TheVariants.{Assigning}
 use Rattle.kex_reader.specs.Stands.{IsHeld}
 use Rattle.kex_reader.proofs.Uses.{beside, piece_on, pieces_are, pieces_under}
 use Rattle.kex_reader.proofs.inside.part.Goals as goal

@@ -2,7 +2,7 @@ use Rattle.std.proofs.Common.{◌+◌, ◌++◌, [], length, sym, ◌∙◌, sub
 use Rattle.kex_reader.specs.Syntax.{atom, postfix}
 use Rattle.kex_reader.specs.Reading.{entries, After}
 use Rattle.kex_reader.proofs.Steps.{to}
-use Rattle.kex_reader.specs.declared.inside.Wait.TheVariants as waits
+use Rattle.kex_reader.specs.declared.inside.TermWait.TheVariants as waits
 use Rattle.kex_reader.specs.Reading.{Assigned, Need, Ready, Turned, Named, Writing, Bracket, BracketName, Assigning, InCount, count_step}
 use Rattle.kex_reader.specs.Syntax.{word}
 use Rattle.kex_regexp.specs.Holding.{ShowsCountStep}

@@ -9,7 +9,7 @@ use Rattle.kex_reader.proofs.Modes.{call_place}
 use Rattle.kex_reader.proofs.MoreChecks.{on_apply, on_from, moved, named_at_asks, named_after}
 use Rattle.kex_reader.proofs.Stacks.{depth_is}
 use Rattle.kex_reader.proofs.MoreChecks.{call_asks}
-use Rattle.kex_reader.specs.declared.inside.Wait.TheVariants.{After}
+use Rattle.kex_reader.specs.declared.inside.TermWait.TheVariants.{After}
 use Rattle.kex_reader.specs.Stands.{InConstructs, IsHeld}
 use Rattle.kex_reader.specs.Uses.{RegisterNumber}
 use Rattle.kex_reader.proofs.Uses.{beside, step_then}

@@ -1,5 +1,5 @@
 use Rattle.std.proofs.Common.{◌+◌, length, ap, ◌∙◌, subst, inl, inr}
-use Rattle.kex_reader.specs.declared.inside.Wait.TheVariants as waits
+use Rattle.kex_reader.specs.declared.inside.TermWait.TheVariants as waits
 use Rattle.kex_reader.specs.Reading.{take_term, entries, before, Named}
 use Rattle.kex_reader.specs.Holding.{whole_term}
 use Rattle.kex_reader.specs.Stands.{ShowsMode}

@@ -1,5 +1,5 @@
 use Rattle.std.proofs.Common.{rules, ap, ◌∙◌}
-use Rattle.kex_reader.specs.declared.stack.Construct.TheVariants as constructs
+use Rattle.kex_reader.specs.declared.stack.TermConstruct.TheVariants as constructs
 use Rattle.kex_reader.specs.Stands.{open_constructs}
 use Rattle.kex_reader.proofs.OpenConstructs.{pushed}
 use Rattle.kex_reader.proofs.stack.Stack.take_ended.Goals as goal
