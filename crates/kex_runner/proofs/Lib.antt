@@ -7,3 +7,5 @@ pub mod ByteSteps
 pub mod ScriptSteps
 pub mod QuietUpdates
 pub mod FedRunners
+pub mod Settlings
+pub mod CourseFeeds

@@ -5,3 +5,5 @@ pub mod Items
 pub mod Running
 pub mod Following
 pub mod Quiet
+pub mod Places
+pub mod Applying

@@ -17,6 +17,14 @@ pub enum Ended {
     Cut,
 }
 
+/// What a summary leaves: its text was taken whole, or nothing, since the table stops behind so
+/// many of its bytes.
+#[derive(Clone, Copy, Debug, PartialEq, Eq)]
+pub enum Applied {
+    On,
+    Gone(u64),
+}
+
 pub(crate) fn answer_of(dead: bool) -> Fed
     ensures { result ≡ runner_answer dead }
 {

@@ -30,4 +30,4 @@ mod spelling;
 mod walking;
 mod ways;
 
-pub use answers::{Ended, Fed};
+pub use answers::{Applied, Ended, Fed};

@@ -1,5 +1,7 @@
 // Registers, and what an update does to them.
 
+mod settling;
+
 ghost use Rattle.std.specs.Prelude.{◌≡◌, ◌≢◌, ◌+◌, ◌-◌, ◌<◌, ◌≤◌, [], ◌∷◌, ◌++◌, OnOk, OnErr, IfOk};
 ghost use Rattle.std.specs.Prelude.{IfSome, All, true, false, length, get_or, map, reverse};
 ghost use Rattle.std.specs.Prelude.{slice_get, take};

@@ -1,5 +1,8 @@
 // A runner.
 
+mod applying;
+mod places;
+
 ghost use Rattle.std.specs.Prelude.{◌≡◌, ℕ, ◌+◌, ◌^◌, ◌<◌, ◌≤◌, ◌++◌, [], List, IfOk, OnOk, OnErr};
 ghost use Rattle.std.specs.Prelude.{IsTrue, IsOk, ◌↔◌, true, false, Some, length, take};
 ghost use Rattle.kex_code.specs.declared.symbol.Symbol.{Symbol};

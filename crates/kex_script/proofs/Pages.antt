@@ -60,6 +60,14 @@ tail_kept words words' lists lists' x whole kw kl h = record {
   joined = h.joined;
 }
 
+-- more words
+pub tails_over : (words words' lists : List (List Part)) (tails : List Tail) → KeepsItems words words' → AreTails words lists tails → AreTails words' lists tails
+tails_over words words' lists tails kw h = record {
+  empty = h.empty;
+  as_many = h.as_many;
+  each = λ k x some at. tail_kept words words' lists lists x (get_or lists k []) kw (keeps_same lists) (h.each k x some at);
+}
+
 below : (k n : ℕ) → k < n + 1 → (k < n) ⊎ (k ≡ n)
 below zero zero lt = inr refl
 below zero (suc n) lt = inl (omega arith)

@@ -4,10 +4,12 @@ use Rattle.std.specs.Prelude.{◌≡◌, ℕ, zero, suc, ◌+◌, ◌*◌, ◌<�
 use Rattle.std.specs.Prelude.{Option, Some, None, ◌↔◌, get_or, slice_get, length}
 use Rattle.kex_byteset.specs.Classes.{class_count}
 use Rattle.kex_sst.specs.declared.parts.Part.{Part}
-use Rattle.kex_sst.specs.declared.parts.Part.TheVariants.{Old}
+use Rattle.kex_code.specs.declared.symbol.Symbol.TheVariants.{L, R}
+use Rattle.kex_sst.specs.declared.parts.Part.TheVariants.{Put, Old, Input}
 use Rattle.kex_sst.specs.declared.table.Transition.{Transition}
 use Rattle.kex_sst.specs.Parts.{Change, olds, olds_in}
 use Rattle.kex_sst.specs.Tables.{Transducer, IsTable, transition_of}
+use Rattle.kex_script.specs.declared.letters.Letters.{Letters}
 use Rattle.kex_script.specs.declared.script.Tail.{Tail}
 use Rattle.kex_script.specs.declared.script.Entry.{Entry}
 
@@ -70,6 +72,12 @@ pub record AreTails (words lists : List (List Part)) (tails : List Tail) : Type 
   pub as_many : length tails ≡ length lists
   pub each : (k : ℕ) (x : Tail) → 0 < k → slice_get tails k ≡ Some x
       → IsTail words lists x (get_or lists k [])
+
+-- the words of these numbers are L, R, and the byte that is read
+pub record AreLetters (words : List (List Part)) (letters : Letters) : Type 0 where
+  pub left : slice_get words letters.left ≡ Some (Put L ∷ [])
+  pub right : slice_get words letters.right ≡ Some (Put R ∷ [])
+  pub byte : slice_get words letters.byte ≡ Some (Input ∷ [])
 
 -- the entry has a target and an update
 pub record HasUpdate (s : Sheet) (e : Entry) (to : ℕ) (u : Change) : Type 0 where

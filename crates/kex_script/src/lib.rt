@@ -17,6 +17,7 @@
 #![tactic(auto)]
 
 pub mod interned;
+pub mod letters;
 pub mod piece;
 mod rows;
 pub mod script;

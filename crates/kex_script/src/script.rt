@@ -2,8 +2,10 @@
 
 ghost use Rattle.std.specs.Prelude.{◌≡◌, ◌+◌, ◌*◌, ◌<◌, [], suc, false, Option, Some, None, IfOk};
 ghost use Rattle.std.specs.Prelude.{MatchOption, get_or, slice_get, length};
-ghost use Rattle.kex_script.specs.Scripts.{IsScriptOf, IsTail, change_at, entry_at, list_at};
+ghost use Rattle.kex_script.specs.Scripts.{AreLetters, IsScriptOf, IsTail, change_at, entry_at};
+ghost use Rattle.kex_script.specs.Scripts.{list_at};
 
+use crate::letters::Letters;
 use crate::writer::Writer;
 use kex_code::memory::Memory;
 use kex_sst::parts::{Part, Parts};
@@ -39,10 +41,11 @@ pub struct Entry {
 /// The lists of a table's updates by number, each as parts and from its end, and the words that
 /// they end with; the updates, in rows: how many registers are given something, the number of the
 /// list that is passed on, and those of the registers; and for each state, and in it for each
-/// class, an entry.
+/// class, an entry. Each symbol is a word.
 #[derive(Drop)]
 pub struct Script {
     words: Vec<Parts>,
+    letters: Letters,
     lists: Vec<Parts>,
     tails: Vec<Tail>,
     rows: Vec<u32>,
@@ -52,7 +55,7 @@ pub struct Script {
 }
 
 impl Model for Script {
-    ghost use Rattle.kex_script.specs.Scripts.{AreTails, Sheet};
+    ghost use Rattle.kex_script.specs.Scripts.{AreLetters, AreTails, Sheet};
 
     ghost Value = { Sheet };
 
@@ -67,7 +70,8 @@ impl Model for Script {
           width = s.width;
         } };
 
-    ghost invariant = { λ s. AreTails s.words.items s.lists.items s.tails.items };
+    ghost invariant = { λ s. AreTails s.words.items s.lists.items s.tails.items
+        × AreLetters s.words.items s.letters };
 }
 
 // What stands at a place of the rows.
@@ -89,9 +93,11 @@ impl Script {
         let mut writer = Writer::new(alloc)?;
         let initial = writer.transition(0, table.initial())?;
         let entries = writer.entries(alloc, table.states())?;
+        let letters = writer.letters()?;
         let (words, lists, tails, rows) = writer.finish();
         Ok(Script {
             words,
+            letters,
             lists,
             tails,
             rows,
@@ -106,6 +112,13 @@ impl Script {
         ensures { result.now ≡ self.now.words }
     {
         &self.words
+    }
+
+    /// The numbers of the words of one symbol.
+    pub fn letters(&self) -> Letters
+        ensures { AreLetters self.now.words result }
+    {
+        self.letters
     }
 
     /// What is done before the first byte.

@@ -6,15 +6,17 @@ ghost use Rattle.std.specs.Prelude.{slice_get, take, drop};
 ghost use Rattle.kex_sst.specs.Parts.{olds, olds_in};
 ghost use Rattle.kex_sst.specs.Tables.{Row};
 ghost use Rattle.kex_sst.specs.declared.table.Transition.{Transition};
-ghost use Rattle.kex_script.specs.Scripts.{IsWord};
+ghost use Rattle.kex_script.specs.Scripts.{AreLetters, IsWord};
 ghost use Rattle.kex_script.specs.Pages.{AreEntries, AreListsAt, AreSound, PagesGrow, HasRow};
 ghost use Rattle.kex_script.specs.Pages.{HasRowIf, IsJoined, IsListAt, IsRow, IsSegment};
 ghost use Rattle.kex_script.specs.Pages.{KeepsItems};
 
 use crate::interned::Interned;
+use crate::letters::Letters;
 use crate::rows::Rows;
 use crate::script::{Entry, Tail};
 use kex_code::memory::Memory;
+use kex_code::symbol::Symbol;
 use kex_sst::parts::{Part, Parts, Update};
 use kex_sst::table::{State, Transition};
 use std::alloc::Global;
@@ -308,6 +310,21 @@ impl Writer {
             self.state(state.go(), &mut entries)?;
         }
         Ok(entries)
+    }
+
+    /// The numbers of the words of one symbol.
+    pub fn letters(&mut self) -> Result<Letters, Memory>
+        requires sound { AreSound self.old }
+        ensures letters { IfOk result (λ letters. AreLetters self.new.words letters) }
+        ensures sound { OnOk result (AreSound self.new) }
+        ensures same { OnOk result ((self.new.lists ≡ self.old.lists)
+            × (self.new.rows ≡ self.old.rows)) }
+    {
+        Ok(Letters {
+            left: self.words.number(&[Part::Put(Symbol::L)])?,
+            right: self.words.number(&[Part::Put(Symbol::R)])?,
+            byte: self.words.number(&[Part::Input])?,
+        })
     }
 
     /// The words, the lists, their tails and the rows.

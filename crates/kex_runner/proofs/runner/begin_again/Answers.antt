@@ -1,4 +1,4 @@
-use Rattle.std.proofs.Common.{◌≡◌, ◌++◌, [], sym, ap, ap₂, subst, ◌∙◌}
+use Rattle.std.proofs.Common.{◌≡◌, ◌++◌, [], sym, ap, subst, ◌∙◌}
 use Rattle.kex_sst.specs.Parts.{parts_code}
 use Rattle.kex_sst.specs.Passes.{first_pass}
 use Rattle.kex_script.specs.Pieces.{code_over}

@@ -17,12 +17,14 @@ returns c =
     let width : c.classes.result ≡ class_count t.classes = c.classes.ensures.count ∙ ap class_count c.partition.ensures.same in
     let all : List (Option Transition) = flat_map (λ (s : Row). s.go) t.states in
     let entries : AreEntries p s.entries all = subst (λ z. AreEntries p s.entries (flat_map (λ (s : Row). s.go) z)) c.states.ensures.same c.in_ok-entries.ensures.entries in
+    let lists : s.lists ≡ p.lists = c.finish-words.ensures.lists ∙ c.in_ok-letters.ensures.same.0 in
+    let rows : s.rows ≡ p.rows = c.finish-words.ensures.rows ∙ c.in_ok-letters.ensures.same.1 in
     let table : IsTable t = c.partition.ensures.table in
     record {
       table = table;
-      initial = has_update s p c.finish-words.ensures.lists c.finish-words.ensures.rows s.initial 0 t.initial (subst (λ z. HasRow p s.initial 0 z) c.initial.ensures.same (has_kept c.transition.new.self p s.initial 0 c.initial.result.now c.in_ok-entries.ensures.grown c.in_ok-initial.ensures.entry));
+      initial = has_update s p lists rows s.initial 0 t.initial (subst (λ z. HasRow p s.initial 0 z) c.initial.ensures.same (has_kept c.transition.new.self p s.initial 0 c.initial.result.now c.in_ok-entries.ensures.grown c.in_ok-initial.ensures.entry));
       entries = λ state class lt.
           let long : (i : ℕ) (r : Row) → slice_get t.states i ≡ Some r → length r.go ≡ c.classes.result = λ i r at. (table.states i r at).long ∙ sym width in
           let here = flat_at c.classes.result class (subst (λ z. class < z) (sym width) lt) t.states long state in
-          subst (λ z. IsEntryOf s (get_or s.entries (state * s.width + class) no_entry) z) here (entry_there s p c.finish-words.ensures.lists c.finish-words.ensures.rows s.entries all (state * s.width + class) entries);
+          subst (λ z. IsEntryOf s (get_or s.entries (state * s.width + class) no_entry) z) here (entry_there s p lists rows s.entries all (state * s.width + class) entries);
     }

@@ -1,0 +1,4 @@
+pub mod MovedLists
+pub mod Alongs
+pub mod Sums
+pub mod Feeds

@@ -1,0 +1,231 @@
+// A runner is fed a piece by the summaries of its parts.
+
+ghost use Rattle.std.specs.Prelude.{◌≡◌, ◌+◌, ◌<◌, ◌≤◌, ◌^◌, [], IfOk, OnOk, IsTrue, IsOk};
+ghost use Rattle.std.specs.Prelude.{Some, ◌∷◌, ◌↔◌, true, false, length};
+ghost use Rattle.std.specs.Thread.{IsSync};
+ghost use Rattle.kex_sst.specs.Summaries.{sum_of};
+ghost use Rattle.kex_runner.specs.Running.{RunnerFeeds};
+ghost use Rattle.kex_chunks.specs.Parts.{AreSummaries};
+
+use crate::summing::chunk;
+use kex_code::code::Code;
+use kex_code::memory::Memory;
+use kex_ports::{Gate, Steps};
+use kex_runner::runner::Runner;
+use kex_runner::{Applied, Fed};
+use kex_sst::summary::Summary;
+use kex_sst::table::Table;
+use std::alloc::Global;
+use std::marker::Brand;
+use std::sync::ledger::{Blank, Ledger};
+use std::thread::{Threads, join_mut};
+
+// The most states that a table has whose pieces are cut into parts: a summary has a course from
+// each.
+const MOST_STATES: usize = 64;
+
+// The summary of a part, which is made between its entering the gate and its leaving it.
+fn work_one<G: Gate>(
+    alloc: Global,
+    table: &Table,
+    gate: &G,
+    part: u32,
+    piece: &[u8],
+    slot: &mut Option<Summary>,
+) -> Result<(), Memory>
+    ensures { OnOk result (AreSummaries table.now piece.now (slot.new ∷ [])) }
+{
+    gate.enter(part);
+    let made = chunk(alloc, table, piece);
+    gate.leave(part);
+    *slot = Some(made?);
+    Ok(())
+}
+
+// Of so many bytes those of the first parts: any two parts differ by one byte at most.
+fn share_of(bytes: usize, parts: usize, first: usize) -> usize
+    requires { 0 < parts }
+    ensures { result ≤ bytes }
+{
+    let share = (bytes / parts).saturating_mul(first);
+    share.saturating_add((bytes % parts).min(first)).min(bytes)
+}
+
+// The summaries of the parts of a piece, as many as there are slots; the first has this number.
+fn work_all<R: Threads + Sync, G: Gate + Sync>(
+    rt: &R,
+    alloc: Global,
+    table: &Table,
+    gate: &G,
+    first: u32,
+    piece: &[u8],
+    slots: &mut [Option<Summary>],
+) -> Result<(), Memory>
+    requires some { 0 < length slots.old }
+    requires few { first + length slots.old ≤ 2 ^ 32 }
+    ensures { OnOk result (AreSummaries table.now piece.now slots.new) }
+{
+    let count = slots.len();
+    if count < 2 {
+        return match slots.first_mut() {
+            None => Ok(()),
+            Some(slot) => work_one(alloc, table, gate, first, piece, slot),
+        };
+    }
+    let half = count / 2;
+    let next = first + half as u32;
+    let (here, there) = piece.split_at(share_of(piece.len(), count, half));
+    let (front, back) = slots.split_at_mut(half);
+    let (one, other) = join_mut(
+        rt,
+        &mut || -> Result<(), Memory>
+            requires { IsSync R.row × (0 < length front.now)
+                × (first + length front.now ≤ 2 ^ 32) }
+            ensures { OnOk result (AreSummaries table.entry.now here.entry.now front.exit.now) }
+        { work_all(rt, alloc, table, gate, first, here, front) },
+        &mut || -> Result<(), Memory>
+            requires { IsSync R.row × (0 < length back.now)
+                × (next + length back.now ≤ 2 ^ 32) }
+            ensures { OnOk result (AreSummaries table.entry.now there.entry.now back.exit.now) }
+        { work_all(rt, alloc, table, gate, next, there, back) },
+    );
+    one?;
+    other
+}
+
+// The summaries of the parts of a piece.
+fn summaries_of<R: Threads + Sync, G: Gate + Sync>(
+    rt: &R,
+    alloc: Global,
+    table: &Table,
+    gate: &G,
+    piece: &[u8],
+    parts: usize,
+) -> Result<Vec<Option<Summary>>, Memory>
+    requires { (0 < parts) × (parts ≤ 64) }
+    ensures { IfOk result (λ all. AreSummaries table.now piece.now all.items) }
+{
+    let mut all = Vec::new(alloc);
+    'parts: for _part in 0..parts {
+        all.push(None)?;
+    }
+    work_all(rt, alloc, table, gate, 1, piece, &mut all)?;
+    Ok(all)
+}
+
+// Feeds a piece, with a count of steps of its own.
+fn feed_by<L: Ledger>(
+    runner: &mut Runner,
+    piece: &[u8],
+    code: &mut Code,
+    blank: Blank,
+) -> Result<Fed, Memory>
+    requires name { blank.name ≡ L.name }
+    requires parts { (blank.parts ≡ L.parts) × (0 < L.parts) }
+    requires usable { IsTrue runner.old.usable }
+    requires open { runner.old.ended ≡ false }
+    requires room { runner.old.read + length piece.now < 2 ^ 64 }
+    ensures fed { IfOk result (λ answer.
+        RunnerFeeds answer runner.old runner.new piece.now code.old code.new) }
+    ensures read { (runner.old.read ≤ runner.new.read)
+        × (runner.new.read ≤ runner.old.read + length piece.now) }
+    ensures table { runner.new.table ≡ runner.old.table }
+    ensures words { runner.new.words ≡ runner.old.words }
+    ensures open { runner.new.ended ≡ false }
+    ensures usable { IsTrue runner.new.usable ↔ IsOk result }
+{
+    let mut steps: Steps<L> = Steps::new(blank);
+    runner.feed(piece, code, &mut steps)
+}
+
+// Feeds a piece in order.
+fn feed_plainly(runner: &mut Runner, piece: &[u8], code: &mut Code) -> Result<Fed, Memory>
+    requires usable { IsTrue runner.old.usable }
+    requires open { runner.old.ended ≡ false }
+    requires room { runner.old.read + length piece.now < 2 ^ 64 }
+    ensures fed { IfOk result (λ answer.
+        RunnerFeeds answer runner.old runner.new piece.now code.old code.new) }
+    ensures read { (runner.old.read ≤ runner.new.read)
+        × (runner.new.read ≤ runner.old.read + length piece.now) }
+    ensures table { runner.new.table ≡ runner.old.table }
+    ensures words { runner.new.words ≡ runner.old.words }
+    ensures open { runner.new.ended ≡ false }
+    ensures usable { IsTrue runner.new.usable ↔ IsOk result }
+{
+    feed_by::<Brand>(runner, piece, code, Blank::new(1))
+}
+
+// Goes along the parts of a piece by their summaries, up to one in which the table stops; from its
+// begin on what is left is fed in order.
+fn apply_all(
+    runner: &mut Runner,
+    summaries: &[Option<Summary>],
+    piece: &[u8],
+    code: &mut Code,
+) -> Result<Fed, Memory>
+    requires summaries { AreSummaries runner.old.table piece.now summaries.now }
+    requires some { 0 < length piece.now }
+    requires live { runner.old.dead ≡ false }
+    requires usable { IsTrue runner.old.usable }
+    requires open { runner.old.ended ≡ false }
+    requires room { runner.old.read + length piece.now < 2 ^ 64 }
+    ensures fed { IfOk result (λ answer.
+        RunnerFeeds answer runner.old runner.new piece.now code.old code.new) }
+    ensures read { (runner.old.read ≤ runner.new.read)
+        × (runner.new.read ≤ runner.old.read + length piece.now) }
+    ensures table { runner.new.table ≡ runner.old.table }
+    ensures words { runner.new.words ≡ runner.old.words }
+    ensures open { runner.new.ended ≡ false }
+    ensures usable { IsTrue runner.new.usable ↔ IsOk result }
+{
+    let mut at = 0;
+    'parts: for slot in summaries {
+        let Some(summary) = slot else {
+            return feed_plainly(runner, &piece[at..], code);
+        };
+        match runner.apply(summary, code)? {
+            Applied::On => at += summary.length() as usize,
+            Applied::Gone(_) => return feed_plainly(runner, &piece[at..], code),
+        }
+    }
+    Ok(Fed::On)
+}
+
+/// Feeds a piece as `Runner::feed` does, and counts no steps. The piece is cut into as many parts
+/// as there are workers, or bytes if those are fewer. Their summaries are made at once, and the
+/// runner goes along them in order; from the begin of a part in which the table stops on it is fed
+/// plainly. Part k, counted from 1, enters the gate as k before its work and leaves it after.
+///
+/// By a table of more than 64 states, or behind a byte that was refused, all is fed plainly, and
+/// nothing enters the gate. After `Memory` the code may have a part of what the bytes let it pass
+/// on, and the runner is only dropped.
+pub fn feed_many<R: Threads + Sync, G: Gate + Sync>(
+    rt: &R,
+    alloc: Global,
+    runner: &mut Runner,
+    piece: &[u8],
+    workers: u32,
+    gate: &G,
+    code: &mut Code,
+) -> Result<Fed, Memory>
+    requires workers { (1 ≤ workers) × (workers ≤ 64) }
+    requires usable { IsTrue runner.old.usable }
+    requires open { runner.old.ended ≡ false }
+    requires room { runner.old.read + length piece.now < 2 ^ 64 }
+    ensures fed { IfOk result (λ answer.
+        RunnerFeeds answer runner.old runner.new piece.now code.old code.new) }
+    ensures read { (runner.old.read ≤ runner.new.read)
+        × (runner.new.read ≤ runner.old.read + length piece.now) }
+    ensures table { runner.new.table ≡ runner.old.table }
+    ensures words { runner.new.words ≡ runner.old.words }
+    ensures open { runner.new.ended ≡ false }
+    ensures usable { IsOk result → IsTrue runner.new.usable }
+{
+    let table = runner.table();
+    if piece.is_empty() || runner.is_dead() || table.states().len() > MOST_STATES {
+        return feed_plainly(runner, piece, code);
+    }
+    let parts = piece.len().min(workers as usize);
+    let summaries = summaries_of(rt, alloc, table, gate, piece, parts)?;
+    apply_all(runner, &summaries, piece, code)
+}

@@ -1,0 +1,42 @@
+// The place where a runner stands, as another that was over the same table can come to it.
+
+ghost use Rattle.std.specs.Prelude.{◌≡◌, [], IsTrue, false};
+ghost use Rattle.kex_runner.specs.Following.{IsTablePlace};
+ghost use Rattle.kex_runner.specs.Places.{StandsAt};
+
+use crate::runner::Runner;
+
+impl<'t> Runner<'t> {
+    /// Stands at a state without registers, as if so many bytes had been read. What was passed on
+    /// isn't known of it then.
+    pub fn restart(&mut self, state: u32, read: u64)
+        requires place { IsTablePlace self.old.table state [] }
+        ensures restarted { self.new ≡ record self.old {
+          state = state;
+          pending = [];
+          registers = [];
+          read = read;
+          dead = false;
+          ended = false;
+        } }
+    {
+        self.registers.clear();
+        self.state = state;
+        self.pending.clear();
+        self.read = read;
+        self.dead = false;
+        self.ended = false;
+    }
+
+    /// Whether it stands at this state without registers, has read so many bytes, of which none was
+    /// refused, and has nothing to be passed on.
+    pub fn stands_at(&self, state: u32, read: u64) -> bool
+        ensures { IsTrue result → StandsAt self.now state read }
+    {
+        self.state == state
+            && self.read == read
+            && self.registers.len() == 0
+            && self.pending.is_empty()
+            && !self.dead
+    }
+}
