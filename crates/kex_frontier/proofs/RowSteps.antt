@@ -13,7 +13,7 @@ use Rattle.kex_machine.proofs.Classes.{lead_alike}
 use Rattle.kex_machine.proofs.CutWalks.{cut}
 use Rattle.kex_frontier.specs.Rows.{has_mark, IsHighestBelow, AlsoMarks, byte_ways, IsByteStep, AreByteSteps, IsClosureOf, IsMarkRow}
 
-byte_step : {S : Type 0} (v : Move S) (b : ℕ) (t : S) → IsAmong (byte_ways v b) t → Allows v (took b t)
+pub byte_step : {S : Type 0} (v : Move S) (b : ℕ) (t : S) → IsAmong (byte_ways v b) t → Allows v (took b t)
 byte_step accept b t i = absurd i
 byte_step (read set u) b t i = by (get_or set b false) refl i
   where
@@ -25,7 +25,7 @@ byte_step (choose l r) b t i = absurd i
 byte_step (forced x u) b t i = absurd i
 byte_step (go e u) b t i = absurd i
 
-is_byte_way : {S : Type 0} {v : Move S} {b : ℕ} {t : S} → Allows v (took b t) → IsAmong (byte_ways v b) t
+pub is_byte_way : {S : Type 0} {v : Move S} {b : ℕ} {t : S} → Allows v (took b t) → IsAmong (byte_ways v b) t
 is_byte_way (reads {set = set} {b = b} {s = s} i) = subst (λ z. IsAmong (if z then s ∷ [] else []) s) (sym i) (inl refl)
 
 split : (a b : ℕ) → (a ≤ b) ⊎ (b < a)

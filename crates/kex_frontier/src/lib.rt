@@ -12,6 +12,6 @@ pub mod frontier;
 mod grow;
 mod mark_rows;
 pub mod matcher;
-mod row;
+pub mod row;
 mod step_cache;
 mod visit;

@@ -101,8 +101,9 @@ fn enter(row: &mut Row, node: &MNode, byte: u8, count: usize)
     }
 }
 
-// The places that are reached with one byte more. The row of those before is only room then.
-fn step(nodes: &[MNode], byte: u8, now: &mut Row, next: &mut Row)
+/// Marks the places that are reached with one byte more from those that are marked. The row of
+/// those before is only room then.
+pub fn step(nodes: &[MNode], byte: u8, now: &mut Row, next: &mut Row)
     requires now { length nodes.now / 64 < length now.old }
     requires next { length next.old ≡ length now.old }
     requires within { StaysWithin nodes.now }
