@@ -1,7 +1,7 @@
 // The action machine.
 
 ghost use Rattle.std.specs.Prelude.{◌≡◌, ◌<◌, ◌≤◌, ◌↔◌, [], List, ℕ, IfOk, IsOk, OnOk, IfErr};
-ghost use Rattle.std.specs.Prelude.{OnErr, IsTrue, if◌then◌else◌, length, take};
+ghost use Rattle.std.specs.Prelude.{All, OnErr, IsTrue, if◌then◌else◌, length, take};
 ghost use Rattle.kex_code.specs.Registers.{content_of};
 ghost use Rattle.kex_code.specs.declared.symbol.Symbol.{Symbol};
 ghost use Rattle.kex_action.specs.Holdings.{Does, state_of};
@@ -200,6 +200,44 @@ impl<'m> Actor<'m> {
         self.at = node;
         self.usable = true;
         Ok(())
+    }
+
+    /// Stands where another actor of its machine stands, and holds what that one holds.
+    pub fn stand_like(&mut self, other: &Actor) -> Result<(), Memory>
+        requires machine { other.now.machine ≡ self.old.machine }
+        requires usable { IsTrue other.now.usable }
+        ensures same { OnOk result (self.new ≡ other.now) }
+        ensures machine { self.new.machine ≡ self.old.machine }
+        ensures usable { IsTrue self.new.usable ↔ IsOk result }
+    {
+        self.usable = false;
+        self.store.hold_like(&other.store)?;
+        self.at = other.at;
+        self.refused = other.refused;
+        self.usable = true;
+        Ok(())
+    }
+
+    /// Whether no open buffer and no register holds more than so many bytes, so that it is cheap to
+    /// stand like it.
+    pub fn is_light(&self, most: usize) -> bool
+        ensures { IsTrue result → All (λ b. length b ≤ most) self.now.holding.registers }
+    {
+        self.store.is_light(most)
+    }
+
+    /// Whether another actor of its machine stands where it stands, and holds the same. One that
+    /// isn't usable is like none.
+    pub fn is_same(&self, other: &Actor) -> bool
+        requires { other.now.machine ≡ self.now.machine }
+        ensures same { IsTrue result → self.now ≡ other.now }
+        ensures usable { IsTrue result → IsTrue self.now.usable }
+    {
+        self.usable
+            && other.usable
+            && self.at == other.at
+            && self.refused == other.refused
+            && self.store.is_same(&other.store)
     }
 
     /// Whether what was performed is the whole code of a tree.

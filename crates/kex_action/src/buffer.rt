@@ -1,6 +1,7 @@
 // A list of bytes that grows.
 
-ghost use Rattle.std.specs.Prelude.{◌≡◌, ◌≤◌, ◌-◌, ◌++◌, [], OnOk, OnErr, length, take, drop};
+ghost use Rattle.std.specs.Prelude.{◌≡◌, ◌≤◌, ◌-◌, ◌++◌, [], IfOk, IsTrue, OnOk, OnErr};
+ghost use Rattle.std.specs.Prelude.{length, take, drop};
 
 use crate::piece::{PIECE, copy_front, copy_piece};
 use kex_code::memory::Memory;
@@ -103,6 +104,22 @@ impl Buffer {
         ensures within { length self.now ≤ length result.now }
     {
         &self.bytes
+    }
+
+    // A buffer with the same bytes.
+    pub fn copy(&self, alloc: Global) -> Result<Buffer, Memory>
+        ensures { IfOk result (λ b. b ≡ self.now) }
+    {
+        let mut copy = Buffer::new(alloc);
+        copy.append(self.as_slice())?;
+        Ok(copy)
+    }
+
+    // Whether another has the same bytes.
+    pub fn is_same(&self, other: &Buffer) -> bool
+        ensures { IsTrue result → self.now ≡ other.now }
+    {
+        self.as_slice() == other.as_slice()
     }
 
     // Takes all bytes away, and keeps the room.

@@ -1,7 +1,7 @@
 // The open buffers and the registers, and what each effect does to them.
 
 ghost use Rattle.std.specs.Prelude.{◌≡◌, ◌<◌, ◌↔◌, ◌++◌, [], ◌∷◌, List, ℕ, OnOk, OnErr, IfOk};
-ghost use Rattle.std.specs.Prelude.{IsTrue, length, replicate, reverse, false};
+ghost use Rattle.std.specs.Prelude.{All, IsTrue, ◌≤◌, length, replicate, reverse, false};
 ghost use Rattle.kex_code.specs.Registers.{pieces_text, with_content, content_of};
 ghost use Rattle.kex_code.specs.declared.piece.Piece.{Piece};
 ghost use Rattle.kex_model.specs.Programs.{HasPieces};
@@ -97,6 +97,39 @@ fn clear_all(all: &mut [Buffer])
     }
 }
 
+// The same buffers again.
+fn copies(alloc: Global, all: &[Buffer]) -> Result<Vec<Buffer>, Memory>
+    ensures { IfOk result (λ v. v.items ≡ all.now) }
+{
+    let mut copies = Vec::new(alloc);
+    for buffer in all {
+        copies.push(buffer.copy(alloc)?)?;
+    }
+    Ok(copies)
+}
+
+// Whether the buffers have the same bytes, each at its place.
+fn are_same(left: &[Buffer], right: &[Buffer]) -> bool
+    ensures { IsTrue result → left.now ≡ right.now }
+{
+    if left.len() != right.len() {
+        return false;
+    }
+    for i in 0..left.len() {
+        if !left[i].is_same(&right[i]) {
+            return false;
+        }
+    }
+    true
+}
+
+// Whether none of the buffers has more than so many bytes.
+fn are_short(all: &[Buffer], most: usize) -> bool
+    ensures { IsTrue result ↔ All (λ b. length b ≤ most) all.now }
+{
+    all.iter().all(|buffer| buffer.as_slice().len() <= most)
+}
+
 impl Store {
     // No buffer is open, and all registers are empty.
     pub fn new(alloc: Global, count: u32) -> Result<Store, Memory>
@@ -123,6 +156,29 @@ impl Store {
     {
         self.buffers.clear();
         clear_all(&mut self.registers);
+    }
+
+    // Has the buffers and the registers of another.
+    pub fn hold_like(&mut self, other: &Store) -> Result<(), Memory>
+        ensures { OnOk result (self.new ≡ other.now) }
+    {
+        self.buffers = copies(self.alloc, &other.buffers)?;
+        self.registers = copies(self.alloc, &other.registers)?;
+        Ok(())
+    }
+
+    // Whether no buffer and no register has more than so many bytes.
+    pub fn is_light(&self, most: usize) -> bool
+        ensures { IsTrue result → All (λ b. length b ≤ most) self.now.registers }
+    {
+        are_short(&self.buffers, most) && are_short(&self.registers, most)
+    }
+
+    // Whether another has the same buffers and registers.
+    pub fn is_same(&self, other: &Store) -> bool
+        ensures { IsTrue result → self.now ≡ other.now }
+    {
+        are_same(&self.buffers, &other.buffers) && are_same(&self.registers, &other.registers)
     }
 
     pub fn register(&self, r: u32) -> &[u8]

@@ -1,9 +1,11 @@
 // A worker within a limit, as a stage.
 
 ghost use Rattle.std.specs.Prelude.{◌≡◌, ◌≤◌, ◌||◌, not, true, false, IfOk, OnOk, IsTrue, Option};
-ghost use Rattle.std.specs.Prelude.{None, ℕ, List, length, min, take};
+ghost use Rattle.std.specs.Prelude.{All, None, ℕ, List, length, min, take, vec_len};
+ghost use Rattle.kex_pipe.specs.Histories.{StageFed};
 ghost use Rattle.kex_pipe.specs.Bounds.{StandsAs, end_stop, fate_of, stop_after};
 
+use crate::parted::{PartDesk, Parted, PartedWorker};
 use crate::turn::{Fate, Stop, Turn, Why};
 use crate::worker::{BeginsAnew, Worker};
 use kex_code::memory::Memory;
@@ -129,6 +131,38 @@ impl<W: Worker> Turn for Bounded<W> {
     fn stop(&self) -> Option<Stop> {
         self.stop
     }
+}
+
+impl<W: Worker> Bounded<W> {
+    /// The worker.
+    pub fn worker(&self) -> &W
+        ensures { result.now ≡ self.now.worker }
+    {
+        &self.worker
+    }
+}
+
+impl<D: PartDesk, W: PartedWorker<D>> Parted<D> for Bounded<W> {
+    ghost owns = { λ s d. W.owns s.worker d };
+
+    fn hand_out(&mut self) -> Vec<D> {
+        self.worker.hand_out()
+    }
+
+    fn take_back(&mut self, desks: Vec<D>)
+        requires own { All (λ d. W.owns self.old.worker d) desks.items }
+        requires few { vec_len desks ≤ 64 }
+        ensures plan { ⟦<Bounded<W> as Turn>⟧.plan self.new
+            ≡ ⟦<Bounded<W> as Turn>⟧.plan self.old }
+        ensures usable { ⟦<Bounded<W> as Turn>⟧.is_usable self.new
+            ≡ ⟦<Bounded<W> as Turn>⟧.is_usable self.old }
+        ensures stands { (h : Option StageFed) → ⟦<Bounded<W> as Turn>⟧.stands self.old h
+            → ⟦<Bounded<W> as Turn>⟧.stands self.new h }
+    {
+        self.worker.take_back(desks);
+    }
+
+    ghost stays_own = { λ s a b e h. W.stays_own s.worker a b e h };
 }
 
 // The front of a piece that there is room for.

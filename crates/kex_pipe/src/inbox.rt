@@ -39,6 +39,13 @@ impl Inbox {
         !self.ended && self.bytes[self.start..].is_empty()
     }
 
+    /// The bytes.
+    pub fn bytes(&self) -> &[u8]
+        ensures { result.now ≡ unread_bytes self.now }
+    {
+        &self.bytes[self.start..]
+    }
+
     /// The bytes among the first items.
     pub fn front(&self, at_most: u64) -> &[u8]
         ensures { result.now ≡ take at_most (unread_bytes self.now) }

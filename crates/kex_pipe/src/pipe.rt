@@ -46,7 +46,7 @@ impl From<Memory> for PipeFault {
 #[derive(Drop)]
 pub struct Pipe<T: Turn> {
     alloc: Global,
-    seats: Vec<Seat<T>>,
+    pub(crate) seats: Vec<Seat<T>>,
     output: Inbox,
     ended: bool,
     spent: bool,
