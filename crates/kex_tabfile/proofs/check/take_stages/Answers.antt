@@ -1,0 +1,41 @@
+use Rattle.std.proofs.Common.{◌≡◌, ℕ, ◌++◌, ◌∷◌, [], List, Some, map, refl, sym, ap, ap₂, subst, ◌∙◌, append_assoc}
+use Rattle.std.proofs.lemmas.List.{map-append}
+use Rattle.kex_sst.specs.declared.table.Transition.{Transition}
+use Rattle.std.specs.Prelude.{Option}
+use Rattle.kex_machine.specs.Nodes.{Graph}
+use Rattle.kex_stage.specs.Plans.{Planned, machine_of}
+use Rattle.kex_tabfile.specs.TableFiles.{AreStageTexts, EachHasTable, goes_in, goes_of}
+use Rattle.kex_tabfile.proofs.ResultParts.{if_err}
+use Rattle.kex_tabfile.proofs.LineSteps.{read_on}
+use Rattle.kex_tabfile.proofs.StageTexts.{texts_more, stages_break, tables_more}
+use Rattle.kex_tabfile.proofs.check.take_stages.Goals as goal
+
+pub returns-in_err-table-clause-bad : goal.returns-in_err-table-clause-bad
+returns-in_err-table-clause-bad c =
+    let l = c.machines in
+    let e = c.in_err-table.field-0.0 in
+    let so = l.invariant.so_far in
+    let split = l.invariant.split ∙ ap (λ z. l.yielded ++ z) c.in-Some.ensures.steps.0 in
+    if_err c.from_residual-in_err-table.result e _ c.from_residual-in_err-table.ensures.1
+    (stages_break c.args.machines.items l.yielded c.next.new.self.rest.items c.in-Some.machine (map goes_in l.plans.items) so.0 c.args.reader.now l.reader e split so.1 so.2 c.in_err-table.ensures.bad)
+
+pub machines-preserved : goal.machines-preserved
+machines-preserved c =
+    let l = c.machines in
+    let g = c.in-Some.machine in
+    let t = c.in_ok-table.table in
+    let so = l.invariant.so_far in
+    let own = c.in_ok-table.ensures.right in
+    let plan : Planned = record { machine = g; table = Some t } in
+    let pushed : c.push.new.self.items ≡ l.plans.items ++ plan ∷ [] = c.in_ok-push.ensures.items ∙ ap (λ (z : Planned). l.plans.items ++ z ∷ []) c.new.ensures in
+    record {
+      split = l.invariant.split ∙ ap (λ z. l.yielded ++ z) c.in-Some.ensures.steps.0 ∙ sym (append_assoc l.yielded (g ∷ []) c.next.new.self.rest.items);
+      made = ap (λ z. map machine_of z) pushed ∙ map-append machine_of l.plans.items (plan ∷ []) ∙ ap (λ z. z ++ g ∷ []) l.invariant.made;
+      tables = subst (λ z. EachHasTable z) (sym pushed) (tables_more l.plans.items g t l.invariant.tables c.in_ok-table.ensures.table);
+      so_far = (
+        so.0 ++ own.0,
+        subst (λ z. AreStageTexts (l.yielded ++ g ∷ []) z (so.0 ++ own.0)) (sym (ap (λ z. map goes_in z) pushed ∙ map-append goes_in l.plans.items (plan ∷ [])))
+            (texts_more l.yielded (map goes_in l.plans.items) so.0 g (goes_of t.states) own.0 so.1 own.1),
+        read_on g [] [] c.args.reader.now l.reader c.take_stage.new.reader so.0 own.0 so.2 own.2,
+      );
+    }

@@ -1,0 +1,23 @@
+use Rattle.std.proofs.Common.{◌++◌, length, refl, ap, ◌∙◌}
+use Rattle.std.specs.Prelude.{codes}
+use Rattle.kex_tabfile.specs.Lines.{name_line, size_line, head_text, end_line}
+use Rattle.kex_tabfile.proofs.WrittenFiles.{file_joined}
+use Rattle.kex_tabfile.proofs.write.write_table.Goals as goal
+
+pub returns : goal.returns
+returns c =
+    let out = c.args.out.now.items in
+    let text = c.args.text.now in
+    let size = size_line (length text) in
+    let st = c.in_ok-write_stages.ensures in
+    let lines = st.0 in (
+      head_text text ++ (lines ++ end_line),
+      c.in_ok-extend_from_slice-3.ensures.items
+          ∙ ap (λ z. z ++ end_line) (st.1
+          ∙ ap (λ z. z ++ lines) (c.in_ok-push.ensures.items
+          ∙ ap (λ z. z ++ codes "\n") (c.in_ok-extend_from_slice-2.ensures.items
+          ∙ ap (λ z. z ++ text) (c.in_ok-push_size_line.ensures
+          ∙ ap (λ z. z ++ size) c.in_ok-extend_from_slice.ensures.items))))
+          ∙ file_joined out name_line size text (codes "\n") lines end_line,
+      record { lines = lines; stages = st.2; whole = refl },
+    )

@@ -1,0 +1,125 @@
+// Checks the lines of one stage.
+
+ghost use Rattle.std.specs.Prelude.{◌≡◌, ℕ, ◌<◌, ◌≤◌, [], IfErr, IfOk, List, length};
+ghost use Rattle.kex_byteset.specs.Classes.{class_count};
+ghost use Rattle.kex_machine.specs.Nodes.{HasClasses};
+ghost use Rattle.kex_sst.specs.Machines.{IsTableOf};
+ghost use Rattle.kex_tabfile.specs.Checking.{BeginsWith, BreaksReading, BreaksStage, Checks};
+ghost use Rattle.kex_tabfile.specs.Checking.{EachHasEnds, ReadsStage, ChecksAt};
+ghost use Rattle.kex_tabfile.specs.Lines.{stage_line};
+ghost use Rattle.kex_tabfile.specs.Readers.{ReadsBytes};
+ghost use Rattle.kex_tabfile.specs.TableFiles.{goes_of};
+ghost use Rattle.kex_tabfile.specs.Walks.{Told, at_stage, at_state, most_table_states};
+
+use crate::places::number_places;
+use crate::reader::TableReader;
+use crate::refusal::TableRefusal;
+use crate::rows::StageChecker;
+use crate::spell::{push_stage_front, push_stage_rest};
+use crate::targets::Targets;
+use kex_byteset::Partition;
+use kex_machine::Trimmed;
+use kex_paths::tree::PathTree;
+use kex_paths::workspace::Workspace;
+use kex_sst::parts::Update;
+use kex_sst::table::{State, Table};
+use kex_sst::updates::Updates;
+use std::alloc::Global;
+
+/// How many states a stage of a table file may have.
+pub(crate) const MOST_STATES: u32 = 1_048_576;
+
+// Reads a stage's own line, and says how many states there are.
+fn take_stage_line(
+    machine: &Trimmed,
+    partition: &Partition,
+    reader: &mut TableReader,
+    line: &mut Vec<u8>,
+) -> Result<u32, TableRefusal>
+    ensures right { IfOk result (λ n. (0 < n) × (n ≤ most_table_states)
+        × ReadsBytes reader.old
+        (stage_line machine.now.stage (class_count partition.now) n) reader.new) }
+    ensures bad { IfErr result (λ e. (numbers : List ℕ) (classes : List ℕ)
+        → class_count classes ≡ class_count partition.now
+        → BreaksReading machine.now numbers classes reader.old at_stage e) }
+{
+    line.clear();
+    push_stage_front(machine.machine().stage(), partition.classes(), line)?;
+    let Some(states) = reader.number(line.len(), MOST_STATES) else {
+        return Err(reader.bad_line());
+    };
+    if states == 0 {
+        return Err(reader.bad_line());
+    }
+    push_stage_rest(states, line)?;
+    reader.take(line)?;
+    Ok(states)
+}
+
+// The lines of all states.
+fn take_states<'m>(
+    checker: &mut StageChecker<'m>,
+    reader: &mut TableReader,
+    workspace: &mut Workspace<'m>,
+    initial: &Update,
+) -> Result<Vec<State>, TableRefusal>
+    requires machine { workspace.old ≡ checker.old.machine.now }
+    requires classes { HasClasses checker.old.machine.now.nodes checker.old.partition.now }
+    requires places { length checker.old.numbers.items
+        ≡ length checker.old.machine.now.nodes }
+    requires initial { BeginsWith checker.old.machine.now initial.now }
+    requires begun { (told : Told) × (told.rows ≡ [])
+        × ChecksAt checker.old.machine.now checker.old.targets checker.old.states 0 told }
+    ensures right { IfOk result (λ rows. (told : Told) → told.rows ≡ []
+        → ChecksAt checker.old.machine.now checker.old.targets checker.old.states 0 told
+        → (end : Told) × (end.rows ≡ goes_of rows.items)
+        × (end.states ≡ checker.old.states) × (length rows.items ≡ checker.old.states)
+        × EachHasEnds checker.old.machine.now end.targets rows.items
+        × Checks checker.old.machine.now checker.old.numbers.items checker.old.partition.now
+        reader.old (at_state told) (at_state end) reader.new) }
+    ensures bad { IfErr result (λ e. (told : Told) → told.rows ≡ []
+        → ChecksAt checker.old.machine.now checker.old.targets checker.old.states 0 told
+        → BreaksReading checker.old.machine.now checker.old.numbers.items
+        checker.old.partition.now reader.old (at_state told) e) }
+{
+    let mut rows = Vec::new(checker.alloc);
+    for state in 0..checker.states {
+        let row = checker.take_state(reader, workspace, state, initial)?;
+        rows.push(row)?;
+    }
+    Ok(rows)
+}
+
+/// The table of a machine, by the lines that come next.
+pub(crate) fn take_stage(
+    alloc: Global,
+    machine: &Trimmed,
+    reader: &mut TableReader,
+) -> Result<Table, TableRefusal>
+    ensures table { IfOk result (λ t. IsTableOf machine.now t) }
+    ensures right { IfOk result (λ t. ReadsStage machine.now (goes_of t.states) reader.old
+        reader.new) }
+    ensures bad { IfErr result (λ e. BreaksStage machine.now reader.old e) }
+{
+    let _nodes = machine.nodes();
+    let partition = machine.partition();
+    let mut line = Vec::new(alloc);
+    let numbers = number_places(alloc, machine)?;
+    let states = take_stage_line(machine, partition, reader, &mut line)?;
+    let mut workspace = Workspace::new(alloc, machine)?;
+    let (tree, initial) = PathTree::start(alloc, machine)?;
+    let mut targets = Targets::new(alloc);
+    targets.meet(0, tree)?;
+    let mut checker = StageChecker {
+        alloc,
+        machine,
+        partition,
+        numbers,
+        states,
+        targets,
+        updates: Updates::new(alloc),
+        line,
+    };
+    let rows = take_states(&mut checker, reader, &mut workspace, &initial)?;
+    Ok(Table::new(partition.copy(), initial, rows))
+}
