@@ -3,3 +3,4 @@ pub mod LineLists
 pub mod ChainAnswers
 pub mod DeskLists
 pub mod KeptLines
+pub mod Shares

@@ -1,6 +1,6 @@
 // Desks that share lines out among threads.
 
-ghost use Rattle.std.specs.Prelude.{◌≡◌, ◌+◌, ◌≤◌, ◌<◌, ◌^◌, ◌++◌, [], IfOk, OnOk, is_ok};
+ghost use Rattle.std.specs.Prelude.{◌≡◌, ◌+◌, ◌-◌, ◌≤◌, ◌<◌, ◌^◌, ◌++◌, [], IfOk, OnOk, is_ok};
 ghost use Rattle.std.specs.Prelude.{length, map};
 ghost use Rattle.std.specs.List.{concat};
 ghost use Rattle.std.specs.Thread.{IsSync};
@@ -22,7 +22,7 @@ pub struct Desks<'p> {
     desks: Vec<Desk<'p>>,
 }
 
-// One desk's work, between its entering the gate and its leaving it.
+// One desk's work on a line or more, between its entering the gate and its leaving it.
 fn work_one<D: LineDesk, G: Gate>(
     gate: &G,
     part: u32,
@@ -31,7 +31,7 @@ fn work_one<D: LineDesk, G: Gate>(
     from: usize,
     to: usize,
 ) -> Result<(), Memory>
-    requires { (from ≤ to) × (to ≤ length lines.now) }
+    requires { (from < to) × (to ≤ length lines.now) }
     ensures plans { (D.state desk.new).plans ≡ (D.state desk.old).plans }
     ensures answers { OnOk result (PlansAnswerLines (D.state desk.old).plans
         (lines_between from to lines.now) (D.state desk.new).answers) }
@@ -42,16 +42,17 @@ fn work_one<D: LineDesk, G: Gate>(
     worked
 }
 
-// Of so many lines the share of the first desks: the shares of any two differ by one line at most.
+// Of so many lines the share of the first desks: the shares of any two differ by one line at most,
+// and the others have a line each left.
 fn share_of(lines: usize, desks: usize, first: usize) -> usize
-    requires { 0 < desks }
-    ensures { result ≤ lines }
+    requires { (0 < desks) × (desks ≤ lines) × (first ≤ desks) }
+    ensures { (first ≤ result) × (result + (desks - first) ≤ lines) }
 {
-    let share = (lines / desks).saturating_mul(first);
-    share.saturating_add((lines % desks).min(first)).min(lines)
+    lines / desks * first + (lines % desks).min(first)
 }
 
-// The work of these desks on some of the lines, in parts; the first part has this number.
+// The work of these desks on some of the lines, in parts of which none is empty; the first part has
+// this number.
 fn work_all<R: Threads + Sync, D: LineDesk + Send, G: Gate + Sync>(
     rt: &R,
     gate: &G,
@@ -63,6 +64,7 @@ fn work_all<R: Threads + Sync, D: LineDesk + Send, G: Gate + Sync>(
 ) -> Result<(), Memory>
     requires some { 0 < length desks.old }
     requires few { first + length desks.old ≤ 2 ^ 32 }
+    requires enough { length desks.old ≤ to - from }
     requires within { (from ≤ to) × (to ≤ length lines.now) }
     ensures { AllWorked (is_ok result) (lines_between from to lines.now)
         (map D.state desks.old) (map D.state desks.new) }
@@ -83,13 +85,13 @@ fn work_all<R: Threads + Sync, D: LineDesk + Send, G: Gate + Sync>(
     let (one, other) = join_mut(
         rt,
         &mut || -> Result<(), Memory>
-            requires { IsSync R.row × (0 < length front.now)
+            requires { IsSync R.row × (0 < length front.now) × (length front.now ≤ end - from)
                 × (first + length front.now ≤ 2 ^ 32) × (from ≤ end) × (end ≤ length lines.now) }
             ensures { AllWorked (is_ok result) (lines_between from end lines.entry.now)
                 (map D.state front.entry.now) (map D.state front.exit.now) }
         { work_all(rt, gate, first, lines, from, end, front) },
         &mut || -> Result<(), Memory>
-            requires { IsSync R.row × (0 < length back.now)
+            requires { IsSync R.row × (0 < length back.now) × (length back.now ≤ to - cut)
                 × (next + length back.now ≤ 2 ^ 32) × (cut ≤ to) × (to ≤ length lines.now) }
             ensures { AllWorked (is_ok result) (lines_between cut to lines.entry.now)
                 (map D.state back.entry.now) (map D.state back.exit.now) }

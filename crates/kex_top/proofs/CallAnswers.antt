@@ -18,23 +18,24 @@ use Rattle.kex_single.specs.Plays as plays
 use Rattle.kex_single.specs.Singles as single
 use Rattle.kex_lowering.specs.Stages.{Carries}
 use Rattle.kex_words.specs.Words.{Asked, Mode, Reach}
-use Rattle.kex_words.specs.Words.Asked.{ToCheck, ToEach, ToStream, ToTry}
+use Rattle.kex_words.specs.Words.Asked.{ToCheck, ToCompile, ToEach, ToExec, ToStream, ToTry}
 use Rattle.kex_words.specs.Words.Mode.{running, coding, acting, testing}
 use Rattle.kex_model.specs.Programs.{Grammar}
 use Rattle.kex_stage.specs.Stages.{StagePlan, Gives}
 use Rattle.kex_compile.specs.Stages.{AreStages, Plans, roots_of}
-use Rattle.kex_compile.specs.Compiled.{IsCompiled, IsRefused}
+use Rattle.kex_compile.specs.Compiled.{Accepts, IsCompiled, IsRefused}
 use Rattle.kex_compile.specs.declared.limits.Limits.{Limits}
 use Rattle.kex_compile.specs.declared.refusal.CompileRefusal.{CompileRefusal}
 use Rattle.kex_words.specs.Gains.{StreamChange}
 use Rattle.kex_words.specs.declared.refusals.Refusal.{Refusal}
 use Rattle.kex_words.specs.Form.{most_input}
 use Rattle.kex_words.specs.Lines.{counts_line, trial_line}
-use Rattle.kex_words.specs.declared.counts.Summary.{Summary}
-use Rattle.kex_top.specs.Commands.{Counted, Performs, TellsLine, calls_of, limits_for, told_text}
+use Rattle.kex_words.specs.declared.counts.TrialCounts.{TrialCounts}
+use Rattle.kex_top.specs.Commands.{Counted, Performs, TellsBytes, calls_of, taken_for, told_text}
 use Rattle.kex_top.specs.Refusals.{HasNone, HasPlans, IsStartOf}
+use Rattle.kex_top.specs.Taken.{a_text}
 use Rattle.kex_top.specs.Starts.{status_of}
-use Rattle.kex_top.specs.Trials.{IsSummary, made_lines, trial_text, usual_states}
+use Rattle.kex_top.specs.Trials.{AreTrialCounts, made_lines, trial_text, usual_states}
 use Rattle.kex_top.specs.declared.start.StartError.{StartError}
 use Rattle.kex_top.specs.declared.start.StartError.TheVariants as start
 use Rattle.kex_top.specs.Answer.{Said}
@@ -46,7 +47,7 @@ use Rattle.kex_pipe.specs.declared.report.Rejected.{Rejected as Report}
 use Rattle.kex_top.specs.declared.status.Status.{Status}
 use Rattle.kex_top.specs.declared.status.Status.TheVariants.{Done, Rejected, Usage, Refused, ReadFault, WriteFault, ShelfFault, Memory, TooLong, InputTooLong}
 
-abbrev plan_at : ℕ → Graph → StagePlan
+abbrev pub plan_at : ℕ → Graph → StagePlan
 plan_at limit m = record { machine = m; limit = limit }
 
 -- one saying in place of another that says the same
@@ -211,12 +212,15 @@ not-empty [] x h = absurd h
 not-empty (y ∷ xs) x h = omega arith
 
 -- a program has a stage
-pub some-machine : (limits : Limits) (text : List ℕ) (plans : Plans) → IsCompiled limits text plans → 0 < length plans.stages
-some-machine limits text plans p =
-    let n = as-many p.program 1 (roots_of p.program) plans.stages p.plans_of.stages in
-    let m = length-map p.program.stages (λ s. root_of p.program s.name) in
-    let some = not-empty p.program.stages p.accepts.ruled.begins.0 p.accepts.ruled.begins.1 in
+pub some-stage : (limits : Limits) (text : List ℕ) (P : Grammar) (ms : List Graph) → Accepts limits text P → AreStages P 1 (roots_of P) ms → 0 < length ms
+some-stage limits text P ms accepts stages =
+    let n = as-many P 1 (roots_of P) ms stages in
+    let m = length-map P.stages (λ s. root_of P s.name) in
+    let some = not-empty P.stages accepts.ruled.begins.0 accepts.ruled.begins.1 in
     omega arith
+
+pub some-machine : (limits : Limits) (text : List ℕ) (plans : Plans) → IsCompiled limits text plans → 0 < length plans.stages
+some-machine limits text plans p = some-stage limits text p.program plans.stages p.accepts p.plans_of.stages
 
 -- a program of one stage has one machine
 pub one-machine : (limits : Limits) (text : List ℕ) (plans : Plans) → IsCompiled limits text plans → limits.one_stage ≡ true → length plans.stages ≡ 1
@@ -251,13 +255,13 @@ module _ {A : Type 0} (F : A → List ℕ → Bool → Answer → Type 0) (x : A
 -- ---- a command that doesn't begin
 
 -- a text that has no plans
-pub unplanned : (limits : Limits) (told : ShelfText) (text : List ℕ) (why : StartError) → IsTold told text → ((rule : CompileRefusal) × IsRefused limits text rule × IsStartOf text rule why) → HasNone limits told why
+pub unplanned : (limits : Limits) (told : ShelfText) (text : List ℕ) (why : StartError) → IsTold told text → ((rule : CompileRefusal) × IsRefused limits text rule × IsStartOf text rule why) → HasNone (a_text limits) told why
 unplanned limits told text start.Memory t x = tt
 unplanned limits told text (start.Refused r) t (rule, refused, shown) = inr (record { text = text; is_told = t; rule = rule; is_refused = refused; is_shown = shown })
 unplanned limits told text start.Usage t x = x.2
 unplanned limits told text start.Shelf t x = absurd x.2
 
-pub unbegun : (asked : Asked) (texts : Option Texts) (reads : Option Reads) (source sink : StreamChange) (why : StartError) → HasNone (limits_for asked) (told_text texts asked) why → (why ≡ start.Shelf → IsSome (calls_of (Some asked)).takes) → Left source sink → CommandAnswers asked texts reads source sink (status_of why)
+pub unbegun : (asked : Asked) (texts : Option Texts) (reads : Option Reads) (source sink : StreamChange) (why : StartError) → HasNone (taken_for asked) (told_text texts asked) why → (why ≡ start.Shelf → IsSome (calls_of (Some asked)).takes) → Left source sink → CommandAnswers asked texts reads source sink (status_of why)
 unbegun asked texts reads source sink start.Usage h t l = h
 unbegun asked texts reads source sink start.Shelf h t l = (t refl, l)
 unbegun asked texts reads source sink (start.Refused r) h t l = (l, h)
@@ -265,23 +269,29 @@ unbegun asked texts reads source sink start.Memory h t l = inl l
 
 -- ---- a command that has begun: by its program it answers none of what is answered before
 
-not_usage : (asked : Asked) (P : Grammar) (reads : Option Reads) (source sink : StreamChange) → Performs asked P reads source sink Usage → ⊥
-not_usage (ToStream mode name reach) P reads source sink h = h.ends
-not_usage (ToCheck name states) P reads source sink h = h.1.told
-not_usage (ToEach name states limit workers) P reads source sink h = h.ends
-not_usage (ToTry lines block rings) P reads source sink h = h.1.told
+not_usage : (asked : Asked) (text : List ℕ) (P : Grammar) (reads : Option Reads) (source sink : StreamChange) → Performs asked text P reads source sink Usage → ⊥
+not_usage (ToStream mode name reach) text P reads source sink h = h.ends
+not_usage (ToCheck name states) text P reads source sink h = h.1.told
+not_usage (ToEach name states limit workers) text P reads source sink h = h.ends
+not_usage (ToTry lines block rings) text P reads source sink h = h.1.told
+not_usage (ToCompile name states) text P reads source sink h = h.1.told
+not_usage (ToExec name reach) text P reads source sink h = h.ends
 
-not_refused : (asked : Asked) (P : Grammar) (reads : Option Reads) (source sink : StreamChange) (r : Refusal) → Performs asked P reads source sink (Refused r) → ⊥
-not_refused (ToStream mode name reach) P reads source sink r h = h.ends
-not_refused (ToCheck name states) P reads source sink r h = h.1.told
-not_refused (ToEach name states limit workers) P reads source sink r h = h.ends
-not_refused (ToTry lines block rings) P reads source sink r h = h.1.told
+not_refused : (asked : Asked) (text : List ℕ) (P : Grammar) (reads : Option Reads) (source sink : StreamChange) (r : Refusal) → Performs asked text P reads source sink (Refused r) → ⊥
+not_refused (ToStream mode name reach) text P reads source sink r h = h.ends
+not_refused (ToCheck name states) text P reads source sink r h = h.1.told
+not_refused (ToEach name states limit workers) text P reads source sink r h = h.ends
+not_refused (ToTry lines block rings) text P reads source sink r h = h.1.told
+not_refused (ToCompile name states) text P reads source sink r h = h.1.told
+not_refused (ToExec name reach) text P reads source sink r h = h.ends
 
-not_shelf : (asked : Asked) (P : Grammar) (reads : Option Reads) (source sink : StreamChange) → Performs asked P reads source sink ShelfFault → ⊥
-not_shelf (ToStream mode name reach) P reads source sink h = h.ends
-not_shelf (ToCheck name states) P reads source sink h = h.1.told
-not_shelf (ToEach name states limit workers) P reads source sink h = h.ends
-not_shelf (ToTry lines block rings) P reads source sink h = h.1.told
+not_shelf : (asked : Asked) (text : List ℕ) (P : Grammar) (reads : Option Reads) (source sink : StreamChange) → Performs asked text P reads source sink ShelfFault → ⊥
+not_shelf (ToStream mode name reach) text P reads source sink h = h.ends
+not_shelf (ToCheck name states) text P reads source sink h = h.1.told
+not_shelf (ToEach name states limit workers) text P reads source sink h = h.ends
+not_shelf (ToTry lines block rings) text P reads source sink h = h.1.told
+not_shelf (ToCompile name states) text P reads source sink h = h.1.told
+not_shelf (ToExec name reach) text P reads source sink h = h.ends
 
 pub begun : (asked : Asked) (texts : Option Texts) (reads : Option Reads) (source sink : StreamChange) (s : Status) → CommandWorks asked texts reads source sink s → CommandAnswers asked texts reads source sink s
 begun asked texts reads source sink Done w = w
@@ -291,9 +301,9 @@ begun asked texts reads source sink InputTooLong w = w
 begun asked texts reads source sink ReadFault w = w
 begun asked texts reads source sink WriteFault w = w
 begun asked texts reads source sink Memory w = inr w
-begun asked texts reads source sink Usage w = not_usage asked w.program reads source sink w.performs
-begun asked texts reads source sink (Refused x) w = absurd (not_refused asked w.program reads source sink x w.performs)
-begun asked texts reads source sink ShelfFault w = absurd (not_shelf asked w.program reads source sink w.performs)
+begun asked texts reads source sink Usage w = not_usage asked w.text w.program reads source sink w.performs
+begun asked texts reads source sink (Refused x) w = absurd (not_refused asked w.text w.program reads source sink x w.performs)
+begun asked texts reads source sink ShelfFault w = absurd (not_shelf asked w.text w.program reads source sink w.performs)
 
 pub served : (mode : Mode) (name : List ℕ) (reach : Reach) (texts : Option Texts) (reads : Option Reads) (plans : Plans) (source sink : StreamChange) (s : Status) → HasPlans (limits_of mode) (told_of texts name) plans → Ran (MachinesSay mode reach.max_input plans.stages) (last_given reach.block reads) source sink s → CommandAnswers (ToStream mode name reach) texts reads source sink s
 served mode name reach texts reads plans source sink s h r =
@@ -304,7 +314,7 @@ served mode name reach texts reads plans source sink s h r =
       text = h.text;
       is_told = h.is_told;
       program = p.program;
-      accepts = p.accepts;
+      works = p.accepts;
       performs = ran_alike (MachinesSay mode limit plans.stages) (SaysBy mode p.program limit)
           (λ w e said k. carried p.program mode limit 1 1 (roots_of p.program) plans.stages w e said.text (report_as said.report) p.plans_of.stages k.1)
           (λ w e said k. (some-machine (limits_of mode) h.text plans p, carried-back p.program mode limit 1 1 (roots_of p.program) plans.stages w e said.text (report_as said.report) p.plans_of.stages k))
@@ -326,31 +336,31 @@ counted limits text plans p Q asked q =
       told = subst (λ k. Q (counts_line (record { stages = k; places = plans.places; states = plans.states }))) same q;
     }
 
-pub checked : (name : List ℕ) (states : ℕ) (texts : Option Texts) (reads : Option Reads) (plans : Plans) (source sink : StreamChange) (s : Status) → HasPlans (limits_to_check states) (told_of texts name) plans → IsAsBefore source → TellsLine (counts_line (record { stages = length plans.stages; places = plans.places; states = plans.states })) sink s → CommandAnswers (ToCheck name states) texts reads source sink s
+pub checked : (name : List ℕ) (states : ℕ) (texts : Option Texts) (reads : Option Reads) (plans : Plans) (source sink : StreamChange) (s : Status) → HasPlans (limits_to_check states) (told_of texts name) plans → IsAsBefore source → TellsBytes (counts_line (record { stages = length plans.stages; places = plans.places; states = plans.states })) sink s → CommandAnswers (ToCheck name states) texts reads source sink s
 checked name states texts reads plans source sink s h l q =
     begun (ToCheck name states) texts reads source sink s (
     record {
       text = h.text;
       is_told = h.is_told;
       program = h.compiled.program;
-      accepts = h.compiled.accepts;
-      performs = (l, counted (limits_to_check states) h.text plans h.compiled (λ line. TellsLine line sink s) refl q);
+      works = h.compiled.accepts;
+      performs = (l, counted (limits_to_check states) h.text plans h.compiled (λ line. TellsBytes line sink s) refl q);
     }
     )
 
-pub tried : (lines block : ℕ) (rings : Option ℕ) (texts : Option Texts) (reads : Option Reads) (plans : Plans) (summary : Summary) (source sink : StreamChange) (s : Status) → IsCompiled (limits_to_check usual_states) trial_text plans → IsSummary (NodesSay (stage_plans most_input plans.stages)) lines summary → IsAsBefore source → TellsLine (trial_line summary) sink s → CommandAnswers (ToTry lines block rings) texts reads source sink s
-tried lines block rings texts reads plans summary source sink s p sums l q =
+pub tried : (lines block : ℕ) (rings : Option ℕ) (texts : Option Texts) (reads : Option Reads) (plans : Plans) (counts : TrialCounts) (source sink : StreamChange) (s : Status) → IsCompiled (limits_to_check usual_states) trial_text plans → AreTrialCounts (NodesSay (stage_plans most_input plans.stages)) lines counts → IsAsBefore source → TellsBytes (trial_line counts) sink s → CommandAnswers (ToTry lines block rings) texts reads source sink s
+tried lines block rings texts reads plans counts source sink s p sums l q =
     begun (ToTry lines block rings) texts reads source sink s (
     record {
       text = trial_text;
       is_told = refl;
       program = p.program;
-      accepts = p.accepts;
-      performs = (l, record { summary = summary; sums = summed; told = q });
+      works = p.accepts;
+      performs = (l, record { counts = counts; sums = summed; told = q });
     }
     )
   where
-    summed : IsSummary (Answered p.program most_input) lines summary
+    summed : AreTrialCounts (Answered p.program most_input) lines counts
     summed = record {
       said = sums.said;
       is_said = carried p.program (running 4096) most_input 1 1 (roots_of p.program) plans.stages (made_lines lines) true sums.said.text (report_as sums.said.report) p.plans_of.stages

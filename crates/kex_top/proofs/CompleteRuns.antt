@@ -1,13 +1,12 @@
 -- A good run is done, or wants memory; and what is done is what the program means.
-use Rattle.std.proofs.Common.{◌≡◌, ◌++◌, ◌≤◌, ◌<◌, ℕ, suc, List, [], ◌∷◌, Bool, true, false, refl, sym, ◌∙◌, ap, subst, append_assoc, append-nil as append-nil', arith, inl, inr, length, length-append}
+use Rattle.std.proofs.Common.{◌≡◌, ◌++◌, ◌≤◌, ℕ, suc, List, [], ◌∷◌, Bool, true, false, refl, sym, ◌∙◌, ap, subst, append_assoc, append-nil as append-nil', arith, inl, inr, length, length-append}
 use Rattle.std.specs.Prelude.{◌⊎◌, Option, Some, None, IsSome}
 use Rattle.std.specs.Io.KnownBytes.{Appends, Consumes, IsAtEnd}
 use Rattle.kex_code.specs.Codes.{Begins}
 use Rattle.std.proofs.lemmas.Bool.{false≢true}
 use Rattle.kex_ports.specs.Named.{Texts}
 use Rattle.kex_ports.specs.Reads.{Reads, last_given}
-use Rattle.kex_ports.specs.Shelf.{ShelfText, untold, absent, present, IsTold, IsPast, told_of}
-use Rattle.kex_tokens.specs.Texts.{most_text}
+use Rattle.kex_ports.specs.Shelf.{ShelfText, untold, absent, present, IsTold, told_of}
 use Rattle.kex_ports.proofs.Known.{append-nil}
 use Rattle.kex_model.specs.Programs.{Grammar}
 use Rattle.kex_model.specs.Places.{moves, start_of, steps_of}
@@ -25,10 +24,6 @@ use Rattle.kex_pipe.specs.Reports.{report_as}
 use Rattle.kex_model.proofs.Pipelines.{one_answer as one_pipeline, pipelines_stand}
 use Rattle.kex_reader.specs.Spelling.{Spells}
 use Rattle.kex_compile.specs.Stages.{roots_of}
-use Rattle.kex_compile.specs.Compiled.{Accepts, IsRefused}
-use Rattle.kex_compile.specs.declared.refusal.CompileRefusal.{CompileRefusal}
-use Rattle.kex_compile.specs.declared.refusal.CompileRefusal.TheVariants as compile
-use Rattle.kex_compile.specs.declared.limits.Limits.{Limits}
 use Rattle.kex_code.specs.Texts.{text_of}
 use Rattle.kex_code.specs.declared.symbol.Symbol.{Symbol}
 use Rattle.kex_model.specs.Acting.{ActingState, after_steps}
@@ -39,18 +34,17 @@ use Rattle.kex_single.specs.PlayLaws as plays
 use Rattle.kex_single.specs.CodeLaws.{text_grows}
 use Rattle.kex_single.specs.TestLaws.{both_nothing}
 use Rattle.kex_words.specs.Words.{Asked, Mode, Reach}
-use Rattle.kex_words.specs.Words.Asked.{ToCheck, ToEach, ToStream, ToTry}
+use Rattle.kex_words.specs.Words.Asked.{ToCheck, ToCompile, ToEach, ToExec, ToStream, ToTry}
 use Rattle.kex_words.specs.Words.Mode.{running, coding, acting, testing}
 use Rattle.kex_words.specs.Gains.{StreamChange}
-use Rattle.kex_words.specs.declared.refusals.Refusal.{Refusal}
 use Rattle.kex_top.specs.Answer.{Said}
-use Rattle.kex_top.specs.Modes.{BeginsTreeCode, HasParseAlone, IsTreeCode, WritesPart, MeansCode, SaysBy, SaysCode, SaysNothing, StageGives, limits_of}
+use Rattle.kex_top.specs.Modes.{BeginsTreeCode, HasParseAlone, IsTreeCode, WritesPart, MeansCode, SaysBy, SaysCode, SaysNothing, StageGives}
 use Rattle.kex_top.specs.Pipelines.{MeansInTurn}
 use Rattle.kex_top.specs.Run.{Ran, WritesAll}
-use Rattle.kex_top.specs.Commands.{StreamParses, calls_of, limits_for, told_text}
-use Rattle.kex_top.specs.Refusals.{IsRefusalOf, IsRefusedFor}
+use Rattle.kex_top.specs.Commands.{StreamParses, calls_of, runs_within, taken_for, told_text}
+use Rattle.kex_top.specs.Refusals.{HoldsProgram, IsRefusedFor}
 use Rattle.kex_top.specs.Shelves.{Broke, ShelfChange, ShelfServes}
-use Rattle.kex_top.specs.Kex.{CallAnswers, CommandAnswers, Headline, IsComplete, HasNotRisen, BreaksNoRule, CommandWorks}
+use Rattle.kex_top.specs.Kex.{CallAnswers, CommandAnswers, Headline, IsComplete, HasNotRisen, BreaksNoRule, CommandWorks, WorksWith}
 use Rattle.kex_pipe.specs.declared.report.Rejected.{Rejected as Report}
 use Rattle.kex_top.specs.declared.status.Status.{Status}
 use Rattle.kex_top.specs.declared.status.Status.TheVariants.{Done, Rejected, Usage, Refused, ReadFault, WriteFault, ShelfFault, Memory, TooLong, InputTooLong}
@@ -188,21 +182,10 @@ unbroken told text s is quiet broke =
     let b = subst P is broke in
     let rose = b.1 in omega arith
 
-shown_memory : (text : List ℕ) (r : Refusal) (rule : CompileRefusal) → rule ≡ compile.Memory → IsRefusalOf text rule r → ⊥
-shown_memory text r rule e i = subst (λ z. IsRefusalOf text z r) e i
-
-unrefused : (limits : Limits) (told : ShelfText) (text : List ℕ) (r : Refusal) → told ≡ present text → length text ≤ most_text → ((rule : CompileRefusal) → IsRefused limits text rule → rule ≡ compile.Memory) → IsRefusedFor limits told r → ⊥
-unrefused limits told text r is short good (inl past) =
-    let P : ShelfText → Type 0 = λ t. IsPast t most_text in
-    let long : most_text < length text = subst P is past.0 in omega arith
-unrefused limits told text r is short good (inr b) =
-    let same : b.text ≡ text = told-same told text b.text is b.is_told in
-    shown_memory b.text r b.rule (good b.rule (subst (λ t. IsRefused limits t b.rule) same b.is_refused)) b.is_shown
-
 -- a run on an input that is good has no report
-ran-good : (mode : Mode) (limit last : ℕ) (text other : List ℕ) (P : Grammar) (source sink : StreamChange) (s : Status) (r : Report) → other ≡ text → Spells other P → StreamParses mode limit text source → (ran : Ran (SaysBy mode P limit) last source sink s) → WritesAll (SaysBy mode P limit) ran.w ran.e (Some r) sink → ⊥
-ran-good mode limit last text other P source sink s r same spells g ran all =
-    let goes = g.parses P (subst (λ t. Spells t P) same spells) in
+ran-good : (mode : Mode) (limit last : ℕ) (IsProgram : Grammar → Type 0) (P : Grammar) (source sink : StreamChange) (s : Status) (r : Report) → IsProgram P → StreamParses IsProgram (λ Q. SaysBy mode Q limit) source → (ran : Ran (SaysBy mode P limit) last source sink s) → WritesAll (SaysBy mode P limit) ran.w ran.e (Some r) sink → ⊥
+ran-good mode limit last IsProgram P source sink s r is g ran all =
+    let goes = g.parses P is in
     unrejected_by P mode limit source.old source.new ran.w g.input ran.e all.said goes.0 r g.rest ran.read ran.ended all.is_said all.reports goes.1 goes.2
 
 module _ (texts : Option Texts) (shelf : ShelfChange) (reads : Option Reads) (source sink : StreamChange) where
@@ -212,22 +195,38 @@ module _ (texts : Option Texts) (shelf : ShelfChange) (reads : Option Reads) (so
   unfailed (ToCheck name states) g takes h = unbroken (told_of texts name) g.text shelf g.is_told (g.on_shelf takes) h.2
   unfailed (ToEach name states limit workers) g takes h = unbroken (told_of texts name) g.text shelf g.is_told (g.on_shelf takes) h.2
   unfailed (ToTry lines block rings) g takes h = false≢true takes
+  unfailed (ToCompile name states) g takes h = unbroken (told_of texts name) g.text shelf g.is_told (g.on_shelf takes) h.2
+  unfailed (ToExec name reach) g takes h = unbroken (told_of texts name) g.text shelf g.is_told (g.on_shelf takes) h.2
+
+  -- the program is one that the text spells
+  spelt : (mode : Mode) (name : List ℕ) (reach : Reach) (s : Status) (g : BreaksNoRule (ToStream mode name reach) texts shelf source sink) (w : CommandWorks (ToStream mode name reach) texts reads source sink s) → Spells g.text w.program
+  spelt mode name reach s g w = subst (λ t. Spells t w.program) (told-same (told_of texts name) g.text w.text g.is_told w.is_told) w.works.spells
+
+  -- or that the file holds
+  held : (name : List ℕ) (reach : Reach) (s : Status) (g : BreaksNoRule (ToExec name reach) texts shelf source sink) (w : CommandWorks (ToExec name reach) texts reads source sink s) → HoldsProgram g.text w.program
+  held name reach s g w = subst (λ t. HoldsProgram t w.program) (told-same (told_of texts name) g.text w.text g.is_told w.is_told) w.works
 
   -- isn't rejected
   unrejected_as : (asked : Asked) (r : Report) → BreaksNoRule asked texts shelf source sink → CommandWorks asked texts reads source sink (Rejected r) → ⊥
   unrejected_as (ToStream mode name reach) r g w =
-      ran-good mode reach.max_input (last_given reach.block reads) g.text w.text w.program source sink (Rejected r) r (told-same (told_of texts name) g.text w.text g.is_told w.is_told) w.accepts.spells g.input_is_good w.performs w.performs.ends.1
+      ran-good mode reach.max_input (last_given reach.block reads) (λ P. Spells g.text P) w.program source sink (Rejected r) r (spelt mode name reach (Rejected r) g w) g.input_is_good w.performs w.performs.ends.1
   unrejected_as (ToCheck name states) r g w = w.performs.1.told
   unrejected_as (ToEach name states limit workers) r g w = w.performs.ends
   unrejected_as (ToTry lines block rings) r g w = w.performs.1.told
+  unrejected_as (ToCompile name states) r g w = w.performs.1.told
+  unrejected_as (ToExec name reach) r g w =
+      ran-good (running 0) reach.max_input (last_given reach.block reads) (λ P. HoldsProgram g.text P) w.program source sink (Rejected r) r (held name reach (Rejected r) g w) g.input_is_good w.performs w.performs.ends.1
 
   -- isn't too long
   unlimited : (asked : Asked) (r : Report) → BreaksNoRule asked texts shelf source sink → CommandWorks asked texts reads source sink (TooLong r) → ⊥
   unlimited (ToStream mode name reach) r g w =
-      ran-good mode reach.max_input (last_given reach.block reads) g.text w.text w.program source sink (TooLong r) r (told-same (told_of texts name) g.text w.text g.is_told w.is_told) w.accepts.spells g.input_is_good w.performs w.performs.ends.1
+      ran-good mode reach.max_input (last_given reach.block reads) (λ P. Spells g.text P) w.program source sink (TooLong r) r (spelt mode name reach (TooLong r) g w) g.input_is_good w.performs w.performs.ends.1
   unlimited (ToCheck name states) r g w = w.performs.1.told
   unlimited (ToEach name states limit workers) r g w = w.performs.ends
   unlimited (ToTry lines block rings) r g w = w.performs.1.told
+  unlimited (ToCompile name states) r g w = w.performs.1.told
+  unlimited (ToExec name reach) r g w =
+      ran-good (running 0) reach.max_input (last_given reach.block reads) (λ P. HoldsProgram g.text P) w.program source sink (TooLong r) r (held name reach (TooLong r) g w) g.input_is_good w.performs w.performs.ends.1
 
   -- has no more bytes than an input may have
   unbounded : (asked : Asked) → BreaksNoRule asked texts shelf source sink → CommandWorks asked texts reads source sink InputTooLong → ⊥
@@ -238,6 +237,8 @@ module _ (texts : Option Texts) (shelf : ShelfChange) (reads : Option Reads) (so
       let few = g.input_is_good.short in
       let long = w.performs.ends.0 in omega arith
   unbounded (ToTry lines block rings) g w = w.performs.1.told
+  unbounded (ToCompile name states) g w = w.performs.1.told
+  unbounded (ToExec name reach) g w = w.performs.ends
 
   -- and fails at neither source nor sink
   unstopped : (asked : Asked) → BreaksNoRule asked texts shelf source sink → CommandWorks asked texts reads source sink ReadFault → ⊥
@@ -247,6 +248,9 @@ module _ (texts : Option Texts) (shelf : ShelfChange) (reads : Option Reads) (so
   unstopped (ToEach name states limit workers) g w =
       let rose = w.performs.ends.1.2.1 in let quiet = g.readable refl in omega arith
   unstopped (ToTry lines block rings) g w = w.performs.1.told
+  unstopped (ToCompile name states) g w = w.performs.1.told
+  unstopped (ToExec name reach) g w =
+      let rose = w.performs.ends.2.1 in let quiet = g.readable refl in omega arith
 
   unspoilt : (asked : Asked) → BreaksNoRule asked texts shelf source sink → CommandWorks asked texts reads source sink WriteFault → ⊥
   unspoilt (ToStream mode name reach) g w =
@@ -257,13 +261,17 @@ module _ (texts : Option Texts) (shelf : ShelfChange) (reads : Option Reads) (so
       let rose = w.performs.ends.2.1 in let quiet = g.writable in omega arith
   unspoilt (ToTry lines block rings) g w =
       let rose = w.performs.1.told.1.1 in let quiet = g.writable in omega arith
+  unspoilt (ToCompile name states) g w =
+      let rose = w.performs.1.told.1.1 in let quiet = g.writable in omega arith
+  unspoilt (ToExec name reach) g w =
+      let rose = w.performs.ends.2.1 in let quiet = g.writable in omega arith
 
   sound : (asked : Asked) (s : Status) → BreaksNoRule asked texts shelf source sink → ShelfServes (calls_of (Some asked)).takes texts shelf s → CommandAnswers asked texts reads source sink s → (s ≡ Done) ⊎ (s ≡ Memory)
   sound asked Done g h a = inl refl
   sound asked Memory g h a = inr refl
   sound asked Usage g h a = absurd a
   sound asked ShelfFault g h a = absurd (unfailed asked g a.0 h)
-  sound asked (Refused k) g h a = absurd (unrefused (limits_for asked) (told_text texts asked) g.text k g.is_told g.short g.unbroken a.1)
+  sound asked (Refused k) g h a = absurd (g.unrefused k (subst (λ t. IsRefusedFor (taken_for asked) t k) g.is_told a.1))
   sound asked (Rejected r) g h a = absurd (unrejected_as asked r g a)
   sound asked (TooLong r) g h a = absurd (unlimited asked r g a)
   sound asked InputTooLong g h a = absurd (unbounded asked g a)
@@ -313,20 +321,45 @@ all-meant P limit i (root ∷ rs) w text r (a, rest, gives, others, is) none =
     let m = whole_of P root limit gives n.0 in
     (m.0, a.text, m.1, all-meant P limit (suc i) rs a.text text rest (subst (λ z. Pipeline (λ root v d b. StageAnswers P root limit v d b) (suc i) rs a.text z text rest) m.2 others) n.1)
 
-pub done-as-told : (states : ℕ) (name : List ℕ) (reach : Reach) (a : Option Asked) (texts : Option Texts) (reads : Option Reads) (source sink : StreamChange) (s : Status) (text input before : List ℕ) → a ≡ Some (ToStream (running states) name reach) → told_of texts name ≡ present text → source.old ≡ Some input → sink.old ≡ Some before → s ≡ Done → CallAnswers a texts reads source sink s → Headline states text reach.max_input input before source.new sink.new
-done-as-told states name reach a texts reads source sink s text input before command is rest held done answers =
-    by (subst (λ x. CallAnswers (Some (ToStream (running states) name reach)) texts reads source sink x) done (subst (λ x. CallAnswers x texts reads source sink s) command answers))
+-- what was done within the limit is what a program of the text means
+as-meant : (asked : Asked) (limit last : ℕ) (texts : Option Texts) (source sink : StreamChange) (text t input before : List ℕ) (P : Grammar) → told_text texts asked ≡ present text → source.old ≡ Some input → sink.old ≡ Some before → IsTold (told_text texts asked) t → WorksWith (taken_for asked) t P → Ran (SaysBy (running 0) P limit) last source sink Done → Headline (taken_for asked) text limit input before source.new sink.new
+as-meant asked limit last texts source sink text t input before P is rest held told works ran =
+    let ended : ran.e ≡ true = ran.ends.0 in
+    let all = reads-all source.old source.new input ran.w rest ran.read (ran.ended ended) in
+    let x = ran.ends.1 in
+    let answer : SaysBy (running 0) P limit ran.w true x.said = subst (λ e. SaysBy (running 0) P limit ran.w e x.said) ended x.is_said in
+    let m = all-meant P limit 1 (roots_of P) ran.w x.said.text (report_as x.said.report) answer (no_report x.said.report x.reports) in
+    record {
+      program = P;
+      works = subst (λ z. WorksWith (taken_for asked) z P) (told-same (told_text texts asked) text t is told) works;
+      meant = x.said.text;
+      means = subst (λ z. MeansInTurn P limit (roots_of P) z x.said.text) all.1 m;
+      written = holds-all sink.old sink.new before x.said.text held x.appended;
+      read = all.0;
+    }
+
+-- the limit of a command that runs
+same-limit : (m n : ℕ) → Some m ≡ Some n → m ≡ n
+same-limit m n e = cc
+
+no-limit : (n : ℕ) → None ≡ Some n → ⊥
+no-limit n e = cc
+
+pub done-as-told : (asked : Asked) (limit : ℕ) (a : Option Asked) (texts : Option Texts) (reads : Option Reads) (source sink : StreamChange) (s : Status) (text input before : List ℕ) → a ≡ Some asked → runs_within asked ≡ Some limit → told_text texts asked ≡ present text → source.old ≡ Some input → sink.old ≡ Some before → s ≡ Done → CallAnswers a texts reads source sink s → Headline (taken_for asked) text limit input before source.new sink.new
+done-as-told asked limit a texts reads source sink s text input before command runs is rest held done answers =
+    by asked runs is (subst (λ x. CallAnswers (Some asked) texts reads source sink x) done (subst (λ x. CallAnswers x texts reads source sink s) command answers))
   where
-    by : CommandWorks (ToStream (running states) name reach) texts reads source sink Done → Headline states text reach.max_input input before source.new sink.new
-    by w =
-        let limit = reach.max_input in
-        let ran = w.performs in
-        let ended : ran.e ≡ true = ran.ends.0 in
-        let all = reads-all source.old source.new input ran.w rest ran.read (ran.ended ended) in
-        let x = ran.ends.1 in
-        let answer : SaysBy (running states) w.program limit ran.w true x.said = subst (λ e. SaysBy (running states) w.program limit ran.w e x.said) ended x.is_said in
-        let m = all-meant w.program limit 1 (roots_of w.program) ran.w x.said.text (report_as x.said.report) answer (no_report x.said.report x.reports) in
-        moved w.text (told-same (told_of texts name) text w.text is w.is_told) w.program w.accepts x.said.text (subst (λ z. MeansInTurn w.program limit (roots_of w.program) z x.said.text) all.1 m) (holds-all sink.old sink.new before x.said.text held x.appended) all.0
-      where
-        moved : (t : List ℕ) → t ≡ text → (P : Grammar) → Accepts (limits_of (running states)) t P → (meant : List ℕ) → MeansInTurn P reach.max_input (roots_of P) input meant → sink.new ≡ Some (before ++ meant) → source.new ≡ Some [] → Headline states text reach.max_input input before source.new sink.new
-        moved t e P x meant m w r = record { program = P; accepts = subst (λ z. Accepts (limits_of (running states)) z P) e x; meant = meant; means = m; written = w; read = r }
+    by : (asked : Asked) → runs_within asked ≡ Some limit → told_text texts asked ≡ present text → CommandWorks asked texts reads source sink Done → Headline (taken_for asked) text limit input before source.new sink.new
+    by (ToStream (running states) name reach) runs is w =
+        as-meant (ToStream (running states) name reach) limit (last_given reach.block reads) texts source sink text w.text input before w.program is rest held w.is_told w.works
+        (subst (λ n. Ran (SaysBy (running 0) w.program n) (last_given reach.block reads) source sink Done) (same-limit reach.max_input limit runs) w.performs)
+    by (ToExec name reach) runs is w =
+        as-meant (ToExec name reach) limit (last_given reach.block reads) texts source sink text w.text input before w.program is rest held w.is_told w.works
+        (subst (λ n. Ran (SaysBy (running 0) w.program n) (last_given reach.block reads) source sink Done) (same-limit reach.max_input limit runs) w.performs)
+    by (ToStream coding name reach) runs is w = absurd (no-limit limit runs)
+    by (ToStream acting name reach) runs is w = absurd (no-limit limit runs)
+    by (ToStream testing name reach) runs is w = absurd (no-limit limit runs)
+    by (ToCheck name states) runs is w = absurd (no-limit limit runs)
+    by (ToEach name states max workers) runs is w = absurd (no-limit limit runs)
+    by (ToTry lines block rings) runs is w = absurd (no-limit limit runs)
+    by (ToCompile name states) runs is w = absurd (no-limit limit runs)

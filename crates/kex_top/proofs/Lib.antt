@@ -9,6 +9,8 @@ pub mod WholeRuns
 pub mod LineRuns
 pub mod CallAnswers
 pub mod LineCommands
+pub mod FiledStages
+pub mod TableCommands
 pub mod CompleteRuns
 pub mod PortCalls
 pub mod SilentTests

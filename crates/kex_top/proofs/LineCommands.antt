@@ -63,7 +63,7 @@ line_served name states limit workers texts reads plans source sink s h r =
       text = h.text;
       is_told = h.is_told;
       program = P;
-      accepts = p.accepts;
+      works = p.accepts;
       performs = lines_alike (NodesSayLines (stage_plans limit ms)) (SaysLines P limit)
           (λ w e said k. lines_say_alike (λ q v d a. Gives q v d a) (λ root v d a. StageAnswers P root limit v d a) (stage_plans limit ms) roots
           (λ l t o x. carried P (running states) limit 1 1 roots ms l true t o p.plans_of.stages (by_machines states limit 1 ms l true t o x)) w e said k)

@@ -1,4 +1,4 @@
--- What the commands are, case by case: what each calls, what it asks of its program, and what it
+-- What the commands are, case by case: what each calls, what it takes for its program, and what it
 -- does.
 use Rattle.std.specs.Prelude.{◌≡◌, ℕ, Bool, true, false, List, Option, Some, None, length, ⊤}
 use Rattle.kex_ports.specs.Named.{Texts}
@@ -7,20 +7,23 @@ use Rattle.kex_ports.specs.Shelf.{ShelfText, present, told_of}
 use Rattle.kex_model.specs.Programs.{Grammar}
 use Rattle.kex_reader.specs.Spelling.{Spells}
 use Rattle.kex_compile.specs.Stages.{HaveInAll, HaveStatesInAll, roots_of}
-use Rattle.kex_compile.specs.declared.limits.Limits.{Limits}
+use Rattle.kex_stage.specs.Plans.{Planned}
+use Rattle.kex_tabfile.specs.TableFiles.{ArePlansOf, IsGood}
 use Rattle.kex_words.specs.Form.{most_input}
 use Rattle.kex_words.specs.Gains.{StreamChange, GainsFront, GainsWhole}
 use Rattle.kex_words.specs.Lines.{counts_line, trial_line}
 use Rattle.kex_words.specs.Words.{Asked, Mode}
-use Rattle.kex_words.specs.Words.Asked.{ToCheck, ToEach, ToStream, ToTry}
-use Rattle.kex_words.specs.Words.Mode.{testing}
-use Rattle.kex_words.specs.declared.counts.Summary.{Summary}
+use Rattle.kex_words.specs.Words.Asked.{ToCheck, ToCompile, ToEach, ToExec, ToStream, ToTry}
+use Rattle.kex_words.specs.Words.Mode.{running, testing}
+use Rattle.kex_words.specs.declared.counts.TrialCounts.{TrialCounts}
 use Rattle.kex_top.specs.Answer.{Said}
 use Rattle.kex_top.specs.ByLines.{IsShort, RanByLines, SaysLines, line_block}
 use Rattle.kex_top.specs.Modes.{SaysBy, limits_of, limits_to_check}
 use Rattle.kex_top.specs.Pipelines.{Answered}
+use Rattle.kex_top.specs.Refusals.{HoldsProgram}
 use Rattle.kex_top.specs.Run.{IsAsBefore, Ran}
-use Rattle.kex_top.specs.Trials.{IsSummary, trial_text, usual_states}
+use Rattle.kex_top.specs.Taken.{Taken, a_table_file, a_text}
+use Rattle.kex_top.specs.Trials.{AreTrialCounts, trial_text, usual_states}
 use Rattle.kex_top.specs.declared.status.Status.{Status}
 use Rattle.kex_top.specs.declared.status.Status.TheVariants.{Done, WriteFault}
 
@@ -45,26 +48,33 @@ calls_of (Some (ToCheck name states)) = record { takes = Some name; block = None
 calls_of (Some (ToEach name states limit workers)) =
     record { takes = Some name; block = Some line_block; writes = true }
 calls_of (Some (ToTry lines block rings)) = record { takes = None; block = None; writes = true }
+calls_of (Some (ToCompile name states)) = record { takes = Some name; block = None; writes = true }
+calls_of (Some (ToExec name reach)) =
+    record { takes = Some name; block = Some reach.block; writes = true }
 
--- What is told of the text of a command's program. A trial has a text of its own.
+-- What is told of what a command takes. A trial has a text of its own.
 abbrev pub told_text : Option Texts → Asked → ShelfText
 told_text texts (ToStream mode name reach) = told_of texts name
 told_text texts (ToCheck name states) = told_of texts name
 told_text texts (ToEach name states limit workers) = told_of texts name
 told_text texts (ToTry lines block rings) = present trial_text
+told_text texts (ToCompile name states) = told_of texts name
+told_text texts (ToExec name reach) = told_of texts name
 
--- What a command asks of its program.
-abbrev pub limits_for : Asked → Limits
-limits_for (ToStream mode name reach) = limits_of mode
-limits_for (ToCheck name states) = limits_to_check states
-limits_for (ToEach name states limit workers) = limits_to_check states
-limits_for (ToTry lines block rings) = limits_to_check usual_states
+-- What a command takes: the text of a program, of which it asks this, or a table file.
+abbrev pub taken_for : Asked → Taken
+taken_for (ToStream mode name reach) = a_text (limits_of mode)
+taken_for (ToCheck name states) = a_text (limits_to_check states)
+taken_for (ToEach name states limit workers) = a_text (limits_to_check states)
+taken_for (ToTry lines block rings) = a_text (limits_to_check usual_states)
+taken_for (ToCompile name states) = a_text (limits_to_check states)
+taken_for (ToExec name reach) = a_table_file
 
--- The line was written, or a front of it.
-abbrev pub TellsLine : List ℕ → StreamChange → Status → Type 0
-TellsLine line sink Done = GainsWhole sink line
-TellsLine line sink WriteFault = GainsFront sink line
-TellsLine line sink _ = ⊥
+-- The bytes were written, or a front of them.
+abbrev pub TellsBytes : List ℕ → StreamChange → Status → Type 0
+TellsBytes bytes sink Done = GainsWhole sink bytes
+TellsBytes bytes sink WriteFault = GainsFront sink bytes
+TellsBytes bytes sink _ = ⊥
 
 -- The stages, places and states of a program were counted, and their line told.
 pub record Counted (P : Grammar) (Told : List ℕ → Type 0) : Type 0 where
@@ -77,34 +87,58 @@ pub record Counted (P : Grammar) (Told : List ℕ → Type 0) : Type 0 where
 
 -- What a program says of so many lines was summed up, and the line of that told.
 pub record Tried (P : Grammar) (lines : ℕ) (Told : List ℕ → Type 0) : Type 0 where
-  pub summary : Summary
-  pub sums : IsSummary (Answered P most_input) lines summary
-  pub told : Told (trial_line summary)
+  pub counts : TrialCounts
+  pub sums : AreTrialCounts (Answered P most_input) lines counts
+  pub told : Told (trial_line counts)
 
--- What a command does with its program, for each answer that comes after it has begun. A command on
--- an input says what its program says of the bytes read, or of each of their lines; a check and a
--- trial read nothing.
-abbrev pub Performs : Asked → Grammar → Option Reads → StreamChange → StreamChange → Status → Type 0
-Performs (ToStream mode name reach) P reads source sink status =
+-- The good table file of the text with the tables of determinisation was made, and told.
+pub record Filed (text : List ℕ) (Told : List ℕ → Type 0) : Type 0 where
+  pub plans : List Planned
+  pub plans_of : ArePlansOf text plans
+  pub file : List ℕ
+  pub good : IsGood file plans
+  pub of_text : good.text ≡ text
+  pub told : Told file
+
+-- What a command does with its program, which this text spells or this file holds, for each answer
+-- that comes after it has begun. A command on an input says what its program says of the bytes
+-- read, or of each of their lines; a check, a trial and a compilation read nothing.
+abbrev pub Performs : Asked → List ℕ → Grammar → Option Reads → StreamChange → StreamChange → Status
+    → Type 0
+Performs (ToStream mode name reach) text P reads source sink status =
     Ran (SaysBy mode P reach.max_input) (last_given reach.block reads) source sink status
-Performs (ToCheck name states) P reads source sink status =
-    IsAsBefore source × Counted P (λ line. TellsLine line sink status)
-Performs (ToEach name states limit workers) P reads source sink status =
+Performs (ToCheck name states) text P reads source sink status =
+    IsAsBefore source × Counted P (λ line. TellsBytes line sink status)
+Performs (ToEach name states limit workers) text P reads source sink status =
     RanByLines (SaysLines P limit) (last_given line_block reads) source sink status
-Performs (ToTry lines block rings) P reads source sink status =
-    IsAsBefore source × Tried P lines (λ line. TellsLine line sink status)
+Performs (ToTry lines block rings) text P reads source sink status =
+    IsAsBefore source × Tried P lines (λ line. TellsBytes line sink status)
+Performs (ToCompile name states) text P reads source sink status =
+    IsAsBefore source × Filed text (λ file. TellsBytes file sink status)
+Performs (ToExec name reach) file P reads source sink status =
+    Ran (Answered P reach.max_input) (last_given reach.block reads) source sink status
 
--- The source's bytes are known, and what a program of the text says of them, ended, has no report.
-pub record StreamParses (mode : Mode) (limit : ℕ) (text : List ℕ)
-    (source : StreamChange) : Type 0 where
+-- The source's bytes are known, and what such a program says of them, ended, has no report.
+pub record StreamParses (IsProgram : Grammar → Type 0)
+    (says : Grammar → List ℕ → Bool → Said → Type 0) (source : StreamChange) : Type 0 where
   pub input : List ℕ
   pub rest : source.old ≡ Some input
-  pub parses : (P : Grammar) → Spells text P
-      → (said : Said) × SaysBy mode P limit input true said × (said.report ≡ None)
+  pub parses : (P : Grammar) → IsProgram P
+      → (said : Said) × says P input true said × (said.report ≡ None)
 
--- The input is one with which the command ends well. A check and a trial have none.
+-- The input is one with which the command ends well. A check, a trial and a compilation have none.
 abbrev pub InputIsGood : Asked → List ℕ → StreamChange → Type 0
-InputIsGood (ToStream mode name reach) text source = StreamParses mode reach.max_input text source
+InputIsGood (ToStream mode name reach) text source =
+    StreamParses (λ P. Spells text P) (λ P. SaysBy mode P reach.max_input) source
 InputIsGood (ToCheck name states) text source = ⊤
 InputIsGood (ToEach name states limit workers) text source = IsShort source
 InputIsGood (ToTry lines block rings) text source = ⊤
+InputIsGood (ToCompile name states) text source = ⊤
+InputIsGood (ToExec name reach) file source =
+    StreamParses (λ P. HoldsProgram file P) (λ P. Answered P reach.max_input) source
+
+-- A command that runs a program's stages on the input, each of which takes at most so many bytes.
+abbrev pub runs_within : Asked → Option ℕ
+runs_within (ToStream (running states) name reach) = Some reach.max_input
+runs_within (ToExec name reach) = Some reach.max_input
+runs_within asked = None

@@ -10,6 +10,7 @@ pub mod Pipelines
 pub mod PipelineLaws
 pub mod Piped
 pub mod Modes
+pub mod Taken
 pub mod Refusals
 pub mod Trials
 pub mod ByLines

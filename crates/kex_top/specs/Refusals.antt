@@ -1,19 +1,28 @@
 -- Why a command has no program to begin with, and what is told of it.
-use Rattle.std.specs.Prelude.{◌≡◌, ◌⊎◌, ◌+◌, ℕ, List, take, ⊤}
-use Rattle.kex_compile.specs.Compiled.{IsCompiled, IsRefused}
-use Rattle.kex_compile.specs.Stages.{Plans}
+use Rattle.std.specs.Prelude.{◌≡◌, ◌⊎◌, ◌+◌, ℕ, false, List, take, ⊤}
+use Rattle.kex_code.specs.Codes.{Begins}
+use Rattle.kex_compile.specs.Compiled.{Accepts, IsCompiled, IsRefused}
+use Rattle.kex_compile.specs.Stages.{AreStages, Plans, roots_of}
 use Rattle.kex_compile.specs.declared.limits.Limits.{Limits}
 use Rattle.kex_compile.specs.declared.refusal.CompileRefusal.{CompileRefusal}
 use Rattle.kex_compile.specs.declared.refusal.CompileRefusal.TheVariants as compile
+use Rattle.kex_machine.specs.Nodes.{Graph}
+use Rattle.kex_model.specs.Programs.{Grammar}
 use Rattle.kex_ports.specs.Shelf.{ShelfText, IsTold, IsPast}
 use Rattle.kex_reader.specs.Lines.{behind_feed, feeds}
-use Rattle.kex_tokens.specs.Texts.{most_text}
-use Rattle.kex_words.specs.declared.refusals.RefusalPlace.TheVariants.{At, Nowhere, Stage}
+use Rattle.kex_stage.specs.Plans.{Planned}
+use Rattle.kex_tabfile.specs.Lines.{head_text}
+use Rattle.kex_tabfile.specs.TableFiles.{IsGood, IsTableRefused}
+use Rattle.kex_tabfile.specs.declared.refusal.TableRefusal.{TableRefusal}
+use Rattle.kex_tabfile.specs.declared.refusal.TableRefusal.TheVariants as tables
+use Rattle.kex_words.specs.declared.refusals.RefusalPlace.TheVariants.{At, Line, Nowhere, Stage}
 use Rattle.kex_words.specs.declared.refusals.Refusal.{Refusal}
 use Rattle.kex_words.specs.declared.refusals.Rule.{Rule}
 use Rattle.kex_words.specs.declared.refusals.Rule.TheVariants as rules
+use Rattle.kex_top.specs.Taken.{Taken, a_table_file, a_text, text_kind, most_taken, rule_past}
 use Rattle.kex_top.specs.declared.start.StartError.{StartError}
 use Rattle.kex_top.specs.declared.start.StartError.TheVariants as start
+use Rattle.kex_top.specs.declared.taking.TextKind.{TextKind}
 
 -- A rule that the whole text breaks.
 abbrev pub broken : Rule → Refusal
@@ -54,11 +63,33 @@ IsRefusalOf text compile.OneStage r = r ≡ broken rules.OneStage
 IsRefusalOf text (compile.TooManyStates n) r = r ≡ broken_in rules.TooManyStates n
 IsRefusalOf text compile.Memory r = ⊥
 
+-- A rule that a line of a table file breaks.
+abbrev pub broken_on : Rule → ℕ → Refusal
+broken_on rule line = record { rule = rule; place = Line line }
+
+-- The same for what is wrong with a table file. Of its text, places are counted in that.
+abbrev pub IsFileRefusalOf : List ℕ → TableRefusal → Refusal → Type 0
+IsFileRefusalOf file tables.TableTooLong r = r ≡ broken rules.TableTooLong
+IsFileRefusalOf file (tables.BadTable line) r = r ≡ broken_on rules.BadTable line
+IsFileRefusalOf file (tables.Text why) r = (text : List ℕ) × Begins file (head_text text)
+    × IsRefusalOf text why r
+IsFileRefusalOf file tables.Memory r = ⊥
+
 -- A rule that a text breaks, as a command tells it.
 abbrev pub IsStartOf : List ℕ → CompileRefusal → StartError → Type 0
 IsStartOf text rule start.Memory = rule ≡ compile.Memory
 IsStartOf text rule (start.Refused r) = IsRefusalOf text rule r
 IsStartOf text rule _ = ⊥
+
+-- What is wrong with a table file, as a command tells it.
+abbrev pub IsFileStartOf : List ℕ → TableRefusal → StartError → Type 0
+IsFileStartOf file why start.Memory = ⊤
+IsFileStartOf file why (start.Refused r) = IsFileRefusalOf file why r
+IsFileStartOf file why _ = ⊥
+
+-- What is told is past what a text of this kind may have.
+abbrev pub IsTooLong : TextKind → ShelfText → Refusal → Type 0
+IsTooLong kind told r = IsPast told (most_taken kind) × (r ≡ broken (rule_past kind))
 
 -- A text that is told breaks this rule.
 pub record IsBrokenRule (limits : Limits) (told : ShelfText) (r : Refusal) : Type 0 where
@@ -68,10 +99,21 @@ pub record IsBrokenRule (limits : Limits) (told : ShelfText) (r : Refusal) : Typ
   pub is_refused : IsRefused limits text rule
   pub is_shown : IsRefusalOf text rule r
 
+-- A table file that is told is refused so.
+pub record IsBrokenFile (told : ShelfText) (r : Refusal) : Type 0 where
+  pub file : List ℕ
+  pub is_told : IsTold told file
+  pub why : TableRefusal
+  pub is_refused : IsTableRefused file why
+  pub is_shown : IsFileRefusalOf file why r
+
+abbrev pub IsBroken : Taken → ShelfText → Refusal → Type 0
+IsBroken (a_text limits) told r = IsBrokenRule limits told r
+IsBroken a_table_file told r = IsBrokenFile told r
+
 -- What is told is past the limit, or breaks the rule.
-abbrev pub IsRefusedFor : Limits → ShelfText → Refusal → Type 0
-IsRefusedFor limits told r = (IsPast told most_text × (r ≡ broken rules.TextTooLong))
-    ⊎ IsBrokenRule limits told r
+abbrev pub IsRefusedFor : Taken → ShelfText → Refusal → Type 0
+IsRefusedFor taken told r = IsTooLong (text_kind taken) told r ⊎ IsBroken taken told r
 
 -- A text that is told has these plans.
 pub record HasPlans (limits : Limits) (told : ShelfText) (plans : Plans) : Type 0 where
@@ -79,9 +121,31 @@ pub record HasPlans (limits : Limits) (told : ShelfText) (plans : Plans) : Type 
   pub is_told : IsTold told text
   pub compiled : IsCompiled limits text plans
 
+-- Of a program in a table file no more is asked than the language does: it has its tables.
+abbrev pub limits_in_file : Limits
+limits_in_file = record { states = 0; one_stage = false; tables = false }
+
+-- The file is good, and this is a program that its text spells.
+pub record HoldsProgram (file : List ℕ) (P : Grammar) : Type 0 where
+  pub plans : List Planned
+  pub good : IsGood file plans
+  pub accepts : Accepts limits_in_file good.text P
+
+-- A table file that is told holds a program, whose stages have these machines.
+pub record HoldsStages (told : ShelfText) (machines : List Graph) : Type 0 where
+  pub file : List ℕ
+  pub is_told : IsTold told file
+  pub program : Grammar
+  pub holds : HoldsProgram file program
+  pub stages : AreStages program 1 (roots_of program) machines
+
+-- Nothing was taken, or nothing to begin with: where that is refused, it is for this.
+abbrev pub IsUntaken : (Refusal → Type 0) → StartError → Type 0
+IsUntaken IsFor start.Shelf = ⊤
+IsUntaken IsFor start.Memory = ⊤
+IsUntaken IsFor (start.Refused r) = IsFor r
+IsUntaken IsFor start.Usage = ⊥
+
 -- What is told has no plans.
-abbrev pub HasNone : Limits → ShelfText → StartError → Type 0
-HasNone limits told start.Shelf = ⊤
-HasNone limits told start.Memory = ⊤
-HasNone limits told (start.Refused r) = IsRefusedFor limits told r
-HasNone limits told start.Usage = ⊥
+abbrev pub HasNone : Taken → ShelfText → StartError → Type 0
+HasNone taken told why = IsUntaken (IsRefusedFor taken told) why

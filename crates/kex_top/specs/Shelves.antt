@@ -48,6 +48,6 @@ ShelfServes None texts s status = ShelfIsLeft s
 ShelfServes (Some name) texts s status = ShelfAnswers (told_of texts name) s status
 
 -- The same of a text that is taken.
-abbrev pub TakesProgram : {T : Type 0} → ShelfText → ShelfChange → Result T StartError → Type 0
-TakesProgram told s (Err start.Shelf) = ShelfFailed told s
-TakesProgram told s _ = ShelfIsLeft s
+abbrev pub TakesFromShelf : {T : Type 0} → ShelfText → ShelfChange → Result T StartError → Type 0
+TakesFromShelf told s (Err start.Shelf) = ShelfFailed told s
+TakesFromShelf told s _ = ShelfIsLeft s

@@ -1,11 +1,7 @@
 -- Why a command doesn't begin, and the status of that.
 use Rattle.std.specs.Prelude.{Result, Ok, Err}
-use Rattle.kex_ports.specs.declared.shelf.ShelfAnswer.{ShelfAnswer}
-use Rattle.kex_ports.specs.declared.shelf.ShelfAnswer.TheVariants as shelf
 use Rattle.kex_words.specs.declared.asked.WordsRefusal.{WordsRefusal}
 use Rattle.kex_words.specs.declared.asked.WordsRefusal.TheVariants as words
-use Rattle.kex_words.specs.declared.refusals.RefusalPlace.TheVariants.{Nowhere}
-use Rattle.kex_words.specs.declared.refusals.Rule.TheVariants.{TextTooLong}
 use Rattle.kex_top.specs.declared.start.StartError.{StartError}
 use Rattle.kex_top.specs.declared.start.StartError.TheVariants.{Usage, Shelf, Refused, Memory}
 use Rattle.kex_top.specs.declared.status.Status.{Status}
@@ -14,11 +10,6 @@ use Rattle.kex_top.specs.declared.status.Status.TheVariants as status
 abbrev pub of_words : WordsRefusal → StartError
 of_words words.Usage = Usage
 of_words words.Memory = Memory
-
-abbrev pub of_shelf : ShelfAnswer → StartError
-of_shelf shelf.Failed = Shelf
-of_shelf shelf.TooLong = Refused (record { rule = TextTooLong; place = Nowhere })
-of_shelf shelf.Memory = Memory
 
 abbrev pub status_of : StartError → Status
 status_of Usage = status.Usage

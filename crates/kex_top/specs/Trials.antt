@@ -1,7 +1,7 @@
 -- The lines that a trial makes, the program that it runs them through, and what it sums up.
 use Rattle.std.specs.Prelude.{◌≡◌, ◌+◌, ◌*◌, ◌/◌, ◌%◌, ◌-◌, ◌^◌, ℕ, zero, suc, Bool, true, List, []}
 use Rattle.std.specs.Prelude.{◌∷◌, ◌++◌, codes, decimal, length, min}
-use Rattle.kex_words.specs.declared.counts.Summary.{Summary}
+use Rattle.kex_words.specs.declared.counts.TrialCounts.{TrialCounts}
 use Rattle.kex_top.specs.Answer.{Said}
 
 -- the state after this one
@@ -43,11 +43,11 @@ abbrev pub usual_states : ℕ
 usual_states = 4096
 
 -- what is said of so many lines is summed up
-pub record IsSummary (says : List ℕ → Bool → Said → Type 0) (lines : ℕ)
-    (summary : Summary) : Type 0 where
+pub record AreTrialCounts (says : List ℕ → Bool → Said → Type 0) (lines : ℕ)
+    (counts : TrialCounts) : Type 0 where
   pub said : Said
   pub is_said : says (made_lines lines) true said
-  pub lines_of : summary.lines ≡ lines
-  pub made : summary.made ≡ saturated_count (length (made_lines lines))
-  pub written : summary.written ≡ saturated_count (length said.text)
-  pub roll : summary.roll ≡ rolling_sum 0 said.text
+  pub lines_of : counts.lines ≡ lines
+  pub made : counts.made ≡ saturated_count (length (made_lines lines))
+  pub written : counts.written ≡ saturated_count (length said.text)
+  pub roll : counts.roll ≡ rolling_sum 0 said.text

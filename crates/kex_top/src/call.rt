@@ -1,13 +1,11 @@
 // The program over the objects that it is handed.
 ghost use Rattle.std.specs.Prelude.{◌≡◌, ◌⊎◌, ℕ, List, Some, None, true, false, map, string_bytes};
 ghost use Rattle.kex_ports.specs.Endings.{finishes_of};
-ghost use Rattle.kex_ports.specs.Shelf.{present, told_of};
-ghost use Rattle.kex_words.specs.Words.{Reach, asked_by_command, asked_of};
-ghost use Rattle.kex_words.specs.Words.Asked.{ToStream};
-ghost use Rattle.kex_words.specs.Words.Mode.{running};
+ghost use Rattle.kex_ports.specs.Shelf.{present};
+ghost use Rattle.kex_words.specs.Words.{Asked, asked_by_command, asked_of};
 ghost use Rattle.kex_words.specs.Gains.{Gains, change_of};
 ghost use Rattle.kex_words.specs.Lines.{line_of};
-ghost use Rattle.kex_top.specs.Commands.{calls_of};
+ghost use Rattle.kex_top.specs.Commands.{calls_of, runs_within, taken_for, told_text};
 ghost use Rattle.kex_top.specs.Kex.{CallAnswers, CommandAnswers, Headline, IsComplete};
 ghost use Rattle.kex_top.specs.Outside.{Closes, ReadsBy};
 ghost use Rattle.kex_top.specs.Shelves.{ShelfServes, shelf_change_of};
@@ -16,7 +14,9 @@ ghost use Rattle.kex_top.specs.Status.{note_of};
 ghost use Rattle.kex_top.specs.declared.status.Status.TheVariants.{Done, Memory};
 
 use crate::check::answer_check;
+use crate::compile::answer_compile;
 use crate::each::answer_each;
+use crate::exec::answer_exec;
 use crate::serve::answer_stream;
 use crate::start::{StartError, status_of};
 use crate::status::Status;
@@ -62,6 +62,12 @@ fn answer_command<R: Threads + Sync, G: Gate + Sync, H: Shelf, S: Source, K: Sin
             answer_each(rt, gate, alloc, program, limits, shelf, input, output)
         }
         Command::Trial(lines) => answer_trial(rt, gate, alloc, lines, output),
+        Command::Compile { program, states } => {
+            answer_compile(alloc, program, states, shelf, output)
+        }
+        Command::Exec { table, limits } => {
+            answer_exec(rt, gate, alloc, table, limits, shelf, input, output)
+        }
     }
 }
 
@@ -105,7 +111,8 @@ fn answer<R: Threads + Sync, G: Gate + Sync, H: Shelf, S: Source, K: Sink>(
 /// one stage. `each` does for each line of the input what `run` does for an input, and writes for a
 /// line that is rejected what the notes would say of it. `check` writes a line with the counts of
 /// stages, places and states, and `trial` one that sums up what a program of its own writes for
-/// lines of its own.
+/// lines of its own. `compile` writes a table file of the program, and `exec` does by such a file,
+/// once it is checked, what `run` does by the program in it.
 pub fn kex<R: Threads + Sync, H: Shelf, S: Source, K: Sink, N: Sink, G: Gate + Sync>(
     rt: &R,
     alloc: Global,
@@ -136,12 +143,11 @@ pub fn kex<R: Threads + Sync, H: Shelf, S: Source, K: Sink, N: Sink, G: Gate + S
         × (calls.writes ≡ false → output.new ≡ output.old) }
 
     // What is told of shelf, source and sink, and the answer Done, fix the output.
-    ensures headline { (states : ℕ) (name : List ℕ) (reach : Reach)
-        (text input_bytes before : List ℕ)
-        → asked_of (map string_bytes words.now) ≡ Some (ToStream (running states) name reach)
-        → told_of (H.texts shelf.old) name ≡ present text
+    ensures headline { (asked : Asked) (limit : ℕ) (text input_bytes before : List ℕ)
+        → asked_of (map string_bytes words.now) ≡ Some asked → runs_within asked ≡ Some limit
+        → told_text (H.texts shelf.old) asked ≡ present text
         → S.rest input.old ≡ Some input_bytes → K.held output.old ≡ Some before → result ≡ Done
-        → Headline states text reach.max_input input_bytes before (S.rest input.new)
+        → Headline (taken_for asked) text limit input_bytes before (S.rest input.new)
         (K.held output.new) }
 
     ensures unfinished { finishes_of (N.ending notes.new) ≡ finishes_of (N.ending notes.old) }

@@ -5,7 +5,7 @@ ghost use Rattle.kex_ports.specs.Shelf.{told_of};
 ghost use Rattle.kex_words.specs.Gains.{StreamChange, change_of};
 ghost use Rattle.kex_words.specs.Lines.{counts_line};
 ghost use Rattle.kex_words.specs.Words.Asked.{ToCheck};
-ghost use Rattle.kex_top.specs.Commands.{TellsLine};
+ghost use Rattle.kex_top.specs.Commands.{TellsBytes};
 ghost use Rattle.kex_top.specs.Kex.{CommandAnswers};
 ghost use Rattle.kex_top.specs.Outside.{Closes};
 ghost use Rattle.kex_top.specs.Run.{IsAsBefore};
@@ -23,7 +23,7 @@ use std::alloc::Global;
 
 // Writes how many stages, places and states there are, and closes the output.
 fn tell_counts<K: Sink>(compiled: &Compiled, output: &mut K) -> Status
-    ensures told { TellsLine (counts_line (record {
+    ensures told { TellsBytes (counts_line (record {
       stages = length compiled.now.stages;
       places = compiled.now.places;
       states = compiled.now.states;

@@ -183,6 +183,7 @@ pub(crate) fn answer_each<R: Threads + Sync, G: Gate + Sync, H: Shelf, S: Source
 {
     let asked = limits_to_check(limits.states.most);
     let plans = plans_of(alloc, shelf, program, &asked)?;
-    let status = answer_lines(rt, gate, alloc, &plans, limits, input, output)?;
+    let short = plans.shorten(alloc)?;
+    let status = answer_lines(rt, gate, alloc, &short, limits, input, output)?;
     Ok(status)
 }

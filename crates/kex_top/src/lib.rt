@@ -7,7 +7,9 @@
 mod any_pipe;
 mod call;
 mod check;
+mod compile;
 mod each;
+mod exec;
 mod limits;
 mod lines;
 mod pass;
@@ -21,6 +23,7 @@ mod single;
 mod start;
 mod status;
 mod stream;
+mod taking;
 mod tally;
 mod trial;
 

@@ -5,15 +5,16 @@ ghost use Rattle.kex_compile.specs.Compiled.{IsCompiled, IsRefused};
 ghost use Rattle.kex_compile.specs.declared.refusal.CompileRefusal.{CompileRefusal};
 ghost use Rattle.kex_tokens.specs.Texts.{most_text};
 ghost use Rattle.kex_top.specs.Refusals.{HasNone, HasPlans, IsStartOf};
-ghost use Rattle.kex_top.specs.Shelves.{TakesProgram, shelf_change_of};
+ghost use Rattle.kex_top.specs.Shelves.{TakesFromShelf, shelf_change_of};
+ghost use Rattle.kex_top.specs.Taken.{a_text};
 
 use crate::refused::refused;
 use crate::start::StartError;
+use crate::taking::{TextKind, take};
 use kex_compile::compile;
 use kex_compile::compiled::Compiled;
 use kex_compile::limits::Limits;
 use kex_ports::Shelf;
-use kex_tokens::token::MAX_TEXT;
 use std::alloc::Global;
 
 /// The plans of a text, for a command that asks this of it.
@@ -43,13 +44,13 @@ pub(crate) fn plans_of<H: Shelf>(
 ) -> Result<Compiled, StartError>
     requires { asked.now.states < 4294967295 }
     ensures texts { H.texts shelf.new ≡ H.texts shelf.old }
-    ensures shelf { TakesProgram (told_of (H.texts shelf.old) name.now)
+    ensures shelf { TakesFromShelf (told_of (H.texts shelf.old) name.now)
         (shelf_change_of H.faults H.breaks shelf.old shelf.new) result }
     ensures plans { IfOk result (λ plans.
         HasPlans asked.now (told_of (H.texts shelf.old) name.now) plans) }
     ensures none { IfErr result (λ why.
-        HasNone asked.now (told_of (H.texts shelf.old) name.now) why) }
+        HasNone (a_text asked.now) (told_of (H.texts shelf.old) name.now) why) }
 {
-    let text = shelf.take(alloc, name, MAX_TEXT)?;
+    let text = take(alloc, shelf, name, TextKind::ProgramText)?;
     plans_of_text(alloc, &text, asked)
 }

@@ -1,13 +1,17 @@
-// The refusal of a program, as it is told.
+// The refusal of a program or of a table file, as it is told.
 ghost use Rattle.std.specs.Prelude.{◌≡◌, ◌≤◌, length};
-ghost use Rattle.kex_tokens.specs.Texts.{most_text};
-ghost use Rattle.kex_top.specs.Refusals.{IsStartOf, broken, broken_at, broken_in};
+ghost use Rattle.kex_tabfile.specs.Readers.{most_bytes};
+ghost use Rattle.kex_top.specs.Refusals.{IsFileStartOf, IsStartOf, broken, broken_at, broken_in};
+ghost use Rattle.kex_top.specs.Refusals.{broken_on};
 ghost use Rattle.kex_top.specs.declared.start.StartError.TheVariants.{Refused};
 
 use crate::start::StartError;
 use kex_compile::refusal::CompileRefusal;
 use kex_reader::place;
+use kex_tabfile::refusal::TableRefusal;
+use kex_tabfile::text_in;
 use kex_words::{Refusal, RefusalPlace, Rule};
+use std::alloc::Global;
 
 // The whole text breaks the rule.
 fn broken(rule: Rule) -> StartError
@@ -21,7 +25,7 @@ fn broken(rule: Rule) -> StartError
 
 // The rule is broken at an offset of the text.
 fn broken_at(rule: Rule, text: &[u8], at: u32) -> StartError
-    requires { length text.now ≤ most_text }
+    requires { length text.now ≤ most_bytes }
     ensures { result ≡ Refused (broken_at rule text.now at) }
 {
     let (line, column) = place(text, at);
@@ -41,9 +45,19 @@ fn broken_in(rule: Rule, stage: u32) -> StartError
     })
 }
 
+// The rule is broken by a line of a table file.
+fn broken_on(rule: Rule, line: u32) -> StartError
+    ensures { result ≡ Refused (broken_on rule line) }
+{
+    StartError::Refused(Refusal {
+        rule,
+        place: RefusalPlace::Line(line),
+    })
+}
+
 /// Why a command doesn't begin with a text that has no plans.
 pub(crate) fn refused(text: &[u8], refusal: CompileRefusal) -> StartError
-    requires { length text.now ≤ most_text }
+    requires { length text.now ≤ most_bytes }
     ensures { IsStartOf text.now refusal result }
 {
     match refusal {
@@ -63,5 +77,22 @@ pub(crate) fn refused(text: &[u8], refusal: CompileRefusal) -> StartError
         CompileRefusal::OneStage => broken(Rule::OneStage),
         CompileRefusal::TooManyStates(stage) => broken_in(Rule::TooManyStates, stage),
         CompileRefusal::Memory => StartError::Memory,
+    }
+}
+
+/// Why a command doesn't begin with a table file that isn't good.
+pub(crate) fn file_refused(alloc: Global, file: &[u8], refusal: TableRefusal) -> StartError
+    requires { length file.now ≤ most_bytes }
+    ensures { IsFileStartOf file.now refusal result }
+{
+    match refusal {
+        TableRefusal::TableTooLong => broken(Rule::TableTooLong),
+        TableRefusal::BadTable { line } => broken_on(Rule::BadTable, line),
+        TableRefusal::Text(why) => match text_in(alloc, file) {
+            Ok(text) => refused(text, why),
+            // The file has a text, so it is memory that is wanted.
+            Err(_) => StartError::Memory,
+        },
+        TableRefusal::Memory => StartError::Memory,
     }
 }

@@ -78,19 +78,19 @@ pub(crate) fn pipe_of<'p>(
     Ok(pipe)
 }
 
-// Runs the stages.
-fn run_stages<R: Threads + Sync, G: Gate + Sync, S: Source, K: Sink>(
+/// Runs the stages with these plans.
+pub(crate) fn run_stages<R: Threads + Sync, G: Gate + Sync, S: Source, K: Sink>(
     rt: &R,
     gate: &G,
     alloc: Global,
-    compiled: &Compiled,
+    plans: &[Plan],
     limits: RunLimits,
     input: &mut S,
     output: &mut K,
 ) -> Result<Status, Memory>
-    requires { 0 < length compiled.now.stages }
+    requires { 0 < length plans.now }
     ensures ran { IfOk result (λ status.
-        Ran (NodesSay (stage_plans limits.max_input compiled.now.stages))
+        Ran (NodesSay (stage_plans limits.max_input (map machine_of plans.now)))
         (last_given limits.block (S.reads input.new))
         (change_of S.rest S.faults input.old input.new)
         (change_of K.held K.faults output.old output.new) status) }
@@ -100,7 +100,7 @@ fn run_stages<R: Threads + Sync, G: Gate + Sync, S: Source, K: Sink>(
         Closes (K.ending output.old) (K.ending output.new) status) }
     ensures left { OnErr result ((input.new ≡ input.old) × (output.new ≡ output.old)) }
 {
-    let mut pipe = pipe_of(alloc, compiled.stages(), limits.max_input, limits.rings)?;
+    let mut pipe = pipe_of(alloc, plans, limits.max_input, limits.rings)?;
     run(
         rt,
         gate,
@@ -139,7 +139,7 @@ fn serve<R: Threads + Sync, G: Gate + Sync, S: Source, K: Sink>(
     ensures untouched { is_writing (mode_of mode) ≡ false → output.new ≡ output.old }
 {
     match mode {
-        Mode::Run(_) => run_stages(rt, gate, alloc, compiled, limits, input, output),
+        Mode::Run(_) => run_stages(rt, gate, alloc, compiled.stages(), limits, input, output),
         Mode::Code => code(
             rt,
             gate,

@@ -1,13 +1,12 @@
 // Why a command doesn't begin.
 ghost use Rattle.std.specs.Prelude.{◌≡◌};
-ghost use Rattle.kex_top.specs.Starts.{of_shelf, of_words, status_of, status_of_answer};
+ghost use Rattle.kex_top.specs.Starts.{of_words, status_of, status_of_answer};
 ghost use Rattle.kex_top.specs.declared.start.StartError.TheVariants as start;
 
 use crate::status::Status;
 use kex_code::memory::Memory;
 use kex_pipe::pipe::PipeFault;
-use kex_ports::ShelfAnswer;
-use kex_words::{Refusal, RefusalPlace, Rule, WordsRefusal};
+use kex_words::{Refusal, WordsRefusal};
 
 /// Why a command doesn't begin. Nothing is read or written then.
 #[derive(Clone, Copy, Debug, PartialEq, Eq, Drop)]
@@ -16,7 +15,7 @@ pub(crate) enum StartError {
     Usage,
     /// The shelf failed.
     Shelf,
-    /// The program breaks a rule.
+    /// The program, or the table file, breaks a rule.
     Refused(Refusal),
     Memory,
 }
@@ -28,21 +27,6 @@ impl From<WordsRefusal> for StartError {
         match why {
             WordsRefusal::Usage => StartError::Usage,
             WordsRefusal::Memory => StartError::Memory,
-        }
-    }
-}
-
-impl From<ShelfAnswer> for StartError {
-    ghost from_gives = { λ why e. e ≡ of_shelf why };
-
-    fn from(why: ShelfAnswer) -> StartError {
-        match why {
-            ShelfAnswer::Failed => StartError::Shelf,
-            ShelfAnswer::TooLong => StartError::Refused(Refusal {
-                rule: Rule::TextTooLong,
-                place: RefusalPlace::Nowhere,
-            }),
-            ShelfAnswer::Memory => StartError::Memory,
         }
     }
 }

@@ -8,7 +8,7 @@ ghost use Rattle.kex_words.specs.Gains.{StreamChange, change_of};
 ghost use Rattle.kex_words.specs.Lines.{trial_line};
 ghost use Rattle.kex_words.specs.Words.{room_of};
 ghost use Rattle.kex_words.specs.Words.Asked.{ToTry};
-ghost use Rattle.kex_top.specs.Commands.{TellsLine};
+ghost use Rattle.kex_top.specs.Commands.{TellsBytes};
 ghost use Rattle.kex_top.specs.History.{History, bytes_passed, is_history_ended};
 ghost use Rattle.kex_top.specs.Kex.{CommandAnswers};
 ghost use Rattle.kex_top.specs.Outside.{Closes};
@@ -17,7 +17,7 @@ ghost use Rattle.kex_top.specs.Pipelines.{NodesSay, stage_plans};
 ghost use Rattle.kex_top.specs.Run.{IsAsBefore};
 ghost use Rattle.kex_top.specs.Starts.{status_of_answer};
 ghost use Rattle.kex_top.specs.Tallies.{Counts, HasWaiting, SumsUp};
-ghost use Rattle.kex_top.specs.Trials.{IsSummary, made_lines};
+ghost use Rattle.kex_top.specs.Trials.{AreTrialCounts, made_lines};
 
 use crate::any_pipe::AnyPipe;
 use crate::limits::limits_to_check;
@@ -32,7 +32,7 @@ use crate::tally::Tally;
 use kex_compile::compiled::Compiled;
 use kex_pipe::pipe::PipeFault;
 use kex_ports::{Failed, Gate, Sink};
-use kex_words::{Lines, Summary, write_summary};
+use kex_words::{TrialCounts, TrialLines, write_trial_counts};
 use std::alloc::Global;
 use std::thread::Threads;
 
@@ -123,7 +123,7 @@ fn give_lines<R: Threads + Sync, T: Limited + Drop + Send, G: Gate + Sync>(
     gate: &G,
     alloc: Global,
     pipe: &mut AnyPipe<T>,
-    lines: Lines,
+    lines: TrialLines,
 ) -> Result<Tally, PipeFault>
     requires { PipeStands T.Turn pipe.old None }
     ensures { IfOk result (λ tally.
@@ -156,15 +156,15 @@ fn sum_up<R: Threads + Sync, G: Gate + Sync>(
     gate: &G,
     alloc: Global,
     compiled: &Compiled,
-    lines: Lines,
-) -> Result<Summary, PipeFault>
+    lines: TrialLines,
+) -> Result<TrialCounts, PipeFault>
     requires { 0 < length compiled.now.stages }
-    ensures { IfOk result (λ summary.
-        IsSummary (NodesSay (stage_plans most_input compiled.now.stages)) lines.count summary) }
+    ensures { IfOk result (λ counts.
+        AreTrialCounts (NodesSay (stage_plans most_input compiled.now.stages)) lines.count counts) }
 {
     let mut pipe = pipe_of(alloc, compiled.stages(), MOST_INPUT, lines.rings)?;
     let tally = give_lines(rt, gate, alloc, &mut pipe, lines)?;
-    Ok(Summary {
+    Ok(TrialCounts {
         lines: lines.count,
         made: tally.made,
         written: tally.written,
@@ -173,12 +173,12 @@ fn sum_up<R: Threads + Sync, G: Gate + Sync>(
 }
 
 // Writes the line, and finishes the output.
-fn tell_summary<K: Sink>(summary: Summary, output: &mut K) -> Status
-    ensures told { TellsLine (trial_line summary)
+fn tell_trial_counts<K: Sink>(counts: TrialCounts, output: &mut K) -> Status
+    ensures told { TellsBytes (trial_line counts)
         (change_of K.held K.faults output.old output.new) result }
     ensures closes { Closes (K.ending output.old) (K.ending output.new) result }
 {
-    match write_summary(output, summary) {
+    match write_trial_counts(output, counts) {
         Ok(()) => match output.finish() {
             Ok(()) => Status::Done,
             Err(Failed) => Status::WriteFault,
@@ -192,7 +192,7 @@ pub(crate) fn answer_trial<R: Threads + Sync, G: Gate + Sync, K: Sink>(
     rt: &R,
     gate: &G,
     alloc: Global,
-    lines: Lines,
+    lines: TrialLines,
     output: &mut K,
 ) -> Result<Status, StartError>
     ensures answers { (texts : Option Texts) (reads : Option Reads) (source : StreamChange)
@@ -204,6 +204,6 @@ pub(crate) fn answer_trial<R: Threads + Sync, G: Gate + Sync, K: Sink>(
     let asked = limits_to_check(STATES);
     let plans = plans_of_text(alloc, TEXT.as_bytes(), &asked)?;
     let short = plans.shorten(alloc)?;
-    let summary = sum_up(rt, gate, alloc, &short, lines)?;
-    Ok(tell_summary(summary, output))
+    let counts = sum_up(rt, gate, alloc, &short, lines)?;
+    Ok(tell_trial_counts(counts, output))
 }

@@ -13,6 +13,9 @@ most_block = 1048576
 abbrev pub program_rule : Rule
 program_rule = record (new_rule (codes "PROGRAM")) { required = true }
 
+abbrev pub table_rule : Rule
+table_rule = record (new_rule (codes "TABLE")) { required = true }
+
 -- an option that takes a number within the bounds
 abbrev pub number_rule : Text → ℕ → ℕ → Text → Rule
 number_rule name low high default = record (new_rule name) {
@@ -58,9 +61,9 @@ abbrev pub with_rules : App → List Rule → App
 with_rules app [] = app
 with_rules app (rule ∷ rules) = with_rules (with_rule app rule) rules
 
--- a check reads no input
-abbrev pub check_app : App
-check_app = with_rules (new_app (codes "check")) (program_rule ∷ states_rule ∷ [])
+-- a command that makes tables and reads no input
+abbrev pub table_app : Text → App
+table_app name = with_rules (new_app name) (program_rule ∷ states_rule ∷ [])
 
 -- a command on a program of one stage, which makes no table
 abbrev pub stage_app : Text → App
@@ -72,6 +75,11 @@ run_app = with_rules (stage_app (codes "run")) (states_rule ∷ rings_rule ∷ [
 
 abbrev pub trial_app : App
 trial_app = with_rules (new_app (codes "trial")) (lines_rule ∷ block_rule ∷ rings_rule ∷ [])
+
+-- a run by the tables of a file
+abbrev pub exec_app : App
+exec_app =
+    with_rules (new_app (codes "exec")) (table_rule ∷ max_input_rule ∷ block_rule ∷ [])
 
 -- lines are answered by tables
 abbrev pub each_app : App
@@ -94,11 +102,15 @@ with_subcommands app [] = app
 with_subcommands app (sub ∷ subs) = with_subcommands (with_subcommand app sub.top) subs
 
 abbrev pub begun_app : App
-begun_app = with_subcommands bare_app (run_app ∷ check_app ∷ stage_app (codes "code") ∷ [])
+begun_app = with_subcommands bare_app
+    (run_app ∷ table_app (codes "check") ∷ stage_app (codes "code") ∷ [])
 
 abbrev pub played_app : App
 played_app = with_subcommands begun_app (stage_app (codes "act") ∷ stage_app (codes "test") ∷ [])
 
+abbrev pub tried_app : App
+tried_app = with_subcommands played_app (trial_app ∷ table_app (codes "compile") ∷ [])
+
 -- one of these subcommands, which is required
 abbrev pub kex_app : App
-kex_app = with_subcommands played_app (trial_app ∷ each_app ∷ [])
+kex_app = with_subcommands tried_app (exec_app ∷ each_app ∷ [])

@@ -4,7 +4,7 @@ use Rattle.std.specs.List.{list_all, slice_split}
 use Prim.Native.String.{String}
 use Rattle.clap.specs.Words.{Text}
 use Rattle.kex_words.specs.Words.{Asked, Reach, asked_of}
-use Rattle.kex_words.specs.Words.Asked.{ToStream, ToCheck, ToEach, ToTry}
+use Rattle.kex_words.specs.Words.Asked.{ToStream, ToCheck, ToCompile, ToExec, ToEach, ToTry}
 use Rattle.kex_words.specs.Words.Mode.{running, coding, acting, testing}
 
 -- the words of a line, between single blanks, so that an empty word may stand among them
@@ -78,6 +78,13 @@ pub record ReadsTrial : Type 0 where
   pub most : LineAsks "kex trial 1000000" (ToTry 1000000 65536 None)
   pub rings : LineAsks "kex trial 2 --rings 64" (ToTry 2 65536 (Some 64))
 
+-- the commands on table files
+pub record ReadsTables : Type 0 where
+  pub compile : LineAsks "kex compile p" (ToCompile (codes "p") 4096)
+  pub compile_states : LineAsks "kex compile --states 1 p" (ToCompile (codes "p") 1)
+  pub exec : LineAsks "kex exec t" (ToExec (codes "t") usual_reach)
+  pub exec_limits : LineAsks "kex exec --block 1 t --max-input 3" (ToExec (codes "t") (reach 3 1))
+
 pub record ReadsEach : Type 0 where
   pub plain : LineAsks "kex each p" (ToEach (codes "p") 4096 281474976710656 1)
   pub with_options : LineAsks "kex each --workers 64 p --states 7 --max-input=0"
@@ -93,10 +100,11 @@ pub record RefusesWords : Type 0 where
       : AreUsage ("kex help" ∷ "kex help run" ∷ "kex -h" ∷ "kex --help" ∷ "kex -V" ∷ "kex --version"
       ∷ "kex run -h" ∷ "kex run p --help" ∷ "kex run p --version" ∷ "kex check --help" ∷ [])
   pub no_program : AreUsage
-      ("kex run" ∷ "kex run --" ∷ "kex run --block 3" ∷ "kex check" ∷ "kex code" ∷ "kex trial" ∷ [])
+      ("kex run" ∷ "kex run --" ∷ "kex run --block 3" ∷ "kex check" ∷ "kex code" ∷ "kex trial"
+      ∷ "kex compile" ∷ "kex exec" ∷ [])
   pub two_programs : AreUsage
       ("kex run p q" ∷ "kex run p p" ∷ "kex run p " ∷ "kex run -- p --" ∷ "kex run -- p --block 3"
-      ∷ "kex check p q" ∷ "kex check p run q" ∷ [])
+      ∷ "kex check p q" ∷ "kex check p run q" ∷ "kex compile p q" ∷ "kex exec t u" ∷ [])
   pub unknown_option : AreUsage
       ("kex run p --rate 1" ∷ "kex run p --state 1" ∷ "kex run p --bloc 3" ∷ "kex run p --Block 3"
       ∷ "kex run p --max_input 3" ∷ "kex run p -b 3" ∷ "kex run p -block 3" ∷ "kex run -p"
@@ -106,7 +114,9 @@ pub record RefusesWords : Type 0 where
       ∷ "kex test p --states 1" ∷ "kex trial 1 --states 1" ∷ "kex trial 1 --max-input 1"
       ∷ "kex check p --rings 1" ∷ "kex code p --rings 1"
       ∷ "kex act p --rings 1" ∷ "kex test p --rings 1" ∷ "kex each p --block 1"
-      ∷ "kex each p --rings 1" ∷ "kex check p --workers 1" ∷ [])
+      ∷ "kex each p --rings 1" ∷ "kex check p --workers 1"
+      ∷ "kex compile p --block 1" ∷ "kex compile p --max-input 1" ∷ "kex exec t --states 1"
+      ∷ "kex exec t --rings 1" ∷ [])
   pub option_twice : AreUsage ("kex run p --block 2 --block 3" ∷ "kex run p --block=2 --block=2"
       ∷ "kex run --max-input 1 p --max-input 1" ∷ [])
   pub no_value : AreUsage ("kex run p --block" ∷ "kex run p --block=" ∷ "kex run p --block "
@@ -130,5 +140,6 @@ pub record ReadsWords : Type 0 where
   pub check : ReadsCheck
   pub singles : ReadsSingles
   pub trial : ReadsTrial
+  pub tables : ReadsTables
   pub each : ReadsEach
   pub out_of_form : RefusesWords

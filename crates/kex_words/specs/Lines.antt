@@ -3,14 +3,14 @@ use Rattle.std.specs.Prelude.{ℕ, List, [], ◌∷◌, Bool, codes, decimal, if
 use Rattle.std.specs.List.{concat}
 use Rattle.kex_words.specs.declared.notes.TheConstants.{USAGE}
 use Rattle.kex_words.specs.declared.counts.Counts.{Counts}
-use Rattle.kex_words.specs.declared.counts.Summary.{Summary}
+use Rattle.kex_words.specs.declared.counts.TrialCounts.{TrialCounts}
 use Rattle.kex_words.specs.declared.notes.Note.{Note}
 use Rattle.kex_words.specs.declared.notes.Note.TheVariants.{Nothing, Rejected, TooLong}
 use Rattle.kex_words.specs.declared.notes.Note.TheVariants.{InputTooLong, Usage}
 use Rattle.kex_words.specs.declared.notes.Note.TheVariants.{Refused, ReadFault, WriteFault}
 use Rattle.kex_words.specs.declared.notes.Note.TheVariants.{ShelfFault, Memory}
 use Rattle.kex_words.specs.declared.refusals.RefusalPlace.{RefusalPlace}
-use Rattle.kex_words.specs.declared.refusals.RefusalPlace.TheVariants.{Nowhere, At, Stage}
+use Rattle.kex_words.specs.declared.refusals.RefusalPlace.TheVariants.{Nowhere, At, Line, Stage}
 use Rattle.kex_words.specs.declared.refusals.Refusal.{Refusal}
 use Rattle.kex_words.specs.declared.refusals.Rule.{Rule}
 use Rattle.kex_words.specs.declared.refusals.Rule.TheVariants as rule
@@ -31,6 +31,8 @@ title_of rule.TooManyPlaces = codes "K11 TooManyPlaces"
 title_of rule.NoText = codes "K13 NoText"
 title_of rule.OneStage = codes "K14 OneStage"
 title_of rule.TooManyStates = codes "K15 TooManyStates"
+title_of rule.BadTable = codes "K17 BadTable"
+title_of rule.TableTooLong = codes "K18 TableTooLong"
 
 abbrev pub line_end : Bool → List ℕ
 line_end at_end = if at_end then codes " (end)\n" else codes "\n"
@@ -49,6 +51,8 @@ placed_line Nowhere title = concat (codes "refused: " ∷ title ∷ codes "\n" �
 placed_line (At line column) title =
     concat (codes "refused: " ∷ title ∷ codes " at line " ∷ decimal line ∷ codes " column "
     ∷ decimal column ∷ codes "\n" ∷ [])
+placed_line (Line line) title =
+    concat (codes "refused: " ∷ title ∷ codes " at line " ∷ decimal line ∷ codes "\n" ∷ [])
 placed_line (Stage stage) title =
     concat (codes "refused: " ∷ title ∷ codes " in stage " ∷ decimal stage ∷ codes "\n" ∷ [])
 
@@ -77,7 +81,7 @@ counts_line counts =
     ∷ codes " states " ∷ decimal counts.states ∷ codes "\n" ∷ [])
 
 -- the line of a trial
-abbrev pub trial_line : Summary → List ℕ
+abbrev pub trial_line : TrialCounts → List ℕ
 trial_line s = concat (codes "lines " ∷ decimal s.lines ∷ codes " in " ∷ decimal s.made
     ∷ codes " out " ∷ decimal s.written
     ∷ codes " roll " ∷ decimal s.roll ∷ codes "\n" ∷ [])

@@ -11,7 +11,7 @@ NamesSubcommand words name rows = subcommand_of kex_app words ≡ Some (name, ro
 abbrev pub subcommands : List Text
 subcommands =
     codes "run" ∷ codes "check" ∷ codes "code" ∷ codes "act" ∷ codes "test" ∷ codes "trial"
-    ∷ codes "each" ∷ []
+    ∷ codes "compile" ∷ codes "exec" ∷ codes "each" ∷ []
 
 abbrev pub IsOneOf : List Text → Text → Type 0
 IsOneOf [] name = ⊥

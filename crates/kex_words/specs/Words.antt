@@ -11,7 +11,8 @@ use Rattle.kex_words.specs.Form.{most_states, most_workers}
 use Rattle.kex_words.specs.declared.asked.RunLimits.{RunLimits}
 use Rattle.kex_words.specs.declared.asked.Rings.{Rings}
 use Rattle.kex_words.specs.declared.asked.Command.{Command}
-use Rattle.kex_words.specs.declared.asked.Command.TheVariants.{Stream, Check, Each, Trial}
+use Rattle.kex_words.specs.declared.asked.Command.TheVariants.{Stream, Check, Compile}
+use Rattle.kex_words.specs.declared.asked.Command.TheVariants.{Exec, Each, Trial}
 use Rattle.kex_words.specs.declared.asked.Mode.{Mode as Moded}
 use Rattle.kex_words.specs.declared.asked.Mode.TheVariants as of_mode
 
@@ -31,10 +32,12 @@ pub data Mode : Type 0 where
   acting : Mode
   testing : Mode
 
--- what is asked for, and of which program
+-- what is asked for, and of which program or table file
 pub data Asked : Type 0 where
   ToStream : (mode : Mode) (program : Text) (reach : Reach) → Asked
   ToCheck : (program : Text) (states : ℕ) → Asked
+  ToCompile : (program : Text) (states : ℕ) → Asked
+  ToExec : (table : Text) (reach : Reach) → Asked
   ToEach : (program : Text) (states max_input workers : ℕ) → Asked
   ToTry : (lines block : ℕ) (rings : Option ℕ) → Asked
 
@@ -54,6 +57,9 @@ number_at id low high rows = option_and_then (bounded_number low high) (one_of i
 -- what the matches say of an argument, and else its default
 abbrev pub program_in : List Row → Text
 program_in rows = unwrap_or (first_of (codes "PROGRAM") rows) []
+
+abbrev pub table_in : List Row → Text
+table_in rows = unwrap_or (first_of (codes "TABLE") rows) []
 
 abbrev pub block_in : List Row → ℕ
 block_in rows = unwrap_or (number_at (codes "block") 1 most_block rows) 65536
@@ -88,6 +94,8 @@ asked_by name rows =
     else if bytes_eq name (codes "act") then ToStream acting (program_in rows) (reach_in rows)
     else if bytes_eq name (codes "test") then ToStream testing (program_in rows) (reach_in rows)
     else if bytes_eq name (codes "trial") then ToTry (lines_in rows) (block_in rows) (rings_in rows)
+    else if bytes_eq name (codes "compile") then ToCompile (program_in rows) (states_in rows)
+    else if bytes_eq name (codes "exec") then ToExec (table_in rows) (reach_in rows)
     else if bytes_eq name (codes "each")
     then ToEach (program_in rows) (states_in rows) (max_input_in rows) (workers_in rows)
     else ToStream (running (states_in rows)) (program_in rows) (reach_in rows)
@@ -124,6 +132,8 @@ abbrev pub asked_by_command : Command → Asked
 asked_by_command (Stream mode program limits) =
     ToStream (mode_of mode) program.now (reach_of limits)
 asked_by_command (Check program states) = ToCheck program.now states.most
+asked_by_command (Compile program states) = ToCompile program.now states.most
+asked_by_command (Exec table limits) = ToExec table.now (reach_of limits)
 asked_by_command (Each program limits) =
     ToEach program.now limits.states.most limits.max_input limits.workers
 asked_by_command (Trial lines) = ToTry lines.count lines.block (room_of lines.rings)

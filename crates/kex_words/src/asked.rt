@@ -54,7 +54,7 @@ pub struct StateLimit {
 
 /// Lines that are made, and the bytes of them that are made at a time.
 #[derive(Clone, Copy, Debug, PartialEq, Eq)]
-pub struct Lines {
+pub struct TrialLines {
     pub count: u32,
     pub block: u32,
     pub rings: Option<Rings>,
@@ -102,13 +102,23 @@ pub enum Command<'a> {
         program: &'a str,
         states: StateLimit,
     },
+    /// Writes the tables of the program's stages, and reads no input.
+    Compile {
+        program: &'a str,
+        states: StateLimit,
+    },
+    /// Reads the input to its end, by the tables of a file that is named as the shelf has it.
+    Exec {
+        table: &'a str,
+        limits: RunLimits,
+    },
     /// Answers each line of the input as an input of its own.
     Each {
         program: &'a str,
         limits: LineLimits,
     },
     /// Runs a program of its own on lines of its own.
-    Trial(Lines),
+    Trial(TrialLines),
 }
 
 /// Why no command is read.

@@ -21,7 +21,7 @@ pub struct Counts {
 
 /// What a trial counts.
 #[derive(Clone, Copy, Debug, PartialEq, Eq)]
-pub struct Summary {
+pub struct TrialCounts {
     pub lines: u32,
     /// The bytes that were made.
     pub made: u64,
@@ -55,11 +55,11 @@ pub fn write_counts<K: Sink>(sink: &mut K, counts: Counts) -> Result<(), Failed>
 }
 
 /// Writes the line of a trial, or a front of it where the sink fails. It takes no memory.
-pub fn write_summary<K: Sink>(sink: &mut K, summary: Summary) -> Result<(), Failed>
+pub fn write_trial_counts<K: Sink>(sink: &mut K, counts: TrialCounts) -> Result<(), Failed>
     ensures written { OnOk result
-        (Appends (K.held sink.old) (K.held sink.new) (trial_line summary)) }
+        (Appends (K.held sink.old) (K.held sink.new) (trial_line counts)) }
     ensures failed { OnErr result
-        (AppendsFront (K.held sink.old) (K.held sink.new) (trial_line summary)) }
+        (AppendsFront (K.held sink.old) (K.held sink.new) (trial_line counts)) }
     ensures cause { HasCause (K.faults sink.old) (K.faults sink.new) result }
     ensures unfinished { IsUnfinished (K.ending sink.old) (K.ending sink.new) result }
 {
@@ -67,13 +67,13 @@ pub fn write_summary<K: Sink>(sink: &mut K, summary: Summary) -> Result<(), Fail
         sink,
         &[
             LinePart::Text("lines "),
-            LinePart::Number(summary.lines as u64),
+            LinePart::Number(counts.lines as u64),
             LinePart::Text(" in "),
-            LinePart::Number(summary.made),
+            LinePart::Number(counts.made),
             LinePart::Text(" out "),
-            LinePart::Number(summary.written),
+            LinePart::Number(counts.written),
             LinePart::Text(" roll "),
-            LinePart::Number(summary.roll as u64),
+            LinePart::Number(counts.roll as u64),
             LinePart::Text("\n"),
         ],
     )

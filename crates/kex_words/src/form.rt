@@ -2,10 +2,11 @@
 ghost use Rattle.std.specs.Prelude.{◌≡◌, IfOk, false};
 ghost use Rattle.clap.specs.Words.{app_of, rule_of, with_subcommand};
 ghost use Rattle.clap.specs.declared.builder.command.Command.TheViews.{out-Command};
-ghost use Rattle.kex_words.specs.Form.{bare_app, begun_app, block_rule, check_app, kex_app};
-ghost use Rattle.kex_words.specs.Form.{lines_rule, max_input_rule, number_rule, program_rule};
+ghost use Rattle.kex_words.specs.Form.{bare_app, begun_app, block_rule, exec_app, kex_app};
+ghost use Rattle.kex_words.specs.Form.{lines_rule, max_input_rule, number_rule};
+ghost use Rattle.kex_words.specs.Form.{program_rule, table_app, table_rule};
 ghost use Rattle.kex_words.specs.Form.{rings_rule, run_app, stage_app, states_rule, trial_app};
-ghost use Rattle.kex_words.specs.Form.{each_app, played_app, workers_rule};
+ghost use Rattle.kex_words.specs.Form.{each_app, played_app, tried_app, workers_rule};
 
 use crate::asked::{MOST_BLOCK, MOST_INPUT, MOST_LINES, MOST_ROOM, MOST_STATES, MOST_WORKERS};
 use clap::builder::ValueParser;
@@ -17,6 +18,13 @@ fn program<'a>(alloc: Global) -> Arg<'a>
     ensures local { result.global ≡ false }
 {
     Arg::new(alloc, "PROGRAM").required(true)
+}
+
+fn table<'a>(alloc: Global) -> Arg<'a>
+    ensures rule { rule_of result ≡ table_rule }
+    ensures local { result.global ≡ false }
+{
+    Arg::new(alloc, "TABLE").required(true)
 }
 
 fn number<'a>(alloc: Global, name: &'a str, low: u64, high: u64, default: &'a str) -> Arg<'a>
@@ -76,11 +84,12 @@ fn lines<'a>(alloc: Global) -> Arg<'a>
         .required(true)
 }
 
-fn check<'a>(alloc: Global) -> Result<Command<'a>, AllocError>
-    ensures app { IfOk result (λ command. app_of command ≡ check_app) }
+// A command that makes tables and reads no input.
+fn tables<'a>(alloc: Global, name: &'a str) -> Result<Command<'a>, AllocError>
+    ensures app { IfOk result (λ command. app_of command ≡ table_app name.entry.now) }
     ensures local { IfOk result (λ command. (out-Command command).has_globals ≡ false) }
 {
-    Command::new(alloc, "check")
+    Command::new(alloc, name)
         .arg(program(alloc))?
         .arg(states(alloc))
 }
@@ -111,6 +120,16 @@ fn trial<'a>(alloc: Global) -> Result<Command<'a>, AllocError>
         .arg(lines(alloc))?
         .arg(block(alloc))?
         .arg(rings(alloc))
+}
+
+fn exec<'a>(alloc: Global) -> Result<Command<'a>, AllocError>
+    ensures app { IfOk result (λ command. app_of command ≡ exec_app) }
+    ensures local { IfOk result (λ command. (out-Command command).has_globals ≡ false) }
+{
+    Command::new(alloc, "exec")
+        .arg(table(alloc))?
+        .arg(max_input(alloc))?
+        .arg(block(alloc))
 }
 
 fn each<'a>(alloc: Global) -> Result<Command<'a>, AllocError>
@@ -147,7 +166,7 @@ fn begun<'a>(alloc: Global) -> Result<Command<'a>, AllocError>
     ensures { IfOk result (λ command. app_of command ≡ begun_app) }
 {
     let with_run = with(bare(alloc), run(alloc)?)?;
-    let with_check = with(with_run, check(alloc)?)?;
+    let with_check = with(with_run, tables(alloc, "check")?)?;
     with(with_check, stage(alloc, "code")?)
 }
 
@@ -158,9 +177,16 @@ fn played<'a>(alloc: Global) -> Result<Command<'a>, AllocError>
     with(with_act, stage(alloc, "test")?)
 }
 
+fn tried<'a>(alloc: Global) -> Result<Command<'a>, AllocError>
+    ensures { IfOk result (λ command. app_of command ≡ tried_app) }
+{
+    let with_trial = with(played(alloc)?, trial(alloc)?)?;
+    with(with_trial, tables(alloc, "compile")?)
+}
+
 pub(crate) fn form<'a>(alloc: Global) -> Result<Command<'a>, AllocError>
     ensures { IfOk result (λ command. app_of command ≡ kex_app) }
 {
-    let with_trial = with(played(alloc)?, trial(alloc)?)?;
-    with(with_trial, each(alloc)?)
+    let with_exec = with(tried(alloc)?, exec(alloc)?)?;
+    with(with_exec, each(alloc)?)
 }

@@ -3,7 +3,7 @@
 //!
 //! Stands on `clap`, `itoa` and `kex_ports`. `read` is to be taken by its clauses: Ok is what the
 //! words ask for, and Usage comes exactly where the words don't meet the form of the command.
-//! `tell`, `write_counts`, `write_summary` and `write_all` say what a sink gains.
+//! `tell`, `write_counts`, `write_trial_counts` and `write_all` say what a sink gains.
 #![tactic(auto)]
 
 mod asked;
@@ -17,8 +17,10 @@ mod refusals;
 mod text_sink;
 mod writing;
 
-pub use asked::{Command, LineLimits, Lines, Mode, Rings, RunLimits, StateLimit, WordsRefusal};
-pub use counts::{Counts, Summary, write_counts, write_summary};
+pub use asked::{
+    Command, LineLimits, Mode, Rings, RunLimits, StateLimit, TrialLines, WordsRefusal,
+};
+pub use counts::{Counts, TrialCounts, write_counts, write_trial_counts};
 pub use known::{asks_by_subcommand, asks_in_form, reads_known_words};
 pub use notes::{Note, tell};
 pub use reading::read;

@@ -5,13 +5,13 @@ ghost use Rattle.clap.specs.Words.{found_of, rows_of, first_of, subcommand_rows_
 ghost use Rattle.kex_words.specs.Words.{asked_by_command, asked_in, asked_of, block_in};
 ghost use Rattle.kex_words.specs.Words.{number_within, lines_in, mode_of, number_at, program_in};
 ghost use Rattle.kex_words.specs.Words.{max_input_in, reach_in, rings_in, room_of, states_in};
-ghost use Rattle.kex_words.specs.Words.{workers_in};
+ghost use Rattle.kex_words.specs.Words.{table_in, workers_in};
 ghost use Rattle.kex_words.specs.Words.Asked.{ToStream};
 ghost use Rattle.kex_words.specs.declared.asked.WordsRefusal.TheVariants.{Usage};
 
 use crate::asked::{
-    Command, LineLimits, Lines, MOST_BLOCK, MOST_INPUT, MOST_LINES, MOST_ROOM, MOST_STATES,
-    MOST_WORKERS, Mode, Rings, RunLimits, StateLimit, USUAL_BLOCK, USUAL_STATES, WordsRefusal,
+    Command, LineLimits, MOST_BLOCK, MOST_INPUT, MOST_LINES, MOST_ROOM, MOST_STATES, MOST_WORKERS,
+    Mode, Rings, RunLimits, StateLimit, TrialLines, USUAL_BLOCK, USUAL_STATES, WordsRefusal,
 };
 use crate::form::form;
 use clap::error::ErrorKind;
@@ -42,6 +42,12 @@ fn program<'a>(matches: &ArgMatches<'a>) -> &'a str
     ensures { result.now ≡ program_in (rows_of (found_of matches.now)) }
 {
     text(matches, "PROGRAM").unwrap_or("")
+}
+
+fn table<'a>(matches: &ArgMatches<'a>) -> &'a str
+    ensures { result.now ≡ table_in (rows_of (found_of matches.now)) }
+{
+    text(matches, "TABLE").unwrap_or("")
 }
 
 fn block(matches: &ArgMatches) -> u32
@@ -98,12 +104,12 @@ fn line_limits(matches: &ArgMatches) -> LineLimits
     }
 }
 
-fn lines(matches: &ArgMatches) -> Lines
+fn lines(matches: &ArgMatches) -> TrialLines
     ensures count { result.count ≡ lines_in (rows_of (found_of matches.now)) }
     ensures block { result.block ≡ block_in (rows_of (found_of matches.now)) }
     ensures rings { room_of result.rings ≡ rings_in (rows_of (found_of matches.now)) }
 {
-    Lines {
+    TrialLines {
         count: number(matches, "N", 0, MOST_LINES).unwrap_or(0) as u32,
         block: block(matches),
         rings: rings(matches),
@@ -134,6 +140,14 @@ fn command<'a>(matches: &ArgMatches<'a>) -> Option<Command<'a>>
         Some(("act", inner)) => Some(stream(Mode::Act, inner)),
         Some(("test", inner)) => Some(stream(Mode::Test, inner)),
         Some(("trial", inner)) => Some(Command::Trial(lines(inner))),
+        Some(("compile", inner)) => Some(Command::Compile {
+            program: program(inner),
+            states: states(inner),
+        }),
+        Some(("exec", inner)) => Some(Command::Exec {
+            table: table(inner),
+            limits: limits(inner),
+        }),
         Some(("each", inner)) => Some(Command::Each {
             program: program(inner),
             limits: line_limits(inner),

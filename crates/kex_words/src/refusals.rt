@@ -1,9 +1,10 @@
-// Why a program of the language is refused, and where.
+// Why a program of the language, or a table file, is refused, and where.
 ghost use Rattle.std.specs.Prelude.{◌≡◌};
 ghost use Rattle.kex_words.specs.Lines.{title_of};
 
-/// A rule that a program breaks. A program is refused by the first rule that applies, in this
-/// order.
+/// A rule that a program or a table file breaks. A program is refused by the first rule that
+/// applies, in this order. A table file breaks K18, or K17 before its text or after it, or a rule
+/// of its text.
 #[derive(Clone, Copy, Debug, PartialEq, Eq)]
 pub enum Rule {
     TextTooLong,
@@ -21,6 +22,8 @@ pub enum Rule {
     NoText,
     OneStage,
     TooManyStates,
+    BadTable,
+    TableTooLong,
 }
 
 impl Rule {
@@ -44,17 +47,21 @@ impl Rule {
             Rule::NoText => "K13 NoText",
             Rule::OneStage => "K14 OneStage",
             Rule::TooManyStates => "K15 TooManyStates",
+            Rule::BadTable => "K17 BadTable",
+            Rule::TableTooLong => "K18 TableTooLong",
         }
     }
 }
 
-/// Where in a program a rule is broken. Each rule is told with one kind of place.
+/// Where in a text or a file a rule is broken. Each rule is told with one kind of place.
 #[derive(Clone, Copy, Debug, PartialEq, Eq)]
 pub enum RefusalPlace {
-    /// K00, K09, K14: of the whole text.
+    /// K00, K09, K14, K18: of the whole text or file.
     Nowhere,
     /// K01 to K08, K10. Both count from 1, the column in bytes.
     At { line: u32, column: u32 },
+    /// K17. Counted from 1.
+    Line(u32),
     /// K11 to K13, K15. Counted from 1.
     Stage(u32),
 }

@@ -1,5 +1,6 @@
-use Rattle.std.proofs.Common.{subst}
+use Rattle.std.proofs.Common.{◌<◌, length, subst, sym}
 use Rattle.kex_ports.specs.Shelf.{told_of}
+use Rattle.kex_compile.specs.Stages.{Plans}
 use Rattle.kex_top.specs.Refusals.{HasPlans}
 use Rattle.kex_top.proofs.CallAnswers.{some-machine}
 use Rattle.kex_top.proofs.LineCommands.{line_served}
@@ -8,10 +9,10 @@ use Rattle.kex_top.proofs.each.answer_each.Goals as goal
 pub answer_lines-requires-after_bounds : goal.answer_lines-requires-after_bounds
 answer_lines-requires-after_bounds g c = λ κs bounds.
     let h = c.in_ok-plans.ensures.plans in
-    some-machine c.limits_to_check-asked.result h.text c.in_ok-plans.plans h.compiled
+    subst (λ (z : Plans). 0 < length z.stages) (sym c.in_ok-short.ensures) (some-machine c.limits_to_check-asked.result h.text c.in_ok-plans.plans h.compiled)
 
 pub returns-clause-answers : goal.returns-clause-answers
 returns-clause-answers g c =
     let told = told_of (g.H.Shelf.texts c.args.shelf.now) c.args.program.now in
-    line_served c.args.program.now c.args.limits.states.most c.args.limits.max_input c.args.limits.workers _ _ c.in_ok-plans.plans _ _ c.in_ok-status.status
-    (subst (λ l. HasPlans l told c.in_ok-plans.plans) c.limits_to_check-asked.ensures c.in_ok-plans.ensures.plans) c.in_ok-status.ensures.ran
+    line_served c.args.program.now c.args.limits.states.most c.args.limits.max_input c.args.limits.workers _ _ c.in_ok-short.short _ _ c.in_ok-status.status
+    (subst (λ l. HasPlans l told c.in_ok-short.short) c.limits_to_check-asked.ensures (subst (λ z. HasPlans c.limits_to_check-asked.result told z) (sym c.in_ok-short.ensures) c.in_ok-plans.ensures.plans)) c.in_ok-status.ensures.ran

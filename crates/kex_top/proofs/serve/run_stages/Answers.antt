@@ -1,10 +1,12 @@
-use Rattle.std.proofs.Common.{ℕ, List, subst, ap, ◌∙◌}
+use Rattle.std.proofs.Common.{◌<◌, ℕ, List, arith, length, map, subst, ap, ◌∙◌}
+use Rattle.std.proofs.lemmas.List.{length-map}
 use Rattle.std.specs.Prelude.{IfOk}
 use Rattle.kex_ports.specs.Reads.{last_given}
 use Rattle.kex_words.specs.Gains.{change}
+use Rattle.kex_stage.specs.Plans.{machine_of}
 use Rattle.kex_stage.specs.Stages.{StagePlan}
 use Rattle.kex_top.specs.Piped.{stages_of}
-use Rattle.kex_top.specs.Pipelines.{NodesSay, first_limit, stage_plans}
+use Rattle.kex_top.specs.Pipelines.{NodesSay, first_limit}
 use Rattle.kex_top.specs.Run.{Ran}
 use Rattle.kex_stage.specs.contracts.stage.StageTurn.TheImpl.{ghosts}
 use Rattle.kex_top.proofs.CallAnswers.{first-limit, first-of}
@@ -12,9 +14,11 @@ use Rattle.kex_top.proofs.serve.run_stages.Goals as goal
 
 pub run-requires-clause-limit : goal.run-requires-clause-limit
 run-requires-clause-limit g c = λ κs bounds.
-    let max = c.args.limits.max_input in
     let limit : StagePlan → ℕ = λ p. p.limit in
-    first-of ghosts.plan limit (stages_of ghosts c.in_ok-pipe.pipe) ∙ ap (λ (ps : List StagePlan). first_limit limit ps) (c.in_ok-pipe.ensures.plans ∙ ap (λ z. stage_plans max z) c.stages.ensures.same) ∙ first-limit max c.args.compiled.now.stages c.requires
+    let machines = map machine_of c.args.plans.now in
+    let long = length-map c.args.plans.now machine_of in
+    let some : 0 < length machines = omega (arith, long, c.requires) in
+    first-of ghosts.plan limit (stages_of ghosts c.in_ok-pipe.pipe) ∙ ap (λ (ps : List StagePlan). first_limit limit ps) c.in_ok-pipe.ensures.plans ∙ first-limit c.args.limits.max_input machines some
 
 pub returns-clause-ran : goal.returns-clause-ran
 returns-clause-ran g c =
@@ -22,4 +26,4 @@ returns-clause-ran g c =
     (change (g.S.Source.rest c.args.input.now) (g.S.Source.rest c.run.new.input) (g.S.Source.faults c.args.input.now) (g.S.Source.faults c.run.new.input))
     (change (g.K.Sink.held c.args.output.now) (g.K.Sink.held c.run.new.output) (g.K.Sink.faults c.args.output.now) (g.K.Sink.faults c.run.new.output))
     status) in
-    subst P (c.in_ok-pipe.ensures.plans ∙ ap (λ z. stage_plans c.args.limits.max_input z) c.stages.ensures.same) c.run.ensures.ran
+    subst P c.in_ok-pipe.ensures.plans c.run.ensures.ran

@@ -1,9 +1,26 @@
-use Rattle.std.proofs.Common.{ap}
+use Rattle.std.proofs.Common.{List, ap, subst}
 use Rattle.std.proofs.lemmas.Result.{IfOk-weaker}
+use Rattle.std.specs.Prelude.{IfOk}
+use Rattle.kex_machine.specs.Nodes.{Graph}
+use Rattle.kex_ports.specs.Reads.{last_given}
+use Rattle.kex_words.specs.Gains.{change}
 use Rattle.kex_words.specs.Words.{mode_of}
+use Rattle.kex_top.specs.Modes.{MachinesSay}
+use Rattle.kex_top.specs.Pipelines.{NodesSay, stage_plans}
+use Rattle.kex_top.specs.Run.{Ran}
+use Rattle.kex_top.specs.declared.status.Status.{Status}
 use Rattle.kex_top.proofs.CallAnswers.{ran_by}
 use Rattle.kex_top.proofs.serve.serve.Goals as goal
 
 pub returns-in-Run-clause-ran : goal.returns-in-Run-clause-ran
 returns-in-Run-clause-ran g c =
-    IfOk-weaker _ _ _ (λ s. ran_by (mode_of c.args.mode) c.args.limits.max_input c.args.compiled.now.stages _ _ _ s _ (ap mode_of c.in-Run.is) c.requires.some) c.run_stages.ensures.ran
+    let mode = mode_of c.args.mode in
+    let max = c.args.limits.max_input in
+    let last = last_given c.args.limits.block (g.S.Source.reads c.run_stages.new.input) in
+    let source = change (g.S.Source.rest c.args.input.now) (g.S.Source.rest c.run_stages.new.input) (g.S.Source.faults c.args.input.now) (g.S.Source.faults c.run_stages.new.input) in
+    let sink = change (g.K.Sink.held c.args.output.now) (g.K.Sink.held c.run_stages.new.output) (g.K.Sink.faults c.args.output.now) (g.K.Sink.faults c.run_stages.new.output) in
+    let By : List Graph → Status → Type 0 = λ ms s. Ran (NodesSay (stage_plans max ms)) last source sink s in
+    let In : Status → Type 0 = λ s. Ran (MachinesSay mode max c.args.compiled.now.stages) last source sink s in
+    IfOk-weaker c.run_stages.result (By c.args.compiled.now.stages) In
+    (λ s r. ran_by mode max c.args.compiled.now.stages last source sink s _ (ap mode_of c.in-Run.is) c.requires.some r)
+    (subst (λ ms. IfOk c.run_stages.result (By ms)) c.stages.ensures.same c.run_stages.ensures.ran)

@@ -31,14 +31,14 @@ returns-in_err-short-clause-answers g c = λ texts reads source left.
     let p = err_from_is_err_and c.from_residual-in_err-short.result c.from_residual-in_err-short.ensures.1 in
     rw (p.1, p.2) (inl (left, (refl, refl)))
 
-pub returns-in_err-summary-clause-answers : goal.returns-in_err-summary-clause-answers
-returns-in_err-summary-clause-answers g c = λ texts reads source left.
-    let p = err_from_is_err_and c.from_residual-in_err-summary.result c.from_residual-in_err-summary.ensures.1 in
+pub returns-in_err-counts-clause-answers : goal.returns-in_err-counts-clause-answers
+returns-in_err-counts-clause-answers g c = λ texts reads source left.
+    let p = err_from_is_err_and c.from_residual-in_err-counts.result c.from_residual-in_err-counts.ensures.1 in
     rw (p.1, p.2) (inl (left, (refl, refl)))
 
 pub returns-clause-answers : goal.returns-clause-answers
 returns-clause-answers g c = λ texts reads source left.
     let text : c.as_bytes.result.now ≡ trial_text = c.as_bytes.ensures.value in
-    tried c.args.lines.count c.args.lines.block (room_of c.args.lines.rings) texts reads c.in_ok-short.short c.in_ok-summary.summary source _ _
+    tried c.args.lines.count c.args.lines.block (room_of c.args.lines.rings) texts reads c.in_ok-short.short c.in_ok-counts.counts source _ _
     (subst (λ z. IsCompiled (limits_to_check usual_states) trial_text z) (sym c.in_ok-short.ensures) (subst (λ l. IsCompiled l trial_text c.in_ok-plans.plans) c.limits_to_check-asked.ensures (subst (λ t. IsCompiled c.limits_to_check-asked.result t c.in_ok-plans.plans) text c.in_ok-plans.ensures.plans)))
-    c.in_ok-summary.ensures left c.tell_summary.ensures.told
+    c.in_ok-counts.ensures left c.tell_trial_counts.ensures.told

@@ -1,7 +1,7 @@
 use Rattle.std.proofs.Common.{refl}
 use Rattle.clap.proofs.OnLiterals.{clap_on_literals}
 use Rattle.kex_words.specs.Words.{asked_of}
-use Rattle.kex_words.specs.Known.{ReadsRun, ReadsCheck, ReadsSingles, ReadsTrial, ReadsEach, RefusesWords}
+use Rattle.kex_words.specs.Known.{ReadsRun, ReadsCheck, ReadsSingles, ReadsTrial, ReadsTables, ReadsEach, RefusesWords}
 use Rattle.kex_words.proofs.known.reads_known_words.Goals as goal
 
 reads-run : ReadsRun
@@ -43,6 +43,10 @@ reads-trial : ReadsTrial
 unfolding clap_on_literals asked_of
 reads-trial = record { plain = refl; none = refl; most = refl; rings = refl }
 
+reads-tables : ReadsTables
+unfolding clap_on_literals asked_of
+reads-tables = record { compile = refl; compile_states = refl; exec = refl; exec_limits = refl }
+
 reads-each : ReadsEach
 unfolding clap_on_literals asked_of
 reads-each = record { plain = refl; with_options = refl }
@@ -66,4 +70,4 @@ refuses-words = record {
 }
 
 pub returns : goal.returns
-returns c = record { run = reads-run; check = reads-check; singles = reads-singles; trial = reads-trial; each = reads-each; out_of_form = refuses-words }
+returns c = record { run = reads-run; check = reads-check; singles = reads-singles; trial = reads-trial; tables = reads-tables; each = reads-each; out_of_form = refuses-words }
