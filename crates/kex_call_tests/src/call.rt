@@ -67,7 +67,7 @@ pub(crate) fn holds<R: Threads + Sync>(
         ports.taken.max(1),
         vec![in alloc; ports.write]?,
     )?;
-    let mut notes = MemSink::new(alloc, 256, 256, vec![in alloc; ports.note]?)?;
+    let mut notes = MemSink::new(alloc, 512, 512, vec![in alloc; ports.note]?)?;
     let status = kex(
         rt,
         alloc,
@@ -82,9 +82,34 @@ pub(crate) fn holds<R: Threads + Sync>(
     Ok(output.bytes() == case.held && answer.trim() == case.answer)
 }
 
-// The bytes of a row's part: `$` stands for a line feed, and `a%b%3%c` for `abbbc`.
-fn bytes_of(alloc: Global, part: &str) -> Result<Vec<u8>, Fail> {
-    let text = part.replace(alloc, '$', "\n")?;
+// The table file of a program.
+fn table_of<R: Threads + Sync>(rt: &R, alloc: Global, program: &[u8]) -> Result<Vec<u8>, Fail> {
+    let words = words_of(alloc, "kex compile p")?;
+    let mut shelf = MemShelf::new(alloc, Vec::new(alloc));
+    shelf.put("p", program)?;
+    let mut input = MemSource::new(Vec::new(alloc), 1, Vec::new(alloc));
+    let mut output = MemSink::new(alloc, 2_000_000, 2_000_000, Vec::new(alloc))?;
+    let mut notes = MemSink::new(alloc, 512, 512, Vec::new(alloc))?;
+    let status = kex(
+        rt,
+        alloc,
+        words.as_slice(),
+        &mut shelf,
+        &mut input,
+        &mut output,
+        &mut notes,
+        &OpenGate,
+    );
+    if status.number() != 0 {
+        return Err(Fail::new("the program isn't compiled"));
+    }
+    let table = output.bytes().to_vec(alloc)?;
+    Ok(table)
+}
+
+/// The bytes of a row's part: the sign `feed` stands for a line feed, and `a%b%3%c` for `abbbc`.
+pub(crate) fn bytes_of(alloc: Global, part: &str, feed: char) -> Result<Vec<u8>, Fail> {
+    let text = part.replace(alloc, feed, "\n")?;
     let mut pieces = text.split('%');
     let front = pieces.next().unwrap_or("").as_bytes();
     let middle = pieces.next().unwrap_or("").as_bytes();
@@ -113,20 +138,37 @@ fn ports_of(part: &str) -> Result<Ports, Fail> {
     Ok(ports)
 }
 
+/// How the rows of a test are read.
+#[derive(Clone, Copy)]
+pub(crate) struct CallRows<'a> {
+    pub text: &'a str,
+    /// What stands for a line feed.
+    pub feed: char,
+    /// Whether the program is compiled, and its table file stands on the shelf in its place.
+    pub compiled: bool,
+}
+
 // Whether a row holds: words, a program, an input, what is written, the answer, and ports if they
 // aren't the usual ones. The option is one more word.
 fn row_holds<R: Threads + Sync>(
     rt: &R,
     alloc: Global,
+    rows: CallRows<'_>,
     row: &str,
     option: &str,
 ) -> Result<bool, Fail> {
+    let feed = rows.feed;
     let mut parts = row.split(" # ");
     let words = parts.next().ok_or("no words")?;
     let words = format!(in alloc; "kex {words} {option}")?;
-    let program = bytes_of(alloc, parts.next().ok_or("no program")?)?;
-    let input = bytes_of(alloc, parts.next().ok_or("no input")?)?;
-    let held = bytes_of(alloc, parts.next().ok_or("no output")?)?;
+    let text = bytes_of(alloc, parts.next().ok_or("no program")?, feed)?;
+    let program = if rows.compiled {
+        table_of(rt, alloc, text.as_slice())?
+    } else {
+        text
+    };
+    let input = bytes_of(alloc, parts.next().ok_or("no input")?, feed)?;
+    let held = bytes_of(alloc, parts.next().ok_or("no output")?, feed)?;
     let answer = parts.next().ok_or("no answer")?;
     let ports = match parts.next() {
         Some(part) => ports_of(part)?,
@@ -147,12 +189,27 @@ fn row_holds<R: Threads + Sync>(
 pub(crate) fn each_holds<R: Threads + Sync>(
     rt: &R,
     alloc: Global,
-    rows: &str,
+    text: &str,
     options: &[&str],
 ) -> Result<(), Fail> {
-    for row in rows.trim().lines() {
+    let rows = CallRows {
+        text,
+        feed: '$',
+        compiled: false,
+    };
+    each_row_holds(rt, alloc, rows, options)
+}
+
+/// The same of rows that are read so.
+pub(crate) fn each_row_holds<R: Threads + Sync>(
+    rt: &R,
+    alloc: Global,
+    rows: CallRows<'_>,
+    options: &[&str],
+) -> Result<(), Fail> {
+    for row in rows.text.trim().lines() {
         for option in options {
-            if !row_holds(rt, alloc, row, option)? {
+            if !row_holds(rt, alloc, rows, row, option)? {
                 return Err(Fail::new(format_args!("{option}: {row}")));
             }
         }

@@ -82,11 +82,36 @@ run p # main := /(a{200}){200}/ # a #  # 3 refused: K15 TooManyStates in stage 1
 check p # main := /(a{1000}){600}/ # a #  # 3 refused: K11 TooManyPlaces in stage 1
 check p # start: b >> a a := /a/ a b := /b*/ # a #  # 3 refused: K13 NoText in stage 2
 run p #  # a #  # 3 refused: K09 NoStart
-run # main := /a*/ # a #  # 2 usage: kex run|check|code|act|test PROGRAM [--states N] [--max-input N] [--block N] [--rings N] | kex trial N [--block N] [--rings N] | kex each PROGRAM [--states N] [--max-input N] [--workers N]
+run # main := /a*/ # a #  # 2 usage: kex run|check|code|act|test PROGRAM [--states N] [--max-input N] [--block N] [--rings N] | kex trial N [--block N] [--rings N] | kex compile PROGRAM [--states N] | kex exec TABLE [--max-input N] [--block N] | kex each PROGRAM [--states N] [--max-input N] [--workers N]
 run q # main := /a*/ # a #  # 6 shelf fault
 "#;
 
 #[test]
 fn commands_without_an_input(rt: HostRuntime) -> Result<(), Fail> {
     each_holds(&rt, rt.alloc(), WITHOUT_INPUT, &["--"])
+}
+
+// Lines by themselves: with a rejected one, an empty one and an unfinished one; of more stages than
+// one; beyond a block; and read a byte at a time.
+const LINES: &str = r#"
+each p # main := /a/ "x" | /b/ # a$c$$b # ax$rejected: stage 1 at byte 0$rejected: stage 1 at byte 0 (end)$b$ # 0
+each p # main := /a/ "x" | /b/ # a$c$$b # ax$rejected: stage 1 at byte 0$rejected: stage 1 at byte 0 (end)$b$ # 0 # given=1
+each p # main := /a/ "x" | /b/ #  #  # 0
+each p # main := /a*/ # $$ # $$ # 0
+each p --max-input 2 # main := /a*/ # aaa$aa$ # too long: stage 1 at byte 2$aa$ # 0
+each p --max-input 0 # main := /a*/ # a$$ # too long: stage 1 at byte 0$$ # 0
+each p # start: a >> b a := (~/x/ "yy")* b := (~/yyy/ "z")* # xxx$xx$xxq$ # zz$rejected: stage 2 at byte 4 (end)$rejected: stage 1 at byte 2$ # 0
+each p # main := [r <- "-"] ([r += "a"] /b/)* !r # b$$bb # b-a$-$bb-aa$ # 0
+each p # main := ("<" /a/ ">")* # %aa$%30000%ab # %<a><a>$%30000%rejected: stage 1 at byte 1$ # 0
+each p --states 3 # main := /a{3}/ # a #  # 3 refused: K15 TooManyStates in stage 1
+"#;
+
+#[test]
+fn each_line_by_itself(rt: HostRuntime) -> Result<(), Fail> {
+    each_holds(
+        &rt,
+        rt.alloc(),
+        LINES,
+        &["--workers=1", "--workers=2", "--workers=3", "--workers=64"],
+    )
 }

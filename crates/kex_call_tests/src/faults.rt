@@ -101,7 +101,8 @@ fn each_call_fails(rt: HostRuntime) -> Result<(), Fail> {
 
 // A fault of writing is told before one of reading; a sink that takes two bytes a write holds two
 // when its second write fails; a fault of the notes changes no status; each part of the line that a
-// check writes is a write, and then the end; and the shelf fails each command.
+// check writes is a write, and then the end; an unfinished line isn't answered after a fault of
+// reading, and the answers to the lines of a read are a write; and the shelf fails each command.
 const OTHERS: &str = r#"
 run p # main := /a*/ # aaa # aaa # 5 write fault # given=1 taken=1 read=4 write=4
 run p # main := /a*/ # aaa # aa # 5 write fault # given=3 taken=2 write=2
@@ -115,7 +116,18 @@ check p # main := /a*/ # aaa # stages 1 places 3 # 5 write fault # read=1 write=
 check p # main := /a*/ # aaa # stages 1 places 3 states  # 5 write fault # read=1 write=6
 check p # main := /a*/ # aaa # stages 1 places 3 states 1 # 5 write fault # read=1 write=7
 check p # main := /a*/ # aaa # stages 1 places 3 states 1$ # 5 write fault # read=1 write=8
+each p # main := /a/ "x" | /b/ # a$c #  # 4 read fault # read=1
+each p # main := /a/ "x" | /b/ # a$c # ax$ # 4 read fault # read=2
+each p # main := /a/ "x" | /b/ # a$c$b$c # ax$rejected: stage 1 at byte 0$ # 4 read fault # given=5 read=2
+each p # main := /a/ "x" | /b/ # a$c # ax$ # 5 write fault # read=2 write=2
+each p # main := /a/ "x" | /b/ # a$c #  # 5 write fault # write=1
+each p # main := /a/ "x" | /b/ # a$c # a # 5 write fault # taken=1 write=2
+each p # main := /a/ "x" | /b/ # a$c # ax$ # 5 write fault # write=2
+each p # main := /a/ "x" | /b/ # a$b # ax$b$ # 5 write fault # write=3
+each p # main := /a/ "x" | /b/ # a$b # ax$b$ # 0 # write=4 read=4
+each p --workers 64 # main := (~/a/ "yyyyyyyy")* # %aaaaaaa$%9000%a # %yyyyyyyyyyyyyyyyyyyyyyyyyyyyyyyyyyyyyyyyyyyyyyyyyyyyyyyy$%8192% # 5 write fault # write=2
 run p # main := /a*/ # aaa #  # 6 shelf fault # take=1
+each p # main := /a*/ # aaa #  # 6 shelf fault # take=1
 code p # main := /a*/ # aaa #  # 6 shelf fault # take=1
 act p # main := /a*/ # aaa #  # 6 shelf fault # take=1
 test p # main := /a*/ # aaa #  # 6 shelf fault # take=1

@@ -19,3 +19,5 @@ mod large;
 pub mod long;
 #[cfg(test)]
 mod runs;
+#[cfg(test)]
+mod tables;

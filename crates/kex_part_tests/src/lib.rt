@@ -15,6 +15,8 @@ mod compile;
 mod constants;
 pub mod copier;
 #[cfg(test)]
+mod each;
+#[cfg(test)]
 mod made;
 #[cfg(test)]
 mod many;
@@ -35,6 +37,8 @@ mod rings;
 mod rope;
 #[cfg(test)]
 mod rounds;
+#[cfg(test)]
+mod tabfile;
 #[cfg(test)]
 mod tokens;
 #[cfg(test)]

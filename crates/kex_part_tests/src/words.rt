@@ -30,8 +30,12 @@ kex code p => Stream { mode: Code, program: "p", limits: RunLimits { max_input: 
 kex act p --max-input 3 --block 1 => Stream { mode: Act, program: "p", limits: RunLimits { max_input: 3, block: 1, rings: None } }
 kex test -- run => Stream { mode: Test, program: "run", limits: RunLimits { max_input: 281474976710656, block: 65536, rings: None } }
 kex check p => Check { program: "p", states: StateLimit { most: 4096 } }
-kex trial 2 => Trial(Lines { count: 2, block: 65536, rings: None })
-kex trial 2 --rings 1 => Trial(Lines { count: 2, block: 65536, rings: Some(Rings { room: 1 }) })
+kex trial 2 => Trial(TrialLines { count: 2, block: 65536, rings: None })
+kex trial 2 --rings 1 => Trial(TrialLines { count: 2, block: 65536, rings: Some(Rings { room: 1 }) })
+kex compile p => Compile { program: "p", states: StateLimit { most: 4096 } }
+kex exec --block 1 t --max-input 3 => Exec { table: "t", limits: RunLimits { max_input: 3, block: 1, rings: None } }
+kex each p => Each { program: "p", limits: LineLimits { states: StateLimit { most: 4096 }, max_input: 281474976710656, workers: 1 } }
+kex each --workers 64 p --max-input 2 --states=7 => Each { program: "p", limits: LineLimits { states: StateLimit { most: 7 }, max_input: 2, workers: 64 } }
 kex => Usage
 kex  => Usage
 kex p => Usage
@@ -66,6 +70,16 @@ kex run p --rings 0 => Usage
 kex run p --rings 1048577 => Usage
 kex trial 1 --rings 0 => Usage
 kex code p --rings 1 => Usage
+kex each => Usage
+kex each p --workers 0 => Usage
+kex each p --workers 65 => Usage
+kex each p --block 1 => Usage
+kex each p --rings 1 => Usage
+kex run p --workers 1 => Usage
+kex compile => Usage
+kex compile p --block 1 => Usage
+kex exec t --states 1 => Usage
+kex exec t --rings 1 => Usage
 "#;
 
 #[test]
