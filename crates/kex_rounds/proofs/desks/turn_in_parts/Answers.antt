@@ -18,7 +18,7 @@ pub returns-clause-begins : goal.returns-clause-begins
 returns-clause-begins g c = on-fault c.turn.result
     (λ is ps h taken s. c.turn.ensures.memory is ps h taken (c.take_back.ensures.stands ps h taken (c.hand_out-desks.ensures.stands ps h taken s)))
     (λ is ps h taken s.
-        let on = c.take_back.ensures.stands ps h taken (c.hand_out-desks.ensures.stands ps h taken s) in
-        let spent = c.turn.ensures.spent.0 is in
-        let going = on.going in
-        cc)
+    let on = c.take_back.ensures.stands ps h taken (c.hand_out-desks.ensures.stands ps h taken s) in
+    let spent = c.turn.ensures.spent.0 is in
+    let going = on.going in
+    cc)
