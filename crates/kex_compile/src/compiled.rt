@@ -35,8 +35,8 @@ impl Model for Compiled {
     ghost invariant = { λ c. length c.stages.items < 2 ^ 32 };
 }
 
-// The same plans, each with a shorter table.
-fn shorten_all(alloc: Global, plans: Vec<Plan>) -> Result<Vec<Plan>, Memory>
+/// The same plans, of which stages go by tables without constant registers.
+pub fn shorten_all(alloc: Global, plans: Vec<Plan>) -> Result<Vec<Plan>, Memory>
     ensures { IfOk result (λ shorter. shorter.items ≡ plans.items) }
 {
     let mut shorter = Vec::with_capacity(alloc, plans.len())?;

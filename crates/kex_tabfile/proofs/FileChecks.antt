@@ -8,9 +8,10 @@ use Rattle.kex_stage.specs.Plans.{Planned, machine_of}
 use Rattle.kex_compile.specs.Compiled.{HasMachines, IsRefused}
 use Rattle.kex_compile.specs.declared.limits.Limits.{Limits}
 use Rattle.kex_compile.specs.declared.refusal.CompileRefusal.{CompileRefusal}
+use Rattle.kex_compile.specs.declared.refusal.CompileRefusal.TheVariants as compile
 use Rattle.kex_tabfile.specs.Lines.{name_line, head_text, end_line, line_behind}
 use Rattle.kex_tabfile.specs.Readers.{ReadSoFar, ReadsBytes, most_bytes}
-use Rattle.kex_tabfile.specs.TableFiles.{AreStageTexts, EachHasTable, IsTableFile, IsGood, BreaksLines, at_end, past_end, IsBadLine, bad_line, IsBadHead, IsTableRefused, goes_in}
+use Rattle.kex_tabfile.specs.TableFiles.{AreStageTexts, EachHasTable, IsTableFile, IsGood, BreaksLines, at_end, past_end, IsBadLine, bad_line, IsBadHead, IsTableRefused, goes_in, of_text}
 use Rattle.kex_tabfile.specs.Checking.{BreaksStages, BreaksEnd}
 use Rattle.kex_tabfile.specs.declared.refusal.TableRefusal.{TableRefusal}
 use Rattle.kex_tabfile.specs.declared.refusal.TableRefusal.TheVariants.{TableTooLong, BadTable, Text, Memory}
@@ -22,8 +23,23 @@ refused_head file (Text why) le h = absurd h
 refused_head file Memory le h = tt
 
 module _ (file text : List ℕ) (le : length file ≤ most_bytes) (a : ReadSoFar) (read : a.before ≡ head_text text) (whole : file ≡ head_text text ++ a.rest) where
-  pub refused_text : (why : CompileRefusal) → ((limits : Limits) → IsRefused limits text why) → IsTableRefused file (Text why)
-  refused_text why h = (le, text, (a.rest, whole), h)
+  pub refused_text : (why : CompileRefusal) → ((limits : Limits) → IsRefused limits text why) → IsTableRefused file (of_text why)
+  refused_text compile.TextTooLong h = (le, text, (a.rest, whole), h)
+  refused_text (compile.BadToken n) h = (le, text, (a.rest, whole), h)
+  refused_text (compile.Unexpected n) h = (le, text, (a.rest, whole), h)
+  refused_text (compile.BadRegex n) h = (le, text, (a.rest, whole), h)
+  refused_text (compile.BadCount n) h = (le, text, (a.rest, whole), h)
+  refused_text (compile.BadSet n) h = (le, text, (a.rest, whole), h)
+  refused_text (compile.OverLimit n) h = (le, text, (a.rest, whole), h)
+  refused_text (compile.TwiceDefined n) h = (le, text, (a.rest, whole), h)
+  refused_text (compile.Unknown n) h = (le, text, (a.rest, whole), h)
+  refused_text compile.NoStart h = (le, text, (a.rest, whole), h)
+  refused_text (compile.NotTail n) h = (le, text, (a.rest, whole), h)
+  refused_text (compile.TooManyPlaces n) h = (le, text, (a.rest, whole), h)
+  refused_text (compile.NoText n) h = (le, text, (a.rest, whole), h)
+  refused_text compile.OneStage h = (le, text, (a.rest, whole), h)
+  refused_text (compile.TooManyStates n) h = (le, text, (a.rest, whole), h)
+  refused_text compile.Memory h = tt
 
   module _ (ms : List Graph) (machines : HasMachines text ms) where
     pub refused_stages : (e : TableRefusal) → BreaksStages ms a e → IsTableRefused file e

@@ -10,6 +10,8 @@ use Rattle.kex_stage.specs.Plans.{Planned, machine_of}
 use Rattle.kex_determine.specs.Determined.{IsDetermined}
 use Rattle.kex_compile.specs.Compiled.{HasMachines, IsRefused}
 use Rattle.kex_compile.specs.declared.limits.Limits.{Limits}
+use Rattle.kex_compile.specs.declared.refusal.CompileRefusal.{CompileRefusal}
+use Rattle.kex_compile.specs.declared.refusal.CompileRefusal.TheVariants as compile
 use Rattle.kex_tabfile.specs.Lines.{name_line, head_text, end_line, line_behind}
 use Rattle.kex_tabfile.specs.Readers.{most_bytes}
 use Rattle.kex_tabfile.specs.Walks.{IsStageText, BreaksInStage, most_table_states}
@@ -81,10 +83,16 @@ IsBadHead file (BadTable line) = IsBadLine file line
 IsBadHead file Memory = Unit {0}
 IsBadHead file _ = ⊥
 
+-- a refusal of the text, of the file that has it
+abbrev pub of_text : CompileRefusal → TableRefusal
+of_text compile.Memory = Memory
+of_text why = Text why
+
 -- why a file is refused
 abbrev pub IsTableRefused : List ℕ → TableRefusal → Type 0
 IsTableRefused file TableTooLong = most_bytes < length file
 IsTableRefused file (BadTable line) = (length file ≤ most_bytes) × IsBadLine file line
+IsTableRefused file (Text compile.Memory) = ⊥
 IsTableRefused file (Text why) = (length file ≤ most_bytes) × (text : List ℕ)
     × Begins file (head_text text) × ((limits : Limits) → IsRefused limits text why)
 IsTableRefused file Memory = Unit {0}

@@ -3,6 +3,7 @@
 ghost use Rattle.std.specs.Prelude.{◌≡◌, ◌<◌, ◌^◌, IfOk, length};
 
 use kex_code::memory::Memory;
+use kex_compile::compiled::shorten_all;
 use kex_stage::plan::Plan;
 use std::alloc::Global;
 use std::marker::Model;
@@ -25,18 +26,6 @@ impl Model for Checked {
     ghost invariant = { λ c. length c.stages.items < 2 ^ 32 };
 }
 
-// The same plans, by each of which a stage goes by a shorter table.
-fn shorten_plans(alloc: Global, plans: Vec<Plan>) -> Result<Vec<Plan>, Memory>
-    ensures { IfOk result (λ shorter. shorter.items ≡ plans.items) }
-{
-    let mut shorter = Vec::with_capacity(alloc, plans.len())?;
-    'plans: for plan in plans {
-        let plan = plan.shorten(alloc)?;
-        shorter.push(plan)?;
-    }
-    Ok(shorter)
-}
-
 impl Checked {
     pub(crate) fn new(stages: Vec<Plan>) -> Checked
         requires { length stages.items < 2 ^ 32 }
@@ -57,7 +46,7 @@ impl Checked {
     pub fn shorten(self, alloc: Global) -> Result<Checked, Memory>
         ensures { IfOk result (λ c. c ≡ self) }
     {
-        let stages = shorten_plans(alloc, self.stages)?;
+        let stages = shorten_all(alloc, self.stages)?;
         Ok(Checked { stages })
     }
 }

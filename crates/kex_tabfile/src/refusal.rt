@@ -1,7 +1,8 @@
 // Why a table file isn't good.
 
 ghost use Rattle.std.specs.Prelude.{◌≡◌};
-ghost use Rattle.kex_tabfile.specs.declared.refusal.TableRefusal.TheVariants.{Memory, Text};
+ghost use Rattle.kex_tabfile.specs.TableFiles.{of_text};
+ghost use Rattle.kex_tabfile.specs.declared.refusal.TableRefusal.TheVariants.{Memory};
 
 use kex_code::memory::Memory;
 use kex_compile::refusal::CompileRefusal;
@@ -18,7 +19,8 @@ pub enum TableRefusal {
     /// line feeds, from 1.
     #[error("line {line} of the table file isn't right")]
     BadTable { line: u32 },
-    /// The program text in the file is refused; offsets count its bytes.
+    /// The program text in the file is refused, but not for want of memory; offsets count its
+    /// bytes.
     #[error("{0}")]
     Text(CompileRefusal),
     #[error("out of memory")]
@@ -50,9 +52,12 @@ impl<T: Drop> From<AllocFailed<T>> for TableRefusal {
 }
 
 impl From<CompileRefusal> for TableRefusal {
-    ghost from_gives = { λ why e. e ≡ Text why };
+    ghost from_gives = { λ why e. e ≡ of_text why };
 
     fn from(why: CompileRefusal) -> TableRefusal {
-        TableRefusal::Text(why)
+        match why {
+            CompileRefusal::Memory => TableRefusal::Memory,
+            why => TableRefusal::Text(why),
+        }
     }
 }

@@ -4,7 +4,7 @@ use Rattle.kex_stage.specs.Plans.{machine_of}
 use Rattle.kex_compile.specs.Compiled.{HasMachines}
 use Rattle.kex_tabfile.specs.Lines.{head_text}
 use Rattle.kex_tabfile.specs.Readers.{most_bytes}
-use Rattle.kex_tabfile.specs.TableFiles.{AreStageTexts, IsGood, IsTableFile, IsTableRefused, goes_in}
+use Rattle.kex_tabfile.specs.TableFiles.{AreStageTexts, IsGood, IsTableFile, IsTableRefused, goes_in, of_text}
 use Rattle.kex_tabfile.proofs.ResultParts.{if_err}
 use Rattle.kex_tabfile.proofs.FileChecks.{refused_head, refused_text, refused_stages, refused_end, spells_file}
 use Rattle.kex_tabfile.proofs.check.check_table.Goals as goal
@@ -23,7 +23,7 @@ module _ (c : In_ok-text) where
 pub returns-in_err-machines-clause-refused : goal.returns-in_err-machines-clause-refused
 returns-in_err-machines-clause-refused c =
     let at = (goal.at.returns-in_err-machines-clause-refused c).In_ok-text in
-    if_err c.from_residual-in_err-machines.result _ (λ e. IsTableRefused c.args.bytes.now e) c.from_residual-in_err-machines.ensures.1
+    if_err c.from_residual-in_err-machines.result (of_text c.in_err-machines.field-0.0) (λ e. IsTableRefused c.args.bytes.now e) c.from_residual-in_err-machines.ensures.1
     (refused_text c.args.bytes.now c.in_ok-text.text.now (short at) c.take_head.new.reader (before at) (whole at) c.in_err-machines.field-0.0 c.in_err-machines.ensures.refused)
 
 pub returns-in_err-plans-clause-refused : goal.returns-in_err-plans-clause-refused
