@@ -235,7 +235,7 @@ module _ (texts : Option Texts) (shelf : ShelfChange) (reads : Option Reads) (so
   unbounded (ToEach name states limit workers) g w =
       let short = read-within source.old source.new g.input_is_good.input w.performs.w g.input_is_good.rest w.performs.read in
       let few = g.input_is_good.short in
-      let long = w.performs.ends.0 in omega arith
+      let long = w.performs.ends.0.0 in omega arith
   unbounded (ToTry lines block rings) g w = w.performs.1.told
   unbounded (ToCompile name states) g w = w.performs.1.told
   unbounded (ToExec name reach) g w = w.performs.ends

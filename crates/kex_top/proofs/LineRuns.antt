@@ -21,7 +21,7 @@ use Rattle.kex_each.proofs.LineLists.{begins_lines, by_pieces}
 use Rattle.kex_words.specs.Form.{most_input}
 use Rattle.kex_words.specs.Gains.{StreamChange, change}
 use Rattle.kex_top.specs.Answer.{Said}
-use Rattle.kex_top.specs.ByLines.{EndsByLines, NodesSayLines, LinesSay, PumpedByLines, RanByLines}
+use Rattle.kex_top.specs.ByLines.{EndsByLines, GoesPast, NodesSayLines, LinesSay, PumpedByLines, RanByLines}
 use Rattle.kex_top.specs.LineWrites.{PassesLines, WritesTexts, WritesTextsFront}
 use Rattle.kex_top.specs.Outside.{Closes, IsSinkOpen, ReadsBlocks}
 use Rattle.kex_top.specs.Run.{TroubleCause, WritesAll, WritesBegun, WritesEarlier, is_whole, status_after}
@@ -165,7 +165,7 @@ module _ (ps : List StagePlan) (n : ℕ) (source sink : StreamChange) (w : List 
   )
 
   -- there were too many bytes
-  pub past_most : mid ≡ sink.new → Consumes source.old source.new w → most_input < length w → source.now ≡ source.before → sink.now ≡ sink.before → PumpedByLines (NodesSayLines ps) n source sink InputTooLong
+  pub past_most : mid ≡ sink.new → Consumes source.old source.new w → GoesPast n w → source.now ≡ source.before → sink.now ≡ sink.before → PumpedByLines (NodesSayLines ps) n source sink InputTooLong
   past_most same read many a b = (
     record {
       w = w;

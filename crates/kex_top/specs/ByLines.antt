@@ -1,5 +1,5 @@
 -- What a command leaves that answers each line of its input by itself.
-use Rattle.std.specs.Prelude.{◌≡◌, ◌<◌, ◌≤◌, ℕ, Bool, true, false, List, Some, None, length}
+use Rattle.std.specs.Prelude.{◌≡◌, ◌+◌, ◌<◌, ◌≤◌, ℕ, Bool, true, false, List, Some, None, length}
 use Rattle.std.specs.Io.KnownBytes.{Consumes, IsAtEnd}
 use Rattle.std.specs.List.{concat}
 use Rattle.kex_model.specs.Answers.{Answer}
@@ -39,6 +39,10 @@ abbrev pub SaysLines : Grammar → ℕ → List ℕ → Bool → Said → Type 0
 SaysLines P limit w e said =
     LinesSay (λ root v d a. StageAnswers P root limit v d a) (roots_of P) w e said
 
+-- The last read, which gave no more than so many bytes, took the input past the most that it may have.
+abbrev pub GoesPast : ℕ → List ℕ → Type 0
+GoesPast last w = (most_input < length w) × (length w ≤ most_input + last)
+
 module _ (says : List ℕ → Bool → Said → Type 0) where
   -- What each status says of a run that read w, and the end after it where e. Rejected lines are
   -- part of what is said; past the most bytes that an input may have all whole lines are answered.
@@ -47,7 +51,7 @@ module _ (says : List ℕ → Bool → Said → Type 0) where
       × EndsAs says last w e source sink Done
   EndsByLines last w e source sink ReadFault = (length w ≤ most_input)
       × EndsAs says last w e source sink ReadFault
-  EndsByLines last w e source sink InputTooLong = (most_input < length w) × (e ≡ false)
+  EndsByLines last w e source sink InputTooLong = GoesPast last w × (e ≡ false)
       × WritesAll says w e None sink × (source.now ≡ source.before) × (sink.now ≡ sink.before)
   EndsByLines last w e source sink (Rejected r) = ⊥
   EndsByLines last w e source sink (TooLong r) = ⊥

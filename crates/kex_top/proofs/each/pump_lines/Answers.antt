@@ -4,6 +4,7 @@ use Rattle.std.specs.Io.KnownBytes.{Consumes}
 use Rattle.kex_each.specs.Lines.{begun_behind, lines_behind, line_if_some}
 use Rattle.kex_ports.proofs.Known.{append-nil, consumes-then, consumes-last, consumes-nothing}
 use Rattle.kex_ports.proofs.ReadRequests.{asks-on, last-read}
+use Rattle.kex_ports.specs.Reads.{last_given}
 use Rattle.kex_ports.proofs.Endings.{same-finishes}
 use Rattle.kex_stage.specs.Stages.{StagePlan}
 use Rattle.kex_top.specs.LineWrites.{PassesLines, WritesTexts}
@@ -90,7 +91,9 @@ returns-then-total-gt-MOST_INPUT-clause-pumped g c =
     let k = subst (λ (q : List StagePlan). WritesTexts q (lines_behind (begun_behind [] i.w) piece) (g.K.Sink.held c.reads.output) (g.K.Sink.held c.pass_lines.new.output)) i.plans (c.in-Ok-pass_lines.ensures.passes i.w i.begun) in
     past_most ps _ _ _ (i.w ++ piece) _ (answered_more ps i.w piece _ _ _ i.answered k) refl
     (consumes-then _ _ _ _ _ i.consumed c.in-Ok.ensures.bytes.0)
-    (let same = piece-length i.w c.read.new.buf c.in-Ok.count c.reads.total (omega (arith, c.in-Ok.ensures.bound, c.reads.auto.block)) i.count in omega arith)
+    (let same = piece-length i.w c.read.new.buf c.in-Ok.count c.reads.total (omega (arith, c.in-Ok.ensures.bound, c.reads.auto.block)) i.count in
+    let given : c.in-Ok.count ≤ last_given (length c.args.block.now) (g.S.Source.reads c.read.new.self) = last-read _ _ _ _ _ (omega (arith, c.in-Ok.ensures.bound, c.reads.auto.block)) c.in-Ok.ensures.asked in
+    (omega arith, omega (arith, same, given, i.few)))
     (search rules) (search rules)
 
 -- each read gave a byte, so there would have been too many
