@@ -11,14 +11,14 @@ use Rattle.kex_compile.specs.declared.refusal.CompileRefusal.{CompileRefusal}
 use Rattle.kex_compile.specs.declared.refusal.CompileRefusal.TheVariants as compile
 use Rattle.kex_tabfile.specs.Lines.{name_line, head_text, end_line, line_behind}
 use Rattle.kex_tabfile.specs.Readers.{ReadSoFar, ReadsBytes, most_bytes}
-use Rattle.kex_tabfile.specs.TableFiles.{AreStageTexts, EachHasTable, IsTableFile, IsGood, BreaksLines, at_end, past_end, IsBadLine, bad_line, IsBadHead, IsTableRefused, goes_in, of_text}
+use Rattle.kex_tabfile.specs.TableFiles.{AreStageTexts, EachHasTable, IsTableFile, IsGood, BreaksLines, at_end, past_end, IsBadLine, bad_front, bad_line, IsBadHead, IsTableRefused, goes_in, of_text}
 use Rattle.kex_tabfile.specs.Checking.{BreaksStages, BreaksEnd}
 use Rattle.kex_tabfile.specs.declared.refusal.TableRefusal.{TableRefusal}
 use Rattle.kex_tabfile.specs.declared.refusal.TableRefusal.TheVariants.{TableTooLong, BadTable, Text, Memory}
 
 pub refused_head : (file : List ℕ) (e : TableRefusal) → length file ≤ most_bytes → IsBadHead file e → IsTableRefused file e
 refused_head file TableTooLong le h = absurd h
-refused_head file (BadTable line) le h = (le, h)
+refused_head file (BadTable line) le h = (le, bad_front h)
 refused_head file (Text why) le h = absurd h
 refused_head file Memory le h = tt
 

@@ -67,19 +67,23 @@ pub data BreaksLines (ms : List Graph) : List ℕ → List ℕ → Type 0 where
   past_end : (tables : List (List (List (Option Transition)))) (before : List ℕ) {rest : List ℕ}
       → AreStageTexts ms tables before → (rest ≡ [] → ⊥) → BreaksLines ms (before ++ end_line) rest
 
+-- the line of this number, before the text, is the first that is not right
+pub data IsBadFront (file : List ℕ) : ℕ → Type 0 where
+  bad_name : (Begins file name_line → ⊥) → IsBadFront file 1
+  bad_text : Begins file name_line → ((text : List ℕ) → Begins file (head_text text) → ⊥)
+      → IsBadFront file 2
+
 -- the line of this number is the first that is not right: before the text, or behind it where the
 -- text has machines
 pub data IsBadLine (file : List ℕ) : ℕ → Type 0 where
-  bad_name : (Begins file name_line → ⊥) → IsBadLine file 1
-  bad_text : Begins file name_line → ((text : List ℕ) → Begins file (head_text text) → ⊥)
-      → IsBadLine file 2
+  bad_front : {line : ℕ} → IsBadFront file line → IsBadLine file line
   bad_line : {text before rest : List ℕ} {ms : List Graph} → HasMachines text ms
       → file ≡ head_text text ++ (before ++ rest) → BreaksLines ms before rest
       → IsBadLine file (line_behind (head_text text ++ before))
 
 -- the first or second line is not right
 abbrev pub IsBadHead : List ℕ → TableRefusal → Type 0
-IsBadHead file (BadTable line) = IsBadLine file line
+IsBadHead file (BadTable line) = IsBadFront file line
 IsBadHead file Memory = Unit {0}
 IsBadHead file _ = ⊥
 

@@ -1,10 +1,10 @@
 // Checks table files.
 
-ghost use Rattle.std.specs.Prelude.{◌≡◌, ℕ, IfErr, IfOk, List, OnOk, map};
+ghost use Rattle.std.specs.Prelude.{◌≡◌, ◌≤◌, ℕ, IfErr, IfOk, List, OnOk, length, map};
 ghost use Rattle.kex_stage.specs.Plans.{machine_of};
 ghost use Rattle.kex_tabfile.specs.Checking.{BreaksEnd, BreaksStages};
 ghost use Rattle.kex_tabfile.specs.Lines.{end_line};
-ghost use Rattle.kex_tabfile.specs.Readers.{ReadsBytes};
+ghost use Rattle.kex_tabfile.specs.Readers.{ReadsBytes, most_bytes};
 ghost use Rattle.kex_tabfile.specs.TableFiles.{AreStageTexts, EachHasTable, goes_in};
 ghost use Rattle.kex_tabfile.specs.TableFiles.{IsGood, IsTableRefused};
 
@@ -61,6 +61,7 @@ fn take_end(reader: &mut TableReader) -> Result<(), TableRefusal>
 /// behind it.
 pub fn check_table(alloc: Global, bytes: &[u8]) -> Result<Checked, TableRefusal>
     ensures good { IfOk result (λ plans. IsGood bytes.now plans) }
+    ensures within { IfOk result (λ plans. length bytes.now ≤ most_bytes) }
     ensures refused { IfErr result (λ e. IsTableRefused bytes.now e) }
 {
     if bytes.len() > MOST_BYTES as usize {

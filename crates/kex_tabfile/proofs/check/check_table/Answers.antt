@@ -4,7 +4,7 @@ use Rattle.kex_stage.specs.Plans.{machine_of}
 use Rattle.kex_compile.specs.Compiled.{HasMachines}
 use Rattle.kex_tabfile.specs.Lines.{head_text}
 use Rattle.kex_tabfile.specs.Readers.{most_bytes}
-use Rattle.kex_tabfile.specs.TableFiles.{AreStageTexts, IsGood, IsTableFile, IsTableRefused, goes_in, of_text}
+use Rattle.kex_tabfile.specs.TableFiles.{AreStageTexts, IsBadHead, IsGood, IsTableFile, IsTableRefused, goes_in, of_text}
 use Rattle.kex_tabfile.proofs.ResultParts.{if_err}
 use Rattle.kex_tabfile.proofs.FileChecks.{refused_head, refused_text, refused_stages, refused_end, spells_file}
 use Rattle.kex_tabfile.proofs.check.check_table.Goals as goal
@@ -19,6 +19,13 @@ module _ (c : In_ok-text) where
 
   whole : c.args.bytes.now ≡ head_text c.in_ok-text.text.now ++ c.take_head.new.reader.rest
   whole = sym (ap (λ z. z.rest) c.new-reader.ensures) ∙ c.in_ok-text.ensures.read.came
+
+pub returns-in_err-text-clause-refused : goal.returns-in_err-text-clause-refused
+returns-in_err-text-clause-refused c =
+    let e = c.in_err-text.field-0.0 in
+    let bad = subst (λ z. IsBadHead z.rest e) c.new-reader.ensures c.in_err-text.ensures.bad in
+    if_err c.from_residual.result e (λ e. IsTableRefused c.args.bytes.now e) c.from_residual.ensures.1
+    (refused_head c.args.bytes.now e (omega (arith, c.if-bytes.false)) bad)
 
 pub returns-in_err-machines-clause-refused : goal.returns-in_err-machines-clause-refused
 returns-in_err-machines-clause-refused c =
