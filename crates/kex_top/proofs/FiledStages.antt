@@ -16,6 +16,7 @@ use Rattle.kex_stage.specs.Plans.{Planned, machine_of}
 use Rattle.kex_compile.specs.Compiled.{HasMachines, IsCompiled}
 use Rattle.kex_compile.specs.Stages.{AreStages, AreTabled, CanRun, HasTableIf, HasTooManyStates, IsStage, Plans, roots_of, table_of}
 use Rattle.kex_compile.specs.declared.limits.Limits.{Limits}
+use Rattle.kex_tabfile.specs.Readers.{most_bytes}
 use Rattle.kex_tabfile.specs.TableFiles.{ArePlansOf, IsGood, IsTableFile, goes_in}
 use Rattle.kex_tabfile.specs.Walks.{most_table_states}
 use Rattle.kex_top.specs.Commands.{Filed}
@@ -73,10 +74,11 @@ all-run P i (r ∷ rs) (m ∷ ms) s root (inl same) = subst (λ z. CanRun P z) s
 all-run P i (r ∷ rs) (m ∷ ms) s root (inr more) = all-run P (suc i) rs ms s.1 root more
 
 -- a good file holds a program of its text
-pub holds-program : (file : List ℕ) (ps : List Planned) (good : IsGood file ps) → HoldsProgram file good.machines.program
-holds-program file ps good =
+pub holds-program : (file : List ℕ) (ps : List Planned) → length file ≤ most_bytes → (good : IsGood file ps) → HoldsProgram file good.machines.program
+holds-program file ps short good =
     let m = good.machines in
     record {
+      short = short;
       plans = ps;
       good = good;
       accepts = record {

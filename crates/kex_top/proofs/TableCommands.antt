@@ -1,5 +1,5 @@
 -- From table files, and runs over their stages, to what a call answers.
-use Rattle.std.proofs.Common.{◌≡◌, ◌<◌, ℕ, List, arith, length, map, subst, sym}
+use Rattle.std.proofs.Common.{◌≡◌, ◌<◌, ◌≤◌, ℕ, List, arith, length, map, subst, sym}
 use Rattle.std.proofs.lemmas.List.{length-map}
 use Rattle.std.specs.Prelude.{Option}
 use Rattle.kex_machine.specs.Nodes.{Graph}
@@ -10,6 +10,7 @@ use Rattle.kex_ports.specs.Shelf.{IsTold, ShelfText, told_of}
 use Rattle.kex_stage.specs.Plans.{Planned, machine_of}
 use Rattle.kex_compile.specs.Compiled.{IsCompiled}
 use Rattle.kex_compile.specs.Stages.{Plans, roots_of}
+use Rattle.kex_tabfile.specs.Readers.{most_bytes}
 use Rattle.kex_tabfile.specs.TableFiles.{IsGood}
 use Rattle.kex_words.specs.Gains.{StreamChange}
 use Rattle.kex_words.specs.Words.{Reach}
@@ -39,8 +40,8 @@ filed name states texts reads text plans source sink s told c left file f tells 
     )
 
 -- a file that is told and good
-pub holds-stages : (told : ShelfText) (file : List ℕ) (ps : List Planned) → IsTold told file → IsGood file ps → HoldsStages told (map machine_of ps)
-holds-stages told file ps t good = record { file = file; is_told = t; program = good.machines.program; holds = holds-program file ps good; stages = good.machines.stages }
+pub holds-stages : (told : ShelfText) (file : List ℕ) (ps : List Planned) → IsTold told file → length file ≤ most_bytes → IsGood file ps → HoldsStages told (map machine_of ps)
+holds-stages told file ps t short good = record { file = file; is_told = t; program = good.machines.program; holds = holds-program file ps short good; stages = good.machines.stages }
 
 -- a file's stages have one at least
 pub some-held : (told : ShelfText) (ms : List Graph) → HoldsStages told ms → 0 < length ms

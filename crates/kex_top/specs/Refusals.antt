@@ -1,5 +1,5 @@
 -- Why a command has no program to begin with, and what is told of it.
-use Rattle.std.specs.Prelude.{◌≡◌, ◌⊎◌, ◌+◌, ℕ, false, List, take, ⊤}
+use Rattle.std.specs.Prelude.{◌≡◌, ◌⊎◌, ◌+◌, ◌≤◌, ℕ, false, List, length, take, ⊤}
 use Rattle.kex_code.specs.Codes.{Begins}
 use Rattle.kex_compile.specs.Compiled.{Accepts, IsCompiled, IsRefused}
 use Rattle.kex_compile.specs.Stages.{AreStages, Plans, roots_of}
@@ -12,6 +12,7 @@ use Rattle.kex_ports.specs.Shelf.{ShelfText, IsTold, IsPast}
 use Rattle.kex_reader.specs.Lines.{behind_feed, feeds}
 use Rattle.kex_stage.specs.Plans.{Planned}
 use Rattle.kex_tabfile.specs.Lines.{head_text}
+use Rattle.kex_tabfile.specs.Readers.{most_bytes}
 use Rattle.kex_tabfile.specs.TableFiles.{IsGood, IsTableRefused}
 use Rattle.kex_tabfile.specs.declared.refusal.TableRefusal.{TableRefusal}
 use Rattle.kex_tabfile.specs.declared.refusal.TableRefusal.TheVariants as tables
@@ -81,9 +82,15 @@ IsStartOf text rule start.Memory = rule ≡ compile.Memory
 IsStartOf text rule (start.Refused r) = IsRefusalOf text rule r
 IsStartOf text rule _ = ⊥
 
+-- Memory is wanted, or is wanted for the text in which places are counted.
+abbrev pub MayWantMemory : TableRefusal → Type 0
+MayWantMemory tables.Memory = ⊤
+MayWantMemory (tables.Text why) = ⊤
+MayWantMemory _ = ⊥
+
 -- What is wrong with a table file, as a command tells it.
 abbrev pub IsFileStartOf : List ℕ → TableRefusal → StartError → Type 0
-IsFileStartOf file why start.Memory = ⊤
+IsFileStartOf file why start.Memory = MayWantMemory why
 IsFileStartOf file why (start.Refused r) = IsFileRefusalOf file why r
 IsFileStartOf file why _ = ⊥
 
@@ -127,6 +134,7 @@ limits_in_file = record { states = 0; one_stage = false; tables = false }
 
 -- The file is good, and this is a program that its text spells.
 pub record HoldsProgram (file : List ℕ) (P : Grammar) : Type 0 where
+  pub short : length file ≤ most_bytes
   pub plans : List Planned
   pub good : IsGood file plans
   pub accepts : Accepts limits_in_file good.text P
