@@ -7,7 +7,7 @@ use Rattle.kex_code.specs.declared.symbol.Symbol.{Symbol}
 use Rattle.kex_code.specs.declared.symbol.Symbol.TheVariants.{Byte}
 use Rattle.kex_code.specs.Codes.{Begins, bytes_of, HasNumber, IsAmong}
 use Rattle.kex_model.specs.Programs.{Grammar}
-use Rattle.kex_model.specs.Moves.{Move, accept, read, choose, forced, go, Step, took, Allows, reads, code_of, IsWaiting, Walk}
+use Rattle.kex_model.specs.Moves.{Move, accept, read, choose, forced, go, Step, took, Allows, reads, code_of, IsWaiting}
 use Rattle.kex_model.specs.Labelled.{Labelled, tip, fork, Grown, leaves_of}
 use Rattle.kex_model.specs.Survivors.{Agreed, IsPath, LeadsToEnd, LongestViable, HasTree, Survives}
 use Rattle.kex_model.specs.Answers.{Answer, LongestGood, Pipeline, Report, bad_byte, too_long, cut_off, whole, still_open}

@@ -7,3 +7,4 @@ pub mod SameShapes
 pub mod States
 pub mod Existence
 pub mod Continuations
+pub mod BestCodes

@@ -1,5 +1,5 @@
 -- What holds of a stage's places holds of the nodes that are paired with them, and back.
-use Rattle.std.proofs.Common.{◌≡◌, ℕ, List, [], ◌∷◌, ◌++◌, length, ⊎_elim, refl, sym, ap, ap₂, subst, ◌∙◌, append-nil, le_refl}
+use Rattle.std.proofs.Common.{◌≡◌, ℕ, List, [], ◌∷◌, ◌++◌, length, refl, sym, ap, ap₂, subst, ◌∙◌, append-nil, le_refl}
 use Rattle.kex_code.specs.declared.symbol.Symbol.{Symbol}
 use Rattle.kex_code.specs.Codes.{bytes_of, AtMost, HasNumber}
 use Rattle.kex_model.specs.Programs.{Grammar}

@@ -1,5 +1,6 @@
 // That a stage's places and its nodes answer alike. Each function's contract is a law.
 
+ghost use Rattle.kex_lowering.specs.Best.{BestStagesStand, NodesTellBestAsPlaces};
 ghost use Rattle.kex_lowering.specs.Stages.{NodesAnswerAsPlaces};
 ghost use Rattle.kex_lowering.specs.Existence.{MachinesHaveAnswers, StagesHaveAnswers};
 ghost use Rattle.kex_lowering.specs.Existence.{ViableTextsGoOn};
@@ -43,4 +44,16 @@ pub fn stages_have_answers()
 /// A text of such a stage is viable exactly where some text that begins with it has a parse.
 pub fn viable_texts_go_on()
     ensures { ViableTextsGoOn }
+{}
+
+/// What is left of the machine tells what is best as the places do: the code of each text, what is
+/// said of it, and each answer.
+pub fn nodes_tell_best_as_places()
+    ensures { NodesTellBestAsPlaces }
+{}
+
+/// The answers of a stage that tells what is best: one on each text, with a text that grows and a
+/// stop that stands.
+pub fn best_stages_stand()
+    ensures { BestStagesStand }
 {}
