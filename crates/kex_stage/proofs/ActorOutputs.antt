@@ -5,6 +5,7 @@ use Rattle.kex_machine.specs.Nodes.{Graph}
 use Rattle.kex_machine.specs.Answers.{IsViableFor}
 use Rattle.kex_action.specs.Actors.{Position, HasPerformed, BeginsRun, WentOn, TookAll}
 use Rattle.kex_moves.specs.Speech.{PerformsSaid}
+use Rattle.kex_stage.specs.declared.plan.Telling.{Telling}
 use Rattle.kex_stage.specs.declared.oracle.Oracle.{Oracle}
 use Rattle.kex_stage.specs.Oracles.{HearsOn, Tells, TellsEnd}
 use Rattle.kex_stage.specs.Works.{Followed, StageGoes, StageWorks, StageFinishes}
@@ -19,8 +20,8 @@ module _ (a b : Position) (start code symbols more : List Symbol) (out new : Lis
 pub works : (o new : Oracle) (a b : Position) (piece : List ℕ) (count : ℕ) (start code symbols : List Symbol) (before after : List ℕ) → start ≡ [] → symbols ≡ code → b.machine ≡ a.machine → Tells o new piece count start code → TookAll a b symbols before after → StageWorks o new a b piece count before after
 works o new a b piece count start code symbols before after none same mb h took = record {
   within = h.within;
-  works = λ g w text f v.
-      let x = h.tells g w f.code f.hears v in
+  works = λ tell g w text f v.
+      let x = h.tells tell g w f.code f.hears v in
       let done = performed a b start code symbols h.more before after none same h.code took f.code text f.performed in
       record {
         more = took.went.more;
@@ -36,24 +37,24 @@ pub finishes : (parsed : Bool) (o : Oracle) (a b : Position) (start code symbols
 finishes true o a b start code symbols before after none same mb h took = record {
   more = took.went.more;
   written = took.went.written;
-  finishes = λ g w text f v.
+  finishes = λ tell g w text f v.
       let done = performed a b start code symbols h.more before after none same h.code took f.code text f.performed in
-      means g b (mb ∙ f.machine) took.settled (f.code ++ h.more) (text ++ took.went.more) done w (h.tells g w f.code f.hears v);
+      means g b (mb ∙ f.machine) took.settled (f.code ++ h.more) (text ++ took.went.more) done w (h.tells tell g w f.code f.hears v);
 }
 finishes false o a b start code symbols before after none same mb h took = record {
   more = took.went.more;
   written = took.went.written;
-  finishes = λ g w text f v.
-      let x = h.tells g w f.code f.hears v in
+  finishes = λ tell g w text f v.
+      let x = h.tells tell g w f.code f.hears v in
       let done = performed a b start code symbols h.more before after none same h.code took f.code text f.performed in
       (x.0, says g b (mb ∙ f.machine) took.settled (f.code ++ h.more) (text ++ took.went.more) done w x.1);
 }
 
 -- what was told is performed by pieces
 module _ (o new : Oracle) (a b : Position) (piece : List ℕ) (count : ℕ) (said : List Symbol) (before after : List ℕ) (mb : b.machine ≡ a.machine) (h : Tells o new piece count [] said) (p : PerformsSaid a b said before after) where
-  module _ (g : Graph) (w text : List ℕ) (f : Followed g o a w text) (v : IsViableFor g w) where
-    heard : HearsOn g new w piece count (f.code ++ said)
-    heard = subst (λ z. HearsOn g new w piece count (f.code ++ z)) (sym h.code) (h.tells g w f.code f.hears v)
+  module _ (tell : Telling) (g : Graph) (w text : List ℕ) (f : Followed tell g o a w text) (v : IsViableFor g w) where
+    heard : HearsOn tell g new w piece count (f.code ++ said)
+    heard = subst (λ z. HearsOn tell g new w piece count (f.code ++ z)) (sym h.code) (h.tells tell g w f.code f.hears v)
 
     begins : BeginsRun a.machine (f.code ++ said)
     begins = subst (λ m. BeginsRun m (f.code ++ said)) (sym f.machine) (heard.agrees.run, heard.agrees.runs, heard.agrees.begins)
@@ -63,9 +64,9 @@ module _ (o new : Oracle) (a b : Position) (piece : List ℕ) (count : ℕ) (sai
 
   pub speaks : count ≡ length piece → StageGoes o new a b piece before after
   speaks all = record {
-    goes = λ g w text f v.
-        let x = heard g w text f v in
-        let k = went g w text f v in
+    goes = λ tell g w text f v.
+        let x = heard tell g w text f v in
+        let k = went tell g w text f v in
         record {
           more = k.more;
           written = k.written;
@@ -78,9 +79,9 @@ module _ (o new : Oracle) (a b : Position) (piece : List ℕ) (count : ℕ) (sai
   pub stops : (c : Position) (last : List ℕ) → count < length piece → c.machine ≡ b.machine → TookAll b c [] after last → StageWorks o new a c piece count before last
   stops c last lt mc took = record {
     within = omega (arith, lt);
-    works = λ g w text f v.
-        let x = heard g w text f v in
-        let k = went g w text f v in
+    works = λ tell g w text f v.
+        let x = heard tell g w text f v in
+        let k = went tell g w text f v in
         let code : List Symbol = f.code ++ said in
         let done : HasPerformed c code code ((text ++ k.more) ++ took.went.more) = subst (λ u. HasPerformed c u u ((text ++ k.more) ++ took.went.more)) (append-nil code) (took.went.performed code code (text ++ k.more) (k.performed f.code f.code text f.performed)) in
         record {

@@ -10,8 +10,9 @@ use Rattle.kex_machine.specs.Answers.{IsViableFor, HasRun, IsSaid, IsGreedy}
 use Rattle.kex_frontier.specs.Frontiers.{Front, IsFed, IsOver}
 use Rattle.kex_frontier.specs.declared.frontier.Ended.{Ended}
 use Rattle.kex_frontier.specs.declared.frontier.Ended.TheVariants.{Parsed, Cut}
+use Rattle.kex_stage.specs.declared.plan.Telling.TheVariants as telling
 use Rattle.kex_stage.specs.declared.oracle.Oracle.TheVariants.{Paths}
-use Rattle.kex_stage.specs.Oracles.{HasSurvivor, Tells, TellsEnd, ReadsOn, OracleReads, is_parsed}
+use Rattle.kex_stage.specs.Oracles.{Agrees, HasSurvivor, HearsOn, Tells, TellsEnd, ReadsOn, OracleReads, is_parsed}
 use Rattle.kex_stage.proofs.OracleAnswers.{whole_front, said_before, agrees, take_all, more_taken}
 
 -- a tree has a leaf
@@ -89,15 +90,7 @@ paths_tell f mid new n m piece count told before after m1 m2 e within reads take
   more = told;
   code = e;
   within = within;
-  tells = λ g w c h v.
-      let r : ReadsOn mid g w piece count c = subst (λ z. ReadsOn mid z w piece count c) h.0 (reads w c h.1 (subst (λ z. IsViableFor z w) (sym h.0) v)) in
-      let said : (x : List ℕ) → IsFed mid x c → IsFed new x (c ++ told) × IsSaid g x (c ++ told) = λ x k. let t = takes x c k in (t.0, subst (λ z. IsSaid z x (c ++ told)) (m1 ∙ h.0) t.1) in
-      record {
-        hears = λ all. (m2 ∙ m1 ∙ h.0, (said (w ++ piece) (r.all all)).0);
-        good = r.good;
-        bad = λ lt. (r.bad lt).0;
-        agrees = agrees g (w ++ take count piece) (c ++ told) r.survivor (agreed_at g w c r said);
-      };
+  tells = λ k g w c h v. subst (λ z. HearsOn z g (Paths (record { frontier = new; read = m })) w piece count (c ++ told)) (sym h.0) (heard g w c h.1 h.2 v);
 }
   where
     agreed_at : (g : Graph) (w : List ℕ) (c : List Symbol) → ReadsOn mid g w piece count c → ((x : List ℕ) → IsFed mid x c → IsFed new x (c ++ told) × IsSaid g x (c ++ told)) → Agreed (node_moves g.nodes) g.start (w ++ take count piece) (c ++ told)
@@ -122,20 +115,31 @@ paths_tell f mid new n m piece count told before after m1 m2 e within reads take
             let s = (said (w ++ take (count + 1) piece) b.1).1 in
             said_before g (w ++ take count piece) (w ++ take (count + 1) piece) (c ++ told) (more_taken w count piece) (omega (arith, length-append w (take count piece), length-append w (take (count + 1) piece), length-take count piece, length-take (count + 1) piece, lt)) r.good b.0 s
 
+    heard : (g : Graph) (w : List ℕ) (c : List Symbol) → f.machine ≡ g → IsFed f w c → IsViableFor g w → HearsOn telling.Agreed g (Paths (record { frontier = new; read = m })) w piece count (c ++ told)
+    heard g w c same fed v =
+        let r : ReadsOn mid g w piece count c = subst (λ z. ReadsOn mid z w piece count c) same (reads w c fed (subst (λ z. IsViableFor z w) (sym same) v)) in
+        let said : (x : List ℕ) → IsFed mid x c → IsFed new x (c ++ told) × IsSaid g x (c ++ told) = λ x k. let t = takes x c k in (t.0, subst (λ z. IsSaid z x (c ++ told)) (m1 ∙ same) t.1) in
+        record {
+          hears = λ all. (refl, m2 ∙ m1 ∙ same, (said (w ++ piece) (r.all all)).0);
+          good = r.good;
+          bad = λ lt. (r.bad lt).0;
+          agrees = agrees g (w ++ take count piece) (c ++ told) r.survivor (agreed_at g w c r said);
+        }
+
 -- what is told at the end
 pub paths_end : (answer : Ended) (f mid : Front) (n : ℕ) (told before after : List Symbol) → mid.machine ≡ f.machine → told ≡ mid.untaken → after ≡ before ++ told → ((w : List ℕ) (c : List Symbol) → IsFed f w c → IsOver answer mid w c) → TellsEnd (is_parsed answer) (Paths (record { frontier = f; read = n })) before after
 paths_end Parsed f mid n told before after m is e over = record {
   more = told;
   code = e;
-  tells = λ g w c h v. subst (λ z. IsGreedy z w (c ++ told)) (m ∙ h.0) (subst (λ z. IsGreedy mid.machine w (c ++ z)) (sym is) (over w c h.1));
+  tells = λ k g w c h v. subst (λ z. IsGreedy z w (c ++ told)) (m ∙ h.1) (subst (λ z. IsGreedy mid.machine w (c ++ z)) (sym is) (over w c h.2));
 }
 paths_end Cut f mid n told before after m is e over = record {
   more = told;
   code = e;
-  tells = λ g w c h v.
-      let o = over w c h.1 in
-      let s = subst (λ z. IsSaid z w (c ++ told)) (m ∙ h.0) (subst (λ z. IsSaid mid.machine w (c ++ z)) (sym is) o.1) in (
-        subst (λ z. ¬ HasRun z w) (m ∙ h.0) o.0,
-        agrees g w (c ++ told) (survivor_of f g w c h.0 h.1 v) (subst (λ z. Agreed (node_moves g.nodes) g.start z (c ++ told)) (whole_front g w s.of s.longest v) s.agreed),
+  tells = λ k g w c h v.
+      let o = over w c h.2 in
+      let s = subst (λ z. IsSaid z w (c ++ told)) (m ∙ h.1) (subst (λ z. IsSaid mid.machine w (c ++ z)) (sym is) o.1) in (
+        subst (λ z. ¬ HasRun z w) (m ∙ h.1) o.0,
+        subst (λ z. Agrees z g w (c ++ told)) (sym h.0) (agrees g w (c ++ told) (survivor_of f g w c h.1 h.2 v) (subst (λ z. Agreed (node_moves g.nodes) g.start z (c ++ told)) (whole_front g w s.of s.longest v) s.agreed)),
       );
 }

@@ -2,9 +2,8 @@
 use Rattle.std.proofs.Common.{◌≡◌, ℕ, zero, suc, ◌<◌, ◌≤◌, ◌+◌, ◌-◌, Bool, true, false, List, [], ◌∷◌, ◌++◌, Some, length, take, drop, refl, sym, ap, ap₂, subst, ◌∙◌, append_assoc, append-nil, arith, length-append, take-append-drop}
 use Rattle.std.proofs.lemmas.List.{length-take-le, take_rest}
 use Rattle.kex_code.specs.declared.symbol.Symbol.{Symbol}
-use Rattle.kex_machine.specs.Answers.{IsViableFor, SaysByRun}
+use Rattle.kex_machine.specs.Answers.{IsViableFor}
 use Rattle.kex_action.specs.Actors.{Position, HasPerformed, BeginsRun, TookAll}
-use Rattle.kex_sst.specs.Machines.{IsTableOf}
 use Rattle.kex_sst.specs.Passes.{passes}
 use Rattle.kex_moves.specs.Along.{RunsOn, bare}
 use Rattle.kex_runner.specs.Running.{IsRunOf}
@@ -12,32 +11,34 @@ use Rattle.kex_runner.specs.Following.{pass_at}
 use Rattle.kex_stage.specs.declared.follower.Follower.{Follower}
 use Rattle.kex_stage.specs.declared.oracle.Oracle.{Oracle}
 use Rattle.kex_stage.specs.declared.oracle.Oracle.TheVariants.{Table}
+use Rattle.kex_stage.specs.Plans.{IsTableAs, SaysAs}
 use Rattle.kex_stage.specs.Oracles.{Agrees}
 use Rattle.kex_stage.specs.Works.{Followed, StageWorks, StageGoes}
 use Rattle.kex_stage.specs.Strides.{HasGone}
 use Rattle.kex_stage.proofs.OracleAnswers.{says, take_all}
 use Rattle.kex_stage.proofs.ByTable.{still_live, table_agrees, table_told}
+use Rattle.kex_stage.proofs.ToldCodes.{viable_told}
 
 -- nothing is done
 pub goes_nowhere : (o : Oracle) (a : Position) (out : List ℕ) → StageGoes o o a a [] out out
 goes_nowhere o a out = record {
-  goes = λ g w text f v. record {
+  goes = λ tell g w text f v. record {
     more = [];
     written = sym (append-nil out);
-    followed = subst (λ z. Followed g o a z (text ++ [])) (sym (append-nil w)) (subst (λ z. Followed g o a w z) (sym (append-nil text)) f);
+    followed = subst (λ z. Followed tell g o a z (text ++ [])) (sym (append-nil w)) (subst (λ z. Followed tell g o a w z) (sym (append-nil text)) f);
     good = subst (λ z. IsViableFor g z) (sym (append-nil w)) v;
   };
 }
 
 pub goes_more : (o m n : Oracle) (a b c : Position) (p q x y z : List ℕ) → StageGoes o m a b p x y → StageGoes m n b c q y z → StageGoes o n a c (p ++ q) x z
 goes_more o m n a b c p q x y z first then = record {
-  goes = λ g w text f v.
-      let h = first.goes g w text f v in
-      let k = then.goes g (w ++ p) (text ++ h.more) h.followed h.good in
+  goes = λ tell g w text f v.
+      let h = first.goes tell g w text f v in
+      let k = then.goes tell g (w ++ p) (text ++ h.more) h.followed h.good in
       record {
         more = h.more ++ k.more;
         written = k.written ∙ ap (λ u. u ++ k.more) h.written ∙ append_assoc x h.more k.more;
-        followed = subst (λ u. Followed g n c u (text ++ (h.more ++ k.more))) (append_assoc w p q) (subst (λ u. Followed g n c ((w ++ p) ++ q) u) (append_assoc text h.more k.more) k.followed);
+        followed = subst (λ u. Followed tell g n c u (text ++ (h.more ++ k.more))) (append_assoc w p q) (subst (λ u. Followed tell g n c ((w ++ p) ++ q) u) (append_assoc text h.more k.more) k.followed);
         good = subst (λ u. IsViableFor g u) (append_assoc w p q) k.good;
       };
 }
@@ -56,9 +57,9 @@ take_front (b ∷ p) q (suc k) le = ap (λ z. b ∷ z) (take_front p q k (omega 
 pub works_more : (o m n : Oracle) (a b c : Position) (p q : List ℕ) (count : ℕ) (x y z : List ℕ) → StageGoes o m a b p x y → StageWorks m n b c q count y z → count < length q → StageWorks o n a c (p ++ q) (length p + count) x z
 works_more o m n a b c p q count x y z first then lt = record {
   within = omega (arith, length-append p q, then.within);
-  works = λ g w text f v.
-      let h = first.goes g w text f v in
-      let k = then.works g (w ++ p) (text ++ h.more) h.followed h.good in
+  works = λ tell g w text f v.
+      let h = first.goes tell g w text f v in
+      let k = then.works tell g (w ++ p) (text ++ h.more) h.followed h.good in
       let at : (i : ℕ) → (w ++ p) ++ take i q ≡ w ++ take (length p + i) (p ++ q) = λ i. append_assoc w p (take i q) ∙ ap (λ u. w ++ u) (sym (take_past p q i)) in
       let next : length p + (count + 1) ≡ (length p + count) + 1 = omega arith in
       record {
@@ -67,7 +68,7 @@ works_more o m n a b c p q count x y z first then lt = record {
         followed = λ e. absurd (omega (arith, e, length-append p q, lt));
         good = subst (λ u. IsViableFor g u) (at count) k.good;
         bad = λ _. subst (λ u. ¬ IsViableFor g u) (at (count + 1) ∙ ap (λ i. w ++ take i (p ++ q)) next) (k.bad lt);
-        says = subst (λ u. SaysByRun g u (text ++ (h.more ++ k.more))) (at count) (subst (λ u. SaysByRun g ((w ++ p) ++ take count q) u) (append_assoc text h.more k.more) k.says);
+        says = subst (λ u. SaysAs tell g u (text ++ (h.more ++ k.more))) (at count) (subst (λ u. SaysAs tell g ((w ++ p) ++ take count q) u) (append_assoc text h.more k.more) k.says);
       };
 }
 
@@ -75,15 +76,15 @@ works_more o m n a b c p q count x y z first then lt = record {
 pub works_longer : (o n : Oracle) (a b : Position) (p rest : List ℕ) (count : ℕ) (x y : List ℕ) → count < length p → StageWorks o n a b p count x y → StageWorks o n a b (p ++ rest) count x y
 works_longer o n a b p rest count x y lt h = record {
   within = omega (arith, length-append p rest, lt);
-  works = λ g w text f v.
-      let k = h.works g w text f v in
+  works = λ tell g w text f v.
+      let k = h.works tell g w text f v in
       record {
         more = k.more;
         written = k.written;
         followed = λ e. absurd (omega (arith, e, length-append p rest, lt));
         good = subst (λ u. IsViableFor g (w ++ u)) (sym (take_front p rest count (omega (arith, lt)))) k.good;
         bad = λ _. subst (λ u. ¬ IsViableFor g (w ++ u)) (sym (take_front p rest (count + 1) (omega (arith, lt)))) (k.bad lt);
-        says = subst (λ u. SaysByRun g (w ++ u) (text ++ k.more)) (sym (take_front p rest count (omega (arith, lt)))) k.says;
+        says = subst (λ u. SaysAs tell g (w ++ u) (text ++ k.more)) (sym (take_front p rest count (omega (arith, lt)))) k.says;
       };
 }
 
@@ -91,11 +92,11 @@ works_longer o n a b p rest count x y lt h = record {
 pub settles : (o : Oracle) (f : Follower) (a b c : Position) (p x y z : List ℕ) → f.runner.pending ≡ [] → StageGoes o (Table f) a b p x y → TookAll b c [] y z → c.machine ≡ b.machine → StageWorks o (Table f) a c p (length p) x z
 settles o f a b c p x y z none first took mc = record {
   within = omega arith;
-  works = λ g w text fol v.
-      let h = first.goes g w text fol v in
+  works = λ tell g w text fol v.
+      let h = first.goes tell g w text fol v in
       let d = h.followed in
       let done : HasPerformed c d.code d.code ((text ++ h.more) ++ took.went.more) = subst (λ u. HasPerformed c u u ((text ++ h.more) ++ took.went.more)) (append-nil d.code) (took.went.performed d.code d.code (text ++ h.more) d.performed) in
-      let told = table_told f g (w ++ p) d.code none d.hears h.good in
+      let told = table_told f tell g (w ++ p) d.code none d.hears h.good in
       let said = says g c (mc ∙ d.machine) took.settled d.code ((text ++ h.more) ++ took.went.more) done (w ++ p) told in
       record {
         more = h.more ++ took.went.more;
@@ -103,19 +104,19 @@ settles o f a b c p x y z none first took mc = record {
         followed = λ e. record { code = d.code; hears = d.hears; performed = subst (λ u. HasPerformed c d.code d.code u) (append_assoc text h.more took.went.more) done; machine = mc ∙ d.machine };
         good = subst (λ u. IsViableFor g (w ++ u)) (sym (take_all p)) h.good;
         bad = λ lt. absurd (omega (arith, lt));
-        says = subst (λ u. SaysByRun g (w ++ u) (text ++ (h.more ++ took.went.more))) (sym (take_all p)) (subst (λ u. SaysByRun g (w ++ p) u) (append_assoc text h.more took.went.more) said);
+        says = subst (λ u. SaysAs tell g (w ++ u) (text ++ (h.more ++ took.went.more))) (sym (take_all p)) (subst (λ u. SaysAs tell g (w ++ p) u) (append_assoc text h.more took.went.more) said);
       };
 }
 
 -- table and actor run on at once
 pub runs_go : (f new : Follower) (a b : Position) (q count : ℕ) (bs before after : List ℕ) → f.runner.pending ≡ [] → f.runner.registers ≡ [] → new.moves ≡ f.moves → new.runner.table ≡ f.runner.table → b.machine ≡ a.machine → length bs ≡ count → RunsOn f.moves.table a b f.runner.state q bs before after → ((w v : List ℕ) (c d : List Symbol) → IsRunOf f.runner w c → length v ≡ count → passes f.runner.table (w ++ v) ≡ Some (pass_at q (c ++ d) []) → IsRunOf new.runner (w ++ v) (c ++ d)) → StageGoes (Table f) (Table new) a b bs before after
 runs_go f new a b q count bs before after none no_registers moves table mb long r stands = record {
-  goes = λ g w text fol v.
+  goes = λ tell g w text fol v.
       let h = fol.hears in
-      let live = still_live g f.runner.table h.0 h.1 f.runner w fol.code refl h.3 v in
+      let live = still_live tell g f.runner.table h.0 h.1 f.runner w fol.code refl h.3 v in
       let here : passes f.runner.table w ≡ Some (bare f.runner.state fol.code) = live.passes ∙ ap₂ (λ c rs. Some (pass_at f.runner.state c rs)) (ap (λ z. fol.code ++ z) none ∙ append-nil fol.code) no_registers in
       let there : passes f.runner.table (w ++ bs) ≡ Some (bare q (fol.code ++ r.said)) = subst (λ t. passes t (w ++ bs) ≡ Some (bare q (fol.code ++ r.said))) h.2 (r.passed w fol.code (subst (λ t. passes t w ≡ Some (bare f.runner.state fol.code)) (sym h.2) here)) in
-      let ag : Agrees g (w ++ bs) (fol.code ++ r.said) = table_agrees g f.runner.table h.0 h.1 (w ++ bs) (bare q (fol.code ++ r.said)) there in
+      let ag : Agrees tell g (w ++ bs) (fol.code ++ r.said) = table_agrees tell g f.runner.table h.0 h.1 (w ++ bs) (bare q (fol.code ++ r.said)) there in
       let begins : BeginsRun a.machine (fol.code ++ r.said) = subst (λ m. BeginsRun m (fol.code ++ r.said)) (sym fol.machine) (ag.run, ag.runs, ag.begins) in
       let went = r.went fol.code fol.code text fol.performed begins in
       record {
@@ -123,11 +124,11 @@ runs_go f new a b q count bs before after none no_registers moves table mb long 
         written = went.written;
         followed = record {
           code = fol.code ++ r.said;
-          hears = (h.0, subst (λ t. IsTableOf g t) (sym table) h.1, ap (λ z. z.table) moves ∙ h.2 ∙ sym table, stands w bs fol.code r.said h.3 long there);
+          hears = (h.0, subst (λ t. IsTableAs tell g t) (sym table) h.1, ap (λ z. z.table) moves ∙ h.2 ∙ sym table, stands w bs fol.code r.said h.3 long there);
           performed = went.performed fol.code fol.code text fol.performed;
           machine = mb ∙ fol.machine;
         };
-        good = ag.agreed.viable;
+        good = viable_told tell g (w ++ bs) (fol.code ++ r.said) ag.told;
       };
 }
 
@@ -162,12 +163,12 @@ fronts false o n a b piece taken count x y le h within =
 -- the actor does what needs no symbol
 pub rests : (o : Oracle) (a b : Position) (x y : List ℕ) → TookAll a b [] x y → b.machine ≡ a.machine → StageGoes o o a b [] x y
 rests o a b x y took mb = record {
-  goes = λ g w text f v.
+  goes = λ tell g w text f v.
       let done : HasPerformed b f.code f.code (text ++ took.went.more) = subst (λ u. HasPerformed b u u (text ++ took.went.more)) (append-nil f.code) (took.went.performed f.code f.code text f.performed) in
       record {
         more = took.went.more;
         written = took.went.written;
-        followed = subst (λ z. Followed g o b z (text ++ took.went.more)) (sym (append-nil w)) (record { code = f.code; hears = f.hears; performed = done; machine = mb ∙ f.machine });
+        followed = subst (λ z. Followed tell g o b z (text ++ took.went.more)) (sym (append-nil w)) (record { code = f.code; hears = f.hears; performed = done; machine = mb ∙ f.machine });
         good = subst (λ z. IsViableFor g z) (sym (append-nil w)) v;
       };
 }

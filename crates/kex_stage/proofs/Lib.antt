@@ -1,3 +1,5 @@
+pub mod ToldCodes
+pub mod ToldPlans
 pub mod OracleAnswers
 pub mod ByPaths
 pub mod ByTable
@@ -5,3 +7,4 @@ pub mod ActorOutputs
 pub mod Followers
 pub mod PerformedSteps
 pub mod FedStages
+pub mod TableAnswers

@@ -8,9 +8,12 @@ use Rattle.kex_model.proofs.OpenAnswers.{shorter_front, same_front}
 use Rattle.kex_model.proofs.Walks.{bytes_of-append}
 use Rattle.kex_model.proofs.Derivations.{walk-append, code_of-append}
 use Rattle.kex_machine.specs.Nodes.{Graph, node_moves}
-use Rattle.kex_machine.specs.Answers.{IsViableFor, IsRun, left_by, SaysByRun, MeansByRun, IsSaid, IsGreedy}
+use Rattle.kex_machine.specs.Answers.{IsViableFor, IsRun, left_by, MeansByRun, IsSaid, IsGreedy}
 use Rattle.kex_action.specs.Actors.{Position, HasPerformed, IsSettled}
+use Rattle.kex_stage.specs.declared.plan.Telling.{Telling}
+use Rattle.kex_stage.specs.declared.plan.Telling.TheVariants as telling
 use Rattle.kex_stage.specs.Oracles.{Agrees, HasSurvivor}
+use Rattle.kex_stage.specs.Plans.{SaysAs}
 
 -- the longest front that can go on of a text that can is the text
 pub whole_front : (g : Graph) (w of : List ℕ) → LongestViable (node_moves g.nodes) g.start w of → IsViableFor g w → of ≡ w
@@ -19,13 +22,13 @@ whole_front g w of l v =
     same_front w of w l.front ([], sym (append-nil w)) (omega (arith, more, ap length l.front.1, length-append of l.front.0))
 
 -- a survivor's path goes on to a run
-pub agrees : (g : Graph) (w : List ℕ) (c : List Symbol) → HasSurvivor g w → Agreed (node_moves g.nodes) g.start w c → Agrees g w c
+pub agrees : (g : Graph) (w : List ℕ) (c : List Symbol) → HasSurvivor g w → Agreed (node_moves g.nodes) g.start w c → Agrees telling.Agreed g w c
 agrees g w c (p, d, s) agreed =
     let path = s.reached in
     let on = s.alive in
     let front : Begins d c = agreed.common p d s in
     record {
-      agreed = agreed;
+      told = agreed;
       run = path.0 ++ on.0;
       runs = (on.1, walk-append (node_moves g.nodes) path.0 on.0 g.start p on.1 path.1.walk on.2, on.3);
       begins = (front.0 ++ code_of on.0, code_of-append path.0 on.0 ∙ ap (λ z. z ++ code_of on.0) (path.2 ∙ front.1) ∙ append_assoc c front.0 (code_of on.0));
@@ -36,8 +39,8 @@ module _ (g : Graph) (a : Position) (same : a.machine ≡ g) (settled : IsSettle
   left_out : (ks : List (Step ℕ)) → IsRun g ks → Begins (code_of ks) c → out ≡ (left_by g ks c).out
   left_out ks r b = subst (λ m. out ≡ (left_by m ks c).out) same (sym (ap (λ z. z.out) (p.left settled ks (subst (λ m. IsRun m ks) (sym same) r) b)))
 
-  pub says : (w : List ℕ) → Agrees g w c → SaysByRun g w out
-  says w h = record { agreed = c; is_agreed = h.agreed; run = h.run; runs = h.runs; reads = h.reads; begins = h.begins; said = left_out h.run h.runs h.begins }
+  pub says : {k : Telling} (w : List ℕ) → Agrees k g w c → SaysAs k g w out
+  says w h = record { agreed = c; is_agreed = h.told; run = h.run; runs = h.runs; reads = h.reads; begins = h.begins; said = left_out h.run h.runs h.begins }
 
   pub means : (w : List ℕ) → IsGreedy g w c → MeansByRun g w out
   means w h =

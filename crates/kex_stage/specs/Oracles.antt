@@ -5,27 +5,29 @@ use Rattle.std.specs.Prelude.{take}
 use Rattle.kex_code.specs.declared.symbol.Symbol.{Symbol}
 use Rattle.kex_code.specs.Codes.{Begins, bytes_of}
 use Rattle.kex_model.specs.Moves.{Step, code_of}
-use Rattle.kex_model.specs.Survivors.{Agreed, Survives}
+use Rattle.kex_model.specs.Survivors.{Survives}
 use Rattle.kex_machine.specs.Nodes.{Graph, node_moves, IsTrimmed}
 use Rattle.kex_machine.specs.Answers.{IsViableFor, IsRun, HasRun, IsGreedy}
 use Rattle.kex_frontier.specs.Frontiers.{Front, IsFed}
 use Rattle.kex_frontier.specs.declared.frontier.Ended.{Ended}
 use Rattle.kex_frontier.specs.declared.frontier.Ended.TheVariants.{Parsed, Cut}
-use Rattle.kex_sst.specs.Machines.{IsTableOf}
 use Rattle.kex_runner.specs.Running as runs
+use Rattle.kex_stage.specs.Plans.{IsTableAs, ToldBy}
+use Rattle.kex_stage.specs.declared.plan.Telling.{Telling}
+use Rattle.kex_stage.specs.declared.plan.Telling.TheVariants as telling
 use Rattle.kex_stage.specs.declared.oracle.Oracle.{Oracle}
 use Rattle.kex_stage.specs.declared.oracle.Oracle.TheVariants.{Paths, Table}
 
--- the oracle was fed w, and has told c
-abbrev pub Hears : Graph → Oracle → List ℕ → List Symbol → Type 0
-Hears g (Paths p) w c = (p.frontier.machine ≡ g) × IsFed p.frontier w c
-Hears g (Table f) w c = IsTrimmed g × IsTableOf g f.runner.table × (f.moves.table ≡ f.runner.table)
-    × runs.IsRunOf f.runner w c
+-- the oracle was fed w, and has told c: paths tell what is agreed
+abbrev pub Hears : Telling → Graph → Oracle → List ℕ → List Symbol → Type 0
+Hears k g (Paths p) w c = (k ≡ telling.Agreed) × (p.frontier.machine ≡ g) × IsFed p.frontier w c
+Hears k g (Table f) w c = IsTrimmed g × IsTableAs k g f.runner.table
+    × (f.moves.table ≡ f.runner.table) × runs.IsRunOf f.runner w c
 
--- the oracle is one of this machine
-abbrev pub IsOracleFor : Graph → Oracle → Type 0
-IsOracleFor g (Paths p) = p.frontier.machine ≡ g
-IsOracleFor g (Table f) = IsTrimmed g × IsTableOf g f.runner.table
+-- the oracle is one of this machine, and tells this
+abbrev pub IsOracleFor : Telling → Graph → Oracle → Type 0
+IsOracleFor k g (Paths p) = (k ≡ telling.Agreed) × (p.frontier.machine ≡ g)
+IsOracleFor k g (Table f) = IsTrimmed g × IsTableAs k g f.runner.table
 
 -- how many good bytes it has read
 abbrev pub read_of : Oracle → ℕ
@@ -54,42 +56,42 @@ learnt_of (Table f) g = f.moves.machine
 abbrev pub HasSurvivor : Graph → List ℕ → Type 0
 HasSurvivor g w = (q : ℕ) × (c : List Symbol) × Survives (node_moves g.nodes) g.start w q c
 
--- the survivors of w agree on c, with which the code of some run begins whose text begins with w
-pub record Agrees (g : Graph) (w : List ℕ) (c : List Symbol) : Type 0 where
-  pub agreed : Agreed (node_moves g.nodes) g.start w c
+-- c is told of w, and the code of some run begins with it whose text begins with w
+pub record Agrees (k : Telling) (g : Graph) (w : List ℕ) (c : List Symbol) : Type 0 where
+  pub told : ToldBy k g w c
   pub run : List (Step ℕ)
   pub runs : IsRun g run
   pub begins : Begins (code_of run) c
   pub reads : Begins (bytes_of (code_of run)) w
 
 -- of a piece behind w so many bytes are good; where that is all of it, c is told
-pub record HearsOn (g : Graph) (o : Oracle) (w piece : List ℕ) (count : ℕ)
+pub record HearsOn (k : Telling) (g : Graph) (o : Oracle) (w piece : List ℕ) (count : ℕ)
     (c : List Symbol) : Type 0 where
-  pub hears : count ≡ length piece → Hears g o (w ++ piece) c
+  pub hears : count ≡ length piece → Hears k g o (w ++ piece) c
   pub good : IsViableFor g (w ++ take count piece)
   pub bad : count < length piece → ¬ IsViableFor g (w ++ take (count + 1) piece)
-  pub agrees : Agrees g (w ++ take count piece) c
+  pub agrees : Agrees k g (w ++ take count piece) c
 
--- the oracle was fed a piece, and has told what is agreed
+-- the oracle was fed a piece, and has told what is to be told
 pub record Tells (old new : Oracle) (piece : List ℕ) (count : ℕ)
     (before after : List Symbol) : Type 0 where
   pub more : List Symbol
   pub code : after ≡ before ++ more
   pub within : count ≤ length piece
-  pub tells : (g : Graph) (w : List ℕ) (c : List Symbol) → Hears g old w c → IsViableFor g w
-      → HearsOn g new w piece count (c ++ more)
+  pub tells : (k : Telling) (g : Graph) (w : List ℕ) (c : List Symbol) → Hears k g old w c
+      → IsViableFor g w → HearsOn k g new w piece count (c ++ more)
 
 -- what the end shows behind w: a parse, of which c is the greedy code, or none
-abbrev pub ShowsEnd : Bool → Graph → List ℕ → List Symbol → Type 0
-ShowsEnd true g w c = IsGreedy g w c
-ShowsEnd false g w c = (¬ HasRun g w) × Agrees g w c
+abbrev pub ShowsEnd : Bool → Telling → Graph → List ℕ → List Symbol → Type 0
+ShowsEnd true k g w c = IsGreedy g w c
+ShowsEnd false k g w c = (¬ HasRun g w) × Agrees k g w c
 
 -- the oracle was given the end
 pub record TellsEnd (parsed : Bool) (old : Oracle) (before after : List Symbol) : Type 0 where
   pub more : List Symbol
   pub code : after ≡ before ++ more
-  pub tells : (g : Graph) (w : List ℕ) (c : List Symbol) → Hears g old w c → IsViableFor g w
-      → ShowsEnd parsed g w (c ++ more)
+  pub tells : (k : Telling) (g : Graph) (w : List ℕ) (c : List Symbol) → Hears k g old w c
+      → IsViableFor g w → ShowsEnd parsed k g w (c ++ more)
 
 -- going by paths, so many bytes of a piece behind w are good: the frontier was fed them, and the
 -- byte behind them, if there is one

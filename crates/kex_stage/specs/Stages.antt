@@ -1,33 +1,52 @@
 -- What a stage stands for, and what it answers.
 use Rattle.std.specs.Prelude.{◌≡◌, ℕ, Bool, true, false, List, Option, Some, None, length}
-use Rattle.kex_model.specs.Answers.{Answer}
-use Rattle.kex_machine.specs.Nodes.{Graph}
-use Rattle.kex_machine.specs.Answers.{IsViableFor, MachineAnswers}
+use Rattle.kex_model.specs.Answers.{Answer, Answers}
+use Rattle.kex_machine.specs.Nodes.{Graph, IsTrimmed}
+use Rattle.kex_machine.specs.Answers.{HasRun, IsViableFor, MeansByRun}
+use Rattle.kex_sst.specs.Tables.{Transducer}
 use Rattle.kex_action.specs.Actors.{Position}
 use Rattle.kex_pipe.specs.Working.{BoundedPlan}
 use Rattle.kex_stage.specs.declared.oracle.Oracle.{Oracle}
+use Rattle.kex_stage.specs.declared.plan.Telling.{Telling}
+use Rattle.kex_stage.specs.Plans.{IsTableAs, SaysAs, Teller, teller}
 use Rattle.kex_stage.specs.Oracles.{read_of}
 use Rattle.kex_stage.specs.Works.{Followed}
 
--- a machine, and the most bytes that it takes
+-- a machine with what is told, and the most bytes that it takes
 abbrev pub StagePlan : Type 0
-StagePlan = BoundedPlan Graph
+StagePlan = BoundedPlan Teller
+
+-- the answer of a stage by what it works by, within a limit
+abbrev pub TellerAnswers : Teller → ℕ → List ℕ → Bool → Answer → Type 0
+TellerAnswers t limit w e a = Answers (IsViableFor t.machine) (SaysAs t.telling t.machine)
+    (HasRun t.machine) (MeansByRun t.machine) limit w e a
 
 -- the answer of a stage
 abbrev pub Gives : StagePlan → List ℕ → Bool → Answer → Type 0
-Gives p w e a = MachineAnswers p.machine p.limit w e a
+Gives p w e a = TellerAnswers p.machine p.limit w e a
+
+-- where a stage has a table there is an answer on each text, open or ended
+abbrev pub TablesAnswer : Type 0
+TablesAnswer = (k : Telling) (g : Graph) (t : Transducer) → IsTrimmed g → IsTableAs k g t
+    → (limit : ℕ) (w : List ℕ) (e : Bool) → (a : Answer) × TellerAnswers (teller k g) limit w e a
 
 -- the oracle was fed w, with which a parse begins, and the actor has performed what it told, which
 -- has written this
-pub record StageFollows (o : Oracle) (a : Position) (w out : List ℕ) : Type 0 where
-  pub followed : Followed a.machine o a w out
+pub record StageFollows (k : Telling) (o : Oracle) (a : Position)
+    (w out : List ℕ) : Type 0 where
+  pub followed : Followed k a.machine o a w out
   pub count : read_of o ≡ length w
   pub good : IsViableFor a.machine w
 
--- the oracle and the actor of a stage
+-- the oracle and the actor of a stage, and what it tells
 pub record WorkerState : Type 0 where
   pub oracle : Oracle
   pub actor : Position
+  pub telling : Telling
+
+-- by what the stage works
+abbrev pub teller_in : WorkerState → Teller
+teller_in s = teller s.telling s.actor.machine
 
 -- the number of the byte behind so many good ones, where it was refused
 abbrev pub refused_at : Bool → ℕ → Option ℕ

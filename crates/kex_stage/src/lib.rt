@@ -6,6 +6,7 @@
 #![tactic(auto)]
 
 mod follower;
+pub mod laws;
 mod oracle;
 mod paths;
 pub mod plan;

@@ -3,6 +3,7 @@
 ghost use Rattle.std.specs.Prelude.{◌≡◌, ◌+◌, ◌^◌, ◌<◌, ◌≤◌, [], IfOk, OnOk, IsTrue, length};
 ghost use Rattle.kex_machine.specs.Answers.{IsViableFor};
 ghost use Rattle.kex_machine.specs.Nodes.{Graph};
+ghost use Rattle.kex_stage.specs.declared.plan.Telling.{Telling};
 ghost use Rattle.kex_stage.specs.Oracles.{Hears, IsOracleFor, IsReady, TellsEnd, learnt_of};
 ghost use Rattle.kex_stage.specs.Oracles.{read_of, usable_of};
 ghost use Rattle.kex_stage.specs.Works.{StageFinishes, StageWorks};
@@ -27,9 +28,9 @@ pub enum Oracle<'p> {
 impl<'p> Oracle<'p> {
     /// An oracle that was fed nothing: over the plan's table, or without one over its machine.
     pub fn new(alloc: Global, plan: &'p Plan) -> Result<Oracle<'p>, Memory>
-        ensures hears { IfOk result (λ o. Hears plan.now.machine o [] []) }
+        ensures hears { IfOk result (λ o. Hears plan.now.telling plan.now.machine o [] []) }
         ensures good { IfOk result (λ o. IsViableFor plan.now.machine []) }
-        ensures own { IfOk result (λ o. IsOracleFor plan.now.machine o) }
+        ensures own { IfOk result (λ o. IsOracleFor plan.now.telling plan.now.machine o) }
         ensures learnt { IfOk result (λ o. learnt_of o plan.now.machine ≡ plan.now.machine) }
         ensures ready { IfOk result (λ o. IsReady o × (read_of o ≡ 0)) }
     {
@@ -59,9 +60,10 @@ impl<'p> Oracle<'p> {
     /// Is as a new oracle: it was fed nothing. What was learnt stays.
     pub fn begin_anew(&mut self) -> Result<(), Memory>
         requires usable { IsTrue (usable_of self.old) }
-        ensures hears { OnOk result ((g : Graph) → IsOracleFor g self.old
-            → Hears g self.new [] [] × IsViableFor g []) }
-        ensures own { (g : Graph) → IsOracleFor g self.old → IsOracleFor g self.new }
+        ensures hears { OnOk result ((k : Telling) (g : Graph) → IsOracleFor k g self.old
+            → Hears k g self.new [] [] × IsViableFor g []) }
+        ensures own { (k : Telling) (g : Graph) → IsOracleFor k g self.old
+            → IsOracleFor k g self.new }
         ensures learnt { (g : Graph) → learnt_of self.new g ≡ learnt_of self.old g }
         ensures ready { OnOk result (IsReady self.new × (read_of self.new ≡ 0)) }
         ensures read { read_of self.new ≤ read_of self.old }
@@ -100,7 +102,8 @@ impl<'p> Oracle<'p> {
         ensures read { IfOk result (λ count. read_of self.new ≡ read_of self.old + count) }
         ensures within { read_of self.new ≤ read_of self.old + length piece.now }
         ensures machine { actor.new.machine ≡ actor.old.machine }
-        ensures own { (g : Graph) → IsOracleFor g self.old → IsOracleFor g self.new }
+        ensures own { (k : Telling) (g : Graph) → IsOracleFor k g self.old
+            → IsOracleFor k g self.new }
         ensures learnt { learnt_of self.new actor.new.machine ≡ actor.new.machine }
         ensures ready { OnOk result (IsReady self.new × IsTrue actor.new.usable) }
     {
@@ -116,7 +119,8 @@ impl<'p> Oracle<'p> {
         requires ready { IsReady self.old }
         ensures tells { IfOk result (λ parsed. TellsEnd parsed self.old code.old code.new) }
         ensures read { read_of self.new ≡ read_of self.old }
-        ensures own { (g : Graph) → IsOracleFor g self.old → IsOracleFor g self.new }
+        ensures own { (k : Telling) (g : Graph) → IsOracleFor k g self.old
+            → IsOracleFor k g self.new }
         ensures learnt { (m : Graph) → learnt_of self.new m ≡ learnt_of self.old m }
     {
         match self {
@@ -139,7 +143,8 @@ impl<'p> Oracle<'p> {
             StageFinishes parsed self.old actor.old out.old.items out.new.items) }
         ensures read { read_of self.new ≡ read_of self.old }
         ensures machine { actor.new.machine ≡ actor.old.machine }
-        ensures own { (g : Graph) → IsOracleFor g self.old → IsOracleFor g self.new }
+        ensures own { (k : Telling) (g : Graph) → IsOracleFor k g self.old
+            → IsOracleFor k g self.new }
         ensures learnt { (m : Graph) → learnt_of self.new m ≡ learnt_of self.old m }
     {
         code.clear();

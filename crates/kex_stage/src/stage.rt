@@ -1,14 +1,15 @@
 // A stage.
 
 ghost use Rattle.std.specs.Prelude.{◌≡◌, ◌&&◌, not, true, IfOk, OnOk, IsTrue, None};
-ghost use Rattle.kex_machine.specs.Answers.{HasRun, MeansByRun, SaysByRun, IsViableFor};
+ghost use Rattle.kex_machine.specs.Answers.{HasRun, MeansByRun, IsViableFor};
 ghost use Rattle.kex_pipe.specs.Working.{ClosesParsed, SaysViable};
 ghost use Rattle.kex_stage.specs.Oracles.{oracle_ended, read_of, usable_of};
+ghost use Rattle.kex_stage.specs.Plans.{SaysAs, teller_of};
 ghost use Rattle.kex_stage.specs.StageLaws.{answering};
-ghost use Rattle.kex_stage.specs.Stages.{Gives, StageFollows, refused_at};
+ghost use Rattle.kex_stage.specs.Stages.{Gives, StageFollows, refused_at, teller_in};
 
 use crate::oracle::Oracle;
-use crate::plan::Plan;
+use crate::plan::{Plan, Telling};
 use kex_action::actor::Actor;
 use kex_code::code::Code;
 use kex_code::memory::Memory;
@@ -18,13 +19,14 @@ use kex_pipe::worker::{BeginsAnew, Worker};
 use std::alloc::Global;
 use std::marker::Model;
 
-/// Works over the plan that it borrows: bytes come in pieces, and what the surviving paths agree on
-/// goes out as soon as it is agreed.
+/// Works over the plan that it borrows: bytes come in pieces, and what is told of them by the plan
+/// goes out at once, as what the surviving paths agree on.
 #[derive(Drop)]
 pub struct StageWorker<'p> {
     oracle: Oracle<'p>,
     actor: Actor<'p>,
     code: Code,
+    telling: Telling,
 }
 
 impl<'p> Model for StageWorker<'p> {
@@ -34,32 +36,32 @@ impl<'p> Model for StageWorker<'p> {
 
     ghost Value = { WorkerState };
 
-    ghost view = { λ s. record { oracle = s.oracle; actor = s.actor } };
+    ghost view = { λ s. record { oracle = s.oracle; actor = s.actor; telling = s.telling } };
 
     ghost invariant = { λ s. (learnt_of s.oracle s.actor.machine ≡ s.actor.machine)
-        × IsOracleFor s.actor.machine s.oracle };
+        × IsOracleFor s.telling s.actor.machine s.oracle };
 }
 
 impl<'p> Worker for StageWorker<'p> {
-    ghost use Rattle.kex_machine.specs.Nodes.{Graph};
+    ghost use Rattle.kex_stage.specs.Plans.{Teller};
 
     type Basis = &'p Plan;
 
-    ghost Machine = { Graph };
+    ghost Machine = { Teller };
 
-    ghost machine_in = { λ plan. plan.now.machine };
+    ghost machine_in = { λ plan. teller_of plan.now };
 
-    ghost machine = { λ s. s.actor.machine };
+    ghost machine = { λ s. teller_in s };
 
-    ghost says = { λ g w at text.
-        SaysViable (IsViableFor g) (SaysByRun g) (HasRun g) (MeansByRun g) w at text };
+    ghost says = { λ t w at text. SaysViable (IsViableFor t.machine) (SaysAs t.telling t.machine)
+        (HasRun t.machine) (MeansByRun t.machine) w at text };
 
-    ghost closes = { λ g w parsed text.
-        ClosesParsed (IsViableFor g) (SaysByRun g) (HasRun g) (MeansByRun g) w parsed text };
+    ghost closes = { λ t w parsed text. ClosesParsed (IsViableFor t.machine)
+        (SaysAs t.telling t.machine) (HasRun t.machine) (MeansByRun t.machine) w parsed text };
 
-    ghost gives = { λ g n w e a. Gives (record { machine = g; limit = n }) w e a };
+    ghost gives = { λ t n w e a. Gives (record { machine = t; limit = n }) w e a };
 
-    ghost follows = { λ s w text. StageFollows s.oracle s.actor w text };
+    ghost follows = { λ s w text. StageFollows s.telling s.oracle s.actor w text };
 
     ghost is_ready = { λ s. usable_of s.oracle && not (oracle_ended s.oracle) && s.actor.usable };
 
@@ -67,7 +69,7 @@ impl<'p> Worker for StageWorker<'p> {
 
     ghost may_want = { true };
 
-    ghost answers = { λ g. answering g };
+    ghost answers = { λ t. answering t };
 
     fn start(alloc: Global, basis: &'p Plan) -> Result<StageWorker<'p>, Memory> {
         let oracle = Oracle::new(alloc, basis)?;
@@ -76,6 +78,7 @@ impl<'p> Worker for StageWorker<'p> {
             oracle,
             actor,
             code: Code::new(alloc),
+            telling: basis.telling(),
         })
     }
 
@@ -110,8 +113,8 @@ fn refused_at(refused: bool, good: u64) -> Option<u64>
     if refused { Some(good) } else { None }
 }
 
-/// One stage of a pipeline, over the plan that it borrows: bytes come in pieces, and what the
-/// surviving paths agree on goes out as soon as it is agreed.
+/// One stage of a pipeline, over the plan that it borrows: bytes come in pieces, and what is told of
+/// them by the plan goes out at once, as what the surviving paths agree on.
 #[derive(Drop)]
 pub struct Stage<'p> {
     within: Bounded<StageWorker<'p>>,
@@ -121,7 +124,7 @@ impl<'p> Stage<'p> {
     /// A stage that has read nothing, and takes at most so many bytes.
     pub fn new(alloc: Global, plan: &'p Plan, max_input: u64) -> Result<Stage<'p>, Memory>
         ensures plan { IfOk result (λ s. ⟦<Stage<'p> as Turn>⟧.plan s
-            ≡ record { machine = plan.now.machine; limit = max_input }) }
+            ≡ record { machine = teller_of plan.now; limit = max_input }) }
         ensures stands { IfOk result (λ s. ⟦<Stage<'p> as Turn>⟧.stands s None) }
         ensures usable { IfOk result (λ s. IsTrue (⟦<Stage<'p> as Turn>⟧.is_usable s)) }
     {

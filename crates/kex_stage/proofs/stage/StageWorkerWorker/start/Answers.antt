@@ -9,7 +9,7 @@ returns-clause-follows c =
     record {
       followed = record {
         code = [];
-        hears = subst (λ g. Hears g c.in_ok-oracle.oracle [] []) same c.in_ok-oracle.ensures.hears;
+        hears = subst (λ g. Hears c.telling.result g c.in_ok-oracle.oracle [] []) same (subst (λ k. Hears k c.args.basis.now.machine c.in_ok-oracle.oracle [] []) (sym c.telling.ensures) c.in_ok-oracle.ensures.hears);
         performed = c.in_ok-actor.ensures.begins;
         machine = refl;
       };
