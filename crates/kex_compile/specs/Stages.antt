@@ -12,6 +12,8 @@ use Rattle.kex_sst.specs.Tables.{Transducer}
 use Rattle.kex_sst.specs.Machines.{IsTableOf}
 use Rattle.kex_determine.specs.Determined.{IsDetermined}
 use Rattle.kex_stage.specs.Plans.{Planned}
+use Rattle.kex_stage.specs.declared.plan.Telling.{Telling}
+use Rattle.kex_stage.specs.declared.plan.Telling.TheVariants as telling
 use Rattle.kex_desugar.specs.Machines.{HasMore}
 use Rattle.kex_lowering.specs.Stages.{Carries, HasPlaces, IsKeptOf, IsWhy}
 use Rattle.kex_lowering.specs.declared.refusal.StageRefusal.{StageRefusal}
@@ -89,10 +91,11 @@ pub record AreMachines (P : Grammar) (lowered : Machines) : Type 0 where
   pub stages : AreStages P 1 (roots_of P) lowered.machines
   pub places : HaveInAll P (roots_of P) lowered.places
 
--- plans, by their machines and tables, and counts of places and states
+-- plans, by their machines and tables, what they tell, and counts of places and states
 pub record Plans : Type 0 where
   pub stages : List Graph
   pub tables : List (Option Transducer)
+  pub telling : Telling
   pub places : ℕ
   pub states : ℕ
 
@@ -111,12 +114,13 @@ AreTabled limits [] [] = Unit {0}
 AreTabled limits (m ∷ ms) (o ∷ os) = HasTable limits m o × AreTabled limits ms os
 AreTabled limits ms os = ⊥
 
--- the plans of the program's stages, with their tables, and how many places and states these have
--- in all
+-- the plans of the program's stages, with their tables, which tell what is agreed, and how many
+-- places and states these have in all
 pub record ArePlans (limits : Limits) (P : Grammar) (plans : Plans) : Type 0 where
   pub stages : AreStages P 1 (roots_of P) plans.stages
   pub places : HaveInAll P (roots_of P) plans.places
   pub tables : AreTabled limits plans.stages plans.tables
+  pub agreed : plans.telling ≡ telling.Agreed
   pub states : limits.tables ≡ true → HaveStatesInAll P (roots_of P) plans.states
 
 -- what is first so in the list has this number, counted from 1

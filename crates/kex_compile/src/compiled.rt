@@ -1,26 +1,27 @@
 // What a text is compiled to.
 
 ghost use Rattle.std.specs.Prelude.{◌≡◌, ◌+◌, ◌^◌, ◌<◌, ◌++◌, ◌∷◌, [], IfOk, OnOk, length, map};
-ghost use Rattle.kex_stage.specs.Plans.{machine_of};
+ghost use Rattle.kex_stage.specs.Plans.{AllTell, machine_of, teller_of, tellers};
 ghost use Rattle.kex_compile.specs.Stages.{table_of};
 
 use kex_code::memory::Memory;
-use kex_stage::plan::Plan;
+use kex_stage::plan::{Plan, Telling};
 use std::alloc::Global;
 use std::marker::Model;
 
-/// The plans of a program's stages, in their order, and how many places and states the stages have
-/// in all.
+/// The plans of a program's stages, in their order, what the stages tell, and how many places and
+/// states they have in all.
 #[derive(Drop)]
 pub struct Compiled {
     stages: Vec<Plan>,
+    telling: Telling,
     places: u64,
     states: u64,
 }
 
 impl Model for Compiled {
     ghost use Rattle.std.specs.Prelude.{◌<◌, ◌^◌, length, map};
-    ghost use Rattle.kex_stage.specs.Plans.{machine_of};
+    ghost use Rattle.kex_stage.specs.Plans.{AllTell, machine_of};
     ghost use Rattle.kex_compile.specs.Stages.{Plans, table_of};
 
     ghost Value = { Plans };
@@ -28,11 +29,13 @@ impl Model for Compiled {
     ghost view = { λ c. record {
       stages = map machine_of c.stages.items;
       tables = map table_of c.stages.items;
+      telling = c.telling;
       places = c.places;
       states = c.states;
     } };
 
-    ghost invariant = { λ c. length c.stages.items < 2 ^ 32 };
+    ghost invariant = { λ c. (length c.stages.items < 2 ^ 32)
+        × AllTell c.telling c.stages.items };
 }
 
 /// The same plans, of which stages go by tables without constant registers.
@@ -48,11 +51,18 @@ pub fn shorten_all(alloc: Global, plans: Vec<Plan>) -> Result<Vec<Plan>, Memory>
 }
 
 impl Compiled {
-    pub(crate) fn new(alloc: Global, places: u64) -> Compiled
-        ensures { result ≡ record { stages = []; tables = []; places = places; states = 0 } }
+    pub(crate) fn new(alloc: Global, places: u64, telling: Telling) -> Compiled
+        ensures { result ≡ record {
+          stages = [];
+          tables = [];
+          telling = telling;
+          places = places;
+          states = 0;
+        } }
     {
         Compiled {
             stages: Vec::new(alloc),
+            telling,
             places,
             states: 0,
         }
@@ -62,11 +72,13 @@ impl Compiled {
     pub(crate) fn push(&mut self, plan: Plan, states: u32) -> Result<(), Memory>
         requires states { self.old.states + states < 2 ^ 64 }
         requires stages { length self.old.stages + 1 < 2 ^ 32 }
+        requires told { plan.telling ≡ self.old.telling }
         ensures pushed { OnOk result (self.new
             ≡ record {
               stages = self.old.stages ++ plan.machine ∷ [];
               tables = self.old.tables
                   ++ plan.table ∷ [];
+              telling = self.old.telling;
               places = self.old.places;
               states = self.old.states + states;
             }) }
@@ -81,6 +93,9 @@ impl Compiled {
     pub fn stages(&self) -> &[Plan]
         ensures same { map machine_of result.now ≡ self.now.stages }
         ensures tables { map table_of result.now ≡ self.now.tables }
+        ensures tellers { map teller_of result.now
+            ≡ tellers self.now.telling self.now.stages }
+        ensures told { AllTell self.now.telling result.now }
         ensures count { length result.now ≡ length self.now.stages }
         ensures few { length self.now.stages < 2 ^ 32 }
     {
@@ -95,6 +110,7 @@ impl Compiled {
         let stages = shorten_all(alloc, self.stages)?;
         Ok(Compiled {
             stages,
+            telling: self.telling,
             places: self.places,
             states: self.states,
         })

@@ -41,6 +41,7 @@ returns-clause-plans c =
       stages = subst (λ (z : List Graph). AreStages P 1 (roots_of P) z) (sym ok.machines) all.stages;
       places = subst (λ n. HaveInAll P (roots_of P) n) (sym ok.places) all.places;
       tables = ok.tables;
+      agreed = ok.told;
       states = λ on. states_of_stages c.args.limits.now P c.in_ok-compiled.compiled.states 1 (roots_of P) c.in_ok-lowered.lowered.machines all.stages (ok.states on);
     }
 

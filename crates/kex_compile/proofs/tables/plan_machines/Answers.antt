@@ -29,6 +29,7 @@ machines-preserved c =
       made = ap (λ (z : Plans). z.stages) pushed ∙ ap₂ (λ (x : List Graph) (y : Graph). x ++ y ∷ []) l.invariant.made c.in_ok-planned.ensures.machine;
       places = ap (λ (z : Plans). z.places) pushed ∙ l.invariant.places;
       stage = omega (arith, l.invariant.stage, length-append l.yielded (m ∷ []));
+      told = ap (λ (z : Plans). z.telling) pushed ∙ l.invariant.told;
       tables = subst (λ (z : Plans). AreTabled c.args.limits.now z.stages z.tables) (sym pushed) (tabled_more c.args.limits.now l.compiled.stages l.compiled.tables p.machine p.table l.invariant.tables c.in_ok-planned.ensures.table);
       states = λ on.
           let k = c.in_ok-planned.ensures.states on in

@@ -1,4 +1,5 @@
 use Rattle.std.proofs.Common.{◌≡◌, ◌++◌, ◌*◌, ◌^◌, ◌≤◌, length}
+use Rattle.kex_stage.specs.declared.plan.Telling.TheVariants as telling
 use Rattle.kex_compile.specs.Stages.{AreTabled, HaveNodeStates}
 use Rattle.kex_compile.proofs.tables.plan_machines.Given as goal
 
@@ -8,6 +9,7 @@ invariant-machines l = record {
   made : l.compiled.stages ≡ l.yielded;
   places : l.compiled.places ≡ l.fn.lowered.places;
   stage : l.stage ≡ length l.yielded;
+  told : l.compiled.telling ≡ telling.Agreed;
   tables : AreTabled l.limits l.compiled.stages l.compiled.tables;
   states : HaveNodeStates l.limits l.yielded l.compiled.states;
   few : l.compiled.states ≤ l.stage * (2 ^ 32);
