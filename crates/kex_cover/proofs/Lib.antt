@@ -3,3 +3,7 @@ pub mod MetPairs
 pub mod Keys
 pub mod PairSteps
 pub mod Starts
+pub mod LeftLeaves
+pub mod AskedQuestions
+pub mod LeafMarks
+pub mod LeftStates

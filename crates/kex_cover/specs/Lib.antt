@@ -1,2 +1,4 @@
 pub mod Pairs
 pub mod Searches
+pub mod Optimal
+pub mod Keeping
