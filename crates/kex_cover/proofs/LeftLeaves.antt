@@ -1,5 +1,5 @@
 -- Which leaves are left of a shape.
-use Rattle.std.proofs.Common.{◌≡◌, ℕ, zero, suc, ◌+◌, ◌<◌, ◌≤◌, Bool, true, false, List, [], ◌∷◌, ◌++◌, ◌⊎◌, inl, inr, ⊎_elim, Option, Some, None, length, map, refl, sym, ap, ap₂, subst, ◌∙◌, append_assoc, append-nil, arith, if◌then◌else◌}
+use Rattle.std.proofs.Common.{◌≡◌, ℕ, zero, suc, ◌<◌, Bool, true, false, List, [], ◌∷◌, ◌++◌, inl, inr, ⊎_elim, Option, Some, None, length, map, refl, sym, ap, ap₂, subst, ◌∙◌, append-nil, arith, if◌then◌else◌}
 use Rattle.std.specs.Prelude.{◌==◌, IfSome, IsSome, MatchBool, slice_get}
 use Rattle.std.proofs.lemmas.Bool.Decides.{nat_tests}
 use Rattle.std.proofs.lemmas.List.{map-append}
@@ -10,7 +10,7 @@ use Rattle.kex_model.specs.Labelled.{Labelled, tip, fork, leaves_of, Shape, plac
 use Rattle.kex_model.specs.States.{AllDifferent, IsState}
 use Rattle.kex_model.specs.Survivors.{CodedPlace, LeadsToEnd, Rising, Survives}
 use Rattle.kex_model.proofs.Orders.{not_both, at_most_both}
-use Rattle.kex_model.proofs.Shapes.{parted_rises, among-append}
+use Rattle.kex_model.proofs.Shapes.{parted_rises}
 use Rattle.kex_model.proofs.Tables.{some_same}
 use Rattle.kex_machine.specs.Nodes.{Graph, node_moves}
 use Rattle.kex_machine.specs.Covering.{restrict, restrict_if}
@@ -18,7 +18,7 @@ use Rattle.kex_paths.specs.KeptLeaves.{parts_of, restrict_shape}
 use Rattle.kex_paths.specs.Nexts.{Outline, IsOfShape, places_of}
 use Rattle.kex_paths.proofs.LeftTrees.{lists_same}
 use Rattle.kex_cover.specs.Pairs.{IsCoveredBy, IsUncoveredBy}
-use Rattle.kex_cover.specs.Optimal.{IsLeftState, LeftState, has_number, has_place}
+use Rattle.kex_cover.specs.Optimal.{IsLeftState, has_number, has_place}
 
 pub some_at : {A : Type 0} (xs : List A) (i : ℕ) → i < length xs → (x : A) × (slice_get xs i ≡ Some x)
 some_at [] i lt = absurd (omega (arith, lt))

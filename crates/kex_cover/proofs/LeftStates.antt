@@ -1,13 +1,13 @@
 -- What is left of a machine's states, state by state.
-use Rattle.std.proofs.Common.{◌≡◌, ℕ, zero, suc, ◌+◌, ◌<◌, ◌≤◌, Bool, true, false, List, [], ◌∷◌, ◌++◌, ◌⊎◌, inl, inr, ⊎_elim, Option, Some, None, length, map, take, refl, sym, ap, subst, ◌∙◌, length-append, arith}
+use Rattle.std.proofs.Common.{◌≡◌, ℕ, zero, suc, ◌+◌, ◌<◌, ◌≤◌, Bool, List, [], ◌∷◌, ◌++◌, inl, inr, ⊎_elim, Option, Some, None, length, take, refl, sym, ap, subst, ◌∙◌, length-append, arith}
 use Rattle.std.specs.Prelude.{slice_get, MatchOption}
-use Rattle.std.proofs.lemmas.List.{map-append, length-map}
+use Rattle.std.proofs.lemmas.List.{map-append}
 use Rattle.std.proofs.lemmas.Option.{slice_get_within}
 use Rattle.kex_code.specs.Codes.{IsAmong}
 use Rattle.kex_model.specs.Labelled.{Shape, place, parts}
-use Rattle.kex_model.specs.States.{AllDifferent, IsState}
+use Rattle.kex_model.specs.States.{AllDifferent}
 use Rattle.kex_model.specs.Survivors.{LeadsToEnd}
-use Rattle.kex_model.proofs.Shapes.{among-append, among_left}
+use Rattle.kex_model.proofs.Shapes.{among-append}
 use Rattle.kex_model.proofs.Tables.{some_same, get_more, get_last, get_pushed}
 use Rattle.kex_machine.specs.Nodes.{Graph, node_moves}
 use Rattle.kex_machine.specs.Advancing.{EachPlace}
@@ -16,7 +16,7 @@ use Rattle.kex_paths.specs.Nexts.{Outline, IsOfShape, places_of}
 use Rattle.kex_paths.specs.Spellings.{IsTreeSound}
 use Rattle.kex_determine.specs.Determined.{AreStateTrees}
 use Rattle.kex_cover.specs.Keeping.{AreLeftTrees, AreStates, EachAsksUpTo, IsLeftTree, IsStateTree, OneAsksMore}
-use Rattle.kex_cover.specs.Optimal.{AsksAtMost, AsksMore, IsLeftState, LeftState, wholes}
+use Rattle.kex_cover.specs.Optimal.{AsksAtMost, AsksMore, IsLeftState, LeftState}
 use Rattle.kex_cover.specs.Searches.{AreWaiting}
 use Rattle.kex_cover.proofs.LeftLeaves.{shape_same, some_at, AreUncoveredIn, first_left, left_state, state_leaves}
 
@@ -25,6 +25,10 @@ use Rattle.kex_cover.proofs.LeftLeaves.{shape_same, some_at, AreUncoveredIn, fir
 each_place : (m : ℕ) (s : Shape ℕ) (p : ℕ) → EachPlace m s → IsAmong (places_of s) p → p < m
 each_place m (place q) p h i = ⊎_elim (λ e. subst (λ z. z < m) e h) (λ j. absurd j) i
 each_place m (parts l r) p h i = ⊎_elim (λ j. each_place m l p h.0 j) (λ j. each_place m r p h.1 j) (among-append (places_of l) (places_of r) p i)
+
+-- the places of a tree are numbers of nodes
+pub sound_places : (g : Graph) (inner : List Bool) (places : List ℕ) → IsTreeSound g inner places → (p : ℕ) → IsAmong places p → p < length g.nodes
+sound_places g inner places sound p i = each_place (length g.nodes) sound.shape p sound.in_range (subst (λ z. IsAmong z p) sound.places_are i)
 
 module _ (g : Graph) (tree : Outline) (sound : IsTreeSound tree.machine tree.shape tree.leaves) (state : IsStateTree g tree) where
   same_shape : sound.shape ≡ state.1.0

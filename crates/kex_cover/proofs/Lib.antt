@@ -4,6 +4,10 @@ pub mod Keys
 pub mod PairSteps
 pub mod Starts
 pub mod LeftLeaves
+pub mod BestTables
+pub mod BestForms
 pub mod AskedQuestions
 pub mod LeafMarks
 pub mod LeftStates
+pub mod LeftWays
+pub mod BestRows

@@ -3,11 +3,11 @@
 use Rattle.std.specs.Prelude.{◌≡◌, ℕ, suc, ◌<◌, ◌≤◌, Bool, false, List, [], ◌∷◌, ◌++◌, Option, Some}
 use Rattle.std.specs.Prelude.{MatchBool, get_or, length, slice_get}
 use Rattle.std.specs.Global.{Vec}
-use Rattle.kex_byteset.specs.Classes.{class_at, class_count}
+use Rattle.kex_byteset.specs.Classes.{class_at}
 use Rattle.kex_code.specs.Codes.{IsAmong}
 use Rattle.kex_model.specs.Labelled.{Shape, size_of, Grown}
 use Rattle.kex_model.specs.States.{IsState}
-use Rattle.kex_machine.specs.Nodes.{Graph, node_moves}
+use Rattle.kex_machine.specs.Nodes.{Graph, node_moves, IsMachineInRange, IsTrimmed}
 use Rattle.kex_machine.specs.Advancing.{first_accepting}
 use Rattle.kex_machine.specs.Covering.{restrict_if}
 use Rattle.kex_sst.specs.declared.parts.Part.{Part}
@@ -102,6 +102,8 @@ module _ (g : Graph) where
 
   -- a machine's table, and what is left of the trees of its states
   pub record AreStatesLeft (t : Transducer) (lefts : List Outline) : Type 0 where
+    pub in_range : IsMachineInRange g.start g.nodes g.registers
+    pub trimmed : IsTrimmed g
     pub determined : IsDetermined g t
     pub left : AreLeftTrees determined.shapes lefts
 

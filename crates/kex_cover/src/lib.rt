@@ -12,19 +12,30 @@ mod kept;
 mod pairs;
 mod questions;
 pub mod refusal;
+mod rows;
 mod search;
 mod sets;
 
 ghost use Rattle.std.specs.Prelude.{◌≡◌, ℕ, ◌<◌, ◌≤◌, ◌∷◌, [], IfOk, OnOk, IfErr, MatchBool};
+ghost use Rattle.std.specs.Prelude.{length};
+ghost use Rattle.kex_model.specs.States.{HasStates};
+ghost use Rattle.kex_machine.specs.Nodes.{node_moves};
+ghost use Rattle.kex_sst.specs.Machines.{IsBestTableOf};
+ghost use Rattle.kex_cover.specs.Optimal.{EachAsksAtMost, IsOptimal, RefusesOptimal};
 ghost use Rattle.kex_cover.specs.Pairs.{HasMorePairs, HasPairs, IsCoveredBy, IsUncoveredBy};
 ghost use Rattle.kex_cover.specs.Searches.{AreWaiting, RefusesPairs};
 
 use crate::fault::CoverFault;
+use crate::kept::left_trees;
 use crate::pairs::Pairs;
+use crate::refusal::CoverRefusal;
+use crate::rows::{RowTools, first_update, rows_of};
 use crate::search::{all_hold, first_pair, follow_all};
 use crate::sets::MarkPair;
+use kex_determine::determine_trees;
 use kex_machine::Trimmed;
 use kex_paths::workspace::samples_of;
+use kex_sst::table::Table;
 use std::alloc::Global;
 
 /// Whether every text that leads from a waiting place to the end leads there from one of those
@@ -56,4 +67,34 @@ pub fn covered(
     pairs.enter(pair)?;
     follow_all(machine, &samples, &mut pairs, &mut rows)?;
     Ok(all_hold(machine, &pairs.pairs))
+}
+
+/// The table that passes on what is best: its states are those of `determine`'s table, in their
+/// order, of whose trees the covered leaves are left out.
+///
+/// `TooManyStates` exactly as `determine`; else `TooManyPairs` exactly where in some state the test
+/// of some leaf but the first, against all leaves before it, has more pairs than `max_pairs`.
+pub fn optimal(
+    alloc: Global,
+    machine: &Trimmed,
+    max_states: u32,
+    max_pairs: u32,
+) -> Result<Table, CoverRefusal>
+    requires few_states { max_states < 4294967295 }
+    requires few_pairs { max_pairs < 4294967295 }
+    ensures best { IfOk result (λ t. IsBestTableOf machine.now t) }
+    ensures optimal { IfOk result (λ t. IsOptimal machine.now t) }
+    ensures states { IfOk result (λ t. HasStates (node_moves machine.now.nodes) machine.now.start
+        (length t.states) × (length t.states ≤ max_states)) }
+    ensures pairs { OnOk result (EachAsksAtMost machine.now max_pairs) }
+    ensures refused { IfErr result (RefusesOptimal machine.now max_states max_pairs) }
+{
+    // Its numbers are in range, and from each node the end is reached.
+    let _nodes = machine.nodes();
+    let (table, trees) = determine_trees(alloc, machine, max_states)?;
+    let lefts = left_trees(alloc, machine, &trees, max_pairs)?;
+    let mut tools = RowTools::new(alloc, machine)?;
+    let update = first_update(alloc, &table, &trees, &lefts, &mut tools)?;
+    let rows = rows_of(alloc, machine, &table, &lefts, &mut tools)?;
+    Ok(Table::new(table.partition().copy(), update, rows))
 }

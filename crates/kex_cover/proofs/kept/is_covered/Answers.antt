@@ -1,4 +1,4 @@
-use Rattle.std.proofs.Common.{◌≡◌, ℕ, false, get_or, take, ⊎_elim, sym, subst, arith}
+use Rattle.std.proofs.Common.{false, get_or, take, ⊎_elim, sym, subst}
 use Rattle.std.specs.Prelude.{MatchBool}
 use Rattle.kex_code.specs.Codes.{IsAmong}
 use Rattle.kex_cover.specs.Keeping.{ToldAt}

@@ -1,4 +1,4 @@
-use Rattle.std.proofs.Common.{◌≡◌, ℕ, false, Some, get_or, sym, subst}
+use Rattle.std.proofs.Common.{◌≡◌, false, Some, get_or, sym, subst}
 use Rattle.std.specs.Prelude.{IfSome}
 use Rattle.kex_code.specs.Codes.{IsAmong}
 use Rattle.kex_model.specs.States.{AllDifferent}

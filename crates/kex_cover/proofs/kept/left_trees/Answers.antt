@@ -1,10 +1,10 @@
-use Rattle.std.proofs.Common.{◌≡◌, ℕ, ◌+◌, ◌++◌, ◌∷◌, [], List, Some, length, take, refl, sym, ap, subst, ◌∙◌, arith}
+use Rattle.std.proofs.Common.{◌≡◌, ℕ, ◌+◌, List, Some, take, sym, ap, subst, ◌∙◌, arith}
 use Rattle.std.specs.Prelude.{slice_get}
 use Rattle.std.proofs.lemmas.Option.{slice_get-get_or}
 use Rattle.kex_model.specs.Labelled.{Shape}
 use Rattle.kex_determine.specs.Determined.{AreStateTrees}
-use Rattle.kex_cover.specs.Keeping.{AreAnswered, AreLeftTrees, EachAsksUpTo, OneAsksMore}
-use Rattle.kex_cover.specs.Optimal.{AsksAtMost, AsksMore}
+use Rattle.kex_cover.specs.Keeping.{AreAnswered, AreLeftTrees, OneAsksMore}
+use Rattle.kex_cover.specs.Optimal.{AsksAtMost}
 use Rattle.kex_cover.specs.Searches.{RefusesPairs}
 use Rattle.kex_cover.proofs.LeftStates.{asks_more, asks_whole, left_more, left_whole, one_asks, tree_state}
 use Rattle.kex_cover.proofs.PairSteps.{err_as, refuses_more}

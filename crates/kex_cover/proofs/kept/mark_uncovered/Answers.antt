@@ -1,6 +1,6 @@
-use Rattle.std.proofs.Common.{◌≡◌, ℕ, ◌+◌, ◌<◌, true, false, Some, get_or, length, set, sym, ap, subst, ◌∙◌, arith, length-set}
+use Rattle.std.proofs.Common.{◌+◌, true, get_or, length, sym, ap, subst, ◌∙◌, arith, length-set}
 use Rattle.std.proofs.lemmas.Option.{slice_get-get_or}
-use Rattle.kex_cover.specs.Keeping.{AreAnswered, AreToldTo, AskedAt, AsksMoreAt, ToldAt}
+use Rattle.kex_cover.specs.Keeping.{AreAnswered, AreToldTo, ToldAt}
 use Rattle.kex_cover.specs.Optimal.{AsksMore}
 use Rattle.kex_cover.specs.Searches.{RefusesPairs}
 use Rattle.kex_cover.proofs.LeafMarks.{AskedTo, asked_more, more_at, told_covered, told_uncovered}

@@ -1,8 +1,8 @@
-use Rattle.std.proofs.Common.{◌≡◌, ◌∷◌, ◌++◌, [], Some, ap, sym, subst, ◌∙◌, arith}
+use Rattle.std.proofs.Common.{◌≡◌, ◌∷◌, Some, ap, sym, subst, ◌∙◌, arith}
 use Rattle.std.specs.Prelude.{slice_get}
 use Rattle.std.proofs.lemmas.Option.{slice_get-get_or}
 use Rattle.kex_determine.specs.Numbering.{texts, IsAdded}
-use Rattle.kex_cover.specs.Keeping.{AreAnswered, IsAnswered}
+use Rattle.kex_cover.specs.Keeping.{AreAnswered}
 use Rattle.kex_cover.proofs.AskedQuestions.{known_question, new_question}
 use Rattle.kex_cover.proofs.questions.Questions.ask.Goals as goal
 use Rattle.kex_cover.proofs.questions.Questions.ask.Goals.{In_ok-index}
