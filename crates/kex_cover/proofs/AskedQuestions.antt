@@ -74,12 +74,12 @@ module _ (g : Graph) (most : ℕ) (asked now : List (Vec ℕ)) (answers : List B
         count = omega (arith, length-append answers (answer ∷ []), many, ap length e, length-append (texts asked) ((leaf ∷ before) ∷ []), length-map now (λ v. v.items));
         each = λ k l b y a s. ⊎_elim
             (λ here. ⊎_elim
-                (λ there. h.each k l b y here there)
-                (λ last. let lt = slice_get_within (texts asked) k (l ∷ b) here in absurd (omega (arith, lt, many, last.0)))
-                (get_pushed answers answer k y s))
+            (λ there. h.each k l b y here there)
+            (λ last. let lt = slice_get_within (texts asked) k (l ∷ b) here in absurd (omega (arith, lt, many, last.0)))
+            (get_pushed answers answer k y s))
             (λ last. ⊎_elim
-                (λ there. let lt = slice_get_within answers k y there in absurd (omega (arith, lt, many, last.0)))
-                (λ end. as_question g most leaf l before b answer y last.1 end.1 told)
-                (get_pushed answers answer k y s))
+            (λ there. let lt = slice_get_within answers k y there in absurd (omega (arith, lt, many, last.0)))
+            (λ end. as_question g most leaf l before b answer y last.1 end.1 told)
+            (get_pushed answers answer k y s))
             (get_pushed (texts asked) (leaf ∷ before) k (l ∷ b) (ap (λ z. slice_get z k) (sym e) ∙ a));
       }

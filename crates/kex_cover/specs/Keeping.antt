@@ -150,5 +150,5 @@ WhereLeft g t lefts at Says = (k : AreStatesLeft g t lefts) (s : LeftState)
 
 -- the update before the first byte
 abbrev pub IsBestStart : Graph → Transducer → List LeftState → Change → Type 0
-IsBestStart g t states u = BeginsBest g (record { classes = t.classes; initial = u; states = t.states })
-    states
+IsBestStart g t states u = BeginsBest g
+    (record { classes = t.classes; initial = u; states = t.states }) states

@@ -1,8 +1,8 @@
 //! Which survivors of a text matter for what may come: a place is covered by others where every
 //! text that leads from it to the end leads there from one of those.
 //!
-//! Stands on machines, on rows of bits and on determinisation. The search goes over pairs of sets of
-//! waiting places: what a text leads to from the place, and what it leads to from the others. A
+//! Stands on machines, on rows of bits and on determinisation. The search goes over pairs of sets
+//! of waiting places: what a text leads to from the place, and what it leads to from the others. A
 //! table whose states leave covered leaves out passes on what is best. The contracts of `covered`
 //! and of `optimal` are the crate's.
 #![tactic(auto)]

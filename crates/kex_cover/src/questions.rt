@@ -60,12 +60,7 @@ impl Questions {
     }
 
     /// Whether a place is covered by those before it, as `covered` tells.
-    pub fn ask(
-        &mut self,
-        machine: &Trimmed,
-        leaf: u32,
-        before: &[u32],
-    ) -> Result<bool, CoverFault>
+    pub fn ask(&mut self, machine: &Trimmed, leaf: u32, before: &[u32]) -> Result<bool, CoverFault>
         requires few { self.old.most < 4294967295 }
         requires leaf { AreWaiting machine.now (leaf ∷ []) }
         requires before { AreWaiting machine.now before.now }
