@@ -20,8 +20,8 @@ told_orderly telling.Agreed g = orderly g
 told_orderly telling.Best g = best_orderly g
 
 -- what means something has a parse
-run_of : (g : Graph) (w text : List ℕ) → MeansByRun g w text → HasRun g w
-run_of g w text m =
+has_run_of : (g : Graph) (w text : List ℕ) → MeansByRun g w text → HasRun g w
+has_run_of g w text m =
     let r = m.is_greedy.2.reached in
     (m.run, m.runs, ap (λ c. bytes_of c) (m.codes ∙ sym r.2) ∙ r.1.reads)
 
@@ -31,5 +31,5 @@ pub answering : (t : Teller)
     (HasRun t.machine) (MeansByRun t.machine)) (λ n w e a. TellerAnswers t n w e a)
 answering t =
     viable.answering (IsViableFor t.machine) (SaysAs t.telling t.machine) (HasRun t.machine)
-    (MeansByRun t.machine) (told_orderly t.telling t.machine) (run_of t.machine)
+    (MeansByRun t.machine) (told_orderly t.telling t.machine) (has_run_of t.machine)
     (one_meaning t.machine)

@@ -113,8 +113,8 @@ fn refused_at(refused: bool, good: u64) -> Option<u64>
     if refused { Some(good) } else { None }
 }
 
-/// One stage of a pipeline, over the plan that it borrows: bytes come in pieces, and what is told of
-/// them by the plan goes out at once, as what the surviving paths agree on.
+/// One stage of a pipeline, over the plan that it borrows: bytes come in pieces, and what the plan
+/// tells of them goes out at once, as what the surviving paths agree on.
 #[derive(Drop)]
 pub struct Stage<'p> {
     within: Bounded<StageWorker<'p>>,
