@@ -1,8 +1,8 @@
 -- The answer to a line rests on no byte past the one behind the limit.
 use Rattle.std.proofs.Common.{◌≡◌, ◌≤◌, ◌<◌, ◌+◌, ℕ, zero, suc, Bool, true, List, [], ◌∷◌, length, take, refl, ap, subst, ◌∙◌, arith}
 use Rattle.kex_model.specs.Answers.{Answer, Answers, LongestGood, bad_byte, too_long, cut_off, whole, still_open}
-use Rattle.kex_machine.specs.Answers.{HasRun, IsViableFor, MeansByRun, SaysByRun}
-use Rattle.kex_stage.specs.Plans.{Planned}
+use Rattle.kex_machine.specs.Answers.{HasRun, IsViableFor, MeansByRun}
+use Rattle.kex_stage.specs.Plans.{Planned, SaysAs}
 use Rattle.kex_each.specs.Answers.{plans_within}
 use Rattle.kex_each.specs.Laws.{IsKeptEnough}
 use Rattle.kex_each.specs.Pieces.{IsEnough}
@@ -59,7 +59,7 @@ kept_enough keep (p ∷ ps) enough (l ∷ ls) (t ∷ ts) h =
       record {
         said = x.said;
         report = x.report;
-        says = (a, rest, kept_answer (IsViableFor p.machine) (SaysByRun p.machine) (HasRun p.machine) (MeansByRun p.machine) p.limit keep enough l (take keep l) true a refl gives, others, is);
+        says = (a, rest, kept_answer (IsViableFor p.machine.machine) (SaysAs p.machine.telling p.machine.machine) (HasRun p.machine.machine) (MeansByRun p.machine.machine) p.limit keep enough l (take keep l) true a refl gives, others, is);
         answer = x.answer;
       },
       kept_enough keep (p ∷ ps) enough ls ts h.1,

@@ -3,7 +3,7 @@ use Rattle.std.specs.Prelude.{◌≡◌, ◌++◌, ℕ, Bool, true, false, List,
 use Rattle.std.specs.Prelude.{Option, Some, None}
 use Rattle.kex_model.specs.Answers.{Answer, Report, Pipeline, Why, at_byte, at_end, at_limit}
 use Rattle.kex_pipe.specs.Rounds.{Each}
-use Rattle.kex_stage.specs.Plans.{Planned, machine_of}
+use Rattle.kex_stage.specs.Plans.{Planned, teller_of}
 use Rattle.kex_stage.specs.Stages.{StagePlan, Gives}
 use Rattle.kex_words.specs.Lines.{rejected_line, too_long_line}
 
@@ -32,7 +32,7 @@ module _ {T : Type 0} (Gives' : T → List ℕ → Bool → Answer → Type 0) (
 
 -- the stages of plans, each of which takes at most so many bytes
 abbrev pub plans_within : ℕ → List Planned → List StagePlan
-plans_within limit plans = map (λ m. record { machine = m; limit = limit }) (map machine_of plans)
+plans_within limit plans = map (λ t. record { machine = t; limit = limit }) (map teller_of plans)
 
 -- what stages answer to lines
 abbrev pub PlansAnswerLines : List StagePlan → List (List ℕ) → List (List ℕ) → Type 0

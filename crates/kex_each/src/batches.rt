@@ -1,7 +1,9 @@
 // The answers to lines that are at hand.
 
 ghost use Rattle.std.specs.Prelude.{◌≡◌, ◌≤◌, IfOk, map};
+ghost use Rattle.kex_stage.specs.Plans.{AllTell};
 ghost use Rattle.kex_stage.specs.Stages.{Gives};
+ghost use Rattle.kex_stage.specs.declared.plan.Telling.TheVariants as telling;
 ghost use Rattle.kex_each.specs.Answers.{AnswersLine, PlansAnswerLines, plans_within};
 
 use crate::clerk::Clerk;
@@ -16,6 +18,7 @@ use std::thread::Threads;
 /// The answer to a line, with its line feed: what the stages of these plans write for it as their
 /// whole input, of which each takes at most so many bytes; or the line of what they report.
 pub fn answer(alloc: Global, plans: &[Plan], line: &[u8], max_input: u64) -> Result<Vec<u8>, Memory>
+    requires { AllTell telling.Agreed plans.now }
     ensures { IfOk result (λ text. AnswersLine (λ p w e a. Gives p w e a)
         (plans_within max_input plans.now) line.now text.items) }
 {
@@ -37,7 +40,8 @@ pub fn batch<R: Threads + Sync, G: Gate + Sync>(
     workers: u32,
     gate: &G,
 ) -> Result<Vec<Vec<u8>>, Memory>
-    requires { (1 ≤ workers) × (workers ≤ 64) }
+    requires told { AllTell telling.Agreed plans.now }
+    requires workers { (1 ≤ workers) × (workers ≤ 64) }
     ensures { IfOk result (λ answers. PlansAnswerLines (plans_within max_input plans.now)
         (map (λ v. v.items) lines.now) (map (λ v. v.items) answers.items)) }
 {

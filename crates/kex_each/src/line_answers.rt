@@ -2,6 +2,8 @@
 
 ghost use Rattle.std.specs.Prelude.{◌≡◌, ◌+◌, ◌<◌, ◌≤◌, ◌^◌, ◌++◌, [], List, ℕ, IfOk, OnOk, length};
 ghost use Rattle.std.specs.List.{concat};
+ghost use Rattle.kex_stage.specs.Plans.{AllTell};
+ghost use Rattle.kex_stage.specs.declared.plan.Telling.TheVariants as telling;
 ghost use Rattle.kex_each.specs.Answers.{plans_within};
 ghost use Rattle.kex_each.specs.Lines.{IsBegunBehind, begun_behind, lines_behind, line_if_some};
 ghost use Rattle.kex_each.specs.Pieces.{WritesAnswers};
@@ -48,6 +50,7 @@ impl<'p> LineAnswers<'p> {
         workers: u32,
     ) -> Result<LineAnswers<'p>, Memory>
         requires some { 0 < length plans.now }
+        requires told { AllTell telling.Agreed plans.now }
         requires limit { max_input + 1 < 2 ^ 64 }
         requires workers { (1 ≤ workers) × (workers ≤ 64) }
         ensures plans { IfOk result (λ a. a.plans ≡ plans_within max_input plans.now) }
