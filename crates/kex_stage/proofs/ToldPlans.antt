@@ -1,5 +1,5 @@
 -- Plans that all tell the same.
-use Rattle.std.proofs.Common.{◌≡◌, List, [], ◌∷◌, ◌++◌, inl, inr, map, refl, sym, ap₂, subst, ◌∙◌}
+use Rattle.std.proofs.Common.{◌≡◌, List, [], ◌∷◌, ◌++◌, inl, inr, map, refl, ap₂, subst}
 use Rattle.kex_code.specs.Codes.{IsAmong}
 use Rattle.kex_stage.specs.declared.plan.Telling.{Telling}
 use Rattle.kex_stage.specs.Plans.{AllTell, Planned, machine_of, teller, teller_of, tellers}

@@ -5,11 +5,11 @@
 //! whose answer is the stage's over the nodes of its machine.
 #![tactic(auto)]
 
-mod follower;
+pub mod follower;
 pub mod laws;
-mod oracle;
+pub mod oracle;
 mod paths;
 pub mod plan;
-mod speak;
+pub mod speak;
 pub mod stage;
 mod strides;

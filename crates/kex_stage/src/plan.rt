@@ -132,9 +132,10 @@ impl Plan {
         })
     }
 
-    // The table by which stages go, if there is one.
-    pub(crate) fn shortest_table(&self) -> Option<&Table>
-        ensures { MatchOption result (self.now.telling ≡ telling.Agreed)
+    /// The table by which stages go. There is one exactly where the plan has a table.
+    pub fn shortest_table(&self) -> Option<&Table>
+        ensures { MatchOption result
+            ((self.now.table ≡ None) × (self.now.telling ≡ telling.Agreed))
             (λ t. IsTableAs self.now.telling self.now.machine t.now) }
     {
         match &self.shorter {
