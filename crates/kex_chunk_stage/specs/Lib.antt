@@ -1,0 +1,2 @@
+pub mod TableWorkers
+pub mod PlaceLaws
