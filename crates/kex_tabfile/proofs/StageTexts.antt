@@ -6,6 +6,7 @@ use Rattle.kex_sst.specs.declared.table.Transition.{Transition}
 use Rattle.kex_sst.specs.Tables.{Transducer}
 use Rattle.kex_sst.specs.Machines.{IsTableOf}
 use Rattle.kex_stage.specs.Plans.{Planned}
+use Rattle.kex_stage.specs.declared.plan.Telling.TheVariants as telling
 use Rattle.kex_tabfile.specs.Lines.{line_behind, head_text, end_line}
 use Rattle.kex_tabfile.specs.Readers.{ReadSoFar, ReadsBytes}
 use Rattle.kex_tabfile.specs.Walks.{IsStageText, BreaksInStage}
@@ -40,10 +41,10 @@ stages_break gs done left g tables front a b (BadTable line) split texts reads (
 )
 
 -- one plan more
-pub tables_more : (plans : List Planned) (g : Graph) (t : Transducer) → EachHasTable plans → IsTableOf g t → EachHasTable (plans ++ record { machine = g; table = Some t } ∷ [])
+pub tables_more : (plans : List Planned) (g : Graph) (t : Transducer) → EachHasTable plans → IsTableOf g t → EachHasTable (plans ++ record { machine = g; table = Some t; telling = telling.Agreed } ∷ [])
 tables_more plans g t each of p i = by plans each i
   where
-    by : (ps : List Planned) → EachHasTable ps → IsAmong (ps ++ record { machine = g; table = Some t } ∷ []) p → (u : Transducer) × (p.table ≡ Some u) × IsTableOf p.machine u
+    by : (ps : List Planned) → EachHasTable ps → IsAmong (ps ++ record { machine = g; table = Some t; telling = telling.Agreed } ∷ []) p → (u : Transducer) × (p.table ≡ Some u) × IsTableOf p.machine u
     by [] h (inl e) = (t, ap (λ z. z.table) (sym e), subst (λ z. IsTableOf z.machine t) e of)
     by [] h (inr i) = absurd i
     by (q ∷ ps) h (inl e) = h p (inl e)

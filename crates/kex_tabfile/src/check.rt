@@ -1,7 +1,8 @@
 // Checks table files.
 
 ghost use Rattle.std.specs.Prelude.{◌≡◌, ◌≤◌, ℕ, IfErr, IfOk, List, OnOk, length, map};
-ghost use Rattle.kex_stage.specs.Plans.{machine_of};
+ghost use Rattle.kex_stage.specs.Plans.{AllTell, machine_of};
+ghost use Rattle.kex_stage.specs.declared.plan.Telling.TheVariants as telling;
 ghost use Rattle.kex_tabfile.specs.Checking.{BreaksEnd, BreaksStages};
 ghost use Rattle.kex_tabfile.specs.Lines.{end_line};
 ghost use Rattle.kex_tabfile.specs.Readers.{ReadsBytes, most_bytes};
@@ -29,6 +30,7 @@ fn take_stages(
 ) -> Result<Vec<Plan>, TableRefusal>
     ensures machines { IfOk result (λ plans. map machine_of plans.items ≡ machines.items) }
     ensures tables { IfOk result (λ plans. EachHasTable plans.items) }
+    ensures agreed { IfOk result (λ plans. AllTell telling.Agreed plans.items) }
     ensures right { IfOk result (λ plans. (bytes : List ℕ)
         × AreStageTexts machines.items (map goes_in plans.items) bytes
         × ReadsBytes reader.old bytes reader.new) }
@@ -62,6 +64,7 @@ fn take_end(reader: &mut TableReader) -> Result<(), TableRefusal>
 pub fn check_table(alloc: Global, bytes: &[u8]) -> Result<Checked, TableRefusal>
     ensures good { IfOk result (λ plans. IsGood bytes.now plans) }
     ensures within { IfOk result (λ plans. length bytes.now ≤ most_bytes) }
+    ensures agreed { IfOk result (λ plans. AllTell telling.Agreed plans) }
     ensures refused { IfErr result (λ e. IsTableRefused bytes.now e) }
 {
     if bytes.len() > MOST_BYTES as usize {

@@ -14,6 +14,12 @@ use Rattle.kex_pipe.specs.declared.report.Rejected.{Rejected}
 use Rattle.kex_pipe.specs.declared.turn.Why.{Why}
 use Rattle.kex_pipe.specs.declared.turn.Why.TheVariants.{Byte, End, Limit}
 use Rattle.kex_single.specs.Singles.{MachineCodeAnswers, MeansRunCode, SaysSharedCode}
+use Rattle.kex_stage.specs.declared.plan.Telling.{Telling}
+use Rattle.kex_stage.specs.declared.plan.Telling.TheVariants as telling
+use Rattle.kex_stage.specs.Plans.{IsTableFor, Planned, teller, teller_of}
+use Rattle.kex_stage.specs.Stages.{StagePlan, Gives}
+use Rattle.kex_stage.proofs.TableAnswers.{tables_answer}
+use Rattle.kex_sst.specs.Tables.{Transducer}
 use Rattle.kex_top.specs.Pipelines.{AlwaysAnswers, AlwaysSays, StagesSay}
 
 module _ (g : Graph) (limit : ℕ) (range : IsMachineInRange g.start g.nodes g.registers) (trimmed : IsTrimmed g) where
@@ -38,6 +44,15 @@ module _ (g : Graph) (limit : ℕ) (range : IsMachineInRange g.start g.nodes g.r
 
   pub code-answers : (w : List ℕ) (e : Bool) → (a : Answer) × MachineCodeAnswers g limit w e a
   code-answers w e = coded (machine-answers w e).1
+
+-- a stage of a plan has an answer on each text: by its machine, or by its table where what is best is told
+pub plan-answers : (p : Planned) (limit : ℕ) → IsMachineInRange p.machine.start p.machine.nodes p.machine.registers → IsTrimmed p.machine → IsTableFor p.telling p.machine p.table → AlwaysAnswers (λ q w e a. Gives q w e a) (record { machine = teller_of p; limit = limit })
+plan-answers p limit range trimmed has = by p.telling p.table has
+  where
+    by : (k : Telling) (o : Option Transducer) → IsTableFor k p.machine o → AlwaysAnswers (λ q w e a. Gives q w e a) (record { machine = teller k p.machine; limit = limit })
+    by telling.Agreed o h w e = machine-answers p.machine limit range trimmed w e
+    by telling.Best None h w e = absurd h
+    by telling.Best (Some t) h w e = tables_answer telling.Best p.machine t trimmed h limit w e
 
 reason : (y : model.Why) → (x : Why) × (why_as x ≡ y)
 reason at_byte = (Byte, refl)

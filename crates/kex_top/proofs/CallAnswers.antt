@@ -21,7 +21,8 @@ use Rattle.kex_words.specs.Words.{Asked, Mode, Reach}
 use Rattle.kex_words.specs.Words.Asked.{ToCheck, ToCompile, ToEach, ToExec, ToStream, ToTry}
 use Rattle.kex_words.specs.Words.Mode.{running, coding, acting, testing}
 use Rattle.kex_model.specs.Programs.{Grammar}
-use Rattle.kex_stage.specs.Stages.{StagePlan, Gives}
+use Rattle.kex_stage.specs.Plans.{Teller}
+use Rattle.kex_stage.specs.Stages.{Gives}
 use Rattle.kex_compile.specs.Stages.{AreStages, Plans, roots_of}
 use Rattle.kex_compile.specs.Compiled.{Accepts, IsCompiled, IsRefused}
 use Rattle.kex_compile.specs.declared.limits.Limits.{Limits}
@@ -39,7 +40,7 @@ use Rattle.kex_top.specs.Trials.{AreTrialCounts, made_lines, trial_text, usual_s
 use Rattle.kex_top.specs.declared.start.StartError.{StartError}
 use Rattle.kex_top.specs.declared.start.StartError.TheVariants as start
 use Rattle.kex_top.specs.Answer.{Said}
-use Rattle.kex_top.specs.Pipelines.{Answered, NodesSay, StagesSay, first_limit, stage_plans}
+use Rattle.kex_top.specs.Pipelines.{Answered, NodesSay, StagesSay, agreed_plans, first_limit, stage_plans}
 use Rattle.kex_top.specs.Run.{IsAsBefore, Left, Ran, EndsAs, WritesAll}
 use Rattle.kex_top.specs.Kex.{CommandAnswers, CommandWorks}
 use Rattle.kex_top.specs.Modes.{BeginsTreeCode, HasParseAlone, IsTreeCode, WritesPart, MachineGives, MachinesSay, MeansCode, SaysCode, SaysNothing, SaysBy, StageGives, limits_of, limits_to_check}
@@ -47,8 +48,10 @@ use Rattle.kex_pipe.specs.declared.report.Rejected.{Rejected as Report}
 use Rattle.kex_top.specs.declared.status.Status.{Status}
 use Rattle.kex_top.specs.declared.status.Status.TheVariants.{Done, Rejected, Usage, Refused, ReadFault, WriteFault, ShelfFault, Memory, TooLong, InputTooLong}
 
-abbrev pub plan_at : ℕ → Graph → StagePlan
-plan_at limit m = record { machine = m; limit = limit }
+-- there are as many plans as machines
+pub as-many-plans : (limit : ℕ) (ms : List Graph) → length (agreed_plans limit ms) ≡ length ms
+as-many-plans limit [] = refl
+as-many-plans limit (m ∷ ms) = ap (λ n. suc n) (as-many-plans limit ms)
 
 -- one saying in place of another that says the same
 module _ (says says' : List ℕ → Bool → Said → Type 0) (to : (w : List ℕ) (e : Bool) (s : Said) → says w e s → says' w e s) (from : (w : List ℕ) (e : Bool) (s : Said) → says' w e s → says w e s) where
@@ -184,21 +187,25 @@ module _ (P : Grammar) (mode : Mode) (limit : ℕ) where
   carried-back i k [] (m ∷ ms) w e text r h x = absurd h
   carried-back i k (root ∷ rs) [] w e text r h x = absurd h
 
+-- a run of stages that work by the same
+pub ran_as : (limit : ℕ) (ts us : List Teller) (block : ℕ) (source sink : StreamChange) (s : Status) → ts ≡ us → Ran (NodesSay (stage_plans limit ts)) block source sink s → Ran (NodesSay (stage_plans limit us)) block source sink s
+ran_as limit ts us block source sink s e r = subst (λ z. Ran (NodesSay (stage_plans limit z)) block source sink s) e r
+
 -- plans of machines give what the machines do
 module _ (states limit : ℕ) where
-  pub by_machines : (i : ℕ) (ms : List Graph) (w : List ℕ) (e : Bool) (text : List ℕ) (r : Option model.Report) → Pipeline (λ p v d a. Gives p v d a) i (stage_plans limit ms) w e text r → Pipeline (λ m v d a. MachineGives (running states) limit m v d a) i ms w e text r
+  pub by_machines : (i : ℕ) (ms : List Graph) (w : List ℕ) (e : Bool) (text : List ℕ) (r : Option model.Report) → Pipeline (λ p v d a. Gives p v d a) i (agreed_plans limit ms) w e text r → Pipeline (λ m v d a. MachineGives (running states) limit m v d a) i ms w e text r
   by_machines i [] w e text r x = x
   by_machines i (m ∷ ms) w e text r (a, rest, gives, others, is) = (a, rest, gives, by_machines (suc i) ms a.text a.ended text rest others, is)
 
-  pub by_plans : (i : ℕ) (ms : List Graph) (w : List ℕ) (e : Bool) (text : List ℕ) (r : Option model.Report) → Pipeline (λ m v d a. MachineGives (running states) limit m v d a) i ms w e text r → Pipeline (λ p v d a. Gives p v d a) i (stage_plans limit ms) w e text r
+  pub by_plans : (i : ℕ) (ms : List Graph) (w : List ℕ) (e : Bool) (text : List ℕ) (r : Option model.Report) → Pipeline (λ m v d a. MachineGives (running states) limit m v d a) i ms w e text r → Pipeline (λ p v d a. Gives p v d a) i (agreed_plans limit ms) w e text r
   by_plans i [] w e text r x = x
   by_plans i (m ∷ ms) w e text r (a, rest, gives, others, is) = (a, rest, gives, by_plans (suc i) ms a.text a.ended text rest others, is)
 
-  pub run_by_machines : (ms : List Graph) (block : ℕ) (source sink : StreamChange) (s : Status) → 0 < length ms → Ran (NodesSay (stage_plans limit ms)) block source sink s → Ran (MachinesSay (running states) limit ms) block source sink s
+  pub run_by_machines : (ms : List Graph) (block : ℕ) (source sink : StreamChange) (s : Status) → 0 < length ms → Ran (NodesSay (agreed_plans limit ms)) block source sink s → Ran (MachinesSay (running states) limit ms) block source sink s
   run_by_machines ms block source sink s some r =
       ran_alike _ _
       (λ w e said h. (some, by_machines 1 ms w e said.text (report_as said.report) h.1))
-      (λ w e said h. ((let n = length-map ms (plan_at limit) in omega arith), by_plans 1 ms w e said.text (report_as said.report) h.1))
+      (λ w e said h. ((let n = as-many-plans limit ms in omega arith), by_plans 1 ms w e said.text (report_as said.report) h.1))
       block source sink s r
 
 as-many : (P : Grammar) (k : ℕ) (rs : List ℕ) (ms : List Graph) → AreStages P k rs ms → length ms ≡ length rs
@@ -231,16 +238,16 @@ one-machine limits text plans p asked =
     let few = p.accepts.one_stage asked in
     omega arith
 
-pub first-limit : (limit : ℕ) (ms : List Graph) → 0 < length ms → first_limit (λ p. p.limit) (stage_plans limit ms) ≡ limit
+pub first-limit : (limit : ℕ) (stages : List Teller) → 0 < length stages → first_limit (λ p. p.limit) (stage_plans limit stages) ≡ limit
 first-limit limit [] lt = absurd (omega arith)
-first-limit limit (m ∷ ms) lt = refl
+first-limit limit (t ∷ stages) lt = refl
 
 pub first-of : {S P : Type 0} (plan : S → P) (limit : P → ℕ) (ss : List S) → first_limit (λ s. limit (plan s)) ss ≡ first_limit limit (map plan ss)
 first-of plan limit [] = refl
 first-of plan limit (s ∷ ss) = refl
 
 module _ (mode : Mode) (limit : ℕ) (ms : List Graph) (block : ℕ) (source sink : StreamChange) (s : Status) where
-  pub ran_by : (states : ℕ) → mode ≡ running states → 0 < length ms → Ran (NodesSay (stage_plans limit ms)) block source sink s → Ran (MachinesSay mode limit ms) block source sink s
+  pub ran_by : (states : ℕ) → mode ≡ running states → 0 < length ms → Ran (NodesSay (agreed_plans limit ms)) block source sink s → Ran (MachinesSay mode limit ms) block source sink s
   ran_by states is some r = subst (λ m. Ran (MachinesSay m limit ms) block source sink s) (sym is) (run_by_machines states limit ms block source sink s some r)
 
 -- one stage by itself
@@ -348,7 +355,7 @@ checked name states texts reads plans source sink s h l q =
     }
     )
 
-pub tried : (lines block : ℕ) (rings : Option ℕ) (texts : Option Texts) (reads : Option Reads) (plans : Plans) (counts : TrialCounts) (source sink : StreamChange) (s : Status) → IsCompiled (limits_to_check usual_states) trial_text plans → AreTrialCounts (NodesSay (stage_plans most_input plans.stages)) lines counts → IsAsBefore source → TellsBytes (trial_line counts) sink s → CommandAnswers (ToTry lines block rings) texts reads source sink s
+pub tried : (lines block : ℕ) (rings : Option ℕ) (texts : Option Texts) (reads : Option Reads) (plans : Plans) (counts : TrialCounts) (source sink : StreamChange) (s : Status) → IsCompiled (limits_to_check usual_states) trial_text plans → AreTrialCounts (NodesSay (agreed_plans most_input plans.stages)) lines counts → IsAsBefore source → TellsBytes (trial_line counts) sink s → CommandAnswers (ToTry lines block rings) texts reads source sink s
 tried lines block rings texts reads plans counts source sink s p sums l q =
     begun (ToTry lines block rings) texts reads source sink s (
     record {

@@ -13,6 +13,7 @@ use Rattle.kex_sst.specs.Tables.{Transducer}
 use Rattle.kex_determine.specs.Determined.{IsDetermined}
 use Rattle.kex_lowering.proofs.States.{same_states}
 use Rattle.kex_stage.specs.Plans.{Planned, machine_of}
+use Rattle.kex_stage.specs.declared.plan.Telling.{Telling}
 use Rattle.kex_compile.specs.Compiled.{HasMachines, IsCompiled}
 use Rattle.kex_compile.specs.Stages.{AreStages, AreTabled, CanRun, HasTableIf, HasTooManyStates, IsStage, Plans, roots_of, table_of}
 use Rattle.kex_compile.specs.declared.limits.Limits.{Limits}
@@ -38,14 +39,14 @@ pub record HasOwnTable (n : ℕ) (p : Planned) : Type 0 where
   pub few : length table.states ≤ n
 
 module _ (limits : Limits) (P : Grammar) (asked : limits.tables ≡ true) where
-  own-table : (root i : ℕ) (m : Graph) (o : Option Transducer) → IsStage P root i m → (HasTooManyStates limits P root → ⊥) → HasTableIf true m o → HasOwnTable limits.states (record { machine = m; table = o })
-  own-table root i m None s few h = absurd h
-  own-table root i m (Some t) s few h = record { table = t; is = refl; of_machine = h.0; determined = h.1; few = few-states P root i limits.states m t s h.1 few }
+  own-table : (root i : ℕ) (m : Graph) (o : Option Transducer) (k : Telling) → IsStage P root i m → (HasTooManyStates limits P root → ⊥) → HasTableIf true m o → HasOwnTable limits.states (record { machine = m; table = o; telling = k })
+  own-table root i m None k s few h = absurd h
+  own-table root i m (Some t) k s few h = record { table = t; is = refl; of_machine = h.0; determined = h.1; few = few-states P root i limits.states m t s h.1 few }
 
   pub own-tables : (i : ℕ) (rs : List ℕ) (ps : List Planned) → ((r : ℕ) → IsAmong rs r → HasTooManyStates limits P r → ⊥) → AreStages P i rs (map machine_of ps) → AreTabled limits (map machine_of ps) (map table_of ps) → (p : Planned) → IsAmong ps p → HasOwnTable limits.states p
   own-tables i rs [] few s h p a = absurd a
   own-tables i [] (q ∷ ps) few s h p a = absurd s
-  own-tables i (r ∷ rs) (q ∷ ps) few s h p (inl same) = subst (λ z. HasOwnTable limits.states z) same (own-table r i q.machine q.table s.0 (few r (inl refl)) (subst (λ b. HasTableIf b q.machine q.table) asked h.0))
+  own-tables i (r ∷ rs) (q ∷ ps) few s h p (inl same) = subst (λ z. HasOwnTable limits.states z) same (own-table r i q.machine q.table q.telling s.0 (few r (inl refl)) (subst (λ b. HasTableIf b q.machine q.table) asked h.0))
   own-tables i (r ∷ rs) (q ∷ ps) few s h p (inr more) = own-tables (suc i) rs ps (λ z among. few z (inr among)) s.1 h.1 p more
 
 -- the plans of a text, with their tables

@@ -16,7 +16,7 @@ use Rattle.kex_top.specs.Answer.{Said}
 use Rattle.kex_top.specs.ByLines.{EndsByLines, LinesSay, NodesSayLines, RanByLines, SaysLines, line_block}
 use Rattle.kex_top.specs.Kex.{CommandAnswers}
 use Rattle.kex_top.specs.Modes.{limits_to_check}
-use Rattle.kex_top.specs.Pipelines.{stage_plans}
+use Rattle.kex_top.specs.Pipelines.{agreed_plans}
 use Rattle.kex_top.specs.Refusals.{HasPlans}
 use Rattle.kex_top.specs.declared.status.Status.{Status}
 use Rattle.kex_top.specs.declared.status.Status.TheVariants.{Done, Rejected, Usage, Refused, ReadFault, WriteFault, ShelfFault, Memory, TooLong, InputTooLong}
@@ -52,7 +52,7 @@ module _ {A B : Type 0} (G : A → List ℕ → Bool → Answer → Type 0) (H :
   pub lines_say_alike : (w : List ℕ) (e : Bool) (said : Said) → LinesSay G xs w e said → LinesSay H ys w e said
   lines_say_alike w e said h = record { texts = h.texts; answers = answers_alike _ h.texts h.answers; text = h.text; unreported = h.unreported }
 
-pub line_served : (name : List ℕ) (states limit workers : ℕ) (texts : Option Texts) (reads : Option Reads) (plans : Plans) (source sink : StreamChange) (s : Status) → HasPlans (limits_to_check states) (told_of texts name) plans → RanByLines (NodesSayLines (stage_plans limit plans.stages)) (last_given line_block reads) source sink s → CommandAnswers (ToEach name states limit workers) texts reads source sink s
+pub line_served : (name : List ℕ) (states limit workers : ℕ) (texts : Option Texts) (reads : Option Reads) (plans : Plans) (source sink : StreamChange) (s : Status) → HasPlans (limits_to_check states) (told_of texts name) plans → RanByLines (NodesSayLines (agreed_plans limit plans.stages)) (last_given line_block reads) source sink s → CommandAnswers (ToEach name states limit workers) texts reads source sink s
 line_served name states limit workers texts reads plans source sink s h r =
     let p = h.compiled in
     let P = p.program in
@@ -64,10 +64,10 @@ line_served name states limit workers texts reads plans source sink s h r =
       is_told = h.is_told;
       program = P;
       works = p.accepts;
-      performs = lines_alike (NodesSayLines (stage_plans limit ms)) (SaysLines P limit)
-          (λ w e said k. lines_say_alike (λ q v d a. Gives q v d a) (λ root v d a. StageAnswers P root limit v d a) (stage_plans limit ms) roots
+      performs = lines_alike (NodesSayLines (agreed_plans limit ms)) (SaysLines P limit)
+          (λ w e said k. lines_say_alike (λ q v d a. Gives q v d a) (λ root v d a. StageAnswers P root limit v d a) (agreed_plans limit ms) roots
           (λ l t o x. carried P (running states) limit 1 1 roots ms l true t o p.plans_of.stages (by_machines states limit 1 ms l true t o x)) w e said k)
-          (λ w e said k. lines_say_alike (λ root v d a. StageAnswers P root limit v d a) (λ q v d a. Gives q v d a) roots (stage_plans limit ms)
+          (λ w e said k. lines_say_alike (λ root v d a. StageAnswers P root limit v d a) (λ q v d a. Gives q v d a) roots (agreed_plans limit ms)
           (λ l t o x. by_plans states limit 1 ms l true t o (carried-back P (running states) limit 1 1 roots ms l true t o p.plans_of.stages x)) w e said k)
           (last_given line_block reads) source sink s r;
     }

@@ -19,12 +19,12 @@ use Rattle.kex_words.specs.Words.Mode.{running}
 use Rattle.kex_top.specs.Commands.{Filed, TellsBytes}
 use Rattle.kex_top.specs.Kex.{CommandAnswers}
 use Rattle.kex_top.specs.Modes.{limits_to_check}
-use Rattle.kex_top.specs.Pipelines.{Answered, NodesSay, stage_plans}
+use Rattle.kex_top.specs.Pipelines.{Answered, NodesSay, agreed_plans}
 use Rattle.kex_top.specs.Refusals.{HoldsStages, limits_in_file}
 use Rattle.kex_top.specs.Run.{IsAsBefore, Ran}
 use Rattle.kex_top.specs.declared.status.Status.{Status}
 use Rattle.kex_top.proofs.FiledStages.{holds-program}
-use Rattle.kex_top.proofs.CallAnswers.{begun, by_machines, by_plans, carried, carried-back, plan_at, ran_alike, some-stage}
+use Rattle.kex_top.proofs.CallAnswers.{as-many-plans, begun, by_machines, by_plans, carried, carried-back, ran_alike, some-stage}
 
 -- a file that is told of the program's text
 pub filed : (name : List ℕ) (states : ℕ) (texts : Option Texts) (reads : Option Reads) (text : List ℕ) (plans : Plans) (source sink : StreamChange) (s : Status) → IsTold (told_of texts name) text → IsCompiled (limits_to_check states) text plans → IsAsBefore source → (file : List ℕ) → Filed text (λ bytes. bytes ≡ file) → TellsBytes file sink s → CommandAnswers (ToCompile name states) texts reads source sink s
@@ -48,19 +48,19 @@ pub some-held : (told : ShelfText) (ms : List Graph) → HoldsStages told ms →
 some-held told ms h = some-stage limits_in_file h.holds.good.text h.program ms h.holds.accepts h.stages
 
 -- a run over the stages that a file holds
-pub executed : (name : List ℕ) (reach : Reach) (texts : Option Texts) (reads : Option Reads) (ms : List Graph) (source sink : StreamChange) (s : Status) → HoldsStages (told_of texts name) ms → Ran (NodesSay (stage_plans reach.max_input ms)) (last_given reach.block reads) source sink s → CommandAnswers (ToExec name reach) texts reads source sink s
+pub executed : (name : List ℕ) (reach : Reach) (texts : Option Texts) (reads : Option Reads) (ms : List Graph) (source sink : StreamChange) (s : Status) → HoldsStages (told_of texts name) ms → Ran (NodesSay (agreed_plans reach.max_input ms)) (last_given reach.block reads) source sink s → CommandAnswers (ToExec name reach) texts reads source sink s
 executed name reach texts reads ms source sink s h r =
     let P = h.program in
     let limit = reach.max_input in
     let some = some-held (told_of texts name) ms h in
-    let long = length-map ms (plan_at limit) in
+    let long = as-many-plans limit ms in
     begun (ToExec name reach) texts reads source sink s (
     record {
       text = h.file;
       is_told = h.is_told;
       program = P;
       works = h.holds;
-      performs = ran_alike (NodesSay (stage_plans limit ms)) (Answered P limit)
+      performs = ran_alike (NodesSay (agreed_plans limit ms)) (Answered P limit)
           (λ w e said k. carried P (running 0) limit 1 1 (roots_of P) ms w e said.text (report_as said.report) h.stages (by_machines 0 limit 1 ms w e said.text (report_as said.report) k.1))
           (λ w e said k. (omega (arith, some, long), by_plans 0 limit 1 ms w e said.text (report_as said.report) (carried-back P (running 0) limit 1 1 (roots_of P) ms w e said.text (report_as said.report) h.stages k)))
           (last_given reach.block reads) source sink s r;

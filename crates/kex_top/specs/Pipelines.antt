@@ -6,7 +6,9 @@ use Rattle.kex_model.specs.Answers.{Answer, Pipeline, Means}
 use Rattle.kex_model.specs.Laws.{StageAnswers}
 use Rattle.kex_machine.specs.Nodes.{Graph}
 use Rattle.kex_pipe.specs.Reports.{report_as}
+use Rattle.kex_stage.specs.Plans.{Teller, tellers}
 use Rattle.kex_stage.specs.Stages.{StagePlan, Gives}
+use Rattle.kex_stage.specs.declared.plan.Telling.TheVariants as telling
 use Rattle.kex_compile.specs.Stages.{roots_of}
 use Rattle.kex_top.specs.Answer.{Said}
 
@@ -37,9 +39,13 @@ abbrev pub first_limit : {T : Type 0} → (T → ℕ) → List T → ℕ
 first_limit limit [] = 0
 first_limit limit (p ∷ ps) = limit p
 
--- the plans of machines, each within the limit
-abbrev pub stage_plans : ℕ → List Graph → List StagePlan
-stage_plans limit machines = map (λ m. record { machine = m; limit = limit }) machines
+-- the plans of stages that work by these, each within the limit
+abbrev pub stage_plans : ℕ → List Teller → List StagePlan
+stage_plans limit stages = map (λ t. record { machine = t; limit = limit }) stages
+
+-- those of machines of which what is agreed is told
+abbrev pub agreed_plans : ℕ → List Graph → List StagePlan
+agreed_plans limit machines = stage_plans limit (tellers telling.Agreed machines)
 
 -- over the nodes of machines
 abbrev pub NodesSay : List StagePlan → List ℕ → Bool → Said → Type 0

@@ -4,6 +4,7 @@ ghost use Rattle.std.specs.Prelude.{OnOk, length};
 ghost use Rattle.kex_ports.specs.Endings.{IsUnfinished};
 ghost use Rattle.kex_ports.specs.Reads.{Asks, last_given};
 ghost use Rattle.kex_ports.specs.Shelf.{told_of};
+ghost use Rattle.kex_stage.specs.declared.plan.Telling.TheVariants as telling;
 ghost use Rattle.kex_each.specs.Lines.{IsBegunBehind, begun_behind, lines_behind, line_if_some};
 ghost use Rattle.kex_words.specs.Gains.{change_of};
 ghost use Rattle.kex_words.specs.Words.Asked.{ToEach};
@@ -11,7 +12,7 @@ ghost use Rattle.kex_top.specs.ByLines.{NodesSayLines, PumpedByLines, RanByLines
 ghost use Rattle.kex_top.specs.Kex.{CommandAnswers};
 ghost use Rattle.kex_top.specs.LineWrites.{PassesLines};
 ghost use Rattle.kex_top.specs.Outside.{Closes, IsSinkOpen, ReadsBlocks};
-ghost use Rattle.kex_top.specs.Pipelines.{stage_plans};
+ghost use Rattle.kex_top.specs.Pipelines.{agreed_plans};
 ghost use Rattle.kex_top.specs.Run.{TroubleCause};
 ghost use Rattle.kex_top.specs.Shelves.{ShelfAnswers, shelf_change_of};
 ghost use Rattle.kex_top.specs.Starts.{status_of_answer};
@@ -133,9 +134,10 @@ fn answer_lines<R: Threads + Sync, G: Gate + Sync, S: Source, K: Sink>(
     input: &mut S,
     output: &mut K,
 ) -> Result<Status, Memory>
-    requires { 0 < length compiled.now.stages }
+    requires some { 0 < length compiled.now.stages }
+    requires agreed { compiled.now.telling ≡ telling.Agreed }
     ensures ran { IfOk result (λ status.
-        RanByLines (NodesSayLines (stage_plans limits.max_input compiled.now.stages))
+        RanByLines (NodesSayLines (agreed_plans limits.max_input compiled.now.stages))
         (last_given line_block (S.reads input.new))
         (change_of S.rest S.faults input.old input.new)
         (change_of K.held K.faults output.old output.new) status) }

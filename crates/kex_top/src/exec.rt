@@ -1,7 +1,8 @@
 // The command that runs a table file.
 ghost use Rattle.std.specs.Prelude.{◌≡◌, IfErr, IfOk, map};
 ghost use Rattle.kex_ports.specs.Shelf.{told_of};
-ghost use Rattle.kex_stage.specs.Plans.{machine_of};
+ghost use Rattle.kex_stage.specs.Plans.{AllTell, machine_of};
+ghost use Rattle.kex_stage.specs.declared.plan.Telling.TheVariants as telling;
 ghost use Rattle.kex_words.specs.Gains.{change_of};
 ghost use Rattle.kex_words.specs.Words.{reach_of};
 ghost use Rattle.kex_words.specs.Words.Asked.{ToExec};
@@ -31,6 +32,7 @@ fn stages_in_file<H: Shelf>(alloc: Global, shelf: &mut H, name: &str) -> Result<
         (shelf_change_of H.faults H.breaks shelf.old shelf.new) result }
     ensures checked { IfOk result (λ checked.
         HoldsStages (told_of (H.texts shelf.old) name.now) (map machine_of checked)) }
+    ensures agreed { IfOk result (λ checked. AllTell telling.Agreed checked) }
     ensures none { IfErr result (λ why.
         HasNone a_table_file (told_of (H.texts shelf.old) name.now) why) }
 {

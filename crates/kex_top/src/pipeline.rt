@@ -2,7 +2,7 @@
 ghost use Rattle.std.specs.Prelude.{◌≡◌, ◌<◌, ◌++◌, List, ℕ, Some, IsSome, OnOk, IfOk, false, true};
 ghost use Rattle.std.specs.Prelude.{length, take};
 ghost use Rattle.std.proofs.Common.{ap};
-ghost use Rattle.kex_machine.proofs.NodeAnswers.{past_limit};
+ghost use Rattle.kex_stage.specs.StageLaws.{answering};
 ghost use Rattle.kex_model.specs.Answers.{Answer};
 ghost use Rattle.kex_top.specs.Fronts.{IsFront};
 ghost use Rattle.kex_top.specs.History.{StagesFed, History, bytes_passed, is_history_ended};
@@ -34,8 +34,8 @@ impl<'p> Limited for Stage<'p> {
 
     ghost by_plan = { λ s t e. ap (λ p. p.limit) e };
 
-    ghost past_limit = { λ s w a g lt. past_limit (⟦<Stage<'p> as Turn>⟧.plan s).machine
-        (⟦<Stage<'p> as Turn>⟧.plan s).limit g lt };
+    ghost past_limit = { λ s w a g lt. (answering (⟦<Stage<'p> as Turn>⟧.plan s).machine).past
+        (⟦<Stage<'p> as Turn>⟧.plan s).limit w false a g lt };
 }
 
 fn fate_of(report: Option<Rejected>) -> Fate

@@ -3,7 +3,8 @@ ghost use Rattle.std.specs.Prelude.{◌≡◌, ◌<◌, ◌∷◌, [], All, IfOk
 ghost use Rattle.std.specs.Prelude.{map, vec_len};
 ghost use Rattle.kex_ports.specs.Reads.{last_given};
 ghost use Rattle.kex_ports.specs.Shelf.{told_of};
-ghost use Rattle.kex_stage.specs.Plans.{machine_of};
+ghost use Rattle.kex_stage.specs.Plans.{teller_of};
+ghost use Rattle.kex_stage.specs.declared.plan.Telling.TheVariants as telling;
 ghost use Rattle.kex_words.specs.Gains.{change_of};
 ghost use Rattle.kex_words.specs.Words.{mode_of, reach_of};
 ghost use Rattle.kex_words.specs.Words.Asked.{ToStream};
@@ -44,7 +45,7 @@ pub(crate) fn stages_of<'p>(
 ) -> Result<Vec<Stage<'p>>, Memory>
     ensures count { IfOk result (λ stages. vec_len stages ≡ length plans.now) }
     ensures plans { IfOk result (λ stages. map ⟦<Stage<'p> as Turn>⟧.plan stages.items
-        ≡ stage_plans max_input (map machine_of plans.now)) }
+        ≡ stage_plans max_input (map teller_of plans.now)) }
     ensures unfed { IfOk result (λ stages.
         All (λ s. ⟦<Stage<'p> as Turn>⟧.stands s None) stages.items) }
     ensures answers { IfOk result (λ stages.
@@ -53,6 +54,7 @@ pub(crate) fn stages_of<'p>(
     let mut stages = Vec::new(alloc);
     'plans: for plan in plans {
         let _nodes = plan.machine().nodes();
+        let _table = plan.table();
         let stage = Stage::new(alloc, plan, max_input)?;
         stages.push(stage)?;
     }
@@ -68,7 +70,7 @@ pub(crate) fn pipe_of<'p>(
 ) -> Result<AnyPipe<Stage<'p>>, Memory>
     requires { 0 < length plans.now }
     ensures plans { IfOk result (λ pipe. plans_of ⟦<Stage<'p> as Turn>⟧ pipe
-        ≡ stage_plans max_input (map machine_of plans.now)) }
+        ≡ stage_plans max_input (map teller_of plans.now)) }
     ensures fresh { IfOk result (λ pipe. PipeStands ⟦<Stage<'p> as Turn>⟧ pipe None) }
     ensures says { IfOk result (λ pipe.
         AlwaysSays (PipeSays ⟦<Stage<'p> as Turn>⟧ (plans_of ⟦<Stage<'p> as Turn>⟧ pipe))) }
@@ -90,7 +92,7 @@ pub(crate) fn run_stages<R: Threads + Sync, G: Gate + Sync, S: Source, K: Sink>(
 ) -> Result<Status, Memory>
     requires { 0 < length plans.now }
     ensures ran { IfOk result (λ status.
-        Ran (NodesSay (stage_plans limits.max_input (map machine_of plans.now)))
+        Ran (NodesSay (stage_plans limits.max_input (map teller_of plans.now)))
         (last_given limits.block (S.reads input.new))
         (change_of S.rest S.faults input.old input.new)
         (change_of K.held K.faults output.old output.new) status) }
@@ -126,6 +128,7 @@ fn serve<R: Threads + Sync, G: Gate + Sync, S: Source, K: Sink>(
 ) -> Result<Status, Memory>
     requires some { 0 < length compiled.now.stages }
     requires one { (limits_of (mode_of mode)).one_stage ≡ true → length compiled.now.stages ≡ 1 }
+    requires agreed { compiled.now.telling ≡ telling.Agreed }
     ensures ran { IfOk result (λ status.
         Ran (MachinesSay (mode_of mode) limits.max_input compiled.now.stages)
         (last_given limits.block (S.reads input.new))

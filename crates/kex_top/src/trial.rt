@@ -3,6 +3,7 @@ ghost use Rattle.std.specs.Prelude.{◌≡◌, ◌≤◌, ◌<◌, ◌+◌, ◌^
 ghost use Rattle.std.specs.Prelude.{false, IfOk, OnOk, drop, length};
 ghost use Rattle.kex_ports.specs.Named.{Texts};
 ghost use Rattle.kex_ports.specs.Reads.{Reads};
+ghost use Rattle.kex_stage.specs.declared.plan.Telling.TheVariants as telling;
 ghost use Rattle.kex_words.specs.Form.{most_input};
 ghost use Rattle.kex_words.specs.Gains.{StreamChange, change_of};
 ghost use Rattle.kex_words.specs.Lines.{trial_line};
@@ -13,7 +14,7 @@ ghost use Rattle.kex_top.specs.History.{History, bytes_passed, is_history_ended}
 ghost use Rattle.kex_top.specs.Kex.{CommandAnswers};
 ghost use Rattle.kex_top.specs.Outside.{Closes};
 ghost use Rattle.kex_top.specs.Piped.{PipeSays, PipeStands, plans_of};
-ghost use Rattle.kex_top.specs.Pipelines.{NodesSay, stage_plans};
+ghost use Rattle.kex_top.specs.Pipelines.{NodesSay, agreed_plans};
 ghost use Rattle.kex_top.specs.Run.{IsAsBefore};
 ghost use Rattle.kex_top.specs.Starts.{status_of_answer};
 ghost use Rattle.kex_top.specs.Tallies.{Counts, HasWaiting, SumsUp};
@@ -158,9 +159,11 @@ fn sum_up<R: Threads + Sync, G: Gate + Sync>(
     compiled: &Compiled,
     lines: TrialLines,
 ) -> Result<TrialCounts, PipeFault>
-    requires { 0 < length compiled.now.stages }
+    requires some { 0 < length compiled.now.stages }
+    requires agreed { compiled.now.telling ≡ telling.Agreed }
     ensures { IfOk result (λ counts.
-        AreTrialCounts (NodesSay (stage_plans most_input compiled.now.stages)) lines.count counts) }
+        AreTrialCounts (NodesSay (agreed_plans most_input compiled.now.stages))
+        lines.count counts) }
 {
     let mut pipe = pipe_of(alloc, compiled.stages(), MOST_INPUT, lines.rings)?;
     let tally = give_lines(rt, gate, alloc, &mut pipe, lines)?;

@@ -1,6 +1,7 @@
 use Rattle.std.proofs.Common.{◌≡◌, ℕ, ◌≤◌, ◌++◌, [], List, length, map, refl, sym, ap, subst, ◌∙◌, arith}
 use Rattle.kex_machine.specs.Nodes.{Graph}
-use Rattle.kex_stage.specs.Plans.{machine_of}
+use Rattle.kex_stage.specs.Plans.{AllTell, machine_of}
+use Rattle.kex_stage.specs.declared.plan.Telling.TheVariants as telling
 use Rattle.kex_compile.specs.Compiled.{HasMachines}
 use Rattle.kex_tabfile.specs.Lines.{head_text}
 use Rattle.kex_tabfile.specs.Readers.{most_bytes}
@@ -47,6 +48,9 @@ returns-in_err-take_end-clause-refused c =
     let r = c.in_ok-plans.ensures.right in
     if_err c.from_residual-in_err-take_end.result e (λ e. IsTableRefused c.args.bytes.now e) c.from_residual-in_err-take_end.ensures.1
     (refused_end c.args.bytes.now c.in_ok-text.text.now (short at) c.take_head.new.reader (before at) (whole at) c.in_ok-machines.machines.items c.in_ok-machines.ensures.machines (map goes_in c.in_ok-plans.plans.items) r.0 r.1 c.take_stages.new.reader r.2 e c.in_err-take_end.ensures.bad)
+
+pub returns-clause-agreed : goal.returns-clause-agreed
+returns-clause-agreed c = subst (λ z. AllTell telling.Agreed z) (sym c.new.ensures) c.in_ok-plans.ensures.agreed
 
 pub returns-clause-good : goal.returns-clause-good
 returns-clause-good c =

@@ -3,7 +3,9 @@ use Rattle.std.proofs.lemmas.List.{map-append}
 use Rattle.kex_sst.specs.declared.table.Transition.{Transition}
 use Rattle.std.specs.Prelude.{Option}
 use Rattle.kex_machine.specs.Nodes.{Graph}
-use Rattle.kex_stage.specs.Plans.{Planned, machine_of}
+use Rattle.kex_stage.specs.Plans.{AllTell, Planned, machine_of}
+use Rattle.kex_stage.specs.declared.plan.Telling.TheVariants as telling
+use Rattle.kex_stage.proofs.ToldPlans.{tell_more}
 use Rattle.kex_tabfile.specs.TableFiles.{AreStageTexts, EachHasTable, goes_in, goes_of}
 use Rattle.kex_tabfile.proofs.ResultParts.{if_err}
 use Rattle.kex_tabfile.proofs.LineSteps.{read_on}
@@ -26,12 +28,13 @@ machines-preserved c =
     let t = c.in_ok-table.table in
     let so = l.invariant.so_far in
     let own = c.in_ok-table.ensures.right in
-    let plan : Planned = record { machine = g; table = Some t } in
+    let plan : Planned = record { machine = g; table = Some t; telling = telling.Agreed } in
     let pushed : c.push.new.self.items ≡ l.plans.items ++ plan ∷ [] = c.in_ok-push.ensures.items ∙ ap (λ (z : Planned). l.plans.items ++ z ∷ []) c.new.ensures in
     record {
       split = l.invariant.split ∙ ap (λ z. l.yielded ++ z) c.in-Some.ensures.steps.0 ∙ sym (append_assoc l.yielded (g ∷ []) c.next.new.self.rest.items);
       made = ap (λ z. map machine_of z) pushed ∙ map-append machine_of l.plans.items (plan ∷ []) ∙ ap (λ z. z ++ g ∷ []) l.invariant.made;
       tables = subst (λ z. EachHasTable z) (sym pushed) (tables_more l.plans.items g t l.invariant.tables c.in_ok-table.ensures.table);
+      agreed = subst (λ z. AllTell telling.Agreed z) (sym pushed) (tell_more telling.Agreed l.plans.items plan l.invariant.agreed refl);
       so_far = (
         so.0 ++ own.0,
         subst (λ z. AreStageTexts (l.yielded ++ g ∷ []) z (so.0 ++ own.0)) (sym (ap (λ z. map goes_in z) pushed ∙ map-append goes_in l.plans.items (plan ∷ [])))

@@ -1,5 +1,6 @@
 use Rattle.std.proofs.Common.{◌≡◌, ℕ, ◌++◌, List, map}
-use Rattle.kex_stage.specs.Plans.{machine_of}
+use Rattle.kex_stage.specs.Plans.{AllTell, machine_of}
+use Rattle.kex_stage.specs.declared.plan.Telling.TheVariants as telling
 use Rattle.kex_tabfile.specs.Readers.{ReadsBytes}
 use Rattle.kex_tabfile.specs.TableFiles.{AreStageTexts, EachHasTable, goes_in}
 use Rattle.kex_tabfile.proofs.check.take_stages.Given as goal
@@ -9,5 +10,6 @@ invariant-machines l = record {
   split : l.fn.machines.items ≡ l.yielded ++ l.machine-iterator.rest.items;
   made : map machine_of l.plans.items ≡ l.yielded;
   tables : EachHasTable l.plans.items;
+  agreed : AllTell telling.Agreed l.plans.items;
   so_far : (bytes : List ℕ) × AreStageTexts l.yielded (map goes_in l.plans.items) bytes × ReadsBytes l.fn.reader bytes l.reader;
 }

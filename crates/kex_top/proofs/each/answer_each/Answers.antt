@@ -1,4 +1,4 @@
-use Rattle.std.proofs.Common.{◌<◌, length, subst, sym}
+use Rattle.std.proofs.Common.{◌<◌, ◌∙◌, ap, length, subst, sym}
 use Rattle.kex_ports.specs.Shelf.{told_of}
 use Rattle.kex_compile.specs.Stages.{Plans}
 use Rattle.kex_top.specs.Refusals.{HasPlans}
@@ -6,10 +6,14 @@ use Rattle.kex_top.proofs.CallAnswers.{some-machine}
 use Rattle.kex_top.proofs.LineCommands.{line_served}
 use Rattle.kex_top.proofs.each.answer_each.Goals as goal
 
-pub answer_lines-requires-after_bounds : goal.answer_lines-requires-after_bounds
-answer_lines-requires-after_bounds g c = λ κs bounds.
+pub answer_lines-requires-clause-some : goal.answer_lines-requires-clause-some
+answer_lines-requires-clause-some g c = λ κs bounds.
     let h = c.in_ok-plans.ensures.plans in
     subst (λ (z : Plans). 0 < length z.stages) (sym c.in_ok-short.ensures) (some-machine c.limits_to_check-asked.result h.text c.in_ok-plans.plans h.compiled)
+
+pub answer_lines-requires-clause-agreed : goal.answer_lines-requires-clause-agreed
+answer_lines-requires-clause-agreed g c = λ κs bounds.
+    ap (λ (z : Plans). z.telling) c.in_ok-short.ensures ∙ c.in_ok-plans.ensures.plans.compiled.plans_of.agreed
 
 pub returns-clause-answers : goal.returns-clause-answers
 returns-clause-answers g c =

@@ -1,12 +1,16 @@
-use Rattle.std.proofs.Common.{rules, ◌≡◌, ◌∙◌, inr, true, false, ℕ, List, length, subst}
+use Rattle.std.proofs.Common.{rules, ◌≡◌, ◌∙◌, ap, inr, true, false, ℕ, List, length, subst}
 use Rattle.kex_ports.specs.Reads.{Asks, last_given}
+use Rattle.kex_stage.specs.Plans.{AllTell, tellers}
 use Rattle.kex_stage.specs.Stages.{StagePlan}
 use Rattle.kex_words.specs.Gains.{change}
 use Rattle.kex_top.specs.ByLines.{NodesSayLines, PumpedByLines, line_block}
-use Rattle.kex_top.specs.Pipelines.{stage_plans}
+use Rattle.kex_top.specs.Pipelines.{agreed_plans, stage_plans}
 use Rattle.kex_top.specs.Run.{is_whole}
 use Rattle.kex_top.proofs.LineRuns.{close_fails_by_lines, closed_by_lines, closes_by_lines, finish_alike, reads_by_lines, stays_open_by_lines}
 use Rattle.kex_top.proofs.each.answer_lines.Goals as goal
+
+pub new-requires-clause-told : goal.new-requires-clause-told
+new-requires-clause-told g c = subst (λ k. AllTell k c.stages-plans.result.now) c.requires.agreed c.stages-plans.ensures.told
 
 pub returns-clause-ran : goal.returns-clause-ran
 returns-clause-ran g c =
@@ -15,9 +19,9 @@ returns-clause-ran g c =
     (change (g.K.Sink.held c.args.output.now) (g.K.Sink.held c.pump_lines-status.new.output) (g.K.Sink.faults c.args.output.now) (g.K.Sink.faults c.pump_lines-status.new.output))
     c.pump_lines-status.result in
     let len : length c.deref_mut.result.now ≡ line_block = search rules in
-    let plans : c.in_ok-answers.answers.plans ≡ stage_plans c.args.limits.max_input c.args.compiled.now.stages = search rules in
+    let plans : c.in_ok-answers.answers.plans ≡ agreed_plans c.args.limits.max_input c.args.compiled.now.stages = c.in_ok-answers.ensures.plans ∙ ap (λ z. stage_plans c.args.limits.max_input z) (c.stages-plans.ensures.tellers ∙ ap (λ k. tellers k c.args.compiled.now.stages) c.requires.agreed) in
     let whole : is_whole c.pump_lines-status.result ≡ true = cc in
-    close_fails_by_lines (stage_plans c.args.limits.max_input c.args.compiled.now.stages) _ _ _ _ _ _ _ _ _
+    close_fails_by_lines (agreed_plans c.args.limits.max_input c.args.compiled.now.stages) _ _ _ _ _ _ _ _ _
     whole (subst (λ z. P z line_block) plans (subst (λ z. P c.in_ok-answers.answers.plans z) len c.pump_lines-status.ensures.pumped)) c.finish.ensures.held c.in-Err.ensures.cause.later c.in-Err.ensures.cause.failed
 
 pub returns-in-Ok-clause-ran : goal.returns-in-Ok-clause-ran
@@ -27,10 +31,10 @@ returns-in-Ok-clause-ran g c =
     (change (g.K.Sink.held c.args.output.now) (g.K.Sink.held c.pump_lines-status.new.output) (g.K.Sink.faults c.args.output.now) (g.K.Sink.faults c.pump_lines-status.new.output))
     c.pump_lines-status.result in
     let len : length c.deref_mut.result.now ≡ line_block = search rules in
-    let plans : c.in_ok-answers.answers.plans ≡ stage_plans c.args.limits.max_input c.args.compiled.now.stages = search rules in
+    let plans : c.in_ok-answers.answers.plans ≡ agreed_plans c.args.limits.max_input c.args.compiled.now.stages = c.in_ok-answers.ensures.plans ∙ ap (λ z. stage_plans c.args.limits.max_input z) (c.stages-plans.ensures.tellers ∙ ap (λ k. tellers k c.args.compiled.now.stages) c.requires.agreed) in
     let whole : is_whole c.pump_lines-status.result ≡ true = cc in
     let pumped = subst (λ z. P z line_block) plans (subst (λ z. P c.in_ok-answers.answers.plans z) len c.pump_lines-status.ensures.pumped) in
-    closed_by_lines (NodesSayLines (stage_plans c.args.limits.max_input c.args.compiled.now.stages)) _ _ _ _ _ _ _ _ _
+    closed_by_lines (NodesSayLines (agreed_plans c.args.limits.max_input c.args.compiled.now.stages)) _ _ _ _ _ _ _ _ _
     whole pumped.0 c.finish.ensures.held c.in-Ok.ensures.cause.kept
 
 -- ---- the calls to the source

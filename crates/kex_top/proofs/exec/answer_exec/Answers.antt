@@ -1,9 +1,12 @@
 use Rattle.std.proofs.Common.{◌<◌, ◌∙◌, arith, length, map, subst, sym}
 use Rattle.std.proofs.lemmas.List.{length-map}
 use Rattle.kex_ports.specs.Shelf.{told_of}
-use Rattle.kex_stage.specs.Plans.{machine_of}
+use Rattle.kex_stage.specs.Plans.{AllTell, machine_of, teller_of, tellers}
+use Rattle.kex_stage.specs.declared.plan.Telling.TheVariants as telling
+use Rattle.kex_stage.proofs.ToldPlans.{tellers_of}
 use Rattle.kex_words.specs.Words.{reach_of}
 use Rattle.kex_top.specs.Refusals.{HoldsStages}
+use Rattle.kex_top.proofs.CallAnswers.{ran_as}
 use Rattle.kex_top.proofs.TableCommands.{executed, some-held}
 use Rattle.kex_top.proofs.exec.answer_exec.Goals as goal
 
@@ -17,5 +20,7 @@ run_stages-requires-after_bounds g c = λ κs bounds.
 pub returns-clause-answers : goal.returns-clause-answers
 returns-clause-answers g c =
     let told = told_of (g.H.Shelf.texts c.args.shelf.now) c.args.table.now in
+    let same = c.stages.ensures.same ∙ c.in_ok-short.ensures in
+    let agreed = tellers_of telling.Agreed c.stages.result.now (subst (λ ps. AllTell telling.Agreed ps) (sym same) c.in_ok-checked.ensures.agreed) in
     executed c.args.table.now (reach_of c.args.limits) _ _ (map machine_of c.stages.result.now) _ _ c.in_ok-status.status
-    (subst (λ ps. HoldsStages told (map machine_of ps)) (sym (c.stages.ensures.same ∙ c.in_ok-short.ensures)) c.in_ok-checked.ensures.checked) c.in_ok-status.ensures.ran
+    (subst (λ ps. HoldsStages told (map machine_of ps)) (sym same) c.in_ok-checked.ensures.checked) (ran_as c.args.limits.max_input (map teller_of c.stages.result.now) (tellers telling.Agreed (map machine_of c.stages.result.now)) _ _ _ c.in_ok-status.status agreed c.in_ok-status.ensures.ran)

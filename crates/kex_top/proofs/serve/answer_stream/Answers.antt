@@ -17,6 +17,10 @@ serve-requires-clause-one g c = λ κs bounds one.
     let h = c.in_ok-plans.ensures.plans in
     subst (λ (z : Plans). length z.stages ≡ 1) (sym c.in_ok-short.ensures) (one-machine c.limits_of-asked.result h.text c.in_ok-plans.plans h.compiled (ap (λ (l : Limits). l.one_stage) c.limits_of-asked.ensures.value ∙ one))
 
+pub serve-requires-clause-agreed : goal.serve-requires-clause-agreed
+serve-requires-clause-agreed g c = λ κs bounds.
+    ap (λ (z : Plans). z.telling) c.in_ok-short.ensures ∙ c.in_ok-plans.ensures.plans.compiled.plans_of.agreed
+
 pub returns-clause-answers : goal.returns-clause-answers
 returns-clause-answers g c =
     let told = told_of (g.H.Shelf.texts c.args.shelf.now) c.args.program.now in

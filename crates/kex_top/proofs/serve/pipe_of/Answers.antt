@@ -1,6 +1,6 @@
 use Rattle.std.proofs.Common.{◌≡◌, ◌∙◌, ◌<◌, [], List, length, map, sym, ap, subst, arith}
 use Rattle.std.proofs.lemmas.List.{length-map}
-use Rattle.kex_stage.specs.Plans.{machine_of}
+use Rattle.kex_stage.specs.Plans.{teller_of}
 use Rattle.kex_stage.specs.Stages.{StagePlan}
 use Rattle.kex_stage.specs.contracts.stage.StageTurn.TheImpl.{ghosts}
 use Rattle.kex_top.specs.Piped.{AnyPipeStands, plans_of}
@@ -14,7 +14,7 @@ returns-clause-plans c = c.in_ok-pipe.ensures.plans ∙ c.in_ok-stages.ensures.p
 pub returns-clause-fresh : goal.returns-clause-fresh
 returns-clause-fresh c =
     let pipe = c.in_ok-pipe.pipe in
-    let long : length (plans_of ghosts pipe) ≡ length c.args.plans.now = ap (λ (z : List StagePlan). length z) (returns-clause-plans c) ∙ length-map (map machine_of c.args.plans.now) (λ m. record { machine = m; limit = c.args.max_input }) ∙ length-map c.args.plans.now machine_of in
+    let long : length (plans_of ghosts pipe) ≡ length c.args.plans.now = ap (λ (z : List StagePlan). length z) (returns-clause-plans c) ∙ length-map (map teller_of c.args.plans.now) (λ t. record { machine = t; limit = c.args.max_input }) ∙ length-map c.args.plans.now teller_of in
     (let lt : 0 < length (plans_of ghosts pipe) = omega (arith, long, c.requires) in lt, subst (λ ps. AnyPipeStands ghosts ps pipe [] []) (sym c.in_ok-pipe.ensures.plans) c.in_ok-pipe.ensures.stands)
 
 pub returns-clause-says : goal.returns-clause-says

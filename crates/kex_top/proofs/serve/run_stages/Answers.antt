@@ -3,7 +3,7 @@ use Rattle.std.proofs.lemmas.List.{length-map}
 use Rattle.std.specs.Prelude.{IfOk}
 use Rattle.kex_ports.specs.Reads.{last_given}
 use Rattle.kex_words.specs.Gains.{change}
-use Rattle.kex_stage.specs.Plans.{machine_of}
+use Rattle.kex_stage.specs.Plans.{teller_of}
 use Rattle.kex_stage.specs.Stages.{StagePlan}
 use Rattle.kex_top.specs.Piped.{stages_of}
 use Rattle.kex_top.specs.Pipelines.{NodesSay, first_limit}
@@ -15,10 +15,10 @@ use Rattle.kex_top.proofs.serve.run_stages.Goals as goal
 pub run-requires-clause-limit : goal.run-requires-clause-limit
 run-requires-clause-limit g c = λ κs bounds.
     let limit : StagePlan → ℕ = λ p. p.limit in
-    let machines = map machine_of c.args.plans.now in
-    let long = length-map c.args.plans.now machine_of in
-    let some : 0 < length machines = omega (arith, long, c.requires) in
-    first-of ghosts.plan limit (stages_of ghosts c.in_ok-pipe.pipe) ∙ ap (λ (ps : List StagePlan). first_limit limit ps) c.in_ok-pipe.ensures.plans ∙ first-limit c.args.limits.max_input machines some
+    let tellers = map teller_of c.args.plans.now in
+    let long = length-map c.args.plans.now teller_of in
+    let some : 0 < length tellers = omega (arith, long, c.requires) in
+    first-of ghosts.plan limit (stages_of ghosts c.in_ok-pipe.pipe) ∙ ap (λ (ps : List StagePlan). first_limit limit ps) c.in_ok-pipe.ensures.plans ∙ first-limit c.args.limits.max_input tellers some
 
 pub returns-clause-ran : goal.returns-clause-ran
 returns-clause-ran g c =

@@ -1,7 +1,8 @@
-use Rattle.std.proofs.Common.{List, ap, subst}
+use Rattle.std.proofs.Common.{List, ap, subst, ◌∙◌}
 use Rattle.std.proofs.lemmas.Result.{IfOk-weaker}
 use Rattle.std.specs.Prelude.{IfOk}
-use Rattle.kex_machine.specs.Nodes.{Graph}
+use Rattle.kex_stage.specs.Plans.{Teller, tellers}
+use Rattle.kex_stage.specs.declared.plan.Telling.TheVariants as telling
 use Rattle.kex_ports.specs.Reads.{last_given}
 use Rattle.kex_words.specs.Gains.{change}
 use Rattle.kex_words.specs.Words.{mode_of}
@@ -19,8 +20,9 @@ returns-in-Run-clause-ran g c =
     let last = last_given c.args.limits.block (g.S.Source.reads c.run_stages.new.input) in
     let source = change (g.S.Source.rest c.args.input.now) (g.S.Source.rest c.run_stages.new.input) (g.S.Source.faults c.args.input.now) (g.S.Source.faults c.run_stages.new.input) in
     let sink = change (g.K.Sink.held c.args.output.now) (g.K.Sink.held c.run_stages.new.output) (g.K.Sink.faults c.args.output.now) (g.K.Sink.faults c.run_stages.new.output) in
-    let By : List Graph → Status → Type 0 = λ ms s. Ran (NodesSay (stage_plans max ms)) last source sink s in
+    let By : List Teller → Status → Type 0 = λ ts s. Ran (NodesSay (stage_plans max ts)) last source sink s in
     let In : Status → Type 0 = λ s. Ran (MachinesSay mode max c.args.compiled.now.stages) last source sink s in
-    IfOk-weaker c.run_stages.result (By c.args.compiled.now.stages) In
+    let agreed = tellers telling.Agreed c.args.compiled.now.stages in
+    IfOk-weaker c.run_stages.result (By agreed) In
     (λ s r. ran_by mode max c.args.compiled.now.stages last source sink s _ (ap mode_of c.in-Run.is) c.requires.some r)
-    (subst (λ ms. IfOk c.run_stages.result (By ms)) c.stages.ensures.same c.run_stages.ensures.ran)
+    (subst (λ ts. IfOk c.run_stages.result (By ts)) (c.stages.ensures.tellers ∙ ap (λ k. tellers k c.args.compiled.now.stages) c.requires.agreed) c.run_stages.ensures.ran)

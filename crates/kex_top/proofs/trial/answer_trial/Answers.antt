@@ -1,4 +1,4 @@
-use Rattle.std.proofs.Common.{◌≡◌, ◌<◌, length, refl, subst, sym, inl}
+use Rattle.std.proofs.Common.{◌≡◌, ◌<◌, ◌∙◌, ap, length, refl, subst, sym, inl}
 use Rattle.std.proofs.lemmas.Result.{err_from_is_err_and}
 use Rattle.kex_compile.specs.Compiled.{IsCompiled, IsRefused}
 use Rattle.kex_compile.specs.Stages.{Plans}
@@ -12,8 +12,11 @@ use Rattle.kex_top.specs.Trials.{trial_text, usual_states}
 use Rattle.kex_top.proofs.CallAnswers.{some-machine, tried, unbegun, unplanned}
 use Rattle.kex_top.proofs.trial.answer_trial.Goals as goal
 
-pub sum_up-requires-after_bounds : goal.sum_up-requires-after_bounds
-sum_up-requires-after_bounds g c = λ κs bounds. subst (λ (z : Plans). 0 < length z.stages) (sym c.in_ok-short.ensures) (some-machine c.limits_to_check-asked.result c.as_bytes.result.now c.in_ok-plans.plans c.in_ok-plans.ensures.plans)
+pub sum_up-requires-clause-some : goal.sum_up-requires-clause-some
+sum_up-requires-clause-some g c = λ κs bounds. subst (λ (z : Plans). 0 < length z.stages) (sym c.in_ok-short.ensures) (some-machine c.limits_to_check-asked.result c.as_bytes.result.now c.in_ok-plans.plans c.in_ok-plans.ensures.plans)
+
+pub sum_up-requires-clause-agreed : goal.sum_up-requires-clause-agreed
+sum_up-requires-clause-agreed g c = λ κs bounds. ap (λ (z : Plans). z.telling) c.in_ok-short.ensures ∙ c.in_ok-plans.ensures.plans.plans_of.agreed
 
 pub returns-in_err-plans-clause-answers : goal.returns-in_err-plans-clause-answers
 returns-in_err-plans-clause-answers g c = λ texts reads source left.
