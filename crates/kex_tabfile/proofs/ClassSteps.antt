@@ -1,8 +1,8 @@
 -- How a tree goes on with all bytes of a class alike.
-use Rattle.std.proofs.Common.{◌≡◌, ℕ, suc, ◌+◌, ◌<◌, List, [], ◌∷◌, ◌++◌, Option, Some, None, length, refl, sym, ap, ap₂, subst, ◌∙◌, arith}
+use Rattle.std.proofs.Common.{◌≡◌, ℕ, ◌+◌, ◌<◌, List, [], ◌∷◌, ◌++◌, Option, Some, None, length, refl, sym, ap, ap₂, subst, ◌∙◌, arith}
 use Rattle.std.specs.Prelude.{IfSome, MatchOption}
 use Rattle.kex_byteset.specs.Classes.{class_count}
-use Rattle.kex_model.specs.Labelled.{Labelled, tip, fork, labels_of, Shape, place, parts, shape_of, size_of, Grown}
+use Rattle.kex_model.specs.Labelled.{Labelled, tip, fork, labels_of, Shape, shape_of, size_of, Grown}
 use Rattle.kex_machine.specs.Nodes.{Graph, HasClasses}
 use Rattle.kex_sst.specs.declared.parts.Part.{Part}
 use Rattle.kex_sst.specs.Parts.{Change}
@@ -58,3 +58,7 @@ next_by g classes classed k lt s (Some (t, u)) m h =
       f.2,
       f.3,
     )
+
+-- what comes of a tree of this machine and shape
+pub next_of : (g : Graph) (classes : List ℕ) → HasClasses g.nodes classes → (k : ℕ) → k < class_count classes → (tree : Outline) → tree.machine ≡ g → (s : Shape ℕ) → IsOfShape tree s → (r : Option (Outline × Change)) → IfSome r (λ n. n.0.machine ≡ tree.machine) → ((s : Shape ℕ) (b : ℕ) → IsOfShape tree s → HasClass tree.machine k b → MatchOption r (IsNext tree.machine b s None) (λ n. FollowsTree n.0 b s n.1)) → NextBy g k s r
+next_of g classes classed k lt tree is s shape r m h = subst (λ z. NextBy z k s r) is (next_by tree.machine classes (subst (λ z. HasClasses z.nodes classes) (sym is) classed) k lt s r m (λ b has. h s b shape has))

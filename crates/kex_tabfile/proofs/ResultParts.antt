@@ -1,7 +1,7 @@
 -- Clauses on results, carried over.
 use Rattle.std.proofs.Common.{◌≡◌, Option, Some, None, Result, Ok, Err, refl, sym, subst}
 use Rattle.std.specs.Result.{IsErrAnd, IfErr, IfOk}
-use Rattle.std.specs.Prelude.{OnOk, IfSome, IfNone}
+use Rattle.std.specs.Prelude.{OnOk, IfSome, IfNone, IsSome}
 
 pub if_err : {A B : Type 0} (r : Result A B) (b : B) (Q : B → Type 0) → IsErrAnd r (λ e. e ≡ b) → Q b → IfErr r Q
 if_err (Ok v) b Q is q = absurd is
@@ -26,3 +26,12 @@ if_some (Some x) Q f = f x refl
 pub if_none : {A : Type 0} (r : Option A) (Q : Type 0) → (r ≡ None → Q) → IfNone r Q
 if_none None Q f = f refl
 if_none (Some x) Q f = tt
+
+-- what can't be none is there
+pub is_there : {A : Type 0} (r : Option A) (P : Type 0) → IfNone r P → (P → ⊥) → IsSome r
+is_there None P h not = absurd (not h)
+is_there (Some x) P h not = refl
+
+-- what holds of what is there
+pub of_some : {A : Type 0} (r : Option A) (Q : A → Type 0) (x : A) → r ≡ Some x → IfSome r Q → Q x
+of_some r Q x e h = subst (λ o. IfSome o Q) e h

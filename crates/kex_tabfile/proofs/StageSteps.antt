@@ -1,21 +1,19 @@
 -- What the lines of a stage tell, one after the other.
-use Rattle.std.proofs.Common.{◌≡◌, ℕ, suc, ◌+◌, ◌<◌, ◌≤◌, List, [], ◌∷◌, ◌++◌, ◌⊎◌, inl, inr, ⊎_elim, Bool, true, false, Option, Some, None, length, refl, sym, ap, subst, ◌∙◌, append_assoc, length-append, arith}
-use Rattle.std.specs.Prelude.{slice_get}
+use Rattle.std.proofs.Common.{◌≡◌, ℕ, suc, ◌+◌, ◌<◌, ◌≤◌, List, [], ◌∷◌, ◌++◌, inl, inr, ⊎_elim, Bool, true, false, Option, Some, length, refl, sym, ap, subst, ◌∙◌, length-append, arith}
 use Rattle.kex_byteset.specs.Classes.{class_count}
 use Rattle.kex_code.specs.Codes.{IsAmong}
 use Rattle.kex_model.specs.Labelled.{Shape, shape_of, Grown}
-use Rattle.kex_model.proofs.Tables.{get_more, get_last, get_pushed}
+use Rattle.kex_model.proofs.Tables.{get_pushed}
 use Rattle.kex_machine.specs.Nodes.{Graph}
 use Rattle.kex_sst.specs.declared.parts.Part.{Part}
 use Rattle.kex_sst.specs.declared.table.Transition.{Transition}
-use Rattle.kex_sst.specs.Parts.{Change}
 use Rattle.kex_sst.specs.Tables.{Row}
 use Rattle.kex_paths.specs.Nexts.{Outline, IsFirstTree, IsOfShape}
 use Rattle.kex_tabfile.specs.Lines.{stage_line}
 use Rattle.kex_tabfile.specs.Readers.{ReadSoFar, ReadsBytes}
 use Rattle.kex_tabfile.specs.TableFiles.{goes_of}
-use Rattle.kex_tabfile.specs.Walks.{Target, Told, Spot, at_stage, at_state, at_init, at_class, behind_state, told_first, MeetsTarget, GoesByClass, IsRightLine, right_stage, right_state, right_init, right_go, HasNoLine, class_over, state_over, WalksLines, stays, passes_by, reads_line, IsThrough, AreNumbersOf, most_table_states}
-use Rattle.kex_tabfile.specs.Checking.{AreTargets, NextBy, AreNexts, Checks, BreaksReading, BreaksStage, ChecksAt, HasEnds, EachHasEnds}
+use Rattle.kex_tabfile.specs.Walks.{Target, Told, Spot, at_stage, at_state, at_init, at_class, behind_state, told_first, MeetsTarget, IsRightLine, right_stage, right_state, right_init, right_go, HasNoLine, class_over, state_over, WalksLines, stays, passes_by, reads_line, IsThrough, AreNumbersOf, most_table_states}
+use Rattle.kex_tabfile.specs.Checking.{AreTargets, Checks, BreaksReading, BreaksStage, ChecksAt, HasEnds, EachHasEnds}
 use Rattle.kex_tabfile.specs.declared.refusal.TableRefusal.{TableRefusal}
 use Rattle.kex_tabfile.specs.declared.refusal.TableRefusal.TheVariants.{TableTooLong, BadTable, Text, Memory}
 use Rattle.kex_tabfile.proofs.LineSteps.{checks_on, checks_line, checks_passed, breaks_later}
@@ -23,71 +21,6 @@ use Rattle.kex_tabfile.proofs.TableRows.{target, still_among, IsTold, told_by}
 
 abbrev Go : Type 0
 Go = List (Option Transition)
-
-pub none_long : {A : Type 0} (xs : List A) → length xs ≡ 0 → xs ≡ []
-none_long [] e = refl
-none_long (x ∷ xs) e = absurd (omega (arith, e))
-
-pub none_left : {A : Type 0} (all xs ys : List A) → all ≡ xs ++ ys → length ys ≡ 0 → length all ≡ length xs
-none_left all xs ys e n = omega (arith, ap length e, length-append xs ys, n)
-
--- what stands behind the first of a list
-pub get_next : {A : Type 0} (xs : List A) (x : A) (ys : List A) → slice_get (xs ++ x ∷ ys) (length xs) ≡ Some x
-get_next xs x ys = subst (λ z. slice_get z (length xs) ≡ Some x) (append_assoc xs (x ∷ []) ys) (get_more (xs ++ x ∷ []) ys (length xs) x (get_last xs x))
-
--- ---- what the code says of one line
-
-module _ (g : Graph) (numbers classes : List ℕ) (states : ℕ) where
-  abbrev pub GoBreaks : List (ℕ × Outline) → ℕ → ℕ → Outline × Change → ReadSoFar → TableRefusal → Type 0
-  GoBreaks entries state class next a e = (told : Told) (s : Shape ℕ) (go : Go) → ChecksAt g entries states state told → length go ≡ class → class < class_count classes → NextBy g class s (Some next) → BreaksReading g numbers classes a (at_class told s go) e
-
-  abbrev pub GoChecks : List (ℕ × Outline) → List (ℕ × Outline) → ℕ → ℕ → Outline × Change → Transition → ReadSoFar → ReadSoFar → Type 0
-  GoChecks entries later state class next r a b = (told : Told) (s : Shape ℕ) (go : Go) → ChecksAt g entries states state told → length go ≡ class → class < class_count classes → NextBy g class s (Some next) → (after : List Target) × ChecksAt g later states state (record told { targets = after }) × Checks g numbers classes a (at_class told s go) (at_class (record told { targets = after }) s (go ++ Some r ∷ [])) b
-
-  abbrev pub GoesBreak : List (ℕ × Outline) → ℕ → List (Option (Outline × Change)) → ReadSoFar → TableRefusal → Type 0
-  GoesBreak entries state nexts a e = (told : Told) (s : Shape ℕ) → ChecksAt g entries states state told → AreNexts g classes s nexts → BreaksReading g numbers classes a (at_class told s []) e
-
-  abbrev pub GoesCheck : List (ℕ × Outline) → List (ℕ × Outline) → ℕ → List (Option (Outline × Change)) → Go → ReadSoFar → ReadSoFar → Type 0
-  GoesCheck entries later state nexts go a b = (told : Told) (s : Shape ℕ) → ChecksAt g entries states state told → AreNexts g classes s nexts → (after : List Target) × ChecksAt g later states (suc state) (record told { targets = after; rows = told.rows ++ go ∷ [] }) × Checks g numbers classes a (at_class told s []) (at_state (record told { targets = after; rows = told.rows ++ go ∷ [] })) b
-
-  abbrev pub StateBreaks : List (ℕ × Outline) → ℕ → ReadSoFar → TableRefusal → Type 0
-  StateBreaks entries state a e = (told : Told) → ChecksAt g entries states state told → BreaksReading g numbers classes a (at_state told) e
-
-  abbrev pub StateChecks : List (ℕ × Outline) → List (ℕ × Outline) → ℕ → Row → ReadSoFar → ReadSoFar → Type 0
-  StateChecks entries later state row a b = (told : Told) → ChecksAt g entries states state told → (s : Shape ℕ) × (after : List Target) × IsAmong told.targets (target state s) × HasEnds g s row.registers row.accepting × ChecksAt g later states (suc state) (record told { targets = after; rows = told.rows ++ row.go ∷ [] }) × Checks g numbers classes a (at_state told) (at_state (record told { targets = after; rows = told.rows ++ row.go ∷ [] })) b
-
-  -- the lines of so many classes are right
-  abbrev pub GoesSoFar : ℕ → ReadSoFar → Told → Shape ℕ → List (ℕ × Outline) → Go → ReadSoFar → Type 0
-  GoesSoFar state a told s entries go b = (after : List Target) × ChecksAt g entries states state (record told { targets = after }) × Checks g numbers classes a (at_class told s []) (at_class (record told { targets = after }) s go) b
-
-  module _ (state : ℕ) (a : ReadSoFar) (told : Told) (s : Shape ℕ) (entries : List (ℕ × Outline)) (go : Go) (b : ReadSoFar) (so : GoesSoFar state a told s entries go b) where
-    pub goes_none : length go < class_count classes → GoesByClass g (length go) s None → GoesSoFar state a told s entries (go ++ None ∷ []) b
-    goes_none lt by = (so.0, so.1, checks_passed g numbers classes a b (at_class told s []) (at_class (record told { targets = so.0 }) s go) (at_class (record told { targets = so.0 }) s (go ++ None ∷ [])) so.2 (class_over lt by))
-
-    pub goes_some : (later : List (ℕ × Outline)) (class : ℕ) (next : Outline × Change) (r : Transition) (d : ReadSoFar) → GoChecks entries later state class next r b d → length go ≡ class → class < class_count classes → NextBy g class s (Some next) → GoesSoFar state a told s later (go ++ Some r ∷ []) d
-    goes_some later class next r d right e lt by =
-        let k = right (record told { targets = so.0 }) s go so.1 e lt by in
-        (k.0, k.1, checks_on g numbers classes a b d (at_class told s []) (at_class (record told { targets = so.0 }) s go) (at_class (record told { targets = k.0 }) s (go ++ Some r ∷ [])) so.2 k.2)
-
-    pub goes_break : (class : ℕ) (next : Outline × Change) (e : TableRefusal) → GoBreaks entries state class next b e → length go ≡ class → class < class_count classes → NextBy g class s (Some next) → BreaksReading g numbers classes a (at_class told s []) e
-    goes_break class next e bad long lt by = breaks_later g numbers classes a b (at_class told s []) (at_class (record told { targets = so.0 }) s go) e so.2 (bad (record told { targets = so.0 }) s go so.1 long lt by)
-
-    pub goes_over : length go ≡ class_count classes → (after : List Target) × ChecksAt g entries states (suc state) (record told { targets = after; rows = told.rows ++ go ∷ [] }) × Checks g numbers classes a (at_class told s []) (at_state (record told { targets = after; rows = told.rows ++ go ∷ [] })) b
-    goes_over e = (
-      so.0,
-      record { known = so.1.known; states_are = so.1.states_are; of_state = omega (arith, length-append told.rows (go ∷ []), so.1.of_state) },
-      checks_passed g numbers classes a b (at_class told s []) (at_class (record told { targets = so.0 }) s go) (at_state (record told { targets = so.0; rows = told.rows ++ go ∷ [] })) so.2 (state_over e),
-    )
-
--- ---- a state
-
-pub behind_first : (told : Told) (s : Shape ℕ) (rows : List Go) → length rows ≡ 0 → behind_state told s rows ≡ at_init told s
-behind_first told s [] e = refl
-behind_first told s (row ∷ rows) e = absurd (omega (arith, e))
-
-pub behind_later : (told : Told) (s : Shape ℕ) (rows : List Go) → (length rows ≡ 0 → ⊥) → behind_state told s rows ≡ at_class told s []
-behind_later told s [] n = absurd (n refl)
-behind_later told s (row ∷ rows) n = refl
 
 -- a target stays one
 abbrev targets_at : Spot → List Target
@@ -118,6 +51,68 @@ module _ (g : Graph) (numbers classes : List ℕ) where
 
   pub targets_stay : (a b : ReadSoFar) (told later : Told) → Checks g numbers classes a (at_state told) (at_state later) b → (x : Target) → IsAmong told.targets x → IsAmong later.targets x
   targets_stay a b told later h x i = stay_walked (at_state told) (at_state later) h.bytes h.walked x i
+
+  pub targets_kept : (a b : ReadSoFar) (told later : Told) (s : Shape ℕ) (go after : Go) → Checks g numbers classes a (at_class told s go) (at_class later s after) b → (x : Target) → IsAmong told.targets x → IsAmong later.targets x
+  targets_kept a b told later s go after h x i = stay_walked (at_class told s go) (at_class later s after) h.bytes h.walked x i
+
+-- ---- what the code says of the lines of a state
+
+module _ (g : Graph) (numbers classes : List ℕ) (states : ℕ) where
+  abbrev pub ClassBreaks : List (ℕ × Outline) → ℕ → ℕ → ReadSoFar → TableRefusal → Type 0
+  ClassBreaks entries state class a e = (told : Told) (s : Shape ℕ) (go : Go) → ChecksAt g entries states state told → IsAmong told.targets (target state s) → length go ≡ class → BreaksReading g numbers classes a (at_class told s go) e
+
+  abbrev pub ClassChecks : List (ℕ × Outline) → List (ℕ × Outline) → ℕ → ℕ → Option Transition → ReadSoFar → ReadSoFar → Type 0
+  ClassChecks entries later state class o a b = (told : Told) (s : Shape ℕ) (go : Go) → ChecksAt g entries states state told → IsAmong told.targets (target state s) → length go ≡ class → (after : List Target) × ChecksAt g later states state (record told { targets = after }) × Checks g numbers classes a (at_class told s go) (at_class (record told { targets = after }) s (go ++ o ∷ [])) b
+
+  abbrev pub GoesBreak : List (ℕ × Outline) → ℕ → ReadSoFar → TableRefusal → Type 0
+  GoesBreak entries state a e = (told : Told) (s : Shape ℕ) → ChecksAt g entries states state told → IsAmong told.targets (target state s) → BreaksReading g numbers classes a (at_class told s []) e
+
+  abbrev pub GoesCheck : List (ℕ × Outline) → List (ℕ × Outline) → ℕ → Go → ReadSoFar → ReadSoFar → Type 0
+  GoesCheck entries later state go a b = (told : Told) (s : Shape ℕ) → ChecksAt g entries states state told → IsAmong told.targets (target state s) → (after : List Target) × ChecksAt g later states (suc state) (record told { targets = after; rows = told.rows ++ go ∷ [] }) × Checks g numbers classes a (at_class told s []) (at_state (record told { targets = after; rows = told.rows ++ go ∷ [] })) b
+
+  abbrev pub StateBreaks : List (ℕ × Outline) → ℕ → ReadSoFar → TableRefusal → Type 0
+  StateBreaks entries state a e = (told : Told) → ChecksAt g entries states state told → BreaksReading g numbers classes a (at_state told) e
+
+  abbrev pub StateChecks : List (ℕ × Outline) → List (ℕ × Outline) → ℕ → Row → ReadSoFar → ReadSoFar → Type 0
+  StateChecks entries later state row a b = (told : Told) → ChecksAt g entries states state told → (s : Shape ℕ) × (after : List Target) × IsAmong told.targets (target state s) × HasEnds g s row.registers row.accepting × ChecksAt g later states (suc state) (record told { targets = after; rows = told.rows ++ row.go ∷ [] }) × Checks g numbers classes a (at_state told) (at_state (record told { targets = after; rows = told.rows ++ row.go ∷ [] })) b
+
+  -- the lines of so many classes are right
+  abbrev pub GoesSoFar : ℕ → ReadSoFar → Told → Shape ℕ → List (ℕ × Outline) → Go → ReadSoFar → Type 0
+  GoesSoFar state a told s entries go b = (after : List Target) × ChecksAt g entries states state (record told { targets = after }) × Checks g numbers classes a (at_class told s []) (at_class (record told { targets = after }) s go) b
+
+  module _ (state : ℕ) (a : ReadSoFar) (told : Told) (s : Shape ℕ) (entries : List (ℕ × Outline)) (go : Go) (b : ReadSoFar) (so : GoesSoFar state a told s entries go b) where
+    still : IsAmong told.targets (target state s) → IsAmong so.0 (target state s)
+    still i = targets_kept g numbers classes a b told (record told { targets = so.0 }) s [] go so.2 (target state s) i
+
+    -- the state's tree is kept
+    pub goes_stand : IsAmong told.targets (target state s) → (later : Told) × (t : Shape ℕ) × ChecksAt g entries states state later × IsAmong later.targets (target state t)
+    goes_stand i = (record told { targets = so.0 }, s, so.1, still i)
+
+    -- a class more
+    pub goes_more : (later : List (ℕ × Outline)) (class : ℕ) (o : Option Transition) (d : ReadSoFar) → ClassChecks entries later state class o b d → IsAmong told.targets (target state s) → length go ≡ class → GoesSoFar state a told s later (go ++ o ∷ []) d
+    goes_more later class o d right i e =
+        let k = right (record told { targets = so.0 }) s go so.1 (still i) e in
+        (k.0, k.1, checks_on g numbers classes a b d (at_class told s []) (at_class (record told { targets = so.0 }) s go) (at_class (record told { targets = k.0 }) s (go ++ o ∷ [])) so.2 k.2)
+
+    pub goes_break : (class : ℕ) (e : TableRefusal) → ClassBreaks entries state class b e → IsAmong told.targets (target state s) → length go ≡ class → BreaksReading g numbers classes a (at_class told s []) e
+    goes_break class e bad i long = breaks_later g numbers classes a b (at_class told s []) (at_class (record told { targets = so.0 }) s go) e so.2 (bad (record told { targets = so.0 }) s go so.1 (still i) long)
+
+    pub goes_over : length go ≡ class_count classes → (after : List Target) × ChecksAt g entries states (suc state) (record told { targets = after; rows = told.rows ++ go ∷ [] }) × Checks g numbers classes a (at_class told s []) (at_state (record told { targets = after; rows = told.rows ++ go ∷ [] })) b
+    goes_over e = (
+      so.0,
+      record { known = so.1.known; states_are = so.1.states_are; of_state = omega (arith, length-append told.rows (go ∷ []), so.1.of_state) },
+      checks_passed g numbers classes a b (at_class told s []) (at_class (record told { targets = so.0 }) s go) (at_state (record told { targets = so.0; rows = told.rows ++ go ∷ [] })) so.2 (state_over e),
+    )
+
+-- ---- a state
+
+pub behind_first : (told : Told) (s : Shape ℕ) (rows : List Go) → length rows ≡ 0 → behind_state told s rows ≡ at_init told s
+behind_first told s [] e = refl
+behind_first told s (row ∷ rows) e = absurd (omega (arith, e))
+
+pub behind_later : (told : Told) (s : Shape ℕ) (rows : List Go) → (length rows ≡ 0 → ⊥) → behind_state told s rows ≡ at_class told s []
+behind_later told s [] n = absurd (n refl)
+behind_later told s (row ∷ rows) n = refl
 
 -- one state more
 pub ends_more : (g : Graph) (targets after : List Target) (rows : List Row) (row : Row) (s : Shape ℕ) → ((x : Target) → IsAmong targets x → IsAmong after x) → EachHasEnds g targets rows → IsAmong targets (target (length rows) s) → HasEnds g s row.registers row.accepting → EachHasEnds g after (rows ++ row ∷ [])

@@ -1,7 +1,6 @@
 -- How the code checks the lines of a stage.
 use Rattle.std.specs.Prelude.{◌≡◌, ℕ, suc, List, [], ◌∷◌, ◌++◌, ◌⊎◌, Option, Some, None, length}
 use Rattle.std.specs.Prelude.{slice_get}
-use Rattle.kex_byteset.specs.Classes.{class_count}
 use Rattle.kex_code.specs.Codes.{Begins, IsAmong}
 use Rattle.kex_model.specs.Labelled.{Shape, shape_of, size_of, Grown}
 use Rattle.kex_machine.specs.Nodes.{Graph, node_moves}
@@ -39,12 +38,6 @@ abbrev pub NextBy : Graph → ℕ → Shape ℕ → Option (Outline × Change) �
 NextBy g class s None = GoesByClass g class s None
 NextBy g class s (Some n) = (n.0.machine ≡ g) × (a : Grown Part ℕ)
     × GoesByClass g class s (Some a) × IsOfShape n.0 (shape_of a.tree) × IsChange n.1 a
-
--- those of all classes
-pub record AreNexts (g : Graph) (classes : List ℕ) (s : Shape ℕ)
-    (nexts : List (Option (Outline × Change))) : Type 0 where
-  pub long : length nexts ≡ class_count classes
-  pub each : (k : ℕ) (o : Option (Outline × Change)) → slice_get nexts k ≡ Some o → NextBy g k s o
 
 -- from one spot to another the lines were right, and were read
 pub record Checks (g : Graph) (numbers classes : List ℕ) (old : ReadSoFar) (from to : Spot)

@@ -1,6 +1,6 @@
 // Checks the lines of one state after the other.
 
-ghost use Rattle.std.specs.Prelude.{◌≡◌, ℕ, suc, ◌<◌, ◌≤◌, ◌++◌, ◌∷◌, [], IfErr, IfOk, List, OnOk};
+ghost use Rattle.std.specs.Prelude.{◌≡◌, ℕ, suc, ◌<◌, ◌++◌, ◌∷◌, [], IfErr, IfOk, List, OnOk};
 ghost use Rattle.std.specs.Prelude.{Option, Some, length};
 ghost use Rattle.kex_byteset.specs.Classes.{class_count};
 ghost use Rattle.kex_code.specs.Codes.{IsAmong};
@@ -8,7 +8,7 @@ ghost use Rattle.kex_model.specs.Labelled.{Shape};
 ghost use Rattle.kex_machine.specs.Nodes.{HasClasses};
 ghost use Rattle.kex_sst.specs.declared.table.Transition.{Transition};
 ghost use Rattle.kex_paths.specs.Nexts.{IsOfShape};
-ghost use Rattle.kex_tabfile.specs.Checking.{AreNexts, BreaksReading, Checks, NextBy, ChecksAt};
+ghost use Rattle.kex_tabfile.specs.Checking.{BreaksReading, Checks, NextBy, ChecksAt};
 ghost use Rattle.kex_tabfile.specs.Checking.{BeginsWith, HasEnds};
 ghost use Rattle.kex_tabfile.specs.Walks.{Target, Told, at_class, at_init, at_state};
 ghost use Rattle.kex_tabfile.specs.Walks.{behind_state};
@@ -28,9 +28,6 @@ use kex_sst::table::{State, Transition};
 use kex_sst::updates::Updates;
 use std::alloc::Global;
 
-/// How a path tree goes on with a class, if it does.
-type Next<'m> = Option<(PathTree<'m>, Update)>;
-
 /// What the lines of a stage's states are checked by.
 #[derive(Drop)]
 pub(crate) struct StageChecker<'m> {
@@ -45,28 +42,6 @@ pub(crate) struct StageChecker<'m> {
     pub(crate) updates: Updates,
     /// The line that is wanted next.
     pub(crate) line: Vec<u8>,
-}
-
-// How a tree goes on, by class.
-fn advance_all<'m>(
-    alloc: Global,
-    tree: &PathTree<'m>,
-    workspace: &mut Workspace<'m>,
-    partition: &Partition,
-) -> Result<Vec<Next<'m>>, Memory>
-    requires machine { workspace.old ≡ tree.now.machine }
-    requires classes { HasClasses tree.now.machine.nodes partition.now }
-    ensures nexts { IfOk result (λ nexts. (s : Shape ℕ) → IsOfShape tree.now s
-        → AreNexts tree.now.machine partition.now s nexts.items) }
-    ensures few { IfOk result (λ nexts. length nexts.items ≤ 256) }
-    ensures same { OnOk result (workspace.new ≡ workspace.old) }
-{
-    let mut nexts = Vec::with_capacity(alloc, usize::from(partition.classes()))?;
-    for class in 0..partition.classes() {
-        let next = tree.advance_with(workspace, class as u8)?;
-        nexts.push(next)?;
-    }
-    Ok(nexts)
 }
 
 // How many registers a state has, and the way to its end.
@@ -135,19 +110,70 @@ impl<'m> StageChecker<'m> {
         Ok(Transition { target, update })
     }
 
-    // The lines by which a state goes on, by class.
+    // The line by which a state goes on with a class, if it does.
+    fn take_class(
+        &mut self,
+        reader: &mut TableReader,
+        workspace: &mut Workspace<'m>,
+        state: u32,
+        class: u8,
+    ) -> Result<Option<Transition>, TableRefusal>
+        requires machine { workspace.old ≡ self.old.machine.now }
+        requires some { 0 < self.old.states }
+        requires classes { HasClasses self.old.machine.now.nodes self.old.partition.now }
+        requires below { class < class_count self.old.partition.now }
+        requires stands { (told : Told) × (s : Shape ℕ)
+            × ChecksAt self.old.machine.now self.old.targets self.old.states state told
+            × IsAmong told.targets (record { state = state; tree = s }) }
+        ensures right { IfOk result (λ o. (told : Told) (s : Shape ℕ)
+            (go : List (Option Transition))
+            → ChecksAt self.old.machine.now self.old.targets self.old.states state told
+            → IsAmong told.targets (record { state = state; tree = s })
+            → length go ≡ class
+            → (after : List Target)
+            × ChecksAt self.old.machine.now self.new.targets self.old.states state
+            (record told { targets = after })
+            × Checks self.old.machine.now self.old.numbers.items self.old.partition.now reader.old
+            (at_class told s go) (at_class (record told { targets = after }) s (go ++ o ∷ []))
+            reader.new) }
+        ensures bad { IfErr result (λ e. (told : Told) (s : Shape ℕ)
+            (go : List (Option Transition))
+            → ChecksAt self.old.machine.now self.old.targets self.old.states state told
+            → IsAmong told.targets (record { state = state; tree = s })
+            → length go ≡ class
+            → BreaksReading self.old.machine.now self.old.numbers.items self.old.partition.now
+            reader.old (at_class told s go) e) }
+        ensures kept { OnOk result (self.new ≡ record self.old {
+          targets = self.new.targets;
+          updates = self.new.updates;
+          line = self.new.line;
+        }) }
+        ensures workspace { OnOk result (workspace.new ≡ workspace.old) }
+    {
+        let tree = self.targets.tree(state).unwrap();
+        let Some(next) = tree.advance_with(workspace, class)? else {
+            return Ok(None);
+        };
+        let transition = self.take_go(reader, state, class, next)?;
+        Ok(Some(transition))
+    }
+
+    // The lines by which a state goes on, by class. One tree is made at a time.
     fn take_goes(
         &mut self,
         reader: &mut TableReader,
+        workspace: &mut Workspace<'m>,
         state: u32,
-        nexts: Vec<Next<'m>>,
     ) -> Result<Vec<Option<Transition>>, TableRefusal>
+        requires machine { workspace.old ≡ self.old.machine.now }
         requires some { 0 < self.old.states }
         requires classes { HasClasses self.old.machine.now.nodes self.old.partition.now }
-        requires few { length nexts.items ≤ 256 }
+        requires stands { (told : Told) × (s : Shape ℕ)
+            × ChecksAt self.old.machine.now self.old.targets self.old.states state told
+            × IsAmong told.targets (record { state = state; tree = s }) }
         ensures right { IfOk result (λ go. (told : Told) (s : Shape ℕ)
             → ChecksAt self.old.machine.now self.old.targets self.old.states state told
-            → AreNexts self.old.machine.now self.old.partition.now s nexts.entry.items
+            → IsAmong told.targets (record { state = state; tree = s })
             → (after : List Target)
             × ChecksAt self.old.machine.now self.new.targets self.old.states (suc state)
             (record told { targets = after; rows = told.rows ++ go.items ∷ [] })
@@ -157,7 +183,7 @@ impl<'m> StageChecker<'m> {
             reader.new) }
         ensures bad { IfErr result (λ e. (told : Told) (s : Shape ℕ)
             → ChecksAt self.old.machine.now self.old.targets self.old.states state told
-            → AreNexts self.old.machine.now self.old.partition.now s nexts.entry.items
+            → IsAmong told.targets (record { state = state; tree = s })
             → BreaksReading self.old.machine.now self.old.numbers.items self.old.partition.now
             reader.old (at_class told s []) e) }
         ensures kept { OnOk result (self.new ≡ record self.old {
@@ -165,13 +191,12 @@ impl<'m> StageChecker<'m> {
           updates = self.new.updates;
           line = self.new.line;
         }) }
+        ensures workspace { OnOk result (workspace.new ≡ workspace.old) }
     {
-        let mut go = Vec::with_capacity(self.alloc, nexts.len())?;
-        'classes: for next in nexts {
-            let transition = match next {
-                None => None,
-                Some(next) => Some(self.take_go(reader, state, go.len() as u8, next)?),
-            };
+        let classes = self.partition.classes();
+        let mut go = Vec::with_capacity(self.alloc, usize::from(classes))?;
+        'classes: for class in 0..classes {
+            let transition = self.take_class(reader, workspace, state, class as u8)?;
             go.push(transition)?;
         }
         Ok(go)
@@ -193,15 +218,12 @@ impl<'m> StageChecker<'m> {
         reader.take(&self.line)
     }
 
-    // A state's own line; and how its tree goes on, and its ends.
+    // A state's own line; and its registers and the way to its end.
     fn take_state_line(
         &mut self,
         reader: &mut TableReader,
-        workspace: &mut Workspace<'m>,
         state: u32,
-    ) -> Result<(Vec<Next<'m>>, (u32, Option<Parts>)), TableRefusal>
-        requires machine { workspace.old ≡ self.old.machine.now }
-        requires classes { HasClasses self.old.machine.now.nodes self.old.partition.now }
+    ) -> Result<(u32, Option<Parts>), TableRefusal>
         requires places { length self.old.numbers.items ≡ length self.old.machine.now.nodes }
         requires below { state < self.old.states }
         requires stands { (told : Told)
@@ -209,17 +231,14 @@ impl<'m> StageChecker<'m> {
         ensures right { IfOk result (λ r. (told : Told)
             → ChecksAt self.old.machine.now self.old.targets self.old.states state told
             → (s : Shape ℕ) × IsAmong told.targets (record { state = state; tree = s })
-            × AreNexts self.old.machine.now self.old.partition.now s r.0.items
-            × HasEnds self.old.machine.now s r.1.0 r.1.1
+            × HasEnds self.old.machine.now s r.0 r.1
             × Checks self.old.machine.now self.old.numbers.items self.old.partition.now reader.old
             (at_state told) (behind_state told s told.rows) reader.new) }
-        ensures few { IfOk result (λ r. length r.0.items ≤ 256) }
         ensures bad { IfErr result (λ e. (told : Told)
             → ChecksAt self.old.machine.now self.old.targets self.old.states state told
             → BreaksReading self.old.machine.now self.old.numbers.items self.old.partition.now
             reader.old (at_state told) e) }
         ensures kept { self.new ≡ record self.old { line = self.new.line } }
-        ensures workspace { OnOk result (workspace.new ≡ workspace.old) }
     {
         let Some(tree) = self.targets.tree(state) else {
             return Err(reader.bad_line());
@@ -228,8 +247,7 @@ impl<'m> StageChecker<'m> {
         push_state_line(self.alloc, &self.numbers, state, tree, &mut self.line)?;
         reader.take(&self.line)?;
         let ends = ends_of(self.alloc, self.machine, tree)?;
-        let nexts = advance_all(self.alloc, tree, workspace, self.partition)?;
-        Ok((nexts, ends))
+        Ok(ends)
     }
 
     /// The lines of a state, of which the first has that of the start's update among them.
@@ -269,12 +287,11 @@ impl<'m> StageChecker<'m> {
         }) }
         ensures workspace { OnOk result (workspace.new ≡ workspace.old) }
     {
-        let (nexts, ends) = self.take_state_line(reader, workspace, state)?;
+        let (registers, accepting) = self.take_state_line(reader, state)?;
         if state == 0 {
             self.take_init(reader, initial)?;
         }
-        let go = self.take_goes(reader, state, nexts)?;
-        let (registers, accepting) = ends;
+        let go = self.take_goes(reader, workspace, state)?;
         Ok(State::new(registers, accepting, go))
     }
 }

@@ -1,10 +1,6 @@
-use Rattle.std.proofs.Common.{◌≡◌, ℕ, ◌++◌, [], length, refl, sym, ap, ap₂, subst, ◌∙◌}
-use Rattle.kex_code.specs.Codes.{Begins, IsAmong}
-use Rattle.kex_model.specs.Labelled.{Shape}
-use Rattle.kex_machine.specs.Nodes.{HasClasses}
+use Rattle.std.proofs.Common.{◌≡◌, ◌++◌, length, sym, ap, ap₂, subst, ◌∙◌}
+use Rattle.kex_code.specs.Codes.{Begins}
 use Rattle.kex_tabfile.specs.Lines.{state_line}
-use Rattle.kex_tabfile.specs.Readers.{ReadsBytes}
-use Rattle.kex_tabfile.specs.Checking.{AreNexts}
 use Rattle.kex_tabfile.proofs.ResultParts.{if_err}
 use Rattle.kex_tabfile.proofs.StateLines.{state_breaks, state_checks}
 use Rattle.kex_tabfile.proofs.rows.StageChecker.take_state_line.Goals as goal
@@ -24,18 +20,6 @@ push_state_line-requires c =
 pub ends_of-requires : goal.ends_of-requires
 ends_of-requires c = let k = c.requires.stands in (c.in-Some.ensures.some c.args.self.now.machine.now k.0.targets k.1.known).1
 
-pub advance_all-requires-clause-machine : goal.advance_all-requires-clause-machine
-advance_all-requires-clause-machine c =
-    let k = c.requires.stands in
-    let t = c.in-Some.ensures.some c.args.self.now.machine.now k.0.targets k.1.known in
-    c.requires.machine ∙ sym t.1
-
-pub advance_all-requires-clause-classes : goal.advance_all-requires-clause-classes
-advance_all-requires-clause-classes c =
-    let k = c.requires.stands in
-    let t = c.in-Some.ensures.some c.args.self.now.machine.now k.0.targets k.1.known in
-    subst (λ z. HasClasses z.nodes c.args.self.now.partition.now) (sym t.1) c.requires.classes
-
 pub returns-in_err-take-clause-bad : goal.returns-in_err-take-clause-bad
 returns-in_err-take-clause-bad c =
     let self = c.args.self.now in
@@ -53,7 +37,6 @@ returns-clause-right c = λ told st.
     let line : c.deref-2.result.now ≡ state_line self.numbers.items c.args.state t.0 = c.deref-2.ensures.value ∙ c.in_ok-push_state_line.ensures t.0 t.2 ∙ ap₂ (λ u v. u ++ state_line v c.args.state t.0) c.clear.ensures.items c.deref.ensures.value in (
       t.0,
       t.3,
-      subst (λ z. AreNexts z self.partition.now t.0 c.in_ok-nexts.nexts.items) t.1 (c.in_ok-nexts.ensures.nexts t.0 t.2),
       c.in_ok-ends.ensures t.0 t.2,
       state_checks self.machine.now self.numbers.items self.partition.now c.args.reader.now c.take.new.self told t.0 c.deref-2.result.now c.args.state self.states self.targets st c.requires.below t.3 line c.in_ok-take.ensures.read,
     )
