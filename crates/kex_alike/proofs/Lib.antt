@@ -1,0 +1,4 @@
+pub mod PlaceImages
+pub mod AlikeTests
+pub mod OrderedSets
+pub mod StageMachines
