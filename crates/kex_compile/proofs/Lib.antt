@@ -13,6 +13,7 @@ pub mod SameMeanings
 pub mod PlaceCounts
 pub mod SurvivorPairs
 pub mod States
+pub mod PairCounts
 pub mod ProgramAnswers
 pub mod FewStages
 pub mod StageTables

@@ -17,16 +17,16 @@ use Rattle.kex_compile.proofs.StagePairs.{Known, Pairwise, Both, first_among, fi
 use Rattle.kex_compile.proofs.SurvivorPairs.{alive_on, alive_there, reach_on, survives_back, survives_on}
 
 module _ (P Q : Grammar) (a : Alike P Q) (known : Known P) (root root' : ℕ) (same : Partners P Q a known root root') where
-  abbrev Here : Place → Place → Type 0
+  abbrev pub Here : Place → Place → Type 0
   Here = SamePlace (Partners P Q a known)
 
-  one : (p q q' : Place) → Here p q → Here p q' → q ≡ q'
+  pub one : (p q q' : Place) → Here p q → Here p q' → q ≡ q'
   one p q q' h k = place_forth (Partners P Q a known) (one_partner P Q a known root root' same) h k
 
-  one_back : (p p' q : Place) → Here p q → Here p' q → p ≡ p'
+  pub one_back : (p p' q : Place) → Here p q → Here p' q → p ≡ p'
   one_back p p' q h k = place_back (Partners P Q a known) (one_partner_back P Q a known root root' same) h k
 
-  shape_ahead : (w : List ℕ) (s : Shape Place) → HasShape (moves P) (start_of P root) w s → (u : Shape Place) × SameShape Here s u × HasShape (moves Q) (start_of Q root') w u
+  pub shape_ahead : (w : List ℕ) (s : Shape Place) → HasShape (moves P) (start_of P root) w s → (u : Shape Place) × SameShape Here s u × HasShape (moves Q) (start_of Q root') w u
   shape_ahead w s h = shape_on (moves P) (moves Q) (start_of P root) (start_of Q root') w Here
       (λ p c k. survives_on P Q a known root root' same w p c k)
       (λ q k. alive_there P Q a known root root' same w q k)
