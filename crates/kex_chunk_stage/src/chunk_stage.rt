@@ -46,7 +46,8 @@ impl<'p> ChunkStage<'p> {
         ensures usable { IfOk result (λ s. IsTrue (⟦<ChunkStage<'p> as Turn>⟧.is_usable s)) }
     {
         let Some(basis) = TableBasis::of(plan) else {
-            return Err(Memory); // no plan has no table
+            // The plan has a table, so this doesn't come.
+            return Err(Memory);
         };
         let crew = Crew {
             basis,
