@@ -1,6 +1,7 @@
 -- The form of the command line, as `clap` sees it.
 use Rattle.std.specs.Prelude.{ℕ, List, [], ◌∷◌, Some, codes, true}
 use Rattle.clap.specs.Words.{App, Rule, Text, new_app, new_rule, with_rule, with_subcommand}
+use Rattle.clap.specs.declared.builder.action.ArgAction.TheVariants.{SetTrue}
 use Rattle.clap.specs.declared.builder.value_parser.ValueParser.TheVariants as vp
 
 -- the most bytes that a stage takes, and that one read asks for
@@ -47,6 +48,11 @@ abbrev pub rings_rule : Rule
 rings_rule = record (new_rule (codes "rings"))
     { long = Some (codes "rings"); parser = Some (vp.Unsigned 1 most_room) }
 
+-- a flag, which takes no value
+abbrev pub optimal_rule : Rule
+optimal_rule = record (new_rule (codes "optimal"))
+    { long = Some (codes "optimal"); action = Some SetTrue }
+
 abbrev pub most_workers : ℕ
 most_workers = 64
 
@@ -69,9 +75,9 @@ table_app name = with_rules (new_app name) (program_rule ∷ states_rule ∷ [])
 abbrev pub stage_app : Text → App
 stage_app name = with_rules (new_app name) (program_rule ∷ max_input_rule ∷ block_rule ∷ [])
 
--- a run makes tables, and may join stages by rings
+-- a run makes tables, may join stages by rings, and may tell as early as can be
 abbrev pub run_app : App
-run_app = with_rules (stage_app (codes "run")) (states_rule ∷ rings_rule ∷ [])
+run_app = with_rules (stage_app (codes "run")) (states_rule ∷ rings_rule ∷ optimal_rule ∷ [])
 
 abbrev pub trial_app : App
 trial_app = with_rules (new_app (codes "trial")) (lines_rule ∷ block_rule ∷ rings_rule ∷ [])

@@ -1,5 +1,5 @@
 -- What some words ask for.
-use Rattle.std.specs.Prelude.{◌≡◌, ◌==◌, ℕ, List, [], ◌∷◌, Bool, true, Some, None, is_none, codes}
+use Rattle.std.specs.Prelude.{◌≡◌, ◌==◌, ℕ, List, [], ◌∷◌, Bool, true, false, Some, None, is_none, codes}
 use Rattle.std.specs.List.{list_all, slice_split}
 use Prim.Native.String.{String}
 use Rattle.clap.specs.Words.{Text}
@@ -34,7 +34,7 @@ AreUsage lines = list_all is_usage lines ≡ true
 
 -- with the usual number of states
 abbrev pub to_run : String → Reach → Asked
-to_run name r = ToStream (running 4096) (codes name) r
+to_run name r = ToStream (running 4096 false) (codes name) r
 
 pub record ReadsRun : Type 0 where
   pub plain : LineAsks "kex run p" (to_run "p" usual_reach)
@@ -42,11 +42,14 @@ pub record ReadsRun : Type 0 where
   pub options_first
       : LineAsks "kex run --block=1048576 --max-input=0 p" (to_run "p" (reach 0 1048576))
   pub states : LineAsks "kex run p --states 7 --block 1"
-      (ToStream (running 7) (codes "p") (reach 281474976710656 1))
+      (ToStream (running 7 false) (codes "p") (reach 281474976710656 1))
   pub largest : LineAsks "kex run p --max-input 281474976710656 --states 1048576"
-      (ToStream (running 1048576) (codes "p") usual_reach)
+      (ToStream (running 1048576 false) (codes "p") usual_reach)
   pub rings : LineAsks "kex run p --rings 1" (to_run "p" (over_rings 1))
   pub largest_rings : LineAsks "kex run --rings=1048576 p" (to_run "p" (over_rings 1048576))
+  pub optimal : LineAsks "kex run p --optimal" (ToStream (running 4096 true) (codes "p") usual_reach)
+  pub optimal_states : LineAsks "kex run --optimal p --states 7"
+      (ToStream (running 7 true) (codes "p") usual_reach)
   -- as `clap` reads numbers
   pub plus_and_zeros : LineAsks "kex run p --max-input +3 --block 007" (to_run "p" (reach 3 7))
   pub empty_name : LineAsks "kex run " (to_run "" usual_reach)
@@ -115,10 +118,15 @@ pub record RefusesWords : Type 0 where
       ∷ "kex check p --rings 1" ∷ "kex code p --rings 1"
       ∷ "kex act p --rings 1" ∷ "kex test p --rings 1" ∷ "kex each p --block 1"
       ∷ "kex each p --rings 1" ∷ "kex check p --workers 1"
+      ∷ "kex check p --optimal" ∷ "kex code p --optimal" ∷ "kex act p --optimal"
+      ∷ "kex test p --optimal" ∷ "kex trial 1 --optimal" ∷ "kex each p --optimal"
+      ∷ "kex compile p --optimal" ∷ "kex exec t --optimal"
       ∷ "kex compile p --block 1" ∷ "kex compile p --max-input 1" ∷ "kex exec t --states 1"
       ∷ "kex exec t --rings 1" ∷ [])
   pub option_twice : AreUsage ("kex run p --block 2 --block 3" ∷ "kex run p --block=2 --block=2"
-      ∷ "kex run --max-input 1 p --max-input 1" ∷ [])
+      ∷ "kex run --max-input 1 p --max-input 1" ∷ "kex run --optimal p --optimal" ∷ [])
+  pub value_of_a_flag : AreUsage ("kex run p --optimal=true" ∷ "kex run --optimal= p"
+      ∷ "kex run p --optimal true" ∷ [])
   pub no_value : AreUsage ("kex run p --block" ∷ "kex run p --block=" ∷ "kex run p --block "
       ∷ "kex run p --block --max-input 3"
       ∷ "kex run --block -- p" ∷ [])

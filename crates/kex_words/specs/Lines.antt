@@ -31,6 +31,7 @@ title_of rule.TooManyPlaces = codes "K11 TooManyPlaces"
 title_of rule.NoText = codes "K13 NoText"
 title_of rule.OneStage = codes "K14 OneStage"
 title_of rule.TooManyStates = codes "K15 TooManyStates"
+title_of rule.TooManyPairs = codes "K16 TooManyPairs"
 title_of rule.BadTable = codes "K17 BadTable"
 title_of rule.TableTooLong = codes "K18 TableTooLong"
 

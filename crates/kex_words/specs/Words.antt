@@ -1,5 +1,5 @@
 -- What the words of a command line ask for.
-use Rattle.std.specs.Prelude.{[], nat_le, ◌&&◌, ℕ, Bool, List, Option, Some, None, codes}
+use Rattle.std.specs.Prelude.{[], nat_le, ◌&&◌, ℕ, Bool, false, List, Option, Some, None, codes}
 use Rattle.std.specs.Prelude.{option_and_then, unwrap_or, if◌then◌else◌}
 use Rattle.std.specs.Str.{bytes_eq}
 use Rattle.std.specs.Str.Parse.{digits_value, without_leading_plus}
@@ -23,11 +23,11 @@ pub record Reach : Type 0 where
   pub block : ℕ
   pub rings : Option ℕ
 
--- what is written for the bytes of the input: what they mean, by tables of at most so many states;
--- their code; what they mean as the text of a code; or nothing, where it is only asked whether they
+-- what is written for the bytes of the input: what they mean, by tables of at most so many states,
+-- told as early as can be where it is optimal; their code; what they mean as the text of a code; or nothing, where it is only asked whether they
 -- have a parse
 pub data Mode : Type 0 where
-  running : (states : ℕ) → Mode
+  running : (states : ℕ) (optimal : Bool) → Mode
   coding : Mode
   acting : Mode
   testing : Mode
@@ -80,6 +80,14 @@ reach_in rows = record {
 abbrev pub states_in : List Row → ℕ
 states_in rows = unwrap_or (number_at (codes "states") 1 most_states rows) 4096
 
+-- the text is there
+abbrev pub has_text : Text → Option Text → Bool
+has_text text None = false
+has_text text (Some found) = bytes_eq found text
+
+abbrev pub optimal_in : List Row → Bool
+optimal_in rows = has_text (codes "true") (first_of (codes "optimal") rows)
+
 abbrev pub workers_in : List Row → ℕ
 workers_in rows = unwrap_or (number_at (codes "workers") 1 most_workers rows) 1
 
@@ -98,7 +106,7 @@ asked_by name rows =
     else if bytes_eq name (codes "exec") then ToExec (table_in rows) (reach_in rows)
     else if bytes_eq name (codes "each")
     then ToEach (program_in rows) (states_in rows) (max_input_in rows) (workers_in rows)
-    else ToStream (running (states_in rows)) (program_in rows) (reach_in rows)
+    else ToStream (running (states_in rows) (optimal_in rows)) (program_in rows) (reach_in rows)
 
 -- the same, where there is a subcommand; words in form have one
 abbrev pub asked_in : Option (Text × List Row) → Option Asked
@@ -122,7 +130,7 @@ reach_of limits =
     record { max_input = limits.max_input; block = limits.block; rings = room_of limits.rings }
 
 abbrev pub mode_of : Moded → Mode
-mode_of (of_mode.Run states) = running states.most
+mode_of (of_mode.Run states optimal) = running states.most optimal
 mode_of of_mode.Code = coding
 mode_of of_mode.Act = acting
 mode_of of_mode.Test = testing

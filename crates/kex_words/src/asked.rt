@@ -78,8 +78,9 @@ pub struct LineLimits {
 /// What is written for the bytes of the input.
 #[derive(Clone, Copy, Debug, PartialEq, Eq)]
 pub enum Mode {
-    /// What they mean, by tables of at most so many states.
-    Run(StateLimit),
+    /// What they mean, by tables of at most so many states. Where it is optimal they tell as early
+    /// as can be what comes of them.
+    Run { states: StateLimit, optimal: bool },
     /// Their code, in a program of one stage.
     Code,
     /// What they mean as the text of a code, in a program of one stage.

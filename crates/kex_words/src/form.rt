@@ -3,14 +3,14 @@ ghost use Rattle.std.specs.Prelude.{◌≡◌, IfOk, false};
 ghost use Rattle.clap.specs.Words.{app_of, rule_of, with_subcommand};
 ghost use Rattle.clap.specs.declared.builder.command.Command.TheViews.{out-Command};
 ghost use Rattle.kex_words.specs.Form.{bare_app, begun_app, block_rule, exec_app, kex_app};
-ghost use Rattle.kex_words.specs.Form.{lines_rule, max_input_rule, number_rule};
+ghost use Rattle.kex_words.specs.Form.{lines_rule, max_input_rule, number_rule, optimal_rule};
 ghost use Rattle.kex_words.specs.Form.{program_rule, table_app, table_rule};
 ghost use Rattle.kex_words.specs.Form.{rings_rule, run_app, stage_app, states_rule, trial_app};
 ghost use Rattle.kex_words.specs.Form.{each_app, played_app, tried_app, workers_rule};
 
 use crate::asked::{MOST_BLOCK, MOST_INPUT, MOST_LINES, MOST_ROOM, MOST_STATES, MOST_WORKERS};
 use clap::builder::ValueParser;
-use clap::{Arg, Command};
+use clap::{Arg, ArgAction, Command};
 use std::alloc::{AllocError, Global};
 
 fn program<'a>(alloc: Global) -> Arg<'a>
@@ -68,6 +68,15 @@ fn rings<'a>(alloc: Global) -> Arg<'a>
         .value_parser(ValueParser::Unsigned(1, MOST_ROOM))
 }
 
+fn optimal<'a>(alloc: Global) -> Arg<'a>
+    ensures rule { rule_of result ≡ optimal_rule }
+    ensures local { result.global ≡ false }
+{
+    Arg::new(alloc, "optimal")
+        .long("optimal")
+        .action(ArgAction::SetTrue)
+}
+
 fn workers<'a>(alloc: Global) -> Arg<'a>
     ensures rule { rule_of result ≡ workers_rule }
     ensures local { result.global ≡ false }
@@ -109,7 +118,10 @@ fn run<'a>(alloc: Global) -> Result<Command<'a>, AllocError>
     ensures app { IfOk result (λ command. app_of command ≡ run_app) }
     ensures local { IfOk result (λ command. (out-Command command).has_globals ≡ false) }
 {
-    stage(alloc, "run")?.arg(states(alloc))?.arg(rings(alloc))
+    stage(alloc, "run")?
+        .arg(states(alloc))?
+        .arg(rings(alloc))?
+        .arg(optimal(alloc))
 }
 
 fn trial<'a>(alloc: Global) -> Result<Command<'a>, AllocError>

@@ -4,8 +4,8 @@ ghost use Rattle.std.specs.Prelude.{IsErrOf, option_map};
 ghost use Rattle.clap.specs.Words.{found_of, rows_of, first_of, subcommand_rows_of};
 ghost use Rattle.kex_words.specs.Words.{asked_by_command, asked_in, asked_of, block_in};
 ghost use Rattle.kex_words.specs.Words.{number_within, lines_in, mode_of, number_at, program_in};
-ghost use Rattle.kex_words.specs.Words.{max_input_in, reach_in, rings_in, room_of, states_in};
-ghost use Rattle.kex_words.specs.Words.{table_in, workers_in};
+ghost use Rattle.kex_words.specs.Words.{max_input_in, optimal_in, reach_in, rings_in, room_of};
+ghost use Rattle.kex_words.specs.Words.{states_in, table_in, workers_in};
 ghost use Rattle.kex_words.specs.Words.Asked.{ToStream};
 ghost use Rattle.kex_words.specs.declared.asked.WordsRefusal.TheVariants.{Usage};
 
@@ -92,6 +92,12 @@ fn states(matches: &ArgMatches) -> StateLimit
     }
 }
 
+fn optimal(matches: &ArgMatches) -> bool
+    ensures { result ≡ optimal_in (rows_of (found_of matches.now)) }
+{
+    matches!(text(matches, "optimal"), Some("true"))
+}
+
 fn line_limits(matches: &ArgMatches) -> LineLimits
     ensures states { result.states.most ≡ states_in (rows_of (found_of matches.now)) }
     ensures max_input { result.max_input ≡ max_input_in (rows_of (found_of matches.now)) }
@@ -152,7 +158,13 @@ fn command<'a>(matches: &ArgMatches<'a>) -> Option<Command<'a>>
             program: program(inner),
             limits: line_limits(inner),
         }),
-        Some((_, inner)) => Some(stream(Mode::Run(states(inner)), inner)),
+        Some((_, inner)) => Some(stream(
+            Mode::Run {
+                states: states(inner),
+                optimal: optimal(inner),
+            },
+            inner,
+        )),
         None => None,
     }
 }

@@ -22,6 +22,7 @@ pub enum Rule {
     NoText,
     OneStage,
     TooManyStates,
+    TooManyPairs,
     BadTable,
     TableTooLong,
 }
@@ -47,6 +48,7 @@ impl Rule {
             Rule::NoText => "K13 NoText",
             Rule::OneStage => "K14 OneStage",
             Rule::TooManyStates => "K15 TooManyStates",
+            Rule::TooManyPairs => "K16 TooManyPairs",
             Rule::BadTable => "K17 BadTable",
             Rule::TableTooLong => "K18 TableTooLong",
         }
@@ -62,7 +64,7 @@ pub enum RefusalPlace {
     At { line: u32, column: u32 },
     /// K17. Counted from 1.
     Line(u32),
-    /// K11 to K13, K15. Counted from 1.
+    /// K11 to K13, K15, K16. Counted from 1.
     Stage(u32),
 }
 
