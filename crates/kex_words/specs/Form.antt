@@ -75,12 +75,15 @@ table_app name = with_rules (new_app name) (program_rule ∷ states_rule ∷ [])
 abbrev pub stage_app : Text → App
 stage_app name = with_rules (new_app name) (program_rule ∷ max_input_rule ∷ block_rule ∷ [])
 
--- a run makes tables, may join stages by rings, and may tell as early as can be
+-- a run makes tables, may join stages by rings or share blocks among workers, and may tell as early
+-- as can be
 abbrev pub run_app : App
-run_app = with_rules (stage_app (codes "run")) (states_rule ∷ rings_rule ∷ optimal_rule ∷ [])
+run_app = with_rules (stage_app (codes "run"))
+    (states_rule ∷ rings_rule ∷ workers_rule ∷ optimal_rule ∷ [])
 
 abbrev pub trial_app : App
-trial_app = with_rules (new_app (codes "trial")) (lines_rule ∷ block_rule ∷ rings_rule ∷ [])
+trial_app = with_rules (new_app (codes "trial"))
+    (lines_rule ∷ block_rule ∷ rings_rule ∷ workers_rule ∷ [])
 
 -- a run by the tables of a file
 abbrev pub exec_app : App

@@ -12,7 +12,8 @@ abbrev pub words_of : String → List Text
 words_of line = slice_split (λ byte. byte == 32) (codes line)
 
 abbrev pub reach : ℕ → ℕ → Reach
-reach max_input block = record { max_input = max_input; block = block; rings = None }
+reach max_input block =
+    record { max_input = max_input; block = block; rings = None; workers = 1 }
 
 abbrev pub usual_reach : Reach
 usual_reach = reach 281474976710656 65536
@@ -20,6 +21,10 @@ usual_reach = reach 281474976710656 65536
 -- with rings that have room for so many items
 abbrev pub over_rings : ℕ → Reach
 over_rings room = record usual_reach { rings = Some room }
+
+-- shared among so many workers
+abbrev pub by_workers : ℕ → Reach
+by_workers workers = record usual_reach { workers = workers }
 
 -- the line asks for this
 abbrev pub LineAsks : String → Asked → Type 0
@@ -47,9 +52,15 @@ pub record ReadsRun : Type 0 where
       (ToStream (running 1048576 false) (codes "p") usual_reach)
   pub rings : LineAsks "kex run p --rings 1" (to_run "p" (over_rings 1))
   pub largest_rings : LineAsks "kex run --rings=1048576 p" (to_run "p" (over_rings 1048576))
+  pub fewest_workers : LineAsks "kex run --workers=1 p" (to_run "p" usual_reach)
+  pub most_workers : LineAsks "kex run p --workers 64" (to_run "p" (by_workers 64))
+  pub rings_and_workers : LineAsks "kex run p --workers 2 --rings 3"
+      (to_run "p" (record (over_rings 3) { workers = 2 }))
   pub optimal : LineAsks "kex run p --optimal" (ToStream (running 4096 true) (codes "p") usual_reach)
   pub optimal_states : LineAsks "kex run --optimal p --states 7"
       (ToStream (running 7 true) (codes "p") usual_reach)
+  pub optimal_workers : LineAsks "kex run --optimal p --workers 2"
+      (ToStream (running 4096 true) (codes "p") (by_workers 2))
   -- as `clap` reads numbers
   pub plus_and_zeros : LineAsks "kex run p --max-input +3 --block 007" (to_run "p" (reach 3 7))
   pub empty_name : LineAsks "kex run " (to_run "" usual_reach)
@@ -76,10 +87,13 @@ pub record ReadsSingles : Type 0 where
   pub test : LineAsks "kex test --max-input 3 p" (ToStream testing (codes "p") (reach 3 65536))
 
 pub record ReadsTrial : Type 0 where
-  pub plain : LineAsks "kex trial 2" (ToTry 2 65536 None)
-  pub none : LineAsks "kex trial --block 1 0" (ToTry 0 1 None)
-  pub most : LineAsks "kex trial 1000000" (ToTry 1000000 65536 None)
-  pub rings : LineAsks "kex trial 2 --rings 64" (ToTry 2 65536 (Some 64))
+  pub plain : LineAsks "kex trial 2" (ToTry 2 65536 None 1)
+  pub none : LineAsks "kex trial --block 1 0" (ToTry 0 1 None 1)
+  pub most : LineAsks "kex trial 1000000" (ToTry 1000000 65536 None 1)
+  pub rings : LineAsks "kex trial 2 --rings 64" (ToTry 2 65536 (Some 64) 1)
+  pub workers : LineAsks "kex trial --workers=64 2" (ToTry 2 65536 None 64)
+  pub rings_and_workers
+      : LineAsks "kex trial 2 --rings 4096 --workers 2" (ToTry 2 65536 (Some 4096) 2)
 
 -- the commands on table files
 pub record ReadsTables : Type 0 where
@@ -117,31 +131,38 @@ pub record RefusesWords : Type 0 where
       ∷ "kex test p --states 1" ∷ "kex trial 1 --states 1" ∷ "kex trial 1 --max-input 1"
       ∷ "kex check p --rings 1" ∷ "kex code p --rings 1"
       ∷ "kex act p --rings 1" ∷ "kex test p --rings 1" ∷ "kex each p --block 1"
-      ∷ "kex each p --rings 1" ∷ "kex check p --workers 1"
+      ∷ "kex each p --rings 1" ∷ "kex check p --workers 1" ∷ "kex code p --workers 1"
+      ∷ "kex act p --workers 1" ∷ "kex test p --workers 1" ∷ "kex compile p --workers 1"
+      ∷ "kex exec t --workers 1"
       ∷ "kex check p --optimal" ∷ "kex code p --optimal" ∷ "kex act p --optimal"
       ∷ "kex test p --optimal" ∷ "kex trial 1 --optimal" ∷ "kex each p --optimal"
       ∷ "kex compile p --optimal" ∷ "kex exec t --optimal"
       ∷ "kex compile p --block 1" ∷ "kex compile p --max-input 1" ∷ "kex exec t --states 1"
       ∷ "kex exec t --rings 1" ∷ [])
   pub option_twice : AreUsage ("kex run p --block 2 --block 3" ∷ "kex run p --block=2 --block=2"
-      ∷ "kex run --max-input 1 p --max-input 1" ∷ "kex run --optimal p --optimal" ∷ [])
+      ∷ "kex run --max-input 1 p --max-input 1" ∷ "kex run --optimal p --optimal"
+      ∷ "kex run p --workers 2 --workers 2" ∷ "kex trial 1 --workers=2 --workers 3" ∷ [])
   pub value_of_a_flag : AreUsage ("kex run p --optimal=true" ∷ "kex run --optimal= p"
       ∷ "kex run p --optimal true" ∷ [])
   pub no_value : AreUsage ("kex run p --block" ∷ "kex run p --block=" ∷ "kex run p --block "
       ∷ "kex run p --block --max-input 3"
-      ∷ "kex run --block -- p" ∷ [])
+      ∷ "kex run --block -- p" ∷ "kex run p --workers" ∷ "kex run p --workers="
+      ∷ "kex run --workers p" ∷ "kex trial 1 --workers" ∷ [])
   pub below_range : AreUsage ("kex run p --block 0" ∷ "kex run p --block -1"
       ∷ "kex run p --max-input -1" ∷ "kex run p --max-input=-0"
       ∷ "kex run p --states 0" ∷ "kex run p --rings 0" ∷ "kex trial 1 --rings 0"
-      ∷ "kex check p --states 0" ∷ "kex trial -1" ∷ "kex each p --workers 0" ∷ [])
+      ∷ "kex check p --states 0" ∷ "kex trial -1" ∷ "kex each p --workers 0"
+      ∷ "kex run p --workers 0" ∷ "kex trial 1 --workers 0" ∷ [])
   pub above_range : AreUsage ("kex run p --block 1048577" ∷ "kex run p --max-input 281474976710657"
       ∷ "kex run p --block 18446744073709551617" ∷ "kex run p --states 1048577"
-      ∷ "kex run p --rings 1048577" ∷ "kex trial 1000001" ∷ "kex each p --workers 65" ∷ [])
+      ∷ "kex run p --rings 1048577" ∷ "kex trial 1000001" ∷ "kex each p --workers 65"
+      ∷ "kex run p --workers 65" ∷ "kex trial 1 --workers 65" ∷ [])
   pub no_number : AreUsage ("kex run p --block two" ∷ "kex run p --block 3k"
       ∷ "kex run p --block 0x10" ∷ "kex run p --block 1_000"
       ∷ "kex run p --block 3.0" ∷ "kex run p --block +" ∷ "kex run p --block ++3"
       ∷ "kex run p --block=3=4"
-      ∷ "kex run p --block 3,5" ∷ "kex trial p" ∷ "kex trial " ∷ [])
+      ∷ "kex run p --block 3,5" ∷ "kex trial p" ∷ "kex trial " ∷ "kex run p --workers two"
+      ∷ "kex trial 1 --workers two" ∷ [])
 
 pub record ReadsWords : Type 0 where
   pub run : ReadsRun

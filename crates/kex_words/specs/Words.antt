@@ -16,16 +16,17 @@ use Rattle.kex_words.specs.declared.asked.Command.TheVariants.{Exec, Each, Trial
 use Rattle.kex_words.specs.declared.asked.Mode.{Mode as Moded}
 use Rattle.kex_words.specs.declared.asked.Mode.TheVariants as of_mode
 
--- how many bytes are read, in all and at a time, and how many items each ring between two stages
--- has room for, where there are rings
+-- how many bytes are read, in all and at a time, how many items each ring between two stages has
+-- room for, where there are rings, and how many workers share a block, where there are none
 pub record Reach : Type 0 where
   pub max_input : ℕ
   pub block : ℕ
   pub rings : Option ℕ
+  pub workers : ℕ
 
 -- what is written for the bytes of the input: what they mean, by tables of at most so many states,
--- told as early as can be where it is optimal; their code; what they mean as the text of a code; or nothing, where it is only asked whether they
--- have a parse
+-- told as early as can be where it is optimal; their code; what they mean as the text of a code; or
+-- nothing, where it is only asked whether they have a parse
 pub data Mode : Type 0 where
   running : (states : ℕ) (optimal : Bool) → Mode
   coding : Mode
@@ -39,7 +40,7 @@ pub data Asked : Type 0 where
   ToCompile : (program : Text) (states : ℕ) → Asked
   ToExec : (table : Text) (reach : Reach) → Asked
   ToEach : (program : Text) (states max_input workers : ℕ) → Asked
-  ToTry : (lines block : ℕ) (rings : Option ℕ) → Asked
+  ToTry : (lines block : ℕ) (rings : Option ℕ) (workers : ℕ) → Asked
 
 -- the number where it is within the bounds
 abbrev pub number_within : ℕ → ℕ → Option ℕ → Option ℕ
@@ -70,11 +71,15 @@ rings_in rows = number_at (codes "rings") 1 most_room rows
 abbrev pub max_input_in : List Row → ℕ
 max_input_in rows = unwrap_or (number_at (codes "max-input") 0 most_input rows) most_input
 
+abbrev pub workers_in : List Row → ℕ
+workers_in rows = unwrap_or (number_at (codes "workers") 1 most_workers rows) 1
+
 abbrev pub reach_in : List Row → Reach
 reach_in rows = record {
   max_input = max_input_in rows;
   block = block_in rows;
   rings = rings_in rows;
+  workers = workers_in rows;
 }
 
 abbrev pub states_in : List Row → ℕ
@@ -88,9 +93,6 @@ has_text text (Some found) = bytes_eq found text
 abbrev pub optimal_in : List Row → Bool
 optimal_in rows = has_text (codes "true") (first_of (codes "optimal") rows)
 
-abbrev pub workers_in : List Row → ℕ
-workers_in rows = unwrap_or (number_at (codes "workers") 1 most_workers rows) 1
-
 abbrev pub lines_in : List Row → ℕ
 lines_in rows = unwrap_or (number_at (codes "N") 0 most_lines rows) 0
 
@@ -101,7 +103,8 @@ asked_by name rows =
     else if bytes_eq name (codes "code") then ToStream coding (program_in rows) (reach_in rows)
     else if bytes_eq name (codes "act") then ToStream acting (program_in rows) (reach_in rows)
     else if bytes_eq name (codes "test") then ToStream testing (program_in rows) (reach_in rows)
-    else if bytes_eq name (codes "trial") then ToTry (lines_in rows) (block_in rows) (rings_in rows)
+    else if bytes_eq name (codes "trial")
+    then ToTry (lines_in rows) (block_in rows) (rings_in rows) (workers_in rows)
     else if bytes_eq name (codes "compile") then ToCompile (program_in rows) (states_in rows)
     else if bytes_eq name (codes "exec") then ToExec (table_in rows) (reach_in rows)
     else if bytes_eq name (codes "each")
@@ -126,8 +129,12 @@ room_of None = None
 room_of (Some rings) = Some rings.room
 
 abbrev pub reach_of : RunLimits → Reach
-reach_of limits =
-    record { max_input = limits.max_input; block = limits.block; rings = room_of limits.rings }
+reach_of limits = record {
+  max_input = limits.max_input;
+  block = limits.block;
+  rings = room_of limits.rings;
+  workers = limits.workers;
+}
 
 abbrev pub mode_of : Moded → Mode
 mode_of (of_mode.Run states optimal) = running states.most optimal
@@ -144,4 +151,5 @@ asked_by_command (Compile program states) = ToCompile program.now states.most
 asked_by_command (Exec table limits) = ToExec table.now (reach_of limits)
 asked_by_command (Each program limits) =
     ToEach program.now limits.states.most limits.max_input limits.workers
-asked_by_command (Trial lines) = ToTry lines.count lines.block (room_of lines.rings)
+asked_by_command (Trial lines) =
+    ToTry lines.count lines.block (room_of lines.rings) lines.workers

@@ -39,9 +39,13 @@ pub struct RunLimits {
     pub block: u32,
     /// What joins the stages, where they don't work by rounds.
     pub rings: Option<Rings>,
+    /// How many share a block, where there are no rings.
+    pub workers: u32,
     ghost most: { max_input ≤ 2 ^ 48 },
     ghost some: { 1 ≤ block },
     ghost fits: { block ≤ 2 ^ 20 },
+    ghost worked: { 1 ≤ workers },
+    ghost shared: { workers ≤ 64 },
 }
 
 /// How many states a stage may have.
@@ -58,9 +62,12 @@ pub struct TrialLines {
     pub count: u32,
     pub block: u32,
     pub rings: Option<Rings>,
+    pub workers: u32,
     ghost few: { count ≤ 1000000 },
     ghost some: { 1 ≤ block },
     ghost fits: { block ≤ 2 ^ 20 },
+    ghost worked: { 1 ≤ workers },
+    ghost shared: { workers ≤ 64 },
 }
 
 /// What bounds the answers to lines, and how many workers make them.

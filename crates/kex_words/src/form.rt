@@ -121,6 +121,7 @@ fn run<'a>(alloc: Global) -> Result<Command<'a>, AllocError>
     stage(alloc, "run")?
         .arg(states(alloc))?
         .arg(rings(alloc))?
+        .arg(workers(alloc))?
         .arg(optimal(alloc))
 }
 
@@ -131,7 +132,8 @@ fn trial<'a>(alloc: Global) -> Result<Command<'a>, AllocError>
     Command::new(alloc, "trial")
         .arg(lines(alloc))?
         .arg(block(alloc))?
-        .arg(rings(alloc))
+        .arg(rings(alloc))?
+        .arg(workers(alloc))
 }
 
 fn exec<'a>(alloc: Global) -> Result<Command<'a>, AllocError>

@@ -13,7 +13,7 @@ use kex_ports::{Failed, Sink};
 /// The line of words that are out of form. The manual and the guide show it, and are compared with
 /// what the program writes.
 const USAGE: &str =
-    "usage: kex run|check|code|act|test PROGRAM [--states N] [--max-input N] [--block N] [--rings N] [--optimal] | kex trial N [--block N] [--rings N] | kex compile PROGRAM [--states N] | kex exec TABLE [--max-input N] [--block N] | kex each PROGRAM [--states N] [--max-input N] [--workers N]\n";
+    "usage: kex run|check|code|act|test PROGRAM [--states N] [--max-input N] [--block N] [--rings N] [--workers N] [--optimal] | kex trial N [--block N] [--rings N] [--workers N] | kex compile PROGRAM [--states N] | kex exec TABLE [--max-input N] [--block N] | kex each PROGRAM [--states N] [--max-input N] [--workers N]\n";
 
 /// What a run leaves to be told. Stages count from 1, bytes from 0.
 #[derive(Clone, Copy, Debug, PartialEq, Eq)]

@@ -72,15 +72,25 @@ fn max_input(matches: &ArgMatches) -> u64
     number(matches, "max-input", 0, MOST_INPUT).unwrap_or(MOST_INPUT)
 }
 
+fn workers(matches: &ArgMatches) -> u32
+    ensures some { 1 ≤ result }
+    ensures few { result ≤ 64 }
+    ensures value { result ≡ workers_in (rows_of (found_of matches.now)) }
+{
+    number(matches, "workers", 1, MOST_WORKERS).unwrap_or(1) as u32
+}
+
 fn limits(matches: &ArgMatches) -> RunLimits
     ensures max_input { result.max_input ≡ (reach_in (rows_of (found_of matches.now))).max_input }
     ensures block { result.block ≡ (reach_in (rows_of (found_of matches.now))).block }
     ensures rings { room_of result.rings ≡ (reach_in (rows_of (found_of matches.now))).rings }
+    ensures workers { result.workers ≡ (reach_in (rows_of (found_of matches.now))).workers }
 {
     RunLimits {
         max_input: max_input(matches),
         block: block(matches),
         rings: rings(matches),
+        workers: workers(matches),
     }
 }
 
@@ -106,7 +116,7 @@ fn line_limits(matches: &ArgMatches) -> LineLimits
     LineLimits {
         states: states(matches),
         max_input: max_input(matches),
-        workers: number(matches, "workers", 1, MOST_WORKERS).unwrap_or(1) as u32,
+        workers: workers(matches),
     }
 }
 
@@ -114,11 +124,13 @@ fn lines(matches: &ArgMatches) -> TrialLines
     ensures count { result.count ≡ lines_in (rows_of (found_of matches.now)) }
     ensures block { result.block ≡ block_in (rows_of (found_of matches.now)) }
     ensures rings { room_of result.rings ≡ rings_in (rows_of (found_of matches.now)) }
+    ensures workers { result.workers ≡ workers_in (rows_of (found_of matches.now)) }
 {
     TrialLines {
         count: number(matches, "N", 0, MOST_LINES).unwrap_or(0) as u32,
         block: block(matches),
         rings: rings(matches),
+        workers: workers(matches),
     }
 }
 

@@ -14,8 +14,12 @@ reads-run = record {
   largest = refl;
   rings = refl;
   largest_rings = refl;
+  fewest_workers = refl;
+  most_workers = refl;
+  rings_and_workers = refl;
   optimal = refl;
   optimal_states = refl;
+  optimal_workers = refl;
   plus_and_zeros = refl;
   empty_name = refl;
   dash_for_a_name = refl;
@@ -43,7 +47,14 @@ reads-singles = record { code = refl; act = refl; test = refl }
 
 reads-trial : ReadsTrial
 unfolding clap_on_literals asked_of
-reads-trial = record { plain = refl; none = refl; most = refl; rings = refl }
+reads-trial = record {
+  plain = refl;
+  none = refl;
+  most = refl;
+  rings = refl;
+  workers = refl;
+  rings_and_workers = refl;
+}
 
 reads-tables : ReadsTables
 unfolding clap_on_literals asked_of
