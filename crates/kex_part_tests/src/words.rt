@@ -21,19 +21,21 @@ fn answer(alloc: Global, words: &[String]) -> Result<String, AllocError> {
 }
 
 const LINES: &str = r#"
-kex run p => Stream { mode: Run(StateLimit { most: 4096 }), program: "p", limits: RunLimits { max_input: 281474976710656, block: 65536, rings: None } }
-kex run --block 1 p --max-input 3 => Stream { mode: Run(StateLimit { most: 4096 }), program: "p", limits: RunLimits { max_input: 3, block: 1, rings: None } }
-kex run --block=+1 --max-input=003 -- -p => Stream { mode: Run(StateLimit { most: 4096 }), program: "-p", limits: RunLimits { max_input: 3, block: 1, rings: None } }
-kex run  => Stream { mode: Run(StateLimit { most: 4096 }), program: "", limits: RunLimits { max_input: 281474976710656, block: 65536, rings: None } }
-kex run --rings 4096 p --max-input 3 => Stream { mode: Run(StateLimit { most: 4096 }), program: "p", limits: RunLimits { max_input: 3, block: 65536, rings: Some(Rings { room: 4096 }) } }
-kex code p => Stream { mode: Code, program: "p", limits: RunLimits { max_input: 281474976710656, block: 65536, rings: None } }
-kex act p --max-input 3 --block 1 => Stream { mode: Act, program: "p", limits: RunLimits { max_input: 3, block: 1, rings: None } }
-kex test -- run => Stream { mode: Test, program: "run", limits: RunLimits { max_input: 281474976710656, block: 65536, rings: None } }
+kex run p => Stream { mode: Run { states: StateLimit { most: 4096 }, optimal: false }, program: "p", limits: RunLimits { max_input: 281474976710656, block: 65536, rings: None, workers: 1 } }
+kex run --block 1 p --max-input 3 => Stream { mode: Run { states: StateLimit { most: 4096 }, optimal: false }, program: "p", limits: RunLimits { max_input: 3, block: 1, rings: None, workers: 1 } }
+kex run --block=+1 --max-input=003 -- -p => Stream { mode: Run { states: StateLimit { most: 4096 }, optimal: false }, program: "-p", limits: RunLimits { max_input: 3, block: 1, rings: None, workers: 1 } }
+kex run  => Stream { mode: Run { states: StateLimit { most: 4096 }, optimal: false }, program: "", limits: RunLimits { max_input: 281474976710656, block: 65536, rings: None, workers: 1 } }
+kex run --rings 4096 p --max-input 3 => Stream { mode: Run { states: StateLimit { most: 4096 }, optimal: false }, program: "p", limits: RunLimits { max_input: 3, block: 65536, rings: Some(Rings { room: 4096 }), workers: 1 } }
+kex run p --workers=64 --optimal => Stream { mode: Run { states: StateLimit { most: 4096 }, optimal: true }, program: "p", limits: RunLimits { max_input: 281474976710656, block: 65536, rings: None, workers: 64 } }
+kex code p => Stream { mode: Code, program: "p", limits: RunLimits { max_input: 281474976710656, block: 65536, rings: None, workers: 1 } }
+kex act p --max-input 3 --block 1 => Stream { mode: Act, program: "p", limits: RunLimits { max_input: 3, block: 1, rings: None, workers: 1 } }
+kex test -- run => Stream { mode: Test, program: "run", limits: RunLimits { max_input: 281474976710656, block: 65536, rings: None, workers: 1 } }
 kex check p => Check { program: "p", states: StateLimit { most: 4096 } }
-kex trial 2 => Trial(TrialLines { count: 2, block: 65536, rings: None })
-kex trial 2 --rings 1 => Trial(TrialLines { count: 2, block: 65536, rings: Some(Rings { room: 1 }) })
+kex trial 2 => Trial(TrialLines { count: 2, block: 65536, rings: None, workers: 1 })
+kex trial 2 --rings 1 => Trial(TrialLines { count: 2, block: 65536, rings: Some(Rings { room: 1 }), workers: 1 })
+kex trial 2 --workers 3 --rings 1 => Trial(TrialLines { count: 2, block: 65536, rings: Some(Rings { room: 1 }), workers: 3 })
 kex compile p => Compile { program: "p", states: StateLimit { most: 4096 } }
-kex exec --block 1 t --max-input 3 => Exec { table: "t", limits: RunLimits { max_input: 3, block: 1, rings: None } }
+kex exec --block 1 t --max-input 3 => Exec { table: "t", limits: RunLimits { max_input: 3, block: 1, rings: None, workers: 1 } }
 kex each p => Each { program: "p", limits: LineLimits { states: StateLimit { most: 4096 }, max_input: 281474976710656, workers: 1 } }
 kex each --workers 64 p --max-input 2 --states=7 => Each { program: "p", limits: LineLimits { states: StateLimit { most: 7 }, max_input: 2, workers: 64 } }
 kex => Usage
@@ -75,7 +77,13 @@ kex each p --workers 0 => Usage
 kex each p --workers 65 => Usage
 kex each p --block 1 => Usage
 kex each p --rings 1 => Usage
-kex run p --workers 1 => Usage
+kex run p --workers 0 => Usage
+kex run p --workers 2 --workers 2 => Usage
+kex trial 1 --workers 65 => Usage
+kex code p --workers 1 => Usage
+kex exec t --workers 1 => Usage
+kex run p --optimal=true => Usage
+kex check p --optimal => Usage
 kex compile => Usage
 kex compile p --block 1 => Usage
 kex exec t --states 1 => Usage
