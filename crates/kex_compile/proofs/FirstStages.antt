@@ -16,29 +16,29 @@ use Rattle.kex_compile.specs.Stages.{AreFirsts, AreStages, CanRun, HaveInAll, Is
 use Rattle.kex_compile.specs.declared.refusal.PlanRefusal.{PlanRefusal}
 use Rattle.kex_compile.specs.declared.refusal.PlanRefusal.TheVariants as plan
 
-pub among-push : (xs : List ℕ) (x y : ℕ) → IsAmong (xs ++ x ∷ []) y → IsAmong xs y ⊎ (x ≡ y)
+pub among-push : {A : Type 0} (xs : List A) (x y : A) → IsAmong (xs ++ x ∷ []) y → IsAmong xs y ⊎ (x ≡ y)
 among-push [] x y (inl e) = inr e
 among-push [] x y (inr h) = absurd h
 among-push (z ∷ xs) x y (inl e) = inl (inl e)
 among-push (z ∷ xs) x y (inr h) = ⊎_elim (λ i. inl (inr i)) (λ e. inr e) (among-push xs x y h)
 
-module _ (Q : ℕ → Type 0) where
-  pub first-then : (xs : List ℕ) (o : Option ℕ) (x : ℕ) → (Q x → ⊥) → IsFirstIn Q xs o → IsFirstIn Q (xs ++ x ∷ []) o
-  first-then xs None x not h = λ y i q. ⊎_elim (λ j. h y j q) (λ e. not (subst Q (sym e) q)) (among-push xs x y i)
-  first-then xs (Some n) x not h = further xs n x h
-    where
-      further : (xs : List ℕ) (n x : ℕ) → IsFirst Q xs n → IsFirst Q (xs ++ x ∷ []) n
-      further xs n x h = record {
-        before = h.before;
-        at = h.at;
-        behind = h.behind ++ x ∷ [];
-        split = ap (λ z. z ++ x ∷ []) h.split ∙ append_assoc h.before (h.at ∷ h.behind) (x ∷ []);
-        number_is = h.number_is;
-        is_so = h.is_so;
-        none_before = h.none_before;
-      }
+module _ {A : Type 0} (Q : A → Type 0) where
+  pub first-stays : (xs : List A) (n : ℕ) (x : A) → IsFirst Q xs n → IsFirst Q (xs ++ x ∷ []) n
+  first-stays xs n x h = record {
+    before = h.before;
+    at = h.at;
+    behind = h.behind ++ x ∷ [];
+    split = ap (λ ys. ys ++ x ∷ []) h.split ∙ append_assoc h.before (h.at ∷ h.behind) (x ∷ []);
+    number_is = h.number_is;
+    is_so = h.is_so;
+    none_before = h.none_before;
+  }
 
-  pub first-now : (xs : List ℕ) (o : Option ℕ) (x n : ℕ) → n ≡ suc (length xs) → Q x → IsFirstIn Q xs o → IsFirstIn Q (xs ++ x ∷ []) (first_of o n)
+  pub first-then : (xs : List A) (o : Option ℕ) (x : A) → (Q x → ⊥) → IsFirstIn Q xs o → IsFirstIn Q (xs ++ x ∷ []) o
+  first-then xs None x not h = λ y i q. ⊎_elim (λ j. h y j q) (λ e. not (subst Q (sym e) q)) (among-push xs x y i)
+  first-then xs (Some n) x not h = first-stays xs n x h
+
+  pub first-now : (xs : List A) (o : Option ℕ) (x : A) (n : ℕ) → n ≡ suc (length xs) → Q x → IsFirstIn Q xs o → IsFirstIn Q (xs ++ x ∷ []) (first_of o n)
   first-now xs None x n number q h = record { before = xs; at = x; behind = []; split = refl; number_is = number; is_so = q; none_before = h }
   first-now xs (Some m) x n number q h = record {
     before = h.before;

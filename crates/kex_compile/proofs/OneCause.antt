@@ -9,16 +9,17 @@ use Rattle.kex_rules.specs.declared.refusal.RuleRefusal.{RuleRefusal}
 use Rattle.kex_rules.specs.declared.refusal.RuleRefusal.TheVariants as rule
 use Rattle.kex_lowering.specs.declared.refusal.StageRefusal.{StageRefusal}
 use Rattle.kex_lowering.specs.declared.refusal.StageRefusal.TheVariants as why
-use Rattle.kex_compile.specs.Stages.{AllRun, CanRun, IsFirst, IsStageRefused, IsUnplanned, KeepsToOneStage, KeepsToStates, roots_of}
+use Rattle.kex_compile.specs.Stages.{AllRun, CanRun, IsFirst, IsStageRefused, IsUnplanned, KeepsToOneStage, KeepsToPairs, KeepsToStates, most_pairs, roots_of}
 use Rattle.kex_compile.specs.declared.limits.Limits.{Limits}
 use Rattle.kex_compile.specs.Compiled.{Accepts, IsRefused, of_read, of_rule, of_plan}
 use Rattle.kex_compile.specs.declared.refusal.PlanRefusal.{PlanRefusal}
 use Rattle.kex_compile.specs.declared.refusal.PlanRefusal.TheVariants as plan
 use Rattle.kex_compile.specs.declared.refusal.CompileRefusal.{CompileRefusal}
-use Rattle.kex_compile.specs.declared.refusal.CompileRefusal.TheVariants.{TextTooLong, BadToken, Unexpected, BadRegex, BadCount, BadSet, OverLimit, TwiceDefined, Unknown, NoStart, NotTail, TooManyPlaces, NoText, OneStage, TooManyStates, Memory}
+use Rattle.kex_compile.specs.declared.refusal.CompileRefusal.TheVariants.{TextTooLong, BadToken, Unexpected, BadRegex, BadCount, BadSet, OverLimit, TwiceDefined, Unknown, NoStart, NotTail, TooManyPlaces, NoText, OneStage, TooManyStates, TooManyPairs, Memory}
 use Rattle.kex_compile.proofs.Terms.{SameName}
 use Rattle.kex_compile.proofs.Alike.{Alike, SameStages}
 use Rattle.kex_compile.proofs.SameRules.{begins_on, none_on, not_tail_on, twice_on, unknown_on}
+use Rattle.kex_compile.proofs.PairCounts.{one_pairs, pairs_first_on}
 use Rattle.kex_compile.proofs.StagePairs.{Known, one_stage, refused_on, same_count}
 use Rattle.kex_compile.proofs.States.{one_states, states_first_on}
 use Rattle.kex_model.specs.declared.program.Start.{Start}
@@ -36,17 +37,20 @@ not_ruled P Q rule.NoStart a b r n c = begins_on P Q b r.begins.0 r.begins.1 c.2
 not_ruled P Q (rule.NotTail at) a b r n c = r.tail at (not_tail_on Q P a at c.3.breaks)
 not_ruled P Q rule.Memory a b r n c = n refl
 
-not_planned : (limits : Limits) (P Q : Grammar) (e : PlanRefusal) → Alike Q P → Alike P Q → Known P → Known Q → AllRun P → KeepsToOneStage limits P → KeepsToStates limits P → (e ≡ plan.Memory → ⊥) → IsUnplanned limits Q e → ⊥
-not_planned limits P Q (plan.TooManyPlaces k) a b known known' run one few n u = let f = refused_on Q P a b known' known why.TooManyPlaces k u in (run f.0 f.1).few f.2
-not_planned limits P Q (plan.NoText k) a b known known' run one few n u = let f = refused_on Q P a b known' known why.NoText k u.1 in f.2.1 (run f.0 f.1).some_text
-not_planned limits P Q plan.OneStage a b known known' run one few n u =
+not_planned : (limits : Limits) (P Q : Grammar) (e : PlanRefusal) → Alike Q P → Alike P Q → Known P → Known Q → AllRun P → KeepsToOneStage limits P → KeepsToStates limits P → KeepsToPairs limits P → (e ≡ plan.Memory → ⊥) → IsUnplanned limits Q e → ⊥
+not_planned limits P Q (plan.TooManyPlaces k) a b known known' run one few pairs n u = let f = refused_on Q P a b known' known why.TooManyPlaces k u in (run f.0 f.1).few f.2
+not_planned limits P Q (plan.NoText k) a b known known' run one few pairs n u = let f = refused_on Q P a b known' known why.NoText k u.1 in f.2.1 (run f.0 f.1).some_text
+not_planned limits P Q plan.OneStage a b known known' run one few pairs n u =
     let le : length P.stages ≤ 1 = one u.1 in
     let more : 1 < length Q.stages = u.2 in
     omega (arith, same_count (SameName Q.names P.names) Q.stages P.stages a.stages)
-not_planned limits P Q (plan.TooManyStates k) a b known known' run one few n u =
+not_planned limits P Q (plan.TooManyStates k) a b known known' run one few pairs n u =
     let f = states_first_on Q P limits a b known' known u.0 run k u.3 in
     few u.2 f.0 f.1 f.2
-not_planned limits P Q plan.Memory a b known known' run one few n u = n refl
+not_planned limits P Q (plan.TooManyPairs k) a b known known' run one few pairs n u =
+    let f = pairs_first_on Q P a b known' known most_pairs k u.4 in
+    pairs u.3 f.0 f.1 f.2
+not_planned limits P Q plan.Memory a b known known' run one few pairs n u = n refl
 
 -- ---- one cause
 
@@ -103,22 +107,32 @@ module _ (limits : Limits) (P Q : Grammar) (a : Alike P Q) (b : Alike Q P) (know
   one_plan (plan.NoText i) plan.Memory n m h k = absurd (m refl)
   one_plan plan.OneStage plan.Memory n m h k = absurd (m refl)
   one_plan (plan.TooManyStates i) plan.Memory n m h k = absurd (m refl)
+  one_plan (plan.TooManyPairs i) plan.Memory n m h k = absurd (m refl)
   one_plan (plan.TooManyPlaces i) (plan.TooManyPlaces j) n m h k = ap plan.TooManyPlaces (one_stage P Q a b known known' why.TooManyPlaces i j h k)
   one_plan (plan.TooManyPlaces i) (plan.NoText j) n m h k = let f = refused_on P Q a b known known' why.TooManyPlaces i h in absurd (k.0 f.0 f.1 f.2)
   one_plan (plan.TooManyPlaces i) plan.OneStage n m h k = absurd (refused_here why.TooManyPlaces i (λ q. cc) h k.0)
   one_plan (plan.TooManyPlaces i) (plan.TooManyStates j) n m h k = absurd (refused_here why.TooManyPlaces i (λ q. cc) h k.0)
+  one_plan (plan.TooManyPlaces i) (plan.TooManyPairs j) n m h k = absurd (refused_here why.TooManyPlaces i (λ q. cc) h k.0)
   one_plan (plan.NoText i) (plan.TooManyPlaces j) n m h k = let f = refused_on Q P b a known' known why.TooManyPlaces j k in absurd (h.0 f.0 f.1 f.2)
   one_plan (plan.NoText i) (plan.NoText j) n m h k = ap plan.NoText (one_stage P Q a b known known' why.NoText i j h.1 k.1)
   one_plan (plan.NoText i) plan.OneStage n m h k = absurd (refused_here why.NoText i (λ q. cc) h.1 k.0)
   one_plan (plan.NoText i) (plan.TooManyStates j) n m h k = absurd (refused_here why.NoText i (λ q. cc) h.1 k.0)
+  one_plan (plan.NoText i) (plan.TooManyPairs j) n m h k = absurd (refused_here why.NoText i (λ q. cc) h.1 k.0)
   one_plan plan.OneStage (plan.TooManyPlaces j) n m h k = absurd (refused_there why.TooManyPlaces j (λ q. cc) k h.0)
   one_plan plan.OneStage (plan.NoText j) n m h k = absurd (refused_there why.NoText j (λ q. cc) k.1 h.0)
   one_plan plan.OneStage plan.OneStage n m h k = refl
   one_plan plan.OneStage (plan.TooManyStates j) n m h k = absurd (one_too_many (SameName P.names Q.names) P.stages Q.stages a.stages h.1 h.2 k.1)
+  one_plan plan.OneStage (plan.TooManyPairs j) n m h k = absurd (one_too_many (SameName P.names Q.names) P.stages Q.stages a.stages h.1 h.2 k.1)
   one_plan (plan.TooManyStates i) (plan.TooManyPlaces j) n m h k = absurd (refused_there why.TooManyPlaces j (λ q. cc) k h.0)
   one_plan (plan.TooManyStates i) (plan.NoText j) n m h k = absurd (refused_there why.NoText j (λ q. cc) k.1 h.0)
   one_plan (plan.TooManyStates i) plan.OneStage n m h k = absurd (one_too_many (SameName Q.names P.names) Q.stages P.stages b.stages k.1 k.2 h.1)
   one_plan (plan.TooManyStates i) (plan.TooManyStates j) n m h k = ap plan.TooManyStates (one_states P Q limits a b known known' h.0 k.0 i j h.3 k.3)
+  one_plan (plan.TooManyStates i) (plan.TooManyPairs j) n m h k = let f = states_first_on P Q limits a b known known' h.0 k.0 i h.3 in absurd (k.2 h.2 f.0 f.1 f.2)
+  one_plan (plan.TooManyPairs i) (plan.TooManyPlaces j) n m h k = absurd (refused_there why.TooManyPlaces j (λ q. cc) k h.0)
+  one_plan (plan.TooManyPairs i) (plan.NoText j) n m h k = absurd (refused_there why.NoText j (λ q. cc) k.1 h.0)
+  one_plan (plan.TooManyPairs i) plan.OneStage n m h k = absurd (one_too_many (SameName Q.names P.names) Q.stages P.stages b.stages k.1 k.2 h.1)
+  one_plan (plan.TooManyPairs i) (plan.TooManyStates j) n m h k = let f = states_first_on Q P limits b a known' known k.0 h.0 j k.3 in absurd (h.2 k.2 f.0 f.1 f.2)
+  one_plan (plan.TooManyPairs i) (plan.TooManyPairs j) n m h k = ap plan.TooManyPairs (one_pairs P Q a b known known' most_pairs i j h.4 k.4)
 
 -- ---- texts
 
@@ -144,6 +158,7 @@ cause limits text (TooManyPlaces k) n h = unplanned h.0 (plan.TooManyPlaces k) (
 cause limits text (NoText k) n h = unplanned h.0 (plan.NoText k) (λ q. cc) h.1 h.2 h.3
 cause limits text OneStage n h = unplanned h.0 plan.OneStage (λ q. cc) h.1 h.2 h.3
 cause limits text (TooManyStates k) n h = unplanned h.0 (plan.TooManyStates k) (λ q. cc) h.1 h.2 h.3
+cause limits text (TooManyPairs k) n h = unplanned h.0 (plan.TooManyPairs k) (λ q. cc) h.1 h.2 h.3
 cause limits text Memory n h = absurd (n refl)
 
 memory_or_not : (e : CompileRefusal) → (e ≡ Memory) ⊎ (e ≡ Memory → ⊥)
@@ -154,7 +169,7 @@ module _ (limits : Limits) (text : List ℕ) (alike : (P Q : Grammar) → Spells
   not_caused : (P : Grammar) (e : CompileRefusal) → Accepts limits text P → Cause limits text e → ⊥
   not_caused P _ ok (unread e n h) = spelled P e n ok.spells h
   not_caused P _ ok (unruled Q e n s h) = not_ruled P Q e (alike Q P s ok.spells) (alike P Q ok.spells s) ok.ruled n h
-  not_caused P _ ok (unplanned Q e n s r h) = not_planned limits P Q e (alike Q P s ok.spells) (alike P Q ok.spells s) ok.ruled.known r.known ok.stages ok.one_stage ok.states n h
+  not_caused P _ ok (unplanned Q e n s r h) = not_planned limits P Q e (alike Q P s ok.spells) (alike P Q ok.spells s) ok.ruled.known r.known ok.stages ok.one_stage ok.states ok.pairs n h
 
   pub accepted : (P : Grammar) (e : CompileRefusal) → Accepts limits text P → IsRefused limits text e → e ≡ Memory
   accepted P e ok h = ⊎_elim (λ q. q) (λ n. absurd (not_caused P e ok (cause limits text e n h))) (memory_or_not e)

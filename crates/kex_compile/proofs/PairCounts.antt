@@ -61,6 +61,12 @@ module _ (P Q : Grammar) (a : Alike P Q) (b : Alike Q P) (known : Known P) (know
       let p = pair_on (λ r q. Paired r q) (roots_of P) (roots_of Q) (roots P Q a b known known') f.0 f.1 in
       (p.0, p.1, more_pairs P Q a known f.0 p.0 p.2.0 most f.2)
 
+  -- and so has the partner of one there
+  pub pairs_there : (q : ℕ) → IsAmong (roots_of Q) q → ManyThere q → (r : ℕ) × IsAmong (roots_of P) r × Many r
+  pairs_there q i h =
+      let p = pair_on (λ x y. Both Q P b a known' known x y) (roots_of Q) (roots_of P) (roots Q P b a known' known) q i in
+      (p.0, p.1, more_pairs Q P b known' q p.0 p.2.0 most h)
+
   -- the first stage with too many pairs has one number
   pub one_pairs : (n m : ℕ) → IsFirst (λ r. Many r) (roots_of P) n → IsFirst (λ q. ManyThere q) (roots_of Q) m → n ≡ m
   one_pairs n m h k =

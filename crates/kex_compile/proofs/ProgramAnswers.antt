@@ -15,12 +15,13 @@ use Rattle.kex_rules.specs.Rules.{IsRuled}
 use Rattle.kex_reader.specs.Spelling.{Spells}
 use Rattle.kex_lowering.proofs.SameAnswers.{Serves, answers_so}
 use Rattle.kex_compile.specs.declared.limits.Limits.{Limits}
-use Rattle.kex_compile.specs.Stages.{AllRun, CanRun, HaveInAll, HaveStatesInAll, most_places, roots_of}
+use Rattle.kex_compile.specs.Stages.{AllRun, CanRun, HaveInAll, HaveStatesInAll, most_pairs, most_places, roots_of}
 use Rattle.kex_compile.specs.Compiled.{Accepts, AnswersAlike, MeansAlike}
 use Rattle.kex_compile.proofs.Terms.{SameName}
 use Rattle.kex_compile.proofs.Alike.{Alike, name_back}
 use Rattle.kex_compile.proofs.SameRules.{defined_on, not_tail_on, once_back, stage_on as start_on, use_on}
 use Rattle.kex_compile.proofs.PlacePairs.{SamePlace, empty, Partners, partners_on, end_ahead, more_on}
+use Rattle.kex_compile.proofs.PairCounts.{pairs_there}
 use Rattle.kex_compile.proofs.StagePairs.{Known, Pairwise, pair_on, pair_at, Both, roots, same_count}
 use Rattle.kex_compile.proofs.PlaceCounts.{as_many_in_all}
 use Rattle.kex_compile.proofs.SurvivorPairs.{agreed_on, reach_on, viable_back, viable_on}
@@ -170,6 +171,9 @@ module _ (limits : Limits) (text : List ℕ) (alike : (P Q : Grammar) → Spells
         states = λ asked q i many.
             let x = states_there P Q limits a b ok.ruled.known ruled.known ok.stages run q i many in
             ok.states asked x.0 x.1 x.2;
+        pairs = λ asked q i many.
+            let x = pairs_there P Q a b ok.ruled.known ruled.known most_pairs q i many in
+            ok.pairs asked x.0 x.1 x.2;
         one_stage = λ on. let le : length P.stages ≤ 1 = ok.one_stage on in omega (arith, same_count (SameName P.names Q.names) P.stages Q.stages a.stages);
       }
 

@@ -35,4 +35,5 @@ unplanned limits text P (plan.TooManyPlaces n) s r h = (P, s, r, h)
 unplanned limits text P (plan.NoText n) s r h = (P, s, r, h)
 unplanned limits text P plan.OneStage s r h = (P, s, r, h)
 unplanned limits text P (plan.TooManyStates n) s r h = (P, s, r, h)
+unplanned limits text P (plan.TooManyPairs n) s r h = (P, s, r, h)
 unplanned limits text P plan.Memory s r h = tt

@@ -1,5 +1,6 @@
 -- From the tables of machines to what they say of stages.
-use Rattle.std.proofs.Common.{◌≡◌, ◌+◌, ◌≤◌, ℕ, suc, arith, List, [], ◌∷◌, ◌++◌, inl, inr, length, refl, sym, ap, ◌∙◌, subst}
+use Rattle.std.proofs.Common.{◌≡◌, ◌+◌, ◌≤◌, ℕ, suc, true, false, arith, List, [], ◌∷◌, ◌++◌, inl, inr, length, refl, sym, ap, ◌∙◌, subst}
+use Rattle.std.specs.Prelude.{Option, Some, None, Result, Ok, Err, OnOk, is_some}
 use Rattle.kex_code.specs.Codes.{Different, IsAmong}
 use Rattle.kex_model.specs.Moves.{Move}
 use Rattle.kex_model.specs.States.{AllDifferent, HasMoreStates, HasStates}
@@ -7,12 +8,17 @@ use Rattle.kex_model.proofs.DistinctItems.{different_fits}
 use Rattle.kex_model.specs.Programs.{Grammar}
 use Rattle.kex_machine.specs.Nodes.{Graph, node_moves}
 use Rattle.kex_sst.specs.Tables.{Transducer}
-use Rattle.std.specs.Prelude.{Option}
 use Rattle.kex_lowering.proofs.States.{same_states}
+use Rattle.kex_cover.specs.Optimal.{RefusesOptimal}
+use Rattle.kex_cover.specs.declared.refusal.CoverRefusal.{CoverRefusal}
+use Rattle.kex_cover.specs.declared.refusal.CoverRefusal.TheVariants as cover
+use Rattle.kex_alike.specs.StageTests.{HasTooManyPairs}
+use Rattle.kex_alike.proofs.StageMachines.{machines_ask_as_stage}
 use Rattle.kex_compile.specs.declared.limits.Limits.{Limits}
-use Rattle.kex_compile.specs.Stages.{AllRun, AreStages, AreTabled, HasMoreNodes, HasTooManyStates, HaveNodeStates, HaveStatesInAll, IsFirst, HasTable, IsStage, IsUnplanned, IsUntabled, IsUntabledAs, KeepsToOneStage, NodeStates, roots_of}
+use Rattle.kex_compile.specs.Stages.{AllRun, AreStages, AreTabled, HasMoreNodePairs, HasMoreNodes, HasStatesIf, HasTable, HasTooManyStates, HaveTheirPlans, HavePlansOrFirst, HaveStatesInAll, IsFirst, IsStage, IsUnplanned, IsUntabled, IsUntabledAs, IsUntabledBy, KeepsToOneStage, NodeStates, NoneIs, Plans, most_pairs, roots_of}
 use Rattle.kex_compile.specs.declared.refusal.PlanRefusal.{PlanRefusal}
-use Rattle.kex_compile.specs.declared.refusal.PlanRefusal.TheVariants.{TooManyPlaces, NoText, OneStage, TooManyStates, Memory}
+use Rattle.kex_compile.specs.declared.refusal.PlanRefusal.TheVariants.{TooManyPlaces, NoText, OneStage, TooManyStates, TooManyPairs, Memory}
+use Rattle.kex_compile.proofs.FirstStages.{first-now, first-stays, first-then}
 
 different_of : {A : Type 0} (xs : List A) → AllDifferent xs → Different xs
 different_of [] d = tt
@@ -23,6 +29,17 @@ pub not_more : {S : Type 0} (moves : S → Move S) (start : S) (n max : ℕ) →
 not_more moves start n max h le (xs, long, different, each) =
     let fits = different_fits xs h.states (different_of xs different) (λ s i. h.all s (each s i)) in
     omega (arith, fits, long, le, h.count)
+
+-- what an answer says, it says where that says more
+pub on_ok : {A B : Type 0} (r : Result A B) (P Q : Type 0) → (P → Q) → OnOk r P → OnOk r Q
+on_ok (Ok x) P Q f p = f p
+on_ok (Err e) P Q f p = p
+
+-- why a machine has no table that tells what is best
+pub unoptimal : (limits : Limits) (m : Graph) (e : CoverRefusal) → limits.tables ≡ true → limits.optimal ≡ true → RefusesOptimal m limits.states most_pairs e → IsUntabledBy limits m e
+unoptimal limits m (cover.TooManyStates seen) tables on h = (tables, h.1)
+unoptimal limits m (cover.TooManyPairs seen) tables on h = (not_more (λ k. node_moves m.nodes k) m.start h.1.0 limits.states h.1.2 h.1.1, (on, h.2))
+unoptimal limits m cover.Memory tables on h = tt
 
 module _ (limits : Limits) where
   -- one machine more
@@ -35,9 +52,47 @@ module _ (limits : Limits) where
   none_among total (x ∷ ms) (own, rest, has, few, more, e) m (inl i) q = few (subst (λ z. HasMoreNodes limits z) (sym i) q)
   none_among total (x ∷ ms) (own, rest, has, few, more, e) m (inr i) q = none_among rest ms more m i q
 
-  -- the first machine that has no plan
-  pub untabled : (total stage : ℕ) (ms front : List Graph) (m : Graph) (rest : List Graph) (e : PlanRefusal) → ms ≡ front ++ m ∷ rest → stage ≡ suc (length front) → HaveNodeStates limits front total → IsUntabledAs limits m stage e → IsUntabled limits ms e
-  untabled total stage ms front m rest (TooManyStates n) split number none (on, same, more) = (
+  none_so_far : (ms : List Graph) (first : Option ℕ) (plans : Plans) → limits.tables ≡ true → HavePlansOrFirst limits ms first plans → NoneIs (HasMoreNodes limits) ms
+  none_so_far ms None plans on h = λ m i q. none_among plans.states ms (h.states on) m i q
+  none_so_far ms (Some n) plans on h = h.0
+
+  -- tables and one more
+  pub tabled_more : (ms : List Graph) (os : List (Option Transducer)) (m : Graph) (o : Option Transducer) → AreTabled limits ms os → HasTable limits m o → AreTabled limits (ms ++ m ∷ []) (os ++ o ∷ [])
+  tabled_more [] [] m o h k = (k, tt)
+  tabled_more (x ∷ ms) (y ∷ os) m o h k = (h.0, tabled_more ms os m o h.1 k)
+  tabled_more [] (y ∷ os) m o h k = absurd h
+  tabled_more (x ∷ ms) [] m o h k = absurd h
+
+  -- one machine more, which has its plan
+  plan_more : (ms : List Graph) (m : Graph) (old new : Plans) (own : ℕ) (o : Option Transducer) → new.stages ≡ old.stages ++ m ∷ [] → new.tables ≡ old.tables ++ o ∷ [] → new.states ≡ old.states + own → HasTable limits m o → HasStatesIf limits m own → (HasMoreNodePairs limits m → ⊥) → HaveTheirPlans limits ms old → HaveTheirPlans limits (ms ++ m ∷ []) new
+  plan_more ms m old new own o stages tables states has count few h = record {
+    machines = stages ∙ ap (λ z. z ++ m ∷ []) h.machines;
+    tables = subst (λ z. AreTabled limits (ms ++ m ∷ []) z) (sym tables) (tabled_more ms old.tables m o h.tables has);
+    states = λ on. let k = count on in subst (λ z. NodeStates limits (ms ++ m ∷ []) z) (sym states) (states_more ms m old.states own (h.states on) k.0 k.1);
+    pairs = first-then (HasMoreNodePairs limits) ms None m few h.pairs;
+  }
+
+  pub planned_more : (ms : List Graph) (m : Graph) (first : Option ℕ) (old new : Plans) (own : ℕ) (o : Option Transducer) → is_some first ≡ false → new.stages ≡ old.stages ++ m ∷ [] → new.tables ≡ old.tables ++ o ∷ [] → new.states ≡ old.states + own → HasTable limits m o → HasStatesIf limits m own → (HasMoreNodePairs limits m → ⊥) → HavePlansOrFirst limits ms first old → HavePlansOrFirst limits (ms ++ m ∷ []) first new
+  planned_more ms m None old new own o none stages tables states has count few h = plan_more ms m old new own o stages tables states has count few h
+  planned_more ms m (Some n) old new own o none stages tables states has count few h = cc
+
+  -- which is the first that has too many pairs
+  pub first_more : (ms : List Graph) (m : Graph) (first : Option ℕ) (n : ℕ) (plans : Plans) → n ≡ suc (length ms) → is_some first ≡ false → limits.tables ≡ true → (HasMoreNodes limits m → ⊥) → HasMoreNodePairs limits m → HavePlansOrFirst limits ms first plans → HavePlansOrFirst limits (ms ++ m ∷ []) (Some n) plans
+  first_more ms m None n plans number none on few more h = (first-then (HasMoreNodes limits) ms None m few (none_so_far ms None plans on h), first-now (HasMoreNodePairs limits) ms None m n number more h.pairs)
+  first_more ms m (Some k) n plans number none on few more h = cc
+
+  -- or which comes behind the first
+  pub known_more : (ms : List Graph) (m : Graph) (first : Option ℕ) (plans : Plans) → is_some first ≡ true → (HasMoreNodes limits m → ⊥) → HavePlansOrFirst limits ms first plans → HavePlansOrFirst limits (ms ++ m ∷ []) first plans
+  known_more ms m None plans some few h = cc
+  known_more ms m (Some n) plans some few h = (first-then (HasMoreNodes limits) ms None m few h.0, first-stays (HasMoreNodePairs limits) ms n m h.1)
+
+  pub tables_where_first : (ms : List Graph) (first : Option ℕ) (plans : Plans) → is_some first ≡ true → (limits.optimal ≡ true → limits.tables ≡ true) → HavePlansOrFirst limits ms first plans → limits.tables ≡ true
+  tables_where_first ms None plans some on h = cc
+  tables_where_first ms (Some n) plans some on h = on h.1.is_so.0
+
+  -- plans end at the first machine that has too many states
+  pub untabled : (front : List Graph) (m : Graph) (rest : List Graph) (ms : List Graph) (stage : ℕ) (first : Option ℕ) (plans : Plans) (e : PlanRefusal) → ms ≡ front ++ m ∷ rest → stage ≡ suc (length front) → HavePlansOrFirst limits front first plans → IsUntabledAs limits m stage e → IsUntabled limits ms e
+  untabled front m rest ms stage first plans (TooManyStates n) split number so_far (on, same, more) = (
     on,
     record {
       before = front;
@@ -46,20 +101,14 @@ module _ (limits : Limits) where
       split = split;
       number_is = same ∙ number;
       is_so = more;
-      none_before = λ x i q. none_among total front (none on) x i q;
+      none_before = none_so_far front first plans on so_far;
     },
   )
-  untabled total stage ms front m rest Memory split number none h = tt
-  untabled total stage ms front m rest (TooManyPlaces n) split number none h = absurd h
-  untabled total stage ms front m rest (NoText n) split number none h = absurd h
-  untabled total stage ms front m rest OneStage split number none h = absurd h
-
-  -- tables and one more
-  pub tabled_more : (ms : List Graph) (os : List (Option Transducer)) (m : Graph) (o : Option Transducer) → AreTabled limits ms os → HasTable limits m o → AreTabled limits (ms ++ m ∷ []) (os ++ o ∷ [])
-  tabled_more [] [] m o h k = (k, tt)
-  tabled_more (x ∷ ms) (y ∷ os) m o h k = (h.0, tabled_more ms os m o h.1 k)
-  tabled_more [] (y ∷ os) m o h k = absurd h
-  tabled_more (x ∷ ms) [] m o h k = absurd h
+  untabled front m rest ms stage first plans Memory split number so_far h = tt
+  untabled front m rest ms stage first plans (TooManyPlaces n) split number so_far h = absurd h
+  untabled front m rest ms stage first plans (NoText n) split number so_far h = absurd h
+  untabled front m rest ms stage first plans OneStage split number so_far h = absurd h
+  untabled front m rest ms stage first plans (TooManyPairs n) split number so_far h = absurd h
 
 -- a stage and its machine have as many states
 module _ (limits : Limits) (P : Grammar) where
@@ -111,9 +160,9 @@ module _ (limits : Limits) (P : Grammar) where
   machine_among i (x ∷ rs) (m ∷ ms) s r (inl a) = (m, inl refl, i, subst (λ z. IsStage P z i m) a s.0)
   machine_among i (x ∷ rs) (m ∷ ms) s r (inr a) = let y = machine_among (suc i) rs ms s.1 r a in (y.0, inr y.1, y.2, y.3)
 
-  -- the first machine with too many states is that of the first such stage
-  pub first_of_stages : (n i : ℕ) (rs : List ℕ) (ms : List Graph) → AreStages P i rs ms → IsFirst (HasMoreNodes limits) ms n → IsFirst (HasTooManyStates limits P) rs n
-  first_of_stages n i rs ms s h =
+  -- the first machine that is so is that of the first stage that is so
+  first_of_stages : (A : Graph → Type 0) (B : ℕ → Type 0) → ((r i : ℕ) (m : Graph) → IsStage P r i m → A m → B r) → ((r i : ℕ) (m : Graph) → IsStage P r i m → B r → A m) → (n i : ℕ) (rs : List ℕ) (ms : List Graph) → AreStages P i rs ms → IsFirst A ms n → IsFirst B rs n
+  first_of_stages A B on back n i rs ms s h =
       let x = split_at i rs h.before h.at h.behind (subst (λ z. AreStages P i rs z) h.split s) in
       record {
         before = x.before;
@@ -121,13 +170,32 @@ module _ (limits : Limits) (P : Grammar) where
         behind = x.behind;
         split = x.split;
         number_is = h.number_is ∙ ap suc (sym x.long);
-        is_so = more_places x.root x.own h.at x.is h.is_so;
-        none_before = λ r a q. let y = machine_among i x.before h.before x.stages r a in h.none_before y.0 y.1 (more_nodes r y.2 y.0 y.3 q);
+        is_so = on x.root x.own h.at x.is h.is_so;
+        none_before = λ r a q. let y = machine_among i x.before h.before x.stages r a in h.none_before y.0 y.1 (back r y.2 y.0 y.3 q);
       }
+
+  abbrev Many : ℕ → Type 0
+  Many r = HasTooManyPairs P r most_pairs
+
+  pairs_of_stage : (r i : ℕ) (m : Graph) → IsStage P r i m → HasMoreNodePairs limits m → Many r
+  pairs_of_stage r i m s h = (machines_ask_as_stage P r m most_pairs s.kept).more.1 h.1
+
+  pairs_of_machine : limits.optimal ≡ true → (r i : ℕ) (m : Graph) → IsStage P r i m → Many r → HasMoreNodePairs limits m
+  pairs_of_machine on r i m s h = (on, (machines_ask_as_stage P r m most_pairs s.kept).more.0 h)
+
+  -- no stage is so where no machine is
+  none_of_stages : (A : Graph → Type 0) (B : ℕ → Type 0) → ((r i : ℕ) (m : Graph) → IsStage P r i m → B r → A m) → (i : ℕ) (rs : List ℕ) (ms : List Graph) → AreStages P i rs ms → NoneIs A ms → NoneIs B rs
+  none_of_stages A B back i rs ms s none r a q = let y = machine_among i rs ms s r a in none y.0 y.1 (back r y.2 y.0 y.3 q)
+
+  pub keeps_to_pairs : (i : ℕ) (rs : List ℕ) (ms : List Graph) → AreStages P i rs ms → NoneIs (HasMoreNodePairs limits) ms → limits.optimal ≡ true → NoneIs (λ r. Many r) rs
+  keeps_to_pairs i rs ms s none on = none_of_stages (HasMoreNodePairs limits) (λ r. Many r) (pairs_of_machine on) i rs ms s none
 
   -- why stages have no plans
   pub unplanned_by : (ms : List Graph) (e : PlanRefusal) → AllRun P → KeepsToOneStage limits P → AreStages P 1 (roots_of P) ms → IsUntabled limits ms e → IsUnplanned limits P e
-  unplanned_by ms (TooManyStates n) run one s (on, first) = (run, one, on, first_of_stages n 1 (roots_of P) ms s first)
+  unplanned_by ms (TooManyStates n) run one s (on, first) = (run, one, on, first_of_stages (HasMoreNodes limits) (HasTooManyStates limits P) more_places more_nodes n 1 (roots_of P) ms s first)
+  unplanned_by ms (TooManyPairs n) run one s (few, first) =
+      let on = first.is_so.0 in
+      (run, one, λ tables. none_of_stages (HasMoreNodes limits) (HasTooManyStates limits P) more_nodes 1 (roots_of P) ms s few, on, first_of_stages (HasMoreNodePairs limits) (λ r. Many r) pairs_of_stage (pairs_of_machine on) n 1 (roots_of P) ms s first)
   unplanned_by ms Memory run one s h = tt
   unplanned_by ms (TooManyPlaces n) run one s h = absurd h
   unplanned_by ms (NoText n) run one s h = absurd h

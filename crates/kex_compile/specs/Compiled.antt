@@ -11,8 +11,8 @@ use Rattle.kex_rules.specs.Rules.{IsRuled, IsRuleCause}
 use Rattle.kex_rules.specs.declared.refusal.RuleRefusal.{RuleRefusal}
 use Rattle.kex_rules.specs.declared.refusal.RuleRefusal.TheVariants as rule
 use Rattle.kex_machine.specs.Nodes.{Graph}
-use Rattle.kex_compile.specs.Stages.{AllRun, AreStages, KeepsToOneStage, KeepsToStates, Plans}
-use Rattle.kex_compile.specs.Stages.{ArePlans, IsUnplanned, roots_of}
+use Rattle.kex_compile.specs.Stages.{AllRun, ArePlans, AreStages, IsUnplanned, KeepsToOneStage}
+use Rattle.kex_compile.specs.Stages.{KeepsToPairs, KeepsToStates, Plans, roots_of}
 use Rattle.kex_compile.specs.declared.limits.Limits.{Limits}
 use Rattle.kex_compile.specs.declared.refusal.PlanRefusal.{PlanRefusal}
 use Rattle.kex_compile.specs.declared.refusal.PlanRefusal.TheVariants as plan
@@ -24,7 +24,7 @@ use Rattle.kex_compile.specs.declared.refusal.CompileRefusal.TheVariants.{OverLi
 use Rattle.kex_compile.specs.declared.refusal.CompileRefusal.TheVariants.{Unknown, NoStart, NotTail}
 use Rattle.kex_compile.specs.declared.refusal.CompileRefusal.TheVariants.{TooManyPlaces, NoText}
 use Rattle.kex_compile.specs.declared.refusal.CompileRefusal.TheVariants.{OneStage, TooManyStates}
-use Rattle.kex_compile.specs.declared.refusal.CompileRefusal.TheVariants.{Memory}
+use Rattle.kex_compile.specs.declared.refusal.CompileRefusal.TheVariants.{TooManyPairs, Memory}
 
 -- the text spells the program, which keeps the rules and what a command asks, and each of whose
 -- stages can run
@@ -34,6 +34,7 @@ pub record Accepts (limits : Limits) (text : List ℕ) (P : Grammar) : Type 0 wh
   pub stages : AllRun P
   pub one_stage : KeepsToOneStage limits P
   pub states : KeepsToStates limits P
+  pub pairs : KeepsToPairs limits P
 
 -- the plans are those of a program that the text spells
 pub record IsCompiled (limits : Limits) (text : List ℕ) (plans : Plans) : Type 0 where
@@ -73,6 +74,7 @@ IsRefused limits text (TooManyPlaces n) = HasNoPlans limits text (plan.TooManyPl
 IsRefused limits text (NoText n) = HasNoPlans limits text (plan.NoText n)
 IsRefused limits text OneStage = HasNoPlans limits text plan.OneStage
 IsRefused limits text (TooManyStates n) = HasNoPlans limits text (plan.TooManyStates n)
+IsRefused limits text (TooManyPairs n) = HasNoPlans limits text (plan.TooManyPairs n)
 IsRefused limits text Memory = Unit {0}
 
 abbrev pub of_read : ReadRefusal → CompileRefusal
@@ -97,6 +99,7 @@ of_plan (plan.TooManyPlaces n) = TooManyPlaces n
 of_plan (plan.NoText n) = NoText n
 of_plan plan.OneStage = OneStage
 of_plan (plan.TooManyStates n) = TooManyStates n
+of_plan (plan.TooManyPairs n) = TooManyPairs n
 of_plan plan.Memory = Memory
 
 -- stage by stage the programs mean the same

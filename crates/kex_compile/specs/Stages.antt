@@ -1,6 +1,6 @@
 -- The stages of a program: what their plans are, and which is refused first.
 use Rattle.std.specs.Prelude.{◌≡◌, ◌+◌, ◌<◌, ◌≤◌, ◌∷◌, ◌++◌, [], ℕ, suc, Bool, true, false, List}
-use Rattle.std.specs.Prelude.{Option, Some, None, length, map}
+use Rattle.std.specs.Prelude.{Option, Some, None, if◌then◌else◌, length, map}
 use Rattle.kex_code.specs.Codes.{IsAmong}
 use Rattle.kex_model.specs.Programs.{Grammar}
 use Rattle.kex_model.specs.Trees.{root_of}
@@ -9,8 +9,12 @@ use Rattle.kex_model.specs.Survivors.{LeadsToEnd}
 use Rattle.kex_model.specs.States.{HasMoreStates, HasStates}
 use Rattle.kex_machine.specs.Nodes.{Graph, node_moves}
 use Rattle.kex_sst.specs.Tables.{Transducer}
-use Rattle.kex_sst.specs.Machines.{IsTableOf}
+use Rattle.kex_sst.specs.Machines.{IsBestTableOf, IsTableOf}
 use Rattle.kex_determine.specs.Determined.{IsDetermined}
+use Rattle.kex_cover.specs.Optimal.{IsOptimal, SomeAsksMore}
+use Rattle.kex_cover.specs.declared.refusal.CoverRefusal.{CoverRefusal}
+use Rattle.kex_cover.specs.declared.refusal.CoverRefusal.TheVariants as cover
+use Rattle.kex_alike.specs.StageTests.{HasTooManyPairs}
 use Rattle.kex_stage.specs.Plans.{Planned}
 use Rattle.kex_stage.specs.declared.plan.Telling.{Telling}
 use Rattle.kex_stage.specs.declared.plan.Telling.TheVariants as telling
@@ -23,11 +27,15 @@ use Rattle.kex_compile.specs.declared.limits.Limits.{Limits}
 use Rattle.kex_compile.specs.declared.refusal.PlanRefusal.{PlanRefusal}
 use Rattle.kex_compile.specs.declared.refusal.PlanRefusal.TheVariants.{TooManyPlaces, NoText}
 use Rattle.kex_compile.specs.declared.refusal.PlanRefusal.TheVariants.{OneStage, TooManyStates}
-use Rattle.kex_compile.specs.declared.refusal.PlanRefusal.TheVariants.{Memory}
+use Rattle.kex_compile.specs.declared.refusal.PlanRefusal.TheVariants.{TooManyPairs, Memory}
 
 -- how many places a stage may have
 abbrev pub most_places : ℕ
 most_places = 1048576
+
+-- how many pairs the test of a leaf may have
+abbrev pub most_pairs : ℕ
+most_pairs = 4096
 
 -- where the stages begin, in their order
 abbrev pub roots_of : Grammar → List ℕ
@@ -54,6 +62,11 @@ HasTooManyStates limits P root = HasMoreStates (moves P) (start_of P root) limit
 abbrev pub KeepsToStates : Limits → Grammar → Type 0
 KeepsToStates limits P = limits.tables ≡ true → (root : ℕ) → IsAmong (roots_of P) root
     → HasTooManyStates limits P root → ⊥
+
+-- where what is best is asked for, no stage has too many pairs
+abbrev pub KeepsToPairs : Limits → Grammar → Type 0
+KeepsToPairs limits P = limits.optimal ≡ true → (root : ℕ) → IsAmong (roots_of P) root
+    → HasTooManyPairs P root most_pairs → ⊥
 
 -- the stage can run, and the machine answers as it does, has its paths to the places that it keeps,
 -- and bears its number
@@ -99,28 +112,38 @@ pub record Plans : Type 0 where
   pub places : ℕ
   pub states : ℕ
 
-abbrev pub HasTableIf : Bool → Graph → Option Transducer → Type 0
-HasTableIf true m None = ⊥
-HasTableIf true m (Some t) = IsTableOf m t × IsDetermined m t
-HasTableIf false m o = o ≡ None
+-- what stages are to tell
+abbrev pub asked_telling : Limits → Telling
+asked_telling limits = if limits.optimal then telling.Best else telling.Agreed
 
--- where tables are asked for, a machine has a table that is its own, numbered as states are met,
--- else none
+-- the table tells what is agreed, and its states are numbered as they are met; or it tells what is
+-- best, and is the same table with the covered leaves left out
+abbrev pub IsTableTelling : Telling → Graph → Transducer → Type 0
+IsTableTelling telling.Agreed m t = IsTableOf m t × IsDetermined m t
+IsTableTelling telling.Best m t = IsBestTableOf m t × IsOptimal m t
+
+abbrev pub HasTableIf : Bool → Telling → Graph → Option Transducer → Type 0
+HasTableIf true k m None = ⊥
+HasTableIf true k m (Some t) = IsTableTelling k m t
+HasTableIf false k m o = o ≡ None
+
+-- where tables are asked for, a machine has a table that is its own and tells what it is to, else
+-- none
 abbrev pub HasTable : Limits → Graph → Option Transducer → Type 0
-HasTable limits m o = HasTableIf limits.tables m o
+HasTable limits m o = HasTableIf limits.tables (asked_telling limits) m o
 
 abbrev pub AreTabled : Limits → List Graph → List (Option Transducer) → Type 0
 AreTabled limits [] [] = Unit {0}
 AreTabled limits (m ∷ ms) (o ∷ os) = HasTable limits m o × AreTabled limits ms os
 AreTabled limits ms os = ⊥
 
--- the plans of the program's stages, with their tables, which tell what is agreed, and how many
+-- the plans of the program's stages, with their tables, which tell what they are to, and how many
 -- places and states these have in all
 pub record ArePlans (limits : Limits) (P : Grammar) (plans : Plans) : Type 0 where
   pub stages : AreStages P 1 (roots_of P) plans.stages
   pub places : HaveInAll P (roots_of P) plans.places
   pub tables : AreTabled limits plans.stages plans.tables
-  pub agreed : plans.telling ≡ telling.Agreed
+  pub told : plans.telling ≡ asked_telling limits
   pub states : limits.tables ≡ true → HaveStatesInAll P (roots_of P) plans.states
 
 -- what is first so in the list has this number, counted from 1
@@ -133,8 +156,8 @@ pub record IsFirst {A : Type 0} (Q : A → Type 0) (xs : List A) (number : ℕ) 
   pub is_so : Q at
   pub none_before : (x : A) → IsAmong before x → Q x → ⊥
 
-abbrev pub NoneIs : (ℕ → Type 0) → List ℕ → Type 0
-NoneIs Q xs = (x : ℕ) → IsAmong xs x → Q x → ⊥
+abbrev pub NoneIs : {A : Type 0} → (A → Type 0) → List A → Type 0
+NoneIs {A} Q xs = (x : A) → IsAmong xs x → Q x → ⊥
 
 -- the stage that begins there is refused for this
 abbrev pub IsStageRefused : Grammar → StageRefusal → ℕ → Type 0
@@ -149,12 +172,15 @@ IsUnplanned limits P (NoText n) = NoneIs (IsStageRefused P why.TooManyPlaces) (r
 IsUnplanned limits P OneStage = AllRun P × (limits.one_stage ≡ true) × (1 < length P.stages)
 IsUnplanned limits P (TooManyStates n) = AllRun P × KeepsToOneStage limits P
     × (limits.tables ≡ true) × IsFirst (HasTooManyStates limits P) (roots_of P) n
+IsUnplanned limits P (TooManyPairs n) = AllRun P × KeepsToOneStage limits P
+    × KeepsToStates limits P × (limits.optimal ≡ true)
+    × IsFirst (λ r. HasTooManyPairs P r most_pairs) (roots_of P) n
 IsUnplanned limits P Memory = Unit {0}
 
 -- ---- the first stages so far
 
 -- the number, if there is any, of what is first so
-abbrev pub IsFirstIn : (ℕ → Type 0) → List ℕ → Option ℕ → Type 0
+abbrev pub IsFirstIn : {A : Type 0} → (A → Type 0) → List A → Option ℕ → Type 0
 IsFirstIn Q xs None = NoneIs Q xs
 IsFirstIn Q xs (Some n) = IsFirst Q xs n
 
@@ -201,7 +227,21 @@ NodeStates limits (m ∷ ms) total = (own rest : ℕ) × HasStates (node_moves m
 abbrev pub HaveNodeStates : Limits → List Graph → ℕ → Type 0
 HaveNodeStates limits ms total = limits.tables ≡ true → NodeStates limits ms total
 
--- why the machine of a stage has no plan
+-- ---- pairs of machines
+
+-- what is best is asked for, and in some state of the machine the test of a leaf has more pairs
+-- than are allowed
+abbrev pub HasMoreNodePairs : Limits → Graph → Type 0
+HasMoreNodePairs limits m = (limits.optimal ≡ true) × SomeAsksMore m most_pairs
+
+-- why a machine has no plan
+abbrev pub IsUntabledBy : Limits → Graph → CoverRefusal → Type 0
+IsUntabledBy limits m (cover.TooManyStates seen) = (limits.tables ≡ true) × HasMoreNodes limits m
+IsUntabledBy limits m (cover.TooManyPairs seen) = (HasMoreNodes limits m → ⊥)
+    × HasMoreNodePairs limits m
+IsUntabledBy limits m cover.Memory = Unit {0}
+
+-- why plans end at the machine of a stage
 abbrev pub IsUntabledAs : Limits → Graph → ℕ → PlanRefusal → Type 0
 IsUntabledAs limits m stage (TooManyStates n) = (limits.tables ≡ true) × (n ≡ stage)
     × HasMoreNodes limits m
@@ -211,8 +251,23 @@ IsUntabledAs limits m stage _ = ⊥
 -- why machines have no plans
 abbrev pub IsUntabled : Limits → List Graph → PlanRefusal → Type 0
 IsUntabled limits ms (TooManyStates n) = (limits.tables ≡ true) × IsFirst (HasMoreNodes limits) ms n
+IsUntabled limits ms (TooManyPairs n) = NoneIs (HasMoreNodes limits) ms
+    × IsFirst (HasMoreNodePairs limits) ms n
 IsUntabled limits ms Memory = Unit {0}
 IsUntabled limits ms _ = ⊥
+
+-- the machines have plans, with their tables, and so many states in all; none has too many pairs
+pub record HaveTheirPlans (limits : Limits) (ms : List Graph) (plans : Plans) : Type 0 where
+  pub machines : plans.stages ≡ ms
+  pub tables : AreTabled limits ms plans.tables
+  pub states : HaveNodeStates limits ms plans.states
+  pub pairs : NoneIs (HasMoreNodePairs limits) ms
+
+-- or the first is known that has too many pairs, and none has too many states
+abbrev pub HavePlansOrFirst : Limits → List Graph → Option ℕ → Plans → Type 0
+HavePlansOrFirst limits ms None plans = HaveTheirPlans limits ms plans
+HavePlansOrFirst limits ms (Some n) plans = NoneIs (HasMoreNodes limits) ms
+    × IsFirst (HasMoreNodePairs limits) ms n
 
 abbrev pub table_of : Planned → Option Transducer
 table_of p = p.table

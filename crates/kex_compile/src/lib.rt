@@ -5,7 +5,7 @@
 //! that it breaks.
 #![tactic(auto)]
 
-ghost use Rattle.std.specs.Prelude.{◌≡◌, ◌<◌, ◌^◌, IfOk, IfErr, length};
+ghost use Rattle.std.specs.Prelude.{◌≡◌, ◌<◌, ◌^◌, IfOk, IfErr, length, true};
 ghost use Rattle.kex_compile.specs.Compiled.{HasMachines, IsCompiled, IsRefused};
 ghost use Rattle.kex_compile.specs.declared.limits.Limits.{Limits};
 
@@ -29,10 +29,11 @@ use std::alloc::Global;
 
 /// The plans of a program text.
 ///
-/// Each rule is asked of the whole text before the next. Of the states of a stage one more is
-/// counted than are allowed.
+/// Each rule is asked of the whole text before the next. Of the states of a stage, and of the pairs
+/// of a leaf's test, one more is counted than are allowed.
 pub fn compile(alloc: Global, text: &[u8], limits: &Limits) -> Result<Compiled, CompileRefusal>
     requires states { limits.now.states < 4294967295 }
+    requires optimal { limits.now.optimal ≡ true → limits.now.tables ≡ true }
     ensures plans { IfOk result (λ plans. IsCompiled limits.now text.now plans) }
     ensures refused { IfErr result (λ e. IsRefused limits.now text.now e) }
 {

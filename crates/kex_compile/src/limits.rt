@@ -9,4 +9,6 @@ pub struct Limits {
     pub one_stage: bool,
     /// Whether each stage is to have a table.
     pub tables: bool,
+    /// Whether the stages are to tell what is best, which takes tables.
+    pub optimal: bool,
 }

@@ -23,6 +23,10 @@ pub enum PlanRefusal {
     /// Tables are asked for, and the stage has more states than are allowed.
     #[error("stage {0} has too many states")]
     TooManyStates(u32),
+    /// What is best is asked for, and in some state of the stage the test of a leaf has more than
+    /// `MOST_PAIRS` pairs.
+    #[error("stage {0} has too many pairs")]
+    TooManyPairs(u32),
     #[error("out of memory")]
     Memory,
 }
@@ -87,6 +91,10 @@ pub enum CompileRefusal {
     /// Tables are asked for, and the stage has more states than are allowed.
     #[error("stage {0} has too many states")]
     TooManyStates(u32),
+    /// What is best is asked for, and in some state of the stage the test of a leaf has more than
+    /// `MOST_PAIRS` pairs.
+    #[error("stage {0} has too many pairs")]
+    TooManyPairs(u32),
     #[error("out of memory")]
     Memory,
 }
@@ -131,6 +139,7 @@ impl From<PlanRefusal> for CompileRefusal {
             PlanRefusal::NoText(stage) => CompileRefusal::NoText(stage),
             PlanRefusal::OneStage => CompileRefusal::OneStage,
             PlanRefusal::TooManyStates(stage) => CompileRefusal::TooManyStates(stage),
+            PlanRefusal::TooManyPairs(stage) => CompileRefusal::TooManyPairs(stage),
             PlanRefusal::Memory => CompileRefusal::Memory,
         }
     }

@@ -1,9 +1,9 @@
 // The plans of a program's stages.
 
-ghost use Rattle.std.specs.Prelude.{◌≡◌, ◌<◌, ◌^◌, IfOk, IfErr, OnOk, length};
+ghost use Rattle.std.specs.Prelude.{◌≡◌, ◌<◌, ◌^◌, IfOk, IfErr, OnOk, length, true};
 ghost use Rattle.kex_model.specs.Trees.{root_of};
 ghost use Rattle.kex_compile.specs.Stages.{AreMachines, ArePlans, IsUnplanned, KeepsToOneStage};
-ghost use Rattle.kex_compile.specs.Stages.{KeepsToStates};
+ghost use Rattle.kex_compile.specs.Stages.{KeepsToPairs, KeepsToStates};
 
 use crate::compiled::Compiled;
 use crate::firsts::Firsts;
@@ -67,9 +67,11 @@ pub fn plan_stages(
 ) -> Result<Compiled, PlanRefusal>
     requires few { length program.now.stages < 2 ^ 32 }
     requires states { limits.now.states < 4294967295 }
+    requires optimal { limits.now.optimal ≡ true → limits.now.tables ≡ true }
     ensures plans { IfOk result (λ plans. ArePlans limits.now program.now plans) }
     ensures one_stage { OnOk result (KeepsToOneStage limits.now program.now) }
     ensures states { OnOk result (KeepsToStates limits.now program.now) }
+    ensures pairs { OnOk result (KeepsToPairs limits.now program.now) }
     ensures refused { IfErr result (λ e. IsUnplanned limits.now program.now e) }
 {
     let lowered = lower_stages(alloc, program)?;

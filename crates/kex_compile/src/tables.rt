@@ -1,19 +1,26 @@
 // The plans of machines, with their tables where these are asked for.
 
-ghost use Rattle.std.specs.Prelude.{◌≡◌, ◌<◌, IfOk, IfErr, length};
-ghost use Rattle.kex_stage.specs.declared.plan.Telling.TheVariants as telling;
-ghost use Rattle.kex_compile.specs.Stages.{AreTabled, HasStatesIf, HasTable, HaveNodeStates};
-ghost use Rattle.kex_compile.specs.Stages.{IsUntabled, IsUntabledAs};
+ghost use Rattle.std.specs.Prelude.{◌≡◌, ◌+◌, ◌^◌, ◌<◌, ◌≤◌, ◌++◌, ◌∷◌, [], suc, List};
+ghost use Rattle.std.specs.Prelude.{IfOk, IfErr, OnOk, length, true};
+ghost use Rattle.kex_machine.specs.Nodes.{Graph};
+ghost use Rattle.kex_compile.specs.Stages.{HasMoreNodePairs, HasMoreNodes, HasStatesIf, HasTable};
+ghost use Rattle.kex_compile.specs.Stages.{HavePlansOrFirst, HaveTheirPlans, IsUntabled};
+ghost use Rattle.kex_compile.specs.Stages.{IsUntabledAs, IsUntabledBy, asked_telling};
 
 use crate::compiled::Compiled;
 use crate::limits::Limits;
 use crate::lowered::Lowered;
 use crate::refusal::PlanRefusal;
+use kex_cover::optimal;
+use kex_cover::refusal::CoverRefusal;
 use kex_determine::determine;
 use kex_determine::refusal::DetRefusal;
 use kex_machine::Trimmed;
 use kex_stage::plan::{Plan, Telling};
 use std::alloc::Global;
+
+/// How many pairs the test of a leaf may have.
+const MOST_PAIRS: u32 = 4_096;
 
 /// A stage's plan, and how many states it has where it has a table.
 #[derive(Drop)]
@@ -22,19 +29,27 @@ pub(crate) struct Planned {
     pub(crate) states: u32,
 }
 
-// The plan of the machine of a stage.
-fn plan(
-    alloc: Global,
-    machine: Trimmed,
-    stage: u32,
-    limits: &Limits,
-) -> Result<Planned, PlanRefusal>
-    requires { limits.now.states < 4294967295 }
+// What stages are to tell.
+fn telling_of(limits: &Limits) -> Telling
+    ensures { result ≡ asked_telling limits.now }
+{
+    if limits.optimal {
+        Telling::Best
+    } else {
+        Telling::Agreed
+    }
+}
+
+// The plan of a machine: with a table if tables are asked for, which tells what it is to.
+fn plan(alloc: Global, machine: Trimmed, limits: &Limits) -> Result<Planned, CoverRefusal>
+    requires states { limits.now.states < 4294967295 }
+    requires optimal { limits.now.optimal ≡ true → limits.now.tables ≡ true }
     ensures machine { IfOk result (λ p. p.plan.machine ≡ machine) }
     ensures table { IfOk result (λ p. HasTable limits.now p.plan.machine p.plan.table) }
-    ensures told { IfOk result (λ p. p.plan.telling ≡ telling.Agreed) }
+    ensures told { IfOk result (λ p. p.plan.telling ≡ asked_telling limits.now) }
     ensures states { IfOk result (λ p. HasStatesIf limits.now machine p.states) }
-    ensures refused { IfErr result (λ e. IsUntabledAs limits.now machine stage e) }
+    ensures pairs { OnOk result (HasMoreNodePairs limits.now machine → ⊥) }
+    ensures refused { IfErr result (λ e. IsUntabledBy limits.now machine e) }
 {
     if !limits.tables {
         return Ok(Planned {
@@ -42,39 +57,122 @@ fn plan(
             states: 0,
         });
     }
-    match determine(alloc, &machine, limits.states) {
-        Ok(table) => {
-            let states = table.states().len() as u32;
-            Ok(Planned {
-                plan: Plan::new(machine, Some(table)),
-                states,
-            })
-        }
+    if limits.optimal {
+        let table = optimal(alloc, &machine, limits.states, MOST_PAIRS)?;
+        let states = table.states().len() as u32;
+        return Ok(Planned {
+            plan: Plan::best(machine, table),
+            states,
+        });
+    }
+    let table = determine(alloc, &machine, limits.states)?;
+    let states = table.states().len() as u32;
+    Ok(Planned {
+        plan: Plan::new(machine, Some(table)),
+        states,
+    })
+}
+
+// Whether a machine has no more states than are allowed.
+fn keep_to_states(
+    alloc: Global,
+    machine: &Trimmed,
+    stage: u32,
+    limits: &Limits,
+) -> Result<(), PlanRefusal>
+    requires { limits.now.states < 4294967295 }
+    ensures few { OnOk result (HasMoreNodes limits.now machine.now → ⊥) }
+    ensures refused { limits.now.tables ≡ true
+        → IfErr result (λ e. IsUntabledAs limits.now machine.now stage e) }
+{
+    match determine(alloc, machine, limits.states) {
+        Ok(_) => Ok(()),
         Err(DetRefusal::TooManyStates { seen: _ }) => Err(PlanRefusal::TooManyStates(stage)),
         Err(DetRefusal::Memory) => Err(PlanRefusal::Memory),
     }
 }
 
-/// The plans of machines, in their order; or the first that has too many states, counted from 1.
+/// The plans of the machines so far; or the first of these that has too many pairs, from which on
+/// no plans are made.
+#[derive(Drop)]
+pub(crate) struct Planning {
+    pub(crate) compiled: Compiled,
+    pub(crate) too_many_pairs: Option<u32>,
+}
+
+impl Planning {
+    // One machine more. Behind one that has too many pairs it is only asked for its states, since
+    // that rule comes first.
+    fn add(
+        &mut self,
+        alloc: Global,
+        machine: Trimmed,
+        stage: u32,
+        limits: &Limits,
+    ) -> Result<(), PlanRefusal>
+        requires states { limits.now.states < 4294967295 }
+        requires optimal { limits.now.optimal ≡ true → limits.now.tables ≡ true }
+        requires told { self.old.compiled.telling ≡ asked_telling limits.now }
+        requires few { self.old.compiled.states + 2 ^ 32 ≤ 2 ^ 64 }
+        requires short { length self.old.compiled.stages + 1 < 2 ^ 32 }
+        ensures told { OnOk result
+            (self.new.compiled.telling ≡ self.old.compiled.telling) }
+        ensures places { OnOk result (self.new.compiled.places ≡ self.old.compiled.places) }
+        ensures few { OnOk result
+            (self.new.compiled.states ≤ self.old.compiled.states + 2 ^ 32) }
+        ensures short { OnOk result
+            (length self.new.compiled.stages ≤ length self.old.compiled.stages + 1) }
+        ensures plans { (ms : List Graph) → stage ≡ suc (length ms)
+            → HavePlansOrFirst limits.now ms self.old.too_many_pairs self.old.compiled
+            → OnOk result (HavePlansOrFirst limits.now (ms ++ machine ∷ [])
+            self.new.too_many_pairs self.new.compiled) }
+        ensures refused { (ms : List Graph)
+            → HavePlansOrFirst limits.now ms self.old.too_many_pairs self.old.compiled
+            → IfErr result (λ e. IsUntabledAs limits.now machine stage e) }
+    {
+        if self.too_many_pairs.is_some() {
+            return keep_to_states(alloc, &machine, stage, limits);
+        }
+        match plan(alloc, machine, limits) {
+            Ok(planned) => {
+                self.compiled.push(planned.plan, planned.states)?;
+                Ok(())
+            }
+            Err(CoverRefusal::TooManyPairs { seen: _ }) => {
+                self.too_many_pairs = Some(stage);
+                Ok(())
+            }
+            Err(CoverRefusal::TooManyStates { seen: _ }) => Err(PlanRefusal::TooManyStates(stage)),
+            Err(CoverRefusal::Memory) => Err(PlanRefusal::Memory),
+        }
+    }
+}
+
+/// The plans of machines, in their order; or the first that has too many states, or else the first
+/// that has too many pairs, counted from 1.
 pub(crate) fn plan_machines(
     alloc: Global,
     lowered: Lowered,
     limits: &Limits,
 ) -> Result<Compiled, PlanRefusal>
-    requires { limits.now.states < 4294967295 }
-    ensures machines { IfOk result (λ c. c.stages ≡ lowered.machines) }
+    requires states { limits.now.states < 4294967295 }
+    requires optimal { limits.now.optimal ≡ true → limits.now.tables ≡ true }
     ensures places { IfOk result (λ c. c.places ≡ lowered.places) }
-    ensures tables { IfOk result (λ c. AreTabled limits.now c.stages c.tables) }
-    ensures told { IfOk result (λ c. c.telling ≡ telling.Agreed) }
-    ensures states { IfOk result (λ c. HaveNodeStates limits.now lowered.machines c.states) }
+    ensures told { IfOk result (λ c. c.telling ≡ asked_telling limits.now) }
+    ensures plans { IfOk result (λ c. HaveTheirPlans limits.now lowered.machines c) }
     ensures refused { IfErr result (λ e. IsUntabled limits.now lowered.machines e) }
 {
-    let mut compiled = Compiled::new(alloc, lowered.places(), Telling::Agreed);
+    let mut planning = Planning {
+        compiled: Compiled::new(alloc, lowered.places(), telling_of(limits)),
+        too_many_pairs: None,
+    };
     let mut stage = 0;
     'machines: for machine in lowered.into_machines() {
         stage += 1;
-        let planned = plan(alloc, machine, stage, limits)?;
-        compiled.push(planned.plan, planned.states)?;
+        planning.add(alloc, machine, stage, limits)?;
     }
-    Ok(compiled)
+    match planning.too_many_pairs {
+        None => Ok(planning.compiled),
+        Some(stage) => Err(PlanRefusal::TooManyPairs(stage)),
+    }
 }

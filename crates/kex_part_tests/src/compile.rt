@@ -21,13 +21,20 @@ fn answer(alloc: Global, text: &[u8], limits: &Limits) -> Result<String, AllocEr
     }
 }
 
-// So many states, or one stage without tables.
+// So many states, or one stage without tables, or tables that tell what is best.
 fn limits_of(word: &str) -> Result<Limits, Fail> {
     if word == "one" {
         return Ok(Limits {
             states: 4_096,
             one_stage: true,
             tables: false,
+            optimal: false,
+        });
+    }
+    if word == "best" {
+        return Ok(Limits {
+            optimal: true,
+            ..ANY
         });
     }
     Ok(Limits {
@@ -50,8 +57,8 @@ fn text_of(alloc: Global, spelling: &str) -> Result<Vec<u8>, Fail> {
 
 // How many states a stage may have, and a text. Where one stage is asked for, a second is refused,
 // but only after all rules that the text breaks, and without tables no state is counted. Then come
-// states up to their limit; and limits of texts at their number, where another rule is broken or
-// none, and one past it.
+// states up to their limit; limits of texts at their number, where another rule is broken or none,
+// and one past it; and pairs, which are asked behind the states of all stages.
 const TEXTS: &str = r#"
 4096 main := 1 => 1 2 1
 4096 main := /a*/ => 1 3 1
@@ -117,6 +124,11 @@ one start: a >> b a := /a/ a b := /b/ => no text has a parse by stage 1
 4096 main := "%x%70000%" => 1 2 1
 4096 main := [r <-% "x"%70000%] => 1 2 1
 4096 main := 1% 1%70000% => 1 140002 1
+best main := /a*/ => 1 3 1
+best main := ("1" /[ab]*a[ab]{10}\n/ | "0" /[ab]*\n/)* => stage 1 has too many pairs
+best start: a >> b a := /a*/ b := ("1" /[ab]*a[ab]{10}\n/ | "0" /[ab]*\n/)* => stage 2 has too many pairs
+best start: a >> b a := ("1" /[ab]*a[ab]{10}\n/ | "0" /[ab]*\n/)* b := /a{1000}/ /a{1000}/ /a{1000}/ /a{1000}/ /a{100}/ => stage 2 has too many states
+best start: a >> b a := ("1" /[ab]*a[ab]{10}\n/ | "0" /[ab]*\n/)* b := /a/ b => no text has a parse by stage 2
 "#;
 
 #[test]

@@ -5,4 +5,5 @@ pub(crate) const ANY: Limits = Limits {
     states: 4_096,
     one_stage: false,
     tables: true,
+    optimal: false,
 };

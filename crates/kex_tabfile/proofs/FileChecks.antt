@@ -39,6 +39,7 @@ module _ (file text : List ℕ) (le : length file ≤ most_bytes) (a : ReadSoFar
   refused_text (compile.NoText n) h = (le, text, (a.rest, whole), h)
   refused_text compile.OneStage h = (le, text, (a.rest, whole), h)
   refused_text (compile.TooManyStates n) h = (le, text, (a.rest, whole), h)
+  refused_text (compile.TooManyPairs n) h = (le, text, (a.rest, whole), h)
   refused_text compile.Memory h = tt
 
   module _ (ms : List Graph) (machines : HasMachines text ms) where

@@ -3,7 +3,7 @@ use Rattle.kex_model.specs.Programs.{Grammar}
 use Rattle.kex_rules.specs.Rules.{IsRuled}
 use Rattle.kex_lowering.proofs.Causes.{if_err}
 use Rattle.kex_compile.specs.Compiled.{IsRefused, of_plan, of_read, of_rule}
-use Rattle.kex_compile.specs.Stages.{ArePlans, IsUnplanned, KeepsToOneStage, KeepsToStates, roots_of}
+use Rattle.kex_compile.specs.Stages.{ArePlans, IsUnplanned, KeepsToOneStage, KeepsToPairs, KeepsToStates, roots_of}
 use Rattle.kex_compile.proofs.FirstStages.{all-run}
 use Rattle.kex_reader.specs.Checks.{most_stages}
 use Rattle.kex_compile.proofs.FewStages.{few_stages}
@@ -41,6 +41,7 @@ returns-clause-plans c =
         stages = all-run P 1 (roots_of P) c.in_ok-compiled.compiled.stages plans.stages;
         one_stage = subst (λ z. KeepsToOneStage c.args.limits.now z) same c.in_ok-compiled.ensures.one_stage;
         states = subst (λ z. KeepsToStates c.args.limits.now z) same c.in_ok-compiled.ensures.states;
+        pairs = subst (λ z. KeepsToPairs c.args.limits.now z) same c.in_ok-compiled.ensures.pairs;
       };
       plans_of = plans;
     }

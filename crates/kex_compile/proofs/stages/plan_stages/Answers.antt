@@ -2,9 +2,9 @@ use Rattle.std.proofs.Common.{◌≡◌, ◌<◌, ◌≤◌, true, false, List, 
 use Rattle.kex_machine.specs.Nodes.{Graph}
 use Rattle.kex_model.specs.declared.program.Start.{Start}
 use Rattle.kex_lowering.proofs.Causes.{if_err}
-use Rattle.kex_compile.specs.Stages.{AllRun, AreStages, HaveInAll, IsUnplanned, KeepsToOneStage, roots_of}
+use Rattle.kex_compile.specs.Stages.{AllRun, AreStages, AreTabled, HaveInAll, IsUnplanned, KeepsToOneStage, roots_of}
 use Rattle.kex_compile.proofs.FirstStages.{all-run}
-use Rattle.kex_compile.proofs.StageTables.{none_more, states_of_stages, unplanned_by}
+use Rattle.kex_compile.proofs.StageTables.{keeps_to_pairs, none_more, states_of_stages, unplanned_by}
 use Rattle.kex_compile.proofs.stages.plan_stages.Goals as goal
 use Rattle.kex_compile.proofs.stages.plan_stages.Goals.{else-limits-via-then-limits+else-stages-gt1, else-limits-via-else-limits}
 
@@ -38,13 +38,17 @@ returns-clause-plans c =
     let all = c.in_ok-lowered.ensures.machines in
     let ok = c.in_ok-compiled.ensures in
     record {
-      stages = subst (λ (z : List Graph). AreStages P 1 (roots_of P) z) (sym ok.machines) all.stages;
+      stages = subst (λ (z : List Graph). AreStages P 1 (roots_of P) z) (sym ok.plans.machines) all.stages;
       places = subst (λ n. HaveInAll P (roots_of P) n) (sym ok.places) all.places;
-      tables = ok.tables;
-      agreed = ok.told;
-      states = λ on. states_of_stages c.args.limits.now P c.in_ok-compiled.compiled.states 1 (roots_of P) c.in_ok-lowered.lowered.machines all.stages (ok.states on);
+      tables = subst (λ (z : List Graph). AreTabled c.args.limits.now z c.in_ok-compiled.compiled.tables) (sym ok.plans.machines) ok.plans.tables;
+      told = ok.told;
+      states = λ on. states_of_stages c.args.limits.now P c.in_ok-compiled.compiled.states 1 (roots_of P) c.in_ok-lowered.lowered.machines all.stages (ok.plans.states on);
     }
 
 pub returns-clause-states : goal.returns-clause-states
 returns-clause-states c = λ on r i q.
-    none_more c.args.limits.now c.args.program.now c.in_ok-compiled.compiled.states 1 (roots_of c.args.program.now) c.in_ok-lowered.lowered.machines c.in_ok-lowered.ensures.machines.stages (c.in_ok-compiled.ensures.states on) r i q
+    none_more c.args.limits.now c.args.program.now c.in_ok-compiled.compiled.states 1 (roots_of c.args.program.now) c.in_ok-lowered.lowered.machines c.in_ok-lowered.ensures.machines.stages (c.in_ok-compiled.ensures.plans.states on) r i q
+
+pub returns-clause-pairs : goal.returns-clause-pairs
+returns-clause-pairs c = λ on r i q.
+    keeps_to_pairs c.args.limits.now c.args.program.now 1 (roots_of c.args.program.now) c.in_ok-lowered.lowered.machines c.in_ok-lowered.ensures.machines.stages c.in_ok-compiled.ensures.plans.pairs on r i q
