@@ -17,7 +17,7 @@ use Rattle.kex_single.specs.Singles.{MachineCodeAnswers, MeansRunCode, SaysShare
 use Rattle.kex_stage.specs.declared.plan.Telling.{Telling}
 use Rattle.kex_stage.specs.declared.plan.Telling.TheVariants as telling
 use Rattle.kex_stage.specs.Plans.{IsTableFor, Planned, teller, teller_of}
-use Rattle.kex_stage.specs.Stages.{StagePlan, Gives}
+use Rattle.kex_stage.specs.Stages.{Gives}
 use Rattle.kex_stage.proofs.TableAnswers.{tables_answer}
 use Rattle.kex_sst.specs.Tables.{Transducer}
 use Rattle.kex_top.specs.Pipelines.{AlwaysAnswers, AlwaysSays, StagesSay}

@@ -21,9 +21,11 @@ use Rattle.kex_words.specs.Words.{Asked, Mode, Reach}
 use Rattle.kex_words.specs.Words.Asked.{ToCheck, ToCompile, ToEach, ToExec, ToStream, ToTry}
 use Rattle.kex_words.specs.Words.Mode.{running, coding, acting, testing}
 use Rattle.kex_model.specs.Programs.{Grammar}
-use Rattle.kex_stage.specs.Plans.{Teller}
-use Rattle.kex_stage.specs.Stages.{Gives}
-use Rattle.kex_compile.specs.Stages.{AreStages, Plans, roots_of}
+use Rattle.kex_lowering.proofs.BestCodes.{carries_best}
+use Rattle.kex_stage.specs.Plans.{Teller, teller}
+use Rattle.kex_stage.specs.Stages.{Gives, StagePlan, TellerAnswers}
+use Rattle.kex_stage.specs.declared.plan.Telling.{Telling}
+use Rattle.kex_compile.specs.Stages.{AreStages, Plans, asked_telling, roots_of}
 use Rattle.kex_compile.specs.Compiled.{Accepts, IsCompiled, IsRefused}
 use Rattle.kex_compile.specs.declared.limits.Limits.{Limits}
 use Rattle.kex_compile.specs.declared.refusal.CompileRefusal.{CompileRefusal}
@@ -40,7 +42,7 @@ use Rattle.kex_top.specs.Trials.{AreTrialCounts, made_lines, trial_text, usual_s
 use Rattle.kex_top.specs.declared.start.StartError.{StartError}
 use Rattle.kex_top.specs.declared.start.StartError.TheVariants as start
 use Rattle.kex_top.specs.Answer.{Said}
-use Rattle.kex_top.specs.Pipelines.{Answered, NodesSay, StagesSay, agreed_plans, first_limit, stage_plans}
+use Rattle.kex_top.specs.Pipelines.{Answered, NodesSay, StagesSay, agreed_plans, first_limit, stage_plans, told_plans}
 use Rattle.kex_top.specs.Run.{IsAsBefore, Left, Ran, EndsAs, WritesAll}
 use Rattle.kex_top.specs.Kex.{CommandAnswers, CommandWorks}
 use Rattle.kex_top.specs.Modes.{BeginsTreeCode, HasParseAlone, IsTreeCode, WritesPart, MachineGives, MachinesSay, MeansCode, SaysCode, SaysNothing, SaysBy, StageGives, limits_of, limits_to_check}
@@ -49,9 +51,9 @@ use Rattle.kex_top.specs.declared.status.Status.{Status}
 use Rattle.kex_top.specs.declared.status.Status.TheVariants.{Done, Rejected, Usage, Refused, ReadFault, WriteFault, ShelfFault, Memory, TooLong, InputTooLong}
 
 -- there are as many plans as machines
-pub as-many-plans : (limit : ℕ) (ms : List Graph) → length (agreed_plans limit ms) ≡ length ms
-as-many-plans limit [] = refl
-as-many-plans limit (m ∷ ms) = ap (λ n. suc n) (as-many-plans limit ms)
+pub as-many-plans : (k : Telling) (limit : ℕ) (ms : List Graph) → length (told_plans k limit ms) ≡ length ms
+as-many-plans k limit [] = refl
+as-many-plans k limit (m ∷ ms) = ap (λ n. suc n) (as-many-plans k limit ms)
 
 -- one saying in place of another that says the same
 module _ (says says' : List ℕ → Bool → Said → Type 0) (to : (w : List ℕ) (e : Bool) (s : Said) → says w e s → says' w e s) (from : (w : List ℕ) (e : Bool) (s : Said) → says' w e s → says w e s) where
@@ -152,7 +154,8 @@ module _ (P : Grammar) (limit root : ℕ) (m : Graph) (c : Carries P root m) whe
   run_of_part d s x = let r = c.runs x.0 x.1 in (r.0, r.1, (x.2.0, r.2.codes ∙ x.2.1), x.3 ∙ sym (r.2.written d))
 
   pub to_stage : (mode : Mode) (w : List ℕ) (e : Bool) (a : Answer) → MachineGives mode limit m w e a → StageGives mode P limit root w e a
-  to_stage (running n) w e a h = (c.answers limit w e a).1 h
+  to_stage (running n false) w e a h = (c.answers limit w e a).1 h
+  to_stage (running n true) w e a h = ((carries_best P root m c).answers limit w e a).1 h
   to_stage coding w e a h =
       sayings (nodes.IsViableFor m) (model.Viable P root) (single.SaysSharedCode m) (SaysCode P root) (nodes.HasRun m) (model.HasParse P root) (single.MeansRunCode m) (MeansCode P root)
       (λ v. turned (c.viable v)) (λ v s x. (x.0, (c.agreed v x.0).1 x.1, x.2)) (λ v p. (c.parsed v).0 p)
@@ -163,7 +166,8 @@ module _ (P : Grammar) (limit root : ℕ) (m : Graph) (c : Carries P root m) whe
       (λ v. turned (c.viable v)) (λ v s x. x) (λ v p. (c.parsed v).0 p) (λ v s x. ((c.viable v).1 x.0, (c.parsed v).1 x.1, x.2)) limit h
 
   pub to_machine : (mode : Mode) (w : List ℕ) (e : Bool) (a : Answer) → StageGives mode P limit root w e a → MachineGives mode limit m w e a
-  to_machine (running n) w e a h = (c.answers limit w e a).0 h
+  to_machine (running n false) w e a h = (c.answers limit w e a).0 h
+  to_machine (running n true) w e a h = ((carries_best P root m c).answers limit w e a).0 h
   to_machine coding w e a h =
       sayings (model.Viable P root) (nodes.IsViableFor m) (SaysCode P root) (single.SaysSharedCode m) (model.HasParse P root) (nodes.HasRun m) (MeansCode P root) (single.MeansRunCode m)
       (λ v. c.viable v) (λ v s x. (x.0, (c.agreed v x.0).0 x.1, x.2)) (λ v p. (c.parsed v).1 p)
@@ -191,21 +195,32 @@ module _ (P : Grammar) (mode : Mode) (limit : ℕ) where
 pub ran_as : (limit : ℕ) (ts us : List Teller) (block : ℕ) (source sink : StreamChange) (s : Status) → ts ≡ us → Ran (NodesSay (stage_plans limit ts)) block source sink s → Ran (NodesSay (stage_plans limit us)) block source sink s
 ran_as limit ts us block source sink s e r = subst (λ z. Ran (NodesSay (stage_plans limit z)) block source sink s) e r
 
--- plans of machines give what the machines do
-module _ (states limit : ℕ) where
-  pub by_machines : (i : ℕ) (ms : List Graph) (w : List ℕ) (e : Bool) (text : List ℕ) (r : Option model.Report) → Pipeline (λ p v d a. Gives p v d a) i (agreed_plans limit ms) w e text r → Pipeline (λ m v d a. MachineGives (running states) limit m v d a) i ms w e text r
+-- plans of machines that tell what a run asks for give what the machines do
+module _ (states : ℕ) (optimal : Bool) (limit : ℕ) where
+  abbrev Plans_for : List Graph → List StagePlan
+  Plans_for ms = told_plans (asked_telling (limits_of (running states optimal))) limit ms
+
+  by_machine : (best : Bool) (m : Graph) (w : List ℕ) (e : Bool) (a : Answer) → TellerAnswers (teller (asked_telling (limits_of (running states best))) m) limit w e a → MachineGives (running states best) limit m w e a
+  by_machine false m w e a h = h
+  by_machine true m w e a h = h
+
+  by_plan : (best : Bool) (m : Graph) (w : List ℕ) (e : Bool) (a : Answer) → MachineGives (running states best) limit m w e a → TellerAnswers (teller (asked_telling (limits_of (running states best))) m) limit w e a
+  by_plan false m w e a h = h
+  by_plan true m w e a h = h
+
+  pub by_machines : (i : ℕ) (ms : List Graph) (w : List ℕ) (e : Bool) (text : List ℕ) (r : Option model.Report) → Pipeline (λ p v d a. Gives p v d a) i (Plans_for ms) w e text r → Pipeline (λ m v d a. MachineGives (running states optimal) limit m v d a) i ms w e text r
   by_machines i [] w e text r x = x
-  by_machines i (m ∷ ms) w e text r (a, rest, gives, others, is) = (a, rest, gives, by_machines (suc i) ms a.text a.ended text rest others, is)
+  by_machines i (m ∷ ms) w e text r (a, rest, gives, others, is) = (a, rest, by_machine optimal m w e a gives, by_machines (suc i) ms a.text a.ended text rest others, is)
 
-  pub by_plans : (i : ℕ) (ms : List Graph) (w : List ℕ) (e : Bool) (text : List ℕ) (r : Option model.Report) → Pipeline (λ m v d a. MachineGives (running states) limit m v d a) i ms w e text r → Pipeline (λ p v d a. Gives p v d a) i (agreed_plans limit ms) w e text r
+  pub by_plans : (i : ℕ) (ms : List Graph) (w : List ℕ) (e : Bool) (text : List ℕ) (r : Option model.Report) → Pipeline (λ m v d a. MachineGives (running states optimal) limit m v d a) i ms w e text r → Pipeline (λ p v d a. Gives p v d a) i (Plans_for ms) w e text r
   by_plans i [] w e text r x = x
-  by_plans i (m ∷ ms) w e text r (a, rest, gives, others, is) = (a, rest, gives, by_plans (suc i) ms a.text a.ended text rest others, is)
+  by_plans i (m ∷ ms) w e text r (a, rest, gives, others, is) = (a, rest, by_plan optimal m w e a gives, by_plans (suc i) ms a.text a.ended text rest others, is)
 
-  pub run_by_machines : (ms : List Graph) (block : ℕ) (source sink : StreamChange) (s : Status) → 0 < length ms → Ran (NodesSay (agreed_plans limit ms)) block source sink s → Ran (MachinesSay (running states) limit ms) block source sink s
+  pub run_by_machines : (ms : List Graph) (block : ℕ) (source sink : StreamChange) (s : Status) → 0 < length ms → Ran (NodesSay (Plans_for ms)) block source sink s → Ran (MachinesSay (running states optimal) limit ms) block source sink s
   run_by_machines ms block source sink s some r =
       ran_alike _ _
       (λ w e said h. (some, by_machines 1 ms w e said.text (report_as said.report) h.1))
-      (λ w e said h. ((let n = as-many-plans limit ms in omega arith), by_plans 1 ms w e said.text (report_as said.report) h.1))
+      (λ w e said h. ((let n = as-many-plans (asked_telling (limits_of (running states optimal))) limit ms in omega (arith, n, some)), by_plans 1 ms w e said.text (report_as said.report) h.1))
       block source sink s r
 
 as-many : (P : Grammar) (k : ℕ) (rs : List ℕ) (ms : List Graph) → AreStages P k rs ms → length ms ≡ length rs
@@ -247,8 +262,10 @@ first-of plan limit [] = refl
 first-of plan limit (s ∷ ss) = refl
 
 module _ (mode : Mode) (limit : ℕ) (ms : List Graph) (block : ℕ) (source sink : StreamChange) (s : Status) where
-  pub ran_by : (states : ℕ) → mode ≡ running states → 0 < length ms → Ran (NodesSay (agreed_plans limit ms)) block source sink s → Ran (MachinesSay mode limit ms) block source sink s
-  ran_by states is some r = subst (λ m. Ran (MachinesSay m limit ms) block source sink s) (sym is) (run_by_machines states limit ms block source sink s some r)
+  pub ran_by : (states : ℕ) (optimal : Bool) → mode ≡ running states optimal → 0 < length ms → Ran (NodesSay (told_plans (asked_telling (limits_of mode)) limit ms)) block source sink s → Ran (MachinesSay mode limit ms) block source sink s
+  ran_by states optimal is some r =
+      let run = subst (λ m. Ran (NodesSay (told_plans (asked_telling (limits_of m)) limit ms)) block source sink s) is r in
+      subst (λ m. Ran (MachinesSay m limit ms) block source sink s) (sym is) (run_by_machines states optimal limit ms block source sink s some run)
 
 -- one stage by itself
 module _ {A : Type 0} (F : A → List ℕ → Bool → Answer → Type 0) (x : A) (mode : Mode) (limit : ℕ) (m : Graph) (block : ℕ) (source sink : StreamChange) where
@@ -280,7 +297,7 @@ not_usage : (asked : Asked) (text : List ℕ) (P : Grammar) (reads : Option Read
 not_usage (ToStream mode name reach) text P reads source sink h = h.ends
 not_usage (ToCheck name states) text P reads source sink h = h.1.told
 not_usage (ToEach name states limit workers) text P reads source sink h = h.ends
-not_usage (ToTry lines block rings) text P reads source sink h = h.1.told
+not_usage (ToTry lines block rings workers) text P reads source sink h = h.1.told
 not_usage (ToCompile name states) text P reads source sink h = h.1.told
 not_usage (ToExec name reach) text P reads source sink h = h.ends
 
@@ -288,7 +305,7 @@ not_refused : (asked : Asked) (text : List ℕ) (P : Grammar) (reads : Option Re
 not_refused (ToStream mode name reach) text P reads source sink r h = h.ends
 not_refused (ToCheck name states) text P reads source sink r h = h.1.told
 not_refused (ToEach name states limit workers) text P reads source sink r h = h.ends
-not_refused (ToTry lines block rings) text P reads source sink r h = h.1.told
+not_refused (ToTry lines block rings workers) text P reads source sink r h = h.1.told
 not_refused (ToCompile name states) text P reads source sink r h = h.1.told
 not_refused (ToExec name reach) text P reads source sink r h = h.ends
 
@@ -296,7 +313,7 @@ not_shelf : (asked : Asked) (text : List ℕ) (P : Grammar) (reads : Option Read
 not_shelf (ToStream mode name reach) text P reads source sink h = h.ends
 not_shelf (ToCheck name states) text P reads source sink h = h.1.told
 not_shelf (ToEach name states limit workers) text P reads source sink h = h.ends
-not_shelf (ToTry lines block rings) text P reads source sink h = h.1.told
+not_shelf (ToTry lines block rings workers) text P reads source sink h = h.1.told
 not_shelf (ToCompile name states) text P reads source sink h = h.1.told
 not_shelf (ToExec name reach) text P reads source sink h = h.ends
 
@@ -355,9 +372,9 @@ checked name states texts reads plans source sink s h l q =
     }
     )
 
-pub tried : (lines block : ℕ) (rings : Option ℕ) (texts : Option Texts) (reads : Option Reads) (plans : Plans) (counts : TrialCounts) (source sink : StreamChange) (s : Status) → IsCompiled (limits_to_check usual_states) trial_text plans → AreTrialCounts (NodesSay (agreed_plans most_input plans.stages)) lines counts → IsAsBefore source → TellsBytes (trial_line counts) sink s → CommandAnswers (ToTry lines block rings) texts reads source sink s
-tried lines block rings texts reads plans counts source sink s p sums l q =
-    begun (ToTry lines block rings) texts reads source sink s (
+pub tried : (lines block : ℕ) (rings : Option ℕ) (workers : ℕ) (texts : Option Texts) (reads : Option Reads) (plans : Plans) (counts : TrialCounts) (source sink : StreamChange) (s : Status) → IsCompiled (limits_to_check usual_states) trial_text plans → AreTrialCounts (NodesSay (agreed_plans most_input plans.stages)) lines counts → IsAsBefore source → TellsBytes (trial_line counts) sink s → CommandAnswers (ToTry lines block rings workers) texts reads source sink s
+tried lines block rings workers texts reads plans counts source sink s p sums l q =
+    begun (ToTry lines block rings workers) texts reads source sink s (
     record {
       text = trial_text;
       is_told = refl;
@@ -370,8 +387,8 @@ tried lines block rings texts reads plans counts source sink s p sums l q =
     summed : AreTrialCounts (Answered p.program most_input) lines counts
     summed = record {
       said = sums.said;
-      is_said = carried p.program (running 4096) most_input 1 1 (roots_of p.program) plans.stages (made_lines lines) true sums.said.text (report_as sums.said.report) p.plans_of.stages
-          (by_machines 4096 most_input 1 plans.stages (made_lines lines) true sums.said.text (report_as sums.said.report) sums.is_said.1);
+      is_said = carried p.program (running 4096 false) most_input 1 1 (roots_of p.program) plans.stages (made_lines lines) true sums.said.text (report_as sums.said.report) p.plans_of.stages
+          (by_machines 4096 false most_input 1 plans.stages (made_lines lines) true sums.said.text (report_as sums.said.report) sums.is_said.1);
       lines_of = sums.lines_of;
       made = sums.made;
       written = sums.written;

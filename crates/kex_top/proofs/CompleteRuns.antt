@@ -12,7 +12,7 @@ use Rattle.kex_model.specs.Programs.{Grammar}
 use Rattle.kex_model.specs.Places.{moves, start_of, steps_of}
 use Rattle.kex_model.specs.Survivors.{Agreed, Greedy}
 use Rattle.kex_model.proofs.AgreedFronts.{agreed_grows, agreed_greedy}
-use Rattle.kex_model.specs.Laws.{StageAnswers}
+use Rattle.kex_lowering.proofs.BestCodes.{best_stands}
 use Rattle.kex_model.specs.Answers.{Answer, Stop, later_report, Pipeline, Viable, Says, HasParse, Means, bad_byte, too_long, cut_off, whole, still_open, code_at, empty}
 use Rattle.kex_model.specs.Answers as model
 use Rattle.kex_model.specs.Trees.{kind_at, meaning, part_meaning}
@@ -111,13 +111,15 @@ module _ (P : Grammar) (root : ℕ) where
 
 module _ (P : Grammar) (limit : ℕ) where
   one : (mode : Mode) (x : ℕ) (w : List ℕ) (e : Bool) (a b : Answer) → StageGives mode P limit x w e a → StageGives mode P limit x w e b → a ≡ b
-  one (running n) x w e a b h k = one_answer (Viable P x) (Says P x) (HasParse P x) (Means P x) (orderly P x) limit (λ u s m. (m.0, m.1.parses)) (one_meaning P x) h k
+  one (running n true) x w e a b h k = (best_stands P x limit).one w e a b h k
+  one (running n false) x w e a b h k = one_answer (Viable P x) (Says P x) (HasParse P x) (Means P x) (orderly P x) limit (λ u s m. (m.0, m.1.parses)) (one_meaning P x) h k
   one coding x w e a b h k = one_answer (Viable P x) (SaysCode P x) (HasParse P x) (MeansCode P x) (orderly_code P x) limit (λ u s m. m.1.parse) (one_code P x) h k
   one acting x w e a b h k = plays.one_answer (BeginsTreeCode P x) (IsTreeCode P x) (WritesPart P x) (begins_front P x) (more_part P x) limit h k
   one testing x w e a b h k = one_answer (Viable P x) (SaysNothing P x) (HasParse P x) (HasParseAlone P x) (orderly_test P x) limit (λ u s m. m.1) (λ u s t m m'. m.2 ∙ sym m'.2) h k
 
   stands : (mode : Mode) (x : ℕ) (w v : List ℕ) (e : Bool) (a b : Answer) → StageGives mode P limit x w false a → StageGives mode P limit x (w ++ v) e b → Begins b.text a.text × ((a.stop ≡ None → ⊥) → b ≡ a)
-  stands (running n) x w v e a b h k = stays (Viable P x) (Says P x) (HasParse P x) (Means P x) (orderly P x) limit (v, refl) h k
+  stands (running n true) x w v e a b h k = ((best_stands P x limit).grows w v e a b h k, (best_stands P x limit).stays w v e a b h k)
+  stands (running n false) x w v e a b h k = stays (Viable P x) (Says P x) (HasParse P x) (Means P x) (orderly P x) limit (v, refl) h k
   stands coding x w v e a b h k = stays (Viable P x) (SaysCode P x) (HasParse P x) (MeansCode P x) (orderly_code P x) limit (v, refl) h k
   stands acting x w v e a b h k = plays.stays (BeginsTreeCode P x) (IsTreeCode P x) (WritesPart P x) (begins_front P x) (more_part P x) limit (v, refl) h k
   stands testing x w v e a b h k = stays (Viable P x) (SaysNothing P x) (HasParse P x) (HasParseAlone P x) (orderly_test P x) limit (v, refl) h k
@@ -129,7 +131,8 @@ module _ (P : Grammar) (limit : ℕ) where
   answer_open (still_open le g s) = refl
 
   stays_open : (mode : Mode) (x : ℕ) (w : List ℕ) (a : Answer) → StageGives mode P limit x w false a → a.ended ≡ false
-  stays_open (running n) x w a h = answer_open h
+  stays_open (running n false) x w a h = answer_open h
+  stays_open (running n true) x w a h = answer_open h
   stays_open coding x w a h = answer_open h
   stays_open acting x w a h = plays.ends (BeginsTreeCode P x) (IsTreeCode P x) (WritesPart P x) (begins_front P x) (more_part P x) limit h
   stays_open testing x w a h = answer_open h
@@ -194,7 +197,7 @@ module _ (texts : Option Texts) (shelf : ShelfChange) (reads : Option Reads) (so
   unfailed (ToStream mode name reach) g takes h = unbroken (told_of texts name) g.text shelf g.is_told (g.on_shelf takes) h.2
   unfailed (ToCheck name states) g takes h = unbroken (told_of texts name) g.text shelf g.is_told (g.on_shelf takes) h.2
   unfailed (ToEach name states limit workers) g takes h = unbroken (told_of texts name) g.text shelf g.is_told (g.on_shelf takes) h.2
-  unfailed (ToTry lines block rings) g takes h = false≢true takes
+  unfailed (ToTry lines block rings workers) g takes h = false≢true takes
   unfailed (ToCompile name states) g takes h = unbroken (told_of texts name) g.text shelf g.is_told (g.on_shelf takes) h.2
   unfailed (ToExec name reach) g takes h = unbroken (told_of texts name) g.text shelf g.is_told (g.on_shelf takes) h.2
 
@@ -212,10 +215,10 @@ module _ (texts : Option Texts) (shelf : ShelfChange) (reads : Option Reads) (so
       ran-good mode reach.max_input (last_given reach.block reads) (λ P. Spells g.text P) w.program source sink (Rejected r) r (spelt mode name reach (Rejected r) g w) g.input_is_good w.performs w.performs.ends.1
   unrejected_as (ToCheck name states) r g w = w.performs.1.told
   unrejected_as (ToEach name states limit workers) r g w = w.performs.ends
-  unrejected_as (ToTry lines block rings) r g w = w.performs.1.told
+  unrejected_as (ToTry lines block rings workers) r g w = w.performs.1.told
   unrejected_as (ToCompile name states) r g w = w.performs.1.told
   unrejected_as (ToExec name reach) r g w =
-      ran-good (running 0) reach.max_input (last_given reach.block reads) (λ P. HoldsProgram g.text P) w.program source sink (Rejected r) r (held name reach (Rejected r) g w) g.input_is_good w.performs w.performs.ends.1
+      ran-good (running 0 false) reach.max_input (last_given reach.block reads) (λ P. HoldsProgram g.text P) w.program source sink (Rejected r) r (held name reach (Rejected r) g w) g.input_is_good w.performs w.performs.ends.1
 
   -- isn't too long
   unlimited : (asked : Asked) (r : Report) → BreaksNoRule asked texts shelf source sink → CommandWorks asked texts reads source sink (TooLong r) → ⊥
@@ -223,10 +226,10 @@ module _ (texts : Option Texts) (shelf : ShelfChange) (reads : Option Reads) (so
       ran-good mode reach.max_input (last_given reach.block reads) (λ P. Spells g.text P) w.program source sink (TooLong r) r (spelt mode name reach (TooLong r) g w) g.input_is_good w.performs w.performs.ends.1
   unlimited (ToCheck name states) r g w = w.performs.1.told
   unlimited (ToEach name states limit workers) r g w = w.performs.ends
-  unlimited (ToTry lines block rings) r g w = w.performs.1.told
+  unlimited (ToTry lines block rings workers) r g w = w.performs.1.told
   unlimited (ToCompile name states) r g w = w.performs.1.told
   unlimited (ToExec name reach) r g w =
-      ran-good (running 0) reach.max_input (last_given reach.block reads) (λ P. HoldsProgram g.text P) w.program source sink (TooLong r) r (held name reach (TooLong r) g w) g.input_is_good w.performs w.performs.ends.1
+      ran-good (running 0 false) reach.max_input (last_given reach.block reads) (λ P. HoldsProgram g.text P) w.program source sink (TooLong r) r (held name reach (TooLong r) g w) g.input_is_good w.performs w.performs.ends.1
 
   -- has no more bytes than an input may have
   unbounded : (asked : Asked) → BreaksNoRule asked texts shelf source sink → CommandWorks asked texts reads source sink InputTooLong → ⊥
@@ -236,7 +239,7 @@ module _ (texts : Option Texts) (shelf : ShelfChange) (reads : Option Reads) (so
       let short = read-within source.old source.new g.input_is_good.input w.performs.w g.input_is_good.rest w.performs.read in
       let few = g.input_is_good.short in
       let long = w.performs.ends.0.0 in omega arith
-  unbounded (ToTry lines block rings) g w = w.performs.1.told
+  unbounded (ToTry lines block rings workers) g w = w.performs.1.told
   unbounded (ToCompile name states) g w = w.performs.1.told
   unbounded (ToExec name reach) g w = w.performs.ends
 
@@ -247,7 +250,7 @@ module _ (texts : Option Texts) (shelf : ShelfChange) (reads : Option Reads) (so
   unstopped (ToCheck name states) g w = w.performs.1.told
   unstopped (ToEach name states limit workers) g w =
       let rose = w.performs.ends.1.2.1 in let quiet = g.readable refl in omega arith
-  unstopped (ToTry lines block rings) g w = w.performs.1.told
+  unstopped (ToTry lines block rings workers) g w = w.performs.1.told
   unstopped (ToCompile name states) g w = w.performs.1.told
   unstopped (ToExec name reach) g w =
       let rose = w.performs.ends.2.1 in let quiet = g.readable refl in omega arith
@@ -259,7 +262,7 @@ module _ (texts : Option Texts) (shelf : ShelfChange) (reads : Option Reads) (so
       let rose = w.performs.1.told.1.1 in let quiet = g.writable in omega arith
   unspoilt (ToEach name states limit workers) g w =
       let rose = w.performs.ends.2.1 in let quiet = g.writable in omega arith
-  unspoilt (ToTry lines block rings) g w =
+  unspoilt (ToTry lines block rings workers) g w =
       let rose = w.performs.1.told.1.1 in let quiet = g.writable in omega arith
   unspoilt (ToCompile name states) g w =
       let rose = w.performs.1.told.1.1 in let quiet = g.writable in omega arith
@@ -302,11 +305,16 @@ reads-all None new input w is read end = cc
 reads-all (Some xs) new input w is read end = let same : xs ≡ input = cc in at-end new xs input w same read end
 
 -- an ended answer without a stop is the meaning
-whole_of : (P : Grammar) (root limit : ℕ) {w : List ℕ} {a : Answer} → StageAnswers P root limit w true a → a.stop ≡ None → (length w ≤ limit) × Means P root w a.text × (a.ended ≡ true)
-whole_of P root limit (bad_byte v bad l s) n = cc
-whole_of P root limit (too_long lt g s) n = cc
-whole_of P root limit (cut_off le g h s) n = cc
-whole_of P root limit (whole le m) n = (le, m, refl)
+whole_of : {G : List ℕ → Type 0} {S : List ℕ → List ℕ → Type 0} {Q : List ℕ → Type 0} {M : List ℕ → List ℕ → Type 0} {limit : ℕ} {w : List ℕ} {a : Answer} → model.Answers G S Q M limit w true a → a.stop ≡ None → (length w ≤ limit) × M w a.text × (a.ended ≡ true)
+whole_of (bad_byte v bad l s) n = cc
+whole_of (too_long lt g s) n = cc
+whole_of (cut_off le g h s) n = cc
+whole_of (whole le m) n = (le, m, refl)
+
+-- so it is for a run, also where what is best is told
+run_whole : (P : Grammar) (states : ℕ) (optimal : Bool) (root limit : ℕ) (w : List ℕ) (a : Answer) → StageGives (running states optimal) P limit root w true a → a.stop ≡ None → (length w ≤ limit) × Means P root w a.text × (a.ended ≡ true)
+run_whole P states false root limit w a h n = whole_of h n
+run_whole P states true root limit w a h n = whole_of h n
 
 none-later : (i : ℕ) (own : Option Stop) (rest : Option model.Report) → later_report i own rest ≡ None → (own ≡ None) × (rest ≡ None)
 none-later i own (Some r) e = cc
@@ -314,21 +322,21 @@ none-later i None None e = (refl, refl)
 none-later i (Some s) None e = cc
 
 -- without a report each stage has meant what the next reads
-all-meant : (P : Grammar) (limit i : ℕ) (rs w text : List ℕ) (r : Option model.Report) → Pipeline (λ root v d a. StageAnswers P root limit v d a) i rs w true text r → r ≡ None → MeansInTurn P limit rs w text
-all-meant P limit i [] w text r h none = h.0
-all-meant P limit i (root ∷ rs) w text r (a, rest, gives, others, is) none =
+all-meant : (P : Grammar) (states : ℕ) (optimal : Bool) (limit i : ℕ) (rs w text : List ℕ) (r : Option model.Report) → Pipeline (λ root v d a. StageGives (running states optimal) P limit root v d a) i rs w true text r → r ≡ None → MeansInTurn P limit rs w text
+all-meant P states optimal limit i [] w text r h none = h.0
+all-meant P states optimal limit i (root ∷ rs) w text r (a, rest, gives, others, is) none =
     let n = none-later i a.stop rest (sym is ∙ none) in
-    let m = whole_of P root limit gives n.0 in
-    (m.0, a.text, m.1, all-meant P limit (suc i) rs a.text text rest (subst (λ z. Pipeline (λ root v d b. StageAnswers P root limit v d b) (suc i) rs a.text z text rest) m.2 others) n.1)
+    let m = run_whole P states optimal root limit w a gives n.0 in
+    (m.0, a.text, m.1, all-meant P states optimal limit (suc i) rs a.text text rest (subst (λ z. Pipeline (λ root v d b. StageGives (running states optimal) P limit root v d b) (suc i) rs a.text z text rest) m.2 others) n.1)
 
 -- what was done within the limit is what a program of the text means
-as-meant : (asked : Asked) (limit last : ℕ) (texts : Option Texts) (source sink : StreamChange) (text t input before : List ℕ) (P : Grammar) → told_text texts asked ≡ present text → source.old ≡ Some input → sink.old ≡ Some before → IsTold (told_text texts asked) t → WorksWith (taken_for asked) t P → Ran (SaysBy (running 0) P limit) last source sink Done → Headline (taken_for asked) text limit input before source.new sink.new
-as-meant asked limit last texts source sink text t input before P is rest held told works ran =
+as-meant : (asked : Asked) (states : ℕ) (optimal : Bool) (limit last : ℕ) (texts : Option Texts) (source sink : StreamChange) (text t input before : List ℕ) (P : Grammar) → told_text texts asked ≡ present text → source.old ≡ Some input → sink.old ≡ Some before → IsTold (told_text texts asked) t → WorksWith (taken_for asked) t P → Ran (SaysBy (running states optimal) P limit) last source sink Done → Headline (taken_for asked) text limit input before source.new sink.new
+as-meant asked states optimal limit last texts source sink text t input before P is rest held told works ran =
     let ended : ran.e ≡ true = ran.ends.0 in
     let all = reads-all source.old source.new input ran.w rest ran.read (ran.ended ended) in
     let x = ran.ends.1 in
-    let answer : SaysBy (running 0) P limit ran.w true x.said = subst (λ e. SaysBy (running 0) P limit ran.w e x.said) ended x.is_said in
-    let m = all-meant P limit 1 (roots_of P) ran.w x.said.text (report_as x.said.report) answer (no_report x.said.report x.reports) in
+    let answer : SaysBy (running states optimal) P limit ran.w true x.said = subst (λ e. SaysBy (running states optimal) P limit ran.w e x.said) ended x.is_said in
+    let m = all-meant P states optimal limit 1 (roots_of P) ran.w x.said.text (report_as x.said.report) answer (no_report x.said.report x.reports) in
     record {
       program = P;
       works = subst (λ z. WorksWith (taken_for asked) z P) (told-same (told_text texts asked) text t is told) works;
@@ -350,16 +358,16 @@ done-as-told asked limit a texts reads source sink s text input before command r
     by asked runs is (subst (λ x. CallAnswers (Some asked) texts reads source sink x) done (subst (λ x. CallAnswers x texts reads source sink s) command answers))
   where
     by : (asked : Asked) → runs_within asked ≡ Some limit → told_text texts asked ≡ present text → CommandWorks asked texts reads source sink Done → Headline (taken_for asked) text limit input before source.new sink.new
-    by (ToStream (running states) name reach) runs is w =
-        as-meant (ToStream (running states) name reach) limit (last_given reach.block reads) texts source sink text w.text input before w.program is rest held w.is_told w.works
-        (subst (λ n. Ran (SaysBy (running 0) w.program n) (last_given reach.block reads) source sink Done) (same-limit reach.max_input limit runs) w.performs)
+    by (ToStream (running states optimal) name reach) runs is w =
+        as-meant (ToStream (running states optimal) name reach) states optimal limit (last_given reach.block reads) texts source sink text w.text input before w.program is rest held w.is_told w.works
+        (subst (λ n. Ran (SaysBy (running states optimal) w.program n) (last_given reach.block reads) source sink Done) (same-limit reach.max_input limit runs) w.performs)
     by (ToExec name reach) runs is w =
-        as-meant (ToExec name reach) limit (last_given reach.block reads) texts source sink text w.text input before w.program is rest held w.is_told w.works
-        (subst (λ n. Ran (SaysBy (running 0) w.program n) (last_given reach.block reads) source sink Done) (same-limit reach.max_input limit runs) w.performs)
+        as-meant (ToExec name reach) 0 false limit (last_given reach.block reads) texts source sink text w.text input before w.program is rest held w.is_told w.works
+        (subst (λ n. Ran (SaysBy (running 0 false) w.program n) (last_given reach.block reads) source sink Done) (same-limit reach.max_input limit runs) w.performs)
     by (ToStream coding name reach) runs is w = absurd (no-limit limit runs)
     by (ToStream acting name reach) runs is w = absurd (no-limit limit runs)
     by (ToStream testing name reach) runs is w = absurd (no-limit limit runs)
     by (ToCheck name states) runs is w = absurd (no-limit limit runs)
     by (ToEach name states max workers) runs is w = absurd (no-limit limit runs)
-    by (ToTry lines block rings) runs is w = absurd (no-limit limit runs)
+    by (ToTry lines block rings workers) runs is w = absurd (no-limit limit runs)
     by (ToCompile name states) runs is w = absurd (no-limit limit runs)

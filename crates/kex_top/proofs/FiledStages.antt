@@ -1,8 +1,8 @@
 -- The plans that a table file is made of, and the stages that it holds.
-use Rattle.std.proofs.Common.{◌≡◌, ◌≤◌, ◌∷◌, [], ℕ, suc, List, true, arith, inl, inr, length, map, refl, subst, sym}
+use Rattle.std.proofs.Common.{◌≡◌, ◌≤◌, ◌∷◌, [], ℕ, suc, List, true, false, ap, arith, inl, inr, length, map, refl, subst, sym}
 use Rattle.std.proofs.Math.Nat.{lt_of_not-le}
 use Rattle.std.proofs.lemmas.Bool.{false≢true}
-use Rattle.std.specs.Prelude.{Option, Some, None}
+use Rattle.std.specs.Prelude.{Option, Some, None, if◌then◌else◌}
 use Rattle.kex_code.specs.Codes.{IsAmong}
 use Rattle.kex_model.specs.Places.{moves, start_of}
 use Rattle.kex_model.specs.Programs.{Grammar}
@@ -14,8 +14,9 @@ use Rattle.kex_determine.specs.Determined.{IsDetermined}
 use Rattle.kex_lowering.proofs.States.{same_states}
 use Rattle.kex_stage.specs.Plans.{Planned, machine_of}
 use Rattle.kex_stage.specs.declared.plan.Telling.{Telling}
+use Rattle.kex_stage.specs.declared.plan.Telling.TheVariants as telling
 use Rattle.kex_compile.specs.Compiled.{HasMachines, IsCompiled}
-use Rattle.kex_compile.specs.Stages.{AreStages, AreTabled, CanRun, HasTableIf, HasTooManyStates, IsStage, Plans, roots_of, table_of}
+use Rattle.kex_compile.specs.Stages.{AreStages, AreTabled, CanRun, HasTableIf, HasTooManyStates, IsStage, Plans, asked_telling, roots_of, table_of}
 use Rattle.kex_compile.specs.declared.limits.Limits.{Limits}
 use Rattle.kex_tabfile.specs.Readers.{most_bytes}
 use Rattle.kex_tabfile.specs.TableFiles.{ArePlansOf, IsGood, IsTableFile, goes_in}
@@ -38,19 +39,23 @@ pub record HasOwnTable (n : ℕ) (p : Planned) : Type 0 where
   pub determined : IsDetermined p.machine table
   pub few : length table.states ≤ n
 
-module _ (limits : Limits) (P : Grammar) (asked : limits.tables ≡ true) where
-  own-table : (root i : ℕ) (m : Graph) (o : Option Transducer) (k : Telling) → IsStage P root i m → (HasTooManyStates limits P root → ⊥) → HasTableIf true m o → HasOwnTable limits.states (record { machine = m; table = o; telling = k })
+-- what isn't asked to be optimal tells what is agreed
+told-agreed : (limits : Limits) → limits.optimal ≡ false → asked_telling limits ≡ telling.Agreed
+told-agreed limits agreed = ap (λ b. if b then telling.Best else telling.Agreed) agreed
+
+module _ (limits : Limits) (P : Grammar) (asked : limits.tables ≡ true) (agreed : limits.optimal ≡ false) where
+  own-table : (root i : ℕ) (m : Graph) (o : Option Transducer) (k : Telling) → IsStage P root i m → (HasTooManyStates limits P root → ⊥) → HasTableIf true telling.Agreed m o → HasOwnTable limits.states (record { machine = m; table = o; telling = k })
   own-table root i m None k s few h = absurd h
   own-table root i m (Some t) k s few h = record { table = t; is = refl; of_machine = h.0; determined = h.1; few = few-states P root i limits.states m t s h.1 few }
 
   pub own-tables : (i : ℕ) (rs : List ℕ) (ps : List Planned) → ((r : ℕ) → IsAmong rs r → HasTooManyStates limits P r → ⊥) → AreStages P i rs (map machine_of ps) → AreTabled limits (map machine_of ps) (map table_of ps) → (p : Planned) → IsAmong ps p → HasOwnTable limits.states p
   own-tables i rs [] few s h p a = absurd a
   own-tables i [] (q ∷ ps) few s h p a = absurd s
-  own-tables i (r ∷ rs) (q ∷ ps) few s h p (inl same) = subst (λ z. HasOwnTable limits.states z) same (own-table r i q.machine q.table q.telling s.0 (few r (inl refl)) (subst (λ b. HasTableIf b q.machine q.table) asked h.0))
+  own-tables i (r ∷ rs) (q ∷ ps) few s h p (inl same) = subst (λ z. HasOwnTable limits.states z) same (own-table r i q.machine q.table q.telling s.0 (few r (inl refl)) (subst (λ k. HasTableIf true k q.machine q.table) (told-agreed limits agreed) (subst (λ b. HasTableIf b (asked_telling limits) q.machine q.table) asked h.0)))
   own-tables i (r ∷ rs) (q ∷ ps) few s h p (inr more) = own-tables (suc i) rs ps (λ z among. few z (inr among)) s.1 h.1 p more
 
 -- the plans of a text, with their tables
-module _ (limits : Limits) (text : List ℕ) (plans : Plans) (ps : List Planned) (asked : limits.tables ≡ true) (c : IsCompiled limits text plans) (machines : map machine_of ps ≡ plans.stages) (tables : map table_of ps ≡ plans.tables) where
+module _ (limits : Limits) (text : List ℕ) (plans : Plans) (ps : List Planned) (asked : limits.tables ≡ true) (agreed : limits.optimal ≡ false) (c : IsCompiled limits text plans) (machines : map machine_of ps ≡ plans.stages) (tables : map table_of ps ≡ plans.tables) where
   are-stages : AreStages c.program 1 (roots_of c.program) (map machine_of ps)
   are-stages = subst (λ z. AreStages c.program 1 (roots_of c.program) z) (sym machines) c.plans_of.stages
 
@@ -58,7 +63,7 @@ module _ (limits : Limits) (text : List ℕ) (plans : Plans) (ps : List Planned)
   has-machines = record { program = c.program; spells = c.accepts.spells; ruled = c.accepts.ruled; stages = are-stages }
 
   pub has-tables : (p : Planned) → IsAmong ps p → HasOwnTable limits.states p
-  has-tables = own-tables limits c.program asked 1 (roots_of c.program) ps (c.accepts.states asked) are-stages
+  has-tables = own-tables limits c.program asked agreed 1 (roots_of c.program) ps (c.accepts.states asked) are-stages
       (subst (λ z. AreTabled limits (map machine_of ps) z) (sym tables) (subst (λ z. AreTabled limits z plans.tables) (sym machines) c.plans_of.tables))
 
   pub are-plans : limits.states ≤ most_table_states → ArePlansOf text ps
@@ -88,22 +93,23 @@ holds-program file ps short good =
         stages = all-run m.program 1 (roots_of m.program) (map machine_of ps) m.stages;
         one_stage = λ one. absurd (false≢true one);
         states = λ tabled. absurd (false≢true tabled);
+        pairs = λ best. absurd (false≢true best);
       };
     }
 
 -- the file that is made of the plans of a text is good
-pub filed-text : (text file : List ℕ) (ps : List Planned) (limits : Limits) (plans : Plans) (asked : limits.tables ≡ true) (c : IsCompiled limits text plans) (machines : map machine_of ps ≡ plans.stages) (tables : map table_of ps ≡ plans.tables) → limits.states ≤ most_table_states → IsTableFile file text (map machine_of ps) (map goes_in ps) → (Told : List ℕ → Type 0) → Told file → Filed text Told
-filed-text text file ps limits plans asked c machines tables le spells Told told =
-    let all = are-plans limits text plans ps asked c machines tables le in
+pub filed-text : (text file : List ℕ) (ps : List Planned) (limits : Limits) (plans : Plans) (asked : limits.tables ≡ true) (agreed : limits.optimal ≡ false) (c : IsCompiled limits text plans) (machines : map machine_of ps ≡ plans.stages) (tables : map table_of ps ≡ plans.tables) → limits.states ≤ most_table_states → IsTableFile file text (map machine_of ps) (map goes_in ps) → (Told : List ℕ → Type 0) → Told file → Filed text Told
+filed-text text file ps limits plans asked agreed c machines tables le spells Told told =
+    let all = are-plans limits text plans ps asked agreed c machines tables le in
     record {
       plans = ps;
       plans_of = all;
       file = file;
       good = record {
         text = text;
-        machines = has-machines limits text plans ps asked c machines tables;
+        machines = has-machines limits text plans ps asked agreed c machines tables;
         spells = spells;
-        tables = λ p a. let t = has-tables limits text plans ps asked c machines tables p a in (t.table, t.is, t.of_machine);
+        tables = λ p a. let t = has-tables limits text plans ps asked agreed c machines tables p a in (t.table, t.is, t.of_machine);
       };
       of_text = refl;
       told = told;

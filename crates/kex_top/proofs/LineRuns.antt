@@ -1,5 +1,5 @@
 -- From the answers to some lines to a whole run by lines.
-use Rattle.std.proofs.Common.{◌≡◌, ◌++◌, ◌≤◌, ◌<◌, ℕ, List, [], ◌∷◌, Bool, true, false, Option, Some, None, refl, sym, ◌∙◌, subst, ap, ap₂, arith, append_assoc, append-nil, length, inl, inr}
+use Rattle.std.proofs.Common.{◌≡◌, ◌++◌, ◌≤◌, ℕ, List, [], ◌∷◌, Bool, true, false, Option, Some, None, refl, sym, ◌∙◌, subst, ap, ap₂, arith, append_assoc, append-nil, length, inl, inr}
 use Rattle.std.specs.Prelude.{Err, option_map}
 use Rattle.std.specs.Io.KnownBytes.{Appends, Consumes, IsAtEnd, Keeps}
 use Rattle.std.specs.List.{concat}

@@ -1,6 +1,5 @@
 -- From table files, and runs over their stages, to what a call answers.
-use Rattle.std.proofs.Common.{◌≡◌, ◌<◌, ◌≤◌, ℕ, List, arith, length, map, subst, sym}
-use Rattle.std.proofs.lemmas.List.{length-map}
+use Rattle.std.proofs.Common.{◌≡◌, ◌<◌, ◌≤◌, ℕ, List, false, arith, length, map, subst, sym}
 use Rattle.std.specs.Prelude.{Option}
 use Rattle.kex_machine.specs.Nodes.{Graph}
 use Rattle.kex_pipe.specs.Reports.{report_as}
@@ -8,6 +7,7 @@ use Rattle.kex_ports.specs.Named.{Texts}
 use Rattle.kex_ports.specs.Reads.{Reads, last_given}
 use Rattle.kex_ports.specs.Shelf.{IsTold, ShelfText, told_of}
 use Rattle.kex_stage.specs.Plans.{Planned, machine_of}
+use Rattle.kex_stage.specs.declared.plan.Telling.TheVariants as telling
 use Rattle.kex_compile.specs.Compiled.{IsCompiled}
 use Rattle.kex_compile.specs.Stages.{Plans, roots_of}
 use Rattle.kex_tabfile.specs.Readers.{most_bytes}
@@ -53,7 +53,7 @@ executed name reach texts reads ms source sink s h r =
     let P = h.program in
     let limit = reach.max_input in
     let some = some-held (told_of texts name) ms h in
-    let long = as-many-plans limit ms in
+    let long = as-many-plans telling.Agreed limit ms in
     begun (ToExec name reach) texts reads source sink s (
     record {
       text = h.file;
@@ -61,8 +61,8 @@ executed name reach texts reads ms source sink s h r =
       program = P;
       works = h.holds;
       performs = ran_alike (NodesSay (agreed_plans limit ms)) (Answered P limit)
-          (λ w e said k. carried P (running 0) limit 1 1 (roots_of P) ms w e said.text (report_as said.report) h.stages (by_machines 0 limit 1 ms w e said.text (report_as said.report) k.1))
-          (λ w e said k. (omega (arith, some, long), by_plans 0 limit 1 ms w e said.text (report_as said.report) (carried-back P (running 0) limit 1 1 (roots_of P) ms w e said.text (report_as said.report) h.stages k)))
+          (λ w e said k. carried P (running 0 false) limit 1 1 (roots_of P) ms w e said.text (report_as said.report) h.stages (by_machines 0 false limit 1 ms w e said.text (report_as said.report) k.1))
+          (λ w e said k. (omega (arith, some, long), by_plans 0 false limit 1 ms w e said.text (report_as said.report) (carried-back P (running 0 false) limit 1 1 (roots_of P) ms w e said.text (report_as said.report) h.stages k)))
           (last_given reach.block reads) source sink s r;
     }
     )

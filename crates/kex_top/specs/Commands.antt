@@ -47,7 +47,8 @@ calls_of (Some (ToStream mode name reach)) =
 calls_of (Some (ToCheck name states)) = record { takes = Some name; block = None; writes = true }
 calls_of (Some (ToEach name states limit workers)) =
     record { takes = Some name; block = Some line_block; writes = true }
-calls_of (Some (ToTry lines block rings)) = record { takes = None; block = None; writes = true }
+calls_of (Some (ToTry lines block rings workers)) =
+    record { takes = None; block = None; writes = true }
 calls_of (Some (ToCompile name states)) = record { takes = Some name; block = None; writes = true }
 calls_of (Some (ToExec name reach)) =
     record { takes = Some name; block = Some reach.block; writes = true }
@@ -57,7 +58,7 @@ abbrev pub told_text : Option Texts → Asked → ShelfText
 told_text texts (ToStream mode name reach) = told_of texts name
 told_text texts (ToCheck name states) = told_of texts name
 told_text texts (ToEach name states limit workers) = told_of texts name
-told_text texts (ToTry lines block rings) = present trial_text
+told_text texts (ToTry lines block rings workers) = present trial_text
 told_text texts (ToCompile name states) = told_of texts name
 told_text texts (ToExec name reach) = told_of texts name
 
@@ -66,7 +67,7 @@ abbrev pub taken_for : Asked → Taken
 taken_for (ToStream mode name reach) = a_text (limits_of mode)
 taken_for (ToCheck name states) = a_text (limits_to_check states)
 taken_for (ToEach name states limit workers) = a_text (limits_to_check states)
-taken_for (ToTry lines block rings) = a_text (limits_to_check usual_states)
+taken_for (ToTry lines block rings workers) = a_text (limits_to_check usual_states)
 taken_for (ToCompile name states) = a_text (limits_to_check states)
 taken_for (ToExec name reach) = a_table_file
 
@@ -111,7 +112,7 @@ Performs (ToCheck name states) text P reads source sink status =
     IsAsBefore source × Counted P (λ line. TellsBytes line sink status)
 Performs (ToEach name states limit workers) text P reads source sink status =
     RanByLines (SaysLines P limit) (last_given line_block reads) source sink status
-Performs (ToTry lines block rings) text P reads source sink status =
+Performs (ToTry lines block rings workers) text P reads source sink status =
     IsAsBefore source × Tried P lines (λ line. TellsBytes line sink status)
 Performs (ToCompile name states) text P reads source sink status =
     IsAsBefore source × Filed text (λ file. TellsBytes file sink status)
@@ -132,13 +133,13 @@ InputIsGood (ToStream mode name reach) text source =
     StreamParses (λ P. Spells text P) (λ P. SaysBy mode P reach.max_input) source
 InputIsGood (ToCheck name states) text source = ⊤
 InputIsGood (ToEach name states limit workers) text source = IsShort source
-InputIsGood (ToTry lines block rings) text source = ⊤
+InputIsGood (ToTry lines block rings workers) text source = ⊤
 InputIsGood (ToCompile name states) text source = ⊤
 InputIsGood (ToExec name reach) file source =
     StreamParses (λ P. HoldsProgram file P) (λ P. Answered P reach.max_input) source
 
 -- A command that runs a program's stages on the input, each of which takes at most so many bytes.
 abbrev pub runs_within : Asked → Option ℕ
-runs_within (ToStream (running states) name reach) = Some reach.max_input
+runs_within (ToStream (running states optimal) name reach) = Some reach.max_input
 runs_within (ToExec name reach) = Some reach.max_input
 runs_within asked = None

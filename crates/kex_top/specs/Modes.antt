@@ -9,6 +9,8 @@ use Rattle.kex_model.specs.Survivors.{Agreed, Greedy}
 use Rattle.kex_model.specs.Answers.{Answer, Answers, HasParse, Viable, code_at, empty}
 use Rattle.kex_machine.specs.Nodes.{Graph}
 use Rattle.kex_machine.specs.Answers as machine
+use Rattle.kex_machine.specs.Covering.{BestAnswers}
+use Rattle.kex_lowering.specs.Best.{StageAnswersBest}
 use Rattle.kex_model.specs.Laws.{StageAnswers}
 use Rattle.kex_model.specs.Trees.{Tree, IsTree, kind_at, part_meaning}
 use Rattle.kex_single.specs.Plays.{Plays}
@@ -22,16 +24,18 @@ use Rattle.kex_top.specs.Answer.{Said}
 use Rattle.kex_top.specs.Pipelines.{PipelineSays, StagesSay}
 
 -- what is asked of a program: where its input is run through its stages, that no stage has more
--- than so many states; otherwise that it has one stage
+-- than so many states, and, where that is optimal, none too many pairs; otherwise that it has one
+-- stage
 abbrev pub limits_of : Mode → Limits
-limits_of (running states) = record { states = states; one_stage = false; tables = true }
-limits_of coding = record { states = 4096; one_stage = true; tables = false }
-limits_of acting = record { states = 4096; one_stage = true; tables = false }
-limits_of testing = record { states = 4096; one_stage = true; tables = false }
+limits_of (running states optimal) =
+    record { states = states; one_stage = false; tables = true; optimal = optimal }
+limits_of coding = record { states = 4096; one_stage = true; tables = false; optimal = false }
+limits_of acting = record { states = 4096; one_stage = true; tables = false; optimal = false }
+limits_of testing = record { states = 4096; one_stage = true; tables = false; optimal = false }
 
 -- of a program to check
 abbrev pub limits_to_check : ℕ → Limits
-limits_to_check states = limits_of (running states)
+limits_to_check states = limits_of (running states false)
 
 module _ (P : Grammar) (root : ℕ) where
   -- the text of what the survivors of w agree on
@@ -80,16 +84,19 @@ module _ (P : Grammar) (root : ℕ) where
   abbrev pub ActAnswers : ℕ → List ℕ → Bool → Answer → Type 0
   ActAnswers limit w e a = Plays BeginsTreeCode IsTreeCode WritesPart limit w e a
 
--- the answer of a stage that begins there
+-- the answer of a stage that begins there: to a run by what its survivors agree on, and to an
+-- optimal one by what is best
 abbrev pub StageGives : Mode → Grammar → ℕ → ℕ → List ℕ → Bool → Answer → Type 0
-StageGives (running states) P limit root w e a = StageAnswers P root limit w e a
+StageGives (running states false) P limit root w e a = StageAnswers P root limit w e a
+StageGives (running states true) P limit root w e a = StageAnswersBest P root limit w e a
 StageGives coding P limit root w e a = CodeAnswers P root limit w e a
 StageGives acting P limit root w e a = ActAnswers P root limit w e a
 StageGives testing P limit root w e a = TestAnswers P root limit w e a
 
 -- over a machine
 abbrev pub MachineGives : Mode → ℕ → Graph → List ℕ → Bool → Answer → Type 0
-MachineGives (running states) limit m w e a = machine.MachineAnswers m limit w e a
+MachineGives (running states false) limit m w e a = machine.MachineAnswers m limit w e a
+MachineGives (running states true) limit m w e a = BestAnswers m limit w e a
 MachineGives coding limit m w e a = nodes.MachineCodeAnswers m limit w e a
 MachineGives acting limit m w e a = plays.MachineActAnswers m limit w e a
 MachineGives testing limit m w e a = nodes.MachineTestAnswers m limit w e a

@@ -8,6 +8,7 @@ use Rattle.kex_machine.specs.Nodes.{Graph}
 use Rattle.kex_pipe.specs.Reports.{report_as}
 use Rattle.kex_stage.specs.Plans.{Teller, tellers}
 use Rattle.kex_stage.specs.Stages.{StagePlan, Gives}
+use Rattle.kex_stage.specs.declared.plan.Telling.{Telling}
 use Rattle.kex_stage.specs.declared.plan.Telling.TheVariants as telling
 use Rattle.kex_compile.specs.Stages.{roots_of}
 use Rattle.kex_top.specs.Answer.{Said}
@@ -43,9 +44,13 @@ first_limit limit (p ∷ ps) = limit p
 abbrev pub stage_plans : ℕ → List Teller → List StagePlan
 stage_plans limit stages = map (λ t. record { machine = t; limit = limit }) stages
 
+-- those of machines of which this is told
+abbrev pub told_plans : Telling → ℕ → List Graph → List StagePlan
+told_plans k limit machines = stage_plans limit (tellers k machines)
+
 -- those of machines of which what is agreed is told
 abbrev pub agreed_plans : ℕ → List Graph → List StagePlan
-agreed_plans limit machines = stage_plans limit (tellers telling.Agreed machines)
+agreed_plans limit machines = told_plans telling.Agreed limit machines
 
 -- over the nodes of machines
 abbrev pub NodesSay : List StagePlan → List ℕ → Bool → Said → Type 0

@@ -62,6 +62,7 @@ IsRefusalOf text (compile.TooManyPlaces n) r = r ≡ broken_in rules.TooManyPlac
 IsRefusalOf text (compile.NoText n) r = r ≡ broken_in rules.NoText n
 IsRefusalOf text compile.OneStage r = r ≡ broken rules.OneStage
 IsRefusalOf text (compile.TooManyStates n) r = r ≡ broken_in rules.TooManyStates n
+IsRefusalOf text (compile.TooManyPairs n) r = r ≡ broken_in rules.TooManyPairs n
 IsRefusalOf text compile.Memory r = ⊥
 
 -- A rule that a line of a table file breaks.
@@ -130,7 +131,7 @@ pub record HasPlans (limits : Limits) (told : ShelfText) (plans : Plans) : Type 
 
 -- Of a program in a table file no more is asked than the language does: it has its tables.
 abbrev pub limits_in_file : Limits
-limits_in_file = record { states = 0; one_stage = false; tables = false }
+limits_in_file = record { states = 0; one_stage = false; tables = false; optimal = false }
 
 -- The file is good, and this is a program that its text spells.
 pub record HoldsProgram (file : List ℕ) (P : Grammar) : Type 0 where

@@ -1,5 +1,5 @@
 // The command that writes a program's table file.
-ghost use Rattle.std.specs.Prelude.{◌≡◌, ◌≤◌, IfErr, IfOk, Option, length, true};
+ghost use Rattle.std.specs.Prelude.{◌≡◌, ◌≤◌, IfErr, IfOk, Option, length, true, false};
 ghost use Rattle.kex_compile.specs.Compiled.{IsCompiled, IsRefused};
 ghost use Rattle.kex_compile.specs.Stages.{Plans};
 ghost use Rattle.kex_compile.specs.declared.refusal.CompileRefusal.{CompileRefusal};
@@ -47,6 +47,7 @@ fn tell_file<K: Sink>(file: &[u8], output: &mut K) -> Status
 fn table_file(alloc: Global, text: &[u8], asked: &Limits) -> Result<Vec<u8>, StartError>
     requires short { length text.now ≤ most_text }
     requires tables { asked.now.tables ≡ true }
+    requires agreed { asked.now.optimal ≡ false }
     requires states { asked.now.states ≤ most_table_states }
     ensures file { IfOk result (λ file. (plans : Plans) × IsCompiled asked.now text.now plans
         × Filed text.now (λ bytes. bytes ≡ file.items)) }

@@ -1,5 +1,5 @@
 // What a command asks of a program.
-ghost use Rattle.std.specs.Prelude.{◌≡◌, ◌<◌};
+ghost use Rattle.std.specs.Prelude.{◌≡◌, ◌<◌, true};
 ghost use Rattle.kex_words.specs.Words.{mode_of};
 ghost use Rattle.kex_top.specs.Modes.{limits_of, limits_to_check};
 
@@ -10,18 +10,21 @@ const ONE_STAGE: Limits = Limits {
     states: 4096,
     one_stage: true,
     tables: false,
+    optimal: false,
 };
 
 /// What a command on an input asks.
 pub(crate) fn limits_of(mode: Mode) -> Limits
     ensures value { result ≡ limits_of (mode_of mode) }
     ensures few { result.states < 4294967295 }
+    ensures optimal { result.optimal ≡ true → result.tables ≡ true }
 {
     match mode {
-        Mode::Run(states) => Limits {
+        Mode::Run { states, optimal } => Limits {
             states: states.most,
             one_stage: false,
             tables: true,
+            optimal,
         },
         Mode::Code | Mode::Act | Mode::Test => ONE_STAGE,
     }
@@ -35,5 +38,6 @@ pub(crate) fn limits_to_check(states: u32) -> Limits
         states,
         one_stage: false,
         tables: true,
+        optimal: false,
     }
 }

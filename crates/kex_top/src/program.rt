@@ -1,5 +1,5 @@
 // The program that a command works with: its text, and the plans of its stages.
-ghost use Rattle.std.specs.Prelude.{◌≡◌, ◌≤◌, ◌<◌, IfErr, IfOk, length};
+ghost use Rattle.std.specs.Prelude.{◌≡◌, ◌≤◌, ◌<◌, IfErr, IfOk, length, true};
 ghost use Rattle.kex_ports.specs.Shelf.{told_of};
 ghost use Rattle.kex_compile.specs.Compiled.{IsCompiled, IsRefused};
 ghost use Rattle.kex_compile.specs.declared.refusal.CompileRefusal.{CompileRefusal};
@@ -25,6 +25,7 @@ pub(crate) fn plans_of_text(
 ) -> Result<Compiled, StartError>
     requires short { length text.now ≤ most_text }
     requires states { asked.now.states < 4294967295 }
+    requires optimal { asked.now.optimal ≡ true → asked.now.tables ≡ true }
     ensures plans { IfOk result (λ plans. IsCompiled asked.now text.now plans) }
     ensures none { IfErr result (λ why.
         (rule : CompileRefusal) × IsRefused asked.now text.now rule × IsStartOf text.now rule why) }
@@ -42,7 +43,8 @@ pub(crate) fn plans_of<H: Shelf>(
     name: &str,
     asked: &Limits,
 ) -> Result<Compiled, StartError>
-    requires { asked.now.states < 4294967295 }
+    requires states { asked.now.states < 4294967295 }
+    requires optimal { asked.now.optimal ≡ true → asked.now.tables ≡ true }
     ensures texts { H.texts shelf.new ≡ H.texts shelf.old }
     ensures shelf { TakesFromShelf (told_of (H.texts shelf.old) name.now)
         (shelf_change_of H.faults H.breaks shelf.old shelf.new) result }

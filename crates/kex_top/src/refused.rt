@@ -76,6 +76,7 @@ pub(crate) fn refused(text: &[u8], refusal: CompileRefusal) -> StartError
         CompileRefusal::NoText(stage) => broken_in(Rule::NoText, stage),
         CompileRefusal::OneStage => broken(Rule::OneStage),
         CompileRefusal::TooManyStates(stage) => broken_in(Rule::TooManyStates, stage),
+        CompileRefusal::TooManyPairs(stage) => broken_in(Rule::TooManyPairs, stage),
         CompileRefusal::Memory => StartError::Memory,
     }
 }

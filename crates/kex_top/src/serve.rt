@@ -4,7 +4,7 @@ ghost use Rattle.std.specs.Prelude.{map, vec_len};
 ghost use Rattle.kex_ports.specs.Reads.{last_given};
 ghost use Rattle.kex_ports.specs.Shelf.{told_of};
 ghost use Rattle.kex_stage.specs.Plans.{teller_of};
-ghost use Rattle.kex_stage.specs.declared.plan.Telling.TheVariants as telling;
+ghost use Rattle.kex_compile.specs.Stages.{asked_telling};
 ghost use Rattle.kex_words.specs.Gains.{change_of};
 ghost use Rattle.kex_words.specs.Words.{mode_of, reach_of};
 ghost use Rattle.kex_words.specs.Words.Asked.{ToStream};
@@ -128,7 +128,7 @@ fn serve<R: Threads + Sync, G: Gate + Sync, S: Source, K: Sink>(
 ) -> Result<Status, Memory>
     requires some { 0 < length compiled.now.stages }
     requires one { (limits_of (mode_of mode)).one_stage ≡ true → length compiled.now.stages ≡ 1 }
-    requires agreed { compiled.now.telling ≡ telling.Agreed }
+    requires told { compiled.now.telling ≡ asked_telling (limits_of (mode_of mode)) }
     ensures ran { IfOk result (λ status.
         Ran (MachinesSay (mode_of mode) limits.max_input compiled.now.stages)
         (last_given limits.block (S.reads input.new))
@@ -142,7 +142,7 @@ fn serve<R: Threads + Sync, G: Gate + Sync, S: Source, K: Sink>(
     ensures untouched { is_writing (mode_of mode) ≡ false → output.new ≡ output.old }
 {
     match mode {
-        Mode::Run(_) => run_stages(rt, gate, alloc, compiled.stages(), limits, input, output),
+        Mode::Run { .. } => run_stages(rt, gate, alloc, compiled.stages(), limits, input, output),
         Mode::Code => code(
             rt,
             gate,

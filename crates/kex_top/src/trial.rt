@@ -200,8 +200,8 @@ pub(crate) fn answer_trial<R: Threads + Sync, G: Gate + Sync, K: Sink>(
 ) -> Result<Status, StartError>
     ensures answers { (texts : Option Texts) (reads : Option Reads) (source : StreamChange)
         → IsAsBefore source
-        → CommandAnswers (ToTry lines.count lines.block (room_of lines.rings)) texts reads source
-        (change_of K.held K.faults output.old output.new) (status_of_answer result) }
+        → CommandAnswers (ToTry lines.count lines.block (room_of lines.rings) lines.workers) texts
+        reads source (change_of K.held K.faults output.old output.new) (status_of_answer result) }
     ensures closes { Closes (K.ending output.old) (K.ending output.new) (status_of_answer result) }
 {
     let asked = limits_to_check(STATES);

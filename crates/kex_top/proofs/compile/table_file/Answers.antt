@@ -6,7 +6,7 @@ use Rattle.kex_top.proofs.compile.table_file.Goals as goal
 
 pub write_table-requires : goal.write_table-requires
 write_table-requires c =
-    are-plans c.args.asked.now c.args.text.now c.in_ok-plans.plans c.stages.result.now c.requires.tables c.in_ok-plans.ensures.plans c.stages.ensures.same c.stages.ensures.tables c.requires.states
+    are-plans c.args.asked.now c.args.text.now c.in_ok-plans.plans c.stages.result.now c.requires.tables c.requires.agreed c.in_ok-plans.ensures.plans c.stages.ensures.same c.stages.ensures.tables c.requires.states
 
 pub returns-in_err-write_table-clause-none : goal.returns-in_err-write_table-clause-none
 returns-in_err-write_table-clause-none c =
@@ -18,5 +18,5 @@ returns-clause-file c =
     let w = c.in_ok-write_table.ensures in (
       c.in_ok-plans.plans,
       c.in_ok-plans.ensures.plans,
-      filed-text c.args.text.now w.0 c.stages.result.now c.args.asked.now c.in_ok-plans.plans c.requires.tables c.in_ok-plans.ensures.plans c.stages.ensures.same c.stages.ensures.tables c.requires.states w.2 _ (sym (w.1 ∙ ap (λ (z : List ℕ). z ++ w.0) c.new-file.ensures.items)),
+      filed-text c.args.text.now w.0 c.stages.result.now c.args.asked.now c.in_ok-plans.plans c.requires.tables c.requires.agreed c.in_ok-plans.ensures.plans c.stages.ensures.same c.stages.ensures.tables c.requires.states w.2 _ (sym (w.1 ∙ ap (λ (z : List ℕ). z ++ w.0) c.new-file.ensures.items)),
     )

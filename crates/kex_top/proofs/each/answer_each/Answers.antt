@@ -1,6 +1,6 @@
 use Rattle.std.proofs.Common.{◌<◌, ◌∙◌, ap, length, subst, sym}
 use Rattle.kex_ports.specs.Shelf.{told_of}
-use Rattle.kex_compile.specs.Stages.{Plans}
+use Rattle.kex_compile.specs.Stages.{Plans, asked_telling}
 use Rattle.kex_top.specs.Refusals.{HasPlans}
 use Rattle.kex_top.proofs.CallAnswers.{some-machine}
 use Rattle.kex_top.proofs.LineCommands.{line_served}
@@ -13,7 +13,7 @@ answer_lines-requires-clause-some g c = λ κs bounds.
 
 pub answer_lines-requires-clause-agreed : goal.answer_lines-requires-clause-agreed
 answer_lines-requires-clause-agreed g c = λ κs bounds.
-    ap (λ (z : Plans). z.telling) c.in_ok-short.ensures ∙ c.in_ok-plans.ensures.plans.compiled.plans_of.agreed
+    ap (λ (z : Plans). z.telling) c.in_ok-short.ensures ∙ c.in_ok-plans.ensures.plans.compiled.plans_of.told ∙ ap asked_telling c.limits_to_check-asked.ensures
 
 pub returns-clause-answers : goal.returns-clause-answers
 returns-clause-answers g c =

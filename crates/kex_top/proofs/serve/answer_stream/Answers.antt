@@ -1,6 +1,6 @@
 use Rattle.std.proofs.Common.{◌∙◌, ◌≡◌, ◌<◌, ap, length, subst, sym}
 use Rattle.kex_ports.specs.Shelf.{told_of}
-use Rattle.kex_compile.specs.Stages.{Plans}
+use Rattle.kex_compile.specs.Stages.{Plans, asked_telling}
 use Rattle.kex_compile.specs.declared.limits.Limits.{Limits}
 use Rattle.kex_words.specs.Words.{mode_of, reach_of}
 use Rattle.kex_top.specs.Refusals.{HasPlans}
@@ -17,9 +17,9 @@ serve-requires-clause-one g c = λ κs bounds one.
     let h = c.in_ok-plans.ensures.plans in
     subst (λ (z : Plans). length z.stages ≡ 1) (sym c.in_ok-short.ensures) (one-machine c.limits_of-asked.result h.text c.in_ok-plans.plans h.compiled (ap (λ (l : Limits). l.one_stage) c.limits_of-asked.ensures.value ∙ one))
 
-pub serve-requires-clause-agreed : goal.serve-requires-clause-agreed
-serve-requires-clause-agreed g c = λ κs bounds.
-    ap (λ (z : Plans). z.telling) c.in_ok-short.ensures ∙ c.in_ok-plans.ensures.plans.compiled.plans_of.agreed
+pub serve-requires-clause-told : goal.serve-requires-clause-told
+serve-requires-clause-told g c = λ κs bounds.
+    ap (λ (z : Plans). z.telling) c.in_ok-short.ensures ∙ c.in_ok-plans.ensures.plans.compiled.plans_of.told ∙ ap asked_telling c.limits_of-asked.ensures.value
 
 pub returns-clause-answers : goal.returns-clause-answers
 returns-clause-answers g c =

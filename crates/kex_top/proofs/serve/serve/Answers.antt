@@ -2,11 +2,11 @@ use Rattle.std.proofs.Common.{List, ap, subst, ◌∙◌}
 use Rattle.std.proofs.lemmas.Result.{IfOk-weaker}
 use Rattle.std.specs.Prelude.{IfOk}
 use Rattle.kex_stage.specs.Plans.{Teller, tellers}
-use Rattle.kex_stage.specs.declared.plan.Telling.TheVariants as telling
+use Rattle.kex_compile.specs.Stages.{asked_telling}
 use Rattle.kex_ports.specs.Reads.{last_given}
 use Rattle.kex_words.specs.Gains.{change}
 use Rattle.kex_words.specs.Words.{mode_of}
-use Rattle.kex_top.specs.Modes.{MachinesSay}
+use Rattle.kex_top.specs.Modes.{MachinesSay, limits_of}
 use Rattle.kex_top.specs.Pipelines.{NodesSay, stage_plans}
 use Rattle.kex_top.specs.Run.{Ran}
 use Rattle.kex_top.specs.declared.status.Status.{Status}
@@ -22,7 +22,7 @@ returns-in-Run-clause-ran g c =
     let sink = change (g.K.Sink.held c.args.output.now) (g.K.Sink.held c.run_stages.new.output) (g.K.Sink.faults c.args.output.now) (g.K.Sink.faults c.run_stages.new.output) in
     let By : List Teller → Status → Type 0 = λ ts s. Ran (NodesSay (stage_plans max ts)) last source sink s in
     let In : Status → Type 0 = λ s. Ran (MachinesSay mode max c.args.compiled.now.stages) last source sink s in
-    let agreed = tellers telling.Agreed c.args.compiled.now.stages in
-    IfOk-weaker c.run_stages.result (By agreed) In
-    (λ s r. ran_by mode max c.args.compiled.now.stages last source sink s _ (ap mode_of c.in-Run.is) c.requires.some r)
-    (subst (λ ts. IfOk c.run_stages.result (By ts)) (c.stages.ensures.tellers ∙ ap (λ k. tellers k c.args.compiled.now.stages) c.requires.agreed) c.run_stages.ensures.ran)
+    let told = tellers (asked_telling (limits_of mode)) c.args.compiled.now.stages in
+    IfOk-weaker c.run_stages.result (By told) In
+    (λ s r. ran_by mode max c.args.compiled.now.stages last source sink s _ _ (ap mode_of c.in-Run.is) c.requires.some r)
+    (subst (λ ts. IfOk c.run_stages.result (By ts)) (c.stages.ensures.tellers ∙ ap (λ k. tellers k c.args.compiled.now.stages) c.requires.told) c.run_stages.ensures.ran)

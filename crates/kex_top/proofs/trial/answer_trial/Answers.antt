@@ -1,7 +1,7 @@
 use Rattle.std.proofs.Common.{◌≡◌, ◌<◌, ◌∙◌, ap, length, refl, subst, sym, inl}
 use Rattle.std.proofs.lemmas.Result.{err_from_is_err_and}
 use Rattle.kex_compile.specs.Compiled.{IsCompiled, IsRefused}
-use Rattle.kex_compile.specs.Stages.{Plans}
+use Rattle.kex_compile.specs.Stages.{Plans, asked_telling}
 use Rattle.kex_compile.specs.declared.refusal.CompileRefusal.{CompileRefusal}
 use Rattle.kex_words.specs.Words.{room_of}
 use Rattle.kex_words.specs.Words.Asked.{ToTry}
@@ -16,7 +16,7 @@ pub sum_up-requires-clause-some : goal.sum_up-requires-clause-some
 sum_up-requires-clause-some g c = λ κs bounds. subst (λ (z : Plans). 0 < length z.stages) (sym c.in_ok-short.ensures) (some-machine c.limits_to_check-asked.result c.as_bytes.result.now c.in_ok-plans.plans c.in_ok-plans.ensures.plans)
 
 pub sum_up-requires-clause-agreed : goal.sum_up-requires-clause-agreed
-sum_up-requires-clause-agreed g c = λ κs bounds. ap (λ (z : Plans). z.telling) c.in_ok-short.ensures ∙ c.in_ok-plans.ensures.plans.plans_of.agreed
+sum_up-requires-clause-agreed g c = λ κs bounds. ap (λ (z : Plans). z.telling) c.in_ok-short.ensures ∙ c.in_ok-plans.ensures.plans.plans_of.told ∙ ap asked_telling c.limits_to_check-asked.ensures
 
 pub returns-in_err-plans-clause-answers : goal.returns-in_err-plans-clause-answers
 returns-in_err-plans-clause-answers g c = λ texts reads source left.
@@ -24,7 +24,7 @@ returns-in_err-plans-clause-answers g c = λ texts reads source left.
     let text : c.as_bytes.result.now ≡ trial_text = c.as_bytes.ensures.value in
     let p = err_from_is_err_and c.from_residual.result c.from_residual.ensures.1 in
     let x = c.in_err-plans.ensures.none in
-    rw (p.1, p.2) (unbegun (ToTry c.args.lines.count c.args.lines.block (room_of c.args.lines.rings)) texts reads source _ e
+    rw (p.1, p.2) (unbegun (ToTry c.args.lines.count c.args.lines.block (room_of c.args.lines.rings) c.args.lines.workers) texts reads source _ e
     (unplanned (limits_to_check usual_states) (present trial_text) trial_text e refl
     (subst (λ l. (rule : CompileRefusal) × IsRefused l trial_text rule × IsStartOf trial_text rule e) c.limits_to_check-asked.ensures (subst (λ t. (rule : CompileRefusal) × IsRefused c.limits_to_check-asked.result t rule × IsStartOf t rule e) text x)))
     (λ is. absurd (subst (λ w. IsStartOf c.as_bytes.result.now x.0 w) is x.2)) (left, (refl, refl)))
@@ -42,6 +42,6 @@ returns-in_err-counts-clause-answers g c = λ texts reads source left.
 pub returns-clause-answers : goal.returns-clause-answers
 returns-clause-answers g c = λ texts reads source left.
     let text : c.as_bytes.result.now ≡ trial_text = c.as_bytes.ensures.value in
-    tried c.args.lines.count c.args.lines.block (room_of c.args.lines.rings) texts reads c.in_ok-short.short c.in_ok-counts.counts source _ _
+    tried c.args.lines.count c.args.lines.block (room_of c.args.lines.rings) c.args.lines.workers texts reads c.in_ok-short.short c.in_ok-counts.counts source _ _
     (subst (λ z. IsCompiled (limits_to_check usual_states) trial_text z) (sym c.in_ok-short.ensures) (subst (λ l. IsCompiled l trial_text c.in_ok-plans.plans) c.limits_to_check-asked.ensures (subst (λ t. IsCompiled c.limits_to_check-asked.result t c.in_ok-plans.plans) text c.in_ok-plans.ensures.plans)))
     c.in_ok-counts.ensures left c.tell_trial_counts.ensures.told
