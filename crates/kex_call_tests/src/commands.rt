@@ -76,6 +76,8 @@ check p # main := ("x")+ # a # stages 1 places 4 states 1$ # 0
 run p # start: a >> b a := (/b*/)* b := /a/ b # a #  # 3 refused: K13 NoText in stage 2
 run p --states 1024 # main := /(a|b)*a(a|b){10}/ # a #  # 3 refused: K15 TooManyStates in stage 1
 run p --states 2047 # main := /(a|b)*a(a|b){10}/ # a #  # 3 refused: K15 TooManyStates in stage 1
+run p --optimal --states 3 # main := /a{3}/ # a #  # 3 refused: K15 TooManyStates in stage 1
+run p --optimal --states 65536 # main := /(a|b)*a(a|b){12}/ "x" | /(a|b)*/ "y" #  #  # 3 refused: K16 TooManyPairs in stage 1
 check p --states 2048 # main := /(a|b)*a(a|b){10}/ # a # stages 1 places 49 states 2048$ # 0
 check p --states 40001 # main := /(a{200}){200}/ # a # stages 1 places 80402 states 40001$ # 0
 run p # main := /(a{200}){200}/ # a #  # 3 refused: K15 TooManyStates in stage 1

@@ -1,6 +1,7 @@
 //! What runs read and write, with blocks of several lengths, and where rings join the stages; on
 //! inputs that have a parse and on some that have none.
 use crate::call::{Case, USUAL, each_holds, holds};
+use std::alloc::{AllocError, Global};
 use std::test::Fail;
 
 const BLOCKS: [&str; 3] = ["--block=65536", "--block=1", "--block=3"];
@@ -100,6 +101,54 @@ fn each_stage_reads_what_the_one_before_wrote(rt: HostRuntime) -> Result<(), Fai
 #[test]
 fn rings_change_nothing(rt: HostRuntime) -> Result<(), Fail> {
     each_holds(&rt, rt.alloc(), PIPELINES, &RINGS)
+}
+
+// Where what is best is told: a side that is covered from the start; a record that might go on past
+// its end; sides that each may still be the one; a stage that reads more of what breaks off, and is
+// rejected for it; the limit; and calls that fail.
+const EARLIER: &str = r#"
+run p --optimal # main := /a*/ "x" | /a*/ "y" # aab # aa # 1 rejected: stage 1 at byte 2
+run p --optimal # main := /a*/ "x" | /a*/ "y" # aa # aax # 0
+run p --optimal # main := /a*b/ "x" | /a*b/ "y" # aa # aa # 1 rejected: stage 1 at byte 2 (end)
+run p --optimal # main := ("<" /[^;]*;/ ">")*? (/[^;]*;/)* # a;b;c # a;b;c # 1 rejected: stage 1 at byte 5 (end)
+run p --optimal # main := (~/</ "(" (/[^;]*;/)*? ~/>;/ ")" | ~/[^;]*;/)* # <a;>;b # (a;) # 1 rejected: stage 1 at byte 6 (end)
+run p # main := (~/</ "(" (/[^;]*;/)*? ~/>;/ ")" | ~/[^;]*;/)* # <a;>;b # (a; # 1 rejected: stage 1 at byte 6 (end)
+run p --optimal # main := "1" /ac/ | "2" /ab/ # ax #  # 1 rejected: stage 1 at byte 1
+run p --optimal # main := "1" /ac/ | "2" /ab/ # ab # 2ab # 0
+run p --optimal # start: a >> b a := /a*/ "x" | /a*/ "y" b := (~/a/ "b" | ~/x/ "!")* # aab # bb # 1 rejected: stage 1 at byte 2
+run p --optimal # start: a >> b a := /a*/ "x" | /a*/ "y" b := (~/a/ "b" | ~/x/ "!")* # aa # bb! # 0
+run p --optimal # start: a >> b a := /a*/ "x" | /a*/ "y" b := /ax/ # aab # a # 1 rejected: stage 2 at byte 1
+run p # start: a >> b a := /a*/ "x" | /a*/ "y" b := /ax/ # aab #  # 1 rejected: stage 1 at byte 2
+run p --optimal --max-input 1 # main := /a*/ "x" | /a*/ "y" # aa # a # 8 too long: stage 1 at byte 1
+run p --optimal # main := /a*/ "x" | /a*/ "y" # aaa # aaa # 4 read fault # given=1 read=4
+run p --optimal # main := /a*/ "x" | /a*/ "y" # aaa # a # 5 write fault # given=1 taken=1 write=2
+"#;
+
+#[test]
+fn what_is_best_is_written(rt: HostRuntime) -> Result<(), Fail> {
+    each_holds(&rt, rt.alloc(), EARLIER, &BLOCKS)
+}
+
+// The rows of runs that are done.
+fn done(alloc: Global, rows: &str) -> Result<String, AllocError> {
+    let mut text = String::new(alloc);
+    for row in rows.trim().lines() {
+        if row.ends_with(" # 0") {
+            text.push_str(row)?;
+            text.push_str("\n")?;
+        }
+    }
+    Ok(text)
+}
+
+#[test]
+fn what_is_best_ends_as_what_is_meant(rt: HostRuntime) -> Result<(), Fail> {
+    for rows in [ONE_STAGE, PIPELINES] {
+        let rows = done(rt.alloc(), rows)?;
+        let options = ["--optimal", "--optimal --block=1", "--optimal --rings=2"];
+        each_holds(&rt, rt.alloc(), rows.as_str(), &options)?;
+    }
+    Ok(())
 }
 
 #[test]

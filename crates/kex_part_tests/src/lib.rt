@@ -1,6 +1,6 @@
 //! Tests of the crates below the program, through their public calls.
 //!
-//! They stand in a crate of their own, which has nothing else but two stages for them: a crate with
+//! They stand in a crate of their own, which has little else but two stages for them: a crate with
 //! tests is proved twice. Only what no clause says is tested: that calls answer with ample memory,
 //! what a worked example comes to, and what is found, learnt and met.
 //!
@@ -16,6 +16,8 @@ mod compile;
 #[cfg(test)]
 mod constants;
 pub mod copier;
+#[cfg(test)]
+mod cover;
 #[cfg(test)]
 mod each;
 #[cfg(test)]
@@ -43,5 +45,6 @@ mod rounds;
 mod tabfile;
 #[cfg(test)]
 mod tokens;
+pub mod waiting;
 #[cfg(test)]
 mod words;
